@@ -1,0 +1,39 @@
+-- Maps by peer, as lists of pairs in rising order of the keys: what stands for the Rust's HashMap, whose order is never seen.
+-- Assumes nothing.
+use mathlib.Core.Bool.{Bool, true, false, _||_}
+use mathlib.Core.List.{List, [], _∷_}
+use mathlib.Core.Option.{Option, none, some}
+use Prim.Native.Nat.{ℕ, zero, suc}
+use lib.Dec.{ltb, eqb}
+use Rattle.lists.specs.Lists.{choose, mem}
+
+module _ {A : Type 0} where
+  unfoldable pub keys : List (ℕ × A) → List ℕ
+  keys [] = []
+  keys (e ∷ m) = e .0 ∷ keys m
+
+  -- HashMap::contains_key
+  unfoldable pub has : ℕ → List (ℕ × A) → Bool
+  has k m = mem k (keys m)
+
+  -- HashMap::get
+  unfoldable pub lookup : ℕ → List (ℕ × A) → Option A
+  lookup k [] = none
+  lookup k (e ∷ m) = choose (eqb k (e .0)) (some (e .1)) (lookup k m)
+
+  -- HashMap::remove
+  unfoldable pub cut : ℕ → List (ℕ × A) → List (ℕ × A)
+  cut k [] = []
+  cut k (e ∷ m) = choose (eqb k (e .0)) (cut k m) (e ∷ cut k m)
+
+  unfoldable pub replace : ℕ → A → List (ℕ × A) → List (ℕ × A)
+  replace k v [] = []
+  replace k v (e ∷ m) = choose (eqb k (e .0)) ((k, v) ∷ replace k v m) (e ∷ replace k v m)
+
+  unfoldable pub place-entry : ℕ → A → List (ℕ × A) → List (ℕ × A)
+  place-entry k v [] = (k, v) ∷ []
+  place-entry k v (e ∷ m) = choose (ltb k (e .0)) ((k, v) ∷ e ∷ m) (e ∷ place-entry k v m)
+
+  -- HashMap::insert
+  unfoldable pub put : ℕ → A → List (ℕ × A) → List (ℕ × A)
+  put k v m = choose (has k m) (replace k v m) (place-entry k v m)
