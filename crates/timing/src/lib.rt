@@ -1,0 +1,132 @@
+// Part 1 of document 01: walk lengths, the settings with their defaults and ranges, the backoff and the delay.
+ghost use mathlib.Core.Path.{_≡_};
+ghost use Prim.Native.Nat.{_≤_};
+ghost use Rattle.timing.specs.Timing.{expired, next, within, in-range, default, backoff-due, delay};
+
+// The time-to-live of a message: how many more hops it may travel.
+pub struct Ttl(pub u16);
+
+impl Ttl {
+    // Whether the message may not be forwarded any further.
+    pub fn expired(self) -> bool
+        ensures { λ r. ⌜ r ≡ expired (self .0) ⌝ }
+    {
+        self.0 == 0
+    }
+
+    // The time-to-live one hop on, which stops at 0.
+    pub fn next(self) -> Ttl
+        ensures { λ r. ⌜ r .0 ≡ next (self .0) ⌝ }
+    {
+        if self.0 == 0 {
+            return Ttl(0);
+        }
+        Ttl(self.0 - 1)
+    }
+}
+
+// The settings, in the order of the Rust's `Config`; intervals and timeouts in milliseconds.
+pub struct Config {
+    pub active_view_capacity: u32,
+    pub passive_view_capacity: u32,
+    pub active_random_walk_length: u32,
+    pub passive_random_walk_length: u32,
+    pub shuffle_random_walk_length: u32,
+    pub shuffle_active_view_count: u32,
+    pub shuffle_passive_view_count: u32,
+    pub shuffle_interval: u32,
+    pub neighbor_request_timeout: u32,
+}
+
+impl Config {
+    // Whether every setting is within its range.
+    pub fn in_range(self) -> bool
+        ensures { λ r. ⌜ r ≡ in-range self ⌝ }
+    {
+        let active = within(1, 8, self.active_view_capacity);
+        let passive = within(1, 32, self.passive_view_capacity);
+        let active_walk = within(0, 65535, self.active_random_walk_length);
+        let passive_walk = within(0, 65535, self.passive_random_walk_length);
+        let shuffle_walk = within(0, 65535, self.shuffle_random_walk_length);
+        let shuffle_active = within(0, 8, self.shuffle_active_view_count);
+        let shuffle_passive = within(0, 23, self.shuffle_passive_view_count);
+        let interval = within(1, 3600000, self.shuffle_interval);
+        let timeout = within(1, 3600000, self.neighbor_request_timeout);
+        active
+            & (passive
+                & (active_walk
+                    & (passive_walk
+                        & (shuffle_walk
+                            & (shuffle_active & (shuffle_passive & (interval & timeout)))))))
+    }
+}
+
+// From low to high, both included.
+fn within(low: u32, high: u32, x: u32) -> bool
+    ensures { λ r. ⌜ r ≡ within low high x ⌝ }
+{
+    (low <= x) & (x <= high)
+}
+
+// The protocol's fixed times, in milliseconds, and limits.
+pub struct Timing {}
+
+impl Timing {
+    // Delay before the first shuffle; the interval then doubles up to the setting.
+    pub const INITIAL_SHUFFLE_INTERVAL: u32 = 1000;
+
+    // Interval of the maintenance pass.
+    pub const MAINTENANCE_INTERVAL: u32 = 5000;
+
+    // Delay before the one retry of a requested Join.
+    pub const JOIN_RETRY_DELAY: u32 = 10000;
+
+    // Most maintenance passes between two rejoins or two refills.
+    pub const MAX_BACKOFF_PASSES: u32 = 12;
+
+    // Most neighbor requests that a short node sends in one refill.
+    pub const MAX_REQUESTS_PER_REFILL: u32 = 3;
+
+    // Most contacts that are remembered for a rejoin.
+    pub const MAX_BOOTSTRAP_PEERS: usize = 8;
+
+    // Most former neighbors that are remembered for a rejoin.
+    pub const MAX_RECENT_NEIGHBORS: usize = 8;
+
+    // The Rust's default settings.
+    pub fn default_settings() -> Config
+        ensures { λ r. ⌜ r ≡ default ⌝ }
+    {
+        Config {
+            active_view_capacity: 5,
+            passive_view_capacity: 30,
+            active_random_walk_length: 6,
+            passive_random_walk_length: 3,
+            shuffle_random_walk_length: 6,
+            shuffle_active_view_count: 3,
+            shuffle_passive_view_count: 4,
+            shuffle_interval: 60000,
+            neighbor_request_timeout: 3000,
+        }
+    }
+}
+
+// Whether the nth pass of a backoff rejoins or refills.
+pub fn backoff_due(n: u32) -> bool
+    ensures { λ r. ⌜ r ≡ backoff-due n ⌝ }
+{
+    if n < Timing::MAX_BACKOFF_PASSES {
+        u32::count_ones(n) == 1
+    } else {
+        n % Timing::MAX_BACKOFF_PASSES == 0
+    }
+}
+
+// The jittered delay of an interval for the draw d: from three quarters of it to just under five quarters.
+pub fn delay(interval: u32, d: u32) -> u32
+    requires { ⌜ interval ≤ 3600000 ⌝ }
+    ensures { λ r. ⌜ r ≡ delay interval d ⌝ }
+{
+    let scaled = interval as u64 * (6442450944 + d as u64);
+    (scaled / 8589934592) as u32
+}
