@@ -1,0 +1,4 @@
+pub mod Hold
+pub mod Pushing
+pub mod Tests
+pub mod Choosing
