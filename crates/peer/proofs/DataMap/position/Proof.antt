@@ -1,0 +1,60 @@
+-- The answer is the one for the entries from i on. The measure is what is left.
+use Prim.Native.Nat.{_-_}
+use mathlib.Core.List.{map}
+use borrow.Author.Needs.{needs}
+use lib.ListN.{take}
+use Rattle.lists.specs.Lists.{index-of}
+use Rattle.lists.specs.Maps.{keys}
+use Rattle.lists.proofs.Rest.{Rest, length-mapped}
+use Rattle.lists.proofs.Entries.{Index, index-start, index-here, index-next, index-end}
+use Rattle.peer.specs.Maps.{data-pair, data-map-in}
+use Rattle.peer.proofs.Maps.{unread}
+use Rattle.peer.proofs.DataMap.position.Statement.{statement}
+use Rattle.peer.proofs.DataMap.position.Tie as tie
+
+abbrev Inv-loop : tie.InvT-loop
+Inv-loop peer n entries i₀ i = Rest (Index data-pair peer) 80 entries n (index-of peer (keys (map data-pair (take n entries)))) i i
+
+abbrev μ-loop : tie.MeasureT-loop
+μ-loop peer n entries i₀ i = n - i
+
+loop-holds : tie.Need-loop-holds Inv-loop μ-loop
+loop-holds c = search (index-start data-pair unread 80, length-mapped, needs)
+
+mul-if1 : tie.Need-mul-if1 Inv-loop μ-loop
+mul-if1 c = search needs
+
+element-copy-out-if1 : tie.Need-element-copy-out-if1 Inv-loop μ-loop
+element-copy-out-if1 c = search needs
+
+returns : tie.Need-returns Inv-loop μ-loop
+unfolding data-map-in
+returns c = (search (index-here data-pair unread 80), search needs)
+
+add-i : tie.Need-add-i Inv-loop μ-loop
+add-i c = search needs
+
+loop-less : tie.Need-loop-less Inv-loop μ-loop
+loop-less c = search needs
+
+loop-again : tie.Need-loop-again Inv-loop μ-loop
+loop-again c = search (index-next data-pair unread 80)
+
+returns-2 : tie.Need-returns-2 Inv-loop μ-loop
+unfolding data-map-in
+returns-2 c = (search (index-end data-pair unread 80), search needs)
+
+pub position-spec : {M : Type 1} → statement M
+position-spec =
+    tie.close
+    (tie.spec
+    Inv-loop
+    μ-loop
+    loop-holds
+    mul-if1
+    element-copy-out-if1
+    returns
+    add-i
+    loop-less
+    loop-again
+    returns-2)

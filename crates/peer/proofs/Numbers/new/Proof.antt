@@ -1,0 +1,19 @@
+use Prim.Native.Nat.{zero-le}
+use mathlib.Core.Path.{refl}
+use mathlib.Core.List.{[]}
+use Rattle.lists.specs.Lists.{Rising}
+use Rattle.lists.specs.Maps.{keys}
+use Rattle.lists.specs.Array.{pad}
+use Rattle.lists.specs.Tests.{All}
+use Rattle.lists.proofs.Entries.{entries-of}
+use Rattle.peer.specs.Maps.{number-pair, no-number}
+use Rattle.peer.proofs.Maps.{Any, numbers-held}
+use Rattle.peer.proofs.Numbers.new.Statement.{statement}
+use Rattle.peer.proofs.Numbers.new.Tie as tie
+
+returns : tie.Need-returns
+unfolding pad All Rising keys
+returns c = numbers-held _ [] (entries-of no-number 32 number-pair Any [] _ 0 [] refl refl zero-le tt tt refl)
+
+pub new-spec : {M : Type 1} → statement M
+new-spec = tie.close (tie.spec returns)
