@@ -1,0 +1,120 @@
+-- Laws of the readers' definitions.
+-- Assumes nothing.
+use Prim.Native.Nat.{ℕ, zero, suc, _+_, _≤_, _<_}
+use mathlib.Core.Path.{_≡_, refl, sym, ap, _∙_}
+use mathlib.Core.Bool.{Bool, true, false, _&&_}
+use mathlib.Core.List.{List}
+use native.Mathlib.Omega.{arith}
+use borrow.Author.Tests.{ne-eqb, lt-ltb, le-ltb, leb-true, leb-false}
+use lib.ListN.{length, getD}
+use lib.Dec.{leb, ltb}
+use Rattle.lists.specs.Lists.{choose}
+use Rattle.lists.proofs.Choice.{choose-yes, choose-no, split, clash, and-left}
+use Rattle.record.specs.Format.{header-length}
+use Rattle.record.specs.Read.{header-of, entry-at, entry-ok, entries-ok, well-formed, rec-of, is-event, refused, event, read-event}
+use Rattle.record.specs.Answers.{answer, event-answer, event-in, EventIs}
+use Rattle.record.specs.declared.Header.{Header}
+use Rattle.record.specs.declared.Answer.the-variants as Answers
+use Rattle.record.specs.declared.Event.{Event}
+use Rattle.record.specs.declared.Event.the-variants as Events
+
+and-none : (a : Bool) → (a && false) ≡ false
+and-none true = refl
+and-none false = refl
+
+-- data that would start past the end are no data of the record
+pub entries-short : (h : Header) (b : List ℕ) (i n at : ℕ) → length b < at → entries-ok h b i n at ≡ false
+unfolding entries-ok
+entries-short h b i zero at l = ne-eqb at (length b) (λ e. omega (arith, e))
+entries-short h b i (suc n) at l = rw (entries-short h b (suc i) n (at + entry-at b i .len) (omega arith)) (and-none (entry-ok h (entry-at b i) at))
+
+-- where entries are sound, their data start within the record
+pub entries-reach : (h : Header) (b : List ℕ) (i n at : ℕ) → entries-ok h b i n at ≡ true → at ≤ length b
+entries-reach h b i n at t = split (leb at (length b)) (λ y. leb-true at (length b) y) (λ n′. clash _ t (entries-short h b i n at (leb-false at (length b) n′)))
+
+pub well-formed-long : (b : List ℕ) → well-formed b ≡ true → header-length ≤ length b
+unfolding well-formed
+well-formed-long b w = leb-true _ _ (and-left _ _ w)
+
+-- a record's header, or none
+pub answer-record : (b : List ℕ) (h : Header) (t : Bool) → t ≡ well-formed b → t ≡ true → h ≡ header-of b → Answers.Record h ≡ answer b
+unfolding answer choose
+answer-record b h t p q e = rw (e, ← p, q)
+
+pub answer-malformed : (b : List ℕ) (t : Bool) → t ≡ well-formed b → t ≡ false → Answers.Malformed ≡ answer b
+unfolding answer choose
+answer-malformed b t p q = rw (← p, q)
+
+-- what an answer with a header says of the bytes
+pub record Found (b : List ℕ) (h : Header) : Type 0 where
+  pub well : well-formed b ≡ true
+  pub header : h ≡ header-of b
+
+pub answer-found : (b : List ℕ) (h : Header) → answer b ≡ Answers.Record h → Found b h
+unfolding answer
+answer-found b h a =
+    split (well-formed b)
+    (λ y. record { well = y; header = (let q : Answers.Record (header-of b) ≡ Answers.Record h = sym (choose-yes (well-formed b) (Answers.Record (header-of b)) Answers.Malformed y) ∙ a in cc) })
+    (λ n. absurd (let q : Answers.Malformed ≡ Answers.Record h = sym (choose-no (well-formed b) (Answers.Record (header-of b)) Answers.Malformed n) ∙ a in let z : _≡_ {A = ℕ} 0 1 = cc in omega arith))
+
+-- what an event's header says of the bytes
+pub record FoundEvent (b : List ℕ) (h : Header) : Type 0 where
+  pub well : well-formed b ≡ true
+  pub is-one : is-event (header-of b) ≡ true
+  pub header : h ≡ header-of b
+
+-- the answer by its three tests
+found-by : (b : List ℕ) (h : Header) (s t w e : Bool)
+    → choose s (Events.Refused 3) (choose t (Events.Refused 4) (choose (w && e) (Events.Record (header-of b)) (Events.Refused 3))) ≡ Events.Record h
+    → ((w ≡ true) × ((e ≡ true) × (h ≡ header-of b)))
+unfolding choose
+found-by b h true t w e a = absurd (let z : _≡_ {A = ℕ} 0 1 = cc in omega arith)
+found-by b h false true w e a = absurd (let z : _≡_ {A = ℕ} 0 1 = cc in omega arith)
+found-by b h false false true true a = (refl, (refl, cc))
+found-by b h false false true false a = absurd (let z : _≡_ {A = ℕ} 0 1 = cc in omega arith)
+found-by b h false false false e a = absurd (let z : _≡_ {A = ℕ} 0 1 = cc in omega arith)
+
+pub event-found : (b : List ℕ) (h : Header) → event-answer b ≡ Events.Record h → FoundEvent b h
+unfolding event-answer
+event-found b h a =
+    let f = found-by b h (ltb (length b) header-length) (ltb 32 (getD b 3 0)) (well-formed b) (is-event (header-of b)) a in
+    record { well = f .0; is-one = f .1 .0; header = f .1 .1 }
+
+module _ (b : List ℕ) where
+  events : (s t w : Bool)
+      → event-in b (choose s (Events.Refused 3) (choose t (Events.Refused 4) (choose w (Events.Record (header-of b)) (Events.Refused 3))))
+      ≡ choose s (refused 3) (choose t (refused 4) (choose w (event (rec-of b)) (refused 3)))
+  unfolding choose event-in
+  events true t w = refl
+  events false true w = refl
+  events false false true = refl
+  events false false false = refl
+
+  -- the code's answer to an event stands for what the bytes read as
+  pub event-reads : event-in b (event-answer b) ≡ read-event b
+  unfolding event-answer read-event
+  event-reads = events (ltb (length b) header-length) (ltb 32 (getD b 3 0)) (well-formed b && is-event (header-of b))
+
+  event-is : (r : Event) → r ≡ event-answer b → EventIs b r
+  event-is r e = record { is = e; reads = ap (event-in b) e ∙ event-reads }
+
+  pub event-short : length b < header-length → EventIs b (Events.Refused 3)
+  unfolding event-answer choose
+  event-short h = event-is (Events.Refused 3) (rw (lt-ltb _ _ h))
+
+  module _ (l : header-length ≤ length b) where
+    pub event-crowded : 32 < getD b 3 0 → EventIs b (Events.Refused 4)
+    unfolding event-answer choose
+    event-crowded h = event-is (Events.Refused 4) (rw (le-ltb _ _ l, lt-ltb _ _ h))
+
+    module _ (few : getD b 3 0 ≤ 32) (h : Header) (w e : Bool) (p : w ≡ well-formed b) (q : h ≡ header-of b) (r : e ≡ is-event h) where
+      test : (w && e) ≡ (well-formed b && is-event (header-of b))
+      test = rw (p, r, q)
+
+      pub event-record : (w && e) ≡ true → EventIs b (Events.Record h)
+      unfolding event-answer choose
+      event-record t = event-is (Events.Record h) (rw (q, le-ltb _ _ l, le-ltb _ _ few, ← test, t))
+
+      pub event-refused : (w && e) ≡ false → EventIs b (Events.Refused 3)
+      unfolding event-answer choose
+      event-refused t = event-is (Events.Refused 3) (rw (le-ltb _ _ l, le-ltb _ _ few, ← test, t))

@@ -1,0 +1,126 @@
+-- The nodes of a record, one by one: what the reader may count on at each of them.
+-- Assumes nothing.
+use Prim.Native.Nat.{ℕ, zero, suc, _+_, _*_, _-_, _≤_, _<_}
+use mathlib.Core.Path.{_≡_, refl, sym, ap, _∙_, subst}
+use mathlib.Core.Bool.{true, _&&_}
+use mathlib.Core.List.{List}
+use mathlib.Core.Option.{none, some}
+use native.Mathlib.Nat.{not-suc-le-zero}
+use native.Mathlib.Omega.{arith}
+use lib.ListN.{length, getD}
+use lib.Seq.{slice, length-slice}
+use lib.Dec.{leb, eqb}
+use borrow.Author.Tests.{eq-eqb, ne-eqb, le-leb}
+use Rattle.lists.specs.Lists.{choose}
+use Rattle.lists.proofs.Choice.{choose-yes, choose-no, and-left, and-right}
+use Rattle.peer.specs.Data.{Data, Node, bytes-of}
+use Rattle.peer.specs.Held.{HoldsData, taken, node-in}
+use Rattle.peer.specs.declared.PeerData.{PeerData}
+use Rattle.record.specs.Format.{header-length, node-length, present}
+use Rattle.record.specs.Read.{header-of, entry-at, data-ok, id-ok, present-ok, entry-ok, entries-ok, well-formed, data-at, node-at, nodes-of, rec-of}
+use Rattle.record.specs.Answers.{HoldsNode}
+use Rattle.record.specs.declared.Header.{Header}
+use Rattle.record.specs.declared.Entry.{Entry}
+use Rattle.record.proofs.Laws.{entries-reach}
+use Rattle.record.proofs.Back.{Sound, sound, parts}
+
+-- the i-th entry of b: its eight bytes and its data stand within b, the data are those that it points at, at most 16 bytes
+pub record EntryIn (b : List ℕ) (i : ℕ) : Type 0 where
+  pub room : header-length + node-length * i + 8 ≤ length b
+  pub within : entry-at b i .offset + entry-at b i .len ≤ length b
+  pub few : entry-at b i .len ≤ 16
+  pub bytes : bytes-of (data-at b (entry-at b i)) ≡ slice (entry-at b i .offset) (entry-at b i .offset + entry-at b i .len) b
+  pub there : present (data-at b (entry-at b i)) ≡ entry-at b i .present
+
+module _ (h : Header) (b : List ℕ) where
+  -- the data of the k-th entry from the i-th on stand at some place `at`
+  record Stands (j : ℕ) : Type 0 where
+    at : ℕ
+    sound-there : Sound b (entry-at b j .present) (entry-at b j .offset) (entry-at b j .len) at (data-at b (entry-at b j))
+    reach : at + entry-at b j .len ≤ length b
+
+  first : (i n at : ℕ) → entries-ok h b i (suc n) at ≡ true → Stands i
+  unfolding entries-ok entry-ok
+  first i n at t =
+      let e = entry-at b i in
+      let rest = entries-ok h b (suc i) n (at + e .len) in
+      record {
+        at = at;
+        sound-there = sound b e at (and-left (data-ok e at) (id-ok h (e .id) && present-ok h (e .present)) (and-left (entry-ok h e at) rest t));
+        reach = entries-reach h b (suc i) n (at + e .len) (and-right (entry-ok h e at) rest t);
+      }
+
+  stands : (n i at k : ℕ) → entries-ok h b i n at ≡ true → k < n → Stands (i + k)
+  unfolding entries-ok
+  stands zero i at k t l = absurd (not-suc-le-zero l)
+  stands (suc n) i at zero t l = (let z : i + 0 ≡ i = omega arith in rw z (first i n at t))
+  stands (suc n) i at (suc k) t l =
+      let z : i + suc k ≡ suc i + k = omega arith in
+      rw z (stands n (suc i) (at + entry-at b i .len) k (and-right (entry-ok h (entry-at b i) at) (entries-ok h b (suc i) n (at + entry-at b i .len)) t) (omega arith))
+
+module _ (b : List ℕ) (t : well-formed b ≡ true) (i : ℕ) (l : i < header-of b .nodes) where
+  abbrev n : ℕ
+  n = header-of b .nodes
+
+  pub entry-in : EntryIn b i
+  entry-in =
+      let listed : entries-ok (header-of b) b 0 n (header-length + node-length * n) ≡ true = parts b t .listed in
+      let z : 0 + i ≡ i = omega arith in
+      let s : Stands (header-of b) b i = rw z at (stands (header-of b) b n 0 (header-length + node-length * n) i listed l) in
+      record {
+        room = omega (arith, entries-reach (header-of b) b 0 n (header-length + node-length * n) listed);
+        within = omega (arith, s .reach, s .sound-there .low);
+        few = s .sound-there .few;
+        bytes = s .sound-there .own;
+        there = s .sound-there .there;
+      }
+
+-- the i-th node of a record
+nodes-at : (b : List ℕ) (n i k : ℕ) (d : Node) → k < n → getD (nodes-of b i n) k d ≡ node-at b (i + k)
+unfolding nodes-of
+nodes-at b zero i k d l = absurd (not-suc-le-zero l)
+nodes-at b (suc n) i zero d l = let z : i + 0 ≡ i = omega arith in rw z
+nodes-at b (suc n) i (suc k) d l = let z : i + suc k ≡ suc i + k = omega arith in rw z (nodes-at b n (suc i) k d (omega arith))
+
+pub length-nodes-of : (b : List ℕ) (i n : ℕ) → length (nodes-of b i n) ≡ n
+unfolding nodes-of
+length-nodes-of b i zero = refl
+length-nodes-of b i (suc n) = ap suc (length-nodes-of b (suc i) n)
+
+pub node-of-record : (b : List ℕ) (i : ℕ) (d : Node) → i < header-of b .nodes → getD (rec-of b .nodes) i d ≡ node-at b i
+unfolding rec-of
+node-of-record b i d l = let z : 0 + i ≡ i = omega arith in nodes-at b (header-of b .nodes) 0 i d l ∙ rw z
+
+-- ---- a node's data by value
+
+module _ (b : List ℕ) (e : Entry) (r : PeerData) where
+  pub absent-held : e .present ≡ 0 → HoldsData r none → HoldsData r (data-at b e)
+  unfolding data-at
+  absent-held z h = subst (λ (d : Data). HoldsData r d) (sym (choose-yes (eqb (e .present) 0) none (some (slice (e .offset) (e .offset + e .len) b)) (eq-eqb _ _ z))) h
+
+  pub present-held : (s : List ℕ) → (e .present ≡ 0 → ⊥) → e .offset + e .len ≤ length b → e .len ≤ 16 → s ≡ slice (e .offset) (e .offset + e .len) b → HoldsData r (taken s) → HoldsData r (data-at b e)
+  unfolding data-at taken
+  present-held s z w f q h =
+      let l : length s ≡ e .len = ap length q ∙ length-slice (e .offset) (e .offset + e .len) b w ∙ (let k : e .offset + e .len - e .offset ≡ e .len = omega arith in k) in
+      let t : choose (leb (length s) 16) (some s) none ≡ some s = choose-yes (leb (length s) 16) (some s) none (le-leb (length s) 16 (omega arith)) in
+      let d : data-at b e ≡ some s = choose-no (eqb (e .present) 0) none (some (slice (e .offset) (e .offset + e .len) b)) (ne-eqb _ _ z) ∙ ap some (sym q) in
+      subst (λ (x : Data). HoldsData r x) (t ∙ sym d) h
+
+pub node-held : (b : List ℕ) (i : ℕ) (e : Entry) (d : PeerData) → e ≡ entry-at b i → HoldsData d (data-at b e) → HoldsNode (record { id = e .id; «data» = d }) (node-at b i)
+unfolding node-at node-in
+node-held b i e d q h = record {
+  valid = h .valid;
+  holds = λ j. record { id = q j .id; data-of = (h .holds ∙ ap (data-at b) q) j };
+}
+
+-- ---- what the code asks of an entry that it read
+
+module _ (b : List ℕ) (i : ℕ) (t : well-formed b ≡ true) (l : i < header-of b .nodes) where
+  pub entry-room : 24 + 8 * i + 8 ≤ length b
+  entry-room = entry-in b t i l .room
+
+  pub entry-within : (e : Entry) → e ≡ entry-at b i → e .offset + e .len ≤ length b
+  entry-within e q = omega (arith, entry-in b t i l .within, ap (λ (x : Entry). x .offset) q, ap (λ (x : Entry). x .len) q)
+
+  pub entry-few : (e : Entry) → e ≡ entry-at b i → e .len ≤ 16
+  entry-few e q = omega (arith, entry-in b t i l .few, ap (λ (x : Entry). x .len) q)

@@ -1,0 +1,581 @@
+// Part 3 of document 01: the records, their fixed sizes, and one reader.
+use peer::PeerData;
+use peer::PeerInfo;
+ghost use mathlib.Core.Path.{_≡_};
+ghost use mathlib.Core.Bool.{true};
+ghost use Prim.Native.Nat.{_+_, _*_, _≤_, _<_};
+ghost use lib.ListN.{length};
+ghost use lib.Seq.{slice};
+ghost use Rattle.lists.specs.Lists.{choose};
+ghost use Rattle.lists.specs.Bytes.{read-le};
+ghost use Rattle.record.specs.Read.{fixed-size, header-of, entry-at, is-message, is-timer, is-data, kind-ok, flags-ok, count-ok, peer-ok, fields-ok, header-ok, data-ok, entry-ok, entries-ok, well-formed, is-event, data-at, node-at};
+ghost use Rattle.peer.specs.Held.{HoldsData};
+ghost use Rattle.record.specs.Answers.{answer, EventIs, HoldsNode};
+
+// The 24 bytes that every record starts with, as numbers.
+pub struct Header {
+    pub kind: u8,
+    pub message: u8,
+    pub flags: u8,
+    pub nodes: u8,
+    pub peer: u32,
+    pub second: u32,
+    pub ttl: u16,
+    pub size: u16,
+    pub number: u64,
+}
+
+// A node entry: the peer, and where its data stands in the record.
+pub struct Entry {
+    pub id: u32,
+    pub offset: u16,
+    pub len: u8,
+    pub present: u8,
+}
+
+// The fixed size of a record by its kind byte; 0 where no kind has that number.
+const SIZES: [u8; 256] = [
+    24, // 0 message
+    24, // 1 DoShuffle
+    24, // 2 DoMaintenance
+    24, // 3 PendingNeighborRequest
+    24, // 4 RetryJoin
+    24, // 5 PeerDisconnected
+    24, // 6 RequestJoin
+    32, // 7 UpdatePeerData
+    24, // 8 Quit
+    24, // 9 NeighborUp
+    24, // 10 NeighborDown
+    32, // 11 peer data
+    0,
+    0,
+    0,
+    0,
+    0,
+    0,
+    0,
+    0,
+    0,
+    0,
+    0,
+    0,
+    0,
+    0,
+    0,
+    0,
+    0,
+    0,
+    0,
+    0,
+    0,
+    0,
+    0,
+    0,
+    0,
+    0,
+    0,
+    0,
+    0,
+    0,
+    0,
+    0,
+    0,
+    0,
+    0,
+    0,
+    0,
+    0,
+    0,
+    0,
+    0,
+    0,
+    0,
+    0,
+    0,
+    0,
+    0,
+    0,
+    0,
+    0,
+    0,
+    0,
+    0,
+    0,
+    0,
+    0,
+    0,
+    0,
+    0,
+    0,
+    0,
+    0,
+    0,
+    0,
+    0,
+    0,
+    0,
+    0,
+    0,
+    0,
+    0,
+    0,
+    0,
+    0,
+    0,
+    0,
+    0,
+    0,
+    0,
+    0,
+    0,
+    0,
+    0,
+    0,
+    0,
+    0,
+    0,
+    0,
+    0,
+    0,
+    0,
+    0,
+    0,
+    0,
+    0,
+    0,
+    0,
+    0,
+    0,
+    0,
+    0,
+    0,
+    0,
+    0,
+    0,
+    0,
+    0,
+    0,
+    0,
+    0,
+    0,
+    0,
+    0,
+    0,
+    0,
+    0,
+    0,
+    0,
+    0,
+    0,
+    0,
+    0,
+    0,
+    0,
+    0,
+    0,
+    0,
+    0,
+    0,
+    0,
+    0,
+    0,
+    0,
+    0,
+    0,
+    0,
+    0,
+    0,
+    0,
+    0,
+    0,
+    0,
+    0,
+    0,
+    0,
+    0,
+    0,
+    0,
+    0,
+    0,
+    0,
+    0,
+    0,
+    0,
+    0,
+    0,
+    0,
+    0,
+    0,
+    0,
+    0,
+    0,
+    0,
+    0,
+    0,
+    0,
+    0,
+    0,
+    0,
+    0,
+    0,
+    0,
+    0,
+    0,
+    0,
+    0,
+    0,
+    0,
+    0,
+    0,
+    0,
+    0,
+    0,
+    0,
+    0,
+    0,
+    0,
+    0,
+    0,
+    0,
+    0,
+    0,
+    0,
+    0,
+    0,
+    0,
+    0,
+    0,
+    0,
+    0,
+    0,
+    0,
+    0,
+    0,
+    0,
+    0,
+    0,
+    0,
+    0,
+    0,
+    0,
+    0,
+    0,
+    0,
+    0,
+    0,
+    0,
+    0,
+    0,
+    0,
+    0,
+    0,
+    0,
+    0,
+    0,
+    0,
+    0,
+    0,
+    0,
+    0,
+    0,
+    0,
+    0,
+    0,
+    0,
+    0,
+    0,
+    0,
+    0,
+    0,
+    0,
+    0,
+    0,
+    0,
+];
+
+pub fn fixed_size(kind: u8) -> u8
+    ensures { λ r. ⌜ r ≡ fixed-size kind ⌝ }
+{
+    SIZES[kind as usize]
+}
+
+// A byte as a wider number.
+fn wide(x: u8) -> u32
+    ensures { λ r. ⌜ (r ≡ x) × (r < 256) ⌝ }
+{
+    x as u32
+}
+
+fn read_u16(b: &[u8], at: usize) -> u16
+    requires { ⌜ at + 2 ≤ length (now b) ⌝ }
+    ensures { λ r. ⌜ r ≡ read-le 2 (now (b .entry)) at ⌝ }
+{
+    let low = wide(b[at]);
+    let high = wide(b[at + 1]);
+    (low + 256 * high) as u16
+}
+
+fn read_u32(b: &[u8], at: usize) -> u32
+    requires { ⌜ at + 4 ≤ length (now b) ⌝ }
+    ensures { λ r. ⌜ r ≡ read-le 4 (now (b .entry)) at ⌝ }
+{
+    let b0 = wide(b[at]);
+    let b1 = wide(b[at + 1]);
+    let b2 = wide(b[at + 2]);
+    let b3 = wide(b[at + 3]);
+    b0 + 256 * (b1 + 256 * (b2 + 256 * b3))
+}
+
+fn read_u64(b: &[u8], at: usize) -> u64
+    requires { ⌜ at + 8 ≤ length (now b) ⌝ }
+    ensures { λ r. ⌜ r ≡ read-le 8 (now (b .entry)) at ⌝ }
+{
+    let low = read_u32(b, at) as u64;
+    let high = read_u32(b, at + 4) as u64;
+    low + 4294967296 * high
+}
+
+// The header's fields, as they stand.
+pub fn read_header(b: &[u8]) -> Header
+    requires { ⌜ 24 ≤ length (now b) ⌝ }
+    ensures { λ r. ⌜ r ≡ header-of (now (b .entry)) ⌝ }
+{
+    Header {
+        kind: b[0],
+        message: b[1],
+        flags: b[2],
+        nodes: b[3],
+        peer: read_u32(b, 4),
+        second: read_u32(b, 8),
+        ttl: read_u16(b, 12),
+        size: read_u16(b, 14),
+        number: read_u64(b, 16),
+    }
+}
+
+// The i-th node entry's fields, as they stand.
+pub fn node(b: &[u8], i: usize) -> Entry
+    requires { ⌜ 24 + 8 * i + 8 ≤ length (now b) ⌝ }
+    ensures { λ r. ⌜ r ≡ entry-at (now (b .entry)) i ⌝ }
+{
+    let at = 24 + 8 * i;
+    Entry {
+        id: read_u32(b, at),
+        offset: read_u16(b, at + 4),
+        len: b[at + 6],
+        present: b[at + 7],
+    }
+}
+
+// x where the test holds, else y.
+fn choose(test: bool, x: bool, y: bool) -> bool
+    ensures { λ r. ⌜ r ≡ choose test x y ⌝ }
+{
+    if test { x } else { y }
+}
+
+// Message m of kind 0.
+fn is_message(m: u8, h: Header) -> bool
+    ensures { λ r. ⌜ r ≡ is-message m h ⌝ }
+{
+    (h.kind == 0) & (h.message == m)
+}
+
+// DoShuffle, DoMaintenance, PendingNeighborRequest, RetryJoin.
+fn is_timer(h: Header) -> bool
+    ensures { λ r. ⌜ r ≡ is-timer h ⌝ }
+{
+    (1 <= h.kind) & (h.kind <= 4)
+}
+
+// UpdatePeerData and peer data, whose one node has data.
+fn is_data(h: Header) -> bool
+    ensures { λ r. ⌜ r ≡ is-data h ⌝ }
+{
+    (h.kind == 7) | (h.kind == 11)
+}
+
+// A known kind, and a message only in kind 0.
+fn kind_ok(h: Header) -> bool
+    ensures { λ r. ⌜ r ≡ kind-ok h ⌝ }
+{
+    !(fixed_size(h.kind) == 0) & choose(h.kind == 0, h.message <= 5, h.message == 0)
+}
+
+// Neighbor has one flag, Disconnect two.
+fn flags_ok(h: Header) -> bool
+    ensures { λ r. ⌜ r ≡ flags-ok h ⌝ }
+{
+    choose(
+        is_message(4, h),
+        h.flags <= 1,
+        choose(is_message(5, h), h.flags <= 3, h.flags == 0),
+    )
+}
+
+fn count_ok(h: Header) -> bool
+    ensures { λ r. ⌜ r ≡ count-ok h ⌝ }
+{
+    let one = is_message(0, h) | (is_message(1, h) | (is_message(4, h) | is_data(h)));
+    let some = is_message(2, h) | is_message(3, h);
+    choose(one, h.nodes == 1, choose(some, h.nodes <= 32, h.nodes == 0))
+}
+
+// Peer is 0 in kinds 1, 2, 7, 8.
+fn peer_ok(h: Header) -> bool
+    ensures { λ r. ⌜ r ≡ peer-ok h ⌝ }
+{
+    let none = (h.kind == 1) | ((h.kind == 2) | ((h.kind == 7) | (h.kind == 8)));
+    choose(none, h.peer == 0, true)
+}
+
+// Fields not named for a kind are 0.
+fn fields_ok(h: Header) -> bool
+    ensures { λ r. ⌜ r ≡ fields-ok h ⌝ }
+{
+    let second = choose(is_message(2, h) | is_timer(h), true, h.second == 0);
+    let ttl = choose(is_message(1, h) | is_message(2, h), true, h.ttl == 0);
+    let number = choose((h.kind == 3) | (h.kind == 4), true, h.number == 0);
+    second & (ttl & number)
+}
+
+// What the header alone must meet.
+fn header_ok(h: Header) -> bool
+    ensures { λ r. ⌜ r ≡ header-ok h ⌝ }
+{
+    kind_ok(h) & (flags_ok(h) & (count_ok(h) & (peer_ok(h) & fields_ok(h))))
+}
+
+// Absent data has offset and length 0; data present stand at the place reached.
+fn data_ok(e: Entry, at: usize) -> bool
+    ensures { λ r. ⌜ r ≡ data-ok e at ⌝ }
+{
+    let offset = e.offset as usize;
+    choose(
+        e.present == 0,
+        (e.offset == 0) & (e.len == 0),
+        (e.present == 1) & ((offset == at) & (e.len <= 16)),
+    )
+}
+
+fn entry_ok(h: Header, e: Entry, at: usize) -> bool
+    ensures { λ r. ⌜ r ≡ entry-ok h e at ⌝ }
+{
+    let unnamed = is_message(0, h) | (is_message(4, h) | is_data(h));
+    let id = choose(unnamed, e.id == 0, true);
+    data_ok(e, at) & (id & choose(is_data(h), e.present == 1, true))
+}
+
+// Every entry is sound, and the data reach the whole length.
+fn entries_ok(h: Header, b: &[u8]) -> bool
+    ensures { λ r. ⌜ r ≡ entries-ok h (now (b .entry)) 0 (h .nodes) (24 + 8 * h .nodes) ⌝ }
+{
+    let n = h.nodes as usize;
+    let mut at = 24 + 8 * n;
+    if b.len() < at {
+        return false;
+    }
+    let mut i: usize = 0;
+    while i < n {
+        let e = node(b, i);
+        if entry_ok(h, e, at) {
+            at += e.len as usize;
+            i += 1;
+        } else {
+            return false;
+        }
+    }
+    at == b.len()
+}
+
+// The bytes are a record.
+fn well_formed(b: &[u8]) -> bool
+    ensures { λ r. ⌜ r ≡ well-formed (now (b .entry)) ⌝ }
+{
+    if b.len() < 24 {
+        return false;
+    }
+    let h = read_header(b);
+    let size = h.size as usize;
+    header_ok(h) & ((size == b.len()) & entries_ok(h, b))
+}
+
+// A record's header, or that the bytes are none.
+pub enum Answer {
+    Record(Header),
+    Malformed,
+}
+
+// The one reader for kinds 0 to 11.
+pub fn read(b: &[u8]) -> Answer
+    ensures { λ r. ⌜ r ≡ answer (now (b .entry)) ⌝ }
+{
+    if well_formed(b) {
+        return Answer::Record(read_header(b));
+    }
+    Answer::Malformed
+}
+
+// Kinds 9 to 11 and a timer's nonzero delay are malformed as events.
+fn is_event(h: Header) -> bool
+    ensures { λ r. ⌜ r ≡ is-event h ⌝ }
+{
+    (h.kind <= 8) & choose(is_timer(h), h.second == 0, true)
+}
+
+// An event's header, or the code of its refusal.
+pub enum Event {
+    Refused(u32),
+    Record(Header),
+}
+
+// The reading of an event, with the refusals in 01's order.
+pub fn read_event(b: &[u8]) -> Event
+    ensures { λ r. ⌜ EventIs (now (b .entry)) r ⌝ }
+{
+    if b.len() < 24 {
+        return Event::Refused(3);
+    }
+    if 32 < b[3] {
+        return Event::Refused(4);
+    }
+    let h = read_header(b);
+    if well_formed(b) & is_event(h) {
+        return Event::Record(h);
+    }
+    Event::Refused(3)
+}
+
+// A node's data, as a part of the record's own bytes.
+pub fn node_data<'a>(b: &'a [u8], e: Entry) -> &'a [u8]
+    requires { ⌜ e .offset + e .len ≤ length (now b) ⌝ }
+    ensures { λ r. ⌜ now r ≡ slice (e .offset) (e .offset + e .len) (now (b .entry)) ⌝ }
+{
+    let at = e.offset as usize;
+    let end = at + e.len as usize;
+    &b[at..end]
+}
+
+// A node's data by value.
+pub fn peer_data(b: &[u8], e: Entry) -> PeerData
+    requires { ⌜ e .offset + e .len ≤ length (now b) ⌝ }
+    requires { ⌜ e .len ≤ 16 ⌝ }
+    ensures { λ r. ⌜ HoldsData r (data-at (now (b .entry)) e) ⌝ }
+{
+    if e.present == 0 {
+        return PeerData::absent();
+    }
+    let m = PeerData::from_slice(node_data(b, e));
+    m.data
+}
+
+// The i-th node of a record by value.
+pub fn peer_info(b: &[u8], i: usize) -> PeerInfo
+    requires { ⌜ well-formed (now b) ≡ true ⌝ }
+    requires { ⌜ i < header-of (now b) .nodes ⌝ }
+    ensures { λ r. ⌜ HoldsNode r (node-at (now (b .entry)) i) ⌝ }
+{
+    let e = node(b, i);
+    let d = peer_data(b, e);
+    PeerInfo { id: e.id, data: d }
+}

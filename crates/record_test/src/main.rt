@@ -1,0 +1,112 @@
+// Reads records, each with two bytes for its length in front, and writes a line for each: what the reader answers, and the code of the event.
+use record::Answer;
+use record::Event;
+use record::Header;
+ghost use Prim.Native.Nat.{_+_, _≤_};
+ghost use lib.ListN.{length};
+ghost use Rattle.record.proofs.Laws.{Found};
+
+fn main() {
+    let mut buffer = io::large_buffer();
+    let n = io::read_full(0, &mut buffer);
+    show_all(&buffer[..n]);
+}
+
+// Every record of the input, to the first that is cut off.
+fn show_all(s: &[u8]) {
+    let mut at: usize = 0;
+    while at < s.len() {
+        let left = s.len() - at;
+        if left < 2 {
+            return;
+        }
+        let size = length_at(s, at);
+        if left - 2 < size {
+            return;
+        }
+        let start = at + 2;
+        let end = start + size;
+        show(&s[start..end]);
+        at = end;
+    }
+}
+
+fn length_at(s: &[u8], at: usize) -> usize
+    requires { ⌜ at + 2 ≤ length (now s) ⌝ }
+    ensures { λ r. ⌜ r ≤ 65535 ⌝ }
+{
+    wide(s[at]) + 256 * wide(s[at + 1])
+}
+
+fn wide(x: u8) -> usize
+    ensures { λ r. ⌜ r ≤ 255 ⌝ }
+{
+    x as usize
+}
+
+fn show(b: &[u8]) {
+    let answer = record::read(b);
+    match answer {
+        Answer::Record(h) => {
+            show_header(h);
+            show_nodes(b, h);
+        }
+        Answer::Malformed => {
+            io::write_all(1, b"malformed");
+        }
+    }
+    show_code(b);
+}
+
+// A space and a number.
+fn word(n: u64) {
+    io::write_all(1, b" ");
+    io::print_decimal(1, n);
+}
+
+fn show_header(h: Header) {
+    io::write_all(1, b"record");
+    word(h.kind as u64);
+    word(h.message as u64);
+    word(h.flags as u64);
+    word(h.nodes as u64);
+    word(h.peer as u64);
+    word(h.second as u64);
+    word(h.ttl as u64);
+    word(h.size as u64);
+    word(h.number);
+}
+
+fn show_nodes(b: &[u8], h: Header)
+    requires { ⌜ Found (now b) h ⌝ }
+{
+    let n = h.nodes as usize;
+    let mut i: usize = 0;
+    while i < n {
+        let e = record::node(b, i);
+        io::write_all(1, b" node");
+        word(e.id as u64);
+        word(e.present as u64);
+        word(e.len as u64);
+        show_bytes(record::node_data(b, e));
+        i += 1;
+    }
+}
+
+fn show_bytes(s: &[u8]) {
+    let mut i: usize = 0;
+    while i < s.len() {
+        word(wide(s[i]) as u64);
+        i += 1;
+    }
+}
+
+fn show_code(b: &[u8]) {
+    io::write_all(1, b" code");
+    let answer = record::read_event(b);
+    match answer {
+        Event::Refused(code) => word(code as u64),
+        Event::Record(_) => word(0),
+    }
+    io::write_all(1, b"\n");
+}
