@@ -1,0 +1,176 @@
+//! Copies the Rust from the papers into OUT_DIR, with the substitutions listed below.
+//!
+//! Fails when a substitution meets another number of lines than expected, and writes the list of
+//! what was done into the program (`oracle substitutions`).
+
+use std::{
+    env, fs,
+    path::{Path, PathBuf},
+};
+
+/// Names the folder that holds src/proto/hyparview.rs: the papers or a checkout of iroh-gossip.
+const FOLDER_VARIABLE: &str = "IROH_GOSSIP_DIR";
+/// The papers, seen from this crate's folder.
+const DEFAULT_FOLDER: &str = "../../shared/docs/src";
+/// A change of one line that a comparison must notice: file, fragment, replacement, place, lines.
+const MUTANT_VARIABLE: &str = "ORACLE_MUTANT";
+
+/// Changes `from` to `to` in the lines of `file` that hold it: `lines` of them, or only the
+/// `place`th.
+struct Substitution {
+    file: String,
+    from: String,
+    to: String,
+    place: Option<usize>,
+    lines: usize,
+}
+
+/// The collections get limits (codes 6, 7, 8); nothing else of the Rust is changed.
+fn substitutions() -> Vec<Substitution> {
+    let collections = Substitution {
+        file: "hyparview.rs".into(),
+        from: "use std::collections::{hash_map,".into(),
+        to: "use crate::collections::{hash_map,".into(),
+        place: None,
+        lines: 1,
+    };
+    let mut all = vec![collections];
+    if let Ok(mutant) = env::var(MUTANT_VARIABLE) {
+        all.push(read_mutant(&mutant));
+    }
+    all
+}
+
+fn read_mutant(text: &str) -> Substitution {
+    let parts: Vec<_> = text.split('\t').collect();
+    let [file, from, to, place, lines] = parts[..] else {
+        panic!("{MUTANT_VARIABLE}: five parts, separated by tabs")
+    };
+    Substitution {
+        file: file.into(),
+        from: from.into(),
+        to: to.into(),
+        place: Some(place.parse().expect("a place")),
+        lines: lines.parse().expect("a number of lines"),
+    }
+}
+
+fn substitute(text: &str, change: &Substitution) -> String {
+    let met = text.lines().filter(|l| l.contains(&change.from)).count();
+    assert_eq!(
+        met, change.lines,
+        "{}: lines with {:?}",
+        change.file, change.from
+    );
+    let mut seen = 0;
+    let lines = text.lines().map(|line| {
+        let hit = line.contains(&change.from);
+        seen += usize::from(hit);
+        match change.place {
+            Some(place) if place != seen => line.to_owned(),
+            _ if hit => line.replacen(&change.from, &change.to, 1),
+            _ => line.to_owned(),
+        }
+    });
+    lines.map(|line| line + "\n").collect()
+}
+
+/// The end of proto.rs, from the line before `struct PeerInfo` on.
+fn peer_info(proto: &str) -> String {
+    let lines: Vec<_> = proto.lines().collect();
+    let found: Vec<_> = (0..lines.len())
+        .filter(|i| lines[*i].starts_with("struct PeerInfo<"))
+        .collect();
+    assert_eq!(found.len(), 1, "proto.rs: lines that start PeerInfo");
+    lines[found[0] - 1..].join("\n") + "\n"
+}
+
+/// FNV-1a, to tell in a report which text was built.
+fn fingerprint(text: &str) -> u64 {
+    let step = |hash: u64, byte| (hash ^ u64::from(byte)).wrapping_mul(0x100_0000_01b3);
+    text.bytes().fold(0xcbf2_9ce4_8422_2325, step)
+}
+
+struct Build {
+    folder: PathBuf,
+    out: PathBuf,
+    report: String,
+}
+
+impl Build {
+    fn say(&mut self, line: String) {
+        self.report += &line;
+        self.report += "\n";
+    }
+
+    fn read(&mut self, path: &str) -> String {
+        let path = self.folder.join(path);
+        println!("cargo:rerun-if-changed={}", path.display());
+        let text =
+            fs::read_to_string(&path).unwrap_or_else(|error| panic!("{}: {error}", path.display()));
+        let name = path.file_name().unwrap().to_string_lossy().into_owned();
+        self.say(format!(
+            "{name}: {} lines, fingerprint {:016x}",
+            text.lines().count(),
+            fingerprint(&text)
+        ));
+        text
+    }
+
+    fn copy(&mut self, name: &str, changes: &[Substitution], addition: &str) {
+        let mut text = self.read(&format!("src/proto/{name}"));
+        for change in changes.iter().filter(|change| change.file == name) {
+            text = substitute(&text, change);
+            self.say(format!(
+                "{name}: {:?} -> {:?} in {} of {} line(s)",
+                change.from,
+                change.to,
+                if change.place.is_some() {
+                    1
+                } else {
+                    change.lines
+                },
+                change.lines
+            ));
+        }
+        self.write(name, &(text + addition));
+    }
+
+    fn write(&self, name: &str, text: &str) {
+        fs::write(self.out.join(name), text).expect("OUT_DIR is writable");
+    }
+}
+
+fn main() {
+    let here = PathBuf::from(env::var("CARGO_MANIFEST_DIR").unwrap());
+    let folder = env::var(FOLDER_VARIABLE).map_or(here.join(DEFAULT_FOLDER), PathBuf::from);
+    let out = PathBuf::from(env::var("OUT_DIR").unwrap());
+    println!("cargo:rerun-if-env-changed={FOLDER_VARIABLE}");
+    println!("cargo:rerun-if-env-changed={MUTANT_VARIABLE}");
+    println!("cargo:rerun-if-changed=build.rs");
+    let mut build = Build {
+        folder,
+        out,
+        report: String::new(),
+    };
+    let changes = substitutions();
+    build.copy("util.rs", &changes, "");
+    build.copy("peer.rs", &changes, "");
+    build.copy("hyparview.rs", &changes, &access(&here));
+    let proto = build.read("src/proto.rs");
+    let modules = "pub mod hyparview;\nmod peer;\nmod util;\n";
+    build.write("proto.rs", &(modules.to_owned() + &peer_info(&proto)));
+    build.say("hyparview.rs: one line added at the end, the module access.rs".into());
+    build.say("proto.rs: only PeerInfo, from the line before it to the end".into());
+    for line in build.report.lines() {
+        println!("cargo:warning={line}");
+    }
+    build.write("substitutions.txt", &build.report);
+}
+
+/// A child module sees the private fields, which a comparison of whole states needs.
+fn access(here: &Path) -> String {
+    let path = here.join("src/access.rs");
+    println!("cargo:rerun-if-changed={}", path.display());
+    format!("\n#[path = {path:?}]\npub mod access;\n")
+}

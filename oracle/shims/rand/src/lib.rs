@@ -1,0 +1,99 @@
+//! Stand-in for `rand`: every random choice follows 01, "Random choices", over a lent draw list.
+
+use std::{ops::Range, sync::Arc};
+
+/// The lent draw list together with the place reached in it.
+#[derive(Clone, Debug)]
+pub struct Draws {
+    list: Arc<[u32]>,
+    place: usize,
+}
+
+impl Draws {
+    pub fn new(list: impl Into<Arc<[u32]>>) -> Self {
+        Self {
+            list: list.into(),
+            place: 0,
+        }
+    }
+
+    /// The number of draws used so far.
+    pub fn place(&self) -> usize {
+        self.place
+    }
+}
+
+pub mod rngs {
+    pub use crate::Draws as ThreadRng;
+}
+
+pub trait Rng {
+    fn next_u32(&mut self) -> u32;
+}
+
+impl Rng for Draws {
+    fn next_u32(&mut self) -> u32 {
+        let Some(draw) = self.list.get(self.place) else {
+            refusal::refuse(refusal::DRAWS)
+        };
+        self.place += 1;
+        *draw
+    }
+}
+
+/// A range that one draw picks a value of.
+pub trait SampleRange<T> {
+    fn sample(self, draw: u32) -> T;
+}
+
+impl SampleRange<usize> for Range<usize> {
+    fn sample(self, draw: u32) -> usize {
+        self.start + draw as usize % (self.end - self.start)
+    }
+}
+
+impl SampleRange<f64> for Range<f64> {
+    /// Exact for 0.75..1.25: the value is (3 * 2^31 + draw) / 2^33.
+    fn sample(self, draw: u32) -> f64 {
+        self.start + (self.end - self.start) * (f64::from(draw) / 2f64.powi(32))
+    }
+}
+
+pub trait RngExt: Rng {
+    fn random_range<T, S: SampleRange<T>>(&mut self, range: S) -> T {
+        range.sample(self.next_u32())
+    }
+}
+
+impl<R: Rng + ?Sized> RngExt for R {}
+
+pub mod seq {
+    use crate::{Rng, RngExt};
+
+    pub trait IteratorRandom: Iterator + Sized {
+        /// One of n items: none if n = 0, else one draw d, item d mod n.
+        fn choose<R: Rng + ?Sized>(self, rng: &mut R) -> Option<Self::Item> {
+            let mut items: Vec<_> = self.collect();
+            if items.is_empty() {
+                return None;
+            }
+            let index = rng.random_range(0..items.len());
+            Some(items.swap_remove(index))
+        }
+    }
+
+    impl<I: Iterator> IteratorRandom for I {}
+
+    pub trait SliceRandom {
+        fn shuffle<R: Rng + ?Sized>(&mut self, rng: &mut R);
+    }
+
+    impl<T> SliceRandom for [T] {
+        /// For i from n - 1 down to 1, swap places i and (draw mod (i + 1)).
+        fn shuffle<R: Rng + ?Sized>(&mut self, rng: &mut R) {
+            for i in (1..self.len()).rev() {
+                self.swap(i, rng.random_range(0..i + 1));
+            }
+        }
+    }
+}

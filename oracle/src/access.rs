@@ -1,0 +1,254 @@
+//! A child module of the Rust's hyparview.rs: records in and out, and the state as plain data.
+
+use super::*;
+use crate::{
+    collections::Limit,
+    record::{kind, message, Node, Record},
+};
+
+/// The counters of 01's code 10, at their values in a new station or chosen to start near the top.
+#[derive(Clone, Copy, Debug, Default, PartialEq, Eq)]
+pub struct Counters {
+    pub next_request: u64,
+    pub next_join: u64,
+    pub passes_alone: u32,
+    pub passes_short: u32,
+}
+
+/// Every field of the state that TRACE.md prints, maps and sets in rising order of peer.
+#[derive(Clone, Debug, PartialEq, Eq)]
+pub struct Parts {
+    pub me_data: Option<Vec<u8>>,
+    pub active: Vec<u32>,
+    pub passive: Vec<u32>,
+    pub bootstrap: Vec<u32>,
+    pub recent: Vec<u32>,
+    pub requests: Vec<(u32, u64)>,
+    pub joins: Vec<(u32, u64)>,
+    pub data: Vec<(u32, Vec<u8>)>,
+    pub alive: Vec<u32>,
+    pub refused: Vec<u32>,
+    pub refill: Refill,
+    pub timers: bool,
+    pub interval: u64,
+    pub counters: Counters,
+}
+
+#[derive(Clone, Copy, Debug, PartialEq, Eq)]
+pub enum Refill {
+    Automatic,
+    Requests(usize),
+    Recovery,
+}
+
+impl<RG: Rng + Clone> State<u32, RG> {
+    /// The Rust's `State::new` with 01's limits on its maps and sets.
+    pub fn limited(me: u32, me_data: Option<&[u8]>, config: Config, rng: RG) -> Self {
+        let mut state = Self::new(me, me_data.map(PeerData::new), config, rng);
+        let limit = |most, code| Limit { most, code };
+        state
+            .pending_neighbor_requests
+            .set_limit(limit(32, refusal::REQUESTS));
+        state.refused.set_limit(limit(32, refusal::REFUSED));
+        state.peer_data.set_limit(limit(80, refusal::DATA));
+        state
+    }
+
+    pub fn set_counters(&mut self, counters: Counters) {
+        self.next_neighbor_request = counters.next_request;
+        self.next_join = counters.next_join;
+        self.passes_alone = counters.passes_alone;
+        self.passes_short = counters.passes_short;
+    }
+
+    pub fn rng(&self) -> &RG {
+        &self.rng
+    }
+
+    pub fn parts(&self) -> Parts {
+        Parts {
+            me_data: self.me_data.as_ref().map(plain),
+            active: self.active_view.iter().copied().collect(),
+            passive: self.passive_view.iter().copied().collect(),
+            bootstrap: self.bootstrap_peers.iter().copied().collect(),
+            recent: self.recent_neighbors.iter().copied().collect(),
+            requests: rising(self.pending_neighbor_requests.iter().map(|(p, n)| (*p, *n))),
+            joins: rising(self.pending_joins.iter().map(|(p, n)| (*p, *n))),
+            data: rising(self.peer_data.iter().map(|(p, d)| (*p, plain(d)))),
+            alive: rising(self.alive_disconnect_peers.iter().copied()),
+            refused: rising(self.refused.iter().copied()),
+            refill: match self.refill {
+                RefillLimit::Automatic => Refill::Automatic,
+                RefillLimit::Requests(left) => Refill::Requests(left),
+                RefillLimit::Recovery => Refill::Recovery,
+            },
+            timers: self.timers_scheduled,
+            interval: self.next_shuffle_interval.as_millis(),
+            counters: Counters {
+                next_request: self.next_neighbor_request,
+                next_join: self.next_join,
+                passes_alone: self.passes_alone,
+                passes_short: self.passes_short,
+            },
+        }
+    }
+}
+
+impl<RG: Clone> Clone for State<u32, RG> {
+    fn clone(&self) -> Self {
+        Self {
+            me: self.me,
+            me_data: self.me_data.clone(),
+            active_view: self.active_view.clone(),
+            passive_view: self.passive_view.clone(),
+            config: self.config.clone(),
+            timers_scheduled: self.timers_scheduled,
+            next_shuffle_interval: self.next_shuffle_interval,
+            bootstrap_peers: self.bootstrap_peers.clone(),
+            passes_alone: self.passes_alone,
+            passes_short: self.passes_short,
+            recent_neighbors: self.recent_neighbors.clone(),
+            rng: self.rng.clone(),
+            stats: self.stats.clone(),
+            pending_neighbor_requests: self.pending_neighbor_requests.clone(),
+            next_neighbor_request: self.next_neighbor_request,
+            pending_joins: self.pending_joins.clone(),
+            next_join: self.next_join,
+            peer_data: self.peer_data.clone(),
+            alive_disconnect_peers: self.alive_disconnect_peers.clone(),
+            refused: self.refused.clone(),
+            refill: self.refill,
+        }
+    }
+}
+
+fn rising<T: Ord>(items: impl Iterator<Item = T>) -> Vec<T> {
+    let mut items: Vec<_> = items.collect();
+    items.sort();
+    items
+}
+
+fn plain(data: &PeerData) -> Vec<u8> {
+    data.as_bytes().to_vec()
+}
+
+fn node(info: &PeerInfo<u32>) -> Node {
+    Node {
+        id: info.id,
+        data: info.data.as_ref().map(plain),
+    }
+}
+
+fn info(node: &Node) -> PeerInfo<u32> {
+    PeerInfo {
+        id: node.id,
+        data: data(node),
+    }
+}
+
+fn data(node: &Node) -> Option<PeerData> {
+    node.data.as_deref().map(PeerData::new)
+}
+
+/// The Rust's event of a record that the reader accepted.
+pub fn event(record: &Record) -> InEvent<u32> {
+    let (peer, number) = (record.peer, record.number);
+    match record.kind {
+        kind::MESSAGE => InEvent::RecvMessage(peer, received(record)),
+        kind::DO_SHUFFLE => InEvent::TimerExpired(Timer::DoShuffle),
+        kind::DO_MAINTENANCE => InEvent::TimerExpired(Timer::DoMaintenance),
+        kind::PENDING_NEIGHBOR_REQUEST => {
+            InEvent::TimerExpired(Timer::PendingNeighborRequest(peer, number))
+        }
+        kind::RETRY_JOIN => InEvent::TimerExpired(Timer::RetryJoin(peer, number)),
+        kind::PEER_DISCONNECTED => InEvent::PeerDisconnected(peer),
+        kind::REQUEST_JOIN => InEvent::RequestJoin(peer),
+        kind::UPDATE_PEER_DATA => {
+            InEvent::UpdatePeerData(data(&record.nodes[0]).expect("kind 7 has data"))
+        }
+        kind::QUIT => InEvent::Quit,
+        other => panic!("kind {other} is no event"),
+    }
+}
+
+fn received(record: &Record) -> Message<u32> {
+    let ttl = Ttl(record.ttl);
+    let nodes = record.nodes.iter().map(info);
+    match record.message {
+        message::JOIN => Message::Join(data(&record.nodes[0])),
+        message::FORWARD_JOIN => Message::ForwardJoin(ForwardJoin {
+            peer: info(&record.nodes[0]),
+            ttl,
+        }),
+        message::SHUFFLE => Message::Shuffle(Shuffle {
+            origin: record.second,
+            nodes: nodes.collect(),
+            ttl,
+        }),
+        message::SHUFFLE_REPLY => Message::ShuffleReply(ShuffleReply {
+            nodes: nodes.collect(),
+        }),
+        message::NEIGHBOR => Message::Neighbor(Neighbor {
+            priority: if record.flags == 1 { Priority::High } else { Priority::Low },
+            data: data(&record.nodes[0]),
+        }),
+        message::DISCONNECT => Message::Disconnect(Disconnect {
+            alive: record.flags & 1 != 0,
+            _respond: record.flags & 2 != 0,
+        }),
+        other => panic!("message {other} is unknown"),
+    }
+}
+
+/// The output record of a message to `peer`.
+pub fn sent(peer: u32, sent: &Message<u32>) -> Record {
+    let nameless = |data: &Option<PeerData>| {
+        vec![Node {
+            id: 0,
+            data: data.as_ref().map(plain),
+        }]
+    };
+    match sent {
+        Message::Join(data) => Record::message(message::JOIN, peer, nameless(data)),
+        Message::ForwardJoin(join) => Record {
+            ttl: join.ttl.0,
+            ..Record::message(message::FORWARD_JOIN, peer, vec![node(&join.peer)])
+        },
+        Message::Shuffle(shuffle) => Record {
+            second: shuffle.origin,
+            ttl: shuffle.ttl.0,
+            ..Record::message(message::SHUFFLE, peer, shuffle.nodes.iter().map(node).collect())
+        },
+        Message::ShuffleReply(reply) => {
+            Record::message(message::SHUFFLE_REPLY, peer, reply.nodes.iter().map(node).collect())
+        }
+        Message::Neighbor(neighbor) => Record {
+            flags: u8::from(neighbor.priority == Priority::High),
+            ..Record::message(message::NEIGHBOR, peer, nameless(&neighbor.data))
+        },
+        Message::Disconnect(disconnect) => Record {
+            flags: u8::from(disconnect.alive) | u8::from(disconnect._respond) << 1,
+            ..Record::message(message::DISCONNECT, peer, Vec::new())
+        },
+    }
+}
+
+/// The output record of a timer that comes back after `delay`.
+pub fn scheduled(delay: Duration, timer: &Timer<u32>) -> Record {
+    let (kind, peer, number) = match timer {
+        Timer::DoShuffle => (kind::DO_SHUFFLE, 0, 0),
+        Timer::DoMaintenance => (kind::DO_MAINTENANCE, 0, 0),
+        Timer::PendingNeighborRequest(peer, id) => (kind::PENDING_NEIGHBOR_REQUEST, *peer, *id),
+        Timer::RetryJoin(peer, id) => (kind::RETRY_JOIN, *peer, *id),
+    };
+    Record {
+        second: delay.as_millis().try_into().expect("a delay has 32 bits"),
+        number,
+        ..Record::of(kind, peer)
+    }
+}
+
+/// The Rust's backoff test, for 01's examples.
+pub fn is_backoff_due(n: u32) -> bool {
+    backoff_due(n)
+}

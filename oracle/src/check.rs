@@ -1,0 +1,200 @@
+//! Demand 3's claims, checked on the Rust after every event of many histories.
+
+use std::{
+    collections::{BTreeMap, BTreeSet},
+    fmt::Write,
+};
+
+use rand::Draws;
+
+use crate::{
+    generate::{self, mix::MIXES},
+    input::Input,
+    ledger::Ledger,
+    record::{kind, message, Record},
+    rules, shrink,
+    station::{Answer, Station, ROOM},
+    text::{self, Start},
+};
+
+/// 01: so many draws always suffice.
+const MOST_DRAWN: usize = 512;
+
+/// One history under way, with its book.
+struct Watch {
+    input: Input,
+    start: Start,
+    station: Station,
+    ledger: Ledger,
+}
+
+impl Watch {
+    fn new(input: Input, start: Start) -> Option<Self> {
+        let draws = Draws::new(&input.draws[..]);
+        let mut station = Station::new(input.me, &input.settings, draws)?;
+        station.start(start);
+        Some(Self {
+            input,
+            start,
+            station,
+            ledger: Ledger::default(),
+        })
+    }
+
+    /// Handles the event at `index`; answers with the answer and the claims that fail.
+    fn step(&mut self, index: usize) -> (Answer, Vec<&'static str>) {
+        let event = &self.input.events[index];
+        let answer = self.station.handle(event, self.start.room);
+        let capacity = self.input.settings[0];
+        self.ledger.enter(capacity, event, &answer);
+        let parts = self.station.parts();
+        let mut broken = rules::broken(self.input.me, &self.input.settings, &parts);
+        let ledger = &self.ledger;
+        let active: BTreeSet<_> = parts.active.iter().copied().collect();
+        let sum = ledger.messages + 2 * ledger.neighbors.len() as u64;
+        let claims = [
+            ("notices are the active view", ledger.neighbors == active),
+            ("message bound", sum <= ledger.allowance),
+            ("512 draws", answer.drawn <= MOST_DRAWN),
+            ("8192 bytes", answer.out.len() <= ROOM),
+            (
+                "no 9 with 8192 bytes",
+                answer.code != 9 || self.start.room < ROOM,
+            ),
+        ];
+        broken.extend(rules::failing(&claims));
+        (answer, broken)
+    }
+}
+
+fn breaks(input: &Input, start: Start, claim: &str) -> bool {
+    let Some(mut watch) = Watch::new(input.clone(), start) else {
+        return false;
+    };
+    (0..input.events.len()).any(|index| watch.step(index).1.contains(&claim))
+}
+
+#[derive(Default)]
+struct Largest {
+    accepted: u64,
+    refused: u64,
+    drawn: usize,
+    bytes: usize,
+}
+
+#[derive(Default)]
+struct Report {
+    events: u64,
+    histories: u64,
+    codes: BTreeMap<u8, u64>,
+    kinds: BTreeMap<&'static str, Largest>,
+    /// The first history in which each claim failed.
+    broken: BTreeMap<&'static str, (Input, Start)>,
+}
+
+impl Report {
+    fn enter(&mut self, label: &'static str, answer: &Answer) {
+        self.events += 1;
+        *self.codes.entry(answer.code).or_default() += 1;
+        let largest = self.kinds.entry(label).or_default();
+        if answer.code == 0 {
+            largest.accepted += 1;
+        } else {
+            largest.refused += 1;
+        }
+        largest.drawn = largest.drawn.max(answer.drawn);
+        largest.bytes = largest.bytes.max(answer.out.len());
+    }
+
+    fn history(&mut self, input: Input, start: Start) {
+        let Some(mut watch) = Watch::new(input, start) else {
+            return;
+        };
+        self.histories += 1;
+        for index in 0..watch.input.events.len() {
+            let (answer, broken) = watch.step(index);
+            self.enter(label(&watch.input.events[index]), &answer);
+            for claim in broken {
+                self.broken
+                    .entry(claim)
+                    .or_insert((watch.input.clone(), start));
+            }
+        }
+    }
+
+    fn print(&self) -> String {
+        let mut text = format!("{} events in {} histories\n", self.events, self.histories);
+        for (code, count) in &self.codes {
+            writeln!(text, "code {code}: {count}").unwrap();
+        }
+        writeln!(
+            text,
+            "{:24} {:>9} {:>8} {:>6} {:>6}",
+            "event", "accepted", "refused", "draws", "bytes"
+        )
+        .unwrap();
+        for (label, largest) in &self.kinds {
+            let Largest {
+                accepted,
+                refused,
+                drawn,
+                bytes,
+            } = largest;
+            writeln!(
+                text,
+                "{label:24} {accepted:9} {refused:8} {drawn:6} {bytes:6}"
+            )
+            .unwrap();
+        }
+        for (claim, (input, start)) in &self.broken {
+            let small = shrink::smallest(input, |input| breaks(input, *start, claim));
+            writeln!(
+                text,
+                "FAILS: {claim}, {start:?}, input {}",
+                text::hex(&small.write())
+            )
+            .unwrap();
+        }
+        writeln!(text, "{} claims fail", self.broken.len()).unwrap();
+        text
+    }
+}
+
+/// The name of an event's kind in reports.
+pub fn label(event: &[u8]) -> &'static str {
+    let Ok(record) = Record::read_event(event) else {
+        return "damaged";
+    };
+    match (record.kind, record.message) {
+        (kind::MESSAGE, message::JOIN) => "Join",
+        (kind::MESSAGE, message::FORWARD_JOIN) => "ForwardJoin",
+        (kind::MESSAGE, message::SHUFFLE) => "Shuffle",
+        (kind::MESSAGE, message::SHUFFLE_REPLY) => "ShuffleReply",
+        (kind::MESSAGE, message::NEIGHBOR) => "Neighbor",
+        (kind::MESSAGE, _) => "Disconnect",
+        (kind::DO_SHUFFLE, _) => "DoShuffle",
+        (kind::DO_MAINTENANCE, _) => "DoMaintenance",
+        (kind::PENDING_NEIGHBOR_REQUEST, _) => "PendingNeighborRequest",
+        (kind::RETRY_JOIN, _) => "RetryJoin",
+        (kind::PEER_DISCONNECTED, _) => "PeerDisconnected",
+        (kind::REQUEST_JOIN, _) => "RequestJoin",
+        (kind::UPDATE_PEER_DATA, _) => "UpdatePeerData",
+        _ => "Quit",
+    }
+}
+
+/// Checks at least `events` events, over all mixes in turn; a failing claim is shown shrunk.
+pub fn run(seed: u64, events: u64, length: usize) -> String {
+    let mut report = Report::default();
+    let mut seeds = seed..;
+    while report.events < events {
+        let seed = seeds.next().expect("seeds without end");
+        for mix in MIXES {
+            let history = generate::history(mix, seed, length);
+            if let Some(input) = Input::read(&history.input) {
+                report.history(input, history.start);
+            }
+        }
+    }
+    report.print()
+}

@@ -1,0 +1,108 @@
+//! The oracle against another program that reads the run program's input and prints the trace form.
+
+use std::{
+    io::Write,
+    process::{Command, Stdio},
+};
+
+use crate::{
+    generate::{
+        self,
+        mix::{Mix, Twist, MIXES},
+    },
+    input::Input,
+    shrink,
+    text::{self, Form, Start},
+};
+
+/// Whether a mix needs nothing but an input: room and counters are not part of the format.
+fn fits_format(mix: &Mix) -> bool {
+    !matches!(mix.twist, Twist::SmallRoom | Twist::HighCounters)
+}
+
+fn oracle(input: &[u8]) -> String {
+    text::run(input, Start::default(), Form::Trace)
+}
+
+/// What the other program prints; a failure to run is part of its answer.
+fn other(command: &[String], input: &[u8]) -> String {
+    let child = Command::new(&command[0])
+        .args(&command[1..])
+        .stdin(Stdio::piped())
+        .stdout(Stdio::piped())
+        .spawn();
+    let mut child = child.unwrap_or_else(|error| panic!("{}: {error}", command[0]));
+    let mut stdin = child.stdin.take().expect("a pipe");
+    // A program may stop reading early; what it prints then tells.
+    let _ = stdin.write_all(input);
+    drop(stdin);
+    let output = child.wait_with_output().expect("the program ends");
+    let mut text = String::from_utf8_lossy(&output.stdout).into_owned();
+    if !output.status.success() {
+        text += &format!("{}\n", output.status);
+    }
+    text
+}
+
+/// The first line that differs, of both texts.
+fn first_difference(left: &str, right: &str) -> String {
+    let (mut left, mut right) = (left.lines(), right.lines());
+    for line in 1.. {
+        let pair = (left.next(), right.next());
+        if pair.0 != pair.1 || pair.0.is_none() {
+            let show = |line: Option<&str>| line.unwrap_or("(end)").to_owned();
+            return format!(
+                "line {line}\noracle: {}\nother:  {}\n",
+                show(pair.0),
+                show(pair.1)
+            );
+        }
+    }
+    unreachable!("texts end")
+}
+
+/// The smallest history found that shows the difference, with both answers.
+fn report(name: &str, input: &[u8], command: &[String]) -> String {
+    let differs = |bytes: &[u8]| oracle(bytes) != other(command, bytes);
+    let small = match Input::read(input) {
+        Some(whole) => shrink::smallest(&whole, |less| differs(&less.write())).write(),
+        None => input.to_vec(),
+    };
+    let (left, right) = (oracle(&small), other(command, &small));
+    format!(
+        "history {name} differs; smallest input:\n{}\n{}\
+         oracle prints:\n{left}other prints:\n{right}",
+        text::hex(&small),
+        first_difference(&left, &right)
+    )
+}
+
+/// Compares `histories` histories of each mix from `seed` on; `Err` holds the first difference.
+pub fn run(
+    seed: u64,
+    histories: u64,
+    length: usize,
+    only: Option<&str>,
+    command: &[String],
+) -> Result<String, String> {
+    let (mut events, mut compared) = (0, 0);
+    let chosen = |mix: &&Mix| fits_format(mix) && only.is_none_or(|name| name == mix.name);
+    for seed in seed..seed + histories {
+        for mix in MIXES.iter().filter(chosen) {
+            let input = generate::history(mix, seed, length).input;
+            let expected = oracle(&input);
+            if expected != other(command, &input) {
+                let name = format!("{} {seed} {length}", mix.name);
+                return Err(report(&name, &input, command));
+            }
+            events += expected
+                .lines()
+                .filter(|line| line.starts_with('='))
+                .count();
+            compared += 1;
+        }
+    }
+    Ok(format!(
+        "{compared} histories, {events} events, 0 differences\n"
+    ))
+}

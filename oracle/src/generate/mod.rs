@@ -1,0 +1,161 @@
+//! Histories from a seed: a station runs beside the generator and lends it its state.
+
+mod damage;
+mod events;
+pub mod mix;
+mod setup;
+mod source;
+
+use rand::Draws;
+
+use self::{
+    mix::{Act, Mix, Twist},
+    source::Source,
+};
+use crate::{
+    hyparview::access::Parts,
+    input::Input,
+    record::{self, kind, message, Record},
+    station::{Settings, Station},
+    text::{self, Form, Start},
+};
+
+/// A generated history: the run program's input, and what it starts with.
+pub struct History {
+    pub start: Start,
+    pub input: Vec<u8>,
+}
+
+/// No event takes more draws than this (01), so a history ends before draws run out by chance.
+const MOST_DRAWN: usize = 512;
+const MOST_EVENT_BYTES: usize = 40_000;
+
+/// The history of `mix` and `seed` with at most `length` events.
+pub fn history(mix: &Mix, seed: u64, length: usize) -> History {
+    let mut generator = Generator::new(mix, seed);
+    if mix.twist == Twist::Filled {
+        generator.fill();
+    }
+    while generator.events.len() < length && generator.has_space() {
+        let act = generator.source.weighted(mix.acts);
+        let event = generator.event(act);
+        generator.handle(event);
+    }
+    generator.finish()
+}
+
+struct Generator<'a> {
+    mix: &'a Mix,
+    source: Source,
+    me: u32,
+    peers: Vec<u32>,
+    settings: Settings,
+    start: Start,
+    draws: Vec<u32>,
+    station: Station,
+    parts: Parts,
+    events: Vec<Vec<u8>>,
+    event_bytes: usize,
+    /// Timers that earlier answers scheduled for a peer: kind, peer, number.
+    timers: Vec<(u8, u32, u64)>,
+    /// The place of the next peer that a filled history brings.
+    fresh: usize,
+}
+
+impl<'a> Generator<'a> {
+    fn new(mix: &'a Mix, seed: u64) -> Self {
+        let mut source = Source::new(seed);
+        let peers = setup::peers(&mut source, mix.peers);
+        let me = source.one_of(&peers);
+        let settings = setup::settings(&mut source, mix.settings);
+        let start = setup::start(&mut source, mix.twist);
+        let draws = setup::draws(&mut source, mix.twist);
+        let mut station =
+            Station::new(me, &settings, Draws::new(&draws[..])).expect("settings in range");
+        station.start(start);
+        Self {
+            mix,
+            me,
+            peers,
+            settings,
+            start,
+            draws,
+            parts: station.parts(),
+            station,
+            source,
+            events: Vec::new(),
+            event_bytes: 0,
+            timers: Vec::new(),
+            fresh: 0,
+        }
+    }
+
+    fn has_space(&self) -> bool {
+        let drawn = self.station.place() + MOST_DRAWN;
+        let short = self.mix.twist == Twist::ShortDraws;
+        self.event_bytes < MOST_EVENT_BYTES && (short || drawn <= self.draws.len())
+    }
+
+    fn handle(&mut self, event: Vec<u8>) {
+        let answer = self.station.handle(&event, self.start.room);
+        for output in record::cut(&answer.out) {
+            if matches!(output[0], kind::PENDING_NEIGHBOR_REQUEST | kind::RETRY_JOIN) {
+                let number = u64::from_le_bytes(output[16..24].try_into().expect("eight bytes"));
+                self.timers
+                    .push((output[0], record::u32_at(output, 4), number));
+            }
+        }
+        self.parts = self.station.parts();
+        self.event_bytes += event.len();
+        self.events.push(event);
+    }
+
+    /// Fills the passive view and most open requests with peers that have data.
+    fn fill(&mut self) {
+        let nodes = (0..32).map(|_| self.fresh_node()).collect();
+        self.handle(Record::message(message::SHUFFLE, self.me, nodes).write());
+        for _ in 0..30 {
+            let nodes = vec![self.fresh_node()];
+            self.handle(Record::message(message::FORWARD_JOIN, self.me, nodes).write());
+        }
+    }
+
+    /// The input, with its draws cut where that changes no answer.
+    fn finish(mut self) -> History {
+        let mut input = Input {
+            me: self.me,
+            settings: self.settings,
+            events: self.events,
+            draws: self.draws,
+        };
+        let print = |input: &Input| text::run(&input.write(), self.start, Form::Trace);
+        let whole = print(&input);
+        let all = input.draws.clone();
+        for spare in [0, 8, 64, MOST_DRAWN] {
+            let most = (self.station.place() + spare).min(all.len());
+            input.draws = all[..most].to_vec();
+            if print(&input) == whole {
+                break;
+            }
+        }
+        let mut bytes = input.write();
+        if self.mix.twist == Twist::DamagedInput {
+            bytes = damage::damaged_input(&mut self.source, &bytes);
+        }
+        History {
+            start: self.start,
+            input: bytes,
+        }
+    }
+
+    fn event(&mut self, act: Act) -> Vec<u8> {
+        if act == Act::Damaged {
+            let whole = self.mix.acts.iter().filter(|(act, _)| *act != Act::Damaged);
+            let whole: Vec<_> = whole.copied().collect();
+            let act = self.source.weighted(&whole);
+            let event = self.event(act);
+            return damage::damaged_event(&mut self.source, &event);
+        }
+        self.record(act).write()
+    }
+}

@@ -1,0 +1,118 @@
+//! What a history starts with: peers, settings, room, counters and draws.
+
+use super::{
+    mix::{SettingsRule, Twist},
+    source::Source,
+};
+use crate::{
+    hyparview::access::Counters,
+    station::{Settings, DEFAULTS, RANGES},
+    text::Start,
+};
+
+/// More draws than a history needs, and few enough to fit in an input.
+const DRAWS: usize = 6000;
+
+/// Numbers from 0 on; in some histories two large ones stand in place of the last.
+pub fn peers(source: &mut Source, (least, most): (usize, usize)) -> Vec<u32> {
+    let count = source.within(least, most);
+    let mut peers: Vec<_> = (0..count as u32).collect();
+    if source.chance(20) {
+        peers[count - 1] = u32::MAX;
+        peers[count - 2] = 1 << 31;
+    }
+    peers
+}
+
+/// Ranges of the settings for views of a few peers.
+const SMALL: [(u32, u32); 9] = [
+    (1, 3),
+    (1, 4),
+    (0, 4),
+    (0, 4),
+    (0, 4),
+    (0, 3),
+    (0, 3),
+    (1, 5000),
+    (1, 5000),
+];
+
+/// The largest views and counts.
+const LARGE: [(u32, u32); 9] = [
+    (8, 8),
+    (30, 32),
+    (0, 6),
+    (0, 6),
+    (0, 6),
+    (8, 8),
+    (23, 23),
+    (60_000, 60_000),
+    (3000, 3000),
+];
+
+/// An active view that is short for long.
+const ROOMY: [(u32, u32); 9] = [
+    (5, 8),
+    (4, 32),
+    (0, 6),
+    (0, 6),
+    (0, 6),
+    (0, 4),
+    (0, 4),
+    (1, 60_000),
+    (1, 5000),
+];
+
+pub fn settings(source: &mut Source, rule: SettingsRule) -> Settings {
+    let any = |(least, most): (u32, u32)| {
+        if least == most {
+            return least;
+        }
+        match source.below(4) {
+            0 => least,
+            1 => most,
+            _ => source.within(least as usize, most as usize) as u32,
+        }
+    };
+    match rule {
+        SettingsRule::Usual => DEFAULTS,
+        SettingsRule::Any => RANGES.map(any),
+        SettingsRule::Small => SMALL.map(any),
+        SettingsRule::Large => LARGE.map(any),
+        SettingsRule::Roomy => ROOMY.map(any),
+    }
+}
+
+pub fn start(source: &mut Source, twist: Twist) -> Start {
+    let mut start = Start::default();
+    match twist {
+        Twist::SmallRoom => {
+            let most = source.one_of(&[200, 1000]);
+            start.room = source.below(most);
+        }
+        Twist::HighCounters => {
+            start.counters = Some(Counters {
+                next_request: u64::MAX - source.below(4) as u64,
+                next_join: u64::MAX - source.below(4) as u64,
+                passes_alone: u32::MAX - source.below(3) as u32,
+                passes_short: u32::MAX - source.below(3) as u32,
+            });
+        }
+        _ => {}
+    }
+    start
+}
+
+pub fn draws(source: &mut Source, twist: Twist) -> Vec<u32> {
+    let count = match twist {
+        Twist::ShortDraws => source.below(60),
+        _ => DRAWS,
+    };
+    let draw = |source: &mut Source| match source.below(10) {
+        0 => 0,
+        1 => u32::MAX - source.below(4) as u32,
+        2..5 => source.below(64) as u32,
+        _ => source.next() as u32,
+    };
+    (0..count).map(|_| draw(source)).collect()
+}

@@ -1,0 +1,100 @@
+//! The tools that hold demand 3 against the Rust do tell a claim that fails.
+
+use std::collections::BTreeSet;
+
+use oracle::{
+    hyparview::access::{Parts, Refill},
+    input::Input,
+    ledger::Ledger,
+    record::{kind, message, Node, Record},
+    rules, shrink,
+    station::{Station, DEFAULTS, ROOM},
+};
+use rand::Draws;
+
+const ME: u32 = 1;
+
+fn station() -> Station {
+    Station::new(ME, &DEFAULTS, Draws::new(vec![0; 64])).expect("settings in range")
+}
+
+fn join(peer: u32) -> Vec<u8> {
+    Record::message(message::JOIN, peer, vec![Node::default()]).write()
+}
+
+/// 01: after the listing the set is empty, with messages 1 and allowance 1.
+#[test]
+fn the_ledger_after_the_listing() {
+    let event = Record::of(kind::REQUEST_JOIN, 7).write();
+    let answer = station().handle(&event, ROOM);
+    let mut ledger = Ledger::default();
+    ledger.enter(DEFAULTS[0], &event, &answer);
+    assert_eq!(ledger.neighbors, BTreeSet::new());
+    assert_eq!((ledger.messages, ledger.allowance), (1, 1));
+}
+
+/// A Join is answered by a Neighbor and an up notice; a Quit empties the set first.
+#[test]
+fn the_ledger_follows_notices_and_quits() {
+    let (mut station, mut ledger) = (station(), Ledger::default());
+    let quit = Record::of(kind::QUIT, 0).write();
+    for event in [join(7), join(8), quit] {
+        let answer = station.handle(&event, ROOM);
+        ledger.enter(DEFAULTS[0], &event, &answer);
+        let active: BTreeSet<_> = station.parts().active.into_iter().collect();
+        assert_eq!(ledger.neighbors, active);
+    }
+    // Two Neighbors, a ForwardJoin to 7, and ShuffleReply and Disconnect to each.
+    assert_eq!((ledger.messages, ledger.allowance), (7, 14));
+}
+
+/// A change of a station's state, and the rule that it breaks.
+type Damage = (fn(&mut Parts), &'static str);
+
+#[test]
+fn each_damaged_state_breaks_its_rule() {
+    let mut station = station();
+    station.handle(&join(7), ROOM);
+    assert_eq!(rules::broken(ME, &DEFAULTS, &station.parts()), [""; 0]);
+    let damages: [Damage; 10] = [
+        (|parts| parts.passive.push(7), "views disjoint"),
+        (|parts| parts.active.push(7), "lists without repeats"),
+        (|parts| parts.active = (2..8).collect(), "active capacity"),
+        (|parts| parts.passive.push(ME), "views without self"),
+        (|parts| parts.alive.push(9), "alive marks passive"),
+        (
+            |parts| parts.joins.push((9, 0)),
+            "joins are bootstrap peers",
+        ),
+        (|parts| parts.requests.push((9, 1)), "request numbers"),
+        (|parts| parts.data.push((ME, vec![])), "no data under self"),
+        (
+            |parts| parts.refill = Refill::Requests(4),
+            "three requests of a refill",
+        ),
+        (|parts| parts.interval = 0, "interval"),
+    ];
+    for (damage, rule) in damages {
+        let mut parts = station.parts();
+        damage(&mut parts);
+        assert!(
+            rules::broken(ME, &DEFAULTS, &parts).contains(&rule),
+            "{rule}"
+        );
+    }
+}
+
+#[test]
+fn shrinking_keeps_what_shows() {
+    let quit = Record::of(kind::QUIT, 0).write();
+    let events = (0..9).map(|i| if i == 5 { quit.clone() } else { join(i) });
+    let input = Input {
+        me: ME,
+        settings: DEFAULTS,
+        events: events.collect(),
+        draws: vec![0; 100],
+    };
+    let shows = |less: &Input| less.events.contains(&quit) && less.draws.len() >= 3;
+    let small = shrink::smallest(&input, shows);
+    assert_eq!((small.events, small.draws.len()), (vec![quit.clone()], 3));
+}

@@ -1,0 +1,216 @@
+//! 01's own examples and the examples of its table, on the Rust.
+
+use n0_future::time::Duration;
+use oracle::{
+    hyparview::access::{is_backoff_due, Counters},
+    input::Input,
+    record::{kind, message, Node, Record},
+    station::{Answer, Settings, Station, DEFAULTS, ROOM},
+    text::{self, Form, Start},
+};
+use rand::{seq::SliceRandom, Draws, RngExt};
+
+const ME: u32 = 1;
+
+fn station(settings: &Settings) -> Station {
+    Station::new(ME, settings, Draws::new(vec![0; 4096])).expect("settings in range")
+}
+
+fn handle(station: &mut Station, record: Record) -> Answer {
+    station.handle(&record.write(), ROOM)
+}
+
+fn join(peer: u32) -> Record {
+    Record::message(message::JOIN, peer, vec![Node::default()])
+}
+
+/// A ForwardJoin of `id` at the end of its walk.
+fn expired_join(id: u32, data: Option<Vec<u8>>) -> Record {
+    Record::message(message::FORWARD_JOIN, 2, vec![Node { id, data }])
+}
+
+fn alive_disconnect(peer: u32) -> Record {
+    Record {
+        flags: 1,
+        ..Record::message(message::DISCONNECT, peer, vec![])
+    }
+}
+
+fn accepted(station: &mut Station, record: Record) {
+    assert_eq!(handle(station, record).code, 0);
+}
+
+#[test]
+fn the_listing() {
+    let input = Input {
+        me: 1,
+        settings: DEFAULTS,
+        events: vec![Record::of(kind::REQUEST_JOIN, 7).write()],
+        draws: vec![0],
+    };
+    let bytes = input.write();
+    assert_eq!(bytes[44..48], 56u32.to_le_bytes());
+    assert_eq!(bytes[52..56], 80u32.to_le_bytes());
+    let lines =
+        "0 0 0 7 0 0 0 1\n0 4 0 7 10000 0 0 0\n0 1 0 0 750 0 0 0\n0 2 0 0 5000 0 0 0\n= 0 1\n";
+    assert_eq!(text::run(&bytes, Start::default(), Form::Station), lines);
+}
+
+#[test]
+fn the_shuffle() {
+    let mut items = [10, 11, 12];
+    items.shuffle(&mut Draws::new(vec![0, 0]));
+    assert_eq!(items, [11, 12, 10]);
+}
+
+#[test]
+fn the_delays() {
+    for (draw, delay) in [(0, 750), (1 << 31, 1000), (u32::MAX, 1249)] {
+        let jitter = Draws::new(vec![draw]).random_range(0.75..1.25);
+        assert_eq!(
+            Duration::from_millis(1000).mul_f64(jitter),
+            Duration::from_millis(delay)
+        );
+    }
+}
+
+#[test]
+fn the_backoff() {
+    assert!([1, 2, 4, 8, 12, 24].into_iter().all(is_backoff_due));
+    assert!(![0, 3, 11, 16].into_iter().any(is_backoff_due));
+}
+
+#[test]
+fn the_removal() {
+    let mut station = station(&DEFAULTS);
+    for peer in 10..14 {
+        accepted(&mut station, join(peer));
+    }
+    assert_eq!(station.parts().active, [10, 11, 12, 13]);
+    accepted(&mut station, Record::of(kind::PEER_DISCONNECTED, 11));
+    assert_eq!(station.parts().active, [10, 13, 12]);
+}
+
+#[test]
+fn code_1_active_capacity_0() {
+    let mut settings = DEFAULTS;
+    settings[0] = 0;
+    assert!(Station::new(ME, &settings, Draws::new(vec![])).is_none());
+}
+
+#[test]
+fn codes_3_and_4_by_the_event_bytes() {
+    let mut station = station(&DEFAULTS);
+    let before = station.parts();
+    assert_eq!(station.handle(&[0; 23], ROOM).code, 3);
+    let mut shuffle = Record::message(message::SHUFFLE, 2, vec![]).write();
+    shuffle[3] = 33;
+    assert_eq!(station.handle(&shuffle, ROOM).code, 4);
+    assert_eq!(station.parts(), before);
+}
+
+#[test]
+fn code_5_first_event_and_empty_draw_list() {
+    let mut station = Station::new(ME, &DEFAULTS, Draws::new(vec![])).unwrap();
+    assert_eq!(handle(&mut station, Record::of(kind::QUIT, 0)).code, 5);
+}
+
+#[test]
+fn code_6_a_33rd_open_request() {
+    let mut station = station(&DEFAULTS);
+    for id in 100..132 {
+        accepted(&mut station, expired_join(id, None));
+    }
+    let before = station.parts();
+    assert_eq!(handle(&mut station, expired_join(132, None)).code, 6);
+    assert_eq!(station.parts(), before);
+}
+
+#[test]
+fn code_7_a_33rd_refused_peer() {
+    let mut station = station(&DEFAULTS);
+    for id in 100..132 {
+        accepted(&mut station, expired_join(id, None));
+        accepted(&mut station, alive_disconnect(id));
+    }
+    accepted(&mut station, expired_join(132, None));
+    assert_eq!(handle(&mut station, alive_disconnect(132)).code, 7);
+}
+
+/// 81 peers leave data behind; a neighbour that leaves clears the refused peers in between.
+#[test]
+fn code_8_an_81st_data_entry() {
+    let mut station = station(&DEFAULTS);
+    for id in 100..180 {
+        accepted(&mut station, expired_join(id, Some(vec![7])));
+        accepted(&mut station, alive_disconnect(id));
+        if id % 30 == 0 {
+            accepted(&mut station, join(9));
+            accepted(&mut station, Record::of(kind::PEER_DISCONNECTED, 9));
+        }
+    }
+    assert_eq!(
+        handle(&mut station, expired_join(180, Some(vec![7]))).code,
+        8
+    );
+    assert_eq!(handle(&mut station, expired_join(180, None)).code, 0);
+}
+
+#[test]
+fn code_9_first_event_and_0_bytes() {
+    let quit = Record::of(kind::QUIT, 0).write();
+    assert_eq!(station(&DEFAULTS).handle(&quit, 0).code, 9);
+    assert_eq!(station(&DEFAULTS).handle(&quit, 48).code, 0);
+}
+
+#[test]
+fn code_10_each_counter() {
+    let top = Counters {
+        next_request: u64::MAX,
+        next_join: u64::MAX,
+        passes_alone: u32::MAX,
+        passes_short: u32::MAX,
+    };
+    let refused = |settings: &Settings, first: &[Record], record: Record| {
+        let mut station = station(settings);
+        for record in first {
+            accepted(&mut station, record.clone());
+        }
+        station.set_counters(top);
+        handle(&mut station, record).code
+    };
+    let maintenance = Record::of(kind::DO_MAINTENANCE, 0);
+    assert_eq!(
+        refused(&DEFAULTS, &[], Record::of(kind::REQUEST_JOIN, 7)),
+        10
+    );
+    assert_eq!(refused(&DEFAULTS, &[], join(7)), 10);
+    assert_eq!(refused(&DEFAULTS, &[], maintenance.clone()), 10);
+    assert_eq!(refused(&DEFAULTS, &[join(7)], maintenance), 10);
+}
+
+/// `send_neighbor` meets 10, 6, 9 in this order, RequestJoin 9, 10, 9.
+#[test]
+fn the_first_refusal_met_wins() {
+    let mut full = station(&DEFAULTS);
+    for id in 100..132 {
+        accepted(&mut full, expired_join(id, None));
+    }
+    let code =
+        |station: &mut Station, record: Record, room| station.handle(&record.write(), room).code;
+    assert_eq!(code(&mut full, expired_join(132, None), 0), 6);
+    assert_eq!(code(&mut full, expired_join(131, None), 0), 0);
+    let top = Counters {
+        next_request: u64::MAX,
+        next_join: u64::MAX,
+        ..Counters::default()
+    };
+    full.set_counters(top);
+    assert_eq!(code(&mut full, expired_join(132, None), 0), 10);
+    let request = Record::of(kind::REQUEST_JOIN, 7);
+    assert_eq!(code(&mut full, request.clone(), 31), 9);
+    assert_eq!(code(&mut full, request.clone(), 32), 10);
+    full.set_counters(Counters::default());
+    assert_eq!(code(&mut full, request.clone(), 55), 9);
+    assert_eq!(code(&mut full, request, 56), 0);
+}
