@@ -1,0 +1,6 @@
+pub mod Cases
+pub mod Heard
+pub mod Kept
+pub mod Numbers
+pub mod Ticks
+pub mod Rejoined

@@ -1,0 +1,54 @@
+-- Demand 3, sentence by sentence, for a list of calls to a new station.
+-- Assumes nothing.
+use Prim.Native.Nat.{ℕ, _+_, _*_, _≤_}
+use mathlib.Core.Bool.{true, false}
+use mathlib.Core.List.{List}
+use mathlib.Core.Path.{_≡_}
+use lib.ListN.{length}
+use Rattle.lists.specs.Lists.{mem, distinct}
+use Rattle.lists.specs.Maps.{keys}
+use Rattle.timing.specs.declared.Config.{Config}
+use Rattle.peer.specs.Data.{Data}
+use Rattle.protocol.specs.Station.{Station}
+use Rattle.protocol.specs.Rules.{station-ok}
+use Rattle.protocol.specs.Handle.{new}
+use Rattle.history.specs.Ledger.{Ledger, empty-ledger}
+use Rattle.history.specs.Calls.{Call, state-after, codes, ledger-after}
+
+-- of the state s that the list left, for a station `me` with settings c
+pub record Views (me : ℕ) (c : Config) (s : Station) : Type 0 where
+  -- "views are within capacity, disjoint and without the station itself"
+  pub active-fits : length (s .active) ≤ c .«active_view_capacity»
+  pub passive-fits : length (s .passive) ≤ c .«passive_view_capacity»
+  pub active-once : distinct (s .active) ≡ true
+  pub passive-once : distinct (s .passive) ≡ true
+  pub disjoint : (x : ℕ) → mem x (s .active) ≡ true → mem x (s .passive) ≡ false
+  pub not-in-active : mem me (s .active) ≡ false
+  pub not-in-passive : mem me (s .passive) ≡ false
+  -- "alive marks are passive"
+  pub alive-passive : (x : ℕ) → mem x (s .alive) ≡ true → mem x (s .passive) ≡ true
+  -- "joins awaiting retry are not neighbours and are among at most eight bootstrap peers"
+  pub joins-not-active : (x : ℕ) → mem x (keys (s .joins)) ≡ true → mem x (s .active) ≡ false
+  pub joins-bootstrap : (x : ℕ) → mem x (keys (s .joins)) ≡ true → mem x (s .bootstrap) ≡ true
+  pub bootstrap-few : length (s .bootstrap) ≤ 8
+
+-- of that state and the ledger
+pub record Booked (s : Station) (l : Ledger) : Type 0 where
+  -- "the active view and the set have the same peers"
+  pub same-peers : (x : ℕ) → mem x (l .up) ≡ mem x (s .active)
+  -- "messages plus twice the set's size are at most the allowance", and so with the neighbours now held
+  pub allowed : l .sent + 2 * length (l .up) ≤ l .allowance
+  pub allowed-held : l .sent + 2 * length (s .active) ≤ l .allowance
+
+-- demand 3 of the calls vs, from the station that `new` answered
+pub record Demand3 (me : ℕ) (c : Config) (s : Station) (vs : List Call) : Type 0 where
+  -- "no event in it was answered 2"
+  pub none-is-two : mem 2 (codes vs s) ≡ false
+  -- "Every station rule holds after the list"
+  pub rules-hold : station-ok (state-after vs s) ≡ true
+  pub views : Views me c (state-after vs s)
+  pub booked : Booked (state-after vs s) (ledger-after (c .«active_view_capacity») vs s empty-ledger)
+
+-- "For every list of events brought to a new station": one that `new` answered with code 0
+abbrev pub Demand3-holds : Type 0
+Demand3-holds = (me : ℕ) (d : Data) (c : Config) → new me d c .code ≡ 0 → (vs : List Call) → Demand3 me c (new me d c .state) vs

@@ -1,0 +1,5 @@
+pub mod Ledger
+pub mod Calls
+pub mod Demand
+pub mod Followed
+pub mod Rejoin

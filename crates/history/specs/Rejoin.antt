@@ -1,0 +1,59 @@
+-- The rejoin promise, for a station that is cut off: what `handle_maintenance_timer` owes to a station with both views empty.
+-- Assumes nothing.
+use Prim.Native.Nat.{ℕ}
+use mathlib.Core.Bool.{Bool, true, _&&_}
+use mathlib.Core.List.{List, [], _∷_, _++_}
+use mathlib.Core.Path.{_≡_}
+use lib.ListN.{length}
+use lib.Dec.{eqb}
+use Rattle.lists.specs.Lists.{choose}
+use Rattle.timing.specs.declared.Config.{Config}
+use Rattle.peer.specs.Data.{Data}
+use Rattle.record.specs.Format.{encode}
+use Rattle.protocol.specs.Station.{Station}
+use Rattle.protocol.specs.Sending.{join-to}
+use Rattle.protocol.specs.Timers.{knows-none}
+use Rattle.protocol.specs.Handle.{new}
+use Rattle.history.specs.Ledger.{kind-in}
+use Rattle.history.specs.Calls.{Call, answer}
+
+-- an accepted maintenance timer: the state that it met, and the output that it left
+pub record Tick : Type 0 where
+  pub met : Station
+  pub output : List ℕ
+
+unfoldable pub is-tick : Call → Station → Bool
+is-tick v s = eqb (kind-in (v .event)) 2 && eqb (answer v s .code) 0
+
+-- the accepted maintenance timers among the calls, in order
+unfoldable pub ticks : List Call → Station → List Tick
+ticks [] s = []
+ticks (v ∷ vs) s =
+    choose (is-tick v s) (record { met = s; output = answer v s .output } ∷ ticks vs (answer v s .state)) (ticks vs (answer v s .state))
+
+-- all of them met a station with both views empty
+unfoldable pub all-alone : List Tick → Bool
+all-alone [] = true
+all-alone (t ∷ ts) = knows-none (t .met) && all-alone ts
+
+-- the bytes of a Join to each of the peers, in order
+unfoldable pub joins-to : Data → List ℕ → List ℕ
+joins-to d [] = []
+joins-to d (p ∷ ps) = encode (join-to d p) ++ joins-to d ps
+
+-- with a Join to every bootstrap peer then held, the output begins
+pub record Rejoins (t : Tick) : Type 0 where
+  pub rest : List ℕ
+  pub begins : t .output ≡ joins-to (t .met .own-data) (t .met .bootstrap) ++ rest
+
+-- at least one of them
+pub data Some (X : Tick → Type 0) : List Tick → Type 0 where
+  here : {t : Tick} {ts : List Tick} → X t → Some X (t ∷ ts)
+  later : {t : Tick} {ts : List Tick} → Some X ts → Some X (t ∷ ts)
+
+-- Among any 12 successive accepted maintenance timers of a history that all met a station with both views empty, at least one sends a
+-- Join to every bootstrap peer then held. Other events, and maintenance timers that are refused, may stand between them.
+abbrev pub Rejoin-promise : Type 0
+Rejoin-promise =
+    (me : ℕ) (d : Data) (c : Config) → new me d c .code ≡ 0 → (vs : List Call) (before twelve after : List Tick)
+    → ticks vs (new me d c .state) ≡ before ++ (twelve ++ after) → length twelve ≡ 12 → all-alone twelve ≡ true → Some Rejoins twelve

@@ -1,0 +1,79 @@
+-- What the reader promises of an event: data of at most 16 bytes, at most 32 nodes, a peer of 32 bits.
+-- Assumes nothing.
+use mathlib.Core.Path.{_≡_, refl, sym, ap, _∙_}
+use mathlib.Core.Bool.{true, _&&_}
+use mathlib.Core.List.{List, [], _∷_}
+use Prim.Native.Nat.{ℕ, zero, suc, _+_, _*_, _≤_, _<_}
+use native.Mathlib.Omega.{arith}
+use lib.ListN.{length, getD, length-take, length-drop}
+use lib.Seq.{slice}
+use lib.Dec.{leb, ltb, eqb}
+use borrow.Author.Tests.{leb-true, ltb-true, ltb-false}
+use Rattle.lists.specs.Bytes.{read-le}
+use Rattle.lists.proofs.Choice.{by-choice, choose-no, and-left, and-right}
+use Rattle.record.specs.Format.{Rec}
+use Rattle.record.specs.Read as Rd
+use Rattle.record.specs.Read.{Reading, refused, event, read-event, rec-of, header-of, entry-at}
+use Rattle.record.specs.declared.Header.{Header}
+use Rattle.record.specs.declared.Entry.{Entry}
+use Rattle.protocol.specs.Station.{peers-end}
+use Rattle.protocol.specs.Rules.{all-under}
+use Rattle.protocol.proofs.Law.{Short, ShortNodes}
+
+pub record Readable (e : Rec) : Type 0 where
+  pub low : e .kind ≤ 8
+  pub narrow : e .peer < peers-end
+  pub shorts : ShortNodes (e .nodes)
+  pub few : length (e .nodes) ≤ 32
+
+-- bytes are below 256
+byte-at : (b : List ℕ) (i : ℕ) → all-under 256 b ≡ true → getD b i 0 < 256
+unfolding all-under
+byte-at [] i e = omega arith
+byte-at (x ∷ xs) zero e = ltb-true x 256 (and-left (ltb x 256) (all-under 256 xs) e)
+byte-at (x ∷ xs) (suc i) e = byte-at xs i (and-right (ltb x 256) (all-under 256 xs) e)
+
+narrow-peer : (b : List ℕ) → all-under 256 b ≡ true → read-le 4 b 4 < peers-end
+unfolding read-le
+narrow-peer b e = omega (arith, byte-at b 4 e, byte-at b 5 e, byte-at b 6 e, byte-at b 7 e)
+
+length-nodes : (b : List ℕ) (i n : ℕ) → length (Rd.nodes-of b i n) ≡ n
+unfolding Rd.nodes-of
+length-nodes b i zero = refl
+length-nodes b i (suc n) = ap suc (length-nodes b (suc i) n)
+
+length-part : (i n : ℕ) (b : List ℕ) → length (slice i (i + n) b) ≤ n
+length-part i n b = simp (length-drop, length-take) (omega arith)
+
+-- an entry that is sound has short data
+short-entry : (b : List ℕ) (e : Entry) (at : ℕ) → Rd.data-ok e at ≡ true → Short (Rd.data-at b e)
+unfolding Rd.data-ok Rd.data-at Short
+short-entry b e at h =
+    by-choice Short (eqb (e .present) 0) (λ z. tt)
+    (λ z. let k : (eqb (e .present) 1 && (eqb (e .offset) at && leb (e .len) 16)) ≡ true = sym (choose-no (eqb (e .present) 0) _ _ z) ∙ h in
+    let l : e .len ≤ 16 = leb-true (e .len) 16 (and-right (eqb (e .offset) at) _ (and-right (eqb (e .present) 1) _ k)) in
+    omega (arith, length-part (e .offset) (e .len) b))
+
+short-nodes : (h : Header) (b : List ℕ) (i n at : ℕ) → Rd.entries-ok h b i n at ≡ true → ShortNodes (Rd.nodes-of b i n)
+unfolding Rd.entries-ok Rd.nodes-of Rd.node-at Rd.entry-ok ShortNodes
+short-nodes h b i zero at e = tt
+short-nodes h b i (suc n) at e = (
+  short-entry b (entry-at b i) at (and-left (Rd.data-ok (entry-at b i) at) _ (and-left (Rd.entry-ok h (entry-at b i) at) _ e)),
+  short-nodes h b (suc i) n _ (and-right (Rd.entry-ok h (entry-at b i) at) _ e),
+)
+
+-- by cases: refused with 3 or 4, or an event that keeps its promises
+pub by-reading : (b : List ℕ) → all-under 256 b ≡ true → (X : Reading → Type 0) → ((c : ℕ) → 3 ≤ c → c ≤ 4 → X (refused c)) → (Readable (rec-of b) → X (event (rec-of b))) → X (read-event b)
+unfolding read-event rec-of Rd.well-formed Rd.is-event header-of
+by-reading b bytes X f g =
+    by-choice X _ (λ e. f 3 (omega arith) (omega arith))
+    (λ e. by-choice X (ltb 32 (getD b 3 0)) (λ i. f 4 (omega arith) (omega arith))
+    (λ i. by-choice X (Rd.well-formed b && Rd.is-event (header-of b))
+    (λ w. g (record {
+      low = leb-true (getD b 0 0) 8 (and-left (leb (getD b 0 0) 8) _ (and-right (Rd.well-formed b) _ w));
+      narrow = narrow-peer b bytes;
+      shorts = short-nodes (header-of b) b 0 (getD b 3 0) (24 + 8 * getD b 3 0)
+          (and-right (eqb (header-of b .size) (length b)) _ (and-right (Rd.header-ok (header-of b)) _ (and-right (leb 24 (length b)) _ (and-left (Rd.well-formed b) _ w))));
+      few = omega (arith, length-nodes b 0 (getD b 3 0), ltb-false 32 (getD b 3 0) i);
+    }))
+    (λ w. f 3 (omega arith) (omega arith))))

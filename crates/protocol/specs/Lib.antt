@@ -1,0 +1,13 @@
+pub mod Station
+pub mod Setters
+pub mod Run
+pub mod Peers
+pub mod Sending
+pub mod Refill
+pub mod Active
+pub mod Messages
+pub mod Events
+pub mod Timers
+pub mod Rules
+pub mod Handle
+pub mod Traced

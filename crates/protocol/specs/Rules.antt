@@ -1,0 +1,117 @@
+-- Document 01, "Settings and station rules": each rule is one test on the station, and code 2 is for a station that fails one of them.
+-- Assumes nothing.
+use Prim.Native.Nat.{ℕ}
+use mathlib.Core.Bool.{Bool, true, not, _&&_}
+use mathlib.Core.List.{List, [], _∷_}
+use mathlib.Core.Option.{none, some}
+use lib.ListN.{length}
+use lib.Dec.{leb, ltb}
+use Rattle.lists.specs.Lists.{mem, distinct, rising, subset, disjoint}
+use Rattle.lists.specs.Maps.{keys, has}
+use Rattle.timing.specs.Timing.{in-range, within, max-bootstrap-peers, max-recent-neighbors, max-requests-per-refill}
+use Rattle.peer.specs.Data.{Data}
+use Rattle.peer.specs.Maps.{numbers-under}
+use Rattle.protocol.specs.Station.{Station, Refill, automatic, requests-left, recovery, max-requests, max-refused, max-peer-data, max-data-length, top-counter, top-passes, peers-end}
+
+-- all of the tests hold
+unfoldable pub every : List Bool → Bool
+every [] = true
+every (b ∷ bs) = b && every bs
+
+-- all are below n
+unfoldable pub all-under : ℕ → List ℕ → Bool
+all-under n [] = true
+all-under n (x ∷ xs) = ltb x n && all-under n xs
+
+unfoldable pub all-short : List (ℕ × List ℕ) → Bool
+all-short [] = true
+all-short (e ∷ m) = leb (length (e .1)) max-data-length && all-short m
+
+-- "Data is absent or 0 to 16 bytes"
+unfoldable pub short-data : Data → Bool
+short-data none = true
+short-data (some b) = leb (length b) max-data-length
+
+unfoldable pub limit-ok : Refill → Bool
+limit-ok automatic = true
+limit-ok (requests-left n) = leb n max-requests-per-refill
+limit-ok recovery = true
+
+-- "settings in range"
+unfoldable pub settings-rule : Station → Bool
+settings-rule s = in-range (s .config)
+
+-- "every list free of repeats"
+unfoldable pub repeats-rule : Station → Bool
+repeats-rule s = distinct (s .active) && (distinct (s .passive) && (distinct (s .bootstrap) && distinct (s .recent)))
+
+-- "those for maps and sets in rising peer order"
+unfoldable pub order-rule : Station → Bool
+order-rule s =
+    rising (keys (s .requests))
+    && (rising (keys (s .joins)) && (rising (keys (s .peer-data)) && (rising (s .alive) && rising (s .refused))))
+
+-- "views as in demand 3": within capacity
+unfoldable pub capacity-rule : Station → Bool
+capacity-rule s =
+    leb (length (s .active)) (s .config .«active_view_capacity»)
+    && leb (length (s .passive)) (s .config .«passive_view_capacity»)
+
+-- "views as in demand 3": disjoint and without the station itself
+unfoldable pub views-rule : Station → Bool
+views-rule s = disjoint (s .active) (s .passive) && (not (mem (s .me) (s .active)) && not (mem (s .me) (s .passive)))
+
+-- "alive marks passive"
+unfoldable pub alive-rule : Station → Bool
+alive-rule s = subset (s .alive) (s .passive)
+
+-- "at most 8 bootstrap and 8 recent peers"
+unfoldable pub few-rule : Station → Bool
+few-rule s = leb (length (s .bootstrap)) max-bootstrap-peers && leb (length (s .recent)) max-recent-neighbors
+
+-- "pending joins bootstrap, not active, not self"
+unfoldable pub joins-rule : Station → Bool
+joins-rule s =
+    subset (keys (s .joins)) (s .bootstrap) && (disjoint (keys (s .joins)) (s .active) && not (has (s .me) (s .joins)))
+
+-- "open numbers below their counters"
+unfoldable pub numbers-rule : Station → Bool
+numbers-rule s = numbers-under (s .next-request) (s .requests) && numbers-under (s .next-join) (s .joins)
+
+-- "no data held under self"
+unfoldable pub self-rule : Station → Bool
+self-rule s = not (has (s .me) (s .peer-data))
+
+-- "at most 32 open requests, 32 refused peers and 80 data entries"
+unfoldable pub room-rule : Station → Bool
+room-rule s =
+    leb (length (s .requests)) max-requests
+    && (leb (length (s .refused)) max-refused && leb (length (s .peer-data)) max-peer-data)
+
+-- "held data at most 16 bytes", the station's own too
+unfoldable pub data-rule : Station → Bool
+data-rule s = all-short (s .peer-data) && short-data (s .own-data)
+
+-- "`Requests` at most 3"
+unfoldable pub limit-rule : Station → Bool
+limit-rule s = limit-ok (s .refill)
+
+-- "next interval from 1 to the shuffle interval"
+unfoldable pub interval-rule : Station → Bool
+interval-rule s = within 1 (s .config .«shuffle_interval») (s .next-interval)
+
+-- "Counters have 64 bits, the two pass counts 32", and "Peers are 32-bit numbers": the neighbours, whom notices name
+unfoldable pub width-rule : Station → Bool
+width-rule s =
+    all-under peers-end (s .active)
+    && (leb (s .next-request) top-counter
+    && (leb (s .next-join) top-counter && (leb (s .passes-alone) top-passes && leb (s .passes-short) top-passes)))
+
+-- the station rules; "unused places zero" is for the packed form alone
+unfoldable pub rules : Station → List Bool
+rules s =
+    settings-rule s ∷ repeats-rule s ∷ order-rule s ∷ capacity-rule s ∷ views-rule s ∷ alive-rule s ∷ few-rule s ∷ joins-rule s
+    ∷ numbers-rule s ∷ self-rule s ∷ room-rule s ∷ data-rule s ∷ limit-rule s ∷ interval-rule s ∷ width-rule s ∷ []
+
+unfoldable pub station-ok : Station → Bool
+station-ok s = every (rules s)

@@ -1,0 +1,131 @@
+-- The state of a station, after the Rust's `State`: plain lists; maps and sets in rising order of their peers.
+-- Assumes nothing.
+use Prim.Native.Nat.{ℕ, _+_, _/_}
+use mathlib.Core.Bool.{Bool, true, false, _&&_, _||_}
+use mathlib.Core.List.{List}
+use lib.ListN.{length}
+use lib.Dec.{leb, ltb, eqb}
+use Rattle.lists.specs.Lists.{mem, null, without-all}
+use Rattle.lists.specs.Maps.{keys}
+use Rattle.peer.specs.Data.{Data}
+use Rattle.timing.specs.declared.Config.{Config}
+
+-- `RefillLimit`: how many more requests a refill of the active view may send
+pub data Refill : Type 0 where
+  automatic : Refill
+  requests-left : ℕ → Refill
+  recovery : Refill
+
+-- Beside each field, its name in the Rust where that is another. `rng` and `stats` have no place here.
+pub record Station : Type 0 where
+  pub me : ℕ
+  -- me_data
+  pub own-data : Data
+  -- active_view, passive_view
+  pub active : List ℕ
+  pub passive : List ℕ
+  pub config : Config
+  -- timers_scheduled
+  pub scheduled : Bool
+  -- next_shuffle_interval, in milliseconds
+  pub next-interval : ℕ
+  -- bootstrap_peers, oldest first
+  pub bootstrap : List ℕ
+  pub passes-alone : ℕ
+  pub passes-short : ℕ
+  -- recent_neighbors, least recently seen first
+  pub recent : List ℕ
+  -- pending_neighbor_requests, with their numbers, and next_neighbor_request
+  pub requests : List (ℕ × ℕ)
+  pub next-request : ℕ
+  -- pending_joins, with their numbers
+  pub joins : List (ℕ × ℕ)
+  pub next-join : ℕ
+  pub peer-data : List (ℕ × List ℕ)
+  -- alive_disconnect_peers
+  pub alive : List ℕ
+  pub refused : List ℕ
+  pub refill : Refill
+
+-- Limits of document 01: the table's codes 6, 7 and 8, and the counters of code 10
+abbrev pub max-requests : ℕ
+max-requests = 32
+
+abbrev pub max-refused : ℕ
+max-refused = 32
+
+abbrev pub max-peer-data : ℕ
+max-peer-data = 80
+
+abbrev pub max-data-length : ℕ
+max-data-length = 16
+
+abbrev pub top-counter : ℕ
+top-counter = 18446744073709551615
+
+abbrev pub top-passes : ℕ
+top-passes = 4294967295
+
+abbrev pub peers-end : ℕ
+peers-end = 4294967296
+
+-- Tests that several steps make
+
+unfoldable pub is-me : ℕ → Station → Bool
+is-me p s = eqb p (s .me)
+
+unfoldable pub in-active : ℕ → Station → Bool
+in-active p s = mem p (s .active)
+
+unfoldable pub in-passive : ℕ → Station → Bool
+in-passive p s = mem p (s .passive)
+
+unfoldable pub in-view : ℕ → Station → Bool
+in-view p s = in-active p s || in-passive p s
+
+unfoldable pub is-requested : ℕ → Station → Bool
+is-requested p s = mem p (keys (s .requests))
+
+-- no neighbour
+unfoldable pub is-alone : Station → Bool
+is-alone s = null (s .active)
+
+-- active_is_full
+unfoldable pub active-is-full : Station → Bool
+active-is-full s = leb (s .config .«active_view_capacity») (length (s .active))
+
+-- passive_is_full
+unfoldable pub passive-is-full : Station → Bool
+passive-is-full s = leb (s .config .«passive_view_capacity») (length (s .passive))
+
+-- is_short: "below half the capacity rounded up"
+unfoldable pub is-short : Station → Bool
+is-short s = ltb (length (s .active)) ((s .config .«active_view_capacity» + 1) / 2)
+
+-- at most one neighbour, so that a walk ends here
+unfoldable pub is-last-hop : Station → Bool
+is-last-hop s = leb (length (s .active)) 1
+
+unfoldable pub is-recovery : Refill → Bool
+is-recovery automatic = false
+is-recovery (requests-left n) = false
+is-recovery recovery = true
+
+unfoldable pub is-automatic : Refill → Bool
+is-automatic automatic = true
+is-automatic (requests-left n) = false
+is-automatic recovery = false
+
+-- Requests(0)
+unfoldable pub is-spent : Refill → Bool
+is-spent automatic = false
+is-spent (requests-left n) = eqb n 0
+is-spent recovery = false
+
+-- the peers asked that are not neighbours: pending_outside
+unfoldable pub asked-outside : Station → List ℕ
+asked-outside s = without-all (s .active) (keys (s .requests))
+
+-- a recovery with no request in flight
+unfoldable pub recovery-is-over : Station → Bool
+recovery-is-over s = is-recovery (s .refill) && null (asked-outside s)
