@@ -17,3 +17,4 @@ pub mod Entries
 pub mod Slices
 pub mod Numbers
 pub mod Stored
+pub mod Skips

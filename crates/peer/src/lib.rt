@@ -11,7 +11,7 @@ ghost use lib.Dec.{ltb};
 ghost use Rattle.lists.specs.Lists.{null, same, index-of, rank, rising, without-all};
 ghost use Rattle.lists.specs.Maps.{keys, has, lookup, cut, put};
 ghost use Rattle.lists.specs.Tests.{every};
-ghost use Rattle.util.specs.Set.{items-of, Valid};
+ghost use Rattle.util.specs.Set.{items-of, Valid, Holds};
 ghost use Rattle.peer.specs.Data.{bytes-of, holds, equal-data};
 ghost use Rattle.peer.specs.Held.{data-in, ValidData, HoldsData, valid-data, Takes, zero-byte, node-in};
 ghost use Rattle.peer.specs.Maps.{numbers-in, ValidNumbers, HoldsNumbers, number-in, valid-numbers, zero-number, numbers-under};
@@ -251,6 +251,22 @@ impl Numbers {
     {
         let e = self.entries[i];
         e.peer
+    }
+
+    // The peers, in rising order.
+    pub fn keys(self) -> IndexSet
+        requires { ⌜ ValidNumbers self ⌝ }
+        ensures { λ r. ⌜ Holds r (keys (numbers-in self)) ⌝ }
+    {
+        let n = self.len();
+        let mut t = IndexSet::new();
+        let mut i: usize = 0;
+        while i < n {
+            let p = self.key_at(i);
+            i += 1;
+            t = t.push(p);
+        }
+        t
     }
 
     pub fn insert(self, peer: PeerId, number: u64) -> Numbers

@@ -1,0 +1,5 @@
+pub mod Fields
+pub mod Access
+pub mod Bytes
+pub mod Bridge
+pub mod Refused

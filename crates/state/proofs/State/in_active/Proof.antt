@@ -1,0 +1,16 @@
+use Rattle.protocol.specs.Station.{in-active}
+use Rattle.state.specs.Unpack.{unpack}
+use Rattle.state.proofs.Access.{of-packed}
+use borrow.Author.Needs.{needs}
+use Rattle.state.proofs.State.in_active.Statement.{statement}
+use Rattle.state.proofs.State.in_active.Tie as tie
+
+contains-requires : tie.Need-contains-requires
+contains-requires c κs = search (of-packed, needs)
+
+returns : tie.Need-returns
+unfolding in-active unpack
+returns c = c .contains .ensures
+
+pub in-active-spec : {M : Type 1} → statement M
+in-active-spec = tie.close (tie.spec contains-requires returns)

@@ -1,0 +1,111 @@
+#!/usr/bin/env python3
+"""fields.py: writes crates/state/proofs/Fields.antt, one law for each field of `State` (run `rt fmt` after it).
+
+antt has no update of one field of a record, so each law writes the whole record; a field that is added is one line here.
+"""
+import pathlib
+
+# the field in code, its place in `Packed`, its type, and the field of the definition's station
+FIELDS = [
+    ("me", None, "ℕ", None),
+    ("me_data", "own-data", "PeerData", "own-data"),
+    ("active_view", "active", "IndexSet", "active"),
+    ("passive_view", "passive", "IndexSet", "passive"),
+    ("config", "settings", "Config", None),
+    ("timers_scheduled", None, "Bool", "scheduled"),
+    ("next_shuffle_interval", "short-interval", "ℕ", "next-interval"),
+    ("bootstrap_peers", "bootstrap", "IndexSet", "bootstrap"),
+    ("passes_alone", None, "ℕ", "passes-alone"),
+    ("passes_short", None, "ℕ", "passes-short"),
+    ("recent_neighbors", "recent", "IndexSet", "recent"),
+    ("pending_neighbor_requests", "requests", "Numbers", "requests"),
+    ("next_neighbor_request", None, "ℕ", "next-request"),
+    ("pending_joins", "joins", "Numbers", "joins"),
+    ("next_join", None, "ℕ", "next-join"),
+    ("peer_data", "peer-data", "DataMap", "peer-data"),
+    ("alive_disconnect_peers", "alive", "IndexSet", "alive"),
+    ("refused", "refused", "IndexSet", "refused"),
+    ("refill", None, "RefillLimit", "refill"),
+]
+
+# what a law is given of the new value: for the types that stand for another, that it stands for x
+HELD = {
+    "PeerData": ("HoldsData", "Data", "holds"),
+    "IndexSet": ("Holds", "List ℕ", "items"),
+    "Numbers": ("HoldsNumbers", "List (ℕ × ℕ)", "items"),
+    "DataMap": ("HoldsDataMap", "List (ℕ × List ℕ)", "items"),
+}
+
+# the views, which their capacity bounds
+CAPACITY = {"active": "«active_view_capacity»", "passive": "«passive_view_capacity»"}
+
+HEAD = """-- The state with one field changed stands for the station with that field changed: one law for each field. Written by tools/fields.py.
+-- Assumes nothing.
+use Prim.Native.Nat.{ℕ, _≤_}
+use mathlib.Core.Bool.{Bool}
+use mathlib.Core.List.{List}
+use lib.ListN.{length}
+use Rattle.util.specs.declared.IndexSet.{IndexSet}
+use Rattle.util.specs.Set.{Holds}
+use Rattle.peer.specs.declared.PeerData.{PeerData}
+use Rattle.peer.specs.declared.Numbers.{Numbers}
+use Rattle.peer.specs.declared.DataMap.{DataMap}
+use Rattle.peer.specs.Data.{Data}
+use Rattle.peer.specs.Held.{HoldsData}
+use Rattle.peer.specs.Maps.{HoldsNumbers, HoldsDataMap}
+use Rattle.protocol.specs.Station.{Station}
+use Rattle.protocol.specs.Setters as set
+use Rattle.state.specs.declared.RefillLimit.{RefillLimit}
+use Rattle.state.specs.declared.State.{State}
+use Rattle.state.specs.Unpack.{unpack, refill-in, shut, opened, Becomes}
+"""
+
+
+def quoted(field):
+    return f"«{field}»" if "_" in field else field
+
+
+def with_law(field, kind, name):
+    parts = "; ".join(f"{quoted(f)} = " + ("v" if f == field else f"s .{quoted(f)}") for f, _, _, _ in FIELDS)
+    return f"abbrev pub with-{name} : {kind} → State → State\nwith-{name} v s = record {{ {parts} }}\n"
+
+
+def packed(place, new):
+    places = [p for _, p, _, _ in FIELDS if p is not None]
+    parts = [f"{p} = " + (new if p == place else f"opened (b .packed) .{p}") for p in places]
+    for view in CAPACITY:
+        parts.append(f"{view}-fits = " + ("rw (h .items) l" if view == place else f"opened (b .packed) .{view}-fits"))
+    return f"shut (record {{ {'; '.join(parts)} }})"
+
+
+def put_law(place, kind, name):
+    if kind in HELD:
+        holds, model, part = HELD[kind]
+        fits = f"length x ≤ s .config .{CAPACITY[place]} → " if place in CAPACITY else ""
+        given = f"{{v : {kind}}} {{x : {model}}} → {holds} v x → {fits}"
+        value, args, new = "x", "{s} {g} {v} {x} h l b" if fits else "{s} {g} {v} {x} h b", "h .valid"
+        path = f"set.set-{name} (h .{part} i) (b .same i)"
+    else:
+        bound = "v ≤ 3600000 → " if place == "short-interval" else ""
+        given = f"(v : {kind}) → {bound}"
+        value = "(refill-in v)" if kind == "RefillLimit" else "v"
+        args, new = "{s} {g} v h b" if bound else "{s} {g} v b", "h"
+        path = f"set.set-{name} {value} (b .same i)"
+    return (
+        f"pub put-{name} : {{s : State}} {{g : Station}} {given}Becomes s g → Becomes (with-{name} v s) (set.set-{name} {value} g)\n"
+        f"unfolding unpack\n"
+        f"put-{name} {args} = record {{ packed = {packed(place, new)}; same = λ i. {path} }}\n"
+    )
+
+
+def main():
+    laws = [HEAD]
+    for field, place, kind, name in FIELDS:
+        if name is not None:
+            laws.append(with_law(field, kind, name))
+            laws.append(put_law(place, kind, name))
+    target = pathlib.Path(__file__).resolve().parent.parent / "crates/state/proofs/Fields.antt"
+    target.write_text("\n".join(laws), encoding="utf-8")
+
+
+main()
