@@ -1,0 +1,100 @@
+-- Changes of the limit on refills.
+-- Assumes nothing.
+use mathlib.Core.Path.{_≡_, refl, sym, ap, _∙_, subst}
+use mathlib.Core.Bool.{Bool, true, false}
+use lib.Dec.{eqb}
+use borrow.Author.Tests.{eqb-true, eqb-false}
+use Rattle.lists.specs.Lists.{choose}
+use Rattle.lists.proofs.Choice.{split, choose-yes, choose-no}
+use Rattle.protocol.specs.Station.{Station, Refill, automatic, recovery, is-recovery, recovery-is-over}
+use Rattle.protocol.specs.Setters.{set-refill}
+use Rattle.protocol.specs.Run.{Run, guard, on, with-station}
+use Rattle.protocol.specs.Refill.{few-requests, unless-recovery, one-less, use-request, end-recovery, needs-limit, limit-short, begin-refill}
+use Rattle.state.specs.declared.RefillLimit.{RefillLimit}
+use Rattle.state.specs.declared.RefillLimit.the-variants.{Automatic, Recovery}
+use Rattle.state.specs.declared.State.{State}
+use Rattle.state.specs.declared.Work.{Work}
+use Rattle.state.specs.Unpack.{unpack, refill-in, with-limit, PackedState, Becomes}
+use Rattle.state.specs.Work.{run, Changes}
+use Rattle.state.proofs.Bridge.{guard-shut, guard-open, unchanged, change-by}
+use Rattle.state.proofs.Fields.{put-refill}
+
+-- two changes that agree on the station of the run
+on-same : (f h : Station → Station) (g : Run) → f (g .station) ≡ h (g .station) → on f g ≡ on h g
+unfolding on
+on-same f h g e = ap (λ (s : Station). guard g (with-station s g)) e
+
+-- a change that leaves it as it is
+on-still : (f : Station → Station) (g : Run) → f (g .station) ≡ g .station → on f g ≡ g
+unfolding on
+on-still f g e =
+    ap (λ (s : Station). guard g (with-station s g)) e
+    ∙ split (eqb (g .code) 0) (λ t. guard-open g g (eqb-true _ _ t)) (λ t. guard-shut g g (eqb-false _ _ t))
+
+pub stored : (s t : State) (v : RefillLimit) (g : Station) → t ≡ with-limit v s → Becomes s g → Becomes t (set-refill (refill-in v) g)
+stored s t v g e b = subst (λ (x : State). Becomes x (set-refill (refill-in v) g)) (sym e) (put-refill v b)
+
+module _ (f : Station → Station) (limit : Station → Refill) (d : (s : Station) → f s ≡ set-refill (limit s) s) (w : Work) where
+  refilled : (r : Work) (v : RefillLimit) → refill-in v ≡ limit (unpack (w .state)) → Changes (on (set-refill (refill-in v))) w r → Changes (on f) w r
+  unfolding run
+  refilled r v e k =
+      change-by {g = on (set-refill (refill-in v))} (on f)
+      (λ ds out. on-same f (set-refill (refill-in v)) (run w ds out) (d (unpack (w .state)) ∙ ap (λ (x : Refill). set-refill x (unpack (w .state))) (sym e))) k
+
+  kept : PackedState (w .state) → limit (unpack (w .state)) ≡ unpack (w .state) .refill → Changes (on f) w w
+  unfolding run
+  kept v e =
+      unchanged (on f) v
+      (λ ds out. on-still f (run w ds out) (d (unpack (w .state)) ∙ ap (λ (x : Refill). set-refill x (unpack (w .state))) e))
+
+automatic-in : refill-in Automatic ≡ automatic
+unfolding refill-in
+automatic-in = refl
+
+recovery-in : refill-in Recovery ≡ recovery
+unfolding refill-in
+recovery-in = refl
+
+module _ (old new : RefillLimit) (t : Bool) (e : t ≡ is-recovery (refill-in old)) where
+  pub in-recovery : t ≡ true → refill-in Recovery ≡ unless-recovery (refill-in old) (refill-in new)
+  unfolding unless-recovery
+  in-recovery h = recovery-in ∙ sym (choose-yes (is-recovery (refill-in old)) recovery (refill-in new) (sym e ∙ h))
+
+  pub no-recovery : t ≡ false → refill-in new ≡ unless-recovery (refill-in old) (refill-in new)
+  unfolding unless-recovery
+  no-recovery h = sym (choose-no (is-recovery (refill-in old)) recovery (refill-in new) (sym e ∙ h))
+
+module _ (w r : Work) where
+  pub used : (v : RefillLimit) → refill-in v ≡ one-less (refill-in (w .state .refill)) → Changes (on (set-refill (refill-in v))) w r → Changes (on use-request) w r
+  unfolding use-request unpack
+  used v e k = refilled use-request (λ s. one-less (s .refill)) (λ s. refl) w r v e k
+
+  pub begun : (limit v : RefillLimit) → refill-in v ≡ unless-recovery (refill-in (w .state .refill)) (refill-in limit) → Changes (on (set-refill (refill-in v))) w r
+      → Changes (on (begin-refill (refill-in limit))) w r
+  unfolding begin-refill unpack
+  begun limit v e k = refilled (begin-refill (refill-in limit)) (λ s. unless-recovery (s .refill) (refill-in limit)) (λ s. refl) w r v e k
+
+  pub ended : (t : Bool) → t ≡ recovery-is-over (unpack (w .state)) → t ≡ true → Changes (on (set-refill (refill-in Automatic))) w r → Changes (on end-recovery) w r
+  unfolding end-recovery
+  ended t e h k =
+      refilled end-recovery (λ s. choose (recovery-is-over s) automatic (s .refill)) (λ s. refl) w r Automatic
+      (automatic-in ∙ sym (choose-yes (recovery-is-over (unpack (w .state))) automatic (unpack (w .state) .refill) (sym e ∙ h))) k
+
+  pub limited : (t : Bool) (v : RefillLimit) → t ≡ needs-limit (unpack (w .state)) → t ≡ true → refill-in v ≡ few-requests → Changes (on (set-refill (refill-in v))) w r → Changes (on limit-short) w r
+  unfolding limit-short
+  limited t v e h q k =
+      refilled limit-short (λ s. choose (needs-limit s) few-requests (s .refill)) (λ s. refl) w r v
+      (q ∙ sym (choose-yes (needs-limit (unpack (w .state))) few-requests (unpack (w .state) .refill) (sym e ∙ h))) k
+
+module _ (w : Work) (v : PackedState (w .state)) (t : Bool) where
+  pub not-ended : t ≡ recovery-is-over (unpack (w .state)) → t ≡ false → Changes (on end-recovery) w w
+  unfolding end-recovery
+  not-ended e h =
+      kept end-recovery (λ s. choose (recovery-is-over s) automatic (s .refill)) (λ s. refl) w v
+      (choose-no (recovery-is-over (unpack (w .state))) automatic (unpack (w .state) .refill) (sym e ∙ h))
+
+  pub not-limited : t ≡ needs-limit (unpack (w .state)) → t ≡ false → Changes (on limit-short) w w
+  unfolding limit-short
+  not-limited e h =
+      kept limit-short (λ s. choose (needs-limit s) few-requests (s .refill)) (λ s. refl) w v
+      (choose-no (needs-limit (unpack (w .state))) few-requests (unpack (w .state) .refill) (sym e ∙ h))

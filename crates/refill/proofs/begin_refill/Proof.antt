@@ -1,0 +1,16 @@
+use Rattle.refill.proofs.Limits.{begun}
+use borrow.Author.Needs.{needs}
+use Rattle.refill.proofs.begin_refill.Statement.{statement}
+use Rattle.refill.proofs.begin_refill.Tie as tie
+
+unless-recovery-requires : tie.Need-unless-recovery-requires
+unless-recovery-requires c κs = search needs
+
+set-refill-requires : tie.Need-set-refill-requires
+set-refill-requires c κs = search needs
+
+returns : tie.Need-returns
+returns c = begun _ _ _ _ (c .before .unless-recovery .ensures) (c .set-refill .ensures)
+
+pub begin-refill-spec : {M : Type 1} → statement M
+begin-refill-spec = tie.close (tie.spec unless-recovery-requires set-refill-requires returns)

@@ -1,0 +1,16 @@
+use Rattle.refill.proofs.Limits.{used}
+use borrow.Author.Needs.{needs}
+use Rattle.refill.proofs.use_request.Statement.{statement}
+use Rattle.refill.proofs.use_request.Tie as tie
+
+one-less-requires : tie.Need-one-less-requires
+one-less-requires c κs = search needs
+
+set-refill-requires : tie.Need-set-refill-requires
+set-refill-requires c κs = search needs
+
+returns : tie.Need-returns
+returns c = used _ _ _ (c .before .one-less .ensures) (c .set-refill .ensures)
+
+pub use-request-spec : {M : Type 1} → statement M
+use-request-spec = tie.close (tie.spec one-less-requires set-refill-requires returns)

@@ -1,0 +1,17 @@
+use Rattle.state.proofs.Access.{of-packed}
+use Rattle.sending.proofs.Told.{join-told}
+use borrow.Author.Needs.{needs}
+use Rattle.sending.proofs.join.Statement.{statement}
+use Rattle.sending.proofs.join.Tie as tie
+
+emit-one-requires : tie.Need-emit-one-requires
+emit-one-requires c κs = (search needs, search (of-packed, needs))
+
+same-length : tie.Need-same-length
+same-length c = search needs
+
+returns : tie.Need-returns
+returns c = join-told _ _ _ _ _ (c .before .before .emit-one .ensures)
+
+pub join-spec : {M : Type 1} → statement M
+join-spec = tie.close (tie.spec emit-one-requires same-length returns)

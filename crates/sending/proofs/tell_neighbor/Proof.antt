@@ -1,0 +1,20 @@
+use Rattle.state.proofs.Access.{of-packed}
+use Rattle.sending.proofs.Told.{neighbor-told}
+use borrow.Author.Needs.{needs}
+use Rattle.sending.proofs.tell_neighbor.Statement.{statement}
+use Rattle.sending.proofs.tell_neighbor.Tie as tie
+
+flag-requires : tie.Need-flag-requires
+flag-requires c κs = search needs
+
+emit-one-requires : tie.Need-emit-one-requires
+emit-one-requires c κs = (search needs, search (of-packed, needs))
+
+same-length : tie.Need-same-length
+same-length c = search needs
+
+returns : tie.Need-returns
+returns c = neighbor-told _ _ _ _ _ _ _ (c .before .before .before .before .flag .ensures) (c .before .before .emit-one .ensures)
+
+pub tell-neighbor-spec : {M : Type 1} → statement M
+tell-neighbor-spec = tie.close (tie.spec flag-requires emit-one-requires same-length returns)
