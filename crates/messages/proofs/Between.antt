@@ -1,0 +1,115 @@
+-- What holds between events gives what the steps on the active view and on the marks count on.
+-- Assumes nothing.
+use Prim.Native.Nat.{ℕ, _+_, _≤_}
+use mathlib.Core.Path.{_≡_, refl, sym, ap, _∙_, subst}
+use mathlib.Core.Bool.{Bool, true, false, not}
+use mathlib.Core.List.{List, [], _∷_}
+use native.Mathlib.Omega.{arith}
+use lib.ListN.{length}
+use Rattle.lists.specs.Lists.{count, insert}
+use Rattle.lists.proofs.Count.{mem-true, count-insert}
+use Rattle.peer.specs.Data.{Data}
+use Rattle.protocol.specs.Station.{Station, in-active, in-passive, is-requested}
+use Rattle.protocol.specs.Run.{Run, on}
+use Rattle.protocol.specs.Active.{remove-active, add-active, accepts, disconnect-received}
+use Rattle.protocol.specs.Messages.{drop-pending, forward-joins, on-join, refuse-neighbor, answer-neighbor, on-neighbor}
+use Rattle.protocol.specs.Messages.{drop-join, drop-request, forget-recent, disconnect-other, disconnected, on-disconnect}
+use Rattle.protocol.proofs.Extra.{shorter}
+use Rattle.protocol.proofs.Invariant.{Fixed, busy, calm, Ok}
+use Rattle.protocol.proofs.Entering.{unbar}
+use Rattle.protocol.proofs.Received.{ok-drop-join, ok-drop-request, ok-drop-pending, ok-forget-recent}
+use Rattle.state.specs.declared.Work.{Work}
+use Rattle.state.specs.Unpack.{unpack}
+use Rattle.state.specs.Work.{run, Changes, Tells, Fine, Does}
+use Rattle.state.proofs.Bridge.{still, then, then-tell, seq, seq-at, taken, left, holds-at, at-run}
+use Rattle.active.specs.declared.Loss.{Loss}
+use Rattle.active.specs.declared.Loss.the-variants.{DisconnectReceived}
+use Rattle.active.specs.Sane.{Calm, reason-in}
+use Rattle.messages.specs.Between.{Between}
+use Rattle.messages.specs.Places.{FreePassiveMark}
+
+pub between-calm : (m b d : ℕ) (w : Work) (ds out : List ℕ) → Between m b d (run w ds out) → Calm m b d (run w ds out)
+between-calm m b d w ds out k = record { fixed = k .fixed; guest = []; barred = []; messages = k .messages; bytes = k .bytes; draws = k .draws; ok = k .ok }
+
+-- the marks are passive peers, so there is a place for the mark of another
+mark-fits : (q : Fixed) (m b d p : ℕ) (g : Run) → Ok q calm m b d g → FreePassiveMark p (g .code) (g .station)
+unfolding in-passive count
+mark-fits q m b d p g k = record {
+  free = λ z e. let c = k .good z .core in
+      omega (
+        arith,
+        shorter (insert p (g .station .alive)) (g .station .passive) (λ x. count-insert x p (g .station .alive) (λ y. count y (g .station .passive)) (mem-true p (g .station .passive) e) (omega (arith, c .seats .marks x))),
+        c .seats .places-left,
+        c .still .ranges .few-places,
+      );
+}
+
+pub between-mark : (m b d p : ℕ) (w : Work) (ds out : List ℕ) → Between m b d (run w ds out) → FreePassiveMark p (w .code) (unpack (w .state))
+unfolding run
+between-mark m b d p w ds out k = mark-fits (k .fixed) (k .messages + m) (k .bytes + b) (k .draws + d) p (run w ds out) (k .ok)
+
+-- ---- joins and neighbors
+
+module _ (w a : Work) (ds out : List ℕ) (p : ℕ) (k : Changes (drop-pending p) w a) where
+  pub pending-calm : (m b d : ℕ) → Between m b d (run w ds out) → Calm m b d (run a ds out)
+  pending-calm m b d h = record {
+    fixed = h .fixed;
+    guest = [];
+    barred = p ∷ [];
+    messages = h .messages;
+    bytes = h .bytes;
+    draws = h .draws;
+    ok = subst (Ok (h .fixed) (busy [] (p ∷ []) [] 0 0) (h .messages + m) (h .bytes + b) (h .draws + d)) (sym (k .same ds out)) (ok-drop-pending p (h .ok));
+  }
+
+  module _ (v : Fine w ds out) where
+    pub pending-fine : Fine a ds out
+    pending-fine = then k (still v) .fine
+
+    pub joined : (x : Data) (b r : Work) (o₁ o : List ℕ) → Tells (forward-joins p x) b r o₁ o → Does b ds o₁ (add-active p x true true (run a ds out)) → Does r ds o (on-join p x (run w ds out))
+    unfolding on-join
+    joined x b r o₁ o k₃ k₂ = then-tell k₃ (seq (add-active p x true true) k₂ (then k (still v)))
+
+    pub neighbor-answered : (x : Data) (high t : Bool) (r : Work) (o : List ℕ) → t ≡ is-requested p (unpack (w .state)) → Does r ds o (answer-neighbor p x high (not t) (run a ds out)) → Does r ds o (on-neighbor p x high (run w ds out))
+    unfolding on-neighbor
+    neighbor-answered x high t r o e d = seq-at (answer-neighbor p x high) (ap not (e ∙ at-run w ds out (is-requested p))) d (then k (still v))
+
+module _ (w a : Work) (ds out o₁ : List ℕ) (p : ℕ) (x : Data) (high reply t : Bool) (e : t ≡ accepts p high (unpack (w .state))) (k : Does a ds o₁ (add-active p x high reply (run w ds out))) where
+  pub neighbor-taken : t ≡ true → Does a ds o₁ (answer-neighbor p x high reply (run w ds out))
+  unfolding answer-neighbor
+  neighbor-taken h = taken _ _ (holds-at w ds out (accepts p high) e h) k
+
+  pub neighbor-turned : (r : Work) (o : List ℕ) → t ≡ false → Does r ds o (refuse-neighbor p (run a ds o₁)) → Does r ds o (answer-neighbor p x high reply (run w ds out))
+  unfolding answer-neighbor
+  neighbor-turned r o h d = left _ _ (holds-at w ds out (accepts p high) e h) (seq (refuse-neighbor p) d k)
+
+-- ---- disconnects
+
+module _ (w r : Work) (ds out o : List ℕ) (p : ℕ) (alive requested t : Bool) (e : t ≡ in-active p (unpack (w .state))) where
+  pub neighbor-lost : t ≡ true → Does r ds o (remove-active p (reason-in (DisconnectReceived alive)) (run w ds out)) → Does r ds o (disconnected p alive requested (run w ds out))
+  unfolding disconnected reason-in
+  neighbor-lost h d = taken _ _ (holds-at w ds out (in-active p) e h) d
+
+  pub other-lost : t ≡ false → Does r ds o (disconnect-other p alive requested (run w ds out)) → Does r ds o (disconnected p alive requested (run w ds out))
+  unfolding disconnected
+  other-lost h d = left _ _ (holds-at w ds out (in-active p) e h) d
+
+module _ (w a b c : Work) (ds out : List ℕ) (p : ℕ) (alive : Bool) (k₃ : Changes (on (drop-request p)) b c) (k₂ : Changes (forget-recent p alive) a b) (k₁ : Changes (on (drop-join p)) w a) where
+  ended-is : run c ds out ≡ on (drop-request p) (forget-recent p alive (on (drop-join p) (run w ds out)))
+  ended-is = k₃ .same ds out ∙ ap (on (drop-request p)) (k₂ .same ds out ∙ ap (forget-recent p alive) (k₁ .same ds out))
+
+  pub ended-between : (m y d : ℕ) → Between m y d (run w ds out) → Between m y d (run c ds out)
+  ended-between m y d k = record {
+    fixed = k .fixed;
+    messages = k .messages;
+    bytes = k .bytes;
+    draws = k .draws;
+    ok = subst (Ok (k .fixed) calm (k .messages + m) (k .bytes + y) (k .draws + d)) (sym ended-is) (ok-drop-request p (ok-forget-recent p alive (unbar (ok-drop-join p (k .ok)))));
+  }
+
+  pub ended-fine : Fine w ds out → Fine c ds out
+  ended-fine v = then k₃ (then k₂ (then k₁ (still v))) .fine
+
+  pub disconnect-done : (r : Work) (o : List ℕ) (requested : Bool) → Fine w ds out → requested ≡ is-requested p (unpack (w .state)) → Does r ds o (disconnected p alive requested (run c ds out)) → Does r ds o (on-disconnect p alive (run w ds out))
+  unfolding on-disconnect
+  disconnect-done r o requested v e d = seq-at (disconnected p alive) (e ∙ at-run w ds out (is-requested p)) d (then k₃ (then k₂ (then k₁ (still v))))

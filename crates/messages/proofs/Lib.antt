@@ -1,0 +1,3 @@
+pub mod Nodes
+pub mod Laws
+pub mod Between

@@ -1,0 +1,20 @@
+use borrow.Author.Needs.{needs}
+use Rattle.protocol.specs.Timers.{short-counts}
+use Rattle.timers.proofs.Passes.{tested, short-counted}
+use Rattle.timers.proofs.count_short.Statement.{statement}
+use Rattle.timers.proofs.count_short.Tie as tie
+
+short-counts-requires : tie.Need-short-counts-requires
+short-counts-requires c κs = search needs
+
+require-requires : tie.Need-require-requires
+require-requires c κs = search needs
+
+add-short-requires : tie.Need-add-short-requires
+add-short-requires c κs = (search needs, tested short-counts _ _ _ (c .before .short-counts .ensures) (c .require .ensures))
+
+returns : tie.Need-returns
+returns c = search short-counted
+
+pub count-short-spec : {M : Type 1} → statement M
+count-short-spec = tie.close (tie.spec short-counts-requires require-requires add-short-requires returns)

@@ -1,0 +1,15 @@
+use borrow.Author.Needs.{needs}
+use Rattle.state.specs.Unpack.{unpack}
+use Rattle.protocol.specs.Timers.{in-recovery}
+use Rattle.timers.proofs.in_recovery.Statement.{statement}
+use Rattle.timers.proofs.in_recovery.Tie as tie
+
+is-recovery-requires : tie.Need-is-recovery-requires
+is-recovery-requires c κs = search needs
+
+returns : tie.Need-returns
+unfolding in-recovery unpack
+returns c = c .is-recovery .ensures
+
+pub in-recovery-spec : {M : Type 1} → statement M
+in-recovery-spec = tie.close (tie.spec is-recovery-requires returns)

@@ -1,0 +1,25 @@
+use borrow.Author.Needs.{needs}
+use Rattle.timers.proofs.Asked.{retried, not-retried}
+use Rattle.timers.proofs.retry_join.Statement.{statement}
+use Rattle.timers.proofs.retry_join.Tie as tie
+
+join-is-requires : tie.Need-join-is-requires
+join-is-requires c κs = search needs
+
+drop-join-requires : tie.Need-drop-join-requires
+drop-join-requires c κs = search needs
+
+join-requires : tie.Need-join-requires
+join-requires c κs = search needs
+
+same-length : tie.Need-same-length
+same-length c = search needs
+
+returns : tie.Need-returns
+returns c = search retried
+
+returns-2 : tie.Need-returns-2
+returns-2 c = search not-retried
+
+pub retry-join-spec : {M : Type 1} → statement M
+retry-join-spec = tie.close (tie.spec join-is-requires drop-join-requires join-requires same-length returns returns-2)
