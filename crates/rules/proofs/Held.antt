@@ -1,0 +1,108 @@
+-- How the code's tests are the rules of the definition, and which rules hold of every well formed state.
+-- Assumes nothing.
+use Prim.Native.Nat.{ℕ, zero, suc, _≤_, _<_}
+use mathlib.Core.Path.{_≡_, refl, sym, ap, _∙_}
+use mathlib.Core.Bool.{Bool, true, false, _&&_, not}
+use mathlib.Core.List.{List, [], _∷_, map}
+use mathlib.Core.Option.{none, some}
+use native.Mathlib.Omega.{arith}
+use lib.ListN.{length, take}
+use lib.Dec.{leb, ltb}
+use borrow.Author.Tests.{le-leb, lt-ltb}
+use mir.Val.{Val}
+use denote.Array.{each}
+use denote.Shadow.{shadow}
+use denote.Struct.Field.{u32-field}
+use Rattle.lists.specs.Lists.{mem, rising, choose}
+use Rattle.lists.specs.Maps.{keys}
+use Rattle.lists.specs.Tests.{every, All}
+use Rattle.lists.proofs.Choice.{split, and-left, and-right}
+use Rattle.lists.proofs.Tests.{both-true, true-rising}
+use Rattle.util.specs.Set.{items-of}
+use Rattle.peer.specs.declared.DataEntry.{DataEntry}
+use Rattle.peer.specs.declared.DataMap.{DataMap}
+use Rattle.peer.specs.declared.PeerData.{PeerData}
+use Rattle.peer.specs.Held.{data-in, ValidData}
+use Rattle.peer.specs.Maps.{data-pair, data-map-in, numbers-in, ValidEntry, ValidDataMap}
+use Rattle.peer.proofs.Data.{length-bytes}
+use Rattle.peer.proofs.Maps.{length-entry}
+use Rattle.protocol.specs.Rules.{all-under, all-short, short-data, settings-rule, repeats-rule, order-rule, capacity-rule, views-rule, alive-rule, few-rule, joins-rule, numbers-rule, self-rule, room-rule, data-rule, limit-rule, interval-rule, width-rule, rules, station-ok}
+use Rattle.protocol.specs.Rules as R
+use Rattle.protocol.specs.Station.{Station, peers-end, top-counter, top-passes}
+use Rattle.state.specs.declared.State.{State}
+use Rattle.state.specs.Unpack.{unpack}
+use Rattle.rules.specs.Ok.{packed-ok}
+use Rattle.rules.proofs.Shape.{ok-shape}
+
+-- ---- what a well formed state keeps anyway
+
+module _ (s : State) (e : packed-ok s ≡ true) where
+  -- its maps rise
+  pub order-left : (rising (items-of (s .«alive_disconnect_peers»)) && rising (items-of (s .refused))) ≡ order-rule (unpack s)
+  unfolding order-rule unpack
+  order-left =
+      rw (true-rising _ (ok-shape s e .requests .rises), true-rising _ (ok-shape s e .joins .rises), true-rising _ (ok-shape s e .peer-data .rises))
+
+  -- it has no more entries than places
+  pub room-held : room-rule (unpack s) ≡ true
+  unfolding room-rule unpack
+  room-held =
+      let v = ok-shape s e in
+      both-true (leb (length (numbers-in (s .«pending_neighbor_requests»))) 32) _
+      (le-leb (length (numbers-in (s .«pending_neighbor_requests»))) 32 (omega (arith, v .requests .counted, v .requests .fits)))
+      (both-true (leb (length (items-of (s .refused))) 32) _
+      (le-leb (length (items-of (s .refused))) 32 (omega (arith, v .refused .fits, v .refused .counted)))
+      (le-leb (length (data-map-in (s .«peer_data»))) 80 (omega (arith, v .peer-data .counted, v .peer-data .fits))))
+
+entries-short : (es : List DataEntry) → All ValidEntry es → all-short (map data-pair es) ≡ true
+unfolding all-short All
+entries-short [] a = refl
+entries-short (x ∷ es) a =
+    both-true (leb (length (take (x .len) (x .bytes))) 16) _ (le-leb (length (take (x .len) (x .bytes))) 16 (omega (arith, length-entry x (a .0), a .0 .fits))) (entries-short es (a .1))
+
+own-short : (d : PeerData) → ValidData d → short-data (data-in d) ≡ true
+unfolding short-data data-in choose
+own-short d v =
+    split (d .present) (λ t. rw t (le-leb (length (take (d .len) (d .bytes))) 16 (omega (arith, length-bytes d v, v .fits)))) (λ t. rw t)
+
+-- its data have at most 16 bytes
+pub data-held : (s : State) → packed-ok s ≡ true → data-rule (unpack s) ≡ true
+unfolding data-rule unpack data-map-in
+data-held s e = both-true (all-short (map data-pair (take (s .«peer_data» .len) (s .«peer_data» .entries)))) _ (entries-short _ (ok-shape s e .peer-data .each)) (own-short _ (ok-shape s e .own-data))
+
+-- ---- the rules together
+
+and-true : (b : Bool) → (b && true) ≡ b
+and-true true = refl
+and-true false = refl
+
+-- two rules are left out where they hold
+pub rules-left : (g : Station) → room-rule g ≡ true → data-rule g ≡ true
+    → station-ok g ≡ (settings-rule g && (repeats-rule g && (order-rule g && (capacity-rule g && (views-rule g && (alive-rule g && (few-rule g && (joins-rule g && (numbers-rule g && (self-rule g && (limit-rule g && (interval-rule g && width-rule g))))))))))))
+unfolding station-ok rules R.every
+rules-left g a b = rw (a, b, and-true (width-rule g))
+
+-- ---- widths, which are those of the types
+
+-- the items of an array of 32-bit numbers are below 2^32
+pub each-under : (xs : List ℕ) (us : List Val) → shadow (each ℕ (u32-field .row .own) (map (λ (v : ℕ). v) xs) us) → all-under peers-end xs ≡ true
+unfolding all-under
+each-under [] us s = refl
+each-under (x ∷ xs) [] s = absurd s
+each-under (x ∷ xs) (u ∷ us) s = both-true (ltb x peers-end) _ (lt-ltb x peers-end (s .0 .1)) (each-under xs us (s .1))
+
+take-under : (n k : ℕ) (xs : List ℕ) → all-under n xs ≡ true → all-under n (take k xs) ≡ true
+unfolding all-under
+take-under n zero xs e = refl
+take-under n (suc k) [] e = refl
+take-under n (suc k) (x ∷ xs) e =
+    both-true (ltb x n) _ (and-left (ltb x n) _ e) (take-under n k xs (and-right (ltb x n) _ e))
+
+pub width-held : (s : State) → all-under peers-end (s .«active_view» .items) ≡ true → s .«next_neighbor_request» ≤ top-counter → s .«next_join» ≤ top-counter
+    → s .«passes_alone» ≤ top-passes → s .«passes_short» ≤ top-passes → width-rule (unpack s) ≡ true
+unfolding width-rule unpack items-of
+width-held s e a b c d =
+    both-true (all-under peers-end (take (s .«active_view» .len) (s .«active_view» .items))) _ (take-under peers-end (s .«active_view» .len) (s .«active_view» .items) e)
+    (both-true (leb (s .«next_neighbor_request») top-counter) _ (le-leb _ _ a)
+    (both-true (leb (s .«next_join») top-counter) _ (le-leb _ _ b)
+    (both-true (leb (s .«passes_alone») top-passes) _ (le-leb _ _ c) (le-leb _ _ d))))

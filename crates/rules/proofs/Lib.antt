@@ -1,0 +1,6 @@
+pub mod Shape
+pub mod Pack
+pub mod Held
+pub mod Packed
+pub mod Making
+pub mod Fitting

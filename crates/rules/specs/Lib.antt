@@ -1,0 +1,4 @@
+pub mod Pack
+pub mod Ok
+pub mod Made
+pub mod Queries
