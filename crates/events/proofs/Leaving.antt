@@ -1,7 +1,7 @@
 -- Lost connections, and Quit.
 -- Assumes nothing.
-use Prim.Native.Nat.{ℕ, _≤_, _<_}
-use mathlib.Core.Path.{_≡_, ap, _∙_}
+use Prim.Native.Nat.{ℕ, _+_, _≤_, _<_}
+use mathlib.Core.Path.{_≡_, sym, ap, _∙_, subst}
 use mathlib.Core.Bool.{Bool, true, false}
 use mathlib.Core.List.{List, [], _∷_, _++_}
 use native.Mathlib.Omega.{arith}
@@ -10,17 +10,25 @@ use Rattle.lists.specs.Lists.{remove}
 use Rattle.lists.proofs.Count.{length-remove}
 use Rattle.util.specs.declared.IndexSet.{IndexSet}
 use Rattle.util.specs.Set.{items-of, Holds}
+use Rattle.protocol.specs.Station.{in-active, is-requested}
 use Rattle.protocol.specs.Run.{on}
 use Rattle.protocol.specs.Peers.{drop-mark, is-marked}
 use Rattle.protocol.specs.Sending.{send-disconnect}
 use Rattle.protocol.specs.Refill.{refill-active-from-passive}
-use Rattle.protocol.specs.Events.{drop-dead, lose-passive, lose-other, remove-neighbor, quit-one, quit-all, clear-all, handle-quit}
+use Rattle.protocol.specs.Active.{remove-active}
+use Rattle.protocol.specs.Messages.{drop-request}
+use Rattle.protocol.specs.Events.{drop-dead, lose-passive, lose-other, lose, handle-connection-closed, remove-neighbor, quit-one, quit-all, clear-all, handle-quit}
+use Rattle.protocol.proofs.Invariant.{busy, Ok}
+use Rattle.protocol.proofs.Received.{ok-drop-request}
 use Rattle.state.specs.declared.State.{State}
 use Rattle.state.specs.declared.Work.{Work}
 use Rattle.state.specs.Unpack.{unpack, PackedState}
 use Rattle.state.specs.Work.{run, Changes, Fine, Does}
 use Rattle.state.proofs.Access.{active-fits}
-use Rattle.state.proofs.Bridge.{change-yes, change-no, still, then, seq, seq-at, taken, left}
+use Rattle.state.proofs.Bridge.{change-yes, change-no, still, then, seq, seq-at, taken, left, holds-at, at-run}
+use Rattle.active.specs.declared.Loss.{Loss}
+use Rattle.active.specs.declared.Loss.the-variants.{ConnectionClosed}
+use Rattle.active.specs.Sane.{Calm, reason-in}
 
 -- ---- lost connections
 
@@ -49,6 +57,31 @@ module _ (w a : Work) (ds out : List ℕ) (p : ℕ) (requested : Bool) (v : Fine
   pub not-asked : requested ≡ false → Does a ds out (lose-other p requested (run w ds out))
   unfolding lose-other
   not-asked h = left _ _ h (then k₁ (still v))
+
+module _ (w r : Work) (ds out o : List ℕ) (p : ℕ) (requested t : Bool) (e : t ≡ in-active p (unpack (w .state))) where
+  pub neighbor-lost : t ≡ true → Does r ds o (remove-active p (reason-in ConnectionClosed) (run w ds out)) → Does r ds o (lose p requested (run w ds out))
+  unfolding lose reason-in
+  neighbor-lost h d = taken _ _ (holds-at w ds out (in-active p) e h) d
+
+  pub other-lost : t ≡ false → Does r ds o (lose-other p requested (run w ds out)) → Does r ds o (lose p requested (run w ds out))
+  unfolding lose
+  other-lost h d = left _ _ (holds-at w ds out (in-active p) e h) d
+
+module _ (w a : Work) (ds out : List ℕ) (p : ℕ) (k : Changes (on (drop-request p)) w a) where
+  pub closed-calm : (m b d : ℕ) → Calm m b d (run w ds out) → Calm m b d (run a ds out)
+  closed-calm m b d h = record {
+    fixed = h .fixed;
+    guest = h .guest;
+    barred = h .barred;
+    messages = h .messages;
+    bytes = h .bytes;
+    draws = h .draws;
+    ok = subst (Ok (h .fixed) (busy (h .guest) (h .barred) [] 0 0) (h .messages + m) (h .bytes + b) (h .draws + d)) (sym (k .same ds out)) (ok-drop-request p (h .ok));
+  }
+
+  pub closed : (r : Work) (o : List ℕ) (requested : Bool) → Fine w ds out → requested ≡ is-requested p (unpack (w .state)) → Does r ds o (lose p requested (run a ds out)) → Does r ds o (handle-connection-closed p (run w ds out))
+  unfolding handle-connection-closed
+  closed r o requested v e d = seq-at (lose p) (e ∙ at-run w ds out (is-requested p)) d (then k (still v))
 
 -- ---- Quit
 

@@ -1,4 +1,5 @@
 // What comes from the station's own side: a request to join, new data of its own, a closed connection, and Quit (the definition's `Events`).
+use active::Loss;
 use peer::DataMap;
 use peer::Numbers;
 use peer::PeerData;
@@ -16,9 +17,10 @@ ghost use Rattle.peer.specs.Held.{data-in, ValidData};
 ghost use Rattle.peer.specs.Maps.{HoldsNumbers};
 ghost use Rattle.protocol.specs.Run.{on};
 ghost use Rattle.protocol.specs.Events.{must-drop-oldest, oldest, push-bootstrap, join-counts, note-join, open-join, await-join, join-other, join-new, handle-join};
-ghost use Rattle.protocol.specs.Events.{drop-dead, lose-passive, lose-other, update-own-data, remove-neighbor, quit-one, quit-all, clear-all, handle-quit};
+ghost use Rattle.protocol.specs.Events.{drop-dead, lose-passive, lose-other, lose, handle-connection-closed, update-own-data, remove-neighbor, quit-one, quit-all, clear-all, handle-quit};
 ghost use Rattle.state.specs.Unpack.{unpack, PackedState};
 ghost use Rattle.state.specs.Work.{run, Changes, Room, Tells, Fine, Does};
+ghost use Rattle.active.specs.Sane.{Calm};
 ghost use Rattle.events.specs.Free.{FreeJoin, Joinable};
 
 // Whether p would be one bootstrap peer too many.
@@ -205,7 +207,7 @@ fn lose_passive(w: Work, p: u32) -> Work
 }
 
 // The connection to a peer that is no neighbor is lost; where it was asked, another one is.
-pub fn lose_other(w: Work, draws: &[u32], out: &mut [u8], p: u32, requested: bool) -> Work
+fn lose_other(w: Work, draws: &[u32], out: &mut [u8], p: u32, requested: bool) -> Work
     requires { ⌜ Fine w (now draws) (now out) ⌝ }
     ensures { λ r. ⌜ Does r (now (draws .entry)) (now (out .exit)) (lose-other p requested (run w (now (draws .entry)) (now (out .entry)))) ⌝ }
 {
@@ -216,6 +218,31 @@ pub fn lose_other(w: Work, draws: &[u32], out: &mut [u8], p: u32, requested: boo
         return refill::refill_active_from_passive(a, draws, out, skip);
     }
     a
+}
+
+// The connection to p is lost, a neighbor or not.
+fn lose(w: Work, draws: &[u32], out: &mut [u8], p: u32, requested: bool) -> Work
+    requires { ⌜ Fine w (now draws) (now out) ⌝ }
+    requires { ⌜ Calm 0 72 1 (run w (now draws) (now out)) ⌝ }
+    ensures { λ r. ⌜ Does r (now (draws .entry)) (now (out .exit)) (lose p requested (run w (now (draws .entry)) (now (out .entry)))) ⌝ }
+{
+    let s = w.state;
+    if s.in_active(p) {
+        return active::remove_active(w, draws, out, p, Loss::ConnectionClosed);
+    }
+    lose_other(w, draws, out, p, requested)
+}
+
+// The connection to p was closed; a request to it failed with it.
+pub fn handle_connection_closed(w: Work, draws: &[u32], out: &mut [u8], p: u32) -> Work
+    requires { ⌜ Fine w (now draws) (now out) ⌝ }
+    requires { ⌜ Calm 0 72 1 (run w (now draws) (now out)) ⌝ }
+    ensures { λ r. ⌜ Does r (now (draws .entry)) (now (out .exit)) (handle-connection-closed p (run w (now (draws .entry)) (now (out .entry)))) ⌝ }
+{
+    let s = w.state;
+    let requested = s.is_requested(p);
+    let a = pending::drop_request(w, p);
+    lose(a, draws, out, p, requested)
 }
 
 // The station has other data of its own.

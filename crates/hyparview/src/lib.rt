@@ -1,14 +1,21 @@
 // `handle`: one event, whatever it is, to the whole result or one numbered refusal.
+use record::Event;
+use record::Header;
 use state::State;
 use state::Work;
 ghost use mathlib.Core.Path.{_≡_};
 ghost use Prim.Native.Nat.{_≤_};
 ghost use lib.ListN.{length};
 ghost use Rattle.protocol.specs.Run.{on};
-ghost use Rattle.protocol.specs.Handle.{note-scheduled, first-timers};
-ghost use Rattle.state.specs.Unpack.{PackedState};
+ghost use mathlib.Core.Bool.{true};
+ghost use Rattle.record.specs.Read.{rec-of, event};
+ghost use Rattle.protocol.specs.Handle.{note-scheduled, first-timers, handle-message, dispatch, steps, handle-reading};
+ghost use Rattle.state.specs.Unpack.{unpack, PackedState};
 ghost use Rattle.state.specs.Work.{run, Changes, Room, Fine, Does};
-ghost use Rattle.hyparview.specs.Handled.{cleared, refusal, ended};
+ghost use Rattle.hyparview.specs.Handled.{cleared, refusal, ended, packed-answer, handled};
+ghost use Rattle.messages.specs.Between.{Between};
+ghost use Rattle.rules.specs.Ok.{state-ok};
+ghost use Rattle.hyparview.specs.Begun.{Headed, Single, Opens, timer-expired};
 
 // What a call hands back: its code, the state, and how many draws are used.
 pub struct Answer {
@@ -86,4 +93,138 @@ fn first_timers(w: Work, draws: &[u32], out: &mut [u8]) -> Work
     let a = note_scheduled(w);
     let b = timers::schedule_shuffle(a, draws, out);
     timers::schedule_maintenance(b, out)
+}
+
+// Join, ForwardJoin or Neighbor, which have one node.
+fn handle_single(w: Work, draws: &[u32], out: &mut [u8], b: &[u8], h: Header) -> Work
+    requires { ⌜ Fine w (now draws) (now out) ⌝ }
+    requires { ⌜ Single (now b) h ⌝ }
+    requires { ⌜ Between 0 936 40 (run w (now draws) (now out)) ⌝ }
+    ensures { λ r. ⌜ Does r (now (draws .entry)) (now (out .exit)) (handle-message (rec-of (now (b .entry))) (run w (now (draws .entry)) (now (out .entry)))) ⌝ }
+{
+    let p = h.peer;
+    let n = record::peer_info(b, 0);
+    let d = n.data;
+    if h.message == 0 {
+        return messages::on_join(w, draws, out, p, d);
+    }
+    if h.message == 1 {
+        return messages::on_forward_join(w, draws, out, p, n, h.ttl);
+    }
+    messages::on_neighbor(w, draws, out, p, d, h.flags == 1)
+}
+
+// One of the six messages.
+fn handle_message(w: Work, draws: &[u32], out: &mut [u8], b: &[u8], h: Header) -> Work
+    requires { ⌜ Fine w (now draws) (now out) ⌝ }
+    requires { ⌜ Headed (now b) h ⌝ }
+    requires { ⌜ h .kind ≡ 0 ⌝ }
+    requires { ⌜ Between 0 936 40 (run w (now draws) (now out)) ⌝ }
+    ensures { λ r. ⌜ Does r (now (draws .entry)) (now (out .exit)) (handle-message (rec-of (now (b .entry))) (run w (now (draws .entry)) (now (out .entry)))) ⌝ }
+{
+    let p = h.peer;
+    let n = h.nodes as usize;
+    if h.message == 2 {
+        return messages::on_shuffle(w, draws, out, p, h.second, b, n, h.ttl);
+    }
+    if h.message == 3 {
+        return messages::on_shuffle_reply(w, draws, out, p, b, n);
+    }
+    if h.message == 5 {
+        return messages::on_disconnect(w, draws, out, p, h.flags % 2 == 1);
+    }
+    handle_single(w, draws, out, b, h)
+}
+
+// One of the four timers.
+fn handle_timer(w: Work, draws: &[u32], out: &mut [u8], h: Header) -> Work
+    requires { ⌜ Fine w (now draws) (now out) ⌝ }
+    requires { ⌜ 1 ≤ h .kind ⌝ }
+    requires { ⌜ h .kind ≤ 4 ⌝ }
+    ensures { λ r. ⌜ Does r (now (draws .entry)) (now (out .exit)) (timer-expired (h .kind) (h .peer) (h .number) (run w (now (draws .entry)) (now (out .entry)))) ⌝ }
+{
+    let p = h.peer;
+    if h.kind == 1 {
+        return timers::handle_shuffle_timer(w, draws, out);
+    }
+    if h.kind == 2 {
+        return timers::handle_maintenance_timer(w, draws, out);
+    }
+    if h.kind == 3 {
+        return timers::handle_pending_neighbor_timer(w, draws, out, p, h.number);
+    }
+    timers::retry_join(w, out, p, h.number)
+}
+
+// What an event says is done, whichever kind it is.
+fn dispatch(w: Work, draws: &[u32], out: &mut [u8], b: &[u8], h: Header) -> Work
+    requires { ⌜ Fine w (now draws) (now out) ⌝ }
+    requires { ⌜ Headed (now b) h ⌝ }
+    requires { ⌜ h .kind ≤ 8 ⌝ }
+    requires { ⌜ Opens (h .kind) (run w (now draws) (now out)) ⌝ }
+    ensures { λ r. ⌜ Does r (now (draws .entry)) (now (out .exit)) (dispatch (rec-of (now (b .entry))) (run w (now (draws .entry)) (now (out .entry)))) ⌝ }
+{
+    let p = h.peer;
+    if h.kind == 0 {
+        return handle_message(w, draws, out, b, h);
+    }
+    if h.kind <= 4 {
+        return handle_timer(w, draws, out, h);
+    }
+    if h.kind == 5 {
+        return events::handle_connection_closed(w, draws, out, p);
+    }
+    if h.kind == 6 {
+        return events::handle_join(w, out, p);
+    }
+    if h.kind == 7 {
+        let n = record::peer_info(b, 0);
+        let d = n.data;
+        return events::update_own_data(w, d);
+    }
+    events::handle_quit(w, draws, out)
+}
+
+// The steps of one event.
+fn steps(w: Work, draws: &[u32], out: &mut [u8], b: &[u8], h: Header) -> Work
+    requires { ⌜ Fine w (now draws) (now out) ⌝ }
+    requires { ⌜ Headed (now b) h ⌝ }
+    requires { ⌜ h .kind ≤ 8 ⌝ }
+    requires { ⌜ Opens (h .kind) (run w (now draws) (now out)) ⌝ }
+    ensures { λ r. ⌜ Does r (now (draws .entry)) (now (out .exit)) (steps (rec-of (now (b .entry))) (run w (now (draws .entry)) (now (out .entry)))) ⌝ }
+{
+    let a = dispatch(w, draws, out, b, h);
+    first_timers(a, draws, out)
+}
+
+// An event that was read, at a state that keeps the rules.
+fn handle_event(s: State, b: &[u8], draws: &[u32], out: &mut [u8], h: Header) -> Answer
+    requires { ⌜ state-ok s ≡ true ⌝ }
+    requires { ⌜ Headed (now b) h ⌝ }
+    requires { ⌜ h .kind ≤ 8 ⌝ }
+    requires { ⌜ h .nodes ≤ 32 ⌝ }
+    ensures { λ r. ⌜ record { answer = r; output = now (out .exit) } ≡ packed-answer (handle-reading (event (rec-of (now (b .entry)))) (unpack s) (now (draws .entry)) (length (now (out .entry)))) ⌝ }
+{
+    let w = Work {
+        state: s,
+        drawn: 0,
+        written: 0,
+        code: 0,
+    };
+    let a = steps(w, draws, out, b, h);
+    finish(s, a, out)
+}
+
+// One event: the whole result, or one numbered refusal.
+pub fn handle(s: State, b: &[u8], draws: &[u32], out: &mut [u8]) -> Answer
+    ensures { λ r. ⌜ record { answer = r; output = now (out .exit) } ≡ handled s (now (b .entry)) (now (draws .entry)) (length (now (out .entry))) ⌝ }
+{
+    if !rules::is_ok(s) {
+        return refuse(s, out, 2);
+    }
+    let e = record::read_event(b);
+    match e {
+        Event::Refused(c) => refuse(s, out, c),
+        Event::Record(h) => handle_event(s, b, draws, out, h),
+    }
 }
