@@ -1,2 +1,4 @@
 pub mod Laws
-pub mod Dispatch
+pub mod Arms
+pub mod Reading
+pub mod Opening

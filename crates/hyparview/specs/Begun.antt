@@ -1,13 +1,13 @@
 -- What the steps of one event start from.
 -- Assumes nothing.
-use Prim.Native.Nat.{ℕ}
+use Prim.Native.Nat.{ℕ, _≤_}
 use mathlib.Core.Path.{_≡_}
 use mathlib.Core.Bool.{true}
 use mathlib.Core.List.{List}
 use lib.Dec.{eqb}
 use Rattle.lists.specs.Lists.{choose}
 use Rattle.record.specs.declared.Header.{Header}
-use Rattle.record.specs.Read.{well-formed, header-of}
+use Rattle.record.specs.Read.{well-formed, header-of, rec-of, event, read-event}
 use Rattle.protocol.specs.Run.{Run}
 use Rattle.protocol.specs.Timers.{handle-shuffle-timer, handle-maintenance-timer, handle-pending-neighbor-timer, retry-join}
 use Rattle.messages.specs.Between.{Between}
@@ -17,7 +17,14 @@ pub record Headed (b : List ℕ) (h : Header) : Type 0 where
   pub formed : well-formed b ≡ true
   pub head : h ≡ header-of b
 
--- and it is Join, ForwardJoin or Neighbor, with its one node
+-- the reader takes b as an event, with the header h
+pub record ReadAs (b : List ℕ) (h : Header) : Type 0 where
+  pub headed : Headed b h
+  pub low : h .kind ≤ 8
+  pub few : h .nodes ≤ 32
+  pub reads : event (rec-of b) ≡ read-event b
+
+-- b is Join, ForwardJoin or Neighbor, with its one node
 pub record Single (b : List ℕ) (h : Header) : Type 0 where
   pub headed : Headed b h
   pub one : header-of b .nodes ≡ 1

@@ -8,14 +8,14 @@ ghost use Prim.Native.Nat.{_≤_};
 ghost use lib.ListN.{length};
 ghost use Rattle.protocol.specs.Run.{on};
 ghost use mathlib.Core.Bool.{true};
-ghost use Rattle.record.specs.Read.{rec-of, event};
-ghost use Rattle.protocol.specs.Handle.{note-scheduled, first-timers, handle-message, dispatch, steps, handle-reading};
-ghost use Rattle.state.specs.Unpack.{unpack, PackedState};
+ghost use Rattle.record.specs.Read.{rec-of};
+ghost use Rattle.protocol.specs.Handle.{note-scheduled, first-timers, handle-message, dispatch, steps};
+ghost use Rattle.state.specs.Unpack.{PackedState};
 ghost use Rattle.state.specs.Work.{run, Changes, Room, Fine, Does};
-ghost use Rattle.hyparview.specs.Handled.{cleared, refusal, ended, packed-answer, handled};
+ghost use Rattle.hyparview.specs.Handled.{cleared, refusal, ended, handled};
 ghost use Rattle.messages.specs.Between.{Between};
 ghost use Rattle.rules.specs.Ok.{state-ok};
-ghost use Rattle.hyparview.specs.Begun.{Headed, Single, Opens, timer-expired};
+ghost use Rattle.hyparview.specs.Begun.{Headed, Single, ReadAs, Opens, timer-expired};
 
 // What a call hands back: its code, the state, and how many draws are used.
 pub struct Answer {
@@ -200,10 +200,8 @@ fn steps(w: Work, draws: &[u32], out: &mut [u8], b: &[u8], h: Header) -> Work
 // An event that was read, at a state that keeps the rules.
 fn handle_event(s: State, b: &[u8], draws: &[u32], out: &mut [u8], h: Header) -> Answer
     requires { ⌜ state-ok s ≡ true ⌝ }
-    requires { ⌜ Headed (now b) h ⌝ }
-    requires { ⌜ h .kind ≤ 8 ⌝ }
-    requires { ⌜ h .nodes ≤ 32 ⌝ }
-    ensures { λ r. ⌜ record { answer = r; output = now (out .exit) } ≡ packed-answer (handle-reading (event (rec-of (now (b .entry)))) (unpack s) (now (draws .entry)) (length (now (out .entry)))) ⌝ }
+    requires { ⌜ ReadAs (now b) h ⌝ }
+    ensures { λ r. ⌜ record { answer = r; output = now (out .exit) } ≡ handled s (now (b .entry)) (now (draws .entry)) (length (now (out .entry))) ⌝ }
 {
     let w = Work {
         state: s,
