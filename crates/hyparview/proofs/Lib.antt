@@ -1,4 +1,3 @@
 pub mod Laws
 pub mod Arms
-pub mod Reading
 pub mod Opening

@@ -24,6 +24,7 @@ use Rattle.protocol.specs.Handle as P
 use Rattle.protocol.specs.Handle.{start, dispatch, first-timers, steps, handle-reading}
 use Rattle.protocol.proofs.Invariant.{calm, Ok}
 use Rattle.protocol.proofs.Keeping.{ease}
+use Rattle.protocol.proofs.Reading.{readable}
 use Rattle.protocol.proofs.Bounds.{bounds, begun, ready}
 use Rattle.state.specs.declared.State.{State}
 use Rattle.state.specs.declared.Work.{Work}
@@ -39,7 +40,6 @@ use Rattle.rules.proofs.Packed.{ok-state}
 use Rattle.hyparview.specs.declared.Answer.{Answer}
 use Rattle.hyparview.specs.Begun.{Headed, ReadAs, Opens}
 use Rattle.hyparview.specs.Handled.{Outcome, cleared, refusal, ended, packed-answer, handled}
-use Rattle.hyparview.proofs.Reading.{readable}
 
 -- ---- what holds at the start
 

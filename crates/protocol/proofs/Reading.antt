@@ -62,18 +62,23 @@ short-nodes h b i (suc n) at e = (
   short-nodes h b (suc i) n _ (and-right (Rd.entry-ok h (entry-at b i) at) _ e),
 )
 
+-- a record of an event's kinds keeps them; its peer's width is that of the bytes, or of the type that it was read into
+pub readable : (b : List ℕ) → Rd.well-formed b ≡ true → header-of b .kind ≤ 8 → header-of b .nodes ≤ 32 → header-of b .peer < peers-end → Readable (rec-of b)
+unfolding rec-of Rd.well-formed
+readable b w low few narrow = record {
+  low = low;
+  narrow = narrow;
+  shorts = short-nodes (header-of b) b 0 (header-of b .nodes) (24 + 8 * header-of b .nodes)
+      (and-right (eqb (header-of b .size) (length b)) _ (and-right (Rd.header-ok (header-of b)) _ (and-right (leb 24 (length b)) _ w)));
+  few = omega (arith, length-nodes b 0 (header-of b .nodes), few);
+}
+
 -- by cases: refused with 3 or 4, or an event that keeps its promises
 pub by-reading : (b : List ℕ) → all-under 256 b ≡ true → (X : Reading → Type 0) → ((c : ℕ) → 3 ≤ c → c ≤ 4 → X (refused c)) → (Readable (rec-of b) → X (event (rec-of b))) → X (read-event b)
-unfolding read-event rec-of Rd.well-formed Rd.is-event header-of
+unfolding read-event Rd.is-event header-of
 by-reading b bytes X f g =
     by-choice X _ (λ e. f 3 (omega arith) (omega arith))
     (λ e. by-choice X (ltb 32 (getD b 3 0)) (λ i. f 4 (omega arith) (omega arith))
     (λ i. by-choice X (Rd.well-formed b && Rd.is-event (header-of b))
-    (λ w. g (record {
-      low = leb-true (getD b 0 0) 8 (and-left (leb (getD b 0 0) 8) _ (and-right (Rd.well-formed b) _ w));
-      narrow = narrow-peer b bytes;
-      shorts = short-nodes (header-of b) b 0 (getD b 3 0) (24 + 8 * getD b 3 0)
-          (and-right (eqb (header-of b .size) (length b)) _ (and-right (Rd.header-ok (header-of b)) _ (and-right (leb 24 (length b)) _ (and-left (Rd.well-formed b) _ w))));
-      few = omega (arith, length-nodes b 0 (getD b 3 0), ltb-false 32 (getD b 3 0) i);
-    }))
+    (λ w. g (readable b (and-left (Rd.well-formed b) _ w) (leb-true (getD b 0 0) 8 (and-left (leb (getD b 0 0) 8) _ (and-right (Rd.well-formed b) _ w))) (let n = ltb-false 32 (getD b 3 0) i in omega (arith, n)) (narrow-peer b bytes)))
     (λ w. f 3 (omega arith) (omega arith))))
