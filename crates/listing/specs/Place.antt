@@ -8,7 +8,7 @@ use lib.Dec.{ltb, leb}
 use Rattle.lists.specs.Lists.{choose}
 use Rattle.hyparview.specs.Handled.{handled}
 use Rattle.text.specs.declared.Text.{Text}
-use Rattle.text.specs.Text.{Puts}
+use Rattle.text.specs.Text.{Puts, Shows}
 use Rattle.input.specs.Input.{event-length}
 use Rattle.listing.specs.declared.Runner.{Runner}
 use Rattle.listing.specs.declared.Stepped.{Stepped}
@@ -36,3 +36,7 @@ pub record Steps (room : ℕ) (p : Runner) (i : ℕ) (events draws : List ℕ) (
 -- what is answered of a text of n bytes where `room` bytes are lent
 unfoldable pub fitting : ℕ → ℕ → Shown
 fitting n room = choose (leb n room) (Bytes n) TooShort
+
+-- r is the answer to the text that t and some bytes show
+pub record Answers (t : Text) (r : Shown) : Type 0 where
+  pub answers : (w out₀ out : List ℕ) → Shows w out₀ t out → r ≡ fitting (length w) (length out₀)

@@ -3,7 +3,8 @@
 use Prim.Native.Nat.{ℕ, _+_}
 use mathlib.Core.List.{List, [], _∷_, _++_}
 use mathlib.Core.Option.{none}
-use lib.ListN.{length, drop}
+use lib.ListN.{drop}
+use lib.Seq.{slice}
 use lib.Dec.{eqb}
 use Rattle.lists.specs.Lists.{choose}
 use Rattle.protocol.specs.Handle.{new}
@@ -14,7 +15,7 @@ use Rattle.hyparview.specs.Handled.{Outcome, handled}
 use Rattle.input.specs.declared.Layout.{Layout}
 use Rattle.input.specs.declared.Input.{Input}
 use Rattle.input.specs.declared.Input.the-variants.{Refused, Whole}
-use Rattle.input.specs.Input.{input-of, events-of, draws-of}
+use Rattle.input.specs.Input.{numbers, cut-events, input-of}
 use Rattle.lines.specs.Lines.{end-line, event-text}
 
 -- the lines of the i-th event
@@ -27,18 +28,19 @@ events-text room i s [] ds = []
 events-text room i s (b ∷ bs) ds =
     outcome-text i (handled s b ds room) ++ events-text room (i + 1) (handled s b ds room .answer .state) bs (drop (handled s b ds room .answer .draws) ds)
 
+-- the lines of the events that stand in b, with its draws
+unfoldable pub laid-text : ℕ → State → Layout → List ℕ → List ℕ
+laid-text room s l b = events-text room 0 s (cut-events (l .events) (slice 56 (l .«draws_at») b)) (numbers (l .draws) 0 (drop (l .«draws_at») b))
+
 -- "otherwise out-of-range settings print only `= 1 0`"
-unfoldable pub made-text : Made → List (List ℕ) → List ℕ → List ℕ
-made-text m bs ds = choose (eqb (m .code) 0) (events-text 8192 0 (m .state) bs ds) (end-line 1 0)
+unfoldable pub made-text : Made → Layout → List ℕ → List ℕ
+made-text m l b = choose (eqb (m .code) 0) (laid-text 8192 (m .state) l b) (end-line 1 0)
 
--- "Own data is absent."
-unfoldable pub layout-text : Layout → List (List ℕ) → List ℕ → List ℕ
-layout-text l bs ds = made-text (pack-made (new (l .me) none (l .config))) bs ds
-
-unfoldable pub input-text : Input → List (List ℕ) → List ℕ → List ℕ
-input-text Refused bs ds = end-line 3 0
-input-text (Whole l) bs ds = layout-text l bs ds
+-- "whose events, so cut, or draws do not exactly fill their places .. prints only `= 3 0`"; "Own data is absent."
+unfoldable pub input-text : Input → List ℕ → List ℕ
+input-text Refused b = end-line 3 0
+input-text (Whole l) b = made-text (pack-made (new (l .me) none (l .config))) l b
 
 -- what the run program prints for the input b
 unfoldable pub run-text : List ℕ → List ℕ
-run-text b = input-text (input-of b) (events-of b) (draws-of b)
+run-text b = input-text (input-of b) b

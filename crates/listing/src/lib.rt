@@ -6,13 +6,14 @@ use text::Text;
 ghost use mathlib.Core.Path.{_≡_};
 ghost use Prim.Native.Nat.{_≤_};
 ghost use lib.ListN.{length, drop};
+ghost use Rattle.io.specs.Counts.{Counts};
 ghost use Rattle.lists.specs.Bytes.{overwrite};
-ghost use Rattle.timing.specs.Timing.{in-range};
-ghost use Rattle.input.specs.Input.{cut-events};
+ghost use Rattle.input.specs.declared.Input.the-variants.{Whole};
+ghost use Rattle.input.specs.Input.{cut-events, numbers, input-of};
 ghost use Rattle.input.proofs.Laws.{Laid};
 ghost use Rattle.text.specs.Text.{Puts};
-ghost use Rattle.listing.specs.Run.{events-text, layout-text, run-text};
-ghost use Rattle.listing.specs.Place.{Inside, Steps, advanced, fitting};
+ghost use Rattle.listing.specs.Run.{events-text, laid-text, run-text};
+ghost use Rattle.listing.specs.Place.{Inside, Steps, advanced, fitting, Answers};
 
 // The place reached in a run: the state, and how far its events and its draws are.
 pub struct Runner {
@@ -101,4 +102,81 @@ fn put_events(
         r = q.text;
     }
     r
+}
+
+// The events of an input, with the numbers that stand where its draws do.
+fn put_walk(
+    s: State,
+    b: &[u8],
+    l: Layout,
+    drawn: &[u32],
+    records: &mut [u8],
+    out: &mut [u8],
+    t: Text,
+) -> Text
+    requires { ⌜ Laid (now b) l ⌝ }
+    requires { ⌜ Counts (l .draws) (now drawn) ⌝ }
+    requires { ⌜ now drawn ≡ numbers (length (now drawn)) 0 (drop (l .«draws_at») (now b)) ⌝ }
+    ensures { λ r. ⌜ Puts (laid-text (length (now (records .entry))) s l (now (b .entry))) t (now (out .entry)) r (now (out .exit)) ⌝ }
+{
+    let at = l.draws_at;
+    let n = l.draws;
+    put_events(s, l.events, &b[56..at], &drawn[..n], records, out, t)
+}
+
+// The same, with space for the draws and the output: the longest input has fewer than 16,384 draws.
+fn put_whole(s: State, b: &[u8], l: Layout, out: &mut [u8], t: Text) -> Text
+    requires { ⌜ Laid (now b) l ⌝ }
+    ensures { λ r. ⌜ Puts (laid-text 8192 s l (now (b .entry))) t (now (out .entry)) r (now (out .exit)) ⌝ }
+{
+    let mut drawn = [0u32; 16384];
+    let mut records = [0u8; 8192];
+    let at = l.draws_at;
+    input::read_numbers(&b[at..], &mut drawn);
+    put_walk(s, b, l, &drawn, &mut records, out, t)
+}
+
+// An input that is not refused: its events, or only the code of settings out of range.
+fn put_layout(b: &[u8], l: Layout, out: &mut [u8], t: Text) -> Text
+    requires { ⌜ input-of (now b) ≡ Whole l ⌝ }
+    ensures { λ r. ⌜ Puts (run-text (now (b .entry))) t (now (out .entry)) r (now (out .exit)) ⌝ }
+{
+    let config = l.config;
+    let m = rules::new(l.me, false, b"", config);
+    if m.code != 0 {
+        return lines::put_end(out, t, 1, 0);
+    }
+    let s = m.state;
+    put_whole(s, b, l, out, t)
+}
+
+// All that is printed for an input.
+fn put_run(b: &[u8], out: &mut [u8], t: Text) -> Text
+    ensures { λ r. ⌜ Puts (run-text (now (b .entry))) t (now (out .entry)) r (now (out .exit)) ⌝ }
+{
+    let i = input::read(b);
+    match i {
+        Input::Refused => lines::put_end(out, t, 3, 0),
+        Input::Whole(l) => put_layout(b, l, out, t),
+    }
+}
+
+// How much text there is.
+fn answer(t: Text) -> Shown
+    ensures { λ r. ⌜ Answers t r ⌝ }
+{
+    if t.full {
+        return Shown::TooShort;
+    }
+    Shown::Bytes(t.at)
+}
+
+// The text of a run into lent bytes: as much of it as fits, and how long it is, or that it does not fit.
+pub fn run(b: &[u8], out: &mut [u8]) -> Shown
+    ensures { λ r. ⌜ r ≡ fitting (length (run-text (now (b .entry)))) (length (now (out .entry))) ⌝ }
+    ensures { λ _. ⌜ now (out .exit) ≡ overwrite (now (out .entry)) 0 (run-text (now (b .entry))) ⌝ }
+{
+    let none = text::start();
+    let t = put_run(b, out, none);
+    answer(t)
 }
