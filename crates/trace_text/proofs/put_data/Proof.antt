@@ -1,15 +1,7 @@
-use Prim.Native.Nat.{ℕ, _≤_}
-use mathlib.Core.Path.{_≡_, sym}
-use mathlib.Core.List.{List}
-use lib.ListN.{length, take}
-use lib.Seq.{length-take-le}
+use Rattle.trace_text.proofs.Laws.{counted}
 use borrow.Author.Needs.{needs}
 use Rattle.trace_text.proofs.put_data.Statement.{statement}
 use Rattle.trace_text.proofs.put_data.Tie as tie
-
--- a part from the front has as many bytes as it is asked to have
-counted : (k : ℕ) (l : List ℕ) → k ≤ length l → k ≡ length (take k l)
-counted k l h = sym (length-take-le k l h)
 
 least-requires : tie.Need-least-requires
 least-requires c κs = search needs
