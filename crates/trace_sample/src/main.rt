@@ -3,12 +3,6 @@
 use replay::Start;
 ghost use Prim.Native.Nat.{_≤_};
 
-fn least(a: usize, b: usize) -> usize
-    ensures { λ r. ⌜ (r ≤ a) × (r ≤ b) ⌝ }
-{
-    if a < b { a } else { b }
-}
-
 // The number of 8 bytes whose lower half is the i-th number of 4.
 fn wide(head: &[u8], i: usize) -> u64
     requires { ⌜ i ≤ 100 ⌝ }
@@ -39,14 +33,17 @@ fn show(bytes: &mut [u8], start: Start) -> bool {
     true
 }
 
-// The next history of standard input; false where there is none.
+// The next history of standard input; false where there is none, or a longer one than any input.
 fn next(head: &mut [u8], bytes: &mut [u8]) -> bool {
     let n = io::read_full(0, head);
     if n < head.len() {
         return false;
     }
     let start = start_of(head);
-    let size = least(input::number(head, 0) as usize, bytes.len());
+    let size = input::number(head, 0) as usize;
+    if bytes.len() < size {
+        return false;
+    }
     show(&mut bytes[..size], start)
 }
 

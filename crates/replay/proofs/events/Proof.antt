@@ -1,6 +1,6 @@
 use Rattle.replay.specs.Reached.{Inside}
 use borrow.Author.Needs.{needs}
-use Prim.Native.Nat.{_≤_, _-_}
+use Prim.Native.Nat.{_-_}
 use mathlib.Core.Path.{_≡_}
 use lib.ListN.{length}
 use Rattle.replay.proofs.events.Statement.{statement}

@@ -18,11 +18,14 @@ start-of-requires c κs = search needs
 number-requires : tie.Need-number-requires
 number-requires c κs = search needs
 
-cast-least : tie.Need-cast-least
-cast-least c = search needs
+cast-size : tie.Need-cast-size
+cast-size c = search needs
 
-least-requires : tie.Need-least-requires
-least-requires c κs = search needs
+same-length-2 : tie.Need-same-length-2
+same-length-2 c = search needs
+
+returns-2 : tie.Need-returns-2
+returns-2 c = search needs
 
 slice-relend-prefix-show : tie.Need-slice-relend-prefix-show
 slice-relend-prefix-show c = search needs
@@ -33,14 +36,14 @@ slice-aggregate-show c = search (counted, needs)
 show-requires : tie.Need-show-requires
 show-requires c κs = search needs
 
-same-length-2 : tie.Need-same-length-2
-same-length-2 c = search needs
-
 same-length-3 : tie.Need-same-length-3
 same-length-3 c = search needs
 
-returns-2 : tie.Need-returns-2
-returns-2 c = search needs
+same-length-4 : tie.Need-same-length-4
+same-length-4 c = search needs
+
+returns-3 : tie.Need-returns-3
+returns-3 c = search needs
 
 pub next-spec : {M : Type 1} → statement M
 next-spec =
@@ -51,11 +54,12 @@ next-spec =
     returns
     start-of-requires
     number-requires
-    cast-least
-    least-requires
+    cast-size
+    same-length-2
+    returns-2
     slice-relend-prefix-show
     slice-aggregate-show
     show-requires
-    same-length-2
     same-length-3
-    returns-2)
+    same-length-4
+    returns-3)
