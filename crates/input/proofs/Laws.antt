@@ -3,17 +3,16 @@
 use Prim.Native.Nat.{ℕ, zero, suc, _+_, _*_, _-_, _/_, _≤_, _<_}
 use mathlib.Core.Path.{_≡_, refl, sym, ap, subst, _∙_}
 use mathlib.Core.Bool.{Bool, true, false, _&&_}
-use mathlib.Core.List.{List, [], _∷_}
+use mathlib.Core.List.{List, _∷_}
 use native.Mathlib.Nat.{add-zero, add-suc, suc-add, not-suc-le-zero, le-of-suc-le-suc}
 use native.Mathlib.Omega.{arith}
-use lib.ListN.{length, getD, drop, length-drop}
-use lib.Seq.{slice, length-slice}
+use lib.ListN.{length, getD, take, drop}
+use lib.Seq.{slice}
 use lib.Dec.{leb, eqb}
 use borrow.Author.Tests.{leb-true, le-leb, lt-leb, eqb-true, eq-eqb, ne-eqb}
-use Rattle.lists.specs.Lists.{choose}
 use Rattle.lists.specs.Bytes.{read-le}
-use Rattle.lists.proofs.Choice.{by-choice, split, choose-yes, choose-no, and-left, and-right}
-use Rattle.input.specs.Input.{number, numbers, event-length, are-events, places-ok, events-part, events-ok, layout-of, input-of}
+use Rattle.lists.proofs.Choice.{by-choice, split, clash, choose-yes, choose-no, and-left, and-right}
+use Rattle.input.specs.Input.{number, numbers, event-length, are-events, cut-events, places-ok, events-part, events-ok, layout-of, input-of}
 use Rattle.input.specs.declared.Layout.{Layout}
 use Rattle.input.specs.declared.Input.{Input}
 use Rattle.input.specs.declared.Input.the-variants.{Refused, Whole}
@@ -52,13 +51,6 @@ module _ (l : List ℕ) where
   unfolding event-length
   event-cut p q = choose-yes (leb 24 (read-le 2 l 14) && leb (read-le 2 l 14) (length l)) _ _ (rw (le-leb _ _ p, le-leb _ _ q))
 
-  pub event-within : event-length l ≤ length l
-  unfolding event-length
-  event-within =
-      let low : Bool = leb 24 (read-le 2 l 14) in
-      let most : Bool = leb (read-le 2 l 14) (length l) in
-      by-choice (λ (x : ℕ). x ≤ length l) (low && most) (λ e. leb-true _ _ (and-right low most e)) (λ e. omega arith)
-
 -- where there is no event at the front
 pub none-first : (k : ℕ) (l : List ℕ) → 0 < k → event-length l ≡ 0 → are-events k l ≡ false
 unfolding are-events
@@ -70,6 +62,15 @@ pub one-first : (k : ℕ) (l : List ℕ) → 0 < k → (event-length l ≡ 0 →
 unfolding are-events
 one-first zero l h e = absurd (omega arith)
 one-first (suc k) l h e = let q : suc k - 1 ≡ k = omega arith in rw (ne-eqb _ _ e, q)
+
+-- events that are left begin with one, and go on with those after it
+pub first-event : (k : ℕ) (l : List ℕ) → 0 < k → are-events k l ≡ true → event-length l ≡ 0 → ⊥
+first-event k l h e z = clash (are-events k l) e (none-first k l h z)
+
+pub cut-first : (k : ℕ) (l : List ℕ) → 0 < k → cut-events k l ≡ take (event-length l) l ∷ cut-events (k - 1) (drop (event-length l) l)
+unfolding cut-events
+cut-first zero l h = absurd (omega arith)
+cut-first (suc k) l h = let q : suc k - 1 ≡ k = omega arith in rw q
 
 -- where the parts of an input stand
 pub record Places (b : List ℕ) : Type 0 where

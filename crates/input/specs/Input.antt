@@ -2,11 +2,11 @@
 -- 14 numbers of 4 bytes (self, nine settings, event count, event offset, draw count, draw offset), events, draws, without gaps.
 -- Assumes nothing.
 use Prim.Native.Nat.{ℕ, zero, suc, _+_, _*_}
-use mathlib.Core.Bool.{Bool, true, false, not, _&&_}
+use mathlib.Core.Bool.{Bool, not, _&&_}
 use mathlib.Core.List.{List, [], _∷_}
 use lib.ListN.{length, take, drop}
 use lib.Seq.{slice}
-use lib.Dec.{leb, ltb, eqb}
+use lib.Dec.{leb, eqb}
 use Rattle.lists.specs.Lists.{choose, null}
 use Rattle.lists.specs.Bytes.{read-le}
 use Rattle.record.specs.Format.{header-length}

@@ -8,7 +8,7 @@ use Rattle.lists.specs.Bytes.{read-le}
 use Rattle.record.specs.declared.Header.{Header}
 use Rattle.record.specs.Read.{header-of}
 use Rattle.input.specs.Input.{event-length}
-use Rattle.input.proofs.Laws.{event-none, event-cut, event-within}
+use Rattle.input.proofs.Laws.{event-none, event-cut}
 use borrow.Author.Needs.{needs}
 use Rattle.input.proofs.event_length.Statement.{statement}
 use Rattle.input.proofs.event_length.Tie as tie

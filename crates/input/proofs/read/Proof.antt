@@ -3,13 +3,11 @@ use mathlib.Core.Path.{_≡_, sym, ap, _∙_}
 use mathlib.Core.Bool.{Bool, true, false, _&&_}
 use mathlib.Core.List.{List}
 use borrow.Author.Needs.{needs}
-use Rattle.lists.specs.Lists.{choose}
 use Rattle.lists.proofs.Choice.{choose-yes, choose-no}
 use Rattle.lists.proofs.Tests.{both-true, and-no}
 use Rattle.timing.specs.declared.Config.{Config}
 use Rattle.input.specs.Input.{number, config-of, places-ok, events-ok, layout-of, input-of}
 use Rattle.input.specs.declared.Layout.{Layout}
-use Rattle.input.specs.declared.Input.{Input}
 use Rattle.input.specs.declared.Input.the-variants.{Refused, Whole}
 use Rattle.input.proofs.read.Statement.{statement}
 use Rattle.input.proofs.read.Tie as tie

@@ -1,0 +1,52 @@
+use Rattle.replay.specs.Reached.{Inside}
+use borrow.Author.Needs.{needs}
+use Prim.Native.Nat.{_-_}
+use mathlib.Core.Path.{_≡_}
+use lib.ListN.{length}
+use Rattle.replay.proofs.events.Statement.{statement}
+use Rattle.replay.proofs.events.Tie as tie
+
+abbrev Inv-loop : tie.InvT-loop
+Inv-loop b n draws out₀ text₀ p₀ left₀ out text p left = (length out ≡ length out₀) × (length text ≡ length text₀) × Inside p (length b) (length draws)
+
+abbrev μ-loop : tie.MeasureT-loop
+μ-loop b n draws out₀ text₀ p₀ left₀ out text p left = left
+
+loop-holds : tie.Need-loop-holds Inv-loop μ-loop
+loop-holds c = search needs
+
+step-requires : tie.Need-step-requires Inv-loop μ-loop
+step-requires c κs = search needs
+
+sub-left : tie.Need-sub-left Inv-loop μ-loop
+sub-left c = search needs
+
+loop-less : tie.Need-loop-less Inv-loop μ-loop
+loop-less c = search needs
+
+loop-again : tie.Need-loop-again Inv-loop μ-loop
+loop-again c = search needs
+
+same-length : tie.Need-same-length Inv-loop μ-loop
+same-length c = search needs
+
+same-length-2 : tie.Need-same-length-2 Inv-loop μ-loop
+same-length-2 c = search needs
+
+returns : tie.Need-returns Inv-loop μ-loop
+returns c = search needs
+
+pub events-spec : {M : Type 1} → statement M
+events-spec =
+    tie.close
+    (tie.spec
+    Inv-loop
+    μ-loop
+    loop-holds
+    step-requires
+    sub-left
+    loop-less
+    loop-again
+    same-length
+    same-length-2
+    returns)

@@ -1,0 +1,66 @@
+// Standard input holds histories one after another; standard output gets their traces, each ended by an empty line.
+// A history is a head of 32 bytes and then its input. The head has the input's length and the room (4 bytes each), the next request and the next join (8 each), and the two pass counts (4 each).
+use replay::Start;
+ghost use Prim.Native.Nat.{_≤_};
+
+// The number of 8 bytes whose lower half is the i-th number of 4.
+fn wide(head: &[u8], i: usize) -> u64
+    requires { ⌜ i ≤ 100 ⌝ }
+{
+    let low = input::number(head, i) as u64;
+    let high = input::number(head, i + 1) as u64;
+    low + 4294967296 * high
+}
+
+fn start_of(head: &[u8]) -> Start {
+    Start {
+        room: input::number(head, 1) as usize,
+        next_neighbor_request: wide(head, 2),
+        next_join: wide(head, 4),
+        passes_alone: input::number(head, 6),
+        passes_short: input::number(head, 7),
+    }
+}
+
+// One history, whose input is as long as the lent bytes; false where standard input has not so many.
+fn show(bytes: &mut [u8], start: Start) -> bool {
+    let n = io::read_full(0, bytes);
+    if n < bytes.len() {
+        return false;
+    }
+    replay::history(bytes, start);
+    io::write_all(1, b"\n");
+    true
+}
+
+// The next history of standard input; false where there is none, or a longer one than any input.
+fn next(head: &mut [u8], bytes: &mut [u8]) -> bool {
+    let n = io::read_full(0, head);
+    if n < head.len() {
+        return false;
+    }
+    let start = start_of(head);
+    let size = input::number(head, 0) as usize;
+    if bytes.len() < size {
+        return false;
+    }
+    show(&mut bytes[..size], start)
+}
+
+// More histories than any sample has: a program ends.
+const MOST_HISTORIES: usize = 1000000;
+
+fn main() {
+    let mut space = [0u8; 32];
+    let head: &mut [u8] = &mut space;
+    let mut buffer = [0u8; 65537];
+    let bytes: &mut [u8] = &mut buffer;
+    let mut left = MOST_HISTORIES;
+    while left > 0 {
+        if next(head, bytes) {
+            left -= 1;
+        } else {
+            return;
+        }
+    }
+}

@@ -1,0 +1,24 @@
+use Rattle.trace_text.proofs.Laws.{counted}
+use borrow.Author.Needs.{needs}
+use Rattle.trace_text.proofs.put_data.Statement.{statement}
+use Rattle.trace_text.proofs.put_data.Tie as tie
+
+least-requires : tie.Need-least-requires
+least-requires c κs = search needs
+
+slice-aggregate-put-hex : tie.Need-slice-aggregate-put-hex
+slice-aggregate-put-hex c = search (counted, needs)
+
+put-hex-requires : tie.Need-put-hex-requires
+put-hex-requires c κs = search needs
+
+same-length : tie.Need-same-length
+same-length c = search needs
+
+returns : tie.Need-returns
+returns c = search needs
+
+pub put-data-spec : {M : Type 1} → statement M
+put-data-spec =
+    tie.close
+    (tie.spec least-requires slice-aggregate-put-hex put-hex-requires same-length returns)
