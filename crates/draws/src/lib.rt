@@ -1,8 +1,8 @@
 // 01, "Random choices": the draw list together with the place reached in it. Each function over the struct takes it apart
 // and leaves the work to one that takes a plain slice and a number.
 ghost use mathlib.Core.Path.{_≡_};
-ghost use lib.ListN.{length, drop};
-ghost use Rattle.draws.specs.Place.{left, next, past, begun, moved, drawn};
+ghost use lib.ListN.{drop};
+ghost use Rattle.draws.specs.Place.{left, next, next-answer, past, begun, moved, DrawnFrom};
 
 pub struct Draws<'a> {
     pub list: &'a [u32],
@@ -12,7 +12,7 @@ pub struct Draws<'a> {
 // One draw, or that none is left.
 pub enum Next {
     Draw(u32),
-    Nothing,
+    OutOfDraws,
 }
 
 // One draw and the list with its place moved on.
@@ -33,12 +33,12 @@ pub fn left_at(list: &[u32], at: usize) -> usize
 
 // The draw at a place.
 pub fn next_at(list: &[u32], at: usize) -> Next
-    ensures { λ r. ⌜ r ≡ next (now (list .entry)) at ⌝ }
+    ensures { λ r. ⌜ next-answer r ≡ next (now (list .entry)) at ⌝ }
 {
     if at < list.len() {
         return Next::Draw(list[at]);
     }
-    Next::Nothing
+    Next::OutOfDraws
 }
 
 // The place n draws further on, never past the end.
@@ -93,7 +93,7 @@ impl<'a> Draws<'a> {
     }
 
     pub fn next(self) -> Drawn<'a>
-        ensures { λ r. ⌜ r ≡ drawn (self .entry) ⌝ }
+        ensures { λ r. ⌜ DrawnFrom r (self .entry) ⌝ }
     {
         Drawn {
             draw: next_at(self.list, self.at),

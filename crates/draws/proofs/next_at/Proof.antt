@@ -5,17 +5,17 @@ use lib.ListN.{length, getD}
 use borrow.Author.Needs.{needs}
 use borrow.Author.Tests.{lt-ltb, le-ltb}
 use Rattle.lists.specs.Lists.{choose}
-use Rattle.draws.specs.Place.{next}
-use Rattle.draws.specs.declared.Next.the-variants.{Draw, Nothing}
+use Rattle.draws.specs.Place.{next, next-answer}
+use Rattle.draws.specs.declared.Next.the-variants.{Draw, OutOfDraws}
 use Rattle.draws.proofs.next_at.Statement.{statement}
 use Rattle.draws.proofs.next_at.Tie as tie
 
-here : (l : List ℕ) (at : ℕ) → at < length l → Draw (getD l at 0) ≡ next l at
-unfolding next choose
+here : (l : List ℕ) (at : ℕ) → at < length l → next-answer (Draw (getD l at 0)) ≡ next l at
+unfolding next next-answer choose
 here l at h = rw (lt-ltb at (length l) h)
 
-none : (l : List ℕ) (at : ℕ) → length l ≤ at → Nothing ≡ next l at
-unfolding next choose
+none : (l : List ℕ) (at : ℕ) → length l ≤ at → next-answer OutOfDraws ≡ next l at
+unfolding next next-answer choose
 none l at h = rw (le-ltb at (length l) h)
 
 mul-t5 : tie.Need-mul-t5

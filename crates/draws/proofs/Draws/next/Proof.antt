@@ -40,7 +40,7 @@ use denote.Triple.Spec.{Meets, tripleOf}
 use denote.Triple.Table.{entered, cited}
 use denote.Triple.Walked.{says, Stays, stay-none, walkOf, goes-none, Walks, ends-at, walked, walk-meets}
 use denote.Exit.{yes}
-use Rattle.draws.specs.Place.{next, moved}
+use Rattle.draws.specs.Place.{next, next-answer, moved}
 use Rattle.draws.specs.declared.Draws.{Draws}
 use Rattle.draws.specs.declared.Drawn.{Drawn}
 use Rattle.draws.specs.declared.Next.{Next}
@@ -94,7 +94,7 @@ module _ {M : Type 1} (𝓤 : URA M) (H : Heap 𝓤) (A : Atoms 𝓤) (W : Given
 
   -- what the callees' contracts say of their results
   abbrev Found : Next → Type 0
-  Found r = r ≡ next (now (d .list)) (d .at)
+  Found r = next-answer r ≡ next (now (d .list)) (d .at)
 
   abbrev Moved : Draws → Type 0
   Moved t = t ≡ moved d 1
@@ -147,7 +147,7 @@ module _ {M : Type 1} (𝓤 : URA M) (H : Heap 𝓤) (A : Atoms 𝓤) (W : Given
   exits : (r : Next) (t : Draws) → Is S.the-row r (draw-val r ∷ []) → Found r → Moved t → ent 𝓤 (⋆ 𝓤 H A (‵ (Own κ t) ∷ (‵ (flft κ q) ⊛ ‵ ftrue) ∷ ‵ (Own κ d) ∷ [])) (Post (made-val r t))
   exits r t is e e′ =
       qed W (‵ (Own κ t) ∷ (‵ (flft κ q) ⊛ ‵ ftrue) ∷ ‵ (Own κ d) ∷ []) ∵
-      suffices ! _ (ends-at 𝓤 H A f.ended stayed (f.clauses 𝓤 H A mem run) W (((κ, tt), (q, tt), tt, (d, tt), (mach ∷ [], tt)), tt) (made-val r t) (made r t) (tt, tt) (tt, tt)) $ says ! (λ i. made (e i) (e′ i)) $
+      suffices ! _ (ends-at 𝓤 H A f.ended stayed (f.clauses 𝓤 H A mem run) W (((κ, tt), (q, tt), tt, (d, tt), (mach ∷ [], tt)), tt) (made-val r t) (made r t) (tt, tt) (tt, tt)) $ says ! (record { draw = e; rest = e′ }) $
       move ! (1 ∷ []) $ frame ! $ nothing ! $ move ! (2 ∷ 0 ∷ []) $ fjoin ! $ frame ! $
       -- [what the moved one owns]: with the draw's facts before it, what the whole result owns
       nothing ! $ move ! (1 ∷ 0 ∷ []) $ fjoin ! $ owned ! S.the-row (Is S.the-row) (EL.makes S.the-type S′.the-plain 𝓤 H A) r _ is $ fjoin ! $ by ! (own-shut 𝓤 H A W (N.the-type α) (N′.the-laws α) (r, (t, tt)))
