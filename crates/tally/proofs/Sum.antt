@@ -1,0 +1,95 @@
+-- The tally and the ledger count the same messages.
+-- Assumes nothing.
+use Prim.Native.Nat.{ℕ, zero, suc, _+_, _≤_, _<_}
+use mathlib.Core.Path.{_≡_, refl, _∙_}
+use mathlib.Core.Bool.{Bool, true, false}
+use mathlib.Core.List.{List}
+use native.Mathlib.Omega.{arith}
+use lib.ListN.{length, drop}
+use lib.Dec.{ltb, eqb}
+use borrow.Author.Tests.{lt-ltb, ltb-true}
+use Rattle.lists.specs.Lists.{choose}
+use Rattle.lists.proofs.Choice.{by-choice, split, and-left, and-right}
+use Rattle.history.specs.Ledger.{Ledger, kind-in, message-in, peer-in, whole-length, count-message, note-up, note-down, read-records, open-event, feed}
+use Rattle.history.specs.Ledger.{enter as book}
+use Rattle.tally.specs.declared.Tally.{Tally}
+use Rattle.tally.specs.Counts.{top, counted, raise-one, enter, raise-records, raised}
+use Rattle.tally.specs.Sum.{total, has-count, all-have}
+
+rises : (n : ℕ) → n < top → counted true n ≡ n + 1
+unfolding counted choose
+rises n h = rw (lt-ltb n top h)
+
+one-more : (m : ℕ) (t : Tally) → m < 6 → total t < top → total (raise-one m t) ≡ total t + 1
+unfolding total raise-one counted choose
+one-more zero t h f = omega (arith, rises (t .join) (omega arith))
+one-more (suc zero) t h f = omega (arith, rises (t .«forward_join») (omega arith))
+one-more (suc (suc zero)) t h f = omega (arith, rises (t .shuffle) (omega arith))
+one-more (suc (suc (suc zero))) t h f = omega (arith, rises (t .«shuffle_reply») (omega arith))
+one-more (suc (suc (suc (suc zero)))) t h f = omega (arith, rises (t .neighbor) (omega arith))
+one-more (suc (suc (suc (suc (suc zero))))) t h f = omega (arith, rises (t .disconnect) (omega arith))
+one-more (suc (suc (suc (suc (suc (suc m)))))) t h f = absurd (omega arith)
+
+-- a record in the book: one message more where its kind is 0
+booked : (k p : ℕ) (l : Ledger) → book k p l .sent ≡ choose (eqb k 0) (l .sent + 1) (l .sent)
+unfolding book count-message note-up note-down choose
+booked k p l =
+    split (eqb k 0) (λ e. rw e) (λ e. rw e
+    (by-choice (λ (x : Ledger). x .sent ≡ l .sent) (eqb k 9) (λ _. refl) (λ _.
+    by-choice (λ (x : Ledger). x .sent ≡ l .sent) (eqb k 10) (λ _. refl) (λ _. refl))))
+
+-- the book's count does not fall
+kept : (k p : ℕ) (l : Ledger) → l .sent ≤ book k p l .sent
+kept k p l = rw booked (by-choice (λ (x : ℕ). l .sent ≤ x) (eqb k 0) (λ _. omega arith) (λ _. omega arith))
+
+never-less : (n : ℕ) (b : List ℕ) (l : Ledger) → l .sent ≤ read-records n b l .sent
+unfolding read-records
+never-less zero b l = omega arith
+never-less (suc n) b l =
+    by-choice (λ (x : Ledger). l .sent ≤ x .sent) (ltb (length b) 24) (λ _. omega arith) (λ _.
+    by-choice (λ (x : Ledger). l .sent ≤ x .sent) (eqb (whole-length b) 0) (λ _. omega arith) (λ _.
+    omega (arith, kept (kind-in b) (peer-in b) l, never-less n (drop (whole-length b) b) (book (kind-in b) (peer-in b) l))))
+
+-- one record raises both by as much
+entered : (b : List ℕ) (t : Tally) (l : Ledger) → has-count b ≡ true → total t + book (kind-in b) (peer-in b) l .sent ≤ l .sent + top
+    → total (enter (kind-in b) (message-in b) t) + l .sent ≡ total t + book (kind-in b) (peer-in b) l .sent
+unfolding has-count enter choose
+entered b t l h w =
+    split (eqb (kind-in b) 0)
+    (λ e.
+    let q : book (kind-in b) (peer-in b) l .sent ≡ l .sent + 1 = booked (kind-in b) (peer-in b) l ∙ rw e in
+    rw (e, q) (omega (arith, one-more (message-in b) t (ltb-true (message-in b) 6 (rw e at h)) (omega (arith, q)))))
+    (λ e.
+    let q : book (kind-in b) (peer-in b) l .sent ≡ l .sent = booked (kind-in b) (peer-in b) l ∙ rw e in
+    rw (e, q) refl)
+
+-- where the walk stops
+stops : (x y z : Bool) (t r : Tally) (l s : Ledger) → choose x true (choose y true z) ≡ true → total t + choose x l (choose y l s) .sent ≤ l .sent + top
+    → (z ≡ true → total t + s .sent ≤ l .sent + top → total r + l .sent ≡ total t + s .sent)
+    → total (choose x t (choose y t r)) + l .sent ≡ total t + choose x l (choose y l s) .sent
+unfolding choose
+stops true y z t r l s h w f = refl
+stops false true z t r l s h w f = refl
+stops false false z t r l s h w f = f h w
+
+agrees : (n : ℕ) (b : List ℕ) (t : Tally) (l : Ledger) → all-have n b ≡ true → total t + read-records n b l .sent ≤ l .sent + top
+    → total (raise-records n b t) + l .sent ≡ total t + read-records n b l .sent
+unfolding all-have raise-records read-records
+agrees zero b t l h w = refl
+agrees (suc n) b t l h w =
+    let c : List ℕ = drop (whole-length b) b in
+    let s : Ledger = book (kind-in b) (peer-in b) l in
+    let r : Tally = enter (kind-in b) (message-in b) t in
+    stops (ltb (length b) 24) (eqb (whole-length b) 0) _ t (raise-records n c r) l (read-records n c s) h w (λ z v.
+    let e : total r + l .sent ≡ total t + s .sent = entered b t l (and-left (has-count b) _ z) (omega (arith, v, never-less n c s)) in
+    omega (arith, e, agrees n c r s (and-right (has-count b) _ z) (omega (arith, e, v))))
+
+-- After an event, accepted or refused, the six counts together have risen by the messages that the ledger counted, where none was at its top
+-- and every message has a count.
+pub sum-agrees : (a code : ℕ) (b out : List ℕ) (t : Tally) (l : Ledger) → all-have (length out) out ≡ true → total t + feed a b code out l .sent ≤ l .sent + top
+    → total (raised code out t) + l .sent ≡ total t + feed a b code out l .sent
+unfolding raised feed open-event choose
+sum-agrees a code b out t l h w =
+    split (eqb code 0)
+    (λ e. rw e (agrees (length out) out t (open-event a b l) h (rw e at w)))
+    (λ e. rw e refl)

@@ -1,0 +1,45 @@
+-- The tally of document 01: "It counts the messages sent, one count for each value of byte 1."
+-- Assumes nothing.
+use Prim.Native.Nat.{ℕ, zero, suc, _+_}
+use mathlib.Core.Bool.{Bool}
+use mathlib.Core.List.{List}
+use lib.ListN.{length, drop}
+use lib.Dec.{ltb, eqb}
+use Rattle.lists.specs.Lists.{choose}
+use Rattle.record.specs.Format.{header-length}
+use Rattle.history.specs.Ledger.{kind-in, message-in, whole-length}
+use Rattle.tally.specs.declared.Tally.{Tally}
+
+-- 2^64 - 1
+abbrev pub top : ℕ
+top = 18446744073709551615
+
+-- one more where the test holds; "a count at 2^64 - 1 stays there"
+unfoldable pub counted : Bool → ℕ → ℕ
+counted test n = choose test (choose (ltb n top) (n + 1) n) n
+
+-- a message with m in byte 1
+unfoldable pub raise-one : ℕ → Tally → Tally
+raise-one m t = record {
+  join = counted (eqb m 0) (t .join);
+  «forward_join» = counted (eqb m 1) (t .«forward_join»);
+  shuffle = counted (eqb m 2) (t .shuffle);
+  «shuffle_reply» = counted (eqb m 3) (t .«shuffle_reply»);
+  neighbor = counted (eqb m 4) (t .neighbor);
+  disconnect = counted (eqb m 5) (t .disconnect);
+}
+
+-- a record of kind k with m in byte 1
+unfoldable pub enter : ℕ → ℕ → Tally → Tally
+enter k m t = choose (eqb k 0) (raise-one m t) t
+
+-- the records of an output, taken as the ledger takes them (`read-records`)
+unfoldable pub raise-records : ℕ → List ℕ → Tally → Tally
+raise-records zero b t = t
+raise-records (suc n) b t =
+    choose (ltb (length b) header-length) t
+    (choose (eqb (whole-length b) 0) t (raise-records n (drop (whole-length b) b) (enter (kind-in b) (message-in b) t)))
+
+-- "raised once an event is accepted; .. a refusal changes none"
+unfoldable pub raised : ℕ → List ℕ → Tally → Tally
+raised code out t = choose (eqb code 0) (raise-records (length out) out t) t

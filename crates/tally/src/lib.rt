@@ -1,0 +1,82 @@
+// The tally of 01, "What the Rust does that needs another form": the messages sent, by kind.
+use record::Header;
+ghost use mathlib.Core.Path.{_≡_};
+ghost use Rattle.tally.specs.Counts.{counted, raise-one, enter, raised};
+
+// One count for each value of byte 1.
+pub struct Tally {
+    pub join: u64,
+    pub forward_join: u64,
+    pub shuffle: u64,
+    pub shuffle_reply: u64,
+    pub neighbor: u64,
+    pub disconnect: u64,
+}
+
+// One more where the test holds; a count at 2^64 - 1 stays there.
+fn counted(test: bool, n: u64) -> u64
+    ensures { λ r. ⌜ r ≡ counted test n ⌝ }
+{
+    if test {
+        if n < 18446744073709551615 {
+            return n + 1;
+        }
+        return n;
+    }
+    n
+}
+
+// One message more, of the kind that its byte 1 says.
+fn raise_one(t: Tally, message: u8) -> Tally
+    ensures { λ r. ⌜ r ≡ raise-one message t ⌝ }
+{
+    Tally {
+        join: counted(message == 0, t.join),
+        forward_join: counted(message == 1, t.forward_join),
+        shuffle: counted(message == 2, t.shuffle),
+        shuffle_reply: counted(message == 3, t.shuffle_reply),
+        neighbor: counted(message == 4, t.neighbor),
+        disconnect: counted(message == 5, t.disconnect),
+    }
+}
+
+// One record of the output: only kind 0 is a message.
+fn enter(t: Tally, h: Header) -> Tally
+    ensures { λ r. ⌜ r ≡ enter (h .kind) (h .message) t ⌝ }
+{
+    if h.kind == 0 {
+        return raise_one(t, h.message);
+    }
+    t
+}
+
+// The tally after an event with this code and this output.
+pub fn raised(t: Tally, code: u32, out: &[u8]) -> Tally
+    ensures { λ r. ⌜ r ≡ raised code (now (out .entry)) t ⌝ }
+{
+    if code != 0 {
+        return t;
+    }
+    let mut r = t;
+    let mut rest = out;
+    while 24 <= rest.len() {
+        let h = record::read_header(rest);
+        let n = h.size as usize;
+        if n == 0 {
+            return r;
+        }
+        r = enter(r, h);
+        if rest.len() < n {
+            return r;
+        }
+        rest = &rest[n..];
+    }
+    r
+}
+
+// The lent tally becomes what it is after that event.
+pub fn raise(t: &mut Tally, code: u32, out: &[u8])
+    ensures { λ _. ⌜ now (t .exit) ≡ raised code (now (out .entry)) (now (t .entry)) ⌝ }
+{
+    *t = raised(*t, code, out);
+}
