@@ -1,7 +1,7 @@
 use borrow.Author.Needs.{needs}
 use Rattle.protocol.specs.Messages.{answers-shuffle}
-use Rattle.messages.proofs.answers_shuffle.Statement.{statement}
-use Rattle.messages.proofs.answers_shuffle.Tie as tie
+use Rattle.shuffling.proofs.answers_shuffle.Statement.{statement}
+use Rattle.shuffling.proofs.answers_shuffle.Tie as tie
 
 expired-requires : tie.Need-expired-requires
 expired-requires c κs = search needs

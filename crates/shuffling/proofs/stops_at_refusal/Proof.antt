@@ -1,7 +1,7 @@
 use borrow.Author.Needs.{needs}
 use Rattle.protocol.specs.Messages.{stops-at-refusal}
-use Rattle.messages.proofs.stops_at_refusal.Statement.{statement}
-use Rattle.messages.proofs.stops_at_refusal.Tie as tie
+use Rattle.shuffling.proofs.stops_at_refusal.Statement.{statement}
+use Rattle.shuffling.proofs.stops_at_refusal.Tie as tie
 
 is-requested-requires : tie.Need-is-requested-requires
 is-requested-requires c κs = search needs

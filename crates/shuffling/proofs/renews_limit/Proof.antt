@@ -1,8 +1,8 @@
 use borrow.Author.Needs.{needs}
 use Rattle.protocol.specs.Messages.{renews-limit}
 use Rattle.state.specs.Unpack.{unpack}
-use Rattle.messages.proofs.renews_limit.Statement.{statement}
-use Rattle.messages.proofs.renews_limit.Tie as tie
+use Rattle.shuffling.proofs.renews_limit.Statement.{statement}
+use Rattle.shuffling.proofs.renews_limit.Tie as tie
 
 is-requested-requires : tie.Need-is-requested-requires
 is-requested-requires c κs = search needs

@@ -1,8 +1,8 @@
 use borrow.Author.Needs.{needs}
 use Rattle.state.proofs.Access.{of-packed}
-use Rattle.messages.proofs.Laws.{shuffle-answered, shuffle-forwarded}
-use Rattle.messages.proofs.on_shuffle.Statement.{statement}
-use Rattle.messages.proofs.on_shuffle.Tie as tie
+use Rattle.shuffling.proofs.Laws.{shuffle-answered, shuffle-forwarded}
+use Rattle.shuffling.proofs.on_shuffle.Statement.{statement}
+use Rattle.shuffling.proofs.on_shuffle.Tie as tie
 
 answers-shuffle-requires : tie.Need-answers-shuffle-requires
 answers-shuffle-requires c κs = search needs

@@ -1,6 +1,6 @@
 -- The nodes of t, and those to come, are the answer. The measure is what is left.
 use Prim.Native.Nat.{ℕ, _+_, _-_, _≤_, _<_}
-use mathlib.Core.Path.{_≡_, refl, sym, ap, _∙_}
+use mathlib.Core.Path.{_≡_, sym, ap, _∙_}
 use mathlib.Core.Bool.{true}
 use mathlib.Core.List.{List, [], _∷_, _++_, append-nil}
 use native.Mathlib.Omega.{arith}
@@ -14,10 +14,10 @@ use Rattle.record.specs.Answers.{HoldsNode}
 use Rattle.writer.specs.declared.Nodes.{Nodes}
 use Rattle.writer.specs.Nodes.{nodes-in, ValidNodes, HoldsNodes}
 use Rattle.writer.proofs.Ways.{length-nodes}
-use Rattle.messages.proofs.Nodes.{nodes-from, nodes-start, nodes-end, few-nodes}
+use Rattle.shuffling.proofs.Nodes.{nodes-from, nodes-start, nodes-end, few-nodes}
 use borrow.Author.Needs.{needs}
-use Rattle.messages.proofs.event_nodes.Statement.{statement}
-use Rattle.messages.proofs.event_nodes.Tie as tie
+use Rattle.shuffling.proofs.event_nodes.Statement.{statement}
+use Rattle.shuffling.proofs.event_nodes.Tie as tie
 
 record Naming (b : List ℕ) (n : ℕ) (t : Nodes) (i : ℕ) : Type 0 where
   valid : ValidNodes t

@@ -1,8 +1,8 @@
 use native.Mathlib.Omega.{arith}
 use borrow.Author.Needs.{needs}
-use Rattle.messages.proofs.Laws.{held-few, held-push}
-use Rattle.messages.proofs.two.Statement.{statement}
-use Rattle.messages.proofs.two.Tie as tie
+use Rattle.refill.proofs.Asking.{held-few, held-push}
+use Rattle.shuffling.proofs.two.Statement.{statement}
+use Rattle.shuffling.proofs.two.Tie as tie
 
 one-requires : tie.Need-one-requires
 one-requires c κs = search needs

@@ -1,8 +1,8 @@
 use borrow.Author.Needs.{needs}
-use Rattle.messages.proofs.Nodes.{few-nodes}
-use Rattle.messages.proofs.Laws.{answered}
-use Rattle.messages.proofs.answer_shuffle.Statement.{statement}
-use Rattle.messages.proofs.answer_shuffle.Tie as tie
+use Rattle.shuffling.proofs.Nodes.{few-nodes}
+use Rattle.shuffling.proofs.Laws.{answered}
+use Rattle.shuffling.proofs.answer_shuffle.Statement.{statement}
+use Rattle.shuffling.proofs.answer_shuffle.Tie as tie
 
 add-nodes-requires : tie.Need-add-nodes-requires
 add-nodes-requires c κs = search needs

@@ -2,7 +2,7 @@
 use Prim.Native.Nat.{ℕ, _+_, _-_, _≤_, _<_}
 use mathlib.Core.Path.{_≡_, refl, sym, ap, _∙_}
 use mathlib.Core.Bool.{Bool, true, false, _||_}
-use mathlib.Core.List.{List, [], _∷_}
+use mathlib.Core.List.{List, _∷_}
 use native.Mathlib.Omega.{arith}
 use lib.ListN.{length}
 use Rattle.peer.specs.Data.{Node}
@@ -16,10 +16,10 @@ use Rattle.state.specs.declared.Work.{Work}
 use Rattle.state.specs.Unpack.{unpack}
 use Rattle.state.specs.Work.{run, Fine, Does}
 use Rattle.state.proofs.Bridge.{at-run}
-use Rattle.messages.proofs.Nodes.{nodes-from, nodes-start, nodes-end, or-more}
+use Rattle.shuffling.proofs.Nodes.{nodes-from, nodes-start, nodes-end, or-more}
 use borrow.Author.Needs.{needs}
-use Rattle.messages.proofs.add_nodes.Statement.{statement}
-use Rattle.messages.proofs.add_nodes.Tie as tie
+use Rattle.shuffling.proofs.add_nodes.Statement.{statement}
+use Rattle.shuffling.proofs.add_nodes.Tie as tie
 
 record Adding (ds out₀ b : List ℕ) (n : ℕ) (w : Work) (out : List ℕ) (a : Work) (fresh : Bool) (i : ℕ) : Type 0 where
   fine : Fine a ds out

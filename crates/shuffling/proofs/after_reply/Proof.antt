@@ -1,7 +1,7 @@
 use borrow.Author.Needs.{needs}
-use Rattle.messages.proofs.Laws.{reply-stopped, reply-refilled}
-use Rattle.messages.proofs.after_reply.Statement.{statement}
-use Rattle.messages.proofs.after_reply.Tie as tie
+use Rattle.shuffling.proofs.Laws.{reply-stopped, reply-refilled}
+use Rattle.shuffling.proofs.after_reply.Statement.{statement}
+use Rattle.shuffling.proofs.after_reply.Tie as tie
 
 stops-at-refusal-requires : tie.Need-stops-at-refusal-requires
 stops-at-refusal-requires c κs = search needs

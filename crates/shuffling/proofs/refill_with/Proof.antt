@@ -1,7 +1,7 @@
 use borrow.Author.Needs.{needs}
-use Rattle.messages.proofs.Laws.{refilled-few, refilled-same}
-use Rattle.messages.proofs.refill_with.Statement.{statement}
-use Rattle.messages.proofs.refill_with.Tie as tie
+use Rattle.shuffling.proofs.Laws.{refilled-few, refilled-same}
+use Rattle.shuffling.proofs.refill_with.Statement.{statement}
+use Rattle.shuffling.proofs.refill_with.Tie as tie
 
 new-requires : tie.Need-new-requires
 new-requires c κs = search needs

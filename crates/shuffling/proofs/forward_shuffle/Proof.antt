@@ -1,8 +1,8 @@
 use borrow.Author.Needs.{needs}
 use Rattle.sending.proofs.Told.{room-of, fine-drawn}
-use Rattle.messages.proofs.Laws.{shuffle-kept, shuffle-on}
-use Rattle.messages.proofs.forward_shuffle.Statement.{statement}
-use Rattle.messages.proofs.forward_shuffle.Tie as tie
+use Rattle.shuffling.proofs.Laws.{shuffle-kept, shuffle-on}
+use Rattle.shuffling.proofs.forward_shuffle.Statement.{statement}
+use Rattle.shuffling.proofs.forward_shuffle.Tie as tie
 
 is-empty-requires : tie.Need-is-empty-requires
 is-empty-requires c κs = search needs

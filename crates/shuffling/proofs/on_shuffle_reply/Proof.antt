@@ -1,7 +1,7 @@
 use borrow.Author.Needs.{needs}
-use Rattle.messages.proofs.Laws.{reply-taken}
-use Rattle.messages.proofs.on_shuffle_reply.Statement.{statement}
-use Rattle.messages.proofs.on_shuffle_reply.Tie as tie
+use Rattle.shuffling.proofs.Laws.{reply-taken}
+use Rattle.shuffling.proofs.on_shuffle_reply.Statement.{statement}
+use Rattle.shuffling.proofs.on_shuffle_reply.Tie as tie
 
 add-nodes-requires : tie.Need-add-nodes-requires
 add-nodes-requires c κs = search needs

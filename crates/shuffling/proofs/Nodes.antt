@@ -1,16 +1,14 @@
 -- The nodes of an event, taken one by one.
 -- Assumes nothing.
 use Prim.Native.Nat.{ℕ, suc, _+_, _-_, _≤_, _<_}
-use mathlib.Core.Path.{_≡_, refl, sym, ap, _∙_}
+use mathlib.Core.Path.{_≡_, refl, ap, _∙_}
 use mathlib.Core.Bool.{Bool, true, false, _&&_, _||_}
 use mathlib.Core.List.{List, [], _∷_}
 use native.Mathlib.Omega.{arith}
-use lib.ListN.{length}
 use lib.Dec.{leb, eqb}
 use borrow.Author.Tests.{eqb-true, leb-true}
 use Rattle.lists.specs.Lists.{choose}
 use Rattle.lists.proofs.Choice.{and-left, and-right}
-use Rattle.peer.specs.Data.{Node}
 use Rattle.record.specs.declared.Header.{Header}
 use Rattle.record.specs.Read.{header-of, is-message, is-data, kind-ok, flags-ok, count-ok, peer-ok, fields-ok, header-ok, well-formed, node-at, nodes-of}
 use Rattle.record.proofs.Back.{parts}

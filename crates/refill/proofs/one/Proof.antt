@@ -1,8 +1,8 @@
 use native.Mathlib.Omega.{arith}
 use borrow.Author.Needs.{needs}
-use Rattle.messages.proofs.Laws.{held-few, held-push}
-use Rattle.messages.proofs.one.Statement.{statement}
-use Rattle.messages.proofs.one.Tie as tie
+use Rattle.refill.proofs.Asking.{held-few, held-push}
+use Rattle.refill.proofs.one.Statement.{statement}
+use Rattle.refill.proofs.one.Tie as tie
 
 new-requires : tie.Need-new-requires
 new-requires c κs = search needs
