@@ -1,7 +1,7 @@
 -- Laws of the steps on the active view that several proofs cite.
 -- Assumes nothing.
-use Prim.Native.Nat.{ℕ, suc, _+_, _≤_, _<_}
-use mathlib.Core.Path.{_≡_, refl, sym, ap, _∙_, subst}
+use Prim.Native.Nat.{ℕ, _+_, _≤_, _<_}
+use mathlib.Core.Path.{_≡_, sym, ap, _∙_, subst}
 use mathlib.Core.Bool.{Bool, true, false}
 use mathlib.Core.List.{List, [], _∷_, _++_}
 use native.Mathlib.Omega.{arith}
@@ -182,11 +182,11 @@ fine-told g w a ds out o k v = then-tell k (still v) .fine
 pub fine-drawn : (g : Run → Run) (w a : Work) (ds out : List ℕ) → Draws g w a ds → Fine w ds out → Fine a ds out
 fine-drawn g w a ds out k v = then-draw k (still v) .fine
 
-pub refilled : (w a r : Work) (ds out o : List ℕ) (p : ℕ) (l : RefillLimit) (none skip : IndexSet) → Fine w ds out → l ≡ Recovery → Holds none [] → Holds skip (items-of none ++ (p ∷ []))
+pub refilled : (w a r : Work) (ds out o : List ℕ) (p : ℕ) (l : RefillLimit) (skip : IndexSet) → Fine w ds out → l ≡ Recovery → Holds skip (p ∷ [])
     → Does r ds o (start-refill (refill-in l) (items-of skip) (run a ds out)) → Changes (on clear-refused) w a → Does r ds o (refill-after p (run w ds out))
 unfolding refill-after refill-in
-refilled w a r ds out o p l none skip v e f h k₂ k₁ =
-    by _ (ap (λ (x : List ℕ). start-refill recovery x (on clear-refused (run w ds out))) (sym (h .items ∙ ap (λ (x : List ℕ). x ++ (p ∷ [])) (f .items))))
+refilled w a r ds out o p l skip v e h k₂ k₁ =
+    by _ (ap (λ (x : List ℕ). start-refill recovery x (on clear-refused (run w ds out))) (sym (h .items)))
     (seq (start-refill recovery (items-of skip)) (subst (λ (x : RefillLimit). Does r ds o (start-refill (refill-in x) (items-of skip) (run a ds out))) e k₂) (then k₁ (still v)))
 
 pub place-of : (s : State) (p i : ℕ) (t : Bool) → t ≡ in-active p (unpack s) → t ≡ true → i ≡ index-of p (items-of (s .«active_view»)) → i < length (items-of (s .«active_view»))
@@ -220,9 +220,6 @@ still-active w a ds n i k h =
 pub some-neighbor : (s : State) (t : Bool) → t ≡ is-alone (unpack s) → t ≡ false → null (items-of (s .«active_view»)) ≡ false
 unfolding is-alone unpack
 some-neighbor s t e h = sym e ∙ h
-
-pub room-for-one : (s : IndexSet) → Holds s [] → length (items-of s) < 32
-room-for-one s h = let e : length (items-of s) ≡ 0 = ap length (h .items) in omega arith
 
 module _ (r : Work) (ds o : List ℕ) (g : Run) (why : Loss) (p : ℕ) where
   pub settled-closed : why ≡ ConnectionClosed → Does r ds o (settle-closed p g) → Does r ds o (settle (reason-in why) p g)

@@ -5,13 +5,13 @@ use writer::Fields;
 ghost use mathlib.Core.Path.{_≡_};
 ghost use mathlib.Core.Bool.{false};
 ghost use Prim.Native.Nat.{_<_};
-ghost use lib.ListN.{length, getD};
+ghost use lib.ListN.{length};
 ghost use Rattle.lists.specs.Lists.{null};
 ghost use Rattle.util.specs.Set.{items-of};
 ghost use Rattle.protocol.specs.Run.{on};
 ghost use Rattle.protocol.specs.Active.{swap-active, drop-active, demote, mark-alive, demote-alive, settle-closed, clear-refused};
 ghost use Rattle.protocol.specs.Active.{random, settle, remove-active-by-index, refill-after, remove-active, remove-picked, free-random-slot-in-active-view};
-ghost use Rattle.protocol.specs.Active.{move-in, gain-neighbor, enter-active};
+ghost use Rattle.protocol.specs.Active.{move-in};
 ghost use Rattle.state.specs.Unpack.{unpack, PackedState};
 ghost use Rattle.state.specs.Work.{run, Changes, Room, Tells, Fine, Does};
 ghost use Rattle.active.specs.Sane.{reason-in, FreeActive, FreeMark, Calm, Loose};
@@ -23,7 +23,7 @@ pub enum Loss {
 }
 
 // The peer at place i leaves the active view; the last one moves into the gap.
-pub fn swap_active(w: Work, i: usize) -> Work
+fn swap_active(w: Work, i: usize) -> Work
     requires { ⌜ PackedState (w .state) ⌝ }
     requires { ⌜ i < length (items-of (w .state .«active_view»)) ⌝ }
     ensures { λ r. ⌜ Changes (on (swap-active i)) w r ⌝ }
@@ -41,7 +41,7 @@ pub fn swap_active(w: Work, i: usize) -> Work
 }
 
 // The peer at place i leaves the active view, with its notice.
-pub fn drop_active(w: Work, out: &mut [u8], i: usize) -> Work
+fn drop_active(w: Work, out: &mut [u8], i: usize) -> Work
     requires { ⌜ Room w (now out) ⌝ }
     requires { ⌜ i < length (items-of (w .state .«active_view»)) ⌝ }
     ensures { λ r. ⌜ Tells (drop-active i) w r (now (out .entry)) (now (out .exit)) ⌝ }
@@ -63,7 +63,7 @@ pub fn drop_active(w: Work, out: &mut [u8], i: usize) -> Work
 }
 
 // p goes to the passive view with the data that is held of it.
-pub fn demote(w: Work, draws: &[u32], out: &mut [u8], p: u32) -> Work
+fn demote(w: Work, draws: &[u32], out: &mut [u8], p: u32) -> Work
     requires { ⌜ Fine w (now draws) (now out) ⌝ }
     ensures { λ r. ⌜ Does r (now (draws .entry)) (now (out .exit)) (demote p (run w (now (draws .entry)) (now (out .entry)))) ⌝ }
 {
@@ -92,7 +92,7 @@ pub fn mark_alive(w: Work, p: u32) -> Work
 }
 
 // p goes to the passive view with a mark.
-pub fn demote_alive(w: Work, draws: &[u32], out: &mut [u8], p: u32) -> Work
+fn demote_alive(w: Work, draws: &[u32], out: &mut [u8], p: u32) -> Work
     requires { ⌜ Fine w (now draws) (now out) ⌝ }
     requires { ⌜ Loose p 0 48 1 (run w (now draws) (now out)) ⌝ }
     ensures { λ r. ⌜ Does r (now (draws .entry)) (now (out .exit)) (demote-alive p (run w (now (draws .entry)) (now (out .entry)))) ⌝ }
@@ -102,7 +102,7 @@ pub fn demote_alive(w: Work, draws: &[u32], out: &mut [u8], p: u32) -> Work
 }
 
 // The connection to p was closed: an earlier mark keeps it as a passive peer.
-pub fn settle_closed(w: Work, draws: &[u32], out: &mut [u8], p: u32) -> Work
+fn settle_closed(w: Work, draws: &[u32], out: &mut [u8], p: u32) -> Work
     requires { ⌜ Fine w (now draws) (now out) ⌝ }
     ensures { λ r. ⌜ Does r (now (draws .entry)) (now (out .exit)) (settle-closed p (run w (now (draws .entry)) (now (out .entry)))) ⌝ }
 {
@@ -157,7 +157,7 @@ pub fn move_in(w: Work, p: u32) -> Work
 }
 
 // What becomes of p, which just left the active view.
-pub fn settle(w: Work, draws: &[u32], out: &mut [u8], why: Loss, p: u32) -> Work
+fn settle(w: Work, draws: &[u32], out: &mut [u8], why: Loss, p: u32) -> Work
     requires { ⌜ Fine w (now draws) (now out) ⌝ }
     requires { ⌜ Loose p 0 48 1 (run w (now draws) (now out)) ⌝ }
     ensures { λ r. ⌜ Does r (now (draws .entry)) (now (out .exit)) (settle (reason-in why) p (run w (now (draws .entry)) (now (out .entry)))) ⌝ }
@@ -173,7 +173,7 @@ pub fn settle(w: Work, draws: &[u32], out: &mut [u8], why: Loss, p: u32) -> Work
     }
 }
 
-pub fn remove_active_by_index(w: Work, draws: &[u32], out: &mut [u8], i: usize, why: Loss) -> Work
+fn remove_active_by_index(w: Work, draws: &[u32], out: &mut [u8], i: usize, why: Loss) -> Work
     requires { ⌜ Fine w (now draws) (now out) ⌝ }
     requires { ⌜ i < length (items-of (w .state .«active_view»)) ⌝ }
     requires { ⌜ Calm 0 72 1 (run w (now draws) (now out)) ⌝ }
@@ -187,13 +187,12 @@ pub fn remove_active_by_index(w: Work, draws: &[u32], out: &mut [u8], i: usize, 
 }
 
 // Peers that refused may have room now, and the neighbor p is missing.
-pub fn refill_after(w: Work, draws: &[u32], out: &mut [u8], p: u32) -> Work
+fn refill_after(w: Work, draws: &[u32], out: &mut [u8], p: u32) -> Work
     requires { ⌜ Fine w (now draws) (now out) ⌝ }
     ensures { λ r. ⌜ Does r (now (draws .entry)) (now (out .exit)) (refill-after p (run w (now (draws .entry)) (now (out .entry)))) ⌝ }
 {
     let a = clear_refused(w);
-    let none = util::IndexSet::new();
-    let skip = none.push(p);
+    let skip = refill::one(p);
     refill::start_refill(a, draws, out, RefillLimit::Recovery, skip)
 }
 
@@ -213,7 +212,7 @@ pub fn remove_active(w: Work, draws: &[u32], out: &mut [u8], p: u32, why: Loss) 
 }
 
 // p, which was picked to make room, is told and becomes a passive peer.
-pub fn settle_random(w: Work, draws: &[u32], out: &mut [u8], p: u32) -> Work
+fn settle_random(w: Work, draws: &[u32], out: &mut [u8], p: u32) -> Work
     requires { ⌜ Fine w (now draws) (now out) ⌝ }
     requires { ⌜ Loose p 2 864 39 (run w (now draws) (now out)) ⌝ }
     ensures { λ r. ⌜ Does r (now (draws .entry)) (now (out .exit)) (settle random p (run w (now (draws .entry)) (now (out .entry)))) ⌝ }
@@ -222,7 +221,7 @@ pub fn settle_random(w: Work, draws: &[u32], out: &mut [u8], p: u32) -> Work
     demote_alive(a, draws, out, p)
 }
 
-pub fn remove_random_by_index(w: Work, draws: &[u32], out: &mut [u8], i: usize) -> Work
+fn remove_random_by_index(w: Work, draws: &[u32], out: &mut [u8], i: usize) -> Work
     requires { ⌜ Fine w (now draws) (now out) ⌝ }
     requires { ⌜ i < length (items-of (w .state .«active_view»)) ⌝ }
     requires { ⌜ Calm 0 888 39 (run w (now draws) (now out)) ⌝ }
@@ -235,7 +234,7 @@ pub fn remove_random_by_index(w: Work, draws: &[u32], out: &mut [u8], i: usize) 
     settle_random(a, draws, out, p)
 }
 
-pub fn remove_picked(w: Work, draws: &[u32], out: &mut [u8]) -> Work
+fn remove_picked(w: Work, draws: &[u32], out: &mut [u8]) -> Work
     requires { ⌜ Fine w (now draws) (now out) ⌝ }
     requires { ⌜ Calm 0 888 40 (run w (now draws) (now out)) ⌝ }
     requires { ⌜ null (items-of (w .state .«active_view»)) ≡ false ⌝ }

@@ -1,8 +1,8 @@
 -- Laws of the steps by which a peer enters the active view.
 -- Assumes nothing.
-use Prim.Native.Nat.{ℕ, _+_, _≤_, _<_}
+use Prim.Native.Nat.{ℕ, _+_, _≤_}
 use mathlib.Core.Path.{_≡_, refl, sym, ap, _∙_, subst}
-use mathlib.Core.Bool.{Bool, true, false}
+use mathlib.Core.Bool.{Bool, false}
 use mathlib.Core.List.{List, []}
 use mathlib.Core.Option.{none, some}
 use native.Mathlib.Omega.{arith}
@@ -13,14 +13,14 @@ use Rattle.peer.specs.Data.{Data, bytes-of}
 use Rattle.peer.specs.Held.{data-in, ValidData}
 use Rattle.peer.proofs.Data.{short-bytes}
 use Rattle.writer.specs.Write.{rec-in}
-use Rattle.protocol.specs.Station.{Station, Refill, automatic, active-is-full}
+use Rattle.protocol.specs.Station.{Refill, automatic, active-is-full}
 use Rattle.protocol.specs.Setters.{set-refill}
-use Rattle.protocol.specs.Run.{Run, on, emit, notice}
+use Rattle.protocol.specs.Run.{on, emit, notice}
 use Rattle.protocol.specs.Peers.{insert-peer-info}
 use Rattle.protocol.specs.Refill.{unless-recovery}
 use Rattle.protocol.specs.Active.{move-in, gain-neighbor, enter-active}
 use Rattle.protocol.proofs.Law.{Short}
-use Rattle.protocol.proofs.Invariant.{Fixed, busy, Ok}
+use Rattle.protocol.proofs.Invariant.{busy, Ok}
 use Rattle.protocol.proofs.Keeping.{ease}
 use Rattle.protocol.proofs.Sends.{ok-insert-peer-info}
 use Rattle.state.specs.declared.State.{State}

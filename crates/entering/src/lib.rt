@@ -3,7 +3,6 @@ use peer::PeerData;
 use state::RefillLimit;
 use state::Work;
 use writer::Fields;
-ghost use mathlib.Core.Path.{_≡_};
 ghost use Rattle.peer.specs.Held.{data-in, ValidData};
 ghost use Rattle.protocol.specs.Run.{on};
 ghost use Rattle.protocol.specs.Active.{gain-neighbor, enter-active, add-active-unchecked, admit-full, admit-new, admit, add-active};
@@ -12,7 +11,7 @@ ghost use Rattle.state.specs.Work.{run, Changes, Room, Tells, Fine, Does};
 ghost use Rattle.active.specs.Sane.{FreeActive, Calm};
 
 // A recovery goes on, any other limit is lifted, and the short passes are counted anew.
-pub fn gain_neighbor(w: Work) -> Work
+fn gain_neighbor(w: Work) -> Work
     requires { ⌜ PackedState (w .state) ⌝ }
     ensures { λ r. ⌜ Changes (on gain-neighbor) w r ⌝ }
 {
@@ -30,7 +29,7 @@ pub fn gain_neighbor(w: Work) -> Work
 }
 
 // p enters the active view, with its notice.
-pub fn enter_active(w: Work, out: &mut [u8], p: u32) -> Work
+fn enter_active(w: Work, out: &mut [u8], p: u32) -> Work
     requires { ⌜ Room w (now out) ⌝ }
     requires { ⌜ FreeActive (w .code) (unpack (w .state)) ⌝ }
     ensures { λ r. ⌜ Tells (enter-active p) w r (now (out .entry)) (now (out .exit)) ⌝ }
@@ -49,7 +48,7 @@ pub fn enter_active(w: Work, out: &mut [u8], p: u32) -> Work
     gain_neighbor(b)
 }
 
-pub fn add_active_unchecked(w: Work, out: &mut [u8], p: u32, high: bool, reply: bool) -> Work
+fn add_active_unchecked(w: Work, out: &mut [u8], p: u32, high: bool, reply: bool) -> Work
     requires { ⌜ Room w (now out) ⌝ }
     requires { ⌜ FreeActive (w .code) (unpack (w .state)) ⌝ }
     ensures { λ r. ⌜ Tells (add-active-unchecked p high reply) w r (now (out .entry)) (now (out .exit)) ⌝ }
@@ -59,7 +58,7 @@ pub fn add_active_unchecked(w: Work, out: &mut [u8], p: u32, high: bool, reply: 
 }
 
 // At a full view a peer of high priority takes the place of a random neighbor.
-pub fn admit_full(w: Work, draws: &[u32], out: &mut [u8], p: u32, high: bool, reply: bool) -> Work
+fn admit_full(w: Work, draws: &[u32], out: &mut [u8], p: u32, high: bool, reply: bool) -> Work
     requires { ⌜ Fine w (now draws) (now out) ⌝ }
     requires { ⌜ Calm 0 888 40 (run w (now draws) (now out)) ⌝ }
     ensures { λ r. ⌜ Does r (now (draws .entry)) (now (out .exit)) (admit-full p high reply (run w (now (draws .entry)) (now (out .entry)))) ⌝ }
@@ -71,7 +70,7 @@ pub fn admit_full(w: Work, draws: &[u32], out: &mut [u8], p: u32, high: bool, re
     w
 }
 
-pub fn admit_new(w: Work, draws: &[u32], out: &mut [u8], p: u32, high: bool, reply: bool) -> Work
+fn admit_new(w: Work, draws: &[u32], out: &mut [u8], p: u32, high: bool, reply: bool) -> Work
     requires { ⌜ Fine w (now draws) (now out) ⌝ }
     requires { ⌜ Calm 0 888 40 (run w (now draws) (now out)) ⌝ }
     ensures { λ r. ⌜ Does r (now (draws .entry)) (now (out .exit)) (admit-new p high reply (run w (now (draws .entry)) (now (out .entry)))) ⌝ }
@@ -83,7 +82,7 @@ pub fn admit_new(w: Work, draws: &[u32], out: &mut [u8], p: u32, high: bool, rep
     add_active_unchecked(w, out, p, high, reply)
 }
 
-pub fn admit(w: Work, draws: &[u32], out: &mut [u8], p: u32, high: bool, reply: bool) -> Work
+fn admit(w: Work, draws: &[u32], out: &mut [u8], p: u32, high: bool, reply: bool) -> Work
     requires { ⌜ Fine w (now draws) (now out) ⌝ }
     requires { ⌜ Calm 0 888 40 (run w (now draws) (now out)) ⌝ }
     ensures { λ r. ⌜ Does r (now (draws .entry)) (now (out .exit)) (admit p high reply (run w (now (draws .entry)) (now (out .entry)))) ⌝ }

@@ -1,17 +1,16 @@
 -- What holds between events gives what the steps on the active view and on the marks count on.
 -- Assumes nothing.
-use Prim.Native.Nat.{ℕ, _+_, _≤_}
-use mathlib.Core.Path.{_≡_, refl, sym, ap, _∙_, subst}
+use Prim.Native.Nat.{ℕ, _+_}
+use mathlib.Core.Path.{_≡_, sym, ap, _∙_, subst}
 use mathlib.Core.Bool.{Bool, true, false, not}
 use mathlib.Core.List.{List, [], _∷_}
 use native.Mathlib.Omega.{arith}
-use lib.ListN.{length}
 use Rattle.lists.specs.Lists.{count, insert}
 use Rattle.lists.proofs.Count.{mem-true, count-insert}
 use Rattle.peer.specs.Data.{Data}
-use Rattle.protocol.specs.Station.{Station, in-active, in-passive, is-requested}
+use Rattle.protocol.specs.Station.{in-active, in-passive, is-requested}
 use Rattle.protocol.specs.Run.{Run, on}
-use Rattle.protocol.specs.Active.{remove-active, add-active, accepts, disconnect-received}
+use Rattle.protocol.specs.Active.{remove-active, add-active, accepts}
 use Rattle.protocol.specs.Messages.{drop-pending, forward-joins, on-join, refuse-neighbor, answer-neighbor, on-neighbor}
 use Rattle.protocol.specs.Messages.{drop-join, drop-request, forget-recent, disconnect-other, disconnected, on-disconnect}
 use Rattle.protocol.proofs.Extra.{shorter}
@@ -22,7 +21,6 @@ use Rattle.state.specs.declared.Work.{Work}
 use Rattle.state.specs.Unpack.{unpack}
 use Rattle.state.specs.Work.{run, Changes, Tells, Fine, Does}
 use Rattle.state.proofs.Bridge.{still, then, then-tell, seq, seq-at, taken, left, holds-at, at-run}
-use Rattle.active.specs.declared.Loss.{Loss}
 use Rattle.active.specs.declared.Loss.the-variants.{DisconnectReceived}
 use Rattle.active.specs.Sane.{Calm, reason-in}
 use Rattle.messages.specs.Between.{Between}

@@ -33,7 +33,7 @@ pub fn pick(d: u32, v: IndexSet) -> usize
 }
 
 // Whether the data is the station's own or is held already, so that it is not stored.
-pub fn is_known(s: State, p: u32, d: PeerData) -> bool
+fn is_known(s: State, p: u32, d: PeerData) -> bool
     requires { ⌜ PackedState s ⌝ }
     requires { ⌜ ValidData d ⌝ }
     ensures { λ r. ⌜ r ≡ is-known p (bytes-of (data-in d)) (unpack s) ⌝ }
@@ -43,7 +43,7 @@ pub fn is_known(s: State, p: u32, d: PeerData) -> bool
 }
 
 // Whether p has a data entry, or there is a free one.
-pub fn data_fits(s: State, p: u32) -> bool
+fn data_fits(s: State, p: u32) -> bool
     requires { ⌜ PackedState s ⌝ }
     ensures { λ r. ⌜ r ≡ data-fits p (unpack s) ⌝ }
 {
@@ -60,7 +60,7 @@ pub fn is_newcomer(s: State, p: u32) -> bool
 }
 
 // Whether one has to leave before another enters the passive view.
-pub fn must_evict(s: State) -> bool
+fn must_evict(s: State) -> bool
     requires { ⌜ PackedState s ⌝ }
     ensures { λ r. ⌜ r ≡ must-evict (unpack s) ⌝ }
 {
@@ -77,7 +77,7 @@ pub fn is_marked(s: State, p: u32) -> bool
 }
 
 // The peer at place i leaves the passive view; the order is kept.
-pub fn shift_passive(w: Work, i: usize) -> Work
+fn shift_passive(w: Work, i: usize) -> Work
     requires { ⌜ PackedState (w .state) ⌝ }
     requires { ⌜ i < length (items-of (w .state .«passive_view»)) ⌝ }
     ensures { λ r. ⌜ Changes (on (shift-passive i)) w r ⌝ }
@@ -94,7 +94,7 @@ pub fn shift_passive(w: Work, i: usize) -> Work
     r
 }
 
-pub fn remove_passive(w: Work, p: u32) -> Work
+fn remove_passive(w: Work, p: u32) -> Work
     requires { ⌜ PackedState (w .state) ⌝ }
     ensures { λ r. ⌜ Changes (on (remove-passive p)) w r ⌝ }
 {
@@ -111,7 +111,7 @@ pub fn remove_passive(w: Work, p: u32) -> Work
 }
 
 // p enters the passive view, which has a free place.
-pub fn push_passive(w: Work, p: u32) -> Work
+fn push_passive(w: Work, p: u32) -> Work
     requires { ⌜ PackedState (w .state) ⌝ }
     requires { ⌜ FreePassive (w .code) (unpack (w .state)) ⌝ }
     ensures { λ r. ⌜ Changes (on (push-passive p)) w r ⌝ }
@@ -128,7 +128,7 @@ pub fn push_passive(w: Work, p: u32) -> Work
     r
 }
 
-pub fn store_data(w: Work, p: u32, d: PeerData) -> Work
+fn store_data(w: Work, p: u32, d: PeerData) -> Work
     requires { ⌜ PackedState (w .state) ⌝ }
     requires { ⌜ ValidData d ⌝ }
     requires { ⌜ FreeData p (w .code) (unpack (w .state)) ⌝ }
@@ -179,7 +179,7 @@ pub fn drop_mark(w: Work, p: u32) -> Work
 }
 
 // Without the data and the mark of p.
-pub fn drop_traces(w: Work, p: u32) -> Work
+fn drop_traces(w: Work, p: u32) -> Work
     requires { ⌜ PackedState (w .state) ⌝ }
     ensures { λ r. ⌜ Changes (on (drop-traces p)) w r ⌝ }
 {
@@ -199,7 +199,7 @@ pub fn drop_traces(w: Work, p: u32) -> Work
 }
 
 // Stores the data of p; code 8 where an 81st entry would be needed.
-pub fn keep_data(w: Work, p: u32, d: PeerData) -> Work
+fn keep_data(w: Work, p: u32, d: PeerData) -> Work
     requires { ⌜ PackedState (w .state) ⌝ }
     requires { ⌜ ValidData d ⌝ }
     ensures { λ r. ⌜ Changes (keep-data p (bytes-of (data-in d))) w r ⌝ }
@@ -223,7 +223,7 @@ pub fn forget_peer(w: Work, p: u32) -> Work
 }
 
 // The peer at place i leaves the passive view and is forgotten.
-pub fn evict_at(w: Work, i: usize) -> Work
+fn evict_at(w: Work, i: usize) -> Work
     requires { ⌜ PackedState (w .state) ⌝ }
     requires { ⌜ i < length (items-of (w .state .«passive_view»)) ⌝ }
     ensures { λ r. ⌜ Changes (evict-at i) w r ⌝ }
@@ -245,7 +245,7 @@ pub fn drop_passive(w: Work, p: u32) -> Work
 }
 
 // Announces data that is not empty.
-pub fn announce_data(w: Work, out: &mut [u8], p: u32, d: PeerData) -> Work
+fn announce_data(w: Work, out: &mut [u8], p: u32, d: PeerData) -> Work
     requires { ⌜ Room w (now out) ⌝ }
     requires { ⌜ ValidData d ⌝ }
     requires { ⌜ d .present ≡ true ⌝ }
@@ -268,7 +268,7 @@ pub fn announce_data(w: Work, out: &mut [u8], p: u32, d: PeerData) -> Work
 }
 
 // Announces and stores data that is not known yet.
-pub fn insert_data(w: Work, out: &mut [u8], p: u32, d: PeerData) -> Work
+fn insert_data(w: Work, out: &mut [u8], p: u32, d: PeerData) -> Work
     requires { ⌜ Room w (now out) ⌝ }
     requires { ⌜ ValidData d ⌝ }
     requires { ⌜ d .present ≡ true ⌝ }
@@ -294,7 +294,7 @@ pub fn insert_peer_info(w: Work, out: &mut [u8], p: u32, d: PeerData) -> Work
 }
 
 // One peer leaves a full passive view, as the next draw decides.
-pub fn make_room(w: Work, draws: &[u32]) -> Work
+fn make_room(w: Work, draws: &[u32]) -> Work
     requires { ⌜ Ready w (now draws) ⌝ }
     ensures { λ r. ⌜ Draws make-room w r (now (draws .entry)) ⌝ }
 {
@@ -310,7 +310,7 @@ pub fn make_room(w: Work, draws: &[u32]) -> Work
 }
 
 // p enters the passive view, unless it is in a view or the station itself.
-pub fn enter_passive(w: Work, draws: &[u32], p: u32) -> Work
+fn enter_passive(w: Work, draws: &[u32], p: u32) -> Work
     requires { ⌜ Ready w (now draws) ⌝ }
     ensures { λ r. ⌜ Draws (enter-passive p) w r (now (draws .entry)) ⌝ }
 {

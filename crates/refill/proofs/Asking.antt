@@ -1,10 +1,9 @@
 -- Whom a refill asks.
 -- Assumes nothing.
-use Prim.Native.Nat.{ℕ, _%_, _<_}
+use Prim.Native.Nat.{ℕ, _<_}
 use mathlib.Core.Path.{_≡_, refl, sym, ap, _∙_}
 use mathlib.Core.Bool.{Bool, true, false}
 use mathlib.Core.List.{List, [], _∷_, _++_}
-use native.Mathlib.Nat.{mod-lt}
 use native.Mathlib.Omega.{arith}
 use lib.ListN.{length, getD}
 use Rattle.lists.specs.Lists.{choose, null, without-all}
@@ -14,7 +13,7 @@ use Rattle.lists.proofs.Skips.{without-none, without-append}
 use Rattle.util.specs.declared.IndexSet.{IndexSet}
 use Rattle.util.specs.Set.{items-of, Holds}
 use Rattle.util.specs.Random.{pick}
-use Rattle.util.proofs.Hold.{holds-as}
+use Rattle.util.proofs.Hold.{holds-as, holds-length, holds-then}
 use Rattle.peer.specs.Maps.{numbers-in}
 use Rattle.protocol.specs.Station.{Station, is-alone, asked-outside}
 use Rattle.protocol.specs.Run.{on, draw, drawn, picked}
@@ -72,12 +71,27 @@ module _ (s : State) (skip asked others free : IndexSet) (t : Bool) (k : Holds a
 
 -- ---- one of them
 
-pub pick-below : (d n : ℕ) (from : IndexSet) → n ≡ length (items-of from) → 0 < length (items-of from) → d % n < length (items-of from)
-pick-below d n from e h = omega (arith, mod-lt d {m = n} (omega arith))
+none-got : (xs : List ℕ) (k : ℕ) → null xs ≡ true → 0 ≡ getD xs k 0
+unfolding null
+none-got [] k e = refl
+none-got (x ∷ xs) k e = clash false e refl
 
-pub pick-got : (from : IndexSet) (x d n r : ℕ) → r ≡ getD (items-of from) (d % n) 0 → n ≡ length (items-of from) → d ≡ x → r ≡ getD (items-of from) (pick (length (items-of from)) x) 0
-unfolding pick
-pick-got from x d n r e q p = e ∙ (λ i. getD (items-of from) (p i % q i) 0)
+pub picked-none : (from : IndexSet) (t : Bool) (k : ℕ) → t ≡ null (items-of from) → t ≡ true → 0 ≡ getD (items-of from) k 0
+picked-none from t k e h = none-got (items-of from) k (sym e ∙ h)
+
+pub some-there : (from : IndexSet) (t : Bool) → t ≡ null (items-of from) → t ≡ false → null (items-of from) ≡ false
+some-there from t e h = sym e ∙ h
+
+pub picked-some : (from : IndexSet) (x d i r : ℕ) → r ≡ getD (items-of from) i 0 → i ≡ pick (length (items-of from)) d → d ≡ x → r ≡ getD (items-of from) (pick (length (items-of from)) x) 0
+picked-some from x d i r e q p = e ∙ ap (λ (k : ℕ). getD (items-of from) k 0) (q ∙ ap (pick (length (items-of from))) p)
+
+-- a set that holds a short list has a free place
+pub held-few : (s : IndexSet) (xs : List ℕ) → Holds s xs → length xs < 32 → length (items-of s) < 32
+held-few s xs h f = omega (arith, holds-length s xs h)
+
+-- a set that holds a list, with one more at its end
+pub held-push : (r t : IndexSet) (xs : List ℕ) (p : ℕ) → Holds r (items-of t ++ (p ∷ [])) → Holds t xs → Holds r (xs ++ (p ∷ []))
+held-push r t xs p h k = holds-then (λ l. l ++ (p ∷ [])) h k
 
 module _ (from : IndexSet) (w : Work) (ds out : List ℕ) where
   pub picked-is : (p : ℕ) (high : Bool) → p ≡ getD (items-of from) (pick (length (items-of from)) (getD ds (w .drawn) 0)) 0 → high ≡ is-alone (unpack (w .state))
@@ -97,14 +111,6 @@ module _ (from : IndexSet) (w r : Work) (ds out o : List ℕ) where
   pub limited-done : (skip : IndexSet) → Holds from (candidates (items-of skip) (unpack (w .state))) → Does r ds o (ask-one (items-of from) (run w ds out)) → Does r ds o (refill-limited (items-of skip) (run w ds out))
   unfolding refill-limited run
   limited-done skip h d = by (refill-limited (items-of skip) (run w ds out)) (ap (λ (l : List ℕ). ask-one l (run w ds out)) (sym (h .items))) d
-
-some-in : (xs : List ℕ) → null xs ≡ false → 0 < length xs
-unfolding null
-some-in [] h = clash true refl h
-some-in (x ∷ xs) h = omega arith
-
-pub some-left : (from : IndexSet) (t : Bool) → t ≡ null (items-of from) → t ≡ false → 0 < length (items-of from)
-some-left from t e h = some-in (items-of from) (sym e ∙ h)
 
 -- ---- whether one is asked at all
 

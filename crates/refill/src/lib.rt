@@ -1,17 +1,15 @@
 // How the active view is refilled from the passive view (the definition's `Refill`).
-use peer::Numbers;
 use state::RefillLimit;
 use state::State;
 use state::Work;
 use timing::Timing;
 use util::IndexSet;
 ghost use mathlib.Core.Path.{_≡_};
-ghost use Prim.Native.Nat.{_<_};
+ghost use mathlib.Core.List.{[], _∷_};
 ghost use lib.ListN.{length, getD};
 ghost use Rattle.lists.specs.Maps.{keys};
 ghost use Rattle.util.specs.Set.{items-of, Valid, Holds};
 ghost use Rattle.util.specs.Random.{pick};
-ghost use Rattle.peer.specs.Maps.{numbers-in, ValidNumbers};
 ghost use Rattle.protocol.specs.Station.{asked-outside, recovery-is-over};
 ghost use Rattle.protocol.specs.Setters.{set-refill};
 ghost use Rattle.protocol.specs.Run.{on};
@@ -152,22 +150,31 @@ fn candidates(s: State, skip: IndexSet) -> IndexSet
     free.without_all(refused)
 }
 
-// The peer that the next draw decides.
+// The set of p alone, for a refill that skips it.
+pub fn one(p: u32) -> IndexSet
+    ensures { λ r. ⌜ Holds r (p ∷ []) ⌝ }
+{
+    let none = IndexSet::new();
+    none.push(p)
+}
+
+// The peer that the draw at a place decides, 0 where there is none.
 pub fn picked(from: IndexSet, draws: &[u32], at: usize) -> u32
     requires { ⌜ Valid from ⌝ }
-    requires { ⌜ 0 < length (items-of from) ⌝ }
     ensures { λ r. ⌜ r ≡ getD (items-of from) (pick (length (items-of from)) (getD (now (draws .entry)) at 0)) 0 ⌝ }
 {
-    let d = state::draw_at(draws, at) as usize;
-    let n = from.len();
-    from.get_index(d % n)
+    if from.is_empty() {
+        return 0;
+    }
+    let d = state::draw_at(draws, at);
+    let i = peers::pick(d, from);
+    from.get_index(i)
 }
 
 // Neighbor to one of these peers, with high priority exactly where the active view is empty.
 fn ask_picked(w: Work, draws: &[u32], out: &mut [u8], from: IndexSet) -> Work
     requires { ⌜ Fine w (now draws) (now out) ⌝ }
     requires { ⌜ Valid from ⌝ }
-    requires { ⌜ 0 < length (items-of from) ⌝ }
     ensures { λ r. ⌜ Does r (now (draws .entry)) (now (out .exit)) (ask-picked (items-of from) (run w (now (draws .entry)) (now (out .entry)))) ⌝ }
 {
     let s = w.state;

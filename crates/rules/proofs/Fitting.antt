@@ -1,12 +1,12 @@
 -- A station that keeps the rules is packed into a state that passes the test, and comes out of it again; so it is with a new one.
 -- Assumes nothing.
 use Prim.Native.Nat.{ℕ, min, _≤_, zero-le}
-use mathlib.Core.Path.{_≡_, refl, sym, ap, _∙_, subst}
+use mathlib.Core.Path.{_≡_, refl, sym, ap, _∙_}
 use mathlib.Core.Bool.{Bool, true, false, _&&_}
 use mathlib.Core.List.{List, [], _∷_, map}
 use mathlib.Core.Option.{none, some}
 use native.Mathlib.Omega.{arith}
-use lib.ListN.{length, take}
+use lib.ListN.{length}
 use lib.Dec.{eqb, leb}
 use borrow.Author.Tests.{leb-true, le-leb, eqb-true, ne-eqb}
 use Rattle.lists.specs.Array.{pad}
@@ -22,7 +22,6 @@ use Rattle.lists.proofs.Entries.{entries-of}
 use Rattle.util.specs.Set.{Valid}
 use Rattle.util.proofs.Hold.{holds-of}
 use Rattle.peer.specs.declared.NumberEntry.{NumberEntry}
-use Rattle.peer.specs.declared.DataEntry.{DataEntry}
 use Rattle.peer.specs.Data.{Data}
 use Rattle.peer.specs.Held.{ValidData}
 use Rattle.peer.specs.Maps.{number-pair, no-number, ValidNumbers, data-pair, no-data, ValidEntry, ValidDataMap, numbers-under}

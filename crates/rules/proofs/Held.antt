@@ -1,10 +1,9 @@
 -- How the code's tests are the rules of the definition, and which rules hold of every well formed state.
 -- Assumes nothing.
-use Prim.Native.Nat.{ℕ, zero, suc, _≤_, _<_}
-use mathlib.Core.Path.{_≡_, refl, sym, ap, _∙_}
-use mathlib.Core.Bool.{Bool, true, false, _&&_, not}
+use Prim.Native.Nat.{ℕ, zero, suc, _≤_}
+use mathlib.Core.Path.{_≡_, refl}
+use mathlib.Core.Bool.{Bool, true, false, _&&_}
 use mathlib.Core.List.{List, [], _∷_, map}
-use mathlib.Core.Option.{none, some}
 use native.Mathlib.Omega.{arith}
 use lib.ListN.{length, take}
 use lib.Dec.{leb, ltb}
@@ -13,17 +12,15 @@ use mir.Val.{Val}
 use denote.Array.{each}
 use denote.Shadow.{shadow}
 use denote.Struct.Field.{u32-field}
-use Rattle.lists.specs.Lists.{mem, rising, choose}
-use Rattle.lists.specs.Maps.{keys}
+use Rattle.lists.specs.Lists.{rising, choose}
 use Rattle.lists.specs.Tests.{every, All}
 use Rattle.lists.proofs.Choice.{split, and-left, and-right}
 use Rattle.lists.proofs.Tests.{both-true, true-rising}
 use Rattle.util.specs.Set.{items-of}
 use Rattle.peer.specs.declared.DataEntry.{DataEntry}
-use Rattle.peer.specs.declared.DataMap.{DataMap}
 use Rattle.peer.specs.declared.PeerData.{PeerData}
 use Rattle.peer.specs.Held.{data-in, ValidData}
-use Rattle.peer.specs.Maps.{data-pair, data-map-in, numbers-in, ValidEntry, ValidDataMap}
+use Rattle.peer.specs.Maps.{data-pair, data-map-in, numbers-in, ValidEntry}
 use Rattle.peer.proofs.Data.{length-bytes}
 use Rattle.peer.proofs.Maps.{length-entry}
 use Rattle.protocol.specs.Rules.{all-under, all-short, short-data, settings-rule, repeats-rule, order-rule, capacity-rule, views-rule, alive-rule, few-rule, joins-rule, numbers-rule, self-rule, room-rule, data-rule, limit-rule, interval-rule, width-rule, rules, station-ok}

@@ -4,3 +4,4 @@ pub mod Held
 pub mod Packed
 pub mod Making
 pub mod Fitting
+pub mod Asked

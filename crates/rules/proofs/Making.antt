@@ -26,7 +26,7 @@ use Rattle.protocol.specs.Handle.{new-station, zero-config, zero-station}
 use Rattle.state.specs.declared.RefillLimit.the-variants.{Automatic}
 use Rattle.state.specs.declared.State.{State}
 use Rattle.rules.specs.declared.Made.{Made}
-use Rattle.rules.specs.Pack.{pack-set, pack-numbers, pack-data-map, pack-data, pack-refill, pack}
+use Rattle.rules.specs.Pack.{pack-set, pack-numbers, pack-data-map, pack-refill, pack}
 use Rattle.rules.specs.Made.{lent, pack-made, refused-new, Own}
 use Rattle.rules.proofs.Pack.{set-back, data-back, numbers-back, data-map-back}
 

@@ -12,10 +12,9 @@ ghost use mathlib.Core.Path.{_≡_};
 ghost use mathlib.Core.Bool.{true};
 ghost use Rattle.lists.specs.Maps.{keys};
 ghost use Rattle.util.specs.Set.{Holds};
-ghost use Rattle.peer.specs.Maps.{ValidNumbers, numbers-in};
 ghost use Rattle.protocol.specs.Rules.{limit-ok, settings-rule, repeats-rule, order-rule, capacity-rule, views-rule, alive-rule, few-rule};
 ghost use Rattle.protocol.specs.Rules.{joins-rule, numbers-rule, self-rule, limit-rule, interval-rule, station-ok};
-ghost use Rattle.state.specs.Unpack.{unpack, refill-in, PackedState};
+ghost use Rattle.state.specs.Unpack.{unpack, refill-in};
 ghost use Prim.Native.Nat.{min};
 ghost use Rattle.timing.specs.Timing.{initial-shuffle-interval};
 ghost use Rattle.peer.specs.Held.{data-in, ValidData};
@@ -24,7 +23,7 @@ ghost use Rattle.protocol.specs.Handle.{new, new-station, zero-config};
 ghost use Rattle.rules.specs.Pack.{pack};
 ghost use Rattle.rules.specs.Made.{lent, Own, pack-made, refused-new};
 ghost use Rattle.rules.specs.Ok.{packed-ok, state-ok};
-ghost use Rattle.rules.specs.Queries.{wants-connection, is-neighbor, spare-addresses};
+ghost use Rattle.rules.specs.Queries.{wants-connection-in, is-neighbor-in, neighbors-in, spare-addresses-in};
 
 // Whether every field is well formed, with zeroes in its unused places; of any value of the type.
 pub fn is_packed(s: State) -> bool
@@ -326,35 +325,43 @@ pub fn new(me: u32, present: bool, own: &[u8], config: Config) -> Made
 
 // Whether a connection to the peer is wanted: it is a neighbor, or its reply to a Neighbor or a Join is awaited.
 pub fn wants_connection(s: State, p: u32) -> bool
-    requires { ⌜ PackedState s ⌝ }
-    ensures { λ r. ⌜ r ≡ wants-connection p (unpack s) ⌝ }
+    ensures { λ r. ⌜ r ≡ wants-connection-in p s ⌝ }
 {
-    let requests = s.pending_neighbor_requests;
-    let joins = s.pending_joins;
-    s.in_active(p) | (requests.contains_key(p) | joins.contains_key(p))
+    if is_ok(s) {
+        let requests = s.pending_neighbor_requests;
+        let joins = s.pending_joins;
+        return s.in_active(p) | (requests.contains_key(p) | joins.contains_key(p));
+    }
+    false
 }
 
 pub fn is_neighbor(s: State, p: u32) -> bool
-    requires { ⌜ PackedState s ⌝ }
-    ensures { λ r. ⌜ r ≡ is-neighbor p (unpack s) ⌝ }
+    ensures { λ r. ⌜ r ≡ is-neighbor-in p s ⌝ }
 {
-    s.in_active(p)
+    if is_ok(s) {
+        return s.in_active(p);
+    }
+    false
 }
 
 // The neighbors, in order.
 pub fn neighbors(s: State) -> IndexSet
-    requires { ⌜ PackedState s ⌝ }
-    ensures { λ r. ⌜ Holds r (unpack s .active) ⌝ }
+    ensures { λ r. ⌜ Holds r (neighbors-in s) ⌝ }
 {
-    let v = s.active_view;
-    v
+    if is_ok(s) {
+        let v = s.active_view;
+        return v;
+    }
+    IndexSet::new()
 }
 
 // How many spare addresses there are.
 pub fn spare_addresses(s: State) -> usize
-    requires { ⌜ PackedState s ⌝ }
-    ensures { λ r. ⌜ r ≡ spare-addresses (unpack s) ⌝ }
+    ensures { λ r. ⌜ r ≡ spare-addresses-in s ⌝ }
 {
-    let v = s.passive_view;
-    v.len()
+    if is_ok(s) {
+        let v = s.passive_view;
+        return v.len();
+    }
+    0
 }

@@ -24,7 +24,7 @@ ghost use Rattle.state.specs.Work.{run, Changes, Ready, Draws, Room, Tells, Fin
 ghost use Rattle.sending.specs.Requests.{Countable, Notable};
 
 // A flag as a number.
-pub fn flag(b: bool) -> u8
+fn flag(b: bool) -> u8
     ensures { λ r. ⌜ r ≡ flag b ⌝ }
 {
     if b {
@@ -235,14 +235,14 @@ pub fn send_disconnect(w: Work, draws: &[u32], out: &mut [u8], p: u32, alive: bo
 }
 
 // Whether the next request's number is not the last.
-pub fn request_counts(s: State) -> bool
+fn request_counts(s: State) -> bool
     ensures { λ r. ⌜ r ≡ request-counts (unpack s) ⌝ }
 {
     s.next_neighbor_request < 18446744073709551615
 }
 
 // Whether there is a place for one more open request.
-pub fn request_fits(s: State) -> bool
+fn request_fits(s: State) -> bool
     requires { ⌜ PackedState s ⌝ }
     ensures { λ r. ⌜ r ≡ request-fits (unpack s) ⌝ }
 {

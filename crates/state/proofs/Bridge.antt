@@ -3,12 +3,12 @@
 use Prim.Native.Nat.{ℕ, zero, suc, _+_, _-_, _≤_, _<_}
 use mathlib.Core.Path.{_≡_, refl, sym, ap, _∙_, subst}
 use mathlib.Core.Bool.{Bool, true, false}
-use mathlib.Core.List.{List, [], _∷_, _++_}
+use mathlib.Core.List.{List, [], _∷_}
 use native.Mathlib.Omega.{arith}
-use lib.ListN.{length, take, getD}
+use lib.ListN.{length, getD}
 use lib.Dec.{eqb}
 use lib.Seq.{length-take-le}
-use borrow.Author.Tests.{eq-eqb, ne-eqb, eqb-false, le-leb, lt-leb, leb-true}
+use borrow.Author.Tests.{eq-eqb, ne-eqb, eqb-true, eqb-false, le-leb, lt-leb, leb-true}
 use Rattle.lists.specs.Lists.{choose}
 use Rattle.lists.specs.Bytes.{overwrite}
 use Rattle.lists.proofs.Choice.{split, by-choice, choose-yes, choose-no}
@@ -42,6 +42,14 @@ guard-shut g after h = choose-no _ _ _ (ne-eqb _ _ h)
 pub guard-open : (g after : Run) → g .code ≡ 0 → guard g after ≡ after
 unfolding guard
 guard-open g after h = choose-yes _ _ _ (eq-eqb _ _ h)
+
+-- two changes in a row are one
+pub on-twice : (f h : Station → Station) (g : Run) → on (λ s. h (f s)) g ≡ on h (on f g)
+unfolding on
+on-twice f h g =
+    split (eqb (g .code) 0)
+    (λ t. let z = eqb-true _ _ t in guard-open g _ z ∙ sym (ap (on h) (guard-open g _ z) ∙ guard-open _ _ z))
+    (λ t. let z = eqb-false _ _ t in guard-shut g _ z ∙ sym (ap (on h) (guard-shut g _ z) ∙ guard-shut g _ z))
 
 -- ---- the four primitives
 

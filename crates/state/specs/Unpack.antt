@@ -2,7 +2,7 @@
 -- Assumes nothing.
 use Prim.Native.Nat.{ℕ, _≤_}
 use mathlib.Core.Path.{_≡_}
-use mathlib.Core.Bool.{Bool, true}
+use mathlib.Core.Bool.{true}
 use lib.ListN.{length}
 use Rattle.util.specs.declared.IndexSet.{IndexSet}
 use Rattle.util.specs.Set.{items-of, Valid}

@@ -7,9 +7,9 @@ use mathlib.Core.List.{List, []}
 use native.Mathlib.Omega.{arith}
 use lib.ListN.{length, getD}
 use lib.Dec.{eqb}
-use borrow.Author.Tests.{ltb-true, eqb-true, eqb-false}
+use borrow.Author.Tests.{ltb-true}
 use Rattle.lists.specs.Lists.{null}
-use Rattle.lists.proofs.Choice.{by-choice, split}
+use Rattle.lists.proofs.Choice.{by-choice}
 use Rattle.util.specs.declared.IndexSet.{IndexSet}
 use Rattle.util.specs.Set.{items-of, Holds}
 use Rattle.util.specs.Random.{pick}
@@ -29,8 +29,7 @@ use Rattle.state.specs.declared.RefillLimit.the-variants.{Recovery}
 use Rattle.state.specs.declared.Work.{Work}
 use Rattle.state.specs.Unpack.{unpack, refill-in}
 use Rattle.state.specs.Work.{run, Changes, Draws, Tells, Fine, Does}
-use Rattle.state.proofs.Bridge.{guard-shut, guard-open, require-said, change-then, tell-by, by, still, then, then-draw, then-tell, seq, seq-at, taken, left, holds-at}
-use Rattle.state.proofs.Refused.{on-shut}
+use Rattle.state.proofs.Bridge.{on-twice, require-said, change-then, tell-by, by, still, then, then-draw, then-tell, seq, seq-at, taken, left, holds-at}
 use Rattle.timers.specs.Counts.{Counts}
 
 -- ---- whom a rejoin asks
@@ -184,13 +183,6 @@ module _ (w : Work) (ds out : List ℕ) (t : Bool) (v : Fine w ds out) where
   maintained a r o e h k₂ k₁ = left _ _ (holds-at w ds out knows-none e h) (seq pass-known k₂ (then k₁ (still v)))
 
 -- ---- two changes are one
-
-on-twice : (f h : Station → Station) (g : Run) → on (λ s. h (f s)) g ≡ on h (on f g)
-unfolding on
-on-twice f h g =
-    split (eqb (g .code) 0)
-    (λ t. let z = eqb-true _ _ t in guard-open g _ z ∙ sym (ap (on h) (guard-open g _ z) ∙ guard-open _ _ z))
-    (λ t. let z = eqb-false _ _ t in guard-shut g _ z ∙ sym (ap (on h) (guard-shut g _ z) ∙ on-shut g z h))
 
 pub knows-some : (w a r : Work) → Changes (on end-recovery) a r → Changes (on (set-passes-alone 0)) w a → Changes (on not-alone) w r
 unfolding not-alone

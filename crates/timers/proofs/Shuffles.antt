@@ -33,7 +33,6 @@ use Rattle.state.proofs.Fields.{with-next-interval, put-next-interval}
 use Rattle.state.proofs.Bridge.{by, tell-by, still, then, then-draw, then-tell, seq, seq-at, taken, left, holds-at}
 use Rattle.state.proofs.Refused.{emit-shut, draw-shuffle-shut, drawn-only}
 use Rattle.sending.proofs.Lists.{few-taken, length-nodes}
-use Rattle.refill.proofs.Asking.{some-left}
 use Rattle.timers.specs.Part.{Part}
 
 -- ---- the interval
@@ -145,10 +144,6 @@ module _ (w : Work) (ds out : List ℕ) (to : ℕ) (others : IndexSet) where
   with-done a r o acts v h k k₂ k₁ = by _ (with-is acts h k) (seq (shuffle-passive to (items-of acts)) k₂ (then-draw k₁ (still v)))
 
 -- ---- to whom
-
-pub some-active : (s : State) (t : Bool) → t ≡ is-alone (unpack s) → t ≡ false → 0 < length (items-of (s .«active_view»))
-unfolding is-alone unpack
-some-active s t e h = some-left (s .«active_view») t e h
 
 picked-is : (w : Work) (ds out : List ℕ) (p : ℕ) → p ≡ getD (items-of (w .state .«active_view»)) (pick (length (items-of (w .state .«active_view»))) (getD ds (w .drawn) 0)) 0
     → p ≡ picked (run w ds out .station .active) (run w ds out)

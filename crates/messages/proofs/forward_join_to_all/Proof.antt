@@ -1,7 +1,7 @@
 -- What the records to come make of the work so far is the whole, whatever the draws are. The measure is what is left.
 use Prim.Native.Nat.{ℕ, _+_, _-_, _≤_, _<_}
 use mathlib.Core.Path.{_≡_, refl, sym, ap, _∙_}
-use mathlib.Core.List.{List, [], _∷_}
+use mathlib.Core.List.{List}
 use native.Mathlib.Omega.{arith}
 use lib.ListN.{length, take, getD}
 use Rattle.lists.proofs.Rest.{Rest, rest-next, rest-end}

@@ -1,4 +1,3 @@
-use borrow.Author.Needs.{needs}
 use Rattle.peers.proofs.Laws.{some-place, picked-is, picked-below}
 use Rattle.peers.proofs.pick.Statement.{statement}
 use Rattle.peers.proofs.pick.Tie as tie

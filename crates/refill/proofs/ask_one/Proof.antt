@@ -1,5 +1,5 @@
 use Rattle.state.proofs.Bridge.{still, then}
-use Rattle.refill.proofs.Asking.{none-left, one-asked, some-left}
+use Rattle.refill.proofs.Asking.{none-left, one-asked}
 use borrow.Author.Needs.{needs}
 use Rattle.refill.proofs.ask_one.Statement.{statement}
 use Rattle.refill.proofs.ask_one.Tie as tie
@@ -14,7 +14,7 @@ returns : tie.Need-returns
 returns c = none-left _ _ _ _ _ _ _ (c .before .before .is-empty .ensures) (c .before .if1 .taken) (then (c .end-recovery .ensures) (still (c .before .before .before .before .before .pre .0)))
 
 ask-picked-requires : tie.Need-ask-picked-requires
-ask-picked-requires c κs = (search needs, (search needs, search (some-left, needs)))
+ask-picked-requires c κs = search needs
 
 same-length : tie.Need-same-length
 same-length c = search needs

@@ -1,25 +1,25 @@
-use Rattle.refill.proofs.Asking.{pick-below, pick-got}
+use Rattle.refill.proofs.Asking.{picked-none, some-there, picked-some}
 use borrow.Author.Needs.{needs}
 use Rattle.refill.proofs.picked.Statement.{statement}
 use Rattle.refill.proofs.picked.Tie as tie
 
+is-empty-requires : tie.Need-is-empty-requires
+is-empty-requires c κs = search needs
+
+returns : tie.Need-returns
+returns c = search picked-none
+
 draw-at-requires : tie.Need-draw-at-requires
 draw-at-requires c κs = search needs
 
-cast-d : tie.Need-cast-d
-cast-d c = search needs
-
-len-requires : tie.Need-len-requires
-len-requires c κs = search needs
-
-rem-get-index : tie.Need-rem-get-index
-rem-get-index c = search needs
+pick-requires : tie.Need-pick-requires
+pick-requires c κs = (search needs, search some-there)
 
 get-index-requires : tie.Need-get-index-requires
-get-index-requires c κs = (search needs, search (pick-below, needs))
+get-index-requires c κs = search needs
 
-returns : tie.Need-returns
-returns c = pick-got _ _ _ _ _ (c .get-index .ensures) (c .before .len .ensures .0) (c .before .before .draw-at .ensures)
+returns-2 : tie.Need-returns-2
+returns-2 c = search picked-some
 
 pub picked-spec : {M : Type 1} → statement M
-picked-spec = tie.close (tie.spec draw-at-requires cast-d len-requires rem-get-index get-index-requires returns)
+picked-spec = tie.close (tie.spec is-empty-requires returns draw-at-requires pick-requires get-index-requires returns-2)

@@ -1,7 +1,6 @@
 use Rattle.protocol.specs.Rules.{alive-rule}
 use Rattle.state.specs.Unpack.{unpack}
 use Rattle.rules.proofs.Shape.{of-ok}
-use mathlib.Core.Path.{_∙_}
 use borrow.Author.Needs.{needs}
 use Rattle.rules.proofs.alive_rule.Statement.{statement}
 use Rattle.rules.proofs.alive_rule.Tie as tie

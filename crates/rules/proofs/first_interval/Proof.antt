@@ -1,5 +1,4 @@
 use native.Mathlib.Omega.{arith}
-use borrow.Author.Needs.{needs}
 use Rattle.rules.proofs.first_interval.Statement.{statement}
 use Rattle.rules.proofs.first_interval.Tie as tie
 

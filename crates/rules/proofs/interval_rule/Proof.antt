@@ -2,7 +2,6 @@ use mathlib.Core.Path.{refl}
 use Rattle.protocol.specs.Rules.{interval-rule}
 use Rattle.state.specs.Unpack.{unpack}
 use Rattle.timing.specs.Timing.{within}
-use borrow.Author.Needs.{needs}
 use Rattle.rules.proofs.interval_rule.Statement.{statement}
 use Rattle.rules.proofs.interval_rule.Tie as tie
 

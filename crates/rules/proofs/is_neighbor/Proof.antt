@@ -1,14 +1,19 @@
-use Rattle.rules.specs.Queries.{is-neighbor}
 use borrow.Author.Needs.{needs}
+use Rattle.rules.proofs.Asked.{ok-packed, neighbor, neighbor-not}
 use Rattle.rules.proofs.is_neighbor.Statement.{statement}
 use Rattle.rules.proofs.is_neighbor.Tie as tie
 
+is-ok-requires : tie.Need-is-ok-requires
+is-ok-requires c κs = search needs
+
 in-active-requires : tie.Need-in-active-requires
-in-active-requires c κs = search (needs)
+in-active-requires c κs = search (ok-packed, needs)
 
 returns : tie.Need-returns
-unfolding is-neighbor
-returns c = c .in-active .ensures
+returns c = search neighbor
+
+returns-2 : tie.Need-returns-2
+returns-2 c = search neighbor-not
 
 pub is-neighbor-spec : {M : Type 1} → statement M
-is-neighbor-spec = tie.close (tie.spec in-active-requires returns)
+is-neighbor-spec = tie.close (tie.spec is-ok-requires in-active-requires returns returns-2)

@@ -1,5 +1,5 @@
 use mathlib.Core.Path.{_≡_, sym, _∙_}
-use mathlib.Core.Bool.{Bool, true, false, _&&_}
+use mathlib.Core.Bool.{Bool, true, false}
 use Rattle.protocol.specs.Rules.{station-ok}
 use Rattle.state.specs.declared.State.{State}
 use Rattle.state.specs.Unpack.{unpack}

@@ -2,8 +2,6 @@ use Rattle.protocol.specs.Rules.{joins-rule}
 use Rattle.state.specs.Unpack.{unpack}
 use Rattle.rules.proofs.Shape.{of-ok}
 use Rattle.lists.specs.Maps.{keys}
-use Rattle.util.specs.Set.{items-of}
-use Rattle.peer.specs.Maps.{numbers-in}
 use borrow.Author.Needs.{needs}
 use Rattle.rules.proofs.joins_rule.Statement.{statement}
 use Rattle.rules.proofs.joins_rule.Tie as tie

@@ -1,7 +1,6 @@
 use Rattle.protocol.specs.Rules.{numbers-rule}
 use Rattle.state.specs.Unpack.{unpack}
 use Rattle.rules.proofs.Shape.{of-ok}
-use Rattle.peer.specs.Maps.{numbers-in}
 use borrow.Author.Needs.{needs}
 use Rattle.rules.proofs.numbers_rule.Statement.{statement}
 use Rattle.rules.proofs.numbers_rule.Tie as tie

@@ -1,4 +1,3 @@
-use Rattle.protocol.specs.Rules.{order-rule}
 use Rattle.state.specs.Unpack.{unpack}
 use Rattle.rules.proofs.Shape.{of-ok}
 use Rattle.rules.proofs.Held.{order-left}

@@ -1,7 +1,6 @@
 use Rattle.protocol.specs.Rules.{views-rule}
 use Rattle.state.specs.Unpack.{unpack}
 use Rattle.rules.proofs.Shape.{of-ok}
-use Rattle.util.specs.Set.{items-of}
 use borrow.Author.Needs.{needs}
 use Rattle.rules.proofs.views_rule.Statement.{statement}
 use Rattle.rules.proofs.views_rule.Tie as tie

@@ -1,7 +1,6 @@
 use mathlib.Core.Path.{sym}
 use native.Mathlib.Omega.{arith}
 use Rattle.rules.proofs.Held.{each-under, width-held}
-use borrow.Author.Needs.{needs}
 use Rattle.rules.proofs.width_rule.Statement.{statement}
 use Rattle.rules.proofs.width_rule.Tie as tie
 

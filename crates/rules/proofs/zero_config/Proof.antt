@@ -1,6 +1,5 @@
 use mathlib.Core.Path.{refl}
 use Rattle.protocol.specs.Handle.{zero-config}
-use borrow.Author.Needs.{needs}
 use Rattle.rules.proofs.zero_config.Statement.{statement}
 use Rattle.rules.proofs.zero_config.Tie as tie
 

@@ -1,6 +1,5 @@
 use borrow.Author.Needs.{needs}
 use Rattle.sending.proofs.Told.{room-of, fine-drawn}
-use Rattle.refill.proofs.Asking.{some-left}
 use Rattle.timers.proofs.Passes.{no-recent, one-recent}
 use Rattle.timers.proofs.rejoin_recent.Statement.{statement}
 use Rattle.timers.proofs.rejoin_recent.Tie as tie
@@ -12,7 +11,7 @@ returns : tie.Need-returns
 returns c = search no-recent
 
 picked-requires : tie.Need-picked-requires
-picked-requires c κs = (search needs, search some-left)
+picked-requires c κs = search needs
 
 draw-requires : tie.Need-draw-requires
 draw-requires c κs = search needs

@@ -1,7 +1,7 @@
 use borrow.Author.Needs.{needs}
 use Rattle.state.proofs.Access.{of-packed}
 use Rattle.sending.proofs.Told.{fine-drawn}
-use Rattle.timers.proofs.Shuffles.{some-active, none-there, some-there}
+use Rattle.timers.proofs.Shuffles.{none-there, some-there}
 use Rattle.timers.proofs.shuffle_any.Statement.{statement}
 use Rattle.timers.proofs.shuffle_any.Tie as tie
 
@@ -12,7 +12,7 @@ returns : tie.Need-returns
 returns c = search none-there
 
 picked-requires : tie.Need-picked-requires
-picked-requires c κs = (search (of-packed, needs), search some-active)
+picked-requires c κs = search (of-packed, needs)
 
 draw-requires : tie.Need-draw-requires
 draw-requires c κs = search needs

@@ -3,7 +3,7 @@ use borrow.Author.Needs.{needs}
 use Rattle.state.proofs.RefillLimit.is_spent.Statement.{statement}
 use Rattle.state.proofs.RefillLimit.is_spent.Tie as tie
 use Prim.Native.Nat.{ℕ}
-use mathlib.Core.Bool.{true, false}
+use mathlib.Core.Bool.{false}
 use Rattle.protocol.specs.Station.{is-spent}
 use Rattle.state.specs.Unpack.{refill-in}
 use Rattle.state.specs.declared.RefillLimit.{RefillLimit}

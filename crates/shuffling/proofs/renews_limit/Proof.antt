@@ -1,0 +1,18 @@
+use borrow.Author.Needs.{needs}
+use Rattle.protocol.specs.Messages.{renews-limit}
+use Rattle.state.specs.Unpack.{unpack}
+use Rattle.shuffling.proofs.renews_limit.Statement.{statement}
+use Rattle.shuffling.proofs.renews_limit.Tie as tie
+
+is-requested-requires : tie.Need-is-requested-requires
+is-requested-requires c κs = search needs
+
+is-spent-requires : tie.Need-is-spent-requires
+is-spent-requires c κs = search needs
+
+returns : tie.Need-returns
+unfolding renews-limit unpack
+returns c = cc
+
+pub renews-limit-spec : {M : Type 1} → statement M
+renews-limit-spec = tie.close (tie.spec is-requested-requires is-spent-requires returns)
