@@ -125,10 +125,10 @@ fn handle_message(w: Work, draws: &[u32], out: &mut [u8], b: &[u8], h: Header) -
     let p = h.peer;
     let n = h.nodes as usize;
     if h.message == 2 {
-        return messages::on_shuffle(w, draws, out, p, h.second, b, n, h.ttl);
+        return shuffling::on_shuffle(w, draws, out, p, h.second, b, n, h.ttl);
     }
     if h.message == 3 {
-        return messages::on_shuffle_reply(w, draws, out, p, b, n);
+        return shuffling::on_shuffle_reply(w, draws, out, p, b, n);
     }
     if h.message == 5 {
         return messages::on_disconnect(w, draws, out, p, h.flags % 2 == 1);
