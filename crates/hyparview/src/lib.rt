@@ -226,3 +226,17 @@ pub fn handle(s: State, b: &[u8], draws: &[u32], out: &mut [u8]) -> Answer
         Event::Record(h) => handle_event(s, b, draws, out, h),
     }
 }
+
+// A station that is asked by its name: `handle` takes itself by value.
+pub struct Station {
+    pub state: State,
+}
+
+impl Station {
+    pub fn handle(self, b: &[u8], draws: &[u32], out: &mut [u8]) -> Answer
+        ensures { λ r. ⌜ record { answer = r; output = now (out .exit) } ≡ handled (self .state) (now (b .entry)) (now (draws .entry)) (length (now (out .entry))) ⌝ }
+    {
+        let s = self.state;
+        handle(s, b, draws, out)
+    }
+}

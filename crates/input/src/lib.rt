@@ -2,9 +2,8 @@
 use timing::Config;
 ghost use mathlib.Core.Path.{_≡_};
 ghost use mathlib.Core.Bool.{true};
-ghost use Prim.Native.Nat.{_+_, _-_, _≤_, _<_};
+ghost use Prim.Native.Nat.{_-_, _≤_};
 ghost use lib.ListN.{length, drop};
-ghost use Rattle.lists.specs.Bytes.{read-le};
 ghost use Rattle.input.specs.Input.{number, numbers, config-of, event-length, are-events, places-ok, events-ok, layout-of, input-of};
 
 // What an input that is not refused holds: self, the settings, how many events there are, the place where they end and the draws begin, and how many draws there are.
@@ -22,31 +21,12 @@ pub enum Input {
     Whole(Layout),
 }
 
-// A byte as a wider number.
-fn wide(x: u8) -> u32
-    ensures { λ r. ⌜ (r ≡ x) × (r < 256) ⌝ }
-{
-    x as u32
-}
-
-// The number that stands in four bytes from a place on.
-fn read_u32(b: &[u8], at: usize) -> u32
-    requires { ⌜ at + 4 ≤ length (now b) ⌝ }
-    ensures { λ r. ⌜ r ≡ read-le 4 (now (b .entry)) at ⌝ }
-{
-    let b0 = wide(b[at]);
-    let b1 = wide(b[at + 1]);
-    let b2 = wide(b[at + 2]);
-    let b3 = wide(b[at + 3]);
-    b0 + 256 * (b1 + 256 * (b2 + 256 * b3))
-}
-
 // The i-th number of four bytes; 0 where there are not so many bytes.
 pub fn number(b: &[u8], i: usize) -> u32
     ensures { λ r. ⌜ r ≡ number (now (b .entry)) i ⌝ }
 {
     if i < b.len() / 4 {
-        return read_u32(b, 4 * i);
+        return record::read_u32(b, 4 * i);
     }
     0
 }

@@ -315,7 +315,7 @@ fn read_u16(b: &[u8], at: usize) -> u16
     (low + 256 * high) as u16
 }
 
-fn read_u32(b: &[u8], at: usize) -> u32
+pub fn read_u32(b: &[u8], at: usize) -> u32
     requires { ⌜ at + 4 ≤ length (now b) ⌝ }
     ensures { λ r. ⌜ r ≡ read-le 4 (now (b .entry)) at ⌝ }
 {
