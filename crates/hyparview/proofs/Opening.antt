@@ -131,7 +131,7 @@ event-handled s b h a ds out o₁ o r ok v e d =
     ∙ (ap (λ (g : Run). packed-answer (P.finish (unpack s) g)) (d .same ∙ ap (steps (R.rec-of b)) (start-is s ds out ok))
     ∙ (ap (λ (x : R.Reading). packed-answer (handle-reading x (unpack s) ds (length out))) (v .reads) ∙ sym (handled-ok s b ds (length out) ok))))
 
-handled-two : (s : State) (b ds : List ℕ) (room : ℕ) → state-ok s ≡ false → refusal 2 s room ≡ handled s b ds room
+pub handled-two : (s : State) (b ds : List ℕ) (room : ℕ) → state-ok s ≡ false → refusal 2 s room ≡ handled s b ds room
 unfolding handled P.handle state-ok
 handled-two s b ds room broken =
     split (packed-ok s)

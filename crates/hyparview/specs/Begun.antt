@@ -30,7 +30,8 @@ pub record Single (b : List ℕ) (h : Header) : Type 0 where
   pub one : header-of b .nodes ≡ 1
   pub which : (h .message ≡ 0 → ⊥) → (h .message ≡ 1 → ⊥) → h .message ≡ 4
 
--- an event of kind k starts at g: between events, but for a Quit, which counts on nothing
+-- an event of kind k starts at g: between events, with the 936 bytes and 40 draws that a Join or a Neighbor may spend before its own records;
+-- but for a Quit, which counts on nothing
 pub record Opens (k : ℕ) (g : Run) : Type 0 where
   pub between : (k ≡ 8 → ⊥) → Between 0 936 40 g
 

@@ -1,4 +1,4 @@
--- `handle` on a `State`: the definition's answer, packed; and code 2 for a state whose unused places or lengths are damaged.
+-- `handle` on a `State`: the definition's answer, packed; and code 2 for a state that is not well formed.
 -- Assumes nothing.
 use Prim.Native.Nat.{ℕ, _-_}
 use mathlib.Core.List.{List, _++_}
@@ -36,5 +36,7 @@ ended s w out =
 unfoldable pub packed-answer : P.Answer → Outcome
 packed-answer a = record { answer = record { code = a .code; state = pack (a .state); draws = a .used }; output = a .output }
 
+-- `handle`: code 2 where a field is not well formed (a length past its array, an unused place that is not zero, a map that does not rise), else
+-- the definition's answer; that a refusal hands back s itself is `ok-back` of rules
 unfoldable pub handled : State → List ℕ → List ℕ → ℕ → Outcome
 handled s b ds room = choose (packed-ok s) (packed-answer (P.handle (unpack s) b ds room)) (refusal 2 s room)

@@ -227,7 +227,7 @@ pub fn handle(s: State, b: &[u8], draws: &[u32], out: &mut [u8]) -> Answer
     }
 }
 
-// A station that is asked by its name: `handle` takes itself by value.
+// The form that 01 names: `handle` takes self by value. A method stands in the crate of its type, so a struct holds the state.
 pub struct Station {
     pub state: State,
 }

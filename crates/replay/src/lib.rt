@@ -4,6 +4,7 @@ use input::Input;
 use input::Layout;
 use state::State;
 use trace_text::Shown;
+ghost use mathlib.Core.Path.{_≡_};
 ghost use lib.ListN.{length};
 ghost use Prim.Native.Nat.{_≤_};
 ghost use Rattle.input.proofs.Laws.{Laid};
@@ -28,7 +29,9 @@ pub struct Start {
 
 impl Start {
     // The run program's: 8,192 bytes of room, and a new station's own counters.
-    pub fn usual() -> Start {
+    pub fn usual() -> Start
+        ensures { λ r. ⌜ r ≡ record { room = 8192; «next_neighbor_request» = 0; «next_join» = 0; «passes_alone» = 0; «passes_short» = 0 } ⌝ }
+    {
         Start {
             room: 8192,
             next_neighbor_request: 0,

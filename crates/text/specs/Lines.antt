@@ -6,7 +6,7 @@ use lib.Dec.{ltb}
 use Rattle.lists.specs.Lists.{choose}
 use Rattle.io.specs.Digits.{glyph}
 
--- the last k decimal digits of n at most, without zeroes in front
+-- the decimal digits of n, of which it has at most k
 unfoldable pub digits-within : ℕ → ℕ → List ℕ
 digits-within zero n = []
 digits-within (suc k) n = choose (ltb n 10) (glyph n ∷ []) (digits-within k (n / 10) ++ (glyph (n % 10) ∷ []))
