@@ -16,7 +16,7 @@ use Rattle.draws.specs.declared.Next.the-variants.{Draw, OutOfDraws}
 unfoldable pub left : List ℕ → ℕ → ℕ
 left l at = length l - at
 
--- what is taken: a draw, or nothing, by the code of whoever needs one in "Refusals and accepted calls"
+-- a draw, or the code that the table of refusals has where one is needed and none is left
 pub data Taken : Type 0 where
   refused : ℕ → Taken
   taken : ℕ → Taken

@@ -18,7 +18,7 @@ total t = t .join + t .«forward_join» + t .shuffle + t .«shuffle_reply» + t 
 unfoldable pub has-count : List ℕ → Bool
 has-count b = choose (eqb (kind-in b) 0) (ltb (message-in b) 6) true
 
--- whether every record of an output has, taken as the ledger takes them
+-- whether every message in an output has one of the six values in byte 1
 unfoldable pub all-have : ℕ → List ℕ → Bool
 all-have zero b = true
 all-have (suc n) b =
