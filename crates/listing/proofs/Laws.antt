@@ -10,7 +10,7 @@ use lib.ListN.{length, take, drop, length-drop, drop-of-length-le}
 use lib.Seq.{take-nil, slice, drop-drop, take-all, length-take-le}
 use Rattle.io.specs.Counts.{Counts}
 use lib.Dec.{ltb, leb, eqb}
-use borrow.Author.Tests.{lt-ltb, le-ltb, le-leb, lt-leb, ltb-true, ltb-false, eqb-true, eqb-false, eq-eqb, ne-eqb}
+use borrow.Author.Tests.{lt-ltb, le-ltb, le-leb, lt-leb, leb-true, ltb-true, ltb-false, eqb-true, eqb-false, eq-eqb, ne-eqb}
 use Rattle.lists.specs.Lists.{choose}
 use Rattle.lists.proofs.Choice.{by-choice, split, choose-yes, choose-no}
 use Rattle.state.specs.declared.State.{State}
@@ -188,6 +188,24 @@ shown-part t f = record {
       sym (choose-no _ _ _ (lt-leb (length w) (length out₀) l));
 }
 
+pub counted : (n : ℕ) (l : List ℕ) → n ≤ length l → n ≡ length (take n l)
+counted n l h = sym (length-take-le n l h)
+
+bytes-is : (m n : ℕ) → _≡_ {A = Shown} (Bytes m) (Bytes n) → m ≡ n
+bytes-is m n e = cc
+
+-- a text that fits is no longer than the bytes lent
+module _ (w : ℕ) (out o : List ℕ) (r : Shown) (n : ℕ) (e : r ≡ fitting w (length out)) (h : r ≡ Bytes n) (q : length o ≡ length out) where
+  pub shown-within : n ≤ length o
+  unfolding fitting
+  shown-within =
+      let t : Bool = leb w (length out) in
+      split t (λ y. let s : w ≡ n = bytes-is w n (sym (choose-yes t (Bytes w) TooShort y) ∙ (sym e ∙ h)) in omega (arith, s, q, leb-true w (length out) y))
+      (λ f. let s : TooShort ≡ Bytes n = sym (choose-no t (Bytes w) TooShort f) ∙ (sym e ∙ h) in let z : _≡_ {A = ℕ} 0 1 = cc in absurd (omega arith))
+
+  pub shown-counted : n ≡ length (take n o)
+  shown-counted = counted n o shown-within
+
 first-numbers : (n k i : ℕ) (b : List ℕ) → n ≤ k → take n (numbers k i b) ≡ numbers n i b
 unfolding numbers
 first-numbers zero k i b h = refl
@@ -212,7 +230,7 @@ pub numbers-read : (b ns : List ℕ) (l : Layout) (k : ℕ) → Laid b l → k �
 numbers-read b ns l k v z q =
     let e : length ns ≡ k = ap length q ∙ length-numbers k 0 (take (length b - l .«draws_at») (drop (l .«draws_at») b)) in
     let few : l .draws ≤ length ns = omega (arith, v .full, v .most, e, z) in
-    ((few, sym (length-take-le (l .draws) ns few)), q ∙ (λ j. numbers (sym e j) 0 (take-all (length b - l .«draws_at») (drop (l .«draws_at») b) (simp length-drop (omega arith)) j)))
+    ((few, counted (l .draws) ns few), q ∙ (λ j. numbers (sym e j) 0 (take-all (length b - l .«draws_at») (drop (l .«draws_at») b) (simp length-drop (omega arith)) j)))
 
 -- ---- what is decided before the first event
 

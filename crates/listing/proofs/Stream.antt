@@ -14,7 +14,7 @@ use Rattle.lists.proofs.Choice.{by-choice}
 use Rattle.record.specs.declared.Header.{Header}
 use Rattle.record.specs.Read.{header-of}
 use Rattle.text.specs.declared.Text.{Text}
-use Rattle.text.specs.Text.{Shows, Begins}
+use Rattle.text.specs.Text.{Shows, Puts, Begins}
 use Rattle.text.specs.Lines.{digits-within, decimal, field}
 use Rattle.text.proofs.Written.{begun}
 use Rattle.lines.specs.Lines.{four, record-line, end-line, heads, record-lines, event-text}
@@ -27,9 +27,9 @@ use Rattle.listing.specs.declared.Told.{Told}
 use Rattle.listing.specs.declared.Opened.{Opened}
 use Rattle.listing.specs.declared.Opened.the-variants.{Events}
 use Rattle.listing.specs.Run.{outcome-text, events-text, laid-text, run-text}
-use Rattle.listing.specs.Place.{Steps, Fills, Tells}
+use Rattle.listing.specs.Place.{Inside, Steps, Fills, Starts, Tells}
 use Rattle.listing.specs.Opened.{first-place, opened, rest-text}
-use Rattle.listing.proofs.Laws.{met, rest-step, whole-text}
+use Rattle.listing.proofs.Laws.{met, counted, rest-step, whole-text}
 
 -- ---- how long the lines of an event are
 
@@ -95,25 +95,34 @@ outcome-few room i o e = let h = text-few i (o .answer .code) (o .answer .draws)
 
 -- ---- one event
 
+-- a text that fits stands at the front
+starts : (w out₀ : List ℕ) (t : Text) (o : List ℕ) → length w ≤ length out₀ → Shows w out₀ t o → Starts w (t .at) o
+starts w out₀ t o l s =
+    let e : t .at ≡ 0 + length w = omega (arith, s .reached, l) in
+    let long : length o ≡ length out₀ = ap length (s .bytes) ∙ length-overwrite out₀ 0 w in
+    let few : t .at ≤ length o = omega (arith, e, l, long) in
+    record { counts = (few, counted (t .at) o few); text = (λ j. take (e j) (s .bytes j)) ∙ take-stored out₀ 0 w (omega (arith, l)) }
+
+pub line-starts : (code : ℕ) (t r : Text) (out o : List ℕ) → 44 ≤ length out → Begins t → Puts (end-line code 0) t out r o → Starts (end-line code 0) (r .at) o
+line-starts code t r out o l h k = let few = end-few code 0 in starts (end-line code 0) out r o (omega (arith, few, l)) (k .puts [] out (begun t out h))
+
 module _ (room : ℕ) (p : Runner) (i : ℕ) (events draws : List ℕ) (t : Text) (out : List ℕ) (q : Stepped) (o : List ℕ) where
   pub told : Begins t → 168 * room + 44 ≤ length out → Fills room p events draws → Steps room p i events draws t out q o
       → Tells room p i events draws (record { runner = q .runner; size = q .text .at }) o
   told h l f k =
       let w : List ℕ = outcome-text i (met room p events draws) in
-      let s : Shows w out (q .text) o = k .text .puts [] out (begun t out h) in
       let few : length w ≤ 168 * room + 44 = outcome-few room i (met room p events draws) (f .fills) in
-      let e : q .text .at ≡ 0 + length w = omega (arith, s .reached, few, l) in
-      let long : length o ≡ length out = ap length (s .bytes) ∙ length-overwrite out 0 w in
-      record {
-        inside = k .inside;
-        state = k .state;
-        at = k .at;
-        left = k .left;
-        size = omega (arith, e, few, l, long);
-        text = (λ j. take (e j) (s .bytes j)) ∙ take-stored out 0 w (omega (arith, few, l));
-      }
+      record { inside = k .inside; state = k .state; at = k .at; left = k .left; text = starts w out (q .text) o (omega (arith, few, l)) (k .text .puts [] out (begun t out h)) }
 
 -- ---- the events one after another
+
+-- the first place is inside any events and draws
+pub begun-inside : (l : Layout) (p : Runner) (events draws : List ℕ) → p ≡ first-place l → Inside p events draws
+unfolding first-place
+begun-inside l p events draws e =
+    let a : p .at ≡ 0 = ap (λ (x : Runner). x .at) e in
+    let u : p .used ≡ 0 = ap (λ (x : Runner). x .used) e in
+    record { at = omega (arith, a); used = omega (arith, u) }
 
 -- an input with events prints what is left at their first place
 pub rest-first : (b : List ℕ) (l : Layout) → opened b ≡ Events l
@@ -127,4 +136,4 @@ rest-first b l e =
 pub rest-next : (room : ℕ) (p : Runner) (i n : ℕ) (events draws : List ℕ) (r : Told) (o : List ℕ) → i < n → Tells room p i events draws r o
     → rest-text room p i n events draws ≡ take (r .size) o ++ rest-text room (r .runner) (i + 1) n events draws
 rest-next room p i n events draws r o h k =
-    rest-step room p (r .runner) i n events draws h (k .state) (k .at) (k .left) ∙ ap (λ (x : List ℕ). x ++ rest-text room (r .runner) (i + 1) n events draws) (sym (k .text))
+    rest-step room p (r .runner) i n events draws h (k .state) (k .at) (k .left) ∙ ap (λ (x : List ℕ). x ++ rest-text room (r .runner) (i + 1) n events draws) (sym (k .text .text))

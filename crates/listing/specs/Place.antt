@@ -5,6 +5,7 @@ use mathlib.Core.Path.{_≡_}
 use mathlib.Core.List.{List}
 use lib.ListN.{length, take, drop}
 use lib.Dec.{ltb, leb}
+use Rattle.io.specs.Counts.{Counts}
 use Rattle.lists.specs.Lists.{choose}
 use Rattle.hyparview.specs.Handled.{handled}
 use Rattle.text.specs.declared.Text.{Text}
@@ -34,14 +35,18 @@ pub record Steps (room : ℕ) (p : Runner) (i : ℕ) (events draws : List ℕ) (
   pub left : drop (r .runner .used) draws ≡ drop (handled (p .state) (take (event-length (drop (p .at) events)) (drop (p .at) events)) (drop (p .used) draws) room .answer .draws) (drop (p .used) draws)
   pub text : Puts (outcome-text i (handled (p .state) (take (event-length (drop (p .at) events)) (drop (p .at) events)) (drop (p .used) draws) room)) t out (r .text) o
 
+-- the first n bytes of o are the text w
+pub record Starts (w : List ℕ) (n : ℕ) (o : List ℕ) : Type 0 where
+  pub counts : Counts n o
+  pub text : take n o ≡ w
+
 -- the same where the lines of the event stand alone, in the first bytes of o
 pub record Tells (room : ℕ) (p : Runner) (i : ℕ) (events draws : List ℕ) (r : Told) (o : List ℕ) : Type 0 where
   pub inside : Inside (r .runner) events draws
   pub state : r .runner .state ≡ handled (p .state) (take (event-length (drop (p .at) events)) (drop (p .at) events)) (drop (p .used) draws) room .answer .state
   pub at : r .runner .at ≡ p .at + event-length (drop (p .at) events)
   pub left : drop (r .runner .used) draws ≡ drop (handled (p .state) (take (event-length (drop (p .at) events)) (drop (p .at) events)) (drop (p .used) draws) room .answer .draws) (drop (p .used) draws)
-  pub size : r .size ≤ length o
-  pub text : take (r .size) o ≡ outcome-text i (handled (p .state) (take (event-length (drop (p .at) events)) (drop (p .at) events)) (drop (p .used) draws) room)
+  pub text : Starts (outcome-text i (handled (p .state) (take (event-length (drop (p .at) events)) (drop (p .at) events)) (drop (p .used) draws) room)) (r .size) o
 
 -- the event at p leaves an output of as many bytes as were lent
 pub record Fills (room : ℕ) (p : Runner) (events draws : List ℕ) : Type 0 where

@@ -12,8 +12,9 @@ ghost use Prim.Native.Nat.{_+_, _*_};
 ghost use Rattle.input.specs.Input.{cut-events, numbers};
 ghost use Rattle.input.proofs.Laws.{Laid};
 ghost use Rattle.text.specs.Text.{Puts};
+ghost use Rattle.lines.specs.Lines.{end-line};
 ghost use Rattle.listing.specs.Run.{events-text, laid-text, run-text};
-ghost use Rattle.listing.specs.Place.{Inside, Steps, Tells, Fills, advanced, fitting, Answers};
+ghost use Rattle.listing.specs.Place.{Inside, Steps, Starts, Tells, Fills, advanced, fitting, Answers};
 ghost use Rattle.listing.specs.Opened.{opened, opened-layout, first-place};
 
 // The place reached in a run: the state, and how far its events and its draws are.
@@ -171,6 +172,16 @@ pub fn open(b: &[u8]) -> Opened
         Input::Refused => Opened::Line(3),
         Input::Whole(l) => open_layout(l),
     }
+}
+
+// The one line of an input without events, at the front of the lent bytes.
+pub fn line(code: u32, out: &mut [u8]) -> usize
+    requires { ⌜ 44 ≤ length (now out) ⌝ }
+    ensures { λ r. ⌜ Starts (end-line code 0) r (now (out .exit)) ⌝ }
+{
+    let none = text::start();
+    let t = lines::put_end(out, none, code, 0);
+    t.at
 }
 
 // The place before the first event: the new station.
