@@ -2,17 +2,17 @@
 -- Assumes nothing.
 use Prim.Native.Nat.{ℕ, zero, suc, _+_, _-_, _≤_, _<_}
 use mathlib.Core.Path.{_≡_, refl, sym, ap, _∙_, subst}
-use mathlib.Core.Bool.{true, false}
+use mathlib.Core.Bool.{Bool, true, false}
 use mathlib.Core.Option.{none}
 use mathlib.Core.List.{List, [], _∷_, _++_, append-nil, append-assoc}
 use native.Mathlib.Omega.{arith}
 use lib.ListN.{length, take, drop, length-drop, drop-of-length-le}
 use lib.Seq.{take-nil, slice, drop-drop, take-all, length-take-le}
 use Rattle.io.specs.Counts.{Counts}
-use lib.Dec.{ltb, leb}
-use borrow.Author.Tests.{lt-ltb, le-ltb, le-leb, lt-leb, ltb-true, ltb-false, eqb-true, eqb-false, eq-eqb, ne-eqb}
+use lib.Dec.{ltb, leb, eqb}
+use borrow.Author.Tests.{lt-ltb, le-ltb, le-leb, lt-leb, leb-true, ltb-true, ltb-false, eqb-true, eqb-false, eq-eqb, ne-eqb}
 use Rattle.lists.specs.Lists.{choose}
-use Rattle.lists.proofs.Choice.{by-choice, choose-yes, choose-no}
+use Rattle.lists.proofs.Choice.{by-choice, split, choose-yes, choose-no}
 use Rattle.state.specs.declared.State.{State}
 use Rattle.hyparview.specs.declared.Answer.{Answer}
 use Rattle.hyparview.specs.Handled.{Outcome, handled}
@@ -28,14 +28,17 @@ use Rattle.input.specs.declared.Layout.{Layout}
 use Rattle.input.specs.declared.Input.{Input}
 use Rattle.input.specs.declared.Input.the-variants.{Refused, Whole}
 use Rattle.input.specs.Input.{number, numbers, event-length, cut-events, input-of}
-use Rattle.input.proofs.Laws.{length-numbers, Laid}
+use Rattle.input.proofs.Laws.{length-numbers, Laid, laid}
 use Rattle.lines.specs.Lines.{end-line, event-text}
 use Rattle.listing.specs.declared.Runner.{Runner}
 use Rattle.listing.specs.declared.Stepped.{Stepped}
+use Rattle.listing.specs.declared.Opened.{Opened}
+use Rattle.listing.specs.declared.Opened.the-variants.{Line, Events}
 use Rattle.listing.specs.declared.Shown.{Shown}
 use Rattle.listing.specs.declared.Shown.the-variants.{Bytes, TooShort}
 use Rattle.listing.specs.Run.{outcome-text, events-text, laid-text, made-text, input-text, run-text}
-use Rattle.listing.specs.Place.{Inside, Steps, advanced, fitting, Answers}
+use Rattle.listing.specs.Place.{Inside, Steps, Fills, advanced, fitting, Answers}
+use Rattle.listing.specs.Opened.{first-place, opened-layout, opened-input, opened, opened-text, rest-text}
 
 -- ---- the draws
 
@@ -62,20 +65,28 @@ drop-advanced used n ds =
 
 -- ---- one event
 
-module _ (room : ℕ) (p : Runner) (i : ℕ) (events draws : List ℕ) (t : Text) (out : List ℕ) where
-  abbrev met : Outcome
-  met = handled (p .state) (take (event-length (drop (p .at) events)) (drop (p .at) events)) (drop (p .used) draws) room
+-- what the event at p gives
+abbrev pub met : ℕ → Runner → List ℕ → List ℕ → Outcome
+met room p events draws = handled (p .state) (take (event-length (drop (p .at) events)) (drop (p .at) events)) (drop (p .used) draws) room
 
+-- the call with the event and the draws cut out by their places
+same-call : (room : ℕ) (p : Runner) (events draws : List ℕ) (n : ℕ) (a : Answer) (recs : List ℕ) → n ≡ event-length (drop (p .at) events)
+    → record { answer = a; output = recs } ≡ handled (p .state) (take (p .at + n - p .at) (drop (p .at) events)) (take (length draws - p .used) (drop (p .used) draws)) room
+    → record { answer = a; output = recs } ≡ met room p events draws
+same-call room p events draws n a recs e h =
+    let n-is : p .at + n - p .at ≡ event-length (drop (p .at) events) = omega (arith, e) in
+    let cut : take (p .at + n - p .at) (drop (p .at) events) ≡ take (event-length (drop (p .at) events)) (drop (p .at) events) = ap (λ (x : ℕ). take x (drop (p .at) events)) n-is in
+    let rest : take (length draws - p .used) (drop (p .used) draws) ≡ drop (p .used) draws = take-all (length draws - p .used) (drop (p .used) draws) (simp length-drop (omega arith)) in
+    h ∙ (λ j. handled (p .state) (cut j) (rest j) room)
+
+module _ (room : ℕ) (p : Runner) (i : ℕ) (events draws : List ℕ) (t : Text) (out : List ℕ) where
   pub stepped : (n : ℕ) (a : Answer) (recs : List ℕ) (r : Text) (o : List ℕ) (u : ℕ) → Inside p events draws → n ≡ event-length (drop (p .at) events) → n ≤ length events - p .at
       → record { answer = a; output = recs } ≡ handled (p .state) (take (p .at + n - p .at) (drop (p .at) events)) (take (length draws - p .used) (drop (p .used) draws)) room
       → Puts (event-text i (a .code) (a .draws) recs) t out r o → u ≡ advanced (p .used) (a .draws) (length draws)
       → Steps room p i events draws t out (record { runner = record { state = a .state; at = p .at + n; used = u }; text = r }) o
   unfolding outcome-text
   stepped n a recs r o u v e l h k q =
-      let n-is : p .at + n - p .at ≡ event-length (drop (p .at) events) = omega (arith, e) in
-      let cut : take (p .at + n - p .at) (drop (p .at) events) ≡ take (event-length (drop (p .at) events)) (drop (p .at) events) = ap (λ (x : ℕ). take x (drop (p .at) events)) n-is in
-      let rest : take (length draws - p .used) (drop (p .used) draws) ≡ drop (p .used) draws = take-all (length draws - p .used) (drop (p .used) draws) (simp length-drop (omega arith)) in
-      let m : record { answer = a; output = recs } ≡ met = h ∙ (λ j. handled (p .state) (cut j) (rest j) room) in
+      let m : record { answer = a; output = recs } ≡ met room p events draws = same-call room p events draws n a recs e h in
       record {
         inside = record { at = omega (arith, l, v .at); used = subst (λ (x : ℕ). x ≤ length draws) (sym q) (advanced-within (p .used) (a .draws) (length draws) (v .used)) };
         state = ap (λ (x : Outcome). x .answer .state) m;
@@ -83,6 +94,12 @@ module _ (room : ℕ) (p : Runner) (i : ℕ) (events draws : List ℕ) (t : Text
         left = ap (λ (x : ℕ). drop x draws) q ∙ (drop-advanced (p .used) (a .draws) draws ∙ ap (λ (x : Outcome). drop (x .answer .draws) (drop (p .used) draws)) m);
         text = named (ap (λ (x : Outcome). event-text i (x .answer .code) (x .answer .draws) (x .output)) m) k;
       }
+
+module _ (room : ℕ) (p : Runner) (events draws : List ℕ) (n : ℕ) (a : Answer) (recs : List ℕ) where
+  pub filled : n ≡ event-length (drop (p .at) events)
+      → record { answer = a; output = recs } ≡ handled (p .state) (take (p .at + n - p .at) (drop (p .at) events)) (take (length draws - p .used) (drop (p .used) draws)) room
+      → length recs ≡ room → Fills room p events draws
+  filled e h k = record { fills = ap (λ (x : Outcome). length (x .output)) (sym (same-call room p events draws n a recs e h)) ∙ k }
 
 -- ---- the events in order
 
@@ -93,10 +110,11 @@ pub record Running (room : ℕ) (whole events draws : List ℕ) (n : ℕ) (t : T
   pub records : length recs ≡ room
   pub done : List ℕ
   pub so-far : Puts done t out r o
-  pub same : whole ≡ done ++ events-text room i (p .state) (cut-events (n - i) (drop (p .at) events)) (drop (p .used) draws)
+  pub same : whole ≡ done ++ rest-text room p i n events draws
 
 pub running-start : (s : State) (events draws : List ℕ) (n : ℕ) (t : Text) (out recs : List ℕ)
     → Running (length recs) (events-text (length recs) 0 s (cut-events n events) draws) events draws n t out recs (record { state = s; at = 0; used = 0 }) t out 0
+unfolding rest-text
 running-start s events draws n t out recs = record {
   low = omega arith;
   inside = record { at = omega arith; used = omega arith };
@@ -112,32 +130,43 @@ one-event : (room i k : ℕ) (s : State) (l ds : List ℕ) → events-text room 
 unfolding cut-events events-text
 one-event room i k s l ds = refl
 
+-- what is left at a place is the lines of its event and what is left at the next
+pub rest-step : (room : ℕ) (p q : Runner) (i n : ℕ) (events draws : List ℕ) → i < n → q .state ≡ met room p events draws .answer .state
+    → q .at ≡ p .at + event-length (drop (p .at) events) → drop (q .used) draws ≡ drop (met room p events draws .answer .draws) (drop (p .used) draws)
+    → rest-text room p i n events draws ≡ outcome-text i (met room p events draws) ++ rest-text room q (i + 1) n events draws
+unfolding rest-text
+rest-step room p q i n events draws h state at left =
+    let c : n - i ≡ suc (n - (i + 1)) = omega (arith, h) in
+    let places : drop (event-length (drop (p .at) events)) (drop (p .at) events) ≡ drop (q .at) events = drop-drop (event-length (drop (p .at) events)) (p .at) events ∙ ap (λ (x : ℕ). drop x events) (sym at) in
+    ap (λ (x : ℕ). events-text room i (p .state) (cut-events x (drop (p .at) events)) (drop (p .used) draws)) c
+    ∙ (one-event room i (n - (i + 1)) (p .state) (drop (p .at) events) (drop (p .used) draws)
+    ∙ (λ j. outcome-text i (met room p events draws) ++ events-text room (i + 1) (sym state j) (cut-events (n - (i + 1)) (places j)) (sym left j)))
+
+pub rest-end : (room : ℕ) (p : Runner) (i n : ℕ) (events draws : List ℕ) → n ≤ i → rest-text room p i n events draws ≡ []
+unfolding rest-text cut-events events-text
+rest-end room p i n events draws h =
+    let z : n - i ≡ 0 = omega (arith, h) in
+    ap (λ (x : ℕ). events-text room i (p .state) (cut-events x (drop (p .at) events)) (drop (p .used) draws)) z
+
 module _ (room : ℕ) (whole events draws : List ℕ) (n : ℕ) (t : Text) (out recs : List ℕ) (p : Runner) (r : Text) (o : List ℕ) (i : ℕ) (v : Running room whole events draws n t out recs p r o i) where
   pub running-next : (q : Stepped) (o₂ recs₂ : List ℕ) → i < n → Steps (length recs) p i events draws r o q o₂ → length o₂ ≡ length o → length recs₂ ≡ length recs
       → Running room whole events draws n t out recs₂ (q .runner) (q .text) o₂ (i + 1)
   running-next q o₂ recs₂ h lent e₁ e₂ =
       let k : Steps room p i events draws r o q o₂ = subst (λ (x : ℕ). Steps x p i events draws r o q o₂) (v .records) lent in
-      let c : n - i ≡ suc (n - (i + 1)) = omega (arith, h) in
-      let places : drop (event-length (drop (p .at) events)) (drop (p .at) events) ≡ drop (q .runner .at) events = drop-drop (event-length (drop (p .at) events)) (p .at) events ∙ ap (λ (x : ℕ). drop x events) (sym (k .at)) in
       record {
         low = omega (arith, h);
         inside = k .inside;
         len = e₁ ∙ v .len;
         records = e₂ ∙ v .records;
-        done = v .done ++ outcome-text i (met room p i events draws r o);
+        done = v .done ++ outcome-text i (met room p events draws);
         so-far = then (k .text) (v .so-far);
         same = v .same
-            ∙ (ap (λ (x : ℕ). v .done ++ events-text room i (p .state) (cut-events x (drop (p .at) events)) (drop (p .used) draws)) c
-            ∙ (ap (λ (x : List ℕ). v .done ++ x) (one-event room i (n - (i + 1)) (p .state) (drop (p .at) events) (drop (p .used) draws)
-            ∙ (λ j. outcome-text i (met room p i events draws r o) ++ events-text room (i + 1) (sym (k .state) j) (cut-events (n - (i + 1)) (places j)) (sym (k .left) j)))
-            ∙ sym (append-assoc (v .done) (outcome-text i (met room p i events draws r o)) _)));
+            ∙ (ap (λ (x : List ℕ). v .done ++ x) (rest-step room p (q .runner) i n events draws h (k .state) (k .at) (k .left))
+            ∙ sym (append-assoc (v .done) (outcome-text i (met room p events draws)) _));
       }
 
   pub running-end : n ≤ i → Puts whole t out r o
-  unfolding cut-events events-text
-  running-end h =
-      let z : n - i ≡ 0 = omega (arith, h) in
-      named (sym (v .same ∙ (ap (λ (x : ℕ). v .done ++ events-text room i (p .state) (cut-events x (drop (p .at) events)) (drop (p .used) draws)) z ∙ append-nil (v .done)))) (v .so-far)
+  running-end h = named (sym (v .same ∙ (ap (λ (x : List ℕ). v .done ++ x) (rest-end room p i n events draws h) ∙ append-nil (v .done)))) (v .so-far)
 
 -- ---- the whole
 
@@ -158,6 +187,24 @@ shown-part t f = record {
       let l : length out₀ < length w = ltb-true (length out₀) (length w) (sym (k .over) ∙ f) in
       sym (choose-no _ _ _ (lt-leb (length w) (length out₀) l));
 }
+
+pub counted : (n : ℕ) (l : List ℕ) → n ≤ length l → n ≡ length (take n l)
+counted n l h = sym (length-take-le n l h)
+
+bytes-is : (m n : ℕ) → _≡_ {A = Shown} (Bytes m) (Bytes n) → m ≡ n
+bytes-is m n e = cc
+
+-- a text that fits is no longer than the bytes lent
+module _ (w : ℕ) (out o : List ℕ) (r : Shown) (n : ℕ) (e : r ≡ fitting w (length out)) (h : r ≡ Bytes n) (q : length o ≡ length out) where
+  pub shown-within : n ≤ length o
+  unfolding fitting
+  shown-within =
+      let t : Bool = leb w (length out) in
+      split t (λ y. let s : w ≡ n = bytes-is w n (sym (choose-yes t (Bytes w) TooShort y) ∙ (sym e ∙ h)) in omega (arith, s, q, leb-true w (length out) y))
+      (λ f. let s : TooShort ≡ Bytes n = sym (choose-no t (Bytes w) TooShort f) ∙ (sym e ∙ h) in let z : _≡_ {A = ℕ} 0 1 = cc in absurd (omega arith))
+
+  pub shown-counted : n ≡ length (take n o)
+  shown-counted = counted n o shown-within
 
 first-numbers : (n k i : ℕ) (b : List ℕ) → n ≤ k → take n (numbers k i b) ≡ numbers n i b
 unfolding numbers
@@ -183,33 +230,95 @@ pub numbers-read : (b ns : List ℕ) (l : Layout) (k : ℕ) → Laid b l → k �
 numbers-read b ns l k v z q =
     let e : length ns ≡ k = ap length q ∙ length-numbers k 0 (take (length b - l .«draws_at») (drop (l .«draws_at») b)) in
     let few : l .draws ≤ length ns = omega (arith, v .full, v .most, e, z) in
-    ((few, sym (length-take-le (l .draws) ns few)), q ∙ (λ j. numbers (sym e j) 0 (take-all (length b - l .«draws_at») (drop (l .«draws_at») b) (simp length-drop (omega arith)) j)))
+    ((few, counted (l .draws) ns few), q ∙ (λ j. numbers (sym e j) 0 (take-all (length b - l .«draws_at») (drop (l .«draws_at») b) (simp length-drop (omega arith)) j)))
 
--- ---- the two refusals
+-- ---- what is decided before the first event
 
 no-data : (own : List ℕ) → lent false own ≡ none
 unfolding lent choose
 no-data own = refl
 
-module _ (b : List ℕ) (l : Layout) (m : Made) (own : List ℕ) (t r : Text) (out o : List ℕ) (w : input-of b ≡ Whole l) (e : m ≡ pack-made (new (l .me) (lent false own) (l .config))) where
-  text-is : run-text b ≡ made-text m l b
-  unfolding run-text input-text
-  text-is = ap (λ (x : Input). input-text x b) w ∙ ap (λ (x : Made). made-text x l b) (ap (λ (d : Data). pack-made (new (l .me) d (l .config))) (sym (no-data own)) ∙ sym e)
+module _ (l : Layout) (m : Made) (own : List ℕ) (e : m ≡ pack-made (new (l .me) (lent false own) (l .config))) where
+  made-is : m ≡ pack-made (new (l .me) none (l .config))
+  made-is = e ∙ ap (λ (d : Data). pack-made (new (l .me) d (l .config))) (no-data own)
 
-  pub run-refused : (m .code ≡ 0 → ⊥) → Puts (end-line 1 0) t out r o → Puts (run-text b) t out r o
-  unfolding made-text
-  run-refused h k = named (sym (text-is ∙ choose-no _ _ _ (ne-eqb _ _ h))) k
+  pub open-unset : (m .code ≡ 0 → ⊥) → Line 1 ≡ opened-layout l
+  unfolding opened-layout
+  open-unset h = sym (choose-no _ (Events l) (Line 1) (ap (λ (x : Made). eqb (x .code) 0) (sym made-is) ∙ ne-eqb _ _ h))
 
-  pub run-walked : m .code ≡ 0 → Puts (laid-text 8192 (m .state) l b) t out r o → Puts (run-text b) t out r o
-  unfolding made-text
-  run-walked h k = named (sym (text-is ∙ choose-yes _ _ _ (eq-eqb _ _ h))) k
+  pub open-events : m .code ≡ 0 → Events l ≡ opened-layout l
+  unfolding opened-layout
+  open-events h = sym (choose-yes _ (Events l) (Line 1) (ap (λ (x : Made). eqb (x .code) 0) (sym made-is) ∙ eq-eqb _ _ h))
 
-pub run-malformed : (b : List ℕ) (x : Input) (t r : Text) (out o : List ℕ) → x ≡ input-of b → x ≡ Refused → Puts (end-line 3 0) t out r o → Puts (run-text b) t out r o
-unfolding run-text input-text
-run-malformed b x t r out o e h k = named (ap (λ (y : Input). input-text y b) (sym h ∙ e)) k
+  pub begins-at : _≡_ {A = Runner} (record { state = m .state; at = 0; used = 0 }) (first-place l)
+  unfolding first-place
+  begins-at = λ j. record { state = made-is j .state; at = 0; used = 0 }
 
-pub input-is : (b : List ℕ) (x : Input) (l : Layout) → x ≡ input-of b → x ≡ Whole l → input-of b ≡ Whole l
-input-is b x l e h = sym e ∙ h
+module _ (b : List ℕ) (x : Input) (e : x ≡ input-of b) where
+  pub open-refused : x ≡ Refused → Line 3 ≡ opened b
+  unfolding opened opened-input
+  open-refused h = ap opened-input (sym h ∙ e)
+
+  pub open-whole : (l : Layout) (r : Opened) → x ≡ Whole l → r ≡ opened-layout l → r ≡ opened b
+  unfolding opened opened-input
+  open-whole l r h k = k ∙ ap opened-input (sym h ∙ e)
+
+layout-text : (l : Layout) (b : List ℕ) → made-text (pack-made (new (l .me) none (l .config))) l b ≡ opened-text (opened-layout l) b
+unfolding made-text opened-layout opened-text first-place
+layout-text l b =
+    let t : Bool = eqb (pack-made (new (l .me) none (l .config)) .code) 0 in
+    split t (λ e. choose-yes t _ _ e ∙ sym (ap (λ (o : Opened). opened-text o b) (choose-yes t (Events l) (Line 1) e)))
+    (λ e. choose-no t _ _ e ∙ sym (ap (λ (o : Opened). opened-text o b) (choose-no t (Events l) (Line 1) e)))
+
+input-opened : (x : Input) (b : List ℕ) → input-text x b ≡ opened-text (opened-input x) b
+unfolding input-text opened-input opened-text
+input-opened Refused b = refl
+input-opened (Whole l) b = layout-text l b
+
+-- the text of a run is what is printed after the decision
+pub text-opened : (b : List ℕ) → run-text b ≡ opened-text (opened b) b
+unfolding run-text opened
+text-opened b = input-opened (input-of b) b
+
+module _ (b : List ℕ) (o : Opened) (e : o ≡ opened b) where
+  text-is : run-text b ≡ opened-text o b
+  text-is = text-opened b ∙ ap (λ (x : Opened). opened-text x b) (sym e)
+
+  pub line-text : (c : ℕ) → o ≡ Line c → run-text b ≡ end-line c 0
+  unfolding opened-text
+  line-text c h = text-is ∙ ap (λ (x : Opened). opened-text x b) h
+
+  pub whole-text : (l : Layout) → o ≡ Events l → run-text b ≡ laid-text 8192 (first-place l .state) l b
+  unfolding opened-text
+  whole-text l h = text-is ∙ ap (λ (x : Opened). opened-text x b) h
+
+  pub run-line : (c : ℕ) (t r : Text) (out p : List ℕ) → o ≡ Line c → Puts (end-line c 0) t out r p → Puts (run-text b) t out r p
+  run-line c t r out p h k = named (sym (line-text c h)) k
+
+  pub run-events : (l : Layout) (q : Runner) (t r : Text) (out p : List ℕ) → o ≡ Events l → q ≡ first-place l → Puts (laid-text 8192 (q .state) l b) t out r p → Puts (run-text b) t out r p
+  run-events l q t r out p h f k = named (ap (λ (x : Runner). laid-text 8192 (x .state) l b) f ∙ sym (whole-text l h)) k
+
+events-is : (x y : Layout) → _≡_ {A = Opened} (Events x) (Events y) → x ≡ y
+events-is x y e = cc
+
+line-not : {C : Type 0} (c : ℕ) (l : Layout) → _≡_ {A = Opened} (Line c) (Events l) → C
+line-not c l e = let z : _≡_ {A = ℕ} 0 1 = cc in absurd (omega arith)
+
+whole-layout : (m l : Layout) → opened-layout m ≡ Events l → m ≡ l
+unfolding opened-layout
+whole-layout m l e =
+    let t : Bool = eqb (pack-made (new (m .me) none (m .config)) .code) 0 in
+    split t (λ y. events-is _ _ (sym (choose-yes t (Events m) (Line 1) y) ∙ e)) (λ n. line-not 1 l (sym (choose-no t (Events m) (Line 1) n) ∙ e))
+
+whole-input : (x : Input) (l : Layout) → opened-input x ≡ Events l → x ≡ Whole l
+unfolding opened-input
+whole-input Refused l e = line-not 3 l e
+whole-input (Whole m) l e = ap Whole (whole-layout m l e)
+
+-- an input with events has them in their places
+pub opened-laid : (b : List ℕ) (o : Opened) (l : Layout) → o ≡ opened b → o ≡ Events l → Laid b l
+unfolding opened
+opened-laid b o l e h = laid b l (whole-input (input-of b) l (sym e ∙ h))
 
 -- ---- the answer
 

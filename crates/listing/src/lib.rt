@@ -8,12 +8,14 @@ ghost use Prim.Native.Nat.{_≤_};
 ghost use lib.ListN.{length, drop};
 ghost use Rattle.io.specs.Counts.{Counts};
 ghost use Rattle.lists.specs.Bytes.{overwrite};
-ghost use Rattle.input.specs.declared.Input.the-variants.{Whole};
-ghost use Rattle.input.specs.Input.{cut-events, numbers, input-of};
+ghost use Prim.Native.Nat.{_+_, _*_};
+ghost use Rattle.input.specs.Input.{cut-events, numbers};
 ghost use Rattle.input.proofs.Laws.{Laid};
 ghost use Rattle.text.specs.Text.{Puts};
+ghost use Rattle.lines.specs.Lines.{end-line};
 ghost use Rattle.listing.specs.Run.{events-text, laid-text, run-text};
-ghost use Rattle.listing.specs.Place.{Inside, Steps, advanced, fitting, Answers};
+ghost use Rattle.listing.specs.Place.{Inside, Steps, Starts, Tells, Fills, advanced, fitting, Answers};
+ghost use Rattle.listing.specs.Opened.{opened, opened-layout, first-place};
 
 // The place reached in a run: the state, and how far its events and its draws are.
 pub struct Runner {
@@ -26,6 +28,18 @@ pub struct Runner {
 pub struct Stepped {
     pub runner: Runner,
     pub text: Text,
+}
+
+// The place after an event, and how many bytes its lines have.
+pub struct Told {
+    pub runner: Runner,
+    pub size: usize,
+}
+
+// What is decided of an input before its first event: the code of its one line, or that it has events.
+pub enum Opened {
+    Line(u32),
+    Events(Layout),
 }
 
 // How many bytes the text has, or that it has more than were lent.
@@ -57,6 +71,7 @@ pub fn step(
 ) -> Stepped
     requires { ⌜ Inside p (now events) (now draws) ⌝ }
     ensures { λ r. ⌜ Steps (length (now (records .entry))) p i (now (events .entry)) (now (draws .entry)) t (now (out .entry)) r (now (out .exit)) ⌝ }
+    ensures { λ _. ⌜ Fills (length (now (records .entry))) p (now (events .entry)) (now (draws .entry)) ⌝ }
 {
     let s = p.state;
     let at = p.at;
@@ -136,28 +151,88 @@ fn put_whole(s: State, b: &[u8], l: Layout, out: &mut [u8], t: Text) -> Text
     put_walk(s, b, l, &drawn, &mut records, out, t)
 }
 
-// An input that is not refused: its events, or only the code of settings out of range.
-fn put_layout(b: &[u8], l: Layout, out: &mut [u8], t: Text) -> Text
-    requires { ⌜ input-of (now b) ≡ Whole l ⌝ }
-    ensures { λ r. ⌜ Puts (run-text (now (b .entry))) t (now (out .entry)) r (now (out .exit)) ⌝ }
+// An input that is not refused as a whole: settings out of range have one line only.
+fn open_layout(l: Layout) -> Opened
+    ensures { λ r. ⌜ r ≡ opened-layout l ⌝ }
 {
     let config = l.config;
     let m = rules::new(l.me, false, b"", config);
     if m.code != 0 {
-        return lines::put_end(out, t, 1, 0);
+        return Opened::Line(1);
     }
+    Opened::Events(l)
+}
+
+// Every decision that is taken before the first event.
+pub fn open(b: &[u8]) -> Opened
+    ensures { λ r. ⌜ r ≡ opened (now (b .entry)) ⌝ }
+{
+    let i = input::read(b);
+    match i {
+        Input::Refused => Opened::Line(3),
+        Input::Whole(l) => open_layout(l),
+    }
+}
+
+// The one line of an input without events, at the front of the lent bytes.
+pub fn line(code: u32, out: &mut [u8]) -> usize
+    requires { ⌜ 44 ≤ length (now out) ⌝ }
+    ensures { λ r. ⌜ Starts (end-line code 0) r (now (out .exit)) ⌝ }
+{
+    let none = text::start();
+    let t = lines::put_end(out, none, code, 0);
+    t.at
+}
+
+// The place before the first event: the new station.
+pub fn begin(l: Layout) -> Runner
+    ensures { λ r. ⌜ r ≡ first-place l ⌝ }
+{
+    let config = l.config;
+    let m = rules::new(l.me, false, b"", config);
     let s = m.state;
-    put_whole(s, b, l, out, t)
+    Runner {
+        state: s,
+        at: 0,
+        used: 0,
+    }
+}
+
+// The event at the place reached, with its lines alone at the front of the lent bytes: 168 for each byte of output and 44 more hold any of them.
+pub fn tell(
+    p: Runner,
+    i: usize,
+    events: &[u8],
+    draws: &[u32],
+    records: &mut [u8],
+    out: &mut [u8],
+) -> Told
+    requires { ⌜ Inside p (now events) (now draws) ⌝ }
+    requires { ⌜ 168 * length (now records) + 44 ≤ length (now out) ⌝ }
+    ensures { λ r. ⌜ Tells (length (now (records .entry))) p i (now (events .entry)) (now (draws .entry)) r (now (out .exit)) ⌝ }
+{
+    let none = text::start();
+    let q = step(p, i, events, draws, records, out, none);
+    let next = q.runner;
+    let t = q.text;
+    Told {
+        runner: next,
+        size: t.at,
+    }
 }
 
 // All that is printed for an input.
 fn put_run(b: &[u8], out: &mut [u8], t: Text) -> Text
     ensures { λ r. ⌜ Puts (run-text (now (b .entry))) t (now (out .entry)) r (now (out .exit)) ⌝ }
 {
-    let i = input::read(b);
-    match i {
-        Input::Refused => lines::put_end(out, t, 3, 0),
-        Input::Whole(l) => put_layout(b, l, out, t),
+    let o = open(b);
+    match o {
+        Opened::Line(code) => lines::put_end(out, t, code, 0),
+        Opened::Events(l) => {
+            let p = begin(l);
+            let s = p.state;
+            put_whole(s, b, l, out, t)
+        }
     }
 }
 

@@ -1,5 +1,5 @@
 use borrow.Author.Needs.{needs}
-use Rattle.listing.proofs.Laws.{stepped}
+use Rattle.listing.proofs.Laws.{stepped, filled}
 use Rattle.listing.proofs.step.Statement.{statement}
 use Rattle.listing.proofs.step.Tie as tie
 
@@ -46,7 +46,7 @@ same-length-2 : tie.Need-same-length-2
 same-length-2 c = search needs
 
 returns : tie.Need-returns
-returns c = let n = c .before .before .before .before .before .before .before .before .before .before .before .before .before .event-length .ensures in stepped _ _ _ _ _ _ _ _ _ _ _ _ _ (c .before .before .before .before .before .before .before .before .before .before .before .before .before .before .before .before .before .before .before .pre) (n .0) (n .1) (c .before .before .before .before .before .before .before .before .before .handle .ensures) (c .before .before .before .before .put-event .ensures) (c .advance .ensures)
+returns c = let n = c .before .before .before .before .before .before .before .before .before .before .before .before .before .event-length .ensures in (stepped _ _ _ _ _ _ _ _ _ _ _ _ _ (c .before .before .before .before .before .before .before .before .before .before .before .before .before .before .before .before .before .before .before .pre) (n .0) (n .1) (c .before .before .before .before .before .before .before .before .before .handle .ensures) (c .before .before .before .before .put-event .ensures) (c .advance .ensures), filled _ _ _ _ _ _ _ (n .0) (c .before .before .before .before .before .before .before .before .before .handle .ensures) (search needs))
 
 pub step-spec : {M : Type 1} → statement M
 step-spec = tie.close (tie.spec event-length-requires add-end sub-handle part-handle-start part-handle-end mul-handle sub-handle-2 part-handle-start-2 part-handle-end-2 handle-requires put-event-requires advance-requires same-length same-length-2 returns)

@@ -1,0 +1,37 @@
+use borrow.Author.Needs.{needs}
+use Rattle.listing.proofs.Stream.{begun-inside}
+use Rattle.station.proofs.say_layout.Statement.{statement}
+use Rattle.station.proofs.say_layout.Tie as tie
+
+begin-requires : tie.Need-begin-requires
+begin-requires c κs = search needs
+
+sub-say-events : tie.Need-sub-say-events
+sub-say-events c = search needs
+
+part-say-events-start : tie.Need-part-say-events-start
+part-say-events-start c = search needs
+
+part-say-events-end : tie.Need-part-say-events-end
+part-say-events-end c = search needs
+
+slice-aggregate-say-events : tie.Need-slice-aggregate-say-events
+slice-aggregate-say-events c = search needs
+
+say-events-requires : tie.Need-say-events-requires
+say-events-requires c κs = (begun-inside _ _ _ _ (c .before .before .before .before .begin .ensures), search needs)
+
+returns : tie.Need-returns
+returns c = search needs
+
+pub say-layout-spec : {M : Type 1} → statement M
+say-layout-spec =
+    tie.close
+    (tie.spec
+    begin-requires
+    sub-say-events
+    part-say-events-start
+    part-say-events-end
+    slice-aggregate-say-events
+    say-events-requires
+    returns)
