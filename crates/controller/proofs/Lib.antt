@@ -1,0 +1,4 @@
+pub mod Laws
+pub mod Reader
+pub mod AskedOf
+pub mod Asked
