@@ -152,12 +152,14 @@ impl PeerData {
 }
 
 // A peer and its number.
+#[repr(C)]
 pub struct NumberEntry {
     pub peer: PeerId,
     pub number: u64,
 }
 
 // Numbers by peer (open requests, pending joins), in rising order of the peers. Unused places are zero.
+#[repr(C)]
 pub struct Numbers {
     pub entries: [NumberEntry; 32],
     pub len: usize,
@@ -408,6 +410,7 @@ impl Numbers {
 }
 
 // A peer and its data.
+#[repr(C)]
 pub struct DataEntry {
     pub peer: PeerId,
     pub len: u8,
@@ -415,6 +418,7 @@ pub struct DataEntry {
 }
 
 // Data by peer, in rising order of the peers. Unused places are zero.
+#[repr(C)]
 pub struct DataMap {
     pub entries: [DataEntry; 80],
     pub len: usize,

@@ -13,6 +13,7 @@ ghost use Rattle.peer.specs.Held.{HoldsData};
 ghost use Rattle.record.specs.Answers.{answer, EventIs, HoldsNode};
 
 // The 24 bytes that every record starts with, as numbers.
+#[repr(C)]
 pub struct Header {
     pub kind: u8,
     pub message: u8,
@@ -26,6 +27,7 @@ pub struct Header {
 }
 
 // A node entry: the peer, and where its data stands in the record.
+#[repr(C)]
 pub struct Entry {
     pub id: u32,
     pub offset: u16,

@@ -4,6 +4,7 @@ ghost use mathlib.Core.Path.{_≡_};
 ghost use Rattle.tally.specs.Counts.{counted, raise-one, enter, raised};
 
 // One count for each value of byte 1.
+#[repr(C)]
 pub struct Tally {
     pub join: u64,
     pub forward_join: u64,

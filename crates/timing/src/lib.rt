@@ -26,6 +26,7 @@ impl Ttl {
 }
 
 // The settings, in the order of the Rust's `Config`; intervals and timeouts in milliseconds.
+#[repr(C)]
 pub struct Config {
     pub active_view_capacity: u32,
     pub passive_view_capacity: u32,

@@ -12,6 +12,7 @@ ghost use Rattle.util.specs.Random.{shuffle, shuffle-draws, pick-index, 
 pub type PeerId = u32;
 
 // At most 32 peers in an order, with zeroes in the unused places.
+#[repr(C)]
 pub struct IndexSet {
     pub items: [PeerId; 32],
     pub len: usize,

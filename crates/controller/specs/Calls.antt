@@ -1,0 +1,43 @@
+-- What the calls that change a controller leave in its memory.
+-- Assumes nothing.
+use Prim.Native.Nat.{ℕ}
+use mathlib.Core.List.{List}
+use lib.Dec.{eqb}
+use Rattle.lists.specs.Lists.{choose}
+use Rattle.rules.specs.declared.Made.{Made}
+use Rattle.tally.specs.declared.Tally.{Tally}
+use Rattle.tally.specs.Counts.{raised}
+use Rattle.hyparview.specs.declared.Answer.{Answer}
+use Rattle.hyparview.specs.Handled as hyparview
+use Rattle.controller.specs.declared.Controller.{Controller}
+use Rattle.controller.specs.declared.Begun.{Begun}
+use Rattle.controller.specs.declared.Stepped.{Stepped}
+use Rattle.controller.specs.Memory.{state-of, kept}
+
+-- a tally of zeroes
+unfoldable pub no-messages : Tally
+no-messages = record { join = 0; «forward_join» = 0; shuffle = 0; «shuffle_reply» = 0; neighbor = 0; disconnect = 0 }
+
+-- the answer of `new`, in memory
+unfoldable pub begun : Made → Begun
+begun m = record { controller = kept (m .state) no-messages; code = m .code }
+
+-- the controller after an answer with the output `out`: "a refusal changes none" of the counts, and no byte
+unfoldable pub after : Controller → Answer → List ℕ → Stepped
+after c a out = record {
+  controller = choose (eqb (a .code) 0) (kept (a .state) (raised (a .code) out (c .tally))) c;
+  done = record { code = a .code; draws = a .draws };
+}
+
+-- what a call hands back, and the output as it leaves it
+pub record Outcome : Type 0 where
+  pub step : Stepped
+  pub output : List ℕ
+
+-- an answer of `handle` with its output, at the controller c
+unfoldable pub answered : Controller → hyparview.Outcome → Outcome
+answered c o = record { step = after c (o .answer) (o .output); output = o .output }
+
+-- one event at the controller c, with as many bytes of output
+unfoldable pub stepped : Controller → List ℕ → List ℕ → ℕ → Outcome
+stepped c b ds room = answered c (hyparview.handled (state-of c) b ds room)
