@@ -42,17 +42,17 @@ impl IO<u32> for Silent {
     }
 }
 
-type RustState = State<u32, Draws>;
+pub type RustState = State<u32, Draws>;
 
 /// An accepted event, the kind's name, and the state that it met.
-struct Case {
-    before: RustState,
-    label: &'static str,
-    record: Record,
+pub struct Case {
+    pub before: RustState,
+    pub label: &'static str,
+    pub record: Record,
 }
 
 /// The accepted events of a history, in order; refused ones are none of the Rust's.
-fn cases(input: &Input, start: Start) -> Vec<Case> {
+pub fn cases(input: &Input, start: Start) -> Vec<Case> {
     let draws = Draws::new(&input.draws[..]);
     let Some(mut station) = Station::new(input.me, &input.settings, draws) else {
         return Vec::new();
@@ -73,7 +73,7 @@ fn cases(input: &Input, start: Start) -> Vec<Case> {
 }
 
 /// The time of each case on its own copy of its state.
-fn on_copies(cases: &[&Case]) -> Duration {
+pub fn on_copies(cases: &[&Case]) -> Duration {
     let copy = |case: &&Case| Some((case.before.clone(), access::event(&case.record)));
     let mut work: Vec<_> = cases.iter().map(copy).collect();
     let mut states = Vec::with_capacity(work.len());
@@ -89,7 +89,7 @@ fn on_copies(cases: &[&Case]) -> Duration {
 }
 
 /// The time of a whole history on one state, event after event.
-fn in_a_row(cases: &[Case]) -> Duration {
+pub fn in_a_row(cases: &[Case]) -> Duration {
     let Some(first) = cases.first() else {
         return Duration::ZERO;
     };
@@ -107,7 +107,7 @@ fn in_a_row(cases: &[Case]) -> Duration {
     elapsed
 }
 
-fn fastest(rounds: usize, time: impl Fn() -> Duration) -> u128 {
+pub fn fastest(rounds: usize, time: impl Fn() -> Duration) -> u128 {
     (0..rounds)
         .map(|_| time())
         .min()
