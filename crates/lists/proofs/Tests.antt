@@ -1,7 +1,7 @@
 -- What the tests of lists and arrays say, both ways.
 -- Assumes nothing.
 use mathlib.Core.Path.{_≡_, refl, sym, ap, _∙_}
-use mathlib.Core.Bool.{Bool, true, false, _&&_}
+use mathlib.Core.Bool.{Bool, true, false, _&&_, and-true, and-assoc}
 use mathlib.Core.List.{List, [], _∷_, map}
 use Prim.Native.Nat.{ℕ, zero, suc, _+_, _≤_, _<_}
 use native.Mathlib.Numerals.{add-one}
@@ -132,6 +132,23 @@ module _ {A : Type 0} (t : A → Bool) (d : A) (N : ℕ) where
     pub every-end : n ≤ i → true ≡ whole
     unfolding every
     every-end h = sym (rest-end d (Every t) v h)
+
+-- each item from i on is tested, and ok says what came of those before: a loop that does not stop early
+abbrev pub So-far : {A : Type 0} → (A → Bool) → Bool → List A → Bool
+So-far t ok l = ok && every t l
+
+module _ {A : Type 0} (t : A → Bool) (d : A) (N : ℕ) where
+  pub so-far-from : (l : List A) (k : ℕ) → k ≤ N → length l ≡ N → Rest (So-far t) N l N (every t (drop k l)) true k
+  so-far-from l k h e = record { low = h; top = omega arith; long = e; same = every-from t d N l k h e .same }
+
+  module _ (l : List A) (n : ℕ) (whole ok : Bool) (i : ℕ) (v : Rest (So-far t) N l n whole ok i) where
+    pub so-far-next : i < n → Rest (So-far t) N l n whole (ok && t (getD l i d)) (i + 1)
+    unfolding every
+    so-far-next h = rest-next d (So-far t) v (ok && t (getD l i d)) h (λ r. sym (and-assoc ok (t (getD l i d)) (every t r)))
+
+    pub so-far-end : n ≤ i → ok ≡ whole
+    unfolding every
+    so-far-end h = sym (rest-end d (So-far t) v h ∙ and-true ok)
 
 -- two lists are compared from i on
 pub record Alike (N : ℕ) (xs ys : List ℕ) (n : ℕ) (whole : Bool) (i : ℕ) : Type 0 where

@@ -326,14 +326,13 @@ impl IndexSet {
         if 32 < n {
             return false;
         }
+        let mut ok = true;
         let mut i = n;
         while i < 32 {
-            if items[i] != 0 {
-                return false;
-            }
+            ok = ok & (items[i] == 0);
             i += 1;
         }
-        true
+        ok
     }
 
     // Whether no item stands twice.
@@ -383,8 +382,17 @@ impl IndexSet {
         requires { ⌜ Valid other ⌝ }
         ensures { λ r. ⌜ r ≡ subset (items-of self) (items-of other) ⌝ }
     {
-        let s = self.without_all(other);
-        s.is_empty()
+        let items = self.items;
+        let n = self.len;
+        let mut i: usize = 0;
+        while i < n {
+            let x = items[i];
+            i += 1;
+            if !other.contains(x) {
+                return false;
+            }
+        }
+        true
     }
 
     // Whether no item is in `other`.
@@ -393,8 +401,17 @@ impl IndexSet {
         requires { ⌜ Valid other ⌝ }
         ensures { λ r. ⌜ r ≡ disjoint (items-of self) (items-of other) ⌝ }
     {
-        let s = self.without_all(other);
-        s.len == self.len
+        let items = self.items;
+        let n = self.len;
+        let mut i: usize = 0;
+        while i < n {
+            let x = items[i];
+            i += 1;
+            if other.contains(x) {
+                return false;
+            }
+        }
+        true
     }
 }
 

@@ -1,24 +1,77 @@
+-- The answer is whether none of the items from i on is in `other`. The measure is what is left.
+use Prim.Native.Nat.{ℕ, _+_, _-_, _≤_, _<_}
 use mathlib.Core.Path.{_≡_, sym, ap, _∙_}
-use lib.ListN.{length}
-use lib.Dec.{eqb}
-use Rattle.lists.specs.Lists.{without-all, disjoint}
-use Rattle.util.proofs.Tests.{length-without-all}
-use Rattle.util.specs.declared.IndexSet.{IndexSet}
-use Rattle.util.specs.Set.{items-of, Valid, Holds}
+use mathlib.Core.Bool.{Bool, true, false, not}
+use mathlib.Core.List.{List}
+use lib.ListN.{length, take, getD}
+use Rattle.lists.specs.Lists.{mem, disjoint}
+use Rattle.lists.proofs.Rest.{Rest}
+use Rattle.lists.proofs.Tests.{Every, every-first, every-stop, every-go, every-end}
+use Rattle.util.proofs.Tests.{not-in, disjoint-every}
+use Rattle.util.specs.Set.{items-of}
 use borrow.Author.Needs.{needs}
 use Rattle.util.proofs.IndexSet.is_disjoint.Statement.{statement}
 use Rattle.util.proofs.IndexSet.is_disjoint.Tie as tie
 
-none-in : (s t w : IndexSet) → Valid s → Holds w (without-all (items-of t) (items-of s)) → eqb (w .len) (s .len) ≡ disjoint (items-of s) (items-of t)
-none-in s t w v h =
-    ap (λ n. eqb n (s .len)) (sym (h .valid .counted) ∙ ap length (h .items)) ∙ ap (eqb (length (without-all (items-of t) (items-of s)))) (sym (v .counted))
-    ∙ length-without-all (items-of s) (items-of t)
+start : (items ys : List ℕ) (n : ℕ) → n ≤ 32 → length items ≡ 32 → Rest (Every (not-in ys)) 32 items n (disjoint (take n items) ys) 0 0
+start items ys n h e =
+    let v = every-first (not-in ys) 0 32 items n h e in
+    record { low = v .low; top = v .top; long = v .long; same = disjoint-every (take n items) ys ∙ v .same }
 
-without-all-requires : tie.Need-without-all-requires
-without-all-requires c κs = search needs
+module _ (ys items : List ℕ) (n : ℕ) (whole : Bool) (i : ℕ) (b : Bool) (v : Rest (Every (not-in ys)) 32 items n whole i i) (e : b ≡ mem (getD items i 0) ys) (h : i < n) where
+  found : b ≡ true → false ≡ whole
+  found q = every-stop (not-in ys) 0 32 items n whole i v (not b) (ap not e) (ap not q) h
 
-returns : tie.Need-returns
-returns c = search none-in
+  passed : b ≡ false → Rest (Every (not-in ys)) 32 items n whole (i + 1) (i + 1)
+  passed q = every-go (not-in ys) 0 32 items n whole i v (not b) (ap not e) (ap not q) h
+
+abbrev Inv-loop : tie.InvT-loop
+Inv-loop other items n i₀ i = Rest (Every (not-in (items-of other))) 32 items n (disjoint (take n items) (items-of other)) i i
+
+abbrev μ-loop : tie.MeasureT-loop
+μ-loop other items n i₀ i = n - i
+
+loop-holds : tie.Need-loop-holds Inv-loop μ-loop
+loop-holds c = search (start, needs)
+
+mul-x : tie.Need-mul-x Inv-loop μ-loop
+mul-x c = search needs
+
+array-read-x : tie.Need-array-read-x Inv-loop μ-loop
+array-read-x c = search needs
+
+add-i : tie.Need-add-i Inv-loop μ-loop
+add-i c = search needs
+
+contains-requires : tie.Need-contains-requires Inv-loop μ-loop
+contains-requires c κs = search needs
+
+returns : tie.Need-returns Inv-loop μ-loop
+unfolding items-of
+returns c = search found
+
+loop-less : tie.Need-loop-less Inv-loop μ-loop
+loop-less c = search needs
+
+loop-again : tie.Need-loop-again Inv-loop μ-loop
+loop-again c = search passed
+
+returns-2 : tie.Need-returns-2 Inv-loop μ-loop
+unfolding items-of
+returns-2 c = search every-end
 
 pub is-disjoint-spec : {M : Type 1} → statement M
-is-disjoint-spec = tie.close (tie.spec without-all-requires returns)
+is-disjoint-spec =
+    tie.close
+    (tie.spec
+    Inv-loop
+    μ-loop
+    loop-holds
+    mul-x
+    array-read-x
+    add-i
+    contains-requires
+    returns
+    loop-less
+    loop-again
+    returns-2)
