@@ -56,14 +56,26 @@ fn zero_from(bytes: [u8; 16], n: usize) -> bool
     requires { ⌜ n ≤ 16 ⌝ }
     ensures { λ r. ⌜ r ≡ every zero-byte (drop n bytes) ⌝ }
 {
-    let mut i = n;
+    let mut ok = true;
+    let mut i: usize = 0;
     while i < 16 {
-        if bytes[i] != 0 {
-            return false;
-        }
+        ok = ok & ((i < n) | (bytes[i] == 0));
         i += 1;
     }
-    true
+    ok
+}
+
+// Whether all bytes are zero.
+fn all_zero(bytes: [u8; 16]) -> bool
+    ensures { λ r. ⌜ r ≡ every zero-byte bytes ⌝ }
+{
+    let mut ok = true;
+    let mut i: usize = 0;
+    while i < 16 {
+        ok = ok & (bytes[i] == 0);
+        i += 1;
+    }
+    ok
 }
 
 impl PeerData {
@@ -446,7 +458,8 @@ impl DataEntry {
         if self.len != 0 {
             return false;
         }
-        self.is_valid()
+        let bytes = self.bytes;
+        all_zero(bytes)
     }
 }
 

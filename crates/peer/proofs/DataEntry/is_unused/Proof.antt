@@ -1,9 +1,12 @@
-use mathlib.Core.Path.{_≡_, sym}
+use mathlib.Core.Path.{_≡_, sym, _∙_}
 use mathlib.Core.Bool.{Bool, false}
 use borrow.Author.Needs.{needs}
 use borrow.Author.Tests.{eq-eqb, ne-eqb}
+use lib.ListN.{length}
 use lib.Dec.{eqb}
+use Rattle.lists.specs.Tests.{every, packed}
 use Rattle.lists.proofs.Tests.{and-no}
+use Rattle.peer.specs.Held.{zero-byte}
 use Rattle.peer.specs.Maps.{valid-entry, zero-data}
 use Rattle.peer.specs.declared.DataEntry.{DataEntry}
 use Rattle.peer.proofs.DataEntry.is_unused.Statement.{statement}
@@ -18,9 +21,11 @@ module _ (e : DataEntry) where
   unfolding zero-data
   data-left h = rw (ne-eqb (e .len) 0 h) (sym (and-no (eqb (e .peer) 0)))
 
-  clean : (b : Bool) → b ≡ valid-entry e → e .peer ≡ 0 → e .len ≡ 0 → b ≡ zero-data e
-  unfolding zero-data
-  clean b q p l = rw (eq-eqb (e .peer) 0 p, eq-eqb (e .len) 0 l) q
+  clean : (b : Bool) → b ≡ every zero-byte (e .bytes) → length (e .bytes) ≡ 16 → e .peer ≡ 0 → e .len ≡ 0 → b ≡ zero-data e
+  unfolding zero-data valid-entry packed
+  clean b q m p l =
+      let z : valid-entry e ≡ every zero-byte (e .bytes) = rw (l, eq-eqb (length (e .bytes)) 16 m) in
+      rw (eq-eqb (e .peer) 0 p, eq-eqb (e .len) 0 l) (q ∙ sym z)
 
 returns : tie.Need-returns
 returns c = search peer-left
@@ -28,11 +33,11 @@ returns c = search peer-left
 returns-2 : tie.Need-returns-2
 returns-2 c = search data-left
 
-is-valid-requires : tie.Need-is-valid-requires
-is-valid-requires c κs = search needs
+all-zero-requires : tie.Need-all-zero-requires
+all-zero-requires c κs = search needs
 
 returns-3 : tie.Need-returns-3
-returns-3 c = search clean
+returns-3 c = search (clean, needs)
 
 pub is-unused-spec : {M : Type 1} → statement M
-is-unused-spec = tie.close (tie.spec returns returns-2 is-valid-requires returns-3)
+is-unused-spec = tie.close (tie.spec returns returns-2 all-zero-requires returns-3)

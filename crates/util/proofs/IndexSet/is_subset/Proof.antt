@@ -1,11 +1,10 @@
 -- The answer is whether the items from i on are in `other`. The measure is what is left.
-use Prim.Native.Nat.{ℕ, _+_, _-_, _≤_, _<_}
-use mathlib.Core.Path.{_≡_, sym, ap, _∙_}
-use mathlib.Core.Bool.{Bool, true, false, not}
+use Prim.Native.Nat.{ℕ, _-_, _≤_}
+use mathlib.Core.Path.{_≡_, _∙_}
 use mathlib.Core.List.{List}
 use borrow.Author.Tests.{not-true, not-false}
-use lib.ListN.{length, take, getD}
-use Rattle.lists.specs.Lists.{mem, subset}
+use lib.ListN.{length, take}
+use Rattle.lists.specs.Lists.{subset}
 use Rattle.lists.proofs.Rest.{Rest}
 use Rattle.lists.proofs.Tests.{Every, every-first, every-stop, every-go, every-end}
 use Rattle.util.proofs.Tests.{is-in, subset-every}
