@@ -1,4 +1,5 @@
 pub mod Hold
 pub mod Pushing
 pub mod Tests
+pub mod Marks
 pub mod Choosing

@@ -342,13 +342,18 @@ impl IndexSet {
     {
         let items = self.items;
         let n = self.len;
-        let mut i: usize = 0;
-        while i < n {
-            let x = items[i];
-            i += 1;
-            if self.position_from(i, x) < n {
-                return false;
+        let mut seen = [false; 256];
+        let mut i = n;
+        while 0 < i {
+            let x = items[i - 1];
+            let k = (x % 256) as usize;
+            if seen[k] {
+                if self.position_from(i, x) < n {
+                    return false;
+                }
             }
+            seen[k] = true;
+            i -= 1;
         }
         true
     }
