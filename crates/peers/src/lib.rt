@@ -48,7 +48,10 @@ fn data_fits(s: State, p: u32) -> bool
     ensures { λ r. ⌜ r ≡ data-fits p (unpack s) ⌝ }
 {
     let m = s.peer_data;
-    m.contains_key(p) | (m.len() < 80)
+    if m.len() < 80 {
+        return true;
+    }
+    m.contains_key(p)
 }
 
 // Whether p is neither the station itself nor in a view.
