@@ -51,7 +51,7 @@ fn same_bytes(a: [u8; 16], b: [u8; 16], n: usize) -> bool
     true
 }
 
-// Whether the bytes from n on are zero.
+// Whether the bytes from n on are zero, with no early exit, so that the loop is compiled to vector code.
 fn zero_from(bytes: [u8; 16], n: usize) -> bool
     requires { ⌜ n ≤ 16 ⌝ }
     ensures { λ r. ⌜ r ≡ every zero-byte (drop n bytes) ⌝ }
@@ -65,7 +65,7 @@ fn zero_from(bytes: [u8; 16], n: usize) -> bool
     ok
 }
 
-// Whether all bytes are zero.
+// Whether all bytes are zero, with no early exit as in `zero_from`.
 fn all_zero(bytes: [u8; 16]) -> bool
     ensures { λ r. ⌜ r ≡ every zero-byte bytes ⌝ }
 {

@@ -335,7 +335,7 @@ impl IndexSet {
         ok
     }
 
-    // Whether no item stands twice.
+    // Whether no item stands twice: only an item whose low byte a later one has too is searched for.
     pub fn is_distinct(self) -> bool
         requires { ⌜ Valid self ⌝ }
         ensures { λ r. ⌜ r ≡ distinct (items-of self) ⌝ }
