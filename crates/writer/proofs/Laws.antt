@@ -30,6 +30,9 @@ module _ (d : PeerData) (v : ValidData d) where
   pub length-places : length (d .bytes) ≡ 16
   length-places = ap length (v .packed) ∙ length-pad 0 16 (take (d .len) (d .bytes))
 
+  pub exact : d .len ≡ length (take (d .len) (d .bytes))
+  exact = sym (length-bytes d v)
+
   pub length-in : length (bytes-of (data-in d)) ≡ d .len
   length-in = ap length (bytes-in d v) ∙ length-bytes d v
 

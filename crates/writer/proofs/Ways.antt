@@ -1,27 +1,27 @@
 -- Laws of what the writers do, in each of the ways through them.
 -- Assumes nothing.
 use Prim.Native.Nat.{ℕ, _+_, _*_, _-_, _≤_, _<_}
-use mathlib.Core.Path.{_≡_, sym, ap, _∙_, subst}
-use mathlib.Core.List.{List, [], _∷_, _++_}
+use mathlib.Core.Path.{_≡_, refl, sym, ap, _∙_}
+use mathlib.Core.List.{List, [], _∷_, _++_, append-nil}
 use native.Mathlib.Omega.{arith}
 use borrow.Author.Tests.{le-leb, lt-leb}
-use lib.ListN.{length, take, length-map}
+use lib.ListN.{length, take, length-map, length-append}
 use lib.Seq.{length-take-le}
 use Rattle.lists.specs.Lists.{choose}
 use Rattle.lists.specs.Bytes.{le, overwrite}
 use Rattle.lists.proofs.Bytes.{then}
-use Rattle.peer.specs.Data.{Node}
-use Rattle.peer.specs.Held.{node-in}
-use Rattle.record.specs.Format.{Rec, entries, datas, size, header, encode}
-use Rattle.record.specs.declared.Header.{Header}
+use Rattle.peer.specs.Data.{Node, bytes-of}
+use Rattle.peer.specs.Held.{data-in, node-in, ValidData}
+use Rattle.peer.specs.declared.PeerInfo.{PeerInfo}
+use Rattle.peer.proofs.Data.{bytes-in}
+use Rattle.record.specs.Format.{Rec, entry, entries, datas, size, header, encode}
 use Rattle.record.proofs.Format.{length-entries, length-header}
-use Rattle.writer.specs.Nodes.{nodes-in, ValidNodes, HoldsNodes}
-use Rattle.writer.specs.Write.{rec-in, header-bytes, fits, written, reached, Wrote}
+use Rattle.writer.specs.Nodes.{nodes-in, ValidNodes}
+use Rattle.writer.specs.Write.{rec-in, header-in, header-bytes, fits, written, reached, Wrote}
 use Rattle.writer.specs.declared.Nodes.{Nodes}
 use Rattle.writer.specs.declared.Fields.{Fields}
-use Rattle.writer.specs.declared.Written.{Written}
 use Rattle.writer.specs.declared.Written.the-variants.{At, Full}
-use Rattle.writer.proofs.Laws.{long-items}
+use Rattle.writer.proofs.Laws.{long-items, length-in}
 
 module _ (e : Rec) (at : ℕ) (out : List ℕ) where
   full : length out < at + size e → Wrote e at out Full out
@@ -48,54 +48,58 @@ pub length-nodes : (s : Nodes) → ValidNodes s → length (nodes-in s) ≡ s .l
 unfolding nodes-in
 length-nodes s v = length-map (take (s .len) (s .items)) node-in ∙ length-take-le (s .len) (s .items) (omega (arith, v .fits, long-items s v))
 
-module _ (f : Fields) (s : Nodes) (at z : ℕ) (out : List ℕ) (v : ValidNodes s) (k : z ≡ 24 + (8 * s .len + length (datas (nodes-in s)))) where
-  size-is : size (rec-in f (nodes-in s)) ≡ z
+-- a record of n nodes and z bytes
+module _ (f : Fields) (ns : List Node) (n z at : ℕ) (out : List ℕ) (p : n ≡ length ns) (k : z ≡ 24 + (8 * n + length (datas ns))) where
+  size-is : size (rec-in f ns) ≡ z
   unfolding size rec-in
-  size-is = omega (arith, k, length-nodes s v)
+  size-is = omega (arith, k, p)
 
-  pub past : length out < at → Wrote (rec-in f (nodes-in s)) at out Full out
-  past h = full (rec-in f (nodes-in s)) at out (omega arith)
+  pub no-room : (r : ℕ) → r ≡ length out - at → r < z → Wrote (rec-in f ns) at out Full out
+  no-room r e h = full (rec-in f ns) at out (omega (arith, size-is))
 
-  pub tight : at ≤ length out → length out - at < z → Wrote (rec-in f (nodes-in s)) at out Full out
-  tight l h = full (rec-in f (nodes-in s)) at out (omega (arith, size-is))
-
-  abbrev head : Header
-  head = record {
-    kind = f .kind;
-    message = f .message;
-    flags = f .flags;
-    nodes = s .len;
-    peer = f .peer;
-    second = f .second;
-    ttl = f .ttl;
-    size = z;
-    number = f .number;
-  }
-
-  header-is : header-bytes head ≡ header (rec-in f (nodes-in s))
-  unfolding header-bytes header rec-in size
+  header-is : header-bytes (header-in f n z) ≡ header (rec-in f ns)
+  unfolding header-bytes header-in header rec-in size
   header-is =
-      let p : s .len ≡ length (nodes-in s) = sym (length-nodes s v) in
-      let q : z ≡ 24 + (8 * length (nodes-in s) + length (datas (nodes-in s))) = omega (arith, k, p) in
+      let q : z ≡ 24 + (8 * length ns + length (datas ns)) = omega (arith, k, p) in
       λ i. f .kind ∷ f .message ∷ f .flags ∷ p i ∷ (le 4 (f .peer) ++ (le 4 (f .second) ++ (le 2 (f .ttl) ++ (le 2 (q i) ++ le 8 (f .number)))))
 
-  pub done : (o₁ o₂ o₃ a : List ℕ) → at ≤ length out → z ≤ length out - at → o₃ ≡ overwrite o₂ (at + 24 + 8 * s .len) (datas (nodes-in s))
-      → o₂ ≡ overwrite o₁ (at + 24) (entries (nodes-in s) (24 + 8 * s .len)) → o₁ ≡ overwrite out at a → a ≡ header-bytes head → Wrote (rec-in f (nodes-in s)) at out (At (at + z)) o₃
+  pub done : (o₁ o₂ o₃ : List ℕ) (r : ℕ) → r ≡ length out - at → z ≤ r → o₃ ≡ overwrite o₂ (at + 24 + 8 * n) (datas ns)
+      → o₂ ≡ overwrite o₁ (at + 24) (entries ns (24 + 8 * n)) → o₁ ≡ overwrite out at (header-bytes (header-in f n z)) → Wrote (rec-in f ns) at out (At (at + z)) o₃
   unfolding rec-in
-  done o₁ o₂ o₃ a l h r q p e =
+  done o₁ o₂ o₃ r l h w q e =
       rw (← size-is)
-      (stored (rec-in f (nodes-in s)) at out o₃ (omega (arith, size-is))
-      (in-turn (rec-in f (nodes-in s)) at out o₁ o₂ o₃ (s .len) (sym (length-nodes s v)) r q (p ∙ ap (overwrite out at) (e ∙ header-is))))
+      (stored (rec-in f ns) at out o₃ (omega (arith, size-is, k))
+      (in-turn (rec-in f ns) at out o₁ o₂ o₃ n p w q (e ∙ ap (overwrite out at) header-is)))
 
 -- ---- the records of no node and of one
 
-pub with-nodes : (f : Fields) (at : ℕ) (out o : List ℕ) (r : Written) (s : Nodes) (ns : List Node) → HoldsNodes s ns → Wrote (rec-in f (nodes-in s)) at out r o → Wrote (rec-in f ns) at out r o
-with-nodes f at out o r s ns h w = subst (λ (l : List Node). Wrote (rec-in f l) at out r o) (h .holds) w
+module _ (f : Fields) (at : ℕ) (out : List ℕ) (r : ℕ) (l : r ≡ length out - at) where
+  pub no-room-bare : r < 24 → Wrote (rec-in f []) at out Full out
+  unfolding datas
+  no-room-bare h = no-room f [] 0 24 at out refl refl r l h
 
-pub with-one : (f : Fields) (at : ℕ) (out o : List ℕ) (r : Written) (s t : Nodes) (n : Node) → HoldsNodes s [] → HoldsNodes t (nodes-in s ++ (n ∷ [])) → Wrote (rec-in f (nodes-in t)) at out r o
-    → Wrote (rec-in f (n ∷ [])) at out r o
-with-one f at out o r s t n g h w =
-    subst (λ (l : List Node). Wrote (rec-in f l) at out r o) (h .holds ∙ ap (λ (l : List Node). l ++ (n ∷ [])) (g .holds)) w
+  pub done-bare : (o : List ℕ) → 24 ≤ r → o ≡ overwrite out at (header-bytes (header-in f 0 24)) → Wrote (rec-in f []) at out (At (at + 24)) o
+  unfolding datas entries overwrite
+  done-bare o h e = done f [] 0 24 at out refl refl o o o r l h refl refl e
 
-pub none-yet : (s : Nodes) → HoldsNodes s [] → s .len < 32
-none-yet s h = omega (arith, length-nodes s (h .valid), ap length (h .holds))
+module _ (f : Fields) (p : PeerInfo) (v : ValidData (p .data)) where
+  abbrev one : List Node
+  one = node-in p ∷ []
+
+  size-one : 32 + p .data .len ≡ 24 + (8 * 1 + length (datas one))
+  unfolding datas node-in
+  size-one = omega (arith, length-append (bytes-of (data-in (p .data))) [], length-in (p .data) v)
+
+  pub no-room-one : (at : ℕ) (out : List ℕ) (r : ℕ) → r ≡ length out - at → r < 32 + p .data .len → Wrote (rec-in f one) at out Full out
+  no-room-one at out r l h = no-room f one 1 (32 + p .data .len) at out refl size-one r l h
+
+  pub done-one : (at : ℕ) (out : List ℕ) (r : ℕ) → r ≡ length out - at → 32 + p .data .len ≤ r → (o₁ o₂ o₃ a : List ℕ) → o₃ ≡ overwrite o₂ (at + 32) (take (p .data .len) (p .data .bytes))
+      → o₂ ≡ overwrite o₁ (at + 24) a → a ≡ entry (node-in p) 32 → o₁ ≡ overwrite out at (header-bytes (header-in f 1 (32 + p .data .len)))
+      → Wrote (rec-in f one) at out (At (at + (32 + p .data .len))) o₃
+  unfolding datas entries node-in
+  done-one at out r l h o₁ o₂ o₃ a s q w e =
+      let m : at + 24 + 8 * 1 ≡ at + 32 = omega arith in
+      done f one 1 (32 + p .data .len) at out refl size-one o₁ o₂ o₃ r l h
+      (s ∙ rw (m, bytes-in (p .data) v, append-nil (take (p .data .len) (p .data .bytes))))
+      (q ∙ ap (overwrite o₁ (at + 24)) (w ∙ sym (append-nil (entry (node-in p) 32))))
+      e

@@ -28,6 +28,20 @@ rec-in f ns = record {
   nodes = ns;
 }
 
+-- the header of a record with these fields, n nodes and z bytes
+unfoldable pub header-in : Fields → ℕ → ℕ → Header
+header-in f n z = record {
+  kind = f .kind;
+  message = f .message;
+  flags = f .flags;
+  nodes = n;
+  peer = f .peer;
+  second = f .second;
+  ttl = f .ttl;
+  size = z;
+  number = f .number;
+}
+
 -- a header's 24 bytes
 unfoldable pub header-bytes : Header → List ℕ
 header-bytes h =

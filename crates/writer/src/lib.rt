@@ -4,13 +4,13 @@ use peer::PeerInfo;
 use record::Header;
 ghost use mathlib.Core.Path.{_≡_};
 ghost use mathlib.Core.List.{List, [], _∷_, _++_};
-ghost use Prim.Native.Nat.{_+_, _*_, _≤_, _<_};
+ghost use Prim.Native.Nat.{_+_, _*_, _-_, _≤_, _<_};
 ghost use lib.ListN.{length};
 ghost use Rattle.lists.specs.Bytes.{overwrite};
 ghost use Rattle.peer.specs.Held.{ValidData, node-in};
 ghost use Rattle.record.specs.Format.{entry, entries, datas};
 ghost use Rattle.writer.specs.Nodes.{nodes-in, ValidNodes, HoldsNodes};
-ghost use Rattle.writer.specs.Write.{rec-in, header-bytes, Wrote};
+ghost use Rattle.writer.specs.Write.{header-in, rec-in, header-bytes, Wrote};
 
 // A record's fields but its nodes; their number and the whole length follow from the nodes.
 pub struct Fields {
@@ -206,6 +206,36 @@ fn put_data(out: &mut [u8], at: usize, ns: Nodes)
     }
 }
 
+// How many bytes are left from place `at` on: none where it is past the end.
+fn left(len: usize, at: usize) -> usize
+    ensures { λ r. ⌜ r ≡ len - at ⌝ }
+{
+    if len < at {
+        return 0;
+    }
+    len - at
+}
+
+// The header of a record of so many nodes and so many bytes, from place `at` on.
+fn put_header(out: &mut [u8], at: usize, f: Fields, nodes: u8, size: u16)
+    requires { ⌜ at + 24 ≤ length (now out) ⌝ }
+    ensures { λ _. ⌜ now (out .exit) ≡ overwrite (now (out .entry)) at (header-bytes (header-in f nodes size)) ⌝ }
+{
+    let h = Header {
+        kind: f.kind,
+        message: f.message,
+        flags: f.flags,
+        nodes: nodes,
+        peer: f.peer,
+        second: f.second,
+        ttl: f.ttl,
+        size: size,
+        number: f.number,
+    };
+    let a = header_array(h);
+    put_bytes(out, at, &a);
+}
+
 // The record from place `at` on; nothing is touched where it does not fit.
 pub fn write(out: &mut [u8], at: usize, f: Fields, ns: Nodes) -> Written
     requires { ⌜ ValidNodes ns ⌝ }
@@ -213,25 +243,10 @@ pub fn write(out: &mut [u8], at: usize, f: Fields, ns: Nodes) -> Written
 {
     let n = ns.len;
     let size = ns.size();
-    if out.len() < at {
+    if left(out.len(), at) < size {
         return Written::Full;
     }
-    if out.len() - at < size {
-        return Written::Full;
-    }
-    let h = Header {
-        kind: f.kind,
-        message: f.message,
-        flags: f.flags,
-        nodes: n as u8,
-        peer: f.peer,
-        second: f.second,
-        ttl: f.ttl,
-        size: size as u16,
-        number: f.number,
-    };
-    let a = header_array(h);
-    put_bytes(out, at, &a);
+    put_header(out, at, f, n as u8, size as u16);
     put_entries(out, at + 24, ns);
     put_data(out, at + 24 + 8 * n, ns);
     Written::At(at + size)
@@ -241,7 +256,11 @@ pub fn write(out: &mut [u8], at: usize, f: Fields, ns: Nodes) -> Written
 pub fn write_bare(out: &mut [u8], at: usize, f: Fields) -> Written
     ensures { λ r. ⌜ Wrote (rec-in f []) at (now (out .entry)) r (now (out .exit)) ⌝ }
 {
-    write(out, at, f, Nodes::new())
+    if left(out.len(), at) < 24 {
+        return Written::Full;
+    }
+    put_header(out, at, f, 0, 24);
+    Written::At(at + 24)
 }
 
 // A record with one node.
@@ -249,6 +268,16 @@ pub fn write_one(out: &mut [u8], at: usize, f: Fields, p: PeerInfo) -> Written
     requires { ⌜ ValidData (p .data) ⌝ }
     ensures { λ r. ⌜ Wrote (rec-in f (node-in p ∷ [])) at (now (out .entry)) r (now (out .exit)) ⌝ }
 {
-    let none = Nodes::new();
-    write(out, at, f, none.push(p))
+    let d = p.data;
+    let n = d.len as usize;
+    let whole = 32 + n;
+    if left(out.len(), at) < whole {
+        return Written::Full;
+    }
+    put_header(out, at, f, 1, whole as u16);
+    let a = entry_array(p, 32);
+    put_bytes(out, at + 24, &a);
+    let bytes = d.bytes;
+    put_bytes(out, at + 32, &bytes[..n]);
+    Written::At(at + whole)
 }

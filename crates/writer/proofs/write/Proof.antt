@@ -1,34 +1,27 @@
-use Rattle.writer.proofs.Ways.{past, tight, done}
+use mathlib.Core.Path.{sym}
 use borrow.Author.Needs.{needs}
+use Rattle.writer.proofs.Ways.{no-room, done, length-nodes}
 use Rattle.writer.proofs.write.Statement.{statement}
 use Rattle.writer.proofs.write.Tie as tie
 
 size-requires : tie.Need-size-requires
 size-requires c κs = search needs
 
+left-requires : tie.Need-left-requires
+left-requires c κs = search needs
+
 returns : tie.Need-returns
-returns c = past _ _ _ _ _ (search needs) (c .before .size .ensures .0) (c .if1 .taken)
+returns c =
+    no-room _ _ _ _ _ _ (sym (length-nodes _ (c .before .before .before .before .pre))) (c .before .before .size .ensures .0) _ (c .before .left .ensures) (c .if1 .taken)
 
-sub-if2 : tie.Need-sub-if2
-sub-if2 c = search needs
+cast-put-header : tie.Need-cast-put-header
+cast-put-header c = search needs
 
-returns-2 : tie.Need-returns-2
-returns-2 c = tight _ _ _ _ _ (search needs) (c .before .before .size .ensures .0) (search needs) (search needs)
+cast-put-header-2 : tie.Need-cast-put-header-2
+cast-put-header-2 c = search needs
 
-cast-t12 : tie.Need-cast-t12
-cast-t12 c = search needs
-
-cast-t13 : tie.Need-cast-t13
-cast-t13 c = search needs
-
-header-array-requires : tie.Need-header-array-requires
-header-array-requires c κs = search needs
-
-slice-aggregate-put-bytes : tie.Need-slice-aggregate-put-bytes
-slice-aggregate-put-bytes c = search needs
-
-put-bytes-requires : tie.Need-put-bytes-requires
-put-bytes-requires c κs = search needs
+put-header-requires : tie.Need-put-header-requires
+put-header-requires c κs = search needs
 
 add-put-entries : tie.Need-add-put-entries
 add-put-entries c = search needs
@@ -48,40 +41,37 @@ add-put-data-2 c = search needs
 put-data-requires : tie.Need-put-data-requires
 put-data-requires c κs = search needs
 
-add-t11 : tie.Need-add-t11
-add-t11 c = search needs
+add-t8 : tie.Need-add-t8
+add-t8 c = search needs
 
 same-length : tie.Need-same-length
 same-length c = search needs
 
-returns-3 : tie.Need-returns-3
-returns-3 c =
-    let c₃ = c .before .before in
-    let c₂ = c₃ .before .before .before .before in
-    let c₁ = c₂ .before .before .before .before in
-    let t = c₁ .before .before .before .before in
-    done _ _ _ _ _ (t .before .before .before .before .pre) (t .before .before .size .ensures .0) _ _ _ _ (search needs) (search needs)
-    (c₃ .put-data .ensures) (c₂ .put-entries .ensures) (c₁ .put-bytes .ensures) (c₁ .before .before .before .header-array .ensures)
+returns-2 : tie.Need-returns-2
+returns-2 c =
+    let d = c .before .before in
+    let e = d .before .before .before .before in
+    let h = e .before .before .before .before in
+    let t = h .before .before in
+    done _ _ _ _ _ _ (sym (length-nodes _ (t .before .before .before .before .pre))) (t .before .before .size .ensures .0) _ _ _ _ (t .before .left .ensures) (t .if1 .left)
+    (d .put-data .ensures) (e .put-entries .ensures) (h .put-header .ensures)
 
 pub write-spec : {M : Type 1} → statement M
 write-spec =
     tie.close
     (tie.spec
     size-requires
+    left-requires
     returns
-    sub-if2
-    returns-2
-    cast-t12
-    cast-t13
-    header-array-requires
-    slice-aggregate-put-bytes
-    put-bytes-requires
+    cast-put-header
+    cast-put-header-2
+    put-header-requires
     add-put-entries
     put-entries-requires
     add-put-data
     mul-put-data
     add-put-data-2
     put-data-requires
-    add-t11
+    add-t8
     same-length
-    returns-3)
+    returns-2)
