@@ -9,10 +9,11 @@ use Rattle.peer.specs.Held.{ValidData}
 use Rattle.peer.specs.Maps.{ValidNumbers, ValidDataMap}
 use Rattle.timing.specs.Timing.{in-range}
 use Rattle.state.specs.declared.State.{State}
+use Rattle.state.specs.Memory.{own-of}
 use Rattle.state.specs.Unpack.{PackedState, opened}
 
 module _ (s : State) (p : PackedState s) where
-  pub of-own-data : ValidData (s .«me_data»)
+  pub of-own-data : ValidData (own-of (s .«me_data»))
   of-own-data = opened p .own-data
 
   pub of-active : Valid (s .«active_view»)

@@ -1,3 +1,4 @@
+pub mod Memory
 pub mod Fields
 pub mod Access
 pub mod Bytes

@@ -17,7 +17,8 @@ ghost use Rattle.writer.specs.Write.{rec-in};
 ghost use Rattle.protocol.specs.Run.{draw, require, emit};
 ghost use Rattle.protocol.specs.Station.{is-me, in-active, in-passive, in-view, is-alone, active-is-full, passive-is-full, is-short, is-last-hop};
 ghost use Rattle.protocol.specs.Station.{is-recovery, is-automatic, is-spent, is-requested};
-ghost use Rattle.state.specs.Unpack.{unpack, refill-in, with-limit, PackedState};
+ghost use Rattle.state.specs.Memory.{own-of, own-kept, limit-of, limit-kept};
+ghost use Rattle.state.specs.Unpack.{unpack, refill-in, PackedState};
 ghost use Rattle.state.specs.Work.{Changes, Ready, Draws, Room, Tells, after-record};
 
 // How many more requests a refill of the active view may send.
@@ -27,14 +28,30 @@ pub enum RefillLimit {
     Recovery,
 }
 
-// The Rust's `State`; deques and hash sets are `IndexSet`s too, hash sets in rising order.
+// Own data, with a byte for its bool: 1 present, 0 absent.
+#[repr(C)]
+pub struct OwnData {
+    pub present: u8,
+    pub len: u8,
+    pub bytes: [u8; 16],
+}
+
+// The bytes of a `RefillLimit`: kind 0 Automatic, 1 Requests, 2 Recovery; the requests are 0 but in kind 1.
+#[repr(C)]
+pub struct Limit {
+    pub kind: u8,
+    pub requests: u8,
+}
+
+// The Rust's `State`; deques and hash sets are `IndexSet`s too, hash sets in rising order. In integers alone, so that whatever bytes a caller's memory has are a value.
+#[repr(C)]
 pub struct State {
     pub me: u32,
-    pub me_data: PeerData,
+    pub me_data: OwnData,
     pub active_view: IndexSet,
     pub passive_view: IndexSet,
     pub config: Config,
-    pub timers_scheduled: bool,
+    pub timers_scheduled: u8,
     pub next_shuffle_interval: u32,
     pub bootstrap_peers: IndexSet,
     pub passes_alone: u32,
@@ -47,7 +64,7 @@ pub struct State {
     pub peer_data: DataMap,
     pub alive_disconnect_peers: IndexSet,
     pub refused: IndexSet,
-    pub refill: RefillLimit,
+    pub refill: Limit,
 }
 
 // The state, the draws used and the bytes written so far, and a code that is 0 while all is well.
@@ -58,41 +75,60 @@ pub struct Work {
     pub code: u32,
 }
 
-// The state with another limit on refills: the struct anew, since a field that is an enum cannot be stored.
-pub fn store_refill(s: State, v: RefillLimit) -> State
-    ensures { λ r. ⌜ r ≡ with-limit v s ⌝ }
+// Own data from its bytes.
+pub fn own_data(d: OwnData) -> PeerData
+    ensures { λ r. ⌜ r ≡ own-of d ⌝ }
 {
-    let me_data = s.me_data;
-    let active_view = s.active_view;
-    let passive_view = s.passive_view;
-    let config = s.config;
-    let bootstrap_peers = s.bootstrap_peers;
-    let recent_neighbors = s.recent_neighbors;
-    let pending_neighbor_requests = s.pending_neighbor_requests;
-    let pending_joins = s.pending_joins;
-    let peer_data = s.peer_data;
-    let alive_disconnect_peers = s.alive_disconnect_peers;
-    let refused = s.refused;
-    State {
-        me: s.me,
-        me_data: me_data,
-        active_view: active_view,
-        passive_view: passive_view,
-        config: config,
-        timers_scheduled: s.timers_scheduled,
-        next_shuffle_interval: s.next_shuffle_interval,
-        bootstrap_peers: bootstrap_peers,
-        passes_alone: s.passes_alone,
-        passes_short: s.passes_short,
-        recent_neighbors: recent_neighbors,
-        pending_neighbor_requests: pending_neighbor_requests,
-        next_neighbor_request: s.next_neighbor_request,
-        pending_joins: pending_joins,
-        next_join: s.next_join,
-        peer_data: peer_data,
-        alive_disconnect_peers: alive_disconnect_peers,
-        refused: refused,
-        refill: v,
+    let bytes = d.bytes;
+    PeerData {
+        present: d.present == 1,
+        len: d.len,
+        bytes: bytes,
+    }
+}
+
+// The bytes of own data.
+pub fn kept_own(d: PeerData) -> OwnData
+    ensures { λ r. ⌜ r ≡ own-kept d ⌝ }
+{
+    let bytes = d.bytes;
+    OwnData {
+        present: d.present as u8,
+        len: d.len,
+        bytes: bytes,
+    }
+}
+
+// The limit from its bytes.
+pub fn limit_of(l: Limit) -> RefillLimit
+    ensures { λ r. ⌜ r ≡ limit-of l ⌝ }
+{
+    if l.kind == 0 {
+        return RefillLimit::Automatic;
+    }
+    if l.kind == 1 {
+        return RefillLimit::Requests(l.requests);
+    }
+    RefillLimit::Recovery
+}
+
+// The bytes of a limit.
+pub fn kept_limit(l: RefillLimit) -> Limit
+    ensures { λ r. ⌜ r ≡ limit-kept l ⌝ }
+{
+    match l {
+        RefillLimit::Automatic => Limit {
+            kind: 0,
+            requests: 0,
+        },
+        RefillLimit::Requests(n) => Limit {
+            kind: 1,
+            requests: n,
+        },
+        RefillLimit::Recovery => Limit {
+            kind: 2,
+            requests: 0,
+        },
     }
 }
 

@@ -1,7 +1,7 @@
 use mathlib.Core.Path.{refl}
-use Rattle.controller.specs.Memory.{own-of}
-use Rattle.controller.proofs.own_data.Statement.{statement}
-use Rattle.controller.proofs.own_data.Tie as tie
+use Rattle.state.specs.Memory.{own-of}
+use Rattle.state.proofs.own_data.Statement.{statement}
+use Rattle.state.proofs.own_data.Tie as tie
 
 returns : tie.Need-returns
 unfolding own-of

@@ -1,7 +1,7 @@
 use borrow.Author.Needs.{needs}
-use Rattle.controller.proofs.Laws.{own-stored}
-use Rattle.controller.proofs.kept_own.Statement.{statement}
-use Rattle.controller.proofs.kept_own.Tie as tie
+use Rattle.state.proofs.Memory.{own-stored}
+use Rattle.state.proofs.kept_own.Statement.{statement}
+use Rattle.state.proofs.kept_own.Tie as tie
 
 cast-t3 : tie.Need-cast-t3
 cast-t3 c = search needs

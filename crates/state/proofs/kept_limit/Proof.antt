@@ -1,11 +1,11 @@
 use mathlib.Core.Path.{_≡_}
 use Prim.Native.Nat.{ℕ}
 use Rattle.state.specs.declared.RefillLimit.{RefillLimit}
 use Rattle.state.specs.declared.RefillLimit.the-variants.{Automatic, Requests, Recovery}
-use Rattle.controller.specs.Memory.{limit-kept}
+use Rattle.state.specs.Memory.{limit-kept}
 use borrow.Author.Needs.{needs}
-use Rattle.controller.proofs.kept_limit.Statement.{statement}
-use Rattle.controller.proofs.kept_limit.Tie as tie
+use Rattle.state.proofs.kept_limit.Statement.{statement}
+use Rattle.state.proofs.kept_limit.Tie as tie
 
 first : (l : RefillLimit) → l ≡ Automatic → record { kind = 0; requests = 0 } ≡ limit-kept l
 unfolding limit-kept
