@@ -27,18 +27,20 @@ use Rattle.state.specs.declared.State.{State}
 use Rattle.state.specs.declared.Work.{Work}
 use Rattle.state.specs.declared.RefillLimit.{RefillLimit}
 use Rattle.state.specs.declared.RefillLimit.the-variants.{Automatic}
-use Rattle.state.specs.Unpack.{unpack, refill-in, with-limit, Becomes}
+use Rattle.state.specs.declared.Limit.{Limit}
+use Rattle.state.specs.Memory.{limit-of, limit-kept}
+use Rattle.state.specs.Unpack.{unpack, refill-in, Becomes}
 use Rattle.state.specs.Work.{run, Changes, Room, Tells}
-use Rattle.state.proofs.Fields.{with-passes-short, put-passes-short, put-refill}
+use Rattle.state.proofs.Fields.{with-passes-short, put-passes-short, with-refill, put-refill}
 use Rattle.state.proofs.Bridge.{telling, tell-then}
 use Rattle.active.specs.Sane.{FreeActive, Calm}
 
-pub gained : (s t : State) (v l : RefillLimit) → refill-in v ≡ unless-recovery (refill-in (s .refill)) (refill-in l) → l ≡ Automatic → t ≡ with-limit v s → Becomes s (unpack s) → Becomes (with-passes-short 0 t) (gain-neighbor (unpack s))
+pub gained : (s : State) (b : Limit) (old v l : RefillLimit) → b ≡ limit-kept v → refill-in v ≡ unless-recovery (refill-in old) (refill-in l) → l ≡ Automatic → old ≡ limit-of (s .refill) → Becomes s (unpack s)
+    → Becomes (with-passes-short 0 (with-refill b s)) (gain-neighbor (unpack s))
 unfolding gain-neighbor unpack refill-in
-gained s t v l e a q b =
-    put-passes-short 0
-    (subst (λ (x : State). Becomes x (set-refill (unless-recovery (refill-in (s .refill)) automatic) (unpack s))) (sym q)
-    (subst (λ (y : Refill). Becomes (with-limit v s) (set-refill y (unpack s))) (e ∙ ap (λ (x : RefillLimit). unless-recovery (refill-in (s .refill)) (refill-in x)) a) (put-refill v b)))
+gained s b old v l p e a q h =
+    let z : refill-in v ≡ unless-recovery (refill-in (limit-of (s .refill))) automatic = e ∙ (λ i. unless-recovery (refill-in (q i)) (refill-in (a i))) in
+    put-passes-short 0 (subst (λ (y : Refill). Becomes (with-refill b s) (set-refill y (unpack s))) z (put-refill v p h))
 
 pub entered : (w a b r : Work) (out o : List ℕ) (p : ℕ) → Room w out → Changes (on gain-neighbor) b r
     → Tells (emit (rec-in (record { kind = 9; message = 0; flags = 0; peer = p; second = 0; ttl = 0; number = 0 }) [])) a b out o → Changes (on (move-in p)) w a → Tells (enter-active p) w r out o

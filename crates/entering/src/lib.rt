@@ -18,13 +18,15 @@ fn gain_neighbor(w: Work) -> Work
     if w.code != 0 {
         return w;
     }
-    let s = w.state;
-    let old = s.refill;
+    let mut s = w.state;
+    let bytes = s.refill;
+    let old = state::limit_of(bytes);
     let limit = refill::unless_recovery(old, RefillLimit::Automatic);
-    let mut t = state::store_refill(s, limit);
-    t.passes_short = 0;
+    let l = state::kept_limit(limit);
+    s.refill = l;
+    s.passes_short = 0;
     let mut r = w;
-    r.state = t;
+    r.state = s;
     r
 }
 

@@ -255,7 +255,8 @@ pub fn update_own_data(w: Work, d: PeerData) -> Work
         return w;
     }
     let mut s = w.state;
-    s.me_data = d;
+    let own = state::kept_own(d);
+    s.me_data = own;
     let mut r = w;
     r.state = s;
     r

@@ -76,10 +76,10 @@ module _ (s : State) (w : Work) (out o : List ℕ) where
       ap (λ (l : List ℕ). record { answer = record { code = 0; state = w .state; draws = w .drawn }; output = l }) e ∙ sym (choose-yes _ _ _ (eq-eqb _ _ h))
 
 module _ (w : Work) (ds out : List ℕ) (v : Fine w ds out) where
-  pub timers-run : w .state .«timers_scheduled» ≡ true → Does w ds out (first-timers (run w ds out))
+  pub timers-run : w .state .«timers_scheduled» ≡ 1 → Does w ds out (first-timers (run w ds out))
   unfolding first-timers run unpack
-  timers-run h = taken _ _ h (still v)
+  timers-run h = taken _ _ (eq-eqb _ _ h) (still v)
 
-  pub timers-start : (a b r : Work) (o o₂ : List ℕ) → w .state .«timers_scheduled» ≡ false → Tells schedule-maintenance b r o o₂ → Does b ds o (schedule-shuffle (run a ds out)) → Changes (on note-scheduled) w a → Does r ds o₂ (first-timers (run w ds out))
+  pub timers-start : (a b r : Work) (o o₂ : List ℕ) → (w .state .«timers_scheduled» ≡ 1 → ⊥) → Tells schedule-maintenance b r o o₂ → Does b ds o (schedule-shuffle (run a ds out)) → Changes (on note-scheduled) w a → Does r ds o₂ (first-timers (run w ds out))
   unfolding first-timers run unpack
-  timers-start a b r o o₂ h k₃ k₂ k₁ = left _ _ h (then-tell k₃ (seq schedule-shuffle k₂ (then k₁ (still v))))
+  timers-start a b r o o₂ h k₃ k₂ k₁ = left _ _ (ne-eqb _ _ h) (then-tell k₃ (seq schedule-shuffle k₂ (then k₁ (still v))))

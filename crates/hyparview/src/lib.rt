@@ -75,7 +75,7 @@ fn note_scheduled(w: Work) -> Work
         return w;
     }
     let mut s = w.state;
-    s.timers_scheduled = true;
+    s.timers_scheduled = 1;
     let mut r = w;
     r.state = s;
     r
@@ -87,7 +87,7 @@ fn first_timers(w: Work, draws: &[u32], out: &mut [u8]) -> Work
     ensures { λ r. ⌜ Does r (now (draws .entry)) (now (out .exit)) (first-timers (run w (now (draws .entry)) (now (out .entry)))) ⌝ }
 {
     let s = w.state;
-    if s.timers_scheduled {
+    if s.timers_scheduled == 1 {
         return w;
     }
     let a = note_scheduled(w);

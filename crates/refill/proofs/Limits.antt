@@ -1,6 +1,6 @@
 -- Changes of the limit on refills.
 -- Assumes nothing.
-use mathlib.Core.Path.{_≡_, refl, sym, ap, _∙_, subst}
+use mathlib.Core.Path.{_≡_, refl, sym, ap, _∙_}
 use mathlib.Core.Bool.{Bool, true, false}
 use lib.Dec.{eqb}
 use borrow.Author.Tests.{eqb-true, eqb-false}
@@ -12,12 +12,11 @@ use Rattle.protocol.specs.Run.{Run, guard, on, with-station}
 use Rattle.protocol.specs.Refill.{few-requests, unless-recovery, one-less, use-request, end-recovery, needs-limit, limit-short, begin-refill}
 use Rattle.state.specs.declared.RefillLimit.{RefillLimit}
 use Rattle.state.specs.declared.RefillLimit.the-variants.{Automatic, Recovery}
-use Rattle.state.specs.declared.State.{State}
 use Rattle.state.specs.declared.Work.{Work}
-use Rattle.state.specs.Unpack.{unpack, refill-in, with-limit, PackedState, Becomes}
+use Rattle.state.specs.Memory.{limit-of}
+use Rattle.state.specs.Unpack.{unpack, refill-in, PackedState}
 use Rattle.state.specs.Work.{run, Changes}
 use Rattle.state.proofs.Bridge.{guard-shut, guard-open, unchanged, change-by}
-use Rattle.state.proofs.Fields.{put-refill}
 
 -- two changes that agree on the station of the run
 on-same : (f h : Station → Station) (g : Run) → f (g .station) ≡ h (g .station) → on f g ≡ on h g
@@ -30,9 +29,6 @@ unfolding on
 on-still f g e =
     ap (λ (s : Station). guard g (with-station s g)) e
     ∙ split (eqb (g .code) 0) (λ t. guard-open g g (eqb-true _ _ t)) (λ t. guard-shut g g (eqb-false _ _ t))
-
-pub stored : (s t : State) (v : RefillLimit) (g : Station) → t ≡ with-limit v s → Becomes s g → Becomes t (set-refill (refill-in v) g)
-stored s t v g e b = subst (λ (x : State). Becomes x (set-refill (refill-in v) g)) (sym e) (put-refill v b)
 
 module _ (f : Station → Station) (limit : Station → Refill) (d : (s : Station) → f s ≡ set-refill (limit s) s) (w : Work) where
   refilled : (r : Work) (v : RefillLimit) → refill-in v ≡ limit (unpack (w .state)) → Changes (on (set-refill (refill-in v))) w r → Changes (on f) w r
@@ -65,14 +61,15 @@ module _ (old new : RefillLimit) (t : Bool) (e : t ≡ is-recovery (refill-in ol
   no-recovery h = sym (choose-no (is-recovery (refill-in old)) recovery (refill-in new) (sym e ∙ h))
 
 module _ (w r : Work) where
-  pub used : (v : RefillLimit) → refill-in v ≡ one-less (refill-in (w .state .refill)) → Changes (on (set-refill (refill-in v))) w r → Changes (on use-request) w r
+  pub used : (old v : RefillLimit) → old ≡ limit-of (w .state .refill) → refill-in v ≡ one-less (refill-in old) → Changes (on (set-refill (refill-in v))) w r → Changes (on use-request) w r
   unfolding use-request unpack
-  used v e k = refilled use-request (λ s. one-less (s .refill)) (λ s. refl) w r v e k
+  used old v q e k = refilled use-request (λ s. one-less (s .refill)) (λ s. refl) w r v (e ∙ ap (λ (x : RefillLimit). one-less (refill-in x)) q) k
 
-  pub begun : (limit v : RefillLimit) → refill-in v ≡ unless-recovery (refill-in (w .state .refill)) (refill-in limit) → Changes (on (set-refill (refill-in v))) w r
+  pub begun : (limit old v : RefillLimit) → old ≡ limit-of (w .state .refill) → refill-in v ≡ unless-recovery (refill-in old) (refill-in limit) → Changes (on (set-refill (refill-in v))) w r
       → Changes (on (begin-refill (refill-in limit))) w r
   unfolding begin-refill unpack
-  begun limit v e k = refilled (begin-refill (refill-in limit)) (λ s. unless-recovery (s .refill) (refill-in limit)) (λ s. refl) w r v e k
+  begun limit old v q e k =
+      refilled (begin-refill (refill-in limit)) (λ s. unless-recovery (s .refill) (refill-in limit)) (λ s. refl) w r v (e ∙ ap (λ (x : RefillLimit). unless-recovery (refill-in x) (refill-in limit)) q) k
 
   pub ended : (t : Bool) → t ≡ recovery-is-over (unpack (w .state)) → t ≡ true → Changes (on (set-refill (refill-in Automatic))) w r → Changes (on end-recovery) w r
   unfolding end-recovery

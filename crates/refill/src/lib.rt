@@ -59,10 +59,11 @@ fn set_refill(w: Work, v: RefillLimit) -> Work
     if w.code != 0 {
         return w;
     }
-    let s = w.state;
-    let t = state::store_refill(s, v);
+    let mut s = w.state;
+    let l = state::kept_limit(v);
+    s.refill = l;
     let mut r = w;
-    r.state = t;
+    r.state = s;
     r
 }
 
@@ -72,7 +73,8 @@ fn use_request(w: Work) -> Work
     ensures { λ r. ⌜ Changes (on use-request) w r ⌝ }
 {
     let s = w.state;
-    let old = s.refill;
+    let bytes = s.refill;
+    let old = state::limit_of(bytes);
     let v = one_less(old);
     set_refill(w, v)
 }
@@ -93,7 +95,8 @@ fn recovery_is_over(s: State) -> bool
     requires { ⌜ PackedState s ⌝ }
     ensures { λ r. ⌜ r ≡ recovery-is-over (unpack s) ⌝ }
 {
-    let l = s.refill;
+    let bytes = s.refill;
+    let l = state::limit_of(bytes);
     let outside = asked_outside(s);
     l.is_recovery() & outside.is_empty()
 }
@@ -115,7 +118,8 @@ fn needs_limit(s: State) -> bool
     requires { ⌜ PackedState s ⌝ }
     ensures { λ r. ⌜ r ≡ needs-limit (unpack s) ⌝ }
 {
-    let l = s.refill;
+    let bytes = s.refill;
+    let l = state::limit_of(bytes);
     l.is_automatic() & (!s.is_alone() & s.is_short())
 }
 
@@ -213,7 +217,8 @@ fn needs_none(s: State) -> bool
     requires { ⌜ PackedState s ⌝ }
     ensures { λ r. ⌜ r ≡ needs-none (unpack s) ⌝ }
 {
-    let l = s.refill;
+    let bytes = s.refill;
+    let l = state::limit_of(bytes);
     let v = s.active_view;
     let outside = asked_outside(s);
     let n = v.len() + outside.len();
@@ -240,7 +245,8 @@ fn begin_refill(w: Work, limit: RefillLimit) -> Work
     ensures { λ r. ⌜ Changes (on (begin-refill (refill-in limit))) w r ⌝ }
 {
     let s = w.state;
-    let old = s.refill;
+    let bytes = s.refill;
+    let old = state::limit_of(bytes);
     let v = unless_recovery(old, limit);
     set_refill(w, v)
 }

@@ -3,6 +3,8 @@ use peer::DataMap;
 use peer::MaybeData;
 use peer::Numbers;
 use peer::PeerData;
+use state::Limit;
+use state::OwnData;
 use state::RefillLimit;
 use state::State;
 use timing::Config;
@@ -14,6 +16,7 @@ ghost use Rattle.lists.specs.Maps.{keys};
 ghost use Rattle.util.specs.Set.{Holds};
 ghost use Rattle.protocol.specs.Rules.{limit-ok, settings-rule, repeats-rule, order-rule, capacity-rule, views-rule, alive-rule, few-rule};
 ghost use Rattle.protocol.specs.Rules.{joins-rule, numbers-rule, self-rule, limit-rule, interval-rule, station-ok};
+ghost use Rattle.state.specs.Memory.{formed};
 ghost use Rattle.state.specs.Unpack.{unpack, refill-in};
 ghost use Prim.Native.Nat.{min};
 ghost use Rattle.timing.specs.Timing.{initial-shuffle-interval};
@@ -25,11 +28,19 @@ ghost use Rattle.rules.specs.Made.{lent, Own, pack-made, refused-new};
 ghost use Rattle.rules.specs.Ok.{packed-ok, state-ok};
 ghost use Rattle.rules.specs.Queries.{wants-connection-in, is-neighbor-in, neighbors-in, spare-addresses-in};
 
+// Whether the bytes that stand for a bool or a limit are one.
+fn is_formed(own: OwnData, timers: u8, l: Limit) -> bool
+    ensures { λ r. ⌜ r ≡ formed own timers l ⌝ }
+{
+    (own.present <= 1) & ((timers <= 1) & ((l.kind <= 2) & ((l.kind == 1) | (l.requests == 0))))
+}
+
 // Whether every field is well formed, with zeroes in its unused places; of any value of the type.
 pub fn is_packed(s: State) -> bool
     ensures { λ r. ⌜ r ≡ packed-ok s ⌝ }
 {
-    let own = s.me_data;
+    let kept = s.me_data;
+    let own = state::own_data(kept);
     let active = s.active_view;
     let passive = s.passive_view;
     let bootstrap = s.bootstrap_peers;
@@ -39,14 +50,17 @@ pub fn is_packed(s: State) -> bool
     let data = s.peer_data;
     let alive = s.alive_disconnect_peers;
     let refused = s.refused;
-    own.is_valid()
-        & (active.is_valid()
-            & (passive.is_valid()
-                & (bootstrap.is_valid()
-                    & (recent.is_valid()
-                        & (requests.is_valid()
-                            & (joins.is_valid()
-                                & (data.is_valid() & (alive.is_valid() & refused.is_valid()))))))))
+    let limit = s.refill;
+    is_formed(kept, s.timers_scheduled, limit)
+        & (own.is_valid()
+            & (active.is_valid()
+                & (passive.is_valid()
+                    & (bootstrap.is_valid()
+                        & (recent.is_valid()
+                            & (requests.is_valid()
+                                & (joins.is_valid()
+                                    & (data.is_valid()
+                                        & (alive.is_valid() & refused.is_valid())))))))))
 }
 
 // "settings in range"
@@ -168,7 +182,8 @@ fn limit_ok(l: RefillLimit) -> bool
 fn limit_rule(s: State) -> bool
     ensures { λ r. ⌜ r ≡ limit-rule (unpack s) ⌝ }
 {
-    let l = s.refill;
+    let bytes = s.refill;
+    let l = state::limit_of(bytes);
     limit_ok(l)
 }
 
@@ -240,13 +255,15 @@ fn fresh(me: u32, own: PeerData, config: Config) -> State
     let numbers = Numbers::new();
     let data = DataMap::new();
     let interval = first_interval(config);
+    let kept = state::kept_own(own);
+    let limit = state::kept_limit(RefillLimit::Automatic);
     State {
         me: me,
-        me_data: own,
+        me_data: kept,
         active_view: none,
         passive_view: none,
         config: config,
-        timers_scheduled: false,
+        timers_scheduled: 0,
         next_shuffle_interval: interval,
         bootstrap_peers: none,
         passes_alone: 0,
@@ -259,7 +276,7 @@ fn fresh(me: u32, own: PeerData, config: Config) -> State
         peer_data: data,
         alive_disconnect_peers: none,
         refused: none,
-        refill: RefillLimit::Automatic,
+        refill: limit,
     }
 }
 

@@ -11,6 +11,7 @@ use borrow.Author.Tests.{ltb-true}
 use Rattle.lists.specs.Maps.{has}
 use Rattle.lists.proofs.Choice.{choose-yes, choose-no}
 use Rattle.util.specs.Random.{shuffle-draws}
+use Rattle.peer.specs.declared.PeerData.{PeerData}
 use Rattle.peer.specs.Data.{Node}
 use Rattle.peer.specs.Held.{data-in, node-in}
 use Rattle.peer.specs.Maps.{numbers-in}
@@ -22,6 +23,7 @@ use Rattle.protocol.specs.Station.{is-requested}
 use Rattle.protocol.specs.Run.{Run, on, emit, draw, require, draw-shuffle, node, message, flag, peer-infos}
 use Rattle.protocol.specs.Sending.{join-to, join, send-nodes, send-shuffle-reply, reply-length, send-disconnect, request-counts, request-fits, note-request, count-request, open-request, neighbor-to, tell-request, send-neighbor, reply-neighbor}
 use Rattle.state.specs.declared.Work.{Work}
+use Rattle.state.specs.Memory.{own-of}
 use Rattle.state.specs.Unpack.{unpack}
 use Rattle.state.specs.Work.{run, Changes, Draws, Room, Tells, Fine}
 use Rattle.state.proofs.Bridge.{require-said, unchanged, change-by, change-then, draw-by, telling, tell-by, tell-then, holds-at}
@@ -47,22 +49,23 @@ abbrev sent : ℕ → ℕ → ℕ → Fields
 sent m f p = record { kind = 0; message = m; flags = f; peer = p; second = 0; ttl = 0; number = 0 }
 
 module _ (w r : Work) (out o : List ℕ) where
-  pub join-told : (p : ℕ) → Tells (emit (rec-in (sent 0 0 p) (node-in (record { id = 0; «data» = w .state .«me_data» }) ∷ []))) w r out o → Tells (join p) w r out o
+  pub join-told : (p : ℕ) (d : PeerData) → d ≡ own-of (w .state .«me_data») → Tells (emit (rec-in (sent 0 0 p) (node-in (record { id = 0; «data» = d }) ∷ []))) w r out o → Tells (join p) w r out o
   unfolding join join-to rec-in node-in run unpack
-  join-told p k = tell-by {g = emit (rec-in (sent 0 0 p) (node-in (record { id = 0; «data» = w .state .«me_data» }) ∷ []))} (join p) (λ ds. refl) k
+  join-told p d e k =
+      tell-by {g = emit (rec-in (sent 0 0 p) (node-in (record { id = 0; «data» = d }) ∷ []))} (join p) (λ ds. ap (λ (x : PeerData). emit (message 0 p 0 0 0 (node 0 (data-in x) ∷ [])) (run w ds out)) (sym e)) k
 
   pub nodes-told : (to : ℕ) (ps : List ℕ) (ns : Nodes) → HoldsNodes ns (peer-infos (unpack (w .state)) ps) → Tells (emit (rec-in (sent 3 0 to) (nodes-in ns))) w r out o → Tells (send-nodes to ps) w r out o
   unfolding send-nodes rec-in run
   nodes-told to ps ns h k =
       tell-by {g = emit (rec-in (sent 3 0 to) (nodes-in ns))} (send-nodes to ps) (λ ds. ap (λ (x : List Node). emit (message 3 to 0 0 0 x) (run w ds out)) (sym (h .holds))) k
 
-  pub neighbor-told : (p : ℕ) (high : Bool) (f : ℕ) → f ≡ flag high
-      → Tells (emit (rec-in (sent 4 f p) (node-in (record { id = 0; «data» = w .state .«me_data» }) ∷ []))) w r out o
+  pub neighbor-told : (p : ℕ) (high : Bool) (f : ℕ) (d : PeerData) → f ≡ flag high → d ≡ own-of (w .state .«me_data»)
+      → Tells (emit (rec-in (sent 4 f p) (node-in (record { id = 0; «data» = d }) ∷ []))) w r out o
       → Tells (emit (neighbor-to (unpack (w .state) .own-data) high p)) w r out o
   unfolding neighbor-to rec-in node-in unpack
-  neighbor-told p high f e k =
-      tell-by {g = emit (rec-in (sent 4 f p) (node-in (record { id = 0; «data» = w .state .«me_data» }) ∷ []))} (emit (neighbor-to (unpack (w .state) .own-data) high p))
-      (λ ds. ap (λ (x : ℕ). emit (message 4 p x 0 0 (node 0 (data-in (w .state .«me_data»)) ∷ [])) (run w ds out)) (sym e)) k
+  neighbor-told p high f d e q k =
+      tell-by {g = emit (rec-in (sent 4 f p) (node-in (record { id = 0; «data» = d }) ∷ []))} (emit (neighbor-to (unpack (w .state) .own-data) high p))
+      (λ ds i. emit (message 4 p (sym e i) 0 0 (node 0 (data-in (sym q i)) ∷ [])) (run w ds out)) k
 
   pub request-told : (a : Work) (o₁ : List ℕ) (p : ℕ) (high : Bool) (id : ℕ)
       → Tells (emit (rec-in (record { kind = 3; message = 0; flags = 0; peer = p; second = w .state .config .«neighbor_request_timeout»; ttl = 0; number = id }) [])) a r o₁ o

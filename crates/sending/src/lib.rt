@@ -110,7 +110,8 @@ pub fn join(w: Work, out: &mut [u8], p: u32) -> Work
     ensures { λ r. ⌜ Tells (join p) w r (now (out .entry)) (now (out .exit)) ⌝ }
 {
     let s = w.state;
-    let d = s.me_data;
+    let own = s.me_data;
+    let d = state::own_data(own);
     let f = Fields {
         kind: 0,
         message: 0,
@@ -298,7 +299,8 @@ fn tell_neighbor(w: Work, out: &mut [u8], p: u32, high: bool) -> Work
     ensures { λ r. ⌜ Tells (emit (neighbor-to (unpack (w .state) .own-data) high p)) w r (now (out .entry)) (now (out .exit)) ⌝ }
 {
     let s = w.state;
-    let d = s.me_data;
+    let own = s.me_data;
+    let d = state::own_data(own);
     let flags = flag(high);
     let f = Fields {
         kind: 0,

@@ -171,7 +171,8 @@ fn renews_limit(s: State, from: u32, fresh: bool) -> bool
     requires { ⌜ PackedState s ⌝ }
     ensures { λ r. ⌜ r ≡ renews-limit from fresh (unpack s) ⌝ }
 {
-    let l = s.refill;
+    let bytes = s.refill;
+    let l = state::limit_of(bytes);
     !s.is_requested(from) & (fresh & l.is_spent())
 }
 

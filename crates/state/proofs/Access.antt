@@ -5,6 +5,7 @@ use mathlib.Core.Path.{_≡_}
 use mathlib.Core.Bool.{true}
 use lib.ListN.{length}
 use Rattle.util.specs.Set.{Valid, items-of}
+use Rattle.peer.specs.declared.PeerData.{PeerData}
 use Rattle.peer.specs.Held.{ValidData}
 use Rattle.peer.specs.Maps.{ValidNumbers, ValidDataMap}
 use Rattle.timing.specs.Timing.{in-range}
@@ -15,6 +16,9 @@ use Rattle.state.specs.Unpack.{PackedState, opened}
 module _ (s : State) (p : PackedState s) where
   pub of-own-data : ValidData (own-of (s .«me_data»))
   of-own-data = opened p .own-data
+
+  pub of-own : (d : PeerData) → d ≡ own-of (s .«me_data») → ValidData d
+  of-own d e = rw e of-own-data
 
   pub of-active : Valid (s .«active_view»)
   of-active = opened p .active
@@ -56,4 +60,4 @@ module _ (s : State) (p : PackedState s) where
   passive-fits = opened p .passive-fits
 
 pub ruleset of-packed =
-    (of-own-data, of-active, of-passive, of-settings, of-interval, of-bootstrap, of-recent, of-requests, of-joins, of-peer-data, of-alive, of-refused, active-fits, passive-fits)
+    (of-own-data, of-own, of-active, of-passive, of-settings, of-interval, of-bootstrap, of-recent, of-requests, of-joins, of-peer-data, of-alive, of-refused, active-fits, passive-fits)

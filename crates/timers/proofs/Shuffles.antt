@@ -15,6 +15,7 @@ use Rattle.util.proofs.Choosing.{done-set}
 use Rattle.util.proofs.Hold.{holds-length}
 use Rattle.timing.specs.Timing.{delay}
 use Rattle.timing.proofs.Ranges.{ranges}
+use Rattle.peer.specs.declared.PeerData.{PeerData}
 use Rattle.peer.specs.Data.{Node}
 use Rattle.peer.specs.Held.{node-in}
 use Rattle.writer.specs.declared.Nodes.{Nodes}
@@ -26,6 +27,7 @@ use Rattle.protocol.specs.Run.{Run, on, emit, draw, drawn, picked, shuffled, dr
 use Rattle.protocol.specs.Timers.{double-interval, schedule-shuffle, shuffle-nodes, send-shuffle, active-part, passive-part, shuffle-passive, shuffle-with, shuffle-any}
 use Rattle.state.specs.declared.State.{State}
 use Rattle.state.specs.declared.Work.{Work}
+use Rattle.state.specs.Memory.{own-of}
 use Rattle.state.specs.Unpack.{unpack, PackedState, Becomes}
 use Rattle.state.specs.Work.{run, Changes, Draws, Tells, Fine, Does}
 use Rattle.state.proofs.Access.{of-settings}
@@ -74,14 +76,14 @@ place-named s ps ns h f = omega (arith, length-nodes ns (h .valid), ap length (h
 pub walk-fits : (s : State) → PackedState s → s .config .«shuffle_random_walk_length» ≤ 65535
 walk-fits s v = ranges (s .config) (of-settings s v) .shuffle-walk .most
 
-pub shuffle-told : (w r : Work) (out o : List ℕ) (to : ℕ) (ps : IndexSet) (named ns : Nodes) → HoldsNodes named (peer-infos (unpack (w .state)) (items-of ps))
-    → HoldsNodes ns (nodes-in named ++ (node-in (record { id = w .state .me; «data» = w .state .«me_data» }) ∷ []))
+pub shuffle-told : (w r : Work) (out o : List ℕ) (to : ℕ) (ps : IndexSet) (named ns : Nodes) (d : PeerData) → d ≡ own-of (w .state .«me_data») → HoldsNodes named (peer-infos (unpack (w .state)) (items-of ps))
+    → HoldsNodes ns (nodes-in named ++ (node-in (record { id = w .state .me; «data» = d }) ∷ []))
     → Tells (emit (rec-in (record { kind = 0; message = 2; flags = 0; peer = to; second = w .state .me; ttl = w .state .config .«shuffle_random_walk_length»; number = 0 }) (nodes-in ns))) w r out o
     → Tells (send-shuffle to (items-of ps)) w r out o
 unfolding send-shuffle shuffle-nodes rec-in node-in run unpack
-shuffle-told w r out o to ps named ns h e k =
+shuffle-told w r out o to ps named ns d q h e k =
     tell-by {g = emit (rec-in (record { kind = 0; message = 2; flags = 0; peer = to; second = w .state .me; ttl = w .state .config .«shuffle_random_walk_length»; number = 0 }) (nodes-in ns))} (send-shuffle to (items-of ps))
-    (λ ds. ap (λ (x : List Node). emit (message 2 to 0 (w .state .me) (w .state .config .«shuffle_random_walk_length») x) (run w ds out)) (sym (e .holds ∙ ap (λ (l : List Node). l ++ (node-in (record { id = w .state .me; «data» = w .state .«me_data» }) ∷ [])) (h .holds)))) k
+    (λ ds. ap (λ (x : List Node). emit (message 2 to 0 (w .state .me) (w .state .config .«shuffle_random_walk_length») x) (run w ds out)) (sym (e .holds ∙ (λ i. h .holds i ++ (node-in (record { id = w .state .me; «data» = q i }) ∷ []))))) k
 
 -- ---- the peers that it names
 

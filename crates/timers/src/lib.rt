@@ -159,7 +159,8 @@ fn send_shuffle(w: Work, out: &mut [u8], to: u32, ps: IndexSet) -> Work
 {
     let s = w.state;
     let me = s.me;
-    let d = s.me_data;
+    let own = s.me_data;
+    let d = state::own_data(own);
     let named = sending::peer_infos(s, ps);
     let ns = named.push(PeerInfo { id: me, data: d });
     let ttl = s.config.shuffle_random_walk_length as u16;
@@ -462,7 +463,8 @@ fn refill_if_due(w: Work, draws: &[u32], out: &mut [u8]) -> Work
 fn in_recovery(s: State) -> bool
     ensures { λ r. ⌜ r ≡ in-recovery (unpack s) ⌝ }
 {
-    let l = s.refill;
+    let bytes = s.refill;
+    let l = state::limit_of(bytes);
     l.is_recovery()
 }
 

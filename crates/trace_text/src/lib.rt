@@ -216,7 +216,8 @@ fn put_kept(out: &mut [u8], t: Text, s: State) -> Text {
     let data = s.peer_data;
     let alive = s.alive_disconnect_peers;
     let refused = s.refused;
-    let refill = s.refill;
+    let bytes = s.refill;
+    let refill = state::limit_of(bytes);
     let a = data_field(out, t, data);
     let b = peers_field(out, a, b" alive=", alive);
     let c = peers_field(out, b, b" refused=", refused);
@@ -228,7 +229,7 @@ fn bit(x: bool) -> u64 {
 }
 
 fn put_timing(out: &mut [u8], t: Text, s: State) -> Text {
-    let a = number_field(out, t, b" timers=", bit(s.timers_scheduled));
+    let a = number_field(out, t, b" timers=", bit(s.timers_scheduled == 1));
     number_field(out, a, b" interval=", s.next_shuffle_interval as u64)
 }
 
@@ -239,7 +240,8 @@ fn put_passes(out: &mut [u8], t: Text, s: State) -> Text {
 }
 
 fn put_state(out: &mut [u8], t: Text, s: State) -> Text {
-    let own = s.me_data;
+    let bytes = s.me_data;
+    let own = state::own_data(bytes);
     let a = own_field(out, t, own);
     let b = put_views(out, a, s);
     let c = put_open(out, b, s);

@@ -3,6 +3,9 @@ use borrow.Author.Needs.{needs}
 use Rattle.refill.proofs.begin_refill.Statement.{statement}
 use Rattle.refill.proofs.begin_refill.Tie as tie
 
+limit-of-requires : tie.Need-limit-of-requires
+limit-of-requires c κs = search needs
+
 unless-recovery-requires : tie.Need-unless-recovery-requires
 unless-recovery-requires c κs = search needs
 
@@ -10,7 +13,7 @@ set-refill-requires : tie.Need-set-refill-requires
 set-refill-requires c κs = search needs
 
 returns : tie.Need-returns
-returns c = begun _ _ _ _ (c .before .unless-recovery .ensures) (c .set-refill .ensures)
+returns c = begun _ _ _ _ _ (c .before .before .limit-of .ensures) (c .before .unless-recovery .ensures) (c .set-refill .ensures)
 
 pub begin-refill-spec : {M : Type 1} → statement M
-begin-refill-spec = tie.close (tie.spec unless-recovery-requires set-refill-requires returns)
+begin-refill-spec = tie.close (tie.spec limit-of-requires unless-recovery-requires set-refill-requires returns)

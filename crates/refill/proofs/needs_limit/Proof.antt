@@ -4,6 +4,9 @@ use borrow.Author.Needs.{needs}
 use Rattle.refill.proofs.needs_limit.Statement.{statement}
 use Rattle.refill.proofs.needs_limit.Tie as tie
 
+limit-of-requires : tie.Need-limit-of-requires
+limit-of-requires c κs = search needs
+
 is-automatic-requires : tie.Need-is-automatic-requires
 is-automatic-requires c κs = search needs
 
@@ -18,4 +21,4 @@ unfolding needs-limit unpack
 returns c = cc
 
 pub needs-limit-spec : {M : Type 1} → statement M
-needs-limit-spec = tie.close (tie.spec is-automatic-requires is-alone-requires is-short-requires returns)
+needs-limit-spec = tie.close (tie.spec limit-of-requires is-automatic-requires is-alone-requires is-short-requires returns)

@@ -4,6 +4,9 @@ use borrow.Author.Needs.{needs}
 use Rattle.refill.proofs.recovery_is_over.Statement.{statement}
 use Rattle.refill.proofs.recovery_is_over.Tie as tie
 
+limit-of-requires : tie.Need-limit-of-requires
+limit-of-requires c κs = search needs
+
 asked-outside-requires : tie.Need-asked-outside-requires
 asked-outside-requires c κs = search needs
 
@@ -18,4 +21,4 @@ unfolding recovery-is-over unpack
 returns c = cc
 
 pub recovery-is-over-spec : {M : Type 1} → statement M
-recovery-is-over-spec = tie.close (tie.spec asked-outside-requires is-recovery-requires is-empty-requires returns)
+recovery-is-over-spec = tie.close (tie.spec limit-of-requires asked-outside-requires is-recovery-requires is-empty-requires returns)

@@ -3,6 +3,9 @@ use borrow.Author.Needs.{needs}
 use Rattle.refill.proofs.use_request.Statement.{statement}
 use Rattle.refill.proofs.use_request.Tie as tie
 
+limit-of-requires : tie.Need-limit-of-requires
+limit-of-requires c κs = search needs
+
 one-less-requires : tie.Need-one-less-requires
 one-less-requires c κs = search needs
 
@@ -10,7 +13,7 @@ set-refill-requires : tie.Need-set-refill-requires
 set-refill-requires c κs = search needs
 
 returns : tie.Need-returns
-returns c = used _ _ _ (c .before .one-less .ensures) (c .set-refill .ensures)
+returns c = used _ _ _ _ (c .before .before .limit-of .ensures) (c .before .one-less .ensures) (c .set-refill .ensures)
 
 pub use-request-spec : {M : Type 1} → statement M
-use-request-spec = tie.close (tie.spec one-less-requires set-refill-requires returns)
+use-request-spec = tie.close (tie.spec limit-of-requires one-less-requires set-refill-requires returns)

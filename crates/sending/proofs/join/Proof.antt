@@ -4,6 +4,9 @@ use borrow.Author.Needs.{needs}
 use Rattle.sending.proofs.join.Statement.{statement}
 use Rattle.sending.proofs.join.Tie as tie
 
+own-data-requires : tie.Need-own-data-requires
+own-data-requires c κs = search needs
+
 emit-one-requires : tie.Need-emit-one-requires
 emit-one-requires c κs = (search needs, search (of-packed, needs))
 
@@ -11,7 +14,7 @@ same-length : tie.Need-same-length
 same-length c = search needs
 
 returns : tie.Need-returns
-returns c = join-told _ _ _ _ _ (c .before .before .emit-one .ensures)
+returns c = join-told _ _ _ _ _ _ (c .before .before .before .before .own-data .ensures) (c .before .before .emit-one .ensures)
 
 pub join-spec : {M : Type 1} → statement M
-join-spec = tie.close (tie.spec emit-one-requires same-length returns)
+join-spec = tie.close (tie.spec own-data-requires emit-one-requires same-length returns)

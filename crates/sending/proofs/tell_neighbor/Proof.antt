@@ -4,6 +4,9 @@ use borrow.Author.Needs.{needs}
 use Rattle.sending.proofs.tell_neighbor.Statement.{statement}
 use Rattle.sending.proofs.tell_neighbor.Tie as tie
 
+own-data-requires : tie.Need-own-data-requires
+own-data-requires c κs = search needs
+
 flag-requires : tie.Need-flag-requires
 flag-requires c κs = search needs
 
@@ -14,7 +17,7 @@ same-length : tie.Need-same-length
 same-length c = search needs
 
 returns : tie.Need-returns
-returns c = neighbor-told _ _ _ _ _ _ _ (c .before .before .before .before .flag .ensures) (c .before .before .emit-one .ensures)
+returns c = neighbor-told _ _ _ _ _ _ _ _ (c .before .before .before .before .flag .ensures) (c .before .before .before .before .before .own-data .ensures) (c .before .before .emit-one .ensures)
 
 pub tell-neighbor-spec : {M : Type 1} → statement M
-tell-neighbor-spec = tie.close (tie.spec flag-requires emit-one-requires same-length returns)
+tell-neighbor-spec = tie.close (tie.spec own-data-requires flag-requires emit-one-requires same-length returns)

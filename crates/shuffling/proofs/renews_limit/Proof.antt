@@ -4,6 +4,9 @@ use Rattle.state.specs.Unpack.{unpack}
 use Rattle.shuffling.proofs.renews_limit.Statement.{statement}
 use Rattle.shuffling.proofs.renews_limit.Tie as tie
 
+limit-of-requires : tie.Need-limit-of-requires
+limit-of-requires c κs = search needs
+
 is-requested-requires : tie.Need-is-requested-requires
 is-requested-requires c κs = search needs
 
@@ -15,4 +18,4 @@ unfolding renews-limit unpack
 returns c = cc
 
 pub renews-limit-spec : {M : Type 1} → statement M
-renews-limit-spec = tie.close (tie.spec is-requested-requires is-spent-requires returns)
+renews-limit-spec = tie.close (tie.spec limit-of-requires is-requested-requires is-spent-requires returns)
