@@ -23,7 +23,7 @@ add-n : tie.Need-add-n
 add-n c = search needs
 
 cast-result : tie.Need-cast-result
-cast-result c = record { fits = omega (arith, ranges _ (of-settings _ (c .before .before .before .before .before .before .pre)) .active .most) }
+cast-result c = record { fits = omega (arith, ranges _ (of-settings _ (c .before .before .before .before .before .before .before .pre)) .active .most) }
 
 is-spent-requires : tie.Need-is-spent-requires
 is-spent-requires c κs = search needs
