@@ -35,7 +35,8 @@ use Rattle.protocol.specs.Rules.{short-data, all-short, all-under, limit-ok, se
 use Rattle.protocol.specs.Rules as R
 use Rattle.protocol.specs.Handle.{new-station, zero-config, zero-station}
 use Rattle.state.specs.Unpack.{unpack, PackedState}
-use Rattle.rules.specs.Pack.{pack-data, pack-set, pack-number, pack-numbers, pack-entry, pack-data-map, pack, Fits}
+use Rattle.state.proofs.Memory.{own-back, all-kept}
+use Rattle.rules.specs.Pack.{pack-data, pack-set, pack-number, pack-numbers, pack-entry, pack-data-map, pack-refill, pack, Fits}
 use Rattle.rules.specs.Ok.{packed-ok, state-ok}
 use Rattle.rules.proofs.Shape.{Shape, shape-ok}
 use Rattle.rules.proofs.Pack.{pair-out, length-mapped-numbers, data-pair-out, length-mapped-data, unpack-pack}
@@ -120,7 +121,8 @@ ordered g k =
 fits-shape : (g : Station) → Fits g → Ordered g → Shape (pack g)
 unfolding pack
 fits-shape g v o = record {
-  own-data = data-valid _ (v .own-data);
+  bytes = all-kept (pack-data (g .own-data)) (g .scheduled) (pack-refill (g .refill));
+  own-data = rw (own-back (pack-data (g .own-data))) (data-valid _ (v .own-data));
   active = set-valid _ (v .active);
   passive = set-valid _ (v .passive);
   bootstrap = set-valid _ (v .bootstrap);

@@ -24,7 +24,10 @@ use Rattle.protocol.specs.Rules.{short-data}
 use Rattle.protocol.specs.Handle as handle
 use Rattle.protocol.specs.Handle.{new-station, zero-config, zero-station}
 use Rattle.state.specs.declared.RefillLimit.the-variants.{Automatic}
+use Rattle.state.specs.declared.OwnData.{OwnData}
+use Rattle.state.specs.declared.Limit.{Limit}
 use Rattle.state.specs.declared.State.{State}
+use Rattle.state.specs.Memory.{own-kept, limit-kept}
 use Rattle.rules.specs.declared.Made.{Made}
 use Rattle.rules.specs.Pack.{pack-set, pack-numbers, pack-data-map, pack-refill, pack}
 use Rattle.rules.specs.Made.{lent, pack-made, refused-new, Own}
@@ -40,14 +43,14 @@ pub data-map-is : (s : DataMap) (m : List (ℕ × List ℕ)) → HoldsDataMap s 
 data-map-is s m h = sym (data-map-back s (h .valid)) ∙ ap pack-data-map (h .items)
 
 -- the state that `fresh` makes of its parts
-abbrev pub fresh-of : ℕ → PeerData → Config → IndexSet → Numbers → DataMap → ℕ → State
-fresh-of me own c t n d k = record {
+abbrev pub fresh-of : ℕ → OwnData → Config → IndexSet → Numbers → DataMap → ℕ → Limit → State
+fresh-of me own c t n d k l = record {
   me = me;
   «me_data» = own;
   «active_view» = t;
   «passive_view» = t;
   config = c;
-  «timers_scheduled» = false;
+  «timers_scheduled» = 0;
   «next_shuffle_interval» = k;
   «bootstrap_peers» = t;
   «passes_alone» = 0;
@@ -60,13 +63,15 @@ fresh-of me own c t n d k = record {
   «peer_data» = d;
   «alive_disconnect_peers» = t;
   refused = t;
-  refill = Automatic;
+  refill = l;
 }
 
-pub fresh-is : (me : ℕ) (own : PeerData) (c : Config) (t : IndexSet) (n : Numbers) (d : DataMap) (k : ℕ) → ValidData own → Holds t [] → HoldsNumbers n [] → HoldsDataMap d []
-    → k ≡ min 1000 (c .«shuffle_interval») → fresh-of me own c t n d k ≡ pack (new-station me (data-in own) c)
+pub fresh-is : (me : ℕ) (own : PeerData) (c : Config) (t : IndexSet) (n : Numbers) (d : DataMap) (k : ℕ) (o : OwnData) (l : Limit) → ValidData own → Holds t [] → HoldsNumbers n [] → HoldsDataMap d []
+    → k ≡ min 1000 (c .«shuffle_interval») → o ≡ own-kept own → l ≡ limit-kept Automatic → fresh-of me o c t n d k l ≡ pack (new-station me (data-in own) c)
 unfolding pack new-station pack-refill
-fresh-is me own c t n d k v ht hn hd e = λ i. fresh-of me (sym (data-back own v) i) c (set-is t [] ht i) (numbers-is n [] hn i) (data-map-is d [] hd i) (e i)
+fresh-is me own c t n d k o l v ht hn hd e p q =
+    let z = p ∙ ap own-kept (sym (data-back own v)) in
+    λ i. fresh-of me (z i) c (set-is t [] ht i) (numbers-is n [] hn i) (data-map-is d [] hd i) (e i) (q i)
 
 -- the state of zeroes
 pub zeroes : (own : PeerData) (c : Config) (st : State) → HoldsData own none → c ≡ zero-config → st ≡ pack (new-station 0 (data-in own) c)

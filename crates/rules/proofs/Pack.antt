@@ -31,7 +31,9 @@ use Rattle.protocol.specs.Rules.{short-data, all-short}
 use Rattle.state.specs.declared.RefillLimit.{RefillLimit}
 use Rattle.state.specs.declared.RefillLimit.the-variants.{Automatic, Requests, Recovery}
 use Rattle.state.specs.declared.State.{State}
+use Rattle.state.specs.Memory.{own-of, own-kept, limit-of, limit-kept}
 use Rattle.state.specs.Unpack.{refill-in, unpack, PackedState}
+use Rattle.state.proofs.Memory.{bool-back, own-back, limit-back, own-again, timers-again, refill-again}
 use Rattle.rules.specs.Pack.{pack-data, pack-set, pack-number, pack-numbers, pack-entry, pack-data-map, pack-refill, pack, Fits}
 use Rattle.rules.specs.Ok.{packed-ok}
 use Rattle.rules.proofs.Shape.{Shape, ok-shape, packed-shape}
@@ -85,27 +87,30 @@ refill-back Recovery = refl
 
 pub shape-back : (s : State) → Shape s → pack (unpack s) ≡ s
 unfolding pack unpack
-shape-back s v = λ i. record {
-  me = s .me;
-  «me_data» = data-back (s .«me_data») (v .own-data) i;
-  «active_view» = set-back (s .«active_view») (v .active) i;
-  «passive_view» = set-back (s .«passive_view») (v .passive) i;
-  config = s .config;
-  «timers_scheduled» = s .«timers_scheduled»;
-  «next_shuffle_interval» = s .«next_shuffle_interval»;
-  «bootstrap_peers» = set-back (s .«bootstrap_peers») (v .bootstrap) i;
-  «passes_alone» = s .«passes_alone»;
-  «passes_short» = s .«passes_short»;
-  «recent_neighbors» = set-back (s .«recent_neighbors») (v .recent) i;
-  «pending_neighbor_requests» = numbers-back (s .«pending_neighbor_requests») (v .requests) i;
-  «next_neighbor_request» = s .«next_neighbor_request»;
-  «pending_joins» = numbers-back (s .«pending_joins») (v .joins) i;
-  «next_join» = s .«next_join»;
-  «peer_data» = data-map-back (s .«peer_data») (v .peer-data) i;
-  «alive_disconnect_peers» = set-back (s .«alive_disconnect_peers») (v .alive) i;
-  refused = set-back (s .refused) (v .refused) i;
-  refill = refill-back (s .refill) i;
-}
+shape-back s v =
+    let own-there = ap own-kept (data-back (own-of (s .«me_data»)) (v .own-data)) ∙ own-again (s .«me_data») _ _ (v .bytes) in
+    let limit-there = ap limit-kept (refill-back (limit-of (s .refill))) ∙ refill-again (s .«me_data») _ (s .refill) (v .bytes) in
+    λ i. record {
+      me = s .me;
+      «me_data» = own-there i;
+      «active_view» = set-back (s .«active_view») (v .active) i;
+      «passive_view» = set-back (s .«passive_view») (v .passive) i;
+      config = s .config;
+      «timers_scheduled» = timers-again (s .«me_data») _ (s .refill) (v .bytes) i;
+      «next_shuffle_interval» = s .«next_shuffle_interval»;
+      «bootstrap_peers» = set-back (s .«bootstrap_peers») (v .bootstrap) i;
+      «passes_alone» = s .«passes_alone»;
+      «passes_short» = s .«passes_short»;
+      «recent_neighbors» = set-back (s .«recent_neighbors») (v .recent) i;
+      «pending_neighbor_requests» = numbers-back (s .«pending_neighbor_requests») (v .requests) i;
+      «next_neighbor_request» = s .«next_neighbor_request»;
+      «pending_joins» = numbers-back (s .«pending_joins») (v .joins) i;
+      «next_join» = s .«next_join»;
+      «peer_data» = data-map-back (s .«peer_data») (v .peer-data) i;
+      «alive_disconnect_peers» = set-back (s .«alive_disconnect_peers») (v .alive) i;
+      refused = set-back (s .refused) (v .refused) i;
+      refill = limit-there i;
+    }
 
 -- of a state that passes the test
 pub ok-back : (s : State) → packed-ok s ≡ true → pack (unpack s) ≡ s
@@ -168,11 +173,11 @@ pub unpack-pack : (g : Station) → Fits g → unpack (pack g) ≡ g
 unfolding pack unpack
 unpack-pack g v = λ i. record {
   me = g .me;
-  own-data = data-out (g .own-data) (v .own-data) i;
+  own-data = (ap data-in (own-back (pack-data (g .own-data))) ∙ data-out (g .own-data) (v .own-data)) i;
   active = set-out (g .active) (v .active) i;
   passive = set-out (g .passive) (v .passive) i;
   config = g .config;
-  scheduled = g .scheduled;
+  scheduled = bool-back (g .scheduled) i;
   next-interval = g .next-interval;
   bootstrap = set-out (g .bootstrap) (v .bootstrap) i;
   passes-alone = g .passes-alone;
@@ -185,5 +190,5 @@ unpack-pack g v = λ i. record {
   peer-data = data-map-out (g .peer-data) (v .peer-data) (v .short) i;
   alive = set-out (g .alive) (v .alive) i;
   refused = set-out (g .refused) (v .refused) i;
-  refill = refill-out (g .refill) i;
+  refill = (ap refill-in (limit-back (pack-refill (g .refill))) ∙ refill-out (g .refill)) i;
 }

@@ -80,6 +80,7 @@ module _ (s : State) (v : Shape s) where
       let fits = leb (length (items-of (s .«active_view»))) (s .config .«active_view_capacity») in
       shut
       (record {
+        bytes = v .bytes;
         own-data = v .own-data;
         active = v .active;
         passive = v .passive;

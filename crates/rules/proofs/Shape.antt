@@ -11,12 +11,14 @@ use Rattle.peer.specs.Maps.{ValidNumbers, valid-numbers, ValidDataMap, valid-da
 use Rattle.peer.proofs.Data.{valid-data-true, true-valid-data}
 use Rattle.peer.proofs.Maps.{valid-numbers-true, true-valid-numbers, valid-data-map-true, true-valid-data-map}
 use Rattle.state.specs.declared.State.{State}
+use Rattle.state.specs.Memory.{formed, own-of}
 use Rattle.state.specs.Unpack.{PackedState, opened}
 use Rattle.rules.specs.Ok.{packed-ok}
 
 -- every field is well formed
 pub record Shape (s : State) : Type 0 where
-  pub own-data : ValidData (s .«me_data»)
+  pub bytes : formed (s .«me_data») (s .«timers_scheduled») (s .refill) ≡ true
+  pub own-data : ValidData (own-of (s .«me_data»))
   pub active : Valid (s .«active_view»)
   pub passive : Valid (s .«passive_view»)
   pub bootstrap : Valid (s .«bootstrap_peers»)
@@ -30,7 +32,8 @@ pub record Shape (s : State) : Type 0 where
 pub ok-shape : (s : State) → packed-ok s ≡ true → Shape s
 unfolding packed-ok
 ok-shape s e =
-    let e₁ = and-right (valid-data (s .«me_data»)) _ e in
+    let e₀ = and-right (formed (s .«me_data») (s .«timers_scheduled») (s .refill)) _ e in
+    let e₁ = and-right (valid-data (own-of (s .«me_data»))) _ e₀ in
     let e₂ = and-right (validb (s .«active_view»)) _ e₁ in
     let e₃ = and-right (validb (s .«passive_view»)) _ e₂ in
     let e₄ = and-right (validb (s .«bootstrap_peers»)) _ e₃ in
@@ -39,7 +42,8 @@ ok-shape s e =
     let e₇ = and-right (valid-numbers (s .«pending_joins»)) _ e₆ in
     let e₈ = and-right (valid-data-map (s .«peer_data»)) _ e₇ in
     record {
-      own-data = valid-data-true _ (and-left (valid-data (s .«me_data»)) _ e);
+      bytes = and-left (formed (s .«me_data») (s .«timers_scheduled») (s .refill)) _ e;
+      own-data = valid-data-true _ (and-left (valid-data (own-of (s .«me_data»))) _ e₀);
       active = validb-valid _ (and-left (validb (s .«active_view»)) _ e₁);
       passive = validb-valid _ (and-left (validb (s .«passive_view»)) _ e₂);
       bootstrap = validb-valid _ (and-left (validb (s .«bootstrap_peers»)) _ e₃);
@@ -54,7 +58,8 @@ ok-shape s e =
 pub shape-ok : (s : State) → Shape s → packed-ok s ≡ true
 unfolding packed-ok
 shape-ok s v =
-    both-true (valid-data (s .«me_data»)) _ (true-valid-data _ (v .own-data))
+    both-true (formed (s .«me_data») (s .«timers_scheduled») (s .refill)) _ (v .bytes)
+    (both-true (valid-data (own-of (s .«me_data»))) _ (true-valid-data _ (v .own-data))
     (both-true (validb (s .«active_view»)) _ (valid-validb _ (v .active))
     (both-true (validb (s .«passive_view»)) _ (valid-validb _ (v .passive))
     (both-true (validb (s .«bootstrap_peers»)) _ (valid-validb _ (v .bootstrap))
@@ -62,13 +67,14 @@ shape-ok s v =
     (both-true (valid-numbers (s .«pending_neighbor_requests»)) _ (true-valid-numbers _ (v .requests))
     (both-true (valid-numbers (s .«pending_joins»)) _ (true-valid-numbers _ (v .joins))
     (both-true (valid-data-map (s .«peer_data»)) _ (true-valid-data-map _ (v .peer-data))
-    (both-true (validb (s .«alive_disconnect_peers»)) _ (valid-validb _ (v .alive)) (valid-validb _ (v .refused))))))))))
+    (both-true (validb (s .«alive_disconnect_peers»)) _ (valid-validb _ (v .alive)) (valid-validb _ (v .refused)))))))))))
 
 -- a packed state's fields are well formed
 pub packed-shape : (s : State) → PackedState s → Shape s
 packed-shape s p =
     let v = opened p in
     record {
+      bytes = v .bytes;
       own-data = v .own-data;
       active = v .active;
       passive = v .passive;

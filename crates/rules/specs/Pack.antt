@@ -2,7 +2,7 @@
 -- Assumes nothing.
 use Prim.Native.Nat.{ℕ, _≤_}
 use mathlib.Core.Path.{_≡_}
-use mathlib.Core.Bool.{true, false}
+use mathlib.Core.Bool.{true, false, cond}
 use mathlib.Core.List.{List, [], map}
 use mathlib.Core.Option.{none, some}
 use lib.ListN.{length}
@@ -20,6 +20,7 @@ use Rattle.protocol.specs.Rules.{short-data, all-short}
 use Rattle.state.specs.declared.RefillLimit.{RefillLimit}
 use Rattle.state.specs.declared.RefillLimit.the-variants.{Automatic, Requests, Recovery}
 use Rattle.state.specs.declared.State.{State}
+use Rattle.state.specs.Memory.{own-kept, limit-kept}
 
 unfoldable pub pack-data : Data → PeerData
 pack-data none = record { present = false; len = 0; bytes = pad 0 16 [] }
@@ -49,11 +50,11 @@ pack-refill recovery = Recovery
 unfoldable pub pack : Station → State
 pack g = record {
   me = g .me;
-  «me_data» = pack-data (g .own-data);
+  «me_data» = own-kept (pack-data (g .own-data));
   «active_view» = pack-set (g .active);
   «passive_view» = pack-set (g .passive);
   config = g .config;
-  «timers_scheduled» = g .scheduled;
+  «timers_scheduled» = cond (g .scheduled) 1 0;
   «next_shuffle_interval» = g .next-interval;
   «bootstrap_peers» = pack-set (g .bootstrap);
   «passes_alone» = g .passes-alone;
@@ -66,7 +67,7 @@ pack g = record {
   «peer_data» = pack-data-map (g .peer-data);
   «alive_disconnect_peers» = pack-set (g .alive);
   refused = pack-set (g .refused);
-  refill = pack-refill (g .refill);
+  refill = limit-kept (pack-refill (g .refill));
 }
 
 -- g has room in the arrays

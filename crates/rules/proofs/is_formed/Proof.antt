@@ -1,13 +1,11 @@
-use Rattle.controller.proofs.Laws.{formed-by}
-use borrow.Author.Needs.{needs}
-use Rattle.controller.proofs.is_formed.Statement.{statement}
-use Rattle.controller.proofs.is_formed.Tie as tie
-
-is-limit-requires : tie.Need-is-limit-requires
-is-limit-requires c κs = search needs
+use mathlib.Core.Path.{refl}
+use Rattle.state.specs.Memory.{limit-formed, formed}
+use Rattle.rules.proofs.is_formed.Statement.{statement}
+use Rattle.rules.proofs.is_formed.Tie as tie
 
 returns : tie.Need-returns
-returns c = search formed-by
+unfolding formed limit-formed
+returns c = refl
 
 pub is-formed-spec : {M : Type 1} → statement M
-is-formed-spec = tie.close (tie.spec is-limit-requires returns)
+is-formed-spec = tie.close (tie.spec returns)
