@@ -24,7 +24,7 @@ returns-2 : tie.Need-returns-2
 returns-2 c =
     let c₂ = c .before .before in
     let c₁ = c₂ .before .before .before .before in
-    timers-start _ _ _ (c₁ .before .before .before .before .before .before .before .pre) _ _ _ _ _ (c₁ .before .before .before .if1 .left) (c₂ .schedule-maintenance .ensures) (c₁ .schedule-shuffle .ensures) (c₁ .before .before .note-scheduled .ensures)
+    timers-start _ _ _ (c₁ .before .before .before .before .before .before .before .before .pre) _ _ _ _ _ (c₁ .before .before .before .if1 .left) (c₂ .schedule-maintenance .ensures) (c₁ .schedule-shuffle .ensures) (c₁ .before .before .note-scheduled .ensures)
 
 pub first-timers-spec : {M : Type 1} → statement M
 first-timers-spec = tie.close (tie.spec returns note-scheduled-requires schedule-shuffle-requires schedule-maintenance-requires same-length returns-2)
