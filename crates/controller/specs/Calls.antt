@@ -12,7 +12,6 @@ use Rattle.hyparview.specs.Handled as hyparview
 use Rattle.controller.specs.declared.Controller.{Controller}
 use Rattle.controller.specs.declared.Begun.{Begun}
 use Rattle.controller.specs.declared.Stepped.{Stepped}
-use Rattle.controller.specs.Memory.{state-of, kept}
 
 -- a tally of zeroes
 unfoldable pub no-messages : Tally
@@ -20,12 +19,12 @@ no-messages = record { join = 0; «forward_join» = 0; shuffle = 0; «shuffle_re
 
 -- the answer of `new`, in memory
 unfoldable pub begun : Made → Begun
-begun m = record { controller = kept (m .state) no-messages; code = m .code }
+begun m = record { controller = record { state = m .state; tally = no-messages }; code = m .code }
 
 -- the controller after an answer with the output `out`: "a refusal changes none" of the counts, and no byte
 unfoldable pub after : Controller → Answer → List ℕ → Stepped
 after c a out = record {
-  controller = choose (eqb (a .code) 0) (kept (a .state) (raised (a .code) out (c .tally))) c;
+  controller = choose (eqb (a .code) 0) (record { state = a .state; tally = raised (a .code) out (c .tally) }) c;
   done = record { code = a .code; draws = a .draws };
 }
 
@@ -40,4 +39,4 @@ answered c o = record { step = after c (o .answer) (o .output); output = o .outp
 
 -- one event at the controller c, with as many bytes of output
 unfoldable pub stepped : Controller → List ℕ → List ℕ → ℕ → Outcome
-stepped c b ds room = answered c (hyparview.handled (state-of c) b ds room)
+stepped c b ds room = answered c (hyparview.handled (c .state) b ds room)

@@ -1,3 +1,2 @@
-pub mod Memory
 pub mod Calls
 pub mod Reader

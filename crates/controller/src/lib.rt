@@ -1,11 +1,7 @@
 // The library for a controller: what C or Rust calls, over memory that the caller owns.
 use hyparview::Answer;
-use peer::DataMap;
-use peer::Numbers;
-use peer::PeerData;
 use record::Entry;
 use record::Header;
-use state::RefillLimit;
 use state::State;
 use tally::Tally;
 use timing::Config;
@@ -18,47 +14,13 @@ ghost use Rattle.util.specs.Set.{Holds};
 ghost use Rattle.protocol.specs.Handle.{new};
 ghost use Rattle.rules.specs.Made.{lent, pack-made};
 ghost use Rattle.rules.specs.Queries.{wants-connection-in, is-neighbor-in, neighbors-in, spare-addresses-in};
-ghost use Rattle.controller.specs.Memory.{limit-formed, formed, limit-of, own-of, state-of, limit-kept, own-kept, kept};
 ghost use Rattle.controller.specs.Calls.{no-messages, begun, after, stepped};
 ghost use Rattle.controller.specs.Reader.{no-header, reading, no-entry, node-reading};
 
-// Own data, with a byte where the state has a bool: 1 present, 0 absent.
-#[repr(C)]
-pub struct OwnData {
-    pub present: u8,
-    pub len: u8,
-    pub bytes: [u8; 16],
-}
-
-// The limit on refills: kind 0 Automatic, 1 Requests, 2 Recovery; the requests are 0 but in kind 1.
-#[repr(C)]
-pub struct Refill {
-    pub kind: u8,
-    pub requests: u8,
-}
-
-// A station's state and its tally in integers alone, so that whatever bytes the caller's memory has are a value.
+// A station's state and its tally, in integers alone, so that whatever bytes the caller's memory has are a value.
 #[repr(C)]
 pub struct Controller {
-    pub me: u32,
-    pub own: OwnData,
-    pub active_view: IndexSet,
-    pub passive_view: IndexSet,
-    pub config: Config,
-    pub timers_scheduled: u8,
-    pub next_shuffle_interval: u32,
-    pub bootstrap_peers: IndexSet,
-    pub passes_alone: u32,
-    pub passes_short: u32,
-    pub recent_neighbors: IndexSet,
-    pub pending_neighbor_requests: Numbers,
-    pub next_neighbor_request: u64,
-    pub pending_joins: Numbers,
-    pub next_join: u64,
-    pub peer_data: DataMap,
-    pub alive_disconnect_peers: IndexSet,
-    pub refused: IndexSet,
-    pub refill: Refill,
+    pub state: State,
     pub tally: Tally,
 }
 
@@ -95,158 +57,6 @@ pub struct NodeReading {
     pub node: Entry,
 }
 
-// Whether the two bytes are a limit on refills.
-fn is_limit(kind: u8, requests: u8) -> bool
-    ensures { λ r. ⌜ r ≡ limit-formed kind requests ⌝ }
-{
-    (kind <= 2) & ((kind == 1) | (requests == 0))
-}
-
-// Whether the bytes that stand for a bool or a limit are one.
-fn is_formed(c: Controller) -> bool
-    ensures { λ r. ⌜ r ≡ formed c ⌝ }
-{
-    let own = c.own;
-    let refill = c.refill;
-    (own.present <= 1) & ((c.timers_scheduled <= 1) & is_limit(refill.kind, refill.requests))
-}
-
-// The limit that the bytes say; one that no rule allows where some byte of the controller is none of a bool or a limit.
-fn limit(good: bool, kind: u8, requests: u8) -> RefillLimit
-    ensures { λ r. ⌜ r ≡ limit-of good kind requests ⌝ }
-{
-    if good {
-        if kind == 0 {
-            return RefillLimit::Automatic;
-        }
-        if kind == 1 {
-            return RefillLimit::Requests(requests);
-        }
-        return RefillLimit::Recovery;
-    }
-    RefillLimit::Requests(255)
-}
-
-fn own_data(d: OwnData) -> PeerData
-    ensures { λ r. ⌜ r ≡ own-of d ⌝ }
-{
-    let bytes = d.bytes;
-    PeerData {
-        present: d.present == 1,
-        len: d.len,
-        bytes: bytes,
-    }
-}
-
-// The state that the controller's memory stands for; of any value of the type.
-fn load(c: Controller) -> State
-    ensures { λ r. ⌜ r ≡ state-of c ⌝ }
-{
-    let own = c.own;
-    let active_view = c.active_view;
-    let passive_view = c.passive_view;
-    let config = c.config;
-    let bootstrap_peers = c.bootstrap_peers;
-    let recent_neighbors = c.recent_neighbors;
-    let pending_neighbor_requests = c.pending_neighbor_requests;
-    let pending_joins = c.pending_joins;
-    let peer_data = c.peer_data;
-    let alive_disconnect_peers = c.alive_disconnect_peers;
-    let refused = c.refused;
-    let refill = c.refill;
-    State {
-        me: c.me,
-        me_data: own_data(own),
-        active_view: active_view,
-        passive_view: passive_view,
-        config: config,
-        timers_scheduled: c.timers_scheduled == 1,
-        next_shuffle_interval: c.next_shuffle_interval,
-        bootstrap_peers: bootstrap_peers,
-        passes_alone: c.passes_alone,
-        passes_short: c.passes_short,
-        recent_neighbors: recent_neighbors,
-        pending_neighbor_requests: pending_neighbor_requests,
-        next_neighbor_request: c.next_neighbor_request,
-        pending_joins: pending_joins,
-        next_join: c.next_join,
-        peer_data: peer_data,
-        alive_disconnect_peers: alive_disconnect_peers,
-        refused: refused,
-        refill: limit(is_formed(c), refill.kind, refill.requests),
-    }
-}
-
-fn kept_limit(l: RefillLimit) -> Refill
-    ensures { λ r. ⌜ r ≡ limit-kept l ⌝ }
-{
-    match l {
-        RefillLimit::Automatic => Refill {
-            kind: 0,
-            requests: 0,
-        },
-        RefillLimit::Requests(n) => Refill {
-            kind: 1,
-            requests: n,
-        },
-        RefillLimit::Recovery => Refill {
-            kind: 2,
-            requests: 0,
-        },
-    }
-}
-
-fn kept_own(d: PeerData) -> OwnData
-    ensures { λ r. ⌜ r ≡ own-kept d ⌝ }
-{
-    let bytes = d.bytes;
-    OwnData {
-        present: d.present as u8,
-        len: d.len,
-        bytes: bytes,
-    }
-}
-
-// The memory that stands for a state and a tally.
-fn store(s: State, t: Tally) -> Controller
-    ensures { λ r. ⌜ r ≡ kept s t ⌝ }
-{
-    let me_data = s.me_data;
-    let active_view = s.active_view;
-    let passive_view = s.passive_view;
-    let config = s.config;
-    let bootstrap_peers = s.bootstrap_peers;
-    let recent_neighbors = s.recent_neighbors;
-    let pending_neighbor_requests = s.pending_neighbor_requests;
-    let pending_joins = s.pending_joins;
-    let peer_data = s.peer_data;
-    let alive_disconnect_peers = s.alive_disconnect_peers;
-    let refused = s.refused;
-    let refill = s.refill;
-    Controller {
-        me: s.me,
-        own: kept_own(me_data),
-        active_view: active_view,
-        passive_view: passive_view,
-        config: config,
-        timers_scheduled: s.timers_scheduled as u8,
-        next_shuffle_interval: s.next_shuffle_interval,
-        bootstrap_peers: bootstrap_peers,
-        passes_alone: s.passes_alone,
-        passes_short: s.passes_short,
-        recent_neighbors: recent_neighbors,
-        pending_neighbor_requests: pending_neighbor_requests,
-        next_neighbor_request: s.next_neighbor_request,
-        pending_joins: pending_joins,
-        next_join: s.next_join,
-        peer_data: peer_data,
-        alive_disconnect_peers: alive_disconnect_peers,
-        refused: refused,
-        refill: kept_limit(refill),
-        tally: t,
-    }
-}
-
 // The controller after an answer of `handle` with this output: the tally is raised, and a refusal leaves all as it was.
 fn after(c: Controller, a: Answer, out: &[u8]) -> Stepped
     ensures { λ r. ⌜ r ≡ after c a (now (out .entry)) ⌝ }
@@ -263,7 +73,10 @@ fn after(c: Controller, a: Answer, out: &[u8]) -> Stepped
     }
     let s = a.state;
     let t = c.tally;
-    let next = store(s, tally::raised(t, 0, out));
+    let next = Controller {
+        state: s,
+        tally: tally::raised(t, 0, out),
+    };
     Stepped {
         controller: next,
         done: done,
@@ -274,7 +87,7 @@ fn after(c: Controller, a: Answer, out: &[u8]) -> Stepped
 fn step(c: Controller, event: &[u8], draws: &[u32], out: &mut [u8]) -> Stepped
     ensures { λ r. ⌜ record { step = r; output = now (out .exit) } ≡ stepped c (now (event .entry)) (now (draws .entry)) (length (now (out .entry))) ⌝ }
 {
-    let s = load(c);
+    let s = c.state;
     let a = hyparview::handle(s, event, draws, out);
     after(c, a, out)
 }
@@ -313,7 +126,10 @@ fn begin(me: u32, present: u8, own: &[u8], config: Config) -> Begun
 {
     let m = rules::new(me, present != 0, own, config);
     let s = m.state;
-    let c = store(s, no_messages());
+    let c = Controller {
+        state: s,
+        tally: no_messages(),
+    };
     Begun {
         controller: c,
         code: m.code,
@@ -337,57 +153,61 @@ pub extern "C" fn hyparview_new(
 }
 
 fn wants_connection(c: Controller, p: u32) -> bool
-    ensures { λ r. ⌜ r ≡ wants-connection-in p (state-of c) ⌝ }
+    ensures { λ r. ⌜ r ≡ wants-connection-in p (c .state) ⌝ }
 {
-    rules::wants_connection(load(c), p)
+    let s = c.state;
+    rules::wants_connection(s, p)
 }
 
 // Whether a connection to the peer is wanted.
 #[no_mangle]
 pub extern "C" fn hyparview_wants_connection(c: &Controller, p: u32) -> bool
-    ensures { λ r. ⌜ r ≡ wants-connection-in p (state-of (now (c .entry))) ⌝ }
+    ensures { λ r. ⌜ r ≡ wants-connection-in p (now (c .entry) .state) ⌝ }
 {
     wants_connection(*c, p)
 }
 
 fn is_neighbor(c: Controller, p: u32) -> bool
-    ensures { λ r. ⌜ r ≡ is-neighbor-in p (state-of c) ⌝ }
+    ensures { λ r. ⌜ r ≡ is-neighbor-in p (c .state) ⌝ }
 {
-    rules::is_neighbor(load(c), p)
+    let s = c.state;
+    rules::is_neighbor(s, p)
 }
 
 // Whether the peer is a neighbor.
 #[no_mangle]
 pub extern "C" fn hyparview_is_neighbor(c: &Controller, p: u32) -> bool
-    ensures { λ r. ⌜ r ≡ is-neighbor-in p (state-of (now (c .entry))) ⌝ }
+    ensures { λ r. ⌜ r ≡ is-neighbor-in p (now (c .entry) .state) ⌝ }
 {
     is_neighbor(*c, p)
 }
 
 fn neighbors(c: Controller) -> IndexSet
-    ensures { λ r. ⌜ Holds r (neighbors-in (state-of c)) ⌝ }
+    ensures { λ r. ⌜ Holds r (neighbors-in (c .state)) ⌝ }
 {
-    rules::neighbors(load(c))
+    let s = c.state;
+    rules::neighbors(s)
 }
 
 // The neighbors, in order.
 #[no_mangle]
 pub extern "C" fn hyparview_neighbors(c: &Controller) -> IndexSet
-    ensures { λ r. ⌜ Holds r (neighbors-in (state-of (now (c .entry)))) ⌝ }
+    ensures { λ r. ⌜ Holds r (neighbors-in (now (c .entry) .state)) ⌝ }
 {
     neighbors(*c)
 }
 
 fn spare_addresses(c: Controller) -> usize
-    ensures { λ r. ⌜ r ≡ spare-addresses-in (state-of c) ⌝ }
+    ensures { λ r. ⌜ r ≡ spare-addresses-in (c .state) ⌝ }
 {
-    rules::spare_addresses(load(c))
+    let s = c.state;
+    rules::spare_addresses(s)
 }
 
 // How many spare addresses there are.
 #[no_mangle]
 pub extern "C" fn hyparview_spare_addresses(c: &Controller) -> usize
-    ensures { λ r. ⌜ r ≡ spare-addresses-in (state-of (now (c .entry))) ⌝ }
+    ensures { λ r. ⌜ r ≡ spare-addresses-in (now (c .entry) .state) ⌝ }
 {
     spare_addresses(*c)
 }

@@ -9,11 +9,8 @@ returns c = search after-refused
 raised-requires : tie.Need-raised-requires
 raised-requires c κs = search needs
 
-store-requires : tie.Need-store-requires
-store-requires c κs = search needs
-
 returns-2 : tie.Need-returns-2
 returns-2 c = search after-accepted
 
 pub after-spec : {M : Type 1} → statement M
-after-spec = tie.close (tie.spec returns raised-requires store-requires returns-2)
+after-spec = tie.close (tie.spec returns raised-requires returns-2)

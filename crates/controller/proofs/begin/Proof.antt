@@ -9,11 +9,8 @@ new-requires c κs = search needs
 no-messages-requires : tie.Need-no-messages-requires
 no-messages-requires c κs = search needs
 
-store-requires : tie.Need-store-requires
-store-requires c κs = search needs
-
 returns : tie.Need-returns
 returns c = search begun-by
 
 pub begin-spec : {M : Type 1} → statement M
-begin-spec = tie.close (tie.spec new-requires no-messages-requires store-requires returns)
+begin-spec = tie.close (tie.spec new-requires no-messages-requires returns)

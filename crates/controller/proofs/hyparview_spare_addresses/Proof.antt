@@ -10,7 +10,6 @@ use denote.Triple.Spec.{tripleOf}
 use denote.Triple.Table.{entered, cited}
 use Rattle.rules.specs.Queries.{spare-addresses-in}
 use Rattle.controller.specs.declared.Controller.{Controller}
-use Rattle.controller.specs.Memory.{state-of}
 use Rattle.controller.proofs.Asked.{asked-meets}
 use Rattle.controller.proofs.spare_addresses as core
 use Rattle.controller.proofs.spare_addresses.Symbol as core-def
@@ -26,5 +25,5 @@ unfolding code.routine tablesOf
 hyparview-spare-addresses-spec 𝓤 H 𝓜 𝓖 𝓡 =
     entered 𝓤 H (tripleOf 𝓤 H (𝓖 .A) f.signature (f.spec 𝓤 H (𝓖 .A) (𝓜 .mem) (𝓡 .run)))
     (tables 𝓤 H 𝓜 𝓡 code.env .C) (tables 𝓤 H 𝓜 𝓡 code.env .Λ) #controller·hyparview-spare-addresses code.function (code.unfolded 𝓤 H 𝓜 𝓡)
-    (asked-meets usize (tyInt w64) #controller·spare-addresses (λ (c : Controller) (r : ℕ). r ≡ spare-addresses-in (state-of c)) 𝓤 H (𝓖 .A) (givenOf 𝓤 H 𝓜 𝓖) (λ r u is. uint-lawful 𝓤 H (𝓖 .A) (givenOf 𝓤 H 𝓜 𝓖) w64 .typed r _ is .0) (tablesOf 𝓤 H 𝓜 (tables 𝓤 H 𝓜 𝓡 code.env))
+    (asked-meets usize (tyInt w64) #controller·spare-addresses (λ (c : Controller) (r : ℕ). r ≡ spare-addresses-in (c .state)) 𝓤 H (𝓖 .A) (givenOf 𝓤 H 𝓜 𝓖) (λ r u is. uint-lawful 𝓤 H (𝓖 .A) (givenOf 𝓤 H 𝓜 𝓖) w64 .typed r _ is .0) (tablesOf 𝓤 H 𝓜 (tables 𝓤 H 𝓜 𝓡 code.env))
     (cited 𝓤 H (tripleOf 𝓤 H (𝓖 .A) core.signature (core.spec 𝓤 H (𝓖 .A) (𝓜 .mem) (𝓡 .run))) 𝓜 𝓡 code.env #controller·spare-addresses core-def.routine code.calls-controller·spare-addresses (core-thm.met 𝓤 H 𝓜 𝓖 𝓡)))

@@ -2,9 +2,6 @@ use borrow.Author.Needs.{needs}
 use Rattle.controller.proofs.is_neighbor.Statement.{statement}
 use Rattle.controller.proofs.is_neighbor.Tie as tie
 
-load-requires : tie.Need-load-requires
-load-requires c κs = search needs
-
 is-neighbor-requires : tie.Need-is-neighbor-requires
 is-neighbor-requires c κs = search needs
 
@@ -12,4 +9,4 @@ returns : tie.Need-returns
 returns c = cc
 
 pub is-neighbor-spec : {M : Type 1} → statement M
-is-neighbor-spec = tie.close (tie.spec load-requires is-neighbor-requires returns)
+is-neighbor-spec = tie.close (tie.spec is-neighbor-requires returns)

@@ -2,9 +2,6 @@ use borrow.Author.Needs.{needs}
 use Rattle.controller.proofs.spare_addresses.Statement.{statement}
 use Rattle.controller.proofs.spare_addresses.Tie as tie
 
-load-requires : tie.Need-load-requires
-load-requires c κs = search needs
-
 spare-addresses-requires : tie.Need-spare-addresses-requires
 spare-addresses-requires c κs = search needs
 
@@ -12,4 +9,4 @@ returns : tie.Need-returns
 returns c = cc
 
 pub spare-addresses-spec : {M : Type 1} → statement M
-spare-addresses-spec = tie.close (tie.spec load-requires spare-addresses-requires returns)
+spare-addresses-spec = tie.close (tie.spec spare-addresses-requires returns)

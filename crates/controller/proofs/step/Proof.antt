@@ -3,9 +3,6 @@ use borrow.Author.Needs.{needs}
 use Rattle.controller.proofs.step.Statement.{statement}
 use Rattle.controller.proofs.step.Tie as tie
 
-load-requires : tie.Need-load-requires
-load-requires c κs = search needs
-
 handle-requires : tie.Need-handle-requires
 handle-requires c κs = search needs
 
@@ -19,4 +16,4 @@ returns : tie.Need-returns
 returns c = search stepped-by
 
 pub step-spec : {M : Type 1} → statement M
-step-spec = tie.close (tie.spec load-requires handle-requires after-requires same-length returns)
+step-spec = tie.close (tie.spec handle-requires after-requires same-length returns)

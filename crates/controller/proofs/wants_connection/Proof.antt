@@ -2,9 +2,6 @@ use borrow.Author.Needs.{needs}
 use Rattle.controller.proofs.wants_connection.Statement.{statement}
 use Rattle.controller.proofs.wants_connection.Tie as tie
 
-load-requires : tie.Need-load-requires
-load-requires c κs = search needs
-
 wants-connection-requires : tie.Need-wants-connection-requires
 wants-connection-requires c κs = search needs
 
@@ -12,4 +9,4 @@ returns : tie.Need-returns
 returns c = cc
 
 pub wants-connection-spec : {M : Type 1} → statement M
-wants-connection-spec = tie.close (tie.spec load-requires wants-connection-requires returns)
+wants-connection-spec = tie.close (tie.spec wants-connection-requires returns)
