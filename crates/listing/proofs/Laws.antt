@@ -1,21 +1,19 @@
 -- Laws of the text of a run.
 -- Assumes nothing.
-use Prim.Native.Nat.{ℕ, zero, suc, _+_, _-_, _≤_, _<_}
+use Prim.Native.Nat.{ℕ, suc, _+_, _-_, _≤_, _<_}
 use mathlib.Core.Path.{_≡_, refl, sym, ap, _∙_, subst}
 use mathlib.Core.Bool.{Bool, true, false}
 use mathlib.Core.Option.{none}
-use mathlib.Core.List.{List, [], _∷_, _++_, append-nil, append-assoc}
+use mathlib.Core.List.{List, [], _++_, append-nil, append-assoc}
 use native.Mathlib.Omega.{arith}
-use lib.ListN.{length, take, drop, length-drop, drop-of-length-le}
-use lib.Seq.{take-nil, slice, drop-drop, take-all, length-take-le}
+use lib.ListN.{length, take, drop}
 use Rattle.io.specs.Counts.{Counts}
-use lib.Dec.{ltb, leb, eqb}
-use borrow.Author.Tests.{lt-ltb, le-ltb, le-leb, lt-leb, leb-true, ltb-true, ltb-false, eqb-true, eqb-false, eq-eqb, ne-eqb}
+use lib.Dec.{leb, eqb}
+use borrow.Author.Tests.{le-leb, lt-leb, leb-true, ltb-true, ltb-false, eq-eqb, ne-eqb}
 use Rattle.lists.specs.Lists.{choose}
-use Rattle.lists.proofs.Choice.{by-choice, split, choose-yes, choose-no}
+use Rattle.lists.proofs.Choice.{split, choose-yes, choose-no}
 use Rattle.state.specs.declared.State.{State}
-use Rattle.hyparview.specs.declared.Answer.{Answer}
-use Rattle.hyparview.specs.Handled.{Outcome, handled}
+use Rattle.hyparview.specs.Handled.{handled}
 use Rattle.text.specs.declared.Text.{Text}
 use Rattle.text.specs.Text.{Puts, Begins}
 use Rattle.text.proofs.Written.{begun, nothing, then, named}
@@ -27,79 +25,40 @@ use Rattle.rules.specs.Made.{lent, pack-made}
 use Rattle.input.specs.declared.Layout.{Layout}
 use Rattle.input.specs.declared.Input.{Input}
 use Rattle.input.specs.declared.Input.the-variants.{Refused, Whole}
-use Rattle.input.specs.Input.{number, numbers, event-length, cut-events, input-of}
-use Rattle.input.proofs.Laws.{length-numbers, Laid, laid}
+use Rattle.input.specs.Input.{numbers, event-length, cut-events, input-of}
+use Rattle.input.proofs.Laws.{Laid, laid}
+use Rattle.runner.specs.declared.Runner.{Runner}
+use Rattle.runner.specs.declared.Ran.{Ran}
+use Rattle.runner.specs.Place.{Inside, Runs, met}
+use Rattle.runner.proofs.Laws.{next-state, next-at, next-left, next-events}
+use Rattle.runner.proofs.Draws.{counted, first-numbers, part-is}
 use Rattle.lines.specs.Lines.{end-line, event-text}
-use Rattle.listing.specs.declared.Runner.{Runner}
 use Rattle.listing.specs.declared.Stepped.{Stepped}
 use Rattle.listing.specs.declared.Opened.{Opened}
 use Rattle.listing.specs.declared.Opened.the-variants.{Line, Events}
 use Rattle.listing.specs.declared.Shown.{Shown}
 use Rattle.listing.specs.declared.Shown.the-variants.{Bytes, TooShort}
 use Rattle.listing.specs.Run.{outcome-text, events-text, laid-text, made-text, input-text, run-text}
-use Rattle.listing.specs.Place.{Inside, Steps, Fills, advanced, fitting, Answers}
+use Rattle.listing.specs.Place.{Steps, Fills, fitting, Answers}
 use Rattle.listing.specs.Opened.{first-place, opened-layout, opened-input, opened, opened-text, rest-text}
-
--- ---- the draws
-
-module _ (used n end : ℕ) where
-  pub advance-part : n < end - used → used + n ≡ advanced used n end
-  unfolding advanced
-  advance-part h = sym (choose-yes _ _ _ (lt-ltb _ _ h))
-
-  pub advance-all : end - used ≤ n → end ≡ advanced used n end
-  unfolding advanced
-  advance-all h = sym (choose-no _ _ _ (le-ltb _ _ h))
-
-  by-advance : (X : ℕ → Type 0) → (n < end - used → X (used + n)) → (end - used ≤ n → X end) → X (advanced used n end)
-  unfolding advanced
-  by-advance X f g = by-choice X (ltb n (end - used)) (λ e. f (ltb-true _ _ e)) (λ e. g (ltb-false _ _ e))
-
-  advanced-within : used ≤ end → advanced used n end ≤ end
-  advanced-within h = by-advance (λ (x : ℕ). x ≤ end) (λ l. omega (arith, l, h)) (λ l. omega arith)
-
-drop-advanced : (used n : ℕ) (ds : List ℕ) → drop (advanced used n (length ds)) ds ≡ drop n (drop used ds)
-drop-advanced used n ds =
-    by-advance used n (length ds) (λ (x : ℕ). drop x ds ≡ drop n (drop used ds)) (λ l. sym (drop-drop n used ds))
-    (λ l. drop-of-length-le ds {i = length ds} (omega arith) ∙ sym (drop-of-length-le (drop used ds) {i = n} (simp length-drop (omega (arith, l)))))
 
 -- ---- one event
 
--- what the event at p gives
-abbrev pub met : ℕ → Runner → List ℕ → List ℕ → Outcome
-met room p events draws = handled (p .state) (take (event-length (drop (p .at) events)) (drop (p .at) events)) (drop (p .used) draws) room
-
--- the call with the event and the draws cut out by their places
-same-call : (room : ℕ) (p : Runner) (events draws : List ℕ) (n : ℕ) (a : Answer) (recs : List ℕ) → n ≡ event-length (drop (p .at) events)
-    → record { answer = a; output = recs } ≡ handled (p .state) (take (p .at + n - p .at) (drop (p .at) events)) (take (length draws - p .used) (drop (p .used) draws)) room
-    → record { answer = a; output = recs } ≡ met room p events draws
-same-call room p events draws n a recs e h =
-    let n-is : p .at + n - p .at ≡ event-length (drop (p .at) events) = omega (arith, e) in
-    let cut : take (p .at + n - p .at) (drop (p .at) events) ≡ take (event-length (drop (p .at) events)) (drop (p .at) events) = ap (λ (x : ℕ). take x (drop (p .at) events)) n-is in
-    let rest : take (length draws - p .used) (drop (p .used) draws) ≡ drop (p .used) draws = take-all (length draws - p .used) (drop (p .used) draws) (simp length-drop (omega arith)) in
-    h ∙ (λ j. handled (p .state) (cut j) (rest j) room)
-
-module _ (room : ℕ) (p : Runner) (i : ℕ) (events draws : List ℕ) (t : Text) (out : List ℕ) where
-  pub stepped : (n : ℕ) (a : Answer) (recs : List ℕ) (r : Text) (o : List ℕ) (u : ℕ) → Inside p events draws → n ≡ event-length (drop (p .at) events) → n ≤ length events - p .at
-      → record { answer = a; output = recs } ≡ handled (p .state) (take (p .at + n - p .at) (drop (p .at) events)) (take (length draws - p .used) (drop (p .used) draws)) room
-      → Puts (event-text i (a .code) (a .draws) recs) t out r o → u ≡ advanced (p .used) (a .draws) (length draws)
-      → Steps room p i events draws t out (record { runner = record { state = a .state; at = p .at + n; used = u }; text = r }) o
+-- the walk's step, and the lines of its event
+module _ (room : ℕ) (p : Runner) (events draws : List ℕ) (a : Ran) (recs : List ℕ) (h : Runs room p events draws a recs) where
+  pub stepped : (i : ℕ) (t : Text) (out : List ℕ) (r : Text) (o : List ℕ) → Puts (event-text i (a .code) (a .draws) recs) t out r o
+      → Steps room p i events draws t out (record { runner = a .runner; text = r }) o
   unfolding outcome-text
-  stepped n a recs r o u v e l h k q =
-      let m : record { answer = a; output = recs } ≡ met room p events draws = same-call room p events draws n a recs e h in
-      record {
-        inside = record { at = omega (arith, l, v .at); used = subst (λ (x : ℕ). x ≤ length draws) (sym q) (advanced-within (p .used) (a .draws) (length draws) (v .used)) };
-        state = ap (λ (x : Outcome). x .answer .state) m;
-        at = ap (λ (x : ℕ). p .at + x) e;
-        left = ap (λ (x : ℕ). drop x draws) q ∙ (drop-advanced (p .used) (a .draws) draws ∙ ap (λ (x : Outcome). drop (x .answer .draws) (drop (p .used) draws)) m);
-        text = named (ap (λ (x : Outcome). event-text i (x .answer .code) (x .answer .draws) (x .output)) m) k;
-      }
+  stepped i t out r o k = record {
+    inside = h .inside;
+    state = next-state room p events draws (a .runner) (h .runner);
+    at = next-at room p events draws (a .runner) (h .runner);
+    left = next-left room p events draws (a .runner) (h .runner);
+    text = named (λ j. event-text i (h .code j) (h .draws j) (h .output j)) k;
+  }
 
-module _ (room : ℕ) (p : Runner) (events draws : List ℕ) (n : ℕ) (a : Answer) (recs : List ℕ) where
-  pub filled : n ≡ event-length (drop (p .at) events)
-      → record { answer = a; output = recs } ≡ handled (p .state) (take (p .at + n - p .at) (drop (p .at) events)) (take (length draws - p .used) (drop (p .used) draws)) room
-      → length recs ≡ room → Fills room p events draws
-  filled e h k = record { fills = ap (λ (x : Outcome). length (x .output)) (sym (same-call room p events draws n a recs e h)) ∙ k }
+  pub filled : length recs ≡ room → Fills room p events draws
+  filled k = record { fills = ap length (sym (h .output)) ∙ k }
 
 -- ---- the events in order
 
@@ -137,7 +96,7 @@ pub rest-step : (room : ℕ) (p q : Runner) (i n : ℕ) (events draws : List ℕ
 unfolding rest-text
 rest-step room p q i n events draws h state at left =
     let c : n - i ≡ suc (n - (i + 1)) = omega (arith, h) in
-    let places : drop (event-length (drop (p .at) events)) (drop (p .at) events) ≡ drop (q .at) events = drop-drop (event-length (drop (p .at) events)) (p .at) events ∙ ap (λ (x : ℕ). drop x events) (sym at) in
+    let places = next-events room p events draws q at in
     ap (λ (x : ℕ). events-text room i (p .state) (cut-events x (drop (p .at) events)) (drop (p .used) draws)) c
     ∙ (one-event room i (n - (i + 1)) (p .state) (drop (p .at) events) (drop (p .used) draws)
     ∙ (λ j. outcome-text i (met room p events draws) ++ events-text room (i + 1) (sym state j) (cut-events (n - (i + 1)) (places j)) (sym left j)))
@@ -188,9 +147,6 @@ shown-part t f = record {
       sym (choose-no _ _ _ (lt-leb (length w) (length out₀) l));
 }
 
-pub counted : (n : ℕ) (l : List ℕ) → n ≤ length l → n ≡ length (take n l)
-counted n l h = sym (length-take-le n l h)
-
 bytes-is : (m n : ℕ) → _≡_ {A = Shown} (Bytes m) (Bytes n) → m ≡ n
 bytes-is m n e = cc
 
@@ -206,31 +162,11 @@ module _ (w : ℕ) (out o : List ℕ) (r : Shown) (n : ℕ) (e : r ≡ fitting w
   pub shown-counted : n ≡ length (take n o)
   shown-counted = counted n o shown-within
 
-first-numbers : (n k i : ℕ) (b : List ℕ) → n ≤ k → take n (numbers k i b) ≡ numbers n i b
-unfolding numbers
-first-numbers zero k i b h = refl
-first-numbers (suc n) zero i b h = absurd (omega (arith, h))
-first-numbers (suc n) (suc k) i b h = ap (λ (z : List ℕ). number b i ∷ z) (first-numbers n k (suc i) b (omega (arith, h)))
-
-part-is : (f t : ℕ) (l : List ℕ) → slice f t l ≡ take (t - f) (drop f l)
-part-is zero t l = let e : t ≡ t - 0 = omega arith in ap (λ (x : ℕ). take x l) e
-part-is (suc f) zero l = let e : 0 ≡ 0 - suc f = omega arith in ap (λ (x : ℕ). take x (drop (suc f) l)) e
-part-is (suc f) (suc t) [] = sym (take-nil (suc t - suc f))
-part-is (suc f) (suc t) (x ∷ l) = part-is f t l ∙ (let e : t - f ≡ suc t - suc f = omega arith in ap (λ (y : ℕ). take y (drop f l)) e)
-
 pub walked : (room : ℕ) (s : State) (l : Layout) (b ns : List ℕ) (t r : Text) (out o : List ℕ) → Counts (l .draws) ns → ns ≡ numbers (length ns) 0 (drop (l .«draws_at») b)
     → Puts (events-text room 0 s (cut-events (l .events) (take (l .«draws_at» - 56) (drop 56 b))) (take (l .draws) ns)) t out r o → Puts (laid-text room s l b) t out r o
 unfolding laid-text
 walked room s l b ns t r out o h e k =
     named (λ j. events-text room 0 s (cut-events (l .events) (sym (part-is 56 (l .«draws_at») b) j)) ((ap (take (l .draws)) e ∙ first-numbers (l .draws) (length ns) 0 (drop (l .«draws_at») b) (h .0)) j)) k
-
--- the numbers read from the rest of b into a space of 16,384
-pub numbers-read : (b ns : List ℕ) (l : Layout) (k : ℕ) → Laid b l → k ≡ 16384 → ns ≡ numbers k 0 (take (length b - l .«draws_at») (drop (l .«draws_at») b))
-    → Counts (l .draws) ns × (ns ≡ numbers (length ns) 0 (drop (l .«draws_at») b))
-numbers-read b ns l k v z q =
-    let e : length ns ≡ k = ap length q ∙ length-numbers k 0 (take (length b - l .«draws_at») (drop (l .«draws_at») b)) in
-    let few : l .draws ≤ length ns = omega (arith, v .full, v .most, e, z) in
-    ((few, counted (l .draws) ns few), q ∙ (λ j. numbers (sym e j) 0 (take-all (length b - l .«draws_at») (drop (l .«draws_at») b) (simp length-drop (omega arith)) j)))
 
 -- ---- what is decided before the first event
 

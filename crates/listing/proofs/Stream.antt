@@ -7,7 +7,6 @@ use native.Mathlib.Omega.{arith}
 use lib.ListN.{length, take, drop, length-append}
 use lib.Seq.{slice}
 use lib.Dec.{ltb, eqb}
-use Rattle.lists.specs.Bytes.{overwrite}
 use Rattle.lists.proofs.Bytes.{length-overwrite}
 use Rattle.lists.proofs.Stored.{take-stored}
 use Rattle.lists.proofs.Choice.{by-choice}
@@ -21,15 +20,16 @@ use Rattle.lines.specs.Lines.{four, record-line, end-line, heads, record-lines,
 use Rattle.hyparview.specs.Handled.{Outcome}
 use Rattle.input.specs.declared.Layout.{Layout}
 use Rattle.input.specs.Input.{numbers, cut-events}
-use Rattle.listing.specs.declared.Runner.{Runner}
+use Rattle.runner.specs.declared.Runner.{Runner}
+use Rattle.runner.specs.Place.{Inside, met}
+use Rattle.runner.proofs.Draws.{counted}
 use Rattle.listing.specs.declared.Stepped.{Stepped}
 use Rattle.listing.specs.declared.Told.{Told}
-use Rattle.listing.specs.declared.Opened.{Opened}
 use Rattle.listing.specs.declared.Opened.the-variants.{Events}
 use Rattle.listing.specs.Run.{outcome-text, events-text, laid-text, run-text}
-use Rattle.listing.specs.Place.{Inside, Steps, Fills, Starts, Tells}
+use Rattle.listing.specs.Place.{Steps, Fills, Starts, Tells}
 use Rattle.listing.specs.Opened.{first-place, opened, rest-text}
-use Rattle.listing.proofs.Laws.{met, counted, rest-step, whole-text}
+use Rattle.listing.proofs.Laws.{rest-step, whole-text}
 
 -- ---- how long the lines of an event are
 

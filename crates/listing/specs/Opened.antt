@@ -12,8 +12,8 @@ use Rattle.input.specs.declared.Layout.{Layout}
 use Rattle.input.specs.declared.Input.{Input}
 use Rattle.input.specs.declared.Input.the-variants.{Refused, Whole}
 use Rattle.input.specs.Input.{cut-events, input-of}
+use Rattle.runner.specs.declared.Runner.{Runner}
 use Rattle.lines.specs.Lines.{end-line}
-use Rattle.listing.specs.declared.Runner.{Runner}
 use Rattle.listing.specs.declared.Opened.{Opened}
 use Rattle.listing.specs.declared.Opened.the-variants.{Line, Events}
 use Rattle.listing.specs.Run.{events-text, laid-text}

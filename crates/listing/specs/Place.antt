@@ -1,39 +1,30 @@
 -- What the functions over a run say of the place that they reach.
 -- Assumes nothing.
-use Prim.Native.Nat.{ℕ, _+_, _-_, _≤_}
+use Prim.Native.Nat.{ℕ, _+_}
 use mathlib.Core.Path.{_≡_}
 use mathlib.Core.List.{List}
 use lib.ListN.{length, take, drop}
-use lib.Dec.{ltb, leb}
+use lib.Dec.{leb}
 use Rattle.io.specs.Counts.{Counts}
 use Rattle.lists.specs.Lists.{choose}
-use Rattle.hyparview.specs.Handled.{handled}
 use Rattle.text.specs.declared.Text.{Text}
 use Rattle.text.specs.Text.{Puts, Shows}
 use Rattle.input.specs.Input.{event-length}
-use Rattle.listing.specs.declared.Runner.{Runner}
+use Rattle.runner.specs.declared.Runner.{Runner}
+use Rattle.runner.specs.Place.{Inside, met}
 use Rattle.listing.specs.declared.Stepped.{Stepped}
 use Rattle.listing.specs.declared.Told.{Told}
 use Rattle.listing.specs.declared.Shown.{Shown}
 use Rattle.listing.specs.declared.Shown.the-variants.{Bytes, TooShort}
 use Rattle.listing.specs.Run.{outcome-text}
 
--- the place is not past the end of the events or the draws
-pub record Inside (p : Runner) (events draws : List ℕ) : Type 0 where
-  pub at : p .at ≤ length events
-  pub used : p .used ≤ length draws
-
--- n more draws, up to the end
-unfoldable pub advanced : ℕ → ℕ → ℕ → ℕ
-advanced used n end = choose (ltb n (end - used)) (used + n) end
-
 -- the place after the event at p, whose lines are written after the text t
 pub record Steps (room : ℕ) (p : Runner) (i : ℕ) (events draws : List ℕ) (t : Text) (out : List ℕ) (r : Stepped) (o : List ℕ) : Type 0 where
   pub inside : Inside (r .runner) events draws
-  pub state : r .runner .state ≡ handled (p .state) (take (event-length (drop (p .at) events)) (drop (p .at) events)) (drop (p .used) draws) room .answer .state
+  pub state : r .runner .state ≡ met room p events draws .answer .state
   pub at : r .runner .at ≡ p .at + event-length (drop (p .at) events)
-  pub left : drop (r .runner .used) draws ≡ drop (handled (p .state) (take (event-length (drop (p .at) events)) (drop (p .at) events)) (drop (p .used) draws) room .answer .draws) (drop (p .used) draws)
-  pub text : Puts (outcome-text i (handled (p .state) (take (event-length (drop (p .at) events)) (drop (p .at) events)) (drop (p .used) draws) room)) t out (r .text) o
+  pub left : drop (r .runner .used) draws ≡ drop (met room p events draws .answer .draws) (drop (p .used) draws)
+  pub text : Puts (outcome-text i (met room p events draws)) t out (r .text) o
 
 -- the first n bytes of o are the text w
 pub record Starts (w : List ℕ) (n : ℕ) (o : List ℕ) : Type 0 where
@@ -43,14 +34,14 @@ pub record Starts (w : List ℕ) (n : ℕ) (o : List ℕ) : Type 0 where
 -- the same where the lines of the event stand alone, in the first bytes of o
 pub record Tells (room : ℕ) (p : Runner) (i : ℕ) (events draws : List ℕ) (r : Told) (o : List ℕ) : Type 0 where
   pub inside : Inside (r .runner) events draws
-  pub state : r .runner .state ≡ handled (p .state) (take (event-length (drop (p .at) events)) (drop (p .at) events)) (drop (p .used) draws) room .answer .state
+  pub state : r .runner .state ≡ met room p events draws .answer .state
   pub at : r .runner .at ≡ p .at + event-length (drop (p .at) events)
-  pub left : drop (r .runner .used) draws ≡ drop (handled (p .state) (take (event-length (drop (p .at) events)) (drop (p .at) events)) (drop (p .used) draws) room .answer .draws) (drop (p .used) draws)
-  pub text : Starts (outcome-text i (handled (p .state) (take (event-length (drop (p .at) events)) (drop (p .at) events)) (drop (p .used) draws) room)) (r .size) o
+  pub left : drop (r .runner .used) draws ≡ drop (met room p events draws .answer .draws) (drop (p .used) draws)
+  pub text : Starts (outcome-text i (met room p events draws)) (r .size) o
 
 -- the event at p leaves an output of as many bytes as were lent
 pub record Fills (room : ℕ) (p : Runner) (events draws : List ℕ) : Type 0 where
-  pub fills : length (handled (p .state) (take (event-length (drop (p .at) events)) (drop (p .at) events)) (drop (p .used) draws) room .output) ≡ room
+  pub fills : length (met room p events draws .output) ≡ room
 
 -- what is answered of a text of n bytes where `room` bytes are lent
 unfoldable pub fitting : ℕ → ℕ → Shown

@@ -1,6 +1,7 @@
 // What the run program prints (document 01, "The run program"): the text of a run, from the input's bytes into lent bytes.
 use input::Input;
 use input::Layout;
+use runner::Runner;
 use state::State;
 use text::Text;
 ghost use mathlib.Core.Path.{_≡_};
@@ -11,18 +12,12 @@ ghost use Rattle.lists.specs.Bytes.{overwrite};
 ghost use Prim.Native.Nat.{_+_, _*_};
 ghost use Rattle.input.specs.Input.{cut-events, numbers};
 ghost use Rattle.input.proofs.Laws.{Laid};
+ghost use Rattle.runner.specs.Place.{Inside};
 ghost use Rattle.text.specs.Text.{Puts};
 ghost use Rattle.lines.specs.Lines.{end-line};
 ghost use Rattle.listing.specs.Run.{events-text, laid-text, run-text};
-ghost use Rattle.listing.specs.Place.{Inside, Steps, Starts, Tells, Fills, advanced, fitting, Answers};
+ghost use Rattle.listing.specs.Place.{Steps, Starts, Tells, Fills, fitting, Answers};
 ghost use Rattle.listing.specs.Opened.{opened, opened-layout, first-place};
-
-// The place reached in a run: the state, and how far its events and its draws are.
-pub struct Runner {
-    pub state: State,
-    pub at: usize,
-    pub used: usize,
-}
 
 // The place after an event, and the text so far.
 pub struct Stepped {
@@ -48,17 +43,6 @@ pub enum Shown {
     TooShort,
 }
 
-// The place after n more draws, and never past the end.
-fn advance(used: usize, n: usize, end: usize) -> usize
-    requires { ⌜ used ≤ end ⌝ }
-    ensures { λ r. ⌜ r ≡ advanced used n end ⌝ }
-{
-    if n < end - used {
-        return used + n;
-    }
-    end
-}
-
 // The event at the place reached, with the draws left and the output lent, and its lines.
 pub fn step(
     p: Runner,
@@ -73,20 +57,11 @@ pub fn step(
     ensures { λ r. ⌜ Steps (length (now (records .entry))) p i (now (events .entry)) (now (draws .entry)) t (now (out .entry)) r (now (out .exit)) ⌝ }
     ensures { λ _. ⌜ Fills (length (now (records .entry))) p (now (events .entry)) (now (draws .entry)) ⌝ }
 {
-    let s = p.state;
-    let at = p.at;
-    let used = p.used;
-    let end = at + input::event_length(events, at);
-    let a = hyparview::handle(s, &events[at..end], &draws[used..], records);
+    let a = runner::step(p, events, draws, records);
     let text = lines::put_event(out, t, i as u64, a.code, a.draws as u64, records);
-    let next = a.state;
-    let reached = advance(used, a.draws, draws.len());
+    let next = a.runner;
     Stepped {
-        runner: Runner {
-            state: next,
-            at: end,
-            used: reached,
-        },
+        runner: next,
         text: text,
     }
 }

@@ -1,14 +1,14 @@
 // The run program (document 01): standard input is a history, standard output gets the lines of its events.
 use input::Layout;
 use listing::Opened;
-use listing::Runner;
+use runner::Runner;
 ghost use mathlib.Core.Path.{_≡_};
 ghost use Prim.Native.Nat.{_+_, _*_, _≤_};
 ghost use lib.ListN.{length, drop};
 ghost use Rattle.io.specs.Counts.{Counts};
 ghost use Rattle.input.specs.Input.{numbers};
 ghost use Rattle.input.proofs.Laws.{Laid};
-ghost use Rattle.listing.specs.Place.{Inside};
+ghost use Rattle.runner.specs.Place.{Inside};
 
 // The one line of an input without events.
 fn say_line(code: u32) {

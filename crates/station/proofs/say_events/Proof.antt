@@ -3,7 +3,7 @@ use borrow.Author.Needs.{needs}
 use Prim.Native.Nat.{_+_, _*_, _-_, _≤_}
 use mathlib.Core.Path.{_≡_}
 use lib.ListN.{length}
-use Rattle.listing.specs.Place.{Inside}
+use Rattle.runner.specs.Place.{Inside}
 use Rattle.station.proofs.say_events.Statement.{statement}
 use Rattle.station.proofs.say_events.Tie as tie
 

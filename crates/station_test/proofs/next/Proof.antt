@@ -1,5 +1,5 @@
 use borrow.Author.Needs.{needs}
-use Rattle.listing.proofs.Laws.{counted}
+use Rattle.runner.proofs.Draws.{counted}
 use Rattle.station_test.proofs.next.Statement.{statement}
 use Rattle.station_test.proofs.next.Tie as tie
 

@@ -1,7 +1,7 @@
 use borrow.Author.Needs.{needs}
-use Rattle.listing.proofs.Laws.{advance-part, advance-all}
-use Rattle.listing.proofs.advance.Statement.{statement}
-use Rattle.listing.proofs.advance.Tie as tie
+use Rattle.runner.proofs.Laws.{advance-part, advance-all}
+use Rattle.runner.proofs.advance.Statement.{statement}
+use Rattle.runner.proofs.advance.Tie as tie
 
 sub-if1 : tie.Need-sub-if1
 sub-if1 c = search needs
