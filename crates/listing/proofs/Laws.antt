@@ -10,7 +10,6 @@ use lib.ListN.{length, take, drop}
 use Rattle.io.specs.Counts.{Counts}
 use lib.Dec.{leb, eqb}
 use borrow.Author.Tests.{le-leb, lt-leb, leb-true, ltb-true, ltb-false, eq-eqb, ne-eqb}
-use Rattle.lists.specs.Lists.{choose}
 use Rattle.lists.proofs.Choice.{split, choose-yes, choose-no}
 use Rattle.state.specs.declared.State.{State}
 use Rattle.hyparview.specs.Handled.{handled}
@@ -18,7 +17,6 @@ use Rattle.text.specs.declared.Text.{Text}
 use Rattle.text.specs.Text.{Puts, Begins}
 use Rattle.text.proofs.Written.{begun, nothing, then, named}
 use Rattle.lists.specs.Bytes.{overwrite}
-use Rattle.peer.specs.Data.{Data}
 use Rattle.protocol.specs.Handle.{new}
 use Rattle.rules.specs.declared.Made.{Made}
 use Rattle.rules.specs.Made.{lent, pack-made}
@@ -31,7 +29,8 @@ use Rattle.runner.specs.declared.Runner.{Runner}
 use Rattle.runner.specs.declared.Ran.{Ran}
 use Rattle.runner.specs.Place.{Inside, Runs, met}
 use Rattle.runner.proofs.Laws.{next-state, next-at, next-left, next-events}
-use Rattle.runner.proofs.Draws.{counted, first-numbers, part-is}
+use Rattle.runner.proofs.Draws.{counted, first-draws, part-is}
+use Rattle.runner.proofs.Fresh.{made-bare}
 use Rattle.lines.specs.Lines.{end-line, event-text}
 use Rattle.listing.specs.declared.Stepped.{Stepped}
 use Rattle.listing.specs.declared.Opened.{Opened}
@@ -166,17 +165,13 @@ pub walked : (room : ℕ) (s : State) (l : Layout) (b ns : List ℕ) (t r : Text
     → Puts (events-text room 0 s (cut-events (l .events) (take (l .«draws_at» - 56) (drop 56 b))) (take (l .draws) ns)) t out r o → Puts (laid-text room s l b) t out r o
 unfolding laid-text
 walked room s l b ns t r out o h e k =
-    named (λ j. events-text room 0 s (cut-events (l .events) (sym (part-is 56 (l .«draws_at») b) j)) ((ap (take (l .draws)) e ∙ first-numbers (l .draws) (length ns) 0 (drop (l .«draws_at») b) (h .0)) j)) k
+    named (λ j. events-text room 0 s (cut-events (l .events) (sym (part-is 56 (l .«draws_at») b) j)) (first-draws b ns l h e j)) k
 
 -- ---- what is decided before the first event
 
-no-data : (own : List ℕ) → lent false own ≡ none
-unfolding lent choose
-no-data own = refl
-
 module _ (l : Layout) (m : Made) (own : List ℕ) (e : m ≡ pack-made (new (l .me) (lent false own) (l .config))) where
   made-is : m ≡ pack-made (new (l .me) none (l .config))
-  made-is = e ∙ ap (λ (d : Data). pack-made (new (l .me) d (l .config))) (no-data own)
+  made-is = made-bare (l .me) (l .config) m own e
 
   pub open-unset : (m .code ≡ 0 → ⊥) → Line 1 ≡ opened-layout l
   unfolding opened-layout

@@ -1,21 +1,27 @@
 // One history of the run program's input on standard output, in the trace form: every byte of output, and every state.
-use hyparview::Answer;
 use input::Input;
 use input::Layout;
+use runner::Runner;
 use state::State;
+use timing::Config;
 use trace_text::Shown;
 ghost use mathlib.Core.Path.{_≡_};
-ghost use lib.ListN.{length};
+ghost use mathlib.Core.Option.{none};
+ghost use lib.ListN.{length, drop};
 ghost use Prim.Native.Nat.{_≤_};
+ghost use Rattle.io.specs.Counts.{Counts};
+ghost use Rattle.protocol.specs.Handle.{new, zero-station};
+ghost use Rattle.rules.specs.Pack.{pack};
+ghost use Rattle.input.specs.Input.{numbers, cut-events};
 ghost use Rattle.input.proofs.Laws.{Laid};
+ghost use Rattle.runner.specs.Place.{Inside, passed};
 ghost use Rattle.trace_text.specs.Shown.{Within};
-ghost use Rattle.replay.specs.Reached.{Inside};
+ghost use Rattle.replay.specs.Ending.{Counting, room-of, state-after, laid-state, made-end, ended-of};
 
-// The place reached in a history: the state, and how far its events and its draws are.
-struct Reached {
-    state: State,
-    at: usize,
-    used: usize,
+// How a history ended: 0 and the state after its last event, or the code that it was refused with as a whole.
+pub struct Ended {
+    pub code: u32,
+    pub state: State,
 }
 
 // What a history starts with beside its input: the room for output, and the counters of the new station.
@@ -43,13 +49,45 @@ impl Start {
 }
 
 // The new station with these counters.
-fn started(s: State, start: Start) -> State {
+fn started(s: State, start: Start) -> State
+    ensures { λ r. ⌜ Counting start s r ⌝ }
+{
     let mut t = s;
     t.next_neighbor_request = start.next_neighbor_request;
     t.next_join = start.next_join;
     t.passes_alone = start.passes_alone;
     t.passes_short = start.passes_short;
     t
+}
+
+// The room for output, and no more than there is.
+fn room_of(start: Start) -> usize
+    ensures { λ r. ⌜ r ≡ room-of start ⌝ }
+    ensures { λ r. ⌜ r ≤ 8192 ⌝ }
+{
+    if start.room <= 8192 {
+        return start.room;
+    }
+    8192
+}
+
+// The state of an input that has none: what `new` hands back when it refuses.
+fn zeroes() -> State
+    ensures { λ r. ⌜ r ≡ pack zero-station ⌝ }
+{
+    let none = Config {
+        active_view_capacity: 0,
+        passive_view_capacity: 0,
+        active_random_walk_length: 0,
+        passive_random_walk_length: 0,
+        shuffle_random_walk_length: 0,
+        shuffle_active_view_count: 0,
+        shuffle_passive_view_count: 0,
+        shuffle_interval: 0,
+        neighbor_request_timeout: 0,
+    };
+    let m = rules::new(0, false, b"", none);
+    m.state
 }
 
 // What was written of the text; a text that did not fit is named, and not cut off.
@@ -67,59 +105,38 @@ fn say(text: &[u8], shown: Shown)
 }
 
 // A history that is refused as a whole.
-fn refused(code: u32) {
+fn refused(code: u32, s: State) -> Ended
+    ensures { λ r. ⌜ r ≡ record { code = code; state = s } ⌝ }
+{
     let mut space = [0u8; 64];
     let text: &mut [u8] = &mut space;
     let shown = trace_text::answer(text, code, 0);
     say(text, shown);
-}
-
-// One event, and its text.
-fn event(s: State, b: &[u8], draws: &[u32], out: &mut [u8], text: &mut [u8]) -> Answer {
-    let a = hyparview::handle(s, b, draws, out);
-    let t = a.state;
-    let shown = trace_text::event(text, out, a.code, a.draws, t);
-    say(text, shown);
-    a
-}
-
-fn least(a: usize, b: usize) -> usize
-    ensures { λ r. ⌜ (r ≤ a) × (r ≤ b) ⌝ }
-{
-    if a < b { a } else { b }
-}
-
-// The place after n more draws. A call uses no more draws than it is lent, so that the end is never passed.
-fn advance(used: usize, n: usize, end: usize) -> usize
-    requires { ⌜ used ≤ end ⌝ }
-    ensures { λ r. ⌜ r ≤ end ⌝ }
-{
-    let more = least(n, end - used);
-    used + more
-}
-
-// The event at the place reached; draws go on where the last accepted event stopped.
-fn step(p: Reached, b: &[u8], draws: &[u32], out: &mut [u8], text: &mut [u8]) -> Reached
-    requires { ⌜ Inside p (length (now b)) (length (now draws)) ⌝ }
-    ensures { λ r. ⌜ Inside r (length (now (b .entry))) (length (now (draws .entry))) ⌝ }
-{
-    let s = p.state;
-    let at = p.at;
-    let used = p.used;
-    let end = at + input::event_length(b, at);
-    let a = event(s, &b[at..end], &draws[used..], out, text);
-    let t = a.state;
-    let reached = advance(used, a.draws, draws.len());
-    Reached {
-        state: t,
-        at: end,
-        used: reached,
+    Ended {
+        code: code,
+        state: s,
     }
 }
 
-// The events in order.
-fn events(s: State, b: &[u8], n: usize, draws: &[u32], out: &mut [u8], text: &mut [u8]) {
-    let mut p = Reached {
+// The event at the place reached, and its text.
+fn step(p: Runner, b: &[u8], draws: &[u32], out: &mut [u8], text: &mut [u8]) -> Runner
+    requires { ⌜ Inside p (now b) (now draws) ⌝ }
+    ensures { λ r. ⌜ r ≡ passed (length (now (out .entry))) p (now (b .entry)) (now (draws .entry)) ⌝ }
+    ensures { λ r. ⌜ Inside r (now (b .entry)) (now (draws .entry)) ⌝ }
+{
+    let a = runner::step(p, b, draws, out);
+    let q = a.runner;
+    let s = q.state;
+    let shown = trace_text::event(text, out, a.code, a.draws, s);
+    say(text, shown);
+    q
+}
+
+// The events in order, and the state after them.
+fn events(s: State, b: &[u8], n: usize, draws: &[u32], out: &mut [u8], text: &mut [u8]) -> State
+    ensures { λ r. ⌜ r ≡ state-after (length (now (out .entry))) s (cut-events n (now (b .entry))) (now (draws .entry)) ⌝ }
+{
+    let mut p = Runner {
         state: s,
         at: 0,
         used: 0,
@@ -129,65 +146,65 @@ fn events(s: State, b: &[u8], n: usize, draws: &[u32], out: &mut [u8], text: &mu
         p = step(p, b, draws, out, text);
         left -= 1;
     }
+    p.state
 }
 
-// The events of an input, with its draws and with room for the output.
-fn walk(s: State, b: &[u8], l: Layout, draws: &[u32], out: &mut [u8], text: &mut [u8])
+// The events of an input, with the numbers that stand where its draws do.
+fn walk(s: State, b: &[u8], l: Layout, drawn: &[u32], out: &mut [u8], text: &mut [u8]) -> State
     requires { ⌜ Laid (now b) l ⌝ }
+    requires { ⌜ Counts (l .draws) (now drawn) ⌝ }
+    requires { ⌜ now drawn ≡ numbers (length (now drawn)) 0 (drop (l .«draws_at») (now b)) ⌝ }
+    ensures { λ r. ⌜ r ≡ laid-state (length (now (out .entry))) s l (now (b .entry)) ⌝ }
 {
     let at = l.draws_at;
-    events(s, &b[56..at], l.events, draws, out, text);
+    let n = l.draws;
+    events(s, &b[56..at], l.events, &drawn[..n], out, text)
 }
 
-// The same, with the draws read and the room cut.
-fn run(
-    s: State,
-    b: &[u8],
-    l: Layout,
-    room: usize,
-    draws: &mut [u32],
-    out: &mut [u8],
-    text: &mut [u8],
-)
+// The same, with the space: the longest input has fewer than 16,384 draws, and the longest text is under 32,768 bytes.
+fn with_space(s: State, b: &[u8], l: Layout, room: usize) -> State
     requires { ⌜ Laid (now b) l ⌝ }
+    requires { ⌜ room ≤ 8192 ⌝ }
+    ensures { λ r. ⌜ r ≡ laid-state room s l (now (b .entry)) ⌝ }
 {
-    let at = l.draws_at;
-    input::read_numbers(&b[at..], draws);
-    let n = least(l.draws, draws.len());
-    let k = least(room, out.len());
-    walk(s, b, l, &draws[..n], &mut out[..k], text);
-}
-
-// The same, with the space for them: the longest input has fewer than 16,384 draws, and the longest text is under 32,768 bytes.
-fn with_space(s: State, b: &[u8], l: Layout, room: usize)
-    requires { ⌜ Laid (now b) l ⌝ }
-{
-    let mut draws = [0u32; 16384];
+    let mut drawn = [0u32; 16384];
     let mut out = [0u8; 8192];
     let mut text = [0u8; 32768];
-    run(s, b, l, room, &mut draws, &mut out, &mut text);
+    let at = l.draws_at;
+    input::read_numbers(&b[at..], &mut drawn);
+    walk(s, b, l, &drawn, &mut out[..room], &mut text)
 }
 
-// An input that is not refused: the code of `new`, or its events.
-fn whole(b: &[u8], l: Layout, start: Start)
+// An input that is not refused: the answer of `new`, or its events.
+fn whole(b: &[u8], l: Layout, start: Start) -> Ended
     requires { ⌜ Laid (now b) l ⌝ }
+    ensures { λ r. ⌜ r ≡ made-end start (new (l .me) none (l .config)) l (now (b .entry)) ⌝ }
 {
     let config = l.config;
     let m = rules::new(l.me, false, b"", config);
-    if m.code != 0 {
-        refused(m.code);
-        return;
-    }
     let fresh = m.state;
+    if m.code != 0 {
+        return refused(m.code, fresh);
+    }
     let s = started(fresh, start);
-    with_space(s, b, l, start.room);
+    let room = room_of(start);
+    let last = with_space(s, b, l, room);
+    Ended {
+        code: 0,
+        state: last,
+    }
 }
 
-// A whole history on standard output.
-pub fn history(b: &[u8], start: Start) {
+// A whole history on standard output, and how it ended.
+pub fn history(b: &[u8], start: Start) -> Ended
+    ensures { λ r. ⌜ r ≡ ended-of start (now (b .entry)) ⌝ }
+{
     let i = input::read(b);
     match i {
-        Input::Refused => refused(3),
+        Input::Refused => {
+            let none = zeroes();
+            refused(3, none)
+        }
         Input::Whole(l) => whole(b, l, start),
     }
 }

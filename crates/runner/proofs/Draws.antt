@@ -14,7 +14,7 @@ use Rattle.input.proofs.Laws.{length-numbers, Laid}
 pub counted : (n : ℕ) (l : List ℕ) → n ≤ length l → n ≡ length (take n l)
 counted n l h = sym (length-take-le n l h)
 
-pub first-numbers : (n k i : ℕ) (b : List ℕ) → n ≤ k → take n (numbers k i b) ≡ numbers n i b
+first-numbers : (n k i : ℕ) (b : List ℕ) → n ≤ k → take n (numbers k i b) ≡ numbers n i b
 unfolding numbers
 first-numbers zero k i b h = refl
 first-numbers (suc n) zero i b h = absurd (omega (arith, h))
@@ -33,3 +33,7 @@ numbers-read b ns l k v z q =
     let e : length ns ≡ k = ap length q ∙ length-numbers k 0 (take (length b - l .«draws_at») (drop (l .«draws_at») b)) in
     let few : l .draws ≤ length ns = omega (arith, v .full, v .most, e, z) in
     ((few, counted (l .draws) ns few), q ∙ (λ j. numbers (sym e j) 0 (take-all (length b - l .«draws_at») (drop (l .«draws_at») b) (simp length-drop (omega arith)) j)))
+
+-- as many of them as the input has draws
+pub first-draws : (b ns : List ℕ) (l : Layout) → Counts (l .draws) ns → ns ≡ numbers (length ns) 0 (drop (l .«draws_at») b) → take (l .draws) ns ≡ numbers (l .draws) 0 (drop (l .«draws_at») b)
+first-draws b ns l h e = ap (take (l .draws)) e ∙ first-numbers (l .draws) (length ns) 0 (drop (l .«draws_at») b) (h .0)

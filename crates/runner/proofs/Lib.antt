@@ -1,2 +1,3 @@
 pub mod Laws
 pub mod Draws
+pub mod Fresh

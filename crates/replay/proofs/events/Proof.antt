@@ -1,19 +1,22 @@
-use Rattle.replay.specs.Reached.{Inside}
-use borrow.Author.Needs.{needs}
-use Prim.Native.Nat.{_-_}
-use mathlib.Core.Path.{_≡_}
+-- The state that the events to come lead to is the last. The measure is how many they are.
 use lib.ListN.{length}
+use mathlib.Core.Path.{_≡_}
+use Rattle.input.specs.Input.{cut-events}
+use Rattle.replay.specs.Ending.{state-after}
+use borrow.Author.Needs.{needs}
+use Rattle.replay.proofs.Laws.{Walking, walking-start, walking-next, walking-end}
 use Rattle.replay.proofs.events.Statement.{statement}
 use Rattle.replay.proofs.events.Tie as tie
 
 abbrev Inv-loop : tie.InvT-loop
-Inv-loop b n draws out₀ text₀ p₀ left₀ out text p left = (length out ≡ length out₀) × (length text ≡ length text₀) × Inside p (length b) (length draws)
+Inv-loop b n draws out₀ text₀ p₀ left₀ out text p left =
+    (length out ≡ length out₀) × (length text ≡ length text₀) × Walking (length out₀) (state-after (length out₀) (p₀ .state) (cut-events n b) draws) b draws p left
 
 abbrev μ-loop : tie.MeasureT-loop
 μ-loop b n draws out₀ text₀ p₀ left₀ out text p left = left
 
 loop-holds : tie.Need-loop-holds Inv-loop μ-loop
-loop-holds c = search needs
+loop-holds c = search (walking-start, needs)
 
 step-requires : tie.Need-step-requires Inv-loop μ-loop
 step-requires c κs = search needs
@@ -25,7 +28,7 @@ loop-less : tie.Need-loop-less Inv-loop μ-loop
 loop-less c = search needs
 
 loop-again : tie.Need-loop-again Inv-loop μ-loop
-loop-again c = search needs
+loop-again c = (search needs, search needs, search walking-next)
 
 same-length : tie.Need-same-length Inv-loop μ-loop
 same-length c = search needs
@@ -34,19 +37,7 @@ same-length-2 : tie.Need-same-length-2 Inv-loop μ-loop
 same-length-2 c = search needs
 
 returns : tie.Need-returns Inv-loop μ-loop
-returns c = search needs
+returns c = search walking-end
 
 pub events-spec : {M : Type 1} → statement M
-events-spec =
-    tie.close
-    (tie.spec
-    Inv-loop
-    μ-loop
-    loop-holds
-    step-requires
-    sub-left
-    loop-less
-    loop-again
-    same-length
-    same-length-2
-    returns)
+events-spec = tie.close (tie.spec Inv-loop μ-loop loop-holds step-requires sub-left loop-less loop-again same-length same-length-2 returns)

@@ -1,0 +1,59 @@
+-- Document 01, "The run program": how a history ends, from the room and the counters that it starts with.
+-- Assumes nothing.
+use Prim.Native.Nat.{ℕ, min}
+use mathlib.Core.Path.{_≡_}
+use mathlib.Core.List.{List, [], _∷_}
+use mathlib.Core.Option.{none}
+use lib.ListN.{drop}
+use lib.Seq.{slice}
+use lib.Dec.{eqb}
+use Rattle.lists.specs.Lists.{choose}
+use Rattle.protocol.specs.Station.{Station}
+use Rattle.protocol.specs.Setters.{set-passes-alone, set-passes-short, set-next-request, set-next-join}
+use Rattle.protocol.specs.Handle.{Made, new, zero-station}
+use Rattle.state.specs.declared.State.{State}
+use Rattle.rules.specs.Pack.{pack}
+use Rattle.hyparview.specs.Handled.{handled}
+use Rattle.input.specs.declared.Layout.{Layout}
+use Rattle.input.specs.declared.Input.{Input}
+use Rattle.input.specs.declared.Input.the-variants.{Refused, Whole}
+use Rattle.input.specs.Input.{numbers, cut-events, input-of}
+use Rattle.replay.specs.declared.Start.{Start}
+use Rattle.replay.specs.declared.Ended.{Ended}
+
+-- the bytes of output lent to each event: "8,192 output bytes .. always suffice", and no more are there
+unfoldable pub room-of : Start → ℕ
+room-of start = min (start .room) 8192
+
+-- the station g with the counters of a start
+unfoldable pub counting : Start → Station → Station
+counting start g =
+    set-passes-short (start .«passes_short»)
+    (set-passes-alone (start .«passes_alone») (set-next-join (start .«next_join») (set-next-request (start .«next_neighbor_request») g)))
+
+-- the state t counts from a start, and is s otherwise
+pub record Counting (start : Start) (s t : State) : Type 0 where
+  pub same : (g : Station) → s ≡ pack g → t ≡ pack (counting start g)
+
+-- the state after these events; "Draws go on where the last accepted event stopped."
+unfoldable pub state-after : ℕ → State → List (List ℕ) → List ℕ → State
+state-after room s [] ds = s
+state-after room s (b ∷ bs) ds = state-after room (handled s b ds room .answer .state) bs (drop (handled s b ds room .answer .draws) ds)
+
+-- the state after the events that stand in b, with its draws
+unfoldable pub laid-state : ℕ → State → Layout → List ℕ → State
+laid-state room s l b = state-after room s (cut-events (l .events) (slice 56 (l .«draws_at») b)) (numbers (l .draws) 0 (drop (l .«draws_at») b))
+
+-- "otherwise out-of-range settings": the answer of `new`; else code 0 and the state after the last event
+unfoldable pub made-end : Start → Made → Layout → List ℕ → Ended
+made-end start m l b =
+    choose (eqb (m .code) 0) (record { code = 0; state = laid-state (room-of start) (pack (counting start (m .state))) l b }) (record { code = m .code; state = pack (m .state) })
+
+-- an input that is refused as a whole: code 3, and "a state of zeroes"; "Own data is absent."
+unfoldable pub input-end : Start → Input → List ℕ → Ended
+input-end start Refused b = record { code = 3; state = pack zero-station }
+input-end start (Whole l) b = made-end start (new (l .me) none (l .config)) l b
+
+-- how the history of the input b ends
+unfoldable pub ended-of : Start → List ℕ → Ended
+ended-of start b = input-end start (input-of b) b
