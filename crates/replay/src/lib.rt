@@ -18,7 +18,7 @@ ghost use Rattle.runner.specs.Place.{Inside, passed};
 ghost use Rattle.trace_text.specs.Shown.{Within};
 ghost use Rattle.replay.specs.Ending.{Counting, room-of, state-after, laid-state, made-end, ended-of};
 
-// How a history ended: 0 and the state after its last event, or the code that it was refused with as a whole.
+// How a history ended: code 0 and the state after its last event, or the code that it was refused with as a whole and a state of zeroes.
 pub struct Ended {
     pub code: u32,
     pub state: State,

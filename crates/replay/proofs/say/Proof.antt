@@ -2,7 +2,7 @@ use Prim.Native.Nat.{ℕ}
 use mathlib.Core.Path.{_≡_, subst}
 use mathlib.Core.List.{List}
 use lib.ListN.{length, take}
-use Rattle.trace_text.proofs.Laws.{counted}
+use Rattle.runner.proofs.Draws.{counted}
 use Rattle.trace_text.specs.Shown.{Within}
 use Rattle.trace_text.specs.declared.Shown.{Shown}
 use Rattle.trace_text.specs.declared.Shown.the-variants.{Bytes}
