@@ -3,8 +3,6 @@
 use Prim.Native.Nat.{ℕ}
 use mathlib.Core.Path.{_≡_, ap, _∙_}
 use mathlib.Core.List.{List}
-use borrow.Author.Tests.{ne-eqb}
-use Rattle.lists.specs.Lists.{choose}
 use Rattle.tally.specs.declared.Tally.{Tally}
 use Rattle.tally.specs.Counts.{raised}
 use Rattle.rules.specs.declared.Made.{Made}
@@ -15,19 +13,15 @@ use Rattle.controller.specs.declared.Begun.{Begun}
 use Rattle.controller.specs.declared.Stepped.{Stepped}
 use Rattle.controller.specs.Calls.{Outcome, no-messages, begun, after, answered, stepped}
 
-pub after-refused : (c : Controller) (a : Answer) (out : List ℕ) → (a .code ≡ 0 → ⊥) → record { controller = c; done = record { code = a .code; draws = a .draws } } ≡ after c a out
-unfolding after choose
-after-refused c a out n = rw (ne-eqb (a .code) 0 n)
+pub after-by : (t t′ : Tally) (a : Answer) (out : List ℕ) → t′ ≡ raised (a .code) out t
+    → record { controller = record { state = a .state; tally = t′ }; done = record { code = a .code; draws = a .draws } } ≡ after t a out
+unfolding after
+after-by t t′ a out q = rw q
 
-pub after-accepted : (c : Controller) (a : Answer) (t : Tally) (out : List ℕ) → t ≡ raised 0 out (c .tally) → a .code ≡ 0
-    → record { controller = record { state = a .state; tally = t }; done = record { code = a .code; draws = a .draws } } ≡ after c a out
-unfolding after choose
-after-accepted c a t out q e = rw (q, e)
-
-pub stepped-by : (c : Controller) (a : Answer) (b ds : List ℕ) (room : ℕ) (out : List ℕ) (r : Stepped) → r ≡ after c a out → record { answer = a; output = out } ≡ hyparview.handled (c .state) b ds room
+pub stepped-by : (c : Controller) (a : Answer) (b ds : List ℕ) (room : ℕ) (out : List ℕ) (r : Stepped) → r ≡ after (c .tally) a out → record { answer = a; output = out } ≡ hyparview.handled (c .state) b ds room
     → record { step = r; output = out } ≡ stepped c b ds room
 unfolding stepped answered
-stepped-by c a b ds room out r p e = ap (λ (x : Stepped). record { step = x; output = out }) p ∙ ap (answered c) e
+stepped-by c a b ds room out r p e = ap (λ (x : Stepped). record { step = x; output = out }) p ∙ ap (answered (c .tally)) e
 
 pub begun-by : (m x : Made) (t : Tally) → t ≡ no-messages → m ≡ x → record { controller = record { state = m .state; tally = t }; code = m .code } ≡ begun x
 unfolding begun

@@ -2,8 +2,6 @@
 -- Assumes nothing.
 use Prim.Native.Nat.{ℕ}
 use mathlib.Core.List.{List}
-use lib.Dec.{eqb}
-use Rattle.lists.specs.Lists.{choose}
 use Rattle.rules.specs.declared.Made.{Made}
 use Rattle.tally.specs.declared.Tally.{Tally}
 use Rattle.tally.specs.Counts.{raised}
@@ -21,10 +19,10 @@ no-messages = record { join = 0; «forward_join» = 0; shuffle = 0; «shuffle_re
 unfoldable pub begun : Made → Begun
 begun m = record { controller = record { state = m .state; tally = no-messages }; code = m .code }
 
--- the controller after an answer with the output `out`: "a refusal changes none" of the counts, and no byte
-unfoldable pub after : Controller → Answer → List ℕ → Stepped
-after c a out = record {
-  controller = choose (eqb (a .code) 0) (record { state = a .state; tally = raised (a .code) out (c .tally) }) c;
+-- what an answer with the output `out` makes of a controller with the tally t; that a refused call leaves all as it was is `refused-same`
+unfoldable pub after : Tally → Answer → List ℕ → Stepped
+after t a out = record {
+  controller = record { state = a .state; tally = raised (a .code) out t };
   done = record { code = a .code; draws = a .draws };
 }
 
@@ -33,10 +31,10 @@ pub record Outcome : Type 0 where
   pub step : Stepped
   pub output : List ℕ
 
--- an answer of `handle` with its output, at the controller c
-unfoldable pub answered : Controller → hyparview.Outcome → Outcome
-answered c o = record { step = after c (o .answer) (o .output); output = o .output }
+-- an answer of `handle` with its output, at the tally t
+unfoldable pub answered : Tally → hyparview.Outcome → Outcome
+answered t o = record { step = after t (o .answer) (o .output); output = o .output }
 
 -- one event at the controller c, with as many bytes of output
 unfoldable pub stepped : Controller → List ℕ → List ℕ → ℕ → Outcome
-stepped c b ds room = answered c (hyparview.handled (c .state) b ds room)
+stepped c b ds room = answered (c .tally) (hyparview.handled (c .state) b ds room)

@@ -57,29 +57,21 @@ pub struct NodeReading {
     pub node: Entry,
 }
 
-// The controller after an answer of `handle` with this output: the tally is raised, and a refusal leaves all as it was.
-fn after(c: Controller, a: Answer, out: &[u8]) -> Stepped
-    ensures { λ r. ⌜ r ≡ after c a (now (out .entry)) ⌝ }
+// The controller after an answer of `handle` with this output; the answer to a refused call has the old state.
+fn after(t: Tally, a: Answer, out: &[u8]) -> Stepped
+    ensures { λ r. ⌜ r ≡ after t a (now (out .entry)) ⌝ }
 {
-    let done = Done {
-        code: a.code,
-        draws: a.draws,
-    };
-    if a.code != 0 {
-        return Stepped {
-            controller: c,
-            done: done,
-        };
-    }
     let s = a.state;
-    let t = c.tally;
     let next = Controller {
         state: s,
-        tally: tally::raised(t, 0, out),
+        tally: tally::raised(t, a.code, out),
     };
     Stepped {
         controller: next,
-        done: done,
+        done: Done {
+            code: a.code,
+            draws: a.draws,
+        },
     }
 }
 
@@ -89,7 +81,8 @@ fn step(c: Controller, event: &[u8], draws: &[u32], out: &mut [u8]) -> Stepped
 {
     let s = c.state;
     let a = hyparview::handle(s, event, draws, out);
-    after(c, a, out)
+    let t = c.tally;
+    after(t, a, out)
 }
 
 // One event: the whole result, or one numbered refusal; the lent controller becomes what it is after it.

@@ -1,3 +1,4 @@
 pub mod Laws
 pub mod Arms
 pub mod Opening
+pub mod Kept
