@@ -1,4 +1,4 @@
--- A map by peer held in an array of N places: `pair` is the key and the value of an entry, z an unused place, and P what holds of each entry.
+-- A map by peer held in two arrays of N places, of the keys and of the entries: `value` is the value of an entry, z an unused one, and P what holds of each.
 -- Assumes nothing.
 use mathlib.Core.Path.{_≡_, refl, sym, ap, _∙_, subst}
 use mathlib.Core.Bool.{Bool, true, false, _&&_, _||_}
@@ -11,22 +11,23 @@ use native.Mathlib.Decide.{decLt}
 use native.Mathlib.Omega.{arith}
 use lib.ListN.{length, take, drop, getD, set, length-map, length-set}
 use lib.Seq.{slice, slice-cons, slice-empty, length-take-le, getD-take}
-use lib.Dec.{eqb, ltb}
-use borrow.Author.Tests.{eq-eqb, ne-eqb, lt-ltb, le-ltb, ltb-true}
+use lib.Dec.{ltb}
+use borrow.Author.Tests.{lt-ltb, le-ltb, ltb-true}
 use Rattle.lists.specs.Array.{pad}
 use Rattle.lists.specs.Tests.{All}
-use Rattle.lists.specs.Lists.{mem, index-of, rank, shift-remove, insert-at, without-all, Rising, rising}
-use Rattle.lists.specs.Maps.{keys, has, lookup, cut, replace, place-entry, put}
+use Rattle.lists.specs.Lists.{index-of, rank, shift-remove, insert-at, Rising, rising}
+use Rattle.lists.specs.Maps.{keys, values, zip, has, lookup, cut, replace, place-entry, put}
 use Rattle.lists.proofs.Choice.{choose-yes, choose-no, or-true, clash}
 use Rattle.lists.proofs.Rising.{rising-without, rising-insert}
+use Rattle.lists.proofs.Count.{index-at}
 use Rattle.lists.proofs.Maps.{length-keys, keys-cut, keys-put}
+use Rattle.lists.proofs.Zip.{keys-zip, values-zip, getD-zip, zip-set, zip-shift-remove, zip-insert-at}
 use Rattle.lists.proofs.Array.{length-pad, take-pad, set-pad, length-shift-remove, length-insert-at}
 use Rattle.lists.proofs.Front.{getD-any}
-use Rattle.lists.proofs.Rest.{Rest, rest-at, rest-next, rest-end}
-use Rattle.lists.proofs.Search.{First, Place, first-here, first-next, first-end}
+use Rattle.lists.proofs.Rest.{Rest, rest-at, rest-end}
 use Rattle.lists.proofs.Remove.{Removing, removing-start, removing-next, removing-end}
 use Rattle.lists.proofs.Insert.{Inserting, inserting-start, inserting-next, inserting-end}
-use Rattle.lists.proofs.Places.{rank-le, has-found, has-missing, lookup-found, lookup-missing, cut-missing, cut-found, replace-found, place-is}
+use Rattle.lists.proofs.Places.{has-found, has-missing, lookup-found, lookup-missing, cut-missing, cut-found, replace-found, place-is}
 
 -- ---- a change of a place, and what an entry stands for
 
@@ -78,51 +79,63 @@ module _ {A : Type 0} (P : A → Type 0) where
   all-getD (x ∷ xs) zero d a h = a .0
   all-getD (x ∷ xs) (suc i) d a h = all-getD xs i d (a .1) (le-of-suc-le-suc h)
 
-pub getD-keys : {B : Type 0} (m : List (ℕ × B)) (i : ℕ) (d : ℕ × B) → i < length m → getD (keys m) i 0 ≡ getD m i d .0
-unfolding keys
-getD-keys [] i d h = absurd (not-suc-le-zero h)
-getD-keys (e ∷ m) zero d h = refl
-getD-keys (e ∷ m) (suc i) d h = getD-keys m i d (le-of-suc-le-suc h)
+-- ---- the arrays and the map
 
--- ---- the array and the map
+-- what stands in an array that holds xs
+taken-is : {A : Type 0} (z : A) (N : ℕ) (xs l : List A) (n : ℕ) → l ≡ pad z N xs → n ≡ length xs → n ≤ N → take n l ≡ xs
+taken-is z N xs l n p q h = ap (λ (k : ℕ). take k l) q ∙ ap (take (length xs)) p ∙ take-pad z N xs (omega arith)
 
--- as many entries as the length says
-pub entries-counted : {E B : Type 0} (z : E) (N : ℕ) (pair : E → ℕ × B) (es : List E) (n : ℕ) → n ≤ N → es ≡ pad z N (take n es) → length (map pair (take n es)) ≡ n
-entries-counted z N pair es n h p =
-    length-map (take n es) pair ∙ length-take-le n es (omega (arith, ap length p ∙ length-pad z N (take n es)))
+pub length-packed : {A : Type 0} (z : A) (N : ℕ) (l : List A) (n : ℕ) → n ≤ N → l ≡ pad z N (take n l) → length (take n l) ≡ n
+length-packed z N l n h p = length-take-le n l (omega (arith, ap length p ∙ length-pad z N (take n l)))
 
-pub record Entries {E B : Type 0} (z : E) (N : ℕ) (pair : E → ℕ × B) (P : E → Type 0) (es : List E) (n : ℕ) (m : List (ℕ × B)) : Type 0 where
+pub record Entries {E B : Type 0} (z : E) (N : ℕ) (value : E → B) (P : E → Type 0) (ks : List ℕ) (es : List E) (n : ℕ) (m : List (ℕ × B)) : Type 0 where
   pub fits : n ≤ N
+  pub keyed : ks ≡ pad 0 N (take n ks)
   pub packed : es ≡ pad z N (take n es)
   pub each : All P (take n es)
   pub rises : Rising (keys m)
-  pub items : map pair (take n es) ≡ m
+  pub items : zip (take n ks) (map value (take n es)) ≡ m
 
-module _ {E B : Type 0} (z : E) (N : ℕ) (pair : E → ℕ × B) (P : E → Type 0) where
-  -- the array that holds the entries xs
-  pub entries-of : (xs es : List E) (n : ℕ) (m : List (ℕ × B)) → es ≡ pad z N xs → n ≡ length xs → length xs ≤ N → All P xs → Rising (keys m) → map pair xs ≡ m → Entries z N pair P es n m
-  entries-of xs es n m p q h a r e =
-      let t : take n es ≡ xs = ap (λ (k : ℕ). take k es) q ∙ ap (take (length xs)) p ∙ take-pad z N xs h in
-      record { fits = omega arith; packed = p ∙ ap (pad z N) (sym t); each = subst (All P) (sym t) a; rises = r; items = ap (map pair) t ∙ e }
+module _ {E B : Type 0} (z : E) (N : ℕ) (value : E → B) (P : E → Type 0) where
+  -- the arrays that hold the keys xs and the entries ys
+  pub entries-of : (xs : List ℕ) (ys : List E) (ks : List ℕ) (es : List E) (n : ℕ) (m : List (ℕ × B)) → ks ≡ pad 0 N xs → es ≡ pad z N ys → n ≡ length xs → n ≡ length ys → n ≤ N → All P ys → Rising (keys m) → zip xs (map value ys) ≡ m → Entries z N value P ks es n m
+  entries-of xs ys ks es n m p q a b h c r e =
+      let s = taken-is 0 N xs ks n p a h in
+      let t = taken-is z N ys es n q b h in
+      record {
+        fits = h;
+        keyed = p ∙ ap (pad 0 N) (sym s);
+        packed = q ∙ ap (pad z N) (sym t);
+        each = subst (All P) (sym t) c;
+        rises = r;
+        items = (λ i. zip (s i) (map value (t i))) ∙ e;
+      }
 
-  module _ (es : List E) (n : ℕ) (m : List (ℕ × B)) (v : Entries z N pair P es n m) where
-    pub entries-long : length es ≡ N
-    entries-long = ap length (v .packed) ∙ length-pad z N (take n es)
+  module _ (ks : List ℕ) (es : List E) (n : ℕ) (m : List (ℕ × B)) (v : Entries z N value P ks es n m) where
+    pub keys-taken : length (take n ks) ≡ n
+    keys-taken = length-packed 0 N ks n (v .fits) (v .keyed)
 
     pub entries-taken : length (take n es) ≡ n
-    entries-taken = length-take-le n es (omega (arith, v .fits, entries-long))
+    entries-taken = length-packed z N es n (v .fits) (v .packed)
+
+    alike : length (take n ks) ≡ length (map value (take n es))
+    alike = keys-taken ∙ sym (length-map (take n es) value ∙ entries-taken)
+
+    pub entries-keys : keys m ≡ take n ks
+    entries-keys = ap keys (sym (v .items)) ∙ keys-zip (take n ks) (map value (take n es)) alike
+
+    pub entries-values : values m ≡ map value (take n es)
+    entries-values = ap values (sym (v .items)) ∙ values-zip (take n ks) (map value (take n es)) alike
 
     pub entries-length : length m ≡ n
-    entries-length = ap length (sym (v .items)) ∙ length-map (take n es) pair ∙ entries-taken
+    entries-length = sym (length-keys m) ∙ ap length entries-keys ∙ keys-taken
 
-    -- the entry at a place
-    pub entries-at : (i : ℕ) (d : E) (b : ℕ × B) → i < n → getD m i b ≡ pair (getD es i d)
+    -- the value at a place
+    pub entries-at : (i : ℕ) (d : E) (b : ℕ × B) → i < n → getD m i b .1 ≡ value (getD es i d)
     entries-at i d b h =
-        ap (λ (l : List (ℕ × B)). getD l i b) (sym (v .items)) ∙ getD-mapped pair (take n es) i d b (omega (arith, entries-taken))
-        ∙ ap pair (getD-take n es i d h)
-
-    pub entries-key : (i : ℕ) (d : E) → i < n → getD (keys m) i 0 ≡ pair (getD es i d) .0
-    entries-key i d h = getD-keys m i (pair d) (omega (arith, entries-length)) ∙ ap (λ (e : ℕ × B). e .0) (entries-at i d (pair d) h)
+        ap (λ (l : List (ℕ × B)). getD l i b .1) (sym (v .items))
+        ∙ getD-zip (take n ks) (map value (take n es)) i b (value d) alike (omega (arith, keys-taken))
+        ∙ getD-mapped value (take n es) i d (value d) (omega (arith, entries-taken)) ∙ ap value (getD-take n es i d h)
 
     pub entries-each : (i : ℕ) (d : E) → i < n → P (getD es i d)
     entries-each i d h = subst P (getD-take n es i d h) (all-getD P (take n es) i d (v .each) (omega (arith, entries-taken)))
@@ -136,10 +149,10 @@ module _ {E B : Type 0} (z : E) (N : ℕ) (pair : E → ℕ × B) (P : E → Typ
       pub entries-has : (i : ℕ) → i ≡ index-of k (keys m) → ltb i n ≡ has k m
       entries-has i q = has-at i q (decLt i n)
 
-      pub entries-found : (i : ℕ) (d : E) → i ≡ index-of k (keys m) → i < n → lookup k m ≡ some (pair (getD es i d) .1)
+      pub entries-found : (i : ℕ) (d : E) → i ≡ index-of k (keys m) → i < n → lookup k m ≡ some (value (getD es i d))
       entries-found i d q h =
-          lookup-found k (pair d) m (omega (arith, entries-length)) ∙ ap (λ (j : ℕ). some (getD m j (pair d) .1)) (sym q)
-          ∙ ap (λ (e : ℕ × B). some (e .1)) (entries-at i d (pair d) h)
+          lookup-found k (0, value d) m (omega (arith, entries-length)) ∙ ap (λ (j : ℕ). some (getD m j (0, value d) .1)) (sym q)
+          ∙ ap some (entries-at i d (0, value d) h)
 
       pub entries-none : (i : ℕ) → i ≡ index-of k (keys m) → n ≤ i → lookup k m ≡ none
       entries-none i q h = lookup-missing k m (omega (arith, entries-length))
@@ -151,270 +164,192 @@ module _ {E B : Type 0} (z : E) (N : ℕ) (pair : E → ℕ × B) (P : E → Typ
           (λ f. omega (arith, entries-length, ltb-true (length m) N f))
 
       -- the entry with the key is taken out
-      pub entries-cut : (i : ℕ) (es′ : List E) (n′ : ℕ) → i ≡ index-of k (keys m) → i < n → es′ ≡ pad z N (shift-remove i (take n es)) → n′ + 1 ≡ n → Entries z N pair P es′ n′ (cut k m)
-      entries-cut i es′ n′ q h p c =
-          let l = length-shift-remove i (take n es) (omega (arith, entries-taken)) in
-          entries-of (shift-remove i (take n es)) es′ n′ (cut k m) p (omega (arith, entries-taken, l)) (omega (arith, entries-taken, l, v .fits))
+      pub entries-cut : (i : ℕ) (ks′ : List ℕ) (es′ : List E) (n′ : ℕ) → i ≡ index-of k (keys m) → i < n → ks′ ≡ pad 0 N (shift-remove i (take n ks)) → es′ ≡ pad z N (shift-remove i (take n es)) → n′ + 1 ≡ n → Entries z N value P ks′ es′ n′ (cut k m)
+      entries-cut i ks′ es′ n′ q h p o c =
+          entries-of (shift-remove i (take n ks)) (shift-remove i (take n es)) ks′ es′ n′ (cut k m) p o
+          (omega (arith, keys-taken, length-shift-remove i (take n ks) (omega (arith, keys-taken))))
+          (omega (arith, entries-taken, length-shift-remove i (take n es) (omega (arith, entries-taken)))) (omega (arith, v .fits))
           (all-shift-remove P i (take n es) (v .each)) (subst Rising (sym (keys-cut k m)) (rising-without k (keys m) (v .rises)))
-          (map-shift-remove pair i (take n es) ∙ ap (shift-remove i) (v .items)
+          (ap (zip (shift-remove i (take n ks))) (map-shift-remove value i (take n es)) ∙ zip-shift-remove i (take n ks) (map value (take n es)) alike
+          ∙ ap (shift-remove i) (v .items)
           ∙ sym (cut-found k m (v .rises) (omega (arith, entries-length)) ∙ ap (λ (j : ℕ). shift-remove j m) (sym q)))
 
-      pub entries-cut-none : (i : ℕ) → i ≡ index-of k (keys m) → n ≤ i → Entries z N pair P es n (cut k m)
-      entries-cut-none i q h = subst (Entries z N pair P es n) (sym (cut-missing k m (omega (arith, entries-length)))) v
+      pub entries-cut-none : (i : ℕ) → i ≡ index-of k (keys m) → n ≤ i → Entries z N value P ks es n (cut k m)
+      entries-cut-none i q h = subst (Entries z N value P ks es n) (sym (cut-missing k m (omega (arith, entries-length)))) v
+
+      key-at : (i : ℕ) → i ≡ index-of k (keys m) → i < n → getD (take n ks) i 0 ≡ k
+      unfolding has
+      key-at i q h =
+          (λ j. getD (sym entries-keys j) (q j) 0) ∙ index-at k (keys m) (has-found k m (omega (arith, entries-length)))
 
       module _ (w : B) where
         rises-put : Rising (keys (put k w m))
         rises-put = subst Rising (sym (keys-put k w m)) (rising-insert k (keys m) (v .rises))
 
         -- the entry with the key is stored over
-        pub entries-replace : (i : ℕ) (e : E) → i ≡ index-of k (keys m) → i < n → P e → pair e ≡ (k, w) → Entries z N pair P (set es i e) n (put k w m)
+        pub entries-replace : (i : ℕ) (e : E) → i ≡ index-of k (keys m) → i < n → P e → value e ≡ w → Entries z N value P ks (set es i e) n (put k w m)
         unfolding put
         entries-replace i e q h a c =
-            entries-of (set (take n es) i e) (set es i e) n (put k w m)
+            entries-of (take n ks) (set (take n es) i e) ks (set es i e) n (put k w m) (v .keyed)
             (ap (λ (l : List E). set l i e) (v .packed) ∙ set-pad z N (take n es) i e (omega (arith, entries-taken)))
-            (sym (length-set (take n es) i e ∙ entries-taken)) (omega (arith, length-set (take n es) i e, entries-taken, v .fits))
+            (sym keys-taken) (sym (length-set (take n es) i e ∙ entries-taken)) (v .fits)
             (all-set P (take n es) i e a (v .each)) rises-put
-            (map-set pair (take n es) i e ∙ (λ j. set (v .items j) i (c j))
+            (ap (zip (take n ks)) (map-set value (take n es) i e) ∙ zip-set (take n ks) (map value (take n es)) i (value e)
+            ∙ (λ j. set (v .items j) i (key-at i q h j, c j))
             ∙ sym (choose-yes (has k m) (replace k w m) (place-entry k w m) (has-found k m (omega (arith, entries-length)))
             ∙ replace-found k w m (v .rises) (omega (arith, entries-length)) ∙ ap (λ (j : ℕ). set m j (k, w)) (sym q)))
 
         -- a new entry is put in at the rank of its key
-        pub entries-insert : (i : ℕ) (e : E) (es′ : List E) → i ≡ rank k (keys m) → n ≤ index-of k (keys m) → n < N → P e → pair e ≡ (k, w) → es′ ≡ pad z N (insert-at i e (take n es)) → Entries z N pair P es′ (n + 1) (put k w m)
+        pub entries-insert : (i : ℕ) (e : E) (ks′ : List ℕ) (es′ : List E) → i ≡ rank k (keys m) → n ≤ index-of k (keys m) → n < N → P e → value e ≡ w → ks′ ≡ pad 0 N (insert-at i k (take n ks)) → es′ ≡ pad z N (insert-at i e (take n es)) → Entries z N value P ks′ es′ (n + 1) (put k w m)
         unfolding put
-        entries-insert i e es′ q h room a c p =
-            let l = length-insert-at i e (take n es) in
-            entries-of (insert-at i e (take n es)) es′ (n + 1) (put k w m) p (omega (arith, entries-taken, l)) (omega (arith, entries-taken, l))
+        entries-insert i e ks′ es′ q h room a c p o =
+            entries-of (insert-at i k (take n ks)) (insert-at i e (take n es)) ks′ es′ (n + 1) (put k w m) p o
+            (omega (arith, keys-taken, length-insert-at i k (take n ks))) (omega (arith, entries-taken, length-insert-at i e (take n es))) (omega arith)
             (all-insert-at P i e (take n es) a (v .each)) rises-put
-            (map-insert-at pair i e (take n es) ∙ (λ j. insert-at i (c j) (v .items j))
+            (ap (zip (insert-at i k (take n ks))) (map-insert-at value i e (take n es)) ∙ zip-insert-at i k (value e) (take n ks) (map value (take n es)) alike
+            ∙ (λ j. insert-at i (k, c j) (v .items j))
             ∙ sym (choose-no (has k m) (replace k w m) (place-entry k w m) (has-missing k m (omega (arith, entries-length)))
             ∙ place-is k w m ∙ ap (λ (j : ℕ). insert-at j (k, w) m) (sym q)))
 
--- ---- the map determines the array, where a pair determines the entry
+-- ---- the map determines the arrays, where a value determines the entry
 
-module _ {E B : Type 0} (pair : E → ℕ × B) (P : E → Type 0) (one : (x y : E) → P x → P y → pair x ≡ pair y → x ≡ y) where
-  map-one : (xs ys : List E) → All P xs → All P ys → map pair xs ≡ map pair ys → xs ≡ ys
+module _ {E B : Type 0} (value : E → B) (P : E → Type 0) (one : (x y : E) → P x → P y → value x ≡ value y → x ≡ y) where
+  map-one : (xs ys : List E) → All P xs → All P ys → map value xs ≡ map value ys → xs ≡ ys
   unfolding All
   map-one [] [] a b e = refl
   map-one [] (y ∷ ys) a b e = absurd (omega (arith, ap length e))
   map-one (x ∷ xs) [] a b e = absurd (omega (arith, ap length e))
   map-one (x ∷ xs) (y ∷ ys) a b e =
-      let p : x ≡ y = one x y (a .0) (b .0) (ap (λ (l : List (ℕ × B)). getD l 0 (pair x)) e) in
-      let q : xs ≡ ys = map-one xs ys (a .1) (b .1) (ap (λ (l : List (ℕ × B)). drop 1 l) e) in
+      let p : x ≡ y = one x y (a .0) (b .0) (ap (λ (l : List B). getD l 0 (value x)) e) in
+      let q : xs ≡ ys = map-one xs ys (a .1) (b .1) (ap (λ (l : List B). drop 1 l) e) in
       λ i. p i ∷ q i
 
-  module _ (z : E) (N : ℕ) (es fs : List E) (n k : ℕ) (m : List (ℕ × B)) (v : Entries z N pair P es n m) (w : Entries z N pair P fs k m) where
+  module _ (z : E) (N : ℕ) (ks hs : List ℕ) (es fs : List E) (n k : ℕ) (m : List (ℕ × B)) (v : Entries z N value P ks es n m) (w : Entries z N value P hs fs k m) where
     pub entries-same-length : n ≡ k
-    entries-same-length = sym (entries-length z N pair P es n m v) ∙ entries-length z N pair P fs k m w
+    entries-same-length = sym (entries-length z N value P ks es n m v) ∙ entries-length z N value P hs fs k m w
+
+    pub entries-same-keys : ks ≡ hs
+    entries-same-keys =
+        v .keyed
+        ∙ ap (pad 0 N) (sym (entries-keys z N value P ks es n m v) ∙ entries-keys z N value P hs fs k m w)
+        ∙ sym (w .keyed)
 
     pub entries-same : es ≡ fs
     entries-same =
         v .packed
-        ∙ ap (pad z N) (map-one (take n es) (take k fs) (v .each) (w .each) (v .items ∙ sym (w .items)))
+        ∙ ap (pad z N) (map-one (take n es) (take k fs) (v .each) (w .each) (sym (entries-values z N value P ks es n m v) ∙ entries-values z N value P hs fs k m w))
         ∙ sym (w .packed)
 
 -- ---- the loops
 
--- the answer where the entries l are still to come: the place of a key, and its rank
-abbrev pub Index : {E B : Type 0} → (E → ℕ × B) → ℕ → ℕ → List E → ℕ
-Index pair k = Place (λ l. index-of k (keys (map pair l)))
-
-abbrev pub Ranked : {E B : Type 0} → (E → ℕ × B) → ℕ → ℕ → List E → ℕ
-Ranked pair k = Place (λ l. rank k (keys (map pair l)))
-
-module _ {E B : Type 0} (pair : E → ℕ × B) (k : ℕ) where
-  first-key : First (λ e. eqb k (pair e .0)) (λ l. index-of k (keys (map pair l)))
-  unfolding index-of keys
-  first-key = record { none = refl; more = λ e l. refl }
-
-  first-above : First (λ e. ltb k (pair e .0)) (λ l. rank k (keys (map pair l)))
-  unfolding rank keys
-  first-above = record { none = refl; more = λ e l. refl }
-
-module _ {E B : Type 0} (pair : E → ℕ × B) (d : E) (N : ℕ) where
-  pub index-start : (k : ℕ) (l : List E) (n : ℕ) → n ≤ N → length l ≡ N → Rest (Index pair k) N l n (index-of k (keys (map pair (take n l)))) 0 0
-  index-start k l n h e = record { low = omega arith; top = h; long = e; same = omega arith }
-
-  pub rank-start : (k : ℕ) (l : List E) (n : ℕ) → n ≤ N → length l ≡ N → Rest (Ranked pair k) N l n (rank k (keys (map pair (take n l)))) 0 0
-  rank-start k l n h e = record { low = omega arith; top = h; long = e; same = omega arith }
-
-  module _ (k : ℕ) (l : List E) (n whole i : ℕ) (v : Rest (Index pair k) N l n whole i i) where
-    pub index-here : i < n → pair (getD l i d) .0 ≡ k → i ≡ whole
-    index-here h e = first-here d (first-key pair k) v h (eq-eqb _ _ (sym e))
-
-    pub index-next : i < n → (pair (getD l i d) .0 ≡ k → ⊥) → Rest (Index pair k) N l n whole (i + 1) (i + 1)
-    index-next h e = first-next d (first-key pair k) v h (ne-eqb _ _ (λ q. e (sym q)))
-
-    pub index-end : n ≤ i → n ≡ whole
-    index-end h = first-end d (first-key pair k) v h
-
-  module _ (k : ℕ) (l : List E) (n whole i : ℕ) (v : Rest (Ranked pair k) N l n whole i i) where
-    pub rank-here : i < n → k < pair (getD l i d) .0 → i ≡ whole
-    rank-here h e = first-here d (first-above pair k) v h (lt-ltb _ _ e)
-
-    pub rank-next : i < n → pair (getD l i d) .0 ≤ k → Rest (Ranked pair k) N l n whole (i + 1) (i + 1)
-    rank-next h e = first-next d (first-above pair k) v h (le-ltb _ _ e)
-
-    pub rank-end : n ≤ i → n ≡ whole
-    rank-end h = first-end d (first-above pair k) v h
-
--- how many keys are not among ps: some were counted, and the entries l are still to come
-abbrev pub Outside : {E B : Type 0} → (E → ℕ × B) → List ℕ → ℕ → List E → ℕ
-Outside pair ps x l = x + length (without-all ps (keys (map pair l)))
-
-pub record Counting {E B : Type 0} (pair : E → ℕ × B) (N : ℕ) (ps : List ℕ) (l : List E) (n whole x i : ℕ) : Type 0 where
-  pub rest : Rest (Outside pair ps) N l n whole x i
-  pub few : x ≤ i
-
-module _ {E B : Type 0} (pair : E → ℕ × B) (d : E) (N : ℕ) where
-  pub counting-start : (ps : List ℕ) (l : List E) (n : ℕ) → n ≤ N → length l ≡ N → Counting pair N ps l n (length (without-all ps (keys (map pair (take n l))))) 0 0
-  counting-start ps l n h e = record { rest = record { low = omega arith; top = h; long = e; same = omega arith }; few = omega arith }
-
-  module _ (ps : List ℕ) (l : List E) (n whole x i : ℕ) (v : Counting pair N ps l n whole x i) (b : Bool) (q : b ≡ mem (pair (getD l i d) .0) ps) where
-    pub counting-in : b ≡ true → i < n → Counting pair N ps l n whole x (i + 1)
-    unfolding without-all keys
-    counting-in e h = record { rest = rest-next d (Outside pair ps) (v .rest) x h (λ r. rw (← q, e)); few = omega (arith, v .few) }
-
-    pub counting-out : b ≡ false → i < n → Counting pair N ps l n whole (x + 1) (i + 1)
-    unfolding without-all keys
-    counting-out e h = record { rest = rest-next d (Outside pair ps) (v .rest) (x + 1) h (λ r. rw (← q, e) (omega arith)); few = omega (arith, v .few) }
-
-  pub counting-end : (ps : List ℕ) (l : List E) (n whole x i : ℕ) → Counting pair N ps l n whole x i → n ≤ i → x ≡ whole
-  unfolding without-all keys
-  counting-end ps l n whole x i v h = omega (arith, rest-end d (Outside pair ps) (v .rest) h)
-
 -- whether the keys from i on rise
-abbrev pub Rises : {E B : Type 0} → (E → ℕ × B) → ℕ → List E → Bool
-Rises pair i l = rising (keys (map pair l))
+abbrev pub Rises : ℕ → List ℕ → Bool
+Rises i l = rising l
 
-module _ {E B : Type 0} (pair : E → ℕ × B) (d : E) (N : ℕ) where
-  pub rises-start : (l : List E) (n : ℕ) → n ≤ N → length l ≡ N → Rest (Rises pair) N l n (rising (keys (map pair (take n l)))) 0 0
+module _ (N : ℕ) where
+  pub rises-start : (l : List ℕ) (n : ℕ) → n ≤ N → length l ≡ N → Rest Rises N l n (rising (take n l)) 0 0
   rises-start l n h e = record { low = omega arith; top = h; long = e; same = refl }
 
-  module _ (l : List E) (n : ℕ) (whole : Bool) (i : ℕ) (v : Rest (Rises pair) N l n whole i i) where
-    two : i + 1 < n → slice (suc i) n l ≡ getD l (i + 1) d ∷ slice (suc (suc i)) n l
+  module _ (l : List ℕ) (n : ℕ) (whole : Bool) (i : ℕ) (v : Rest Rises N l n whole i i) where
+    two : i + 1 < n → slice (suc i) n l ≡ getD l (i + 1) 0 ∷ slice (suc (suc i)) n l
     two h =
-        slice-cons (suc i) n l d (omega arith) (omega (arith, v .top, v .long))
-        ∙ ap (λ (j : ℕ). getD l j d ∷ slice (suc (suc i)) n l) (sym (add-one i))
+        slice-cons (suc i) n l 0 (omega arith) (omega (arith, v .top, v .long))
+        ∙ ap (λ (j : ℕ). getD l j 0 ∷ slice (suc (suc i)) n l) (sym (add-one i))
 
-    rises-at : i + 1 < n → whole ≡ (ltb (pair (getD l i d) .0) (pair (getD l (i + 1) d) .0) && rising (keys (map pair (slice (suc i) n l))))
-    unfolding rising keys
+    rises-at : i + 1 < n → whole ≡ (ltb (getD l i 0) (getD l (i + 1) 0) && rising (slice (suc i) n l))
+    unfolding rising
     rises-at h =
-        rest-at d (Rises pair) v (omega arith)
-        ∙ ap (λ (m : List E). rising (keys (map pair (getD l i d ∷ m)))) (two h)
-        ∙ ap (λ (m : List E). ltb (pair (getD l i d) .0) (pair (getD l (i + 1) d) .0) && rising (keys (map pair m))) (sym (two h))
+        rest-at 0 Rises v (omega arith)
+        ∙ ap (λ (m : List ℕ). rising (getD l i 0 ∷ m)) (two h)
+        ∙ ap (λ (m : List ℕ). ltb (getD l i 0) (getD l (i + 1) 0) && rising m) (sym (two h))
 
-    pub rises-no : i + 1 < n → pair (getD l (i + 1) d) .0 ≤ pair (getD l i d) .0 → false ≡ whole
+    pub rises-no : i + 1 < n → getD l (i + 1) 0 ≤ getD l i 0 → false ≡ whole
     rises-no h e = sym (rises-at h ∙ rw (le-ltb _ _ e))
 
-    pub rises-next : i + 1 < n → pair (getD l i d) .0 < pair (getD l (i + 1) d) .0 → Rest (Rises pair) N l n whole (i + 1) (i + 1)
+    pub rises-next : i + 1 < n → getD l i 0 < getD l (i + 1) 0 → Rest Rises N l n whole (i + 1) (i + 1)
     rises-next h e = record { low = omega arith; top = v .top; long = v .long; same = rises-at h ∙ rw (lt-ltb _ _ e) (rw (add-one i) refl) }
 
-    last-rises : (m : List E) → m ≡ [] → rising (keys (map pair (getD l i d ∷ m))) ≡ true
-    unfolding rising keys
+    last-rises : (m : List ℕ) → m ≡ [] → rising (getD l i 0 ∷ m) ≡ true
+    unfolding rising
     last-rises m e = rw e
 
     rises-stop : n ≤ i + 1 → Dec (i < n) → true ≡ whole
-    unfolding rising keys
+    unfolding rising
     rises-stop h (yes p) =
         let e : suc i ≡ n = omega arith in
-        sym (rest-at d (Rises pair) v p ∙ last-rises (slice (suc i) n l) (ap (λ (j : ℕ). slice j n l) e ∙ slice-empty n l))
-    rises-stop h (no p) = sym (rest-end d (Rises pair) v (omega arith))
+        sym (rest-at 0 Rises v p ∙ last-rises (slice (suc i) n l) (ap (λ (j : ℕ). slice j n l) e ∙ slice-empty n l))
+    rises-stop h (no p) = sym (rest-end 0 Rises v (omega arith))
 
     pub rises-end : n ≤ i + 1 → true ≡ whole
     rises-end h = rises-stop h (decLt i n)
 
--- key k is taken out, at place i of the n entries es₀: what the array holds when place j is the next to be stored to, and last is the last entry's place
-pub record Cutting {E B : Type 0} (z : E) (N : ℕ) (pair : E → ℕ × B) (P : E → Type 0) (k : ℕ) (m : List (ℕ × B)) (es₀ : List E) (n i last : ℕ) (es : List E) (j : ℕ) : Type 0 where
-  pub whole : Entries z N pair P es₀ n m
-  pub at : i ≡ index-of k (keys m)
+-- the item at place i of the first n of l₀ is taken out: what the array holds when place j is the next to be stored to, and last is the last item's place
+pub record Cutting {A : Type 0} (z : A) (N : ℕ) (l₀ : List A) (n i last : ℕ) (l : List A) (j : ℕ) : Type 0 where
+  pub taken : length (take n l₀) ≡ n
   pub count : n ≡ last + 1
   pub room : last < N
-  pub long : length es ≡ N
+  pub long : length l ≡ N
   pub high : j ≤ last
-  pub run : Removing z N (take n es₀) i es j
+  pub run : Removing z N (take n l₀) i l j
 
-module _ {E B : Type 0} (z : E) (N : ℕ) (pair : E → ℕ × B) (P : E → Type 0) where
-  pub cutting-start : (k : ℕ) (m : List (ℕ × B)) (es : List E) (n i : ℕ) → Entries z N pair P es n m → i ≡ index-of k (keys m) → i < n → Cutting z N pair P k m es n i (n - 1) es i
-  cutting-start k m es n i v q h =
-      let e = entries-taken z N pair P es n m v in
+module _ {A : Type 0} (z : A) (N : ℕ) where
+  pub cutting-start : (l : List A) (n i : ℕ) → n ≤ N → l ≡ pad z N (take n l) → i < n → Cutting z N l n i (n - 1) l i
+  cutting-start l n i f p h =
+      let e = length-packed z N l n f p in
       record {
-        whole = v;
-        at = q;
+        taken = e;
         count = omega arith;
-        room = omega (arith, v .fits);
-        long = entries-long z N pair P es n m v;
+        room = omega arith;
+        long = ap length p ∙ length-pad z N (take n l);
         high = omega arith;
-        run = subst (λ (l : List E). Removing z N (take n es) i l i) (sym (v .packed)) (removing-start z N (take n es) i (omega arith) (omega (arith, v .fits)));
+        run = subst (λ (o : List A). Removing z N (take n l) i o i) (sym p) (removing-start z N (take n l) i (omega arith) (omega arith));
       }
 
-  module _ (k : ℕ) (m : List (ℕ × B)) (es₀ : List E) (n i last : ℕ) (es : List E) (j : ℕ) (v : Cutting z N pair P k m es₀ n i last es j) where
-    taken : length (take n es₀) ≡ last + 1
-    taken = entries-taken z N pair P es₀ n m (v .whole) ∙ v .count
-
+  module _ (l₀ : List A) (n i last : ℕ) (l : List A) (j : ℕ) (v : Cutting z N l₀ n i last l j) where
     -- the code's read has another default, which an index within the array never meets
-    pub cutting-next : (d : E) → j < last → Cutting z N pair P k m es₀ n i last (set es j (getD es (j + 1) d)) (j + 1)
+    pub cutting-next : (d : A) → j < last → Cutting z N l₀ n i last (set l j (getD l (j + 1) d)) (j + 1)
     cutting-next d h = record {
-      whole = v .whole;
-      at = v .at;
+      taken = v .taken;
       count = v .count;
       room = v .room;
-      long = length-set es j (getD es (j + 1) d) ∙ v .long;
+      long = length-set l j (getD l (j + 1) d) ∙ v .long;
       high = omega arith;
-      run = rw (getD-any es (j + 1) d z (omega (arith, v .long, v .room))) (removing-next z (v .run) (omega (arith, taken)));
+      run = rw (getD-any l (j + 1) d z (omega (arith, v .long, v .room))) (removing-next z (v .run) (omega (arith, v .taken, v .count)));
     }
 
-    pub cutting-end : last ≤ j → Entries z N pair P (set es last z) last (cut k m)
+    pub cutting-end : last ≤ j → set l last z ≡ pad z N (shift-remove i (take n l₀))
     cutting-end h =
-        let e : j ≡ last = omega (arith, v .high) in
-        entries-cut z N pair P es₀ n m (v .whole) k i (set es last z) last (v .at) (omega (arith, v .run .within, taken, v .count))
-        (rw (← e) (removing-end z (v .run) (omega (arith, taken)))) (sym (v .count))
+        let e : j ≡ last = omega (arith, v .high) in rw (← e) (removing-end z (v .run) (omega (arith, v .taken, v .count)))
 
--- the entry e with the new key k is put in, at place i of the n entries es₀: what the array holds when `carried` is the next to be stored, at place j
-pub record Putting {E B : Type 0} (z : E) (N : ℕ) (pair : E → ℕ × B) (P : E → Type 0) (k : ℕ) (w : B) (m : List (ℕ × B)) (es₀ : List E) (n i : ℕ) (e : E) (es : List E) (carried : E) (j : ℕ) : Type 0 where
-  pub whole : Entries z N pair P es₀ n m
-  pub at : i ≡ rank k (keys m)
-  pub absent : n ≤ index-of k (keys m)
-  pub fine : P e
-  pub is : pair e ≡ (k, w)
+-- x is put in at place i of the first n of l₀: what the array holds when `carried` is the next to be stored, at place j
+pub record Putting {A : Type 0} (z : A) (N : ℕ) (l₀ : List A) (n i : ℕ) (x : A) (l : List A) (carried : A) (j : ℕ) : Type 0 where
+  pub taken : length (take n l₀) ≡ n
   pub room : n < N
-  pub long : length es ≡ N
+  pub long : length l ≡ N
   pub high : j ≤ n + 1
-  pub run : Inserting z N (take n es₀) i e es carried j
+  pub run : Inserting z N (take n l₀) i x l carried j
 
-module _ {E B : Type 0} (z : E) (N : ℕ) (pair : E → ℕ × B) (P : E → Type 0) where
-  pub putting-start : (k : ℕ) (w : B) (m : List (ℕ × B)) (es : List E) (n i : ℕ) (e : E) → Entries z N pair P es n m → i ≡ rank k (keys m) → n ≤ index-of k (keys m) → P e → pair e ≡ (k, w) → n < N → Putting z N pair P k w m es n i e es e i
-  putting-start k w m es n i e v q x a c r =
-      let t = entries-taken z N pair P es n m v in
-      let l : i ≤ n = omega (arith, rank-le k (keys m), length-keys m, entries-length z N pair P es n m v) in
+module _ {A : Type 0} (z : A) (N : ℕ) where
+  pub putting-start : (l : List A) (n i : ℕ) (x : A) → l ≡ pad z N (take n l) → i ≤ n → n < N → Putting z N l n i x l x i
+  putting-start l n i x p h r =
+      let e = length-packed z N l n (omega arith) p in
       record {
-        whole = v;
-        at = q;
-        absent = x;
-        fine = a;
-        is = c;
+        taken = e;
         room = r;
-        long = entries-long z N pair P es n m v;
+        long = ap length p ∙ length-pad z N (take n l);
         high = omega arith;
-        run = subst (λ (f : List E). Inserting z N (take n es) i e f e i) (sym (v .packed)) (inserting-start z N (take n es) i e (omega arith) (omega arith));
+        run = subst (λ (o : List A). Inserting z N (take n l) i x o x i) (sym p) (inserting-start z N (take n l) i x (omega arith) (omega arith));
       }
 
-  module _ (k : ℕ) (w : B) (m : List (ℕ × B)) (es₀ : List E) (n i : ℕ) (e : E) (es : List E) (carried : E) (j : ℕ) (v : Putting z N pair P k w m es₀ n i e es carried j) where
-    pub putting-next : (d : E) → j ≤ n → Putting z N pair P k w m es₀ n i e (set es j carried) (getD es j d) (j + 1)
+  module _ (l₀ : List A) (n i : ℕ) (x : A) (l : List A) (carried : A) (j : ℕ) (v : Putting z N l₀ n i x l carried j) where
+    pub putting-next : (d : A) → j ≤ n → Putting z N l₀ n i x (set l j carried) (getD l j d) (j + 1)
     putting-next d h = record {
-      whole = v .whole;
-      at = v .at;
-      absent = v .absent;
-      fine = v .fine;
-      is = v .is;
+      taken = v .taken;
       room = v .room;
-      long = length-set es j carried ∙ v .long;
+      long = length-set l j carried ∙ v .long;
       high = omega arith;
-      run =
-          rw (getD-any es j d z (omega (arith, v .long, v .room)))
-          (inserting-next z (v .run) (omega (arith, entries-taken z N pair P es₀ n m (v .whole))));
+      run = rw (getD-any l j d z (omega (arith, v .long, v .room))) (inserting-next z (v .run) (omega (arith, v .taken)));
     }
 
-    pub putting-end : n < j → Entries z N pair P es (n + 1) (put k w m)
-    putting-end h =
-        entries-insert z N pair P es₀ n m (v .whole) k w i e es (v .at) (v .absent) (v .room) (v .fine) (v .is)
-        (inserting-end z (v .run) (omega (arith, entries-taken z N pair P es₀ n m (v .whole))))
+    pub putting-end : n < j → l ≡ pad z N (insert-at i x (take n l₀))
+    putting-end h = inserting-end z (v .run) (omega (arith, v .taken))

@@ -7,6 +7,7 @@ pub mod Front
 pub mod Remove
 pub mod Insert
 pub mod Maps
+pub mod Zip
 pub mod Bytes
 pub mod Table
 pub mod Search

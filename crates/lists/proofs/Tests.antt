@@ -138,6 +138,9 @@ abbrev pub So-far : {A : Type 0} → (A → Bool) → Bool → List A → Bool
 So-far t ok l = ok && every t l
 
 module _ {A : Type 0} (t : A → Bool) (d : A) (N : ℕ) where
+  pub so-far-first : (l : List A) (n : ℕ) → n ≤ N → length l ≡ N → Rest (So-far t) N l n (every t (take n l)) true 0
+  so-far-first l n h e = record { low = omega arith; top = h; long = e; same = refl }
+
   pub so-far-from : (l : List A) (k : ℕ) → k ≤ N → length l ≡ N → Rest (So-far t) N l N (every t (drop k l)) true k
   so-far-from l k h e = record { low = h; top = omega arith; long = e; same = every-from t d N l k h e .same }
 

@@ -12,6 +12,16 @@ module _ {A : Type 0} where
   keys [] = []
   keys (e ∷ m) = e .0 ∷ keys m
 
+  unfoldable pub values : List (ℕ × A) → List A
+  values [] = []
+  values (e ∷ m) = e .1 ∷ values m
+
+  -- the pairs of a list of keys and a list of their values
+  unfoldable pub zip : List ℕ → List A → List (ℕ × A)
+  zip [] vs = []
+  zip (k ∷ ks) [] = []
+  zip (k ∷ ks) (v ∷ vs) = (k, v) ∷ zip ks vs
+
   -- HashMap::contains_key
   unfoldable pub has : ℕ → List (ℕ × A) → Bool
   has k m = mem k (keys m)

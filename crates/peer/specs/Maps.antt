@@ -1,4 +1,4 @@
--- What the maps by peer stand for: lists of pairs in rising order of the peers, in arrays whose unused places are zero.
+-- What the maps by peer stand for: lists of pairs in rising order of the peers, in two arrays whose unused places are zero.
 -- Assumes nothing.
 use Prim.Native.Nat.{ℕ, _≤_}
 use mathlib.Core.Path.{_≡_}
@@ -8,37 +8,33 @@ use mathlib.Core.Option.{Option, none, some}
 use lib.ListN.{length, take, replicate}
 use lib.Dec.{leb, ltb, eqb}
 use Rattle.lists.specs.Lists.{Rising, rising}
-use Rattle.lists.specs.Maps.{keys}
+use Rattle.lists.specs.Maps.{keys, zip}
 use Rattle.lists.specs.Array.{pad}
 use Rattle.lists.specs.Tests.{every, packed, All}
+use Rattle.util.specs.Set.{items-of, Valid, validb}
 use Rattle.peer.specs.Held.{zero-byte}
-use Rattle.peer.specs.declared.NumberEntry.{NumberEntry}
 use Rattle.peer.specs.declared.Numbers.{Numbers}
 use Rattle.peer.specs.declared.Number.{Number}
 use Rattle.peer.specs.declared.Number.the-variants.{Absent, Is}
 use Rattle.peer.specs.declared.DataEntry.{DataEntry}
 use Rattle.peer.specs.declared.DataMap.{DataMap}
 
+-- whether a peer or a number is that of an unused place
+abbrev pub zero-number : ℕ → Bool
+zero-number n = eqb n 0
+
 -- ---- numbers by peer
-
--- the peer and its number
-abbrev pub number-pair : NumberEntry → ℕ × ℕ
-number-pair e = (e .peer, e .number)
-
--- an unused place
-abbrev pub no-number : NumberEntry
-no-number = record { peer = 0; number = 0 }
 
 -- the map that m stands for
 unfoldable pub numbers-in : Numbers → List (ℕ × ℕ)
-numbers-in m = map number-pair (take (m .len) (m .entries))
+numbers-in m = zip (items-of (m .peers)) (take (m .peers .len) (m .numbers))
 
--- at most 32 entries, zeroes past them, and the peers rise. The last follows from the first two, and stands here so that bounds on `length (numbers-in m)` are bounds in the code.
+-- a set of at most 32 peers, zeroes past their numbers, and the peers rise. The last follows from the first two, and stands here so that bounds on `length (numbers-in m)` are bounds in the code.
 pub record ValidNumbers (m : Numbers) : Type 0 where
-  pub fits : m .len ≤ 32
-  pub packed : m .entries ≡ pad no-number 32 (take (m .len) (m .entries))
+  pub peers : Valid (m .peers)
+  pub packed : m .numbers ≡ pad 0 32 (take (m .peers .len) (m .numbers))
   pub rises : Rising (keys (numbers-in m))
-  pub counted : length (numbers-in m) ≡ m .len
+  pub counted : length (numbers-in m) ≡ m .peers .len
 
 -- r is valid and stands for m, which determines r
 pub record HoldsNumbers (r : Numbers) (m : List (ℕ × ℕ)) : Type 0 where
@@ -50,13 +46,9 @@ unfoldable pub number-in : Number → Option ℕ
 number-in Absent = none
 number-in (Is n) = some n
 
--- whether an entry is that of an unused place
-unfoldable pub zero-number : NumberEntry → Bool
-zero-number e = eqb (e .peer) 0 && eqb (e .number) 0
-
 -- what `ValidNumbers` says, as a test
 unfoldable pub valid-numbers : Numbers → Bool
-valid-numbers m = leb (m .len) 32 && (packed zero-number 32 (m .len) (m .entries) && rising (keys (numbers-in m)))
+valid-numbers m = validb (m .peers) && (packed zero-number 32 (m .peers .len) (m .numbers) && rising (keys (numbers-in m)))
 
 -- whether every number is below n (01: open numbers are below their counters)
 unfoldable pub numbers-under : ℕ → List (ℕ × ℕ) → Bool
@@ -65,13 +57,13 @@ numbers-under n (e ∷ m) = ltb (e .1) n && numbers-under n m
 
 -- ---- data by peer
 
--- the peer and its data
-abbrev pub data-pair : DataEntry → ℕ × List ℕ
-data-pair e = (e .peer, take (e .len) (e .bytes))
+-- the bytes of an entry
+abbrev pub entry-bytes : DataEntry → List ℕ
+entry-bytes e = take (e .len) (e .bytes)
 
 -- an unused place
 abbrev pub no-data : DataEntry
-no-data = record { peer = 0; len = 0; bytes = replicate 16 0 }
+no-data = record { len = 0; bytes = replicate 16 0 }
 
 -- at most 16 bytes, and zeroes past them
 pub record ValidEntry (e : DataEntry) : Type 0 where
@@ -80,11 +72,12 @@ pub record ValidEntry (e : DataEntry) : Type 0 where
 
 -- the map that m stands for
 unfoldable pub data-map-in : DataMap → List (ℕ × List ℕ)
-data-map-in m = map data-pair (take (m .len) (m .entries))
+data-map-in m = zip (take (m .len) (m .peers)) (map entry-bytes (take (m .len) (m .entries)))
 
--- at most 80 valid entries, zeroes past them, and the peers rise; the last as in `ValidNumbers`
+-- at most 80 peers with valid entries, zeroes past both, and the peers rise; the last as in `ValidNumbers`
 pub record ValidDataMap (m : DataMap) : Type 0 where
   pub fits : m .len ≤ 80
+  pub keyed : m .peers ≡ pad 0 80 (take (m .len) (m .peers))
   pub packed : m .entries ≡ pad no-data 80 (take (m .len) (m .entries))
   pub each : All ValidEntry (take (m .len) (m .entries))
   pub rises : Rising (keys (data-map-in m))
@@ -101,10 +94,11 @@ valid-entry e = leb (e .len) 16 && packed zero-byte 16 (e .len) (e .bytes)
 
 -- whether an entry is that of an unused place
 unfoldable pub zero-data : DataEntry → Bool
-zero-data e = eqb (e .peer) 0 && (eqb (e .len) 0 && valid-entry e)
+zero-data e = eqb (e .len) 0 && valid-entry e
 
 -- what `ValidDataMap` says, as a test
 unfoldable pub valid-data-map : DataMap → Bool
 valid-data-map m =
     leb (m .len) 80
-    && (packed zero-data 80 (m .len) (m .entries) && (every valid-entry (take (m .len) (m .entries)) && rising (keys (data-map-in m))))
+    && (packed zero-number 80 (m .len) (m .peers)
+    && (packed zero-data 80 (m .len) (m .entries) && (every valid-entry (take (m .len) (m .entries)) && rising (keys (data-map-in m)))))

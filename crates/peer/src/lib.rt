@@ -2,7 +2,7 @@
 use util::IndexSet;
 use util::PeerId;
 ghost use mathlib.Core.Path.{_≡_};
-ghost use mathlib.Core.Bool.{true, _||_};
+ghost use mathlib.Core.Bool.{true, _&&_, _||_};
 ghost use mathlib.Core.List.{[]};
 ghost use mathlib.Core.Option.{none};
 ghost use Prim.Native.Nat.{_+_, _-_, _≤_, _<_};
@@ -163,18 +163,11 @@ impl PeerData {
     }
 }
 
-// A peer and its number.
-#[repr(C)]
-pub struct NumberEntry {
-    pub peer: PeerId,
-    pub number: u64,
-}
-
 // Numbers by peer (open requests, pending joins), in rising order of the peers. Unused places are zero.
 #[repr(C)]
 pub struct Numbers {
-    pub entries: [NumberEntry; 32],
-    pub len: usize,
+    pub peers: IndexSet,
+    pub numbers: [u64; 32],
 }
 
 // The number of a peer, or that it has none.
@@ -187,10 +180,10 @@ impl Numbers {
     pub fn new() -> Numbers
         ensures { λ r. ⌜ HoldsNumbers r [] ⌝ }
     {
-        let unused = NumberEntry { peer: 0, number: 0 };
+        let peers = IndexSet::new();
         Numbers {
-            entries: [unused; 32],
-            len: 0,
+            peers,
+            numbers: [0; 32],
         }
     }
 
@@ -198,7 +191,7 @@ impl Numbers {
         requires { ⌜ ValidNumbers self ⌝ }
         ensures { λ r. ⌜ (r ≡ length (numbers-in self)) × (r ≤ 32) ⌝ }
     {
-        self.len
+        self.peers.len
     }
 
     // The place of a peer, or the number of entries where it has none.
@@ -206,53 +199,26 @@ impl Numbers {
         requires { ⌜ ValidNumbers self ⌝ }
         ensures { λ r. ⌜ (r ≡ index-of peer (keys (numbers-in self))) × (r ≤ length (numbers-in self)) ⌝ }
     {
-        let n = self.len;
-        let entries = self.entries;
-        let mut i: usize = 0;
-        while i < n {
-            if entries[i].peer == peer {
-                return i;
-            }
-            i += 1;
-        }
-        n
-    }
-
-    // The place at which a new peer is put in.
-    fn rank_of(self, peer: PeerId) -> usize
-        requires { ⌜ ValidNumbers self ⌝ }
-        ensures { λ r. ⌜ (r ≡ rank peer (keys (numbers-in self))) × (r ≤ length (numbers-in self)) ⌝ }
-    {
-        let n = self.len;
-        let entries = self.entries;
-        let mut i: usize = 0;
-        while i < n {
-            if peer < entries[i].peer {
-                return i;
-            }
-            i += 1;
-        }
-        n
+        let peers = self.peers;
+        peers.position(peer)
     }
 
     pub fn contains_key(self, peer: PeerId) -> bool
         requires { ⌜ ValidNumbers self ⌝ }
         ensures { λ r. ⌜ r ≡ has peer (numbers-in self) ⌝ }
     {
-        let n = self.len;
-        let i = self.position(peer);
-        i < n
+        let peers = self.peers;
+        peers.contains(peer)
     }
 
     pub fn get(self, peer: PeerId) -> Number
         requires { ⌜ ValidNumbers self ⌝ }
         ensures { λ r. ⌜ number-in r ≡ lookup peer (numbers-in self) ⌝ }
     {
-        let n = self.len;
         let i = self.position(peer);
-        if i < n {
-            let e = self.entries[i];
-            return Number::Is(e.number);
+        if i < self.peers.len {
+            let number = self.numbers[i];
+            return Number::Is(number);
         }
         Number::Absent
     }
@@ -263,8 +229,8 @@ impl Numbers {
         requires { ⌜ i < length (numbers-in self) ⌝ }
         ensures { λ r. ⌜ r ≡ getD (keys (numbers-in self)) i 0 ⌝ }
     {
-        let e = self.entries[i];
-        e.peer
+        let peers = self.peers;
+        peers.get_index(i)
     }
 
     // The peers, in rising order.
@@ -272,15 +238,7 @@ impl Numbers {
         requires { ⌜ ValidNumbers self ⌝ }
         ensures { λ r. ⌜ Holds r (keys (numbers-in self)) ⌝ }
     {
-        let n = self.len();
-        let mut t = IndexSet::new();
-        let mut i: usize = 0;
-        while i < n {
-            let p = self.key_at(i);
-            i += 1;
-            t = t.push(p);
-        }
-        t
+        self.peers
     }
 
     pub fn insert(self, peer: PeerId, number: u64) -> Numbers
@@ -289,23 +247,24 @@ impl Numbers {
         ensures { λ r. ⌜ HoldsNumbers r (put peer number (numbers-in self)) ⌝ }
     {
         let mut t = self;
-        let n = t.len;
-        let e = NumberEntry { peer, number };
+        let peers = t.peers;
+        let n = peers.len;
         let i = self.position(peer);
         if i < n {
-            t.entries[i] = e;
+            t.numbers[i] = number;
             return t;
         }
-        let mut carried = e;
-        let at = self.rank_of(peer);
+        let at = peers.rank(peer);
+        let mut carried = number;
         let mut k = at;
         while k <= n {
-            let y = t.entries[k];
-            t.entries[k] = carried;
+            let y = t.numbers[k];
+            t.numbers[k] = carried;
             carried = y;
             k += 1;
         }
-        t.len = n + 1;
+        let grown = peers.insert_at(at, peer);
+        t.peers = grown;
         t
     }
 
@@ -314,7 +273,8 @@ impl Numbers {
         ensures { λ r. ⌜ HoldsNumbers r (cut peer (numbers-in self)) ⌝ }
     {
         let mut t = self;
-        let n = t.len;
+        let peers = t.peers;
+        let n = peers.len;
         let i = self.position(peer);
         if i >= n {
             return t;
@@ -322,12 +282,13 @@ impl Numbers {
         let last = n - 1;
         let mut k = i;
         while k < last {
-            let e = t.entries[k + 1];
-            t.entries[k] = e;
+            let y = t.numbers[k + 1];
+            t.numbers[k] = y;
             k += 1;
         }
-        t.entries[last] = NumberEntry { peer: 0, number: 0 };
-        t.len = last;
+        t.numbers[last] = 0;
+        let left = peers.shift_remove_index(i);
+        t.peers = left;
         t
     }
 
@@ -337,20 +298,9 @@ impl Numbers {
         requires { ⌜ Valid peers ⌝ }
         ensures { λ r. ⌜ (r ≡ length (without-all (items-of peers) (keys (numbers-in self)))) × (r ≤ 32) ⌝ }
     {
-        let n = self.len;
-        let entries = self.entries;
-        let mut count: usize = 0;
-        let mut i: usize = 0;
-        while i < n {
-            let e = entries[i];
-            if peers.contains(e.peer) {
-                i += 1;
-                continue;
-            }
-            count += 1;
-            i += 1;
-        }
-        count
+        let own = self.peers;
+        let outside = own.without_all(peers);
+        outside.len()
     }
 
     // Whether every number is below n.
@@ -358,73 +308,49 @@ impl Numbers {
         requires { ⌜ ValidNumbers self ⌝ }
         ensures { λ r. ⌜ r ≡ numbers-under n (numbers-in self) ⌝ }
     {
-        let len = self.len;
-        let entries = self.entries;
+        let len = self.peers.len;
+        let numbers = self.numbers;
+        let mut ok = true;
         let mut i: usize = 0;
         while i < len {
-            if entries[i].number >= n {
-                return false;
-            }
+            ok = ok & (numbers[i] < n);
             i += 1;
         }
-        true
+        ok
     }
 
-    // Whether the unused places are zero.
+    // Whether the unused numbers are zero.
     fn is_packed(self) -> bool
-        requires { ⌜ self .len ≤ 32 ⌝ }
-        ensures { λ r. ⌜ r ≡ every zero-number (drop (self .len) (self .entries)) ⌝ }
+        requires { ⌜ self .peers .len ≤ 32 ⌝ }
+        ensures { λ r. ⌜ r ≡ every zero-number (drop (self .peers .len) (self .numbers)) ⌝ }
     {
-        let n = self.len;
-        let entries = self.entries;
-        let mut i = n;
+        let numbers = self.numbers;
+        let mut ok = true;
+        let mut i = self.peers.len;
         while i < 32 {
-            if entries[i].peer != 0 {
-                return false;
-            }
-            if entries[i].number != 0 {
-                return false;
-            }
+            ok = ok & (numbers[i] == 0);
             i += 1;
         }
-        true
-    }
-
-    // Whether each peer is below the next.
-    fn is_rising(self) -> bool
-        requires { ⌜ self .len ≤ 32 ⌝ }
-        ensures { λ r. ⌜ r ≡ rising (keys (numbers-in self)) ⌝ }
-    {
-        let n = self.len;
-        let entries = self.entries;
-        let mut i: usize = 0;
-        while i + 1 < n {
-            if entries[i + 1].peer <= entries[i].peer {
-                return false;
-            }
-            i += 1;
-        }
-        true
+        ok
     }
 
     // Whether this is a map, of any value of the type.
     pub fn is_valid(self) -> bool
         ensures { λ r. ⌜ r ≡ valid-numbers self ⌝ }
     {
-        if self.len > 32 {
-            return false;
-        }
-        if self.is_packed() {
-            return self.is_rising();
+        let peers = self.peers;
+        if peers.is_valid() {
+            if self.is_packed() {
+                return peers.is_rising();
+            }
         }
         false
     }
 }
 
-// A peer and its data.
+// The data of a peer in a map.
 #[repr(C)]
 pub struct DataEntry {
-    pub peer: PeerId,
     pub len: u8,
     pub bytes: [u8; 16],
 }
@@ -432,6 +358,7 @@ pub struct DataEntry {
 // Data by peer, in rising order of the peers. Unused places are zero.
 #[repr(C)]
 pub struct DataMap {
+    pub peers: [PeerId; 80],
     pub entries: [DataEntry; 80],
     pub len: usize,
 }
@@ -452,9 +379,6 @@ impl DataEntry {
     fn is_unused(self) -> bool
         ensures { λ r. ⌜ r ≡ zero-data self ⌝ }
     {
-        if self.peer != 0 {
-            return false;
-        }
         if self.len != 0 {
             return false;
         }
@@ -468,11 +392,11 @@ impl DataMap {
         ensures { λ r. ⌜ HoldsDataMap r [] ⌝ }
     {
         let unused = DataEntry {
-            peer: 0,
             len: 0,
             bytes: [0u8; 16],
         };
         DataMap {
+            peers: [0; 80],
             entries: [unused; 80],
             len: 0,
         }
@@ -491,10 +415,10 @@ impl DataMap {
         ensures { λ r. ⌜ (r ≡ index-of peer (keys (data-map-in self))) × (r ≤ length (data-map-in self)) ⌝ }
     {
         let n = self.len;
-        let entries = self.entries;
+        let peers = self.peers;
         let mut i: usize = 0;
         while i < n {
-            if entries[i].peer == peer {
+            if peer == peers[i] {
                 return i;
             }
             i += 1;
@@ -508,10 +432,10 @@ impl DataMap {
         ensures { λ r. ⌜ (r ≡ rank peer (keys (data-map-in self))) × (r ≤ length (data-map-in self)) ⌝ }
     {
         let n = self.len;
-        let entries = self.entries;
+        let peers = self.peers;
         let mut i: usize = 0;
         while i < n {
-            if peer < entries[i].peer {
+            if peer < peers[i] {
                 return i;
             }
             i += 1;
@@ -577,22 +501,22 @@ impl DataMap {
         let mut t = self;
         let n = t.len;
         let bytes = d.bytes;
-        let e = DataEntry {
-            peer,
-            len: d.len,
-            bytes,
-        };
+        let e = DataEntry { len: d.len, bytes };
         let i = self.position(peer);
         if i < n {
             t.entries[i] = e;
             return t;
         }
-        let mut carried = e;
         let at = self.rank_of(peer);
+        let mut moved = peer;
+        let mut carried = e;
         let mut k = at;
         while k <= n {
+            let x = t.peers[k];
             let y = t.entries[k];
+            t.peers[k] = moved;
             t.entries[k] = carried;
+            moved = x;
             carried = y;
             k += 1;
         }
@@ -613,12 +537,14 @@ impl DataMap {
         let last = n - 1;
         let mut k = i;
         while k < last {
+            let x = t.peers[k + 1];
             let e = t.entries[k + 1];
+            t.peers[k] = x;
             t.entries[k] = e;
             k += 1;
         }
+        t.peers[last] = 0;
         t.entries[last] = DataEntry {
-            peer: 0,
             len: 0,
             bytes: [0u8; 16],
         };
@@ -629,12 +555,16 @@ impl DataMap {
     // Whether the unused places are zero.
     fn is_packed(self) -> bool
         requires { ⌜ self .len ≤ 80 ⌝ }
-        ensures { λ r. ⌜ r ≡ every zero-data (drop (self .len) (self .entries)) ⌝ }
+        ensures { λ r. ⌜ r ≡ (every zero-number (drop (self .len) (self .peers)) && every zero-data (drop (self .len) (self .entries))) ⌝ }
     {
         let n = self.len;
+        let peers = self.peers;
         let entries = self.entries;
         let mut i = n;
         while i < 80 {
+            if peers[i] != 0 {
+                return false;
+            }
             let e = entries[i];
             if e.is_unused() {
                 i += 1;
@@ -670,10 +600,10 @@ impl DataMap {
         ensures { λ r. ⌜ r ≡ rising (keys (data-map-in self)) ⌝ }
     {
         let n = self.len;
-        let entries = self.entries;
+        let peers = self.peers;
         let mut i: usize = 0;
         while i + 1 < n {
-            if entries[i + 1].peer <= entries[i].peer {
+            if peers[i + 1] <= peers[i] {
                 return false;
             }
             i += 1;

@@ -91,7 +91,7 @@ impl IndexSet {
     }
 
     // Of a set in rising order: how many items are not above x.
-    fn rank(self, x: PeerId) -> usize
+    pub fn rank(self, x: PeerId) -> usize
         requires { ⌜ Valid self ⌝ }
         ensures { λ r. ⌜ (r ≡ rank x (items-of self)) × (r ≤ length (items-of self)) ⌝ }
     {
@@ -197,7 +197,7 @@ impl IndexSet {
     }
 
     // x at place i: the items from i on move up.
-    fn insert_at(self, i: usize, x: PeerId) -> IndexSet
+    pub fn insert_at(self, i: usize, x: PeerId) -> IndexSet
         requires { ⌜ Valid self ⌝ }
         requires { ⌜ length (items-of self) < 32 ⌝ }
         requires { ⌜ i ≤ length (items-of self) ⌝ }

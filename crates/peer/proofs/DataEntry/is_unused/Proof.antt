@@ -3,9 +3,7 @@ use mathlib.Core.Bool.{Bool, false}
 use borrow.Author.Needs.{needs}
 use borrow.Author.Tests.{eq-eqb, ne-eqb}
 use lib.ListN.{length}
-use lib.Dec.{eqb}
 use Rattle.lists.specs.Tests.{every, packed}
-use Rattle.lists.proofs.Tests.{and-no}
 use Rattle.peer.specs.Held.{zero-byte}
 use Rattle.peer.specs.Maps.{valid-entry, zero-data}
 use Rattle.peer.specs.declared.DataEntry.{DataEntry}
@@ -13,31 +11,24 @@ use Rattle.peer.proofs.DataEntry.is_unused.Statement.{statement}
 use Rattle.peer.proofs.DataEntry.is_unused.Tie as tie
 
 module _ (e : DataEntry) where
-  peer-left : (e .peer ≡ 0 → ⊥) → false ≡ zero-data e
-  unfolding zero-data
-  peer-left h = rw (ne-eqb (e .peer) 0 h)
-
   data-left : (e .len ≡ 0 → ⊥) → false ≡ zero-data e
   unfolding zero-data
-  data-left h = rw (ne-eqb (e .len) 0 h) (sym (and-no (eqb (e .peer) 0)))
+  data-left h = rw (ne-eqb (e .len) 0 h)
 
-  clean : (b : Bool) → b ≡ every zero-byte (e .bytes) → length (e .bytes) ≡ 16 → e .peer ≡ 0 → e .len ≡ 0 → b ≡ zero-data e
+  clean : (b : Bool) → b ≡ every zero-byte (e .bytes) → length (e .bytes) ≡ 16 → e .len ≡ 0 → b ≡ zero-data e
   unfolding zero-data valid-entry packed
-  clean b q m p l =
+  clean b q m l =
       let z : valid-entry e ≡ every zero-byte (e .bytes) = rw (l, eq-eqb (length (e .bytes)) 16 m) in
-      rw (eq-eqb (e .peer) 0 p, eq-eqb (e .len) 0 l) (q ∙ sym z)
+      rw (eq-eqb (e .len) 0 l) (q ∙ sym z)
 
 returns : tie.Need-returns
-returns c = search peer-left
-
-returns-2 : tie.Need-returns-2
-returns-2 c = search data-left
+returns c = search data-left
 
 all-zero-requires : tie.Need-all-zero-requires
 all-zero-requires c κs = search needs
 
-returns-3 : tie.Need-returns-3
-returns-3 c = search (clean, needs)
+returns-2 : tie.Need-returns-2
+returns-2 c = search (clean, needs)
 
 pub is-unused-spec : {M : Type 1} → statement M
-is-unused-spec = tie.close (tie.spec returns returns-2 all-zero-requires returns-3)
+is-unused-spec = tie.close (tie.spec returns all-zero-requires returns-2)

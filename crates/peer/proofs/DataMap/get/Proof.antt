@@ -6,7 +6,7 @@ use lib.ListN.{getD, take}
 use Rattle.lists.specs.Lists.{index-of}
 use Rattle.lists.specs.Maps.{keys, lookup}
 use Rattle.peer.specs.Held.{HoldsData}
-use Rattle.peer.specs.Maps.{data-pair, no-data, data-map-in, ValidEntry, ValidDataMap}
+use Rattle.peer.specs.Maps.{entry-bytes, no-data, data-map-in, ValidEntry, ValidDataMap}
 use Rattle.peer.specs.declared.PeerData.{PeerData}
 use Rattle.peer.specs.declared.DataMap.{DataMap}
 use Rattle.peer.proofs.Data.{holds-some}
@@ -21,13 +21,13 @@ module _ (s : DataMap) (k i : ℕ) (v : ValidDataMap s) (q : i ≡ index-of k (k
   found : i < s .len → HoldsData (record { present = true; len = getD (s .entries) i unread .len; bytes = getD (s .entries) i unread .bytes }) (lookup k (data-map-in s))
   found h =
       let e = data-entries s v in
-      let y : ValidEntry (getD (s .entries) i unread) = entries-each no-data 80 data-pair ValidEntry _ _ _ e i unread h in
+      let y : ValidEntry (getD (s .entries) i unread) = entries-each no-data 80 entry-bytes ValidEntry _ _ _ _ e i unread h in
       let x = getD (s .entries) i unread in
-      rw (entries-found no-data 80 data-pair ValidEntry _ _ _ e k i unread q h)
+      rw (entries-found no-data 80 entry-bytes ValidEntry _ _ _ _ e k i unread q h)
       (holds-some (take (x .len) (x .bytes)) (x .bytes) (x .len) (y .packed) (sym (length-entry x y)) (subst (λ (n : ℕ). n ≤ 16) (sym (length-entry x y)) (y .fits)))
 
   missing : (d : PeerData) → s .len ≤ i → HoldsData d none → HoldsData d (lookup k (data-map-in s))
-  missing d h w = subst (HoldsData d) (sym (entries-none no-data 80 data-pair ValidEntry _ _ _ (data-entries s v) k i q h)) w
+  missing d h w = subst (HoldsData d) (sym (entries-none no-data 80 entry-bytes ValidEntry _ _ _ _ (data-entries s v) k i q h)) w
 
 position-requires : tie.Need-position-requires
 position-requires c κs = search needs

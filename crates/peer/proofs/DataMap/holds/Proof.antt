@@ -7,7 +7,7 @@ use Rattle.lists.specs.Lists.{index-of}
 use Rattle.lists.specs.Maps.{keys, lookup}
 use Rattle.peer.specs.Data.{bytes-of}
 use Rattle.peer.specs.Held.{data-in, ValidData}
-use Rattle.peer.specs.Maps.{data-pair, no-data, data-map-in, ValidEntry, ValidDataMap}
+use Rattle.peer.specs.Maps.{entry-bytes, no-data, data-map-in, ValidEntry, ValidDataMap}
 use Rattle.peer.specs.declared.PeerData.{PeerData}
 use Rattle.peer.specs.declared.DataMap.{DataMap}
 use Rattle.peer.proofs.Data.{bytes-in, length-bytes}
@@ -23,17 +23,17 @@ use Rattle.peer.proofs.DataMap.holds.Tie as tie
 module _ (s : DataMap) (d : PeerData) (k i : ℕ) (v : ValidDataMap s) (w : ValidData d) (q : i ≡ index-of k (keys (data-map-in s))) where
   missing : s .len ≤ i → false ≡ holds (lookup k (data-map-in s)) (bytes-of (data-in d))
   unfolding holds
-  missing h = rw (entries-none no-data 80 data-pair ValidEntry _ _ _ (data-entries s v) k i q h)
+  missing h = rw (entries-none no-data 80 entry-bytes ValidEntry _ _ _ _ (data-entries s v) k i q h)
 
   -- the answer where the peer has an entry
   found : i < s .len → holds (lookup k (data-map-in s)) (bytes-of (data-in d)) ≡ same (take (getD (s .entries) i unread .len) (getD (s .entries) i unread .bytes)) (take (d .len) (d .bytes))
   unfolding holds
-  found h = rw (entries-found no-data 80 data-pair ValidEntry _ _ _ (data-entries s v) k i unread q h, bytes-in d w)
+  found h = rw (entries-found no-data 80 entry-bytes ValidEntry _ _ _ _ (data-entries s v) k i unread q h, bytes-in d w)
 
   longer : i < s .len → (getD (s .entries) i unread .len ≡ d .len → ⊥) → false ≡ holds (lookup k (data-map-in s)) (bytes-of (data-in d))
   longer h n =
       let x = getD (s .entries) i unread in
-      let y : ValidEntry x = entries-each no-data 80 data-pair ValidEntry _ _ _ (data-entries s v) i unread h in
+      let y : ValidEntry x = entries-each no-data 80 entry-bytes ValidEntry _ _ _ _ (data-entries s v) i unread h in
       sym (found h ∙ same-length (take (x .len) (x .bytes)) (take (d .len) (d .bytes)) (λ e. n (sym (length-entry x y) ∙ e ∙ length-bytes d w)))
 
   compared : (r : Bool) → r ≡ same (take (d .len) (getD (s .entries) i unread .bytes)) (take (d .len) (d .bytes)) → i < s .len → getD (s .entries) i unread .len ≡ d .len → r ≡ holds (lookup k (data-map-in s)) (bytes-of (data-in d))

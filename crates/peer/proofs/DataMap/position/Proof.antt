@@ -1,35 +1,51 @@
--- The answer is the one for the entries from i on. The measure is what is left.
-use Prim.Native.Nat.{_-_}
-use mathlib.Core.List.{map}
+-- The answer is the place of the peer among the peers from i on. The measure is what is left.
+use Prim.Native.Nat.{ℕ, _+_, _-_, _≤_, _<_}
+use mathlib.Core.Path.{_≡_, sym, ap, _∙_}
+use mathlib.Core.List.{List}
 use borrow.Author.Needs.{needs}
-use lib.ListN.{take}
+use borrow.Author.Tests.{eq-eqb, ne-eqb}
+use lib.ListN.{take, getD}
 use Rattle.lists.specs.Lists.{index-of}
 use Rattle.lists.specs.Maps.{keys}
-use Rattle.lists.proofs.Rest.{Rest, length-mapped}
-use Rattle.lists.proofs.Entries.{Index, index-start, index-here, index-next, index-end}
-use Rattle.peer.specs.Maps.{data-pair, data-map-in}
-use Rattle.peer.proofs.Maps.{unread}
+use Rattle.lists.proofs.Rest.{Rest}
+use Rattle.lists.proofs.Search.{Place, first-index, first-here, first-next, first-end}
+use Rattle.lists.proofs.Entries.{entries-keys}
+use Rattle.peer.specs.Maps.{entry-bytes, no-data, data-map-in, ValidEntry, ValidDataMap}
+use Rattle.peer.specs.declared.DataMap.{DataMap}
+use Rattle.peer.proofs.Maps.{data-entries}
 use Rattle.peer.proofs.DataMap.position.Statement.{statement}
 use Rattle.peer.proofs.DataMap.position.Tie as tie
 
+module _ (s : DataMap) (x i : ℕ) (v : ValidDataMap s) (r : Rest (Place (index-of x)) 80 (s .peers) (s .len) (index-of x (take (s .len) (s .peers))) i i) where
+  known : index-of x (take (s .len) (s .peers)) ≡ index-of x (keys (data-map-in s))
+  known = ap (index-of x) (sym (entries-keys no-data 80 entry-bytes ValidEntry _ _ _ _ (data-entries s v)))
+
+  here : i < s .len → x ≡ getD (s .peers) i 0 → i ≡ index-of x (keys (data-map-in s))
+  here h e = first-here 0 (first-index x) r h (eq-eqb _ _ e) ∙ known
+
+  end : s .len ≤ i → s .len ≡ index-of x (keys (data-map-in s))
+  end h = first-end 0 (first-index x) r h ∙ known
+
+next : (x : ℕ) (l : List ℕ) (n whole i : ℕ) → Rest (Place (index-of x)) 80 l n whole i i → i < n → (x ≡ getD l i 0 → ⊥) → Rest (Place (index-of x)) 80 l n whole (i + 1) (i + 1)
+next x l n whole i v h e = first-next 0 (first-index x) v h (ne-eqb _ _ e)
+
 abbrev Inv-loop : tie.InvT-loop
-Inv-loop peer n entries i₀ i = Rest (Index data-pair peer) 80 entries n (index-of peer (keys (map data-pair (take n entries)))) i i
+Inv-loop peer n peers i₀ i = Rest (Place (index-of peer)) 80 peers n (index-of peer (take n peers)) i i
 
 abbrev μ-loop : tie.MeasureT-loop
-μ-loop peer n entries i₀ i = n - i
+μ-loop peer n peers i₀ i = n - i
 
 loop-holds : tie.Need-loop-holds Inv-loop μ-loop
-loop-holds c = search (index-start data-pair unread 80, length-mapped, needs)
+loop-holds c = search needs
 
 mul-if1 : tie.Need-mul-if1 Inv-loop μ-loop
 mul-if1 c = search needs
 
-element-copy-out-if1 : tie.Need-element-copy-out-if1 Inv-loop μ-loop
-element-copy-out-if1 c = search needs
+array-read-if1 : tie.Need-array-read-if1 Inv-loop μ-loop
+array-read-if1 c = search needs
 
 returns : tie.Need-returns Inv-loop μ-loop
-unfolding data-map-in
-returns c = (search (index-here data-pair unread 80), search needs)
+returns c = (search here, search needs)
 
 add-i : tie.Need-add-i Inv-loop μ-loop
 add-i c = search needs
@@ -38,11 +54,10 @@ loop-less : tie.Need-loop-less Inv-loop μ-loop
 loop-less c = search needs
 
 loop-again : tie.Need-loop-again Inv-loop μ-loop
-loop-again c = search (index-next data-pair unread 80)
+loop-again c = search next
 
 returns-2 : tie.Need-returns-2 Inv-loop μ-loop
-unfolding data-map-in
-returns-2 c = (search (index-end data-pair unread 80), search needs)
+returns-2 c = (search end, search needs)
 
 pub position-spec : {M : Type 1} → statement M
 position-spec =
@@ -52,7 +67,7 @@ position-spec =
     μ-loop
     loop-holds
     mul-if1
-    element-copy-out-if1
+    array-read-if1
     returns
     add-i
     loop-less

@@ -1,53 +1,66 @@
--- The carried entry is stored, and the one that stood there is carried on. The measure is what is left.
+-- The carried number is stored, and the one that stood there is carried on. The measure is what is left.
 use Prim.Native.Nat.{ℕ, _+_, _-_, _≤_, _<_}
-use mathlib.Core.Path.{_≡_, refl, subst}
+use mathlib.Core.Path.{_≡_, refl, sym, ap, _∙_, subst}
 use mathlib.Core.Bool.{true, _||_}
 use mathlib.Core.List.{List}
+use native.Mathlib.Omega.{arith}
 use borrow.Author.Needs.{needs}
 use lib.ListN.{length, set}
 use lib.Dec.{ltb}
-use Rattle.lists.specs.Lists.{index-of, rank}
+use Rattle.lists.specs.Array.{pad}
+use Rattle.lists.specs.Lists.{index-of, rank, insert-at}
 use Rattle.lists.specs.Maps.{keys, has, put}
-use Rattle.peer.specs.Maps.{number-pair, no-number, numbers-in, ValidNumbers, HoldsNumbers}
-use Rattle.peer.specs.declared.NumberEntry.{NumberEntry}
+use Rattle.lists.proofs.Array.{length-insert-at}
+use Rattle.lists.proofs.Entries.{Entries, entries-replace, entries-room, entries-insert, Putting, putting-start, putting-next, putting-end}
+use Rattle.util.specs.Set.{items-of, Holds}
+use Rattle.util.specs.declared.IndexSet.{IndexSet}
+use Rattle.peer.specs.Maps.{numbers-in, ValidNumbers, HoldsNumbers}
 use Rattle.peer.specs.declared.Numbers.{Numbers}
-use Rattle.peer.proofs.Maps.{Any, numbers-entries, numbers-held}
-use Rattle.lists.proofs.Entries.{entries-replace, entries-room, Putting, putting-start, putting-next, putting-end}
+use Rattle.peer.proofs.Maps.{itself, Any, numbers-entries, numbers-held, numbers-keys}
 use Rattle.peer.proofs.Numbers.insert.Statement.{statement}
 use Rattle.peer.proofs.Numbers.insert.Tie as tie
 
 module _ (s : Numbers) (k w i : ℕ) (v : ValidNumbers s) (q : i ≡ index-of k (keys (numbers-in s))) where
-  replaced : i < s .len → HoldsNumbers (record { entries = set (s .entries) i (record { peer = k; number = w }); len = s .len }) (put k w (numbers-in s))
-  replaced h = numbers-held _ _ (entries-replace no-number 32 number-pair Any _ _ _ (numbers-entries s v) k w i _ q h tt refl)
+  replaced : i < s .peers .len → HoldsNumbers (record { peers = s .peers; numbers = set (s .numbers) i w }) (put k w (numbers-in s))
+  replaced h = numbers-held _ _ (entries-replace 0 32 itself Any _ _ _ _ (numbers-entries s v) k w i w q h tt refl)
 
-  start : (j : ℕ) → s .len ≤ i → j ≡ rank k (keys (numbers-in s)) → (has k (numbers-in s) || ltb (length (numbers-in s)) 32) ≡ true → Putting no-number 32 number-pair Any k w (numbers-in s) (s .entries) (s .len) j (record { peer = k; number = w }) (s .entries) (record { peer = k; number = w }) j
-  start j h p r =
-      let e = numbers-entries s v in
-      putting-start no-number 32 number-pair Any k w (numbers-in s) (s .entries) (s .len) j _ e p (subst (λ (x : ℕ). s .len ≤ x) q h) tt refl (entries-room no-number 32 number-pair Any _ _ _ e k i q h r)
+  room : s .peers .len ≤ i → (has k (numbers-in s) || ltb (length (numbers-in s)) 32) ≡ true → s .peers .len < 32
+  room h r = entries-room 0 32 itself Any _ _ _ _ (numbers-entries s v) k i q h r
 
-end : (k w : ℕ) (s : Numbers) (n i : ℕ) (e : NumberEntry) (es : List NumberEntry) (carried : NumberEntry) (j : ℕ) → Putting no-number 32 number-pair Any k w (numbers-in s) (s .entries) n i e es carried j → n < j → HoldsNumbers (record { entries = es; len = n + 1 }) (put k w (numbers-in s))
-end k w s n i e es carried j v h = numbers-held _ _ (putting-end no-number 32 number-pair Any k w _ _ n i e es carried j v h)
+  start : (j : ℕ) → s .peers .len ≤ i → j ≤ length (items-of (s .peers)) → (has k (numbers-in s) || ltb (length (numbers-in s)) 32) ≡ true → Putting 0 32 (s .numbers) (s .peers .len) j w (s .numbers) w j
+  start j h p r = putting-start 0 32 (s .numbers) (s .peers .len) j w (v .packed) (omega (arith, v .peers .counted)) (room h r)
+
+  end : (j : ℕ) (l : List ℕ) (carried x : ℕ) (p : IndexSet) → Putting 0 32 (s .numbers) (s .peers .len) j w l carried x → s .peers .len ≤ i → j ≡ rank k (items-of (s .peers)) → Holds p (insert-at j k (items-of (s .peers))) → s .peers .len < x → HoldsNumbers (record { peers = p; numbers = l }) (put k w (numbers-in s))
+  unfolding items-of
+  end j l carried x p run h a g y =
+      let n : s .peers .len + 1 ≡ p .len =
+      omega (arith, ap length (g .items), length-insert-at j k (items-of (s .peers)), g .valid .counted, v .peers .counted) in
+      numbers-held _ _
+      (subst (λ (m : ℕ). Entries 0 32 itself Any (p .items) l m (put k w (numbers-in s))) n
+      (entries-insert 0 32 itself Any _ _ _ _ (numbers-entries s v) k w j w (p .items) l (a ∙ ap (rank k) (sym (numbers-keys s v)))
+      (subst (λ (m : ℕ). s .peers .len ≤ m) q h) (run .room) tt refl (g .valid .packed ∙ ap (pad 0 32) (g .items))
+      (putting-end 0 32 _ _ _ _ l carried x run y)))
 
 abbrev Inv-loop : tie.InvT-loop
-Inv-loop peer number t₀ n i carried₀ at k₀ t carried k = Putting no-number 32 number-pair Any peer number (numbers-in t₀) (t₀ .entries) n at carried₀ (t .entries) carried k
+Inv-loop peer number t₀ peers n i at carried₀ k₀ t carried k = Putting 0 32 (t₀ .numbers) n at number (t .numbers) carried k
 
 abbrev μ-loop : tie.MeasureT-loop
-μ-loop peer number t₀ n i carried₀ at k₀ t carried k = n + 1 - k
+μ-loop peer number t₀ peers n i at carried₀ k₀ t carried k = n + 1 - k
 
 position-requires : tie.Need-position-requires Inv-loop μ-loop
 position-requires c κs = search needs
 
-mul-e : tie.Need-mul-e Inv-loop μ-loop
-mul-e c = search needs
+mul-t : tie.Need-mul-t Inv-loop μ-loop
+mul-t c = search needs
 
-element-set-from-e : tie.Need-element-set-from-e Inv-loop μ-loop
-element-set-from-e c = search needs
+element-write-t : tie.Need-element-write-t Inv-loop μ-loop
+element-write-t c = search needs
 
 returns : tie.Need-returns Inv-loop μ-loop
 returns c = search replaced
 
-rank-of-requires : tie.Need-rank-of-requires Inv-loop μ-loop
-rank-of-requires c κs = search needs
+rank-requires : tie.Need-rank-requires Inv-loop μ-loop
+rank-requires c κs = search needs
 
 loop-holds : tie.Need-loop-holds Inv-loop μ-loop
 loop-holds c = search start
@@ -58,11 +71,11 @@ mul-y c = search needs
 element-copy-out-y : tie.Need-element-copy-out-y Inv-loop μ-loop
 element-copy-out-y c = search needs
 
-mul-carried : tie.Need-mul-carried Inv-loop μ-loop
-mul-carried c = search needs
+mul-t-2 : tie.Need-mul-t-2 Inv-loop μ-loop
+mul-t-2 c = search needs
 
-element-set-from-carried : tie.Need-element-set-from-carried Inv-loop μ-loop
-element-set-from-carried c = search needs
+element-write-t-2 : tie.Need-element-write-t-2 Inv-loop μ-loop
+element-write-t-2 c = search needs
 
 add-k : tie.Need-add-k Inv-loop μ-loop
 add-k c = search needs
@@ -71,10 +84,10 @@ loop-less : tie.Need-loop-less Inv-loop μ-loop
 loop-less c = search needs
 
 loop-again : tie.Need-loop-again Inv-loop μ-loop
-loop-again c = search (putting-next no-number 32 number-pair Any)
+loop-again c = search (putting-next {A = ℕ} 0 32)
 
-add-t : tie.Need-add-t Inv-loop μ-loop
-add-t c = search needs
+insert-at-requires : tie.Need-insert-at-requires Inv-loop μ-loop
+insert-at-requires c κs = search needs
 
 returns-2 : tie.Need-returns-2 Inv-loop μ-loop
 returns-2 c = search end
@@ -86,17 +99,17 @@ insert-spec =
     Inv-loop
     μ-loop
     position-requires
-    mul-e
-    element-set-from-e
+    mul-t
+    element-write-t
     returns
-    rank-of-requires
+    rank-requires
     loop-holds
     mul-y
     element-copy-out-y
-    mul-carried
-    element-set-from-carried
+    mul-t-2
+    element-write-t-2
     add-k
     loop-less
     loop-again
-    add-t
+    insert-at-requires
     returns-2)

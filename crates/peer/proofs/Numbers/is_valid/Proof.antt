@@ -1,50 +1,61 @@
-use Prim.Native.Nat.{_≤_, _<_}
+use Prim.Native.Nat.{_≤_}
 use mathlib.Core.Path.{_≡_, sym, _∙_}
 use mathlib.Core.Bool.{Bool, true, false, _&&_}
 use borrow.Author.Needs.{needs}
-use borrow.Author.Tests.{eq-eqb, le-leb, lt-leb}
+use borrow.Author.Tests.{eq-eqb}
 use lib.ListN.{length, drop}
 use Rattle.lists.specs.Lists.{rising}
-use Rattle.lists.specs.Maps.{keys}
 use Rattle.lists.specs.Tests.{every, packed}
-use Rattle.lists.proofs.Rest.{length-mapped}
-use Rattle.peer.specs.Maps.{numbers-in, zero-number, valid-numbers}
+use Rattle.util.specs.Set.{items-of, Valid, validb}
+use Rattle.util.proofs.Hold.{validb-valid}
+use Rattle.peer.specs.Maps.{zero-number, valid-numbers}
 use Rattle.peer.specs.declared.Numbers.{Numbers}
+use Rattle.peer.proofs.Maps.{peers-keys}
 use Rattle.peer.proofs.Numbers.is_valid.Statement.{statement}
 use Rattle.peer.proofs.Numbers.is_valid.Tie as tie
 
-module _ (m : Numbers) where
-  many : 32 < m .len → false ≡ valid-numbers m
+module _ (m : Numbers) (b : Bool) (q : b ≡ validb (m .peers)) where
+  set : b ≡ true → Valid (m .peers)
+  set t = validb-valid (m .peers) (sym q ∙ t)
+
+  few : b ≡ true → m .peers .len ≤ 32
+  few t = set t .fits
+
+  bad : b ≡ false → false ≡ valid-numbers m
   unfolding valid-numbers
-  many h = rw (lt-leb (m .len) 32 h)
+  bad t = rw (← q, t)
 
-  -- the test once the length is known to fit
-  few : m .len ≤ 32 → length (m .entries) ≡ 32 → valid-numbers m ≡ (every zero-number (drop (m .len) (m .entries)) && rising (keys (numbers-in m)))
-  unfolding valid-numbers packed
-  few h l = rw (le-leb (m .len) 32 h, eq-eqb (length (m .entries)) 32 l)
+  module _ (l : length (m .numbers) ≡ 32) (g : Bool) (e : g ≡ every zero-number (drop (m .peers .len) (m .numbers))) (t : b ≡ true) where
+    -- the test once the peers are known to be a set
+    left : valid-numbers m ≡ (g && rising (items-of (m .peers)))
+    unfolding valid-numbers packed
+    left = rw (← q, t, eq-eqb (length (m .numbers)) 32 l, peers-keys m (set t) l, e)
 
-  module _ (b : Bool) (e : b ≡ every zero-number (drop (m .len) (m .entries))) (h : m .len ≤ 32) (l : length (m .entries) ≡ 32) where
-    clean : (r : Bool) → r ≡ rising (keys (numbers-in m)) → b ≡ true → r ≡ valid-numbers m
-    clean r p t = sym (few h l ∙ rw (← e, t, ← p))
+    clean : (r : Bool) → r ≡ rising (items-of (m .peers)) → g ≡ true → r ≡ valid-numbers m
+    clean r p u = sym (left ∙ rw (u, ← p))
 
-    dirty : b ≡ false → false ≡ valid-numbers m
-    dirty t = sym (few h l ∙ rw (← e, t))
+    dirty : g ≡ false → false ≡ valid-numbers m
+    dirty u = sym (left ∙ rw u)
 
-returns : tie.Need-returns
-returns c = search many
+is-valid-requires : tie.Need-is-valid-requires
+is-valid-requires c κs = search needs
 
 is-packed-requires : tie.Need-is-packed-requires
-is-packed-requires c κs = search needs
+is-packed-requires c κs = search few
 
 is-rising-requires : tie.Need-is-rising-requires
-is-rising-requires c κs = search needs
+is-rising-requires c κs = search set
+
+returns : tie.Need-returns
+returns c = search (clean, needs)
 
 returns-2 : tie.Need-returns-2
-returns-2 c = search (clean, length-mapped, needs)
+returns-2 c = search (dirty, needs)
 
 returns-3 : tie.Need-returns-3
-returns-3 c = search (dirty, length-mapped, needs)
+returns-3 c = search bad
 
 pub is-valid-spec : {M : Type 1} → statement M
 is-valid-spec =
-    tie.close (tie.spec returns is-packed-requires is-rising-requires returns-2 returns-3)
+    tie.close
+    (tie.spec is-valid-requires is-packed-requires is-rising-requires returns returns-2 returns-3)

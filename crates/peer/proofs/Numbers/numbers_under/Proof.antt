@@ -1,59 +1,59 @@
--- The answer is whether the numbers from i on are below n. The measure is what is left.
+-- The answer is ok and whether the numbers from i on are below n. The measure is what is left.
 use Prim.Native.Nat.{ℕ, _+_, _-_, _≤_, _<_}
-use mathlib.Core.Path.{_≡_, refl, ap}
-use mathlib.Core.Bool.{Bool, true, false, _&&_}
-use mathlib.Core.List.{List, [], _∷_, map}
+use mathlib.Core.Path.{_≡_, refl, sym, ap, _∙_}
+use mathlib.Core.Bool.{Bool, true, _&&_}
+use mathlib.Core.List.{List, [], _∷_}
+use native.Mathlib.Omega.{arith}
 use borrow.Author.Needs.{needs}
-use borrow.Author.Tests.{lt-ltb, le-ltb}
-use lib.ListN.{take, getD, length}
+use lib.ListN.{length, take, getD}
 use lib.Dec.{ltb}
-use Rattle.lists.proofs.Rest.{Rest, length-mapped}
+use Rattle.lists.specs.Maps.{zip}
 use Rattle.lists.specs.Tests.{every}
-use Rattle.lists.proofs.Tests.{Every, every-first, every-no, every-next, every-end}
-use Rattle.peer.specs.Maps.{number-pair, no-number, numbers-in, numbers-under}
-use Rattle.peer.specs.declared.NumberEntry.{NumberEntry}
+use Rattle.lists.proofs.Rest.{Rest}
+use Rattle.lists.proofs.Tests.{So-far, so-far-first, so-far-next, so-far-end}
+use Rattle.lists.proofs.Entries.{length-packed}
+use Rattle.util.specs.Set.{items-of}
+use Rattle.peer.specs.Maps.{numbers-in, ValidNumbers, numbers-under}
+use Rattle.peer.specs.declared.Numbers.{Numbers}
 use Rattle.peer.proofs.Numbers.numbers_under.Statement.{statement}
 use Rattle.peer.proofs.Numbers.numbers_under.Tie as tie
 
-abbrev lower : ℕ → NumberEntry → Bool
-lower n e = ltb (e .number) n
+abbrev lower : ℕ → ℕ → Bool
+lower n x = ltb x n
 
-under-every : (n : ℕ) (l : List NumberEntry) → numbers-under n (map number-pair l) ≡ every (lower n) l
-unfolding numbers-under every
-under-every n [] = refl
-under-every n (e ∷ l) = ap (λ (b : Bool). ltb (e .number) n && b) (under-every n l)
+under-every : (n : ℕ) (ks l : List ℕ) → length ks ≡ length l → numbers-under n (zip ks l) ≡ every (lower n) l
+unfolding numbers-under every zip
+under-every n [] [] e = refl
+under-every n [] (x ∷ l) e = absurd (omega arith)
+under-every n (k ∷ ks) [] e = refl
+under-every n (k ∷ ks) (x ∷ l) e = ap (λ (b : Bool). ltb x n && b) (under-every n ks l (omega arith))
 
-start : (n : ℕ) (l : List NumberEntry) (len : ℕ) → len ≤ 32 → length l ≡ 32 → Rest (Every (lower n)) 32 l len (numbers-under n (map number-pair (take len l))) 0 0
-start n l len h e = rw (under-every n (take len l)) (every-first (lower n) no-number 32 l len h e)
+start : (n : ℕ) (l : List ℕ) (len : ℕ) → len ≤ 32 → length l ≡ 32 → Rest (So-far (lower n)) 32 l len (every (lower n) (take len l)) true 0
+start n = so-far-first (lower n) 0 32
 
-module _ (n : ℕ) (l : List NumberEntry) (len : ℕ) (whole : Bool) (i : ℕ) (v : Rest (Every (lower n)) 32 l len whole i i) where
-  high : i < len → n ≤ getD l i no-number .number → false ≡ whole
-  high h e = every-no (lower n) no-number 32 l len whole i v h (le-ltb _ _ e)
+next : (n : ℕ) (l : List ℕ) (len : ℕ) (whole ok : Bool) (i : ℕ) → Rest (So-far (lower n)) 32 l len whole ok i → i < len → Rest (So-far (lower n)) 32 l len whole (ok && ltb (getD l i 0) n) (i + 1)
+next n = so-far-next (lower n) 0 32
 
-  next : i < len → getD l i no-number .number < n → Rest (Every (lower n)) 32 l len whole (i + 1) (i + 1)
-  next h e = every-next (lower n) no-number 32 l len whole i v h (lt-ltb _ _ e)
-
-  end : len ≤ i → true ≡ whole
-  end h = every-end (lower n) no-number 32 l len whole i v h
+end : (n : ℕ) (s : Numbers) (ok : Bool) (i : ℕ) → ValidNumbers s → Rest (So-far (lower n)) 32 (s .numbers) (s .peers .len) (every (lower n) (take (s .peers .len) (s .numbers))) ok i → s .peers .len ≤ i → ok ≡ numbers-under n (numbers-in s)
+unfolding numbers-in
+end n s ok i v r h =
+    so-far-end (lower n) 0 32 _ _ _ ok i r h
+    ∙ sym (under-every n (items-of (s .peers)) _ (v .peers .counted ∙ sym (length-packed 0 32 (s .numbers) (s .peers .len) (v .peers .fits) (v .packed))))
 
 abbrev Inv-loop : tie.InvT-loop
-Inv-loop n len entries i₀ i = Rest (Every (lower n)) 32 entries len (numbers-under n (map number-pair (take len entries))) i i
+Inv-loop n len numbers ok₀ i₀ ok i = Rest (So-far (lower n)) 32 numbers len (every (lower n) (take len numbers)) ok i
 
 abbrev μ-loop : tie.MeasureT-loop
-μ-loop n len entries i₀ i = len - i
+μ-loop n len numbers ok₀ i₀ ok i = len - i
 
 loop-holds : tie.Need-loop-holds Inv-loop μ-loop
-loop-holds c = search (start, length-mapped, needs)
+loop-holds c = search (start, needs)
 
-mul-if1 : tie.Need-mul-if1 Inv-loop μ-loop
-mul-if1 c = search needs
+mul-ok : tie.Need-mul-ok Inv-loop μ-loop
+mul-ok c = search needs
 
-element-copy-out-if1 : tie.Need-element-copy-out-if1 Inv-loop μ-loop
-element-copy-out-if1 c = search needs
-
-returns : tie.Need-returns Inv-loop μ-loop
-unfolding numbers-in
-returns c = search high
+array-read-ok : tie.Need-array-read-ok Inv-loop μ-loop
+array-read-ok c = search needs
 
 add-i : tie.Need-add-i Inv-loop μ-loop
 add-i c = search needs
@@ -64,21 +64,10 @@ loop-less c = search needs
 loop-again : tie.Need-loop-again Inv-loop μ-loop
 loop-again c = search next
 
-returns-2 : tie.Need-returns-2 Inv-loop μ-loop
-unfolding numbers-in
-returns-2 c = search end
+returns : tie.Need-returns Inv-loop μ-loop
+returns c = search end
 
 pub numbers-under-spec : {M : Type 1} → statement M
 numbers-under-spec =
     tie.close
-    (tie.spec
-    Inv-loop
-    μ-loop
-    loop-holds
-    mul-if1
-    element-copy-out-if1
-    returns
-    add-i
-    loop-less
-    loop-again
-    returns-2)
+    (tie.spec Inv-loop μ-loop loop-holds mul-ok array-read-ok add-i loop-less loop-again returns)

@@ -1,59 +1,23 @@
--- The answer is the one for the entries from i on. The measure is what is left.
-use Prim.Native.Nat.{_-_}
-use mathlib.Core.List.{map}
+use Prim.Native.Nat.{ℕ}
+use mathlib.Core.Path.{_≡_, sym, ap, _∙_}
 use borrow.Author.Needs.{needs}
-use lib.ListN.{take}
 use Rattle.lists.specs.Lists.{index-of}
 use Rattle.lists.specs.Maps.{keys}
-use Rattle.lists.proofs.Rest.{Rest, length-mapped}
-use Rattle.lists.proofs.Entries.{Index, index-start, index-here, index-next, index-end}
-use Rattle.peer.specs.Maps.{number-pair, no-number, numbers-in}
+use Rattle.util.specs.Set.{items-of}
+use Rattle.peer.specs.Maps.{numbers-in, ValidNumbers}
+use Rattle.peer.specs.declared.Numbers.{Numbers}
+use Rattle.peer.proofs.Maps.{numbers-keys}
 use Rattle.peer.proofs.Numbers.position.Statement.{statement}
 use Rattle.peer.proofs.Numbers.position.Tie as tie
 
-abbrev Inv-loop : tie.InvT-loop
-Inv-loop peer n entries i₀ i = Rest (Index number-pair peer) 32 entries n (index-of peer (keys (map number-pair (take n entries)))) i i
+place : (s : Numbers) (k i : ℕ) → ValidNumbers s → i ≡ index-of k (items-of (s .peers)) → i ≡ index-of k (keys (numbers-in s))
+place s k i v q = q ∙ ap (index-of k) (sym (numbers-keys s v))
 
-abbrev μ-loop : tie.MeasureT-loop
-μ-loop peer n entries i₀ i = n - i
+position-requires : tie.Need-position-requires
+position-requires c κs = search needs
 
-loop-holds : tie.Need-loop-holds Inv-loop μ-loop
-loop-holds c = search (index-start number-pair no-number 32, length-mapped, needs)
-
-mul-if1 : tie.Need-mul-if1 Inv-loop μ-loop
-mul-if1 c = search needs
-
-element-copy-out-if1 : tie.Need-element-copy-out-if1 Inv-loop μ-loop
-element-copy-out-if1 c = search needs
-
-returns : tie.Need-returns Inv-loop μ-loop
-unfolding numbers-in
-returns c = (search (index-here number-pair no-number 32), search needs)
-
-add-i : tie.Need-add-i Inv-loop μ-loop
-add-i c = search needs
-
-loop-less : tie.Need-loop-less Inv-loop μ-loop
-loop-less c = search needs
-
-loop-again : tie.Need-loop-again Inv-loop μ-loop
-loop-again c = search (index-next number-pair no-number 32)
-
-returns-2 : tie.Need-returns-2 Inv-loop μ-loop
-unfolding numbers-in
-returns-2 c = (search (index-end number-pair no-number 32), search needs)
+returns : tie.Need-returns
+returns c = (search place, search needs)
 
 pub position-spec : {M : Type 1} → statement M
-position-spec =
-    tie.close
-    (tie.spec
-    Inv-loop
-    μ-loop
-    loop-holds
-    mul-if1
-    element-copy-out-if1
-    returns
-    add-i
-    loop-less
-    loop-again
-    returns-2)
+position-spec = tie.close (tie.spec position-requires returns)

@@ -1,34 +1,43 @@
--- The later entries move down. The measure is what is left.
+-- The later numbers move down. The measure is what is left.
 use Prim.Native.Nat.{ℕ, _-_, _≤_, _<_}
-use mathlib.Core.Path.{_≡_}
+use mathlib.Core.Path.{_≡_, ap, _∙_}
 use mathlib.Core.List.{List}
+use native.Mathlib.Omega.{arith}
 use borrow.Author.Needs.{needs}
-use lib.ListN.{set}
-use Rattle.lists.specs.Lists.{index-of}
+use lib.ListN.{length, set}
+use Rattle.lists.specs.Array.{pad}
+use Rattle.lists.specs.Lists.{index-of, shift-remove}
 use Rattle.lists.specs.Maps.{keys, cut}
-use Rattle.peer.specs.Maps.{number-pair, no-number, numbers-in, ValidNumbers, HoldsNumbers}
-use Rattle.peer.specs.declared.NumberEntry.{NumberEntry}
+use Rattle.lists.proofs.Array.{length-shift-remove}
+use Rattle.lists.proofs.Entries.{entries-cut, entries-cut-none, Cutting, cutting-start, cutting-next, cutting-end}
+use Rattle.util.specs.Set.{items-of, Holds}
+use Rattle.util.specs.declared.IndexSet.{IndexSet}
+use Rattle.peer.specs.Maps.{numbers-in, ValidNumbers, HoldsNumbers}
 use Rattle.peer.specs.declared.Numbers.{Numbers}
-use Rattle.peer.proofs.Maps.{Any, numbers-entries, numbers-held}
-use Rattle.lists.proofs.Entries.{entries-cut-none, Cutting, cutting-start, cutting-next, cutting-end}
+use Rattle.peer.proofs.Maps.{itself, Any, numbers-entries, numbers-held}
 use Rattle.peer.proofs.Numbers.remove.Statement.{statement}
 use Rattle.peer.proofs.Numbers.remove.Tie as tie
 
 module _ (s : Numbers) (k i : ℕ) (v : ValidNumbers s) (q : i ≡ index-of k (keys (numbers-in s))) where
-  kept : s .len ≤ i → HoldsNumbers s (cut k (numbers-in s))
-  kept h = numbers-held _ _ (entries-cut-none no-number 32 number-pair Any _ _ _ (numbers-entries s v) k i q h)
+  kept : s .peers .len ≤ i → HoldsNumbers s (cut k (numbers-in s))
+  kept h = numbers-held _ _ (entries-cut-none 0 32 itself Any _ _ _ _ (numbers-entries s v) k i q h)
 
-  start : i < s .len → Cutting no-number 32 number-pair Any k (numbers-in s) (s .entries) (s .len) i (s .len - 1) (s .entries) i
-  start h = cutting-start no-number 32 number-pair Any k _ _ _ i (numbers-entries s v) q h
+  start : i < s .peers .len → Cutting 0 32 (s .numbers) (s .peers .len) i (s .peers .len - 1) (s .numbers) i
+  start h = cutting-start 0 32 _ _ i (v .peers .fits) (v .packed) h
 
-end : (k : ℕ) (s : Numbers) (n i last : ℕ) (es : List NumberEntry) (j : ℕ) → Cutting no-number 32 number-pair Any k (numbers-in s) (s .entries) n i last es j → last ≤ j → HoldsNumbers (record { entries = set es last no-number; len = last }) (cut k (numbers-in s))
-end k s n i last es j v h = numbers-held _ _ (cutting-end no-number 32 number-pair Any k _ _ n i last es j v h)
+  end : (last : ℕ) (l : List ℕ) (j : ℕ) (p : IndexSet) → Cutting 0 32 (s .numbers) (s .peers .len) i last l j → i < s .peers .len → Holds p (shift-remove i (items-of (s .peers))) → last ≤ j → HoldsNumbers (record { peers = p; numbers = set l last 0 }) (cut k (numbers-in s))
+  unfolding items-of
+  end last l j p run h g y =
+      let m = length-shift-remove i (items-of (s .peers)) (omega (arith, v .peers .counted)) in
+      numbers-held _ _
+      (entries-cut 0 32 itself Any _ _ _ _ (numbers-entries s v) k i (p .items) _ (p .len) q h (g .valid .packed ∙ ap (pad 0 32) (g .items))
+      (cutting-end 0 32 _ _ i last l j run y) (omega (arith, ap length (g .items), m, g .valid .counted, v .peers .counted)))
 
 abbrev Inv-loop : tie.InvT-loop
-Inv-loop peer t₀ n i last k₀ t k = Cutting no-number 32 number-pair Any peer (numbers-in t₀) (t₀ .entries) n i last (t .entries) k
+Inv-loop peer t₀ peers n i last k₀ t k = Cutting 0 32 (t₀ .numbers) n i last (t .numbers) k
 
 abbrev μ-loop : tie.MeasureT-loop
-μ-loop peer t₀ n i last k₀ t k = last - k
+μ-loop peer t₀ peers n i last k₀ t k = last - k
 
 position-requires : tie.Need-position-requires Inv-loop μ-loop
 position-requires c κs = search needs
@@ -42,20 +51,20 @@ sub-last c = search needs
 loop-holds : tie.Need-loop-holds Inv-loop μ-loop
 loop-holds c = search start
 
-add-e : tie.Need-add-e Inv-loop μ-loop
-add-e c = search needs
+add-y : tie.Need-add-y Inv-loop μ-loop
+add-y c = search needs
 
-mul-e : tie.Need-mul-e Inv-loop μ-loop
-mul-e c = search needs
+mul-y : tie.Need-mul-y Inv-loop μ-loop
+mul-y c = search needs
 
-element-copy-out-e : tie.Need-element-copy-out-e Inv-loop μ-loop
-element-copy-out-e c = search needs
+element-copy-out-y : tie.Need-element-copy-out-y Inv-loop μ-loop
+element-copy-out-y c = search needs
 
-mul-e-2 : tie.Need-mul-e-2 Inv-loop μ-loop
-mul-e-2 c = search needs
+mul-t : tie.Need-mul-t Inv-loop μ-loop
+mul-t c = search needs
 
-element-set-from-e : tie.Need-element-set-from-e Inv-loop μ-loop
-element-set-from-e c = search needs
+element-write-t : tie.Need-element-write-t Inv-loop μ-loop
+element-write-t c = search needs
 
 add-k : tie.Need-add-k Inv-loop μ-loop
 add-k c = search needs
@@ -64,13 +73,16 @@ loop-less : tie.Need-loop-less Inv-loop μ-loop
 loop-less c = search needs
 
 loop-again : tie.Need-loop-again Inv-loop μ-loop
-loop-again c = search (cutting-next no-number 32 number-pair Any)
+loop-again c = search (cutting-next {A = ℕ} 0 32)
 
-mul-t19 : tie.Need-mul-t19 Inv-loop μ-loop
-mul-t19 c = search needs
+mul-t-2 : tie.Need-mul-t-2 Inv-loop μ-loop
+mul-t-2 c = search needs
 
-element-set-from-t : tie.Need-element-set-from-t Inv-loop μ-loop
-element-set-from-t c = search needs
+element-write-t-2 : tie.Need-element-write-t-2 Inv-loop μ-loop
+element-write-t-2 c = search needs
+
+shift-remove-index-requires : tie.Need-shift-remove-index-requires Inv-loop μ-loop
+shift-remove-index-requires c κs = search needs
 
 returns-2 : tie.Need-returns-2 Inv-loop μ-loop
 returns-2 c = search end
@@ -85,14 +97,15 @@ remove-spec =
     returns
     sub-last
     loop-holds
-    add-e
-    mul-e
-    element-copy-out-e
-    mul-e-2
-    element-set-from-e
+    add-y
+    mul-y
+    element-copy-out-y
+    mul-t
+    element-write-t
     add-k
     loop-less
     loop-again
-    mul-t19
-    element-set-from-t
+    mul-t-2
+    element-write-t-2
+    shift-remove-index-requires
     returns-2)
