@@ -82,7 +82,7 @@ module _ {A : Type 0} (P : A → Type 0) where
 -- ---- the arrays and the map
 
 -- what stands in an array that holds xs
-taken-is : {A : Type 0} (z : A) (N : ℕ) (xs l : List A) (n : ℕ) → l ≡ pad z N xs → n ≡ length xs → n ≤ N → take n l ≡ xs
+pub taken-is : {A : Type 0} (z : A) (N : ℕ) (xs l : List A) (n : ℕ) → l ≡ pad z N xs → n ≡ length xs → n ≤ N → take n l ≡ xs
 taken-is z N xs l n p q h = ap (λ (k : ℕ). take k l) q ∙ ap (take (length xs)) p ∙ take-pad z N xs (omega arith)
 
 pub length-packed : {A : Type 0} (z : A) (N : ℕ) (l : List A) (n : ℕ) → n ≤ N → l ≡ pad z N (take n l) → length (take n l) ≡ n

@@ -36,12 +36,12 @@ itself n = n
 abbrev pub Any : ℕ → Type 0
 Any n = Unit {0}
 
-all-any : (l : List ℕ) → All Any l
+pub all-any : (l : List ℕ) → All Any l
 unfolding All
 all-any [] = tt
 all-any (n ∷ l) = (tt, all-any l)
 
-map-itself : (l : List ℕ) → map itself l ≡ l
+pub map-itself : (l : List ℕ) → map itself l ≡ l
 map-itself [] = refl
 map-itself (n ∷ l) = ap (λ (t : List ℕ). n ∷ t) (map-itself l)
 
@@ -83,6 +83,9 @@ peers-keys m v e =
 
 pub numbers-keys : (s : Numbers) → ValidNumbers s → keys (numbers-in s) ≡ items-of (s .peers)
 numbers-keys s v = peers-keys s (v .peers) (ap length (v .packed) ∙ length-pad 0 32 _)
+
+pub numbers-values : (s : Numbers) → ValidNumbers s → values (numbers-in s) ≡ take (s .peers .len) (s .numbers)
+numbers-values s v = entries-values 0 32 itself Any _ _ _ _ (numbers-entries s v) ∙ map-itself _
 
 pub valid-numbers-true : (m : Numbers) → valid-numbers m ≡ true → ValidNumbers m
 unfolding valid-numbers

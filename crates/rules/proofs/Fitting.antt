@@ -11,22 +11,22 @@ use lib.Dec.{eqb, leb}
 use borrow.Author.Tests.{leb-true, le-leb, eqb-true, ne-eqb}
 use Rattle.lists.specs.Array.{pad}
 use Rattle.lists.specs.Lists.{mem, without, distinct, Above, Rising, rising, subset, disjoint}
-use Rattle.lists.specs.Maps.{keys, has}
+use Rattle.lists.specs.Maps.{keys, values, zip, has}
 use Rattle.lists.specs.Tests.{All}
 use Rattle.lists.proofs.Array.{take-pad}
 use Rattle.lists.proofs.Choice.{split, and-left, and-right}
 use Rattle.lists.proofs.Count.{mem-true, length-without}
 use Rattle.lists.proofs.Maps.{length-keys}
+use Rattle.lists.proofs.Zip.{zip-back, length-values}
 use Rattle.lists.proofs.Tests.{both-true, and-no, rising-true}
 use Rattle.lists.proofs.Entries.{entries-of}
 use Rattle.util.specs.Set.{Valid}
 use Rattle.util.proofs.Hold.{holds-of}
-use Rattle.peer.specs.declared.NumberEntry.{NumberEntry}
 use Rattle.peer.specs.Data.{Data}
 use Rattle.peer.specs.Held.{ValidData}
-use Rattle.peer.specs.Maps.{number-pair, no-number, ValidNumbers, data-pair, no-data, ValidEntry, ValidDataMap, numbers-under}
+use Rattle.peer.specs.Maps.{ValidNumbers, entry-bytes, no-data, ValidEntry, ValidDataMap, numbers-under}
 use Rattle.peer.proofs.Data.{holds-some}
-use Rattle.peer.proofs.Maps.{Any, numbers-held, data-held}
+use Rattle.peer.proofs.Maps.{itself, Any, all-any, map-itself, numbers-held, data-held}
 use Rattle.timing.specs.declared.Config.{Config}
 use Rattle.timing.specs.Timing.{within, in-range}
 use Rattle.timing.proofs.Ranges.{ranges}
@@ -36,10 +36,10 @@ use Rattle.protocol.specs.Rules as R
 use Rattle.protocol.specs.Handle.{new-station, zero-config, zero-station}
 use Rattle.state.specs.Unpack.{unpack, PackedState}
 use Rattle.state.proofs.Memory.{own-back, all-kept}
-use Rattle.rules.specs.Pack.{pack-data, pack-set, pack-number, pack-numbers, pack-entry, pack-data-map, pack-refill, pack, Fits}
+use Rattle.rules.specs.Pack.{pack-data, pack-set, pack-numbers, pack-entry, pack-data-map, pack-refill, pack, Fits}
 use Rattle.rules.specs.Ok.{packed-ok, state-ok}
 use Rattle.rules.proofs.Shape.{Shape, shape-ok}
-use Rattle.rules.proofs.Pack.{pair-out, length-mapped-numbers, data-pair-out, length-mapped-data, unpack-pack}
+use Rattle.rules.proofs.Pack.{values-out, length-packed-values, unpack-pack}
 use Rattle.rules.proofs.Packed.{Kept, ok-kept, ok-state}
 
 set-valid : (xs : List ℕ) → length xs ≤ 32 → Valid (pack-set xs)
@@ -51,31 +51,28 @@ unfolding pack-data short-data pad
 data-valid none e = record { fits = omega arith; packed = refl; absent = λ t. refl }
 data-valid (some b) e = holds-some b (pad 0 16 b) (length b) refl refl (leb-true _ _ e) .valid
 
-all-any : (l : List NumberEntry) → All Any l
-unfolding All
-all-any [] = tt
-all-any (e ∷ l) = (tt, all-any l)
-
 numbers-valid : (m : List (ℕ × ℕ)) → length m ≤ 32 → Rising (keys m) → ValidNumbers (pack-numbers m)
-unfolding pack-numbers
+unfolding pack-numbers pack-set
 numbers-valid m h r =
     numbers-held _ m
-    (entries-of no-number 32 number-pair Any (map pack-number m) _ _ m refl (sym (length-mapped-numbers m)) (omega (arith, length-mapped-numbers m)) (all-any _) r (pair-out m)) .valid
+    (entries-of 0 32 itself Any (keys m) (values m) _ _ _ m refl refl refl (length-keys m ∙ sym (length-values m)) (omega (arith, length-keys m)) (all-any _) r
+    (ap (zip (keys m)) (map-itself (values m)) ∙ zip-back m)) .valid
 
-entry-valid : (e : ℕ × List ℕ) → length (e .1) ≤ 16 → ValidEntry (pack-entry e)
-entry-valid e h = record { fits = h; packed = ap (pad 0 16) (sym (take-pad 0 16 (e .1) h)) }
+entry-valid : (b : List ℕ) → length b ≤ 16 → ValidEntry (pack-entry b)
+entry-valid b h = record { fits = h; packed = ap (pad 0 16) (sym (take-pad 0 16 b h)) }
 
-entries-valid : (m : List (ℕ × List ℕ)) → all-short m ≡ true → All ValidEntry (map pack-entry m)
-unfolding All all-short
+entries-valid : (m : List (ℕ × List ℕ)) → all-short m ≡ true → All ValidEntry (map pack-entry (values m))
+unfolding All all-short values
 entries-valid [] e = tt
 entries-valid (x ∷ m) e =
-    (entry-valid x (leb-true _ _ (and-left (leb (length (x .1)) 16) _ e)), entries-valid m (and-right (leb (length (x .1)) 16) _ e))
+    (entry-valid (x .1) (leb-true _ _ (and-left (leb (length (x .1)) 16) _ e)), entries-valid m (and-right (leb (length (x .1)) 16) _ e))
 
 data-map-valid : (m : List (ℕ × List ℕ)) → length m ≤ 80 → all-short m ≡ true → Rising (keys m) → ValidDataMap (pack-data-map m)
 unfolding pack-data-map
 data-map-valid m h e r =
     data-held _ m
-    (entries-of no-data 80 data-pair ValidEntry (map pack-entry m) _ _ m refl (sym (length-mapped-data m)) (omega (arith, length-mapped-data m)) (entries-valid m e) r (data-pair-out m e)) .valid
+    (entries-of no-data 80 entry-bytes ValidEntry (keys m) (map pack-entry (values m)) _ _ _ m refl refl (sym (length-keys m)) (length-packed-values m) h (entries-valid m e) r
+    (ap (zip (keys m)) (values-out m e) ∙ zip-back m)) .valid
 
 -- ---- a list that rises and is part of another is no longer
 

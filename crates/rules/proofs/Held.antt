@@ -13,16 +13,16 @@ use denote.Array.{each}
 use denote.Shadow.{shadow}
 use denote.Struct.Field.{u32-field}
 use Rattle.lists.specs.Lists.{rising, choose}
+use Rattle.lists.specs.Maps.{values}
 use Rattle.lists.specs.Tests.{every, All}
 use Rattle.lists.proofs.Choice.{split, and-left, and-right}
 use Rattle.lists.proofs.Tests.{both-true, true-rising}
 use Rattle.util.specs.Set.{items-of}
-use Rattle.peer.specs.declared.DataEntry.{DataEntry}
 use Rattle.peer.specs.declared.PeerData.{PeerData}
 use Rattle.peer.specs.Held.{data-in, ValidData}
-use Rattle.peer.specs.Maps.{data-pair, data-map-in, numbers-in, ValidEntry}
+use Rattle.peer.specs.Maps.{data-map-in, numbers-in}
 use Rattle.peer.proofs.Data.{length-bytes}
-use Rattle.peer.proofs.Maps.{length-entry}
+use Rattle.peer.proofs.Maps.{data-map-short}
 use Rattle.protocol.specs.Rules.{all-under, all-short, short-data, settings-rule, repeats-rule, order-rule, capacity-rule, views-rule, alive-rule, few-rule, joins-rule, numbers-rule, self-rule, room-rule, data-rule, limit-rule, interval-rule, width-rule, rules, station-ok}
 use Rattle.protocol.specs.Rules as R
 use Rattle.protocol.specs.Station.{Station, peers-end, top-counter, top-passes}
@@ -46,16 +46,15 @@ module _ (s : State) (e : packed-ok s ≡ true) where
   room-held =
       let v = ok-shape s e in
       both-true (leb (length (numbers-in (s .«pending_neighbor_requests»))) 32) _
-      (le-leb (length (numbers-in (s .«pending_neighbor_requests»))) 32 (omega (arith, v .requests .counted, v .requests .fits)))
+      (le-leb (length (numbers-in (s .«pending_neighbor_requests»))) 32 (omega (arith, v .requests .counted, v .requests .peers .fits)))
       (both-true (leb (length (items-of (s .refused))) 32) _
       (le-leb (length (items-of (s .refused))) 32 (omega (arith, v .refused .fits, v .refused .counted)))
       (le-leb (length (data-map-in (s .«peer_data»))) 80 (omega (arith, v .peer-data .counted, v .peer-data .fits))))
 
-entries-short : (es : List DataEntry) → All ValidEntry es → all-short (map data-pair es) ≡ true
-unfolding all-short All
-entries-short [] a = refl
-entries-short (x ∷ es) a =
-    both-true (leb (length (take (x .len) (x .bytes))) 16) _ (le-leb (length (take (x .len) (x .bytes))) 16 (omega (arith, length-entry x (a .0), a .0 .fits))) (entries-short es (a .1))
+values-short : (m : List (ℕ × List ℕ)) → All (λ (b : List ℕ). length b ≤ 16) (values m) → all-short m ≡ true
+unfolding all-short All values
+values-short [] a = refl
+values-short (x ∷ m) a = both-true (leb (length (x .1)) 16) _ (le-leb (length (x .1)) 16 (a .0)) (values-short m (a .1))
 
 own-short : (d : PeerData) → ValidData d → short-data (data-in d) ≡ true
 unfolding short-data data-in choose
@@ -64,8 +63,9 @@ own-short d v =
 
 -- its data have at most 16 bytes
 pub data-held : (s : State) → packed-ok s ≡ true → data-rule (unpack s) ≡ true
-unfolding data-rule unpack data-map-in
-data-held s e = both-true (all-short (map data-pair (take (s .«peer_data» .len) (s .«peer_data» .entries)))) _ (entries-short _ (ok-shape s e .peer-data .each)) (own-short _ (ok-shape s e .own-data))
+unfolding data-rule unpack
+data-held s e =
+    both-true (all-short (data-map-in (s .«peer_data»))) _ (values-short _ (data-map-short (s .«peer_data») (ok-shape s e .peer-data))) (own-short _ (ok-shape s e .own-data))
 
 -- ---- the rules together
 

@@ -6,26 +6,29 @@ use mathlib.Core.Bool.{true}
 use mathlib.Core.List.{List, [], _∷_, map}
 use mathlib.Core.Option.{none, some}
 use native.Mathlib.Omega.{arith}
-use lib.ListN.{length, take}
+use lib.ListN.{length, take, length-map}
 use lib.Dec.{leb}
 use borrow.Author.Tests.{leb-true}
 use Rattle.lists.specs.Array.{pad}
 use Rattle.lists.specs.Lists.{choose}
+use Rattle.lists.specs.Maps.{keys, values, zip}
 use Rattle.lists.specs.Tests.{All}
 use Rattle.lists.proofs.Array.{take-pad}
 use Rattle.lists.proofs.Choice.{split, and-left, and-right}
+use Rattle.lists.proofs.Maps.{length-keys}
+use Rattle.lists.proofs.Zip.{zip-back, length-values}
+use Rattle.lists.proofs.Entries.{taken-is, entries-keys, entries-values}
 use Rattle.util.specs.declared.IndexSet.{IndexSet}
 use Rattle.util.specs.Set.{items-of, Valid}
 use Rattle.peer.specs.declared.PeerData.{PeerData}
-use Rattle.peer.specs.declared.NumberEntry.{NumberEntry}
 use Rattle.peer.specs.declared.Numbers.{Numbers}
 use Rattle.peer.specs.declared.DataEntry.{DataEntry}
 use Rattle.peer.specs.declared.DataMap.{DataMap}
 use Rattle.peer.specs.Data.{Data}
 use Rattle.peer.specs.Held.{data-in, ValidData}
-use Rattle.peer.specs.Maps.{number-pair, no-number, numbers-in, ValidNumbers, data-pair, no-data, data-map-in, ValidEntry, ValidDataMap}
+use Rattle.peer.specs.Maps.{numbers-in, ValidNumbers, entry-bytes, no-data, data-map-in, ValidEntry, ValidDataMap}
 use Rattle.peer.proofs.Data.{data-present, data-absent, length-bytes}
-use Rattle.peer.proofs.Maps.{length-entry}
+use Rattle.peer.proofs.Maps.{numbers-keys, numbers-values, data-entries, length-entry}
 use Rattle.protocol.specs.Station.{Station, Refill, automatic, requests-left, recovery}
 use Rattle.protocol.specs.Rules.{short-data, all-short}
 use Rattle.state.specs.declared.RefillLimit.{RefillLimit}
@@ -34,7 +37,7 @@ use Rattle.state.specs.declared.State.{State}
 use Rattle.state.specs.Memory.{own-of, own-kept, limit-of, limit-kept}
 use Rattle.state.specs.Unpack.{refill-in, unpack, PackedState}
 use Rattle.state.proofs.Memory.{bool-back, own-back, limit-back, own-again, timers-again, refill-again}
-use Rattle.rules.specs.Pack.{pack-data, pack-set, pack-number, pack-numbers, pack-entry, pack-data-map, pack-refill, pack, Fits}
+use Rattle.rules.specs.Pack.{pack-data, pack-set, pack-numbers, pack-entry, pack-data-map, pack-refill, pack, Fits}
 use Rattle.rules.specs.Ok.{packed-ok}
 use Rattle.rules.proofs.Shape.{Shape, ok-shape, packed-shape}
 
@@ -53,31 +56,30 @@ data-back d v =
     let z : pad 0 16 [] ≡ d .bytes = ap (λ (n : ℕ). pad 0 16 (take n (d .bytes))) (sym (v .absent t)) ∙ sym (v .packed) in
     ap pack-data (data-absent d t) ∙ (λ i. record { present = sym t i; len = sym (v .absent t) i; bytes = z i }))
 
-number-back : (es : List NumberEntry) → map pack-number (map number-pair es) ≡ es
-number-back [] = refl
-number-back (e ∷ es) = ap (λ (l : List NumberEntry). e ∷ l) (number-back es)
-
 pub numbers-back : (m : Numbers) → ValidNumbers m → pack-numbers (numbers-in m) ≡ m
-unfolding pack-numbers numbers-in
+unfolding pack-numbers
 numbers-back m v =
-    let p : pad no-number 32 (map pack-number (map number-pair (take (m .len) (m .entries)))) ≡ m .entries =
-    ap (pad no-number 32) (number-back (take (m .len) (m .entries))) ∙ sym (v .packed) in
-    λ i. record { entries = p i; len = v .counted i }
+    let p : pack-set (keys (numbers-in m)) ≡ m .peers = ap pack-set (numbers-keys m v) ∙ set-back (m .peers) (v .peers) in
+    let q : pad 0 32 (values (numbers-in m)) ≡ m .numbers = ap (pad 0 32) (numbers-values m v) ∙ sym (v .packed) in
+    λ i. record { peers = p i; numbers = q i }
 
-entry-back : (e : DataEntry) → ValidEntry e → pack-entry (data-pair e) ≡ e
-entry-back e v = λ i. record { peer = e .peer; len = length-entry e v i; bytes = sym (v .packed) i }
+entry-back : (e : DataEntry) → ValidEntry e → pack-entry (entry-bytes e) ≡ e
+entry-back e v = λ i. record { len = length-entry e v i; bytes = sym (v .packed) i }
 
-entries-back : (es : List DataEntry) → All ValidEntry es → map pack-entry (map data-pair es) ≡ es
+entries-back : (es : List DataEntry) → All ValidEntry es → map pack-entry (map entry-bytes es) ≡ es
 unfolding All
 entries-back [] a = refl
 entries-back (e ∷ es) a = λ i. entry-back e (a .0) i ∷ entries-back es (a .1) i
 
 pub data-map-back : (m : DataMap) → ValidDataMap m → pack-data-map (data-map-in m) ≡ m
-unfolding pack-data-map data-map-in
+unfolding pack-data-map
 data-map-back m v =
-    let p : pad no-data 80 (map pack-entry (map data-pair (take (m .len) (m .entries)))) ≡ m .entries =
-    ap (pad no-data 80) (entries-back (take (m .len) (m .entries)) (v .each)) ∙ sym (v .packed) in
-    λ i. record { entries = p i; len = v .counted i }
+    let e = data-entries m v in
+    let p : pad 0 80 (keys (data-map-in m)) ≡ m .peers = ap (pad 0 80) (entries-keys no-data 80 entry-bytes ValidEntry _ _ _ _ e) ∙ sym (v .keyed) in
+    let q : pad no-data 80 (map pack-entry (values (data-map-in m))) ≡ m .entries =
+    ap (λ (l : List (List ℕ)). pad no-data 80 (map pack-entry l)) (entries-values no-data 80 entry-bytes ValidEntry _ _ _ _ e)
+    ∙ ap (pad no-data 80) (entries-back (take (m .len) (m .entries)) (v .each)) ∙ sym (v .packed) in
+    λ i. record { peers = p i; entries = q i; len = v .counted i }
 
 pub refill-back : (l : RefillLimit) → pack-refill (refill-in l) ≡ l
 unfolding pack-refill refill-in
@@ -131,37 +133,31 @@ unfolding data-in pack-data short-data choose
 data-out none e = refl
 data-out (some b) e = ap some (take-pad 0 16 b (leb-true _ _ e))
 
-pub pair-out : (m : List (ℕ × ℕ)) → map number-pair (map pack-number m) ≡ m
-pair-out [] = refl
-pair-out (e ∷ m) = ap (λ (l : List (ℕ × ℕ)). e ∷ l) (pair-out m)
-
-pub length-mapped-numbers : (m : List (ℕ × ℕ)) → length (map pack-number m) ≡ length m
-length-mapped-numbers [] = refl
-length-mapped-numbers (e ∷ m) = rw (length-mapped-numbers m)
-
 pub numbers-out : (m : List (ℕ × ℕ)) → length m ≤ 32 → numbers-in (pack-numbers m) ≡ m
-unfolding numbers-in pack-numbers
+unfolding numbers-in pack-numbers items-of pack-set
 numbers-out m h =
-    ap (λ (n : ℕ). map number-pair (take n (pad no-number 32 (map pack-number m)))) (sym (length-mapped-numbers m))
-    ∙ ap (map number-pair) (take-pad no-number 32 (map pack-number m) (omega (arith, length-mapped-numbers m))) ∙ pair-out m
+    let p = taken-is 0 32 (keys m) (pad 0 32 (keys m)) (length (keys m)) refl refl (omega (arith, length-keys m)) in
+    let q = taken-is 0 32 (values m) (pad 0 32 (values m)) (length (keys m)) refl (length-keys m ∙ sym (length-values m)) (omega (arith, length-keys m)) in
+    (λ i. zip (p i) (q i)) ∙ zip-back m
 
-pub data-pair-out : (m : List (ℕ × List ℕ)) → all-short m ≡ true → map data-pair (map pack-entry m) ≡ m
-unfolding all-short
-data-pair-out [] e = refl
-data-pair-out (x ∷ m) e =
+pub values-out : (m : List (ℕ × List ℕ)) → all-short m ≡ true → map entry-bytes (map pack-entry (values m)) ≡ values m
+unfolding all-short values
+values-out [] e = refl
+values-out (x ∷ m) e =
     let p = take-pad 0 16 (x .1) (leb-true _ _ (and-left (leb (length (x .1)) 16) _ e)) in
-    let q = data-pair-out m (and-right (leb (length (x .1)) 16) _ e) in
-    λ i. (x .0, p i) ∷ q i
+    let q = values-out m (and-right (leb (length (x .1)) 16) _ e) in
+    λ i. p i ∷ q i
 
-pub length-mapped-data : (m : List (ℕ × List ℕ)) → length (map pack-entry m) ≡ length m
-length-mapped-data [] = refl
-length-mapped-data (e ∷ m) = rw (length-mapped-data m)
+pub length-packed-values : (m : List (ℕ × List ℕ)) → length m ≡ length (map pack-entry (values m))
+length-packed-values m = sym (length-map (values m) pack-entry ∙ length-values m)
 
 pub data-map-out : (m : List (ℕ × List ℕ)) → length m ≤ 80 → all-short m ≡ true → data-map-in (pack-data-map m) ≡ m
 unfolding data-map-in pack-data-map
 data-map-out m h e =
-    ap (λ (n : ℕ). map data-pair (take n (pad no-data 80 (map pack-entry m)))) (sym (length-mapped-data m))
-    ∙ ap (map data-pair) (take-pad no-data 80 (map pack-entry m) (omega (arith, length-mapped-data m))) ∙ data-pair-out m e
+    let p = taken-is 0 80 (keys m) (pad 0 80 (keys m)) (length m) refl (sym (length-keys m)) h in
+    let q = taken-is no-data 80 (map pack-entry (values m)) (pad no-data 80 (map pack-entry (values m))) (length m) refl (length-packed-values m) h in
+    let r : map entry-bytes (take (length m) (pad no-data 80 (map pack-entry (values m)))) ≡ values m = ap (map entry-bytes) q ∙ values-out m e in
+    (λ i. zip (p i) (r i)) ∙ zip-back m
 
 pub refill-out : (r : Refill) → refill-in (pack-refill r) ≡ r
 unfolding pack-refill refill-in

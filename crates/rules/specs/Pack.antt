@@ -7,14 +7,14 @@ use mathlib.Core.List.{List, [], map}
 use mathlib.Core.Option.{none, some}
 use lib.ListN.{length}
 use Rattle.lists.specs.Array.{pad}
+use Rattle.lists.specs.Maps.{keys, values}
 use Rattle.util.specs.declared.IndexSet.{IndexSet}
 use Rattle.peer.specs.declared.PeerData.{PeerData}
-use Rattle.peer.specs.declared.NumberEntry.{NumberEntry}
 use Rattle.peer.specs.declared.Numbers.{Numbers}
 use Rattle.peer.specs.declared.DataEntry.{DataEntry}
 use Rattle.peer.specs.declared.DataMap.{DataMap}
 use Rattle.peer.specs.Data.{Data}
-use Rattle.peer.specs.Maps.{no-number, no-data}
+use Rattle.peer.specs.Maps.{no-data}
 use Rattle.protocol.specs.Station.{Station, Refill, automatic, requests-left, recovery}
 use Rattle.protocol.specs.Rules.{short-data, all-short}
 use Rattle.state.specs.declared.RefillLimit.{RefillLimit}
@@ -29,17 +29,14 @@ pack-data (some b) = record { present = true; len = length b; bytes = pad 0 16 b
 unfoldable pub pack-set : List ℕ → IndexSet
 pack-set xs = record { items = pad 0 32 xs; len = length xs }
 
-abbrev pub pack-number : ℕ × ℕ → NumberEntry
-pack-number e = record { peer = e .0; number = e .1 }
-
 unfoldable pub pack-numbers : List (ℕ × ℕ) → Numbers
-pack-numbers m = record { entries = pad no-number 32 (map pack-number m); len = length m }
+pack-numbers m = record { peers = pack-set (keys m); numbers = pad 0 32 (values m) }
 
-abbrev pub pack-entry : ℕ × List ℕ → DataEntry
-pack-entry e = record { peer = e .0; len = length (e .1); bytes = pad 0 16 (e .1) }
+abbrev pub pack-entry : List ℕ → DataEntry
+pack-entry b = record { len = length b; bytes = pad 0 16 b }
 
 unfoldable pub pack-data-map : List (ℕ × List ℕ) → DataMap
-pack-data-map m = record { entries = pad no-data 80 (map pack-entry m); len = length m }
+pack-data-map m = record { peers = pad 0 80 (keys m); entries = pad no-data 80 (map pack-entry (values m)); len = length m }
 
 unfoldable pub pack-refill : Refill → RefillLimit
 pack-refill automatic = Automatic
