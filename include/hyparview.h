@@ -20,25 +20,20 @@ struct hyparview_index_set {
     size_t len;
 };
 
-struct hyparview_number_entry {
-    uint32_t peer;
-    uint64_t number;
-};
-
 /* Numbers by peer, in rising order of the peers, zeroes after them. */
 struct hyparview_numbers {
-    struct hyparview_number_entry entries[32];
-    size_t len;
+    struct hyparview_index_set peers;
+    uint64_t numbers[32];
 };
 
 struct hyparview_data_entry {
-    uint32_t peer;
     uint8_t len;
     uint8_t bytes[16];
 };
 
 /* Data by peer, in rising order of the peers, zeroes after them. */
 struct hyparview_data_map {
+    uint32_t peers[80];
     struct hyparview_data_entry entries[80];
     size_t len;
 };
@@ -175,12 +170,12 @@ struct hyparview_node_reading hyparview_node(const uint8_t *record, size_t len, 
     _Static_assert(offsetof(struct hyparview_controller, field) == offset, "hyparview_controller." #field)
 _Static_assert(sizeof(size_t) == 8 && sizeof(void *) == 8, "a 64-bit machine");
 _Static_assert(sizeof(struct hyparview_index_set) == 136, "hyparview_index_set");
-_Static_assert(sizeof(struct hyparview_numbers) == 520, "hyparview_numbers");
-_Static_assert(sizeof(struct hyparview_data_entry) == 24, "hyparview_data_entry");
-_Static_assert(sizeof(struct hyparview_data_map) == 1928, "hyparview_data_map");
+_Static_assert(sizeof(struct hyparview_numbers) == 392, "hyparview_numbers");
+_Static_assert(sizeof(struct hyparview_data_entry) == 17, "hyparview_data_entry");
+_Static_assert(sizeof(struct hyparview_data_map) == 1688, "hyparview_data_map");
 _Static_assert(sizeof(struct hyparview_config) == 36, "hyparview_config");
 _Static_assert(sizeof(struct hyparview_tally) == 48, "hyparview_tally");
-_Static_assert(sizeof(struct hyparview_controller) == 3936, "hyparview_controller");
+_Static_assert(sizeof(struct hyparview_controller) == 3440, "hyparview_controller");
 _Static_assert(_Alignof(struct hyparview_controller) == 8, "hyparview_controller");
 _Static_assert(sizeof(struct hyparview_done) == 16, "hyparview_done");
 _Static_assert(sizeof(struct hyparview_reading) == 32, "hyparview_reading");
@@ -197,14 +192,14 @@ HYPARVIEW_AT(passes_alone, 480);
 HYPARVIEW_AT(passes_short, 484);
 HYPARVIEW_AT(recent_neighbors, 488);
 HYPARVIEW_AT(pending_neighbor_requests, 624);
-HYPARVIEW_AT(next_neighbor_request, 1144);
-HYPARVIEW_AT(pending_joins, 1152);
-HYPARVIEW_AT(next_join, 1672);
-HYPARVIEW_AT(peer_data, 1680);
-HYPARVIEW_AT(alive_disconnect_peers, 3608);
-HYPARVIEW_AT(refused, 3744);
-HYPARVIEW_AT(refill, 3880);
-HYPARVIEW_AT(tally, 3888);
+HYPARVIEW_AT(next_neighbor_request, 1016);
+HYPARVIEW_AT(pending_joins, 1024);
+HYPARVIEW_AT(next_join, 1416);
+HYPARVIEW_AT(peer_data, 1424);
+HYPARVIEW_AT(alive_disconnect_peers, 3112);
+HYPARVIEW_AT(refused, 3248);
+HYPARVIEW_AT(refill, 3384);
+HYPARVIEW_AT(tally, 3392);
 #undef HYPARVIEW_AT
 
 #endif

@@ -107,11 +107,11 @@ static void put_set(const char *field, const struct hyparview_index_set *s)
 static void put_numbers(const char *field, const struct hyparview_numbers *m)
 {
     put(field);
-    for (size_t i = 0; i < m->len; i++) {
+    for (size_t i = 0; i < m->peers.len; i++) {
         put(i ? "," : "");
-        put_number(m->entries[i].peer);
+        put_number(m->peers.items[i]);
         put(":");
-        put_number(m->entries[i].number);
+        put_number(m->numbers[i]);
     }
     put("]");
 }
@@ -139,7 +139,7 @@ static void put_state(const struct hyparview_controller *c)
     put(" data=[");
     for (size_t i = 0; i < c->peer_data.len; i++) {
         put(i ? "," : "");
-        put_number(c->peer_data.entries[i].peer);
+        put_number(c->peer_data.peers[i]);
         put(":");
         put_hex(c->peer_data.entries[i].bytes, c->peer_data.entries[i].len);
     }
@@ -190,9 +190,9 @@ static void agree(const uint64_t *sent)
                hyparview_spare_addresses(c) == c->passive_view.len;
     for (size_t i = 0; i < c->active_view.len; i++)
         same = same && hyparview_is_neighbor(c, c->active_view.items[i]);
-    for (size_t i = 0; i < c->pending_joins.len; i++)
-        same = same && hyparview_wants_connection(c, c->pending_joins.entries[i].peer) &&
-               !hyparview_is_neighbor(c, c->pending_joins.entries[i].peer);
+    for (size_t i = 0; i < c->pending_joins.peers.len; i++)
+        same = same && hyparview_wants_connection(c, c->pending_joins.peers.items[i]) &&
+               !hyparview_is_neighbor(c, c->pending_joins.peers.items[i]);
     if (!same) {
         fprintf(stderr, "%s:%ld: tally or queries differ\n", name, number);
         exit(1);

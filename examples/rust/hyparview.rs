@@ -12,22 +12,14 @@ pub struct IndexSet {
 
 #[repr(C)]
 #[derive(Clone, Copy)]
-pub struct NumberEntry {
-    pub peer: u32,
-    pub number: u64,
-}
-
-#[repr(C)]
-#[derive(Clone, Copy)]
 pub struct Numbers {
-    pub entries: [NumberEntry; 32],
-    pub len: usize,
+    pub peers: IndexSet,
+    pub numbers: [u64; 32],
 }
 
 #[repr(C)]
 #[derive(Clone, Copy)]
 pub struct DataEntry {
-    pub peer: u32,
     pub len: u8,
     pub bytes: [u8; 16],
 }
@@ -35,6 +27,7 @@ pub struct DataEntry {
 #[repr(C)]
 #[derive(Clone, Copy)]
 pub struct DataMap {
+    pub peers: [u32; 80],
     pub entries: [DataEntry; 80],
     pub len: usize,
 }
@@ -145,9 +138,9 @@ pub struct NodeReading {
 
 // The layout that the library was compiled with.
 const _: () = {
-    assert!(size_of::<Controller>() == 3936 && align_of::<Controller>() == 8);
-    assert!(offset_of!(Controller, config) == 296 && offset_of!(Controller, peer_data) == 1680);
-    assert!(offset_of!(Controller, refill) == 3880 && offset_of!(Controller, tally) == 3888);
+    assert!(size_of::<Controller>() == 3440 && align_of::<Controller>() == 8);
+    assert!(offset_of!(Controller, config) == 296 && offset_of!(Controller, peer_data) == 1424);
+    assert!(offset_of!(Controller, refill) == 3384 && offset_of!(Controller, tally) == 3392);
     assert!(
         size_of::<Done>() == 16 && size_of::<Reading>() == 32 && size_of::<NodeReading>() == 12
     );

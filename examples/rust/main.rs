@@ -97,9 +97,10 @@ fn set(s: &IndexSet) -> String {
 
 fn numbers(m: &Numbers) -> String {
     joined(
-        m.entries[..m.len]
+        m.peers.items[..m.peers.len]
             .iter()
-            .map(|e| format!("{}:{}", e.peer, e.number))
+            .zip(&m.numbers)
+            .map(|(p, n)| format!("{p}:{n}"))
             .collect(),
     )
 }
@@ -111,7 +112,8 @@ fn state(c: &Controller) -> String {
     } else {
         "-".to_string()
     };
-    let data = c.peer_data.entries[..c.peer_data.len].iter();
+    let peers = c.peer_data.peers[..c.peer_data.len].iter();
+    let data = peers.zip(&c.peer_data.entries);
     let refill = match c.refill.kind {
         0 => "A".to_string(),
         1 => format!("R{}", c.refill.requests),
@@ -127,7 +129,7 @@ fn state(c: &Controller) -> String {
         c.next_neighbor_request,
         numbers(&c.pending_joins),
         c.next_join,
-        joined(data.map(|e| format!("{}:{}", e.peer, hex(&e.bytes[..e.len as usize]))).collect()),
+        joined(data.map(|(p, e)| format!("{p}:{}", hex(&e.bytes[..e.len as usize]))).collect()),
         set(&c.alive_disconnect_peers),
         set(&c.refused),
         c.timers_scheduled,
@@ -139,16 +141,16 @@ fn state(c: &Controller) -> String {
 
 /// Whether the tally and the queries say what the records and the state say.
 fn agrees(c: &Controller, t: &Tally) -> bool {
-    let joins = &c.pending_joins.entries[..c.pending_joins.len];
+    let joins = &c.pending_joins.peers;
     c.tally == *t
         && c.neighbors() == c.active_view
         && c.spare_addresses() == c.passive_view.len
         && c.active_view.items[..c.active_view.len]
             .iter()
             .all(|p| c.is_neighbor(*p))
-        && joins
+        && joins.items[..joins.len]
             .iter()
-            .all(|e| c.wants_connection(e.peer) && !c.is_neighbor(e.peer))
+            .all(|p| c.wants_connection(*p) && !c.is_neighbor(*p))
 }
 
 fn raise(t: &mut Tally, message: u8) {

@@ -100,16 +100,17 @@ fn put_peers(out: &mut [u8], t: Text, s: IndexSet) -> Text {
 }
 
 fn put_numbers(out: &mut [u8], t: Text, m: Numbers) -> Text {
-    let entries = m.entries;
-    let n = least(m.len, 32);
+    let peers = m.peers;
+    let items = peers.items;
+    let numbers = m.numbers;
+    let n = least(peers.len, 32);
     let mut r = t;
     let mut i: usize = 0;
     while i < n {
-        let e = entries[i];
         r = put_comma(out, r, i);
-        r = put_decimal(out, r, e.peer as u64);
+        r = put_decimal(out, r, items[i] as u64);
         r = put(out, r, b':');
-        r = put_decimal(out, r, e.number);
+        r = put_decimal(out, r, numbers[i]);
         i += 1;
     }
     r
@@ -121,22 +122,24 @@ fn put_data(out: &mut [u8], t: Text, bytes: &[u8], n: u8) -> Text {
     put_hex(out, t, &bytes[..k])
 }
 
-fn put_entry(out: &mut [u8], t: Text, e: DataEntry) -> Text {
+fn put_entry(out: &mut [u8], t: Text, peer: u32, e: DataEntry) -> Text {
     let bytes = e.bytes;
-    let a = put_decimal(out, t, e.peer as u64);
+    let a = put_decimal(out, t, peer as u64);
     let b = put(out, a, b':');
     put_data(out, b, &bytes, e.len)
 }
 
 fn put_data_map(out: &mut [u8], t: Text, m: DataMap) -> Text {
+    let peers = m.peers;
     let entries = m.entries;
     let n = least(m.len, 80);
     let mut r = t;
     let mut i: usize = 0;
     while i < n {
+        let p = peers[i];
         let e = entries[i];
         r = put_comma(out, r, i);
-        r = put_entry(out, r, e);
+        r = put_entry(out, r, p, e);
         i += 1;
     }
     r

@@ -6,16 +6,22 @@ use Rattle.trace_text.proofs.put_data_map.Statement.{statement}
 use Rattle.trace_text.proofs.put_data_map.Tie as tie
 
 abbrev Inv-loop : tie.InvT-loop
-Inv-loop out₀ entries n r₀ i₀ out r i = (length out ≡ length out₀) × (i ≤ n) × (n ≤ 80)
+Inv-loop out₀ peers entries n r₀ i₀ out r i = (length out ≡ length out₀) × (i ≤ n) × (n ≤ 80)
 
 abbrev μ-loop : tie.MeasureT-loop
-μ-loop out₀ entries n r₀ i₀ out r i = n - i
+μ-loop out₀ peers entries n r₀ i₀ out r i = n - i
 
 least-requires : tie.Need-least-requires Inv-loop μ-loop
 least-requires c κs = search needs
 
 loop-holds : tie.Need-loop-holds Inv-loop μ-loop
 loop-holds c = search needs
+
+mul-p : tie.Need-mul-p Inv-loop μ-loop
+mul-p c = search needs
+
+array-read-p : tie.Need-array-read-p Inv-loop μ-loop
+array-read-p c = search needs
 
 mul-e : tie.Need-mul-e Inv-loop μ-loop
 mul-e c = search needs
@@ -52,6 +58,8 @@ put-data-map-spec =
     μ-loop
     least-requires
     loop-holds
+    mul-p
+    array-read-p
     mul-e
     array-copy-out-e
     put-comma-requires

@@ -6,10 +6,10 @@ use Rattle.trace_text.proofs.put_numbers.Statement.{statement}
 use Rattle.trace_text.proofs.put_numbers.Tie as tie
 
 abbrev Inv-loop : tie.InvT-loop
-Inv-loop out₀ entries n r₀ i₀ out r i = (length out ≡ length out₀) × (i ≤ n) × (n ≤ 32)
+Inv-loop out₀ items numbers n r₀ i₀ out r i = (length out ≡ length out₀) × (i ≤ n) × (n ≤ 32)
 
 abbrev μ-loop : tie.MeasureT-loop
-μ-loop out₀ entries n r₀ i₀ out r i = n - i
+μ-loop out₀ items numbers n r₀ i₀ out r i = n - i
 
 least-requires : tie.Need-least-requires Inv-loop μ-loop
 least-requires c κs = search needs
@@ -17,14 +17,14 @@ least-requires c κs = search needs
 loop-holds : tie.Need-loop-holds Inv-loop μ-loop
 loop-holds c = search needs
 
-mul-e : tie.Need-mul-e Inv-loop μ-loop
-mul-e c = search needs
-
-array-copy-out-e : tie.Need-array-copy-out-e Inv-loop μ-loop
-array-copy-out-e c = search needs
-
 put-comma-requires : tie.Need-put-comma-requires Inv-loop μ-loop
 put-comma-requires c κs = search needs
+
+mul-put-decimal : tie.Need-mul-put-decimal Inv-loop μ-loop
+mul-put-decimal c = search needs
+
+array-read-put-decimal : tie.Need-array-read-put-decimal Inv-loop μ-loop
+array-read-put-decimal c = search needs
 
 cast-put-decimal : tie.Need-cast-put-decimal Inv-loop μ-loop
 cast-put-decimal c = search needs
@@ -34,6 +34,12 @@ put-decimal-requires c κs = search needs
 
 put-requires : tie.Need-put-requires Inv-loop μ-loop
 put-requires c κs = search needs
+
+mul-put-decimal-2 : tie.Need-mul-put-decimal-2 Inv-loop μ-loop
+mul-put-decimal-2 c = search needs
+
+array-read-put-decimal-2 : tie.Need-array-read-put-decimal-2 Inv-loop μ-loop
+array-read-put-decimal-2 c = search needs
 
 put-decimal-requires-2 : tie.Need-put-decimal-requires-2 Inv-loop μ-loop
 put-decimal-requires-2 c κs = search needs
@@ -61,12 +67,14 @@ put-numbers-spec =
     μ-loop
     least-requires
     loop-holds
-    mul-e
-    array-copy-out-e
     put-comma-requires
+    mul-put-decimal
+    array-read-put-decimal
     cast-put-decimal
     put-decimal-requires
     put-requires
+    mul-put-decimal-2
+    array-read-put-decimal-2
     put-decimal-requires-2
     add-i
     loop-less
