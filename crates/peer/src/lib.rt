@@ -65,19 +65,6 @@ fn zero_from(bytes: [u8; 16], n: usize) -> bool
     ok
 }
 
-// Whether all bytes are zero, with no early exit as in `zero_from`.
-fn all_zero(bytes: [u8; 16]) -> bool
-    ensures { λ r. ⌜ r ≡ every zero-byte bytes ⌝ }
-{
-    let mut ok = true;
-    let mut i: usize = 0;
-    while i < 16 {
-        ok = ok & (bytes[i] == 0);
-        i += 1;
-    }
-    ok
-}
-
 impl PeerData {
     pub fn absent() -> PeerData
         ensures { λ r. ⌜ HoldsData r none ⌝ }
@@ -383,7 +370,7 @@ impl DataEntry {
             return false;
         }
         let bytes = self.bytes;
-        all_zero(bytes)
+        zero_from(bytes, 0)
     }
 }
 
