@@ -9,9 +9,8 @@ use Rattle.rules.specs.declared.Made.{Made}
 use Rattle.hyparview.specs.declared.Answer.{Answer}
 use Rattle.hyparview.specs.Handled as hyparview
 use Rattle.controller.specs.declared.Controller.{Controller}
-use Rattle.controller.specs.declared.Begun.{Begun}
 use Rattle.controller.specs.declared.Stepped.{Stepped}
-use Rattle.controller.specs.Calls.{Outcome, no-messages, begun, after, answered, stepped}
+use Rattle.controller.specs.Calls.{no-messages, begun, after, answered, stepped}
 
 pub after-by : (t t′ : Tally) (a : Answer) (out : List ℕ) → t′ ≡ raised (a .code) out t
     → record { controller = record { state = a .state; tally = t′ }; done = record { code = a .code; draws = a .draws } } ≡ after t a out

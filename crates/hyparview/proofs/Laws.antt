@@ -7,7 +7,6 @@ use native.Mathlib.Omega.{arith}
 use lib.ListN.{length, take, drop, set, replicate, length-set, length-replicate, replicate-append-replicate, drop-of-length-le}
 use Rattle.lists.specs.Bytes.{overwrite}
 use Rattle.lists.proofs.Bytes.{overwrite-append, overwrite-is}
-use mathlib.Core.Bool.{Bool, true, false}
 use borrow.Author.Tests.{eq-eqb, ne-eqb}
 use Rattle.lists.proofs.Choice.{choose-yes, choose-no}
 use Rattle.protocol.specs.Run.{on}

@@ -43,7 +43,7 @@ pub struct Limit {
     pub requests: u8,
 }
 
-// The Rust's `State`; deques and hash sets are `IndexSet`s too, hash sets in rising order. In integers alone, so that whatever bytes a caller's memory has are a value.
+// The Rust's `State` in integers alone, so that whatever bytes a caller's memory has are a value; deques and hash sets are `IndexSet`s too, hash sets in rising order.
 #[repr(C)]
 pub struct State {
     pub me: u32,
