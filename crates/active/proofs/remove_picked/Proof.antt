@@ -20,7 +20,7 @@ same-length : tie.Need-same-length
 same-length c = search needs
 
 returns : tie.Need-returns
-returns c = search picked-removed
+returns c = search (picked-removed, c .before .before .before .before .before .before .before .before .before .before .before .pre .0)
 
 pub remove-picked-spec : {M : Type 1} → statement M
 remove-picked-spec = tie.close (tie.spec draw-at-requires pick-requires draw-requires remove-random-by-index-requires same-length returns)
