@@ -7,7 +7,7 @@ use mathlib.Core.Bool.{true}
 use mathlib.Core.Option.{none}
 use lib.ListN.{length, replicate}
 use Rattle.timing.specs.Timing.{default}
-use Rattle.history.specs.Calls.{Call}
+use Rattle.history.specs.Calls.{Call, definition}
 use Rattle.history.specs.Followed.{followed}
 use Rattle.history.specs.Rejoin.{Tick, is-tick, ticks, all-alone}
 use Rattle.protocol.specs.Handle.{new}
@@ -36,7 +36,7 @@ maintenance = record {
 }
 
 unfoldable pub cut-off : List Tick
-cut-off = ticks (the-listing ∷ replicate 12 maintenance) (new 1 none default .state)
+cut-off = ticks definition (λ s. s) (the-listing ∷ replicate 12 maintenance) (new 1 none default .state)
 
 pub twelve-ticks : length cut-off ≡ 12
 unfolding followed the-listing maintenance cut-off ticks is-tick

@@ -28,7 +28,7 @@ use Rattle.protocol.proofs.Reading.{Readable, by-reading}
 use Rattle.protocol.proofs.Whole.{Pays, Between, at-start, ok-steps}
 use Rattle.protocol.proofs.Tested.{ranges-of, data-true, distinct-yes, rules-of}
 use Rattle.history.specs.Ledger.{Ledger, empty-ledger, kind-in, message-in, message-number, number-of, open-event, feed}
-use Rattle.history.specs.Calls.{Call, answer, state-after, codes, ledger-after}
+use Rattle.history.specs.Calls.{Call, answer, answered, state-after, codes, ledger-after, definition}
 use Rattle.history.specs.Demand.{Views, Booked, Demand3, Demand3-holds}
 use Rattle.history.proofs.Heard.{booked, heard}
 
@@ -103,19 +103,19 @@ module _ {c : Config} {me : ℕ} {l : Ledger} {s : Station} (h : Kept c me l s) 
 
 module _ {c : Config} {me : ℕ} (ranges : in-range c ≡ true) where
   pub fine-answer : {l : Ledger} {s : Station} (v : Call) → Kept c me l s → Fine c me (v .event) l (answer v s)
-  unfolding answer handle handle-reading
+  unfolding answered handle handle-reading
   fine-answer {l} {s} v h =
       let room = length (v .output) in
       rw (choose-yes (station-ok s) (handle-reading (read-event (v .event)) s (v .draws) room) (refusal 2 s room) (rules-of s ranges h))
       (by-reading (v .event) (v .are-bytes) (λ (x : Reading). Fine c me (v .event) l (handle-reading x s (v .draws) room))
       (λ n i j. fine-refusal h (v .event) n room i) (λ w. fine-event h (v .event) (v .draws) room w))
 
-  pub kept-after : (vs : List Call) {l : Ledger} {s : Station} → Kept c me l s → Kept c me (ledger-after (c .«active_view_capacity») vs s l) (state-after vs s)
+  pub kept-after : (vs : List Call) {l : Ledger} {s : Station} → Kept c me l s → Kept c me (ledger-after definition (c .«active_view_capacity») vs s l) (state-after definition vs s)
   unfolding state-after ledger-after
   kept-after [] h = h
   kept-after (v ∷ vs) h = kept-after vs (fine-answer v h .kept)
 
-  none-two : (vs : List Call) {l : Ledger} {s : Station} → Kept c me l s → count 2 (codes vs s) ≡ 0
+  none-two : (vs : List Call) {l : Ledger} {s : Station} → Kept c me l s → count 2 (codes definition vs s) ≡ 0
   unfolding codes count
   none-two [] h = refl
   none-two (v ∷ vs) {s = s} h =
@@ -214,7 +214,7 @@ demand-3 me d c z vs =
     let e : new me d c .state ≡ new-station me d c = ap (λ (m : Made). m .state) (choose-yes (in-range c && short-data d) _ _ t) in
     let k = kept-new me d c r (and-right (in-range c) (short-data d) t) in
     let h = kept-after r vs k in
-    subst (λ (s : Station). Demand3 me c s vs) (sym e) (record {
+    subst (λ (s : Station). Demand3 definition (λ x. x) station-ok me c s vs) (sym e) (record {
       none-is-two = mem-no 2 _ (none-two r vs k);
       rules-hold = rules-of _ r h;
       views = views-of h;

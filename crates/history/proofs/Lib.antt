@@ -4,3 +4,4 @@ pub mod Kept
 pub mod Numbers
 pub mod Ticks
 pub mod Rejoined
+pub mod Packing

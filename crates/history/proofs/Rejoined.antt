@@ -20,7 +20,7 @@ use Rattle.protocol.proofs.Reading.{Readable, by-reading}
 use Rattle.protocol.proofs.Whole.{ok-steps}
 use Rattle.protocol.proofs.Tested.{rules-of}
 use Rattle.history.specs.Ledger.{Ledger, kind-in, number-of}
-use Rattle.history.specs.Calls.{Call, answer}
+use Rattle.history.specs.Calls.{Call, answer, answered, definition}
 use Rattle.history.specs.Rejoin.{Tick, is-tick, ticks, all-alone, joins-to, Rejoins, Some, here, later, Rejoin-promise}
 use Rattle.history.proofs.Kept.{Kept, pays, fine-answer, kept-new, accepted-new}
 use Rattle.history.proofs.Ticks.{Begins, tick-counts, tick-rejoins}
@@ -69,7 +69,7 @@ module _ {c : Config} {me : ℕ} {l : Ledger} {s : Station} (h : Kept c me l s) 
       (λ z. passed-refusal b s (r .code) (r .room) (eqb-false (r .code) 0 z))
 
 passed : {c : Config} {me : ℕ} {l : Ledger} {s : Station} → in-range c ≡ true → Kept c me l s → (v : Call) → Passed (v .event) s (answer v s)
-unfolding answer handle handle-reading
+unfolding answered handle handle-reading
 passed {s = s} ranges h v =
     let room = length (v .output) in
     rw (choose-yes (station-ok s) (handle-reading (read-event (v .event)) s (v .draws) room) (refusal 2 s room) (rules-of s ranges h))
@@ -89,15 +89,15 @@ Chained (t ∷ ts) =
     × ((knows-none (t .met) ≡ true → backoff-due (t .met .passes-alone + 1) ≡ true → Rejoins t) × Chained ts)
 
 module _ {c : Config} {me : ℕ} (ranges : in-range c ≡ true) where
-  chained : (vs : List Call) {l : Ledger} {s : Station} → Kept c me l s → Next (s .passes-alone) (ticks vs s) × Chained (ticks vs s)
+  chained : (vs : List Call) {l : Ledger} {s : Station} → Kept c me l s → Next (s .passes-alone) (ticks definition (λ x. x) vs s) × Chained (ticks definition (λ x. x) vs s)
   unfolding ticks is-tick Next Chained
   chained [] h = (tt, tt)
   chained (v ∷ vs) {s = s} h =
       let p = passed ranges h v in
       let i = chained vs (fine-answer ranges v h .kept) in
       by-choice (λ ts. Next (s .passes-alone) ts × Chained ts) (eqb (kind-in (v .event)) 2 && eqb (answer v s .code) 0)
-      (λ t. (refl, ((λ alone. subst (λ (n : ℕ). Next n (ticks vs (answer v s .state))) (p .counts t alone) (i .0)), ((λ alone due. p .rejoins t alone due), i .1))))
-      (λ t. (subst (λ (n : ℕ). Next n (ticks vs (answer v s .state))) (p .quiet t) (i .0), i .1))
+      (λ t. (refl, ((λ alone. subst (λ (n : ℕ). Next n (ticks definition (λ x. x) vs (answer v s .state))) (p .counts t alone) (i .0)), ((λ alone due. p .rejoins t alone due), i .1))))
+      (λ t. (subst (λ (n : ℕ). Next n (ticks definition (λ x. x) vs (answer v s .state))) (p .quiet t) (i .0), i .1))
 
 drop-before : (before ts : List Tick) → Chained (before ++ ts) → Chained ts
 unfolding Chained
@@ -128,6 +128,6 @@ rejoin-promise me d c z vs before twelve after e l a =
     let r = and-left (in-range c) (short-data d) t in
     let k = kept-new me d c r (and-right (in-range c) (short-data d) t) in
     let q : new me d c .state ≡ new-station me d c = ap (λ (m : Made). m .state) (choose-yes (in-range c && short-data d) _ _ t) in
-    let all : Chained (before ++ (twelve ++ after)) = subst Chained e (subst (λ (s : Station). Chained (ticks vs s)) (sym q) (chained r vs k .1)) in
+    let all : Chained (before ++ (twelve ++ after)) = subst Chained e (subst (λ (s : Station). Chained (ticks definition (λ x. x) vs s)) (sym q) (chained r vs k .1)) in
     let n = first-met twelve after (omega arith) in
     find (11 - n .0 % 12) (n .0) twelve after (omega arith) a (n .1) (drop-before before (twelve ++ after) all) (due-at (n .0))

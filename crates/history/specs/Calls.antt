@@ -1,4 +1,5 @@
 -- A station's history: a list of calls, each meeting the state that the one before it handed back.
+-- It is said of any machine that is called; the definition is one, and the program another.
 -- Assumes nothing.
 use Prim.Native.Nat.{ℕ}
 use mathlib.Core.Bool.{true}
@@ -17,21 +18,49 @@ pub record Call : Type 0 where
   pub draws : List ℕ
   pub output : List ℕ
 
-unfoldable pub answer : Call → Station → Answer
-answer v s = handle s (v .event) (v .draws) (length (v .output))
+-- what a call comes to at a state of the type S, of an event, draws and an output: the code, the state handed back, the draws used, and the output as the call left it
+pub record Machine (S : Type 0) : Type 0 where
+  pub code : List ℕ → List ℕ → List ℕ → S → ℕ
+  pub state : List ℕ → List ℕ → List ℕ → S → S
+  pub used : List ℕ → List ℕ → List ℕ → S → ℕ
+  pub output : List ℕ → List ℕ → List ℕ → S → List ℕ
+
+abbrev pub code-of : {S : Type 0} → Machine S → Call → S → ℕ
+code-of m v s = m .code (v .event) (v .draws) (v .output) s
+
+abbrev pub state-of : {S : Type 0} → Machine S → Call → S → S
+state-of m v s = m .state (v .event) (v .draws) (v .output) s
+
+abbrev pub output-of : {S : Type 0} → Machine S → Call → S → List ℕ
+output-of m v s = m .output (v .event) (v .draws) (v .output) s
 
 -- the state that the last call handed back
-unfoldable pub state-after : List Call → Station → Station
-state-after [] s = s
-state-after (v ∷ vs) s = state-after vs (answer v s .state)
+unfoldable pub state-after : {S : Type 0} → Machine S → List Call → S → S
+state-after m [] s = s
+state-after m (v ∷ vs) s = state-after m vs (state-of m v s)
 
 -- the code of each call
-unfoldable pub codes : List Call → Station → List ℕ
-codes [] s = []
-codes (v ∷ vs) s = answer v s .code ∷ codes vs (answer v s .state)
+unfoldable pub codes : {S : Type 0} → Machine S → List Call → S → List ℕ
+codes m [] s = []
+codes m (v ∷ vs) s = code-of m v s ∷ codes m vs (state-of m v s)
 
--- the ledger, which knows the active capacity a
-unfoldable pub ledger-after : ℕ → List Call → Station → Ledger → Ledger
-ledger-after a [] s l = l
-ledger-after a (v ∷ vs) s l =
-    ledger-after a vs (answer v s .state) (feed a (v .event) (answer v s .code) (answer v s .output) l)
+-- the ledger, which knows the active capacity a, and is fed with each event, its code and its output
+unfoldable pub ledger-after : {S : Type 0} → Machine S → ℕ → List Call → S → Ledger → Ledger
+ledger-after m a [] s l = l
+ledger-after m a (v ∷ vs) s l = ledger-after m a vs (state-of m v s) (feed a (v .event) (code-of m v s) (output-of m v s) l)
+
+-- the definition's answer
+unfoldable pub answered : List ℕ → List ℕ → List ℕ → Station → Answer
+answered b ds out s = handle s b ds (length out)
+
+abbrev pub answer : Call → Station → Answer
+answer v s = answered (v .event) (v .draws) (v .output) s
+
+-- the definition as a machine
+abbrev pub definition : Machine Station
+definition = record {
+  code = λ b ds out s. answered b ds out s .code;
+  state = λ b ds out s. answered b ds out s .state;
+  used = λ b ds out s. answered b ds out s .used;
+  output = λ b ds out s. answered b ds out s .output;
+}

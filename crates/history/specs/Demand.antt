@@ -1,7 +1,7 @@
 -- Demand 3, sentence by sentence, for a list of calls to a new station.
 -- Assumes nothing.
 use Prim.Native.Nat.{ℕ, _+_, _*_, _≤_}
-use mathlib.Core.Bool.{true, false}
+use mathlib.Core.Bool.{Bool, true, false}
 use mathlib.Core.List.{List}
 use mathlib.Core.Path.{_≡_}
 use lib.ListN.{length}
@@ -13,7 +13,7 @@ use Rattle.protocol.specs.Station.{Station}
 use Rattle.protocol.specs.Rules.{station-ok}
 use Rattle.protocol.specs.Handle.{new}
 use Rattle.history.specs.Ledger.{Ledger, empty-ledger}
-use Rattle.history.specs.Calls.{Call, state-after, codes, ledger-after}
+use Rattle.history.specs.Calls.{Call, Machine, state-after, codes, ledger-after, definition}
 
 -- of the state s that the list left, for a station `me` with settings c
 pub record Views (me : ℕ) (c : Config) (s : Station) : Type 0 where
@@ -40,15 +40,15 @@ pub record Booked (s : Station) (l : Ledger) : Type 0 where
   pub allowed : l .sent + 2 * length (l .up) ≤ l .allowance
   pub allowed-held : l .sent + 2 * length (s .active) ≤ l .allowance
 
--- demand 3 of the calls vs, from the station that `new` answered
-pub record Demand3 (me : ℕ) (c : Config) (s : Station) (vs : List Call) : Type 0 where
+-- demand 3 of the calls vs to the machine m, from a state s that stands for a station, as all its states do; `ok` is the test of every station rule
+pub record Demand3 {S : Type 0} (m : Machine S) (station : S → Station) (ok : S → Bool) (me : ℕ) (c : Config) (s : S) (vs : List Call) : Type 0 where
   -- "no event in it was answered 2"
-  pub none-is-two : mem 2 (codes vs s) ≡ false
+  pub none-is-two : mem 2 (codes m vs s) ≡ false
   -- "Every station rule holds after the list"
-  pub rules-hold : station-ok (state-after vs s) ≡ true
-  pub views : Views me c (state-after vs s)
-  pub booked : Booked (state-after vs s) (ledger-after (c .«active_view_capacity») vs s empty-ledger)
+  pub rules-hold : ok (state-after m vs s) ≡ true
+  pub views : Views me c (station (state-after m vs s))
+  pub booked : Booked (station (state-after m vs s)) (ledger-after m (c .«active_view_capacity») vs s empty-ledger)
 
 -- "For every list of events brought to a new station": one that `new` answered with code 0
 abbrev pub Demand3-holds : Type 0
-Demand3-holds = (me : ℕ) (d : Data) (c : Config) → new me d c .code ≡ 0 → (vs : List Call) → Demand3 me c (new me d c .state) vs
+Demand3-holds = (me : ℕ) (d : Data) (c : Config) → new me d c .code ≡ 0 → (vs : List Call) → Demand3 definition (λ s. s) station-ok me c (new me d c .state) vs

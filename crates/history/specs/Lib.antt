@@ -3,3 +3,4 @@ pub mod Calls
 pub mod Demand
 pub mod Followed
 pub mod Rejoin
+pub mod Packing

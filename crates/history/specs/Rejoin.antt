@@ -15,21 +15,21 @@ use Rattle.protocol.specs.Sending.{join-to}
 use Rattle.protocol.specs.Timers.{knows-none}
 use Rattle.protocol.specs.Handle.{new}
 use Rattle.history.specs.Ledger.{kind-in}
-use Rattle.history.specs.Calls.{Call, answer}
+use Rattle.history.specs.Calls.{Call, Machine, code-of, state-of, output-of, definition}
 
 -- an accepted maintenance timer: the state that it met, and the output that it left
 pub record Tick : Type 0 where
   pub met : Station
   pub output : List ℕ
 
-unfoldable pub is-tick : Call → Station → Bool
-is-tick v s = eqb (kind-in (v .event)) 2 && eqb (answer v s .code) 0
+unfoldable pub is-tick : {S : Type 0} → Machine S → Call → S → Bool
+is-tick m v s = eqb (kind-in (v .event)) 2 && eqb (code-of m v s) 0
 
--- the accepted maintenance timers among the calls, in order
-unfoldable pub ticks : List Call → Station → List Tick
-ticks [] s = []
-ticks (v ∷ vs) s =
-    choose (is-tick v s) (record { met = s; output = answer v s .output } ∷ ticks vs (answer v s .state)) (ticks vs (answer v s .state))
+-- the accepted maintenance timers among the calls to a machine, in order; each state of it stands for a station
+unfoldable pub ticks : {S : Type 0} → Machine S → (S → Station) → List Call → S → List Tick
+ticks m station [] s = []
+ticks m station (v ∷ vs) s =
+    choose (is-tick m v s) (record { met = station s; output = output-of m v s } ∷ ticks m station vs (state-of m v s)) (ticks m station vs (state-of m v s))
 
 -- all of them met a station with both views empty
 unfoldable pub all-alone : List Tick → Bool
@@ -53,7 +53,8 @@ pub data Some (X : Tick → Type 0) : List Tick → Type 0 where
 
 -- Among any 12 successive accepted maintenance timers of a history that all met a station with both views empty, at least one sends a
 -- Join to every bootstrap peer then held. Other events, and maintenance timers that are refused, may stand between them.
+abbrev pub Promised : List Tick → Type 0
+Promised ts = (before twelve after : List Tick) → ts ≡ before ++ (twelve ++ after) → length twelve ≡ 12 → all-alone twelve ≡ true → Some Rejoins twelve
+
 abbrev pub Rejoin-promise : Type 0
-Rejoin-promise =
-    (me : ℕ) (d : Data) (c : Config) → new me d c .code ≡ 0 → (vs : List Call) (before twelve after : List Tick)
-    → ticks vs (new me d c .state) ≡ before ++ (twelve ++ after) → length twelve ≡ 12 → all-alone twelve ≡ true → Some Rejoins twelve
+Rejoin-promise = (me : ℕ) (d : Data) (c : Config) → new me d c .code ≡ 0 → (vs : List Call) → Promised (ticks definition (λ s. s) vs (new me d c .state))
