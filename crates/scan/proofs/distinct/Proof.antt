@@ -1,0 +1,82 @@
+use mathlib.Core.Logic.{⊎-elim}
+use Rattle.scan.proofs.Marked.{Marking, mark-start, mark-new, mark-twice, mark-once, mark-end}
+use borrow.Author.Needs.{needs}
+use Rattle.scan.proofs.distinct.Statement.{statement}
+use Rattle.scan.proofs.distinct.Tie as tie
+
+abbrev Inv-loop : tie.InvT-loop
+Inv-loop s seen₀ i₀ seen i = Marking s seen i
+
+abbrev μ-loop : tie.MeasureT-loop
+μ-loop s seen₀ i₀ seen i = i
+
+loop-holds : tie.Need-loop-holds Inv-loop μ-loop
+loop-holds c = search (mark-start, needs)
+
+sub-x : tie.Need-sub-x Inv-loop μ-loop
+sub-x c = search needs
+
+mul-x : tie.Need-mul-x Inv-loop μ-loop
+mul-x c = search needs
+
+shared-slice-read-x : tie.Need-shared-slice-read-x Inv-loop μ-loop
+shared-slice-read-x c = search needs
+
+array-read-if1 : tie.Need-array-read-if1 Inv-loop μ-loop
+array-read-if1 c = search needs
+
+mul-contains : tie.Need-mul-contains Inv-loop μ-loop
+mul-contains c = search needs
+
+sub-contains : tie.Need-sub-contains Inv-loop μ-loop
+sub-contains c = search needs
+
+part-contains-start : tie.Need-part-contains-start Inv-loop μ-loop
+part-contains-start c = search needs
+
+part-contains-end : tie.Need-part-contains-end Inv-loop μ-loop
+part-contains-end c = search needs
+
+contains-requires : tie.Need-contains-requires Inv-loop μ-loop
+contains-requires c κs = search needs
+
+returns : tie.Need-returns Inv-loop μ-loop
+returns c = search mark-twice
+
+array-write-seen : tie.Need-array-write-seen Inv-loop μ-loop
+array-write-seen c = search needs
+
+sub-i : tie.Need-sub-i Inv-loop μ-loop
+sub-i c = search needs
+
+loop-less : tie.Need-loop-less Inv-loop μ-loop
+loop-less c = search needs
+
+loop-again : tie.Need-loop-again Inv-loop μ-loop
+loop-again c = ⊎-elim (λ w. search mark-once) (λ w. search mark-new) (c .if1 .came)
+
+returns-2 : tie.Need-returns-2 Inv-loop μ-loop
+returns-2 c = search mark-end
+
+pub distinct-spec : {M : Type 1} → statement M
+distinct-spec =
+    tie.close
+    (tie.spec
+    Inv-loop
+    μ-loop
+    loop-holds
+    sub-x
+    mul-x
+    shared-slice-read-x
+    array-read-if1
+    mul-contains
+    sub-contains
+    part-contains-start
+    part-contains-end
+    contains-requires
+    returns
+    array-write-seen
+    sub-i
+    loop-less
+    loop-again
+    returns-2)

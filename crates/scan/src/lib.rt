@@ -1,0 +1,146 @@
+// Tests of a whole list of 64-bit words that is lent. A loop looks at every word, so that the compiler makes vector code; only `disjoint` and `distinct` stop
+// early, where they have looked far.
+ghost use mathlib.Core.Path.{_≡_};
+ghost use mathlib.Core.Bool.{true};
+ghost use lib.ListN.{length};
+ghost use Rattle.lists.specs.Lists.{mem, distinct, rising, subset, disjoint};
+ghost use Rattle.lists.specs.Tests.{every};
+ghost use Rattle.scan.specs.Words.{unused, marked};
+
+// Whether every word is zero.
+pub fn no_bits(s: &[u64]) -> bool
+    ensures { λ r. ⌜ r ≡ every unused (now (s .entry)) ⌝ }
+{
+    let mut bits: u64 = 0;
+    let mut i: usize = 0;
+    while i < s.len() {
+        bits = bits | s[i];
+        i += 1;
+    }
+    bits == 0
+}
+
+// Whether x is one of the words.
+pub fn contains(s: &[u64], x: u64) -> bool
+    ensures { λ r. ⌜ r ≡ mem x (now (s .entry)) ⌝ }
+{
+    let mut hit = false;
+    let mut i: usize = 0;
+    while i < s.len() {
+        hit = hit | (x == s[i]);
+        i += 1;
+    }
+    hit
+}
+
+// Whether each word is below the next.
+pub fn rising(s: &[u64]) -> bool
+    ensures { λ r. ⌜ r ≡ rising (now (s .entry)) ⌝ }
+{
+    let mut ok = true;
+    let mut i: usize = 1;
+    while i < s.len() {
+        ok = ok & (s[i - 1] < s[i]);
+        i += 1;
+    }
+    ok
+}
+
+// Whether x is one of the words; h is a place to look at first, whatever it is.
+fn found(s: &[u64], h: usize, x: u64) -> bool
+    ensures { λ r. ⌜ r ≡ mem x (now (s .entry)) ⌝ }
+{
+    if h < s.len() {
+        if x == s[h] {
+            return true;
+        }
+    }
+    contains(s, x)
+}
+
+fn wide(x: u8) -> usize {
+    x as usize
+}
+
+// At the low byte of each word its place.
+fn note_places(s: &[u64], hints: &mut [u8])
+    requires { ⌜ length (now hints) ≡ 256 ⌝ }
+{
+    let mut i: usize = 0;
+    while i < s.len() {
+        let k = (s[i] % 256) as usize;
+        hints[k] = (i % 256) as u8;
+        i += 1;
+    }
+}
+
+// Whether every word of a is in b: each is looked for first at the place noted at its low byte.
+pub fn subset(a: &[u64], b: &[u64]) -> bool
+    ensures { λ r. ⌜ r ≡ subset (now (a .entry)) (now (b .entry)) ⌝ }
+{
+    let mut hints = [0u8; 256];
+    note_places(b, &mut hints);
+    let mut ok = true;
+    let mut i: usize = 0;
+    while i < a.len() {
+        let x = a[i];
+        let k = (x % 256) as usize;
+        let h = wide(hints[k]);
+        ok = ok & found(b, h, x);
+        i += 1;
+    }
+    ok
+}
+
+// At the low byte of each word a mark.
+fn mark_all(s: &[u64], seen: &mut [bool])
+    requires { ⌜ length (now seen) ≡ 256 ⌝ }
+    ensures { λ _. ⌜ marked (now (seen .exit)) (now (s .entry)) ≡ true ⌝ }
+{
+    let mut i = s.len();
+    while 0 < i {
+        let k = (s[i - 1] % 256) as usize;
+        seen[k] = true;
+        i -= 1;
+    }
+}
+
+// Whether no word of a is in b: only a word whose low byte is marked is looked for.
+pub fn disjoint(a: &[u64], b: &[u64]) -> bool
+    ensures { λ r. ⌜ r ≡ disjoint (now (a .entry)) (now (b .entry)) ⌝ }
+{
+    let mut seen = [false; 256];
+    mark_all(b, &mut seen);
+    let mut i: usize = 0;
+    while i < a.len() {
+        let x = a[i];
+        let k = (x % 256) as usize;
+        if seen[k] {
+            if contains(b, x) {
+                return false;
+            }
+        }
+        i += 1;
+    }
+    true
+}
+
+// Whether no word stands twice: only a word whose low byte a later one has too is looked for.
+pub fn distinct(s: &[u64]) -> bool
+    ensures { λ r. ⌜ r ≡ distinct (now (s .entry)) ⌝ }
+{
+    let mut seen = [false; 256];
+    let mut i = s.len();
+    while 0 < i {
+        let x = s[i - 1];
+        let k = (x % 256) as usize;
+        if seen[k] {
+            if contains(&s[i..], x) {
+                return false;
+            }
+        }
+        seen[k] = true;
+        i -= 1;
+    }
+    true
+}
