@@ -1,0 +1,5 @@
+pub mod Columns
+pub mod Parts
+pub mod Sets
+pub mod Stores
+pub mod Copies

@@ -1,0 +1,459 @@
+// Sets of peers as sections of one lent list of 64-bit words: `cap` places, and then the count of those in use.
+ghost use mathlib.Core.Path.{_≡_};
+ghost use mathlib.Core.List.{[], _∷_, _++_};
+ghost use Prim.Native.Nat.{_+_, _-_, _≤_, _<_};
+ghost use lib.ListN.{length, take, drop, getD};
+ghost use Rattle.lists.specs.Array.{pad};
+ghost use Rattle.lists.specs.Lists.{null, mem, index-of, rank, shift-remove, swap-remove, remove, insert-at, insert, without, without-all, renew, swap, distinct, rising, subset, disjoint};
+ghost use Rattle.lists.specs.Tests.{every};
+ghost use Rattle.util.specs.Random.{pick, shuffle};
+ghost use Rattle.scan.specs.Words.{unused};
+ghost use Rattle.section.specs.Section.{part, Filled, items-at, ValidSet, HoldsSet, valid-set};
+
+// A peer, by its number.
+pub type PeerId = u64;
+
+// How many places a working set has: as many as the largest set.
+const PLACES: usize = 32;
+
+// ---- a column alone, of any length: the first n places are in use
+
+// The place of x, or n where it is not there.
+pub fn find(s: &[u64], n: usize, x: u64) -> usize
+    requires { ⌜ n ≤ length (now s) ⌝ }
+    ensures { λ r. ⌜ (r ≡ index-of x (take n (now (s .entry)))) × (r ≤ n) ⌝ }
+{
+    let mut i: usize = 0;
+    while i < n {
+        if x == s[i] {
+            return i;
+        }
+        i += 1;
+    }
+    n
+}
+
+// How many items stand before the first that is greater than x.
+pub fn rank_of(s: &[u64], n: usize, x: u64) -> usize
+    requires { ⌜ n ≤ length (now s) ⌝ }
+    ensures { λ r. ⌜ (r ≡ rank x (take n (now (s .entry)))) × (r ≤ n) ⌝ }
+{
+    let mut i: usize = 0;
+    while i < n {
+        if x < s[i] {
+            return i;
+        }
+        i += 1;
+    }
+    n
+}
+
+// Without the item at i: the later ones move down.
+pub fn take_out(s: &mut [u64], n: usize, i: usize)
+    requires { ⌜ Filled (now s) n ⌝ }
+    requires { ⌜ i < n ⌝ }
+    ensures { λ _. ⌜ now (s .exit) ≡ pad 0 (length (now (s .entry))) (shift-remove i (take n (now (s .entry)))) ⌝ }
+{
+    let last = n - 1;
+    let mut k = i;
+    while k < last {
+        let y = s[k + 1];
+        s[k] = y;
+        k += 1;
+    }
+    s[last] = 0;
+}
+
+// With x at place i: the items from there on move up.
+pub fn put_in(s: &mut [u64], n: usize, i: usize, x: u64)
+    requires { ⌜ Filled (now s) n ⌝ }
+    requires { ⌜ n < length (now s) ⌝ }
+    requires { ⌜ i ≤ n ⌝ }
+    ensures { λ _. ⌜ now (s .exit) ≡ pad 0 (length (now (s .entry))) (insert-at i x (take n (now (s .entry)))) ⌝ }
+{
+    let mut carried = x;
+    let mut k = i;
+    while k <= n {
+        let y = s[k];
+        s[k] = carried;
+        carried = y;
+        k += 1;
+    }
+}
+
+// Without x, wherever it stands; the answer is how many are left.
+pub fn without_in(s: &mut [u64], n: usize, x: u64) -> usize
+    requires { ⌜ Filled (now s) n ⌝ }
+    ensures { λ r. ⌜ now (s .exit) ≡ pad 0 (length (now (s .entry))) (without x (take n (now (s .entry)))) ⌝ }
+    ensures { λ r. ⌜ (r ≡ length (without x (take n (now (s .entry))))) × (r ≤ n) ⌝ }
+{
+    let mut m = n;
+    let mut i = find(s, m, x);
+    while i < m {
+        take_out(s, m, i);
+        m -= 1;
+        i = find(s, m, x);
+    }
+    m
+}
+
+// x as the newest of at most `most`; the answer is how many there are.
+pub fn renew_in(s: &mut [u64], n: usize, most: usize, x: u64) -> usize
+    requires { ⌜ Filled (now s) n ⌝ }
+    requires { ⌜ (1 ≤ most) × (most ≤ length (now s)) ⌝ }
+    ensures { λ r. ⌜ now (s .exit) ≡ pad 0 (length (now (s .entry))) (renew most x (take n (now (s .entry)))) ⌝ }
+    ensures { λ r. ⌜ (r ≡ length (renew most x (take n (now (s .entry))))) × (r ≤ length (now (s .entry))) ⌝ }
+{
+    let m = without_in(s, n, x);
+    if m < most {
+        s[m] = x;
+        return m + 1;
+    }
+    take_out(s, m, 0);
+    s[m - 1] = x;
+    m
+}
+
+// Whether the places from n on are zero.
+pub fn zero_from(s: &[u64], n: usize) -> bool
+    requires { ⌜ n ≤ length (now s) ⌝ }
+    ensures { λ r. ⌜ r ≡ every unused (drop n (now (s .entry))) ⌝ }
+{
+    scan::no_bits(&s[n..])
+}
+
+// Whether each of the first n items is below the next.
+pub fn rises(s: &[u64], n: usize) -> bool
+    requires { ⌜ n ≤ length (now s) ⌝ }
+    ensures { λ r. ⌜ r ≡ rising (take n (now (s .entry))) ⌝ }
+{
+    scan::rising(&s[..n])
+}
+
+// Zeroes from place k on.
+pub fn clear_from(s: &mut [u64], k: usize)
+    ensures { λ _. ⌜ now (s .exit) ≡ pad 0 (length (now (s .entry))) (take k (now (s .entry))) ⌝ }
+{
+    let mut i = k;
+    while i < s.len() {
+        s[i] = 0;
+        i += 1;
+    }
+}
+
+// The items that are not in `skip`, in order; the answer is how many there are.
+pub fn without_all_in(s: &mut [u64], n: usize, skip: &[u64]) -> usize
+    requires { ⌜ Filled (now s) n ⌝ }
+    ensures { λ r. ⌜ now (s .exit) ≡ pad 0 (length (now (s .entry))) (without-all (now (skip .entry)) (take n (now (s .entry)))) ⌝ }
+    ensures { λ r. ⌜ (r ≡ length (without-all (now (skip .entry)) (take n (now (s .entry))))) × (r ≤ n) ⌝ }
+{
+    let mut m: usize = 0;
+    let mut i: usize = 0;
+    while i < n {
+        let y = s[i];
+        i += 1;
+        if scan::contains(skip, y) {
+            continue;
+        }
+        s[m] = y;
+        m += 1;
+    }
+    clear_from(s, m);
+    m
+}
+
+// The words at places i and j exchanged.
+fn exchange(s: &mut [u64], i: usize, j: usize)
+    requires { ⌜ (i < length (now s)) × (j < length (now s)) ⌝ }
+    ensures { λ _. ⌜ now (s .exit) ≡ swap i j (now (s .entry)) ⌝ }
+{
+    let x = s[i];
+    let y = s[j];
+    s[i] = y;
+    s[j] = x;
+}
+
+// In the order that the draws from place `at` on decide.
+pub fn shuffle_in(s: &mut [u64], n: usize, draws: &[u32], at: usize)
+    requires { ⌜ Filled (now s) n ⌝ }
+    requires { ⌜ at + (n - 1) ≤ length (now draws) ⌝ }
+    ensures { λ _. ⌜ now (s .exit) ≡ pad 0 (length (now (s .entry))) (shuffle (drop at (now (draws .entry))) (take n (now (s .entry)))) ⌝ }
+{
+    if n < 2 {
+        return;
+    }
+    let mut i = n - 1;
+    let mut k = at;
+    while 0 < i {
+        let d = draws[k] as usize;
+        let j = d % (i + 1);
+        exchange(s, i, j);
+        k += 1;
+        i -= 1;
+    }
+}
+
+// ---- a set: the places, and then the count
+
+// Whether it is a set at all, whatever its words are.
+pub fn is_section(s: &[u64], cap: usize) -> bool
+    requires { ⌜ length (now s) ≡ cap + 1 ⌝ }
+    ensures { λ r. ⌜ r ≡ valid-set cap (now (s .entry)) ⌝ }
+{
+    let n = s[cap] as usize;
+    if cap < n {
+        return false;
+    }
+    zero_from(&s[..cap], n)
+}
+
+pub fn count(s: &[u64], cap: usize) -> usize
+    requires { ⌜ ValidSet cap (now s) ⌝ }
+    ensures { λ r. ⌜ (r ≡ length (items-at cap (now (s .entry)))) × (r ≤ cap) ⌝ }
+{
+    s[cap] as usize
+}
+
+pub fn is_empty(s: &[u64], cap: usize) -> bool
+    requires { ⌜ ValidSet cap (now s) ⌝ }
+    ensures { λ r. ⌜ r ≡ null (items-at cap (now (s .entry))) ⌝ }
+{
+    s[cap] == 0
+}
+
+// The item at place i.
+pub fn get_index(s: &[u64], cap: usize, i: usize) -> PeerId
+    requires { ⌜ ValidSet cap (now s) ⌝ }
+    requires { ⌜ i < length (items-at cap (now s)) ⌝ }
+    ensures { λ r. ⌜ r ≡ getD (items-at cap (now (s .entry))) i 0 ⌝ }
+{
+    s[i]
+}
+
+// The place of x, or the number of items where it is not there.
+pub fn position(s: &[u64], cap: usize, x: PeerId) -> usize
+    requires { ⌜ ValidSet cap (now s) ⌝ }
+    ensures { λ r. ⌜ (r ≡ index-of x (items-at cap (now (s .entry)))) × (r ≤ length (items-at cap (now (s .entry)))) ⌝ }
+{
+    let n = s[cap] as usize;
+    find(&s[..cap], n, x)
+}
+
+pub fn contains(s: &[u64], cap: usize, x: PeerId) -> bool
+    requires { ⌜ ValidSet cap (now s) ⌝ }
+    ensures { λ r. ⌜ r ≡ mem x (items-at cap (now (s .entry))) ⌝ }
+{
+    let n = s[cap] as usize;
+    scan::contains(&s[..n], x)
+}
+
+// Whether no item stands twice.
+pub fn is_distinct(s: &[u64], cap: usize) -> bool
+    requires { ⌜ ValidSet cap (now s) ⌝ }
+    ensures { λ r. ⌜ r ≡ distinct (items-at cap (now (s .entry))) ⌝ }
+{
+    let n = s[cap] as usize;
+    scan::distinct(&s[..n])
+}
+
+// Whether each item is below the next.
+pub fn is_rising(s: &[u64], cap: usize) -> bool
+    requires { ⌜ ValidSet cap (now s) ⌝ }
+    ensures { λ r. ⌜ r ≡ rising (items-at cap (now (s .entry))) ⌝ }
+{
+    let n = s[cap] as usize;
+    scan::rising(&s[..n])
+}
+
+// Whether every item of a is one of b.
+pub fn is_subset(a: &[u64], acap: usize, b: &[u64], bcap: usize) -> bool
+    requires { ⌜ ValidSet acap (now a) ⌝ }
+    requires { ⌜ ValidSet bcap (now b) ⌝ }
+    ensures { λ r. ⌜ r ≡ subset (items-at acap (now (a .entry))) (items-at bcap (now (b .entry))) ⌝ }
+{
+    let m = a[acap] as usize;
+    let n = b[bcap] as usize;
+    scan::subset(&a[..m], &b[..n])
+}
+
+// Whether no item of a is one of b.
+pub fn is_disjoint(a: &[u64], acap: usize, b: &[u64], bcap: usize) -> bool
+    requires { ⌜ ValidSet acap (now a) ⌝ }
+    requires { ⌜ ValidSet bcap (now b) ⌝ }
+    ensures { λ r. ⌜ r ≡ disjoint (items-at acap (now (a .entry))) (items-at bcap (now (b .entry))) ⌝ }
+{
+    let m = a[acap] as usize;
+    let n = b[bcap] as usize;
+    scan::disjoint(&a[..m], &b[..n])
+}
+
+// No items, whatever the words were.
+pub fn clear(s: &mut [u64], cap: usize)
+    requires { ⌜ length (now s) ≡ cap + 1 ⌝ }
+    ensures { λ _. ⌜ HoldsSet cap (now (s .exit)) [] ⌝ }
+{
+    clear_from(s, 0);
+}
+
+// x at the end; also the deques' push_back.
+pub fn push(s: &mut [u64], cap: usize, x: PeerId)
+    requires { ⌜ ValidSet cap (now s) ⌝ }
+    requires { ⌜ length (items-at cap (now s)) < cap ⌝ }
+    ensures { λ _. ⌜ HoldsSet cap (now (s .exit)) (items-at cap (now (s .entry)) ++ (x ∷ [])) ⌝ }
+{
+    let n = s[cap] as usize;
+    s[n] = x;
+    s[cap] = (n + 1) as u64;
+}
+
+// Without the item at place i: the last one moves into the gap.
+pub fn remove_index(s: &mut [u64], cap: usize, i: usize)
+    requires { ⌜ ValidSet cap (now s) ⌝ }
+    requires { ⌜ i < length (items-at cap (now s)) ⌝ }
+    ensures { λ _. ⌜ HoldsSet cap (now (s .exit)) (swap-remove i (items-at cap (now (s .entry)))) ⌝ }
+{
+    let last = s[cap] as usize - 1;
+    let y = s[last];
+    s[i] = y;
+    s[last] = 0;
+    s[cap] = last as u64;
+}
+
+// Without x: the last item moves into the gap.
+pub fn remove(s: &mut [u64], cap: usize, x: PeerId)
+    requires { ⌜ ValidSet cap (now s) ⌝ }
+    ensures { λ _. ⌜ HoldsSet cap (now (s .exit)) (remove x (items-at cap (now (s .entry)))) ⌝ }
+{
+    let n = s[cap] as usize;
+    let i = find(&s[..cap], n, x);
+    if i < n {
+        remove_index(s, cap, i);
+    }
+}
+
+// Without the item at place i: the later ones move down.
+pub fn shift_remove_index(s: &mut [u64], cap: usize, i: usize)
+    requires { ⌜ ValidSet cap (now s) ⌝ }
+    requires { ⌜ i < length (items-at cap (now s)) ⌝ }
+    ensures { λ _. ⌜ HoldsSet cap (now (s .exit)) (shift-remove i (items-at cap (now (s .entry)))) ⌝ }
+{
+    let n = s[cap] as usize;
+    take_out(&mut s[..cap], n, i);
+    s[cap] = (n - 1) as u64;
+}
+
+// What the Rust's HashSet::insert is, in rising order.
+pub fn insert_sorted(s: &mut [u64], cap: usize, x: PeerId)
+    requires { ⌜ ValidSet cap (now s) ⌝ }
+    requires { ⌜ length (insert x (items-at cap (now s))) ≤ cap ⌝ }
+    ensures { λ _. ⌜ HoldsSet cap (now (s .exit)) (insert x (items-at cap (now (s .entry)))) ⌝ }
+{
+    let n = s[cap] as usize;
+    let i = find(&s[..cap], n, x);
+    if i < n {
+        return;
+    }
+    let at = rank_of(&s[..cap], n, x);
+    put_in(&mut s[..cap], n, at, x);
+    s[cap] = (n + 1) as u64;
+}
+
+// The items that are not x, in order.
+pub fn without(s: &mut [u64], cap: usize, x: PeerId)
+    requires { ⌜ ValidSet cap (now s) ⌝ }
+    ensures { λ _. ⌜ HoldsSet cap (now (s .exit)) (without x (items-at cap (now (s .entry)))) ⌝ }
+{
+    let n = s[cap] as usize;
+    let m = without_in(&mut s[..cap], n, x);
+    s[cap] = m as u64;
+}
+
+// x as the newest of at most `most`: the oldest leaves where there are too many.
+pub fn renew(s: &mut [u64], cap: usize, most: usize, x: PeerId)
+    requires { ⌜ ValidSet cap (now s) ⌝ }
+    requires { ⌜ (1 ≤ most) × (most ≤ cap) ⌝ }
+    ensures { λ _. ⌜ HoldsSet cap (now (s .exit)) (renew most x (items-at cap (now (s .entry)))) ⌝ }
+{
+    let n = s[cap] as usize;
+    let m = renew_in(&mut s[..cap], n, most, x);
+    s[cap] = m as u64;
+}
+
+// The first k items.
+pub fn truncate(s: &mut [u64], cap: usize, k: usize)
+    requires { ⌜ ValidSet cap (now s) ⌝ }
+    ensures { λ _. ⌜ HoldsSet cap (now (s .exit)) (take k (items-at cap (now (s .entry)))) ⌝ }
+{
+    let n = s[cap] as usize;
+    if n <= k {
+        return;
+    }
+    clear_from(&mut s[..cap], k);
+    s[cap] = k as u64;
+}
+
+// The items that are not in `skip`, in order.
+pub fn without_all(s: &mut [u64], cap: usize, skip: &[u64], scap: usize)
+    requires { ⌜ ValidSet cap (now s) ⌝ }
+    requires { ⌜ ValidSet scap (now skip) ⌝ }
+    ensures { λ _. ⌜ HoldsSet cap (now (s .exit)) (without-all (items-at scap (now (skip .entry))) (items-at cap (now (s .entry)))) ⌝ }
+{
+    let n = s[cap] as usize;
+    let k = skip[scap] as usize;
+    let m = without_all_in(&mut s[..cap], n, &skip[..k]);
+    s[cap] = m as u64;
+}
+
+// In the order that the draws from place `at` on decide, which are there.
+pub fn shuffle(s: &mut [u64], cap: usize, draws: &[u32], at: usize)
+    requires { ⌜ ValidSet cap (now s) ⌝ }
+    requires { ⌜ at + (length (items-at cap (now s)) - 1) ≤ length (now draws) ⌝ }
+    ensures { λ _. ⌜ HoldsSet cap (now (s .exit)) (shuffle (drop at (now (draws .entry))) (items-at cap (now (s .entry)))) ⌝ }
+{
+    let n = s[cap] as usize;
+    shuffle_in(&mut s[..cap], n, draws, at);
+}
+
+// The items of s, and whatever t held is gone.
+pub fn copy_into(s: &[u64], cap: usize, t: &mut [u64])
+    requires { ⌜ ValidSet cap (now s) ⌝ }
+    requires { ⌜ cap ≤ 32 ⌝ }
+    requires { ⌜ length (now t) ≡ 33 ⌝ }
+    ensures { λ _. ⌜ HoldsSet 32 (now (t .exit)) (items-at cap (now (s .entry))) ⌝ }
+{
+    let mut i: usize = 0;
+    while i < cap {
+        t[i] = s[i];
+        i += 1;
+    }
+    while i < PLACES {
+        t[i] = 0;
+        i += 1;
+    }
+    t[PLACES] = s[cap];
+}
+
+// The items of `more` after those of s.
+pub fn append(s: &mut [u64], cap: usize, more: &[u64], mcap: usize)
+    requires { ⌜ ValidSet cap (now s) ⌝ }
+    requires { ⌜ ValidSet mcap (now more) ⌝ }
+    requires { ⌜ length (items-at cap (now s)) + length (items-at mcap (now more)) ≤ cap ⌝ }
+    ensures { λ _. ⌜ HoldsSet cap (now (s .exit)) (items-at cap (now (s .entry)) ++ items-at mcap (now (more .entry))) ⌝ }
+{
+    let n = s[cap] as usize;
+    let m = more[mcap] as usize;
+    let mut i: usize = 0;
+    while i < m {
+        s[n + i] = more[i];
+        i += 1;
+    }
+    s[cap] = (n + m) as u64;
+}
+
+// One of n places, by a draw.
+pub fn pick_index(d: u32, n: usize) -> usize
+    requires { ⌜ 0 < n ⌝ }
+    ensures { λ r. ⌜ (r ≡ pick n d) × (r < n) ⌝ }
+{
+    d as usize % n
+}
