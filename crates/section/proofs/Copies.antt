@@ -6,65 +6,75 @@ use mathlib.Core.List.{List, [], _∷_, _++_}
 use native.Mathlib.Nat.{not-suc-le-zero}
 use native.Mathlib.Decide.{decLt}
 use native.Mathlib.Omega.{arith}
-use lib.ListN.{length, getD, set, length-set, length-append, List·getD-append, List·getD-eq-default}
+use lib.ListN.{length, take, getD, set, length-set, length-append, List·getD-append, List·getD-eq-default}
 use lib.Seq.{getD-append-add}
+use Rattle.lists.proofs.Array.{getD-pad}
 use Rattle.lists.proofs.Front.{Front, front-start, front-step, front-end}
-use Rattle.section.specs.Section.{items-at, ValidSet, HoldsSet, section}
+use Rattle.section.specs.Section.{part, Filled, items-at, ValidSet, HoldsSet, section}
+use Rattle.section.proofs.Columns.{filled-length}
 use Rattle.section.proofs.Sets.{framed, framed-long, framed-last, framed-set, framed-at, framed-past, holds-by, set-words, word-at-place, item-read}
 
 -- ---- a copy into 32 places
 
-pub record Copying (n : ℕ) (s t₀ t : List ℕ) (i : ℕ) : Type 0 where
-  pub valid : ValidSet n s
-  pub few : n ≤ 32
+pub record Copying (s : List ℕ) (n : ℕ) (t₀ t : List ℕ) (i : ℕ) : Type 0 where
+  pub filled : Filled s n
+  pub few : length s ≤ 32
   pub low : i ≤ 32
   pub long : length t ≡ 33
-  pub front : Front 0 33 (section 32 (items-at n s)) t₀ t i
+  pub front : Front 0 33 (section 32 (take n s)) t₀ t i
 
-pub copying-start : (n : ℕ) (s t : List ℕ) → ValidSet n s → n ≤ 32 → length t ≡ 33 → Copying n s t t 0
-copying-start n s t v h l = record {
-  valid = v;
+pub copying-start : (s : List ℕ) (n : ℕ) (t : List ℕ) → Filled s n → length s ≤ 32 → length t ≡ 33 → Copying s n t t 0
+copying-start s n t v h l = record {
+  filled = v;
   few = h;
   low = omega arith;
   long = l;
   front = front-start 0 _ _ 0 l (λ j p. absurd (not-suc-le-zero p));
 }
 
-module _ (n : ℕ) (s t₀ t : List ℕ) (i : ℕ) (c : Copying n s t₀ t i) where
-  fits : length (items-at n s) ≤ 32
-  fits = omega (arith, c .valid .counted, c .valid .fits, c .few)
+module _ (s : List ℕ) (n : ℕ) (t₀ t : List ℕ) (i : ℕ) (c : Copying s n t₀ t i) where
+  fits : length (take n s) ≤ 32
+  fits = omega (arith, filled-length s n (c .filled), c .filled .fits, c .few)
 
-  wanted : i < 32 → getD (items-at n s) i 0 ≡ getD (section 32 (items-at n s)) i 0
+  wanted : i < 32 → getD (take n s) i 0 ≡ getD (section 32 (take n s)) i 0
   unfolding section
-  wanted h = sym (framed-at 32 (items-at n s) (length (items-at n s)) i h fits)
+  wanted h = sym (framed-at 32 (take n s) (length (take n s)) i h fits)
 
-  stored : (x : ℕ) → i < 32 → x ≡ getD (items-at n s) i 0 → Copying n s t₀ (set t i x) (i + 1)
+  stored : (x : ℕ) → i < 32 → x ≡ getD (take n s) i 0 → Copying s n t₀ (set t i x) (i + 1)
   stored x h e = record {
-    valid = c .valid;
+    filled = c .filled;
     few = c .few;
     low = omega arith;
     long = length-set t i x ∙ c .long;
     front = front-step (c .front) x (omega arith) (e ∙ wanted h);
   }
 
-  pub copying-next : i < n → Copying n s t₀ (set t i (getD s i 0)) (i + 1)
-  copying-next h = stored (getD s i 0) (omega (arith, c .few)) (word-at-place n s i (c .valid) h)
+  -- a word of the column, used or not
+  word : getD s i 0 ≡ getD (take n s) i 0
+  word = ap (λ (l : List ℕ). getD l i 0) (c .filled .packed) ∙ getD-pad 0 (length s) (take n s) i (omega (arith, filled-length s n (c .filled), c .filled .fits))
 
-  pub copying-past : n ≤ i → i < 32 → Copying n s t₀ (set t i 0) (i + 1)
-  copying-past q h = stored 0 h (sym (List·getD-eq-default (items-at n s) 0 (omega (arith, c .valid .counted, c .valid .fits))))
+  pub copying-next : i < length s → Copying s n t₀ (set t i (getD s i 0)) (i + 1)
+  copying-next h = stored (getD s i 0) (omega (arith, c .few)) word
+
+  pub copying-past : length s ≤ i → i < 32 → Copying s n t₀ (set t i 0) (i + 1)
+  copying-past q h = stored 0 h (sym (List·getD-eq-default (take n s) 0 (omega (arith, filled-length s n (c .filled), c .filled .fits))))
 
   pub copying-long : (x k : ℕ) → k ≡ 33 → length (set t 32 x) ≡ k
   copying-long x k l = length-set t 32 x ∙ c .long ∙ sym l
 
-  pub copying-end : length t₀ ≡ 33 → 32 ≤ i → HoldsSet 32 (set t 32 (getD s n 0)) (items-at n s)
+  pub copying-end : length t₀ ≡ 33 → 32 ≤ i → HoldsSet 32 (set t 32 n) (take n s)
   unfolding section
   copying-end l p =
       let z : i ≡ 32 = omega (arith, c .low) in
-      let g = front-step (subst (Front 0 33 (section 32 (items-at n s)) t₀ t) z (c .front)) (getD s n 0) (omega arith) (sym (framed-last 32 (items-at n s) (length (items-at n s)) ∙ c .valid .counted)) in
-      holds-by 32 _ (items-at n s)
-      (front-end g (framed-long 32 (items-at n s) (length (items-at n s)))
-      (λ j k. List·getD-eq-default t₀ 0 (omega arith) ∙ sym (List·getD-eq-default (section 32 (items-at n s)) 0 (omega (arith, framed-long 32 (items-at n s) (length (items-at n s)))))))
+      let g = front-step (subst (Front 0 33 (section 32 (take n s)) t₀ t) z (c .front)) n (omega arith) (sym (framed-last 32 (take n s) (length (take n s)) ∙ filled-length s n (c .filled))) in
+      holds-by 32 _ (take n s)
+      (front-end g (framed-long 32 (take n s) (length (take n s)))
+      (λ j k. List·getD-eq-default t₀ 0 (omega arith) ∙ sym (List·getD-eq-default (section 32 (take n s)) 0 (omega (arith, framed-long 32 (take n s) (length (take n s)))))))
       fits
+
+pub copied : (n : ℕ) (s t : List ℕ) → ValidSet n s → HoldsSet 32 t (take (getD s n 0) (part 0 n s)) → HoldsSet 32 t (items-at n s)
+unfolding items-at
+copied n s t v h = h
 
 -- ---- the items of a second set after those of a first
 

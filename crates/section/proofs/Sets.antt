@@ -90,6 +90,9 @@ set-count n s v = v .filled .fits
 pub set-column : (n : ℕ) (s : List ℕ) → ValidSet n s → Filled (part 0 n s) (getD s n 0)
 set-column n s v = v .filled
 
+pub column-few : (n : ℕ) (s : List ℕ) (k : ℕ) → ValidSet n s → n ≤ k → length (part 0 n s) ≤ k
+column-few n s k v h = omega (arith, set-inside n s v)
+
 -- the items as the code lends them
 pub lent : (n : ℕ) (s : List ℕ) → ValidSet n s → take (getD s n 0) s ≡ items-at n s
 unfolding items-at part

@@ -193,6 +193,25 @@ pub fn shuffle_in(s: &mut [u64], n: usize, draws: &[u32], at: usize)
     }
 }
 
+// The first n items as a working set, whatever t held.
+pub fn copy_column(s: &[u64], n: usize, t: &mut [u64])
+    requires { ⌜ Filled (now s) n ⌝ }
+    requires { ⌜ length (now s) ≤ 32 ⌝ }
+    requires { ⌜ length (now t) ≡ 33 ⌝ }
+    ensures { λ _. ⌜ HoldsSet 32 (now (t .exit)) (take n (now (s .entry))) ⌝ }
+{
+    let mut i: usize = 0;
+    while i < s.len() {
+        t[i] = s[i];
+        i += 1;
+    }
+    while i < PLACES {
+        t[i] = 0;
+        i += 1;
+    }
+    t[PLACES] = n as u64;
+}
+
 // ---- a set: the places, and then the count
 
 // Whether it is a set at all, whatever its words are.
@@ -421,16 +440,8 @@ pub fn copy_into(s: &[u64], cap: usize, t: &mut [u64])
     requires { ⌜ length (now t) ≡ 33 ⌝ }
     ensures { λ _. ⌜ HoldsSet 32 (now (t .exit)) (items-at cap (now (s .entry))) ⌝ }
 {
-    let mut i: usize = 0;
-    while i < cap {
-        t[i] = s[i];
-        i += 1;
-    }
-    while i < PLACES {
-        t[i] = 0;
-        i += 1;
-    }
-    t[PLACES] = s[cap];
+    let n = s[cap] as usize;
+    copy_column(&s[..cap], n, t);
 }
 
 // The items of `more` after those of s.
