@@ -1,0 +1,9 @@
+pub mod Numbers
+pub mod Two
+pub mod Rows
+pub mod Data
+pub mod Words
+pub mod Holding
+pub mod Past
+pub mod Testing
+pub mod Sections

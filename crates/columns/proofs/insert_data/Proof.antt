@@ -1,0 +1,179 @@
+use Rattle.section.specs.Section.{part}
+use Rattle.columns.specs.Columns.{head-of}
+use Rattle.columns.proofs.Data.{data-inside, data-size, data-count, data-keyed, data-lens, store-2, store-3, data-room, tail-size, tail-lows, tail-highs, data-long, data-replaced, data-inserted}
+use borrow.Author.Needs.{needs}
+use Rattle.columns.proofs.insert_data.Statement.{statement}
+use Rattle.columns.proofs.insert_data.Tie as tie
+
+add-half : tie.Need-add-half
+add-half c = search needs
+
+add-end : tie.Need-add-end
+add-end c = search needs
+
+mul-n : tie.Need-mul-n
+mul-n c = search needs
+
+slice-read-n : tie.Need-slice-read-n
+slice-read-n c = search needs
+
+word-at-requires : tie.Need-word-at-requires
+word-at-requires c κs = search needs
+
+word-at-requires-2 : tie.Need-word-at-requires-2
+word-at-requires-2 c κs = search needs
+
+slice-reshare-prefix-find : tie.Need-slice-reshare-prefix-find
+slice-reshare-prefix-find c = search needs
+
+slice-aggregate-find : tie.Need-slice-aggregate-find
+unfolding part
+slice-aggregate-find c = search data-inside
+
+find-requires : tie.Need-find-requires
+unfolding part
+find-requires c κs = search data-count
+
+cast-m : tie.Need-cast-m
+cast-m c = search needs
+
+add-m : tie.Need-add-m
+add-m c = search needs
+
+mul-m : tie.Need-mul-m
+mul-m c = search needs
+
+slice-write-m : tie.Need-slice-write-m
+slice-write-m c = search needs
+
+add-m-2 : tie.Need-add-m-2
+add-m-2 c = search needs
+
+mul-m-2 : tie.Need-mul-m-2
+mul-m-2 c = search needs
+
+slice-write-m-2 : tie.Need-slice-write-m-2
+unfolding part head-of
+slice-write-m-2 c = search store-2
+
+add-m-3 : tie.Need-add-m-3
+add-m-3 c = search needs
+
+add-m-4 : tie.Need-add-m-4
+add-m-4 c = search needs
+
+mul-m-3 : tie.Need-mul-m-3
+mul-m-3 c = search needs
+
+slice-write-m-3 : tie.Need-slice-write-m-3
+unfolding part head-of
+slice-write-m-3 c = search store-3
+
+same-length : tie.Need-same-length
+same-length c = search needs
+
+returns : tie.Need-returns
+unfolding part head-of
+returns c = search data-replaced
+
+slice-reshare-prefix-rank-of : tie.Need-slice-reshare-prefix-rank-of
+slice-reshare-prefix-rank-of c = search needs
+
+slice-aggregate-rank-of : tie.Need-slice-aggregate-rank-of
+unfolding part
+slice-aggregate-rank-of c = search data-inside
+
+rank-of-requires : tie.Need-rank-of-requires
+unfolding part
+rank-of-requires c κs = search data-count
+
+slice-relend-prefix-in-two : tie.Need-slice-relend-prefix-in-two
+slice-relend-prefix-in-two c = search needs
+
+slice-aggregate-in-two : tie.Need-slice-aggregate-in-two
+unfolding part
+slice-aggregate-in-two c = search data-inside
+
+cast-in-two : tie.Need-cast-in-two
+cast-in-two c = search needs
+
+in-two-requires : tie.Need-in-two-requires
+unfolding part head-of
+in-two-requires c κs = (search data-size, (search data-keyed, (search data-lens, (search data-room, search needs))))
+
+mul-in-two : tie.Need-mul-in-two
+mul-in-two c = search needs
+
+sub-in-two : tie.Need-sub-in-two
+sub-in-two c = search needs
+
+part-in-two-start : tie.Need-part-in-two-start
+part-in-two-start c = search needs
+
+part-in-two-end : tie.Need-part-in-two-end
+part-in-two-end c = search needs
+
+in-two-requires-2 : tie.Need-in-two-requires-2
+unfolding part head-of
+in-two-requires-2 c κs = (search tail-size, (tail-lows _ _ (c .before .before .before .before .before .before .before .before .before .before .before .before .before .before .before .before .pre .0) _ _ _ (c .before .before .before .in-two .ensures), (tail-highs _ _ (c .before .before .before .before .before .before .before .before .before .before .before .before .before .before .before .before .pre .0) _ _ _ (c .before .before .before .in-two .ensures), (search data-room, search needs))))
+
+add-m-5 : tie.Need-add-m-5
+add-m-5 c = search needs
+
+mul-m-4 : tie.Need-mul-m-4
+mul-m-4 c = search needs
+
+slice-write-m-4 : tie.Need-slice-write-m-4
+slice-write-m-4 c = search needs
+
+same-length-2 : tie.Need-same-length-2
+unfolding part
+same-length-2 c = data-long _ _ (c .before .before .before .before .before .before .before .before .before .before .before .before .before .before .before .before .before .before .before .pre .0) _ _ _ (c .before .before .before .before .before .before .in-two .ensures) _ _ _ _ (c .before .before .in-two2 .ensures)
+
+returns-2 : tie.Need-returns-2
+unfolding part head-of
+returns-2 c = data-inserted _ _ (c .before .before .before .before .before .before .before .before .before .before .before .before .before .before .before .before .before .before .before .pre .0) _ _ (c .before .before .before .before .before .before .before .before .before .before .before .before .find .ensures .0) _ _ _ (c .before .before .before .before .before .before .before .before .before .before .before .before .before .before .before .before .before .before .before .pre .1 .0) (c .before .before .before .before .before .before .before .before .before .before .before .before .before .before .before .word-at .ensures .0) (c .before .before .before .before .before .before .before .before .before .before .before .before .before .before .word-at2 .ensures .0) _ _ _ (c .before .before .before .before .before .before .before .before .before .before .before .if1 .left) (c .before .before .before .before .before .before .before .before .before .before .before .before .before .before .before .before .before .before .before .pre .1 .1) (c .before .before .before .before .before .before .before .before .before .rank-of .ensures .0) (c .before .before .before .before .before .before .in-two .ensures) (c .before .before .in-two2 .ensures)
+
+pub insert-data-spec : {M : Type 1} → statement M
+insert-data-spec =
+    tie.close
+    (tie.spec
+    add-half
+    add-end
+    mul-n
+    slice-read-n
+    word-at-requires
+    word-at-requires-2
+    slice-reshare-prefix-find
+    slice-aggregate-find
+    find-requires
+    cast-m
+    add-m
+    mul-m
+    slice-write-m
+    add-m-2
+    mul-m-2
+    slice-write-m-2
+    add-m-3
+    add-m-4
+    mul-m-3
+    slice-write-m-3
+    same-length
+    returns
+    slice-reshare-prefix-rank-of
+    slice-aggregate-rank-of
+    rank-of-requires
+    slice-relend-prefix-in-two
+    slice-aggregate-in-two
+    cast-in-two
+    in-two-requires
+    mul-in-two
+    sub-in-two
+    part-in-two-start
+    part-in-two-end
+    in-two-requires-2
+    add-m-5
+    mul-m-4
+    slice-write-m-4
+    same-length-2
+    returns-2)

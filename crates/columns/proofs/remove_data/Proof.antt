@@ -1,0 +1,107 @@
+use Rattle.section.specs.Section.{part}
+use Rattle.columns.specs.Columns.{head-of}
+use Rattle.columns.proofs.Data.{data-inside, data-size, data-count, data-keyed, data-lens, data-kept, tail-size, tail-lows, tail-highs, data-long, data-removed}
+use borrow.Author.Needs.{needs}
+use Rattle.columns.proofs.remove_data.Statement.{statement}
+use Rattle.columns.proofs.remove_data.Tie as tie
+
+add-half : tie.Need-add-half
+add-half c = search needs
+
+add-end : tie.Need-add-end
+add-end c = search needs
+
+mul-n : tie.Need-mul-n
+mul-n c = search needs
+
+slice-read-n : tie.Need-slice-read-n
+slice-read-n c = search needs
+
+slice-reshare-prefix-find : tie.Need-slice-reshare-prefix-find
+slice-reshare-prefix-find c = search needs
+
+slice-aggregate-find : tie.Need-slice-aggregate-find
+unfolding part
+slice-aggregate-find c = search data-inside
+
+find-requires : tie.Need-find-requires
+unfolding part
+find-requires c κs = search data-count
+
+same-length : tie.Need-same-length
+same-length c = search needs
+
+returns : tie.Need-returns
+unfolding part head-of
+returns c = search data-kept
+
+slice-relend-prefix-out-two : tie.Need-slice-relend-prefix-out-two
+slice-relend-prefix-out-two c = search needs
+
+slice-aggregate-out-two : tie.Need-slice-aggregate-out-two
+unfolding part
+slice-aggregate-out-two c = search data-inside
+
+out-two-requires : tie.Need-out-two-requires
+unfolding part head-of
+out-two-requires c κs = (search data-size, (search data-keyed, (search data-lens, search needs)))
+
+mul-out-two : tie.Need-mul-out-two
+mul-out-two c = search needs
+
+sub-out-two : tie.Need-sub-out-two
+sub-out-two c = search needs
+
+part-out-two-start : tie.Need-part-out-two-start
+part-out-two-start c = search needs
+
+part-out-two-end : tie.Need-part-out-two-end
+part-out-two-end c = search needs
+
+out-two-requires-2 : tie.Need-out-two-requires-2
+unfolding part head-of
+out-two-requires-2 c κs = (search tail-size, (tail-lows _ _ (c .before .before .before .before .before .before .before .before .before .before .pre) _ _ _ (c .before .before .before .out-two .ensures), (tail-highs _ _ (c .before .before .before .before .before .before .before .before .before .before .pre) _ _ _ (c .before .before .before .out-two .ensures), search needs)))
+
+sub-m : tie.Need-sub-m
+sub-m c = search needs
+
+mul-m : tie.Need-mul-m
+mul-m c = search needs
+
+slice-write-m : tie.Need-slice-write-m
+slice-write-m c = search needs
+
+same-length-2 : tie.Need-same-length-2
+unfolding part
+same-length-2 c = data-long _ _ (c .before .before .before .before .before .before .before .before .before .before .before .before .before .pre) _ _ _ (c .before .before .before .before .before .before .out-two .ensures) _ _ _ _ (c .before .before .out-two2 .ensures)
+
+returns-2 : tie.Need-returns-2
+unfolding part head-of
+returns-2 c = search data-removed
+
+pub remove-data-spec : {M : Type 1} → statement M
+remove-data-spec =
+    tie.close
+    (tie.spec
+    add-half
+    add-end
+    mul-n
+    slice-read-n
+    slice-reshare-prefix-find
+    slice-aggregate-find
+    find-requires
+    same-length
+    returns
+    slice-relend-prefix-out-two
+    slice-aggregate-out-two
+    out-two-requires
+    mul-out-two
+    sub-out-two
+    part-out-two-start
+    part-out-two-end
+    out-two-requires-2
+    sub-m
+    mul-m
+    slice-write-m
+    same-length-2
+    returns-2)

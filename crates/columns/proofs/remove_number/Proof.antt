@@ -1,0 +1,102 @@
+use Rattle.section.specs.Section.{part}
+use Rattle.columns.proofs.Numbers.{number-inside, number-count, number-column, numbers-long, second-filled, cut-kept, removed}
+use borrow.Author.Needs.{needs}
+use Rattle.columns.proofs.remove_number.Statement.{statement}
+use Rattle.columns.proofs.remove_number.Tie as tie
+
+add-end : tie.Need-add-end
+add-end c = search needs
+
+mul-n : tie.Need-mul-n
+mul-n c = search needs
+
+slice-read-n : tie.Need-slice-read-n
+slice-read-n c = search needs
+
+slice-reshare-prefix-find : tie.Need-slice-reshare-prefix-find
+slice-reshare-prefix-find c = search needs
+
+slice-aggregate-find : tie.Need-slice-aggregate-find
+unfolding part
+slice-aggregate-find c = search number-inside
+
+find-requires : tie.Need-find-requires
+unfolding part
+find-requires c κs = search number-count
+
+same-length : tie.Need-same-length
+same-length c = search needs
+
+returns : tie.Need-returns
+unfolding part
+returns c = search cut-kept
+
+slice-relend-prefix-take-out : tie.Need-slice-relend-prefix-take-out
+slice-relend-prefix-take-out c = search needs
+
+slice-aggregate-take-out : tie.Need-slice-aggregate-take-out
+unfolding part
+slice-aggregate-take-out c = search number-inside
+
+take-out-requires : tie.Need-take-out-requires
+unfolding part
+take-out-requires c κs = (search number-column, search needs)
+
+mul-take-out : tie.Need-mul-take-out
+mul-take-out c = search needs
+
+sub-take-out : tie.Need-sub-take-out
+sub-take-out c = search needs
+
+part-take-out-start : tie.Need-part-take-out-start
+part-take-out-start c = search needs
+
+part-take-out-end : tie.Need-part-take-out-end
+part-take-out-end c = search needs
+
+take-out-requires-2 : tie.Need-take-out-requires-2
+unfolding part
+take-out-requires-2 c κs = (search second-filled, search needs)
+
+sub-m : tie.Need-sub-m
+sub-m c = search needs
+
+mul-m : tie.Need-mul-m
+mul-m c = search needs
+
+slice-write-m : tie.Need-slice-write-m
+slice-write-m c = search needs
+
+same-length-2 : tie.Need-same-length-2
+unfolding part
+same-length-2 c = numbers-long _ _ _ _ _ _ _ (c .before .before .before .before .before .before .take-out .ensures) (c .before .before .take-out2 .ensures) (c .before .before .before .before .before .before .before .before .before .before .before .before .before .pre)
+
+returns-2 : tie.Need-returns-2
+unfolding part
+returns-2 c = search removed
+
+pub remove-number-spec : {M : Type 1} → statement M
+remove-number-spec =
+    tie.close
+    (tie.spec
+    add-end
+    mul-n
+    slice-read-n
+    slice-reshare-prefix-find
+    slice-aggregate-find
+    find-requires
+    same-length
+    returns
+    slice-relend-prefix-take-out
+    slice-aggregate-take-out
+    take-out-requires
+    mul-take-out
+    sub-take-out
+    part-take-out-start
+    part-take-out-end
+    take-out-requires-2
+    sub-m
+    mul-m
+    slice-write-m
+    same-length-2
+    returns-2)

@@ -1,0 +1,423 @@
+// Maps by peer as sections of one lent list of 64-bit words: columns of `cap` places in rising order of the peers, and then the count of those in use.
+use peer::Number;
+use peer::PeerData;
+use section::PeerId;
+ghost use mathlib.Core.Path.{_≡_};
+ghost use mathlib.Core.Bool.{true, _||_, _&&_};
+ghost use mathlib.Core.List.{[]};
+ghost use Prim.Native.Nat.{_+_, _^_, _≤_, _<_};
+ghost use lib.ListN.{length, take, drop};
+ghost use lib.Dec.{ltb};
+ghost use Rattle.lists.specs.Lists.{shift-remove, insert-at};
+ghost use Rattle.lists.specs.Maps.{keys, has, lookup, cut, put};
+ghost use Rattle.lists.specs.Tests.{every, packed};
+ghost use Rattle.lists.specs.Bytes.{le};
+ghost use Rattle.peer.specs.Data.{bytes-of, holds};
+ghost use Rattle.peer.specs.Held.{data-in, ValidData, HoldsData};
+ghost use Rattle.peer.specs.Maps.{number-in, valid-entry};
+ghost use Rattle.scan.specs.Words.{unused};
+ghost use Rattle.section.specs.Section.{part, Filled, HoldsSet};
+ghost use Rattle.columns.specs.Columns.{numbers-at, ValidNumbers, HoldsNumbers, valid-numbers, Two, word-bytes, row, entries-at, data-at, ValidDataWords, HoldsDataWords, valid-data-words};
+
+// A peer with its data.
+pub struct PeerInfo {
+    pub id: PeerId,
+    pub data: PeerData,
+}
+
+// ---- two columns of cap places
+
+// Without the items at i.
+pub fn out_two(s: &mut [u64], cap: usize, n: usize, i: usize)
+    requires { ⌜ length (now s) ≡ cap + cap ⌝ }
+    requires { ⌜ Filled (part 0 cap (now s)) n ⌝ }
+    requires { ⌜ Filled (part cap cap (now s)) n ⌝ }
+    requires { ⌜ i < n ⌝ }
+    ensures { λ _. ⌜ Two cap (now (s .exit)) (shift-remove i (take n (part 0 cap (now (s .entry))))) (shift-remove i (take n (part cap cap (now (s .entry))))) ⌝ }
+{
+    let end = cap + cap;
+    section::take_out(&mut s[..cap], n, i);
+    section::take_out(&mut s[cap..end], n, i);
+}
+
+// With x and y at place i.
+pub fn in_two(s: &mut [u64], cap: usize, n: usize, i: usize, x: u64, y: u64)
+    requires { ⌜ length (now s) ≡ cap + cap ⌝ }
+    requires { ⌜ Filled (part 0 cap (now s)) n ⌝ }
+    requires { ⌜ Filled (part cap cap (now s)) n ⌝ }
+    requires { ⌜ n < cap ⌝ }
+    requires { ⌜ i ≤ n ⌝ }
+    ensures { λ _. ⌜ Two cap (now (s .exit)) (insert-at i x (take n (part 0 cap (now (s .entry))))) (insert-at i y (take n (part cap cap (now (s .entry))))) ⌝ }
+{
+    let end = cap + cap;
+    section::put_in(&mut s[..cap], n, i, x);
+    section::put_in(&mut s[cap..end], n, i, y);
+}
+
+// Whether the places from n on of both columns are zero.
+pub fn zero_two(s: &[u64], cap: usize, n: usize) -> bool
+    requires { ⌜ length (now s) ≡ cap + cap ⌝ }
+    requires { ⌜ n ≤ cap ⌝ }
+    ensures { λ r. ⌜ r ≡ (packed unused cap n (part 0 cap (now (s .entry))) && packed unused cap n (part cap cap (now (s .entry)))) ⌝ }
+{
+    let end = cap + cap;
+    if section::zero_from(&s[..cap], n) {
+        return section::zero_from(&s[cap..end], n);
+    }
+    false
+}
+
+// ---- 16 bytes in two words
+
+fn wide(x: u8) -> u64
+    ensures { λ r. ⌜ (r ≡ x) × (r < 256) ⌝ }
+{
+    x as u64
+}
+
+// The eight bytes from `at` on, lowest first.
+pub fn word_at(b: [u8; 16], at: usize) -> u64
+    requires { ⌜ at ≤ 8 ⌝ }
+    ensures { λ r. ⌜ (le 8 r ≡ take 8 (drop at b)) × (r < 18446744073709551616) ⌝ }
+{
+    let h = wide(b[at + 7]);
+    let g = wide(b[at + 6]) + 256 * h;
+    let f = wide(b[at + 5]) + 256 * g;
+    let e = wide(b[at + 4]) + 256 * f;
+    let d = wide(b[at + 3]) + 256 * e;
+    let c = wide(b[at + 2]) + 256 * d;
+    let k = wide(b[at + 1]) + 256 * c;
+    wide(b[at]) + 256 * k
+}
+
+pub fn bytes_of(w: u64, x: u64) -> [u8; 16]
+    ensures { λ r. ⌜ r ≡ word-bytes w x ⌝ }
+{
+    let w1 = w / 256;
+    let w2 = w1 / 256;
+    let w3 = w2 / 256;
+    let w4 = w3 / 256;
+    let w5 = w4 / 256;
+    let w6 = w5 / 256;
+    let w7 = w6 / 256;
+    let x1 = x / 256;
+    let x2 = x1 / 256;
+    let x3 = x2 / 256;
+    let x4 = x3 / 256;
+    let x5 = x4 / 256;
+    let x6 = x5 / 256;
+    let x7 = x6 / 256;
+    [
+        (w % 256) as u8,
+        (w1 % 256) as u8,
+        (w2 % 256) as u8,
+        (w3 % 256) as u8,
+        (w4 % 256) as u8,
+        (w5 % 256) as u8,
+        (w6 % 256) as u8,
+        (w7 % 256) as u8,
+        (x % 256) as u8,
+        (x1 % 256) as u8,
+        (x2 % 256) as u8,
+        (x3 % 256) as u8,
+        (x4 % 256) as u8,
+        (x5 % 256) as u8,
+        (x6 % 256) as u8,
+        (x7 % 256) as u8,
+    ]
+}
+
+// ---- a map of numbers: the peers, their numbers, and then the count
+
+pub fn count_numbers(m: &[u64], cap: usize) -> usize
+    requires { ⌜ ValidNumbers cap (now m) ⌝ }
+    ensures { λ r. ⌜ (r ≡ length (numbers-at cap (now (m .entry)))) × (r ≤ cap) ⌝ }
+{
+    let end = cap + cap;
+    m[end] as usize
+}
+
+pub fn contains_number(m: &[u64], cap: usize, p: PeerId) -> bool
+    requires { ⌜ ValidNumbers cap (now m) ⌝ }
+    ensures { λ r. ⌜ r ≡ has p (numbers-at cap (now (m .entry))) ⌝ }
+{
+    let end = cap + cap;
+    let n = m[end] as usize;
+    let i = section::find(&m[..cap], n, p);
+    i < n
+}
+
+pub fn get_number(m: &[u64], cap: usize, p: PeerId) -> Number
+    requires { ⌜ ValidNumbers cap (now m) ⌝ }
+    ensures { λ r. ⌜ number-in r ≡ lookup p (numbers-at cap (now (m .entry))) ⌝ }
+{
+    let end = cap + cap;
+    let n = m[end] as usize;
+    let i = section::find(&m[..cap], n, p);
+    if i < n {
+        return Number::Is(m[cap + i]);
+    }
+    Number::Absent
+}
+
+pub fn remove_number(m: &mut [u64], cap: usize, p: PeerId)
+    requires { ⌜ ValidNumbers cap (now m) ⌝ }
+    ensures { λ _. ⌜ HoldsNumbers cap (now (m .exit)) (cut p (numbers-at cap (now (m .entry)))) ⌝ }
+{
+    let end = cap + cap;
+    let n = m[end] as usize;
+    let i = section::find(&m[..cap], n, p);
+    if i >= n {
+        return;
+    }
+    section::take_out(&mut m[..cap], n, i);
+    section::take_out(&mut m[cap..end], n, i);
+    m[end] = (n - 1) as u64;
+}
+
+pub fn insert_number(m: &mut [u64], cap: usize, p: PeerId, x: u64)
+    requires { ⌜ ValidNumbers cap (now m) ⌝ }
+    requires { ⌜ (has p (numbers-at cap (now m)) || ltb (length (numbers-at cap (now m))) cap) ≡ true ⌝ }
+    ensures { λ _. ⌜ HoldsNumbers cap (now (m .exit)) (put p x (numbers-at cap (now (m .entry)))) ⌝ }
+{
+    let end = cap + cap;
+    let n = m[end] as usize;
+    let i = section::find(&m[..cap], n, p);
+    if i < n {
+        m[cap + i] = x;
+        return;
+    }
+    let at = section::rank_of(&m[..cap], n, p);
+    section::put_in(&mut m[..cap], n, at, p);
+    section::put_in(&mut m[cap..end], n, at, x);
+    m[end] = (n + 1) as u64;
+}
+
+// No numbers, whatever the words were.
+pub fn clear_numbers(m: &mut [u64], cap: usize)
+    requires { ⌜ length (now m) ≡ cap + cap + 1 ⌝ }
+    ensures { λ _. ⌜ HoldsNumbers cap (now (m .exit)) [] ⌝ }
+{
+    section::clear_from(m, 0);
+}
+
+// The peers that have a number, as a working set.
+pub fn keys_into(m: &[u64], cap: usize, t: &mut [u64])
+    requires { ⌜ ValidNumbers cap (now m) ⌝ }
+    requires { ⌜ cap ≤ 32 ⌝ }
+    requires { ⌜ length (now t) ≡ 33 ⌝ }
+    ensures { λ _. ⌜ HoldsSet 32 (now (t .exit)) (keys (numbers-at cap (now (m .entry)))) ⌝ }
+{
+    let end = cap + cap;
+    let n = m[end] as usize;
+    section::copy_column(&m[..cap], n, t);
+}
+
+// Whether this is a map, of any words.
+pub fn numbers_valid(m: &[u64], cap: usize) -> bool
+    requires { ⌜ length (now m) ≡ cap + cap + 1 ⌝ }
+    ensures { λ r. ⌜ r ≡ valid-numbers cap (now (m .entry)) ⌝ }
+{
+    let end = cap + cap;
+    let n = m[end] as usize;
+    if n > cap {
+        return false;
+    }
+    if section::zero_from(&m[..cap], n) {
+        if section::zero_from(&m[cap..end], n) {
+            return section::rises(&m[..cap], n);
+        }
+    }
+    false
+}
+
+// ---- a map of data: the peers, the lengths, the low words, the high words, and then the count
+
+pub fn count_data(m: &[u64], cap: usize) -> usize
+    requires { ⌜ ValidDataWords cap (now m) ⌝ }
+    ensures { λ r. ⌜ (r ≡ length (data-at cap (now (m .entry)))) × (r ≤ cap) ⌝ }
+{
+    let half = cap + cap;
+    let end = half + half;
+    m[end] as usize
+}
+
+pub fn contains_data(m: &[u64], cap: usize, p: PeerId) -> bool
+    requires { ⌜ ValidDataWords cap (now m) ⌝ }
+    ensures { λ r. ⌜ r ≡ has p (data-at cap (now (m .entry))) ⌝ }
+{
+    let half = cap + cap;
+    let end = half + half;
+    let n = m[end] as usize;
+    let i = section::find(&m[..half], n, p);
+    i < n
+}
+
+pub fn get_data(m: &[u64], cap: usize, p: PeerId) -> PeerData
+    requires { ⌜ ValidDataWords cap (now m) ⌝ }
+    ensures { λ r. ⌜ HoldsData r (lookup p (data-at cap (now (m .entry)))) ⌝ }
+{
+    let half = cap + cap;
+    let end = half + half;
+    let n = m[end] as usize;
+    let i = section::find(&m[..half], n, p);
+    if i < n {
+        let bytes = bytes_of(m[half + i], m[half + cap + i]);
+        let len = m[cap + i] as u8;
+        return PeerData {
+            present: true,
+            len,
+            bytes,
+        };
+    }
+    PeerData::absent()
+}
+
+// Whether the peer has exactly the bytes of `d`.
+pub fn holds_data(m: &[u64], cap: usize, p: PeerId, d: PeerData) -> bool
+    requires { ⌜ ValidDataWords cap (now m) ⌝ }
+    requires { ⌜ ValidData d ⌝ }
+    ensures { λ r. ⌜ r ≡ holds (lookup p (data-at cap (now (m .entry)))) (bytes-of (data-in d)) ⌝ }
+{
+    let half = cap + cap;
+    let end = half + half;
+    let n = m[end] as usize;
+    let i = section::find(&m[..half], n, p);
+    if i >= n {
+        return false;
+    }
+    if m[cap + i] != d.len as u64 {
+        return false;
+    }
+    let b = d.bytes;
+    let low = word_at(b, 0);
+    let high = word_at(b, 8);
+    if m[half + i] != low {
+        return false;
+    }
+    m[half + cap + i] == high
+}
+
+pub fn remove_data(m: &mut [u64], cap: usize, p: PeerId)
+    requires { ⌜ ValidDataWords cap (now m) ⌝ }
+    ensures { λ _. ⌜ HoldsDataWords cap (now (m .exit)) (cut p (data-at cap (now (m .entry)))) ⌝ }
+{
+    let half = cap + cap;
+    let end = half + half;
+    let n = m[end] as usize;
+    let i = section::find(&m[..half], n, p);
+    if i >= n {
+        return;
+    }
+    out_two(&mut m[..half], cap, n, i);
+    out_two(&mut m[half..end], cap, n, i);
+    m[end] = (n - 1) as u64;
+}
+
+// The data is stored as its bytes, of which absent data has none.
+pub fn insert_data(m: &mut [u64], cap: usize, p: PeerId, d: PeerData)
+    requires { ⌜ ValidDataWords cap (now m) ⌝ }
+    requires { ⌜ ValidData d ⌝ }
+    requires { ⌜ (has p (data-at cap (now m)) || ltb (length (data-at cap (now m))) cap) ≡ true ⌝ }
+    ensures { λ _. ⌜ HoldsDataWords cap (now (m .exit)) (put p (bytes-of (data-in d)) (data-at cap (now (m .entry)))) ⌝ }
+{
+    let half = cap + cap;
+    let end = half + half;
+    let n = m[end] as usize;
+    let b = d.bytes;
+    let low = word_at(b, 0);
+    let high = word_at(b, 8);
+    let i = section::find(&m[..half], n, p);
+    if i < n {
+        m[cap + i] = d.len as u64;
+        m[half + i] = low;
+        m[half + cap + i] = high;
+        return;
+    }
+    let at = section::rank_of(&m[..half], n, p);
+    in_two(&mut m[..half], cap, n, at, p, d.len as u64);
+    in_two(&mut m[half..end], cap, n, at, low, high);
+    m[end] = (n + 1) as u64;
+}
+
+// No data, whatever the words were.
+pub fn clear_data(m: &mut [u64], cap: usize)
+    requires { ⌜ length (now m) ≡ cap + cap + (cap + cap) + 1 ⌝ }
+    ensures { λ _. ⌜ HoldsDataWords cap (now (m .exit)) [] ⌝ }
+{
+    section::clear_from(m, 0);
+}
+
+// What one more than the greatest number of k bytes is.
+const POWERS: [u64; 8] = [
+    1,
+    256,
+    65536,
+    16777216,
+    4294967296,
+    1099511627776,
+    281474976710656,
+    72057594037927936,
+];
+
+fn power(k: usize) -> u64
+    requires { ⌜ k < 8 ⌝ }
+    ensures { λ r. ⌜ r ≡ 256 ^ k ⌝ }
+{
+    POWERS[k]
+}
+
+// Whether this is an entry, of any words: the bytes past the length are zero.
+pub fn row_valid(l: u64, w: u64, x: u64) -> bool
+    ensures { λ r. ⌜ r ≡ valid-entry (row l w x) ⌝ }
+{
+    if 16 < l {
+        return false;
+    }
+    if l < 8 {
+        return (w < power(l as usize)) & (x == 0);
+    }
+    if l < 16 {
+        return x < power(l as usize - 8);
+    }
+    true
+}
+
+// Whether the first n entries are ones, of any words.
+pub fn rows_valid(m: &[u64], cap: usize, n: usize) -> bool
+    requires { ⌜ length (now m) ≡ cap + cap + (cap + cap) + 1 ⌝ }
+    requires { ⌜ n ≤ cap ⌝ }
+    ensures { λ r. ⌜ r ≡ every valid-entry (take n (entries-at cap (now (m .entry)))) ⌝ }
+{
+    let half = cap + cap;
+    let mut i: usize = 0;
+    while i < n {
+        if row_valid(m[cap + i], m[half + i], m[half + cap + i]) {
+            i += 1;
+        } else {
+            return false;
+        }
+    }
+    true
+}
+
+// Whether this is a map, of any words.
+pub fn data_valid(m: &[u64], cap: usize) -> bool
+    requires { ⌜ length (now m) ≡ cap + cap + (cap + cap) + 1 ⌝ }
+    ensures { λ r. ⌜ r ≡ valid-data-words cap (now (m .entry)) ⌝ }
+{
+    let half = cap + cap;
+    let end = half + half;
+    let n = m[end] as usize;
+    if n > cap {
+        return false;
+    }
+    if zero_two(&m[..half], cap, n) {
+        if zero_two(&m[half..end], cap, n) {
+            if rows_valid(m, cap, n) {
+                return section::rises(&m[..half], n);
+            }
+        }
+    }
+    false
+}
