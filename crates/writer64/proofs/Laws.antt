@@ -19,10 +19,10 @@ use Rattle.lists.proofs.Front.{getD-any}
 use Rattle.lists.proofs.Rest.{Rest, rest-next, rest-end}
 use Rattle.peer.specs.Data.{Data, bytes-of}
 use Rattle.peer.specs.Held.{data-in, ValidData}
-use Rattle.writer64.specs.Nodes.{node-in}
+use Rattle.columns.specs.Columns.{node-in}
 use Rattle.peer.proofs.Data.{data-present, data-absent, length-bytes, bytes-in}
 use Rattle.peer.specs.declared.PeerData.{PeerData}
-use Rattle.writer64.specs.declared.PeerInfo.{PeerInfo}
+use Rattle.columns.specs.declared.PeerInfo.{PeerInfo}
 use Rattle.record.specs.Format.{present, offset, entry, entries, datas}
 use Rattle.writer64.specs.Nodes.{blank, nodes-in, ValidNodes, HoldsNodes}
 use Rattle.writer64.specs.declared.Nodes.{Nodes}

@@ -12,8 +12,8 @@ use Rattle.lists.specs.Bytes.{le, overwrite}
 use Rattle.lists.proofs.Bytes.{then}
 use Rattle.peer.specs.Data.{Node, bytes-of}
 use Rattle.peer.specs.Held.{data-in, ValidData}
-use Rattle.writer64.specs.Nodes.{node-in}
-use Rattle.writer64.specs.declared.PeerInfo.{PeerInfo}
+use Rattle.columns.specs.Columns.{node-in}
+use Rattle.columns.specs.declared.PeerInfo.{PeerInfo}
 use Rattle.peer.proofs.Data.{bytes-in}
 use Rattle.record.specs.Format.{Rec, entry, entries, datas, size, header, encode}
 use Rattle.record.proofs.Format.{length-entries, length-header}

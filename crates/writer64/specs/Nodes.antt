@@ -7,13 +7,10 @@ use mathlib.Core.List.{List, map}
 use lib.ListN.{take, getD, replicate}
 use Rattle.lists.specs.Array.{pad}
 use Rattle.peer.specs.Data.{Node}
-use Rattle.peer.specs.Held.{data-in, ValidData}
-use Rattle.writer64.specs.declared.PeerInfo.{PeerInfo}
+use Rattle.peer.specs.Held.{ValidData}
+use Rattle.columns.specs.declared.PeerInfo.{PeerInfo}
+use Rattle.columns.specs.Columns.{node-in}
 use Rattle.writer64.specs.declared.Nodes.{Nodes}
-
--- the peer with its data that n stands for
-unfoldable pub node-in : PeerInfo → Node
-node-in n = record { id = n .id; data-of = data-in (n .data) }
 
 -- an unused place
 abbrev pub blank : PeerInfo

@@ -1,13 +1,16 @@
 // Part 3 of document 01: the writers of records, from peers of 64 bits, of which a record carries the four low bytes.
+use columns::PeerInfo;
 use peer::PeerData;
+use section::PeerId;
 ghost use mathlib.Core.Path.{_≡_};
 ghost use mathlib.Core.List.{List, [], _∷_, _++_};
 ghost use Prim.Native.Nat.{_+_, _*_, _-_, _≤_, _<_};
 ghost use lib.ListN.{length};
 ghost use Rattle.lists.specs.Bytes.{overwrite};
+ghost use Rattle.columns.specs.Columns.{node-in};
 ghost use Rattle.peer.specs.Held.{ValidData};
 ghost use Rattle.record.specs.Format.{entry, entries, datas};
-ghost use Rattle.writer64.specs.Nodes.{node-in, nodes-in, ValidNodes, HoldsNodes};
+ghost use Rattle.writer64.specs.Nodes.{nodes-in, ValidNodes, HoldsNodes};
 ghost use Rattle.writer64.specs.Write.{rec-in, header-bytes, Wrote};
 
 // A record's fields but its nodes; their number and the whole length follow from the nodes.
@@ -15,16 +18,10 @@ pub struct Fields {
     pub kind: u8,
     pub message: u8,
     pub flags: u8,
-    pub peer: u64,
+    pub peer: PeerId,
     pub second: u64,
     pub ttl: u16,
     pub number: u64,
-}
-
-// A peer with its data.
-pub struct PeerInfo {
-    pub id: u64,
-    pub data: PeerData,
 }
 
 // The nodes of a record to be written.

@@ -6,9 +6,9 @@ use native.Mathlib.Omega.{arith}
 use borrow.Author.Needs.{needs}
 use lib.ListN.{length, take, getD}
 use Rattle.lists.specs.Bytes.{overwrite}
-use Rattle.writer64.specs.declared.PeerInfo.{PeerInfo}
+use Rattle.columns.specs.declared.PeerInfo.{PeerInfo}
 use Rattle.peer.specs.Held.{ValidData}
-use Rattle.writer64.specs.Nodes.{node-in}
+use Rattle.columns.specs.Columns.{node-in}
 use Rattle.record.specs.Format.{entry, entries}
 use Rattle.writer64.specs.declared.Nodes.{Nodes}
 use Rattle.writer64.specs.Nodes.{nodes-in, ValidNodes}

@@ -1,0 +1,110 @@
+-- Steps that are not lent the words: how they are proved, and what a step that has words gets of them.
+-- Assumes nothing.
+use Prim.Native.Nat.{ℕ, _+_, _-_, _≤_, _<_}
+use mathlib.Core.Path.{_≡_, refl, sym, _∙_, subst}
+use mathlib.Core.Bool.{Bool, true, false}
+use mathlib.Core.List.{List}
+use native.Mathlib.Omega.{arith}
+use borrow.Author.Tests.{eq-eqb, ne-eqb}
+use lib.Dec.{eqb}
+use lib.ListN.{length, drop}
+use Rattle.lists.specs.Lists.{choose}
+use Rattle.lists.proofs.Choice.{choose-yes, choose-no}
+use Rattle.util.specs.Random.{shuffle, shuffle-down, shuffle-draws}
+use Rattle.section.specs.Section.{items-at, ValidSet, HoldsSet}
+use Rattle.record.specs.Format.{Rec}
+use Rattle.writer64.specs.declared.Written.{Written}
+use Rattle.writer64.specs.Write.{Wrote}
+use Rattle.protocol.specs.Run.{Run, emit, draw, draw-shuffle, require}
+use Rattle.words.specs.declared.Work.{Work}
+use Rattle.words.specs.Unpack.{PackedState}
+use Rattle.words.specs.Work.{work-of, Changes, Ready, Draws, Room, Tells, Fine, Does, ChangesAny, DrawsAny, TellsAny, after-record}
+use Rattle.words.proofs.Bridge.{require-passed, require-held, require-refused, draw-passed, draw-short, draw-done, emit-passed, emit-done, then, then-draw, then-tell}
+
+module _ (w : Work) (k : ℕ) (t : Bool) where
+  pub required-passed : (w .code ≡ 0 → ⊥) → ChangesAny (require k t) w w
+  required-passed h = record { any = λ xs v. require-passed (work-of w xs) v k t h }
+
+  pub required-held : w .code ≡ 0 → t ≡ true → ChangesAny (require k t) w w
+  required-held h e = record { any = λ xs v. require-held (work-of w xs) v k t h e }
+
+  pub required-refused : w .code ≡ 0 → t ≡ false → ChangesAny (require k t) w (record { drawn = w .drawn; written = w .written; code = k })
+  required-refused h e = record { any = λ xs v. require-refused (work-of w xs) v k t h e }
+
+module _ (w : Work) (ds : List ℕ) (n : ℕ) (l : w .drawn ≤ length ds) where
+  pub drew-passed : (w .code ≡ 0 → ⊥) → DrawsAny (draw n) w w ds
+  drew-passed h = record { any = λ xs v. draw-passed (work-of w xs) ds (record { packed = v; drawn = l }) n h }
+
+  pub drew-short : w .code ≡ 0 → length ds < w .drawn + n → DrawsAny (draw n) w (record { drawn = w .drawn; written = w .written; code = 5 }) ds
+  drew-short h f = record { any = λ xs v. draw-short (work-of w xs) ds (record { packed = v; drawn = l }) n h f }
+
+  pub drew : w .code ≡ 0 → w .drawn + n ≤ length ds → DrawsAny (draw n) w (record { drawn = w .drawn + n; written = w .written; code = w .code }) ds
+  drew h f = record { any = λ xs v. draw-done (work-of w xs) ds (record { packed = v; drawn = l }) n h f }
+
+module _ (w : Work) (out : List ℕ) (e : Rec) (l : w .written ≤ length out) where
+  pub emitted-passed : (w .code ≡ 0 → ⊥) → TellsAny (emit e) w w out out
+  emitted-passed h = record { any = λ xs v. emit-passed w xs out e (record { packed = v; written = l }) h }
+
+  pub emitted : (a : Written) (o : List ℕ) (r : Work) → w .code ≡ 0 → Wrote e (w .written) out a o → r ≡ after-record a w → TellsAny (emit e) w r out o
+  emitted a o r h k q = record { any = λ xs v. emit-done w xs out e (record { packed = v; written = l }) a o r h k q }
+
+-- ---- for a step that has words: what the next call asks
+
+pub ready-after : {step : Run → Run} (w r : Work) (ds xs : List ℕ) → DrawsAny step w r ds → PackedState xs → Ready (work-of r xs) ds
+ready-after w r ds xs k v = k .any xs v .ready
+
+pub room-after : {step : Run → Run} (w r : Work) (out o xs : List ℕ) → TellsAny step w r out o → PackedState xs → Room (work-of r xs) o
+room-after w r out o xs k v = k .any xs v .room
+
+-- ---- in a row of steps that are lent both
+
+pub then-any : {step : Run → Run} {a r : Work} {xs ds o : List ℕ} {g : Run} → ChangesAny step a r → Does (work-of a xs) ds o g → Does (work-of r xs) ds o (step g)
+then-any k d = then (k .any _ (d .fine .ready .packed)) d
+
+pub then-draw-any : {step : Run → Run} {a r : Work} {xs ds o : List ℕ} {g : Run} → DrawsAny step a r ds → Does (work-of a xs) ds o g → Does (work-of r xs) ds o (step g)
+then-draw-any k d = then-draw (k .any _ (d .fine .ready .packed)) d
+
+pub then-tell-any : {step : Run → Run} {a r : Work} {xs ds o₁ o₂ : List ℕ} {g : Run} → TellsAny step a r o₁ o₂ → Does (work-of a xs) ds o₁ g → Does (work-of r xs) ds o₂ (step g)
+then-tell-any k d = then-tell (k .any _ (d .fine .ready .packed)) d
+
+-- ---- a shuffle: its items are those of v, of which n - 1 draws are taken
+
+module _ (w : Work) (ds v : List ℕ) (l : w .drawn ≤ length ds) (s : ValidSet 32 v) where
+  abbrev items : List ℕ
+  items = items-at 32 v
+
+  pub shuffle-passed : (w .code ≡ 0 → ⊥) → DrawsAny (draw-shuffle items) w w ds
+  unfolding draw-shuffle
+  shuffle-passed h = drew-passed w ds (shuffle-draws items) l h
+
+  pub shuffle-left : (w .code ≡ 0 → ⊥) → HoldsSet 32 v (choose (eqb (w .code) 0) (shuffle (drop (w .drawn) ds) items) items)
+  shuffle-left h = record { valid = s; items = sym (choose-no (eqb (w .code) 0) _ _ (ne-eqb _ _ h)) }
+
+  -- one item or none: no draw, and no change
+  pub shuffle-few : (n : ℕ) → n ≡ length items → w .code ≡ 0 → n < 2 → DrawsAny (draw-shuffle items) w w ds
+  unfolding draw-shuffle shuffle-draws
+  shuffle-few n e h f =
+      let z : length items - 1 ≡ 0 = omega (arith, e) in
+      let t : w .drawn + 0 ≡ w .drawn = omega arith in
+      subst (λ (k : ℕ). DrawsAny (draw k) w w ds) (sym z)
+      (subst (λ (k : ℕ). DrawsAny (draw 0) w (record { drawn = k; written = w .written; code = w .code }) ds) t (drew w ds 0 l h (omega (arith, l))))
+
+  pub shuffle-same : (n : ℕ) → n ≡ length items → w .code ≡ 0 → n < 2 → HoldsSet 32 v (choose (eqb (w .code) 0) (shuffle (drop (w .drawn) ds) items) items)
+  unfolding shuffle shuffle-down
+  shuffle-same n e h f =
+      let z : length items - 1 ≡ 0 = omega (arith, e) in
+      record { valid = s; items = sym (choose-yes (eqb (w .code) 0) _ _ (eq-eqb _ _ h) ∙ rw z refl) }
+
+  pub shuffle-short : (n : ℕ) → n ≡ length items → w .code ≡ 0 → length ds - w .drawn < n - 1 → DrawsAny (draw-shuffle items) w (record { drawn = w .drawn; written = w .written; code = 5 }) ds
+  unfolding draw-shuffle shuffle-draws
+  shuffle-short n e h f = drew-short w ds (length items - 1) l h (omega (arith, e))
+
+  pub shuffle-refused : HoldsSet 32 v (choose (eqb 5 0) (shuffle (drop (w .drawn) ds) items) items)
+  shuffle-refused = record { valid = s; items = sym (choose-no (eqb 5 0) _ _ refl) }
+
+  pub shuffle-drew : (n : ℕ) → n ≡ length items → w .code ≡ 0 → n - 1 ≤ length ds - w .drawn → DrawsAny (draw-shuffle items) w (record { drawn = w .drawn + (n - 1); written = w .written; code = w .code }) ds
+  unfolding draw-shuffle shuffle-draws
+  shuffle-drew n e h f = rw e (drew w ds (length items - 1) l h (omega (arith, e)))
+
+  pub shuffle-done : (o : List ℕ) → w .code ≡ 0 → HoldsSet 32 o (shuffle (drop (w .drawn) ds) items) → HoldsSet 32 o (choose (eqb (w .code) 0) (shuffle (drop (w .drawn) ds) items) items)
+  shuffle-done o h k = record { valid = k .valid; items = k .items ∙ sym (choose-yes (eqb (w .code) 0) _ _ (eq-eqb _ _ h)) }
