@@ -1,0 +1,220 @@
+-- Laws of the steps on peers that several proofs cite.
+-- Assumes nothing.
+use Prim.Native.Nat.{ℕ, _+_, _%_, _≤_, _<_}
+use mathlib.Core.Path.{_≡_, refl, sym, ap, _∙_, subst}
+use mathlib.Core.Bool.{Bool, true, false, not, _||_, or-true, or-false}
+use mathlib.Core.List.{List, [], _∷_, _++_}
+use mathlib.Core.Option.{none, some}
+use native.Mathlib.Omega.{arith}
+use native.Mathlib.Nat.{mod-lt}
+use lib.ListN.{length, take, getD, length-append}
+use lib.Dec.{eqb, leb, ltb}
+use borrow.Author.Tests.{eqb-false, leb-false, lt-ltb, le-ltb}
+use Rattle.lists.specs.Lists.{null, remove, shift-remove}
+use Rattle.section.specs.Section.{items-at}
+use Rattle.words.specs.Layout.{passive-part, peer-data-part, passive-view-capacity}
+use Rattle.columns.specs.Columns.{data-at}
+use Rattle.lists.specs.Maps.{lookup, has}
+use Rattle.lists.proofs.Choice.{by-choice, choose-yes, choose-no, and-right, and-false}
+use Rattle.lists.proofs.Count.{length-shift, length-remove}
+use Rattle.util.specs.Random.{pick}
+use Rattle.peer.specs.declared.PeerData.{PeerData}
+use Rattle.peer.specs.Held.{data-in}
+use Rattle.writer64.specs.Write.{rec-in}
+use Rattle.columns.specs.Columns.{node-in}
+use Rattle.words.specs.declared.Work.{Work}
+use Rattle.protocol.specs.Run.{Run, guard, on, emit, draw, drawn, require, node}
+use Rattle.words.specs.Work.{Held, work-of, ChangesAny, DrawsAny, TellsAny, run, Changes, Ready, Draws, Room, Tells, Fine, Does}
+use Rattle.words.proofs.Bridge.{unchanged, change-then, drawing, draw-then, draw-yes, draw-no, telling, tell-by, tell-then, tell-no, still, then-draw, then-tell, require-said}
+use Rattle.peer.specs.Data.{Data, bytes-of, holds}
+use Rattle.timing.proofs.Ranges.{ranges}
+use Rattle.protocol.specs.Station.{Station, is-me, in-view, passive-is-full}
+use Rattle.protocol.specs.Peers.{is-known, data-fits, store-data, keep-data, announce-data, insert-data, insert-peer-info, forget-peer, drop-traces, drop-mark, drop-data, shift-passive, push-passive, evict-at, must-evict, make-room, is-newcomer, enter-passive, add-passive}
+use Rattle.step_peers.specs.Room.{FreePassive, FreeData}
+use Rattle.words.specs.Unpack.{unpack, station-of, settings-at, PackedState}
+use Rattle.words.proofs.Access.{of-settings, passive-fits}
+
+pub known : (s : List ℕ) (p : ℕ) (b : List ℕ) (x y : Bool) → x ≡ is-me p (unpack s) → y ≡ holds (lookup p (unpack s .peer-data)) b → (x || y) ≡ is-known p b (unpack s)
+unfolding is-known unpack station-of
+known s p b x y e f = rw (e, f)
+
+-- fewer passive peers are within capacity
+pub shrunk : (xs : List ℕ) (p : ℕ) → PackedState xs → length (remove p (items-at 32 (passive-part xs))) ≤ passive-view-capacity xs
+shrunk xs p v = omega (arith, length-remove p (items-at 32 (passive-part xs)), passive-fits xs v)
+
+pub shifted-fits : (xs : List ℕ) (i : ℕ) → PackedState xs → i < length (unpack xs .passive) → length (shift-remove i (items-at 32 (passive-part xs))) ≤ passive-view-capacity xs
+unfolding unpack station-of
+shifted-fits xs i v h = omega (arith, length-shift (items-at 32 (passive-part xs)) i h, passive-fits xs v)
+
+-- a free place in the passive view is one in its section, and is enough for one more
+module _ (xs : List ℕ) (code : ℕ) (v : PackedState xs) (z : code ≡ 0) (h : FreePassive code (unpack xs)) where
+  pub place-passive : length (items-at 32 (passive-part xs)) < 32
+  unfolding unpack station-of settings-at
+  place-passive = omega (arith, h .free z, ranges (settings-at xs) (of-settings xs v) .passive .most)
+
+  pub one-more : (p : ℕ) → length (items-at 32 (passive-part xs) ++ (p ∷ [])) ≤ passive-view-capacity xs
+  unfolding unpack station-of settings-at
+  one-more p = omega (arith, h .free z, length-append (items-at 32 (passive-part xs)) (p ∷ []))
+
+-- ---- rows and branches
+
+pub kept-free : (w a : Work) (xs : List ℕ) (p : ℕ) (t : Bool) → PackedState xs → t ≡ data-fits p (unpack xs) → ChangesAny (require 8 t) w a → FreeData p (a .code) (unpack xs)
+kept-free w a xs p t v e k = record { free = λ z. sym e ∙ require-said (work-of w xs) (work-of a xs) 8 t (omega arith) (k .any xs v) z .1 }
+
+pub keeps : (w a r : Work) (xs ys : List ℕ) (p : ℕ) (b : List ℕ) (t : Bool) → PackedState xs → t ≡ data-fits p (unpack xs) → Changes (on (store-data p b)) (work-of a xs) (work-of r ys) → ChangesAny (require 8 t) w a → Changes (keep-data p b) (work-of w xs) (work-of r ys)
+unfolding keep-data run
+keeps w a r xs ys p b t v e k₂ k₁ = change-then _ (λ ds out. rw e) k₂ (k₁ .any xs v)
+
+pub evicts : (w a r : Held) (i p : ℕ) → p ≡ getD (unpack (w .state) .passive) i 0 → Changes (forget-peer p) a r → Changes (on (shift-passive i)) w a → Changes (evict-at i) w r
+unfolding evict-at run unpack station-of
+evicts w a r i p e k₂ k₁ = change-then _ (λ ds out. rw e) k₂ k₁
+
+-- ---- peer data
+
+present-data : (d : PeerData) → d .present ≡ true → data-in d ≡ some (bytes-of (data-in d))
+unfolding data-in bytes-of
+present-data d h = rw (choose-yes (d .present) (some (take (d .len) (d .bytes))) none h)
+
+absent-data : (d : PeerData) → d .present ≡ false → data-in d ≡ none
+unfolding data-in
+absent-data d h = choose-no _ _ _ h
+
+module _ (w : Held) (out : List ℕ) (p : ℕ) (d : PeerData) where
+  pub not-announced : (t : Bool) → Room w out → t ≡ null (bytes-of (data-in d)) → t ≡ true → Tells (announce-data p (bytes-of (data-in d))) w w out out
+  unfolding announce-data
+  not-announced t v e h = tell-by _ (λ ds. choose-yes _ _ _ (sym e ∙ h)) (telling v (unchanged (λ g. g) (v .packed) (λ ds o. refl)))
+
+pub announced : (w r : Work) (xs out o : List ℕ) (p : ℕ) (d : PeerData) (t : Bool) → Room (work-of w xs) out → d .present ≡ true → t ≡ null (bytes-of (data-in d)) → t ≡ false
+    → TellsAny (emit (rec-in (record { kind = 11; message = 0; flags = 0; peer = p; second = 0; ttl = 0; number = 0 }) (node-in (record { id = 0; «data» = d }) ∷ []))) w r out o
+    → Tells (announce-data p (bytes-of (data-in d))) (work-of w xs) (work-of r xs) out o
+unfolding announce-data rec-in node-in
+announced w r xs out o p d t v y e h k =
+    tell-by _ (λ ds. choose-no _ _ _ (sym e ∙ h) ∙ ap (λ (x : Data). emit (record { kind = 11; message = 0; flags = 0; peer = p; second = 0; ttl = 0; number = 0; nodes = node 0 x ∷ [] }) (run (work-of w xs) ds out)) (sym (present-data d y))) (k .any xs (v .packed))
+
+module _ (w : Held) (out : List ℕ) (p : ℕ) (d : PeerData) where
+  pub some-info : (r : Held) (o : List ℕ) → d .present ≡ true → Tells (insert-data p (bytes-of (data-in d))) w r out o → Tells (insert-peer-info p (data-in d)) w r out o
+  unfolding insert-peer-info
+  some-info r o y k = tell-by _ (λ ds. ap (λ (x : Data). insert-peer-info p x (run w ds out)) (present-data d y)) k
+
+  pub no-info : Room w out → d .present ≡ false → Tells (insert-peer-info p (data-in d)) w w out out
+  unfolding insert-peer-info
+  no-info v y = tell-by _ (λ ds. ap (λ (x : Data). insert-peer-info p x (run w ds out)) (absent-data d y)) (telling v (unchanged (λ g. g) (v .packed) (λ ds o. refl)))
+
+-- ---- one of the items
+
+some-item : (xs : List ℕ) → null xs ≡ false → 0 < length xs
+unfolding null
+some-item [] e = let z : _≡_ {A = ℕ} 0 1 = cc in absurd (omega arith)
+some-item (x ∷ xs) e = omega arith
+
+was-not : (b : Bool) → not b ≡ true → b ≡ false
+was-not true e = sym e
+was-not false e = refl
+
+-- a set to choose from is not empty
+pub some-choice : (xs : List ℕ) (n : ℕ) (t : Bool) → n ≡ length (unpack xs .passive) → t ≡ must-evict (unpack xs) → t ≡ true → 0 < n
+unfolding must-evict
+some-choice xs n t e f h = omega (arith, e, some-item (unpack xs .passive) (was-not _ (and-right (passive-is-full (unpack xs)) (not (null (unpack xs .passive))) (sym f ∙ h))))
+
+pub entry-free : (xs : List ℕ) (code p : ℕ) → code ≡ 0 → FreeData p code (unpack xs) → (has p (data-at 80 (peer-data-part xs)) || ltb (length (data-at 80 (peer-data-part xs))) 80) ≡ true
+unfolding unpack station-of data-fits
+entry-free xs code p z h = h .free z
+
+-- a free entry, or one that the peer has
+pub roomy : (xs : List ℕ) (p n : ℕ) → n ≡ length (data-at 80 (peer-data-part xs)) → n < 80 → true ≡ data-fits p (unpack xs)
+unfolding data-fits unpack station-of
+roomy xs p n e h = rw (← e, lt-ltb n 80 h) (sym (or-true (has p (data-at 80 (peer-data-part xs)))))
+
+pub crowded : (xs : List ℕ) (p n : ℕ) (t : Bool) → n ≡ length (data-at 80 (peer-data-part xs)) → 80 ≤ n → t ≡ has p (data-at 80 (peer-data-part xs)) → t ≡ data-fits p (unpack xs)
+unfolding data-fits unpack station-of
+crowded xs p n t e h f = rw (← e, le-ltb n 80 h) (f ∙ sym (or-false (has p (data-at 80 (peer-data-part xs)))))
+
+module _ (w a r : Held) (out o : List ℕ) (p : ℕ) (b : List ℕ) (t : Bool) where
+  pub inserted : t ≡ is-known p b (unpack (w .state)) → t ≡ false → Changes (keep-data p b) a r → Tells (announce-data p b) w a out o → Tells (insert-data p b) w r out o
+  unfolding insert-data
+  inserted e h k₂ k₁ = tell-no (is-known p b) e _ h (tell-then _ (λ ds. refl) (telling (k₁ .room) k₂) k₁)
+
+-- ---- the passive view
+
+pub evictable : (s : List ℕ) (t : Bool) → t ≡ must-evict (unpack s) → t ≡ true → null (unpack s .passive) ≡ false
+unfolding must-evict unpack
+evictable s t e h = was-not _ (and-right (passive-is-full (unpack s)) (not (null (unpack s .passive))) (sym e ∙ h))
+
+draw-station : (n : ℕ) (g : Run) → draw n g .station ≡ g .station
+unfolding draw guard
+draw-station n g =
+    by-choice (λ (x : Run). x .station ≡ g .station) (eqb (g .code) 0)
+    (λ e. by-choice (λ (x : Run). x .station ≡ g .station) (leb (g .used + n) (length (g .draws))) (λ f. refl) (λ f. refl))
+    (λ e. refl)
+
+-- the place chosen among the n passive peers is one of theirs
+pub still-below : (xs : List ℕ) (n i : ℕ) → n ≡ length (unpack xs .passive) → i < n → i < length (unpack xs .passive)
+still-below xs n i e h = omega (arith, e, h)
+
+module _ (w a r : Work) (xs ys ds : List ℕ) (n i : ℕ) (t : Bool) where
+  pub made : Ready (work-of w xs) ds → t ≡ must-evict (unpack xs) → t ≡ true → n ≡ length (unpack xs .passive) → i ≡ pick n (getD ds (w .drawn) 0)
+      → Changes (evict-at i) (work-of a xs) (work-of r ys) → DrawsAny (draw 1) w a ds → Draws make-room (work-of w xs) (work-of r ys) ds
+  unfolding make-room run unpack station-of drawn
+  made v e h q u k₂ k₁ = let d = k₁ .any xs (v .packed) in draw-yes must-evict e _ h (draw-then _ (λ out. rw (u, q)) (drawing (d .ready) k₂) d)
+
+module _ (w : Held) (ds : List ℕ) (t : Bool) where
+  pub not-made : Ready w ds → t ≡ must-evict (unpack (w .state)) → t ≡ false → Draws make-room w w ds
+  unfolding make-room
+  not-made v e h = draw-no must-evict e _ h (drawing v (unchanged (λ g. g) (v .packed) (λ _ _. refl)))
+
+  pub not-entered : (p : ℕ) → Ready w ds → t ≡ is-newcomer p (unpack (w .state)) → t ≡ false → Draws (enter-passive p) w w ds
+  unfolding enter-passive
+  not-entered p v e h = draw-no (is-newcomer p) e _ h (drawing v (unchanged (λ g. g) (v .packed) (λ _ _. refl)))
+
+  pub entered : (a r : Held) (p : ℕ) → t ≡ is-newcomer p (unpack (w .state)) → t ≡ true → Changes (on (push-passive p)) a r → Draws make-room w a ds → Draws (enter-passive p) w r ds
+  unfolding enter-passive
+  entered a r p e h k₂ k₁ = draw-yes (is-newcomer p) e _ h (draw-then _ (λ out. refl) (drawing (k₁ .ready) k₂) k₁)
+
+forget-free : (p : ℕ) (g : Run) → FreePassive (g .code) (g .station) → FreePassive (forget-peer p g .code) (forget-peer p g .station)
+unfolding forget-peer on guard drop-traces drop-mark drop-data
+forget-free p g h =
+    by-choice (λ (x : Run). FreePassive (x .code) (x .station)) (in-view p (g .station)) (λ e. h)
+    (λ e. by-choice (λ (x : Run). FreePassive (x .code) (x .station)) (eqb (g .code) 0) (λ f. record { free = h .free }) (λ f. h))
+
+shift-free : (i : ℕ) (g : Run) → i < length (g .station .passive) → length (g .station .passive) ≤ g .station .config .«passive_view_capacity» → FreePassive (on (shift-passive i) g .code) (on (shift-passive i) g .station)
+unfolding on guard shift-passive
+shift-free i g h l =
+    by-choice (λ (x : Run). FreePassive (x .code) (x .station)) (eqb (g .code) 0)
+    (λ f. record { free = λ z. omega (arith, length-shift (g .station .passive) i h) })
+    (λ f. record { free = λ z. absurd (eqb-false _ _ f z) })
+
+none-in : (xs : List ℕ) → not (null xs) ≡ false → length xs ≡ 0
+unfolding null
+none-in [] e = refl
+none-in (x ∷ xs) e = let z : _≡_ {A = ℕ} 0 1 = cc in absurd (omega arith)
+
+not-full : (s : Station) → must-evict s ≡ false → 1 ≤ s .config .«passive_view_capacity» → length (s .passive) < s .config .«passive_view_capacity»
+unfolding must-evict passive-is-full
+not-full s e l =
+    and-false (leb (s .config .«passive_view_capacity») (length (s .passive))) (not (null (s .passive))) e
+    (λ f. leb-false _ _ f)
+    (λ f. omega (arith, none-in (s .passive) f))
+
+picked-in : (xs : List ℕ) (d : ℕ) → null xs ≡ false → pick (length xs) d < length xs
+unfolding pick
+picked-in xs d e = mod-lt d {m = length xs} (some-item xs e)
+
+made-free : (g : Run) → length (g .station .passive) ≤ g .station .config .«passive_view_capacity» → 1 ≤ g .station .config .«passive_view_capacity» → FreePassive (make-room g .code) (make-room g .station)
+unfolding make-room evict-at must-evict
+made-free g l m =
+    by-choice (λ (x : Run). FreePassive (x .code) (x .station)) (must-evict (g .station))
+    (λ e. forget-free _ _ (shift-free _ (draw 1 g) (rw (draw-station 1 g) (picked-in (g .station .passive) (drawn g) (was-not _ (and-right (passive-is-full (g .station)) (not (null (g .station .passive))) e)))) (rw (draw-station 1 g) l)))
+    (λ e. record { free = λ z. not-full (g .station) e m })
+
+pub room-made : (w a : Work) (xs ys ds : List ℕ) → Ready (work-of w xs) ds → Draws make-room (work-of w xs) (work-of a ys) ds → FreePassive (a .code) (unpack ys)
+unfolding run unpack station-of settings-at
+room-made w a xs ys ds v k =
+    subst (λ (x : Run). FreePassive (x .code) (x .station)) (sym (k .same []))
+    (made-free (run (work-of w xs) ds []) (passive-fits xs (v .packed)) (ranges (settings-at xs) (of-settings xs (v .packed)) .passive .least))
+
+pub added : (w a r : Held) (ds out o : List ℕ) (p : ℕ) (x : Data) → Fine w ds out → Draws (enter-passive p) a r ds → Tells (insert-peer-info p x) w a out o → Does r ds o (add-passive p x (run w ds out))
+unfolding add-passive
+added w a r ds out o p x v k₂ k₁ = then-draw k₂ (then-tell k₁ (still v))
+
+pub after-info : {step : Run → Run} (w a : Work) (xs ys ds out o : List ℕ) → Fine (work-of w xs) ds out → Tells step (work-of w xs) (work-of a ys) out o → Ready (work-of a ys) ds
+after-info w a xs ys ds out o v k = record { packed = k .room .packed; drawn = rw (k .drawn) (v .ready .drawn) }

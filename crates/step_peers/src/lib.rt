@@ -1,0 +1,321 @@
+// What the station holds of other peers: their data, and the passive view (the definition's `Peers`).
+use columns::PeerInfo;
+use peer::PeerData;
+use section::PeerId;
+use words::Layout;
+use words::Work;
+use writer64::Fields;
+ghost use mathlib.Core.Path.{_≡_};
+ghost use mathlib.Core.Bool.{true};
+ghost use Prim.Native.Nat.{_<_};
+ghost use lib.ListN.{length};
+ghost use Rattle.protocol.specs.Run.{on};
+ghost use Rattle.peer.specs.Data.{bytes-of};
+ghost use Rattle.peer.specs.Held.{data-in, ValidData};
+ghost use Rattle.protocol.specs.Peers.{is-known, data-fits, must-evict, is-newcomer, is-marked};
+ghost use Rattle.protocol.specs.Peers.{keep-data, announce-data, insert-data, insert-peer-info, forget-peer, evict-at, make-room, enter-passive, add-passive, drop-passive};
+ghost use Rattle.protocol.specs.Peers.{store-data, drop-data, drop-mark, drop-traces, shift-passive, push-passive, remove-passive};
+ghost use Rattle.words.specs.Layout.{words};
+ghost use Rattle.words.specs.Unpack.{unpack, PackedState};
+ghost use Rattle.words.specs.Work.{work-of, Changes, Ready, Draws, Room, Tells, Fine, Does, run};
+ghost use Rattle.step_peers.specs.Room.{FreePassive, FreeData};
+
+// Whether the data is the station's own or is held already, so that it is not stored.
+fn is_known(st: &[u64], p: PeerId, d: PeerData) -> bool
+    requires { ⌜ length (now st) ≡ words ⌝ }
+    requires { ⌜ PackedState (now st) ⌝ }
+    requires { ⌜ ValidData d ⌝ }
+    ensures { λ r. ⌜ r ≡ is-known p (bytes-of (data-in d)) (unpack (now (st .entry))) ⌝ }
+{
+    words::is_me(st, p)
+        | columns::holds_data(&st[Layout::DATA..Layout::DATA_END], Layout::DATA_CAP, p, d)
+}
+
+// Whether p has a data entry, or there is a free one.
+fn data_fits(st: &[u64], p: PeerId) -> bool
+    requires { ⌜ length (now st) ≡ words ⌝ }
+    requires { ⌜ PackedState (now st) ⌝ }
+    ensures { λ r. ⌜ r ≡ data-fits p (unpack (now (st .entry))) ⌝ }
+{
+    if columns::count_data(&st[Layout::DATA..Layout::DATA_END], Layout::DATA_CAP)
+        < Layout::DATA_CAP
+    {
+        return true;
+    }
+    columns::contains_data(&st[Layout::DATA..Layout::DATA_END], Layout::DATA_CAP, p)
+}
+
+// Whether p is neither the station itself nor in a view.
+pub fn is_newcomer(st: &[u64], p: PeerId) -> bool
+    requires { ⌜ length (now st) ≡ words ⌝ }
+    requires { ⌜ PackedState (now st) ⌝ }
+    ensures { λ r. ⌜ r ≡ is-newcomer p (unpack (now (st .entry))) ⌝ }
+{
+    !(words::is_me(st, p) | words::in_view(st, p))
+}
+
+// Whether one has to leave before another enters the passive view.
+fn must_evict(st: &[u64]) -> bool
+    requires { ⌜ length (now st) ≡ words ⌝ }
+    requires { ⌜ PackedState (now st) ⌝ }
+    ensures { λ r. ⌜ r ≡ must-evict (unpack (now (st .entry))) ⌝ }
+{
+    words::passive_is_full(st)
+        & !section::is_empty(&st[Layout::PASSIVE..Layout::PASSIVE_END], Layout::ALL)
+}
+
+pub fn is_marked(st: &[u64], p: PeerId) -> bool
+    requires { ⌜ length (now st) ≡ words ⌝ }
+    requires { ⌜ PackedState (now st) ⌝ }
+    ensures { λ r. ⌜ r ≡ is-marked p (unpack (now (st .entry))) ⌝ }
+{
+    section::contains(&st[Layout::ALIVE..Layout::ALIVE_END], Layout::ALL, p)
+}
+
+// The peer at place i leaves the passive view; the order is kept.
+fn shift_passive(w: Work, st: &mut [u64], i: usize) -> Work
+    requires { ⌜ length (now st) ≡ words ⌝ }
+    requires { ⌜ PackedState (now st) ⌝ }
+    requires { ⌜ i < length (unpack (now st) .passive) ⌝ }
+    ensures { λ r. ⌜ Changes (on (shift-passive i)) (work-of w (now (st .entry))) (work-of r (now (st .exit))) ⌝ }
+{
+    if w.code != 0 {
+        return w;
+    }
+    section::shift_remove_index(
+        &mut st[Layout::PASSIVE..Layout::PASSIVE_END],
+        Layout::ALL,
+        i,
+    );
+    w
+}
+
+fn remove_passive(w: Work, st: &mut [u64], p: PeerId) -> Work
+    requires { ⌜ length (now st) ≡ words ⌝ }
+    requires { ⌜ PackedState (now st) ⌝ }
+    ensures { λ r. ⌜ Changes (on (remove-passive p)) (work-of w (now (st .entry))) (work-of r (now (st .exit))) ⌝ }
+{
+    if w.code != 0 {
+        return w;
+    }
+    section::remove(
+        &mut st[Layout::PASSIVE..Layout::PASSIVE_END],
+        Layout::ALL,
+        p,
+    );
+    w
+}
+
+// p enters the passive view, which has a free place.
+fn push_passive(w: Work, st: &mut [u64], p: PeerId) -> Work
+    requires { ⌜ length (now st) ≡ words ⌝ }
+    requires { ⌜ PackedState (now st) ⌝ }
+    requires { ⌜ FreePassive (w .code) (unpack (now st)) ⌝ }
+    ensures { λ r. ⌜ Changes (on (push-passive p)) (work-of w (now (st .entry))) (work-of r (now (st .exit))) ⌝ }
+{
+    if w.code != 0 {
+        return w;
+    }
+    section::push(
+        &mut st[Layout::PASSIVE..Layout::PASSIVE_END],
+        Layout::ALL,
+        p,
+    );
+    w
+}
+
+fn store_data(w: Work, st: &mut [u64], p: PeerId, d: PeerData) -> Work
+    requires { ⌜ length (now st) ≡ words ⌝ }
+    requires { ⌜ PackedState (now st) ⌝ }
+    requires { ⌜ ValidData d ⌝ }
+    requires { ⌜ FreeData p (w .code) (unpack (now st)) ⌝ }
+    ensures { λ r. ⌜ Changes (on (store-data p (bytes-of (data-in d)))) (work-of w (now (st .entry))) (work-of r (now (st .exit))) ⌝ }
+{
+    if w.code != 0 {
+        return w;
+    }
+    columns::insert_data(
+        &mut st[Layout::DATA..Layout::DATA_END],
+        Layout::DATA_CAP,
+        p,
+        d,
+    );
+    w
+}
+
+pub fn drop_data(w: Work, st: &mut [u64], p: PeerId) -> Work
+    requires { ⌜ length (now st) ≡ words ⌝ }
+    requires { ⌜ PackedState (now st) ⌝ }
+    ensures { λ r. ⌜ Changes (on (drop-data p)) (work-of w (now (st .entry))) (work-of r (now (st .exit))) ⌝ }
+{
+    if w.code != 0 {
+        return w;
+    }
+    columns::remove_data(&mut st[Layout::DATA..Layout::DATA_END], Layout::DATA_CAP, p);
+    w
+}
+
+pub fn drop_mark(w: Work, st: &mut [u64], p: PeerId) -> Work
+    requires { ⌜ length (now st) ≡ words ⌝ }
+    requires { ⌜ PackedState (now st) ⌝ }
+    ensures { λ r. ⌜ Changes (on (drop-mark p)) (work-of w (now (st .entry))) (work-of r (now (st .exit))) ⌝ }
+{
+    if w.code != 0 {
+        return w;
+    }
+    section::without(&mut st[Layout::ALIVE..Layout::ALIVE_END], Layout::ALL, p);
+    w
+}
+
+// Without the data and the mark of p.
+fn drop_traces(w: Work, st: &mut [u64], p: PeerId) -> Work
+    requires { ⌜ length (now st) ≡ words ⌝ }
+    requires { ⌜ PackedState (now st) ⌝ }
+    ensures { λ r. ⌜ Changes (on (drop-traces p)) (work-of w (now (st .entry))) (work-of r (now (st .exit))) ⌝ }
+{
+    let a = drop_data(w, st, p);
+    drop_mark(a, st, p)
+}
+
+// Stores the data of p; code 8 where an 81st entry would be needed.
+fn keep_data(w: Work, st: &mut [u64], p: PeerId, d: PeerData) -> Work
+    requires { ⌜ length (now st) ≡ words ⌝ }
+    requires { ⌜ PackedState (now st) ⌝ }
+    requires { ⌜ ValidData d ⌝ }
+    ensures { λ r. ⌜ Changes (keep-data p (bytes-of (data-in d))) (work-of w (now (st .entry))) (work-of r (now (st .exit))) ⌝ }
+{
+    let test = data_fits(st, p);
+    let a = words::require(w, 8, test);
+    store_data(a, st, p, d)
+}
+
+// Forgets what is held of p, unless it is still in a view.
+pub fn forget_peer(w: Work, st: &mut [u64], p: PeerId) -> Work
+    requires { ⌜ length (now st) ≡ words ⌝ }
+    requires { ⌜ PackedState (now st) ⌝ }
+    ensures { λ r. ⌜ Changes (forget-peer p) (work-of w (now (st .entry))) (work-of r (now (st .exit))) ⌝ }
+{
+    if words::in_view(st, p) {
+        return w;
+    }
+    drop_traces(w, st, p)
+}
+
+// The peer at place i leaves the passive view and is forgotten.
+fn evict_at(w: Work, st: &mut [u64], i: usize) -> Work
+    requires { ⌜ length (now st) ≡ words ⌝ }
+    requires { ⌜ PackedState (now st) ⌝ }
+    requires { ⌜ i < length (unpack (now st) .passive) ⌝ }
+    ensures { λ r. ⌜ Changes (evict-at i) (work-of w (now (st .entry))) (work-of r (now (st .exit))) ⌝ }
+{
+    let p = section::get_index(&st[Layout::PASSIVE..Layout::PASSIVE_END], Layout::ALL, i);
+    let a = shift_passive(w, st, i);
+    forget_peer(a, st, p)
+}
+
+// p leaves the passive view, where it is in it, and is forgotten.
+pub fn drop_passive(w: Work, st: &mut [u64], p: PeerId) -> Work
+    requires { ⌜ length (now st) ≡ words ⌝ }
+    requires { ⌜ PackedState (now st) ⌝ }
+    ensures { λ r. ⌜ Changes (drop-passive p) (work-of w (now (st .entry))) (work-of r (now (st .exit))) ⌝ }
+{
+    let a = remove_passive(w, st, p);
+    forget_peer(a, st, p)
+}
+
+// Announces data that is not empty.
+fn announce_data(w: Work, st: &[u64], out: &mut [u8], p: PeerId, d: PeerData) -> Work
+    requires { ⌜ length (now st) ≡ words ⌝ }
+    requires { ⌜ Room (work-of w (now st)) (now out) ⌝ }
+    requires { ⌜ ValidData d ⌝ }
+    requires { ⌜ d .present ≡ true ⌝ }
+    ensures { λ r. ⌜ Tells (announce-data p (bytes-of (data-in d))) (work-of w (now (st .entry))) (work-of r (now (st .entry))) (now (out .entry)) (now (out .exit)) ⌝ }
+{
+    if d.is_empty() {
+        return w;
+    }
+    let f = Fields {
+        kind: 11,
+        message: 0,
+        flags: 0,
+        peer: p,
+        second: 0,
+        ttl: 0,
+        number: 0,
+    };
+    let n = PeerInfo { id: 0, data: d };
+    words::emit_one(w, out, f, n)
+}
+
+// Announces and stores data that is not known yet.
+fn insert_data(w: Work, st: &mut [u64], out: &mut [u8], p: PeerId, d: PeerData) -> Work
+    requires { ⌜ length (now st) ≡ words ⌝ }
+    requires { ⌜ Room (work-of w (now st)) (now out) ⌝ }
+    requires { ⌜ ValidData d ⌝ }
+    requires { ⌜ d .present ≡ true ⌝ }
+    ensures { λ r. ⌜ Tells (insert-data p (bytes-of (data-in d))) (work-of w (now (st .entry))) (work-of r (now (st .exit))) (now (out .entry)) (now (out .exit)) ⌝ }
+{
+    if is_known(st, p, d) {
+        return w;
+    }
+    let a = announce_data(w, st, out, p, d);
+    keep_data(a, st, p, d)
+}
+
+pub fn insert_peer_info(w: Work, st: &mut [u64], out: &mut [u8], p: PeerId, d: PeerData) -> Work
+    requires { ⌜ length (now st) ≡ words ⌝ }
+    requires { ⌜ Room (work-of w (now st)) (now out) ⌝ }
+    requires { ⌜ ValidData d ⌝ }
+    ensures { λ r. ⌜ Tells (insert-peer-info p (data-in d)) (work-of w (now (st .entry))) (work-of r (now (st .exit))) (now (out .entry)) (now (out .exit)) ⌝ }
+{
+    if d.present {
+        return insert_data(w, st, out, p, d);
+    }
+    w
+}
+
+// One peer leaves a full passive view, as the next draw decides.
+fn make_room(w: Work, st: &mut [u64], draws: &[u32]) -> Work
+    requires { ⌜ length (now st) ≡ words ⌝ }
+    requires { ⌜ Ready (work-of w (now st)) (now draws) ⌝ }
+    ensures { λ r. ⌜ Draws make-room (work-of w (now (st .entry))) (work-of r (now (st .exit))) (now (draws .entry)) ⌝ }
+{
+    if must_evict(st) {
+        let n = section::count(&st[Layout::PASSIVE..Layout::PASSIVE_END], Layout::ALL);
+        let t = words::choose(w, draws, n);
+        let a = t.work;
+        let i = t.index;
+        return evict_at(a, st, i);
+    }
+    w
+}
+
+// p enters the passive view, unless it is in a view or the station itself.
+fn enter_passive(w: Work, st: &mut [u64], draws: &[u32], p: PeerId) -> Work
+    requires { ⌜ length (now st) ≡ words ⌝ }
+    requires { ⌜ Ready (work-of w (now st)) (now draws) ⌝ }
+    ensures { λ r. ⌜ Draws (enter-passive p) (work-of w (now (st .entry))) (work-of r (now (st .exit))) (now (draws .entry)) ⌝ }
+{
+    if is_newcomer(st, p) {
+        let a = make_room(w, st, draws);
+        return push_passive(a, st, p);
+    }
+    w
+}
+
+pub fn add_passive(
+    w: Work,
+    st: &mut [u64],
+    draws: &[u32],
+    out: &mut [u8],
+    p: PeerId,
+    d: PeerData,
+) -> Work
+    requires { ⌜ length (now st) ≡ words ⌝ }
+    requires { ⌜ Fine (work-of w (now st)) (now draws) (now out) ⌝ }
+    requires { ⌜ ValidData d ⌝ }
+    ensures { λ r. ⌜ Does (work-of r (now (st .exit))) (now (draws .entry)) (now (out .exit)) (add-passive p (data-in d) (run (work-of w (now (st .entry))) (now (draws .entry)) (now (out .entry)))) ⌝ }
+{
+    let a = insert_peer_info(w, st, out, p, d);
+    enter_passive(a, st, draws, p)
+}
