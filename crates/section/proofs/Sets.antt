@@ -6,7 +6,7 @@ use mathlib.Core.Bool.{Bool, true, false, _&&_}
 use mathlib.Core.List.{List, [], _∷_, _++_}
 use native.Mathlib.Numerals.{add-one}
 use native.Mathlib.Omega.{arith}
-use lib.ListN.{length, take, drop, getD, set, length-set, length-append, List·getD-append}
+use lib.ListN.{length, take, drop, getD, set, replicate, length-set, length-append, List·getD-append}
 use lib.Seq.{take-length, take-take, take-suc, getD-take, getD-at, getD-append-add, getD-set-same, set-at, set-append-left, length-take-le}
 use lib.Dec.{eqb, leb}
 use borrow.Author.Tests.{lt-leb, le-leb, leb-true, eq-eqb, eqb-true}
@@ -153,6 +153,14 @@ set-same n s t xs h k = set-words n s (h .valid) ∙ ap (section n) (h .items �
 pub set-as : (n : ℕ) (s xs ys : List ℕ) → HoldsSet n s xs → xs ≡ ys → HoldsSet n s ys
 set-as n s xs ys h e = record { valid = h .valid; items = h .items ∙ e }
 
+-- one step after another: r comes by f of t's items, and t holds xs
+pub set-then : (n : ℕ) {r t xs : List ℕ} (f : List ℕ → List ℕ) → HoldsSet n r (f (items-at n t)) → HoldsSet n t xs → HoldsSet n r (f xs)
+set-then n {r} f h k = set-as n r _ _ h (ap f (k .items))
+
+-- what is known of the list is known of the set
+pub set-length : (n : ℕ) (s xs : List ℕ) → HoldsSet n s xs → length (items-at n s) ≡ length xs
+set-length n s xs h = ap length (h .items)
+
 pub set-self : (n : ℕ) (s : List ℕ) → ValidSet n s → HoldsSet n s (items-at n s)
 set-self n s v = record { valid = v; items = refl }
 
@@ -234,6 +242,19 @@ zeroes-more (suc k) = ap (λ (l : List ℕ). 0 ∷ l) (zeroes-more k)
 pub cleared : (n : ℕ) (s t : List ℕ) → length s ≡ n + 1 → t ≡ pad 0 (length s) (take 0 s) → HoldsSet n t []
 unfolding section
 cleared n s t l e = holds-by n t [] (e ∙ ap (λ (k : ℕ). pad {A = ℕ} 0 k []) (l ∙ add-one n) ∙ zeroes-more n) (omega arith)
+
+zeroes-are : (k : ℕ) → replicate k 0 ≡ pad {A = ℕ} 0 k []
+unfolding pad
+zeroes-are zero = refl
+zeroes-are (suc k) = ap (λ (l : List ℕ). 0 ∷ l) (zeroes-are k)
+
+-- an array of zeroes, as a local one starts
+pub zeroes-set : (n : ℕ) → HoldsSet n (replicate (suc n) 0) []
+unfolding section
+zeroes-set n = holds-by n (replicate (suc n) 0) [] (zeroes-are (suc n) ∙ zeroes-more n) (omega arith)
+
+pub zeroes-room : (n : ℕ) → 0 < n → length (items-at n (replicate (suc n) 0)) < n
+zeroes-room n h = omega (arith, ap length (zeroes-set n .items))
 
 module _ (n : ℕ) (s : List ℕ) (v : ValidSet n s) where
   few-items : length (items-at n s) ≤ n
