@@ -5,16 +5,18 @@ use mathlib.Core.Path.{_≡_, refl, sym, _∙_, subst}
 use mathlib.Core.Bool.{Bool, true, false}
 use mathlib.Core.List.{List}
 use native.Mathlib.Omega.{arith}
-use borrow.Author.Tests.{eq-eqb, ne-eqb}
-use lib.Dec.{eqb}
+use borrow.Author.Tests.{eq-eqb, ne-eqb, leb-true}
+use lib.Dec.{eqb, leb}
 use lib.ListN.{length, drop}
 use Rattle.lists.specs.Lists.{choose}
-use Rattle.lists.proofs.Choice.{choose-yes, choose-no}
+use Rattle.lists.proofs.Bytes.{length-overwrite}
+use Rattle.lists.proofs.Choice.{split, choose-yes, choose-no}
 use Rattle.util.specs.Random.{shuffle, shuffle-down, shuffle-draws}
 use Rattle.section.specs.Section.{items-at, ValidSet, HoldsSet}
-use Rattle.record.specs.Format.{Rec}
+use Rattle.record.specs.Format.{Rec, size, encode}
 use Rattle.writer64.specs.declared.Written.{Written}
-use Rattle.writer64.specs.Write.{Wrote}
+use Rattle.writer64.specs.declared.Written.the-variants.{At, Full}
+use Rattle.writer64.specs.Write.{fits, reached, written, Wrote}
 use Rattle.protocol.specs.Run.{Run, emit, draw, draw-shuffle, require}
 use Rattle.words.specs.declared.Work.{Work}
 use Rattle.words.specs.Unpack.{PackedState}
@@ -23,30 +25,46 @@ use Rattle.words.proofs.Bridge.{require-passed, require-held, require-r
 
 module _ (w : Work) (k : ℕ) (t : Bool) where
   pub required-passed : (w .code ≡ 0 → ⊥) → ChangesAny (require k t) w w
-  required-passed h = record { any = λ xs v. require-passed (work-of w xs) v k t h }
+  required-passed h = record { drawn = refl; written = refl; any = λ xs v. require-passed (work-of w xs) v k t h }
 
   pub required-held : w .code ≡ 0 → t ≡ true → ChangesAny (require k t) w w
-  required-held h e = record { any = λ xs v. require-held (work-of w xs) v k t h e }
+  required-held h e = record { drawn = refl; written = refl; any = λ xs v. require-held (work-of w xs) v k t h e }
 
   pub required-refused : w .code ≡ 0 → t ≡ false → ChangesAny (require k t) w (record { drawn = w .drawn; written = w .written; code = k })
-  required-refused h e = record { any = λ xs v. require-refused (work-of w xs) v k t h e }
+  required-refused h e = record { drawn = refl; written = refl; any = λ xs v. require-refused (work-of w xs) v k t h e }
 
 module _ (w : Work) (ds : List ℕ) (n : ℕ) (l : w .drawn ≤ length ds) where
   pub drew-passed : (w .code ≡ 0 → ⊥) → DrawsAny (draw n) w w ds
-  drew-passed h = record { any = λ xs v. draw-passed (work-of w xs) ds (record { packed = v; drawn = l }) n h }
+  drew-passed h = record { drawn = l; written = refl; any = λ xs v. draw-passed (work-of w xs) ds (record { packed = v; drawn = l }) n h }
 
   pub drew-short : w .code ≡ 0 → length ds < w .drawn + n → DrawsAny (draw n) w (record { drawn = w .drawn; written = w .written; code = 5 }) ds
-  drew-short h f = record { any = λ xs v. draw-short (work-of w xs) ds (record { packed = v; drawn = l }) n h f }
+  drew-short h f = record { drawn = l; written = refl; any = λ xs v. draw-short (work-of w xs) ds (record { packed = v; drawn = l }) n h f }
 
   pub drew : w .code ≡ 0 → w .drawn + n ≤ length ds → DrawsAny (draw n) w (record { drawn = w .drawn + n; written = w .written; code = w .code }) ds
-  drew h f = record { any = λ xs v. draw-done (work-of w xs) ds (record { packed = v; drawn = l }) n h f }
+  drew h f = record { drawn = f; written = refl; any = λ xs v. draw-done (work-of w xs) ds (record { packed = v; drawn = l }) n h f }
+
+kept : (a : Written) (w : Work) → after-record a w .drawn ≡ w .drawn
+unfolding after-record
+kept (At n) w = refl
+kept Full w = refl
 
 module _ (w : Work) (out : List ℕ) (e : Rec) (l : w .written ≤ length out) where
+  within : (a : Written) (o : List ℕ) → Wrote e (w .written) out a o → after-record a w .written ≤ length o
+  unfolding reached written fits after-record
+  within a o k =
+      split (leb (w .written + size e) (length out))
+      (λ t. rw (k .answer ∙ choose-yes _ _ _ t, k .bytes ∙ choose-yes _ _ _ t, length-overwrite out (w .written) (encode e)) (leb-true _ _ t))
+      (λ t. rw (k .answer ∙ choose-no _ _ _ t, k .bytes ∙ choose-no _ _ _ t) l)
+
   pub emitted-passed : (w .code ≡ 0 → ⊥) → TellsAny (emit e) w w out out
-  emitted-passed h = record { any = λ xs v. emit-passed w xs out e (record { packed = v; written = l }) h }
+  emitted-passed h = record { drawn = refl; written = l; any = λ xs v. emit-passed w xs out e (record { packed = v; written = l }) h }
 
   pub emitted : (a : Written) (o : List ℕ) (r : Work) → w .code ≡ 0 → Wrote e (w .written) out a o → r ≡ after-record a w → TellsAny (emit e) w r out o
-  emitted a o r h k q = record { any = λ xs v. emit-done w xs out e (record { packed = v; written = l }) a o r h k q }
+  emitted a o r h k q = record {
+    drawn = rw q (kept a w);
+    written = rw q (within a o k);
+    any = λ xs v. emit-done w xs out e (record { packed = v; written = l }) a o r h k q;
+  }
 
 -- ---- for a step that has words: what the next call asks
 

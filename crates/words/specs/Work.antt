@@ -70,15 +70,21 @@ pub record Does (w : Held) (ds out : List ℕ) (g : Run) : Type 0 where
   pub fine : Fine w ds out
   pub same : run w ds out ≡ g
 
--- ---- a step that is not lent the words does the same with any
+-- ---- a step that is not lent the words does the same with any; the bounds are said apart, since they hold whatever the words are
 
 pub record ChangesAny (step : Run → Run) (w r : Work) : Type 0 where
+  pub drawn : r .drawn ≡ w .drawn
+  pub written : r .written ≡ w .written
   pub any : (xs : List ℕ) → PackedState xs → Changes step (work-of w xs) (work-of r xs)
 
 pub record DrawsAny (step : Run → Run) (w r : Work) (ds : List ℕ) : Type 0 where
+  pub drawn : r .drawn ≤ length ds
+  pub written : r .written ≡ w .written
   pub any : (xs : List ℕ) → PackedState xs → Draws step (work-of w xs) (work-of r xs) ds
 
 pub record TellsAny (step : Run → Run) (w r : Work) (out o : List ℕ) : Type 0 where
+  pub drawn : r .drawn ≡ w .drawn
+  pub written : r .written ≤ length o
   pub any : (xs : List ℕ) → PackedState xs → Tells step (work-of w xs) (work-of r xs) out o
 
 -- the work after a record: the place reached, or code 9
