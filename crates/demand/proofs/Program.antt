@@ -40,7 +40,7 @@ answers : (s : State) → state-ok s ≡ true → (v : Call) → outcome (v .eve
 unfolding outcome handled answered
 answers s ok v = choose-yes _ _ _ (and-left (packed-ok s) _ (ok-both s ok))
 
-answers-packed : (v : Call) (g : Station) → station-ok g ≡ true → outcome (v .event) (v .draws) (v .output) (pack g) ≡ packed-answer (answer v g)
+pub answers-packed : (v : Call) (g : Station) → station-ok g ≡ true → outcome (v .event) (v .draws) (v .output) (pack g) ≡ packed-answer (answer v g)
 answers-packed v g t = answers (pack g) (pack-ok g t) v ∙ ap (λ (x : Station). packed-answer (answer v x)) (ok-unpacked g t)
 
 packs : Packs program pack unpack state-ok

@@ -1,17 +1,17 @@
--- No number of demand 3's sum can be lowered: for each, a list of calls to a new station in which one event uses its number whole.
+-- No number of demand 3's sum can be lowered: for each there is a list of calls to a new station, the last with an event of that number, after
+-- which messages sent and two for each neighbour are the whole allowance. With a smaller number the allowance would be passed.
 -- Assumes nothing.
-use Prim.Native.Nat.{ℕ, _+_, _-_, _*_}
+use Prim.Native.Nat.{ℕ, suc, _+_, _*_}
 use mathlib.Core.Path.{_≡_, refl}
 use mathlib.Core.Bool.{true}
 use mathlib.Core.List.{List, [], _∷_, _++_}
 use mathlib.Core.Option.{none}
-use lib.ListN.{length, replicate}
+use lib.ListN.{length, replicate, take}
 use Rattle.timing.specs.Timing.{default}
 use Rattle.timing.specs.declared.Config.{Config}
 use Rattle.record.specs.Format.{Rec, encode}
 use Rattle.protocol.specs.Rules.{all-under}
 use Rattle.protocol.specs.Run.{node, message, timer, notice}
-use Rattle.history.specs.Ledger.{Ledger}
 use Rattle.history.specs.Calls.{Call}
 use Rattle.history.specs.Followed.{followed}
 
@@ -19,27 +19,21 @@ use Rattle.history.specs.Followed.{followed}
 abbrev lent : (e : Rec) → all-under 256 (encode e) ≡ true → Call
 lent e b = record { event = encode e; are-bytes = b; draws = replicate 60 0; output = replicate 2000 0 }
 
-abbrev join-from : ℕ → Rec
-join-from p = message 0 p 0 0 0 (node 0 none ∷ [])
+-- a message m with its flags from peer p, with a node of no data
+abbrev one-node : ℕ → ℕ → ℕ → ℕ → Rec
+one-node m p f x = message m p f 0 0 (node x none ∷ [])
 
 abbrev neighbor-from : ℕ → Rec
-neighbor-from p = message 4 p 1 0 0 (node 0 none ∷ [])
+neighbor-from p = one-node 4 p 1 0
 
--- messages sent, and two for each neighbour
-abbrev pub spent : Ledger → ℕ
-spent l = l .sent + 2 * length (l .up)
+-- after the calls to station 1 with settings c: messages sent and two for each neighbour; and the allowance
+abbrev pub spent-and-allowed : Config → List Call → ℕ × ℕ
+spent-and-allowed c vs = let l = followed 1 none c vs .0 in (l .sent + 2 * length (l .up), l .allowance)
 
--- what the last of the calls to station 1 adds to the sum, and to the allowance
-abbrev pub last-adds : Config → List Call → Call → ℕ × ℕ
-last-adds c vs v =
-    let before = followed 1 none c vs .0 in
-    let after = followed 1 none c (vs ++ (v ∷ [])) .0 in
-    (spent after - spent before, after .allowance - before .allowance)
-
--- the default settings, but for an active capacity of 8
-unfoldable pub wide : Config
-wide = record {
-  «active_view_capacity» = 8;
+-- the default settings but for the active capacity
+unfoldable pub capacity : ℕ → Config
+capacity a = record {
+  «active_view_capacity» = a;
   «passive_view_capacity» = 30;
   «active_random_walk_length» = 6;
   «passive_random_walk_length» = 3;
@@ -50,63 +44,127 @@ wide = record {
   «neighbor_request_timeout» = 3000;
 }
 
--- A + 2 at A = 5, then at A = 8: a Join received with A - 1 neighbours is answered, counts for two, and is forwarded to each of them
-unfoldable pub four-joins : List Call
+unfoldable pub seven-neighbors : List Call
 unfolding followed
-four-joins = lent (join-from 2) refl ∷ lent (join-from 3) refl ∷ lent (join-from 4) refl ∷ lent (join-from 5) refl ∷ []
+seven-neighbors =
+    lent (neighbor-from 2) refl ∷ lent (neighbor-from 3) refl ∷ lent (neighbor-from 4) refl ∷ lent (neighbor-from 5) refl
+    ∷ lent (neighbor-from 6) refl ∷ lent (neighbor-from 7) refl ∷ lent (neighbor-from 8) refl ∷ []
 
-unfoldable pub fifth-join : Call
+unfoldable pub join : Call
 unfolding followed
-fifth-join = lent (join-from 6) refl
+join = lent (one-node 0 9 0 0) refl
 
-pub join-uses-seven : last-adds default four-joins fifth-join ≡ (7, 7)
-unfolding followed four-joins fifth-join
-join-uses-seven = refl
+-- A = n + 1: a Join that comes when n neighbours are held is answered, counts for two, and is forwarded to each of the n
+abbrev pub joined : ℕ → ℕ × ℕ
+joined n = spent-and-allowed (capacity (suc n)) (take n seven-neighbors ++ (join ∷ []))
 
-unfoldable pub seven-joins : List Call
+-- 3 for each of the n Neighbors, and n + 3 for the Join, at every capacity from 1 to 8
+pub join-uses-all : joined 0 ∷ joined 1 ∷ joined 2 ∷ joined 3 ∷ joined 4 ∷ joined 5 ∷ joined 6 ∷ joined 7 ∷ [] ≡ (3, 3) ∷ (7, 7) ∷ (11, 11) ∷ (15, 15) ∷ (19, 19) ∷ (23, 23) ∷ (27, 27) ∷ (31, 31) ∷ []
+unfolding followed seven-neighbors join capacity
+join-uses-all = refl
+
+-- 3: a Neighbor received is answered, and counts for two
+unfoldable pub neighbor : Call
 unfolding followed
-seven-joins =
-    lent (join-from 2) refl ∷ lent (join-from 3) refl ∷ lent (join-from 4) refl ∷ lent (join-from 5) refl
-    ∷ lent (join-from 6) refl ∷ lent (join-from 7) refl ∷ lent (join-from 8) refl ∷ []
+neighbor = lent (neighbor-from 20) refl
 
-unfoldable pub eighth-join : Call
+pub neighbor-uses-all : spent-and-allowed default (neighbor ∷ []) ≡ (3, 3)
+unfolding followed neighbor
+neighbor-uses-all = refl
+
+-- 9: a station that asked eight bootstrap peers and left its one neighbour by a Quit asks all nine of them to join
+unfoldable pub eight-requests : List Call
 unfolding followed
-eighth-join = lent (join-from 9) refl
-
-pub join-uses-ten : last-adds wide seven-joins eighth-join ≡ (10, 10)
-unfolding followed seven-joins eighth-join wide
-join-uses-ten = refl
-
--- 3: a Neighbor received is answered and counts for two
-unfoldable pub first-neighbor : Call
-unfolding followed
-first-neighbor = lent (neighbor-from 20) refl
-
-pub neighbor-uses-three : last-adds default [] first-neighbor ≡ (3, 3)
-unfolding followed first-neighbor
-neighbor-uses-three = refl
-
--- 9: eight bootstrap peers, and a neighbour that came and was lost; then a maintenance timer finds both views empty
-unfoldable pub cut-off : List Call
-unfolding followed
-cut-off =
+eight-requests =
     lent (notice 6 10) refl ∷ lent (notice 6 11) refl ∷ lent (notice 6 12) refl ∷ lent (notice 6 13) refl
-    ∷ lent (notice 6 14) refl ∷ lent (notice 6 15) refl ∷ lent (notice 6 16) refl ∷ lent (notice 6 17) refl
-    ∷ lent (neighbor-from 20) refl ∷ lent (notice 5 20) refl ∷ []
+    ∷ lent (notice 6 14) refl ∷ lent (notice 6 15) refl ∷ lent (notice 6 16) refl ∷ lent (notice 6 17) refl ∷ []
+
+unfoldable pub quit : Call
+unfolding followed
+quit = lent (notice 8 0) refl
 
 unfoldable pub maintenance : Call
 unfolding followed
 maintenance = lent (timer 2 0 0 0) refl
 
-pub maintenance-uses-nine : last-adds default cut-off maintenance ≡ (9, 9)
-unfolding followed cut-off maintenance
-maintenance-uses-nine = refl
+-- 8 for the requests, 3 for the Neighbor, 0 for the Quit
+pub maintenance-uses-all : spent-and-allowed default (eight-requests ++ (neighbor ∷ quit ∷ maintenance ∷ [])) ≡ (20, 20)
+unfolding followed eight-requests neighbor quit maintenance
+maintenance-uses-all = refl
 
--- 1: a request to join
+-- 1, for each of the other events. A reply with two new peers, from which a station without neighbours asks the first:
+unfoldable pub reply : Call
+unfolding followed
+reply = lent (message 3 2 0 0 0 (node 8 none ∷ node 9 none ∷ [])) refl
+
+pub reply-uses-all : spent-and-allowed default (reply ∷ []) ≡ (1, 1)
+unfolding followed reply
+reply-uses-all = refl
+
+-- and if that one leaves, cannot be reached or does not answer, the second
+unfoldable pub leaves : Call
+unfolding followed
+leaves = lent (message 5 8 0 0 0 []) refl
+
+unfoldable pub closed : Call
+unfolding followed
+closed = lent (notice 5 8) refl
+
+unfoldable pub expired : Call
+unfolding followed
+expired = lent (timer 3 8 0 0) refl
+
+pub disconnect-uses-all : spent-and-allowed default (reply ∷ leaves ∷ []) ≡ (2, 2)
+unfolding followed reply leaves
+disconnect-uses-all = refl
+
+pub closed-uses-all : spent-and-allowed default (reply ∷ closed ∷ []) ≡ (2, 2)
+unfolding followed reply closed
+closed-uses-all = refl
+
+pub expired-uses-all : spent-and-allowed default (reply ∷ expired ∷ []) ≡ (2, 2)
+unfolding followed reply expired
+expired-uses-all = refl
+
+-- a ForwardJoin at the end of its walk asks the peer that it names; a Shuffle there is answered
+unfoldable pub forward-join : Call
+unfolding followed
+forward-join = lent (one-node 1 2 0 9) refl
+
+pub forward-join-uses-all : spent-and-allowed default (forward-join ∷ []) ≡ (1, 1)
+unfolding followed forward-join
+forward-join-uses-all = refl
+
+unfoldable pub shuffle : Call
+unfolding followed
+shuffle = lent (message 2 2 0 9 0 []) refl
+
+pub shuffle-uses-all : spent-and-allowed default (shuffle ∷ []) ≡ (1, 1)
+unfolding followed shuffle
+shuffle-uses-all = refl
+
+-- a shuffle timer with a neighbour
+unfoldable pub do-shuffle : Call
+unfolding followed
+do-shuffle = lent (timer 1 0 0 0) refl
+
+pub do-shuffle-uses-all : spent-and-allowed default (neighbor ∷ do-shuffle ∷ []) ≡ (4, 4)
+unfolding followed neighbor do-shuffle
+do-shuffle-uses-all = refl
+
+-- a request to join, and its retry
 unfoldable pub request-join : Call
 unfolding followed
-request-join = lent (notice 6 10) refl
+request-join = lent (notice 6 7) refl
 
-pub request-uses-one : last-adds default [] request-join ≡ (1, 1)
+unfoldable pub retry-join : Call
+unfolding followed
+retry-join = lent (timer 4 7 0 0) refl
+
+pub request-uses-all : spent-and-allowed default (request-join ∷ []) ≡ (1, 1)
 unfolding followed request-join
-request-uses-one = refl
+request-uses-all = refl
+
+pub retry-uses-all : spent-and-allowed default (request-join ∷ retry-join ∷ []) ≡ (2, 2)
+unfolding followed request-join retry-join
+retry-uses-all = refl
