@@ -6,6 +6,7 @@
 use std::{
     env, fs,
     path::{Path, PathBuf},
+    process,
 };
 
 /// Names the folder that holds src/proto/hyparview.rs: the papers or a checkout of iroh-gossip.
@@ -106,8 +107,13 @@ impl Build {
     fn read(&mut self, path: &str) -> String {
         let path = self.folder.join(path);
         println!("cargo:rerun-if-changed={}", path.display());
-        let text =
-            fs::read_to_string(&path).unwrap_or_else(|error| panic!("{}: {error}", path.display()));
+        let text = fs::read_to_string(&path).unwrap_or_else(|error| {
+            eprintln!(
+                "{}: {error}; {FOLDER_VARIABLE} must name a checkout of iroh-gossip",
+                path.display()
+            );
+            process::exit(1)
+        });
         let name = path.file_name().unwrap().to_string_lossy().into_owned();
         self.say(format!(
             "{name}: {} lines, fingerprint {:016x}",

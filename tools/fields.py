@@ -1,9 +1,13 @@
 #!/usr/bin/env python3
-"""fields.py: writes crates/state/proofs/Fields.antt, one law for each field of `State` (run `rt fmt` after it).
+"""crates/state/proofs/Fields.antt: one law for each field of `State`.
+
+usage: tools/fields.py make | check
 
 antt has no update of one field of a record, so each law writes the whole record; a field that is added is one line here.
 """
-import pathlib
+import sys
+
+import tool
 
 # the field in code, its place in `Packed`, its type, and the field of the definition's station
 FIELDS = [
@@ -132,14 +136,19 @@ def put_law(place, kind, name):
     )
 
 
-def main():
+def text():
     laws = [HEAD]
     for field, place, kind, name in FIELDS:
         if name is not None:
             laws.append(with_law(field, kind, name))
             laws.append(put_law(place, kind, name))
-    target = pathlib.Path(__file__).resolve().parent.parent / "crates/state/proofs/Fields.antt"
-    target.write_text("\n".join(laws), encoding="utf-8")
+    return "\n".join(laws)
+
+
+def main():
+    if sys.argv[1:] not in (["make"], ["check"]):
+        tool.usage(__doc__)
+    tool.made({"crates/state/proofs/Fields.antt": text().encode()}, sys.argv[1])
 
 
 main()

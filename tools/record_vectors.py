@@ -1,10 +1,14 @@
 #!/usr/bin/env python3
 """Records, sound and damaged, and what a reader must answer to each, from document 01 alone.
 
-Writes crates/record_test/stdin (each record with two bytes for its length in front) and crates/record_test/stdout.
+usage: tools/record_vectors.py make | check
+
+The files are crates/record_test/stdin (each record with two bytes for its length in front) and crates/record_test/stdout.
 """
-import os
 import struct
+import sys
+
+import tool
 
 
 def make(kind, message=0, flags=0, peer=0, second=0, ttl=0, number=0, nodes=()):
@@ -186,21 +190,21 @@ def special():
         yield (make(8)[:3] + b"\x21" + make(8)[4:])[:length]
 
 
-def main():
+def files():
     records = []
     for b in sound():
         records.append(b)
         records += damaged(b)
     records += special()
-    here = os.path.join(os.path.dirname(os.path.dirname(os.path.abspath(__file__))), "crates", "record_test")
     stored = b"".join(struct.pack("<H", len(b)) + b for b in records)
     assert len(stored) <= 65536, len(stored)
-    with open(os.path.join(here, "stdin"), "wb") as out:
-        out.write(stored)
-    with open(os.path.join(here, "stdout"), "w") as out:
-        out.write("".join(line(b) for b in records))
-    accepted = sum(read(b) is not None for b in records)
-    print(len(records), "records,", accepted, "sound,", len(stored), "bytes")
+    return {"crates/record_test/stdin": stored, "crates/record_test/stdout": "".join(line(b) for b in records).encode()}
+
+
+def main():
+    if sys.argv[1:] not in (["make"], ["check"]):
+        tool.usage(__doc__)
+    tool.made(files(), sys.argv[1])
 
 
 main()

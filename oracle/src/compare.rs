@@ -2,7 +2,7 @@
 
 use std::{
     io::Write,
-    process::{Command, Stdio},
+    process::{self, Command, Stdio},
 };
 
 use crate::{
@@ -31,7 +31,10 @@ fn other(command: &[String], input: &[u8]) -> String {
         .stdin(Stdio::piped())
         .stdout(Stdio::piped())
         .spawn();
-    let mut child = child.unwrap_or_else(|error| panic!("{}: {error}", command[0]));
+    let mut child = child.unwrap_or_else(|error| {
+        eprintln!("{}: {error}", command[0]);
+        process::exit(1)
+    });
     let mut stdin = child.stdin.take().expect("a pipe");
     // A program may stop reading early; what it prints then tells.
     let _ = stdin.write_all(input);
@@ -101,6 +104,9 @@ pub fn run(
                 .count();
             compared += 1;
         }
+    }
+    if compared == 0 {
+        return Err("no history was compared: --histories is 0, or the mix does not fit the run program's input\n".into());
     }
     Ok(format!(
         "{compared} histories, {events} events, 0 differences\n"

@@ -10,7 +10,7 @@ use std::{
 
 use oracle::{
     check, compare,
-    generate::mix::MIXES,
+    generate::mix::{self, MIXES},
     stored::{self, Stored},
     text::{self, Form, Start},
     timing, SUBSTITUTIONS,
@@ -77,6 +77,7 @@ fn answer(arguments: &[String]) -> Answer {
             ))
         }
         "compare" => compare(rest),
+        "-h" | "--help" => Ok(USAGE.into()),
         _ => Err(USAGE.into()),
     }
 }
@@ -106,8 +107,16 @@ impl Options {
             .map_err(|_| format!("--{name} {value}\n{USAGE}"))
     }
 
-    fn mix(&self) -> Option<&str> {
-        self.0.get("mix").map(String::as_str)
+    /// The mix asked for; one that is none is an error, and not a run of no history.
+    fn mix(&self) -> Result<Option<&str>, String> {
+        let Some(name) = self.0.get("mix") else {
+            return Ok(None);
+        };
+        if mix::named(name).is_none() {
+            let names: Vec<_> = MIXES.iter().map(|mix| mix.name).collect();
+            return Err(format!("no mix is {name}; there are {}\n", names.join(" ")));
+        }
+        Ok(Some(name))
     }
 }
 
@@ -133,11 +142,12 @@ fn generate(options: &Options) -> Answer {
     let seed: u64 = options.get("seed", 1)?;
     let histories = options.get("histories", 1)?;
     let events: usize = options.get("events", 20)?;
+    let only = options.mix()?;
     let mut text = String::new();
     for seed in seed..seed + histories {
         for mix in MIXES
             .iter()
-            .filter(|mix| options.mix().is_none_or(|name| name == mix.name))
+            .filter(|mix| only.is_none_or(|name| name == mix.name))
         {
             text += &made(&format!("{} {seed} {events}", mix.name))?;
         }
@@ -175,7 +185,7 @@ fn compare(arguments: &[String]) -> Answer {
         seed,
         histories,
         options.get("events", 200)?,
-        options.mix(),
+        options.mix()?,
         command,
     )
 }

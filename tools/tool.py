@@ -1,0 +1,79 @@
+"""What the tools have in common: help on standard output, and one clear line where something is missing."""
+import subprocess
+import sys
+from pathlib import Path
+
+ROOT = Path(__file__).resolve().parent.parent
+ORACLE = ROOT / "oracle" / "target" / "release" / "oracle"
+
+
+def fail(text):
+    """Ends the tool with one line and status 1."""
+    sys.exit(f"{Path(sys.argv[0]).name}: {text}")
+
+
+def usage(text):
+    """Ends the tool with its help: on standard output where it was asked for, otherwise as an error."""
+    if sys.argv[1:2] in (["-h"], ["--help"]):
+        print(text.strip())
+        sys.exit(0)
+    sys.exit(text.strip())
+
+
+def reason(wrong):
+    return (wrong.strerror or str(wrong)).lower() if isinstance(wrong, OSError) else str(wrong)
+
+
+def read(path):
+    """A file's text."""
+    try:
+        return Path(path).read_text(encoding="utf-8")
+    except (OSError, UnicodeDecodeError) as wrong:
+        fail(f"{path}: {reason(wrong)}")
+
+
+def run(command, **given):
+    """What a program writes to standard output, as bytes."""
+    try:
+        done = subprocess.run(command, stdout=subprocess.PIPE, **given)
+    except OSError as wrong:
+        built = Path(command[0])
+        hint = f"; run `rt check {built.name}` first" if built.parts[-3:-1] == ("target", "bin") else ""
+        fail(f"{command[0]}: {reason(wrong)}{hint}")
+    if done.returncode != 0:
+        fail(f"{command[0]} ended with status {done.returncode}")
+    return done.stdout
+
+
+def oracle(*words, **given):
+    """What the oracle writes."""
+    if not ORACLE.exists():
+        fail("the oracle is not built: run tools/differential first")
+    return run([ORACLE, *map(str, words)], **given)
+
+
+def options(words, names):
+    """The options that stand as `--name value`, of these names."""
+    found = dict(zip(words[::2], words[1::2]))
+    if len(words) % 2 or not set(found) <= set(names):
+        fail(f"options are {' '.join(names)}, each with a value")
+    return found
+
+
+def number(found, name, usual):
+    """The whole number of an option, or the usual one."""
+    text = found.get(name, str(usual))
+    if not (text.isascii() and text.isdigit()):
+        fail(f"{name} takes a whole number, not {text}")
+    return int(text)
+
+
+def made(files, mode):
+    """Writes the files, whose content is given by name, or with `check` fails where one is another."""
+    if mode == "make":
+        for name, content in files.items():
+            (ROOT / name).write_bytes(content)
+        return
+    old = [name for name, content in files.items() if not (ROOT / name).is_file() or (ROOT / name).read_bytes() != content]
+    if old:
+        fail(f"not what `make` writes: {' '.join(old)}")
