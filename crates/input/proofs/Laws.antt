@@ -7,12 +7,12 @@ use mathlib.Core.List.{List, _∷_}
 use native.Mathlib.Nat.{add-zero, add-suc, suc-add, not-suc-le-zero, le-of-suc-le-suc}
 use native.Mathlib.Omega.{arith}
 use lib.ListN.{length, getD, take, drop}
-use lib.Seq.{slice}
 use lib.Dec.{leb, eqb}
 use borrow.Author.Tests.{leb-true, le-leb, lt-leb, eqb-true, eq-eqb, ne-eqb}
 use Rattle.lists.specs.Bytes.{read-le}
 use Rattle.lists.proofs.Choice.{by-choice, split, clash, choose-yes, choose-no, and-left, and-right}
 use Rattle.input.specs.Input.{number, numbers, event-length, are-events, cut-events, places-ok, events-part, events-ok, layout-of, input-of}
+pub use Rattle.input.specs.Input.{Laid}
 use Rattle.input.specs.declared.Layout.{Layout}
 use Rattle.input.specs.declared.Input.{Input}
 use Rattle.input.specs.declared.Input.the-variants.{Refused, Whole}
@@ -93,13 +93,6 @@ places-true b e =
       full = eqb-true _ _ (and-right t₄ t₅ e₄);
       most = leb-true _ _ (and-left t₂ (t₃ && (t₄ && t₅)) e₂);
     }
-
--- what a caller may count on where an input is not refused
-pub record Laid (b : List ℕ) (l : Layout) : Type 0 where
-  pub low : 56 ≤ l .«draws_at»
-  pub full : l .«draws_at» + 4 * l .draws ≡ length b
-  pub most : length b ≤ 65536
-  pub events : are-events (l .events) (slice 56 (l .«draws_at») b) ≡ true
 
 laid-of : (b : List ℕ) → places-ok b ≡ true → events-ok b ≡ true → Laid b (layout-of b)
 unfolding layout-of events-ok events-part

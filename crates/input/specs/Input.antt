@@ -1,8 +1,9 @@
 -- Document 01, "The run program": which bytes are an input, and what it says: self, settings, events, draws.
 -- 14 numbers of 4 bytes (self, nine settings, event count, event offset, draw count, draw offset), events, draws, without gaps.
 -- Assumes nothing.
-use Prim.Native.Nat.{ℕ, zero, suc, _+_, _*_}
-use mathlib.Core.Bool.{Bool, not, _&&_}
+use Prim.Native.Nat.{ℕ, zero, suc, _+_, _*_, _≤_}
+use mathlib.Core.Path.{_≡_}
+use mathlib.Core.Bool.{Bool, true, not, _&&_}
 use mathlib.Core.List.{List, [], _∷_}
 use lib.ListN.{length, take, drop}
 use lib.Seq.{slice}
@@ -70,6 +71,13 @@ layout-of b = record { me = number b 0; config = config-of b; events = number b 
 -- what an input is: refused as a whole (`= 3 0`), or its layout
 unfoldable pub input-of : List ℕ → Input
 input-of b = choose (places-ok b && events-ok b) (Whole (layout-of b)) Refused
+
+-- what the layout of an input that is not refused says of its places
+pub record Laid (b : List ℕ) (l : Layout) : Type 0 where
+  pub low : 56 ≤ l .«draws_at»
+  pub full : l .«draws_at» + 4 * l .draws ≡ length b
+  pub most : length b ≤ 65536
+  pub events : are-events (l .events) (slice 56 (l .«draws_at») b) ≡ true
 
 -- the events of an input that is not refused
 unfoldable pub events-of : List ℕ → List (List ℕ)

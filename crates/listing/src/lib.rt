@@ -11,7 +11,7 @@ ghost use Rattle.io.specs.Counts.{Counts};
 ghost use Rattle.lists.specs.Bytes.{overwrite};
 ghost use Prim.Native.Nat.{_+_, _*_};
 ghost use Rattle.input.specs.Input.{cut-events, numbers};
-ghost use Rattle.input.proofs.Laws.{Laid};
+ghost use Rattle.input.specs.Input.{Laid};
 ghost use Rattle.runner.specs.Place.{Inside};
 ghost use Rattle.text.specs.Text.{Puts};
 ghost use Rattle.lines.specs.Lines.{end-line};

@@ -2,7 +2,7 @@
 -- Assumes nothing.
 use Prim.Native.Nat.{ℕ, _+_}
 use Rattle.protocol.specs.Run.{Run}
-use Rattle.protocol.proofs.Invariant.{Fixed, calm, Ok}
+use Rattle.protocol.specs.Invariant.{Fixed, calm, Ok}
 
 -- what holds between events, and m messages, b bytes and d draws may be spent
 pub record Between (m b d : ℕ) (g : Run) : Type 0 where

@@ -13,6 +13,7 @@ use Rattle.lists.specs.Maps.{keys, has, cut, replace, place-entry, put}
 use Rattle.lists.proofs.Choice.{by-choice, by-test, split, or-true, clash}
 use Rattle.lists.proofs.Count.{is-self, is-le, is-not, mem-true, mem-false, count-snoc, count-without, length-without, count-place, count-insert, length-swap, count-shift, length-shift, index-lt, index-at, absent}
 use Rattle.lists.proofs.Maps.{keys-cut, keys-put}
+unfoldable pub use Rattle.protocol.specs.Invariant.{Each}
 
 pub both : (a b : Bool) → a ≡ true → b ≡ true → (a && b) ≡ true
 both a b e f = rw e f
@@ -143,29 +144,25 @@ count-put x p v m n h k = rw (keys-put p v m) (count-insert x p (keys m) n h k)
 
 -- of every value of a map
 module _ {A : Type 0} (P : A → Type 0) where
-  unfoldable pub Each : List (ℕ × A) → Type 0
-  Each [] = Unit {0}
-  Each (e ∷ m) = P (e .1) × Each m
-
-  pub each-cut : (k : ℕ) (m : List (ℕ × A)) → Each m → Each (cut k m)
+  pub each-cut : (k : ℕ) (m : List (ℕ × A)) → Each P m → Each P (cut k m)
   unfolding Each cut
   each-cut k [] h = tt
-  each-cut k (e ∷ m) h = by-choice Each (eqb k (e .0)) (λ t. each-cut k m (h .1)) (λ t. (h .0, each-cut k m (h .1)))
+  each-cut k (e ∷ m) h = by-choice (Each P) (eqb k (e .0)) (λ t. each-cut k m (h .1)) (λ t. (h .0, each-cut k m (h .1)))
 
-  each-replace : (k : ℕ) (v : A) (m : List (ℕ × A)) → P v → Each m → Each (replace k v m)
+  each-replace : (k : ℕ) (v : A) (m : List (ℕ × A)) → P v → Each P m → Each P (replace k v m)
   unfolding Each replace
   each-replace k v [] p h = tt
   each-replace k v (e ∷ m) p h =
-      by-choice Each (eqb k (e .0)) (λ t. (p, each-replace k v m p (h .1))) (λ t. (h .0, each-replace k v m p (h .1)))
+      by-choice (Each P) (eqb k (e .0)) (λ t. (p, each-replace k v m p (h .1))) (λ t. (h .0, each-replace k v m p (h .1)))
 
-  each-place : (k : ℕ) (v : A) (m : List (ℕ × A)) → P v → Each m → Each (place-entry k v m)
+  each-place : (k : ℕ) (v : A) (m : List (ℕ × A)) → P v → Each P m → Each P (place-entry k v m)
   unfolding Each place-entry
   each-place k v [] p h = (p, tt)
-  each-place k v (e ∷ m) p h = by-choice Each (ltb k (e .0)) (λ t. (p, h)) (λ t. (h .0, each-place k v m p (h .1)))
+  each-place k v (e ∷ m) p h = by-choice (Each P) (ltb k (e .0)) (λ t. (p, h)) (λ t. (h .0, each-place k v m p (h .1)))
 
-  pub each-put : (k : ℕ) (v : A) (m : List (ℕ × A)) → P v → Each m → Each (put k v m)
+  pub each-put : (k : ℕ) (v : A) (m : List (ℕ × A)) → P v → Each P m → Each P (put k v m)
   unfolding put
-  each-put k v m p h = by-choice Each (has k m) (λ t. each-replace k v m p h) (λ t. each-place k v m p h)
+  each-put k v m p h = by-choice (Each P) (has k m) (λ t. each-replace k v m p h) (λ t. each-place k v m p h)
 
 pub each-more : (n k : ℕ) (m : List (ℕ × ℕ)) → n ≤ k → Each (λ v. v < n) m → Each (λ v. v < k) m
 unfolding Each

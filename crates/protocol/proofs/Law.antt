@@ -1,79 +1,11 @@
--- The station rules but those on views and joins: what each says of its part of the station, and that each change of a part keeps it.
+-- The station rules but those on views and joins: each change of a part of the station keeps what they say of it.
 -- Assumes nothing.
-use mathlib.Core.Path.{_≡_}
 use mathlib.Core.List.{List, [], _∷_}
-use mathlib.Core.Option.{none, some}
-use Prim.Native.Nat.{ℕ, _≤_, _<_}
-use lib.ListN.{length}
-use Rattle.lists.specs.Lists.{count, Rising}
-use Rattle.lists.specs.Maps.{keys}
+use Prim.Native.Nat.{ℕ}
 use Rattle.peer.specs.Data.{Data, Node}
-use Rattle.protocol.specs.Station.{Station, Refill, automatic, requests-left, recovery, top-counter, top-passes}
-use Rattle.protocol.proofs.Extra.{Each}
-
--- at most 16 bytes
-unfoldable pub Short : Data → Type 0
-Short none = Unit {0}
-Short (some b) = length b ≤ 16
-
--- at most 3 requests
-unfoldable pub Small : Refill → Type 0
-Small automatic = Unit {0}
-Small (requests-left n) = n ≤ 3
-Small recovery = Unit {0}
-
-pub record InOrder (xs : List ℕ) : Type 0 where
-  pub rise : Rising xs
-
--- numbers in rising order of peers, below their counter
-pub record Numbered (m : List (ℕ × ℕ)) (next : ℕ) : Type 0 where
-  pub rise : Rising (keys m)
-  pub below : Each (λ v. v < next) m
-  pub next-top : next ≤ top-counter
-
-pub record Requests (m : List (ℕ × ℕ)) (next : ℕ) : Type 0 where
-  pub numbered : Numbered m next
-  pub few : length m ≤ 32
-
-pub record Held (me : ℕ) (m : List (ℕ × List ℕ)) : Type 0 where
-  pub rise : Rising (keys m)
-  pub few : length m ≤ 80
-  pub shorts : Each (λ b. length b ≤ 16) m
-  pub not-own : count me (keys m) ≡ 0
-
-pub record Refused (xs : List ℕ) : Type 0 where
-  pub rise : Rising xs
-  pub few : length xs ≤ 32
-
-pub record Recent (xs : List ℕ) : Type 0 where
-  pub once : (x : ℕ) → count x xs ≤ 1
-  pub few : length xs ≤ 8
-
-pub record Pace (top int : ℕ) : Type 0 where
-  pub low : 1 ≤ int
-  pub high : int ≤ top
-
-pub record Passes (n : ℕ) : Type 0 where
-  pub high : n ≤ top-passes
-
--- over the parts that it speaks of, so that a change of another part leaves it as it is
-pub record Law (me top : ℕ) (own : Data) (req : List (ℕ × ℕ)) (nreq : ℕ) (joi : List (ℕ × ℕ)) (njoi : ℕ) (dat : List (ℕ × List ℕ)) (ali ref : List ℕ) (fill : Refill) (rec : List ℕ) (int alone short : ℕ) : Type 0 where
-  pub requests-ok : Requests req nreq
-  pub joins-ok : Numbered joi njoi
-  pub held-ok : Held me dat
-  pub own-ok : Short own
-  pub alive-ok : InOrder ali
-  pub refused-ok : Refused ref
-  pub fill-ok : Small fill
-  pub recent-ok : Recent rec
-  pub pace-ok : Pace top int
-  pub alone-ok : Passes alone
-  pub short-ok : Passes short
-
-abbrev pub Lawful : Station → Type 0
-Lawful s =
-    Law (s .me) (s .config .«shuffle_interval») (s .own-data) (s .requests) (s .next-request) (s .joins) (s .next-join) (s .peer-data)
-    (s .alive) (s .refused) (s .refill) (s .recent) (s .next-interval) (s .passes-alone) (s .passes-short)
+use Rattle.protocol.specs.Station.{Refill}
+unfoldable pub use Rattle.protocol.specs.Invariant.{Short, Small}
+pub use Rattle.protocol.specs.Invariant.{InOrder, Numbered, Requests, Held, Refused, Recent, Pace, Passes, Law, Lawful}
 
 -- one part changed
 module _ {me top : ℕ} {own : Data} {req : List (ℕ × ℕ)} {nreq : ℕ} {joi : List (ℕ × ℕ)} {njoi : ℕ} {dat : List (ℕ × List ℕ)} {ali ref : List ℕ} {fill : Refill} {rec : List ℕ} {int alone short : ℕ}

@@ -38,11 +38,11 @@ demote p r = add-passive p (lookup p (r .station .peer-data)) (on (drop-data p) 
 unfoldable pub mark-alive : ℕ → Station → Station
 mark-alive p s = set-alive (insert p (s .alive)) s
 
--- into the passive view with a mark, "so it doesn't get removed from the passive view if the conn closes"
+-- into the passive view with a mark, which saves it there when its connection is closed next
 unfoldable pub demote-alive : ℕ → Run → Run
 demote-alive p r = on (mark-alive p) (demote p r)
 
--- "keep alive if previously marked as alive"
+-- a neighbour that bears a mark stays as a passive peer, and the mark is used up
 unfoldable pub settle-closed : ℕ → Run → Run
 settle-closed p r = choose (is-marked p (r .station)) (demote p (on (drop-mark p) r)) (forget-peer p r)
 
@@ -59,7 +59,7 @@ remove-active-by-index i why r = settle why (getD (r .station .active) i 0) (dro
 unfoldable pub clear-refused : Station → Station
 clear-refused s = set-refused [] s
 
--- "Peers that refused may have room now."
+-- the peer that is gone may have left room with those that refused, so they are asked again
 unfoldable pub refill-after : ℕ → Run → Run
 refill-after p r = start-refill recovery (p ∷ []) (on clear-refused r)
 
@@ -88,7 +88,7 @@ push-active p s = set-active (s .active ++ (p ∷ [])) s
 unfoldable pub move-in : ℕ → Station → Station
 move-in p s = remember-neighbor p (push-active p (drop-mark p (remove-passive p s)))
 
--- "A recovery goes on, as more neighbors may be missing."
+-- one neighbour gained does not end a recovery: more than one may have been lost
 unfoldable pub gain-neighbor : Station → Station
 gain-neighbor s = set-passes-short 0 (set-refill (unless-recovery (s .refill) automatic) s)
 
@@ -116,6 +116,6 @@ admit p high reply r = choose (in-active p (r .station)) (reply-neighbor reply p
 unfoldable pub add-active : ℕ → Data → Bool → Bool → Run → Run
 add-active p d high reply r = choose (is-me p (r .station)) r (admit p high reply (insert-peer-info p d r))
 
--- what add_active answers: "whether the peer is in it"
+-- what add_active answers: that p is a neighbour after it
 unfoldable pub accepts : ℕ → Bool → Station → Bool
 accepts p high s = not (is-me p s) && (in-active p s || (high || not (active-is-full s)))

@@ -45,7 +45,7 @@ note-join p s = set-joins (put p (s .next-join) (s .joins)) (set-next-join (s .n
 unfoldable pub open-join : ℕ → Run → Run
 open-join p r = on (note-join p) (require 10 (join-counts (r .station)) r)
 
--- "Retry once even if we have neighbors."
+-- a Join may be lost without a sign, so it is sent once more after a while, whatever neighbours there are by then
 unfoldable pub await-join : ℕ → Run → Run
 await-join p r = emit (timer 4 p join-retry-delay (r .station .next-join)) (open-join p r)
 
@@ -69,7 +69,7 @@ drop-dead p s = drop-data p (remove-passive p s)
 unfoldable pub lose-passive : ℕ → Run → Run
 lose-passive p r = choose (is-marked p (r .station)) (on (drop-mark p) r) (on (drop-dead p) r)
 
--- "The request failed with its dial, long before its timer fires."
+-- an open request to p has failed, and its timer is not waited for
 unfoldable pub lose-other : ℕ → Bool → Run → Run
 lose-other p requested r =
     choose requested (refill-active-from-passive (p ∷ []) (lose-passive p r)) (lose-passive p r)

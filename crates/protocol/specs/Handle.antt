@@ -113,7 +113,7 @@ dispatch e r =
 unfoldable pub note-scheduled : Station → Station
 note-scheduled s = set-scheduled true s
 
--- "this will only happen on the first call"
+-- the first accepted event starts the two timers that then start themselves again
 unfoldable pub first-timers : Run → Run
 first-timers r =
     choose (r .station .scheduled) r (schedule-maintenance (schedule-shuffle (on note-scheduled r)))

@@ -11,3 +11,4 @@ pub mod Timers
 pub mod Rules
 pub mod Handle
 pub mod Traced
+pub mod Invariant

@@ -26,7 +26,8 @@ drop-join p s = set-joins (cut p (s .joins)) s
 unfoldable pub drop-request : ℕ → Station → Station
 drop-request p s = set-requests (cut p (s .requests)) s
 
--- on_join and on_neighbor start with both
+-- on_join and on_neighbor start with both. In on_join the open request goes because its peer has started anew and knows nothing of it: it will not be answered, and
+-- as long as it stands `send-neighbor` is silent, so that the Join would stay without an answer.
 unfoldable pub drop-pending : ℕ → Run → Run
 drop-pending p r = on (drop-request p) (on (drop-join p) r)
 
@@ -35,7 +36,7 @@ drop-pending p r = on (drop-request p) (on (drop-join p) r)
 unfoldable pub forward-join-to : Node → ℕ → ℕ → Rec
 forward-join-to n ttl q = message 1 q 0 0 ttl (n ∷ [])
 
--- "to all other nodes in its active view a ForwardJoin request containing the new node identifier"
+-- each neighbour but p hears of p
 unfoldable pub forward-joins : ℕ → Data → Run → Run
 forward-joins p d r =
     emit-all (forward-join-to (node p d) (r .station .config .«active_random_walk_length»)) (without p (r .station .active)) r
@@ -49,11 +50,11 @@ on-join p d r = forward-joins p d (add-active p d true true (drop-pending p r))
 unfoldable pub ends-here : ℕ → ℕ → Station → Bool
 ends-here p ttl s = in-active p s || (expired ttl || is-last-hop s)
 
--- "we only send the Neighbor message. We will add the peer to our active view once we receive a reply"
+-- the joiner is asked, and enters the active view when it answers: one that cannot be reached takes no place
 unfoldable pub ask-joiner : Node → Run → Run
 ask-joiner n r = send-neighbor (n .id) true (insert-peer-info (n .id) (n .data-of) r)
 
--- "If the time to live is equal to PRWL, p will insert the new node into its passive view"
+-- at one point of its walk a joiner becomes a passive peer
 unfoldable pub learn-joiner : Node → ℕ → Run → Run
 learn-joiner n ttl r =
     choose (eqb ttl (r .station .config .«passive_random_walk_length»)) (add-passive (n .id) (n .data-of) r) r
@@ -91,11 +92,11 @@ on-shuffle from origin ns ttl r =
 
 -- on_shuffle_reply
 
--- "After a refusal, only a short node asks the next passive peer."
+-- where its sender was asked, a reply announces a refusal: only a short station then asks another
 unfoldable pub stops-at-refusal : ℕ → Station → Bool
 stops-at-refusal from s = is-requested from s && not (is-short s)
 
--- "A reply to our shuffle with new peers renews a used-up limit. A refusal does not."
+-- new peers from a shuffle are worth a few more requests; those that a refusal brings are not, or refusals would never end
 unfoldable pub renews-limit : ℕ → Bool → Station → Bool
 renews-limit from new s = not (is-requested from s) && (new && is-spent (s .refill))
 
@@ -112,7 +113,7 @@ on-shuffle-reply from ns r = after-reply from (any-new ns r) (add-nodes ns r)
 
 -- on_neighbor
 
--- "`add_active` stored the peer's data before it refused the peer."
+-- the data that came with the Neighbor is held already, and goes again
 unfoldable pub refuse-neighbor : ℕ → Run → Run
 refuse-neighbor p r = forget-peer p (send-disconnect p true r)
 
@@ -120,7 +121,7 @@ unfoldable pub answer-neighbor : ℕ → Data → Bool → Bool → Run → Run
 answer-neighbor p d high reply r =
     choose (accepts p high (r .station)) (add-active p d high reply r) (refuse-neighbor p (add-active p d high reply r))
 
--- on_neighbor: a Neighbor from a peer with an open request is its reply, and is not answered
+-- on_neighbor: where a Neighbor to the sender is open this one answers it, and is not answered (`send-neighbor`)
 unfoldable pub on-neighbor : ℕ → Data → Bool → Run → Run
 on-neighbor p d high r = answer-neighbor p d high (not (is-requested p (r .station))) (drop-pending p r)
 
@@ -129,7 +130,7 @@ on-neighbor p d high r = answer-neighbor p d high (not (is-requested p (r .stati
 unfoldable pub drop-recent : ℕ → Station → Station
 drop-recent p s = set-recent (without p (s .recent)) s
 
--- "The peer left the topic, a rejoin through it would fail."
+-- whoever is no longer on the topic cannot help a station back
 unfoldable pub forget-recent : ℕ → Bool → Run → Run
 forget-recent p alive r = choose alive r (on (drop-recent p) r)
 
@@ -149,7 +150,7 @@ note-refusal p requested r = choose requested (note-refused p r) r
 unfoldable pub mark-passive : ℕ → Run → Run
 mark-passive p r = choose (in-passive p (r .station)) (on (mark-alive p) r) r
 
--- "So stop asking it."
+-- out of the passive view; where it was asked, another is
 unfoldable pub left-topic : ℕ → Bool → Run → Run
 left-topic p requested r =
     choose requested (refill-active-from-passive (p ∷ []) (drop-passive p r)) (drop-passive p r)

@@ -53,7 +53,7 @@ drop-mark p s = set-alive (without p (s .alive)) s
 unfoldable pub drop-traces : ℕ → Station → Station
 drop-traces p s = drop-mark p (drop-data p s)
 
--- forget_peer: "unless it is still in a view"
+-- forget_peer; a caller may not know whether the peer has entered a view meanwhile, so that is asked here
 unfoldable pub forget-peer : ℕ → Run → Run
 forget-peer p r = choose (in-view p (r .station)) r (on (drop-traces p) r)
 

@@ -17,7 +17,7 @@ use Rattle.protocol.specs.Sending.{send-neighbor}
 abbrev pub few-requests : Refill
 few-requests = requests-left max-requests-per-refill
 
--- no limit changes a recovery that runs
+-- a recovery keeps its freedom: no limit takes its place
 unfoldable pub unless-recovery : Refill → Refill → Refill
 unless-recovery old new = choose (is-recovery old) recovery new
 
@@ -29,18 +29,18 @@ one-less recovery = recovery
 unfoldable pub use-request : Station → Station
 use-request s = set-refill (one-less (s .refill)) s
 
--- a recovery lasts until the replies to its requests arrive
+-- an open request may still bring peers to ask, so a recovery waits for it
 unfoldable pub end-recovery : Station → Station
 end-recovery s = set-refill (choose (recovery-is-over s) automatic (s .refill)) s
 
--- "A short node always refills with a limit."
+-- a short station that has neighbours asks a few and not all
 unfoldable pub needs-limit : Station → Bool
 needs-limit s = is-automatic (s .refill) && (not (is-alone s) && is-short s)
 
 unfoldable pub limit-short : Station → Station
 limit-short s = set-refill (choose (needs-limit s) few-requests (s .refill)) s
 
--- refused peers are skipped, but not with high priority
+-- who refused is left out, but not where the station is alone: its priority is then high, and they cannot refuse
 unfoldable pub skipped : List ℕ → Station → List ℕ
 skipped skip s = skip ++ (keys (s .requests) ++ choose (is-alone s) [] (s .refused))
 

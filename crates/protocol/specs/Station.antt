@@ -10,7 +10,13 @@ use Rattle.lists.specs.Maps.{keys}
 use Rattle.peer.specs.Data.{Data}
 use Rattle.timing.specs.declared.Config.{Config}
 
--- `RefillLimit`: how many more requests a refill of the active view may send
+-- `RefillLimit`: what bounds the requests by which the active view is filled again. One number would not do, since three stations want three bounds.
+--   automatic          none is set. A station without neighbours needs none: it asks with high priority, and nobody may refuse. One with
+--                      half its neighbours or more needs none: it gives up at the first refusal. A short one gets `requests-left` when it first asks.
+--   requests-left n    a short station may ask n more. Its passive peers are probably full, and each refusal asks the next one at once, so
+--                      without a bound it would ask all of them at every pass.
+--   recovery           a neighbour was lost, or none is left: it asks until somebody accepts, since others may have lost the same one and have room.
+--                      No smaller limit takes its place while it runs, and it is over once nothing that it asked is open.
 pub data Refill : Type 0 where
   automatic : Refill
   requests-left : ℕ → Refill
@@ -33,7 +39,7 @@ pub record Station : Type 0 where
   pub bootstrap : List ℕ
   pub passes-alone : ℕ
   pub passes-short : ℕ
-  -- recent_neighbors, least recently seen first
+  -- recent_neighbors, the one seen last at the end; a peer that failed stays, since a station that lost its own network sees all of them fail
   pub recent : List ℕ
   -- pending_neighbor_requests, with their numbers, and next_neighbor_request
   pub requests : List (ℕ × ℕ)
@@ -126,6 +132,6 @@ is-spent recovery = false
 unfoldable pub asked-outside : Station → List ℕ
 asked-outside s = without-all (s .active) (keys (s .requests))
 
--- a recovery with no request in flight
+-- a recovery whose last request is answered or given up
 unfoldable pub recovery-is-over : Station → Bool
 recovery-is-over s = is-recovery (s .refill) && null (asked-outside s)

@@ -23,7 +23,7 @@ unfoldable pub is-number : ℕ → Option ℕ → Bool
 is-number n none = false
 is-number n (some m) = eqb n m
 
--- handle_pending_neighbor_timer: "A timer whose `id` is not the pending one .. does nothing."
+-- handle_pending_neighbor_timer; a timer with another number is that of an earlier Neighbor, and nothing happens
 
 unfoldable pub request-is : ℕ → ℕ → Station → Bool
 request-is p id s = is-number id (lookup p (s .requests))
@@ -44,7 +44,7 @@ retry-join p id r = choose (join-is p id (r .station)) (join p (on (drop-join p)
 
 -- schedule_shuffle
 
--- "with the interval doubled up to its maximum"
+-- the next interval is twice as long, and at most the setting
 unfoldable pub double-interval : Station → Station
 double-interval s = set-next-interval (min (2 * s .next-interval) (s .config .«shuffle_interval»)) s
 
@@ -85,7 +85,7 @@ handle-shuffle-timer r = schedule-shuffle (shuffle-any r)
 
 -- handle_maintenance_timer
 
--- "Neighbors that stay count as seen again"
+-- neighbours that are still there become the latest seen, so that others who come and go do not push them out
 unfoldable pub renew-all : List ℕ → List ℕ → List ℕ
 renew-all [] xs = xs
 renew-all (p ∷ ps) xs = renew-all ps (renew max-recent-neighbors p xs)
@@ -119,7 +119,7 @@ count-alone r = on add-alone (require 10 (alone-counts (r .station)) r)
 unfoldable pub rejoin-if-due : Run → Run
 rejoin-if-due r = choose (backoff-due (r .station .passes-alone)) (rejoin r) r
 
--- "A node without any peer rejoins through its bootstrap peers and a recent neighbor, with a backoff."
+-- with both views empty nothing but a Join brings peers: to the bootstrap peers and, as they may all be gone, to one recent neighbour
 unfoldable pub pass-alone : Run → Run
 pass-alone r = rejoin-if-due (count-alone r)
 
@@ -139,7 +139,7 @@ refill-anew r = start-refill few-requests [] (on clear-refused r)
 unfoldable pub refill-if-due : Run → Run
 refill-if-due r = choose (backoff-due (r .station .passes-short)) (refill-anew r) r
 
--- "A short node starts a refill of a few requests, with a backoff"; "The backoff pauses during a recovery."
+-- the passes of a short station are not counted while it recovers
 unfoldable pub in-recovery : Station → Bool
 in-recovery s = is-recovery (s .refill)
 
@@ -149,11 +149,11 @@ pass-short r = choose (in-recovery (r .station)) r (refill-if-due (count-short r
 unfoldable pub pass-neighbors : Run → Run
 pass-neighbors r = choose (is-short (r .station)) (pass-short r) (on clear-refused r)
 
--- "A node with passive peers but no neighbor starts a refill without a limit, in every pass."
+-- a station with passive peers alone recovers at every pass; one with neighbours is filled up only when short, and at passes further and further apart
 unfoldable pub pass-known : Run → Run
 pass-known r = choose (is-alone (r .station)) (start-refill recovery [] r) (pass-neighbors r)
 
--- passes_alone = 0, and "A recovery ends when no request is left in flight."
+-- passes_alone = 0, and a recovery without an open request ends
 unfoldable pub not-alone : Station → Station
 not-alone s = end-recovery (set-passes-alone 0 s)
 

@@ -13,6 +13,7 @@ use Rattle.lists.proofs.Choice.{choose-yes, choose-no, split, clash, and-left}
 use Rattle.record.specs.Format.{header-length}
 use Rattle.record.specs.Read.{header-of, entry-at, entry-ok, entries-ok, well-formed, rec-of, is-event, refused, event, read-event}
 use Rattle.record.specs.Answers.{answer, event-answer, event-in, EventIs}
+pub use Rattle.record.specs.Answers.{Found}
 use Rattle.record.specs.declared.Header.{Header}
 use Rattle.record.specs.declared.Answer.the-variants as Answers
 use Rattle.record.specs.declared.Event.{Event}
@@ -44,11 +45,6 @@ answer-record b h t p q e = rw (e, ← p, q)
 pub answer-malformed : (b : List ℕ) (t : Bool) → t ≡ well-formed b → t ≡ false → Answers.Malformed ≡ answer b
 unfolding answer choose
 answer-malformed b t p q = rw (← p, q)
-
--- what an answer with a header says of the bytes
-pub record Found (b : List ℕ) (h : Header) : Type 0 where
-  pub well : well-formed b ≡ true
-  pub header : h ≡ header-of b
 
 pub answer-found : (b : List ℕ) (h : Header) → answer b ≡ Answers.Record h → Found b h
 unfolding answer

@@ -2,7 +2,7 @@
 -- Assumes nothing.
 use Prim.Native.Nat.{ℕ}
 use mathlib.Core.Path.{_≡_}
-use mathlib.Core.Bool.{_&&_}
+use mathlib.Core.Bool.{true, _&&_}
 use mathlib.Core.List.{List}
 use lib.ListN.{length, getD}
 use lib.Dec.{ltb}
@@ -12,6 +12,7 @@ use Rattle.peer.specs.Held.{ValidData, node-in}
 use Rattle.peer.specs.declared.PeerInfo.{PeerInfo}
 use Rattle.record.specs.Format.{header-length}
 use Rattle.record.specs.Read.{header-of, well-formed, rec-of, is-event, Reading, refused, event, read-event}
+use Rattle.record.specs.declared.Header.{Header}
 use Rattle.record.specs.declared.Answer.{Answer}
 use Rattle.record.specs.declared.Answer.the-variants as Answers
 use Rattle.record.specs.declared.Event.{Event}
@@ -20,6 +21,11 @@ use Rattle.record.specs.declared.Event.the-variants as Events
 -- the header of a record, or that the bytes are none
 unfoldable pub answer : List ℕ → Answer
 answer b = choose (well-formed b) (Answers.Record (header-of b)) Answers.Malformed
+
+-- what an answer with the header h says of the bytes
+pub record Found (b : List ℕ) (h : Header) : Type 0 where
+  pub well : well-formed b ≡ true
+  pub header : h ≡ header-of b
 
 -- the code's answer to an event
 unfoldable pub event-answer : List ℕ → Event

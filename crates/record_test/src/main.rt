@@ -4,7 +4,7 @@ use record::Event;
 use record::Header;
 ghost use Prim.Native.Nat.{_+_, _≤_};
 ghost use lib.ListN.{length};
-ghost use Rattle.record.proofs.Laws.{Found};
+ghost use Rattle.record.specs.Answers.{Found};
 
 fn main() {
     let mut buffer = io::large_buffer();

@@ -13,7 +13,7 @@ ghost use Rattle.io.specs.Counts.{Counts};
 ghost use Rattle.protocol.specs.Handle.{new, zero-station};
 ghost use Rattle.rules.specs.Pack.{pack};
 ghost use Rattle.input.specs.Input.{numbers, cut-events};
-ghost use Rattle.input.proofs.Laws.{Laid};
+ghost use Rattle.input.specs.Input.{Laid};
 ghost use Rattle.runner.specs.Place.{Inside, passed};
 ghost use Rattle.trace_text.specs.Shown.{Within};
 ghost use Rattle.replay.specs.Ending.{Counting, room-of, state-after, laid-state, made-end, ended-of};

@@ -7,7 +7,7 @@ ghost use Prim.Native.Nat.{_+_, _*_, _≤_};
 ghost use lib.ListN.{length, drop};
 ghost use Rattle.io.specs.Counts.{Counts};
 ghost use Rattle.input.specs.Input.{numbers};
-ghost use Rattle.input.proofs.Laws.{Laid};
+ghost use Rattle.input.specs.Input.{Laid};
 ghost use Rattle.runner.specs.Place.{Inside};
 
 // The one line of an input without events.

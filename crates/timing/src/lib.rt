@@ -3,18 +3,18 @@ ghost use mathlib.Core.Path.{_≡_};
 ghost use Prim.Native.Nat.{_≤_};
 ghost use Rattle.timing.specs.Timing.{expired, next, within, in-range, default, backoff-due, delay};
 
-// The time-to-live of a message: how many more hops it may travel.
+// A walk length: how many hops a message has left.
 pub struct Ttl(pub u16);
 
 impl Ttl {
-    // Whether the message may not be forwarded any further.
+    // Whether the walk ends here.
     pub fn expired(self) -> bool
         ensures { λ r. ⌜ r ≡ expired (self .0) ⌝ }
     {
         self.0 == 0
     }
 
-    // The time-to-live one hop on, which stops at 0.
+    // The walk length one hop on, which stops at 0.
     pub fn next(self) -> Ttl
         ensures { λ r. ⌜ r .0 ≡ next (self .0) ⌝ }
     {
@@ -73,19 +73,19 @@ fn within(low: u32, high: u32, x: u32) -> bool
 pub struct Timing {}
 
 impl Timing {
-    // Delay before the first shuffle; the interval then doubles up to the setting.
+    // The first shuffle comes after so long, each later one after twice the last wait, up to the setting.
     pub const INITIAL_SHUFFLE_INTERVAL: u32 = 1000;
 
-    // Interval of the maintenance pass.
+    // From one maintenance pass to the next.
     pub const MAINTENANCE_INTERVAL: u32 = 5000;
 
-    // Delay before the one retry of a requested Join.
+    // How long a requested Join waits before it is sent once more.
     pub const JOIN_RETRY_DELAY: u32 = 10000;
 
-    // Most maintenance passes between two rejoins or two refills.
+    // From this pass on every so many passes count, before it the powers of two.
     pub const MAX_BACKOFF_PASSES: u32 = 12;
 
-    // Most neighbor requests that a short node sends in one refill.
+    // How many peers a short station asks before it waits for the next pass or shuffle.
     pub const MAX_REQUESTS_PER_REFILL: u32 = 3;
 
     // Most contacts that are remembered for a rejoin.
@@ -112,7 +112,7 @@ impl Timing {
     }
 }
 
-// Whether the nth pass of a backoff rejoins or refills.
+// Whether something is done at the nth pass in a row that wants it.
 pub fn backoff_due(n: u32) -> bool
     ensures { λ r. ⌜ r ≡ backoff-due n ⌝ }
 {
