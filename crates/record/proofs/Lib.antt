@@ -1,5 +1,6 @@
 pub mod Format
 pub mod Laws
+pub mod Sizes
 pub mod Forth
 pub mod Back
 pub mod RoundTrip
