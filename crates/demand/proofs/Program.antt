@@ -1,24 +1,25 @@
 -- Demand 3, the rejoin promise and "always suffice" hold of the program.
 -- Assumes nothing.
 use Prim.Native.Nat.{ℕ}
-use mathlib.Core.Path.{_≡_, refl, sym, ap, _∙_, subst}
+use mathlib.Core.Path.{_≡_, refl, sym, ap, _∙_}
 use mathlib.Core.Bool.{Bool, true, _&&_}
 use mathlib.Core.List.{List}
 use native.Mathlib.Omega.{arith}
 use lib.ListN.{length}
 use lib.Dec.{eqb}
 use Rattle.lists.proofs.Choice.{by-choice, choose-yes, split, and-left, and-right}
-use Rattle.timing.specs.declared.Config.{Config}
-use Rattle.protocol.specs.Station.{Station}
-use Rattle.protocol.specs.Rules.{station-ok}
+use Rattle.peer.specs.Data.{Data, bytes-of}
+use Rattle.protocol.specs.Station.{Station, bytes-end}
+use Rattle.protocol.specs.Rules.{all-under, station-ok}
 use Rattle.protocol.specs.Handle as definition
 use Rattle.record.specs.Read.{Reading, read-event, rec-of}
 use Rattle.protocol.proofs.Reading.{by-reading}
 use Rattle.protocol.proofs.Bounds.{finished}
 use Rattle.protocol.proofs.Enough.{enough}
-use Rattle.history.specs.Calls.{Call, answer, answered}
+use Rattle.history.specs.Calls.{Call, Given, answer, answered}
 use Rattle.history.specs.Packing.{Packs}
-use Rattle.history.proofs.Packing.{demand-packed, rejoin-packed}
+use Rattle.history.proofs.Packing.{demand-packed, rejoin-packed, outputs-packed}
+use Rattle.tally.proofs.History.{counts-all}
 use Rattle.state.specs.declared.State.{State}
 use Rattle.state.specs.Unpack.{unpack}
 use Rattle.rules.specs.Made.{lent, pack-made}
@@ -53,14 +54,29 @@ packs = record {
   output = λ v g t. ap (λ (x : Outcome). x .output) (answers-packed v g t);
 }
 
+given : (me : ℕ) (present : Bool) (own : List ℕ) → D.Typed me own → Given me (lent present own)
+unfolding lent bytes-of all-under
+given me present own t = record {
+  narrow = t .narrow;
+  are-bytes = by-choice (λ (d : Data). all-under bytes-end (bytes-of d) ≡ true) present (λ e. t .are-bytes) (λ e. refl);
+}
+
 -- Demand 3 for the program.
 pub demand-3-holds : D.Demand3-holds
 unfolding made pack-made
-demand-3-holds me present own c z vs = demand-packed packs me (lent present own) c z vs
+demand-3-holds me present own c t z vs = demand-packed packs me (lent present own) c (given me present own t) z vs
 
 pub rejoin-promise : D.Rejoin-promise
 unfolding made pack-made
-rejoin-promise me present own c z vs = rejoin-packed packs me (lent present own) c z vs
+rejoin-promise me present own c t z vs = rejoin-packed packs me (lent present own) c (given me present own t) z vs
+
+-- What the program writes is read back, and every message is counted.
+pub outputs-read-back : D.Outputs-read-back
+unfolding made pack-made
+outputs-read-back me present own c t z vs n = outputs-packed packs me (lent present own) c (given me present own t) z vs n
+
+pub every-message-counted : D.Every-message-counted
+every-message-counted me present own c t z vs n = counts-all program _ vs _ (outputs-read-back me present own c t z vs n)
 
 -- 512 draws and 8,192 bytes suffice, whatever the event and the state that keeps the rules.
 pub enough-lent : D.Enough-lent

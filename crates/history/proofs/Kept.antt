@@ -10,12 +10,14 @@ use lib.Dec.{eqb}
 use borrow.Author.Tests.{eqb-true, eqb-false, ne-eqb}
 use Rattle.lists.specs.Lists.{choose, is, count, mem, Rising}
 use Rattle.lists.specs.Maps.{keys}
+use Rattle.lists.specs.Tests.{All}
 use Rattle.lists.proofs.Choice.{by-choice, split, choose-yes, and-left, and-right, clash}
 use Rattle.lists.proofs.Count.{is-self, is-le, is-not, mem-true, mem-false}
 use Rattle.timing.specs.Timing.{in-range}
 use Rattle.timing.specs.declared.Config.{Config}
 use Rattle.peer.specs.Data.{Data}
 use Rattle.record.specs.Format.{Rec}
+use Rattle.record.specs.InForm.{InForm}
 use Rattle.record.specs.Read.{Reading, read-event, rec-of, header-of}
 use Rattle.protocol.specs.Station.{Station}
 use Rattle.protocol.specs.Rules.{station-ok, short-data}
@@ -23,12 +25,14 @@ use Rattle.protocol.specs.Handle.{Answer, Made, new, new-station, start, steps,
 use Rattle.protocol.proofs.Extra.{Each, mem-yes, mem-no, same-length}
 use Rattle.protocol.proofs.Law.{Lawful, Small}
 use Rattle.protocol.proofs.Told.{up-after, sent-after}
+use Rattle.protocol.proofs.Narrow.{Narrow}
 use Rattle.protocol.proofs.Invariant.{calm, Good}
-use Rattle.protocol.proofs.Reading.{Readable, by-reading}
+use Rattle.protocol.proofs.Reading.{Readable, by-form}
 use Rattle.protocol.proofs.Whole.{Pays, Between, at-start, ok-steps}
-use Rattle.protocol.proofs.Tested.{ranges-of, data-true, distinct-yes, rules-of}
+use Rattle.protocol.proofs.Tested.{ranges-of, data-true, own-held, distinct-yes, rules-of}
+use Rattle.protocol.proofs.Written.{formed-event}
 use Rattle.history.specs.Ledger.{Ledger, empty-ledger, kind-in, message-in, message-number, number-of, open-event, feed}
-use Rattle.history.specs.Calls.{Call, answer, answered, state-after, codes, ledger-after, definition}
+use Rattle.history.specs.Calls.{Call, Given, answer, answered, state-after, codes, ledger-after, definition}
 use Rattle.history.specs.Demand.{Views, Booked, Demand3, Demand3-holds}
 use Rattle.history.proofs.Heard.{booked, heard}
 
@@ -64,10 +68,10 @@ pub record Fine (c : Config) (me : ℕ) (b : List ℕ) (l : Ledger) (a : Answer)
 
 -- what a run's records tell is what the ledger holds
 told-kept : (c : Config) (me : ℕ) (b : List ℕ) (l : Ledger) (alone n room : ℕ) (o : List Rec) (v : Station)
-    → Good (at-start c me (l .up) (l .sent) (l .allowance + number-of (c .«active_view_capacity») b) alone n room (rec-of b)) calm 0 v o → Lawful v
+    → Good (at-start c me (l .up) (l .sent) (l .allowance + number-of (c .«active_view_capacity») b) alone n room (rec-of b)) calm 0 v o → Lawful v → Narrow v
     → Kept c me (booked o (open-event (c .«active_view_capacity») b l)) v
 unfolding booked open-event up-after sent-after kind-in rec-of header-of
-told-kept c me b l alone n room o v g w =
+told-kept c me b l alone n room o v g w n′ =
     record {
       core = record {
         still = record {
@@ -81,6 +85,7 @@ told-kept c me b l alone n room o v g w =
         tally = g .tally;
       };
       law = w;
+      narrow = n′;
     }
 
 module _ {c : Config} {me : ℕ} {l : Ledger} {s : Station} (h : Kept c me l s) (b : List ℕ) where
@@ -88,16 +93,16 @@ module _ {c : Config} {me : ℕ} {l : Ledger} {s : Station} (h : Kept c me l s) 
   unfolding refusal feed choose
   fine-refusal n room i = record { not-two = λ e. omega arith; kept = rw (ne-eqb n 0 (λ e. omega arith)) h }
 
-  fine-event : (ds : List ℕ) (room : ℕ) → Readable (rec-of b) → Fine c me b l (finish s (steps (rec-of b) (start s ds room)))
+  fine-event : (ds : List ℕ) (room : ℕ) → Readable (rec-of b) → InForm (rec-of b) → Fine c me b l (finish s (steps (rec-of b) (start s ds room)))
   unfolding finish accepted feed choose
-  fine-event ds room w =
+  fine-event ds room w f =
       let a = c .«active_view_capacity» in
       let r = steps (rec-of b) (start s ds room) in
       let k = ok-steps (number-of a b) ds room (rec-of b) w (pays a b) h in
       split (eqb (r .code) 0)
       (λ z. let g = k .good (eqb-true (r .code) 0 z) in rw z (record {
         not-two = λ e. omega arith;
-        kept = rw (heard (g .told) (r .out) (r .room - length (r .out)) (open-event a b l) (g .sound) (g .spelled)) (told-kept c me b l (s .passes-alone) (length ds) room (g .told) (r .station) (g .core) (g .law));
+        kept = rw (heard (g .told) (r .out) (r .room - length (r .out)) (open-event a b l) (g .sound) (g .spelled)) (told-kept c me b l (s .passes-alone) (length ds) room (g .told) (r .station) (g .core) (g .law) (formed-event s (h .narrow) ds room (rec-of b) w f .narrow));
       }))
       (λ z. rw z (fine-refusal (r .code) (r .room) (let ne : r .code ≡ 0 → ⊥ = eqb-false (r .code) 0 z in omega (arith, k .codes .low (omega (arith, ne))))))
 
@@ -107,8 +112,8 @@ module _ {c : Config} {me : ℕ} (ranges : in-range c ≡ true) where
   fine-answer {l} {s} v h =
       let room = length (v .output) in
       rw (choose-yes (station-ok s) (handle-reading (read-event (v .event)) s (v .draws) room) (refusal 2 s room) (rules-of s ranges h))
-      (by-reading (v .event) (v .are-bytes) (λ (x : Reading). Fine c me (v .event) l (handle-reading x s (v .draws) room))
-      (λ n i j. fine-refusal h (v .event) n room i) (λ w. fine-event h (v .event) (v .draws) room w))
+      (by-form (v .event) (v .are-bytes) (λ (x : Reading). Fine c me (v .event) l (handle-reading x s (v .draws) room))
+      (λ n i j. fine-refusal h (v .event) n room i) (λ w f. fine-event h (v .event) (v .draws) room w f))
 
   pub kept-after : (vs : List Call) {l : Ledger} {s : Station} → Kept c me l s → Kept c me (ledger-after definition (c .«active_view_capacity») vs s l) (state-after definition vs s)
   unfolding state-after ledger-after
@@ -122,9 +127,9 @@ module _ {c : Config} {me : ℕ} (ranges : in-range c ≡ true) where
       omega (arith, is-not 2 (answer v s .code) (ne-eqb 2 (answer v s .code) (λ e. fine-answer v h .not-two (sym e))), none-two vs (fine-answer v h .kept))
 
 -- a new station
-pub kept-new : (me : ℕ) (d : Data) (c : Config) → in-range c ≡ true → short-data d ≡ true → Kept c me empty-ledger (new-station me d c)
-unfolding new-station empty-ledger count up-after sent-after keys Rising Each Small
-kept-new me d c r sd =
+pub kept-new : (me : ℕ) (d : Data) (c : Config) → Given me d → in-range c ≡ true → short-data d ≡ true → Kept c me empty-ledger (new-station me d c)
+unfolding new-station empty-ledger count up-after sent-after keys Rising Each Small All
+kept-new me d c given r sd =
     let g = ranges-of c r in record {
       core = record {
         still = record { fixed = refl; mine = refl; ranges = g; alone-stays = λ y. refl };
@@ -159,6 +164,15 @@ kept-new me d c r sd =
         pace-ok = record { low = omega (arith, g .some-time); high = omega arith };
         alone-ok = record { high = omega arith };
         short-ok = record { high = omega arith };
+      };
+      narrow = record {
+        settings = g;
+        named = ((given .narrow, tt), (tt, (tt, (tt, (tt, (tt, (tt, (tt, (tt, (tt, tt))))))))));
+        mine = own-held d (data-true d sd) (given .are-bytes);
+        held = tt;
+        pace = omega arith;
+        requests-top = omega arith;
+        joins-top = omega arith;
       };
     }
 
@@ -208,11 +222,11 @@ accepted-new me d c =
 -- neighbours are those that the notices say, and the messages sent keep within the allowance.
 pub demand-3 : Demand3-holds
 unfolding new
-demand-3 me d c z vs =
+demand-3 me d c given z vs =
     let t = accepted-new me d c z in
     let r = and-left (in-range c) (short-data d) t in
     let e : new me d c .state ≡ new-station me d c = ap (λ (m : Made). m .state) (choose-yes (in-range c && short-data d) _ _ t) in
-    let k = kept-new me d c r (and-right (in-range c) (short-data d) t) in
+    let k = kept-new me d c given r (and-right (in-range c) (short-data d) t) in
     let h = kept-after r vs k in
     subst (λ (s : Station). Demand3 definition (λ x. x) station-ok me c s vs) (sym e) (record {
       none-is-two = mem-no 2 _ (none-two r vs k);

@@ -4,4 +4,5 @@ pub mod Kept
 pub mod Numbers
 pub mod Ticks
 pub mod Rejoined
+pub mod Outputs
 pub mod Packing

@@ -2,7 +2,7 @@
 -- Assumes nothing.
 use Prim.Native.Nat.{ℕ}
 use mathlib.Core.Path.{_≡_, refl, sym, ap, subst, _∙_}
-use mathlib.Core.Bool.{Bool, true, false, _&&_}
+use mathlib.Core.Bool.{Bool, true, _&&_}
 use mathlib.Core.List.{List, [], _∷_}
 use lib.Dec.{eqb}
 use Rattle.lists.specs.Lists.{choose, mem}
@@ -15,12 +15,14 @@ use Rattle.protocol.specs.Rules.{station-ok, short-data}
 use Rattle.protocol.specs.Handle.{Made, new, new-station}
 use Rattle.protocol.proofs.Tested.{rules-of}
 use Rattle.history.specs.Ledger.{Ledger, empty-ledger, kind-in, feed}
-use Rattle.history.specs.Calls.{Call, Machine, state-of, answer, state-after, codes, ledger-after, definition}
+use Rattle.history.specs.Calls.{Call, Given, narrow-draws, Machine, state-of, answer, state-after, codes, ledger-after, definition}
 use Rattle.history.specs.Demand.{Views, Booked, Demand3}
+use Rattle.history.specs.Outputs.{ReadsBack, OutputsRead}
 use Rattle.history.specs.Packing.{Packs}
-use Rattle.history.specs.Rejoin.{Tick, is-tick, ticks, Promised}
+use Rattle.history.specs.Rejoin.{is-tick, ticks, Promised}
 use Rattle.history.proofs.Kept.{Kept, fine-answer, kept-new, accepted-new, demand-3}
 use Rattle.history.proofs.Rejoined.{rejoin-promise}
+use Rattle.history.proofs.Outputs.{outputs-read}
 
 module _ {S : Type 0} {m : Machine S} {pack : Station → S} {station : S → Station} {ok : S → Bool} (k : Packs m pack station ok) where
   module _ {c : Config} {me : ℕ} (ranges : in-range c ≡ true) where
@@ -51,6 +53,15 @@ module _ {S : Type 0} {m : Machine S} {pack : Station → S} {station : S → St
         let rest : ticks m station vs (state-of m v (pack g)) ≡ ticks definition (λ s. s) vs (answer v g .state) = ap (ticks m station vs) (k .state v g t) ∙ ticks-follow vs (fine-answer ranges v h .kept) in
         (λ i. choose (eqb (kind-in (v .event)) 2 && eqb (k .code v g t i) 0) (record { met = k .stands g t i; output = k .output v g t i } ∷ rest i) (rest i))
 
+    outputs-follow : (vs : List Call) {l : Ledger} {g : Station} → Kept c me l g → OutputsRead definition vs g → OutputsRead m vs (pack g)
+    unfolding OutputsRead
+    outputs-follow [] h o = tt
+    outputs-follow (v ∷ vs) {g = g} h o =
+        let t = rules-of g ranges h in (
+          (λ z. subst ReadsBack (sym (k .output v g t)) (o .0 (sym (k .code v g t) ∙ z))),
+          subst (OutputsRead m vs) (sym (k .state v g t)) (outputs-follow vs (fine-answer ranges v h .kept) (o .1)),
+        )
+
     packed-demand : {g : Station} → Kept c me empty-ledger g → (vs : List Call) → Demand3 definition (λ s. s) station-ok me c g vs → Demand3 m station ok me c (pack g) vs
     packed-demand {g} h vs d =
         let after = state-after definition vs g in
@@ -64,7 +75,7 @@ module _ {S : Type 0} {m : Machine S} {pack : Station → S} {station : S → St
               (subst (Booked after) (sym (ledgers-follow (c .«active_view_capacity») vs h empty-ledger)) (d .booked));
         }
 
-  module _ (me : ℕ) (d : Data) (c : Config) (z : new me d c .code ≡ 0) (vs : List Call) where
+  module _ (me : ℕ) (d : Data) (c : Config) (given : Given me d) (z : new me d c .code ≡ 0) (vs : List Call) where
     -- demand 3, from a new station that was packed
     pub demand-packed : Demand3 m station ok me c (pack (new me d c .state)) vs
     unfolding new
@@ -73,7 +84,7 @@ module _ {S : Type 0} {m : Machine S} {pack : Station → S} {station : S → St
         let r = and-left (in-range c) (short-data d) t in
         let e : new me d c .state ≡ new-station me d c = ap (λ (x : Made). x .state) (choose-yes (in-range c && short-data d) _ _ t) in
         subst (λ (s : Station). Demand3 m station ok me c (pack s) vs) (sym e)
-        (packed-demand r (kept-new me d c r (and-right (in-range c) (short-data d) t)) vs (subst (λ (s : Station). Demand3 definition (λ x. x) station-ok me c s vs) e (demand-3 me d c z vs)))
+        (packed-demand r (kept-new me d c given r (and-right (in-range c) (short-data d) t)) vs (subst (λ (s : Station). Demand3 definition (λ x. x) station-ok me c s vs) e (demand-3 me d c given z vs)))
 
     -- and the rejoin promise
     pub rejoin-packed : Promised (ticks m station vs (pack (new me d c .state)))
@@ -82,6 +93,16 @@ module _ {S : Type 0} {m : Machine S} {pack : Station → S} {station : S → St
         let t = accepted-new me d c z in
         let r = and-left (in-range c) (short-data d) t in
         let e : new me d c .state ≡ new-station me d c = ap (λ (x : Made). x .state) (choose-yes (in-range c && short-data d) _ _ t) in
-        let k₀ = kept-new me d c r (and-right (in-range c) (short-data d) t) in
+        let k₀ = kept-new me d c given r (and-right (in-range c) (short-data d) t) in
         let same : ticks m station vs (pack (new me d c .state)) ≡ ticks definition (λ s. s) vs (new me d c .state) = ap (λ (s : Station). ticks m station vs (pack s)) e ∙ (ticks-follow r vs k₀ ∙ ap (ticks definition (λ s. s) vs) (sym e)) in
-        λ before twelve after q. rejoin-promise me d c z vs before twelve after (sym same ∙ q)
+        λ before twelve after q. rejoin-promise me d c given z vs before twelve after (sym same ∙ q)
+
+    -- and that outputs are read back
+    pub outputs-packed : narrow-draws vs ≡ true → OutputsRead m vs (pack (new me d c .state))
+    unfolding new
+    outputs-packed n =
+        let t = accepted-new me d c z in
+        let r = and-left (in-range c) (short-data d) t in
+        let e : new me d c .state ≡ new-station me d c = ap (λ (x : Made). x .state) (choose-yes (in-range c && short-data d) _ _ t) in
+        let k₀ = kept-new me d c given r (and-right (in-range c) (short-data d) t) in
+        subst (λ (s : Station). OutputsRead m vs (pack s)) (sym e) (outputs-follow r vs k₀ (outputs-read r vs n k₀))

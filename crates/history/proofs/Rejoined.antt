@@ -123,10 +123,10 @@ first-met (t ∷ ts) after l = (t .met .passes-alone, refl)
 -- Among any 12 maintenance timers in a row that find a station with both views empty, at least one asks every bootstrap peer to let it join.
 pub rejoin-promise : Rejoin-promise
 unfolding new
-rejoin-promise me d c z vs before twelve after e l a =
+rejoin-promise me d c given z vs before twelve after e l a =
     let t = accepted-new me d c z in
     let r = and-left (in-range c) (short-data d) t in
-    let k = kept-new me d c r (and-right (in-range c) (short-data d) t) in
+    let k = kept-new me d c given r (and-right (in-range c) (short-data d) t) in
     let q : new me d c .state ≡ new-station me d c = ap (λ (m : Made). m .state) (choose-yes (in-range c && short-data d) _ _ t) in
     let all : Chained (before ++ (twelve ++ after)) = subst Chained e (subst (λ (s : Station). Chained (ticks definition (λ x. x) vs s)) (sym q) (chained r vs k .1)) in
     let n = first-met twelve after (omega arith) in

@@ -1,12 +1,13 @@
 -- A station's history: a list of calls, each meeting the state that the one before it handed back.
 -- It is said of any machine that is called; the definition is one, and the program another.
 -- Assumes nothing.
-use Prim.Native.Nat.{ℕ}
-use mathlib.Core.Bool.{true}
+use Prim.Native.Nat.{ℕ, _<_}
+use mathlib.Core.Bool.{Bool, true, _&&_}
 use mathlib.Core.List.{List, [], _∷_}
 use mathlib.Core.Path.{_≡_}
 use lib.ListN.{length}
-use Rattle.protocol.specs.Station.{Station}
+use Rattle.peer.specs.Data.{Data, bytes-of}
+use Rattle.protocol.specs.Station.{Station, peers-end, draws-end, bytes-end}
 use Rattle.protocol.specs.Rules.{all-under}
 use Rattle.protocol.specs.Handle.{Answer, handle}
 use Rattle.history.specs.Ledger.{Ledger, feed}
@@ -17,6 +18,16 @@ pub record Call : Type 0 where
   pub are-bytes : all-under 256 event ≡ true
   pub draws : List ℕ
   pub output : List ℕ
+
+-- draws have 32 bits, as their type in the code says; of the claims only those on a delay's width ask for it
+unfoldable pub narrow-draws : List Call → Bool
+narrow-draws [] = true
+narrow-draws (v ∷ vs) = all-under draws-end (v .draws) && narrow-draws vs
+
+-- what `new` is given: "Peers are 32-bit numbers", and own data is bytes
+pub record Given (me : ℕ) (d : Data) : Type 0 where
+  pub narrow : me < peers-end
+  pub are-bytes : all-under bytes-end (bytes-of d) ≡ true
 
 -- what a call comes to at a state of the type S, of an event, draws and an output: the code, the state handed back, the draws used, and the output as the call left it
 pub record Machine (S : Type 0) : Type 0 where

@@ -13,7 +13,7 @@ use Rattle.protocol.specs.Station.{Station}
 use Rattle.protocol.specs.Rules.{station-ok}
 use Rattle.protocol.specs.Handle.{new}
 use Rattle.history.specs.Ledger.{Ledger, empty-ledger}
-use Rattle.history.specs.Calls.{Call, Machine, state-after, codes, ledger-after, definition}
+use Rattle.history.specs.Calls.{Call, Given, Machine, state-after, codes, ledger-after, definition}
 
 -- of the state s that the list left, for a station `me` with settings c
 pub record Views (me : ℕ) (c : Config) (s : Station) : Type 0 where
@@ -51,4 +51,4 @@ pub record Demand3 {S : Type 0} (m : Machine S) (station : S → Station) (ok : 
 
 -- "For every list of events brought to a new station": one that `new` answered with code 0
 abbrev pub Demand3-holds : Type 0
-Demand3-holds = (me : ℕ) (d : Data) (c : Config) → new me d c .code ≡ 0 → (vs : List Call) → Demand3 definition (λ s. s) station-ok me c (new me d c .state) vs
+Demand3-holds = (me : ℕ) (d : Data) (c : Config) → Given me d → new me d c .code ≡ 0 → (vs : List Call) → Demand3 definition (λ s. s) station-ok me c (new me d c .state) vs

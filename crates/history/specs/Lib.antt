@@ -4,3 +4,4 @@ pub mod Demand
 pub mod Followed
 pub mod Rejoin
 pub mod Packing
+pub mod Outputs

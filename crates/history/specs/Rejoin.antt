@@ -15,7 +15,7 @@ use Rattle.protocol.specs.Sending.{join-to}
 use Rattle.protocol.specs.Timers.{knows-none}
 use Rattle.protocol.specs.Handle.{new}
 use Rattle.history.specs.Ledger.{kind-in}
-use Rattle.history.specs.Calls.{Call, Machine, code-of, state-of, output-of, definition}
+use Rattle.history.specs.Calls.{Call, Given, Machine, code-of, state-of, output-of, definition}
 
 -- an accepted maintenance timer: the state that it met, and the output that it left
 pub record Tick : Type 0 where
@@ -57,4 +57,4 @@ abbrev pub Promised : List Tick → Type 0
 Promised ts = (before twelve after : List Tick) → ts ≡ before ++ (twelve ++ after) → length twelve ≡ 12 → all-alone twelve ≡ true → Some Rejoins twelve
 
 abbrev pub Rejoin-promise : Type 0
-Rejoin-promise = (me : ℕ) (d : Data) (c : Config) → new me d c .code ≡ 0 → (vs : List Call) → Promised (ticks definition (λ s. s) vs (new me d c .state))
+Rejoin-promise = (me : ℕ) (d : Data) (c : Config) → Given me d → new me d c .code ≡ 0 → (vs : List Call) → Promised (ticks definition (λ s. s) vs (new me d c .state))

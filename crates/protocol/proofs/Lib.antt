@@ -2,8 +2,12 @@ pub mod Extra
 pub mod Law
 pub mod Changes
 pub mod Told
+pub mod Among
+pub mod Narrow
+pub mod Forms
 pub mod Invariant
 pub mod Keeping
+pub mod Formed
 pub mod Sends
 pub mod Passive
 pub mod Leaving
@@ -11,10 +15,14 @@ pub mod Entering
 pub mod Received
 pub mod Timed
 pub mod Requested
+pub mod FormedSteps
+pub mod FormedEvents
+pub mod FormedWhole
 pub mod Reading
 pub mod Whole
 pub mod Tested
 pub mod Unreachable
 pub mod Enough
+pub mod Written
 pub mod Cases
 pub mod Bounds

@@ -12,6 +12,8 @@ use borrow.Author.Tests.{leb-true, ltb-true, ltb-false}
 use Rattle.lists.specs.Bytes.{read-le}
 use Rattle.lists.proofs.Choice.{by-choice, choose-no, and-left, and-right}
 use Rattle.record.specs.Format.{Rec}
+use Rattle.record.specs.InForm.{InForm}
+use Rattle.record.proofs.Back.{in-form-back}
 use Rattle.record.specs.Read as Rd
 use Rattle.record.specs.Read.{Reading, refused, event, read-event, rec-of, header-of, entry-at}
 use Rattle.record.specs.declared.Header.{Header}
@@ -27,7 +29,7 @@ pub record Readable (e : Rec) : Type 0 where
   pub few : length (e .nodes) ≤ 32
 
 -- bytes are below 256
-byte-at : (b : List ℕ) (i : ℕ) → all-under 256 b ≡ true → getD b i 0 < 256
+pub byte-at : (b : List ℕ) (i : ℕ) → all-under 256 b ≡ true → getD b i 0 < 256
 unfolding all-under
 byte-at [] i e = omega arith
 byte-at (x ∷ xs) zero e = ltb-true x 256 (and-left (ltb x 256) (all-under 256 xs) e)
@@ -73,12 +75,17 @@ readable b w low few narrow = record {
   few = omega (arith, length-nodes b 0 (header-of b .nodes), few);
 }
 
--- by cases: refused with 3 or 4, or an event that keeps its promises
-pub by-reading : (b : List ℕ) → all-under 256 b ≡ true → (X : Reading → Type 0) → ((c : ℕ) → 3 ≤ c → c ≤ 4 → X (refused c)) → (Readable (rec-of b) → X (event (rec-of b))) → X (read-event b)
+-- by cases: refused with 3 or 4, or an event in form that keeps its promises
+pub by-form : (b : List ℕ) → all-under 256 b ≡ true → (X : Reading → Type 0) → ((c : ℕ) → 3 ≤ c → c ≤ 4 → X (refused c)) → (Readable (rec-of b) → InForm (rec-of b) → X (event (rec-of b))) → X (read-event b)
 unfolding read-event Rd.is-event header-of
-by-reading b bytes X f g =
+by-form b bytes X f g =
     by-choice X _ (λ e. f 3 (omega arith) (omega arith))
     (λ e. by-choice X (ltb 32 (getD b 3 0)) (λ i. f 4 (omega arith) (omega arith))
     (λ i. by-choice X (Rd.well-formed b && Rd.is-event (header-of b))
-    (λ w. g (readable b (and-left (Rd.well-formed b) _ w) (leb-true (getD b 0 0) 8 (and-left (leb (getD b 0 0) 8) _ (and-right (Rd.well-formed b) _ w))) (let n = ltb-false 32 (getD b 3 0) i in omega (arith, n)) (narrow-peer b bytes)))
+    (λ w. let y = and-left (Rd.well-formed b) _ w in
+    g (readable b y (leb-true (getD b 0 0) 8 (and-left (leb (getD b 0 0) 8) _ (and-right (Rd.well-formed b) _ w))) (let n = ltb-false 32 (getD b 3 0) i in omega (arith, n)) (narrow-peer b bytes))
+    (in-form-back b (λ k. byte-at b k bytes) y))
     (λ w. f 3 (omega arith) (omega arith))))
+
+pub by-reading : (b : List ℕ) → all-under 256 b ≡ true → (X : Reading → Type 0) → ((c : ℕ) → 3 ≤ c → c ≤ 4 → X (refused c)) → (Readable (rec-of b) → X (event (rec-of b))) → X (read-event b)
+by-reading b bytes X f g = by-form b bytes X f (λ w i. g w)

@@ -11,20 +11,23 @@ use lib.Dec.{leb, ltb}
 use borrow.Author.Tests.{leb-true, ltb-true, le-leb, lt-ltb, not-true}
 use Rattle.lists.specs.Lists.{is, count, mem, distinct, rising, Above, Rising, subset, disjoint}
 use Rattle.peer.specs.Maps.{numbers-under}
-use Rattle.lists.specs.Maps.{keys, has}
+use Rattle.lists.specs.Maps.{keys, values, has}
+use Rattle.lists.specs.Tests.{All}
 use Rattle.lists.proofs.Choice.{and-left, and-right, clash}
 use Rattle.lists.proofs.Count.{is-self, is-split, mem-true, mem-false, absent}
 use Rattle.lists.proofs.Rising.{above-less}
 use Rattle.timing.specs.Timing.{in-range, within}
 use Rattle.timing.specs.declared.Config.{Config}
-use Rattle.peer.specs.Data.{Data}
-use Rattle.protocol.specs.Station.{Station, Refill, automatic, requests-left, recovery, peers-end, top-counter, top-passes}
+use Rattle.peer.specs.Data.{Data, bytes-of}
+use Rattle.protocol.specs.Station.{Station, Refill, automatic, requests-left, recovery, peers-end, bytes-end, top-counter, top-passes}
 use Rattle.protocol.specs.Rules as R
 use Rattle.protocol.specs.Rules.{station-ok}
 use Rattle.protocol.proofs.Extra.{both, negate, mem-yes, mem-no, Each, rising-once}
 use Rattle.protocol.proofs.Law.{Lawful, Short, Small}
 use Rattle.protocol.proofs.Told.{up-after, sent-after}
+use Rattle.protocol.proofs.Narrow.{no-data, Held, Narrow}
 use Rattle.protocol.proofs.Invariant.{Ranges}
+use Rattle.protocol.proofs.Reading.{byte-at}
 use Rattle.protocol.proofs.Whole.{Between}
 
 -- lists of tests
@@ -97,17 +100,59 @@ all-in-true (p ∷ xs) ys e x h =
     (λ i. mem-true p ys (and-left (mem p ys) (subset xs ys) e))
     (λ n i. all-in-true xs ys (and-right (mem p ys) (subset xs ys) e) x (omega arith)) h
 
-under-yes : (n : ℕ) (xs : List ℕ) → ((x : ℕ) → 1 ≤ count x xs → x < n) → R.all-under n xs ≡ true
-unfolding R.all-under count
-under-yes n [] h = refl
-under-yes n (x ∷ xs) h = both (ltb x n) (R.all-under n xs) (lt-ltb x n (h x (omega (arith, is-self x)))) (under-yes n xs (λ y l. h y (omega arith)))
-
 under-true : (n : ℕ) (xs : List ℕ) → R.all-under n xs ≡ true → (x : ℕ) → 1 ≤ count x xs → x < n
 unfolding R.all-under count
 under-true n [] e x h = absurd (omega arith)
 under-true n (p ∷ xs) e x h =
     is-split (λ y. 1 ≤ is y p + count y xs → y < n) x p (λ i. ltb-true p n (and-left (ltb p n) (R.all-under n xs) e))
     (λ w i. under-true n xs (and-right (ltb p n) (R.all-under n xs) e) x (omega arith)) h
+
+-- numbers below an end, in one list and in several
+module _ (n : ℕ) where
+  pub all-true : (xs : List ℕ) → R.all-under n xs ≡ true → All (λ x. x < n) xs
+  unfolding R.all-under All
+  all-true [] e = tt
+  all-true (x ∷ xs) e = (ltb-true x n (and-left (ltb x n) (R.all-under n xs) e), all-true xs (and-right (ltb x n) (R.all-under n xs) e))
+
+  lists-true : (ls : List (List ℕ)) → R.lists-under n ls ≡ true → All (λ xs. All (λ x. x < n) xs) ls
+  unfolding R.lists-under All
+  lists-true [] e = tt
+  lists-true (xs ∷ ls) e = (all-true xs (and-left (R.all-under n xs) (R.lists-under n ls) e), lists-true ls (and-right (R.all-under n xs) (R.lists-under n ls) e))
+
+  all-yes : (xs : List ℕ) → All (λ x. x < n) xs → R.all-under n xs ≡ true
+  unfolding R.all-under All
+  all-yes [] a = refl
+  all-yes (x ∷ xs) a = both (ltb x n) (R.all-under n xs) (lt-ltb x n (a .0)) (all-yes xs (a .1))
+
+  lists-yes : (ls : List (List ℕ)) → All (λ xs. All (λ x. x < n) xs) ls → R.lists-under n ls ≡ true
+  unfolding R.lists-under All
+  lists-yes [] a = refl
+  lists-yes (xs ∷ ls) a = both (R.all-under n xs) (R.lists-under n ls) (all-yes xs (a .0)) (lists-yes ls (a .1))
+
+-- data is bytes
+bytes-yes : (b : List ℕ) → ((k : ℕ) → getD b k 0 < bytes-end) → R.all-under bytes-end b ≡ true
+unfolding R.all-under
+bytes-yes [] h = refl
+bytes-yes (x ∷ xs) h = both (ltb x bytes-end) (R.all-under bytes-end xs) (lt-ltb x bytes-end (h 0)) (bytes-yes xs (λ k. h (suc k)))
+
+held-yes : (m : List (ℕ × List ℕ)) → Each Held m → R.lists-under bytes-end (values m) ≡ true
+unfolding R.lists-under values Each
+held-yes [] h = refl
+held-yes (e ∷ m) h = both (R.all-under bytes-end (e .1)) (R.lists-under bytes-end (values m)) (bytes-yes (e .1) (h .0 .bytes)) (held-yes m (h .1))
+
+held-true : (m : List (ℕ × List ℕ)) → Each (λ b. length b ≤ 16) m → R.lists-under bytes-end (values m) ≡ true → Each Held m
+unfolding R.lists-under values Each
+held-true [] s e = tt
+held-true (p ∷ m) s e = (
+  record { few = s .0; bytes = λ k. byte-at (p .1) k (and-left (R.all-under bytes-end (p .1)) _ e) },
+  held-true m (s .1) (and-right (R.all-under bytes-end (p .1)) _ e),
+)
+
+-- data that is short and bytes
+pub own-held : (d : Data) → Short d → R.all-under bytes-end (bytes-of d) ≡ true → Held (bytes-of d)
+unfolding Short bytes-of
+own-held none s e = no-data
+own-held (some b) s e = record { few = s; bytes = λ k. byte-at b k e }
 
 numbers-yes : (n : ℕ) (m : List (ℕ × ℕ)) → Each (λ v. v < n) m → numbers-under n m ≡ true
 unfolding numbers-under Each
@@ -180,11 +225,15 @@ ranges-of c e =
       few-active = high-of 0 8 (c .«shuffle_active_view_count») (and-left _ _ e5);
       few-passive = high-of 0 23 (c .«shuffle_passive_view_count») (and-left _ _ e6);
       some-time = low-of 1 3600000 (c .«shuffle_interval») (and-left _ _ e7);
+      short-time = high-of 1 3600000 (c .«shuffle_interval») (and-left _ _ e7);
+      short-wait = high-of 1 3600000 (c .«neighbor_request_timeout») (and-right (within 1 3600000 (c .«shuffle_interval»)) _ e7);
+      join-walk = high-of 0 65535 (c .«active_random_walk_length») (and-left _ _ e2);
+      shuffle-walk = high-of 0 65535 (c .«shuffle_random_walk_length») (and-left _ _ e4);
     }
 
 -- the invariant gives the test
 pub rules-of : {c : Config} {me : ℕ} {up : List ℕ} {sent allowed : ℕ} (s : Station) → in-range c ≡ true → Between c me up sent allowed s → station-ok s ≡ true
-unfolding station-ok R.rules R.settings-rule R.repeats-rule R.order-rule R.capacity-rule R.views-rule R.alive-rule R.few-rule R.joins-rule R.numbers-rule R.self-rule R.room-rule R.data-rule R.limit-rule R.interval-rule R.width-rule has within count up-after
+unfolding station-ok R.rules R.settings-rule R.repeats-rule R.order-rule R.capacity-rule R.views-rule R.alive-rule R.few-rule R.joins-rule R.numbers-rule R.self-rule R.room-rule R.data-rule R.limit-rule R.interval-rule R.width-rule R.lists-under has within count up-after
 rules-of {c} s r b =
     let h = b .core in
     let w = b .law in
@@ -203,7 +252,7 @@ rules-of {c} s r b =
     (also _ _ (both _ _ (short-yes _ (w .held-ok .shorts)) (data-yes _ (w .own-ok)))
     (also _ _ (limit-yes _ (w .fill-ok))
     (also _ _ (both _ _ (le-leb _ _ (w .pace-ok .low)) (le-leb _ _ (w .pace-ok .high)))
-    (also _ _ (both _ _ (under-yes peers-end (s .active) (λ x i. h .seats .narrow x (omega arith))) (both _ _ (le-leb _ _ (w .requests-ok .numbered .next-top)) (both _ _ (le-leb _ _ (w .joins-ok .next-top)) (both _ _ (le-leb _ _ (w .alone-ok .high)) (le-leb _ _ (w .short-ok .high))))))
+    (also _ _ (both _ _ (lists-yes peers-end _ (b .narrow .named)) (both _ _ (both _ _ (bytes-yes _ (b .narrow .mine .bytes)) (held-yes _ (b .narrow .held))) (both _ _ (le-leb _ _ (w .requests-ok .numbered .next-top)) (both _ _ (le-leb _ _ (w .joins-ok .next-top)) (both _ _ (le-leb _ _ (w .alone-ok .high)) (le-leb _ _ (w .short-ok .high)))))))
     no-tests))))))))))))))
 
 -- the test gives the invariant, with the neighbours up, no message sent, and two allowed for each neighbour
@@ -229,7 +278,7 @@ module _ (s : Station) (e : station-ok s ≡ true) where
       let o1 = and-right (rising (keys (s .requests))) _ (rule 2) in
       let o2 = and-right (rising (keys (s .joins))) _ o1 in
       let o3 = and-right (rising (keys (s .peer-data))) _ o2 in
-      let w1 = and-right (R.all-under peers-end (s .active)) _ (rule 14) in
+      let w1 = and-right (R.lists-under bytes-end (R.data-lists s)) _ (and-right (R.lists-under peers-end (R.peer-lists s)) _ (rule 14)) in
       let w2 = and-right (leb (s .next-request) top-counter) _ w1 in
       let w3 = and-right (leb (s .next-join) top-counter) _ w2 in
       let r1 = and-right (leb (length (s .requests)) 32) _ (rule 10) in
@@ -248,8 +297,24 @@ module _ (s : Station) (e : station-ok s ≡ true) where
         short-ok = record { high = leb-true _ _ (and-right (leb (s .passes-alone) top-passes) _ w3) };
       }
 
+  narrow-of : Narrow s
+  unfolding R.rules R.settings-rule R.data-rule R.interval-rule R.width-rule R.lists-under
+  narrow-of =
+      let w1 = and-right (R.lists-under peers-end (R.peer-lists s)) _ (rule 14) in
+      let w2 = and-right (R.lists-under bytes-end (R.data-lists s)) _ w1 in
+      let w = and-left (R.lists-under bytes-end (R.data-lists s)) _ w1 in
+      record {
+        settings = ranges-of (s .config) (rule 0);
+        named = lists-true peers-end _ (and-left _ _ (rule 14));
+        mine = own-held (s .own-data) (law-of .own-ok) (and-left _ _ w);
+        held = held-true (s .peer-data) (law-of .held-ok .shorts) (and-right (R.all-under bytes-end (bytes-of (s .own-data))) _ w);
+        pace = high-of _ _ _ (rule 13);
+        requests-top = leb-true _ _ (and-left _ _ w2);
+        joins-top = leb-true _ _ (and-left _ _ (and-right (leb (s .next-request) top-counter) _ w2));
+      }
+
   pub between-of : Between (s .config) (s .me) (s .active) 0 (2 * length (s .active)) s
-  unfolding R.rules R.settings-rule R.repeats-rule R.order-rule R.capacity-rule R.views-rule R.alive-rule R.few-rule R.joins-rule R.width-rule has up-after sent-after count
+  unfolding R.rules R.settings-rule R.repeats-rule R.order-rule R.capacity-rule R.views-rule R.alive-rule R.few-rule R.joins-rule R.width-rule R.lists-under has up-after sent-after count
   between-of =
       let act = s .active in
       let pas = s .passive in
@@ -277,7 +342,7 @@ module _ (s : Station) (e : station-ok s ≡ true) where
             slots-left = omega (arith, leb-true (length act) (s .config .«active_view_capacity») (and-left _ _ (rule 3)));
             places-left = omega (arith, leb-true (length pas) (s .config .«passive_view_capacity») (and-right (leb (length act) (s .config .«active_view_capacity»)) _ (rule 3)));
             marks = λ x. omega (arith, within-once _ _ (once-ali x) (all-in-true (s .alive) pas (rule 5) x));
-            narrow = λ x y. under-true peers-end act (and-left _ _ (rule 14)) x (omega arith);
+            narrow = λ x y. under-true peers-end act (and-left _ _ (and-right (R.all-under peers-end (s .me ∷ [])) _ (and-left _ _ (rule 14)))) x (omega arith);
           };
           waits = record {
             barring = λ x. omega (arith, once-jks x);
@@ -290,4 +355,5 @@ module _ (s : Station) (e : station-ok s ≡ true) where
           tally = record { noted = λ x. omega arith; bound = omega arith };
         };
         law = law-of;
+        narrow = narrow-of;
       }

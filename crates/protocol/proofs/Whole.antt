@@ -20,6 +20,7 @@ use Rattle.protocol.specs.Handle as H
 use Rattle.protocol.specs.Handle.{start, steps, dispatch}
 use Rattle.protocol.proofs.Law.{Lawful, Short, ShortNodes}
 use Rattle.protocol.proofs.Told.{spell, up-after, sent-after, no-more}
+use Rattle.protocol.proofs.Narrow.{Narrow}
 use Rattle.protocol.proofs.Invariant.{Fixed, Terms, calm, Good, Ok}
 use Rattle.protocol.proofs.Keeping.{ease, ok-if, ok-either, ok-on}
 use Rattle.protocol.proofs.Received.{ok-on-join, ok-on-forward-join, ok-on-shuffle, ok-on-shuffle-reply, ok-on-neighbor, ok-on-disconnect}
@@ -105,6 +106,7 @@ pub record Between (c : Config) (me : ℕ) (up : List ℕ) (sent allowed : ℕ) 
     room-lent = 0;
   }) calm 0 s []
   pub law : Lawful s
+  pub narrow : Narrow s
 
 -- an event e starts: n more messages are allowed, and a Quit starts with none up
 abbrev pub at-start : Config → ℕ → List ℕ → ℕ → ℕ → ℕ → ℕ → ℕ → Rec → Fixed

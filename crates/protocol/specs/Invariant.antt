@@ -166,6 +166,10 @@ pub record Ranges (c : Config) : Type 0 where
   pub few-active : c .«shuffle_active_view_count» ≤ 8
   pub few-passive : c .«shuffle_passive_view_count» ≤ 23
   pub some-time : 1 ≤ c .«shuffle_interval»
+  pub short-time : c .«shuffle_interval» ≤ 3600000
+  pub short-wait : c .«neighbor_request_timeout» ≤ 3600000
+  pub join-walk : c .«active_random_walk_length» ≤ 65535
+  pub shuffle-walk : c .«shuffle_random_walk_length» ≤ 65535
 
 pub record Still (cfg0 : Config) (me0 : ℕ) (kept : Bool) (old : ℕ) (me : ℕ) (cfg : Config) (alone : ℕ) : Type 0 where
   pub fixed : cfg ≡ cfg0

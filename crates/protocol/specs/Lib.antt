@@ -10,5 +10,6 @@ pub mod Events
 pub mod Timers
 pub mod Rules
 pub mod Handle
+pub mod Written
 pub mod Traced
 pub mod Invariant

@@ -7,11 +7,11 @@ use mathlib.Core.Option.{none, some}
 use lib.ListN.{length}
 use lib.Dec.{leb, ltb}
 use Rattle.lists.specs.Lists.{mem, distinct, rising, subset, disjoint}
-use Rattle.lists.specs.Maps.{keys, has}
+use Rattle.lists.specs.Maps.{keys, values, has}
 use Rattle.timing.specs.Timing.{in-range, within, max-bootstrap-peers, max-recent-neighbors, max-requests-per-refill}
-use Rattle.peer.specs.Data.{Data}
+use Rattle.peer.specs.Data.{Data, bytes-of}
 use Rattle.peer.specs.Maps.{numbers-under}
-use Rattle.protocol.specs.Station.{Station, Refill, automatic, requests-left, recovery, max-requests, max-refused, max-peer-data, max-data-length, top-counter, top-passes, peers-end}
+use Rattle.protocol.specs.Station.{Station, Refill, automatic, requests-left, recovery, max-requests, max-refused, max-peer-data, max-data-length, top-counter, top-passes, peers-end, bytes-end}
 
 -- all of the tests hold
 unfoldable pub every : List Bool → Bool
@@ -22,6 +22,11 @@ every (b ∷ bs) = b && every bs
 unfoldable pub all-under : ℕ → List ℕ → Bool
 all-under n [] = true
 all-under n (x ∷ xs) = ltb x n && all-under n xs
+
+-- all of all lists are below n
+unfoldable pub lists-under : ℕ → List (List ℕ) → Bool
+lists-under n [] = true
+lists-under n (xs ∷ ls) = all-under n xs && lists-under n ls
 
 unfoldable pub all-short : List (ℕ × List ℕ) → Bool
 all-short [] = true
@@ -100,12 +105,23 @@ limit-rule s = limit-ok (s .refill)
 unfoldable pub interval-rule : Station → Bool
 interval-rule s = within 1 (s .config .«shuffle_interval») (s .next-interval)
 
--- "Counters have 64 bits, the two pass counts 32", and "Peers are 32-bit numbers": the neighbours, whom notices name
+-- every peer that the station names
+abbrev pub peer-lists : Station → List (List ℕ)
+peer-lists s =
+    (s .me ∷ []) ∷ s .active ∷ s .passive ∷ s .bootstrap ∷ s .recent ∷ keys (s .requests) ∷ keys (s .joins) ∷ keys (s .peer-data)
+    ∷ s .alive ∷ s .refused ∷ []
+
+-- all data: its own, and what it holds of others
+abbrev pub data-lists : Station → List (List ℕ)
+data-lists s = bytes-of (s .own-data) ∷ values (s .peer-data)
+
+-- "Peers are 32-bit numbers", "Counters have 64 bits, the two pass counts 32"; data is bytes
 unfoldable pub width-rule : Station → Bool
 width-rule s =
-    all-under peers-end (s .active)
+    lists-under peers-end (peer-lists s)
+    && (lists-under bytes-end (data-lists s)
     && (leb (s .next-request) top-counter
-    && (leb (s .next-join) top-counter && (leb (s .passes-alone) top-passes && leb (s .passes-short) top-passes)))
+    && (leb (s .next-join) top-counter && (leb (s .passes-alone) top-passes && leb (s .passes-short) top-passes))))
 
 -- the station rules; "unused places zero" is for the packed form alone
 unfoldable pub rules : Station → List Bool

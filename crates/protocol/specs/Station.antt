@@ -72,8 +72,15 @@ top-counter = 18446744073709551615
 abbrev pub top-passes : ℕ
 top-passes = 4294967295
 
+-- peers and draws have 32 bits, bytes 8
 abbrev pub peers-end : ℕ
 peers-end = 4294967296
+
+abbrev pub draws-end : ℕ
+draws-end = 4294967296
+
+abbrev pub bytes-end : ℕ
+bytes-end = 256
 
 -- Tests that several steps make
 

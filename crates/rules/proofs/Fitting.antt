@@ -1,6 +1,6 @@
 -- A station that keeps the rules is packed into a state that passes the test, and comes out of it again; so it is with a new one.
 -- Assumes nothing.
-use Prim.Native.Nat.{ℕ, min, _≤_, zero-le}
+use Prim.Native.Nat.{ℕ, _≤_, zero-le}
 use mathlib.Core.Path.{_≡_, refl, sym, ap, _∙_}
 use mathlib.Core.Bool.{Bool, true, false, _&&_}
 use mathlib.Core.List.{List, [], _∷_, map}
@@ -8,10 +8,10 @@ use mathlib.Core.Option.{none, some}
 use native.Mathlib.Omega.{arith}
 use lib.ListN.{length}
 use lib.Dec.{eqb, leb}
-use borrow.Author.Tests.{leb-true, le-leb, eqb-true, ne-eqb}
+use borrow.Author.Tests.{leb-true, eqb-true, ne-eqb}
 use Rattle.lists.specs.Array.{pad}
-use Rattle.lists.specs.Lists.{mem, without, distinct, Above, Rising, rising, subset, disjoint}
-use Rattle.lists.specs.Maps.{keys, values, zip, has}
+use Rattle.lists.specs.Lists.{mem, without, Above, Rising, rising, subset}
+use Rattle.lists.specs.Maps.{keys, values, zip}
 use Rattle.lists.specs.Tests.{All}
 use Rattle.lists.proofs.Array.{take-pad}
 use Rattle.lists.proofs.Choice.{split, and-left, and-right}
@@ -24,23 +24,23 @@ use Rattle.util.specs.Set.{Valid}
 use Rattle.util.proofs.Hold.{holds-of}
 use Rattle.peer.specs.Data.{Data}
 use Rattle.peer.specs.Held.{ValidData}
-use Rattle.peer.specs.Maps.{ValidNumbers, entry-bytes, no-data, ValidEntry, ValidDataMap, numbers-under}
+use Rattle.peer.specs.Maps.{ValidNumbers, entry-bytes, no-data, ValidEntry, ValidDataMap}
 use Rattle.peer.proofs.Data.{holds-some}
 use Rattle.peer.proofs.Maps.{itself, Any, all-any, map-itself, numbers-held, data-held}
 use Rattle.timing.specs.declared.Config.{Config}
 use Rattle.timing.specs.Timing.{within, in-range}
 use Rattle.timing.proofs.Ranges.{ranges}
 use Rattle.protocol.specs.Station.{Station}
-use Rattle.protocol.specs.Rules.{short-data, all-short, all-under, limit-ok, settings-rule, repeats-rule, order-rule, capacity-rule, views-rule, alive-rule, few-rule, joins-rule, numbers-rule, self-rule, room-rule, data-rule, limit-rule, interval-rule, width-rule, rules, station-ok}
+use Rattle.protocol.specs.Rules.{short-data, all-short, settings-rule, order-rule, capacity-rule, alive-rule, few-rule, joins-rule, room-rule, data-rule, rules, station-ok}
 use Rattle.protocol.specs.Rules as R
 use Rattle.protocol.specs.Handle.{new-station, zero-config, zero-station}
-use Rattle.state.specs.Unpack.{unpack, PackedState}
+use Rattle.state.specs.Unpack.{unpack}
 use Rattle.state.proofs.Memory.{own-back, all-kept}
 use Rattle.rules.specs.Pack.{pack-data, pack-set, pack-numbers, pack-entry, pack-data-map, pack-refill, pack, Fits}
 use Rattle.rules.specs.Ok.{packed-ok, state-ok}
 use Rattle.rules.proofs.Shape.{Shape, shape-ok}
 use Rattle.rules.proofs.Pack.{values-out, length-packed-values, unpack-pack}
-use Rattle.rules.proofs.Packed.{Kept, ok-kept, ok-state}
+use Rattle.rules.proofs.Packed.{Kept, ok-kept}
 
 set-valid : (xs : List ℕ) → length xs ≤ 32 → Valid (pack-set xs)
 unfolding pack-set
@@ -191,86 +191,6 @@ new-fits me d c e = record {
   alive = omega arith;
   refused = omega arith;
 }
-
-module _ (me : ℕ) (d : Data) (c : Config) where
-  new-repeats : repeats-rule (new-station me d c) ≡ true
-  unfolding repeats-rule new-station distinct
-  new-repeats = refl
-
-  new-order : order-rule (new-station me d c) ≡ true
-  unfolding order-rule new-station rising keys
-  new-order = refl
-
-  new-views : views-rule (new-station me d c) ≡ true
-  unfolding views-rule new-station disjoint mem
-  new-views = refl
-
-  new-alive : alive-rule (new-station me d c) ≡ true
-  unfolding alive-rule new-station subset
-  new-alive = refl
-
-  new-few : few-rule (new-station me d c) ≡ true
-  unfolding few-rule new-station
-  new-few = refl
-
-  new-joins : joins-rule (new-station me d c) ≡ true
-  unfolding joins-rule new-station subset disjoint has keys mem
-  new-joins = refl
-
-  new-numbers : numbers-rule (new-station me d c) ≡ true
-  unfolding numbers-rule new-station numbers-under
-  new-numbers = refl
-
-  new-self : self-rule (new-station me d c) ≡ true
-  unfolding self-rule new-station has keys mem
-  new-self = refl
-
-  new-room : room-rule (new-station me d c) ≡ true
-  unfolding room-rule new-station
-  new-room = refl
-
-  new-limit : limit-rule (new-station me d c) ≡ true
-  unfolding limit-rule new-station limit-ok
-  new-limit = refl
-
-  new-width : width-rule (new-station me d c) ≡ true
-  unfolding width-rule new-station all-under
-  new-width = refl
-
-  new-capacity : capacity-rule (new-station me d c) ≡ true
-  unfolding capacity-rule new-station
-  new-capacity =
-      both-true (leb 0 (c .«active_view_capacity»)) _ (le-leb 0 (c .«active_view_capacity») zero-le) (le-leb 0 (c .«passive_view_capacity») zero-le)
-
-  module _ (e : in-range c ≡ true) (s : short-data d ≡ true) where
-    new-interval : interval-rule (new-station me d c) ≡ true
-    unfolding interval-rule new-station within
-    new-interval =
-        both-true (leb 1 (min 1000 (c .«shuffle_interval»))) _ (le-leb 1 (min 1000 (c .«shuffle_interval»)) (omega (arith, ranges c e .interval .least)))
-        (le-leb (min 1000 (c .«shuffle_interval»)) (c .«shuffle_interval») (omega arith))
-
-    new-data : data-rule (new-station me d c) ≡ true
-    unfolding data-rule new-station all-short
-    new-data = s
-
-    new-settings : settings-rule (new-station me d c) ≡ true
-    unfolding settings-rule new-station
-    new-settings = e
-
-    pub new-rules : station-ok (new-station me d c) ≡ true
-    unfolding station-ok rules R.every
-    new-rules =
-        rw (new-settings, new-repeats, new-order, new-capacity, new-views, new-alive, new-few, new-joins, new-numbers, new-self, new-room, new-data, new-limit, new-interval, new-width)
-
-    -- the state of a `new` with code 0 passes the test and is packed
-    pub new-ok : state-ok (pack (new-station me d c)) ≡ true
-    new-ok = pack-ok (new-station me d c) new-rules
-
-    pub new-packed : PackedState (pack (new-station me d c))
-    new-packed = ok-state (pack (new-station me d c)) new-ok .packed
-
-    pub new-unpacked : unpack (pack (new-station me d c)) ≡ new-station me d c
-    new-unpacked = unpack-pack (new-station me d c) (new-fits me d c s)
 
 -- "a state of zeroes, which later calls meet with code 2"
 zero-rules : station-ok zero-station ≡ false

@@ -1,21 +1,17 @@
 -- How the code's tests are the rules of the definition, and which rules hold of every well formed state.
 -- Assumes nothing.
-use Prim.Native.Nat.{ℕ, zero, suc, _≤_}
+use Prim.Native.Nat.{ℕ, _≤_}
 use mathlib.Core.Path.{_≡_, refl}
 use mathlib.Core.Bool.{Bool, true, false, _&&_}
-use mathlib.Core.List.{List, [], _∷_, map}
+use mathlib.Core.List.{List, [], _∷_}
 use native.Mathlib.Omega.{arith}
 use lib.ListN.{length, take}
-use lib.Dec.{leb, ltb}
-use borrow.Author.Tests.{le-leb, lt-ltb}
-use mir.Val.{Val}
-use denote.Array.{each}
-use denote.Shadow.{shadow}
-use denote.Struct.Field.{u32-field}
+use lib.Dec.{leb}
+use borrow.Author.Tests.{le-leb}
 use Rattle.lists.specs.Lists.{rising, choose}
 use Rattle.lists.specs.Maps.{values}
 use Rattle.lists.specs.Tests.{every, All}
-use Rattle.lists.proofs.Choice.{split, and-left, and-right}
+use Rattle.lists.proofs.Choice.{split}
 use Rattle.lists.proofs.Tests.{both-true, true-rising}
 use Rattle.util.specs.Set.{items-of}
 use Rattle.peer.specs.declared.PeerData.{PeerData}
@@ -23,9 +19,9 @@ use Rattle.peer.specs.Held.{data-in, ValidData}
 use Rattle.peer.specs.Maps.{data-map-in, numbers-in}
 use Rattle.peer.proofs.Data.{length-bytes}
 use Rattle.peer.proofs.Maps.{data-map-short}
-use Rattle.protocol.specs.Rules.{all-under, all-short, short-data, settings-rule, repeats-rule, order-rule, capacity-rule, views-rule, alive-rule, few-rule, joins-rule, numbers-rule, self-rule, room-rule, data-rule, limit-rule, interval-rule, width-rule, rules, station-ok}
+use Rattle.protocol.specs.Rules.{all-short, short-data, settings-rule, repeats-rule, order-rule, capacity-rule, views-rule, alive-rule, few-rule, joins-rule, numbers-rule, self-rule, room-rule, data-rule, limit-rule, interval-rule, width-rule, rules, station-ok}
 use Rattle.protocol.specs.Rules as R
-use Rattle.protocol.specs.Station.{Station, peers-end, top-counter, top-passes}
+use Rattle.protocol.specs.Station.{Station}
 use Rattle.state.specs.declared.State.{State}
 use Rattle.state.specs.Unpack.{unpack}
 use Rattle.rules.specs.Ok.{packed-ok}
@@ -78,28 +74,3 @@ pub rules-left : (g : Station) → room-rule g ≡ true → data-rule g ≡ true
     → station-ok g ≡ (settings-rule g && (repeats-rule g && (order-rule g && (capacity-rule g && (views-rule g && (alive-rule g && (few-rule g && (joins-rule g && (numbers-rule g && (self-rule g && (limit-rule g && (interval-rule g && width-rule g))))))))))))
 unfolding station-ok rules R.every
 rules-left g a b = rw (a, b, and-true (width-rule g))
-
--- ---- widths, which are those of the types
-
--- the items of an array of 32-bit numbers are below 2^32
-pub each-under : (xs : List ℕ) (us : List Val) → shadow (each ℕ (u32-field .row .own) (map (λ (v : ℕ). v) xs) us) → all-under peers-end xs ≡ true
-unfolding all-under
-each-under [] us s = refl
-each-under (x ∷ xs) [] s = absurd s
-each-under (x ∷ xs) (u ∷ us) s = both-true (ltb x peers-end) _ (lt-ltb x peers-end (s .0 .1)) (each-under xs us (s .1))
-
-take-under : (n k : ℕ) (xs : List ℕ) → all-under n xs ≡ true → all-under n (take k xs) ≡ true
-unfolding all-under
-take-under n zero xs e = refl
-take-under n (suc k) [] e = refl
-take-under n (suc k) (x ∷ xs) e =
-    both-true (ltb x n) _ (and-left (ltb x n) _ e) (take-under n k xs (and-right (ltb x n) _ e))
-
-pub width-held : (s : State) → all-under peers-end (s .«active_view» .items) ≡ true → s .«next_neighbor_request» ≤ top-counter → s .«next_join» ≤ top-counter
-    → s .«passes_alone» ≤ top-passes → s .«passes_short» ≤ top-passes → width-rule (unpack s) ≡ true
-unfolding width-rule unpack items-of
-width-held s e a b c d =
-    both-true (all-under peers-end (take (s .«active_view» .len) (s .«active_view» .items))) _ (take-under peers-end (s .«active_view» .len) (s .«active_view» .items) e)
-    (both-true (leb (s .«next_neighbor_request») top-counter) _ (le-leb _ _ a)
-    (both-true (leb (s .«next_join») top-counter) _ (le-leb _ _ b)
-    (both-true (leb (s .«passes_alone») top-passes) _ (le-leb _ _ c) (le-leb _ _ d))))

@@ -1,6 +1,7 @@
 pub mod Shape
 pub mod Pack
 pub mod Held
+pub mod Widths
 pub mod Packed
 pub mod Making
 pub mod Fitting

@@ -194,7 +194,7 @@ fn interval_rule(s: State) -> bool
     (1 <= s.next_shuffle_interval) & (s.next_shuffle_interval <= s.config.shuffle_interval)
 }
 
-// "Counters have 64 bits, the two pass counts 32": by their types.
+// "Peers are 32-bit numbers", data is bytes, "Counters have 64 bits, the two pass counts 32": all by their types.
 fn width_rule(s: State) -> bool
     ensures { λ r. ⌜ r ≡ width-rule (unpack s) ⌝ }
 {

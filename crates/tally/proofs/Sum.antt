@@ -7,7 +7,7 @@ use mathlib.Core.List.{List}
 use native.Mathlib.Omega.{arith}
 use lib.ListN.{length, drop}
 use lib.Dec.{ltb, eqb}
-use borrow.Author.Tests.{lt-ltb, ltb-true}
+use borrow.Author.Tests.{eqb-true, lt-ltb, ltb-true}
 use Rattle.lists.specs.Lists.{choose}
 use Rattle.lists.proofs.Choice.{by-choice, split, and-left, and-right}
 use Rattle.history.specs.Ledger.{Ledger, kind-in, message-in, peer-in, whole-length, count-message, note-up, note-down, read-records, open-event, feed}
@@ -50,6 +50,11 @@ never-less (suc n) b l =
     by-choice (λ (x : Ledger). l .sent ≤ x .sent) (eqb (whole-length b) 0) (λ _. omega arith) (λ _.
     omega (arith, kept (kind-in b) (peer-in b) l, never-less n (drop (whole-length b) b) (book (kind-in b) (peer-in b) l))))
 
+pub never-less-fed : (a code : ℕ) (b out : List ℕ) (l : Ledger) → l .sent ≤ feed a b code out l .sent
+unfolding feed open-event
+never-less-fed a code b out l =
+    by-choice (λ (x : Ledger). l .sent ≤ x .sent) (eqb code 0) (λ _. never-less (length out) out (open-event a b l)) (λ _. omega arith)
+
 -- one record raises both by as much
 entered : (b : List ℕ) (t : Tally) (l : Ledger) → has-count b ≡ true → total t + book (kind-in b) (peer-in b) l .sent ≤ l .sent + top
     → total (enter (kind-in b) (message-in b) t) + l .sent ≡ total t + book (kind-in b) (peer-in b) l .sent
@@ -86,10 +91,10 @@ agrees (suc n) b t l h w =
 
 -- After an event, accepted or refused, the six counts together have risen by the messages that the ledger counted, where none was at its top
 -- and every message has a count.
-pub sum-agrees : (a code : ℕ) (b out : List ℕ) (t : Tally) (l : Ledger) → all-have (length out) out ≡ true → total t + feed a b code out l .sent ≤ l .sent + top
+pub sum-agrees : (a code : ℕ) (b out : List ℕ) (t : Tally) (l : Ledger) → (code ≡ 0 → all-have (length out) out ≡ true) → total t + feed a b code out l .sent ≤ l .sent + top
     → total (raised code out t) + l .sent ≡ total t + feed a b code out l .sent
 unfolding raised feed open-event choose
 sum-agrees a code b out t l h w =
     split (eqb code 0)
-    (λ e. rw e (agrees (length out) out t (open-event a b l) h (rw e at w)))
+    (λ e. rw e (agrees (length out) out t (open-event a b l) (h (eqb-true code 0 e)) (rw e at w)))
     (λ e. rw e refl)

@@ -1,0 +1,80 @@
+-- Every record of an accepted output is read back, for every list of calls to a new station.
+-- Assumes nothing.
+use mathlib.Core.Path.{_≡_, refl, sym, ap, subst, _∙_}
+use mathlib.Core.Bool.{true, _&&_}
+use mathlib.Core.List.{List, [], _∷_, _++_, append-assoc, map}
+use mathlib.Core.Option.{some}
+use Prim.Native.Nat.{ℕ, zero, suc, _≤_}
+use native.Mathlib.Omega.{arith}
+use lib.ListN.{length, replicate, length-append}
+use lib.Seq.{take-at}
+use Rattle.lists.specs.Tests.{All}
+use Rattle.lists.proofs.Choice.{choose-yes, and-left, and-right}
+use Rattle.timing.specs.Timing.{in-range}
+use Rattle.timing.specs.declared.Config.{Config}
+use Rattle.record.specs.Format.{Rec, size, encode}
+use Rattle.record.specs.Read.{decode}
+use Rattle.record.specs.InForm.{InForm}
+use Rattle.record.proofs.Format.{length-encode}
+use Rattle.record.proofs.Forth.{size-most}
+use Rattle.record.proofs.RoundTrip.{written-reads-back}
+use Rattle.protocol.specs.Station.{Station, draws-end}
+use Rattle.protocol.specs.Rules.{all-under, short-data}
+use Rattle.protocol.specs.Handle.{Made, new, new-station}
+use Rattle.protocol.specs.Written.{encode-all, Written}
+use Rattle.protocol.proofs.Told.{Sound}
+use Rattle.protocol.proofs.Tested.{rules-of}
+use Rattle.protocol.proofs.Written.{writes-records}
+use Rattle.history.specs.Ledger.{Ledger}
+use Rattle.history.specs.Calls.{Call, narrow-draws, answered, definition}
+use Rattle.history.specs.Outputs.{cut-records, ReadsBack, OutputsRead, Outputs-read-back}
+use Rattle.history.proofs.Heard.{whole-is, goes-on, stops, after-one, length-encode-all}
+use Rattle.history.proofs.Kept.{Kept, fine-answer, kept-new, accepted-new}
+
+-- the bytes of a record in form say what it is
+pub form-sound : (e : Rec) → InForm e → Sound e
+form-sound e f = record { small = let m : size e ≤ 792 = size-most e f in omega arith; narrow = λ a b. f .peer }
+
+cut-all : (es : List Rec) (zeros n : ℕ) → All InForm es → length es ≤ n → cut-records n (encode-all es ++ replicate zeros 0) ≡ map encode es
+unfolding cut-records encode-all All
+cut-all [] zeros zero a h = refl
+cut-all [] zeros (suc n) a h = stops zeros [] _
+cut-all (e ∷ es) zeros zero a h = absurd (omega arith)
+cut-all (e ∷ es) zeros (suc n) a h =
+    let s = form-sound e (a .0) in
+    let rest : List ℕ = encode-all es ++ replicate zeros 0 in
+    rw (append-assoc (encode e) (encode-all es) (replicate zeros 0))
+    (goes-on e rest s [] _ ∙ rw (after-one e rest s, whole-is e rest s, take-at (encode e) rest (size e) (length-encode e), cut-all es zeros n (a .1) (omega arith)))
+
+decode-all : (es : List Rec) → All InForm es → map decode (map encode es) ≡ map some es
+unfolding All
+decode-all [] a = refl
+decode-all (e ∷ es) a = λ i. written-reads-back e (a .0) i ∷ decode-all es (a .1) i
+
+-- what is written reads back
+pub reads : (out : List ℕ) → Written out → ReadsBack out
+reads out w =
+    let es = w .records in
+    let b : List ℕ = encode-all es ++ replicate (w .zeros) 0 in
+    let parts : cut-records (length out) out ≡ map encode es =
+    subst (λ (x : List ℕ). cut-records (length x) x ≡ map encode es) (sym (w .bytes))
+    (cut-all es (w .zeros) (length b) (w .in-form) (omega (arith, length-encode-all es, length-append (encode-all es) (replicate (w .zeros) 0)))) in
+    record { written = w; parts = parts; read = ap (map decode) parts ∙ decode-all es (w .in-form) }
+
+module _ {c : Config} {me : ℕ} (ranges : in-range c ≡ true) where
+  pub outputs-read : (vs : List Call) {l : Ledger} {s : Station} → narrow-draws vs ≡ true → Kept c me l s → OutputsRead definition vs s
+  unfolding OutputsRead narrow-draws answered
+  outputs-read [] n h = tt
+  outputs-read (v ∷ vs) {s = s} n h = (
+    (λ z. reads _ (writes-records s (rules-of s ranges h) (v .event) (v .are-bytes) (v .draws) (and-left (all-under draws-end (v .draws)) _ n) (length (v .output)) z)),
+    outputs-read vs (and-right (all-under draws-end (v .draws)) _ n) (fine-answer ranges v h .kept),
+  )
+
+-- Whatever is brought to a new station, all that it writes in an accepted call is read back.
+pub outputs-read-back : Outputs-read-back
+unfolding new
+outputs-read-back me d c given z vs n =
+    let t = accepted-new me d c z in
+    let r = and-left (in-range c) (short-data d) t in
+    let e : new me d c .state ≡ new-station me d c = ap (λ (m : Made). m .state) (choose-yes (in-range c && short-data d) _ _ t) in
+    subst (λ (s : Station). OutputsRead definition vs s) (sym e) (outputs-read r vs n (kept-new me d c given r (and-right (in-range c) (short-data d) t)))
