@@ -1,4 +1,4 @@
--- Demand 3, the rejoin promise and "always suffice" hold of the program.
+-- Demand 3, the rejoin promise, S-11 and "always suffice" hold of the program.
 -- Assumes nothing.
 use Prim.Native.Nat.{ℕ}
 use mathlib.Core.Path.{_≡_, refl, sym, ap, _∙_}
@@ -20,6 +20,7 @@ use Rattle.history.specs.Calls.{Call, Given, answer, answered}
 use Rattle.history.specs.Packing.{Packs}
 use Rattle.history.proofs.Packing.{demand-packed, rejoin-packed, outputs-packed}
 use Rattle.tally.proofs.History.{counts-all}
+use Rattle.shuffle_times.proofs.Packed.{timed-packed}
 use Rattle.state.specs.declared.State.{State}
 use Rattle.state.specs.Unpack.{unpack}
 use Rattle.rules.specs.Made.{lent, pack-made}
@@ -77,6 +78,11 @@ outputs-read-back me present own c t z vs n = outputs-packed packs me (lent pres
 
 pub every-message-counted : D.Every-message-counted
 every-message-counted me present own c t z vs n = counts-all program _ vs _ (outputs-read-back me present own c t z vs n)
+
+-- When the program's shuffles are due.
+pub shuffles-timed : D.Shuffles-timed
+unfolding made pack-made
+shuffles-timed me present own c t z = timed-packed packs me (lent present own) c (given me present own t) z
 
 -- 512 draws and 8,192 bytes suffice, whatever the event and the state that keeps the rules.
 pub enough-lent : D.Enough-lent

@@ -15,6 +15,7 @@ use Rattle.history.specs.Demand.{Demand3}
 use Rattle.history.specs.Outputs.{OutputsRead}
 use Rattle.history.specs.Rejoin.{ticks, Promised}
 use Rattle.tally.specs.History.{CountsAll}
+use Rattle.shuffle_times.specs.Claims.{Timed}
 use Rattle.state.specs.declared.State.{State}
 use Rattle.state.specs.Unpack.{unpack}
 use Rattle.rules.specs.declared.Made.{Made}
@@ -66,6 +67,11 @@ abbrev pub Every-message-counted : Type 0
 Every-message-counted =
     (me : ℕ) (present : Bool) (own : List ℕ) (c : Config) → Typed me own → made me present own c .code ≡ 0
     → (vs : List Call) → narrow-draws vs ≡ true → CountsAll program (c .«active_view_capacity») vs (made me present own c .state)
+
+-- S-11 of document 02: when its shuffles are due
+abbrev pub Shuffles-timed : Type 0
+Shuffles-timed =
+    (me : ℕ) (present : Bool) (own : List ℕ) (c : Config) → Typed me own → made me present own c .code ≡ 0 → Timed program c (made me present own c .state)
 
 -- of one call at a state that keeps the rules
 pub record Suffices (s : State) (v : Call) : Type 0 where

@@ -71,11 +71,11 @@ module _ (e : Rec) (rest : List ℕ) (s : Sound e) where
   entered : (l : Ledger) → enter (kind-in (encode e ++ rest)) (peer-in (encode e ++ rest)) l ≡ enter (e .kind) (e .peer) l
   entered l = rw kind-is (enter-same (e .kind) (peer-in (encode e ++ rest)) (e .peer) l (λ a b. peer-is (s .narrow a b)))
 
-size-some : (e : Rec) → 24 ≤ size e
+pub size-some : (e : Rec) → 24 ≤ size e
 unfolding size
 size-some e = omega arith
 
-zero-at : (n i : ℕ) → _≡_ {A = ℕ} (getD (replicate n 0) i 0) 0
+pub zero-at : (n i : ℕ) → _≡_ {A = ℕ} (getD (replicate n 0) i 0) 0
 zero-at zero i = refl
 zero-at (suc n) zero = refl
 zero-at (suc n) (suc i) = zero-at n i

@@ -50,20 +50,20 @@ then {r} g h = record {
 either : {r w v : Run} (b : Bool) → Grows r w → Grows r v → Grows r (choose b w v)
 either {r} b g h = by-choice (Grows r) b (λ e. g) (λ e. h)
 
-emit-out : (e : Rec) (r : Run) → (emit e r) .code ≡ 0 → (emit e r) .out ≡ r .out ++ encode e
+pub emit-out : (e : Rec) (r : Run) → (emit e r) .code ≡ 0 → (emit e r) .out ≡ r .out ++ encode e
 unfolding emit guard
 emit-out e r =
     by-choice (λ (w : Run). w .code ≡ 0 → w .out ≡ r .out ++ encode e) (eqb (r .code) 0)
     (λ f. by-choice (λ (w : Run). w .code ≡ 0 → w .out ≡ r .out ++ encode e) (leb (length (r .out) + size e) (r .room)) (λ i z. refl) (λ i z. absurd (omega arith)))
     (λ f z. absurd (eqb-false (r .code) 0 f z))
 
-draw-out : (n : ℕ) (r : Run) → (draw n r) .out ≡ r .out
+pub draw-out : (n : ℕ) (r : Run) → (draw n r) .out ≡ r .out
 unfolding draw guard
 draw-out n r =
     by-choice (λ (w : Run). w .out ≡ r .out) (eqb (r .code) 0)
     (λ e. by-choice (λ (w : Run). w .out ≡ r .out) (leb (r .used + n) (length (r .draws))) (λ f. refl) (λ f. refl)) (λ e. refl)
 
-on-out : (f : Station → Station) (r : Run) → (on f r) .out ≡ r .out
+pub on-out : (f : Station → Station) (r : Run) → (on f r) .out ≡ r .out
 unfolding on guard
 on-out f r = by-choice (λ (w : Run). w .out ≡ r .out) (eqb (r .code) 0) (λ e. refl) (λ e. refl)
 

@@ -1,0 +1,9 @@
+pub mod Delays
+pub mod Asked
+pub mod Told
+pub mod Quiet
+pub mod Sets
+pub mod Tied
+pub mod Witness
+pub mod Claims
+pub mod Packed

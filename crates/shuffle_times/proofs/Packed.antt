@@ -1,0 +1,97 @@
+-- S-11 holds of a machine that packs its stations, as the program does.
+-- Assumes nothing.
+use Prim.Native.Nat.{ℕ, _-_, _≤_}
+use mathlib.Core.Path.{_≡_, refl, sym, ap, subst, _∙_}
+use mathlib.Core.Bool.{Bool, true, _&&_}
+use mathlib.Core.List.{List, [], _∷_, _++_}
+use lib.ListN.{length, getD, drop}
+use lib.Dec.{leb, eqb}
+use Rattle.lists.specs.Lists.{choose}
+use Rattle.lists.proofs.Choice.{choose-yes, and-left, and-right}
+use Rattle.timing.specs.Timing.{in-range}
+use Rattle.timing.specs.declared.Config.{Config}
+use Rattle.peer.specs.Data.{Data}
+use Rattle.protocol.specs.Station.{Station}
+use Rattle.protocol.specs.Rules.{station-ok, short-data}
+use Rattle.protocol.specs.Handle.{Made, new, new-station}
+use Rattle.protocol.proofs.Tested.{rules-of}
+use Rattle.history.specs.Ledger.{Ledger, kind-in}
+use Rattle.history.specs.Calls.{Given, Machine, state-of, answer, definition}
+use Rattle.history.specs.Packing.{Packs}
+use Rattle.history.proofs.Kept.{Kept, fine-answer, kept-new, accepted-new}
+use Rattle.shuffle_times.specs.Times.{first-interval, dues, shuffle-times}
+use Rattle.shuffle_times.specs.Histories.{Brought, headers, shuffle-delays, after, set-by, shuffles-due, counts, start-of, fires, is-first, on-time}
+use Rattle.shuffle_times.specs.Claims.{Timed}
+use Rattle.shuffle_times.proofs.Claims.{shuffles-timed}
+
+module _ {S : Type 0} {m : Machine S} {pack : Station → S} {station : S → Station} {ok : S → Bool} (k : Packs m pack station ok) where
+  set-follows : (v : Brought) (g : Station) → station-ok g ≡ true → set-by m v (pack g) ≡ set-by definition v g
+  unfolding set-by
+  set-follows v g t = ap (λ (o : List ℕ). after (v .at) (shuffle-delays (headers (length o) o))) (k .output (v .call) g t)
+
+  module _ {c : Config} {me : ℕ} (ranges : in-range c ≡ true) where
+    shuffles-follow : (vs : List Brought) {l : Ledger} {g : Station} → Kept c me l g → shuffles-due m vs (pack g) ≡ shuffles-due definition vs g
+    unfolding shuffles-due
+    shuffles-follow [] h = refl
+    shuffles-follow (v ∷ vs) {g = g} h =
+        let t = rules-of g ranges h in
+        let rest : shuffles-due m vs (state-of m (v .call) (pack g)) ≡ shuffles-due definition vs (answer (v .call) g .state) =
+        ap (shuffles-due m vs) (k .state (v .call) g t) ∙ shuffles-follow vs (fine-answer ranges (v .call) h .kept) in
+        (λ i. set-follows v g t i ++ rest i)
+
+    start-follows : (vs : List Brought) {l : Ledger} {g : Station} → Kept c me l g → start-of m vs (pack g) ≡ start-of definition vs g
+    unfolding start-of counts
+    start-follows [] h = refl
+    start-follows (v ∷ vs) {g = g} h =
+        let t = rules-of g ranges h in
+        let rest : start-of m vs (state-of m (v .call) (pack g)) ≡ start-of definition vs (answer (v .call) g .state) =
+        ap (start-of m vs) (k .state (v .call) g t) ∙ start-follows vs (fine-answer ranges (v .call) h .kept) in
+        (λ i. choose (leb (kind-in (v .call .event)) 8 && eqb (k .code (v .call) g t i) 0) (v .at) (rest i))
+
+    on-time-follows : (vs : List Brought) {l : Ledger} {g : Station} → Kept c me l g → (waiting : List ℕ) → on-time m vs (pack g) waiting ≡ on-time definition vs g waiting
+    unfolding on-time fires
+    on-time-follows [] h waiting = refl
+    on-time-follows (v ∷ vs) {g = g} h waiting =
+        let t = rules-of g ranges h in
+        let rest : (w : List ℕ) → on-time m vs (state-of m (v .call) (pack g)) w ≡ on-time definition vs (answer (v .call) g .state) w =
+        λ w. ap (λ (s : S). on-time m vs s w) (k .state (v .call) g t) ∙ on-time-follows vs (fine-answer ranges (v .call) h .kept) w in
+        let after-set : (w : List ℕ) → on-time m vs (state-of m (v .call) (pack g)) (w ++ set-by m v (pack g)) ≡ on-time definition vs (answer (v .call) g .state) (w ++ set-by definition v g) =
+        λ w. ap (λ (x : List ℕ). on-time m vs (state-of m (v .call) (pack g)) (w ++ x)) (set-follows v g t) ∙ rest (w ++ set-by definition v g) in
+        (λ i. choose (eqb (kind-in (v .call .event)) 1 && eqb (k .code (v .call) g t i) 0) (is-first (v .at) waiting && after-set (drop 1 waiting) i) (after-set waiting i))
+
+    packed : {l : Ledger} {g : Station} → Kept c me l g → Timed definition c g → Timed m c (pack g)
+    packed {g = g} h d =
+        let top = c .«shuffle_interval» in
+        record {
+          due-times-tied = λ vs o. let w = d .due-times-tied vs (sym (on-time-follows vs h []) ∙ o) in record {
+            draws = w .draws;
+            are-draws = w .are-draws;
+            same = shuffles-follow vs h ∙ (w .same ∙ ap (λ (t : ℕ). dues top (first-interval top) t (w .draws)) (sym (start-follows vs h)));
+          };
+          nothing-outside = λ vs o earliest latest n e from to many.
+              let w = d .nothing-outside vs (sym (on-time-follows vs h []) ∙ o) earliest latest n e (subst (λ (t : ℕ). earliest ≤ t) (start-follows vs h) from)
+              (subst (λ (t : ℕ). t ≤ latest) (start-follows vs h) to) (subst (λ (x : List ℕ). n ≤ length x) (shuffles-follow vs h) many) in
+              record {
+                not-before = subst (λ (x : List ℕ). shuffle-times earliest latest c n .earliest ≤ getD x (n - 1) 0) (sym (shuffles-follow vs h)) (w .not-before);
+                not-after = subst (λ (x : List ℕ). getD x (n - 1) 0 ≤ shuffle-times earliest latest c n .latest) (sym (shuffles-follow vs h)) (w .not-after);
+              };
+          every-one-reached = λ earliest latest n e t from to. let w = d .every-one-reached earliest latest n e t from to in record {
+            calls = w .calls;
+            fire = on-time-follows (w .calls) h [] ∙ w .fire;
+            ordered = w .ordered;
+            not-early = subst (λ (x : ℕ). earliest ≤ x) (sym (start-follows (w .calls) h)) (w .not-early);
+            not-late = subst (λ (x : ℕ). x ≤ latest) (sym (start-follows (w .calls) h)) (w .not-late);
+            enough = subst (λ (x : List ℕ). n ≤ length x) (sym (shuffles-follow (w .calls) h)) (w .enough);
+            due-then = ap (λ (x : List ℕ). getD x (n - 1) 0) (shuffles-follow (w .calls) h) ∙ w .due-then;
+          };
+        }
+
+  -- from a new station that was packed
+  pub timed-packed : (me : ℕ) (d : Data) (c : Config) → Given me d → new me d c .code ≡ 0 → Timed m c (pack (new me d c .state))
+  unfolding new
+  timed-packed me d c given z =
+      let t = accepted-new me d c z in
+      let r = and-left (in-range c) (short-data d) t in
+      let e : new me d c .state ≡ new-station me d c = ap (λ (x : Made). x .state) (choose-yes (in-range c && short-data d) _ _ t) in
+      subst (λ (s : Station). Timed m c (pack s)) (sym e)
+      (packed r (kept-new me d c given r (and-right (in-range c) (short-data d) t)) (subst (Timed definition c) e (shuffles-timed me d c given z)))

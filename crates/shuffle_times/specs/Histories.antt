@@ -1,0 +1,82 @@
+-- A history in time: calls to a machine, each brought at a time, and the shuffle timers that their outputs ask for.
+-- Assumes nothing.
+use Prim.Native.Nat.{ℕ, zero, suc, _+_}
+use mathlib.Core.Bool.{Bool, true, false, _&&_}
+use mathlib.Core.List.{List, [], _∷_, _++_}
+use mathlib.Core.Path.{_≡_}
+use lib.ListN.{length, drop}
+use lib.Dec.{leb, ltb, eqb}
+use Rattle.lists.specs.Lists.{choose}
+use Rattle.record.specs.Format.{header-length}
+use Rattle.record.specs.Read.{header-of}
+use Rattle.record.specs.declared.Header.{Header}
+use Rattle.protocol.specs.Rules.{all-under}
+use Rattle.history.specs.Ledger.{kind-in}
+use Rattle.history.specs.Calls.{Call, Machine, code-of, state-of, output-of}
+
+-- one more than the highest draw
+abbrev pub draws-end : ℕ
+draws-end = 4294967296
+
+-- a call at a time, in milliseconds, with draws of 32 bits
+pub record Brought : Type 0 where
+  pub at : ℕ
+  pub call : Call
+  pub are-draws : all-under draws-end (call .draws) ≡ true
+
+-- the headers of an output's records, each found by the whole length of the one before it, until that is 0 or no header fits;
+-- n, the output's length, is never used up before
+unfoldable pub headers : ℕ → List ℕ → List Header
+headers zero b = []
+headers (suc n) b =
+    choose (ltb (length b) header-length) []
+    (choose (eqb (header-of b .size) 0) [] (header-of b ∷ headers n (drop (header-of b .size) b)))
+
+-- the delays of the DoShuffle timers among them
+unfoldable pub shuffle-delays : List Header → List ℕ
+shuffle-delays [] = []
+shuffle-delays (h ∷ hs) = choose (eqb (h .kind) 1) (h .second ∷ shuffle-delays hs) (shuffle-delays hs)
+
+-- so long after t
+unfoldable pub after : ℕ → List ℕ → List ℕ
+after t [] = []
+after t (x ∷ xs) = (t + x) ∷ after t xs
+
+-- the due times of the shuffle timers that a call's output asks for
+unfoldable pub set-by : {S : Type 0} → Machine S → Brought → S → List ℕ
+set-by m v s = after (v .at) (shuffle-delays (headers (length (output-of m (v .call) s)) (output-of m (v .call) s)))
+
+-- the same for all calls of a history, in order
+unfoldable pub shuffles-due : {S : Type 0} → Machine S → List Brought → S → List ℕ
+shuffles-due m [] s = []
+shuffles-due m (v ∷ vs) s = set-by m v s ++ shuffles-due m vs (state-of m (v .call) s)
+
+-- an accepted event of kinds 0 to 8
+unfoldable pub counts : {S : Type 0} → Machine S → Brought → S → Bool
+counts m v s = leb (kind-in (v .call .event)) 8 && eqb (code-of m (v .call) s) 0
+
+-- "a start, the time of a station's first event of kinds 0 to 8"
+unfoldable pub start-of : {S : Type 0} → Machine S → List Brought → S → ℕ
+start-of m [] s = 0
+start-of m (v ∷ vs) s = choose (counts m v s) (v .at) (start-of m vs (state-of m (v .call) s))
+
+-- an accepted shuffle timer
+unfoldable pub fires : {S : Type 0} → Machine S → Brought → S → Bool
+fires m v s = eqb (kind-in (v .call .event)) 1 && eqb (code-of m (v .call) s) 0
+
+unfoldable pub is-first : ℕ → List ℕ → Bool
+is-first t [] = false
+is-first t (x ∷ xs) = eqb t x
+
+-- "if each timer fires when due": each accepted shuffle timer is the first of those that wait, the timers asked for and not yet
+-- brought back, and comes at its due time. So one that nobody asked for is left out. Other calls may stand anywhere.
+unfoldable pub on-time : {S : Type 0} → Machine S → List Brought → S → List ℕ → Bool
+on-time m [] s waiting = true
+on-time m (v ∷ vs) s waiting =
+    choose (fires m v s) (is-first (v .at) waiting && on-time m vs (state-of m (v .call) s) (drop 1 waiting ++ set-by m v s))
+    (on-time m vs (state-of m (v .call) s) (waiting ++ set-by m v s))
+
+-- no call is brought before time t, nor before the one in front of it
+unfoldable pub in-time-order : ℕ → List Brought → Bool
+in-time-order t [] = true
+in-time-order t (v ∷ vs) = leb t (v .at) && in-time-order (v .at) vs

@@ -1,0 +1,4 @@
+pub mod Times
+pub mod Histories
+pub mod Claims
+pub mod Table
