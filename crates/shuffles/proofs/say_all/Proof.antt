@@ -1,0 +1,71 @@
+-- The measure is what is left of the input.
+use Prim.Native.Nat.{_≤_, _-_}
+use lib.ListN.{length}
+use borrow.Author.Needs.{needs}
+use Rattle.shuffles.proofs.say_all.Statement.{statement}
+use Rattle.shuffles.proofs.say_all.Tie as tie
+
+abbrev Inv-loop : tie.InvT-loop
+Inv-loop b at₀ at = at ≤ length b
+
+abbrev μ-loop : tie.MeasureT-loop
+μ-loop b at₀ at = length b - at
+
+slice-aggregate-write-all : tie.Need-slice-aggregate-write-all Inv-loop μ-loop
+slice-aggregate-write-all c = search needs
+
+write-all-requires : tie.Need-write-all-requires Inv-loop μ-loop
+write-all-requires c κs = search needs
+
+returns : tie.Need-returns Inv-loop μ-loop
+returns c = search needs
+
+loop-holds : tie.Need-loop-holds Inv-loop μ-loop
+loop-holds c = search needs
+
+sub-loop : tie.Need-sub-loop Inv-loop μ-loop
+sub-loop c = search needs
+
+add-end : tie.Need-add-end Inv-loop μ-loop
+add-end c = search needs
+
+sub-say : tie.Need-sub-say Inv-loop μ-loop
+sub-say c = search needs
+
+part-say-start : tie.Need-part-say-start Inv-loop μ-loop
+part-say-start c = search needs
+
+part-say-end : tie.Need-part-say-end Inv-loop μ-loop
+part-say-end c = search needs
+
+say-requires : tie.Need-say-requires Inv-loop μ-loop
+say-requires c κs = search needs
+
+loop-less : tie.Need-loop-less Inv-loop μ-loop
+loop-less c = search needs
+
+loop-again : tie.Need-loop-again Inv-loop μ-loop
+loop-again c = search needs
+
+returns-2 : tie.Need-returns-2 Inv-loop μ-loop
+returns-2 c = search needs
+
+pub say-all-spec : {M : Type 1} → statement M
+say-all-spec =
+    tie.close
+    (tie.spec
+    Inv-loop
+    μ-loop
+    slice-aggregate-write-all
+    write-all-requires
+    returns
+    loop-holds
+    sub-loop
+    add-end
+    sub-say
+    part-say-start
+    part-say-end
+    say-requires
+    loop-less
+    loop-again
+    returns-2)

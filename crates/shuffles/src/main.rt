@@ -1,0 +1,64 @@
+// Reads questions of 14 numbers of four bytes, each an earliest and a latest start (low half first), the nine settings and a k, and
+// writes a line for each: both ends of the k-th shuffle's due time. An input that is no such list, or too long, gets `= 3`.
+use timing::Config;
+ghost use Prim.Native.Nat.{_≤_};
+
+const QUESTION: usize = 56;
+
+fn main() {
+    // One byte more than an input may have, so that a longer one is noticed.
+    let mut buffer = [0u8; 65537];
+    let n = io::read_full(0, &mut buffer);
+    say_all(&buffer[..n]);
+}
+
+// Every question of the input.
+fn say_all(b: &[u8]) {
+    if b.len() % QUESTION != 0 {
+        io::write_all(1, b"= 3\n");
+        return;
+    }
+    let mut at: usize = 0;
+    while b.len() - at >= QUESTION {
+        let end = at + QUESTION;
+        say(&b[at..end]);
+        at = end;
+    }
+}
+
+fn wide(x: u32) -> u64
+    ensures { λ r. ⌜ r ≤ 4294967295 ⌝ }
+{
+    x as u64
+}
+
+// A number of eight bytes.
+fn long(low: u32, high: u32) -> u64 {
+    wide(low) + 4294967296 * wide(high)
+}
+
+fn config_of(b: &[u8]) -> Config {
+    Config {
+        active_view_capacity: input::number(b, 4),
+        passive_view_capacity: input::number(b, 5),
+        active_random_walk_length: input::number(b, 6),
+        passive_random_walk_length: input::number(b, 7),
+        shuffle_random_walk_length: input::number(b, 8),
+        shuffle_active_view_count: input::number(b, 9),
+        shuffle_passive_view_count: input::number(b, 10),
+        shuffle_interval: input::number(b, 11),
+        neighbor_request_timeout: input::number(b, 12),
+    }
+}
+
+fn say(b: &[u8]) {
+    let earliest = long(input::number(b, 0), input::number(b, 1));
+    let latest = long(input::number(b, 2), input::number(b, 3));
+    let config = config_of(b);
+    let k = input::number(b, 13);
+    let t = shuffle_times::hyparview_shuffle_times(earliest, latest, config, k);
+    io::print_decimal(1, t.earliest);
+    io::write_all(1, b" ");
+    io::print_decimal(1, t.latest);
+    io::write_all(1, b"\n");
+}
