@@ -38,6 +38,8 @@ pub mod text;
 #[cfg(feature = "tools")]
 pub mod timing;
 pub mod topic;
+#[cfg(feature = "tools")]
+pub mod words;
 
 pub use proto::{hyparview, PeerData};
 

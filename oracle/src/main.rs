@@ -13,12 +13,13 @@ use oracle::{
     generate::mix::{self, MIXES},
     stored::{self, Stored},
     text::{self, Form, Start},
-    timing, SUBSTITUTIONS,
+    timing, words, SUBSTITUTIONS,
 };
 
 const USAGE: &str = "\
 oracle station|trace [--room BYTES] [--counters REQUEST,JOIN,ALONE,SHORT]   input on stdin
 oracle generate [--seed N] [--histories N] [--events N] [--mix NAME]        stored form
+oracle words [--seed N] [--histories N] [--events N] [--mix NAME]           states as words
 oracle make                          names (MIX SEED EVENTS) on stdin, stored form
 oracle replay FILE...                stored histories that do not hold now
 oracle check [--seed N] [--events N] [--length N]
@@ -49,7 +50,14 @@ fn answer(arguments: &[String]) -> Answer {
         "substitutions" => Ok(SUBSTITUTIONS.into()),
         "station" => run(rest, Form::Station),
         "trace" => run(rest, Form::Trace),
-        "generate" => generate(&Options::read(rest)?),
+        "generate" => generate(&Options::read(rest)?, Stored::write),
+        "words" => generate(&Options::read(rest)?, |stored| {
+            format!(
+                "history {}\n{}",
+                stored.name,
+                words::run(&stored.input, stored.start)
+            )
+        }),
         "make" => make(),
         "replay" => stored::replay(rest),
         "check" => {
@@ -138,7 +146,8 @@ fn run(arguments: &[String], form: Form) -> Answer {
     Ok(text::run(&read_input(), start, form))
 }
 
-fn generate(options: &Options) -> Answer {
+/// The histories that the options name, each written by `write`.
+fn generate(options: &Options, write: impl Fn(&Stored) -> String) -> Answer {
     let seed: u64 = options.get("seed", 1)?;
     let histories = options.get("histories", 1)?;
     let events: usize = options.get("events", 20)?;
@@ -149,15 +158,14 @@ fn generate(options: &Options) -> Answer {
             .iter()
             .filter(|mix| only.is_none_or(|name| name == mix.name))
         {
-            text += &made(&format!("{} {seed} {events}", mix.name))?;
+            text += &write(&made(&format!("{} {seed} {events}", mix.name))?);
         }
     }
     Ok(text)
 }
 
-fn made(name: &str) -> Answer {
-    let stored = Stored::generate(name).ok_or(format!("no history: {name}\n"))?;
-    Ok(stored.write())
+fn made(name: &str) -> Result<Stored, String> {
+    Stored::generate(name).ok_or(format!("no history: {name}\n"))
 }
 
 fn make() -> Answer {
@@ -165,7 +173,7 @@ fn make() -> Answer {
     names
         .lines()
         .filter(|line| !line.starts_with('#'))
-        .map(made)
+        .map(|name| Ok(made(name)?.write()))
         .collect()
 }
 

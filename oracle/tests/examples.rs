@@ -7,6 +7,7 @@ use oracle::{
     record::{kind, message, Node, Record},
     station::{Answer, Settings, Station, DEFAULTS, ROOM},
     text::{self, Form, Start},
+    words::{words, WORDS},
 };
 use rand::{seq::SliceRandom, Draws, RngExt};
 
@@ -213,4 +214,55 @@ fn the_first_refusal_met_wins() {
     full.set_counters(Counters::default());
     assert_eq!(code(&mut full, request.clone(), 55), 9);
     assert_eq!(code(&mut full, request, 56), 0);
+}
+
+/// The layout's places for the station of 01's listing, after RequestJoin 7.
+#[test]
+fn words_of_the_listing() {
+    let mut station = station(&DEFAULTS);
+    accepted(&mut station, Record::of(kind::REQUEST_JOIN, 7));
+    let mut expected = [0; WORDS];
+    expected[0] = ME.into();
+    expected[3..12].copy_from_slice(&DEFAULTS.map(u64::from));
+    // Timers scheduled, the next interval, the next join.
+    (expected[12], expected[13], expected[19]) = (1, 2000, 1);
+    // The bootstrap peer and the pending join of number 0, with their counts.
+    (expected[195], expected[203]) = (7, 1);
+    (expected[213], expected[229]) = (7, 1);
+    assert_eq!(
+        words(ME, &DEFAULTS, &station.parts()).expect("a state fits"),
+        expected
+    );
+}
+
+/// A Join with nine bytes of data, answered by a Neighbor of number 0, and own data of two bytes.
+#[test]
+fn words_of_data() {
+    let node = |data: &[u8]| Node {
+        id: 0,
+        data: Some(data.into()),
+    };
+    let mut station = station(&DEFAULTS);
+    let held = node(&[1, 2, 3, 4, 5, 6, 7, 8, 9]);
+    accepted(&mut station, Record::message(message::JOIN, 3, vec![held]));
+    let nodes = vec![node(&[5, 6])];
+    accepted(
+        &mut station,
+        Record {
+            nodes,
+            ..Record::of(kind::UPDATE_PEER_DATA, 0)
+        },
+    );
+    let words = words(ME, &DEFAULTS, &station.parts()).expect("a state fits");
+    assert_eq!(
+        [words[1], words[2], words[20], words[21]],
+        [1, 2, 0x0605, 0]
+    );
+    assert_eq!([words[22], words[30], words[204], words[212]], [3, 1, 3, 1]);
+    assert_eq!(
+        [words[18], words[130], words[162], words[194]],
+        [1, 3, 0, 1]
+    );
+    let data = [words[230], words[310], words[390], words[470], words[550]];
+    assert_eq!(data, [3, 9, 0x0807_0605_0403_0201, 9, 1]);
 }
