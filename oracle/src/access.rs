@@ -1,10 +1,20 @@
 //! A child module of the Rust's hyparview.rs: records in and out, and the state as plain data.
 
 use super::*;
+use std::iter;
+
 use crate::{
     collections::Limit,
-    record::{kind, message, Node, Record},
+    record::{kind, message, NodeParts, Record, View, Writer},
 };
+
+#[cfg(feature = "tools")]
+pub mod whole;
+
+/// 01: the most open requests, refused peers and data entries.
+const MOST_REQUESTS: usize = 32;
+const MOST_REFUSED: usize = 32;
+const MOST_ENTRIES: usize = 80;
 
 /// The counters of 01's code 10, at their values in a new station or chosen to start near the top.
 #[derive(Clone, Copy, Debug, Default, PartialEq, Eq)]
@@ -48,9 +58,13 @@ impl<RG: Rng + Clone> State<u32, RG> {
         let limit = |most, code| Limit { most, code };
         state
             .pending_neighbor_requests
-            .set_limit(limit(32, refusal::REQUESTS));
-        state.refused.set_limit(limit(32, refusal::REFUSED));
-        state.peer_data.set_limit(limit(80, refusal::DATA));
+            .set_limit(limit(MOST_REQUESTS, refusal::REQUESTS));
+        state
+            .refused
+            .set_limit(limit(MOST_REFUSED, refusal::REFUSED));
+        state
+            .peer_data
+            .set_limit(limit(MOST_ENTRIES, refusal::DATA));
         state
     }
 
@@ -120,6 +134,33 @@ impl<RG: Clone> Clone for State<u32, RG> {
             refill: self.refill,
         }
     }
+
+    /// The same in the memory that is there, where the parts can.
+    fn clone_from(&mut self, other: &Self) {
+        self.me = other.me;
+        self.me_data.clone_from(&other.me_data);
+        self.active_view.clone_from(&other.active_view);
+        self.passive_view.clone_from(&other.passive_view);
+        self.config.clone_from(&other.config);
+        self.timers_scheduled = other.timers_scheduled;
+        self.next_shuffle_interval = other.next_shuffle_interval;
+        self.bootstrap_peers.clone_from(&other.bootstrap_peers);
+        self.passes_alone = other.passes_alone;
+        self.passes_short = other.passes_short;
+        self.recent_neighbors.clone_from(&other.recent_neighbors);
+        self.rng.clone_from(&other.rng);
+        self.stats.clone_from(&other.stats);
+        self.pending_neighbor_requests
+            .clone_from(&other.pending_neighbor_requests);
+        self.next_neighbor_request = other.next_neighbor_request;
+        self.pending_joins.clone_from(&other.pending_joins);
+        self.next_join = other.next_join;
+        self.peer_data.clone_from(&other.peer_data);
+        self.alive_disconnect_peers
+            .clone_from(&other.alive_disconnect_peers);
+        self.refused.clone_from(&other.refused);
+        self.refill = other.refill;
+    }
 }
 
 fn rising<T: Ord>(items: impl Iterator<Item = T>) -> Vec<T> {
@@ -132,29 +173,27 @@ fn plain(data: &PeerData) -> Vec<u8> {
     data.as_bytes().to_vec()
 }
 
-fn node(info: &PeerInfo<u32>) -> Node {
-    Node {
-        id: info.id,
-        data: info.data.as_ref().map(plain),
-    }
+fn parts_of(info: &PeerInfo<u32>) -> NodeParts<'_> {
+    (info.id, bytes_of(&info.data))
 }
 
-fn info(node: &Node) -> PeerInfo<u32> {
+fn bytes_of(data: &Option<PeerData>) -> Option<&[u8]> {
+    data.as_ref().map(PeerData::as_bytes)
+}
+
+fn info((id, data): NodeParts) -> PeerInfo<u32> {
     PeerInfo {
-        id: node.id,
-        data: data(node),
+        id,
+        data: data.map(PeerData::new),
     }
-}
-
-fn data(node: &Node) -> Option<PeerData> {
-    node.data.as_deref().map(PeerData::new)
 }
 
 /// The Rust's event of a record that the reader accepted.
-pub fn event(record: &Record) -> InEvent<u32> {
-    let (peer, number) = (record.peer, record.number);
-    match record.kind {
-        kind::MESSAGE => InEvent::RecvMessage(peer, received(record)),
+pub fn event(view: &View) -> InEvent<u32> {
+    let fields = view.fields();
+    let (peer, number) = (fields.peer, fields.number);
+    match fields.kind {
+        kind::MESSAGE => InEvent::RecvMessage(peer, received(view, &fields)),
         kind::DO_SHUFFLE => InEvent::TimerExpired(Timer::DoShuffle),
         kind::DO_MAINTENANCE => InEvent::TimerExpired(Timer::DoMaintenance),
         kind::PENDING_NEIGHBOR_REQUEST => {
@@ -164,87 +203,109 @@ pub fn event(record: &Record) -> InEvent<u32> {
         kind::PEER_DISCONNECTED => InEvent::PeerDisconnected(peer),
         kind::REQUEST_JOIN => InEvent::RequestJoin(peer),
         kind::UPDATE_PEER_DATA => {
-            InEvent::UpdatePeerData(data(&record.nodes[0]).expect("kind 7 has data"))
+            InEvent::UpdatePeerData(single(view).data.expect("kind 7 has data"))
         }
         kind::QUIT => InEvent::Quit,
         other => panic!("kind {other} is no event"),
     }
 }
 
-fn received(record: &Record) -> Message<u32> {
-    let ttl = Ttl(record.ttl);
-    let nodes = record.nodes.iter().map(info);
-    match record.message {
-        message::JOIN => Message::Join(data(&record.nodes[0])),
+/// The one node of a record whose kind has one.
+fn single(view: &View) -> PeerInfo<u32> {
+    view.nodes().next().map(info).expect("a node")
+}
+
+fn received(view: &View, fields: &Record<()>) -> Message<u32> {
+    let ttl = Ttl(fields.ttl);
+    match fields.message {
+        message::JOIN => Message::Join(single(view).data),
         message::FORWARD_JOIN => Message::ForwardJoin(ForwardJoin {
-            peer: info(&record.nodes[0]),
+            peer: single(view),
             ttl,
         }),
         message::SHUFFLE => Message::Shuffle(Shuffle {
-            origin: record.second,
-            nodes: nodes.collect(),
+            origin: fields.second,
+            nodes: view.nodes().map(info).collect(),
             ttl,
         }),
         message::SHUFFLE_REPLY => Message::ShuffleReply(ShuffleReply {
-            nodes: nodes.collect(),
+            nodes: view.nodes().map(info).collect(),
         }),
         message::NEIGHBOR => Message::Neighbor(Neighbor {
-            priority: if record.flags == 1 { Priority::High } else { Priority::Low },
-            data: data(&record.nodes[0]),
+            priority: if fields.flags == 1 {
+                Priority::High
+            } else {
+                Priority::Low
+            },
+            data: single(view).data,
         }),
         message::DISCONNECT => Message::Disconnect(Disconnect {
-            alive: record.flags & 1 != 0,
-            _respond: record.flags & 2 != 0,
+            alive: fields.flags & 1 != 0,
+            _respond: fields.flags & 2 != 0,
         }),
         other => panic!("message {other} is unknown"),
     }
 }
 
-/// The output record of a message to `peer`.
-pub fn sent(peer: u32, sent: &Message<u32>) -> Record {
-    let nameless = |data: &Option<PeerData>| {
-        vec![Node {
-            id: 0,
-            data: data.as_ref().map(plain),
-        }]
-    };
-    match sent {
-        Message::Join(data) => Record::message(message::JOIN, peer, nameless(data)),
-        Message::ForwardJoin(join) => Record {
-            ttl: join.ttl.0,
-            ..Record::message(message::FORWARD_JOIN, peer, vec![node(&join.peer)])
-        },
-        Message::Shuffle(shuffle) => Record {
-            second: shuffle.origin,
-            ttl: shuffle.ttl.0,
-            ..Record::message(message::SHUFFLE, peer, shuffle.nodes.iter().map(node).collect())
-        },
-        Message::ShuffleReply(reply) => {
-            Record::message(message::SHUFFLE_REPLY, peer, reply.nodes.iter().map(node).collect())
+impl IO<u32> for Writer<'_> {
+    fn send(&mut self, peer: u32, sent: Message<u32>) {
+        let nameless = |data| iter::once((0, bytes_of(data)));
+        match &sent {
+            Message::Join(data) => self.put(Record::message(message::JOIN, peer, nameless(data))),
+            Message::ForwardJoin(join) => self.put(Record {
+                ttl: join.ttl.0,
+                ..Record::message(
+                    message::FORWARD_JOIN,
+                    peer,
+                    iter::once(parts_of(&join.peer)),
+                )
+            }),
+            Message::Shuffle(shuffle) => self.put(Record {
+                second: shuffle.origin,
+                ttl: shuffle.ttl.0,
+                ..Record::message(message::SHUFFLE, peer, shuffle.nodes.iter().map(parts_of))
+            }),
+            Message::ShuffleReply(reply) => self.put(Record::message(
+                message::SHUFFLE_REPLY,
+                peer,
+                reply.nodes.iter().map(parts_of),
+            )),
+            Message::Neighbor(neighbor) => self.put(Record {
+                flags: u8::from(neighbor.priority == Priority::High),
+                ..Record::message(message::NEIGHBOR, peer, nameless(&neighbor.data))
+            }),
+            Message::Disconnect(disconnect) => self.put(Record {
+                flags: u8::from(disconnect.alive) | u8::from(disconnect._respond) << 1,
+                ..Record::message(message::DISCONNECT, peer, iter::empty())
+            }),
         }
-        Message::Neighbor(neighbor) => Record {
-            flags: u8::from(neighbor.priority == Priority::High),
-            ..Record::message(message::NEIGHBOR, peer, nameless(&neighbor.data))
-        },
-        Message::Disconnect(disconnect) => Record {
-            flags: u8::from(disconnect.alive) | u8::from(disconnect._respond) << 1,
-            ..Record::message(message::DISCONNECT, peer, Vec::new())
-        },
     }
-}
 
-/// The output record of a timer that comes back after `delay`.
-pub fn scheduled(delay: Duration, timer: &Timer<u32>) -> Record {
-    let (kind, peer, number) = match timer {
-        Timer::DoShuffle => (kind::DO_SHUFFLE, 0, 0),
-        Timer::DoMaintenance => (kind::DO_MAINTENANCE, 0, 0),
-        Timer::PendingNeighborRequest(peer, id) => (kind::PENDING_NEIGHBOR_REQUEST, *peer, *id),
-        Timer::RetryJoin(peer, id) => (kind::RETRY_JOIN, *peer, *id),
-    };
-    Record {
-        second: delay.as_millis().try_into().expect("a delay has 32 bits"),
-        number,
-        ..Record::of(kind, peer)
+    fn emit(&mut self, event: Event<u32>) {
+        let (kind, peer) = match event {
+            Event::NeighborUp(peer) => (kind::NEIGHBOR_UP, peer),
+            Event::NeighborDown(peer) => (kind::NEIGHBOR_DOWN, peer),
+        };
+        self.put(Record::<iter::Empty<_>>::of(kind, peer));
+    }
+
+    fn schedule(&mut self, delay: Duration, timer: Timer<u32>) {
+        let (kind, peer, number) = match timer {
+            Timer::DoShuffle => (kind::DO_SHUFFLE, 0, 0),
+            Timer::DoMaintenance => (kind::DO_MAINTENANCE, 0, 0),
+            Timer::PendingNeighborRequest(peer, id) => (kind::PENDING_NEIGHBOR_REQUEST, peer, id),
+            Timer::RetryJoin(peer, id) => (kind::RETRY_JOIN, peer, id),
+        };
+        self.put(Record {
+            second: delay.as_millis().try_into().expect("a delay has 32 bits"),
+            number,
+            ..Record::<iter::Empty<_>>::of(kind, peer)
+        });
+    }
+
+    fn peer_data(&mut self, peer: u32, data: PeerData) {
+        let nodes = iter::once((0, Some(data.as_bytes())));
+        self.put(Record::<()>::of(kind::PEER_DATA, peer).with_nodes(nodes));
     }
 }
 

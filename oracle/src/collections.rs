@@ -26,7 +26,7 @@ impl Limit {
 
 macro_rules! limited {
     ($name:ident, $($parameter:ident),+) => {
-        #[derive(Clone, Debug)]
+        #[derive(Debug)]
         pub struct $name<$($parameter),+> {
             inner: collections::$name<$($parameter),+>,
             limit: Option<Limit>,
@@ -35,6 +35,21 @@ macro_rules! limited {
         impl<$($parameter),+> $name<$($parameter),+> {
             pub fn set_limit(&mut self, limit: Limit) {
                 self.limit = Some(limit);
+            }
+        }
+
+        // By hand, so that a copy can be made in the memory of an older one.
+        impl<$($parameter: Clone),+> Clone for $name<$($parameter),+> {
+            fn clone(&self) -> Self {
+                Self {
+                    inner: self.inner.clone(),
+                    limit: self.limit,
+                }
+            }
+
+            fn clone_from(&mut self, other: &Self) {
+                self.inner.clone_from(&other.inner);
+                self.limit = other.limit;
             }
         }
 

@@ -36,15 +36,24 @@ pub mod message {
     pub const DISCONNECT: u8 = 5;
 }
 
+/// A node's id and its data.
+pub type NodeParts<'a> = (u32, Option<&'a [u8]>);
+
 #[derive(Clone, Debug, Default, PartialEq, Eq)]
 pub struct Node {
     pub id: u32,
     pub data: Option<Vec<u8>>,
 }
 
+impl Node {
+    fn parts(&self) -> NodeParts<'_> {
+        (self.id, self.data.as_deref())
+    }
+}
+
 /// A record's fields; the node count and the whole length follow from the nodes.
 #[derive(Clone, Debug, Default, PartialEq, Eq)]
-pub struct Record {
+pub struct Record<N = Vec<Node>> {
     pub kind: u8,
     pub message: u8,
     pub flags: u8,
@@ -52,10 +61,10 @@ pub struct Record {
     pub second: u32,
     pub ttl: u16,
     pub number: u64,
-    pub nodes: Vec<Node>,
+    pub nodes: N,
 }
 
-impl Record {
+impl<N: Default> Record<N> {
     pub fn of(kind: u8, peer: u32) -> Self {
         Self {
             kind,
@@ -63,73 +72,196 @@ impl Record {
             ..Self::default()
         }
     }
+}
 
-    pub fn message(message: u8, peer: u32, nodes: Vec<Node>) -> Self {
-        Self {
+impl<N> Record<N> {
+    pub fn message(message: u8, peer: u32, nodes: N) -> Self {
+        Record::<()>::of(kind::MESSAGE, peer).with(message, nodes)
+    }
+
+    /// The same fields but for the message, and the nodes.
+    fn with<M>(self, message: u8, nodes: M) -> Record<M> {
+        Record {
+            kind: self.kind,
             message,
+            flags: self.flags,
+            peer: self.peer,
+            second: self.second,
+            ttl: self.ttl,
+            number: self.number,
             nodes,
-            ..Self::of(kind::MESSAGE, peer)
         }
     }
 
+    pub fn with_nodes<M>(self, nodes: M) -> Record<M> {
+        let message = self.message;
+        self.with(message, nodes)
+    }
+}
+
+impl Record {
     pub fn write(&self) -> Vec<u8> {
-        let mut nodes = Vec::new();
-        let mut data: Vec<u8> = Vec::new();
-        let start = HEADER + NODE * self.nodes.len();
-        for node in &self.nodes {
-            let offset = start + data.len();
-            nodes.extend(node.id.to_le_bytes());
-            match &node.data {
-                Some(bytes) => {
-                    nodes.extend((offset as u16).to_le_bytes());
-                    nodes.extend([bytes.len() as u8, 1]);
-                    data.extend(bytes);
-                }
-                None => nodes.extend([0; 4]),
-            }
-        }
-        let mut out = vec![self.kind, self.message, self.flags, self.nodes.len() as u8];
-        out.extend(self.peer.to_le_bytes());
-        out.extend(self.second.to_le_bytes());
-        out.extend(self.ttl.to_le_bytes());
-        out.extend(((start + data.len()) as u16).to_le_bytes());
-        out.extend(self.number.to_le_bytes());
-        out.extend(nodes);
-        out.extend(data);
-        out
+        let data = |node: &Node| node.data.as_ref().map_or(0, Vec::len);
+        let size: usize = self.nodes.iter().map(|node| NODE + data(node)).sum();
+        let mut bytes = vec![0; HEADER + size];
+        let nodes = self.nodes.iter().map(Node::parts);
+        Writer::new(&mut bytes).put(Record::clone(self).with_nodes(nodes));
+        bytes
     }
 
-    /// Reads an event. Order of refusals: 3 if under 24 bytes, 4, any other 3.
+    /// Reads an event; refused as `View::event` says.
     pub fn read_event(bytes: &[u8]) -> Result<Self, u8> {
+        let view = View::event(bytes)?;
+        let node = |(id, data): NodeParts| Node {
+            id,
+            data: data.map(<[u8]>::to_vec),
+        };
+        Ok(view.fields().with_nodes(view.nodes().map(node).collect()))
+    }
+}
+
+/// Lent bytes that take records from the front on; one that does not fit is refused (9).
+pub struct Writer<'a> {
+    out: &'a mut [u8],
+    written: usize,
+    /// The messages put, by byte 1.
+    pub sent: [u64; 6],
+}
+
+impl<'a> Writer<'a> {
+    pub fn new(out: &'a mut [u8]) -> Self {
+        Self {
+            out,
+            written: 0,
+            sent: [0; 6],
+        }
+    }
+
+    pub fn written(&self) -> usize {
+        self.written
+    }
+
+    pub fn put<'n>(&mut self, record: Record<impl Iterator<Item = NodeParts<'n>> + Clone>) {
+        let (mut count, mut size) = (0, HEADER);
+        for (_, data) in record.nodes.clone() {
+            count += 1;
+            size += NODE + data.map_or(0, <[u8]>::len);
+        }
+        let Some(bytes) = self.out[self.written..].get_mut(..size) else {
+            refusal::refuse(refusal::ROOM)
+        };
+        let (head, rest) = bytes.split_at_mut(HEADER);
+        head[..4].copy_from_slice(&[record.kind, record.message, record.flags, count as u8]);
+        head[4..8].copy_from_slice(&record.peer.to_le_bytes());
+        head[8..12].copy_from_slice(&record.second.to_le_bytes());
+        head[12..14].copy_from_slice(&record.ttl.to_le_bytes());
+        head[14..16].copy_from_slice(&(size as u16).to_le_bytes());
+        head[16..24].copy_from_slice(&record.number.to_le_bytes());
+        put_nodes(rest, count, record.nodes);
+        self.written += size;
+        if record.kind == kind::MESSAGE {
+            self.sent[usize::from(record.message)] += 1;
+        }
+    }
+}
+
+/// `count` nodes and then their data, into as many bytes as they take.
+fn put_nodes<'n>(out: &mut [u8], count: usize, nodes: impl Iterator<Item = NodeParts<'n>>) {
+    let (entries, mut rest) = out.split_at_mut(NODE * count);
+    let mut reached = HEADER + NODE * count;
+    for (entry, (id, data)) in entries.chunks_exact_mut(NODE).zip(nodes) {
+        entry[..4].copy_from_slice(&id.to_le_bytes());
+        let Some(data) = data else {
+            entry[4..].fill(0);
+            continue;
+        };
+        entry[4..6].copy_from_slice(&(reached as u16).to_le_bytes());
+        entry[6..].copy_from_slice(&[data.len() as u8, 1]);
+        let (place, after) = rest.split_at_mut(data.len());
+        place.copy_from_slice(data);
+        rest = after;
+        reached += data.len();
+    }
+}
+
+/// A record's bytes, read and found in form.
+#[derive(Clone, Copy)]
+pub struct View<'a> {
+    bytes: &'a [u8],
+}
+
+impl<'a> View<'a> {
+    /// Reads an event. Order of refusals: 3 if under 24 bytes, 4, any other 3.
+    pub fn event(bytes: &'a [u8]) -> Result<Self, u8> {
         if bytes.len() < HEADER {
             return Err(MALFORMED);
         }
         if bytes[3] > MOST_NODES {
             return Err(NODE_COUNT);
         }
-        let record = Self::read(bytes).ok_or(MALFORMED)?;
-        let allowed = record.kind <= kind::QUIT && !(record.is_timer() && record.second != 0);
-        allowed.then_some(record).ok_or(MALFORMED)
+        let view = Self { bytes };
+        let fields = view.fields();
+        let allowed = fields.kind <= kind::QUIT && !(fields.is_timer() && fields.second != 0);
+        let length = usize::from(u16_at(bytes, 14)) == bytes.len();
+        let in_form = allowed && length && fields.fit() && view.nodes_fit(&fields);
+        in_form.then_some(view).ok_or(MALFORMED)
     }
 
-    /// Reads a record of any kind from at least a header's bytes.
-    fn read(bytes: &[u8]) -> Option<Self> {
-        if usize::from(u16_at(bytes, 14)) != bytes.len() {
-            return None;
-        }
-        let record = Self {
+    /// The header's fields.
+    pub fn fields(&self) -> Record<()> {
+        let bytes = self.bytes;
+        Record {
             kind: bytes[0],
             message: bytes[1],
             flags: bytes[2],
             peer: u32_at(bytes, 4),
             second: u32_at(bytes, 8),
             ttl: u16_at(bytes, 12),
-            number: u64::from_le_bytes(bytes[16..24].try_into().ok()?),
-            nodes: read_nodes(bytes)?,
-        };
-        record.fields_fit().then_some(record)
+            number: u64::from_le_bytes(bytes[16..24].try_into().expect("eight bytes")),
+            nodes: (),
+        }
     }
 
+    /// The nodes' entries, eight bytes each; none where they do not fit in the bytes.
+    fn entries(&self) -> std::slice::ChunksExact<'a, u8> {
+        let end = HEADER + NODE * usize::from(self.bytes[3]);
+        self.bytes
+            .get(HEADER..end)
+            .unwrap_or(&[])
+            .chunks_exact(NODE)
+    }
+
+    pub fn nodes(&self) -> impl Iterator<Item = NodeParts<'a>> + Clone + 'a {
+        let bytes = self.bytes;
+        self.entries().map(move |entry| {
+            let (offset, len) = (usize::from(u16_at(entry, 4)), usize::from(entry[6]));
+            let data = (entry[7] == 1).then(|| &bytes[offset..offset + len]);
+            (u32_at(entry, 0), data)
+        })
+    }
+
+    /// Whether the nodes are those that the fields ask for, and their data stand in order without
+    /// gaps up to the last byte.
+    fn nodes_fit(&self, fields: &Record<()>) -> bool {
+        let count = usize::from(self.bytes[3]);
+        let (nameless, with_data) = (fields.is_nameless(), fields.is_data());
+        let mut reached = HEADER + NODE * count;
+        let in_order = self.entries().all(|entry| {
+            let (offset, len) = (usize::from(u16_at(entry, 4)), usize::from(entry[6]));
+            let data_fits = match entry[7] {
+                0 => offset == 0 && len == 0 && !with_data,
+                1 => offset == reached && len <= MOST_DATA,
+                _ => false,
+            };
+            reached += len;
+            data_fits && (!nameless || u32_at(entry, 0) == 0)
+        });
+        let asked = fields.is_shuffle() || count == usize::from(fields.is_single());
+        asked && in_order && reached == self.bytes.len()
+    }
+}
+
+impl Record<()> {
     fn is_timer(&self) -> bool {
         (kind::DO_SHUFFLE..=kind::RETRY_JOIN).contains(&self.kind)
     }
@@ -143,8 +275,21 @@ impl Record {
         matches!(self.kind, kind::UPDATE_PEER_DATA | kind::PEER_DATA)
     }
 
+    fn is_shuffle(&self) -> bool {
+        self.is_message(message::SHUFFLE) || self.is_message(message::SHUFFLE_REPLY)
+    }
+
+    /// Whether a node of the record has no id.
+    fn is_nameless(&self) -> bool {
+        self.is_data() || self.is_message(message::JOIN) || self.is_message(message::NEIGHBOR)
+    }
+
+    fn is_single(&self) -> bool {
+        self.is_nameless() || self.is_message(message::FORWARD_JOIN)
+    }
+
     /// Whether every field that is not named for the kind is 0, and every named one in range.
-    fn fields_fit(&self) -> bool {
+    fn fit(&self) -> bool {
         let named_peer = !matches!(
             self.kind,
             kind::DO_SHUFFLE | kind::DO_MAINTENANCE | kind::UPDATE_PEER_DATA | kind::QUIT
@@ -164,7 +309,6 @@ impl Record {
             && (named_second || self.second == 0)
             && (named_ttl || self.ttl == 0)
             && (named_number || self.number == 0)
-            && self.nodes_fit()
     }
 
     fn most_flags(&self) -> u8 {
@@ -174,38 +318,6 @@ impl Record {
             () => 0,
         }
     }
-
-    fn nodes_fit(&self) -> bool {
-        let shuffle = self.is_message(message::SHUFFLE) || self.is_message(message::SHUFFLE_REPLY);
-        let nameless =
-            self.is_data() || self.is_message(message::JOIN) || self.is_message(message::NEIGHBOR);
-        let single = nameless || self.is_message(message::FORWARD_JOIN);
-        (shuffle || self.nodes.len() == usize::from(single))
-            && (!nameless || self.nodes[0].id == 0)
-            && (!self.is_data() || self.nodes[0].data.is_some())
-    }
-}
-
-/// The nodes, if their data stand in order without gaps up to the last byte.
-fn read_nodes(bytes: &[u8]) -> Option<Vec<Node>> {
-    let count = usize::from(bytes[3]);
-    let mut reached = HEADER + NODE * count;
-    let mut nodes = Vec::new();
-    for place in (HEADER..reached).step_by(NODE) {
-        let entry = bytes.get(place..place + NODE)?;
-        let (offset, len) = (usize::from(u16_at(entry, 4)), usize::from(entry[6]));
-        let data = match entry[7] {
-            0 if offset == 0 && len == 0 => None,
-            1 if offset == reached && len <= MOST_DATA => {
-                reached += len;
-                Some(bytes.get(offset..reached)?.to_vec())
-            }
-            _ => return None,
-        };
-        let id = u32_at(entry, 0);
-        nodes.push(Node { id, data });
-    }
-    (reached == bytes.len()).then_some(nodes)
 }
 
 fn u16_at(bytes: &[u8], place: usize) -> u16 {

@@ -6,12 +6,10 @@ use rand::Draws;
 use crate::{
     hyparview::{
         access::{self, Counters, Parts},
-        Config, Message, State, Timer,
+        Config, State,
     },
-    record::{kind, Node, Record},
+    record::{View, Writer},
     text::Start,
-    topic::{Event, IO},
-    PeerData,
 };
 
 /// The room that 01 says always suffices.
@@ -101,15 +99,15 @@ impl Station {
     }
 
     fn try_handle(&self, event: &[u8], room: usize) -> Result<(State<u32, Draws>, Vec<u8>), u8> {
-        let record = Record::read_event(event)?;
+        let view = View::event(event)?;
         refusal::first_refusal(|| {
             let mut state = self.state.clone();
-            let mut output = Output {
-                bytes: Vec::new(),
-                room,
-            };
-            state.handle(access::event(&record), &mut output);
-            (state, output.bytes)
+            let mut bytes = vec![0; room];
+            let mut output = Writer::new(&mut bytes);
+            state.handle(access::event(&view), &mut output);
+            let written = output.written();
+            bytes.truncate(written);
+            (state, bytes)
         })
     }
 }
@@ -131,45 +129,4 @@ fn config(settings: &Settings) -> Option<Config> {
     config.shuffle_interval = millis(settings[7]);
     config.neighbor_request_timeout = millis(settings[8]);
     Some(config)
-}
-
-/// The lent output: a record that does not fit is refused (9).
-struct Output {
-    bytes: Vec<u8>,
-    room: usize,
-}
-
-impl Output {
-    fn put(&mut self, record: Record) {
-        let bytes = record.write();
-        if self.bytes.len() + bytes.len() > self.room {
-            refusal::refuse(refusal::ROOM);
-        }
-        self.bytes.extend(bytes);
-    }
-}
-
-impl IO<u32> for Output {
-    fn send(&mut self, peer: u32, message: Message<u32>) {
-        self.put(access::sent(peer, &message));
-    }
-
-    fn emit(&mut self, event: Event<u32>) {
-        self.put(match event {
-            Event::NeighborUp(peer) => Record::of(kind::NEIGHBOR_UP, peer),
-            Event::NeighborDown(peer) => Record::of(kind::NEIGHBOR_DOWN, peer),
-        });
-    }
-
-    fn schedule(&mut self, delay: Duration, timer: Timer<u32>) {
-        self.put(access::scheduled(delay, &timer));
-    }
-
-    fn peer_data(&mut self, peer: u32, data: PeerData) {
-        let data = Some(data.as_bytes().to_vec());
-        self.put(Record {
-            nodes: vec![Node { id: 0, data }],
-            ..Record::of(kind::PEER_DATA, peer)
-        });
-    }
 }

@@ -12,9 +12,9 @@ use rand::Draws;
 use crate::{
     check::label,
     generate::{self, mix::MIXES},
-    hyparview::{access, Message, State, Timer},
+    hyparview::{access, InEvent, Message, State, Timer},
     input::Input,
-    record::Record,
+    record::View,
     station::Station,
     text::Start,
     topic::{Event, IO},
@@ -45,14 +45,20 @@ impl IO<u32> for Silent {
 pub type RustState = State<u32, Draws>;
 
 /// An accepted event, the kind's name, and the state that it met.
-pub struct Case {
+pub struct Case<'a> {
     pub before: RustState,
     pub label: &'static str,
-    pub record: Record,
+    pub event: &'a [u8],
+}
+
+impl Case<'_> {
+    fn event(&self) -> InEvent<u32> {
+        access::event(&View::event(self.event).expect("an accepted event"))
+    }
 }
 
 /// The accepted events of a history, in order; refused ones are none of the Rust's.
-pub fn cases(input: &Input, start: Start) -> Vec<Case> {
+pub fn cases(input: &Input, start: Start) -> Vec<Case<'_>> {
     let draws = Draws::new(&input.draws[..]);
     let Some(mut station) = Station::new(input.me, &input.settings, draws) else {
         return Vec::new();
@@ -65,7 +71,7 @@ pub fn cases(input: &Input, start: Start) -> Vec<Case> {
             cases.push(Case {
                 before,
                 label: label(event),
-                record: Record::read_event(event).expect("an accepted event"),
+                event,
             });
         }
     }
@@ -74,7 +80,7 @@ pub fn cases(input: &Input, start: Start) -> Vec<Case> {
 
 /// The time of each case on its own copy of its state.
 pub fn on_copies(cases: &[&Case]) -> Duration {
-    let copy = |case: &&Case| Some((case.before.clone(), access::event(&case.record)));
+    let copy = |case: &&Case| Some((case.before.clone(), case.event()));
     let mut work: Vec<_> = cases.iter().map(copy).collect();
     let mut states = Vec::with_capacity(work.len());
     let start = Instant::now();
@@ -94,10 +100,7 @@ pub fn in_a_row(cases: &[Case]) -> Duration {
         return Duration::ZERO;
     };
     let mut state = first.before.clone();
-    let events: Vec<_> = cases
-        .iter()
-        .map(|case| access::event(&case.record))
-        .collect();
+    let events: Vec<_> = cases.iter().map(Case::event).collect();
     let start = Instant::now();
     for event in events {
         state.handle(event, &mut Silent);
@@ -118,15 +121,17 @@ pub fn fastest(rounds: usize, time: impl Fn() -> Duration) -> u128 {
 /// Nanoseconds of one `handle`: the fastest of `rounds` rounds, for each kind on copies and for
 /// all in a row.
 pub fn run(seed: u64, histories: u64, length: usize, rounds: usize) -> String {
-    let mut all = Vec::new();
+    let mut inputs = Vec::new();
     for seed in seed..seed + histories {
         for mix in MIXES {
             let history = generate::history(mix, seed, length);
-            if let Some(input) = Input::read(&history.input) {
-                all.push(cases(&input, history.start));
-            }
+            inputs.extend(Input::read(&history.input).map(|input| (input, history.start)));
         }
     }
+    let all: Vec<_> = inputs
+        .iter()
+        .map(|(input, start)| cases(input, *start))
+        .collect();
     let mut kinds: BTreeMap<_, Vec<_>> = BTreeMap::new();
     for case in all.iter().flatten() {
         kinds.entry(case.label).or_default().push(case);

@@ -1,0 +1,253 @@
+//! The linked library beside the Rust: the same histories, in one process.
+//!
+//! usage: bench [SEEDS] [EVENTS] [ROUNDS]
+
+mod ours;
+
+use std::{
+    collections::BTreeMap,
+    env,
+    hint::black_box,
+    process,
+    time::{Duration, Instant},
+};
+
+use oracle::{
+    generate::{self, mix::MIXES},
+    hyparview::access::whole::Book,
+    input::Input,
+    station::ROOM,
+    text::Start,
+    timing::{cases, fastest, in_a_row, on_copies, Case},
+};
+
+use ours::Ours;
+
+const COVERS: &str = "\
+handle: the Rust's handle alone, on an event already read; what it hands out is dropped
+whole:  the Rust doing the job of a call: reads the event's bytes, checks the station rules that its
+        types leave open, keeps a copy of the state for a refusal, handles, writes the records into
+        8192 bytes, clears the rest and raises a tally
+ours:   a call of the library, which does the same over the state's memory, every rule checked
+";
+
+/// An accepted event, with the library's state and the draws that it met.
+struct Call<'a> {
+    before: Ours,
+    event: &'a [u8],
+    draws: &'a [u32],
+}
+
+/// The accepted events of a history, as the library meets them.
+fn calls(input: &Input) -> Vec<Call<'_>> {
+    let mut calls = Vec::new();
+    let Some(mut station) = Ours::new(input) else {
+        return calls;
+    };
+    let mut out = [0; ROOM];
+    let mut draws = &input.draws[..];
+    for event in &input.events {
+        let before = station;
+        let (code, drawn) = station.handle(event, draws, &mut out);
+        if code == 0 {
+            calls.push(Call {
+                before,
+                event,
+                draws,
+            });
+            draws = &draws[drawn..];
+        }
+    }
+    calls
+}
+
+/// Both do the same: every code, count of draws, byte of output and count of the tally.
+fn assert_same(cases: &[Case], calls: &[Call]) {
+    assert_eq!(cases.len(), calls.len(), "accepted events");
+    let Some((case, call)) = cases.first().zip(calls.first()) else {
+        return;
+    };
+    let (mut state, mut station) = (case.before.clone(), call.before);
+    let mut book = Book::new(&state);
+    let (mut rust_out, mut out) = ([1; ROOM], [2; ROOM]);
+    for (case, call) in cases.iter().zip(calls) {
+        let rust = book.call(&mut state, case.event, &mut rust_out);
+        let done = station.handle(call.event, call.draws, &mut out);
+        assert_eq!((u32::from(rust.code), rust.drawn), done, "code and draws");
+        assert!(rust_out == out, "output of {}", case.label);
+        assert_eq!(book.tally, station.tally(), "tally");
+    }
+}
+
+/// The time of each call of the library on its own copy of its state.
+fn ours_on_copies(calls: &[&Call]) -> Duration {
+    let mut copies: Vec<_> = calls.iter().map(|call| call.before).collect();
+    let mut out = vec![0; ROOM];
+    let start = Instant::now();
+    for (call, copy) in calls.iter().zip(&mut copies) {
+        black_box(copy.handle(call.event, call.draws, &mut out));
+    }
+    let elapsed = start.elapsed();
+    black_box((copies, out));
+    elapsed
+}
+
+/// The time of a whole history on one state of the library, event after event.
+fn ours_in_a_row(calls: &[Call]) -> Duration {
+    let Some(first) = calls.first() else {
+        return Duration::ZERO;
+    };
+    let mut station = first.before;
+    let mut out = [0; ROOM];
+    let start = Instant::now();
+    for call in calls {
+        black_box(station.handle(call.event, call.draws, &mut out));
+    }
+    let elapsed = start.elapsed();
+    black_box((station, out));
+    elapsed
+}
+
+/// The time of the Rust's whole job for each case, on its own copy of its state.
+fn whole_on_copies(cases: &[&Case]) -> Duration {
+    let mut copies: Vec<_> = cases.iter().map(|case| case.before.clone()).collect();
+    let mut book = Book::new(&cases[0].before);
+    let mut out = vec![0; ROOM];
+    let start = Instant::now();
+    for (case, copy) in cases.iter().zip(&mut copies) {
+        black_box(book.call(copy, case.event, &mut out));
+    }
+    let elapsed = start.elapsed();
+    drop(black_box((copies, out)));
+    elapsed
+}
+
+/// The time of the Rust's whole job over a whole history on one state, event after event.
+fn whole_in_a_row(cases: &[Case]) -> Duration {
+    let Some(first) = cases.first() else {
+        return Duration::ZERO;
+    };
+    let mut state = first.before.clone();
+    let mut book = Book::new(&state);
+    let mut out = [0; ROOM];
+    let start = Instant::now();
+    for case in cases {
+        black_box(book.call(&mut state, case.event, &mut out));
+    }
+    let elapsed = start.elapsed();
+    drop(black_box((state, out)));
+    elapsed
+}
+
+/// The time of a piece of work for each call.
+fn each(rounds: usize, calls: &[&Call], work: impl Fn(&Call)) -> u128 {
+    let time = || {
+        let start = Instant::now();
+        calls.iter().for_each(|call| work(call));
+        start.elapsed()
+    };
+    fastest(rounds, time) / calls.len() as u128
+}
+
+/// Parts of a call: each is measured alone, by a call that does little else.
+fn parts(rounds: usize, calls: &[&Call]) {
+    let malformed = [0; 24];
+    let refused = |room: usize| {
+        each(rounds, calls, |call| {
+            let mut copy = call.before;
+            let mut out = [0; ROOM];
+            black_box(copy.handle(&malformed[..23], &[], &mut out[..room]));
+        })
+    };
+    let read = each(rounds, calls, |call| {
+        black_box(ours::read(call.event));
+    });
+    let checked = each(rounds, calls, |call| {
+        black_box(call.before.spare_addresses());
+    });
+    let (none, all) = (refused(0), refused(ROOM));
+    println!("ours: reading a record {read} ns; loading and checking the state {checked} ns;");
+    println!("a refused call without room {none} ns, with {ROOM} bytes to clear {all} ns");
+}
+
+/// A line of the table: nanoseconds an event, and ours beside each of the Rust's.
+fn line(name: &str, count: usize, handle: u128, whole: u128, ours: u128) {
+    let ratio = |rust: u128| ours as f64 / rust as f64;
+    let (to_handle, to_whole) = (ratio(handle), ratio(whole));
+    let [handle, whole, ours] = [handle, whole, ours].map(|time| time / count as u128);
+    println!("{name:24} {count:6} {handle:8} {whole:8} {ours:8} {to_handle:12.2} {to_whole:11.2}");
+}
+
+/// The generator's histories of all mixes that start as a new station does.
+fn inputs(seeds: usize, events: usize) -> Vec<Input> {
+    let mut inputs = Vec::new();
+    for seed in 1..=seeds as u64 {
+        for mix in MIXES {
+            let history = generate::history(mix, seed, events);
+            if history.start == Start::default() {
+                inputs.extend(Input::read(&history.input));
+            }
+        }
+    }
+    inputs
+}
+
+/// The arguments in order, with their usual values; a text in place of one ends the program.
+fn numbers(usual: [usize; 3]) -> [usize; 3] {
+    let mut arguments = env::args().skip(1);
+    usual.map(|usual| {
+        let number = arguments.next().map_or(Ok(usual), |text| text.parse());
+        match number {
+            Ok(number) if number > 0 => number,
+            _ => {
+                eprintln!("usage: bench [SEEDS] [EVENTS] [ROUNDS], each a number from 1 on");
+                process::exit(1)
+            }
+        }
+    })
+}
+
+fn main() {
+    let [seeds, events, rounds] = numbers([5, 200, 30]);
+    refusal::quiet_counters();
+    let inputs = inputs(seeds, events);
+    let rust: Vec<_> = inputs
+        .iter()
+        .map(|input| cases(input, Start::default()))
+        .collect();
+    let ours: Vec<_> = inputs.iter().map(calls).collect();
+    let mut kinds: BTreeMap<_, (Vec<&Case>, Vec<&Call>)> = BTreeMap::new();
+    for (cases, calls) in rust.iter().zip(&ours) {
+        assert_same(cases, calls);
+        for (case, call) in cases.iter().zip(calls) {
+            let kind = kinds.entry(case.label).or_default();
+            kind.0.push(case);
+            kind.1.push(call);
+        }
+    }
+    print!("{COVERS}");
+    println!(
+        "{:24} {:>6} {:>8} {:>8} {:>8} {:>12} {:>11}",
+        "event, ns", "cases", "handle", "whole", "ours", "ours/handle", "ours/whole"
+    );
+    for (name, (cases, calls)) in &kinds {
+        let handle = fastest(rounds, || on_copies(cases));
+        let whole = fastest(rounds, || whole_on_copies(cases));
+        let ours = fastest(rounds, || ours_on_copies(calls));
+        line(name, cases.len(), handle, whole, ours);
+    }
+    let count = rust.iter().map(Vec::len).sum();
+    let sum = |time: &dyn Fn(&[Case]) -> Duration| {
+        rust.iter()
+            .map(|cases| fastest(rounds, || time(cases)))
+            .sum()
+    };
+    let (handle, whole) = (sum(&in_a_row), sum(&whole_in_a_row));
+    let ours_sum = ours
+        .iter()
+        .map(|calls| fastest(rounds, || ours_in_a_row(calls)))
+        .sum();
+    line("all, in a row", count, handle, whole, ours_sum);
+    let all: Vec<&Call> = ours.iter().flatten().collect();
+    parts(rounds, &all);
+}
