@@ -1,9 +1,13 @@
 #!/usr/bin/env python3
-"""words_fields.py: writes crates/words/specs/Layout.antt and crates/words/proofs/Fields.antt from the table of the layout (run `rt fmt` after it).
+"""crates/words/specs/Layout.antt and crates/words/proofs/Fields.antt, from the table of the layout.
+
+usage: tools/words_fields.py make | check
 
 A number or a section that is added or moved is one line here; `Layout` in crates/words/src/lib.rt has the same places.
 """
-import pathlib
+import sys
+
+import tool
 
 # the numbers, from word 0 on
 NUMBERS = [
@@ -217,9 +221,9 @@ def fields():
 
 
 def main():
-    crate = pathlib.Path(__file__).resolve().parent.parent / "crates/words"
-    (crate / "specs/Layout.antt").write_text(layout(), encoding="utf-8")
-    (crate / "proofs/Fields.antt").write_text(fields(), encoding="utf-8")
+    if sys.argv[1:] not in (["make"], ["check"]):
+        tool.usage(__doc__)
+    tool.made({"crates/words/specs/Layout.antt": layout().encode(), "crates/words/proofs/Fields.antt": fields().encode()}, sys.argv[1])
 
 
 main()
