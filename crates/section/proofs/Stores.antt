@@ -146,8 +146,8 @@ module _ (ds : List ℕ) (at n : ℕ) (s₀ s : List ℕ) (i k : ℕ) (v : Mixin
   pub left-to-draw : 0 < i → k < length ds
   left-to-draw h = omega (arith, v .place, v .there)
 
-  pub drawn : (d : ℕ) → d % (i + 1) < length s
-  drawn d = omega (arith, mod-lt d {m = i + 1} (omega arith), v .low, v .room)
+  pub drawn : (d j : ℕ) → 0 < i → j ≤ 1 → d % (i + j) < length s
+  drawn d j h k = omega (arith, mod-lt d {m = i + j} (omega arith), v .low, v .room)
 
   pub left-place : i < length s
   left-place = omega (arith, v .low, v .room)

@@ -37,7 +37,7 @@ rem-j : tie.Need-rem-j Inv-loop μ-loop
 rem-j c = search needs
 
 exchange-requires : tie.Need-exchange-requires Inv-loop μ-loop
-exchange-requires c κs = (search left-place, search drawn)
+exchange-requires c κs = (search left-place, search (drawn, needs))
 
 add-k : tie.Need-add-k Inv-loop μ-loop
 add-k c = search needs
