@@ -1,0 +1,6 @@
+pub mod Walk
+pub mod Stores
+pub mod Order
+pub mod Pack
+pub mod Ways
+pub mod Kept

@@ -1,0 +1,546 @@
+// Document 02, S-1: the timer queue of util.rs, `TimerMap`, in 513 words that the caller lends.
+ghost use mathlib.Core.Path.{_≡_};
+ghost use mathlib.Core.List.{List, [], _∷_, _++_};
+ghost use Prim.Native.Nat.{_+_, _*_, _-_, _≤_, _<_};
+ghost use lib.ListN.{length, take, drop, getD, replicate};
+ghost use lib.Dec.{ltb};
+ghost use Rattle.lists.specs.Lists.{choose, shift-remove};
+ghost use Rattle.lists.specs.Bytes.{overwrite};
+ghost use Rattle.lists.specs.Tests.{every};
+ghost use Rattle.timer_map.specs.Entries.{timer-ok, entry-ok, refusal, insert, soonest, no-entry};
+ghost use Rattle.timer_map.specs.Words.{count-of, entry-at, entries-at, entries-of, row, unused, queue-ok, pack, Sound};
+ghost use Rattle.timer_map.specs.Calls.{put, no-due, due-in, popped-words, refused-pop, inserted, taken-out, first-of, first-in, count-in, renewed};
+
+// The lent words: the count, then a row for each place. A sum is a constant of its own.
+const WORDS: usize = 513;
+
+pub const COUNT: usize = 0;
+
+const ROWS: usize = 1;
+
+const ROW: usize = 8;
+
+const LAST_ROW: usize = 505;
+
+const CAPACITY: u64 = 64;
+
+// The latest due time.
+const LATEST: u64 = 18446744073709551615;
+
+// The kinds that a timer can have; none of them has an id. What S-7 adds is added to `timer_ok` alone.
+const FIRST_KIND: u64 = 1;
+
+const LAST_KIND: u64 = 4;
+
+// The codes of refusals.
+const BROKEN: u32 = 2;
+
+const MALFORMED: u32 = 3;
+
+const FULL: u32 = 11;
+
+const TOO_LATE: u32 = 12;
+
+// 32 bytes, in words.
+#[repr(C)]
+pub struct Id(pub u64, pub u64, pub u64, pub u64);
+
+// What a timer is: kind, peer and number as in its record, and the id of S-7's timers.
+#[repr(C)]
+pub struct Timer {
+    pub kind: u64,
+    pub peer: u64,
+    pub number: u64,
+    pub id: Id,
+}
+
+// TimerMapEntry without its sequence number: entries stand in the order put in.
+#[repr(C)]
+pub struct Entry {
+    pub time: u64,
+    pub item: Timer,
+}
+
+// The entry that is to come out, and its place; without one all of it is zero.
+pub struct Due {
+    pub found: bool,
+    pub place: usize,
+    pub entry: Entry,
+}
+
+// What taking out hands back; without an entry all of it is zero.
+#[repr(C)]
+pub struct Popped {
+    pub code: u32,
+    pub found: bool,
+    pub entry: Entry,
+}
+
+// The next due time, if any.
+#[repr(C)]
+pub struct First {
+    pub code: u32,
+    pub found: bool,
+    pub time: u64,
+}
+
+// How many timers are held.
+#[repr(C)]
+pub struct Len {
+    pub code: u32,
+    pub count: u64,
+}
+
+// Whether a timer can be so.
+pub fn timer_ok(x: Timer) -> bool
+    ensures { λ r. ⌜ r ≡ timer-ok x ⌝ }
+{
+    let id = x.id;
+    let no_id = (id.0 == 0) & ((id.1 == 0) & ((id.2 == 0) & (id.3 == 0)));
+    (FIRST_KIND <= x.kind) & ((x.kind <= LAST_KIND) & no_id)
+}
+
+// The entry whose row stands at place `at`.
+fn entry_at(q: &[u64], at: usize) -> Entry
+    requires { ⌜ at + 8 ≤ length (now q) ⌝ }
+    ensures { λ r. ⌜ r ≡ entry-at (now (q .entry)) at ⌝ }
+{
+    let id = Id(q[at + 4], q[at + 5], q[at + 6], q[at + 7]);
+    let item = Timer {
+        kind: q[at + 1],
+        peer: q[at + 2],
+        number: q[at + 3],
+        id: id,
+    };
+    Entry {
+        time: q[at],
+        item: item,
+    }
+}
+
+// The row of an entry.
+fn row(e: Entry) -> [u64; 8]
+    ensures { λ r. ⌜ r ≡ row e ⌝ }
+{
+    let x = e.item;
+    let id = x.id;
+    [e.time, x.kind, x.peer, x.number, id.0, id.1, id.2, id.3]
+}
+
+// Whether the first n rows are timers.
+fn entries_ok(q: &[u64], n: usize) -> bool
+    requires { ⌜ 1 + 8 * n ≤ length (now q) ⌝ }
+    ensures { λ r. ⌜ r ≡ every entry-ok (entries-at (now (q .entry)) 1 n) ⌝ }
+{
+    let mut ok = true;
+    let mut at = ROWS;
+    let mut i: usize = 0;
+    while i < n {
+        let e = entry_at(q, at);
+        let x = e.item;
+        ok = ok & timer_ok(x);
+        at += ROW;
+        i += 1;
+    }
+    ok
+}
+
+// Whether the words from place `from` on are zero.
+fn zero_from(q: &[u64], from: usize) -> bool
+    requires { ⌜ from ≤ length (now q) ⌝ }
+    ensures { λ r. ⌜ r ≡ every unused (drop from (now (q .entry))) ⌝ }
+{
+    let mut ok = true;
+    let mut i = from;
+    while i < q.len() {
+        ok = ok & (q[i] == 0);
+        i += 1;
+    }
+    ok
+}
+
+// Whether the words keep the queue's own rules.
+pub fn is_ok(q: &[u64]) -> bool
+    ensures { λ r. ⌜ r ≡ queue-ok (now (q .entry)) ⌝ }
+{
+    if q.len() != WORDS {
+        return false;
+    }
+    let n = q[COUNT];
+    if CAPACITY < n {
+        return false;
+    }
+    let count = n as usize;
+    let end = ROWS + ROW * count;
+    entries_ok(q, count) & zero_from(q, end)
+}
+
+// The words ws, from place `at` on.
+fn put_words(q: &mut [u64], at: usize, ws: &[u64])
+    requires { ⌜ at + length (now ws) ≤ length (now q) ⌝ }
+    ensures { λ _. ⌜ now (q .exit) ≡ overwrite (now (q .entry)) at (now (ws .entry)) ⌝ }
+{
+    let mut i: usize = 0;
+    while i < ws.len() {
+        q[at + i] = ws[i];
+        i += 1;
+    }
+}
+
+// The words from place `from` on become zero.
+fn clear_from(q: &mut [u64], from: usize)
+    requires { ⌜ from ≤ length (now q) ⌝ }
+    ensures { λ _. ⌜ now (q .exit) ≡ take from (now (q .entry)) ++ replicate (length (now (q .entry)) - from) 0 ⌝ }
+{
+    let mut i = from;
+    while i < q.len() {
+        q[i] = 0;
+        i += 1;
+    }
+}
+
+// The row at place `at` goes, and the later ones move down; the last row stays as it is.
+fn shift_down(q: &mut [u64], at: usize)
+    requires { ⌜ length (now q) ≡ 513 ⌝ }
+    requires { ⌜ at ≤ 505 ⌝ }
+    ensures { λ _. ⌜ now (q .exit) ≡ take at (now (q .entry)) ++ (drop (at + 8) (now (q .entry)) ++ drop 505 (now (q .entry))) ⌝ }
+{
+    let mut k = at;
+    while k < LAST_ROW {
+        q[k] = q[k + ROW];
+        k += 1;
+    }
+}
+
+// One more entry, at the end.
+fn push(q: &mut [u64], e: Entry)
+    requires { ⌜ Sound (now q) ⌝ }
+    requires { ⌜ count-of (now q) < 64 ⌝ }
+    ensures { λ _. ⌜ now (q .exit) ≡ pack (entries-of (now (q .entry)) ++ (e ∷ [])) ⌝ }
+{
+    let n = q[COUNT];
+    let a = row(e);
+    let at = ROWS + ROW * (n as usize);
+    put_words(q, at, &a);
+    q[COUNT] = n + 1;
+}
+
+// The i-th entry goes, and the later ones keep their order.
+pub fn remove(q: &mut [u64], i: usize)
+    requires { ⌜ Sound (now q) ⌝ }
+    requires { ⌜ i < count-of (now q) ⌝ }
+    ensures { λ _. ⌜ now (q .exit) ≡ pack (shift-remove i (entries-of (now (q .entry)))) ⌝ }
+{
+    let n = q[COUNT];
+    let at = ROWS + ROW * i;
+    shift_down(q, at);
+    clear_from(q, LAST_ROW);
+    q[COUNT] = n - 1;
+}
+
+// The first n entries stay, and the later ones go.
+pub fn truncate(q: &mut [u64], n: u64)
+    requires { ⌜ Sound (now q) ⌝ }
+    requires { ⌜ n ≤ count-of (now q) ⌝ }
+    ensures { λ _. ⌜ now (q .exit) ≡ pack (take n (entries-of (now (q .entry)))) ⌝ }
+{
+    let at = ROWS + ROW * (n as usize);
+    clear_from(q, at);
+    q[COUNT] = n;
+}
+
+// Why a timer with this delay cannot be put in beside n others, or 0.
+fn refusal(time: u64, delay: u64, n: u64) -> u32
+    ensures { λ r. ⌜ r ≡ refusal time delay n ⌝ }
+{
+    let late = LATEST - time < delay;
+    let full = CAPACITY <= n;
+    if late {
+        return TOO_LATE;
+    }
+    if full {
+        return FULL;
+    }
+    0
+}
+
+// A timer into a queue that keeps its rules.
+pub fn insert_ok(q: &mut [u64], time: u64, delay: u64, item: Timer) -> u32
+    requires { ⌜ Sound (now q) ⌝ }
+    ensures { λ r. ⌜ record { code = r; words = now (q .exit) } ≡ put (insert time delay item (entries-of (now (q .entry)))) ⌝ }
+{
+    if timer_ok(item) {
+        let code = refusal(time, delay, q[COUNT]);
+        if code != 0 {
+            return code;
+        }
+        let e = Entry {
+            time: time + delay,
+            item: item,
+        };
+        push(q, e);
+        return 0;
+    }
+    MALFORMED
+}
+
+// TimerMap::insert, by the time and a delay: 0, or 2, 3 (no timer), 12, 11, and then every word is as it was.
+#[no_mangle]
+pub extern "C" fn timer_map_insert(q: &mut [u64], time: u64, delay: u64, item: Timer) -> u32
+    ensures { λ r. ⌜ record { code = r; words = now (q .exit) } ≡ inserted time delay item (now (q .entry)) ⌝ }
+{
+    if is_ok(q) {
+        return insert_ok(q, time, delay, item);
+    }
+    BROKEN
+}
+
+// The one of two places whose row is due earlier; where both are due at one time, the one that stood first.
+fn earlier(q: &[u64], best: usize, i: usize) -> usize
+    requires { ⌜ 9 + 8 * best ≤ length (now q) ⌝ }
+    requires { ⌜ 9 + 8 * i ≤ length (now q) ⌝ }
+    ensures { λ r. ⌜ r ≡ choose (ltb (getD (now (q .entry)) (1 + 8 * i) 0) (getD (now (q .entry)) (1 + 8 * best) 0)) i best ⌝ }
+{
+    let old = ROWS + ROW * best;
+    let new = ROWS + ROW * i;
+    if q[new] < q[old] {
+        return i;
+    }
+    best
+}
+
+// The place of the first of n entries with the smallest due time.
+fn soonest(q: &[u64], n: usize) -> usize
+    requires { ⌜ 1 + 8 * n ≤ length (now q) ⌝ }
+    requires { ⌜ 0 < n ⌝ }
+    ensures { λ r. ⌜ (r ≡ soonest (entries-at (now (q .entry)) 1 n)) × (r < n) ⌝ }
+{
+    let mut best: usize = 0;
+    let mut i: usize = 0;
+    while i < n {
+        best = earlier(q, best, i);
+        i += 1;
+    }
+    best
+}
+
+fn no_entry() -> Entry
+    ensures { λ r. ⌜ r ≡ no-entry ⌝ }
+{
+    let id = Id(0, 0, 0, 0);
+    let item = Timer {
+        kind: 0,
+        peer: 0,
+        number: 0,
+        id: id,
+    };
+    Entry {
+        time: 0,
+        item: item,
+    }
+}
+
+fn no_due() -> Due
+    ensures { λ r. ⌜ r ≡ no-due ⌝ }
+{
+    let e = no_entry();
+    Due {
+        found: false,
+        place: 0,
+        entry: e,
+    }
+}
+
+// Without an entry: none is due, or the code of a refusal.
+fn no_pop(code: u32) -> Popped
+    ensures { λ r. ⌜ r ≡ refused-pop code ⌝ }
+{
+    let e = no_entry();
+    Popped {
+        code: code,
+        found: false,
+        entry: e,
+    }
+}
+
+// The first entry with the smallest due time, where that is at most the limit, of a queue that keeps its rules.
+pub fn find_due(q: &[u64], limit: u64) -> Due
+    requires { ⌜ Sound (now q) ⌝ }
+    ensures { λ r. ⌜ r ≡ due-in limit (entries-of (now (q .entry))) ⌝ }
+{
+    let n = q[COUNT] as usize;
+    if n == 0 {
+        return no_due();
+    }
+    let i = soonest(q, n);
+    let at = ROWS + ROW * i;
+    let e = entry_at(q, at);
+    if limit < e.time {
+        return no_due();
+    }
+    Due {
+        found: true,
+        place: i,
+        entry: e,
+    }
+}
+
+// Taking out of a queue that keeps its rules.
+fn pop_ok(q: &mut [u64], limit: u64) -> Popped
+    requires { ⌜ Sound (now q) ⌝ }
+    ensures { λ r. ⌜ record { answer = r; words = now (q .exit) } ≡ popped-words limit (entries-of (now (q .entry))) ⌝ }
+{
+    let d = find_due(q, limit);
+    if d.found {
+        let i = d.place;
+        let e = d.entry;
+        remove(q, i);
+        return Popped {
+            code: 0,
+            found: true,
+            entry: e,
+        };
+    }
+    no_pop(0)
+}
+
+// TimerMap::pop_before: the first of the entries with the smallest due time, where that is at most the limit.
+#[no_mangle]
+pub extern "C" fn timer_map_pop_before(q: &mut [u64], limit: u64) -> Popped
+    ensures { λ r. ⌜ record { answer = r; words = now (q .exit) } ≡ taken-out limit (now (q .entry)) ⌝ }
+{
+    if is_ok(q) {
+        return pop_ok(q, limit);
+    }
+    no_pop(BROKEN)
+}
+
+// The next due time of a queue that keeps its rules.
+fn first_ok(q: &[u64]) -> First
+    requires { ⌜ Sound (now q) ⌝ }
+    ensures { λ r. ⌜ r ≡ first-of (entries-of (now (q .entry))) ⌝ }
+{
+    let n = q[COUNT] as usize;
+    if n == 0 {
+        return First {
+            code: 0,
+            found: false,
+            time: 0,
+        };
+    }
+    let i = soonest(q, n);
+    let at = ROWS + ROW * i;
+    First {
+        code: 0,
+        found: true,
+        time: q[at],
+    }
+}
+
+// TimerMap::first: the next due time.
+#[no_mangle]
+pub extern "C" fn timer_map_first(q: &[u64]) -> First
+    ensures { λ r. ⌜ r ≡ first-in (now (q .entry)) ⌝ }
+{
+    if is_ok(q) {
+        return first_ok(q);
+    }
+    First {
+        code: BROKEN,
+        found: false,
+        time: 0,
+    }
+}
+
+// How many timers are held.
+#[no_mangle]
+pub extern "C" fn timer_map_len(q: &[u64]) -> Len
+    ensures { λ r. ⌜ r ≡ count-in (now (q .entry)) ⌝ }
+{
+    if is_ok(q) {
+        return Len {
+            code: 0,
+            count: q[COUNT],
+        };
+    }
+    Len {
+        code: BROKEN,
+        count: 0,
+    }
+}
+
+// The lent words become the empty queue; code 2 where they are not as many as a queue has.
+#[no_mangle]
+pub extern "C" fn timer_map_new(q: &mut [u64]) -> u32
+    ensures { λ r. ⌜ record { code = r; words = now (q .exit) } ≡ renewed (now (q .entry)) ⌝ }
+{
+    if q.len() != WORDS {
+        return BROKEN;
+    }
+    clear_from(q, 0);
+    0
+}
+
+// A queue by value.
+#[repr(C)]
+pub struct TimerMap {
+    pub words: [u64; 513],
+}
+
+// A queue, and the code of what was done to it.
+pub struct Inserted {
+    pub code: u32,
+    pub map: TimerMap,
+}
+
+// A queue, and what was taken out of it.
+pub struct Drawn {
+    pub answer: Popped,
+    pub map: TimerMap,
+}
+
+impl TimerMap {
+    pub fn new() -> TimerMap
+        ensures { λ r. ⌜ r .words ≡ pack [] ⌝ }
+    {
+        TimerMap { words: [0u64; 513] }
+    }
+
+    pub fn insert(self, time: u64, delay: u64, item: Timer) -> Inserted
+        ensures { λ r. ⌜ record { code = r .code; words = r .map .words } ≡ inserted time delay item (self .words) ⌝ }
+    {
+        let mut words = self.words;
+        let code = timer_map_insert(&mut words, time, delay, item);
+        let map = TimerMap { words: words };
+        Inserted {
+            code: code,
+            map: map,
+        }
+    }
+
+    pub fn pop_before(self, limit: u64) -> Drawn
+        ensures { λ r. ⌜ record { answer = r .answer; words = r .map .words } ≡ taken-out limit (self .words) ⌝ }
+    {
+        let mut words = self.words;
+        let answer = timer_map_pop_before(&mut words, limit);
+        let map = TimerMap { words: words };
+        Drawn {
+            answer: answer,
+            map: map,
+        }
+    }
+
+    pub fn first(self) -> First
+        ensures { λ r. ⌜ r ≡ first-in (self .words) ⌝ }
+    {
+        let words = self.words;
+        timer_map_first(&words)
+    }
+
+    pub fn len(self) -> Len
+        ensures { λ r. ⌜ r ≡ count-in (self .words) ⌝ }
+    {
+        let words = self.words;
+        timer_map_len(&words)
+    }
+}
