@@ -1,0 +1,267 @@
+-- Laws of the walk over an output's timers.
+-- Assumes nothing.
+use Prim.Native.Nat.{ℕ, zero, suc, _+_, _-_, _≤_, _<_}
+use mathlib.Core.Path.{_≡_, refl, sym, ap, _∙_, subst}
+use mathlib.Core.Bool.{Bool, true, false, _&&_}
+use mathlib.Core.List.{List, [], _∷_, _++_, append-assoc, append-nil}
+use native.Mathlib.Omega.{arith}
+use lib.ListN.{length, take, drop, length-drop, length-append}
+use lib.Seq.{take-all, take-append-seam, length-take-le}
+use lib.Dec.{ltb, leb, eqb}
+use borrow.Author.Tests.{lt-ltb, le-ltb, eq-eqb, ne-eqb}
+use Rattle.lists.specs.Lists.{choose}
+use Rattle.lists.proofs.Choice.{by-choice, split, choose-yes, choose-no}
+use Rattle.record.specs.declared.Header.{Header}
+use Rattle.record.specs.declared.Answer.{Answer}
+use Rattle.record.specs.declared.Answer.the-variants as Answers
+use Rattle.record.specs.Read.{header-of, is-timer}
+use Rattle.record.specs.Answers.{answer}
+use Rattle.history.specs.Ledger.{whole-length}
+use Rattle.timer_map.specs.Entries.{Put, insert}
+use Rattle.timer_map.specs.Words.{count-of, entries-of, queue-ok, pack, Sound}
+use Rattle.timer_map.specs.Calls.{PutWords, put}
+use Rattle.timer_map.specs.declared.Entry.{Entry}
+use Rattle.timer_map.proofs.Pack.{entries-pack, sound}
+use Rattle.timer_map.proofs.Kept.{Good, good-insert, good-sound, sound-good, Inserts, refused, done, inserts}
+use Rattle.timer_events.specs.declared.Start.{Start}
+use Rattle.timer_events.specs.Records.{no-start, started, started-by, start-of, timer-of, timers-in, insert-all, all-or-none, insert-records, records-inserted}
+
+-- ---- the timer of one record
+
+module _ (n : ℕ) (b : List ℕ) where
+  pub short-start : (r : Start) → length b < n → r ≡ no-start → r ≡ start-of n b
+  unfolding start-of
+  short-start r h e = e ∙ sym (choose-yes _ _ _ (lt-ltb (length b) n h))
+
+  pub read-start : (r : Start) (a : Answer) (h : Header) → n ≤ length b → a ≡ answer (take n b) → a ≡ Answers.Record h → r ≡ started h → r ≡ start-of n b
+  unfolding start-of started-by
+  read-start r a h l p q e = e ∙ sym (choose-no _ _ _ (le-ltb (length b) n l) ∙ ap started-by (sym p ∙ q))
+
+  pub no-record : (r : Start) (a : Answer) → n ≤ length b → a ≡ answer (take n b) → a ≡ Answers.Malformed → r ≡ no-start → r ≡ start-of n b
+  unfolding start-of started-by
+  no-record r a l p q e = e ∙ sym (choose-no _ _ _ (le-ltb (length b) n l) ∙ ap started-by (sym p ∙ q))
+
+pub part-long : (n : ℕ) (b : List ℕ) → n ≤ length b → n ≡ length (take n b)
+part-long n b h = sym (length-take-le n b h)
+
+size-is : (b : List ℕ) (h : Header) → h ≡ header-of b → h .size ≡ whole-length b
+unfolding header-of whole-length
+size-is b h e = ap (λ (x : Header). x .size) e
+
+-- ---- one after the other
+
+unfoldable next : ℕ → List Start → Put → Put
+next time ys p = choose (eqb (p .code) 0) (insert-all time ys (p .entries)) p
+
+insert-all-append : (time : ℕ) (xs ys : List Start) (es : List Entry) → insert-all time (xs ++ ys) es ≡ next time ys (insert-all time xs es)
+unfolding insert-all next
+insert-all-append time [] ys es = sym (choose-yes (eqb 0 0) _ _ refl)
+insert-all-append time (x ∷ xs) ys es =
+    let p : Put = insert time (x .delay) (x .item) es in
+    split (eqb (p .code) 0)
+    (λ t. choose-yes _ _ _ t ∙ insert-all-append time xs ys (p .entries) ∙ ap (next time ys) (sym (choose-yes (eqb (p .code) 0) (insert-all time xs (p .entries)) p t)))
+    (λ t. choose-no _ _ _ t ∙ sym (ap (next time ys) (choose-no (eqb (p .code) 0) (insert-all time xs (p .entries)) p t) ∙ choose-no _ _ _ t))
+
+-- a single one
+one-insert : (time : ℕ) (x : Start) (es : List Entry) → insert-all time (x ∷ []) es ≡ insert time (x .delay) (x .item) es
+unfolding insert-all
+one-insert time x es = go (inserts time (x .delay) (x .item) es)
+  where
+    go : Inserts time (x .delay) (x .item) es → choose (eqb (insert time (x .delay) (x .item) es .code) 0) (record { code = 0; entries = insert time (x .delay) (x .item) es .entries }) (insert time (x .delay) (x .item) es) ≡ insert time (x .delay) (x .item) es
+    go (refused c n m e) = choose-no _ _ _ (ap (λ (p : Put). eqb (p .code) 0) e ∙ ne-eqb c 0 n)
+    go (done t l e) = choose-yes _ _ _ (ap (λ (p : Put). eqb (p .code) 0) e) ∙ (λ i. record { code = ap (λ (p : Put). p .code) (sym e) i; entries = insert time (x .delay) (x .item) es .entries })
+
+pub good-all : (time : ℕ) (xs : List Start) (es : List Entry) → Good es → Good (insert-all time xs es .entries)
+unfolding insert-all
+good-all time [] es g = g
+good-all time (x ∷ xs) es g =
+    by-choice (λ (p : Put). Good (p .entries)) (eqb (insert time (x .delay) (x .item) es .code) 0)
+    (λ t. good-all time xs (insert time (x .delay) (x .item) es .entries) (good-insert time (x .delay) (x .item) es g))
+    (λ t. good-insert time (x .delay) (x .item) es g)
+
+-- what was held stays in front
+pub record Extends (es fs : List Entry) : Type 0 where
+  pub more : List Entry
+  pub is : fs ≡ es ++ more
+
+extends-insert : (time delay : ℕ) (x : Start) (es : List Entry) → Extends es (insert time (x .delay) (x .item) es .entries)
+extends-insert time delay x es = go (inserts time (x .delay) (x .item) es)
+  where
+    go : Inserts time (x .delay) (x .item) es → Extends es (insert time (x .delay) (x .item) es .entries)
+    go (refused c n m e) = record { more = []; is = ap (λ (p : Put). p .entries) e ∙ sym (append-nil es) }
+    go (done t l e) = record { more = record { time = time + x .delay; item = x .item } ∷ []; is = ap (λ (p : Put). p .entries) e }
+
+pub extends-all : (time : ℕ) (xs : List Start) (es : List Entry) → Extends es (insert-all time xs es .entries)
+unfolding insert-all
+extends-all time [] es = record { more = []; is = sym (append-nil es) }
+extends-all time (x ∷ xs) es =
+    by-choice (λ (p : Put). Extends es (p .entries)) (eqb (insert time (x .delay) (x .item) es .code) 0)
+    (λ t. let a : Extends es (insert time (x .delay) (x .item) es .entries) = extends-insert time 0 x es in
+    let b : Extends (insert time (x .delay) (x .item) es .entries) (insert-all time xs (insert time (x .delay) (x .item) es .entries) .entries) = extends-all time xs (insert time (x .delay) (x .item) es .entries) in
+    record { more = a .more ++ b .more; is = b .is ∙ ap (λ (l : List Entry). l ++ b .more) (a .is) ∙ append-assoc es (a .more) (b .more) })
+    (λ t. extends-insert time 0 x es)
+
+-- ---- insert_record
+
+abbrev words-of : ℕ → List ℕ → PutWords
+words-of c l = record { code = c; words = l }
+
+module _ (ws b : List ℕ) (h : Header) (time : ℕ) (v : Sound ws) (e : h ≡ header-of b) where
+  pub put-timer : (x : Start) (r : PutWords) → r ≡ put (insert time (x .delay) (x .item) (entries-of ws)) → x ≡ start-of (h .size) b → (leb 1 (h .kind) && leb (h .kind) 4) ≡ true
+      → r ≡ put (insert-all time (timer-of b) (entries-of ws))
+  unfolding timer-of is-timer
+  put-timer x r p q t =
+      let k : x ≡ start-of (whole-length b) b = q ∙ ap (λ (n : ℕ). start-of n b) (size-is b h e) in
+      let u : is-timer (header-of b) ≡ true = sym (ap is-timer e) ∙ t in
+      p ∙ ap put (sym (one-insert time x (entries-of ws)) ∙ ap (λ (y : Start). insert-all time (y ∷ []) (entries-of ws)) k ∙ ap (λ (l : List Start). insert-all time l (entries-of ws)) (sym (choose-yes _ _ _ u)))
+
+  pub put-other : (leb 1 (h .kind) && leb (h .kind) 4) ≡ false → record { code = 0; words = ws } ≡ put (insert-all time (timer-of b) (entries-of ws))
+  unfolding timer-of is-timer insert-all put
+  put-other t =
+      let u : is-timer (header-of b) ≡ false = sym (ap is-timer e) ∙ t in
+      ap (words-of 0) (v .is) ∙ ap (λ (l : List Start). put (insert-all time l (entries-of ws))) (sym (choose-no _ _ _ u))
+
+-- ---- the walk
+
+timers-few : (k : ℕ) (b : List ℕ) → length b < 24 → timers-in k b ≡ []
+unfolding timers-in
+timers-few zero b h = refl
+timers-few (suc k) b h = choose-yes _ _ _ (lt-ltb (length b) 24 h)
+
+timers-none : (k : ℕ) (b : List ℕ) → whole-length b ≡ 0 → timers-in k b ≡ []
+unfolding timers-in
+timers-none zero b e = refl
+timers-none (suc k) b e = by-choice (λ (l : List Start). l ≡ []) (ltb (length b) 24) (λ _. refl) (λ _. choose-yes _ _ _ (eq-eqb (whole-length b) 0 e))
+
+timers-one : (k : ℕ) (b : List ℕ) → 24 ≤ length b → (whole-length b ≡ 0 → ⊥) → timers-in (suc k) b ≡ timer-of b ++ timers-in k (drop (whole-length b) b)
+unfolding timers-in
+timers-one k b h e = choose-no _ _ _ (le-ltb (length b) 24 h) ∙ choose-no _ _ _ (ne-eqb (whole-length b) 0 e)
+
+-- The timers of `rest` are to come, and q has those before them.
+pub record Inserting (time : ℕ) (whole : PutWords) (q₀ q rest : List ℕ) : Type 0 where
+  pub sound : Sound q
+  pub first : length q₀ ≡ 513
+  pub fuel : ℕ
+  pub enough : length rest ≤ fuel
+  pub same : whole ≡ put (insert-all time (timers-in fuel rest) (entries-of q))
+
+-- the timers of `rest` are to come, after p
+record Unrolled (time : ℕ) (whole : PutWords) (rest : List ℕ) (p : Put) : Type 0 where
+  fuel : ℕ
+  enough : length rest ≤ fuel
+  same : whole ≡ put (next time (timers-in fuel rest) p)
+
+pub inserting-start : (time : ℕ) (q out : List ℕ) → Sound q → Inserting time (put (insert-all time (timers-in (length out) out) (entries-of q))) q q out
+inserting-start time q out v = record { sound = v; first = v .long; fuel = length out; enough = omega arith; same = refl }
+
+-- nothing is to come
+ended : (time : ℕ) (q : List ℕ) (l : List Start) → Sound q → l ≡ [] → record { code = 0; words = q } ≡ put (insert-all time l (entries-of q))
+unfolding put insert-all
+ended time q l v e = ap (words-of 0) (v .is) ∙ ap (λ (m : List Start). put (insert-all time m (entries-of q))) (sym e)
+
+module _ (time : ℕ) (whole : PutWords) (q₀ q rest : List ℕ) (v : Inserting time whole q₀ q rest) where
+  pub inserting-long : length q ≡ length q₀
+  inserting-long = v .sound .long ∙ sym (v .first)
+
+  pub inserting-few : length rest < 24 → record { code = 0; words = q } ≡ whole
+  inserting-few h = ended time q (timers-in (v .fuel) rest) (v .sound) (timers-few (v .fuel) rest h) ∙ sym (v .same)
+
+  module _ (h : Header) (is : h ≡ header-of rest) where
+    pub inserting-none : h .size ≡ 0 → record { code = 0; words = q } ≡ whole
+    inserting-none e = ended time q (timers-in (v .fuel) rest) (v .sound) (timers-none (v .fuel) rest (sym (size-is rest h is) ∙ e)) ∙ sym (v .same)
+
+    -- one record more
+    unrolled : (k : ℕ) → length rest ≤ k → whole ≡ put (insert-all time (timers-in k rest) (entries-of q)) → 24 ≤ length rest → (h .size ≡ 0 → ⊥)
+        → Unrolled time whole (drop (h .size) rest) (insert-all time (timer-of rest) (entries-of q))
+    unrolled zero l w m z = absurd (omega arith)
+    unrolled (suc k) l w m z =
+        let s : h .size ≡ whole-length rest = size-is rest h is in
+        record {
+          fuel = k;
+          enough = simp length-drop (omega arith);
+          same = w ∙ ap (λ (t : List Start). put (insert-all time t (entries-of q))) (timers-one k rest m (λ o. z (s ∙ o)) ∙ ap (λ (n : ℕ). timer-of rest ++ timers-in k (drop n rest)) (sym s))
+              ∙ ap put (insert-all-append time (timer-of rest) (timers-in k (drop (h .size) rest)) (entries-of q));
+        }
+
+    module _ (code : ℕ) (q′ : List ℕ) (e : record { code = code; words = q′ } ≡ put (insert-all time (timer-of rest) (entries-of q))) (z : h .size ≡ 0 → ⊥) (m : 24 ≤ length rest) where
+      step : Unrolled time whole (drop (h .size) rest) (insert-all time (timer-of rest) (entries-of q))
+      step = unrolled (v .fuel) (v .enough) (v .same) m z
+
+      code-is : code ≡ insert-all time (timer-of rest) (entries-of q) .code
+      unfolding put
+      code-is = ap (λ (y : PutWords). y .code) e
+
+      words-is : q′ ≡ pack (insert-all time (timer-of rest) (entries-of q) .entries)
+      unfolding put
+      words-is = ap (λ (y : PutWords). y .words) e
+
+      pub inserting-refused : (code ≡ 0 → ⊥) → record { code = code; words = q′ } ≡ whole
+      unfolding next
+      inserting-refused n = e ∙ sym (step .same ∙ ap put (choose-no _ _ _ (ne-eqb _ 0 (λ o. n (code-is ∙ o)))))
+
+      held : entries-of q′ ≡ insert-all time (timer-of rest) (entries-of q) .entries
+      held = ap entries-of words-is ∙ entries-pack _
+
+      stepped : code ≡ 0 → Inserting time whole q₀ q′ (drop (h .size) rest)
+      unfolding next
+      stepped c = record {
+        sound = subst Sound (sym words-is) (good-sound _ (good-all time (timer-of rest) (entries-of q) (sound-good q (v .sound))));
+        first = v .first;
+        fuel = step .fuel;
+        enough = step .enough;
+        same = step .same ∙ ap put (choose-yes _ _ _ (eq-eqb _ 0 (sym code-is ∙ c))) ∙ ap (λ (l : List Entry). put (insert-all time (timers-in (step .fuel) (drop (h .size) rest)) l)) (sym held);
+      }
+
+      pub inserting-last : code ≡ 0 → length rest < h .size → record { code = 0; words = q′ } ≡ whole
+      inserting-last c l =
+          let w : Inserting time whole q₀ q′ (drop (h .size) rest) = stepped c in
+          ended time q′ (timers-in (w .fuel) (drop (h .size) rest)) (w .sound) (timers-few (w .fuel) (drop (h .size) rest) (simp length-drop (omega arith))) ∙ sym (w .same)
+
+      pub inserting-next : code ≡ 0 → Inserting time whole q₀ q′ (take (length rest - h .size) (drop (h .size) rest))
+      inserting-next c = rw (take-all (length rest - h .size) (drop (h .size) rest) (simp length-drop (omega arith))) (stepped c)
+
+-- ---- all or none
+
+module _ (ws out : List ℕ) (time : ℕ) (v : Sound ws) (code : ℕ) (q : List ℕ)
+    (e : record { code = code; words = q } ≡ put (insert-all time (timers-in (length out) out) (entries-of ws))) where
+  all-words : q ≡ pack (insert-all time (timers-in (length out) out) (entries-of ws) .entries)
+  unfolding put
+  all-words = ap (λ (y : PutWords). y .words) e
+
+  all-code : code ≡ insert-all time (timers-in (length out) out) (entries-of ws) .code
+  unfolding put
+  all-code = ap (λ (y : PutWords). y .code) e
+
+  all-held : entries-of q ≡ insert-all time (timers-in (length out) out) (entries-of ws) .entries
+  all-held = ap entries-of all-words ∙ entries-pack _
+
+  pub all-sound : Sound q
+  all-sound = subst Sound (sym all-words) (good-sound _ (good-all time (timers-in (length out) out) (entries-of ws) (sound-good ws v)))
+
+  front : Extends (entries-of ws) (entries-of q)
+  front = subst (Extends (entries-of ws)) (sym all-held) (extends-all time (timers-in (length out) out) (entries-of ws))
+
+  pub all-more : count-of ws ≤ count-of q
+  all-more = omega (arith, v .count, all-sound .count, ap length (front .is), length-append (entries-of ws) (front .more))
+
+  old-front : take (count-of ws) (entries-of q) ≡ entries-of ws
+  old-front = ap (λ (n : ℕ). take n (entries-of q)) (sym (v .count)) ∙ ap (take (length (entries-of ws))) (front .is) ∙ take-append-seam (entries-of ws) (front .more)
+
+  pub none-put : (r : List ℕ) → r ≡ pack (take (count-of ws) (entries-of q)) → (code ≡ 0 → ⊥) → record { code = code; words = r } ≡ put (insert-records time out (entries-of ws))
+  unfolding insert-records all-or-none put
+  none-put r p n =
+      (λ i. words-of (all-code i) ((p ∙ ap pack old-front) i))
+      ∙ ap put (sym (choose-no (eqb (insert-all time (timers-in (length out) out) (entries-of ws) .code) 0) (insert-all time (timers-in (length out) out) (entries-of ws)) (record { code = insert-all time (timers-in (length out) out) (entries-of ws) .code; entries = entries-of ws }) (ne-eqb _ 0 (λ o. n (all-code ∙ o)))))
+
+  pub all-put : code ≡ 0 → record { code = 0; words = q } ≡ put (insert-records time out (entries-of ws))
+  unfolding insert-records all-or-none
+  all-put c = ap (λ (n : ℕ). words-of n q) (sym c) ∙ e ∙ ap put (sym (choose-yes (eqb (insert-all time (timers-in (length out) out) (entries-of ws) .code) 0) (insert-all time (timers-in (length out) out) (entries-of ws)) (record { code = insert-all time (timers-in (length out) out) (entries-of ws) .code; entries = entries-of ws }) (eq-eqb _ 0 (sym all-code ∙ c))))
+
+module _ (ws out : List ℕ) (time : ℕ) (b : Bool) (e : b ≡ queue-ok ws) where
+  pub records-asked : (r : PutWords) → b ≡ true → r ≡ put (insert-records time out (entries-of ws)) → r ≡ records-inserted time out ws
+  unfolding records-inserted
+  records-asked r t p = p ∙ sym (choose-yes _ _ _ (sym e ∙ t))
+
+  pub records-broken : b ≡ false → record { code = 2; words = ws } ≡ records-inserted time out ws
+  unfolding records-inserted
+  records-broken t = sym (choose-no _ _ _ (sym e ∙ t))

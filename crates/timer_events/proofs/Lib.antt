@@ -1,0 +1,5 @@
+pub mod Inserting
+pub mod Events
+pub mod Taking
+pub mod History
+pub mod RoundTrip

@@ -1,0 +1,111 @@
+-- One law for each way through the taking out of an event.
+-- Assumes nothing.
+use Prim.Native.Nat.{ℕ, _+_}
+use mathlib.Core.Path.{_≡_, sym, ap, _∙_}
+use mathlib.Core.Bool.{Bool, true, false}
+use mathlib.Core.List.{List, []}
+use native.Mathlib.Omega.{arith}
+use lib.ListN.{length}
+use Rattle.lists.specs.Lists.{shift-remove}
+use Rattle.lists.proofs.Choice.{split, choose-yes, choose-no}
+use Rattle.record.specs.Format.{Rec, size}
+use Rattle.writer.specs.Write.{rec-in, fits, written, reached, Wrote}
+use Rattle.writer.specs.declared.Fields.{Fields}
+use Rattle.writer.specs.declared.Written.{Written}
+use Rattle.writer.specs.declared.Written.the-variants.{At, Full}
+use Rattle.timer_map.specs.Entries.{soonest, first-entry, is-due}
+use Rattle.timer_map.specs.Words.{entries-of, queue-ok, pack, Sound}
+use Rattle.timer_map.specs.Calls.{due-in}
+use Rattle.timer_map.specs.declared.Entry.{Entry}
+use Rattle.timer_map.specs.declared.Due.{Due}
+use Rattle.timer_map.proofs.Ways.{due-yes, due-no, due-is}
+use Rattle.timer_events.specs.Events.{has-event, event-rec, Taken, untaken, event-popped, event-taken}
+
+-- what a writer's answer says
+wrote-fits : (r : Rec) (out : List ℕ) (w : Written) (n : ℕ) → w ≡ reached r 0 out → w ≡ At n → fits r 0 (length out) ≡ true
+unfolding reached
+wrote-fits r out w n e p =
+    split (fits r 0 (length out)) (λ t. t)
+    (λ t. let q : w ≡ Full = e ∙ choose-no _ _ _ t in let z : _≡_ {A = ℕ} 0 1 = cc in absurd (omega arith))
+
+wrote-full : (r : Rec) (out : List ℕ) (w : Written) → w ≡ reached r 0 out → w ≡ Full → fits r 0 (length out) ≡ false
+unfolding reached
+wrote-full r out w e p =
+    split (fits r 0 (length out))
+    (λ t. let q : w ≡ At (0 + size r) = e ∙ choose-yes _ _ _ t in let z : _≡_ {A = ℕ} 0 1 = cc in absurd (omega arith))
+    (λ t. t)
+
+unwritten : (r : Rec) (out : List ℕ) → fits r 0 (length out) ≡ false → written r 0 out ≡ out
+unfolding written
+unwritten r out t = choose-no _ _ _ t
+
+pub asked : (e : Entry) (b : Bool) → b ≡ has-event e → b ≡ true → has-event e ≡ true
+asked e b h t = sym h ∙ t
+
+-- the ways of the definition
+module _ (limit : ℕ) (es : List Entry) (out : List ℕ) where
+  pub none-event : is-due limit es ≡ false → event-popped limit es out ≡ untaken 0 (pack es) out
+  unfolding event-popped
+  none-event d = choose-no _ _ _ d
+
+  pub no-event : is-due limit es ≡ true → has-event (first-entry es) ≡ false → event-popped limit es out ≡ untaken 3 (pack es) out
+  unfolding event-popped
+  no-event d h = choose-yes _ _ _ d ∙ choose-no _ _ _ h
+
+  pub no-room : is-due limit es ≡ true → has-event (first-entry es) ≡ true → fits (event-rec (first-entry es)) 0 (length out) ≡ false → event-popped limit es out ≡ untaken 9 (pack es) out
+  unfolding event-popped
+  no-room d h f = choose-yes _ _ _ d ∙ choose-yes _ _ _ h ∙ choose-no _ _ _ f
+
+  pub an-event : is-due limit es ≡ true → has-event (first-entry es) ≡ true → fits (event-rec (first-entry es)) 0 (length out) ≡ true
+      → event-popped limit es out ≡ record { answer = record { code = 0; found = true; time = first-entry es .time }; words = pack (shift-remove (soonest es) es); output = written (event-rec (first-entry es)) 0 out }
+  unfolding event-popped
+  an-event d h f = choose-yes _ _ _ d ∙ choose-yes _ _ _ h ∙ choose-yes _ _ _ f
+
+module _ (ws : List ℕ) (limit : ℕ) (out : List ℕ) (v : Sound ws) (d : Due) (e : d ≡ due-in limit (entries-of ws)) where
+  pub took-none : d .found ≡ false → record { answer = record { code = 0; found = false; time = 0 }; words = ws; output = out } ≡ event-popped limit (entries-of ws) out
+  took-none t = ap (λ (l : List ℕ). untaken 0 l out) (v .is) ∙ sym (none-event limit (entries-of ws) out (due-no limit (entries-of ws) d e t))
+
+  module _ (t : d .found ≡ true) (b : Bool) (h : b ≡ has-event (d .entry)) where
+    due : is-due limit (entries-of ws) ≡ true
+    due = due-yes limit (entries-of ws) d e t
+
+    entry-is : d .entry ≡ first-entry (entries-of ws)
+    entry-is = ap (λ (y : Due). y .entry) (due-is limit (entries-of ws) d e t)
+
+    place-is : d .place ≡ soonest (entries-of ws)
+    place-is = ap (λ (y : Due). y .place) (due-is limit (entries-of ws) d e t)
+
+    has : b ≡ has-event (first-entry (entries-of ws))
+    has = h ∙ ap has-event entry-is
+
+    pub took-malformed : b ≡ false → record { answer = record { code = 3; found = false; time = 0 }; words = ws; output = out } ≡ event-popped limit (entries-of ws) out
+    took-malformed u = ap (λ (l : List ℕ). untaken 3 l out) (v .is) ∙ sym (no-event limit (entries-of ws) out due (sym has ∙ u))
+
+    module _ (f : Fields) (w : Written) (o : List ℕ) (u : b ≡ true) (r : rec-in f [] ≡ event-rec (d .entry)) (k : Wrote (rec-in f []) 0 out w o) where
+      rec-is : rec-in f [] ≡ event-rec (first-entry (entries-of ws))
+      rec-is = r ∙ ap event-rec entry-is
+
+      pub took-full : w ≡ Full → record { answer = record { code = 9; found = false; time = 0 }; words = ws; output = o } ≡ event-popped limit (entries-of ws) out
+      took-full p =
+          let n : fits (rec-in f []) 0 (length out) ≡ false = wrote-full (rec-in f []) out w (k .answer) p in
+          (λ i. untaken 9 (v .is i) ((k .bytes ∙ unwritten (rec-in f []) out n) i))
+          ∙ sym (no-room limit (entries-of ws) out due (sym has ∙ u) (ap (λ (y : Rec). fits y 0 (length out)) (sym rec-is) ∙ n))
+
+      pub took-event : (n : ℕ) (q : List ℕ) → w ≡ At n → q ≡ pack (shift-remove (d .place) (entries-of ws)) → record { answer = record { code = 0; found = true; time = d .entry .time }; words = q; output = o } ≡ event-popped limit (entries-of ws) out
+      took-event n q p s =
+          let y : fits (rec-in f []) 0 (length out) ≡ true = wrote-fits (rec-in f []) out w n (k .answer) p in
+          (λ i. record {
+            answer = record { code = 0; found = true; time = entry-is i .time };
+            words = (s ∙ ap (λ (j : ℕ). pack (shift-remove j (entries-of ws))) place-is) i;
+            output = (k .bytes ∙ ap (λ (x : Rec). written x 0 out) rec-is) i;
+          })
+          ∙ sym (an-event limit (entries-of ws) out due (sym has ∙ u) (ap (λ (x : Rec). fits x 0 (length out)) (sym rec-is) ∙ y))
+
+module _ (ws : List ℕ) (limit : ℕ) (out : List ℕ) (b : Bool) (e : b ≡ queue-ok ws) where
+  pub event-asked : (r : Taken) → b ≡ true → r ≡ event-popped limit (entries-of ws) out → r ≡ event-taken limit ws out
+  unfolding event-taken
+  event-asked r t p = p ∙ sym (choose-yes _ _ _ (sym e ∙ t))
+
+  pub event-broken : b ≡ false → record { answer = record { code = 2; found = false; time = 0 }; words = ws; output = out } ≡ event-taken limit ws out
+  unfolding event-taken
+  event-broken t = sym (choose-no _ _ _ (sym e ∙ t))

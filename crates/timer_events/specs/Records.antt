@@ -1,0 +1,66 @@
+-- Document 02, S-1: all timer records of an output, put into the queue at once.
+-- Assumes nothing.
+use Prim.Native.Nat.{ℕ, zero, suc}
+use mathlib.Core.List.{List, [], _∷_, _++_}
+use lib.ListN.{length, take, drop}
+use lib.Dec.{ltb, eqb}
+use Rattle.lists.specs.Lists.{choose}
+use Rattle.record.specs.Format.{header-length}
+use Rattle.record.specs.Read.{header-of, is-timer}
+use Rattle.record.specs.Answers.{answer}
+use Rattle.record.specs.declared.Header.{Header}
+use Rattle.record.specs.declared.Answer.{Answer}
+use Rattle.record.specs.declared.Answer.the-variants as Answers
+use Rattle.history.specs.Ledger.{whole-length}
+use Rattle.timer_map.specs.Entries.{Put, insert}
+use Rattle.timer_map.specs.Words.{entries-of, queue-ok}
+use Rattle.timer_map.specs.Calls.{PutWords, put}
+use Rattle.timer_map.specs.declared.Entry.{Entry}
+use Rattle.timer_events.specs.declared.Start.{Start}
+
+-- no timer: `insert` refuses it as malformed, 3
+abbrev pub no-start : Start
+no-start = record { delay = 0; item = record { kind = 0; peer = 0; number = 0; id = record { 0 = 0; 1 = 0; 2 = 0; 3 = 0 } } }
+
+-- the timer that a record with this header starts, with the delay that stands in `second`
+abbrev pub started : Header → Start
+started h = record { delay = h .second; item = record { kind = h .kind; peer = h .peer; number = h .number; id = record { 0 = 0; 1 = 0; 2 = 0; 3 = 0 } } }
+
+-- of what the reader answers
+unfoldable pub started-by : Answer → Start
+started-by (Answers.Record h) = started h
+started-by Answers.Malformed = no-start
+
+-- the timer that the first n bytes start; what is no record starts no timer
+unfoldable pub start-of : ℕ → List ℕ → Start
+start-of n b = choose (ltb (length b) n) no-start (started-by (answer (take n b)))
+
+-- the first record's timer: kinds 1 to 4 are timers
+unfoldable pub timer-of : List ℕ → List Start
+timer-of b = choose (is-timer (header-of b)) (start-of (whole-length b) b ∷ []) []
+
+-- the timers of an output, its records taken as the ledger takes them (`read-records`)
+unfoldable pub timers-in : ℕ → List ℕ → List Start
+timers-in zero b = []
+timers-in (suc n) b =
+    choose (ltb (length b) header-length) []
+    (choose (eqb (whole-length b) 0) [] (timer-of b ++ timers-in n (drop (whole-length b) b)))
+
+-- one after the other, up to the first refusal
+unfoldable pub insert-all : ℕ → List Start → List Entry → Put
+insert-all time [] es = record { code = 0; entries = es }
+insert-all time (x ∷ xs) es =
+    choose (eqb (insert time (x .delay) (x .item) es .code) 0)
+    (insert-all time xs (insert time (x .delay) (x .item) es .entries))
+    (insert time (x .delay) (x .item) es)
+
+-- all or none
+unfoldable pub all-or-none : List Entry → Put → Put
+all-or-none es p = choose (eqb (p .code) 0) p (record { code = p .code; entries = es })
+
+unfoldable pub insert-records : ℕ → List ℕ → List Entry → Put
+insert-records time out es = all-or-none es (insert-all time (timers-in (length out) out) es)
+
+-- of any words
+unfoldable pub records-inserted : ℕ → List ℕ → List ℕ → PutWords
+records-inserted time out ws = choose (queue-ok ws) (put (insert-records time out (entries-of ws))) (record { code = 2; words = ws })

@@ -1,0 +1,259 @@
+// Document 02, S-1: what a controller without timers of its own runs by. The timers of an output are put into the queue at once, and a due timer comes out as the event that `handle` reads.
+use record::Header;
+use timer_map::Entry;
+use timer_map::Id;
+use timer_map::Timer;
+use writer::Fields;
+ghost use mathlib.Core.Path.{_≡_};
+ghost use mathlib.Core.Bool.{true, false};
+ghost use mathlib.Core.List.{[]};
+ghost use Prim.Native.Nat.{_≤_};
+ghost use lib.ListN.{length};
+ghost use Rattle.record.specs.Read.{header-of};
+ghost use Rattle.writer.specs.Write.{rec-in};
+ghost use Rattle.timer_map.specs.Words.{entries-of, Sound};
+ghost use Rattle.timer_map.specs.Calls.{put};
+ghost use Rattle.timer_events.specs.Records.{no-start, started, start-of, timer-of, timers-in, insert-all, insert-records, records-inserted};
+ghost use Rattle.timer_events.specs.Events.{has-event, event-rec, event-popped, event-taken};
+
+// The codes of refusals.
+const BROKEN: u32 = 2;
+
+const MALFORMED: u32 = 3;
+
+const NO_ROOM: u32 = 9;
+
+// The kinds of a timer record; those up to the second have neither peer nor number.
+const FIRST_KIND: u8 = 1;
+
+const LAST_KIND: u8 = 4;
+
+const FIRST_TIMER: u64 = 1;
+
+const LAST_BARE_TIMER: u64 = 2;
+
+const LAST_TIMER: u64 = 4;
+
+// One more than the largest peer that a record can name.
+const PEERS_END: u64 = 4294967296;
+
+const HEADER: usize = 24;
+
+// A timer to be put in, and its delay.
+pub struct Start {
+    pub delay: u64,
+    pub item: Timer,
+}
+
+// What `timer_map_pop_event` hands back beside the event: the time at which it was due, 0 where there is none.
+#[repr(C)]
+pub struct PoppedEvent {
+    pub code: u32,
+    pub found: bool,
+    pub time: u64,
+}
+
+// What is no timer: the queue refuses it with code 3.
+fn no_start() -> Start
+    ensures { λ r. ⌜ r ≡ no-start ⌝ }
+{
+    let id = Id(0, 0, 0, 0);
+    let item = Timer {
+        kind: 0,
+        peer: 0,
+        number: 0,
+        id: id,
+    };
+    Start {
+        delay: 0,
+        item: item,
+    }
+}
+
+// The timer that a record with this header starts.
+fn started(h: Header) -> Start
+    ensures { λ r. ⌜ r ≡ started h ⌝ }
+{
+    let id = Id(0, 0, 0, 0);
+    let item = Timer {
+        kind: h.kind as u64,
+        peer: h.peer as u64,
+        number: h.number,
+        id: id,
+    };
+    Start {
+        delay: h.second as u64,
+        item: item,
+    }
+}
+
+// The timer that the first n bytes start; what is no record starts no timer.
+fn start_of(b: &[u8], n: usize) -> Start
+    ensures { λ r. ⌜ r ≡ start-of n (now (b .entry)) ⌝ }
+{
+    if b.len() < n {
+        return no_start();
+    }
+    let a = record::read(&b[..n]);
+    match a {
+        record::Answer::Record(h) => started(h),
+        record::Answer::Malformed => no_start(),
+    }
+}
+
+// The record at the front of b, whose header is h: put in where it is a timer's.
+fn insert_record(q: &mut [u64], time: u64, b: &[u8], h: Header) -> u32
+    requires { ⌜ Sound (now q) ⌝ }
+    requires { ⌜ h ≡ header-of (now b) ⌝ }
+    ensures { λ r. ⌜ record { code = r; words = now (q .exit) } ≡ put (insert-all time (timer-of (now (b .entry))) (entries-of (now (q .entry)))) ⌝ }
+{
+    if (FIRST_KIND <= h.kind) & (h.kind <= LAST_KIND) {
+        let n = h.size as usize;
+        let x = start_of(b, n);
+        let item = x.item;
+        return timer_map::insert_ok(q, time, x.delay, item);
+    }
+    0
+}
+
+// The timers of an output one after the other, up to the first that is refused.
+fn insert_all(q: &mut [u64], time: u64, out: &[u8]) -> u32
+    requires { ⌜ Sound (now q) ⌝ }
+    ensures { λ r. ⌜ record { code = r; words = now (q .exit) } ≡ put (insert-all time (timers-in (length (now (out .entry))) (now (out .entry))) (entries-of (now (q .entry)))) ⌝ }
+{
+    let mut rest = out;
+    while HEADER <= rest.len() {
+        let h = record::read_header(rest);
+        let n = h.size as usize;
+        if n == 0 {
+            return 0;
+        }
+        let code = insert_record(q, time, rest, h);
+        if code != 0 {
+            return code;
+        }
+        if rest.len() < n {
+            return 0;
+        }
+        rest = &rest[n..];
+    }
+    0
+}
+
+// The same into a queue that keeps its rules, all or none.
+fn records_ok(q: &mut [u64], time: u64, out: &[u8]) -> u32
+    requires { ⌜ Sound (now q) ⌝ }
+    ensures { λ r. ⌜ record { code = r; words = now (q .exit) } ≡ put (insert-records time (now (out .entry)) (entries-of (now (q .entry)))) ⌝ }
+{
+    let n = q[timer_map::COUNT];
+    let code = insert_all(q, time, out);
+    if code != 0 {
+        timer_map::truncate(q, n);
+        return code;
+    }
+    0
+}
+
+// All timer records of an output, in order, each by its delay from this time: 0, or 2, or the first refusal (3, 12, 11), and then every word is as it was.
+#[no_mangle]
+pub extern "C" fn timer_map_insert_records(q: &mut [u64], time: u64, out: &[u8]) -> u32
+    ensures { λ r. ⌜ record { code = r; words = now (q .exit) } ≡ records-inserted time (now (out .entry)) (now (q .entry)) ⌝ }
+{
+    if timer_map::is_ok(q) {
+        return records_ok(q, time, out);
+    }
+    BROKEN
+}
+
+// Whether an entry is what an event record can say.
+fn has_event(e: Entry) -> bool
+    ensures { λ r. ⌜ r ≡ has-event e ⌝ }
+{
+    let x = e.item;
+    if x.kind < FIRST_TIMER {
+        return false;
+    }
+    if LAST_TIMER < x.kind {
+        return false;
+    }
+    if x.kind <= LAST_BARE_TIMER {
+        return (x.peer == 0) & (x.number == 0);
+    }
+    x.peer < PEERS_END
+}
+
+// The fields of that record.
+fn fields(e: Entry) -> Fields
+    requires { ⌜ has-event e ≡ true ⌝ }
+    ensures { λ r. ⌜ rec-in r [] ≡ event-rec e ⌝ }
+{
+    let x = e.item;
+    Fields {
+        kind: x.kind as u8,
+        message: 0,
+        flags: 0,
+        peer: x.peer as u32,
+        second: 0,
+        ttl: 0,
+        number: x.number,
+    }
+}
+
+// A due timer of a queue that keeps its rules, as an event.
+fn pop_event_ok(q: &mut [u64], limit: u64, out: &mut [u8]) -> PoppedEvent
+    requires { ⌜ Sound (now q) ⌝ }
+    ensures { λ r. ⌜ record { answer = r; words = now (q .exit); output = now (out .exit) } ≡ event-popped limit (entries-of (now (q .entry))) (now (out .entry)) ⌝ }
+{
+    let d = timer_map::find_due(q, limit);
+    if d.found {
+        let e = d.entry;
+        let i = d.place;
+        if has_event(e) {
+            let f = fields(e);
+            let w = writer::write_bare(out, 0, f);
+            match w {
+                writer::Written::At(_) => {
+                    timer_map::remove(q, i);
+                    return PoppedEvent {
+                        code: 0,
+                        found: true,
+                        time: e.time,
+                    };
+                }
+                writer::Written::Full => {
+                    return PoppedEvent {
+                        code: NO_ROOM,
+                        found: false,
+                        time: 0,
+                    };
+                }
+            }
+        }
+        return PoppedEvent {
+            code: MALFORMED,
+            found: false,
+            time: 0,
+        };
+    }
+    PoppedEvent {
+        code: 0,
+        found: false,
+        time: 0,
+    }
+}
+
+// TimerMap::pop_before, with the entry written as the 24 bytes of its event. Code 2; 3, where the entry is none that an event record can say;
+// 9, where the bytes do not fit: then nothing changes.
+#[no_mangle]
+pub extern "C" fn timer_map_pop_event(q: &mut [u64], limit: u64, out: &mut [u8]) -> PoppedEvent
+    ensures { λ r. ⌜ record { answer = r; words = now (q .exit); output = now (out .exit) } ≡ event-taken limit (now (q .entry)) (now (out .entry)) ⌝ }
+{
+    if timer_map::is_ok(q) {
+        return pop_event_ok(q, limit, out);
+    }
+    PoppedEvent {
+        code: BROKEN,
+        found: false,
+        time: 0,
+    }
+}
