@@ -11,7 +11,10 @@
 mod proto {
     use serde::{Deserialize, Serialize};
 
-    pub use self::peer::{PeerData, PeerIdentity};
+    pub use self::{
+        peer::{PeerData, PeerIdentity},
+        util::TimerMap,
+    };
     use crate::topic;
 
     include!(concat!(env!("OUT_DIR"), "/proto.rs"));
@@ -35,6 +38,8 @@ pub mod shrink;
 pub mod station;
 pub mod stored;
 pub mod text;
+#[cfg(feature = "tools")]
+pub mod timers;
 #[cfg(feature = "tools")]
 pub mod timing;
 pub mod topic;

@@ -13,7 +13,7 @@ use oracle::{
     generate::mix::{self, MIXES},
     stored::{self, Stored},
     text::{self, Form, Start},
-    timing, words, SUBSTITUTIONS,
+    timers, timing, words, SUBSTITUTIONS,
 };
 
 const USAGE: &str = "\
@@ -25,6 +25,8 @@ oracle replay FILE...                stored histories that do not hold now
 oracle check [--seed N] [--events N] [--length N]
 oracle time [--seed N] [--histories N] [--events N] [--rounds N]
 oracle compare [--seed N] [--histories N] [--events N] [--mix NAME] -- COMMAND
+oracle timer-calls [--seed N] [--calls N]    calls of a timer queue, six 64-bit words each
+oracle timers                        the Rust's answers to such calls on stdin
 oracle substitutions
 ";
 
@@ -84,6 +86,15 @@ fn answer(arguments: &[String]) -> Answer {
                 options.get("rounds", 20)?,
             ))
         }
+        "timer-calls" => {
+            let options = Options::read(rest)?;
+            let calls = timers::generate(options.get("seed", 1)?, options.get("calls", 300_000)?);
+            io::stdout()
+                .write_all(&timers::to_bytes(&calls))
+                .map_err(|error| format!("timer-calls: {error}\n"))?;
+            Ok(String::new())
+        }
+        "timers" => Ok(timers::answers(&timers::from_bytes(&read_input()))),
         "compare" => compare(rest),
         "-h" | "--help" => Ok(USAGE.into()),
         _ => Err(USAGE.into()),

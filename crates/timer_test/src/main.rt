@@ -1,0 +1,193 @@
+// Reads calls of a timer queue, each of six 64-bit words (what, time or limit, delay, kind, peer, number), and writes a line for each: the answer in numbers.
+use timer_map::Id;
+use timer_map::Timer;
+ghost use mathlib.Core.Path.{_≡_};
+ghost use Prim.Native.Nat.{_+_, _≤_, _<_};
+ghost use lib.ListN.{length};
+
+// What a call is; any other number is a new queue.
+const INSERT: u64 = 0;
+
+const POP: u64 = 1;
+
+const FIRST: u64 = 2;
+
+const LEN: u64 = 3;
+
+const EVENT: u64 = 4;
+
+// The places of a call's words.
+const TIME: usize = 8;
+
+const DELAY: usize = 16;
+
+const KIND: usize = 24;
+
+const PEER: usize = 32;
+
+const NUMBER: usize = 40;
+
+const CALL: usize = 48;
+
+// More calls than are ever made: a program ends.
+const MOST_CALLS: usize = 100000000;
+
+fn half(x: u32) -> u64
+    ensures { λ r. ⌜ r ≤ 4294967295 ⌝ }
+{
+    x as u64
+}
+
+fn number(b: &[u8], at: usize) -> u64
+    requires { ⌜ at + 8 ≤ length (now b) ⌝ }
+{
+    let low = half(record::read_u32(b, at));
+    let high = half(record::read_u32(b, at + 4));
+    low + 4294967296 * high
+}
+
+// One line: each number and a space.
+fn show(ws: &[u64]) {
+    let mut i: usize = 0;
+    while i < ws.len() {
+        io::print_decimal(1, ws[i]);
+        io::write_all(1, b" ");
+        i += 1;
+    }
+    io::write_all(1, b"\n");
+}
+
+fn mark(b: bool) -> u64 {
+    if b {
+        return 1;
+    }
+    0
+}
+
+fn insert(q: &mut [u64], b: &[u8])
+    requires { ⌜ length (now b) ≡ 48 ⌝ }
+{
+    let id = Id(0, 0, 0, 0);
+    let item = Timer {
+        kind: number(b, KIND),
+        peer: number(b, PEER),
+        number: number(b, NUMBER),
+        id: id,
+    };
+    let time = number(b, TIME);
+    let delay = number(b, DELAY);
+    let code = timer_map::timer_map_insert(q, time, delay, item);
+    let line = [INSERT, code as u64];
+    show(&line);
+}
+
+fn pop(q: &mut [u64], limit: u64) {
+    let p = timer_map::timer_map_pop_before(q, limit);
+    let e = p.entry;
+    let x = e.item;
+    let id = x.id;
+    let line = [
+        POP,
+        p.code as u64,
+        mark(p.found),
+        e.time,
+        x.kind,
+        x.peer,
+        x.number,
+        id.0,
+        id.1,
+        id.2,
+        id.3,
+    ];
+    show(&line);
+}
+
+fn first(q: &[u64]) {
+    let f = timer_map::timer_map_first(q);
+    let line = [FIRST, f.code as u64, mark(f.found), f.time];
+    show(&line);
+}
+
+fn len(q: &[u64]) {
+    let n = timer_map::timer_map_len(q);
+    let line = [LEN, n.code as u64, n.count];
+    show(&line);
+}
+
+// The event's bytes as three words; the bytes are zero before.
+fn event(q: &mut [u64], limit: u64) {
+    let mut space = [0u8; 24];
+    let out: &mut [u8] = &mut space;
+    let p = timer_events::timer_map_pop_event(q, limit, out);
+    let line = [
+        EVENT,
+        p.code as u64,
+        mark(p.found),
+        p.time,
+        number(out, 0),
+        number(out, 8),
+        number(out, 16),
+    ];
+    show(&line);
+}
+
+fn renew(q: &mut [u64], what: u64) {
+    let code = timer_map::timer_map_new(q);
+    let line = [what, code as u64];
+    show(&line);
+}
+
+fn call(q: &mut [u64], b: &[u8])
+    requires { ⌜ length (now b) ≡ 48 ⌝ }
+{
+    let what = number(b, 0);
+    let time = number(b, TIME);
+    if what == INSERT {
+        insert(q, b);
+        return;
+    }
+    if what == POP {
+        pop(q, time);
+        return;
+    }
+    if what == FIRST {
+        first(q);
+        return;
+    }
+    if what == LEN {
+        len(q);
+        return;
+    }
+    if what == EVENT {
+        event(q, time);
+        return;
+    }
+    renew(q, what);
+}
+
+// The next call; false where standard input has none.
+fn next(q: &mut [u64], b: &mut [u8]) -> bool
+    requires { ⌜ length (now b) ≡ 48 ⌝ }
+{
+    let n = io::read_full(0, b);
+    if n < CALL {
+        return false;
+    }
+    call(q, b);
+    true
+}
+
+fn main() {
+    let mut words = [0u64; 513];
+    let q: &mut [u64] = &mut words;
+    let mut space = [0u8; 48];
+    let b: &mut [u8] = &mut space;
+    let mut left = MOST_CALLS;
+    while left > 0 {
+        if next(q, b) {
+            left -= 1;
+        } else {
+            return;
+        }
+    }
+}

@@ -1,0 +1,247 @@
+//! util.rs's `TimerMap` behind the calls of 02's S-1: the answers that crates/timer_test must print.
+//!
+//! A call is six 64-bit words: what, time or limit, delay, kind, peer, number. The Rust's queue has no
+//! limits; 02's answers 3, 12 and 11 are given here, before it is asked.
+
+use std::{
+    fmt::Write,
+    time::{Duration, Instant},
+};
+
+use crate::proto::TimerMap;
+
+pub const WORDS: usize = 6;
+pub type Call = [u64; WORDS];
+
+const INSERT: u64 = 0;
+const POP: u64 = 1;
+const FIRST: u64 = 2;
+const LEN: u64 = 3;
+const EVENT: u64 = 4;
+const NEW: u64 = 5;
+
+const CAPACITY: usize = 64;
+const MALFORMED: u64 = 3;
+const FULL: u64 = 11;
+const TOO_LATE: u64 = 12;
+
+#[derive(Clone, Copy, Debug)]
+struct Item {
+    kind: u64,
+    peer: u64,
+    number: u64,
+}
+
+/// 01's event record of a timer, as three words; none where a record cannot say it.
+fn event(item: &Item) -> Option<[u64; 3]> {
+    let bare = item.peer == 0 && item.number == 0;
+    if (item.kind <= 2 && !bare) || item.peer >= 1 << 32 {
+        return None;
+    }
+    let mut bytes = [0; 24];
+    bytes[0] = item.kind as u8;
+    bytes[4..8].copy_from_slice(&(item.peer as u32).to_le_bytes());
+    bytes[14..16].copy_from_slice(&24u16.to_le_bytes());
+    bytes[16..24].copy_from_slice(&item.number.to_le_bytes());
+    let word = |at: usize| u64::from_le_bytes(bytes[at..at + 8].try_into().expect("8 bytes"));
+    Some([word(0), word(8), word(16)])
+}
+
+/// The Rust's queue, its times as milliseconds after one instant, and how many it holds.
+struct Queue {
+    zero: Instant,
+    map: TimerMap<Item>,
+    held: usize,
+}
+
+impl Queue {
+    fn new() -> Self {
+        Self {
+            zero: Instant::now(),
+            map: TimerMap::default(),
+            held: 0,
+        }
+    }
+
+    fn instant(&self, millis: u64) -> Instant {
+        self.zero + Duration::from_millis(millis)
+    }
+
+    fn millis(&self, at: Instant) -> u64 {
+        let since = at.duration_since(self.zero).as_millis();
+        u64::try_from(since).expect("a due time of 64 bits")
+    }
+
+    fn insert(&mut self, time: u64, delay: u64, item: Item) -> u64 {
+        if !(1..=4).contains(&item.kind) {
+            return MALFORMED;
+        }
+        let Some(due) = time.checked_add(delay) else {
+            return TOO_LATE;
+        };
+        if self.held == CAPACITY {
+            return FULL;
+        }
+        self.held += 1;
+        self.map.insert(self.instant(due), item);
+        0
+    }
+
+    fn pop(&mut self, limit: u64) -> Option<(u64, Item)> {
+        let (at, item) = self.map.pop_before(self.instant(limit))?;
+        self.held -= 1;
+        Some((self.millis(at), item))
+    }
+
+    fn first(&self) -> Option<u64> {
+        self.map.first().map(|at| self.millis(*at))
+    }
+
+    /// What comes out next at this limit. The Rust cannot be asked without taking it out, so it is
+    /// taken out and the rest with it, and all is put in again in the order that it came out.
+    fn peek(&mut self, limit: u64) -> Option<(u64, Item)> {
+        let mut all = Vec::new();
+        while let Some(entry) = self.pop(u64::MAX) {
+            all.push(entry);
+        }
+        for (time, item) in &all {
+            self.held += 1;
+            self.map.insert(self.instant(*time), *item);
+        }
+        all.first().copied().filter(|(time, _)| *time <= limit)
+    }
+}
+
+/// The lines of a list of calls.
+pub fn answers(calls: &[Call]) -> String {
+    let mut queue = Queue::new();
+    let mut text = String::new();
+    for &[what, time, delay, kind, peer, number] in calls {
+        let item = Item { kind, peer, number };
+        let words: Vec<u64> = match what {
+            INSERT => vec![queue.insert(time, delay, item)],
+            POP => match queue.pop(time) {
+                Some((due, i)) => vec![0, 1, due, i.kind, i.peer, i.number, 0, 0, 0, 0],
+                None => vec![0; 10],
+            },
+            FIRST => match queue.first() {
+                Some(due) => vec![0, 1, due],
+                None => vec![0; 3],
+            },
+            LEN => vec![0, queue.held as u64],
+            EVENT => match queue.peek(time).map(|(due, i)| (due, event(&i))) {
+                Some((due, Some([a, b, c]))) => {
+                    queue.pop(time);
+                    vec![0, 1, due, a, b, c]
+                }
+                Some((_, None)) => vec![MALFORMED, 0, 0, 0, 0, 0],
+                None => vec![0; 6],
+            },
+            _ => {
+                queue = Queue::new();
+                vec![0]
+            }
+        };
+        write!(text, "{what} ").expect("a string grows");
+        for word in words {
+            write!(text, "{word} ").expect("a string grows");
+        }
+        text.push('\n');
+    }
+    text
+}
+
+/// Numbers that follow from a seed (splitmix64).
+struct Numbers(u64);
+
+impl Numbers {
+    fn next(&mut self) -> u64 {
+        self.0 = self.0.wrapping_add(0x9e37_79b9_7f4a_7c15);
+        let mut z = self.0;
+        z = (z ^ (z >> 30)).wrapping_mul(0xbf58_476d_1ce4_e5b9);
+        z = (z ^ (z >> 27)).wrapping_mul(0x94d0_49bb_1331_11eb);
+        z ^ (z >> 31)
+    }
+
+    fn below(&mut self, n: u64) -> u64 {
+        self.next() % n
+    }
+
+    /// A time or a delay of one of five manners: few values, so that many are equal; the upper edge;
+    /// the lower edge; any; a clock's.
+    fn time(&mut self, manner: u64) -> u64 {
+        match manner {
+            0 => self.below(4),
+            1 => u64::MAX - self.below(4),
+            2 => [0, 1, u64::MAX - 1, u64::MAX][self.below(4) as usize],
+            3 => self.next(),
+            _ => self.below(100) * 250,
+        }
+    }
+
+    fn item(&mut self) -> [u64; 3] {
+        let kind = match self.below(30) {
+            0 => [0, 5, 32, u64::MAX][self.below(4) as usize],
+            n => 1 + n % 4,
+        };
+        if kind <= 2 && self.below(40) != 0 {
+            return [kind, 0, 0];
+        }
+        let peer = match self.below(12) {
+            0 => [1 << 32, (1 << 32) - 1, u64::MAX][self.below(3) as usize],
+            n => n,
+        };
+        [kind, peer, self.below(1 << 40)]
+    }
+}
+
+/// Calls that fill and drain the queue in turn, in blocks of one manner each.
+pub fn generate(seed: u64, count: usize) -> Vec<Call> {
+    let mut numbers = Numbers(seed);
+    let mut calls = vec![[NEW, 0, 0, 0, 0, 0]];
+    let (mut manner, mut inserts) = (0, 7);
+    while calls.len() < count {
+        if numbers.below(150) == 0 {
+            manner = numbers.below(5);
+            inserts = [2, 3, 4, 5, 7][numbers.below(5) as usize];
+        }
+        let time = numbers.time(manner);
+        let call = if numbers.below(10) < inserts {
+            let delay = if manner == 1 {
+                numbers.below(6)
+            } else {
+                numbers.time(manner)
+            };
+            let [kind, peer, number] = numbers.item();
+            [INSERT, time, delay, kind, peer, number]
+        } else {
+            let what = match numbers.below(20) {
+                0 => FIRST,
+                1 => LEN,
+                2..=6 => EVENT,
+                7 if numbers.below(20) == 0 => NEW,
+                _ => POP,
+            };
+            [what, time, 0, 0, 0, 0]
+        };
+        calls.push(call);
+    }
+    calls
+}
+
+pub fn to_bytes(calls: &[Call]) -> Vec<u8> {
+    calls
+        .iter()
+        .flatten()
+        .flat_map(|w| w.to_le_bytes())
+        .collect()
+}
+
+/// The calls that stand in the bytes; what is cut off is left out.
+pub fn from_bytes(bytes: &[u8]) -> Vec<Call> {
+    let word = |b: &[u8]| u64::from_le_bytes(b.try_into().expect("8 bytes"));
+    bytes
+        .chunks_exact(8 * WORDS)
+        .map(|call| std::array::from_fn(|i| word(&call[8 * i..8 * i + 8])))
+        .collect()
+}
