@@ -16,9 +16,10 @@ use Rattle.record.specs.Read.{Reading, read-event, rec-of}
 use Rattle.protocol.proofs.Reading.{by-reading}
 use Rattle.protocol.proofs.Bounds.{finished}
 use Rattle.protocol.proofs.Enough.{enough}
-use Rattle.history.specs.Calls.{Call, Given, answer, answered}
+use Rattle.history.specs.Calls.{Call, Given, answer, answered, state-after}
+use Rattle.history.specs.Calls as calls
 use Rattle.history.specs.Packing.{Packs}
-use Rattle.history.proofs.Packing.{demand-packed, rejoin-packed, outputs-packed}
+use Rattle.history.proofs.Packing.{demand-packed, rejoin-packed, outputs-packed, states-packed}
 use Rattle.tally.proofs.History.{counts-all}
 use Rattle.shuffle_times.proofs.Packed.{timed-packed}
 use Rattle.state.specs.declared.State.{State}
@@ -66,6 +67,12 @@ given me present own t = record {
 pub demand-3-holds : D.Demand3-holds
 unfolding made pack-made
 demand-3-holds me present own c t z vs = demand-packed packs me (lent present own) c (given me present own t) z vs
+
+-- The state after a list of calls is the definition's, packed.
+pub states-same : (me : ℕ) (present : Bool) (own : List ℕ) (c : Config) → D.Typed me own → made me present own c .code ≡ 0
+    → (vs : List Call) → state-after program vs (made me present own c .state) ≡ pack (state-after calls.definition vs (definition.new me (lent present own) c .state))
+unfolding made pack-made
+states-same me present own c t z vs = states-packed packs me (lent present own) c (given me present own t) z vs
 
 pub rejoin-promise : D.Rejoin-promise
 unfolding made pack-made

@@ -86,6 +86,15 @@ module _ {S : Type 0} {m : Machine S} {pack : Station → S} {station : S → St
         subst (λ (s : Station). Demand3 m station ok me c (pack s) vs) (sym e)
         (packed-demand r (kept-new me d c given r (and-right (in-range c) (short-data d) t)) vs (subst (λ (s : Station). Demand3 definition (λ x. x) station-ok me c s vs) e (demand-3 me d c given z vs)))
 
+    -- the state after the list is the definition's, packed
+    pub states-packed : state-after m vs (pack (new me d c .state)) ≡ pack (state-after definition vs (new me d c .state))
+    unfolding new
+    states-packed =
+        let t = accepted-new me d c z in
+        let r = and-left (in-range c) (short-data d) t in
+        let e : new me d c .state ≡ new-station me d c = ap (λ (x : Made). x .state) (choose-yes (in-range c && short-data d) _ _ t) in
+        subst (λ (s : Station). state-after m vs (pack s) ≡ pack (state-after definition vs s)) (sym e) (states-follow r vs (kept-new me d c given r (and-right (in-range c) (short-data d) t)))
+
     -- and the rejoin promise
     pub rejoin-packed : Promised (ticks m station vs (pack (new me d c .state)))
     unfolding new

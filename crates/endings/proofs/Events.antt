@@ -1,0 +1,151 @@
+-- The events as they are written, and the state after one.
+-- Assumes nothing.
+use Prim.Native.Nat.{ℕ, zero, suc, _+_, _-_, _≤_, _<_}
+use mathlib.Core.Path.{_≡_, refl, sym, ap, subst, _∙_}
+use mathlib.Core.Bool.{Bool, true, false}
+use mathlib.Core.List.{List, [], _∷_, _++_}
+use mathlib.Core.Option.{none}
+use native.Mathlib.Omega.{arith}
+use lib.ListN.{length, getD, take, replicate, List·getD-append}
+use lib.Seq.{getD-append-add, length-take-le}
+use lib.Dec.{ltb, leb}
+use borrow.Author.Tests.{ltb-true, ltb-false, leb-true}
+use Rattle.lists.specs.Tests.{every}
+use Rattle.lists.proofs.Choice.{split, choose-yes, and-left, and-right}
+use Rattle.timing.specs.Timing.{default}
+use Rattle.timing.specs.declared.Config.{Config}
+use Rattle.peer.specs.Data.{Data, bytes-of}
+use Rattle.peer.specs.Held.{HoldsData, node-in}
+use Rattle.peer.specs.declared.PeerData.{PeerData}
+use Rattle.record.specs.Format.{Rec, datas, size, encode}
+use Rattle.writer.specs.Write.{rec-in, fits, reached, Wrote}
+use Rattle.writer.specs.declared.Written.{Written}
+use Rattle.writer.specs.declared.Written.the-variants.{At, Full}
+use Rattle.writer.proofs.ReadBack.{front-written}
+use Rattle.state.specs.declared.State.{State}
+use Rattle.rules.specs.declared.Made.{Made}
+use Rattle.hyparview.specs.declared.Answer.{Answer}
+use Rattle.hyparview.specs.Handled.{Outcome}
+use Rattle.demand.specs.Program.{made, outcome}
+use Rattle.endings.specs.Events.{no-data, event, of-peer, maintenance, quit, events, event-at, tiny, draws, output}
+use Rattle.endings.specs.Steps.{first-state, played}
+
+-- ---- the writers
+
+pub wrote-one : (m f p : ℕ) (d : PeerData) (out : List ℕ) (r : Written) (o : List ℕ) → HoldsData d none
+    → Wrote (rec-in (record { kind = 0; message = m; flags = f; peer = p; second = 0; ttl = 0; number = 0 }) (node-in (record { id = 0; «data» = d }) ∷ [])) 0 out r o
+    → Wrote (event 0 m f p no-data) 0 out r o
+unfolding rec-in node-in
+wrote-one m f p d out r o h w = subst (λ (x : Data). Wrote (event 0 m f p (record { id = 0; data-of = x } ∷ [])) 0 out r o) (h .holds) w
+
+-- below suc n and not n
+down : (i n : ℕ) → i < suc n → (i ≡ n → ⊥) → i < n
+down i n h f = split (ltb i n) (λ t. ltb-true i n t) (λ t. absurd (f (omega (arith, ltb-false i n t))))
+
+module _ (p i : ℕ) (out : List ℕ) (r : Written) (o : List ℕ) where
+  pub at-0 : i ≡ 0 → Wrote (event 6 0 0 p []) 0 out r o → Wrote (getD (of-peer p) i quit) 0 out r o
+  unfolding of-peer
+  at-0 h w = rw h w
+
+  pub at-1 : i ≡ 1 → Wrote (event 0 0 0 p no-data) 0 out r o → Wrote (getD (of-peer p) i quit) 0 out r o
+  unfolding of-peer
+  at-1 h w = rw h w
+
+  pub at-2 : i ≡ 2 → Wrote (event 0 4 1 p no-data) 0 out r o → Wrote (getD (of-peer p) i quit) 0 out r o
+  unfolding of-peer
+  at-2 h w = rw h w
+
+  pub at-3 : i ≡ 3 → Wrote (event 0 4 0 p no-data) 0 out r o → Wrote (getD (of-peer p) i quit) 0 out r o
+  unfolding of-peer
+  at-3 h w = rw h w
+
+  pub at-4 : i ≡ 4 → Wrote (event 0 5 1 p []) 0 out r o → Wrote (getD (of-peer p) i quit) 0 out r o
+  unfolding of-peer
+  at-4 h w = rw h w
+
+  pub at-5 : i ≡ 5 → Wrote (event 0 5 0 p []) 0 out r o → Wrote (getD (of-peer p) i quit) 0 out r o
+  unfolding of-peer
+  at-5 h w = rw h w
+
+  pub at-6 : i < 7 → (i ≡ 0 → ⊥) → (i ≡ 1 → ⊥) → (i ≡ 2 → ⊥) → (i ≡ 3 → ⊥) → (i ≡ 4 → ⊥) → (i ≡ 5 → ⊥)
+      → Wrote (event 5 0 0 p []) 0 out r o → Wrote (getD (of-peer p) i quit) 0 out r o
+  unfolding of-peer
+  at-6 h f0 f1 f2 f3 f4 f5 w = rw (six (λ l. down i 0 (down i 1 (down i 2 (down i 3 (down i 4 (down i 5 l f5) f4) f3) f2) f1) f0)) w
+    where
+      six : (i < 6 → i < 0) → i ≡ 6
+      six never = split (ltb i 6) (λ t. absurd (omega (arith, never (ltb-true i 6 t)))) (λ t. omega (arith, h, ltb-false i 6 t))
+
+module _ (i : ℕ) (out : List ℕ) (r : Written) (o : List ℕ) where
+  pub of-two : i < 7 → Wrote (getD (of-peer 2) i quit) 0 out r o → Wrote (event-at i) 0 out r o
+  unfolding event-at events of-peer
+  of-two h w = rw (List·getD-append (of-peer 2) (of-peer 3 ++ (maintenance ∷ quit ∷ [])) quit i h) w
+
+  pub of-three : 7 ≤ i → i < 14 → Wrote (getD (of-peer 3) (i - 7) quit) 0 out r o → Wrote (event-at i) 0 out r o
+  unfolding event-at events of-peer
+  of-three l h w =
+      let e : 7 + (i - 7) ≡ i = omega arith in
+      let there : getD events i quit ≡ getD (of-peer 3) (i - 7) quit =
+      ap (λ (k : ℕ). getD events k quit) (sym e)
+      ∙ (getD-append-add (of-peer 2) (of-peer 3 ++ (maintenance ∷ quit ∷ [])) (i - 7) quit ∙ List·getD-append (of-peer 3) (maintenance ∷ quit ∷ []) quit (i - 7) (omega arith)) in
+      subst (λ (e : Rec). Wrote e 0 out r o) (sym there) w
+
+  pub at-14 : i ≡ 14 → Wrote (event 2 0 0 0 []) 0 out r o → Wrote (event-at i) 0 out r o
+  unfolding event-at events of-peer
+  at-14 h w = rw h w
+
+  pub at-15 : i < 16 → 14 ≤ i → (i ≡ 14 → ⊥) → Wrote (event 8 0 0 0 []) 0 out r o → Wrote (event-at i) 0 out r o
+  unfolding event-at events of-peer
+  at-15 h l f w = rw (split (ltb 14 i) (λ t. let k : i ≡ 15 = omega (arith, h, ltb-true 14 i t) in k) (λ t. absurd (f (omega (arith, l, ltb-false 14 i t))))) w
+
+-- ---- the new station
+
+-- these settings with both capacities 1
+abbrev narrowed : Config → Config
+narrowed d = record {
+  «active_view_capacity» = 1;
+  «passive_view_capacity» = 1;
+  «active_random_walk_length» = d .«active_random_walk_length»;
+  «passive_random_walk_length» = d .«passive_random_walk_length»;
+  «shuffle_random_walk_length» = d .«shuffle_random_walk_length»;
+  «shuffle_active_view_count» = d .«shuffle_active_view_count»;
+  «shuffle_passive_view_count» = d .«shuffle_passive_view_count»;
+  «shuffle_interval» = d .«shuffle_interval»;
+  «neighbor_request_timeout» = d .«neighbor_request_timeout»;
+}
+
+pub begins : (d : Config) (m : Made) → d ≡ default → m ≡ made 1 false [] (narrowed d) → m .state ≡ first-state
+unfolding first-state tiny
+begins d m e w = ap (λ (x : Made). x .state) (w ∙ ap (λ (x : Config). made 1 false [] (narrowed x)) e)
+
+-- ---- one event
+
+pub passes-at : (t : Rec → Bool) (d : Rec) → t d ≡ true → (es : List Rec) → every t es ≡ true → (i : ℕ) → t (getD es i d) ≡ true
+unfolding every
+passes-at t d e [] h i = e
+passes-at t d e (x ∷ xs) h zero = and-left (t x) _ h
+passes-at t d e (x ∷ xs) h (suc i) = passes-at t d e xs (and-right (t x) _ h) i
+
+small : (i : ℕ) → leb (0 + size (event-at i)) 32 ≡ true
+unfolding event-at events of-peer size datas bytes-of every
+small i = passes-at (λ e. leb (0 + size e) 32) quit refl events refl i
+
+module _ (i : ℕ) (out : List ℕ) (long : length out ≡ 32) (w : Written) (b : List ℕ) (h : Wrote (event-at i) 0 out w b) where
+  fit : w ≡ At (0 + size (event-at i))
+  unfolding reached fits
+  fit = h .answer ∙ choose-yes _ _ _ (ap (λ (n : ℕ). leb (0 + size (event-at i)) n) long ∙ small i)
+
+  pub full-never : w ≡ Full → ⊥
+  full-never e = let f : At (0 + size (event-at i)) ≡ Full = sym fit ∙ e in let z : _≡_ {A = ℕ} 0 1 = cc in omega arith
+
+  pub few-bytes : (n : ℕ) → w ≡ At n → n ≤ 32
+  few-bytes n e = let f : 0 + size (event-at i) ≡ n = let g : At (0 + size (event-at i)) ≡ At n = sym fit ∙ e in cc in subst (λ (k : ℕ). k ≤ 32) f (leb-true _ _ (small i))
+
+  pub the-bytes : (n : ℕ) → w ≡ At n → take n b ≡ encode (event-at i)
+  the-bytes n e = front-written (event-at i) 0 out w b n h e
+
+pub plays : (i : ℕ) (s : State) (b : List ℕ) (n : ℕ) (a : Answer) (o : List ℕ) → take n b ≡ encode (event-at i) → record { answer = a; output = o } ≡ outcome (take n b) (replicate 512 0) (replicate 8192 0) s → a .state ≡ played i s
+unfolding played draws output
+plays i s b n a o e q = ap (λ (x : Outcome). x .answer .state) (q ∙ ap (λ (l : List ℕ). outcome l (replicate 512 0) (replicate 8192 0) s) e)
+
+pub cut-length : (n : ℕ) (b : List ℕ) → n ≤ 32 → length b ≡ 32 → n ≡ length (take n b)
+cut-length n b l e = sym (length-take-le n b (omega (arith, l, e)))

@@ -1,0 +1,40 @@
+-- What the functions below the count speak of: the same histories on values of `State`.
+-- Assumes nothing.
+use Prim.Native.Nat.{ℕ, _+_, _≤_}
+use mathlib.Core.List.{List, [], _∷_}
+use mathlib.Core.Bool.{false}
+use lib.ListN.{length}
+use Rattle.state.specs.declared.State.{State}
+use Rattle.record.specs.Format.{encode}
+use Rattle.rules.specs.Queries.{neighbors-in, spare-addresses-in}
+use Rattle.demand.specs.Program.{made, outcome}
+use Rattle.endings.specs.declared.Ends.{Ends}
+use Rattle.endings.specs.Events.{event-at, tiny, draws, output}
+use Rattle.endings.specs.Ends.{Sizes}
+
+-- what the program's `new` hands back
+unfoldable pub first-state : State
+first-state = made 1 false [] tiny .state
+
+-- one event
+unfoldable pub played : ℕ → State → State
+played e s = outcome (encode (event-at e)) draws output s .answer .state
+
+-- a history
+unfoldable pub after-in : List ℕ → State → State
+after-in [] s = s
+after-in (e ∷ es) s = after-in es (played e s)
+
+unfoldable pub sizes-in : State → Sizes
+sizes-in s h = (length (neighbors-in (after-in h s)), spare-addresses-in (after-in h s))
+
+-- both counts together
+unfoldable pub plus : Ends → Ends → Ends
+plus c d = record { neither = c .neither + d .neither; passive = c .passive + d .passive; active = c .active + d .active; both = c .both + d .both }
+
+-- n more histories can be counted in 32 bits
+pub record Room (c : Ends) (n : ℕ) : Type 0 where
+  pub neither : c .neither + n ≤ 4294967295
+  pub passive : c .passive + n ≤ 4294967295
+  pub active : c .active + n ≤ 4294967295
+  pub both : c .both + n ≤ 4294967295

@@ -1,0 +1,200 @@
+// Document 02, S-13: every history of at most four of sixteen events, and how many of them end with each size of the two views.
+use peer::PeerData;
+use peer::PeerInfo;
+use state::State;
+use timing::Config;
+use timing::Timing;
+use writer::Fields;
+use writer::Written;
+ghost use mathlib.Core.Path.{_≡_};
+ghost use mathlib.Core.List.{[], _∷_};
+ghost use Prim.Native.Nat.{_≤_, _<_};
+ghost use lib.ListN.{length, getD, take};
+ghost use Rattle.lists.specs.Lists.{choose};
+ghost use Rattle.histories.specs.Histories.{of-length};
+ghost use Rattle.record.specs.Format.{encode};
+ghost use Rattle.writer.specs.Write.{Wrote};
+ghost use Rattle.endings.specs.Events.{no-data, event, of-peer, quit, event-at};
+ghost use Rattle.endings.specs.Ends.{counts, all-ends};
+ghost use Rattle.endings.specs.Steps.{first-state, played, sizes-in, plus, Room};
+
+// How many histories end so: with no peer in a view, with one in the passive view alone, in the active view alone, in both.
+pub struct Ends {
+    pub neither: u32,
+    pub passive: u32,
+    pub active: u32,
+    pub both: u32,
+}
+
+// An event of a peer without nodes.
+fn put_bare(out: &mut [u8], kind: u8, message: u8, flags: u8, p: u32) -> Written
+    ensures { λ r. ⌜ Wrote (event kind message flags p []) 0 (now (out .entry)) r (now (out .exit)) ⌝ }
+{
+    let f = Fields {
+        kind: kind,
+        message: message,
+        flags: flags,
+        peer: p,
+        second: 0,
+        ttl: 0,
+        number: 0,
+    };
+    writer::write_bare(out, 0, f)
+}
+
+// A message of a peer with one node, without data.
+fn put_one(out: &mut [u8], message: u8, flags: u8, p: u32) -> Written
+    ensures { λ r. ⌜ Wrote (event 0 message flags p no-data) 0 (now (out .entry)) r (now (out .exit)) ⌝ }
+{
+    let f = Fields {
+        kind: 0,
+        message: message,
+        flags: flags,
+        peer: p,
+        second: 0,
+        ttl: 0,
+        number: 0,
+    };
+    let none = PeerData::absent();
+    let n = PeerInfo { id: 0, data: none };
+    writer::write_one(out, 0, f, n)
+}
+
+// The seven events of a peer, in the order of the request.
+fn put_of_peer(out: &mut [u8], i: usize, p: u32) -> Written
+    requires { ⌜ i < 7 ⌝ }
+    ensures { λ r. ⌜ Wrote (getD (of-peer p) i quit) 0 (now (out .entry)) r (now (out .exit)) ⌝ }
+{
+    if i == 0 {
+        return put_bare(out, 6, 0, 0, p);
+    }
+    if i == 1 {
+        return put_one(out, 0, 0, p);
+    }
+    if i == 2 {
+        return put_one(out, 4, 1, p);
+    }
+    if i == 3 {
+        return put_one(out, 4, 0, p);
+    }
+    if i == 4 {
+        return put_bare(out, 0, 5, 1, p);
+    }
+    if i == 5 {
+        return put_bare(out, 0, 5, 0, p);
+    }
+    put_bare(out, 5, 0, 0, p)
+}
+
+// The event at place i of the sixteen.
+fn put_event(out: &mut [u8], i: usize) -> Written
+    requires { ⌜ i < 16 ⌝ }
+    ensures { λ r. ⌜ Wrote (event-at i) 0 (now (out .entry)) r (now (out .exit)) ⌝ }
+{
+    if i < 7 {
+        return put_of_peer(out, i, 2);
+    }
+    if i < 14 {
+        return put_of_peer(out, i - 7, 3);
+    }
+    if i == 14 {
+        return put_bare(out, 2, 0, 0, 0);
+    }
+    put_bare(out, 8, 0, 0, 0)
+}
+
+// The new station: self 1, no data, capacities of 1 and other settings default.
+fn first() -> State
+    ensures { λ r. ⌜ r ≡ first-state ⌝ }
+{
+    let mut config = Timing::default_settings();
+    config.active_view_capacity = 1;
+    config.passive_view_capacity = 1;
+    let m = demand::new(1, false, b"", config);
+    m.state
+}
+
+// How many bytes the event at place i has, which stand at the front of the lent ones.
+fn event_bytes(out: &mut [u8], i: usize) -> usize
+    requires { ⌜ i < 16 ⌝ }
+    requires { ⌜ length (now out) ≡ 32 ⌝ }
+    ensures { λ r. ⌜ (r ≤ 32) × (take r (now (out .exit)) ≡ encode (event-at i)) ⌝ }
+{
+    let w = put_event(out, i);
+    match w {
+        Written::At(n) => n,
+        Written::Full => 0,
+    }
+}
+
+// The state after the event at place i, with draws of 0.
+fn play(s: State, i: usize) -> State
+    requires { ⌜ i < 16 ⌝ }
+    ensures { λ r. ⌜ r ≡ played i s ⌝ }
+{
+    let mut event = [0u8; 32];
+    let draws = [0u32; 512];
+    let mut out = [0u8; 8192];
+    let n = event_bytes(&mut event, i);
+    let a = demand::handle(s, &event[..n], &draws, &mut out);
+    a.state
+}
+
+fn one_if(test: bool) -> u32
+    ensures { λ r. ⌜ (r ≡ choose test 1 0) × (r ≤ 1) ⌝ }
+{
+    if test { 1 } else { 0 }
+}
+
+// One more history, which ended in s.
+fn count(s: State, c: Ends) -> Ends
+    requires { ⌜ Room c 1 ⌝ }
+    ensures { λ r. ⌜ r ≡ plus c (counts (sizes-in s) ([] ∷ [])) ⌝ }
+{
+    let v = rules::neighbors(s);
+    let active = v.len();
+    let passive = rules::spare_addresses(s);
+    Ends {
+        neither: c.neither + one_if((active == 0) & (passive == 0)),
+        passive: c.passive + one_if((active == 0) & (passive == 1)),
+        active: c.active + one_if((active == 1) & (passive == 0)),
+        both: c.both + one_if((active == 1) & (passive == 1)),
+    }
+}
+
+// Every history that goes on from s with `left` more events, by the order of events.
+fn extend(s: State, left: usize, c: Ends) -> Ends
+    requires { ⌜ Room c (length (of-length 16 left)) ⌝ }
+    ensures { λ r. ⌜ r ≡ plus c (counts (sizes-in s) (of-length 16 left)) ⌝ }
+{
+    if left == 0 {
+        return count(s, c);
+    }
+    let mut sum = c;
+    let mut i: usize = 0;
+    while i < 16 {
+        let next = play(s, i);
+        sum = extend(next, left - 1, sum);
+        i += 1;
+    }
+    sum
+}
+
+// How many of all histories of at most four events end so, shorter ones first.
+pub fn count_ends() -> Ends
+    ensures { λ r. ⌜ r ≡ all-ends ⌝ }
+{
+    let s = first();
+    let mut sum = Ends {
+        neither: 0,
+        passive: 0,
+        active: 0,
+        both: 0,
+    };
+    let mut n: usize = 0;
+    while n < 5 {
+        sum = extend(s, n, sum);
+        n += 1;
+    }
+    sum
+}
