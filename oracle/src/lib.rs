@@ -37,6 +37,8 @@ pub mod rules;
 pub mod shrink;
 pub mod station;
 pub mod stored;
+#[cfg(feature = "tools")]
+pub mod stories;
 pub mod text;
 #[cfg(feature = "tools")]
 pub mod timers;

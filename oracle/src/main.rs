@@ -12,6 +12,7 @@ use oracle::{
     check, compare,
     generate::mix::{self, MIXES},
     stored::{self, Stored},
+    stories,
     text::{self, Form, Start},
     timers, timing, words, SUBSTITUTIONS,
 };
@@ -27,6 +28,7 @@ oracle time [--seed N] [--histories N] [--events N] [--rounds N]
 oracle compare [--seed N] [--histories N] [--events N] [--mix NAME] -- COMMAND
 oracle timer-calls [--seed N] [--calls N]    calls of a timer queue, six 64-bit words each
 oracle timers                        the Rust's answers to such calls on stdin
+oracle stories [lengths]             where all histories of at most four of 02's sixteen events end
 oracle substitutions
 ";
 
@@ -95,6 +97,7 @@ fn answer(arguments: &[String]) -> Answer {
             Ok(String::new())
         }
         "timers" => Ok(timers::answers(&timers::from_bytes(&read_input()))),
+        "stories" => all_stories(rest),
         "compare" => compare(rest),
         "-h" | "--help" => Ok(USAGE.into()),
         _ => Err(USAGE.into()),
@@ -155,6 +158,15 @@ fn run(arguments: &[String], form: Form) -> Answer {
         start.counters = Some(stored::read_counters(counters).ok_or(USAGE)?);
     }
     Ok(text::run(&read_input(), start, form))
+}
+
+fn all_stories(arguments: &[String]) -> Answer {
+    let lengths = stories::by_length()?;
+    match arguments {
+        [] => Ok(stories::all(&lengths)),
+        [mode] if mode == "lengths" => Ok(stories::in_turn(&lengths)),
+        _ => Err(USAGE.into()),
+    }
 }
 
 /// The histories that the options name, each written by `write`.
