@@ -1,0 +1,4 @@
+pub mod Under
+pub mod Shape
+pub mod Held
+pub mod Widths
