@@ -1,0 +1,100 @@
+use Prim.Native.Nat.{ℕ, _+_, _-_, _≤_, _<_}
+use mathlib.Core.Path.{_≡_, refl, sym, ap, _∙_}
+use mathlib.Core.List.{List, [], _∷_, _++_, append-nil}
+use native.Mathlib.Omega.{arith}
+use lib.ListN.{length, take, getD, length-append}
+use lib.Seq.{append-snoc, take-length}
+use Rattle.lists.specs.Maps.{lookup}
+use Rattle.lists.proofs.Rest.{Rest, rest-next, rest-end}
+use Rattle.peer.specs.Data.{Node}
+use Rattle.columns.specs.Columns.{node-in}
+use Rattle.columns.specs.declared.PeerInfo.{PeerInfo}
+use Rattle.writer64.specs.declared.Nodes.{Nodes}
+use Rattle.writer64.specs.Nodes.{nodes-in, ValidNodes, HoldsNodes}
+use Rattle.writer64.proofs.Ways.{length-nodes}
+use Rattle.protocol.specs.Station.{Station}
+use Rattle.protocol.specs.Run.{node, peer-info, peer-infos}
+use Rattle.words.specs.Unpack.{unpack}
+use borrow.Author.Needs.{needs}
+use Rattle.step_sending.proofs.peer_infos.Statement.{statement}
+use Rattle.step_sending.proofs.peer_infos.Tie as tie
+
+-- The nodes of t, and those of the peers to come, are the answer. The measure is what is left.
+abbrev Then : Station → List Node → List ℕ → List Node
+Then s ns l = ns ++ peer-infos s l
+
+record Naming (s : Station) (items : List ℕ) (t : Nodes) (i : ℕ) : Type 0 where
+  valid : ValidNodes t
+  count : t .len ≡ i
+  few : length items ≤ 32
+  rest : Rest (Then s) (length items) items (length items) (peer-infos s items) (nodes-in t) i
+
+start : (s : Station) (items : List ℕ) (t : Nodes) → HoldsNodes t [] → length items ≤ 32 → Naming s items t 0
+start s items t h f = record {
+  valid = h .valid;
+  count = omega (arith, length-nodes t (h .valid), ap length (h .holds));
+  few = f;
+  rest = record {
+    low = omega arith;
+    top = omega arith;
+    long = refl;
+    same = ap (peer-infos s) (sym (take-length items)) ∙ ap (λ (xs : List Node). xs ++ peer-infos s (take (length items) items)) (sym (h .holds));
+  };
+}
+
+next : (s : Station) (items : List ℕ) (t : Nodes) (i : ℕ) (x : PeerInfo) (r : Nodes) → Naming s items t i → i < length items
+    → node-in x ≡ node (getD items i 0) (lookup (getD items i 0) (s .peer-data)) → HoldsNodes r (nodes-in t ++ (node-in x ∷ [])) → Naming s items r (i + 1)
+unfolding peer-infos peer-info
+next s items t i x r v h e k = record {
+  valid = k .valid;
+  count =
+      let q : length (nodes-in r) ≡ length (nodes-in t) + 1 = ap length (k .holds) ∙ length-append (nodes-in t) (node-in x ∷ []) in
+      omega (arith, v .count, length-nodes t (v .valid), length-nodes r (k .valid));
+  few = v .few;
+  rest =
+      rest-next 0 (Then s) (v .rest) (nodes-in r) h
+      (λ l. rw (k .holds, e) (sym (append-snoc (nodes-in t) (node (getD items i 0) (lookup (getD items i 0) (s .peer-data))) (peer-infos s l))));
+}
+
+end : (s : Station) (items : List ℕ) (t : Nodes) (i : ℕ) → Naming s items t i → length items ≤ i → HoldsNodes t (peer-infos s items)
+unfolding peer-infos
+end s items t i v h = record { valid = v .valid; holds = sym (rest-end 0 (Then s) (v .rest) h ∙ append-nil _) }
+
+abbrev Inv-loop : tie.InvT-loop
+Inv-loop st ids t₀ i₀ t i = Naming (unpack st) ids t i
+
+abbrev μ-loop : tie.MeasureT-loop
+μ-loop st ids t₀ i₀ t i = length ids - i
+
+new-requires : tie.Need-new-requires Inv-loop μ-loop
+new-requires c κs = search needs
+
+loop-holds : tie.Need-loop-holds Inv-loop μ-loop
+loop-holds c = search (start, needs)
+
+mul-p : tie.Need-mul-p Inv-loop μ-loop
+mul-p c = search needs
+
+shared-slice-read-p : tie.Need-shared-slice-read-p Inv-loop μ-loop
+shared-slice-read-p c = search needs
+
+add-i : tie.Need-add-i Inv-loop μ-loop
+add-i c = search needs
+
+peer-info-requires : tie.Need-peer-info-requires Inv-loop μ-loop
+peer-info-requires c κs = search needs
+
+push-requires : tie.Need-push-requires Inv-loop μ-loop
+push-requires c κs = search needs
+
+loop-less : tie.Need-loop-less Inv-loop μ-loop
+loop-less c = search needs
+
+loop-again : tie.Need-loop-again Inv-loop μ-loop
+loop-again c = search next
+
+returns : tie.Need-returns Inv-loop μ-loop
+returns c = search end
+
+pub peer-infos-spec : {M : Type 1} → statement M
+peer-infos-spec = tie.close (tie.spec Inv-loop μ-loop new-requires loop-holds mul-p shared-slice-read-p add-i peer-info-requires push-requires loop-less loop-again returns)

@@ -1,0 +1,391 @@
+// What the station sends: Join, Neighbor, ShuffleReply and Disconnect (the definition's `Sending`).
+use columns::PeerInfo;
+use section::PeerId;
+use words::Layout;
+use words::Work;
+use writer64::Fields;
+use writer64::Nodes;
+ghost use mathlib.Core.Path.{_≡_};
+ghost use mathlib.Core.List.{_++_};
+ghost use Prim.Native.Nat.{_-_, _≤_};
+ghost use lib.ListN.{length, take, drop};
+ghost use lib.Dec.{eqb};
+ghost use Rattle.lists.specs.Lists.{choose};
+ghost use Rattle.lists.specs.Maps.{lookup};
+ghost use Rattle.util.specs.Random.{shuffle};
+ghost use Rattle.peer.specs.Held.{ValidData};
+ghost use Rattle.section.specs.Section.{items-at, ValidSet, HoldsSet};
+ghost use Rattle.columns.specs.Columns.{node-in};
+ghost use Rattle.writer64.specs.Nodes.{HoldsNodes};
+ghost use Rattle.protocol.specs.Run.{on, emit, flag, node, peer-infos, draw-shuffle};
+ghost use Rattle.protocol.specs.Sending.{join, send-nodes, send-filled, reply-with, send-shuffle-reply, reply-length, send-disconnect};
+ghost use Rattle.protocol.specs.Sending.{request-counts, request-fits, note-request, count-request, open-request, neighbor-to, tell-request, send-neighbor, reply-neighbor};
+ghost use Rattle.words.specs.Layout.{words};
+ghost use Rattle.words.specs.Unpack.{unpack, PackedState};
+ghost use Rattle.words.specs.Work.{work-of, run, Changes, DrawsAny, Room, Tells, Fine, Does};
+ghost use Rattle.step_sending.specs.Requests.{Countable, Notable};
+
+// A flag as a number.
+fn flag(b: bool) -> u8
+    ensures { λ r. ⌜ r ≡ flag b ⌝ }
+{
+    if b {
+        return 1;
+    }
+    0
+}
+
+// A peer with the data that is held of it.
+fn peer_info(st: &[u64], p: PeerId) -> PeerInfo
+    requires { ⌜ length (now st) ≡ words ⌝ }
+    requires { ⌜ PackedState (now st) ⌝ }
+    ensures { λ r. ⌜ ValidData (r .data) ⌝ }
+    ensures { λ r. ⌜ node-in r ≡ node p (lookup p (unpack (now (st .entry)) .peer-data)) ⌝ }
+{
+    let d = columns::get_data(&st[Layout::DATA..Layout::DATA_END], Layout::DATA_CAP, p);
+    PeerInfo { id: p, data: d }
+}
+
+// Peers with the data that is held of them, in order.
+pub fn peer_infos(st: &[u64], ids: &[u64]) -> Nodes
+    requires { ⌜ length (now st) ≡ words ⌝ }
+    requires { ⌜ PackedState (now st) ⌝ }
+    requires { ⌜ length (now ids) ≤ 32 ⌝ }
+    ensures { λ r. ⌜ HoldsNodes r (peer-infos (unpack (now (st .entry))) (now (ids .entry))) ⌝ }
+{
+    let mut t = Nodes::new();
+    let mut i: usize = 0;
+    while i < ids.len() {
+        let p = ids[i];
+        i += 1;
+        let x = peer_info(st, p);
+        t = t.push(x);
+    }
+    t
+}
+
+// Join, with the station's own data.
+pub fn join(w: Work, st: &[u64], out: &mut [u8], p: PeerId) -> Work
+    requires { ⌜ length (now st) ≡ words ⌝ }
+    requires { ⌜ Room (work-of w (now st)) (now out) ⌝ }
+    ensures { λ r. ⌜ Tells (join p) (work-of w (now (st .entry))) (work-of r (now (st .entry))) (now (out .entry)) (now (out .exit)) ⌝ }
+{
+    let d = words::own_data(st);
+    let f = Fields {
+        kind: 0,
+        message: 0,
+        flags: 0,
+        peer: p,
+        second: 0,
+        ttl: 0,
+        number: 0,
+    };
+    words::emit_one(w, out, f, PeerInfo { id: 0, data: d })
+}
+
+// ShuffleReply with these peers.
+fn send_nodes(w: Work, st: &[u64], out: &mut [u8], to: PeerId, ps: &[u64]) -> Work
+    requires { ⌜ length (now st) ≡ words ⌝ }
+    requires { ⌜ Room (work-of w (now st)) (now out) ⌝ }
+    requires { ⌜ length (now ps) ≤ 32 ⌝ }
+    ensures { λ r. ⌜ Tells (send-nodes to (now (ps .entry))) (work-of w (now (st .entry))) (work-of r (now (st .entry))) (now (out .entry)) (now (out .exit)) ⌝ }
+{
+    let ns = peer_infos(st, ps);
+    let f = Fields {
+        kind: 0,
+        message: 3,
+        flags: 0,
+        peer: to,
+        second: 0,
+        ttl: 0,
+        number: 0,
+    };
+    words::emit_nodes(w, out, f, ns)
+}
+
+// ShuffleReply with the peers of a working set.
+fn send_set(w: Work, st: &[u64], out: &mut [u8], to: PeerId, v: &[u64]) -> Work
+    requires { ⌜ length (now st) ≡ words ⌝ }
+    requires { ⌜ Room (work-of w (now st)) (now out) ⌝ }
+    requires { ⌜ ValidSet 32 (now v) ⌝ }
+    ensures { λ r. ⌜ Tells (send-nodes to (items-at 32 (now (v .entry)))) (work-of w (now (st .entry))) (work-of r (now (st .entry))) (now (out .entry)) (now (out .exit)) ⌝ }
+{
+    let n = section::count(v, Layout::ALL);
+    send_nodes(w, st, out, to, &v[..n])
+}
+
+// Shuffles a working set and cuts it to at most `most` peers; a set that is not shuffled for want of draws is cut all the same.
+pub fn shuffle_and_cap(w: Work, draws: &[u32], most: usize, v: &mut [u64]) -> Work
+    requires { ⌜ w .drawn ≤ length (now draws) ⌝ }
+    requires { ⌜ ValidSet 32 (now v) ⌝ }
+    ensures { λ r. ⌜ DrawsAny (draw-shuffle (items-at 32 (now (v .entry)))) w r (now (draws .entry)) ⌝ }
+    ensures { λ r. ⌜ HoldsSet 32 (now (v .exit)) (take most (choose (eqb (r .code) 0) (shuffle (drop (w .drawn) (now (draws .entry))) (items-at 32 (now (v .entry)))) (items-at 32 (now (v .entry))))) ⌝ }
+{
+    let r = words::shuffle(w, draws, v);
+    section::truncate(v, Layout::ALL, most);
+    r
+}
+
+// Fills the peers of a working set up to `len` from the shuffled active view.
+fn fill_active(w: Work, st: &[u64], draws: &[u32], len: usize, v: &mut [u64]) -> Work
+    requires { ⌜ length (now st) ≡ words ⌝ }
+    requires { ⌜ PackedState (now st) ⌝ }
+    requires { ⌜ w .drawn ≤ length (now draws) ⌝ }
+    requires { ⌜ ValidSet 32 (now v) ⌝ }
+    requires { ⌜ length (items-at 32 (now v)) ≤ len ⌝ }
+    requires { ⌜ len ≤ 32 ⌝ }
+    ensures { λ r. ⌜ DrawsAny (draw-shuffle (unpack (now (st .entry)) .active)) w r (now (draws .entry)) ⌝ }
+    ensures { λ r. ⌜ HoldsSet 32 (now (v .exit)) (items-at 32 (now (v .entry)) ++ take (len - length (items-at 32 (now (v .entry)))) (choose (eqb (r .code) 0) (shuffle (drop (w .drawn) (now (draws .entry))) (unpack (now (st .entry)) .active)) (unpack (now (st .entry)) .active))) ⌝ }
+{
+    let n = section::count(v, Layout::ALL);
+    let mut more = [0u64; 33];
+    section::copy_into(
+        &st[Layout::ACTIVE..Layout::ACTIVE_END],
+        Layout::FEW,
+        &mut more,
+    );
+    let r = shuffle_and_cap(w, draws, len - n, &mut more);
+    section::append(v, Layout::ALL, &more, Layout::ALL);
+    r
+}
+
+// ShuffleReply where there are not enough passive peers for the expected length.
+fn send_filled(
+    w: Work,
+    st: &[u64],
+    draws: &[u32],
+    out: &mut [u8],
+    to: PeerId,
+    len: usize,
+    v: &mut [u64],
+) -> Work
+    requires { ⌜ length (now st) ≡ words ⌝ }
+    requires { ⌜ Fine (work-of w (now st)) (now draws) (now out) ⌝ }
+    requires { ⌜ ValidSet 32 (now v) ⌝ }
+    requires { ⌜ length (items-at 32 (now v)) ≤ len ⌝ }
+    requires { ⌜ len ≤ 32 ⌝ }
+    ensures { λ r. ⌜ Does (work-of r (now (st .entry))) (now (draws .entry)) (now (out .exit)) (send-filled to len (items-at 32 (now (v .entry))) (run (work-of w (now (st .entry))) (now (draws .entry)) (now (out .entry)))) ⌝ }
+{
+    let a = fill_active(w, st, draws, len, v);
+    send_set(a, st, out, to, v)
+}
+
+// ShuffleReply with the peers of a working set, filled up where they are fewer than `len`.
+fn reply_with(
+    w: Work,
+    st: &[u64],
+    draws: &[u32],
+    out: &mut [u8],
+    to: PeerId,
+    len: usize,
+    v: &mut [u64],
+) -> Work
+    requires { ⌜ length (now st) ≡ words ⌝ }
+    requires { ⌜ Fine (work-of w (now st)) (now draws) (now out) ⌝ }
+    requires { ⌜ ValidSet 32 (now v) ⌝ }
+    requires { ⌜ len ≤ 32 ⌝ }
+    ensures { λ r. ⌜ Does (work-of r (now (st .entry))) (now (draws .entry)) (now (out .exit)) (reply-with to len (items-at 32 (now (v .entry))) (run (work-of w (now (st .entry))) (now (draws .entry)) (now (out .entry)))) ⌝ }
+{
+    let n = section::count(v, Layout::ALL);
+    if n < len {
+        return send_filled(w, st, draws, out, to, len, v);
+    }
+    send_set(w, st, out, to, v)
+}
+
+// ShuffleReply with `len` peers of the passive view, which is shuffled whole before it is cut.
+pub fn send_shuffle_reply(
+    w: Work,
+    st: &[u64],
+    draws: &[u32],
+    out: &mut [u8],
+    to: PeerId,
+    len: usize,
+) -> Work
+    requires { ⌜ length (now st) ≡ words ⌝ }
+    requires { ⌜ Fine (work-of w (now st)) (now draws) (now out) ⌝ }
+    requires { ⌜ len ≤ 32 ⌝ }
+    ensures { λ r. ⌜ Does (work-of r (now (st .entry))) (now (draws .entry)) (now (out .exit)) (send-shuffle-reply to len (run (work-of w (now (st .entry))) (now (draws .entry)) (now (out .entry)))) ⌝ }
+{
+    let mut v = [0u64; 33];
+    section::copy_into(
+        &st[Layout::PASSIVE..Layout::PASSIVE_END],
+        Layout::ALL,
+        &mut v,
+    );
+    let a = shuffle_and_cap(w, draws, len, &mut v);
+    reply_with(a, st, draws, out, to, len, &mut v)
+}
+
+// How many peers a Disconnect's ShuffleReply names.
+fn reply_length(st: &[u64]) -> usize
+    requires { ⌜ length (now st) ≡ words ⌝ }
+    requires { ⌜ PackedState (now st) ⌝ }
+    ensures { λ r. ⌜ r ≡ reply-length (unpack (now (st .entry))) ⌝ }
+    ensures { λ r. ⌜ r ≤ 32 ⌝ }
+{
+    let n = st[Layout::SHUFFLE_ACTIVE_VIEW_COUNT] as usize;
+    n + st[Layout::SHUFFLE_PASSIVE_VIEW_COUNT] as usize
+}
+
+// Disconnect, and before it a ShuffleReply.
+pub fn send_disconnect(
+    w: Work,
+    st: &[u64],
+    draws: &[u32],
+    out: &mut [u8],
+    p: PeerId,
+    alive: bool,
+) -> Work
+    requires { ⌜ length (now st) ≡ words ⌝ }
+    requires { ⌜ Fine (work-of w (now st)) (now draws) (now out) ⌝ }
+    ensures { λ r. ⌜ Does (work-of r (now (st .entry))) (now (draws .entry)) (now (out .exit)) (send-disconnect p alive (run (work-of w (now (st .entry))) (now (draws .entry)) (now (out .entry)))) ⌝ }
+{
+    let len = reply_length(st);
+    let a = send_shuffle_reply(w, st, draws, out, p, len);
+    let flags = flag(alive);
+    let f = Fields {
+        kind: 0,
+        message: 5,
+        flags: flags,
+        peer: p,
+        second: 0,
+        ttl: 0,
+        number: 0,
+    };
+    words::emit_bare(a, out, f)
+}
+
+// Whether the next request's number is not the last.
+fn request_counts(st: &[u64]) -> bool
+    requires { ⌜ length (now st) ≡ words ⌝ }
+    ensures { λ r. ⌜ r ≡ request-counts (unpack (now (st .entry))) ⌝ }
+{
+    st[Layout::NEXT_NEIGHBOR_REQUEST] < 18446744073709551615
+}
+
+// Whether there is a place for one more open request.
+fn request_fits(st: &[u64]) -> bool
+    requires { ⌜ length (now st) ≡ words ⌝ }
+    requires { ⌜ PackedState (now st) ⌝ }
+    ensures { λ r. ⌜ r ≡ request-fits (unpack (now (st .entry))) ⌝ }
+{
+    let n = columns::count_numbers(&st[Layout::REQUESTS..Layout::REQUESTS_END], Layout::ALL);
+    n < Layout::ALL
+}
+
+// The request to p is open under the next number.
+fn note_request(w: Work, st: &mut [u64], p: PeerId) -> Work
+    requires { ⌜ length (now st) ≡ words ⌝ }
+    requires { ⌜ PackedState (now st) ⌝ }
+    requires { ⌜ Notable (w .code) (unpack (now st)) ⌝ }
+    ensures { λ r. ⌜ Changes (on (note-request p)) (work-of w (now (st .entry))) (work-of r (now (st .exit))) ⌝ }
+{
+    if w.code != 0 {
+        return w;
+    }
+    let id = st[Layout::NEXT_NEIGHBOR_REQUEST];
+    columns::insert_number(
+        &mut st[Layout::REQUESTS..Layout::REQUESTS_END],
+        Layout::ALL,
+        p,
+        id,
+    );
+    st[Layout::NEXT_NEIGHBOR_REQUEST] = id + 1;
+    w
+}
+
+// Code 10 where no number is left for a request.
+fn count_request(w: Work, st: &[u64]) -> Work
+    requires { ⌜ length (now st) ≡ words ⌝ }
+    requires { ⌜ PackedState (now st) ⌝ }
+    ensures { λ r. ⌜ Changes count-request (work-of w (now (st .entry))) (work-of r (now (st .entry))) ⌝ }
+{
+    let test = request_counts(st);
+    words::require(w, 10, test)
+}
+
+// Code 6 where a 33rd open request is needed.
+fn open_request(w: Work, st: &mut [u64], p: PeerId) -> Work
+    requires { ⌜ length (now st) ≡ words ⌝ }
+    requires { ⌜ PackedState (now st) ⌝ }
+    requires { ⌜ Countable (w .code) (unpack (now st)) ⌝ }
+    ensures { λ r. ⌜ Changes (open-request p) (work-of w (now (st .entry))) (work-of r (now (st .exit))) ⌝ }
+{
+    let test = request_fits(st);
+    let a = words::require(w, 6, test);
+    note_request(a, st, p)
+}
+
+// Neighbor, with the station's own data.
+fn tell_neighbor(w: Work, st: &[u64], out: &mut [u8], p: PeerId, high: bool) -> Work
+    requires { ⌜ length (now st) ≡ words ⌝ }
+    requires { ⌜ Room (work-of w (now st)) (now out) ⌝ }
+    ensures { λ r. ⌜ Tells (emit (neighbor-to (unpack (now (st .entry)) .own-data) high p)) (work-of w (now (st .entry))) (work-of r (now (st .entry))) (now (out .entry)) (now (out .exit)) ⌝ }
+{
+    let d = words::own_data(st);
+    let flags = flag(high);
+    let f = Fields {
+        kind: 0,
+        message: 4,
+        flags: flags,
+        peer: p,
+        second: 0,
+        ttl: 0,
+        number: 0,
+    };
+    words::emit_one(w, out, f, PeerInfo { id: 0, data: d })
+}
+
+// Neighbor, and the timer that ends the wait for its answer.
+fn tell_request(w: Work, st: &[u64], out: &mut [u8], p: PeerId, high: bool, id: u64) -> Work
+    requires { ⌜ length (now st) ≡ words ⌝ }
+    requires { ⌜ Room (work-of w (now st)) (now out) ⌝ }
+    ensures { λ r. ⌜ Tells (tell-request p high id) (work-of w (now (st .entry))) (work-of r (now (st .entry))) (now (out .entry)) (now (out .exit)) ⌝ }
+{
+    let a = tell_neighbor(w, st, out, p, high);
+    let f = Fields {
+        kind: 3,
+        message: 0,
+        flags: 0,
+        peer: p,
+        second: st[Layout::NEIGHBOR_REQUEST_TIMEOUT],
+        ttl: 0,
+        number: id,
+    };
+    words::emit_bare(a, out, f)
+}
+
+// Neighbor to p, unless a request to it is open.
+pub fn send_neighbor(w: Work, st: &mut [u64], out: &mut [u8], p: PeerId, high: bool) -> Work
+    requires { ⌜ length (now st) ≡ words ⌝ }
+    requires { ⌜ Room (work-of w (now st)) (now out) ⌝ }
+    ensures { λ r. ⌜ Tells (send-neighbor p high) (work-of w (now (st .entry))) (work-of r (now (st .exit))) (now (out .entry)) (now (out .exit)) ⌝ }
+{
+    if words::is_requested(st, p) {
+        return w;
+    }
+    let id = st[Layout::NEXT_NEIGHBOR_REQUEST];
+    let a = count_request(w, st);
+    let b = open_request(a, st, p);
+    tell_request(b, st, out, p, high, id)
+}
+
+// Neighbor to p, where an answer is wanted.
+pub fn reply_neighbor(
+    w: Work,
+    st: &mut [u64],
+    out: &mut [u8],
+    reply: bool,
+    p: PeerId,
+    high: bool,
+) -> Work
+    requires { ⌜ length (now st) ≡ words ⌝ }
+    requires { ⌜ Room (work-of w (now st)) (now out) ⌝ }
+    ensures { λ r. ⌜ Tells (reply-neighbor reply p high) (work-of w (now (st .entry))) (work-of r (now (st .exit))) (now (out .entry)) (now (out .exit)) ⌝ }
+{
+    if reply {
+        return send_neighbor(w, st, out, p, high);
+    }
+    w
+}
