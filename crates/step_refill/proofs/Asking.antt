@@ -1,0 +1,146 @@
+-- Whom a refill asks.
+-- Assumes nothing.
+use Prim.Native.Nat.{ℕ, _+_, _≤_, _<_}
+use mathlib.Core.Path.{_≡_, refl, sym, ap, _∙_}
+use mathlib.Core.Bool.{Bool, true, false, _||_}
+use mathlib.Core.List.{List, [], _∷_, _++_}
+use native.Mathlib.Omega.{arith}
+use lib.ListN.{length, take, getD, set}
+use lib.Dec.{leb}
+use borrow.Rule.Slice.PartMut.{putMid}
+use Rattle.lists.specs.Array.{pad}
+use Rattle.lists.specs.Lists.{choose, null, without-all}
+use Rattle.lists.specs.Maps.{keys}
+use Rattle.lists.proofs.Choice.{choose-yes, choose-no, clash}
+use Rattle.lists.proofs.Skips.{without-none, without-append}
+use Rattle.util.specs.Random.{pick}
+use Rattle.section.specs.Section.{part, items-at, ValidSet, HoldsSet}
+use Rattle.section.proofs.Sets.{set-as, set-then, set-stored}
+use Rattle.columns.specs.Columns.{numbers-at}
+use Rattle.protocol.specs.Station.{Station, Refill, is-alone, is-spent, asked-outside}
+use Rattle.protocol.specs.Run.{Run, on, draw, drawn, picked}
+use Rattle.protocol.specs.Sending.{send-neighbor}
+use Rattle.protocol.specs.Refill.{use-request, end-recovery, limit-short, skipped, candidates, ask-picked, ask-one, refill-limited, needs-none, refill-active-from-passive, begin-refill, start-refill}
+use Rattle.words.specs.declared.Work.{Work}
+use Rattle.words.specs.Layout.{active-view-capacity, active-part, refused-part, requests-part}
+use Rattle.words.specs.declared.RefillLimit.{RefillLimit}
+use Rattle.words.specs.Unpack.{unpack, station-of, settings-at, limit-at, refill-in}
+use Rattle.words.specs.Work.{Held, work-of, run, Changes, DrawsAny, Tells, Fine, Does}
+use Rattle.words.proofs.Bridge.{by, still, then, then-tell, seq, taken, left, holds-at}
+use Rattle.words.proofs.Any.{then-draw-any}
+
+-- ---- working sets
+
+-- a column that has lost the peers of a list, with its count
+pub left-list : (s skip ys : List ℕ) (k : ℕ) → ValidSet 32 s → ys ≡ pad 0 (length (part 0 32 s)) (without-all skip (take (getD s 32 0) (part 0 32 s)))
+    → k ≡ length (without-all skip (take (getD s 32 0) (part 0 32 s))) → k ≤ getD s 32 0 → HoldsSet 32 (set (putMid 0 32 s ys) 32 k) (without-all skip (items-at 32 s))
+unfolding items-at
+left-list s skip ys k v o q h = set-stored 32 s ys _ k v o q (omega (arith, v .fits))
+
+pub left-of : (skip t r l : List ℕ) → HoldsSet 32 r (without-all skip (items-at 32 t)) → HoldsSet 32 t l → HoldsSet 32 r (without-all skip l)
+left-of skip t r l h k = set-then 32 (without-all skip) h k
+
+pub left-by : (a t r l : List ℕ) → HoldsSet 32 r (without-all (items-at 32 a) (items-at 32 t)) → HoldsSet 32 a l → HoldsSet 32 r (without-all l (items-at 32 t))
+left-by a t r l h k = set-as 32 r _ _ h (ap (λ (x : List ℕ). without-all x (items-at 32 t)) (k .items))
+
+pub outside-held : (xs asked r : List ℕ) → HoldsSet 32 asked (keys (numbers-at 32 (requests-part xs))) → HoldsSet 32 r (without-all (items-at 8 (active-part xs)) (items-at 32 asked))
+    → HoldsSet 32 r (asked-outside (unpack xs))
+unfolding asked-outside unpack station-of
+outside-held xs asked r k h = set-then 32 (without-all (items-at 8 (active-part xs))) h k
+
+-- ---- candidates
+
+-- without the three lists, one after the other
+candidates-are : (skip : List ℕ) (s : Station) → candidates skip s ≡ without-all (choose (is-alone s) [] (s .refused)) (without-all (keys (s .requests)) (without-all skip (s .passive)))
+unfolding candidates skipped
+candidates-are skip s =
+    without-append skip (keys (s .requests) ++ choose (is-alone s) [] (s .refused)) (s .passive)
+    ∙ without-append (keys (s .requests)) (choose (is-alone s) [] (s .refused)) (without-all skip (s .passive))
+
+module _ (xs skip others free : List ℕ) (t : Bool) (h : HoldsSet 32 others (without-all skip (unpack xs .passive))) (f : HoldsSet 32 free (without-all (keys (unpack xs .requests)) (items-at 32 others))) (e : t ≡ is-alone (unpack xs)) where
+  abbrev unasked : List ℕ
+  unasked = without-all (keys (unpack xs .requests)) (without-all skip (unpack xs .passive))
+
+  free-is : items-at 32 free ≡ unasked
+  free-is = f .items ∙ ap (without-all (keys (unpack xs .requests))) (h .items)
+
+  pub candidates-alone : t ≡ true → HoldsSet 32 free (candidates skip (unpack xs))
+  candidates-alone q = record {
+    valid = f .valid;
+    items =
+        free-is
+        ∙ sym
+        (candidates-are skip (unpack xs)
+        ∙ ap (λ (l : List ℕ). without-all l unasked) (choose-yes (is-alone (unpack xs)) [] (unpack xs .refused) (sym e ∙ q))
+        ∙ without-none unasked);
+  }
+
+  pub candidates-else : (r : List ℕ) → t ≡ false → HoldsSet 32 r (without-all (unpack xs .refused) (items-at 32 free)) → HoldsSet 32 r (candidates skip (unpack xs))
+  candidates-else r q g = record {
+    valid = g .valid;
+    items =
+        g .items ∙ ap (without-all (unpack xs .refused)) free-is
+        ∙ sym
+        (candidates-are skip (unpack xs)
+        ∙ ap (λ (l : List ℕ). without-all l unasked) (choose-no (is-alone (unpack xs)) [] (unpack xs .refused) (sym e ∙ q)));
+  }
+
+-- ---- one of them
+
+pub fine-after : {step : Run → Run} (w a : Work) (xs ys ds out : List ℕ) → Fine (work-of w xs) ds out → Changes step (work-of w xs) (work-of a ys) → Fine (work-of a ys) ds out
+fine-after w a xs ys ds out v k = then k (still v) .fine
+
+some-item : (l : List ℕ) → null l ≡ false → 0 < length l
+unfolding null
+some-item [] e = clash true refl e
+some-item (x ∷ l) e = omega arith
+
+pub some-there : (from : List ℕ) (t : Bool) → t ≡ null (items-at 32 from) → t ≡ false → 0 < length (items-at 32 from)
+some-there from t e h = some-item (items-at 32 from) (sym e ∙ h)
+
+pub one-picked : (w a b r : Work) (xs ys zs ds out o from : List ℕ) (n i p : ℕ) (high : Bool) → Fine (work-of w xs) ds out → high ≡ is-alone (unpack xs) → n ≡ length (items-at 32 from) → i ≡ pick n (getD ds (w .drawn) 0)
+    → p ≡ getD (items-at 32 from) i 0 → Changes (on use-request) (work-of b ys) (work-of r zs) → Tells (send-neighbor p high) (work-of a xs) (work-of b ys) out o → DrawsAny (draw 1) w a ds
+    → Does (work-of r zs) ds o (ask-picked (items-at 32 from) (run (work-of w xs) ds out))
+unfolding ask-picked picked drawn run
+one-picked w a b r xs ys zs ds out o from n i p high v q c u e k₃ k₂ k₁ =
+    let at = e ∙ ap (λ (k : ℕ). getD (items-at 32 from) k 0) (u ∙ ap (λ (k : ℕ). pick k (getD ds (w .drawn) 0)) c) in
+    by _ (λ j. on use-request (send-neighbor (sym at j) (sym q j) (draw 1 (run (work-of w xs) ds out))))
+    (then k₃ (then-tell k₂ (then-draw-any k₁ (still v))))
+
+module _ (from : List ℕ) (w r : Work) (xs ys ds out o : List ℕ) where
+  pub none-left : (t : Bool) → Fine (work-of w xs) ds out → t ≡ null (items-at 32 from) → t ≡ true → Changes (on end-recovery) (work-of w xs) (work-of r ys) → Does (work-of r ys) ds out (ask-one (items-at 32 from) (run (work-of w xs) ds out))
+  unfolding ask-one
+  none-left t v e h k = taken (null (items-at 32 from)) (ask-picked (items-at 32 from) (run (work-of w xs) ds out)) (sym e ∙ h) (then k (still v))
+
+  pub one-asked : (t : Bool) → t ≡ null (items-at 32 from) → t ≡ false → Does (work-of r ys) ds o (ask-picked (items-at 32 from) (run (work-of w xs) ds out)) → Does (work-of r ys) ds o (ask-one (items-at 32 from) (run (work-of w xs) ds out))
+  unfolding ask-one
+  one-asked t e h d = left (null (items-at 32 from)) (on end-recovery (run (work-of w xs) ds out)) (sym e ∙ h) d
+
+  pub limited-done : (skip : List ℕ) → HoldsSet 32 from (candidates skip (unpack xs)) → Does (work-of r ys) ds o (ask-one (items-at 32 from) (run (work-of w xs) ds out)) → Does (work-of r ys) ds o (refill-limited skip (run (work-of w xs) ds out))
+  unfolding refill-limited run
+  limited-done skip h d = by (refill-limited skip (run (work-of w xs) ds out)) (ap (λ (l : List ℕ). ask-one l (run (work-of w xs) ds out)) (sym (h .items))) d
+
+-- ---- whether one is asked at all
+
+pub none-needed : (xs t : List ℕ) (n asked : ℕ) (l : RefillLimit) (spent : Bool) → l ≡ limit-at xs → HoldsSet 32 t (asked-outside (unpack xs)) → asked ≡ length (items-at 32 t) → n ≡ length (items-at 8 (active-part xs))
+    → spent ≡ is-spent (refill-in l) → (leb (active-view-capacity xs) (n + asked) || spent) ≡ needs-none (unpack xs)
+unfolding needs-none unpack station-of settings-at
+none-needed xs t n asked l spent e h q u b =
+    let c = q ∙ ap length (h .items) in
+    let d = b ∙ ap (λ (x : RefillLimit). is-spent (refill-in x)) e in
+    λ i. leb (active-view-capacity xs) (u i + c i) || d i
+
+module _ (skip : List ℕ) (w : Work) (xs ds out : List ℕ) (t : Bool) (v : Fine (work-of w xs) ds out) (e : t ≡ needs-none (unpack xs)) where
+  pub not-needed : t ≡ true → Does (work-of w xs) ds out (refill-active-from-passive skip (run (work-of w xs) ds out))
+  unfolding refill-active-from-passive
+  not-needed h = by _ (choose-yes _ _ _ (holds-at (work-of w xs) ds out needs-none e h)) (still v)
+
+  pub needed : (a r : Work) (ys zs o : List ℕ) → t ≡ false → Changes (on limit-short) (work-of w xs) (work-of a ys) → Does (work-of r zs) ds o (refill-limited skip (run (work-of a ys) ds out))
+      → Does (work-of r zs) ds o (refill-active-from-passive skip (run (work-of w xs) ds out))
+  unfolding refill-active-from-passive
+  needed a r ys zs o h k d = by _ (choose-no _ _ _ (holds-at (work-of w xs) ds out needs-none e h)) (seq (refill-limited skip) d (then k (still v)))
+
+pub refill-started : (limit : Refill) (skip : List ℕ) (w a r : Work) (xs ys zs ds out o : List ℕ) → Fine (work-of w xs) ds out → Changes (on (begin-refill limit)) (work-of w xs) (work-of a ys)
+    → Does (work-of r zs) ds o (refill-active-from-passive skip (run (work-of a ys) ds out)) → Does (work-of r zs) ds o (start-refill limit skip (run (work-of w xs) ds out))
+unfolding start-refill
+refill-started limit skip w a r xs ys zs ds out o v k d = seq (refill-active-from-passive skip) d (then k (still v))
