@@ -5,3 +5,5 @@ pub mod Widths
 pub mod Packed
 pub mod Maps
 pub mod Back
+pub mod Parts
+pub mod Fitting

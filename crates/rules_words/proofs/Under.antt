@@ -78,7 +78,7 @@ module _ (s : List ℕ) (whole : Bool) (bits i : ℕ) (v : Left Narrow s whole b
 
 -- ---- the tests of a map
 
-numbers-are : (n : ℕ) (m : List (ℕ × ℕ)) → numbers-under n m ≡ all-under n (values m)
+pub numbers-are : (n : ℕ) (m : List (ℕ × ℕ)) → numbers-under n m ≡ all-under n (values m)
 unfolding numbers-under all-under values
 numbers-are n [] = refl
 numbers-are n (e ∷ m) = ap (λ (b : Bool). ltb (e .1) n && b) (numbers-are n m)
