@@ -14,7 +14,7 @@ def fail(text):
 
 def usage(text):
     """Ends the tool with its help: on standard output where it was asked for, otherwise as an error."""
-    if sys.argv[1:2] in (["-h"], ["--help"]):
+    if {"-h", "--help"} & set(sys.argv[1:]):
         print(text.strip())
         sys.exit(0)
     sys.exit(text.strip())
