@@ -902,7 +902,7 @@ def main():
             raise SystemExit(f"{rest[0]}: not what make would write")
     elif mode == ["show"] and len(rest) == 3 and rest[1].isdigit() and rest[2].isdigit():
         show(Path(rest[0]), int(rest[1]), int(rest[2]))
-    elif mode == ["--help"]:
+    elif mode in (["-h"], ["--help"]):
         print(__doc__)
     else:
         raise SystemExit(USAGE)

@@ -2,18 +2,17 @@
 """When the k-th shuffle is due (document 02, S-11), calculated in exact integers from document 01's delay rule alone.
 
 usage: tools/shuffle_times.py make      writes crates/shuffles/stdin and stdout: questions, and both ends of each
+       tools/shuffle_times.py check     fails where they are not what make would write
        tools/shuffle_times.py oracle    holds target/bin/shuffles against the Rust, run as a station (oracle/README.md)
 """
 import itertools
-import os
 import random
 import struct
-import subprocess
 import sys
 
-ROOT = os.path.dirname(os.path.dirname(os.path.abspath(__file__)))
-PROGRAM = os.path.join("target", "bin", "shuffles")
-ORACLE = os.path.join("oracle", "target", "release", "oracle")
+import tool
+
+PROGRAM = tool.ROOT / "target" / "bin" / "shuffles"
 
 # The settings in their order, with their defaults and ranges (document 01, "Settings and station rules").
 DEFAULTS = (5, 30, 6, 3, 6, 3, 4, 60000, 3000)
@@ -73,21 +72,12 @@ def line(question):
     return "{} {}\n".format(*ends(*question))
 
 
-def make():
-    folder = os.path.join(ROOT, "crates", "shuffles")
+def files():
     asked = list(questions())
-    with open(os.path.join(folder, "stdin"), "wb") as file:
-        file.write(b"".join(packed(question) for question in asked))
-    with open(os.path.join(folder, "stdout"), "w", encoding="ascii") as file:
-        file.write("".join(line(question) for question in asked))
-    print(f"{len(asked)} questions")
-
-
-def run(program, words, data):
-    try:
-        return subprocess.run([os.path.join(ROOT, program), *words], input=data, stdout=subprocess.PIPE, check=True).stdout.decode()
-    except (OSError, subprocess.CalledProcessError) as wrong:
-        raise SystemExit(f"{program}: {wrong}") from None
+    return {
+        "crates/shuffles/stdin": b"".join(map(packed, asked)),
+        "crates/shuffles/stdout": "".join(map(line, asked)).encode("ascii"),
+    }
 
 
 def event(kind, message=0, flags=0, peer=0, nodes=()):
@@ -111,10 +101,10 @@ def delays_of(interval, events, draws):
     body = b"".join(events)
     head = struct.pack("<14I", 1, *with_setting(INTERVAL, interval), len(events), 56, len(draws), 56 + len(body))
     found = []
-    for text in run(ORACLE, ["station"], head + body + struct.pack(f"<{len(draws)}I", *draws)).splitlines():
+    for text in tool.oracle("station", input=head + body + struct.pack(f"<{len(draws)}I", *draws)).decode().splitlines():
         words = text.split(" ")
         if words[0] == "=" and words[1] != "0":
-            raise SystemExit(f"the Rust refused an event with code {words[1]}")
+            tool.fail(f"the Rust refused an event with code {words[1]}")
         if words[0] != "=" and words[1] == "1":
             found.append(int(words[4]))
     return found
@@ -125,27 +115,29 @@ def oracle():
     for interval, (name, (first, between, count, drawn)) in itertools.product(INTERVALS + (DEFAULTS[INTERVAL],), HISTORIES.items()):
         events = first + [one for _ in range(count - 1) for one in between + [SHUFFLE]]
         asked = b"".join(packed((0, 0, with_setting(INTERVAL, interval), k)) for k in range(1, count + 1))
-        both = [tuple(map(int, text.split(" "))) for text in run(PROGRAM, [], asked).splitlines()]
+        both = [tuple(map(int, text.split(" "))) for text in tool.run([PROGRAM], input=asked).decode().splitlines()]
         lists = {"lowest": [LOWEST_DRAW] * drawn, "highest": [HIGHEST_DRAW] * drawn}
         lists.update({f"random {i}": [rng.getrandbits(32) for _ in range(drawn)] for i in range(3)})
         for kind, draws in lists.items():
             times = list(itertools.accumulate(delays_of(interval, events, draws)))
             if len(times) != count:
-                raise SystemExit(f"interval {interval}, {name}: {len(times)} shuffle timers, not {count}")
+                tool.fail(f"interval {interval}, {name}: {len(times)} shuffle timers, not {count}")
             for k, (time, (low, high)) in enumerate(zip(times, both), 1):
                 wanted = {"lowest": time == low, "highest": time == high}.get(kind, low <= time <= high)
                 if not wanted:
-                    raise SystemExit(f"interval {interval}, {name}, draws {kind}: shuffle {k} is due at {time}, the ends are {low} and {high}")
+                    tool.fail(f"interval {interval}, {name}, draws {kind}: shuffle {k} is due at {time}, the ends are {low} and {high}")
                 met += 1
             runs += 1
     print(f"{met} due times of {runs} histories of the Rust: all within the ends, and the ends met by the lowest and the highest draws")
 
 
 def main():
-    modes = {"make": make, "oracle": oracle}
-    if len(sys.argv) != 2 or sys.argv[1] not in modes:
-        raise SystemExit(__doc__)
-    modes[sys.argv[1]]()
+    if sys.argv[1:] in (["make"], ["check"]):
+        tool.made(files(), sys.argv[1])
+    elif sys.argv[1:] == ["oracle"]:
+        oracle()
+    else:
+        tool.usage(__doc__)
 
 
 main()
