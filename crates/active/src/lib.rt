@@ -186,7 +186,7 @@ fn remove_active_by_index(w: Work, draws: &[u32], out: &mut [u8], i: usize, why:
     settle(a, draws, out, why, p)
 }
 
-// Peers that refused may have room now, and the neighbor p is missing.
+// Who refused before is asked again, now that the neighbor p is missing.
 fn refill_after(w: Work, draws: &[u32], out: &mut [u8], p: u32) -> Work
     requires { ⌜ Fine w (now draws) (now out) ⌝ }
     ensures { λ r. ⌜ Does r (now (draws .entry)) (now (out .exit)) (refill-after p (run w (now (draws .entry)) (now (out .entry)))) ⌝ }

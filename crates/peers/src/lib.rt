@@ -213,7 +213,7 @@ fn keep_data(w: Work, p: u32, d: PeerData) -> Work
     store_data(a, p, d)
 }
 
-// Forgets what is held of p, unless it is still in a view.
+// What is held of a peer goes with its last place in a view.
 pub fn forget_peer(w: Work, p: u32) -> Work
     requires { ⌜ PackedState (w .state) ⌝ }
     ensures { λ r. ⌜ Changes (forget-peer p) w r ⌝ }

@@ -123,7 +123,7 @@ fn needs_limit(s: State) -> bool
     l.is_automatic() & (!s.is_alone() & s.is_short())
 }
 
-// A short node always refills with a limit.
+// A refill for which no limit is set gets one where neighbors are few.
 fn limit_short(w: Work) -> Work
     requires { ⌜ PackedState (w .state) ⌝ }
     ensures { λ r. ⌜ Changes (on limit-short) w r ⌝ }

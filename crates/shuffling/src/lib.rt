@@ -158,7 +158,7 @@ pub fn on_shuffle(
     forward_shuffle(w, draws, out, others, origin, b, n, ttl)
 }
 
-// Whether a refusal ends the search for a neighbor: only a short node asks the next passive peer.
+// Whether a refusal ends the search for a neighbor: with enough of them it does.
 fn stops_at_refusal(s: State, from: u32) -> bool
     requires { ⌜ PackedState s ⌝ }
     ensures { λ r. ⌜ r ≡ stops-at-refusal from (unpack s) ⌝ }
@@ -166,7 +166,7 @@ fn stops_at_refusal(s: State, from: u32) -> bool
     s.is_requested(from) & !s.is_short()
 }
 
-// Whether a reply to our shuffle with new peers renews a used-up limit; a refusal does not.
+// Whether a spent limit is renewed: by peers that were not known before, unless the reply came with a refusal.
 fn renews_limit(s: State, from: u32, fresh: bool) -> bool
     requires { ⌜ PackedState s ⌝ }
     ensures { λ r. ⌜ r ≡ renews-limit from fresh (unpack s) ⌝ }

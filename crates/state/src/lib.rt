@@ -21,7 +21,7 @@ ghost use Rattle.state.specs.Memory.{own-of, own-kept, limit-of, limit-k
 ghost use Rattle.state.specs.Unpack.{unpack, refill-in, PackedState};
 ghost use Rattle.state.specs.Work.{Changes, Ready, Draws, Room, Tells, after-record};
 
-// How many more requests a refill of the active view may send.
+// What bounds a refill; protocol/Station says of `Refill` why there are three cases.
 pub enum RefillLimit {
     Automatic,
     Requests(u8),
@@ -332,7 +332,7 @@ impl State {
         self.config.passive_view_capacity as usize <= v.len()
     }
 
-    // Whether the active view is below half its capacity, rounded up.
+    // Too few neighbors: fewer than half of those that there is room for, rounded up.
     pub fn is_short(self) -> bool
         requires { ⌜ PackedState self ⌝ }
         ensures { λ r. ⌜ r ≡ is-short (unpack self) ⌝ }

@@ -189,7 +189,7 @@ fn keep_data(w: Work, st: &mut [u64], p: PeerId, d: PeerData) -> Work
     store_data(a, st, p, d)
 }
 
-// Forgets what is held of p, unless it is still in a view.
+// What is held of a peer goes with its last place in a view.
 pub fn forget_peer(w: Work, st: &mut [u64], p: PeerId) -> Work
     requires { ⌜ length (now st) ≡ words ⌝ }
     requires { ⌜ PackedState (now st) ⌝ }

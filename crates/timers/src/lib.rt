@@ -263,7 +263,7 @@ fn renew_all(from: IndexSet, known: IndexSet) -> IndexSet
     t
 }
 
-// Neighbors that stay count as seen again.
+// Each neighbor moves to the end of the recent ones, so that those who come and go do not push it out.
 fn remember_all(w: Work) -> Work
     requires { ⌜ PackedState (w .state) ⌝ }
     ensures { λ r. ⌜ Changes (on remember-all) w r ⌝ }
@@ -493,7 +493,7 @@ fn pass_neighbors(w: Work, draws: &[u32], out: &mut [u8]) -> Work
     active::clear_refused(w)
 }
 
-// A node with passive peers but no neighbor starts a refill without a limit.
+// Without a neighbor the passive peers are asked one after the other until one answers.
 fn pass_known(w: Work, draws: &[u32], out: &mut [u8]) -> Work
     requires { ⌜ Fine w (now draws) (now out) ⌝ }
     ensures { λ r. ⌜ Does r (now (draws .entry)) (now (out .exit)) (pass-known (run w (now (draws .entry)) (now (out .entry)))) ⌝ }

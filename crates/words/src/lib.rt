@@ -141,7 +141,7 @@ impl Layout {
     pub const LENGTH: usize = Layout::DATA_END;
 }
 
-// How many more requests a refill of the active view may send.
+// What bounds a refill; protocol/Station says of `Refill` why there are three cases.
 pub enum RefillLimit {
     Automatic,
     Requests(u64),
@@ -487,7 +487,7 @@ pub fn passive_is_full(st: &[u64]) -> bool
     st[Layout::PASSIVE_VIEW_CAPACITY] <= st[Layout::PASSIVE_COUNT]
 }
 
-// Whether the active view is below half its capacity, rounded up.
+// Too few neighbors: fewer than half of those that there is room for, rounded up.
 pub fn is_short(st: &[u64]) -> bool
     requires { ⌜ length (now st) ≡ 551 ⌝ }
     requires { ⌜ PackedState (now st) ⌝ }
