@@ -100,7 +100,8 @@ uint32_t timer_map_insert_records(uint64_t *q, size_t q_len, uint64_t time, cons
 
 /* As timer_map_pop_before, and the entry's event, which hyparview_handle reads, stands in the first TIMER_MAP_EVENT_BYTES of
  * `out`; its due time is handed back. Code 0, also where none is due; 2; 3, where the entry is none that an event record can
- * say (never for one put in by timer_map_insert_records); 9, where `out` is too short. */
+ * say (never for one put in by timer_map_insert_records): it stays first until timer_map_pop_before takes it out; 9, where
+ * `out` is too short. */
 struct timer_map_popped_event timer_map_pop_event(uint64_t *q, size_t q_len, uint64_t limit, uint8_t *out, size_t out_len);
 
 #endif
