@@ -15,6 +15,10 @@
 #include <stddef.h>
 #include <stdint.h>
 
+#ifdef __cplusplus
+extern "C" {
+#endif
+
 /* The words of a queue, and how many timers it holds at most. */
 #define TIMER_MAP_WORDS 513
 #define TIMER_MAP_CAPACITY 64
@@ -103,5 +107,9 @@ uint32_t timer_map_insert_records(uint64_t *q, size_t q_len, uint64_t time, cons
  * say (never for one put in by timer_map_insert_records): it stays first until timer_map_pop_before takes it out; 9, where
  * `out` is too short. */
 struct timer_map_popped_event timer_map_pop_event(uint64_t *q, size_t q_len, uint64_t limit, uint8_t *out, size_t out_len);
+
+#ifdef __cplusplus
+}
+#endif
 
 #endif
