@@ -29,7 +29,7 @@ highest-draw = 4294967295
 unfoldable pub first-interval : ℕ → ℕ
 first-interval top = min initial-shuffle-interval top
 
--- schedule_shuffle: the interval after i, "doubled up to its maximum"
+-- schedule_shuffle: the interval after i is twice as long, but never longer than the setting
 unfoldable pub next-interval : ℕ → ℕ → ℕ
 next-interval top i = min (2 * i) top
 

@@ -62,7 +62,7 @@ without-delay r = record {
   nodes = r .nodes;
 }
 
--- "what comes out as an event is the record that went in, without its delay", and it reads back as that event: b is the record, and e an entry of the timer that it starts
+-- what comes out as an event is the record that went in, without its delay, and it reads back as that event: b is the record, and e an entry of the timer that it starts
 pub record ComesBack (b : List ℕ) (e : Entry) : Type 0 where
   pub has : has-event e ≡ true
   pub is : event-rec e ≡ without-delay (rec-of b)

@@ -86,7 +86,7 @@ unfoldable pub cut-at : Option ℕ → List Entry → List Entry
 cut-at none es = es
 cut-at (some t) es = shift-remove (index-of t (times es)) es
 
--- "A refusal changes nothing."
+-- a refusal changes nothing
 unfoldable pub booked : Call → Reply → List Entry → List Entry
 booked v r es = choose (eqb (code-of r) 0) (cut-at (time-out r) (es ++ asked v)) es
 

@@ -22,7 +22,7 @@ latest = 18446744073709551615
 abbrev pub no-id : Id → Bool
 no-id x = eqb (x .0) 0 && (eqb (x .1) 0 && (eqb (x .2) 0 && eqb (x .3) 0))
 
--- "a kind that a timer can have, an id of zero where the kind has none": kinds 1 to 4, which have none. S-7's kinds are added here alone.
+-- a kind that a timer can have, and an id of zero where the kind has none: kinds 1 to 4, which have none. S-7's kinds are added here alone.
 unfoldable pub timer-ok : Timer → Bool
 timer-ok x = leb 1 (x .kind) && (leb (x .kind) 4 && no-id (x .id))
 
@@ -38,7 +38,7 @@ pub record Put : Type 0 where
   pub code : ℕ
   pub entries : List Entry
 
--- "A timer is put in with the time and its delay"; "a refusal leaves the queue as it was". What is no timer is malformed, 3.
+-- "A timer is put in with the time and its delay"; a refusal leaves the queue as it was. What is no timer is malformed, 3.
 unfoldable pub insert : ℕ → ℕ → Timer → List Entry → Put
 insert time delay x es =
     choose (timer-ok x)
