@@ -126,7 +126,7 @@ fn needs_limit(st: &[u64]) -> bool
     l.is_automatic() & (!words::is_alone(st) & words::is_short(st))
 }
 
-// A short node always refills with a limit.
+// A refill for which no limit is set gets one where neighbors are few.
 fn limit_short(w: Work, st: &mut [u64]) -> Work
     requires { ⌜ length (now st) ≡ words ⌝ }
     requires { ⌜ PackedState (now st) ⌝ }
