@@ -37,23 +37,23 @@ use Rattle.rules_words.proofs.Shape.{Shape, ok-shape, packed-shape}
 -- ---- own data
 
 module _ (p l w x : ℕ) (h : p ≤ 1) (v : ValidData (record { present = eqb p 1; len = l; bytes = word-bytes w x })) (f : w < words-end) (g : x < words-end) where
-  abbrev own : PeerData
+  abbrev pub own : PeerData
   own = record { present = eqb p 1; len = l; bytes = word-bytes w x }
 
-  present-back : present-word (data-in own) ≡ p
+  pub present-back : present-word (data-in own) ≡ p
   unfolding present-word data-in choose
   present-back =
       split (eqb p 1) (λ t. rw t (sym (eqb-true p 1 t)))
       (λ t. let n : p ≡ 1 → ⊥ = eqb-false p 1 t in rw t (let z : 0 ≡ p = omega arith in z))
 
-  len-back : length (bytes-of (data-in own)) ≡ l
+  pub len-back : length (bytes-of (data-in own)) ≡ l
   len-back = ap length (bytes-in own v) ∙ length-bytes own v
 
-  low-back : low-word (bytes-of (data-in own)) ≡ w
+  pub low-back : low-word (bytes-of (data-in own)) ≡ w
   unfolding low-word
   low-back = ap (λ (b : List ℕ). read-le 8 (pad 0 16 b) 0) (bytes-in own v) ∙ ap (λ (b : List ℕ). read-le 8 b 0) (sym (v .packed)) ∙ word-low w x f g
 
-  high-back : high-word (bytes-of (data-in own)) ≡ x
+  pub high-back : high-word (bytes-of (data-in own)) ≡ x
   unfolding high-word
   high-back = ap (λ (b : List ℕ). read-le 8 (pad 0 16 b) 8) (bytes-in own v) ∙ ap (λ (b : List ℕ). read-le 8 b 8) (sym (v .packed)) ∙ word-high w x f g
 
