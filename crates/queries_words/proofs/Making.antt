@@ -1,9 +1,9 @@
 -- A new station in its words.
 -- Assumes nothing.
-use Prim.Native.Nat.{ℕ, min, _<_}
+use Prim.Native.Nat.{ℕ, _<_}
 use mathlib.Core.Path.{_≡_, refl, sym, ap, _∙_, subst}
 use mathlib.Core.Bool.{Bool, true, false, _&&_}
-use mathlib.Core.List.{List, [], _∷_, _++_}
+use mathlib.Core.List.{List, [], _++_}
 use mathlib.Core.Option.{none, some}
 use lib.Dec.{eqb, leb}
 use lib.ListN.{length, set, take, drop}
@@ -22,7 +22,7 @@ use Rattle.peer.specs.declared.MaybeData.{MaybeData}
 use Rattle.peer.specs.Data.{Data, bytes-of}
 use Rattle.peer.specs.Held.{data-in, ValidData, HoldsData, Takes, taken}
 use Rattle.timing.specs.declared.Config.{Config}
-use Rattle.timing.specs.Timing.{in-range, initial-shuffle-interval}
+use Rattle.timing.specs.Timing.{in-range}
 use Rattle.protocol.specs.Rules.{short-data}
 use Rattle.protocol.specs.Handle as handle
 use Rattle.protocol.specs.Handle.{new-station, zero-config, zero-station}
@@ -31,7 +31,7 @@ use Rattle.words.proofs.Memory.{byte-fits, byte-back}
 use Rattle.rules_words.specs.Pack.{present-word, kind-word, requests-word, front, pack}
 use Rattle.rules_words.specs.Ok.{words-end}
 use Rattle.rules_words.proofs.Back.{present-back, len-back, low-back, high-back}
-use Rattle.queries_words.specs.Made.{lent, with-own, with-views, with-walks, with-times, Made, pack-made, made, Own}
+use Rattle.queries_words.specs.Made.{lent, with-own, with-views, with-walks, with-times, pack-made, made, Own}
 
 -- ---- the sections of a new station are zeroes
 

@@ -1,10 +1,9 @@
 -- Packing undoes unpacking.
 -- Assumes nothing.
 use Prim.Native.Nat.{ℕ, zero, suc, _+_, _≤_, _<_}
-use mathlib.Core.Path.{_≡_, refl, sym, ap, _∙_, subst}
-use mathlib.Core.Bool.{Bool, true, false, cond}
+use mathlib.Core.Path.{_≡_, refl, sym, ap, _∙_}
+use mathlib.Core.Bool.{true, cond}
 use mathlib.Core.List.{List, [], _∷_, _++_}
-use mathlib.Core.Option.{none, some}
 use native.Mathlib.Omega.{arith}
 use lib.ListN.{length, take, drop, getD, length-drop, take-append-drop}
 use lib.Seq.{take-all, drop-drop, drop-cons}
@@ -15,16 +14,15 @@ use Rattle.lists.specs.Bytes.{read-le}
 use Rattle.lists.specs.Lists.{choose}
 use Rattle.lists.proofs.Choice.{split, or-true, and-left, and-right}
 use Rattle.lists.proofs.Slices.{slice-part, slice-each}
-use Rattle.section.specs.Section.{part, items-at, section}
+use Rattle.section.specs.Section.{part}
 use Rattle.section.proofs.Sets.{set-words}
-use Rattle.columns.specs.Columns.{word-bytes, numbers-at, numbers-section, low-word, high-word, data-at, data-section}
+use Rattle.columns.specs.Columns.{word-bytes, low-word, high-word}
 use Rattle.columns.proofs.Words.{word-low, word-high}
 use Rattle.columns.proofs.Sections.{Small, numbers-words, data-words}
 use Rattle.peer.specs.declared.PeerData.{PeerData}
-use Rattle.peer.specs.Data.{Data, bytes-of}
+use Rattle.peer.specs.Data.{bytes-of}
 use Rattle.peer.specs.Held.{data-in, ValidData}
 use Rattle.peer.proofs.Data.{bytes-in, length-bytes}
-use Rattle.protocol.specs.Station.{Station}
 use Rattle.words.specs.Layout as layout
 use Rattle.words.specs.Unpack.{own-at, settings-at, limit-at, limit-formed, refill-in, station-of, unpack, PackedState}
 use Rattle.words.proofs.Memory.{two-limit}

@@ -2,11 +2,11 @@
 -- Assumes nothing.
 use Prim.Native.Nat.{ℕ, _+_, _≤_, _<_, zero-le}
 use mathlib.Core.Path.{_≡_, refl, sym, ap, _∙_, subst}
-use mathlib.Core.Bool.{Bool, true, false, cond, _&&_}
+use mathlib.Core.Bool.{Bool, true, _&&_}
 use mathlib.Core.List.{List, [], _∷_, _++_, map}
 use mathlib.Core.Option.{none, some}
 use native.Mathlib.Omega.{arith}
-use lib.ListN.{length, take}
+use lib.ListN.{length}
 use lib.Dec.{eqb, leb, ltb}
 use borrow.Author.Tests.{leb-true, eqb-true, ne-eqb, lt-ltb, ltb-true}
 use Rattle.lists.specs.Array.{pad}
@@ -18,9 +18,9 @@ use Rattle.lists.proofs.Count.{mem-true, length-without}
 use Rattle.lists.proofs.Maps.{length-keys}
 use Rattle.lists.proofs.Tests.{both-true, rising-true}
 use Rattle.lists.proofs.Zip.{length-values}
-use Rattle.section.specs.Section.{items-at, ValidSet, HoldsSet, section}
+use Rattle.section.specs.Section.{items-at, ValidSet, section}
 use Rattle.section.proofs.Sets.{section-holds}
-use Rattle.columns.specs.Columns.{word-bytes, numbers-at, ValidNumbers, HoldsNumbers, numbers-section, low-word, high-word, data-at, ValidDataWords, HoldsDataWords, data-section}
+use Rattle.columns.specs.Columns.{word-bytes, numbers-at, ValidNumbers, numbers-section, low-word, high-word, data-at, ValidDataWords, data-section}
 use Rattle.peer.specs.declared.PeerData.{PeerData}
 use Rattle.peer.specs.Data.{Data, bytes-of}
 use Rattle.peer.specs.Held.{data-in, ValidData}
@@ -39,7 +39,7 @@ use Rattle.rules_words.specs.Ok.{words-end, packed-ok, state-ok}
 use Rattle.rules_words.proofs.Under.{numbers-are}
 use Rattle.rules_words.proofs.Shape.{Shape, shape-ok}
 use Rattle.rules_words.proofs.Widths.{under-append, under-pad, under-section}
-use Rattle.rules_words.proofs.Packed.{Kept, ok-kept, Wide, wide-of}
+use Rattle.rules_words.proofs.Packed.{Kept, ok-kept, wide-of}
 use Rattle.rules_words.proofs.Maps.{words-back, low-under, high-under, lengths, low-words, high-words, numbers-hold, data-hold}
 use Rattle.rules_words.proofs.Parts.{packed-sections, packed-long}
 

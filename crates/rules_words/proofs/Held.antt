@@ -1,8 +1,8 @@
 -- How the code's tests are the rules of the definition, and which rules hold of all well formed words.
 -- Assumes nothing.
 use Prim.Native.Nat.{ℕ, _≤_}
-use mathlib.Core.Path.{_≡_, refl, sym, ap, _∙_}
-use mathlib.Core.Bool.{Bool, true, false, not, _&&_, _||_, and-true}
+use mathlib.Core.Path.{_≡_, refl, sym, _∙_}
+use mathlib.Core.Bool.{Bool, true, false, not, _&&_, and-true}
 use mathlib.Core.List.{List, [], _∷_}
 use native.Mathlib.Omega.{arith}
 use lib.ListN.{length, take, getD}
@@ -17,23 +17,19 @@ use Rattle.lists.proofs.Entries.{entries-values}
 use Rattle.section.specs.Section.{items-at}
 use Rattle.columns.specs.Columns.{numbers-at, data-at, entries-at, count-of, ValidDataWords}
 use Rattle.columns.proofs.Data.{data-entries}
-use Rattle.peer.specs.declared.DataEntry.{DataEntry}
 use Rattle.peer.specs.declared.PeerData.{PeerData}
 use Rattle.peer.specs.Held.{data-in, ValidData}
-use Rattle.peer.specs.Maps.{no-data, entry-bytes, ValidEntry, numbers-under}
+use Rattle.peer.specs.Maps.{no-data, entry-bytes, ValidEntry}
 use Rattle.peer.proofs.Data.{length-bytes}
 use Rattle.peer.proofs.Maps.{length-entry}
-use Rattle.timing.specs.Timing.{within}
 use Rattle.protocol.specs.Rules.{all-short, short-data, limit-ok, settings-rule, repeats-rule, order-rule, capacity-rule, views-rule, alive-rule, few-rule, joins-rule, numbers-rule, self-rule, room-rule, data-rule, limit-rule, interval-rule, width-rule, rules, station-ok}
 use Rattle.protocol.specs.Rules as R
 use Rattle.protocol.specs.Station.{Station}
-use Rattle.words.specs.declared.RefillLimit.{RefillLimit}
-use Rattle.words.specs.declared.RefillLimit.the-variants.{Automatic, Requests, Recovery}
 use Rattle.words.specs.Layout as layout
-use Rattle.words.specs.Unpack.{own-at, settings-at, limit-at, limit-formed, refill-in, station-of, unpack}
+use Rattle.words.specs.Unpack.{settings-at, limit-at, limit-formed, refill-in, station-of, unpack}
 use Rattle.words.proofs.Memory.{two-limit}
 use Rattle.rules_words.specs.Ok.{packed-ok, state-ok}
-use Rattle.rules_words.proofs.Shape.{Shape, ok-shape, count-active, count-passive}
+use Rattle.rules_words.proofs.Shape.{ok-shape, count-active, count-passive}
 
 -- ---- a rule's tests
 

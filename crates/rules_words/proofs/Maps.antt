@@ -1,6 +1,6 @@
 -- The words of a map stand for it.
 -- Assumes nothing.
-use Prim.Native.Nat.{ℕ, zero, suc, _+_, _*_, _^_, _≤_, _<_}
+use Prim.Native.Nat.{ℕ, zero, suc, _+_, _^_, _≤_, _<_}
 use mathlib.Core.Path.{_≡_, refl, sym, ap, _∙_, subst}
 use mathlib.Core.Bool.{true}
 use mathlib.Core.List.{List, [], _∷_, _++_, map, append-assoc}
@@ -26,7 +26,6 @@ use Rattle.columns.proofs.Numbers.{Stored, number-held}
 use Rattle.columns.proofs.Rows.{length-rows}
 use Rattle.columns.proofs.Data.{data-held}
 use Rattle.columns.proofs.Words.{bytes-words}
-use Rattle.peer.specs.declared.DataEntry.{DataEntry}
 use Rattle.peer.specs.Maps.{no-data, entry-bytes, ValidEntry}
 use Rattle.peer.proofs.Maps.{itself, Any, all-any, map-itself}
 use Rattle.protocol.specs.Rules.{all-short, all-under, lists-under}

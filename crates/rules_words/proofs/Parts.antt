@@ -1,23 +1,17 @@
 -- The numbers and the sections of the words that a station is packed into.
 -- Assumes nothing.
-use Prim.Native.Nat.{ℕ, _+_, _≤_, _<_}
+use Prim.Native.Nat.{ℕ, _+_}
 use mathlib.Core.Path.{_≡_, refl, sym, ap, _∙_}
-use mathlib.Core.Bool.{Bool, true, _&&_}
-use mathlib.Core.List.{List, [], _∷_, _++_}
+use mathlib.Core.List.{List, _++_}
 use native.Mathlib.Omega.{arith}
 use lib.ListN.{length, take, drop, length-append}
 use lib.Seq.{take-all, take-at, drop-at, drop-drop}
-use lib.Dec.{ltb}
-use borrow.Author.Tests.{lt-ltb}
-use Rattle.lists.specs.Maps.{keys, values}
-use Rattle.lists.proofs.Tests.{both-true}
 use Rattle.section.specs.Section.{part, section}
 use Rattle.section.proofs.Sets.{framed-long}
 use Rattle.columns.specs.Columns.{numbers-section, data-section}
-use Rattle.protocol.specs.Rules.{all-under}
 use Rattle.protocol.specs.Station.{Station}
 use Rattle.words.specs.Layout as layout
-use Rattle.words.specs.Layout.{Sections, sections}
+use Rattle.words.specs.Layout.{sections}
 use Rattle.rules_words.specs.Pack.{front, pack}
 use Rattle.rules_words.proofs.Maps.{numbers-stored, data-stored}
 

@@ -2,10 +2,10 @@
 -- Assumes nothing.
 use Prim.Native.Nat.{ℕ, _+_, _≤_, _<_}
 use mathlib.Core.Path.{_≡_, _∙_}
-use mathlib.Core.Bool.{Bool, true, _&&_}
+use mathlib.Core.Bool.{true}
 use mathlib.Core.List.{List}
 use native.Mathlib.Omega.{arith}
-use lib.ListN.{length, take, drop, getD}
+use lib.ListN.{length, drop, getD}
 use lib.Seq.{getD-take, getD-drop}
 use lib.Dec.{leb, eqb}
 use borrow.Author.Tests.{leb-true, le-leb, eqb-true, eq-eqb}
@@ -14,7 +14,7 @@ use Rattle.lists.proofs.Tests.{both-true}
 use Rattle.section.specs.Section.{part, items-at, ValidSet, valid-set}
 use Rattle.section.proofs.Parts.{part-long}
 use Rattle.section.proofs.Sets.{valid-set-true, true-valid-set}
-use Rattle.columns.specs.Columns.{ValidNumbers, valid-numbers, ValidDataWords, valid-data-words}
+use Rattle.columns.specs.Columns.{ValidNumbers, valid-numbers, ValidDataWords}
 use Rattle.columns.proofs.Numbers.{valid-numbers-true, true-valid-numbers}
 use Rattle.columns.proofs.Testing.{valid-words-true, true-valid-words}
 use Rattle.peer.specs.Held.{ValidData, valid-data}

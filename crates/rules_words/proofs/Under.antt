@@ -2,8 +2,8 @@
 -- Assumes nothing.
 use Prim.Native.Nat.{ℕ, suc, _+_, _-_, _≤_, _<_}
 use mathlib.Core.Path.{_≡_, refl, sym, ap, _∙_}
-use mathlib.Core.Bool.{Bool, true, false, _&&_, _||_, and-true, and-assoc}
-use mathlib.Core.List.{List, [], _∷_, _++_}
+use mathlib.Core.Bool.{Bool, true, _&&_, _||_, and-true, and-assoc}
+use mathlib.Core.List.{List, [], _∷_}
 use native.Mathlib.Omega.{arith}
 use lib.ListN.{length, take, drop, getD}
 use lib.Seq.{take-take}
@@ -14,7 +14,7 @@ use Rattle.lists.specs.Lists.{subset, disjoint}
 use Rattle.lists.specs.Maps.{keys, values}
 use Rattle.lists.specs.Tests.{packed}
 use Rattle.lists.proofs.Choice.{split}
-use Rattle.lists.proofs.Tests.{both-true, and-no}
+use Rattle.lists.proofs.Tests.{both-true}
 use Rattle.lists.proofs.Entries.{entries-values}
 use Rattle.scan.proofs.Loops.{Left, left-start, left-next, left-end}
 use Rattle.section.specs.Section.{part, items-at, ValidSet, valid-set}
