@@ -41,7 +41,7 @@ pub record Outcome : Type 0 where
   pub words : List ℕ
 
 -- What a call hands back and leaves: the definitions that the contracts of timer_map_insert, timer_map_insert_records, timer_map_pop_before,
--- timer_map_pop_event, timer_map_first and timer_map_len are equations with. That they are these contracts' is for a reader to compare.
+-- timer_map_pop_event, timer_map_first and timer_map_len are equations with; `timer_calls` calls these functions under contracts that cite `answered`.
 unfoldable pub answered : Call → List ℕ → Outcome
 answered (insert time delay x) ws = record { reply = code (inserted time delay x ws .code); words = inserted time delay x ws .words }
 answered (insert-records time out) ws = record { reply = code (records-inserted time out ws .code); words = records-inserted time out ws .words }
