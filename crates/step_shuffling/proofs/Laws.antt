@@ -1,0 +1,130 @@
+-- Laws of the two messages of a shuffle that their proofs cite.
+-- Assumes nothing.
+use Prim.Native.Nat.{ℕ, _≤_, _<_}
+use mathlib.Core.Path.{_≡_, refl, sym, ap, _∙_}
+use mathlib.Core.Bool.{Bool, true, false}
+use mathlib.Core.List.{List, [], _∷_}
+use native.Mathlib.Omega.{arith}
+use lib.ListN.{length, getD}
+use borrow.Author.Tests.{eqb-false}
+use Rattle.lists.specs.Lists.{null, without-all}
+use Rattle.lists.specs.Array.{pad}
+use Rattle.section.specs.Section.{items-at, ValidSet, HoldsSet, section}
+use Rattle.section.proofs.Sets.{section-holds, empty-is-null}
+use Rattle.util.specs.Random.{pick}
+use Rattle.peer.specs.Data.{Node}
+use Rattle.record.specs.Read.{nodes-of}
+use Rattle.record.proofs.Nodes.{length-nodes-of}
+use Rattle.timing.specs.Timing.{next}
+use Rattle.writer64.specs.declared.Nodes.{Nodes}
+use Rattle.writer64.specs.Nodes.{nodes-in, HoldsNodes}
+use Rattle.writer64.specs.Write.{rec-in}
+use Rattle.protocol.specs.Run.{Run, emit, draw, drawn, picked, message}
+use Rattle.protocol.specs.Peers.{add-nodes, any-new}
+use Rattle.protocol.specs.Sending.{send-shuffle-reply}
+use Rattle.protocol.specs.Refill.{few-requests, start-refill, refill-active-from-passive}
+use Rattle.protocol.specs.Messages.{answers-shuffle, answer-shuffle, forward-shuffle, on-shuffle, stops-at-refusal, renews-limit, refill-with, after-reply, on-shuffle-reply}
+use Rattle.words.specs.declared.Work.{Work}
+use Rattle.words.specs.Work.{work-of, run, DrawsAny, TellsAny, Fine, Does}
+use Rattle.words.specs.Layout.{active-part}
+use Rattle.words.specs.declared.RefillLimit.{RefillLimit}
+use Rattle.words.specs.Unpack.{unpack, station-of, refill-in}
+use Rattle.words.proofs.Bridge.{by, still, seq-at, taken, left, holds-at, at-run}
+use Rattle.words.proofs.Any.{then-draw-any, then-tell-any}
+
+-- ---- the neighbors that a Shuffle may go on to
+
+-- two places, both in use
+pair : (p q : ℕ) → HoldsSet 2 (p ∷ q ∷ 2 ∷ []) (p ∷ q ∷ [])
+unfolding section pad
+pair p q = section-holds 2 (p ∷ q ∷ []) (omega arith)
+
+pub pair-valid : (p q : ℕ) → ValidSet 2 (p ∷ q ∷ 2 ∷ [])
+pair-valid p q = pair p q .valid
+
+pub others-are : (xs v r : List ℕ) (p q : ℕ) → HoldsSet 32 v (items-at 8 (active-part xs)) → HoldsSet 32 r (without-all (items-at 2 (p ∷ q ∷ 2 ∷ [])) (items-at 32 v))
+    → HoldsSet 32 r (without-all (p ∷ q ∷ []) (unpack xs .active))
+unfolding unpack station-of
+others-are xs v r p q h k = record { valid = k .valid; items = k .items ∙ (λ i. without-all (pair p q .items i) (h .items i)) }
+
+pub some-there : (v : List ℕ) (n : ℕ) (t : Bool) → ValidSet 32 v → n ≡ length (items-at 32 v) → t ≡ null (items-at 32 v) → t ≡ false → 0 < n
+some-there v n t s c e h = omega (arith, c, s .counted, eqb-false (getD v 32 0) 0 (empty-is-null 32 v s ∙ (sym e ∙ h)))
+
+pub chosen-there : (xs : List ℕ) (n i : ℕ) → n ≡ length xs → i < n → i < length xs
+chosen-there xs n i e h = omega (arith, e, h)
+
+module _ (w : Work) (xs ds out others : List ℕ) (ns : List Node) (origin ttl : ℕ) (t : Bool) (v : Fine (work-of w xs) ds out) (e : t ≡ null others) where
+  pub shuffle-kept : t ≡ true → Does (work-of w xs) ds out (forward-shuffle others origin ns ttl (run (work-of w xs) ds out))
+  unfolding forward-shuffle
+  shuffle-kept h = taken _ _ (sym e ∙ h) (still v)
+
+  module _ (q u n i : ℕ) (x : Nodes) (c : n ≡ length others) (j : i ≡ pick n (getD ds (w .drawn) 0)) (p : q ≡ getD others i 0) (y : u ≡ next ttl) (z : HoldsNodes x ns) where
+    picked-is : q ≡ picked others (run (work-of w xs) ds out)
+    unfolding picked drawn run
+    picked-is = p ∙ ap (λ (k : ℕ). getD others k 0) (j ∙ ap (λ (k : ℕ). pick k (getD ds (w .drawn) 0)) c)
+
+    shuffle-is : emit (message 2 (picked others (run (work-of w xs) ds out)) 0 origin (next ttl) ns) (draw 1 (run (work-of w xs) ds out))
+        ≡ emit (rec-in (record { kind = 0; message = 2; flags = 0; peer = q; second = origin; ttl = u; number = 0 }) (nodes-in x)) (draw 1 (run (work-of w xs) ds out))
+    unfolding rec-in
+    shuffle-is = λ k. emit (message 2 (sym picked-is k) 0 origin (sym y k) (sym (z .holds) k)) (draw 1 (run (work-of w xs) ds out))
+
+    pub shuffle-on : (a r : Work) (o : List ℕ) → t ≡ false
+        → TellsAny (emit (rec-in (record { kind = 0; message = 2; flags = 0; peer = q; second = origin; ttl = u; number = 0 }) (nodes-in x))) a r out o
+        → DrawsAny (draw 1) w a ds
+        → Does (work-of r xs) ds o (forward-shuffle others origin ns ttl (run (work-of w xs) ds out))
+    unfolding forward-shuffle
+    shuffle-on a r o h k₂ k₁ = left _ _ (sym e ∙ h) (by _ shuffle-is (then-tell-any k₂ (then-draw-any k₁ (still v))))
+
+pub passed-on : (w r : Work) (xs ds out o others : List ℕ) (ns : List Node) (origin from ttl : ℕ) → HoldsSet 32 others (without-all (origin ∷ from ∷ []) (unpack xs .active))
+    → Does (work-of r xs) ds o (forward-shuffle (items-at 32 others) origin ns ttl (run (work-of w xs) ds out))
+    → Does (work-of r xs) ds o (forward-shuffle (without-all (origin ∷ from ∷ []) (unpack xs .active)) origin ns ttl (run (work-of w xs) ds out))
+passed-on w r xs ds out o others ns origin from ttl h d = by _ (ap (λ (l : List ℕ). forward-shuffle l origin ns ttl (run (work-of w xs) ds out)) (sym (h .items))) d
+
+pub still-written : {step : Run → Run} (w a : Work) (xs ds out : List ℕ) → DrawsAny step w a ds → Fine (work-of w xs) ds out → a .written ≤ length out
+still-written w a xs ds out k v = rw (k .written) (v .written)
+
+-- ---- the two ways of a Shuffle
+
+pub answered : (w a r : Work) (xs ys zs ds out o₁ o b : List ℕ) (n origin : ℕ) → Does (work-of r zs) ds o (send-shuffle-reply origin n (run (work-of a ys) ds o₁))
+    → Does (work-of a ys) ds o₁ (add-nodes (nodes-of b 0 n) (run (work-of w xs) ds out)) → Does (work-of r zs) ds o (answer-shuffle origin (nodes-of b 0 n) (run (work-of w xs) ds out))
+unfolding answer-shuffle
+answered w a r xs ys zs ds out o₁ o b n origin k₂ k₁ = seq-at (send-shuffle-reply origin) (sym (length-nodes-of b 0 n)) k₂ k₁
+
+module _ (w r : Work) (xs ys ds out o : List ℕ) (from origin : ℕ) (ns : List Node) (ttl : ℕ) (t : Bool) (e : t ≡ answers-shuffle ttl (unpack xs)) where
+  pub shuffle-answered : t ≡ true → Does (work-of r ys) ds o (answer-shuffle origin ns (run (work-of w xs) ds out)) → Does (work-of r ys) ds o (on-shuffle from origin ns ttl (run (work-of w xs) ds out))
+  unfolding on-shuffle
+  shuffle-answered h d = taken _ _ (holds-at (work-of w xs) ds out (answers-shuffle ttl) e h) d
+
+  pub shuffle-forwarded : t ≡ false → Does (work-of r ys) ds o (forward-shuffle (without-all (origin ∷ from ∷ []) (unpack xs .active)) origin ns ttl (run (work-of w xs) ds out))
+      → Does (work-of r ys) ds o (on-shuffle from origin ns ttl (run (work-of w xs) ds out))
+  unfolding on-shuffle run
+  shuffle-forwarded h d = left _ _ (holds-at (work-of w xs) ds out (answers-shuffle ttl) e h) d
+
+-- ---- replies to shuffles
+
+module _ (w r : Work) (xs ys ds out o : List ℕ) (renewed : Bool) where
+  pub refilled-few : (l : RefillLimit) → renewed ≡ true → refill-in l ≡ few-requests → Does (work-of r ys) ds o (start-refill (refill-in l) [] (run (work-of w xs) ds out))
+      → Does (work-of r ys) ds o (refill-with renewed (run (work-of w xs) ds out))
+  unfolding refill-with
+  refilled-few l h q d = taken _ _ h (by _ (λ i. start-refill (sym q i) [] (run (work-of w xs) ds out)) d)
+
+  pub refilled-same : renewed ≡ false → Does (work-of r ys) ds o (refill-active-from-passive [] (run (work-of w xs) ds out)) → Does (work-of r ys) ds o (refill-with renewed (run (work-of w xs) ds out))
+  unfolding refill-with
+  refilled-same h d = left _ _ h d
+
+module _ (w : Work) (xs ds out : List ℕ) (from : ℕ) (new t : Bool) (e : t ≡ stops-at-refusal from (unpack xs)) where
+  pub reply-stopped : Fine (work-of w xs) ds out → t ≡ true → Does (work-of w xs) ds out (after-reply from new (run (work-of w xs) ds out))
+  unfolding after-reply
+  reply-stopped v h = taken _ _ (holds-at (work-of w xs) ds out (stops-at-refusal from) e h) (still v)
+
+  pub reply-refilled : (r : Work) (ys o : List ℕ) (b : Bool) → t ≡ false → b ≡ renews-limit from new (unpack xs) → Does (work-of r ys) ds o (refill-with b (run (work-of w xs) ds out))
+      → Does (work-of r ys) ds o (after-reply from new (run (work-of w xs) ds out))
+  unfolding after-reply
+  reply-refilled r ys o b h q d =
+      left _ _ (holds-at (work-of w xs) ds out (stops-at-refusal from) e h)
+      (by _ (ap (λ (x : Bool). refill-with x (run (work-of w xs) ds out)) (sym (q ∙ at-run (work-of w xs) ds out (renews-limit from new)))) d)
+
+pub reply-taken : (w a r : Work) (xs ys zs ds out o₁ o : List ℕ) (from : ℕ) (ns : List Node) (new : Bool) → new ≡ any-new ns (run (work-of w xs) ds out) → Does (work-of r zs) ds o (after-reply from new (run (work-of a ys) ds o₁))
+    → Does (work-of a ys) ds o₁ (add-nodes ns (run (work-of w xs) ds out)) → Does (work-of r zs) ds o (on-shuffle-reply from ns (run (work-of w xs) ds out))
+unfolding on-shuffle-reply
+reply-taken w a r xs ys zs ds out o₁ o from ns new e k₂ k₁ = seq-at (after-reply from) e k₂ k₁

@@ -1,0 +1,49 @@
+use Rattle.step_shuffling.proofs.Laws.{some-there, chosen-there, shuffle-kept, shuffle-on, still-written}
+use borrow.Author.Needs.{needs}
+use Rattle.step_shuffling.proofs.forward_shuffle.Statement.{statement}
+use Rattle.step_shuffling.proofs.forward_shuffle.Tie as tie
+
+is-empty-requires : tie.Need-is-empty-requires
+is-empty-requires c κs = search needs
+
+returns : tie.Need-returns
+returns c = search shuffle-kept
+
+count-requires : tie.Need-count-requires
+count-requires c κs = search needs
+
+choose-requires : tie.Need-choose-requires
+choose-requires c κs = (search needs, search some-there)
+
+get-index-requires : tie.Need-get-index-requires
+get-index-requires c κs = (search needs, search chosen-there)
+
+event-nodes-requires : tie.Need-event-nodes-requires
+event-nodes-requires c κs = search needs
+
+next-requires : tie.Need-next-requires
+next-requires c κs = search needs
+
+emit-nodes-requires : tie.Need-emit-nodes-requires
+emit-nodes-requires c κs = (search still-written, search needs)
+
+same-length : tie.Need-same-length
+same-length c = search needs
+
+returns-2 : tie.Need-returns-2
+returns-2 c = shuffle-on _ _ _ _ _ _ _ _ _ (c .before .before .before .before .before .before .before .before .before .before .before .before .before .before .before .before .before .pre .1 .0) (c .before .before .before .before .before .before .before .before .before .before .before .is-empty .ensures) _ _ _ _ _ (c .before .before .before .before .before .before .before .before .before .count .ensures .0) (c .before .before .before .before .before .before .before .before .choose .ensures .1 .0) (c .before .before .before .before .before .before .get-index .ensures) (c .before .before .before .before .next .ensures) (c .before .before .before .before .before .event-nodes .ensures) _ _ _ (c .before .before .before .before .before .before .before .before .before .before .if1 .left) (c .before .before .emit-nodes .ensures) (c .before .before .before .before .before .before .before .before .choose .ensures .0)
+
+pub forward-shuffle-spec : {M : Type 1} → statement M
+forward-shuffle-spec =
+    tie.close
+    (tie.spec
+    is-empty-requires
+    returns
+    count-requires
+    choose-requires
+    get-index-requires
+    event-nodes-requires
+    next-requires
+    emit-nodes-requires
+    same-length
+    returns-2)
