@@ -1,16 +1,15 @@
 -- Laws of the two messages of a shuffle that their proofs cite.
 -- Assumes nothing.
-use Prim.Native.Nat.{ℕ, _≤_, _<_}
-use mathlib.Core.Path.{_≡_, refl, sym, ap, _∙_}
+use Prim.Native.Nat.{ℕ}
+use mathlib.Core.Path.{_≡_, sym, ap, _∙_}
 use mathlib.Core.Bool.{Bool, true, false}
 use mathlib.Core.List.{List, [], _∷_}
 use native.Mathlib.Omega.{arith}
 use lib.ListN.{length, getD}
-use borrow.Author.Tests.{eqb-false}
 use Rattle.lists.specs.Lists.{null, without-all}
 use Rattle.lists.specs.Array.{pad}
 use Rattle.section.specs.Section.{items-at, ValidSet, HoldsSet, section}
-use Rattle.section.proofs.Sets.{section-holds, empty-is-null}
+use Rattle.section.proofs.Sets.{section-holds}
 use Rattle.util.specs.Random.{pick}
 use Rattle.peer.specs.Data.{Node}
 use Rattle.record.specs.Read.{nodes-of}
@@ -19,7 +18,7 @@ use Rattle.timing.specs.Timing.{next}
 use Rattle.writer64.specs.declared.Nodes.{Nodes}
 use Rattle.writer64.specs.Nodes.{nodes-in, HoldsNodes}
 use Rattle.writer64.specs.Write.{rec-in}
-use Rattle.protocol.specs.Run.{Run, emit, draw, drawn, picked, message}
+use Rattle.protocol.specs.Run.{emit, draw, drawn, picked, message}
 use Rattle.protocol.specs.Peers.{add-nodes, any-new}
 use Rattle.protocol.specs.Sending.{send-shuffle-reply}
 use Rattle.protocol.specs.Refill.{few-requests, start-refill, refill-active-from-passive}
@@ -47,12 +46,6 @@ pub others-are : (xs v r : List ℕ) (p q : ℕ) → HoldsSet 32 v (items-at 8 (
 unfolding unpack station-of
 others-are xs v r p q h k = record { valid = k .valid; items = k .items ∙ (λ i. without-all (pair p q .items i) (h .items i)) }
 
-pub some-there : (v : List ℕ) (n : ℕ) (t : Bool) → ValidSet 32 v → n ≡ length (items-at 32 v) → t ≡ null (items-at 32 v) → t ≡ false → 0 < n
-some-there v n t s c e h = omega (arith, c, s .counted, eqb-false (getD v 32 0) 0 (empty-is-null 32 v s ∙ (sym e ∙ h)))
-
-pub chosen-there : (xs : List ℕ) (n i : ℕ) → n ≡ length xs → i < n → i < length xs
-chosen-there xs n i e h = omega (arith, e, h)
-
 module _ (w : Work) (xs ds out others : List ℕ) (ns : List Node) (origin ttl : ℕ) (t : Bool) (v : Fine (work-of w xs) ds out) (e : t ≡ null others) where
   pub shuffle-kept : t ≡ true → Does (work-of w xs) ds out (forward-shuffle others origin ns ttl (run (work-of w xs) ds out))
   unfolding forward-shuffle
@@ -79,9 +72,6 @@ pub passed-on : (w r : Work) (xs ds out o others : List ℕ) (ns : List Node) (o
     → Does (work-of r xs) ds o (forward-shuffle (items-at 32 others) origin ns ttl (run (work-of w xs) ds out))
     → Does (work-of r xs) ds o (forward-shuffle (without-all (origin ∷ from ∷ []) (unpack xs .active)) origin ns ttl (run (work-of w xs) ds out))
 passed-on w r xs ds out o others ns origin from ttl h d = by _ (ap (λ (l : List ℕ). forward-shuffle l origin ns ttl (run (work-of w xs) ds out)) (sym (h .items))) d
-
-pub still-written : {step : Run → Run} (w a : Work) (xs ds out : List ℕ) → DrawsAny step w a ds → Fine (work-of w xs) ds out → a .written ≤ length out
-still-written w a xs ds out k v = rw (k .written) (v .written)
 
 -- ---- the two ways of a Shuffle
 

@@ -1,4 +1,7 @@
-use Rattle.step_shuffling.proofs.Laws.{some-there, chosen-there, shuffle-kept, shuffle-on, still-written}
+use native.Mathlib.Omega.{arith}
+use Rattle.step_sending.proofs.Told.{room-drawn}
+use Rattle.step_refill.proofs.Asking.{some-there}
+use Rattle.step_shuffling.proofs.Laws.{shuffle-kept, shuffle-on}
 use borrow.Author.Needs.{needs}
 use Rattle.step_shuffling.proofs.forward_shuffle.Statement.{statement}
 use Rattle.step_shuffling.proofs.forward_shuffle.Tie as tie
@@ -13,10 +16,10 @@ count-requires : tie.Need-count-requires
 count-requires c κs = search needs
 
 choose-requires : tie.Need-choose-requires
-choose-requires c κs = (search needs, search some-there)
+choose-requires c κs = (search needs, omega (arith, c .count .ensures .0, some-there _ _ (c .before .before .is-empty .ensures) (c .before .if1 .left)))
 
 get-index-requires : tie.Need-get-index-requires
-get-index-requires c κs = (search needs, search chosen-there)
+get-index-requires c κs = search needs
 
 event-nodes-requires : tie.Need-event-nodes-requires
 event-nodes-requires c κs = search needs
@@ -25,7 +28,7 @@ next-requires : tie.Need-next-requires
 next-requires c κs = search needs
 
 emit-nodes-requires : tie.Need-emit-nodes-requires
-emit-nodes-requires c κs = (search still-written, search needs)
+emit-nodes-requires c κs = (room-drawn _ _ _ _ _ (c .before .before .before .before .before .before .before .before .before .before .before .before .before .before .pre .1 .0) (c .before .before .before .before .before .choose .ensures .0) .written, search needs)
 
 same-length : tie.Need-same-length
 same-length c = search needs
