@@ -1,0 +1,164 @@
+-- The shuffle and its timer.
+-- Assumes nothing.
+use Prim.Native.Nat.{ℕ, _+_, _*_, _≤_, _<_, min}
+use mathlib.Core.Path.{_≡_, refl, sym, ap, _∙_, subst}
+use mathlib.Core.Bool.{Bool, true, false}
+use mathlib.Core.List.{List, [], _∷_, _++_}
+use native.Mathlib.Omega.{arith}
+use lib.ListN.{length, take, getD, set, length-append}
+use borrow.Author.Tests.{eqb-false}
+use Rattle.lists.specs.Lists.{without}
+use Rattle.util.specs.Random.{pick}
+use Rattle.timing.specs.Timing.{delay}
+use Rattle.timing.proofs.Ranges.{ranges}
+use Rattle.peer.specs.declared.PeerData.{PeerData}
+use Rattle.peer.specs.Data.{Node}
+use Rattle.section.specs.Section.{items-at, ValidSet, HoldsSet}
+use Rattle.section.proofs.Sets.{set-length, set-then, empty-is-null}
+use Rattle.columns.specs.Columns.{node-in}
+use Rattle.writer64.specs.declared.Nodes.{Nodes}
+use Rattle.writer64.specs.Nodes.{nodes-in, HoldsNodes}
+use Rattle.writer64.specs.Write.{rec-in}
+use Rattle.writer64.proofs.Ways.{length-nodes}
+use Rattle.protocol.specs.Station.{Station, is-alone}
+use Rattle.protocol.specs.Setters.{set-next-interval}
+use Rattle.protocol.specs.Run.{Run, on, emit, draw, drawn, picked, shuffled, draw-shuffle, message, timer, peer-infos}
+use Rattle.protocol.specs.Timers.{double-interval, schedule-shuffle, shuffle-nodes, send-shuffle, active-part, passive-part, shuffle-passive, shuffle-with, shuffle-any}
+use Rattle.words.specs.declared.Work.{Work}
+use Rattle.words.specs.Layout as layout
+use Rattle.words.specs.Layout.{next-shuffle-interval, shuffle-interval, me, shuffle-random-walk-length, shuffle-active-view-count, shuffle-passive-view-count}
+use Rattle.words.specs.Unpack.{unpack, station-of, settings-at, own-at, PackedState, Becomes}
+use Rattle.words.specs.Work.{work-of, run, Changes, DrawsAny, Room, Tells, TellsAny, Fine, Does}
+use Rattle.words.proofs.Access.{of-settings, of-active}
+use Rattle.words.proofs.Fields.{put-next-interval}
+use Rattle.words.proofs.Bridge.{by, tell-by, still, then, then-tell, seq, seq-at, taken, left, holds-at}
+use Rattle.words.proofs.Any.{then-draw-any, then-tell-any}
+use Rattle.words.proofs.Refused.{emit-shut, draw-shuffle-shut}
+use Rattle.step_sending.proofs.Sets.{few-taken, lent-items, lent-count, shuffled-by, shuffle-of}
+use Rattle.step_sending.proofs.Shut.{open-only, shuffled-open}
+
+-- ---- the interval
+
+short-enough : (xs : List ℕ) (x n : ℕ) → PackedState xs → n ≡ min x (shuffle-interval xs) → n ≤ 3600000
+unfolding settings-at
+short-enough xs x n v e = omega (arith, ranges (settings-at xs) (of-settings xs v) .interval .most)
+
+pub put-doubled : (xs : List ℕ) (n : ℕ) → n ≡ min (2 * next-shuffle-interval xs) (shuffle-interval xs) → Becomes xs (unpack xs) → Becomes (set xs 13 n) (double-interval (unpack xs))
+unfolding double-interval unpack station-of settings-at
+put-doubled xs n e b = subst (λ (m : ℕ). Becomes (set xs 13 n) (set-next-interval m (unpack xs))) e (put-next-interval n (short-enough xs _ n (b .packed) e) b)
+
+scheduled-is : (w : Work) (xs ds out : List ℕ) (x d : ℕ) → x ≡ delay (next-shuffle-interval xs) d → d ≡ getD ds (w .drawn) 0
+    → schedule-shuffle (run (work-of w xs) ds out)
+    ≡ emit (rec-in (record { kind = 1; message = 0; flags = 0; peer = 0; second = x; ttl = 0; number = 0 }) []) (draw 1 (on double-interval (run (work-of w xs) ds out)))
+unfolding schedule-shuffle rec-in run unpack station-of drawn
+scheduled-is w xs ds out x d e q = ap (λ (n : ℕ). emit (timer 1 0 n 0) (draw 1 (on double-interval (run (work-of w xs) ds out)))) (ap (delay (next-shuffle-interval xs)) (sym q) ∙ sym e)
+
+pub scheduled : (w a b r : Work) (xs ys ds out o : List ℕ) (x d : ℕ) → Fine (work-of w xs) ds out → x ≡ delay (next-shuffle-interval xs) d → d ≡ getD ds (a .drawn) 0
+    → TellsAny (emit (rec-in (record { kind = 1; message = 0; flags = 0; peer = 0; second = x; ttl = 0; number = 0 }) [])) b r out o
+    → DrawsAny (draw 1) a b ds → Changes (on double-interval) (work-of w xs) (work-of a ys) → Does (work-of r ys) ds o (schedule-shuffle (run (work-of w xs) ds out))
+scheduled w a b r xs ys ds out o x d v e q k₃ k₂ k₁ =
+    by _ (scheduled-is w xs ds out x d e (q ∙ ap (λ (n : ℕ). getD ds n 0) (k₁ .drawn))) (then-tell-any k₃ (then-draw-any k₂ (then k₁ (still v))))
+
+-- ---- the message
+
+length-infos : (s : Station) (ps : List ℕ) → length (peer-infos s ps) ≡ length ps
+unfolding peer-infos
+length-infos s [] = refl
+length-infos s (p ∷ ps) = omega (arith, length-infos s ps)
+
+pub place-named : (xs v : List ℕ) (n : ℕ) (ns : Nodes) → ValidSet 32 v → n ≡ length (items-at 32 v) → length (items-at 32 v) < 32 → HoldsNodes ns (peer-infos (unpack xs) (take n v)) → ns .len < 32
+place-named xs v n ns s e f h = omega (arith, length-nodes ns (h .valid), ap length (h .holds), length-infos (unpack xs) (take n v), lent-count v n s e)
+
+pub walk-fits : (xs : List ℕ) → PackedState xs → shuffle-random-walk-length xs ≤ 65535
+unfolding settings-at
+walk-fits xs v = ranges (settings-at xs) (of-settings xs v) .shuffle-walk .most
+
+pub shuffle-told : (w r : Work) (xs out o v : List ℕ) (n to : ℕ) (named ns : Nodes) (d : PeerData) → Room (work-of w xs) out → ValidSet 32 v → n ≡ length (items-at 32 v) → d ≡ own-at xs
+    → HoldsNodes named (peer-infos (unpack xs) (take n v)) → HoldsNodes ns (nodes-in named ++ (node-in (record { id = me xs; «data» = d }) ∷ []))
+    → TellsAny (emit (rec-in (record { kind = 0; message = 2; flags = 0; peer = to; second = me xs; ttl = shuffle-random-walk-length xs; number = 0 }) (nodes-in ns))) w r out o
+    → Tells (send-shuffle to (items-at 32 v)) (work-of w xs) (work-of r xs) out o
+unfolding send-shuffle shuffle-nodes rec-in node-in run unpack station-of settings-at
+shuffle-told w r xs out o v n to named ns d f s c q h e k =
+    let names : nodes-in named ≡ peer-infos (unpack xs) (items-at 32 v) = h .holds ∙ ap (peer-infos (unpack xs)) (lent-items v n s c) in
+    tell-by {g = emit (rec-in (record { kind = 0; message = 2; flags = 0; peer = to; second = me xs; ttl = shuffle-random-walk-length xs; number = 0 }) (nodes-in ns))} (send-shuffle to (items-at 32 v))
+    (λ ds. ap (λ (x : List Node). emit (message 2 to 0 (me xs) (shuffle-random-walk-length xs) x) (run (work-of w xs) ds out)) (sym (e .holds ∙ (λ i. names i ++ (node-in (record { id = me xs; «data» = q i }) ∷ [])))))
+    (k .any xs (f .packed))
+
+-- ---- the peers that it names
+
+module _ (w r : Work) (ds v₁ v₂ xs : List ℕ) (to : ℕ) (h₁ : HoldsSet 32 v₁ xs) (h₂ : HoldsSet 32 v₂ (without to (items-at 32 v₁))) where
+  others-are : HoldsSet 32 v₂ (without to xs)
+  others-are = set-then 32 (without to) h₂ h₁
+
+  pub peers-drawn : DrawsAny (draw-shuffle (items-at 32 v₂)) w r ds → DrawsAny (draw-shuffle (without to xs)) w r ds
+  peers-drawn d = shuffle-of w r ds v₂ (without to xs) d others-are
+
+  pub peers-are : (v₃ : List ℕ) (most : ℕ) → HoldsSet 32 v₃ (take most (shuffled-by w r ds (items-at 32 v₂))) → HoldsSet 32 v₃ (take most (shuffled-by w r ds (without to xs)))
+  peers-are v₃ most k = record { valid = k .valid; items = k .items ∙ ap (λ (l : List ℕ). take most (shuffled-by w r ds l)) (others-are .items) }
+
+module _ (xs : List ℕ) (f : PackedState xs) (l m : List ℕ) where
+  pub few-active : HoldsSet 32 m (take (shuffle-active-view-count xs) l) → length (items-at 32 m) ≤ 8
+  unfolding settings-at
+  few-active k = omega (arith, set-length 32 m _ k, few-taken (shuffle-active-view-count xs) l, ranges (settings-at xs) (of-settings xs f) .shuffle-active .most)
+
+  few-passive : HoldsSet 32 m (take (shuffle-passive-view-count xs) l) → length (items-at 32 m) ≤ 23
+  unfolding settings-at
+  few-passive k = omega (arith, set-length 32 m _ k, few-taken (shuffle-passive-view-count xs) l, ranges (settings-at xs) (of-settings xs f) .shuffle-passive .most)
+
+  pub both-fit : (v : List ℕ) → HoldsSet 32 m (take (shuffle-passive-view-count xs) l) → length (items-at 32 v) ≤ 8 → length (items-at 32 v) + length (items-at 32 m) ≤ 32
+  both-fit v k h = omega (arith, few-passive k)
+
+  pub all-fit : (v all : List ℕ) → HoldsSet 32 m (take (shuffle-passive-view-count xs) l) → length (items-at 32 v) ≤ 8 → HoldsSet 32 all (items-at 32 v ++ items-at 32 m) → length (items-at 32 all) < 32
+  all-fit v all k h e = omega (arith, few-passive k, set-length 32 all _ e, length-append (items-at 32 v) (items-at 32 m))
+
+send-shuffle-shut : (to : ℕ) (ps : List ℕ) (g : Run) → (g .code ≡ 0 → ⊥) → send-shuffle to ps g ≡ g
+unfolding send-shuffle
+send-shuffle-shut to ps g h = emit-shut g h _
+
+shuffle-passive-shut : (to : ℕ) (acts : List ℕ) (g : Run) → (g .code ≡ 0 → ⊥) → shuffle-passive to acts g ≡ g
+unfolding shuffle-passive
+shuffle-passive-shut to acts g h = ap (send-shuffle to (acts ++ passive-part to g)) (draw-shuffle-shut g h _) ∙ send-shuffle-shut to _ g h
+
+module _ (w a r : Work) (xs ds out o : List ℕ) (to : ℕ) (f : Fine (work-of w xs) ds out) where
+  pub passive-done : (v m all : List ℕ) → DrawsAny (draw-shuffle (without to (items-at 32 (layout.passive-part xs)))) w a ds
+      → HoldsSet 32 m (take (shuffle-passive-view-count xs) (shuffled-by w a ds (without to (items-at 32 (layout.passive-part xs)))))
+      → HoldsSet 32 all (items-at 32 v ++ items-at 32 m) → Tells (send-shuffle to (items-at 32 all)) (work-of a xs) (work-of r xs) out o
+      → Does (work-of r xs) ds o (shuffle-passive to (items-at 32 v) (run (work-of w xs) ds out))
+  unfolding shuffle-passive passive-part shuffled run unpack station-of settings-at
+  passive-done v m all k h e t =
+      by _
+      (open-only (send-shuffle to) (send-shuffle-shut to) _ _ (draw-shuffle (without to (items-at 32 (layout.passive-part xs))) (run (work-of w xs) ds out))
+      (λ z. sym (e .items ∙ ap (λ (l : List ℕ). items-at 32 v ++ l) (h .items ∙ ap (take (shuffle-passive-view-count xs)) (shuffled-open w a xs ds out _ (f .ready .packed) k z)))))
+      (then-tell t (then-draw-any k (still f)))
+
+  pub with-done : (v : List ℕ) → DrawsAny (draw-shuffle (without to (items-at 8 (layout.active-part xs)))) w a ds
+      → HoldsSet 32 v (take (shuffle-active-view-count xs) (shuffled-by w a ds (without to (items-at 8 (layout.active-part xs)))))
+      → Does (work-of r xs) ds o (shuffle-passive to (items-at 32 v) (run (work-of a xs) ds out)) → Does (work-of r xs) ds o (shuffle-with to (run (work-of w xs) ds out))
+  unfolding shuffle-with active-part shuffled run unpack station-of settings-at
+  with-done v k h d =
+      by _
+      (open-only (shuffle-passive to) (shuffle-passive-shut to) _ _ (draw-shuffle (without to (items-at 8 (layout.active-part xs))) (run (work-of w xs) ds out))
+      (λ z. sym (h .items ∙ ap (take (shuffle-active-view-count xs)) (shuffled-open w a xs ds out _ (f .ready .packed) k z))))
+      (seq (shuffle-passive to (items-at 32 v)) d (then-draw-any k (still f)))
+
+-- ---- to whom
+
+pub some-there : (xs : List ℕ) (n : ℕ) (t : Bool) → PackedState xs → n ≡ length (items-at 8 (layout.active-part xs)) → t ≡ is-alone (unpack xs) → t ≡ false → 0 < n
+unfolding is-alone unpack station-of
+some-there xs n t v c e h =
+    let s = of-active xs v in
+    omega (arith, c, s .counted, eqb-false (getD (layout.active-part xs) 8 0) 0 (empty-is-null 8 (layout.active-part xs) s ∙ (sym e ∙ h)))
+
+module _ (w : Work) (xs ds out : List ℕ) (t : Bool) (f : Fine (work-of w xs) ds out) (e : t ≡ is-alone (unpack xs)) where
+  pub none-asked : t ≡ true → Does (work-of w xs) ds out (shuffle-any (run (work-of w xs) ds out))
+  unfolding shuffle-any
+  none-asked h = taken _ _ (holds-at (work-of w xs) ds out is-alone e h) (still f)
+
+  module _ (n i p : ℕ) (c : n ≡ length (items-at 8 (layout.active-part xs))) (j : i ≡ pick n (getD ds (w .drawn) 0)) (q : p ≡ getD (items-at 8 (layout.active-part xs)) i 0) where
+    picked-is : p ≡ picked (run (work-of w xs) ds out .station .active) (run (work-of w xs) ds out)
+    unfolding picked drawn run unpack station-of
+    picked-is = q ∙ ap (λ (k : ℕ). getD (items-at 8 (layout.active-part xs)) k 0) (j ∙ ap (λ (k : ℕ). pick k (getD ds (w .drawn) 0)) c)
+
+    pub one-asked : (a r : Work) (o : List ℕ) → t ≡ false → Does (work-of r xs) ds o (shuffle-with p (run (work-of a xs) ds out)) → DrawsAny (draw 1) w a ds → Does (work-of r xs) ds o (shuffle-any (run (work-of w xs) ds out))
+    unfolding shuffle-any
+    one-asked a r o h k₂ k₁ = left _ _ (holds-at (work-of w xs) ds out is-alone e h) (seq-at shuffle-with picked-is k₂ (then-draw-any k₁ (still f)))

@@ -1,0 +1,26 @@
+use Rattle.protocol.specs.Timers.{schedule-shuffle, handle-shuffle-timer}
+use Rattle.words.proofs.Bridge.{seq}
+use borrow.Author.Needs.{needs}
+use Rattle.step_timers.proofs.handle_shuffle_timer.Statement.{statement}
+use Rattle.step_timers.proofs.handle_shuffle_timer.Tie as tie
+
+shuffle-any-requires : tie.Need-shuffle-any-requires
+shuffle-any-requires c κs = search needs
+
+schedule-shuffle-requires : tie.Need-schedule-shuffle-requires
+schedule-shuffle-requires c κs = search needs
+
+same-length : tie.Need-same-length
+same-length c = search needs
+
+same-length-2 : tie.Need-same-length-2
+same-length-2 c = search needs
+
+returns : tie.Need-returns
+unfolding handle-shuffle-timer
+returns c = seq schedule-shuffle (c .before .before .before .before .schedule-shuffle .ensures) (c .before .before .before .before .before .before .before .before .before .shuffle-any .ensures)
+
+pub handle-shuffle-timer-spec : {M : Type 1} → statement M
+handle-shuffle-timer-spec =
+    tie.close
+    (tie.spec shuffle-any-requires schedule-shuffle-requires same-length same-length-2 returns)

@@ -1,0 +1,56 @@
+use Rattle.words.proofs.Access.{of-packed}
+use native.Mathlib.Omega.{arith}
+use Rattle.step_sending.proofs.Sets.{lent-count, lent-few}
+use Rattle.step_timers.proofs.Shuffles.{place-named, walk-fits, shuffle-told}
+use borrow.Author.Needs.{needs}
+use Rattle.step_timers.proofs.send_shuffle.Statement.{statement}
+use Rattle.step_timers.proofs.send_shuffle.Tie as tie
+
+count-requires : tie.Need-count-requires
+count-requires c κs = search needs
+
+slice-aggregate-peer-infos : tie.Need-slice-aggregate-peer-infos
+slice-aggregate-peer-infos c = search lent-count
+
+peer-infos-requires : tie.Need-peer-infos-requires
+peer-infos-requires c κs = (search needs, (search needs, search lent-few))
+
+shared-slice-read-me : tie.Need-shared-slice-read-me
+shared-slice-read-me c = search needs
+
+own-data-requires : tie.Need-own-data-requires
+own-data-requires c κs = search needs
+
+push-requires : tie.Need-push-requires
+push-requires c κs = (search needs, (search place-named, search (of-packed, needs)))
+
+shared-slice-read-ttl : tie.Need-shared-slice-read-ttl
+shared-slice-read-ttl c = search needs
+
+cast-ttl : tie.Need-cast-ttl
+cast-ttl c = record { fits = omega (arith, walk-fits _ (c .before .before .before .before .before .before .before .before .before .before .pre .1 .0 .packed)) }
+
+emit-nodes-requires : tie.Need-emit-nodes-requires
+emit-nodes-requires c κs = search needs
+
+same-length : tie.Need-same-length
+same-length c = search needs
+
+returns : tie.Need-returns
+returns c = shuffle-told _ _ _ _ _ _ _ _ _ _ _ (c .before .before .before .before .before .before .before .before .before .before .before .before .before .before .pre .1 .0) (c .before .before .before .before .before .before .before .before .before .before .before .before .before .before .pre .1 .1 .0) (c .before .before .before .before .before .before .before .before .before .before .count .ensures .0) (c .before .before .before .before .before .before .own-data .ensures) (c .before .before .before .before .before .before .before .before .peer-infos .ensures) (c .before .before .before .before .before .push .ensures) (c .before .before .emit-nodes .ensures)
+
+pub send-shuffle-spec : {M : Type 1} → statement M
+send-shuffle-spec =
+    tie.close
+    (tie.spec
+    count-requires
+    slice-aggregate-peer-infos
+    peer-infos-requires
+    shared-slice-read-me
+    own-data-requires
+    push-requires
+    shared-slice-read-ttl
+    cast-ttl
+    emit-nodes-requires
+    same-length
+    returns)

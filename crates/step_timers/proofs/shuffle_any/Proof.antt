@@ -1,0 +1,72 @@
+use Rattle.section.specs.Section.{part}
+use Rattle.words.proofs.Access.{of-packed}
+use Rattle.step_sending.proofs.Told.{fine-drawn}
+use Rattle.step_timers.proofs.Shuffles.{some-there, none-asked, one-asked}
+use borrow.Author.Needs.{needs}
+use Rattle.step_timers.proofs.shuffle_any.Statement.{statement}
+use Rattle.step_timers.proofs.shuffle_any.Tie as tie
+
+is-alone-requires : tie.Need-is-alone-requires
+is-alone-requires c κs = search needs
+
+returns : tie.Need-returns
+returns c = search none-asked
+
+sub-count : tie.Need-sub-count
+sub-count c = search needs
+
+part-count-start : tie.Need-part-count-start
+part-count-start c = search needs
+
+part-count-end : tie.Need-part-count-end
+part-count-end c = search needs
+
+count-requires : tie.Need-count-requires
+unfolding part
+count-requires c κs = search (of-packed, needs)
+
+choose-requires : tie.Need-choose-requires
+unfolding part
+choose-requires c κs = (search needs, search some-there)
+
+sub-get-index : tie.Need-sub-get-index
+sub-get-index c = search needs
+
+part-get-index-start : tie.Need-part-get-index-start
+part-get-index-start c = search needs
+
+part-get-index-end : tie.Need-part-get-index-end
+part-get-index-end c = search needs
+
+get-index-requires : tie.Need-get-index-requires
+unfolding part
+get-index-requires c κs = (search (of-packed, needs), search needs)
+
+shuffle-with-requires : tie.Need-shuffle-with-requires
+shuffle-with-requires c κs = (search needs, search fine-drawn)
+
+same-length : tie.Need-same-length
+same-length c = search needs
+
+returns-2 : tie.Need-returns-2
+unfolding part
+returns-2 c = one-asked _ _ _ _ _ (c .before .before .before .before .before .before .before .before .before .before .before .before .before .before .before .pre .1) (c .before .before .before .before .before .before .before .before .before .before .before .is-alone .ensures) _ _ _ (c .before .before .before .before .before .before .before .before .count .ensures .0) (c .before .before .before .before .before .before .before .choose .ensures .1 .0) (c .before .before .before .before .get-index .ensures) _ _ _ (c .before .before .before .before .before .before .before .before .before .before .if1 .left) (c .before .before .shuffle-with .ensures) (c .before .before .before .before .before .before .before .choose .ensures .0)
+
+pub shuffle-any-spec : {M : Type 1} → statement M
+shuffle-any-spec =
+    tie.close
+    (tie.spec
+    is-alone-requires
+    returns
+    sub-count
+    part-count-start
+    part-count-end
+    count-requires
+    choose-requires
+    sub-get-index
+    part-get-index-start
+    part-get-index-end
+    get-index-requires
+    shuffle-with-requires
+    same-length
+    returns-2)

@@ -1,0 +1,64 @@
+use Rattle.section.specs.Section.{part}
+use Rattle.words.proofs.Access.{of-packed}
+use Rattle.step_sending.proofs.Told.{room-drawn}
+use Rattle.step_timers.proofs.Shuffles.{both-fit, all-fit, passive-done}
+use borrow.Author.Needs.{needs}
+use Rattle.step_timers.proofs.shuffle_passive.Statement.{statement}
+use Rattle.step_timers.proofs.shuffle_passive.Tie as tie
+
+shared-slice-read-most : tie.Need-shared-slice-read-most
+shared-slice-read-most c = search needs
+
+sub-some-peers : tie.Need-sub-some-peers
+sub-some-peers c = search needs
+
+part-some-peers-start : tie.Need-part-some-peers-start
+part-some-peers-start c = search needs
+
+part-some-peers-end : tie.Need-part-some-peers-end
+part-some-peers-end c = search needs
+
+slice-aggregate-some-peers : tie.Need-slice-aggregate-some-peers
+slice-aggregate-some-peers c = search needs
+
+some-peers-requires : tie.Need-some-peers-requires
+unfolding part
+some-peers-requires c κs = (search needs, (search (of-packed, needs), (search needs, search needs)))
+
+slice-aggregate-append : tie.Need-slice-aggregate-append
+slice-aggregate-append c = search needs
+
+append-requires : tie.Need-append-requires
+unfolding part
+append-requires c κs = (search needs, (c .before .before .before .some-peers .ensures .1 .valid, both-fit _ (c .before .before .before .before .before .before .before .before .before .before .before .pre .1 .0 .ready .packed) _ _ _ (c .before .before .before .some-peers .ensures .1) (c .before .before .before .before .before .before .before .before .before .before .before .pre .1 .1 .1)))
+
+send-shuffle-requires : tie.Need-send-shuffle-requires
+unfolding part
+send-shuffle-requires c κs = (search needs, (room-drawn _ _ _ _ _ (c .before .before .before .before .before .before .before .before .before .before .before .before .before .before .before .before .pre .1 .0) (c .before .before .before .before .before .before .before .before .some-peers .ensures .0), (c .before .before .before .before .append .ensures .valid, all-fit _ (c .before .before .before .before .before .before .before .before .before .before .before .before .before .before .before .before .pre .1 .0 .ready .packed) _ _ _ _ (c .before .before .before .before .before .before .before .before .some-peers .ensures .1) (c .before .before .before .before .before .before .before .before .before .before .before .before .before .before .before .before .pre .1 .1 .1) (c .before .before .before .before .append .ensures))))
+
+same-length : tie.Need-same-length
+same-length c = search needs
+
+same-length-2 : tie.Need-same-length-2
+same-length-2 c = search needs
+
+returns : tie.Need-returns
+unfolding part
+returns c = passive-done _ _ _ _ _ _ _ _ (c .before .before .before .before .before .before .before .before .before .before .before .before .before .before .before .before .before .before .before .pre .1 .0) _ _ _ (c .before .before .before .before .before .before .before .before .before .before .before .some-peers .ensures .0) (c .before .before .before .before .before .before .before .before .before .before .before .some-peers .ensures .1) (c .before .before .before .before .before .before .before .append .ensures) (c .before .before .send-shuffle .ensures)
+
+pub shuffle-passive-spec : {M : Type 1} → statement M
+shuffle-passive-spec =
+    tie.close
+    (tie.spec
+    shared-slice-read-most
+    sub-some-peers
+    part-some-peers-start
+    part-some-peers-end
+    slice-aggregate-some-peers
+    some-peers-requires
+    slice-aggregate-append
+    append-requires
+    send-shuffle-requires
+    same-length
+    same-length-2
+    returns)

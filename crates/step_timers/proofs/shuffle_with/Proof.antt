@@ -1,0 +1,55 @@
+use Rattle.section.specs.Section.{part}
+use Rattle.words.proofs.Access.{of-packed}
+use Rattle.step_sending.proofs.Told.{fine-drawn}
+use Rattle.step_timers.proofs.Shuffles.{few-active, with-done}
+use borrow.Author.Needs.{needs}
+use Rattle.step_timers.proofs.shuffle_with.Statement.{statement}
+use Rattle.step_timers.proofs.shuffle_with.Tie as tie
+
+shared-slice-read-most : tie.Need-shared-slice-read-most
+shared-slice-read-most c = search needs
+
+sub-some-peers : tie.Need-sub-some-peers
+sub-some-peers c = search needs
+
+part-some-peers-start : tie.Need-part-some-peers-start
+part-some-peers-start c = search needs
+
+part-some-peers-end : tie.Need-part-some-peers-end
+part-some-peers-end c = search needs
+
+slice-aggregate-some-peers : tie.Need-slice-aggregate-some-peers
+slice-aggregate-some-peers c = search needs
+
+some-peers-requires : tie.Need-some-peers-requires
+unfolding part
+some-peers-requires c κs = (search needs, (search (of-packed, needs), (search needs, search needs)))
+
+slice-aggregate-shuffle-passive : tie.Need-slice-aggregate-shuffle-passive
+slice-aggregate-shuffle-passive c = search needs
+
+shuffle-passive-requires : tie.Need-shuffle-passive-requires
+unfolding part
+shuffle-passive-requires c κs = (search needs, (fine-drawn _ _ _ _ _ (c .before .before .before .before .before .before .before .before .before .before .pre .1) (c .before .before .before .some-peers .ensures .0), (c .before .before .before .some-peers .ensures .1 .valid, few-active _ (c .before .before .before .before .before .before .before .before .before .before .pre .1 .ready .packed) _ _ (c .before .before .before .some-peers .ensures .1))))
+
+same-length : tie.Need-same-length
+same-length c = search needs
+
+returns : tie.Need-returns
+unfolding part
+returns c = with-done _ _ _ _ _ _ _ _ (c .before .before .before .before .before .before .before .before .before .before .before .before .before .before .pre .1) _ (c .before .before .before .before .before .before .before .some-peers .ensures .0) (c .before .before .before .before .before .before .before .some-peers .ensures .1) (c .before .before .before .shuffle-passive .ensures)
+
+pub shuffle-with-spec : {M : Type 1} → statement M
+shuffle-with-spec =
+    tie.close
+    (tie.spec
+    shared-slice-read-most
+    sub-some-peers
+    part-some-peers-start
+    part-some-peers-end
+    slice-aggregate-some-peers
+    some-peers-requires
+    slice-aggregate-shuffle-passive
+    shuffle-passive-requires
+    same-length
+    returns)
