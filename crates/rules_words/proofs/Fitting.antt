@@ -2,7 +2,7 @@
 -- Assumes nothing.
 use Prim.Native.Nat.{ℕ, _+_, _≤_, _<_, zero-le}
 use mathlib.Core.Path.{_≡_, refl, sym, ap, _∙_, subst}
-use mathlib.Core.Bool.{Bool, true, _&&_}
+use mathlib.Core.Bool.{Bool, true, false, _&&_}
 use mathlib.Core.List.{List, [], _∷_, _++_, map}
 use mathlib.Core.Option.{none, some}
 use native.Mathlib.Omega.{arith}
@@ -16,7 +16,7 @@ use Rattle.lists.proofs.Array.{take-pad}
 use Rattle.lists.proofs.Choice.{split, and-left, and-right}
 use Rattle.lists.proofs.Count.{mem-true, length-without}
 use Rattle.lists.proofs.Maps.{length-keys}
-use Rattle.lists.proofs.Tests.{both-true, rising-true}
+use Rattle.lists.proofs.Tests.{both-true, and-no, rising-true}
 use Rattle.lists.proofs.Zip.{length-values}
 use Rattle.section.specs.Section.{items-at, ValidSet, section}
 use Rattle.section.proofs.Sets.{section-holds}
@@ -26,10 +26,12 @@ use Rattle.peer.specs.Data.{Data, bytes-of}
 use Rattle.peer.specs.Held.{data-in, ValidData}
 use Rattle.peer.specs.Maps.{numbers-under}
 use Rattle.peer.proofs.Data.{holds-some}
-use Rattle.timing.specs.Timing.{within}
+use Rattle.timing.specs.Timing.{within, in-range}
 use Rattle.timing.proofs.Ranges.{ranges}
 use Rattle.protocol.specs.Station.{Station, Refill, automatic, requests-left, recovery, peers-end, bytes-end}
-use Rattle.protocol.specs.Rules.{short-data, all-short, all-under, lists-under, peer-lists, limit-ok, settings-rule, order-rule, capacity-rule, alive-rule, few-rule, joins-rule, numbers-rule, room-rule, data-rule, limit-rule, interval-rule, station-ok}
+use Rattle.protocol.specs.Rules.{short-data, all-short, all-under, lists-under, peer-lists, limit-ok, settings-rule, order-rule, capacity-rule, alive-rule, few-rule, joins-rule, numbers-rule, room-rule, data-rule, limit-rule, interval-rule, rules, station-ok}
+use Rattle.protocol.specs.Rules as R
+use Rattle.protocol.specs.Handle.{new-station, zero-config, zero-station}
 use Rattle.words.specs.Layout as layout
 use Rattle.words.specs.Layout.{Sections, sections}
 use Rattle.words.specs.Unpack.{own-at, settings-at, limit-at, limit-formed, refill-in, station-of, unpack}
@@ -363,3 +365,35 @@ unfolding state-ok
 pack-ok g e =
     let k = ok-kept g e in
     both-true (packed-ok (pack g)) _ (shape-ok (pack g) (kept-shape g k (kept-fits g k))) (ap station-ok (ok-unpacked g e) ∙ e)
+
+-- ---- "a state of zeroes, which later calls meet with code 2"
+
+zero-rules : station-ok zero-station ≡ false
+unfolding station-ok rules R.every settings-rule zero-station new-station zero-config in-range within
+zero-rules = refl
+
+zero-fits : Fits zero-station
+unfolding zero-station new-station short-data bytes-of all-under Rising keys all-short lists-under values
+zero-fits = record {
+  own-data = refl;
+  own-bytes = refl;
+  active = omega arith;
+  passive = omega arith;
+  bootstrap = omega arith;
+  recent = omega arith;
+  requests = omega arith;
+  requests-rise = tt;
+  joins = omega arith;
+  joins-rise = tt;
+  peer-data = omega arith;
+  peer-data-rise = tt;
+  short = refl;
+  bytes = refl;
+  alive = omega arith;
+  refused = omega arith;
+}
+
+pub zero-refused : state-ok (pack zero-station) ≡ false
+unfolding state-ok
+zero-refused =
+    ap (λ (b : Bool). packed-ok (pack zero-station) && b) (ap station-ok (unpack-pack zero-station zero-fits) ∙ zero-rules) ∙ and-no (packed-ok (pack zero-station))
