@@ -90,7 +90,7 @@ fn shift_passive(w: Work, st: &mut [u64], i: usize) -> Work
     w
 }
 
-fn remove_passive(w: Work, st: &mut [u64], p: PeerId) -> Work
+pub fn remove_passive(w: Work, st: &mut [u64], p: PeerId) -> Work
     requires { ⌜ length (now st) ≡ words ⌝ }
     requires { ⌜ PackedState (now st) ⌝ }
     ensures { λ r. ⌜ Changes (on (remove-passive p)) (work-of w (now (st .entry))) (work-of r (now (st .exit))) ⌝ }

@@ -1,0 +1,161 @@
+-- Laws of the steps by which a peer enters the active view.
+-- Assumes nothing.
+use Prim.Native.Nat.{ℕ, _+_, _≤_, _<_}
+use mathlib.Core.Path.{_≡_, refl, sym, ap, _∙_, subst}
+use mathlib.Core.Bool.{Bool, true, false}
+use mathlib.Core.List.{List, [], _∷_, _++_}
+use mathlib.Core.Option.{none, some}
+use native.Mathlib.Omega.{arith}
+use lib.ListN.{length, set, length-append}
+use lib.Dec.{eqb}
+use borrow.Author.Tests.{leb-false}
+use Rattle.lists.proofs.Choice.{by-choice}
+use Rattle.peer.specs.declared.PeerData.{PeerData}
+use Rattle.peer.specs.Data.{Data, bytes-of}
+use Rattle.peer.specs.Held.{data-in, ValidData}
+use Rattle.peer.proofs.Data.{short-bytes}
+use Rattle.section.specs.Section.{items-at}
+use Rattle.timing.specs.declared.Config.{Config}
+use Rattle.writer64.specs.Write.{rec-in}
+use Rattle.protocol.specs.Station.{Station, Refill, automatic, is-me, in-active, active-is-full}
+use Rattle.protocol.specs.Setters.{set-refill}
+use Rattle.protocol.specs.Run.{Run, guard, on, emit, notice}
+use Rattle.protocol.specs.Peers.{insert-peer-info, drop-mark, remove-passive}
+use Rattle.protocol.specs.Sending.{reply-neighbor}
+use Rattle.protocol.specs.Refill.{unless-recovery}
+use Rattle.protocol.specs.Active.{push-active, remember-neighbor, move-in, gain-neighbor, enter-active, add-active-unchecked, free-random-slot-in-active-view, admit-full, admit-new, admit, add-active}
+use Rattle.protocol.proofs.Law.{Short}
+use Rattle.protocol.proofs.Invariant.{busy, Ok}
+use Rattle.protocol.proofs.Keeping.{ease}
+use Rattle.protocol.proofs.Sends.{ok-insert-peer-info}
+use Rattle.words.specs.declared.Work.{Work}
+use Rattle.words.specs.declared.RefillLimit.{RefillLimit}
+use Rattle.words.specs.declared.RefillLimit.the-variants.{Automatic}
+use Rattle.words.specs.Layout.{active-view-capacity, active-part}
+use Rattle.words.specs.Unpack.{unpack, station-of, settings-at, limit-at, refill-in, PackedState, Becomes}
+use Rattle.words.specs.Work.{work-of, run, Changes, Room, Tells, TellsAny, Fine, Does}
+use Rattle.words.proofs.Access.{of-capacity}
+use Rattle.words.proofs.Fields.{put-passes-short}
+use Rattle.words.proofs.Bridge.{on-twice, change-then, telling, tell-then, still, then-tell, seq, taken, left, holds-at}
+use Rattle.step_active.specs.Sane.{FreeActive, Calm}
+
+-- ---- places
+
+module _ (xs : List ℕ) (code : ℕ) (v : PackedState xs) (z : code ≡ 0) (h : FreeActive code (unpack xs)) where
+  pub place-active : length (items-at 8 (active-part xs)) < 8
+  unfolding unpack station-of settings-at
+  place-active = omega (arith, h .free z, of-capacity xs v)
+
+  pub one-more : (p : ℕ) → length (items-at 8 (active-part xs) ++ (p ∷ [])) ≤ active-view-capacity xs
+  unfolding unpack station-of settings-at
+  one-more p = omega (arith, h .free z, length-append (items-at 8 (active-part xs)) (p ∷ []))
+
+pub open-slot : (xs : List ℕ) (code : ℕ) (t : Bool) → t ≡ active-is-full (unpack xs) → t ≡ false → FreeActive code (unpack xs)
+unfolding active-is-full
+open-slot xs code t e h = record { free = λ z. leb-false _ _ (sym e ∙ h) }
+
+-- a change that leaves the active view and the settings alone
+kept-free : (f : Station → Station) → ((s : Station) → f s .active ≡ s .active) → ((s : Station) → f s .config ≡ s .config) → (g : Run) → FreeActive (g .code) (g .station) → FreeActive (on f g .code) (on f g .station)
+unfolding on guard
+kept-free f a c g h =
+    by-choice (λ (x : Run). FreeActive (x .code) (x .station)) (eqb (g .code) 0)
+    (λ e. record { free = λ z. rw (a (g .station), c (g .station)) (h .free z) })
+    (λ e. h)
+
+pub still-free : (w a : Work) (xs ys : List ℕ) (p : ℕ) → FreeActive (w .code) (unpack xs) → Changes (λ g. on (drop-mark p) (on (remove-passive p) g)) (work-of w xs) (work-of a ys) → FreeActive (a .code) (unpack ys)
+unfolding run drop-mark remove-passive
+still-free w a xs ys p h k =
+    subst (λ (x : Run). FreeActive (x .code) (x .station)) (sym (k .same [] []))
+    (kept-free (drop-mark p) (λ s. refl) (λ s. refl) _ (kept-free (remove-passive p) (λ s. refl) (λ s. refl) (run (work-of w xs) [] []) h))
+
+-- ---- rows
+
+pub moved-in : (w a b r : Work) (xs ys zs us : List ℕ) (p : ℕ) → Changes (on (remember-neighbor p)) (work-of b zs) (work-of r us) → Changes (on (push-active p)) (work-of a ys) (work-of b zs)
+    → Changes (λ g. on (drop-mark p) (on (remove-passive p) g)) (work-of w xs) (work-of a ys) → Changes (on (move-in p)) (work-of w xs) (work-of r us)
+unfolding move-in
+moved-in w a b r xs ys zs us p k₃ k₂ k₁ =
+    change-then _
+    (λ ds out. on-twice (λ s. push-active p (drop-mark p (remove-passive p s))) (remember-neighbor p) (run (work-of w xs) ds out)
+    ∙ ap (on (remember-neighbor p)) (on-twice (λ s. drop-mark p (remove-passive p s)) (push-active p) (run (work-of w xs) ds out)
+    ∙ ap (on (push-active p)) (on-twice (remove-passive p) (drop-mark p) (run (work-of w xs) ds out))))
+    k₃ (change-then (λ g. on (push-active p) (on (drop-mark p) (on (remove-passive p) g))) (λ ds out. refl) k₂ k₁)
+
+pub gained : (xs ys : List ℕ) (old v l : RefillLimit) → Becomes ys (set-refill (refill-in v) (unpack xs)) → refill-in v ≡ unless-recovery (refill-in old) (refill-in l) → l ≡ Automatic → old ≡ limit-at xs
+    → Becomes (set ys 15 0) (gain-neighbor (unpack xs))
+unfolding gain-neighbor unpack station-of refill-in
+gained xs ys old v l h e a q =
+    let z : refill-in v ≡ unless-recovery (refill-in (limit-at xs)) automatic = e ∙ (λ i. unless-recovery (refill-in (q i)) (refill-in (a i))) in
+    put-passes-short 0 (omega arith) (subst (λ (y : Refill). Becomes ys (set-refill y (unpack xs))) z h)
+
+pub entered : (w a b r : Work) (xs ys zs out o : List ℕ) (p : ℕ) → Room (work-of w xs) out → Changes (on gain-neighbor) (work-of b ys) (work-of r zs)
+    → TellsAny (emit (rec-in (record { kind = 9; message = 0; flags = 0; peer = p; second = 0; ttl = 0; number = 0 }) [])) a b out o → Changes (on (move-in p)) (work-of w xs) (work-of a ys)
+    → Tells (enter-active p) (work-of w xs) (work-of r zs) out o
+unfolding enter-active rec-in
+entered w a b r xs ys zs out o p v k₃ k₂ k₁ =
+    let t = k₂ .any ys (k₁ .packed) in
+    tell-then _ (λ ds. refl) (telling (t .room) k₃) (tell-then (λ g. emit (notice 9 p) (on (move-in p) g)) (λ ds. refl) t (telling v k₁))
+
+pub added-unchecked : (w a r : Work) (xs ys zs out o₁ o : List ℕ) (p : ℕ) (high reply : Bool) → Tells (reply-neighbor reply p high) (work-of a ys) (work-of r zs) o₁ o → Tells (enter-active p) (work-of w xs) (work-of a ys) out o₁
+    → Tells (add-active-unchecked p high reply) (work-of w xs) (work-of r zs) out o
+unfolding add-active-unchecked
+added-unchecked w a r xs ys zs out o₁ o p high reply k₂ k₁ = tell-then _ (λ ds. refl) k₂ k₁
+
+module _ (w : Work) (xs ds out : List ℕ) (p : ℕ) (high reply : Bool) where
+  pub full-high : (a r : Work) (ys zs o₁ o : List ℕ) → high ≡ true → Tells (add-active-unchecked p high reply) (work-of a ys) (work-of r zs) o₁ o
+      → Does (work-of a ys) ds o₁ (free-random-slot-in-active-view (run (work-of w xs) ds out)) → Does (work-of r zs) ds o (admit-full p high reply (run (work-of w xs) ds out))
+  unfolding admit-full
+  full-high a r ys zs o₁ o h k₂ k₁ = taken _ _ h (then-tell k₂ k₁)
+
+  pub full-low : Fine (work-of w xs) ds out → high ≡ false → Does (work-of w xs) ds out (admit-full p high reply (run (work-of w xs) ds out))
+  unfolding admit-full
+  full-low v h = left _ _ h (still v)
+
+  module _ (r : Work) (ys o : List ℕ) (t : Bool) where
+    pub new-full : t ≡ active-is-full (unpack xs) → t ≡ true → Does (work-of r ys) ds o (admit-full p high reply (run (work-of w xs) ds out)) → Does (work-of r ys) ds o (admit-new p high reply (run (work-of w xs) ds out))
+    unfolding admit-new
+    new-full e h k = taken _ _ (holds-at (work-of w xs) ds out active-is-full e h) k
+
+    pub new-open : Fine (work-of w xs) ds out → t ≡ active-is-full (unpack xs) → t ≡ false → Tells (add-active-unchecked p high reply) (work-of w xs) (work-of r ys) out o → Does (work-of r ys) ds o (admit-new p high reply (run (work-of w xs) ds out))
+    unfolding admit-new
+    new-open v e h k = left _ _ (holds-at (work-of w xs) ds out active-is-full e h) (then-tell k (still v))
+
+    pub admit-known : Fine (work-of w xs) ds out → t ≡ in-active p (unpack xs) → t ≡ true → Tells (reply-neighbor reply p high) (work-of w xs) (work-of r ys) out o → Does (work-of r ys) ds o (admit p high reply (run (work-of w xs) ds out))
+    unfolding admit
+    admit-known v e h k = taken _ _ (holds-at (work-of w xs) ds out (in-active p) e h) (then-tell k (still v))
+
+    pub admit-other : t ≡ in-active p (unpack xs) → t ≡ false → Does (work-of r ys) ds o (admit-new p high reply (run (work-of w xs) ds out)) → Does (work-of r ys) ds o (admit p high reply (run (work-of w xs) ds out))
+    unfolding admit
+    admit-other e h k = left _ _ (holds-at (work-of w xs) ds out (in-active p) e h) k
+
+  module _ (d : Data) (t : Bool) (v : Fine (work-of w xs) ds out) (e : t ≡ is-me p (unpack xs)) where
+    pub add-me : t ≡ true → Does (work-of w xs) ds out (add-active p d high reply (run (work-of w xs) ds out))
+    unfolding add-active
+    add-me h = taken _ _ (holds-at (work-of w xs) ds out (is-me p) e h) (still v)
+
+    pub add-other : (a r : Work) (ys zs o₁ o : List ℕ) → t ≡ false → Does (work-of r zs) ds o (admit p high reply (run (work-of a ys) ds o₁)) → Tells (insert-peer-info p d) (work-of w xs) (work-of a ys) out o₁
+        → Does (work-of r zs) ds o (add-active p d high reply (run (work-of w xs) ds out))
+    unfolding add-active
+    add-other a r ys zs o₁ o h k₂ k₁ = left _ _ (holds-at (work-of w xs) ds out (is-me p) e h) (seq (admit p high reply) k₂ (then-tell k₁ (still v)))
+
+-- ---- the invariant after the data was stored
+
+short-by-length : (x : Data) → length (bytes-of x) ≤ 16 → Short x
+unfolding bytes-of Short
+short-by-length none h = tt
+short-by-length (some b) h = h
+
+pub informed : (w a : Work) (xs ys ds out o : List ℕ) (p : ℕ) (d : PeerData) → ValidData d → Calm 0 936 40 (run (work-of w xs) ds out) → Tells (insert-peer-info p (data-in d)) (work-of w xs) (work-of a ys) out o → Calm 0 888 40 (run (work-of a ys) ds o)
+informed w a xs ys ds out o p d v c k =
+    let q = c .fixed in
+    let k₁ : Ok q (busy (c .guest) (c .barred) [] 0 0) (c .messages + 0) (c .bytes + 888 + 48) (c .draws + 40) (run (work-of w xs) ds out) = ease (omega arith) (omega arith) (omega arith) (c .ok) in
+    record {
+      fixed = q;
+      guest = c .guest;
+      barred = c .barred;
+      messages = c .messages;
+      bytes = c .bytes;
+      draws = c .draws;
+      ok =
+          subst (Ok q (busy (c .guest) (c .barred) [] 0 0) (c .messages + 0) (c .bytes + 888) (c .draws + 40)) (sym (k .same ds))
+          (ok-insert-peer-info p (data-in d) (λ z. short-by-length (data-in d) (short-bytes d v)) k₁);
+    }

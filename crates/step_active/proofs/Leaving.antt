@@ -1,0 +1,245 @@
+-- Laws of the steps by which a peer leaves the active view.
+-- Assumes nothing.
+use Prim.Native.Nat.{ℕ, _+_, _≤_, _<_}
+use mathlib.Core.Path.{_≡_, refl, sym, ap, _∙_, subst}
+use mathlib.Core.Bool.{Bool, true, false}
+use mathlib.Core.List.{List, [], _∷_}
+use native.Mathlib.Omega.{arith}
+use lib.ListN.{length, getD}
+use borrow.Author.Tests.{eq-eqb}
+use Rattle.lists.specs.Lists.{null, count, index-of, insert, swap-remove}
+use Rattle.lists.specs.Maps.{lookup}
+use Rattle.lists.proofs.Choice.{choose-yes, clash}
+use Rattle.lists.proofs.Count.{index-lt, length-swap}
+use Rattle.util.specs.Random.{pick}
+use Rattle.peer.specs.declared.PeerData.{PeerData}
+use Rattle.peer.specs.Held.{data-in, HoldsData}
+use Rattle.section.specs.Section.{items-at}
+use Rattle.writer64.specs.Write.{rec-in}
+use Rattle.protocol.specs.Station.{recovery, in-active, is-alone}
+use Rattle.protocol.specs.Sending.{send-disconnect}
+use Rattle.protocol.specs.Refill.{start-refill}
+use Rattle.protocol.specs.Run.{Run, with-station, guard, on, emit, draw, drawn}
+use Rattle.protocol.specs.Peers.{drop-data, drop-mark, forget-peer, add-passive, is-marked}
+use Rattle.protocol.specs.Active.{Reason, random, swap-active, drop-active, demote, mark-alive, demote-alive, settle-closed, settle, clear-refused, remove-active-by-index, refill-after, remove-active, remove-picked, free-random-slot-in-active-view}
+use Rattle.protocol.proofs.Extra.{shorter}
+use Rattle.protocol.proofs.Invariant.{Fixed, busy, Ok}
+use Rattle.protocol.proofs.Keeping.{ease, ok-draw-one}
+use Rattle.protocol.proofs.Sends.{ok-send-disconnect}
+use Rattle.protocol.proofs.Leaving.{ok-demote-alive, ok-drop-active, ok-free-slot}
+use Rattle.words.specs.declared.Work.{Work}
+use Rattle.words.specs.declared.RefillLimit.{RefillLimit}
+use Rattle.words.specs.declared.RefillLimit.the-variants.{Recovery}
+use Rattle.words.specs.Layout.{active-view-capacity, active-part, alive-part}
+use Rattle.words.specs.Unpack.{unpack, station-of, refill-in, PackedState}
+use Rattle.words.specs.Work.{work-of, run, Changes, DrawsAny, Room, Tells, TellsAny, Fine, Does}
+use Rattle.words.proofs.Access.{active-fits}
+use Rattle.words.proofs.Bridge.{telling, tell-then, still, by, then, then-tell, seq, seq-at, taken, left, holds-at}
+use Rattle.words.proofs.Any.{then-draw-any}
+use Rattle.step_active.specs.declared.Loss.{Loss}
+use Rattle.step_active.specs.declared.Loss.the-variants.{ConnectionClosed, DisconnectReceived}
+use Rattle.step_active.specs.Sane.{reason-in, FreeActive, FreeMark, Calm, Loose}
+
+-- ---- places
+
+pub fewer-active : (xs : List ℕ) (i : ℕ) → PackedState xs → length (swap-remove i (items-at 8 (active-part xs))) ≤ active-view-capacity xs
+fewer-active xs i v = omega (arith, length-swap (items-at 8 (active-part xs)) i, active-fits xs v)
+
+pub mark-place : (xs : List ℕ) (code p : ℕ) → code ≡ 0 → FreeMark p code (unpack xs) → length (insert p (items-at 32 (alive-part xs))) ≤ 32
+unfolding unpack station-of
+mark-place xs code p z h = h .free z
+
+-- ---- leaving
+
+pub dropped : (w a r : Work) (xs ys out o : List ℕ) (i p : ℕ) → Room (work-of w xs) out → p ≡ getD (unpack xs .active) i 0
+    → TellsAny (emit (rec-in (record { kind = 10; message = 0; flags = 0; peer = p; second = 0; ttl = 0; number = 0 }) [])) a r out o → Changes (on (swap-active i)) (work-of w xs) (work-of a ys)
+    → Tells (drop-active i) (work-of w xs) (work-of r ys) out o
+unfolding drop-active run rec-in
+dropped w a r xs ys out o i p v e k₂ k₁ = tell-then _ (λ ds. rw e) (k₂ .any ys (k₁ .packed)) (telling v k₁)
+
+pub demoted : (w a r : Work) (xs ys zs ds out o : List ℕ) (p : ℕ) (d : PeerData) → Fine (work-of w xs) ds out → HoldsData d (lookup p (unpack xs .peer-data))
+    → Does (work-of r zs) ds o (add-passive p (data-in d) (run (work-of a ys) ds out)) → Changes (on (drop-data p)) (work-of w xs) (work-of a ys) → Does (work-of r zs) ds o (demote p (run (work-of w xs) ds out))
+unfolding demote run
+demoted w a r xs ys zs ds out o p d v h k₂ k₁ = seq-at (add-passive p) (h .holds) k₂ (then k₁ (still v))
+
+marked : (p : ℕ) (g : Run) → g .code ≡ 0 → on (mark-alive p) g ≡ with-station (mark-alive p (g .station)) g
+unfolding on guard
+marked p g z = choose-yes _ _ _ (eq-eqb _ _ z)
+
+-- the marks are passive peers, so there is a place for each
+mark-fits : {q : Fixed} {g ba : List ℕ} {sl m b d : ℕ} (p : ℕ) (x : Run) → Ok q (busy g ba [] sl 0) m b d (on (mark-alive p) x) → FreeMark p (x .code) (x .station)
+unfolding mark-alive count
+mark-fits {q} {g} {ba} {sl} {m} {b} {d} p x k = record {
+  free = λ z. let c = subst (Ok q (busy g ba [] sl 0) m b d) (marked p x z) k .good z .core in
+      omega (arith, shorter (insert p (x .station .alive)) (x .station .passive) (λ y. omega (arith, c .seats .marks y)), c .seats .places-left, c .still .ranges .few-places);
+}
+
+pub mark-free : (w a : Work) (xs ys ds out o : List ℕ) (p : ℕ) → Loose p 0 48 1 (run (work-of w xs) ds out) → Does (work-of a ys) ds o (demote p (run (work-of w xs) ds out)) → FreeMark p (a .code) (unpack ys)
+unfolding demote-alive run
+mark-free w a xs ys ds out o p l k =
+    subst (λ (x : Run). FreeMark p (x .code) (x .station)) (sym (k .same)) (mark-fits p (demote p (run (work-of w xs) ds out)) (ok-demote-alive p (l .ok)))
+
+module _ (w : Work) (xs ds out : List ℕ) (p : ℕ) (t : Bool) (v : Fine (work-of w xs) ds out) (e : t ≡ is-marked p (unpack xs)) where
+  pub closed-marked : (a r : Work) (ys zs o : List ℕ) → t ≡ true → Does (work-of r zs) ds o (demote p (run (work-of a ys) ds out)) → Changes (on (drop-mark p)) (work-of w xs) (work-of a ys)
+      → Does (work-of r zs) ds o (settle-closed p (run (work-of w xs) ds out))
+  unfolding settle-closed
+  closed-marked a r ys zs o h k₂ k₁ = taken _ _ (holds-at (work-of w xs) ds out (is-marked p) e h) (seq (demote p) k₂ (then k₁ (still v)))
+
+  pub closed-other : (r : Work) (ys : List ℕ) → t ≡ false → Changes (forget-peer p) (work-of w xs) (work-of r ys) → Does (work-of r ys) ds out (settle-closed p (run (work-of w xs) ds out))
+  unfolding settle-closed
+  closed-other r ys h k = left _ _ (holds-at (work-of w xs) ds out (is-marked p) e h) (then k (still v))
+
+-- ---- what the invariant says after each part of a removal
+
+-- p is out of the active view: what may be spent, but for the notice's 24 bytes
+loose-after : (w a : Work) (xs ys ds out o : List ℕ) (i p m B d n b : ℕ) → n ≤ m + 2 → b + 24 ≤ B → Calm m B d (run (work-of w xs) ds out) → i < length (unpack xs .active) → p ≡ getD (unpack xs .active) i 0
+    → Tells (drop-active i) (work-of w xs) (work-of a ys) out o → Loose p n b d (run (work-of a ys) ds o)
+unfolding run
+loose-after w a xs ys ds out o i p m B d n b l h c j e k =
+    let q = c .fixed in
+    let g = c .guest in
+    let ba = c .barred in
+    let k₁ : Ok q (busy g ba [] 0 0) (c .messages + m) (c .bytes + b + 24) (c .draws + d) (run (work-of w xs) ds out) = ease (omega arith) (omega arith) (omega arith) (c .ok) in
+    let k₂ : Ok q (busy g ba (getD (unpack xs .active) i 0 ∷ []) 1 0) (c .messages + m + 2) (c .bytes + b) (c .draws + d) (drop-active i (run (work-of w xs) ds out)) = ok-drop-active {sl = 0} i j k₁ in
+    let k₃ : Ok q (busy g ba (getD (unpack xs .active) i 0 ∷ []) 1 0) (c .messages + n) (c .bytes + b) (c .draws + d) (drop-active i (run (work-of w xs) ds out)) = ease (omega arith) (omega arith) (omega arith) k₂ in
+    let k₄ : Ok q (busy g ba (p ∷ []) 1 0) (c .messages + n) (c .bytes + b) (c .draws + d) (drop-active i (run (work-of w xs) ds out)) = subst (λ (x : ℕ). Ok q (busy g ba (x ∷ []) 1 0) (c .messages + n) (c .bytes + b) (c .draws + d) (drop-active i (run (work-of w xs) ds out))) (sym e) k₃ in
+    record {
+      fixed = q;
+      guest = g;
+      barred = ba;
+      slots = 1;
+      messages = c .messages;
+      bytes = c .bytes;
+      draws = c .draws;
+      ok = subst (Ok q (busy g ba (p ∷ []) 1 0) (c .messages + n) (c .bytes + b) (c .draws + d)) (sym (k .same ds)) k₄;
+    }
+
+module _ (w a : Work) (xs ys ds out o : List ℕ) (i p : ℕ) (j : i < length (unpack xs .active)) (e : p ≡ getD (unpack xs .active) i 0) (k : Tells (drop-active i) (work-of w xs) (work-of a ys) out o) where
+  pub loose-known : Calm 0 72 1 (run (work-of w xs) ds out) → Loose p 0 48 1 (run (work-of a ys) ds o)
+  loose-known c = loose-after w a xs ys ds out o i p 0 72 1 0 48 (omega arith) (omega arith) c j e k
+
+  pub loose-random : Calm 0 888 39 (run (work-of w xs) ds out) → Loose p 2 864 39 (run (work-of a ys) ds o)
+  loose-random c = loose-after w a xs ys ds out o i p 0 888 39 2 864 (omega arith) (omega arith) c j e k
+
+pub sent-loose : (w a : Work) (xs ys ds out o : List ℕ) (p : ℕ) → Loose p 2 864 39 (run (work-of w xs) ds out) → Does (work-of a ys) ds o (send-disconnect p true (run (work-of w xs) ds out)) → Loose p 0 48 1 (run (work-of a ys) ds o)
+sent-loose w a xs ys ds out o p c k = record {
+  fixed = c .fixed;
+  guest = c .guest;
+  barred = c .barred;
+  slots = c .slots;
+  messages = c .messages;
+  bytes = c .bytes;
+  draws = c .draws;
+  ok =
+      subst (Ok (c .fixed) (busy (c .guest) (c .barred) (p ∷ []) (c .slots) 0) (c .messages + 0) (c .bytes + 48) (c .draws + 1)) (sym (k .same))
+      (ok-send-disconnect p true (ease (omega arith) (omega arith) (omega arith) (c .ok)));
+}
+
+pub calm-drawn : (w a : Work) (xs ds out : List ℕ) → Fine (work-of w xs) ds out → Calm 0 888 40 (run (work-of w xs) ds out) → DrawsAny (draw 1) w a ds → Calm 0 888 39 (run (work-of a xs) ds out)
+calm-drawn w a xs ds out v c k = record {
+  fixed = c .fixed;
+  guest = c .guest;
+  barred = c .barred;
+  messages = c .messages;
+  bytes = c .bytes;
+  draws = c .draws;
+  ok =
+      subst (Ok (c .fixed) (busy (c .guest) (c .barred) [] 0 0) (c .messages + 0) (c .bytes + 888) (c .draws + 39)) (sym (k .any xs (v .ready .packed) .same out))
+      (ok-draw-one (ease (omega arith) (omega arith) (omega arith) (c .ok)));
+}
+
+pub slot-free : (w a : Work) (xs ys ds out o : List ℕ) → Calm 0 888 40 (run (work-of w xs) ds out) → Does (work-of a ys) ds o (free-random-slot-in-active-view (run (work-of w xs) ds out)) → FreeActive (a .code) (unpack ys)
+unfolding run
+slot-free w a xs ys ds out o c k =
+    subst (λ (x : Run). FreeActive (x .code) (x .station)) (sym (k .same))
+    (record { free = λ z. let h = ok-free-slot (c .ok) .good z .core in omega (arith, h .seats .slots-left) })
+
+-- ---- rows of a removal
+
+pub by-index : (w a r : Work) (xs ys zs ds out o o₂ : List ℕ) (i p : ℕ) (why : Reason) → Fine (work-of w xs) ds out → p ≡ getD (unpack xs .active) i 0
+    → Does (work-of r zs) ds o₂ (settle why p (run (work-of a ys) ds o)) → Tells (drop-active i) (work-of w xs) (work-of a ys) out o → Does (work-of r zs) ds o₂ (remove-active-by-index i why (run (work-of w xs) ds out))
+unfolding remove-active-by-index run
+by-index w a r xs ys zs ds out o o₂ i p why v e k₂ k₁ = seq-at (settle why) e k₂ (then-tell k₁ (still v))
+
+pub fine-told : {step : Run → Run} (w a : Work) (xs ys ds out o : List ℕ) → Fine (work-of w xs) ds out → Tells step (work-of w xs) (work-of a ys) out o → Fine (work-of a ys) ds o
+fine-told w a xs ys ds out o v k = then-tell k (still v) .fine
+
+pub refilled : (w a r : Work) (xs ys zs ds out o : List ℕ) (p : ℕ) (l : RefillLimit) → Fine (work-of w xs) ds out → l ≡ Recovery
+    → Does (work-of r zs) ds o (start-refill (refill-in l) (p ∷ []) (run (work-of a ys) ds out)) → Changes (on clear-refused) (work-of w xs) (work-of a ys) → Does (work-of r zs) ds o (refill-after p (run (work-of w xs) ds out))
+unfolding refill-after refill-in
+refilled w a r xs ys zs ds out o p l v e k₂ k₁ =
+    seq (start-refill recovery (p ∷ [])) (subst (λ (x : RefillLimit). Does (work-of r zs) ds o (start-refill (refill-in x) (p ∷ []) (run (work-of a ys) ds out))) e k₂) (then k₁ (still v))
+
+pub place-of : (xs : List ℕ) (p i : ℕ) (t : Bool) → t ≡ in-active p (unpack xs) → t ≡ true → i ≡ index-of p (unpack xs .active) → i < length (unpack xs .active)
+unfolding in-active
+place-of xs p i t e h q = rw q (index-lt p (unpack xs .active) (sym e ∙ h))
+
+module _ (w : Work) (xs ds out : List ℕ) (p : ℕ) (why : Reason) (t : Bool) (v : Fine (work-of w xs) ds out) (e : t ≡ in-active p (unpack xs)) where
+  pub removed : (a r : Work) (ys zs o o₂ : List ℕ) (i : ℕ) → t ≡ true → i ≡ index-of p (unpack xs .active) → Does (work-of r zs) ds o₂ (refill-after p (run (work-of a ys) ds o)) → Does (work-of a ys) ds o (remove-active-by-index i why (run (work-of w xs) ds out))
+      → Does (work-of r zs) ds o₂ (remove-active p why (run (work-of w xs) ds out))
+  unfolding remove-active run
+  removed a r ys zs o o₂ i h q k₂ k₁ =
+      taken _ _ (sym e ∙ h) (seq (refill-after p) k₂ (by _ (ap (λ (n : ℕ). remove-active-by-index n why (run (work-of w xs) ds out)) (sym q)) k₁))
+
+  pub not-removed : t ≡ false → Does (work-of w xs) ds out (remove-active p why (run (work-of w xs) ds out))
+  unfolding remove-active
+  not-removed h = left _ _ (holds-at (work-of w xs) ds out (in-active p) e h) (still v)
+
+pub picked-removed : (w a r : Work) (xs ys ds out o : List ℕ) (n i : ℕ) → Fine (work-of w xs) ds out → n ≡ length (unpack xs .active) → i ≡ pick n (getD ds (w .drawn) 0)
+    → Does (work-of r ys) ds o (remove-active-by-index i random (run (work-of a xs) ds out)) → DrawsAny (draw 1) w a ds → Does (work-of r ys) ds o (remove-picked (run (work-of w xs) ds out))
+unfolding remove-picked run drawn
+picked-removed w a r xs ys ds out o n i v q u k₂ k₁ =
+    by _ (ap (λ (n : ℕ). remove-active-by-index n random (draw 1 (run (work-of w xs) ds out))) (sym (u ∙ ap (λ (m : ℕ). pick m (getD ds (w .drawn) 0)) q)))
+    (seq (remove-active-by-index i random) k₂ (then-draw-any k₁ (still v)))
+
+some-item : (l : List ℕ) → null l ≡ false → 0 < length l
+unfolding null
+some-item [] e = clash true refl e
+some-item (x ∷ l) e = omega arith
+
+-- there is one to pick, and the place picked is one of theirs
+pub some-choice : (xs : List ℕ) (n : ℕ) → n ≡ length (unpack xs .active) → null (unpack xs .active) ≡ false → 0 < n
+some-choice xs n e h = omega (arith, some-item (unpack xs .active) h)
+
+pub still-below : (xs : List ℕ) (n i : ℕ) → n ≡ length (unpack xs .active) → i < n → i < length (unpack xs .active)
+still-below xs n i e h = omega (arith, e, h)
+
+module _ (w : Work) (xs ds out : List ℕ) (t : Bool) (e : t ≡ is-alone (unpack xs)) where
+  pub some-neighbor : t ≡ false → null (unpack xs .active) ≡ false
+  unfolding is-alone
+  some-neighbor h = sym e ∙ h
+
+  pub no-slot : Fine (work-of w xs) ds out → t ≡ true → Does (work-of w xs) ds out (free-random-slot-in-active-view (run (work-of w xs) ds out))
+  unfolding free-random-slot-in-active-view
+  no-slot v h = taken _ _ (holds-at (work-of w xs) ds out is-alone e h) (still v)
+
+  pub one-slot : (r : Work) (ys o : List ℕ) → t ≡ false → Does (work-of r ys) ds o (remove-picked (run (work-of w xs) ds out)) → Does (work-of r ys) ds o (free-random-slot-in-active-view (run (work-of w xs) ds out))
+  unfolding free-random-slot-in-active-view
+  one-slot r ys o h k = left _ _ (holds-at (work-of w xs) ds out is-alone e h) k
+
+module _ (r : Work) (ys ds o : List ℕ) (g : Run) (why : Loss) (p : ℕ) where
+  pub settled-closed : why ≡ ConnectionClosed → Does (work-of r ys) ds o (settle-closed p g) → Does (work-of r ys) ds o (settle (reason-in why) p g)
+  unfolding settle reason-in
+  settled-closed e k = rw e k
+
+  pub settled-alive : (b : Bool) → why ≡ DisconnectReceived b → b ≡ true → Does (work-of r ys) ds o (demote-alive p g) → Does (work-of r ys) ds o (settle (reason-in why) p g)
+  unfolding settle reason-in
+  settled-alive b e f k = rw (e, f) k
+
+  settled-by : (b : Bool) → why ≡ DisconnectReceived b → b ≡ false → Does (work-of r ys) ds o (forget-peer p g) → Does (work-of r ys) ds o (settle (reason-in why) p g)
+  unfolding settle reason-in
+  settled-by b e f k = rw (e, f) k
+
+pub settled-gone : (w r : Work) (xs ys ds out : List ℕ) (why : Loss) (p : ℕ) (b : Bool) → Fine (work-of w xs) ds out → why ≡ DisconnectReceived b → b ≡ false → Changes (forget-peer p) (work-of w xs) (work-of r ys)
+    → Does (work-of r ys) ds out (settle (reason-in why) p (run (work-of w xs) ds out))
+settled-gone w r xs ys ds out why p b v e f k = settled-by r ys ds out (run (work-of w xs) ds out) why p b e f (then k (still v))
+
+pub settled-random : (w a r : Work) (xs ys zs ds out o₁ o : List ℕ) (p : ℕ) → Does (work-of r zs) ds o (demote-alive p (run (work-of a ys) ds o₁)) → Does (work-of a ys) ds o₁ (send-disconnect p true (run (work-of w xs) ds out))
+    → Does (work-of r zs) ds o (settle random p (run (work-of w xs) ds out))
+unfolding settle
+settled-random w a r xs ys zs ds out o₁ o p k₂ k₁ = seq (demote-alive p) k₂ k₁
+
+pub demoted-alive : (w a r : Work) (xs ys zs ds out o : List ℕ) (p : ℕ) → Changes (on (mark-alive p)) (work-of a ys) (work-of r zs) → Does (work-of a ys) ds o (demote p (run (work-of w xs) ds out))
+    → Does (work-of r zs) ds o (demote-alive p (run (work-of w xs) ds out))
+unfolding demote-alive
+demoted-alive w a r xs ys zs ds out o p k₂ k₁ = then k₂ k₁
