@@ -1,0 +1,120 @@
+-- Whom a node that knows no peer asks.
+-- Assumes nothing.
+use Prim.Native.Nat.{ℕ, _+_, _≤_, _<_}
+use mathlib.Core.Path.{_≡_, refl, sym, ap, _∙_}
+use mathlib.Core.Bool.{Bool, true, false}
+use mathlib.Core.List.{List}
+use native.Mathlib.Omega.{arith}
+use lib.ListN.{length, getD}
+use lib.Seq.{take-all}
+use Rattle.lists.specs.Lists.{null}
+use Rattle.lists.proofs.Rest.{Rest, rest-next, rest-end}
+use Rattle.util.specs.Random.{pick}
+use Rattle.timing.specs.Timing.{backoff-due}
+use Rattle.peer.specs.Data.{Data}
+use Rattle.section.specs.Section.{items-at, HoldsSet}
+use Rattle.protocol.specs.Run.{Run, emit, emit-all, draw, drawn, picked}
+use Rattle.protocol.specs.Sending.{join-to, join}
+use Rattle.protocol.specs.Timers.{other-recent, rejoin-recent, rejoin-bootstrap, rejoin, count-alone, rejoin-if-due, pass-alone}
+use Rattle.words.specs.declared.Work.{Work}
+use Rattle.words.specs.Layout.{bootstrap-part, passes-alone}
+use Rattle.words.specs.Unpack.{unpack, station-of}
+use Rattle.words.specs.Work.{work-of, run, Changes, DrawsAny, Room, Tells, Fine, Does}
+use Rattle.words.proofs.Bridge.{by, still, then, then-tell, seq, seq-at, taken, left}
+use Rattle.words.proofs.Any.{then-draw-any}
+
+-- ---- the bootstrap peers: the Joins to those to come, after what was done so far, are the answer
+
+abbrev Then : Data → Run → List ℕ → Run
+Then d g l = emit-all (join-to d) l g
+
+pub record Joining (xs : List ℕ) (w : Work) (out₀ : List ℕ) (n : ℕ) (out : List ℕ) (r : Work) (i : ℕ) : Type 0 where
+  pub room : Room (work-of r xs) out
+  pub drawn : r .drawn ≡ w .drawn
+  pub len : length out ≡ length out₀
+  pub count : n ≡ length (items-at 8 (bootstrap-part xs))
+  pub rest : (ds : List ℕ)
+      → Rest (Then (unpack xs .own-data)) (length (items-at 8 (bootstrap-part xs))) (items-at 8 (bootstrap-part xs)) n
+      (emit-all (join-to (unpack xs .own-data)) (items-at 8 (bootstrap-part xs)) (run (work-of w xs) ds out₀)) (run (work-of r xs) ds out) i
+
+pub joins-start : (xs : List ℕ) (w : Work) (out : List ℕ) (n : ℕ) → Room (work-of w xs) out → n ≡ length (items-at 8 (bootstrap-part xs)) → Joining xs w out n out w 0
+joins-start xs w out n v e = record {
+  room = v;
+  drawn = refl;
+  len = refl;
+  count = e;
+  rest = λ ds. record {
+    low = omega arith;
+    top = omega (arith, e);
+    long = refl;
+    same = ap (λ (l : List ℕ). emit-all (join-to (unpack xs .own-data)) l (run (work-of w xs) ds out)) (sym (take-all n (items-at 8 (bootstrap-part xs)) (omega (arith, e))));
+  };
+}
+
+-- a Join is the record that carries the station's own data
+join-is-told : (r : Work) (xs ds out : List ℕ) (p q : ℕ) → p ≡ q → join p (run (work-of r xs) ds out) ≡ emit (join-to (unpack xs .own-data) q) (run (work-of r xs) ds out)
+unfolding join run
+join-is-told r xs ds out p q e = ap (λ (x : ℕ). emit (join-to (unpack xs .own-data) x) (run (work-of r xs) ds out)) e
+
+module _ (xs : List ℕ) (w : Work) (out₀ : List ℕ) (n : ℕ) (out : List ℕ) (r : Work) (i : ℕ) (v : Joining xs w out₀ n out r i) where
+  pub joins-below : i < n → i < length (items-at 8 (bootstrap-part xs))
+  joins-below h = omega (arith, v .count)
+
+  pub joins-next : (p : ℕ) (a : Work) (o : List ℕ) → i < n → p ≡ getD (items-at 8 (bootstrap-part xs)) i 0 → Tells (join p) (work-of r xs) (work-of a xs) out o → length o ≡ length out → Joining xs w out₀ n o a (i + 1)
+  unfolding emit-all
+  joins-next p a o h e k q = record {
+    room = k .room;
+    drawn = k .drawn ∙ v .drawn;
+    len = q ∙ v .len;
+    count = v .count;
+    rest = λ ds. rest-next 0 (Then (unpack xs .own-data)) (v .rest ds) (run (work-of a xs) ds o) h (λ l. ap (emit-all (join-to (unpack xs .own-data)) l) (sym (k .same ds ∙ join-is-told r xs ds out p _ e)));
+  }
+
+  pub joins-end : n ≤ i → Tells rejoin-bootstrap (work-of w xs) (work-of r xs) out₀ out
+  unfolding rejoin-bootstrap emit-all run unpack station-of
+  joins-end h = record { room = v .room; drawn = v .drawn; same = λ ds. sym (rest-end 0 (Then (unpack xs .own-data)) (v .rest ds) h) }
+
+-- ---- one recent neighbor
+
+module _ (w : Work) (xs ds out v : List ℕ) (t : Bool) (f : Fine (work-of w xs) ds out) (e : t ≡ null (items-at 32 v)) where
+  pub no-recent : t ≡ true → Does (work-of w xs) ds out (rejoin-recent (items-at 32 v) (run (work-of w xs) ds out))
+  unfolding rejoin-recent
+  no-recent h = taken _ _ (sym e ∙ h) (still f)
+
+  module _ (n i p : ℕ) (c : n ≡ length (items-at 32 v)) (j : i ≡ pick n (getD ds (w .drawn) 0)) (q : p ≡ getD (items-at 32 v) i 0) where
+    picked-is : p ≡ picked (items-at 32 v) (run (work-of w xs) ds out)
+    unfolding picked drawn run
+    picked-is = q ∙ ap (λ (k : ℕ). getD (items-at 32 v) k 0) (j ∙ ap (λ (k : ℕ). pick k (getD ds (w .drawn) 0)) c)
+
+    pub one-recent : (a r : Work) (o : List ℕ) → t ≡ false → Tells (join p) (work-of a xs) (work-of r xs) out o → DrawsAny (draw 1) w a ds → Does (work-of r xs) ds o (rejoin-recent (items-at 32 v) (run (work-of w xs) ds out))
+    unfolding rejoin-recent
+    one-recent a r o h k₂ k₁ =
+        left _ _ (sym e ∙ h) (by _ (ap (λ (x : ℕ). join x (draw 1 (run (work-of w xs) ds out))) (sym picked-is)) (then-tell k₂ (then-draw-any k₁ (still f))))
+
+-- ---- both
+
+pub fine-told : {step : Run → Run} (w a : Work) (xs ys ds out o : List ℕ) → Fine (work-of w xs) ds out → Tells step (work-of w xs) (work-of a ys) out o → Fine (work-of a ys) ds o
+fine-told w a xs ys ds out o v k = then-tell k (still v) .fine
+
+pub rejoined : (w a r : Work) (xs ds out o₁ o₂ v : List ℕ) → Fine (work-of w xs) ds out → HoldsSet 32 v (other-recent (unpack xs))
+    → Does (work-of r xs) ds o₂ (rejoin-recent (items-at 32 v) (run (work-of a xs) ds o₁)) → Tells rejoin-bootstrap (work-of w xs) (work-of a xs) out o₁ → Does (work-of r xs) ds o₂ (rejoin (run (work-of w xs) ds out))
+unfolding rejoin run
+rejoined w a r xs ds out o₁ o₂ v f h k₂ k₁ = seq-at rejoin-recent (h .items) k₂ (then-tell k₁ (still f))
+
+module _ (w : Work) (xs ds out : List ℕ) (t : Bool) (e : t ≡ backoff-due (passes-alone xs)) where
+  due : {b : Bool} → t ≡ b → backoff-due (run (work-of w xs) ds out .station .passes-alone) ≡ b
+  unfolding run unpack station-of
+  due h = sym e ∙ h
+
+  pub rejoin-due : (r : Work) (o : List ℕ) → t ≡ true → Does (work-of r xs) ds o (rejoin (run (work-of w xs) ds out)) → Does (work-of r xs) ds o (rejoin-if-due (run (work-of w xs) ds out))
+  unfolding rejoin-if-due
+  rejoin-due r o h k = taken _ _ (due h) k
+
+  pub rejoin-not-due : Fine (work-of w xs) ds out → t ≡ false → Does (work-of w xs) ds out (rejoin-if-due (run (work-of w xs) ds out))
+  unfolding rejoin-if-due
+  rejoin-not-due v h = left _ _ (due h) (still v)
+
+pub passed-alone : (w a r : Work) (xs ys ds out o : List ℕ) → Fine (work-of w xs) ds out → Does (work-of r ys) ds o (rejoin-if-due (run (work-of a ys) ds out)) → Changes count-alone (work-of w xs) (work-of a ys)
+    → Does (work-of r ys) ds o (pass-alone (run (work-of w xs) ds out))
+unfolding pass-alone
+passed-alone w a r xs ys ds out o v k₂ k₁ = seq rejoin-if-due k₂ (then k₁ (still v))

@@ -1,0 +1,83 @@
+-- The passes of a node that knows a peer.
+-- Assumes nothing.
+use Prim.Native.Nat.{ℕ}
+use mathlib.Core.Path.{_≡_, sym, _∙_}
+use mathlib.Core.Bool.{Bool, true, false}
+use mathlib.Core.List.{List, []}
+use Rattle.timing.specs.Timing.{backoff-due}
+use Rattle.protocol.specs.Station.{Refill, is-alone, is-short}
+use Rattle.protocol.specs.Setters.{set-passes-alone}
+use Rattle.protocol.specs.Run.{on}
+use Rattle.protocol.specs.Refill.{few-requests, end-recovery, start-refill}
+use Rattle.protocol.specs.Active.{clear-refused}
+use Rattle.protocol.specs.Timers.{count-short, refill-anew, refill-if-due, in-recovery, pass-short, pass-neighbors, pass-known, not-alone, knows-none, pass-alone, maintain}
+use Rattle.words.specs.declared.RefillLimit.{RefillLimit}
+use Rattle.words.specs.declared.RefillLimit.the-variants.{Recovery}
+use Rattle.words.specs.declared.Work.{Work}
+use Rattle.words.specs.Layout.{passes-short}
+use Rattle.words.specs.Unpack.{unpack, station-of, refill-in}
+use Rattle.words.specs.Work.{Held, work-of, run, Changes, Fine, Does}
+use Rattle.words.proofs.Bridge.{on-twice, change-then, still, then, seq, seq-at, taken, left, holds-at}
+
+-- ---- refills
+
+pub refilled-anew : (w a r : Work) (xs ys zs ds out o : List ℕ) (limit : RefillLimit) → Fine (work-of w xs) ds out → refill-in limit ≡ few-requests
+    → Does (work-of r zs) ds o (start-refill (refill-in limit) [] (run (work-of a ys) ds out)) → Changes (on clear-refused) (work-of w xs) (work-of a ys) → Does (work-of r zs) ds o (refill-anew (run (work-of w xs) ds out))
+unfolding refill-anew
+refilled-anew w a r xs ys zs ds out o limit v e k₂ k₁ = seq-at (λ (l : Refill). start-refill l []) e k₂ (then k₁ (still v))
+
+module _ (w : Work) (xs ds out : List ℕ) (t : Bool) (e : t ≡ backoff-due (passes-short xs)) where
+  due : {b : Bool} → t ≡ b → backoff-due (run (work-of w xs) ds out .station .passes-short) ≡ b
+  unfolding run unpack station-of
+  due h = sym e ∙ h
+
+  pub refill-due : (r : Work) (ys o : List ℕ) → t ≡ true → Does (work-of r ys) ds o (refill-anew (run (work-of w xs) ds out)) → Does (work-of r ys) ds o (refill-if-due (run (work-of w xs) ds out))
+  unfolding refill-if-due
+  refill-due r ys o h k = taken _ _ (due h) k
+
+  pub refill-not-due : Fine (work-of w xs) ds out → t ≡ false → Does (work-of w xs) ds out (refill-if-due (run (work-of w xs) ds out))
+  unfolding refill-if-due
+  refill-not-due v h = left _ _ (due h) (still v)
+
+-- ---- the branches of a pass
+
+module _ (w : Work) (xs ds out : List ℕ) (t : Bool) (v : Fine (work-of w xs) ds out) where
+  pub paused : t ≡ in-recovery (unpack xs) → t ≡ true → Does (work-of w xs) ds out (pass-short (run (work-of w xs) ds out))
+  unfolding pass-short
+  paused e h = taken _ _ (holds-at (work-of w xs) ds out in-recovery e h) (still v)
+
+  pub passed-short : (a r : Work) (ys zs o : List ℕ) → t ≡ in-recovery (unpack xs) → t ≡ false → Does (work-of r zs) ds o (refill-if-due (run (work-of a ys) ds out)) → Changes count-short (work-of w xs) (work-of a ys)
+      → Does (work-of r zs) ds o (pass-short (run (work-of w xs) ds out))
+  unfolding pass-short
+  passed-short a r ys zs o e h k₂ k₁ = left _ _ (holds-at (work-of w xs) ds out in-recovery e h) (seq refill-if-due k₂ (then k₁ (still v)))
+
+  pub short-passed : (r : Work) (ys o : List ℕ) → t ≡ is-short (unpack xs) → t ≡ true → Does (work-of r ys) ds o (pass-short (run (work-of w xs) ds out)) → Does (work-of r ys) ds o (pass-neighbors (run (work-of w xs) ds out))
+  unfolding pass-neighbors
+  short-passed r ys o e h k = taken _ _ (holds-at (work-of w xs) ds out is-short e h) k
+
+  pub enough-passed : (r : Work) (ys : List ℕ) → t ≡ is-short (unpack xs) → t ≡ false → Changes (on clear-refused) (work-of w xs) (work-of r ys) → Does (work-of r ys) ds out (pass-neighbors (run (work-of w xs) ds out))
+  unfolding pass-neighbors
+  enough-passed r ys e h k = left _ _ (holds-at (work-of w xs) ds out is-short e h) (then k (still v))
+
+  pub recovers : (r : Work) (ys o : List ℕ) → t ≡ is-alone (unpack xs) → t ≡ true → Does (work-of r ys) ds o (start-refill (refill-in Recovery) [] (run (work-of w xs) ds out)) → Does (work-of r ys) ds o (pass-known (run (work-of w xs) ds out))
+  unfolding pass-known refill-in
+  recovers r ys o e h k = taken _ _ (holds-at (work-of w xs) ds out is-alone e h) k
+
+  pub neighbors-passed : (r : Work) (ys o : List ℕ) → t ≡ is-alone (unpack xs) → t ≡ false → Does (work-of r ys) ds o (pass-neighbors (run (work-of w xs) ds out)) → Does (work-of r ys) ds o (pass-known (run (work-of w xs) ds out))
+  unfolding pass-known
+  neighbors-passed r ys o e h k = left _ _ (holds-at (work-of w xs) ds out is-alone e h) k
+
+  pub maintained-alone : (r : Work) (ys o : List ℕ) → t ≡ knows-none (unpack xs) → t ≡ true → Does (work-of r ys) ds o (pass-alone (run (work-of w xs) ds out)) → Does (work-of r ys) ds o (maintain (run (work-of w xs) ds out))
+  unfolding maintain
+  maintained-alone r ys o e h k = taken _ _ (holds-at (work-of w xs) ds out knows-none e h) k
+
+  pub maintained : (a r : Work) (ys zs o : List ℕ) → t ≡ knows-none (unpack xs) → t ≡ false → Does (work-of r zs) ds o (pass-known (run (work-of a ys) ds out)) → Changes (on not-alone) (work-of w xs) (work-of a ys)
+      → Does (work-of r zs) ds o (maintain (run (work-of w xs) ds out))
+  unfolding maintain
+  maintained a r ys zs o e h k₂ k₁ = left _ _ (holds-at (work-of w xs) ds out knows-none e h) (seq pass-known k₂ (then k₁ (still v)))
+
+-- ---- two changes are one
+
+pub knows-some : (w a r : Held) → Changes (on end-recovery) a r → Changes (on (set-passes-alone 0)) w a → Changes (on not-alone) w r
+unfolding not-alone
+knows-some w a r k₂ k₁ = change-then {f = on (set-passes-alone 0)} {g = on end-recovery} (on not-alone) (λ ds out. on-twice (set-passes-alone 0) end-recovery (run w ds out)) k₂ k₁

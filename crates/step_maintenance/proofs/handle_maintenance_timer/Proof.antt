@@ -1,0 +1,37 @@
+use Rattle.step_refill.proofs.Asking.{fine-after}
+use Rattle.words.proofs.Bridge.{still, then, seq}
+use Rattle.words.proofs.Any.{then-tell-any}
+use Rattle.protocol.specs.Timers.{maintain, handle-maintenance-timer}
+use borrow.Author.Needs.{needs}
+use Rattle.step_maintenance.proofs.handle_maintenance_timer.Statement.{statement}
+use Rattle.step_maintenance.proofs.handle_maintenance_timer.Tie as tie
+
+remember-all-requires : tie.Need-remember-all-requires
+remember-all-requires c κs = search needs
+
+maintain-requires : tie.Need-maintain-requires
+maintain-requires c κs = (search needs, search fine-after)
+
+schedule-maintenance-requires : tie.Need-schedule-maintenance-requires
+schedule-maintenance-requires c κs = search needs
+
+same-length : tie.Need-same-length
+same-length c = search needs
+
+same-length-2 : tie.Need-same-length-2
+same-length-2 c = search needs
+
+returns : tie.Need-returns
+unfolding handle-maintenance-timer
+returns c = then-tell-any (c .before .before .schedule-maintenance .ensures) (seq maintain (c .before .before .before .before .before .before .before .before .maintain .ensures) (then (c .before .before .before .before .before .before .before .before .before .before .before .before .before .remember-all .ensures) (still (c .before .before .before .before .before .before .before .before .before .before .before .before .before .before .before .before .before .before .pre .1))))
+
+pub handle-maintenance-timer-spec : {M : Type 1} → statement M
+handle-maintenance-timer-spec =
+    tie.close
+    (tie.spec
+    remember-all-requires
+    maintain-requires
+    schedule-maintenance-requires
+    same-length
+    same-length-2
+    returns)
