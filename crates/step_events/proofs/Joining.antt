@@ -1,0 +1,201 @@
+-- Requests to join.
+-- Assumes nothing.
+use Prim.Native.Nat.{ℕ, _+_, _≤_, _<_}
+use mathlib.Core.Path.{_≡_, refl, sym, ap, _∙_, subst}
+use mathlib.Core.Bool.{Bool, true, false, _||_}
+use mathlib.Core.List.{List, [], _∷_}
+use native.Mathlib.Omega.{arith}
+use lib.ListN.{length, getD}
+use lib.Dec.{eqb, ltb}
+use borrow.Author.Tests.{ltb-true, lt-ltb, eqb-true, eqb-false}
+use borrow.Rule.Slice.PartMut.{putMid}
+use Rattle.lists.specs.Lists.{is, count, mem, without, renew}
+use Rattle.lists.specs.Maps.{keys, cut, has}
+use Rattle.lists.proofs.Choice.{split, by-choice, choose-yes, choose-no}
+use Rattle.lists.proofs.Count.{is-self, is-split, mem-false}
+use Rattle.lists.proofs.Maps.{length-keys}
+use Rattle.section.specs.Section.{items-at, HoldsSet}
+use Rattle.columns.specs.Columns.{numbers-at}
+use Rattle.record.specs.Format.{Rec}
+use Rattle.writer64.specs.Write.{rec-in}
+use Rattle.protocol.specs.Setters.{set-joins, set-bootstrap}
+use Rattle.protocol.specs.Station.{Station, is-me, in-active}
+use Rattle.protocol.specs.Run.{Run, guard, on, emit, require}
+use Rattle.protocol.specs.Sending.{join-to, join}
+use Rattle.protocol.specs.Messages.{drop-join}
+use Rattle.protocol.specs.Events.{must-drop-oldest, oldest, drop-oldest-join, push-bootstrap, join-counts, note-join, open-join, await-join, join-other, join-new, handle-join}
+use Rattle.protocol.proofs.Extra.{shorter, renewed}
+use Rattle.protocol.proofs.Invariant.{Fixed, calm, Ok}
+use Rattle.protocol.proofs.Requested.{fewer-joins}
+use Rattle.words.specs.declared.Work.{Work}
+use Rattle.words.specs.Layout.{bootstrap-part, joins-part, next-join}
+use Rattle.words.specs.Unpack.{unpack, station-of, PackedState}
+use Rattle.words.specs.Work.{Held, work-of, run, Changes, ChangesAny, Room, Tells, TellsAny}
+use Rattle.words.proofs.Bridge.{guard-open, guard-shut, on-twice, on-passed, on-done, require-said, unchanged, change-by, change-then, telling, tell-then, tell-yes, tell-no}
+use Rattle.words.proofs.Fields.{put-bootstrap}
+use Rattle.words.proofs.Refused.{required-code}
+use Rattle.step_events.specs.Free.{KnownJoins, FreeJoin, Joinable}
+
+-- ---- the bootstrap peers
+
+pub others-held : (xs t u : List ℕ) (p : ℕ) → HoldsSet 32 t (items-at 8 (bootstrap-part xs)) → HoldsSet 32 u (without p (items-at 32 t)) → HoldsSet 32 u (without p (unpack xs .bootstrap))
+unfolding unpack station-of
+others-held xs t u p h k = record { valid = k .valid; items = k .items ∙ ap (without p) (h .items) }
+
+module _ (xs others : List ℕ) (p : ℕ) (h : HoldsSet 32 others (without p (unpack xs .bootstrap))) where
+  pub too-many : (n : ℕ) → n ≡ length (items-at 32 others) → ltb 8 (n + 1) ≡ must-drop-oldest p (unpack xs)
+  unfolding must-drop-oldest
+  too-many n e = ap (λ (k : ℕ). ltb 8 (k + 1)) (e ∙ ap length (h .items))
+
+  pub oldest-there : must-drop-oldest p (unpack xs) ≡ true → 0 < length (items-at 32 others)
+  unfolding must-drop-oldest
+  oldest-there e = omega (arith, ltb-true 8 (length (without p (unpack xs .bootstrap)) + 1) e, ap length (h .items))
+
+  pub oldest-is : (r : ℕ) → r ≡ getD (items-at 32 others) 0 0 → r ≡ oldest p (unpack xs)
+  unfolding oldest
+  oldest-is r e = e ∙ ap (λ (l : List ℕ). getD l 0 0) (h .items)
+
+pub must-drop : (xs : List ℕ) (p : ℕ) (t : Bool) → t ≡ must-drop-oldest p (unpack xs) → t ≡ true → must-drop-oldest p (unpack xs) ≡ true
+must-drop xs p t e h = sym e ∙ h
+
+-- one change is another where they make the same of the station
+on-at : (f h : Station → Station) (g : Run) → f (g .station) ≡ h (g .station) → on f g ≡ on h g
+unfolding on
+on-at f h g e = rw e
+
+on-same : (f : Station → Station) (g : Run) → f (g .station) ≡ g .station → on f g ≡ g
+unfolding on
+on-same f g e =
+    split (eqb (g .code) 0) (λ t. rw e (guard-open g _ (eqb-true _ _ t))) (λ t. guard-shut g _ (eqb-false _ _ t))
+
+module _ (w : Held) (p : ℕ) (t : Bool) (e : t ≡ must-drop-oldest p (unpack (w .state))) where
+  pub one-dropped : (r : Held) (x : ℕ) → t ≡ true → x ≡ oldest p (unpack (w .state)) → Changes (on (drop-join x)) w r → Changes (on (drop-oldest-join p)) w r
+  unfolding drop-oldest-join drop-join run
+  one-dropped r x h q k =
+      change-by _
+      (λ ds out. on-at (drop-oldest-join p) (drop-join x) (run w ds out) (ap (λ (m : List (ℕ × ℕ)). set-joins m (unpack (w .state))) (choose-yes _ _ _ (sym e ∙ h) ∙ ap (λ (y : ℕ). cut y (unpack (w .state) .joins)) (sym q))))
+      k
+
+  pub none-dropped : PackedState (w .state) → t ≡ false → Changes (on (drop-oldest-join p)) w w
+  unfolding drop-oldest-join run
+  none-dropped v h =
+      unchanged _ v (λ ds out. on-same (drop-oldest-join p) (run w ds out) (ap (λ (m : List (ℕ × ℕ)). set-joins m (unpack (w .state))) (choose-no _ _ _ (sym e ∙ h))))
+
+-- p as the newest
+abbrev renewing : ℕ → Station → Station
+renewing p s = set-bootstrap (renew 8 p (s .bootstrap)) s
+
+pushed : (w a r : Held) (p : ℕ) → Changes (on (renewing p)) a r → Changes (on (drop-oldest-join p)) w a → Changes (on (push-bootstrap p)) w r
+unfolding push-bootstrap drop-oldest-join
+pushed w a r p k₂ k₁ = change-then (on (push-bootstrap p)) (λ ds out. on-twice (drop-oldest-join p) (renewing p) (run w ds out)) k₂ k₁
+
+module _ (w a : Work) (xs ys : List ℕ) (p : ℕ) (k : Changes (on (drop-oldest-join p)) (work-of w xs) (work-of a ys)) where
+  pub push-passed : (a .code ≡ 0 → ⊥) → Changes (on (push-bootstrap p)) (work-of w xs) (work-of a ys)
+  push-passed h = pushed _ _ _ p (on-passed (work-of a ys) (k .packed) (renewing p) h) k
+
+  pub push-done : (zs : List ℕ) → a .code ≡ 0 → HoldsSet 8 zs (renew 8 p (items-at 8 (bootstrap-part ys))) → Changes (on (push-bootstrap p)) (work-of w xs) (work-of a (putMid 195 9 ys zs))
+  unfolding unpack station-of
+  push-done zs h s = pushed _ _ _ p (on-done (work-of a ys) (k .packed) (renewing p) _ h (put-bootstrap s)) k
+
+-- ---- a place and a number
+
+module _ (xs : List ℕ) (p code : ℕ) (v : Joinable p code (unpack xs)) (z : code ≡ 0) where
+  pub number-left : next-join xs < 18446744073709551615
+  unfolding join-counts unpack station-of
+  number-left = ltb-true _ _ (v .counts z)
+
+  pub place-left : (has p (numbers-at 8 (joins-part xs)) || ltb (length (numbers-at 8 (joins-part xs))) 8) ≡ true
+  unfolding unpack station-of
+  place-left = v .free z
+
+module _ (w a : Work) (xs : List ℕ) (p : ℕ) (t : Bool) (v : PackedState xs) (e : t ≡ join-counts (unpack xs)) (k : ChangesAny (require 10 t) w a) where
+  pub joinable : FreeJoin p (w .code) (unpack xs) → Joinable p (a .code) (unpack xs)
+  joinable h = record {
+    free = λ z. h .free (required-code 10 t (work-of w xs) (work-of a xs) (k .any xs v) z);
+    counts = λ z. sym e ∙ require-said (work-of w xs) (work-of a xs) 10 t (omega arith) (k .any xs v) z .1;
+  }
+
+  pub join-opened : (r : Work) (ys : List ℕ) → Changes (on (note-join p)) (work-of a xs) (work-of r ys) → Changes (open-join p) (work-of w xs) (work-of r ys)
+  unfolding open-join run
+  join-opened r ys k₂ = change-then _ (λ ds out. rw e) k₂ (k .any xs v)
+
+-- what holds between events
+pub ok-known : {q : Fixed} {m b d : ℕ} (g : Run) → Ok q calm m b d g → KnownJoins (g .code) (g .station)
+ok-known g k = record {
+  known = λ z. k .good z .core .waits .known;
+  once = λ z. k .good z .core .waits .boots;
+  few = λ z. k .good z .core .waits .few;
+}
+
+-- there is a place for the join to a bootstrap peer
+placed : (p : ℕ) (js : List (ℕ × ℕ)) (boo : List ℕ) → ((x : ℕ) → count x (keys js) ≤ count x boo) → is p p ≤ count p boo → length boo ≤ 8 → (has p js || ltb (length js) 8) ≡ true
+unfolding has count
+placed p js boo h n l =
+    split (mem p (keys js)) (λ e. rw e)
+    (λ e.
+    let f : length (p ∷ keys js) ≤ length boo =
+    shorter (p ∷ keys js) boo (λ x. is-split (λ y. count y (p ∷ keys js) ≤ count y boo) x p (omega (arith, mem-false p (keys js) e, n, is-self p)) (λ z. omega (arith, h x, z))) in
+    rw (e, lt-ltb (length js) 8 (omega (arith, f, length-keys js, l))))
+
+push-free : (p : ℕ) (g : Run) → KnownJoins (g .code) (g .station) → FreeJoin p (on (push-bootstrap p) g .code) (on (push-bootstrap p) g .station)
+unfolding on guard push-bootstrap drop-oldest-join must-drop-oldest oldest
+push-free p g h =
+    by-choice (λ (x : Run). FreeJoin p (x .code) (x .station)) (eqb (g .code) 0)
+    (λ f. record {
+      free = λ z.
+          let boo = g .station .bootstrap in
+          let w = renewed 8 p boo (omega arith) (h .few z) (h .once z) in
+          placed p _ (renew 8 p boo)
+          (λ x. omega (arith, h .known z x, fewer-joins (ltb 8 (length (without p boo) + 1)) (getD (without p boo) 0 0) (g .station .joins) x (omega (arith, h .known z x, h .once z x)), w .stays x))
+          (w .has-new p) (w .few);
+    })
+    (λ f. record { free = λ z. absurd (eqb-false _ _ f z) })
+
+-- a record takes no place
+emit-free : (p : ℕ) (e : Rec) (g : Run) → FreeJoin p (g .code) (g .station) → FreeJoin p (emit e g .code) (emit e g .station)
+unfolding emit guard
+emit-free p e g h =
+    by-choice (λ (x : Run). FreeJoin p (x .code) (x .station)) (eqb (g .code) 0)
+    (λ f. by-choice (λ (x : Run). FreeJoin p (x .code) (x .station)) _ (λ q. record { free = h .free }) (λ q. record { free = λ z. h .free (eqb-true _ _ f) }))
+    (λ f. h)
+
+pub free-after-join : (w a : Work) (xs ys out o : List ℕ) (p : ℕ) → Tells (join p) (work-of w xs) (work-of a ys) out o → FreeJoin p (w .code) (unpack xs) → FreeJoin p (a .code) (unpack ys)
+unfolding join run
+free-after-join w a xs ys out o p k h =
+    subst (λ (x : Run). FreeJoin p (x .code) (x .station)) (sym (k .same [])) (emit-free p (join-to (unpack xs .own-data) p) (run (work-of w xs) [] out) h)
+
+pub free-after-push : (w a : Work) (xs ys : List ℕ) (p : ℕ) → Changes (on (push-bootstrap p)) (work-of w xs) (work-of a ys) → KnownJoins (w .code) (unpack xs) → FreeJoin p (a .code) (unpack ys)
+unfolding run
+free-after-push w a xs ys p k h = subst (λ (x : Run). FreeJoin p (x .code) (x .station)) (sym (k .same [] [])) (push-free p (run (work-of w xs) [] []) h)
+
+-- ---- the steps
+
+pub room-kept : (f : Run → Run) (w a : Held) (out : List ℕ) → Changes f w a → Room w out → Room a out
+room-kept f w a out k v = telling v k .room
+
+pub awaited : (w a r : Work) (xs ys out o : List ℕ) (p : ℕ) → Room (work-of w xs) out
+    → TellsAny (emit (rec-in (record { kind = 4; message = 0; flags = 0; peer = p; second = 10000; ttl = 0; number = next-join xs }) [])) a r out o → Changes (open-join p) (work-of w xs) (work-of a ys)
+    → Tells (await-join p) (work-of w xs) (work-of r ys) out o
+unfolding await-join rec-in run unpack station-of
+awaited w a r xs ys out o p v k₂ k₁ = tell-then (await-join p) (λ ds. refl) (k₂ .any ys (k₁ .packed)) (telling v k₁)
+
+module _ (w : Held) (out : List ℕ) (p : ℕ) (t : Bool) where
+  pub joined-self : (r : Held) (o : List ℕ) → t ≡ is-me p (unpack (w .state)) → t ≡ true → Tells (join p) w r out o → Tells (join-other p) w r out o
+  unfolding join-other
+  joined-self r o e h k = tell-yes (is-me p) e _ h k
+
+  pub joined-other : (a r : Held) (o₁ o₂ : List ℕ) → t ≡ is-me p (unpack (w .state)) → t ≡ false → Tells (await-join p) a r o₁ o₂ → Tells (join p) w a out o₁ → Tells (join-other p) w r out o₂
+  unfolding join-other
+  joined-other a r o₁ o₂ e h k₂ k₁ = tell-no (is-me p) e _ h (tell-then _ (λ ds. refl) k₂ k₁)
+
+  pub not-new : Room w out → t ≡ in-active p (unpack (w .state)) → t ≡ true → Tells (join-new p) w w out out
+  unfolding join-new
+  not-new v e h = tell-yes (in-active p) e _ h (telling v (unchanged (λ g. g) (v .packed) (λ ds o. refl)))
+
+  pub joined-new : (r : Held) (o : List ℕ) → t ≡ in-active p (unpack (w .state)) → t ≡ false → Tells (join-other p) w r out o → Tells (join-new p) w r out o
+  unfolding join-new
+  joined-new r o e h k = tell-no (in-active p) e _ h k
+
+pub join-handled : (w a r : Held) (out o : List ℕ) (p : ℕ) → Room w out → Tells (join-new p) a r out o → Changes (on (push-bootstrap p)) w a → Tells (handle-join p) w r out o
+unfolding handle-join
+join-handled w a r out o p v k₂ k₁ = tell-then _ (λ ds. refl) k₂ (telling v k₁)

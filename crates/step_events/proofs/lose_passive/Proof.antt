@@ -1,0 +1,37 @@
+use Rattle.step_events.proofs.Leaving.{saved, lost}
+use borrow.Author.Needs.{needs}
+use Rattle.step_events.proofs.lose_passive.Statement.{statement}
+use Rattle.step_events.proofs.lose_passive.Tie as tie
+
+is-marked-requires : tie.Need-is-marked-requires
+is-marked-requires c κs = search needs
+
+drop-mark-requires : tie.Need-drop-mark-requires
+drop-mark-requires c κs = search needs
+
+same-length : tie.Need-same-length
+same-length c = search needs
+
+returns : tie.Need-returns
+returns c = search saved
+
+drop-dead-requires : tie.Need-drop-dead-requires
+drop-dead-requires c κs = search needs
+
+same-length-2 : tie.Need-same-length-2
+same-length-2 c = search needs
+
+returns-2 : tie.Need-returns-2
+returns-2 c = search lost
+
+pub lose-passive-spec : {M : Type 1} → statement M
+lose-passive-spec =
+    tie.close
+    (tie.spec
+    is-marked-requires
+    drop-mark-requires
+    same-length
+    returns
+    drop-dead-requires
+    same-length-2
+    returns-2)

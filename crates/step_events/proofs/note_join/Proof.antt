@@ -1,0 +1,58 @@
+use Rattle.section.specs.Section.{part}
+use Rattle.words.specs.Unpack.{unpack, station-of}
+use Rattle.words.proofs.Access.{of-packed}
+use Rattle.words.proofs.Bridge.{on-passed, on-done}
+use native.Mathlib.Omega.{arith}
+use Rattle.protocol.specs.Events.{note-join}
+use Rattle.words.proofs.Fields.{put-joins, put-next-join}
+use Rattle.step_events.proofs.Joining.{place-left, number-left}
+use borrow.Author.Needs.{needs}
+use Rattle.step_events.proofs.note_join.Statement.{statement}
+use Rattle.step_events.proofs.note_join.Tie as tie
+
+returns : tie.Need-returns
+returns c = search on-passed
+
+slice-read-id : tie.Need-slice-read-id
+slice-read-id c = search needs
+
+sub-insert-number : tie.Need-sub-insert-number
+sub-insert-number c = search needs
+
+part-insert-number-start : tie.Need-part-insert-number-start
+part-insert-number-start c = search needs
+
+part-insert-number-end : tie.Need-part-insert-number-end
+part-insert-number-end c = search needs
+
+insert-number-requires : tie.Need-insert-number-requires
+unfolding part unpack station-of
+insert-number-requires c κs = (search (of-packed, needs), search place-left)
+
+add-st : tie.Need-add-st
+add-st c = record { fits = omega (arith, number-left _ _ _ (c .before .before .before .before .before .before .before .before .pre .1 .1) (c .before .before .before .before .before .if1 .left)) }
+
+slice-write-st : tie.Need-slice-write-st
+slice-write-st c = search needs
+
+same-length : tie.Need-same-length
+same-length c = search needs
+
+returns-2 : tie.Need-returns-2
+unfolding note-join unpack station-of part
+returns-2 c = on-done _ (search needs) _ _ (search needs) (λ b. put-next-join _ (put-joins (c .before .before .insert-number .ensures) b))
+
+pub note-join-spec : {M : Type 1} → statement M
+note-join-spec =
+    tie.close
+    (tie.spec
+    returns
+    slice-read-id
+    sub-insert-number
+    part-insert-number-start
+    part-insert-number-end
+    insert-number-requires
+    add-st
+    slice-write-st
+    same-length
+    returns-2)

@@ -1,0 +1,45 @@
+use Rattle.section.specs.Section.{part}
+use Rattle.words.specs.Unpack.{unpack, station-of}
+use Rattle.words.proofs.Access.{of-packed}
+use Rattle.words.proofs.Bridge.{on-passed, on-done}
+use Rattle.protocol.specs.Events.{remove-neighbor}
+use Rattle.words.proofs.Fields.{put-active}
+use Rattle.step_events.proofs.Leaving.{fewer-active}
+use borrow.Author.Needs.{needs}
+use Rattle.step_events.proofs.remove_neighbor.Statement.{statement}
+use Rattle.step_events.proofs.remove_neighbor.Tie as tie
+
+returns : tie.Need-returns
+returns c = search on-passed
+
+sub-remove : tie.Need-sub-remove
+sub-remove c = search needs
+
+part-remove-start : tie.Need-part-remove-start
+part-remove-start c = search needs
+
+part-remove-end : tie.Need-part-remove-end
+part-remove-end c = search needs
+
+remove-requires : tie.Need-remove-requires
+unfolding part
+remove-requires c κs = search (of-packed, needs)
+
+same-length : tie.Need-same-length
+same-length c = search needs
+
+returns-2 : tie.Need-returns-2
+unfolding remove-neighbor unpack station-of part
+returns-2 c = on-done _ (search needs) _ _ (search needs) (put-active (c .before .before .remove .ensures) (search fewer-active))
+
+pub remove-neighbor-spec : {M : Type 1} → statement M
+remove-neighbor-spec =
+    tie.close
+    (tie.spec
+    returns
+    sub-remove
+    part-remove-start
+    part-remove-end
+    remove-requires
+    same-length
+    returns-2)
