@@ -1,0 +1,219 @@
+-- Laws of the messages received that several proofs cite.
+-- Assumes nothing.
+use Prim.Native.Nat.{ℕ, _≤_, _<_}
+use mathlib.Core.Path.{_≡_, refl, sym, ap, _∙_, subst}
+use mathlib.Core.Bool.{Bool, true, false}
+use mathlib.Core.List.{List, [], _∷_}
+use native.Mathlib.Omega.{arith}
+use lib.ListN.{length, take, getD}
+use lib.Dec.{eqb}
+use borrow.Author.Tests.{eq-eqb, ne-eqb}
+use Rattle.lists.specs.Lists.{without, insert}
+use Rattle.lists.proofs.Choice.{by-choice, choose-yes, choose-no}
+use Rattle.util.specs.Random.{pick}
+use Rattle.peer.specs.Data.{Node}
+use Rattle.peer.specs.Held.{data-in}
+use Rattle.peer.specs.declared.PeerData.{PeerData}
+use Rattle.section.specs.Section.{items-at, HoldsSet}
+use Rattle.columns.specs.declared.PeerInfo.{PeerInfo}
+use Rattle.columns.specs.Columns.{node-in}
+use Rattle.timing.specs.Timing.{next}
+use Rattle.timing.proofs.Ranges.{ranges}
+use Rattle.writer64.specs.Write.{rec-in}
+use Rattle.protocol.specs.Station.{is-requested, in-passive}
+use Rattle.protocol.specs.Run.{Run, guard, on, emit, draw, require, drawn, picked, node, emit-all}
+use Rattle.protocol.specs.Peers.{insert-peer-info, forget-peer, add-passive, drop-passive}
+use Rattle.protocol.specs.Sending.{send-neighbor, send-disconnect}
+use Rattle.protocol.specs.Refill.{refill-active-from-passive}
+use Rattle.protocol.specs.Active.{mark-alive}
+use Rattle.protocol.specs.Messages.{forward-join-to, ends-here, ask-joiner, learn-joiner, forward-join-on, walk-on, on-forward-join}
+use Rattle.protocol.specs.Messages.{forward-joins, refuse-neighbor}
+use Rattle.protocol.specs.Messages.{drop-recent, forget-recent, refused-fits, add-refused, note-refused, note-refusal, mark-passive, left-topic, disconnect-other}
+use Rattle.protocol.proofs.Extra.{length-insert}
+use Rattle.words.specs.declared.Work.{Work}
+use Rattle.words.specs.Layout.{active-part, refused-part, active-random-walk-length, passive-random-walk-length}
+use Rattle.words.specs.Unpack.{unpack, station-of, settings-at, PackedState}
+use Rattle.words.specs.Work.{Held, work-of, run, Changes, ChangesAny, DrawsAny, Room, Tells, TellsAny, Fine, Does}
+use Rattle.words.proofs.Access.{of-refused, of-settings}
+use Rattle.words.proofs.Any.{then-draw-any, then-tell-any}
+use Rattle.step_sending.proofs.Sets.{lent-items}
+use Rattle.words.proofs.Bridge.{unchanged, change-by, change-then, change-yes, change-no, tell-by, tell-then, require-said, by, still, then, then-tell, seq, taken, left, holds-at}
+use Rattle.step_active.specs.Sane.{FreeMark}
+use Rattle.step_messages.specs.Places.{FreeRefused, FreePassiveMark}
+
+-- ---- joins that are forwarded
+
+pub others-held : (xs t u : List ℕ) (p : ℕ) → HoldsSet 32 t (items-at 8 (active-part xs)) → HoldsSet 32 u (without p (items-at 32 t)) → HoldsSet 32 u (without p (unpack xs .active))
+unfolding unpack station-of
+others-held xs t u p h k = record { valid = k .valid; items = k .items ∙ ap (without p) (h .items) }
+
+pub join-forwarded : (w r : Work) (out o : List ℕ) (n : Node) (ttl q : ℕ)
+    → TellsAny (emit (rec-in (record { kind = 0; message = 1; flags = 0; peer = q; second = 0; ttl = ttl; number = 0 }) (n ∷ []))) w r out o → TellsAny (emit (forward-join-to n ttl q)) w r out o
+unfolding forward-join-to rec-in
+join-forwarded w r out o n ttl q k = k
+
+pub joiner-asked : (w a r : Held) (out o₁ o : List ℕ) (n : PeerInfo) → Tells (send-neighbor (n .id) true) a r o₁ o → Tells (insert-peer-info (n .id) (data-in (n .data))) w a out o₁ → Tells (ask-joiner (node-in n)) w r out o
+unfolding ask-joiner node-in
+joiner-asked w a r out o₁ o n k₂ k₁ = tell-then _ (λ ds. refl) k₂ k₁
+
+module _ (w : Work) (xs ds out : List ℕ) (n : PeerInfo) (ttl : ℕ) where
+  walk-is : run (work-of w xs) ds out .station .config .«passive_random_walk_length» ≡ passive-random-walk-length xs
+  unfolding run unpack station-of settings-at
+  walk-is = refl
+
+  pub joiner-learned : (r : Held) (o : List ℕ) → ttl ≡ passive-random-walk-length xs → Does r ds o (add-passive (n .id) (data-in (n .data)) (run (work-of w xs) ds out)) → Does r ds o (learn-joiner (node-in n) ttl (run (work-of w xs) ds out))
+  unfolding learn-joiner node-in
+  joiner-learned r o h d = taken _ _ (eq-eqb _ _ (h ∙ sym walk-is)) d
+
+  pub joiner-unlearned : Fine (work-of w xs) ds out → (ttl ≡ passive-random-walk-length xs → ⊥) → Does (work-of w xs) ds out (learn-joiner (node-in n) ttl (run (work-of w xs) ds out))
+  unfolding learn-joiner
+  joiner-unlearned v h = left _ _ (ne-eqb _ _ (λ e. h (e ∙ walk-is))) (still v)
+
+-- one of no peers is 0
+pub none-picked : (ps : List ℕ) (n d : ℕ) → n ≡ length ps → n ≡ 0 → 0 ≡ getD ps (pick (length ps) d) 0
+none-picked [] n d e h = refl
+none-picked (p ∷ ps) n d e h = absurd (omega (arith, e, h))
+
+pub one-picked : (ps : List ℕ) (n d i : ℕ) → n ≡ length ps → i ≡ pick n d → getD ps i 0 ≡ getD ps (pick (length ps) d) 0
+one-picked ps n d i e h = rw (h, e)
+
+module _ (w : Work) (xs ds out ps : List ℕ) (n : Node) (ttl : ℕ) where
+  join-on-is : (d q u : ℕ) → d ≡ getD ds (w .drawn) 0 → q ≡ getD ps (pick (length ps) d) 0 → u ≡ next ttl
+      → forward-join-on ps n ttl (run (work-of w xs) ds out) ≡ emit (forward-join-to n u q) (draw 1 (run (work-of w xs) ds out))
+  unfolding forward-join-on picked drawn run
+  join-on-is d q u e p y =
+      let t = p ∙ ap (λ (k : ℕ). getD ps (pick (length ps) k) 0) e in λ i. emit (forward-join-to n (sym y i) (sym t i)) (draw 1 (run (work-of w xs) ds out))
+
+  pub join-on : (a r : Work) (o : List ℕ) (d q u : ℕ) → Fine (work-of w xs) ds out → d ≡ getD ds (w .drawn) 0 → q ≡ getD ps (pick (length ps) d) 0 → u ≡ next ttl
+      → TellsAny (emit (forward-join-to n u q)) a r out o → DrawsAny (draw 1) w a ds → Does (work-of r xs) ds o (forward-join-on ps n ttl (run (work-of w xs) ds out))
+  join-on a r o d q u v e p y k₂ k₁ = by _ (join-on-is d q u e p y) (then-tell-any k₂ (then-draw-any k₁ (still v)))
+
+module _ (w : Work) (xs ds out : List ℕ) (from : ℕ) (n : PeerInfo) (ttl : ℕ) (t : Bool) (e : t ≡ is-requested (n .id) (unpack xs)) where
+  pub walk-stopped : Fine (work-of w xs) ds out → t ≡ true → Does (work-of w xs) ds out (walk-on from (node-in n) ttl (run (work-of w xs) ds out))
+  unfolding walk-on node-in
+  walk-stopped v h = taken _ _ (holds-at (work-of w xs) ds out (is-requested (n .id)) e h) (still v)
+
+  module _ (v : List ℕ) (k : ℕ) (p : HoldsSet 32 v (without from (unpack xs .active))) (q : k ≡ length (items-at 32 v)) where
+    rest-are : without from (run (work-of w xs) ds out .station .active) ≡ take k v
+    unfolding run
+    rest-are = sym (lent-items v k (p .valid) q ∙ p .items)
+
+    pub walked-on : (r : Held) (o : List ℕ) → t ≡ false → Does r ds o (forward-join-on (take k v) (node-in n) ttl (run (work-of w xs) ds out)) → Does r ds o (walk-on from (node-in n) ttl (run (work-of w xs) ds out))
+    unfolding walk-on node-in
+    walked-on r o h d =
+        left _ _ (holds-at (work-of w xs) ds out (is-requested (n .id)) e h) (by _ (ap (λ (l : List ℕ). forward-join-on l (node-in n) ttl (run (work-of w xs) ds out)) rest-are) d)
+
+module _ (w r : Held) (ds out o : List ℕ) (from : ℕ) (n : PeerInfo) (ttl : ℕ) (t : Bool) (e : t ≡ ends-here (n .id) ttl (unpack (w .state))) where
+  pub walk-ended : Fine w ds out → t ≡ true → Tells (ask-joiner (node-in n)) w r out o → Does r ds o (on-forward-join from (node-in n) ttl (run w ds out))
+  unfolding on-forward-join node-in
+  walk-ended v h k = taken _ _ (holds-at w ds out (ends-here (n .id) ttl) e h) (then-tell k (still v))
+
+  pub walk-goes-on : (a : Held) (o₁ : List ℕ) → t ≡ false → Does r ds o (walk-on from (node-in n) ttl (run a ds o₁)) → Does a ds o₁ (learn-joiner (node-in n) ttl (run w ds out))
+      → Does r ds o (on-forward-join from (node-in n) ttl (run w ds out))
+  unfolding on-forward-join node-in
+  walk-goes-on a o₁ h k₂ k₁ = left _ _ (holds-at w ds out (ends-here (n .id) ttl) e h) (seq (walk-on from (node-in n) ttl) k₂ k₁)
+
+-- ---- joins and neighbors
+
+pub walk-fits : (xs : List ℕ) → PackedState xs → active-random-walk-length xs < 65536
+unfolding settings-at
+walk-fits xs v = omega (arith, ranges (settings-at xs) (of-settings xs v) .active-walk .most)
+
+module _ (w r : Work) (xs out o : List ℕ) (p : ℕ) (d : PeerData) where
+  pub joins-forwarded : (v : List ℕ) (k : ℕ) → Room (work-of w xs) out → HoldsSet 32 v (without p (unpack xs .active)) → k ≡ length (items-at 32 v)
+      → TellsAny (emit-all (forward-join-to (node-in (record { id = p; «data» = d })) (active-random-walk-length xs)) (take k v)) w r out o
+      → Tells (forward-joins p (data-in d)) (work-of w xs) (work-of r xs) out o
+  unfolding forward-joins node-in run unpack station-of settings-at
+  joins-forwarded v k m h e t =
+      tell-by _ (λ ds. ap (λ (l : List ℕ). emit-all (forward-join-to (node p (data-in d)) (active-random-walk-length xs)) l (run (work-of w xs) ds out)) (sym (lent-items v k (h .valid) e ∙ h .items))) (t .any xs (m .packed))
+
+pub neighbor-refused : (w a r : Held) (ds out o : List ℕ) (p : ℕ) → Changes (forget-peer p) a r → Does a ds o (send-disconnect p true (run w ds out)) → Does r ds o (refuse-neighbor p (run w ds out))
+unfolding refuse-neighbor
+neighbor-refused w a r ds out o p k₂ k₁ = then k₂ k₁
+
+-- ---- disconnects
+
+module _ (w : Held) (p : ℕ) (alive : Bool) where
+  pub recent-kept : PackedState (w .state) → alive ≡ true → Changes (forget-recent p alive) w w
+  unfolding forget-recent
+  recent-kept v h = unchanged (forget-recent p alive) v (λ ds out. choose-yes _ _ _ h)
+
+  pub recent-dropped : (r : Held) → alive ≡ false → Changes (on (drop-recent p)) w r → Changes (forget-recent p alive) w r
+  unfolding forget-recent
+  recent-dropped r h k = change-by _ (λ ds out. choose-no _ _ _ h) k
+
+pub refused-place : (xs : List ℕ) (p code : ℕ) → PackedState xs → code ≡ 0 → FreeRefused p code (unpack xs) → length (insert p (items-at 32 (refused-part xs))) ≤ 32
+unfolding unpack station-of refused-fits
+refused-place xs p code v z h =
+    let f = of-refused xs v in
+    length-insert p 32 (items-at 32 (refused-part xs)) (h .free z) (omega (arith, f .fits, f .counted))
+
+pub refusable : (w a : Work) (xs : List ℕ) (p : ℕ) (t : Bool) → PackedState xs → t ≡ refused-fits p (unpack xs) → ChangesAny (require 7 t) w a → FreeRefused p (a .code) (unpack xs)
+refusable w a xs p t v e k = record { free = λ z. sym e ∙ require-said (work-of w xs) (work-of a xs) 7 t (omega arith) (k .any xs v) z .1 }
+
+pub refusal-noted : (w a r : Work) (xs ys : List ℕ) (p : ℕ) (t : Bool) → PackedState xs → t ≡ refused-fits p (unpack xs) → Changes (on (add-refused p)) (work-of a xs) (work-of r ys) → ChangesAny (require 7 t) w a
+    → Changes (note-refused p) (work-of w xs) (work-of r ys)
+unfolding note-refused run
+refusal-noted w a r xs ys p t v e k₂ k₁ = change-then _ (λ ds out. rw e) k₂ (k₁ .any xs v)
+
+module _ (w : Held) (p : ℕ) (requested : Bool) where
+  pub refusal-there : (r : Held) → requested ≡ true → Changes (note-refused p) w r → Changes (note-refusal p requested) w r
+  unfolding note-refusal
+  refusal-there r h k = change-by _ (λ ds out. choose-yes _ _ _ h) k
+
+  pub refusal-none : PackedState (w .state) → requested ≡ false → Changes (note-refusal p requested) w w
+  unfolding note-refusal
+  refusal-none v h = unchanged (note-refusal p requested) v (λ ds out. choose-no _ _ _ h)
+
+pub mark-place : (xs : List ℕ) (p code : ℕ) (t : Bool) → t ≡ in-passive p (unpack xs) → t ≡ true → FreePassiveMark p code (unpack xs) → FreeMark p code (unpack xs)
+mark-place xs p code t e h f = record { free = λ z. f .free z (sym e ∙ h) }
+
+module _ (w : Held) (p : ℕ) (t : Bool) (e : t ≡ in-passive p (unpack (w .state))) where
+  pub passive-marked : (r : Held) → t ≡ true → Changes (on (mark-alive p)) w r → Changes (mark-passive p) w r
+  unfolding mark-passive
+  passive-marked r h k = change-yes (in-passive p) e _ h k
+
+  pub passive-unmarked : PackedState (w .state) → t ≡ false → Changes (mark-passive p) w w
+  unfolding mark-passive
+  passive-unmarked v h = change-no (in-passive p) e _ h (unchanged (λ g. g) v (λ ds out. refl))
+
+module _ (w a : Held) (ds out : List ℕ) (p : ℕ) (requested : Bool) (v : Fine w ds out) (k : Changes (drop-passive p) w a) where
+  pub topic-refilled : (r : Held) (o : List ℕ) → requested ≡ true → Does r ds o (refill-active-from-passive (p ∷ []) (run a ds out)) → Does r ds o (left-topic p requested (run w ds out))
+  unfolding left-topic
+  topic-refilled r o h d = taken _ _ h (seq (refill-active-from-passive (p ∷ [])) d (then k (still v)))
+
+  pub topic-left : requested ≡ false → Does a ds out (left-topic p requested (run w ds out))
+  unfolding left-topic
+  topic-left h = left _ _ h (then k (still v))
+
+abbrev Markable : ℕ → Run → Type 0
+Markable p g = FreePassiveMark p (g .code) (g .station)
+
+noted-mark : (p : ℕ) (requested : Bool) (g : Run) → Markable p g → Markable p (note-refusal p requested g)
+unfolding note-refusal note-refused on require guard add-refused in-passive
+noted-mark p requested g h =
+    by-choice (Markable p) requested
+    (λ e. by-choice (Markable p) _ (λ f. on-marked (require 7 (refused-fits p (g .station)) g) (checked h)) (λ f. checked h))
+    (λ e. h)
+  where
+    on-marked : (x : Run) → Markable p x → FreePassiveMark p (x .code) (add-refused p (x .station))
+    on-marked x m = record { free = m .free }
+
+    checked : Markable p g → Markable p (require 7 (refused-fits p (g .station)) g)
+    checked m =
+        by-choice (Markable p) (eqb (g .code) 0)
+        (λ e. by-choice (Markable p) (refused-fits p (g .station)) (λ f. m) (λ f. record { free = λ z. absurd (omega (arith, z)) }))
+        (λ e. m)
+
+pub still-markable : (w a : Work) (xs ys : List ℕ) (p : ℕ) (requested : Bool) → FreePassiveMark p (w .code) (unpack xs) → Changes (note-refusal p requested) (work-of w xs) (work-of a ys) → FreePassiveMark p (a .code) (unpack ys)
+unfolding run
+still-markable w a xs ys p requested h k = subst (Markable p) (sym (k .same [] [])) (noted-mark p requested (run (work-of w xs) [] []) h)
+
+module _ (w r : Held) (ds out o : List ℕ) (p : ℕ) (alive requested : Bool) where
+  pub other-alive : (a : Held) → Fine w ds out → alive ≡ true → Changes (mark-passive p) a r → Changes (note-refusal p requested) w a → Does r ds out (disconnect-other p alive requested (run w ds out))
+  unfolding disconnect-other
+  other-alive a v h k₂ k₁ = taken _ _ h (then k₂ (then k₁ (still v)))
+
+  pub other-left : alive ≡ false → Does r ds o (left-topic p requested (run w ds out)) → Does r ds o (disconnect-other p alive requested (run w ds out))
+  unfolding disconnect-other
+  other-left h d = left _ _ h d

@@ -1,0 +1,45 @@
+use Rattle.section.specs.Section.{part}
+use Rattle.words.specs.Unpack.{unpack, station-of}
+use Rattle.words.proofs.Access.{of-packed}
+use Rattle.words.proofs.Bridge.{on-passed, on-done}
+use Rattle.protocol.specs.Messages.{add-refused}
+use Rattle.words.proofs.Fields.{put-refused}
+use Rattle.step_messages.proofs.Laws.{refused-place}
+use borrow.Author.Needs.{needs}
+use Rattle.step_messages.proofs.add_refused.Statement.{statement}
+use Rattle.step_messages.proofs.add_refused.Tie as tie
+
+returns : tie.Need-returns
+returns c = search on-passed
+
+sub-insert-sorted : tie.Need-sub-insert-sorted
+sub-insert-sorted c = search needs
+
+part-insert-sorted-start : tie.Need-part-insert-sorted-start
+part-insert-sorted-start c = search needs
+
+part-insert-sorted-end : tie.Need-part-insert-sorted-end
+part-insert-sorted-end c = search needs
+
+insert-sorted-requires : tie.Need-insert-sorted-requires
+unfolding part unpack station-of
+insert-sorted-requires c κs = (search (of-packed, needs), search refused-place)
+
+same-length : tie.Need-same-length
+same-length c = search needs
+
+returns-2 : tie.Need-returns-2
+unfolding add-refused unpack station-of part
+returns-2 c = on-done _ (search needs) _ _ (search needs) (put-refused (c .before .before .insert-sorted .ensures))
+
+pub add-refused-spec : {M : Type 1} → statement M
+add-refused-spec =
+    tie.close
+    (tie.spec
+    returns
+    sub-insert-sorted
+    part-insert-sorted-start
+    part-insert-sorted-end
+    insert-sorted-requires
+    same-length
+    returns-2)

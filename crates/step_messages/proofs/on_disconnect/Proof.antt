@@ -1,0 +1,34 @@
+use Rattle.step_refill.proofs.Asking.{fine-after}
+use Rattle.step_messages.proofs.Between.{ended-between, disconnect-done}
+use borrow.Author.Needs.{needs}
+use Rattle.step_messages.proofs.on_disconnect.Statement.{statement}
+use Rattle.step_messages.proofs.on_disconnect.Tie as tie
+
+is-requested-requires : tie.Need-is-requested-requires
+is-requested-requires c κs = search needs
+
+forget-open-requires : tie.Need-forget-open-requires
+forget-open-requires c κs = search needs
+
+disconnected-requires : tie.Need-disconnected-requires
+disconnected-requires c κs = (search needs, (fine-after _ _ _ _ _ _ (c .before .before .before .before .before .before .before .before .before .before .before .pre .1 .0) (c .before .before .before .before .forget-open .ensures), ended-between _ _ _ _ _ _ (c .before .before .before .before .forget-open .ensures) _ _ _ (c .before .before .before .before .before .before .before .before .before .before .before .pre .1 .1)))
+
+same-length : tie.Need-same-length
+same-length c = search needs
+
+same-length-2 : tie.Need-same-length-2
+same-length-2 c = search needs
+
+returns : tie.Need-returns
+returns c = disconnect-done _ _ _ _ _ _ (c .before .before .before .before .before .before .before .before .before .forget-open .ensures) _ _ _ (c .before .before .before .before .before .before .before .before .before .before .before .before .before .before .before .before .pre .1 .0) (c .before .before .before .before .before .before .before .before .before .before .before .is-requested .ensures) (c .before .before .before .before .disconnected .ensures)
+
+pub on-disconnect-spec : {M : Type 1} → statement M
+on-disconnect-spec =
+    tie.close
+    (tie.spec
+    is-requested-requires
+    forget-open-requires
+    disconnected-requires
+    same-length
+    same-length-2
+    returns)

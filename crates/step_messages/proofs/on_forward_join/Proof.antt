@@ -1,0 +1,50 @@
+use Rattle.step_sending.proofs.Told.{room-of}
+use Rattle.step_messages.proofs.Laws.{walk-ended, walk-goes-on}
+use borrow.Author.Needs.{needs}
+use Rattle.step_messages.proofs.on_forward_join.Statement.{statement}
+use Rattle.step_messages.proofs.on_forward_join.Tie as tie
+
+ends-here-requires : tie.Need-ends-here-requires
+ends-here-requires c κs = search needs
+
+ask-joiner-requires : tie.Need-ask-joiner-requires
+ask-joiner-requires c κs = (search needs, (search (room-of, needs), search needs))
+
+same-length : tie.Need-same-length
+same-length c = search needs
+
+same-length-2 : tie.Need-same-length-2
+same-length-2 c = search needs
+
+returns : tie.Need-returns
+returns c = search walk-ended
+
+learn-joiner-requires : tie.Need-learn-joiner-requires
+learn-joiner-requires c κs = search needs
+
+walk-on-requires : tie.Need-walk-on-requires
+walk-on-requires c κs = search needs
+
+same-length-3 : tie.Need-same-length-3
+same-length-3 c = search needs
+
+same-length-4 : tie.Need-same-length-4
+same-length-4 c = search needs
+
+returns-2 : tie.Need-returns-2
+returns-2 c = walk-goes-on _ _ _ _ _ _ _ _ _ (c .before .before .before .before .before .before .before .before .before .before .before .before .before .ends-here .ensures) _ _ (c .before .before .before .before .before .before .before .before .before .before .before .before .if1 .left) (c .before .before .walk-on .ensures) (c .before .before .before .before .before .before .before .before .before .learn-joiner .ensures)
+
+pub on-forward-join-spec : {M : Type 1} → statement M
+on-forward-join-spec =
+    tie.close
+    (tie.spec
+    ends-here-requires
+    ask-joiner-requires
+    same-length
+    same-length-2
+    returns
+    learn-joiner-requires
+    walk-on-requires
+    same-length-3
+    same-length-4
+    returns-2)

@@ -1,0 +1,34 @@
+use Rattle.step_refill.proofs.Asking.{fine-after}
+use Rattle.step_messages.proofs.Between.{pending-calm, joined}
+use borrow.Author.Needs.{needs}
+use Rattle.step_messages.proofs.on_join.Statement.{statement}
+use Rattle.step_messages.proofs.on_join.Tie as tie
+
+drop-pending-requires : tie.Need-drop-pending-requires
+drop-pending-requires c κs = search needs
+
+add-active-requires : tie.Need-add-active-requires
+add-active-requires c κs = (search needs, (search (fine-after, needs), (search needs, search pending-calm)))
+
+forward-joins-requires : tie.Need-forward-joins-requires
+forward-joins-requires c κs = search needs
+
+same-length : tie.Need-same-length
+same-length c = search needs
+
+same-length-2 : tie.Need-same-length-2
+same-length-2 c = search needs
+
+returns : tie.Need-returns
+returns c = joined _ _ _ _ _ (c .before .before .before .before .before .before .before .before .before .before .before .before .before .before .drop-pending .ensures) (c .before .before .before .before .before .before .before .before .before .before .before .before .before .before .before .before .before .before .before .pre .1 .0) _ _ _ _ _ (c .before .before .forward-joins .ensures) (c .before .before .before .before .before .before .before .before .before .add-active .ensures)
+
+pub on-join-spec : {M : Type 1} → statement M
+on-join-spec =
+    tie.close
+    (tie.spec
+    drop-pending-requires
+    add-active-requires
+    forward-joins-requires
+    same-length
+    same-length-2
+    returns)

@@ -1,0 +1,487 @@
+// The messages received but for the two of a shuffle (the definition's `Messages`).
+use columns::PeerInfo;
+use peer::PeerData;
+use section::PeerId;
+use step_active::Loss;
+use timing::Ttl;
+use words::Layout;
+use words::Work;
+use writer64::Fields;
+ghost use mathlib.Core.Path.{_≡_};
+ghost use Prim.Native.Nat.{_≤_};
+ghost use lib.ListN.{length, getD};
+ghost use Rattle.lists.specs.Lists.{without};
+ghost use Rattle.util.specs.Random.{pick};
+ghost use Rattle.peer.specs.Held.{ValidData, data-in};
+ghost use Rattle.section.specs.Section.{HoldsSet};
+ghost use Rattle.columns.specs.Columns.{node-in};
+ghost use Rattle.protocol.specs.Run.{on, emit, emit-all};
+ghost use Rattle.protocol.specs.Active.{accepts};
+ghost use Rattle.protocol.specs.Messages.{forward-join-to, ends-here, ask-joiner, learn-joiner, forward-join-on, walk-on, on-forward-join};
+ghost use Rattle.protocol.specs.Messages.{forward-joins, on-join, refuse-neighbor, answer-neighbor, on-neighbor};
+ghost use Rattle.protocol.specs.Messages.{drop-join, drop-request, drop-recent, forget-recent, refused-fits, add-refused, note-refused, note-refusal, mark-passive, left-topic, disconnect-other};
+ghost use Rattle.protocol.specs.Messages.{disconnected, on-disconnect};
+ghost use Rattle.words.specs.Layout.{words};
+ghost use Rattle.words.specs.Unpack.{unpack, PackedState};
+ghost use Rattle.words.specs.Work.{work-of, run, Changes, TellsAny, Room, Tells, Fine, Does};
+ghost use Rattle.step_active.specs.Sane.{Calm};
+ghost use Rattle.step_messages.specs.Between.{Between};
+ghost use Rattle.step_messages.specs.Places.{FreeRefused, FreePassiveMark};
+
+// The neighbors but p, as a working set.
+fn others_into(st: &[u64], p: PeerId, t: &mut [u64])
+    requires { ⌜ length (now st) ≡ words ⌝ }
+    requires { ⌜ PackedState (now st) ⌝ }
+    requires { ⌜ length (now t) ≡ 33 ⌝ }
+    ensures { λ _. ⌜ HoldsSet 32 (now (t .exit)) (without p (unpack (now (st .entry)) .active)) ⌝ }
+{
+    section::copy_into(&st[Layout::ACTIVE..Layout::ACTIVE_END], Layout::FEW, t);
+    section::without(t, Layout::ALL, p);
+}
+
+// ---- ForwardJoin
+
+// Whether a ForwardJoin's walk ends here.
+fn ends_here(st: &[u64], p: PeerId, ttl: u16) -> bool
+    requires { ⌜ length (now st) ≡ words ⌝ }
+    requires { ⌜ PackedState (now st) ⌝ }
+    ensures { λ r. ⌜ r ≡ ends-here p ttl (unpack (now (st .entry))) ⌝ }
+{
+    let t = Ttl(ttl);
+    words::in_active(st, p) | (t.expired() | words::is_last_hop(st))
+}
+
+// Neighbor to the one who joins; it enters the active view once it answers.
+fn ask_joiner(w: Work, st: &mut [u64], out: &mut [u8], n: PeerInfo) -> Work
+    requires { ⌜ length (now st) ≡ words ⌝ }
+    requires { ⌜ Room (work-of w (now st)) (now out) ⌝ }
+    requires { ⌜ ValidData (n .data) ⌝ }
+    ensures { λ r. ⌜ Tells (ask-joiner (node-in n)) (work-of w (now (st .entry))) (work-of r (now (st .exit))) (now (out .entry)) (now (out .exit)) ⌝ }
+{
+    let p = n.id;
+    let d = n.data;
+    let a = step_peers::insert_peer_info(w, st, out, p, d);
+    step_sending::send_neighbor(a, st, out, p, true)
+}
+
+// Where the walk has the passive length left, the one who joins goes to the passive view.
+fn learn_joiner(
+    w: Work,
+    st: &mut [u64],
+    draws: &[u32],
+    out: &mut [u8],
+    n: PeerInfo,
+    ttl: u16,
+) -> Work
+    requires { ⌜ length (now st) ≡ words ⌝ }
+    requires { ⌜ Fine (work-of w (now st)) (now draws) (now out) ⌝ }
+    requires { ⌜ ValidData (n .data) ⌝ }
+    ensures { λ r. ⌜ Does (work-of r (now (st .exit))) (now (draws .entry)) (now (out .exit)) (learn-joiner (node-in n) ttl (run (work-of w (now (st .entry))) (now (draws .entry)) (now (out .entry)))) ⌝ }
+{
+    if ttl as u64 == st[Layout::PASSIVE_RANDOM_WALK_LENGTH] {
+        let p = n.id;
+        let d = n.data;
+        return step_peers::add_passive(w, st, draws, out, p, d);
+    }
+    w
+}
+
+// ForwardJoin to q.
+fn forward_join_to(w: Work, out: &mut [u8], n: PeerInfo, ttl: u16, q: PeerId) -> Work
+    requires { ⌜ w .written ≤ length (now out) ⌝ }
+    requires { ⌜ ValidData (n .data) ⌝ }
+    ensures { λ r. ⌜ TellsAny (emit (forward-join-to (node-in n) ttl q)) w r (now (out .entry)) (now (out .exit)) ⌝ }
+{
+    let f = Fields {
+        kind: 0,
+        message: 1,
+        flags: 0,
+        peer: q,
+        second: 0,
+        ttl: ttl,
+        number: 0,
+    };
+    words::emit_one(w, out, f, n)
+}
+
+// One of these peers, by a draw; 0 where there is none.
+fn picked(ps: &[u64], d: u32) -> PeerId
+    ensures { λ r. ⌜ r ≡ getD (now (ps .entry)) (pick (length (now (ps .entry))) d) 0 ⌝ }
+{
+    let n = ps.len();
+    if n == 0 {
+        return 0;
+    }
+    let i = section::pick_index(d, n);
+    ps[i]
+}
+
+// ForwardJoin goes on to one of these peers; that there is one is never-unreachable.
+fn forward_join_on(
+    w: Work,
+    st: &[u64],
+    draws: &[u32],
+    out: &mut [u8],
+    others: &[u64],
+    n: PeerInfo,
+    ttl: u16,
+) -> Work
+    requires { ⌜ length (now st) ≡ words ⌝ }
+    requires { ⌜ Fine (work-of w (now st)) (now draws) (now out) ⌝ }
+    requires { ⌜ ValidData (n .data) ⌝ }
+    ensures { λ r. ⌜ Does (work-of r (now (st .entry))) (now (draws .entry)) (now (out .exit)) (forward-join-on (now (others .entry)) (node-in n) ttl (run (work-of w (now (st .entry))) (now (draws .entry)) (now (out .entry)))) ⌝ }
+{
+    let d = words::draw(w, draws);
+    let a = d.work;
+    let q = picked(others, d.value);
+    let t = Ttl(ttl);
+    let left = t.next();
+    let m = left.0;
+    forward_join_to(a, out, n, m, q)
+}
+
+// ForwardJoin goes on, unless a request to the one who joins is open.
+fn walk_on(
+    w: Work,
+    st: &[u64],
+    draws: &[u32],
+    out: &mut [u8],
+    from: PeerId,
+    n: PeerInfo,
+    ttl: u16,
+) -> Work
+    requires { ⌜ length (now st) ≡ words ⌝ }
+    requires { ⌜ Fine (work-of w (now st)) (now draws) (now out) ⌝ }
+    requires { ⌜ ValidData (n .data) ⌝ }
+    ensures { λ r. ⌜ Does (work-of r (now (st .entry))) (now (draws .entry)) (now (out .exit)) (walk-on from (node-in n) ttl (run (work-of w (now (st .entry))) (now (draws .entry)) (now (out .entry)))) ⌝ }
+{
+    let p = n.id;
+    if words::is_requested(st, p) {
+        return w;
+    }
+    let mut v = [0u64; 33];
+    others_into(st, from, &mut v);
+    let k = section::count(&v, Layout::ALL);
+    forward_join_on(w, st, draws, out, &v[..k], n, ttl)
+}
+
+pub fn on_forward_join(
+    w: Work,
+    st: &mut [u64],
+    draws: &[u32],
+    out: &mut [u8],
+    from: PeerId,
+    n: PeerInfo,
+    ttl: u16,
+) -> Work
+    requires { ⌜ length (now st) ≡ words ⌝ }
+    requires { ⌜ Fine (work-of w (now st)) (now draws) (now out) ⌝ }
+    requires { ⌜ ValidData (n .data) ⌝ }
+    ensures { λ r. ⌜ Does (work-of r (now (st .exit))) (now (draws .entry)) (now (out .exit)) (on-forward-join from (node-in n) ttl (run (work-of w (now (st .entry))) (now (draws .entry)) (now (out .entry)))) ⌝ }
+{
+    let p = n.id;
+    if ends_here(st, p, ttl) {
+        return ask_joiner(w, st, out, n);
+    }
+    let a = learn_joiner(w, st, draws, out, n, ttl);
+    walk_on(a, st, draws, out, from, n, ttl)
+}
+
+// ---- Disconnect
+
+fn drop_recent(w: Work, st: &mut [u64], p: PeerId) -> Work
+    requires { ⌜ length (now st) ≡ words ⌝ }
+    requires { ⌜ PackedState (now st) ⌝ }
+    ensures { λ r. ⌜ Changes (on (drop-recent p)) (work-of w (now (st .entry))) (work-of r (now (st .exit))) ⌝ }
+{
+    if w.code != 0 {
+        return w;
+    }
+    section::without(&mut st[Layout::RECENT..Layout::RECENT_END], Layout::FEW, p);
+    w
+}
+
+// Whoever went away for good cannot let the station in again, so it is not kept for a rejoin.
+fn forget_recent(w: Work, st: &mut [u64], p: PeerId, alive: bool) -> Work
+    requires { ⌜ length (now st) ≡ words ⌝ }
+    requires { ⌜ PackedState (now st) ⌝ }
+    ensures { λ r. ⌜ Changes (forget-recent p alive) (work-of w (now (st .entry))) (work-of r (now (st .exit))) ⌝ }
+{
+    if alive {
+        return w;
+    }
+    drop_recent(w, st, p)
+}
+
+// Whether p is among the refused peers, or there is a place for it.
+fn refused_fits(st: &[u64], p: PeerId) -> bool
+    requires { ⌜ length (now st) ≡ words ⌝ }
+    requires { ⌜ PackedState (now st) ⌝ }
+    ensures { λ r. ⌜ r ≡ refused-fits p (unpack (now (st .entry))) ⌝ }
+{
+    let n = section::count(&st[Layout::REFUSED..Layout::REFUSED_END], Layout::ALL);
+    section::contains(&st[Layout::REFUSED..Layout::REFUSED_END], Layout::ALL, p) | (n < Layout::ALL)
+}
+
+fn add_refused(w: Work, st: &mut [u64], p: PeerId) -> Work
+    requires { ⌜ length (now st) ≡ words ⌝ }
+    requires { ⌜ PackedState (now st) ⌝ }
+    requires { ⌜ FreeRefused p (w .code) (unpack (now st)) ⌝ }
+    ensures { λ r. ⌜ Changes (on (add-refused p)) (work-of w (now (st .entry))) (work-of r (now (st .exit))) ⌝ }
+{
+    if w.code != 0 {
+        return w;
+    }
+    section::insert_sorted(
+        &mut st[Layout::REFUSED..Layout::REFUSED_END],
+        Layout::ALL,
+        p,
+    );
+    w
+}
+
+// p refused a request; code 7 where a 33rd refused peer would be needed.
+fn note_refused(w: Work, st: &mut [u64], p: PeerId) -> Work
+    requires { ⌜ length (now st) ≡ words ⌝ }
+    requires { ⌜ PackedState (now st) ⌝ }
+    ensures { λ r. ⌜ Changes (note-refused p) (work-of w (now (st .entry))) (work-of r (now (st .exit))) ⌝ }
+{
+    let test = refused_fits(st, p);
+    let a = words::require(w, 7, test);
+    add_refused(a, st, p)
+}
+
+// p refused a request, where one was open.
+fn note_refusal(w: Work, st: &mut [u64], p: PeerId, requested: bool) -> Work
+    requires { ⌜ length (now st) ≡ words ⌝ }
+    requires { ⌜ PackedState (now st) ⌝ }
+    ensures { λ r. ⌜ Changes (note-refusal p requested) (work-of w (now (st .entry))) (work-of r (now (st .exit))) ⌝ }
+{
+    if requested {
+        return note_refused(w, st, p);
+    }
+    w
+}
+
+// A passive peer that disconnected alive is marked.
+fn mark_passive(w: Work, st: &mut [u64], p: PeerId) -> Work
+    requires { ⌜ length (now st) ≡ words ⌝ }
+    requires { ⌜ PackedState (now st) ⌝ }
+    requires { ⌜ FreePassiveMark p (w .code) (unpack (now st)) ⌝ }
+    ensures { λ r. ⌜ Changes (mark-passive p) (work-of w (now (st .entry))) (work-of r (now (st .exit))) ⌝ }
+{
+    if words::in_passive(st, p) {
+        return step_active::mark_alive(w, st, p);
+    }
+    w
+}
+
+// p left the topic, so it is no longer asked; another is asked in its place where a request to it was open.
+fn left_topic(
+    w: Work,
+    st: &mut [u64],
+    draws: &[u32],
+    out: &mut [u8],
+    p: PeerId,
+    requested: bool,
+) -> Work
+    requires { ⌜ length (now st) ≡ words ⌝ }
+    requires { ⌜ Fine (work-of w (now st)) (now draws) (now out) ⌝ }
+    ensures { λ r. ⌜ Does (work-of r (now (st .exit))) (now (draws .entry)) (now (out .exit)) (left-topic p requested (run (work-of w (now (st .entry))) (now (draws .entry)) (now (out .entry)))) ⌝ }
+{
+    let a = step_peers::drop_passive(w, st, p);
+    if requested {
+        let skip = [p];
+        return step_refill::refill_active_from_passive(a, st, draws, out, &skip);
+    }
+    a
+}
+
+// Disconnect from a peer that is no neighbor.
+fn disconnect_other(
+    w: Work,
+    st: &mut [u64],
+    draws: &[u32],
+    out: &mut [u8],
+    p: PeerId,
+    alive: bool,
+    requested: bool,
+) -> Work
+    requires { ⌜ length (now st) ≡ words ⌝ }
+    requires { ⌜ Fine (work-of w (now st)) (now draws) (now out) ⌝ }
+    requires { ⌜ FreePassiveMark p (w .code) (unpack (now st)) ⌝ }
+    ensures { λ r. ⌜ Does (work-of r (now (st .exit))) (now (draws .entry)) (now (out .exit)) (disconnect-other p alive requested (run (work-of w (now (st .entry))) (now (draws .entry)) (now (out .entry)))) ⌝ }
+{
+    if alive {
+        let a = note_refusal(w, st, p, requested);
+        return mark_passive(a, st, p);
+    }
+    left_topic(w, st, draws, out, p, requested)
+}
+
+// Disconnect from a neighbor, or from another peer.
+fn disconnected(
+    w: Work,
+    st: &mut [u64],
+    draws: &[u32],
+    out: &mut [u8],
+    p: PeerId,
+    alive: bool,
+    requested: bool,
+) -> Work
+    requires { ⌜ length (now st) ≡ words ⌝ }
+    requires { ⌜ Fine (work-of w (now st)) (now draws) (now out) ⌝ }
+    requires { ⌜ Between 0 72 1 (run (work-of w (now st)) (now draws) (now out)) ⌝ }
+    ensures { λ r. ⌜ Does (work-of r (now (st .exit))) (now (draws .entry)) (now (out .exit)) (disconnected p alive requested (run (work-of w (now (st .entry))) (now (draws .entry)) (now (out .entry)))) ⌝ }
+{
+    if words::in_active(st, p) {
+        return step_active::remove_active(w, st, draws, out, p, Loss::DisconnectReceived(alive));
+    }
+    disconnect_other(w, st, draws, out, p, alive, requested)
+}
+
+// Neither a join nor a request to p is open, and it is no recent neighbor unless it is alive.
+fn forget_open(w: Work, st: &mut [u64], p: PeerId, alive: bool) -> Work
+    requires { ⌜ length (now st) ≡ words ⌝ }
+    requires { ⌜ PackedState (now st) ⌝ }
+    ensures { λ r. ⌜ Changes (λ g. on (drop-request p) (forget-recent p alive (on (drop-join p) g))) (work-of w (now (st .entry))) (work-of r (now (st .exit))) ⌝ }
+{
+    let a = words::drop_join(w, st, p);
+    let b = forget_recent(a, st, p, alive);
+    words::drop_request(b, st, p)
+}
+
+pub fn on_disconnect(
+    w: Work,
+    st: &mut [u64],
+    draws: &[u32],
+    out: &mut [u8],
+    p: PeerId,
+    alive: bool,
+) -> Work
+    requires { ⌜ length (now st) ≡ words ⌝ }
+    requires { ⌜ Fine (work-of w (now st)) (now draws) (now out) ⌝ }
+    requires { ⌜ Between 0 72 1 (run (work-of w (now st)) (now draws) (now out)) ⌝ }
+    ensures { λ r. ⌜ Does (work-of r (now (st .exit))) (now (draws .entry)) (now (out .exit)) (on-disconnect p alive (run (work-of w (now (st .entry))) (now (draws .entry)) (now (out .entry)))) ⌝ }
+{
+    let requested = words::is_requested(st, p);
+    let a = forget_open(w, st, p, alive);
+    disconnected(a, st, draws, out, p, alive, requested)
+}
+
+// ---- Join and Neighbor
+
+// ForwardJoin to each of these peers.
+fn forward_join_to_all(w: Work, out: &mut [u8], others: &[u64], n: PeerInfo, ttl: u16) -> Work
+    requires { ⌜ w .written ≤ length (now out) ⌝ }
+    requires { ⌜ ValidData (n .data) ⌝ }
+    ensures { λ r. ⌜ TellsAny (emit-all (forward-join-to (node-in n) ttl) (now (others .entry))) w r (now (out .entry)) (now (out .exit)) ⌝ }
+{
+    let mut a = w;
+    let mut i: usize = 0;
+    while i < others.len() {
+        let q = others[i];
+        i += 1;
+        a = forward_join_to(a, out, n, ttl, q);
+    }
+    a
+}
+
+// ForwardJoin to all neighbors but the one who joins.
+fn forward_joins(w: Work, st: &[u64], out: &mut [u8], p: PeerId, d: PeerData) -> Work
+    requires { ⌜ length (now st) ≡ words ⌝ }
+    requires { ⌜ Room (work-of w (now st)) (now out) ⌝ }
+    requires { ⌜ ValidData d ⌝ }
+    ensures { λ r. ⌜ Tells (forward-joins p (data-in d)) (work-of w (now (st .entry))) (work-of r (now (st .entry))) (now (out .entry)) (now (out .exit)) ⌝ }
+{
+    let mut v = [0u64; 33];
+    others_into(st, p, &mut v);
+    let k = section::count(&v, Layout::ALL);
+    let ttl = st[Layout::ACTIVE_RANDOM_WALK_LENGTH] as u16;
+    let n = PeerInfo { id: p, data: d };
+    forward_join_to_all(w, out, &v[..k], n, ttl)
+}
+
+// A peer that is not taken in is told so, and forgotten again.
+fn refuse_neighbor(w: Work, st: &mut [u64], draws: &[u32], out: &mut [u8], p: PeerId) -> Work
+    requires { ⌜ length (now st) ≡ words ⌝ }
+    requires { ⌜ Fine (work-of w (now st)) (now draws) (now out) ⌝ }
+    ensures { λ r. ⌜ Does (work-of r (now (st .exit))) (now (draws .entry)) (now (out .exit)) (refuse-neighbor p (run (work-of w (now (st .entry))) (now (draws .entry)) (now (out .entry)))) ⌝ }
+{
+    let a = step_sending::send_disconnect(w, st, draws, out, p, true);
+    step_peers::forget_peer(a, st, p)
+}
+
+pub fn on_join(
+    w: Work,
+    st: &mut [u64],
+    draws: &[u32],
+    out: &mut [u8],
+    p: PeerId,
+    d: PeerData,
+) -> Work
+    requires { ⌜ length (now st) ≡ words ⌝ }
+    requires { ⌜ Fine (work-of w (now st)) (now draws) (now out) ⌝ }
+    requires { ⌜ ValidData d ⌝ }
+    requires { ⌜ Between 0 936 40 (run (work-of w (now st)) (now draws) (now out)) ⌝ }
+    ensures { λ r. ⌜ Does (work-of r (now (st .exit))) (now (draws .entry)) (now (out .exit)) (on-join p (data-in d) (run (work-of w (now (st .entry))) (now (draws .entry)) (now (out .entry)))) ⌝ }
+{
+    let a = words::drop_pending(w, st, p);
+    let b = step_active::add_active(a, st, draws, out, p, d, true, true);
+    forward_joins(b, st, out, p, d)
+}
+
+// Whether p is in the active view after it was to enter it.
+fn accepts(st: &[u64], p: PeerId, high: bool) -> bool
+    requires { ⌜ length (now st) ≡ words ⌝ }
+    requires { ⌜ PackedState (now st) ⌝ }
+    ensures { λ r. ⌜ r ≡ accepts p high (unpack (now (st .entry))) ⌝ }
+{
+    !words::is_me(st, p) & (words::in_active(st, p) | (high | !words::active_is_full(st)))
+}
+
+// p is taken in, or refused.
+fn answer_neighbor(
+    w: Work,
+    st: &mut [u64],
+    draws: &[u32],
+    out: &mut [u8],
+    p: PeerId,
+    d: PeerData,
+    high: bool,
+    reply: bool,
+) -> Work
+    requires { ⌜ length (now st) ≡ words ⌝ }
+    requires { ⌜ Fine (work-of w (now st)) (now draws) (now out) ⌝ }
+    requires { ⌜ ValidData d ⌝ }
+    requires { ⌜ Calm 0 936 40 (run (work-of w (now st)) (now draws) (now out)) ⌝ }
+    ensures { λ r. ⌜ Does (work-of r (now (st .exit))) (now (draws .entry)) (now (out .exit)) (answer-neighbor p (data-in d) high reply (run (work-of w (now (st .entry))) (now (draws .entry)) (now (out .entry)))) ⌝ }
+{
+    let accepted = accepts(st, p, high);
+    let a = step_active::add_active(w, st, draws, out, p, d, high, reply);
+    if accepted {
+        return a;
+    }
+    refuse_neighbor(a, st, draws, out, p)
+}
+
+// Neighbor from a peer with an open request is its reply, and is not answered.
+pub fn on_neighbor(
+    w: Work,
+    st: &mut [u64],
+    draws: &[u32],
+    out: &mut [u8],
+    p: PeerId,
+    d: PeerData,
+    high: bool,
+) -> Work
+    requires { ⌜ length (now st) ≡ words ⌝ }
+    requires { ⌜ Fine (work-of w (now st)) (now draws) (now out) ⌝ }
+    requires { ⌜ ValidData d ⌝ }
+    requires { ⌜ Between 0 936 40 (run (work-of w (now st)) (now draws) (now out)) ⌝ }
+    ensures { λ r. ⌜ Does (work-of r (now (st .exit))) (now (draws .entry)) (now (out .exit)) (on-neighbor p (data-in d) high (run (work-of w (now (st .entry))) (now (draws .entry)) (now (out .entry)))) ⌝ }
+{
+    let requested = words::is_requested(st, p);
+    let a = words::drop_pending(w, st, p);
+    answer_neighbor(a, st, draws, out, p, d, high, !requested)
+}
