@@ -15,7 +15,6 @@ use Rattle.peer.specs.Data.{Data, bytes-of}
 use Rattle.peer.specs.Held.{data-in, ValidData}
 use Rattle.peer.proofs.Data.{short-bytes}
 use Rattle.section.specs.Section.{items-at}
-use Rattle.timing.specs.declared.Config.{Config}
 use Rattle.writer64.specs.Write.{rec-in}
 use Rattle.protocol.specs.Station.{Station, Refill, automatic, is-me, in-active, active-is-full}
 use Rattle.protocol.specs.Setters.{set-refill}

@@ -8,7 +8,7 @@ use Rattle.lists.specs.Lists.{insert}
 use Rattle.protocol.specs.Station.{Station}
 use Rattle.protocol.specs.Run.{Run}
 use Rattle.protocol.specs.Active.{Reason, connection-closed, disconnect-received}
-use Rattle.protocol.proofs.Invariant.{Fixed, busy, Ok}
+use Rattle.protocol.specs.Invariant.{Fixed, busy, Ok}
 use Rattle.step_active.specs.declared.Loss.{Loss}
 use Rattle.step_active.specs.declared.Loss.the-variants.{ConnectionClosed, DisconnectReceived}
 
