@@ -9,6 +9,7 @@ use lib.ListN.{length}
 use lib.Dec.{eqb}
 use Rattle.lists.proofs.Choice.{by-choice, choose-yes, split, and-left, and-right}
 use Rattle.peer.specs.Data.{Data, bytes-of}
+use Rattle.timing.specs.declared.Config.{Config}
 use Rattle.protocol.specs.Station.{Station, bytes-end}
 use Rattle.protocol.specs.Rules.{all-under, station-ok}
 use Rattle.protocol.specs.Handle as definition

@@ -1,0 +1,2 @@
+pub mod Handled
+pub mod Begun

@@ -1,0 +1,314 @@
+// `handle`: one event, whatever it is, to the whole result or one numbered refusal, over the words of a state.
+use columns::PeerInfo;
+use record::Event;
+use record::Header;
+use timing::Config;
+use words::Layout;
+use words::Work;
+ghost use mathlib.Core.Path.{_≡_};
+ghost use mathlib.Core.Bool.{true};
+ghost use Prim.Native.Nat.{_≤_};
+ghost use lib.ListN.{length};
+ghost use Rattle.record.specs.Read.{rec-of};
+ghost use Rattle.protocol.specs.Run.{on};
+ghost use Rattle.protocol.specs.Handle.{new, note-scheduled, first-timers, handle-message, dispatch, steps};
+ghost use Rattle.words.specs.Layout.{words};
+ghost use Rattle.words.specs.Unpack.{PackedState};
+ghost use Rattle.words.specs.Work.{work-of, run, Changes, Fine, Does};
+ghost use Rattle.rules_words.specs.Ok.{state-ok};
+ghost use Rattle.queries_words.specs.Made.{lent, pack-made};
+ghost use Rattle.step_messages.specs.Between.{Between};
+ghost use Rattle.hyparview_words.specs.Handled.{cleared, refusal, ended, handled};
+ghost use Rattle.hyparview_words.specs.Begun.{Headed, Single, ReadAs, Opens, timer-expired};
+
+// What a call hands back beside the words: its code, and how many draws are used.
+pub struct Done {
+    pub code: u32,
+    pub draws: usize,
+}
+
+// The places from `from` on become zero.
+fn clear(out: &mut [u8], from: usize)
+    requires { ⌜ from ≤ length (now out) ⌝ }
+    ensures { λ _. ⌜ now (out .exit) ≡ cleared from (now (out .entry)) ⌝ }
+{
+    let mut i = from;
+    while i < out.len() {
+        out[i] = 0;
+        i += 1;
+    }
+}
+
+// The words of a into b.
+fn copy_words(a: &[u64], b: &mut [u64])
+    requires { ⌜ length (now a) ≡ length (now b) ⌝ }
+    ensures { λ _. ⌜ now (b .exit) ≡ now (a .entry) ⌝ }
+{
+    let mut i: usize = 0;
+    while i < b.len() {
+        b[i] = a[i];
+        i += 1;
+    }
+}
+
+// Zeroes only, and no draw; the words stay as they are.
+fn refuse(st: &[u64], out: &mut [u8], code: u32) -> Done
+    ensures { λ r. ⌜ record { code = r .code; draws = r .draws; words = now (st .entry); output = now (out .exit) } ≡ refusal code (now (st .entry)) (length (now (out .entry))) ⌝ }
+{
+    clear(out, 0);
+    Done {
+        code: code,
+        draws: 0,
+    }
+}
+
+// The words that the steps reached, with zeroes after the records; or the refusal that they met, with the old words.
+fn finish(old: &[u64], st: &mut [u64], w: Work, out: &mut [u8]) -> Done
+    requires { ⌜ length (now old) ≡ words ⌝ }
+    requires { ⌜ length (now st) ≡ words ⌝ }
+    requires { ⌜ w .written ≤ length (now out) ⌝ }
+    ensures { λ r. ⌜ record { code = r .code; draws = r .draws; words = now (st .exit); output = now (out .exit) } ≡ ended (now (old .entry)) w (now (st .entry)) (now (out .entry)) ⌝ }
+{
+    let code = w.code;
+    if code != 0 {
+        copy_words(old, st);
+        return refuse(st, out, code);
+    }
+    let at = w.written;
+    clear(out, at);
+    Done {
+        code: 0,
+        draws: w.drawn,
+    }
+}
+
+fn note_scheduled(w: Work, st: &mut [u64]) -> Work
+    requires { ⌜ length (now st) ≡ words ⌝ }
+    requires { ⌜ PackedState (now st) ⌝ }
+    ensures { λ r. ⌜ Changes (on note-scheduled) (work-of w (now (st .entry))) (work-of r (now (st .exit))) ⌝ }
+{
+    if w.code != 0 {
+        return w;
+    }
+    st[Layout::TIMERS_SCHEDULED] = 1;
+    w
+}
+
+// The first accepted call starts both timers.
+fn first_timers(w: Work, st: &mut [u64], draws: &[u32], out: &mut [u8]) -> Work
+    requires { ⌜ length (now st) ≡ words ⌝ }
+    requires { ⌜ Fine (work-of w (now st)) (now draws) (now out) ⌝ }
+    ensures { λ r. ⌜ Does (work-of r (now (st .exit))) (now (draws .entry)) (now (out .exit)) (first-timers (run (work-of w (now (st .entry))) (now (draws .entry)) (now (out .entry)))) ⌝ }
+{
+    if st[Layout::TIMERS_SCHEDULED] == 1 {
+        return w;
+    }
+    let a = note_scheduled(w, st);
+    let b = step_timers::schedule_shuffle(a, st, draws, out);
+    step_maintenance::schedule_maintenance(b, out)
+}
+
+// Join, ForwardJoin or Neighbor, which have one node.
+fn handle_single(
+    w: Work,
+    st: &mut [u64],
+    draws: &[u32],
+    out: &mut [u8],
+    b: &[u8],
+    h: Header,
+) -> Work
+    requires { ⌜ length (now st) ≡ words ⌝ }
+    requires { ⌜ Fine (work-of w (now st)) (now draws) (now out) ⌝ }
+    requires { ⌜ Single (now b) h ⌝ }
+    requires { ⌜ Between 0 936 40 (run (work-of w (now st)) (now draws) (now out)) ⌝ }
+    ensures { λ r. ⌜ Does (work-of r (now (st .exit))) (now (draws .entry)) (now (out .exit)) (handle-message (rec-of (now (b .entry))) (run (work-of w (now (st .entry))) (now (draws .entry)) (now (out .entry)))) ⌝ }
+{
+    let p = h.peer as u64;
+    let n = record::peer_info(b, 0);
+    let d = n.data;
+    if h.message == 0 {
+        return step_messages::on_join(w, st, draws, out, p, d);
+    }
+    if h.message == 1 {
+        let node = PeerInfo {
+            id: n.id as u64,
+            data: d,
+        };
+        return step_messages::on_forward_join(w, st, draws, out, p, node, h.ttl);
+    }
+    step_messages::on_neighbor(w, st, draws, out, p, d, h.flags == 1)
+}
+
+// One of the six messages.
+fn handle_message(
+    w: Work,
+    st: &mut [u64],
+    draws: &[u32],
+    out: &mut [u8],
+    b: &[u8],
+    h: Header,
+) -> Work
+    requires { ⌜ length (now st) ≡ words ⌝ }
+    requires { ⌜ Fine (work-of w (now st)) (now draws) (now out) ⌝ }
+    requires { ⌜ Headed (now b) h ⌝ }
+    requires { ⌜ h .kind ≡ 0 ⌝ }
+    requires { ⌜ Between 0 936 40 (run (work-of w (now st)) (now draws) (now out)) ⌝ }
+    ensures { λ r. ⌜ Does (work-of r (now (st .exit))) (now (draws .entry)) (now (out .exit)) (handle-message (rec-of (now (b .entry))) (run (work-of w (now (st .entry))) (now (draws .entry)) (now (out .entry)))) ⌝ }
+{
+    let p = h.peer as u64;
+    let n = h.nodes as usize;
+    if h.message == 2 {
+        let origin = h.second as u64;
+        return step_shuffling::on_shuffle(w, st, draws, out, p, origin, b, n, h.ttl);
+    }
+    if h.message == 3 {
+        return step_shuffling::on_shuffle_reply(w, st, draws, out, p, b, n);
+    }
+    if h.message == 5 {
+        return step_messages::on_disconnect(w, st, draws, out, p, h.flags % 2 == 1);
+    }
+    handle_single(w, st, draws, out, b, h)
+}
+
+// One of the four timers.
+fn handle_timer(w: Work, st: &mut [u64], draws: &[u32], out: &mut [u8], h: Header) -> Work
+    requires { ⌜ length (now st) ≡ words ⌝ }
+    requires { ⌜ Fine (work-of w (now st)) (now draws) (now out) ⌝ }
+    requires { ⌜ 1 ≤ h .kind ⌝ }
+    requires { ⌜ h .kind ≤ 4 ⌝ }
+    ensures { λ r. ⌜ Does (work-of r (now (st .exit))) (now (draws .entry)) (now (out .exit)) (timer-expired (h .kind) (h .peer) (h .number) (run (work-of w (now (st .entry))) (now (draws .entry)) (now (out .entry)))) ⌝ }
+{
+    let p = h.peer as u64;
+    if h.kind == 1 {
+        return step_timers::handle_shuffle_timer(w, st, draws, out);
+    }
+    if h.kind == 2 {
+        return step_maintenance::handle_maintenance_timer(w, st, draws, out);
+    }
+    if h.kind == 3 {
+        return step_timers::handle_pending_neighbor_timer(w, st, draws, out, p, h.number);
+    }
+    step_timers::retry_join(w, st, out, p, h.number)
+}
+
+// What an event says is done, whichever kind it is.
+fn dispatch(w: Work, st: &mut [u64], draws: &[u32], out: &mut [u8], b: &[u8], h: Header) -> Work
+    requires { ⌜ length (now st) ≡ words ⌝ }
+    requires { ⌜ Fine (work-of w (now st)) (now draws) (now out) ⌝ }
+    requires { ⌜ Headed (now b) h ⌝ }
+    requires { ⌜ h .kind ≤ 8 ⌝ }
+    requires { ⌜ Opens (h .kind) (run (work-of w (now st)) (now draws) (now out)) ⌝ }
+    ensures { λ r. ⌜ Does (work-of r (now (st .exit))) (now (draws .entry)) (now (out .exit)) (dispatch (rec-of (now (b .entry))) (run (work-of w (now (st .entry))) (now (draws .entry)) (now (out .entry)))) ⌝ }
+{
+    let p = h.peer as u64;
+    if h.kind == 0 {
+        return handle_message(w, st, draws, out, b, h);
+    }
+    if h.kind <= 4 {
+        return handle_timer(w, st, draws, out, h);
+    }
+    if h.kind == 5 {
+        return step_events::handle_connection_closed(w, st, draws, out, p);
+    }
+    if h.kind == 6 {
+        return step_events::handle_join(w, st, out, p);
+    }
+    if h.kind == 7 {
+        let n = record::peer_info(b, 0);
+        let d = n.data;
+        return step_events::update_own_data(w, st, d);
+    }
+    step_events::handle_quit(w, st, draws, out)
+}
+
+// The steps of one event.
+fn steps(w: Work, st: &mut [u64], draws: &[u32], out: &mut [u8], b: &[u8], h: Header) -> Work
+    requires { ⌜ length (now st) ≡ words ⌝ }
+    requires { ⌜ Fine (work-of w (now st)) (now draws) (now out) ⌝ }
+    requires { ⌜ Headed (now b) h ⌝ }
+    requires { ⌜ h .kind ≤ 8 ⌝ }
+    requires { ⌜ Opens (h .kind) (run (work-of w (now st)) (now draws) (now out)) ⌝ }
+    ensures { λ r. ⌜ Does (work-of r (now (st .exit))) (now (draws .entry)) (now (out .exit)) (steps (rec-of (now (b .entry))) (run (work-of w (now (st .entry))) (now (draws .entry)) (now (out .entry)))) ⌝ }
+{
+    let a = dispatch(w, st, draws, out, b, h);
+    first_timers(a, st, draws, out)
+}
+
+// An event that was read, at words that keep the rules; they are kept aside for a refusal.
+fn handle_event(st: &mut [u64], b: &[u8], draws: &[u32], out: &mut [u8], h: Header) -> Done
+    requires { ⌜ length (now st) ≡ words ⌝ }
+    requires { ⌜ state-ok (now st) ≡ true ⌝ }
+    requires { ⌜ ReadAs (now b) h ⌝ }
+    ensures { λ r. ⌜ record { code = r .code; draws = r .draws; words = now (st .exit); output = now (out .exit) } ≡ handled (now (st .entry)) (now (b .entry)) (now (draws .entry)) (length (now (out .entry))) ⌝ }
+{
+    let mut old = [0u64; 551];
+    copy_words(st, &mut old);
+    let w = Work {
+        drawn: 0,
+        written: 0,
+        code: 0,
+    };
+    let a = steps(w, st, draws, out, b, h);
+    finish(&old, st, a, out)
+}
+
+// One event: the whole result, or one numbered refusal that leaves every word as it was.
+pub fn handle(st: &mut [u64], b: &[u8], draws: &[u32], out: &mut [u8]) -> Done
+    ensures { λ r. ⌜ record { code = r .code; draws = r .draws; words = now (st .exit); output = now (out .exit) } ≡ handled (now (st .entry)) (now (b .entry)) (now (draws .entry)) (length (now (out .entry))) ⌝ }
+{
+    if !rules_words::is_ok(st) {
+        return refuse(st, out, 2);
+    }
+    let e = record::read_event(b);
+    match e {
+        Event::Refused(c) => refuse(st, out, c),
+        Event::Record(h) => handle_event(st, b, draws, out, h),
+    }
+}
+
+// The state by value.
+pub struct State {
+    pub words: [u64; 551],
+}
+
+// What a call by value hands back: its code, the state, and how many draws are used.
+pub struct Answer {
+    pub code: u32,
+    pub state: State,
+    pub draws: usize,
+}
+
+// What `new` by value hands back: code 0 and the state, or code 1 and a state of zeroes.
+pub struct Made {
+    pub code: u32,
+    pub state: State,
+}
+
+impl State {
+    // The state of a station that has met no event.
+    pub fn new(me: u32, present: bool, own: &[u8], config: Config) -> Made
+        ensures { λ r. ⌜ record { code = r .code; words = r .state .words } ≡ pack-made (new me (lent present (now (own .entry))) config) ⌝ }
+    {
+        let mut words = [0u64; 551];
+        let code = queries_words::new(&mut words, me, present, own, config);
+        let s = State { words: words };
+        Made {
+            code: code,
+            state: s,
+        }
+    }
+
+    // The form that 01 names: `handle` takes self by value.
+    pub fn handle(self, b: &[u8], draws: &[u32], out: &mut [u8]) -> Answer
+        ensures { λ r. ⌜ record { code = r .code; draws = r .draws; words = r .state .words; output = now (out .exit) } ≡ handled (self .words) (now (b .entry)) (now (draws .entry)) (length (now (out .entry))) ⌝ }
+    {
+        let mut words = self.words;
+        let d = handle(&mut words, b, draws, out);
+        let s = State { words: words };
+        Answer {
+            code: d.code,
+            state: s,
+            draws: d.draws,
+        }
+    }
+}
