@@ -1,5 +1,6 @@
 /* Stored histories of the Rust (oracle/sample) over the exported functions: their records, codes, draws and states are met
- * byte for byte, or the program stops with 1 at the first difference. Every kind of output record is to be met.
+ * byte for byte, or the program stops with 1 at the first difference. Every kind of output record is to be met. Each file
+ * is run with tallies that start at 0, and with tallies one below their top, where they are to stay.
  *
  * usage: histories FILE...   (the form of the files: oracle/sample/README.md) */
 #include "hyparview.h"
@@ -20,6 +21,7 @@ static long number;
 static char line[140000];
 static char text[20000];
 static size_t used;
+static uint64_t first_count;
 static long kinds[HYPARVIEW_KIND_PEER_DATA + 1], messages[HYPARVIEW_MESSAGE_DISCONNECT + 1];
 
 static int next_line(void)
@@ -149,7 +151,8 @@ static void check_record(const uint8_t *record, size_t size, uint64_t *sent)
     kinds[r.header.kind]++;
     if (r.header.kind == HYPARVIEW_KIND_MESSAGE) {
         messages[r.header.message]++;
-        sent[r.header.message]++;
+        if (sent[r.header.message] < UINT64_MAX)
+            sent[r.header.message]++;
     }
 }
 
@@ -243,7 +246,7 @@ static uint32_t begin(const char *counters)
 /* One history: its input and the answers that follow it. Returns how many events it has. */
 static long run_history(size_t n, size_t room, const char *counters)
 {
-    uint64_t sent[6] = {0};
+    uint64_t sent[] = {first_count, first_count, first_count, first_count, first_count, first_count};
     uint32_t code = is_filled(n) ? begin(counters) : HYPARVIEW_CODE_EVENT;
     if (code != HYPARVIEW_ACCEPTED) {
         put_field("= ", code);
@@ -251,6 +254,10 @@ static long run_history(size_t n, size_t room, const char *counters)
         meet();
         return 0;
     }
+    const struct hyparview_tally none = {0, 0, 0, 0, 0, 0};
+    if (memcmp(&tally, &none, sizeof tally) != 0)
+        stop("a new station has a tally of messages");
+    memcpy(&tally, sent, sizeof tally);
     size_t left = word(48), at = 56;
     for (size_t i = 0; i < left; i++)
         draws[i] = word(word(52) + 4 * i);
@@ -283,12 +290,15 @@ static size_t read_hex(const char *hex)
     return n;
 }
 
-/* All histories of a file; returns how many events they have. */
-static long run_file(void)
+/* All histories of a file, with tallies that start at this count; returns how many events they have. */
+static long run_file(uint64_t count)
 {
     char counters[200] = "";
     size_t room = sizeof out;
     long events = 0;
+    first_count = count;
+    number = 0;
+    rewind(stored);
     while (next_line()) {
         if (strncmp(line, "history ", 8) == 0) {
             counters[0] = 0;
@@ -311,14 +321,13 @@ int main(int argc, char **argv)
     long events = 0;
     for (int i = 1; i < argc; i++) {
         name = argv[i];
-        number = 0;
         stored = fopen(name, "r");
         if (stored == NULL) {
             perror(name);
             return 1;
         }
-        long more = run_file();
-        if (more == 0)
+        long more = run_file(0);
+        if (more == 0 || run_file(UINT64_MAX - 1) != more)
             stop("no events");
         events += more;
         fclose(stored);
