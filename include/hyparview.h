@@ -7,8 +7,8 @@
  *
  * HOW IT IS USED. Once: hyparview_new. Then, whatever happens, one event at a time: put it into a record (below) and call
  * hyparview_handle. It answers at once with records in `out`: messages to send, timers to start, news for the application.
- * Do them in their order. examples/c/main.c is such a station in 60 lines. The library sends nothing, waits for nothing
- * and reads no clock.
+ * Do them in their order. examples/c/main.c is such a station, to copy. The library sends nothing, waits for nothing and
+ * reads no clock.
  *
  * MEMORY. The caller owns all of it. The library has no variables, asks for no memory, and needs memcpy, memmove and
  * memset alone. Of the caller's memory it writes only what a function's own lines below say. Stations with memory of their
@@ -22,8 +22,9 @@
  * overlaps nothing else of the same call. Nothing else is asked: whatever the words and bytes hold, each call answers.
  *
  * DAMAGE. Words that are no station which keeps the station rules (docs/FORMAT.md) are refused with HYPARVIEW_CODE_STATE,
- * and the queries say no of them; words after hyparview_new and any events keep the rules. So words can be kept over a
- * reset, as they are, and tried: those that are refused are to be made anew by hyparview_new. */
+ * and the queries say no of them; words after hyparview_new and any events keep the rules. So words that were kept over a
+ * reset may be tried as they are, and made anew by hyparview_new where they are refused. Keep the timers that run beside
+ * them: only the first event of a new station starts DoShuffle and DoMaintenance. */
 #ifndef HYPARVIEW_H
 #define HYPARVIEW_H
 
@@ -291,8 +292,8 @@ struct hyparview_done {
 /* The words become a new station with the number `me`, and the tally zeroes: HYPARVIEW_ACCEPTED. Own data is `own`, or
  * absent where `present` is 0, and then `own` is not looked at.
  *
- * HYPARVIEW_CODE_SETTINGS: words and tally are zeroes, which is no station. HYPARVIEW_CODE_STATE, another number of words:
- * nothing is written. Writes `state` and `tally`. */
+ * HYPARVIEW_CODE_SETTINGS: words and tally are zeroes, which is no station. HYPARVIEW_CODE_STATE, for another number of
+ * words: both are as they were. Writes `state` and `tally`. */
 uint32_t hyparview_new(uint64_t *state, size_t words, struct hyparview_tally *tally, uint32_t me, uint8_t present,
                        const uint8_t *own, size_t own_len, struct hyparview_config config);
 
