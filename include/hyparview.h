@@ -15,16 +15,18 @@
  * own may be called at the same time; the same station may not, nor may its words be read during a call, by an interrupt
  * for example: hyparview_handle changes them where they lie, and an event refused with 5 to 10 puts them back.
  *
- * STACK. A call needs at most HYPARVIEW_STACK bytes.
+ * STACK. A call needs at most HYPARVIEW_STACK bytes: tools/stack reads off the machine code how many of them each function
+ * takes on its deepest path, and there is no recursion. What the C library's three functions take is not counted.
  *
  * WHAT A CALLER OWES. Each pointer is aligned and points to as many elements as the length beside it says; where that is 0
- * it may be NULL, since nothing is read or written there. `tally` is never NULL. What `state`, `tally` and `out` point to
- * overlaps nothing else of the same call. Nothing else is asked: whatever the words and bytes hold, each call answers.
+ * it may be NULL, since nothing is read or written there (tests/calls.c makes every such call). `tally` is never NULL. What
+ * `state`, `tally` and `out` point to overlaps nothing else of the same call. Nothing else is asked: whatever the words and
+ * bytes hold, each call answers.
  *
  * DAMAGE. Words that are no station which keeps the station rules (docs/FORMAT.md) are refused with HYPARVIEW_CODE_STATE,
  * and the queries say no of them; words after hyparview_new and any events keep the rules. So words that were kept over a
  * reset may be tried as they are, and made anew by hyparview_new where they are refused. Keep the timers that run beside
- * them: only the first event of a new station starts DoShuffle and DoMaintenance. */
+ * them: only the first accepted event of a new station starts DoShuffle and DoMaintenance. */
 #ifndef HYPARVIEW_H
 #define HYPARVIEW_H
 
