@@ -1,12 +1,30 @@
-/* HyParView for a controller: the station of target/staticlib/libcontroller.a (`rt staticlib controller`), for x86-64.
+/* HyParView for a controller: which of some hundreds of other stations this one keeps in touch with.
  *
- * The caller owns all memory. The library has none of its own, asks for none, and needs memcpy, memmove and memset alone.
- * Whatever bytes the memory holds, each call answers: a controller whose bytes are no station that keeps the station
- * rules is refused with code 2, and the queries say no of it.
+ * This header is all that a caller needs; the code behind it is proved, and its contracts are in crates/controller.
  *
- * What a caller owes: every pointer is to as many elements as the length beside it says, aligned, and not null, also
- * where the length is 0; what `c` and `out` point at is passed by no other argument. crates/controller/src/lib.rt has the
- * contracts. */
+ *     rt staticlib controller          proves the library and writes target/staticlib/libcontroller.a, for x86-64
+ *     cc -std=c11 -Iinclude -o station station.c target/staticlib/libcontroller.a
+ *
+ * HOW IT IS USED. Once: hyparview_new. Then, whatever happens, one event at a time: put it into a record (below) and call
+ * hyparview_handle. It answers at once with records in `out`: messages to send, timers to start, news for the application.
+ * Do them in their order. examples/c/main.c is such a station, to copy. The library sends nothing, waits for nothing and
+ * reads no clock.
+ *
+ * MEMORY. The caller owns all of it. The library has no variables, asks for no memory, and needs memcpy, memmove and
+ * memset alone. Of the caller's memory it writes only what a function's own lines below say. Stations with memory of their
+ * own may be called at the same time; the same station may not, nor may its words be read during a call, by an interrupt
+ * for example: hyparview_handle changes them where they lie, and an event refused with 5 to 10 puts them back.
+ *
+ * STACK. A call needs at most HYPARVIEW_STACK bytes.
+ *
+ * WHAT A CALLER OWES. Each pointer is aligned and points to as many elements as the length beside it says; where that is 0
+ * it may be NULL, since nothing is read or written there. `tally` is never NULL. What `state`, `tally` and `out` point to
+ * overlaps nothing else of the same call. Nothing else is asked: whatever the words and bytes hold, each call answers.
+ *
+ * DAMAGE. Words that are no station which keeps the station rules (docs/FORMAT.md) are refused with HYPARVIEW_CODE_STATE,
+ * and the queries say no of them; words after hyparview_new and any events keep the rules. So words that were kept over a
+ * reset may be tried as they are, and made anew by hyparview_new where they are refused. Keep the timers that run beside
+ * them: only the first event of a new station starts DoShuffle and DoMaintenance. */
 #ifndef HYPARVIEW_H
 #define HYPARVIEW_H
 
@@ -14,97 +32,117 @@
 #include <stddef.h>
 #include <stdint.h>
 
-/* Peers: the first `len` items, zeroes after them. */
-struct hyparview_index_set {
-    uint32_t items[32];
-    size_t len;
-};
+#ifdef __cplusplus
+extern "C" {
+#define HYPARVIEW_ASSERT(test, name) static_assert(test, name)
+#else
+#define HYPARVIEW_ASSERT(test, name) _Static_assert(test, name)
+#endif
 
-/* Numbers by peer, in rising order of the peers, zeroes after them. */
-struct hyparview_numbers {
-    struct hyparview_index_set peers;
-    uint64_t numbers[32];
-};
+/* ---- Sizes */
 
-struct hyparview_data_entry {
-    uint8_t len;
-    uint8_t bytes[16];
-};
+#define HYPARVIEW_WORDS 551   /* the words of a state: uint64_t state[HYPARVIEW_WORDS], 4,408 bytes */
+#define HYPARVIEW_OUTPUT 8192 /* bytes of output that suffice for every event, which is proved */
+#define HYPARVIEW_DRAWS 512   /* draws that suffice for every event, which is proved */
+#define HYPARVIEW_STACK 16384 /* bytes of stack that suffice for a call */
 
-/* Data by peer, in rising order of the peers, zeroes after them. */
-struct hyparview_data_map {
-    uint32_t peers[80];
-    struct hyparview_data_entry entries[80];
-    size_t len;
-};
+/* ---- Refusals
+ *
+ * Every event is accepted, code 0, or refused for one reason. A refusal leaves the state and the tally as they were, every
+ * byte of them, fills the output with zeroes and uses no draw: the event did not happen. */
 
-/* The nine settings; times in ms. */
-struct hyparview_config {
-    uint32_t active_view_capacity;
-    uint32_t passive_view_capacity;
-    uint32_t active_random_walk_length;
-    uint32_t passive_random_walk_length;
-    uint32_t shuffle_random_walk_length;
-    uint32_t shuffle_active_view_count;
-    uint32_t shuffle_passive_view_count;
-    uint32_t shuffle_interval;
-    uint32_t neighbor_request_timeout;
-};
+#define HYPARVIEW_ACCEPTED 0
+#define HYPARVIEW_CODE_SETTINGS 1  /* hyparview_new alone: a setting is out of range, or own data has over 16 bytes */
+#define HYPARVIEW_CODE_STATE 2     /* the words are not HYPARVIEW_WORDS, or break a station rule */
+#define HYPARVIEW_CODE_EVENT 3     /* the event record is malformed */
+#define HYPARVIEW_CODE_NODES 4     /* the event has more than 32 nodes */
+#define HYPARVIEW_CODE_DRAWS 5     /* a draw is needed and none is left: lend HYPARVIEW_DRAWS */
+#define HYPARVIEW_CODE_REQUESTS 6  /* a 33rd request to a peer would be open */
+#define HYPARVIEW_CODE_REFUSERS 7  /* a 33rd peer that refused would be noted */
+#define HYPARVIEW_CODE_DATA 8      /* data of an 81st peer would be held */
+#define HYPARVIEW_CODE_OUTPUT 9    /* a record does not fit into the output: lend HYPARVIEW_OUTPUT */
+#define HYPARVIEW_CODE_COUNTER 10  /* a counter is at its top */
 
-/* The station's own data: present 1, or absent 0 with length 0. */
-struct hyparview_own_data {
-    uint8_t present;
-    uint8_t len;
-    uint8_t bytes[16];
-};
+/* ---- Records
+ *
+ * Events and output have one form: a header of 24 bytes, 8 bytes for each node, then the data of the nodes. Numbers are
+ * little-endian. On x86-64 the header's bytes are those of `struct hyparview_header` and a node's those of
+ * `struct hyparview_entry`, so that an event without nodes can be written as
+ *
+ *     struct hyparview_header join = {0};
+ *     join.kind = HYPARVIEW_KIND_REQUEST_JOIN;
+ *     join.peer = 7;
+ *     join.size = sizeof join;
+ *     hyparview_handle(state, HYPARVIEW_WORDS, &tally, (const uint8_t *)&join, sizeof join, ...)
+ *
+ *     bytes   field    what it is
+ *     0       kind     below
+ *     1       message  of kind 0, else 0
+ *     2       flags    of Neighbor and Disconnect, else 0
+ *     3       nodes    how many: 1 for Join, ForwardJoin, Neighbor and kinds 7 and 11, 0 to 32 for both shuffles, else 0
+ *     4-7     peer     in an event the sender or the peer meant, in output the receiver or the peer meant; 0 in kinds 1, 2, 7, 8
+ *     8-11    second   the origin of a Shuffle; in output the delay of a timer, in ms; else 0
+ *     12-13   ttl      the hops that are left to a ForwardJoin or a Shuffle, else 0
+ *     14-15   size     of the whole record, which is the length lent; at most HYPARVIEW_RECORD
+ *     16-23   number   which request or join a timer of kind 3 or 4 is for, else 0
+ *
+ *     bytes of a node
+ *     0-3     id       the peer; 0 in Join, Neighbor and kinds 7 and 11
+ *     4-5     offset   where its data stands, from the record's start; 0 where data is absent
+ *     6       len      of its data, at most 16; 0 where data is absent
+ *     7       present  1, or 0 where data is absent; always 1 in kinds 7 and 11
+ *
+ * Data is what a peer wishes others to know of it, such as its address: absent, or 0 to 16 bytes; empty is not absent. It
+ * stands after the last node in the order of the nodes, without gaps, to the end of the record; the offset of empty data
+ * is the place that the data before it has reached. Anything else is malformed.
+ *
+ * A message goes over the air as its record. Its receiver is handed the same bytes, but for the field `peer`, which is then
+ * the sender: put it in from what the connection says. A timer that expires is handed back as its record, but for the field
+ * `second`, which is then 0. No timer needs to be stopped: one that is out of date is told by its number and does nothing.
+ * include/timer_map.h is a timer queue that does this by itself. */
 
-/* The limit on refills: kind 0 Automatic, 1 Requests, 2 Recovery; the requests are 0 but in kind 1. */
-struct hyparview_refill {
-    uint8_t kind;
-    uint8_t requests;
-};
+#define HYPARVIEW_HEADER 24
+#define HYPARVIEW_NODE 8
+#define HYPARVIEW_NODES 32   /* the most nodes of a record */
+#define HYPARVIEW_DATA 16    /* the most bytes of data */
+#define HYPARVIEW_RECORD 792 /* the longest record: 32 nodes with 16 bytes of data each */
 
-/* The messages sent, by the value of byte 1. A count at 2^64 - 1 stays there. */
-struct hyparview_tally {
-    uint64_t join;
-    uint64_t forward_join;
-    uint64_t shuffle;
-    uint64_t shuffle_reply;
-    uint64_t neighbor;
-    uint64_t disconnect;
-};
+/* Kinds, byte 0. Kinds 0 to 8 are events; kinds 0 to 4 and 9 to 11 come in output. */
+#define HYPARVIEW_KIND_MESSAGE 0                  /* event: received. Output: to be sent to `peer` */
+#define HYPARVIEW_KIND_DO_SHUFFLE 1               /* a timer. Output: to be started. Event: expired */
+#define HYPARVIEW_KIND_DO_MAINTENANCE 2           /* a timer */
+#define HYPARVIEW_KIND_PENDING_NEIGHBOR_REQUEST 3 /* a timer, with peer and number */
+#define HYPARVIEW_KIND_RETRY_JOIN 4               /* a timer, with peer and number */
+#define HYPARVIEW_KIND_PEER_DISCONNECTED 5        /* event: the connection to `peer` is closed */
+#define HYPARVIEW_KIND_REQUEST_JOIN 6             /* event: the application wishes to join through `peer` */
+#define HYPARVIEW_KIND_UPDATE_PEER_DATA 7         /* event: other own data, in one node with id 0 */
+#define HYPARVIEW_KIND_QUIT 8                     /* event: the station leaves; its neighbours are told */
+#define HYPARVIEW_KIND_NEIGHBOR_UP 9              /* output: `peer` became a neighbour */
+#define HYPARVIEW_KIND_NEIGHBOR_DOWN 10           /* output: `peer` is a neighbour no more */
+#define HYPARVIEW_KIND_PEER_DATA 11               /* output: data of `peer`, not empty, in one node */
 
-/* A station and its tally. */
-struct hyparview_controller {
-    uint32_t me;
-    struct hyparview_own_data own;
-    struct hyparview_index_set active_view;
-    struct hyparview_index_set passive_view;
-    struct hyparview_config config;
-    uint8_t timers_scheduled;
-    uint32_t next_shuffle_interval;
-    struct hyparview_index_set bootstrap_peers;
-    uint32_t passes_alone;
-    uint32_t passes_short;
-    struct hyparview_index_set recent_neighbors;
-    struct hyparview_numbers pending_neighbor_requests;
-    uint64_t next_neighbor_request;
-    struct hyparview_numbers pending_joins;
-    uint64_t next_join;
-    struct hyparview_data_map peer_data;
-    struct hyparview_index_set alive_disconnect_peers;
-    struct hyparview_index_set refused;
-    struct hyparview_refill refill;
-    struct hyparview_tally tally;
-};
+/* The timers are kinds 1 to 4. The first accepted event starts DoShuffle and DoMaintenance, and each of their events
+ * starts them again. */
+#define HYPARVIEW_FIRST_TIMER HYPARVIEW_KIND_DO_SHUFFLE
+#define HYPARVIEW_LAST_TIMER HYPARVIEW_KIND_RETRY_JOIN
+#define HYPARVIEW_INITIAL_SHUFFLE_INTERVAL 1000 /* ms; it doubles up to the setting, and each delay is that by 3/4 to 5/4 */
+#define HYPARVIEW_MAINTENANCE_INTERVAL 5000     /* ms */
+#define HYPARVIEW_JOIN_RETRY_DELAY 10000        /* ms */
 
-/* What an event hands back: the code, 0 where it is accepted, and how many draws are used. */
-struct hyparview_done {
-    uint32_t code;
-    size_t draws;
-};
+/* Messages, byte 1 of kind 0. */
+#define HYPARVIEW_MESSAGE_JOIN 0
+#define HYPARVIEW_MESSAGE_FORWARD_JOIN 1
+#define HYPARVIEW_MESSAGE_SHUFFLE 2
+#define HYPARVIEW_MESSAGE_SHUFFLE_REPLY 3
+#define HYPARVIEW_MESSAGE_NEIGHBOR 4
+#define HYPARVIEW_MESSAGE_DISCONNECT 5
 
-/* A record's header, its numbers as they stand in the record's bytes. */
+/* Flags, byte 2. */
+#define HYPARVIEW_FLAG_HIGH 1    /* Neighbor: of high priority */
+#define HYPARVIEW_FLAG_ALIVE 1   /* Disconnect: the sender stays alive */
+#define HYPARVIEW_FLAG_RESPOND 2 /* Disconnect: may be set, and is not looked at */
+
+/* A record's header. */
 struct hyparview_header {
     uint8_t kind;
     uint8_t message;
@@ -117,13 +155,7 @@ struct hyparview_header {
     uint64_t number;
 };
 
-/* The header, or not ok and zeroes. */
-struct hyparview_reading {
-    bool ok;
-    struct hyparview_header header;
-};
-
-/* A node: the peer, and its data as a part of the record, from `offset` on; present 0 where it has none. */
+/* A record's node. */
 struct hyparview_entry {
     uint32_t id;
     uint16_t offset;
@@ -131,75 +163,199 @@ struct hyparview_entry {
     uint8_t present;
 };
 
-/* The node, or not ok and zeroes. */
+/* The header; not ok and zeroes where the bytes are malformed. */
+struct hyparview_reading {
+    bool ok;
+    struct hyparview_header header;
+};
+
+/* The node; not ok and zeroes where there is none. */
 struct hyparview_node_reading {
     bool ok;
     struct hyparview_entry node;
 };
 
-/* *c becomes a new station with a tally of zeroes; own data is absent where `present` is 0. Code 0; or code 1 and a
- * station of zeroes, where a setting is out of range or own data has over 16 bytes. */
-uint32_t hyparview_new(struct hyparview_controller *c, uint32_t me, uint8_t present, const uint8_t *own, size_t own_len,
-                       struct hyparview_config config);
+/* ---- Settings */
 
-/* One event. Accepted, code 0: *c is the station after it, its tally raised, and `out` has the records, then zeroes.
- * Refused: *c is as it was, `out` has zeroes alone, and no draw is used. 8,192 bytes and 512 draws always suffice. */
-struct hyparview_done hyparview_handle(struct hyparview_controller *c, const uint8_t *event, size_t event_len,
-                                       const uint32_t *draws, size_t draws_len, uint8_t *out, size_t out_len);
+struct hyparview_config {
+    uint32_t active_view_capacity;       /* 1 to 8: most neighbours */
+    uint32_t passive_view_capacity;      /* 1 to 32: most spare addresses */
+    uint32_t active_random_walk_length;  /* 0 to 65535: hops of a ForwardJoin */
+    uint32_t passive_random_walk_length; /* 0 to 65535: hops left at which a ForwardJoin leaves its peer as a spare address */
+    uint32_t shuffle_random_walk_length; /* 0 to 65535: hops of a Shuffle */
+    uint32_t shuffle_active_view_count;  /* 0 to 8: neighbours named in a Shuffle */
+    uint32_t shuffle_passive_view_count; /* 0 to 23: spare addresses named in a Shuffle */
+    uint32_t shuffle_interval;           /* 1 to 3600000: ms from one shuffle to the next, in the end */
+    uint32_t neighbor_request_timeout;   /* 1 to 3600000: ms that a request to a peer stays open */
+};
 
-/* Whether a connection to the peer is wanted: it is a neighbor, or its reply to a Neighbor or a Join is awaited. */
-bool hyparview_wants_connection(const struct hyparview_controller *c, uint32_t peer);
+/* struct hyparview_config config = HYPARVIEW_DEFAULTS; */
+#define HYPARVIEW_DEFAULTS {5, 30, 6, 3, 6, 3, 4, 60000, 3000}
 
-/* Whether the peer is a neighbor. */
-bool hyparview_is_neighbor(const struct hyparview_controller *c, uint32_t peer);
+/* ---- The tally: the messages that accepted events had sent, by message. A count at 2^64 - 1 stays there. */
 
-/* The neighbors, in order. */
-struct hyparview_index_set hyparview_neighbors(const struct hyparview_controller *c);
+struct hyparview_tally {
+    uint64_t join;
+    uint64_t forward_join;
+    uint64_t shuffle;
+    uint64_t shuffle_reply;
+    uint64_t neighbor;
+    uint64_t disconnect;
+};
 
-/* How many spare addresses there are. */
-size_t hyparview_spare_addresses(const struct hyparview_controller *c);
+/* ---- The words of a state, for those who look into them: a supervisor, a test. To run a station the functions below are enough.
+ *
+ * A number is one word. A list of peers is its places and then its count, from NAME up to NAME_END, where the first of
+ * NAME_PLACES stands at NAME and the count at NAME_COUNT. Lists with more columns have as many places again for each,
+ * before the count: column k of place i is at NAME + k * NAME_PLACES + i. REQUESTS and JOINS have a number in column 1;
+ * DATA has the length of the data in column 1 and its bytes in columns 2 and 3, 8 in a word, the first lowest. Places past
+ * a count are 0, and so are bytes past a length.
+ *
+ * OWN_PRESENT is 1 where the station has own data, of OWN_LEN bytes in OWN_LOW and OWN_HIGH. REFILL_KIND is 0 where refills
+ * are automatic, 1 where REFILL_REQUESTS are left (0 to 3), 2 in recovery. ACTIVE are the neighbours, PASSIVE the spare
+ * addresses, ALIVE those of them that said they stay alive, REFUSED the peers that refused a request, REQUESTS the open
+ * requests, BOOTSTRAP the peers last asked to join through, RECENT the last neighbours, JOINS the joins to be sent once
+ * more, DATA what is known of other peers. docs/FORMAT.md has the rules of each. */
 
-/* The header of a record of kinds 0 to 11, which is all `len` bytes. */
+/* From here to the line with "end" by tools/words_fields.py. */
+#define HYPARVIEW_WORD_ME 0
+#define HYPARVIEW_WORD_OWN_PRESENT 1
+#define HYPARVIEW_WORD_OWN_LEN 2
+#define HYPARVIEW_WORD_ACTIVE_VIEW_CAPACITY 3
+#define HYPARVIEW_WORD_PASSIVE_VIEW_CAPACITY 4
+#define HYPARVIEW_WORD_ACTIVE_RANDOM_WALK_LENGTH 5
+#define HYPARVIEW_WORD_PASSIVE_RANDOM_WALK_LENGTH 6
+#define HYPARVIEW_WORD_SHUFFLE_RANDOM_WALK_LENGTH 7
+#define HYPARVIEW_WORD_SHUFFLE_ACTIVE_VIEW_COUNT 8
+#define HYPARVIEW_WORD_SHUFFLE_PASSIVE_VIEW_COUNT 9
+#define HYPARVIEW_WORD_SHUFFLE_INTERVAL 10
+#define HYPARVIEW_WORD_NEIGHBOR_REQUEST_TIMEOUT 11
+#define HYPARVIEW_WORD_TIMERS_SCHEDULED 12
+#define HYPARVIEW_WORD_NEXT_SHUFFLE_INTERVAL 13
+#define HYPARVIEW_WORD_PASSES_ALONE 14
+#define HYPARVIEW_WORD_PASSES_SHORT 15
+#define HYPARVIEW_WORD_REFILL_KIND 16
+#define HYPARVIEW_WORD_REFILL_REQUESTS 17
+#define HYPARVIEW_WORD_NEXT_NEIGHBOR_REQUEST 18
+#define HYPARVIEW_WORD_NEXT_JOIN 19
+#define HYPARVIEW_WORD_OWN_LOW 20
+#define HYPARVIEW_WORD_OWN_HIGH 21
+#define HYPARVIEW_WORD_ACTIVE 22
+#define HYPARVIEW_WORD_ACTIVE_PLACES 8
+#define HYPARVIEW_WORD_ACTIVE_COUNT 30
+#define HYPARVIEW_WORD_ACTIVE_END 31
+#define HYPARVIEW_WORD_PASSIVE 31
+#define HYPARVIEW_WORD_PASSIVE_PLACES 32
+#define HYPARVIEW_WORD_PASSIVE_COUNT 63
+#define HYPARVIEW_WORD_PASSIVE_END 64
+#define HYPARVIEW_WORD_ALIVE 64
+#define HYPARVIEW_WORD_ALIVE_PLACES 32
+#define HYPARVIEW_WORD_ALIVE_COUNT 96
+#define HYPARVIEW_WORD_ALIVE_END 97
+#define HYPARVIEW_WORD_REFUSED 97
+#define HYPARVIEW_WORD_REFUSED_PLACES 32
+#define HYPARVIEW_WORD_REFUSED_COUNT 129
+#define HYPARVIEW_WORD_REFUSED_END 130
+#define HYPARVIEW_WORD_REQUESTS 130
+#define HYPARVIEW_WORD_REQUESTS_PLACES 32
+#define HYPARVIEW_WORD_REQUESTS_COUNT 194
+#define HYPARVIEW_WORD_REQUESTS_END 195
+#define HYPARVIEW_WORD_BOOTSTRAP 195
+#define HYPARVIEW_WORD_BOOTSTRAP_PLACES 8
+#define HYPARVIEW_WORD_BOOTSTRAP_COUNT 203
+#define HYPARVIEW_WORD_BOOTSTRAP_END 204
+#define HYPARVIEW_WORD_RECENT 204
+#define HYPARVIEW_WORD_RECENT_PLACES 8
+#define HYPARVIEW_WORD_RECENT_COUNT 212
+#define HYPARVIEW_WORD_RECENT_END 213
+#define HYPARVIEW_WORD_JOINS 213
+#define HYPARVIEW_WORD_JOINS_PLACES 8
+#define HYPARVIEW_WORD_JOINS_COUNT 229
+#define HYPARVIEW_WORD_JOINS_END 230
+#define HYPARVIEW_WORD_DATA 230
+#define HYPARVIEW_WORD_DATA_PLACES 80
+#define HYPARVIEW_WORD_DATA_COUNT 550
+#define HYPARVIEW_WORD_DATA_END 551
+/* end */
+
+/* ---- Functions
+ *
+ * `words` is the length of `state`; for any other than HYPARVIEW_WORDS the answer is HYPARVIEW_CODE_STATE, or that of no
+ * station. */
+
+/* What an event hands back: the code, and how many draws are used, from the first on. */
+struct hyparview_done {
+    uint32_t code;
+    size_t draws;
+};
+
+/* The words become a new station with the number `me`, and the tally zeroes: HYPARVIEW_ACCEPTED. Own data is `own`, or
+ * absent where `present` is 0, and then `own` is not looked at.
+ *
+ * HYPARVIEW_CODE_SETTINGS: words and tally are zeroes, which is no station. HYPARVIEW_CODE_STATE, for another number of
+ * words: both are as they were. Writes `state` and `tally`. */
+uint32_t hyparview_new(uint64_t *state, size_t words, struct hyparview_tally *tally, uint32_t me, uint8_t present,
+                       const uint8_t *own, size_t own_len, struct hyparview_config config);
+
+/* One event.
+ *
+ * HYPARVIEW_ACCEPTED: the words are the station after it, its messages are counted in the tally, and `out` has the records
+ * one after the other, then zeroes: take them by their `size` until a size is 0 or no header fits. Any other code: see
+ * Refusals. Writes `state`, `tally` and all of `out`, whatever it held.
+ *
+ * `draws` are the station's random choices: any numbers do, but stations that draw the same choose the same, and peers who
+ * can foresee the draws can foresee the choices. The first `done.draws` of them are used up. Of several reasons to refuse
+ * the first holds: 2; 3 for under 24 bytes; 4; 3; then of 5 to 10 what the steps meet first. */
+struct hyparview_done hyparview_handle(uint64_t *state, size_t words, struct hyparview_tally *tally, const uint8_t *event,
+                                       size_t event_len, const uint32_t *draws, size_t draws_len, uint8_t *out,
+                                       size_t out_len);
+
+/* Whether a connection to the peer is wanted: it is a neighbour, or its reply to a Neighbor or a Join is awaited. Ask it
+ * before an idle connection is closed. This and the four below write nothing, and say no, 0, of words that are no station. */
+bool hyparview_wants_connection(const uint64_t *state, size_t words, uint64_t peer);
+
+/* Whether the peer is a neighbour. */
+bool hyparview_is_neighbor(const uint64_t *state, size_t words, uint64_t peer);
+
+/* How many neighbours there are, 0 to 8. */
+size_t hyparview_neighbor_count(const uint64_t *state, size_t words);
+
+/* The i-th neighbour from 0 on, the oldest first unless one has left; 0, which may be a peer's number too, past the last. */
+uint64_t hyparview_neighbor(const uint64_t *state, size_t words, size_t i);
+
+/* How many spare addresses there are, 0 to 32. */
+size_t hyparview_spare_addresses(const uint64_t *state, size_t words);
+
+/* The header of a record of any kind, which is all `len` bytes; a well-formed one only. Writes nothing. */
 struct hyparview_reading hyparview_read(const uint8_t *record, size_t len);
 
-/* The i-th node of such a record, from 0 on. */
+/* The i-th node of such a record, from 0 on; its data is `node.len` bytes at record + node.offset. Writes nothing. */
 struct hyparview_node_reading hyparview_node(const uint8_t *record, size_t len, size_t i);
 
-/* The layout that the library was compiled with. */
-#define HYPARVIEW_AT(field, offset) \
-    _Static_assert(offsetof(struct hyparview_controller, field) == offset, "hyparview_controller." #field)
-_Static_assert(sizeof(size_t) == 8 && sizeof(void *) == 8, "a 64-bit machine");
-_Static_assert(sizeof(struct hyparview_index_set) == 136, "hyparview_index_set");
-_Static_assert(sizeof(struct hyparview_numbers) == 392, "hyparview_numbers");
-_Static_assert(sizeof(struct hyparview_data_entry) == 17, "hyparview_data_entry");
-_Static_assert(sizeof(struct hyparview_data_map) == 1688, "hyparview_data_map");
-_Static_assert(sizeof(struct hyparview_config) == 36, "hyparview_config");
-_Static_assert(sizeof(struct hyparview_tally) == 48, "hyparview_tally");
-_Static_assert(sizeof(struct hyparview_controller) == 3440, "hyparview_controller");
-_Static_assert(_Alignof(struct hyparview_controller) == 8, "hyparview_controller");
-_Static_assert(sizeof(struct hyparview_done) == 16, "hyparview_done");
-_Static_assert(sizeof(struct hyparview_reading) == 32, "hyparview_reading");
-_Static_assert(sizeof(struct hyparview_node_reading) == 12, "hyparview_node_reading");
-HYPARVIEW_AT(me, 0);
-HYPARVIEW_AT(own, 4);
-HYPARVIEW_AT(active_view, 24);
-HYPARVIEW_AT(passive_view, 160);
-HYPARVIEW_AT(config, 296);
-HYPARVIEW_AT(timers_scheduled, 332);
-HYPARVIEW_AT(next_shuffle_interval, 336);
-HYPARVIEW_AT(bootstrap_peers, 344);
-HYPARVIEW_AT(passes_alone, 480);
-HYPARVIEW_AT(passes_short, 484);
-HYPARVIEW_AT(recent_neighbors, 488);
-HYPARVIEW_AT(pending_neighbor_requests, 624);
-HYPARVIEW_AT(next_neighbor_request, 1016);
-HYPARVIEW_AT(pending_joins, 1024);
-HYPARVIEW_AT(next_join, 1416);
-HYPARVIEW_AT(peer_data, 1424);
-HYPARVIEW_AT(alive_disconnect_peers, 3112);
-HYPARVIEW_AT(refused, 3248);
-HYPARVIEW_AT(refill, 3384);
-HYPARVIEW_AT(tally, 3392);
-#undef HYPARVIEW_AT
+/* ---- What the library was compiled with */
+
+HYPARVIEW_ASSERT(sizeof(size_t) == 8 && sizeof(void *) == 8, "a 64-bit machine");
+HYPARVIEW_ASSERT(sizeof(bool) == 1, "bool");
+HYPARVIEW_ASSERT(sizeof(struct hyparview_config) == 36, "hyparview_config");
+HYPARVIEW_ASSERT(sizeof(struct hyparview_tally) == 48, "hyparview_tally");
+HYPARVIEW_ASSERT(sizeof(struct hyparview_done) == 16 && offsetof(struct hyparview_done, draws) == 8, "hyparview_done");
+HYPARVIEW_ASSERT(sizeof(struct hyparview_header) == HYPARVIEW_HEADER, "hyparview_header");
+HYPARVIEW_ASSERT(offsetof(struct hyparview_header, peer) == 4 && offsetof(struct hyparview_header, second) == 8 &&
+                     offsetof(struct hyparview_header, ttl) == 12 && offsetof(struct hyparview_header, size) == 14 &&
+                     offsetof(struct hyparview_header, number) == 16,
+                 "hyparview_header");
+HYPARVIEW_ASSERT(sizeof(struct hyparview_entry) == HYPARVIEW_NODE && offsetof(struct hyparview_entry, present) == 7,
+                 "hyparview_entry");
+HYPARVIEW_ASSERT(sizeof(struct hyparview_reading) == 32 && offsetof(struct hyparview_reading, header) == 8,
+                 "hyparview_reading");
+HYPARVIEW_ASSERT(sizeof(struct hyparview_node_reading) == 12 && offsetof(struct hyparview_node_reading, node) == 4,
+                 "hyparview_node_reading");
+HYPARVIEW_ASSERT(HYPARVIEW_WORDS == HYPARVIEW_WORD_DATA_END, "the words");
+HYPARVIEW_ASSERT(HYPARVIEW_RECORD == HYPARVIEW_HEADER + HYPARVIEW_NODES * (HYPARVIEW_NODE + HYPARVIEW_DATA), "a record");
+#undef HYPARVIEW_ASSERT
+
+#ifdef __cplusplus
+}
+#endif
 
 #endif

@@ -11,7 +11,7 @@ words of a state. The states of oracle/sample/words.txt are the Rust's own. From
 break one rule alone or just not, held to that by all the functions together, and damages words one by one and at random;
 the functions say which answer is due.
 
-Standard input is a row of items, numbers little-endian. An item is two numbers of 2 bytes, `lent` and `count`, and `count`
+tests/damaged.c runs them over the exported functions. Its standard input is a row of items, numbers little-endian. An item is two numbers of 2 bytes, `lent` and `count`, and `count`
 patches of 10 bytes, a place (2) and a value (8), places rising. There are two kinds of items.
 
   lent = 65535   a base: from here on the base is 560 zeroes with these patches. The program ends the line, if one is begun.
@@ -19,10 +19,12 @@ patches of 10 bytes, a place (2) and a value (8), places rising. There are two k
                  lent to `handle` three times, with 512 draws of 0 and 8,192 bytes that are not zero before each call:
                  first an event of no bytes, then DoMaintenance (24 bytes: 2 at place 0, 24 at place 14, else 0), then
                  the event of no bytes again. The program writes one character:
-                   2   all three calls answer 2 and leave every word
-                   3   the first call answers 3 and leaves every word, the second does not answer 2, and leaves every
-                       word unless it answers 0, the third answers 3 and leaves what the second left
-                   !   anything else; so too where a refusal uses draws, or leaves a byte of the output other than 0
+                   2   all three calls answer 2 and leave every word, and the queries say no
+                   3   the first call answers 3 and leaves every word, the queries say what the words say, the second call
+                       does not answer 2, and leaves every word unless it answers 0, the third answers 3 and leaves what
+                       the second left
+                   !   anything else; so too where a refusal changes the tally, uses draws, or leaves a byte of the output
+                       other than 0, or a call or a query changes a word that was not lent to it to be changed
 
 After the last item the program ends the line. Standard output has thus a line for each base, and in it a character for each
 of its cases. Every valid state meets the event of no bytes with 3, for 2 comes first in 01's order.

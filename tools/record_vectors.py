@@ -3,7 +3,9 @@
 
 usage: tools/record_vectors.py make | check
 
-The files are crates/record_test/stdin (each record with two bytes for its length in front) and crates/record_test/stdout.
+The files are crates/record_test/stdin (each record with two bytes for its length in front) and crates/record_test/stdout,
+which tests/records.c is held to as well; tests/own.txt, the records of a new station with own data, for tests/calls.c; and
+tests/station.in with tests/station.out, what the station of examples/ is run on and must print.
 """
 import struct
 import sys
@@ -190,6 +192,60 @@ def special():
         yield (make(8)[:3] + b"\x21" + make(8)[4:])[:length]
 
 
+def delay(interval, draw):
+    """A shuffle's delay."""
+    return interval * (3 * 2 ** 31 + draw) // 2 ** 33
+
+
+def own_rows():
+    """New stations: whether own data is present, its bytes, the code of `new`, and what RequestJoin 7 brings about."""
+    for present, own in [(0, b""), (0, b"a" * 17)] + [(1, bytes(range(200, 200 + n))) for n in (*range(18), 56)] + [(255, b"\0\0")]:
+        fits = present == 0 or len(own) <= 16
+        join = make(0, 0, peer=7, nodes=[(0, own if present else None)]) if fits else b""
+        timers = make(4, peer=7, second=10000) + make(1, second=delay(1000, 0)) + make(2, second=5000)
+        yield f"{present} x{own.hex()} {0 if fits else 1} x{(join + timers).hex() if fits else ''}\n"
+
+
+def first_draw():
+    """The first random number of the station in examples/."""
+    return (1664525 + 1013904223) % 2 ** 32
+
+
+def station():
+    """The events of the station in examples/, each with the lines that it prints; self is 1, the settings the usual ones."""
+    full = [(100 + i, bytes([i]) * 16) for i in range(32)]
+    yield make(6, peer=7), 0, [
+        "send message 0 to 7: 32 bytes",
+        "start timer 4 for 7, number 0, in 10000 ms",
+        f"start timer 1 for 0, number 0, in {delay(1000, first_draw())} ms",
+        "start timer 2 for 0, number 0, in 5000 ms",
+    ]
+    yield make(0, 4, flags=1, peer=7, nodes=[(0, b"at 7")]), 0, [
+        "tell kind 11 of 7",
+        "tell kind 9 of 7",
+        "send message 4 to 7: 32 bytes",
+        "start timer 3 for 7, number 0, in 3000 ms",
+    ]
+    yield make(0, 4, flags=1, peer=8, nodes=[(0, None)]), 0, [
+        "tell kind 9 of 8",
+        "send message 4 to 8: 32 bytes",
+        "start timer 3 for 8, number 1, in 3000 ms",
+    ]
+    # the longest record goes on to the one neighbor that is neither its sender nor its origin
+    yield make(0, 2, peer=7, second=9, ttl=3, nodes=full), 0, [f"send message 2 to 8: {24 + 32 * (8 + 16)} bytes"]
+    yield make(5, peer=7), 0, ["tell kind 10 of 7"]
+    yield make(9, peer=7), 3, []
+    yield make(8)[:23], 3, []
+
+
+def station_files():
+    lines = []
+    for event, answered, told in station():
+        lines += [f"event of {len(event)} bytes: code {answered}", *told]
+    lines.append("1 neighbours, 0 spare addresses")
+    return b"".join(event for event, _, _ in station()), "".join(one + "\n" for one in lines).encode()
+
+
 def files():
     records = []
     for b in sound():
@@ -198,7 +254,14 @@ def files():
     records += special()
     stored = b"".join(struct.pack("<H", len(b)) + b for b in records)
     assert len(stored) <= 65536, len(stored)
-    return {"crates/record_test/stdin": stored, "crates/record_test/stdout": "".join(line(b) for b in records).encode()}
+    events, printed = station_files()
+    return {
+        "crates/record_test/stdin": stored,
+        "crates/record_test/stdout": "".join(line(b) for b in records).encode(),
+        "tests/own.txt": "".join(own_rows()).encode(),
+        "tests/station.in": events,
+        "tests/station.out": printed,
+    }
 
 
 def main():

@@ -1,10 +1,11 @@
 #!/usr/bin/env python3
-"""crates/words/specs/Layout.antt and crates/words/proofs/Fields.antt, from the table of the layout.
+"""crates/words/specs/Layout.antt, crates/words/proofs/Fields.antt and the places of the words in include/hyparview.h, from the table of the layout.
 
 usage: tools/words_fields.py make | check
 
-A number or a section that is added or moved is one line here; `Layout` in crates/words/src/lib.rt has the same places.
+A number or a section that is added or moved is one line here; `Layout` in crates/words/src/lib.rt is held to the same places.
 """
+import re
 import sys
 
 import tool
@@ -220,10 +221,53 @@ def fields():
     return "\n".join(laws)
 
 
+# the one section whose name in code is not that of the field
+IN_CODE = {"peer-data": "DATA"}
+
+
+def constants():
+    """The names of the layout in code, in order, and their places."""
+    for i, name in enumerate(NUMBERS):
+        yield name.upper().replace("-", "_"), i
+    for name, _, cap, at, size in places():
+        code = IN_CODE.get(name, name.upper())
+        yield code, at
+        yield f"{code}_PLACES", cap
+        yield f"{code}_COUNT", at + size - 1
+        yield f"{code}_END", at + size
+
+
+def header(text):
+    """The C header with the places between its two lines."""
+    begin, end = "/* From here to the line with \"end\" by tools/words_fields.py. */\n", "/* end */\n"
+    if text.count(begin) != 1 or text.count(end) != 1:
+        tool.fail("include/hyparview.h: no lines between which the places stand")
+    lines = "".join(f"#define HYPARVIEW_WORD_{name} {at}\n" for name, at in constants())
+    return text[: text.index(begin)] + begin + lines + text[text.index(end) :]
+
+
+def hold_code(text):
+    """`Layout` in the code has the same names, places and length."""
+    found = {}
+    for name, value in re.findall(r"pub const (\w+): usize = ([^;]+);", text):
+        found[name] = eval(value.replace("Layout::", ""), {}, found)
+    due = {name: at for name, at in constants() if not name.endswith("_PLACES")} | {"LENGTH": length()}
+    wrong = [name for name, at in due.items() if found.get(name) != at]
+    wrong += [name for name in found if name not in due and name not in ("FEW", "ALL", "DATA_CAP")]
+    if wrong:
+        tool.fail(f"crates/words/src/lib.rt: Layout differs from the table: {' '.join(wrong)}")
+
+
 def main():
     if sys.argv[1:] not in (["make"], ["check"]):
         tool.usage(__doc__)
-    tool.made({"crates/words/specs/Layout.antt": layout().encode(), "crates/words/proofs/Fields.antt": fields().encode()}, sys.argv[1])
+    hold_code(tool.read(tool.ROOT / "crates/words/src/lib.rt"))
+    made = {
+        "crates/words/specs/Layout.antt": layout(),
+        "crates/words/proofs/Fields.antt": fields(),
+        "include/hyparview.h": header(tool.read(tool.ROOT / "include/hyparview.h")),
+    }
+    tool.made({name: text.encode() for name, text in made.items()}, sys.argv[1])
 
 
 main()

@@ -9,12 +9,11 @@
 #include <string.h>
 
 #define END 120000
-#define MAINTENANCE 5000
-#define DRAWS 512
 
-static struct hyparview_controller station;
+static uint64_t state[HYPARVIEW_WORDS];
+static struct hyparview_tally tally;
 static uint64_t queue[TIMER_MAP_WORDS];
-static uint8_t out[8192];
+static uint8_t out[HYPARVIEW_OUTPUT];
 static uint64_t clock_ms;
 static unsigned fired[TIMER_MAP_LAST_KIND + 1];
 
@@ -27,9 +26,9 @@ static void stop(const char *what, uint32_t code)
 /* The draws of a call: any 32-bit numbers will do. */
 static const uint32_t *draws(void)
 {
-    static uint32_t list[DRAWS];
+    static uint32_t list[HYPARVIEW_DRAWS];
     static uint32_t last = 1;
-    for (size_t i = 0; i < DRAWS; i++)
+    for (size_t i = 0; i < HYPARVIEW_DRAWS; i++)
         list[i] = last = last * 1664525 + 1013904223;
     return list;
 }
@@ -37,8 +36,9 @@ static const uint32_t *draws(void)
 /* One event now: its timers are started. */
 static void handle(const uint8_t *event, size_t len)
 {
-    struct hyparview_done done = hyparview_handle(&station, event, len, draws(), DRAWS, out, sizeof out);
-    if (done.code != 0)
+    struct hyparview_done done =
+        hyparview_handle(state, HYPARVIEW_WORDS, &tally, event, len, draws(), HYPARVIEW_DRAWS, out, sizeof out);
+    if (done.code != HYPARVIEW_ACCEPTED)
         stop("an event is refused", done.code);
     uint32_t code = timer_map_insert_records(queue, TIMER_MAP_WORDS, clock_ms, out, sizeof out);
     if (code != 0)
@@ -58,7 +58,7 @@ static void fire(void)
         if (p.time != clock_ms)
             stop("a timer comes out at another time than its own", event[0]);
         fired[event[0]]++;
-        if (event[0] == 2 && clock_ms % MAINTENANCE != 0)
+        if (event[0] == HYPARVIEW_KIND_DO_MAINTENANCE && clock_ms % HYPARVIEW_MAINTENANCE_INTERVAL != 0)
             stop("maintenance at another time than each 5,000 ms", event[0]);
         handle(event, sizeof event);
     }
@@ -66,13 +66,13 @@ static void fire(void)
 
 int main(void)
 {
-    const struct hyparview_config settings = {5, 30, 6, 3, 6, 3, 4, 60000, 3000};
-    const uint8_t join[24] = {[0] = 6, [4] = 7, [14] = 24};
-    if (hyparview_new(&station, 1, 0, out, 0, settings) != 0)
-        stop("new is refused", 1);
-    if (timer_map_new(queue, TIMER_MAP_WORDS) != 0)
-        stop("a new queue is refused", 2);
-    handle(join, sizeof join);
+    const struct hyparview_config settings = HYPARVIEW_DEFAULTS;
+    const struct hyparview_header join = {.kind = HYPARVIEW_KIND_REQUEST_JOIN, .peer = 7, .size = sizeof join};
+    if (hyparview_new(state, HYPARVIEW_WORDS, &tally, 1, 0, NULL, 0, settings) != HYPARVIEW_ACCEPTED)
+        stop("new is refused", HYPARVIEW_CODE_SETTINGS);
+    if (timer_map_new(queue, TIMER_MAP_WORDS) != TIMER_MAP_DONE)
+        stop("a new queue is refused", TIMER_MAP_BROKEN);
+    handle((const uint8_t *)&join, sizeof join);
     for (;;) {
         struct timer_map_first next = timer_map_first(queue, TIMER_MAP_WORDS);
         if (next.code != 0 || !next.found)
@@ -85,9 +85,10 @@ int main(void)
         fire();
     }
     struct timer_map_len held = timer_map_len(queue, TIMER_MAP_WORDS);
-    if (fired[2] != END / MAINTENANCE)
-        stop("maintenance was done another number of times", fired[2]);
-    printf("timed station: %d ms, %u shuffles, %u maintenances, %u requests, %u joins, %llu timers held\n", END, fired[1],
-           fired[2], fired[3], fired[4], (unsigned long long)held.count);
+    if (fired[HYPARVIEW_KIND_DO_MAINTENANCE] != END / HYPARVIEW_MAINTENANCE_INTERVAL)
+        stop("maintenance was done another number of times", fired[HYPARVIEW_KIND_DO_MAINTENANCE]);
+    printf("timed station: %d ms, %u shuffles, %u maintenances, %u requests, %u joins, %llu timers held\n", END,
+           fired[HYPARVIEW_KIND_DO_SHUFFLE], fired[HYPARVIEW_KIND_DO_MAINTENANCE],
+           fired[HYPARVIEW_KIND_PENDING_NEIGHBOR_REQUEST], fired[HYPARVIEW_KIND_RETRY_JOIN], (unsigned long long)held.count);
     return 0;
 }

@@ -1,36 +1,20 @@
 //! include/hyparview.h in Rust, with safe functions over it: a slice has what the library asks of a pointer and a length.
+//! The header says what each name means.
 #![allow(dead_code)]
 
-use std::mem::{align_of, offset_of, size_of};
+use std::mem::{offset_of, size_of};
 
-#[repr(C)]
-#[derive(Clone, Copy, PartialEq)]
-pub struct IndexSet {
-    pub items: [u32; 32],
-    pub len: usize,
-}
+pub const WORDS: usize = 551;
+pub const OUTPUT: usize = 8192;
+pub const DRAWS: usize = 512;
+pub const HEADER: usize = 24;
+pub const RECORD: usize = 792;
 
-#[repr(C)]
-#[derive(Clone, Copy)]
-pub struct Numbers {
-    pub peers: IndexSet,
-    pub numbers: [u64; 32],
-}
-
-#[repr(C)]
-#[derive(Clone, Copy)]
-pub struct DataEntry {
-    pub len: u8,
-    pub bytes: [u8; 16],
-}
-
-#[repr(C)]
-#[derive(Clone, Copy)]
-pub struct DataMap {
-    pub peers: [u32; 80],
-    pub entries: [DataEntry; 80],
-    pub len: usize,
-}
+pub const ACCEPTED: u32 = 0;
+pub const CODE_STATE: u32 = 2;
+pub const CODE_EVENT: u32 = 3;
+pub const KIND_MESSAGE: u8 = 0;
+pub const LAST_TIMER: u8 = 4;
 
 #[repr(C)]
 #[derive(Clone, Copy)]
@@ -46,23 +30,20 @@ pub struct Config {
     pub neighbor_request_timeout: u32,
 }
 
-#[repr(C)]
-#[derive(Clone, Copy)]
-pub struct OwnData {
-    pub present: u8,
-    pub len: u8,
-    pub bytes: [u8; 16],
-}
+pub const DEFAULTS: Config = Config {
+    active_view_capacity: 5,
+    passive_view_capacity: 30,
+    active_random_walk_length: 6,
+    passive_random_walk_length: 3,
+    shuffle_random_walk_length: 6,
+    shuffle_active_view_count: 3,
+    shuffle_passive_view_count: 4,
+    shuffle_interval: 60000,
+    neighbor_request_timeout: 3000,
+};
 
 #[repr(C)]
-#[derive(Clone, Copy)]
-pub struct Refill {
-    pub kind: u8,
-    pub requests: u8,
-}
-
-#[repr(C)]
-#[derive(Clone, Copy, PartialEq)]
+#[derive(Clone, Copy, Default, PartialEq)]
 pub struct Tally {
     pub join: u64,
     pub forward_join: u64,
@@ -70,31 +51,6 @@ pub struct Tally {
     pub shuffle_reply: u64,
     pub neighbor: u64,
     pub disconnect: u64,
-}
-
-#[repr(C)]
-#[derive(Clone, Copy)]
-pub struct Controller {
-    pub me: u32,
-    pub own: OwnData,
-    pub active_view: IndexSet,
-    pub passive_view: IndexSet,
-    pub config: Config,
-    pub timers_scheduled: u8,
-    pub next_shuffle_interval: u32,
-    pub bootstrap_peers: IndexSet,
-    pub passes_alone: u32,
-    pub passes_short: u32,
-    pub recent_neighbors: IndexSet,
-    pub pending_neighbor_requests: Numbers,
-    pub next_neighbor_request: u64,
-    pub pending_joins: Numbers,
-    pub next_join: u64,
-    pub peer_data: DataMap,
-    pub alive_disconnect_peers: IndexSet,
-    pub refused: IndexSet,
-    pub refill: Refill,
-    pub tally: Tally,
 }
 
 #[repr(C)]
@@ -117,39 +73,40 @@ pub struct Header {
 }
 
 #[repr(C)]
-pub struct Reading {
-    pub ok: bool,
-    pub header: Header,
+struct Reading {
+    ok: bool,
+    header: Header,
 }
 
 #[repr(C)]
-pub struct Entry {
-    pub id: u32,
-    pub offset: u16,
-    pub len: u8,
-    pub present: u8,
+struct Entry {
+    id: u32,
+    offset: u16,
+    len: u8,
+    present: u8,
 }
 
 #[repr(C)]
-pub struct NodeReading {
-    pub ok: bool,
-    pub node: Entry,
+struct NodeReading {
+    ok: bool,
+    node: Entry,
 }
 
 // The layout that the library was compiled with.
 const _: () = {
-    assert!(size_of::<Controller>() == 3440 && align_of::<Controller>() == 8);
-    assert!(offset_of!(Controller, config) == 296 && offset_of!(Controller, peer_data) == 1424);
-    assert!(offset_of!(Controller, refill) == 3384 && offset_of!(Controller, tally) == 3392);
-    assert!(
-        size_of::<Done>() == 16 && size_of::<Reading>() == 32 && size_of::<NodeReading>() == 12
-    );
+    assert!(size_of::<usize>() == 8 && size_of::<Config>() == 36 && size_of::<Tally>() == 48);
+    assert!(size_of::<Done>() == 16 && offset_of!(Done, draws) == 8);
+    assert!(size_of::<Header>() == HEADER && size_of::<Entry>() == 8);
+    assert!(size_of::<Reading>() == 32 && offset_of!(Reading, header) == 8);
+    assert!(size_of::<NodeReading>() == 12 && offset_of!(NodeReading, node) == 4);
 };
 
 #[link(name = "controller", kind = "static")]
 extern "C" {
     fn hyparview_new(
-        c: *mut Controller,
+        state: *mut u64,
+        words: usize,
+        tally: *mut Tally,
         me: u32,
         present: u8,
         own: *const u8,
@@ -157,7 +114,9 @@ extern "C" {
         config: Config,
     ) -> u32;
     fn hyparview_handle(
-        c: *mut Controller,
+        state: *mut u64,
+        words: usize,
+        tally: *mut Tally,
         event: *const u8,
         event_len: usize,
         draws: *const u32,
@@ -165,43 +124,57 @@ extern "C" {
         out: *mut u8,
         out_len: usize,
     ) -> Done;
-    fn hyparview_wants_connection(c: *const Controller, peer: u32) -> bool;
-    fn hyparview_is_neighbor(c: *const Controller, peer: u32) -> bool;
-    fn hyparview_neighbors(c: *const Controller) -> IndexSet;
-    fn hyparview_spare_addresses(c: *const Controller) -> usize;
+    fn hyparview_wants_connection(state: *const u64, words: usize, peer: u64) -> bool;
+    fn hyparview_is_neighbor(state: *const u64, words: usize, peer: u64) -> bool;
+    fn hyparview_neighbor_count(state: *const u64, words: usize) -> usize;
+    fn hyparview_neighbor(state: *const u64, words: usize, i: usize) -> u64;
+    fn hyparview_spare_addresses(state: *const u64, words: usize) -> usize;
     fn hyparview_read(record: *const u8, len: usize) -> Reading;
     fn hyparview_node(record: *const u8, len: usize, i: usize) -> NodeReading;
 }
 
-impl Controller {
-    /// Memory of zeroes, which is no station yet: every event is refused with code 2.
-    pub fn zeroed() -> Controller {
-        // SAFETY: the struct has integers alone, of which zero bytes are values.
-        unsafe { std::mem::zeroed() }
-    }
+/// A station's words and its tally.
+pub struct Station {
+    pub words: [u64; WORDS],
+    pub tally: Tally,
+}
 
-    /// A new station, in place: code 0, or 1 where it is refused.
-    pub fn make(&mut self, me: u32, own: Option<&[u8]>, config: Config) -> u32 {
-        let bytes = own.unwrap_or(&[]);
-        // SAFETY: each pointer is a reference's or a slice's, and `self` is borrowed alone.
-        unsafe {
+impl Station {
+    /// A new station, or the code of the refusal.
+    pub fn new(me: u32, own: Option<&[u8]>, config: Config) -> Result<Station, u32> {
+        let mut s = Station {
+            words: [0; WORDS],
+            tally: Tally::default(),
+        };
+        let (present, bytes) = (own.is_some() as u8, own.unwrap_or(&[]));
+        // SAFETY: each pointer is a reference's or a slice's, and what is written is borrowed alone.
+        let code = unsafe {
+            let (own, len) = (bytes.as_ptr(), bytes.len());
             hyparview_new(
-                self,
+                s.words.as_mut_ptr(),
+                WORDS,
+                &mut s.tally,
                 me,
-                own.is_some() as u8,
-                bytes.as_ptr(),
-                bytes.len(),
+                present,
+                own,
+                len,
                 config,
             )
+        };
+        match code {
+            ACCEPTED => Ok(s),
+            code => Err(code),
         }
     }
 
     /// One event.
     pub fn handle(&mut self, event: &[u8], draws: &[u32], out: &mut [u8]) -> Done {
-        // SAFETY: each pointer is a reference's or a slice's, and `self` and `out` are borrowed alone.
+        // SAFETY: each pointer is a reference's or a slice's, and what is written is borrowed alone.
         unsafe {
             hyparview_handle(
-                self,
+                self.words.as_mut_ptr(),
+                WORDS,
+                &mut self.tally,
                 event.as_ptr(),
                 event.len(),
                 draws.as_ptr(),
@@ -212,24 +185,27 @@ impl Controller {
         }
     }
 
-    pub fn wants_connection(&self, peer: u32) -> bool {
+    pub fn wants_connection(&self, peer: u64) -> bool {
         // SAFETY: the pointer is a reference's.
-        unsafe { hyparview_wants_connection(self, peer) }
+        unsafe { hyparview_wants_connection(self.words.as_ptr(), WORDS, peer) }
     }
 
-    pub fn is_neighbor(&self, peer: u32) -> bool {
+    pub fn is_neighbor(&self, peer: u64) -> bool {
         // SAFETY: the pointer is a reference's.
-        unsafe { hyparview_is_neighbor(self, peer) }
+        unsafe { hyparview_is_neighbor(self.words.as_ptr(), WORDS, peer) }
     }
 
-    pub fn neighbors(&self) -> IndexSet {
+    /// The neighbours, in order.
+    pub fn neighbors(&self) -> Vec<u64> {
         // SAFETY: the pointer is a reference's.
-        unsafe { hyparview_neighbors(self) }
+        let count = unsafe { hyparview_neighbor_count(self.words.as_ptr(), WORDS) };
+        let at = |i| unsafe { hyparview_neighbor(self.words.as_ptr(), WORDS, i) };
+        (0..count).map(at).collect()
     }
 
     pub fn spare_addresses(&self) -> usize {
         // SAFETY: the pointer is a reference's.
-        unsafe { hyparview_spare_addresses(self) }
+        unsafe { hyparview_spare_addresses(self.words.as_ptr(), WORDS) }
     }
 }
 
@@ -247,4 +223,19 @@ pub fn node(record: &[u8], i: usize) -> Option<(u32, Option<&[u8]>)> {
     let at = r.node.offset as usize;
     let data = (r.node.present == 1).then(|| &record[at..at + r.node.len as usize]);
     r.ok.then_some((r.node.id, data))
+}
+
+/// The record that begins the bytes, by its whole length; none where that is under a header or over the bytes.
+pub fn first(bytes: &[u8]) -> Option<&[u8]> {
+    let size = u16::from_le_bytes([*bytes.get(14)?, *bytes.get(15)?]) as usize;
+    bytes.get(..size).filter(|r| r.len() >= HEADER)
+}
+
+/// The records of an output, one after the other, to the zeroes after them.
+pub fn records(mut out: &[u8]) -> impl Iterator<Item = &[u8]> {
+    std::iter::from_fn(move || {
+        let r = first(out)?;
+        out = &out[r.len()..];
+        Some(r)
+    })
 }

@@ -1,27 +1,36 @@
--- Laws of the controller's calls, one for each way through the code.
+-- Laws of the calls: one for each way through `begin`, and that a refused call leaves the words and the tally as they were.
 -- Assumes nothing.
 use Prim.Native.Nat.{ℕ}
 use mathlib.Core.Path.{_≡_, ap, _∙_}
 use mathlib.Core.List.{List}
+use borrow.Author.Tests.{eq-eqb, ne-eqb}
+use Rattle.lists.specs.Lists.{choose}
+use Rattle.lists.proofs.Choice.{choose-no}
+use Rattle.timing.specs.declared.Config.{Config}
+use Rattle.peer.specs.Data.{Data}
 use Rattle.tally.specs.declared.Tally.{Tally}
 use Rattle.tally.specs.Counts.{raised}
-use Rattle.rules.specs.declared.Made.{Made}
-use Rattle.hyparview.specs.declared.Answer.{Answer}
-use Rattle.hyparview.specs.Handled as hyparview
-use Rattle.controller.specs.declared.Controller.{Controller}
-use Rattle.controller.specs.declared.Stepped.{Stepped}
-use Rattle.controller.specs.Calls.{no-messages, begun, after, answered, stepped}
+use Rattle.tally.specs.History.{no-messages}
+use Rattle.queries_words.specs.Made.{Made, made}
+use Rattle.hyparview_words.specs.Handled.{Outcome, handled}
+use Rattle.hyparview_words.proofs.Kept.{handled-refused}
+use Rattle.controller.specs.Calls.{with-tally, begun, counted, called}
 
-pub after-by : (t t′ : Tally) (a : Answer) (out : List ℕ) → t′ ≡ raised (a .code) out t
-    → record { controller = record { state = a .state; tally = t′ }; done = record { code = a .code; draws = a .draws } } ≡ after t a out
-unfolding after
-after-by t t′ a out q = rw q
+module _ (xs : List ℕ) (t : Tally) (me : ℕ) (d : Data) (c : Config) (code : ℕ) (ys : List ℕ) (is : record { code = code; words = ys } ≡ made xs me d c) where
+  pub begun-kept : code ≡ 2 → record { code = code; words = ys; tally = t } ≡ begun xs t me d c
+  unfolding begun with-tally choose
+  begun-kept e = let z : record { code = code; words = ys; tally = t } ≡ with-tally t (record { code = code; words = ys }) = rw (eq-eqb code 2 e) in z ∙ ap (with-tally t) is
 
-pub stepped-by : (c : Controller) (a : Answer) (b ds : List ℕ) (room : ℕ) (out : List ℕ) (r : Stepped) → r ≡ after (c .tally) a out → record { answer = a; output = out } ≡ hyparview.handled (c .state) b ds room
-    → record { step = r; output = out } ≡ stepped c b ds room
-unfolding stepped answered
-stepped-by c a b ds room out r p e = ap (λ (x : Stepped). record { step = x; output = out }) p ∙ ap (answered (c .tally)) e
+  pub begun-zeroes : (r : Tally) → (code ≡ 2 → ⊥) → r ≡ no-messages → record { code = code; words = ys; tally = r } ≡ begun xs t me d c
+  unfolding begun with-tally choose
+  begun-zeroes r e q = let z : record { code = code; words = ys; tally = r } ≡ with-tally t (record { code = code; words = ys }) = rw (ne-eqb code 2 e, q) in z ∙ ap (with-tally t) is
 
-pub begun-by : (m x : Made) (t : Tally) → t ≡ no-messages → m ≡ x → record { controller = record { state = m .state; tally = t }; code = m .code } ≡ begun x
-unfolding begun
-begun-by m x t q e = rw (q, e)
+-- "a refusal changes none"
+pub refused-same : (xs : List ℕ) (t : Tally) (b ds : List ℕ) (room : ℕ) → (called xs t b ds room .code ≡ 0 → ⊥) → (called xs t b ds room .words ≡ xs) × (called xs t b ds room .tally ≡ t)
+unfolding called counted raised
+refused-same xs t b ds room n = (handled-refused xs b ds room n, choose-no _ _ _ (ne-eqb (handled xs b ds room .code) 0 n))
+
+pub called-by : (xs : List ℕ) (t : Tally) (b ds : List ℕ) (room code draws : ℕ) (ws out : List ℕ) (r : Tally) → r ≡ raised code out t → record { code = code; draws = draws; words = ws; output = out } ≡ handled xs b ds room
+    → record { code = code; draws = draws; words = ws; tally = r; output = out } ≡ called xs t b ds room
+unfolding called counted
+called-by xs t b ds room code draws ws out r q e = ap (λ (y : Tally). record { code = code; draws = draws; words = ws; tally = y; output = out }) q ∙ ap (counted t) e

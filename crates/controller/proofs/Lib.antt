@@ -1,5 +1,3 @@
 pub mod Laws
-pub mod Memory
+pub mod Lent
 pub mod Reader
-pub mod AskedOf
-pub mod Asked

@@ -1,40 +1,43 @@
--- What the calls that change a controller leave in its memory.
+-- What the calls that change a station leave in the words and the tally that they are lent.
 -- Assumes nothing.
 use Prim.Native.Nat.{ℕ}
 use mathlib.Core.List.{List}
-use Rattle.rules.specs.declared.Made.{Made}
+use lib.Dec.{eqb}
+use Rattle.lists.specs.Lists.{choose}
+use Rattle.timing.specs.declared.Config.{Config}
+use Rattle.peer.specs.Data.{Data}
 use Rattle.tally.specs.declared.Tally.{Tally}
 use Rattle.tally.specs.Counts.{raised}
-use Rattle.hyparview.specs.declared.Answer.{Answer}
-use Rattle.hyparview.specs.Handled as hyparview
-use Rattle.controller.specs.declared.Controller.{Controller}
-use Rattle.controller.specs.declared.Begun.{Begun}
-use Rattle.controller.specs.declared.Stepped.{Stepped}
+use Rattle.tally.specs.History.{no-messages}
+use Rattle.queries_words.specs.Made.{Made, made}
+use Rattle.hyparview_words.specs.Handled.{Outcome, handled}
 
--- a tally of zeroes
-unfoldable pub no-messages : Tally
-no-messages = record { join = 0; «forward_join» = 0; shuffle = 0; «shuffle_reply» = 0; neighbor = 0; disconnect = 0 }
+-- what `hyparview_new` hands back, and the words and the tally as it leaves them
+pub record Begun : Type 0 where
+  pub code : ℕ
+  pub words : List ℕ
+  pub tally : Tally
 
--- the answer of `new`, in memory
-unfoldable pub begun : Made → Begun
-begun m = record { controller = record { state = m .state; tally = no-messages }; code = m .code }
+-- State::new with the tally t beside it, which becomes zeroes, and stays where the words are too few or too many
+unfoldable pub with-tally : Tally → Made → Begun
+with-tally t m = record { code = m .code; words = m .words; tally = choose (eqb (m .code) 2) t no-messages }
 
--- what an answer with the output `out` makes of a controller with the tally t; that a refused call leaves all as it was is `refused-same`
-unfoldable pub after : Tally → Answer → List ℕ → Stepped
-after t a out = record {
-  controller = record { state = a .state; tally = raised (a .code) out t };
-  done = record { code = a .code; draws = a .draws };
-}
+-- `hyparview_new` at the words xs and the tally t
+unfoldable pub begun : List ℕ → Tally → ℕ → Data → Config → Begun
+begun xs t me d c = with-tally t (made xs me d c)
 
--- what a call hands back, and the output as it leaves it
-pub record Outcome : Type 0 where
-  pub step : Stepped
+-- what `hyparview_handle` hands back, and the words, the tally and the output as it leaves them
+pub record Called : Type 0 where
+  pub code : ℕ
+  pub draws : ℕ
+  pub words : List ℕ
+  pub tally : Tally
   pub output : List ℕ
 
--- an answer of `handle` with its output, at the tally t
-unfoldable pub answered : Tally → hyparview.Outcome → Outcome
-answered t o = record { step = after t (o .answer) (o .output); output = o .output }
+-- an answer of `handle` with the tally t beside it, "raised once an event is accepted"
+unfoldable pub counted : Tally → Outcome → Called
+counted t o = record { code = o .code; draws = o .draws; words = o .words; tally = raised (o .code) (o .output) t; output = o .output }
 
--- one event at the controller c, with as many bytes of output
-unfoldable pub stepped : Controller → List ℕ → List ℕ → ℕ → Outcome
-stepped c b ds room = answered (c .tally) (hyparview.handled (c .state) b ds room)
+-- `hyparview_handle` at the words xs and the tally t, with as many bytes of output; that a refusal leaves both as they were is `refused-same`
+unfoldable pub called : List ℕ → Tally → List ℕ → List ℕ → ℕ → Called
+called xs t b ds room = counted t (handled xs b ds room)

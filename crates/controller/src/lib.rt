@@ -1,46 +1,24 @@
 // The library for a controller: what C or Rust calls, over memory that the caller owns.
-use hyparview::Answer;
+use hyparview_words::Done;
 use record::Entry;
 use record::Header;
-use state::State;
+use section::PeerId;
 use tally::Tally;
 use timing::Config;
-use util::IndexSet;
 ghost use mathlib.Core.Path.{_≡_};
 ghost use mathlib.Core.Bool.{not};
-ghost use lib.ListN.{length};
+ghost use lib.ListN.{length, getD};
 ghost use lib.Dec.{eqb};
-ghost use Rattle.util.specs.Set.{Holds};
-ghost use Rattle.protocol.specs.Handle.{new};
-ghost use Rattle.rules.specs.Made.{lent, pack-made};
-ghost use Rattle.rules.specs.Queries.{wants-connection-in, is-neighbor-in, neighbors-in, spare-addresses-in};
-ghost use Rattle.controller.specs.Calls.{no-messages, begun, after, stepped};
+ghost use Rattle.tally.specs.History.{no-messages};
+ghost use Rattle.queries_words.specs.Made.{lent};
+ghost use Rattle.queries_words.specs.Queries.{wants-connection-in, is-neighbor-in, neighbors-in, spare-addresses-in};
+ghost use Rattle.controller.specs.Calls.{begun, called};
 ghost use Rattle.controller.specs.Reader.{no-header, reading, no-entry, node-reading};
 
-// A station's state and its tally, in integers alone, so that whatever bytes the caller's memory has are a value.
-#[repr(C)]
-pub struct Controller {
-    pub state: State,
+// The code of `new`, and the tally after it.
+pub struct Start {
+    pub code: u32,
     pub tally: Tally,
-}
-
-// What `hyparview_handle` hands back: the code, and how many draws are used.
-#[repr(C)]
-pub struct Done {
-    pub code: u32,
-    pub draws: usize,
-}
-
-// The controller after a call, and what the call hands back.
-pub struct Stepped {
-    pub controller: Controller,
-    pub done: Done,
-}
-
-// A new controller, and the code.
-pub struct Begun {
-    pub controller: Controller,
-    pub code: u32,
 }
 
 // A record's header, or not ok and zeroes.
@@ -57,47 +35,20 @@ pub struct NodeReading {
     pub node: Entry,
 }
 
-// The controller after an answer of `handle` with this output; the answer to a refused call has the old state.
-fn after(t: Tally, a: Answer, out: &[u8]) -> Stepped
-    ensures { λ r. ⌜ r ≡ after t a (now (out .entry)) ⌝ }
-{
-    let s = a.state;
-    let next = Controller {
-        state: s,
-        tally: tally::raised(t, a.code, out),
-    };
-    Stepped {
-        controller: next,
-        done: Done {
-            code: a.code,
-            draws: a.draws,
-        },
-    }
-}
-
-// One event, by value.
-fn step(c: Controller, event: &[u8], draws: &[u32], out: &mut [u8]) -> Stepped
-    ensures { λ r. ⌜ record { step = r; output = now (out .exit) } ≡ stepped c (now (event .entry)) (now (draws .entry)) (length (now (out .entry))) ⌝ }
-{
-    let s = c.state;
-    let a = hyparview::handle(s, event, draws, out);
-    let t = c.tally;
-    after(t, a, out)
-}
-
-// One event: the whole result, or one numbered refusal; the lent controller becomes what it is after it.
+// One event: the whole result, or one numbered refusal that leaves every word and count as it was.
 #[no_mangle]
 pub extern "C" fn hyparview_handle(
-    c: &mut Controller,
+    st: &mut [u64],
+    t: &mut Tally,
     event: &[u8],
     draws: &[u32],
     out: &mut [u8],
 ) -> Done
-    ensures { λ r. ⌜ record { step = record { controller = now (c .exit); done = r }; output = now (out .exit) } ≡ stepped (now (c .entry)) (now (event .entry)) (now (draws .entry)) (length (now (out .entry))) ⌝ }
+    ensures { λ r. ⌜ record { code = r .code; draws = r .draws; words = now (st .exit); tally = now (t .exit); output = now (out .exit) } ≡ called (now (st .entry)) (now (t .entry)) (now (event .entry)) (now (draws .entry)) (length (now (out .entry))) ⌝ }
 {
-    let r = step(*c, event, draws, out);
-    *c = r.controller;
-    r.done
+    let r = hyparview_words::handle(st, event, draws, out);
+    tally::raise(t, r.code, out);
+    r
 }
 
 fn no_messages() -> Tally
@@ -113,96 +64,78 @@ fn no_messages() -> Tally
     }
 }
 
-// A new station, by value; own data is absent where `present` is 0.
-fn begin(me: u32, present: u8, own: &[u8], config: Config) -> Begun
-    ensures { λ r. ⌜ r ≡ begun (pack-made (new me (lent (not (eqb present 0)) (now (own .entry))) config)) ⌝ }
+// A new station in the lent words, its tally by value; own data is absent where `present` is 0.
+fn begin(st: &mut [u64], t: Tally, me: u32, present: u8, own: &[u8], config: Config) -> Start
+    ensures { λ r. ⌜ record { code = r .code; words = now (st .exit); tally = r .tally } ≡ begun (now (st .entry)) t me (lent (not (eqb present 0)) (now (own .entry))) config ⌝ }
 {
-    let m = rules::new(me, present != 0, own, config);
-    let s = m.state;
-    let c = Controller {
-        state: s,
+    let code = queries_words::new(st, me, present != 0, own, config);
+    if code == 2 {
+        return Start {
+            code: code,
+            tally: t,
+        };
+    }
+    Start {
+        code: code,
         tally: no_messages(),
-    };
-    Begun {
-        controller: c,
-        code: m.code,
     }
 }
 
-// The lent controller becomes a new station, with a tally of zeroes; code 1 and a state of zeroes where `new` refuses.
+// The lent words become a new station's and the tally zeroes; words of zeroes where `new` refuses, and all as it was where the words are too few or too many.
 #[no_mangle]
 pub extern "C" fn hyparview_new(
-    c: &mut Controller,
+    st: &mut [u64],
+    t: &mut Tally,
     me: u32,
     present: u8,
     own: &[u8],
     config: Config,
 ) -> u32
-    ensures { λ r. ⌜ record { controller = now (c .exit); code = r } ≡ begun (pack-made (new me (lent (not (eqb present 0)) (now (own .entry))) config)) ⌝ }
+    ensures { λ r. ⌜ record { code = r; words = now (st .exit); tally = now (t .exit) } ≡ begun (now (st .entry)) (now (t .entry)) me (lent (not (eqb present 0)) (now (own .entry))) config ⌝ }
 {
-    let r = begin(me, present, own, config);
-    *c = r.controller;
+    let r = begin(st, *t, me, present, own, config);
+    *t = r.tally;
     r.code
-}
-
-fn wants_connection(c: Controller, p: u32) -> bool
-    ensures { λ r. ⌜ r ≡ wants-connection-in p (c .state) ⌝ }
-{
-    let s = c.state;
-    rules::wants_connection(s, p)
 }
 
 // Whether a connection to the peer is wanted.
 #[no_mangle]
-pub extern "C" fn hyparview_wants_connection(c: &Controller, p: u32) -> bool
-    ensures { λ r. ⌜ r ≡ wants-connection-in p (now (c .entry) .state) ⌝ }
+pub extern "C" fn hyparview_wants_connection(st: &[u64], p: PeerId) -> bool
+    ensures { λ r. ⌜ r ≡ wants-connection-in p (now (st .entry)) ⌝ }
 {
-    wants_connection(*c, p)
-}
-
-fn is_neighbor(c: Controller, p: u32) -> bool
-    ensures { λ r. ⌜ r ≡ is-neighbor-in p (c .state) ⌝ }
-{
-    let s = c.state;
-    rules::is_neighbor(s, p)
+    queries_words::wants_connection(st, p)
 }
 
 // Whether the peer is a neighbor.
 #[no_mangle]
-pub extern "C" fn hyparview_is_neighbor(c: &Controller, p: u32) -> bool
-    ensures { λ r. ⌜ r ≡ is-neighbor-in p (now (c .entry) .state) ⌝ }
+pub extern "C" fn hyparview_is_neighbor(st: &[u64], p: PeerId) -> bool
+    ensures { λ r. ⌜ r ≡ is-neighbor-in p (now (st .entry)) ⌝ }
 {
-    is_neighbor(*c, p)
+    queries_words::is_neighbor(st, p)
 }
 
-fn neighbors(c: Controller) -> IndexSet
-    ensures { λ r. ⌜ Holds r (neighbors-in (c .state)) ⌝ }
-{
-    let s = c.state;
-    rules::neighbors(s)
-}
-
-// The neighbors, in order.
+// How many neighbors there are.
 #[no_mangle]
-pub extern "C" fn hyparview_neighbors(c: &Controller) -> IndexSet
-    ensures { λ r. ⌜ Holds r (neighbors-in (now (c .entry) .state)) ⌝ }
+pub extern "C" fn hyparview_neighbor_count(st: &[u64]) -> usize
+    ensures { λ r. ⌜ r ≡ length (neighbors-in (now (st .entry))) ⌝ }
 {
-    neighbors(*c)
+    queries_words::neighbor_count(st)
 }
 
-fn spare_addresses(c: Controller) -> usize
-    ensures { λ r. ⌜ r ≡ spare-addresses-in (c .state) ⌝ }
+// The neighbor at place i, in order, and 0 past the last.
+#[no_mangle]
+pub extern "C" fn hyparview_neighbor(st: &[u64], i: usize) -> PeerId
+    ensures { λ r. ⌜ r ≡ getD (neighbors-in (now (st .entry))) i 0 ⌝ }
 {
-    let s = c.state;
-    rules::spare_addresses(s)
+    queries_words::neighbor(st, i)
 }
 
 // How many spare addresses there are.
 #[no_mangle]
-pub extern "C" fn hyparview_spare_addresses(c: &Controller) -> usize
-    ensures { λ r. ⌜ r ≡ spare-addresses-in (now (c .entry) .state) ⌝ }
+pub extern "C" fn hyparview_spare_addresses(st: &[u64]) -> usize
+    ensures { λ r. ⌜ r ≡ spare-addresses-in (now (st .entry)) ⌝ }
 {
-    spare_addresses(*c)
+    queries_words::spare_addresses(st)
 }
 
 fn no_header() -> Header

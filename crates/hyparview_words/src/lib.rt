@@ -22,6 +22,7 @@ ghost use Rattle.hyparview_words.specs.Handled.{cleared, refusal, ended,
 ghost use Rattle.hyparview_words.specs.Begun.{Headed, Single, ReadAs, Opens, timer-expired};
 
 // What a call hands back beside the words: its code, and how many draws are used.
+#[repr(C)]
 pub struct Done {
     pub code: u32,
     pub draws: usize,

@@ -1,5 +1,5 @@
 use mathlib.Core.Path.{refl}
-use Rattle.controller.specs.Calls.{no-messages}
+use Rattle.tally.specs.History.{no-messages}
 use Rattle.controller.proofs.no_messages.Statement.{statement}
 use Rattle.controller.proofs.no_messages.Tie as tie
 

@@ -1,0 +1,273 @@
+/* The exported functions one by one, in C and in C++: hyparview_new with own data and with settings about their ranges,
+ * lengths that are none, NULL with length 0, outputs and draws that are too short, and that nothing else is written. It
+ * stops with 1 at the first fault.
+ *
+ * usage: calls FILE    rows of four words by tools/record_vectors.py: whether own data is present, its bytes after an x, the
+ *                      code of hyparview_new, and after an x the output of RequestJoin 7 at self 1 with a draw of 0 */
+#include "hyparview.h"
+
+#include <stdio.h>
+#include <stdlib.h>
+#include <string.h>
+
+#define GUARD 64
+#define FILLER 0xa5
+
+/* What is lent stands between guards. */
+static struct {
+    uint8_t g0[GUARD];
+    uint64_t state[HYPARVIEW_WORDS + 1];
+    uint8_t g1[GUARD];
+    struct hyparview_tally tally;
+    uint8_t g2[GUARD];
+    uint8_t out[HYPARVIEW_OUTPUT];
+    uint8_t g3[GUARD];
+} lent, kept;
+
+static const struct hyparview_config defaults = HYPARVIEW_DEFAULTS;
+static const uint32_t zeroes[HYPARVIEW_DRAWS] = {0};
+static const uint8_t *const none = NULL;
+static long checks;
+
+#define CHECK(test) check(test, #test, __LINE__)
+
+static void check(bool test, const char *words, int line)
+{
+    checks++;
+    if (!test) {
+        fprintf(stderr, "calls: line %d: not so: %s\n", line, words);
+        exit(1);
+    }
+}
+
+static bool all(const void *p, size_t n, uint8_t value)
+{
+    const uint8_t *b = (const uint8_t *)p;
+    for (size_t i = 0; i < n; i++)
+        if (b[i] != value)
+            return false;
+    return true;
+}
+
+static void fill(void)
+{
+    memset(&lent, FILLER, sizeof lent);
+}
+
+/* No word past the state's, and no guard, was written. */
+static bool guarded(void)
+{
+    return all(lent.g0, GUARD, FILLER) && all(lent.g1, GUARD, FILLER) && all(lent.g2, GUARD, FILLER) &&
+           all(lent.g3, GUARD, FILLER) && all(&lent.state[HYPARVIEW_WORDS], sizeof lent.state[0], FILLER);
+}
+
+/* The state and the tally are as they were kept. */
+static bool left(void)
+{
+    return memcmp(lent.state, kept.state, sizeof lent.state) == 0 && memcmp(&lent.tally, &kept.tally, sizeof lent.tally) == 0;
+}
+
+static uint32_t make(uint8_t present, const uint8_t *own, size_t len, struct hyparview_config config)
+{
+    return hyparview_new(lent.state, HYPARVIEW_WORDS, &lent.tally, 1, present, own, len, config);
+}
+
+/* A new station with a full guard, kept beside. */
+static void begin(void)
+{
+    fill();
+    CHECK(make(0, none, 0, defaults) == HYPARVIEW_ACCEPTED);
+    memcpy(&kept, &lent, sizeof kept);
+}
+
+static struct hyparview_done handle(const struct hyparview_header *h, size_t draws, size_t room)
+{
+    struct hyparview_header e = *h;
+    memset(lent.out, FILLER, sizeof lent.out);
+    struct hyparview_done done = hyparview_handle(lent.state, HYPARVIEW_WORDS, &lent.tally, (const uint8_t *)&e, sizeof e,
+                                                  zeroes, draws, lent.out, room);
+    CHECK(guarded() && memcmp(&e, h, sizeof e) == 0 && all(lent.out + room, sizeof lent.out - room, FILLER));
+    if (done.code != HYPARVIEW_ACCEPTED)
+        CHECK(left() && done.draws == 0 && all(lent.out, room, 0));
+    return done;
+}
+
+static struct hyparview_header event(uint8_t kind, uint32_t peer)
+{
+    struct hyparview_header h;
+    memset(&h, 0, sizeof h);
+    h.kind = kind;
+    h.peer = peer;
+    h.size = sizeof h;
+    return h;
+}
+
+/* ---- a new station */
+
+static uint64_t little(const uint8_t *b, size_t len)
+{
+    uint64_t n = 0;
+    for (size_t i = 0; i < 8 && i < len; i++)
+        n |= (uint64_t)b[i] << 8 * i;
+    return n;
+}
+
+/* Every word of a station that has met no event. */
+static bool is_new(bool present, const uint8_t *own, size_t len)
+{
+    uint64_t due[HYPARVIEW_WORDS] = {0};
+    const uint64_t settings[] = {5, 30, 6, 3, 6, 3, 4, 60000, 3000};
+    due[HYPARVIEW_WORD_ME] = 1;
+    memcpy(due + HYPARVIEW_WORD_ACTIVE_VIEW_CAPACITY, settings, sizeof settings);
+    due[HYPARVIEW_WORD_NEXT_SHUFFLE_INTERVAL] = HYPARVIEW_INITIAL_SHUFFLE_INTERVAL;
+    if (present) {
+        due[HYPARVIEW_WORD_OWN_PRESENT] = 1;
+        due[HYPARVIEW_WORD_OWN_LEN] = len;
+        due[HYPARVIEW_WORD_OWN_LOW] = little(own, len);
+        due[HYPARVIEW_WORD_OWN_HIGH] = len > 8 ? little(own + 8, len - 8) : 0;
+    }
+    return memcmp(lent.state, due, sizeof due) == 0;
+}
+
+static size_t read_hex(const char *hex, uint8_t *bytes, size_t room)
+{
+    size_t n = 0;
+    unsigned byte;
+    while (n < room && sscanf(hex + 2 * n, "%2x", &byte) == 1)
+        bytes[n++] = (uint8_t)byte;
+    return n;
+}
+
+/* Own data, absent and of every length, in the words and in the first message. */
+static void own_data(const char *name)
+{
+    FILE *rows = fopen(name, "r");
+    char own_text[600], due_text[1000];
+    unsigned present, code;
+    int accepted = 0, refused = 0;
+    if (rows == NULL) {
+        perror(name);
+        exit(1);
+    }
+    while (fscanf(rows, "%u %599s %u %999s", &present, own_text, &code, due_text) == 4) {
+        uint8_t own[256], due[HYPARVIEW_OUTPUT] = {0};
+        size_t len = read_hex(own_text + 1, own, sizeof own);
+        read_hex(due_text + 1, due, sizeof due);
+        fill();
+        CHECK(make((uint8_t)present, own, len, defaults) == code && guarded() && all(lent.out, sizeof lent.out, FILLER));
+        CHECK(all(&lent.tally, sizeof lent.tally, 0));
+        memcpy(&kept, &lent, sizeof kept);
+        struct hyparview_header join = event(HYPARVIEW_KIND_REQUEST_JOIN, 7);
+        if (code == HYPARVIEW_ACCEPTED) {
+            CHECK(is_new(present != 0, own, len));
+            struct hyparview_done done = handle(&join, 1, sizeof lent.out);
+            CHECK(done.code == HYPARVIEW_ACCEPTED && done.draws == 1 && lent.tally.join == 1);
+            CHECK(memcmp(lent.out, due, sizeof due) == 0);
+            accepted++;
+        } else {
+            CHECK(all(lent.state, HYPARVIEW_WORDS * sizeof lent.state[0], 0));
+            CHECK(handle(&join, 1, sizeof lent.out).code == HYPARVIEW_CODE_STATE);
+            refused++;
+        }
+    }
+    CHECK(feof(rows) && accepted > 0 && refused > 0);
+    fclose(rows);
+}
+
+/* Each setting at the ends of its range, and one past them. */
+static void settings(void)
+{
+    static const uint32_t ranges[9][2] = {{1, 8}, {1, 32}, {0, 65535}, {0, 65535}, {0, 65535},
+                                          {0, 8}, {0, 23}, {1, 3600000}, {1, 3600000}};
+    for (size_t i = 0; i < 9; i++) {
+        const uint32_t tried[] = {ranges[i][0], ranges[i][1], ranges[i][0] - 1, ranges[i][1] + 1, UINT32_MAX, 1u << 31};
+        for (size_t k = 0; k < sizeof tried / sizeof tried[0]; k++) {
+            struct hyparview_config config = defaults;
+            bool in_range = ranges[i][0] <= tried[k] && tried[k] <= ranges[i][1];
+            memcpy((uint8_t *)&config + 4 * i, &tried[k], 4);
+            fill();
+            CHECK(make(0, none, 0, config) == (uint32_t)(in_range ? HYPARVIEW_ACCEPTED : HYPARVIEW_CODE_SETTINGS));
+            CHECK(guarded() && all(&lent.tally, sizeof lent.tally, 0));
+            if (in_range)
+                CHECK(lent.state[HYPARVIEW_WORD_ACTIVE_VIEW_CAPACITY + i] == tried[k]);
+            else
+                CHECK(all(lent.state, HYPARVIEW_WORDS * sizeof lent.state[0], 0));
+        }
+    }
+}
+
+/* ---- lengths */
+
+/* A number of words that is none touches nothing but the output. */
+static void lengths(void)
+{
+    const struct hyparview_header join = event(HYPARVIEW_KIND_REQUEST_JOIN, 7);
+    const size_t wrong[] = {0, 1, HYPARVIEW_WORDS - 1, HYPARVIEW_WORDS + 1};
+    for (size_t i = 0; i < sizeof wrong / sizeof wrong[0]; i++) {
+        begin();
+        CHECK(hyparview_new(lent.state, wrong[i], &lent.tally, 2, 0, none, 0, defaults) == HYPARVIEW_CODE_STATE && left());
+        lent.tally.join = kept.tally.join = 5;
+        struct hyparview_done done = hyparview_handle(lent.state, wrong[i], &lent.tally, (const uint8_t *)&join, sizeof join,
+                                                      zeroes, HYPARVIEW_DRAWS, lent.out, sizeof lent.out);
+        CHECK(done.code == HYPARVIEW_CODE_STATE && done.draws == 0 && left() && guarded());
+        CHECK(all(lent.out, sizeof lent.out, 0));
+        CHECK(!hyparview_is_neighbor(lent.state, wrong[i], 0) && !hyparview_wants_connection(lent.state, wrong[i], 0));
+        CHECK(hyparview_neighbor_count(lent.state, wrong[i]) == 0 && hyparview_neighbor(lent.state, wrong[i], 0) == 0);
+        CHECK(hyparview_spare_addresses(lent.state, wrong[i]) == 0);
+    }
+}
+
+/* The first event writes a Join of 32 bytes and three timers of 24: every shorter output is refused, and so are no draws. */
+static void shortness(void)
+{
+    const struct hyparview_header join = event(HYPARVIEW_KIND_REQUEST_JOIN, 7);
+    const size_t whole = 32 + 3 * HYPARVIEW_HEADER;
+    begin();
+    for (size_t room = 0; room < whole; room++)
+        CHECK(handle(&join, 1, room).code == HYPARVIEW_CODE_OUTPUT);
+    CHECK(handle(&join, 0, sizeof lent.out).code == HYPARVIEW_CODE_DRAWS);
+    struct hyparview_done done = handle(&join, 1, whole);
+    CHECK(done.code == HYPARVIEW_ACCEPTED && done.draws == 1 && lent.tally.join == 1);
+}
+
+/* ---- NULL with length 0 */
+
+static void nulls(void)
+{
+    const struct hyparview_header join = event(HYPARVIEW_KIND_REQUEST_JOIN, 7);
+    const struct hyparview_header closed = event(HYPARVIEW_KIND_PEER_DISCONNECTED, 9);
+    const uint8_t *e = (const uint8_t *)&closed;
+    begin();
+    CHECK(hyparview_new(NULL, 0, &lent.tally, 1, 0, NULL, 0, defaults) == HYPARVIEW_CODE_STATE && left());
+    CHECK(hyparview_handle(NULL, 0, &lent.tally, NULL, 0, NULL, 0, NULL, 0).code == HYPARVIEW_CODE_STATE && left());
+    CHECK(hyparview_handle(lent.state, HYPARVIEW_WORDS, &lent.tally, NULL, 0, NULL, 0, NULL, 0).code == HYPARVIEW_CODE_EVENT);
+    CHECK(hyparview_handle(lent.state, HYPARVIEW_WORDS, &lent.tally, e, sizeof closed, NULL, 0, lent.out, 8).code ==
+              HYPARVIEW_CODE_DRAWS && left());
+    CHECK(hyparview_handle(lent.state, HYPARVIEW_WORDS, &lent.tally, e, sizeof closed, zeroes, 1, NULL, 0).code ==
+              HYPARVIEW_CODE_OUTPUT && left());
+    CHECK(handle(&join, 1, sizeof lent.out).code == HYPARVIEW_ACCEPTED);
+    CHECK(hyparview_handle(lent.state, HYPARVIEW_WORDS, &lent.tally, e, sizeof closed, NULL, 0, NULL, 0).code ==
+          HYPARVIEW_ACCEPTED);
+    CHECK(make(1, NULL, 0, defaults) == HYPARVIEW_ACCEPTED && is_new(true, NULL, 0) && guarded());
+    CHECK(!hyparview_wants_connection(NULL, 0, 0) && !hyparview_is_neighbor(NULL, 0, 0));
+    CHECK(hyparview_neighbor_count(NULL, 0) == 0 && hyparview_neighbor(NULL, 0, 0) == 0);
+    CHECK(hyparview_spare_addresses(NULL, 0) == 0);
+    struct hyparview_reading r = hyparview_read(NULL, 0);
+    struct hyparview_node_reading n = hyparview_node(NULL, 0, 0);
+    CHECK(!r.ok && r.header.size == 0 && !n.ok && n.node.id == 0);
+}
+
+int main(int argc, char **argv)
+{
+    if (argc != 2) {
+        fprintf(stderr, "usage: calls FILE\n");
+        return 1;
+    }
+    own_data(argv[1]);
+    settings();
+    lengths();
+    shortness();
+    nulls();
+    printf("calls: %ld checks: new with own data, settings, lengths, NULL, short outputs\n", checks);
+    return 0;
+}

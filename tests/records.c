@@ -1,0 +1,52 @@
+/* Records, sound and damaged, over the exported reader: each from standard input, with two bytes for its length in front,
+ * prints the line that tools/record_vectors.py says (crates/record_test/stdin, crates/record_test/stdout). The code is that
+ * of the record as the first event of a station. It stops with 1 where there is no record. */
+#include "hyparview.h"
+
+#include <stdio.h>
+
+static uint8_t record[65536], out[HYPARVIEW_OUTPUT];
+static uint64_t state[HYPARVIEW_WORDS];
+static struct hyparview_tally tally;
+static const uint32_t draws[HYPARVIEW_DRAWS];
+static const struct hyparview_config config = HYPARVIEW_DEFAULTS;
+
+static void print_node(size_t len, size_t i)
+{
+    struct hyparview_node_reading n = hyparview_node(record, len, i);
+    if (!n.ok) {
+        printf(" no node");
+        return;
+    }
+    printf(" node %u %u %u", n.node.id, n.node.present, n.node.len);
+    for (size_t k = 0; k < n.node.len; k++)
+        printf(" %u", record[n.node.offset + k]);
+}
+
+int main(void)
+{
+    long records = 0;
+    int low, high;
+    while ((low = getchar()) != EOF && (high = getchar()) != EOF) {
+        size_t len = (size_t)(low | high << 8);
+        if (fread(record, 1, len, stdin) != len)
+            return 1;
+        struct hyparview_reading r = hyparview_read(record, len);
+        const struct hyparview_header *h = &r.header;
+        if (r.ok)
+            printf("record %u %u %u %u %u %u %u %u %llu", h->kind, h->message, h->flags, h->nodes, h->peer, h->second,
+                   h->ttl, h->size, (unsigned long long)h->number);
+        else
+            printf("malformed");
+        for (size_t i = 0; i < h->nodes; i++)
+            print_node(len, i);
+        if (hyparview_node(record, len, h->nodes).ok)
+            printf(" a node too many");
+        if (hyparview_new(state, HYPARVIEW_WORDS, &tally, 1000, 0, NULL, 0, config) != HYPARVIEW_ACCEPTED)
+            return 1;
+        printf(" code %u\n", hyparview_handle(state, HYPARVIEW_WORDS, &tally, record, len, draws, HYPARVIEW_DRAWS, out,
+                                              sizeof out).code);
+        records++;
+    }
+    return records == 0;
+}
