@@ -1,4 +1,5 @@
 """What the tools have in common: help on standard output, and one clear line where something is missing."""
+import argparse
 import subprocess
 import sys
 from pathlib import Path
@@ -12,12 +13,28 @@ def fail(text):
     sys.exit(f"{Path(sys.argv[0]).name}: {text}")
 
 
+def misused(what):
+    """Ends the tool where its words are not understood."""
+    fail(f"{what}; tools/{Path(sys.argv[0]).name} --help tells the usage")
+
+
 def usage(text):
-    """Ends the tool with its help: on standard output where it was asked for, otherwise as an error."""
+    """Ends the tool with its help on standard output where that was asked for, otherwise with one line."""
     if {"-h", "--help"} & set(sys.argv[1:]):
         print(text.strip())
         sys.exit(0)
-    sys.exit(text.strip())
+    words = " ".join(sys.argv[1:])
+    misused(f"not understood: {words}" if words else "words are missing")
+
+
+class Words(argparse.ArgumentParser):
+    """The words of a tool that has many: its text is the help, and an error is one line."""
+
+    def __init__(self, text):
+        super().__init__(description=text, formatter_class=argparse.RawDescriptionHelpFormatter)
+
+    def error(self, message):
+        misused(message)
 
 
 def reason(wrong):
@@ -43,6 +60,14 @@ def run(command, **given):
     if done.returncode != 0:
         fail(f"{command[0]} ended with status {done.returncode}")
     return done.stdout
+
+
+def papers():
+    """The folder of the Rust, or the line that says why there is none."""
+    done = subprocess.run([ROOT / "tools" / "papers"], capture_output=True, text=True)
+    if done.returncode != 0:
+        fail(done.stderr.strip())
+    return done.stdout.strip()
 
 
 def oracle(*words, **given):

@@ -348,23 +348,12 @@ pub fn clear_data(m: &mut [u64], cap: usize)
     section::clear_from(m, 0);
 }
 
-// What one more than the greatest number of k bytes is.
-const POWERS: [u64; 8] = [
-    1,
-    256,
-    65536,
-    16777216,
-    4294967296,
-    1099511627776,
-    281474976710656,
-    72057594037927936,
-];
-
+// One more than the greatest number of k bytes.
 fn power(k: usize) -> u64
     requires { ⌜ k < 8 ⌝ }
     ensures { λ r. ⌜ r ≡ 256 ^ k ⌝ }
 {
-    POWERS[k]
+    1u64 << (8 * k)
 }
 
 // Whether this is an entry, of any words: the bytes past the length are zero.

@@ -1,26 +1,28 @@
 -- Words below a bound: what the loops carry, and what the maps' tests say.
 -- Assumes nothing.
-use Prim.Native.Nat.{ℕ, suc, _+_, _-_, _≤_, _<_}
+use Prim.Native.Nat.{ℕ, zero, suc, _+_, _-_, _≤_, _<_}
 use mathlib.Core.Path.{_≡_, refl, sym, ap, _∙_}
 use mathlib.Core.Bool.{Bool, true, _&&_, _||_, and-true, and-assoc}
 use mathlib.Core.List.{List, [], _∷_}
 use native.Mathlib.Omega.{arith}
 use lib.ListN.{length, take, drop, getD}
-use lib.Seq.{take-take}
+use lib.Seq.{take-take, getD-take}
 use lib.Dec.{leb, ltb, eqb}
 use lib.Bits.{bitOr, or-lt, or-add-and, and-le-l, and-le-r}
 use borrow.Author.Tests.{lt-ltb, le-ltb, ltb-true, ltb-false, eq-eqb}
-use Rattle.lists.specs.Lists.{subset, disjoint}
+use Rattle.lists.specs.Lists.{Above, Rising, subset, disjoint}
 use Rattle.lists.specs.Maps.{keys, values}
 use Rattle.lists.specs.Tests.{packed}
-use Rattle.lists.proofs.Choice.{split}
-use Rattle.lists.proofs.Tests.{both-true}
+use Rattle.lists.proofs.Choice.{split, and-left}
+use Rattle.lists.proofs.Maps.{length-keys}
+use Rattle.lists.proofs.Tests.{both-true, and-no}
 use Rattle.lists.proofs.Entries.{entries-values}
 use Rattle.scan.proofs.Loops.{Left, left-start, left-next, left-end}
 use Rattle.section.specs.Section.{part, items-at, ValidSet, valid-set}
 use Rattle.section.proofs.Sets.{lent}
-use Rattle.columns.specs.Columns.{word-bytes, row, numbers-at, ValidNumbers, valid-numbers, valid-data-words}
+use Rattle.columns.specs.Columns.{word-bytes, row, numbers-at, ValidNumbers, valid-numbers, head-of, count-of, data-at, ValidDataWords, valid-data-words}
 use Rattle.columns.proofs.Numbers.{number-entries, number-keys}
+use Rattle.columns.proofs.Data.{data-keys}
 use Rattle.peer.specs.Held.{zero-byte, valid-data}
 use Rattle.peer.specs.Maps.{numbers-under, valid-entry}
 use Rattle.peer.proofs.Maps.{itself, Any, map-itself}
@@ -78,6 +80,33 @@ module _ (s : List ℕ) (whole : Bool) (bits i : ℕ) (v : Left Narrow s whole b
 
 -- ---- the tests of a map
 
+-- of a list that rises the last decides
+under-last : (e : ℕ) (xs : List ℕ) (i : ℕ) → Rising xs → i + 1 ≡ length xs → ltb (getD xs i 0) e ≡ all-under e xs
+unfolding Rising Above all-under
+under-last e [] i r h = absurd (omega arith)
+under-last e (x ∷ []) zero r h = sym (and-true (ltb x e))
+under-last e (x ∷ []) (suc i) r h = absurd (omega arith)
+under-last e (x ∷ y ∷ ys) zero r h = absurd (omega arith)
+under-last e (x ∷ y ∷ ys) (suc i) r h =
+    let t = under-last e (y ∷ ys) i (r .1) (omega arith) in
+    let u : Bool = all-under e (y ∷ ys) in
+    split u
+    (λ a. t ∙ sym (ap (λ (b : Bool). b && u) (lt-ltb x e (omega (arith, r .0 .0, ltb-true y e (and-left (ltb y e) _ a))))))
+    (λ a. t ∙ a ∙ sym (ap (λ (b : Bool). ltb x e && b) a ∙ and-no (ltb x e)))
+
+module _ (n : ℕ) (m : List ℕ) (v : ValidDataWords n m) where
+  pub no-data-under : (e : ℕ) → count-of n m ≡ 0 → true ≡ all-under e (keys (data-at n m))
+  unfolding all-under
+  no-data-under e z = ap (all-under e) (sym (data-keys n m v ∙ ap (λ (k : ℕ). take k (head-of n m)) z))
+
+  pub data-last : (e : ℕ) → (count-of n m ≡ 0 → ⊥) → ltb (getD m (count-of n m - 1) 0) e ≡ all-under e (keys (data-at n m))
+  unfolding part head-of
+  data-last e h =
+      let i : ℕ = count-of n m - 1 in
+      let g : getD (keys (data-at n m)) i 0 ≡ getD m i 0 =
+      ap (λ (l : List ℕ). getD l i 0) (data-keys n m v) ∙ getD-take (count-of n m) (head-of n m) i 0 (omega arith) ∙ getD-take (n + n) m i 0 (omega (arith, v .fits)) in
+      ap (λ (x : ℕ). ltb x e) (sym g) ∙ under-last e (keys (data-at n m)) i (v .rises) (omega (arith, length-keys (data-at n m), v .counted))
+
 pub numbers-are : (n : ℕ) (m : List (ℕ × ℕ)) → numbers-under n m ≡ all-under n (values m)
 unfolding numbers-under all-under values
 numbers-are n [] = refl
@@ -100,6 +129,15 @@ module _ (n : ℕ) (m : List ℕ) (v : ValidNumbers n m) where
 
   pub peers-counted : getD m (n + n) 0 ≡ length (take (getD m (n + n) 0) m)
   peers-counted = sym (lib.Seq.length-take-le (getD m (n + n) 0) m (omega (arith, v .fits, v .long)))
+
+  module _ (k : ℕ) (s : List ℕ) where
+    pub none-within : getD m (n + n) 0 ≡ 0 → true ≡ subset (keys (numbers-at n m)) (items-at k s)
+    unfolding subset
+    none-within z = ap (λ (l : List ℕ). subset l (items-at k s)) (sym (ap (λ (j : ℕ). take j m) z) ∙ peers-lent)
+
+    pub none-apart : getD m (n + n) 0 ≡ 0 → true ≡ disjoint (keys (numbers-at n m)) (items-at k s)
+    unfolding disjoint
+    none-apart z = ap (λ (l : List ℕ). disjoint l (items-at k s)) (sym (ap (λ (j : ℕ). take j m) z) ∙ peers-lent)
 
   module _ (k : ℕ) (s : List ℕ) (w : ValidSet k s) (r : Bool) where
     pub within-lent : r ≡ subset (take (getD m (n + n) 0) m) (take (getD s k 0) s) → r ≡ subset (keys (numbers-at n m)) (items-at k s)

@@ -15,10 +15,10 @@ use Rattle.lists.specs.Maps.{keys, values}
 use Rattle.lists.proofs.Choice.{by-choice, and-left, and-right}
 use Rattle.lists.proofs.Maps.{length-keys}
 use Rattle.lists.proofs.Tests.{both-true, and-no}
-use Rattle.lists.proofs.Entries.{entries-keys, entries-values}
+use Rattle.lists.proofs.Entries.{entries-values}
 use Rattle.section.specs.Section.{part, items-at, ValidSet, section}
 use Rattle.section.proofs.Sets.{set-words}
-use Rattle.columns.specs.Columns.{word-bytes, rows, head-of, count-of, entries-at, numbers-at, ValidNumbers, data-at, ValidDataWords}
+use Rattle.columns.specs.Columns.{word-bytes, rows, count-of, entries-at, numbers-at, ValidNumbers, data-at, ValidDataWords}
 use Rattle.columns.proofs.Numbers.{number-entries, number-keys}
 use Rattle.columns.proofs.Data.{data-entries}
 use Rattle.peer.specs.Data.{Data, bytes-of}
@@ -79,16 +79,6 @@ module _ (xs : List ℕ) where
       let m : List ℕ = part a (k + k + 1) xs in
       let p : part a k xs ≡ pad 0 k (keys (numbers-at k m)) = sym (take-take k (k + k + 1) (drop a xs) (omega arith)) ∙ number-entries k m v .keyed ∙ ap (pad 0 k) (sym (number-keys k m v)) in
       ap (all-under peers-end) p ∙ under-pad peers-end k (keys (numbers-at k m)) (omega arith) (omega (arith, length-keys (numbers-at k m), v .counted, v .fits))
-
-  data-under : (a k : ℕ) → ValidDataWords k (part a (k + k + (k + k) + 1) xs) → all-under peers-end (part a k xs) ≡ all-under peers-end (keys (data-at k (part a (k + k + (k + k) + 1) xs)))
-  unfolding part head-of
-  data-under a k v =
-      let m : List ℕ = part a (k + k + (k + k) + 1) xs in
-      let e = data-entries k m v in
-      let p : part a k xs ≡ pad 0 k (keys (data-at k m)) =
-      sym (take-take k (k + k) (part a (k + k + (k + k) + 1) xs) (omega arith) ∙ take-take k (k + k + (k + k) + 1) (drop a xs) (omega arith)) ∙ e .keyed
-      ∙ ap (pad 0 k) (sym (entries-keys no-data k entry-bytes ValidEntry _ _ _ _ e)) in
-      ap (all-under peers-end) p ∙ under-pad peers-end k (keys (data-at k m)) (omega arith) (omega (arith, length-keys (data-at k m), v .counted, v .fits))
 
   module _ (v : Shape xs) where
     abbrev under : List ℕ → Bool
@@ -160,7 +150,7 @@ reordered true true true false f true true true true true z = refl
 reordered true true true true false true true true true true z = refl
 reordered true true true true true true true true true true z = refl
 
-pub width-is : (xs : List ℕ) → packed-ok xs ≡ true → (a b c : Bool) → a ≡ all-under peers-end (part 22 140 xs) → b ≡ all-under peers-end (part 195 26 xs) → c ≡ all-under peers-end (part 230 80 xs)
+pub width-is : (xs : List ℕ) → packed-ok xs ≡ true → (a b c : Bool) → a ≡ all-under peers-end (part 22 140 xs) → b ≡ all-under peers-end (part 195 26 xs) → c ≡ all-under peers-end (keys (data-at 80 (layout.peer-data-part xs)))
     → (ltb (layout.me xs) peers-end && (a && (b && (c && (leb (layout.passes-alone xs) top-passes && leb (layout.passes-short xs) top-passes))))) ≡ width-rule (unpack xs)
 unfolding width-rule unpack station-of lists-under all-under
 width-is xs e a b c p q r =
@@ -171,6 +161,6 @@ width-is xs e a b c p q r =
     let z : Bool = leb (layout.passes-alone xs) top-passes && leb (layout.passes-short xs) top-passes in
     let nr : leb (layout.next-neighbor-request xs) top-counter ≡ true = le-leb (layout.next-neighbor-request xs) top-counter (omega (arith, under-at words-end xs (omega arith) (v .wide) 18)) in
     let nj : leb (layout.next-join xs) top-counter ≡ true = le-leb (layout.next-join xs) top-counter (omega (arith, under-at words-end xs (omega arith) (v .wide) 19)) in
-    (λ i. m && ((p ∙ first-part xs v) i && ((q ∙ second-part xs v) i && ((r ∙ data-under xs 230 80 (v .peer-data)) i && z))))
+    (λ i. m && ((p ∙ first-part xs v) i && ((q ∙ second-part xs v) i && (r i && z))))
     ∙ reordered m (u (g .active)) (u (g .passive)) (u (g .alive)) (u (g .refused)) (u (keys (g .requests))) (u (g .bootstrap)) (u (g .recent)) (u (keys (g .joins))) (u (keys (g .peer-data))) z
     ∙ (λ i. lists-under peers-end (peer-lists (unpack xs)) && (sym (bytes-under xs v) i && (sym nr i && (sym nj i && z))))

@@ -10,18 +10,16 @@ ghost use Rattle.timing.specs.Timing.{within};
 ghost use Rattle.peer.specs.Held.{valid-data};
 ghost use Rattle.peer.specs.Maps.{numbers-under};
 ghost use Rattle.section.specs.Section.{items-at, ValidSet};
-ghost use Rattle.columns.specs.Columns.{numbers-at, ValidNumbers};
+ghost use Rattle.columns.specs.Columns.{numbers-at, ValidNumbers, data-at, ValidDataWords};
 ghost use Rattle.protocol.specs.Rules.{all-under, settings-rule, repeats-rule, order-rule, capacity-rule, views-rule, alive-rule};
 ghost use Rattle.protocol.specs.Rules.{joins-rule, numbers-rule, self-rule, limit-rule, interval-rule, width-rule, station-ok};
 ghost use Rattle.words.specs.Unpack.{unpack, own-at};
 ghost use Rattle.rules_words.specs.Ok.{formed, sections-ok, packed-ok, state-ok};
 
-// Where the peers of the requests, of the joins and of the data end.
+// Where the peers of the requests and of the joins end.
 const REQUESTS_PEERS_END: usize = Layout::REQUESTS + Layout::ALL;
 
 const JOINS_PEERS_END: usize = Layout::JOINS + Layout::FEW;
-
-const DATA_PEERS_END: usize = Layout::DATA + Layout::DATA_CAP;
 
 // One more than the greatest peer, and the greatest pass count.
 const PEERS_END: u64 = 4294967296;
@@ -66,6 +64,9 @@ fn peers_within(m: &[u64], cap: usize, s: &[u64], scap: usize) -> bool
 {
     let end = cap + cap;
     let n = m[end] as usize;
+    if n == 0 {
+        return true;
+    }
     let k = s[scap] as usize;
     scan::subset(&m[..n], &s[..k])
 }
@@ -78,8 +79,25 @@ fn peers_apart(m: &[u64], cap: usize, s: &[u64], scap: usize) -> bool
 {
     let end = cap + cap;
     let n = m[end] as usize;
+    if n == 0 {
+        return true;
+    }
     let k = s[scap] as usize;
     scan::disjoint(&m[..n], &s[..k])
+}
+
+// Whether every peer that has data has 32 bits: they rise, so the last one decides.
+fn data_narrow(m: &[u64], cap: usize) -> bool
+    requires { ⌜ ValidDataWords cap (now m) ⌝ }
+    ensures { λ r. ⌜ r ≡ all-under 4294967296 (keys (data-at cap (now (m .entry)))) ⌝ }
+{
+    let half = cap + cap;
+    let end = half + half;
+    let n = m[end] as usize;
+    if n == 0 {
+        return true;
+    }
+    m[n - 1] < PEERS_END
 }
 
 // Whether every number of the map is below `end`.
@@ -332,7 +350,7 @@ fn width_rule(st: &[u64]) -> bool
     (st[Layout::ME] < PEERS_END)
         & (is_narrow(&st[Layout::ACTIVE..REQUESTS_PEERS_END])
             & (is_narrow(&st[Layout::BOOTSTRAP..JOINS_PEERS_END])
-                & (is_narrow(&st[Layout::DATA..DATA_PEERS_END])
+                & (data_narrow(&st[Layout::DATA..Layout::DATA_END], Layout::DATA_CAP)
                     & ((st[Layout::PASSES_ALONE] <= TOP_PASSES)
                         & (st[Layout::PASSES_SHORT] <= TOP_PASSES)))))
 }

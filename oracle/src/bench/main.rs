@@ -3,6 +3,7 @@
 //! usage: bench [SEEDS] [EVENTS] [ROUNDS]
 
 mod ours;
+mod stack;
 
 use std::{
     collections::BTreeMap,
@@ -22,6 +23,7 @@ use oracle::{
 };
 
 use ours::Ours;
+use stack::Stack;
 
 const COVERS: &str = "\
 handle: the Rust's handle alone, on an event already read; what it hands out is dropped
@@ -47,7 +49,7 @@ fn calls(input: &Input) -> Vec<Call<'_>> {
     let mut out = [0; ROOM];
     let mut draws = &input.draws[..];
     for event in &input.events {
-        let before = station;
+        let before = station.clone();
         let (code, drawn) = station.handle(event, draws, &mut out);
         if code == 0 {
             calls.push(Call {
@@ -67,7 +69,7 @@ fn assert_same(cases: &[Case], calls: &[Call]) {
     let Some((case, call)) = cases.first().zip(calls.first()) else {
         return;
     };
-    let (mut state, mut station) = (case.before.clone(), call.before);
+    let (mut state, mut station) = (case.before.clone(), call.before.clone());
     let mut book = Book::new(&state);
     let (mut rust_out, mut out) = ([1; ROOM], [2; ROOM]);
     for (case, call) in cases.iter().zip(calls) {
@@ -81,7 +83,7 @@ fn assert_same(cases: &[Case], calls: &[Call]) {
 
 /// The time of each call of the library on its own copy of its state.
 fn ours_on_copies(calls: &[&Call]) -> Duration {
-    let mut copies: Vec<_> = calls.iter().map(|call| call.before).collect();
+    let mut copies: Vec<_> = calls.iter().map(|call| call.before.clone()).collect();
     let mut out = vec![0; ROOM];
     let start = Instant::now();
     for (call, copy) in calls.iter().zip(&mut copies) {
@@ -97,7 +99,7 @@ fn ours_in_a_row(calls: &[Call]) -> Duration {
     let Some(first) = calls.first() else {
         return Duration::ZERO;
     };
-    let mut station = first.before;
+    let mut station = first.before.clone();
     let mut out = [0; ROOM];
     let start = Instant::now();
     for call in calls {
@@ -154,7 +156,7 @@ fn parts(rounds: usize, calls: &[&Call]) {
     let malformed = [0; 24];
     let refused = |room: usize| {
         each(rounds, calls, |call| {
-            let mut copy = call.before;
+            let mut copy = call.before.clone();
             let mut out = [0; ROOM];
             black_box(copy.handle(&malformed[..23], &[], &mut out[..room]));
         })
@@ -170,11 +172,45 @@ fn parts(rounds: usize, calls: &[&Call]) {
     println!("a refused call without room {none} ns, with {ROOM} bytes to clear {all} ns");
 }
 
+/// The most bytes of stack that a call takes, of every event of the histories, refused ones too.
+fn deepest(inputs: &[Input]) -> (usize, usize) {
+    let mut stack = Stack::new();
+    let mut out = [0; ROOM];
+    let (mut most, mut count) = (0, 0);
+    let none = stack.touched(&mut || ());
+    for input in inputs {
+        let Some(mut station) = Ours::new(input) else {
+            continue;
+        };
+        let mut draws = &input.draws[..];
+        for event in &input.events {
+            let mut drawn = 0;
+            let touched = stack.touched(&mut || drawn = station.handle(event, draws, &mut out).1);
+            draws = &draws[drawn..];
+            most = most.max(touched - none);
+            count += 1;
+        }
+    }
+    (most, count)
+}
+
+/// The fastest round of each piece of work. They take turns, so that what else the machine does falls
+/// on all of them.
+fn in_turn(rounds: usize, works: [&dyn Fn() -> Duration; 3]) -> [u128; 3] {
+    let mut least = [Duration::MAX; 3];
+    for _ in 0..rounds {
+        for (least, work) in least.iter_mut().zip(works) {
+            *least = work().min(*least);
+        }
+    }
+    least.map(|time| time.as_nanos())
+}
+
 /// A line of the table: nanoseconds an event, and ours beside each of the Rust's.
-fn line(name: &str, count: usize, handle: u128, whole: u128, ours: u128) {
-    let ratio = |rust: u128| ours as f64 / rust as f64;
-    let (to_handle, to_whole) = (ratio(handle), ratio(whole));
-    let [handle, whole, ours] = [handle, whole, ours].map(|time| time / count as u128);
+fn line(name: &str, count: usize, times: [u128; 3]) {
+    let ratio = |rust: u128| times[2] as f64 / rust as f64;
+    let (to_handle, to_whole) = (ratio(times[0]), ratio(times[1]));
+    let [handle, whole, ours] = times.map(|time| time / count as u128);
     println!("{name:24} {count:6} {handle:8} {whole:8} {ours:8} {to_handle:12.2} {to_whole:11.2}");
 }
 
@@ -231,23 +267,29 @@ fn main() {
         "event, ns", "cases", "handle", "whole", "ours", "ours/handle", "ours/whole"
     );
     for (name, (cases, calls)) in &kinds {
-        let handle = fastest(rounds, || on_copies(cases));
-        let whole = fastest(rounds, || whole_on_copies(cases));
-        let ours = fastest(rounds, || ours_on_copies(calls));
-        line(name, cases.len(), handle, whole, ours);
+        let times = in_turn(
+            rounds,
+            [&|| on_copies(cases), &|| whole_on_copies(cases), &|| {
+                ours_on_copies(calls)
+            }],
+        );
+        line(name, cases.len(), times);
     }
-    let count = rust.iter().map(Vec::len).sum();
-    let sum = |time: &dyn Fn(&[Case]) -> Duration| {
-        rust.iter()
-            .map(|cases| fastest(rounds, || time(cases)))
-            .sum()
-    };
-    let (handle, whole) = (sum(&in_a_row), sum(&whole_in_a_row));
-    let ours_sum = ours
-        .iter()
-        .map(|calls| fastest(rounds, || ours_in_a_row(calls)))
-        .sum();
-    line("all, in a row", count, handle, whole, ours_sum);
+    let mut sum = [0; 3];
+    for (cases, calls) in rust.iter().zip(&ours) {
+        let times = in_turn(
+            rounds,
+            [&|| in_a_row(cases), &|| whole_in_a_row(cases), &|| {
+                ours_in_a_row(calls)
+            }],
+        );
+        for (sum, time) in sum.iter_mut().zip(times) {
+            *sum += time;
+        }
+    }
+    line("all, in a row", rust.iter().map(Vec::len).sum(), sum);
     let all: Vec<&Call> = ours.iter().flatten().collect();
     parts(rounds, &all);
+    let (most, count) = deepest(&inputs);
+    println!("stack of a call, painted: {most} bytes at the most of {count} calls");
 }

@@ -5,18 +5,22 @@ use oracle::input::Input;
 #[path = "../../../examples/rust/hyparview.rs"]
 mod hyparview;
 
-use hyparview::{Config, Controller};
+use hyparview::{Config, Station};
 
 /// A station of the library, with its tally.
-#[derive(Clone, Copy)]
-pub struct Ours(Controller);
+pub struct Ours(Station);
+
+impl Clone for Ours {
+    fn clone(&self) -> Self {
+        let Station { words, tally } = self.0;
+        Self(Station { words, tally })
+    }
+}
 
 impl Ours {
     /// A new station without own data; `None` where it is refused.
     pub fn new(input: &Input) -> Option<Self> {
-        let mut controller = Controller::zeroed();
-        let code = controller.make(input.me, None, config(input));
-        (code == 0).then_some(Self(controller))
+        Station::new(input.me, None, config(input)).ok().map(Self)
     }
 
     /// One event: the code and the draws used.

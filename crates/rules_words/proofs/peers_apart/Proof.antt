@@ -1,5 +1,5 @@
 use Rattle.section.proofs.Sets.{lent-long}
-use Rattle.rules_words.proofs.Under.{peers-counted, apart-lent}
+use Rattle.rules_words.proofs.Under.{peers-counted, none-apart, apart-lent}
 use borrow.Author.Needs.{needs}
 use Rattle.rules_words.proofs.peers_apart.Statement.{statement}
 use Rattle.rules_words.proofs.peers_apart.Tie as tie
@@ -12,6 +12,9 @@ mul-n c = search needs
 
 shared-slice-read-n : tie.Need-shared-slice-read-n
 shared-slice-read-n c = search needs
+
+returns : tie.Need-returns
+returns c = search none-apart
 
 mul-k : tie.Need-mul-k
 mul-k c = search needs
@@ -28,8 +31,8 @@ slice-aggregate-disjoint-2 c = search lent-long
 disjoint-requires : tie.Need-disjoint-requires
 disjoint-requires c κs = search needs
 
-returns : tie.Need-returns
-returns c = search apart-lent
+returns-2 : tie.Need-returns-2
+returns-2 c = search apart-lent
 
 pub peers-apart-spec : {M : Type 1} → statement M
 peers-apart-spec =
@@ -38,9 +41,10 @@ peers-apart-spec =
     add-end
     mul-n
     shared-slice-read-n
+    returns
     mul-k
     shared-slice-read-k
     slice-aggregate-disjoint
     slice-aggregate-disjoint-2
     disjoint-requires
-    returns)
+    returns-2)

@@ -1,5 +1,5 @@
 use Rattle.section.proofs.Sets.{lent-long}
-use Rattle.rules_words.proofs.Under.{peers-counted, within-lent}
+use Rattle.rules_words.proofs.Under.{peers-counted, none-within, within-lent}
 use borrow.Author.Needs.{needs}
 use Rattle.rules_words.proofs.peers_within.Statement.{statement}
 use Rattle.rules_words.proofs.peers_within.Tie as tie
@@ -12,6 +12,9 @@ mul-n c = search needs
 
 shared-slice-read-n : tie.Need-shared-slice-read-n
 shared-slice-read-n c = search needs
+
+returns : tie.Need-returns
+returns c = search none-within
 
 mul-k : tie.Need-mul-k
 mul-k c = search needs
@@ -28,8 +31,8 @@ slice-aggregate-subset-2 c = search lent-long
 subset-requires : tie.Need-subset-requires
 subset-requires c κs = search needs
 
-returns : tie.Need-returns
-returns c = search within-lent
+returns-2 : tie.Need-returns-2
+returns-2 c = search within-lent
 
 pub peers-within-spec : {M : Type 1} → statement M
 peers-within-spec =
@@ -38,9 +41,10 @@ peers-within-spec =
     add-end
     mul-n
     shared-slice-read-n
+    returns
     mul-k
     shared-slice-read-k
     slice-aggregate-subset
     slice-aggregate-subset-2
     subset-requires
-    returns)
+    returns-2)

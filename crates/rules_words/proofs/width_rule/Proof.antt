@@ -1,4 +1,5 @@
 use Rattle.section.specs.Section.{part}
+use Rattle.rules_words.proofs.Shape.{of-ok}
 use Rattle.rules_words.proofs.Widths.{width-is}
 use borrow.Author.Needs.{needs}
 use Rattle.rules_words.proofs.width_rule.Statement.{statement}
@@ -31,17 +32,18 @@ part-is-narrow-end-2 c = search needs
 is-narrow-requires-2 : tie.Need-is-narrow-requires-2
 is-narrow-requires-2 c κs = search needs
 
-sub-is-narrow-3 : tie.Need-sub-is-narrow-3
-sub-is-narrow-3 c = search needs
+sub-data-narrow : tie.Need-sub-data-narrow
+sub-data-narrow c = search needs
 
-part-is-narrow-start-3 : tie.Need-part-is-narrow-start-3
-part-is-narrow-start-3 c = search needs
+part-data-narrow-start : tie.Need-part-data-narrow-start
+part-data-narrow-start c = search needs
 
-part-is-narrow-end-3 : tie.Need-part-is-narrow-end-3
-part-is-narrow-end-3 c = search needs
+part-data-narrow-end : tie.Need-part-data-narrow-end
+part-data-narrow-end c = search needs
 
-is-narrow-requires-3 : tie.Need-is-narrow-requires-3
-is-narrow-requires-3 c κs = search needs
+data-narrow-requires : tie.Need-data-narrow-requires
+unfolding part
+data-narrow-requires c κs = search (of-ok, needs)
 
 shared-slice-read-result-2 : tie.Need-shared-slice-read-result-2
 shared-slice-read-result-2 c = search needs
@@ -66,10 +68,10 @@ width-rule-spec =
     part-is-narrow-start-2
     part-is-narrow-end-2
     is-narrow-requires-2
-    sub-is-narrow-3
-    part-is-narrow-start-3
-    part-is-narrow-end-3
-    is-narrow-requires-3
+    sub-data-narrow
+    part-data-narrow-start
+    part-data-narrow-end
+    data-narrow-requires
     shared-slice-read-result-2
     shared-slice-read-result-3
     returns)
