@@ -7,9 +7,9 @@ use native.Mathlib.Omega.{arith}
 use lib.ListN.{length, take, drop, length-drop}
 use lib.Seq.{take-all}
 use lib.Dec.{eqb, ltb}
-use borrow.Author.Tests.{lt-ltb, le-ltb, eq-eqb, ne-eqb}
+use borrow.Author.Tests.{lt-ltb, le-ltb, ltb-true, ltb-false, eqb-true, eqb-false, eq-eqb, ne-eqb}
 use Rattle.lists.specs.Lists.{choose}
-use Rattle.lists.proofs.Choice.{by-choice, choose-yes, choose-no}
+use Rattle.lists.proofs.Choice.{by-choice, split, choose-yes, choose-no}
 use Rattle.record.specs.declared.Header.{Header}
 use Rattle.record.specs.Read.{header-of}
 use Rattle.text.specs.declared.Text.{Text}
@@ -49,6 +49,43 @@ none (suc k) b e = by-choice (λ (x : List Header). x ≡ []) (ltb (length b) 24
 one : (k : ℕ) (b : List ℕ) → 24 ≤ length b → (header-of b .size ≡ 0 → ⊥) → heads (suc k) b ≡ header-of b ∷ heads k (drop (header-of b .size) b)
 unfolding heads
 one k b h e = choose-no _ _ _ (le-ltb (length b) 24 h) ∙ choose-no _ _ _ (ne-eqb _ 0 e)
+
+-- any number that is not used up gives the same headers
+enough : (n m : ℕ) (b : List ℕ) → length b ≤ n → length b ≤ m → heads n b ≡ heads m b
+enough zero m b h k = few zero b (omega (arith, h)) ∙ sym (few m b (omega (arith, h)))
+enough (suc n) zero b h k = few (suc n) b (omega (arith, k)) ∙ sym (few zero b (omega (arith, k)))
+enough (suc n) (suc m) b h k =
+    split (ltb (length b) 24) (λ y. let l = ltb-true _ _ y in few (suc n) b l ∙ sym (few (suc m) b l))
+    (λ f. let l : 24 ≤ length b = ltb-false _ _ f in
+    split (eqb (header-of b .size) 0) (λ y. let e = eqb-true _ _ y in none (suc n) b e ∙ sym (none (suc m) b e))
+    (λ g. let e : header-of b .size ≡ 0 → ⊥ = eqb-false _ _ g in
+    one n b l e ∙ (ap (λ (hs : List Header). header-of b ∷ hs) (enough n m (drop (header-of b .size) b) (shorter n b l e h) (shorter m b l e k)) ∙ sym (one m b l e))))
+  where
+    shorter : (n : ℕ) (b : List ℕ) → 24 ≤ length b → (header-of b .size ≡ 0 → ⊥) → length b ≤ suc n → length (drop (header-of b .size) b) ≤ n
+    shorter n b l e h = simp length-drop (omega (arith, l, e, h))
+
+-- the lines of an event are its first record's, and those of the output behind that record
+module _ (i code draws : ℕ) (b : List ℕ) where
+  text-by : (hs : List Header) → heads (length b) b ≡ hs → event-text i code draws b ≡ record-lines i hs ++ end-line code draws
+  unfolding event-text
+  text-by hs e = ap (λ (x : List Header). record-lines i x ++ end-line code draws) e
+
+  pub text-few : length b < 24 → event-text i code draws b ≡ end-line code draws
+  unfolding record-lines
+  text-few h = text-by [] (few (length b) b h)
+
+  pub text-none : header-of b .size ≡ 0 → event-text i code draws b ≡ end-line code draws
+  unfolding record-lines
+  text-none e = text-by [] (none (length b) b e)
+
+  pub text-step : 24 ≤ length b → (header-of b .size ≡ 0 → ⊥) → event-text i code draws b ≡ record-line i (header-of b) ++ event-text i code draws (drop (header-of b .size) b)
+  unfolding record-lines event-text
+  text-step h e =
+      let n : length b ≡ suc (length b - 1) = omega (arith, h) in
+      let rest : List ℕ = drop (header-of b .size) b in
+      let less : length rest ≤ length b - 1 = simp length-drop (omega (arith, h, e)) in
+      text-by (header-of b ∷ heads (length rest) rest) (ap (λ (k : ℕ). heads k b) n ∙ (one (length b - 1) b h e ∙ ap (λ (hs : List Header). header-of b ∷ hs) (enough (length b - 1) (length rest) rest less (omega arith))))
+      ∙ append-assoc (record-line i (header-of b)) (record-lines i (heads (length rest) rest)) (end-line code draws)
 
 -- the lines of `rest` are to come, after what was written
 pub record Listing (i : ℕ) (whole : List ℕ) (t : Text) (out : List ℕ) (r : Text) (o : List ℕ) (rest : List ℕ) : Type 0 where

@@ -17,7 +17,7 @@ fn put_four(out: &mut [u8], t: Text, a: u64, b: u64, c: u64, d: u64, after: u8) 
 }
 
 // The line of one output record.
-fn put_record(out: &mut [u8], t: Text, i: u64, h: Header) -> Text
+pub fn put_record(out: &mut [u8], t: Text, i: u64, h: Header) -> Text
     ensures { λ r. ⌜ Puts (record-line i h) t (now (out .entry)) r (now (out .exit)) ⌝ }
 {
     let kind = h.kind as u64;

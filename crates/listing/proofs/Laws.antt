@@ -11,15 +11,16 @@ use Rattle.io.specs.Counts.{Counts}
 use lib.Dec.{leb, eqb}
 use borrow.Author.Tests.{le-leb, lt-leb, leb-true, ltb-true, ltb-false, eq-eqb, ne-eqb}
 use Rattle.lists.proofs.Choice.{split, choose-yes, choose-no}
-use Rattle.state.specs.declared.State.{State}
-use Rattle.hyparview.specs.Handled.{handled}
+use Rattle.hyparview_words.specs.declared.State.{State}
+use Rattle.hyparview_words.specs.Handled.{handled}
 use Rattle.text.specs.declared.Text.{Text}
 use Rattle.text.specs.Text.{Puts, Begins}
 use Rattle.text.proofs.Written.{begun, nothing, then, named}
 use Rattle.lists.specs.Bytes.{overwrite}
 use Rattle.protocol.specs.Handle.{new}
-use Rattle.rules.specs.declared.Made.{Made}
-use Rattle.rules.specs.Made.{lent, pack-made}
+use Rattle.hyparview_words.specs.declared.Made.{Made}
+use Rattle.queries_words.specs.Made as packed
+use Rattle.queries_words.specs.Made.{lent, pack-made}
 use Rattle.input.specs.declared.Layout.{Layout}
 use Rattle.input.specs.declared.Input.{Input}
 use Rattle.input.specs.declared.Input.the-variants.{Refused, Whole}
@@ -27,8 +28,8 @@ use Rattle.input.specs.Input.{numbers, event-length, cut-events, input-of}
 use Rattle.input.proofs.Laws.{Laid, laid}
 use Rattle.runner.specs.declared.Runner.{Runner}
 use Rattle.runner.specs.declared.Ran.{Ran}
-use Rattle.runner.specs.Place.{Inside, Runs, met}
-use Rattle.runner.proofs.Laws.{next-state, next-at, next-left, next-events}
+use Rattle.runner.specs.Place.{Runs, met, passed}
+use Rattle.runner.proofs.Laws.{next-words, next-left, next-events}
 use Rattle.runner.proofs.Draws.{counted, first-draws, part-is}
 use Rattle.runner.proofs.Fresh.{made-bare}
 use Rattle.lines.specs.Lines.{end-line, event-text}
@@ -38,32 +39,23 @@ use Rattle.listing.specs.declared.Opened.the-variants.{Line, Events}
 use Rattle.listing.specs.declared.Shown.{Shown}
 use Rattle.listing.specs.declared.Shown.the-variants.{Bytes, TooShort}
 use Rattle.listing.specs.Run.{outcome-text, events-text, laid-text, made-text, input-text, run-text}
-use Rattle.listing.specs.Place.{Steps, Fills, fitting, Answers}
+use Rattle.listing.specs.Place.{Steps, fitting, Answers}
 use Rattle.listing.specs.Opened.{first-place, opened-layout, opened-input, opened, opened-text, rest-text}
 
 -- ---- one event
 
 -- the walk's step, and the lines of its event
-module _ (room : ℕ) (p : Runner) (events draws : List ℕ) (a : Ran) (recs : List ℕ) (h : Runs room p events draws a recs) where
-  pub stepped : (i : ℕ) (t : Text) (out : List ℕ) (r : Text) (o : List ℕ) → Puts (event-text i (a .code) (a .draws) recs) t out r o
-      → Steps room p i events draws t out (record { runner = a .runner; text = r }) o
-  unfolding outcome-text
-  stepped i t out r o k = record {
-    inside = h .inside;
-    state = next-state room p events draws (a .runner) (h .runner);
-    at = next-at room p events draws (a .runner) (h .runner);
-    left = next-left room p events draws (a .runner) (h .runner);
-    text = named (λ j. event-text i (h .code j) (h .draws j) (h .output j)) k;
-  }
-
-  pub filled : length recs ≡ room → Fills room p events draws
-  filled k = record { fills = ap length (sym (h .output)) ∙ k }
+pub stepped : (room : ℕ) (p : Runner) (events draws : List ℕ) (a : Ran) (recs : List ℕ) → Runs room p events draws a recs
+    → (i : ℕ) (t : Text) (out : List ℕ) (r : Text) (o : List ℕ) → Puts (event-text i (a .code) (a .draws) recs) t out r o
+    → Steps room p i events draws t out (record { runner = a .runner; text = r }) recs o
+unfolding outcome-text
+stepped room p events draws a recs h i t out r o k =
+    record { runner = h .runner; output = h .output; text = named (λ j. event-text i (h .code j) (h .draws j) (h .output j)) k }
 
 -- ---- the events in order
 
 pub record Running (room : ℕ) (whole events draws : List ℕ) (n : ℕ) (t : Text) (out recs : List ℕ) (p : Runner) (r : Text) (o : List ℕ) (i : ℕ) : Type 0 where
   pub low : i ≤ n
-  pub inside : Inside p events draws
   pub len : length o ≡ length out
   pub records : length recs ≡ room
   pub done : List ℕ
@@ -71,55 +63,54 @@ pub record Running (room : ℕ) (whole events draws : List ℕ) (n : ℕ) (t : T
   pub same : whole ≡ done ++ rest-text room p i n events draws
 
 pub running-start : (s : State) (events draws : List ℕ) (n : ℕ) (t : Text) (out recs : List ℕ)
-    → Running (length recs) (events-text (length recs) 0 s (cut-events n events) draws) events draws n t out recs (record { state = s; at = 0; used = 0 }) t out 0
+    → Running (length recs) (events-text (length recs) 0 (s .words) (cut-events n events) draws) events draws n t out recs (record { state = s; at = 0; used = 0 }) t out 0
 unfolding rest-text
 running-start s events draws n t out recs = record {
   low = omega arith;
-  inside = record { at = omega arith; used = omega arith };
   len = refl;
   records = refl;
   done = [];
   so-far = nothing;
-  same = let e : n ≡ n - 0 = omega arith in ap (λ (x : ℕ). events-text (length recs) 0 s (cut-events x events) draws) e;
+  same = let e : n ≡ n - 0 = omega arith in ap (λ (x : ℕ). events-text (length recs) 0 (s .words) (cut-events x events) draws) e;
 }
 
-one-event : (room i k : ℕ) (s : State) (l ds : List ℕ) → events-text room i s (cut-events (suc k) l) ds
-    ≡ outcome-text i (handled s (take (event-length l) l) ds room) ++ events-text room (i + 1) (handled s (take (event-length l) l) ds room .answer .state) (cut-events k (drop (event-length l) l)) (drop (handled s (take (event-length l) l) ds room .answer .draws) ds)
+one-event : (room i k : ℕ) (xs l ds : List ℕ) → events-text room i xs (cut-events (suc k) l) ds
+    ≡ outcome-text i (handled xs (take (event-length l) l) ds room) ++ events-text room (i + 1) (handled xs (take (event-length l) l) ds room .words) (cut-events k (drop (event-length l) l)) (drop (handled xs (take (event-length l) l) ds room .draws) ds)
 unfolding cut-events events-text
-one-event room i k s l ds = refl
+one-event room i k xs l ds = refl
 
 -- what is left at a place is the lines of its event and what is left at the next
-pub rest-step : (room : ℕ) (p q : Runner) (i n : ℕ) (events draws : List ℕ) → i < n → q .state ≡ met room p events draws .answer .state
-    → q .at ≡ p .at + event-length (drop (p .at) events) → drop (q .used) draws ≡ drop (met room p events draws .answer .draws) (drop (p .used) draws)
+pub rest-step : (room : ℕ) (p q : Runner) (i n : ℕ) (events draws : List ℕ) → i < n → q ≡ passed room p events draws
     → rest-text room p i n events draws ≡ outcome-text i (met room p events draws) ++ rest-text room q (i + 1) n events draws
 unfolding rest-text
-rest-step room p q i n events draws h state at left =
+rest-step room p q i n events draws h e =
     let c : n - i ≡ suc (n - (i + 1)) = omega (arith, h) in
-    let places = next-events room p events draws q at in
-    ap (λ (x : ℕ). events-text room i (p .state) (cut-events x (drop (p .at) events)) (drop (p .used) draws)) c
-    ∙ (one-event room i (n - (i + 1)) (p .state) (drop (p .at) events) (drop (p .used) draws)
-    ∙ (λ j. outcome-text i (met room p events draws) ++ events-text room (i + 1) (sym state j) (cut-events (n - (i + 1)) (places j)) (sym left j)))
+    let words = next-words room p events draws q e in
+    let places = next-events room p events draws q e in
+    let left = next-left room p events draws q e in
+    ap (λ (x : ℕ). events-text room i (p .state .words) (cut-events x (drop (p .at) events)) (drop (p .used) draws)) c
+    ∙ (one-event room i (n - (i + 1)) (p .state .words) (drop (p .at) events) (drop (p .used) draws)
+    ∙ (λ j. outcome-text i (met room p events draws) ++ events-text room (i + 1) (sym words j) (cut-events (n - (i + 1)) (places j)) (sym left j)))
 
 pub rest-end : (room : ℕ) (p : Runner) (i n : ℕ) (events draws : List ℕ) → n ≤ i → rest-text room p i n events draws ≡ []
 unfolding rest-text cut-events events-text
 rest-end room p i n events draws h =
     let z : n - i ≡ 0 = omega (arith, h) in
-    ap (λ (x : ℕ). events-text room i (p .state) (cut-events x (drop (p .at) events)) (drop (p .used) draws)) z
+    ap (λ (x : ℕ). events-text room i (p .state .words) (cut-events x (drop (p .at) events)) (drop (p .used) draws)) z
 
 module _ (room : ℕ) (whole events draws : List ℕ) (n : ℕ) (t : Text) (out recs : List ℕ) (p : Runner) (r : Text) (o : List ℕ) (i : ℕ) (v : Running room whole events draws n t out recs p r o i) where
-  pub running-next : (q : Stepped) (o₂ recs₂ : List ℕ) → i < n → Steps (length recs) p i events draws r o q o₂ → length o₂ ≡ length o → length recs₂ ≡ length recs
+  pub running-next : (q : Stepped) (o₂ recs₂ : List ℕ) → i < n → Steps (length recs) p i events draws r o q recs₂ o₂ → length o₂ ≡ length o → length recs₂ ≡ length recs
       → Running room whole events draws n t out recs₂ (q .runner) (q .text) o₂ (i + 1)
   running-next q o₂ recs₂ h lent e₁ e₂ =
-      let k : Steps room p i events draws r o q o₂ = subst (λ (x : ℕ). Steps x p i events draws r o q o₂) (v .records) lent in
+      let k : Steps room p i events draws r o q recs₂ o₂ = subst (λ (x : ℕ). Steps x p i events draws r o q recs₂ o₂) (v .records) lent in
       record {
         low = omega (arith, h);
-        inside = k .inside;
         len = e₁ ∙ v .len;
         records = e₂ ∙ v .records;
         done = v .done ++ outcome-text i (met room p events draws);
         so-far = then (k .text) (v .so-far);
         same = v .same
-            ∙ (ap (λ (x : List ℕ). v .done ++ x) (rest-step room p (q .runner) i n events draws h (k .state) (k .at) (k .left))
+            ∙ (ap (λ (x : List ℕ). v .done ++ x) (rest-step room p (q .runner) i n events draws h (k .runner))
             ∙ sym (append-assoc (v .done) (outcome-text i (met room p events draws)) _));
       }
 
@@ -161,29 +152,29 @@ module _ (w : ℕ) (out o : List ℕ) (r : Shown) (n : ℕ) (e : r ≡ fitting w
   pub shown-counted : n ≡ length (take n o)
   shown-counted = counted n o shown-within
 
-pub walked : (room : ℕ) (s : State) (l : Layout) (b ns : List ℕ) (t r : Text) (out o : List ℕ) → Counts (l .draws) ns → ns ≡ numbers (length ns) 0 (drop (l .«draws_at») b)
-    → Puts (events-text room 0 s (cut-events (l .events) (take (l .«draws_at» - 56) (drop 56 b))) (take (l .draws) ns)) t out r o → Puts (laid-text room s l b) t out r o
+pub walked : (room : ℕ) (xs : List ℕ) (l : Layout) (b ns : List ℕ) (t r : Text) (out o : List ℕ) → Counts (l .draws) ns → ns ≡ numbers (length ns) 0 (drop (l .«draws_at») b)
+    → Puts (events-text room 0 xs (cut-events (l .events) (take (l .«draws_at» - 56) (drop 56 b))) (take (l .draws) ns)) t out r o → Puts (laid-text room xs l b) t out r o
 unfolding laid-text
-walked room s l b ns t r out o h e k =
-    named (λ j. events-text room 0 s (cut-events (l .events) (sym (part-is 56 (l .«draws_at») b) j)) (first-draws b ns l h e j)) k
+walked room xs l b ns t r out o h e k =
+    named (λ j. events-text room 0 xs (cut-events (l .events) (sym (part-is 56 (l .«draws_at») b) j)) (first-draws b ns l h e j)) k
 
 -- ---- what is decided before the first event
 
-module _ (l : Layout) (m : Made) (own : List ℕ) (e : m ≡ pack-made (new (l .me) (lent false own) (l .config))) where
-  made-is : m ≡ pack-made (new (l .me) none (l .config))
-  made-is = made-bare (l .me) (l .config) m own e
+module _ (l : Layout) (m : Made) (own : List ℕ) (e : record { code = m .code; words = m .state .words } ≡ pack-made (new (l .me) (lent false own) (l .config))) where
+  made-is : record { code = m .code; words = m .state .words } ≡ pack-made (new (l .me) none (l .config))
+  made-is = made-bare (l .me) (l .config) _ own e
 
   pub open-unset : (m .code ≡ 0 → ⊥) → Line 1 ≡ opened-layout l
   unfolding opened-layout
-  open-unset h = sym (choose-no _ (Events l) (Line 1) (ap (λ (x : Made). eqb (x .code) 0) (sym made-is) ∙ ne-eqb _ _ h))
+  open-unset h = sym (choose-no _ (Events l) (Line 1) (ap (λ (x : packed.Made). eqb (x .code) 0) (sym made-is) ∙ ne-eqb _ _ h))
 
   pub open-events : m .code ≡ 0 → Events l ≡ opened-layout l
   unfolding opened-layout
-  open-events h = sym (choose-yes _ (Events l) (Line 1) (ap (λ (x : Made). eqb (x .code) 0) (sym made-is) ∙ eq-eqb _ _ h))
+  open-events h = sym (choose-yes _ (Events l) (Line 1) (ap (λ (x : packed.Made). eqb (x .code) 0) (sym made-is) ∙ eq-eqb _ _ h))
 
   pub begins-at : _≡_ {A = Runner} (record { state = m .state; at = 0; used = 0 }) (first-place l)
   unfolding first-place
-  begins-at = λ j. record { state = made-is j .state; at = 0; used = 0 }
+  begins-at = λ j. record { state = record { words = made-is j .words }; at = 0; used = 0 }
 
 module _ (b : List ℕ) (x : Input) (e : x ≡ input-of b) where
   pub open-refused : x ≡ Refused → Line 3 ≡ opened b
@@ -219,15 +210,15 @@ module _ (b : List ℕ) (o : Opened) (e : o ≡ opened b) where
   unfolding opened-text
   line-text c h = text-is ∙ ap (λ (x : Opened). opened-text x b) h
 
-  pub whole-text : (l : Layout) → o ≡ Events l → run-text b ≡ laid-text 8192 (first-place l .state) l b
+  pub whole-text : (l : Layout) → o ≡ Events l → run-text b ≡ laid-text 8192 (first-place l .state .words) l b
   unfolding opened-text
   whole-text l h = text-is ∙ ap (λ (x : Opened). opened-text x b) h
 
   pub run-line : (c : ℕ) (t r : Text) (out p : List ℕ) → o ≡ Line c → Puts (end-line c 0) t out r p → Puts (run-text b) t out r p
   run-line c t r out p h k = named (sym (line-text c h)) k
 
-  pub run-events : (l : Layout) (q : Runner) (t r : Text) (out p : List ℕ) → o ≡ Events l → q ≡ first-place l → Puts (laid-text 8192 (q .state) l b) t out r p → Puts (run-text b) t out r p
-  run-events l q t r out p h f k = named (ap (λ (x : Runner). laid-text 8192 (x .state) l b) f ∙ sym (whole-text l h)) k
+  pub run-events : (l : Layout) (q : Runner) (t r : Text) (out p : List ℕ) → o ≡ Events l → q ≡ first-place l → Puts (laid-text 8192 (q .state .words) l b) t out r p → Puts (run-text b) t out r p
+  run-events l q t r out p h f k = named (ap (λ (x : Runner). laid-text 8192 (x .state .words) l b) f ∙ sym (whole-text l h)) k
 
 events-is : (x y : Layout) → _≡_ {A = Opened} (Events x) (Events y) → x ≡ y
 events-is x y e = cc

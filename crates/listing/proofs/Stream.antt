@@ -1,37 +1,33 @@
--- A run printed event by event: the lines of an event fit, and those of all events one after another are the text of the run.
+-- A run printed line by line: each line fits, and all of them one after another are the text of the run.
 -- Assumes nothing.
-use Prim.Native.Nat.{ℕ, zero, suc, _+_, _*_, _-_, _/_, _≤_, _<_}
-use mathlib.Core.Path.{_≡_, refl, sym, ap, _∙_}
-use mathlib.Core.List.{List, [], _∷_, _++_}
+use Prim.Native.Nat.{ℕ, zero, suc, _-_, _/_, _≤_, _<_}
+use mathlib.Core.Path.{_≡_, refl, sym, ap, _∙_, subst}
+use mathlib.Core.List.{List, [], _++_}
 use native.Mathlib.Omega.{arith}
-use lib.ListN.{length, take, drop, length-append}
+use lib.ListN.{length, drop, length-append}
 use lib.Seq.{slice}
 use lib.Dec.{ltb, eqb}
+use borrow.Author.Tests.{lt-ltb, le-ltb, ltb-true, ltb-false, eq-eqb, ne-eqb}
+use Rattle.lists.specs.Bytes.{overwrite}
 use Rattle.lists.proofs.Bytes.{length-overwrite}
-use Rattle.lists.proofs.Stored.{take-stored}
-use Rattle.lists.proofs.Choice.{by-choice}
+use Rattle.lists.proofs.Choice.{by-choice, split, choose-yes, choose-no}
 use Rattle.record.specs.declared.Header.{Header}
 use Rattle.record.specs.Read.{header-of}
 use Rattle.text.specs.declared.Text.{Text}
-use Rattle.text.specs.Text.{Shows, Puts, Begins}
+use Rattle.text.specs.Text.{Puts, Begins}
 use Rattle.text.specs.Lines.{digits-within, decimal, field}
 use Rattle.text.proofs.Written.{begun}
-use Rattle.lines.specs.Lines.{four, record-line, end-line, heads, record-lines, event-text}
-use Rattle.hyparview.specs.Handled.{Outcome}
+use Rattle.lines.specs.Lines.{four, record-line, end-line, event-text}
+use Rattle.lines.proofs.Laws.{text-few, text-none, text-step}
 use Rattle.input.specs.declared.Layout.{Layout}
 use Rattle.input.specs.Input.{numbers, cut-events}
-use Rattle.runner.specs.declared.Runner.{Runner}
-use Rattle.runner.specs.Place.{Inside, met}
-use Rattle.runner.proofs.Draws.{counted}
-use Rattle.listing.specs.declared.Stepped.{Stepped}
-use Rattle.listing.specs.declared.Told.{Told}
 use Rattle.listing.specs.declared.Opened.the-variants.{Events}
-use Rattle.listing.specs.Run.{outcome-text, events-text, laid-text, run-text}
-use Rattle.listing.specs.Place.{Steps, Fills, Starts, Tells}
+use Rattle.listing.specs.Run.{events-text, laid-text, run-text}
+use Rattle.listing.specs.Place.{Fronts, Lines, first-line, first-size}
 use Rattle.listing.specs.Opened.{first-place, opened, rest-text}
-use Rattle.listing.proofs.Laws.{rest-step, whole-text}
+use Rattle.listing.proofs.Laws.{whole-text}
 
--- ---- how long the lines of an event are
+-- ---- how long a line is
 
 digits-few : (k n : ℕ) → length (digits-within k n) ≤ k
 unfolding digits-within
@@ -65,64 +61,51 @@ end-few code draws =
     let b = field-few draws 10 in
     simp length-append (omega (arith, a, b))
 
-heads-few : (n : ℕ) (b : List ℕ) → length (heads n b) ≤ n
-unfolding heads
-heads-few zero b = omega arith
-heads-few (suc n) b =
-    by-choice (λ (x : List Header). length x ≤ suc n) (ltb (length b) 24) (λ _. omega arith)
-    (λ _. by-choice (λ (x : List Header). length x ≤ suc n) (eqb (header-of b .size) 0) (λ _. omega arith) (λ _. let h = heads-few n (drop (header-of b .size) b) in omega (arith, h)))
-
-lines-few : (i : ℕ) (hs : List Header) → length (record-lines i hs) ≤ 168 * length hs
-unfolding record-lines
-lines-few i [] = omega arith
-lines-few i (h ∷ hs) =
-    let a = line-few i h in
-    let b = lines-few i hs in
-    simp length-append (omega (arith, a, b))
-
--- whatever the output holds
-text-few : (i code draws : ℕ) (out : List ℕ) → length (event-text i code draws out) ≤ 168 * length out + 44
-unfolding event-text
-text-few i code draws out =
-    let a = lines-few i (heads (length out) out) in
-    let b = heads-few (length out) out in
-    let c = end-few code draws in
-    simp length-append (omega (arith, a, b, c))
-
-outcome-few : (room i : ℕ) (o : Outcome) → length (o .output) ≡ room → length (outcome-text i o) ≤ 168 * room + 44
-unfolding outcome-text
-outcome-few room i o e = let h = text-few i (o .answer .code) (o .answer .draws) (o .output) in omega (arith, h, e)
-
--- ---- one event
+-- ---- lines at the front of lent bytes
 
 -- a text that fits stands at the front
-starts : (w out₀ : List ℕ) (t : Text) (o : List ℕ) → length w ≤ length out₀ → Shows w out₀ t o → Starts w (t .at) o
-starts w out₀ t o l s =
-    let e : t .at ≡ 0 + length w = omega (arith, s .reached, l) in
+fronts : (w out₀ : List ℕ) (t₀ t : Text) (o : List ℕ) → length w ≤ length out₀ → Begins t₀ → Puts w t₀ out₀ t o → Fronts w out₀ (t .at) o
+fronts w out₀ t₀ t o l h k =
+    let s = k .puts [] out₀ (begun t₀ out₀ h) in
     let long : length o ≡ length out₀ = ap length (s .bytes) ∙ length-overwrite out₀ 0 w in
-    let few : t .at ≤ length o = omega (arith, e, l, long) in
-    record { counts = (few, counted (t .at) o few); text = (λ j. take (e j) (s .bytes j)) ∙ take-stored out₀ 0 w (omega (arith, l)) }
+    record { size = omega (arith, s .reached, l); fits = omega (arith, s .reached, l, long); bytes = s .bytes }
 
-pub line-starts : (code : ℕ) (t r : Text) (out o : List ℕ) → 44 ≤ length out → Begins t → Puts (end-line code 0) t out r o → Starts (end-line code 0) (r .at) o
-line-starts code t r out o l h k = let few = end-few code 0 in starts (end-line code 0) out r o (omega (arith, few, l)) (k .puts [] out (begun t out h))
+pub end-fronts : (code draws : ℕ) (t r : Text) (out o : List ℕ) → 44 ≤ length out → Begins t → Puts (end-line code draws) t out r o → Fronts (end-line code draws) out (r .at) o
+end-fronts code draws t r out o l h k = let few = end-few code draws in fronts (end-line code draws) out t r o (omega (arith, few, l)) h k
 
-module _ (room : ℕ) (p : Runner) (i : ℕ) (events draws : List ℕ) (t : Text) (out : List ℕ) (q : Stepped) (o : List ℕ) where
-  pub told : Begins t → 168 * room + 44 ≤ length out → Fills room p events draws → Steps room p i events draws t out q o
-      → Tells room p i events draws (record { runner = q .runner; size = q .text .at }) o
-  told h l f k =
-      let w : List ℕ = outcome-text i (met room p events draws) in
-      let few : length w ≤ 168 * room + 44 = outcome-few room i (met room p events draws) (f .fills) in
-      record { inside = k .inside; state = k .state; at = k .at; left = k .left; text = starts w out (q .text) o (omega (arith, few, l)) (k .text .puts [] out (begun t out h)) }
+-- no text leaves the bytes as they are
+empty-fronts : (w out : List ℕ) → w ≡ [] → Fronts w out 0 out
+unfolding overwrite
+empty-fronts w out e = record { size = ap length (sym e); fits = omega arith; bytes = ap (overwrite out 0) (sym e) }
+
+module _ (i : ℕ) (b out : List ℕ) where
+  -- too few bytes for a header
+  pub lines-few-bytes : length b < 24 → Lines i b out (record { size = 0; taken = 0 }) out
+  unfolding first-line first-size
+  lines-few-bytes l = let y = lt-ltb (length b) 24 l in record { line = empty-fronts _ out (choose-yes _ _ _ y); taken = sym (choose-yes _ _ _ y) }
+
+  module _ (h : Header) (is : h ≡ header-of b) (m : 24 ≤ length b) where
+    size-is : h .size ≡ first-size b
+    unfolding first-size
+    size-is = ap (λ (x : Header). x .size) is ∙ sym (choose-no _ _ _ (le-ltb (length b) 24 m))
+
+    -- the zeroes behind the last record
+    pub lines-none : h .size ≡ 0 → Lines i b out (record { size = 0; taken = 0 }) out
+    unfolding first-line
+    lines-none z =
+        let e : header-of b .size ≡ 0 = ap (λ (x : Header). x .size) (sym is) ∙ z in
+        record { line = empty-fronts _ out (choose-no _ _ _ (le-ltb (length b) 24 m) ∙ choose-yes _ _ _ (eq-eqb _ 0 e)); taken = sym z ∙ size-is }
+
+    pub lines-one : (t r : Text) (o : List ℕ) → (h .size ≡ 0 → ⊥) → 168 ≤ length out → Begins t → Puts (record-line i h) t out r o
+        → Lines i b out (record { size = r .at; taken = h .size }) o
+    unfolding first-line
+    lines-one t r o z l g k =
+        let few = line-few i h in
+        let w : record-line i h ≡ first-line i b =
+        ap (record-line i) is ∙ sym (choose-no _ _ _ (le-ltb (length b) 24 m) ∙ choose-no _ _ _ (ne-eqb _ 0 (λ e. z (ap (λ (x : Header). x .size) is ∙ e)))) in
+        record { line = subst (λ (x : List ℕ). Fronts x out (r .at) o) w (fronts (record-line i h) out t r o (omega (arith, few, l)) g k); taken = size-is }
 
 -- ---- the events one after another
-
--- the first place is inside any events and draws
-pub begun-inside : (l : Layout) (p : Runner) (events draws : List ℕ) → p ≡ first-place l → Inside p events draws
-unfolding first-place
-begun-inside l p events draws e =
-    let a : p .at ≡ 0 = ap (λ (x : Runner). x .at) e in
-    let u : p .used ≡ 0 = ap (λ (x : Runner). x .used) e in
-    record { at = omega (arith, a); used = omega (arith, u) }
 
 -- an input with events prints what is left at their first place
 pub rest-first : (b : List ℕ) (l : Layout) → opened b ≡ Events l
@@ -130,10 +113,19 @@ pub rest-first : (b : List ℕ) (l : Layout) → opened b ≡ Events l
 unfolding rest-text laid-text first-place
 rest-first b l e =
     let n : l .events ≡ l .events - 0 = omega arith in
-    whole-text b (opened b) refl l e ∙ ap (λ (x : ℕ). events-text 8192 0 (first-place l .state) (cut-events x (slice 56 (l .«draws_at») b)) (numbers (l .draws) 0 (drop (l .«draws_at») b))) n
+    whole-text b (opened b) refl l e ∙ ap (λ (x : ℕ). events-text 8192 0 (first-place l .state .words) (cut-events x (slice 56 (l .«draws_at») b)) (numbers (l .draws) 0 (drop (l .«draws_at») b))) n
 
--- the bytes that `tell` hands back are the next ones
-pub rest-next : (room : ℕ) (p : Runner) (i n : ℕ) (events draws : List ℕ) (r : Told) (o : List ℕ) → i < n → Tells room p i events draws r o
-    → rest-text room p i n events draws ≡ take (r .size) o ++ rest-text room (r .runner) (i + 1) n events draws
-rest-next room p i n events draws r o h k =
-    rest-step room p (r .runner) i n events draws h (k .state) (k .at) (k .left) ∙ ap (λ (x : List ℕ). x ++ rest-text room (r .runner) (i + 1) n events draws) (sym (k .text .text))
+-- the lines of an event are its first record's and those of the output behind that record, to the first place where none is
+pub lines-step : (i code draws : ℕ) (b : List ℕ) → (first-size b ≡ 0 → ⊥) → event-text i code draws b ≡ first-line i b ++ event-text i code draws (drop (first-size b) b)
+unfolding first-line first-size
+lines-step i code draws b z =
+    split (ltb (length b) 24) (λ y. absurd (z (choose-yes _ _ _ y)))
+    (λ n. let same : first-size b ≡ header-of b .size = choose-no _ _ _ n in
+    let e : header-of b .size ≡ 0 → ⊥ = λ q. z (same ∙ q) in
+    let line : first-line i b ≡ record-line i (header-of b) = choose-no _ _ _ n ∙ choose-no _ _ _ (ne-eqb _ 0 e) in
+    text-step i code draws b (ltb-false _ _ n) e ∙ (λ j. sym line j ++ event-text i code draws (drop (sym same j) b)))
+
+pub lines-end : (i code draws : ℕ) (b : List ℕ) → first-size b ≡ 0 → event-text i code draws b ≡ end-line code draws
+unfolding first-size
+lines-end i code draws b z =
+    split (ltb (length b) 24) (λ y. text-few i code draws b (ltb-true _ _ y)) (λ n. text-none i code draws b (sym (choose-no _ _ _ n) ∙ z))

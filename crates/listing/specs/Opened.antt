@@ -7,7 +7,7 @@ use lib.ListN.{drop}
 use lib.Dec.{eqb}
 use Rattle.lists.specs.Lists.{choose}
 use Rattle.protocol.specs.Handle.{new}
-use Rattle.rules.specs.Made.{pack-made}
+use Rattle.queries_words.specs.Made.{pack-made}
 use Rattle.input.specs.declared.Layout.{Layout}
 use Rattle.input.specs.declared.Input.{Input}
 use Rattle.input.specs.declared.Input.the-variants.{Refused, Whole}
@@ -20,7 +20,7 @@ use Rattle.listing.specs.Run.{events-text, laid-text}
 
 -- the place before the first event; "Own data is absent."
 unfoldable pub first-place : Layout → Runner
-first-place l = record { state = pack-made (new (l .me) none (l .config)) .state; at = 0; used = 0 }
+first-place l = record { state = record { words = pack-made (new (l .me) none (l .config)) .words }; at = 0; used = 0 }
 
 -- "otherwise out-of-range settings print only `= 1 0`"
 unfoldable pub opened-layout : Layout → Opened
@@ -37,8 +37,8 @@ opened b = opened-input (input-of b)
 -- what is printed of the input b after this decision
 unfoldable pub opened-text : Opened → List ℕ → List ℕ
 opened-text (Line c) b = end-line c 0
-opened-text (Events l) b = laid-text 8192 (first-place l .state) l b
+opened-text (Events l) b = laid-text 8192 (first-place l .state .words) l b
 
 -- what is left to print at the place p before the i-th of n events
 unfoldable pub rest-text : ℕ → Runner → ℕ → ℕ → List ℕ → List ℕ → List ℕ
-rest-text room p i n events draws = events-text room i (p .state) (cut-events (n - i) (drop (p .at) events)) (drop (p .used) draws)
+rest-text room p i n events draws = events-text room i (p .state .words) (cut-events (n - i) (drop (p .at) events)) (drop (p .used) draws)

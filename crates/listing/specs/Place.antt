@@ -1,47 +1,49 @@
--- What the functions over a run say of the place that they reach.
+-- What the functions over a run say of the place that they reach, and of the lent bytes.
 -- Assumes nothing.
-use Prim.Native.Nat.{ℕ, _+_}
+use Prim.Native.Nat.{ℕ, _≤_}
 use mathlib.Core.Path.{_≡_}
-use mathlib.Core.List.{List}
-use lib.ListN.{length, take, drop}
-use lib.Dec.{leb}
-use Rattle.io.specs.Counts.{Counts}
+use mathlib.Core.List.{List, []}
+use lib.ListN.{length}
+use lib.Dec.{leb, ltb, eqb}
 use Rattle.lists.specs.Lists.{choose}
+use Rattle.lists.specs.Bytes.{overwrite}
+use Rattle.record.specs.Format.{header-length}
+use Rattle.record.specs.Read.{header-of}
 use Rattle.text.specs.declared.Text.{Text}
 use Rattle.text.specs.Text.{Puts, Shows}
-use Rattle.input.specs.Input.{event-length}
+use Rattle.lines.specs.Lines.{record-line}
 use Rattle.runner.specs.declared.Runner.{Runner}
-use Rattle.runner.specs.Place.{Inside, met}
+use Rattle.runner.specs.Place.{met, passed}
 use Rattle.listing.specs.declared.Stepped.{Stepped}
-use Rattle.listing.specs.declared.Told.{Told}
+use Rattle.listing.specs.declared.Lined.{Lined}
 use Rattle.listing.specs.declared.Shown.{Shown}
 use Rattle.listing.specs.declared.Shown.the-variants.{Bytes, TooShort}
 use Rattle.listing.specs.Run.{outcome-text}
 
--- the place after the event at p, whose lines are written after the text t
-pub record Steps (room : ℕ) (p : Runner) (i : ℕ) (events draws : List ℕ) (t : Text) (out : List ℕ) (r : Stepped) (o : List ℕ) : Type 0 where
-  pub inside : Inside (r .runner) events draws
-  pub state : r .runner .state ≡ met room p events draws .answer .state
-  pub at : r .runner .at ≡ p .at + event-length (drop (p .at) events)
-  pub left : drop (r .runner .used) draws ≡ drop (met room p events draws .answer .draws) (drop (p .used) draws)
+-- the place after the event at p, whose output is recs, and whose lines are written after the text t
+pub record Steps (room : ℕ) (p : Runner) (i : ℕ) (events draws : List ℕ) (t : Text) (out : List ℕ) (r : Stepped) (recs o : List ℕ) : Type 0 where
+  pub runner : r .runner ≡ passed room p events draws
+  pub output : recs ≡ met room p events draws .output
   pub text : Puts (outcome-text i (met room p events draws)) t out (r .text) o
 
--- the first n bytes of o are the text w
-pub record Starts (w : List ℕ) (n : ℕ) (o : List ℕ) : Type 0 where
-  pub counts : Counts n o
-  pub text : take n o ≡ w
+-- the text w stands at the front of o, n bytes of it, and the bytes of out behind it
+pub record Fronts (w out : List ℕ) (n : ℕ) (o : List ℕ) : Type 0 where
+  pub size : n ≡ length w
+  pub fits : n ≤ length o
+  pub bytes : o ≡ overwrite out 0 w
 
--- the same where the lines of the event stand alone, in the first bytes of o
-pub record Tells (room : ℕ) (p : Runner) (i : ℕ) (events draws : List ℕ) (r : Told) (o : List ℕ) : Type 0 where
-  pub inside : Inside (r .runner) events draws
-  pub state : r .runner .state ≡ met room p events draws .answer .state
-  pub at : r .runner .at ≡ p .at + event-length (drop (p .at) events)
-  pub left : drop (r .runner .used) draws ≡ drop (met room p events draws .answer .draws) (drop (p .used) draws)
-  pub text : Starts (outcome-text i (met room p events draws)) (r .size) o
+-- the line of the first record of an output, and no text where none stands there
+unfoldable pub first-line : ℕ → List ℕ → List ℕ
+first-line i b = choose (ltb (length b) header-length) [] (choose (eqb (header-of b .size) 0) [] (record-line i (header-of b)))
 
--- the event at p leaves an output of as many bytes as were lent
-pub record Fills (room : ℕ) (p : Runner) (events draws : List ℕ) : Type 0 where
-  pub fills : length (met room p events draws .output) ≡ room
+-- how many bytes that record has, and 0 where none stands there
+unfoldable pub first-size : List ℕ → ℕ
+first-size b = choose (ltb (length b) header-length) 0 (header-of b .size)
+
+-- r has the sizes of that line, which stands at the front of o, and of its record
+pub record Lines (i : ℕ) (b out : List ℕ) (r : Lined) (o : List ℕ) : Type 0 where
+  pub line : Fronts (first-line i b) out (r .size) o
+  pub taken : r .taken ≡ first-size b
 
 -- what is answered of a text of n bytes where `room` bytes are lent
 unfoldable pub fitting : ℕ → ℕ → Shown

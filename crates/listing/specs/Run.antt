@@ -8,10 +8,8 @@ use lib.Seq.{slice}
 use lib.Dec.{eqb}
 use Rattle.lists.specs.Lists.{choose}
 use Rattle.protocol.specs.Handle.{new}
-use Rattle.state.specs.declared.State.{State}
-use Rattle.rules.specs.declared.Made.{Made}
-use Rattle.rules.specs.Made.{pack-made}
-use Rattle.hyparview.specs.Handled.{Outcome, handled}
+use Rattle.queries_words.specs.Made.{Made, pack-made}
+use Rattle.hyparview_words.specs.Handled.{Outcome, handled}
 use Rattle.input.specs.declared.Layout.{Layout}
 use Rattle.input.specs.declared.Input.{Input}
 use Rattle.input.specs.declared.Input.the-variants.{Refused, Whole}
@@ -20,21 +18,21 @@ use Rattle.lines.specs.Lines.{end-line, event-text}
 
 -- the lines of the i-th event
 unfoldable pub outcome-text : ℕ → Outcome → List ℕ
-outcome-text i o = event-text i (o .answer .code) (o .answer .draws) (o .output)
+outcome-text i o = event-text i (o .code) (o .draws) (o .output)
 
--- the lines of these events, from the i-th on, with so much room for output; "Draws go on where the last accepted event stopped."
-unfoldable pub events-text : ℕ → ℕ → State → List (List ℕ) → List ℕ → List ℕ
-events-text room i s [] ds = []
-events-text room i s (b ∷ bs) ds =
-    outcome-text i (handled s b ds room) ++ events-text room (i + 1) (handled s b ds room .answer .state) bs (drop (handled s b ds room .answer .draws) ds)
+-- the lines of these events, from the i-th on and from the words xs, with so much room for output; "Draws go on where the last accepted event stopped."
+unfoldable pub events-text : ℕ → ℕ → List ℕ → List (List ℕ) → List ℕ → List ℕ
+events-text room i xs [] ds = []
+events-text room i xs (b ∷ bs) ds =
+    outcome-text i (handled xs b ds room) ++ events-text room (i + 1) (handled xs b ds room .words) bs (drop (handled xs b ds room .draws) ds)
 
 -- the lines of the events that stand in b, with its draws
-unfoldable pub laid-text : ℕ → State → Layout → List ℕ → List ℕ
-laid-text room s l b = events-text room 0 s (cut-events (l .events) (slice 56 (l .«draws_at») b)) (numbers (l .draws) 0 (drop (l .«draws_at») b))
+unfoldable pub laid-text : ℕ → List ℕ → Layout → List ℕ → List ℕ
+laid-text room xs l b = events-text room 0 xs (cut-events (l .events) (slice 56 (l .«draws_at») b)) (numbers (l .draws) 0 (drop (l .«draws_at») b))
 
 -- "otherwise out-of-range settings print only `= 1 0`"
 unfoldable pub made-text : Made → Layout → List ℕ → List ℕ
-made-text m l b = choose (eqb (m .code) 0) (laid-text 8192 (m .state) l b) (end-line 1 0)
+made-text m l b = choose (eqb (m .code) 0) (laid-text 8192 (m .words) l b) (end-line 1 0)
 
 -- "whose events, so cut, or draws do not exactly fill their places .. prints only `= 3 0`"; "Own data is absent."
 unfoldable pub input-text : Input → List ℕ → List ℕ

@@ -1,34 +1,32 @@
 // What the run program prints (document 01, "The run program"): the text of a run, from the input's bytes into lent bytes.
+use hyparview_words::State;
 use input::Input;
 use input::Layout;
 use runner::Runner;
-use state::State;
 use text::Text;
 ghost use mathlib.Core.Path.{_≡_};
 ghost use Prim.Native.Nat.{_≤_};
 ghost use lib.ListN.{length, drop};
 ghost use Rattle.io.specs.Counts.{Counts};
 ghost use Rattle.lists.specs.Bytes.{overwrite};
-ghost use Prim.Native.Nat.{_+_, _*_};
 ghost use Rattle.input.specs.Input.{cut-events, numbers};
 ghost use Rattle.input.specs.Input.{Laid};
-ghost use Rattle.runner.specs.Place.{Inside};
 ghost use Rattle.text.specs.Text.{Puts};
 ghost use Rattle.lines.specs.Lines.{end-line};
 ghost use Rattle.listing.specs.Run.{events-text, laid-text, run-text};
-ghost use Rattle.listing.specs.Place.{Steps, Starts, Tells, Fills, fitting, Answers};
+ghost use Rattle.listing.specs.Place.{Steps, Fronts, Lines, fitting, Answers};
 ghost use Rattle.listing.specs.Opened.{opened, opened-layout, first-place};
 
 // The place after an event, and the text so far.
-pub struct Stepped {
-    pub runner: Runner,
-    pub text: Text,
+struct Stepped {
+    runner: Runner,
+    text: Text,
 }
 
-// The place after an event, and how many bytes its lines have.
-pub struct Told {
-    pub runner: Runner,
+// How many bytes the line of a record has, and how many the record takes; 0 and 0 where there is none.
+pub struct Lined {
     pub size: usize,
+    pub taken: usize,
 }
 
 // What is decided of an input before its first event: the code of its one line, or that it has events.
@@ -44,7 +42,7 @@ pub enum Shown {
 }
 
 // The event at the place reached, with the draws left and the output lent, and its lines.
-pub fn step(
+fn step(
     p: Runner,
     i: usize,
     events: &[u8],
@@ -53,9 +51,7 @@ pub fn step(
     out: &mut [u8],
     t: Text,
 ) -> Stepped
-    requires { ⌜ Inside p (now events) (now draws) ⌝ }
-    ensures { λ r. ⌜ Steps (length (now (records .entry))) p i (now (events .entry)) (now (draws .entry)) t (now (out .entry)) r (now (out .exit)) ⌝ }
-    ensures { λ _. ⌜ Fills (length (now (records .entry))) p (now (events .entry)) (now (draws .entry)) ⌝ }
+    ensures { λ r. ⌜ Steps (length (now (records .entry))) p i (now (events .entry)) (now (draws .entry)) t (now (out .entry)) r (now (records .exit)) (now (out .exit)) ⌝ }
 {
     let a = runner::step(p, events, draws, records);
     let text = lines::put_event(out, t, i as u64, a.code, a.draws as u64, records);
@@ -76,7 +72,7 @@ fn put_events(
     out: &mut [u8],
     t: Text,
 ) -> Text
-    ensures { λ r. ⌜ Puts (events-text (length (now (records .entry))) 0 s (cut-events n (now (events .entry))) (now (draws .entry))) t (now (out .entry)) r (now (out .exit)) ⌝ }
+    ensures { λ r. ⌜ Puts (events-text (length (now (records .entry))) 0 (s .words) (cut-events n (now (events .entry))) (now (draws .entry))) t (now (out .entry)) r (now (out .exit)) ⌝ }
 {
     let mut p = Runner {
         state: s,
@@ -107,7 +103,7 @@ fn put_walk(
     requires { ⌜ Laid (now b) l ⌝ }
     requires { ⌜ Counts (l .draws) (now drawn) ⌝ }
     requires { ⌜ now drawn ≡ numbers (length (now drawn)) 0 (drop (l .«draws_at») (now b)) ⌝ }
-    ensures { λ r. ⌜ Puts (laid-text (length (now (records .entry))) s l (now (b .entry))) t (now (out .entry)) r (now (out .exit)) ⌝ }
+    ensures { λ r. ⌜ Puts (laid-text (length (now (records .entry))) (s .words) l (now (b .entry))) t (now (out .entry)) r (now (out .exit)) ⌝ }
 {
     let at = l.draws_at;
     let n = l.draws;
@@ -117,7 +113,7 @@ fn put_walk(
 // The same, with space for the draws and the output: the longest input has fewer than 16,384 draws.
 fn put_whole(s: State, b: &[u8], l: Layout, out: &mut [u8], t: Text) -> Text
     requires { ⌜ Laid (now b) l ⌝ }
-    ensures { λ r. ⌜ Puts (laid-text 8192 s l (now (b .entry))) t (now (out .entry)) r (now (out .exit)) ⌝ }
+    ensures { λ r. ⌜ Puts (laid-text 8192 (s .words) l (now (b .entry))) t (now (out .entry)) r (now (out .exit)) ⌝ }
 {
     let mut drawn = [0u32; 16384];
     let mut records = [0u8; 8192];
@@ -131,7 +127,7 @@ fn open_layout(l: Layout) -> Opened
     ensures { λ r. ⌜ r ≡ opened-layout l ⌝ }
 {
     let config = l.config;
-    let m = rules::new(l.me, false, b"", config);
+    let m = State::new(l.me, false, b"", config);
     if m.code != 0 {
         return Opened::Line(1);
     }
@@ -149,14 +145,35 @@ pub fn open(b: &[u8]) -> Opened
     }
 }
 
-// The one line of an input without events, at the front of the lent bytes.
-pub fn line(code: u32, out: &mut [u8]) -> usize
+// The line that ends an event, or the one line of an input without events, at the front of the lent bytes.
+pub fn end_line(code: u32, draws: usize, out: &mut [u8]) -> usize
     requires { ⌜ 44 ≤ length (now out) ⌝ }
-    ensures { λ r. ⌜ Starts (end-line code 0) r (now (out .exit)) ⌝ }
+    ensures { λ r. ⌜ Fronts (end-line code draws) (now (out .entry)) r (now (out .exit)) ⌝ }
 {
     let none = text::start();
-    let t = lines::put_end(out, none, code, 0);
+    let t = lines::put_end(out, none, code, draws as u64);
     t.at
+}
+
+// The line of the first record of an output, at the front of the lent bytes.
+pub fn record_line(i: usize, records: &[u8], out: &mut [u8]) -> Lined
+    requires { ⌜ 168 ≤ length (now out) ⌝ }
+    ensures { λ r. ⌜ Lines i (now (records .entry)) (now (out .entry)) r (now (out .exit)) ⌝ }
+{
+    if records.len() < 24 {
+        return Lined { size: 0, taken: 0 };
+    }
+    let h = record::read_header(records);
+    let n = h.size as usize;
+    if n == 0 {
+        return Lined { size: 0, taken: 0 };
+    }
+    let none = text::start();
+    let t = lines::put_record(out, none, i as u64, h);
+    Lined {
+        size: t.at,
+        taken: n,
+    }
 }
 
 // The place before the first event: the new station.
@@ -164,35 +181,12 @@ pub fn begin(l: Layout) -> Runner
     ensures { λ r. ⌜ r ≡ first-place l ⌝ }
 {
     let config = l.config;
-    let m = rules::new(l.me, false, b"", config);
+    let m = State::new(l.me, false, b"", config);
     let s = m.state;
     Runner {
         state: s,
         at: 0,
         used: 0,
-    }
-}
-
-// The event at the place reached, with its lines alone at the front of the lent bytes: 168 for each byte of output and 44 more hold any of them.
-pub fn tell(
-    p: Runner,
-    i: usize,
-    events: &[u8],
-    draws: &[u32],
-    records: &mut [u8],
-    out: &mut [u8],
-) -> Told
-    requires { ⌜ Inside p (now events) (now draws) ⌝ }
-    requires { ⌜ 168 * length (now records) + 44 ≤ length (now out) ⌝ }
-    ensures { λ r. ⌜ Tells (length (now (records .entry))) p i (now (events .entry)) (now (draws .entry)) r (now (out .exit)) ⌝ }
-{
-    let none = text::start();
-    let q = step(p, i, events, draws, records, out, none);
-    let next = q.runner;
-    let t = q.text;
-    Told {
-        runner: next,
-        size: t.at,
     }
 }
 

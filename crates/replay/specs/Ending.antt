@@ -11,9 +11,9 @@ use Rattle.lists.specs.Lists.{choose}
 use Rattle.protocol.specs.Station.{Station}
 use Rattle.protocol.specs.Setters.{set-passes-alone, set-passes-short, set-next-request, set-next-join}
 use Rattle.protocol.specs.Handle.{Made, new, zero-station}
-use Rattle.state.specs.declared.State.{State}
-use Rattle.rules.specs.Pack.{pack}
-use Rattle.hyparview.specs.Handled.{handled}
+use Rattle.rules_words.specs.Pack.{pack}
+use Rattle.hyparview_words.specs.declared.State.{State}
+use Rattle.hyparview_words.specs.Handled.{handled}
 use Rattle.input.specs.declared.Layout.{Layout}
 use Rattle.input.specs.declared.Input.{Input}
 use Rattle.input.specs.declared.Input.the-variants.{Refused, Whole}
@@ -33,25 +33,29 @@ counting start g =
 
 -- the state t counts from a start, and is s otherwise
 pub record Counting (start : Start) (s t : State) : Type 0 where
-  pub same : (g : Station) → s ≡ pack g → t ≡ pack (counting start g)
+  pub same : (g : Station) → s .words ≡ pack g → t .words ≡ pack (counting start g)
 
--- the state after these events; "Draws go on where the last accepted event stopped."
-unfoldable pub state-after : ℕ → State → List (List ℕ) → List ℕ → State
-state-after room s [] ds = s
-state-after room s (b ∷ bs) ds = state-after room (handled s b ds room .answer .state) bs (drop (handled s b ds room .answer .draws) ds)
+-- the words after these events; "Draws go on where the last accepted event stopped."
+unfoldable pub words-after : ℕ → List ℕ → List (List ℕ) → List ℕ → List ℕ
+words-after room xs [] ds = xs
+words-after room xs (b ∷ bs) ds = words-after room (handled xs b ds room .words) bs (drop (handled xs b ds room .draws) ds)
 
--- the state after the events that stand in b, with its draws
-unfoldable pub laid-state : ℕ → State → Layout → List ℕ → State
-laid-state room s l b = state-after room s (cut-events (l .events) (slice 56 (l .«draws_at») b)) (numbers (l .draws) 0 (drop (l .«draws_at») b))
+-- the words after the events that stand in b, with its draws
+unfoldable pub laid-words : ℕ → List ℕ → Layout → List ℕ → List ℕ
+laid-words room xs l b = words-after room xs (cut-events (l .events) (slice 56 (l .«draws_at») b)) (numbers (l .draws) 0 (drop (l .«draws_at») b))
+
+-- a code, and the state of these words
+abbrev pub ended : ℕ → List ℕ → Ended
+ended code xs = record { code = code; state = record { words = xs } }
 
 -- "otherwise out-of-range settings": the answer of `new`; else code 0 and the state after the last event
 unfoldable pub made-end : Start → Made → Layout → List ℕ → Ended
 made-end start m l b =
-    choose (eqb (m .code) 0) (record { code = 0; state = laid-state (room-of start) (pack (counting start (m .state))) l b }) (record { code = m .code; state = pack (m .state) })
+    choose (eqb (m .code) 0) (ended 0 (laid-words (room-of start) (pack (counting start (m .state))) l b)) (ended (m .code) (pack (m .state)))
 
 -- an input that is refused as a whole: code 3, and "a state of zeroes"; "Own data is absent."
 unfoldable pub input-end : Start → Input → List ℕ → Ended
-input-end start Refused b = record { code = 3; state = pack zero-station }
+input-end start Refused b = ended 3 (pack zero-station)
 input-end start (Whole l) b = made-end start (new (l .me) none (l .config)) l b
 
 -- how the history of the input b ends

@@ -1,22 +1,23 @@
 // One history of the run program's input on standard output, in the trace form: every byte of output, and every state.
+mod event_text;
+
+use hyparview_words::State;
 use input::Input;
 use input::Layout;
 use runner::Runner;
-use state::State;
+use text::Text;
 use timing::Config;
-use trace_text::Shown;
 ghost use mathlib.Core.Path.{_≡_};
 ghost use mathlib.Core.Option.{none};
 ghost use lib.ListN.{length, drop};
 ghost use Prim.Native.Nat.{_≤_};
 ghost use Rattle.io.specs.Counts.{Counts};
 ghost use Rattle.protocol.specs.Handle.{new, zero-station};
-ghost use Rattle.rules.specs.Pack.{pack};
+ghost use Rattle.rules_words.specs.Pack.{pack};
 ghost use Rattle.input.specs.Input.{numbers, cut-events};
 ghost use Rattle.input.specs.Input.{Laid};
-ghost use Rattle.runner.specs.Place.{Inside, passed};
-ghost use Rattle.trace_text.specs.Shown.{Within};
-ghost use Rattle.replay.specs.Ending.{Counting, room-of, state-after, laid-state, made-end, ended-of};
+ghost use Rattle.runner.specs.Place.{passed};
+ghost use Rattle.replay.specs.Ending.{Counting, room-of, words-after, laid-words, made-end, ended-of};
 
 // How a history ended: code 0 and the state after its last event, or the code that it was refused with as a whole and a state of zeroes.
 pub struct Ended {
@@ -52,12 +53,12 @@ impl Start {
 fn started(s: State, start: Start) -> State
     ensures { λ r. ⌜ Counting start s r ⌝ }
 {
-    let mut t = s;
-    t.next_neighbor_request = start.next_neighbor_request;
-    t.next_join = start.next_join;
-    t.passes_alone = start.passes_alone;
-    t.passes_short = start.passes_short;
-    t
+    let mut words = s.words;
+    words[words::Layout::NEXT_NEIGHBOR_REQUEST] = start.next_neighbor_request;
+    words[words::Layout::NEXT_JOIN] = start.next_join;
+    words[words::Layout::PASSES_ALONE] = start.passes_alone as u64;
+    words[words::Layout::PASSES_SHORT] = start.passes_short as u64;
+    State { words: words }
 }
 
 // The room for output, and no more than there is.
@@ -73,7 +74,7 @@ fn room_of(start: Start) -> usize
 
 // The state of an input that has none: what `new` hands back when it refuses.
 fn zeroes() -> State
-    ensures { λ r. ⌜ r ≡ pack zero-station ⌝ }
+    ensures { λ r. ⌜ r .words ≡ pack zero-station ⌝ }
 {
     let none = Config {
         active_view_capacity: 0,
@@ -86,22 +87,20 @@ fn zeroes() -> State
         shuffle_interval: 0,
         neighbor_request_timeout: 0,
     };
-    let m = rules::new(0, false, b"", none);
+    let m = State::new(0, false, b"", none);
     m.state
 }
 
 // What was written of the text; a text that did not fit is named, and not cut off.
-fn say(text: &[u8], shown: Shown)
-    requires { ⌜ Within shown (length (now text)) ⌝ }
-{
-    match shown {
-        Shown::Bytes(n) => {
+fn say(text: &[u8], t: Text) {
+    let n = t.at;
+    if n <= text.len() {
+        if !t.full {
             io::write_all(1, &text[..n]);
-        }
-        Shown::TooShort => {
-            io::write_all(1, b"! a text that does not fit\n");
+            return;
         }
     }
+    io::write_all(1, b"! a text that does not fit\n");
 }
 
 // A history that is refused as a whole.
@@ -110,8 +109,9 @@ fn refused(code: u32, s: State) -> Ended
 {
     let mut space = [0u8; 64];
     let text: &mut [u8] = &mut space;
-    let shown = trace_text::answer(text, code, 0);
-    say(text, shown);
+    let none = text::start();
+    let t = event_text::put_answer(text, none, code, 0);
+    say(text, t);
     Ended {
         code: code,
         state: s,
@@ -120,21 +120,21 @@ fn refused(code: u32, s: State) -> Ended
 
 // The event at the place reached, and its text.
 fn step(p: Runner, b: &[u8], draws: &[u32], out: &mut [u8], text: &mut [u8]) -> Runner
-    requires { ⌜ Inside p (now b) (now draws) ⌝ }
     ensures { λ r. ⌜ r ≡ passed (length (now (out .entry))) p (now (b .entry)) (now (draws .entry)) ⌝ }
-    ensures { λ r. ⌜ Inside r (now (b .entry)) (now (draws .entry)) ⌝ }
 {
     let a = runner::step(p, b, draws, out);
     let q = a.runner;
     let s = q.state;
-    let shown = trace_text::event(text, out, a.code, a.draws, s);
-    say(text, shown);
+    let words = s.words;
+    let none = text::start();
+    let t = event_text::put_event(text, none, out, a.code, a.draws, &words);
+    say(text, t);
     q
 }
 
 // The events in order, and the state after them.
 fn events(s: State, b: &[u8], n: usize, draws: &[u32], out: &mut [u8], text: &mut [u8]) -> State
-    ensures { λ r. ⌜ r ≡ state-after (length (now (out .entry))) s (cut-events n (now (b .entry))) (now (draws .entry)) ⌝ }
+    ensures { λ r. ⌜ r .words ≡ words-after (length (now (out .entry))) (s .words) (cut-events n (now (b .entry))) (now (draws .entry)) ⌝ }
 {
     let mut p = Runner {
         state: s,
@@ -154,7 +154,7 @@ fn walk(s: State, b: &[u8], l: Layout, drawn: &[u32], out: &mut [u8], text: &mut
     requires { ⌜ Laid (now b) l ⌝ }
     requires { ⌜ Counts (l .draws) (now drawn) ⌝ }
     requires { ⌜ now drawn ≡ numbers (length (now drawn)) 0 (drop (l .«draws_at») (now b)) ⌝ }
-    ensures { λ r. ⌜ r ≡ laid-state (length (now (out .entry))) s l (now (b .entry)) ⌝ }
+    ensures { λ r. ⌜ r .words ≡ laid-words (length (now (out .entry))) (s .words) l (now (b .entry)) ⌝ }
 {
     let at = l.draws_at;
     let n = l.draws;
@@ -165,7 +165,7 @@ fn walk(s: State, b: &[u8], l: Layout, drawn: &[u32], out: &mut [u8], text: &mut
 fn with_space(s: State, b: &[u8], l: Layout, room: usize) -> State
     requires { ⌜ Laid (now b) l ⌝ }
     requires { ⌜ room ≤ 8192 ⌝ }
-    ensures { λ r. ⌜ r ≡ laid-state room s l (now (b .entry)) ⌝ }
+    ensures { λ r. ⌜ r .words ≡ laid-words room (s .words) l (now (b .entry)) ⌝ }
 {
     let mut drawn = [0u32; 16384];
     let mut out = [0u8; 8192];
@@ -181,7 +181,7 @@ fn whole(b: &[u8], l: Layout, start: Start) -> Ended
     ensures { λ r. ⌜ r ≡ made-end start (new (l .me) none (l .config)) l (now (b .entry)) ⌝ }
 {
     let config = l.config;
-    let m = rules::new(l.me, false, b"", config);
+    let m = State::new(l.me, false, b"", config);
     let fresh = m.state;
     if m.code != 0 {
         return refused(m.code, fresh);

@@ -1,9 +1,9 @@
 // The walk over the events of an input (document 01, "The run program"): one event at a time, each with the draws that are left.
-use state::State;
+use hyparview_words::State;
 ghost use mathlib.Core.Path.{_≡_};
-ghost use Prim.Native.Nat.{_≤_};
-ghost use lib.ListN.{length};
-ghost use Rattle.runner.specs.Place.{Inside, Runs, advanced};
+ghost use Prim.Native.Nat.{_-_, _≤_};
+ghost use lib.ListN.{length, take, drop};
+ghost use Rattle.runner.specs.Place.{Runs};
 
 // The place reached in a run: the state, and how far its events and its draws are.
 pub struct Runner {
@@ -19,33 +19,35 @@ pub struct Ran {
     pub draws: usize,
 }
 
-// The place after n more draws, and never past the end.
-fn advance(used: usize, n: usize, end: usize) -> usize
-    requires { ⌜ used ≤ end ⌝ }
-    ensures { λ r. ⌜ r ≡ advanced used n end ⌝ }
+// The n bytes at a place, and none past the end.
+fn part(b: &[u8], at: usize, n: usize) -> &[u8]
+    requires { ⌜ n ≤ length (now b) - at ⌝ }
+    ensures { λ r. ⌜ now r ≡ take n (drop at (now (b .entry))) ⌝ }
 {
-    if n < end - used {
-        return used + n;
+    if at < b.len() {
+        let end = at + n;
+        return &b[at..end];
     }
-    end
+    &b[..0]
 }
 
 // The event at the place reached, with the draws left and the output lent.
 pub fn step(p: Runner, events: &[u8], draws: &[u32], records: &mut [u8]) -> Ran
-    requires { ⌜ Inside p (now events) (now draws) ⌝ }
     ensures { λ r. ⌜ Runs (length (now (records .entry))) p (now (events .entry)) (now (draws .entry)) r (now (records .exit)) ⌝ }
 {
     let s = p.state;
     let at = p.at;
     let used = p.used;
-    let end = at + input::event_length(events, at);
-    let a = hyparview::handle(s, &events[at..end], &draws[used..], records);
+    let size = input::event_length(events, at);
+    let event = part(events, at, size);
+    let left = draws::rest_from(draws, used);
+    let a = s.handle(event, left, records);
     let next = a.state;
-    let reached = advance(used, a.draws, draws.len());
+    let reached = draws::place_after(draws, used, a.draws);
     Ran {
         runner: Runner {
             state: next,
-            at: end,
+            at: at + size,
             used: reached,
         },
         code: a.code,

@@ -10,7 +10,7 @@ use Rattle.listing.proofs.put_events.Tie as tie
 
 abbrev Inv-loop : tie.InvT-loop
 Inv-loop n events draws records₀ out₀ p₀ r₀ i₀ records out p r i =
-    Running (length records₀) (events-text (length records₀) 0 (p₀ .state) (cut-events n events) draws) events draws n r₀ out₀ records p r out i
+    Running (length records₀) (events-text (length records₀) 0 (p₀ .state .words) (cut-events n events) draws) events draws n r₀ out₀ records p r out i
 
 abbrev μ-loop : tie.MeasureT-loop
 μ-loop n events draws records₀ out₀ p₀ r₀ i₀ records out p r i = n - i
@@ -19,7 +19,7 @@ loop-holds : tie.Need-loop-holds Inv-loop μ-loop
 loop-holds c = search (running-start, needs)
 
 step-requires : tie.Need-step-requires Inv-loop μ-loop
-step-requires c κs = c .before .before .before .loop .inv .inside
+step-requires c κs = search needs
 
 add-i : tie.Need-add-i Inv-loop μ-loop
 add-i c = search (needs, c .before .before .before .before .before .before .before .before .before .before .before .before .before .good .1)
@@ -28,7 +28,7 @@ loop-less : tie.Need-loop-less Inv-loop μ-loop
 loop-less c = search needs
 
 loop-again : tie.Need-loop-again Inv-loop μ-loop
-loop-again c = running-next _ _ _ _ _ _ _ _ _ _ _ _ (c .before .before .before .before .before .before .before .before .before .before .loop .inv) _ _ _ (c .before .before .before .before .before .before .before .before .before .loop-test .taken) (c .before .before .before .before .before .before .step .ensures .0) (search needs) (search needs)
+loop-again c = running-next _ _ _ _ _ _ _ _ _ _ _ _ (c .before .before .before .before .before .before .before .before .before .before .loop .inv) _ _ _ (c .before .before .before .before .before .before .before .before .before .loop-test .taken) (c .before .before .before .before .before .before .step .ensures) (search needs) (search needs)
 
 same-length : tie.Need-same-length Inv-loop μ-loop
 same-length c = search needs

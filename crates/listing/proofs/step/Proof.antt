@@ -1,5 +1,5 @@
 use borrow.Author.Needs.{needs}
-use Rattle.listing.proofs.Laws.{stepped, filled}
+use Rattle.listing.proofs.Laws.{stepped}
 use Rattle.listing.proofs.step.Statement.{statement}
 use Rattle.listing.proofs.step.Tie as tie
 
@@ -19,7 +19,7 @@ returns : tie.Need-returns
 returns c =
     let put = c .before .before .before in
     let a = put .before .before .before .before .before .step .ensures in
-    (stepped _ _ _ _ _ _ a _ _ _ _ _ (put .put-event .ensures), filled _ _ _ _ _ _ a (search needs))
+    stepped _ _ _ _ _ _ a _ _ _ _ _ (put .put-event .ensures)
 
 pub step-spec : {M : Type 1} → statement M
 step-spec = tie.close (tie.spec step-requires put-event-requires same-length same-length-2 returns)

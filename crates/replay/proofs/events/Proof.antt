@@ -2,7 +2,7 @@
 use lib.ListN.{length}
 use mathlib.Core.Path.{_≡_}
 use Rattle.input.specs.Input.{cut-events}
-use Rattle.replay.specs.Ending.{state-after}
+use Rattle.replay.specs.Ending.{words-after}
 use borrow.Author.Needs.{needs}
 use Rattle.replay.proofs.Laws.{Walking, walking-start, walking-next, walking-end}
 use Rattle.replay.proofs.events.Statement.{statement}
@@ -10,7 +10,7 @@ use Rattle.replay.proofs.events.Tie as tie
 
 abbrev Inv-loop : tie.InvT-loop
 Inv-loop b n draws out₀ text₀ p₀ left₀ out text p left =
-    (length out ≡ length out₀) × (length text ≡ length text₀) × Walking (length out₀) (state-after (length out₀) (p₀ .state) (cut-events n b) draws) b draws p left
+    (length out ≡ length out₀) × (length text ≡ length text₀) × Walking (length out₀) (words-after (length out₀) (p₀ .state .words) (cut-events n b) draws) b draws p left
 
 abbrev μ-loop : tie.MeasureT-loop
 μ-loop b n draws out₀ text₀ p₀ left₀ out text p left = left

@@ -2,8 +2,8 @@ use borrow.Author.Needs.{needs}
 use Prim.Native.Nat.{_≤_, _-_}
 use mathlib.Core.Path.{_≡_}
 use lib.ListN.{length}
-use Rattle.trace_text.proofs.put_records.Statement.{statement}
-use Rattle.trace_text.proofs.put_records.Tie as tie
+use Rattle.replay.proofs.event_text.put_records.Statement.{statement}
+use Rattle.replay.proofs.event_text.put_records.Tie as tie
 
 abbrev Inv-loop : tie.InvT-loop
 Inv-loop out₀ records r₀ at₀ out r at = (length out ≡ length out₀) × (at ≤ length records)
