@@ -3,7 +3,7 @@
 
 usage: tools/record_vectors.py make | check
 
-The files are crates/record_test/stdin (each record with two bytes for its length in front) and crates/record_test/stdout.
+The files are crates/test_record/stdin (each record with two bytes for its length in front) and crates/test_record/stdout.
 """
 import struct
 import sys
@@ -198,7 +198,7 @@ def files():
     records += special()
     stored = b"".join(struct.pack("<H", len(b)) + b for b in records)
     assert len(stored) <= 65536, len(stored)
-    return {"crates/record_test/stdin": stored, "crates/record_test/stdout": "".join(line(b) for b in records).encode()}
+    return {"crates/test_record/stdin": stored, "crates/test_record/stdout": "".join(line(b) for b in records).encode()}
 
 
 def main():

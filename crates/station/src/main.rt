@@ -1,17 +1,17 @@
 // The run program (document 01): standard input is a history, standard output gets the lines of its events.
-use input::Layout;
-use listing::Opened;
-use runner::Runner;
+use run_input::Layout;
+use run_listing::Opened;
+use run_walk::Runner;
 ghost use mathlib.Core.Path.{_≡_};
 ghost use lib.ListN.{length, drop};
 ghost use Rattle.io.specs.Counts.{Counts};
-ghost use Rattle.input.specs.Input.{numbers};
-ghost use Rattle.input.specs.Input.{Laid};
+ghost use Rattle.run_input.specs.Input.{numbers};
+ghost use Rattle.run_input.specs.Input.{Laid};
 
 // The line that ends an event, or the one line of an input without events.
 fn say_end(code: u32, draws: usize) {
     let mut text = [0u8; 44];
-    let n = listing::end_line(code, draws, &mut text);
+    let n = run_listing::end_line(code, draws, &mut text);
     io::write_all(1, &text[..n]);
 }
 
@@ -21,7 +21,7 @@ fn say_records(i: usize, records: &[u8]) {
     let text: &mut [u8] = &mut line;
     let mut rest = records;
     loop {
-        let r = listing::record_line(i, rest, text);
+        let r = run_listing::record_line(i, rest, text);
         let size = r.size;
         let n = r.taken;
         if n == 0 {
@@ -40,7 +40,7 @@ fn say_events(first: Runner, n: usize, events: &[u8], draws: &[u32], records: &m
     let mut p = first;
     let mut i: usize = 0;
     while i < n {
-        let r = runner::step(p, events, draws, records);
+        let r = run_walk::step(p, events, draws, records);
         say_records(i, records);
         say_end(r.code, r.draws);
         p = r.runner;
@@ -56,7 +56,7 @@ fn say_layout(b: &[u8], l: Layout, drawn: &[u32], records: &mut [u8; 8192])
 {
     let at = l.draws_at;
     let n = l.draws;
-    let p = listing::begin(l);
+    let p = run_listing::begin(l);
     say_events(p, l.events, &b[56..at], &drawn[..n], records);
 }
 
@@ -67,13 +67,13 @@ fn say_whole(b: &[u8], l: Layout)
     let mut drawn = [0u32; 16384];
     let mut records = [0u8; 8192];
     let at = l.draws_at;
-    input::read_numbers(&b[at..], &mut drawn);
+    run_input::read_numbers(&b[at..], &mut drawn);
     say_layout(b, l, &drawn, &mut records);
 }
 
 // What an input is answered with.
 fn say(b: &[u8]) {
-    let o = listing::open(b);
+    let o = run_listing::open(b);
     match o {
         Opened::Line(code) => say_end(code, 0),
         Opened::Events(l) => say_whole(b, l),

@@ -1,5 +1,5 @@
 use borrow.Author.Needs.{needs}
-use Rattle.listing.proofs.Laws.{opened-laid}
+use Rattle.run_listing.proofs.Laws.{opened-laid}
 use Rattle.station.proofs.say.Statement.{statement}
 use Rattle.station.proofs.say.Tie as tie
 
