@@ -72,11 +72,16 @@ fn put_numbers(out: &mut [u8], t: Text, m: &[u64], cap: usize) -> Text
     r
 }
 
+// The first n of the bytes.
+fn put_front(out: &mut [u8], t: Text, bytes: &[u8], n: u64) -> Text {
+    let k = least(n as usize, bytes.len());
+    put_hex(out, t, &bytes[..k])
+}
+
 // The first n of the bytes in two words.
 fn put_data(out: &mut [u8], t: Text, low: u64, high: u64, n: u64) -> Text {
     let bytes = columns::bytes_of(low, high);
-    let k = least(n as usize, 16);
-    put_hex(out, t, &bytes[..k])
+    put_front(out, t, &bytes, n)
 }
 
 // The peers of a map of data, each with its bytes.
