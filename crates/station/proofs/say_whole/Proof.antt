@@ -1,6 +1,6 @@
 use borrow.Author.Needs.{needs}
 use mathlib.Core.Path.{refl}
-use Rattle.runner.proofs.Draws.{numbers-read}
+use Rattle.run_walk.proofs.Draws.{numbers-read}
 use Rattle.station.proofs.say_whole.Statement.{statement}
 use Rattle.station.proofs.say_whole.Tie as tie
 
@@ -23,7 +23,7 @@ slice-aggregate-say-layout : tie.Need-slice-aggregate-say-layout
 slice-aggregate-say-layout c = search needs
 
 say-layout-requires : tie.Need-say-layout-requires
-say-layout-requires c κs = (c .before .before .before .before .before .before .before .before .pre, numbers-read _ _ _ _ (c .before .before .before .before .before .before .before .before .pre) refl (c .before .before .before .before .read-numbers .ensures))
+say-layout-requires c κs = (c .before .before .before .before .before .before .before .pre, numbers-read _ _ _ _ (c .before .before .before .before .before .before .before .pre) refl (c .before .before .before .before .read-numbers .ensures))
 
 returns : tie.Need-returns
 returns c = search needs
