@@ -69,6 +69,3 @@ says e t =
 
 pub kind-fits : (e : Entry) → has-event e ≡ true → Fits w8 (e .item .kind)
 kind-fits e t = record { fits = omega (arith, says e t .high) }
-
-pub peer-fits : (e : Entry) → has-event e ≡ true → Fits w32 (e .item .peer)
-peer-fits e t = record { fits = omega (arith, says e t .narrow) }

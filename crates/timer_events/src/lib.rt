@@ -3,14 +3,14 @@ use record::Header;
 use timer_map::Entry;
 use timer_map::Id;
 use timer_map::Timer;
-use writer::Fields;
+use writer64::Fields;
 ghost use mathlib.Core.Path.{_≡_};
 ghost use mathlib.Core.Bool.{true, false};
 ghost use mathlib.Core.List.{[]};
 ghost use Prim.Native.Nat.{_≤_};
 ghost use lib.ListN.{length};
 ghost use Rattle.record.specs.Read.{header-of};
-ghost use Rattle.writer.specs.Write.{rec-in};
+ghost use Rattle.writer64.specs.Write.{rec-in};
 ghost use Rattle.timer_map.specs.Words.{entries-of, Sound};
 ghost use Rattle.timer_map.specs.Calls.{put};
 ghost use Rattle.timer_events.specs.Records.{no-start, started, start-of, timer-of, timers-in, insert-all, insert-records, records-inserted};
@@ -192,7 +192,7 @@ fn fields(e: Entry) -> Fields
         kind: x.kind as u8,
         message: 0,
         flags: 0,
-        peer: x.peer as u32,
+        peer: x.peer,
         second: 0,
         ttl: 0,
         number: x.number,
@@ -210,9 +210,9 @@ fn pop_event_ok(q: &mut [u64], limit: u64, out: &mut [u8]) -> PoppedEvent
         let i = d.place;
         if has_event(e) {
             let f = fields(e);
-            let w = writer::write_bare(out, 0, f);
+            let w = writer64::write_bare(out, 0, f);
             match w {
-                writer::Written::At(_) => {
+                writer64::Written::At(_) => {
                     timer_map::remove(q, i);
                     return PoppedEvent {
                         code: 0,
@@ -220,7 +220,7 @@ fn pop_event_ok(q: &mut [u64], limit: u64, out: &mut [u8]) -> PoppedEvent
                         time: e.time,
                     };
                 }
-                writer::Written::Full => {
+                writer64::Written::Full => {
                     return PoppedEvent {
                         code: NO_ROOM,
                         found: false,

@@ -1,19 +1,16 @@
 use mathlib.Core.Path.{refl}
-use Rattle.writer.specs.Write.{rec-in}
+use Rattle.writer64.specs.Write.{rec-in}
 use Rattle.timer_events.specs.Events.{event-rec}
-use Rattle.timer_events.proofs.Events.{kind-fits, peer-fits}
+use Rattle.timer_events.proofs.Events.{kind-fits}
 use Rattle.timer_events.proofs.fields.Statement.{statement}
 use Rattle.timer_events.proofs.fields.Tie as tie
 
 cast-t3 : tie.Need-cast-t3
 cast-t3 c = search kind-fits
 
-cast-t4 : tie.Need-cast-t4
-cast-t4 c = search peer-fits
-
 returns : tie.Need-returns
 unfolding rec-in event-rec
 returns c = refl
 
 pub fields-spec : {M : Type 1} → statement M
-fields-spec = tie.close (tie.spec cast-t3 cast-t4 returns)
+fields-spec = tie.close (tie.spec cast-t3 returns)

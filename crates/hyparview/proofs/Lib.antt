@@ -1,4 +1,0 @@
-pub mod Laws
-pub mod Arms
-pub mod Opening
-pub mod Kept

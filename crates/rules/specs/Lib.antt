@@ -1,4 +1,0 @@
-pub mod Pack
-pub mod Ok
-pub mod Made
-pub mod Queries

@@ -1,3 +1,0 @@
-pub mod Shut
-pub mod Lists
-pub mod Told

@@ -1,3 +1,0 @@
-pub mod Asked
-pub mod Shuffles
-pub mod Passes
