@@ -35,9 +35,13 @@ asking = single + bare
 abbrev pub disconnecting : ℕ
 disconnecting = crowd + bare
 
--- `remove-active`: a notice, a demotion, a request to another
+-- `remove-active-by-index` of a peer that knows it is dropped: a notice and a demotion
+abbrev pub leaving : ℕ
+leaving = bare + adding
+
+-- `remove-active`: that, and a request to another
 abbrev pub removing : ℕ
-removing = bare + adding + asking
+removing = leaving + asking
 
 -- `free-random-slot-in-active-view`: a notice, a Disconnect, a demotion
 abbrev pub freeing : ℕ
@@ -47,6 +51,10 @@ freeing = bare + disconnecting + adding
 abbrev pub entering : ℕ
 entering = bare + asking
 
--- `add-active`: the data of the peer, and its entry at a full view
+-- `add-active` at a full view before the peer enters: its data, and a place for it
+abbrev pub arriving : ℕ
+arriving = single + freeing
+
+-- `add-active`
 abbrev pub admitting : ℕ
-admitting = single + freeing + entering
+admitting = arriving + entering
