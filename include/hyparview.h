@@ -159,7 +159,7 @@ struct hyparview_index_set hyparview_neighbors(const struct hyparview_controller
 /* How many spare addresses there are. */
 size_t hyparview_spare_addresses(const struct hyparview_controller *c);
 
-/* The header of a record of kinds 0 to 11, which is all `len` bytes. */
+/* The header of a record of kinds 0 to 12, which is all `len` bytes. */
 struct hyparview_reading hyparview_read(const uint8_t *record, size_t len);
 
 /* The i-th node of such a record, from 0 on. */
