@@ -125,6 +125,7 @@ extern "C" {
 #define HYPARVIEW_KIND_NEIGHBOR_UP 9              /* output: `peer` became a neighbour */
 #define HYPARVIEW_KIND_NEIGHBOR_DOWN 10           /* output: `peer` is a neighbour no more */
 #define HYPARVIEW_KIND_PEER_DATA 11               /* output: data of `peer`, not empty, in one node */
+#define HYPARVIEW_KIND_EVICTED 12                 /* output: `peer` left the full list of spare addresses, for another to enter */
 
 /* The timers are kinds 1 to 4. The first accepted event starts DoShuffle and DoMaintenance, and each of their events
  * starts them again. */

@@ -26,7 +26,8 @@ struct Substitution {
     lines: usize,
 }
 
-/// The collections get limits (codes 6, 7, 8); nothing else of the Rust is changed.
+/// The collections get limits (codes 6, 7, 8), and an eviction is told (02, S-2), which a run may leave out; nothing
+/// else of the Rust is changed.
 fn substitutions() -> Vec<Substitution> {
     let collections = Substitution {
         file: "hyparview.rs".into(),
@@ -35,7 +36,14 @@ fn substitutions() -> Vec<Substitution> {
         place: None,
         lines: 1,
     };
-    let mut all = vec![collections];
+    let evicted = Substitution {
+        file: "hyparview.rs".into(),
+        from: "self.forget_peer(&evicted);".into(),
+        to: "self.forget_peer(&evicted); io.emit(Event::Evicted(evicted));".into(),
+        place: None,
+        lines: 1,
+    };
+    let mut all = vec![collections, evicted];
     if let Ok(mutant) = env::var(MUTANT_VARIABLE) {
         all.push(read_mutant(&mutant));
     }

@@ -1,5 +1,5 @@
 #!/usr/bin/env python3
-"""Records, sound and damaged, and what a reader must answer to each, from document 01 alone.
+"""Records, sound and damaged, and what a reader must answer to each, from document 01 and 02's S-2 alone.
 
 usage: tools/record_vectors.py make | check
 
@@ -48,7 +48,7 @@ def read(b):
     if len(b) < 24:
         return None
     kind, message, flags, count, peer, second, ttl, size, number = struct.unpack("<BBBBIIHHQ", b[:24])
-    if kind > 11 or message > (5 if kind == 0 else 0):
+    if kind > 12 or message > (5 if kind == 0 else 0):
         return None
     most = {4: 1, 5: 3}.get(message, 0) if kind == 0 else 0
     if flags > most:
@@ -128,7 +128,7 @@ def sound():
     for kind in (3, 4):
         yield make(kind, peer=15, number=2 ** 64 - 1)
         yield make(kind, peer=15, number=1, second=10000)
-    for kind in (5, 6, 9, 10):
+    for kind in (5, 6, 9, 10, 12):
         yield make(kind, peer=16)
     yield make(8)
     yield make(7, nodes=[(0, b"")])
@@ -182,10 +182,10 @@ def special():
     yield empty[:28] + b"\0\0" + empty[30:]
     yield empty[:31] + b"\2" + empty[32:]
     yield empty[:31] + b"\0" + empty[32:]
-    for kind in range(12, 256):
+    for kind in range(13, 256):
         yield make(kind)
     for count in (32, 33, 255):
-        for kind in (0, 5, 12, 255):
+        for kind in (0, 5, 13, 255):
             yield make(kind)[:3] + bytes([count]) + make(kind)[4:]
     for length in range(24):
         yield make(8)[:length]

@@ -5,7 +5,7 @@ use std::iter;
 
 use crate::{
     collections::Limit,
-    record::{kind, message, NodeParts, Record, View, Writer},
+    record::{kind, message, tells_evicted, NodeParts, Record, View, Writer},
 };
 
 #[cfg(feature = "tools")]
@@ -285,6 +285,8 @@ impl IO<u32> for Writer<'_> {
         let (kind, peer) = match event {
             Event::NeighborUp(peer) => (kind::NEIGHBOR_UP, peer),
             Event::NeighborDown(peer) => (kind::NEIGHBOR_DOWN, peer),
+            Event::Evicted(_) if !tells_evicted() => return,
+            Event::Evicted(peer) => (kind::EVICTED, peer),
         };
         self.put(Record::<iter::Empty<_>>::of(kind, peer));
     }

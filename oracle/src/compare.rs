@@ -11,7 +11,7 @@ use crate::{
         mix::{Mix, Twist, MIXES},
     },
     input::Input,
-    shrink,
+    record, shrink,
     text::{self, Form, Start},
 };
 
@@ -22,6 +22,16 @@ fn fits_format(mix: &Mix) -> bool {
 
 fn oracle(input: &[u8]) -> String {
     text::run(input, Start::default(), Form::Trace)
+}
+
+/// Without the lines of kind 12, where the oracle writes none.
+fn comparable(text: String) -> String {
+    if record::tells_evicted() {
+        return text;
+    }
+    let evicted = text::hex(&[record::kind::EVICTED]);
+    let kept = text.lines().filter(|line| !line.starts_with(&evicted));
+    kept.map(|line| line.to_owned() + "\n").collect()
 }
 
 /// What the other program prints; a failure to run is part of its answer.
@@ -44,7 +54,7 @@ fn other(command: &[String], input: &[u8]) -> String {
     if !output.status.success() {
         text += &format!("{}\n", output.status);
     }
-    text
+    comparable(text)
 }
 
 /// The first line that differs, of both texts.
@@ -81,13 +91,16 @@ fn report(name: &str, input: &[u8], command: &[String]) -> String {
 }
 
 /// Compares `histories` histories of each mix from `seed` on; `Err` holds the first difference.
+/// Lines of kind 12 are left out (02, S-2), unless `evicted` asks for them too.
 pub fn run(
     seed: u64,
     histories: u64,
     length: usize,
     only: Option<&str>,
+    evicted: bool,
     command: &[String],
 ) -> Result<String, String> {
+    record::tell_evicted(evicted);
     let (mut events, mut compared) = (0, 0);
     let chosen = |mix: &&Mix| fits_format(mix) && only.is_none_or(|name| name == mix.name);
     for seed in seed..seed + histories {

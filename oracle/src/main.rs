@@ -25,7 +25,7 @@ oracle make                          names (MIX SEED EVENTS) on stdin, stored fo
 oracle replay FILE...                stored histories that do not hold now
 oracle check [--seed N] [--events N] [--length N]
 oracle time [--seed N] [--histories N] [--events N] [--rounds N]
-oracle compare [--seed N] [--histories N] [--events N] [--mix NAME] -- COMMAND
+oracle compare [--seed N] [--histories N] [--events N] [--mix NAME] [--evicted true] -- COMMAND
 oracle timer-calls [--seed N] [--calls N]    calls of a timer queue, six 64-bit words each
 oracle timers                        the Rust's answers to such calls on stdin
 oracle stories [lengths]             where all histories of at most four of 02's sixteen events end
@@ -217,6 +217,7 @@ fn compare(arguments: &[String]) -> Answer {
         histories,
         options.get("events", 200)?,
         options.mix()?,
+        options.get("evicted", false)?,
         command,
     )
 }

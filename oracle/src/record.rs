@@ -1,5 +1,7 @@
 //! Records as bytes (01, "Records"): one reader for events, one writer for output.
 
+use std::sync::atomic::{AtomicBool, Ordering};
+
 pub const HEADER: usize = 24;
 pub const NODE: usize = 8;
 pub const MOST_NODES: u8 = 32;
@@ -24,6 +26,7 @@ pub mod kind {
     pub const NEIGHBOR_UP: u8 = 9;
     pub const NEIGHBOR_DOWN: u8 = 10;
     pub const PEER_DATA: u8 = 11;
+    pub const EVICTED: u8 = 12;
 }
 
 /// Byte 1.
@@ -34,6 +37,17 @@ pub mod message {
     pub const SHUFFLE_REPLY: u8 = 3;
     pub const NEIGHBOR: u8 = 4;
     pub const DISCONNECT: u8 = 5;
+}
+
+static TELLS_EVICTED: AtomicBool = AtomicBool::new(true);
+
+/// Whether stations of this process write records of kind 12 (02, S-2); the Rust itself writes none.
+pub fn tell_evicted(told: bool) {
+    TELLS_EVICTED.store(told, Ordering::Relaxed);
+}
+
+pub fn tells_evicted() -> bool {
+    TELLS_EVICTED.load(Ordering::Relaxed)
 }
 
 /// A node's id and its data.
@@ -302,7 +316,7 @@ impl Record<()> {
         } else {
             0
         };
-        self.kind <= kind::PEER_DATA
+        self.kind <= kind::EVICTED
             && self.message <= most_message
             && self.flags <= self.most_flags()
             && (named_peer || self.peer == 0)

@@ -17,4 +17,6 @@ pub trait IO<PI> {
 pub enum Event<PI> {
     NeighborUp(PI),
     NeighborDown(PI),
+    /// 02, S-2: not of the Rust; the build adds the line that emits it.
+    Evicted(PI),
 }

@@ -145,7 +145,7 @@ fn damaged_nodes_are_malformed() {
 
 #[test]
 fn output_kinds_and_long_data_are_malformed_as_events() {
-    for output in [kind::NEIGHBOR_UP, kind::NEIGHBOR_DOWN] {
+    for output in [kind::NEIGHBOR_UP, kind::NEIGHBOR_DOWN, kind::EVICTED] {
         assert_eq!(Record::read_event(&Record::of(output, 2).write()), Err(3));
     }
     let long = Node {

@@ -16,6 +16,7 @@ use Rattle.record.specs.declared.Event.the-variants.{Refused, Record}
 use Rattle.record.specs.Format.{Rec}
 use Rattle.record.specs.Read as R
 use Rattle.record.specs.Answers.{EventIs, event-answer, event-in}
+use Rattle.protocol.specs.Budgets.{arriving}
 use Rattle.protocol.specs.Station.{peers-end}
 use Rattle.protocol.specs.Run.{Run}
 use Rattle.protocol.specs.Rules.{station-ok}
@@ -43,7 +44,7 @@ use Rattle.hyparview_words.specs.Handled.{Outcome, cleared, refusal, end
 pub between-less : (b c d e : ℕ) (g : Run) → c ≤ b → e ≤ d → Between 0 b d g → Between 0 c e g
 between-less b c d e g l m k = record { fixed = k .fixed; messages = k .messages; bytes = k .bytes; draws = k .draws; ok = ease (omega arith) (omega arith) (omega arith) (k .ok) }
 
-pub opens-between : (x : ℕ) (g : Run) (k : ℕ) → x ≡ k → (k ≡ 8 → ⊥) → Opens x g → Between 0 936 40 g
+pub opens-between : (x : ℕ) (g : Run) (k : ℕ) → x ≡ k → (k ≡ 8 → ⊥) → Opens x g → Between 0 arriving 40 g
 opens-between x g k e n o = o .between (λ z. n (sym e ∙ z))
 
 pub opens-join : (x : ℕ) (w : Work) (xs ds out : List ℕ) (k : ℕ) → x ≡ k → (k ≡ 8 → ⊥) → Opens x (run (work-of w xs) ds out) → KnownJoins (w .code) (unpack xs)
@@ -76,7 +77,7 @@ opens xs b h ds out ok v narrow =
             messages = 0;
             bytes = 0;
             draws = 0;
-            ok = subst (Ok (begun (unpack xs) (ok-state xs ok .rules) ds (length out) (R.rec-of b) w) calm 0 936 40) (sym (start-is xs ds out ok)) (ease (omega arith) (omega arith) (omega arith) k);
+            ok = subst (Ok (begun (unpack xs) (ok-state xs ok .rules) ds (length out) (R.rec-of b) w) calm 0 arriving 40) (sym (start-is xs ds out ok)) (ease (omega arith) (omega arith) (omega arith) k);
           };
     }
 

@@ -8,6 +8,7 @@ use lib.Dec.{eqb}
 use Rattle.lists.specs.Lists.{choose}
 use Rattle.record.specs.declared.Header.{Header}
 use Rattle.record.specs.Read.{well-formed, header-of, rec-of, event, read-event}
+use Rattle.protocol.specs.Budgets.{arriving}
 use Rattle.protocol.specs.Run.{Run}
 use Rattle.protocol.specs.Timers.{handle-shuffle-timer, handle-maintenance-timer, handle-pending-neighbor-timer, retry-join}
 use Rattle.step_messages.specs.Between.{Between}
@@ -30,10 +31,10 @@ pub record Single (b : List ℕ) (h : Header) : Type 0 where
   pub one : header-of b .nodes ≡ 1
   pub which : (h .message ≡ 0 → ⊥) → (h .message ≡ 1 → ⊥) → h .message ≡ 4
 
--- an event of kind k starts at g: between events, with the 936 bytes and 40 draws that a Join or a Neighbor may spend before its own records;
+-- an event of kind k starts at g: between events, with the bytes of an arrival and the 40 draws that a Join or a Neighbor may spend before its own records;
 -- but for a Quit, which counts on nothing
 pub record Opens (k : ℕ) (g : Run) : Type 0 where
-  pub between : (k ≡ 8 → ⊥) → Between 0 936 40 g
+  pub between : (k ≡ 8 → ⊥) → Between 0 arriving 40 g
 
 -- the timers' part of `dispatch`, by kind, peer and number
 unfoldable pub timer-expired : ℕ → ℕ → ℕ → Run → Run

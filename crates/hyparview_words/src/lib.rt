@@ -10,6 +10,7 @@ ghost use mathlib.Core.Bool.{true};
 ghost use Prim.Native.Nat.{_≤_};
 ghost use lib.ListN.{length};
 ghost use Rattle.record.specs.Read.{rec-of};
+ghost use Rattle.protocol.specs.Budgets.{arriving};
 ghost use Rattle.protocol.specs.Run.{on};
 ghost use Rattle.protocol.specs.Handle.{new, note-scheduled, first-timers, handle-message, dispatch, steps};
 ghost use Rattle.words.specs.Layout.{words};
@@ -121,7 +122,7 @@ fn handle_single(
     requires { ⌜ length (now st) ≡ words ⌝ }
     requires { ⌜ Fine (work-of w (now st)) (now draws) (now out) ⌝ }
     requires { ⌜ Single (now b) h ⌝ }
-    requires { ⌜ Between 0 936 40 (run (work-of w (now st)) (now draws) (now out)) ⌝ }
+    requires { ⌜ Between 0 arriving 40 (run (work-of w (now st)) (now draws) (now out)) ⌝ }
     ensures { λ r. ⌜ Does (work-of r (now (st .exit))) (now (draws .entry)) (now (out .exit)) (handle-message (rec-of (now (b .entry))) (run (work-of w (now (st .entry))) (now (draws .entry)) (now (out .entry)))) ⌝ }
 {
     let p = h.peer as u64;
@@ -153,7 +154,7 @@ fn handle_message(
     requires { ⌜ Fine (work-of w (now st)) (now draws) (now out) ⌝ }
     requires { ⌜ Headed (now b) h ⌝ }
     requires { ⌜ h .kind ≡ 0 ⌝ }
-    requires { ⌜ Between 0 936 40 (run (work-of w (now st)) (now draws) (now out)) ⌝ }
+    requires { ⌜ Between 0 arriving 40 (run (work-of w (now st)) (now draws) (now out)) ⌝ }
     ensures { λ r. ⌜ Does (work-of r (now (st .exit))) (now (draws .entry)) (now (out .exit)) (handle-message (rec-of (now (b .entry))) (run (work-of w (now (st .entry))) (now (draws .entry)) (now (out .entry)))) ⌝ }
 {
     let p = h.peer as u64;

@@ -16,6 +16,7 @@ use Rattle.peer.specs.Data.{Data}
 use Rattle.protocol.specs.Station.{Station, automatic, is-me, in-active, active-is-full, peers-end}
 use Rattle.protocol.specs.Setters.{set-peer-data}
 use Rattle.protocol.specs.Run.{Run, guard, on, require, notice}
+use Rattle.protocol.specs.Budgets.{bare, single, freeing, entering, admitting}
 use Rattle.protocol.specs.Peers as P
 use Rattle.protocol.specs.Active as A
 use Rattle.protocol.proofs.Extra.{count-push-new}
@@ -36,13 +37,13 @@ unfolding count
 settled k = ok-map (λ o h w. record { still = h .still; seats = with-inside (h .seats) (λ x. omega arith); waits = h .waits; tally = h .tally }) k
 
 module _ {q : Fixed} {m b d : ℕ} where
-  pub ok-enter-active : (p : ℕ) {r : Run} → Ok q (busy (p ∷ []) (p ∷ []) [] 1 0) (m + 2) (b + 24) d r → Ok q (arrived p) m b d (A.enter-active p r)
+  pub ok-enter-active : (p : ℕ) {r : Run} → Ok q (busy (p ∷ []) (p ∷ []) [] 1 0) (m + 2) (b + bare) d r → Ok q (arrived p) m b d (A.enter-active p r)
   unfolding A.enter-active A.move-in A.remember-neighbor A.push-active A.gain-neighbor P.drop-mark P.remove-passive up-after note sent-after count choose Small
   ok-enter-active p {r} k =
       let act = r .station .active in
       let pas = r .station .passive in
       ok-on A.gain-neighbor (λ o h. h) (λ w. law-short (law-fill w (small-or _ automatic tt)) (record { high = omega arith }))
-      (ok-tell (notice 9 p) 24 {t = busy (p ∷ []) (p ∷ []) [] 1 0} (A.move-in p) (no-node (notice 9 p) refl)
+      (ok-tell (notice 9 p) bare {t = busy (p ∷ []) (p ∷ []) [] 1 0} (A.move-in p) (no-node (notice 9 p) refl)
       (λ o h. h .seats .narrow p (omega (arith, is-self p)))
       (λ o h. record {
         still = h .still;
@@ -130,7 +131,7 @@ module _ {q : Fixed} {m b d : ℕ} where
   }) k
 
 module _ {q : Fixed} {m b d : ℕ} where
-  pub ok-add-active-unchecked : (p : ℕ) (high reply : Bool) {r : Run} → Ok q (busy (p ∷ []) (p ∷ []) [] 1 0) (m + 3) (b + 96) d r → Ok q (arrived p) m b d (A.add-active-unchecked p high reply r)
+  pub ok-add-active-unchecked : (p : ℕ) (high reply : Bool) {r : Run} → Ok q (busy (p ∷ []) (p ∷ []) [] 1 0) (m + 3) (b + entering) d r → Ok q (arrived p) m b d (A.add-active-unchecked p high reply r)
   unfolding A.add-active-unchecked
   ok-add-active-unchecked p high reply k = ok-reply-neighbor reply p high (ok-enter-active p (ease (omega arith) (omega arith) (omega arith) k))
 
@@ -153,7 +154,7 @@ same-after-info v h p (some x) r =
     (λ e. on-same v _ (λ s. h _ s) _ ∙ ap v (require-station 8 _ _ ∙ announce-station p x r))
 
 module _ {q : Fixed} {m b d : ℕ} where
-  pub ok-admit : (p : ℕ) → p < peers-end → (high reply : Bool) {r : Run} → is-me p (r .station) ≡ false → A.accepts p high (r .station) ≡ true → Ok q (busy [] (p ∷ []) [] 0 0) (m + 3) (b + 984) (d + 40) r → Ok q (arrived p) m b d (A.admit p high reply r)
+  pub ok-admit : (p : ℕ) → p < peers-end → (high reply : Bool) {r : Run} → is-me p (r .station) ≡ false → A.accepts p high (r .station) ≡ true → Ok q (busy [] (p ∷ []) [] 0 0) (m + 3) (b + (freeing + entering)) (d + 40) r → Ok q (arrived p) m b d (A.admit p high reply r)
   unfolding A.admit A.admit-new A.admit-full A.accepts
   ok-admit p pn high reply {r} e acc k =
       ok-if (in-active p (r .station))
@@ -177,7 +178,7 @@ module _ {q : Fixed} {m b d : ℕ} where
       (λ f. clash (active-is-full (r .station)) (not-false _ (or-right high _ w)) f))
 
 module _ {q : Fixed} {m b d : ℕ} where
-  pub ok-add-active : (p : ℕ) → p < peers-end → (x : Data) → Short x → (high reply : Bool) {r : Run} → A.accepts p high (r .station) ≡ true → Ok q (busy [] (p ∷ []) [] 0 0) (m + 3) (b + 1032) (d + 40) r → Ok q (arrived p) m b d (A.add-active p x high reply r)
+  pub ok-add-active : (p : ℕ) → p < peers-end → (x : Data) → Short x → (high reply : Bool) {r : Run} → A.accepts p high (r .station) ≡ true → Ok q (busy [] (p ∷ []) [] 0 0) (m + 3) (b + admitting) (d + 40) r → Ok q (arrived p) m b d (A.add-active p x high reply r)
   unfolding A.add-active A.accepts is-me in-active active-is-full
   ok-add-active p pn x l high reply {r} acc k =
       ok-if (is-me p (r .station))
@@ -185,7 +186,7 @@ module _ {q : Fixed} {m b d : ℕ} where
       (λ e. ok-admit p pn high reply (same-after-info (is-me p) (λ y s. refl) p x r ∙ e) (same-after-info (A.accepts p high) (λ y s. refl) p x r ∙ acc)
       (ok-insert-peer-info p x (λ z. l) (ease (omega arith) (omega arith) (omega arith) k)))
 
-  pub ok-add-active-not : {ba : List ℕ} (p : ℕ) (x : Data) → Short x → (high reply : Bool) {r : Run} → A.accepts p high (r .station) ≡ false → Ok q (busy [] ba [] 0 0) m (b + 48) d r → Ok q calm m b d (A.add-active p x high reply r)
+  pub ok-add-active-not : {ba : List ℕ} (p : ℕ) (x : Data) → Short x → (high reply : Bool) {r : Run} → A.accepts p high (r .station) ≡ false → Ok q (busy [] ba [] 0 0) m (b + single) d r → Ok q calm m b d (A.add-active p x high reply r)
   unfolding A.add-active A.accepts is-me in-active active-is-full
   ok-add-active-not p x l high reply {r} acc k =
       ok-if (is-me p (r .station)) (λ e. unbar (ease (omega arith) (omega arith) (omega arith) k))

@@ -123,6 +123,11 @@ pub form-down : {p : ℕ} → Peer p → InForm (R.notice 10 p)
 unfolding header-in Rd.header-ok Rd.kind-ok Rd.flags-ok Rd.count-ok Rd.peer-ok Rd.fields-ok Rd.fixed-size Rd.is-message Rd.is-timer Rd.is-data choose NodesInForm
 form-down p = record { header = refl; peer = p; second = omega arith; ttl = omega arith; number = omega arith; nodes = tt }
 
+-- whom the passive view evicted
+pub form-evicted : {p : ℕ} → Peer p → InForm (R.notice 12 p)
+unfolding header-in Rd.header-ok Rd.kind-ok Rd.flags-ok Rd.count-ok Rd.peer-ok Rd.fields-ok Rd.fixed-size Rd.is-message Rd.is-timer Rd.is-data choose NodesInForm
+form-evicted p = record { header = refl; peer = p; second = omega arith; ttl = omega arith; number = omega arith; nodes = tt }
+
 pub form-data : {p : ℕ} (b : List ℕ) → Peer p → Held b → InForm (R.data-notice p b)
 unfolding header-in Rd.header-ok Rd.kind-ok Rd.flags-ok Rd.count-ok Rd.peer-ok Rd.fields-ok Rd.fixed-size Rd.is-message Rd.is-timer Rd.is-data choose NodesInForm bytes-of present
 form-data b p f = record {

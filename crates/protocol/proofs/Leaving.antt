@@ -13,6 +13,7 @@ use Rattle.lists.proofs.Count.{is-self, count-at, count-swap, length-swap, coun
 use Rattle.util.specs.Random.{pick}
 use Rattle.protocol.specs.Station.{recovery, in-active, is-alone}
 use Rattle.protocol.specs.Run.{Run, on, draw, drawn, notice}
+use Rattle.protocol.specs.Budgets.{bare, adding, asking, disconnecting, removing, freeing}
 use Rattle.protocol.specs.Peers as P
 use Rattle.protocol.specs.Active as A
 use Rattle.protocol.specs.Active.{Reason, connection-closed, disconnect-received, random}
@@ -36,35 +37,36 @@ held-short p {r} k z =
     ok-fact (λ o h w. short-lookup p (r .station .peer-data) (w .held-ok .shorts)) k (subst (λ (c : ℕ). c ≡ 0) (on-code (P.drop-data p) r) z)
 
 module _ {q : Fixed} {g ba : List ℕ} {sl m b d : ℕ} where
-  pub ok-demote : (p : ℕ) {r : Run} → Ok q (busy g ba (p ∷ []) sl 0) m (b + 48) (d + 1) r → Ok q (busy g ba [] sl 0) m b d (A.demote p r)
+  pub ok-demote : (p : ℕ) {r : Run} → Ok q (busy g ba (p ∷ []) sl 0) m (b + adding) (d + 1) r → Ok q (busy g ba [] sl 0) m b d (A.demote p r)
   unfolding A.demote P.add-passive
-  ok-demote p k = ok-enter-loose {lo = []} p (ok-insert-peer-info p _ (held-short p k) (ok-drop-data p k))
+  ok-demote p k = ok-enter-loose {lo = []} p (ok-insert-peer-info p _ (held-short p k) (ok-drop-data p (ease (omega arith) (omega arith) (omega arith) k)))
 
-  pub ok-demote-alive : (p : ℕ) {r : Run} → Ok q (busy g ba (p ∷ []) sl 0) m (b + 48) (d + 1) r → Ok q (busy g ba [] sl 0) m b d (A.demote-alive p r)
+  pub ok-demote-alive : (p : ℕ) {r : Run} → Ok q (busy g ba (p ∷ []) sl 0) m (b + adding) (d + 1) r → Ok q (busy g ba [] sl 0) m b d (A.demote-alive p r)
   unfolding A.demote-alive A.demote P.add-passive count
   ok-demote-alive p {r} k =
-      let i : Ok q (busy g ba (p ∷ []) sl 0) m b (d + 1) (P.insert-peer-info p (lookup p (r .station .peer-data)) (on (P.drop-data p) r)) = ok-insert-peer-info p _ (held-short p k) (ok-drop-data p k) in
+      let i : Ok q (busy g ba (p ∷ []) sl 0) m (b + bare) (d + 1) (P.insert-peer-info p (lookup p (r .station .peer-data)) (on (P.drop-data p) r)) =
+      ok-insert-peer-info p _ (held-short p k) (ok-drop-data p (ease (omega arith) (omega arith) (omega arith) k)) in
       ok-mark-alive p (entered p _ (omega (arith, is-self p)) i) (ok-enter-loose {lo = []} p i)
 
-  pub ok-settle-closed : (p : ℕ) {r : Run} → Ok q (busy g ba (p ∷ []) sl 0) m (b + 48) (d + 1) r → Ok q (busy g ba [] sl 0) m b d (A.settle-closed p r)
+  pub ok-settle-closed : (p : ℕ) {r : Run} → Ok q (busy g ba (p ∷ []) sl 0) m (b + adding) (d + 1) r → Ok q (busy g ba [] sl 0) m b d (A.settle-closed p r)
   unfolding A.settle-closed
   ok-settle-closed p k =
       ok-either _ (ok-demote p (ok-drop-mark p k)) (ok-forget-loose {pl = 0} {lo = []} p (ease (omega arith) (omega arith) (omega arith) k))
 
   -- the peer knows already that it is dropped
-  pub ok-settle : (why : Reason) → (why ≡ random → ⊥) → (p : ℕ) {r : Run} → Ok q (busy g ba (p ∷ []) sl 0) m (b + 48) (d + 1) r → Ok q (busy g ba [] sl 0) m b d (A.settle why p r)
+  pub ok-settle : (why : Reason) → (why ≡ random → ⊥) → (p : ℕ) {r : Run} → Ok q (busy g ba (p ∷ []) sl 0) m (b + adding) (d + 1) r → Ok q (busy g ba [] sl 0) m b d (A.settle why p r)
   unfolding A.settle
   ok-settle connection-closed n p k = ok-settle-closed p k
   ok-settle (disconnect-received true) n p k = ok-demote-alive p k
   ok-settle (disconnect-received false) n p k = ok-forget-loose {pl = 0} {lo = []} p (ease (omega arith) (omega arith) (omega arith) k)
   ok-settle random n p k = absurd (n refl)
 
-  pub ok-drop-active : (i : ℕ) {r : Run} → i < length (r .station .active) → Ok q (busy g ba [] sl 0) m (b + 24) d r → Ok q (busy g ba (getD (r .station .active) i 0 ∷ []) (sl + 1) 0) (m + 2) b d (A.drop-active i r)
+  pub ok-drop-active : (i : ℕ) {r : Run} → i < length (r .station .active) → Ok q (busy g ba [] sl 0) m (b + bare) d r → Ok q (busy g ba (getD (r .station .active) i 0 ∷ []) (sl + 1) 0) (m + 2) b d (A.drop-active i r)
   unfolding A.drop-active A.swap-active up-after note sent-after count choose
   ok-drop-active i {r} l k =
       let act = r .station .active in
       let p = getD act i 0 in
-      ok-tell (notice 10 p) 24 (A.swap-active i) (no-node (notice 10 p) refl)
+      ok-tell (notice 10 p) bare (A.swap-active i) (no-node (notice 10 p) refl)
       (λ o h. h .seats .narrow p (omega (arith, count-at act i l)))
       (λ o h. record {
         still = h .still;
@@ -93,7 +95,7 @@ module _ {q : Fixed} {g ba : List ℕ} {sl m b d : ℕ} where
       (λ w. w) k
 
 module _ {q : Fixed} {g ba : List ℕ} where
-  pub ok-settle-random : {sl m b d : ℕ} (p : ℕ) {r : Run} → Ok q (busy g ba (p ∷ []) sl 0) (m + 2) (b + 864) (d + 39) r → Ok q (busy g ba [] sl 0) m b d (A.settle random p r)
+  pub ok-settle-random : {sl m b d : ℕ} (p : ℕ) {r : Run} → Ok q (busy g ba (p ∷ []) sl 0) (m + 2) (b + (disconnecting + adding)) (d + 39) r → Ok q (busy g ba [] sl 0) m b d (A.settle random p r)
   unfolding A.settle
   ok-settle-random p k = ok-demote-alive p (ok-send-disconnect p true (ease (omega arith) (omega arith) (omega arith) k))
 
@@ -101,18 +103,18 @@ module _ {q : Fixed} {g ba : List ℕ} where
   pub close-slot : {sl m b d : ℕ} {r : Run} → Ok q (busy g ba [] (sl + 1) 0) m b d r → Ok q (busy g ba [] sl 0) m b d r
   close-slot k = ok-map (λ o h w. record { still = h .still; seats = with-slots (h .seats) (omega (arith, h .seats .slots-left)); waits = h .waits; tally = h .tally }) k
 
-  pub ok-remove-active : {m b d : ℕ} (p : ℕ) (why : Reason) {r : Run} → (why ≡ random → ⊥) → Ok q (busy g ba [] 0 0) m (b + 144) (d + 2) r → Ok q (busy g ba [] 0 0) m b d (A.remove-active p why r)
+  pub ok-remove-active : {m b d : ℕ} (p : ℕ) (why : Reason) {r : Run} → (why ≡ random → ⊥) → Ok q (busy g ba [] 0 0) m (b + removing) (d + 2) r → Ok q (busy g ba [] 0 0) m b d (A.remove-active p why r)
   unfolding A.remove-active A.remove-active-by-index A.refill-after in-active Small
   ok-remove-active {m} {b} {d} p why {r} n k =
       let i = index-of p (r .station .active) in
       ok-if (mem p (r .station .active))
-      (λ e. let j : Ok q (busy g ba (getD (r .station .active) i 0 ∷ []) 1 0) (m + 2) (b + 120) (d + 2) (A.drop-active i r) =
+      (λ e. let j : Ok q (busy g ba (getD (r .station .active) i 0 ∷ []) 1 0) (m + 2) (b + (adding + asking)) (d + 2) (A.drop-active i r) =
       ok-drop-active {sl = 0} i (index-lt p (r .station .active) e) (ease (omega arith) (omega arith) (omega arith) k) in
       ok-start-refill recovery (p ∷ []) tt (ok-clear-refused (close-slot {sl = 0} (ok-settle why n _ (ease (omega arith) (omega arith) (omega arith) j)))))
       (λ e. ease (omega arith) (omega arith) (omega arith) k)
 
   -- after it the active view has a free place
-  pub ok-free-slot : {m b d : ℕ} {r : Run} → Ok q (busy g ba [] 0 0) m (b + 888) (d + 40) r → Ok q (busy g ba [] 1 0) m b d (A.free-random-slot-in-active-view r)
+  pub ok-free-slot : {m b d : ℕ} {r : Run} → Ok q (busy g ba [] 0 0) m (b + freeing) (d + 40) r → Ok q (busy g ba [] 1 0) m b d (A.free-random-slot-in-active-view r)
   unfolding A.free-random-slot-in-active-view A.remove-picked A.remove-active-by-index is-alone pick
   ok-free-slot {m} {b} {d} {r} k =
       let act = r .station .active in

@@ -1,8 +1,9 @@
 -- The passive view: what enters it, what leaves it, and the marks.
 -- Assumes nothing.
-use mathlib.Core.Path.{_≡_}
+use mathlib.Core.Path.{_≡_, refl}
 use mathlib.Core.Bool.{true, false, _||_}
 use mathlib.Core.List.{List, [], _∷_}
+use mathlib.Core.Option.{Option, none, some}
 use Prim.Native.Nat.{ℕ, _+_, _*_, _≤_, _<_}
 use native.Mathlib.Omega.{arith}
 use native.Mathlib.Nat.{mod-lt}
@@ -16,14 +17,15 @@ use Rattle.util.specs.Random.{pick}
 use Rattle.peer.specs.Data.{Data, Node}
 use Rattle.protocol.specs.Station.{Station, is-me, in-active, in-passive, in-view, passive-is-full}
 use Rattle.protocol.specs.Run.{Run, guard, on, drawn}
+use Rattle.protocol.specs.Budgets.{bare, adding}
 use Rattle.protocol.specs.Peers as P
 use Rattle.protocol.specs.Active as A
 use Rattle.protocol.proofs.Extra.{null-yes, null-no, count-less}
 use Rattle.protocol.proofs.Law.{Short, ShortNodes, law-held, law-alive}
 use Rattle.protocol.proofs.Changes.{cut-held, unmark, mark}
 use Rattle.protocol.proofs.Invariant.{Fixed, Terms, busy, calm, Ok, with-marks, with-places}
-use Rattle.protocol.proofs.Keeping.{ease, ok-if, ok-either, ok-on, ok-change, ok-map, ok-fact, ok-absurd, ok-draw-one, draw-station}
-use Rattle.protocol.proofs.Sends.{ok-insert-peer-info}
+use Rattle.protocol.proofs.Keeping.{ease, ok-if, ok-either, ok-on, ok-change, ok-map, ok-fact, ok-absurd, ok-draw-one, ok-quiet, draw-station}
+use Rattle.protocol.proofs.Sends.{no-node, ok-insert-peer-info}
 
 -- the tests, as counts
 pub seen : (p : ℕ) (s : Station) → in-view p s ≡ true → 1 ≤ count p (s .active) + count p (s .passive)
@@ -97,6 +99,11 @@ module _ {q : Fixed} {t : Terms} {m b d : ℕ} where
         law-alive w (mark p (w .alive-ok)),
       )) k
 
+  ok-tell-evicted : (x : Option ℕ) {r : Run} → Ok q t m (b + bare) d r → Ok q t m b d (P.tell-evicted x r)
+  unfolding P.tell-evicted
+  ok-tell-evicted none k = ease (omega arith) (omega arith) (omega arith) k
+  ok-tell-evicted (some p) k = ok-quiet _ bare (omega arith) (λ e. omega arith) (λ e. omega arith) (λ z w. no-node _ refl) k
+
 module _ {q : Fixed} {g ba : List ℕ} {sl m b d : ℕ} where
   pub ok-forget-loose : {pl : ℕ} {lo : List ℕ} (p : ℕ) {r : Run} → Ok q (busy g ba (p ∷ lo) sl pl) m b d r → Ok q (busy g ba lo sl pl) m b d (P.forget-peer p r)
   unfolding P.forget-peer P.drop-traces P.drop-mark P.drop-data count
@@ -138,10 +145,10 @@ module _ {q : Fixed} {g ba : List ℕ} {sl m b d : ℕ} where
         tally = h .tally;
       }) (λ w. w) k)
 
-  -- after `make-room` the passive view has a free place
-  pub ok-make-room : {lo : List ℕ} {r : Run} → Ok q (busy g ba lo sl 0) m b (d + 1) r → Ok q (busy g ba lo sl 1) m b d (P.make-room r)
-  unfolding P.make-room P.must-evict passive-is-full pick
-  ok-make-room {lo} {r} k =
+  -- after `evict` the passive view has a free place
+  ok-evict : {lo : List ℕ} {r : Run} → Ok q (busy g ba lo sl 0) m b (d + 1) r → Ok q (busy g ba lo sl 1) m b d (P.evict r)
+  unfolding P.evict P.must-evict passive-is-full pick
+  ok-evict {lo} {r} k =
       ok-if _
       (λ e. ok-evict-at {lo = lo} _ (rw (draw-station 1 r) (mod-lt (drawn r) (null-no (r .station .passive) (not-true _ (and-right (leb (r .station .config .«passive_view_capacity») (length (r .station .passive))) _ e))))) (ok-draw-one k))
       (λ e. ease (omega arith) (omega arith) (omega arith) (ok-map (λ o h w. record {
@@ -169,14 +176,19 @@ module _ {q : Fixed} {g ba : List ℕ} {sl m b d : ℕ} where
         tally = h .tally;
       }) (λ w. w) k
 
-  pub ok-enter-loose : {lo : List ℕ} (p : ℕ) {r : Run} → Ok q (busy g ba (p ∷ lo) sl 0) m b (d + 1) r → Ok q (busy g ba lo sl 0) m b d (P.enter-passive p r)
+module _ {q : Fixed} {g ba : List ℕ} {sl m b d : ℕ} where
+  pub ok-make-room : {lo : List ℕ} {r : Run} → Ok q (busy g ba lo sl 0) m (b + bare) (d + 1) r → Ok q (busy g ba lo sl 1) m b d (P.make-room r)
+  unfolding P.make-room
+  ok-make-room {lo} {r} k = ok-tell-evicted (P.evicted r) (ok-evict {lo = lo} k)
+
+  pub ok-enter-loose : {lo : List ℕ} (p : ℕ) {r : Run} → Ok q (busy g ba (p ∷ lo) sl 0) m (b + bare) (d + 1) r → Ok q (busy g ba lo sl 0) m b d (P.enter-passive p r)
   unfolding P.enter-passive count
   ok-enter-loose {lo} p {r} k =
       ok-if (P.is-newcomer p (r .station))
       (λ e. ok-push-passive {lo = lo} p (ok-make-room {lo = p ∷ lo} k))
       (λ e. ok-absurd (λ o h w. omega (arith, h .seats .one p, is-self p, new-no p (r .station) e)) k)
 
-  pub ok-enter-passive : (p : ℕ) {r : Run} → Ok q (busy g ba [] sl 0) m b (d + 1) r → Ok q (busy g ba [] sl 0) m b d (P.enter-passive p r)
+  pub ok-enter-passive : (p : ℕ) {r : Run} → Ok q (busy g ba [] sl 0) m (b + bare) (d + 1) r → Ok q (busy g ba [] sl 0) m b d (P.enter-passive p r)
   unfolding P.enter-passive count
   ok-enter-passive p {r} k =
       ok-if (P.is-newcomer p (r .station))
@@ -196,13 +208,12 @@ module _ {q : Fixed} {g ba : List ℕ} {sl m b d : ℕ} where
       }) k)))
       (λ e. ease (omega arith) (omega arith) (omega arith) k)
 
-module _ {q : Fixed} {g ba : List ℕ} {sl m b d : ℕ} where
-  pub ok-add-passive : (p : ℕ) (x : Data) {r : Run} → (r .code ≡ 0 → Short x) → Ok q (busy g ba [] sl 0) m (b + 48) (d + 1) r → Ok q (busy g ba [] sl 0) m b d (P.add-passive p x r)
+  pub ok-add-passive : (p : ℕ) (x : Data) {r : Run} → (r .code ≡ 0 → Short x) → Ok q (busy g ba [] sl 0) m (b + adding) (d + 1) r → Ok q (busy g ba [] sl 0) m b d (P.add-passive p x r)
   unfolding P.add-passive
-  ok-add-passive p x l k = ok-enter-passive p (ok-insert-peer-info p x l k)
+  ok-add-passive p x l k = ok-enter-passive p (ok-insert-peer-info p x l (ease (omega arith) (omega arith) (omega arith) k))
 
--- a message's nodes, each with 48 bytes and a draw
-pub ok-add-nodes : {q : Fixed} {m b d : ℕ} (ns : List Node) {r : Run} → ShortNodes ns → Ok q calm m (b + 48 * length ns) (d + length ns) r → Ok q calm m b d (P.add-nodes ns r)
+-- a message's nodes, each with the bytes of an addition and a draw
+pub ok-add-nodes : {q : Fixed} {m b d : ℕ} (ns : List Node) {r : Run} → ShortNodes ns → Ok q calm m (b + adding * length ns) (d + length ns) r → Ok q calm m b d (P.add-nodes ns r)
 unfolding P.add-nodes ShortNodes
 ok-add-nodes [] h k = ease (omega arith) (omega arith) (omega arith) k
 ok-add-nodes (n ∷ ns) h k = ok-add-nodes ns (h .1) (ok-add-passive (n .id) (n .data-of) (λ z. h .0) (ease (omega arith) (omega arith) (omega arith) k))

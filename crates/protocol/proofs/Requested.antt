@@ -15,6 +15,7 @@ use Rattle.peer.specs.Data.{Data}
 use Rattle.record.specs.Format.{Rec}
 use Rattle.protocol.specs.Station.{Station, is-me, in-active, peers-end}
 use Rattle.protocol.specs.Run.{Run, on}
+use Rattle.protocol.specs.Budgets.{bare, single, disconnecting, removing}
 use Rattle.protocol.specs.Peers as P
 use Rattle.protocol.specs.Active.{connection-closed}
 use Rattle.protocol.specs.Messages.{drop-request}
@@ -68,10 +69,10 @@ module _ {q : Fixed} {m b d : ℕ} where
       ok-on _ (λ o h. push-boot q m p (r .station) o h)
       (λ w. law-joins w (by-choice (λ j. Numbered j (r .station .next-join)) _ (λ e. cut-numbered _ (w .joins-ok)) (λ e. w .joins-ok))) k
 
-  pub ok-await-join : (p : ℕ) {r : Run} → Ok q (rooted-in (p ∷ []) p) m (b + 24) d r → Ok q calm m b d (E.await-join p r)
+  pub ok-await-join : (p : ℕ) {r : Run} → Ok q (rooted-in (p ∷ []) p) m (b + bare) d r → Ok q calm m b d (E.await-join p r)
   unfolding E.await-join E.open-join E.join-counts E.note-join count
   ok-await-join p {r} k =
-      ok-quiet _ 24 (omega arith) (λ e. omega arith) (λ e. omega arith) (λ z w. no-node _ refl)
+      ok-quiet _ bare (omega arith) (λ e. omega arith) (λ e. omega arith) (λ z w. no-node _ refl)
       (ok-claim ten _ (E.note-join p) (λ z e o h w. let s = r .station in (
         record {
           still = h .still;
@@ -139,10 +140,10 @@ module _ {q : Fixed} {m b d : ℕ} where
   }) k
 
 -- RequestJoin: 1
-pub ok-handle-join : {q : Fixed} {b d : ℕ} (p : ℕ) {r : Run} → p < peers-end → Ok q calm 1 (b + 72) d r → Ok q calm 0 b d (E.handle-join p r)
+pub ok-handle-join : {q : Fixed} {b d : ℕ} (p : ℕ) {r : Run} → p < peers-end → Ok q calm 1 (b + (single + bare)) d r → Ok q calm 0 b d (E.handle-join p r)
 unfolding E.handle-join E.join-new E.join-other
 ok-handle-join {q} {b} {d} p {r} pn k =
-    let j : Ok q (rooted-in [] p) 1 (b + 72) d (on (E.push-bootstrap p) r) = ok-push-bootstrap p k in
+    let j : Ok q (rooted-in [] p) 1 (b + (single + bare)) d (on (E.push-bootstrap p) r) = ok-push-bootstrap p k in
     ok-if _ (λ e. unroot (ease (omega arith) (omega arith) (omega arith) j))
     (λ e. ok-if _ (λ f. ok-join p (unroot (ease (omega arith) (omega arith) (omega arith) j)))
     (λ f. ok-await-join p (ok-join p (invite-root p pn f e (ease (omega arith) (omega arith) (omega arith) j)))))
@@ -173,10 +174,10 @@ module _ {q : Fixed} {m b d : ℕ} where
       })
       (λ w. law-held w (cut-held p (w .held-ok))) k)
 
-pub ok-closed : {q : Fixed} {b d : ℕ} (p : ℕ) {r : Run} → Ok q calm 1 (b + 144) (d + 2) r → Ok q calm 0 b d (E.handle-connection-closed p r)
+pub ok-closed : {q : Fixed} {b d : ℕ} (p : ℕ) {r : Run} → Ok q calm 1 (b + removing) (d + 2) r → Ok q calm 0 b d (E.handle-connection-closed p r)
 unfolding E.handle-connection-closed E.lose E.lose-other
 ok-closed {q} {b} {d} p {r} k =
-    let j : Ok q calm 1 (b + 144) (d + 2) (on (drop-request p) r) = ok-drop-request p k in
+    let j : Ok q calm 1 (b + removing) (d + 2) (on (drop-request p) r) = ok-drop-request p k in
     ok-either _ (ok-remove-active p connection-closed (λ e. let z : _≡_ {A = ℕ} 0 1 = cc in absurd (omega arith)) (ease (omega arith) (omega arith) (omega arith) j))
     (ok-either _ (ok-refill _ (ok-lose-passive p (ease (omega arith) (omega arith) (omega arith) j))) (ok-lose-passive p (ease (omega arith) (omega arith) (omega arith) j)))
 
@@ -222,13 +223,13 @@ module _ {q : Fixed} {m b d : ℕ} where
       })
       (λ w. w) k
 
-pub ok-quit-all : {q : Fixed} {m b d : ℕ} (ps : List ℕ) {r : Run} → Ok q (quitting ps) m (b + 816 * length ps) (d + 38 * length ps) r → Ok q (quitting []) m b d (E.quit-all ps r)
+pub ok-quit-all : {q : Fixed} {m b d : ℕ} (ps : List ℕ) {r : Run} → Ok q (quitting ps) m (b + disconnecting * length ps) (d + 38 * length ps) r → Ok q (quitting []) m b d (E.quit-all ps r)
 unfolding E.quit-all E.quit-one
 ok-quit-all [] k = ease (omega arith) (omega arith) (omega arith) k
 ok-quit-all (p ∷ ps) k =
     ok-quit-all ps (ok-send-disconnect p false (ok-remove-neighbor p ps (ease (omega arith) (omega arith) (omega arith) k)))
 
-pub ok-handle-quit : {q : Fixed} {m b d : ℕ} {r : Run} → length (r .station .active) ≤ 8 → Ok q (quitting (r .station .active)) m (b + 6528) (d + 304) r → Ok q calm m b d (E.handle-quit r)
+pub ok-handle-quit : {q : Fixed} {m b d : ℕ} {r : Run} → length (r .station .active) ≤ 8 → Ok q (quitting (r .station .active)) m (b + 8 * disconnecting) (d + 304) r → Ok q calm m b d (E.handle-quit r)
 unfolding E.handle-quit E.clear-all count Rising keys Each
 ok-handle-quit {r = r} l k =
     ok-on _ (λ o h. record {

@@ -3,7 +3,7 @@
 use mathlib.Core.Path.{_≡_, refl}
 use mathlib.Core.Bool.{false}
 use mathlib.Core.List.{List, [], _∷_, _++_}
-use Prim.Native.Nat.{ℕ, _+_, _-_, _≤_}
+use Prim.Native.Nat.{ℕ, _+_, _*_, _-_, _≤_}
 use native.Mathlib.Omega.{arith}
 use lib.ListN.{length, take, length-append}
 use borrow.Author.Tests.{ltb-true}
@@ -15,6 +15,7 @@ use Rattle.peer.specs.Data.{Node}
 use Rattle.protocol.specs.Station.{requests-left, recovery, top-passes}
 use Rattle.protocol.specs.Run as R
 use Rattle.protocol.specs.Run.{Run, on, draw}
+use Rattle.protocol.specs.Budgets.{bare, single, crowd, asking}
 use Rattle.protocol.specs.Sending as S
 use Rattle.protocol.specs.Refill as F
 use Rattle.protocol.specs.Timers as T
@@ -31,26 +32,26 @@ use Rattle.protocol.proofs.Entering.{unbar}
 use Rattle.protocol.proofs.Received.{ok-emit-all, ok-drop-join, ok-drop-request}
 
 module _ {q : Fixed} where
-  pub ok-neighbor-timer : {b d : ℕ} (p id : ℕ) {r : Run} → Ok q calm 1 (b + 72) (d + 1) r → Ok q calm 0 b d (T.handle-pending-neighbor-timer p id r)
+  pub ok-neighbor-timer : {b d : ℕ} (p id : ℕ) {r : Run} → Ok q calm 1 (b + asking) (d + 1) r → Ok q calm 0 b d (T.handle-pending-neighbor-timer p id r)
   unfolding T.handle-pending-neighbor-timer T.request-failed
   ok-neighbor-timer p id k =
       ok-either _ (ok-refill _ (ok-drop-passive p (ok-drop-request p (ease (omega arith) (omega arith) (omega arith) k)))) (ease (omega arith) (omega arith) (omega arith) k)
 
-  pub ok-retry-join : {b d : ℕ} (p id : ℕ) {r : Run} → Ok q calm 1 (b + 48) d r → Ok q calm 0 b d (T.retry-join p id r)
+  pub ok-retry-join : {b d : ℕ} (p id : ℕ) {r : Run} → Ok q calm 1 (b + single) d r → Ok q calm 0 b d (T.retry-join p id r)
   unfolding T.retry-join
   ok-retry-join p id k =
       ok-either _ (ok-join p (unbar (ok-drop-join p (ease (omega arith) (omega arith) (omega arith) k)))) (ease (omega arith) (omega arith) (omega arith) k)
 
 module _ {q : Fixed} {t : Terms} {m b d : ℕ} where
-  pub ok-schedule-shuffle : {r : Run} → Ok q t m (b + 24) (d + 1) r → Ok q t m b d (T.schedule-shuffle r)
+  pub ok-schedule-shuffle : {r : Run} → Ok q t m (b + bare) (d + 1) r → Ok q t m b d (T.schedule-shuffle r)
   unfolding T.schedule-shuffle T.double-interval
   ok-schedule-shuffle {r} k =
-      ok-quiet _ 24 (omega arith) (λ e. omega arith) (λ e. omega arith) (λ z w. no-node _ refl)
+      ok-quiet _ bare (omega arith) (λ e. omega arith) (λ e. omega arith) (λ z w. no-node _ refl)
       (ok-draw-one (ok-on _ (λ o h. h) (λ w. law-pace w (record { low = omega (arith, w .pace-ok .low, w .pace-ok .high); high = omega arith })) k))
 
-  pub ok-schedule-maintenance : {r : Run} → Ok q t m (b + 24) d r → Ok q t m b d (T.schedule-maintenance r)
+  pub ok-schedule-maintenance : {r : Run} → Ok q t m (b + bare) d r → Ok q t m b d (T.schedule-maintenance r)
   unfolding T.schedule-maintenance
-  ok-schedule-maintenance k = ok-quiet _ 24 (omega arith) (λ e. omega arith) (λ e. omega arith) (λ z w. no-node _ refl) k
+  ok-schedule-maintenance k = ok-quiet _ bare (omega arith) (λ e. omega arith) (λ e. omega arith) (λ z w. no-node _ refl) k
 
 short-more : (ns : List Node) (n : Node) → ShortNodes ns → Short (n .data-of) → ShortNodes (ns ++ (n ∷ []))
 unfolding ShortNodes
@@ -59,17 +60,17 @@ short-more (x ∷ ns) n h l = (h .0, short-more ns n (h .1) l)
 
 module _ {q : Fixed} where
   -- a Shuffle of at most 31 peers and the station itself
-  pub ok-send-shuffle : {m b d : ℕ} (to : ℕ) (ps : List ℕ) {r : Run} → (r .code ≡ 0 → length ps ≤ 31) → Ok q calm (m + 1) (b + 792) d r → Ok q calm m b d (T.send-shuffle to ps r)
+  pub ok-send-shuffle : {m b d : ℕ} (to : ℕ) (ps : List ℕ) {r : Run} → (r .code ≡ 0 → length ps ≤ 31) → Ok q calm (m + 1) (b + crowd) d r → Ok q calm m b d (T.send-shuffle to ps r)
   unfolding T.send-shuffle T.shuffle-nodes
   ok-send-shuffle to ps {r} l k =
-      ok-message _ 792 refl (λ z o g w. many-nodes _ _ refl (short-more _ _ (short-infos (r .station) ps (w .held-ok .shorts)) (w .own-ok))
+      ok-message _ crowd refl (λ z o g w. many-nodes _ _ refl (short-more _ _ (short-infos (r .station) ps (w .held-ok .shorts)) (w .own-ok))
       (omega (arith, l z, length-infos (r .station) ps, length-append (R.peer-infos (r .station) ps) (R.node (r .station .me) (r .station .own-data) ∷ [])))) k
 
-  pub ok-shuffle-with : {m b d : ℕ} (to : ℕ) {r : Run} → Ok q calm (m + 1) (b + 792) (d + 38) r → Ok q calm m b d (T.shuffle-with to r)
+  pub ok-shuffle-with : {m b d : ℕ} (to : ℕ) {r : Run} → Ok q calm (m + 1) (b + crowd) (d + 38) r → Ok q calm m b d (T.shuffle-with to r)
   unfolding T.shuffle-with T.shuffle-passive R.draw-shuffle shuffle-draws T.active-part T.passive-part
   ok-shuffle-with {m} {b} {d} to {r} k =
       let w = draw (length (without to (r .station .active)) - 1) r in
-      let j : Ok q calm (m + 1) (b + 792) (d + 31) w =
+      let j : Ok q calm (m + 1) (b + crowd) (d + 31) w =
       ok-draw {k = 7} _ (λ o g. omega (arith, length-without to (r .station .active), g .seats .slots-left, g .still .ranges .few-slots)) (ease (omega arith) (omega arith) (omega arith) k) in
       ok-send-shuffle to _ (λ z. let y = draw-fine _ w z in
       ok-fact (λ o g i. ok-fact (λ p h l. omega (
@@ -83,16 +84,16 @@ module _ {q : Fixed} where
       (ok-draw {k = 31} _ (λ o g. omega (arith, length-without to (w .station .passive), g .seats .places-left, g .still .ranges .few-places)) j)
 
   -- DoShuffle: 1
-  pub ok-shuffle-timer : {b d : ℕ} {r : Run} → Ok q calm 1 (b + 816) (d + 40) r → Ok q calm 0 b d (T.handle-shuffle-timer r)
+  pub ok-shuffle-timer : {b d : ℕ} {r : Run} → Ok q calm 1 (b + (crowd + bare)) (d + 40) r → Ok q calm 0 b d (T.handle-shuffle-timer r)
   unfolding T.handle-shuffle-timer T.shuffle-any
   ok-shuffle-timer k =
       ok-schedule-shuffle (ok-either _ (ease (omega arith) (omega arith) (omega arith) k) (ok-shuffle-with _ (ok-draw-one (ease (omega arith) (omega arith) (omega arith) k))))
 
   -- a maintenance timer: 9
-  pub ok-rejoin : {b d : ℕ} {r : Run} → Ok q calm 9 (b + 432) (d + 1) r → Ok q calm 0 b d (T.rejoin r)
+  pub ok-rejoin : {b d : ℕ} {r : Run} → Ok q calm 9 (b + 9 * single) (d + 1) r → Ok q calm 0 b d (T.rejoin r)
   unfolding T.rejoin T.rejoin-recent T.rejoin-bootstrap S.join-to
   ok-rejoin {b} {d} {r} k =
-      let j : Ok q calm 1 (b + 48) (d + 1) (T.rejoin-bootstrap r) =
+      let j : Ok q calm 1 (b + single) (d + 1) (T.rejoin-bootstrap r) =
       ok-emit-all _ (λ x. refl) (r .station .bootstrap) (λ z p. ok-fact (λ o g w. one-node (S.join-to (r .station .own-data) p) _ refl (w .own-ok)) k z)
       (ok-shift (λ o h. (
         record {
@@ -105,10 +106,10 @@ module _ {q : Fixed} where
       )) k) in
       ok-either _ (ease (omega arith) (omega arith) (omega arith) j) (ok-join _ (ok-draw-one j))
 
-  pub ok-pass-alone : {b d : ℕ} {r : Run} → q .alone-kept ≡ false → Ok q calm 9 (b + 432) (d + 1) r → Ok q calm 0 b d (T.pass-alone r)
+  pub ok-pass-alone : {b d : ℕ} {r : Run} → q .alone-kept ≡ false → Ok q calm 9 (b + 9 * single) (d + 1) r → Ok q calm 0 b d (T.pass-alone r)
   unfolding T.pass-alone T.rejoin-if-due T.count-alone T.alone-counts T.add-alone
   ok-pass-alone {b} {d} {r} free k =
-      let j : Ok q calm 9 (b + 432) (d + 1) (T.count-alone r) =
+      let j : Ok q calm 9 (b + 9 * single) (d + 1) (T.count-alone r) =
       ok-claim ten _ T.add-alone (λ z e o g w. (
         record {
           still = record {
@@ -125,15 +126,15 @@ module _ {q : Fixed} where
       )) k in
       ok-either _ (ok-rejoin j) (ease (omega arith) (omega arith) (omega arith) j)
 
-  pub ok-pass-short : {b d : ℕ} {r : Run} → Ok q calm 1 (b + 72) (d + 1) r → Ok q calm 0 b d (T.pass-short r)
+  pub ok-pass-short : {b d : ℕ} {r : Run} → Ok q calm 1 (b + asking) (d + 1) r → Ok q calm 0 b d (T.pass-short r)
   unfolding T.pass-short T.refill-if-due T.refill-anew T.count-short T.short-counts T.add-short Small
   ok-pass-short {b} {d} {r} k =
-      let j : Ok q calm 1 (b + 72) (d + 1) (T.count-short r) =
+      let j : Ok q calm 1 (b + asking) (d + 1) (T.count-short r) =
       ok-claim ten _ T.add-short (λ z e o g w. (g, law-short w (record { high = omega (arith, ltb-true (r .station .passes-short) top-passes e) }))) k in
       ok-either _ (ease (omega arith) (omega arith) (omega arith) k)
       (ok-either _ (ok-start-refill (requests-left 3) _ (omega arith) (ok-clear-refused j)) (ease (omega arith) (omega arith) (omega arith) j))
 
-  pub ok-pass-known : {b d : ℕ} {r : Run} → Ok q calm 1 (b + 72) (d + 1) r → Ok q calm 0 b d (T.pass-known r)
+  pub ok-pass-known : {b d : ℕ} {r : Run} → Ok q calm 1 (b + asking) (d + 1) r → Ok q calm 0 b d (T.pass-known r)
   unfolding T.pass-known T.pass-neighbors Small
   ok-pass-known k =
       ok-either _ (ok-start-refill recovery _ tt k)
@@ -154,8 +155,8 @@ module _ {q : Fixed} where
         tally = h .tally;
       }) (λ w. law-fill (law-alone w (record { high = omega arith })) (by-choice Small _ (λ e. tt) (λ e. w .fill-ok))) k
 
-  pub ok-maintenance-timer : {b d : ℕ} {r : Run} → q .alone-kept ≡ false → Ok q calm 9 (b + 456) (d + 1) r → Ok q calm 0 b d (T.handle-maintenance-timer r)
+  pub ok-maintenance-timer : {b d : ℕ} {r : Run} → q .alone-kept ≡ false → Ok q calm 9 (b + (bare + 9 * single)) (d + 1) r → Ok q calm 0 b d (T.handle-maintenance-timer r)
   unfolding T.handle-maintenance-timer T.maintain T.remember-all
   ok-maintenance-timer {b} {d} {r} free k =
-      let j : Ok q calm 9 (b + 456) (d + 1) (on T.remember-all r) = ok-on _ (λ o h. h) (λ w. law-recent w (renew-all-recent _ _ (w .recent-ok))) k in
+      let j : Ok q calm 9 (b + (bare + 9 * single)) (d + 1) (on T.remember-all r) = ok-on _ (λ o h. h) (λ w. law-recent w (renew-all-recent _ _ (w .recent-ok))) k in
       ok-schedule-maintenance (ok-either _ (ok-pass-alone free (ease (omega arith) (omega arith) (omega arith) j)) (ok-pass-known (ok-not-alone free (ease (omega arith) (omega arith) (omega arith) j))))

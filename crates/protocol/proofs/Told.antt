@@ -10,6 +10,7 @@ use Rattle.peer.specs.Data.{Data, Node, bytes-of}
 use Rattle.record.specs.Format.{Rec, size, datas}
 use Rattle.protocol.specs.Station.{Station}
 use Rattle.protocol.specs.Run.{peer-info, peer-infos}
+use Rattle.protocol.specs.Budgets.{bare, full-node}
 use Rattle.protocol.proofs.Extra.{Each}
 unfoldable pub use Rattle.protocol.specs.Invariant.{spell, note, up-after, sent-after}
 pub use Rattle.protocol.specs.Invariant.{Sound, AllSound, no-more, one-more}
@@ -28,7 +29,7 @@ length-datas [] h = omega arith
 length-datas (n ∷ ns) h =
     omega (arith, length-append (bytes-of (n .data-of)) (datas ns), length-datas ns (h .1), length-data (n .data-of) (h .0))
 
-pub size-short : (e : Rec) → ShortNodes (e .nodes) → size e ≤ 24 + 24 * length (e .nodes)
+pub size-short : (e : Rec) → ShortNodes (e .nodes) → size e ≤ bare + full-node * length (e .nodes)
 unfolding size
 size-short e h = omega (arith, length-datas (e .nodes) h)
 

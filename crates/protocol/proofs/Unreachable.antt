@@ -3,6 +3,7 @@
 use mathlib.Core.Path.{_≡_, refl, sym, ap, subst, _∙_}
 use mathlib.Core.Bool.{true, false}
 use mathlib.Core.List.{List}
+use mathlib.Core.Option.{Option, none, some}
 use Prim.Native.Nat.{ℕ}
 use native.Mathlib.Omega.{arith}
 use lib.ListN.{length}
@@ -13,13 +14,13 @@ use Rattle.lists.proofs.Count.{length-without}
 use Rattle.timing.specs.Timing.{expired}
 use Rattle.peer.specs.Data.{Node}
 use Rattle.protocol.specs.Station.{Station, is-last-hop, in-active}
-use Rattle.protocol.specs.Run.{Run, draw}
+use Rattle.protocol.specs.Run.{Run, draw, notice}
 use Rattle.protocol.specs.Peers as P
 use Rattle.protocol.specs.Messages.{ends-here, learn-joiner}
 use Rattle.protocol.specs.Rules.{station-ok}
 use Rattle.protocol.specs.Handle.{start}
 use Rattle.protocol.proofs.Extra.{null-yes}
-use Rattle.protocol.proofs.Keeping.{draw-station}
+use Rattle.protocol.proofs.Keeping.{draw-station, emit-station}
 use Rattle.protocol.proofs.Entering.{on-same, same-after-info}
 use Rattle.protocol.proofs.Tested.{between-of}
 
@@ -35,10 +36,16 @@ evict-keeps : (i : ℕ) (r : Run) → (P.evict-at i r) .station .active ≡ r .s
 unfolding P.evict-at P.shift-passive
 evict-keeps i r = forget-keeps _ _ ∙ on-same neighbours _ (λ s. refl) r
 
+tell-keeps : (x : Option ℕ) (r : Run) → (P.tell-evicted x r) .station .active ≡ r .station .active
+unfolding P.tell-evicted
+tell-keeps none r = refl
+tell-keeps (some p) r = ap neighbours (emit-station (notice 12 p) r)
+
 room-keeps : (r : Run) → (P.make-room r) .station .active ≡ r .station .active
-unfolding P.make-room
+unfolding P.make-room P.evict
 room-keeps r =
-    by-choice (λ (w : Run). w .station .active ≡ r .station .active) _
+    tell-keeps (P.evicted r) (P.evict r)
+    ∙ by-choice (λ (w : Run). w .station .active ≡ r .station .active) (P.must-evict (r .station))
     (λ e. evict-keeps _ (draw 1 r) ∙ ap neighbours (draw-station 1 r)) (λ e. refl)
 
 enter-keeps : (p : ℕ) (r : Run) → (P.enter-passive p r) .station .active ≡ r .station .active

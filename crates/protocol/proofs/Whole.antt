@@ -3,7 +3,7 @@
 use mathlib.Core.Path.{_≡_, refl, sym, ap, _∙_}
 use mathlib.Core.Bool.{true, false, not}
 use mathlib.Core.List.{List, [], _∷_}
-use Prim.Native.Nat.{ℕ, suc, _+_, _≤_}
+use Prim.Native.Nat.{ℕ, suc, _+_, _*_, _≤_}
 use native.Mathlib.Omega.{arith}
 use lib.ListN.{length}
 use lib.Dec.{eqb}
@@ -15,6 +15,7 @@ use Rattle.peer.specs.Data.{Node}
 use Rattle.record.specs.Format.{Rec}
 use Rattle.protocol.specs.Station.{Station}
 use Rattle.protocol.specs.Run.{Run}
+use Rattle.protocol.specs.Budgets.{bare, crowd, adding}
 use Rattle.protocol.specs.Events.{handle-quit}
 use Rattle.protocol.specs.Handle as H
 use Rattle.protocol.specs.Handle.{start, steps, dispatch}
@@ -49,7 +50,7 @@ away : (x i j : ℕ) → eqb x i ≡ true → (i ≡ j → ⊥) → eqb x j ≡ 
 away x i j t ne = ne-eqb x j (λ z. ne (sym (eqb-true x i t) ∙ z))
 
 module _ {q : Fixed} {n b d : ℕ} (e : Rec) (w : Readable e) (some : 1 ≤ q .config-of .«active_view_capacity») (p : Pays (q .config-of .«active_view_capacity») n e) (free : eqb (e .kind) 2 ≡ true → q .alone-kept ≡ false) where
-  pub ok-handle-message : {r : Run} → eqb (e .kind) 0 ≡ true → Ok q calm n (b + 2328) (d + 70) r → Ok q calm 0 b d (H.handle-message e r)
+  pub ok-handle-message : {r : Run} → eqb (e .kind) 0 ≡ true → Ok q calm n (b + (crowd + 32 * adding)) (d + 70) r → Ok q calm 0 b d (H.handle-message e r)
   unfolding H.handle-message
   ok-handle-message z k =
       let one : 1 ≤ n = p .for-message z in
@@ -60,7 +61,7 @@ module _ {q : Fixed} {n b d : ℕ} (e : Rec) (w : Readable e) (some : 1 ≤ q .c
       (ok-if (eqb (e .message) 4) (λ i. ok-on-neighbor _ (w .narrow) _ (short e w) _ (let l = p .for-neighbor z i in ease (omega arith) (omega arith) (omega arith) k))
       (λ _. ok-on-disconnect _ _ (ease (omega arith) (omega arith) (omega arith) k))))))
 
-  pub ok-dispatch : {r : Run} → eqb (e .kind) 8 ≡ false → Ok q calm n (b + 2328) (d + 70) r → Ok q calm 0 b d (dispatch e r)
+  pub ok-dispatch : {r : Run} → eqb (e .kind) 8 ≡ false → Ok q calm n (b + (crowd + 32 * adding)) (d + 70) r → Ok q calm 0 b d (dispatch e r)
   unfolding dispatch
   ok-dispatch {r} k8 k =
       let other : (i : ℕ) → eqb (e .kind) i ≡ true → (i ≡ 7 → ⊥) → 1 ≤ n = (λ i t ne. p .for-other (away (e .kind) i 7 t ne) k8) in
@@ -86,7 +87,7 @@ pub quit-dispatch : (e : Rec) → eqb (e .kind) 8 ≡ true → (r : Run) → dis
 unfolding dispatch choose
 quit-dispatch e f r = rw (eqb-true (e .kind) 8 f)
 
-pub ok-first-timers : {q : Fixed} {t : Terms} {m b d : ℕ} {r : Run} → Ok q t m (b + 48) (d + 1) r → Ok q t m b d (H.first-timers r)
+pub ok-first-timers : {q : Fixed} {t : Terms} {m b d : ℕ} {r : Run} → Ok q t m (b + 2 * bare) (d + 1) r → Ok q t m b d (H.first-timers r)
 unfolding H.first-timers H.note-scheduled
 ok-first-timers k =
     ok-either _ (ease (omega arith) (omega arith) (omega arith) k)

@@ -1,6 +1,7 @@
 pub mod Station
 pub mod Setters
 pub mod Run
+pub mod Budgets
 pub mod Peers
 pub mod Sending
 pub mod Refill
@@ -11,5 +12,6 @@ pub mod Timers
 pub mod Rules
 pub mod Handle
 pub mod Written
+pub mod Evictions
 pub mod Traced
 pub mod Invariant

@@ -3,7 +3,7 @@
 use Prim.Native.Nat.{ℕ}
 use mathlib.Core.Bool.{Bool, false, not, _&&_, _||_}
 use mathlib.Core.List.{List, [], _∷_, _++_}
-use mathlib.Core.Option.{none, some}
+use mathlib.Core.Option.{Option, none, some}
 use lib.ListN.{length, getD}
 use lib.Dec.{ltb}
 use Rattle.lists.specs.Lists.{choose, null, mem, shift-remove, remove, without}
@@ -12,7 +12,7 @@ use Rattle.util.specs.Random.{pick}
 use Rattle.peer.specs.Data.{Data, Node, holds}
 use Rattle.protocol.specs.Station.{Station, is-me, in-view, passive-is-full, max-peer-data}
 use Rattle.protocol.specs.Setters.{set-passive, set-peer-data, set-alive}
-use Rattle.protocol.specs.Run.{Run, on, emit, draw, require, drawn, data-notice}
+use Rattle.protocol.specs.Run.{Run, on, emit, draw, require, drawn, picked, notice, data-notice}
 
 -- insert_peer_info
 
@@ -72,8 +72,21 @@ evict-at i r = forget-peer (getD (r .station .passive) i 0) (on (shift-passive i
 unfoldable pub must-evict : Station → Bool
 must-evict s = passive-is-full s && not (null (s .passive))
 
+-- 02, S-2: the peer that leaves a full passive view before another enters, as the next draw decides
+unfoldable pub evicted : Run → Option ℕ
+evicted r = choose (must-evict (r .station)) (some (picked (r .station .passive) r)) none
+
+unfoldable pub evict : Run → Run
+evict r = choose (must-evict (r .station)) (evict-at (pick (length (r .station .passive)) (drawn r)) (draw 1 r)) r
+
+-- S-2: "an output record of kind 12 .. carries that peer"
+unfoldable pub tell-evicted : Option ℕ → Run → Run
+tell-evicted none r = r
+tell-evicted (some p) r = emit (notice 12 p) r
+
+-- "stands right after the eviction"
 unfoldable pub make-room : Run → Run
-make-room r = choose (must-evict (r .station)) (evict-at (pick (length (r .station .passive)) (drawn r)) (draw 1 r)) r
+make-room r = tell-evicted (evicted r) (evict r)
 
 -- neither the station itself nor in a view
 unfoldable pub is-newcomer : ℕ → Station → Bool
@@ -82,9 +95,16 @@ is-newcomer p s = not (is-me p s || in-view p s)
 unfoldable pub enter-passive : ℕ → Run → Run
 enter-passive p r = choose (is-newcomer p (r .station)) (on (push-passive p) (make-room r)) r
 
--- add_passive; its answer is `is-newcomer`, which the data do not change
+-- add_passive; what the Rust answers is `is-newcomer`, which the data do not change
 unfoldable pub add-passive : ℕ → Data → Run → Run
 add-passive p d r = enter-passive p (insert-peer-info p d r)
+
+unfoldable pub evicted-for : ℕ → Run → Option ℕ
+evicted-for p r = choose (is-newcomer p (r .station)) (evicted r) none
+
+-- S-2: "Adding to the passive view must name the peer it evicted, if any": what add_passive answers here; of a refused run it says nothing
+unfoldable pub evicted-by : ℕ → Data → Run → Option ℕ
+evicted-by p d r = evicted-for p (insert-peer-info p d r)
 
 -- the loops of on_shuffle and on_shuffle_reply over a message's nodes
 unfoldable pub add-nodes : List Node → Run → Run

@@ -89,7 +89,7 @@ message m to f o t ns = record { kind = 0; message = m; flags = f; peer = to; se
 abbrev pub timer : ℕ → ℕ → ℕ → ℕ → Rec
 timer k p delay n = record { kind = k; message = 0; flags = 0; peer = p; second = delay; ttl = 0; number = n; nodes = [] }
 
--- io.emit: NeighborUp (9) or NeighborDown (10)
+-- io.emit: NeighborUp (9) or NeighborDown (10); by document 02, S-2, the peer that the passive view evicted (12)
 abbrev pub notice : ℕ → ℕ → Rec
 notice k p = record { kind = k; message = 0; flags = 0; peer = p; second = 0; ttl = 0; number = 0; nodes = [] }
 

@@ -14,9 +14,9 @@ use Rattle.record.specs.Format.{Rec, header-length, node-length, peer-le
 use Rattle.record.specs.declared.Header.{Header}
 use Rattle.record.specs.declared.Entry.{Entry}
 
--- Part 3: "fixed sizes": 32 for kinds 7 and 11, 24 for the other kinds from 0 to 10, 0 for every other byte
+-- Part 3: "fixed sizes": 32 for kinds 7 and 11, 24 for the other kinds from 0 to 12 (12 by document 02, S-2), 0 for every other byte
 unfoldable pub fixed-size : ℕ → ℕ
-fixed-size k = choose (eqb k 7 || eqb k 11) (header-length + node-length) (choose (leb k 10) header-length 0)
+fixed-size k = choose (eqb k 7 || eqb k 11) (header-length + node-length) (choose (leb k 12) header-length 0)
 
 -- the header's fields, as they stand
 unfoldable pub header-of : List ℕ → Header
@@ -137,11 +137,11 @@ rec-of b = record {
   nodes = nodes-of b 0 (header-of b .nodes);
 }
 
--- The one reader for kinds 0 to 11
+-- The one reader for kinds 0 to 12
 unfoldable pub decode : List ℕ → Option Rec
 decode b = choose (well-formed b) (some (rec-of b)) none
 
--- "as an event, kinds 9 to 11 and a timer's nonzero delay are malformed"
+-- "as an event, kinds 9 to 11 and a timer's nonzero delay are malformed", and kind 12 by S-2
 unfoldable pub is-event : Header → Bool
 is-event h = leb (h .kind) 8 && choose (is-timer h) (eqb (h .second) 0) true
 

@@ -43,7 +43,7 @@ pub fn fixed_size(kind: u8) -> u8
     if (kind == 7) | (kind == 11) {
         return 32;
     }
-    if kind <= 10 {
+    if kind <= 12 {
         return 24;
     }
     0
@@ -256,7 +256,7 @@ pub enum Answer {
     Malformed,
 }
 
-// The one reader for kinds 0 to 11.
+// The one reader for kinds 0 to 12.
 pub fn read(b: &[u8]) -> Answer
     ensures { λ r. ⌜ r ≡ answer (now (b .entry)) ⌝ }
 {
@@ -266,7 +266,7 @@ pub fn read(b: &[u8]) -> Answer
     Answer::Malformed
 }
 
-// Kinds 9 to 11 and a timer's nonzero delay are malformed as events.
+// Kinds 9 to 12 and a timer's nonzero delay are malformed as events.
 fn is_event(h: Header) -> bool
     ensures { λ r. ⌜ r ≡ is-event h ⌝ }
 {

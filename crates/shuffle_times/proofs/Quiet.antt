@@ -3,7 +3,7 @@
 use mathlib.Core.Path.{_≡_, refl, sym, ap, subst, _∙_}
 use mathlib.Core.Bool.{Bool, true, false}
 use mathlib.Core.List.{List, [], _∷_, _++_, append-assoc, append-nil}
-use mathlib.Core.Option.{none, some}
+use mathlib.Core.Option.{Option, none, some}
 use Prim.Native.Nat.{ℕ}
 use lib.Dec.{eqb}
 use Rattle.lists.specs.Lists.{choose}
@@ -148,10 +148,19 @@ forget-peer : (p : ℕ) (r : Run) → Quiet r (P.forget-peer p r)
 unfolding P.forget-peer P.drop-traces P.drop-mark P.drop-data
 forget-peer p r = either _ (same r) (changes _ (λ s. refl) r)
 
+tell-evicted : (x : Option ℕ) (r : Run) → Quiet r (P.tell-evicted x r)
+unfolding P.tell-evicted
+tell-evicted none r = same r
+tell-evicted (some p) r = emits _ refl r
+
+make-room : (r : Run) → Quiet r (P.make-room r)
+unfolding P.make-room P.evict P.evict-at P.shift-passive
+make-room r =
+    then (either _ (then (draws 1 r) (then (changes _ (λ s. refl) _) (forget-peer _ _))) (same r)) (tell-evicted (P.evicted r) _)
+
 enter-passive : (p : ℕ) (r : Run) → Quiet r (P.enter-passive p r)
-unfolding P.enter-passive P.push-passive P.make-room P.evict-at P.shift-passive
-enter-passive p r =
-    either _ (then (either _ (then (draws 1 r) (then (changes _ (λ s. refl) _) (forget-peer _ _))) (same r)) (changes _ (λ s. refl) _)) (same r)
+unfolding P.enter-passive P.push-passive
+enter-passive p r = either _ (then (make-room r) (changes _ (λ s. refl) _)) (same r)
 
 add-passive : (p : ℕ) (d : Data) (r : Run) → Quiet r (P.add-passive p d r)
 unfolding P.add-passive

@@ -19,6 +19,7 @@ use Rattle.writer64.specs.Write.{rec-in}
 use Rattle.protocol.specs.Station.{Station, Refill, automatic, is-me, in-active, active-is-full}
 use Rattle.protocol.specs.Setters.{set-refill}
 use Rattle.protocol.specs.Run.{Run, guard, on, emit, notice}
+use Rattle.protocol.specs.Budgets.{single, freeing, arriving}
 use Rattle.protocol.specs.Peers.{insert-peer-info, drop-mark, remove-passive}
 use Rattle.protocol.specs.Sending.{reply-neighbor}
 use Rattle.protocol.specs.Refill.{unless-recovery}
@@ -143,10 +144,10 @@ unfolding bytes-of Short
 short-by-length none h = tt
 short-by-length (some b) h = h
 
-pub informed : (w a : Work) (xs ys ds out o : List ℕ) (p : ℕ) (d : PeerData) → ValidData d → Calm 0 936 40 (run (work-of w xs) ds out) → Tells (insert-peer-info p (data-in d)) (work-of w xs) (work-of a ys) out o → Calm 0 888 40 (run (work-of a ys) ds o)
+pub informed : (w a : Work) (xs ys ds out o : List ℕ) (p : ℕ) (d : PeerData) → ValidData d → Calm 0 arriving 40 (run (work-of w xs) ds out) → Tells (insert-peer-info p (data-in d)) (work-of w xs) (work-of a ys) out o → Calm 0 freeing 40 (run (work-of a ys) ds o)
 informed w a xs ys ds out o p d v c k =
     let q = c .fixed in
-    let k₁ : Ok q (busy (c .guest) (c .barred) [] 0 0) (c .messages + 0) (c .bytes + 888 + 48) (c .draws + 40) (run (work-of w xs) ds out) = ease (omega arith) (omega arith) (omega arith) (c .ok) in
+    let k₁ : Ok q (busy (c .guest) (c .barred) [] 0 0) (c .messages + 0) (c .bytes + freeing + single) (c .draws + 40) (run (work-of w xs) ds out) = ease (omega arith) (omega arith) (omega arith) (c .ok) in
     record {
       fixed = q;
       guest = c .guest;
@@ -155,6 +156,6 @@ informed w a xs ys ds out o p d v c k =
       bytes = c .bytes;
       draws = c .draws;
       ok =
-          subst (Ok q (busy (c .guest) (c .barred) [] 0 0) (c .messages + 0) (c .bytes + 888) (c .draws + 40)) (sym (k .same ds))
+          subst (Ok q (busy (c .guest) (c .barred) [] 0 0) (c .messages + 0) (c .bytes + freeing) (c .draws + 40)) (sym (k .same ds))
           (ok-insert-peer-info p (data-in d) (λ z. short-by-length (data-in d) (short-bytes d v)) k₁);
     }

@@ -4,6 +4,7 @@ use Prim.Native.Nat.{ℕ, _+_, _≤_, _<_}
 use mathlib.Core.Path.{_≡_, refl, sym, ap, _∙_, subst}
 use mathlib.Core.Bool.{Bool, true, false}
 use mathlib.Core.List.{List, [], _∷_}
+use mathlib.Core.Option.{Option}
 use native.Mathlib.Omega.{arith}
 use lib.ListN.{length, getD}
 use borrow.Author.Tests.{eq-eqb}
@@ -20,6 +21,7 @@ use Rattle.protocol.specs.Station.{recovery, in-active, is-alone}
 use Rattle.protocol.specs.Sending.{send-disconnect}
 use Rattle.protocol.specs.Refill.{start-refill}
 use Rattle.protocol.specs.Run.{Run, with-station, guard, on, emit, draw, drawn}
+use Rattle.protocol.specs.Budgets.{bare, adding, disconnecting, leaving, freeing}
 use Rattle.protocol.specs.Peers.{drop-data, drop-mark, forget-peer, add-passive, is-marked}
 use Rattle.protocol.specs.Active.{Reason, random, swap-active, drop-active, demote, mark-alive, demote-alive, settle-closed, settle, clear-refused, remove-active-by-index, refill-after, remove-active, remove-picked, free-random-slot-in-active-view}
 use Rattle.protocol.proofs.Extra.{shorter}
@@ -36,6 +38,8 @@ use Rattle.words.specs.Work.{work-of, run, Changes, DrawsAny, Room, Tells, Tell
 use Rattle.words.proofs.Access.{active-fits}
 use Rattle.words.proofs.Bridge.{telling, tell-then, still, by, then, then-tell, seq, seq-at, taken, left, holds-at}
 use Rattle.words.proofs.Any.{then-draw-any}
+use Rattle.step_peers.specs.declared.Added.{Added}
+use Rattle.step_peers.specs.Answer.{Adds}
 use Rattle.step_active.specs.declared.Loss.{Loss}
 use Rattle.step_active.specs.declared.Loss.the-variants.{ConnectionClosed, DisconnectReceived}
 use Rattle.step_active.specs.Sane.{reason-in, FreeActive, FreeMark, Calm, Loose}
@@ -57,10 +61,10 @@ pub dropped : (w a r : Work) (xs ys out o : List ℕ) (i p : ℕ) → Room (work
 unfolding drop-active run rec-in
 dropped w a r xs ys out o i p v e k₂ k₁ = tell-then _ (λ ds. rw e) (k₂ .any ys (k₁ .packed)) (telling v k₁)
 
-pub demoted : (w a r : Work) (xs ys zs ds out o : List ℕ) (p : ℕ) (d : PeerData) → Fine (work-of w xs) ds out → HoldsData d (lookup p (unpack xs .peer-data))
-    → Does (work-of r zs) ds o (add-passive p (data-in d) (run (work-of a ys) ds out)) → Changes (on (drop-data p)) (work-of w xs) (work-of a ys) → Does (work-of r zs) ds o (demote p (run (work-of w xs) ds out))
+pub demoted : (w a : Work) (m : Added) (xs ys zs ds out o : List ℕ) (p : ℕ) (d : PeerData) (x : Option ℕ) → Fine (work-of w xs) ds out → HoldsData d (lookup p (unpack xs .peer-data))
+    → Adds m zs ds o (add-passive p (data-in d) (run (work-of a ys) ds out)) x → Changes (on (drop-data p)) (work-of w xs) (work-of a ys) → Does (work-of (m .work) zs) ds o (demote p (run (work-of w xs) ds out))
 unfolding demote run
-demoted w a r xs ys zs ds out o p d v h k₂ k₁ = seq-at (add-passive p) (h .holds) k₂ (then k₁ (still v))
+demoted w a m xs ys zs ds out o p d x v h k₂ k₁ = seq-at (add-passive p) (h .holds) (k₂ .does) (then k₁ (still v))
 
 marked : (p : ℕ) (g : Run) → g .code ≡ 0 → on (mark-alive p) g ≡ with-station (mark-alive p (g .station)) g
 unfolding on guard
@@ -74,7 +78,7 @@ mark-fits {q} {g} {ba} {sl} {m} {b} {d} p x k = record {
       omega (arith, shorter (insert p (x .station .alive)) (x .station .passive) (λ y. omega (arith, c .seats .marks y)), c .seats .places-left, c .still .ranges .few-places);
 }
 
-pub mark-free : (w a : Work) (xs ys ds out o : List ℕ) (p : ℕ) → Loose p 0 48 1 (run (work-of w xs) ds out) → Does (work-of a ys) ds o (demote p (run (work-of w xs) ds out)) → FreeMark p (a .code) (unpack ys)
+pub mark-free : (w a : Work) (xs ys ds out o : List ℕ) (p : ℕ) → Loose p 0 adding 1 (run (work-of w xs) ds out) → Does (work-of a ys) ds o (demote p (run (work-of w xs) ds out)) → FreeMark p (a .code) (unpack ys)
 unfolding demote-alive run
 mark-free w a xs ys ds out o p l k =
     subst (λ (x : Run). FreeMark p (x .code) (x .station)) (sym (k .same)) (mark-fits p (demote p (run (work-of w xs) ds out)) (ok-demote-alive p (l .ok)))
@@ -91,15 +95,15 @@ module _ (w : Work) (xs ds out : List ℕ) (p : ℕ) (t : Bool) (v : Fine (work-
 
 -- ---- what the invariant says after each part of a removal
 
--- p is out of the active view: what may be spent, but for the notice's 24 bytes
-loose-after : (w a : Work) (xs ys ds out o : List ℕ) (i p m B d n b : ℕ) → n ≤ m + 2 → b + 24 ≤ B → Calm m B d (run (work-of w xs) ds out) → i < length (unpack xs .active) → p ≡ getD (unpack xs .active) i 0
+-- p is out of the active view: what may be spent, but for the notice's bytes
+loose-after : (w a : Work) (xs ys ds out o : List ℕ) (i p m B d n b : ℕ) → n ≤ m + 2 → b + bare ≤ B → Calm m B d (run (work-of w xs) ds out) → i < length (unpack xs .active) → p ≡ getD (unpack xs .active) i 0
     → Tells (drop-active i) (work-of w xs) (work-of a ys) out o → Loose p n b d (run (work-of a ys) ds o)
 unfolding run
 loose-after w a xs ys ds out o i p m B d n b l h c j e k =
     let q = c .fixed in
     let g = c .guest in
     let ba = c .barred in
-    let k₁ : Ok q (busy g ba [] 0 0) (c .messages + m) (c .bytes + b + 24) (c .draws + d) (run (work-of w xs) ds out) = ease (omega arith) (omega arith) (omega arith) (c .ok) in
+    let k₁ : Ok q (busy g ba [] 0 0) (c .messages + m) (c .bytes + b + bare) (c .draws + d) (run (work-of w xs) ds out) = ease (omega arith) (omega arith) (omega arith) (c .ok) in
     let k₂ : Ok q (busy g ba (getD (unpack xs .active) i 0 ∷ []) 1 0) (c .messages + m + 2) (c .bytes + b) (c .draws + d) (drop-active i (run (work-of w xs) ds out)) = ok-drop-active {sl = 0} i j k₁ in
     let k₃ : Ok q (busy g ba (getD (unpack xs .active) i 0 ∷ []) 1 0) (c .messages + n) (c .bytes + b) (c .draws + d) (drop-active i (run (work-of w xs) ds out)) = ease (omega arith) (omega arith) (omega arith) k₂ in
     let k₄ : Ok q (busy g ba (p ∷ []) 1 0) (c .messages + n) (c .bytes + b) (c .draws + d) (drop-active i (run (work-of w xs) ds out)) = subst (λ (x : ℕ). Ok q (busy g ba (x ∷ []) 1 0) (c .messages + n) (c .bytes + b) (c .draws + d) (drop-active i (run (work-of w xs) ds out))) (sym e) k₃ in
@@ -115,13 +119,13 @@ loose-after w a xs ys ds out o i p m B d n b l h c j e k =
     }
 
 module _ (w a : Work) (xs ys ds out o : List ℕ) (i p : ℕ) (j : i < length (unpack xs .active)) (e : p ≡ getD (unpack xs .active) i 0) (k : Tells (drop-active i) (work-of w xs) (work-of a ys) out o) where
-  pub loose-known : Calm 0 72 1 (run (work-of w xs) ds out) → Loose p 0 48 1 (run (work-of a ys) ds o)
-  loose-known c = loose-after w a xs ys ds out o i p 0 72 1 0 48 (omega arith) (omega arith) c j e k
+  pub loose-known : Calm 0 leaving 1 (run (work-of w xs) ds out) → Loose p 0 adding 1 (run (work-of a ys) ds o)
+  loose-known c = loose-after w a xs ys ds out o i p 0 leaving 1 0 adding (omega arith) (omega arith) c j e k
 
-  pub loose-random : Calm 0 888 39 (run (work-of w xs) ds out) → Loose p 2 864 39 (run (work-of a ys) ds o)
-  loose-random c = loose-after w a xs ys ds out o i p 0 888 39 2 864 (omega arith) (omega arith) c j e k
+  pub loose-random : Calm 0 freeing 39 (run (work-of w xs) ds out) → Loose p 2 (disconnecting + adding) 39 (run (work-of a ys) ds o)
+  loose-random c = loose-after w a xs ys ds out o i p 0 freeing 39 2 (disconnecting + adding) (omega arith) (omega arith) c j e k
 
-pub sent-loose : (w a : Work) (xs ys ds out o : List ℕ) (p : ℕ) → Loose p 2 864 39 (run (work-of w xs) ds out) → Does (work-of a ys) ds o (send-disconnect p true (run (work-of w xs) ds out)) → Loose p 0 48 1 (run (work-of a ys) ds o)
+pub sent-loose : (w a : Work) (xs ys ds out o : List ℕ) (p : ℕ) → Loose p 2 (disconnecting + adding) 39 (run (work-of w xs) ds out) → Does (work-of a ys) ds o (send-disconnect p true (run (work-of w xs) ds out)) → Loose p 0 adding 1 (run (work-of a ys) ds o)
 sent-loose w a xs ys ds out o p c k = record {
   fixed = c .fixed;
   guest = c .guest;
@@ -131,11 +135,11 @@ sent-loose w a xs ys ds out o p c k = record {
   bytes = c .bytes;
   draws = c .draws;
   ok =
-      subst (Ok (c .fixed) (busy (c .guest) (c .barred) (p ∷ []) (c .slots) 0) (c .messages + 0) (c .bytes + 48) (c .draws + 1)) (sym (k .same))
+      subst (Ok (c .fixed) (busy (c .guest) (c .barred) (p ∷ []) (c .slots) 0) (c .messages + 0) (c .bytes + adding) (c .draws + 1)) (sym (k .same))
       (ok-send-disconnect p true (ease (omega arith) (omega arith) (omega arith) (c .ok)));
 }
 
-pub calm-drawn : (w a : Work) (xs ds out : List ℕ) → Fine (work-of w xs) ds out → Calm 0 888 40 (run (work-of w xs) ds out) → DrawsAny (draw 1) w a ds → Calm 0 888 39 (run (work-of a xs) ds out)
+pub calm-drawn : (w a : Work) (xs ds out : List ℕ) → Fine (work-of w xs) ds out → Calm 0 freeing 40 (run (work-of w xs) ds out) → DrawsAny (draw 1) w a ds → Calm 0 freeing 39 (run (work-of a xs) ds out)
 calm-drawn w a xs ds out v c k = record {
   fixed = c .fixed;
   guest = c .guest;
@@ -144,11 +148,11 @@ calm-drawn w a xs ds out v c k = record {
   bytes = c .bytes;
   draws = c .draws;
   ok =
-      subst (Ok (c .fixed) (busy (c .guest) (c .barred) [] 0 0) (c .messages + 0) (c .bytes + 888) (c .draws + 39)) (sym (k .any xs (v .ready .packed) .same out))
+      subst (Ok (c .fixed) (busy (c .guest) (c .barred) [] 0 0) (c .messages + 0) (c .bytes + freeing) (c .draws + 39)) (sym (k .any xs (v .ready .packed) .same out))
       (ok-draw-one (ease (omega arith) (omega arith) (omega arith) (c .ok)));
 }
 
-pub slot-free : (w a : Work) (xs ys ds out o : List ℕ) → Calm 0 888 40 (run (work-of w xs) ds out) → Does (work-of a ys) ds o (free-random-slot-in-active-view (run (work-of w xs) ds out)) → FreeActive (a .code) (unpack ys)
+pub slot-free : (w a : Work) (xs ys ds out o : List ℕ) → Calm 0 freeing 40 (run (work-of w xs) ds out) → Does (work-of a ys) ds o (free-random-slot-in-active-view (run (work-of w xs) ds out)) → FreeActive (a .code) (unpack ys)
 unfolding run
 slot-free w a xs ys ds out o c k =
     subst (λ (x : Run). FreeActive (x .code) (x .station)) (sym (k .same))

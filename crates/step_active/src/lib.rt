@@ -8,11 +8,12 @@ use words::Work;
 use writer64::Fields;
 ghost use mathlib.Core.Path.{_≡_};
 ghost use mathlib.Core.Bool.{false};
-ghost use Prim.Native.Nat.{_<_};
+ghost use Prim.Native.Nat.{_+_, _<_};
 ghost use lib.ListN.{length};
 ghost use Rattle.lists.specs.Lists.{null};
 ghost use Rattle.peer.specs.Held.{data-in, ValidData};
 ghost use Rattle.protocol.specs.Run.{on};
+ghost use Rattle.protocol.specs.Budgets.{adding, disconnecting, leaving, freeing, arriving};
 ghost use Rattle.protocol.specs.Peers.{drop-mark, remove-passive};
 ghost use Rattle.protocol.specs.Active.{swap-active, drop-active, demote, mark-alive, demote-alive, settle-closed, random, settle, remove-active-by-index};
 ghost use Rattle.protocol.specs.Active.{refill-after, remove-active, remove-picked, free-random-slot-in-active-view};
@@ -73,7 +74,8 @@ fn demote(w: Work, st: &mut [u64], draws: &[u32], out: &mut [u8], p: PeerId) -> 
 {
     let d = columns::get_data(&st[Layout::DATA..Layout::DATA_END], Layout::DATA_CAP, p);
     let a = step_peers::drop_data(w, st, p);
-    step_peers::add_passive(a, st, draws, out, p, d)
+    let t = step_peers::add_passive(a, st, draws, out, p, d);
+    t.work
 }
 
 pub fn mark_alive(w: Work, st: &mut [u64], p: PeerId) -> Work
@@ -93,7 +95,7 @@ pub fn mark_alive(w: Work, st: &mut [u64], p: PeerId) -> Work
 fn demote_alive(w: Work, st: &mut [u64], draws: &[u32], out: &mut [u8], p: PeerId) -> Work
     requires { ⌜ length (now st) ≡ words ⌝ }
     requires { ⌜ Fine (work-of w (now st)) (now draws) (now out) ⌝ }
-    requires { ⌜ Loose p 0 48 1 (run (work-of w (now st)) (now draws) (now out)) ⌝ }
+    requires { ⌜ Loose p 0 adding 1 (run (work-of w (now st)) (now draws) (now out)) ⌝ }
     ensures { λ r. ⌜ Does (work-of r (now (st .exit))) (now (draws .entry)) (now (out .exit)) (demote-alive p (run (work-of w (now (st .entry))) (now (draws .entry)) (now (out .entry)))) ⌝ }
 {
     let a = demote(w, st, draws, out, p);
@@ -117,7 +119,7 @@ fn settle_closed(w: Work, st: &mut [u64], draws: &[u32], out: &mut [u8], p: Peer
 fn settle(w: Work, st: &mut [u64], draws: &[u32], out: &mut [u8], why: Loss, p: PeerId) -> Work
     requires { ⌜ length (now st) ≡ words ⌝ }
     requires { ⌜ Fine (work-of w (now st)) (now draws) (now out) ⌝ }
-    requires { ⌜ Loose p 0 48 1 (run (work-of w (now st)) (now draws) (now out)) ⌝ }
+    requires { ⌜ Loose p 0 adding 1 (run (work-of w (now st)) (now draws) (now out)) ⌝ }
     ensures { λ r. ⌜ Does (work-of r (now (st .exit))) (now (draws .entry)) (now (out .exit)) (settle (reason-in why) p (run (work-of w (now (st .entry))) (now (draws .entry)) (now (out .entry)))) ⌝ }
 {
     match why {
@@ -142,7 +144,7 @@ fn remove_active_by_index(
     requires { ⌜ length (now st) ≡ words ⌝ }
     requires { ⌜ Fine (work-of w (now st)) (now draws) (now out) ⌝ }
     requires { ⌜ i < length (unpack (now st) .active) ⌝ }
-    requires { ⌜ Calm 0 72 1 (run (work-of w (now st)) (now draws) (now out)) ⌝ }
+    requires { ⌜ Calm 0 leaving 1 (run (work-of w (now st)) (now draws) (now out)) ⌝ }
     ensures { λ r. ⌜ Does (work-of r (now (st .exit))) (now (draws .entry)) (now (out .exit)) (remove-active-by-index i (reason-in why) (run (work-of w (now (st .entry))) (now (draws .entry)) (now (out .entry)))) ⌝ }
 {
     let p = section::get_index(&st[Layout::ACTIVE..Layout::ACTIVE_END], Layout::FEW, i);
@@ -171,7 +173,7 @@ pub fn remove_active(
 ) -> Work
     requires { ⌜ length (now st) ≡ words ⌝ }
     requires { ⌜ Fine (work-of w (now st)) (now draws) (now out) ⌝ }
-    requires { ⌜ Calm 0 72 1 (run (work-of w (now st)) (now draws) (now out)) ⌝ }
+    requires { ⌜ Calm 0 leaving 1 (run (work-of w (now st)) (now draws) (now out)) ⌝ }
     ensures { λ r. ⌜ Does (work-of r (now (st .exit))) (now (draws .entry)) (now (out .exit)) (remove-active p (reason-in why) (run (work-of w (now (st .entry))) (now (draws .entry)) (now (out .entry)))) ⌝ }
 {
     if words::in_active(st, p) {
@@ -186,7 +188,7 @@ pub fn remove_active(
 fn settle_random(w: Work, st: &mut [u64], draws: &[u32], out: &mut [u8], p: PeerId) -> Work
     requires { ⌜ length (now st) ≡ words ⌝ }
     requires { ⌜ Fine (work-of w (now st)) (now draws) (now out) ⌝ }
-    requires { ⌜ Loose p 2 864 39 (run (work-of w (now st)) (now draws) (now out)) ⌝ }
+    requires { ⌜ Loose p 2 (disconnecting + adding) 39 (run (work-of w (now st)) (now draws) (now out)) ⌝ }
     ensures { λ r. ⌜ Does (work-of r (now (st .exit))) (now (draws .entry)) (now (out .exit)) (settle random p (run (work-of w (now (st .entry))) (now (draws .entry)) (now (out .entry)))) ⌝ }
 {
     let a = step_sending::send_disconnect(w, st, draws, out, p, true);
@@ -197,7 +199,7 @@ fn remove_random_by_index(w: Work, st: &mut [u64], draws: &[u32], out: &mut [u8]
     requires { ⌜ length (now st) ≡ words ⌝ }
     requires { ⌜ Fine (work-of w (now st)) (now draws) (now out) ⌝ }
     requires { ⌜ i < length (unpack (now st) .active) ⌝ }
-    requires { ⌜ Calm 0 888 39 (run (work-of w (now st)) (now draws) (now out)) ⌝ }
+    requires { ⌜ Calm 0 freeing 39 (run (work-of w (now st)) (now draws) (now out)) ⌝ }
     ensures { λ r. ⌜ Does (work-of r (now (st .exit))) (now (draws .entry)) (now (out .exit)) (remove-active-by-index i random (run (work-of w (now (st .entry))) (now (draws .entry)) (now (out .entry)))) ⌝ }
 {
     let p = section::get_index(&st[Layout::ACTIVE..Layout::ACTIVE_END], Layout::FEW, i);
@@ -208,7 +210,7 @@ fn remove_random_by_index(w: Work, st: &mut [u64], draws: &[u32], out: &mut [u8]
 fn remove_picked(w: Work, st: &mut [u64], draws: &[u32], out: &mut [u8]) -> Work
     requires { ⌜ length (now st) ≡ words ⌝ }
     requires { ⌜ Fine (work-of w (now st)) (now draws) (now out) ⌝ }
-    requires { ⌜ Calm 0 888 40 (run (work-of w (now st)) (now draws) (now out)) ⌝ }
+    requires { ⌜ Calm 0 freeing 40 (run (work-of w (now st)) (now draws) (now out)) ⌝ }
     requires { ⌜ null (unpack (now st) .active) ≡ false ⌝ }
     ensures { λ r. ⌜ Does (work-of r (now (st .exit))) (now (draws .entry)) (now (out .exit)) (remove-picked (run (work-of w (now (st .entry))) (now (draws .entry)) (now (out .entry)))) ⌝ }
 {
@@ -222,7 +224,7 @@ fn remove_picked(w: Work, st: &mut [u64], draws: &[u32], out: &mut [u8]) -> Work
 fn free_random_slot_in_active_view(w: Work, st: &mut [u64], draws: &[u32], out: &mut [u8]) -> Work
     requires { ⌜ length (now st) ≡ words ⌝ }
     requires { ⌜ Fine (work-of w (now st)) (now draws) (now out) ⌝ }
-    requires { ⌜ Calm 0 888 40 (run (work-of w (now st)) (now draws) (now out)) ⌝ }
+    requires { ⌜ Calm 0 freeing 40 (run (work-of w (now st)) (now draws) (now out)) ⌝ }
     ensures { λ r. ⌜ Does (work-of r (now (st .exit))) (now (draws .entry)) (now (out .exit)) (free-random-slot-in-active-view (run (work-of w (now (st .entry))) (now (draws .entry)) (now (out .entry)))) ⌝ }
 {
     if words::is_alone(st) {
@@ -352,7 +354,7 @@ fn admit_full(
 ) -> Work
     requires { ⌜ length (now st) ≡ words ⌝ }
     requires { ⌜ Fine (work-of w (now st)) (now draws) (now out) ⌝ }
-    requires { ⌜ Calm 0 888 40 (run (work-of w (now st)) (now draws) (now out)) ⌝ }
+    requires { ⌜ Calm 0 freeing 40 (run (work-of w (now st)) (now draws) (now out)) ⌝ }
     ensures { λ r. ⌜ Does (work-of r (now (st .exit))) (now (draws .entry)) (now (out .exit)) (admit-full p high reply (run (work-of w (now (st .entry))) (now (draws .entry)) (now (out .entry)))) ⌝ }
 {
     if high {
@@ -373,7 +375,7 @@ fn admit_new(
 ) -> Work
     requires { ⌜ length (now st) ≡ words ⌝ }
     requires { ⌜ Fine (work-of w (now st)) (now draws) (now out) ⌝ }
-    requires { ⌜ Calm 0 888 40 (run (work-of w (now st)) (now draws) (now out)) ⌝ }
+    requires { ⌜ Calm 0 freeing 40 (run (work-of w (now st)) (now draws) (now out)) ⌝ }
     ensures { λ r. ⌜ Does (work-of r (now (st .exit))) (now (draws .entry)) (now (out .exit)) (admit-new p high reply (run (work-of w (now (st .entry))) (now (draws .entry)) (now (out .entry)))) ⌝ }
 {
     if words::active_is_full(st) {
@@ -393,7 +395,7 @@ fn admit(
 ) -> Work
     requires { ⌜ length (now st) ≡ words ⌝ }
     requires { ⌜ Fine (work-of w (now st)) (now draws) (now out) ⌝ }
-    requires { ⌜ Calm 0 888 40 (run (work-of w (now st)) (now draws) (now out)) ⌝ }
+    requires { ⌜ Calm 0 freeing 40 (run (work-of w (now st)) (now draws) (now out)) ⌝ }
     ensures { λ r. ⌜ Does (work-of r (now (st .exit))) (now (draws .entry)) (now (out .exit)) (admit p high reply (run (work-of w (now (st .entry))) (now (draws .entry)) (now (out .entry)))) ⌝ }
 {
     if words::in_active(st, p) {
@@ -415,7 +417,7 @@ pub fn add_active(
     requires { ⌜ length (now st) ≡ words ⌝ }
     requires { ⌜ Fine (work-of w (now st)) (now draws) (now out) ⌝ }
     requires { ⌜ ValidData d ⌝ }
-    requires { ⌜ Calm 0 936 40 (run (work-of w (now st)) (now draws) (now out)) ⌝ }
+    requires { ⌜ Calm 0 arriving 40 (run (work-of w (now st)) (now draws) (now out)) ⌝ }
     ensures { λ r. ⌜ Does (work-of r (now (st .exit))) (now (draws .entry)) (now (out .exit)) (add-active p (data-in d) high reply (run (work-of w (now (st .entry))) (now (draws .entry)) (now (out .entry)))) ⌝ }
 {
     if words::is_me(st, p) {

@@ -14,6 +14,7 @@ ghost use Rattle.lists.specs.Lists.{without};
 ghost use Rattle.peer.specs.Held.{data-in, ValidData};
 ghost use Rattle.section.specs.Section.{HoldsSet};
 ghost use Rattle.protocol.specs.Setters.{set-passive, set-peer-data, set-alive, set-refused};
+ghost use Rattle.protocol.specs.Budgets.{leaving};
 ghost use Rattle.protocol.specs.Run.{on};
 ghost use Rattle.protocol.specs.Events.{must-drop-oldest, oldest, drop-oldest-join, push-bootstrap, join-counts, note-join, open-join, await-join, join-other, join-new, handle-join};
 ghost use Rattle.protocol.specs.Events.{drop-dead, lose-passive, lose-other, lose, handle-connection-closed, update-own-data, remove-neighbor, quit-one, quit-all, clear-all, handle-quit};
@@ -241,7 +242,7 @@ fn lose_other(
 fn lose(w: Work, st: &mut [u64], draws: &[u32], out: &mut [u8], p: PeerId, requested: bool) -> Work
     requires { ⌜ length (now st) ≡ words ⌝ }
     requires { ⌜ Fine (work-of w (now st)) (now draws) (now out) ⌝ }
-    requires { ⌜ Calm 0 72 1 (run (work-of w (now st)) (now draws) (now out)) ⌝ }
+    requires { ⌜ Calm 0 leaving 1 (run (work-of w (now st)) (now draws) (now out)) ⌝ }
     ensures { λ r. ⌜ Does (work-of r (now (st .exit))) (now (draws .entry)) (now (out .exit)) (lose p requested (run (work-of w (now (st .entry))) (now (draws .entry)) (now (out .entry)))) ⌝ }
 {
     if words::in_active(st, p) {
@@ -260,7 +261,7 @@ pub fn handle_connection_closed(
 ) -> Work
     requires { ⌜ length (now st) ≡ words ⌝ }
     requires { ⌜ Fine (work-of w (now st)) (now draws) (now out) ⌝ }
-    requires { ⌜ Calm 0 72 1 (run (work-of w (now st)) (now draws) (now out)) ⌝ }
+    requires { ⌜ Calm 0 leaving 1 (run (work-of w (now st)) (now draws) (now out)) ⌝ }
     ensures { λ r. ⌜ Does (work-of r (now (st .exit))) (now (draws .entry)) (now (out .exit)) (handle-connection-closed p (run (work-of w (now (st .entry))) (now (draws .entry)) (now (out .entry)))) ⌝ }
 {
     let requested = words::is_requested(st, p);

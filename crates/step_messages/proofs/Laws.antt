@@ -4,6 +4,7 @@ use Prim.Native.Nat.{ℕ, _≤_, _<_}
 use mathlib.Core.Path.{_≡_, refl, sym, ap, _∙_, subst}
 use mathlib.Core.Bool.{Bool, true, false}
 use mathlib.Core.List.{List, [], _∷_}
+use mathlib.Core.Option.{Option}
 use native.Mathlib.Omega.{arith}
 use lib.ListN.{length, take, getD}
 use lib.Dec.{eqb}
@@ -31,6 +32,8 @@ use Rattle.protocol.specs.Messages.{forward-joins, refuse-neighbor}
 use Rattle.protocol.specs.Messages.{drop-recent, forget-recent, refused-fits, add-refused, note-refused, note-refusal, mark-passive, left-topic, disconnect-other}
 use Rattle.protocol.proofs.Extra.{length-insert}
 use Rattle.words.specs.declared.Work.{Work}
+use Rattle.step_peers.specs.declared.Added.{Added}
+use Rattle.step_peers.specs.Answer.{Adds}
 use Rattle.words.specs.Layout.{active-part, refused-part, active-random-walk-length, passive-random-walk-length}
 use Rattle.words.specs.Unpack.{unpack, station-of, settings-at, PackedState}
 use Rattle.words.specs.Work.{Held, work-of, run, Changes, ChangesAny, DrawsAny, Room, Tells, TellsAny, Fine, Does}
@@ -61,9 +64,10 @@ module _ (w : Work) (xs ds out : List ℕ) (n : PeerInfo) (ttl : ℕ) where
   unfolding run unpack station-of settings-at
   walk-is = refl
 
-  pub joiner-learned : (r : Held) (o : List ℕ) → ttl ≡ passive-random-walk-length xs → Does r ds o (add-passive (n .id) (data-in (n .data)) (run (work-of w xs) ds out)) → Does r ds o (learn-joiner (node-in n) ttl (run (work-of w xs) ds out))
+  pub joiner-learned : (m : Added) (ys o : List ℕ) (x : Option ℕ) → ttl ≡ passive-random-walk-length xs → Adds m ys ds o (add-passive (n .id) (data-in (n .data)) (run (work-of w xs) ds out)) x
+      → Does (work-of (m .work) ys) ds o (learn-joiner (node-in n) ttl (run (work-of w xs) ds out))
   unfolding learn-joiner node-in
-  joiner-learned r o h d = taken _ _ (eq-eqb _ _ (h ∙ sym walk-is)) d
+  joiner-learned m ys o x h d = taken _ _ (eq-eqb _ _ (h ∙ sym walk-is)) (d .does)
 
   pub joiner-unlearned : Fine (work-of w xs) ds out → (ttl ≡ passive-random-walk-length xs → ⊥) → Does (work-of w xs) ds out (learn-joiner (node-in n) ttl (run (work-of w xs) ds out))
   unfolding learn-joiner

@@ -15,6 +15,7 @@ ghost use Rattle.util.specs.Random.{pick};
 ghost use Rattle.peer.specs.Held.{ValidData, data-in};
 ghost use Rattle.section.specs.Section.{HoldsSet};
 ghost use Rattle.columns.specs.Columns.{node-in};
+ghost use Rattle.protocol.specs.Budgets.{leaving, arriving};
 ghost use Rattle.protocol.specs.Run.{on, emit, emit-all};
 ghost use Rattle.protocol.specs.Active.{accepts};
 ghost use Rattle.protocol.specs.Messages.{forward-join-to, ends-here, ask-joiner, learn-joiner, forward-join-on, walk-on, on-forward-join};
@@ -81,7 +82,8 @@ fn learn_joiner(
     if ttl as u64 == st[Layout::PASSIVE_RANDOM_WALK_LENGTH] {
         let p = n.id;
         let d = n.data;
-        return step_peers::add_passive(w, st, draws, out, p, d);
+        let t = step_peers::add_passive(w, st, draws, out, p, d);
+        return t.work;
     }
     w
 }
@@ -331,7 +333,7 @@ fn disconnected(
 ) -> Work
     requires { ⌜ length (now st) ≡ words ⌝ }
     requires { ⌜ Fine (work-of w (now st)) (now draws) (now out) ⌝ }
-    requires { ⌜ Between 0 72 1 (run (work-of w (now st)) (now draws) (now out)) ⌝ }
+    requires { ⌜ Between 0 leaving 1 (run (work-of w (now st)) (now draws) (now out)) ⌝ }
     ensures { λ r. ⌜ Does (work-of r (now (st .exit))) (now (draws .entry)) (now (out .exit)) (disconnected p alive requested (run (work-of w (now (st .entry))) (now (draws .entry)) (now (out .entry)))) ⌝ }
 {
     if words::in_active(st, p) {
@@ -361,7 +363,7 @@ pub fn on_disconnect(
 ) -> Work
     requires { ⌜ length (now st) ≡ words ⌝ }
     requires { ⌜ Fine (work-of w (now st)) (now draws) (now out) ⌝ }
-    requires { ⌜ Between 0 72 1 (run (work-of w (now st)) (now draws) (now out)) ⌝ }
+    requires { ⌜ Between 0 leaving 1 (run (work-of w (now st)) (now draws) (now out)) ⌝ }
     ensures { λ r. ⌜ Does (work-of r (now (st .exit))) (now (draws .entry)) (now (out .exit)) (on-disconnect p alive (run (work-of w (now (st .entry))) (now (draws .entry)) (now (out .entry)))) ⌝ }
 {
     let requested = words::is_requested(st, p);
@@ -423,7 +425,7 @@ pub fn on_join(
     requires { ⌜ length (now st) ≡ words ⌝ }
     requires { ⌜ Fine (work-of w (now st)) (now draws) (now out) ⌝ }
     requires { ⌜ ValidData d ⌝ }
-    requires { ⌜ Between 0 936 40 (run (work-of w (now st)) (now draws) (now out)) ⌝ }
+    requires { ⌜ Between 0 arriving 40 (run (work-of w (now st)) (now draws) (now out)) ⌝ }
     ensures { λ r. ⌜ Does (work-of r (now (st .exit))) (now (draws .entry)) (now (out .exit)) (on-join p (data-in d) (run (work-of w (now (st .entry))) (now (draws .entry)) (now (out .entry)))) ⌝ }
 {
     let a = words::drop_pending(w, st, p);
@@ -454,7 +456,7 @@ fn answer_neighbor(
     requires { ⌜ length (now st) ≡ words ⌝ }
     requires { ⌜ Fine (work-of w (now st)) (now draws) (now out) ⌝ }
     requires { ⌜ ValidData d ⌝ }
-    requires { ⌜ Calm 0 936 40 (run (work-of w (now st)) (now draws) (now out)) ⌝ }
+    requires { ⌜ Calm 0 arriving 40 (run (work-of w (now st)) (now draws) (now out)) ⌝ }
     ensures { λ r. ⌜ Does (work-of r (now (st .exit))) (now (draws .entry)) (now (out .exit)) (answer-neighbor p (data-in d) high reply (run (work-of w (now (st .entry))) (now (draws .entry)) (now (out .entry)))) ⌝ }
 {
     let accepted = accepts(st, p, high);
@@ -478,7 +480,7 @@ pub fn on_neighbor(
     requires { ⌜ length (now st) ≡ words ⌝ }
     requires { ⌜ Fine (work-of w (now st)) (now draws) (now out) ⌝ }
     requires { ⌜ ValidData d ⌝ }
-    requires { ⌜ Between 0 936 40 (run (work-of w (now st)) (now draws) (now out)) ⌝ }
+    requires { ⌜ Between 0 arriving 40 (run (work-of w (now st)) (now draws) (now out)) ⌝ }
     ensures { λ r. ⌜ Does (work-of r (now (st .exit))) (now (draws .entry)) (now (out .exit)) (on-neighbor p (data-in d) high (run (work-of w (now (st .entry))) (now (draws .entry)) (now (out .entry)))) ⌝ }
 {
     let requested = words::is_requested(st, p);

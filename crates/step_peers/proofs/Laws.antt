@@ -4,7 +4,7 @@ use Prim.Native.Nat.{ℕ, _+_, _%_, _≤_, _<_}
 use mathlib.Core.Path.{_≡_, refl, sym, ap, _∙_, subst}
 use mathlib.Core.Bool.{Bool, true, false, not, _||_, or-true, or-false}
 use mathlib.Core.List.{List, [], _∷_, _++_}
-use mathlib.Core.Option.{none, some}
+use mathlib.Core.Option.{Option, none, some}
 use native.Mathlib.Omega.{arith}
 use native.Mathlib.Nat.{mod-lt}
 use lib.ListN.{length, take, getD, length-append}
@@ -23,14 +23,18 @@ use Rattle.peer.specs.Held.{data-in}
 use Rattle.writer64.specs.Write.{rec-in}
 use Rattle.columns.specs.Columns.{node-in}
 use Rattle.words.specs.declared.Work.{Work}
-use Rattle.protocol.specs.Run.{Run, guard, on, emit, draw, drawn, require, node}
-use Rattle.words.specs.Work.{Held, work-of, ChangesAny, DrawsAny, TellsAny, run, Changes, Ready, Draws, Room, Tells, Fine, Does}
-use Rattle.words.proofs.Bridge.{unchanged, change-then, drawing, draw-then, draw-yes, draw-no, telling, tell-by, tell-then, tell-no, still, then-draw, then-tell, require-said}
+use Rattle.protocol.specs.Run.{Run, guard, on, emit, draw, drawn, require, picked, notice, node}
+use Rattle.words.specs.Work.{Held, work-of, ChangesAny, DrawsAny, TellsAny, run, Changes, Room, Tells, Fine}
+use Rattle.words.proofs.Bridge.{unchanged, change-then, telling, tell-by, tell-then, tell-no, still, by, then, then-draw, then-tell, seq, taken, left, require-said}
 use Rattle.peer.specs.Data.{Data, bytes-of, holds}
 use Rattle.timing.proofs.Ranges.{ranges}
+use Rattle.protocol.proofs.Keeping.{draw-station, emit-station, emit-fine}
 use Rattle.protocol.specs.Station.{Station, is-me, in-view, passive-is-full}
-use Rattle.protocol.specs.Peers.{is-known, data-fits, store-data, keep-data, announce-data, insert-data, insert-peer-info, forget-peer, drop-traces, drop-mark, drop-data, shift-passive, push-passive, evict-at, must-evict, make-room, is-newcomer, enter-passive, add-passive}
+use Rattle.protocol.specs.Peers.{is-known, data-fits, store-data, keep-data, announce-data, insert-data, insert-peer-info, forget-peer, drop-traces, drop-mark, drop-data, shift-passive, push-passive, evict-at, must-evict, evicted, evict, tell-evicted, make-room, is-newcomer, enter-passive, evicted-for, add-passive, evicted-by}
 use Rattle.step_peers.specs.Room.{FreePassive, FreeData}
+use Rattle.step_peers.specs.Answer.{named-in, Adds}
+use Rattle.step_peers.specs.declared.Evicted.the-variants.{Nobody, Peer}
+use Rattle.step_peers.specs.declared.Added.{Added}
 use Rattle.words.specs.Unpack.{unpack, station-of, settings-at, PackedState}
 use Rattle.words.proofs.Access.{of-settings, passive-fits}
 
@@ -140,35 +144,70 @@ pub evictable : (s : List ℕ) (t : Bool) → t ≡ must-evict (unpack s) → t 
 unfolding must-evict unpack
 evictable s t e h = was-not _ (and-right (passive-is-full (unpack s)) (not (null (unpack s .passive))) (sym e ∙ h))
 
-draw-station : (n : ℕ) (g : Run) → draw n g .station ≡ g .station
-unfolding draw guard
-draw-station n g =
-    by-choice (λ (x : Run). x .station ≡ g .station) (eqb (g .code) 0)
-    (λ e. by-choice (λ (x : Run). x .station ≡ g .station) (leb (g .used + n) (length (g .draws))) (λ f. refl) (λ f. refl))
-    (λ e. refl)
-
 -- the place chosen among the n passive peers is one of theirs
 pub still-below : (xs : List ℕ) (n i : ℕ) → n ≡ length (unpack xs .passive) → i < n → i < length (unpack xs .passive)
 still-below xs n i e h = omega (arith, e, h)
 
-module _ (w a r : Work) (xs ys ds : List ℕ) (n i : ℕ) (t : Bool) where
-  pub made : Ready (work-of w xs) ds → t ≡ must-evict (unpack xs) → t ≡ true → n ≡ length (unpack xs .passive) → i ≡ pick n (getD ds (w .drawn) 0)
-      → Changes (evict-at i) (work-of a xs) (work-of r ys) → DrawsAny (draw 1) w a ds → Draws make-room (work-of w xs) (work-of r ys) ds
-  unfolding make-room run unpack station-of drawn
-  made v e h q u k₂ k₁ = let d = k₁ .any xs (v .packed) in draw-yes must-evict e _ h (draw-then _ (λ out. rw (u, q)) (drawing (d .ready) k₂) d)
+-- who leaves, and what the run comes to
+module _ (g : Run) (i p : ℕ) (e : must-evict (g .station) ≡ true) (f : i ≡ pick (length (g .station .passive)) (drawn g)) where
+  one-evicted : p ≡ getD (g .station .passive) i 0 → some p ≡ evicted g
+  unfolding evicted picked
+  one-evicted h = sym (choose-yes _ _ _ e ∙ ap (λ (n : ℕ). some (getD (g .station .passive) n 0)) (sym f) ∙ ap some (sym h))
 
-module _ (w : Held) (ds : List ℕ) (t : Bool) where
-  pub not-made : Ready w ds → t ≡ must-evict (unpack (w .state)) → t ≡ false → Draws make-room w w ds
-  unfolding make-room
-  not-made v e h = draw-no must-evict e _ h (drawing v (unchanged (λ g. g) (v .packed) (λ _ _. refl)))
+  evicting : evict-at i (draw 1 g) ≡ evict g
+  unfolding evict
+  evicting = sym (choose-yes _ _ _ e ∙ ap (λ (n : ℕ). evict-at n (draw 1 g)) (sym f))
 
-  pub not-entered : (p : ℕ) → Ready w ds → t ≡ is-newcomer p (unpack (w .state)) → t ≡ false → Draws (enter-passive p) w w ds
-  unfolding enter-passive
-  not-entered p v e h = draw-no (is-newcomer p) e _ h (drawing v (unchanged (λ g. g) (v .packed) (λ _ _. refl)))
+  room-evicts : p ≡ getD (g .station .passive) i 0 → make-room g ≡ emit (notice 12 p) (evict-at i (draw 1 g))
+  unfolding make-room tell-evicted
+  room-evicts h = sym (λ j. tell-evicted (one-evicted h j) (evicting j))
 
-  pub entered : (a r : Held) (p : ℕ) → t ≡ is-newcomer p (unpack (w .state)) → t ≡ true → Changes (on (push-passive p)) a r → Draws make-room w a ds → Draws (enter-passive p) w r ds
-  unfolding enter-passive
-  entered a r p e h k₂ k₁ = draw-yes (is-newcomer p) e _ h (draw-then _ (λ out. refl) (drawing (k₁ .ready) k₂) k₁)
+module _ (g : Run) (e : must-evict (g .station) ≡ false) where
+  none-evicted : none ≡ evicted g
+  unfolding evicted
+  none-evicted = sym (choose-no _ _ _ e)
+
+  none-leaves : g ≡ evict g
+  unfolding evict
+  none-leaves = sym (choose-no _ _ _ e)
+
+  room-stays : make-room g ≡ g
+  unfolding make-room tell-evicted
+  room-stays = sym (λ j. tell-evicted (none-evicted j) (none-leaves j))
+
+module _ (w a b r : Work) (xs ys ds out o : List ℕ) (n i p : ℕ) (t : Bool) where
+  pub made : Fine (work-of w xs) ds out → t ≡ must-evict (unpack xs) → t ≡ true → n ≡ length (unpack xs .passive) → i ≡ pick n (getD ds (w .drawn) 0) → p ≡ getD (unpack xs .passive) i 0
+      → TellsAny (emit (notice 12 p)) b r out o → Changes (evict-at i) (work-of a xs) (work-of b ys) → DrawsAny (draw 1) w a ds
+      → Adds (record { work = r; evicted = Peer p }) ys ds o (make-room (run (work-of w xs) ds out)) (evicted (run (work-of w xs) ds out))
+  unfolding named-in run drawn
+  made v e h q u l k₃ k₂ k₁ =
+      let g = run (work-of w xs) ds out in
+      let f : i ≡ pick (length (g .station .passive)) (drawn g) = u ∙ ap (λ (m : ℕ). pick m (getD ds (w .drawn) 0)) q in
+      record {
+        does = by _ (room-evicts g i p (sym e ∙ h) f l) (then-tell (k₃ .any ys (k₂ .packed)) (then k₂ (then-draw (k₁ .any xs (v .ready .packed)) (still v))));
+        named = one-evicted g i p (sym e ∙ h) f l;
+      }
+
+-- the place written to is still in the output
+pub room-left : (w a b : Work) (xs ys ds out : List ℕ) (i : ℕ) → Fine (work-of w xs) ds out → Changes (evict-at i) (work-of a xs) (work-of b ys) → DrawsAny (draw 1) w a ds → b .written ≤ length out
+room-left w a b xs ys ds out i v k₂ k₁ = omega (arith, v .written, k₂ .written, k₁ .written)
+
+module _ (w : Work) (xs ds out : List ℕ) (t : Bool) where
+  pub not-made : Fine (work-of w xs) ds out → t ≡ must-evict (unpack xs) → t ≡ false → Adds (record { work = w; evicted = Nobody }) xs ds out (make-room (run (work-of w xs) ds out)) (evicted (run (work-of w xs) ds out))
+  unfolding named-in run
+  not-made v e h =
+      record { does = by _ (room-stays (run (work-of w xs) ds out) (sym e ∙ h)) (still v); named = none-evicted (run (work-of w xs) ds out) (sym e ∙ h) }
+
+  pub not-entered : (p : ℕ) → Fine (work-of w xs) ds out → t ≡ is-newcomer p (unpack xs) → t ≡ false
+      → Adds (record { work = w; evicted = Nobody }) xs ds out (enter-passive p (run (work-of w xs) ds out)) (evicted-for p (run (work-of w xs) ds out))
+  unfolding enter-passive evicted-for named-in run
+  not-entered p v e h = record { does = left _ _ (sym e ∙ h) (still v); named = sym (choose-no _ _ _ (sym e ∙ h)) }
+
+  pub entered : (m : Added) (r : Work) (ys zs o : List ℕ) (p : ℕ) → t ≡ is-newcomer p (unpack xs) → t ≡ true → Changes (on (push-passive p)) (work-of (m .work) ys) (work-of r zs)
+      → Adds m ys ds o (make-room (run (work-of w xs) ds out)) (evicted (run (work-of w xs) ds out))
+      → Adds (record { work = r; evicted = m .evicted }) zs ds o (enter-passive p (run (work-of w xs) ds out)) (evicted-for p (run (work-of w xs) ds out))
+  unfolding enter-passive evicted-for run
+  entered m r ys zs o p e h k₂ k₁ = record { does = taken _ _ (sym e ∙ h) (then k₂ (k₁ .does)); named = k₁ .named ∙ sym (choose-yes _ _ _ (sym e ∙ h)) }
 
 forget-free : (p : ℕ) (g : Run) → FreePassive (g .code) (g .station) → FreePassive (forget-peer p g .code) (forget-peer p g .station)
 unfolding forget-peer on guard drop-traces drop-mark drop-data
@@ -199,22 +238,33 @@ picked-in : (xs : List ℕ) (d : ℕ) → null xs ≡ false → pick (length xs)
 unfolding pick
 picked-in xs d e = mod-lt d {m = length xs} (some-item xs e)
 
-made-free : (g : Run) → length (g .station .passive) ≤ g .station .config .«passive_view_capacity» → 1 ≤ g .station .config .«passive_view_capacity» → FreePassive (make-room g .code) (make-room g .station)
-unfolding make-room evict-at must-evict
-made-free g l m =
+evict-free : (g : Run) → length (g .station .passive) ≤ g .station .config .«passive_view_capacity» → 1 ≤ g .station .config .«passive_view_capacity» → FreePassive (evict g .code) (evict g .station)
+unfolding evict evict-at must-evict
+evict-free g l m =
     by-choice (λ (x : Run). FreePassive (x .code) (x .station)) (must-evict (g .station))
     (λ e. forget-free _ _ (shift-free _ (draw 1 g) (rw (draw-station 1 g) (picked-in (g .station .passive) (drawn g) (was-not _ (and-right (passive-is-full (g .station)) (not (null (g .station .passive))) e)))) (rw (draw-station 1 g) l)))
     (λ e. record { free = λ z. not-full (g .station) e m })
 
-pub room-made : (w a : Work) (xs ys ds : List ℕ) → Ready (work-of w xs) ds → Draws make-room (work-of w xs) (work-of a ys) ds → FreePassive (a .code) (unpack ys)
+tell-free : (x : Option ℕ) (g : Run) → FreePassive (g .code) (g .station) → FreePassive (tell-evicted x g .code) (tell-evicted x g .station)
+unfolding tell-evicted
+tell-free none g h = h
+tell-free (some p) g h = record { free = λ z. rw (emit-station (notice 12 p) g) (h .free (emit-fine (notice 12 p) g z)) }
+
+made-free : (g : Run) → length (g .station .passive) ≤ g .station .config .«passive_view_capacity» → 1 ≤ g .station .config .«passive_view_capacity» → FreePassive (make-room g .code) (make-room g .station)
+unfolding make-room
+made-free g l m = tell-free (evicted g) (evict g) (evict-free g l m)
+
+pub room-made : (w : Work) (m : Added) (xs ys ds out o : List ℕ) (x : Option ℕ) → Fine (work-of w xs) ds out → Adds m ys ds o (make-room (run (work-of w xs) ds out)) x → FreePassive (m .work .code) (unpack ys)
 unfolding run unpack station-of settings-at
-room-made w a xs ys ds v k =
-    subst (λ (x : Run). FreePassive (x .code) (x .station)) (sym (k .same []))
-    (made-free (run (work-of w xs) ds []) (passive-fits xs (v .packed)) (ranges (settings-at xs) (of-settings xs (v .packed)) .passive .least))
+room-made w m xs ys ds out o x v k =
+    subst (λ (g : Run). FreePassive (g .code) (g .station)) (sym (k .does .same))
+    (made-free (run (work-of w xs) ds out) (passive-fits xs (v .ready .packed)) (ranges (settings-at xs) (of-settings xs (v .ready .packed)) .passive .least))
 
-pub added : (w a r : Held) (ds out o : List ℕ) (p : ℕ) (x : Data) → Fine w ds out → Draws (enter-passive p) a r ds → Tells (insert-peer-info p x) w a out o → Does r ds o (add-passive p x (run w ds out))
-unfolding add-passive
-added w a r ds out o p x v k₂ k₁ = then-draw k₂ (then-tell k₁ (still v))
+pub added : (w a : Work) (m : Added) (xs ys zs ds out o o₂ : List ℕ) (p : ℕ) (x : Data) → Fine (work-of w xs) ds out → Adds m zs ds o₂ (enter-passive p (run (work-of a ys) ds o)) (evicted-for p (run (work-of a ys) ds o))
+    → Tells (insert-peer-info p x) (work-of w xs) (work-of a ys) out o
+    → Adds m zs ds o₂ (add-passive p x (run (work-of w xs) ds out)) (evicted-by p x (run (work-of w xs) ds out))
+unfolding add-passive evicted-by
+added w a m xs ys zs ds out o o₂ p x v k₂ k₁ = record { does = seq (enter-passive p) (k₂ .does) (then-tell k₁ (still v)); named = k₂ .named ∙ ap (evicted-for p) (k₁ .same ds) }
 
-pub after-info : {step : Run → Run} (w a : Work) (xs ys ds out o : List ℕ) → Fine (work-of w xs) ds out → Tells step (work-of w xs) (work-of a ys) out o → Ready (work-of a ys) ds
-after-info w a xs ys ds out o v k = record { packed = k .room .packed; drawn = rw (k .drawn) (v .ready .drawn) }
+pub after-info : {step : Run → Run} (w a : Work) (xs ys ds out o : List ℕ) → Fine (work-of w xs) ds out → Tells step (work-of w xs) (work-of a ys) out o → Fine (work-of a ys) ds o
+after-info w a xs ys ds out o v k = then-tell k (still v) .fine

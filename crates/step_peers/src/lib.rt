@@ -7,18 +7,31 @@ use words::Work;
 use writer64::Fields;
 ghost use mathlib.Core.Path.{_≡_};
 ghost use mathlib.Core.Bool.{true};
-ghost use Prim.Native.Nat.{_<_};
+ghost use Prim.Native.Nat.{_≤_, _<_};
 ghost use lib.ListN.{length};
-ghost use Rattle.protocol.specs.Run.{on};
+ghost use Rattle.protocol.specs.Run.{on, emit, notice};
 ghost use Rattle.peer.specs.Data.{bytes-of};
 ghost use Rattle.peer.specs.Held.{data-in, ValidData};
 ghost use Rattle.protocol.specs.Peers.{is-known, data-fits, must-evict, is-newcomer, is-marked};
-ghost use Rattle.protocol.specs.Peers.{keep-data, announce-data, insert-data, insert-peer-info, forget-peer, evict-at, make-room, enter-passive, add-passive, drop-passive};
+ghost use Rattle.protocol.specs.Peers.{keep-data, announce-data, insert-data, insert-peer-info, forget-peer, evict-at, evicted, make-room, enter-passive, evicted-for, add-passive, evicted-by, drop-passive};
 ghost use Rattle.protocol.specs.Peers.{store-data, drop-data, drop-mark, drop-traces, shift-passive, push-passive, remove-passive};
 ghost use Rattle.words.specs.Layout.{words};
 ghost use Rattle.words.specs.Unpack.{unpack, PackedState};
-ghost use Rattle.words.specs.Work.{work-of, Changes, Ready, Draws, Room, Tells, Fine, Does, run};
+ghost use Rattle.words.specs.Work.{work-of, Changes, Room, Tells, TellsAny, Fine, run};
 ghost use Rattle.step_peers.specs.Room.{FreePassive, FreeData};
+ghost use Rattle.step_peers.specs.Answer.{Adds};
+
+// Who left the passive view before another entered it, if anyone (document 02, S-2).
+pub enum Evicted {
+    Nobody,
+    Peer(PeerId),
+}
+
+// What adding to the passive view answers: the work, and whom it evicted.
+pub struct Added {
+    pub work: Work,
+    pub evicted: Evicted,
+}
 
 // Whether the data is the station's own or is held already, so that it is not stored.
 fn is_known(st: &[u64], p: PeerId, d: PeerData) -> bool
@@ -274,33 +287,66 @@ pub fn insert_peer_info(w: Work, st: &mut [u64], out: &mut [u8], p: PeerId, d: P
     w
 }
 
-// One peer leaves a full passive view, as the next draw decides.
-fn make_room(w: Work, st: &mut [u64], draws: &[u32]) -> Work
+// Document 02, S-2: the record of p, which the passive view evicted.
+fn tell_evicted(w: Work, out: &mut [u8], p: PeerId) -> Work
+    requires { ⌜ w .written ≤ length (now out) ⌝ }
+    ensures { λ r. ⌜ TellsAny (emit (notice 12 p)) w r (now (out .entry)) (now (out .exit)) ⌝ }
+{
+    let f = Fields {
+        kind: 12,
+        message: 0,
+        flags: 0,
+        peer: p,
+        second: 0,
+        ttl: 0,
+        number: 0,
+    };
+    words::emit_bare(w, out, f)
+}
+
+// One peer leaves a full passive view, as the next draw decides, and its record follows.
+fn make_room(w: Work, st: &mut [u64], draws: &[u32], out: &mut [u8]) -> Added
     requires { ⌜ length (now st) ≡ words ⌝ }
-    requires { ⌜ Ready (work-of w (now st)) (now draws) ⌝ }
-    ensures { λ r. ⌜ Draws make-room (work-of w (now (st .entry))) (work-of r (now (st .exit))) (now (draws .entry)) ⌝ }
+    requires { ⌜ Fine (work-of w (now st)) (now draws) (now out) ⌝ }
+    ensures { λ r. ⌜ Adds r (now (st .exit)) (now (draws .entry)) (now (out .exit)) (make-room (run (work-of w (now (st .entry))) (now (draws .entry)) (now (out .entry)))) (evicted (run (work-of w (now (st .entry))) (now (draws .entry)) (now (out .entry)))) ⌝ }
 {
     if must_evict(st) {
         let n = section::count(&st[Layout::PASSIVE..Layout::PASSIVE_END], Layout::ALL);
         let t = words::choose(w, draws, n);
         let a = t.work;
         let i = t.index;
-        return evict_at(a, st, i);
+        let p = section::get_index(&st[Layout::PASSIVE..Layout::PASSIVE_END], Layout::ALL, i);
+        let b = evict_at(a, st, i);
+        return Added {
+            work: tell_evicted(b, out, p),
+            evicted: Evicted::Peer(p),
+        };
     }
-    w
+    Added {
+        work: w,
+        evicted: Evicted::Nobody,
+    }
 }
 
 // p enters the passive view, unless it is in a view or the station itself.
-fn enter_passive(w: Work, st: &mut [u64], draws: &[u32], p: PeerId) -> Work
+fn enter_passive(w: Work, st: &mut [u64], draws: &[u32], out: &mut [u8], p: PeerId) -> Added
     requires { ⌜ length (now st) ≡ words ⌝ }
-    requires { ⌜ Ready (work-of w (now st)) (now draws) ⌝ }
-    ensures { λ r. ⌜ Draws (enter-passive p) (work-of w (now (st .entry))) (work-of r (now (st .exit))) (now (draws .entry)) ⌝ }
+    requires { ⌜ Fine (work-of w (now st)) (now draws) (now out) ⌝ }
+    ensures { λ r. ⌜ Adds r (now (st .exit)) (now (draws .entry)) (now (out .exit)) (enter-passive p (run (work-of w (now (st .entry))) (now (draws .entry)) (now (out .entry)))) (evicted-for p (run (work-of w (now (st .entry))) (now (draws .entry)) (now (out .entry)))) ⌝ }
 {
     if is_newcomer(st, p) {
-        let a = make_room(w, st, draws);
-        return push_passive(a, st, p);
+        let t = make_room(w, st, draws, out);
+        let a = t.work;
+        let e = t.evicted;
+        return Added {
+            work: push_passive(a, st, p),
+            evicted: e,
+        };
     }
-    w
+    Added {
+        work: w,
+        evicted: Evicted::Nobody,
+    }
 }
 
 pub fn add_passive(
@@ -310,12 +356,12 @@ pub fn add_passive(
     out: &mut [u8],
     p: PeerId,
     d: PeerData,
-) -> Work
+) -> Added
     requires { ⌜ length (now st) ≡ words ⌝ }
     requires { ⌜ Fine (work-of w (now st)) (now draws) (now out) ⌝ }
     requires { ⌜ ValidData d ⌝ }
-    ensures { λ r. ⌜ Does (work-of r (now (st .exit))) (now (draws .entry)) (now (out .exit)) (add-passive p (data-in d) (run (work-of w (now (st .entry))) (now (draws .entry)) (now (out .entry)))) ⌝ }
+    ensures { λ r. ⌜ Adds r (now (st .exit)) (now (draws .entry)) (now (out .exit)) (add-passive p (data-in d) (run (work-of w (now (st .entry))) (now (draws .entry)) (now (out .entry)))) (evicted-by p (data-in d) (run (work-of w (now (st .entry))) (now (draws .entry)) (now (out .entry)))) ⌝ }
 {
     let a = insert_peer_info(w, st, out, p, d);
-    enter_passive(a, st, draws, p)
+    enter_passive(a, st, draws, out, p)
 }

@@ -45,7 +45,8 @@ fn add_nodes(w: Work, st: &mut [u64], draws: &[u32], out: &mut [u8], b: &[u8], n
         let d = x.data;
         fresh = fresh | step_peers::is_newcomer(st, p);
         i += 1;
-        a = step_peers::add_passive(a, st, draws, out, p, d);
+        let t = step_peers::add_passive(a, st, draws, out, p, d);
+        a = t.work;
     }
     Added {
         work: a,

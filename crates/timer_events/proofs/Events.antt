@@ -6,7 +6,7 @@ use mathlib.Core.Bool.{true, false, _&&_}
 use native.Mathlib.Omega.{arith}
 use lib.Dec.{ltb, leb, eqb}
 use mir.Val.{Fits}
-use mir.Syntax.{w8, w32}
+use mir.Syntax.{w8}
 use borrow.Author.Tests.{eqb-true, ltb-true, ltb-false, leb-false, lt-ltb, le-ltb, le-leb, lt-leb}
 use Rattle.lists.specs.Lists.{choose}
 use Rattle.lists.proofs.Choice.{split, clash, and-left, and-right, choose-yes, choose-no}

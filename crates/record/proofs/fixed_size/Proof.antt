@@ -14,12 +14,12 @@ unfolding fixed-size choose
 with-node k t = rw t
 
 -- the other kinds
-bare : (k : ℕ) → (eqb k 7 || eqb k 11) ≡ false → k ≤ 10 → 24 ≡ fixed-size k
+bare : (k : ℕ) → (eqb k 7 || eqb k 11) ≡ false → k ≤ 12 → 24 ≡ fixed-size k
 unfolding fixed-size choose
 bare k t h = rw (t, le-leb _ _ h)
 
 -- no kind
-none : (k : ℕ) → (eqb k 7 || eqb k 11) ≡ false → 10 < k → 0 ≡ fixed-size k
+none : (k : ℕ) → (eqb k 7 || eqb k 11) ≡ false → 12 < k → 0 ≡ fixed-size k
 unfolding fixed-size choose
 none k t h = rw (t, lt-leb _ _ h)
 

@@ -15,11 +15,14 @@ push-passive-requires c κs = (search needs, (search needs, search room-made))
 same-length : tie.Need-same-length
 same-length c = search needs
 
+same-length-2 : tie.Need-same-length-2
+same-length-2 c = search needs
+
 returns : tie.Need-returns
 returns c = search entered
 
-same-length-2 : tie.Need-same-length-2
-same-length-2 c = search needs
+same-length-3 : tie.Need-same-length-3
+same-length-3 c = search needs
 
 returns-2 : tie.Need-returns-2
 returns-2 c = search not-entered
@@ -32,6 +35,7 @@ enter-passive-spec =
     make-room-requires
     push-passive-requires
     same-length
-    returns
     same-length-2
+    returns
+    same-length-3
     returns-2)

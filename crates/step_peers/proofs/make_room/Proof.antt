@@ -26,19 +26,45 @@ choose-requires : tie.Need-choose-requires
 unfolding part unpack station-of
 choose-requires c κs = (search needs, search some-choice)
 
+sub-get-index : tie.Need-sub-get-index
+sub-get-index c = search needs
+
+part-get-index-start : tie.Need-part-get-index-start
+part-get-index-start c = search needs
+
+part-get-index-end : tie.Need-part-get-index-end
+part-get-index-end c = search needs
+
+get-index-requires : tie.Need-get-index-requires
+unfolding part unpack station-of
+get-index-requires c κs = (search (of-packed, needs), search still-below)
+
 evict-at-requires : tie.Need-evict-at-requires
 unfolding part unpack station-of
 evict-at-requires c κs = (search needs, (search needs, search still-below))
 
+tell-evicted-requires : tie.Need-tell-evicted-requires
+tell-evicted-requires c κs = search needs
+
 same-length : tie.Need-same-length
 same-length c = search needs
 
-returns : tie.Need-returns
-unfolding part unpack station-of
-returns c = search made
-
 same-length-2 : tie.Need-same-length-2
 same-length-2 c = search needs
+
+returns : tie.Need-returns
+unfolding part unpack station-of
+returns c =
+    let told = c .before .before in
+    let gone = told .before .before .before .before in
+    let read = gone .before .before in
+    let drew = read .before .before .before .before in
+    let t = drew .before .before .before .before in
+    made _ _ _ _ _ _ _ _ _ _ _ _ _ (t .before .before .before .before .before .before .pre .1) (t .before .must-evict .ensures) (t .if1 .taken) (drew .before .count .ensures .0)
+    (drew .choose .ensures .1 .0) (read .get-index .ensures) (told .tell-evicted .ensures) (gone .evict-at .ensures) (drew .choose .ensures .0)
+
+same-length-3 : tie.Need-same-length-3
+same-length-3 c = search needs
 
 returns-2 : tie.Need-returns-2
 returns-2 c = search not-made
@@ -53,8 +79,14 @@ make-room-spec =
     part-count-end
     count-requires
     choose-requires
+    sub-get-index
+    part-get-index-start
+    part-get-index-end
+    get-index-requires
     evict-at-requires
+    tell-evicted-requires
     same-length
-    returns
     same-length-2
+    returns
+    same-length-3
     returns-2)

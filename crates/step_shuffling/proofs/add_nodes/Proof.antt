@@ -3,6 +3,7 @@ use Prim.Native.Nat.{ℕ, _+_, _-_, _≤_, _<_}
 use mathlib.Core.Path.{_≡_, refl, sym, ap, _∙_}
 use mathlib.Core.Bool.{Bool, true, false, _||_}
 use mathlib.Core.List.{List, _∷_}
+use mathlib.Core.Option.{Option}
 use native.Mathlib.Omega.{arith}
 use lib.ListN.{length}
 use Rattle.peer.specs.Data.{Node}
@@ -16,6 +17,8 @@ use Rattle.words.specs.declared.Work.{Work}
 use Rattle.words.specs.Unpack.{unpack}
 use Rattle.words.specs.Work.{work-of, run, Fine, Does}
 use Rattle.words.proofs.Bridge.{at-run}
+use Rattle.step_peers.specs.declared.Added.{Added}
+use Rattle.step_peers.specs.Answer.{Adds}
 use Rattle.step_shuffling.proofs.Nodes.{nodes-from, nodes-start, nodes-end, or-more}
 use borrow.Author.Needs.{needs}
 use Rattle.step_shuffling.proofs.add_nodes.Statement.{statement}
@@ -52,20 +55,20 @@ new-more m x l g h f t e q k =
     ∙ or-more f t (any-new l h)
 
 module _ (xs ds out₀ b : List ℕ) (n : ℕ) (w : Work) (ys out : List ℕ) (a : Work) (fresh : Bool) (i : ℕ) (v : Adding xs ds out₀ b n w ys out a fresh i) where
-  next : (x : PeerInfo) (t : Bool) (r : Work) (zs o : List ℕ) → i < n → HoldsNode x (node-at b i) → t ≡ is-newcomer (x .id) (unpack ys)
-      → Does (work-of r zs) ds o (add-passive (x .id) (data-in (x .data)) (run (work-of a ys) ds out)) → length zs ≡ length ys → length o ≡ length out → Adding xs ds out₀ b n w zs o r (fresh || t) (i + 1)
+  next : (x : PeerInfo) (t : Bool) (m : Added) (zs o : List ℕ) (y : Option ℕ) → i < n → HoldsNode x (node-at b i) → t ≡ is-newcomer (x .id) (unpack ys)
+      → Adds m zs ds o (add-passive (x .id) (data-in (x .data)) (run (work-of a ys) ds out)) y → length zs ≡ length ys → length o ≡ length out → Adding xs ds out₀ b n w zs o (m .work) (fresh || t) (i + 1)
   unfolding node-in
-  next x t r zs o h k e d m q = record {
-    fine = d .fine;
+  next x t m zs o y h k e d l q = record {
+    fine = d .does .fine;
     low = omega arith;
-    long = m ∙ v .long;
+    long = l ∙ v .long;
     len = q ∙ v .len;
     work =
         v .work ∙ ap (λ (l : List Node). add-nodes l (run (work-of a ys) ds out)) (nodes-from b i n h)
-        ∙ add-more (node-at b i) (node-in x) (nodes-of b (i + 1) (n - (i + 1))) (run (work-of a ys) ds out) (run (work-of r zs) ds o) (k .holds) (d .same);
+        ∙ add-more (node-at b i) (node-in x) (nodes-of b (i + 1) (n - (i + 1))) (run (work-of a ys) ds out) (run (work-of (m .work) zs) ds o) (k .holds) (d .does .same);
     news =
         v .news ∙ ap (λ (l : List Node). fresh || any-new l (run (work-of a ys) ds out)) (nodes-from b i n h)
-        ∙ new-more (node-at b i) (node-in x) (nodes-of b (i + 1) (n - (i + 1))) (run (work-of a ys) ds out) (run (work-of r zs) ds o) fresh t (k .holds) (e ∙ at-run (work-of a ys) ds out (is-newcomer (x .id))) (d .same);
+        ∙ new-more (node-at b i) (node-in x) (nodes-of b (i + 1) (n - (i + 1))) (run (work-of a ys) ds out) (run (work-of (m .work) zs) ds o) fresh t (k .holds) (e ∙ at-run (work-of a ys) ds out (is-newcomer (x .id))) (d .does .same);
   }
 
   none-more : (f : Bool) → (f || false) ≡ f
