@@ -8,7 +8,7 @@ use native.Mathlib.Omega.{arith}
 use lib.ListN.{length, getD}
 use lib.Dec.{eqb}
 use borrow.Author.Tests.{eqb-true, eqb-false, ne-eqb}
-use Rattle.lists.specs.Lists.{choose, is, count, mem, Rising}
+use Rattle.lists.specs.Lists.{choose, is, count, mem, subset, Rising}
 use Rattle.lists.specs.Maps.{keys}
 use Rattle.lists.specs.Tests.{All}
 use Rattle.lists.proofs.Choice.{by-choice, split, choose-yes, and-left, and-right, clash}
@@ -28,7 +28,7 @@ use Rattle.protocol.proofs.Told.{up-after, sent-after}
 use Rattle.protocol.proofs.Narrow.{Narrow}
 use Rattle.protocol.proofs.Invariant.{calm, Good}
 use Rattle.protocol.proofs.Reading.{Readable, by-form}
-use Rattle.protocol.proofs.Whole.{Pays, Between, at-start, ok-steps}
+use Rattle.protocol.proofs.Whole.{Pays, Covered, covered-steps, Between, at-start, ok-steps}
 use Rattle.protocol.proofs.Tested.{ranges-of, data-true, own-held, distinct-yes, rules-of}
 use Rattle.protocol.proofs.Written.{formed-event}
 use Rattle.history.specs.Ledger.{Ledger, empty-ledger, kind-in, message-in, message-number, number-of, open-event, feed}
@@ -68,10 +68,10 @@ pub record Fine (c : Config) (me : ℕ) (b : List ℕ) (l : Ledger) (a : Answer)
 
 -- what a run's records tell is what the ledger holds
 told-kept : (c : Config) (me : ℕ) (b : List ℕ) (l : Ledger) (alone n room : ℕ) (o : List Rec) (v : Station)
-    → Good (at-start c me (l .up) (l .sent) (l .allowance + number-of (c .«active_view_capacity») b) alone n room (rec-of b)) calm 0 v o → Lawful v → Narrow v
+    → Good (at-start c me (l .up) (l .sent) (l .allowance + number-of (c .«active_view_capacity») b) alone n room (rec-of b)) calm 0 v o → Lawful v → Narrow v → Covered v
     → Kept c me (booked o (open-event (c .«active_view_capacity») b l)) v
 unfolding booked open-event up-after sent-after kind-in rec-of header-of
-told-kept c me b l alone n room o v g w n′ =
+told-kept c me b l alone n room o v g w n′ y =
     record {
       core = record {
         still = record {
@@ -86,6 +86,7 @@ told-kept c me b l alone n room o v g w n′ =
       };
       law = w;
       narrow = n′;
+      covered = y;
     }
 
 module _ {c : Config} {me : ℕ} {l : Ledger} {s : Station} (h : Kept c me l s) (b : List ℕ) where
@@ -102,7 +103,7 @@ module _ {c : Config} {me : ℕ} {l : Ledger} {s : Station} (h : Kept c me l s) 
       split (eqb (r .code) 0)
       (λ z. let g = k .good (eqb-true (r .code) 0 z) in rw z (record {
         not-two = λ e. omega arith;
-        kept = rw (heard (g .told) (r .out) (r .room - length (r .out)) (open-event a b l) (g .sound) (g .spelled)) (told-kept c me b l (s .passes-alone) (length ds) room (g .told) (r .station) (g .core) (g .law) (formed-event s (h .narrow) ds room (rec-of b) w f .narrow));
+        kept = rw (heard (g .told) (r .out) (r .room - length (r .out)) (open-event a b l) (g .sound) (g .spelled)) (told-kept c me b l (s .passes-alone) (length ds) room (g .told) (r .station) (g .core) (g .law) (formed-event s (h .narrow) ds room (rec-of b) w f .narrow) (covered-steps (rec-of b) (start s ds room) (eqb-true (r .code) 0 z)));
       }))
       (λ z. rw z (fine-refusal (r .code) (r .room) (let ne : r .code ≡ 0 → ⊥ = eqb-false (r .code) 0 z in omega (arith, k .codes .low (omega (arith, ne))))))
 
@@ -128,7 +129,7 @@ module _ {c : Config} {me : ℕ} (ranges : in-range c ≡ true) where
 
 -- a new station
 pub kept-new : (me : ℕ) (d : Data) (c : Config) → Given me d → in-range c ≡ true → short-data d ≡ true → Kept c me empty-ledger (new-station me d c)
-unfolding new-station empty-ledger count up-after sent-after keys Rising Each Small All
+unfolding new-station empty-ledger count up-after sent-after keys subset Rising Each Small All
 kept-new me d c given r sd =
     let g = ranges-of c r in record {
       core = record {
@@ -174,6 +175,7 @@ kept-new me d c given r sd =
         requests-top = omega arith;
         joins-top = omega arith;
       };
+      covered = refl;
     }
 
 -- as demand 3 says it
