@@ -92,7 +92,7 @@ unfolding subset count
 all-in-yes [] ys h = refl
 all-in-yes (x ∷ xs) ys h = both (mem x ys) (subset xs ys) (mem-yes x ys (omega (arith, h x, is-self x))) (all-in-yes xs ys (λ y. omega (arith, h y)))
 
-all-in-true : (xs ys : List ℕ) → subset xs ys ≡ true → (x : ℕ) → 1 ≤ count x xs → 1 ≤ count x ys
+pub all-in-true : (xs ys : List ℕ) → subset xs ys ≡ true → (x : ℕ) → 1 ≤ count x xs → 1 ≤ count x ys
 unfolding subset count
 all-in-true [] ys e x h = absurd (omega arith)
 all-in-true (p ∷ xs) ys e x h =
@@ -260,7 +260,7 @@ both-once : (a b : ℕ) → a ≤ 1 → (1 ≤ a → b ≡ 0) → b ≤ 1 → a 
 both-once zero b h f k = omega arith
 both-once (suc a) b h f k = omega (arith, f (omega arith))
 
-within-once : (a b : ℕ) → a ≤ 1 → (1 ≤ a → 1 ≤ b) → a ≤ b
+pub within-once : (a b : ℕ) → a ≤ 1 → (1 ≤ a → 1 ≤ b) → a ≤ b
 within-once zero b h f = omega arith
 within-once (suc a) b h f = omega (arith, f (omega arith))
 
