@@ -31,9 +31,11 @@ use Rattle.protocol.proofs.Reading.{Readable, by-form}
 use Rattle.protocol.proofs.Whole.{Pays, Covered, covered-steps, Between, at-start, ok-steps}
 use Rattle.protocol.proofs.Tested.{ranges-of, data-true, own-held, distinct-yes, rules-of}
 use Rattle.protocol.proofs.Written.{formed-event}
+use Rattle.protocol.proofs.Uncrowded.{never-eight}
 use Rattle.history.specs.Ledger.{Ledger, empty-ledger, kind-in, message-in, message-number, number-of, open-event, feed}
 use Rattle.history.specs.Calls.{Call, Given, answer, answered, state-after, codes, ledger-after, definition}
 use Rattle.history.specs.Demand.{Views, Booked, Demand3, Demand3-holds}
+use Rattle.history.specs.Refusals.{Never-eight}
 use Rattle.history.proofs.Heard.{booked, heard}
 
 -- the numbers of demand 3 are enough for their events
@@ -126,6 +128,13 @@ module _ {c : Config} {me : ℕ} (ranges : in-range c ≡ true) where
   none-two [] h = refl
   none-two (v ∷ vs) {s = s} h =
       omega (arith, is-not 2 (answer v s .code) (ne-eqb 2 (answer v s .code) (λ e. fine-answer v h .not-two (sym e))), none-two vs (fine-answer v h .kept))
+
+  pub none-eight : (vs : List Call) {l : Ledger} {s : Station} → Kept c me l s → count 8 (codes definition vs s) ≡ 0
+  unfolding codes answered count
+  none-eight [] h = refl
+  none-eight (v ∷ vs) {s = s} h =
+      let n = never-eight s (rules-of s ranges h) (v .draws) (length (v .output)) (v .event) (v .are-bytes) in
+      omega (arith, is-not 8 (answer v s .code) (ne-eqb 8 (answer v s .code) (λ e. n (sym e))), none-eight vs (fine-answer v h .kept))
 
 -- a new station
 pub kept-new : (me : ℕ) (d : Data) (c : Config) → Given me d → in-range c ≡ true → short-data d ≡ true → Kept c me empty-ledger (new-station me d c)
@@ -236,3 +245,12 @@ demand-3 me d c given z vs =
       views = views-of h;
       booked = booked-of h;
     })
+
+-- 02, S-5: no call after a new station is answered 8
+pub eight-never : Never-eight
+unfolding new
+eight-never me d c given z vs =
+    let t = accepted-new me d c z in
+    let r = and-left (in-range c) (short-data d) t in
+    let e : new me d c .state ≡ new-station me d c = ap (λ (m : Made). m .state) (choose-yes (in-range c && short-data d) _ _ t) in
+    subst (λ (s : Station). mem 8 (codes definition vs s) ≡ false) (sym e) (mem-no 8 _ (none-eight r vs (kept-new me d c given r (and-right (in-range c) (short-data d) t))))

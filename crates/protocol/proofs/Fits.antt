@@ -1,20 +1,20 @@
 -- Code 8 is not met: what each step may add to the data held, and a bound on it that the views and the open requests give.
 -- Assumes nothing.
-use mathlib.Core.Path.{_≡_, refl, sym, subst}
+use mathlib.Core.Path.{_≡_, refl}
 use mathlib.Core.Bool.{Bool, true, false, _||_}
-use mathlib.Core.List.{List, [], _∷_, _++_}
+use mathlib.Core.List.{List, [], _∷_}
 use mathlib.Core.Option.{none, some}
-use Prim.Native.Nat.{ℕ, _+_, _≤_, _<_}
+use Prim.Native.Nat.{ℕ, _+_, _≤_}
 use native.Mathlib.Omega.{arith}
 use lib.ListN.{length}
-use lib.Dec.{ltb, leb, eqb}
+use lib.Dec.{ltb, eqb}
 use borrow.Author.Tests.{eqb-true, lt-ltb}
 use Rattle.lists.specs.Lists.{choose}
-use Rattle.lists.specs.Maps.{has, cut, put}
+use Rattle.lists.specs.Maps.{has, put}
 use Rattle.lists.proofs.Choice.{by-choice, choose-yes}
 use Rattle.lists.proofs.Maps.{length-cut, length-put, length-retain}
 use Rattle.peer.specs.Data.{Data, Node}
-use Rattle.record.specs.Format.{Rec, size}
+use Rattle.record.specs.Format.{Rec}
 use Rattle.protocol.specs.Station.{Station, Refill}
 use Rattle.protocol.specs.Run as R
 use Rattle.protocol.specs.Run.{Run, guard, on, emit, draw, require, emit-all}
@@ -27,7 +27,6 @@ use Rattle.protocol.specs.Messages as M
 use Rattle.protocol.specs.Events as E
 use Rattle.protocol.specs.Timers as T
 use Rattle.protocol.specs.Handle as H
-use Rattle.protocol.proofs.Sends.{announce-station}
 
 -- the run is not refused with 8; and where it is not refused, k more entries fit
 pub record Fits (k : ℕ) (r : Run) : Type 0 where

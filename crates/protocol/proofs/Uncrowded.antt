@@ -1,7 +1,7 @@
 -- Code 8 is never met at a station that keeps the rules. It starts with data of at most 8 + 32 + 32 peers, an event adds two entries at most, and those that a
 -- message's nodes bring are of peers that are then in a view.
 -- Assumes nothing.
-use mathlib.Core.Path.{_≡_, refl, sym, subst}
+use mathlib.Core.Path.{_≡_, sym, subst}
 use mathlib.Core.Bool.{Bool, true, false, _||_}
 use mathlib.Core.List.{List, [], _∷_, _++_}
 use mathlib.Core.Option.{none, some}
@@ -11,16 +11,16 @@ use native.Mathlib.Nat.{mod-lt}
 use lib.ListN.{length, getD, length-append}
 use lib.Dec.{ltb, leb, eqb}
 use borrow.Author.Tests.{eqb-true, eqb-false, lt-ltb, leb-false, not-true, not-false}
-use Rattle.lists.specs.Lists.{choose, is, count, mem, subset}
-use Rattle.lists.specs.Maps.{keys, has, put, cut}
-use Rattle.lists.proofs.Choice.{by-choice, split, choose-yes, or-true, or-left, or-right, and-left, and-right, and-false}
-use Rattle.lists.proofs.Count.{is-self, is-le, is-not, is-split, is-yes, mem-true, count-append, count-snoc, count-shift, length-shift}
+use Rattle.lists.specs.Lists.{choose, is, count}
+use Rattle.lists.specs.Maps.{keys, has}
+use Rattle.lists.proofs.Choice.{by-choice, choose-yes, or-true, or-left, and-right, and-false}
+use Rattle.lists.proofs.Count.{is-self, is-split, count-append, count-snoc, count-shift, length-shift}
 use Rattle.lists.proofs.Maps.{length-keys}
 use Rattle.util.specs.Random.{pick}
 use Rattle.peer.specs.Data.{Data, Node}
 use Rattle.record.specs.Format.{Rec}
 use Rattle.record.specs.Read.{Reading, read-event}
-use Rattle.protocol.specs.Station.{Station, is-me, in-active, in-passive, in-view, passive-is-full, data-peers}
+use Rattle.protocol.specs.Station.{Station, is-me, in-view, passive-is-full, data-peers}
 use Rattle.protocol.specs.Rules.{all-under, station-ok}
 use Rattle.protocol.specs.Run.{Run, with-code, guard, on, emit, draw, drawn, require}
 use Rattle.protocol.specs.Peers as P
@@ -35,7 +35,6 @@ use Rattle.protocol.proofs.Keeping.{draw-station}
 use Rattle.protocol.proofs.Sends.{announce-station}
 use Rattle.protocol.proofs.Passive.{seen}
 use Rattle.protocol.proofs.Reading.{Readable, by-reading}
-use Rattle.protocol.proofs.Whole.{Between}
 use Rattle.protocol.proofs.Tested.{all-in-true, within-once, between-of}
 use Rattle.protocol.proofs.Fits as Fit
 use Rattle.protocol.proofs.Fits.{Fits, or-so}
