@@ -3,7 +3,7 @@
 use mathlib.Core.Path.{_≡_, refl}
 use mathlib.Core.Bool.{Bool, true, false, _||_}
 use mathlib.Core.List.{List, [], _∷_}
-use mathlib.Core.Option.{none, some}
+use mathlib.Core.Option.{Option, none, some}
 use Prim.Native.Nat.{ℕ, _+_, _≤_}
 use native.Mathlib.Omega.{arith}
 use lib.ListN.{length}
@@ -106,10 +106,19 @@ module _ {k : ℕ} where
   unfolding P.forget-peer P.drop-traces P.drop-mark P.drop-data
   fit-forget p h = fit-either _ h (fit-on (P.drop-traces p) (λ s. length-cut p (s .peer-data)) h)
 
+  fit-tell-evicted : (x : Option ℕ) {r : Run} → Fits k r → Fits k (P.tell-evicted x r)
+  unfolding P.tell-evicted
+  fit-tell-evicted none h = h
+  fit-tell-evicted (some p) h = fit-emit _ h
+
+  fit-make-room : {r : Run} → Fits k r → Fits k (P.make-room r)
+  unfolding P.make-room P.evict P.evict-at P.shift-passive
+  fit-make-room {r} h =
+      fit-tell-evicted (P.evicted r) (fit-either _ (fit-forget _ (fit-on (P.shift-passive _) (λ s. omega arith) (fit-draw 1 h))) h)
+
   fit-enter-passive : (p : ℕ) {r : Run} → Fits k r → Fits k (P.enter-passive p r)
-  unfolding P.enter-passive P.push-passive P.make-room P.evict-at P.shift-passive
-  fit-enter-passive p h =
-      fit-either _ (fit-on (P.push-passive p) (λ s. omega arith) (fit-either _ (fit-forget _ (fit-on (P.shift-passive _) (λ s. omega arith) (fit-draw 1 h))) h)) h
+  unfolding P.enter-passive P.push-passive
+  fit-enter-passive p h = fit-either _ (fit-on (P.push-passive p) (λ s. omega arith) (fit-make-room h)) h
 
   fit-drop-passive : (p : ℕ) {r : Run} → Fits k r → Fits k (P.drop-passive p r)
   unfolding P.drop-passive P.remove-passive

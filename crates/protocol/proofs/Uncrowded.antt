@@ -4,7 +4,7 @@
 use mathlib.Core.Path.{_≡_, sym, subst}
 use mathlib.Core.Bool.{Bool, true, false, _||_}
 use mathlib.Core.List.{List, [], _∷_, _++_}
-use mathlib.Core.Option.{none, some}
+use mathlib.Core.Option.{Option, none, some}
 use Prim.Native.Nat.{ℕ, _+_, _≤_, _<_}
 use native.Mathlib.Omega.{arith}
 use native.Mathlib.Nat.{mod-lt}
@@ -85,10 +85,19 @@ module _ {loose : List ℕ} {places : ℕ} where
   fine-draw n h =
       fine-guard h (λ z. fine-either _ (λ e. record { clear = h .clear; snug = h .snug }) (λ e. record { clear = λ y. omega arith; snug = λ y. absurd (omega arith) }))
 
+  fine-emit : (e : Rec) {r : Run} → Fine loose places r → Fine loose places (emit e r)
+  unfolding emit
+  fine-emit e h =
+      fine-guard h (λ z. fine-either _ (λ f. record { clear = h .clear; snug = h .snug }) (λ f. record { clear = λ y. omega arith; snug = λ y. absurd (omega arith) }))
+
   fine-announce : (p : ℕ) (b : List ℕ) {r : Run} → Fine loose places r → Fine loose places (P.announce-data p b r)
-  unfolding P.announce-data emit
-  fine-announce p b h =
-      fine-either _ (λ e. h) (λ e. fine-guard h (λ z. fine-either _ (λ f. record { clear = h .clear; snug = h .snug }) (λ f. record { clear = λ y. omega arith; snug = λ y. absurd (omega arith) })))
+  unfolding P.announce-data
+  fine-announce p b h = fine-either _ (λ e. h) (λ e. fine-emit _ h)
+
+  fine-tell : (x : Option ℕ) {r : Run} → Fine loose places r → Fine loose places (P.tell-evicted x r)
+  unfolding P.tell-evicted
+  fine-tell none h = h
+  fine-tell (some p) h = fine-emit _ h
 
 -- the data of a peer that may be in no view yet
 stored : (p : ℕ) (b : List ℕ) (s : Station) → eqb p (s .me) ≡ false → length b ≤ 16 → Snug [] 0 s → Snug (p ∷ []) 0 (P.store-data p b s)
@@ -158,9 +167,9 @@ fine-evict i loose {r} l h =
       known = λ x. omega (arith, g .known x, count-shift x (r .station .passive) i l);
     }) h)
 
-fine-make-room : (loose : List ℕ) {r : Run} → Fine loose 0 r → Fine loose 1 (P.make-room r)
-unfolding P.make-room P.must-evict passive-is-full pick
-fine-make-room loose {r} h =
+fine-evicted : (loose : List ℕ) {r : Run} → Fine loose 0 r → Fine loose 1 (P.evict r)
+unfolding P.evict P.must-evict passive-is-full pick
+fine-evicted loose {r} h =
     let pas = r .station .passive in
     let cap = r .station .config .«passive_view_capacity» in
     fine-either _
@@ -173,6 +182,10 @@ fine-make-room loose {r} h =
       asked = g .asked;
       known = g .known;
     }) h)
+
+fine-make-room : (loose : List ℕ) {r : Run} → Fine loose 0 r → Fine loose 1 (P.make-room r)
+unfolding P.make-room
+fine-make-room loose {r} h = fine-tell (P.evicted r) (fine-evicted loose h)
 
 -- a peer in a view, or the station itself, of which no data is held
 known-now : (p : ℕ) (s : Station) → P.is-newcomer p s ≡ false → Snug (p ∷ []) 0 s → Snug [] 0 s
