@@ -16,6 +16,10 @@ const DEFAULT_FOLDER: &str = "../../shared/docs/src";
 /// A change of one line that a comparison must notice: file, fragment, replacement, place, lines.
 const MUTANT_VARIABLE: &str = "ORACLE_MUTANT";
 
+/// 02, S-5, at the end of `handle`: the data of a peer in neither view and without an open request goes.
+const FORGET: &str = "self.peer_data.retain(|peer, _| self.active_view.contains(peer) \
+    || self.passive_view.contains(peer) || self.pending_neighbor_requests.contains_key(peer));";
+
 /// Changes `from` to `to` in the lines of `file` that hold it: `lines` of them, or only the
 /// `place`th.
 struct Substitution {
@@ -26,28 +30,37 @@ struct Substitution {
     lines: usize,
 }
 
-/// The collections get limits (codes 6, 7, 8), and an eviction is told (02, S-2), which a run may leave out; nothing
-/// else of the Rust is changed.
+/// The collections get limits (codes 6, 7, 8), `handle` gets 02's line (S-5), an eviction is
+/// told (S-2), which a run may leave out, and the Rust's own check of its
+/// state runs under a feature of this crate; nothing else of the Rust is changed. A mutant comes
+/// first, so that it counts the lines of the Rust itself.
 fn substitutions() -> Vec<Substitution> {
-    let collections = Substitution {
+    let mutant = env::var(MUTANT_VARIABLE).map(|mutant| read_mutant(&mutant));
+    let change = |from: &str, to: &str, place, lines| Substitution {
         file: "hyparview.rs".into(),
-        from: "use std::collections::{hash_map,".into(),
-        to: "use crate::collections::{hash_map,".into(),
-        place: None,
-        lines: 1,
+        from: from.into(),
+        to: to.into(),
+        place,
+        lines,
     };
-    let evicted = Substitution {
-        file: "hyparview.rs".into(),
-        from: "self.forget_peer(&evicted);".into(),
-        to: "self.forget_peer(&evicted); io.emit(Event::Evicted(evicted));".into(),
-        place: None,
-        lines: 1,
-    };
-    let mut all = vec![collections, evicted];
-    if let Ok(mutant) = env::var(MUTANT_VARIABLE) {
-        all.push(read_mutant(&mutant));
-    }
-    all
+    let checked = "#[cfg(feature = \"invariants\")]";
+    let own = [
+        change(
+            "use std::collections::{hash_map,",
+            "use crate::collections::{hash_map,",
+            None,
+            1,
+        ),
+        change(
+            "self.forget_peer(&evicted);",
+            "self.forget_peer(&evicted); io.emit(Event::Evicted(evicted));",
+            None,
+            1,
+        ),
+        change("#[cfg(test)]", &format!("{FORGET} {checked}"), Some(2), 3),
+        change("#[cfg(test)]", checked, Some(2), 2),
+    ];
+    mutant.into_iter().chain(own).collect()
 }
 
 fn read_mutant(text: &str) -> Substitution {

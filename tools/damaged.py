@@ -1,13 +1,13 @@
 #!/usr/bin/env python3
-"""Damaged states: which of them break a station rule of document 01?
+"""Damaged states: which of them break a station rule of document 01, or that of 02's S-5?
 
 usage: tools/damaged.py make FOLDER                 writes FOLDER/stdin and FOLDER/stdout
        tools/damaged.py check FOLDER                fails where they are not what make would write
        tools/damaged.py show FOLDER LINE COLUMN     the case behind a character of stdout, both from 1
        tools/damaged.py states                      chooses oracle/sample/words.txt anew (tools/differential builds the oracle)
 
-The station rules stand below as one function each, written from document 01, "Settings and station rules", over the 551
-words of a state. The states of oracle/sample/words.txt are the Rust's own. From each of them `make` builds states that
+The station rules stand below as one function each, written from document 01, "Settings and station rules", and from 02,
+S-5, over the 551 words of a state. The states of oracle/sample/words.txt are the Rust's own. From each of them `make` builds states that
 break one rule alone or just not, held to that by all the functions together, and damages words one by one and at random;
 the functions say which answer is due.
 
@@ -169,6 +169,15 @@ def no_data_under_self(w):
     return w[ME] not in peers(w, "data")
 
 
+def data_of_known_peers(w):
+    """02, S-5: of peers in a view or with an open request. A count that is too large is another rule's."""
+    return w[count_place("data")] > 80 or set(peers(w, "data")) <= set(may_be_held(w))
+
+
+def may_be_held(w):
+    return [peer for name in ("active", "passive", "requests") for peer in peers(w, name)]
+
+
 def at_most_32_open_requests(w):
     return w[count_place("requests")] <= 32
 
@@ -234,6 +243,7 @@ RULES = [
     at_most_8_pending_joins,
     open_numbers_below_counters,
     no_data_under_self,
+    data_of_known_peers,
     at_most_32_open_requests,
     at_most_32_refused_peers,
     at_most_80_data_entries,
@@ -311,6 +321,19 @@ def replaced(entries, old, new):
     return [new if entry == old else entry for entry in entries]
 
 
+def asking(s, *asked):
+    """A copy in which these peers have an open request, in place of others where there is no room."""
+    kept = [row for row in s.rows("requests") if row[0] not in asked]
+    rows = sorted(kept[: 32 - len(asked)] + [(peer, 0) for peer in asked])
+    return s.put(NEXT_NEIGHBOR_REQUEST, max(1, s.at(NEXT_NEIGHBOR_REQUEST))).but(requests=rows)
+
+
+def forgetting(s):
+    """A copy without the data of peers that are in no view and have no open request."""
+    known = may_be_held(s.words)
+    return s.but(data=[row for row in s.rows("data") if row[0] in known])
+
+
 def near_settings(s):
     for i, (low, high) in enumerate(SETTING_RANGES):
         place = SETTINGS + i
@@ -341,10 +364,12 @@ def near_widths(s):
         for name, few in spare.items():
             for peer in few[-1:]:
                 yield rule, s.but(**{name: replaced(s.peers(name), peer, value)})
-        for name in ("refused", "requests", "data"):
+        for name in ("refused", "requests"):
             if s.rows(name):
                 last = s.rows(name)[-1]
                 yield rule, s.but(**{name: s.rows(name)[:-1] + [(value,) + last[1:]]})
+        for last in s.rows("data")[-1:]:
+            yield rule, asking(s, value).but(data=s.rows("data")[:-1] + [(value,) + last[1:]])
         for name, other in (("alive", "passive"), ("joins", "bootstrap")):
             if s.rows(name):
                 last = s.rows(name)[-1]
@@ -460,7 +485,6 @@ def near_sizes(s):
         ("recent", at_most_8_recent_peers),
         ("requests", at_most_32_open_requests),
         ("refused", at_most_32_refused_peers),
-        ("data", at_most_80_data_entries),
     ):
         _, places, columns = SECTIONS[name]
         entries = s.rows(name)
@@ -472,6 +496,10 @@ def near_sizes(s):
             filled = filled.put(NEXT_NEIGHBOR_REQUEST, max(1, s.at(NEXT_NEIGHBOR_REQUEST)))
         yield None, filled
         yield from ((rule, filled.put(count_place(name), places + more)) for more in OVER)
+    # 80 entries are more than views and requests can name, so they are too many only by their count.
+    filled = s.but(data=[(peer, 0, 0, 0) for peer in s.fresh(80)])
+    yield data_of_known_peers, filled
+    yield from ((at_most_80_data_entries, filled.put(count_place("data"), 80 + more)) for more in OVER)
 
 
 def near_joins(s):
@@ -525,9 +553,7 @@ def near_numbers(s):
 
 def near_data(s):
     entries, me = s.rows("data"), s.at(ME)
-    if len(entries) < 80:
-        yield no_data_under_self, s.but(data=with_entry(s, "data", me))
-        yield None, s.but(data=with_entry(s, "data", s.fresh(1)[0]))
+    yield no_data_under_self, asking(s, me).but(data=with_entry(s, "data", me))
     views = s.peers("active") + s.peers("passive") + s.peers("joins")
     for peer in [peer for peer in s.peers("data") if peer not in views][:1]:
         yield no_data_under_self, s.put(ME, peer)
@@ -542,6 +568,23 @@ def near_data(s):
                     bits = 0x80 << 8 * at
                     held = (peer, size, bits & TOP64, bits >> 64)
                     yield rule, s.but(data=entries[:i] + [held] + entries[i + 1 :])
+
+
+def near_known(s):
+    """Data of peers in one of the views or asked, and of peers that are elsewhere or nowhere."""
+    held, known = s.peers("data"), may_be_held(s.words)
+    for peer in known:
+        if peer not in held and peer != s.at(ME):
+            yield None, s.but(data=with_entry(s, "data", peer))
+    elsewhere = [peer for name in ("refused", "bootstrap", "recent", "joins") for peer in s.peers(name)[:2]]
+    for peer in elsewhere + s.fresh(1):
+        if peer not in known and peer != s.at(ME):
+            yield data_of_known_peers, s.but(data=with_entry(s, "data", peer))
+            yield None, asking(s, peer).but(data=with_entry(s, "data", peer))
+    for name in ("active", "passive", "requests"):
+        for row in s.rows(name):
+            if row[0] in held and known.count(row[0]) == 1 and row[0] not in s.peers("alive"):
+                yield data_of_known_peers, s.but(**{name: [other for other in s.rows(name) if other != row]})
 
 
 def near_own_data(s):
@@ -619,6 +662,7 @@ NEAR = [
     near_joins,
     near_numbers,
     near_data,
+    near_known,
     near_own_data,
     near_flags,
     near_counters,
@@ -630,6 +674,8 @@ def boundary(state, nears):
     """The states of some near_ functions, each held to breaking the named rule alone, or none."""
     for near in nears:
         for rule, changed in near(state):
+            if rule is not data_of_known_peers and not data_of_known_peers(changed.words):
+                changed = forgetting(changed)
             found = broken(changed.words)
             if found != ([rule] if rule else []):
                 named = rule.__name__ if rule else "no rule"

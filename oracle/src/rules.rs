@@ -82,8 +82,14 @@ fn joins(me: u32, parts: &Parts) -> [Claim; 3] {
     ]
 }
 
-fn numbers(me: u32, settings: &Settings, parts: &Parts) -> [Claim; 5] {
+fn numbers(me: u32, settings: &Settings, parts: &Parts) -> [Claim; 6] {
     let below = |open: &[(u32, u64)], next| open.iter().all(|(_, number)| *number < next);
+    // 02, S-5: in a view, or with an open request.
+    let is_known = |peer: &u32| {
+        parts.active.contains(peer)
+            || parts.passive.contains(peer)
+            || parts.requests.iter().any(|(asked, _)| asked == peer)
+    };
     let mut held = parts
         .data
         .iter()
@@ -101,6 +107,10 @@ fn numbers(me: u32, settings: &Settings, parts: &Parts) -> [Claim; 5] {
         (
             "no data under self",
             parts.data.iter().all(|(peer, _)| *peer != me),
+        ),
+        (
+            "data of known peers",
+            parts.data.iter().all(|(peer, _)| is_known(peer)),
         ),
         ("16 bytes of data", held.all(|data| data.len() <= MOST_DATA)),
         (

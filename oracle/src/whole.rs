@@ -120,6 +120,7 @@ fn lists_fit<RG>(state: &State<u32, RG>) -> bool {
         && state.pending_neighbor_requests.len() <= MOST_REQUESTS
         && state.refused.len() <= MOST_REFUSED
         && state.peer_data.len() <= MOST_ENTRIES
+        && state.peer_data.keys().all(|peer| may_be_held(state, peer))
         && !state.peer_data.contains_key(&state.me)
         && state
             .peer_data
@@ -128,6 +129,13 @@ fn lists_fit<RG>(state: &State<u32, RG>) -> bool {
         && own <= MOST_DATA
         && !matches!(state.refill, RefillLimit::Requests(left) if left > MAX_REQUESTS_PER_REFILL)
         && (1..=state.config.shuffle_interval.as_millis()).contains(&interval)
+}
+
+/// 02, S-5: data is held of a peer in a view or with an open request.
+fn may_be_held<RG>(state: &State<u32, RG>, peer: &u32) -> bool {
+    state.active_view.contains(peer)
+        || state.passive_view.contains(peer)
+        || state.pending_neighbor_requests.contains_key(peer)
 }
 
 /// Whether a list has at most N peers, each once.
@@ -162,7 +170,7 @@ fn enter(view: &mut IndexSet<u32>, peers: impl IntoIterator<Item = u32>) {
 
 /// Changes that each break a station rule of a state with a neighbor, a passive peer and a pending
 /// join, for a test of the check.
-pub const BREAKS: [fn(&mut State<u32, Draws>); 22] = [
+pub const BREAKS: [fn(&mut State<u32, Draws>); 23] = [
     |state| state.config.active_view_capacity = 9,
     |state| state.config.passive_view_capacity = 0,
     |state| state.config.shuffle_passive_view_count = 24,
@@ -182,7 +190,11 @@ pub const BREAKS: [fn(&mut State<u32, Draws>); 22] = [
     |state| state.next_join = 0,
     |state| state.next_neighbor_request = 0,
     |state| _ = state.peer_data.insert(state.me, PeerData::new(&b""[..])),
-    |state| _ = state.peer_data.insert(2000, PeerData::new(&[0; 17][..])),
+    |state| _ = state.peer_data.insert(2000, PeerData::new(&b""[..])),
+    |state| {
+        let peer = *state.active_view.iter().next().expect("a neighbor");
+        state.peer_data.insert(peer, PeerData::new(&[0; 17][..]));
+    },
     |state| state.refill = RefillLimit::Requests(4),
     |state| state.next_shuffle_interval = Duration::from_millis(0),
 ];

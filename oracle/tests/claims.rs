@@ -56,7 +56,7 @@ fn each_damaged_state_breaks_its_rule() {
     let mut station = station();
     station.handle(&join(7), ROOM);
     assert_eq!(rules::broken(ME, &DEFAULTS, &station.parts()), [""; 0]);
-    let damages: [Damage; 10] = [
+    let damages: [Damage; 11] = [
         (|parts| parts.passive.push(7), "views disjoint"),
         (|parts| parts.active.push(7), "lists without repeats"),
         (|parts| parts.active = (2..8).collect(), "active capacity"),
@@ -68,6 +68,7 @@ fn each_damaged_state_breaks_its_rule() {
         ),
         (|parts| parts.requests.push((9, 1)), "request numbers"),
         (|parts| parts.data.push((ME, vec![])), "no data under self"),
+        (|parts| parts.data.push((9, vec![])), "data of known peers"),
         (
             |parts| parts.refill = Refill::Requests(4),
             "three requests of a refill",

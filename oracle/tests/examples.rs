@@ -138,23 +138,21 @@ fn code_7_a_33rd_refused_peer() {
     assert_eq!(handle(&mut station, alive_disconnect(132)).code, 7);
 }
 
-/// 81 peers leave data behind; a neighbour that leaves clears the refused peers in between.
+/// 02, S-5: 81 peers with data decline, and none of it is left, so that code 8 is not met; a neighbour that
+/// leaves clears the refused peers in between.
 #[test]
-fn code_8_an_81st_data_entry() {
+fn data_of_those_who_declined_is_forgotten() {
     let mut station = station(&DEFAULTS);
-    for id in 100..180 {
+    for id in 100..181 {
         accepted(&mut station, expired_join(id, Some(vec![7])));
+        assert_eq!(station.parts().data, [(id, vec![7])]);
         accepted(&mut station, alive_disconnect(id));
+        assert_eq!(station.parts().data, []);
         if id % 30 == 0 {
             accepted(&mut station, join(9));
             accepted(&mut station, Record::of(kind::PEER_DISCONNECTED, 9));
         }
     }
-    assert_eq!(
-        handle(&mut station, expired_join(180, Some(vec![7]))).code,
-        8
-    );
-    assert_eq!(handle(&mut station, expired_join(180, None)).code, 0);
 }
 
 #[test]

@@ -8,7 +8,7 @@ use native.Mathlib.Omega.{arith}
 use lib.ListN.{length, getD}
 use lib.Dec.{eqb}
 use borrow.Author.Tests.{eqb-true, eqb-false, ne-eqb}
-use Rattle.lists.specs.Lists.{choose, is, count, mem, Rising}
+use Rattle.lists.specs.Lists.{choose, is, count, mem, subset, Rising}
 use Rattle.lists.specs.Maps.{keys}
 use Rattle.lists.specs.Tests.{All}
 use Rattle.lists.proofs.Choice.{by-choice, split, choose-yes, and-left, and-right, clash}
@@ -28,12 +28,14 @@ use Rattle.protocol.proofs.Told.{up-after, sent-after}
 use Rattle.protocol.proofs.Narrow.{Narrow}
 use Rattle.protocol.proofs.Invariant.{calm, Good}
 use Rattle.protocol.proofs.Reading.{Readable, by-form}
-use Rattle.protocol.proofs.Whole.{Pays, Between, at-start, ok-steps}
+use Rattle.protocol.proofs.Whole.{Pays, Covered, covered-steps, Between, at-start, ok-steps}
 use Rattle.protocol.proofs.Tested.{ranges-of, data-true, own-held, distinct-yes, rules-of}
 use Rattle.protocol.proofs.Written.{formed-event}
+use Rattle.protocol.proofs.Uncrowded.{never-eight}
 use Rattle.history.specs.Ledger.{Ledger, empty-ledger, kind-in, message-in, message-number, number-of, open-event, feed}
 use Rattle.history.specs.Calls.{Call, Given, answer, answered, state-after, codes, ledger-after, definition}
 use Rattle.history.specs.Demand.{Views, Booked, Demand3, Demand3-holds}
+use Rattle.history.specs.Refusals.{Never-eight}
 use Rattle.history.proofs.Heard.{booked, heard}
 
 -- the numbers of demand 3 are enough for their events
@@ -68,10 +70,10 @@ pub record Fine (c : Config) (me : ℕ) (b : List ℕ) (l : Ledger) (a : Answer)
 
 -- what a run's records tell is what the ledger holds
 told-kept : (c : Config) (me : ℕ) (b : List ℕ) (l : Ledger) (alone n room : ℕ) (o : List Rec) (v : Station)
-    → Good (at-start c me (l .up) (l .sent) (l .allowance + number-of (c .«active_view_capacity») b) alone n room (rec-of b)) calm 0 v o → Lawful v → Narrow v
+    → Good (at-start c me (l .up) (l .sent) (l .allowance + number-of (c .«active_view_capacity») b) alone n room (rec-of b)) calm 0 v o → Lawful v → Narrow v → Covered v
     → Kept c me (booked o (open-event (c .«active_view_capacity») b l)) v
 unfolding booked open-event up-after sent-after kind-in rec-of header-of
-told-kept c me b l alone n room o v g w n′ =
+told-kept c me b l alone n room o v g w n′ y =
     record {
       core = record {
         still = record {
@@ -86,6 +88,7 @@ told-kept c me b l alone n room o v g w n′ =
       };
       law = w;
       narrow = n′;
+      covered = y;
     }
 
 module _ {c : Config} {me : ℕ} {l : Ledger} {s : Station} (h : Kept c me l s) (b : List ℕ) where
@@ -102,7 +105,7 @@ module _ {c : Config} {me : ℕ} {l : Ledger} {s : Station} (h : Kept c me l s) 
       split (eqb (r .code) 0)
       (λ z. let g = k .good (eqb-true (r .code) 0 z) in rw z (record {
         not-two = λ e. omega arith;
-        kept = rw (heard (g .told) (r .out) (r .room - length (r .out)) (open-event a b l) (g .sound) (g .spelled)) (told-kept c me b l (s .passes-alone) (length ds) room (g .told) (r .station) (g .core) (g .law) (formed-event s (h .narrow) ds room (rec-of b) w f .narrow));
+        kept = rw (heard (g .told) (r .out) (r .room - length (r .out)) (open-event a b l) (g .sound) (g .spelled)) (told-kept c me b l (s .passes-alone) (length ds) room (g .told) (r .station) (g .core) (g .law) (formed-event s (h .narrow) ds room (rec-of b) w f .narrow) (covered-steps (rec-of b) (start s ds room) (eqb-true (r .code) 0 z)));
       }))
       (λ z. rw z (fine-refusal (r .code) (r .room) (let ne : r .code ≡ 0 → ⊥ = eqb-false (r .code) 0 z in omega (arith, k .codes .low (omega (arith, ne))))))
 
@@ -126,9 +129,16 @@ module _ {c : Config} {me : ℕ} (ranges : in-range c ≡ true) where
   none-two (v ∷ vs) {s = s} h =
       omega (arith, is-not 2 (answer v s .code) (ne-eqb 2 (answer v s .code) (λ e. fine-answer v h .not-two (sym e))), none-two vs (fine-answer v h .kept))
 
+  pub none-eight : (vs : List Call) {l : Ledger} {s : Station} → Kept c me l s → count 8 (codes definition vs s) ≡ 0
+  unfolding codes answered count
+  none-eight [] h = refl
+  none-eight (v ∷ vs) {s = s} h =
+      let n = never-eight s (rules-of s ranges h) (v .draws) (length (v .output)) (v .event) (v .are-bytes) in
+      omega (arith, is-not 8 (answer v s .code) (ne-eqb 8 (answer v s .code) (λ e. n (sym e))), none-eight vs (fine-answer v h .kept))
+
 -- a new station
 pub kept-new : (me : ℕ) (d : Data) (c : Config) → Given me d → in-range c ≡ true → short-data d ≡ true → Kept c me empty-ledger (new-station me d c)
-unfolding new-station empty-ledger count up-after sent-after keys Rising Each Small All
+unfolding new-station empty-ledger count up-after sent-after keys subset Rising Each Small All
 kept-new me d c given r sd =
     let g = ranges-of c r in record {
       core = record {
@@ -174,6 +184,7 @@ kept-new me d c given r sd =
         requests-top = omega arith;
         joins-top = omega arith;
       };
+      covered = refl;
     }
 
 -- as demand 3 says it
@@ -234,3 +245,12 @@ demand-3 me d c given z vs =
       views = views-of h;
       booked = booked-of h;
     })
+
+-- 02, S-5: no call after a new station is answered 8
+pub eight-never : Never-eight
+unfolding new
+eight-never me d c given z vs =
+    let t = accepted-new me d c z in
+    let r = and-left (in-range c) (short-data d) t in
+    let e : new me d c .state ≡ new-station me d c = ap (λ (m : Made). m .state) (choose-yes (in-range c && short-data d) _ _ t) in
+    subst (λ (s : Station). mem 8 (codes definition vs s) ≡ false) (sym e) (mem-no 8 _ (none-eight r vs (kept-new me d c given r (and-right (in-range c) (short-data d) t))))

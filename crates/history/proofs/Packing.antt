@@ -2,7 +2,7 @@
 -- Assumes nothing.
 use Prim.Native.Nat.{ℕ}
 use mathlib.Core.Path.{_≡_, refl, sym, ap, subst, _∙_}
-use mathlib.Core.Bool.{Bool, true, _&&_}
+use mathlib.Core.Bool.{Bool, true, false, _&&_}
 use mathlib.Core.List.{List, [], _∷_}
 use lib.Dec.{eqb}
 use Rattle.lists.specs.Lists.{choose, mem}
@@ -13,6 +13,7 @@ use Rattle.peer.specs.Data.{Data}
 use Rattle.protocol.specs.Station.{Station}
 use Rattle.protocol.specs.Rules.{station-ok, short-data}
 use Rattle.protocol.specs.Handle.{Made, new, new-station}
+use Rattle.protocol.proofs.Extra.{mem-no}
 use Rattle.protocol.proofs.Tested.{rules-of}
 use Rattle.history.specs.Ledger.{Ledger, empty-ledger, kind-in, feed}
 use Rattle.history.specs.Calls.{Call, Given, narrow-draws, Machine, state-of, answer, state-after, codes, ledger-after, definition}
@@ -20,7 +21,7 @@ use Rattle.history.specs.Demand.{Views, Booked, Demand3}
 use Rattle.history.specs.Outputs.{ReadsBack, OutputsRead}
 use Rattle.history.specs.Packing.{Packs}
 use Rattle.history.specs.Rejoin.{is-tick, ticks, Promised}
-use Rattle.history.proofs.Kept.{Kept, fine-answer, kept-new, accepted-new, demand-3}
+use Rattle.history.proofs.Kept.{Kept, fine-answer, none-eight, kept-new, accepted-new, demand-3}
 use Rattle.history.proofs.Rejoined.{rejoin-promise}
 use Rattle.history.proofs.Outputs.{outputs-read}
 
@@ -85,6 +86,16 @@ module _ {S : Type 0} {m : Machine S} {pack : Station → S} {station : S → St
         let e : new me d c .state ≡ new-station me d c = ap (λ (x : Made). x .state) (choose-yes (in-range c && short-data d) _ _ t) in
         subst (λ (s : Station). Demand3 m station ok me c (pack s) vs) (sym e)
         (packed-demand r (kept-new me d c given r (and-right (in-range c) (short-data d) t)) vs (subst (λ (s : Station). Demand3 definition (λ x. x) station-ok me c s vs) e (demand-3 me d c given z vs)))
+
+    -- 02, S-5: no call is answered 8
+    pub eight-packed : mem 8 (codes m vs (pack (new me d c .state))) ≡ false
+    unfolding new
+    eight-packed =
+        let t = accepted-new me d c z in
+        let r = and-left (in-range c) (short-data d) t in
+        let e : new me d c .state ≡ new-station me d c = ap (λ (x : Made). x .state) (choose-yes (in-range c && short-data d) _ _ t) in
+        let k₀ = kept-new me d c given r (and-right (in-range c) (short-data d) t) in
+        subst (λ (s : Station). mem 8 (codes m vs (pack s)) ≡ false) (sym e) (ap (mem 8) (codes-follow r vs k₀) ∙ mem-no 8 _ (none-eight r vs k₀))
 
     -- the state after the list is the definition's, packed
     pub states-packed : state-after m vs (pack (new me d c .state)) ≡ pack (state-after definition vs (new me d c .state))

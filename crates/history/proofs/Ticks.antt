@@ -94,6 +94,10 @@ unfolding H.first-timers H.note-scheduled T.schedule-maintenance T.schedule-shuf
 first-timers-grow r =
     either _ (still r) (then (changes _ (λ s. refl) r) (then (changes _ (λ s. refl) _) (then (draws 1 _) (then (emits _ _) (emits _ _)))))
 
+ended-grows : (r : Run) → Grows r (on H.forget-declined (H.first-timers r))
+unfolding H.forget-declined
+ended-grows r = then (first-timers-grow r) (changes _ (λ s. refl) _)
+
 recent-grows : (from : List ℕ) (r : Run) → Grows r (T.rejoin-recent from r)
 unfolding T.rejoin-recent join
 recent-grows from r = either _ (still r) (then (draws 1 r) (emits _ _))
@@ -117,12 +121,12 @@ joins-grow d (p ∷ ps) r = then (emits (join-to d p) r) (joins-grow d ps (emit 
 
 -- the end of a pass alone, once it is counted
 after-count : Run → Run
-after-count r = H.first-timers (T.schedule-maintenance (T.rejoin-if-due r))
+after-count r = on H.forget-declined (H.first-timers (T.schedule-maintenance (T.rejoin-if-due r)))
 
 after-count-grows : (r : Run) → Grows r (after-count r)
 unfolding after-count T.rejoin-if-due T.rejoin T.rejoin-bootstrap T.schedule-maintenance
 after-count-grows r =
-    then (either (backoff-due (r .station .passes-alone)) (then (joins-grow _ _ r) (recent-grows _ _)) (still r)) (then (emits _ _) (first-timers-grow _))
+    then (either (backoff-due (r .station .passes-alone)) (then (joins-grow _ _ r) (recent-grows _ _)) (still r)) (then (emits _ _) (ended-grows _))
 
 after-due : (r : Run) → backoff-due (r .station .passes-alone) ≡ true → after-count r .code ≡ 0 → Begins (r .out ++ joins-to (r .station .own-data) (r .station .bootstrap)) (after-count r .out)
 unfolding after-count T.rejoin-if-due T.rejoin T.rejoin-bootstrap T.schedule-maintenance
@@ -131,7 +135,7 @@ after-due r due =
     let ps = r .station .bootstrap in
     let b = emit-all (join-to d) ps r in
     rw due (rw (choose-yes true (T.rejoin-recent (T.other-recent (r .station)) b) r refl)
-    (λ z. let g = then (recent-grows (T.other-recent (r .station)) b) (then (emits _ _) (first-timers-grow _)) in
+    (λ z. let g = then (recent-grows (T.other-recent (r .station)) b) (then (emits _ _) (ended-grows _)) in
     begins-as (joins-out d ps r (g .fine z)) (g .more z)))
 
 on-start : (f : Station → Station) (s : Station) (ds : List ℕ) (room : ℕ) → on f (start s ds room) ≡ start (f s) ds room

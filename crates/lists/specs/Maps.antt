@@ -36,6 +36,11 @@ module _ {A : Type 0} where
   cut k [] = []
   cut k (e ∷ m) = choose (eqb k (e .0)) (cut k m) (e ∷ cut k m)
 
+  -- HashMap::retain: the entries of those among ps
+  unfoldable pub retain : List ℕ → List (ℕ × A) → List (ℕ × A)
+  retain ps [] = []
+  retain ps (e ∷ m) = choose (mem (e .0) ps) (e ∷ retain ps m) (retain ps m)
+
   unfoldable pub replace : ℕ → A → List (ℕ × A) → List (ℕ × A)
   replace k v [] = []
   replace k v (e ∷ m) = choose (eqb k (e .0)) ((k, v) ∷ replace k v m) (e ∷ replace k v m)

@@ -13,7 +13,8 @@ use Rattle.record.specs.Format.{encode}
 use Rattle.protocol.specs.Station.{Station, automatic}
 use Rattle.protocol.specs.Setters.{set-active, set-passive, set-requests, set-next-request, set-next-join, set-peer-data, set-refused}
 use Rattle.protocol.specs.Run.{node, message}
-use Rattle.protocol.specs.Handle.{new, new-station, zero-station, handle}
+use Rattle.protocol.specs.Peers.{insert-peer-info}
+use Rattle.protocol.specs.Handle.{new, new-station, zero-station, start, handle}
 use Rattle.protocol.specs.Traced.{traced}
 
 -- station 1 with the default settings, as `new` makes it
@@ -179,10 +180,17 @@ pub code-7 : refused-with 7 (set-refused (peers-from 100 32) (set-requests ((200
 unfolding traced default peers-from
 code-7 = refl
 
--- 8: an expired ForwardJoin with data for an 81st peer
-pub code-8 : refused-with 8 (set-peer-data (from 100 (1 ∷ []) 80) fresh) (expired-join 200 (some (1 ∷ []))) (0 ∷ []) 200
+-- 8: the step's own refusal of an 81st entry, on a run; 01's example of it holds data of peers that are nowhere, and is a state that breaks 02's rule (S-5)
+abbrev pub data-of-many : ℕ → Station
+data-of-many n = set-peer-data (from 100 (1 ∷ []) n) fresh
+
+pub code-8 : (insert-peer-info 200 (some (1 ∷ [])) (start (data-of-many 80) [] 200)) .code ≡ 8
 unfolding traced default from
 code-8 = refl
+
+pub code-8-is-2 : refused-with 2 (data-of-many 80) (expired-join 200 (some (1 ∷ []))) (0 ∷ []) 200
+unfolding traced default from
+code-8-is-2 = refl
 
 -- 9: first event, 0 bytes
 pub code-9 : refused-with 9 fresh request-join-7 (0 ∷ []) 0
@@ -203,6 +211,15 @@ pub last-refused : handle (set-refused (peers-from 100 31) (set-requests ((200, 
 unfolding traced default peers-from
 last-refused = refl
 
-pub last-data : handle (set-peer-data (from 100 (1 ∷ []) 79) fresh) (expired-join 200 (some (1 ∷ []))) (0 ∷ []) 200 .code ≡ 0
+pub last-data : (insert-peer-info 200 (some (1 ∷ [])) (start (data-of-many 79) [] 200)) .code ≡ 0
 unfolding traced default from
 last-data = refl
+
+-- 02, S-5: data that comes with an expired ForwardJoin is held while the request is open, and goes when the peer declines
+pub asked-is-held : handle fresh (expired-join 200 (some (1 ∷ []))) (0 ∷ []) 200 .state .peer-data ≡ (200, 1 ∷ []) ∷ []
+unfolding traced default
+asked-is-held = refl
+
+pub declined-is-dropped : handle (set-peer-data ((200, 1 ∷ []) ∷ []) (set-requests ((200, 0) ∷ []) (set-next-request 1 fresh))) (encode (message 5 200 1 0 0 [])) (0 ∷ []) 200 .state .peer-data ≡ []
+unfolding traced default
+declined-is-dropped = refl

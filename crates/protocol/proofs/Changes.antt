@@ -9,15 +9,15 @@ use lib.ListN.{length}
 use lib.Dec.{ltb, eqb}
 use borrow.Author.Tests.{ltb-true}
 use Rattle.lists.specs.Lists.{choose, mem, without, insert, renew, Rising}
-use Rattle.lists.specs.Maps.{keys, has, lookup, cut, put}
+use Rattle.lists.specs.Maps.{keys, has, lookup, cut, retain, put}
 use Rattle.lists.proofs.Choice.{by-choice}
 use Rattle.lists.proofs.Count.{count-without, length-without}
-use Rattle.lists.proofs.Maps.{keys-cut, keys-put, length-cut, length-put}
+use Rattle.lists.proofs.Maps.{keys-cut, keys-put, length-cut, length-put, length-retain, count-retain, rising-retain}
 use Rattle.lists.proofs.Rising.{rising-without, rising-insert}
 use Rattle.protocol.specs.Station.{Refill, automatic, requests-left, recovery, is-recovery, top-counter}
 use Rattle.protocol.specs.Refill.{one-less, unless-recovery}
 use Rattle.protocol.specs.Timers.{renew-all}
-use Rattle.protocol.proofs.Extra.{Each, each-cut, each-put, each-more, count-cut, length-insert, count-absent, renewed}
+use Rattle.protocol.proofs.Extra.{Each, each-cut, each-retain, each-put, each-more, count-cut, length-insert, count-absent, renewed}
 use Rattle.protocol.proofs.Law.{Short, Small, InOrder, Numbered, Requests, Held, Refused, Recent}
 
 pub put-numbered : {n : ℕ} {m : List (ℕ × ℕ)} (p : ℕ) → ltb n top-counter ≡ true → Numbered m n → Numbered (put p n m) (n + 1)
@@ -51,6 +51,14 @@ cut-held {me} {m} p h = record {
   few = omega (arith, h .few, length-cut p m);
   shorts = each-cut (λ w. length w ≤ 16) p m (h .shorts);
   not-own = omega (arith, h .not-own, count-cut me p m (omega (arith, h .not-own)));
+}
+
+pub retain-held : {me : ℕ} {m : List (ℕ × List ℕ)} (ps : List ℕ) → Held me m → Held me (retain ps m)
+retain-held {me} {m} ps h = record {
+  rise = rising-retain ps m (h .rise);
+  few = omega (arith, h .few, length-retain ps m);
+  shorts = each-retain (λ w. length w ≤ 16) ps m (h .shorts);
+  not-own = omega (arith, h .not-own, count-retain me ps m);
 }
 
 pub put-held : {me : ℕ} {m : List (ℕ × List ℕ)} (p : ℕ) (b : List ℕ) → eqb p me ≡ false → length b ≤ 16 → (has p m || ltb (length m) 80) ≡ true → Held me m → Held me (put p b m)

@@ -9,7 +9,7 @@ use lib.ListN.{length, getD, drop, take, length-append, length-take}
 use lib.Dec.{ltb, eqb}
 use borrow.Author.Tests.{ltb-true, ltb-false, eqb-false, ne-eqb}
 use Rattle.lists.specs.Lists.{choose, null, is, count, mem, index-of, shift-remove, remove, without, place, insert, push-new, renew, Above, Rising}
-use Rattle.lists.specs.Maps.{keys, has, cut, replace, place-entry, put}
+use Rattle.lists.specs.Maps.{keys, has, cut, retain, replace, place-entry, put}
 use Rattle.lists.proofs.Choice.{by-choice, by-test, split, or-true, clash}
 use Rattle.lists.proofs.Count.{is-self, is-le, is-not, mem-true, mem-false, count-snoc, count-without, length-without, count-place, count-insert, length-swap, count-shift, length-shift, index-lt, index-at, absent}
 use Rattle.lists.proofs.Maps.{keys-cut, keys-put}
@@ -148,6 +148,11 @@ module _ {A : Type 0} (P : A → Type 0) where
   unfolding Each cut
   each-cut k [] h = tt
   each-cut k (e ∷ m) h = by-choice (Each P) (eqb k (e .0)) (λ t. each-cut k m (h .1)) (λ t. (h .0, each-cut k m (h .1)))
+
+  pub each-retain : (ps : List ℕ) (m : List (ℕ × A)) → Each P m → Each P (retain ps m)
+  unfolding Each retain
+  each-retain ps [] h = tt
+  each-retain ps (e ∷ m) h = by-choice (Each P) (mem (e .0) ps) (λ t. (h .0, each-retain ps m (h .1))) (λ t. each-retain ps m (h .1))
 
   each-replace : (k : ℕ) (v : A) (m : List (ℕ × A)) → P v → Each P m → Each P (replace k v m)
   unfolding Each replace

@@ -10,14 +10,18 @@ use borrow.Author.Tests.{eqb-true, ne-eqb}
 use Rattle.lists.specs.Lists.{choose}
 use Rattle.lists.proofs.Choice.{by-choice, choose-no}
 use Rattle.lists.specs.Tests.{All}
+use Rattle.lists.proofs.Maps.{all-retain}
 use Rattle.peer.specs.Data.{Node, bytes-of}
 use Rattle.record.specs.Format.{Rec}
 use Rattle.record.specs.InForm.{InForm, header-in}
+use Rattle.protocol.specs.Station.{Station, data-peers}
 use Rattle.protocol.specs.Run.{Run}
 use Rattle.protocol.specs.Handle as H
 use Rattle.protocol.specs.Evictions.{by-message, evictions}
-use Rattle.protocol.proofs.Narrow.{no-peer, no-data, Held, Named, form-nodes}
+use Rattle.protocol.proofs.Narrow.{no-peer, no-data, Held, Named, form-nodes, Peer, Narrow, at, change, change-held}
 use Rattle.protocol.proofs.Formed.{Formed, either, either-way, alter}
+use Rattle.protocol.proofs.Extra.{each-retain}
+use Rattle.protocol.proofs.Narrow as N
 use Rattle.protocol.proofs.FormedEvents.{formed-on-join, formed-on-forward-join, formed-on-shuffle, formed-on-shuffle-reply, formed-on-neighbor, formed-on-disconnect, formed-handle-join, formed-closed, formed-update, formed-quit, formed-neighbor-timer, formed-retry-join, formed-schedule-shuffle, formed-schedule-maintenance, formed-shuffle-timer, formed-maintenance-timer}
 
 first-named : (ns : List Node) → All Named ns → Named (H.first-node ns)
@@ -31,6 +35,11 @@ other c k h {ds} fs {x} g j =
     by-choice (Formed ds (choose (eqb k 5) fs [])) (eqb k c)
     (λ e. subst (λ (l : List ℕ). Formed ds l x) (sym (choose-no (eqb k 5) fs [] (ne-eqb k 5 (λ z. omega (arith, eqb-true k c e))))) g)
     (λ e. j)
+
+declined-narrow : (s : Station) → Narrow s → Narrow (H.forget-declined s)
+unfolding H.forget-declined
+declined-narrow s w =
+    change-held (change w N.peer-data _ (all-retain Peer (data-peers s) (s .peer-data) (at w N.peer-data))) (each-retain Held (data-peers s) (s .peer-data) (w .held))
 
 module _ (e : Rec) (f : InForm e) (few : length (e .nodes) ≤ 32) where
   nodes-named : All Named (e .nodes)
@@ -64,4 +73,5 @@ module _ (e : Rec) (f : InForm e) (few : length (e .nodes) ≤ 32) where
   pub formed-steps : {ds : List ℕ} {r : Run} → Formed ds [] r → Formed ds (evictions e r) (H.steps e r)
   unfolding H.steps H.first-timers H.note-scheduled
   formed-steps k =
-      let j = formed-dispatch k in either _ j (formed-schedule-maintenance (formed-schedule-shuffle (alter H.note-scheduled (λ w. w) j)))
+      let j = formed-dispatch k in
+      alter H.forget-declined (declined-narrow _) (either _ j (formed-schedule-maintenance (formed-schedule-shuffle (alter H.note-scheduled (λ w. w) j))))

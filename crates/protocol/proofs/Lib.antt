@@ -26,3 +26,5 @@ pub mod Enough
 pub mod Written
 pub mod Cases
 pub mod Bounds
+pub mod Fits
+pub mod Uncrowded

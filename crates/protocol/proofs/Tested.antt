@@ -92,7 +92,7 @@ unfolding subset count
 all-in-yes [] ys h = refl
 all-in-yes (x ∷ xs) ys h = both (mem x ys) (subset xs ys) (mem-yes x ys (omega (arith, h x, is-self x))) (all-in-yes xs ys (λ y. omega (arith, h y)))
 
-all-in-true : (xs ys : List ℕ) → subset xs ys ≡ true → (x : ℕ) → 1 ≤ count x xs → 1 ≤ count x ys
+pub all-in-true : (xs ys : List ℕ) → subset xs ys ≡ true → (x : ℕ) → 1 ≤ count x xs → 1 ≤ count x ys
 unfolding subset count
 all-in-true [] ys e x h = absurd (omega arith)
 all-in-true (p ∷ xs) ys e x h =
@@ -233,7 +233,7 @@ ranges-of c e =
 
 -- the invariant gives the test
 pub rules-of : {c : Config} {me : ℕ} {up : List ℕ} {sent allowed : ℕ} (s : Station) → in-range c ≡ true → Between c me up sent allowed s → station-ok s ≡ true
-unfolding station-ok R.rules R.settings-rule R.repeats-rule R.order-rule R.capacity-rule R.views-rule R.alive-rule R.few-rule R.joins-rule R.numbers-rule R.self-rule R.room-rule R.data-rule R.limit-rule R.interval-rule R.width-rule R.lists-under has within count up-after
+unfolding station-ok R.rules R.settings-rule R.repeats-rule R.order-rule R.capacity-rule R.views-rule R.alive-rule R.few-rule R.joins-rule R.numbers-rule R.self-rule R.room-rule R.data-rule R.limit-rule R.interval-rule R.width-rule R.held-rule R.lists-under has within count up-after
 rules-of {c} s r b =
     let h = b .core in
     let w = b .law in
@@ -253,14 +253,14 @@ rules-of {c} s r b =
     (also _ _ (limit-yes _ (w .fill-ok))
     (also _ _ (both _ _ (le-leb _ _ (w .pace-ok .low)) (le-leb _ _ (w .pace-ok .high)))
     (also _ _ (both _ _ (lists-yes peers-end _ (b .narrow .named)) (both _ _ (both _ _ (bytes-yes _ (b .narrow .mine .bytes)) (held-yes _ (b .narrow .held))) (both _ _ (le-leb _ _ (w .requests-ok .numbered .next-top)) (both _ _ (le-leb _ _ (w .joins-ok .next-top)) (both _ _ (le-leb _ _ (w .alone-ok .high)) (le-leb _ _ (w .short-ok .high)))))))
-    no-tests))))))))))))))
+    (also _ _ (b .covered) no-tests)))))))))))))))
 
 -- the test gives the invariant, with the neighbours up, no message sent, and two allowed for each neighbour
 both-once : (a b : ℕ) → a ≤ 1 → (1 ≤ a → b ≡ 0) → b ≤ 1 → a + b ≤ 1
 both-once zero b h f k = omega arith
 both-once (suc a) b h f k = omega (arith, f (omega arith))
 
-within-once : (a b : ℕ) → a ≤ 1 → (1 ≤ a → 1 ≤ b) → a ≤ b
+pub within-once : (a b : ℕ) → a ≤ 1 → (1 ≤ a → 1 ≤ b) → a ≤ b
 within-once zero b h f = omega arith
 within-once (suc a) b h f = omega (arith, f (omega arith))
 
@@ -314,7 +314,7 @@ module _ (s : Station) (e : station-ok s ≡ true) where
       }
 
   pub between-of : Between (s .config) (s .me) (s .active) 0 (2 * length (s .active)) s
-  unfolding R.rules R.settings-rule R.repeats-rule R.order-rule R.capacity-rule R.views-rule R.alive-rule R.few-rule R.joins-rule R.width-rule R.lists-under has up-after sent-after count
+  unfolding R.rules R.settings-rule R.repeats-rule R.order-rule R.capacity-rule R.views-rule R.alive-rule R.few-rule R.joins-rule R.width-rule R.held-rule R.lists-under has up-after sent-after count
   between-of =
       let act = s .active in
       let pas = s .passive in
@@ -356,4 +356,5 @@ module _ (s : Station) (e : station-ok s ≡ true) where
         };
         law = law-of;
         narrow = narrow-of;
+        covered = rule 15;
       }

@@ -8,18 +8,21 @@ use native.Mathlib.Omega.{arith}
 use lib.ListN.{length}
 use lib.Dec.{eqb}
 use borrow.Author.Tests.{eqb-true, eqb-false, ne-eqb}
-use Rattle.lists.specs.Lists.{choose, count}
-use Rattle.lists.proofs.Choice.{split}
+use Rattle.lists.specs.Lists.{choose, count, subset}
+use Rattle.lists.specs.Maps.{keys}
+use Rattle.lists.proofs.Choice.{by-choice, split}
+use Rattle.lists.proofs.Maps.{subset-retain}
 use Rattle.timing.specs.declared.Config.{Config}
 use Rattle.peer.specs.Data.{Node}
 use Rattle.record.specs.Format.{Rec}
-use Rattle.protocol.specs.Station.{Station}
-use Rattle.protocol.specs.Run.{Run}
+use Rattle.protocol.specs.Station.{Station, data-peers}
+use Rattle.protocol.specs.Run.{Run, guard, on}
 use Rattle.protocol.specs.Budgets.{bare, crowd, adding}
 use Rattle.protocol.specs.Events.{handle-quit}
 use Rattle.protocol.specs.Handle as H
 use Rattle.protocol.specs.Handle.{start, steps, dispatch}
-use Rattle.protocol.proofs.Law.{Lawful, Short, ShortNodes}
+use Rattle.protocol.proofs.Law.{Lawful, Short, ShortNodes, law-held}
+use Rattle.protocol.proofs.Changes.{retain-held}
 use Rattle.protocol.proofs.Told.{spell, up-after, sent-after, no-more}
 use Rattle.protocol.proofs.Narrow.{Narrow}
 use Rattle.protocol.proofs.Invariant.{Fixed, Terms, calm, Good, Ok}
@@ -93,6 +96,22 @@ ok-first-timers k =
     ok-either _ (ease (omega arith) (omega arith) (omega arith) k)
     (ok-schedule-maintenance (ok-schedule-shuffle (ok-on _ (λ o h. h) (λ w. w) (ease (omega arith) (omega arith) (omega arith) k))))
 
+pub ok-forget-declined : {q : Fixed} {t : Terms} {m b d : ℕ} {r : Run} → Ok q t m b d r → Ok q t m b d (on H.forget-declined r)
+unfolding H.forget-declined
+ok-forget-declined k = ok-on _ (λ o h. h) (λ w. law-held w (retain-held _ (w .held-ok))) k
+
+-- data of others is held only of those in a view or with an open request
+abbrev pub Covered : Station → Type 0
+Covered s = subset (keys (s .peer-data)) (data-peers s) ≡ true
+
+-- the last step leaves no other data
+pub covered-steps : (e : Rec) (r : Run) → steps e r .code ≡ 0 → Covered (steps e r .station)
+unfolding steps H.forget-declined on guard data-peers
+covered-steps e r =
+    by-choice (λ (w : Run). w .code ≡ 0 → Covered (w .station)) (eqb (H.first-timers (dispatch e r) .code) 0)
+    (λ z i. subset-retain (data-peers (H.first-timers (dispatch e r) .station)) (H.first-timers (dispatch e r) .station .peer-data))
+    (λ z i. absurd (eqb-false (H.first-timers (dispatch e r) .code) 0 z i))
+
 -- what holds of a station between events: of those up and the messages sent and allowed so far, and the rules
 pub record Between (c : Config) (me : ℕ) (up : List ℕ) (sent allowed : ℕ) (s : Station) : Type 0 where
   pub core : Good (record {
@@ -108,6 +127,7 @@ pub record Between (c : Config) (me : ℕ) (up : List ℕ) (sent allowed : ℕ) 
   }) calm 0 s []
   pub law : Lawful s
   pub narrow : Narrow s
+  pub covered : Covered s
 
 -- an event e starts: n more messages are allowed, and a Quit starts with none up
 abbrev pub at-start : Config → ℕ → List ℕ → ℕ → ℕ → ℕ → ℕ → ℕ → Rec → Fixed
@@ -170,7 +190,7 @@ module _ {c : Config} {me : ℕ} {up : List ℕ} {sent allowed : ℕ} {s : Stati
   pub ok-steps : Ok (at-start c me up sent (allowed + n) (s .passes-alone) (length ds) room e) calm 0 0 0 (steps e (start s ds room))
   unfolding steps
   ok-steps =
-      ok-first-timers (split (eqb (e .kind) 8)
+      ok-forget-declined (ok-first-timers (split (eqb (e .kind) 8)
       (λ f. rw (quit-dispatch e f (start s ds room))
       (ok-handle-quit (omega (arith, h .core .seats .slots-left, h .core .still .ranges .few-slots)) (ease (omega arith) (omega arith) (omega arith) (start-quit f))))
-      (λ f. ok-dispatch e w some-slot p (λ z. rw z) f (ease (omega arith) (omega arith) (omega arith) (start-plain f))))
+      (λ f. ok-dispatch e w some-slot p (λ z. rw z) f (ease (omega arith) (omega arith) (omega arith) (start-plain f)))))

@@ -7,13 +7,14 @@ use mathlib.Core.Option.{none}
 use lib.ListN.{length, replicate}
 use lib.Dec.{eqb}
 use Rattle.lists.specs.Lists.{choose}
+use Rattle.lists.specs.Maps.{retain}
 use Rattle.timing.specs.Timing.{in-range, initial-shuffle-interval}
 use Rattle.timing.specs.declared.Config.{Config}
 use Rattle.peer.specs.Data.{Data, Node}
 use Rattle.record.specs.Format.{Rec}
 use Rattle.record.specs.Read.{Reading, refused, event, read-event}
-use Rattle.protocol.specs.Station.{Station, automatic}
-use Rattle.protocol.specs.Setters.{set-scheduled}
+use Rattle.protocol.specs.Station.{Station, automatic, data-peers}
+use Rattle.protocol.specs.Setters.{set-scheduled, set-peer-data}
 use Rattle.protocol.specs.Run.{Run, on, node}
 use Rattle.protocol.specs.Messages.{on-join, on-forward-join, on-shuffle, on-shuffle-reply, on-neighbor, on-disconnect}
 use Rattle.protocol.specs.Events.{handle-join, handle-connection-closed, update-own-data, handle-quit}
@@ -118,9 +119,13 @@ unfoldable pub first-timers : Run → Run
 first-timers r =
     choose (r .station .scheduled) r (schedule-maintenance (schedule-shuffle (on note-scheduled r)))
 
+-- 02, S-5: the data of a peer in neither view and without an open request goes, such as that of one that was asked and declined
+unfoldable pub forget-declined : Station → Station
+forget-declined s = set-peer-data (retain (data-peers s) (s .peer-data)) s
+
 -- State::handle
 unfoldable pub steps : Rec → Run → Run
-steps e r = first-timers (dispatch e r)
+steps e r = on forget-declined (first-timers (dispatch e r))
 
 abbrev pub start : Station → List ℕ → ℕ → Run
 start s ds room = record { station = s; draws = ds; used = 0; room = room; out = []; code = 0 }

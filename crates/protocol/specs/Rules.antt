@@ -11,7 +11,7 @@ use Rattle.lists.specs.Maps.{keys, values, has}
 use Rattle.timing.specs.Timing.{in-range, within, max-bootstrap-peers, max-recent-neighbors, max-requests-per-refill}
 use Rattle.peer.specs.Data.{Data, bytes-of}
 use Rattle.peer.specs.Maps.{numbers-under}
-use Rattle.protocol.specs.Station.{Station, Refill, automatic, requests-left, recovery, max-requests, max-refused, max-peer-data, max-data-length, top-counter, top-passes, peers-end, bytes-end}
+use Rattle.protocol.specs.Station.{Station, Refill, automatic, requests-left, recovery, max-requests, max-refused, max-peer-data, max-data-length, top-counter, top-passes, peers-end, bytes-end, data-peers}
 
 -- all of the tests hold
 unfoldable pub every : List Bool → Bool
@@ -123,11 +123,16 @@ width-rule s =
     && (leb (s .next-request) top-counter
     && (leb (s .next-join) top-counter && (leb (s .passes-alone) top-passes && leb (s .passes-short) top-passes))))
 
+-- 02, S-5: no data is held of a peer in neither view and without an open request
+unfoldable pub held-rule : Station → Bool
+held-rule s = subset (keys (s .peer-data)) (data-peers s)
+
 -- the station rules; "unused places zero" is for the packed form alone
 unfoldable pub rules : Station → List Bool
 rules s =
     settings-rule s ∷ repeats-rule s ∷ order-rule s ∷ capacity-rule s ∷ views-rule s ∷ alive-rule s ∷ few-rule s ∷ joins-rule s
-    ∷ numbers-rule s ∷ self-rule s ∷ room-rule s ∷ data-rule s ∷ limit-rule s ∷ interval-rule s ∷ width-rule s ∷ []
+    ∷ numbers-rule s ∷ self-rule s ∷ room-rule s ∷ data-rule s ∷ limit-rule s ∷ interval-rule s ∷ width-rule s
+    ∷ held-rule s ∷ []
 
 unfoldable pub station-ok : Station → Bool
 station-ok s = every (rules s)

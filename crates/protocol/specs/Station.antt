@@ -2,7 +2,7 @@
 -- Assumes nothing.
 use Prim.Native.Nat.{ℕ, _+_, _/_}
 use mathlib.Core.Bool.{Bool, true, false, _&&_, _||_}
-use mathlib.Core.List.{List}
+use mathlib.Core.List.{List, _++_}
 use lib.ListN.{length}
 use lib.Dec.{leb, ltb, eqb}
 use Rattle.lists.specs.Lists.{mem, null, without-all}
@@ -142,3 +142,7 @@ asked-outside s = without-all (s .active) (keys (s .requests))
 -- a recovery whose last request is answered or given up
 unfoldable pub recovery-is-over : Station → Bool
 recovery-is-over s = is-recovery (s .refill) && null (asked-outside s)
+
+-- 02, S-5: the peers whose data may be held: those in a view, and those with an open request
+unfoldable pub data-peers : Station → List ℕ
+data-peers s = s .active ++ (s .passive ++ keys (s .requests))

@@ -25,7 +25,7 @@ use Rattle.history.proofs.Ticks.{draw-out, on-out}
 use Rattle.shuffle_times.specs.Times.{next-interval}
 use Rattle.shuffle_times.specs.Histories.{draws-end}
 use Rattle.shuffle_times.proofs.Told.{shuffles}
-use Rattle.shuffle_times.proofs.Quiet.{Adds, adds-more, Still, adds-one, on-lent, schedule-maintenance, shuffle-any, dispatch}
+use Rattle.shuffle_times.proofs.Quiet.{Adds, adds-more, Still, Quiet, then, changes, adds-one, on-lent, schedule-maintenance, shuffle-any, dispatch}
 
 -- the run w wrote one shuffle timer after the output x, with the interval i and one of the draws ds, and doubled the interval up to top
 pub record Sets (x ds : List ℕ) (i top : ℕ) (w : Run) : Type 0 where
@@ -140,23 +140,33 @@ shuffle-dispatch : (e : Rec) → eqb (e .kind) 1 ≡ true → (r : Run) → H.di
 unfolding H.dispatch choose
 shuffle-dispatch e f r = rw (eqb-true (e .kind) 1 f)
 
+-- the last step of an event is quiet
+declined : (w : Run) → Quiet w (on H.forget-declined w)
+unfolding H.forget-declined
+declined w = changes _ (λ s. refl) w
+
+starts-before : {x ds : List ℕ} {i top : ℕ} {w v : Run} → Starts x ds i top w → Still w v → Starts x ds i top v
+starts-before h k = record { sets = sets-before (h .sets) k; mark = ap (λ (p : Bool × (ℕ × Config)). p .0) (k .same-clock) ∙ h .mark }
+
 module _ (e : Rec) (s : Station) (ds : List ℕ) (room : ℕ) where
   -- no timer
   pub plain : eqb (e .kind) 1 ≡ false → s .scheduled ≡ true → steps e (start s ds room) .code ≡ 0 → Still (start s ds room) (steps e (start s ds room))
   unfolding steps
   plain k m z =
       let w = H.dispatch e (start s ds room) in
-      let h = dispatch e k (start s ds room) .so (timers-fine w z) in
-      subst (Still (start s ds room)) (sym (timers-kept w (ap (λ (p : Bool × (ℕ × Config)). p .0) (h .same-clock) ∙ m))) h
+      let h = dispatch e k (start s ds room) .so (timers-fine w (declined (H.first-timers w) .so z .fine)) in
+      let g = subst (Still (start s ds room)) (sym (timers-kept w (ap (λ (p : Bool × (ℕ × Config)). p .0) (h .same-clock) ∙ m))) h in
+      then (record { so = λ y. g }) (declined (H.first-timers w)) .so z
 
   -- the first event
   pub first : eqb (e .kind) 1 ≡ false → s .scheduled ≡ false → steps e (start s ds room) .code ≡ 0 → Starts [] ds (s .next-interval) (s .config .«shuffle_interval») (steps e (start s ds room))
   unfolding steps
   first k m z =
       let w = H.dispatch e (start s ds room) in
-      let h = dispatch e k (start s ds room) .so (timers-fine w z) in
-      let t = new-timers w (ap (λ (p : Bool × (ℕ × Config)). p .0) (h .same-clock) ∙ m) z in
-      record { sets = sets-after h (t .sets); mark = t .mark }
+      let q = declined (H.first-timers w) .so z in
+      let h = dispatch e k (start s ds room) .so (timers-fine w (q .fine)) in
+      let t = new-timers w (ap (λ (p : Bool × (ℕ × Config)). p .0) (h .same-clock) ∙ m) (q .fine) in
+      starts-before (record { sets = sets-after h (t .sets); mark = t .mark }) q
 
   -- a shuffle timer
   pub fired : eqb (e .kind) 1 ≡ true → s .scheduled ≡ true → steps e (start s ds room) .code ≡ 0 → Starts [] ds (s .next-interval) (s .config .«shuffle_interval») (steps e (start s ds room))
@@ -165,7 +175,8 @@ module _ (e : Rec) (s : Station) (ds : List ℕ) (room : ℕ) where
       rw (shuffle-dispatch e k (start s ds room)) (λ z.
       let w = T.shuffle-any (start s ds room) in
       let v = T.schedule-shuffle w in
-      let y = timers-fine v z in
+      let q = declined (H.first-timers v) .so z in
+      let y = timers-fine v (q .fine) in
       let h = shuffle-any (start s ds room) .so (schedule-fine w y) in
       let on-still : v .station .scheduled ≡ true = ap (λ (u : Station). u .scheduled) (schedule-station w y) ∙ (ap (λ (p : Bool × (ℕ × Config)). p .0) (h .same-clock) ∙ m) in
-      subst (Starts [] ds (s .next-interval) (s .config .«shuffle_interval»)) (sym (timers-kept v on-still)) (record { sets = sets-after h (schedule-sets w y); mark = on-still }))
+      starts-before (subst (Starts [] ds (s .next-interval) (s .config .«shuffle_interval»)) (sym (timers-kept v on-still)) (record { sets = sets-after h (schedule-sets w y); mark = on-still })) q)

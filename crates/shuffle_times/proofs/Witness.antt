@@ -9,6 +9,7 @@ use lib.ListN.{length, replicate}
 use lib.Dec.{leb, ltb, eqb}
 use borrow.Author.Tests.{eq-eqb, lt-ltb, ltb-true, le-leb}
 use Rattle.lists.specs.Lists.{choose, null}
+use Rattle.lists.specs.Maps.{retain}
 use Rattle.lists.specs.Bytes.{le, read-le}
 use Rattle.lists.proofs.Choice.{choose-yes, choose-no, and-left, and-right}
 use Rattle.timing.specs.Timing.{in-range, delay, maintenance-interval}
@@ -126,7 +127,7 @@ module _ (me : ℕ) (d : Data) (c : Config) where
   }
 
   quit-steps : (x : ℕ) → finish (new-station me d c) (steps (notice 8 0) (start (new-station me d c) (x ∷ []) 48)) ≡ accepted (quit-run x)
-  unfolding quit-run next-interval first-interval choose finish steps H.dispatch H.first-timers H.note-scheduled E.handle-quit E.quit-all E.clear-all T.schedule-maintenance T.schedule-shuffle T.double-interval new-station guard on emit draw drawn size datas encode header entries le
+  unfolding quit-run next-interval first-interval choose finish steps H.forget-declined H.dispatch H.first-timers H.note-scheduled E.handle-quit E.quit-all E.clear-all T.schedule-maintenance T.schedule-shuffle T.double-interval new-station retain guard on emit draw drawn size datas encode header entries le
   quit-steps x = refl
 
   shuffle-run : ℕ → ℕ → Run
@@ -140,7 +141,7 @@ module _ (me : ℕ) (d : Data) (c : Config) where
   }
 
   shuffle-steps : (i x : ℕ) → finish (ticking i) (steps (timer 1 0 0 0) (start (ticking i) (x ∷ []) 24)) ≡ accepted (shuffle-run i x)
-  unfolding shuffle-run next-interval choose null is-alone finish steps H.dispatch H.first-timers T.handle-shuffle-timer T.shuffle-any T.schedule-shuffle T.double-interval new-station guard on emit draw drawn size datas encode header entries le
+  unfolding shuffle-run next-interval choose null is-alone finish steps H.forget-declined H.dispatch H.first-timers T.handle-shuffle-timer T.shuffle-any T.schedule-shuffle T.double-interval new-station retain guard on emit draw drawn size datas encode header entries le
   shuffle-steps i x = refl
 
   quit-told : (x : ℕ) → quit-run x .out ≡ encode-all (timer 1 0 (delay (first-interval top) x) 0 ∷ timer 2 0 maintenance-interval 0 ∷ [])
