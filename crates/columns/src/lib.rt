@@ -8,15 +8,15 @@ ghost use mathlib.Core.List.{[]};
 ghost use Prim.Native.Nat.{_+_, _^_, _≤_, _<_};
 ghost use lib.ListN.{length, take, drop};
 ghost use lib.Dec.{ltb};
-ghost use Rattle.lists.specs.Lists.{shift-remove, insert-at};
-ghost use Rattle.lists.specs.Maps.{keys, has, lookup, cut, put};
+ghost use Rattle.lists.specs.Lists.{shift-remove, insert-at, subset};
+ghost use Rattle.lists.specs.Maps.{keys, has, lookup, cut, retain, put};
 ghost use Rattle.lists.specs.Tests.{every, packed};
 ghost use Rattle.lists.specs.Bytes.{le};
 ghost use Rattle.peer.specs.Data.{bytes-of, holds};
 ghost use Rattle.peer.specs.Held.{data-in, ValidData, HoldsData};
 ghost use Rattle.peer.specs.Maps.{number-in, valid-entry};
 ghost use Rattle.scan.specs.Words.{unused};
-ghost use Rattle.section.specs.Section.{part, Filled, HoldsSet};
+ghost use Rattle.section.specs.Section.{part, Filled, items-at, ValidSet, HoldsSet};
 ghost use Rattle.columns.specs.Columns.{numbers-at, ValidNumbers, HoldsNumbers, valid-numbers, Two, word-bytes, row, entries-at, data-at, ValidDataWords, HoldsDataWords, valid-data-words};
 
 // A peer with its data.
@@ -312,6 +312,41 @@ pub fn remove_data(m: &mut [u64], cap: usize, p: PeerId)
     out_two(&mut m[..half], cap, n, i);
     out_two(&mut m[half..end], cap, n, i);
     m[end] = (n - 1) as u64;
+}
+
+// Whether every peer of the map is in the set.
+pub fn data_within(m: &[u64], cap: usize, s: &[u64], scap: usize) -> bool
+    requires { ⌜ ValidDataWords cap (now m) ⌝ }
+    requires { ⌜ ValidSet scap (now s) ⌝ }
+    ensures { λ r. ⌜ r ≡ subset (keys (data-at cap (now (m .entry)))) (items-at scap (now (s .entry))) ⌝ }
+{
+    let half = cap + cap;
+    let end = half + half;
+    let n = m[end] as usize;
+    let k = s[scap] as usize;
+    scan::subset(&m[..n], &s[..k])
+}
+
+// Only the data of the peers that are in the set; mostly all are, and nothing moves.
+pub fn retain_data(m: &mut [u64], cap: usize, s: &[u64], scap: usize)
+    requires { ⌜ ValidDataWords cap (now m) ⌝ }
+    requires { ⌜ ValidSet scap (now s) ⌝ }
+    ensures { λ _. ⌜ HoldsDataWords cap (now (m .exit)) (retain (items-at scap (now (s .entry))) (data-at cap (now (m .entry)))) ⌝ }
+{
+    if data_within(m, cap, s, scap) {
+        return;
+    }
+    let mut n = count_data(m, cap);
+    let mut i: usize = 0;
+    while i < n {
+        let p = m[i];
+        if section::contains(s, scap, p) {
+            i += 1;
+        } else {
+            remove_data(m, cap, p);
+            n = count_data(m, cap);
+        }
+    }
 }
 
 // The data is stored as its bytes, of which absent data has none.
