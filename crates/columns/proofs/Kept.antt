@@ -3,20 +3,20 @@
 use Prim.Native.Nat.{ℕ, zero, suc, _+_, _-_, _≤_, _<_}
 use mathlib.Core.Path.{_≡_, refl, sym, ap, _∙_, subst}
 use mathlib.Core.Bool.{Bool, true, false}
-use mathlib.Core.List.{List, [], _∷_}
+use mathlib.Core.List.{List, [], _∷_, _++_, append-assoc}
 use native.Mathlib.Numerals.{add-one}
 use native.Mathlib.Omega.{arith}
-use lib.ListN.{length, take, drop, getD}
+use lib.ListN.{length, take, getD, length-append}
 use lib.Seq.{length-take-le, take-take, take-all, getD-take}
 use lib.Dec.{eqb}
 use borrow.Author.Tests.{eqb-true}
 use Rattle.lists.specs.Lists.{count, mem, without, subset}
 use Rattle.lists.specs.Maps.{keys, cut, retain}
-use Rattle.lists.proofs.Choice.{by-test, split, and-left, and-right, clash}
+use Rattle.lists.proofs.Choice.{by-test, and-left, and-right, clash}
 use Rattle.lists.proofs.Count.{length-without, count-at}
 use Rattle.lists.proofs.Maps.{length-keys, keys-cut, retain-cut, retain-all}
 use Rattle.lists.proofs.Tests.{both-true}
-use Rattle.section.specs.Section.{part, items-at, ValidSet}
+use Rattle.section.specs.Section.{part, items-at, ValidSet, HoldsSet}
 use Rattle.section.proofs.Sets.{lent}
 use Rattle.columns.specs.Columns.{head-of, count-of, data-at, ValidDataWords, HoldsDataWords}
 use Rattle.columns.proofs.Data.{data-keys}
@@ -109,3 +109,25 @@ retaining-end n k s m₀ m c i r h =
     let ps = items-at k s in
     let all : take i (keys (data-at n m)) ≡ keys (data-at n m) = take-all i (keys (data-at n m)) (omega (arith, r .counted, length-keys (data-at n m))) in
     record { valid = r .valid; items = sym (retain-all ps (data-at n m) (subst (λ (l : List ℕ). subset l ps ≡ true) all (r .front))) ∙ r .same }
+
+-- ---- the peers whose data may be held
+
+module _ (a p : List ℕ) (va : ValidSet 8 a) (vp : ValidSet 32 p) where
+  pub room-active : (v : List ℕ) → HoldsSet 72 v [] → length (items-at 72 v) + length (items-at 8 a) ≤ 72
+  room-active v h = omega (arith, ap length (h .items), va .counted, va .fits)
+
+  pub room-passive : (v w : List ℕ) → HoldsSet 72 v [] → HoldsSet 72 w (items-at 72 v ++ items-at 8 a) → length (items-at 72 w) + length (items-at 32 p) ≤ 72
+  room-passive v w h k = omega (arith, ap length (h .items), ap length (k .items), length-append (items-at 72 v) (items-at 8 a), va .counted, va .fits, vp .counted, vp .fits)
+
+  module _ (v w x : List ℕ) (h : HoldsSet 72 v []) (k : HoldsSet 72 w (items-at 72 v ++ items-at 8 a)) (l : HoldsSet 72 x (items-at 72 w ++ items-at 32 p)) where
+    views-are : items-at 72 x ≡ items-at 8 a ++ items-at 32 p
+    views-are = l .items ∙ ap (λ (xs : List ℕ). xs ++ items-at 32 p) (k .items ∙ ap (λ (xs : List ℕ). xs ++ items-at 8 a) (h .items))
+
+    pub room-asked : (t ks : List ℕ) → HoldsSet 32 t ks → length (items-at 72 x) + length (items-at 32 t) ≤ 72
+    room-asked t ks g = omega (arith, ap length views-are, length-append (items-at 8 a) (items-at 32 p), va .counted, va .fits, vp .counted, vp .fits, g .valid .counted, g .valid .fits)
+
+    pub peers-known : (t ks y : List ℕ) → HoldsSet 32 t ks → HoldsSet 72 y (items-at 72 x ++ items-at 32 t) → HoldsSet 72 y (items-at 8 a ++ (items-at 32 p ++ ks))
+    peers-known t ks y g z = record {
+      valid = z .valid;
+      items = z .items ∙ ((λ i. views-are i ++ g .items i) ∙ append-assoc (items-at 8 a) (items-at 32 p) ks);
+    }

@@ -4,7 +4,7 @@ use peer::PeerData;
 use section::PeerId;
 ghost use mathlib.Core.Path.{_≡_};
 ghost use mathlib.Core.Bool.{true, _||_, _&&_};
-ghost use mathlib.Core.List.{[]};
+ghost use mathlib.Core.List.{[], _++_};
 ghost use Prim.Native.Nat.{_+_, _^_, _≤_, _<_};
 ghost use lib.ListN.{length, take, drop};
 ghost use lib.Dec.{ltb};
@@ -312,6 +312,29 @@ pub fn remove_data(m: &mut [u64], cap: usize, p: PeerId)
     out_two(&mut m[..half], cap, n, i);
     out_two(&mut m[half..end], cap, n, i);
     m[end] = (n - 1) as u64;
+}
+
+// The places of the active view, of the passive view and of the requests, and of the peers of all three together.
+const FEW: usize = 8;
+
+const ALL: usize = 32;
+
+const KNOWN: usize = 72;
+
+// The peers of both views and of the requests, whose data may be held, as a working set.
+pub fn data_peers(active: &[u64], passive: &[u64], requests: &[u64], v: &mut [u64])
+    requires { ⌜ ValidSet 8 (now active) ⌝ }
+    requires { ⌜ ValidSet 32 (now passive) ⌝ }
+    requires { ⌜ ValidNumbers 32 (now requests) ⌝ }
+    requires { ⌜ length (now v) ≡ 73 ⌝ }
+    ensures { λ _. ⌜ HoldsSet 72 (now (v .exit)) (items-at 8 (now (active .entry)) ++ (items-at 32 (now (passive .entry)) ++ keys (numbers-at 32 (now (requests .entry))))) ⌝ }
+{
+    let mut asked = [0u64; 33];
+    keys_into(requests, ALL, &mut asked);
+    section::clear(v, KNOWN);
+    section::append(v, KNOWN, active, FEW);
+    section::append(v, KNOWN, passive, ALL);
+    section::append(v, KNOWN, &asked, ALL);
 }
 
 // Whether every peer of the map is in the set.
