@@ -7,3 +7,4 @@ pub mod Holding
 pub mod Past
 pub mod Testing
 pub mod Sections
+pub mod Kept

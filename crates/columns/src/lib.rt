@@ -4,19 +4,19 @@ use peer::PeerData;
 use section::PeerId;
 ghost use mathlib.Core.Path.{_≡_};
 ghost use mathlib.Core.Bool.{true, _||_, _&&_};
-ghost use mathlib.Core.List.{[]};
+ghost use mathlib.Core.List.{[], _++_};
 ghost use Prim.Native.Nat.{_+_, _^_, _≤_, _<_};
 ghost use lib.ListN.{length, take, drop};
 ghost use lib.Dec.{ltb};
-ghost use Rattle.lists.specs.Lists.{shift-remove, insert-at};
-ghost use Rattle.lists.specs.Maps.{keys, has, lookup, cut, put};
+ghost use Rattle.lists.specs.Lists.{shift-remove, insert-at, subset};
+ghost use Rattle.lists.specs.Maps.{keys, has, lookup, cut, retain, put};
 ghost use Rattle.lists.specs.Tests.{every, packed};
 ghost use Rattle.lists.specs.Bytes.{le};
 ghost use Rattle.peer.specs.Data.{bytes-of, holds};
 ghost use Rattle.peer.specs.Held.{data-in, ValidData, HoldsData};
 ghost use Rattle.peer.specs.Maps.{number-in, valid-entry};
 ghost use Rattle.scan.specs.Words.{unused};
-ghost use Rattle.section.specs.Section.{part, Filled, HoldsSet};
+ghost use Rattle.section.specs.Section.{part, Filled, items-at, ValidSet, HoldsSet};
 ghost use Rattle.columns.specs.Columns.{numbers-at, ValidNumbers, HoldsNumbers, valid-numbers, Two, word-bytes, row, entries-at, data-at, ValidDataWords, HoldsDataWords, valid-data-words};
 
 // A peer with its data.
@@ -312,6 +312,64 @@ pub fn remove_data(m: &mut [u64], cap: usize, p: PeerId)
     out_two(&mut m[..half], cap, n, i);
     out_two(&mut m[half..end], cap, n, i);
     m[end] = (n - 1) as u64;
+}
+
+// The places of the active view, of the passive view and of the requests, and of the peers of all three together.
+const FEW: usize = 8;
+
+const ALL: usize = 32;
+
+const KNOWN: usize = 72;
+
+// The peers of both views and of the requests, whose data may be held, as a working set.
+pub fn data_peers(active: &[u64], passive: &[u64], requests: &[u64], v: &mut [u64])
+    requires { ⌜ ValidSet 8 (now active) ⌝ }
+    requires { ⌜ ValidSet 32 (now passive) ⌝ }
+    requires { ⌜ ValidNumbers 32 (now requests) ⌝ }
+    requires { ⌜ length (now v) ≡ 73 ⌝ }
+    ensures { λ _. ⌜ HoldsSet 72 (now (v .exit)) (items-at 8 (now (active .entry)) ++ (items-at 32 (now (passive .entry)) ++ keys (numbers-at 32 (now (requests .entry))))) ⌝ }
+{
+    let mut asked = [0u64; 33];
+    keys_into(requests, ALL, &mut asked);
+    section::clear(v, KNOWN);
+    section::append(v, KNOWN, active, FEW);
+    section::append(v, KNOWN, passive, ALL);
+    section::append(v, KNOWN, &asked, ALL);
+}
+
+// Whether every peer of the map is in the set.
+pub fn data_within(m: &[u64], cap: usize, s: &[u64], scap: usize) -> bool
+    requires { ⌜ ValidDataWords cap (now m) ⌝ }
+    requires { ⌜ ValidSet scap (now s) ⌝ }
+    ensures { λ r. ⌜ r ≡ subset (keys (data-at cap (now (m .entry)))) (items-at scap (now (s .entry))) ⌝ }
+{
+    let half = cap + cap;
+    let end = half + half;
+    let n = m[end] as usize;
+    let k = s[scap] as usize;
+    scan::subset(&m[..n], &s[..k])
+}
+
+// Only the data of the peers that are in the set; mostly all are, and nothing moves.
+pub fn retain_data(m: &mut [u64], cap: usize, s: &[u64], scap: usize)
+    requires { ⌜ ValidDataWords cap (now m) ⌝ }
+    requires { ⌜ ValidSet scap (now s) ⌝ }
+    ensures { λ _. ⌜ HoldsDataWords cap (now (m .exit)) (retain (items-at scap (now (s .entry))) (data-at cap (now (m .entry)))) ⌝ }
+{
+    if data_within(m, cap, s, scap) {
+        return;
+    }
+    let mut n = count_data(m, cap);
+    let mut i: usize = 0;
+    while i < n {
+        let p = m[i];
+        if section::contains(s, scap, p) {
+            i += 1;
+        } else {
+            remove_data(m, cap, p);
+            n = count_data(m, cap);
+        }
+    }
 }
 
 // The data is stored as its bytes, of which absent data has none.
