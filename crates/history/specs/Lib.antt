@@ -5,3 +5,4 @@ pub mod Followed
 pub mod Rejoin
 pub mod Packing
 pub mod Outputs
+pub mod Panel
