@@ -319,7 +319,7 @@ const FEW: usize = 8;
 
 const ALL: usize = 32;
 
-const KNOWN: usize = 72;
+pub const KNOWN: usize = 72;
 
 // The peers of both views and of the requests, whose data may be held, as a working set.
 pub fn data_peers(active: &[u64], passive: &[u64], requests: &[u64], v: &mut [u64])

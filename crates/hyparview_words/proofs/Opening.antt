@@ -9,7 +9,10 @@ use lib.ListN.{length, getD}
 use lib.Seq.{length-take-le}
 use lib.Dec.{eqb, leb, ltb}
 use borrow.Author.Tests.{ne-eqb, leb-true, ltb-false}
+use Rattle.lists.specs.Maps.{retain}
 use Rattle.lists.proofs.Choice.{by-choice, choose-yes, choose-no, split, and-left, and-right, and-false, clash}
+use Rattle.section.specs.Section.{items-at, HoldsSet}
+use Rattle.columns.specs.Columns.{HoldsDataWords}
 use Rattle.record.specs.declared.Header.{Header}
 use Rattle.record.specs.declared.Event.{Event}
 use Rattle.record.specs.declared.Event.the-variants.{Refused, Record}
@@ -18,10 +21,10 @@ use Rattle.record.specs.Read as R
 use Rattle.record.specs.Answers.{EventIs, event-answer, event-in}
 use Rattle.protocol.specs.Budgets.{arriving}
 use Rattle.protocol.specs.Station.{peers-end}
-use Rattle.protocol.specs.Run.{Run}
+use Rattle.protocol.specs.Run.{Run, on}
 use Rattle.protocol.specs.Rules.{station-ok}
 use Rattle.protocol.specs.Handle as P
-use Rattle.protocol.specs.Handle.{start, dispatch, first-timers, steps, handle-reading}
+use Rattle.protocol.specs.Handle.{start, dispatch, first-timers, forget-declined, steps, handle-reading}
 use Rattle.protocol.proofs.Invariant.{calm, Ok}
 use Rattle.protocol.proofs.Keeping.{ease}
 use Rattle.protocol.proofs.Reading.{readable}
@@ -29,8 +32,8 @@ use Rattle.protocol.proofs.Bounds.{begun, ready}
 use Rattle.words.specs.declared.Work.{Work}
 use Rattle.words.specs.Layout as layout
 use Rattle.words.specs.Unpack.{unpack, long}
-use Rattle.words.specs.Work.{Held, work-of, run, Fine, Does}
-use Rattle.words.proofs.Bridge.{seq}
+use Rattle.words.specs.Work.{Held, work-of, run, Changes, Fine, Does}
+use Rattle.words.proofs.Bridge.{then, seq}
 use Rattle.step_events.specs.Free.{KnownJoins}
 use Rattle.step_messages.specs.Between.{Between}
 use Rattle.rules_words.specs.Ok.{words-end, packed-ok, state-ok}
@@ -81,9 +84,13 @@ opens xs b h ds out ok v narrow =
           };
     }
 
-pub stepped : (w a r : Held) (ds out o₁ o : List ℕ) (e : Rec) → Does r ds o (first-timers (run a ds o₁)) → Does a ds o₁ (dispatch e (run w ds out)) → Does r ds o (steps e (run w ds out))
+pub stepped : (w a b r : Held) (ds out o₁ o : List ℕ) (e : Rec) → Changes (on forget-declined) b r → Does b ds o (first-timers (run a ds o₁)) → Does a ds o₁ (dispatch e (run w ds out)) → Does r ds o (steps e (run w ds out))
 unfolding steps
-stepped w a r ds out o₁ o e k₂ k₁ = seq first-timers k₂ k₁
+stepped w a b r ds out o₁ o e k₃ k₂ k₁ = then k₃ (seq first-timers k₂ k₁)
+
+-- the data that a working set of peers retains
+pub retained : (m v ps : List ℕ) (l : List (ℕ × List ℕ)) → HoldsDataWords 80 m (retain (items-at 72 v) l) → HoldsSet 72 v ps → HoldsDataWords 80 m (retain ps l)
+retained m v ps l h k = subst (λ (qs : List ℕ). HoldsDataWords 80 m (retain qs l)) (k .items) h
 
 -- ---- the end
 

@@ -12,7 +12,7 @@ ghost use lib.ListN.{length};
 ghost use Rattle.record.specs.Read.{rec-of};
 ghost use Rattle.protocol.specs.Budgets.{arriving};
 ghost use Rattle.protocol.specs.Run.{on};
-ghost use Rattle.protocol.specs.Handle.{new, note-scheduled, first-timers, handle-message, dispatch, steps};
+ghost use Rattle.protocol.specs.Handle.{new, note-scheduled, first-timers, forget-declined, handle-message, dispatch, steps};
 ghost use Rattle.words.specs.Layout.{words};
 ghost use Rattle.words.specs.Unpack.{PackedState};
 ghost use Rattle.words.specs.Work.{work-of, run, Changes, Fine, Does};
@@ -108,6 +108,31 @@ fn first_timers(w: Work, st: &mut [u64], draws: &[u32], out: &mut [u8]) -> Work
     let a = note_scheduled(w, st);
     let b = step_timers::schedule_shuffle(a, st, draws, out);
     step_maintenance::schedule_maintenance(b, out)
+}
+
+// 02, S-5: the data of a peer in neither view and without an open request goes, where the event is accepted.
+fn forget_declined(w: Work, st: &mut [u64]) -> Work
+    requires { ⌜ length (now st) ≡ words ⌝ }
+    requires { ⌜ PackedState (now st) ⌝ }
+    ensures { λ r. ⌜ Changes (on forget-declined) (work-of w (now (st .entry))) (work-of r (now (st .exit))) ⌝ }
+{
+    if w.code != 0 {
+        return w;
+    }
+    let mut v = [0u64; 73];
+    columns::data_peers(
+        &st[Layout::ACTIVE..Layout::ACTIVE_END],
+        &st[Layout::PASSIVE..Layout::PASSIVE_END],
+        &st[Layout::REQUESTS..Layout::REQUESTS_END],
+        &mut v,
+    );
+    columns::retain_data(
+        &mut st[Layout::DATA..Layout::DATA_END],
+        Layout::DATA_CAP,
+        &v,
+        columns::KNOWN,
+    );
+    w
 }
 
 // Join, ForwardJoin or Neighbor, which have one node.
@@ -233,7 +258,8 @@ fn steps(w: Work, st: &mut [u64], draws: &[u32], out: &mut [u8], b: &[u8], h: He
     ensures { λ r. ⌜ Does (work-of r (now (st .exit))) (now (draws .entry)) (now (out .exit)) (steps (rec-of (now (b .entry))) (run (work-of w (now (st .entry))) (now (draws .entry)) (now (out .entry)))) ⌝ }
 {
     let a = dispatch(w, st, draws, out, b, h);
-    first_timers(a, st, draws, out)
+    let c = first_timers(a, st, draws, out);
+    forget_declined(c, st)
 }
 
 // An event that was read, at words that keep the rules; they are kept aside for a refusal.

@@ -1,7 +1,7 @@
 -- How the code's tests are the rules of the definition, and which rules hold of all well formed words.
 -- Assumes nothing.
 use Prim.Native.Nat.{ℕ, _≤_}
-use mathlib.Core.Path.{_≡_, refl, sym, _∙_}
+use mathlib.Core.Path.{_≡_, refl, sym, ap, _∙_}
 use mathlib.Core.Bool.{Bool, true, false, not, _&&_, and-true}
 use mathlib.Core.List.{List, [], _∷_}
 use native.Mathlib.Omega.{arith}
@@ -14,7 +14,7 @@ use Rattle.lists.specs.Tests.{All}
 use Rattle.lists.proofs.Choice.{split, or-true, and-right}
 use Rattle.lists.proofs.Tests.{both-true, true-rising, all-map}
 use Rattle.lists.proofs.Entries.{entries-values}
-use Rattle.section.specs.Section.{items-at}
+use Rattle.section.specs.Section.{items-at, HoldsSet}
 use Rattle.columns.specs.Columns.{numbers-at, data-at, entries-at, count-of, ValidDataWords}
 use Rattle.columns.proofs.Data.{data-entries}
 use Rattle.peer.specs.declared.PeerData.{PeerData}
@@ -22,9 +22,9 @@ use Rattle.peer.specs.Held.{data-in, ValidData}
 use Rattle.peer.specs.Maps.{no-data, entry-bytes, ValidEntry}
 use Rattle.peer.proofs.Data.{length-bytes}
 use Rattle.peer.proofs.Maps.{length-entry}
-use Rattle.protocol.specs.Rules.{all-short, short-data, limit-ok, settings-rule, repeats-rule, order-rule, capacity-rule, views-rule, alive-rule, few-rule, joins-rule, numbers-rule, self-rule, room-rule, data-rule, limit-rule, interval-rule, width-rule, rules, station-ok}
+use Rattle.protocol.specs.Rules.{all-short, short-data, limit-ok, settings-rule, repeats-rule, order-rule, capacity-rule, views-rule, alive-rule, few-rule, joins-rule, numbers-rule, self-rule, room-rule, data-rule, limit-rule, interval-rule, width-rule, held-rule, rules, station-ok}
 use Rattle.protocol.specs.Rules as R
-use Rattle.protocol.specs.Station.{Station}
+use Rattle.protocol.specs.Station.{Station, data-peers}
 use Rattle.words.specs.Layout as layout
 use Rattle.words.specs.Unpack.{settings-at, limit-at, limit-formed, refill-in, station-of, unpack}
 use Rattle.words.proofs.Memory.{two-limit}
@@ -134,13 +134,18 @@ module _ (xs : List ℕ) where
 
 -- three rules are left out where they hold
 pub rules-left : (g : Station) → few-rule g ≡ true → room-rule g ≡ true → data-rule g ≡ true
-    → station-ok g ≡ (settings-rule g && (repeats-rule g && (order-rule g && (capacity-rule g && (views-rule g && (alive-rule g && (joins-rule g && (numbers-rule g && (self-rule g && (limit-rule g && (interval-rule g && width-rule g)))))))))))
+    → station-ok g ≡ (settings-rule g && (repeats-rule g && (order-rule g && (capacity-rule g && (views-rule g && (alive-rule g && (joins-rule g && (numbers-rule g && (self-rule g && (limit-rule g && (interval-rule g && (width-rule g && held-rule g))))))))))))
 unfolding station-ok rules R.every
-rules-left g f a b = rw (f, a, b, and-true (width-rule g))
+rules-left g f a b = rw (f, a, b, and-true (held-rule g))
 
-pub rules-are : (xs : List ℕ) → packed-ok xs ≡ true → (a b c d e f g h k l m n : Bool) → a ≡ settings-rule (unpack xs) → b ≡ repeats-rule (unpack xs) → c ≡ order-rule (unpack xs) → d ≡ capacity-rule (unpack xs)
+pub rules-are : (xs : List ℕ) → packed-ok xs ≡ true → (a b c d e f g h k l m n o : Bool) → a ≡ settings-rule (unpack xs) → b ≡ repeats-rule (unpack xs) → c ≡ order-rule (unpack xs) → d ≡ capacity-rule (unpack xs)
     → e ≡ views-rule (unpack xs) → f ≡ alive-rule (unpack xs) → g ≡ joins-rule (unpack xs) → h ≡ numbers-rule (unpack xs) → k ≡ self-rule (unpack xs) → l ≡ limit-rule (unpack xs)
-    → m ≡ interval-rule (unpack xs) → n ≡ width-rule (unpack xs) → (a && (b && (c && (d && (e && (f && (g && (h && (k && (l && (m && n))))))))))) ≡ station-ok (unpack xs)
-rules-are xs t a b c d e f g h k l m n p₁ p₂ p₃ p₄ p₅ p₆ p₇ p₈ p₉ p₁₀ p₁₁ p₁₂ =
-    (λ i. p₁ i && (p₂ i && (p₃ i && (p₄ i && (p₅ i && (p₆ i && (p₇ i && (p₈ i && (p₉ i && (p₁₀ i && (p₁₁ i && p₁₂ i)))))))))))
+    → m ≡ interval-rule (unpack xs) → n ≡ width-rule (unpack xs) → o ≡ held-rule (unpack xs)
+    → (a && (b && (c && (d && (e && (f && (g && (h && (k && (l && (m && (n && o)))))))))))) ≡ station-ok (unpack xs)
+rules-are xs t a b c d e f g h k l m n o p₁ p₂ p₃ p₄ p₅ p₆ p₇ p₈ p₉ p₁₀ p₁₁ p₁₂ p₁₃ =
+    (λ i. p₁ i && (p₂ i && (p₃ i && (p₄ i && (p₅ i && (p₆ i && (p₇ i && (p₈ i && (p₉ i && (p₁₀ i && (p₁₁ i && (p₁₂ i && p₁₃ i))))))))))))
     ∙ sym (rules-left (unpack xs) (few-held xs t) (room-held xs t) (data-held xs t))
+
+pub held-is : (xs : List ℕ) (v : List ℕ) (r : Bool) → HoldsSet 72 v (data-peers (unpack xs)) → r ≡ subset (keys (unpack xs .peer-data)) (items-at 72 v) → r ≡ held-rule (unpack xs)
+unfolding held-rule
+held-is xs v r h q = q ∙ ap (subset (keys (unpack xs .peer-data))) (h .items)

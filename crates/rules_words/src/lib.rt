@@ -12,7 +12,7 @@ ghost use Rattle.peer.specs.Maps.{numbers-under};
 ghost use Rattle.section.specs.Section.{items-at, ValidSet};
 ghost use Rattle.columns.specs.Columns.{numbers-at, ValidNumbers, data-at, ValidDataWords};
 ghost use Rattle.protocol.specs.Rules.{all-under, settings-rule, repeats-rule, order-rule, capacity-rule, views-rule, alive-rule};
-ghost use Rattle.protocol.specs.Rules.{joins-rule, numbers-rule, self-rule, limit-rule, interval-rule, width-rule, station-ok};
+ghost use Rattle.protocol.specs.Rules.{joins-rule, numbers-rule, self-rule, limit-rule, interval-rule, width-rule, held-rule, station-ok};
 ghost use Rattle.words.specs.Unpack.{unpack, own-at};
 ghost use Rattle.rules_words.specs.Ok.{formed, sections-ok, packed-ok, state-ok};
 
@@ -355,6 +355,27 @@ fn width_rule(st: &[u64]) -> bool
                         & (st[Layout::PASSES_SHORT] <= TOP_PASSES)))))
 }
 
+// 02, S-5: no data is held of a peer in neither view and without an open request.
+fn held_rule(st: &[u64]) -> bool
+    requires { ⌜ length (now st) ≡ 551 ⌝ }
+    requires { ⌜ packed-ok (now st) ≡ true ⌝ }
+    ensures { λ r. ⌜ r ≡ held-rule (unpack (now (st .entry))) ⌝ }
+{
+    let mut v = [0u64; 73];
+    columns::data_peers(
+        &st[Layout::ACTIVE..Layout::ACTIVE_END],
+        &st[Layout::PASSIVE..Layout::PASSIVE_END],
+        &st[Layout::REQUESTS..Layout::REQUESTS_END],
+        &mut v,
+    );
+    columns::data_within(
+        &st[Layout::DATA..Layout::DATA_END],
+        Layout::DATA_CAP,
+        &v,
+        columns::KNOWN,
+    )
+}
+
 // Every station rule. That sets and maps have room and data are short is so of all well formed words.
 fn keeps_rules(st: &[u64]) -> bool
     requires { ⌜ length (now st) ≡ 551 ⌝ }
@@ -371,7 +392,8 @@ fn keeps_rules(st: &[u64]) -> bool
                                 & (numbers_rule(st)
                                     & (self_rule(st)
                                         & (limit_rule(st)
-                                            & (interval_rule(st) & width_rule(st)))))))))))
+                                            & (interval_rule(st)
+                                                & (width_rule(st) & held_rule(st))))))))))))
 }
 
 // Whether the words keep every station rule, unused places included; of any words, however many.

@@ -39,6 +39,9 @@ interval-rule-requires c κs = search needs
 width-rule-requires : tie.Need-width-rule-requires
 width-rule-requires c κs = search needs
 
+held-rule-requires : tie.Need-held-rule-requires
+held-rule-requires c κs = search needs
+
 returns : tie.Need-returns
 returns c = search rules-are
 
@@ -58,4 +61,5 @@ keeps-rules-spec =
     limit-rule-requires
     interval-rule-requires
     width-rule-requires
+    held-rule-requires
     returns)
