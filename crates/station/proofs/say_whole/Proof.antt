@@ -23,7 +23,7 @@ slice-aggregate-say-layout : tie.Need-slice-aggregate-say-layout
 slice-aggregate-say-layout c = search needs
 
 say-layout-requires : tie.Need-say-layout-requires
-say-layout-requires c κs = (c .before .before .before .before .before .before .before .pre, numbers-read _ _ _ _ (c .before .before .before .before .before .before .before .pre) refl (c .before .before .before .before .read-numbers .ensures))
+say-layout-requires c κs = (c .before .before .before .before .before .before .before .pre, numbers-read _ _ _ _ (c .before .before .before .before .before .before .before .pre) refl (c .before .before .before .read-numbers .ensures))
 
 returns : tie.Need-returns
 returns c = search needs
