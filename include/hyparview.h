@@ -15,16 +15,18 @@
  * own may be called at the same time; the same station may not, nor may its words be read during a call, by an interrupt
  * for example: hyparview_handle changes them where they lie, and an event refused with 5 to 10 puts them back.
  *
- * STACK. A call needs at most HYPARVIEW_STACK bytes.
+ * STACK. A call needs at most HYPARVIEW_STACK bytes: tools/stack reads off the machine code how many of them each function
+ * takes on its deepest path, and there is no recursion. What the C library's three functions take is not counted.
  *
  * WHAT A CALLER OWES. Each pointer is aligned and points to as many elements as the length beside it says; where that is 0
- * it may be NULL, since nothing is read or written there. `tally` is never NULL. What `state`, `tally` and `out` point to
- * overlaps nothing else of the same call. Nothing else is asked: whatever the words and bytes hold, each call answers.
+ * it may be NULL, since nothing is read or written there (tests/calls.c makes every such call). `tally` is never NULL. What
+ * `state`, `tally` and `out` point to overlaps nothing else of the same call. Nothing else is asked: whatever the words and
+ * bytes hold, each call answers.
  *
  * DAMAGE. Words that are no station which keeps the station rules (docs/FORMAT.md) are refused with HYPARVIEW_CODE_STATE,
  * and the queries say no of them; words after hyparview_new and any events keep the rules. So words that were kept over a
  * reset may be tried as they are, and made anew by hyparview_new where they are refused. Keep the timers that run beside
- * them: only the first event of a new station starts DoShuffle and DoMaintenance. */
+ * them: only the first accepted event of a new station starts DoShuffle and DoMaintenance. */
 #ifndef HYPARVIEW_H
 #define HYPARVIEW_H
 
@@ -49,7 +51,8 @@ extern "C" {
 /* ---- Refusals
  *
  * Every event is accepted, code 0, or refused for one reason. A refusal leaves the state and the tally as they were, every
- * byte of them, fills the output with zeroes and uses no draw: the event did not happen. */
+ * byte of them, fills the output with zeroes and uses no draw: the event did not happen. Treat a message that is refused as
+ * one that was lost. Hand in a timer that is refused again some time later, since only its event starts it anew. */
 
 #define HYPARVIEW_ACCEPTED 0
 #define HYPARVIEW_CODE_SETTINGS 1  /* hyparview_new alone: a setting is out of range, or own data has over 16 bytes */
@@ -79,8 +82,9 @@ extern "C" {
  *     0       kind     below
  *     1       message  of kind 0, else 0
  *     2       flags    of Neighbor and Disconnect, else 0
- *     3       nodes    how many: 1 for Join, ForwardJoin, Neighbor and kinds 7 and 11, 0 to 32 for both shuffles, else 0
- *     4-7     peer     in an event the sender or the peer meant, in output the receiver or the peer meant; 0 in kinds 1, 2, 7, 8
+ *     3       nodes    1 for Join, ForwardJoin, Neighbor and kinds 7 and 11, 0 to 32 for both shuffles, else 0
+ *     4-7     peer     in an event the sender or the peer meant, in output the receiver or the peer meant;
+ *                      0 in kinds 1, 2, 7 and 8
  *     8-11    second   the origin of a Shuffle; in output the delay of a timer, in ms; else 0
  *     12-13   ttl      the hops that are left to a ForwardJoin or a Shuffle, else 0
  *     14-15   size     of the whole record, which is the length lent; at most HYPARVIEW_RECORD
@@ -94,7 +98,8 @@ extern "C" {
  *
  * Data is what a peer wishes others to know of it, such as its address: absent, or 0 to 16 bytes; empty is not absent. It
  * stands after the last node in the order of the nodes, without gaps, to the end of the record; the offset of empty data
- * is the place that the data before it has reached. Anything else is malformed.
+ * is the place that the data before it has reached. Anything else is malformed. So an UpdatePeerData of 4 bytes has 36: a
+ * header of kind 7 with nodes 1 and size 36, the node {0, 32, 4, 1}, and the bytes.
  *
  * A message goes over the air as its record. Its receiver is handed the same bytes, but for the field `peer`, which is then
  * the sender: put it in from what the connection says. A timer that expires is handed back as its record, but for the field
@@ -181,7 +186,7 @@ struct hyparview_config {
     uint32_t active_view_capacity;       /* 1 to 8: most neighbours */
     uint32_t passive_view_capacity;      /* 1 to 32: most spare addresses */
     uint32_t active_random_walk_length;  /* 0 to 65535: hops of a ForwardJoin */
-    uint32_t passive_random_walk_length; /* 0 to 65535: hops left at which a ForwardJoin leaves its peer as a spare address */
+    uint32_t passive_random_walk_length; /* 0 to 65535: hops left where a ForwardJoin leaves a spare address */
     uint32_t shuffle_random_walk_length; /* 0 to 65535: hops of a Shuffle */
     uint32_t shuffle_active_view_count;  /* 0 to 8: neighbours named in a Shuffle */
     uint32_t shuffle_passive_view_count; /* 0 to 23: spare addresses named in a Shuffle */
@@ -203,7 +208,8 @@ struct hyparview_tally {
     uint64_t disconnect;
 };
 
-/* ---- The words of a state, for those who look into them: a supervisor, a test. To run a station the functions below are enough.
+/* ---- The words of a state, for those who look into them: a supervisor, a test. To run a station, the functions below are
+ * enough.
  *
  * A number is one word. A list of peers is its places and then its count, from NAME up to NAME_END, where the first of
  * NAME_PLACES stands at NAME and the count at NAME_COUNT. Lists with more columns have as many places again for each,

@@ -1,6 +1,6 @@
 /* Stored histories of the Rust (oracle/sample) over the exported functions: their records, codes, draws and states are met
- * byte for byte, or the program stops with 1 at the first difference. Every kind of output record is to be met. Each file
- * is run with tallies that start at 0, and with tallies one below their top, where they are to stay.
+ * byte for byte, or the program stops with 1 at the first difference. Every kind of output record is to be met, and every
+ * code but 2, which is damaged.c's. Each file is run with tallies that start at 0, and with tallies one below their top, where they are to stay.
  *
  * usage: histories FILE...   (the form of the files: oracle/sample/README.md) */
 #include "hyparview.h"
@@ -23,6 +23,7 @@ static char text[20000];
 static size_t used;
 static uint64_t first_count;
 static long kinds[HYPARVIEW_KIND_PEER_DATA + 1], messages[HYPARVIEW_MESSAGE_DISCONNECT + 1];
+static long codes[HYPARVIEW_CODE_COUNTER + 1];
 
 static int next_line(void)
 {
@@ -243,15 +244,23 @@ static uint32_t begin(const char *counters)
     return code;
 }
 
+/* The line that ends an event's records. */
+static void meet_code(uint32_t code, size_t draws_used)
+{
+    if (code <= HYPARVIEW_CODE_COUNTER)
+        codes[code]++;
+    put_field("= ", code);
+    put_field(" ", draws_used);
+    meet();
+}
+
 /* One history: its input and the answers that follow it. Returns how many events it has. */
 static long run_history(size_t n, size_t room, const char *counters)
 {
     uint64_t sent[] = {first_count, first_count, first_count, first_count, first_count, first_count};
     uint32_t code = is_filled(n) ? begin(counters) : HYPARVIEW_CODE_EVENT;
     if (code != HYPARVIEW_ACCEPTED) {
-        put_field("= ", code);
-        put_field(" ", 0);
-        meet();
+        meet_code(code, 0);
         return 0;
     }
     const struct hyparview_tally none = {0, 0, 0, 0, 0, 0};
@@ -268,9 +277,7 @@ static long run_history(size_t n, size_t room, const char *counters)
         struct hyparview_done done =
             hyparview_handle(state, HYPARVIEW_WORDS, &tally, input + at, size, draw, left, out, room);
         meet_records(room, sent);
-        put_field("= ", done.code);
-        put_field(" ", done.draws);
-        meet();
+        meet_code(done.code, done.draws);
         put_state();
         meet();
         agree(sent);
@@ -316,6 +323,14 @@ static long run_file(uint64_t count)
     return events;
 }
 
+static void met(const char *what, size_t i, long times)
+{
+    if (times > 0)
+        return;
+    fprintf(stderr, "histories: no %s %zu was met\n", what, i);
+    exit(1);
+}
+
 int main(int argc, char **argv)
 {
     long events = 0;
@@ -333,15 +348,13 @@ int main(int argc, char **argv)
         fclose(stored);
     }
     for (size_t i = 0; i <= HYPARVIEW_KIND_PEER_DATA; i++)
-        if (kinds[i] == 0 && (i <= HYPARVIEW_LAST_TIMER || i >= HYPARVIEW_KIND_NEIGHBOR_UP)) {
-            fprintf(stderr, "histories: no record of kind %zu was written\n", i);
-            return 1;
-        }
+        if (i <= HYPARVIEW_LAST_TIMER || i >= HYPARVIEW_KIND_NEIGHBOR_UP)
+            met("record of kind", i, kinds[i]);
     for (size_t i = 0; i <= HYPARVIEW_MESSAGE_DISCONNECT; i++)
-        if (messages[i] == 0) {
-            fprintf(stderr, "histories: no message %zu was written\n", i);
-            return 1;
-        }
-    printf("histories: %ld events, every kind of record, same as stored\n", events);
+        met("message", i, messages[i]);
+    for (size_t i = 0; i <= HYPARVIEW_CODE_COUNTER; i++)
+        if (i != HYPARVIEW_CODE_STATE)
+            met("code", i, codes[i]);
+    printf("histories: %ld events, every kind of record, every code but 2, same as stored\n", events);
     return 0;
 }

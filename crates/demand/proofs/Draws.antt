@@ -13,8 +13,8 @@ use Rattle.protocol.specs.Rules.{station-ok}
 use Rattle.protocol.specs.Run.{notice}
 use Rattle.protocol.specs.Traced.{traced}
 use Rattle.history.specs.Calls.{Call, answer, answered, code-of}
-use Rattle.rules.specs.Pack.{pack}
-use Rattle.hyparview.specs.Handled.{Outcome, packed-answer}
+use Rattle.rules_words.specs.Pack.{pack}
+use Rattle.hyparview_words.specs.Handled.{Outcome, packed-answer}
 use Rattle.demand.specs.Program.{program}
 use Rattle.demand.proofs.Program.{answers-packed}
 
@@ -73,7 +73,7 @@ five : answer (quits 253) full .code ≡ 5
 unfolding traced full largest quits answered
 five = refl
 
--- of the program: with 253 draws and 8,192 bytes, at a state that keeps the rules, the answer is 5
+-- of the program: with 253 draws and 8,192 bytes, at words that keep the rules, the answer is 5
 pub too-few : code-of program (quits 253) (pack full) ≡ 5
 unfolding packed-answer
-too-few = ap (λ (o : Outcome). o .answer .code) (answers-packed (quits 253) full full-is-fine) ∙ five
+too-few = ap (λ (o : Outcome). o .code) (answers-packed (quits 253) full full-is-fine) ∙ five

@@ -1,48 +1,61 @@
--- Demand 3, the rejoin promise, S-11 and "always suffice" hold of the program.
+-- Demand 3, the rejoin promise, S-11, "always suffice" and the rest hold of the program.
 -- Assumes nothing.
 use Prim.Native.Nat.{ℕ}
-use mathlib.Core.Path.{_≡_, refl, sym, ap, _∙_}
+use mathlib.Core.Path.{_≡_, refl, sym, ap, subst, _∙_}
 use mathlib.Core.Bool.{Bool, true, _&&_}
-use mathlib.Core.List.{List}
+use mathlib.Core.List.{List, []}
 use native.Mathlib.Omega.{arith}
-use lib.ListN.{length}
+use lib.ListN.{length, replicate}
 use lib.Dec.{eqb}
-use Rattle.lists.proofs.Choice.{by-choice, choose-yes, split, and-left, and-right}
+use Rattle.lists.specs.Array.{pad}
+use Rattle.lists.proofs.Choice.{by-choice, choose-yes, choose-no, split, and-left, and-right}
 use Rattle.peer.specs.Data.{Data, bytes-of}
 use Rattle.timing.specs.declared.Config.{Config}
+use Rattle.timing.specs.Timing.{in-range}
 use Rattle.protocol.specs.Station.{Station, bytes-end}
-use Rattle.protocol.specs.Rules.{all-under, station-ok}
+use Rattle.protocol.specs.Rules.{all-under, short-data, station-ok}
 use Rattle.protocol.specs.Handle as definition
 use Rattle.record.specs.Read.{Reading, read-event, rec-of}
 use Rattle.protocol.proofs.Reading.{by-reading}
 use Rattle.protocol.proofs.Bounds.{finished}
 use Rattle.protocol.proofs.Enough.{enough}
-use Rattle.history.specs.Calls.{Call, Given, answer, answered, state-after}
+use Rattle.protocol.proofs.Unreachable as unreachable
+use Rattle.history.specs.Calls.{Call, Given, narrow-draws, answer, answered, state-after}
 use Rattle.history.specs.Calls as calls
+use Rattle.history.specs.Demand.{Demand3}
+use Rattle.history.specs.Outputs.{OutputsRead}
+use Rattle.history.specs.Rejoin.{ticks, Promised}
 use Rattle.history.specs.Packing.{Packs}
 use Rattle.history.proofs.Packing.{demand-packed, rejoin-packed, outputs-packed, states-packed}
 use Rattle.tally.proofs.History.{counts-all}
+use Rattle.shuffle_times.specs.Claims.{Timed}
 use Rattle.shuffle_times.proofs.Packed.{timed-packed}
-use Rattle.state.specs.declared.State.{State}
-use Rattle.state.specs.Unpack.{unpack}
-use Rattle.rules.specs.Made.{lent, pack-made}
-use Rattle.rules.specs.Pack.{pack}
-use Rattle.rules.specs.Ok.{packed-ok, state-ok}
-use Rattle.rules.proofs.Fitting.{ok-unpacked, pack-ok}
-use Rattle.hyparview.specs.Handled.{Outcome, packed-answer, handled}
-use Rattle.hyparview.specs.Handled as Handled
-use Rattle.hyparview.proofs.Opening.{handled-two}
+use Rattle.words.specs.Layout.{words}
+use Rattle.words.specs.Unpack.{unpack}
+use Rattle.rules_words.specs.Pack.{pack}
+use Rattle.rules_words.specs.Ok.{packed-ok, state-ok}
+use Rattle.rules_words.proofs.Fitting.{ok-unpacked, pack-ok}
+use Rattle.queries_words.specs.Made.{Made, lent, pack-made}
+use Rattle.queries_words.specs.Made as lending
+use Rattle.queries_words.proofs.Making.{zero-words}
+use Rattle.hyparview_words.specs.declared.State.{State}
+use Rattle.hyparview_words.specs.Handled.{Outcome, packed-answer, handled}
+use Rattle.hyparview_words.specs.Handled as Handled
+use Rattle.hyparview_words.proofs.Opening.{handled-two}
 use Rattle.demand.specs.Program as D
-use Rattle.demand.specs.Program.{made, outcome, program}
+use Rattle.demand.specs.Program.{made, outcome, program, made-state, value-program, unpack-state, state-passes}
 
-ok-both : (s : State) → state-ok s ≡ true → (packed-ok s && station-ok (unpack s)) ≡ true
+ok-both : (xs : List ℕ) → state-ok xs ≡ true → (packed-ok xs && station-ok (unpack xs)) ≡ true
 unfolding state-ok
-ok-both s ok = ok
+ok-both xs ok = ok
 
--- at a state that keeps the rules the program answers what the definition does, packed
-answers : (s : State) → state-ok s ≡ true → (v : Call) → outcome (v .event) (v .draws) (v .output) s ≡ packed-answer (answer v (unpack s))
+rules-kept : (xs : List ℕ) → state-ok xs ≡ true → station-ok (unpack xs) ≡ true
+rules-kept xs ok = and-right (packed-ok xs) (station-ok (unpack xs)) (ok-both xs ok)
+
+-- at words that keep the rules the program answers what the definition does, packed
+answers : (xs : List ℕ) → state-ok xs ≡ true → (v : Call) → outcome (v .event) (v .draws) (v .output) xs ≡ packed-answer (answer v (unpack xs))
 unfolding outcome handled answered
-answers s ok v = choose-yes _ _ _ (and-left (packed-ok s) _ (ok-both s ok))
+answers xs ok v = choose-yes _ _ _ (and-left (packed-ok xs) _ (ok-both xs ok))
 
 pub answers-packed : (v : Call) (g : Station) → station-ok g ≡ true → outcome (v .event) (v .draws) (v .output) (pack g) ≡ packed-answer (answer v g)
 answers-packed v g t = answers (pack g) (pack-ok g t) v ∙ ap (λ (x : Station). packed-answer (answer v x)) (ok-unpacked g t)
@@ -52,8 +65,8 @@ unfolding packed-answer
 packs = record {
   stands = ok-unpacked;
   passes = pack-ok;
-  code = λ v g t. ap (λ (x : Outcome). x .answer .code) (answers-packed v g t);
-  state = λ v g t. ap (λ (x : Outcome). x .answer .state) (answers-packed v g t);
+  code = λ v g t. ap (λ (x : Outcome). x .code) (answers-packed v g t);
+  state = λ v g t. ap (λ (x : Outcome). x .words) (answers-packed v g t);
   output = λ v g t. ap (λ (x : Outcome). x .output) (answers-packed v g t);
 }
 
@@ -64,42 +77,75 @@ given me present own t = record {
   are-bytes = by-choice (λ (d : Data). all-under bytes-end (bytes-of d) ≡ true) present (λ e. t .are-bytes) (λ e. refl);
 }
 
+-- ---- a new station
+
+-- with any other code than 2 the words lent were as many as a state has, and hold what the definition's `new` answers
+whole : (xs : List ℕ) (me : ℕ) (present : Bool) (own : List ℕ) (c : Config) → (made xs me present own c .code ≡ 2 → ⊥) → made xs me present own c ≡ pack-made (definition.new me (lent present own) c)
+unfolding made lending.made
+whole xs me present own c h =
+    split (eqb (length xs) words) (λ y. choose-yes _ _ _ y) (λ n. absurd (h (ap (λ (m : Made). m .code) (choose-no _ _ _ n))))
+
+-- a claim on what `new` answered with code 0 is one on the definition's answer, packed
+from-new : (X : List ℕ → Type 0) (xs : List ℕ) (me : ℕ) (present : Bool) (own : List ℕ) (c : Config) → made xs me present own c .code ≡ 0
+    → (definition.new me (lent present own) c .code ≡ 0 → X (pack (definition.new me (lent present own) c .state))) → X (made xs me present own c .words)
+unfolding pack-made
+from-new X xs me present own c z h =
+    let e = whole xs me present own c (λ two. omega (arith, two, z)) in
+    subst (λ (m : Made). X (m .words)) (sym e) (h (sym (ap (λ (m : Made). m .code) e) ∙ z))
+
 -- Demand 3 for the program.
 pub demand-3-holds : D.Demand3-holds
-unfolding made pack-made
-demand-3-holds me present own c t z vs = demand-packed packs me (lent present own) c (given me present own t) z vs
+demand-3-holds xs me present own c t z vs =
+    from-new (λ (s : List ℕ). Demand3 program unpack state-ok me c s vs) xs me present own c z (λ e. demand-packed packs me (lent present own) c (given me present own t) e vs)
 
--- The state after a list of calls is the definition's, packed.
-pub states-same : (me : ℕ) (present : Bool) (own : List ℕ) (c : Config) → D.Typed me own → made me present own c .code ≡ 0
-    → (vs : List Call) → state-after program vs (made me present own c .state) ≡ pack (state-after calls.definition vs (definition.new me (lent present own) c .state))
-unfolding made pack-made
-states-same me present own c t z vs = states-packed packs me (lent present own) c (given me present own t) z vs
+-- The words after a list of calls are the definition's state, packed.
+pub states-same : (xs : List ℕ) (me : ℕ) (present : Bool) (own : List ℕ) (c : Config) → D.Typed me own → made xs me present own c .code ≡ 0
+    → (vs : List Call) → state-after program vs (made xs me present own c .words) ≡ pack (state-after calls.definition vs (definition.new me (lent present own) c .state))
+states-same xs me present own c t z vs =
+    from-new (λ (s : List ℕ). state-after program vs s ≡ pack (state-after calls.definition vs (definition.new me (lent present own) c .state))) xs me present own c z
+    (λ e. states-packed packs me (lent present own) c (given me present own t) e vs)
 
 pub rejoin-promise : D.Rejoin-promise
-unfolding made pack-made
-rejoin-promise me present own c t z vs = rejoin-packed packs me (lent present own) c (given me present own t) z vs
+rejoin-promise xs me present own c t z vs =
+    from-new (λ (s : List ℕ). Promised (ticks program unpack vs s)) xs me present own c z (λ e. rejoin-packed packs me (lent present own) c (given me present own t) e vs)
 
 -- What the program writes is read back, and every message is counted.
 pub outputs-read-back : D.Outputs-read-back
-unfolding made pack-made
-outputs-read-back me present own c t z vs n = outputs-packed packs me (lent present own) c (given me present own t) z vs n
+outputs-read-back xs me present own c t z vs n =
+    from-new (λ (s : List ℕ). OutputsRead program vs s) xs me present own c z (λ e. outputs-packed packs me (lent present own) c (given me present own t) e vs n)
 
 pub every-message-counted : D.Every-message-counted
-every-message-counted me present own c t z vs n = counts-all program _ vs _ (outputs-read-back me present own c t z vs n)
+every-message-counted xs me present own c t z vs n = counts-all program _ vs _ (outputs-read-back xs me present own c t z vs n)
 
 -- When the program's shuffles are due.
 pub shuffles-timed : D.Shuffles-timed
-unfolding made pack-made
-shuffles-timed me present own c t z = timed-packed packs me (lent present own) c (given me present own t) z
+shuffles-timed xs me present own c t z =
+    from-new (λ (s : List ℕ). Timed program c s) xs me present own c z (λ e. timed-packed packs me (lent present own) c (given me present own t) e)
 
--- 512 draws and 8,192 bytes suffice, whatever the event and the state that keeps the rules.
+-- A refused `new` hands back zeroes.
+zeroes : replicate words 0 ≡ pad {A = ℕ} 0 words []
+unfolding pad
+zeroes = refl
+
+pub refused-zeroes : D.Refused-zeroes
+unfolding pack-made definition.new
+refused-zeroes xs me present own c one =
+    let d = lent present own in
+    let e = whole xs me present own c (λ two. omega (arith, two, one)) in
+    split (in-range c && short-data d)
+    (λ y. let zero : 0 ≡ 1 = sym (ap (λ (m : definition.Made). m .code) (choose-yes (in-range c && short-data d) _ _ y)) ∙ (sym (ap (λ (m : Made). m .code) e) ∙ one) in absurd (omega (arith, zero)))
+    (λ n. ap (λ (m : Made). m .words) e ∙ (ap (λ (m : definition.Made). pack (m .state)) (choose-no (in-range c && short-data d) _ _ n) ∙ (sym zero-words ∙ sym zeroes)))
+
+-- ---- one call
+
+-- 512 draws and 8,192 bytes suffice, whatever the event and the words that keep the rules.
 pub enough-lent : D.Enough-lent
 unfolding answered packed-answer
-enough-lent s ok v =
-    let e = answers s ok v in
-    let code = ap (λ (x : Outcome). x .answer .code) e in
-    let draws = ap (λ (x : Outcome). x .answer .draws) e in
-    let k = enough (unpack s) (and-right (packed-ok s) (station-ok (unpack s)) (ok-both s ok)) (v .draws) (length (v .output)) (v .event) (v .are-bytes) in
+enough-lent xs ok v =
+    let e = answers xs ok v in
+    let code = ap (λ (x : Outcome). x .code) e in
+    let draws = ap (λ (x : Outcome). x .draws) e in
+    let k = enough (unpack xs) (rules-kept xs ok) (v .draws) (length (v .output)) (v .event) (v .are-bytes) in
     record {
       no-five = λ h f. k .no-five h (sym code ∙ f);
       no-nine = λ h f. k .no-nine h (sym code ∙ f);
@@ -120,7 +166,43 @@ not-one g ok v =
 
 pub never-one : D.Never-one
 unfolding outcome packed-answer Handled.refusal
-never-one s v e =
-    split (state-ok s)
-    (λ ok. not-one (unpack s) (and-right (packed-ok s) (station-ok (unpack s)) (ok-both s ok)) v (sym (ap (λ (x : Outcome). x .answer .code) (answers s ok v)) ∙ e))
-    (λ broken. let two : 2 ≡ 1 = ap (λ (x : Outcome). x .answer .code) (handled-two s (v .event) (v .draws) (length (v .output)) broken) ∙ e in omega (arith, two))
+never-one xs v e =
+    split (state-ok xs)
+    (λ ok. not-one (unpack xs) (rules-kept xs ok) v (sym (ap (λ (x : Outcome). x .code) (answers xs ok v)) ∙ e))
+    (λ broken. let two : 2 ≡ 1 = ap (λ (x : Outcome). x .code) (handled-two xs (v .event) (v .draws) (length (v .output)) broken) ∙ e in omega (arith, two))
+
+-- `unreachable!` is never reached.
+pub never-unreachable : D.Never-unreachable
+never-unreachable xs ok = unreachable.never-unreachable (unpack xs) (rules-kept xs ok)
+
+pub never-unreachable-after : D.Never-unreachable-after
+never-unreachable-after xs me present own c t z vs =
+    never-unreachable (state-after program vs (made xs me present own c .words)) (demand-3-holds xs me present own c t z vs .rules-hold)
+
+-- ---- by value
+
+value-packs : Packs value-program (λ g. record { words = pack g }) unpack-state state-passes
+value-packs = record {
+  stands = packs .stands;
+  passes = packs .passes;
+  code = packs .code;
+  state = λ v g t. ap (λ (xs : List ℕ). record { words = xs }) (packs .state v g t);
+  output = packs .output;
+}
+
+pub by-value-holds : D.By-value-holds
+unfolding made-state pack-made
+by-value-holds me present own c t z =
+    let d = lent present own in
+    let g = given me present own t in
+    let s : State = record { words = pack (definition.new me d c .state) } in
+    let demand : (vs : List Call) → Demand3 value-program unpack-state state-passes me c s vs = demand-packed value-packs me d c g z in
+    let outputs : (vs : List Call) → narrow-draws vs ≡ true → OutputsRead value-program vs s = outputs-packed value-packs me d c g z in
+    record {
+      demand-3 = demand;
+      rejoins = λ vs. rejoin-packed value-packs me d c g z vs;
+      read-back = outputs;
+      counted = λ vs n. counts-all value-program _ vs _ (outputs vs n);
+      timed = timed-packed value-packs me d c g z;
+      goes-on = λ vs. never-unreachable (state-after value-program vs s .words) (demand vs .rules-hold);
+    }

@@ -1,42 +1,47 @@
--- What is claimed of the program: of every list of calls of `handle`, from the state that `new` handed back.
--- `made` and `program` are what the contracts of this crate's two functions say, which call the program's own; the check ties the claims to the code by them.
+-- What is claimed of the program: of every list of calls of `handle`, from the words that `new` filled.
+-- `made` and `outcome` are what the contracts of this crate's functions say, which call the program's own; the check ties the claims to the code by them.
 -- Assumes nothing.
 use Prim.Native.Nat.{ℕ, _≤_, _<_}
 use mathlib.Core.Path.{_≡_}
-use mathlib.Core.Bool.{Bool, true}
+use mathlib.Core.Bool.{Bool, true, false}
 use mathlib.Core.List.{List}
-use lib.ListN.{length}
+use lib.ListN.{length, replicate}
+use Rattle.lists.specs.Lists.{null, without}
 use Rattle.timing.specs.declared.Config.{Config}
-use Rattle.protocol.specs.Station.{peers-end, bytes-end}
+use Rattle.peer.specs.Data.{Node}
+use Rattle.protocol.specs.Station.{Station, peers-end, bytes-end}
+use Rattle.protocol.specs.Messages.{ends-here, learn-joiner}
 use Rattle.protocol.specs.Rules.{all-under}
 use Rattle.protocol.specs.Handle as definition
-use Rattle.history.specs.Calls.{Call, narrow-draws, Machine, code-of}
+use Rattle.history.specs.Calls.{Call, narrow-draws, Machine, code-of, state-after}
 use Rattle.history.specs.Demand.{Demand3}
 use Rattle.history.specs.Outputs.{OutputsRead}
 use Rattle.history.specs.Rejoin.{ticks, Promised}
 use Rattle.tally.specs.History.{CountsAll}
 use Rattle.shuffle_times.specs.Claims.{Timed}
-use Rattle.state.specs.declared.State.{State}
-use Rattle.state.specs.Unpack.{unpack}
-use Rattle.rules.specs.declared.Made.{Made}
-use Rattle.rules.specs.Made.{lent, pack-made}
-use Rattle.rules.specs.Ok.{state-ok}
-use Rattle.hyparview.specs.Handled.{Outcome, handled}
+use Rattle.words.specs.Layout.{words}
+use Rattle.words.specs.Unpack.{unpack}
+use Rattle.rules_words.specs.Ok.{state-ok}
+use Rattle.queries_words.specs.Made.{Made, lent, pack-made}
+use Rattle.queries_words.specs.Made as lending
+use Rattle.hyparview_words.specs.declared.State.{State}
+use Rattle.hyparview_words.specs.declared.Made as by-value
+use Rattle.hyparview_words.specs.Handled.{Outcome, handled}
 
--- what `new` hands back
-unfoldable pub made : ℕ → Bool → List ℕ → Config → Made
-made me present own c = pack-made (definition.new me (lent present own) c)
+-- what `new` answers, and the words xs that it was lent as it leaves them
+unfoldable pub made : List ℕ → ℕ → Bool → List ℕ → Config → Made
+made xs me present own c = lending.made xs me (lent present own) c
 
--- what `handle` hands back, and the output as it leaves it
-unfoldable pub outcome : List ℕ → List ℕ → List ℕ → State → Outcome
-outcome b ds out s = handled s b ds (length out)
+-- what `handle` answers, and the words and the output as it leaves them
+unfoldable pub outcome : List ℕ → List ℕ → List ℕ → List ℕ → Outcome
+outcome b ds out xs = handled xs b ds (length out)
 
-abbrev pub program : Machine State
+abbrev pub program : Machine (List ℕ)
 program = record {
-  code = λ b ds out s. outcome b ds out s .answer .code;
-  state = λ b ds out s. outcome b ds out s .answer .state;
-  used = λ b ds out s. outcome b ds out s .answer .draws;
-  output = λ b ds out s. outcome b ds out s .output;
+  code = λ b ds out xs. outcome b ds out xs .code;
+  state = λ b ds out xs. outcome b ds out xs .words;
+  used = λ b ds out xs. outcome b ds out xs .draws;
+  output = λ b ds out xs. outcome b ds out xs .output;
 }
 
 -- what the types of `new`'s arguments give: a 32-bit number, and bytes
@@ -44,47 +49,104 @@ pub record Typed (me : ℕ) (own : List ℕ) : Type 0 where
   pub narrow : me < peers-end
   pub are-bytes : all-under bytes-end own ≡ true
 
--- Demand 3. "For every list of events brought to a new station": one that `new` answered with code 0
+-- Demand 3. "For every list of events brought to a new station": one that `new` answered with code 0, whatever the words held before
 abbrev pub Demand3-holds : Type 0
 Demand3-holds =
-    (me : ℕ) (present : Bool) (own : List ℕ) (c : Config) → Typed me own → made me present own c .code ≡ 0
-    → (vs : List Call) → Demand3 program unpack state-ok me c (made me present own c .state) vs
+    (xs : List ℕ) (me : ℕ) (present : Bool) (own : List ℕ) (c : Config) → Typed me own → made xs me present own c .code ≡ 0
+    → (vs : List Call) → Demand3 program unpack state-ok me c (made xs me present own c .words) vs
 
 -- the rejoin promise, for the same lists
 abbrev pub Rejoin-promise : Type 0
 Rejoin-promise =
-    (me : ℕ) (present : Bool) (own : List ℕ) (c : Config) → Typed me own → made me present own c .code ≡ 0
-    → (vs : List Call) → Promised (ticks program unpack vs (made me present own c .state))
+    (xs : List ℕ) (me : ℕ) (present : Bool) (own : List ℕ) (c : Config) → Typed me own → made xs me present own c .code ≡ 0
+    → (vs : List Call) → Promised (ticks program unpack vs (made xs me present own c .words))
 
 -- what an accepted call writes is read back, for the same lists; draws have 32 bits by their type
 abbrev pub Outputs-read-back : Type 0
 Outputs-read-back =
-    (me : ℕ) (present : Bool) (own : List ℕ) (c : Config) → Typed me own → made me present own c .code ≡ 0
-    → (vs : List Call) → narrow-draws vs ≡ true → OutputsRead program vs (made me present own c .state)
+    (xs : List ℕ) (me : ℕ) (present : Bool) (own : List ℕ) (c : Config) → Typed me own → made xs me present own c .code ≡ 0
+    → (vs : List Call) → narrow-draws vs ≡ true → OutputsRead program vs (made xs me present own c .words)
 
 -- and the tally raised after each call counts every message that the ledger reads
 abbrev pub Every-message-counted : Type 0
 Every-message-counted =
-    (me : ℕ) (present : Bool) (own : List ℕ) (c : Config) → Typed me own → made me present own c .code ≡ 0
-    → (vs : List Call) → narrow-draws vs ≡ true → CountsAll program (c .«active_view_capacity») vs (made me present own c .state)
+    (xs : List ℕ) (me : ℕ) (present : Bool) (own : List ℕ) (c : Config) → Typed me own → made xs me present own c .code ≡ 0
+    → (vs : List Call) → narrow-draws vs ≡ true → CountsAll program (c .«active_view_capacity») vs (made xs me present own c .words)
 
 -- S-11 of document 02: when its shuffles are due
 abbrev pub Shuffles-timed : Type 0
 Shuffles-timed =
-    (me : ℕ) (present : Bool) (own : List ℕ) (c : Config) → Typed me own → made me present own c .code ≡ 0 → Timed program c (made me present own c .state)
+    (xs : List ℕ) (me : ℕ) (present : Bool) (own : List ℕ) (c : Config) → Typed me own → made xs me present own c .code ≡ 0
+    → Timed program c (made xs me present own c .words)
 
--- of one call at a state that keeps the rules
-pub record Suffices (s : State) (v : Call) : Type 0 where
+-- of one call at words that keep the rules
+pub record Suffices (xs : List ℕ) (v : Call) : Type 0 where
   -- "8,192 output bytes and 512 draws always suffice"
-  pub no-five : 512 ≤ length (v .draws) → code-of program v s ≡ 5 → ⊥
-  pub no-nine : 8192 ≤ length (v .output) → code-of program v s ≡ 9 → ⊥
+  pub no-five : 512 ≤ length (v .draws) → code-of program v xs ≡ 5 → ⊥
+  pub no-nine : 8192 ≤ length (v .output) → code-of program v xs ≡ 9 → ⊥
   -- "The count in the result equals the draws the definition consumes, bounded by 512"
-  pub draws-used : program .used (v .event) (v .draws) (v .output) s ≡ definition.handle (unpack s) (v .event) (v .draws) (length (v .output)) .used
-  pub few-draws : program .used (v .event) (v .draws) (v .output) s ≤ 512
+  pub draws-used : program .used (v .event) (v .draws) (v .output) xs ≡ definition.handle (unpack xs) (v .event) (v .draws) (length (v .output)) .used
+  pub few-draws : program .used (v .event) (v .draws) (v .output) xs ≤ 512
 
 abbrev pub Enough-lent : Type 0
-Enough-lent = (s : State) → state-ok s ≡ true → (v : Call) → Suffices s v
+Enough-lent = (xs : List ℕ) → state-ok xs ≡ true → (v : Call) → Suffices xs v
 
--- "Code 1 belongs to `new` alone", whatever the state and the event are
+-- "Code 1 belongs to `new` alone", whatever the words and the event are
 abbrev pub Never-one : Type 0
-Never-one = (s : State) (v : Call) → code-of program v s ≡ 1 → ⊥
+Never-one = (xs : List ℕ) (v : Call) → code-of program v xs ≡ 1 → ⊥
+
+-- at the station s a ForwardJoin that is neither answered nor dropped finds a neighbour other than its sender: the Rust's `unreachable!` is not reached
+abbrev pub Goes-on : Station → Type 0
+Goes-on s =
+    (ds : List ℕ) (room from : ℕ) (n : Node) (ttl : ℕ) → ends-here (n .id) ttl s ≡ false
+    → null (without from ((learn-joiner n ttl (definition.start s ds room)) .station .active)) ≡ false
+
+-- of words that keep the rules
+abbrev pub Never-unreachable : Type 0
+Never-unreachable = (xs : List ℕ) → state-ok xs ≡ true → Goes-on (unpack xs)
+
+-- and so after every list of calls to a new station
+abbrev pub Never-unreachable-after : Type 0
+Never-unreachable-after =
+    (xs : List ℕ) (me : ℕ) (present : Bool) (own : List ℕ) (c : Config) → Typed me own → made xs me present own c .code ≡ 0
+    → (vs : List Call) → Goes-on (unpack (state-after program vs (made xs me present own c .words)))
+
+-- a refused `new` hands back "a state of zeroes", word by word
+abbrev pub Refused-zeroes : Type 0
+Refused-zeroes =
+    (xs : List ℕ) (me : ℕ) (present : Bool) (own : List ℕ) (c : Config) → made xs me present own c .code ≡ 1 → made xs me present own c .words ≡ replicate words 0
+
+-- ---- the form that document 01 names: the state by value, `State::new` and `handle` with self
+
+-- what `State::new` hands back
+unfoldable pub made-state : ℕ → Bool → List ℕ → Config → by-value.Made
+made-state me present own c =
+    let m = pack-made (definition.new me (lent present own) c) in
+    record { code = m .code; state = record { words = m .words } }
+
+abbrev pub value-program : Machine State
+value-program = record {
+  code = λ b ds out s. outcome b ds out (s .words) .code;
+  state = λ b ds out s. record { words = outcome b ds out (s .words) .words };
+  used = λ b ds out s. outcome b ds out (s .words) .draws;
+  output = λ b ds out s. outcome b ds out (s .words) .output;
+}
+
+abbrev pub unpack-state : State → Station
+unpack-state s = unpack (s .words)
+
+abbrev pub state-passes : State → Bool
+state-passes s = state-ok (s .words)
+
+-- the claims above on lists of calls, from the state s of a station `me` with settings c
+pub record By-value (me : ℕ) (c : Config) (s : State) : Type 0 where
+  pub demand-3 : (vs : List Call) → Demand3 value-program unpack-state state-passes me c s vs
+  pub rejoins : (vs : List Call) → Promised (ticks value-program unpack-state vs s)
+  pub read-back : (vs : List Call) → narrow-draws vs ≡ true → OutputsRead value-program vs s
+  pub counted : (vs : List Call) → narrow-draws vs ≡ true → CountsAll value-program (c .«active_view_capacity») vs s
+  pub timed : Timed value-program c s
+  pub goes-on : (vs : List Call) → Goes-on (unpack-state (state-after value-program vs s))
+
+abbrev pub By-value-holds : Type 0
+By-value-holds =
+    (me : ℕ) (present : Bool) (own : List ℕ) (c : Config) → Typed me own → made-state me present own c .code ≡ 0 → By-value me c (made-state me present own c .state)

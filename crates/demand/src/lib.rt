@@ -1,19 +1,33 @@
-// The program's `new` and `handle` under the names that demand 3 speaks of: a contract of theirs that said less would not prove these two.
-use hyparview::Answer;
-use rules::Made;
-use state::State;
+// The program's `new` and `handle` under the names that demand 3 speaks of: a contract of theirs that said less would not prove these.
+use hyparview_words::Answer;
+use hyparview_words::Done;
+use hyparview_words::Made;
+use hyparview_words::State;
 use timing::Config;
 ghost use mathlib.Core.Path.{_≡_};
-ghost use Rattle.demand.specs.Program.{made, outcome};
+ghost use Rattle.demand.specs.Program.{made, outcome, made-state};
 
-pub fn new(me: u32, present: bool, own: &[u8], config: Config) -> Made
-    ensures { λ r. ⌜ r ≡ made me present (now (own .entry)) config ⌝ }
+pub fn new(st: &mut [u64], me: u32, present: bool, own: &[u8], config: Config) -> u32
+    ensures { λ r. ⌜ record { code = r; words = now (st .exit) } ≡ made (now (st .entry)) me present (now (own .entry)) config ⌝ }
 {
-    rules::new(me, present, own, config)
+    queries_words::new(st, me, present, own, config)
 }
 
-pub fn handle(s: State, b: &[u8], draws: &[u32], out: &mut [u8]) -> Answer
-    ensures { λ r. ⌜ record { answer = r; output = now (out .exit) } ≡ outcome (now (b .entry)) (now (draws .entry)) (now (out .entry)) s ⌝ }
+pub fn handle(st: &mut [u64], b: &[u8], draws: &[u32], out: &mut [u8]) -> Done
+    ensures { λ r. ⌜ record { code = r .code; draws = r .draws; words = now (st .exit); output = now (out .exit) } ≡ outcome (now (b .entry)) (now (draws .entry)) (now (out .entry)) (now (st .entry)) ⌝ }
 {
-    hyparview::handle(s, b, draws, out)
+    hyparview_words::handle(st, b, draws, out)
+}
+
+// The same by value.
+pub fn new_state(me: u32, present: bool, own: &[u8], config: Config) -> Made
+    ensures { λ r. ⌜ r ≡ made-state me present (now (own .entry)) config ⌝ }
+{
+    State::new(me, present, own, config)
+}
+
+pub fn handle_state(s: State, b: &[u8], draws: &[u32], out: &mut [u8]) -> Answer
+    ensures { λ r. ⌜ record { code = r .code; draws = r .draws; words = r .state .words; output = now (out .exit) } ≡ outcome (now (b .entry)) (now (draws .entry)) (now (out .entry)) (s .words) ⌝ }
+{
+    s.handle(b, draws, out)
 }

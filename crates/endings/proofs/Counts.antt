@@ -10,12 +10,10 @@ use lib.ListN.{length, length-append, length-map}
 use lib.Dec.{eqb}
 use Rattle.lists.specs.Lists.{choose}
 use Rattle.lists.proofs.Choice.{by-choice}
-use Rattle.util.specs.Set.{items-of, Holds}
-use Rattle.util.specs.declared.IndexSet.{IndexSet}
 use Rattle.histories.specs.Histories.{places, each, of-length, up-to}
 use Rattle.histories.proofs.Once.{how-many as histories-in-all}
-use Rattle.state.specs.declared.State.{State}
-use Rattle.rules.specs.Queries.{neighbors-in, spare-addresses-in}
+use Rattle.queries_words.specs.Queries.{neighbors-in, spare-addresses-in}
+use Rattle.hyparview_words.specs.declared.State.{State}
 use Rattle.endings.specs.declared.Ends.{Ends}
 use Rattle.endings.specs.Ends.{Sizes, how-many, counts}
 use Rattle.endings.specs.Steps.{first-state, played, after-in, sizes-in, plus, Room}
@@ -29,15 +27,14 @@ one : (z : Sizes) (a p : ℕ) (h : List ℕ) → how-many z a p (h ∷ []) ≡ c
 unfolding how-many
 one z a p h = omega arith
 
-pub counted : (s : State) (c : Ends) (v : IndexSet) (a p n₀ n₁ n₂ n₃ : ℕ) → Holds v (neighbors-in s) → a ≡ length (items-of v) → p ≡ spare-addresses-in s
+pub counted : (s : State) (c : Ends) (a p n₀ n₁ n₂ n₃ : ℕ) → a ≡ length (neighbors-in (s .words)) → p ≡ spare-addresses-in (s .words)
     → n₀ ≡ choose (eqb a 0 && eqb p 0) 1 0 → n₁ ≡ choose (eqb a 0 && eqb p 1) 1 0 → n₂ ≡ choose (eqb a 1 && eqb p 0) 1 0 → n₃ ≡ choose (eqb a 1 && eqb p 1) 1 0
     → record { neither = c .neither + n₀; passive = c .passive + n₁; active = c .active + n₂; both = c .both + n₃ } ≡ plus c (counts (sizes-in s) ([] ∷ []))
 unfolding plus counts sizes-in after-in
-counted s c v a p n₀ n₁ n₂ n₃ h ea ep e₀ e₁ e₂ e₃ =
+counted s c a p n₀ n₁ n₂ n₃ ea ep e₀ e₁ e₂ e₃ =
     let z = sizes-in s in
-    let same : a ≡ length (neighbors-in s) = ea ∙ ap length (h .items) in
     let count : (x y n : ℕ) → n ≡ choose (eqb a x && eqb p y) 1 0 → n ≡ how-many z x y ([] ∷ []) =
-    λ x y n e. e ∙ ((λ i. choose (eqb (same i) x && eqb (ep i) y) 1 0) ∙ sym (one z x y [])) in
+    λ x y n e. e ∙ ((λ i. choose (eqb (ea i) x && eqb (ep i) y) 1 0) ∙ sym (one z x y [])) in
     ends-are _ _ (ap (λ (n : ℕ). c .neither + n) (count 0 0 n₀ e₀)) (ap (λ (n : ℕ). c .passive + n) (count 0 1 n₁ e₁)) (ap (λ (n : ℕ). c .active + n) (count 1 0 n₂ e₂))
     (ap (λ (n : ℕ). c .both + n) (count 1 1 n₃ e₃))
 

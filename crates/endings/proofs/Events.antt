@@ -10,23 +10,26 @@ use lib.ListN.{length, getD, take, replicate, List·getD-append}
 use lib.Seq.{getD-append-add, length-take-le}
 use lib.Dec.{ltb, leb}
 use borrow.Author.Tests.{ltb-true, ltb-false, leb-true}
+use Rattle.lists.specs.Bytes.{overwrite}
 use Rattle.lists.specs.Tests.{every}
 use Rattle.lists.proofs.Choice.{split, choose-yes, and-left, and-right}
+use Rattle.lists.proofs.Stored.{take-stored}
 use Rattle.timing.specs.Timing.{default}
 use Rattle.timing.specs.declared.Config.{Config}
 use Rattle.peer.specs.Data.{Data, bytes-of}
-use Rattle.peer.specs.Held.{HoldsData, node-in}
+use Rattle.peer.specs.Held.{HoldsData}
 use Rattle.peer.specs.declared.PeerData.{PeerData}
+use Rattle.columns.specs.Columns.{node-in}
 use Rattle.record.specs.Format.{Rec, datas, size, encode}
-use Rattle.writer.specs.Write.{rec-in, fits, reached, Wrote}
-use Rattle.writer.specs.declared.Written.{Written}
-use Rattle.writer.specs.declared.Written.the-variants.{At, Full}
-use Rattle.writer.proofs.ReadBack.{front-written}
-use Rattle.state.specs.declared.State.{State}
-use Rattle.rules.specs.declared.Made.{Made}
-use Rattle.hyparview.specs.declared.Answer.{Answer}
-use Rattle.hyparview.specs.Handled.{Outcome}
-use Rattle.demand.specs.Program.{made, outcome}
+use Rattle.record.proofs.Format.{length-encode}
+use Rattle.writer64.specs.Write.{rec-in, fits, written, reached, Wrote}
+use Rattle.writer64.specs.declared.Written.{Written}
+use Rattle.writer64.specs.declared.Written.the-variants.{At, Full}
+use Rattle.hyparview_words.specs.declared.State.{State}
+use Rattle.hyparview_words.specs.declared.Made.{Made}
+use Rattle.hyparview_words.specs.declared.Answer.{Answer}
+use Rattle.hyparview_words.specs.Handled.{Outcome}
+use Rattle.demand.specs.Program.{outcome, made-state}
 use Rattle.endings.specs.Events.{no-data, event, of-peer, maintenance, quit, events, event-at, tiny, draws, output}
 use Rattle.endings.specs.Steps.{first-state, played}
 
@@ -113,9 +116,9 @@ narrowed d = record {
   «neighbor_request_timeout» = d .«neighbor_request_timeout»;
 }
 
-pub begins : (d : Config) (m : Made) → d ≡ default → m ≡ made 1 false [] (narrowed d) → m .state ≡ first-state
+pub begins : (d : Config) (m : Made) → d ≡ default → m ≡ made-state 1 false [] (narrowed d) → m .state ≡ first-state
 unfolding first-state tiny
-begins d m e w = ap (λ (x : Made). x .state) (w ∙ ap (λ (x : Config). made 1 false [] (narrowed x)) e)
+begins d m e w = ap (λ (x : Made). x .state) (w ∙ ap (λ (x : Config). made-state 1 false [] (narrowed x)) e)
 
 -- ---- one event
 
@@ -130,22 +133,35 @@ unfolding event-at events of-peer size datas bytes-of every
 small i = passes-at (λ e. leb (0 + size e) 32) quit refl events refl i
 
 module _ (i : ℕ) (out : List ℕ) (long : length out ≡ 32) (w : Written) (b : List ℕ) (h : Wrote (event-at i) 0 out w b) where
+  fitting : leb (0 + size (event-at i)) (length out) ≡ true
+  fitting = ap (λ (n : ℕ). leb (0 + size (event-at i)) n) long ∙ small i
+
   fit : w ≡ At (0 + size (event-at i))
   unfolding reached fits
-  fit = h .answer ∙ choose-yes _ _ _ (ap (λ (n : ℕ). leb (0 + size (event-at i)) n) long ∙ small i)
+  fit = h .answer ∙ choose-yes _ _ _ fitting
+
+  stored : b ≡ overwrite out 0 (encode (event-at i))
+  unfolding written fits
+  stored = h .bytes ∙ choose-yes _ _ _ fitting
 
   pub full-never : w ≡ Full → ⊥
   full-never e = let f : At (0 + size (event-at i)) ≡ Full = sym fit ∙ e in let z : _≡_ {A = ℕ} 0 1 = cc in omega arith
 
+  reaches : (n : ℕ) → w ≡ At n → 0 + size (event-at i) ≡ n
+  reaches n e = let g : At (0 + size (event-at i)) ≡ At n = sym fit ∙ e in cc
+
   pub few-bytes : (n : ℕ) → w ≡ At n → n ≤ 32
-  few-bytes n e = let f : 0 + size (event-at i) ≡ n = let g : At (0 + size (event-at i)) ≡ At n = sym fit ∙ e in cc in subst (λ (k : ℕ). k ≤ 32) f (leb-true _ _ (small i))
+  few-bytes n e = subst (λ (k : ℕ). k ≤ 32) (reaches n e) (leb-true _ _ (small i))
 
   pub the-bytes : (n : ℕ) → w ≡ At n → take n b ≡ encode (event-at i)
-  the-bytes n e = front-written (event-at i) 0 out w b n h e
+  the-bytes n e =
+      let whole = length-encode (event-at i) in
+      let k : 0 + length (encode (event-at i)) ≡ n = omega (arith, whole, reaches n e) in
+      rw (← k, stored) (take-stored out 0 (encode (event-at i)) (omega (arith, whole, leb-true (0 + size (event-at i)) (length out) fitting)))
 
-pub plays : (i : ℕ) (s : State) (b : List ℕ) (n : ℕ) (a : Answer) (o : List ℕ) → take n b ≡ encode (event-at i) → record { answer = a; output = o } ≡ outcome (take n b) (replicate 512 0) (replicate 8192 0) s → a .state ≡ played i s
+pub plays : (i : ℕ) (s : State) (b : List ℕ) (n : ℕ) (a : Answer) (o : List ℕ) → take n b ≡ encode (event-at i) → record { code = a .code; draws = a .draws; words = a .state .words; output = o } ≡ outcome (take n b) (replicate 512 0) (replicate 8192 0) (s .words) → a .state ≡ played i s
 unfolding played draws output
-plays i s b n a o e q = ap (λ (x : Outcome). x .answer .state) (q ∙ ap (λ (l : List ℕ). outcome l (replicate 512 0) (replicate 8192 0) s) e)
+plays i s b n a o e q = ap (λ (x : Outcome). record { words = x .words }) (q ∙ ap (λ (l : List ℕ). outcome l (replicate 512 0) (replicate 8192 0) (s .words)) e)
 
 pub cut-length : (n : ℕ) (b : List ℕ) → n ≤ 32 → length b ≡ 32 → n ≡ length (take n b)
 cut-length n b l e = sym (length-take-le n b (omega (arith, l, e)))

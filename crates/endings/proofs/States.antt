@@ -6,7 +6,7 @@ use mathlib.Core.Bool.{true, false, _&&_}
 use mathlib.Core.List.{List, [], _∷_, map}
 use mathlib.Core.Option.{none}
 use native.Mathlib.Omega.{arith}
-use lib.ListN.{length}
+use lib.ListN.{length, replicate}
 use lib.Dec.{eqb}
 use Rattle.lists.specs.Lists.{choose}
 use Rattle.lists.specs.Bytes.{le}
@@ -23,12 +23,14 @@ use Rattle.protocol.specs.Handle.{new}
 use Rattle.history.specs.Calls.{Call, Given, state-after, definition, answered}
 use Rattle.history.specs.Demand.{Demand3}
 use Rattle.history.proofs.Kept.{demand-3}
-use Rattle.state.specs.declared.State.{State}
-use Rattle.rules.specs.Made.{lent, pack-made}
-use Rattle.rules.specs.Pack.{pack}
-use Rattle.rules.specs.Queries.{neighbors-in, spare-addresses, spare-addresses-in}
-use Rattle.rules.proofs.Fitting.{ok-unpacked, pack-ok}
-use Rattle.demand.specs.Program.{Typed, made, program}
+use Rattle.words.specs.Layout.{words}
+use Rattle.rules_words.specs.Pack.{pack}
+use Rattle.rules_words.proofs.Fitting.{ok-unpacked, pack-ok}
+use Rattle.queries_words.specs.Made.{lent, pack-made}
+use Rattle.queries_words.specs.Made as lending
+use Rattle.queries_words.specs.Queries.{neighbors-in, spare-addresses, spare-addresses-in}
+use Rattle.hyparview_words.specs.declared.State.{State}
+use Rattle.demand.specs.Program.{Typed, made, program, made-state}
 use Rattle.demand.proofs.Program.{states-same}
 use Rattle.endings.specs.declared.Ends.{Ends}
 use Rattle.endings.specs.Events.{of-peer, quit, events, event-at, tiny, first, draws, output, after}
@@ -46,7 +48,7 @@ are-bytes i = passes-at (λ e. all-under 256 (encode e)) quit refl events refl i
 call : ℕ → Call
 call i = record { event = encode (event-at i); are-bytes = are-bytes i; draws = draws; output = output }
 
-program-follows : (h : List ℕ) (s : State) → after-in h s ≡ state-after program (map call h) s
+program-follows : (h : List ℕ) (s : State) → after-in h s .words ≡ state-after program (map call h) (s .words)
 unfolding after-in played state-after call
 program-follows [] s = refl
 program-follows (e ∷ h) s = program-follows h (played e s)
@@ -61,9 +63,14 @@ taken : new 1 none tiny .code ≡ 0
 unfolding new tiny default in-range within short-data choose
 taken = refl
 
-made-zero : made 1 false [] tiny .code ≡ 0
-unfolding made pack-made lent choose
+-- on words that hold zeroes, as `State::new` lends them
+made-zero : made (replicate words 0) 1 false [] tiny .code ≡ 0
+unfolding made lending.made pack-made lent choose
 made-zero = taken
+
+first-made : first-state .words ≡ made (replicate words 0) 1 false [] tiny .words
+unfolding first-state made-state made lending.made choose
+first-made = refl
 
 -- the number of the station has 32 bits, and it has no data
 narrow : Given 1 none
@@ -82,9 +89,11 @@ holds h = demand-3 1 none tiny narrow taken (map call h)
 ok-after : (h : List ℕ) → station-ok (after h first) ≡ true
 ok-after h = subst (λ (g : Station). station-ok g ≡ true) (sym (definition-follows h first)) (holds h .rules-hold)
 
-packed-after : (h : List ℕ) → after-in h first-state ≡ pack (after h first)
-unfolding first-state first lent choose
-packed-after h = program-follows h first-state ∙ (states-same 1 false [] tiny typed made-zero (map call h) ∙ ap pack (sym (definition-follows h first)))
+packed-after : (h : List ℕ) → after-in h first-state .words ≡ pack (after h first)
+unfolding first lent choose
+packed-after h =
+    program-follows h first-state
+    ∙ (ap (state-after program (map call h)) first-made ∙ (states-same (replicate words 0) 1 false [] tiny typed made-zero (map call h) ∙ ap pack (sym (definition-follows h first))))
 
 -- ---- the sizes at its end
 
@@ -100,8 +109,8 @@ same-sizes : (h : List ℕ) → sizes-in first-state h ≡ sizes-after first h
 unfolding sizes-in sizes-after
 same-sizes h =
     let t = ok-after h in
-    let a : length (neighbors-in (after-in h first-state)) ≡ length (after h first .active) = ap (λ (s : State). length (neighbors-in s)) (packed-after h) ∙ ap length (neighbors-packed (after h first) t) in
-    let p : spare-addresses-in (after-in h first-state) ≡ length (after h first .passive) = ap spare-addresses-in (packed-after h) ∙ spare-packed (after h first) t in
+    let a : length (neighbors-in (after-in h first-state .words)) ≡ length (after h first .active) = ap (λ (xs : List ℕ). length (neighbors-in xs)) (packed-after h) ∙ ap length (neighbors-packed (after h first) t) in
+    let p : spare-addresses-in (after-in h first-state .words) ≡ length (after h first .passive) = ap spare-addresses-in (packed-after h) ∙ spare-packed (after h first) t in
     λ i. (a i, p i)
 
 many-same : (y z : Sizes) → ((h : List ℕ) → y h ≡ z h) → (a p : ℕ) (hs : List (List ℕ)) → how-many y a p hs ≡ how-many z a p hs

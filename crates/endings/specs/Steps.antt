@@ -4,21 +4,21 @@ use Prim.Native.Nat.{ℕ, _+_, _≤_}
 use mathlib.Core.List.{List, [], _∷_}
 use mathlib.Core.Bool.{false}
 use lib.ListN.{length}
-use Rattle.state.specs.declared.State.{State}
 use Rattle.record.specs.Format.{encode}
-use Rattle.rules.specs.Queries.{neighbors-in, spare-addresses-in}
-use Rattle.demand.specs.Program.{made, outcome}
+use Rattle.queries_words.specs.Queries.{neighbors-in, spare-addresses-in}
+use Rattle.hyparview_words.specs.declared.State.{State}
+use Rattle.demand.specs.Program.{outcome, made-state}
 use Rattle.endings.specs.declared.Ends.{Ends}
 use Rattle.endings.specs.Events.{event-at, tiny, draws, output}
 use Rattle.endings.specs.Ends.{Sizes}
 
 -- what the program's `new` hands back
 unfoldable pub first-state : State
-first-state = made 1 false [] tiny .state
+first-state = made-state 1 false [] tiny .state
 
 -- one event
 unfoldable pub played : ℕ → State → State
-played e s = outcome (encode (event-at e)) draws output s .answer .state
+played e s = record { words = outcome (encode (event-at e)) draws output (s .words) .words }
 
 -- a history
 unfoldable pub after-in : List ℕ → State → State
@@ -26,7 +26,7 @@ after-in [] s = s
 after-in (e ∷ es) s = after-in es (played e s)
 
 unfoldable pub sizes-in : State → Sizes
-sizes-in s h = (length (neighbors-in (after-in h s)), spare-addresses-in (after-in h s))
+sizes-in s h = (length (neighbors-in (after-in h s .words)), spare-addresses-in (after-in h s .words))
 
 -- both counts together
 unfoldable pub plus : Ends → Ends → Ends

@@ -1,11 +1,12 @@
 // Document 02, S-13: every history of at most four of sixteen events, and how many of them end with each size of the two views.
+use columns::PeerInfo;
+use hyparview_words::State;
 use peer::PeerData;
-use peer::PeerInfo;
-use state::State;
+use section::PeerId;
 use timing::Config;
 use timing::Timing;
-use writer::Fields;
-use writer::Written;
+use writer64::Fields;
+use writer64::Written;
 ghost use mathlib.Core.Path.{_≡_};
 ghost use mathlib.Core.List.{[], _∷_};
 ghost use Prim.Native.Nat.{_≤_, _<_};
@@ -13,7 +14,7 @@ ghost use lib.ListN.{length, getD, take};
 ghost use Rattle.lists.specs.Lists.{choose};
 ghost use Rattle.histories.specs.Histories.{of-length};
 ghost use Rattle.record.specs.Format.{encode};
-ghost use Rattle.writer.specs.Write.{Wrote};
+ghost use Rattle.writer64.specs.Write.{Wrote};
 ghost use Rattle.endings.specs.Events.{no-data, event, of-peer, quit, event-at};
 ghost use Rattle.endings.specs.Ends.{counts, all-ends};
 ghost use Rattle.endings.specs.Steps.{first-state, played, sizes-in, plus, Room};
@@ -27,7 +28,7 @@ pub struct Ends {
 }
 
 // An event of a peer without nodes.
-fn put_bare(out: &mut [u8], kind: u8, message: u8, flags: u8, p: u32) -> Written
+fn put_bare(out: &mut [u8], kind: u8, message: u8, flags: u8, p: PeerId) -> Written
     ensures { λ r. ⌜ Wrote (event kind message flags p []) 0 (now (out .entry)) r (now (out .exit)) ⌝ }
 {
     let f = Fields {
@@ -39,11 +40,11 @@ fn put_bare(out: &mut [u8], kind: u8, message: u8, flags: u8, p: u32) -> Written
         ttl: 0,
         number: 0,
     };
-    writer::write_bare(out, 0, f)
+    writer64::write_bare(out, 0, f)
 }
 
 // A message of a peer with one node, without data.
-fn put_one(out: &mut [u8], message: u8, flags: u8, p: u32) -> Written
+fn put_one(out: &mut [u8], message: u8, flags: u8, p: PeerId) -> Written
     ensures { λ r. ⌜ Wrote (event 0 message flags p no-data) 0 (now (out .entry)) r (now (out .exit)) ⌝ }
 {
     let f = Fields {
@@ -57,11 +58,11 @@ fn put_one(out: &mut [u8], message: u8, flags: u8, p: u32) -> Written
     };
     let none = PeerData::absent();
     let n = PeerInfo { id: 0, data: none };
-    writer::write_one(out, 0, f, n)
+    writer64::write_one(out, 0, f, n)
 }
 
 // The seven events of a peer, in the order of the request.
-fn put_of_peer(out: &mut [u8], i: usize, p: u32) -> Written
+fn put_of_peer(out: &mut [u8], i: usize, p: PeerId) -> Written
     requires { ⌜ i < 7 ⌝ }
     ensures { λ r. ⌜ Wrote (getD (of-peer p) i quit) 0 (now (out .entry)) r (now (out .exit)) ⌝ }
 {
@@ -110,7 +111,7 @@ fn first() -> State
     let mut config = Timing::default_settings();
     config.active_view_capacity = 1;
     config.passive_view_capacity = 1;
-    let m = demand::new(1, false, b"", config);
+    let m = demand::new_state(1, false, b"", config);
     m.state
 }
 
@@ -136,7 +137,7 @@ fn play(s: State, i: usize) -> State
     let draws = [0u32; 512];
     let mut out = [0u8; 8192];
     let n = event_bytes(&mut event, i);
-    let a = demand::handle(s, &event[..n], &draws, &mut out);
+    let a = demand::handle_state(s, &event[..n], &draws, &mut out);
     a.state
 }
 
@@ -151,9 +152,9 @@ fn count(s: State, c: Ends) -> Ends
     requires { ⌜ Room c 1 ⌝ }
     ensures { λ r. ⌜ r ≡ plus c (counts (sizes-in s) ([] ∷ [])) ⌝ }
 {
-    let v = rules::neighbors(s);
-    let active = v.len();
-    let passive = rules::spare_addresses(s);
+    let words = s.words;
+    let active = queries_words::neighbor_count(&words);
+    let passive = queries_words::spare_addresses(&words);
     Ends {
         neither: c.neither + one_if((active == 0) & (passive == 0)),
         passive: c.passive + one_if((active == 0) & (passive == 1)),

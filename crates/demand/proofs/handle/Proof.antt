@@ -4,7 +4,7 @@ use Rattle.demand.proofs.handle.Statement.{statement}
 use Rattle.demand.proofs.handle.Tie as tie
 use Rattle.demand.proofs.handle.Reads as reads
 use Rattle.demand.proofs.handle.Lts as lts
-use Rattle.hyparview.proofs.handle.Reads as handle-reads
+use Rattle.hyparview_words.proofs.handle.Reads as handle-reads
 
 -- src/lib.rt:18:5
 handle-requires : tie.Need-handle-requires
@@ -15,9 +15,13 @@ same-length : tie.Need-same-length
 same-length c = search needs
 
 -- src/lib.rt:15:1
+same-length-2 : tie.Need-same-length-2
+same-length-2 c = search needs
+
+-- src/lib.rt:15:1
 returns : tie.Need-returns
 unfolding outcome
 returns c = search needs
 
 pub handle-spec : {M : Type 1} → statement M
-handle-spec = tie.close (tie.spec handle-requires same-length returns)
+handle-spec = tie.close (tie.spec handle-requires same-length same-length-2 returns)

@@ -4,11 +4,15 @@ use Rattle.demand.proofs.new.Statement.{statement}
 use Rattle.demand.proofs.new.Tie as tie
 use Rattle.demand.proofs.new.Reads as reads
 use Rattle.demand.proofs.new.Lts as lts
-use Rattle.rules.proofs.new.Reads as new-reads
+use Rattle.queries_words.proofs.new.Reads as new-reads
 
 -- src/lib.rt:12:5
 new-requires : tie.Need-new-requires
 new-requires c κs = search needs
+
+-- src/lib.rt:9:1
+same-length : tie.Need-same-length
+same-length c = search needs
 
 -- src/lib.rt:9:1
 returns : tie.Need-returns
@@ -16,4 +20,4 @@ unfolding made
 returns c = search needs
 
 pub new-spec : {M : Type 1} → statement M
-new-spec = tie.close (tie.spec new-requires returns)
+new-spec = tie.close (tie.spec new-requires same-length returns)

@@ -3,11 +3,14 @@ use Rattle.endings.proofs.Counts.{counted}
 use Rattle.endings.proofs.count.Statement.{statement}
 use Rattle.endings.proofs.count.Tie as tie
 
-neighbors-requires : tie.Need-neighbors-requires
-neighbors-requires c κs = search needs
+slice-aggregate-neighbor-count : tie.Need-slice-aggregate-neighbor-count
+slice-aggregate-neighbor-count c = search needs
 
-len-requires : tie.Need-len-requires
-len-requires c κs = search needs
+neighbor-count-requires : tie.Need-neighbor-count-requires
+neighbor-count-requires c κs = search needs
+
+slice-aggregate-spare-addresses : tie.Need-slice-aggregate-spare-addresses
+slice-aggregate-spare-addresses c = search needs
 
 spare-addresses-requires : tie.Need-spare-addresses-requires
 spare-addresses-requires c κs = search needs
@@ -15,26 +18,26 @@ spare-addresses-requires c κs = search needs
 one-if-requires : tie.Need-one-if-requires
 one-if-requires c κs = search needs
 
-add-t10 : tie.Need-add-t10
-add-t10 c = search needs
+add-t14 : tie.Need-add-t14
+add-t14 c = search needs
 
 one-if-requires-2 : tie.Need-one-if-requires-2
 one-if-requires-2 c κs = search needs
 
-add-t15 : tie.Need-add-t15
-add-t15 c = search needs
+add-t19 : tie.Need-add-t19
+add-t19 c = search needs
 
 one-if-requires-3 : tie.Need-one-if-requires-3
 one-if-requires-3 c κs = search needs
 
-add-t20 : tie.Need-add-t20
-add-t20 c = search needs
+add-t24 : tie.Need-add-t24
+add-t24 c = search needs
 
 one-if-requires-4 : tie.Need-one-if-requires-4
 one-if-requires-4 c κs = search needs
 
-add-t25 : tie.Need-add-t25
-add-t25 c = search needs
+add-t29 : tie.Need-add-t29
+add-t29 c = search needs
 
 returns : tie.Need-returns
 returns c = search counted
@@ -43,15 +46,16 @@ pub count-spec : {M : Type 1} → statement M
 count-spec =
     tie.close
     (tie.spec
-    neighbors-requires
-    len-requires
+    slice-aggregate-neighbor-count
+    neighbor-count-requires
+    slice-aggregate-spare-addresses
     spare-addresses-requires
     one-if-requires
-    add-t10
+    add-t14
     one-if-requires-2
-    add-t15
+    add-t19
     one-if-requires-3
-    add-t20
+    add-t24
     one-if-requires-4
-    add-t25
+    add-t29
     returns)

@@ -1,0 +1,80 @@
+-- What holds of every list of calls to the program holds of the calls that a box makes: the tally beside the words changes no answer.
+-- Assumes nothing.
+use Prim.Native.Nat.{ℕ, _≤_}
+use mathlib.Core.Path.{_≡_, refl, sym, ap, subst, _∙_}
+use mathlib.Core.Bool.{not}
+use mathlib.Core.List.{List, [], _∷_}
+use native.Mathlib.Omega.{arith}
+use lib.Dec.{eqb}
+use borrow.Author.Tests.{ne-eqb}
+use Rattle.lists.specs.Lists.{mem}
+use Rattle.lists.proofs.Choice.{choose-no}
+use Rattle.timing.specs.declared.Config.{Config}
+use Rattle.history.specs.Ledger.{Ledger, empty-ledger, feed}
+use Rattle.history.specs.Calls.{Call, code-of, state-of, output-of, state-after, codes, ledger-after}
+use Rattle.history.specs.Demand.{Views, Booked}
+use Rattle.history.specs.Outputs.{OutputsRead}
+use Rattle.tally.specs.declared.Tally.{Tally}
+use Rattle.tally.specs.Counts.{top}
+use Rattle.tally.specs.Sum.{total}
+use Rattle.tally.specs.History.{no-messages, tally-after}
+use Rattle.words.specs.Unpack.{unpack}
+use Rattle.rules_words.specs.Ok.{state-ok}
+use Rattle.controller.specs.Calls.{with-tally, begun, counted, called}
+use Rattle.demand.specs.Program as D
+use Rattle.demand.specs.Program.{program}
+use Rattle.demand.proofs.Program as P
+use Rattle.demand_calls.specs.Box as B
+use Rattle.demand_calls.specs.Box.{Box, made, filled, outcome, box, ledger}
+
+states-follow : (vs : List Call) (x : Box) → state-after box vs x ≡ record { words = state-after program vs (x .words); tally = tally-after program vs (x .words) (x .tally) }
+unfolding state-after tally-after outcome D.outcome called counted
+states-follow [] x = refl
+states-follow (v ∷ vs) x = states-follow vs (state-of box v x)
+
+codes-follow : (vs : List Call) (x : Box) → codes box vs x ≡ codes program vs (x .words)
+unfolding codes outcome D.outcome called counted
+codes-follow [] x = refl
+codes-follow (v ∷ vs) x = ap (λ (cs : List ℕ). code-of box v x ∷ cs) (codes-follow vs (state-of box v x))
+
+ledgers-follow : (a : ℕ) (vs : List Call) (x : Box) (l : Ledger) → ledger-after box a vs x l ≡ ledger-after program a vs (x .words) l
+unfolding ledger-after outcome D.outcome called counted
+ledgers-follow a [] x l = refl
+ledgers-follow a (v ∷ vs) x l = ledgers-follow a vs (state-of box v x) (feed a (v .event) (code-of box v x) (output-of box v x) l)
+
+outputs-follow : (vs : List Call) (x : Box) → OutputsRead program vs (x .words) → OutputsRead box vs x
+unfolding OutputsRead outcome D.outcome called counted
+outputs-follow [] x o = tt
+outputs-follow (v ∷ vs) x o = (o .0, outputs-follow vs (state-of box v x) (o .1))
+
+-- an accepted `new` leaves a tally of zeroes
+tally-zeroed : (x : Box) (me present : ℕ) (own : List ℕ) (c : Config) → made x me present own c .code ≡ 0 → made x me present own c .tally ≡ no-messages
+unfolding made begun with-tally
+tally-zeroed x me present own c z = choose-no _ _ _ (ne-eqb (made x me present own c .code) 2 (λ e. omega (arith, z, e)))
+
+pub demand-3-holds : B.Demand3-holds
+unfolding made begun with-tally D.made
+demand-3-holds x me present own c t z vs =
+    let start = filled (made x me present own c) in
+    let d = P.demand-3-holds (x .words) me (not (eqb present 0)) own c t z vs in
+    let same = states-follow vs start in
+    record {
+      none-is-two = ap (mem 2) (codes-follow vs start) ∙ d .none-is-two;
+      rules-hold = ap (λ (y : Box). state-ok (y .words)) same ∙ d .rules-hold;
+      views = subst (λ (y : Box). Views me c (unpack (y .words))) (sym same) (d .views);
+      booked = subst (λ (y : Box). Booked (unpack (y .words)) (ledger c vs start)) (sym same)
+          (subst (Booked (unpack (state-after program vs (start .words)))) (sym (ledgers-follow (c .«active_view_capacity») vs start empty-ledger)) (d .booked));
+    }
+
+pub outputs-read-back : B.Outputs-read-back
+unfolding made begun with-tally D.made
+outputs-read-back x me present own c t z vs n = outputs-follow vs (filled (made x me present own c)) (P.outputs-read-back (x .words) me (not (eqb present 0)) own c t z vs n)
+
+pub every-message-counted : B.Every-message-counted
+unfolding made begun with-tally D.made
+every-message-counted x me present own c t z vs n few =
+    let start = filled (made x me present own c) in
+    let e : ledger c vs start .sent ≡ ledger-after program (c .«active_view_capacity») vs (start .words) empty-ledger .sent = ap (λ (l : Ledger). l .sent) (ledgers-follow (c .«active_view_capacity») vs start empty-ledger) in
+    ap (λ (y : Box). total (y .tally)) (states-follow vs start)
+    ∙ (ap (λ (u : Tally). total (tally-after program vs (start .words) u)) (tally-zeroed x me present own c z)
+    ∙ (P.every-message-counted (x .words) me (not (eqb present 0)) own c t z vs n (subst (λ (k : ℕ). k ≤ top) e few) ∙ sym e))

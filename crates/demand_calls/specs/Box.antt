@@ -1,0 +1,70 @@
+-- What is claimed of what a box calls: of every list of calls of `hyparview_handle`, from the words and the tally that `hyparview_new` filled.
+-- `made` and `outcome` are what the contracts of the two exported functions say; the check ties them to the claims by `new-says` and `handle-says`.
+-- Assumes nothing.
+use Prim.Native.Nat.{ℕ, _≤_}
+use mathlib.Core.Path.{_≡_}
+use mathlib.Core.Bool.{true, not}
+use mathlib.Core.List.{List}
+use lib.ListN.{length}
+use lib.Dec.{eqb}
+use Rattle.timing.specs.declared.Config.{Config}
+use Rattle.history.specs.Ledger.{Ledger, empty-ledger}
+use Rattle.history.specs.Calls.{Call, narrow-draws, Machine, state-after, ledger-after}
+use Rattle.history.specs.Demand.{Demand3}
+use Rattle.history.specs.Outputs.{OutputsRead}
+use Rattle.tally.specs.declared.Tally.{Tally}
+use Rattle.tally.specs.Counts.{top}
+use Rattle.tally.specs.Sum.{total}
+use Rattle.words.specs.Unpack.{unpack}
+use Rattle.rules_words.specs.Ok.{state-ok}
+use Rattle.queries_words.specs.Made.{lent}
+use Rattle.controller.specs.Calls.{Begun, begun, Called, called}
+use Rattle.demand.specs.Program.{Typed}
+
+-- what the box lends, and keeps between calls
+pub record Box : Type 0 where
+  pub words : List ℕ
+  pub tally : Tally
+
+-- `hyparview_new` on what the box lends, whatever it holds; own data is absent where `present` is 0
+unfoldable pub made : Box → ℕ → ℕ → List ℕ → Config → Begun
+made x me present own c = begun (x .words) (x .tally) me (lent (not (eqb present 0)) own) c
+
+-- what the box holds after it
+abbrev pub filled : Begun → Box
+filled m = record { words = m .words; tally = m .tally }
+
+-- `hyparview_handle` on what the box holds
+unfoldable pub outcome : List ℕ → List ℕ → List ℕ → Box → Called
+outcome b ds out x = called (x .words) (x .tally) b ds (length out)
+
+abbrev pub box : Machine Box
+box = record {
+  code = λ b ds out x. outcome b ds out x .code;
+  state = λ b ds out x. record { words = outcome b ds out x .words; tally = outcome b ds out x .tally };
+  used = λ b ds out x. outcome b ds out x .draws;
+  output = λ b ds out x. outcome b ds out x .output;
+}
+
+-- Demand 3. "For every list of events brought to a new station": one that `hyparview_new` answered with code 0
+abbrev pub Demand3-holds : Type 0
+Demand3-holds =
+    (x : Box) (me present : ℕ) (own : List ℕ) (c : Config) → Typed me own → made x me present own c .code ≡ 0
+    → (vs : List Call) → Demand3 box (λ y. unpack (y .words)) (λ y. state-ok (y .words)) me c (filled (made x me present own c)) vs
+
+-- what an accepted call writes is read back, for the same lists; draws have 32 bits by their type
+abbrev pub Outputs-read-back : Type 0
+Outputs-read-back =
+    (x : Box) (me present : ℕ) (own : List ℕ) (c : Config) → Typed me own → made x me present own c .code ≡ 0
+    → (vs : List Call) → narrow-draws vs ≡ true → OutputsRead box vs (filled (made x me present own c))
+
+-- the ledger of the list
+abbrev pub ledger : Config → List Call → Box → Ledger
+ledger c vs x = ledger-after box (c .«active_view_capacity») vs x empty-ledger
+
+-- and the six counts of the lent tally together are the messages that the ledger has read, while these are below 2^64
+abbrev pub Every-message-counted : Type 0
+Every-message-counted =
+    (x : Box) (me present : ℕ) (own : List ℕ) (c : Config) → Typed me own → made x me present own c .code ≡ 0
+    → (vs : List Call) → narrow-draws vs ≡ true → ledger c vs (filled (made x me present own c)) .sent ≤ top
+    → total (state-after box vs (filled (made x me present own c)) .tally) ≡ ledger c vs (filled (made x me present own c)) .sent
