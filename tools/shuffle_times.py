@@ -1,7 +1,8 @@
 #!/usr/bin/env python3
 """When the k-th shuffle is due (document 02, S-11), calculated in exact integers from document 01's delay rule alone.
 
-usage: tools/shuffle_times.py make      writes crates/shuffles/stdin and stdout: questions, and both ends of each
+usage: tools/shuffle_times.py make      writes crates/shuffles/stdin and stdout: questions, and both ends of each; and the
+                                        README's picture of the first five, docs/shuffles.svg
        tools/shuffle_times.py check     fails where they are not what make would write
        tools/shuffle_times.py oracle    holds target/bin/shuffles against the Rust, run as a station (oracle/README.md)
 """
@@ -10,6 +11,7 @@ import random
 import struct
 import sys
 
+import timeline
 import tool
 
 PROGRAM = tool.ROOT / "target" / "bin" / "shuffles"
@@ -72,9 +74,15 @@ def line(question):
     return "{} {}\n".format(*ends(*question))
 
 
+# The README's: from when to when the first event comes, and how many shuffles are shown.
+SHOWN_START, SHOWN = (0, 5000), 5
+
+
 def files():
     asked = list(questions())
+    shown = [ends(*SHOWN_START, DEFAULTS, k) for k in range(1, SHOWN + 1)]
     return {
+        "docs/shuffles.svg": timeline.drawn(SHOWN_START, shown).encode("ascii"),
         "crates/shuffles/stdin": b"".join(map(packed, asked)),
         "crates/shuffles/stdout": "".join(map(line, asked)).encode("ascii"),
     }

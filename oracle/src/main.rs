@@ -3,7 +3,10 @@
 use std::{
     collections::HashMap,
     env,
+    fmt::Display,
+    fs,
     io::{self, Read, Write},
+    ops::Range,
     process::ExitCode,
     str::FromStr,
 };
@@ -32,15 +35,30 @@ oracle stories [lengths]             where all histories of at most four of 02's
 oracle substitutions
 ";
 
-/// What is printed; `Err` with a failing exit.
-type Answer = Result<String, String>;
+/// Why the program ends with status 1.
+enum Failure {
+    /// Its words are not understood, or what they name is not there: one line on standard error.
+    Misuse(String),
+    /// What it found: on standard output.
+    Report(String),
+}
+
+type Answer = Result<String, Failure>;
+
+fn misuse(text: impl Display) -> Failure {
+    Failure::Misuse(format!("oracle: {text}\n"))
+}
 
 fn main() -> ExitCode {
     refusal::quiet_counters();
     let arguments: Vec<_> = env::args().skip(1).collect();
     let (text, failed) = match answer(&arguments) {
         Ok(text) => (text, false),
-        Err(text) => (text, true),
+        Err(Failure::Report(text)) => (text, true),
+        Err(Failure::Misuse(line)) => {
+            eprint!("{line}");
+            return ExitCode::FAILURE;
+        }
     };
     io::stdout()
         .write_all(text.as_bytes())
@@ -49,13 +67,15 @@ fn main() -> ExitCode {
 }
 
 fn answer(arguments: &[String]) -> Answer {
-    let (mode, rest) = arguments.split_first().ok_or(USAGE)?;
+    let (mode, rest) = arguments
+        .split_first()
+        .ok_or_else(|| misuse("words are missing; --help tells the usage"))?;
     match mode.as_str() {
         "substitutions" => Ok(SUBSTITUTIONS.into()),
         "station" => run(rest, Form::Station),
         "trace" => run(rest, Form::Trace),
-        "generate" => generate(&Options::read(rest)?, Stored::write),
-        "words" => generate(&Options::read(rest)?, |stored| {
+        "generate" => generate(rest, Stored::write),
+        "words" => generate(rest, |stored| {
             format!(
                 "history {}\n{}",
                 stored.name,
@@ -63,44 +83,49 @@ fn answer(arguments: &[String]) -> Answer {
             )
         }),
         "make" => make(),
-        "replay" => stored::replay(rest),
+        "replay" => replay(rest),
         "check" => {
-            let options = Options::read(rest)?;
+            let options = Options::read(rest, &["seed", "events", "length"])?;
             let text = check::run(
                 options.get("seed", 1)?,
-                options.get("events", 1_000_000)?,
-                options.get("length", 200)?,
+                options.count("events", 1_000_000)?,
+                options.count("length", 200)?,
             );
             if text.ends_with("\n0 claims fail\n") {
                 Ok(text)
             } else {
-                Err(text)
+                Err(Failure::Report(text))
             }
         }
         "time" => {
-            let options = Options::read(rest)?;
-            let seed = options.get("seed", 1)?;
-            let histories = options.get("histories", 5)?;
+            let options = Options::read(rest, &["seed", "histories", "events", "rounds"])?;
+            let seeds = options.seeds(5)?;
             Ok(timing::run(
-                seed,
-                histories,
-                options.get("events", 200)?,
-                options.get("rounds", 20)?,
+                seeds.start,
+                seeds.end - seeds.start,
+                options.count("events", 200)?,
+                options.count("rounds", 20)?,
             ))
         }
         "timer-calls" => {
-            let options = Options::read(rest)?;
-            let calls = timers::generate(options.get("seed", 1)?, options.get("calls", 300_000)?);
+            let options = Options::read(rest, &["seed", "calls"])?;
+            let calls = timers::generate(options.get("seed", 1)?, options.count("calls", 300_000)?);
             io::stdout()
                 .write_all(&timers::to_bytes(&calls))
-                .map_err(|error| format!("timer-calls: {error}\n"))?;
+                .map_err(|error| misuse(format!("timer-calls: {error}")))?;
             Ok(String::new())
         }
-        "timers" => Ok(timers::answers(&timers::from_bytes(&read_input()))),
+        "timers" => {
+            let calls = timers::from_bytes(&read_input());
+            if calls.is_empty() {
+                return Err(misuse("no call of a timer queue on standard input"));
+            }
+            Ok(timers::answers(&calls))
+        }
         "stories" => all_stories(rest),
         "compare" => compare(rest),
         "-h" | "--help" => Ok(USAGE.into()),
-        _ => Err(USAGE.into()),
+        _ => Err(misuse(format!("no mode is {mode}; --help tells them"))),
     }
 }
 
@@ -108,35 +133,59 @@ fn answer(arguments: &[String]) -> Answer {
 struct Options(HashMap<String, String>);
 
 impl Options {
-    fn read(arguments: &[String]) -> Result<Self, String> {
+    fn read(arguments: &[String], names: &[&str]) -> Result<Self, Failure> {
         let mut options = HashMap::new();
         for pair in arguments.chunks(2) {
-            let [name, value] = pair else {
-                return Err(USAGE.into());
+            let name = pair[0].strip_prefix("--").unwrap_or_default();
+            let ([_, value], true) = (pair, names.contains(&name)) else {
+                let known = names.join(", --");
+                return Err(misuse(format!(
+                    "{}: options are --{known}, each with a value",
+                    pair[0]
+                )));
             };
-            let name = name.strip_prefix("--").ok_or(USAGE)?;
             options.insert(name.to_owned(), value.clone());
         }
         Ok(Self(options))
     }
 
-    fn get<T: FromStr>(&self, name: &str, usual: T) -> Result<T, String> {
+    fn get<T: FromStr>(&self, name: &str, usual: T) -> Result<T, Failure> {
         let Some(value) = self.0.get(name) else {
             return Ok(usual);
         };
         value
             .parse()
-            .map_err(|_| format!("--{name} {value}\n{USAGE}"))
+            .map_err(|_| misuse(format!("--{name} takes a whole number, not {value}")))
+    }
+
+    /// A number of things, at least one.
+    fn count<T: FromStr + PartialEq + Default>(&self, name: &str, usual: T) -> Result<T, Failure> {
+        let count = self.get(name, usual)?;
+        if count == T::default() {
+            return Err(misuse(format!("--{name} is 0: there is nothing to do")));
+        }
+        Ok(count)
+    }
+
+    /// The seeds from the one asked for on, as many as there are to be histories of each mix.
+    fn seeds(&self, usual: u64) -> Result<Range<u64>, Failure> {
+        let first: u64 = self.get("seed", 1)?;
+        let end = first.checked_add(self.count("histories", usual)?);
+        end.map(|end| first..end)
+            .ok_or_else(|| misuse("--seed and --histories together are past 2^64"))
     }
 
     /// The mix asked for; one that is none is an error, and not a run of no history.
-    fn mix(&self) -> Result<Option<&str>, String> {
+    fn mix(&self) -> Result<Option<&str>, Failure> {
         let Some(name) = self.0.get("mix") else {
             return Ok(None);
         };
         if mix::named(name).is_none() {
             let names: Vec<_> = MIXES.iter().map(|mix| mix.name).collect();
-            return Err(format!("no mix is {name}; there are {}\n", names.join(" ")));
+            return Err(misuse(format!(
+                "no mix is {name}; there are {}",
+                names.join(" ")
+            )));
         }
         Ok(Some(name))
     }
@@ -151,32 +200,35 @@ fn read_input() -> Vec<u8> {
 }
 
 fn run(arguments: &[String], form: Form) -> Answer {
-    let options = Options::read(arguments)?;
+    let options = Options::read(arguments, &["room", "counters"])?;
     let mut start = Start::default();
     start.room = options.get("room", start.room)?;
     if let Some(counters) = options.0.get("counters") {
-        start.counters = Some(stored::read_counters(counters).ok_or(USAGE)?);
+        let four = "--counters takes four numbers, separated by commas";
+        start.counters = Some(stored::read_counters(counters).ok_or_else(|| misuse(four))?);
     }
     Ok(text::run(&read_input(), start, form))
 }
 
 fn all_stories(arguments: &[String]) -> Answer {
-    let lengths = stories::by_length()?;
+    let lengths = stories::by_length().map_err(Failure::Report)?;
     match arguments {
         [] => Ok(stories::all(&lengths)),
         [mode] if mode == "lengths" => Ok(stories::in_turn(&lengths)),
-        _ => Err(USAGE.into()),
+        _ => Err(misuse("stories has one word at the most, lengths")),
     }
 }
 
+/// The options of what makes histories.
+const HISTORIES: [&str; 4] = ["seed", "histories", "events", "mix"];
+
 /// The histories that the options name, each written by `write`.
-fn generate(options: &Options, write: impl Fn(&Stored) -> String) -> Answer {
-    let seed: u64 = options.get("seed", 1)?;
-    let histories = options.get("histories", 1)?;
+fn generate(arguments: &[String], write: impl Fn(&Stored) -> String) -> Answer {
+    let options = Options::read(arguments, &HISTORIES)?;
     let events: usize = options.get("events", 20)?;
     let only = options.mix()?;
     let mut text = String::new();
-    for seed in seed..seed + histories {
+    for seed in options.seeds(1)? {
         for mix in MIXES
             .iter()
             .filter(|mix| only.is_none_or(|name| name == mix.name))
@@ -187,8 +239,8 @@ fn generate(options: &Options, write: impl Fn(&Stored) -> String) -> Answer {
     Ok(text)
 }
 
-fn made(name: &str) -> Result<Stored, String> {
-    Stored::generate(name).ok_or(format!("no history: {name}\n"))
+fn made(name: &str) -> Result<Stored, Failure> {
+    Stored::generate(name).ok_or_else(|| misuse(format!("no history: {name}")))
 }
 
 fn make() -> Answer {
@@ -200,24 +252,31 @@ fn make() -> Answer {
         .collect()
 }
 
-fn compare(arguments: &[String]) -> Answer {
-    let split = arguments
-        .iter()
-        .position(|word| word == "--")
-        .ok_or(USAGE)?;
-    let options = Options::read(&arguments[..split])?;
-    let command = &arguments[split + 1..];
-    if command.is_empty() {
-        return Err(USAGE.into());
+fn replay(files: &[String]) -> Answer {
+    if files.is_empty() {
+        return Err(misuse("replay: no file of stored histories is named"));
     }
-    let seed = options.get("seed", 1)?;
-    let histories = options.get("histories", 10)?;
+    for file in files {
+        fs::metadata(file).map_err(|error| misuse(format!("{file}: {error}")))?;
+    }
+    stored::replay(files).map_err(Failure::Report)
+}
+
+fn compare(arguments: &[String]) -> Answer {
+    let split = arguments.iter().position(|word| word == "--");
+    let command = split.map_or(&[][..], |split| &arguments[split + 1..]);
+    let (Some(split), false) = (split, command.is_empty()) else {
+        return Err(misuse("compare: no command after --"));
+    };
+    let options = Options::read(&arguments[..split], &HISTORIES)?;
+    let seeds = options.seeds(10)?;
     compare::run(
-        seed,
-        histories,
+        seeds.start,
+        seeds.end - seeds.start,
         options.get("events", 200)?,
         options.mix()?,
         options.get("evicted", false)?,
         command,
     )
+    .map_err(Failure::Report)
 }

@@ -33,6 +33,10 @@ whole:  the Rust doing the job of a call: reads the event's bytes, checks the st
 ours:   a call of the library, which does the same over the state's memory, every rule checked
 ";
 
+/// How many states the parts of a call are measured on, and how often the rounds are made for them.
+const STATES: usize = 50;
+const AGAIN: usize = 20;
+
 /// An accepted event, with the library's state and the draws that it met.
 struct Call<'a> {
     before: Ours,
@@ -151,25 +155,25 @@ fn each(rounds: usize, calls: &[&Call], work: impl Fn(&Call)) -> u128 {
     fastest(rounds, time) / calls.len() as u128
 }
 
-/// Parts of a call: each is measured alone, by a call that does little else.
-fn parts(rounds: usize, calls: &[&Call]) {
+/// Parts of a call, on some states that stay in the cache: each is measured alone, by a call that does little else.
+fn parts(rounds: usize, calls: &[Call]) {
+    let some: Vec<&Call> = calls.iter().step_by(calls.len().div_ceil(STATES)).collect();
     let malformed = [0; 24];
     let refused = |room: usize| {
-        each(rounds, calls, |call| {
+        each(rounds, &some, |call| {
             let mut copy = call.before.clone();
             let mut out = [0; ROOM];
             black_box(copy.handle(&malformed[..23], &[], &mut out[..room]));
         })
     };
-    let read = each(rounds, calls, |call| {
+    let read = each(rounds, &some, |call| {
         black_box(ours::read(call.event));
     });
-    let checked = each(rounds, calls, |call| {
+    let checked = each(rounds, &some, |call| {
         black_box(call.before.spare_addresses());
     });
-    let (none, all) = (refused(0), refused(ROOM));
-    println!("ours: reading a record {read} ns; loading and checking the state {checked} ns;");
-    println!("a refused call without room {none} ns, with {ROOM} bytes to clear {all} ns");
+    let cleared = refused(ROOM).saturating_sub(refused(0));
+    println!("ours: reading a record {read} ns, checking the state {checked} ns, clearing {ROOM} bytes {cleared} ns");
 }
 
 /// The most bytes of stack that a call takes, of every event of the histories, refused ones too.
@@ -288,8 +292,8 @@ fn main() {
         }
     }
     line("all, in a row", rust.iter().map(Vec::len).sum(), sum);
-    let all: Vec<&Call> = ours.iter().flatten().collect();
-    parts(rounds, &all);
+    let longest = ours.iter().max_by_key(|calls| calls.len());
+    parts(rounds * AGAIN, longest.expect("a history"));
     let (most, count) = deepest(&inputs);
     println!("stack of a call, painted: {most} bytes at the most of {count} calls");
 }
