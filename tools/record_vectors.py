@@ -3,7 +3,7 @@
 
 usage: tools/record_vectors.py make | check
 
-The files are crates/record_test/stdin (each record with two bytes for its length in front) and crates/record_test/stdout,
+The files are crates/test_record/stdin (each record with two bytes for its length in front) and crates/test_record/stdout,
 which tests/records.c is held to as well; tests/own.txt, the records of a new station with own data, for tests/calls.c; and
 tests/station.in with tests/station.out, what the station of examples/ is run on and must print.
 """
@@ -256,8 +256,8 @@ def files():
     assert len(stored) <= 65536, len(stored)
     events, printed = station_files()
     return {
-        "crates/record_test/stdin": stored,
-        "crates/record_test/stdout": "".join(line(b) for b in records).encode(),
+        "crates/test_record/stdin": stored,
+        "crates/test_record/stdout": "".join(line(b) for b in records).encode(),
         "tests/own.txt": "".join(own_rows()).encode(),
         "tests/station.in": events,
         "tests/station.out": printed,

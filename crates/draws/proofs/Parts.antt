@@ -1,4 +1,4 @@
--- What a walk over `Draws` has of the one that is passed: its machine value, and what its list owns, taken out of a copy of what it owns.
+-- What a walk over `Draws` has of the one that is passed or made: its machine value, what its list owns, taken out of a copy of what it owns, and what it owns, put together of its list's and its place's.
 -- Assumes nothing.
 use mathlib.Core.Path.{_≡_, refl}
 use Prim.Native.Nat.{_<_, _^_}
@@ -13,18 +13,18 @@ use base.Fml.{Lft, Share, Fml, ftrue, flft}
 use prog.Wp.{Heap}
 use ghost.Atoms.{Atoms, sem}
 use contract.Lifetimes.{Lfts}
-use types.Kit.{Given, ‵, _⊛_, ⋆, given, _$_, _∵_, !, qed, move, drop, use1, split, join, learn, fjoin, done}
+use types.Kit.{Given, ‵, _⊛_, ⋆, given, _$_, _∵_, !, qed, move, drop, use1, split, join, learn, fjoin, frame, done}
 use denote.RattleType.{RattleType, owns}
 use denote.Laws.{Is}
 use denote.Plain.{uint-makes}
 use denote.Builtin.{u32, usize}
 use denote.Ref.{NamedLft}
 use denote.Signature.{namedLft}
-use denote.Slice.{sliceVal, ShrSlice}
+use denote.Slice.{sliceVal, ShrSlice, shr-slice-copy}
 use denote.Steps.{owned, nothing}
 use denote.Struct.Declared.{Declared}
 use denote.Struct.Laws as LL
-use denote.Struct.Rest.{all-own, ownAt, rest, own-open, own-out}
+use denote.Struct.Rest.{all-own, ownAt, rest, own-open, own-out, own-shut}
 use denote.Struct.Values.{Values}
 use Rattle.draws.specs.declared.Draws.{Draws}
 use Rattle.draws.proofs.Draws as T
@@ -78,10 +78,13 @@ module _ {M : Type 1} (𝓤 : URA M) (H : Heap 𝓤) (A : Atoms 𝓤) (W : Given
       -- [what the list owns; what the struct owns; the token]
       nothing ! $ owned ! usize (Is usize) (uint-makes 𝓤 H A W w64) (d .at) _ (refl, fits) $ fjoin ! $ move ! (1 ∷ 0 ∷ []) $ fjoin ! $ move ! (2 ∷ 0 ∷ []) $ join ! $ done !
 
-  module _ (is : Is (B (κ, tt)) d (T′.lowered d ∷ [])) where
-    -- the machine value has the struct's MIR type, at 'a and as a local has it
-    pub typed : Holds (hasTy (T′.mir (named 0)) (T′.lowered d)) × WT (T′.lowered d)
-    typed = LL.lawful (D κ) (L κ) 𝓤 H A W .typed d _ is .0
+  -- what the struct owns, of a copy of what its list owns, and the list's as it was; a `&[u32]` is Copy
+  pub put-together : d .at < 2 ^ 64 → ent 𝓤 (sem 𝓤 H A (OwnList κ d)) (sep 𝓤 (sem 𝓤 H A (Own κ d)) (sem 𝓤 H A (OwnList κ d)))
+  put-together fits =
+      qed W (‵ (OwnList κ d) ∷ []) ∵ use1 W (‵ (OwnList κ d) ⊛ ‵ (OwnList κ d)) (shr-slice-copy 𝓤 H A W (named 0) κ u32 .twice (d .list) (list-val d ∷ [])) $ split ! $
+      nothing ! $ owned ! usize (Is usize) (uint-makes 𝓤 H A W w64) (d .at) _ (refl, fits) $ fjoin ! $ move ! (1 ∷ 0 ∷ []) $ fjoin ! $
+      use1 W (‵ (Own κ d)) (own-shut 𝓤 H A W (D κ) (L κ) (fields κ d)) $ frame ! $ done !
 
-    pub typed-local : Holds (hasTy (T′.mir erased) (T′.lowered d)) × WT (T′.lowered d)
-    typed-local = LL.lawful (T.the-type (αᵉ κ)) (T′.the-laws (αᵉ κ)) 𝓤 H A W .typed d _ is .0
+  -- the machine value has the struct's MIR type
+  pub typed : Is (B (κ, tt)) d (T′.lowered d ∷ []) → Holds (hasTy (T′.mir (named 0)) (T′.lowered d)) × WT (T′.lowered d)
+  typed is = LL.lawful (D κ) (L κ) 𝓤 H A W .typed d _ is .0

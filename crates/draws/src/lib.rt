@@ -2,27 +2,15 @@
 // and leaves the work to one that takes a plain slice and a number.
 ghost use mathlib.Core.Path.{_≡_};
 ghost use lib.ListN.{drop};
-ghost use Rattle.draws.specs.Place.{left, next, next-answer, past, begun, moved, DrawnFrom};
+ghost use Rattle.draws.specs.Place.{left, past, moved};
 
 pub struct Draws<'a> {
     pub list: &'a [u32],
     pub at: usize,
 }
 
-// One draw, or that none is left.
-pub enum Next {
-    Draw(u32),
-    OutOfDraws,
-}
-
-// One draw and the list with its place moved on.
-pub struct Drawn<'a> {
-    pub draw: Next,
-    pub rest: Draws<'a>,
-}
-
 // How many draws are left.
-pub fn left_at(list: &[u32], at: usize) -> usize
+fn left_at(list: &[u32], at: usize) -> usize
     ensures { λ r. ⌜ r ≡ left (now (list .entry)) at ⌝ }
 {
     if at < list.len() {
@@ -31,18 +19,8 @@ pub fn left_at(list: &[u32], at: usize) -> usize
     0
 }
 
-// The draw at a place.
-pub fn next_at(list: &[u32], at: usize) -> Next
-    ensures { λ r. ⌜ next-answer r ≡ next (now (list .entry)) at ⌝ }
-{
-    if at < list.len() {
-        return Next::Draw(list[at]);
-    }
-    Next::OutOfDraws
-}
-
 // The place n draws further on, never past the end.
-pub fn past(list: &[u32], at: usize, n: usize) -> usize
+fn past(list: &[u32], at: usize, n: usize) -> usize
     ensures { λ r. ⌜ r ≡ past (now (list .entry)) at n ⌝ }
 {
     if n < left_at(list, at) {
@@ -52,7 +30,7 @@ pub fn past(list: &[u32], at: usize, n: usize) -> usize
 }
 
 // The draws from a place on.
-pub fn rest_at(list: &[u32], at: usize) -> &[u32]
+fn rest_at(list: &[u32], at: usize) -> &[u32]
     ensures { λ r. ⌜ now r ≡ drop at (now (list .entry)) ⌝ }
 {
     let n = list.len();
@@ -63,19 +41,7 @@ pub fn rest_at(list: &[u32], at: usize) -> &[u32]
 }
 
 impl<'a> Draws<'a> {
-    // The whole list is left.
-    pub fn new(list: &'a [u32]) -> Draws<'a>
-        ensures { λ r. ⌜ r ≡ begun (list .entry) ⌝ }
-    {
-        Draws { list: list, at: 0 }
-    }
-
-    pub fn left(self) -> usize
-        ensures { λ r. ⌜ r ≡ left (now (self .entry .list)) (self .entry .at) ⌝ }
-    {
-        left_at(self.list, self.at)
-    }
-
+    // What is left.
     pub fn rest(self) -> &'a [u32]
         ensures { λ r. ⌜ now r ≡ drop (self .entry .at) (now (self .entry .list)) ⌝ }
     {
@@ -91,13 +57,21 @@ impl<'a> Draws<'a> {
             at: past(self.list, self.at, n),
         }
     }
+}
 
-    pub fn next(self) -> Drawn<'a>
-        ensures { λ r. ⌜ DrawnFrom r (self .entry) ⌝ }
-    {
-        Drawn {
-            draw: next_at(self.list, self.at),
-            rest: self.skip(1),
-        }
-    }
+// The draws that are left at a place, for a caller that holds the list and the place apart.
+pub fn rest_from(list: &[u32], at: usize) -> &[u32]
+    ensures { λ r. ⌜ now r ≡ drop at (now (list .entry)) ⌝ }
+{
+    let d = Draws { list: list, at: at };
+    d.rest()
+}
+
+// The place after n more draws, for the same caller.
+pub fn place_after(list: &[u32], at: usize, n: usize) -> usize
+    ensures { λ r. ⌜ r ≡ past (now (list .entry)) at n ⌝ }
+{
+    let d = Draws { list: list, at: at };
+    let e = d.skip(n);
+    e.at
 }

@@ -39,23 +39,23 @@ fn long(low: u32, high: u32) -> u64 {
 
 fn config_of(b: &[u8]) -> Config {
     Config {
-        active_view_capacity: input::number(b, 4),
-        passive_view_capacity: input::number(b, 5),
-        active_random_walk_length: input::number(b, 6),
-        passive_random_walk_length: input::number(b, 7),
-        shuffle_random_walk_length: input::number(b, 8),
-        shuffle_active_view_count: input::number(b, 9),
-        shuffle_passive_view_count: input::number(b, 10),
-        shuffle_interval: input::number(b, 11),
-        neighbor_request_timeout: input::number(b, 12),
+        active_view_capacity: run_input::number(b, 4),
+        passive_view_capacity: run_input::number(b, 5),
+        active_random_walk_length: run_input::number(b, 6),
+        passive_random_walk_length: run_input::number(b, 7),
+        shuffle_random_walk_length: run_input::number(b, 8),
+        shuffle_active_view_count: run_input::number(b, 9),
+        shuffle_passive_view_count: run_input::number(b, 10),
+        shuffle_interval: run_input::number(b, 11),
+        neighbor_request_timeout: run_input::number(b, 12),
     }
 }
 
 fn say(b: &[u8]) {
-    let earliest = long(input::number(b, 0), input::number(b, 1));
-    let latest = long(input::number(b, 2), input::number(b, 3));
+    let earliest = long(run_input::number(b, 0), run_input::number(b, 1));
+    let latest = long(run_input::number(b, 2), run_input::number(b, 3));
     let config = config_of(b);
-    let k = input::number(b, 13);
+    let k = run_input::number(b, 13);
     let t = shuffle_times::hyparview_shuffle_times(earliest, latest, config, k);
     io::print_decimal(1, t.earliest);
     io::write_all(1, b" ");

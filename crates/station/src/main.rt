@@ -1,80 +1,81 @@
 // The run program (document 01): standard input is a history, standard output gets the lines of its events.
-use input::Layout;
-use listing::Opened;
-use runner::Runner;
+use run_input::Layout;
+use run_listing::Opened;
+use run_walk::Runner;
 ghost use mathlib.Core.Path.{_≡_};
-ghost use Prim.Native.Nat.{_+_, _*_, _≤_};
 ghost use lib.ListN.{length, drop};
 ghost use Rattle.io.specs.Counts.{Counts};
-ghost use Rattle.input.specs.Input.{numbers};
-ghost use Rattle.input.specs.Input.{Laid};
-ghost use Rattle.runner.specs.Place.{Inside};
+ghost use Rattle.run_input.specs.Input.{numbers};
+ghost use Rattle.run_input.specs.Input.{Laid};
 
-// The one line of an input without events.
-fn say_line(code: u32) {
+// The line that ends an event, or the one line of an input without events.
+fn say_end(code: u32, draws: usize) {
     let mut text = [0u8; 44];
-    let n = listing::line(code, &mut text);
+    let n = run_listing::end_line(code, draws, &mut text);
     io::write_all(1, &text[..n]);
 }
 
+// The lines of the records in an output, one after another: no more space is needed than for one of them.
+fn say_records(i: usize, records: &[u8]) {
+    let mut line = [0u8; 168];
+    let text: &mut [u8] = &mut line;
+    let mut rest = records;
+    loop {
+        let r = run_listing::record_line(i, rest, text);
+        let size = r.size;
+        let n = r.taken;
+        if n == 0 {
+            return;
+        }
+        io::write_all(1, &text[..size]);
+        if rest.len() < n {
+            return;
+        }
+        rest = &rest[n..];
+    }
+}
+
 // The lines of each of n events in turn, from the first place on.
-fn say_events(
-    first: Runner,
-    n: usize,
-    events: &[u8],
-    draws: &[u32],
-    records: &mut [u8],
-    text: &mut [u8],
-)
-    requires { ⌜ Inside first (now events) (now draws) ⌝ }
-    requires { ⌜ 168 * length (now records) + 44 ≤ length (now text) ⌝ }
-{
+fn say_events(first: Runner, n: usize, events: &[u8], draws: &[u32], records: &mut [u8]) {
     let mut p = first;
     let mut i: usize = 0;
     while i < n {
-        let r = listing::tell(p, i, events, draws, records, text);
-        let size = r.size;
-        io::write_all(1, &text[..size]);
+        let r = run_walk::step(p, events, draws, records);
+        say_records(i, records);
+        say_end(r.code, r.draws);
         p = r.runner;
         i += 1;
     }
 }
 
 // The events of an input, with the numbers that stand where its draws do.
-fn say_layout(
-    b: &[u8],
-    l: Layout,
-    drawn: &[u32],
-    records: &mut [u8; 8192],
-    text: &mut [u8; 1376300],
-)
+fn say_layout(b: &[u8], l: Layout, drawn: &[u32], records: &mut [u8; 8192])
     requires { ⌜ Laid (now b) l ⌝ }
     requires { ⌜ Counts (l .draws) (now drawn) ⌝ }
     requires { ⌜ now drawn ≡ numbers (length (now drawn)) 0 (drop (l .«draws_at») (now b)) ⌝ }
 {
     let at = l.draws_at;
     let n = l.draws;
-    let p = listing::begin(l);
-    say_events(p, l.events, &b[56..at], &drawn[..n], records, text);
+    let p = run_listing::begin(l);
+    say_events(p, l.events, &b[56..at], &drawn[..n], records);
 }
 
-// The same, with the space: the longest input has fewer than 16,384 draws, and the lines of 8,192 bytes of output always fit.
+// The same, with the space: the longest input has fewer than 16,384 draws, and 8,192 bytes of output always suffice.
 fn say_whole(b: &[u8], l: Layout)
     requires { ⌜ Laid (now b) l ⌝ }
 {
     let mut drawn = [0u32; 16384];
     let mut records = [0u8; 8192];
-    let mut text = [0u8; 1376300];
     let at = l.draws_at;
-    input::read_numbers(&b[at..], &mut drawn);
-    say_layout(b, l, &drawn, &mut records, &mut text);
+    run_input::read_numbers(&b[at..], &mut drawn);
+    say_layout(b, l, &drawn, &mut records);
 }
 
 // What an input is answered with.
 fn say(b: &[u8]) {
-    let o = listing::open(b);
+    let o = run_listing::open(b);
     match o {
-        Opened::Line(code) => say_line(code),
+        Opened::Line(code) => say_end(code, 0),
         Opened::Events(l) => say_whole(b, l),
     }
 }

@@ -8,10 +8,10 @@ use native.Mathlib.Omega.{arith}
 use lib.ListN.{length, take}
 use lib.Seq.{length-take-le}
 use Rattle.lists.specs.Bytes.{overwrite}
-use Rattle.text.specs.Text.{Puts, Begins, Shows}
-use Rattle.text.specs.Lines.{field}
-use Rattle.text.specs.declared.Text.{Text}
-use Rattle.text.proofs.Written.{begun, then}
+use Rattle.run_text.specs.Text.{Puts, Begins, Shows}
+use Rattle.run_text.specs.Numbers.{field}
+use Rattle.run_text.specs.declared.Text.{Text}
+use Rattle.run_text.proofs.Written.{begun, then}
 use Rattle.endings.specs.declared.Ends.{Ends}
 use Rattle.stories.specs.Lines.{end-line, ends-text}
 

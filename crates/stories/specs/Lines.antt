@@ -2,7 +2,7 @@
 -- Assumes nothing.
 use Prim.Native.Nat.{ℕ}
 use mathlib.Core.List.{List, _++_}
-use Rattle.text.specs.Lines.{field}
+use Rattle.run_text.specs.Numbers.{field}
 use Rattle.endings.specs.declared.Ends.{Ends}
 
 -- a space and the end of a line, as bytes

@@ -1,19 +1,19 @@
 // Document 02, S-13: active size, passive size and how many of all histories of at most four events end there.
 use endings::Ends;
-use text::Text;
+use run_text::Text;
 ghost use mathlib.Core.Path.{_≡_};
 ghost use Prim.Native.Nat.{_≤_, min};
 ghost use lib.ListN.{length};
 ghost use Rattle.lists.specs.Bytes.{overwrite};
-ghost use Rattle.text.specs.Text.{Puts};
+ghost use Rattle.run_text.specs.Text.{Puts};
 ghost use Rattle.stories.specs.Lines.{end-line, ends-text};
 
 fn put_line(out: &mut [u8], t: Text, active: u64, passive: u64, n: u32) -> Text
     ensures { λ r. ⌜ Puts (end-line active passive n) t (now (out .entry)) r (now (out .exit)) ⌝ }
 {
-    let a = text::put_field(out, t, active, 32);
-    let b = text::put_field(out, a, passive, 32);
-    text::put_field(out, b, n as u64, 10)
+    let a = run_text::put_field(out, t, active, 32);
+    let b = run_text::put_field(out, a, passive, 32);
+    run_text::put_field(out, b, n as u64, 10)
 }
 
 fn put_ends(out: &mut [u8], t: Text, c: Ends) -> Text
@@ -30,7 +30,7 @@ fn tell(out: &mut [u8], c: Ends) -> usize
     ensures { λ r. ⌜ (r ≡ min (length (ends-text c)) (length (now (out .entry)))) × (r ≤ length (now (out .entry))) ⌝ }
     ensures { λ _. ⌜ now (out .exit) ≡ overwrite (now (out .entry)) 0 (ends-text c) ⌝ }
 {
-    let none = text::start();
+    let none = run_text::start();
     let t = put_ends(out, none, c);
     t.at
 }

@@ -1,24 +1,24 @@
 // Standard input holds histories one after another; standard output gets their traces, each ended by an empty line.
 // A history is a head of 32 bytes and then its input. The head has the input's length and the room (4 bytes each), the next request and the next join (8 each), and the two pass counts (4 each).
-use replay::Start;
+use trace_replay::Start;
 ghost use Prim.Native.Nat.{_≤_};
 
 // The number of 8 bytes whose lower half is the i-th number of 4.
 fn wide(head: &[u8], i: usize) -> u64
     requires { ⌜ i ≤ 100 ⌝ }
 {
-    let low = input::number(head, i) as u64;
-    let high = input::number(head, i + 1) as u64;
+    let low = run_input::number(head, i) as u64;
+    let high = run_input::number(head, i + 1) as u64;
     low + 4294967296 * high
 }
 
 fn start_of(head: &[u8]) -> Start {
     Start {
-        room: input::number(head, 1) as usize,
+        room: run_input::number(head, 1) as usize,
         next_neighbor_request: wide(head, 2),
         next_join: wide(head, 4),
-        passes_alone: input::number(head, 6),
-        passes_short: input::number(head, 7),
+        passes_alone: run_input::number(head, 6),
+        passes_short: run_input::number(head, 7),
     }
 }
 
@@ -28,7 +28,7 @@ fn show(bytes: &mut [u8], start: Start) -> bool {
     if n < bytes.len() {
         return false;
     }
-    replay::history(bytes, start);
+    trace_replay::history(bytes, start);
     io::write_all(1, b"\n");
     true
 }
@@ -40,7 +40,7 @@ fn next(head: &mut [u8], bytes: &mut [u8]) -> bool {
         return false;
     }
     let start = start_of(head);
-    let size = input::number(head, 0) as usize;
+    let size = run_input::number(head, 0) as usize;
     if bytes.len() < size {
         return false;
     }

@@ -1,5 +1,5 @@
 use borrow.Author.Needs.{needs}
-use Rattle.listing.proofs.Laws.{opened-laid}
+use Rattle.run_listing.proofs.Laws.{opened-laid}
 use Rattle.station.proofs.say.Statement.{statement}
 use Rattle.station.proofs.say.Tie as tie
 
@@ -9,8 +9,8 @@ open-requires c κs = search needs
 enum-known-o : tie.Need-enum-known-o
 enum-known-o c = search needs
 
-say-line-requires : tie.Need-say-line-requires
-say-line-requires c κs = search needs
+say-end-requires : tie.Need-say-end-requires
+say-end-requires c κs = search needs
 
 enum-known-o-2 : tie.Need-enum-known-o-2
 enum-known-o-2 c = search needs
@@ -30,7 +30,7 @@ say-spec =
     (tie.spec
     open-requires
     enum-known-o
-    say-line-requires
+    say-end-requires
     enum-known-o-2
     say-whole-requires
     returns

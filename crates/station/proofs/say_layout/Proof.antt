@@ -1,5 +1,4 @@
 use borrow.Author.Needs.{needs}
-use Rattle.listing.proofs.Stream.{begun-inside}
 use Rattle.station.proofs.say_layout.Statement.{statement}
 use Rattle.station.proofs.say_layout.Tie as tie
 
@@ -19,7 +18,7 @@ slice-aggregate-say-events : tie.Need-slice-aggregate-say-events
 slice-aggregate-say-events c = search needs
 
 say-events-requires : tie.Need-say-events-requires
-say-events-requires c κs = (begun-inside _ _ _ _ (c .before .before .before .before .begin .ensures), search needs)
+say-events-requires c κs = search needs
 
 returns : tie.Need-returns
 returns c = search needs

@@ -1,6 +1,6 @@
 use borrow.Author.Needs.{needs}
 use mathlib.Core.Path.{refl}
-use Rattle.runner.proofs.Draws.{numbers-read}
+use Rattle.run_walk.proofs.Draws.{numbers-read}
 use Rattle.station.proofs.say_whole.Statement.{statement}
 use Rattle.station.proofs.say_whole.Tie as tie
 

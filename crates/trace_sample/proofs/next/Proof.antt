@@ -1,4 +1,4 @@
-use Rattle.trace_text.proofs.Laws.{counted}
+use Rattle.run_walk.proofs.Draws.{counted}
 use borrow.Author.Needs.{needs}
 use Rattle.trace_sample.proofs.next.Statement.{statement}
 use Rattle.trace_sample.proofs.next.Tie as tie

@@ -1,0 +1,50 @@
+use Rattle.run_input.specs.Input.{config-of}
+use borrow.Author.Needs.{needs}
+use Rattle.run_input.proofs.config_of.Statement.{statement}
+use Rattle.run_input.proofs.config_of.Tie as tie
+
+number-requires : tie.Need-number-requires
+number-requires c κs = search needs
+
+number-requires-2 : tie.Need-number-requires-2
+number-requires-2 c κs = search needs
+
+number-requires-3 : tie.Need-number-requires-3
+number-requires-3 c κs = search needs
+
+number-requires-4 : tie.Need-number-requires-4
+number-requires-4 c κs = search needs
+
+number-requires-5 : tie.Need-number-requires-5
+number-requires-5 c κs = search needs
+
+number-requires-6 : tie.Need-number-requires-6
+number-requires-6 c κs = search needs
+
+number-requires-7 : tie.Need-number-requires-7
+number-requires-7 c κs = search needs
+
+number-requires-8 : tie.Need-number-requires-8
+number-requires-8 c κs = search needs
+
+number-requires-9 : tie.Need-number-requires-9
+number-requires-9 c κs = search needs
+
+returns : tie.Need-returns
+unfolding config-of
+returns c = cc
+
+pub config-of-spec : {M : Type 1} → statement M
+config-of-spec =
+    tie.close
+    (tie.spec
+    number-requires
+    number-requires-2
+    number-requires-3
+    number-requires-4
+    number-requires-5
+    number-requires-6
+    number-requires-7
+    number-requires-8
+    number-requires-9
+    returns)

@@ -1,0 +1,31 @@
+use Prim.Native.Nat.{ℕ, _*_, _/_, _≤_, _<_}
+use mathlib.Core.Path.{_≡_, sym, _∙_}
+use mathlib.Core.List.{List}
+use lib.ListN.{length}
+use Rattle.lists.specs.Bytes.{read-le}
+use Rattle.run_input.specs.Input.{number}
+use Rattle.run_input.proofs.Laws.{number-read, number-none}
+use borrow.Author.Needs.{needs}
+use Rattle.run_input.proofs.number.Statement.{statement}
+use Rattle.run_input.proofs.number.Tie as tie
+
+there : (b : List ℕ) (i r : ℕ) → i < length b / 4 → r ≡ read-le 4 b (4 * i) → r ≡ number b i
+there b i r h e = e ∙ sym (number-read b i h)
+
+none : (b : List ℕ) (i : ℕ) → length b / 4 ≤ i → 0 ≡ number b i
+none b i h = sym (number-none b i h)
+
+mul-read-u32 : tie.Need-mul-read-u32
+mul-read-u32 c = search needs
+
+read-u32-requires : tie.Need-read-u32-requires
+read-u32-requires c κs = search needs
+
+returns : tie.Need-returns
+returns c = search there
+
+returns-2 : tie.Need-returns-2
+returns-2 c = search none
+
+pub number-spec : {M : Type 1} → statement M
+number-spec = tie.close (tie.spec mul-read-u32 read-u32-requires returns returns-2)

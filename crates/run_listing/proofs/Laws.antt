@@ -1,0 +1,250 @@
+-- Laws of the text of a run.
+-- Assumes nothing.
+use Prim.Native.Nat.{ℕ, suc, _+_, _-_, _≤_, _<_}
+use mathlib.Core.Path.{_≡_, refl, sym, ap, _∙_, subst}
+use mathlib.Core.Bool.{Bool, true, false}
+use mathlib.Core.Option.{none}
+use mathlib.Core.List.{List, [], _++_, append-nil, append-assoc}
+use native.Mathlib.Omega.{arith}
+use lib.ListN.{length, take, drop}
+use Rattle.io.specs.Counts.{Counts}
+use lib.Dec.{leb, eqb}
+use borrow.Author.Tests.{le-leb, lt-leb, leb-true, ltb-true, ltb-false, eq-eqb, ne-eqb}
+use Rattle.lists.proofs.Choice.{split, choose-yes, choose-no}
+use Rattle.hyparview_words.specs.declared.State.{State}
+use Rattle.hyparview_words.specs.Handled.{handled}
+use Rattle.run_text.specs.declared.Text.{Text}
+use Rattle.run_text.specs.Text.{Puts, Begins}
+use Rattle.run_text.proofs.Written.{begun, nothing, then, named}
+use Rattle.lists.specs.Bytes.{overwrite}
+use Rattle.protocol.specs.Handle.{new}
+use Rattle.hyparview_words.specs.declared.Made.{Made}
+use Rattle.queries_words.specs.Made as packed
+use Rattle.queries_words.specs.Made.{lent, pack-made}
+use Rattle.run_input.specs.declared.Layout.{Layout}
+use Rattle.run_input.specs.declared.Input.{Input}
+use Rattle.run_input.specs.declared.Input.the-variants.{Refused, Whole}
+use Rattle.run_input.specs.Input.{numbers, event-length, cut-events, input-of}
+use Rattle.run_input.proofs.Laws.{Laid, laid}
+use Rattle.run_walk.specs.declared.Runner.{Runner}
+use Rattle.run_walk.specs.declared.Ran.{Ran}
+use Rattle.run_walk.specs.Place.{Runs, met, passed}
+use Rattle.run_walk.proofs.Laws.{next-words, next-left, next-events}
+use Rattle.run_walk.proofs.Draws.{counted, first-draws, part-is}
+use Rattle.run_walk.proofs.Fresh.{made-bare}
+use Rattle.run_text.specs.Lines.{end-line, event-text}
+use Rattle.run_listing.specs.declared.Stepped.{Stepped}
+use Rattle.run_listing.specs.declared.Opened.{Opened}
+use Rattle.run_listing.specs.declared.Opened.the-variants.{Line, Events}
+use Rattle.run_listing.specs.declared.Shown.{Shown}
+use Rattle.run_listing.specs.declared.Shown.the-variants.{Bytes, TooShort}
+use Rattle.run_listing.specs.Run.{outcome-text, events-text, laid-text, made-text, input-text, run-text}
+use Rattle.run_listing.specs.Place.{Steps, fitting, Answers}
+use Rattle.run_listing.specs.Opened.{first-place, opened-layout, opened-input, opened, opened-text, rest-text}
+
+-- ---- one event
+
+-- the walk's step, and the lines of its event
+pub stepped : (room : ℕ) (p : Runner) (events draws : List ℕ) (a : Ran) (recs : List ℕ) → Runs room p events draws a recs
+    → (i : ℕ) (t : Text) (out : List ℕ) (r : Text) (o : List ℕ) → Puts (event-text i (a .code) (a .draws) recs) t out r o
+    → Steps room p i events draws t out (record { runner = a .runner; text = r }) recs o
+unfolding outcome-text
+stepped room p events draws a recs h i t out r o k =
+    record { runner = h .runner; output = h .output; text = named (λ j. event-text i (h .code j) (h .draws j) (h .output j)) k }
+
+-- ---- the events in order
+
+pub record Running (room : ℕ) (whole events draws : List ℕ) (n : ℕ) (t : Text) (out recs : List ℕ) (p : Runner) (r : Text) (o : List ℕ) (i : ℕ) : Type 0 where
+  pub low : i ≤ n
+  pub len : length o ≡ length out
+  pub records : length recs ≡ room
+  pub done : List ℕ
+  pub so-far : Puts done t out r o
+  pub same : whole ≡ done ++ rest-text room p i n events draws
+
+pub running-start : (s : State) (events draws : List ℕ) (n : ℕ) (t : Text) (out recs : List ℕ)
+    → Running (length recs) (events-text (length recs) 0 (s .words) (cut-events n events) draws) events draws n t out recs (record { state = s; at = 0; used = 0 }) t out 0
+unfolding rest-text
+running-start s events draws n t out recs = record {
+  low = omega arith;
+  len = refl;
+  records = refl;
+  done = [];
+  so-far = nothing;
+  same = let e : n ≡ n - 0 = omega arith in ap (λ (x : ℕ). events-text (length recs) 0 (s .words) (cut-events x events) draws) e;
+}
+
+one-event : (room i k : ℕ) (xs l ds : List ℕ) → events-text room i xs (cut-events (suc k) l) ds
+    ≡ outcome-text i (handled xs (take (event-length l) l) ds room) ++ events-text room (i + 1) (handled xs (take (event-length l) l) ds room .words) (cut-events k (drop (event-length l) l)) (drop (handled xs (take (event-length l) l) ds room .draws) ds)
+unfolding cut-events events-text
+one-event room i k xs l ds = refl
+
+-- what is left at a place is the lines of its event and what is left at the next
+pub rest-step : (room : ℕ) (p q : Runner) (i n : ℕ) (events draws : List ℕ) → i < n → q ≡ passed room p events draws
+    → rest-text room p i n events draws ≡ outcome-text i (met room p events draws) ++ rest-text room q (i + 1) n events draws
+unfolding rest-text
+rest-step room p q i n events draws h e =
+    let c : n - i ≡ suc (n - (i + 1)) = omega (arith, h) in
+    let words = next-words room p events draws q e in
+    let places = next-events room p events draws q e in
+    let left = next-left room p events draws q e in
+    ap (λ (x : ℕ). events-text room i (p .state .words) (cut-events x (drop (p .at) events)) (drop (p .used) draws)) c
+    ∙ (one-event room i (n - (i + 1)) (p .state .words) (drop (p .at) events) (drop (p .used) draws)
+    ∙ (λ j. outcome-text i (met room p events draws) ++ events-text room (i + 1) (sym words j) (cut-events (n - (i + 1)) (places j)) (sym left j)))
+
+pub rest-end : (room : ℕ) (p : Runner) (i n : ℕ) (events draws : List ℕ) → n ≤ i → rest-text room p i n events draws ≡ []
+unfolding rest-text cut-events events-text
+rest-end room p i n events draws h =
+    let z : n - i ≡ 0 = omega (arith, h) in
+    ap (λ (x : ℕ). events-text room i (p .state .words) (cut-events x (drop (p .at) events)) (drop (p .used) draws)) z
+
+module _ (room : ℕ) (whole events draws : List ℕ) (n : ℕ) (t : Text) (out recs : List ℕ) (p : Runner) (r : Text) (o : List ℕ) (i : ℕ) (v : Running room whole events draws n t out recs p r o i) where
+  pub running-next : (q : Stepped) (o₂ recs₂ : List ℕ) → i < n → Steps (length recs) p i events draws r o q recs₂ o₂ → length o₂ ≡ length o → length recs₂ ≡ length recs
+      → Running room whole events draws n t out recs₂ (q .runner) (q .text) o₂ (i + 1)
+  running-next q o₂ recs₂ h lent e₁ e₂ =
+      let k : Steps room p i events draws r o q recs₂ o₂ = subst (λ (x : ℕ). Steps x p i events draws r o q recs₂ o₂) (v .records) lent in
+      record {
+        low = omega (arith, h);
+        len = e₁ ∙ v .len;
+        records = e₂ ∙ v .records;
+        done = v .done ++ outcome-text i (met room p events draws);
+        so-far = then (k .text) (v .so-far);
+        same = v .same
+            ∙ (ap (λ (x : List ℕ). v .done ++ x) (rest-step room p (q .runner) i n events draws h (k .runner))
+            ∙ sym (append-assoc (v .done) (outcome-text i (met room p events draws)) _));
+      }
+
+  pub running-end : n ≤ i → Puts whole t out r o
+  running-end h = named (sym (v .same ∙ (ap (λ (x : List ℕ). v .done ++ x) (rest-end room p i n events draws h) ∙ append-nil (v .done)))) (v .so-far)
+
+-- ---- the whole
+
+-- what is answered of a text, as far as it went
+pub shown-all : (t : Text) (n : ℕ) → t .full ≡ false → t .at ≡ n → Answers t (Bytes n)
+unfolding fitting
+shown-all t n f e = record {
+  answers = λ w out₀ out k.
+      let l : length w ≤ length out₀ = ltb-false (length out₀) (length w) (sym (k .over) ∙ f) in
+      let m : n ≡ length w = omega (arith, e, k .reached, l) in
+      ap Bytes m ∙ sym (choose-yes _ _ _ (le-leb (length w) (length out₀) l));
+}
+
+pub shown-part : (t : Text) → t .full ≡ true → Answers t TooShort
+unfolding fitting
+shown-part t f = record {
+  answers = λ w out₀ out k.
+      let l : length out₀ < length w = ltb-true (length out₀) (length w) (sym (k .over) ∙ f) in
+      sym (choose-no _ _ _ (lt-leb (length w) (length out₀) l));
+}
+
+bytes-is : (m n : ℕ) → _≡_ {A = Shown} (Bytes m) (Bytes n) → m ≡ n
+bytes-is m n e = cc
+
+-- a text that fits is no longer than the bytes lent
+module _ (w : ℕ) (out o : List ℕ) (r : Shown) (n : ℕ) (e : r ≡ fitting w (length out)) (h : r ≡ Bytes n) (q : length o ≡ length out) where
+  pub shown-within : n ≤ length o
+  unfolding fitting
+  shown-within =
+      let t : Bool = leb w (length out) in
+      split t (λ y. let s : w ≡ n = bytes-is w n (sym (choose-yes t (Bytes w) TooShort y) ∙ (sym e ∙ h)) in omega (arith, s, q, leb-true w (length out) y))
+      (λ f. let s : TooShort ≡ Bytes n = sym (choose-no t (Bytes w) TooShort f) ∙ (sym e ∙ h) in let z : _≡_ {A = ℕ} 0 1 = cc in absurd (omega arith))
+
+  pub shown-counted : n ≡ length (take n o)
+  shown-counted = counted n o shown-within
+
+pub walked : (room : ℕ) (xs : List ℕ) (l : Layout) (b ns : List ℕ) (t r : Text) (out o : List ℕ) → Counts (l .draws) ns → ns ≡ numbers (length ns) 0 (drop (l .«draws_at») b)
+    → Puts (events-text room 0 xs (cut-events (l .events) (take (l .«draws_at» - 56) (drop 56 b))) (take (l .draws) ns)) t out r o → Puts (laid-text room xs l b) t out r o
+unfolding laid-text
+walked room xs l b ns t r out o h e k =
+    named (λ j. events-text room 0 xs (cut-events (l .events) (sym (part-is 56 (l .«draws_at») b) j)) (first-draws b ns l h e j)) k
+
+-- ---- what is decided before the first event
+
+module _ (l : Layout) (m : Made) (own : List ℕ) (e : record { code = m .code; words = m .state .words } ≡ pack-made (new (l .me) (lent false own) (l .config))) where
+  made-is : record { code = m .code; words = m .state .words } ≡ pack-made (new (l .me) none (l .config))
+  made-is = made-bare (l .me) (l .config) _ own e
+
+  pub open-unset : (m .code ≡ 0 → ⊥) → Line 1 ≡ opened-layout l
+  unfolding opened-layout
+  open-unset h = sym (choose-no _ (Events l) (Line 1) (ap (λ (x : packed.Made). eqb (x .code) 0) (sym made-is) ∙ ne-eqb _ _ h))
+
+  pub open-events : m .code ≡ 0 → Events l ≡ opened-layout l
+  unfolding opened-layout
+  open-events h = sym (choose-yes _ (Events l) (Line 1) (ap (λ (x : packed.Made). eqb (x .code) 0) (sym made-is) ∙ eq-eqb _ _ h))
+
+  pub begins-at : _≡_ {A = Runner} (record { state = m .state; at = 0; used = 0 }) (first-place l)
+  unfolding first-place
+  begins-at = λ j. record { state = record { words = made-is j .words }; at = 0; used = 0 }
+
+module _ (b : List ℕ) (x : Input) (e : x ≡ input-of b) where
+  pub open-refused : x ≡ Refused → Line 3 ≡ opened b
+  unfolding opened opened-input
+  open-refused h = ap opened-input (sym h ∙ e)
+
+  pub open-whole : (l : Layout) (r : Opened) → x ≡ Whole l → r ≡ opened-layout l → r ≡ opened b
+  unfolding opened opened-input
+  open-whole l r h k = k ∙ ap opened-input (sym h ∙ e)
+
+layout-text : (l : Layout) (b : List ℕ) → made-text (pack-made (new (l .me) none (l .config))) l b ≡ opened-text (opened-layout l) b
+unfolding made-text opened-layout opened-text first-place
+layout-text l b =
+    let t : Bool = eqb (pack-made (new (l .me) none (l .config)) .code) 0 in
+    split t (λ e. choose-yes t _ _ e ∙ sym (ap (λ (o : Opened). opened-text o b) (choose-yes t (Events l) (Line 1) e)))
+    (λ e. choose-no t _ _ e ∙ sym (ap (λ (o : Opened). opened-text o b) (choose-no t (Events l) (Line 1) e)))
+
+input-opened : (x : Input) (b : List ℕ) → input-text x b ≡ opened-text (opened-input x) b
+unfolding input-text opened-input opened-text
+input-opened Refused b = refl
+input-opened (Whole l) b = layout-text l b
+
+-- the text of a run is what is printed after the decision
+pub text-opened : (b : List ℕ) → run-text b ≡ opened-text (opened b) b
+unfolding run-text opened
+text-opened b = input-opened (input-of b) b
+
+module _ (b : List ℕ) (o : Opened) (e : o ≡ opened b) where
+  text-is : run-text b ≡ opened-text o b
+  text-is = text-opened b ∙ ap (λ (x : Opened). opened-text x b) (sym e)
+
+  pub line-text : (c : ℕ) → o ≡ Line c → run-text b ≡ end-line c 0
+  unfolding opened-text
+  line-text c h = text-is ∙ ap (λ (x : Opened). opened-text x b) h
+
+  pub whole-text : (l : Layout) → o ≡ Events l → run-text b ≡ laid-text 8192 (first-place l .state .words) l b
+  unfolding opened-text
+  whole-text l h = text-is ∙ ap (λ (x : Opened). opened-text x b) h
+
+  pub run-line : (c : ℕ) (t r : Text) (out p : List ℕ) → o ≡ Line c → Puts (end-line c 0) t out r p → Puts (run-text b) t out r p
+  run-line c t r out p h k = named (sym (line-text c h)) k
+
+  pub run-events : (l : Layout) (q : Runner) (t r : Text) (out p : List ℕ) → o ≡ Events l → q ≡ first-place l → Puts (laid-text 8192 (q .state .words) l b) t out r p → Puts (run-text b) t out r p
+  run-events l q t r out p h f k = named (ap (λ (x : Runner). laid-text 8192 (x .state .words) l b) f ∙ sym (whole-text l h)) k
+
+events-is : (x y : Layout) → _≡_ {A = Opened} (Events x) (Events y) → x ≡ y
+events-is x y e = cc
+
+line-not : {C : Type 0} (c : ℕ) (l : Layout) → _≡_ {A = Opened} (Line c) (Events l) → C
+line-not c l e = let z : _≡_ {A = ℕ} 0 1 = cc in absurd (omega arith)
+
+whole-layout : (m l : Layout) → opened-layout m ≡ Events l → m ≡ l
+unfolding opened-layout
+whole-layout m l e =
+    let t : Bool = eqb (pack-made (new (m .me) none (m .config)) .code) 0 in
+    split t (λ y. events-is _ _ (sym (choose-yes t (Events m) (Line 1) y) ∙ e)) (λ n. line-not 1 l (sym (choose-no t (Events m) (Line 1) n) ∙ e))
+
+whole-input : (x : Input) (l : Layout) → opened-input x ≡ Events l → x ≡ Whole l
+unfolding opened-input
+whole-input Refused l e = line-not 3 l e
+whole-input (Whole m) l e = ap Whole (whole-layout m l e)
+
+-- an input with events has them in their places
+pub opened-laid : (b : List ℕ) (o : Opened) (l : Layout) → o ≡ opened b → o ≡ Events l → Laid b l
+unfolding opened
+opened-laid b o l e h = laid b l (whole-input (input-of b) l (sym e ∙ h))
+
+-- ---- the answer
+
+pub run-answer : (b out o : List ℕ) (t₀ t : Text) (r : Shown) → Begins t₀ → Puts (run-text b) t₀ out t o → Answers t r → (r ≡ fitting (length (run-text b)) (length out)) × (o ≡ overwrite out 0 (run-text b))
+run-answer b out o t₀ t r h k a =
+    let s = k .puts [] out (begun t₀ out h) in
+    (a .answers (run-text b) out o s, s .bytes)

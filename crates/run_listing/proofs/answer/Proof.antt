@@ -1,0 +1,14 @@
+use mathlib.Core.Path.{refl}
+use borrow.Author.Needs.{needs}
+use Rattle.run_listing.proofs.Laws.{shown-all, shown-part}
+use Rattle.run_listing.proofs.answer.Statement.{statement}
+use Rattle.run_listing.proofs.answer.Tie as tie
+
+returns : tie.Need-returns
+returns c = search shown-part
+
+returns-2 : tie.Need-returns-2
+returns-2 c = shown-all _ _ (c .if1 .left) refl
+
+pub answer-spec : {M : Type 1} → statement M
+answer-spec = tie.close (tie.spec returns returns-2)

@@ -1,0 +1,43 @@
+-- The events to come are listed after what was written. The measure is how many they are.
+use Prim.Native.Nat.{_-_}
+use lib.ListN.{length}
+use Rattle.run_input.specs.Input.{cut-events}
+use Rattle.run_listing.specs.Run.{events-text}
+use borrow.Author.Needs.{needs}
+use Rattle.run_listing.proofs.Laws.{Running, running-start, running-next, running-end}
+use Rattle.run_listing.proofs.put_events.Statement.{statement}
+use Rattle.run_listing.proofs.put_events.Tie as tie
+
+abbrev Inv-loop : tie.InvT-loop
+Inv-loop n events draws records₀ out₀ p₀ r₀ i₀ records out p r i =
+    Running (length records₀) (events-text (length records₀) 0 (p₀ .state .words) (cut-events n events) draws) events draws n r₀ out₀ records p r out i
+
+abbrev μ-loop : tie.MeasureT-loop
+μ-loop n events draws records₀ out₀ p₀ r₀ i₀ records out p r i = n - i
+
+loop-holds : tie.Need-loop-holds Inv-loop μ-loop
+loop-holds c = search (running-start, needs)
+
+step-requires : tie.Need-step-requires Inv-loop μ-loop
+step-requires c κs = search needs
+
+add-i : tie.Need-add-i Inv-loop μ-loop
+add-i c = search (needs, c .before .before .before .before .before .before .before .before .before .before .before .before .before .good .1)
+
+loop-less : tie.Need-loop-less Inv-loop μ-loop
+loop-less c = search needs
+
+loop-again : tie.Need-loop-again Inv-loop μ-loop
+loop-again c = running-next _ _ _ _ _ _ _ _ _ _ _ _ (c .before .before .before .before .before .before .before .before .before .before .loop .inv) _ _ _ (c .before .before .before .before .before .before .before .before .before .loop-test .taken) (c .before .before .before .before .before .before .step .ensures) (search needs) (search needs)
+
+same-length : tie.Need-same-length Inv-loop μ-loop
+same-length c = search needs
+
+same-length-2 : tie.Need-same-length-2 Inv-loop μ-loop
+same-length-2 c = search needs
+
+returns : tie.Need-returns Inv-loop μ-loop
+returns c = search running-end
+
+pub put-events-spec : {M : Type 1} → statement M
+put-events-spec = tie.close (tie.spec Inv-loop μ-loop loop-holds step-requires add-i loop-less loop-again same-length same-length-2 returns)

@@ -1,0 +1,31 @@
+use borrow.Author.Needs.{needs}
+use Rattle.run_listing.proofs.Laws.{walked}
+use Rattle.run_listing.proofs.put_walk.Statement.{statement}
+use Rattle.run_listing.proofs.put_walk.Tie as tie
+
+sub-put-events : tie.Need-sub-put-events
+sub-put-events c = search needs
+
+part-put-events-start : tie.Need-part-put-events-start
+part-put-events-start c = search needs
+
+part-put-events-end : tie.Need-part-put-events-end
+part-put-events-end c = search needs
+
+slice-aggregate-put-events : tie.Need-slice-aggregate-put-events
+slice-aggregate-put-events c = search needs
+
+put-events-requires : tie.Need-put-events-requires
+put-events-requires c κs = search needs
+
+same-length : tie.Need-same-length
+same-length c = search needs
+
+same-length-2 : tie.Need-same-length-2
+same-length-2 c = search needs
+
+returns : tie.Need-returns
+returns c = walked _ _ _ _ _ _ _ _ _ (c .before .before .before .before .before .before .before .before .before .before .before .before .before .pre .1 .0) (c .before .before .before .before .before .before .before .before .before .before .before .before .before .pre .1 .1) (c .before .before .before .before .put-events .ensures)
+
+pub put-walk-spec : {M : Type 1} → statement M
+put-walk-spec = tie.close (tie.spec sub-put-events part-put-events-start part-put-events-end slice-aggregate-put-events put-events-requires same-length same-length-2 returns)

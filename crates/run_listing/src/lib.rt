@@ -1,0 +1,226 @@
+// What the run program prints (document 01, "The run program"): the text of a run, from the input's bytes into lent bytes.
+use hyparview_words::State;
+use run_input::Input;
+use run_input::Layout;
+use run_walk::Runner;
+use run_text::Text;
+ghost use mathlib.Core.Path.{_≡_};
+ghost use Prim.Native.Nat.{_≤_};
+ghost use lib.ListN.{length, drop};
+ghost use Rattle.io.specs.Counts.{Counts};
+ghost use Rattle.lists.specs.Bytes.{overwrite};
+ghost use Rattle.run_input.specs.Input.{cut-events, numbers};
+ghost use Rattle.run_input.specs.Input.{Laid};
+ghost use Rattle.run_text.specs.Text.{Puts};
+ghost use Rattle.run_text.specs.Lines.{end-line};
+ghost use Rattle.run_listing.specs.Run.{events-text, laid-text, run-text};
+ghost use Rattle.run_listing.specs.Place.{Steps, Fronts, Lines, fitting, Answers};
+ghost use Rattle.run_listing.specs.Opened.{opened, opened-layout, first-place};
+
+// The place after an event, and the text so far.
+struct Stepped {
+    runner: Runner,
+    text: Text,
+}
+
+// How many bytes the line of a record has, and how many the record takes; 0 and 0 where there is none.
+pub struct Lined {
+    pub size: usize,
+    pub taken: usize,
+}
+
+// What is decided of an input before its first event: the code of its one line, or that it has events.
+pub enum Opened {
+    Line(u32),
+    Events(Layout),
+}
+
+// How many bytes the text has, or that it has more than were lent.
+pub enum Shown {
+    Bytes(usize),
+    TooShort,
+}
+
+// The event at the place reached, with the draws left and the output lent, and its lines.
+fn step(
+    p: Runner,
+    i: usize,
+    events: &[u8],
+    draws: &[u32],
+    records: &mut [u8],
+    out: &mut [u8],
+    t: Text,
+) -> Stepped
+    ensures { λ r. ⌜ Steps (length (now (records .entry))) p i (now (events .entry)) (now (draws .entry)) t (now (out .entry)) r (now (records .exit)) (now (out .exit)) ⌝ }
+{
+    let a = run_walk::step(p, events, draws, records);
+    let text = run_text::put_event(out, t, i as u64, a.code, a.draws as u64, records);
+    let next = a.runner;
+    Stepped {
+        runner: next,
+        text: text,
+    }
+}
+
+// The first n events, from the state on.
+fn put_events(
+    s: State,
+    n: usize,
+    events: &[u8],
+    draws: &[u32],
+    records: &mut [u8],
+    out: &mut [u8],
+    t: Text,
+) -> Text
+    ensures { λ r. ⌜ Puts (events-text (length (now (records .entry))) 0 (s .words) (cut-events n (now (events .entry))) (now (draws .entry))) t (now (out .entry)) r (now (out .exit)) ⌝ }
+{
+    let mut p = Runner {
+        state: s,
+        at: 0,
+        used: 0,
+    };
+    let mut r = t;
+    let mut i: usize = 0;
+    while i < n {
+        let q = step(p, i, events, draws, records, out, r);
+        i += 1;
+        p = q.runner;
+        r = q.text;
+    }
+    r
+}
+
+// The events of an input, with the numbers that stand where its draws do.
+fn put_walk(
+    s: State,
+    b: &[u8],
+    l: Layout,
+    drawn: &[u32],
+    records: &mut [u8],
+    out: &mut [u8],
+    t: Text,
+) -> Text
+    requires { ⌜ Laid (now b) l ⌝ }
+    requires { ⌜ Counts (l .draws) (now drawn) ⌝ }
+    requires { ⌜ now drawn ≡ numbers (length (now drawn)) 0 (drop (l .«draws_at») (now b)) ⌝ }
+    ensures { λ r. ⌜ Puts (laid-text (length (now (records .entry))) (s .words) l (now (b .entry))) t (now (out .entry)) r (now (out .exit)) ⌝ }
+{
+    let at = l.draws_at;
+    let n = l.draws;
+    put_events(s, l.events, &b[56..at], &drawn[..n], records, out, t)
+}
+
+// The same, with space for the draws and the output: the longest input has fewer than 16,384 draws.
+fn put_whole(s: State, b: &[u8], l: Layout, out: &mut [u8], t: Text) -> Text
+    requires { ⌜ Laid (now b) l ⌝ }
+    ensures { λ r. ⌜ Puts (laid-text 8192 (s .words) l (now (b .entry))) t (now (out .entry)) r (now (out .exit)) ⌝ }
+{
+    let mut drawn = [0u32; 16384];
+    let mut records = [0u8; 8192];
+    let at = l.draws_at;
+    run_input::read_numbers(&b[at..], &mut drawn);
+    put_walk(s, b, l, &drawn, &mut records, out, t)
+}
+
+// An input that is not refused as a whole: settings out of range have one line only.
+fn open_layout(l: Layout) -> Opened
+    ensures { λ r. ⌜ r ≡ opened-layout l ⌝ }
+{
+    let config = l.config;
+    let m = State::new(l.me, false, b"", config);
+    if m.code != 0 {
+        return Opened::Line(1);
+    }
+    Opened::Events(l)
+}
+
+// Every decision that is taken before the first event.
+pub fn open(b: &[u8]) -> Opened
+    ensures { λ r. ⌜ r ≡ opened (now (b .entry)) ⌝ }
+{
+    let i = run_input::read(b);
+    match i {
+        Input::Refused => Opened::Line(3),
+        Input::Whole(l) => open_layout(l),
+    }
+}
+
+// The line that ends an event, or the one line of an input without events, at the front of the lent bytes.
+pub fn end_line(code: u32, draws: usize, out: &mut [u8]) -> usize
+    requires { ⌜ 44 ≤ length (now out) ⌝ }
+    ensures { λ r. ⌜ Fronts (end-line code draws) (now (out .entry)) r (now (out .exit)) ⌝ }
+{
+    let none = run_text::start();
+    let t = run_text::put_end(out, none, code, draws as u64);
+    t.at
+}
+
+// The line of the first record of an output, at the front of the lent bytes.
+pub fn record_line(i: usize, records: &[u8], out: &mut [u8]) -> Lined
+    requires { ⌜ 168 ≤ length (now out) ⌝ }
+    ensures { λ r. ⌜ Lines i (now (records .entry)) (now (out .entry)) r (now (out .exit)) ⌝ }
+{
+    if records.len() < 24 {
+        return Lined { size: 0, taken: 0 };
+    }
+    let h = record::read_header(records);
+    let n = h.size as usize;
+    if n == 0 {
+        return Lined { size: 0, taken: 0 };
+    }
+    let none = run_text::start();
+    let t = run_text::put_record(out, none, i as u64, h);
+    Lined {
+        size: t.at,
+        taken: n,
+    }
+}
+
+// The place before the first event: the new station.
+pub fn begin(l: Layout) -> Runner
+    ensures { λ r. ⌜ r ≡ first-place l ⌝ }
+{
+    let config = l.config;
+    let m = State::new(l.me, false, b"", config);
+    let s = m.state;
+    Runner {
+        state: s,
+        at: 0,
+        used: 0,
+    }
+}
+
+// All that is printed for an input.
+fn put_run(b: &[u8], out: &mut [u8], t: Text) -> Text
+    ensures { λ r. ⌜ Puts (run-text (now (b .entry))) t (now (out .entry)) r (now (out .exit)) ⌝ }
+{
+    let o = open(b);
+    match o {
+        Opened::Line(code) => run_text::put_end(out, t, code, 0),
+        Opened::Events(l) => {
+            let p = begin(l);
+            let s = p.state;
+            put_whole(s, b, l, out, t)
+        }
+    }
+}
+
+// How much text there is.
+fn answer(t: Text) -> Shown
+    ensures { λ r. ⌜ Answers t r ⌝ }
+{
+    if t.full {
+        return Shown::TooShort;
+    }
+    Shown::Bytes(t.at)
+}
+
+// The text of a run into lent bytes: as much of it as fits, and how long it is, or that it does not fit.
+pub fn run(b: &[u8], out: &mut [u8]) -> Shown
+    ensures { λ r. ⌜ r ≡ fitting (length (run-text (now (b .entry)))) (length (now (out .entry))) ⌝ }
+    ensures { λ _. ⌜ now (out .exit) ≡ overwrite (now (out .entry)) 0 (run-text (now (b .entry))) ⌝ }
+{
+    let none = run_text::start();
+    let t = put_run(b, out, none);
+    answer(t)
+}

@@ -1,0 +1,25 @@
+use borrow.Author.Needs.{needs}
+use Rattle.run_text.proofs.Laws.{end-put}
+use Rattle.run_text.proofs.put_end.Statement.{statement}
+use Rattle.run_text.proofs.put_end.Tie as tie
+
+put-requires : tie.Need-put-requires
+put-requires c κs = search needs
+
+put-requires-2 : tie.Need-put-requires-2
+put-requires-2 c κs = search needs
+
+put-field-requires : tie.Need-put-field-requires
+put-field-requires c κs = search needs
+
+put-field-requires-2 : tie.Need-put-field-requires-2
+put-field-requires-2 c κs = search needs
+
+same-length : tie.Need-same-length
+same-length c = search needs
+
+returns : tie.Need-returns
+returns c = end-put _ _ _ _ _ _ _ _ _ _ _ _ (c .before .before .put-field2 .ensures) (c .before .before .before .before .before .before .put-field .ensures) (c .before .before .before .before .before .before .before .before .before .before .put2 .ensures) (c .before .before .before .before .before .before .before .before .before .before .before .before .before .before .put .ensures)
+
+pub put-end-spec : {M : Type 1} → statement M
+put-end-spec = tie.close (tie.spec put-requires put-requires-2 put-field-requires put-field-requires-2 same-length returns)

@@ -1,0 +1,132 @@
+// Text into lent bytes: as much of it as fits, and whether all of it did; and the lines that the run program prints for one event (document 01, "The run program").
+use record::Header;
+ghost use mathlib.Core.Path.{_≡_};
+ghost use mathlib.Core.List.{[], _∷_, _++_};
+ghost use lib.ListN.{length};
+ghost use Rattle.run_text.specs.Text.{Puts, Begins};
+ghost use Rattle.run_text.specs.Numbers.{decimal, field};
+ghost use Rattle.run_text.specs.Lines.{four, record-line, end-line, heads, record-lines, event-text};
+
+// The place reached, and whether something did not fit: nothing is written after that.
+pub struct Text {
+    pub at: usize,
+    pub full: bool,
+}
+
+// No text yet.
+pub fn start() -> Text
+    ensures { λ r. ⌜ Begins r ⌝ }
+{
+    Text { at: 0, full: false }
+}
+
+// One more byte.
+pub fn put(out: &mut [u8], t: Text, x: u8) -> Text
+    ensures { λ r. ⌜ Puts (x ∷ []) t (now (out .entry)) r (now (out .exit)) ⌝ }
+{
+    let at = t.at;
+    if at < out.len() {
+        out[at] = x;
+        return Text {
+            at: at + 1,
+            full: false,
+        };
+    }
+    Text { at: at, full: true }
+}
+
+// These bytes, in order.
+pub fn put_bytes(out: &mut [u8], t: Text, s: &[u8]) -> Text
+    ensures { λ r. ⌜ Puts (now (s .entry)) t (now (out .entry)) r (now (out .exit)) ⌝ }
+{
+    let mut r = t;
+    let mut i: usize = 0;
+    while i < s.len() {
+        let x = s[i];
+        i += 1;
+        r = put(out, r, x);
+    }
+    r
+}
+
+// A number in decimal digits.
+pub fn put_decimal(out: &mut [u8], t: Text, n: u64) -> Text
+    ensures { λ r. ⌜ Puts (decimal n) t (now (out .entry)) r (now (out .exit)) ⌝ }
+{
+    let mut digits = [0u8; 20];
+    let k = io::decimal(n, &mut digits);
+    put_bytes(out, t, &digits[..k])
+}
+
+// A number and what follows it.
+pub fn put_field(out: &mut [u8], t: Text, n: u64, after: u8) -> Text
+    ensures { λ r. ⌜ Puts (field n after) t (now (out .entry)) r (now (out .exit)) ⌝ }
+{
+    let a = put_decimal(out, t, n);
+    put(out, a, after)
+}
+
+// ---- the lines of an event
+
+// Four numbers with spaces between them, and what follows the last.
+fn put_four(out: &mut [u8], t: Text, a: u64, b: u64, c: u64, d: u64, after: u8) -> Text
+    ensures { λ r. ⌜ Puts (four a b c d after) t (now (out .entry)) r (now (out .exit)) ⌝ }
+{
+    let t1 = put_field(out, t, a, 32);
+    let t2 = put_field(out, t1, b, 32);
+    let t3 = put_field(out, t2, c, 32);
+    put_field(out, t3, d, after)
+}
+
+// The line of one output record.
+pub fn put_record(out: &mut [u8], t: Text, i: u64, h: Header) -> Text
+    ensures { λ r. ⌜ Puts (record-line i h) t (now (out .entry)) r (now (out .exit)) ⌝ }
+{
+    let kind = h.kind as u64;
+    let message = h.message as u64;
+    let peer = h.peer as u64;
+    let second = h.second as u64;
+    let ttl = h.ttl as u64;
+    let nodes = h.nodes as u64;
+    let a = put_four(out, t, i, kind, message, peer, 32);
+    put_four(out, a, second, ttl, h.number, nodes, 10)
+}
+
+// The line that ends an event.
+pub fn put_end(out: &mut [u8], t: Text, code: u32, draws: u64) -> Text
+    ensures { λ r. ⌜ Puts (end-line code draws) t (now (out .entry)) r (now (out .exit)) ⌝ }
+{
+    let a = put(out, t, 61);
+    let b = put(out, a, 32);
+    let c = put_field(out, b, code as u64, 32);
+    put_field(out, c, draws, 10)
+}
+
+// The lines of the records in an output, each taken by its whole length.
+fn put_records(out: &mut [u8], t: Text, i: u64, records: &[u8]) -> Text
+    ensures { λ r. ⌜ Puts (record-lines i (heads (length (now (records .entry))) (now (records .entry)))) t (now (out .entry)) r (now (out .exit)) ⌝ }
+{
+    let mut r = t;
+    let mut rest = records;
+    while 24 <= rest.len() {
+        let h = record::read_header(rest);
+        let n = h.size as usize;
+        if n == 0 {
+            return r;
+        }
+        r = put_record(out, r, i, h);
+        if rest.len() < n {
+            return r;
+        }
+        rest = &rest[n..];
+    }
+    r
+}
+
+// All lines of the i-th event, from its code, the draws used and its output.
+pub fn put_event(out: &mut [u8], t: Text, i: u64, code: u32, draws: u64, records: &[u8]) -> Text
+    ensures { λ r. ⌜ Puts (event-text i code draws (now (records .entry))) t (now (out .entry)) r (now (out .exit)) ⌝ }
+{
+    let a = put_records(out, t, i, records);
+    put_end(out, a, code, draws)
+}

@@ -1,0 +1,58 @@
+// Standard input holds inputs of the run program one after another, each with its length in 4 bytes in front; standard output gets the text of each, ended by an empty line.
+use run_listing::Shown;
+
+// The text of one input; one that does not fit is named, and not cut off.
+fn show(b: &[u8], text: &mut [u8]) {
+    let shown = run_listing::run(b, text);
+    match shown {
+        Shown::Bytes(n) => {
+            io::write_all(1, &text[..n]);
+        }
+        Shown::TooShort => {
+            io::write_all(1, b"! a text that does not fit\n");
+        }
+    }
+    io::write_all(1, b"\n");
+}
+
+// One input, as long as the lent bytes; false where standard input has not so many.
+fn take(bytes: &mut [u8], text: &mut [u8; 262144]) -> bool {
+    let n = io::read_full(0, bytes);
+    if n < bytes.len() {
+        return false;
+    }
+    show(bytes, text);
+    true
+}
+
+// The next input; false where there is none, or one longer than the lent bytes.
+fn next(head: &mut [u8], bytes: &mut [u8], text: &mut [u8; 262144]) -> bool {
+    let n = io::read_full(0, head);
+    if n < head.len() {
+        return false;
+    }
+    let size = run_input::number(head, 0) as usize;
+    if bytes.len() < size {
+        return false;
+    }
+    take(&mut bytes[..size], text)
+}
+
+// More inputs than are ever stored: a program ends.
+const MOST_INPUTS: usize = 1000000;
+
+fn main() {
+    let mut space = [0u8; 4];
+    let head: &mut [u8] = &mut space;
+    let mut buffer = [0u8; 65537];
+    let bytes: &mut [u8] = &mut buffer;
+    let mut text = [0u8; 262144];
+    let mut left = MOST_INPUTS;
+    while left > 0 {
+        if next(head, bytes, &mut text) {
+            left -= 1;
+        } else {
+            return;
+        }
+    }
+}

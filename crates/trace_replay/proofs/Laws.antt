@@ -1,0 +1,133 @@
+-- Laws of how a history ends.
+-- Assumes nothing.
+use Prim.Native.Nat.{ℕ, suc, _-_, _≤_, _<_}
+use mathlib.Core.Path.{_≡_, refl, sym, ap, _∙_}
+use mathlib.Core.Bool.{Bool, false, _&&_}
+use mathlib.Core.List.{List}
+use mathlib.Core.Option.{none}
+use native.Mathlib.Omega.{arith}
+use lib.ListN.{length, take, drop}
+use lib.Dec.{eqb}
+use borrow.Author.Tests.{eq-eqb, ne-eqb}
+use Rattle.io.specs.Counts.{Counts}
+use Rattle.lists.proofs.Choice.{choose-yes, choose-no}
+use Rattle.timing.specs.declared.Config.{Config}
+use Rattle.timing.specs.Timing.{in-range}
+use Rattle.protocol.specs.Rules.{short-data}
+use Rattle.protocol.specs.Handle as P
+use Rattle.rules_words.specs.Pack.{pack}
+use Rattle.queries_words.specs.Made as packed
+use Rattle.queries_words.specs.Made.{lent, pack-made}
+use Rattle.hyparview_words.specs.declared.State.{State}
+use Rattle.hyparview_words.specs.declared.Made.{Made}
+use Rattle.hyparview_words.specs.Handled.{handled}
+use Rattle.run_input.specs.declared.Layout.{Layout}
+use Rattle.run_input.specs.declared.Input.{Input}
+use Rattle.run_input.specs.declared.Input.the-variants.{Refused, Whole}
+use Rattle.run_input.specs.Input.{numbers, event-length, cut-events, input-of}
+use Rattle.run_input.proofs.Laws.{Laid, laid}
+use Rattle.run_walk.specs.declared.Runner.{Runner}
+use Rattle.run_walk.specs.Place.{passed}
+use Rattle.run_walk.proofs.Laws.{next-words, next-left, next-events}
+use Rattle.run_walk.proofs.Draws.{counted, first-draws, part-is}
+use Rattle.run_walk.proofs.Fresh.{made-bare}
+use Rattle.trace_replay.specs.declared.Start.{Start}
+use Rattle.trace_replay.specs.declared.Ended.{Ended}
+use Rattle.trace_replay.specs.Ending.{Counting, room-of, counting, words-after, laid-words, ended, made-end, input-end, ended-of}
+
+-- ---- the room
+
+module _ (start : Start) where
+  pub room-given : start .room ≤ 8192 → start .room ≡ room-of start
+  unfolding room-of
+  room-given h = omega (arith, h)
+
+  pub room-most : 8192 < start .room → 8192 ≡ room-of start
+  unfolding room-of
+  room-most h = omega (arith, h)
+
+-- ---- the events in order
+
+-- the words that the events to come lead to
+pub record Walking (room : ℕ) (last events draws : List ℕ) (p : Runner) (left : ℕ) : Type 0 where
+  pub same : last ≡ words-after room (p .state .words) (cut-events left (drop (p .at) events)) (drop (p .used) draws)
+
+pub walking-start : (room : ℕ) (s : State) (events draws : List ℕ) (n : ℕ)
+    → Walking room (words-after room (s .words) (cut-events n events) draws) events draws (record { state = s; at = 0; used = 0 }) n
+walking-start room s events draws n = record { same = refl }
+
+one-event : (room k : ℕ) (xs l ds : List ℕ) → words-after room xs (cut-events (suc k) l) ds
+    ≡ words-after room (handled xs (take (event-length l) l) ds room .words) (cut-events k (drop (event-length l) l)) (drop (handled xs (take (event-length l) l) ds room .draws) ds)
+unfolding cut-events words-after
+one-event room k xs l ds = refl
+
+module _ (room : ℕ) (last events draws : List ℕ) (p : Runner) (left : ℕ) (v : Walking room last events draws p left) where
+  pub walking-next : (q : Runner) (k : ℕ) → 0 < left → k ≡ room → q ≡ passed k p events draws → Walking room last events draws q (left - 1)
+  walking-next q k h z lent =
+      let c : left ≡ suc (left - 1) = omega (arith, h) in
+      let e : q ≡ passed room p events draws = lent ∙ ap (λ (x : ℕ). passed x p events draws) z in
+      let words = next-words room p events draws q e in
+      let places = next-events room p events draws q e in
+      let rest = next-left room p events draws q e in
+      record {
+        same = v .same
+            ∙ (ap (λ (x : ℕ). words-after room (p .state .words) (cut-events x (drop (p .at) events)) (drop (p .used) draws)) c
+            ∙ (one-event room (left - 1) (p .state .words) (drop (p .at) events) (drop (p .used) draws)
+            ∙ (λ j. words-after room (sym words j) (cut-events (left - 1) (places j)) (sym rest j))));
+      }
+
+  pub walking-end : left ≤ 0 → p .state .words ≡ last
+  unfolding cut-events words-after
+  walking-end h =
+      let z : left ≡ 0 = omega (arith, h) in
+      sym (v .same ∙ ap (λ (x : ℕ). words-after room (p .state .words) (cut-events x (drop (p .at) events)) (drop (p .used) draws)) z)
+
+pub walked : (room : ℕ) (xs ys : List ℕ) (l : Layout) (b ns : List ℕ) → Counts (l .draws) ns → ns ≡ numbers (length ns) 0 (drop (l .«draws_at») b)
+    → ys ≡ words-after room xs (cut-events (l .events) (take (l .«draws_at» - 56) (drop 56 b))) (take (l .draws) ns) → ys ≡ laid-words room xs l b
+unfolding laid-words
+walked room xs ys l b ns h e k = k ∙ (λ j. words-after room xs (cut-events (l .events) (sym (part-is 56 (l .«draws_at») b) j)) (first-draws b ns l h e j))
+
+-- a room that is a part of the output
+pub in-room : (room : ℕ) (xs ys : List ℕ) (l : Layout) (b out : List ℕ) → room ≤ length out → ys ≡ laid-words (length (take room out)) xs l b → ys ≡ laid-words room xs l b
+in-room room xs ys l b out h k = k ∙ ap (λ (x : ℕ). laid-words x xs l b) (sym (counted room out h))
+
+-- ---- the whole
+
+-- `new` with settings that are out of range
+pub unset : (c : Config) (m : Made) (own : List ℕ) → in-range c ≡ false → record { code = m .code; words = m .state .words } ≡ pack-made (P.new 0 (lent false own) c) → m .state .words ≡ pack P.zero-station
+unfolding P.new pack-made
+unset c m own h e = ap (λ (x : packed.Made). x .words) e ∙ ap (λ (x : P.Made). pack (x .state)) (choose-no _ _ _ (ap (λ (t : Bool). t && short-data (lent false own)) h))
+
+module _ (start : Start) (l : Layout) (b : List ℕ) (m : Made) (own : List ℕ) (e : record { code = m .code; words = m .state .words } ≡ pack-made (P.new (l .me) (lent false own) (l .config))) where
+  made-code : m .code ≡ P.new (l .me) none (l .config) .code
+  unfolding pack-made
+  made-code = ap (λ (x : packed.Made). x .code) (made-bare (l .me) (l .config) _ own e)
+
+  made-words : m .state .words ≡ pack (P.new (l .me) none (l .config) .state)
+  unfolding pack-made
+  made-words = ap (λ (x : packed.Made). x .words) (made-bare (l .me) (l .config) _ own e)
+
+  pub whole-refused : (r : Ended) → (m .code ≡ 0 → ⊥) → r ≡ record { code = m .code; state = m .state } → r ≡ made-end start (P.new (l .me) none (l .config)) l b
+  unfolding made-end
+  whole-refused r h k =
+      k ∙ ((λ j. ended (made-code j) (made-words j)) ∙ sym (choose-no _ _ _ (ap (λ (x : ℕ). eqb x 0) (sym made-code) ∙ ne-eqb _ _ h)))
+
+  pub whole-run : (s last : State) (room : ℕ) → m .code ≡ 0 → Counting start (m .state) s → room ≡ room-of start → last .words ≡ laid-words room (s .words) l b
+      → _≡_ {A = Ended} (record { code = 0; state = last }) (made-end start (P.new (l .me) none (l .config)) l b)
+  unfolding made-end
+  whole-run s last room h c q k =
+      let first : s .words ≡ pack (counting start (P.new (l .me) none (l .config) .state)) = c .same _ made-words in
+      ap (ended 0) (k ∙ (λ i. laid-words (q i) (first i) l b))
+      ∙ sym (choose-yes _ _ _ (ap (λ (x : ℕ). eqb x 0) (sym made-code) ∙ eq-eqb _ _ h))
+
+module _ (start : Start) (b : List ℕ) (x : Input) (e : x ≡ input-of b) where
+  pub ends-refused : (r : Ended) (s : State) → x ≡ Refused → s .words ≡ pack P.zero-station → r ≡ record { code = 3; state = s } → r ≡ ended-of start b
+  unfolding ended-of input-end
+  ends-refused r s h z k = k ∙ (ap (ended 3) z ∙ ap (λ (y : Input). input-end start y b) (sym h ∙ e))
+
+  pub ends-whole : (l : Layout) (r : Ended) → x ≡ Whole l → r ≡ made-end start (P.new (l .me) none (l .config)) l b → r ≡ ended-of start b
+  unfolding ended-of input-end
+  ends-whole l r h k = k ∙ ap (λ (y : Input). input-end start y b) (sym h ∙ e)
+
+  pub there : (l : Layout) → x ≡ Whole l → Laid b l
+  there l h = laid b l (sym e ∙ h)

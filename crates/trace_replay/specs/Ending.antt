@@ -1,0 +1,63 @@
+-- Document 01, "The run program": how a history ends, from the room and the counters that it starts with.
+-- Assumes nothing.
+use Prim.Native.Nat.{ℕ, min}
+use mathlib.Core.Path.{_≡_}
+use mathlib.Core.List.{List, [], _∷_}
+use mathlib.Core.Option.{none}
+use lib.ListN.{drop}
+use lib.Seq.{slice}
+use lib.Dec.{eqb}
+use Rattle.lists.specs.Lists.{choose}
+use Rattle.protocol.specs.Station.{Station}
+use Rattle.protocol.specs.Setters.{set-passes-alone, set-passes-short, set-next-request, set-next-join}
+use Rattle.protocol.specs.Handle.{Made, new, zero-station}
+use Rattle.rules_words.specs.Pack.{pack}
+use Rattle.hyparview_words.specs.declared.State.{State}
+use Rattle.hyparview_words.specs.Handled.{handled}
+use Rattle.run_input.specs.declared.Layout.{Layout}
+use Rattle.run_input.specs.declared.Input.{Input}
+use Rattle.run_input.specs.declared.Input.the-variants.{Refused, Whole}
+use Rattle.run_input.specs.Input.{numbers, cut-events, input-of}
+use Rattle.trace_replay.specs.declared.Start.{Start}
+use Rattle.trace_replay.specs.declared.Ended.{Ended}
+
+-- the bytes of output lent to each event: "8,192 output bytes .. always suffice", and no more are there
+unfoldable pub room-of : Start → ℕ
+room-of start = min (start .room) 8192
+
+-- the station g with the counters of a start
+unfoldable pub counting : Start → Station → Station
+counting start g =
+    set-passes-short (start .«passes_short»)
+    (set-passes-alone (start .«passes_alone») (set-next-join (start .«next_join») (set-next-request (start .«next_neighbor_request») g)))
+
+-- the state t counts from a start, and is s otherwise
+pub record Counting (start : Start) (s t : State) : Type 0 where
+  pub same : (g : Station) → s .words ≡ pack g → t .words ≡ pack (counting start g)
+
+-- the words after these events; "Draws go on where the last accepted event stopped."
+unfoldable pub words-after : ℕ → List ℕ → List (List ℕ) → List ℕ → List ℕ
+words-after room xs [] ds = xs
+words-after room xs (b ∷ bs) ds = words-after room (handled xs b ds room .words) bs (drop (handled xs b ds room .draws) ds)
+
+-- the words after the events that stand in b, with its draws
+unfoldable pub laid-words : ℕ → List ℕ → Layout → List ℕ → List ℕ
+laid-words room xs l b = words-after room xs (cut-events (l .events) (slice 56 (l .«draws_at») b)) (numbers (l .draws) 0 (drop (l .«draws_at») b))
+
+-- a code, and the state of these words
+abbrev pub ended : ℕ → List ℕ → Ended
+ended code xs = record { code = code; state = record { words = xs } }
+
+-- "otherwise out-of-range settings": the answer of `new`; else code 0 and the state after the last event
+unfoldable pub made-end : Start → Made → Layout → List ℕ → Ended
+made-end start m l b =
+    choose (eqb (m .code) 0) (ended 0 (laid-words (room-of start) (pack (counting start (m .state))) l b)) (ended (m .code) (pack (m .state)))
+
+-- an input that is refused as a whole: code 3, and "a state of zeroes"; "Own data is absent."
+unfoldable pub input-end : Start → Input → List ℕ → Ended
+input-end start Refused b = ended 3 (pack zero-station)
+input-end start (Whole l) b = made-end start (new (l .me) none (l .config)) l b
+
+-- how the history of the input b ends
+unfoldable pub ended-of : Start → List ℕ → Ended
+ended-of start b = input-end start (input-of b) b

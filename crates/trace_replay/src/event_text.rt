@@ -1,0 +1,260 @@
+// The text of one event, into lent bytes: each output record in hex, the code with the draws used, and the state that the call handed back.
+// No other crate sees these functions. Their contracts say that they are safe; what they write is compared with the Rust's by the programs over this crate.
+use run_text::Text;
+use words::Layout;
+use words::RefillLimit;
+ghost use mathlib.Core.Path.{_≡_};
+ghost use Prim.Native.Nat.{_+_, _≤_};
+ghost use lib.ListN.{length};
+
+// The lower four bits as a digit.
+fn hex_digit(x: u8) -> u8 {
+    let d = x % 16;
+    if d < 10 { 48 + d } else { 87 + d }
+}
+
+fn put_hex(out: &mut [u8], t: Text, s: &[u8]) -> Text {
+    let mut r = t;
+    let mut i: usize = 0;
+    while i < s.len() {
+        let x = s[i];
+        r = run_text::put(out, r, hex_digit(x / 16));
+        r = run_text::put(out, r, hex_digit(x));
+        i += 1;
+    }
+    r
+}
+
+// A comma before every item but the first.
+fn put_comma(out: &mut [u8], t: Text, i: usize) -> Text {
+    if i == 0 {
+        return t;
+    }
+    run_text::put(out, t, b',')
+}
+
+fn least(a: usize, b: usize) -> usize
+    ensures { λ r. ⌜ (r ≤ a) × (r ≤ b) ⌝ }
+{
+    if a < b { a } else { b }
+}
+
+// The items of a set.
+fn put_peers(out: &mut [u8], t: Text, s: &[u64], cap: usize) -> Text
+    requires { ⌜ length (now s) ≡ cap + 1 ⌝ }
+{
+    let n = least(s[cap] as usize, cap);
+    let mut r = t;
+    let mut i: usize = 0;
+    while i < n {
+        r = put_comma(out, r, i);
+        r = run_text::put_decimal(out, r, s[i]);
+        i += 1;
+    }
+    r
+}
+
+// The peers of a map of numbers, each with its number.
+fn put_numbers(out: &mut [u8], t: Text, m: &[u64], cap: usize) -> Text
+    requires { ⌜ length (now m) ≡ cap + cap + 1 ⌝ }
+{
+    let end = cap + cap;
+    let n = least(m[end] as usize, cap);
+    let mut r = t;
+    let mut i: usize = 0;
+    while i < n {
+        r = put_comma(out, r, i);
+        r = run_text::put_decimal(out, r, m[i]);
+        r = run_text::put(out, r, b':');
+        r = run_text::put_decimal(out, r, m[cap + i]);
+        i += 1;
+    }
+    r
+}
+
+// The first n of the bytes in two words.
+fn put_data(out: &mut [u8], t: Text, low: u64, high: u64, n: u64) -> Text {
+    let bytes = columns::bytes_of(low, high);
+    let k = least(n as usize, 16);
+    put_hex(out, t, &bytes[..k])
+}
+
+// The peers of a map of data, each with its bytes.
+fn put_data_map(out: &mut [u8], t: Text, m: &[u64]) -> Text
+    requires { ⌜ length (now m) ≡ 321 ⌝ }
+{
+    let n = least(m[4 * Layout::DATA_CAP] as usize, Layout::DATA_CAP);
+    let mut r = t;
+    let mut i: usize = 0;
+    while i < n {
+        let low = m[2 * Layout::DATA_CAP + i];
+        let high = m[3 * Layout::DATA_CAP + i];
+        r = put_comma(out, r, i);
+        r = run_text::put_decimal(out, r, m[i]);
+        r = run_text::put(out, r, b':');
+        r = put_data(out, r, low, high, m[Layout::DATA_CAP + i]);
+        i += 1;
+    }
+    r
+}
+
+// A field that is a list of peers.
+fn peers_field(out: &mut [u8], t: Text, name: &[u8], s: &[u64], cap: usize) -> Text
+    requires { ⌜ length (now s) ≡ cap + 1 ⌝ }
+{
+    let a = run_text::put_bytes(out, t, name);
+    let b = run_text::put(out, a, b'[');
+    let c = put_peers(out, b, s, cap);
+    run_text::put(out, c, b']')
+}
+
+// A field that is a list of peers with their numbers.
+fn numbers_field(out: &mut [u8], t: Text, name: &[u8], m: &[u64], cap: usize) -> Text
+    requires { ⌜ length (now m) ≡ cap + cap + 1 ⌝ }
+{
+    let a = run_text::put_bytes(out, t, name);
+    let b = run_text::put(out, a, b'[');
+    let c = put_numbers(out, b, m, cap);
+    run_text::put(out, c, b']')
+}
+
+fn number_field(out: &mut [u8], t: Text, name: &[u8], n: u64) -> Text {
+    let a = run_text::put_bytes(out, t, name);
+    run_text::put_decimal(out, a, n)
+}
+
+fn data_field(out: &mut [u8], t: Text, m: &[u64]) -> Text
+    requires { ⌜ length (now m) ≡ 321 ⌝ }
+{
+    let a = run_text::put_bytes(out, t, b" data=[");
+    let b = put_data_map(out, a, m);
+    run_text::put(out, b, b']')
+}
+
+// The station's own data.
+fn own_field(out: &mut [u8], t: Text, st: &[u64]) -> Text
+    requires { ⌜ length (now st) ≡ 551 ⌝ }
+{
+    let a = run_text::put_bytes(out, t, b"state me=");
+    if st[Layout::OWN_PRESENT] == 1 {
+        let b = run_text::put(out, a, b'x');
+        return put_data(
+            out,
+            b,
+            st[Layout::OWN_LOW],
+            st[Layout::OWN_HIGH],
+            st[Layout::OWN_LEN],
+        );
+    }
+    run_text::put(out, a, b'-')
+}
+
+fn refill_field(out: &mut [u8], t: Text, l: RefillLimit) -> Text {
+    let a = run_text::put_bytes(out, t, b" refill=");
+    match l {
+        RefillLimit::Automatic => run_text::put(out, a, b'A'),
+        RefillLimit::Requests(n) => {
+            let b = run_text::put(out, a, b'R');
+            run_text::put_decimal(out, b, n)
+        }
+        RefillLimit::Recovery => run_text::put(out, a, b'V'),
+    }
+}
+
+fn put_views(out: &mut [u8], t: Text, st: &[u64]) -> Text
+    requires { ⌜ length (now st) ≡ 551 ⌝ }
+{
+    let active = &st[Layout::ACTIVE..Layout::ACTIVE_END];
+    let passive = &st[Layout::PASSIVE..Layout::PASSIVE_END];
+    let bootstrap = &st[Layout::BOOTSTRAP..Layout::BOOTSTRAP_END];
+    let recent = &st[Layout::RECENT..Layout::RECENT_END];
+    let a = peers_field(out, t, b" active=", active, Layout::FEW);
+    let b = peers_field(out, a, b" passive=", passive, Layout::ALL);
+    let c = peers_field(out, b, b" bootstrap=", bootstrap, Layout::FEW);
+    peers_field(out, c, b" recent=", recent, Layout::FEW)
+}
+
+fn put_open(out: &mut [u8], t: Text, st: &[u64]) -> Text
+    requires { ⌜ length (now st) ≡ 551 ⌝ }
+{
+    let requests = &st[Layout::REQUESTS..Layout::REQUESTS_END];
+    let joins = &st[Layout::JOINS..Layout::JOINS_END];
+    let a = numbers_field(out, t, b" requests=", requests, Layout::ALL);
+    let b = number_field(out, a, b" next_request=", st[Layout::NEXT_NEIGHBOR_REQUEST]);
+    let c = numbers_field(out, b, b" joins=", joins, Layout::FEW);
+    number_field(out, c, b" next_join=", st[Layout::NEXT_JOIN])
+}
+
+fn put_kept(out: &mut [u8], t: Text, st: &[u64]) -> Text
+    requires { ⌜ length (now st) ≡ 551 ⌝ }
+{
+    let data = &st[Layout::DATA..Layout::DATA_END];
+    let alive = &st[Layout::ALIVE..Layout::ALIVE_END];
+    let refused = &st[Layout::REFUSED..Layout::REFUSED_END];
+    let refill = words::limit_of(st);
+    let a = data_field(out, t, data);
+    let b = peers_field(out, a, b" alive=", alive, Layout::ALL);
+    let c = peers_field(out, b, b" refused=", refused, Layout::ALL);
+    refill_field(out, c, refill)
+}
+
+// The timers, the interval and the pass counts, which end the line.
+fn put_counts(out: &mut [u8], t: Text, st: &[u64]) -> Text
+    requires { ⌜ length (now st) ≡ 551 ⌝ }
+{
+    let a = number_field(out, t, b" timers=", st[Layout::TIMERS_SCHEDULED]);
+    let b = number_field(out, a, b" interval=", st[Layout::NEXT_SHUFFLE_INTERVAL]);
+    let c = number_field(out, b, b" alone=", st[Layout::PASSES_ALONE]);
+    let d = number_field(out, c, b" short=", st[Layout::PASSES_SHORT]);
+    run_text::put(out, d, b'\n')
+}
+
+fn put_state(out: &mut [u8], t: Text, st: &[u64]) -> Text
+    requires { ⌜ length (now st) ≡ 551 ⌝ }
+{
+    let a = own_field(out, t, st);
+    let b = put_views(out, a, st);
+    let c = put_open(out, b, st);
+    let d = put_kept(out, c, st);
+    put_counts(out, d, st)
+}
+
+// A line for each record, to the first place where none is.
+fn put_records(out: &mut [u8], t: Text, records: &[u8]) -> Text {
+    let mut r = t;
+    let mut at: usize = 0;
+    while at < records.len() {
+        let size = run_input::event_length(records, at);
+        if size == 0 {
+            return r;
+        }
+        let end = at + size;
+        r = put_hex(out, r, &records[at..end]);
+        r = run_text::put(out, r, b'\n');
+        at = end;
+    }
+    r
+}
+
+// The line of a code and the draws used.
+pub fn put_answer(out: &mut [u8], t: Text, code: u32, draws: usize) -> Text {
+    let a = number_field(out, t, b"= ", code as u64);
+    let b = number_field(out, a, b" ", draws as u64);
+    run_text::put(out, b, b'\n')
+}
+
+// One event: its output records, its code with the draws used, and the state.
+pub fn put_event(
+    out: &mut [u8],
+    t: Text,
+    records: &[u8],
+    code: u32,
+    draws: usize,
+    st: &[u64],
+) -> Text
+    requires { ⌜ length (now st) ≡ 551 ⌝ }
+{
+    let a = put_records(out, t, records);
+    let b = put_answer(out, a, code, draws);
+    put_state(out, b, st)
+}

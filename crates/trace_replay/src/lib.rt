@@ -1,0 +1,210 @@
+// One history of the run program's input on standard output, in the trace form: every byte of output, and every state.
+mod event_text;
+
+use hyparview_words::State;
+use run_input::Input;
+use run_input::Layout;
+use run_walk::Runner;
+use run_text::Text;
+use timing::Config;
+ghost use mathlib.Core.Path.{_≡_};
+ghost use mathlib.Core.Option.{none};
+ghost use lib.ListN.{length, drop};
+ghost use Prim.Native.Nat.{_≤_};
+ghost use Rattle.io.specs.Counts.{Counts};
+ghost use Rattle.protocol.specs.Handle.{new, zero-station};
+ghost use Rattle.rules_words.specs.Pack.{pack};
+ghost use Rattle.run_input.specs.Input.{numbers, cut-events};
+ghost use Rattle.run_input.specs.Input.{Laid};
+ghost use Rattle.run_walk.specs.Place.{passed};
+ghost use Rattle.trace_replay.specs.Ending.{Counting, room-of, words-after, laid-words, made-end, ended-of};
+
+// How a history ended: code 0 and the state after its last event, or the code that it was refused with as a whole and a state of zeroes.
+pub struct Ended {
+    pub code: u32,
+    pub state: State,
+}
+
+// What a history starts with beside its input: the room for output, and the counters of the new station.
+pub struct Start {
+    pub room: usize,
+    pub next_neighbor_request: u64,
+    pub next_join: u64,
+    pub passes_alone: u32,
+    pub passes_short: u32,
+}
+
+impl Start {
+    // The run program's: 8,192 bytes of room, and a new station's own counters.
+    pub fn usual() -> Start
+        ensures { λ r. ⌜ r ≡ record { room = 8192; «next_neighbor_request» = 0; «next_join» = 0; «passes_alone» = 0; «passes_short» = 0 } ⌝ }
+    {
+        Start {
+            room: 8192,
+            next_neighbor_request: 0,
+            next_join: 0,
+            passes_alone: 0,
+            passes_short: 0,
+        }
+    }
+}
+
+// The new station with these counters.
+fn started(s: State, start: Start) -> State
+    ensures { λ r. ⌜ Counting start s r ⌝ }
+{
+    let mut words = s.words;
+    words[words::Layout::NEXT_NEIGHBOR_REQUEST] = start.next_neighbor_request;
+    words[words::Layout::NEXT_JOIN] = start.next_join;
+    words[words::Layout::PASSES_ALONE] = start.passes_alone as u64;
+    words[words::Layout::PASSES_SHORT] = start.passes_short as u64;
+    State { words: words }
+}
+
+// The room for output, and no more than there is.
+fn room_of(start: Start) -> usize
+    ensures { λ r. ⌜ r ≡ room-of start ⌝ }
+    ensures { λ r. ⌜ r ≤ 8192 ⌝ }
+{
+    if start.room <= 8192 {
+        return start.room;
+    }
+    8192
+}
+
+// The state of an input that has none: what `new` hands back when it refuses.
+fn zeroes() -> State
+    ensures { λ r. ⌜ r .words ≡ pack zero-station ⌝ }
+{
+    let none = Config {
+        active_view_capacity: 0,
+        passive_view_capacity: 0,
+        active_random_walk_length: 0,
+        passive_random_walk_length: 0,
+        shuffle_random_walk_length: 0,
+        shuffle_active_view_count: 0,
+        shuffle_passive_view_count: 0,
+        shuffle_interval: 0,
+        neighbor_request_timeout: 0,
+    };
+    let m = State::new(0, false, b"", none);
+    m.state
+}
+
+// What was written of the text; a text that did not fit is named, and not cut off.
+fn say(text: &[u8], t: Text) {
+    let n = t.at;
+    if n <= text.len() {
+        if !t.full {
+            io::write_all(1, &text[..n]);
+            return;
+        }
+    }
+    io::write_all(1, b"! a text that does not fit\n");
+}
+
+// A history that is refused as a whole.
+fn refused(code: u32, s: State) -> Ended
+    ensures { λ r. ⌜ r ≡ record { code = code; state = s } ⌝ }
+{
+    let mut space = [0u8; 64];
+    let text: &mut [u8] = &mut space;
+    let none = run_text::start();
+    let t = event_text::put_answer(text, none, code, 0);
+    say(text, t);
+    Ended {
+        code: code,
+        state: s,
+    }
+}
+
+// The event at the place reached, and its text.
+fn step(p: Runner, b: &[u8], draws: &[u32], out: &mut [u8], text: &mut [u8]) -> Runner
+    ensures { λ r. ⌜ r ≡ passed (length (now (out .entry))) p (now (b .entry)) (now (draws .entry)) ⌝ }
+{
+    let a = run_walk::step(p, b, draws, out);
+    let q = a.runner;
+    let s = q.state;
+    let words = s.words;
+    let none = run_text::start();
+    let t = event_text::put_event(text, none, out, a.code, a.draws, &words);
+    say(text, t);
+    q
+}
+
+// The events in order, and the state after them.
+fn events(s: State, b: &[u8], n: usize, draws: &[u32], out: &mut [u8], text: &mut [u8]) -> State
+    ensures { λ r. ⌜ r .words ≡ words-after (length (now (out .entry))) (s .words) (cut-events n (now (b .entry))) (now (draws .entry)) ⌝ }
+{
+    let mut p = Runner {
+        state: s,
+        at: 0,
+        used: 0,
+    };
+    let mut left = n;
+    while left > 0 {
+        p = step(p, b, draws, out, text);
+        left -= 1;
+    }
+    p.state
+}
+
+// The events of an input, with the numbers that stand where its draws do.
+fn walk(s: State, b: &[u8], l: Layout, drawn: &[u32], out: &mut [u8], text: &mut [u8]) -> State
+    requires { ⌜ Laid (now b) l ⌝ }
+    requires { ⌜ Counts (l .draws) (now drawn) ⌝ }
+    requires { ⌜ now drawn ≡ numbers (length (now drawn)) 0 (drop (l .«draws_at») (now b)) ⌝ }
+    ensures { λ r. ⌜ r .words ≡ laid-words (length (now (out .entry))) (s .words) l (now (b .entry)) ⌝ }
+{
+    let at = l.draws_at;
+    let n = l.draws;
+    events(s, &b[56..at], l.events, &drawn[..n], out, text)
+}
+
+// The same, with the space: the longest input has fewer than 16,384 draws, and the longest text is under 32,768 bytes.
+fn with_space(s: State, b: &[u8], l: Layout, room: usize) -> State
+    requires { ⌜ Laid (now b) l ⌝ }
+    requires { ⌜ room ≤ 8192 ⌝ }
+    ensures { λ r. ⌜ r .words ≡ laid-words room (s .words) l (now (b .entry)) ⌝ }
+{
+    let mut drawn = [0u32; 16384];
+    let mut out = [0u8; 8192];
+    let mut text = [0u8; 32768];
+    let at = l.draws_at;
+    run_input::read_numbers(&b[at..], &mut drawn);
+    walk(s, b, l, &drawn, &mut out[..room], &mut text)
+}
+
+// An input that is not refused: the answer of `new`, or its events.
+fn whole(b: &[u8], l: Layout, start: Start) -> Ended
+    requires { ⌜ Laid (now b) l ⌝ }
+    ensures { λ r. ⌜ r ≡ made-end start (new (l .me) none (l .config)) l (now (b .entry)) ⌝ }
+{
+    let config = l.config;
+    let m = State::new(l.me, false, b"", config);
+    let fresh = m.state;
+    if m.code != 0 {
+        return refused(m.code, fresh);
+    }
+    let s = started(fresh, start);
+    let room = room_of(start);
+    let last = with_space(s, b, l, room);
+    Ended {
+        code: 0,
+        state: last,
+    }
+}
+
+// A whole history on standard output, and how it ended.
+pub fn history(b: &[u8], start: Start) -> Ended
+    ensures { λ r. ⌜ r ≡ ended-of start (now (b .entry)) ⌝ }
+{
+    let i = run_input::read(b);
+    match i {
+        Input::Refused => {
+            let none = zeroes();
+            refused(3, none)
+        }
+        Input::Whole(l) => whole(b, l, start),
+    }
+}
