@@ -3,21 +3,21 @@
 use mathlib.Core.Path.{_≡_, refl, sym, ap, _∙_}
 use mathlib.Core.Bool.{Bool, true, false}
 use mathlib.Core.List.{List, [], _∷_, _++_, append-assoc, append-nil, reverseAux}
-use Prim.Native.Nat.{ℕ, zero, suc, _+_, _*_, _≤_, _<_}
+use Prim.Native.Nat.{ℕ, _+_, _≤_, _<_}
 use native.Mathlib.Omega.{arith}
-use lib.ListN.{length, getD, drop, replicate, length-append}
-use lib.Seq.{drop-at}
-use lib.Dec.{ltb, eqb}
-use borrow.Author.Tests.{eqb-true, le-ltb, eq-eqb, ne-eqb}
+use lib.ListN.{replicate}
+use lib.Dec.{eqb}
+use borrow.Author.Tests.{eqb-true, ne-eqb}
 use Rattle.lists.specs.Lists.{choose, without, push-new}
 use Rattle.lists.specs.Bytes.{le, read-le}
-use Rattle.lists.proofs.Choice.{split, choose-yes, choose-no}
-use Rattle.record.specs.Format.{Rec, header-length, size, header, encode}
-use Rattle.record.proofs.Format.{length-encode}
+use Rattle.lists.proofs.Choice.{split, choose-no}
+use Rattle.record.specs.Format.{Rec, header, encode}
+use Rattle.record.specs.Walk.{kind-in, peer-in, records-in, walk}
+use Rattle.record.proofs.Walk.{records-written, records-zeros}
 use Rattle.protocol.specs.Station.{peers-end}
 use Rattle.protocol.specs.Written.{encode-all}
 use Rattle.protocol.proofs.Told.{spell, note, up-after, sent-after, Sound, AllSound, no-more, one-more}
-use Rattle.history.specs.Ledger.{Ledger, kind-in, peer-in, whole-length, count-message, note-up, note-down, enter, read-records}
+use Rattle.history.specs.Ledger.{Ledger, count-message, note-up, note-down, enter, read-records}
 
 -- the ledger after the records of a run, of which the newest stands first
 unfoldable pub booked : List Rec → Ledger → Ledger
@@ -56,10 +56,6 @@ enter-same k p q l h =
 
 -- one record in front of other bytes
 module _ (e : Rec) (rest : List ℕ) (s : Sound e) where
-  pub whole-is : whole-length (encode e ++ rest) ≡ size e
-  unfolding whole-length encode header le read-le
-  whole-is = omega (arith, s .small)
-
   peer-is : e .peer < peers-end → peer-in (encode e ++ rest) ≡ e .peer
   unfolding peer-in encode header le read-le
   peer-is n = omega (arith, n)
@@ -71,55 +67,25 @@ module _ (e : Rec) (rest : List ℕ) (s : Sound e) where
   entered : (l : Ledger) → enter (kind-in (encode e ++ rest)) (peer-in (encode e ++ rest)) l ≡ enter (e .kind) (e .peer) l
   entered l = rw kind-is (enter-same (e .kind) (peer-in (encode e ++ rest)) (e .peer) l (λ a b. peer-is (s .narrow a b)))
 
-pub size-some : (e : Rec) → 24 ≤ size e
-unfolding size
-size-some e = omega arith
-
-pub zero-at : (n i : ℕ) → _≡_ {A = ℕ} (getD (replicate n 0) i 0) 0
-zero-at zero i = refl
-zero-at (suc n) zero = refl
-zero-at (suc n) (suc i) = zero-at n i
-
--- every walk over an output by whole lengths goes on at a record, and stops at zeroes
-pub goes-on : {A : Type 0} (e : Rec) (rest : List ℕ) → Sound e → (x y : A)
-    → choose (ltb (length (encode e ++ rest)) header-length) x (choose (eqb (whole-length (encode e ++ rest)) 0) x y) ≡ y
-goes-on e rest s x y =
-    let b : List ℕ = encode e ++ rest in
-    choose-no (ltb (length b) 24) _ _ (le-ltb (length b) 24 (omega (arith, length-append (encode e) rest, length-encode e, size-some e)))
-    ∙ choose-no (eqb (whole-length b) 0) _ _ (ne-eqb (whole-length b) 0 (λ w. omega (arith, whole-is e rest s, size-some e)))
-
-pub stops : {A : Type 0} (zeros : ℕ) (x y : A) → choose (ltb (length {A = ℕ} (replicate zeros 0)) header-length) x (choose (eqb (whole-length (replicate zeros 0)) 0) x y) ≡ x
-unfolding whole-length read-le
-stops zeros x y =
-    let b : List ℕ = replicate zeros 0 in
-    split (ltb (length b) 24)
-    (λ t. choose-yes (ltb (length b) 24) _ _ t)
-    (λ t. choose-no (ltb (length b) 24) _ _ t ∙ choose-yes (eqb (getD b 14 0 + 256 * (getD b 15 0 + 256 * 0)) 0) _ _ (eq-eqb (getD b 14 0 + 256 * (getD b 15 0 + 256 * 0)) 0 (omega (arith, zero-at zeros 14, zero-at zeros 15))))
-
--- what stands after the record
-pub after-one : (e : Rec) (rest : List ℕ) → Sound e → drop (whole-length (encode e ++ rest)) (encode e ++ rest) ≡ rest
-after-one e rest s = rw (whole-is e rest s, drop-at (encode e) rest (size e) (length-encode e))
-
-one-read : (e : Rec) (rest : List ℕ) (n : ℕ) (l : Ledger) → Sound e → read-records (suc n) (encode e ++ rest) l ≡ read-records n rest (enter (e .kind) (e .peer) l)
+-- by an output's records
+by-records : (out : List ℕ) (bs : List (List ℕ)) (l : Ledger) → records-in out ≡ bs → read-records out l ≡ walk (λ b. enter (kind-in b) (peer-in b)) bs l
 unfolding read-records
-one-read e rest n l s = goes-on e rest s l _ ∙ rw (after-one e rest s, entered e rest s l)
+by-records out bs l e = ap (λ (x : List (List ℕ)). walk (λ b. enter (kind-in b) (peer-in b)) x l) e
 
-none-read : (zeros n : ℕ) (l : Ledger) → read-records n (replicate zeros 0) l ≡ l
-unfolding read-records
-none-read zeros zero l = refl
-none-read zeros (suc n) l = stops zeros l _
+one-read : (e : Rec) (rest : List ℕ) (l : Ledger) → Sound e → read-records (encode e ++ rest) l ≡ read-records rest (enter (e .kind) (e .peer) l)
+unfolding read-records walk
+one-read e rest l s = by-records (encode e ++ rest) _ l (records-written e rest (s .small)) ∙ ap (read-records rest) (entered e rest s l)
 
 -- the ledger after records, the oldest first
 unfoldable enter-all : List Rec → Ledger → Ledger
 enter-all [] l = l
 enter-all (e ∷ es) l = enter-all es (enter (e .kind) (e .peer) l)
 
-all-read : (es : List Rec) (zeros n : ℕ) (l : Ledger) → AllSound es → length es ≤ n → read-records n (encode-all es ++ replicate zeros 0) l ≡ enter-all es l
-unfolding encode-all enter-all
-all-read [] zeros n l no-more f = none-read zeros n l
-all-read (e ∷ es) zeros zero l (one-more s h) f = absurd (omega arith)
-all-read (e ∷ es) zeros (suc n) l (one-more s h) f =
-    rw (append-assoc (encode e) (encode-all es) (replicate zeros 0)) (one-read e (encode-all es ++ replicate zeros 0) n l s ∙ all-read es zeros n _ h (omega arith))
+all-read : (es : List Rec) (zeros : ℕ) (l : Ledger) → AllSound es → read-records (encode-all es ++ replicate zeros 0) l ≡ enter-all es l
+unfolding encode-all enter-all walk
+all-read [] zeros l no-more = by-records (replicate zeros 0) [] l (records-zeros zeros)
+all-read (e ∷ es) zeros l (one-more s h) =
+    rw (append-assoc (encode e) (encode-all es) (replicate zeros 0)) (one-read e (encode-all es ++ replicate zeros 0) l s ∙ all-read es zeros _ h)
 
 -- and with the newest first
 turned : (o acc : List Rec) (l : Ledger) → enter-all (reverseAux o acc) l ≡ enter-all acc (booked o l)
@@ -136,15 +102,10 @@ sound-back : (o acc : List Rec) → AllSound o → AllSound acc → AllSound (re
 sound-back [] acc no-more b = b
 sound-back (e ∷ es) acc (one-more s h) b = sound-back es (e ∷ acc) h (one-more s b)
 
-pub length-encode-all : (es : List Rec) → length es ≤ length (encode-all es)
-unfolding encode-all
-length-encode-all [] = omega arith
-length-encode-all (e ∷ es) = omega (arith, length-encode-all es, length-append (encode e) (encode-all es), length-encode e, size-some e)
-
 -- what the ledger makes of an output as the call left it
-pub heard : (o : List Rec) (out : List ℕ) (zeros : ℕ) (l : Ledger) → AllSound o → out ≡ spell o → read-records (length (out ++ replicate zeros 0)) (out ++ replicate zeros 0) l ≡ booked o l
+pub heard : (o : List Rec) (out : List ℕ) (zeros : ℕ) (l : Ledger) → AllSound o → out ≡ spell o → read-records (out ++ replicate zeros 0) l ≡ booked o l
 unfolding enter-all encode-all
 heard o out zeros l h e =
     let es = reverseAux o [] in
     let back : out ≡ encode-all es = e ∙ (sym (append-nil (spell o)) ∙ spelled-back o []) in
-    rw back (all-read es zeros _ l (sound-back o [] h no-more) (omega (arith, length-encode-all es, length-append (encode-all es) (replicate zeros 0))) ∙ turned o [] l)
+    rw back (all-read es zeros l (sound-back o [] h no-more) ∙ turned o [] l)

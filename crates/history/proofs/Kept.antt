@@ -19,6 +19,7 @@ use Rattle.peer.specs.Data.{Data}
 use Rattle.record.specs.Format.{Rec}
 use Rattle.record.specs.InForm.{InForm}
 use Rattle.record.specs.Read.{Reading, read-event, rec-of, header-of}
+use Rattle.record.specs.Walk.{kind-in, message-in}
 use Rattle.protocol.specs.Station.{Station}
 use Rattle.protocol.specs.Rules.{station-ok, short-data}
 use Rattle.protocol.specs.Handle.{Answer, Made, new, new-station, start, steps, refusal, accepted, finish, handle-reading, handle}
@@ -32,7 +33,7 @@ use Rattle.protocol.proofs.Whole.{Pays, Covered, covered-steps, Between, at-sta
 use Rattle.protocol.proofs.Tested.{ranges-of, data-true, own-held, distinct-yes, rules-of}
 use Rattle.protocol.proofs.Written.{formed-event}
 use Rattle.protocol.proofs.Uncrowded.{never-eight}
-use Rattle.history.specs.Ledger.{Ledger, empty-ledger, kind-in, message-in, message-number, number-of, open-event, feed}
+use Rattle.history.specs.Ledger.{Ledger, empty-ledger, message-number, number-of, open-event, feed}
 use Rattle.history.specs.Calls.{Call, Given, answer, answered, state-after, codes, ledger-after, definition}
 use Rattle.history.specs.Demand.{Views, Booked, Demand3, Demand3-holds}
 use Rattle.history.specs.Refusals.{Never-eight}

@@ -4,9 +4,9 @@ use mathlib.Core.Path.{_≡_, refl, sym, ap, subst, _∙_}
 use mathlib.Core.Bool.{true, _&&_}
 use mathlib.Core.List.{List, [], _∷_, _++_, append-assoc, map}
 use mathlib.Core.Option.{some}
-use Prim.Native.Nat.{ℕ, zero, suc, _≤_}
+use Prim.Native.Nat.{ℕ, _≤_, _<_}
 use native.Mathlib.Omega.{arith}
-use lib.ListN.{length, replicate, length-append}
+use lib.ListN.{length, take, replicate}
 use lib.Seq.{take-at}
 use Rattle.lists.specs.Tests.{All}
 use Rattle.lists.proofs.Choice.{choose-yes, and-left, and-right}
@@ -15,36 +15,37 @@ use Rattle.timing.specs.declared.Config.{Config}
 use Rattle.record.specs.Format.{Rec, size, encode}
 use Rattle.record.specs.Read.{decode}
 use Rattle.record.specs.InForm.{InForm}
+use Rattle.record.specs.Walk.{whole-length}
 use Rattle.record.proofs.Format.{length-encode}
 use Rattle.record.proofs.Forth.{size-most}
+use Rattle.record.proofs.Walk.{whole-is, records-written, records-zeros}
 use Rattle.record.proofs.RoundTrip.{written-reads-back}
 use Rattle.protocol.specs.Station.{Station, draws-end}
 use Rattle.protocol.specs.Rules.{all-under, short-data}
 use Rattle.protocol.specs.Handle.{Made, new, new-station}
 use Rattle.protocol.specs.Written.{encode-all, Written}
-use Rattle.protocol.proofs.Told.{Sound}
 use Rattle.protocol.proofs.Tested.{rules-of}
 use Rattle.protocol.proofs.Written.{writes-records}
 use Rattle.history.specs.Ledger.{Ledger}
 use Rattle.history.specs.Calls.{Call, narrow-draws, answered, definition}
 use Rattle.history.specs.Outputs.{cut-records, ReadsBack, OutputsRead, Outputs-read-back}
-use Rattle.history.proofs.Heard.{whole-is, goes-on, stops, after-one, length-encode-all}
 use Rattle.history.proofs.Kept.{Kept, fine-answer, kept-new, accepted-new}
 
--- the bytes of a record in form say what it is
-pub form-sound : (e : Rec) → InForm e → Sound e
-form-sound e f = record { small = let m : size e ≤ 792 = size-most e f in omega arith; narrow = λ a b. f .peer }
+abbrev cut : List (List ℕ) → List (List ℕ)
+cut bs = map (λ b. take (whole-length b) b) bs
 
-cut-all : (es : List Rec) (zeros n : ℕ) → All InForm es → length es ≤ n → cut-records n (encode-all es ++ replicate zeros 0) ≡ map encode es
+-- a record in form is shorter than a whole length can say
+pub form-small : (e : Rec) → InForm e → size e < 65536
+form-small e f = let m : size e ≤ 792 = size-most e f in omega arith
+
+cut-all : (es : List Rec) (zeros : ℕ) → All InForm es → cut-records (encode-all es ++ replicate zeros 0) ≡ map encode es
 unfolding cut-records encode-all All
-cut-all [] zeros zero a h = refl
-cut-all [] zeros (suc n) a h = stops zeros [] _
-cut-all (e ∷ es) zeros zero a h = absurd (omega arith)
-cut-all (e ∷ es) zeros (suc n) a h =
-    let s = form-sound e (a .0) in
+cut-all [] zeros a = ap cut (records-zeros zeros)
+cut-all (e ∷ es) zeros a =
+    let s = form-small e (a .0) in
     let rest : List ℕ = encode-all es ++ replicate zeros 0 in
     rw (append-assoc (encode e) (encode-all es) (replicate zeros 0))
-    (goes-on e rest s [] _ ∙ rw (after-one e rest s, whole-is e rest s, take-at (encode e) rest (size e) (length-encode e), cut-all es zeros n (a .1) (omega arith)))
+    (ap cut (records-written e rest s) ∙ rw (whole-is e rest s, take-at (encode e) rest (size e) (length-encode e)) (ap (λ (bs : List (List ℕ)). encode e ∷ bs) (cut-all es zeros (a .1))))
 
 decode-all : (es : List Rec) → All InForm es → map decode (map encode es) ≡ map some es
 unfolding All
@@ -55,10 +56,8 @@ decode-all (e ∷ es) a = λ i. written-reads-back e (a .0) i ∷ decode-all es 
 pub reads : (out : List ℕ) → Written out → ReadsBack out
 reads out w =
     let es = w .records in
-    let b : List ℕ = encode-all es ++ replicate (w .zeros) 0 in
-    let parts : cut-records (length out) out ≡ map encode es =
-    subst (λ (x : List ℕ). cut-records (length x) x ≡ map encode es) (sym (w .bytes))
-    (cut-all es (w .zeros) (length b) (w .in-form) (omega (arith, length-encode-all es, length-append (encode-all es) (replicate (w .zeros) 0)))) in
+    let parts : cut-records out ≡ map encode es =
+    subst (λ (x : List ℕ). cut-records x ≡ map encode es) (sym (w .bytes)) (cut-all es (w .zeros) (w .in-form)) in
     record { written = w; parts = parts; read = ap (map decode) parts ∙ decode-all es (w .in-form) }
 
 module _ {c : Config} {me : ℕ} (ranges : in-range c ≡ true) where

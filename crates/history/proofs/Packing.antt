@@ -10,12 +10,13 @@ use Rattle.lists.proofs.Choice.{choose-yes, and-left, and-right}
 use Rattle.timing.specs.Timing.{in-range}
 use Rattle.timing.specs.declared.Config.{Config}
 use Rattle.peer.specs.Data.{Data}
+use Rattle.record.specs.Walk.{kind-in}
 use Rattle.protocol.specs.Station.{Station}
 use Rattle.protocol.specs.Rules.{station-ok, short-data}
 use Rattle.protocol.specs.Handle.{Made, new, new-station}
 use Rattle.protocol.proofs.Extra.{mem-no}
 use Rattle.protocol.proofs.Tested.{rules-of}
-use Rattle.history.specs.Ledger.{Ledger, empty-ledger, kind-in, feed}
+use Rattle.history.specs.Ledger.{Ledger, empty-ledger, feed}
 use Rattle.history.specs.Calls.{Call, Given, narrow-draws, Machine, state-of, answer, state-after, codes, ledger-after, definition}
 use Rattle.history.specs.Demand.{Views, Booked, Demand3}
 use Rattle.history.specs.Outputs.{ReadsBack, OutputsRead}

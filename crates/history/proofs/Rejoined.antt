@@ -12,6 +12,7 @@ use Rattle.lists.proofs.Choice.{by-choice, choose-yes, choose-no, and-left, and
 use Rattle.timing.specs.Timing.{backoff-due, in-range}
 use Rattle.timing.specs.declared.Config.{Config}
 use Rattle.record.specs.Read.{Reading, read-event, rec-of, header-of}
+use Rattle.record.specs.Walk.{kind-in}
 use Rattle.protocol.specs.Station.{Station}
 use Rattle.protocol.specs.Timers.{knows-none}
 use Rattle.protocol.specs.Rules.{station-ok, short-data}
@@ -19,7 +20,7 @@ use Rattle.protocol.specs.Handle.{Answer, Made, new, new-station, start, steps,
 use Rattle.protocol.proofs.Reading.{Readable, by-reading}
 use Rattle.protocol.proofs.Whole.{ok-steps}
 use Rattle.protocol.proofs.Tested.{rules-of}
-use Rattle.history.specs.Ledger.{Ledger, kind-in, number-of}
+use Rattle.history.specs.Ledger.{Ledger, number-of}
 use Rattle.history.specs.Calls.{Call, answer, answered, definition}
 use Rattle.history.specs.Rejoin.{Tick, is-tick, ticks, all-alone, joins-to, Rejoins, Some, here, later, Rejoin-promise}
 use Rattle.history.proofs.Kept.{Kept, pays, fine-answer, kept-new, accepted-new}

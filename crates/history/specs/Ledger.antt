@@ -1,12 +1,10 @@
 -- Document 01, "A station's whole history": the ledger, a plain book that is fed with each event, its code and its output, and with no state.
 -- Assumes nothing.
-use Prim.Native.Nat.{ℕ, zero, suc, _+_}
+use Prim.Native.Nat.{ℕ, _+_}
 use mathlib.Core.List.{List, []}
-use lib.ListN.{length, getD, drop}
-use lib.Dec.{ltb, eqb}
+use lib.Dec.{eqb}
 use Rattle.lists.specs.Lists.{choose, without, push-new}
-use Rattle.lists.specs.Bytes.{read-le}
-use Rattle.record.specs.Format.{header-length, peer-length}
+use Rattle.record.specs.Walk.{kind-in, message-in, peer-in, records-in, walk}
 
 -- "It keeps a set of peers, the messages sent so far and an allowance"; "its numbers have no top"
 pub record Ledger : Type 0 where
@@ -17,19 +15,6 @@ pub record Ledger : Type 0 where
 -- "at first empty, 0 and 0"
 unfoldable pub empty-ledger : Ledger
 empty-ledger = record { up = []; sent = 0; allowance = 0 }
-
--- what the book reads of an event or of an output record: kind, message, peer and whole length
-unfoldable pub kind-in : List ℕ → ℕ
-kind-in b = getD b 0 0
-
-unfoldable pub message-in : List ℕ → ℕ
-message-in b = getD b 1 0
-
-unfoldable pub peer-in : List ℕ → ℕ
-peer-in b = read-le peer-length b 4
-
-unfoldable pub whole-length : List ℕ → ℕ
-whole-length b = read-le 2 b 14
 
 -- "A message adds 1 to the messages."
 unfoldable pub count-message : Ledger → Ledger
@@ -47,13 +32,9 @@ note-down p l = record { up = without p (l .up); sent = l .sent; allowance = l .
 unfoldable pub enter : ℕ → ℕ → Ledger → Ledger
 enter k p l = choose (eqb k 0) (count-message l) (choose (eqb k 9) (note-up p l) (choose (eqb k 10) (note-down p l) l))
 
--- "Then the output's records are taken in order, each by its whole length, until that is 0 or no header fits."
--- Each takes a byte or more, so that n, the output's length, is never used up before.
-unfoldable pub read-records : ℕ → List ℕ → Ledger → Ledger
-read-records zero b l = l
-read-records (suc n) b l =
-    choose (ltb (length b) header-length) l
-    (choose (eqb (whole-length b) 0) l (read-records n (drop (whole-length b) b) (enter (kind-in b) (peer-in b) l)))
+-- "Then the output's records are taken in order"
+unfoldable pub read-records : List ℕ → Ledger → Ledger
+read-records out l = walk (λ b. enter (kind-in b) (peer-in b)) (records-in out) l
 
 -- "(A + 2) for a Join received, 3 for a Neighbor received, .. 1 for any other" message
 unfoldable pub message-number : ℕ → ℕ → ℕ
@@ -72,4 +53,4 @@ open-event a b l =
 
 -- one event b with its code and its output: "A nonzero code changes nothing."
 unfoldable pub feed : ℕ → List ℕ → ℕ → List ℕ → Ledger → Ledger
-feed a b code out l = choose (eqb code 0) (read-records (length out) out (open-event a b l)) l
+feed a b code out l = choose (eqb code 0) (read-records out (open-event a b l)) l

@@ -1,34 +1,29 @@
 -- What is claimed of the output of every accepted call: it is records, and each of them is read back.
 -- Assumes nothing.
-use Prim.Native.Nat.{ℕ, zero, suc}
+use Prim.Native.Nat.{ℕ}
 use mathlib.Core.Bool.{true}
 use mathlib.Core.List.{List, [], _∷_, map}
 use mathlib.Core.Option.{some}
 use mathlib.Core.Path.{_≡_}
-use lib.ListN.{length, take, drop}
-use lib.Dec.{ltb, eqb}
-use Rattle.lists.specs.Lists.{choose}
+use lib.ListN.{take}
 use Rattle.timing.specs.declared.Config.{Config}
 use Rattle.peer.specs.Data.{Data}
-use Rattle.record.specs.Format.{header-length, encode}
+use Rattle.record.specs.Format.{encode}
 use Rattle.record.specs.Read.{decode}
+use Rattle.record.specs.Walk.{whole-length, records-in}
 use Rattle.protocol.specs.Handle.{new}
 use Rattle.protocol.specs.Written.{Written}
-use Rattle.history.specs.Ledger.{whole-length}
 use Rattle.history.specs.Calls.{Call, Given, narrow-draws, Machine, code-of, state-of, output-of, definition}
 
--- the parts of an output, "each by its whole length, until that is 0 or no header fits", as the ledger takes them (`read-records`)
-unfoldable pub cut-records : ℕ → List ℕ → List (List ℕ)
-cut-records zero b = []
-cut-records (suc n) b =
-    choose (ltb (length b) header-length) []
-    (choose (eqb (whole-length b) 0) [] (take (whole-length b) b ∷ cut-records n (drop (whole-length b) b)))
+-- the records of an output, each without the bytes behind it
+unfoldable pub cut-records : List ℕ → List (List ℕ)
+cut-records out = map (λ b. take (whole-length b) b) (records-in out)
 
 -- records in form and zeroes; cut by whole lengths, the output is these records and no others; and the reader reads each of them back
 pub record ReadsBack (out : List ℕ) : Type 0 where
   pub written : Written out
-  pub parts : cut-records (length out) out ≡ map encode (written .records)
-  pub read : map decode (cut-records (length out) out) ≡ map some (written .records)
+  pub parts : cut-records out ≡ map encode (written .records)
+  pub read : map decode (cut-records out) ≡ map some (written .records)
 
 -- of every accepted one of the calls to a machine
 unfoldable pub OutputsRead : {S : Type 0} → Machine S → List Call → S → Type 0

@@ -10,11 +10,11 @@ use Rattle.lists.specs.Lists.{choose}
 use Rattle.timing.specs.declared.Config.{Config}
 use Rattle.peer.specs.Data.{Data}
 use Rattle.record.specs.Format.{encode}
+use Rattle.record.specs.Walk.{kind-in}
 use Rattle.protocol.specs.Station.{Station}
 use Rattle.protocol.specs.Sending.{join-to}
 use Rattle.protocol.specs.Timers.{knows-none}
 use Rattle.protocol.specs.Handle.{new}
-use Rattle.history.specs.Ledger.{kind-in}
 use Rattle.history.specs.Calls.{Call, Given, Machine, code-of, state-of, output-of, definition}
 
 -- an accepted maintenance timer: the state that it met, and the output that it left

@@ -5,3 +5,4 @@ pub mod Forth
 pub mod Back
 pub mod RoundTrip
 pub mod Nodes
+pub mod Walk

@@ -2,3 +2,4 @@ pub mod Format
 pub mod Read
 pub mod InForm
 pub mod Answers
+pub mod Walk

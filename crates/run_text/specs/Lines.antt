@@ -1,12 +1,8 @@
 -- Document 01, "The run program": the lines of an event.
 -- Assumes nothing.
-use Prim.Native.Nat.{ℕ, zero, suc}
+use Prim.Native.Nat.{ℕ}
 use mathlib.Core.List.{List, [], _∷_, _++_}
-use lib.ListN.{length, drop}
-use lib.Dec.{ltb, eqb}
-use Rattle.lists.specs.Lists.{choose}
-use Rattle.record.specs.Format.{header-length}
-use Rattle.record.specs.Read.{header-of}
+use Rattle.record.specs.Walk.{headers}
 use Rattle.record.specs.declared.Header.{Header}
 use Rattle.run_text.specs.Numbers.{field}
 
@@ -32,17 +28,10 @@ record-line i h = four i (h .kind) (h .message) (h .peer) space ++ four (h .seco
 unfoldable pub end-line : ℕ → ℕ → List ℕ
 end-line code draws = equals ∷ space ∷ (field code space ++ field draws newline)
 
--- the headers of the records in an output, each taken by its whole length, until that is 0 or no header fits; n, the output's length, is never used up before
-unfoldable pub heads : ℕ → List ℕ → List Header
-heads zero b = []
-heads (suc n) b =
-    choose (ltb (length b) header-length) []
-    (choose (eqb (header-of b .size) 0) [] (header-of b ∷ heads n (drop (header-of b .size) b)))
-
 unfoldable pub record-lines : ℕ → List Header → List ℕ
 record-lines i [] = []
 record-lines i (h ∷ hs) = record-line i h ++ record-lines i hs
 
 -- all lines of the i-th event
 unfoldable pub event-text : ℕ → ℕ → ℕ → List ℕ → List ℕ
-event-text i code draws out = record-lines i (heads (length out) out) ++ end-line code draws
+event-text i code draws out = record-lines i (headers out) ++ end-line code draws

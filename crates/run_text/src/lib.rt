@@ -2,10 +2,10 @@
 use record::Header;
 ghost use mathlib.Core.Path.{_≡_};
 ghost use mathlib.Core.List.{[], _∷_, _++_};
-ghost use lib.ListN.{length};
 ghost use Rattle.run_text.specs.Text.{Puts, Begins};
 ghost use Rattle.run_text.specs.Numbers.{decimal, field};
-ghost use Rattle.run_text.specs.Lines.{four, record-line, end-line, heads, record-lines, event-text};
+ghost use Rattle.record.specs.Walk.{headers};
+ghost use Rattle.run_text.specs.Lines.{four, record-line, end-line, record-lines, event-text};
 
 // The place reached, and whether something did not fit: nothing is written after that.
 pub struct Text {
@@ -104,7 +104,7 @@ pub fn put_end(out: &mut [u8], t: Text, code: u32, draws: u64) -> Text
 
 // The lines of the records in an output, each taken by its whole length.
 fn put_records(out: &mut [u8], t: Text, i: u64, records: &[u8]) -> Text
-    ensures { λ r. ⌜ Puts (record-lines i (heads (length (now (records .entry))) (now (records .entry)))) t (now (out .entry)) r (now (out .exit)) ⌝ }
+    ensures { λ r. ⌜ Puts (record-lines i (headers (now (records .entry)))) t (now (out .entry)) r (now (out .exit)) ⌝ }
 {
     let mut r = t;
     let mut rest = records;

@@ -11,23 +11,24 @@ use Rattle.lists.proofs.Choice.{choose-yes, and-left, and-right}
 use Rattle.timing.specs.Timing.{in-range}
 use Rattle.timing.specs.declared.Config.{Config}
 use Rattle.peer.specs.Data.{Data}
+use Rattle.record.specs.Walk.{kind-in, headers}
 use Rattle.protocol.specs.Station.{Station}
 use Rattle.protocol.specs.Rules.{station-ok, short-data}
 use Rattle.protocol.specs.Handle.{Made, new, new-station}
 use Rattle.protocol.proofs.Tested.{rules-of}
-use Rattle.history.specs.Ledger.{Ledger, kind-in}
+use Rattle.history.specs.Ledger.{Ledger}
 use Rattle.history.specs.Calls.{Given, Machine, state-of, answer, definition}
 use Rattle.history.specs.Packing.{Packs}
 use Rattle.history.proofs.Kept.{Kept, fine-answer, kept-new, accepted-new}
 use Rattle.shuffle_times.specs.Times.{first-interval, dues, shuffle-times}
-use Rattle.shuffle_times.specs.Histories.{Brought, headers, shuffle-delays, after, set-by, shuffles-due, counts, start-of, fires, is-first, on-time}
+use Rattle.shuffle_times.specs.Histories.{Brought, shuffle-delays, after, set-by, shuffles-due, counts, start-of, fires, is-first, on-time}
 use Rattle.shuffle_times.specs.Claims.{Timed}
 use Rattle.shuffle_times.proofs.Claims.{shuffles-timed}
 
 module _ {S : Type 0} {m : Machine S} {pack : Station → S} {station : S → Station} {ok : S → Bool} (k : Packs m pack station ok) where
   set-follows : (v : Brought) (g : Station) → station-ok g ≡ true → set-by m v (pack g) ≡ set-by definition v g
   unfolding set-by
-  set-follows v g t = ap (λ (o : List ℕ). after (v .at) (shuffle-delays (headers (length o) o))) (k .output (v .call) g t)
+  set-follows v g t = ap (λ (o : List ℕ). after (v .at) (shuffle-delays (headers o))) (k .output (v .call) g t)
 
   module _ {c : Config} {me : ℕ} (ranges : in-range c ≡ true) where
     shuffles-follow : (vs : List Brought) {l : Ledger} {g : Station} → Kept c me l g → shuffles-due m vs (pack g) ≡ shuffles-due definition vs g

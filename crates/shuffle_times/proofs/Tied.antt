@@ -5,7 +5,7 @@ use mathlib.Core.Bool.{Bool, true, false, _&&_}
 use mathlib.Core.List.{List, [], _∷_, _++_}
 use Prim.Native.Nat.{ℕ, _+_, _-_, _≤_, _<_}
 use native.Mathlib.Omega.{arith}
-use lib.ListN.{length, getD, replicate, length-append}
+use lib.ListN.{length, getD, replicate}
 use lib.Dec.{leb, ltb, eqb}
 use borrow.Author.Tests.{eqb-true, lt-ltb, le-leb}
 use Rattle.lists.specs.Lists.{choose}
@@ -15,6 +15,7 @@ use Rattle.timing.specs.declared.Config.{Config}
 use Rattle.peer.specs.Data.{Data}
 use Rattle.record.specs.Format.{Rec}
 use Rattle.record.specs.Read.{Reading, read-event, rec-of, header-of}
+use Rattle.record.specs.Walk.{kind-in, headers}
 use Rattle.protocol.specs.Station.{Station}
 use Rattle.protocol.specs.Run.{Run}
 use Rattle.protocol.specs.Rules.{all-under, station-ok, short-data}
@@ -23,13 +24,12 @@ use Rattle.protocol.proofs.Extra.{both}
 use Rattle.protocol.proofs.Reading.{Readable, by-reading}
 use Rattle.protocol.proofs.Whole.{ok-steps}
 use Rattle.protocol.proofs.Tested.{rules-of}
-use Rattle.history.specs.Ledger.{Ledger, kind-in, number-of}
+use Rattle.history.specs.Ledger.{Ledger, number-of}
 use Rattle.history.specs.Calls.{Given, answer, answered, definition}
 use Rattle.history.proofs.Kept.{Kept, pays, fine-answer, kept-new}
 use Rattle.protocol.specs.Written.{encode-all}
-use Rattle.history.proofs.Heard.{length-encode-all}
 use Rattle.shuffle_times.specs.Times.{highest-draw, first-interval, next-interval, dues}
-use Rattle.shuffle_times.specs.Histories.{Brought, draws-end, headers, shuffle-delays, after, set-by, shuffles-due, counts, start-of, fires, is-first, on-time}
+use Rattle.shuffle_times.specs.Histories.{Brought, draws-end, shuffle-delays, after, set-by, shuffles-due, counts, start-of, fires, is-first, on-time}
 use Rattle.shuffle_times.specs.Claims.{Tied}
 use Rattle.shuffle_times.proofs.Delays.{Interval, delay-few, delay-rises}
 use Rattle.shuffle_times.proofs.Asked.{top-of}
@@ -39,12 +39,12 @@ use Rattle.shuffle_times.proofs.Sets.{Starts, plain, first, fired}
 
 -- the due times that an answer at time t asks for
 abbrev set-of : ℕ → Answer → List ℕ
-set-of t a = after t (shuffle-delays (headers (length (a .output)) (a .output)))
+set-of t a = after t (shuffle-delays (headers (a .output)))
 
-pub out-told : (es : List Rec) (out : List ℕ) (zeros : ℕ) (l : List ℕ) → out ≡ encode-all es → shuffles es ≡ l → length out ≤ 8192 → all-under draws-end l ≡ true → shuffle-delays (headers (length (out ++ replicate zeros 0)) (out ++ replicate zeros 0)) ≡ l
+pub out-told : (es : List Rec) (out : List ℕ) (zeros : ℕ) (l : List ℕ) → out ≡ encode-all es → shuffles es ≡ l → length out ≤ 8192 → all-under draws-end l ≡ true → shuffle-delays (headers (out ++ replicate zeros 0)) ≡ l
 out-told es out zeros l e f h u =
     let s : length (encode-all es) < 65536 = omega (arith, ap length e) in
-    rw e (told es zeros _ s (subst (λ (x : List ℕ). all-under draws-end x ≡ true) (sym f) u) (omega (arith, length-encode-all es, length-append (encode-all es) (replicate zeros 0))) ∙ f)
+    rw e (told es zeros s (subst (λ (x : List ℕ). all-under draws-end x ≡ true) (sym f) u) ∙ f)
 
 -- one shuffle timer is set
 record New (t : ℕ) (s : Station) (a : Answer) : Type 0 where
@@ -64,7 +64,7 @@ record Called (t : ℕ) (b : List ℕ) (s : Station) (a : Answer) : Type 0 where
 called-refusal : (t : ℕ) (b : List ℕ) (s : Station) (n room : ℕ) → (n ≡ 0 → ⊥) → Called t b s (refusal n s room)
 unfolding refusal after
 called-refusal t b s n room ne = record {
-  refused = λ e. (ap (after t) (none-told room _), refl);
+  refused = λ e. (ap (after t) (none-told room), refl);
   quiet = λ e. absurd (ne (eqb-true n 0 e));
   sets = λ e. absurd (ne (eqb-true n 0 e));
   known = λ e. absurd (ne (eqb-true n 0 e));

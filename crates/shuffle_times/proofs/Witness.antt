@@ -18,6 +18,7 @@ use Rattle.peer.specs.Data.{Data}
 use Rattle.record.specs.Format.{Rec, size, datas, header, entries, encode}
 use Rattle.record.specs.Read as Rd
 use Rattle.record.specs.Read.{event, read-event}
+use Rattle.record.specs.Walk.{kind-in, headers}
 use Rattle.protocol.specs.Station.{Station, is-alone}
 use Rattle.protocol.specs.Setters.{set-scheduled, set-next-interval}
 use Rattle.protocol.specs.Run.{Run, guard, on, emit, draw, drawn, timer, notice}
@@ -28,12 +29,12 @@ use Rattle.protocol.specs.Handle as H
 use Rattle.protocol.specs.Handle.{Answer, new-station, start, steps, accepted, finish, handle-reading, handle}
 use Rattle.protocol.proofs.Extra.{both}
 use Rattle.protocol.proofs.Tested.{rules-of}
-use Rattle.history.specs.Ledger.{Ledger, kind-in}
+use Rattle.history.specs.Ledger.{Ledger}
 use Rattle.history.specs.Calls.{Call, answer, answered, definition}
 use Rattle.history.proofs.Kept.{Kept, fine-answer}
 use Rattle.protocol.specs.Written.{encode-all}
 use Rattle.shuffle_times.specs.Times.{first-interval, next-interval, dues}
-use Rattle.shuffle_times.specs.Histories.{Brought, draws-end, headers, shuffle-delays, after, set-by, shuffles-due, counts, start-of, fires, is-first, on-time, in-time-order}
+use Rattle.shuffle_times.specs.Histories.{Brought, draws-end, shuffle-delays, after, set-by, shuffles-due, counts, start-of, fires, is-first, on-time, in-time-order}
 use Rattle.shuffle_times.proofs.Delays.{first-ok}
 use Rattle.shuffle_times.proofs.Asked.{top-of}
 use Rattle.shuffle_times.proofs.Told.{shuffles}
@@ -105,7 +106,7 @@ unfolding accepted set-by after
 leads v s t w l es e f g h small u = record {
   code = ap (λ (a : Answer). a .code) e;
   state = ap (λ (a : Answer). a .state) e ∙ f;
-  sets = ap (λ (a : Answer). after (v .at) (shuffle-delays (headers (length (a .output)) (a .output)))) e ∙ ap (after (v .at)) (out-told es (w .out) (w .room - length (w .out)) (l ∷ []) g h small u);
+  sets = ap (λ (a : Answer). after (v .at) (shuffle-delays (headers (a .output)))) e ∙ ap (after (v .at)) (out-told es (w .out) (w .room - length (w .out)) (l ∷ []) g h small u);
 }
 
 module _ (me : ℕ) (d : Data) (c : Config) where

@@ -1,17 +1,15 @@
 -- A history in time: calls to a machine, each brought at a time, and the shuffle timers that their outputs ask for.
 -- Assumes nothing.
-use Prim.Native.Nat.{ℕ, zero, suc, _+_}
+use Prim.Native.Nat.{ℕ, _+_}
 use mathlib.Core.Bool.{Bool, true, false, _&&_}
 use mathlib.Core.List.{List, [], _∷_, _++_}
 use mathlib.Core.Path.{_≡_}
-use lib.ListN.{length, drop}
-use lib.Dec.{leb, ltb, eqb}
+use lib.ListN.{drop}
+use lib.Dec.{leb, eqb}
 use Rattle.lists.specs.Lists.{choose}
-use Rattle.record.specs.Format.{header-length}
-use Rattle.record.specs.Read.{header-of}
+use Rattle.record.specs.Walk.{kind-in, headers}
 use Rattle.record.specs.declared.Header.{Header}
 use Rattle.protocol.specs.Rules.{all-under}
-use Rattle.history.specs.Ledger.{kind-in}
 use Rattle.history.specs.Calls.{Call, Machine, code-of, state-of, output-of}
 
 -- one more than the highest draw
@@ -24,15 +22,7 @@ pub record Brought : Type 0 where
   pub call : Call
   pub are-draws : all-under draws-end (call .draws) ≡ true
 
--- the headers of an output's records, each found by the whole length of the one before it, until that is 0 or no header fits;
--- n, the output's length, is never used up before
-unfoldable pub headers : ℕ → List ℕ → List Header
-headers zero b = []
-headers (suc n) b =
-    choose (ltb (length b) header-length) []
-    (choose (eqb (header-of b .size) 0) [] (header-of b ∷ headers n (drop (header-of b .size) b)))
-
--- the delays of the DoShuffle timers among them
+-- the delays of the DoShuffle timers among an output's records
 unfoldable pub shuffle-delays : List Header → List ℕ
 shuffle-delays [] = []
 shuffle-delays (h ∷ hs) = choose (eqb (h .kind) 1) (h .second ∷ shuffle-delays hs) (shuffle-delays hs)
@@ -44,7 +34,7 @@ after t (x ∷ xs) = (t + x) ∷ after t xs
 
 -- the due times of the shuffle timers that a call's output asks for
 unfoldable pub set-by : {S : Type 0} → Machine S → Brought → S → List ℕ
-set-by m v s = after (v .at) (shuffle-delays (headers (length (output-of m (v .call) s)) (output-of m (v .call) s)))
+set-by m v s = after (v .at) (shuffle-delays (headers (output-of m (v .call) s)))
 
 -- the same for all calls of a history, in order
 unfoldable pub shuffles-due : {S : Type 0} → Machine S → List Brought → S → List ℕ

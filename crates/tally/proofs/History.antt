@@ -1,26 +1,27 @@
 -- Over a whole history the tally counts every message that the ledger reads.
 -- Assumes nothing.
-use Prim.Native.Nat.{ℕ, zero, suc, _+_, _≤_}
-use mathlib.Core.Path.{_≡_, refl, sym, subst, _∙_}
+use Prim.Native.Nat.{ℕ, _+_, _≤_}
+use mathlib.Core.Path.{_≡_, refl, sym, ap, subst, _∙_}
 use mathlib.Core.Bool.{true, not, _&&_}
 use mathlib.Core.List.{List, [], _∷_, _++_, append-assoc}
 use native.Mathlib.Omega.{arith}
-use lib.ListN.{length, replicate, length-append}
+use lib.ListN.{replicate}
 use lib.Dec.{leb, eqb}
 use borrow.Author.Tests.{leb-true, lt-ltb}
 use Rattle.lists.specs.Lists.{choose}
-use Rattle.lists.specs.Tests.{All}
+use Rattle.lists.specs.Tests.{every, All}
 use Rattle.lists.proofs.Choice.{split, and-left, and-right}
 use Rattle.record.specs.Format.{Rec, header, encode}
 use Rattle.record.specs.Read as Rd
 use Rattle.record.specs.InForm.{InForm, header-in}
+use Rattle.record.specs.Walk.{kind-in, message-in}
+use Rattle.record.proofs.Walk.{records-written, records-zeros}
 use Rattle.protocol.specs.Written.{encode-all}
 use Rattle.protocol.proofs.Extra.{both}
-use Rattle.history.specs.Ledger.{Ledger, empty-ledger, kind-in, message-in, feed}
+use Rattle.history.specs.Ledger.{Ledger, empty-ledger, feed}
 use Rattle.history.specs.Calls.{Call, Machine, code-of, state-of, output-of, ledger-after}
 use Rattle.history.specs.Outputs.{ReadsBack, OutputsRead}
-use Rattle.history.proofs.Heard.{goes-on, stops, after-one, length-encode-all}
-use Rattle.history.proofs.Outputs.{form-sound, outputs-read-back}
+use Rattle.history.proofs.Outputs.{form-small, outputs-read-back}
 use Rattle.tally.specs.declared.Tally.{Tally}
 use Rattle.tally.specs.Counts.{top, raised}
 use Rattle.tally.specs.Sum.{total, has-count, all-have}
@@ -36,23 +37,18 @@ form-counts e rest f =
     (λ z. rw z (lt-ltb (e .message) 6 (let l : e .message ≤ 5 = leb-true (e .message) 5 (rw z at k) in omega arith)))
     (λ z. rw z)
 
-all-count : (es : List Rec) (zeros n : ℕ) → All InForm es → length es ≤ n → all-have n (encode-all es ++ replicate zeros 0) ≡ true
-unfolding all-have encode-all All
-all-count [] zeros zero a h = refl
-all-count [] zeros (suc n) a h = stops zeros true _
-all-count (e ∷ es) zeros zero a h = absurd (omega arith)
-all-count (e ∷ es) zeros (suc n) a h =
+all-count : (es : List Rec) (zeros : ℕ) → All InForm es → all-have (encode-all es ++ replicate zeros 0) ≡ true
+unfolding all-have every encode-all All
+all-count [] zeros a = ap (every has-count) (records-zeros zeros)
+all-count (e ∷ es) zeros a =
     let rest : List ℕ = encode-all es ++ replicate zeros 0 in
-    let s = form-sound e (a .0) in
     rw (append-assoc (encode e) (encode-all es) (replicate zeros 0))
-    (goes-on e rest s true _ ∙ rw (after-one e rest s) (both _ _ (form-counts e rest (a .0)) (all-count es zeros n (a .1) (omega arith))))
+    (ap (every has-count) (records-written e rest (form-small e (a .0))) ∙ both _ _ (form-counts e rest (a .0)) (all-count es zeros (a .1)))
 
-read-counts : (out : List ℕ) → ReadsBack out → all-have (length out) out ≡ true
+read-counts : (out : List ℕ) → ReadsBack out → all-have out ≡ true
 read-counts out r =
     let w = r .written in
-    let b : List ℕ = encode-all (w .records) ++ replicate (w .zeros) 0 in
-    subst (λ (x : List ℕ). all-have (length x) x ≡ true) (sym (w .bytes))
-    (all-count (w .records) (w .zeros) (length b) (w .in-form) (omega (arith, length-encode-all (w .records), length-append (encode-all (w .records)) (replicate (w .zeros) 0))))
+    subst (λ (x : List ℕ). all-have x ≡ true) (sym (w .bytes)) (all-count (w .records) (w .zeros) (w .in-form))
 
 module _ {S : Type 0} (m : Machine S) (a : ℕ) where
   never-less-after : (vs : List Call) (s : S) (l : Ledger) → l .sent ≤ ledger-after m a vs s l .sent

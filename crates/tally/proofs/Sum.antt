@@ -2,15 +2,16 @@
 -- Assumes nothing.
 use Prim.Native.Nat.{ℕ, zero, suc, _+_, _≤_, _<_}
 use mathlib.Core.Path.{_≡_, refl, _∙_}
-use mathlib.Core.Bool.{Bool, true, false}
-use mathlib.Core.List.{List}
+use mathlib.Core.Bool.{true}
+use mathlib.Core.List.{List, [], _∷_}
 use native.Mathlib.Omega.{arith}
-use lib.ListN.{length, drop}
-use lib.Dec.{ltb, eqb}
+use lib.Dec.{eqb}
 use borrow.Author.Tests.{eqb-true, lt-ltb, ltb-true}
 use Rattle.lists.specs.Lists.{choose}
+use Rattle.lists.specs.Tests.{every}
 use Rattle.lists.proofs.Choice.{by-choice, split, and-left, and-right}
-use Rattle.history.specs.Ledger.{Ledger, kind-in, message-in, peer-in, whole-length, count-message, note-up, note-down, read-records, open-event, feed}
+use Rattle.record.specs.Walk.{kind-in, message-in, peer-in, records-in, walk}
+use Rattle.history.specs.Ledger.{Ledger, count-message, note-up, note-down, read-records, open-event, feed}
 use Rattle.history.specs.Ledger.{enter as book}
 use Rattle.tally.specs.declared.Tally.{Tally}
 use Rattle.tally.specs.Counts.{top, counted, raise-one, enter, raise-records, raised}
@@ -42,59 +43,50 @@ booked k p l =
 kept : (k p : ℕ) (l : Ledger) → l .sent ≤ book k p l .sent
 kept k p l = rw booked (by-choice (λ (x : ℕ). l .sent ≤ x) (eqb k 0) (λ _. omega arith) (λ _. omega arith))
 
-never-less : (n : ℕ) (b : List ℕ) (l : Ledger) → l .sent ≤ read-records n b l .sent
-unfolding read-records
-never-less zero b l = omega arith
-never-less (suc n) b l =
-    by-choice (λ (x : Ledger). l .sent ≤ x .sent) (ltb (length b) 24) (λ _. omega arith) (λ _.
-    by-choice (λ (x : Ledger). l .sent ≤ x .sent) (eqb (whole-length b) 0) (λ _. omega arith) (λ _.
-    omega (arith, kept (kind-in b) (peer-in b) l, never-less n (drop (whole-length b) b) (book (kind-in b) (peer-in b) l))))
+-- what a record does to the book and to the counts
+abbrev booking : List ℕ → Ledger → Ledger
+booking b = book (kind-in b) (peer-in b)
+
+abbrev counting : List ℕ → Tally → Tally
+counting b = enter (kind-in b) (message-in b)
+
+never-less : (bs : List (List ℕ)) (l : Ledger) → l .sent ≤ walk booking bs l .sent
+unfolding walk
+never-less [] l = omega arith
+never-less (b ∷ bs) l = omega (arith, kept (kind-in b) (peer-in b) l, never-less bs (booking b l))
 
 pub never-less-fed : (a code : ℕ) (b out : List ℕ) (l : Ledger) → l .sent ≤ feed a b code out l .sent
-unfolding feed open-event
+unfolding feed open-event read-records
 never-less-fed a code b out l =
-    by-choice (λ (x : Ledger). l .sent ≤ x .sent) (eqb code 0) (λ _. never-less (length out) out (open-event a b l)) (λ _. omega arith)
+    by-choice (λ (x : Ledger). l .sent ≤ x .sent) (eqb code 0) (λ _. never-less (records-in out) (open-event a b l)) (λ _. omega arith)
 
 -- one record raises both by as much
-entered : (b : List ℕ) (t : Tally) (l : Ledger) → has-count b ≡ true → total t + book (kind-in b) (peer-in b) l .sent ≤ l .sent + top
-    → total (enter (kind-in b) (message-in b) t) + l .sent ≡ total t + book (kind-in b) (peer-in b) l .sent
+entered : (b : List ℕ) (t : Tally) (l : Ledger) → has-count b ≡ true → total t + booking b l .sent ≤ l .sent + top
+    → total (counting b t) + l .sent ≡ total t + booking b l .sent
 unfolding has-count enter choose
 entered b t l h w =
     split (eqb (kind-in b) 0)
     (λ e.
-    let q : book (kind-in b) (peer-in b) l .sent ≡ l .sent + 1 = booked (kind-in b) (peer-in b) l ∙ rw e in
+    let q : booking b l .sent ≡ l .sent + 1 = booked (kind-in b) (peer-in b) l ∙ rw e in
     rw (e, q) (omega (arith, one-more (message-in b) t (ltb-true (message-in b) 6 (rw e at h)) (omega (arith, q)))))
     (λ e.
-    let q : book (kind-in b) (peer-in b) l .sent ≡ l .sent = booked (kind-in b) (peer-in b) l ∙ rw e in
+    let q : booking b l .sent ≡ l .sent = booked (kind-in b) (peer-in b) l ∙ rw e in
     rw (e, q) refl)
 
--- where the walk stops
-stops : (x y z : Bool) (t r : Tally) (l s : Ledger) → choose x true (choose y true z) ≡ true → total t + choose x l (choose y l s) .sent ≤ l .sent + top
-    → (z ≡ true → total t + s .sent ≤ l .sent + top → total r + l .sent ≡ total t + s .sent)
-    → total (choose x t (choose y t r)) + l .sent ≡ total t + choose x l (choose y l s) .sent
-unfolding choose
-stops true y z t r l s h w f = refl
-stops false true z t r l s h w f = refl
-stops false false z t r l s h w f = f h w
-
-agrees : (n : ℕ) (b : List ℕ) (t : Tally) (l : Ledger) → all-have n b ≡ true → total t + read-records n b l .sent ≤ l .sent + top
-    → total (raise-records n b t) + l .sent ≡ total t + read-records n b l .sent
-unfolding all-have raise-records read-records
-agrees zero b t l h w = refl
-agrees (suc n) b t l h w =
-    let c : List ℕ = drop (whole-length b) b in
-    let s : Ledger = book (kind-in b) (peer-in b) l in
-    let r : Tally = enter (kind-in b) (message-in b) t in
-    stops (ltb (length b) 24) (eqb (whole-length b) 0) _ t (raise-records n c r) l (read-records n c s) h w (λ z v.
-    let e : total r + l .sent ≡ total t + s .sent = entered b t l (and-left (has-count b) _ z) (omega (arith, v, never-less n c s)) in
-    omega (arith, e, agrees n c r s (and-right (has-count b) _ z) (omega (arith, e, v))))
+agrees : (bs : List (List ℕ)) (t : Tally) (l : Ledger) → every has-count bs ≡ true → total t + walk booking bs l .sent ≤ l .sent + top
+    → total (walk counting bs t) + l .sent ≡ total t + walk booking bs l .sent
+unfolding every walk
+agrees [] t l h w = refl
+agrees (b ∷ bs) t l h w =
+    let e = entered b t l (and-left (has-count b) _ h) (omega (arith, w, never-less bs (booking b l))) in
+    omega (arith, e, agrees bs (counting b t) (booking b l) (and-right (has-count b) _ h) (omega (arith, e, w)))
 
 -- After an event, accepted or refused, the six counts together have risen by the messages that the ledger counted, where none was at its top
 -- and every message has a count.
-pub sum-agrees : (a code : ℕ) (b out : List ℕ) (t : Tally) (l : Ledger) → (code ≡ 0 → all-have (length out) out ≡ true) → total t + feed a b code out l .sent ≤ l .sent + top
+pub sum-agrees : (a code : ℕ) (b out : List ℕ) (t : Tally) (l : Ledger) → (code ≡ 0 → all-have out ≡ true) → total t + feed a b code out l .sent ≤ l .sent + top
     → total (raised code out t) + l .sent ≡ total t + feed a b code out l .sent
-unfolding raised feed open-event choose
+unfolding raised feed open-event choose all-have raise-records read-records
 sum-agrees a code b out t l h w =
     split (eqb code 0)
-    (λ e. rw e (agrees (length out) out t (open-event a b l) (h (eqb-true code 0 e)) (rw e at w)))
+    (λ e. rw e (agrees (records-in out) t (open-event a b l) (h (eqb-true code 0 e)) (rw e at w)))
     (λ e. rw e refl)

@@ -1,13 +1,11 @@
 -- The tally of document 01: "It counts the messages sent, one count for each value of byte 1."
 -- Assumes nothing.
-use Prim.Native.Nat.{ℕ, zero, suc, _+_}
+use Prim.Native.Nat.{ℕ, _+_}
 use mathlib.Core.Bool.{Bool}
 use mathlib.Core.List.{List}
-use lib.ListN.{length, drop}
 use lib.Dec.{ltb, eqb}
 use Rattle.lists.specs.Lists.{choose}
-use Rattle.record.specs.Format.{header-length}
-use Rattle.history.specs.Ledger.{kind-in, message-in, whole-length}
+use Rattle.record.specs.Walk.{kind-in, message-in, records-in, walk}
 use Rattle.tally.specs.declared.Tally.{Tally}
 
 -- 2^64 - 1
@@ -33,13 +31,10 @@ raise-one m t = record {
 unfoldable pub enter : ℕ → ℕ → Tally → Tally
 enter k m t = choose (eqb k 0) (raise-one m t) t
 
--- the records of an output, taken as the ledger takes them (`read-records`)
-unfoldable pub raise-records : ℕ → List ℕ → Tally → Tally
-raise-records zero b t = t
-raise-records (suc n) b t =
-    choose (ltb (length b) header-length) t
-    (choose (eqb (whole-length b) 0) t (raise-records n (drop (whole-length b) b) (enter (kind-in b) (message-in b) t)))
+-- the records of an output, taken in order
+unfoldable pub raise-records : List ℕ → Tally → Tally
+raise-records out t = walk (λ b. enter (kind-in b) (message-in b)) (records-in out) t
 
 -- "raised once an event is accepted; .. a refusal changes none"
 unfoldable pub raised : ℕ → List ℕ → Tally → Tally
-raised code out t = choose (eqb code 0) (raise-records (length out) out t) t
+raised code out t = choose (eqb code 0) (raise-records out t) t

@@ -111,7 +111,7 @@ insert-book : (time delay : ℕ) (x : Timer) (es : List Entry) → es ++ (record
 unfolding asked time-out code-of
 insert-book time delay x es = grown (insert time delay x) (code 0) es refl refl
 
-records-book : (time : ℕ) (out : List ℕ) (es : List Entry) → es ++ entries-from time (timers-in (length out) out) ≡ booked (insert-records time out) (code 0) es
+records-book : (time : ℕ) (out : List ℕ) (es : List Entry) → es ++ entries-from time (timers-in out) ≡ booked (insert-records time out) (code 0) es
 unfolding asked time-out code-of
 records-book time out es = grown (insert-records time out) (code 0) es refl refl
 
@@ -160,18 +160,18 @@ all-in time (x ∷ xs) es = go (inserts time (x .delay) (x .item) es) (λ fs. al
         more (all-refused c fs n m k) = all-refused c fs n m (first-done time x xs es e ∙ k)
         more (all-done k) = all-done (first-done time x xs es e ∙ k ∙ ap (λ (r : List Entry). record { code = 0; entries = r }) (append-assoc es (record { time = time + x .delay; item = x .item } ∷ []) (entries-from time xs)))
 
-undone : (time : ℕ) (out : List ℕ) (es : List Entry) (c : ℕ) (fs : List Entry) → (c ≡ 0 → ⊥) → insert-all time (timers-in (length out) out) es ≡ record { code = c; entries = fs } → R.insert-records time out es ≡ record { code = c; entries = es }
+undone : (time : ℕ) (out : List ℕ) (es : List Entry) (c : ℕ) (fs : List Entry) → (c ≡ 0 → ⊥) → insert-all time (timers-in out) es ≡ record { code = c; entries = fs } → R.insert-records time out es ≡ record { code = c; entries = es }
 unfolding R.insert-records all-or-none
 undone time out es c fs n e = ap (all-or-none es) e ∙ choose-no _ _ _ (ne-eqb c 0 n)
 
-all-did : (time : ℕ) (out : List ℕ) (es : List Entry) {fs : List Entry} → insert-all time (timers-in (length out) out) es ≡ record { code = 0; entries = fs } → R.insert-records time out es ≡ record { code = 0; entries = fs }
+all-did : (time : ℕ) (out : List ℕ) (es : List Entry) {fs : List Entry} → insert-all time (timers-in out) es ≡ record { code = 0; entries = fs } → R.insert-records time out es ≡ record { code = 0; entries = fs }
 unfolding R.insert-records all-or-none
 all-did time out es e = ap (all-or-none es) e ∙ choose-yes (eqb 0 0) _ _ refl
 
 step-records : (time : ℕ) (out : List ℕ) (es : List Entry) → Good es → Step (insert-records time out) es
-step-records time out es g = go (all-in time (timers-in (length out) out) es)
+step-records time out es g = go (all-in time (timers-in out) es)
   where
-    go : AllIn time (timers-in (length out) out) es → Step (insert-records time out) es
+    go : AllIn time (timers-in out) es → Step (insert-records time out) es
     go (all-refused c fs n m e) = record {
       reply = code c;
       after = es;
@@ -182,10 +182,10 @@ step-records time out es g = go (all-in time (timers-in (length out) out) es)
     }
     go (all-done e) = record {
       reply = code 0;
-      after = es ++ entries-from time (timers-in (length out) out);
-      is = records-way time out es g (record { code = 0; entries = es ++ entries-from time (timers-in (length out) out) }) (all-did time out es e);
+      after = es ++ entries-from time (timers-in out);
+      is = records-way time out es g (record { code = 0; entries = es ++ entries-from time (timers-in out) }) (all-did time out es e);
       book = records-book time out es;
-      good = subst (λ (p : Put). Good (p .entries)) e (good-all time (timers-in (length out) out) es g);
+      good = subst (λ (p : Put). Good (p .entries)) e (good-all time (timers-in out) es g);
       not-two = λ z. omega (arith, sym (code-reply 0) ∙ z);
     }
 

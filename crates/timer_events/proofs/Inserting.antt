@@ -1,13 +1,13 @@
--- Laws of the walk over an output's timers.
+-- Laws of the loop over an output's timers.
 -- Assumes nothing.
-use Prim.Native.Nat.{ℕ, zero, suc, _+_, _-_, _≤_, _<_}
+use Prim.Native.Nat.{ℕ, _+_, _-_, _≤_, _<_}
 use mathlib.Core.Path.{_≡_, refl, sym, ap, _∙_, subst}
 use mathlib.Core.Bool.{Bool, true, false, _&&_}
-use mathlib.Core.List.{List, [], _∷_, _++_, append-assoc, append-nil}
+use mathlib.Core.List.{List, [], _∷_, _++_, append-assoc, append-nil, flatMap}
 use native.Mathlib.Omega.{arith}
-use lib.ListN.{length, take, drop, length-drop, length-append}
-use lib.Seq.{take-all, take-append-seam, length-take-le}
-use lib.Dec.{ltb, leb, eqb}
+use lib.ListN.{length, take, drop, length-append}
+use lib.Seq.{take-append-seam, length-take-le}
+use lib.Dec.{leb, eqb}
 use borrow.Author.Tests.{lt-ltb, le-ltb, eq-eqb, ne-eqb}
 use Rattle.lists.specs.Lists.{choose}
 use Rattle.lists.proofs.Choice.{by-choice, split, choose-yes, choose-no}
@@ -16,7 +16,8 @@ use Rattle.record.specs.declared.Answer.{Answer}
 use Rattle.record.specs.declared.Answer.the-variants as Answers
 use Rattle.record.specs.Read.{header-of, is-timer}
 use Rattle.record.specs.Answers.{answer}
-use Rattle.history.specs.Ledger.{whole-length}
+use Rattle.record.specs.Walk.{whole-length, records-in}
+use Rattle.record.proofs.Walk.{size-is, records-few, taken-none, taken-one, taken-next, taken-last}
 use Rattle.timer_map.specs.Entries.{Put, insert}
 use Rattle.timer_map.specs.Words.{count-of, entries-of, queue-ok, pack, Sound}
 use Rattle.timer_map.specs.Calls.{PutWords, put}
@@ -43,10 +44,6 @@ module _ (n : ℕ) (b : List ℕ) where
 
 pub part-long : (n : ℕ) (b : List ℕ) → n ≤ length b → n ≡ length (take n b)
 part-long n b h = sym (length-take-le n b h)
-
-size-is : (b : List ℕ) (h : Header) → h ≡ header-of b → h .size ≡ whole-length b
-unfolding header-of whole-length
-size-is b h e = ap (λ (x : Header). x .size) e
 
 -- ---- one after the other
 
@@ -121,71 +118,40 @@ module _ (ws b : List ℕ) (h : Header) (time : ℕ) (v : Sound ws) (e : h ≡ h
       let u : is-timer (header-of b) ≡ false = sym (ap is-timer e) ∙ t in
       ap (words-of 0) (v .is) ∙ ap (λ (l : List Start). put (insert-all time l (entries-of ws))) (sym (choose-no _ _ _ u))
 
--- ---- the walk
-
-timers-few : (k : ℕ) (b : List ℕ) → length b < 24 → timers-in k b ≡ []
-unfolding timers-in
-timers-few zero b h = refl
-timers-few (suc k) b h = choose-yes _ _ _ (lt-ltb (length b) 24 h)
-
-timers-none : (k : ℕ) (b : List ℕ) → whole-length b ≡ 0 → timers-in k b ≡ []
-unfolding timers-in
-timers-none zero b e = refl
-timers-none (suc k) b e = by-choice (λ (l : List Start). l ≡ []) (ltb (length b) 24) (λ _. refl) (λ _. choose-yes _ _ _ (eq-eqb (whole-length b) 0 e))
-
-timers-one : (k : ℕ) (b : List ℕ) → 24 ≤ length b → (whole-length b ≡ 0 → ⊥) → timers-in (suc k) b ≡ timer-of b ++ timers-in k (drop (whole-length b) b)
-unfolding timers-in
-timers-one k b h e = choose-no _ _ _ (le-ltb (length b) 24 h) ∙ choose-no _ _ _ (ne-eqb (whole-length b) 0 e)
+-- ---- the loop
 
 -- The timers of `rest` are to come, and q has those before them.
 pub record Inserting (time : ℕ) (whole : PutWords) (q₀ q rest : List ℕ) : Type 0 where
   pub sound : Sound q
   pub first : length q₀ ≡ 513
-  pub fuel : ℕ
-  pub enough : length rest ≤ fuel
-  pub same : whole ≡ put (insert-all time (timers-in fuel rest) (entries-of q))
+  pub same : whole ≡ put (insert-all time (timers-in rest) (entries-of q))
 
--- the timers of `rest` are to come, after p
-record Unrolled (time : ℕ) (whole : PutWords) (rest : List ℕ) (p : Put) : Type 0 where
-  fuel : ℕ
-  enough : length rest ≤ fuel
-  same : whole ≡ put (next time (timers-in fuel rest) p)
-
-pub inserting-start : (time : ℕ) (q out : List ℕ) → Sound q → Inserting time (put (insert-all time (timers-in (length out) out) (entries-of q))) q q out
-inserting-start time q out v = record { sound = v; first = v .long; fuel = length out; enough = omega arith; same = refl }
-
--- nothing is to come
-ended : (time : ℕ) (q : List ℕ) (l : List Start) → Sound q → l ≡ [] → record { code = 0; words = q } ≡ put (insert-all time l (entries-of q))
-unfolding put insert-all
-ended time q l v e = ap (words-of 0) (v .is) ∙ ap (λ (m : List Start). put (insert-all time m (entries-of q))) (sym e)
+pub inserting-start : (time : ℕ) (q out : List ℕ) → Sound q → Inserting time (put (insert-all time (timers-in out) (entries-of q))) q q out
+inserting-start time q out v = record { sound = v; first = v .long; same = refl }
 
 module _ (time : ℕ) (whole : PutWords) (q₀ q rest : List ℕ) (v : Inserting time whole q₀ q rest) where
   pub inserting-long : length q ≡ length q₀
   inserting-long = v .sound .long ∙ sym (v .first)
 
+  by-records : (bs : List (List ℕ)) → records-in rest ≡ bs → whole ≡ put (insert-all time (flatMap timer-of bs) (entries-of q))
+  unfolding timers-in
+  by-records bs e = v .same ∙ ap (λ (x : List (List ℕ)). put (insert-all time (flatMap timer-of x) (entries-of q))) e
+
+  ends : records-in rest ≡ [] → record { code = 0; words = q } ≡ whole
+  unfolding put insert-all flatMap
+  ends e = ap (words-of 0) (v .sound .is) ∙ sym (by-records [] e)
+
   pub inserting-few : length rest < 24 → record { code = 0; words = q } ≡ whole
-  inserting-few h = ended time q (timers-in (v .fuel) rest) (v .sound) (timers-few (v .fuel) rest h) ∙ sym (v .same)
+  inserting-few h = ends (records-few rest h)
 
   module _ (h : Header) (is : h ≡ header-of rest) where
     pub inserting-none : h .size ≡ 0 → record { code = 0; words = q } ≡ whole
-    inserting-none e = ended time q (timers-in (v .fuel) rest) (v .sound) (timers-none (v .fuel) rest (sym (size-is rest h is) ∙ e)) ∙ sym (v .same)
-
-    -- one record more
-    unrolled : (k : ℕ) → length rest ≤ k → whole ≡ put (insert-all time (timers-in k rest) (entries-of q)) → 24 ≤ length rest → (h .size ≡ 0 → ⊥)
-        → Unrolled time whole (drop (h .size) rest) (insert-all time (timer-of rest) (entries-of q))
-    unrolled zero l w m z = absurd (omega arith)
-    unrolled (suc k) l w m z =
-        let s : h .size ≡ whole-length rest = size-is rest h is in
-        record {
-          fuel = k;
-          enough = simp length-drop (omega arith);
-          same = w ∙ ap (λ (t : List Start). put (insert-all time t (entries-of q))) (timers-one k rest m (λ o. z (s ∙ o)) ∙ ap (λ (n : ℕ). timer-of rest ++ timers-in k (drop n rest)) (sym s))
-              ∙ ap put (insert-all-append time (timer-of rest) (timers-in k (drop (h .size) rest)) (entries-of q));
-        }
+    inserting-none e = ends (taken-none rest h is e)
 
     module _ (code : ℕ) (q′ : List ℕ) (e : record { code = code; words = q′ } ≡ put (insert-all time (timer-of rest) (entries-of q))) (z : h .size ≡ 0 → ⊥) (m : 24 ≤ length rest) where
-      step : Unrolled time whole (drop (h .size) rest) (insert-all time (timer-of rest) (entries-of q))
-      step = unrolled (v .fuel) (v .enough) (v .same) m z
+      step : (bs : List (List ℕ)) → records-in rest ≡ rest ∷ bs → whole ≡ put (next time (flatMap timer-of bs) (insert-all time (timer-of rest) (entries-of q)))
+      unfolding flatMap
+      step bs r = by-records (rest ∷ bs) r ∙ ap put (insert-all-append time (timer-of rest) (flatMap timer-of bs) (entries-of q))
 
       code-is : code ≡ insert-all time (timer-of rest) (entries-of q) .code
       unfolding put
@@ -197,49 +163,47 @@ module _ (time : ℕ) (whole : PutWords) (q₀ q rest : List ℕ) (v : Inserting
 
       pub inserting-refused : (code ≡ 0 → ⊥) → record { code = code; words = q′ } ≡ whole
       unfolding next
-      inserting-refused n = e ∙ sym (step .same ∙ ap put (choose-no _ _ _ (ne-eqb _ 0 (λ o. n (code-is ∙ o)))))
+      inserting-refused n = e ∙ sym (step _ (taken-one rest h is m z) ∙ ap put (choose-no _ _ _ (ne-eqb _ 0 (λ o. n (code-is ∙ o)))))
 
       held : entries-of q′ ≡ insert-all time (timer-of rest) (entries-of q) .entries
       held = ap entries-of words-is ∙ entries-pack _
 
-      stepped : code ≡ 0 → Inserting time whole q₀ q′ (drop (h .size) rest)
+      kept : Sound q′
+      kept = subst Sound (sym words-is) (good-sound _ (good-all time (timer-of rest) (entries-of q) (sound-good q (v .sound))))
+
+      goes-on : code ≡ 0 → (bs : List (List ℕ)) → records-in rest ≡ rest ∷ bs → whole ≡ put (insert-all time (flatMap timer-of bs) (entries-of q′))
       unfolding next
-      stepped c = record {
-        sound = subst Sound (sym words-is) (good-sound _ (good-all time (timer-of rest) (entries-of q) (sound-good q (v .sound))));
-        first = v .first;
-        fuel = step .fuel;
-        enough = step .enough;
-        same = step .same ∙ ap put (choose-yes _ _ _ (eq-eqb _ 0 (sym code-is ∙ c))) ∙ ap (λ (l : List Entry). put (insert-all time (timers-in (step .fuel) (drop (h .size) rest)) l)) (sym held);
-      }
+      goes-on c bs r =
+          step bs r ∙ ap put (choose-yes _ _ _ (eq-eqb _ 0 (sym code-is ∙ c))) ∙ ap (λ (l : List Entry). put (insert-all time (flatMap timer-of bs) l)) (sym held)
 
       pub inserting-last : code ≡ 0 → length rest < h .size → record { code = 0; words = q′ } ≡ whole
-      inserting-last c l =
-          let w : Inserting time whole q₀ q′ (drop (h .size) rest) = stepped c in
-          ended time q′ (timers-in (w .fuel) (drop (h .size) rest)) (w .sound) (timers-few (w .fuel) (drop (h .size) rest) (simp length-drop (omega arith))) ∙ sym (w .same)
+      unfolding put insert-all flatMap
+      inserting-last c l = ap (words-of 0) (kept .is) ∙ sym (goes-on c [] (taken-last rest h is m z l))
 
       pub inserting-next : code ≡ 0 → Inserting time whole q₀ q′ (take (length rest - h .size) (drop (h .size) rest))
-      inserting-next c = rw (take-all (length rest - h .size) (drop (h .size) rest) (simp length-drop (omega arith))) (stepped c)
+      unfolding timers-in
+      inserting-next c = record { sound = kept; first = v .first; same = goes-on c _ (taken-next rest h is m z) }
 
 -- ---- all or none
 
 module _ (ws out : List ℕ) (time : ℕ) (v : Sound ws) (code : ℕ) (q : List ℕ)
-    (e : record { code = code; words = q } ≡ put (insert-all time (timers-in (length out) out) (entries-of ws))) where
-  all-words : q ≡ pack (insert-all time (timers-in (length out) out) (entries-of ws) .entries)
+    (e : record { code = code; words = q } ≡ put (insert-all time (timers-in out) (entries-of ws))) where
+  all-words : q ≡ pack (insert-all time (timers-in out) (entries-of ws) .entries)
   unfolding put
   all-words = ap (λ (y : PutWords). y .words) e
 
-  all-code : code ≡ insert-all time (timers-in (length out) out) (entries-of ws) .code
+  all-code : code ≡ insert-all time (timers-in out) (entries-of ws) .code
   unfolding put
   all-code = ap (λ (y : PutWords). y .code) e
 
-  all-held : entries-of q ≡ insert-all time (timers-in (length out) out) (entries-of ws) .entries
+  all-held : entries-of q ≡ insert-all time (timers-in out) (entries-of ws) .entries
   all-held = ap entries-of all-words ∙ entries-pack _
 
   pub all-sound : Sound q
-  all-sound = subst Sound (sym all-words) (good-sound _ (good-all time (timers-in (length out) out) (entries-of ws) (sound-good ws v)))
+  all-sound = subst Sound (sym all-words) (good-sound _ (good-all time (timers-in out) (entries-of ws) (sound-good ws v)))
 
   front : Extends (entries-of ws) (entries-of q)
-  front = subst (Extends (entries-of ws)) (sym all-held) (extends-all time (timers-in (length out) out) (entries-of ws))
+  front = subst (Extends (entries-of ws)) (sym all-held) (extends-all time (timers-in out) (entries-of ws))
 
   pub all-more : count-of ws ≤ count-of q
   all-more = omega (arith, v .count, all-sound .count, ap length (front .is), length-append (entries-of ws) (front .more))
@@ -251,11 +215,11 @@ module _ (ws out : List ℕ) (time : ℕ) (v : Sound ws) (code : ℕ) (q : List 
   unfolding insert-records all-or-none put
   none-put r p n =
       (λ i. words-of (all-code i) ((p ∙ ap pack old-front) i))
-      ∙ ap put (sym (choose-no (eqb (insert-all time (timers-in (length out) out) (entries-of ws) .code) 0) (insert-all time (timers-in (length out) out) (entries-of ws)) (record { code = insert-all time (timers-in (length out) out) (entries-of ws) .code; entries = entries-of ws }) (ne-eqb _ 0 (λ o. n (all-code ∙ o)))))
+      ∙ ap put (sym (choose-no (eqb (insert-all time (timers-in out) (entries-of ws) .code) 0) (insert-all time (timers-in out) (entries-of ws)) (record { code = insert-all time (timers-in out) (entries-of ws) .code; entries = entries-of ws }) (ne-eqb _ 0 (λ o. n (all-code ∙ o)))))
 
   pub all-put : code ≡ 0 → record { code = 0; words = q } ≡ put (insert-records time out (entries-of ws))
   unfolding insert-records all-or-none
-  all-put c = ap (λ (n : ℕ). words-of n q) (sym c) ∙ e ∙ ap put (sym (choose-yes (eqb (insert-all time (timers-in (length out) out) (entries-of ws) .code) 0) (insert-all time (timers-in (length out) out) (entries-of ws)) (record { code = insert-all time (timers-in (length out) out) (entries-of ws) .code; entries = entries-of ws }) (eq-eqb _ 0 (sym all-code ∙ c))))
+  all-put c = ap (λ (n : ℕ). words-of n q) (sym c) ∙ e ∙ ap put (sym (choose-yes (eqb (insert-all time (timers-in out) (entries-of ws) .code) 0) (insert-all time (timers-in out) (entries-of ws)) (record { code = insert-all time (timers-in out) (entries-of ws) .code; entries = entries-of ws }) (eq-eqb _ 0 (sym all-code ∙ c))))
 
 module _ (ws out : List ℕ) (time : ℕ) (b : Bool) (e : b ≡ queue-ok ws) where
   pub records-asked : (r : PutWords) → b ≡ true → r ≡ put (insert-records time out (entries-of ws)) → r ≡ records-inserted time out ws

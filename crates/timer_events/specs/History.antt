@@ -67,7 +67,7 @@ entries-from time (x ∷ xs) = record { time = time + x .delay; item = x .item }
 -- what a call asks to put in
 unfoldable pub asked : Call → List Entry
 asked (insert time delay x) = record { time = time + delay; item = x } ∷ []
-asked (insert-records time out) = entries-from time (timers-in (length out) out)
+asked (insert-records time out) = entries-from time (timers-in out)
 asked (pop-before limit) = []
 asked (pop-event limit out) = []
 asked first = []

@@ -1,17 +1,16 @@
 -- Document 02, S-1: all timer records of an output, put into the queue at once.
 -- Assumes nothing.
-use Prim.Native.Nat.{ℕ, zero, suc}
-use mathlib.Core.List.{List, [], _∷_, _++_}
-use lib.ListN.{length, take, drop}
+use Prim.Native.Nat.{ℕ}
+use mathlib.Core.List.{List, [], _∷_, flatMap}
+use lib.ListN.{length, take}
 use lib.Dec.{ltb, eqb}
 use Rattle.lists.specs.Lists.{choose}
-use Rattle.record.specs.Format.{header-length}
 use Rattle.record.specs.Read.{header-of, is-timer}
+use Rattle.record.specs.Walk.{whole-length, records-in}
 use Rattle.record.specs.Answers.{answer}
 use Rattle.record.specs.declared.Header.{Header}
 use Rattle.record.specs.declared.Answer.{Answer}
 use Rattle.record.specs.declared.Answer.the-variants as Answers
-use Rattle.history.specs.Ledger.{whole-length}
 use Rattle.timer_map.specs.Entries.{Put, insert}
 use Rattle.timer_map.specs.Words.{entries-of, queue-ok}
 use Rattle.timer_map.specs.Calls.{PutWords, put}
@@ -39,12 +38,9 @@ start-of n b = choose (ltb (length b) n) no-start (started-by (answer (take n b)
 unfoldable pub timer-of : List ℕ → List Start
 timer-of b = choose (is-timer (header-of b)) (start-of (whole-length b) b ∷ []) []
 
--- the timers of an output, its records taken as the ledger takes them (`read-records`)
-unfoldable pub timers-in : ℕ → List ℕ → List Start
-timers-in zero b = []
-timers-in (suc n) b =
-    choose (ltb (length b) header-length) []
-    (choose (eqb (whole-length b) 0) [] (timer-of b ++ timers-in n (drop (whole-length b) b)))
+-- the timers of an output's records, in order
+unfoldable pub timers-in : List ℕ → List Start
+timers-in out = flatMap timer-of (records-in out)
 
 -- one after the other, up to the first refusal
 unfoldable pub insert-all : ℕ → List Start → List Entry → Put
@@ -59,7 +55,7 @@ unfoldable pub all-or-none : List Entry → Put → Put
 all-or-none es p = choose (eqb (p .code) 0) p (record { code = p .code; entries = es })
 
 unfoldable pub insert-records : ℕ → List ℕ → List Entry → Put
-insert-records time out es = all-or-none es (insert-all time (timers-in (length out) out) es)
+insert-records time out es = all-or-none es (insert-all time (timers-in out) es)
 
 -- of any words
 unfoldable pub records-inserted : ℕ → List ℕ → List ℕ → PutWords

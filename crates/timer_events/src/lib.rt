@@ -8,7 +8,6 @@ ghost use mathlib.Core.Path.{_≡_};
 ghost use mathlib.Core.Bool.{true, false};
 ghost use mathlib.Core.List.{[]};
 ghost use Prim.Native.Nat.{_≤_};
-ghost use lib.ListN.{length};
 ghost use Rattle.record.specs.Read.{header-of};
 ghost use Rattle.writer64.specs.Write.{rec-in};
 ghost use Rattle.timer_map.specs.Words.{entries-of, Sound};
@@ -119,7 +118,7 @@ fn insert_record(q: &mut [u64], time: u64, b: &[u8], h: Header) -> u32
 // The timers of an output one after the other, up to the first that is refused.
 fn insert_all(q: &mut [u64], time: u64, out: &[u8]) -> u32
     requires { ⌜ Sound (now q) ⌝ }
-    ensures { λ r. ⌜ record { code = r; words = now (q .exit) } ≡ put (insert-all time (timers-in (length (now (out .entry))) (now (out .entry))) (entries-of (now (q .entry)))) ⌝ }
+    ensures { λ r. ⌜ record { code = r; words = now (q .exit) } ≡ put (insert-all time (timers-in (now (out .entry))) (entries-of (now (q .entry)))) ⌝ }
 {
     let mut rest = out;
     while HEADER <= rest.len() {

@@ -2,12 +2,13 @@
 use lib.ListN.{length}
 use borrow.Author.Needs.{needs}
 use Rattle.run_text.proofs.Laws.{Listing, listing-start, listing-few, listing-none, listing-next, listing-last}
-use Rattle.run_text.specs.Lines.{heads, record-lines}
+use Rattle.record.specs.Walk.{headers}
+use Rattle.run_text.specs.Lines.{record-lines}
 use Rattle.run_text.proofs.put_records.Statement.{statement}
 use Rattle.run_text.proofs.put_records.Tie as tie
 
 abbrev Inv-loop : tie.InvT-loop
-Inv-loop out₀ i records r₀ rest₀ out r rest = Listing i (record-lines i (heads (length records) records)) r₀ out₀ r out rest
+Inv-loop out₀ i records r₀ rest₀ out r rest = Listing i (record-lines i (headers records)) r₀ out₀ r out rest
 
 abbrev μ-loop : tie.MeasureT-loop
 μ-loop out₀ i records r₀ rest₀ out r rest = length rest

@@ -8,7 +8,7 @@ use Rattle.timer_events.proofs.insert_all.Statement.{statement}
 use Rattle.timer_events.proofs.insert_all.Tie as tie
 
 abbrev Inv-loop : tie.InvT-loop
-Inv-loop q₀ time out rest₀ q rest = Inserting time (put (insert-all time (timers-in (length out) out) (entries-of q₀))) q₀ q rest
+Inv-loop q₀ time out rest₀ q rest = Inserting time (put (insert-all time (timers-in out) (entries-of q₀))) q₀ q rest
 
 abbrev μ-loop : tie.MeasureT-loop
 μ-loop q₀ time out rest₀ q rest = length rest
