@@ -35,7 +35,8 @@ import sys
 from collections import Counter
 from pathlib import Path
 
-USAGE = __doc__.split("\n\n")[1]
+import tool
+
 ROOT = Path(__file__).resolve().parent.parent
 STORED = ROOT / "oracle" / "sample" / "words.txt"
 ORACLE = ROOT / "oracle" / "target" / "release" / "oracle"
@@ -950,13 +951,11 @@ def main():
             raise SystemExit(f"{rest[0]}: not what make would write")
     elif mode == ["show"] and len(rest) == 3 and rest[1].isdigit() and rest[2].isdigit():
         show(Path(rest[0]), int(rest[1]), int(rest[2]))
-    elif mode in (["-h"], ["--help"]):
-        print(__doc__)
     else:
-        raise SystemExit(USAGE)
+        tool.usage(__doc__)
 
 
 try:
     main()
 except OSError as error:
-    raise SystemExit(f"{error.filename}: {error.strerror}")
+    tool.fail(f"{error.filename}: {tool.reason(error)}")
