@@ -8,11 +8,11 @@ use lib.Dec.{leb}
 use Rattle.lists.specs.Lists.{choose, is, count}
 use Rattle.timing.specs.declared.Config.{Config}
 use Rattle.peer.specs.Data.{Data}
+use Rattle.record.specs.Walk.{kind-in}
 use Rattle.protocol.specs.Run.{Run}
 use Rattle.protocol.specs.Peers.{is-newcomer, add-passive}
 use Rattle.protocol.specs.Evictions.{by-adding}
 use Rattle.protocol.specs.Handle.{new}
-use Rattle.history.specs.Ledger.{kind-in}
 use Rattle.history.specs.Calls.{Call, Machine, state-of, output-of, state-after, definition}
 use Rattle.history.specs.Outputs.{cut-records}
 
