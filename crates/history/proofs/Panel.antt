@@ -17,6 +17,7 @@ use Rattle.util.specs.Random.{pick}
 use Rattle.timing.specs.Timing.{default}
 use Rattle.peer.specs.Data.{Data}
 use Rattle.record.specs.Format.{encode}
+use Rattle.record.specs.Walk.{records-in, records-from}
 use Rattle.protocol.specs.Station.{Station, is-me, in-active, in-passive, in-view, passive-is-full}
 use Rattle.protocol.specs.Run.{Run, guard, on, draw, drawn, picked, message, timer, notice, node}
 use Rattle.protocol.specs.Peers as P
@@ -58,11 +59,11 @@ asked-3 = refl
 
 -- there are no notices and no data
 heard-2 : hears definition (asking 0) first ≡ (two-peers, []) ∷ (expired, []) ∷ []
-unfolding followed asking shown hears cut-records
+unfolding followed asking shown hears cut-records records-in records-from
 heard-2 = refl
 
 heard-3 : hears definition (asking 1) first ≡ (two-peers, []) ∷ (expired, []) ∷ []
-unfolding followed asking shown hears cut-records
+unfolding followed asking shown hears cut-records records-in records-from
 heard-3 = refl
 
 pub panel-cannot-tell : Panel-can-tell → ⊥

@@ -3,7 +3,6 @@
 use Prim.Native.Nat.{ℕ, _+_}
 use mathlib.Core.List.{List, [], _∷_}
 use mathlib.Core.Path.{_≡_}
-use lib.ListN.{length}
 use lib.Dec.{leb}
 use Rattle.lists.specs.Lists.{choose, is, count}
 use Rattle.timing.specs.declared.Config.{Config}
@@ -24,7 +23,7 @@ shown (b ∷ bs) = choose (leb 9 (kind-in b)) (b ∷ shown bs) (shown bs)
 -- of each call its event, and these records of its output
 unfoldable pub hears : {S : Type 0} → Machine S → List Call → S → List (List ℕ × List (List ℕ))
 hears m [] s = []
-hears m (v ∷ vs) s = (v .event, shown (cut-records (length (output-of m v s)) (output-of m v s))) ∷ hears m vs (state-of m v s)
+hears m (v ∷ vs) s = (v .event, shown (cut-records (output-of m v s))) ∷ hears m vs (state-of m v s)
 
 -- "the panel's own list is right": whoever hears the same holds the same spare addresses. Refuted (proofs/Panel): not so, since a peer that does not
 -- answer is dropped by a timer, and which peer was asked, a draw decides, which only the messages and timers of the output tell.
