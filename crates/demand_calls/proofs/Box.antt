@@ -74,10 +74,10 @@ on-time-follows (v ∷ vs) x waiting =
     let rest = on-time-follows vs (state-of box (v .call) x) in
     (λ i. choose (fires box v x) (is-first (v .at) waiting && rest (drop 1 waiting ++ set-by box v x) i) (rest (waiting ++ set-by box v x) i))
 
--- an accepted `new` leaves a tally of zeroes
-tally-zeroed : (x : Box) (me present : ℕ) (own : List ℕ) (c : Config) → made x me present own c .code ≡ 0 → made x me present own c .tally ≡ no-messages
+-- with any other code than 2 `new` leaves a tally of zeroes
+tally-zeroed : (x : Box) (me present : ℕ) (own : List ℕ) (c : Config) → (made x me present own c .code ≡ 2 → ⊥) → made x me present own c .tally ≡ no-messages
 unfolding made begun with-tally
-tally-zeroed x me present own c z = choose-no _ _ _ (ne-eqb (made x me present own c .code) 2 (λ e. omega (arith, z, e)))
+tally-zeroed x me present own c n = choose-no _ _ _ (ne-eqb (made x me present own c .code) 2 n)
 
 pub demand-3-holds : B.Demand3-holds
 unfolding made begun with-tally D.made
@@ -103,7 +103,7 @@ every-message-counted x me present own c t z vs n few =
     let start = filled (made x me present own c) in
     let e : ledger c vs start .sent ≡ ledger-after program (c .«active_view_capacity») vs (start .words) empty-ledger .sent = ap (λ (l : Ledger). l .sent) (ledgers-follow (c .«active_view_capacity») vs start empty-ledger) in
     ap (λ (y : Box). total (y .tally)) (states-follow vs start)
-    ∙ (ap (λ (u : Tally). total (tally-after program vs (start .words) u)) (tally-zeroed x me present own c z)
+    ∙ (ap (λ (u : Tally). total (tally-after program vs (start .words) u)) (tally-zeroed x me present own c (λ two. omega (arith, two, z)))
     ∙ (P.every-message-counted (x .words) me (not (eqb present 0)) own c t z vs n (subst (λ (k : ℕ). k ≤ top) e few) ∙ sym e))
 
 pub rejoin-promise : B.Rejoin-promise
@@ -134,3 +134,10 @@ never-unreachable x ok = P.never-unreachable (x .words) ok
 pub never-unreachable-after : B.Never-unreachable-after
 never-unreachable-after x me present own c t z vs =
     never-unreachable (state-after box vs (filled (made x me present own c))) (demand-3-holds x me present own c t z vs .rules-hold)
+
+pub refused-zeroes : B.Refused-zeroes
+unfolding made begun with-tally D.made
+refused-zeroes x me present own c one =
+    let zeroes = P.refused-zeroes (x .words) me (not (eqb present 0)) own c one in
+    let none = tally-zeroed x me present own c (λ two. omega (arith, two, one)) in
+    (λ i. record { words = zeroes i; tally = none i })

@@ -5,7 +5,7 @@ use Prim.Native.Nat.{ℕ, _≤_}
 use mathlib.Core.Path.{_≡_}
 use mathlib.Core.Bool.{Bool, true, not}
 use mathlib.Core.List.{List}
-use lib.ListN.{length}
+use lib.ListN.{length, replicate}
 use lib.Dec.{eqb}
 use Rattle.timing.specs.declared.Config.{Config}
 use Rattle.protocol.specs.Station.{Station}
@@ -17,7 +17,9 @@ use Rattle.history.specs.Rejoin.{ticks, Promised}
 use Rattle.tally.specs.declared.Tally.{Tally}
 use Rattle.tally.specs.Counts.{top}
 use Rattle.tally.specs.Sum.{total}
+use Rattle.tally.specs.History.{no-messages}
 use Rattle.shuffle_times.specs.Claims.{Timed}
+use Rattle.words.specs.Layout.{words}
 use Rattle.words.specs.Unpack.{unpack}
 use Rattle.rules_words.specs.Ok.{state-ok}
 use Rattle.queries_words.specs.Made.{lent}
@@ -108,3 +110,8 @@ abbrev pub Never-unreachable-after : Type 0
 Never-unreachable-after =
     (x : Box) (me present : ℕ) (own : List ℕ) (c : Config) → Typed me own → made x me present own c .code ≡ 0
     → (vs : List Call) → Goes-on (station-in (state-after box vs (filled (made x me present own c))))
+
+-- a refused `hyparview_new` leaves words and tally of zeroes
+abbrev pub Refused-zeroes : Type 0
+Refused-zeroes =
+    (x : Box) (me present : ℕ) (own : List ℕ) (c : Config) → made x me present own c .code ≡ 1 → filled (made x me present own c) ≡ record { words = replicate words 0; tally = no-messages }
