@@ -79,17 +79,18 @@ Shuffles-timed =
     (xs : List ℕ) (me : ℕ) (present : Bool) (own : List ℕ) (c : Config) → Typed me own → made xs me present own c .code ≡ 0
     → Timed program c (made xs me present own c .words)
 
--- of one call at words that keep the rules
-pub record Suffices (xs : List ℕ) (v : Call) : Type 0 where
+-- of one call to a machine, at a state that stands for a station
+pub record Suffices {S : Type 0} (m : Machine S) (station : S → Station) (s : S) (v : Call) : Type 0 where
   -- "8,192 output bytes and 512 draws always suffice"
-  pub no-five : 512 ≤ length (v .draws) → code-of program v xs ≡ 5 → ⊥
-  pub no-nine : 8192 ≤ length (v .output) → code-of program v xs ≡ 9 → ⊥
+  pub no-five : 512 ≤ length (v .draws) → code-of m v s ≡ 5 → ⊥
+  pub no-nine : 8192 ≤ length (v .output) → code-of m v s ≡ 9 → ⊥
   -- "The count in the result equals the draws the definition consumes, bounded by 512"
-  pub draws-used : program .used (v .event) (v .draws) (v .output) xs ≡ definition.handle (unpack xs) (v .event) (v .draws) (length (v .output)) .used
-  pub few-draws : program .used (v .event) (v .draws) (v .output) xs ≤ 512
+  pub draws-used : m .used (v .event) (v .draws) (v .output) s ≡ definition.handle (station s) (v .event) (v .draws) (length (v .output)) .used
+  pub few-draws : m .used (v .event) (v .draws) (v .output) s ≤ 512
 
+-- of words that keep the rules
 abbrev pub Enough-lent : Type 0
-Enough-lent = (xs : List ℕ) → state-ok xs ≡ true → (v : Call) → Suffices xs v
+Enough-lent = (xs : List ℕ) → state-ok xs ≡ true → (v : Call) → Suffices program unpack xs v
 
 -- "Code 1 belongs to `new` alone", whatever the words and the event are
 abbrev pub Never-one : Type 0

@@ -2,22 +2,26 @@
 -- Assumes nothing.
 use Prim.Native.Nat.{ℕ, _≤_}
 use mathlib.Core.Path.{_≡_, refl, sym, ap, subst, _∙_}
-use mathlib.Core.Bool.{not}
-use mathlib.Core.List.{List, [], _∷_}
+use mathlib.Core.Bool.{not, _&&_}
+use mathlib.Core.List.{List, [], _∷_, _++_}
 use native.Mathlib.Omega.{arith}
+use lib.ListN.{drop}
 use lib.Dec.{eqb}
 use borrow.Author.Tests.{ne-eqb}
-use Rattle.lists.specs.Lists.{mem}
+use Rattle.lists.specs.Lists.{choose, mem}
 use Rattle.lists.proofs.Choice.{choose-no}
 use Rattle.timing.specs.declared.Config.{Config}
 use Rattle.history.specs.Ledger.{Ledger, empty-ledger, feed}
 use Rattle.history.specs.Calls.{Call, code-of, state-of, output-of, state-after, codes, ledger-after}
 use Rattle.history.specs.Demand.{Views, Booked}
 use Rattle.history.specs.Outputs.{OutputsRead}
+use Rattle.history.specs.Rejoin.{Tick, is-tick, ticks}
 use Rattle.tally.specs.declared.Tally.{Tally}
 use Rattle.tally.specs.Counts.{top}
 use Rattle.tally.specs.Sum.{total}
 use Rattle.tally.specs.History.{no-messages, tally-after}
+use Rattle.shuffle_times.specs.Histories.{Brought, set-by, shuffles-due, counts, start-of, fires, is-first, on-time}
+use Rattle.shuffle_times.proofs.Carried.{timed-carried}
 use Rattle.words.specs.Unpack.{unpack}
 use Rattle.rules_words.specs.Ok.{state-ok}
 use Rattle.controller.specs.Calls.{with-tally, begun, counted, called}
@@ -25,7 +29,7 @@ use Rattle.demand.specs.Program as D
 use Rattle.demand.specs.Program.{program}
 use Rattle.demand.proofs.Program as P
 use Rattle.demand_calls.specs.Box as B
-use Rattle.demand_calls.specs.Box.{Box, made, filled, outcome, box, ledger}
+use Rattle.demand_calls.specs.Box.{Box, made, filled, outcome, box, station-in, ledger}
 
 states-follow : (vs : List Call) (x : Box) → state-after box vs x ≡ record { words = state-after program vs (x .words); tally = tally-after program vs (x .words) (x .tally) }
 unfolding state-after tally-after outcome D.outcome called counted
@@ -47,10 +51,33 @@ unfolding OutputsRead outcome D.outcome called counted
 outputs-follow [] x o = tt
 outputs-follow (v ∷ vs) x o = (o .0, outputs-follow vs (state-of box v x) (o .1))
 
--- an accepted `new` leaves a tally of zeroes
-tally-zeroed : (x : Box) (me present : ℕ) (own : List ℕ) (c : Config) → made x me present own c .code ≡ 0 → made x me present own c .tally ≡ no-messages
+ticks-follow : (vs : List Call) (x : Box) → ticks box station-in vs x ≡ ticks program unpack vs (x .words)
+unfolding ticks is-tick outcome D.outcome called counted
+ticks-follow [] x = refl
+ticks-follow (v ∷ vs) x =
+    ap (λ (ts : List Tick). choose (is-tick program v (x .words)) (record { met = station-in x; output = output-of box v x } ∷ ts) ts) (ticks-follow vs (state-of box v x))
+
+shuffles-follow : (vs : List Brought) (x : Box) → shuffles-due box vs x ≡ shuffles-due program vs (x .words)
+unfolding shuffles-due set-by outcome D.outcome called counted
+shuffles-follow [] x = refl
+shuffles-follow (v ∷ vs) x = ap (λ (ts : List ℕ). set-by box v x ++ ts) (shuffles-follow vs (state-of box (v .call) x))
+
+start-follows : (vs : List Brought) (x : Box) → start-of box vs x ≡ start-of program vs (x .words)
+unfolding start-of counts outcome D.outcome called counted
+start-follows [] x = refl
+start-follows (v ∷ vs) x = ap (choose (counts box v x) (v .at)) (start-follows vs (state-of box (v .call) x))
+
+on-time-follows : (vs : List Brought) (x : Box) (waiting : List ℕ) → on-time box vs x waiting ≡ on-time program vs (x .words) waiting
+unfolding on-time fires set-by outcome D.outcome called counted
+on-time-follows [] x waiting = refl
+on-time-follows (v ∷ vs) x waiting =
+    let rest = on-time-follows vs (state-of box (v .call) x) in
+    (λ i. choose (fires box v x) (is-first (v .at) waiting && rest (drop 1 waiting ++ set-by box v x) i) (rest (waiting ++ set-by box v x) i))
+
+-- with any other code than 2 `new` leaves a tally of zeroes
+tally-zeroed : (x : Box) (me present : ℕ) (own : List ℕ) (c : Config) → (made x me present own c .code ≡ 2 → ⊥) → made x me present own c .tally ≡ no-messages
 unfolding made begun with-tally
-tally-zeroed x me present own c z = choose-no _ _ _ (ne-eqb (made x me present own c .code) 2 (λ e. omega (arith, z, e)))
+tally-zeroed x me present own c n = choose-no _ _ _ (ne-eqb (made x me present own c .code) 2 n)
 
 pub demand-3-holds : B.Demand3-holds
 unfolding made begun with-tally D.made
@@ -76,5 +103,41 @@ every-message-counted x me present own c t z vs n few =
     let start = filled (made x me present own c) in
     let e : ledger c vs start .sent ≡ ledger-after program (c .«active_view_capacity») vs (start .words) empty-ledger .sent = ap (λ (l : Ledger). l .sent) (ledgers-follow (c .«active_view_capacity») vs start empty-ledger) in
     ap (λ (y : Box). total (y .tally)) (states-follow vs start)
-    ∙ (ap (λ (u : Tally). total (tally-after program vs (start .words) u)) (tally-zeroed x me present own c z)
+    ∙ (ap (λ (u : Tally). total (tally-after program vs (start .words) u)) (tally-zeroed x me present own c (λ two. omega (arith, two, z)))
     ∙ (P.every-message-counted (x .words) me (not (eqb present 0)) own c t z vs n (subst (λ (k : ℕ). k ≤ top) e few) ∙ sym e))
+
+pub rejoin-promise : B.Rejoin-promise
+unfolding made begun with-tally D.made
+rejoin-promise x me present own c t z vs before twelve after e =
+    P.rejoin-promise (x .words) me (not (eqb present 0)) own c t z vs before twelve after (sym (ticks-follow vs (filled (made x me present own c))) ∙ e)
+
+pub shuffles-timed : B.Shuffles-timed
+unfolding made begun with-tally D.made
+shuffles-timed x me present own c t z =
+    let start = filled (made x me present own c) in
+    timed-carried (λ vs. shuffles-follow vs start) (λ vs. start-follows vs start) (λ vs. on-time-follows vs start []) c (P.shuffles-timed (x .words) me (not (eqb present 0)) own c t z)
+
+-- One call: the tally stands beside the answer, and changes neither code nor draws.
+pub enough-lent : B.Enough-lent
+unfolding outcome D.outcome called counted
+enough-lent x ok v =
+    let k = P.enough-lent (x .words) ok v in
+    record { no-five = k .no-five; no-nine = k .no-nine; draws-used = k .draws-used; few-draws = k .few-draws }
+
+pub never-one : B.Never-one
+unfolding outcome D.outcome called counted
+never-one x v e = P.never-one (x .words) v e
+
+pub never-unreachable : B.Never-unreachable
+never-unreachable x ok = P.never-unreachable (x .words) ok
+
+pub never-unreachable-after : B.Never-unreachable-after
+never-unreachable-after x me present own c t z vs =
+    never-unreachable (state-after box vs (filled (made x me present own c))) (demand-3-holds x me present own c t z vs .rules-hold)
+
+pub refused-zeroes : B.Refused-zeroes
+unfolding made begun with-tally D.made
+refused-zeroes x me present own c one =
+    let zeroes = P.refused-zeroes (x .words) me (not (eqb present 0)) own c one in
+    let none = tally-zeroed x me present own c (λ two. omega (arith, two, one)) in
+    (λ i. record { words = zeroes i; tally = none i })

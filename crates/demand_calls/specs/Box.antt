@@ -3,23 +3,28 @@
 -- Assumes nothing.
 use Prim.Native.Nat.{ℕ, _≤_}
 use mathlib.Core.Path.{_≡_}
-use mathlib.Core.Bool.{true, not}
+use mathlib.Core.Bool.{Bool, true, not}
 use mathlib.Core.List.{List}
-use lib.ListN.{length}
+use lib.ListN.{length, replicate}
 use lib.Dec.{eqb}
 use Rattle.timing.specs.declared.Config.{Config}
+use Rattle.protocol.specs.Station.{Station}
 use Rattle.history.specs.Ledger.{Ledger, empty-ledger}
-use Rattle.history.specs.Calls.{Call, narrow-draws, Machine, state-after, ledger-after}
+use Rattle.history.specs.Calls.{Call, narrow-draws, Machine, code-of, state-after, ledger-after}
 use Rattle.history.specs.Demand.{Demand3}
 use Rattle.history.specs.Outputs.{OutputsRead}
+use Rattle.history.specs.Rejoin.{ticks, Promised}
 use Rattle.tally.specs.declared.Tally.{Tally}
 use Rattle.tally.specs.Counts.{top}
 use Rattle.tally.specs.Sum.{total}
+use Rattle.tally.specs.History.{no-messages}
+use Rattle.shuffle_times.specs.Claims.{Timed}
+use Rattle.words.specs.Layout.{words}
 use Rattle.words.specs.Unpack.{unpack}
 use Rattle.rules_words.specs.Ok.{state-ok}
 use Rattle.queries_words.specs.Made.{lent}
 use Rattle.controller.specs.Calls.{Begun, begun, Called, called}
-use Rattle.demand.specs.Program.{Typed}
+use Rattle.demand.specs.Program.{Typed, Suffices, Goes-on}
 
 -- what the box lends, and keeps between calls
 pub record Box : Type 0 where
@@ -46,11 +51,24 @@ box = record {
   output = λ b ds out x. outcome b ds out x .output;
 }
 
+-- the station that it holds, and whether the words keep the rules
+abbrev pub station-in : Box → Station
+station-in x = unpack (x .words)
+
+abbrev pub box-passes : Box → Bool
+box-passes x = state-ok (x .words)
+
 -- Demand 3. "For every list of events brought to a new station": one that `hyparview_new` answered with code 0
 abbrev pub Demand3-holds : Type 0
 Demand3-holds =
     (x : Box) (me present : ℕ) (own : List ℕ) (c : Config) → Typed me own → made x me present own c .code ≡ 0
-    → (vs : List Call) → Demand3 box (λ y. unpack (y .words)) (λ y. state-ok (y .words)) me c (filled (made x me present own c)) vs
+    → (vs : List Call) → Demand3 box station-in box-passes me c (filled (made x me present own c)) vs
+
+-- the rejoin promise, for the same lists
+abbrev pub Rejoin-promise : Type 0
+Rejoin-promise =
+    (x : Box) (me present : ℕ) (own : List ℕ) (c : Config) → Typed me own → made x me present own c .code ≡ 0
+    → (vs : List Call) → Promised (ticks box station-in vs (filled (made x me present own c)))
 
 -- what an accepted call writes is read back, for the same lists; draws have 32 bits by their type
 abbrev pub Outputs-read-back : Type 0
@@ -68,3 +86,32 @@ Every-message-counted =
     (x : Box) (me present : ℕ) (own : List ℕ) (c : Config) → Typed me own → made x me present own c .code ≡ 0
     → (vs : List Call) → narrow-draws vs ≡ true → ledger c vs (filled (made x me present own c)) .sent ≤ top
     → total (state-after box vs (filled (made x me present own c)) .tally) ≡ ledger c vs (filled (made x me present own c)) .sent
+
+-- S-11 of document 02: when its shuffles are due
+abbrev pub Shuffles-timed : Type 0
+Shuffles-timed =
+    (x : Box) (me present : ℕ) (own : List ℕ) (c : Config) → Typed me own → made x me present own c .code ≡ 0
+    → Timed box c (filled (made x me present own c))
+
+-- "8,192 output bytes and 512 draws always suffice": of one call at words that keep the rules, whatever the tally is
+abbrev pub Enough-lent : Type 0
+Enough-lent = (x : Box) → box-passes x ≡ true → (v : Call) → Suffices box station-in x v
+
+-- "Code 1 belongs to `new` alone", whatever the words, the tally and the event are
+abbrev pub Never-one : Type 0
+Never-one = (x : Box) (v : Call) → code-of box v x ≡ 1 → ⊥
+
+-- the Rust's `unreachable!` is not reached at words that keep the rules
+abbrev pub Never-unreachable : Type 0
+Never-unreachable = (x : Box) → box-passes x ≡ true → Goes-on (station-in x)
+
+-- and so after every list of calls
+abbrev pub Never-unreachable-after : Type 0
+Never-unreachable-after =
+    (x : Box) (me present : ℕ) (own : List ℕ) (c : Config) → Typed me own → made x me present own c .code ≡ 0
+    → (vs : List Call) → Goes-on (station-in (state-after box vs (filled (made x me present own c))))
+
+-- a refused `hyparview_new` leaves words and tally of zeroes
+abbrev pub Refused-zeroes : Type 0
+Refused-zeroes =
+    (x : Box) (me present : ℕ) (own : List ℕ) (c : Config) → made x me present own c .code ≡ 1 → filled (made x me present own c) ≡ record { words = replicate words 0; tally = no-messages }

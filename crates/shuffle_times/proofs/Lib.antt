@@ -6,4 +6,5 @@ pub mod Sets
 pub mod Tied
 pub mod Witness
 pub mod Claims
+pub mod Carried
 pub mod Packed

@@ -1,10 +1,10 @@
 -- S-11 holds of a machine that packs its stations, as the program does.
 -- Assumes nothing.
-use Prim.Native.Nat.{ℕ, _-_, _≤_}
+use Prim.Native.Nat.{ℕ}
 use mathlib.Core.Path.{_≡_, refl, sym, ap, subst, _∙_}
 use mathlib.Core.Bool.{Bool, true, _&&_}
 use mathlib.Core.List.{List, [], _∷_, _++_}
-use lib.ListN.{length, getD, drop}
+use lib.ListN.{length, drop}
 use lib.Dec.{leb, eqb}
 use Rattle.lists.specs.Lists.{choose}
 use Rattle.lists.proofs.Choice.{choose-yes, and-left, and-right}
@@ -20,9 +20,9 @@ use Rattle.history.specs.Ledger.{Ledger}
 use Rattle.history.specs.Calls.{Given, Machine, state-of, answer, definition}
 use Rattle.history.specs.Packing.{Packs}
 use Rattle.history.proofs.Kept.{Kept, fine-answer, kept-new, accepted-new}
-use Rattle.shuffle_times.specs.Times.{first-interval, dues, shuffle-times}
 use Rattle.shuffle_times.specs.Histories.{Brought, shuffle-delays, after, set-by, shuffles-due, counts, start-of, fires, is-first, on-time}
 use Rattle.shuffle_times.specs.Claims.{Timed}
+use Rattle.shuffle_times.proofs.Carried.{timed-carried}
 use Rattle.shuffle_times.proofs.Claims.{shuffles-timed}
 
 module _ {S : Type 0} {m : Machine S} {pack : Station → S} {station : S → Station} {ok : S → Bool} (k : Packs m pack station ok) where
@@ -61,31 +61,7 @@ module _ {S : Type 0} {m : Machine S} {pack : Station → S} {station : S → St
         (λ i. choose (eqb (kind-in (v .call .event)) 1 && eqb (k .code (v .call) g t i) 0) (is-first (v .at) waiting && after-set (drop 1 waiting) i) (after-set waiting i))
 
     packed : {l : Ledger} {g : Station} → Kept c me l g → Timed definition c g → Timed m c (pack g)
-    packed {g = g} h d =
-        let top = c .«shuffle_interval» in
-        record {
-          due-times-tied = λ vs o. let w = d .due-times-tied vs (sym (on-time-follows vs h []) ∙ o) in record {
-            draws = w .draws;
-            are-draws = w .are-draws;
-            same = shuffles-follow vs h ∙ (w .same ∙ ap (λ (t : ℕ). dues top (first-interval top) t (w .draws)) (sym (start-follows vs h)));
-          };
-          nothing-outside = λ vs o earliest latest n e from to many.
-              let w = d .nothing-outside vs (sym (on-time-follows vs h []) ∙ o) earliest latest n e (subst (λ (t : ℕ). earliest ≤ t) (start-follows vs h) from)
-              (subst (λ (t : ℕ). t ≤ latest) (start-follows vs h) to) (subst (λ (x : List ℕ). n ≤ length x) (shuffles-follow vs h) many) in
-              record {
-                not-before = subst (λ (x : List ℕ). shuffle-times earliest latest c n .earliest ≤ getD x (n - 1) 0) (sym (shuffles-follow vs h)) (w .not-before);
-                not-after = subst (λ (x : List ℕ). getD x (n - 1) 0 ≤ shuffle-times earliest latest c n .latest) (sym (shuffles-follow vs h)) (w .not-after);
-              };
-          every-one-reached = λ earliest latest n e t from to. let w = d .every-one-reached earliest latest n e t from to in record {
-            calls = w .calls;
-            fire = on-time-follows (w .calls) h [] ∙ w .fire;
-            ordered = w .ordered;
-            not-early = subst (λ (x : ℕ). earliest ≤ x) (sym (start-follows (w .calls) h)) (w .not-early);
-            not-late = subst (λ (x : ℕ). x ≤ latest) (sym (start-follows (w .calls) h)) (w .not-late);
-            enough = subst (λ (x : List ℕ). n ≤ length x) (sym (shuffles-follow (w .calls) h)) (w .enough);
-            due-then = ap (λ (x : List ℕ). getD x (n - 1) 0) (shuffles-follow (w .calls) h) ∙ w .due-then;
-          };
-        }
+    packed h = timed-carried (λ vs. shuffles-follow vs h) (λ vs. start-follows vs h) (λ vs. on-time-follows vs h []) c
 
   -- from a new station that was packed
   pub timed-packed : (me : ℕ) (d : Data) (c : Config) → Given me d → new me d c .code ≡ 0 → Timed m c (pack (new me d c .state))
