@@ -9,6 +9,9 @@ dispatch-requires c κs = c .before .before .before .before .before .before .pre
 first-timers-requires : tie.Need-first-timers-requires
 first-timers-requires c κs = (search needs, c .before .before .before .before .before .before .dispatch .ensures .fine)
 
+forget-declined-requires : tie.Need-forget-declined-requires
+forget-declined-requires c κs = (search needs, c .before .before .before .before .before .first-timers .ensures .fine .ready .packed)
+
 same-length : tie.Need-same-length
 same-length c = search needs
 
@@ -16,7 +19,7 @@ same-length-2 : tie.Need-same-length-2
 same-length-2 c = search needs
 
 returns : tie.Need-returns
-returns c = stepped _ _ _ _ _ _ _ _ (c .before .before .before .before .first-timers .ensures) (c .before .before .before .before .before .before .before .before .before .before .before .dispatch .ensures)
+returns c = stepped _ _ _ _ _ _ _ _ _ (c .before .before .forget-declined .ensures) (c .before .before .before .before .before .before .before .before .first-timers .ensures) (c .before .before .before .before .before .before .before .before .before .before .before .before .before .before .before .dispatch .ensures)
 
 pub steps-spec : {M : Type 1} → statement M
-steps-spec = tie.close (tie.spec dispatch-requires first-timers-requires same-length same-length-2 returns)
+steps-spec = tie.close (tie.spec dispatch-requires first-timers-requires forget-declined-requires same-length same-length-2 returns)
