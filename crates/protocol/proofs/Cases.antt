@@ -11,8 +11,8 @@ use Rattle.timing.specs.declared.Config.{Config}
 use Rattle.peer.specs.Data.{Data}
 use Rattle.record.specs.Format.{encode}
 use Rattle.protocol.specs.Station.{Station, automatic}
-use Rattle.protocol.specs.Setters.{set-active, set-passive, set-requests, set-next-request, set-next-join, set-peer-data, set-refused}
-use Rattle.protocol.specs.Run.{node, message}
+use Rattle.protocol.specs.Setters.{set-active, set-passive, set-requests, set-next-request, set-next-join, set-peer-data, set-refused, set-scheduled}
+use Rattle.protocol.specs.Run.{node, message, notice, data-notice}
 use Rattle.protocol.specs.Peers.{insert-peer-info}
 use Rattle.protocol.specs.Handle.{new, new-station, zero-station, start, handle}
 use Rattle.protocol.specs.Traced.{traced}
@@ -223,3 +223,26 @@ asked-is-held = refl
 pub declined-is-dropped : handle (set-peer-data ((200, 1 ∷ []) ∷ []) (set-requests ((200, 0) ∷ []) (set-next-request 1 fresh))) (encode (message 5 200 1 0 0 [])) (0 ∷ []) 200 .state .peer-data ≡ []
 unfolding traced default
 declined-is-dropped = refl
+
+-- 02, S-2: a passive view of one place, which peer 7 has, at a station whose one neighbour is 2
+unfoldable pub one-place : Config
+one-place = record {
+  «active_view_capacity» = 1;
+  «passive_view_capacity» = 1;
+  «active_random_walk_length» = 6;
+  «passive_random_walk_length» = 3;
+  «shuffle_random_walk_length» = 6;
+  «shuffle_active_view_count» = 3;
+  «shuffle_passive_view_count» = 4;
+  «shuffle_interval» = 60000;
+  «neighbor_request_timeout» = 3000;
+}
+
+abbrev pub occupied : Station
+occupied = set-scheduled true (set-active (2 ∷ []) (set-passive (7 ∷ []) (new-station 1 none one-place)))
+
+-- a ShuffleReply brings 8: its data (kind 11), then who left for it (kind 12), and 8 has the place
+pub evicting : handle occupied (encode (message 3 2 0 0 0 (node 8 (some (5 ∷ [])) ∷ []))) (0 ∷ []) 57
+    ≡ record { code = 0; state = set-passive (8 ∷ []) (set-peer-data ((8, 5 ∷ []) ∷ []) occupied); used = 1; output = encode (data-notice 8 (5 ∷ [])) ++ encode (notice 12 7) }
+unfolding traced one-place
+evicting = refl
