@@ -53,7 +53,7 @@ count-one x p = omega arith
 pub count-snoc : (x : ℕ) (xs : List ℕ) (p : ℕ) → count x (xs ++ (p ∷ [])) ≡ count x xs + is x p
 count-snoc x xs p = omega (arith, count-append x xs (p ∷ []), count-one x p)
 
-count-set : (x : ℕ) (xs : List ℕ) (i v : ℕ) → i < length xs → count x (set xs i v) + is x (getD xs i 0) ≡ count x xs + is x v
+pub count-set : (x : ℕ) (xs : List ℕ) (i v : ℕ) → i < length xs → count x (set xs i v) + is x (getD xs i 0) ≡ count x xs + is x v
 unfolding count
 count-set x [] i v h = absurd (not-suc-le-zero h)
 count-set x (p ∷ xs) zero v h = omega arith
