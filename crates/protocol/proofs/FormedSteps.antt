@@ -27,7 +27,7 @@ use Rattle.protocol.proofs.Narrow as N
 use Rattle.protocol.proofs.Narrow.{Peer, Peers, no-peer, no-peers, Held, Named, Narrow, at, change, change-held, change-next-request, held-lookup, named-infos}
 use Rattle.protocol.proofs.Forms.{form-join, form-reply, form-neighbor, form-disconnect, form-request-timer, form-up, form-down, form-data}
 use Rattle.protocol.proofs.Keeping.{six, eight, ten, require-fine}
-use Rattle.protocol.proofs.Formed.{Formed, either, alter, asked, claim, drew, drew-shuffle, wrote, picked-peer, shuffled-peers}
+use Rattle.protocol.proofs.Formed.{Formed, either, alter, asked, claim, drew-one-of, drew-shuffle, wrote, picked-peer, shuffled-peers}
 
 -- what is held of a peer, and its mark
 pub drop-data-narrow : (p : ℕ) (s : Station) → Narrow s → Narrow (P.drop-data p s)
@@ -71,7 +71,7 @@ module _ {ds : List ℕ} where
   formed-make-room : {r : Run} → Formed ds r → Formed ds (P.make-room r)
   unfolding P.make-room P.evict-at P.shift-passive
   formed-make-room k =
-      either _ (formed-forget _ (alter (P.shift-passive _) (λ w. change w N.passive _ (all-shift-remove Peer _ _ (at w N.passive))) (drew 1 k))) k
+      either _ (formed-forget _ (alter (P.shift-passive _) (λ w. change w N.passive _ (all-shift-remove Peer _ _ (at w N.passive))) (drew-one-of _ k))) k
 
   pub formed-add-passive : (p : ℕ) (d : Data) {r : Run} → Peer p → Held (bytes-of d) → Formed ds r → Formed ds (P.add-passive p d r)
   unfolding P.add-passive P.enter-passive P.push-passive
@@ -144,7 +144,7 @@ module _ {ds : List ℕ} where
   formed-ask-one : (from : List ℕ) {r : Run} → Peers from → Formed ds r → Formed ds (F.ask-one from r)
   unfolding F.ask-one F.ask-picked F.use-request
   formed-ask-one from {r} a k =
-      either _ (formed-end-recovery k) (alter F.use-request (λ w. w) (formed-send-neighbor _ _ (picked-peer from r a) (drew 1 k)))
+      either _ (formed-end-recovery k) (alter F.use-request (λ w. w) (formed-send-neighbor _ _ (picked-peer from r a) (drew-one-of _ k)))
 
   pub formed-refill : (skip : List ℕ) {r : Run} → Formed ds r → Formed ds (F.refill-active-from-passive skip r)
   unfolding F.refill-active-from-passive F.refill-limited F.limit-short F.candidates
@@ -189,7 +189,7 @@ module _ {ds : List ℕ} where
 
   formed-free-slot : {r : Run} → Formed ds r → Formed ds (A.free-random-slot-in-active-view r)
   unfolding A.free-random-slot-in-active-view A.remove-picked
-  formed-free-slot k = either _ k (formed-remove-at _ random (drew 1 k))
+  formed-free-slot k = either _ k (formed-remove-at _ random (drew-one-of _ k))
 
   -- into it
   formed-enter : (p : ℕ) (high reply : Bool) {r : Run} → Peer p → Formed ds r → Formed ds (A.add-active-unchecked p high reply r)

@@ -8,11 +8,10 @@ use lib.ListN.{length, getD}
 use lib.Dec.{ltb}
 use Rattle.lists.specs.Lists.{choose, null, mem, shift-remove, remove, without}
 use Rattle.lists.specs.Maps.{has, lookup, cut, put}
-use Rattle.util.specs.Random.{pick}
 use Rattle.peer.specs.Data.{Data, Node, holds}
 use Rattle.protocol.specs.Station.{Station, is-me, in-view, passive-is-full, max-peer-data}
 use Rattle.protocol.specs.Setters.{set-passive, set-peer-data, set-alive}
-use Rattle.protocol.specs.Run.{Run, on, emit, draw, require, drawn, data-notice}
+use Rattle.protocol.specs.Run.{Run, on, emit, require, one-of, draw-one-of, data-notice}
 
 -- insert_peer_info
 
@@ -73,7 +72,7 @@ unfoldable pub must-evict : Station → Bool
 must-evict s = passive-is-full s && not (null (s .passive))
 
 unfoldable pub make-room : Run → Run
-make-room r = choose (must-evict (r .station)) (evict-at (pick (length (r .station .passive)) (drawn r)) (draw 1 r)) r
+make-room r = choose (must-evict (r .station)) (evict-at (one-of (length (r .station .passive)) r) (draw-one-of (length (r .station .passive)) r)) r
 
 -- neither the station itself nor in a view
 unfoldable pub is-newcomer : ℕ → Station → Bool
