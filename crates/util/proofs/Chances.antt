@@ -4,16 +4,16 @@ use Prim.Native.Nat.{ℕ, zero, suc, _+_, _-_, _%_, _≤_, _<_}
 use mathlib.Core.Path.{_≡_, refl, sym, ap, _∙_}
 use mathlib.Core.Bool.{false}
 use mathlib.Core.List.{List, [], _∷_, _++_}
-use native.Mathlib.Nat.{mod-lt}
-use native.Mathlib.Numerals.{add-one}
+use native.Mathlib.Nat.{mod-lt, zero-mod, not-suc-le-zero}
+use native.Mathlib.Numerals.{add-one, sub-one}
 use native.Mathlib.Omega.{arith}
-use lib.ListN.{length, take, drop, getD, length-set, length-drop, take-append-drop}
-use lib.Seq.{take-add}
+use lib.ListN.{length, take, drop, getD, length-set, length-drop, take-append-drop, drop-of-length-le, List·getD-eq-default}
+use lib.Seq.{take-add, drop-cons, drop-drop, getD-drop}
 use lib.Dec.{eqb, ltb}
-use borrow.Author.Tests.{eqb-false, ltb-true, ltb-false, ne-eqb}
+use borrow.Author.Tests.{eqb-false, ltb-true, ltb-false, lt-ltb, le-ltb, ne-eqb}
 use Rattle.lists.specs.Lists.{choose, swap}
-use Rattle.lists.proofs.Choice.{by-choice, choose-no, split}
-use Rattle.util.specs.Chances.{all-draws, kept-end, is-kept, passed-over, pick-draws, pick, draws-down, shuffle-draws, sure-end, sure}
+use Rattle.lists.proofs.Choice.{by-choice, choose-yes, choose-no, split}
+use Rattle.util.specs.Chances.{all-draws, kept-end, is-kept, passed-over, pick-draws, pick, shuffle-down, draws-down, shuffle, shuffle-draws, sure-end, sure}
 
 -- a choice among n is below n
 pub pick-below : (n : ℕ) (ds : List ℕ) → 0 < n → pick n ds < n
@@ -24,6 +24,32 @@ pub length-swapped : (i j : ℕ) (xs : List ℕ) → length (swap i j xs) ≡ le
 unfolding swap
 length-swapped i j xs = simp length-set
 
+-- a shuffle has as many items
+shuffled-down : (i : ℕ) (ds xs : List ℕ) → length (shuffle-down i ds xs) ≡ length xs
+unfolding shuffle-down
+shuffled-down zero ds xs = refl
+shuffled-down (suc i) ds xs = shuffled-down i (drop (pick-draws (i + 2) ds) ds) _ ∙ length-swapped (suc i) _ xs
+
+pub length-shuffled : (ds xs : List ℕ) → length (shuffle ds xs) ≡ length xs
+unfolding shuffle
+length-shuffled ds xs = shuffled-down (length xs - 1) ds xs
+
+-- one turn of the shuffle's loop: place i, by the draws from place k on
+pub shuffle-step : (i : ℕ) (ds : List ℕ) (k : ℕ) (xs : List ℕ) → 0 < i
+    → shuffle-down i (drop k ds) xs ≡ shuffle-down (i - 1) (drop (k + pick-draws (i + 1) (drop k ds)) ds) (swap i (pick (i + 1) (drop k ds)) xs)
+unfolding shuffle-down
+shuffle-step zero ds k xs h = absurd (not-suc-le-zero h)
+shuffle-step (suc i) ds k xs h =
+    let e : i + 2 ≡ suc i + 1 = omega arith in
+    rw (sub-one (suc i), drop-drop (pick-draws (i + 2) (drop k ds)) k ds, e)
+
+pub draws-step : (i : ℕ) (ds : List ℕ) (k : ℕ) → 0 < i → draws-down i (drop k ds) ≡ pick-draws (i + 1) (drop k ds) + draws-down (i - 1) (drop (k + pick-draws (i + 1) (drop k ds)) ds)
+unfolding draws-down
+draws-step zero ds k h = absurd (not-suc-le-zero h)
+draws-step (suc i) ds k h =
+    let e : i + 2 ≡ suc i + 1 = omega arith in
+    rw (sub-one (suc i), drop-drop (pick-draws (i + 2) (drop k ds)) k ds, e)
+
 -- the draws of a choice: none, or those passed over and one more
 pub pick-none : (ds : List ℕ) → pick-draws 0 ds ≡ 0
 unfolding pick-draws choose
@@ -32,6 +58,61 @@ pick-none ds = refl
 pub pick-some : (n : ℕ) (ds : List ℕ) → 0 < n → pick-draws n ds ≡ passed-over n ds + 1
 unfolding pick-draws
 pick-some n ds h = choose-no (eqb n 0) 0 (passed-over n ds + 1) (ne-eqb n 0 (λ q. omega arith))
+
+few-passed : (n : ℕ) (ds : List ℕ) → passed-over n ds ≤ length ds
+unfolding passed-over
+few-passed n [] = omega arith
+few-passed n (d ∷ ds) = by-choice (λ (k : ℕ). k ≤ suc (length ds)) (is-kept n d) (λ e. omega arith) (λ e. omega (arith, few-passed n ds))
+
+-- at most one more than there are
+pub picks-next : (n k : ℕ) (ds : List ℕ) → 0 < n → pick-draws n (drop k ds) ≤ (length ds - k) + 1
+picks-next n k ds h = omega (arith, pick-some n (drop k ds) h, few-passed n (drop k ds), length-drop k ds)
+
+-- the loop that reads on: the draws from `at` to k are passed over
+pub record Passing (n at : ℕ) (ds : List ℕ) (k : ℕ) : Type 0 where
+  pub from : at ≤ k
+  pub passed : at + passed-over n (drop at ds) ≡ k + passed-over n (drop k ds)
+
+pub passing-start : (n at : ℕ) (ds : List ℕ) → Passing n at ds at
+passing-start n at ds = record { from = omega arith; passed = refl }
+
+module _ (n at : ℕ) (ds : List ℕ) (k : ℕ) (v : Passing n at ds k) where
+  first : k < length ds → passed-over n (drop k ds) ≡ choose (is-kept n (getD ds k 0)) 0 (suc (passed-over n (drop (suc k) ds)))
+  unfolding passed-over
+  first h = ap (passed-over n) (drop-cons ds k 0 h)
+
+  pub passing-next : k < length ds → all-draws - all-draws % n ≤ getD ds k 0 → Passing n at ds (k + 1)
+  unfolding is-kept kept-end
+  passing-next h l =
+      let e = choose-no {A = ℕ} (is-kept n (getD ds k 0)) 0 (suc (passed-over n (drop (suc k) ds))) (le-ltb (getD ds k 0) (all-draws - all-draws % n) l) in
+      record { from = omega (arith, v .from); passed = rw (add-one k) (omega (arith, v .passed, first h, e)) }
+
+  module _ (h : k < length ds) (l : getD ds k 0 < all-draws - all-draws % n) where
+    stops : at + passed-over n (drop at ds) ≡ k
+    unfolding is-kept kept-end
+    stops =
+        let e = choose-yes {A = ℕ} (is-kept n (getD ds k 0)) 0 (suc (passed-over n (drop (suc k) ds))) (lt-ltb (getD ds k 0) (all-draws - all-draws % n) l) in
+        omega (arith, v .passed, first h, e)
+
+    pub kept-index : getD ds k 0 % n ≡ pick n (drop at ds)
+    unfolding pick
+    kept-index = ap (λ (j : ℕ). getD ds j 0 % n) (sym stops) ∙ ap (λ (d : ℕ). d % n) (sym (getD-drop at ds (passed-over n (drop at ds)) 0))
+
+    pub kept-next : 0 < n → k + 1 ≡ at + pick-draws n (drop at ds)
+    kept-next z = omega (arith, stops, pick-some n (drop at ds) z)
+
+  module _ (h : length ds ≤ k) where
+    ends : at + passed-over n (drop at ds) ≡ k
+    unfolding passed-over
+    ends = omega (arith, v .passed, ap (passed-over n) (drop-of-length-le ds h))
+
+    pub none-index : 0 ≡ pick n (drop at ds)
+    unfolding pick
+    none-index =
+        sym (ap (λ (d : ℕ). d % n) (getD-drop at ds (passed-over n (drop at ds)) 0 ∙ ap (λ (j : ℕ). getD ds j 0) ends ∙ List·getD-eq-default ds 0 h) ∙ zero-mod n)
+
+    pub none-next : 0 < n → k + 1 ≡ at + pick-draws n (drop at ds)
+    none-next z = omega (arith, ends, pick-some n (drop at ds) z)
 
 -- ---- the draws that every choice keeps
 
