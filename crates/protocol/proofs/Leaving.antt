@@ -10,7 +10,6 @@ use Rattle.lists.specs.Lists.{choose, null, count, mem, index-of}
 use Rattle.lists.specs.Maps.{lookup}
 use Rattle.util.proofs.Chances.{pick-below}
 use Rattle.lists.proofs.Count.{is-self, count-at, count-swap, length-swap, count-without, index-lt}
-use Rattle.util.specs.Random.{pick}
 use Rattle.protocol.specs.Station.{recovery, in-active, is-alone}
 use Rattle.protocol.specs.Run.{Run, on, to-draw, one-of, notice}
 use Rattle.protocol.specs.Peers as P

@@ -12,7 +12,6 @@ use Rattle.lists.specs.Lists.{is, count, mem}
 use Rattle.lists.proofs.Choice.{by-choice, split, or-true, or-left, or-right, and-right, and-false}
 use Rattle.util.proofs.Chances.{pick-below}
 use Rattle.lists.proofs.Count.{is-self, is-le, is-not, is-split, is-yes, mem-true, mem-false, count-snoc, count-shift, length-shift, count-without, count-remove, length-remove, count-insert}
-use Rattle.util.specs.Random.{pick}
 use Rattle.peer.specs.Data.{Data, Node}
 use Rattle.protocol.specs.Station.{Station, is-me, in-active, in-passive, in-view, passive-is-full}
 use Rattle.protocol.specs.Run.{Run, guard, on, to-draw, one-of}

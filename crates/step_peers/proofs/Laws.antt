@@ -1,13 +1,12 @@
 -- Laws of the steps on peers that several proofs cite.
 -- Assumes nothing.
-use Prim.Native.Nat.{ℕ, _+_, _%_, _≤_, _<_}
+use Prim.Native.Nat.{ℕ, _≤_, _<_}
 use mathlib.Core.Path.{_≡_, refl, sym, ap, _∙_, subst}
 use mathlib.Core.Bool.{Bool, true, false, not, _||_, or-true, or-false}
 use mathlib.Core.List.{List, [], _∷_, _++_}
 use mathlib.Core.Option.{none, some}
 use native.Mathlib.Omega.{arith}
-use native.Mathlib.Nat.{mod-lt}
-use lib.ListN.{length, take, getD, length-append}
+use lib.ListN.{length, take, drop, getD, length-append}
 use lib.Dec.{eqb, leb, ltb}
 use borrow.Author.Tests.{eqb-false, leb-false, lt-ltb, le-ltb}
 use Rattle.lists.specs.Lists.{null, remove, shift-remove}
@@ -17,13 +16,15 @@ use Rattle.columns.specs.Columns.{data-at}
 use Rattle.lists.specs.Maps.{lookup, has}
 use Rattle.lists.proofs.Choice.{by-choice, choose-yes, choose-no, and-right, and-false}
 use Rattle.lists.proofs.Count.{length-shift, length-remove}
-use Rattle.util.specs.Random.{pick}
+use Rattle.util.specs.Chances.{pick}
+use Rattle.util.proofs.Chances.{pick-below}
 use Rattle.peer.specs.declared.PeerData.{PeerData}
 use Rattle.peer.specs.Held.{data-in}
 use Rattle.writer64.specs.Write.{rec-in}
 use Rattle.columns.specs.Columns.{node-in}
 use Rattle.words.specs.declared.Work.{Work}
-use Rattle.protocol.specs.Run.{Run, guard, on, emit, draw, drawn, require, node}
+use Rattle.protocol.specs.Run.{Run, guard, on, emit, to-draw, one-of, draw-one-of, require, node}
+use Rattle.protocol.proofs.Keeping.{one-of-station}
 use Rattle.words.specs.Work.{Held, work-of, ChangesAny, DrawsAny, TellsAny, run, Changes, Ready, Draws, Room, Tells, Fine, Does}
 use Rattle.words.proofs.Bridge.{unchanged, change-then, drawing, draw-then, draw-yes, draw-no, telling, tell-by, tell-then, tell-no, still, then-draw, then-tell, require-said}
 use Rattle.peer.specs.Data.{Data, bytes-of, holds}
@@ -140,21 +141,14 @@ pub evictable : (s : List ℕ) (t : Bool) → t ≡ must-evict (unpack s) → t 
 unfolding must-evict unpack
 evictable s t e h = was-not _ (and-right (passive-is-full (unpack s)) (not (null (unpack s .passive))) (sym e ∙ h))
 
-draw-station : (n : ℕ) (g : Run) → draw n g .station ≡ g .station
-unfolding draw guard
-draw-station n g =
-    by-choice (λ (x : Run). x .station ≡ g .station) (eqb (g .code) 0)
-    (λ e. by-choice (λ (x : Run). x .station ≡ g .station) (leb (g .used + n) (length (g .draws))) (λ f. refl) (λ f. refl))
-    (λ e. refl)
-
 -- the place chosen among the n passive peers is one of theirs
 pub still-below : (xs : List ℕ) (n i : ℕ) → n ≡ length (unpack xs .passive) → i < n → i < length (unpack xs .passive)
 still-below xs n i e h = omega (arith, e, h)
 
 module _ (w a r : Work) (xs ys ds : List ℕ) (n i : ℕ) (t : Bool) where
-  pub made : Ready (work-of w xs) ds → t ≡ must-evict (unpack xs) → t ≡ true → n ≡ length (unpack xs .passive) → i ≡ pick n (getD ds (w .drawn) 0)
-      → Changes (evict-at i) (work-of a xs) (work-of r ys) → DrawsAny (draw 1) w a ds → Draws make-room (work-of w xs) (work-of r ys) ds
-  unfolding make-room run unpack station-of drawn
+  pub made : Ready (work-of w xs) ds → t ≡ must-evict (unpack xs) → t ≡ true → n ≡ length (unpack xs .passive) → i ≡ pick n (drop (w .drawn) ds)
+      → Changes (evict-at i) (work-of a xs) (work-of r ys) → DrawsAny (draw-one-of n) w a ds → Draws make-room (work-of w xs) (work-of r ys) ds
+  unfolding make-room run unpack station-of one-of to-draw
   made v e h q u k₂ k₁ = let d = k₁ .any xs (v .packed) in draw-yes must-evict e _ h (draw-then _ (λ out. rw (u, q)) (drawing (d .ready) k₂) d)
 
 module _ (w : Held) (ds : List ℕ) (t : Bool) where
@@ -195,15 +189,14 @@ not-full s e l =
     (λ f. leb-false _ _ f)
     (λ f. omega (arith, none-in (s .passive) f))
 
-picked-in : (xs : List ℕ) (d : ℕ) → null xs ≡ false → pick (length xs) d < length xs
-unfolding pick
-picked-in xs d e = mod-lt d {m = length xs} (some-item xs e)
-
 made-free : (g : Run) → length (g .station .passive) ≤ g .station .config .«passive_view_capacity» → 1 ≤ g .station .config .«passive_view_capacity» → FreePassive (make-room g .code) (make-room g .station)
-unfolding make-room evict-at must-evict
+unfolding make-room evict-at must-evict one-of
 made-free g l m =
     by-choice (λ (x : Run). FreePassive (x .code) (x .station)) (must-evict (g .station))
-    (λ e. forget-free _ _ (shift-free _ (draw 1 g) (rw (draw-station 1 g) (picked-in (g .station .passive) (drawn g) (was-not _ (and-right (passive-is-full (g .station)) (not (null (g .station .passive))) e)))) (rw (draw-station 1 g) l)))
+    (λ e. let n = length (g .station .passive) in
+    forget-free _ _ (shift-free _ (draw-one-of n g)
+    (rw (one-of-station n g) (pick-below n (to-draw g) (some-item (g .station .passive) (was-not _ (and-right (passive-is-full (g .station)) (not (null (g .station .passive))) e)))))
+    (rw (one-of-station n g) l)))
     (λ e. record { free = λ z. not-full (g .station) e m })
 
 pub room-made : (w a : Work) (xs ys ds : List ℕ) → Ready (work-of w xs) ds → Draws make-room (work-of w xs) (work-of a ys) ds → FreePassive (a .code) (unpack ys)
