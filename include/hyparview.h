@@ -143,7 +143,9 @@ uint32_t hyparview_new(struct hyparview_controller *c, uint32_t me, uint8_t pres
                        struct hyparview_config config);
 
 /* One event. Accepted, code 0: *c is the station after it, its tally raised, and `out` has the records, then zeroes.
- * Refused: *c is as it was, `out` has zeroes alone, and no draw is used. 8,192 bytes and 512 draws always suffice. */
+ * Refused: *c is as it was, `out` has zeroes alone, and no draw is used. 8,192 bytes always suffice, and 512 draws below
+ * 2^32 - 32; of 512 even draws some may be passed over, and they are too few with a chance below 2^-5000: call again
+ * with others. */
 struct hyparview_done hyparview_handle(struct hyparview_controller *c, const uint8_t *event, size_t event_len,
                                        const uint32_t *draws, size_t draws_len, uint8_t *out, size_t out_len);
 
