@@ -2,8 +2,8 @@
 use hyparview_words::State;
 use run_input::Input;
 use run_input::Layout;
-use run_walk::Runner;
 use run_text::Text;
+use run_walk::Runner;
 ghost use mathlib.Core.Path.{_≡_};
 ghost use Prim.Native.Nat.{_≤_};
 ghost use lib.ListN.{length, drop};
