@@ -17,8 +17,11 @@ use crate::{
     text::{self, Start},
 };
 
-/// 01: so many draws always suffice.
-const MOST_DRAWN: usize = 512;
+/// So many draws suffice, if no choice passes over any of them.
+const ENOUGH_DRAWS: usize = 512;
+
+/// Below this no choice of at most 32 items passes over a draw (02, S-6).
+const SURE_END: u32 = u32::MAX - 31;
 
 /// One history under way, with its book.
 struct Watch {
@@ -44,6 +47,9 @@ impl Watch {
     /// Handles the event at `index`; answers with the answer and the claims that fail.
     fn step(&mut self, index: usize) -> (Answer, Vec<&'static str>) {
         let event = &self.input.events[index];
+        let left = &self.input.draws[self.station.place().min(self.input.draws.len())..];
+        let lent = left.len();
+        let sure = left.iter().filter(|draw| **draw < SURE_END).count();
         let answer = self.station.handle(event, self.start.room);
         let capacity = self.input.settings[0];
         self.ledger.enter(capacity, event, &answer);
@@ -55,7 +61,11 @@ impl Watch {
         let claims = [
             ("notices are the active view", ledger.neighbors == active),
             ("message bound", sum <= ledger.allowance),
-            ("512 draws", answer.drawn <= MOST_DRAWN),
+            ("draws lent", answer.drawn <= lent),
+            (
+                "no 5 with 512 sure draws",
+                answer.code != 5 || sure < ENOUGH_DRAWS,
+            ),
             ("8192 bytes", answer.out.len() <= ROOM),
             (
                 "no 9 with 8192 bytes",

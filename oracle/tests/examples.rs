@@ -65,6 +65,26 @@ fn the_shuffle() {
 }
 
 #[test]
+fn draws_passed_over() {
+    // 2^32 - 1 is no draw for three items, nor are the last four for six; powers of two keep all.
+    for (items, draws, place, used) in [
+        (3, vec![u32::MAX, 5], 2, 2),
+        (3, vec![u32::MAX - 1], 2, 1),
+        (6, vec![u32::MAX, u32::MAX - 3, u32::MAX - 4], 5, 3),
+        (1, vec![u32::MAX], 0, 1),
+        (32, vec![u32::MAX], 31, 1),
+    ] {
+        let mut draws = Draws::new(draws);
+        assert_eq!(draws.random_range(0..items), place);
+        assert_eq!(draws.place(), used);
+    }
+    let mut items = [10, 11, 12];
+    let mut draws = Draws::new(vec![u32::MAX, 0, u32::MAX]);
+    items.shuffle(&mut draws);
+    assert_eq!((items, draws.place()), ([12, 11, 10], 3));
+}
+
+#[test]
 fn the_delays() {
     for (draw, delay) in [(0, 750), (1 << 31, 1000), (u32::MAX, 1249)] {
         let jitter = Draws::new(vec![draw]).random_range(0.75..1.25);

@@ -7,7 +7,7 @@ use mathlib.Core.List.{List, [], _∷_}
 use lib.Count.{ones, onesIn}
 use Rattle.lists.specs.Lists.{choose, mem, index-of, swap, swap-remove, remove}
 use Rattle.timing.specs.Timing.{backoff-due, delay}
-use Rattle.util.specs.Random.{shuffle, shuffle-down}
+use Rattle.util.specs.Chances.{kept-end, is-kept, passed-over, pick-draws, pick, shuffle, shuffle-down}
 
 pub record Table : Type 0 where
   pub backoff-1 : backoff-due 1 ≡ true
@@ -27,7 +27,7 @@ pub record Table : Type 0 where
   pub removed : remove 11 (10 ∷ 11 ∷ 12 ∷ 13 ∷ []) ≡ 10 ∷ 13 ∷ 12 ∷ []
 
 pub table : Table
-unfolding choose ones onesIn backoff-due delay shuffle shuffle-down swap mem index-of swap-remove remove
+unfolding choose ones onesIn backoff-due delay kept-end is-kept passed-over pick-draws pick shuffle shuffle-down swap mem index-of swap-remove remove
 table = record {
   backoff-1 = refl;
   backoff-2 = refl;

@@ -138,7 +138,7 @@ refused-zeroes xs me present own c one =
 
 -- ---- one call
 
--- 512 draws and 8,192 bytes suffice, whatever the event and the words that keep the rules.
+-- 512 draws below 2^32 - 32 and 8,192 bytes suffice, whatever the event and the words that keep the rules.
 pub enough-lent : D.Enough-lent
 unfolding answered packed-answer
 enough-lent xs ok v =
@@ -147,7 +147,8 @@ enough-lent xs ok v =
     let draws = ap (λ (x : Outcome). x .draws) e in
     let k = enough (unpack xs) (rules-kept xs ok) (v .draws) (length (v .output)) (v .event) (v .are-bytes) in
     record {
-      no-five = λ h f. k .no-five h (sym code ∙ f);
+      five = λ f. k .five (sym code ∙ f);
+      no-five = λ h a f. k .no-five h a (sym code ∙ f);
       no-nine = λ h f. k .no-nine h (sym code ∙ f);
       draws-used = draws;
       few-draws = rw draws (k .few-draws);

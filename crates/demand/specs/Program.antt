@@ -8,6 +8,7 @@ use mathlib.Core.List.{List}
 use lib.ListN.{length, replicate}
 use Rattle.lists.specs.Lists.{null, without}
 use Rattle.timing.specs.declared.Config.{Config}
+use Rattle.util.specs.Chances.{sure-end, sure}
 use Rattle.peer.specs.Data.{Node}
 use Rattle.protocol.specs.Station.{Station, peers-end, bytes-end}
 use Rattle.protocol.specs.Messages.{ends-here, learn-joiner}
@@ -81,12 +82,13 @@ Shuffles-timed =
 
 -- of one call to a machine, at a state that stands for a station
 pub record Suffices {S : Type 0} (m : Machine S) (station : S → Station) (s : S) (v : Call) : Type 0 where
-  -- "8,192 output bytes and 512 draws always suffice"
-  pub no-five : 512 ≤ length (v .draws) → code-of m v s ≡ 5 → ⊥
+  -- "8,192 output bytes and 512 draws always suffice"; by 02, S-6, 512 draws that are below 2^32 - 32: a draw is missed only where fewer of those lent are below it
+  pub five : code-of m v s ≡ 5 → sure (v .draws) < 512
+  pub no-five : 512 ≤ length (v .draws) → all-under sure-end (v .draws) ≡ true → code-of m v s ≡ 5 → ⊥
   pub no-nine : 8192 ≤ length (v .output) → code-of m v s ≡ 9 → ⊥
-  -- "The count in the result equals the draws the definition consumes, bounded by 512"
+  -- "The count in the result equals the draws the definition consumes"; by S-6 those lent bound it, and no longer 512
   pub draws-used : m .used (v .event) (v .draws) (v .output) s ≡ definition.handle (station s) (v .event) (v .draws) (length (v .output)) .used
-  pub few-draws : m .used (v .event) (v .draws) (v .output) s ≤ 512
+  pub few-draws : m .used (v .event) (v .draws) (v .output) s ≤ length (v .draws)
 
 -- of words that keep the rules
 abbrev pub Enough-lent : Type 0

@@ -70,11 +70,11 @@ pub record Fine (c : Config) (me : ℕ) (b : List ℕ) (l : Ledger) (a : Answer)
   pub kept : Kept c me (feed (c .«active_view_capacity») b (a .code) (a .output) l) (a .state)
 
 -- what a run's records tell is what the ledger holds
-told-kept : (c : Config) (me : ℕ) (b : List ℕ) (l : Ledger) (alone n room : ℕ) (o : List Rec) (v : Station)
-    → Good (at-start c me (l .up) (l .sent) (l .allowance + number-of (c .«active_view_capacity») b) alone n room (rec-of b)) calm 0 v o → Lawful v → Narrow v → Covered v
+told-kept : (c : Config) (me : ℕ) (b : List ℕ) (l : Ledger) (alone : ℕ) (ds : List ℕ) (room : ℕ) (o : List Rec) (v : Station)
+    → Good (at-start c me (l .up) (l .sent) (l .allowance + number-of (c .«active_view_capacity») b) alone ds room (rec-of b)) calm 0 v o → Lawful v → Narrow v → Covered v
     → Kept c me (booked o (open-event (c .«active_view_capacity») b l)) v
 unfolding booked open-event up-after sent-after kind-in rec-of header-of
-told-kept c me b l alone n room o v g w n′ y =
+told-kept c me b l alone ds room o v g w n y =
     record {
       core = record {
         still = record {
@@ -88,7 +88,7 @@ told-kept c me b l alone n room o v g w n′ y =
         tally = g .tally;
       };
       law = w;
-      narrow = n′;
+      narrow = n;
       covered = y;
     }
 
@@ -106,7 +106,7 @@ module _ {c : Config} {me : ℕ} {l : Ledger} {s : Station} (h : Kept c me l s) 
       split (eqb (r .code) 0)
       (λ z. let g = k .good (eqb-true (r .code) 0 z) in rw z (record {
         not-two = λ e. omega arith;
-        kept = rw (heard (g .told) (r .out) (r .room - length (r .out)) (open-event a b l) (g .sound) (g .spelled)) (told-kept c me b l (s .passes-alone) (length ds) room (g .told) (r .station) (g .core) (g .law) (formed-event s (h .narrow) ds room (rec-of b) w f .narrow) (covered-steps (rec-of b) (start s ds room) (eqb-true (r .code) 0 z)));
+        kept = rw (heard (g .told) (r .out) (r .room - length (r .out)) (open-event a b l) (g .sound) (g .spelled)) (told-kept c me b l (s .passes-alone) ds room (g .told) (r .station) (g .core) (g .law) (formed-event s (h .narrow) ds room (rec-of b) w f .narrow) (covered-steps (rec-of b) (start s ds room) (eqb-true (r .code) 0 z)));
       }))
       (λ z. rw z (fine-refusal (r .code) (r .room) (let ne : r .code ≡ 0 → ⊥ = eqb-false (r .code) 0 z in omega (arith, k .codes .low (omega (arith, ne))))))
 

@@ -6,25 +6,24 @@ use mathlib.Core.Bool.{true, false}
 use mathlib.Core.List.{List, [], _∷_}
 use mathlib.Core.Option.{Option, none, some}
 use native.Mathlib.Omega.{arith}
-use native.Mathlib.Nat.{mod-lt}
 use lib.ListN.{length, replicate, getD}
 use lib.Dec.{eqb}
 use borrow.Author.Tests.{eqb-false, not-true}
 use Rattle.lists.specs.Lists.{choose, is, count}
 use Rattle.lists.proofs.Choice.{by-choice, choose-yes, choose-no, split, and-right}
 use Rattle.lists.proofs.Count.{count-shift, count-snoc}
-use Rattle.util.specs.Random.{pick}
+use Rattle.util.proofs.Chances.{pick-below}
 use Rattle.timing.specs.Timing.{default}
 use Rattle.peer.specs.Data.{Data}
 use Rattle.record.specs.Format.{encode}
 use Rattle.record.specs.Walk.{records-in, records-from}
 use Rattle.protocol.specs.Station.{Station, is-me, in-active, in-passive, in-view, passive-is-full}
-use Rattle.protocol.specs.Run.{Run, guard, on, draw, drawn, picked, message, timer, notice, node}
+use Rattle.protocol.specs.Run.{Run, guard, on, to-draw, one-of, draw-one-of, picked, message, timer, notice, node}
 use Rattle.protocol.specs.Peers as P
 use Rattle.protocol.specs.Evictions.{listed, by-adding}
 use Rattle.protocol.specs.Handle.{new}
 use Rattle.protocol.proofs.Extra.{null-no}
-use Rattle.protocol.proofs.Keeping.{draw-station, emit-station, emit-fine, on-code}
+use Rattle.protocol.proofs.Keeping.{one-of-station, emit-station, emit-fine, on-code}
 use Rattle.protocol.proofs.Entering.{on-same, same-after-info}
 use Rattle.history.specs.Calls.{Call, state-after, definition}
 use Rattle.history.specs.Followed.{followed}
@@ -111,28 +110,31 @@ tell-fine (some p) r z = emit-fine (notice 12 p) r z
 -- whom the record names is gone, and nobody else
 module _ (r : Run) (x : ℕ) where
   abbrev place : ℕ
-  place = pick (length (r .station .passive)) (drawn r)
+  place = one-of (length (r .station .passive)) r
+
+  abbrev after : Run
+  after = draw-one-of (length (r .station .passive)) r
 
   place-low : P.must-evict (r .station) ≡ true → place < length (r .station .passive)
-  unfolding P.must-evict pick
-  place-low e = mod-lt (drawn r) (null-no (r .station .passive) (not-true _ (and-right (passive-is-full (r .station)) _ e)))
+  unfolding P.must-evict one-of
+  place-low e = pick-below (length (r .station .passive)) (to-draw r) (null-no (r .station .passive) (not-true _ (and-right (passive-is-full (r .station)) _ e)))
 
-  drawn-counts : P.must-evict (r .station) ≡ true → P.evict-at place (draw 1 r) .code ≡ 0 → count x (P.evict-at place (draw 1 r) .station .passive) + is x (getD (r .station .passive) place 0) ≡ count x (r .station .passive)
+  drawn-counts : P.must-evict (r .station) ≡ true → P.evict-at place after .code ≡ 0 → count x (P.evict-at place after .station .passive) + is x (getD (r .station .passive) place 0) ≡ count x (r .station .passive)
   unfolding P.evict-at
   drawn-counts e z =
-      subst (λ (s : Station). count x (P.evict-at place (draw 1 r) .station .passive) + is x (getD (s .passive) place 0) ≡ count x (s .passive)) (draw-station 1 r)
-      (evicted-counts place (draw 1 r) x (rw (draw-station 1 r) (place-low e)) (sym (forget-code _ _ ∙ on-code _ (draw 1 r)) ∙ z))
+      subst (λ (s : Station). count x (P.evict-at place after .station .passive) + is x (getD (s .passive) place 0) ≡ count x (s .passive)) (one-of-station (length (r .station .passive)) r)
+      (evicted-counts place after x (rw (one-of-station (length (r .station .passive)) r) (place-low e)) (sym (forget-code _ _ ∙ on-code _ after) ∙ z))
 
   evict-yes : P.must-evict (r .station) ≡ true → P.evict r .code ≡ 0 → count x (P.evict r .station .passive) + count x (listed (P.evicted r)) ≡ count x (r .station .passive)
   unfolding P.evict P.evicted listed picked
   evict-yes e =
-      rw (choose-yes (P.must-evict (r .station)) (P.evict-at place (draw 1 r)) r e, choose-yes (P.must-evict (r .station)) (some (getD (r .station .passive) place 0)) none e, count-one x (getD (r .station .passive) place 0))
+      rw (choose-yes (P.must-evict (r .station)) (P.evict-at place after) r e, choose-yes (P.must-evict (r .station)) (some (getD (r .station .passive) place 0)) none e, count-one x (getD (r .station .passive) place 0))
       (drawn-counts e)
 
   evict-no : P.must-evict (r .station) ≡ false → count x (P.evict r .station .passive) + count x (listed (P.evicted r)) ≡ count x (r .station .passive)
   unfolding P.evict P.evicted listed picked count
   evict-no e =
-      rw (choose-no (P.must-evict (r .station)) (P.evict-at place (draw 1 r)) r e, choose-no (P.must-evict (r .station)) (some (getD (r .station .passive) place 0)) none e)
+      rw (choose-no (P.must-evict (r .station)) (P.evict-at place after) r e, choose-no (P.must-evict (r .station)) (some (getD (r .station .passive) place 0)) none e)
       (omega arith)
 
   room-counts : P.make-room r .code ≡ 0 → count x (P.make-room r .station .passive) + count x (listed (P.evicted r)) ≡ count x (r .station .passive)

@@ -14,7 +14,7 @@ use Rattle.timing.specs.Timing.{backoff-due}
 use Rattle.peer.specs.Data.{Data}
 use Rattle.record.specs.Format.{Rec, size, encode}
 use Rattle.protocol.specs.Station.{Station}
-use Rattle.protocol.specs.Run.{Run, guard, on, emit, draw, emit-all}
+use Rattle.protocol.specs.Run.{Run, guard, on, emit, draw, draw-one-of, emit-all}
 use Rattle.protocol.specs.Sending.{join-to, join}
 use Rattle.protocol.specs.Timers as T
 use Rattle.protocol.specs.Handle as H
@@ -99,8 +99,8 @@ unfolding H.forget-declined
 ended-grows r = then (first-timers-grow r) (changes _ (λ s. refl) _)
 
 recent-grows : (from : List ℕ) (r : Run) → Grows r (T.rejoin-recent from r)
-unfolding T.rejoin-recent join
-recent-grows from r = either _ (still r) (then (draws 1 r) (emits _ _))
+unfolding T.rejoin-recent join draw-one-of
+recent-grows from r = either _ (still r) (then (draws _ r) (emits _ _))
 
 -- a Join to each of the peers
 joins-out : (d : Data) (ps : List ℕ) (r : Run) → (emit-all (join-to d) ps r) .code ≡ 0 → (emit-all (join-to d) ps r) .out ≡ r .out ++ joins-to d ps

@@ -9,7 +9,7 @@ use native.Mathlib.Nat.{not-suc-le-zero, le-of-suc-le-suc}
 use lib.ListN.{length, getD, take, set, length-append, length-set, length-take}
 use lib.Dec.{ltb, eqb}
 use borrow.Author.Tests.{eqb-true, eq-eqb}
-use Rattle.lists.specs.Lists.{is, count, mem, index-of, swap-remove, shift-remove, remove, without, place, insert}
+use Rattle.lists.specs.Lists.{is, count, mem, index-of, swap-remove, shift-remove, remove, without, without-all, place, insert}
 use Rattle.lists.proofs.Choice.{by-test, split}
 
 pub is-yes : (x p : ℕ) → eqb x p ≡ true → is x p ≡ 1
@@ -53,7 +53,7 @@ count-one x p = omega arith
 pub count-snoc : (x : ℕ) (xs : List ℕ) (p : ℕ) → count x (xs ++ (p ∷ [])) ≡ count x xs + is x p
 count-snoc x xs p = omega (arith, count-append x xs (p ∷ []), count-one x p)
 
-count-set : (x : ℕ) (xs : List ℕ) (i v : ℕ) → i < length xs → count x (set xs i v) + is x (getD xs i 0) ≡ count x xs + is x v
+pub count-set : (x : ℕ) (xs : List ℕ) (i v : ℕ) → i < length xs → count x (set xs i v) + is x (getD xs i 0) ≡ count x xs + is x v
 unfolding count
 count-set x [] i v h = absurd (not-suc-le-zero h)
 count-set x (p ∷ xs) zero v h = omega arith
@@ -150,6 +150,12 @@ length-without p (q ∷ xs) =
     (λ e. omega (arith, is-not p q e, length-without p xs))
 
 -- no repeats, and p absent: still none with p
+pub length-without-all : (ps xs : List ℕ) → length (without-all ps xs) ≤ length xs
+unfolding without-all
+length-without-all ps [] = omega arith
+length-without-all ps (x ∷ xs) =
+    by-test (λ (l : List ℕ). length l ≤ suc (length xs)) (mem x ps) (λ e. omega (arith, length-without-all ps xs)) (λ e. omega (arith, length-without-all ps xs))
+
 pub absent : (x p : ℕ) (xs : List ℕ) → count p xs ≡ 0 → count x xs ≤ 1 → is x p + count x xs ≤ 1
 absent x p xs e = is-split (λ y. count y xs ≤ 1 → is y p + count y xs ≤ 1) x p (λ h. omega (arith, is-le p p)) (λ n h. omega arith)
 

@@ -1,7 +1,7 @@
 -- What holds of every item of a list holds of every item of a list made from it.
 -- Assumes nothing.
 use mathlib.Core.List.{List, [], _∷_, _++_}
-use Prim.Native.Nat.{ℕ, zero, suc, _+_, _-_, _%_}
+use Prim.Native.Nat.{ℕ, zero, suc, _+_, _-_}
 use lib.ListN.{length, getD, take, drop}
 use lib.Dec.{ltb, eqb}
 use Rattle.lists.specs.Lists.{mem, index-of, swap-remove, remove, without, without-all, place, insert, renew, swap}
@@ -10,7 +10,7 @@ use Rattle.lists.specs.Tests.{All}
 use Rattle.lists.proofs.Choice.{by-choice, by-test}
 use Rattle.lists.proofs.Entries.{all-set}
 use Rattle.lists.proofs.Maps.{keys-cut, keys-put}
-use Rattle.util.specs.Random.{shuffle-down, shuffle}
+use Rattle.util.specs.Chances.{pick-draws, pick, shuffle-down, shuffle}
 use Rattle.protocol.specs.Timers.{renew-all}
 
 module _ {A : Type 0} (P : A → Type 0) where
@@ -97,7 +97,7 @@ module _ (P : ℕ → Type 0) where
     all-shuffle-down : (n : ℕ) (ds xs : List ℕ) → All P xs → All P (shuffle-down n ds xs)
     unfolding shuffle-down
     all-shuffle-down zero ds xs a = a
-    all-shuffle-down (suc n) ds xs a = all-shuffle-down n (drop 1 ds) _ (all-swap (suc n) (getD ds 0 0 % (n + 2)) xs a)
+    all-shuffle-down (suc n) ds xs a = all-shuffle-down n (drop (pick-draws (n + 2) ds) ds) _ (all-swap (suc n) (pick (n + 2) ds) xs a)
 
     pub all-shuffle : (ds xs : List ℕ) → All P xs → All P (shuffle ds xs)
     unfolding shuffle

@@ -55,7 +55,7 @@ bounds {t = t} r k z =
 -- A station that passes the rules starts every event with the invariant; 9 more messages than neighbours can be held, 8,192 bytes and 512 draws may be spent.
 module _ (s : Station) (ok : station-ok s ≡ true) (ds : List ℕ) (room : ℕ) (e : Rec) (w : Readable e) where
   abbrev pub begun : Fixed
-  begun = at-start (s .config) (s .me) (s .active) 0 (2 * length (s .active) + (s .config .«active_view_capacity» + 9)) (s .passes-alone) (length ds) room e
+  begun = at-start (s .config) (s .me) (s .active) 0 (2 * length (s .active) + (s .config .«active_view_capacity» + 9)) (s .passes-alone) ds room e
 
   pub ready : eqb (e .kind) 8 ≡ false → Ok begun calm (s .config .«active_view_capacity» + 9) 8192 512 (start s ds room)
   ready f = start-plain _ ds room e w (pays-all _ e) (between-of s ok) f

@@ -1,15 +1,16 @@
--- "8,192 output bytes and 512 draws always suffice", for every station that passes the rules.
+-- "8,192 output bytes always suffice", and 512 draws that no choice passes over (02, S-6), for every station that passes the rules.
 -- Assumes nothing.
 use mathlib.Core.Path.{_≡_, refl, subst, _∙_}
 use mathlib.Core.Bool.{true}
-use mathlib.Core.List.{List, _++_}
+use mathlib.Core.List.{List, [], _∷_, _++_}
 use Prim.Native.Nat.{ℕ, zero, suc, _+_, _-_, _≤_, _<_}
 use native.Mathlib.Omega.{arith}
 use lib.ListN.{length, drop, replicate}
 use lib.Seq.{drop-append-add}
-use lib.Dec.{eqb}
+use lib.Dec.{eqb, ltb}
 use borrow.Author.Tests.{eqb-true}
-use Rattle.lists.proofs.Choice.{by-choice, choose-yes}
+use Rattle.lists.proofs.Choice.{by-choice, choose-yes, and-left, and-right}
+use Rattle.util.specs.Chances.{sure-end, sure}
 use Rattle.record.specs.Format.{Rec}
 use Rattle.record.specs.Read.{Reading, read-event}
 use Rattle.protocol.specs.Station.{Station}
@@ -19,16 +20,25 @@ use Rattle.protocol.proofs.Reading.{Readable, by-reading}
 use Rattle.protocol.proofs.Whole.{Pays, ok-steps}
 use Rattle.protocol.proofs.Tested.{between-of}
 
--- of an answer, to a call that lends n draws and room bytes
-pub record Enough (n room : ℕ) (a : Answer) : Type 0 where
-  -- no draw is missed where 512 are lent, and no byte where 8,192 are
-  pub no-five : 512 ≤ n → a .code ≡ 5 → ⊥
+-- of an answer, to a call that lends the draws ds and room bytes
+pub record Enough (ds : List ℕ) (room : ℕ) (a : Answer) : Type 0 where
+  -- a draw below 2^32 - 32 is passed over by no choice; a draw is missed only where fewer than 512 of those lent are below it, and a byte only where fewer than 8,192 are lent
+  pub five : a .code ≡ 5 → sure ds < 512
   pub no-nine : 8192 ≤ room → a .code ≡ 9 → ⊥
-  -- at most 512 draws are used, and past 8,192 bytes nothing is written
-  pub few-draws : a .used ≤ 512
+  -- so 512 draws that are all below it suffice
+  pub no-five : 512 ≤ length ds → all-under sure-end ds ≡ true → a .code ≡ 5 → ⊥
+  -- at most the draws lent are used, those passed over among them, and past 8,192 bytes nothing is written
+  pub few-draws : a .used ≤ length ds
   pub few-bytes : drop 8192 (a .output) ≡ replicate (room - 8192) 0
   -- and the code is one of the table's
   pub known-code : a .code ≤ 10
+
+all-sure : (ds : List ℕ) → all-under sure-end ds ≡ true → sure ds ≡ length ds
+unfolding all-under sure
+all-sure [] e = refl
+all-sure (d ∷ ds) e =
+    let b = ltb d sure-end in
+    omega (arith, choose-yes {A = ℕ} b 1 0 (and-left b (all-under sure-end ds) e), all-sure ds (and-right b (all-under sure-end ds) e))
 
 zeros : ℕ → List ℕ
 zeros n = replicate n 0
@@ -52,10 +62,11 @@ rest-zero out room l =
 pub pays-all : (a : ℕ) (e : Rec) → Pays a (a + 9) e
 pays-all a e = record { for-join = λ _ _. omega arith; for-neighbor = λ _ _. omega arith; for-message = λ _. omega arith; for-maintenance = λ _. omega arith; for-other = λ _ _. omega arith }
 
-enough-refusal : (n c room : ℕ) (s : Station) → (c ≡ 5 → n < 512) → (c ≡ 9 → room < 8192) → c ≤ 10 → Enough n room (refusal c s room)
+enough-refusal : (ds : List ℕ) (c room : ℕ) (s : Station) → (c ≡ 5 → sure ds < 512) → (c ≡ 9 → room < 8192) → c ≤ 10 → Enough ds room (refusal c s room)
 unfolding refusal zeros
-enough-refusal n c room s f g h = record {
-  no-five = λ l e. absurd (omega (arith, f e));
+enough-refusal ds c room s f g h = record {
+  five = f;
+  no-five = λ l a e. absurd (omega (arith, f e, all-sure ds a));
   no-nine = λ l e. absurd (omega (arith, g e));
   few-draws = omega arith;
   few-bytes = drop-zeros 8192 room (room - 8192) refl;
@@ -63,27 +74,28 @@ enough-refusal n c room s f g h = record {
 }
 
 module _ (s : Station) (ok : station-ok s ≡ true) (ds : List ℕ) (room : ℕ) where
-  enough-event : (e : Rec) → Readable e → Enough (length ds) room (finish s (steps e (start s ds room)))
+  enough-event : (e : Rec) → Readable e → Enough ds room (finish s (steps e (start s ds room)))
   unfolding finish accepted
   enough-event e w =
       let a = s .config .«active_view_capacity» in
       let r = steps e (start s ds room) in
       let k = ok-steps (a + 9) ds room e w (pays-all a e) (between-of s ok) in
-      by-choice (Enough (length ds) room) (eqb (r .code) 0)
+      by-choice (Enough ds room) (eqb (r .code) 0)
       (λ z. let g = k .good (eqb-true (r .code) 0 z) in record {
-        no-five = λ l f. omega arith;
+        five = λ f. absurd (omega arith);
+        no-five = λ l a f. omega arith;
         no-nine = λ l f. omega arith;
-        few-draws = omega (arith, g .draws-left);
+        few-draws = k .codes .within;
         few-bytes = rw (k .codes .space) (rest-zero (r .out) room (omega (arith, g .bytes-left)));
         known-code = omega arith;
       })
-      (λ z. rw (k .codes .space) (enough-refusal (length ds) (r .code) room s (k .codes .five) (k .codes .nine) (k .codes .high)))
+      (λ z. rw (k .codes .space) (enough-refusal ds (r .code) room s (k .codes .five) (k .codes .nine) (k .codes .high)))
 
-  -- With 512 draws and 8,192 bytes lent, no event is answered 5 or 9; and whatever is lent, no event uses more.
-  pub enough : (b : List ℕ) → all-under 256 b ≡ true → Enough (length ds) room (handle s b ds room)
+  -- With 512 draws below 2^32 - 32 and 8,192 bytes lent, no event is answered 5 or 9; and whatever is lent, no event uses more draws or past 8,192 bytes.
+  pub enough : (b : List ℕ) → all-under 256 b ≡ true → Enough ds room (handle s b ds room)
   unfolding handle handle-reading
   enough b bytes =
       rw (choose-yes (station-ok s) (handle-reading (read-event b) s ds room) (refusal 2 s room) ok)
-      (by-reading b bytes (λ (x : Reading). Enough (length ds) room (handle-reading x s ds room))
-      (λ c l h. enough-refusal (length ds) c room s (λ e. absurd (omega arith)) (λ e. absurd (omega arith)) (omega arith))
+      (by-reading b bytes (λ (x : Reading). Enough ds room (handle-reading x s ds room))
+      (λ c l h. enough-refusal ds c room s (λ e. absurd (omega arith)) (λ e. absurd (omega arith)) (omega arith))
       (λ w. enough-event _ w))

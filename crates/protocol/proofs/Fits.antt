@@ -61,6 +61,10 @@ module _ {k : ℕ} where
   unfolding draw
   fit-draw n h = fit-guard h (λ z. fit-either _ (record { clear = h .clear; left = h .left }) (record { clear = λ y. omega arith; left = λ y. absurd (omega arith) }))
 
+  pub fit-draw-one-of : (n : ℕ) {r : Run} → Fits k r → Fits k (R.draw-one-of n r)
+  unfolding R.draw-one-of
+  fit-draw-one-of n h = fit-draw _ h
+
   fit-draw-shuffle : (xs : List ℕ) {r : Run} → Fits k r → Fits k (R.draw-shuffle xs r)
   unfolding R.draw-shuffle
   fit-draw-shuffle xs h = fit-draw _ h
@@ -114,7 +118,7 @@ module _ {k : ℕ} where
   fit-make-room : {r : Run} → Fits k r → Fits k (P.make-room r)
   unfolding P.make-room P.evict P.evict-at P.shift-passive
   fit-make-room {r} h =
-      fit-tell-evicted (P.evicted r) (fit-either _ (fit-forget _ (fit-on (P.shift-passive _) (λ s. omega arith) (fit-draw 1 h))) h)
+      fit-tell-evicted (P.evicted r) (fit-either _ (fit-forget _ (fit-on (P.shift-passive _) (λ s. omega arith) (fit-draw-one-of _ h))) h)
 
   fit-enter-passive : (p : ℕ) {r : Run} → Fits k r → Fits k (P.enter-passive p r)
   unfolding P.enter-passive P.push-passive
@@ -153,7 +157,7 @@ module _ {k : ℕ} where
   unfolding F.refill-active-from-passive F.refill-limited F.ask-one F.ask-picked F.limit-short F.end-recovery F.use-request
   fit-refill skip h =
       let j = fit-on F.limit-short (λ s. omega arith) h in
-      fit-either _ h (fit-either _ (fit-on F.end-recovery (λ s. omega arith) j) (fit-on F.use-request (λ s. omega arith) (fit-send-neighbor _ _ (fit-draw 1 j))))
+      fit-either _ h (fit-either _ (fit-on F.end-recovery (λ s. omega arith) j) (fit-on F.use-request (λ s. omega arith) (fit-send-neighbor _ _ (fit-draw-one-of _ j))))
 
   pub fit-start-refill : (limit : Refill) (skip : List ℕ) {r : Run} → Fits k r → Fits k (F.start-refill limit skip r)
   unfolding F.start-refill F.begin-refill
@@ -209,7 +213,7 @@ module _ {k : ℕ} where
 
   fit-free-slot : {r : Run} → Fits (k + 1) r → Fits k (A.free-random-slot-in-active-view r)
   unfolding A.free-random-slot-in-active-view A.remove-picked
-  fit-free-slot h = fit-either _ (fit-less (omega arith) h) (fit-remove-at _ random (fit-draw 1 h))
+  fit-free-slot h = fit-either _ (fit-less (omega arith) h) (fit-remove-at _ random (fit-draw-one-of _ h))
 
 module _ {k : ℕ} where
   fit-add-active : (p : ℕ) (d : Data) (high reply : Bool) {r : Run} → Fits (k + 2) r → Fits k (A.add-active p d high reply r)
@@ -230,7 +234,7 @@ module _ {k : ℕ} where
   fit-on-forward-join from n ttl {r} h =
       let i : Fits k (P.insert-peer-info (n .id) (n .data-of) r) = fit-insert-peer-info _ _ h in
       let j : Fits k (M.learn-joiner n ttl r) = fit-either _ (fit-enter-passive _ i) (fit-less (omega arith) h) in
-      fit-either _ (fit-send-neighbor _ _ i) (fit-either _ j (fit-emit _ (fit-draw 1 j)))
+      fit-either _ (fit-send-neighbor _ _ i) (fit-either _ j (fit-emit _ (fit-draw-one-of _ j)))
 
   pub fit-on-neighbor : (p : ℕ) (d : Data) (high : Bool) {r : Run} → Fits (k + 2) r → Fits k (M.on-neighbor p d high r)
   unfolding M.on-neighbor M.answer-neighbor M.refuse-neighbor
@@ -292,11 +296,11 @@ module _ {k : ℕ} where
 
   pub fit-shuffle-timer : {r : Run} → Fits k r → Fits k (T.handle-shuffle-timer r)
   unfolding T.handle-shuffle-timer T.shuffle-any T.shuffle-with T.shuffle-passive T.send-shuffle
-  fit-shuffle-timer h = fit-schedule-shuffle (fit-either _ h (fit-emit _ (fit-draw-shuffle _ (fit-draw-shuffle _ (fit-draw 1 h)))))
+  fit-shuffle-timer h = fit-schedule-shuffle (fit-either _ h (fit-emit _ (fit-draw-shuffle _ (fit-draw-shuffle _ (fit-draw-one-of _ h)))))
 
   fit-rejoin : {r : Run} → Fits k r → Fits k (T.rejoin r)
   unfolding T.rejoin T.rejoin-recent T.rejoin-bootstrap
-  fit-rejoin h = let j = fit-emit-all _ _ h in fit-either _ j (fit-join _ (fit-draw 1 j))
+  fit-rejoin h = let j = fit-emit-all _ _ h in fit-either _ j (fit-join _ (fit-draw-one-of _ j))
 
   fit-pass-alone : {r : Run} → Fits k r → Fits k (T.pass-alone r)
   unfolding T.pass-alone T.rejoin-if-due T.count-alone T.add-alone

@@ -116,6 +116,10 @@ module _ {ds es : List ℕ} where
   drew n k =
       kept k (λ z. either _ (record { lent = k .lent; narrow = k .narrow; spelled = k .spelled; told = k .told }) (record { lent = k .lent; narrow = k .narrow; spelled = k .spelled; told = λ d y. k .told d z }))
 
+  pub drew-one-of : (n : ℕ) {r : Run} → Formed ds es r → Formed ds es (R.draw-one-of n r)
+  unfolding R.draw-one-of
+  drew-one-of n k = drew _ k
+
   pub drew-shuffle : (xs : List ℕ) {r : Run} → Formed ds es r → Formed ds es (R.draw-shuffle xs r)
   unfolding R.draw-shuffle
   drew-shuffle xs k = drew _ k
@@ -158,4 +162,4 @@ picked-peer ps r a = all-get Peer ps _ 0 no-peer a
 
 pub shuffled-peers : (ps : List ℕ) (r : Run) → Peers ps → Peers (R.shuffled ps r)
 unfolding R.shuffled
-shuffled-peers ps r a = all-shuffle Peer no-peer (drop (r .used) (r .draws)) ps a
+shuffled-peers ps r a = all-shuffle Peer no-peer (R.to-draw r) ps a

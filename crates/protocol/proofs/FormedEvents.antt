@@ -34,7 +34,7 @@ use Rattle.protocol.proofs.Narrow as N
 use Rattle.protocol.proofs.Narrow.{Peer, Peers, no-peer, no-peers, Held, Named, at, change, change-own, change-held, change-pace, change-next-join, named-infos}
 use Rattle.protocol.proofs.Forms.{form-join, form-forward, form-shuffle, form-shuffle-timer, form-maintenance-timer, form-retry-timer}
 use Rattle.protocol.proofs.Keeping.{seven, ten}
-use Rattle.protocol.proofs.Formed.{Formed, either, either-way, alter, claim, drew, drew-shuffle, wrote, wrote-if, wrote-all, picked-peer, shuffled-peers}
+use Rattle.protocol.proofs.Formed.{Formed, either, either-way, alter, claim, drew, drew-one-of, drew-shuffle, wrote, wrote-if, wrote-all, picked-peer, shuffled-peers}
 use Rattle.protocol.proofs.FormedSteps.{drop-data-narrow, drop-mark-narrow, remove-passive-narrow, mark-alive-narrow, formed-insert-peer-info, formed-forget, formed-add-passive, formed-add-nodes, formed-drop-passive, formed-join, formed-send-shuffle-reply, formed-send-disconnect, formed-send-neighbor, formed-refill, formed-start-refill, formed-clear-refused, formed-remove-active, formed-add-active}
 
 -- a walk's hops left, one less
@@ -81,13 +81,13 @@ module _ {ds : List ℕ} where
   formed-on-forward-join from n ttl {r} a t k =
       let j = either-way (eqb ttl (r .station .config .«passive_random_walk_length»)) (formed-add-passive _ _ (a .id) (a .held) k) k in
       either-way _ (formed-send-neighbor _ _ (a .id) (formed-insert-peer-info _ _ (a .id) (a .held) k))
-      (either _ j (wrote _ refl (form-forward n a (next-fits t) (picked-peer _ _ (all-without Peer from _ (at (j .narrow) N.active)))) (drew 1 j)))
+      (either _ j (wrote _ refl (form-forward n a (next-fits t) (picked-peer _ _ (all-without Peer from _ (at (j .narrow) N.active)))) (drew-one-of _ j)))
 
   pub formed-on-shuffle : (from origin : ℕ) (ns : List Node) (ttl : ℕ) {r : Run} → Peer origin → length ns ≤ 32 → All Named ns → ttl < 65536 → Formed ds [] r → Formed ds (by-shuffle ns ttl r) (M.on-shuffle from origin ns ttl r)
   unfolding M.on-shuffle M.answer-shuffle M.forward-shuffle by-shuffle
   formed-on-shuffle from origin ns ttl l n a t k =
       either-way _ (formed-send-shuffle-reply _ _ l n (formed-add-nodes ns a k))
-      (either _ k (wrote _ refl (form-shuffle ns (picked-peer _ _ (all-without-all Peer _ _ (at (k .narrow) N.active))) l (next-fits t) n a) (drew 1 k)))
+      (either _ k (wrote _ refl (form-shuffle ns (picked-peer _ _ (all-without-all Peer _ _ (at (k .narrow) N.active))) l (next-fits t) n a) (drew-one-of _ k)))
 
   pub formed-on-shuffle-reply : (from : ℕ) (ns : List Node) {r : Run} → All Named ns → Formed ds [] r → Formed ds (by-nodes ns r) (M.on-shuffle-reply from ns r)
   unfolding M.on-shuffle-reply M.after-reply M.refill-with
@@ -205,13 +205,13 @@ module _ {ds es : List ℕ} where
   pub formed-shuffle-timer : {r : Run} → Formed ds es r → Formed ds es (T.handle-shuffle-timer r)
   unfolding T.handle-shuffle-timer T.shuffle-any
   formed-shuffle-timer {r} k =
-      formed-schedule-shuffle (either _ k (formed-shuffle-with _ (picked-peer (r .station .active) r (at (k .narrow) N.active)) (drew 1 k)))
+      formed-schedule-shuffle (either _ k (formed-shuffle-with _ (picked-peer (r .station .active) r (at (k .narrow) N.active)) (drew-one-of _ k)))
 
   formed-rejoin : {r : Run} → Formed ds es r → Formed ds es (T.rejoin r)
   unfolding T.rejoin T.rejoin-recent T.rejoin-bootstrap T.other-recent S.join-to
   formed-rejoin {r} k =
       let j : Formed ds es (T.rejoin-bootstrap r) = wrote-all (S.join-to (r .station .own-data)) (λ p. refl) (λ p l. form-join _ (k .narrow .mine) l) (r .station .bootstrap) (at (k .narrow) N.bootstrap) k in
-      either _ j (formed-join _ (picked-peer _ _ (all-without-all Peer _ _ (at (k .narrow) N.recent))) (drew 1 j))
+      either _ j (formed-join _ (picked-peer _ _ (all-without-all Peer _ _ (at (k .narrow) N.recent))) (drew-one-of _ j))
 
   formed-pass-alone : {r : Run} → Formed ds es r → Formed ds es (T.pass-alone r)
   unfolding T.pass-alone T.rejoin-if-due T.count-alone T.add-alone

@@ -30,7 +30,7 @@ use Rattle.protocol.proofs.Narrow as N
 use Rattle.protocol.proofs.Narrow.{Peer, Peers, no-peer, no-peers, Held, Named, Narrow, at, change, change-held, change-next-request, held-lookup, named-infos}
 use Rattle.protocol.proofs.Forms.{form-join, form-reply, form-neighbor, form-disconnect, form-request-timer, form-up, form-down, form-evicted, form-data}
 use Rattle.protocol.proofs.Keeping.{six, eight, ten, require-fine}
-use Rattle.protocol.proofs.Formed.{Formed, either, either-way, alter, asked, claim, drew, drew-shuffle, wrote, wrote-evicted, picked-peer, shuffled-peers}
+use Rattle.protocol.proofs.Formed.{Formed, either, either-way, alter, asked, claim, drew-one-of, drew-shuffle, wrote, wrote-evicted, picked-peer, shuffled-peers}
 
 -- what is held of a peer, and its mark
 pub drop-data-narrow : (p : ℕ) (s : Station) → Narrow s → Narrow (P.drop-data p s)
@@ -84,7 +84,7 @@ module _ {ds es : List ℕ} where
   formed-evict : {r : Run} → Formed ds es r → Formed ds es (P.evict r)
   unfolding P.evict P.evict-at P.shift-passive
   formed-evict k =
-      either _ (formed-forget _ (alter (P.shift-passive _) (λ w. change w N.passive _ (all-shift-remove Peer _ _ (at w N.passive))) (drew 1 k))) k
+      either _ (formed-forget _ (alter (P.shift-passive _) (λ w. change w N.passive _ (all-shift-remove Peer _ _ (at w N.passive))) (drew-one-of _ k))) k
 
   formed-make-room : {r : Run} → Formed ds es r → Formed ds (es ++ listed (P.evicted r)) (P.make-room r)
   unfolding P.make-room P.evicted P.tell-evicted listed
@@ -160,7 +160,7 @@ module _ {ds es : List ℕ} where
   formed-ask-one : (from : List ℕ) {r : Run} → Peers from → Formed ds es r → Formed ds es (F.ask-one from r)
   unfolding F.ask-one F.ask-picked F.use-request
   formed-ask-one from {r} a k =
-      either _ (formed-end-recovery k) (alter F.use-request (λ w. w) (formed-send-neighbor _ _ (picked-peer from r a) (drew 1 k)))
+      either _ (formed-end-recovery k) (alter F.use-request (λ w. w) (formed-send-neighbor _ _ (picked-peer from r a) (drew-one-of _ k)))
 
   pub formed-refill : (skip : List ℕ) {r : Run} → Formed ds es r → Formed ds es (F.refill-active-from-passive skip r)
   unfolding F.refill-active-from-passive F.refill-limited F.limit-short F.candidates
@@ -216,7 +216,7 @@ module _ {ds : List ℕ} where
 
   formed-free-slot : {r : Run} → Formed ds [] r → Formed ds (by-freeing r) (A.free-random-slot-in-active-view r)
   unfolding A.free-random-slot-in-active-view A.remove-picked by-freeing
-  formed-free-slot k = either-way _ k (formed-remove-at _ random (drew 1 k))
+  formed-free-slot k = either-way _ k (formed-remove-at _ random (drew-one-of _ k))
 
 -- into it
 formed-enter : {ds es : List ℕ} (p : ℕ) (high reply : Bool) {r : Run} → Peer p → Formed ds es r → Formed ds es (A.add-active-unchecked p high reply r)

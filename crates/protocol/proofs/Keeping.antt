@@ -5,19 +5,22 @@ use mathlib.Core.Bool.{Bool, true, false}
 use mathlib.Core.List.{List, _∷_, _++_}
 use Prim.Native.Nat.{ℕ, _+_, _≤_, _<_}
 use native.Mathlib.Omega.{arith}
-use lib.ListN.{length, length-append}
+use lib.ListN.{length, take, drop, length-append, length-drop}
+use lib.Seq.{take-add}
 use lib.Dec.{leb, eqb}
-use borrow.Author.Tests.{eqb-true, eqb-false, eq-eqb, ne-eqb, leb-false}
+use borrow.Author.Tests.{eqb-true, eqb-false, eq-eqb, ne-eqb, leb-true, leb-false}
 use Rattle.lists.specs.Lists.{choose}
 use Rattle.lists.proofs.Choice.{by-choice, choose-yes}
 use Rattle.timing.specs.declared.Config.{Config}
+use Rattle.util.specs.Chances.{sure}
+use Rattle.util.proofs.Chances.{Costs, sure-append, sure-at, one-costs, pick-costs}
 use Rattle.record.specs.Format.{Rec, size, encode}
 use Rattle.record.proofs.Format.{length-encode}
 use Rattle.protocol.specs.Station.{Station, peers-end}
-use Rattle.protocol.specs.Run.{Run, with-station, with-code, guard, on, emit, draw, require}
+use Rattle.protocol.specs.Run.{Run, with-station, with-code, guard, on, emit, draw, to-draw, draw-one-of, require}
 use Rattle.protocol.proofs.Law.{Lawful}
 use Rattle.protocol.proofs.Told.{spell, note, up-after, sent-after, one-more}
-use Rattle.protocol.proofs.Invariant.{Fixed, Terms, Core, Good, Told, Codes, Ok}
+use Rattle.protocol.proofs.Invariant.{Fixed, Terms, Core, Good, Told, Codes, Ok, spent}
 
 -- codes 6, 7, 8 and 10
 pub record Plain (c : ℕ) : Type 0 where
@@ -39,9 +42,9 @@ pub ten : Plain 10
 ten = record { low = omega arith; high = omega arith; not-five = λ e. omega arith; not-nine = λ e. omega arith }
 
 module _ {q : Fixed} {t : Terms} {m b d : ℕ} where
-  pub ok-refuse : (c : ℕ) (r : Run) → 5 ≤ c → c ≤ 10 → (c ≡ 5 → q .draws-lent < 512) → (c ≡ 9 → q .room-lent < 8192) → Codes q r → Ok q t m b d (with-code c r)
+  pub ok-refuse : (c : ℕ) (r : Run) → 5 ≤ c → c ≤ 10 → (c ≡ 5 → sure (q .draws-lent) < 512) → (c ≡ 9 → q .room-lent < 8192) → Codes q r → Ok q t m b d (with-code c r)
   ok-refuse c r l h f n k =
-      record { good = λ e. absurd (omega arith); codes = record { lent = k .lent; space = k .space; five = f; nine = n; low = λ w. l; high = h } }
+      record { good = λ e. absurd (omega arith); codes = record { lent = k .lent; within = k .within; space = k .space; five = f; nine = n; low = λ w. l; high = h } }
 
   pub ok-if : (test : Bool) {x y : Run} → (test ≡ true → Ok q t m b d x) → (test ≡ false → Ok q t m b d y) → Ok q t m b d (choose test x y)
   ok-if test f g = by-choice (Ok q t m b d) test f g
@@ -121,7 +124,7 @@ module _ {q : Fixed} {t : Terms} {m b d : ℕ} where
           bytes-left = w .bytes-left;
           draws-left = w .draws-left;
         };
-        codes = record { lent = k .codes .lent; space = k .codes .space; five = k .codes .five; nine = k .codes .nine; low = k .codes .low; high = k .codes .high };
+        codes = record { lent = k .codes .lent; within = k .codes .within; space = k .codes .space; five = k .codes .five; nine = k .codes .nine; low = k .codes .low; high = k .codes .high };
       })
       (λ e. record { good = λ z. absurd (eqb-false (r .code) 0 e z); codes = k .codes })
 
@@ -129,11 +132,11 @@ module _ {q : Fixed} {t : Terms} {m b d : ℕ} where
   pub ok-on : {u : Terms} {n : ℕ} (f : Station → Station) {r : Run} → ((o : List Rec) → Good q t m (r .station) o → Good q u n (f (r .station)) o) → (Lawful (r .station) → Lawful (f (r .station))) → Ok q t m b d r → Ok q u n b d (on f r)
   ok-on f h l k = ok-change f (λ z o g w. (h o g, l w)) k
 
-  -- a draw of n, which is at most k
-  pub ok-draw : {k : ℕ} (n : ℕ) {r : Run} → ((o : List Rec) → Good q t m (r .station) o → n ≤ k) → Ok q t m b (d + k) r → Ok q t m b d (draw n r)
-  unfolding draw
+  -- n draws, of which every choice would keep at most k
+  pub ok-draw : {k : ℕ} (n : ℕ) {r : Run} → ((o : List Rec) → Good q t m (r .station) o → Lawful (r .station) → Costs k n (to-draw r)) → Ok q t m b (d + k) r → Ok q t m b d (draw n r)
+  unfolding draw to-draw
   ok-draw {k} n {r} h i =
-      ok-guard (i .codes) (λ z. let w = i .good z in let l = h (w .told) (w .core) in
+      ok-guard (i .codes) (λ z. let w = i .good z in let l = h (w .told) (w .core) (w .law) in
       ok-if (leb (r .used + n) (length (r .draws)))
       (λ e. record {
         good = λ y. record {
@@ -143,14 +146,19 @@ module _ {q : Fixed} {t : Terms} {m b d : ℕ} where
           core = w .core;
           law = w .law;
           bytes-left = w .bytes-left;
-          draws-left = omega (arith, w .draws-left);
+          draws-left = omega (arith, w .draws-left, l .taken, ap sure (take-add (r .used) n (r .draws)), sure-append (take (r .used) (r .draws)) (take n (drop (r .used) (r .draws))));
         };
-        codes = record { lent = i .codes .lent; space = i .codes .space; five = i .codes .five; nine = i .codes .nine; low = i .codes .low; high = i .codes .high };
+        codes = record { lent = i .codes .lent; within = omega (arith, leb-true (r .used + n) (length (r .draws)) e, ap length (i .codes .lent)); space = i .codes .space; five = i .codes .five; nine = i .codes .nine; low = i .codes .low; high = i .codes .high };
       })
-      (λ e. ok-refuse 5 r (omega arith) (omega arith) (λ y. omega (arith, i .codes .lent, w .draws-left, leb-false (r .used + n) (length (r .draws)) e)) (λ y. absurd (omega arith)) (i .codes)))
+      (λ e. ok-refuse 5 r (omega arith) (omega arith) (λ y. omega (arith, ap sure (i .codes .lent), w .draws-left, sure-at (r .used) (r .draws), l .short (omega (arith, i .codes .within, ap length (i .codes .lent), length-drop (r .used) (r .draws), leb-false (r .used + n) (length (r .draws)) e)))) (λ y. absurd (omega arith)) (i .codes)))
 
   pub ok-draw-one : {r : Run} → Ok q t m b (d + 1) r → Ok q t m b d (draw 1 r)
-  ok-draw-one k = ok-draw 1 (λ o g. omega arith) k
+  ok-draw-one {r} k = ok-draw 1 (λ o g l. one-costs (to-draw r)) k
+
+  -- the draws of a choice of at most 32 items
+  pub ok-one-of : (n : ℕ) {r : Run} → ((o : List Rec) → Good q t m (r .station) o → Lawful (r .station) → n ≤ 32) → Ok q t m b (d + 1) r → Ok q t m b d (draw-one-of n r)
+  unfolding draw-one-of
+  ok-one-of n {r} h k = ok-draw _ (λ o g l. pick-costs n (to-draw r) (h o g l)) k
 
   pub ok-require : {c : ℕ} → Plain c → (test : Bool) {r : Run} → Ok q t m b d r → Ok q t m b d (require c test r)
   unfolding require
@@ -179,6 +187,10 @@ draw-station n r =
     by-choice (λ (w : Run). w .station ≡ r .station) (eqb (r .code) 0)
     (λ e. by-choice (λ (w : Run). w .station ≡ r .station) (leb (r .used + n) (length (r .draws))) (λ f. refl) (λ f. refl))
     (λ e. refl)
+
+pub one-of-station : (n : ℕ) (r : Run) → (draw-one-of n r) .station ≡ r .station
+unfolding draw-one-of
+one-of-station n r = draw-station _ r
 
 -- a run that is not refused was not refused before
 pub draw-fine : (n : ℕ) (r : Run) → (draw n r) .code ≡ 0 → r .code ≡ 0
@@ -210,23 +222,23 @@ codes-on : {q : Fixed} (f : Station → Station) {r : Run} → Codes q r → Cod
 unfolding on guard
 codes-on {q} f {r} c =
     by-choice (Codes q) (eqb (r .code) 0)
-    (λ e. record { lent = c .lent; space = c .space; five = c .five; nine = c .nine; low = c .low; high = c .high }) (λ e. c)
+    (λ e. record { lent = c .lent; within = c .within; space = c .space; five = c .five; nine = c .nine; low = c .low; high = c .high }) (λ e. c)
 
 -- a record of at most n bytes
 module _ {q : Fixed} {u : Terms} {m b d : ℕ} (e : Rec) (n : ℕ) where
-  pub ok-emit-fine : {r : Run} → Codes q r → (r .code ≡ 0 → (length (r .out) + size e ≤ 8192) × Told q u m b d (r .station) (r .out ++ encode e) (r .used)) → Ok q u m b d (emit e r)
+  pub ok-emit-fine : {r : Run} → Codes q r → (r .code ≡ 0 → (length (r .out) + size e ≤ 8192) × Told q u m b d (r .station) (r .out ++ encode e) (spent r)) → Ok q u m b d (emit e r)
   unfolding emit
   ok-emit-fine {r} c h =
       ok-guard c (λ z. ok-if _
       (λ f. record {
         good = λ y. h z .1;
-        codes = record { lent = c .lent; space = c .space; five = c .five; nine = c .nine; low = c .low; high = c .high };
+        codes = record { lent = c .lent; within = c .within; space = c .space; five = c .five; nine = c .nine; low = c .low; high = c .high };
       })
       (λ f. ok-refuse 9 r (omega arith) (omega arith) (λ y. absurd (omega arith)) (λ y. omega (arith, c .space, h z .0, leb-false (length (r .out) + size e) (r .room) f)) c))
 
-  said : {t : Terms} {k : ℕ} {s v : Station} {out : List ℕ} {used : ℕ} → size e ≤ n → (9 ≤ e .kind → e .kind ≤ 10 → e .peer < peers-end)
-      → ((o : List Rec) → Good q t k s o → Good q u m v (e ∷ o)) → (Lawful s → Lawful v) → Told q t k (b + n) d s out used
-      → (length out + size e ≤ 8192) × Told q u m b d v (out ++ encode e) used
+  said : {t : Terms} {k : ℕ} {s v : Station} {out : List ℕ} {drawn : ℕ} → size e ≤ n → (9 ≤ e .kind → e .kind ≤ 10 → e .peer < peers-end)
+      → ((o : List Rec) → Good q t k s o → Good q u m v (e ∷ o)) → (Lawful s → Lawful v) → Told q t k (b + n) d s out drawn
+      → (length out + size e ≤ 8192) × Told q u m b d v (out ++ encode e) drawn
   unfolding spell
   said {out = out} l a h w g = (
     omega (arith, g .bytes-left),

@@ -5,14 +5,13 @@ use mathlib.Core.Bool.{true, false}
 use mathlib.Core.List.{List, [], _∷_}
 use Prim.Native.Nat.{ℕ, _+_, _<_}
 use native.Mathlib.Omega.{arith}
-use native.Mathlib.Nat.{mod-lt}
 use lib.ListN.{length, getD}
 use Rattle.lists.specs.Lists.{choose, null, count, mem, index-of}
 use Rattle.lists.specs.Maps.{lookup}
+use Rattle.util.proofs.Chances.{pick-below}
 use Rattle.lists.proofs.Count.{is-self, count-at, count-swap, length-swap, count-without, index-lt}
-use Rattle.util.specs.Random.{pick}
 use Rattle.protocol.specs.Station.{recovery, in-active, is-alone}
-use Rattle.protocol.specs.Run.{Run, on, draw, drawn, notice}
+use Rattle.protocol.specs.Run.{Run, on, to-draw, one-of, notice}
 use Rattle.protocol.specs.Budgets.{bare, adding, asking, disconnecting, removing, freeing}
 use Rattle.protocol.specs.Peers as P
 use Rattle.protocol.specs.Active as A
@@ -22,7 +21,7 @@ use Rattle.protocol.proofs.Law.{Short, Small, law-refused}
 use Rattle.protocol.proofs.Changes.{no-refusals, short-lookup}
 use Rattle.protocol.proofs.Told.{up-after, note, sent-after}
 use Rattle.protocol.proofs.Invariant.{Fixed, Terms, busy, Ok, with-slots}
-use Rattle.protocol.proofs.Keeping.{ease, ok-if, ok-either, ok-on, ok-map, ok-fact, ok-draw-one, ok-tell, draw-station, on-code}
+use Rattle.protocol.proofs.Keeping.{ease, ok-if, ok-either, ok-on, ok-map, ok-fact, ok-one-of, ok-tell, one-of-station, on-code}
 use Rattle.protocol.proofs.Sends.{no-node, ok-insert-peer-info, ok-send-disconnect, ok-start-refill}
 use Rattle.protocol.proofs.Passive.{ok-drop-data, ok-drop-mark, ok-forget-loose, ok-enter-loose, ok-mark-alive, entered}
 
@@ -115,10 +114,9 @@ module _ {q : Fixed} {g ba : List ℕ} where
 
   -- after it the active view has a free place
   pub ok-free-slot : {m b d : ℕ} {r : Run} → Ok q (busy g ba [] 0 0) m (b + freeing) (d + 40) r → Ok q (busy g ba [] 1 0) m b d (A.free-random-slot-in-active-view r)
-  unfolding A.free-random-slot-in-active-view A.remove-picked A.remove-active-by-index is-alone pick
+  unfolding A.free-random-slot-in-active-view A.remove-picked A.remove-active-by-index is-alone one-of
   ok-free-slot {m} {b} {d} {r} k =
       let act = r .station .active in
-      let w = draw 1 r in
       ok-if (null act)
       (λ e. ease (omega arith) (omega arith) (omega arith) (ok-map (λ o h w. record {
         still = h .still;
@@ -126,4 +124,4 @@ module _ {q : Fixed} {g ba : List ℕ} where
         waits = h .waits;
         tally = h .tally;
       }) k))
-      (λ e. ok-settle-random {sl = 1} _ (ok-drop-active {sl = 0} _ (rw (draw-station 1 r) (mod-lt (drawn r) (null-no act e))) (ok-draw-one (ease (omega arith) (omega arith) (omega arith) k))))
+      (λ e. ok-settle-random {sl = 1} _ (ok-drop-active {sl = 0} _ (rw (one-of-station (length act) r) (pick-below (length act) (to-draw r) (null-no act e))) (ok-one-of _ (λ o h l. omega (arith, h .seats .slots-left, h .still .ranges .few-slots)) (ease (omega arith) (omega arith) (omega arith) k))))

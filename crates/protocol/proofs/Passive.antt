@@ -6,17 +6,16 @@ use mathlib.Core.List.{List, [], _∷_}
 use mathlib.Core.Option.{Option, none, some}
 use Prim.Native.Nat.{ℕ, _+_, _*_, _≤_, _<_}
 use native.Mathlib.Omega.{arith}
-use native.Mathlib.Nat.{mod-lt}
 use lib.ListN.{length, getD, length-append}
 use lib.Dec.{leb, eqb}
 use borrow.Author.Tests.{leb-false, eqb-false, not-true, not-false}
 use Rattle.lists.specs.Lists.{is, count, mem}
 use Rattle.lists.proofs.Choice.{by-choice, split, or-true, or-left, or-right, and-right, and-false}
+use Rattle.util.proofs.Chances.{pick-below}
 use Rattle.lists.proofs.Count.{is-self, is-le, is-not, is-split, is-yes, mem-true, mem-false, count-snoc, count-shift, length-shift, count-without, count-remove, length-remove, count-insert}
-use Rattle.util.specs.Random.{pick}
 use Rattle.peer.specs.Data.{Data, Node}
 use Rattle.protocol.specs.Station.{Station, is-me, in-active, in-passive, in-view, passive-is-full}
-use Rattle.protocol.specs.Run.{Run, guard, on, drawn}
+use Rattle.protocol.specs.Run.{Run, guard, on, to-draw, one-of}
 use Rattle.protocol.specs.Budgets.{bare, adding}
 use Rattle.protocol.specs.Peers as P
 use Rattle.protocol.specs.Active as A
@@ -24,7 +23,7 @@ use Rattle.protocol.proofs.Extra.{null-yes, null-no, count-less}
 use Rattle.protocol.proofs.Law.{Short, ShortNodes, law-held, law-alive}
 use Rattle.protocol.proofs.Changes.{cut-held, unmark, mark}
 use Rattle.protocol.proofs.Invariant.{Fixed, Terms, busy, calm, Ok, with-marks, with-places}
-use Rattle.protocol.proofs.Keeping.{ease, ok-if, ok-either, ok-on, ok-change, ok-map, ok-fact, ok-absurd, ok-draw-one, ok-quiet, draw-station}
+use Rattle.protocol.proofs.Keeping.{ease, ok-if, ok-either, ok-on, ok-change, ok-map, ok-fact, ok-absurd, ok-one-of, ok-quiet, one-of-station}
 use Rattle.protocol.proofs.Sends.{no-node, ok-insert-peer-info}
 
 -- the tests, as counts
@@ -147,10 +146,10 @@ module _ {q : Fixed} {g ba : List ℕ} {sl m b d : ℕ} where
 
   -- after `evict` the passive view has a free place
   ok-evict : {lo : List ℕ} {r : Run} → Ok q (busy g ba lo sl 0) m b (d + 1) r → Ok q (busy g ba lo sl 1) m b d (P.evict r)
-  unfolding P.evict P.must-evict passive-is-full pick
+  unfolding P.evict P.must-evict passive-is-full one-of
   ok-evict {lo} {r} k =
       ok-if _
-      (λ e. ok-evict-at {lo = lo} _ (rw (draw-station 1 r) (mod-lt (drawn r) (null-no (r .station .passive) (not-true _ (and-right (leb (r .station .config .«passive_view_capacity») (length (r .station .passive))) _ e))))) (ok-draw-one k))
+      (λ e. ok-evict-at {lo = lo} _ (rw (one-of-station (length (r .station .passive)) r) (pick-below (length (r .station .passive)) (to-draw r) (null-no (r .station .passive) (not-true _ (and-right (leb (r .station .config .«passive_view_capacity») (length (r .station .passive))) _ e))))) (ok-one-of _ (λ o h l. omega (arith, h .seats .places-left, h .still .ranges .few-places)) k))
       (λ e. ease (omega arith) (omega arith) (omega arith) (ok-map (λ o h w. record {
         still = h .still;
         seats = with-places (h .seats) (and-false (leb (r .station .config .«passive_view_capacity») (length (r .station .passive))) _ e (λ f. omega (arith, leb-false (r .station .config .«passive_view_capacity») (length (r .station .passive)) f)) (λ f. omega (arith, h .still .ranges .some-place, null-yes (r .station .passive) (not-false _ f))));

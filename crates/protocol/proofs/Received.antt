@@ -8,7 +8,7 @@ use native.Mathlib.Omega.{arith}
 use lib.ListN.{length}
 use Rattle.lists.specs.Lists.{count, mem, without}
 use Rattle.lists.proofs.Choice.{split}
-use Rattle.lists.proofs.Count.{is-self, is-le, mem-true, length-without}
+use Rattle.lists.proofs.Count.{is-self, is-le, mem-true, length-without, length-without-all}
 use Rattle.timing.specs.declared.Config.{Config}
 use Rattle.peer.specs.Data.{Data, Node}
 use Rattle.record.specs.Format.{Rec, size}
@@ -23,7 +23,7 @@ use Rattle.protocol.proofs.Extra.{count-cut}
 use Rattle.protocol.proofs.Law.{Short, Small, ShortNodes, law-joins, law-requests, law-refused, law-recent}
 use Rattle.protocol.proofs.Changes.{cut-numbered, cut-request, add-refusal, without-recent}
 use Rattle.protocol.proofs.Invariant.{Fixed, Terms, busy, calm, Ok, with-inside}
-use Rattle.protocol.proofs.Keeping.{seven, ease, ok-if, ok-either, ok-on, ok-shift, ok-claim, ok-draw-one, ok-message, emit-fine}
+use Rattle.protocol.proofs.Keeping.{seven, ease, ok-if, ok-either, ok-on, ok-shift, ok-claim, ok-one-of, ok-message, emit-fine}
 use Rattle.protocol.proofs.Sends.{one-node, many-nodes, ok-insert-peer-info, ok-send-neighbor, ok-send-shuffle-reply, ok-send-disconnect, ok-refill, ok-start-refill}
 use Rattle.protocol.proofs.Passive.{ok-forget-any, ok-mark-alive, ok-add-passive, ok-add-nodes, ok-drop-passive}
 use Rattle.protocol.proofs.Leaving.{ok-remove-active}
@@ -115,15 +115,15 @@ module _ {q : Fixed} where
   ok-on-forward-join {b} {d} from n ttl {r} l k =
       let j : Ok q calm 1 (b + single) (d + 1) (M.learn-joiner n ttl r) = ok-learn n ttl l (ease (omega arith) (omega arith) (omega arith) k) in
       ok-either _ (ok-send-neighbor _ _ (ok-insert-peer-info _ _ (λ z. l) (ease (omega arith) (omega arith) (omega arith) k)))
-      (ok-either _ (ease (omega arith) (omega arith) (omega arith) j) (ok-message _ single refl (λ z o g w. one-node _ _ refl l) (ok-draw-one (ease (omega arith) (omega arith) (omega arith) j))))
+      (ok-either _ (ease (omega arith) (omega arith) (omega arith) j) (ok-message _ single refl (λ z o g w. one-node _ _ refl l) (ok-one-of _ (λ o g w. omega (arith, length-without from ((M.learn-joiner n ttl r) .station .active), g .seats .slots-left, g .still .ranges .few-slots)) (ease (omega arith) (omega arith) (omega arith) j))))
 
   -- on_shuffle: 1
   pub ok-on-shuffle : {b d : ℕ} (from origin : ℕ) (ns : List Node) (ttl : ℕ) {r : Run} → ShortNodes ns → length ns ≤ 32 → Ok q calm 1 (b + (crowd + 32 * adding)) (d + 70) r → Ok q calm 0 b d (M.on-shuffle from origin ns ttl r)
   unfolding M.on-shuffle M.answer-shuffle M.forward-shuffle
-  ok-on-shuffle from origin ns ttl sn l k =
+  ok-on-shuffle from origin ns ttl {r} sn l k =
       ok-either _ (ok-send-shuffle-reply _ _ (λ z. l) (ok-add-nodes ns sn (ease (omega arith) (omega arith) (omega arith) k)))
       (ok-either _ (ease (omega arith) (omega arith) (omega arith) k)
-      (ok-message _ crowd refl (λ z o g w. many-nodes _ _ refl sn l) (ok-draw-one (ease (omega arith) (omega arith) (omega arith) k))))
+      (ok-message _ crowd refl (λ z o g w. many-nodes _ _ refl sn l) (ok-one-of _ (λ o g w. omega (arith, length-without-all (origin ∷ from ∷ []) (r .station .active), g .seats .slots-left, g .still .ranges .few-slots)) (ease (omega arith) (omega arith) (omega arith) k))))
 
   -- on_shuffle_reply: 1
   pub ok-on-shuffle-reply : {b d : ℕ} (from : ℕ) (ns : List Node) {r : Run} → ShortNodes ns → length ns ≤ 32 → Ok q calm 1 (b + (32 * adding + asking)) (d + 33) r → Ok q calm 0 b d (M.on-shuffle-reply from ns r)

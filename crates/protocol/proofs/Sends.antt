@@ -10,7 +10,8 @@ use lib.ListN.{length, take, length-append}
 use lib.Dec.{ltb, eqb}
 use Rattle.lists.specs.Lists.{null}
 use Rattle.lists.proofs.Choice.{by-choice, or-left}
-use Rattle.util.specs.Random.{shuffle-draws}
+use Rattle.lists.proofs.Count.{length-without-all}
+use Rattle.util.proofs.Chances.{shuffle-costs}
 use Rattle.peer.specs.Data.{Data, Node}
 use Rattle.record.specs.Format.{Rec, size}
 use Rattle.protocol.specs.Station.{Station, Refill, is-me, top-counter}
@@ -25,8 +26,8 @@ use Rattle.protocol.proofs.Extra.{length-cut-to}
 use Rattle.protocol.proofs.Law.{Lawful, Short, Small, ShortNodes, law-held, law-requests, law-fill}
 use Rattle.protocol.proofs.Changes.{put-held, put-request, small-less, small-or}
 use Rattle.protocol.proofs.Told.{size-short, short-infos, length-infos}
-use Rattle.protocol.proofs.Invariant.{Fixed, Terms, Ok}
-use Rattle.protocol.proofs.Keeping.{six, eight, ten, ease, ok-if, ok-either, ok-on, ok-claim, ok-require, require-fine, ok-draw, ok-draw-one, ok-message, ok-quiet, ok-fact, emit-station, emit-fine, draw-fine}
+use Rattle.protocol.proofs.Invariant.{Fixed, Terms, Good, Ok}
+use Rattle.protocol.proofs.Keeping.{six, eight, ten, ease, ok-if, ok-either, ok-on, ok-claim, ok-require, require-fine, ok-draw, ok-one-of, ok-message, ok-quiet, ok-fact, emit-station, emit-fine, draw-fine}
 
 -- sizes
 pub one-node : (e : Rec) (n : Node) → e .nodes ≡ n ∷ [] → Short (n .data-of) → size e ≤ single
@@ -76,12 +77,12 @@ module _ {q : Fixed} {t : Terms} {m b d : ℕ} where
       ok-message _ crowd refl (λ z o g w. many-nodes _ _ refl (short-infos (r .station) ps (w .held-ok .shorts)) (omega (arith, l z, length-infos (r .station) ps))) k
 
   pub ok-draw-active : {r : Run} → Ok q t m b (d + 7) r → Ok q t m b d (R.draw-shuffle (r .station .active) r)
-  unfolding R.draw-shuffle shuffle-draws
-  ok-draw-active k = ok-draw _ (λ o g. omega (arith, g .seats .slots-left, g .still .ranges .few-slots)) k
+  unfolding R.draw-shuffle
+  ok-draw-active {r} k = ok-draw _ (λ o g w. shuffle-costs 7 (R.to-draw r) (r .station .active) (omega (arith, g .seats .slots-left, g .still .ranges .few-slots)) (omega arith)) k
 
   pub ok-draw-passive : {r : Run} → Ok q t m b (d + 31) r → Ok q t m b d (R.draw-shuffle (r .station .passive) r)
-  unfolding R.draw-shuffle shuffle-draws
-  ok-draw-passive k = ok-draw _ (λ o g. omega (arith, g .seats .places-left, g .still .ranges .few-places)) k
+  unfolding R.draw-shuffle
+  ok-draw-passive {r} k = ok-draw _ (λ o g w. shuffle-costs 31 (R.to-draw r) (r .station .passive) (omega (arith, g .seats .places-left, g .still .ranges .few-places)) (omega arith)) k
 
 module _ {q : Fixed} {t : Terms} {m b d : ℕ} where
   pub ok-send-shuffle-reply : (to len : ℕ) {r : Run} → (r .code ≡ 0 → len ≤ 32) → Ok q t (m + 1) (b + crowd) (d + 38) r → Ok q t m b d (S.send-shuffle-reply to len r)
@@ -139,18 +140,19 @@ module _ {q : Fixed} {t : Terms} {m b d : ℕ} where
   unfolding F.end-recovery Small
   ok-end-recovery {r} k = ok-limit _ (λ w. by-choice Small _ (λ e. tt) (λ e. w .fill-ok)) k
 
-  pub ok-ask-one : (from : List ℕ) {r : Run} → Ok q t (m + 1) (b + asking) (d + 1) r → Ok q t m b d (F.ask-one from r)
+  pub ok-ask-one : (from : List ℕ) {r : Run} → ((o : List Rec) → Good q t (m + 1) (r .station) o → Lawful (r .station) → length from ≤ 32) → Ok q t (m + 1) (b + asking) (d + 1) r → Ok q t m b d (F.ask-one from r)
   unfolding F.ask-one F.ask-picked F.use-request
-  ok-ask-one from k =
+  ok-ask-one from few k =
       ok-either _ (ok-end-recovery (ease (omega arith) (omega arith) (omega arith) k))
-      (ok-limit _ (λ w. small-less _ (w .fill-ok)) (ok-send-neighbor _ _ (ok-draw-one k)))
+      (ok-limit _ (λ w. small-less _ (w .fill-ok)) (ok-send-neighbor _ _ (ok-one-of _ few k)))
 
 module _ {q : Fixed} {t : Terms} {m b d : ℕ} where
   pub ok-refill : (skip : List ℕ) {r : Run} → Ok q t (m + 1) (b + asking) (d + 1) r → Ok q t m b d (F.refill-active-from-passive skip r)
-  unfolding F.refill-active-from-passive F.refill-limited F.limit-short Small
+  unfolding F.refill-active-from-passive F.refill-limited F.limit-short F.candidates Small
   ok-refill skip {r} k =
       ok-either _ (ease (omega arith) (omega arith) (omega arith) k)
-      (ok-ask-one _ (ok-limit _ (λ w. by-choice Small _ (λ e. omega arith) (λ e. w .fill-ok)) k))
+      (let s = (on F.limit-short r) .station in
+      ok-ask-one _ (λ o g w. omega (arith, length-without-all (F.skipped skip s) (s .passive), g .seats .places-left, g .still .ranges .few-places)) (ok-limit _ (λ w. by-choice Small _ (λ e. omega arith) (λ e. w .fill-ok)) k))
 
   pub ok-start-refill : (limit : Refill) (skip : List ℕ) {r : Run} → Small limit → Ok q t (m + 1) (b + asking) (d + 1) r → Ok q t m b d (F.start-refill limit skip r)
   unfolding F.start-refill F.begin-refill

@@ -1,6 +1,6 @@
 -- Each timer keeps what holds between events, within its number of messages.
 -- Assumes nothing.
-use mathlib.Core.Path.{_≡_, refl}
+use mathlib.Core.Path.{_≡_, refl, ap, _∙_}
 use mathlib.Core.Bool.{false}
 use mathlib.Core.List.{List, [], _∷_, _++_}
 use Prim.Native.Nat.{ℕ, _+_, _*_, _-_, _≤_}
@@ -9,10 +9,12 @@ use lib.ListN.{length, take, length-append}
 use borrow.Author.Tests.{ltb-true}
 use Rattle.lists.specs.Lists.{without}
 use Rattle.lists.proofs.Choice.{by-choice, clash}
-use Rattle.lists.proofs.Count.{length-without}
-use Rattle.util.specs.Random.{shuffle-draws}
+use Rattle.lists.proofs.Count.{length-without, length-without-all}
+use Rattle.util.specs.Chances.{shuffle-draws}
+use Rattle.util.proofs.Chances.{shuffle-costs}
 use Rattle.peer.specs.Data.{Node}
-use Rattle.protocol.specs.Station.{requests-left, recovery, top-passes}
+use Rattle.record.specs.Format.{Rec}
+use Rattle.protocol.specs.Station.{Station, requests-left, recovery, top-passes}
 use Rattle.protocol.specs.Run as R
 use Rattle.protocol.specs.Run.{Run, on, draw}
 use Rattle.protocol.specs.Budgets.{bare, single, crowd, asking}
@@ -24,7 +26,7 @@ use Rattle.protocol.proofs.Law.{Short, Small, ShortNodes, law-fill, law
 use Rattle.protocol.proofs.Changes.{renew-all-recent}
 use Rattle.protocol.proofs.Told.{short-infos, length-infos}
 use Rattle.protocol.proofs.Invariant.{Fixed, Terms, calm, Ok}
-use Rattle.protocol.proofs.Keeping.{ten, ease, ok-either, ok-on, ok-shift, ok-fact, ok-claim, ok-draw, ok-draw-one, ok-message, ok-quiet, draw-fine}
+use Rattle.protocol.proofs.Keeping.{ten, ease, ok-either, ok-on, ok-shift, ok-fact, ok-claim, ok-draw, ok-draw-one, ok-one-of, ok-message, ok-quiet, draw-fine, emit-station}
 use Rattle.protocol.proofs.Sends.{one-node, no-node, many-nodes, ok-join, ok-refill, ok-start-refill}
 use Rattle.protocol.proofs.Passive.{ok-drop-passive}
 use Rattle.protocol.proofs.Leaving.{ok-clear-refused}
@@ -58,6 +60,11 @@ unfolding ShortNodes
 short-more [] n h l = (l, tt)
 short-more (x ∷ ns) n h l = (h .0, short-more ns n (h .1) l)
 
+told-station : (f : ℕ → Rec) (ps : List ℕ) (r : Run) → (R.emit-all f ps r) .station ≡ r .station
+unfolding R.emit-all
+told-station f [] r = refl
+told-station f (p ∷ ps) r = told-station f ps (R.emit (f p) r) ∙ emit-station (f p) r
+
 module _ {q : Fixed} where
   -- a Shuffle of at most 31 peers and the station itself
   pub ok-send-shuffle : {m b d : ℕ} (to : ℕ) (ps : List ℕ) {r : Run} → (r .code ≡ 0 → length ps ≤ 31) → Ok q calm (m + 1) (b + crowd) d r → Ok q calm m b d (T.send-shuffle to ps r)
@@ -67,11 +74,11 @@ module _ {q : Fixed} where
       (omega (arith, l z, length-infos (r .station) ps, length-append (R.peer-infos (r .station) ps) (R.node (r .station .me) (r .station .own-data) ∷ [])))) k
 
   pub ok-shuffle-with : {m b d : ℕ} (to : ℕ) {r : Run} → Ok q calm (m + 1) (b + crowd) (d + 38) r → Ok q calm m b d (T.shuffle-with to r)
-  unfolding T.shuffle-with T.shuffle-passive R.draw-shuffle shuffle-draws T.active-part T.passive-part
+  unfolding T.shuffle-with T.shuffle-passive R.draw-shuffle T.active-part T.passive-part
   ok-shuffle-with {m} {b} {d} to {r} k =
-      let w = draw (length (without to (r .station .active)) - 1) r in
+      let w = draw (shuffle-draws (R.to-draw r) (without to (r .station .active))) r in
       let j : Ok q calm (m + 1) (b + crowd) (d + 31) w =
-      ok-draw {k = 7} _ (λ o g. omega (arith, length-without to (r .station .active), g .seats .slots-left, g .still .ranges .few-slots)) (ease (omega arith) (omega arith) (omega arith) k) in
+      ok-draw {k = 7} _ (λ o g w. shuffle-costs 7 (R.to-draw r) (without to (r .station .active)) (omega (arith, length-without to (r .station .active), g .seats .slots-left, g .still .ranges .few-slots)) (omega arith)) (ease (omega arith) (omega arith) (omega arith) k) in
       ok-send-shuffle to _ (λ z. let y = draw-fine _ w z in
       ok-fact (λ o g i. ok-fact (λ p h l. omega (
         arith,
@@ -81,17 +88,17 @@ module _ {q : Fixed} where
         length-cut-to (r .station .config .«shuffle_active_view_count») (R.shuffled (without to (r .station .active)) r),
         length-cut-to (w .station .config .«shuffle_passive_view_count») (R.shuffled (without to (w .station .passive)) w),
       )) k (draw-fine _ r y)) j y)
-      (ok-draw {k = 31} _ (λ o g. omega (arith, length-without to (w .station .passive), g .seats .places-left, g .still .ranges .few-places)) j)
+      (ok-draw {k = 31} _ (λ o g l. shuffle-costs 31 (R.to-draw w) (without to (w .station .passive)) (omega (arith, length-without to (w .station .passive), g .seats .places-left, g .still .ranges .few-places)) (omega arith)) j)
 
   -- DoShuffle: 1
   pub ok-shuffle-timer : {b d : ℕ} {r : Run} → Ok q calm 1 (b + (crowd + bare)) (d + 40) r → Ok q calm 0 b d (T.handle-shuffle-timer r)
   unfolding T.handle-shuffle-timer T.shuffle-any
   ok-shuffle-timer k =
-      ok-schedule-shuffle (ok-either _ (ease (omega arith) (omega arith) (omega arith) k) (ok-shuffle-with _ (ok-draw-one (ease (omega arith) (omega arith) (omega arith) k))))
+      ok-schedule-shuffle (ok-either _ (ease (omega arith) (omega arith) (omega arith) k) (ok-shuffle-with _ (ok-one-of _ (λ o g w. omega (arith, g .seats .slots-left, g .still .ranges .few-slots)) (ease (omega arith) (omega arith) (omega arith) k))))
 
   -- a maintenance timer: 9
   pub ok-rejoin : {b d : ℕ} {r : Run} → Ok q calm 9 (b + 9 * single) (d + 1) r → Ok q calm 0 b d (T.rejoin r)
-  unfolding T.rejoin T.rejoin-recent T.rejoin-bootstrap S.join-to
+  unfolding T.rejoin T.rejoin-recent T.rejoin-bootstrap T.other-recent S.join-to
   ok-rejoin {b} {d} {r} k =
       let j : Ok q calm 1 (b + single) (d + 1) (T.rejoin-bootstrap r) =
       ok-emit-all _ (λ x. refl) (r .station .bootstrap) (λ z p. ok-fact (λ o g w. one-node (S.join-to (r .station .own-data) p) _ refl (w .own-ok)) k z)
@@ -104,7 +111,7 @@ module _ {q : Fixed} where
         },
         omega (arith, h .waits .few),
       )) k) in
-      ok-either _ (ease (omega arith) (omega arith) (omega arith) j) (ok-join _ (ok-draw-one j))
+      ok-either _ (ease (omega arith) (omega arith) (omega arith) j) (ok-join _ (ok-one-of _ (λ o g w. omega (arith, length-without-all (r .station .bootstrap) (r .station .recent), w .recent-ok .few, ap (λ (s : Station). length (s .recent)) (told-station (S.join-to (r .station .own-data)) (r .station .bootstrap) r))) j))
 
   pub ok-pass-alone : {b d : ℕ} {r : Run} → q .alone-kept ≡ false → Ok q calm 9 (b + 9 * single) (d + 1) r → Ok q calm 0 b d (T.pass-alone r)
   unfolding T.pass-alone T.rejoin-if-due T.count-alone T.alone-counts T.add-alone

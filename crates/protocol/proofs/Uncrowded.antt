@@ -7,7 +7,6 @@ use mathlib.Core.List.{List, [], _∷_, _++_}
 use mathlib.Core.Option.{Option, none, some}
 use Prim.Native.Nat.{ℕ, _+_, _≤_, _<_}
 use native.Mathlib.Omega.{arith}
-use native.Mathlib.Nat.{mod-lt}
 use lib.ListN.{length, getD, length-append}
 use lib.Dec.{ltb, leb, eqb}
 use borrow.Author.Tests.{eqb-true, eqb-false, lt-ltb, leb-false, not-true, not-false}
@@ -16,13 +15,13 @@ use Rattle.lists.specs.Maps.{keys, has}
 use Rattle.lists.proofs.Choice.{by-choice, choose-yes, or-true, or-left, and-right, and-false}
 use Rattle.lists.proofs.Count.{is-self, is-split, count-append, count-snoc, count-shift, length-shift}
 use Rattle.lists.proofs.Maps.{length-keys}
-use Rattle.util.specs.Random.{pick}
+use Rattle.util.proofs.Chances.{pick-below}
 use Rattle.peer.specs.Data.{Data, Node}
 use Rattle.record.specs.Format.{Rec}
 use Rattle.record.specs.Read.{Reading, read-event}
 use Rattle.protocol.specs.Station.{Station, is-me, in-view, passive-is-full, data-peers}
 use Rattle.protocol.specs.Rules.{all-under, station-ok}
-use Rattle.protocol.specs.Run.{Run, with-code, guard, on, emit, draw, drawn, require}
+use Rattle.protocol.specs.Run.{Run, with-code, guard, on, emit, draw, to-draw, one-of, draw-one-of, require}
 use Rattle.protocol.specs.Peers as P
 use Rattle.protocol.specs.Messages as M
 use Rattle.protocol.specs.Handle as H
@@ -31,7 +30,7 @@ use Rattle.protocol.proofs.Extra.{null-yes, null-no, shorter, count-cut
 use Rattle.protocol.proofs.Law.{Held, Short, ShortNodes}
 use Rattle.protocol.proofs.Changes.{cut-held, put-held}
 use Rattle.protocol.proofs.Invariant.{Ranges}
-use Rattle.protocol.proofs.Keeping.{draw-station}
+use Rattle.protocol.proofs.Keeping.{one-of-station}
 use Rattle.protocol.proofs.Sends.{announce-station}
 use Rattle.protocol.proofs.Passive.{seen}
 use Rattle.protocol.proofs.Reading.{Readable, by-reading}
@@ -84,6 +83,10 @@ module _ {loose : List ℕ} {places : ℕ} where
   unfolding draw
   fine-draw n h =
       fine-guard h (λ z. fine-either _ (λ e. record { clear = h .clear; snug = h .snug }) (λ e. record { clear = λ y. omega arith; snug = λ y. absurd (omega arith) }))
+
+  fine-draw-one-of : (n : ℕ) {r : Run} → Fine loose places r → Fine loose places (draw-one-of n r)
+  unfolding draw-one-of
+  fine-draw-one-of n h = fine-draw _ h
 
   fine-emit : (e : Rec) {r : Run} → Fine loose places r → Fine loose places (emit e r)
   unfolding emit
@@ -168,12 +171,12 @@ fine-evict i loose {r} l h =
     }) h)
 
 fine-evicted : (loose : List ℕ) {r : Run} → Fine loose 0 r → Fine loose 1 (P.evict r)
-unfolding P.evict P.must-evict passive-is-full pick
+unfolding P.evict P.must-evict passive-is-full one-of
 fine-evicted loose {r} h =
     let pas = r .station .passive in
     let cap = r .station .config .«passive_view_capacity» in
     fine-either _
-    (λ e. fine-evict _ loose (rw (draw-station 1 r) (mod-lt (drawn r) (null-no pas (not-true _ (and-right (leb cap (length pas)) _ e))))) (fine-draw 1 h))
+    (λ e. fine-evict _ loose (rw (one-of-station (length pas) r) (pick-below (length pas) (to-draw r) (null-no pas (not-true _ (and-right (leb cap (length pas)) _ e))))) (fine-draw-one-of _ h))
     (λ e. fine-map (λ g. record {
       held = g .held;
       ranges = g .ranges;
@@ -235,7 +238,7 @@ module _ (e : Rec) (w : Readable e) {r : Run} (h : Fine [] 0 r) where
       let j : Fits 0 (P.add-nodes (e .nodes) r) = Fit.fit-less (omega arith) (fine-fits (fine-add-nodes (e .nodes) (w .shorts) h)) in
       Fit.fit-either _ (Fit.fit-on-join _ _ (Fit.fit-less (omega arith) i))
       (Fit.fit-either _ (Fit.fit-on-forward-join _ _ _ (Fit.fit-less (omega arith) i))
-      (Fit.fit-either _ (Fit.fit-either _ (Fit.fit-send-shuffle-reply _ _ j) (Fit.fit-either _ (Fit.fit-less (omega arith) i) (Fit.fit-emit _ (Fit.fit-draw 1 (Fit.fit-less (omega arith) i)))))
+      (Fit.fit-either _ (Fit.fit-either _ (Fit.fit-send-shuffle-reply _ _ j) (Fit.fit-either _ (Fit.fit-less (omega arith) i) (Fit.fit-emit _ (Fit.fit-draw-one-of _ (Fit.fit-less (omega arith) i)))))
       (Fit.fit-either _ (Fit.fit-either _ j (Fit.fit-either _ (Fit.fit-start-refill _ _ j) (Fit.fit-refill _ j)))
       (Fit.fit-either _ (Fit.fit-on-neighbor _ _ _ (Fit.fit-less (omega arith) i)) (Fit.fit-on-disconnect _ _ (Fit.fit-less (omega arith) i))))))
 

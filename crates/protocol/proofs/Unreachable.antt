@@ -14,13 +14,13 @@ use Rattle.lists.proofs.Count.{length-without}
 use Rattle.timing.specs.Timing.{expired}
 use Rattle.peer.specs.Data.{Node}
 use Rattle.protocol.specs.Station.{Station, is-last-hop, in-active}
-use Rattle.protocol.specs.Run.{Run, draw, notice}
+use Rattle.protocol.specs.Run.{Run, draw-one-of, notice}
 use Rattle.protocol.specs.Peers as P
 use Rattle.protocol.specs.Messages.{ends-here, learn-joiner}
 use Rattle.protocol.specs.Rules.{station-ok}
 use Rattle.protocol.specs.Handle.{start}
 use Rattle.protocol.proofs.Extra.{null-yes}
-use Rattle.protocol.proofs.Keeping.{draw-station, emit-station}
+use Rattle.protocol.proofs.Keeping.{one-of-station, emit-station}
 use Rattle.protocol.proofs.Entering.{on-same, same-after-info}
 use Rattle.protocol.proofs.Tested.{between-of}
 
@@ -46,7 +46,7 @@ unfolding P.make-room P.evict
 room-keeps r =
     tell-keeps (P.evicted r) (P.evict r)
     ∙ by-choice (λ (w : Run). w .station .active ≡ r .station .active) (P.must-evict (r .station))
-    (λ e. evict-keeps _ (draw 1 r) ∙ ap neighbours (draw-station 1 r)) (λ e. refl)
+    (λ e. evict-keeps _ (draw-one-of (length (r .station .passive)) r) ∙ ap neighbours (one-of-station (length (r .station .passive)) r)) (λ e. refl)
 
 enter-keeps : (p : ℕ) (r : Run) → (P.enter-passive p r) .station .active ≡ r .station .active
 unfolding P.enter-passive P.push-passive

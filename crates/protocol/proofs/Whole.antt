@@ -14,6 +14,7 @@ use Rattle.lists.proofs.Choice.{by-choice, split}
 use Rattle.lists.proofs.Maps.{subset-retain}
 use Rattle.timing.specs.declared.Config.{Config}
 use Rattle.peer.specs.Data.{Node}
+use Rattle.util.specs.Chances.{sure}
 use Rattle.record.specs.Format.{Rec}
 use Rattle.protocol.specs.Station.{Station, data-peers}
 use Rattle.protocol.specs.Run.{Run, guard, on}
@@ -122,7 +123,7 @@ pub record Between (c : Config) (me : ℕ) (up : List ℕ) (sent allowed : ℕ) 
     self-of = me;
     alone-of = 0;
     alone-kept = false;
-    draws-lent = 0;
+    draws-lent = [];
     room-lent = 0;
   }) calm 0 s []
   pub law : Lawful s
@@ -130,7 +131,7 @@ pub record Between (c : Config) (me : ℕ) (up : List ℕ) (sent allowed : ℕ) 
   pub covered : Covered s
 
 -- an event e starts: n more messages are allowed, and a Quit starts with none up
-abbrev pub at-start : Config → ℕ → List ℕ → ℕ → ℕ → ℕ → ℕ → ℕ → Rec → Fixed
+abbrev pub at-start : Config → ℕ → List ℕ → ℕ → ℕ → ℕ → List ℕ → ℕ → Rec → Fixed
 at-start c me up sent allowed alone draws room e = record {
   up-of = choose (eqb (e .kind) 8) [] up;
   sent-of = sent;
@@ -144,8 +145,8 @@ at-start c me up sent allowed alone draws room e = record {
 }
 
 module _ {c : Config} {me : ℕ} {up : List ℕ} {sent allowed : ℕ} {s : Station} (n : ℕ) (ds : List ℕ) (room : ℕ) (e : Rec) (w : Readable e) (p : Pays (c .«active_view_capacity») n e) (h : Between c me up sent allowed s) where
-  pub start-plain : eqb (e .kind) 8 ≡ false → Ok (at-start c me up sent (allowed + n) (s .passes-alone) (length ds) room e) calm n 8192 512 (start s ds room)
-  unfolding up-after sent-after spell choose
+  pub start-plain : eqb (e .kind) 8 ≡ false → Ok (at-start c me up sent (allowed + n) (s .passes-alone) ds room e) calm n 8192 512 (start s ds room)
+  unfolding up-after sent-after spell choose sure
   start-plain f = record {
     good = λ z. record {
       told = [];
@@ -161,11 +162,11 @@ module _ {c : Config} {me : ℕ} {up : List ℕ} {sent allowed : ℕ} {s : Stati
       bytes-left = omega arith;
       draws-left = omega arith;
     };
-    codes = record { lent = refl; space = refl; five = λ z. absurd (omega arith); nine = λ z. absurd (omega arith); low = λ z. absurd (omega arith); high = omega arith };
+    codes = record { lent = refl; within = omega arith; space = refl; five = λ z. absurd (omega arith); nine = λ z. absurd (omega arith); low = λ z. absurd (omega arith); high = omega arith };
   }
 
-  pub start-quit : eqb (e .kind) 8 ≡ true → Ok (at-start c me up sent (allowed + n) (s .passes-alone) (length ds) room e) (quitting (s .active)) 0 8192 512 (start s ds room)
-  unfolding up-after sent-after spell choose count
+  pub start-quit : eqb (e .kind) 8 ≡ true → Ok (at-start c me up sent (allowed + n) (s .passes-alone) ds room e) (quitting (s .active)) 0 8192 512 (start s ds room)
+  unfolding up-after sent-after spell choose count sure
   start-quit f = record {
     good = λ z. record {
       told = [];
@@ -181,13 +182,13 @@ module _ {c : Config} {me : ℕ} {up : List ℕ} {sent allowed : ℕ} {s : Stati
       bytes-left = omega arith;
       draws-left = omega arith;
     };
-    codes = record { lent = refl; space = refl; five = λ z. absurd (omega arith); nine = λ z. absurd (omega arith); low = λ z. absurd (omega arith); high = omega arith };
+    codes = record { lent = refl; within = omega arith; space = refl; five = λ z. absurd (omega arith); nine = λ z. absurd (omega arith); low = λ z. absurd (omega arith); high = omega arith };
   }
 
   some-slot : 1 ≤ c .«active_view_capacity»
   some-slot = omega (arith, h .core .still .ranges .some-slot, ap (λ (k : Config). k .«active_view_capacity») (h .core .still .fixed))
 
-  pub ok-steps : Ok (at-start c me up sent (allowed + n) (s .passes-alone) (length ds) room e) calm 0 0 0 (steps e (start s ds room))
+  pub ok-steps : Ok (at-start c me up sent (allowed + n) (s .passes-alone) ds room e) calm 0 0 0 (steps e (start s ds room))
   unfolding steps
   ok-steps =
       ok-forget-declined (ok-first-timers (split (eqb (e .kind) 8)

@@ -6,12 +6,11 @@ use mathlib.Core.List.{[], _∷_, _++_}
 use lib.ListN.{length, getD}
 use Rattle.lists.specs.Lists.{choose, index-of, swap-remove, insert, renew}
 use Rattle.lists.specs.Maps.{lookup}
-use Rattle.util.specs.Random.{pick}
 use Rattle.timing.specs.Timing.{max-recent-neighbors}
 use Rattle.peer.specs.Data.{Data}
 use Rattle.protocol.specs.Station.{Station, automatic, recovery, is-me, in-active, is-alone, active-is-full}
 use Rattle.protocol.specs.Setters.{set-active, set-passes-short, set-recent, set-alive, set-refused, set-refill}
-use Rattle.protocol.specs.Run.{Run, on, emit, draw, drawn, notice}
+use Rattle.protocol.specs.Run.{Run, on, emit, one-of, draw-one-of, notice}
 use Rattle.protocol.specs.Peers.{insert-peer-info, drop-data, drop-mark, forget-peer, add-passive, remove-passive, is-marked}
 use Rattle.protocol.specs.Sending.{send-disconnect, reply-neighbor}
 use Rattle.protocol.specs.Refill.{unless-recovery, start-refill}
@@ -69,7 +68,7 @@ remove-active p why r =
     choose (in-active p (r .station)) (refill-after p (remove-active-by-index (index-of p (r .station .active)) why r)) r
 
 unfoldable pub remove-picked : Run → Run
-remove-picked r = remove-active-by-index (pick (length (r .station .active)) (drawn r)) random (draw 1 r)
+remove-picked r = remove-active-by-index (one-of (length (r .station .active)) r) random (draw-one-of (length (r .station .active)) r)
 
 -- free_random_slot_in_active_view
 unfoldable pub free-random-slot-in-active-view : Run → Run

@@ -9,12 +9,11 @@ use lib.ListN.{length, getD}
 use lib.Dec.{eqb}
 use Rattle.lists.specs.Lists.{choose, index-of}
 use Rattle.lists.specs.Maps.{lookup}
-use Rattle.util.specs.Random.{pick}
 use Rattle.peer.specs.Data.{Data, Node}
 use Rattle.record.specs.Format.{Rec}
 use Rattle.record.specs.Read.{rec-of}
 use Rattle.protocol.specs.Station.{Station, draws-end, is-me, in-active, is-alone, active-is-full}
-use Rattle.protocol.specs.Run.{Run, on, draw, drawn}
+use Rattle.protocol.specs.Run.{Run, on, one-of, draw-one-of}
 use Rattle.protocol.specs.Peers.{insert-peer-info, drop-data, drop-mark, is-marked, add-passive, evicted-by}
 use Rattle.protocol.specs.Sending.{send-disconnect}
 use Rattle.protocol.specs.Active.{Reason, connection-closed, disconnect-received, random, drop-active}
@@ -60,7 +59,7 @@ by-removing p why r = choose (in-active p (r .station)) (by-removing-at (index-o
 -- free-random-slot-in-active-view
 unfoldable pub by-freeing : Run → List ℕ
 by-freeing r =
-    choose (is-alone (r .station)) [] (by-removing-at (pick (length (r .station .active)) (drawn r)) random (draw 1 r))
+    choose (is-alone (r .station)) [] (by-removing-at (one-of (length (r .station .active)) r) random (draw-one-of (length (r .station .active)) r))
 
 -- admit: only a peer of high priority at a full view makes another leave
 unfoldable pub by-admitting : ℕ → Bool → Run → List ℕ

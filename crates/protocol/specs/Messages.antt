@@ -12,7 +12,7 @@ use Rattle.peer.specs.Data.{Data, Node}
 use Rattle.record.specs.Format.{Rec}
 use Rattle.protocol.specs.Station.{Station, in-active, in-passive, is-requested, is-short, is-spent, is-last-hop, max-refused}
 use Rattle.protocol.specs.Setters.{set-recent, set-requests, set-joins, set-refused}
-use Rattle.protocol.specs.Run.{Run, on, emit, draw, require, picked, emit-all, node, message}
+use Rattle.protocol.specs.Run.{Run, on, emit, draw-one-of, require, picked, emit-all, node, message}
 use Rattle.protocol.specs.Peers.{insert-peer-info, forget-peer, add-passive, add-nodes, any-new, drop-passive}
 use Rattle.protocol.specs.Sending.{send-neighbor, send-shuffle-reply, send-disconnect}
 use Rattle.protocol.specs.Refill.{few-requests, refill-active-from-passive, start-refill}
@@ -61,7 +61,7 @@ learn-joiner n ttl r =
 
 -- The Rust has `unreachable!` where `others` is empty: that is never so (proofs/Unreachable).
 unfoldable pub forward-join-on : List ℕ → Node → ℕ → Run → Run
-forward-join-on others n ttl r = emit (forward-join-to n (next ttl) (picked others r)) (draw 1 r)
+forward-join-on others n ttl r = emit (forward-join-to n (next ttl) (picked others r)) (draw-one-of (length others) r)
 
 unfoldable pub walk-on : ℕ → Node → ℕ → Run → Run
 walk-on from n ttl r =
@@ -82,7 +82,7 @@ answer-shuffle origin ns r = send-shuffle-reply origin (length ns) (add-nodes ns
 
 unfoldable pub forward-shuffle : List ℕ → ℕ → List Node → ℕ → Run → Run
 forward-shuffle others origin ns ttl r =
-    choose (null others) r (emit (message 2 (picked others r) 0 origin (next ttl) ns) (draw 1 r))
+    choose (null others) r (emit (message 2 (picked others r) 0 origin (next ttl) ns) (draw-one-of (length others) r))
 
 -- on_shuffle
 unfoldable pub on-shuffle : ℕ → ℕ → List Node → ℕ → Run → Run

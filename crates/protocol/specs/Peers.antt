@@ -8,11 +8,10 @@ use lib.ListN.{length, getD}
 use lib.Dec.{ltb}
 use Rattle.lists.specs.Lists.{choose, null, mem, shift-remove, remove, without}
 use Rattle.lists.specs.Maps.{has, lookup, cut, put}
-use Rattle.util.specs.Random.{pick}
 use Rattle.peer.specs.Data.{Data, Node, holds}
 use Rattle.protocol.specs.Station.{Station, is-me, in-view, passive-is-full, max-peer-data}
 use Rattle.protocol.specs.Setters.{set-passive, set-peer-data, set-alive}
-use Rattle.protocol.specs.Run.{Run, on, emit, draw, require, drawn, picked, notice, data-notice}
+use Rattle.protocol.specs.Run.{Run, on, emit, require, one-of, draw-one-of, picked, notice, data-notice}
 
 -- insert_peer_info
 
@@ -77,7 +76,7 @@ unfoldable pub evicted : Run → Option ℕ
 evicted r = choose (must-evict (r .station)) (some (picked (r .station .passive) r)) none
 
 unfoldable pub evict : Run → Run
-evict r = choose (must-evict (r .station)) (evict-at (pick (length (r .station .passive)) (drawn r)) (draw 1 r)) r
+evict r = choose (must-evict (r .station)) (evict-at (one-of (length (r .station .passive)) r) (draw-one-of (length (r .station .passive)) r)) r
 
 -- S-2: "an output record of kind 12 .. carries that peer"
 unfoldable pub tell-evicted : Option ℕ → Run → Run

@@ -10,7 +10,7 @@ use Rattle.lists.specs.Maps.{keys}
 use Rattle.timing.specs.Timing.{max-requests-per-refill}
 use Rattle.protocol.specs.Station.{Station, Refill, automatic, requests-left, recovery, is-alone, is-short, is-recovery, is-automatic, is-spent, asked-outside, recovery-is-over}
 use Rattle.protocol.specs.Setters.{set-refill}
-use Rattle.protocol.specs.Run.{Run, on, draw, picked}
+use Rattle.protocol.specs.Run.{Run, on, draw-one-of, picked}
 use Rattle.protocol.specs.Sending.{send-neighbor}
 
 -- a limit of `MAX_REQUESTS_PER_REFILL`
@@ -49,7 +49,7 @@ candidates skip s = without-all (skipped skip s) (s .passive)
 
 -- priority is High exactly where the active view is empty
 unfoldable pub ask-picked : List ℕ → Run → Run
-ask-picked from r = on use-request (send-neighbor (picked from r) (is-alone (r .station)) (draw 1 r))
+ask-picked from r = on use-request (send-neighbor (picked from r) (is-alone (r .station)) (draw-one-of (length from) r))
 
 unfoldable pub ask-one : List ℕ → Run → Run
 ask-one from r = choose (null from) (on end-recovery r) (ask-picked from r)

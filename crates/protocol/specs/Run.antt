@@ -9,7 +9,7 @@ use lib.ListN.{length, getD, drop}
 use lib.Dec.{leb, eqb}
 use Rattle.lists.specs.Lists.{choose}
 use Rattle.lists.specs.Maps.{lookup}
-use Rattle.util.specs.Random.{pick, shuffle, shuffle-draws}
+use Rattle.util.specs.Chances.{pick-draws, pick, shuffle, shuffle-draws}
 use Rattle.peer.specs.Data.{Data, Node}
 use Rattle.record.specs.Format.{Rec, size, encode}
 use Rattle.protocol.specs.Station.{Station}
@@ -56,20 +56,31 @@ draw n r = guard r (choose (leb (r .used + n) (length (r .draws))) (with-used (r
 unfoldable pub require : ℕ → Bool → Run → Run
 require c b r = guard r (choose b r (with-code c r))
 
--- the next draw, which `draw 1` takes
+-- the next draw, which `draw 1` takes: a delay passes over none
 unfoldable pub drawn : Run → ℕ
 drawn r = getD (r .draws) (r .used) 0
 
--- "One of n items": the one that the next draw decides
+-- the draws that are left
+unfoldable pub to-draw : Run → List ℕ
+to-draw r = drop (r .used) (r .draws)
+
+-- "One of n items": the place that the next draws decide, which `draw-one-of` takes
+unfoldable pub one-of : ℕ → Run → ℕ
+one-of n r = pick n (to-draw r)
+
+unfoldable pub draw-one-of : ℕ → Run → Run
+draw-one-of n r = draw (pick-draws n (to-draw r)) r
+
+-- the item at that place
 unfoldable pub picked : List ℕ → Run → ℕ
-picked xs r = getD xs (pick (length xs) (drawn r)) 0
+picked xs r = getD xs (one-of (length xs) r) 0
 
 -- "Shuffle": the items in the order that the next draws decide, which `draw-shuffle` takes
 unfoldable pub shuffled : List ℕ → Run → List ℕ
-shuffled xs r = shuffle (drop (r .used) (r .draws)) xs
+shuffled xs r = shuffle (to-draw r) xs
 
 unfoldable pub draw-shuffle : List ℕ → Run → Run
-draw-shuffle xs r = draw (shuffle-draws xs) r
+draw-shuffle xs r = draw (shuffle-draws (to-draw r) xs) r
 
 -- a record for each of the peers, in order
 unfoldable pub emit-all : (ℕ → Rec) → List ℕ → Run → Run

@@ -4,7 +4,7 @@ use Prim.Native.Nat.{ℕ, _+_, _*_, min}
 use mathlib.Core.Bool.{Bool, false, _&&_}
 use mathlib.Core.List.{List, [], _∷_, _++_}
 use mathlib.Core.Option.{Option, none, some}
-use lib.ListN.{take}
+use lib.ListN.{length, take}
 use lib.Dec.{ltb, eqb}
 use Rattle.lists.specs.Lists.{choose, null, without, without-all, renew}
 use Rattle.lists.specs.Maps.{lookup}
@@ -12,7 +12,7 @@ use Rattle.timing.specs.Timing.{max-recent-neighbors, maintenance-interval, bac
 use Rattle.peer.specs.Data.{Node}
 use Rattle.protocol.specs.Station.{Station, recovery, is-alone, is-short, is-recovery, top-passes}
 use Rattle.protocol.specs.Setters.{set-next-interval, set-passes-alone, set-passes-short, set-recent}
-use Rattle.protocol.specs.Run.{Run, on, emit, draw, require, drawn, picked, shuffled, draw-shuffle, emit-all, node, message, timer, peer-infos}
+use Rattle.protocol.specs.Run.{Run, on, emit, draw, require, drawn, draw-one-of, picked, shuffled, draw-shuffle, emit-all, node, message, timer, peer-infos}
 use Rattle.protocol.specs.Peers.{drop-passive}
 use Rattle.protocol.specs.Sending.{join-to, join}
 use Rattle.protocol.specs.Refill.{few-requests, end-recovery, refill-active-from-passive, start-refill}
@@ -77,7 +77,7 @@ unfoldable pub shuffle-with : ℕ → Run → Run
 shuffle-with to r = shuffle-passive to (active-part to r) (draw-shuffle (without to (r .station .active)) r)
 
 unfoldable pub shuffle-any : Run → Run
-shuffle-any r = choose (is-alone (r .station)) r (shuffle-with (picked (r .station .active) r) (draw 1 r))
+shuffle-any r = choose (is-alone (r .station)) r (shuffle-with (picked (r .station .active) r) (draw-one-of (length (r .station .active)) r))
 
 -- handle_shuffle_timer
 unfoldable pub handle-shuffle-timer : Run → Run
@@ -98,7 +98,7 @@ unfoldable pub other-recent : Station → List ℕ
 other-recent s = without-all (s .bootstrap) (s .recent)
 
 unfoldable pub rejoin-recent : List ℕ → Run → Run
-rejoin-recent from r = choose (null from) r (join (picked from r) (draw 1 r))
+rejoin-recent from r = choose (null from) r (join (picked from r) (draw-one-of (length from) r))
 
 unfoldable pub rejoin-bootstrap : Run → Run
 rejoin-bootstrap r = emit-all (join-to (r .station .own-data)) (r .station .bootstrap) r

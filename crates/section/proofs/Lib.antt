@@ -3,3 +3,4 @@ pub mod Parts
 pub mod Sets
 pub mod Stores
 pub mod Copies
+pub mod Picks

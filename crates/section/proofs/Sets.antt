@@ -355,7 +355,3 @@ module _ (n : ℕ) (s : List ℕ) (v : ValidSet n s) where
       ap (λ (j : ℕ). getD (ys ++ drop n s) j 0) (let k : n ≡ length ys + 0 = omega arith in k) ∙ getD-append-add ys (drop n s) 0 0 ∙ lib.Seq.getD-drop n s 0 0
       ∙ ap (λ (j : ℕ). getD s j 0) (let k : n + 0 ≡ n = omega arith in k) ∙ sym (v .counted) ∙ sym q in
       set-of n (putMid 0 n s ys) xs w (part-put 0 n s ys (omega arith) m ∙ p) c (omega (arith, few-items))
-
-  -- the draws that a shuffle takes, by the count
-  pub set-draws : (at k : ℕ) → at + (length (items-at n s) - 1) ≤ k → at + (getD s n 0 - 1) ≤ k
-  set-draws at k h = omega (arith, v .counted)

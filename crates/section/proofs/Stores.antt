@@ -14,8 +14,8 @@ use Rattle.lists.specs.Lists.{mem, swap, without-all}
 use Rattle.lists.proofs.Array.{length-pad, getD-pad, set-pad}
 use Rattle.lists.proofs.Front.{Front, front-start, front-step, front-end}
 use Rattle.lists.proofs.Rest.{Rest, rest-next, rest-end}
-use Rattle.util.specs.Random.{shuffle, shuffle-down}
-use Rattle.util.proofs.Choosing.{shuffle-step, length-swapped}
+use Rattle.util.specs.Chances.{pick-draws, pick, shuffle-down, draws-down, shuffle, shuffle-draws}
+use Rattle.util.proofs.Chances.{length-swapped, length-shuffled, pick-below, picks-next, shuffle-step, draws-step}
 use borrow.Rule.Slice.PartMut.{putMid}
 use Rattle.section.specs.Section.{part, Filled, items-at, ValidSet, HoldsSet}
 use Rattle.section.proofs.Columns.{filled-length}
@@ -117,8 +117,9 @@ pub record Mixing (ds : List ℕ) (at n : ℕ) (s₀ s : List ℕ) (i k : ℕ) :
   pub long : length s ≡ length s₀
   pub room : n ≤ length s
   pub low : i < n
-  pub place : k + i ≡ at + (n - 1)
-  pub there : at + (n - 1) ≤ length ds
+  pub few : n ≤ 32
+  pub place : k + i < length ds + n
+  pub taken : at + shuffle-draws (drop at ds) (take n s₀) ≡ k + draws-down i (drop k ds)
   pub packed : s ≡ pad 0 (length s₀) (take n s)
   pub same : shuffle (drop at ds) (take n s₀) ≡ shuffle-down i (drop k ds) (take n s)
 
@@ -129,25 +130,33 @@ module _ (s : List ℕ) (ds : List ℕ) (at n : ℕ) (f : Filled s n) where
       let z : 0 ≡ length (take n s) - 1 = omega (arith, filled-length s n f) in
       f .packed ∙ ap (λ (m : ℕ). pad 0 (length s) (shuffle-down m (drop at ds) (take n s))) z
 
-  pub mixing-start : 2 ≤ n → at + (n - 1) ≤ length ds → Mixing ds at n s s (n - 1) at
-  unfolding shuffle
-  mixing-start h l = record {
+  pub mixing-none : n < 2 → at ≡ at + shuffle-draws (drop at ds) (take n s)
+  unfolding shuffle-draws draws-down
+  mixing-none h =
+      let z : 0 ≡ length (take n s) - 1 = omega (arith, filled-length s n f) in
+      let e : draws-down (length (take n s) - 1) (drop at ds) ≡ 0 = ap (λ (m : ℕ). draws-down m (drop at ds)) (sym z) in
+      omega (arith, e)
+
+  pub mixing-start : 2 ≤ n → n ≤ 32 → at ≤ length ds → Mixing ds at n s s (n - 1) at
+  unfolding shuffle shuffle-draws
+  mixing-start h l m = record {
     filled = f;
     long = refl;
     room = f .fits;
     low = omega arith;
-    place = refl;
-    there = l;
+    few = l;
+    place = omega arith;
+    taken = ap (λ (m : ℕ). at + draws-down (m - 1) (drop at ds)) (filled-length s n f);
     packed = f .packed;
     same = ap (λ (m : ℕ). shuffle-down (m - 1) (drop at ds) (take n s)) (filled-length s n f);
   }
 
 module _ (ds : List ℕ) (at n : ℕ) (s₀ s : List ℕ) (i k : ℕ) (v : Mixing ds at n s₀ s i k) where
-  pub left-to-draw : 0 < i → k < length ds
-  left-to-draw h = omega (arith, v .place, v .there)
+  pub left-to-draw : k ≤ length ds + 32
+  left-to-draw = omega (arith, v .place, v .few, v .low)
 
-  pub drawn : (d j : ℕ) → 0 < i → j ≤ 1 → d % (i + j) < length s
-  drawn d j h k = omega (arith, mod-lt d {m = i + j} (omega arith), v .low, v .room)
+  pub drawn : (j : ℕ) → j < i + 1 → j < length s
+  drawn j h = omega (arith, v .low, v .room)
 
   pub left-place : i < length s
   left-place = omega (arith, v .low, v .room)
@@ -168,21 +177,29 @@ module _ (ds : List ℕ) (at n : ℕ) (s₀ s : List ℕ) (i k : ℕ) (v : Mixin
         ∙ set-pad 0 (length s₀) (set (take n s) i (getD s j 0)) j (getD s i 0) (omega (arith, length-set (take n s) i (getD s j 0)))
         ∙ ap (pad 0 (length s₀)) (sym (take-set-lt n (set s i (getD s j 0)) j (getD s i 0) b ∙ ap (λ (t : List ℕ). set t j (getD s i 0)) (take-set-lt n s i (getD s j 0) (v .low))))
 
-  pub mixing-next : (t : List ℕ) → t ≡ swap i (getD ds k 0 % (i + 1)) s → 0 < i → Mixing ds at n s₀ t (i - 1) (k + 1)
-  mixing-next t e h =
-      let j : ℕ = getD ds k 0 % (i + 1) in
-      let b : getD ds k 0 % (i + 1) < n = omega (arith, mod-lt (getD ds k 0) {m = i + 1} (omega arith), v .low) in
-      let l : length t ≡ length s = ap length e ∙ length-swapped i (getD ds k 0 % (i + 1)) s in
+  pub mixing-next : (t : List ℕ) (j m : ℕ) → t ≡ swap i j s → j ≡ pick (i + 1) (drop k ds) → j < i + 1 → m ≡ k + pick-draws (i + 1) (drop k ds) → 0 < i → Mixing ds at n s₀ t (i - 1) m
+  mixing-next t j m e p q z h =
+      let b : j < n = omega (arith, v .low) in
+      let l : length t ≡ length s = ap length e ∙ length-swapped i j s in
       record {
         filled = v .filled;
         long = l ∙ v .long;
         room = omega (arith, v .room, l);
         low = omega (arith, v .low);
-        place = omega (arith, v .place);
-        there = v .there;
+        few = v .few;
+        place = omega (arith, v .place, v .low, picks-next (i + 1) k ds (omega arith));
+        taken = omega (arith, v .taken, draws-step i ds k h, ap (λ (x : ℕ). draws-down (i - 1) (drop x ds)) z);
         packed = e ∙ kept j b ∙ ap (λ (u : List ℕ). pad 0 (length s₀) (take n u)) (sym e);
-        same = v .same ∙ shuffle-step i ds k (take n s) h ∙ ap (shuffle-down (i - 1) (drop (k + 1) ds)) (sym (exchanged j b) ∙ ap (take n) (sym e));
+        same = v .same ∙ shuffle-step i ds k (take n s) h
+            ∙ (λ a. shuffle-down (i - 1) (drop (sym z a) ds) (swap i (sym p a) (take n s))) ∙ ap (shuffle-down (i - 1) (drop m ds)) (sym (exchanged j b) ∙ ap (take n) (sym e));
       }
+
+  pub mixing-taken : i ≤ 0 → k ≡ at + shuffle-draws (drop at ds) (take n s₀)
+  unfolding draws-down
+  mixing-taken h =
+      let z : i ≡ 0 = omega arith in
+      let e : draws-down i (drop k ds) ≡ 0 = ap (λ (m : ℕ). draws-down m (drop k ds)) z in
+      omega (arith, v .taken, e)
 
   pub mixing-end : i ≤ 0 → s ≡ pad 0 (length s₀) (shuffle (drop at ds) (take n s₀))
   unfolding shuffle-down
@@ -190,17 +207,14 @@ module _ (ds : List ℕ) (at n : ℕ) (s₀ s : List ℕ) (i k : ℕ) (v : Mixin
       let z : i ≡ 0 = omega arith in
       v .packed ∙ ap (pad 0 (length s₀)) (sym (v .same ∙ ap (λ (m : ℕ). shuffle-down m (drop k ds) (take n s)) z))
 
--- a shuffle has as many items
-shuffled-down : (i : ℕ) (ds xs : List ℕ) → length (shuffle-down i ds xs) ≡ length xs
-unfolding shuffle-down
-shuffled-down zero ds xs = refl
-shuffled-down (suc i) ds xs = shuffled-down i (drop 1 ds) _ ∙ length-swapped (suc i) _ xs
-
-pub length-shuffled : (ds xs : List ℕ) → length (shuffle ds xs) ≡ length xs
-unfolding shuffle
-length-shuffled ds xs = shuffled-down (length xs - 1) ds xs
-
 pub mixed : (n : ℕ) (s ys ds : List ℕ) (at : ℕ) → ValidSet n s → ys ≡ pad 0 (length (part 0 n s)) (shuffle (drop at ds) (take (getD s n 0) (part 0 n s)))
     → HoldsSet n (putMid 0 n s ys) (shuffle (drop at ds) (items-at n s))
 unfolding items-at
 mixed n s ys ds at v o = rearranged n s v ys (shuffle (drop at ds) (items-at n s)) o (length-shuffled (drop at ds) (items-at n s))
+
+pub few-mixed : (n : ℕ) (s : List ℕ) → ValidSet n s → n ≤ 32 → getD s n 0 ≤ 32
+few-mixed n s v h = omega (arith, v .fits)
+
+pub mixed-taken : (n : ℕ) (s ds : List ℕ) (at k : ℕ) → k ≡ at + shuffle-draws (drop at ds) (take (getD s n 0) (part 0 n s)) → k ≡ at + shuffle-draws (drop at ds) (items-at n s)
+unfolding items-at
+mixed-taken n s ds at k e = e

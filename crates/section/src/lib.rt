@@ -6,7 +6,7 @@ ghost use lib.ListN.{length, take, drop, getD};
 ghost use Rattle.lists.specs.Array.{pad};
 ghost use Rattle.lists.specs.Lists.{null, mem, index-of, rank, shift-remove, swap-remove, remove, insert-at, insert, without, without-all, renew, swap, distinct, rising, subset, disjoint};
 ghost use Rattle.lists.specs.Tests.{every};
-ghost use Rattle.util.specs.Random.{pick, shuffle};
+ghost use Rattle.util.specs.Chances.{pick-draws, pick, shuffle, shuffle-draws};
 ghost use Rattle.scan.specs.Words.{unused};
 ghost use Rattle.section.specs.Section.{part, Filled, items-at, ValidSet, HoldsSet, valid-set};
 
@@ -15,6 +15,15 @@ pub type PeerId = u64;
 
 // How many places a working set has: as many as the largest set.
 const PLACES: usize = 32;
+
+// How many draws there are: 2^32, since a draw has 32 bits.
+const ALL_DRAWS: usize = 4294967296;
+
+// The place that was chosen, and the place in the draws after the one that decided it.
+pub struct PickedIndex {
+    pub index: usize,
+    pub next: usize,
+}
 
 // ---- a column alone, of any length: the first n places are in use
 
@@ -173,24 +182,55 @@ fn exchange(s: &mut [u64], i: usize, j: usize)
     s[j] = x;
 }
 
-// In the order that the draws from place `at` on decide.
-pub fn shuffle_in(s: &mut [u64], n: usize, draws: &[u32], at: usize)
+// One of n places, by the first draw from place `at` on that is below the largest multiple of n not above 2^32: the others are passed over. Where there is none, the place
+// is 0, and `next` is past the draws.
+pub fn pick_index(draws: &[u32], at: usize, n: usize) -> PickedIndex
+    requires { ⌜ 0 < n ⌝ }
+    requires { ⌜ at ≤ length (now draws) + 32 ⌝ }
+    ensures { λ r. ⌜ (r .index ≡ pick n (drop at (now (draws .entry)))) × (r .index < n) ⌝ }
+    ensures { λ r. ⌜ r .next ≡ at + pick-draws n (drop at (now (draws .entry))) ⌝ }
+{
+    let end = ALL_DRAWS - ALL_DRAWS % n;
+    let mut k = at;
+    while k < draws.len() {
+        let d = draws[k] as usize;
+        let next = k + 1;
+        if d < end {
+            let i = d % n;
+            return PickedIndex {
+                index: i,
+                next: next,
+            };
+        }
+        k = next;
+    }
+    let past = k + 1;
+    PickedIndex {
+        index: 0,
+        next: past,
+    }
+}
+
+// In the order that the draws from place `at` on decide; the answer is the place in the draws after them, past the end where there are too few.
+pub fn shuffle_in(s: &mut [u64], n: usize, draws: &[u32], at: usize) -> usize
     requires { ⌜ Filled (now s) n ⌝ }
-    requires { ⌜ at + (n - 1) ≤ length (now draws) ⌝ }
+    requires { ⌜ n ≤ 32 ⌝ }
+    requires { ⌜ at ≤ length (now draws) ⌝ }
     ensures { λ _. ⌜ now (s .exit) ≡ pad 0 (length (now (s .entry))) (shuffle (drop at (now (draws .entry))) (take n (now (s .entry)))) ⌝ }
+    ensures { λ r. ⌜ r ≡ at + shuffle-draws (drop at (now (draws .entry))) (take n (now (s .entry))) ⌝ }
 {
     if n < 2 {
-        return;
+        return at;
     }
     let mut i = n - 1;
     let mut k = at;
     while 0 < i {
-        let d = draws[k] as usize;
-        let j = d % (i + 1);
-        exchange(s, i, j);
-        k += 1;
+        let p = pick_index(draws, k, i + 1);
+        exchange(s, i, p.index);
+        k = p.next;
         i -= 1;
     }
+    k
 }
 
 // The first n items as a working set, whatever t held.
@@ -423,14 +463,16 @@ pub fn without_all(s: &mut [u64], cap: usize, skip: &[u64], scap: usize)
     s[cap] = m as u64;
 }
 
-// In the order that the draws from place `at` on decide, which are there.
-pub fn shuffle(s: &mut [u64], cap: usize, draws: &[u32], at: usize)
+// In the order that the draws from place `at` on decide; the answer is the place in the draws after them, past the end where there are too few.
+pub fn shuffle(s: &mut [u64], cap: usize, draws: &[u32], at: usize) -> usize
     requires { ⌜ ValidSet cap (now s) ⌝ }
-    requires { ⌜ at + (length (items-at cap (now s)) - 1) ≤ length (now draws) ⌝ }
+    requires { ⌜ cap ≤ 32 ⌝ }
+    requires { ⌜ at ≤ length (now draws) ⌝ }
     ensures { λ _. ⌜ HoldsSet cap (now (s .exit)) (shuffle (drop at (now (draws .entry))) (items-at cap (now (s .entry)))) ⌝ }
+    ensures { λ r. ⌜ r ≡ at + shuffle-draws (drop at (now (draws .entry))) (items-at cap (now (s .entry))) ⌝ }
 {
     let n = s[cap] as usize;
-    shuffle_in(&mut s[..cap], n, draws, at);
+    shuffle_in(&mut s[..cap], n, draws, at)
 }
 
 // The items of s, and whatever t held is gone.
@@ -459,12 +501,4 @@ pub fn append(s: &mut [u64], cap: usize, more: &[u64], mcap: usize)
         i += 1;
     }
     s[cap] = (n + m) as u64;
-}
-
-// One of n places, by a draw.
-pub fn pick_index(d: u32, n: usize) -> usize
-    requires { ⌜ 0 < n ⌝ }
-    ensures { λ r. ⌜ (r ≡ pick n d) × (r < n) ⌝ }
-{
-    d as usize % n
 }

@@ -116,6 +116,11 @@ draws n r = record {
   };
 }
 
+-- the draws of a choice
+chooses : (n : ℕ) (r : Run) → Quiet r (R.draw-one-of n r)
+unfolding R.draw-one-of
+chooses n r = draws _ r
+
 pub changes : (f : Station → Station) → ((s : Station) → clock (f s) ≡ clock s) → (r : Run) → Quiet r (on f r)
 changes f h r = record {
   so = λ z. record {
@@ -156,7 +161,7 @@ tell-evicted (some p) r = emits _ refl r
 make-room : (r : Run) → Quiet r (P.make-room r)
 unfolding P.make-room P.evict P.evict-at P.shift-passive
 make-room r =
-    then (either _ (then (draws 1 r) (then (changes _ (λ s. refl) _) (forget-peer _ _))) (same r)) (tell-evicted (P.evicted r) _)
+    then (either _ (then (chooses _ r) (then (changes _ (λ s. refl) _) (forget-peer _ _))) (same r)) (tell-evicted (P.evicted r) _)
 
 enter-passive : (p : ℕ) (r : Run) → Quiet r (P.enter-passive p r)
 unfolding P.enter-passive P.push-passive
@@ -202,7 +207,7 @@ refill : (skip : List ℕ) (r : Run) → Quiet r (F.refill-active-from-passive s
 unfolding F.refill-active-from-passive F.refill-limited F.ask-one F.ask-picked F.limit-short F.end-recovery F.use-request
 refill skip r =
     either _ (same r) (then (changes _ (λ s. refl) r)
-    (either _ (changes _ (λ s. refl) _) (then (draws 1 _) (then (send-neighbor _ _ _) (changes _ (λ s. refl) _)))))
+    (either _ (changes _ (λ s. refl) _) (then (chooses _ _) (then (send-neighbor _ _ _) (changes _ (λ s. refl) _)))))
 
 start-refill : (limit : Refill) (skip : List ℕ) (r : Run) → Quiet r (F.start-refill limit skip r)
 unfolding F.start-refill F.begin-refill
@@ -234,7 +239,7 @@ remove-active p why r = either _ (then (remove-at _ why r) (then (changes _ (λ 
 
 free-slot : (r : Run) → Quiet r (A.free-random-slot-in-active-view r)
 unfolding A.free-random-slot-in-active-view A.remove-picked
-free-slot r = either _ (same r) (then (draws 1 r) (remove-at _ _ _))
+free-slot r = either _ (same r) (then (chooses _ r) (remove-at _ _ _))
 
 add-unchecked : (p : ℕ) (high reply : Bool) (r : Run) → Quiet r (A.add-active-unchecked p high reply r)
 unfolding A.add-active-unchecked A.enter-active A.move-in A.remember-neighbor A.push-active P.drop-mark P.remove-passive A.gain-neighbor
@@ -260,12 +265,12 @@ on-forward-join : (from : ℕ) (n : Node) (ttl : ℕ) (r : Run) → Quiet r (M.o
 unfolding M.on-forward-join M.ask-joiner M.walk-on M.learn-joiner M.forward-join-on M.forward-join-to
 on-forward-join from n ttl r =
     either _ (then (insert-peer-info _ _ r) (send-neighbor _ _ _))
-    (then (either _ (add-passive _ _ r) (same r)) (either _ (same _) (then (draws 1 _) (emits _ refl _))))
+    (then (either _ (add-passive _ _ r) (same r)) (either _ (same _) (then (chooses _ _) (emits _ refl _))))
 
 on-shuffle : (from origin : ℕ) (ns : List Node) (ttl : ℕ) (r : Run) → Quiet r (M.on-shuffle from origin ns ttl r)
 unfolding M.on-shuffle M.answer-shuffle M.forward-shuffle
 on-shuffle from origin ns ttl r =
-    either _ (then (add-nodes ns r) (send-shuffle-reply _ _ _)) (either _ (same r) (then (draws 1 r) (emits _ refl _)))
+    either _ (then (add-nodes ns r) (send-shuffle-reply _ _ _)) (either _ (same r) (then (chooses _ r) (emits _ refl _)))
 
 on-shuffle-reply : (from : ℕ) (ns : List Node) (r : Run) → Quiet r (M.on-shuffle-reply from ns r)
 unfolding M.on-shuffle-reply M.after-reply M.refill-with
@@ -329,7 +334,7 @@ pass-alone : (r : Run) → Quiet r (T.pass-alone r)
 unfolding T.pass-alone T.count-alone T.add-alone T.rejoin-if-due T.rejoin T.rejoin-bootstrap T.rejoin-recent S.join-to
 pass-alone r =
     then (requires ten _ r) (then (changes _ (λ s. refl) _)
-    (either _ (then (emits-all _ (λ p. refl) _ _) (either _ (same _) (then (draws 1 _) (join _ _)))) (same _)))
+    (either _ (then (emits-all _ (λ p. refl) _ _) (either _ (same _) (then (chooses _ _) (join _ _)))) (same _)))
 
 pass-short : (r : Run) → Quiet r (T.pass-short r)
 unfolding T.pass-short T.count-short T.add-short T.refill-if-due T.refill-anew A.clear-refused
@@ -352,7 +357,7 @@ maintenance-timer r =
 -- a shuffle timer, before it schedules the next
 pub shuffle-any : (r : Run) → Quiet r (T.shuffle-any r)
 unfolding T.shuffle-any T.shuffle-with T.shuffle-passive T.send-shuffle R.draw-shuffle
-shuffle-any r = either _ (same r) (then (draws 1 r) (then (draws _ _) (then (draws _ _) (emits _ refl _))))
+shuffle-any r = either _ (same r) (then (chooses _ r) (then (draws _ _) (then (draws _ _) (emits _ refl _))))
 
 -- every event but a shuffle timer
 pub dispatch : (e : Rec) → eqb (e .kind) 1 ≡ false → (r : Run) → Quiet r (H.dispatch e r)

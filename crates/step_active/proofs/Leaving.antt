@@ -6,13 +6,13 @@ use mathlib.Core.Bool.{Bool, true, false}
 use mathlib.Core.List.{List, [], _∷_}
 use mathlib.Core.Option.{Option}
 use native.Mathlib.Omega.{arith}
-use lib.ListN.{length, getD}
+use lib.ListN.{length, drop, getD}
 use borrow.Author.Tests.{eq-eqb}
 use Rattle.lists.specs.Lists.{null, count, index-of, insert, swap-remove}
 use Rattle.lists.specs.Maps.{lookup}
 use Rattle.lists.proofs.Choice.{choose-yes, clash}
 use Rattle.lists.proofs.Count.{index-lt, length-swap}
-use Rattle.util.specs.Random.{pick}
+use Rattle.util.specs.Chances.{pick}
 use Rattle.peer.specs.declared.PeerData.{PeerData}
 use Rattle.peer.specs.Held.{data-in, HoldsData}
 use Rattle.section.specs.Section.{items-at}
@@ -20,13 +20,13 @@ use Rattle.writer64.specs.Write.{rec-in}
 use Rattle.protocol.specs.Station.{recovery, in-active, is-alone}
 use Rattle.protocol.specs.Sending.{send-disconnect}
 use Rattle.protocol.specs.Refill.{start-refill}
-use Rattle.protocol.specs.Run.{Run, with-station, guard, on, emit, draw, drawn}
+use Rattle.protocol.specs.Run.{Run, with-station, guard, on, emit, to-draw, one-of, draw-one-of}
 use Rattle.protocol.specs.Budgets.{bare, adding, disconnecting, leaving, freeing}
 use Rattle.protocol.specs.Peers.{drop-data, drop-mark, forget-peer, add-passive, is-marked}
 use Rattle.protocol.specs.Active.{Reason, random, swap-active, drop-active, demote, mark-alive, demote-alive, settle-closed, settle, clear-refused, remove-active-by-index, refill-after, remove-active, remove-picked, free-random-slot-in-active-view}
 use Rattle.protocol.proofs.Extra.{shorter}
 use Rattle.protocol.proofs.Invariant.{Fixed, busy, Ok}
-use Rattle.protocol.proofs.Keeping.{ease, ok-draw-one}
+use Rattle.protocol.proofs.Keeping.{ease, ok-one-of}
 use Rattle.protocol.proofs.Sends.{ok-send-disconnect}
 use Rattle.protocol.proofs.Leaving.{ok-demote-alive, ok-drop-active, ok-free-slot}
 use Rattle.words.specs.declared.Work.{Work}
@@ -139,8 +139,9 @@ sent-loose w a xs ys ds out o p c k = record {
       (ok-send-disconnect p true (ease (omega arith) (omega arith) (omega arith) (c .ok)));
 }
 
-pub calm-drawn : (w a : Work) (xs ds out : List ℕ) → Fine (work-of w xs) ds out → Calm 0 freeing 40 (run (work-of w xs) ds out) → DrawsAny (draw 1) w a ds → Calm 0 freeing 39 (run (work-of a xs) ds out)
-calm-drawn w a xs ds out v c k = record {
+pub calm-drawn : (w a : Work) (xs ds out : List ℕ) (n : ℕ) → n ≡ length (unpack xs .active) → Fine (work-of w xs) ds out → Calm 0 freeing 40 (run (work-of w xs) ds out) → DrawsAny (draw-one-of n) w a ds → Calm 0 freeing 39 (run (work-of a xs) ds out)
+unfolding run
+calm-drawn w a xs ds out n e v c k = record {
   fixed = c .fixed;
   guest = c .guest;
   barred = c .barred;
@@ -149,7 +150,7 @@ calm-drawn w a xs ds out v c k = record {
   draws = c .draws;
   ok =
       subst (Ok (c .fixed) (busy (c .guest) (c .barred) [] 0 0) (c .messages + 0) (c .bytes + freeing) (c .draws + 39)) (sym (k .any xs (v .ready .packed) .same out))
-      (ok-draw-one (ease (omega arith) (omega arith) (omega arith) (c .ok)));
+      (ok-one-of n (λ o g l. omega (arith, g .seats .slots-left, g .still .ranges .few-slots)) (ease (omega arith) (omega arith) (omega arith) (c .ok)));
 }
 
 pub slot-free : (w a : Work) (xs ys ds out o : List ℕ) → Calm 0 freeing 40 (run (work-of w xs) ds out) → Does (work-of a ys) ds o (free-random-slot-in-active-view (run (work-of w xs) ds out)) → FreeActive (a .code) (unpack ys)
@@ -189,11 +190,11 @@ module _ (w : Work) (xs ds out : List ℕ) (p : ℕ) (why : Reason) (t : Bool) (
   unfolding remove-active
   not-removed h = left _ _ (holds-at (work-of w xs) ds out (in-active p) e h) (still v)
 
-pub picked-removed : (w a r : Work) (xs ys ds out o : List ℕ) (n i : ℕ) → Fine (work-of w xs) ds out → n ≡ length (unpack xs .active) → i ≡ pick n (getD ds (w .drawn) 0)
-    → Does (work-of r ys) ds o (remove-active-by-index i random (run (work-of a xs) ds out)) → DrawsAny (draw 1) w a ds → Does (work-of r ys) ds o (remove-picked (run (work-of w xs) ds out))
-unfolding remove-picked run drawn
+pub picked-removed : (w a r : Work) (xs ys ds out o : List ℕ) (n i : ℕ) → Fine (work-of w xs) ds out → n ≡ length (unpack xs .active) → i ≡ pick n (drop (w .drawn) ds)
+    → Does (work-of r ys) ds o (remove-active-by-index i random (run (work-of a xs) ds out)) → DrawsAny (draw-one-of n) w a ds → Does (work-of r ys) ds o (remove-picked (run (work-of w xs) ds out))
+unfolding remove-picked run one-of to-draw
 picked-removed w a r xs ys ds out o n i v q u k₂ k₁ =
-    by _ (ap (λ (n : ℕ). remove-active-by-index n random (draw 1 (run (work-of w xs) ds out))) (sym (u ∙ ap (λ (m : ℕ). pick m (getD ds (w .drawn) 0)) q)))
+    by _ (λ j. remove-active-by-index (sym (u ∙ ap (λ (m : ℕ). pick m (drop (w .drawn) ds)) q) j) random (draw-one-of (sym q j) (run (work-of w xs) ds out)))
     (seq (remove-active-by-index i random) k₂ (then-draw-any k₁ (still v)))
 
 some-item : (l : List ℕ) → null l ≡ false → 0 < length l

@@ -5,15 +5,15 @@ use mathlib.Core.Path.{_≡_, refl, sym, ap, _∙_}
 use mathlib.Core.Bool.{Bool, true, false}
 use mathlib.Core.List.{List}
 use native.Mathlib.Omega.{arith}
-use lib.ListN.{length, getD}
+use lib.ListN.{length, drop, getD}
 use lib.Seq.{take-all}
 use Rattle.lists.specs.Lists.{null}
 use Rattle.lists.proofs.Rest.{Rest, rest-next, rest-end}
-use Rattle.util.specs.Random.{pick}
+use Rattle.util.specs.Chances.{pick}
 use Rattle.timing.specs.Timing.{backoff-due}
 use Rattle.peer.specs.Data.{Data}
 use Rattle.section.specs.Section.{items-at, HoldsSet}
-use Rattle.protocol.specs.Run.{Run, emit, emit-all, draw, drawn, picked}
+use Rattle.protocol.specs.Run.{Run, emit, emit-all, to-draw, one-of, draw-one-of, picked}
 use Rattle.protocol.specs.Sending.{join-to, join}
 use Rattle.protocol.specs.Timers.{other-recent, rejoin-recent, rejoin-bootstrap, rejoin, count-alone, rejoin-if-due, pass-alone}
 use Rattle.words.specs.declared.Work.{Work}
@@ -81,15 +81,15 @@ module _ (w : Work) (xs ds out v : List ℕ) (t : Bool) (f : Fine (work-of w xs)
   unfolding rejoin-recent
   no-recent h = taken _ _ (sym e ∙ h) (still f)
 
-  module _ (n i p : ℕ) (c : n ≡ length (items-at 32 v)) (j : i ≡ pick n (getD ds (w .drawn) 0)) (q : p ≡ getD (items-at 32 v) i 0) where
+  module _ (n i p : ℕ) (c : n ≡ length (items-at 32 v)) (j : i ≡ pick n (drop (w .drawn) ds)) (q : p ≡ getD (items-at 32 v) i 0) where
     picked-is : p ≡ picked (items-at 32 v) (run (work-of w xs) ds out)
-    unfolding picked drawn run
-    picked-is = q ∙ ap (λ (k : ℕ). getD (items-at 32 v) k 0) (j ∙ ap (λ (k : ℕ). pick k (getD ds (w .drawn) 0)) c)
+    unfolding picked one-of to-draw run
+    picked-is = q ∙ ap (λ (k : ℕ). getD (items-at 32 v) k 0) (j ∙ ap (λ (k : ℕ). pick k (drop (w .drawn) ds)) c)
 
-    pub one-recent : (a r : Work) (o : List ℕ) → t ≡ false → Tells (join p) (work-of a xs) (work-of r xs) out o → DrawsAny (draw 1) w a ds → Does (work-of r xs) ds o (rejoin-recent (items-at 32 v) (run (work-of w xs) ds out))
+    pub one-recent : (a r : Work) (o : List ℕ) → t ≡ false → Tells (join p) (work-of a xs) (work-of r xs) out o → DrawsAny (draw-one-of n) w a ds → Does (work-of r xs) ds o (rejoin-recent (items-at 32 v) (run (work-of w xs) ds out))
     unfolding rejoin-recent
     one-recent a r o h k₂ k₁ =
-        left _ _ (sym e ∙ h) (by _ (ap (λ (x : ℕ). join x (draw 1 (run (work-of w xs) ds out))) (sym picked-is)) (then-tell k₂ (then-draw-any k₁ (still f))))
+        left _ _ (sym e ∙ h) (by _ (λ k. join (sym picked-is k) (draw-one-of (sym c k) (run (work-of w xs) ds out))) (then-tell k₂ (then-draw-any k₁ (still f))))
 
 -- ---- both
 

@@ -6,12 +6,12 @@ use mathlib.Core.Bool.{Bool, true, false}
 use mathlib.Core.List.{List, [], _∷_}
 use mathlib.Core.Option.{Option}
 use native.Mathlib.Omega.{arith}
-use lib.ListN.{length, take, getD}
+use lib.ListN.{length, take, drop, getD}
 use lib.Dec.{eqb}
 use borrow.Author.Tests.{eq-eqb, ne-eqb}
 use Rattle.lists.specs.Lists.{without, insert}
 use Rattle.lists.proofs.Choice.{by-choice, choose-yes, choose-no}
-use Rattle.util.specs.Random.{pick}
+use Rattle.util.specs.Chances.{pick}
 use Rattle.peer.specs.Data.{Node}
 use Rattle.peer.specs.Held.{data-in}
 use Rattle.peer.specs.declared.PeerData.{PeerData}
@@ -22,7 +22,7 @@ use Rattle.timing.specs.Timing.{next}
 use Rattle.timing.proofs.Ranges.{ranges}
 use Rattle.writer64.specs.Write.{rec-in}
 use Rattle.protocol.specs.Station.{is-requested, in-passive}
-use Rattle.protocol.specs.Run.{Run, guard, on, emit, draw, require, drawn, picked, node, emit-all}
+use Rattle.protocol.specs.Run.{Run, guard, on, emit, to-draw, one-of, draw-one-of, require, picked, node, emit-all}
 use Rattle.protocol.specs.Peers.{insert-peer-info, forget-peer, add-passive, drop-passive}
 use Rattle.protocol.specs.Sending.{send-neighbor, send-disconnect}
 use Rattle.protocol.specs.Refill.{refill-active-from-passive}
@@ -38,7 +38,7 @@ use Rattle.words.specs.Layout.{active-part, refused-part, active-random-walk-le
 use Rattle.words.specs.Unpack.{unpack, station-of, settings-at, PackedState}
 use Rattle.words.specs.Work.{Held, work-of, run, Changes, ChangesAny, DrawsAny, Room, Tells, TellsAny, Fine, Does}
 use Rattle.words.proofs.Access.{of-refused, of-settings}
-use Rattle.words.proofs.Any.{then-draw-any, then-tell-any}
+use Rattle.words.proofs.Any.{drew-none-of, then-draw-any, then-tell-any}
 use Rattle.step_sending.proofs.Sets.{lent-items}
 use Rattle.words.proofs.Bridge.{unchanged, change-by, change-then, change-yes, change-no, tell-by, tell-then, require-said, by, still, then, then-tell, seq, taken, left, holds-at}
 use Rattle.step_active.specs.Sane.{FreeMark}
@@ -74,23 +74,28 @@ module _ (w : Work) (xs ds out : List ℕ) (n : PeerInfo) (ttl : ℕ) where
   joiner-unlearned v h = left _ _ (ne-eqb _ _ (λ e. h (e ∙ walk-is))) (still v)
 
 -- one of no peers is 0
-pub none-picked : (ps : List ℕ) (n d : ℕ) → n ≡ length ps → n ≡ 0 → 0 ≡ getD ps (pick (length ps) d) 0
-none-picked [] n d e h = refl
-none-picked (p ∷ ps) n d e h = absurd (omega (arith, e, h))
+pub none-picked : (ps ds : List ℕ) (n : ℕ) → n ≡ length ps → n ≡ 0 → 0 ≡ getD ps (pick (length ps) ds) 0
+none-picked [] ds n e h = refl
+none-picked (p ∷ ps) ds n e h = absurd (omega (arith, e, h))
 
-pub one-picked : (ps : List ℕ) (n d i : ℕ) → n ≡ length ps → i ≡ pick n d → getD ps i 0 ≡ getD ps (pick (length ps) d) 0
-one-picked ps n d i e h = rw (h, e)
+pub none-drawn : (w : Work) (ds ps : List ℕ) (n : ℕ) → w .drawn ≤ length ds → n ≡ length ps → n ≡ 0 → DrawsAny (draw-one-of (length ps)) w w ds
+none-drawn w ds ps n l e h = drew-none-of w w ds (length ps) l (omega (arith, e, h))
+
+pub one-picked : (ps ds : List ℕ) (n i : ℕ) → n ≡ length ps → i ≡ pick n ds → getD ps i 0 ≡ getD ps (pick (length ps) ds) 0
+one-picked ps ds n i e h = rw (h, e)
+
+pub one-drawn : (w a : Work) (ds ps : List ℕ) (n : ℕ) → n ≡ length ps → DrawsAny (draw-one-of n) w a ds → DrawsAny (draw-one-of (length ps)) w a ds
+one-drawn w a ds ps n e k = subst (λ (m : ℕ). DrawsAny (draw-one-of m) w a ds) e k
 
 module _ (w : Work) (xs ds out ps : List ℕ) (n : Node) (ttl : ℕ) where
-  join-on-is : (d q u : ℕ) → d ≡ getD ds (w .drawn) 0 → q ≡ getD ps (pick (length ps) d) 0 → u ≡ next ttl
-      → forward-join-on ps n ttl (run (work-of w xs) ds out) ≡ emit (forward-join-to n u q) (draw 1 (run (work-of w xs) ds out))
-  unfolding forward-join-on picked drawn run
-  join-on-is d q u e p y =
-      let t = p ∙ ap (λ (k : ℕ). getD ps (pick (length ps) k) 0) e in λ i. emit (forward-join-to n (sym y i) (sym t i)) (draw 1 (run (work-of w xs) ds out))
+  join-on-is : (q u : ℕ) → q ≡ getD ps (pick (length ps) (drop (w .drawn) ds)) 0 → u ≡ next ttl
+      → forward-join-on ps n ttl (run (work-of w xs) ds out) ≡ emit (forward-join-to n u q) (draw-one-of (length ps) (run (work-of w xs) ds out))
+  unfolding forward-join-on picked one-of to-draw run
+  join-on-is q u p y = λ i. emit (forward-join-to n (sym y i) (sym p i)) (draw-one-of (length ps) (run (work-of w xs) ds out))
 
-  pub join-on : (a r : Work) (o : List ℕ) (d q u : ℕ) → Fine (work-of w xs) ds out → d ≡ getD ds (w .drawn) 0 → q ≡ getD ps (pick (length ps) d) 0 → u ≡ next ttl
-      → TellsAny (emit (forward-join-to n u q)) a r out o → DrawsAny (draw 1) w a ds → Does (work-of r xs) ds o (forward-join-on ps n ttl (run (work-of w xs) ds out))
-  join-on a r o d q u v e p y k₂ k₁ = by _ (join-on-is d q u e p y) (then-tell-any k₂ (then-draw-any k₁ (still v)))
+  pub join-on : (a r : Work) (o : List ℕ) (q u : ℕ) → Fine (work-of w xs) ds out → q ≡ getD ps (pick (length ps) (drop (w .drawn) ds)) 0 → u ≡ next ttl
+      → TellsAny (emit (forward-join-to n u q)) a r out o → DrawsAny (draw-one-of (length ps)) w a ds → Does (work-of r xs) ds o (forward-join-on ps n ttl (run (work-of w xs) ds out))
+  join-on a r o q u v p y k₂ k₁ = by _ (join-on-is q u p y) (then-tell-any k₂ (then-draw-any k₁ (still v)))
 
 module _ (w : Work) (xs ds out : List ℕ) (from : ℕ) (n : PeerInfo) (ttl : ℕ) (t : Bool) (e : t ≡ is-requested (n .id) (unpack xs)) where
   pub walk-stopped : Fine (work-of w xs) ds out → t ≡ true → Does (work-of w xs) ds out (walk-on from (node-in n) ttl (run (work-of w xs) ds out))

@@ -9,14 +9,14 @@ use words::Work;
 use writer64::Fields;
 ghost use mathlib.Core.Path.{_≡_};
 ghost use Prim.Native.Nat.{_≤_};
-ghost use lib.ListN.{length, getD};
+ghost use lib.ListN.{length, drop, getD};
 ghost use Rattle.lists.specs.Lists.{without};
-ghost use Rattle.util.specs.Random.{pick};
+ghost use Rattle.util.specs.Chances.{pick};
 ghost use Rattle.peer.specs.Held.{ValidData, data-in};
 ghost use Rattle.section.specs.Section.{HoldsSet};
 ghost use Rattle.columns.specs.Columns.{node-in};
 ghost use Rattle.protocol.specs.Budgets.{leaving, arriving};
-ghost use Rattle.protocol.specs.Run.{on, emit, emit-all};
+ghost use Rattle.protocol.specs.Run.{on, emit, emit-all, draw-one-of};
 ghost use Rattle.protocol.specs.Active.{accepts};
 ghost use Rattle.protocol.specs.Messages.{forward-join-to, ends-here, ask-joiner, learn-joiner, forward-join-on, walk-on, on-forward-join};
 ghost use Rattle.protocol.specs.Messages.{forward-joins, on-join, refuse-neighbor, answer-neighbor, on-neighbor};
@@ -24,7 +24,7 @@ ghost use Rattle.protocol.specs.Messages.{drop-join, drop-request, drop-recent,
 ghost use Rattle.protocol.specs.Messages.{disconnected, on-disconnect};
 ghost use Rattle.words.specs.Layout.{words};
 ghost use Rattle.words.specs.Unpack.{unpack, PackedState};
-ghost use Rattle.words.specs.Work.{work-of, run, Changes, TellsAny, Room, Tells, Fine, Does};
+ghost use Rattle.words.specs.Work.{work-of, run, Changes, DrawsAny, TellsAny, Room, Tells, Fine, Does};
 ghost use Rattle.step_active.specs.Sane.{Calm};
 ghost use Rattle.step_messages.specs.Between.{Between};
 ghost use Rattle.step_messages.specs.Places.{FreeRefused, FreePassiveMark};
@@ -106,16 +106,27 @@ fn forward_join_to(w: Work, out: &mut [u8], n: PeerInfo, ttl: u16, q: PeerId) ->
     words::emit_one(w, out, f, n)
 }
 
-// One of these peers, by a draw; 0 where there is none.
-fn picked(ps: &[u64], d: u32) -> PeerId
-    ensures { λ r. ⌜ r ≡ getD (now (ps .entry)) (pick (length (now (ps .entry))) d) 0 ⌝ }
+// One of several peers, and the work that has taken its draws.
+struct PickedPeer {
+    work: Work,
+    peer: PeerId,
+}
+
+// One of these peers, and the work that has taken its draws; 0, and no draw, where there is none.
+fn picked(w: Work, draws: &[u32], ps: &[u64]) -> PickedPeer
+    requires { ⌜ w .drawn ≤ length (now draws) ⌝ }
+    ensures { λ r. ⌜ DrawsAny (draw-one-of (length (now (ps .entry)))) w (r .work) (now (draws .entry)) ⌝ }
+    ensures { λ r. ⌜ r .peer ≡ getD (now (ps .entry)) (pick (length (now (ps .entry))) (drop (w .drawn) (now (draws .entry)))) 0 ⌝ }
 {
     let n = ps.len();
     if n == 0 {
-        return 0;
+        return PickedPeer { work: w, peer: 0 };
     }
-    let i = section::pick_index(d, n);
-    ps[i]
+    let t = words::choose(w, draws, n);
+    let a = t.work;
+    let i = t.index;
+    let p = ps[i];
+    PickedPeer { work: a, peer: p }
 }
 
 // ForwardJoin goes on to one of these peers; that there is one is never-unreachable.
@@ -133,9 +144,9 @@ fn forward_join_on(
     requires { ⌜ ValidData (n .data) ⌝ }
     ensures { λ r. ⌜ Does (work-of r (now (st .entry))) (now (draws .entry)) (now (out .exit)) (forward-join-on (now (others .entry)) (node-in n) ttl (run (work-of w (now (st .entry))) (now (draws .entry)) (now (out .entry)))) ⌝ }
 {
-    let d = words::draw(w, draws);
-    let a = d.work;
-    let q = picked(others, d.value);
+    let p = picked(w, draws, others);
+    let a = p.work;
+    let q = p.peer;
     let t = Ttl(ttl);
     let left = t.next();
     let m = left.0;

@@ -1,13 +1,12 @@
 -- Laws of the steps on peers that several proofs cite.
 -- Assumes nothing.
-use Prim.Native.Nat.{ℕ, _+_, _%_, _≤_, _<_}
+use Prim.Native.Nat.{ℕ, _≤_, _<_}
 use mathlib.Core.Path.{_≡_, refl, sym, ap, _∙_, subst}
 use mathlib.Core.Bool.{Bool, true, false, not, _||_, or-true, or-false}
 use mathlib.Core.List.{List, [], _∷_, _++_}
 use mathlib.Core.Option.{Option, none, some}
 use native.Mathlib.Omega.{arith}
-use native.Mathlib.Nat.{mod-lt}
-use lib.ListN.{length, take, getD, length-append}
+use lib.ListN.{length, take, drop, getD, length-append}
 use lib.Dec.{eqb, leb, ltb}
 use borrow.Author.Tests.{eqb-false, leb-false, lt-ltb, le-ltb}
 use Rattle.lists.specs.Lists.{null, remove, shift-remove}
@@ -17,18 +16,19 @@ use Rattle.columns.specs.Columns.{data-at}
 use Rattle.lists.specs.Maps.{lookup, has}
 use Rattle.lists.proofs.Choice.{by-choice, choose-yes, choose-no, and-right, and-false}
 use Rattle.lists.proofs.Count.{length-shift, length-remove}
-use Rattle.util.specs.Random.{pick}
+use Rattle.util.specs.Chances.{pick}
+use Rattle.util.proofs.Chances.{pick-below}
 use Rattle.peer.specs.declared.PeerData.{PeerData}
 use Rattle.peer.specs.Held.{data-in}
 use Rattle.writer64.specs.Write.{rec-in}
 use Rattle.columns.specs.Columns.{node-in}
 use Rattle.words.specs.declared.Work.{Work}
-use Rattle.protocol.specs.Run.{Run, guard, on, emit, draw, drawn, require, picked, notice, node}
+use Rattle.protocol.specs.Run.{Run, guard, on, emit, to-draw, one-of, draw-one-of, require, picked, notice, node}
 use Rattle.words.specs.Work.{Held, work-of, ChangesAny, DrawsAny, TellsAny, run, Changes, Room, Tells, Fine}
 use Rattle.words.proofs.Bridge.{unchanged, change-then, telling, tell-by, tell-then, tell-no, still, by, then, then-draw, then-tell, seq, taken, left, require-said}
 use Rattle.peer.specs.Data.{Data, bytes-of, holds}
 use Rattle.timing.proofs.Ranges.{ranges}
-use Rattle.protocol.proofs.Keeping.{draw-station, emit-station, emit-fine}
+use Rattle.protocol.proofs.Keeping.{one-of-station, emit-station, emit-fine}
 use Rattle.protocol.specs.Station.{Station, is-me, in-view, passive-is-full}
 use Rattle.protocol.specs.Peers.{is-known, data-fits, store-data, keep-data, announce-data, insert-data, insert-peer-info, forget-peer, drop-traces, drop-mark, drop-data, shift-passive, push-passive, evict-at, must-evict, evicted, evict, tell-evicted, make-room, is-newcomer, enter-passive, evicted-for, add-passive, evicted-by}
 use Rattle.step_peers.specs.Room.{FreePassive, FreeData}
@@ -149,16 +149,16 @@ pub still-below : (xs : List ℕ) (n i : ℕ) → n ≡ length (unpack xs .passi
 still-below xs n i e h = omega (arith, e, h)
 
 -- who leaves, and what the run comes to
-module _ (g : Run) (i p : ℕ) (e : must-evict (g .station) ≡ true) (f : i ≡ pick (length (g .station .passive)) (drawn g)) where
+module _ (g : Run) (i p : ℕ) (e : must-evict (g .station) ≡ true) (f : i ≡ one-of (length (g .station .passive)) g) where
   one-evicted : p ≡ getD (g .station .passive) i 0 → some p ≡ evicted g
   unfolding evicted picked
   one-evicted h = sym (choose-yes _ _ _ e ∙ ap (λ (n : ℕ). some (getD (g .station .passive) n 0)) (sym f) ∙ ap some (sym h))
 
-  evicting : evict-at i (draw 1 g) ≡ evict g
+  evicting : evict-at i (draw-one-of (length (g .station .passive)) g) ≡ evict g
   unfolding evict
-  evicting = sym (choose-yes _ _ _ e ∙ ap (λ (n : ℕ). evict-at n (draw 1 g)) (sym f))
+  evicting = sym (choose-yes _ _ _ e ∙ ap (λ (n : ℕ). evict-at n (draw-one-of (length (g .station .passive)) g)) (sym f))
 
-  room-evicts : p ≡ getD (g .station .passive) i 0 → make-room g ≡ emit (notice 12 p) (evict-at i (draw 1 g))
+  room-evicts : p ≡ getD (g .station .passive) i 0 → make-room g ≡ emit (notice 12 p) (evict-at i (draw-one-of (length (g .station .passive)) g))
   unfolding make-room tell-evicted
   room-evicts h = sym (λ j. tell-evicted (one-evicted h j) (evicting j))
 
@@ -176,21 +176,18 @@ module _ (g : Run) (e : must-evict (g .station) ≡ false) where
   room-stays = sym (λ j. tell-evicted (none-evicted j) (none-leaves j))
 
 module _ (w a b r : Work) (xs ys ds out o : List ℕ) (n i p : ℕ) (t : Bool) where
-  pub made : Fine (work-of w xs) ds out → t ≡ must-evict (unpack xs) → t ≡ true → n ≡ length (unpack xs .passive) → i ≡ pick n (getD ds (w .drawn) 0) → p ≡ getD (unpack xs .passive) i 0
-      → TellsAny (emit (notice 12 p)) b r out o → Changes (evict-at i) (work-of a xs) (work-of b ys) → DrawsAny (draw 1) w a ds
+  pub made : Fine (work-of w xs) ds out → t ≡ must-evict (unpack xs) → t ≡ true → n ≡ length (unpack xs .passive) → i ≡ pick n (drop (w .drawn) ds) → p ≡ getD (unpack xs .passive) i 0
+      → TellsAny (emit (notice 12 p)) b r out o → Changes (evict-at i) (work-of a xs) (work-of b ys) → DrawsAny (draw-one-of n) w a ds
       → Adds (record { work = r; evicted = Peer p }) ys ds o (make-room (run (work-of w xs) ds out)) (evicted (run (work-of w xs) ds out))
-  unfolding named-in run drawn
+  unfolding named-in run one-of to-draw
   made v e h q u l k₃ k₂ k₁ =
       let g = run (work-of w xs) ds out in
-      let f : i ≡ pick (length (g .station .passive)) (drawn g) = u ∙ ap (λ (m : ℕ). pick m (getD ds (w .drawn) 0)) q in
+      let f : i ≡ one-of (length (g .station .passive)) g = u ∙ ap (λ (m : ℕ). pick m (drop (w .drawn) ds)) q in
+      let d : DrawsAny (draw-one-of (length (g .station .passive))) w a ds = subst (λ (m : ℕ). DrawsAny (draw-one-of m) w a ds) q k₁ in
       record {
-        does = by _ (room-evicts g i p (sym e ∙ h) f l) (then-tell (k₃ .any ys (k₂ .packed)) (then k₂ (then-draw (k₁ .any xs (v .ready .packed)) (still v))));
+        does = by _ (room-evicts g i p (sym e ∙ h) f l) (then-tell (k₃ .any ys (k₂ .packed)) (then k₂ (then-draw (d .any xs (v .ready .packed)) (still v))));
         named = one-evicted g i p (sym e ∙ h) f l;
       }
-
--- the place written to is still in the output
-pub room-left : (w a b : Work) (xs ys ds out : List ℕ) (i : ℕ) → Fine (work-of w xs) ds out → Changes (evict-at i) (work-of a xs) (work-of b ys) → DrawsAny (draw 1) w a ds → b .written ≤ length out
-room-left w a b xs ys ds out i v k₂ k₁ = omega (arith, v .written, k₂ .written, k₁ .written)
 
 module _ (w : Work) (xs ds out : List ℕ) (t : Bool) where
   pub not-made : Fine (work-of w xs) ds out → t ≡ must-evict (unpack xs) → t ≡ false → Adds (record { work = w; evicted = Nobody }) xs ds out (make-room (run (work-of w xs) ds out)) (evicted (run (work-of w xs) ds out))
@@ -234,15 +231,14 @@ not-full s e l =
     (λ f. leb-false _ _ f)
     (λ f. omega (arith, none-in (s .passive) f))
 
-picked-in : (xs : List ℕ) (d : ℕ) → null xs ≡ false → pick (length xs) d < length xs
-unfolding pick
-picked-in xs d e = mod-lt d {m = length xs} (some-item xs e)
-
 evict-free : (g : Run) → length (g .station .passive) ≤ g .station .config .«passive_view_capacity» → 1 ≤ g .station .config .«passive_view_capacity» → FreePassive (evict g .code) (evict g .station)
-unfolding evict evict-at must-evict
+unfolding evict evict-at must-evict one-of
 evict-free g l m =
     by-choice (λ (x : Run). FreePassive (x .code) (x .station)) (must-evict (g .station))
-    (λ e. forget-free _ _ (shift-free _ (draw 1 g) (rw (draw-station 1 g) (picked-in (g .station .passive) (drawn g) (was-not _ (and-right (passive-is-full (g .station)) (not (null (g .station .passive))) e)))) (rw (draw-station 1 g) l)))
+    (λ e. let n = length (g .station .passive) in
+    forget-free _ _ (shift-free _ (draw-one-of n g)
+    (rw (one-of-station n g) (pick-below n (to-draw g) (some-item (g .station .passive) (was-not _ (and-right (passive-is-full (g .station)) (not (null (g .station .passive))) e)))))
+    (rw (one-of-station n g) l)))
     (λ e. record { free = λ z. not-full (g .station) e m })
 
 tell-free : (x : Option ℕ) (g : Run) → FreePassive (g .code) (g .station) → FreePassive (tell-evicted x g .code) (tell-evicted x g .station)

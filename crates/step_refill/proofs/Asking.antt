@@ -5,7 +5,7 @@ use mathlib.Core.Path.{_≡_, refl, sym, ap, _∙_}
 use mathlib.Core.Bool.{Bool, true, false, _||_}
 use mathlib.Core.List.{List, [], _∷_, _++_}
 use native.Mathlib.Omega.{arith}
-use lib.ListN.{length, take, getD, set}
+use lib.ListN.{length, take, drop, getD, set}
 use lib.Dec.{leb}
 use borrow.Rule.Slice.PartMut.{putMid}
 use Rattle.lists.specs.Array.{pad}
@@ -13,19 +13,19 @@ use Rattle.lists.specs.Lists.{choose, null, without-all}
 use Rattle.lists.specs.Maps.{keys}
 use Rattle.lists.proofs.Choice.{choose-yes, choose-no, clash}
 use Rattle.lists.proofs.Skips.{without-none, without-append}
-use Rattle.util.specs.Random.{pick}
+use Rattle.util.specs.Chances.{pick}
 use Rattle.section.specs.Section.{part, items-at, ValidSet, HoldsSet}
 use Rattle.section.proofs.Sets.{set-as, set-then, set-stored}
 use Rattle.columns.specs.Columns.{numbers-at}
 use Rattle.protocol.specs.Station.{Station, Refill, is-alone, is-spent, asked-outside}
-use Rattle.protocol.specs.Run.{Run, on, draw, drawn, picked}
+use Rattle.protocol.specs.Run.{Run, on, to-draw, one-of, draw-one-of, picked}
 use Rattle.protocol.specs.Sending.{send-neighbor}
 use Rattle.protocol.specs.Refill.{use-request, end-recovery, limit-short, skipped, candidates, ask-picked, ask-one, refill-limited, needs-none, refill-active-from-passive, begin-refill, start-refill}
 use Rattle.words.specs.declared.Work.{Work}
-use Rattle.words.specs.Layout.{active-view-capacity, active-part, refused-part, requests-part}
+use Rattle.words.specs.Layout.{active-view-capacity, active-part, requests-part}
 use Rattle.words.specs.declared.RefillLimit.{RefillLimit}
 use Rattle.words.specs.Unpack.{unpack, station-of, settings-at, limit-at, refill-in}
-use Rattle.words.specs.Work.{Held, work-of, run, Changes, DrawsAny, Tells, Fine, Does}
+use Rattle.words.specs.Work.{work-of, run, Changes, DrawsAny, Tells, Fine, Does}
 use Rattle.words.proofs.Bridge.{by, still, then, then-tell, seq, taken, left, holds-at}
 use Rattle.words.proofs.Any.{then-draw-any}
 
@@ -98,13 +98,13 @@ some-item (x ∷ l) e = omega arith
 pub some-there : (from : List ℕ) (t : Bool) → t ≡ null (items-at 32 from) → t ≡ false → 0 < length (items-at 32 from)
 some-there from t e h = some-item (items-at 32 from) (sym e ∙ h)
 
-pub one-picked : (w a b r : Work) (xs ys zs ds out o from : List ℕ) (n i p : ℕ) (high : Bool) → Fine (work-of w xs) ds out → high ≡ is-alone (unpack xs) → n ≡ length (items-at 32 from) → i ≡ pick n (getD ds (w .drawn) 0)
-    → p ≡ getD (items-at 32 from) i 0 → Changes (on use-request) (work-of b ys) (work-of r zs) → Tells (send-neighbor p high) (work-of a xs) (work-of b ys) out o → DrawsAny (draw 1) w a ds
+pub one-picked : (w a b r : Work) (xs ys zs ds out o from : List ℕ) (n i p : ℕ) (high : Bool) → Fine (work-of w xs) ds out → high ≡ is-alone (unpack xs) → n ≡ length (items-at 32 from) → i ≡ pick n (drop (w .drawn) ds)
+    → p ≡ getD (items-at 32 from) i 0 → Changes (on use-request) (work-of b ys) (work-of r zs) → Tells (send-neighbor p high) (work-of a xs) (work-of b ys) out o → DrawsAny (draw-one-of n) w a ds
     → Does (work-of r zs) ds o (ask-picked (items-at 32 from) (run (work-of w xs) ds out))
-unfolding ask-picked picked drawn run
+unfolding ask-picked picked one-of to-draw run
 one-picked w a b r xs ys zs ds out o from n i p high v q c u e k₃ k₂ k₁ =
-    let at = e ∙ ap (λ (k : ℕ). getD (items-at 32 from) k 0) (u ∙ ap (λ (k : ℕ). pick k (getD ds (w .drawn) 0)) c) in
-    by _ (λ j. on use-request (send-neighbor (sym at j) (sym q j) (draw 1 (run (work-of w xs) ds out))))
+    let at = e ∙ ap (λ (k : ℕ). getD (items-at 32 from) k 0) (u ∙ ap (λ (k : ℕ). pick k (drop (w .drawn) ds)) c) in
+    by _ (λ j. on use-request (send-neighbor (sym at j) (sym q j) (draw-one-of (sym c j) (run (work-of w xs) ds out))))
     (then k₃ (then-tell k₂ (then-draw-any k₁ (still v))))
 
 module _ (from : List ℕ) (w r : Work) (xs ys ds out o : List ℕ) where

@@ -1,3 +1,3 @@
 pub mod Sets
-pub mod Shut
+pub mod Replies
 pub mod Told

@@ -5,9 +5,7 @@ use mathlib.Core.Path.{_≡_, sym, ap, _∙_, subst}
 use mathlib.Core.List.{List, [], _∷_, _++_}
 use native.Mathlib.Omega.{arith}
 use lib.ListN.{length, take, drop}
-use lib.Dec.{eqb}
-use Rattle.lists.specs.Lists.{choose}
-use Rattle.util.specs.Random.{shuffle}
+use Rattle.util.specs.Chances.{shuffle}
 use Rattle.section.specs.Section.{items-at, ValidSet, HoldsSet}
 use Rattle.section.proofs.Sets.{lent, set-length, set-then}
 use Rattle.protocol.specs.Run.{draw-shuffle}
@@ -37,20 +35,20 @@ pub fill-fits : (v m xs : List ℕ) (len n : ℕ) → HoldsSet 32 m (take (len -
     → length (items-at 32 v) + length (items-at 32 m) ≤ 32
 fill-fits v m xs len n h e f g = omega (arith, set-length 32 m (take (len - n) xs) h, few-taken (len - n) xs)
 
--- what `words::shuffle` leaves of the items l: a is the work after it
-abbrev pub shuffled-by : Work → Work → List ℕ → List ℕ → List ℕ
-shuffled-by w a ds l = choose (eqb (a .code) 0) (shuffle (drop (w .drawn) ds) l) l
+-- the items l after `words::shuffle`
+abbrev pub shuffled-by : Work → List ℕ → List ℕ → List ℕ
+shuffled-by w ds l = shuffle (drop (w .drawn) ds) l
 
 -- the draws of a shuffle, by the list that the set holds
 pub shuffle-of : (w r : Work) (ds v xs : List ℕ) → DrawsAny (draw-shuffle (items-at 32 v)) w r ds → HoldsSet 32 v xs → DrawsAny (draw-shuffle xs) w r ds
 shuffle-of w r ds v xs k h = subst (λ (l : List ℕ). DrawsAny (draw-shuffle l) w r ds) (h .items) k
 
-pub filled-up : (w a : Work) (ds v r m m₀ xs : List ℕ) (len n : ℕ) → DrawsAny (draw-shuffle (items-at 32 m₀)) w a ds → HoldsSet 32 r (items-at 32 v ++ items-at 32 m) → HoldsSet 32 m (take (len - n) (shuffled-by w a ds (items-at 32 m₀)))
-    → HoldsSet 32 m₀ xs → n ≡ length (items-at 32 v) → DrawsAny (draw-shuffle xs) w a ds × HoldsSet 32 r (items-at 32 v ++ take (len - length (items-at 32 v)) (shuffled-by w a ds xs))
+pub filled-up : (w a : Work) (ds v r m m₀ xs : List ℕ) (len n : ℕ) → DrawsAny (draw-shuffle (items-at 32 m₀)) w a ds → HoldsSet 32 r (items-at 32 v ++ items-at 32 m) → HoldsSet 32 m (take (len - n) (shuffled-by w ds (items-at 32 m₀)))
+    → HoldsSet 32 m₀ xs → n ≡ length (items-at 32 v) → DrawsAny (draw-shuffle xs) w a ds × HoldsSet 32 r (items-at 32 v ++ take (len - length (items-at 32 v)) (shuffled-by w ds xs))
 filled-up w a ds v r m m₀ xs len n d h k q e = (
   shuffle-of w a ds m₀ xs d q,
   record {
     valid = h .valid;
-    items = h .items ∙ ap (λ (l : List ℕ). items-at 32 v ++ l) (k .items ∙ (λ i. take (len - e i) (shuffled-by w a ds (q .items i))));
+    items = h .items ∙ ap (λ (l : List ℕ). items-at 32 v ++ l) (k .items ∙ (λ i. take (len - e i) (shuffled-by w ds (q .items i))));
   },
 )

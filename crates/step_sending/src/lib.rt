@@ -9,10 +9,8 @@ ghost use mathlib.Core.Path.{_≡_};
 ghost use mathlib.Core.List.{_++_};
 ghost use Prim.Native.Nat.{_-_, _≤_};
 ghost use lib.ListN.{length, take, drop};
-ghost use lib.Dec.{eqb};
-ghost use Rattle.lists.specs.Lists.{choose};
 ghost use Rattle.lists.specs.Maps.{lookup};
-ghost use Rattle.util.specs.Random.{shuffle};
+ghost use Rattle.util.specs.Chances.{shuffle};
 ghost use Rattle.peer.specs.Held.{ValidData};
 ghost use Rattle.section.specs.Section.{items-at, ValidSet, HoldsSet};
 ghost use Rattle.columns.specs.Columns.{node-in};
@@ -114,12 +112,12 @@ fn send_set(w: Work, st: &[u64], out: &mut [u8], to: PeerId, v: &[u64]) -> Work
     send_nodes(w, st, out, to, &v[..n])
 }
 
-// Shuffles a working set and cuts it to at most `most` peers; a set that is not shuffled for want of draws is cut all the same.
+// Shuffles a working set and cuts it to at most `most` peers.
 pub fn shuffle_and_cap(w: Work, draws: &[u32], most: usize, v: &mut [u64]) -> Work
     requires { ⌜ w .drawn ≤ length (now draws) ⌝ }
     requires { ⌜ ValidSet 32 (now v) ⌝ }
     ensures { λ r. ⌜ DrawsAny (draw-shuffle (items-at 32 (now (v .entry)))) w r (now (draws .entry)) ⌝ }
-    ensures { λ r. ⌜ HoldsSet 32 (now (v .exit)) (take most (choose (eqb (r .code) 0) (shuffle (drop (w .drawn) (now (draws .entry))) (items-at 32 (now (v .entry)))) (items-at 32 (now (v .entry))))) ⌝ }
+    ensures { λ r. ⌜ HoldsSet 32 (now (v .exit)) (take most (shuffle (drop (w .drawn) (now (draws .entry))) (items-at 32 (now (v .entry))))) ⌝ }
 {
     let r = words::shuffle(w, draws, v);
     section::truncate(v, Layout::ALL, most);
@@ -135,7 +133,7 @@ fn fill_active(w: Work, st: &[u64], draws: &[u32], len: usize, v: &mut [u64]) ->
     requires { ⌜ length (items-at 32 (now v)) ≤ len ⌝ }
     requires { ⌜ len ≤ 32 ⌝ }
     ensures { λ r. ⌜ DrawsAny (draw-shuffle (unpack (now (st .entry)) .active)) w r (now (draws .entry)) ⌝ }
-    ensures { λ r. ⌜ HoldsSet 32 (now (v .exit)) (items-at 32 (now (v .entry)) ++ take (len - length (items-at 32 (now (v .entry)))) (choose (eqb (r .code) 0) (shuffle (drop (w .drawn) (now (draws .entry))) (unpack (now (st .entry)) .active)) (unpack (now (st .entry)) .active))) ⌝ }
+    ensures { λ r. ⌜ HoldsSet 32 (now (v .exit)) (items-at 32 (now (v .entry)) ++ take (len - length (items-at 32 (now (v .entry)))) (shuffle (drop (w .drawn) (now (draws .entry))) (unpack (now (st .entry)) .active))) ⌝ }
 {
     let n = section::count(v, Layout::ALL);
     let mut more = [0u64; 33];

@@ -5,12 +5,12 @@ use mathlib.Core.Path.{_≡_, sym, ap, _∙_}
 use mathlib.Core.Bool.{Bool, true, false}
 use mathlib.Core.List.{List, [], _∷_}
 use native.Mathlib.Omega.{arith}
-use lib.ListN.{length, getD}
+use lib.ListN.{length, drop, getD}
 use Rattle.lists.specs.Lists.{null, without-all}
 use Rattle.lists.specs.Array.{pad}
 use Rattle.section.specs.Section.{items-at, ValidSet, HoldsSet, section}
 use Rattle.section.proofs.Sets.{section-holds}
-use Rattle.util.specs.Random.{pick}
+use Rattle.util.specs.Chances.{pick}
 use Rattle.peer.specs.Data.{Node}
 use Rattle.record.specs.Read.{nodes-of}
 use Rattle.record.proofs.Nodes.{length-nodes-of}
@@ -18,7 +18,7 @@ use Rattle.timing.specs.Timing.{next}
 use Rattle.writer64.specs.declared.Nodes.{Nodes}
 use Rattle.writer64.specs.Nodes.{nodes-in, HoldsNodes}
 use Rattle.writer64.specs.Write.{rec-in}
-use Rattle.protocol.specs.Run.{emit, draw, drawn, picked, message}
+use Rattle.protocol.specs.Run.{emit, to-draw, one-of, draw-one-of, picked, message}
 use Rattle.protocol.specs.Peers.{add-nodes, any-new}
 use Rattle.protocol.specs.Sending.{send-shuffle-reply}
 use Rattle.protocol.specs.Refill.{few-requests, start-refill, refill-active-from-passive}
@@ -51,19 +51,19 @@ module _ (w : Work) (xs ds out others : List ℕ) (ns : List Node) (origin ttl :
   unfolding forward-shuffle
   shuffle-kept h = taken _ _ (sym e ∙ h) (still v)
 
-  module _ (q u n i : ℕ) (x : Nodes) (c : n ≡ length others) (j : i ≡ pick n (getD ds (w .drawn) 0)) (p : q ≡ getD others i 0) (y : u ≡ next ttl) (z : HoldsNodes x ns) where
+  module _ (q u n i : ℕ) (x : Nodes) (c : n ≡ length others) (j : i ≡ pick n (drop (w .drawn) ds)) (p : q ≡ getD others i 0) (y : u ≡ next ttl) (z : HoldsNodes x ns) where
     picked-is : q ≡ picked others (run (work-of w xs) ds out)
-    unfolding picked drawn run
-    picked-is = p ∙ ap (λ (k : ℕ). getD others k 0) (j ∙ ap (λ (k : ℕ). pick k (getD ds (w .drawn) 0)) c)
+    unfolding picked one-of to-draw run
+    picked-is = p ∙ ap (λ (k : ℕ). getD others k 0) (j ∙ ap (λ (k : ℕ). pick k (drop (w .drawn) ds)) c)
 
-    shuffle-is : emit (message 2 (picked others (run (work-of w xs) ds out)) 0 origin (next ttl) ns) (draw 1 (run (work-of w xs) ds out))
-        ≡ emit (rec-in (record { kind = 0; message = 2; flags = 0; peer = q; second = origin; ttl = u; number = 0 }) (nodes-in x)) (draw 1 (run (work-of w xs) ds out))
+    shuffle-is : emit (message 2 (picked others (run (work-of w xs) ds out)) 0 origin (next ttl) ns) (draw-one-of (length others) (run (work-of w xs) ds out))
+        ≡ emit (rec-in (record { kind = 0; message = 2; flags = 0; peer = q; second = origin; ttl = u; number = 0 }) (nodes-in x)) (draw-one-of n (run (work-of w xs) ds out))
     unfolding rec-in
-    shuffle-is = λ k. emit (message 2 (sym picked-is k) 0 origin (sym y k) (sym (z .holds) k)) (draw 1 (run (work-of w xs) ds out))
+    shuffle-is = λ k. emit (message 2 (sym picked-is k) 0 origin (sym y k) (sym (z .holds) k)) (draw-one-of (sym c k) (run (work-of w xs) ds out))
 
     pub shuffle-on : (a r : Work) (o : List ℕ) → t ≡ false
         → TellsAny (emit (rec-in (record { kind = 0; message = 2; flags = 0; peer = q; second = origin; ttl = u; number = 0 }) (nodes-in x))) a r out o
-        → DrawsAny (draw 1) w a ds
+        → DrawsAny (draw-one-of n) w a ds
         → Does (work-of r xs) ds o (forward-shuffle others origin ns ttl (run (work-of w xs) ds out))
     unfolding forward-shuffle
     shuffle-on a r o h k₂ k₁ = left _ _ (sym e ∙ h) (by _ shuffle-is (then-tell-any k₂ (then-draw-any k₁ (still v))))

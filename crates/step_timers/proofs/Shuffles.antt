@@ -5,10 +5,10 @@ use mathlib.Core.Path.{_≡_, refl, sym, ap, _∙_, subst}
 use mathlib.Core.Bool.{Bool, true, false}
 use mathlib.Core.List.{List, [], _∷_, _++_}
 use native.Mathlib.Omega.{arith}
-use lib.ListN.{length, take, getD, set, length-append}
+use lib.ListN.{length, take, drop, getD, set, length-append}
 use borrow.Author.Tests.{eqb-false}
 use Rattle.lists.specs.Lists.{without}
-use Rattle.util.specs.Random.{pick}
+use Rattle.util.specs.Chances.{pick}
 use Rattle.timing.specs.Timing.{delay}
 use Rattle.timing.proofs.Ranges.{ranges}
 use Rattle.peer.specs.declared.PeerData.{PeerData}
@@ -22,7 +22,7 @@ use Rattle.writer64.specs.Write.{rec-in}
 use Rattle.writer64.proofs.Ways.{length-nodes}
 use Rattle.protocol.specs.Station.{Station, is-alone}
 use Rattle.protocol.specs.Setters.{set-next-interval}
-use Rattle.protocol.specs.Run.{Run, on, emit, draw, drawn, picked, shuffled, draw-shuffle, message, timer, peer-infos}
+use Rattle.protocol.specs.Run.{on, emit, draw, drawn, to-draw, one-of, draw-one-of, picked, shuffled, draw-shuffle, message, timer, peer-infos}
 use Rattle.protocol.specs.Timers.{double-interval, schedule-shuffle, shuffle-nodes, send-shuffle, active-part, passive-part, shuffle-passive, shuffle-with, shuffle-any}
 use Rattle.words.specs.declared.Work.{Work}
 use Rattle.words.specs.Layout as layout
@@ -33,9 +33,7 @@ use Rattle.words.proofs.Access.{of-settings, of-active}
 use Rattle.words.proofs.Fields.{put-next-interval}
 use Rattle.words.proofs.Bridge.{by, tell-by, still, then, then-tell, seq, seq-at, taken, left, holds-at}
 use Rattle.words.proofs.Any.{then-draw-any, then-tell-any}
-use Rattle.words.proofs.Refused.{emit-shut, draw-shuffle-shut}
 use Rattle.step_sending.proofs.Sets.{few-taken, lent-items, lent-count, shuffled-by, shuffle-of}
-use Rattle.step_sending.proofs.Shut.{open-only, shuffled-open}
 
 -- ---- the interval
 
@@ -93,8 +91,8 @@ module _ (w r : Work) (ds v₁ v₂ xs : List ℕ) (to : ℕ) (h₁ : HoldsSet 3
   pub peers-drawn : DrawsAny (draw-shuffle (items-at 32 v₂)) w r ds → DrawsAny (draw-shuffle (without to xs)) w r ds
   peers-drawn d = shuffle-of w r ds v₂ (without to xs) d others-are
 
-  pub peers-are : (v₃ : List ℕ) (most : ℕ) → HoldsSet 32 v₃ (take most (shuffled-by w r ds (items-at 32 v₂))) → HoldsSet 32 v₃ (take most (shuffled-by w r ds (without to xs)))
-  peers-are v₃ most k = record { valid = k .valid; items = k .items ∙ ap (λ (l : List ℕ). take most (shuffled-by w r ds l)) (others-are .items) }
+  pub peers-are : (v₃ : List ℕ) (most : ℕ) → HoldsSet 32 v₃ (take most (shuffled-by w ds (items-at 32 v₂))) → HoldsSet 32 v₃ (take most (shuffled-by w ds (without to xs)))
+  peers-are v₃ most k = record { valid = k .valid; items = k .items ∙ ap (λ (l : List ℕ). take most (shuffled-by w ds l)) (others-are .items) }
 
 module _ (xs : List ℕ) (f : PackedState xs) (l m : List ℕ) where
   pub few-active : HoldsSet 32 m (take (shuffle-active-view-count xs) l) → length (items-at 32 m) ≤ 8
@@ -111,34 +109,24 @@ module _ (xs : List ℕ) (f : PackedState xs) (l m : List ℕ) where
   pub all-fit : (v all : List ℕ) → HoldsSet 32 m (take (shuffle-passive-view-count xs) l) → length (items-at 32 v) ≤ 8 → HoldsSet 32 all (items-at 32 v ++ items-at 32 m) → length (items-at 32 all) < 32
   all-fit v all k h e = omega (arith, few-passive k, set-length 32 all _ e, length-append (items-at 32 v) (items-at 32 m))
 
-send-shuffle-shut : (to : ℕ) (ps : List ℕ) (g : Run) → (g .code ≡ 0 → ⊥) → send-shuffle to ps g ≡ g
-unfolding send-shuffle
-send-shuffle-shut to ps g h = emit-shut g h _
-
-shuffle-passive-shut : (to : ℕ) (acts : List ℕ) (g : Run) → (g .code ≡ 0 → ⊥) → shuffle-passive to acts g ≡ g
-unfolding shuffle-passive
-shuffle-passive-shut to acts g h = ap (send-shuffle to (acts ++ passive-part to g)) (draw-shuffle-shut g h _) ∙ send-shuffle-shut to _ g h
-
 module _ (w a r : Work) (xs ds out o : List ℕ) (to : ℕ) (f : Fine (work-of w xs) ds out) where
   pub passive-done : (v m all : List ℕ) → DrawsAny (draw-shuffle (without to (items-at 32 (layout.passive-part xs)))) w a ds
-      → HoldsSet 32 m (take (shuffle-passive-view-count xs) (shuffled-by w a ds (without to (items-at 32 (layout.passive-part xs)))))
+      → HoldsSet 32 m (take (shuffle-passive-view-count xs) (shuffled-by w ds (without to (items-at 32 (layout.passive-part xs)))))
       → HoldsSet 32 all (items-at 32 v ++ items-at 32 m) → Tells (send-shuffle to (items-at 32 all)) (work-of a xs) (work-of r xs) out o
       → Does (work-of r xs) ds o (shuffle-passive to (items-at 32 v) (run (work-of w xs) ds out))
-  unfolding shuffle-passive passive-part shuffled run unpack station-of settings-at
+  unfolding shuffle-passive passive-part shuffled to-draw run unpack station-of settings-at
   passive-done v m all k h e t =
       by _
-      (open-only (send-shuffle to) (send-shuffle-shut to) _ _ (draw-shuffle (without to (items-at 32 (layout.passive-part xs))) (run (work-of w xs) ds out))
-      (λ z. sym (e .items ∙ ap (λ (l : List ℕ). items-at 32 v ++ l) (h .items ∙ ap (take (shuffle-passive-view-count xs)) (shuffled-open w a xs ds out _ (f .ready .packed) k z)))))
+      (ap (λ (l : List ℕ). send-shuffle to l (draw-shuffle (without to (items-at 32 (layout.passive-part xs))) (run (work-of w xs) ds out)))
+      (sym (e .items ∙ ap (λ (l : List ℕ). items-at 32 v ++ l) (h .items))))
       (then-tell t (then-draw-any k (still f)))
 
   pub with-done : (v : List ℕ) → DrawsAny (draw-shuffle (without to (items-at 8 (layout.active-part xs)))) w a ds
-      → HoldsSet 32 v (take (shuffle-active-view-count xs) (shuffled-by w a ds (without to (items-at 8 (layout.active-part xs)))))
+      → HoldsSet 32 v (take (shuffle-active-view-count xs) (shuffled-by w ds (without to (items-at 8 (layout.active-part xs)))))
       → Does (work-of r xs) ds o (shuffle-passive to (items-at 32 v) (run (work-of a xs) ds out)) → Does (work-of r xs) ds o (shuffle-with to (run (work-of w xs) ds out))
-  unfolding shuffle-with active-part shuffled run unpack station-of settings-at
+  unfolding shuffle-with active-part shuffled to-draw run unpack station-of settings-at
   with-done v k h d =
-      by _
-      (open-only (shuffle-passive to) (shuffle-passive-shut to) _ _ (draw-shuffle (without to (items-at 8 (layout.active-part xs))) (run (work-of w xs) ds out))
-      (λ z. sym (h .items ∙ ap (take (shuffle-active-view-count xs)) (shuffled-open w a xs ds out _ (f .ready .packed) k z))))
+      by _ (ap (λ (l : List ℕ). shuffle-passive to l (draw-shuffle (without to (items-at 8 (layout.active-part xs))) (run (work-of w xs) ds out))) (sym (h .items)))
       (seq (shuffle-passive to (items-at 32 v)) d (then-draw-any k (still f)))
 
 -- ---- to whom
@@ -154,11 +142,12 @@ module _ (w : Work) (xs ds out : List ℕ) (t : Bool) (f : Fine (work-of w xs) d
   unfolding shuffle-any
   none-asked h = taken _ _ (holds-at (work-of w xs) ds out is-alone e h) (still f)
 
-  module _ (n i p : ℕ) (c : n ≡ length (items-at 8 (layout.active-part xs))) (j : i ≡ pick n (getD ds (w .drawn) 0)) (q : p ≡ getD (items-at 8 (layout.active-part xs)) i 0) where
+  module _ (n i p : ℕ) (c : n ≡ length (items-at 8 (layout.active-part xs))) (j : i ≡ pick n (drop (w .drawn) ds)) (q : p ≡ getD (items-at 8 (layout.active-part xs)) i 0) where
     picked-is : p ≡ picked (run (work-of w xs) ds out .station .active) (run (work-of w xs) ds out)
-    unfolding picked drawn run unpack station-of
-    picked-is = q ∙ ap (λ (k : ℕ). getD (items-at 8 (layout.active-part xs)) k 0) (j ∙ ap (λ (k : ℕ). pick k (getD ds (w .drawn) 0)) c)
+    unfolding picked one-of to-draw run unpack station-of
+    picked-is = q ∙ ap (λ (k : ℕ). getD (items-at 8 (layout.active-part xs)) k 0) (j ∙ ap (λ (k : ℕ). pick k (drop (w .drawn) ds)) c)
 
-    pub one-asked : (a r : Work) (o : List ℕ) → t ≡ false → Does (work-of r xs) ds o (shuffle-with p (run (work-of a xs) ds out)) → DrawsAny (draw 1) w a ds → Does (work-of r xs) ds o (shuffle-any (run (work-of w xs) ds out))
-    unfolding shuffle-any
-    one-asked a r o h k₂ k₁ = left _ _ (holds-at (work-of w xs) ds out is-alone e h) (seq-at shuffle-with picked-is k₂ (then-draw-any k₁ (still f)))
+    pub one-asked : (a r : Work) (o : List ℕ) → t ≡ false → Does (work-of r xs) ds o (shuffle-with p (run (work-of a xs) ds out)) → DrawsAny (draw-one-of n) w a ds → Does (work-of r xs) ds o (shuffle-any (run (work-of w xs) ds out))
+    unfolding shuffle-any run unpack station-of
+    one-asked a r o h k₂ k₁ =
+        left _ _ (holds-at (work-of w xs) ds out is-alone e h) (seq-at shuffle-with picked-is k₂ (then-draw-any (subst (λ (m : ℕ). DrawsAny (draw-one-of m) w a ds) c k₁) (still f)))

@@ -8,9 +8,8 @@ use writer64::Fields;
 ghost use mathlib.Core.Path.{_≡_};
 ghost use Prim.Native.Nat.{_≤_, _<_, min};
 ghost use lib.ListN.{length, take, drop};
-ghost use lib.Dec.{eqb};
-ghost use Rattle.lists.specs.Lists.{choose, without};
-ghost use Rattle.util.specs.Random.{shuffle};
+ghost use Rattle.lists.specs.Lists.{without};
+ghost use Rattle.util.specs.Chances.{shuffle};
 ghost use Rattle.peer.specs.Maps.{number-in};
 ghost use Rattle.section.specs.Section.{items-at, ValidSet, HoldsSet};
 ghost use Rattle.protocol.specs.Run.{on, draw-shuffle};
@@ -184,7 +183,7 @@ fn some_peers(
     requires { ⌜ cap ≤ 32 ⌝ }
     requires { ⌜ length (now v) ≡ 33 ⌝ }
     ensures { λ r. ⌜ DrawsAny (draw-shuffle (without to (items-at cap (now (view .entry))))) w r (now (draws .entry)) ⌝ }
-    ensures { λ r. ⌜ HoldsSet 32 (now (v .exit)) (take most (choose (eqb (r .code) 0) (shuffle (drop (w .drawn) (now (draws .entry))) (without to (items-at cap (now (view .entry))))) (without to (items-at cap (now (view .entry)))))) ⌝ }
+    ensures { λ r. ⌜ HoldsSet 32 (now (v .exit)) (take most (shuffle (drop (w .drawn) (now (draws .entry))) (without to (items-at cap (now (view .entry)))))) ⌝ }
 {
     section::copy_into(view, cap, v);
     section::without(v, Layout::ALL, to);

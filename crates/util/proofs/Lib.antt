@@ -3,3 +3,6 @@ pub mod Pushing
 pub mod Tests
 pub mod Marks
 pub mod Choosing
+pub mod Chances
+pub mod Equal
+pub mod Orders

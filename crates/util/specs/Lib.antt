@@ -1,2 +1,4 @@
 pub mod Random
 pub mod Set
+pub mod Chances
+pub mod Equal

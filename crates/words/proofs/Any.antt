@@ -1,26 +1,25 @@
 -- Steps that are not lent the words: how they are proved, and what a step that has words gets of them.
 -- Assumes nothing.
-use Prim.Native.Nat.{ℕ, _+_, _-_, _≤_, _<_}
-use mathlib.Core.Path.{_≡_, refl, sym, _∙_, subst}
+use Prim.Native.Nat.{ℕ, _+_, _≤_, _<_}
+use mathlib.Core.Path.{_≡_, refl, _∙_, subst}
 use mathlib.Core.Bool.{Bool, true, false}
 use mathlib.Core.List.{List}
 use native.Mathlib.Omega.{arith}
-use borrow.Author.Tests.{eq-eqb, ne-eqb, leb-true}
+use borrow.Author.Tests.{eqb-true, eqb-false, leb-true}
 use lib.Dec.{eqb, leb}
 use lib.ListN.{length, drop}
 use Rattle.lists.specs.Lists.{choose}
 use Rattle.lists.proofs.Bytes.{length-overwrite}
 use Rattle.lists.proofs.Choice.{split, choose-yes, choose-no}
-use Rattle.util.specs.Random.{shuffle, shuffle-down, shuffle-draws}
-use Rattle.section.specs.Section.{items-at, ValidSet, HoldsSet}
+use Rattle.util.specs.Chances.{pick-draws, shuffle-draws}
 use Rattle.record.specs.Format.{Rec, size, encode}
 use Rattle.writer64.specs.declared.Written.{Written}
 use Rattle.writer64.specs.declared.Written.the-variants.{At, Full}
 use Rattle.writer64.specs.Write.{fits, reached, written, Wrote}
-use Rattle.protocol.specs.Run.{Run, emit, draw, draw-shuffle, require}
+use Rattle.protocol.specs.Run.{Run, emit, draw, to-draw, draw-one-of, draw-shuffle, require}
 use Rattle.words.specs.declared.Work.{Work}
 use Rattle.words.specs.Unpack.{PackedState}
-use Rattle.words.specs.Work.{work-of, Changes, Ready, Draws, Room, Tells, Fine, Does, ChangesAny, DrawsAny, TellsAny, after-record}
+use Rattle.words.specs.Work.{work-of, run, Ready, Room, Does, ChangesAny, DrawsAny, Reaches, TellsAny, after-record}
 use Rattle.words.proofs.Bridge.{require-passed, require-held, require-refused, draw-passed, draw-short, draw-done, emit-passed, emit-done, then, then-draw, then-tell}
 
 module _ (w : Work) (k : ℕ) (t : Bool) where
@@ -34,14 +33,25 @@ module _ (w : Work) (k : ℕ) (t : Bool) where
   required-refused h e = record { drawn = refl; written = refl; any = λ xs v. require-refused (work-of w xs) v k t h e }
 
 module _ (w : Work) (ds : List ℕ) (n : ℕ) (l : w .drawn ≤ length ds) where
-  pub drew-passed : (w .code ≡ 0 → ⊥) → DrawsAny (draw n) w w ds
+  drew-passed : (w .code ≡ 0 → ⊥) → DrawsAny (draw n) w w ds
   drew-passed h = record { drawn = l; written = refl; any = λ xs v. draw-passed (work-of w xs) ds (record { packed = v; drawn = l }) n h }
 
-  pub drew-short : w .code ≡ 0 → length ds < w .drawn + n → DrawsAny (draw n) w (record { drawn = w .drawn; written = w .written; code = 5 }) ds
+  drew-short : w .code ≡ 0 → length ds < w .drawn + n → DrawsAny (draw n) w (record { drawn = w .drawn; written = w .written; code = 5 }) ds
   drew-short h f = record { drawn = l; written = refl; any = λ xs v. draw-short (work-of w xs) ds (record { packed = v; drawn = l }) n h f }
 
-  pub drew : w .code ≡ 0 → w .drawn + n ≤ length ds → DrawsAny (draw n) w (record { drawn = w .drawn + n; written = w .written; code = w .code }) ds
+  drew : w .code ≡ 0 → w .drawn + n ≤ length ds → DrawsAny (draw n) w (record { drawn = w .drawn + n; written = w .written; code = w .code }) ds
   drew h f = record { drawn = f; written = refl; any = λ xs v. draw-done (work-of w xs) ds (record { packed = v; drawn = l }) n h f }
+
+-- the draws before `next`
+module _ (w : Work) (ds : List ℕ) (l : w .drawn ≤ length ds) (next : ℕ) where
+  pub reach-passed : (w .code ≡ 0 → ⊥) → Reaches next w w ds
+  reach-passed h = record { taken = λ n e. drew-passed w ds n l h }
+
+  pub reach-short : w .code ≡ 0 → length ds < next → Reaches next w (record { drawn = w .drawn; written = w .written; code = 5 }) ds
+  reach-short h f = record { taken = λ n e. drew-short w ds n l h (omega arith) }
+
+  pub reach-next : w .code ≡ 0 → next ≤ length ds → Reaches next w (record { drawn = next; written = w .written; code = w .code }) ds
+  reach-next h f = record { taken = λ n e. rw e (drew w ds n l h (omega arith)) }
 
 kept : (a : Written) (w : Work) → after-record a w .drawn ≡ w .drawn
 unfolding after-record
@@ -85,44 +95,29 @@ then-draw-any k d = then-draw (k .any _ (d .fine .ready .packed)) d
 pub then-tell-any : {step : Run → Run} {a r : Work} {xs ds o₁ o₂ : List ℕ} {g : Run} → TellsAny step a r o₁ o₂ → Does (work-of a xs) ds o₁ g → Does (work-of r xs) ds o₂ (step g)
 then-tell-any k d = then-tell (k .any _ (d .fine .ready .packed)) d
 
--- ---- a shuffle: its items are those of v, of which n - 1 draws are taken
+-- ---- the draws that a delay, a choice and a shuffle take
 
-module _ (w : Work) (ds v : List ℕ) (l : w .drawn ≤ length ds) (s : ValidSet 32 v) where
-  abbrev items : List ℕ
-  items = items-at 32 v
+module _ (w r : Work) (ds : List ℕ) where
+  pub drew-one : Reaches (w .drawn + 1) w r ds → DrawsAny (draw 1) w r ds
+  drew-one k = k .taken 1 refl
 
-  pub shuffle-passed : (w .code ≡ 0 → ⊥) → DrawsAny (draw-shuffle items) w w ds
-  unfolding draw-shuffle
-  shuffle-passed h = drew-passed w ds (shuffle-draws items) l h
+  pub drew-one-of : (n next : ℕ) → next ≡ w .drawn + pick-draws n (drop (w .drawn) ds) → Reaches next w r ds → DrawsAny (draw-one-of n) w r ds
+  unfolding draw-one-of to-draw run
+  drew-one-of n next e k =
+      let d = k .taken (pick-draws n (drop (w .drawn) ds)) e in
+      record { drawn = d .drawn; written = d .written; any = λ xs v. let a = d .any xs v in record { ready = a .ready; written = a .written; same = λ out. a .same out } }
 
-  pub shuffle-left : (w .code ≡ 0 → ⊥) → HoldsSet 32 v (choose (eqb (w .code) 0) (shuffle (drop (w .drawn) ds) items) items)
-  shuffle-left h = record { valid = s; items = sym (choose-no (eqb (w .code) 0) _ _ (ne-eqb _ _ h)) }
+  -- nothing to choose from takes no draw
+  pub drew-none-of : (n : ℕ) → w .drawn ≤ length ds → n ≡ 0 → DrawsAny (draw-one-of n) w w ds
+  unfolding draw-one-of pick-draws choose
+  drew-none-of n l e =
+      let z : w .drawn + 0 ≡ w .drawn = omega arith in
+      rw e (split (eqb (w .code) 0)
+      (λ t. subst (λ (k : ℕ). DrawsAny (draw 0) w (record { drawn = k; written = w .written; code = w .code }) ds) z (drew w ds 0 l (eqb-true _ _ t) (omega arith)))
+      (λ t. drew-passed w ds 0 l (eqb-false _ _ t)))
 
-  -- one item or none: no draw, and no change
-  pub shuffle-few : (n : ℕ) → n ≡ length items → w .code ≡ 0 → n < 2 → DrawsAny (draw-shuffle items) w w ds
-  unfolding draw-shuffle shuffle-draws
-  shuffle-few n e h f =
-      let z : length items - 1 ≡ 0 = omega (arith, e) in
-      let t : w .drawn + 0 ≡ w .drawn = omega arith in
-      subst (λ (k : ℕ). DrawsAny (draw k) w w ds) (sym z)
-      (subst (λ (k : ℕ). DrawsAny (draw 0) w (record { drawn = k; written = w .written; code = w .code }) ds) t (drew w ds 0 l h (omega (arith, l))))
-
-  pub shuffle-same : (n : ℕ) → n ≡ length items → w .code ≡ 0 → n < 2 → HoldsSet 32 v (choose (eqb (w .code) 0) (shuffle (drop (w .drawn) ds) items) items)
-  unfolding shuffle shuffle-down
-  shuffle-same n e h f =
-      let z : length items - 1 ≡ 0 = omega (arith, e) in
-      record { valid = s; items = sym (choose-yes (eqb (w .code) 0) _ _ (eq-eqb _ _ h) ∙ rw z refl) }
-
-  pub shuffle-short : (n : ℕ) → n ≡ length items → w .code ≡ 0 → length ds - w .drawn < n - 1 → DrawsAny (draw-shuffle items) w (record { drawn = w .drawn; written = w .written; code = 5 }) ds
-  unfolding draw-shuffle shuffle-draws
-  shuffle-short n e h f = drew-short w ds (length items - 1) l h (omega (arith, e))
-
-  pub shuffle-refused : HoldsSet 32 v (choose (eqb 5 0) (shuffle (drop (w .drawn) ds) items) items)
-  shuffle-refused = record { valid = s; items = sym (choose-no (eqb 5 0) _ _ refl) }
-
-  pub shuffle-drew : (n : ℕ) → n ≡ length items → w .code ≡ 0 → n - 1 ≤ length ds - w .drawn → DrawsAny (draw-shuffle items) w (record { drawn = w .drawn + (n - 1); written = w .written; code = w .code }) ds
-  unfolding draw-shuffle shuffle-draws
-  shuffle-drew n e h f = rw e (drew w ds (length items - 1) l h (omega (arith, e)))
-
-  pub shuffle-done : (o : List ℕ) → w .code ≡ 0 → HoldsSet 32 o (shuffle (drop (w .drawn) ds) items) → HoldsSet 32 o (choose (eqb (w .code) 0) (shuffle (drop (w .drawn) ds) items) items)
-  shuffle-done o h k = record { valid = k .valid; items = k .items ∙ sym (choose-yes (eqb (w .code) 0) _ _ (eq-eqb _ _ h)) }
+  pub drew-shuffle : (l : List ℕ) (next : ℕ) → next ≡ w .drawn + shuffle-draws (drop (w .drawn) ds) l → Reaches next w r ds → DrawsAny (draw-shuffle l) w r ds
+  unfolding draw-shuffle to-draw run
+  drew-shuffle l next e k =
+      let d = k .taken (shuffle-draws (drop (w .drawn) ds) l) e in
+      record { drawn = d .drawn; written = d .written; any = λ xs v. let a = d .any xs v in record { ready = a .ready; written = a .written; same = λ out. a .same out } }

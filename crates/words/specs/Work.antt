@@ -1,10 +1,10 @@
 -- The run of the definition that a `Work` and the words stand for, and what a step in code has to do: four contract shapes, by what the step is lent beside the words.
 -- Assumes nothing.
-use Prim.Native.Nat.{ℕ, _≤_}
+use Prim.Native.Nat.{ℕ, _+_, _≤_}
 use mathlib.Core.Path.{_≡_}
 use mathlib.Core.List.{List}
 use lib.ListN.{length, take}
-use Rattle.protocol.specs.Run.{Run}
+use Rattle.protocol.specs.Run.{Run, draw}
 use Rattle.writer64.specs.declared.Written.{Written}
 use Rattle.writer64.specs.declared.Written.the-variants.{At, Full}
 use Rattle.words.specs.declared.Work.{Work}
@@ -81,6 +81,10 @@ pub record DrawsAny (step : Run → Run) (w r : Work) (ds : List ℕ) : Type 0 w
   pub drawn : r .drawn ≤ length ds
   pub written : r .written ≡ w .written
   pub any : (xs : List ℕ) → PackedState xs → Draws step (work-of w xs) (work-of r xs) ds
+
+-- the draws before `next` are taken, however their number is said
+pub record Reaches (next : ℕ) (w r : Work) (ds : List ℕ) : Type 0 where
+  pub taken : (n : ℕ) → next ≡ w .drawn + n → DrawsAny (draw n) w r ds
 
 pub record TellsAny (step : Run → Run) (w r : Work) (out o : List ℕ) : Type 0 where
   pub drawn : r .drawn ≡ w .drawn

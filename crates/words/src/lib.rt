@@ -9,21 +9,19 @@ ghost use mathlib.Core.Path.{_≡_};
 ghost use mathlib.Core.List.{[], _∷_};
 ghost use Prim.Native.Nat.{_≤_, _<_};
 ghost use lib.ListN.{length, getD, drop};
-ghost use lib.Dec.{eqb};
-ghost use Rattle.lists.specs.Lists.{choose};
-ghost use Rattle.util.specs.Random.{pick, shuffle};
+ghost use Rattle.util.specs.Chances.{pick, shuffle};
 ghost use Rattle.peer.specs.Held.{data-in, ValidData};
 ghost use Rattle.section.specs.Section.{items-at, ValidSet, HoldsSet};
 ghost use Rattle.columns.specs.Columns.{node-in};
 ghost use Rattle.writer64.specs.Nodes.{ValidNodes, nodes-in};
 ghost use Rattle.writer64.specs.Write.{rec-in};
-ghost use Rattle.protocol.specs.Run.{on, draw, draw-shuffle, require, emit};
+ghost use Rattle.protocol.specs.Run.{on, draw, draw-one-of, draw-shuffle, require, emit};
 ghost use Rattle.protocol.specs.Setters.{set-own-data, set-refill};
 ghost use Rattle.protocol.specs.Messages.{drop-join, drop-request, drop-pending};
 ghost use Rattle.protocol.specs.Station.{is-me, in-active, in-passive, in-view, is-alone, active-is-full, passive-is-full, is-short, is-last-hop};
 ghost use Rattle.protocol.specs.Station.{is-recovery, is-automatic, is-spent, is-requested};
 ghost use Rattle.words.specs.Unpack.{unpack, own-at, limit-at, refill-in, PackedState, Becomes};
-ghost use Rattle.words.specs.Work.{work-of, Changes, ChangesAny, DrawsAny, TellsAny, after-record};
+ghost use Rattle.words.specs.Work.{work-of, Changes, ChangesAny, DrawsAny, Reaches, TellsAny, after-record};
 
 // The layout of the state: the place of each number, and where each section begins and ends. A set is its places and then their count; a map has more columns of as many places before the
 // count. Every name is a whole constant, since a sum in the body of a function would be one more thing to prove.
@@ -277,72 +275,59 @@ fn draw_at(draws: &[u32], at: usize) -> u32
     0
 }
 
-// Takes the next draw; code 5 where there is none, and then the value is 0.
+// The work that has taken the draws before `next`; code 5 where there are not so many.
+fn reach(w: Work, draws: &[u32], next: usize) -> Work
+    requires { ⌜ w .drawn ≤ length (now draws) ⌝ }
+    ensures { λ r. ⌜ Reaches next w r (now (draws .entry)) ⌝ }
+{
+    if w.code != 0 {
+        return w;
+    }
+    let mut r = w;
+    if draws.len() < next {
+        r.code = 5;
+        return r;
+    }
+    r.drawn = next;
+    r
+}
+
+// Takes the next draw, which a delay never passes over; code 5 where there is none, and then the value is 0.
 pub fn draw(w: Work, draws: &[u32]) -> Drawn
     requires { ⌜ w .drawn ≤ length (now draws) ⌝ }
     ensures { λ r. ⌜ DrawsAny (draw 1) w (r .work) (now (draws .entry)) ⌝ }
     ensures { λ r. ⌜ r .value ≡ getD (now (draws .entry)) (w .drawn) 0 ⌝ }
 {
     let value = draw_at(draws, w.drawn);
-    if w.code != 0 {
-        return Drawn {
-            work: w,
-            value: value,
-        };
-    }
-    let mut r = w;
-    let next = w.drawn + 1;
-    if draws.len() < next {
-        r.code = 5;
-        return Drawn {
-            work: r,
-            value: value,
-        };
-    }
-    r.drawn = next;
+    let a = reach(w, draws, w.drawn + 1);
     Drawn {
-        work: r,
+        work: a,
         value: value,
     }
 }
 
-// Takes the draw that decides one of n places; code 5 where there is none.
+// Takes the draws that decide one of n places, with those passed over; code 5 where none is kept.
 pub fn choose(w: Work, draws: &[u32], n: usize) -> Chosen
     requires { ⌜ w .drawn ≤ length (now draws) ⌝ }
     requires { ⌜ 0 < n ⌝ }
-    ensures { λ r. ⌜ DrawsAny (draw 1) w (r .work) (now (draws .entry)) ⌝ }
-    ensures { λ r. ⌜ (r .index ≡ pick n (getD (now (draws .entry)) (w .drawn) 0)) × (r .index < n) ⌝ }
+    ensures { λ r. ⌜ DrawsAny (draw-one-of n) w (r .work) (now (draws .entry)) ⌝ }
+    ensures { λ r. ⌜ (r .index ≡ pick n (drop (w .drawn) (now (draws .entry)))) × (r .index < n) ⌝ }
 {
-    let d = draw(w, draws);
-    let a = d.work;
-    let i = section::pick_index(d.value, n);
+    let p = section::pick_index(draws, w.drawn, n);
+    let i = p.index;
+    let a = reach(w, draws, p.next);
     Chosen { work: a, index: i }
 }
 
-// Takes the draws that shuffle a working set of 32 places, and shuffles it where it lies; code 5 where there are not so many. A set that is not shuffled is as it was.
+// Shuffles a working set of 32 places where it lies, and takes the draws of that; code 5 where there are not so many.
 pub fn shuffle(w: Work, draws: &[u32], v: &mut [u64]) -> Work
     requires { ⌜ w .drawn ≤ length (now draws) ⌝ }
     requires { ⌜ ValidSet 32 (now v) ⌝ }
     ensures { λ r. ⌜ DrawsAny (draw-shuffle (items-at 32 (now (v .entry)))) w r (now (draws .entry)) ⌝ }
-    ensures { λ r. ⌜ HoldsSet 32 (now (v .exit)) (choose (eqb (r .code) 0) (shuffle (drop (w .drawn) (now (draws .entry))) (items-at 32 (now (v .entry)))) (items-at 32 (now (v .entry)))) ⌝ }
+    ensures { λ _. ⌜ HoldsSet 32 (now (v .exit)) (shuffle (drop (w .drawn) (now (draws .entry))) (items-at 32 (now (v .entry)))) ⌝ }
 {
-    if w.code != 0 {
-        return w;
-    }
-    let n = section::count(v, Layout::ALL);
-    if n < 2 {
-        return w;
-    }
-    let mut r = w;
-    let at = w.drawn;
-    let taken = n - 1;
-    if draws.len() - at < taken {
-        r.code = 5;
-        return r;
-    }
-    section::shuffle(v, Layout::ALL, draws, at);
-    r.drawn = at + taken;
-    r
+    let next = section::shuffle(v, Layout::ALL, draws, w.drawn);
+    reach(w, draws, next)
 }
 
 // ---- refusals and records

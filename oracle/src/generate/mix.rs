@@ -59,6 +59,8 @@ pub enum Twist {
     None,
     /// The draw list is short (code 5).
     ShortDraws,
+    /// Half of the draws are among the last 32, which choices pass over (02, S-6).
+    HighDraws,
     /// The passive view and most open requests are filled first (code 8).
     Filled,
     /// A small room for the output (code 9).
@@ -256,6 +258,14 @@ pub const MIXES: &[Mix] = &[
     twisted(
         Twist::ShortDraws,
         mix("short", EVEN, SettingsRule::Any, (2, 40)),
+    ),
+    twisted(
+        Twist::HighDraws,
+        mix("passing", EVEN, SettingsRule::Any, (2, 60)),
+    ),
+    twisted(
+        Twist::HighDraws,
+        mix("passing_crowd", CROWDED, SettingsRule::Any, (8, 200)),
     ),
     mix("asking", ASKING, SettingsRule::Any, (40, 200)),
     with_data(

@@ -26,7 +26,7 @@ pub struct History {
     pub input: Vec<u8>,
 }
 
-/// No event takes more draws than this (01), so a history ends before draws run out by chance.
+/// So many draws suffice for an event where none is passed over, so a history ends before draws run out by chance.
 const MOST_DRAWN: usize = 512;
 const MOST_EVENT_BYTES: usize = 40_000;
 

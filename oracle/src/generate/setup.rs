@@ -108,7 +108,9 @@ pub fn draws(source: &mut Source, twist: Twist) -> Vec<u32> {
         Twist::ShortDraws => source.below(60),
         _ => DRAWS,
     };
+    let high = if twist == Twist::HighDraws { 50 } else { 0 };
     let draw = |source: &mut Source| match source.below(10) {
+        _ if high > 0 && source.chance(high) => u32::MAX - source.below(32) as u32,
         0 => 0,
         1 => u32::MAX - source.below(4) as u32,
         2..5 => source.below(64) as u32,

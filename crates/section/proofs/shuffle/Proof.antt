@@ -1,6 +1,6 @@
 use Rattle.section.specs.Section.{part}
-use Rattle.section.proofs.Sets.{set-inside, set-column, set-draws}
-use Rattle.section.proofs.Stores.{mixed}
+use Rattle.section.proofs.Sets.{set-inside, set-column}
+use Rattle.section.proofs.Stores.{few-mixed, mixed, mixed-taken}
 use borrow.Author.Needs.{needs}
 use Rattle.section.proofs.shuffle.Statement.{statement}
 use Rattle.section.proofs.shuffle.Tie as tie
@@ -20,14 +20,14 @@ slice-aggregate-shuffle-in c = search set-inside
 
 shuffle-in-requires : tie.Need-shuffle-in-requires
 unfolding part
-shuffle-in-requires c κs = (search set-column, search set-draws)
+shuffle-in-requires c κs = (search set-column, (search few-mixed, search needs))
 
 same-length : tie.Need-same-length
 same-length c = search needs
 
 returns : tie.Need-returns
 unfolding part
-returns c = search mixed
+returns c = (search mixed, search mixed-taken)
 
 pub shuffle-spec : {M : Type 1} → statement M
 shuffle-spec =

@@ -1,7 +1,5 @@
 -- What is wanted is the shuffle of what is left. The measure is how many places are left.
-use native.Mathlib.Omega.{arith}
-use mathlib.Core.Path.{refl}
-use Rattle.section.proofs.Stores.{Mixing, drawn, left-place, mixing-few, mixing-start, left-to-draw, mixing-next, mixing-end}
+use Rattle.section.proofs.Stores.{Mixing, drawn, left-place, mixing-few, mixing-none, mixing-start, left-to-draw, mixing-next, mixing-taken, mixing-end}
 use borrow.Author.Needs.{needs}
 use Rattle.section.proofs.shuffle_in.Statement.{statement}
 use Rattle.section.proofs.shuffle_in.Tie as tie
@@ -13,7 +11,7 @@ abbrev μ-loop : tie.MeasureT-loop
 μ-loop s₀ n draws at i₀ k₀ s i k = i
 
 returns : tie.Need-returns Inv-loop μ-loop
-returns c = search mixing-few
+returns c = (search mixing-few, search mixing-none)
 
 sub-i : tie.Need-sub-i Inv-loop μ-loop
 sub-i c = search needs
@@ -21,26 +19,14 @@ sub-i c = search needs
 loop-holds : tie.Need-loop-holds Inv-loop μ-loop
 loop-holds c = search mixing-start
 
-mul-d : tie.Need-mul-d Inv-loop μ-loop
-mul-d c = search needs
+add-pick-index : tie.Need-add-pick-index Inv-loop μ-loop
+add-pick-index c = search needs
 
-shared-slice-read-d : tie.Need-shared-slice-read-d Inv-loop μ-loop
-shared-slice-read-d c = search left-to-draw
-
-cast-d : tie.Need-cast-d Inv-loop μ-loop
-cast-d c = omega (arith, c .shared-slice-known2 .given (c .before .before .loop .k))
-
-add-j : tie.Need-add-j Inv-loop μ-loop
-add-j c = search needs
-
-rem-j : tie.Need-rem-j Inv-loop μ-loop
-rem-j c = search needs
+pick-index-requires : tie.Need-pick-index-requires Inv-loop μ-loop
+pick-index-requires c κs = (search needs, search left-to-draw)
 
 exchange-requires : tie.Need-exchange-requires Inv-loop μ-loop
-exchange-requires c κs = (search left-place, search (drawn, needs))
-
-add-k : tie.Need-add-k Inv-loop μ-loop
-add-k c = search needs
+exchange-requires c κs = (search left-place, search drawn)
 
 sub-i-2 : tie.Need-sub-i-2 Inv-loop μ-loop
 sub-i-2 c = search needs
@@ -55,7 +41,7 @@ same-length : tie.Need-same-length Inv-loop μ-loop
 same-length c = search needs
 
 returns-2 : tie.Need-returns-2 Inv-loop μ-loop
-returns-2 c = search mixing-end
+returns-2 c = (search mixing-end, search mixing-taken)
 
 pub shuffle-in-spec : {M : Type 1} → statement M
 shuffle-in-spec =
@@ -66,13 +52,9 @@ shuffle-in-spec =
     returns
     sub-i
     loop-holds
-    mul-d
-    shared-slice-read-d
-    cast-d
-    add-j
-    rem-j
+    add-pick-index
+    pick-index-requires
     exchange-requires
-    add-k
     sub-i-2
     loop-less
     loop-again

@@ -3,9 +3,6 @@ use borrow.Author.Needs.{needs}
 use Rattle.step_messages.proofs.forward_join_on.Statement.{statement}
 use Rattle.step_messages.proofs.forward_join_on.Tie as tie
 
-draw-requires : tie.Need-draw-requires
-draw-requires c κs = search needs
-
 picked-requires : tie.Need-picked-requires
 picked-requires c κs = search needs
 
@@ -25,7 +22,6 @@ pub forward-join-on-spec : {M : Type 1} → statement M
 forward-join-on-spec =
     tie.close
     (tie.spec
-    draw-requires
     picked-requires
     next-requires
     forward-join-to-requires

@@ -1,5 +1,5 @@
 use native.Mathlib.Omega.{arith}
-use Rattle.step_sending.proofs.Shut.{reply-short, reply-enough}
+use Rattle.step_sending.proofs.Replies.{reply-short, reply-enough}
 use Rattle.step_sending.proofs.Told.{room-of}
 use borrow.Author.Needs.{needs}
 use Rattle.step_sending.proofs.reply_with.Statement.{statement}

@@ -1,4 +1,4 @@
-use Rattle.step_sending.proofs.Shut.{filled-done}
+use Rattle.step_sending.proofs.Replies.{filled-done}
 use Rattle.step_sending.proofs.Told.{room-drawn}
 use borrow.Author.Needs.{needs}
 use Rattle.step_sending.proofs.send_filled.Statement.{statement}

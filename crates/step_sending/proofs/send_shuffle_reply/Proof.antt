@@ -1,7 +1,7 @@
 use Rattle.section.specs.Section.{part}
 use Rattle.words.specs.Unpack.{unpack, station-of}
 use Rattle.words.proofs.Access.{of-packed}
-use Rattle.step_sending.proofs.Shut.{reply-done}
+use Rattle.step_sending.proofs.Replies.{reply-done}
 use Rattle.step_sending.proofs.Told.{fine-drawn}
 use borrow.Author.Needs.{needs}
 use Rattle.step_sending.proofs.send_shuffle_reply.Statement.{statement}

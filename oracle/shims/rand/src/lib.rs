@@ -1,4 +1,4 @@
-//! Stand-in for `rand`: every random choice follows 01, "Random choices", over a lent draw list.
+//! Stand-in for `rand`: every random choice follows 01, "Random choices", and 02, S-6, over a lent draw list.
 
 use std::{ops::Range, sync::Arc};
 
@@ -41,27 +41,35 @@ impl Rng for Draws {
     }
 }
 
-/// A range that one draw picks a value of.
+/// A range that draws pick a value of.
 pub trait SampleRange<T> {
-    fn sample(self, draw: u32) -> T;
+    fn sample<R: Rng + ?Sized>(self, rng: &mut R) -> T;
 }
 
 impl SampleRange<usize> for Range<usize> {
-    fn sample(self, draw: u32) -> usize {
-        self.start + draw as usize % (self.end - self.start)
+    /// One of n places: the first draw below the largest multiple of n not above 2^32 decides, and those before it are passed over.
+    fn sample<R: Rng + ?Sized>(self, rng: &mut R) -> usize {
+        let count = (self.end - self.start) as u64;
+        let multiple = (1 << 32) / count * count;
+        loop {
+            let draw = u64::from(rng.next_u32());
+            if draw < multiple {
+                return self.start + (draw % count) as usize;
+            }
+        }
     }
 }
 
 impl SampleRange<f64> for Range<f64> {
-    /// Exact for 0.75..1.25: the value is (3 * 2^31 + draw) / 2^33.
-    fn sample(self, draw: u32) -> f64 {
-        self.start + (self.end - self.start) * (f64::from(draw) / 2f64.powi(32))
+    /// Exact for 0.75..1.25: the value is (3 * 2^31 + draw) / 2^33. No draw is passed over.
+    fn sample<R: Rng + ?Sized>(self, rng: &mut R) -> f64 {
+        self.start + (self.end - self.start) * (f64::from(rng.next_u32()) / 2f64.powi(32))
     }
 }
 
 pub trait RngExt: Rng {
     fn random_range<T, S: SampleRange<T>>(&mut self, range: S) -> T {
-        range.sample(self.next_u32())
+        range.sample(self)
     }
 }
 
@@ -71,7 +79,7 @@ pub mod seq {
     use crate::{Rng, RngExt};
 
     pub trait IteratorRandom: Iterator + Sized {
-        /// One of n items: none if n = 0, else one draw d, item d mod n.
+        /// One of n items: none if n = 0, else item d mod n, where d is the first draw kept.
         fn choose<R: Rng + ?Sized>(self, rng: &mut R) -> Option<Self::Item> {
             let mut items: Vec<_> = self.collect();
             if items.is_empty() {
@@ -89,7 +97,7 @@ pub mod seq {
     }
 
     impl<T> SliceRandom for [T] {
-        /// For i from n - 1 down to 1, swap places i and (draw mod (i + 1)).
+        /// For i from n - 1 down to 1, swap places i and (d mod (i + 1)), where d is the first draw kept for i + 1.
         fn shuffle<R: Rng + ?Sized>(&mut self, rng: &mut R) {
             for i in (1..self.len()).rev() {
                 self.swap(i, rng.random_range(0..i + 1));
