@@ -224,7 +224,7 @@ struct hyparview_tally {
  * requests, BOOTSTRAP the peers last asked to join through, RECENT the last neighbours, JOINS the joins to be sent once
  * more, DATA what is known of other peers. docs/FORMAT.md has the rules of each. */
 
-/* From here to the line with "end" by tools/words_fields.py. */
+/* From here to the line with "end" by tools/layout.py. */
 #define HYPARVIEW_WORD_ME 0
 #define HYPARVIEW_WORD_OWN_PRESENT 1
 #define HYPARVIEW_WORD_OWN_LEN 2

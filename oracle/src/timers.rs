@@ -1,4 +1,4 @@
-//! util.rs's `TimerMap` behind the calls of 02's S-1: the answers that crates/timer_test must print.
+//! util.rs's `TimerMap` behind the calls of 02's S-1: the answers that crates/test_timer must print.
 //!
 //! A call is six 64-bit words: what, time or limit, delay, kind, peer, number. The Rust's queue has no
 //! limits; 02's answers 3, 12 and 11 are given here, before it is asked.

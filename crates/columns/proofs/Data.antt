@@ -20,17 +20,16 @@ use Rattle.lists.specs.Bytes.{le}
 use Rattle.lists.proofs.Places.{cut-missing}
 use Rattle.lists.proofs.Array.{length-pad, set-pad, length-shift-remove, length-insert-at}
 use Rattle.lists.proofs.Entries.{Entries, entries-keys, entries-length, entries-taken, entries-has, entries-found, entries-none, entries-each, entries-room, entries-cut, entries-cut-none, entries-replace, entries-insert}
-use Rattle.peer.specs.declared.DataEntry.{DataEntry}
 use Rattle.peer.specs.declared.PeerData.{PeerData}
 use Rattle.peer.specs.Data.{bytes-of}
 use Rattle.peer.specs.Held.{data-in, ValidData, HoldsData}
-use Rattle.peer.specs.Maps.{no-data, entry-bytes, ValidEntry}
+use Rattle.peer.specs.Maps.{DataEntry, no-data, entry-bytes, ValidEntry}
 use Rattle.peer.proofs.Data.{bytes-in, holds-some}
 use Rattle.peer.proofs.Maps.{unread, length-entry}
-use Rattle.section.specs.Section.{part, Filled}
+use Rattle.util.specs.Section.{part, Filled}
 use Rattle.columns.specs.Columns.{Two, word-bytes, row, rows, head-of, tail-of, count-of, entries-at, data-at, ValidDataWords, HoldsDataWords}
-use Rattle.section.proofs.Columns.{filled-of, filled-length}
-use Rattle.section.proofs.Parts.{part-long, part-set-after, part-set-in, part-set-before}
+use Rattle.util.proofs.Columns.{filled-of, filled-length}
+use Rattle.util.proofs.Parts.{part-long, part-set-after, part-set-in, part-set-before}
 use Rattle.columns.proofs.Numbers.{Stored, twice-long, both-stored, once-second}
 use Rattle.columns.proofs.Rows.{take-rows, length-rows, pad-rows, shift-rows, insert-rows, set-rows, getD-rows}
 

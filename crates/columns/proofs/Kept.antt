@@ -16,8 +16,8 @@ use Rattle.lists.proofs.Choice.{by-test, and-left, and-right, clash}
 use Rattle.lists.proofs.Count.{length-without, count-at}
 use Rattle.lists.proofs.Maps.{length-keys, keys-cut, retain-cut, retain-all}
 use Rattle.lists.proofs.Tests.{both-true}
-use Rattle.section.specs.Section.{part, items-at, ValidSet, HoldsSet}
-use Rattle.section.proofs.Sets.{lent}
+use Rattle.util.specs.Section.{part, items-at, ValidSet, HoldsSet}
+use Rattle.util.proofs.Sets.{lent}
 use Rattle.columns.specs.Columns.{head-of, count-of, data-at, ValidDataWords, HoldsDataWords}
 use Rattle.columns.proofs.Data.{data-keys}
 

@@ -24,8 +24,8 @@ use Rattle.peer.specs.Maps.{number-in}
 use Rattle.peer.specs.declared.Number.the-variants.{Absent, Is}
 use Rattle.peer.proofs.Maps.{itself, Any, all-any, map-itself}
 use Rattle.scan.specs.Words.{unused}
-use Rattle.section.specs.Section.{part, Filled}
-use Rattle.section.proofs.Parts.{part-long, part-put, part-before, part-set-after, part-set-in, put-long, first-put-long, after-first}
+use Rattle.util.specs.Section.{part, Filled}
+use Rattle.util.proofs.Parts.{part-long, part-put, part-before, part-set-after, part-set-in, put-long, first-put-long, after-first}
 use Rattle.columns.specs.Columns.{Two, numbers-at, ValidNumbers, HoldsNumbers, valid-numbers, numbers-section}
 
 -- ---- a map of numbers

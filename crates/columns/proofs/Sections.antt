@@ -17,9 +17,9 @@ use Rattle.lists.proofs.Array.{length-pad, getD-pad}
 use Rattle.lists.proofs.Entries.{Entries, entries-of, entries-keys, entries-values}
 use Rattle.peer.specs.Maps.{no-data, entry-bytes, ValidEntry}
 use Rattle.peer.proofs.Maps.{itself, Any, map-itself, length-entry}
-use Rattle.section.specs.Section.{part, HoldsSet}
-use Rattle.section.proofs.Parts.{part-long}
-use Rattle.section.proofs.Sets.{set-as}
+use Rattle.util.specs.Section.{part, HoldsSet}
+use Rattle.util.proofs.Parts.{part-long}
+use Rattle.util.proofs.Sets.{set-as}
 use Rattle.columns.specs.Columns.{Two, row, rows, head-of, tail-of, count-of, numbers-at, ValidNumbers, HoldsNumbers, numbers-section, data-at, ValidDataWords, HoldsDataWords, low-word, high-word, data-section}
 use Rattle.columns.proofs.Numbers.{Stored, number-entries, number-held, number-keys}
 use Rattle.columns.proofs.Data.{filled-to, head-long, tail-long, keys-long, lens-long, lows-long, highs-long, taken-rows, lows-like, highs-like, data-entries, data-held}

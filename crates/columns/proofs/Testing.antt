@@ -18,13 +18,12 @@ use Rattle.lists.proofs.Zip.{keys-zip}
 use Rattle.lists.specs.Tests.{every, packed}
 use Rattle.lists.proofs.Rest.{Rest}
 use Rattle.lists.proofs.Tests.{Every, every-first, every-stop, every-go, every-end, every-true, true-every, both-true, rising-true, true-rising, packed-true, true-packed}
-use Rattle.peer.specs.declared.DataEntry.{DataEntry}
-use Rattle.peer.specs.Maps.{valid-entry, entry-bytes, ValidEntry}
+use Rattle.peer.specs.Maps.{DataEntry, valid-entry, entry-bytes, ValidEntry}
 use Rattle.scan.specs.Words.{unused}
 use Rattle.peer.proofs.Maps.{unread, valid-entry-true, true-valid-entry}
-use Rattle.section.specs.Section.{part, Filled}
+use Rattle.util.specs.Section.{part, Filled}
 use Rattle.columns.specs.Columns.{row, rows, head-of, tail-of, count-of, entries-at, data-at, ValidDataWords, valid-data-words}
-use Rattle.section.proofs.Parts.{part-long}
+use Rattle.util.proofs.Parts.{part-long}
 use Rattle.columns.proofs.Rows.{length-rows, getD-rows}
 use Rattle.columns.proofs.Data.{head-long, tail-long, keys-long, lens-long, lows-long, highs-long, head-read, low-read, high-read}
 

@@ -9,8 +9,8 @@ use borrow.Rule.Slice.PartMut.{putMid}
 use Rattle.lists.specs.Array.{pad}
 use Rattle.lists.specs.Lists.{shift-remove, insert-at}
 use Rattle.lists.proofs.Array.{length-pad}
-use Rattle.section.specs.Section.{part, Filled}
-use Rattle.section.proofs.Parts.{part-long, part-put, part-before, put-long, first-put-long, after-first}
+use Rattle.util.specs.Section.{part, Filled}
+use Rattle.util.proofs.Parts.{part-long, part-put, part-before, put-long, first-put-long, after-first}
 use Rattle.columns.specs.Columns.{Two}
 
 module _ (n : ℕ) (s ys xs : List ℕ) (l : length s ≡ n + n) (o : ys ≡ pad 0 (length (part 0 n s)) xs) where

@@ -11,12 +11,11 @@ use Rattle.lists.specs.Lists.{Rising, rising}
 use Rattle.lists.specs.Maps.{keys, values, zip}
 use Rattle.lists.specs.Tests.{All, every, packed}
 use Rattle.lists.specs.Bytes.{le, read-le}
-use Rattle.peer.specs.declared.DataEntry.{DataEntry}
 use Rattle.peer.specs.Data.{Node}
 use Rattle.peer.specs.Held.{data-in}
-use Rattle.peer.specs.Maps.{entry-bytes, ValidEntry, valid-entry}
+use Rattle.peer.specs.Maps.{DataEntry, entry-bytes, ValidEntry, valid-entry}
 use Rattle.scan.specs.Words.{unused}
-use Rattle.section.specs.Section.{part, Filled}
+use Rattle.util.specs.Section.{part, Filled}
 use Rattle.columns.specs.declared.PeerInfo.{PeerInfo}
 
 -- the peer with its data that i stands for (the Rust's PeerInfo)

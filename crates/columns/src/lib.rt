@@ -1,7 +1,7 @@
 // Maps by peer as sections of one lent list of 64-bit words: columns of `cap` places in rising order of the peers, and then the count of those in use.
 use peer::Number;
 use peer::PeerData;
-use section::PeerId;
+use util::PeerId;
 ghost use mathlib.Core.Path.{_≡_};
 ghost use mathlib.Core.Bool.{true, _||_, _&&_};
 ghost use mathlib.Core.List.{[], _++_};
@@ -16,7 +16,7 @@ ghost use Rattle.peer.specs.Data.{bytes-of, holds};
 ghost use Rattle.peer.specs.Held.{data-in, ValidData, HoldsData};
 ghost use Rattle.peer.specs.Maps.{number-in, valid-entry};
 ghost use Rattle.scan.specs.Words.{unused};
-ghost use Rattle.section.specs.Section.{part, Filled, items-at, ValidSet, HoldsSet};
+ghost use Rattle.util.specs.Section.{part, Filled, items-at, ValidSet, HoldsSet};
 ghost use Rattle.columns.specs.Columns.{numbers-at, ValidNumbers, HoldsNumbers, valid-numbers, Two, word-bytes, row, entries-at, data-at, ValidDataWords, HoldsDataWords, valid-data-words};
 
 // A peer with its data.
@@ -36,8 +36,8 @@ pub fn out_two(s: &mut [u64], cap: usize, n: usize, i: usize)
     ensures { λ _. ⌜ Two cap (now (s .exit)) (shift-remove i (take n (part 0 cap (now (s .entry))))) (shift-remove i (take n (part cap cap (now (s .entry))))) ⌝ }
 {
     let end = cap + cap;
-    section::take_out(&mut s[..cap], n, i);
-    section::take_out(&mut s[cap..end], n, i);
+    util::take_out(&mut s[..cap], n, i);
+    util::take_out(&mut s[cap..end], n, i);
 }
 
 // With x and y at place i.
@@ -50,8 +50,8 @@ pub fn in_two(s: &mut [u64], cap: usize, n: usize, i: usize, x: u64, y: u64)
     ensures { λ _. ⌜ Two cap (now (s .exit)) (insert-at i x (take n (part 0 cap (now (s .entry))))) (insert-at i y (take n (part cap cap (now (s .entry))))) ⌝ }
 {
     let end = cap + cap;
-    section::put_in(&mut s[..cap], n, i, x);
-    section::put_in(&mut s[cap..end], n, i, y);
+    util::put_in(&mut s[..cap], n, i, x);
+    util::put_in(&mut s[cap..end], n, i, y);
 }
 
 // Whether the places from n on of both columns are zero.
@@ -61,8 +61,8 @@ pub fn zero_two(s: &[u64], cap: usize, n: usize) -> bool
     ensures { λ r. ⌜ r ≡ (packed unused cap n (part 0 cap (now (s .entry))) && packed unused cap n (part cap cap (now (s .entry)))) ⌝ }
 {
     let end = cap + cap;
-    if section::zero_from(&s[..cap], n) {
-        return section::zero_from(&s[cap..end], n);
+    if util::zero_from(&s[..cap], n) {
+        return util::zero_from(&s[cap..end], n);
     }
     false
 }
@@ -143,7 +143,7 @@ pub fn contains_number(m: &[u64], cap: usize, p: PeerId) -> bool
 {
     let end = cap + cap;
     let n = m[end] as usize;
-    let i = section::find(&m[..cap], n, p);
+    let i = util::find(&m[..cap], n, p);
     i < n
 }
 
@@ -153,7 +153,7 @@ pub fn get_number(m: &[u64], cap: usize, p: PeerId) -> Number
 {
     let end = cap + cap;
     let n = m[end] as usize;
-    let i = section::find(&m[..cap], n, p);
+    let i = util::find(&m[..cap], n, p);
     if i < n {
         return Number::Is(m[cap + i]);
     }
@@ -166,12 +166,12 @@ pub fn remove_number(m: &mut [u64], cap: usize, p: PeerId)
 {
     let end = cap + cap;
     let n = m[end] as usize;
-    let i = section::find(&m[..cap], n, p);
+    let i = util::find(&m[..cap], n, p);
     if i >= n {
         return;
     }
-    section::take_out(&mut m[..cap], n, i);
-    section::take_out(&mut m[cap..end], n, i);
+    util::take_out(&mut m[..cap], n, i);
+    util::take_out(&mut m[cap..end], n, i);
     m[end] = (n - 1) as u64;
 }
 
@@ -182,14 +182,14 @@ pub fn insert_number(m: &mut [u64], cap: usize, p: PeerId, x: u64)
 {
     let end = cap + cap;
     let n = m[end] as usize;
-    let i = section::find(&m[..cap], n, p);
+    let i = util::find(&m[..cap], n, p);
     if i < n {
         m[cap + i] = x;
         return;
     }
-    let at = section::rank_of(&m[..cap], n, p);
-    section::put_in(&mut m[..cap], n, at, p);
-    section::put_in(&mut m[cap..end], n, at, x);
+    let at = util::rank_of(&m[..cap], n, p);
+    util::put_in(&mut m[..cap], n, at, p);
+    util::put_in(&mut m[cap..end], n, at, x);
     m[end] = (n + 1) as u64;
 }
 
@@ -198,7 +198,7 @@ pub fn clear_numbers(m: &mut [u64], cap: usize)
     requires { ⌜ length (now m) ≡ cap + cap + 1 ⌝ }
     ensures { λ _. ⌜ HoldsNumbers cap (now (m .exit)) [] ⌝ }
 {
-    section::clear_from(m, 0);
+    util::clear_from(m, 0);
 }
 
 // The peers that have a number, as a working set.
@@ -210,7 +210,7 @@ pub fn keys_into(m: &[u64], cap: usize, t: &mut [u64])
 {
     let end = cap + cap;
     let n = m[end] as usize;
-    section::copy_column(&m[..cap], n, t);
+    util::copy_column(&m[..cap], n, t);
 }
 
 // Whether this is a map, of any words.
@@ -223,9 +223,9 @@ pub fn numbers_valid(m: &[u64], cap: usize) -> bool
     if n > cap {
         return false;
     }
-    if section::zero_from(&m[..cap], n) {
-        if section::zero_from(&m[cap..end], n) {
-            return section::rises(&m[..cap], n);
+    if util::zero_from(&m[..cap], n) {
+        if util::zero_from(&m[cap..end], n) {
+            return util::rises(&m[..cap], n);
         }
     }
     false
@@ -249,7 +249,7 @@ pub fn contains_data(m: &[u64], cap: usize, p: PeerId) -> bool
     let half = cap + cap;
     let end = half + half;
     let n = m[end] as usize;
-    let i = section::find(&m[..half], n, p);
+    let i = util::find(&m[..half], n, p);
     i < n
 }
 
@@ -260,7 +260,7 @@ pub fn get_data(m: &[u64], cap: usize, p: PeerId) -> PeerData
     let half = cap + cap;
     let end = half + half;
     let n = m[end] as usize;
-    let i = section::find(&m[..half], n, p);
+    let i = util::find(&m[..half], n, p);
     if i < n {
         let bytes = bytes_of(m[half + i], m[half + cap + i]);
         let len = m[cap + i] as u8;
@@ -282,7 +282,7 @@ pub fn holds_data(m: &[u64], cap: usize, p: PeerId, d: PeerData) -> bool
     let half = cap + cap;
     let end = half + half;
     let n = m[end] as usize;
-    let i = section::find(&m[..half], n, p);
+    let i = util::find(&m[..half], n, p);
     if i >= n {
         return false;
     }
@@ -305,7 +305,7 @@ pub fn remove_data(m: &mut [u64], cap: usize, p: PeerId)
     let half = cap + cap;
     let end = half + half;
     let n = m[end] as usize;
-    let i = section::find(&m[..half], n, p);
+    let i = util::find(&m[..half], n, p);
     if i >= n {
         return;
     }
@@ -331,10 +331,10 @@ pub fn data_peers(active: &[u64], passive: &[u64], requests: &[u64], v: &mut [u6
 {
     let mut asked = [0u64; 33];
     keys_into(requests, ALL, &mut asked);
-    section::clear(v, KNOWN);
-    section::append(v, KNOWN, active, FEW);
-    section::append(v, KNOWN, passive, ALL);
-    section::append(v, KNOWN, &asked, ALL);
+    util::clear(v, KNOWN);
+    util::append(v, KNOWN, active, FEW);
+    util::append(v, KNOWN, passive, ALL);
+    util::append(v, KNOWN, &asked, ALL);
 }
 
 // Whether every peer of the map is in the set.
@@ -363,7 +363,7 @@ pub fn retain_data(m: &mut [u64], cap: usize, s: &[u64], scap: usize)
     let mut i: usize = 0;
     while i < n {
         let p = m[i];
-        if section::contains(s, scap, p) {
+        if util::contains(s, scap, p) {
             i += 1;
         } else {
             remove_data(m, cap, p);
@@ -385,14 +385,14 @@ pub fn insert_data(m: &mut [u64], cap: usize, p: PeerId, d: PeerData)
     let b = d.bytes;
     let low = word_at(b, 0);
     let high = word_at(b, 8);
-    let i = section::find(&m[..half], n, p);
+    let i = util::find(&m[..half], n, p);
     if i < n {
         m[cap + i] = d.len as u64;
         m[half + i] = low;
         m[half + cap + i] = high;
         return;
     }
-    let at = section::rank_of(&m[..half], n, p);
+    let at = util::rank_of(&m[..half], n, p);
     in_two(&mut m[..half], cap, n, at, p, d.len as u64);
     in_two(&mut m[half..end], cap, n, at, low, high);
     m[end] = (n + 1) as u64;
@@ -403,7 +403,7 @@ pub fn clear_data(m: &mut [u64], cap: usize)
     requires { ⌜ length (now m) ≡ cap + cap + (cap + cap) + 1 ⌝ }
     ensures { λ _. ⌜ HoldsDataWords cap (now (m .exit)) [] ⌝ }
 {
-    section::clear_from(m, 0);
+    util::clear_from(m, 0);
 }
 
 // One more than the greatest number of k bytes.
@@ -462,7 +462,7 @@ pub fn data_valid(m: &[u64], cap: usize) -> bool
     if zero_two(&m[..half], cap, n) {
         if zero_two(&m[half..end], cap, n) {
             if rows_valid(m, cap, n) {
-                return section::rises(&m[..half], n);
+                return util::rises(&m[..half], n);
             }
         }
     }

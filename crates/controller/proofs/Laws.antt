@@ -11,9 +11,9 @@ use Rattle.peer.specs.Data.{Data}
 use Rattle.tally.specs.declared.Tally.{Tally}
 use Rattle.tally.specs.Counts.{raised}
 use Rattle.tally.specs.History.{no-messages}
-use Rattle.queries_words.specs.Made.{Made, made}
-use Rattle.hyparview_words.specs.Handled.{Outcome, handled}
-use Rattle.hyparview_words.proofs.Kept.{handled-refused}
+use Rattle.hyparview.specs.Made.{Made, made}
+use Rattle.hyparview.specs.Handled.{Outcome, handled}
+use Rattle.hyparview.proofs.Kept.{handled-refused}
 use Rattle.controller.specs.Calls.{with-tally, begun, counted, called}
 
 module _ (xs : List ℕ) (t : Tally) (me : ℕ) (d : Data) (c : Config) (code : ℕ) (ys : List ℕ) (is : record { code = code; words = ys } ≡ made xs me d c) where

@@ -9,8 +9,8 @@ use Rattle.peer.specs.Data.{Data}
 use Rattle.tally.specs.declared.Tally.{Tally}
 use Rattle.tally.specs.Counts.{raised}
 use Rattle.tally.specs.History.{no-messages}
-use Rattle.queries_words.specs.Made.{Made, made}
-use Rattle.hyparview_words.specs.Handled.{Outcome, handled}
+use Rattle.hyparview.specs.Made.{Made, made}
+use Rattle.hyparview.specs.Handled.{Outcome, handled}
 
 -- what `hyparview_new` hands back, and the words and the tally as it leaves them
 pub record Begun : Type 0 where

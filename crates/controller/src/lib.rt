@@ -1,17 +1,17 @@
 // The library for a controller: what C or Rust calls, over memory that the caller owns.
-use hyparview_words::Done;
+use hyparview::Done;
 use record::Entry;
 use record::Header;
-use section::PeerId;
 use tally::Tally;
 use timing::Config;
+use util::PeerId;
 ghost use mathlib.Core.Path.{_≡_};
 ghost use mathlib.Core.Bool.{not};
 ghost use lib.ListN.{length, getD};
 ghost use lib.Dec.{eqb};
 ghost use Rattle.tally.specs.History.{no-messages};
-ghost use Rattle.queries_words.specs.Made.{lent};
-ghost use Rattle.queries_words.specs.Queries.{wants-connection-in, is-neighbor-in, neighbors-in, spare-addresses-in};
+ghost use Rattle.hyparview.specs.Made.{lent};
+ghost use Rattle.hyparview.specs.Queries.{wants-connection-in, is-neighbor-in, neighbors-in, spare-addresses-in};
 ghost use Rattle.controller.specs.Calls.{begun, called};
 ghost use Rattle.controller.specs.Reader.{no-header, reading, no-entry, node-reading};
 
@@ -46,7 +46,7 @@ pub extern "C" fn hyparview_handle(
 ) -> Done
     ensures { λ r. ⌜ record { code = r .code; draws = r .draws; words = now (st .exit); tally = now (t .exit); output = now (out .exit) } ≡ called (now (st .entry)) (now (t .entry)) (now (event .entry)) (now (draws .entry)) (length (now (out .entry))) ⌝ }
 {
-    let r = hyparview_words::handle(st, event, draws, out);
+    let r = hyparview::handle(st, event, draws, out);
     tally::raise(t, r.code, out);
     r
 }
@@ -68,7 +68,7 @@ fn no_messages() -> Tally
 fn begin(st: &mut [u64], t: Tally, me: u32, present: u8, own: &[u8], config: Config) -> Start
     ensures { λ r. ⌜ record { code = r .code; words = now (st .exit); tally = r .tally } ≡ begun (now (st .entry)) t me (lent (not (eqb present 0)) (now (own .entry))) config ⌝ }
 {
-    let code = queries_words::new(st, me, present != 0, own, config);
+    let code = hyparview::new(st, me, present != 0, own, config);
     if code == 2 {
         return Start {
             code: code,
@@ -103,7 +103,7 @@ pub extern "C" fn hyparview_new(
 pub extern "C" fn hyparview_wants_connection(st: &[u64], p: PeerId) -> bool
     ensures { λ r. ⌜ r ≡ wants-connection-in p (now (st .entry)) ⌝ }
 {
-    queries_words::wants_connection(st, p)
+    hyparview::wants_connection(st, p)
 }
 
 // Whether the peer is a neighbor.
@@ -111,7 +111,7 @@ pub extern "C" fn hyparview_wants_connection(st: &[u64], p: PeerId) -> bool
 pub extern "C" fn hyparview_is_neighbor(st: &[u64], p: PeerId) -> bool
     ensures { λ r. ⌜ r ≡ is-neighbor-in p (now (st .entry)) ⌝ }
 {
-    queries_words::is_neighbor(st, p)
+    hyparview::is_neighbor(st, p)
 }
 
 // How many neighbors there are.
@@ -119,7 +119,7 @@ pub extern "C" fn hyparview_is_neighbor(st: &[u64], p: PeerId) -> bool
 pub extern "C" fn hyparview_neighbor_count(st: &[u64]) -> usize
     ensures { λ r. ⌜ r ≡ length (neighbors-in (now (st .entry))) ⌝ }
 {
-    queries_words::neighbor_count(st)
+    hyparview::neighbor_count(st)
 }
 
 // The neighbor at place i, in order, and 0 past the last.
@@ -127,7 +127,7 @@ pub extern "C" fn hyparview_neighbor_count(st: &[u64]) -> usize
 pub extern "C" fn hyparview_neighbor(st: &[u64], i: usize) -> PeerId
     ensures { λ r. ⌜ r ≡ getD (neighbors-in (now (st .entry))) i 0 ⌝ }
 {
-    queries_words::neighbor(st, i)
+    hyparview::neighbor(st, i)
 }
 
 // How many spare addresses there are.
@@ -135,7 +135,7 @@ pub extern "C" fn hyparview_neighbor(st: &[u64], i: usize) -> PeerId
 pub extern "C" fn hyparview_spare_addresses(st: &[u64]) -> usize
     ensures { λ r. ⌜ r ≡ spare-addresses-in (now (st .entry)) ⌝ }
 {
-    queries_words::spare_addresses(st)
+    hyparview::spare_addresses(st)
 }
 
 fn no_header() -> Header

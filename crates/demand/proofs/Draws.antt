@@ -13,8 +13,8 @@ use Rattle.protocol.specs.Rules.{station-ok}
 use Rattle.protocol.specs.Run.{notice}
 use Rattle.protocol.specs.Traced.{traced}
 use Rattle.history.specs.Calls.{Call, answer, answered, code-of}
-use Rattle.rules_words.specs.Pack.{pack}
-use Rattle.hyparview_words.specs.Handled.{Outcome, packed-answer}
+use Rattle.rules.specs.Pack.{pack}
+use Rattle.hyparview.specs.Handled.{Outcome, packed-answer}
 use Rattle.demand.specs.Program.{program}
 use Rattle.demand.proofs.Program.{answers-packed}
 

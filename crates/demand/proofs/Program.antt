@@ -30,18 +30,18 @@ use Rattle.history.proofs.Packing.{demand-packed, rejoin-packed, outputs-packed
 use Rattle.tally.proofs.History.{counts-all}
 use Rattle.shuffle_times.specs.Claims.{Timed}
 use Rattle.shuffle_times.proofs.Packed.{timed-packed}
-use Rattle.words.specs.Layout.{words}
-use Rattle.words.specs.Unpack.{unpack}
-use Rattle.rules_words.specs.Pack.{pack}
-use Rattle.rules_words.specs.Ok.{packed-ok, state-ok}
-use Rattle.rules_words.proofs.Fitting.{ok-unpacked, pack-ok}
-use Rattle.queries_words.specs.Made.{Made, lent, pack-made}
-use Rattle.queries_words.specs.Made as lending
-use Rattle.queries_words.proofs.Making.{zero-words}
-use Rattle.hyparview_words.specs.declared.State.{State}
-use Rattle.hyparview_words.specs.Handled.{Outcome, packed-answer, handled}
-use Rattle.hyparview_words.specs.Handled as Handled
-use Rattle.hyparview_words.proofs.Opening.{handled-two}
+use Rattle.state.specs.Layout.{words}
+use Rattle.state.specs.Unpack.{unpack}
+use Rattle.rules.specs.Pack.{pack}
+use Rattle.rules.specs.Ok.{packed-ok, state-ok}
+use Rattle.rules.proofs.Fitting.{ok-unpacked, pack-ok}
+use Rattle.hyparview.specs.Made.{Made, lent, pack-made}
+use Rattle.hyparview.specs.Made as lending
+use Rattle.hyparview.proofs.Making.{zero-words}
+use Rattle.hyparview.specs.declared.State.{State}
+use Rattle.hyparview.specs.Handled.{Outcome, packed-answer, handled}
+use Rattle.hyparview.specs.Handled as Handled
+use Rattle.hyparview.proofs.Opening.{handled-two}
 use Rattle.demand.specs.Program as D
 use Rattle.demand.specs.Program.{made, outcome, program, made-state, value-program, unpack-state, state-passes}
 

@@ -20,14 +20,14 @@ use Rattle.history.specs.Outputs.{OutputsRead}
 use Rattle.history.specs.Rejoin.{ticks, Promised}
 use Rattle.tally.specs.History.{CountsAll}
 use Rattle.shuffle_times.specs.Claims.{Timed}
-use Rattle.words.specs.Layout.{words}
-use Rattle.words.specs.Unpack.{unpack}
-use Rattle.rules_words.specs.Ok.{state-ok}
-use Rattle.queries_words.specs.Made.{Made, lent, pack-made}
-use Rattle.queries_words.specs.Made as lending
-use Rattle.hyparview_words.specs.declared.State.{State}
-use Rattle.hyparview_words.specs.declared.Made as by-value
-use Rattle.hyparview_words.specs.Handled.{Outcome, handled}
+use Rattle.state.specs.Layout.{words}
+use Rattle.state.specs.Unpack.{unpack}
+use Rattle.rules.specs.Ok.{state-ok}
+use Rattle.hyparview.specs.Made.{Made, lent, pack-made}
+use Rattle.hyparview.specs.Made as lending
+use Rattle.hyparview.specs.declared.State.{State}
+use Rattle.hyparview.specs.declared.Made as by-value
+use Rattle.hyparview.specs.Handled.{Outcome, handled}
 
 -- what `new` answers, and the words xs that it was lent as it leaves them
 unfoldable pub made : List ℕ → ℕ → Bool → List ℕ → Config → Made

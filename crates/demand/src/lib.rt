@@ -1,8 +1,8 @@
 // The program's `new` and `handle` under the names that demand 3 speaks of: a contract of theirs that said less would not prove these.
-use hyparview_words::Answer;
-use hyparview_words::Done;
-use hyparview_words::Made;
-use hyparview_words::State;
+use hyparview::Answer;
+use hyparview::Done;
+use hyparview::Made;
+use hyparview::State;
 use timing::Config;
 ghost use mathlib.Core.Path.{_≡_};
 ghost use Rattle.demand.specs.Program.{made, outcome, made-state};
@@ -10,13 +10,13 @@ ghost use Rattle.demand.specs.Program.{made, outcome, made-state};
 pub fn new(st: &mut [u64], me: u32, present: bool, own: &[u8], config: Config) -> u32
     ensures { λ r. ⌜ record { code = r; words = now (st .exit) } ≡ made (now (st .entry)) me present (now (own .entry)) config ⌝ }
 {
-    queries_words::new(st, me, present, own, config)
+    hyparview::new(st, me, present, own, config)
 }
 
 pub fn handle(st: &mut [u64], b: &[u8], draws: &[u32], out: &mut [u8]) -> Done
     ensures { λ r. ⌜ record { code = r .code; draws = r .draws; words = now (st .exit); output = now (out .exit) } ≡ outcome (now (b .entry)) (now (draws .entry)) (now (out .entry)) (now (st .entry)) ⌝ }
 {
-    hyparview_words::handle(st, b, draws, out)
+    hyparview::handle(st, b, draws, out)
 }
 
 // The same by value.

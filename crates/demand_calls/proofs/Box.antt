@@ -22,8 +22,8 @@ use Rattle.tally.specs.Sum.{total}
 use Rattle.tally.specs.History.{no-messages, tally-after}
 use Rattle.shuffle_times.specs.Histories.{Brought, set-by, shuffles-due, counts, start-of, fires, is-first, on-time}
 use Rattle.shuffle_times.proofs.Carried.{timed-carried}
-use Rattle.words.specs.Unpack.{unpack}
-use Rattle.rules_words.specs.Ok.{state-ok}
+use Rattle.state.specs.Unpack.{unpack}
+use Rattle.rules.specs.Ok.{state-ok}
 use Rattle.controller.specs.Calls.{with-tally, begun, counted, called}
 use Rattle.demand.specs.Program as D
 use Rattle.demand.specs.Program.{program}

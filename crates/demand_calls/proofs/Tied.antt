@@ -15,7 +15,7 @@ use contract.Notation.{connectives}
 use denote.Ref.{RefT, now}
 use Rattle.timing.specs.declared.Config.{Config}
 use Rattle.tally.specs.declared.Tally.{Tally}
-use Rattle.hyparview_words.specs.declared.Done.{Done}
+use Rattle.hyparview.specs.declared.Done.{Done}
 use Rattle.controller.proofs.hyparview_new as new
 use Rattle.controller.proofs.hyparview_handle as handle
 use Rattle.demand_calls.specs.Box.{Box, made, outcome}

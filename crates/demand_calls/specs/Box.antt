@@ -19,10 +19,10 @@ use Rattle.tally.specs.Counts.{top}
 use Rattle.tally.specs.Sum.{total}
 use Rattle.tally.specs.History.{no-messages}
 use Rattle.shuffle_times.specs.Claims.{Timed}
-use Rattle.words.specs.Layout.{words}
-use Rattle.words.specs.Unpack.{unpack}
-use Rattle.rules_words.specs.Ok.{state-ok}
-use Rattle.queries_words.specs.Made.{lent}
+use Rattle.state.specs.Layout.{words}
+use Rattle.state.specs.Unpack.{unpack}
+use Rattle.rules.specs.Ok.{state-ok}
+use Rattle.hyparview.specs.Made.{lent}
 use Rattle.controller.specs.Calls.{Begun, begun, Called, called}
 use Rattle.demand.specs.Program.{Typed, Suffices, Goes-on}
 

@@ -12,8 +12,8 @@ use Rattle.lists.specs.Lists.{choose}
 use Rattle.lists.proofs.Choice.{by-choice}
 use Rattle.histories.specs.Histories.{places, each, of-length, up-to}
 use Rattle.histories.proofs.Once.{how-many as histories-in-all}
-use Rattle.queries_words.specs.Queries.{neighbors-in, spare-addresses-in}
-use Rattle.hyparview_words.specs.declared.State.{State}
+use Rattle.hyparview.specs.Queries.{neighbors-in, spare-addresses-in}
+use Rattle.hyparview.specs.declared.State.{State}
 use Rattle.endings.specs.declared.Ends.{Ends}
 use Rattle.endings.specs.Ends.{Sizes, how-many, counts}
 use Rattle.endings.specs.Steps.{first-state, played, after-in, sizes-in, plus, Room}

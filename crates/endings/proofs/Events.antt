@@ -22,13 +22,13 @@ use Rattle.peer.specs.declared.PeerData.{PeerData}
 use Rattle.columns.specs.Columns.{node-in}
 use Rattle.record.specs.Format.{Rec, datas, size, encode}
 use Rattle.record.proofs.Format.{length-encode}
-use Rattle.writer64.specs.Write.{rec-in, fits, written, reached, Wrote}
-use Rattle.writer64.specs.declared.Written.{Written}
-use Rattle.writer64.specs.declared.Written.the-variants.{At, Full}
-use Rattle.hyparview_words.specs.declared.State.{State}
-use Rattle.hyparview_words.specs.declared.Made.{Made}
-use Rattle.hyparview_words.specs.declared.Answer.{Answer}
-use Rattle.hyparview_words.specs.Handled.{Outcome}
+use Rattle.writer.specs.Write.{rec-in, fits, written, reached, Wrote}
+use Rattle.writer.specs.declared.Written.{Written}
+use Rattle.writer.specs.declared.Written.the-variants.{At, Full}
+use Rattle.hyparview.specs.declared.State.{State}
+use Rattle.hyparview.specs.declared.Made.{Made}
+use Rattle.hyparview.specs.declared.Answer.{Answer}
+use Rattle.hyparview.specs.Handled.{Outcome}
 use Rattle.demand.specs.Program.{outcome, made-state}
 use Rattle.endings.specs.Events.{no-data, event, of-peer, maintenance, quit, events, event-at, tiny, draws, output}
 use Rattle.endings.specs.Steps.{first-state, played}

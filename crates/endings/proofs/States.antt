@@ -23,13 +23,13 @@ use Rattle.protocol.specs.Handle.{new}
 use Rattle.history.specs.Calls.{Call, Given, state-after, definition, answered}
 use Rattle.history.specs.Demand.{Demand3}
 use Rattle.history.proofs.Kept.{demand-3}
-use Rattle.words.specs.Layout.{words}
-use Rattle.rules_words.specs.Pack.{pack}
-use Rattle.rules_words.proofs.Fitting.{ok-unpacked, pack-ok}
-use Rattle.queries_words.specs.Made.{lent, pack-made}
-use Rattle.queries_words.specs.Made as lending
-use Rattle.queries_words.specs.Queries.{neighbors-in, spare-addresses, spare-addresses-in}
-use Rattle.hyparview_words.specs.declared.State.{State}
+use Rattle.state.specs.Layout.{words}
+use Rattle.rules.specs.Pack.{pack}
+use Rattle.rules.proofs.Fitting.{ok-unpacked, pack-ok}
+use Rattle.hyparview.specs.Made.{lent, pack-made}
+use Rattle.hyparview.specs.Made as lending
+use Rattle.hyparview.specs.Queries.{neighbors-in, spare-addresses, spare-addresses-in}
+use Rattle.hyparview.specs.declared.State.{State}
 use Rattle.demand.specs.Program.{Typed, made, program, made-state}
 use Rattle.demand.proofs.Program.{states-same}
 use Rattle.endings.specs.declared.Ends.{Ends}

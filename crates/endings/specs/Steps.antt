@@ -5,8 +5,8 @@ use mathlib.Core.List.{List, [], _∷_}
 use mathlib.Core.Bool.{false}
 use lib.ListN.{length}
 use Rattle.record.specs.Format.{encode}
-use Rattle.queries_words.specs.Queries.{neighbors-in, spare-addresses-in}
-use Rattle.hyparview_words.specs.declared.State.{State}
+use Rattle.hyparview.specs.Queries.{neighbors-in, spare-addresses-in}
+use Rattle.hyparview.specs.declared.State.{State}
 use Rattle.demand.specs.Program.{outcome, made-state}
 use Rattle.endings.specs.declared.Ends.{Ends}
 use Rattle.endings.specs.Events.{event-at, tiny, draws, output}

@@ -1,12 +1,12 @@
 // Document 02, S-13: every history of at most four of sixteen events, and how many of them end with each size of the two views.
 use columns::PeerInfo;
-use hyparview_words::State;
+use hyparview::State;
 use peer::PeerData;
-use section::PeerId;
 use timing::Config;
 use timing::Timing;
-use writer64::Fields;
-use writer64::Written;
+use util::PeerId;
+use writer::Fields;
+use writer::Written;
 ghost use mathlib.Core.Path.{_≡_};
 ghost use mathlib.Core.List.{[], _∷_};
 ghost use Prim.Native.Nat.{_≤_, _<_};
@@ -14,7 +14,7 @@ ghost use lib.ListN.{length, getD, take};
 ghost use Rattle.lists.specs.Lists.{choose};
 ghost use Rattle.histories.specs.Histories.{of-length};
 ghost use Rattle.record.specs.Format.{encode};
-ghost use Rattle.writer64.specs.Write.{Wrote};
+ghost use Rattle.writer.specs.Write.{Wrote};
 ghost use Rattle.endings.specs.Events.{no-data, event, of-peer, quit, event-at};
 ghost use Rattle.endings.specs.Ends.{counts, all-ends};
 ghost use Rattle.endings.specs.Steps.{first-state, played, sizes-in, plus, Room};
@@ -40,7 +40,7 @@ fn put_bare(out: &mut [u8], kind: u8, message: u8, flags: u8, p: PeerId) -> Writ
         ttl: 0,
         number: 0,
     };
-    writer64::write_bare(out, 0, f)
+    writer::write_bare(out, 0, f)
 }
 
 // A message of a peer with one node, without data.
@@ -58,7 +58,7 @@ fn put_one(out: &mut [u8], message: u8, flags: u8, p: PeerId) -> Written
     };
     let none = PeerData::absent();
     let n = PeerInfo { id: 0, data: none };
-    writer64::write_one(out, 0, f, n)
+    writer::write_one(out, 0, f, n)
 }
 
 // The seven events of a peer, in the order of the request.
@@ -153,8 +153,8 @@ fn count(s: State, c: Ends) -> Ends
     ensures { λ r. ⌜ r ≡ plus c (counts (sizes-in s) ([] ∷ [])) ⌝ }
 {
     let words = s.words;
-    let active = queries_words::neighbor_count(&words);
-    let passive = queries_words::spare_addresses(&words);
+    let active = hyparview::neighbor_count(&words);
+    let passive = hyparview::spare_addresses(&words);
     Ends {
         neither: c.neither + one_if((active == 0) & (passive == 0)),
         passive: c.passive + one_if((active == 0) & (passive == 1)),

@@ -9,7 +9,7 @@ use lib.ListN.{length, getD}
 use lib.Dec.{eqb}
 use borrow.Author.Tests.{eqb-true, eqb-false, ne-eqb}
 use Rattle.lists.specs.Lists.{choose, is, count, mem, subset, Rising}
-use Rattle.lists.specs.Maps.{keys}
+use Rattle.lists.specs.Maps.{keys, Each}
 use Rattle.lists.specs.Tests.{All}
 use Rattle.lists.proofs.Choice.{by-choice, split, choose-yes, and-left, and-right, clash}
 use Rattle.lists.proofs.Count.{is-self, is-le, is-not, mem-true, mem-false}
@@ -23,7 +23,7 @@ use Rattle.record.specs.Walk.{kind-in, message-in}
 use Rattle.protocol.specs.Station.{Station}
 use Rattle.protocol.specs.Rules.{station-ok, short-data}
 use Rattle.protocol.specs.Handle.{Answer, Made, new, new-station, start, steps, refusal, accepted, finish, handle-reading, handle}
-use Rattle.protocol.proofs.Extra.{Each, mem-yes, mem-no, same-length}
+use Rattle.lists.proofs.Members.{mem-yes, mem-no, same-length}
 use Rattle.protocol.proofs.Law.{Lawful, Small}
 use Rattle.protocol.proofs.Told.{up-after, sent-after}
 use Rattle.protocol.proofs.Narrow.{Narrow}

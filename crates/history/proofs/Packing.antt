@@ -14,7 +14,7 @@ use Rattle.record.specs.Walk.{kind-in}
 use Rattle.protocol.specs.Station.{Station}
 use Rattle.protocol.specs.Rules.{station-ok, short-data}
 use Rattle.protocol.specs.Handle.{Made, new, new-station}
-use Rattle.protocol.proofs.Extra.{mem-no}
+use Rattle.lists.proofs.Members.{mem-no}
 use Rattle.protocol.proofs.Tested.{rules-of}
 use Rattle.history.specs.Ledger.{Ledger, empty-ledger, feed}
 use Rattle.history.specs.Calls.{Call, Given, narrow-draws, Machine, state-of, answer, state-after, codes, ledger-after, definition}

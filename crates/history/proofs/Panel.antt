@@ -22,7 +22,7 @@ use Rattle.protocol.specs.Run.{Run, guard, on, to-draw, one-of, draw-one-of, pi
 use Rattle.protocol.specs.Peers as P
 use Rattle.protocol.specs.Evictions.{listed, by-adding}
 use Rattle.protocol.specs.Handle.{new}
-use Rattle.protocol.proofs.Extra.{null-no}
+use Rattle.lists.proofs.Members.{null-no}
 use Rattle.protocol.proofs.Keeping.{one-of-station, emit-station, emit-fine, on-code}
 use Rattle.protocol.proofs.Entering.{on-same, same-after-info}
 use Rattle.history.specs.Calls.{Call, state-after, definition}

@@ -52,3 +52,9 @@ module _ {A : Type 0} where
   -- HashMap::insert
   unfoldable pub put : ℕ → A → List (ℕ × A) → List (ℕ × A)
   put k v m = choose (has k m) (replace k v m) (place-entry k v m)
+
+-- of every value of a map
+module _ {A : Type 0} (P : A → Type 0) where
+  unfoldable pub Each : List (ℕ × A) → Type 0
+  Each [] = Unit {0}
+  Each (e ∷ m) = P (e .1) × Each m

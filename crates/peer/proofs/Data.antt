@@ -15,24 +15,10 @@ use Rattle.lists.specs.Array.{pad}
 use Rattle.lists.specs.Tests.{packed}
 use Rattle.lists.proofs.Choice.{and-left, and-right, or-true, split, clash}
 use Rattle.lists.proofs.Array.{length-pad, take-pad}
-use Rattle.lists.proofs.Sets.{same-true, same-refl}
 use Rattle.lists.proofs.Tests.{both-true, packed-true, true-packed}
-use Rattle.peer.specs.Data.{Data, bytes-of, holds, equal-data}
+use Rattle.peer.specs.Data.{Data, bytes-of}
 use Rattle.peer.specs.Held.{data-in, ValidData, HoldsData, valid-data, zero-byte}
 use Rattle.peer.specs.declared.PeerData.{PeerData}
-
--- the test of equality holds of equal data, and of no other
-pub equal-data-true : (x y : Data) → equal-data x y ≡ true → x ≡ y
-unfolding equal-data
-equal-data-true none none e = refl
-equal-data-true none (some b) e = absurd (let z : _≡_ {A = ℕ} 0 1 = cc in omega arith)
-equal-data-true (some a) none e = absurd (let z : _≡_ {A = ℕ} 0 1 = cc in omega arith)
-equal-data-true (some a) (some b) e = ap some (same-true a b e)
-
-pub equal-data-self : (x : Data) → equal-data x x ≡ true
-unfolding equal-data
-equal-data-self none = refl
-equal-data-self (some a) = same-refl a
 
 -- ---- what a `PeerData` stands for
 

@@ -1,7 +1,7 @@
 -- Peer data and peers with their data, as the definitions speak of them (the Rust's `PeerData` and `PeerInfo`).
 -- Assumes nothing.
 use Prim.Native.Nat.{ℕ}
-use mathlib.Core.Bool.{Bool, true, false}
+use mathlib.Core.Bool.{Bool, false}
 use mathlib.Core.List.{List, []}
 use mathlib.Core.Option.{Option, none, some}
 use Rattle.lists.specs.Lists.{same}
@@ -24,10 +24,3 @@ bytes-of (some b) = b
 unfoldable pub holds : Data → List ℕ → Bool
 holds none b = false
 holds (some a) b = same a b
-
--- whether two data are one
-unfoldable pub equal-data : Data → Data → Bool
-equal-data none none = true
-equal-data none (some b) = false
-equal-data (some a) none = false
-equal-data (some a) (some b) = same a b

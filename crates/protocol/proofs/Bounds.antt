@@ -15,7 +15,7 @@ use Rattle.protocol.specs.Station.{Station}
 use Rattle.protocol.specs.Run.{Run}
 use Rattle.protocol.specs.Rules.{station-ok}
 use Rattle.protocol.specs.Handle.{start, steps}
-use Rattle.protocol.proofs.Extra.{shorter}
+use Rattle.lists.proofs.Members.{shorter}
 use Rattle.protocol.proofs.Invariant.{Fixed, Terms, calm, Ok}
 use Rattle.protocol.proofs.Reading.{Readable}
 use Rattle.protocol.proofs.Requested.{quitting}

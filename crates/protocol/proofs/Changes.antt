@@ -9,7 +9,7 @@ use lib.ListN.{length}
 use lib.Dec.{ltb, eqb}
 use borrow.Author.Tests.{ltb-true}
 use Rattle.lists.specs.Lists.{choose, mem, without, insert, renew, Rising}
-use Rattle.lists.specs.Maps.{keys, has, lookup, cut, retain, put}
+use Rattle.lists.specs.Maps.{keys, has, lookup, cut, retain, put, Each}
 use Rattle.lists.proofs.Choice.{by-choice}
 use Rattle.lists.proofs.Count.{count-without, length-without}
 use Rattle.lists.proofs.Maps.{keys-cut, keys-put, length-cut, length-put, length-retain, count-retain, rising-retain}
@@ -17,7 +17,7 @@ use Rattle.lists.proofs.Rising.{rising-without, rising-insert}
 use Rattle.protocol.specs.Station.{Refill, automatic, requests-left, recovery, is-recovery, top-counter}
 use Rattle.protocol.specs.Refill.{one-less, unless-recovery}
 use Rattle.protocol.specs.Timers.{renew-all}
-use Rattle.protocol.proofs.Extra.{Each, each-cut, each-retain, each-put, each-more, count-cut, length-insert, count-absent, renewed}
+use Rattle.lists.proofs.Members.{each-cut, each-retain, each-put, each-more, count-cut, length-insert, count-absent, renewed}
 use Rattle.protocol.proofs.Law.{Short, Small, InOrder, Numbered, Requests, Held, Refused, Recent}
 
 pub put-numbered : {n : ℕ} {m : List (ℕ × ℕ)} (p : ℕ) → ltb n top-counter ≡ true → Numbered m n → Numbered (put p n m) (n + 1)

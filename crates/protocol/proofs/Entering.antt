@@ -19,7 +19,7 @@ use Rattle.protocol.specs.Run.{Run, guard, on, require, notice}
 use Rattle.protocol.specs.Budgets.{bare, single, freeing, entering, admitting}
 use Rattle.protocol.specs.Peers as P
 use Rattle.protocol.specs.Active as A
-use Rattle.protocol.proofs.Extra.{count-push-new}
+use Rattle.lists.proofs.Members.{count-push-new}
 use Rattle.protocol.proofs.Law.{Short, Small, law-alive, law-recent, law-fill, law-short}
 use Rattle.protocol.proofs.Changes.{unmark, renew-recent, small-or}
 use Rattle.protocol.proofs.Told.{up-after, note, sent-after}

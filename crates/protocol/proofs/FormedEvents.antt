@@ -10,7 +10,7 @@ use lib.ListN.{length, take, length-append}
 use borrow.Author.Tests.{ltb-true}
 use lib.Dec.{eqb}
 use Rattle.lists.specs.Lists.{choose, without}
-use Rattle.lists.specs.Maps.{keys}
+use Rattle.lists.specs.Maps.{keys, Each}
 use Rattle.lists.specs.Tests.{All}
 use Rattle.lists.proofs.Choice.{by-choice}
 use Rattle.timing.specs.Timing.{next, delay}
@@ -27,7 +27,7 @@ use Rattle.protocol.specs.Messages as M
 use Rattle.protocol.specs.Events as E
 use Rattle.protocol.specs.Timers as T
 use Rattle.protocol.specs.Evictions.{by-nodes, by-removing, by-entering, by-walk, by-shuffle, by-disconnect}
-use Rattle.protocol.proofs.Extra.{Each, length-cut-to}
+use Rattle.lists.proofs.Members.{length-cut-to}
 use Rattle.protocol.proofs.Told.{length-infos}
 use Rattle.protocol.proofs.Among.{all-append, all-take, all-get, all-without, all-without-all, all-insert, all-renew, all-renew-all, all-keys-cut, all-keys-put, all-remove}
 use Rattle.protocol.proofs.Narrow as N

@@ -23,7 +23,7 @@ use Rattle.protocol.specs.Refill as F
 use Rattle.protocol.specs.Active as A
 use Rattle.protocol.specs.Active.{Reason, connection-closed, disconnect-received, random}
 use Rattle.protocol.specs.Evictions.{listed, by-adding, by-nodes, by-demoting, by-settling, by-removing-at, by-removing, by-freeing, by-admitting, by-entering}
-use Rattle.protocol.proofs.Extra.{each-cut, each-put, length-cut-to}
+use Rattle.lists.proofs.Members.{each-cut, each-put, length-cut-to}
 use Rattle.protocol.proofs.Told.{length-infos}
 use Rattle.protocol.proofs.Among.{all-append, all-take, all-get, all-without, all-without-all, all-insert, all-more, all-renew, all-keys-cut, all-keys-put, all-swap-remove, all-remove}
 use Rattle.protocol.proofs.Narrow as N

@@ -20,7 +20,7 @@ use Rattle.protocol.specs.Handle as H
 use Rattle.protocol.specs.Evictions.{by-message, evictions}
 use Rattle.protocol.proofs.Narrow.{no-peer, no-data, Held, Named, form-nodes, Peer, Narrow, at, change, change-held}
 use Rattle.protocol.proofs.Formed.{Formed, either, either-way, alter}
-use Rattle.protocol.proofs.Extra.{each-retain}
+use Rattle.lists.proofs.Members.{each-retain}
 use Rattle.protocol.proofs.Narrow as N
 use Rattle.protocol.proofs.FormedEvents.{formed-on-join, formed-on-forward-join, formed-on-shuffle, formed-on-shuffle-reply, formed-on-neighbor, formed-on-disconnect, formed-handle-join, formed-closed, formed-update, formed-quit, formed-neighbor-timer, formed-retry-join, formed-schedule-shuffle, formed-schedule-maintenance, formed-shuffle-timer, formed-maintenance-timer}
 

@@ -16,7 +16,7 @@ use Rattle.protocol.specs.Budgets.{bare, adding, asking, disconnecting, 
 use Rattle.protocol.specs.Peers as P
 use Rattle.protocol.specs.Active as A
 use Rattle.protocol.specs.Active.{Reason, connection-closed, disconnect-received, random}
-use Rattle.protocol.proofs.Extra.{null-yes, null-no}
+use Rattle.lists.proofs.Members.{null-yes, null-no}
 use Rattle.protocol.proofs.Law.{Short, Small, law-refused}
 use Rattle.protocol.proofs.Changes.{no-refusals, short-lookup}
 use Rattle.protocol.proofs.Told.{up-after, note, sent-after}

@@ -1,4 +1,3 @@
-pub mod Extra
 pub mod Law
 pub mod Changes
 pub mod Told

@@ -5,7 +5,7 @@ use Prim.Native.Nat.{ℕ, _≤_, _<_}
 use native.Mathlib.Omega.{arith}
 use lib.ListN.{length, getD, set}
 use lib.Dec.{eqb}
-use Rattle.lists.specs.Maps.{lookup}
+use Rattle.lists.specs.Maps.{lookup, Each}
 use Rattle.lists.specs.Tests.{All}
 use Rattle.lists.proofs.Choice.{by-choice}
 use Rattle.lists.proofs.Entries.{all-set}
@@ -16,7 +16,6 @@ use Rattle.record.specs.InForm.{NodesInForm}
 use Rattle.protocol.specs.Station.{Station, top-counter, peers-end, bytes-end}
 use Rattle.protocol.specs.Run as R
 use Rattle.protocol.specs.Rules.{peer-lists}
-use Rattle.protocol.proofs.Extra.{Each}
 use Rattle.protocol.proofs.Among.{all-get}
 use Rattle.protocol.proofs.Invariant.{Ranges}
 

@@ -19,7 +19,7 @@ use Rattle.protocol.specs.Run.{Run, guard, on, to-draw, one-of}
 use Rattle.protocol.specs.Budgets.{bare, adding}
 use Rattle.protocol.specs.Peers as P
 use Rattle.protocol.specs.Active as A
-use Rattle.protocol.proofs.Extra.{null-yes, null-no, count-less}
+use Rattle.lists.proofs.Members.{null-yes, null-no, count-less}
 use Rattle.protocol.proofs.Law.{Short, ShortNodes, law-held, law-alive}
 use Rattle.protocol.proofs.Changes.{cut-held, unmark, mark}
 use Rattle.protocol.proofs.Invariant.{Fixed, Terms, busy, calm, Ok, with-marks, with-places}

@@ -19,7 +19,7 @@ use Rattle.protocol.specs.Peers as P
 use Rattle.protocol.specs.Active as A
 use Rattle.protocol.specs.Active.{disconnect-received}
 use Rattle.protocol.specs.Messages as M
-use Rattle.protocol.proofs.Extra.{count-cut}
+use Rattle.lists.proofs.Members.{count-cut}
 use Rattle.protocol.proofs.Law.{Short, Small, ShortNodes, law-joins, law-requests, law-refused, law-recent}
 use Rattle.protocol.proofs.Changes.{cut-numbered, cut-request, add-refusal, without-recent}
 use Rattle.protocol.proofs.Invariant.{Fixed, Terms, busy, calm, Ok, with-inside}

@@ -8,7 +8,7 @@ use native.Mathlib.Omega.{arith}
 use lib.ListN.{length, getD}
 use lib.Dec.{ltb}
 use Rattle.lists.specs.Lists.{choose, is, count, mem, without, remove, Rising}
-use Rattle.lists.specs.Maps.{keys, cut}
+use Rattle.lists.specs.Maps.{keys, cut, Each}
 use Rattle.lists.proofs.Choice.{by-choice}
 use Rattle.lists.proofs.Count.{is-self, is-le, is-not, is-split, mem-false, count-remove, length-remove}
 use Rattle.peer.specs.Data.{Data}
@@ -20,7 +20,7 @@ use Rattle.protocol.specs.Peers as P
 use Rattle.protocol.specs.Active.{connection-closed}
 use Rattle.protocol.specs.Messages.{drop-request}
 use Rattle.protocol.specs.Events as E
-use Rattle.protocol.proofs.Extra.{Each, count-cut, count-put, count-length, length-remove-in, renewed}
+use Rattle.lists.proofs.Members.{count-cut, count-put, count-length, length-remove-in, renewed}
 use Rattle.protocol.proofs.Law.{Numbered, Short, law-joins, law-requests, law-held, law-own, law-alive, law-refused}
 use Rattle.protocol.proofs.Changes.{cut-numbered, put-numbered, cut-held, no-refusals}
 use Rattle.protocol.proofs.Invariant.{Fixed, Terms, calm, Good, Ok}

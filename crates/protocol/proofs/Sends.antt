@@ -22,7 +22,7 @@ use Rattle.protocol.specs.Budgets.{bare, single, crowd, asking, disconne
 use Rattle.protocol.specs.Peers as P
 use Rattle.protocol.specs.Sending as S
 use Rattle.protocol.specs.Refill as F
-use Rattle.protocol.proofs.Extra.{length-cut-to}
+use Rattle.lists.proofs.Members.{length-cut-to}
 use Rattle.protocol.proofs.Law.{Lawful, Short, Small, ShortNodes, law-held, law-requests, law-fill}
 use Rattle.protocol.proofs.Changes.{put-held, put-request, small-less, small-or}
 use Rattle.protocol.proofs.Told.{size-short, short-infos, length-infos}

@@ -11,7 +11,7 @@ use lib.Dec.{leb, ltb}
 use borrow.Author.Tests.{leb-true, ltb-true, le-leb, lt-ltb, not-true}
 use Rattle.lists.specs.Lists.{is, count, mem, distinct, rising, Above, Rising, subset, disjoint}
 use Rattle.peer.specs.Maps.{numbers-under}
-use Rattle.lists.specs.Maps.{keys, values, has}
+use Rattle.lists.specs.Maps.{keys, values, has, Each}
 use Rattle.lists.specs.Tests.{All}
 use Rattle.lists.proofs.Choice.{and-left, and-right, clash}
 use Rattle.lists.proofs.Count.{is-self, is-split, mem-true, mem-false, absent}
@@ -22,7 +22,7 @@ use Rattle.peer.specs.Data.{Data, bytes-of}
 use Rattle.protocol.specs.Station.{Station, Refill, automatic, requests-left, recovery, peers-end, bytes-end, top-counter, top-passes}
 use Rattle.protocol.specs.Rules as R
 use Rattle.protocol.specs.Rules.{station-ok}
-use Rattle.protocol.proofs.Extra.{both, negate, mem-yes, mem-no, Each, rising-once}
+use Rattle.lists.proofs.Members.{both, negate, mem-yes, mem-no, rising-once}
 use Rattle.protocol.proofs.Law.{Lawful, Short, Small}
 use Rattle.protocol.proofs.Told.{up-after, sent-after}
 use Rattle.protocol.proofs.Narrow.{no-data, Held, Narrow}

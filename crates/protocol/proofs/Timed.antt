@@ -21,7 +21,7 @@ use Rattle.protocol.specs.Budgets.{bare, single, crowd, asking}
 use Rattle.protocol.specs.Sending as S
 use Rattle.protocol.specs.Refill as F
 use Rattle.protocol.specs.Timers as T
-use Rattle.protocol.proofs.Extra.{length-cut-to}
+use Rattle.lists.proofs.Members.{length-cut-to}
 use Rattle.protocol.proofs.Law.{Short, Small, ShortNodes, law-fill, law-recent, law-pace, law-alone, law-short}
 use Rattle.protocol.proofs.Changes.{renew-all-recent}
 use Rattle.protocol.proofs.Told.{short-infos, length-infos}

@@ -11,7 +11,7 @@ use Rattle.record.specs.Format.{Rec, size, datas}
 use Rattle.protocol.specs.Station.{Station}
 use Rattle.protocol.specs.Run.{peer-info, peer-infos}
 use Rattle.protocol.specs.Budgets.{bare, full-node}
-use Rattle.protocol.proofs.Extra.{Each}
+use Rattle.lists.specs.Maps.{Each}
 unfoldable pub use Rattle.protocol.specs.Invariant.{spell, note, up-after, sent-after}
 pub use Rattle.protocol.specs.Invariant.{Sound, AllSound, no-more, one-more}
 use Rattle.protocol.proofs.Law.{Short, ShortNodes}

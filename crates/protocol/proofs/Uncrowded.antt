@@ -26,7 +26,7 @@ use Rattle.protocol.specs.Peers as P
 use Rattle.protocol.specs.Messages as M
 use Rattle.protocol.specs.Handle as H
 use Rattle.protocol.specs.Handle.{Answer, start, steps, refusal, accepted, finish, handle-reading, handle}
-use Rattle.protocol.proofs.Extra.{null-yes, null-no, shorter, count-cut, count-put, rising-once}
+use Rattle.lists.proofs.Members.{null-yes, null-no, shorter, count-cut, count-put, rising-once}
 use Rattle.protocol.proofs.Law.{Held, Short, ShortNodes}
 use Rattle.protocol.proofs.Changes.{cut-held, put-held}
 use Rattle.protocol.proofs.Invariant.{Ranges}

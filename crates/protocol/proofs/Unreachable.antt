@@ -19,7 +19,7 @@ use Rattle.protocol.specs.Peers as P
 use Rattle.protocol.specs.Messages.{ends-here, learn-joiner}
 use Rattle.protocol.specs.Rules.{station-ok}
 use Rattle.protocol.specs.Handle.{start}
-use Rattle.protocol.proofs.Extra.{null-yes}
+use Rattle.lists.proofs.Members.{null-yes}
 use Rattle.protocol.proofs.Keeping.{one-of-station, emit-station}
 use Rattle.protocol.proofs.Entering.{on-same, same-after-info}
 use Rattle.protocol.proofs.Tested.{between-of}

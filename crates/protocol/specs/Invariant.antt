@@ -8,7 +8,7 @@ use Prim.Native.Nat.{ℕ, _+_, _*_, _≤_, _<_}
 use lib.ListN.{length, take}
 use lib.Dec.{eqb}
 use Rattle.lists.specs.Lists.{choose, is, count, without, push-new, Rising}
-use Rattle.lists.specs.Maps.{keys}
+use Rattle.lists.specs.Maps.{keys, Each}
 use Rattle.timing.specs.declared.Config.{Config}
 use Rattle.util.specs.Chances.{sure}
 use Rattle.peer.specs.Data.{Data}
@@ -17,12 +17,6 @@ use Rattle.protocol.specs.Station.{Station, Refill, automatic, requests-
 use Rattle.protocol.specs.Run.{Run}
 
 -- The station rules but those on views and joins: what each says of its part of the station
-
--- of every value of a map
-module _ {A : Type 0} (P : A → Type 0) where
-  unfoldable pub Each : List (ℕ × A) → Type 0
-  Each [] = Unit {0}
-  Each (e ∷ m) = P (e .1) × Each m
 
 -- at most 16 bytes
 unfoldable pub Short : Data → Type 0

@@ -15,3 +15,4 @@ pub mod Written
 pub mod Evictions
 pub mod Traced
 pub mod Invariant
+pub mod Table

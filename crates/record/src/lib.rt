@@ -35,15 +35,102 @@ pub struct Entry {
     pub present: u8,
 }
 
+// The kinds of a record, byte 0; those from NEIGHBOR_UP on stand in outputs alone.
+pub struct Kind {}
+
+impl Kind {
+    pub const MESSAGE: u8 = 0;
+
+    pub const DO_SHUFFLE: u8 = 1;
+
+    pub const DO_MAINTENANCE: u8 = 2;
+
+    pub const PENDING_NEIGHBOR_REQUEST: u8 = 3;
+
+    pub const RETRY_JOIN: u8 = 4;
+
+    pub const PEER_DISCONNECTED: u8 = 5;
+
+    pub const REQUEST_JOIN: u8 = 6;
+
+    pub const UPDATE_PEER_DATA: u8 = 7;
+
+    pub const QUIT: u8 = 8;
+
+    pub const NEIGHBOR_UP: u8 = 9;
+
+    pub const NEIGHBOR_DOWN: u8 = 10;
+
+    pub const PEER_DATA: u8 = 11;
+
+    pub const EVICTED: u8 = 12;
+}
+
+// The messages, byte 1 of kind 0.
+pub struct Message {}
+
+impl Message {
+    pub const JOIN: u8 = 0;
+
+    pub const FORWARD_JOIN: u8 = 1;
+
+    pub const SHUFFLE: u8 = 2;
+
+    pub const SHUFFLE_REPLY: u8 = 3;
+
+    pub const NEIGHBOR: u8 = 4;
+
+    pub const DISCONNECT: u8 = 5;
+}
+
+// The flags, byte 2: the priority of a Neighbor; whether the sender of a Disconnect is alive, and whether it awaits an answer.
+pub struct Flags {}
+
+impl Flags {
+    pub const HIGH: u8 = 1;
+
+    pub const ALIVE: u8 = 1;
+
+    pub const RESPOND: u8 = 2;
+
+    // Both flags of a Disconnect.
+    pub const BOTH: u8 = 3;
+}
+
+// The codes of refusals, by the condition that is met.
+pub struct Refusal {}
+
+impl Refusal {
+    pub const SETTINGS: u32 = 1;
+
+    pub const STATE: u32 = 2;
+
+    pub const MALFORMED: u32 = 3;
+
+    pub const NODES: u32 = 4;
+
+    pub const DRAWS: u32 = 5;
+
+    pub const REQUESTS: u32 = 6;
+
+    pub const REFUSED_PEERS: u32 = 7;
+
+    pub const DATA: u32 = 8;
+
+    pub const OUTPUT: u32 = 9;
+
+    pub const COUNTER: u32 = 10;
+}
+
 // The fixed size of a record by its kind byte; 0 where no kind has that number. By comparisons, since a match over the kinds is
 // compiled to a table in read-only memory.
 pub fn fixed_size(kind: u8) -> u8
     ensures { λ r. ⌜ r ≡ fixed-size kind ⌝ }
 {
-    if (kind == 7) | (kind == 11) {
+    if (kind == Kind::UPDATE_PEER_DATA) | (kind == Kind::PEER_DATA) {
         return 32;
     }
-    if kind <= 12 {
+    if kind <= Kind::EVICTED {
         return 24;
     }
     0
@@ -128,28 +215,33 @@ fn choose(test: bool, x: bool, y: bool) -> bool
 fn is_message(m: u8, h: Header) -> bool
     ensures { λ r. ⌜ r ≡ is-message m h ⌝ }
 {
-    (h.kind == 0) & (h.message == m)
+    (h.kind == Kind::MESSAGE) & (h.message == m)
 }
 
 // DoShuffle, DoMaintenance, PendingNeighborRequest, RetryJoin.
 fn is_timer(h: Header) -> bool
     ensures { λ r. ⌜ r ≡ is-timer h ⌝ }
 {
-    (1 <= h.kind) & (h.kind <= 4)
+    (Kind::DO_SHUFFLE <= h.kind) & (h.kind <= Kind::RETRY_JOIN)
 }
 
 // UpdatePeerData and peer data, whose one node has data.
 fn is_data(h: Header) -> bool
     ensures { λ r. ⌜ r ≡ is-data h ⌝ }
 {
-    (h.kind == 7) | (h.kind == 11)
+    (h.kind == Kind::UPDATE_PEER_DATA) | (h.kind == Kind::PEER_DATA)
 }
 
 // A known kind, and a message only in kind 0.
 fn kind_ok(h: Header) -> bool
     ensures { λ r. ⌜ r ≡ kind-ok h ⌝ }
 {
-    !(fixed_size(h.kind) == 0) & choose(h.kind == 0, h.message <= 5, h.message == 0)
+    !(fixed_size(h.kind) == 0)
+        & choose(
+            h.kind == Kind::MESSAGE,
+            h.message <= Message::DISCONNECT,
+            h.message == 0,
+        )
 }
 
 // Neighbor has one flag, Disconnect two.
@@ -157,17 +249,22 @@ fn flags_ok(h: Header) -> bool
     ensures { λ r. ⌜ r ≡ flags-ok h ⌝ }
 {
     choose(
-        is_message(4, h),
-        h.flags <= 1,
-        choose(is_message(5, h), h.flags <= 3, h.flags == 0),
+        is_message(Message::NEIGHBOR, h),
+        h.flags <= Flags::HIGH,
+        choose(
+            is_message(Message::DISCONNECT, h),
+            h.flags <= Flags::BOTH,
+            h.flags == 0,
+        ),
     )
 }
 
 fn count_ok(h: Header) -> bool
     ensures { λ r. ⌜ r ≡ count-ok h ⌝ }
 {
-    let one = is_message(0, h) | (is_message(1, h) | (is_message(4, h) | is_data(h)));
-    let some = is_message(2, h) | is_message(3, h);
+    let one = is_message(Message::JOIN, h)
+        | (is_message(Message::FORWARD_JOIN, h) | (is_message(Message::NEIGHBOR, h) | is_data(h)));
+    let some = is_message(Message::SHUFFLE, h) | is_message(Message::SHUFFLE_REPLY, h);
     choose(one, h.nodes == 1, choose(some, h.nodes <= 32, h.nodes == 0))
 }
 
@@ -175,7 +272,9 @@ fn count_ok(h: Header) -> bool
 fn peer_ok(h: Header) -> bool
     ensures { λ r. ⌜ r ≡ peer-ok h ⌝ }
 {
-    let none = (h.kind == 1) | ((h.kind == 2) | ((h.kind == 7) | (h.kind == 8)));
+    let none = (h.kind == Kind::DO_SHUFFLE)
+        | ((h.kind == Kind::DO_MAINTENANCE)
+            | ((h.kind == Kind::UPDATE_PEER_DATA) | (h.kind == Kind::QUIT)));
     choose(none, h.peer == 0, true)
 }
 
@@ -183,9 +282,21 @@ fn peer_ok(h: Header) -> bool
 fn fields_ok(h: Header) -> bool
     ensures { λ r. ⌜ r ≡ fields-ok h ⌝ }
 {
-    let second = choose(is_message(2, h) | is_timer(h), true, h.second == 0);
-    let ttl = choose(is_message(1, h) | is_message(2, h), true, h.ttl == 0);
-    let number = choose((h.kind == 3) | (h.kind == 4), true, h.number == 0);
+    let second = choose(
+        is_message(Message::SHUFFLE, h) | is_timer(h),
+        true,
+        h.second == 0,
+    );
+    let ttl = choose(
+        is_message(Message::FORWARD_JOIN, h) | is_message(Message::SHUFFLE, h),
+        true,
+        h.ttl == 0,
+    );
+    let number = choose(
+        (h.kind == Kind::PENDING_NEIGHBOR_REQUEST) | (h.kind == Kind::RETRY_JOIN),
+        true,
+        h.number == 0,
+    );
     second & (ttl & number)
 }
 
@@ -211,7 +322,7 @@ fn data_ok(e: Entry, at: usize) -> bool
 fn entry_ok(h: Header, e: Entry, at: usize) -> bool
     ensures { λ r. ⌜ r ≡ entry-ok h e at ⌝ }
 {
-    let unnamed = is_message(0, h) | (is_message(4, h) | is_data(h));
+    let unnamed = is_message(Message::JOIN, h) | (is_message(Message::NEIGHBOR, h) | is_data(h));
     let id = choose(unnamed, e.id == 0, true);
     data_ok(e, at) & (id & choose(is_data(h), e.present == 1, true))
 }
@@ -270,7 +381,7 @@ pub fn read(b: &[u8]) -> Answer
 fn is_event(h: Header) -> bool
     ensures { λ r. ⌜ r ≡ is-event h ⌝ }
 {
-    (h.kind <= 8) & choose(is_timer(h), h.second == 0, true)
+    (h.kind <= Kind::QUIT) & choose(is_timer(h), h.second == 0, true)
 }
 
 // An event's header, or the code of its refusal.
@@ -284,16 +395,16 @@ pub fn read_event(b: &[u8]) -> Event
     ensures { λ r. ⌜ EventIs (now (b .entry)) r ⌝ }
 {
     if b.len() < 24 {
-        return Event::Refused(3);
+        return Event::Refused(Refusal::MALFORMED);
     }
     if 32 < b[3] {
-        return Event::Refused(4);
+        return Event::Refused(Refusal::NODES);
     }
     let h = read_header(b);
     if well_formed(b) & is_event(h) {
         return Event::Record(h);
     }
-    Event::Refused(3)
+    Event::Refused(Refusal::MALFORMED)
 }
 
 // A node's data, as a part of the record's own bytes.

@@ -11,16 +11,16 @@ use Rattle.io.specs.Counts.{Counts}
 use lib.Dec.{leb, eqb}
 use borrow.Author.Tests.{le-leb, lt-leb, leb-true, ltb-true, ltb-false, eq-eqb, ne-eqb}
 use Rattle.lists.proofs.Choice.{split, choose-yes, choose-no}
-use Rattle.hyparview_words.specs.declared.State.{State}
-use Rattle.hyparview_words.specs.Handled.{handled}
+use Rattle.hyparview.specs.declared.State.{State}
+use Rattle.hyparview.specs.Handled.{handled}
 use Rattle.run_text.specs.declared.Text.{Text}
 use Rattle.run_text.specs.Text.{Puts, Begins}
 use Rattle.run_text.proofs.Written.{begun, nothing, then, named}
 use Rattle.lists.specs.Bytes.{overwrite}
 use Rattle.protocol.specs.Handle.{new}
-use Rattle.hyparview_words.specs.declared.Made.{Made}
-use Rattle.queries_words.specs.Made as packed
-use Rattle.queries_words.specs.Made.{lent, pack-made}
+use Rattle.hyparview.specs.declared.Made.{Made}
+use Rattle.hyparview.specs.Made as packed
+use Rattle.hyparview.specs.Made.{lent, pack-made}
 use Rattle.run_input.specs.declared.Layout.{Layout}
 use Rattle.run_input.specs.declared.Input.{Input}
 use Rattle.run_input.specs.declared.Input.the-variants.{Refused, Whole}

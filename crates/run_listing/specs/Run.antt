@@ -8,8 +8,8 @@ use lib.Seq.{slice}
 use lib.Dec.{eqb}
 use Rattle.lists.specs.Lists.{choose}
 use Rattle.protocol.specs.Handle.{new}
-use Rattle.queries_words.specs.Made.{Made, pack-made}
-use Rattle.hyparview_words.specs.Handled.{Outcome, handled}
+use Rattle.hyparview.specs.Made.{Made, pack-made}
+use Rattle.hyparview.specs.Handled.{Outcome, handled}
 use Rattle.run_input.specs.declared.Layout.{Layout}
 use Rattle.run_input.specs.declared.Input.{Input}
 use Rattle.run_input.specs.declared.Input.the-variants.{Refused, Whole}

@@ -1,5 +1,5 @@
 // What the run program prints (document 01, "The run program"): the text of a run, from the input's bytes into lent bytes.
-use hyparview_words::State;
+use hyparview::State;
 use run_input::Input;
 use run_input::Layout;
 use run_text::Text;

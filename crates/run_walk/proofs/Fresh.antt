@@ -9,7 +9,7 @@ use Rattle.lists.specs.Lists.{choose}
 use Rattle.timing.specs.declared.Config.{Config}
 use Rattle.peer.specs.Data.{Data}
 use Rattle.protocol.specs.Handle.{new}
-use Rattle.queries_words.specs.Made.{Made, lent, pack-made}
+use Rattle.hyparview.specs.Made.{Made, lent, pack-made}
 
 no-data : (own : List ℕ) → lent false own ≡ none
 unfolding lent choose

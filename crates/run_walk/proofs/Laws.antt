@@ -5,8 +5,8 @@ use mathlib.Core.Path.{_≡_, sym, ap, _∙_}
 use mathlib.Core.List.{List}
 use lib.ListN.{take, drop}
 use lib.Seq.{drop-drop}
-use Rattle.hyparview_words.specs.declared.Answer.{Answer}
-use Rattle.hyparview_words.specs.Handled.{Outcome, handled}
+use Rattle.hyparview.specs.declared.Answer.{Answer}
+use Rattle.hyparview.specs.Handled.{Outcome, handled}
 use Rattle.run_input.specs.Input.{event-length}
 use Rattle.draws.specs.Place.{past}
 use Rattle.draws.proofs.Laws.{past-rest}

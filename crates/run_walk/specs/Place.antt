@@ -4,7 +4,7 @@ use Prim.Native.Nat.{ℕ, _+_}
 use mathlib.Core.Path.{_≡_}
 use mathlib.Core.List.{List}
 use lib.ListN.{take, drop}
-use Rattle.hyparview_words.specs.Handled.{Outcome, handled}
+use Rattle.hyparview.specs.Handled.{Outcome, handled}
 use Rattle.run_input.specs.Input.{event-length}
 use Rattle.draws.specs.Place.{past}
 use Rattle.run_walk.specs.declared.Runner.{Runner}

@@ -1,5 +1,5 @@
 // The walk over the events of an input (document 01, "The run program"): one event at a time, each with the draws that are left.
-use hyparview_words::State;
+use hyparview::State;
 ghost use mathlib.Core.Path.{_≡_};
 ghost use Prim.Native.Nat.{_-_, _≤_};
 ghost use lib.ListN.{length, take, drop};

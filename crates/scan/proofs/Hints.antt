@@ -14,8 +14,8 @@ use Rattle.lists.specs.Lists.{mem, disjoint}
 use Rattle.lists.specs.Tests.{every}
 use Rattle.lists.proofs.Choice.{split}
 use Rattle.lists.proofs.Tests.{both-true}
-use Rattle.util.proofs.Tests.{not-in}
-use Rattle.util.proofs.Marks.{mark, unmarked, marks-kept}
+use Rattle.scan.proofs.Tests.{not-in}
+use Rattle.scan.proofs.Marks.{mark, unmarked, marks-kept}
 use Rattle.scan.specs.Words.{marked}
 use Rattle.scan.proofs.Loops.{Left, Every, disjoint-start, every-asked, every-end, left-end, left-next}
 

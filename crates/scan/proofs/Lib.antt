@@ -1,3 +1,5 @@
 pub mod Loops
 pub mod Marked
 pub mod Hints
+pub mod Marks
+pub mod Tests

@@ -16,7 +16,7 @@ use Rattle.lists.proofs.Choice.{split}
 use Rattle.lists.proofs.Tests.{and-no}
 use Rattle.lists.specs.Lists.{mem, rising, subset, disjoint}
 use Rattle.lists.specs.Tests.{every}
-use Rattle.util.proofs.Tests.{is-in, not-in, subset-every, disjoint-every}
+use Rattle.scan.proofs.Tests.{is-in, not-in, subset-every, disjoint-every}
 
 pub record Left {X Y : Type 0} (F : X → List ℕ → Y) (s : List ℕ) (whole : Y) (x : X) (i : ℕ) : Type 0 where
   pub low : i ≤ length s

@@ -11,7 +11,7 @@ use Rattle.lists.specs.Lists.{mem, distinct}
 use Rattle.lists.specs.Tests.{every}
 use Rattle.lists.proofs.Choice.{split, clash}
 use Rattle.lists.proofs.Tests.{both-true}
-use Rattle.util.proofs.Marks.{mark, unmarked, marks-kept, distinct-drop}
+use Rattle.scan.proofs.Marks.{mark, unmarked, marks-kept, distinct-drop}
 use Rattle.scan.proofs.Loops.{rest-lent}
 
 pub record Marking (s : List ℕ) (seen : List Bool) (i : ℕ) : Type 0 where

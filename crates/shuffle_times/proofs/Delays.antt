@@ -13,7 +13,7 @@ use Rattle.lists.proofs.Choice.{split, and-left, and-right}
 use Rattle.timing.specs.Timing.{delay}
 use Rattle.timing.proofs.Ranges.{Within}
 use Rattle.protocol.specs.Rules.{all-under}
-use Rattle.protocol.proofs.Extra.{both}
+use Rattle.lists.proofs.Members.{both}
 use Rattle.shuffle_times.specs.Times.{lowest-draw, highest-draw, first-interval, next-interval, dues, due}
 use Rattle.shuffle_times.specs.Histories.{draws-end}
 

@@ -20,7 +20,7 @@ use Rattle.protocol.specs.Station.{Station}
 use Rattle.protocol.specs.Run.{Run}
 use Rattle.protocol.specs.Rules.{all-under, station-ok, short-data}
 use Rattle.protocol.specs.Handle.{Answer, new-station, start, steps, refusal, accepted, finish, handle-reading, handle}
-use Rattle.protocol.proofs.Extra.{both}
+use Rattle.lists.proofs.Members.{both}
 use Rattle.protocol.proofs.Reading.{Readable, by-reading}
 use Rattle.protocol.proofs.Whole.{ok-steps}
 use Rattle.protocol.proofs.Tested.{rules-of}

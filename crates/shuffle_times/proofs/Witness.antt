@@ -27,7 +27,7 @@ use Rattle.protocol.specs.Events as E
 use Rattle.protocol.specs.Timers as T
 use Rattle.protocol.specs.Handle as H
 use Rattle.protocol.specs.Handle.{Answer, new-station, start, steps, accepted, finish, handle-reading, handle}
-use Rattle.protocol.proofs.Extra.{both}
+use Rattle.lists.proofs.Members.{both}
 use Rattle.protocol.proofs.Tested.{rules-of}
 use Rattle.history.specs.Ledger.{Ledger}
 use Rattle.history.specs.Calls.{Call, answer, answered, definition}

@@ -14,8 +14,8 @@ use Rattle.peer.specs.declared.PeerData.{PeerData}
 use Rattle.peer.specs.Data.{Data, bytes-of}
 use Rattle.peer.specs.Held.{data-in, ValidData}
 use Rattle.peer.proofs.Data.{short-bytes}
-use Rattle.section.specs.Section.{items-at}
-use Rattle.writer64.specs.Write.{rec-in}
+use Rattle.util.specs.Section.{items-at}
+use Rattle.writer.specs.Write.{rec-in}
 use Rattle.protocol.specs.Station.{Station, Refill, automatic, is-me, in-active, active-is-full}
 use Rattle.protocol.specs.Setters.{set-refill}
 use Rattle.protocol.specs.Run.{Run, guard, on, emit, notice}
@@ -28,15 +28,15 @@ use Rattle.protocol.proofs.Law.{Short}
 use Rattle.protocol.proofs.Invariant.{busy, Ok}
 use Rattle.protocol.proofs.Keeping.{ease}
 use Rattle.protocol.proofs.Sends.{ok-insert-peer-info}
-use Rattle.words.specs.declared.Work.{Work}
-use Rattle.words.specs.declared.RefillLimit.{RefillLimit}
-use Rattle.words.specs.declared.RefillLimit.the-variants.{Automatic}
-use Rattle.words.specs.Layout.{active-view-capacity, active-part}
-use Rattle.words.specs.Unpack.{unpack, station-of, settings-at, limit-at, refill-in, PackedState, Becomes}
-use Rattle.words.specs.Work.{work-of, run, Changes, Room, Tells, TellsAny, Fine, Does}
-use Rattle.words.proofs.Access.{of-capacity}
-use Rattle.words.proofs.Fields.{put-passes-short}
-use Rattle.words.proofs.Bridge.{on-twice, change-then, telling, tell-then, still, then-tell, seq, taken, left, holds-at}
+use Rattle.state.specs.declared.Work.{Work}
+use Rattle.state.specs.declared.RefillLimit.{RefillLimit}
+use Rattle.state.specs.declared.RefillLimit.the-variants.{Automatic}
+use Rattle.state.specs.Layout.{active-view-capacity, active-part}
+use Rattle.state.specs.Unpack.{unpack, station-of, settings-at, limit-at, refill-in, PackedState, Becomes}
+use Rattle.state.specs.Work.{work-of, run, Changes, Room, Tells, TellsAny, Fine, Does}
+use Rattle.state.proofs.Access.{of-capacity}
+use Rattle.state.proofs.Fields.{put-passes-short}
+use Rattle.state.proofs.Bridge.{on-twice, change-then, telling, tell-then, still, then-tell, seq, taken, left, holds-at}
 use Rattle.step_active.specs.Sane.{FreeActive, Calm}
 
 -- ---- places

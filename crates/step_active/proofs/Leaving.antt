@@ -15,8 +15,8 @@ use Rattle.lists.proofs.Count.{index-lt, length-swap}
 use Rattle.util.specs.Chances.{pick}
 use Rattle.peer.specs.declared.PeerData.{PeerData}
 use Rattle.peer.specs.Held.{data-in, HoldsData}
-use Rattle.section.specs.Section.{items-at}
-use Rattle.writer64.specs.Write.{rec-in}
+use Rattle.util.specs.Section.{items-at}
+use Rattle.writer.specs.Write.{rec-in}
 use Rattle.protocol.specs.Station.{recovery, in-active, is-alone}
 use Rattle.protocol.specs.Sending.{send-disconnect}
 use Rattle.protocol.specs.Refill.{start-refill}
@@ -24,20 +24,20 @@ use Rattle.protocol.specs.Run.{Run, with-station, guard, on, emit, to-draw, one
 use Rattle.protocol.specs.Budgets.{bare, adding, disconnecting, leaving, freeing}
 use Rattle.protocol.specs.Peers.{drop-data, drop-mark, forget-peer, add-passive, is-marked}
 use Rattle.protocol.specs.Active.{Reason, random, swap-active, drop-active, demote, mark-alive, demote-alive, settle-closed, settle, clear-refused, remove-active-by-index, refill-after, remove-active, remove-picked, free-random-slot-in-active-view}
-use Rattle.protocol.proofs.Extra.{shorter}
+use Rattle.lists.proofs.Members.{shorter}
 use Rattle.protocol.proofs.Invariant.{Fixed, busy, Ok}
 use Rattle.protocol.proofs.Keeping.{ease, ok-one-of}
 use Rattle.protocol.proofs.Sends.{ok-send-disconnect}
 use Rattle.protocol.proofs.Leaving.{ok-demote-alive, ok-drop-active, ok-free-slot}
-use Rattle.words.specs.declared.Work.{Work}
-use Rattle.words.specs.declared.RefillLimit.{RefillLimit}
-use Rattle.words.specs.declared.RefillLimit.the-variants.{Recovery}
-use Rattle.words.specs.Layout.{active-view-capacity, active-part, alive-part}
-use Rattle.words.specs.Unpack.{unpack, station-of, refill-in, PackedState}
-use Rattle.words.specs.Work.{work-of, run, Changes, DrawsAny, Room, Tells, TellsAny, Fine, Does}
-use Rattle.words.proofs.Access.{active-fits}
-use Rattle.words.proofs.Bridge.{telling, tell-then, still, by, then, then-tell, seq, seq-at, taken, left, holds-at}
-use Rattle.words.proofs.Any.{then-draw-any}
+use Rattle.state.specs.declared.Work.{Work}
+use Rattle.state.specs.declared.RefillLimit.{RefillLimit}
+use Rattle.state.specs.declared.RefillLimit.the-variants.{Recovery}
+use Rattle.state.specs.Layout.{active-view-capacity, active-part, alive-part}
+use Rattle.state.specs.Unpack.{unpack, station-of, refill-in, PackedState}
+use Rattle.state.specs.Work.{work-of, run, Changes, DrawsAny, Room, Tells, TellsAny, Fine, Does}
+use Rattle.state.proofs.Access.{active-fits}
+use Rattle.state.proofs.Bridge.{telling, tell-then, still, by, then, then-tell, seq, seq-at, taken, left, holds-at}
+use Rattle.state.proofs.Any.{then-draw-any}
 use Rattle.step_peers.specs.declared.Added.{Added}
 use Rattle.step_peers.specs.Answer.{Adds}
 use Rattle.step_active.specs.declared.Loss.{Loss}

@@ -1,11 +1,12 @@
 // The active view: peers that leave it and peers that enter it (the definition's `Active`).
 use peer::PeerData;
-use section::PeerId;
+use record::Kind;
+use state::Layout;
+use state::RefillLimit;
+use state::Work;
 use timing::Timing;
-use words::Layout;
-use words::RefillLimit;
-use words::Work;
-use writer64::Fields;
+use util::PeerId;
+use writer::Fields;
 ghost use mathlib.Core.Path.{_≡_};
 ghost use mathlib.Core.Bool.{false};
 ghost use Prim.Native.Nat.{_+_, _<_};
@@ -18,9 +19,9 @@ ghost use Rattle.protocol.specs.Peers.{drop-mark, remove-passive};
 ghost use Rattle.protocol.specs.Active.{swap-active, drop-active, demote, mark-alive, demote-alive, settle-closed, random, settle, remove-active-by-index};
 ghost use Rattle.protocol.specs.Active.{refill-after, remove-active, remove-picked, free-random-slot-in-active-view};
 ghost use Rattle.protocol.specs.Active.{push-active, remember-neighbor, move-in, gain-neighbor, enter-active, add-active-unchecked, admit-full, admit-new, admit, add-active};
-ghost use Rattle.words.specs.Layout.{words};
-ghost use Rattle.words.specs.Unpack.{unpack, PackedState};
-ghost use Rattle.words.specs.Work.{work-of, run, Changes, Room, Tells, Fine, Does};
+ghost use Rattle.state.specs.Layout.{words};
+ghost use Rattle.state.specs.Unpack.{unpack, PackedState};
+ghost use Rattle.state.specs.Work.{work-of, run, Changes, Room, Tells, Fine, Does};
 ghost use Rattle.step_active.specs.Sane.{reason-in, FreeActive, FreeMark, Calm, Loose};
 
 // Why a neighbor is gone that knows it already: the Rust's `RemovalReason` but for the random one.
@@ -41,7 +42,7 @@ fn swap_active(w: Work, st: &mut [u64], i: usize) -> Work
     if w.code != 0 {
         return w;
     }
-    section::remove_index(&mut st[Layout::ACTIVE..Layout::ACTIVE_END], Layout::FEW, i);
+    util::remove_index(&mut st[Layout::ACTIVE..Layout::ACTIVE_END], Layout::FEW, i);
     w
 }
 
@@ -52,10 +53,10 @@ fn drop_active(w: Work, st: &mut [u64], out: &mut [u8], i: usize) -> Work
     requires { ⌜ i < length (unpack (now st) .active) ⌝ }
     ensures { λ r. ⌜ Tells (drop-active i) (work-of w (now (st .entry))) (work-of r (now (st .exit))) (now (out .entry)) (now (out .exit)) ⌝ }
 {
-    let p = section::get_index(&st[Layout::ACTIVE..Layout::ACTIVE_END], Layout::FEW, i);
+    let p = util::get_index(&st[Layout::ACTIVE..Layout::ACTIVE_END], Layout::FEW, i);
     let a = swap_active(w, st, i);
     let f = Fields {
-        kind: 10,
+        kind: Kind::NEIGHBOR_DOWN,
         message: 0,
         flags: 0,
         peer: p,
@@ -63,7 +64,7 @@ fn drop_active(w: Work, st: &mut [u64], out: &mut [u8], i: usize) -> Work
         ttl: 0,
         number: 0,
     };
-    words::emit_bare(a, out, f)
+    state::emit_bare(a, out, f)
 }
 
 // p goes to the passive view with the data that is held of it.
@@ -87,7 +88,7 @@ pub fn mark_alive(w: Work, st: &mut [u64], p: PeerId) -> Work
     if w.code != 0 {
         return w;
     }
-    section::insert_sorted(&mut st[Layout::ALIVE..Layout::ALIVE_END], Layout::ALL, p);
+    util::insert_sorted(&mut st[Layout::ALIVE..Layout::ALIVE_END], Layout::ALL, p);
     w
 }
 
@@ -147,7 +148,7 @@ fn remove_active_by_index(
     requires { ⌜ Calm 0 leaving 1 (run (work-of w (now st)) (now draws) (now out)) ⌝ }
     ensures { λ r. ⌜ Does (work-of r (now (st .exit))) (now (draws .entry)) (now (out .exit)) (remove-active-by-index i (reason-in why) (run (work-of w (now (st .entry))) (now (draws .entry)) (now (out .entry)))) ⌝ }
 {
-    let p = section::get_index(&st[Layout::ACTIVE..Layout::ACTIVE_END], Layout::FEW, i);
+    let p = util::get_index(&st[Layout::ACTIVE..Layout::ACTIVE_END], Layout::FEW, i);
     let a = drop_active(w, st, out, i);
     settle(a, st, draws, out, why, p)
 }
@@ -176,8 +177,8 @@ pub fn remove_active(
     requires { ⌜ Calm 0 leaving 1 (run (work-of w (now st)) (now draws) (now out)) ⌝ }
     ensures { λ r. ⌜ Does (work-of r (now (st .exit))) (now (draws .entry)) (now (out .exit)) (remove-active p (reason-in why) (run (work-of w (now (st .entry))) (now (draws .entry)) (now (out .entry)))) ⌝ }
 {
-    if words::in_active(st, p) {
-        let i = section::position(&st[Layout::ACTIVE..Layout::ACTIVE_END], Layout::FEW, p);
+    if state::in_active(st, p) {
+        let i = util::position(&st[Layout::ACTIVE..Layout::ACTIVE_END], Layout::FEW, p);
         let a = remove_active_by_index(w, st, draws, out, i, why);
         return refill_after(a, st, draws, out, p);
     }
@@ -202,7 +203,7 @@ fn remove_random_by_index(w: Work, st: &mut [u64], draws: &[u32], out: &mut [u8]
     requires { ⌜ Calm 0 freeing 39 (run (work-of w (now st)) (now draws) (now out)) ⌝ }
     ensures { λ r. ⌜ Does (work-of r (now (st .exit))) (now (draws .entry)) (now (out .exit)) (remove-active-by-index i random (run (work-of w (now (st .entry))) (now (draws .entry)) (now (out .entry)))) ⌝ }
 {
-    let p = section::get_index(&st[Layout::ACTIVE..Layout::ACTIVE_END], Layout::FEW, i);
+    let p = util::get_index(&st[Layout::ACTIVE..Layout::ACTIVE_END], Layout::FEW, i);
     let a = drop_active(w, st, out, i);
     settle_random(a, st, draws, out, p)
 }
@@ -214,8 +215,8 @@ fn remove_picked(w: Work, st: &mut [u64], draws: &[u32], out: &mut [u8]) -> Work
     requires { ⌜ null (unpack (now st) .active) ≡ false ⌝ }
     ensures { λ r. ⌜ Does (work-of r (now (st .exit))) (now (draws .entry)) (now (out .exit)) (remove-picked (run (work-of w (now (st .entry))) (now (draws .entry)) (now (out .entry)))) ⌝ }
 {
-    let n = section::count(&st[Layout::ACTIVE..Layout::ACTIVE_END], Layout::FEW);
-    let t = words::choose(w, draws, n);
+    let n = util::count(&st[Layout::ACTIVE..Layout::ACTIVE_END], Layout::FEW);
+    let t = state::choose(w, draws, n);
     let a = t.work;
     let i = t.index;
     remove_random_by_index(a, st, draws, out, i)
@@ -227,7 +228,7 @@ fn free_random_slot_in_active_view(w: Work, st: &mut [u64], draws: &[u32], out: 
     requires { ⌜ Calm 0 freeing 40 (run (work-of w (now st)) (now draws) (now out)) ⌝ }
     ensures { λ r. ⌜ Does (work-of r (now (st .exit))) (now (draws .entry)) (now (out .exit)) (free-random-slot-in-active-view (run (work-of w (now (st .entry))) (now (draws .entry)) (now (out .entry)))) ⌝ }
 {
-    if words::is_alone(st) {
+    if state::is_alone(st) {
         return w;
     }
     remove_picked(w, st, draws, out)
@@ -254,7 +255,7 @@ fn push_active(w: Work, st: &mut [u64], p: PeerId) -> Work
     if w.code != 0 {
         return w;
     }
-    section::push(&mut st[Layout::ACTIVE..Layout::ACTIVE_END], Layout::FEW, p);
+    util::push(&mut st[Layout::ACTIVE..Layout::ACTIVE_END], Layout::FEW, p);
     w
 }
 
@@ -267,7 +268,7 @@ fn remember_neighbor(w: Work, st: &mut [u64], p: PeerId) -> Work
     if w.code != 0 {
         return w;
     }
-    section::renew(
+    util::renew(
         &mut st[Layout::RECENT..Layout::RECENT_END],
         Layout::FEW,
         Timing::MAX_RECENT_NEIGHBORS,
@@ -297,9 +298,9 @@ fn gain_neighbor(w: Work, st: &mut [u64]) -> Work
     if w.code != 0 {
         return w;
     }
-    let old = words::limit_of(st);
+    let old = state::limit_of(st);
     let limit = step_refill::unless_recovery(old, RefillLimit::Automatic);
-    words::keep_limit(st, limit);
+    state::keep_limit(st, limit);
     st[Layout::PASSES_SHORT] = 0;
     w
 }
@@ -313,7 +314,7 @@ fn enter_active(w: Work, st: &mut [u64], out: &mut [u8], p: PeerId) -> Work
 {
     let a = move_in(w, st, p);
     let f = Fields {
-        kind: 9,
+        kind: Kind::NEIGHBOR_UP,
         message: 0,
         flags: 0,
         peer: p,
@@ -321,7 +322,7 @@ fn enter_active(w: Work, st: &mut [u64], out: &mut [u8], p: PeerId) -> Work
         ttl: 0,
         number: 0,
     };
-    let b = words::emit_bare(a, out, f);
+    let b = state::emit_bare(a, out, f);
     gain_neighbor(b, st)
 }
 
@@ -378,7 +379,7 @@ fn admit_new(
     requires { ⌜ Calm 0 freeing 40 (run (work-of w (now st)) (now draws) (now out)) ⌝ }
     ensures { λ r. ⌜ Does (work-of r (now (st .exit))) (now (draws .entry)) (now (out .exit)) (admit-new p high reply (run (work-of w (now (st .entry))) (now (draws .entry)) (now (out .entry)))) ⌝ }
 {
-    if words::active_is_full(st) {
+    if state::active_is_full(st) {
         return admit_full(w, st, draws, out, p, high, reply);
     }
     add_active_unchecked(w, st, out, p, high, reply)
@@ -398,7 +399,7 @@ fn admit(
     requires { ⌜ Calm 0 freeing 40 (run (work-of w (now st)) (now draws) (now out)) ⌝ }
     ensures { λ r. ⌜ Does (work-of r (now (st .exit))) (now (draws .entry)) (now (out .exit)) (admit p high reply (run (work-of w (now (st .entry))) (now (draws .entry)) (now (out .entry)))) ⌝ }
 {
-    if words::in_active(st, p) {
+    if state::in_active(st, p) {
         return step_sending::reply_neighbor(w, st, out, reply, p, high);
     }
     admit_new(w, st, draws, out, p, high, reply)
@@ -420,7 +421,7 @@ pub fn add_active(
     requires { ⌜ Calm 0 arriving 40 (run (work-of w (now st)) (now draws) (now out)) ⌝ }
     ensures { λ r. ⌜ Does (work-of r (now (st .exit))) (now (draws .entry)) (now (out .exit)) (add-active p (data-in d) high reply (run (work-of w (now (st .entry))) (now (draws .entry)) (now (out .entry)))) ⌝ }
 {
-    if words::is_me(st, p) {
+    if state::is_me(st, p) {
         return w;
     }
     let a = step_peers::insert_peer_info(w, st, out, p, d);

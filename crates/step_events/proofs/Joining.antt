@@ -14,26 +14,26 @@ use Rattle.lists.specs.Maps.{keys, cut, has}
 use Rattle.lists.proofs.Choice.{split, by-choice, choose-yes, choose-no}
 use Rattle.lists.proofs.Count.{is-self, is-split, mem-false}
 use Rattle.lists.proofs.Maps.{length-keys}
-use Rattle.section.specs.Section.{items-at, HoldsSet}
+use Rattle.util.specs.Section.{items-at, HoldsSet}
 use Rattle.columns.specs.Columns.{numbers-at}
 use Rattle.record.specs.Format.{Rec}
-use Rattle.writer64.specs.Write.{rec-in}
+use Rattle.writer.specs.Write.{rec-in}
 use Rattle.protocol.specs.Setters.{set-joins, set-bootstrap}
 use Rattle.protocol.specs.Station.{Station, is-me, in-active}
 use Rattle.protocol.specs.Run.{Run, guard, on, emit, require}
 use Rattle.protocol.specs.Sending.{join-to, join}
 use Rattle.protocol.specs.Messages.{drop-join}
 use Rattle.protocol.specs.Events.{must-drop-oldest, oldest, drop-oldest-join, push-bootstrap, join-counts, note-join, open-join, await-join, join-other, join-new, handle-join}
-use Rattle.protocol.proofs.Extra.{shorter, renewed}
+use Rattle.lists.proofs.Members.{shorter, renewed}
 use Rattle.protocol.proofs.Invariant.{Fixed, calm, Ok}
 use Rattle.protocol.proofs.Requested.{fewer-joins}
-use Rattle.words.specs.declared.Work.{Work}
-use Rattle.words.specs.Layout.{bootstrap-part, joins-part, next-join}
-use Rattle.words.specs.Unpack.{unpack, station-of, PackedState}
-use Rattle.words.specs.Work.{Held, work-of, run, Changes, ChangesAny, Room, Tells, TellsAny}
-use Rattle.words.proofs.Bridge.{guard-open, guard-shut, on-twice, on-passed, on-done, require-said, unchanged, change-by, change-then, telling, tell-then, tell-yes, tell-no}
-use Rattle.words.proofs.Fields.{put-bootstrap}
-use Rattle.words.proofs.Refused.{required-code}
+use Rattle.state.specs.declared.Work.{Work}
+use Rattle.state.specs.Layout.{bootstrap-part, joins-part, next-join}
+use Rattle.state.specs.Unpack.{unpack, station-of, PackedState}
+use Rattle.state.specs.Work.{Held, work-of, run, Changes, ChangesAny, Room, Tells, TellsAny}
+use Rattle.state.proofs.Bridge.{guard-open, guard-shut, on-twice, on-passed, on-done, require-said, unchanged, change-by, change-then, telling, tell-then, tell-yes, tell-no}
+use Rattle.state.proofs.Fields.{put-bootstrap}
+use Rattle.state.proofs.Refused.{required-code}
 use Rattle.step_events.specs.Free.{KnownJoins, FreeJoin, Joinable}
 
 -- ---- the bootstrap peers

@@ -9,7 +9,7 @@ use lib.ListN.{length, take}
 use borrow.Rule.Slice.PartMut.{putMid}
 use Rattle.lists.specs.Lists.{remove}
 use Rattle.lists.proofs.Count.{length-remove}
-use Rattle.section.specs.Section.{items-at, HoldsSet}
+use Rattle.util.specs.Section.{items-at, HoldsSet}
 use Rattle.columns.specs.Columns.{HoldsNumbers}
 use Rattle.protocol.specs.Setters.{set-requests, set-passive, set-peer-data, set-alive, set-refused}
 use Rattle.protocol.specs.Station.{Station, in-active, is-requested}
@@ -22,13 +22,13 @@ use Rattle.protocol.specs.Messages.{drop-request}
 use Rattle.protocol.specs.Events.{drop-dead, lose-passive, lose-other, lose, handle-connection-closed, remove-neighbor, quit-one, quit-all, clear-all, handle-quit}
 use Rattle.protocol.proofs.Invariant.{busy, Ok}
 use Rattle.protocol.proofs.Received.{ok-drop-request}
-use Rattle.words.specs.declared.Work.{Work}
-use Rattle.words.specs.Layout.{active-part, active-view-capacity}
-use Rattle.words.specs.Unpack.{unpack, station-of, PackedState}
-use Rattle.words.specs.Work.{Held, work-of, run, Changes, Fine, Does}
-use Rattle.words.proofs.Access.{active-fits}
-use Rattle.words.proofs.Bridge.{on-twice, on-passed, on-done, change-then, change-yes, change-no, by, still, then, seq, seq-at, taken, left, holds-at, at-run}
-use Rattle.words.proofs.Fields.{put-requests}
+use Rattle.state.specs.declared.Work.{Work}
+use Rattle.state.specs.Layout.{active-part, active-view-capacity}
+use Rattle.state.specs.Unpack.{unpack, station-of, PackedState}
+use Rattle.state.specs.Work.{Held, work-of, run, Changes, Fine, Does}
+use Rattle.state.proofs.Access.{active-fits}
+use Rattle.state.proofs.Bridge.{on-twice, on-passed, on-done, change-then, change-yes, change-no, by, still, then, seq, seq-at, taken, left, holds-at, at-run}
+use Rattle.state.proofs.Fields.{put-requests}
 use Rattle.step_sending.proofs.Sets.{lent-items}
 use Rattle.step_active.specs.declared.Loss.the-variants.{ConnectionClosed}
 use Rattle.step_active.specs.Sane.{Calm, reason-in}

@@ -1,26 +1,28 @@
 // What comes from the station's own side: a request to join, new data of its own, a closed connection, and Quit (the definition's `Events`).
 use peer::PeerData;
-use section::PeerId;
+use record::Kind;
+use record::Refusal;
+use state::Layout;
+use state::Work;
 use step_active::Loss;
 use timing::Timing;
-use words::Layout;
-use words::Work;
-use writer64::Fields;
+use util::PeerId;
+use writer::Fields;
 ghost use mathlib.Core.Path.{_≡_};
 ghost use mathlib.Core.Bool.{true};
 ghost use mathlib.Core.List.{[]};
 ghost use lib.ListN.{length};
 ghost use Rattle.lists.specs.Lists.{without};
 ghost use Rattle.peer.specs.Held.{data-in, ValidData};
-ghost use Rattle.section.specs.Section.{HoldsSet};
+ghost use Rattle.util.specs.Section.{HoldsSet};
 ghost use Rattle.protocol.specs.Setters.{set-passive, set-peer-data, set-alive, set-refused};
 ghost use Rattle.protocol.specs.Budgets.{leaving};
 ghost use Rattle.protocol.specs.Run.{on};
 ghost use Rattle.protocol.specs.Events.{must-drop-oldest, oldest, drop-oldest-join, push-bootstrap, join-counts, note-join, open-join, await-join, join-other, join-new, handle-join};
 ghost use Rattle.protocol.specs.Events.{drop-dead, lose-passive, lose-other, lose, handle-connection-closed, update-own-data, remove-neighbor, quit-one, quit-all, clear-all, handle-quit};
-ghost use Rattle.words.specs.Layout.{words};
-ghost use Rattle.words.specs.Unpack.{unpack, PackedState};
-ghost use Rattle.words.specs.Work.{work-of, run, Changes, Room, Tells, Fine, Does};
+ghost use Rattle.state.specs.Layout.{words};
+ghost use Rattle.state.specs.Unpack.{unpack, PackedState};
+ghost use Rattle.state.specs.Work.{work-of, run, Changes, Room, Tells, Fine, Does};
 ghost use Rattle.step_active.specs.Sane.{Calm};
 ghost use Rattle.step_events.specs.Free.{FreeJoin, Joinable, KnownJoins};
 
@@ -31,12 +33,12 @@ fn others_into(st: &[u64], p: PeerId, t: &mut [u64])
     requires { ⌜ length (now t) ≡ 33 ⌝ }
     ensures { λ _. ⌜ HoldsSet 32 (now (t .exit)) (without p (unpack (now (st .entry)) .bootstrap)) ⌝ }
 {
-    section::copy_into(
+    util::copy_into(
         &st[Layout::BOOTSTRAP..Layout::BOOTSTRAP_END],
         Layout::FEW,
         t,
     );
-    section::without(t, Layout::ALL, p);
+    util::without(t, Layout::ALL, p);
 }
 
 // Whether p would be one bootstrap peer too many.
@@ -47,7 +49,7 @@ fn must_drop_oldest(st: &[u64], p: PeerId) -> bool
 {
     let mut others = [0u64; 33];
     others_into(st, p, &mut others);
-    let n = section::count(&others, Layout::ALL);
+    let n = util::count(&others, Layout::ALL);
     Timing::MAX_BOOTSTRAP_PEERS < n + 1
 }
 
@@ -60,7 +62,7 @@ fn oldest(st: &[u64], p: PeerId) -> PeerId
 {
     let mut others = [0u64; 33];
     others_into(st, p, &mut others);
-    section::get_index(&others, Layout::ALL, 0)
+    util::get_index(&others, Layout::ALL, 0)
 }
 
 // The bootstrap peer that leaves takes its open join with it.
@@ -71,7 +73,7 @@ fn drop_oldest_join(w: Work, st: &mut [u64], p: PeerId) -> Work
 {
     if must_drop_oldest(st, p) {
         let old = oldest(st, p);
-        return words::drop_join(w, st, old);
+        return state::drop_join(w, st, old);
     }
     w
 }
@@ -86,7 +88,7 @@ fn push_bootstrap(w: Work, st: &mut [u64], p: PeerId) -> Work
     if a.code != 0 {
         return a;
     }
-    section::renew(
+    util::renew(
         &mut st[Layout::BOOTSTRAP..Layout::BOOTSTRAP_END],
         Layout::FEW,
         Timing::MAX_BOOTSTRAP_PEERS,
@@ -132,7 +134,7 @@ fn open_join(w: Work, st: &mut [u64], p: PeerId) -> Work
     ensures { λ r. ⌜ Changes (open-join p) (work-of w (now (st .entry))) (work-of r (now (st .exit))) ⌝ }
 {
     let t = join_counts(st);
-    let a = words::require(w, 10, t);
+    let a = state::require(w, Refusal::COUNTER, t);
     note_join(a, st, p)
 }
 
@@ -146,7 +148,7 @@ fn await_join(w: Work, st: &mut [u64], out: &mut [u8], p: PeerId) -> Work
     let id = st[Layout::NEXT_JOIN];
     let a = open_join(w, st, p);
     let f = Fields {
-        kind: 4,
+        kind: Kind::RETRY_JOIN,
         message: 0,
         flags: 0,
         peer: p,
@@ -154,7 +156,7 @@ fn await_join(w: Work, st: &mut [u64], out: &mut [u8], p: PeerId) -> Work
         ttl: 0,
         number: id,
     };
-    words::emit_bare(a, out, f)
+    state::emit_bare(a, out, f)
 }
 
 // Join to p; the station itself gets one too, but no retry.
@@ -164,7 +166,7 @@ fn join_other(w: Work, st: &mut [u64], out: &mut [u8], p: PeerId) -> Work
     requires { ⌜ FreeJoin p (w .code) (unpack (now st)) ⌝ }
     ensures { λ r. ⌜ Tells (join-other p) (work-of w (now (st .entry))) (work-of r (now (st .exit))) (now (out .entry)) (now (out .exit)) ⌝ }
 {
-    if words::is_me(st, p) {
+    if state::is_me(st, p) {
         return step_sending::join(w, st, out, p);
     }
     let a = step_sending::join(w, st, out, p);
@@ -178,7 +180,7 @@ fn join_new(w: Work, st: &mut [u64], out: &mut [u8], p: PeerId) -> Work
     requires { ⌜ FreeJoin p (w .code) (unpack (now st)) ⌝ }
     ensures { λ r. ⌜ Tells (join-new p) (work-of w (now (st .entry))) (work-of r (now (st .exit))) (now (out .entry)) (now (out .exit)) ⌝ }
 {
-    if words::in_active(st, p) {
+    if state::in_active(st, p) {
         return w;
     }
     join_other(w, st, out, p)
@@ -245,7 +247,7 @@ fn lose(w: Work, st: &mut [u64], draws: &[u32], out: &mut [u8], p: PeerId, reque
     requires { ⌜ Calm 0 leaving 1 (run (work-of w (now st)) (now draws) (now out)) ⌝ }
     ensures { λ r. ⌜ Does (work-of r (now (st .exit))) (now (draws .entry)) (now (out .exit)) (lose p requested (run (work-of w (now (st .entry))) (now (draws .entry)) (now (out .entry)))) ⌝ }
 {
-    if words::in_active(st, p) {
+    if state::in_active(st, p) {
         return step_active::remove_active(w, st, draws, out, p, Loss::ConnectionClosed);
     }
     lose_other(w, st, draws, out, p, requested)
@@ -264,8 +266,8 @@ pub fn handle_connection_closed(
     requires { ⌜ Calm 0 leaving 1 (run (work-of w (now st)) (now draws) (now out)) ⌝ }
     ensures { λ r. ⌜ Does (work-of r (now (st .exit))) (now (draws .entry)) (now (out .exit)) (handle-connection-closed p (run (work-of w (now (st .entry))) (now (draws .entry)) (now (out .entry)))) ⌝ }
 {
-    let requested = words::is_requested(st, p);
-    let a = words::drop_request(w, st, p);
+    let requested = state::is_requested(st, p);
+    let a = state::drop_request(w, st, p);
     lose(a, st, draws, out, p, requested)
 }
 
@@ -279,7 +281,7 @@ pub fn update_own_data(w: Work, st: &mut [u64], d: PeerData) -> Work
     if w.code != 0 {
         return w;
     }
-    words::keep_own(st, d);
+    state::keep_own(st, d);
     w
 }
 
@@ -291,7 +293,7 @@ fn remove_neighbor(w: Work, st: &mut [u64], p: PeerId) -> Work
     if w.code != 0 {
         return w;
     }
-    section::remove(&mut st[Layout::ACTIVE..Layout::ACTIVE_END], Layout::FEW, p);
+    util::remove(&mut st[Layout::ACTIVE..Layout::ACTIVE_END], Layout::FEW, p);
     w
 }
 
@@ -330,8 +332,8 @@ fn clear_marks(w: Work, st: &mut [u64]) -> Work
     if w.code != 0 {
         return w;
     }
-    section::clear(&mut st[Layout::REFUSED..Layout::REFUSED_END], Layout::ALL);
-    section::clear(&mut st[Layout::ALIVE..Layout::ALIVE_END], Layout::ALL);
+    util::clear(&mut st[Layout::REFUSED..Layout::REFUSED_END], Layout::ALL);
+    util::clear(&mut st[Layout::ALIVE..Layout::ALIVE_END], Layout::ALL);
     w
 }
 
@@ -345,7 +347,7 @@ fn clear_passive(w: Work, st: &mut [u64]) -> Work
         return w;
     }
     columns::clear_data(&mut st[Layout::DATA..Layout::DATA_END], Layout::DATA_CAP);
-    section::clear(&mut st[Layout::PASSIVE..Layout::PASSIVE_END], Layout::ALL);
+    util::clear(&mut st[Layout::PASSIVE..Layout::PASSIVE_END], Layout::ALL);
     w
 }
 
@@ -380,8 +382,8 @@ pub fn handle_quit(w: Work, st: &mut [u64], draws: &[u32], out: &mut [u8]) -> Wo
     ensures { λ r. ⌜ Does (work-of r (now (st .exit))) (now (draws .entry)) (now (out .exit)) (handle-quit (run (work-of w (now (st .entry))) (now (draws .entry)) (now (out .entry)))) ⌝ }
 {
     let mut v = [0u64; 33];
-    section::copy_into(&st[Layout::ACTIVE..Layout::ACTIVE_END], Layout::FEW, &mut v);
-    let n = section::count(&v, Layout::ALL);
+    util::copy_into(&st[Layout::ACTIVE..Layout::ACTIVE_END], Layout::FEW, &mut v);
+    let n = util::count(&v, Layout::ALL);
     let a = quit_all(w, st, draws, out, &v[..n]);
     clear_all(a, st)
 }

@@ -7,16 +7,16 @@ use mathlib.Core.List.{List, []}
 use native.Mathlib.Omega.{arith}
 use borrow.Author.Tests.{ltb-true}
 use Rattle.lists.specs.Lists.{without-all}
-use Rattle.section.specs.Section.{items-at, HoldsSet}
-use Rattle.writer64.specs.Write.{rec-in}
+use Rattle.util.specs.Section.{items-at, HoldsSet}
+use Rattle.writer.specs.Write.{rec-in}
 use Rattle.protocol.specs.Station.{Station}
 use Rattle.protocol.specs.Run.{on, emit, require}
 use Rattle.protocol.specs.Timers.{renew-all, other-recent, alone-counts, add-alone, count-alone, short-counts, add-short, count-short, schedule-maintenance}
-use Rattle.words.specs.declared.Work.{Work}
-use Rattle.words.specs.Layout.{recent-part, bootstrap-part, passes-alone, passes-short}
-use Rattle.words.specs.Unpack.{unpack, station-of, PackedState}
-use Rattle.words.specs.Work.{work-of, run, Changes, ChangesAny, TellsAny}
-use Rattle.words.proofs.Bridge.{require-said, change-then, tell-by}
+use Rattle.state.specs.declared.Work.{Work}
+use Rattle.state.specs.Layout.{recent-part, bootstrap-part, passes-alone, passes-short}
+use Rattle.state.specs.Unpack.{unpack, station-of, PackedState}
+use Rattle.state.specs.Work.{work-of, run, Changes, ChangesAny, TellsAny}
+use Rattle.state.proofs.Bridge.{require-said, change-then, tell-by}
 use Rattle.step_maintenance.specs.Counts.{Counts}
 
 -- ---- passes

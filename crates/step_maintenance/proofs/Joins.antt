@@ -12,16 +12,16 @@ use Rattle.lists.proofs.Rest.{Rest, rest-next, rest-end}
 use Rattle.util.specs.Chances.{pick}
 use Rattle.timing.specs.Timing.{backoff-due}
 use Rattle.peer.specs.Data.{Data}
-use Rattle.section.specs.Section.{items-at, HoldsSet}
+use Rattle.util.specs.Section.{items-at, HoldsSet}
 use Rattle.protocol.specs.Run.{Run, emit, emit-all, to-draw, one-of, draw-one-of, picked}
 use Rattle.protocol.specs.Sending.{join-to, join}
 use Rattle.protocol.specs.Timers.{other-recent, rejoin-recent, rejoin-bootstrap, rejoin, count-alone, rejoin-if-due, pass-alone}
-use Rattle.words.specs.declared.Work.{Work}
-use Rattle.words.specs.Layout.{bootstrap-part, passes-alone}
-use Rattle.words.specs.Unpack.{unpack, station-of}
-use Rattle.words.specs.Work.{work-of, run, Changes, DrawsAny, Room, Tells, Fine, Does}
-use Rattle.words.proofs.Bridge.{by, still, then, then-tell, seq, seq-at, taken, left}
-use Rattle.words.proofs.Any.{then-draw-any}
+use Rattle.state.specs.declared.Work.{Work}
+use Rattle.state.specs.Layout.{bootstrap-part, passes-alone}
+use Rattle.state.specs.Unpack.{unpack, station-of}
+use Rattle.state.specs.Work.{work-of, run, Changes, DrawsAny, Room, Tells, Fine, Does}
+use Rattle.state.proofs.Bridge.{by, still, then, then-tell, seq, seq-at, taken, left}
+use Rattle.state.proofs.Any.{then-draw-any}
 
 -- ---- the bootstrap peers: the Joins to those to come, after what was done so far, are the answer
 

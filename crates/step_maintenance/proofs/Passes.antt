@@ -11,13 +11,13 @@ use Rattle.protocol.specs.Run.{on}
 use Rattle.protocol.specs.Refill.{few-requests, end-recovery, start-refill}
 use Rattle.protocol.specs.Active.{clear-refused}
 use Rattle.protocol.specs.Timers.{count-short, refill-anew, refill-if-due, in-recovery, pass-short, pass-neighbors, pass-known, not-alone, knows-none, pass-alone, maintain}
-use Rattle.words.specs.declared.RefillLimit.{RefillLimit}
-use Rattle.words.specs.declared.RefillLimit.the-variants.{Recovery}
-use Rattle.words.specs.declared.Work.{Work}
-use Rattle.words.specs.Layout.{passes-short}
-use Rattle.words.specs.Unpack.{unpack, station-of, refill-in}
-use Rattle.words.specs.Work.{Held, work-of, run, Changes, Fine, Does}
-use Rattle.words.proofs.Bridge.{on-twice, change-then, still, then, seq, seq-at, taken, left, holds-at}
+use Rattle.state.specs.declared.RefillLimit.{RefillLimit}
+use Rattle.state.specs.declared.RefillLimit.the-variants.{Recovery}
+use Rattle.state.specs.declared.Work.{Work}
+use Rattle.state.specs.Layout.{passes-short}
+use Rattle.state.specs.Unpack.{unpack, station-of, refill-in}
+use Rattle.state.specs.Work.{Held, work-of, run, Changes, Fine, Does}
+use Rattle.state.proofs.Bridge.{on-twice, change-then, still, then, seq, seq-at, taken, left, holds-at}
 
 -- ---- refills
 

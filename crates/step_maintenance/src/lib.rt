@@ -1,22 +1,24 @@
 // The maintenance and its timer (the definition's `Timers`).
+use record::Kind;
+use record::Refusal;
+use state::Layout;
+use state::RefillLimit;
+use state::Work;
 use timing::Timing;
-use words::Layout;
-use words::RefillLimit;
-use words::Work;
-use writer64::Fields;
+use writer::Fields;
 ghost use mathlib.Core.Path.{_≡_};
 ghost use Prim.Native.Nat.{_≤_};
 ghost use lib.ListN.{length};
-ghost use Rattle.section.specs.Section.{items-at, ValidSet, HoldsSet};
+ghost use Rattle.util.specs.Section.{items-at, ValidSet, HoldsSet};
 ghost use Rattle.protocol.specs.Setters.{set-passes-alone};
 ghost use Rattle.protocol.specs.Run.{on};
 ghost use Rattle.protocol.specs.Timers.{renew-all, remember-all, other-recent, rejoin-recent, rejoin-bootstrap, rejoin};
 ghost use Rattle.protocol.specs.Timers.{alone-counts, add-alone, count-alone, rejoin-if-due, pass-alone, short-counts, add-short, count-short};
 ghost use Rattle.protocol.specs.Timers.{refill-anew, refill-if-due, in-recovery, pass-short, pass-neighbors, pass-known, not-alone, knows-none, maintain};
 ghost use Rattle.protocol.specs.Timers.{schedule-maintenance, handle-maintenance-timer};
-ghost use Rattle.words.specs.Layout.{words};
-ghost use Rattle.words.specs.Unpack.{unpack, PackedState};
-ghost use Rattle.words.specs.Work.{work-of, run, Changes, Room, Tells, TellsAny, Fine, Does};
+ghost use Rattle.state.specs.Layout.{words};
+ghost use Rattle.state.specs.Unpack.{unpack, PackedState};
+ghost use Rattle.state.specs.Work.{work-of, run, Changes, Room, Tells, TellsAny, Fine, Does};
 ghost use Rattle.step_maintenance.specs.Counts.{Counts};
 
 // The most passes that are counted (the Rust's `u32::MAX`).
@@ -28,12 +30,12 @@ fn renew_all(known: &mut [u64], v: &[u64])
     requires { ⌜ ValidSet 32 (now v) ⌝ }
     ensures { λ _. ⌜ HoldsSet 8 (now (known .exit)) (renew-all (items-at 32 (now (v .entry))) (items-at 8 (now (known .entry)))) ⌝ }
 {
-    let n = section::count(v, Layout::ALL);
+    let n = util::count(v, Layout::ALL);
     let mut i: usize = 0;
     while i < n {
-        let p = section::get_index(v, Layout::ALL, i);
+        let p = util::get_index(v, Layout::ALL, i);
         i += 1;
-        section::renew(known, Layout::FEW, Timing::MAX_RECENT_NEIGHBORS, p);
+        util::renew(known, Layout::FEW, Timing::MAX_RECENT_NEIGHBORS, p);
     }
 }
 
@@ -47,7 +49,7 @@ fn remember_all(w: Work, st: &mut [u64]) -> Work
         return w;
     }
     let mut v = [0u64; 33];
-    section::copy_into(&st[Layout::ACTIVE..Layout::ACTIVE_END], Layout::FEW, &mut v);
+    util::copy_into(&st[Layout::ACTIVE..Layout::ACTIVE_END], Layout::FEW, &mut v);
     renew_all(&mut st[Layout::RECENT..Layout::RECENT_END], &v);
     w
 }
@@ -59,8 +61,8 @@ fn other_recent(st: &[u64], v: &mut [u64])
     requires { ⌜ length (now v) ≡ 33 ⌝ }
     ensures { λ _. ⌜ HoldsSet 32 (now (v .exit)) (other-recent (unpack (now (st .entry)))) ⌝ }
 {
-    section::copy_into(&st[Layout::RECENT..Layout::RECENT_END], Layout::FEW, v);
-    section::without_all(
+    util::copy_into(&st[Layout::RECENT..Layout::RECENT_END], Layout::FEW, v);
+    util::without_all(
         v,
         Layout::ALL,
         &st[Layout::BOOTSTRAP..Layout::BOOTSTRAP_END],
@@ -75,13 +77,13 @@ fn rejoin_recent(w: Work, st: &[u64], draws: &[u32], out: &mut [u8], v: &[u64]) 
     requires { ⌜ ValidSet 32 (now v) ⌝ }
     ensures { λ r. ⌜ Does (work-of r (now (st .entry))) (now (draws .entry)) (now (out .exit)) (rejoin-recent (items-at 32 (now (v .entry))) (run (work-of w (now (st .entry))) (now (draws .entry)) (now (out .entry)))) ⌝ }
 {
-    if section::is_empty(v, Layout::ALL) {
+    if util::is_empty(v, Layout::ALL) {
         return w;
     }
-    let n = section::count(v, Layout::ALL);
-    let t = words::choose(w, draws, n);
+    let n = util::count(v, Layout::ALL);
+    let t = state::choose(w, draws, n);
     let a = t.work;
-    let p = section::get_index(v, Layout::ALL, t.index);
+    let p = util::get_index(v, Layout::ALL, t.index);
     step_sending::join(a, st, out, p)
 }
 
@@ -91,11 +93,11 @@ fn rejoin_bootstrap(w: Work, st: &[u64], out: &mut [u8]) -> Work
     requires { ⌜ Room (work-of w (now st)) (now out) ⌝ }
     ensures { λ r. ⌜ Tells rejoin-bootstrap (work-of w (now (st .entry))) (work-of r (now (st .entry))) (now (out .entry)) (now (out .exit)) ⌝ }
 {
-    let n = section::count(&st[Layout::BOOTSTRAP..Layout::BOOTSTRAP_END], Layout::FEW);
+    let n = util::count(&st[Layout::BOOTSTRAP..Layout::BOOTSTRAP_END], Layout::FEW);
     let mut r = w;
     let mut i: usize = 0;
     while i < n {
-        let p = section::get_index(
+        let p = util::get_index(
             &st[Layout::BOOTSTRAP..Layout::BOOTSTRAP_END],
             Layout::FEW,
             i,
@@ -146,7 +148,7 @@ fn count_alone(w: Work, st: &mut [u64]) -> Work
     ensures { λ r. ⌜ Changes count-alone (work-of w (now (st .entry))) (work-of r (now (st .exit))) ⌝ }
 {
     let t = alone_counts(st);
-    let a = words::require(w, 10, t);
+    let a = state::require(w, Refusal::COUNTER, t);
     add_alone(a, st)
 }
 
@@ -201,7 +203,7 @@ fn count_short(w: Work, st: &mut [u64]) -> Work
     ensures { λ r. ⌜ Changes count-short (work-of w (now (st .entry))) (work-of r (now (st .exit))) ⌝ }
 {
     let t = short_counts(st);
-    let a = words::require(w, 10, t);
+    let a = state::require(w, Refusal::COUNTER, t);
     add_short(a, st)
 }
 
@@ -235,7 +237,7 @@ fn in_recovery(st: &[u64]) -> bool
     requires { ⌜ length (now st) ≡ words ⌝ }
     ensures { λ r. ⌜ r ≡ in-recovery (unpack (now (st .entry))) ⌝ }
 {
-    let l = words::limit_of(st);
+    let l = state::limit_of(st);
     l.is_recovery()
 }
 
@@ -258,7 +260,7 @@ fn pass_neighbors(w: Work, st: &mut [u64], draws: &[u32], out: &mut [u8]) -> Wor
     requires { ⌜ Fine (work-of w (now st)) (now draws) (now out) ⌝ }
     ensures { λ r. ⌜ Does (work-of r (now (st .exit))) (now (draws .entry)) (now (out .exit)) (pass-neighbors (run (work-of w (now (st .entry))) (now (draws .entry)) (now (out .entry)))) ⌝ }
 {
-    if words::is_short(st) {
+    if state::is_short(st) {
         return pass_short(w, st, draws, out);
     }
     step_refill::clear_refused(w, st)
@@ -270,7 +272,7 @@ fn pass_known(w: Work, st: &mut [u64], draws: &[u32], out: &mut [u8]) -> Work
     requires { ⌜ Fine (work-of w (now st)) (now draws) (now out) ⌝ }
     ensures { λ r. ⌜ Does (work-of r (now (st .exit))) (now (draws .entry)) (now (out .exit)) (pass-known (run (work-of w (now (st .entry))) (now (draws .entry)) (now (out .entry)))) ⌝ }
 {
-    if words::is_alone(st) {
+    if state::is_alone(st) {
         let none = [0u64; 0];
         return step_refill::start_refill(w, st, draws, out, RefillLimit::Recovery, &none);
     }
@@ -306,7 +308,7 @@ fn knows_none(st: &[u64]) -> bool
     requires { ⌜ PackedState (now st) ⌝ }
     ensures { λ r. ⌜ r ≡ knows-none (unpack (now (st .entry))) ⌝ }
 {
-    words::is_alone(st) & section::is_empty(&st[Layout::PASSIVE..Layout::PASSIVE_END], Layout::ALL)
+    state::is_alone(st) & util::is_empty(&st[Layout::PASSIVE..Layout::PASSIVE_END], Layout::ALL)
 }
 
 // One pass of maintenance.
@@ -328,7 +330,7 @@ pub fn schedule_maintenance(w: Work, out: &mut [u8]) -> Work
     ensures { λ r. ⌜ TellsAny schedule-maintenance w r (now (out .entry)) (now (out .exit)) ⌝ }
 {
     let f = Fields {
-        kind: 2,
+        kind: Kind::DO_MAINTENANCE,
         message: 0,
         flags: 0,
         peer: 0,
@@ -336,7 +338,7 @@ pub fn schedule_maintenance(w: Work, out: &mut [u8]) -> Work
         ttl: 0,
         number: 0,
     };
-    words::emit_bare(w, out, f)
+    state::emit_bare(w, out, f)
 }
 
 // The timer of the maintenance, which sets the next one.

@@ -13,14 +13,14 @@ use Rattle.protocol.specs.Run.{Run, on}
 use Rattle.protocol.specs.Active.{remove-active, add-active, accepts}
 use Rattle.protocol.specs.Messages.{drop-pending, forward-joins, on-join, refuse-neighbor, answer-neighbor, on-neighbor}
 use Rattle.protocol.specs.Messages.{drop-join, drop-request, forget-recent, disconnect-other, disconnected, on-disconnect}
-use Rattle.protocol.proofs.Extra.{shorter}
+use Rattle.lists.proofs.Members.{shorter}
 use Rattle.protocol.proofs.Invariant.{Fixed, busy, calm, Ok}
 use Rattle.protocol.proofs.Entering.{unbar}
 use Rattle.protocol.proofs.Received.{ok-drop-join, ok-drop-request, ok-drop-pending, ok-forget-recent}
-use Rattle.words.specs.declared.Work.{Work}
-use Rattle.words.specs.Unpack.{unpack}
-use Rattle.words.specs.Work.{Held, work-of, run, Changes, Tells, Fine, Does}
-use Rattle.words.proofs.Bridge.{change-then, still, then, then-tell, seq, seq-at, taken, left, holds-at, at-run}
+use Rattle.state.specs.declared.Work.{Work}
+use Rattle.state.specs.Unpack.{unpack}
+use Rattle.state.specs.Work.{Held, work-of, run, Changes, Tells, Fine, Does}
+use Rattle.state.proofs.Bridge.{change-then, still, then, then-tell, seq, seq-at, taken, left, holds-at, at-run}
 use Rattle.step_active.specs.declared.Loss.the-variants.{DisconnectReceived}
 use Rattle.step_active.specs.Sane.{Calm, reason-in}
 use Rattle.step_messages.specs.Between.{Between}

@@ -15,12 +15,12 @@ use Rattle.util.specs.Chances.{pick}
 use Rattle.peer.specs.Data.{Node}
 use Rattle.peer.specs.Held.{data-in}
 use Rattle.peer.specs.declared.PeerData.{PeerData}
-use Rattle.section.specs.Section.{items-at, HoldsSet}
+use Rattle.util.specs.Section.{items-at, HoldsSet}
 use Rattle.columns.specs.declared.PeerInfo.{PeerInfo}
 use Rattle.columns.specs.Columns.{node-in}
 use Rattle.timing.specs.Timing.{next}
 use Rattle.timing.proofs.Ranges.{ranges}
-use Rattle.writer64.specs.Write.{rec-in}
+use Rattle.writer.specs.Write.{rec-in}
 use Rattle.protocol.specs.Station.{is-requested, in-passive}
 use Rattle.protocol.specs.Run.{Run, guard, on, emit, to-draw, one-of, draw-one-of, require, picked, node, emit-all}
 use Rattle.protocol.specs.Peers.{insert-peer-info, forget-peer, add-passive, drop-passive}
@@ -30,17 +30,17 @@ use Rattle.protocol.specs.Active.{mark-alive}
 use Rattle.protocol.specs.Messages.{forward-join-to, ends-here, ask-joiner, learn-joiner, forward-join-on, walk-on, on-forward-join}
 use Rattle.protocol.specs.Messages.{forward-joins, refuse-neighbor}
 use Rattle.protocol.specs.Messages.{drop-recent, forget-recent, refused-fits, add-refused, note-refused, note-refusal, mark-passive, left-topic, disconnect-other}
-use Rattle.protocol.proofs.Extra.{length-insert}
-use Rattle.words.specs.declared.Work.{Work}
+use Rattle.lists.proofs.Members.{length-insert}
+use Rattle.state.specs.declared.Work.{Work}
 use Rattle.step_peers.specs.declared.Added.{Added}
 use Rattle.step_peers.specs.Answer.{Adds}
-use Rattle.words.specs.Layout.{active-part, refused-part, active-random-walk-length, passive-random-walk-length}
-use Rattle.words.specs.Unpack.{unpack, station-of, settings-at, PackedState}
-use Rattle.words.specs.Work.{Held, work-of, run, Changes, ChangesAny, DrawsAny, Room, Tells, TellsAny, Fine, Does}
-use Rattle.words.proofs.Access.{of-refused, of-settings}
-use Rattle.words.proofs.Any.{drew-none-of, then-draw-any, then-tell-any}
+use Rattle.state.specs.Layout.{active-part, refused-part, active-random-walk-length, passive-random-walk-length}
+use Rattle.state.specs.Unpack.{unpack, station-of, settings-at, PackedState}
+use Rattle.state.specs.Work.{Held, work-of, run, Changes, ChangesAny, DrawsAny, Room, Tells, TellsAny, Fine, Does}
+use Rattle.state.proofs.Access.{of-refused, of-settings}
+use Rattle.state.proofs.Any.{drew-none-of, then-draw-any, then-tell-any}
 use Rattle.step_sending.proofs.Sets.{lent-items}
-use Rattle.words.proofs.Bridge.{unchanged, change-by, change-then, change-yes, change-no, tell-by, tell-then, require-said, by, still, then, then-tell, seq, taken, left, holds-at}
+use Rattle.state.proofs.Bridge.{unchanged, change-by, change-then, change-yes, change-no, tell-by, tell-then, require-said, by, still, then, then-tell, seq, taken, left, holds-at}
 use Rattle.step_active.specs.Sane.{FreeMark}
 use Rattle.step_messages.specs.Places.{FreeRefused, FreePassiveMark}
 

@@ -1,19 +1,22 @@
 // The messages received but for the two of a shuffle (the definition's `Messages`).
 use columns::PeerInfo;
 use peer::PeerData;
-use section::PeerId;
+use record::Kind;
+use record::Message;
+use record::Refusal;
+use state::Layout;
+use state::Work;
 use step_active::Loss;
 use timing::Ttl;
-use words::Layout;
-use words::Work;
-use writer64::Fields;
+use util::PeerId;
+use writer::Fields;
 ghost use mathlib.Core.Path.{_≡_};
 ghost use Prim.Native.Nat.{_≤_};
 ghost use lib.ListN.{length, drop, getD};
 ghost use Rattle.lists.specs.Lists.{without};
 ghost use Rattle.util.specs.Chances.{pick};
 ghost use Rattle.peer.specs.Held.{ValidData, data-in};
-ghost use Rattle.section.specs.Section.{HoldsSet};
+ghost use Rattle.util.specs.Section.{HoldsSet};
 ghost use Rattle.columns.specs.Columns.{node-in};
 ghost use Rattle.protocol.specs.Budgets.{leaving, arriving};
 ghost use Rattle.protocol.specs.Run.{on, emit, emit-all, draw-one-of};
@@ -22,9 +25,9 @@ ghost use Rattle.protocol.specs.Messages.{forward-join-to, ends-here, ask-joine
 ghost use Rattle.protocol.specs.Messages.{forward-joins, on-join, refuse-neighbor, answer-neighbor, on-neighbor};
 ghost use Rattle.protocol.specs.Messages.{drop-join, drop-request, drop-recent, forget-recent, refused-fits, add-refused, note-refused, note-refusal, mark-passive, left-topic, disconnect-other};
 ghost use Rattle.protocol.specs.Messages.{disconnected, on-disconnect};
-ghost use Rattle.words.specs.Layout.{words};
-ghost use Rattle.words.specs.Unpack.{unpack, PackedState};
-ghost use Rattle.words.specs.Work.{work-of, run, Changes, DrawsAny, TellsAny, Room, Tells, Fine, Does};
+ghost use Rattle.state.specs.Layout.{words};
+ghost use Rattle.state.specs.Unpack.{unpack, PackedState};
+ghost use Rattle.state.specs.Work.{work-of, run, Changes, DrawsAny, TellsAny, Room, Tells, Fine, Does};
 ghost use Rattle.step_active.specs.Sane.{Calm};
 ghost use Rattle.step_messages.specs.Between.{Between};
 ghost use Rattle.step_messages.specs.Places.{FreeRefused, FreePassiveMark};
@@ -36,8 +39,8 @@ fn others_into(st: &[u64], p: PeerId, t: &mut [u64])
     requires { ⌜ length (now t) ≡ 33 ⌝ }
     ensures { λ _. ⌜ HoldsSet 32 (now (t .exit)) (without p (unpack (now (st .entry)) .active)) ⌝ }
 {
-    section::copy_into(&st[Layout::ACTIVE..Layout::ACTIVE_END], Layout::FEW, t);
-    section::without(t, Layout::ALL, p);
+    util::copy_into(&st[Layout::ACTIVE..Layout::ACTIVE_END], Layout::FEW, t);
+    util::without(t, Layout::ALL, p);
 }
 
 // ---- ForwardJoin
@@ -49,7 +52,7 @@ fn ends_here(st: &[u64], p: PeerId, ttl: u16) -> bool
     ensures { λ r. ⌜ r ≡ ends-here p ttl (unpack (now (st .entry))) ⌝ }
 {
     let t = Ttl(ttl);
-    words::in_active(st, p) | (t.expired() | words::is_last_hop(st))
+    state::in_active(st, p) | (t.expired() | state::is_last_hop(st))
 }
 
 // Neighbor to the one who joins; it enters the active view once it answers.
@@ -95,15 +98,15 @@ fn forward_join_to(w: Work, out: &mut [u8], n: PeerInfo, ttl: u16, q: PeerId) ->
     ensures { λ r. ⌜ TellsAny (emit (forward-join-to (node-in n) ttl q)) w r (now (out .entry)) (now (out .exit)) ⌝ }
 {
     let f = Fields {
-        kind: 0,
-        message: 1,
+        kind: Kind::MESSAGE,
+        message: Message::FORWARD_JOIN,
         flags: 0,
         peer: q,
         second: 0,
         ttl: ttl,
         number: 0,
     };
-    words::emit_one(w, out, f, n)
+    state::emit_one(w, out, f, n)
 }
 
 // One of several peers, and the work that has taken its draws.
@@ -122,7 +125,7 @@ fn picked(w: Work, draws: &[u32], ps: &[u64]) -> PickedPeer
     if n == 0 {
         return PickedPeer { work: w, peer: 0 };
     }
-    let t = words::choose(w, draws, n);
+    let t = state::choose(w, draws, n);
     let a = t.work;
     let i = t.index;
     let p = ps[i];
@@ -169,12 +172,12 @@ fn walk_on(
     ensures { λ r. ⌜ Does (work-of r (now (st .entry))) (now (draws .entry)) (now (out .exit)) (walk-on from (node-in n) ttl (run (work-of w (now (st .entry))) (now (draws .entry)) (now (out .entry)))) ⌝ }
 {
     let p = n.id;
-    if words::is_requested(st, p) {
+    if state::is_requested(st, p) {
         return w;
     }
     let mut v = [0u64; 33];
     others_into(st, from, &mut v);
-    let k = section::count(&v, Layout::ALL);
+    let k = util::count(&v, Layout::ALL);
     forward_join_on(w, st, draws, out, &v[..k], n, ttl)
 }
 
@@ -210,7 +213,7 @@ fn drop_recent(w: Work, st: &mut [u64], p: PeerId) -> Work
     if w.code != 0 {
         return w;
     }
-    section::without(&mut st[Layout::RECENT..Layout::RECENT_END], Layout::FEW, p);
+    util::without(&mut st[Layout::RECENT..Layout::RECENT_END], Layout::FEW, p);
     w
 }
 
@@ -232,8 +235,8 @@ fn refused_fits(st: &[u64], p: PeerId) -> bool
     requires { ⌜ PackedState (now st) ⌝ }
     ensures { λ r. ⌜ r ≡ refused-fits p (unpack (now (st .entry))) ⌝ }
 {
-    let n = section::count(&st[Layout::REFUSED..Layout::REFUSED_END], Layout::ALL);
-    section::contains(&st[Layout::REFUSED..Layout::REFUSED_END], Layout::ALL, p) | (n < Layout::ALL)
+    let n = util::count(&st[Layout::REFUSED..Layout::REFUSED_END], Layout::ALL);
+    util::contains(&st[Layout::REFUSED..Layout::REFUSED_END], Layout::ALL, p) | (n < Layout::ALL)
 }
 
 fn add_refused(w: Work, st: &mut [u64], p: PeerId) -> Work
@@ -245,7 +248,7 @@ fn add_refused(w: Work, st: &mut [u64], p: PeerId) -> Work
     if w.code != 0 {
         return w;
     }
-    section::insert_sorted(
+    util::insert_sorted(
         &mut st[Layout::REFUSED..Layout::REFUSED_END],
         Layout::ALL,
         p,
@@ -260,7 +263,7 @@ fn note_refused(w: Work, st: &mut [u64], p: PeerId) -> Work
     ensures { λ r. ⌜ Changes (note-refused p) (work-of w (now (st .entry))) (work-of r (now (st .exit))) ⌝ }
 {
     let test = refused_fits(st, p);
-    let a = words::require(w, 7, test);
+    let a = state::require(w, Refusal::REFUSED_PEERS, test);
     add_refused(a, st, p)
 }
 
@@ -283,7 +286,7 @@ fn mark_passive(w: Work, st: &mut [u64], p: PeerId) -> Work
     requires { ⌜ FreePassiveMark p (w .code) (unpack (now st)) ⌝ }
     ensures { λ r. ⌜ Changes (mark-passive p) (work-of w (now (st .entry))) (work-of r (now (st .exit))) ⌝ }
 {
-    if words::in_passive(st, p) {
+    if state::in_passive(st, p) {
         return step_active::mark_alive(w, st, p);
     }
     w
@@ -347,7 +350,7 @@ fn disconnected(
     requires { ⌜ Between 0 leaving 1 (run (work-of w (now st)) (now draws) (now out)) ⌝ }
     ensures { λ r. ⌜ Does (work-of r (now (st .exit))) (now (draws .entry)) (now (out .exit)) (disconnected p alive requested (run (work-of w (now (st .entry))) (now (draws .entry)) (now (out .entry)))) ⌝ }
 {
-    if words::in_active(st, p) {
+    if state::in_active(st, p) {
         return step_active::remove_active(w, st, draws, out, p, Loss::DisconnectReceived(alive));
     }
     disconnect_other(w, st, draws, out, p, alive, requested)
@@ -359,9 +362,9 @@ fn forget_open(w: Work, st: &mut [u64], p: PeerId, alive: bool) -> Work
     requires { ⌜ PackedState (now st) ⌝ }
     ensures { λ r. ⌜ Changes (λ g. on (drop-request p) (forget-recent p alive (on (drop-join p) g))) (work-of w (now (st .entry))) (work-of r (now (st .exit))) ⌝ }
 {
-    let a = words::drop_join(w, st, p);
+    let a = state::drop_join(w, st, p);
     let b = forget_recent(a, st, p, alive);
-    words::drop_request(b, st, p)
+    state::drop_request(b, st, p)
 }
 
 pub fn on_disconnect(
@@ -377,7 +380,7 @@ pub fn on_disconnect(
     requires { ⌜ Between 0 leaving 1 (run (work-of w (now st)) (now draws) (now out)) ⌝ }
     ensures { λ r. ⌜ Does (work-of r (now (st .exit))) (now (draws .entry)) (now (out .exit)) (on-disconnect p alive (run (work-of w (now (st .entry))) (now (draws .entry)) (now (out .entry)))) ⌝ }
 {
-    let requested = words::is_requested(st, p);
+    let requested = state::is_requested(st, p);
     let a = forget_open(w, st, p, alive);
     disconnected(a, st, draws, out, p, alive, requested)
 }
@@ -409,7 +412,7 @@ fn forward_joins(w: Work, st: &[u64], out: &mut [u8], p: PeerId, d: PeerData) ->
 {
     let mut v = [0u64; 33];
     others_into(st, p, &mut v);
-    let k = section::count(&v, Layout::ALL);
+    let k = util::count(&v, Layout::ALL);
     let ttl = st[Layout::ACTIVE_RANDOM_WALK_LENGTH] as u16;
     let n = PeerInfo { id: p, data: d };
     forward_join_to_all(w, out, &v[..k], n, ttl)
@@ -439,7 +442,7 @@ pub fn on_join(
     requires { ⌜ Between 0 arriving 40 (run (work-of w (now st)) (now draws) (now out)) ⌝ }
     ensures { λ r. ⌜ Does (work-of r (now (st .exit))) (now (draws .entry)) (now (out .exit)) (on-join p (data-in d) (run (work-of w (now (st .entry))) (now (draws .entry)) (now (out .entry)))) ⌝ }
 {
-    let a = words::drop_pending(w, st, p);
+    let a = state::drop_pending(w, st, p);
     let b = step_active::add_active(a, st, draws, out, p, d, true, true);
     forward_joins(b, st, out, p, d)
 }
@@ -450,7 +453,7 @@ fn accepts(st: &[u64], p: PeerId, high: bool) -> bool
     requires { ⌜ PackedState (now st) ⌝ }
     ensures { λ r. ⌜ r ≡ accepts p high (unpack (now (st .entry))) ⌝ }
 {
-    !words::is_me(st, p) & (words::in_active(st, p) | (high | !words::active_is_full(st)))
+    !state::is_me(st, p) & (state::in_active(st, p) | (high | !state::active_is_full(st)))
 }
 
 // p is taken in, or refused.
@@ -494,7 +497,7 @@ pub fn on_neighbor(
     requires { ⌜ Between 0 arriving 40 (run (work-of w (now st)) (now draws) (now out)) ⌝ }
     ensures { λ r. ⌜ Does (work-of r (now (st .exit))) (now (draws .entry)) (now (out .exit)) (on-neighbor p (data-in d) high (run (work-of w (now (st .entry))) (now (draws .entry)) (now (out .entry)))) ⌝ }
 {
-    let requested = words::is_requested(st, p);
-    let a = words::drop_pending(w, st, p);
+    let requested = state::is_requested(st, p);
+    let a = state::drop_pending(w, st, p);
     answer_neighbor(a, st, draws, out, p, d, high, !requested)
 }

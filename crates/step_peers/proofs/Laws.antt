@@ -10,8 +10,8 @@ use lib.ListN.{length, take, drop, getD, length-append}
 use lib.Dec.{eqb, leb, ltb}
 use borrow.Author.Tests.{eqb-false, leb-false, lt-ltb, le-ltb}
 use Rattle.lists.specs.Lists.{null, remove, shift-remove}
-use Rattle.section.specs.Section.{items-at}
-use Rattle.words.specs.Layout.{passive-part, peer-data-part, passive-view-capacity}
+use Rattle.util.specs.Section.{items-at}
+use Rattle.state.specs.Layout.{passive-part, peer-data-part, passive-view-capacity}
 use Rattle.columns.specs.Columns.{data-at}
 use Rattle.lists.specs.Maps.{lookup, has}
 use Rattle.lists.proofs.Choice.{by-choice, choose-yes, choose-no, and-right, and-false}
@@ -20,12 +20,12 @@ use Rattle.util.specs.Chances.{pick}
 use Rattle.util.proofs.Chances.{pick-below}
 use Rattle.peer.specs.declared.PeerData.{PeerData}
 use Rattle.peer.specs.Held.{data-in}
-use Rattle.writer64.specs.Write.{rec-in}
+use Rattle.writer.specs.Write.{rec-in}
 use Rattle.columns.specs.Columns.{node-in}
-use Rattle.words.specs.declared.Work.{Work}
+use Rattle.state.specs.declared.Work.{Work}
 use Rattle.protocol.specs.Run.{Run, guard, on, emit, to-draw, one-of, draw-one-of, require, picked, notice, node}
-use Rattle.words.specs.Work.{Held, work-of, ChangesAny, DrawsAny, TellsAny, run, Changes, Room, Tells, Fine}
-use Rattle.words.proofs.Bridge.{unchanged, change-then, telling, tell-by, tell-then, tell-no, still, by, then, then-draw, then-tell, seq, taken, left, require-said}
+use Rattle.state.specs.Work.{Held, work-of, ChangesAny, DrawsAny, TellsAny, run, Changes, Room, Tells, Fine}
+use Rattle.state.proofs.Bridge.{unchanged, change-then, telling, tell-by, tell-then, tell-no, still, by, then, then-draw, then-tell, seq, taken, left, require-said}
 use Rattle.peer.specs.Data.{Data, bytes-of, holds}
 use Rattle.timing.proofs.Ranges.{ranges}
 use Rattle.protocol.proofs.Keeping.{one-of-station, emit-station, emit-fine}
@@ -35,8 +35,8 @@ use Rattle.step_peers.specs.Room.{FreePassive, FreeData}
 use Rattle.step_peers.specs.Answer.{named-in, Adds}
 use Rattle.step_peers.specs.declared.Evicted.the-variants.{Nobody, Peer}
 use Rattle.step_peers.specs.declared.Added.{Added}
-use Rattle.words.specs.Unpack.{unpack, station-of, settings-at, PackedState}
-use Rattle.words.proofs.Access.{of-settings, passive-fits}
+use Rattle.state.specs.Unpack.{unpack, station-of, settings-at, PackedState}
+use Rattle.state.proofs.Access.{of-settings, passive-fits}
 
 pub known : (s : List ℕ) (p : ℕ) (b : List ℕ) (x y : Bool) → x ≡ is-me p (unpack s) → y ≡ holds (lookup p (unpack s .peer-data)) b → (x || y) ≡ is-known p b (unpack s)
 unfolding is-known unpack station-of

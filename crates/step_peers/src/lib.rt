@@ -1,10 +1,12 @@
 // What the station holds of other peers: their data, and the passive view (the definition's `Peers`).
 use columns::PeerInfo;
 use peer::PeerData;
-use section::PeerId;
-use words::Layout;
-use words::Work;
-use writer64::Fields;
+use record::Kind;
+use record::Refusal;
+use state::Layout;
+use state::Work;
+use util::PeerId;
+use writer::Fields;
 ghost use mathlib.Core.Path.{_≡_};
 ghost use mathlib.Core.Bool.{true};
 ghost use Prim.Native.Nat.{_≤_, _<_};
@@ -15,9 +17,9 @@ ghost use Rattle.peer.specs.Held.{data-in, ValidData};
 ghost use Rattle.protocol.specs.Peers.{is-known, data-fits, must-evict, is-newcomer, is-marked};
 ghost use Rattle.protocol.specs.Peers.{keep-data, announce-data, insert-data, insert-peer-info, forget-peer, evict-at, evicted, make-room, enter-passive, evicted-for, add-passive, evicted-by, drop-passive};
 ghost use Rattle.protocol.specs.Peers.{store-data, drop-data, drop-mark, drop-traces, shift-passive, push-passive, remove-passive};
-ghost use Rattle.words.specs.Layout.{words};
-ghost use Rattle.words.specs.Unpack.{unpack, PackedState};
-ghost use Rattle.words.specs.Work.{work-of, Changes, Room, Tells, TellsAny, Fine, run};
+ghost use Rattle.state.specs.Layout.{words};
+ghost use Rattle.state.specs.Unpack.{unpack, PackedState};
+ghost use Rattle.state.specs.Work.{work-of, Changes, Room, Tells, TellsAny, Fine, run};
 ghost use Rattle.step_peers.specs.Room.{FreePassive, FreeData};
 ghost use Rattle.step_peers.specs.Answer.{Adds};
 
@@ -40,7 +42,7 @@ fn is_known(st: &[u64], p: PeerId, d: PeerData) -> bool
     requires { ⌜ ValidData d ⌝ }
     ensures { λ r. ⌜ r ≡ is-known p (bytes-of (data-in d)) (unpack (now (st .entry))) ⌝ }
 {
-    words::is_me(st, p)
+    state::is_me(st, p)
         | columns::holds_data(&st[Layout::DATA..Layout::DATA_END], Layout::DATA_CAP, p, d)
 }
 
@@ -64,7 +66,7 @@ pub fn is_newcomer(st: &[u64], p: PeerId) -> bool
     requires { ⌜ PackedState (now st) ⌝ }
     ensures { λ r. ⌜ r ≡ is-newcomer p (unpack (now (st .entry))) ⌝ }
 {
-    !(words::is_me(st, p) | words::in_view(st, p))
+    !(state::is_me(st, p) | state::in_view(st, p))
 }
 
 // Whether one has to leave before another enters the passive view.
@@ -73,8 +75,8 @@ fn must_evict(st: &[u64]) -> bool
     requires { ⌜ PackedState (now st) ⌝ }
     ensures { λ r. ⌜ r ≡ must-evict (unpack (now (st .entry))) ⌝ }
 {
-    words::passive_is_full(st)
-        & !section::is_empty(&st[Layout::PASSIVE..Layout::PASSIVE_END], Layout::ALL)
+    state::passive_is_full(st)
+        & !util::is_empty(&st[Layout::PASSIVE..Layout::PASSIVE_END], Layout::ALL)
 }
 
 pub fn is_marked(st: &[u64], p: PeerId) -> bool
@@ -82,7 +84,7 @@ pub fn is_marked(st: &[u64], p: PeerId) -> bool
     requires { ⌜ PackedState (now st) ⌝ }
     ensures { λ r. ⌜ r ≡ is-marked p (unpack (now (st .entry))) ⌝ }
 {
-    section::contains(&st[Layout::ALIVE..Layout::ALIVE_END], Layout::ALL, p)
+    util::contains(&st[Layout::ALIVE..Layout::ALIVE_END], Layout::ALL, p)
 }
 
 // The peer at place i leaves the passive view; the order is kept.
@@ -95,7 +97,7 @@ fn shift_passive(w: Work, st: &mut [u64], i: usize) -> Work
     if w.code != 0 {
         return w;
     }
-    section::shift_remove_index(
+    util::shift_remove_index(
         &mut st[Layout::PASSIVE..Layout::PASSIVE_END],
         Layout::ALL,
         i,
@@ -111,7 +113,7 @@ pub fn remove_passive(w: Work, st: &mut [u64], p: PeerId) -> Work
     if w.code != 0 {
         return w;
     }
-    section::remove(
+    util::remove(
         &mut st[Layout::PASSIVE..Layout::PASSIVE_END],
         Layout::ALL,
         p,
@@ -129,7 +131,7 @@ fn push_passive(w: Work, st: &mut [u64], p: PeerId) -> Work
     if w.code != 0 {
         return w;
     }
-    section::push(
+    util::push(
         &mut st[Layout::PASSIVE..Layout::PASSIVE_END],
         Layout::ALL,
         p,
@@ -176,7 +178,7 @@ pub fn drop_mark(w: Work, st: &mut [u64], p: PeerId) -> Work
     if w.code != 0 {
         return w;
     }
-    section::without(&mut st[Layout::ALIVE..Layout::ALIVE_END], Layout::ALL, p);
+    util::without(&mut st[Layout::ALIVE..Layout::ALIVE_END], Layout::ALL, p);
     w
 }
 
@@ -198,7 +200,7 @@ fn keep_data(w: Work, st: &mut [u64], p: PeerId, d: PeerData) -> Work
     ensures { λ r. ⌜ Changes (keep-data p (bytes-of (data-in d))) (work-of w (now (st .entry))) (work-of r (now (st .exit))) ⌝ }
 {
     let test = data_fits(st, p);
-    let a = words::require(w, 8, test);
+    let a = state::require(w, Refusal::DATA, test);
     store_data(a, st, p, d)
 }
 
@@ -208,7 +210,7 @@ pub fn forget_peer(w: Work, st: &mut [u64], p: PeerId) -> Work
     requires { ⌜ PackedState (now st) ⌝ }
     ensures { λ r. ⌜ Changes (forget-peer p) (work-of w (now (st .entry))) (work-of r (now (st .exit))) ⌝ }
 {
-    if words::in_view(st, p) {
+    if state::in_view(st, p) {
         return w;
     }
     drop_traces(w, st, p)
@@ -221,7 +223,7 @@ fn evict_at(w: Work, st: &mut [u64], i: usize) -> Work
     requires { ⌜ i < length (unpack (now st) .passive) ⌝ }
     ensures { λ r. ⌜ Changes (evict-at i) (work-of w (now (st .entry))) (work-of r (now (st .exit))) ⌝ }
 {
-    let p = section::get_index(&st[Layout::PASSIVE..Layout::PASSIVE_END], Layout::ALL, i);
+    let p = util::get_index(&st[Layout::PASSIVE..Layout::PASSIVE_END], Layout::ALL, i);
     let a = shift_passive(w, st, i);
     forget_peer(a, st, p)
 }
@@ -248,7 +250,7 @@ fn announce_data(w: Work, st: &[u64], out: &mut [u8], p: PeerId, d: PeerData) ->
         return w;
     }
     let f = Fields {
-        kind: 11,
+        kind: Kind::PEER_DATA,
         message: 0,
         flags: 0,
         peer: p,
@@ -257,7 +259,7 @@ fn announce_data(w: Work, st: &[u64], out: &mut [u8], p: PeerId, d: PeerData) ->
         number: 0,
     };
     let n = PeerInfo { id: 0, data: d };
-    words::emit_one(w, out, f, n)
+    state::emit_one(w, out, f, n)
 }
 
 // Announces and stores data that is not known yet.
@@ -293,7 +295,7 @@ fn tell_evicted(w: Work, out: &mut [u8], p: PeerId) -> Work
     ensures { λ r. ⌜ TellsAny (emit (notice 12 p)) w r (now (out .entry)) (now (out .exit)) ⌝ }
 {
     let f = Fields {
-        kind: 12,
+        kind: Kind::EVICTED,
         message: 0,
         flags: 0,
         peer: p,
@@ -301,7 +303,7 @@ fn tell_evicted(w: Work, out: &mut [u8], p: PeerId) -> Work
         ttl: 0,
         number: 0,
     };
-    words::emit_bare(w, out, f)
+    state::emit_bare(w, out, f)
 }
 
 // One peer leaves a full passive view, as the next draw decides, and its record follows.
@@ -311,11 +313,11 @@ fn make_room(w: Work, st: &mut [u64], draws: &[u32], out: &mut [u8]) -> Added
     ensures { λ r. ⌜ Adds r (now (st .exit)) (now (draws .entry)) (now (out .exit)) (make-room (run (work-of w (now (st .entry))) (now (draws .entry)) (now (out .entry)))) (evicted (run (work-of w (now (st .entry))) (now (draws .entry)) (now (out .entry)))) ⌝ }
 {
     if must_evict(st) {
-        let n = section::count(&st[Layout::PASSIVE..Layout::PASSIVE_END], Layout::ALL);
-        let t = words::choose(w, draws, n);
+        let n = util::count(&st[Layout::PASSIVE..Layout::PASSIVE_END], Layout::ALL);
+        let t = state::choose(w, draws, n);
         let a = t.work;
         let i = t.index;
-        let p = section::get_index(&st[Layout::PASSIVE..Layout::PASSIVE_END], Layout::ALL, i);
+        let p = util::get_index(&st[Layout::PASSIVE..Layout::PASSIVE_END], Layout::ALL, i);
         let b = evict_at(a, st, i);
         return Added {
             work: tell_evicted(b, out, p),

@@ -14,20 +14,20 @@ use Rattle.lists.specs.Maps.{keys}
 use Rattle.lists.proofs.Choice.{choose-yes, choose-no, clash}
 use Rattle.lists.proofs.Skips.{without-none, without-append}
 use Rattle.util.specs.Chances.{pick}
-use Rattle.section.specs.Section.{part, items-at, ValidSet, HoldsSet}
-use Rattle.section.proofs.Sets.{set-as, set-then, set-stored}
+use Rattle.util.specs.Section.{part, items-at, ValidSet, HoldsSet}
+use Rattle.util.proofs.Sets.{set-as, set-then, set-stored}
 use Rattle.columns.specs.Columns.{numbers-at}
 use Rattle.protocol.specs.Station.{Station, Refill, is-alone, is-spent, asked-outside}
 use Rattle.protocol.specs.Run.{Run, on, to-draw, one-of, draw-one-of, picked}
 use Rattle.protocol.specs.Sending.{send-neighbor}
 use Rattle.protocol.specs.Refill.{use-request, end-recovery, limit-short, skipped, candidates, ask-picked, ask-one, refill-limited, needs-none, refill-active-from-passive, begin-refill, start-refill}
-use Rattle.words.specs.declared.Work.{Work}
-use Rattle.words.specs.Layout.{active-view-capacity, active-part, requests-part}
-use Rattle.words.specs.declared.RefillLimit.{RefillLimit}
-use Rattle.words.specs.Unpack.{unpack, station-of, settings-at, limit-at, refill-in}
-use Rattle.words.specs.Work.{work-of, run, Changes, DrawsAny, Tells, Fine, Does}
-use Rattle.words.proofs.Bridge.{by, still, then, then-tell, seq, taken, left, holds-at}
-use Rattle.words.proofs.Any.{then-draw-any}
+use Rattle.state.specs.declared.Work.{Work}
+use Rattle.state.specs.Layout.{active-view-capacity, active-part, requests-part}
+use Rattle.state.specs.declared.RefillLimit.{RefillLimit}
+use Rattle.state.specs.Unpack.{unpack, station-of, settings-at, limit-at, refill-in}
+use Rattle.state.specs.Work.{work-of, run, Changes, DrawsAny, Tells, Fine, Does}
+use Rattle.state.proofs.Bridge.{by, still, then, then-tell, seq, taken, left, holds-at}
+use Rattle.state.proofs.Any.{then-draw-any}
 
 -- ---- working sets
 

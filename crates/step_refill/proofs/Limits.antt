@@ -12,12 +12,12 @@ use Rattle.protocol.specs.Station.{Station, Refill, automatic, recovery, is-rec
 use Rattle.protocol.specs.Setters.{set-refill}
 use Rattle.protocol.specs.Run.{Run, guard, on, with-station}
 use Rattle.protocol.specs.Refill.{few-requests, unless-recovery, one-less, use-request, end-recovery, needs-limit, limit-short, begin-refill}
-use Rattle.words.specs.declared.RefillLimit.{RefillLimit}
-use Rattle.words.specs.declared.RefillLimit.the-variants.{Automatic, Recovery}
-use Rattle.words.specs.declared.Work.{Work}
-use Rattle.words.specs.Unpack.{unpack, station-of, limit-at, refill-in, PackedState}
-use Rattle.words.specs.Work.{Held, work-of, run, Changes}
-use Rattle.words.proofs.Bridge.{guard-shut, guard-open, unchanged, change-by}
+use Rattle.state.specs.declared.RefillLimit.{RefillLimit}
+use Rattle.state.specs.declared.RefillLimit.the-variants.{Automatic, Recovery}
+use Rattle.state.specs.declared.Work.{Work}
+use Rattle.state.specs.Unpack.{unpack, station-of, limit-at, refill-in, PackedState}
+use Rattle.state.specs.Work.{Held, work-of, run, Changes}
+use Rattle.state.proofs.Bridge.{guard-shut, guard-open, unchanged, change-by}
 
 -- two changes that agree on the station of the run
 on-same : (f h : Station → Station) (g : Run) → f (g .station) ≡ h (g .station) → on f g ≡ on h g

@@ -1,23 +1,23 @@
 // How the active view is refilled from the passive view (the definition's `Refill`).
+use state::Layout;
+use state::RefillLimit;
+use state::Work;
 use timing::Timing;
-use words::Layout;
-use words::RefillLimit;
-use words::Work;
 ghost use mathlib.Core.Path.{_≡_};
 ghost use Prim.Native.Nat.{_<_};
 ghost use lib.ListN.{length};
 ghost use Rattle.lists.specs.Lists.{without-all};
 ghost use Rattle.lists.specs.Maps.{keys};
-ghost use Rattle.section.specs.Section.{items-at, ValidSet, HoldsSet};
+ghost use Rattle.util.specs.Section.{items-at, ValidSet, HoldsSet};
 ghost use Rattle.protocol.specs.Station.{asked-outside, recovery-is-over};
 ghost use Rattle.protocol.specs.Setters.{set-refill};
 ghost use Rattle.protocol.specs.Run.{on};
 ghost use Rattle.protocol.specs.Refill.{few-requests, unless-recovery, one-less, use-request, end-recovery, needs-limit, limit-short, candidates};
 ghost use Rattle.protocol.specs.Refill.{ask-picked, ask-one, refill-limited, needs-none, refill-active-from-passive, begin-refill, start-refill};
 ghost use Rattle.protocol.specs.Active.{clear-refused};
-ghost use Rattle.words.specs.Layout.{words};
-ghost use Rattle.words.specs.Unpack.{unpack, refill-in, PackedState};
-ghost use Rattle.words.specs.Work.{work-of, run, Changes, Fine, Does};
+ghost use Rattle.state.specs.Layout.{words};
+ghost use Rattle.state.specs.Unpack.{unpack, refill-in, PackedState};
+ghost use Rattle.state.specs.Work.{work-of, run, Changes, Fine, Does};
 
 // A limit of `MAX_REQUESTS_PER_REFILL`.
 pub fn few_requests() -> RefillLimit
@@ -61,7 +61,7 @@ fn set_refill(w: Work, st: &mut [u64], v: RefillLimit) -> Work
     if w.code != 0 {
         return w;
     }
-    words::keep_limit(st, v);
+    state::keep_limit(st, v);
     w
 }
 
@@ -71,7 +71,7 @@ fn use_request(w: Work, st: &mut [u64]) -> Work
     requires { ⌜ PackedState (now st) ⌝ }
     ensures { λ r. ⌜ Changes (on use-request) (work-of w (now (st .entry))) (work-of r (now (st .exit))) ⌝ }
 {
-    let old = words::limit_of(st);
+    let old = state::limit_of(st);
     let v = one_less(old);
     set_refill(w, st, v)
 }
@@ -84,7 +84,7 @@ fn asked_outside(st: &[u64], t: &mut [u64])
     ensures { λ _. ⌜ HoldsSet 32 (now (t .exit)) (asked-outside (unpack (now (st .entry)))) ⌝ }
 {
     columns::keys_into(&st[Layout::REQUESTS..Layout::REQUESTS_END], Layout::ALL, t);
-    section::without_all(
+    util::without_all(
         t,
         Layout::ALL,
         &st[Layout::ACTIVE..Layout::ACTIVE_END],
@@ -98,10 +98,10 @@ fn recovery_is_over(st: &[u64]) -> bool
     requires { ⌜ PackedState (now st) ⌝ }
     ensures { λ r. ⌜ r ≡ recovery-is-over (unpack (now (st .entry))) ⌝ }
 {
-    let l = words::limit_of(st);
+    let l = state::limit_of(st);
     let mut t = [0u64; 33];
     asked_outside(st, &mut t);
-    l.is_recovery() & section::is_empty(&t, Layout::ALL)
+    l.is_recovery() & util::is_empty(&t, Layout::ALL)
 }
 
 // A recovery lasts until the replies to its requests arrive.
@@ -122,8 +122,8 @@ fn needs_limit(st: &[u64]) -> bool
     requires { ⌜ PackedState (now st) ⌝ }
     ensures { λ r. ⌜ r ≡ needs-limit (unpack (now (st .entry))) ⌝ }
 {
-    let l = words::limit_of(st);
-    l.is_automatic() & (!words::is_alone(st) & words::is_short(st))
+    let l = state::limit_of(st);
+    l.is_automatic() & (!state::is_alone(st) & state::is_short(st))
 }
 
 // A refill for which no limit is set gets one where neighbors are few.
@@ -145,7 +145,7 @@ fn without_list(t: &mut [u64], skip: &[u64])
     ensures { λ _. ⌜ HoldsSet 32 (now (t .exit)) (without-all (now (skip .entry)) (items-at 32 (now (t .entry)))) ⌝ }
 {
     let n = t[Layout::ALL] as usize;
-    let m = section::without_all_in(&mut t[..Layout::ALL], n, skip);
+    let m = util::without_all_in(&mut t[..Layout::ALL], n, skip);
     t[Layout::ALL] = m as u64;
 }
 
@@ -156,7 +156,7 @@ fn passive_without(st: &[u64], skip: &[u64], t: &mut [u64])
     requires { ⌜ length (now t) ≡ 33 ⌝ }
     ensures { λ _. ⌜ HoldsSet 32 (now (t .exit)) (without-all (now (skip .entry)) (unpack (now (st .entry)) .passive)) ⌝ }
 {
-    section::copy_into(&st[Layout::PASSIVE..Layout::PASSIVE_END], Layout::ALL, t);
+    util::copy_into(&st[Layout::PASSIVE..Layout::PASSIVE_END], Layout::ALL, t);
     without_list(t, skip);
 }
 
@@ -173,7 +173,7 @@ fn without_asked(st: &[u64], t: &mut [u64])
         Layout::ALL,
         &mut asked,
     );
-    section::without_all(t, Layout::ALL, &asked, Layout::ALL);
+    util::without_all(t, Layout::ALL, &asked, Layout::ALL);
 }
 
 // The passive peers that may be asked, as a working set: refused ones are skipped, but not with high priority.
@@ -185,10 +185,10 @@ fn candidates(st: &[u64], skip: &[u64], t: &mut [u64])
 {
     passive_without(st, skip, t);
     without_asked(st, t);
-    if words::is_alone(st) {
+    if state::is_alone(st) {
         return;
     }
-    section::without_all(
+    util::without_all(
         t,
         Layout::ALL,
         &st[Layout::REFUSED..Layout::REFUSED_END],
@@ -204,12 +204,12 @@ fn ask_picked(w: Work, st: &mut [u64], draws: &[u32], out: &mut [u8], from: &[u6
     requires { ⌜ 0 < length (items-at 32 (now from)) ⌝ }
     ensures { λ r. ⌜ Does (work-of r (now (st .exit))) (now (draws .entry)) (now (out .exit)) (ask-picked (items-at 32 (now (from .entry))) (run (work-of w (now (st .entry))) (now (draws .entry)) (now (out .entry)))) ⌝ }
 {
-    let high = words::is_alone(st);
-    let n = section::count(from, Layout::ALL);
-    let t = words::choose(w, draws, n);
+    let high = state::is_alone(st);
+    let n = util::count(from, Layout::ALL);
+    let t = state::choose(w, draws, n);
     let a = t.work;
     let i = t.index;
-    let p = section::get_index(from, Layout::ALL, i);
+    let p = util::get_index(from, Layout::ALL, i);
     let b = step_sending::send_neighbor(a, st, out, p, high);
     use_request(b, st)
 }
@@ -221,7 +221,7 @@ fn ask_one(w: Work, st: &mut [u64], draws: &[u32], out: &mut [u8], from: &[u64])
     requires { ⌜ ValidSet 32 (now from) ⌝ }
     ensures { λ r. ⌜ Does (work-of r (now (st .exit))) (now (draws .entry)) (now (out .exit)) (ask-one (items-at 32 (now (from .entry))) (run (work-of w (now (st .entry))) (now (draws .entry)) (now (out .entry)))) ⌝ }
 {
-    if section::is_empty(from, Layout::ALL) {
+    if util::is_empty(from, Layout::ALL) {
         return end_recovery(w, st);
     }
     ask_picked(w, st, draws, out, from)
@@ -243,11 +243,11 @@ fn needs_none(st: &[u64]) -> bool
     requires { ⌜ PackedState (now st) ⌝ }
     ensures { λ r. ⌜ r ≡ needs-none (unpack (now (st .entry))) ⌝ }
 {
-    let l = words::limit_of(st);
+    let l = state::limit_of(st);
     let mut t = [0u64; 33];
     asked_outside(st, &mut t);
-    let asked = section::count(&t, Layout::ALL);
-    let n = section::count(&st[Layout::ACTIVE..Layout::ACTIVE_END], Layout::FEW);
+    let asked = util::count(&t, Layout::ALL);
+    let n = util::count(&st[Layout::ACTIVE..Layout::ACTIVE_END], Layout::FEW);
     (st[Layout::ACTIVE_VIEW_CAPACITY] as usize <= n + asked) | l.is_spent()
 }
 
@@ -276,7 +276,7 @@ fn begin_refill(w: Work, st: &mut [u64], limit: RefillLimit) -> Work
     requires { ⌜ PackedState (now st) ⌝ }
     ensures { λ r. ⌜ Changes (on (begin-refill (refill-in limit))) (work-of w (now (st .entry))) (work-of r (now (st .exit))) ⌝ }
 {
-    let old = words::limit_of(st);
+    let old = state::limit_of(st);
     let v = unless_recovery(old, limit);
     set_refill(w, st, v)
 }
@@ -307,6 +307,6 @@ pub fn clear_refused(w: Work, st: &mut [u64]) -> Work
     if w.code != 0 {
         return w;
     }
-    section::clear(&mut st[Layout::REFUSED..Layout::REFUSED_END], Layout::ALL);
+    util::clear(&mut st[Layout::REFUSED..Layout::REFUSED_END], Layout::ALL);
     w
 }

@@ -7,14 +7,14 @@ use lib.ListN.{length, take}
 use native.Mathlib.Omega.{arith}
 use lib.Dec.{ltb}
 use borrow.Author.Tests.{lt-ltb, le-ltb}
-use Rattle.section.specs.Section.{items-at, HoldsSet}
+use Rattle.util.specs.Section.{items-at, HoldsSet}
 use Rattle.protocol.specs.Run.{shuffled, to-draw, draw-shuffle}
 use Rattle.protocol.specs.Sending.{send-nodes, fill-active, send-filled, reply-with, send-shuffle-reply}
-use Rattle.words.specs.declared.Work.{Work}
-use Rattle.words.specs.Unpack.{unpack}
-use Rattle.words.specs.Work.{work-of, run, DrawsAny, Tells, Fine, Does}
-use Rattle.words.proofs.Bridge.{by, still, then-tell, seq, taken, left}
-use Rattle.words.proofs.Any.{then-draw-any}
+use Rattle.state.specs.declared.Work.{Work}
+use Rattle.state.specs.Unpack.{unpack}
+use Rattle.state.specs.Work.{work-of, run, DrawsAny, Tells, Fine, Does}
+use Rattle.state.proofs.Bridge.{by, still, then-tell, seq, taken, left}
+use Rattle.state.proofs.Any.{then-draw-any}
 use Rattle.step_sending.proofs.Sets.{shuffled-by, shuffle-of}
 
 module _ (to len : ℕ) (w a r : Work) (xs ds out o : List ℕ) (v : Fine (work-of w xs) ds out) where

@@ -10,25 +10,25 @@ use lib.Dec.{ltb}
 use borrow.Author.Tests.{ltb-true}
 use Rattle.lists.specs.Maps.{has}
 use Rattle.lists.proofs.Choice.{choose-yes, choose-no}
-use Rattle.section.specs.Section.{items-at, ValidSet}
+use Rattle.util.specs.Section.{items-at, ValidSet}
 use Rattle.columns.specs.Columns.{numbers-at, node-in}
 use Rattle.peer.specs.declared.PeerData.{PeerData}
 use Rattle.peer.specs.Data.{Node}
 use Rattle.peer.specs.Held.{data-in}
-use Rattle.writer64.specs.declared.Fields.{Fields}
-use Rattle.writer64.specs.declared.Nodes.{Nodes}
-use Rattle.writer64.specs.Nodes.{nodes-in, HoldsNodes}
-use Rattle.writer64.specs.Write.{rec-in}
+use Rattle.writer.specs.declared.Fields.{Fields}
+use Rattle.writer.specs.declared.Nodes.{Nodes}
+use Rattle.writer.specs.Nodes.{nodes-in, HoldsNodes}
+use Rattle.writer.specs.Write.{rec-in}
 use Rattle.protocol.specs.Station.{is-requested}
 use Rattle.protocol.specs.Run.{Run, on, emit, require, node, message, flag, peer-infos}
 use Rattle.protocol.specs.Sending.{join-to, join, send-nodes, send-shuffle-reply, reply-length, send-disconnect, request-counts, request-fits, note-request, count-request, open-request, neighbor-to, tell-request, send-neighbor, reply-neighbor}
-use Rattle.words.specs.declared.Work.{Work}
-use Rattle.words.specs.Layout.{requests-part, neighbor-request-timeout, next-neighbor-request}
-use Rattle.words.specs.Unpack.{unpack, station-of, settings-at, own-at, PackedState}
-use Rattle.words.specs.Work.{Held, work-of, run, Changes, ChangesAny, DrawsAny, Room, Tells, TellsAny, Fine, Does}
-use Rattle.words.proofs.Bridge.{require-said, unchanged, change-by, change-then, telling, tell-by, tell-then, tell-yes, tell-no, by}
-use Rattle.words.proofs.Any.{then-tell-any}
-use Rattle.words.proofs.Refused.{required-code}
+use Rattle.state.specs.declared.Work.{Work}
+use Rattle.state.specs.Layout.{requests-part, neighbor-request-timeout, next-neighbor-request}
+use Rattle.state.specs.Unpack.{unpack, station-of, settings-at, own-at, PackedState}
+use Rattle.state.specs.Work.{Held, work-of, run, Changes, ChangesAny, DrawsAny, Room, Tells, TellsAny, Fine, Does}
+use Rattle.state.proofs.Bridge.{require-said, unchanged, change-by, change-then, telling, tell-by, tell-then, tell-yes, tell-no, by}
+use Rattle.state.proofs.Any.{then-tell-any}
+use Rattle.state.proofs.Refused.{required-code}
 use Rattle.step_sending.specs.Requests.{Countable, Notable}
 use Rattle.step_sending.proofs.Sets.{lent-items}
 

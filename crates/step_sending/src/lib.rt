@@ -1,10 +1,13 @@
 // What the station sends: Join, Neighbor, ShuffleReply and Disconnect (the definition's `Sending`).
 use columns::PeerInfo;
-use section::PeerId;
-use words::Layout;
-use words::Work;
-use writer64::Fields;
-use writer64::Nodes;
+use record::Kind;
+use record::Message;
+use record::Refusal;
+use state::Layout;
+use state::Work;
+use util::PeerId;
+use writer::Fields;
+use writer::Nodes;
 ghost use mathlib.Core.Path.{_≡_};
 ghost use mathlib.Core.List.{_++_};
 ghost use Prim.Native.Nat.{_-_, _≤_};
@@ -12,15 +15,15 @@ ghost use lib.ListN.{length, take, drop};
 ghost use Rattle.lists.specs.Maps.{lookup};
 ghost use Rattle.util.specs.Chances.{shuffle};
 ghost use Rattle.peer.specs.Held.{ValidData};
-ghost use Rattle.section.specs.Section.{items-at, ValidSet, HoldsSet};
+ghost use Rattle.util.specs.Section.{items-at, ValidSet, HoldsSet};
 ghost use Rattle.columns.specs.Columns.{node-in};
-ghost use Rattle.writer64.specs.Nodes.{HoldsNodes};
+ghost use Rattle.writer.specs.Nodes.{HoldsNodes};
 ghost use Rattle.protocol.specs.Run.{on, emit, flag, node, peer-infos, draw-shuffle};
 ghost use Rattle.protocol.specs.Sending.{join, send-nodes, send-filled, reply-with, send-shuffle-reply, reply-length, send-disconnect};
 ghost use Rattle.protocol.specs.Sending.{request-counts, request-fits, note-request, count-request, open-request, neighbor-to, tell-request, send-neighbor, reply-neighbor};
-ghost use Rattle.words.specs.Layout.{words};
-ghost use Rattle.words.specs.Unpack.{unpack, PackedState};
-ghost use Rattle.words.specs.Work.{work-of, run, Changes, DrawsAny, Room, Tells, Fine, Does};
+ghost use Rattle.state.specs.Layout.{words};
+ghost use Rattle.state.specs.Unpack.{unpack, PackedState};
+ghost use Rattle.state.specs.Work.{work-of, run, Changes, DrawsAny, Room, Tells, Fine, Does};
 ghost use Rattle.step_sending.specs.Requests.{Countable, Notable};
 
 // A flag as a number.
@@ -68,17 +71,17 @@ pub fn join(w: Work, st: &[u64], out: &mut [u8], p: PeerId) -> Work
     requires { ⌜ Room (work-of w (now st)) (now out) ⌝ }
     ensures { λ r. ⌜ Tells (join p) (work-of w (now (st .entry))) (work-of r (now (st .entry))) (now (out .entry)) (now (out .exit)) ⌝ }
 {
-    let d = words::own_data(st);
+    let d = state::own_data(st);
     let f = Fields {
-        kind: 0,
-        message: 0,
+        kind: Kind::MESSAGE,
+        message: Message::JOIN,
         flags: 0,
         peer: p,
         second: 0,
         ttl: 0,
         number: 0,
     };
-    words::emit_one(w, out, f, PeerInfo { id: 0, data: d })
+    state::emit_one(w, out, f, PeerInfo { id: 0, data: d })
 }
 
 // ShuffleReply with these peers.
@@ -90,15 +93,15 @@ fn send_nodes(w: Work, st: &[u64], out: &mut [u8], to: PeerId, ps: &[u64]) -> Wo
 {
     let ns = peer_infos(st, ps);
     let f = Fields {
-        kind: 0,
-        message: 3,
+        kind: Kind::MESSAGE,
+        message: Message::SHUFFLE_REPLY,
         flags: 0,
         peer: to,
         second: 0,
         ttl: 0,
         number: 0,
     };
-    words::emit_nodes(w, out, f, ns)
+    state::emit_nodes(w, out, f, ns)
 }
 
 // ShuffleReply with the peers of a working set.
@@ -108,7 +111,7 @@ fn send_set(w: Work, st: &[u64], out: &mut [u8], to: PeerId, v: &[u64]) -> Work
     requires { ⌜ ValidSet 32 (now v) ⌝ }
     ensures { λ r. ⌜ Tells (send-nodes to (items-at 32 (now (v .entry)))) (work-of w (now (st .entry))) (work-of r (now (st .entry))) (now (out .entry)) (now (out .exit)) ⌝ }
 {
-    let n = section::count(v, Layout::ALL);
+    let n = util::count(v, Layout::ALL);
     send_nodes(w, st, out, to, &v[..n])
 }
 
@@ -119,8 +122,8 @@ pub fn shuffle_and_cap(w: Work, draws: &[u32], most: usize, v: &mut [u64]) -> Wo
     ensures { λ r. ⌜ DrawsAny (draw-shuffle (items-at 32 (now (v .entry)))) w r (now (draws .entry)) ⌝ }
     ensures { λ r. ⌜ HoldsSet 32 (now (v .exit)) (take most (shuffle (drop (w .drawn) (now (draws .entry))) (items-at 32 (now (v .entry))))) ⌝ }
 {
-    let r = words::shuffle(w, draws, v);
-    section::truncate(v, Layout::ALL, most);
+    let r = state::shuffle(w, draws, v);
+    util::truncate(v, Layout::ALL, most);
     r
 }
 
@@ -135,15 +138,15 @@ fn fill_active(w: Work, st: &[u64], draws: &[u32], len: usize, v: &mut [u64]) ->
     ensures { λ r. ⌜ DrawsAny (draw-shuffle (unpack (now (st .entry)) .active)) w r (now (draws .entry)) ⌝ }
     ensures { λ r. ⌜ HoldsSet 32 (now (v .exit)) (items-at 32 (now (v .entry)) ++ take (len - length (items-at 32 (now (v .entry)))) (shuffle (drop (w .drawn) (now (draws .entry))) (unpack (now (st .entry)) .active))) ⌝ }
 {
-    let n = section::count(v, Layout::ALL);
+    let n = util::count(v, Layout::ALL);
     let mut more = [0u64; 33];
-    section::copy_into(
+    util::copy_into(
         &st[Layout::ACTIVE..Layout::ACTIVE_END],
         Layout::FEW,
         &mut more,
     );
     let r = shuffle_and_cap(w, draws, len - n, &mut more);
-    section::append(v, Layout::ALL, &more, Layout::ALL);
+    util::append(v, Layout::ALL, &more, Layout::ALL);
     r
 }
 
@@ -184,7 +187,7 @@ fn reply_with(
     requires { ⌜ len ≤ 32 ⌝ }
     ensures { λ r. ⌜ Does (work-of r (now (st .entry))) (now (draws .entry)) (now (out .exit)) (reply-with to len (items-at 32 (now (v .entry))) (run (work-of w (now (st .entry))) (now (draws .entry)) (now (out .entry)))) ⌝ }
 {
-    let n = section::count(v, Layout::ALL);
+    let n = util::count(v, Layout::ALL);
     if n < len {
         return send_filled(w, st, draws, out, to, len, v);
     }
@@ -206,7 +209,7 @@ pub fn send_shuffle_reply(
     ensures { λ r. ⌜ Does (work-of r (now (st .entry))) (now (draws .entry)) (now (out .exit)) (send-shuffle-reply to len (run (work-of w (now (st .entry))) (now (draws .entry)) (now (out .entry)))) ⌝ }
 {
     let mut v = [0u64; 33];
-    section::copy_into(
+    util::copy_into(
         &st[Layout::PASSIVE..Layout::PASSIVE_END],
         Layout::ALL,
         &mut v,
@@ -243,15 +246,15 @@ pub fn send_disconnect(
     let a = send_shuffle_reply(w, st, draws, out, p, len);
     let flags = flag(alive);
     let f = Fields {
-        kind: 0,
-        message: 5,
+        kind: Kind::MESSAGE,
+        message: Message::DISCONNECT,
         flags: flags,
         peer: p,
         second: 0,
         ttl: 0,
         number: 0,
     };
-    words::emit_bare(a, out, f)
+    state::emit_bare(a, out, f)
 }
 
 // Whether the next request's number is not the last.
@@ -300,7 +303,7 @@ fn count_request(w: Work, st: &[u64]) -> Work
     ensures { λ r. ⌜ Changes count-request (work-of w (now (st .entry))) (work-of r (now (st .entry))) ⌝ }
 {
     let test = request_counts(st);
-    words::require(w, 10, test)
+    state::require(w, Refusal::COUNTER, test)
 }
 
 // Code 6 where a 33rd open request is needed.
@@ -311,7 +314,7 @@ fn open_request(w: Work, st: &mut [u64], p: PeerId) -> Work
     ensures { λ r. ⌜ Changes (open-request p) (work-of w (now (st .entry))) (work-of r (now (st .exit))) ⌝ }
 {
     let test = request_fits(st);
-    let a = words::require(w, 6, test);
+    let a = state::require(w, Refusal::REQUESTS, test);
     note_request(a, st, p)
 }
 
@@ -321,18 +324,18 @@ fn tell_neighbor(w: Work, st: &[u64], out: &mut [u8], p: PeerId, high: bool) -> 
     requires { ⌜ Room (work-of w (now st)) (now out) ⌝ }
     ensures { λ r. ⌜ Tells (emit (neighbor-to (unpack (now (st .entry)) .own-data) high p)) (work-of w (now (st .entry))) (work-of r (now (st .entry))) (now (out .entry)) (now (out .exit)) ⌝ }
 {
-    let d = words::own_data(st);
+    let d = state::own_data(st);
     let flags = flag(high);
     let f = Fields {
-        kind: 0,
-        message: 4,
+        kind: Kind::MESSAGE,
+        message: Message::NEIGHBOR,
         flags: flags,
         peer: p,
         second: 0,
         ttl: 0,
         number: 0,
     };
-    words::emit_one(w, out, f, PeerInfo { id: 0, data: d })
+    state::emit_one(w, out, f, PeerInfo { id: 0, data: d })
 }
 
 // Neighbor, and the timer that ends the wait for its answer.
@@ -343,7 +346,7 @@ fn tell_request(w: Work, st: &[u64], out: &mut [u8], p: PeerId, high: bool, id: 
 {
     let a = tell_neighbor(w, st, out, p, high);
     let f = Fields {
-        kind: 3,
+        kind: Kind::PENDING_NEIGHBOR_REQUEST,
         message: 0,
         flags: 0,
         peer: p,
@@ -351,7 +354,7 @@ fn tell_request(w: Work, st: &[u64], out: &mut [u8], p: PeerId, high: bool, id: 
         ttl: 0,
         number: id,
     };
-    words::emit_bare(a, out, f)
+    state::emit_bare(a, out, f)
 }
 
 // Neighbor to p, unless a request to it is open.
@@ -360,7 +363,7 @@ pub fn send_neighbor(w: Work, st: &mut [u64], out: &mut [u8], p: PeerId, high: b
     requires { ⌜ Room (work-of w (now st)) (now out) ⌝ }
     ensures { λ r. ⌜ Tells (send-neighbor p high) (work-of w (now (st .entry))) (work-of r (now (st .exit))) (now (out .entry)) (now (out .exit)) ⌝ }
 {
-    if words::is_requested(st, p) {
+    if state::is_requested(st, p) {
         return w;
     }
     let id = st[Layout::NEXT_NEIGHBOR_REQUEST];

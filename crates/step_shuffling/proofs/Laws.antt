@@ -8,28 +8,28 @@ use native.Mathlib.Omega.{arith}
 use lib.ListN.{length, drop, getD}
 use Rattle.lists.specs.Lists.{null, without-all}
 use Rattle.lists.specs.Array.{pad}
-use Rattle.section.specs.Section.{items-at, ValidSet, HoldsSet, section}
-use Rattle.section.proofs.Sets.{section-holds}
+use Rattle.util.specs.Section.{items-at, ValidSet, HoldsSet, section}
+use Rattle.util.proofs.Sets.{section-holds}
 use Rattle.util.specs.Chances.{pick}
 use Rattle.peer.specs.Data.{Node}
 use Rattle.record.specs.Read.{nodes-of}
 use Rattle.record.proofs.Nodes.{length-nodes-of}
 use Rattle.timing.specs.Timing.{next}
-use Rattle.writer64.specs.declared.Nodes.{Nodes}
-use Rattle.writer64.specs.Nodes.{nodes-in, HoldsNodes}
-use Rattle.writer64.specs.Write.{rec-in}
+use Rattle.writer.specs.declared.Nodes.{Nodes}
+use Rattle.writer.specs.Nodes.{nodes-in, HoldsNodes}
+use Rattle.writer.specs.Write.{rec-in}
 use Rattle.protocol.specs.Run.{emit, to-draw, one-of, draw-one-of, picked, message}
 use Rattle.protocol.specs.Peers.{add-nodes, any-new}
 use Rattle.protocol.specs.Sending.{send-shuffle-reply}
 use Rattle.protocol.specs.Refill.{few-requests, start-refill, refill-active-from-passive}
 use Rattle.protocol.specs.Messages.{answers-shuffle, answer-shuffle, forward-shuffle, on-shuffle, stops-at-refusal, renews-limit, refill-with, after-reply, on-shuffle-reply}
-use Rattle.words.specs.declared.Work.{Work}
-use Rattle.words.specs.Work.{work-of, run, DrawsAny, TellsAny, Fine, Does}
-use Rattle.words.specs.Layout.{active-part}
-use Rattle.words.specs.declared.RefillLimit.{RefillLimit}
-use Rattle.words.specs.Unpack.{unpack, station-of, refill-in}
-use Rattle.words.proofs.Bridge.{by, still, seq-at, taken, left, holds-at, at-run}
-use Rattle.words.proofs.Any.{then-draw-any, then-tell-any}
+use Rattle.state.specs.declared.Work.{Work}
+use Rattle.state.specs.Work.{work-of, run, DrawsAny, TellsAny, Fine, Does}
+use Rattle.state.specs.Layout.{active-part}
+use Rattle.state.specs.declared.RefillLimit.{RefillLimit}
+use Rattle.state.specs.Unpack.{unpack, station-of, refill-in}
+use Rattle.state.proofs.Bridge.{by, still, seq-at, taken, left, holds-at, at-run}
+use Rattle.state.proofs.Any.{then-draw-any, then-tell-any}
 
 -- ---- the neighbors that a Shuffle may go on to
 

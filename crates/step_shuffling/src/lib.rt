@@ -1,25 +1,27 @@
 // The two messages of a shuffle (the definition's `Messages`).
 use columns::PeerInfo;
-use section::PeerId;
+use record::Kind;
+use record::Message;
+use state::Layout;
+use state::Work;
 use timing::Ttl;
-use words::Layout;
-use words::Work;
-use writer64::Fields;
-use writer64::Nodes;
+use util::PeerId;
+use writer::Fields;
+use writer::Nodes;
 ghost use mathlib.Core.Path.{_≡_};
 ghost use mathlib.Core.Bool.{true};
 ghost use mathlib.Core.List.{[], _∷_};
 ghost use lib.ListN.{length};
 ghost use Rattle.lists.specs.Lists.{without-all};
-ghost use Rattle.section.specs.Section.{items-at, ValidSet, HoldsSet};
+ghost use Rattle.util.specs.Section.{items-at, ValidSet, HoldsSet};
 ghost use Rattle.record.specs.Read.{well-formed, header-of, nodes-of};
-ghost use Rattle.writer64.specs.Nodes.{HoldsNodes};
+ghost use Rattle.writer.specs.Nodes.{HoldsNodes};
 ghost use Rattle.protocol.specs.Peers.{add-nodes, any-new};
 ghost use Rattle.protocol.specs.Messages.{answers-shuffle, answer-shuffle, forward-shuffle, on-shuffle};
 ghost use Rattle.protocol.specs.Messages.{stops-at-refusal, renews-limit, refill-with, after-reply, on-shuffle-reply};
-ghost use Rattle.words.specs.Layout.{words};
-ghost use Rattle.words.specs.Unpack.{unpack, PackedState};
-ghost use Rattle.words.specs.Work.{work-of, run, Fine, Does};
+ghost use Rattle.state.specs.Layout.{words};
+ghost use Rattle.state.specs.Unpack.{unpack, PackedState};
+ghost use Rattle.state.specs.Work.{work-of, run, Fine, Does};
 
 // The work after an event's nodes were learned, and whether one of them was new.
 struct Added {
@@ -79,7 +81,7 @@ fn answers_shuffle(st: &[u64], ttl: u16) -> bool
     ensures { λ r. ⌜ r ≡ answers-shuffle ttl (unpack (now (st .entry))) ⌝ }
 {
     let t = Ttl(ttl);
-    t.expired() | words::is_last_hop(st)
+    t.expired() | state::is_last_hop(st)
 }
 
 // The nodes are learned, and as many others go to the Shuffle's origin.
@@ -112,8 +114,8 @@ fn other_neighbors(st: &[u64], p: PeerId, q: PeerId, v: &mut [u64])
 {
     // A set of two places, which are both in use.
     let skip = [p, q, 2];
-    section::copy_into(&st[Layout::ACTIVE..Layout::ACTIVE_END], Layout::FEW, v);
-    section::without_all(v, Layout::ALL, &skip, 2);
+    util::copy_into(&st[Layout::ACTIVE..Layout::ACTIVE_END], Layout::FEW, v);
+    util::without_all(v, Layout::ALL, &skip, 2);
 }
 
 // Shuffle goes on to one of the peers of a working set, where there is one.
@@ -135,26 +137,26 @@ fn forward_shuffle(
     requires { ⌜ n ≡ header-of (now b) .nodes ⌝ }
     ensures { λ r. ⌜ Does (work-of r (now (st .entry))) (now (draws .entry)) (now (out .exit)) (forward-shuffle (items-at 32 (now (others .entry))) origin (nodes-of (now (b .entry)) 0 n) ttl (run (work-of w (now (st .entry))) (now (draws .entry)) (now (out .entry)))) ⌝ }
 {
-    if section::is_empty(others, Layout::ALL) {
+    if util::is_empty(others, Layout::ALL) {
         return w;
     }
-    let count = section::count(others, Layout::ALL);
-    let t = words::choose(w, draws, count);
+    let count = util::count(others, Layout::ALL);
+    let t = state::choose(w, draws, count);
     let a = t.work;
-    let q = section::get_index(others, Layout::ALL, t.index);
+    let q = util::get_index(others, Layout::ALL, t.index);
     let ns = event_nodes(b, n);
     let hops = Ttl(ttl);
     let left = hops.next();
     let f = Fields {
-        kind: 0,
-        message: 2,
+        kind: Kind::MESSAGE,
+        message: Message::SHUFFLE,
         flags: 0,
         peer: q,
         second: origin,
         ttl: left.0,
         number: 0,
     };
-    words::emit_nodes(a, out, f, ns)
+    state::emit_nodes(a, out, f, ns)
 }
 
 // Shuffle goes on to a neighbor other than its origin and its sender.
@@ -210,7 +212,7 @@ fn stops_at_refusal(st: &[u64], from: PeerId) -> bool
     requires { ⌜ PackedState (now st) ⌝ }
     ensures { λ r. ⌜ r ≡ stops-at-refusal from (unpack (now (st .entry))) ⌝ }
 {
-    words::is_requested(st, from) & !words::is_short(st)
+    state::is_requested(st, from) & !state::is_short(st)
 }
 
 // Whether the limit on requests, which is spent, begins anew: the reply named a new peer and is not a refusal.
@@ -219,8 +221,8 @@ fn renews_limit(st: &[u64], from: PeerId, fresh: bool) -> bool
     requires { ⌜ PackedState (now st) ⌝ }
     ensures { λ r. ⌜ r ≡ renews-limit from fresh (unpack (now (st .entry))) ⌝ }
 {
-    let l = words::limit_of(st);
-    !words::is_requested(st, from) & (fresh & l.is_spent())
+    let l = state::limit_of(st);
+    !state::is_requested(st, from) & (fresh & l.is_spent())
 }
 
 // A refill, with a renewed limit or with the one that there is.

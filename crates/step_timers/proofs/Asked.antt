@@ -16,11 +16,11 @@ use Rattle.protocol.specs.Sending.{join}
 use Rattle.protocol.specs.Refill.{refill-active-from-passive}
 use Rattle.protocol.specs.Messages.{drop-join, drop-request}
 use Rattle.protocol.specs.Timers.{is-number, request-is, request-failed, handle-pending-neighbor-timer, join-is, retry-join}
-use Rattle.words.specs.declared.Work.{Work}
-use Rattle.words.specs.Layout.{requests-part, joins-part}
-use Rattle.words.specs.Unpack.{unpack, station-of}
-use Rattle.words.specs.Work.{work-of, run, Changes, Room, Tells, Fine, Does}
-use Rattle.words.proofs.Bridge.{unchanged, telling, tell-then, tell-yes, tell-no, still, then, seq, taken, left, holds-at}
+use Rattle.state.specs.declared.Work.{Work}
+use Rattle.state.specs.Layout.{requests-part, joins-part}
+use Rattle.state.specs.Unpack.{unpack, station-of}
+use Rattle.state.specs.Work.{work-of, run, Changes, Room, Tells, Fine, Does}
+use Rattle.state.proofs.Bridge.{unchanged, telling, tell-then, tell-yes, tell-no, still, then, seq, taken, left, holds-at}
 
 pub no-number : (n : ℕ) (m : Number) → m ≡ Absent → false ≡ is-number n (number-in m)
 unfolding is-number number-in

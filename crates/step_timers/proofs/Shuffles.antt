@@ -13,26 +13,26 @@ use Rattle.timing.specs.Timing.{delay}
 use Rattle.timing.proofs.Ranges.{ranges}
 use Rattle.peer.specs.declared.PeerData.{PeerData}
 use Rattle.peer.specs.Data.{Node}
-use Rattle.section.specs.Section.{items-at, ValidSet, HoldsSet}
-use Rattle.section.proofs.Sets.{set-length, set-then, empty-is-null}
+use Rattle.util.specs.Section.{items-at, ValidSet, HoldsSet}
+use Rattle.util.proofs.Sets.{set-length, set-then, empty-is-null}
 use Rattle.columns.specs.Columns.{node-in}
-use Rattle.writer64.specs.declared.Nodes.{Nodes}
-use Rattle.writer64.specs.Nodes.{nodes-in, HoldsNodes}
-use Rattle.writer64.specs.Write.{rec-in}
-use Rattle.writer64.proofs.Ways.{length-nodes}
+use Rattle.writer.specs.declared.Nodes.{Nodes}
+use Rattle.writer.specs.Nodes.{nodes-in, HoldsNodes}
+use Rattle.writer.specs.Write.{rec-in}
+use Rattle.writer.proofs.Ways.{length-nodes}
 use Rattle.protocol.specs.Station.{Station, is-alone}
 use Rattle.protocol.specs.Setters.{set-next-interval}
 use Rattle.protocol.specs.Run.{on, emit, draw, drawn, to-draw, one-of, draw-one-of, picked, shuffled, draw-shuffle, message, timer, peer-infos}
 use Rattle.protocol.specs.Timers.{double-interval, schedule-shuffle, shuffle-nodes, send-shuffle, active-part, passive-part, shuffle-passive, shuffle-with, shuffle-any}
-use Rattle.words.specs.declared.Work.{Work}
-use Rattle.words.specs.Layout as layout
-use Rattle.words.specs.Layout.{next-shuffle-interval, shuffle-interval, me, shuffle-random-walk-length, shuffle-active-view-count, shuffle-passive-view-count}
-use Rattle.words.specs.Unpack.{unpack, station-of, settings-at, own-at, PackedState, Becomes}
-use Rattle.words.specs.Work.{work-of, run, Changes, DrawsAny, Room, Tells, TellsAny, Fine, Does}
-use Rattle.words.proofs.Access.{of-settings, of-active}
-use Rattle.words.proofs.Fields.{put-next-interval}
-use Rattle.words.proofs.Bridge.{by, tell-by, still, then, then-tell, seq, seq-at, taken, left, holds-at}
-use Rattle.words.proofs.Any.{then-draw-any, then-tell-any}
+use Rattle.state.specs.declared.Work.{Work}
+use Rattle.state.specs.Layout as layout
+use Rattle.state.specs.Layout.{next-shuffle-interval, shuffle-interval, me, shuffle-random-walk-length, shuffle-active-view-count, shuffle-passive-view-count}
+use Rattle.state.specs.Unpack.{unpack, station-of, settings-at, own-at, PackedState, Becomes}
+use Rattle.state.specs.Work.{work-of, run, Changes, DrawsAny, Room, Tells, TellsAny, Fine, Does}
+use Rattle.state.proofs.Access.{of-settings, of-active}
+use Rattle.state.proofs.Fields.{put-next-interval}
+use Rattle.state.proofs.Bridge.{by, tell-by, still, then, then-tell, seq, seq-at, taken, left, holds-at}
+use Rattle.state.proofs.Any.{then-draw-any, then-tell-any}
 use Rattle.step_sending.proofs.Sets.{few-taken, lent-items, lent-count, shuffled-by, shuffle-of}
 
 -- ---- the interval

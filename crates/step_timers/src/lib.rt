@@ -1,23 +1,25 @@
 // The timers of a request, of a join and of the shuffle (the definition's `Timers`).
 use columns::PeerInfo;
 use peer::Number;
-use section::PeerId;
-use words::Layout;
-use words::Work;
-use writer64::Fields;
+use record::Kind;
+use record::Message;
+use state::Layout;
+use state::Work;
+use util::PeerId;
+use writer::Fields;
 ghost use mathlib.Core.Path.{_≡_};
 ghost use Prim.Native.Nat.{_≤_, _<_, min};
 ghost use lib.ListN.{length, take, drop};
 ghost use Rattle.lists.specs.Lists.{without};
 ghost use Rattle.util.specs.Chances.{shuffle};
 ghost use Rattle.peer.specs.Maps.{number-in};
-ghost use Rattle.section.specs.Section.{items-at, ValidSet, HoldsSet};
+ghost use Rattle.util.specs.Section.{items-at, ValidSet, HoldsSet};
 ghost use Rattle.protocol.specs.Run.{on, draw-shuffle};
 ghost use Rattle.protocol.specs.Timers.{is-number, request-is, request-failed, handle-pending-neighbor-timer, join-is, retry-join};
 ghost use Rattle.protocol.specs.Timers.{double-interval, schedule-shuffle, send-shuffle, shuffle-passive, shuffle-with, shuffle-any, handle-shuffle-timer};
-ghost use Rattle.words.specs.Layout.{words};
-ghost use Rattle.words.specs.Unpack.{unpack, PackedState};
-ghost use Rattle.words.specs.Work.{work-of, run, Changes, DrawsAny, Room, Tells, Fine, Does};
+ghost use Rattle.state.specs.Layout.{words};
+ghost use Rattle.state.specs.Unpack.{unpack, PackedState};
+ghost use Rattle.state.specs.Work.{work-of, run, Changes, DrawsAny, Room, Tells, Fine, Does};
 
 // Whether an answer names the number n.
 fn is_number(n: u64, m: Number) -> bool
@@ -55,7 +57,7 @@ fn request_failed(w: Work, st: &mut [u64], draws: &[u32], out: &mut [u8], p: Pee
     requires { ⌜ Fine (work-of w (now st)) (now draws) (now out) ⌝ }
     ensures { λ r. ⌜ Does (work-of r (now (st .exit))) (now (draws .entry)) (now (out .exit)) (request-failed p (run (work-of w (now (st .entry))) (now (draws .entry)) (now (out .entry)))) ⌝ }
 {
-    let a = words::drop_request(w, st, p);
+    let a = state::drop_request(w, st, p);
     let b = step_peers::drop_passive(a, st, p);
     let none = [0u64; 0];
     step_refill::refill_active_from_passive(b, st, draws, out, &none)
@@ -87,7 +89,7 @@ pub fn retry_join(w: Work, st: &mut [u64], out: &mut [u8], p: PeerId, id: u64) -
     ensures { λ r. ⌜ Tells (retry-join p id) (work-of w (now (st .entry))) (work-of r (now (st .exit))) (now (out .entry)) (now (out .exit)) ⌝ }
 {
     if join_is(st, p, id) {
-        let a = words::drop_join(w, st, p);
+        let a = state::drop_join(w, st, p);
         return step_sending::join(a, st, out, p);
     }
     w
@@ -127,11 +129,11 @@ pub fn schedule_shuffle(w: Work, st: &mut [u64], draws: &[u32], out: &mut [u8]) 
 {
     let x = st[Layout::NEXT_SHUFFLE_INTERVAL] as u32;
     let a = double_interval(w, st);
-    let d = words::draw(a, draws);
+    let d = state::draw(a, draws);
     let b = d.work;
     let wait = timing::delay(x, d.value);
     let f = Fields {
-        kind: 1,
+        kind: Kind::DO_SHUFFLE,
         message: 0,
         flags: 0,
         peer: 0,
@@ -139,7 +141,7 @@ pub fn schedule_shuffle(w: Work, st: &mut [u64], draws: &[u32], out: &mut [u8]) 
         ttl: 0,
         number: 0,
     };
-    words::emit_bare(b, out, f)
+    state::emit_bare(b, out, f)
 }
 
 // Shuffle with the peers of a working set, and the station itself last.
@@ -150,22 +152,22 @@ fn send_shuffle(w: Work, st: &[u64], out: &mut [u8], to: PeerId, v: &[u64]) -> W
     requires { ⌜ length (items-at 32 (now v)) < 32 ⌝ }
     ensures { λ r. ⌜ Tells (send-shuffle to (items-at 32 (now (v .entry)))) (work-of w (now (st .entry))) (work-of r (now (st .entry))) (now (out .entry)) (now (out .exit)) ⌝ }
 {
-    let n = section::count(v, Layout::ALL);
+    let n = util::count(v, Layout::ALL);
     let named = step_sending::peer_infos(st, &v[..n]);
     let me = st[Layout::ME];
-    let d = words::own_data(st);
+    let d = state::own_data(st);
     let ns = named.push(PeerInfo { id: me, data: d });
     let ttl = st[Layout::SHUFFLE_RANDOM_WALK_LENGTH] as u16;
     let f = Fields {
-        kind: 0,
-        message: 2,
+        kind: Kind::MESSAGE,
+        message: Message::SHUFFLE,
         flags: 0,
         peer: to,
         second: me,
         ttl: ttl,
         number: 0,
     };
-    words::emit_nodes(w, out, f, ns)
+    state::emit_nodes(w, out, f, ns)
 }
 
 // At most `most` peers of a view, but not `to`, go into the working set v, as the next draws decide.
@@ -185,8 +187,8 @@ fn some_peers(
     ensures { λ r. ⌜ DrawsAny (draw-shuffle (without to (items-at cap (now (view .entry))))) w r (now (draws .entry)) ⌝ }
     ensures { λ r. ⌜ HoldsSet 32 (now (v .exit)) (take most (shuffle (drop (w .drawn) (now (draws .entry))) (without to (items-at cap (now (view .entry)))))) ⌝ }
 {
-    section::copy_into(view, cap, v);
-    section::without(v, Layout::ALL, to);
+    util::copy_into(view, cap, v);
+    util::without(v, Layout::ALL, to);
     step_sending::shuffle_and_cap(w, draws, most, v)
 }
 
@@ -216,7 +218,7 @@ fn shuffle_passive(
         most,
         &mut more,
     );
-    section::append(v, Layout::ALL, &more, Layout::ALL);
+    util::append(v, Layout::ALL, &more, Layout::ALL);
     send_shuffle(a, st, out, to, v)
 }
 
@@ -246,13 +248,13 @@ fn shuffle_any(w: Work, st: &[u64], draws: &[u32], out: &mut [u8]) -> Work
     requires { ⌜ Fine (work-of w (now st)) (now draws) (now out) ⌝ }
     ensures { λ r. ⌜ Does (work-of r (now (st .entry))) (now (draws .entry)) (now (out .exit)) (shuffle-any (run (work-of w (now (st .entry))) (now (draws .entry)) (now (out .entry)))) ⌝ }
 {
-    if words::is_alone(st) {
+    if state::is_alone(st) {
         return w;
     }
-    let n = section::count(&st[Layout::ACTIVE..Layout::ACTIVE_END], Layout::FEW);
-    let t = words::choose(w, draws, n);
+    let n = util::count(&st[Layout::ACTIVE..Layout::ACTIVE_END], Layout::FEW);
+    let t = state::choose(w, draws, n);
     let a = t.work;
-    let to = section::get_index(
+    let to = util::get_index(
         &st[Layout::ACTIVE..Layout::ACTIVE_END],
         Layout::FEW,
         t.index,

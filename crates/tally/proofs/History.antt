@@ -17,7 +17,7 @@ use Rattle.record.specs.InForm.{InForm, header-in}
 use Rattle.record.specs.Walk.{kind-in, message-in}
 use Rattle.record.proofs.Walk.{records-written, records-zeros}
 use Rattle.protocol.specs.Written.{encode-all}
-use Rattle.protocol.proofs.Extra.{both}
+use Rattle.lists.proofs.Members.{both}
 use Rattle.history.specs.Ledger.{Ledger, empty-ledger, feed}
 use Rattle.history.specs.Calls.{Call, Machine, code-of, state-of, output-of, ledger-after}
 use Rattle.history.specs.Outputs.{ReadsBack, OutputsRead}

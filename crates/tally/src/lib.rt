@@ -1,5 +1,7 @@
 // The tally of 01, "What the Rust does that needs another form": the messages sent, by kind.
 use record::Header;
+use record::Kind;
+use record::Message;
 ghost use mathlib.Core.Path.{_≡_};
 ghost use Rattle.tally.specs.Counts.{counted, raise-one, enter, raised};
 
@@ -32,12 +34,12 @@ fn raise_one(t: Tally, message: u8) -> Tally
     ensures { λ r. ⌜ r ≡ raise-one message t ⌝ }
 {
     Tally {
-        join: counted(message == 0, t.join),
-        forward_join: counted(message == 1, t.forward_join),
-        shuffle: counted(message == 2, t.shuffle),
-        shuffle_reply: counted(message == 3, t.shuffle_reply),
-        neighbor: counted(message == 4, t.neighbor),
-        disconnect: counted(message == 5, t.disconnect),
+        join: counted(message == Message::JOIN, t.join),
+        forward_join: counted(message == Message::FORWARD_JOIN, t.forward_join),
+        shuffle: counted(message == Message::SHUFFLE, t.shuffle),
+        shuffle_reply: counted(message == Message::SHUFFLE_REPLY, t.shuffle_reply),
+        neighbor: counted(message == Message::NEIGHBOR, t.neighbor),
+        disconnect: counted(message == Message::DISCONNECT, t.disconnect),
     }
 }
 
@@ -45,7 +47,7 @@ fn raise_one(t: Tally, message: u8) -> Tally
 fn enter(t: Tally, h: Header) -> Tally
     ensures { λ r. ⌜ r ≡ enter (h .kind) (h .message) t ⌝ }
 {
-    if h.kind == 0 {
+    if h.kind == Kind::MESSAGE {
         return raise_one(t, h.message);
     }
     t

@@ -11,7 +11,7 @@ use lib.Dec.{leb, eqb}
 use borrow.Author.Tests.{eq-eqb, ne-eqb, leb-true, leb-false}
 use Rattle.lists.specs.Lists.{choose, null, mem, index-of, shift-remove}
 use Rattle.lists.proofs.Choice.{split, clash, and-right, choose-yes, choose-no}
-use Rattle.writer64.specs.Write.{fits, written}
+use Rattle.writer.specs.Write.{fits, written}
 use Rattle.timer_map.specs.Entries as E
 use Rattle.timer_map.specs.Entries.{Put, times, soonest, first-entry, is-due, no-entry}
 use Rattle.timer_map.specs.Words.{pack}

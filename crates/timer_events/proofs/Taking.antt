@@ -9,10 +9,10 @@ use lib.ListN.{length}
 use Rattle.lists.specs.Lists.{shift-remove}
 use Rattle.lists.proofs.Choice.{split, choose-yes, choose-no}
 use Rattle.record.specs.Format.{Rec, size}
-use Rattle.writer64.specs.Write.{rec-in, fits, written, reached, Wrote}
-use Rattle.writer64.specs.declared.Fields.{Fields}
-use Rattle.writer64.specs.declared.Written.{Written}
-use Rattle.writer64.specs.declared.Written.the-variants.{At, Full}
+use Rattle.writer.specs.Write.{rec-in, fits, written, reached, Wrote}
+use Rattle.writer.specs.declared.Fields.{Fields}
+use Rattle.writer.specs.declared.Written.{Written}
+use Rattle.writer.specs.declared.Written.the-variants.{At, Full}
 use Rattle.timer_map.specs.Entries.{soonest, first-entry, is-due}
 use Rattle.timer_map.specs.Words.{entries-of, queue-ok, pack, Sound}
 use Rattle.timer_map.specs.Calls.{due-in}

@@ -10,7 +10,7 @@ use Rattle.record.specs.Format.{Rec, encode}
 use Rattle.record.specs.Read as R
 use Rattle.record.specs.Read.{header-of, is-timer, well-formed, rec-of, read-event}
 use Rattle.protocol.specs.Rules.{all-under}
-use Rattle.writer64.specs.Write.{written}
+use Rattle.writer.specs.Write.{written}
 use Rattle.timer_map.specs.Entries.{no-entry}
 use Rattle.timer_map.specs.Words.{pack}
 use Rattle.timer_map.specs.Calls.{renewed}

@@ -7,7 +7,7 @@ use lib.ListN.{length}
 use lib.Dec.{ltb, leb, eqb}
 use Rattle.lists.specs.Lists.{choose, shift-remove}
 use Rattle.record.specs.Format.{Rec}
-use Rattle.writer64.specs.Write.{fits, written}
+use Rattle.writer.specs.Write.{fits, written}
 use Rattle.timer_map.specs.Entries.{soonest, first-entry, is-due}
 use Rattle.timer_map.specs.Words.{entries-of, queue-ok, pack}
 use Rattle.timer_map.specs.declared.Entry.{Entry}

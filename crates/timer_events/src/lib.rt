@@ -3,13 +3,13 @@ use record::Header;
 use timer_map::Entry;
 use timer_map::Id;
 use timer_map::Timer;
-use writer64::Fields;
+use writer::Fields;
 ghost use mathlib.Core.Path.{_≡_};
 ghost use mathlib.Core.Bool.{true, false};
 ghost use mathlib.Core.List.{[]};
 ghost use Prim.Native.Nat.{_≤_};
 ghost use Rattle.record.specs.Read.{header-of};
-ghost use Rattle.writer64.specs.Write.{rec-in};
+ghost use Rattle.writer.specs.Write.{rec-in};
 ghost use Rattle.timer_map.specs.Words.{entries-of, Sound};
 ghost use Rattle.timer_map.specs.Calls.{put};
 ghost use Rattle.timer_events.specs.Records.{no-start, started, start-of, timer-of, timers-in, insert-all, insert-records, records-inserted};
@@ -209,9 +209,9 @@ fn pop_event_ok(q: &mut [u64], limit: u64, out: &mut [u8]) -> PoppedEvent
         let i = d.place;
         if has_event(e) {
             let f = fields(e);
-            let w = writer64::write_bare(out, 0, f);
+            let w = writer::write_bare(out, 0, f);
             match w {
-                writer64::Written::At(_) => {
+                writer::Written::At(_) => {
                     timer_map::remove(q, i);
                     return PoppedEvent {
                         code: 0,
@@ -219,7 +219,7 @@ fn pop_event_ok(q: &mut [u64], limit: u64, out: &mut [u8]) -> PoppedEvent
                         time: e.time,
                     };
                 }
-                writer64::Written::Full => {
+                writer::Written::Full => {
                     return PoppedEvent {
                         code: NO_ROOM,
                         found: false,

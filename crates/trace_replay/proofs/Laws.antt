@@ -15,12 +15,12 @@ use Rattle.timing.specs.declared.Config.{Config}
 use Rattle.timing.specs.Timing.{in-range}
 use Rattle.protocol.specs.Rules.{short-data}
 use Rattle.protocol.specs.Handle as P
-use Rattle.rules_words.specs.Pack.{pack}
-use Rattle.queries_words.specs.Made as packed
-use Rattle.queries_words.specs.Made.{lent, pack-made}
-use Rattle.hyparview_words.specs.declared.State.{State}
-use Rattle.hyparview_words.specs.declared.Made.{Made}
-use Rattle.hyparview_words.specs.Handled.{handled}
+use Rattle.rules.specs.Pack.{pack}
+use Rattle.hyparview.specs.Made as packed
+use Rattle.hyparview.specs.Made.{lent, pack-made}
+use Rattle.hyparview.specs.declared.State.{State}
+use Rattle.hyparview.specs.declared.Made.{Made}
+use Rattle.hyparview.specs.Handled.{handled}
 use Rattle.run_input.specs.declared.Layout.{Layout}
 use Rattle.run_input.specs.declared.Input.{Input}
 use Rattle.run_input.specs.declared.Input.the-variants.{Refused, Whole}

@@ -11,9 +11,9 @@ use Rattle.lists.specs.Lists.{choose}
 use Rattle.protocol.specs.Station.{Station}
 use Rattle.protocol.specs.Setters.{set-passes-alone, set-passes-short, set-next-request, set-next-join}
 use Rattle.protocol.specs.Handle.{Made, new, zero-station}
-use Rattle.rules_words.specs.Pack.{pack}
-use Rattle.hyparview_words.specs.declared.State.{State}
-use Rattle.hyparview_words.specs.Handled.{handled}
+use Rattle.rules.specs.Pack.{pack}
+use Rattle.hyparview.specs.declared.State.{State}
+use Rattle.hyparview.specs.Handled.{handled}
 use Rattle.run_input.specs.declared.Layout.{Layout}
 use Rattle.run_input.specs.declared.Input.{Input}
 use Rattle.run_input.specs.declared.Input.the-variants.{Refused, Whole}

@@ -1,8 +1,8 @@
 // The text of one event, into lent bytes: each output record in hex, the code with the draws used, and the state that the call handed back.
 // No other crate sees these functions. Their contracts say that they are safe; what they write is compared with the Rust's by the programs over this crate.
 use run_text::Text;
-use words::Layout;
-use words::RefillLimit;
+use state::Layout;
+use state::RefillLimit;
 ghost use mathlib.Core.Path.{_≡_};
 ghost use Prim.Native.Nat.{_+_, _≤_};
 ghost use lib.ListN.{length};
@@ -196,7 +196,7 @@ fn put_kept(out: &mut [u8], t: Text, st: &[u64]) -> Text
     let data = &st[Layout::DATA..Layout::DATA_END];
     let alive = &st[Layout::ALIVE..Layout::ALIVE_END];
     let refused = &st[Layout::REFUSED..Layout::REFUSED_END];
-    let refill = words::limit_of(st);
+    let refill = state::limit_of(st);
     let a = data_field(out, t, data);
     let b = peers_field(out, a, b" alive=", alive, Layout::ALL);
     let c = peers_field(out, b, b" refused=", refused, Layout::ALL);

@@ -1,7 +1,7 @@
 // One history of the run program's input on standard output, in the trace form: every byte of output, and every state.
 mod event_text;
 
-use hyparview_words::State;
+use hyparview::State;
 use run_input::Input;
 use run_input::Layout;
 use run_text::Text;
@@ -13,7 +13,7 @@ ghost use lib.ListN.{length, drop};
 ghost use Prim.Native.Nat.{_≤_};
 ghost use Rattle.io.specs.Counts.{Counts};
 ghost use Rattle.protocol.specs.Handle.{new, zero-station};
-ghost use Rattle.rules_words.specs.Pack.{pack};
+ghost use Rattle.rules.specs.Pack.{pack};
 ghost use Rattle.run_input.specs.Input.{numbers, cut-events};
 ghost use Rattle.run_input.specs.Input.{Laid};
 ghost use Rattle.run_walk.specs.Place.{passed};
@@ -54,10 +54,10 @@ fn started(s: State, start: Start) -> State
     ensures { λ r. ⌜ Counting start s r ⌝ }
 {
     let mut words = s.words;
-    words[words::Layout::NEXT_NEIGHBOR_REQUEST] = start.next_neighbor_request;
-    words[words::Layout::NEXT_JOIN] = start.next_join;
-    words[words::Layout::PASSES_ALONE] = start.passes_alone as u64;
-    words[words::Layout::PASSES_SHORT] = start.passes_short as u64;
+    words[state::Layout::NEXT_NEIGHBOR_REQUEST] = start.next_neighbor_request;
+    words[state::Layout::NEXT_JOIN] = start.next_join;
+    words[state::Layout::PASSES_ALONE] = start.passes_alone as u64;
+    words[state::Layout::PASSES_SHORT] = start.passes_short as u64;
     State { words: words }
 }
 

@@ -1,8 +1,9 @@
-pub mod Hold
-pub mod Pushing
-pub mod Tests
-pub mod Marks
-pub mod Choosing
 pub mod Chances
 pub mod Equal
 pub mod Orders
+pub mod Columns
+pub mod Parts
+pub mod Sets
+pub mod Stores
+pub mod Copies
+pub mod Picks

@@ -1,4 +1,3 @@
-pub mod Random
-pub mod Set
 pub mod Chances
 pub mod Equal
+pub mod Section

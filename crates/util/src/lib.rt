@@ -1,598 +1,504 @@
-// Part 2 of document 01: sets of peers with an order, and random choices from lent draws.
+// Sets of peers as sections of one lent list of 64-bit words: `cap` places, and then the count of those in use.
 ghost use mathlib.Core.Path.{_≡_};
-ghost use mathlib.Core.Bool.{true, false};
 ghost use mathlib.Core.List.{[], _∷_, _++_};
-ghost use Prim.Native.Nat.{_+_, _≤_, _<_};
-ghost use lib.ListN.{length, drop, take, getD};
-ghost use Rattle.lists.specs.Lists.{null, mem, index-of, rank, insert-at, shift-remove, swap-remove, push-new, remove, without, without-all, insert, renew, swap, distinct, rising, subset, disjoint};
-ghost use Rattle.util.specs.Set.{items-of, Valid, Holds, validb, Inserts};
-ghost use Rattle.util.specs.Random.{shuffle, shuffle-draws, pick-index, pick-item, left-by, index-answer, answer, Shuffles};
+ghost use Prim.Native.Nat.{_+_, _-_, _≤_, _<_};
+ghost use lib.ListN.{length, take, drop, getD};
+ghost use Rattle.lists.specs.Array.{pad};
+ghost use Rattle.lists.specs.Lists.{null, mem, index-of, rank, shift-remove, swap-remove, remove, insert-at, insert, without, without-all, renew, swap, distinct, rising, subset, disjoint};
+ghost use Rattle.lists.specs.Tests.{every};
+ghost use Rattle.util.specs.Chances.{pick-draws, pick, shuffle, shuffle-draws};
+ghost use Rattle.scan.specs.Words.{unused};
+ghost use Rattle.util.specs.Section.{part, Filled, items-at, ValidSet, HoldsSet, valid-set};
 
 // A peer, by its number.
-pub type PeerId = u32;
+pub type PeerId = u64;
 
-// At most 32 peers in an order, with zeroes in the unused places.
-#[repr(C)]
-pub struct IndexSet {
-    pub items: [PeerId; 32],
-    pub len: usize,
+// How many places a working set has: as many as the largest set.
+const PLACES: usize = 32;
+
+// How many draws there are: 2^32, since a draw has 32 bits.
+const ALL_DRAWS: usize = 4294967296;
+
+// The place that was chosen, and the place in the draws after the one that decided it.
+pub struct PickedIndex {
+    pub index: usize,
+    pub next: usize,
 }
 
-// What `insert` hands back: whether the peer is new, and the set.
-pub struct Inserted {
-    pub fresh: bool,
-    pub set: IndexSet,
-}
+// ---- a column alone, of any length: the first n places are in use
 
-impl IndexSet {
-    pub fn new() -> IndexSet
-        ensures { λ r. ⌜ Holds r [] ⌝ }
-    {
-        IndexSet {
-            items: [0; 32],
-            len: 0,
-        }
-    }
-
-    pub fn len(self) -> usize
-        requires { ⌜ Valid self ⌝ }
-        ensures { λ r. ⌜ (r ≡ length (items-of self)) × (r ≤ 32) ⌝ }
-    {
-        self.len
-    }
-
-    pub fn is_empty(self) -> bool
-        requires { ⌜ Valid self ⌝ }
-        ensures { λ r. ⌜ r ≡ null (items-of self) ⌝ }
-    {
-        self.len == 0
-    }
-
-    // The item at place i.
-    pub fn get_index(self, i: usize) -> PeerId
-        requires { ⌜ Valid self ⌝ }
-        requires { ⌜ i < length (items-of self) ⌝ }
-        ensures { λ r. ⌜ r ≡ getD (items-of self) i 0 ⌝ }
-    {
-        self.items[i]
-    }
-
-    // The first place of x from place `from` on, or the number of items.
-    fn position_from(self, from: usize, x: PeerId) -> usize
-        requires { ⌜ Valid self ⌝ }
-        requires { ⌜ from ≤ length (items-of self) ⌝ }
-        ensures { λ r. ⌜ (r ≡ from + index-of x (drop from (items-of self))) × (r ≤ length (items-of self)) ⌝ }
-    {
-        let items = self.items;
-        let n = self.len;
-        let mut i = from;
-        while i < n {
-            if x == items[i] {
-                return i;
-            }
-            i += 1;
-        }
-        n
-    }
-
-    // The place of x, or the number of items where it is not there.
-    pub fn position(self, x: PeerId) -> usize
-        requires { ⌜ Valid self ⌝ }
-        ensures { λ r. ⌜ (r ≡ index-of x (items-of self)) × (r ≤ length (items-of self)) ⌝ }
-    {
-        self.position_from(0, x)
-    }
-
-    pub fn contains(self, x: PeerId) -> bool
-        requires { ⌜ Valid self ⌝ }
-        ensures { λ r. ⌜ r ≡ mem x (items-of self) ⌝ }
-    {
-        self.position_from(0, x) < self.len
-    }
-
-    // Of a set in rising order: how many items are not above x.
-    pub fn rank(self, x: PeerId) -> usize
-        requires { ⌜ Valid self ⌝ }
-        ensures { λ r. ⌜ (r ≡ rank x (items-of self)) × (r ≤ length (items-of self)) ⌝ }
-    {
-        let items = self.items;
-        let n = self.len;
-        let mut i: usize = 0;
-        while i < n {
-            if x < items[i] {
-                return i;
-            }
-            i += 1;
-        }
-        n
-    }
-
-    // x at the end; also the deques' push_back.
-    pub fn push(self, x: PeerId) -> IndexSet
-        requires { ⌜ Valid self ⌝ }
-        requires { ⌜ length (items-of self) < 32 ⌝ }
-        ensures { λ r. ⌜ Holds r (items-of self ++ (x ∷ [])) ⌝ }
-    {
-        let mut s = self;
-        let n = s.len;
-        s.items[n] = x;
-        s.len = n + 1;
-        s
-    }
-
-    // x at the end, unless it is there.
-    pub fn insert(self, x: PeerId) -> Inserted
-        requires { ⌜ Valid self ⌝ }
-        requires { ⌜ length (push-new x (items-of self)) ≤ 32 ⌝ }
-        ensures { λ r. ⌜ Inserts r x (items-of self) ⌝ }
-    {
-        if self.contains(x) {
-            return Inserted {
-                fresh: false,
-                set: self,
-            };
-        }
-        let s = self.push(x);
-        Inserted {
-            fresh: true,
-            set: s,
-        }
-    }
-
-    // Without the item at place i: the last one moves into the gap.
-    pub fn remove_index(self, i: usize) -> IndexSet
-        requires { ⌜ Valid self ⌝ }
-        requires { ⌜ i < length (items-of self) ⌝ }
-        ensures { λ r. ⌜ Holds r (swap-remove i (items-of self)) ⌝ }
-    {
-        let mut s = self;
-        let last = s.len - 1;
-        let y = s.items[last];
-        s.items[i] = y;
-        s.items[last] = 0;
-        s.len = last;
-        s
-    }
-
-    // Without x: the last item moves into the gap.
-    pub fn remove(self, x: PeerId) -> IndexSet
-        requires { ⌜ Valid self ⌝ }
-        ensures { λ r. ⌜ Holds r (remove x (items-of self)) ⌝ }
-    {
-        let i = self.position(x);
-        if i < self.len {
-            return self.remove_index(i);
-        }
-        self
-    }
-
-    // Without the item at place i: the later ones move down.
-    pub fn shift_remove_index(self, i: usize) -> IndexSet
-        requires { ⌜ Valid self ⌝ }
-        requires { ⌜ i < length (items-of self) ⌝ }
-        ensures { λ r. ⌜ Holds r (shift-remove i (items-of self)) ⌝ }
-    {
-        let mut s = self;
-        let last = s.len - 1;
-        let mut k = i;
-        while k < last {
-            let y = s.items[k + 1];
-            s.items[k] = y;
-            k += 1;
-        }
-        s.items[last] = 0;
-        s.len = last;
-        s
-    }
-
-    // Without the oldest item, where there is one.
-    pub fn pop_front(self) -> IndexSet
-        requires { ⌜ Valid self ⌝ }
-        ensures { λ r. ⌜ Holds r (drop 1 (items-of self)) ⌝ }
-    {
-        if self.len == 0 {
-            return self;
-        }
-        self.shift_remove_index(0)
-    }
-
-    // x at place i: the items from i on move up.
-    pub fn insert_at(self, i: usize, x: PeerId) -> IndexSet
-        requires { ⌜ Valid self ⌝ }
-        requires { ⌜ length (items-of self) < 32 ⌝ }
-        requires { ⌜ i ≤ length (items-of self) ⌝ }
-        ensures { λ r. ⌜ Holds r (insert-at i x (items-of self)) ⌝ }
-    {
-        let mut s = self;
-        let n = s.len;
-        let mut carried = x;
-        let mut k = i;
-        while k <= n {
-            let y = s.items[k];
-            s.items[k] = carried;
-            carried = y;
-            k += 1;
-        }
-        s.len = n + 1;
-        s
-    }
-
-    // What the Rust's HashSet::insert is, in rising order.
-    pub fn insert_sorted(self, x: PeerId) -> IndexSet
-        requires { ⌜ Valid self ⌝ }
-        requires { ⌜ length (insert x (items-of self)) ≤ 32 ⌝ }
-        ensures { λ r. ⌜ Holds r (insert x (items-of self)) ⌝ }
-    {
-        if self.contains(x) {
-            return self;
-        }
-        let i = self.rank(x);
-        self.insert_at(i, x)
-    }
-
-    // The items that are not x, in order.
-    pub fn without(self, x: PeerId) -> IndexSet
-        requires { ⌜ Valid self ⌝ }
-        ensures { λ r. ⌜ Holds r (without x (items-of self)) ⌝ }
-    {
-        let items = self.items;
-        let n = self.len;
-        let mut t = IndexSet::new();
-        let mut i: usize = 0;
-        while i < n {
-            let y = items[i];
-            i += 1;
-            if x != y {
-                t = t.push(y);
-            }
-        }
-        t
-    }
-
-    // The items that are not in `skip`, in order.
-    pub fn without_all(self, skip: IndexSet) -> IndexSet
-        requires { ⌜ Valid self ⌝ }
-        requires { ⌜ Valid skip ⌝ }
-        ensures { λ r. ⌜ Holds r (without-all (items-of skip) (items-of self)) ⌝ }
-    {
-        let items = self.items;
-        let n = self.len;
-        let mut t = IndexSet::new();
-        let mut i: usize = 0;
-        while i < n {
-            let y = items[i];
-            i += 1;
-            if skip.contains(y) {
-                continue;
-            }
-            t = t.push(y);
-        }
-        t
-    }
-
-    // The first `cap` items.
-    pub fn truncate(self, cap: usize) -> IndexSet
-        requires { ⌜ Valid self ⌝ }
-        ensures { λ r. ⌜ Holds r (take cap (items-of self)) ⌝ }
-    {
-        if self.len <= cap {
-            return self;
-        }
-        let items = self.items;
-        let mut t = IndexSet::new();
-        let mut i: usize = 0;
-        while i < cap {
-            let y = items[i];
-            i += 1;
-            t = t.push(y);
-        }
-        t
-    }
-
-    // x as the newest of at most n: the oldest leaves where there are too many.
-    pub fn renew(self, n: usize, x: PeerId) -> IndexSet
-        requires { ⌜ Valid self ⌝ }
-        requires { ⌜ (1 ≤ n) × (n ≤ 32) ⌝ }
-        ensures { λ r. ⌜ Holds r (renew n x (items-of self)) ⌝ }
-    {
-        let s = self.without(x);
-        if s.len < n {
-            return s.push(x);
-        }
-        let t = s.pop_front();
-        t.push(x)
-    }
-
-    // The items at places i and j exchanged.
-    fn swap(self, i: usize, j: usize) -> IndexSet
-        requires { ⌜ Valid self ⌝ }
-        requires { ⌜ (i < length (items-of self)) × (j < length (items-of self)) ⌝ }
-        ensures { λ r. ⌜ Holds r (swap i j (items-of self)) ⌝ }
-    {
-        let mut s = self;
-        let x = s.items[i];
-        let y = s.items[j];
-        s.items[i] = y;
-        s.items[j] = x;
-        s
-    }
-
-    // Whether it is a set at all, whatever it holds.
-    pub fn is_valid(self) -> bool
-        ensures { λ r. ⌜ r ≡ validb self ⌝ }
-    {
-        let n = self.len;
-        let items = self.items;
-        if 32 < n {
-            return false;
-        }
-        let mut ok = true;
-        let mut i = n;
-        while i < 32 {
-            ok = ok & (items[i] == 0);
-            i += 1;
-        }
-        ok
-    }
-
-    // Whether no item stands twice: only an item whose low byte a later one has too is searched for.
-    pub fn is_distinct(self) -> bool
-        requires { ⌜ Valid self ⌝ }
-        ensures { λ r. ⌜ r ≡ distinct (items-of self) ⌝ }
-    {
-        let items = self.items;
-        let n = self.len;
-        let mut seen = [false; 256];
-        let mut i = n;
-        while 0 < i {
-            let x = items[i - 1];
-            let k = (x % 256) as usize;
-            if seen[k] {
-                if self.position_from(i, x) < n {
-                    return false;
-                }
-            }
-            seen[k] = true;
-            i -= 1;
-        }
-        true
-    }
-
-    // Whether each item is below the next.
-    pub fn is_rising(self) -> bool
-        requires { ⌜ Valid self ⌝ }
-        ensures { λ r. ⌜ r ≡ rising (items-of self) ⌝ }
-    {
-        let items = self.items;
-        let n = self.len;
-        if n == 0 {
-            return true;
-        }
-        let mut x = items[0];
-        let mut i: usize = 1;
-        while i < n {
-            let y = items[i];
-            if y <= x {
-                return false;
-            }
-            x = y;
-            i += 1;
-        }
-        true
-    }
-
-    // Whether every item is in `other`.
-    pub fn is_subset(self, other: IndexSet) -> bool
-        requires { ⌜ Valid self ⌝ }
-        requires { ⌜ Valid other ⌝ }
-        ensures { λ r. ⌜ r ≡ subset (items-of self) (items-of other) ⌝ }
-    {
-        let items = self.items;
-        let n = self.len;
-        let mut i: usize = 0;
-        while i < n {
-            let x = items[i];
-            i += 1;
-            if !other.contains(x) {
-                return false;
-            }
-        }
-        true
-    }
-
-    // Whether no item is in `other`.
-    pub fn is_disjoint(self, other: IndexSet) -> bool
-        requires { ⌜ Valid self ⌝ }
-        requires { ⌜ Valid other ⌝ }
-        ensures { λ r. ⌜ r ≡ disjoint (items-of self) (items-of other) ⌝ }
-    {
-        let items = self.items;
-        let n = self.len;
-        let mut i: usize = 0;
-        while i < n {
-            let x = items[i];
-            i += 1;
-            if other.contains(x) {
-                return false;
-            }
-        }
-        true
-    }
-}
-
-// What a choice of one of n places came to: the place and the place reached in the draws.
-pub enum PickedIndex {
-    Nothing,
-    OutOfDraws,
-    Index(usize, usize),
-}
-
-// The same of a choice of one peer.
-pub enum Picked {
-    Nothing,
-    OutOfDraws,
-    Item(PeerId, usize),
-}
-
-// What `remove_random` hands back: the peer that was taken out, and the set.
-pub struct Removed {
-    pub picked: Picked,
-    pub set: IndexSet,
-}
-
-// Peers in random order and the place reached in the draws; not ok where the draws ran out.
-pub struct Shuffled {
-    pub ok: bool,
-    pub at: usize,
-    pub set: IndexSet,
-}
-
-// One of n places.
-pub fn pick_random_index(n: usize, draws: &[u32], at: usize) -> PickedIndex
-    ensures { λ r. ⌜ index-answer r ≡ pick-index n (now (draws .entry)) at ⌝ }
+// The place of x, or n where it is not there.
+pub fn find(s: &[u64], n: usize, x: u64) -> usize
+    requires { ⌜ n ≤ length (now s) ⌝ }
+    ensures { λ r. ⌜ (r ≡ index-of x (take n (now (s .entry)))) × (r ≤ n) ⌝ }
 {
-    if n == 0 {
-        return PickedIndex::Nothing;
+    let mut i: usize = 0;
+    while i < n {
+        if x == s[i] {
+            return i;
+        }
+        i += 1;
     }
-    if at < draws.len() {
-        let d = draws[at] as usize;
-        return PickedIndex::Index(d % n, at + 1);
-    }
-    PickedIndex::OutOfDraws
+    n
 }
 
-impl IndexSet {
-    // One of the items.
-    pub fn pick_random(self, draws: &[u32], at: usize) -> Picked
-        requires { ⌜ Valid self ⌝ }
-        ensures { λ r. ⌜ answer r ≡ pick-item (items-of self) (now (draws .entry)) at ⌝ }
-    {
-        let n = self.len;
-        match pick_random_index(n, draws, at) {
-            PickedIndex::Nothing => Picked::Nothing,
-            PickedIndex::OutOfDraws => Picked::OutOfDraws,
-            PickedIndex::Index(i, k) => {
-                let x = self.get_index(i);
-                Picked::Item(x, k)
-            }
+// How many items stand before the first that is greater than x.
+pub fn rank_of(s: &[u64], n: usize, x: u64) -> usize
+    requires { ⌜ n ≤ length (now s) ⌝ }
+    ensures { λ r. ⌜ (r ≡ rank x (take n (now (s .entry)))) × (r ≤ n) ⌝ }
+{
+    let mut i: usize = 0;
+    while i < n {
+        if x < s[i] {
+            return i;
         }
+        i += 1;
     }
+    n
+}
 
-    // One of the items that are not in `skip`.
-    pub fn pick_random_without(self, skip: IndexSet, draws: &[u32], at: usize) -> Picked
-        requires { ⌜ Valid self ⌝ }
-        requires { ⌜ Valid skip ⌝ }
-        ensures { λ r. ⌜ answer r ≡ pick-item (without-all (items-of skip) (items-of self)) (now (draws .entry)) at ⌝ }
-    {
-        let s = self.without_all(skip);
-        s.pick_random(draws, at)
+// Without the item at i: the later ones move down.
+pub fn take_out(s: &mut [u64], n: usize, i: usize)
+    requires { ⌜ Filled (now s) n ⌝ }
+    requires { ⌜ i < n ⌝ }
+    ensures { λ _. ⌜ now (s .exit) ≡ pad 0 (length (now (s .entry))) (shift-remove i (take n (now (s .entry)))) ⌝ }
+{
+    let last = n - 1;
+    let mut k = i;
+    while k < last {
+        let y = s[k + 1];
+        s[k] = y;
+        k += 1;
     }
+    s[last] = 0;
+}
 
-    // One of the items, taken out; the later ones move down.
-    pub fn remove_random(self, draws: &[u32], at: usize) -> Removed
-        requires { ⌜ Valid self ⌝ }
-        ensures { λ r. ⌜ answer (r .picked) ≡ pick-item (items-of self) (now (draws .entry)) at ⌝ }
-        ensures { λ r. ⌜ Holds (r .set) (left-by (items-of self) (pick-index (length (items-of self)) (now (draws .entry)) at)) ⌝ }
-    {
-        let n = self.len;
-        match pick_random_index(n, draws, at) {
-            PickedIndex::Nothing => Removed {
-                picked: Picked::Nothing,
-                set: self,
-            },
-            PickedIndex::OutOfDraws => Removed {
-                picked: Picked::OutOfDraws,
-                set: self,
-            },
-            PickedIndex::Index(i, k) => {
-                let x = self.get_index(i);
-                let s = self.shift_remove_index(i);
-                Removed {
-                    picked: Picked::Item(x, k),
-                    set: s,
-                }
-            }
+// With x at place i: the items from there on move up.
+pub fn put_in(s: &mut [u64], n: usize, i: usize, x: u64)
+    requires { ⌜ Filled (now s) n ⌝ }
+    requires { ⌜ n < length (now s) ⌝ }
+    requires { ⌜ i ≤ n ⌝ }
+    ensures { λ _. ⌜ now (s .exit) ≡ pad 0 (length (now (s .entry))) (insert-at i x (take n (now (s .entry)))) ⌝ }
+{
+    let mut carried = x;
+    let mut k = i;
+    while k <= n {
+        let y = s[k];
+        s[k] = carried;
+        carried = y;
+        k += 1;
+    }
+}
+
+// Without x, wherever it stands; the answer is how many are left.
+pub fn without_in(s: &mut [u64], n: usize, x: u64) -> usize
+    requires { ⌜ Filled (now s) n ⌝ }
+    ensures { λ r. ⌜ now (s .exit) ≡ pad 0 (length (now (s .entry))) (without x (take n (now (s .entry)))) ⌝ }
+    ensures { λ r. ⌜ (r ≡ length (without x (take n (now (s .entry))))) × (r ≤ n) ⌝ }
+{
+    let mut m = n;
+    let mut i = find(s, m, x);
+    while i < m {
+        take_out(s, m, i);
+        m -= 1;
+        i = find(s, m, x);
+    }
+    m
+}
+
+// x as the newest of at most `most`; the answer is how many there are.
+pub fn renew_in(s: &mut [u64], n: usize, most: usize, x: u64) -> usize
+    requires { ⌜ Filled (now s) n ⌝ }
+    requires { ⌜ (1 ≤ most) × (most ≤ length (now s)) ⌝ }
+    ensures { λ r. ⌜ now (s .exit) ≡ pad 0 (length (now (s .entry))) (renew most x (take n (now (s .entry)))) ⌝ }
+    ensures { λ r. ⌜ (r ≡ length (renew most x (take n (now (s .entry))))) × (r ≤ length (now (s .entry))) ⌝ }
+{
+    let m = without_in(s, n, x);
+    if m < most {
+        s[m] = x;
+        return m + 1;
+    }
+    take_out(s, m, 0);
+    s[m - 1] = x;
+    m
+}
+
+// Whether the places from n on are zero.
+pub fn zero_from(s: &[u64], n: usize) -> bool
+    requires { ⌜ n ≤ length (now s) ⌝ }
+    ensures { λ r. ⌜ r ≡ every unused (drop n (now (s .entry))) ⌝ }
+{
+    scan::no_bits(&s[n..])
+}
+
+// Whether each of the first n items is below the next.
+pub fn rises(s: &[u64], n: usize) -> bool
+    requires { ⌜ n ≤ length (now s) ⌝ }
+    ensures { λ r. ⌜ r ≡ rising (take n (now (s .entry))) ⌝ }
+{
+    scan::rising(&s[..n])
+}
+
+// Zeroes from place k on.
+pub fn clear_from(s: &mut [u64], k: usize)
+    ensures { λ _. ⌜ now (s .exit) ≡ pad 0 (length (now (s .entry))) (take k (now (s .entry))) ⌝ }
+{
+    let mut i = k;
+    while i < s.len() {
+        s[i] = 0;
+        i += 1;
+    }
+}
+
+// The items that are not in `skip`, in order; the answer is how many there are.
+pub fn without_all_in(s: &mut [u64], n: usize, skip: &[u64]) -> usize
+    requires { ⌜ Filled (now s) n ⌝ }
+    ensures { λ r. ⌜ now (s .exit) ≡ pad 0 (length (now (s .entry))) (without-all (now (skip .entry)) (take n (now (s .entry)))) ⌝ }
+    ensures { λ r. ⌜ (r ≡ length (without-all (now (skip .entry)) (take n (now (s .entry))))) × (r ≤ n) ⌝ }
+{
+    let mut m: usize = 0;
+    let mut i: usize = 0;
+    while i < n {
+        let y = s[i];
+        i += 1;
+        if scan::contains(skip, y) {
+            continue;
         }
+        s[m] = y;
+        m += 1;
     }
+    clear_from(s, m);
+    m
+}
 
-    // The items in random order.
-    pub fn shuffled(self, draws: &[u32], at: usize) -> Shuffled
-        requires { ⌜ Valid self ⌝ }
-        requires { ⌜ at ≤ length (now draws) ⌝ }
-        ensures { λ r. ⌜ Shuffles r (items-of self) (shuffle (drop at (now (draws .entry))) (items-of self)) (shuffle-draws (items-of self)) (now (draws .entry)) at ⌝ }
-    {
-        let n = self.len;
-        if n < 2 {
-            return Shuffled {
-                ok: true,
-                at: at,
-                set: self,
+// The words at places i and j exchanged.
+fn exchange(s: &mut [u64], i: usize, j: usize)
+    requires { ⌜ (i < length (now s)) × (j < length (now s)) ⌝ }
+    ensures { λ _. ⌜ now (s .exit) ≡ swap i j (now (s .entry)) ⌝ }
+{
+    let x = s[i];
+    let y = s[j];
+    s[i] = y;
+    s[j] = x;
+}
+
+// One of n places, by the first draw from place `at` on that is below the largest multiple of n not above 2^32: the others are passed over. Where there is none, the place
+// is 0, and `next` is past the draws.
+pub fn pick_index(draws: &[u32], at: usize, n: usize) -> PickedIndex
+    requires { ⌜ 0 < n ⌝ }
+    requires { ⌜ at ≤ length (now draws) + 32 ⌝ }
+    ensures { λ r. ⌜ (r .index ≡ pick n (drop at (now (draws .entry)))) × (r .index < n) ⌝ }
+    ensures { λ r. ⌜ r .next ≡ at + pick-draws n (drop at (now (draws .entry))) ⌝ }
+{
+    let end = ALL_DRAWS - ALL_DRAWS % n;
+    let mut k = at;
+    while k < draws.len() {
+        let d = draws[k] as usize;
+        let next = k + 1;
+        if d < end {
+            let i = d % n;
+            return PickedIndex {
+                index: i,
+                next: next,
             };
         }
-        let mut i = n - 1;
-        if draws.len() - at < i {
-            return Shuffled {
-                ok: false,
-                at: at,
-                set: self,
-            };
-        }
-        let mut s = self;
-        let mut k = at;
-        while 0 < i {
-            let d = draws[k] as usize;
-            let j = d % (i + 1);
-            s = s.swap(i, j);
-            k += 1;
-            i -= 1;
-        }
-        Shuffled {
-            ok: true,
-            at: k,
-            set: s,
-        }
+        k = next;
     }
+    let past = k + 1;
+    PickedIndex {
+        index: 0,
+        next: past,
+    }
+}
 
-    // At most `cap` items in random order: the cut comes after the whole shuffle.
-    pub fn shuffled_and_capped(self, cap: usize, draws: &[u32], at: usize) -> Shuffled
-        requires { ⌜ Valid self ⌝ }
-        requires { ⌜ at ≤ length (now draws) ⌝ }
-        ensures { λ r. ⌜ Shuffles r (items-of self) (take cap (shuffle (drop at (now (draws .entry))) (items-of self))) (shuffle-draws (items-of self)) (now (draws .entry)) at ⌝ }
-    {
-        let r = self.shuffled(draws, at);
-        if r.ok {
-            let s = r.set;
-            let t = s.truncate(cap);
-            return Shuffled {
-                ok: true,
-                at: r.at,
-                set: t,
-            };
-        }
-        r
+// In the order that the draws from place `at` on decide; the answer is the place in the draws after them, past the end where there are too few.
+pub fn shuffle_in(s: &mut [u64], n: usize, draws: &[u32], at: usize) -> usize
+    requires { ⌜ Filled (now s) n ⌝ }
+    requires { ⌜ n ≤ 32 ⌝ }
+    requires { ⌜ at ≤ length (now draws) ⌝ }
+    ensures { λ _. ⌜ now (s .exit) ≡ pad 0 (length (now (s .entry))) (shuffle (drop at (now (draws .entry))) (take n (now (s .entry)))) ⌝ }
+    ensures { λ r. ⌜ r ≡ at + shuffle-draws (drop at (now (draws .entry))) (take n (now (s .entry))) ⌝ }
+{
+    if n < 2 {
+        return at;
     }
+    let mut i = n - 1;
+    let mut k = at;
+    while 0 < i {
+        let p = pick_index(draws, k, i + 1);
+        exchange(s, i, p.index);
+        k = p.next;
+        i -= 1;
+    }
+    k
+}
 
-    // At most `cap` items other than x, in random order.
-    pub fn shuffled_without_and_capped(
-        self,
-        x: PeerId,
-        cap: usize,
-        draws: &[u32],
-        at: usize,
-    ) -> Shuffled
-        requires { ⌜ Valid self ⌝ }
-        requires { ⌜ at ≤ length (now draws) ⌝ }
-        ensures { λ r. ⌜ Shuffles r (items-of self) (take cap (shuffle (drop at (now (draws .entry))) (without x (items-of self)))) (shuffle-draws (without x (items-of self))) (now (draws .entry)) at ⌝ }
-    {
-        let s = self.without(x);
-        let r = s.shuffled_and_capped(cap, draws, at);
-        if r.ok {
-            return r;
-        }
-        Shuffled {
-            ok: false,
-            at: at,
-            set: self,
-        }
+// The first n items as a working set, whatever t held.
+pub fn copy_column(s: &[u64], n: usize, t: &mut [u64])
+    requires { ⌜ Filled (now s) n ⌝ }
+    requires { ⌜ length (now s) ≤ 32 ⌝ }
+    requires { ⌜ length (now t) ≡ 33 ⌝ }
+    ensures { λ _. ⌜ HoldsSet 32 (now (t .exit)) (take n (now (s .entry))) ⌝ }
+{
+    let mut i: usize = 0;
+    while i < s.len() {
+        t[i] = s[i];
+        i += 1;
     }
+    while i < PLACES {
+        t[i] = 0;
+        i += 1;
+    }
+    t[PLACES] = n as u64;
+}
+
+// ---- a set: the places, and then the count
+
+// Whether it is a set at all, whatever its words are.
+pub fn is_section(s: &[u64], cap: usize) -> bool
+    requires { ⌜ length (now s) ≡ cap + 1 ⌝ }
+    ensures { λ r. ⌜ r ≡ valid-set cap (now (s .entry)) ⌝ }
+{
+    let n = s[cap] as usize;
+    if cap < n {
+        return false;
+    }
+    zero_from(&s[..cap], n)
+}
+
+pub fn count(s: &[u64], cap: usize) -> usize
+    requires { ⌜ ValidSet cap (now s) ⌝ }
+    ensures { λ r. ⌜ (r ≡ length (items-at cap (now (s .entry)))) × (r ≤ cap) ⌝ }
+{
+    s[cap] as usize
+}
+
+pub fn is_empty(s: &[u64], cap: usize) -> bool
+    requires { ⌜ ValidSet cap (now s) ⌝ }
+    ensures { λ r. ⌜ r ≡ null (items-at cap (now (s .entry))) ⌝ }
+{
+    s[cap] == 0
+}
+
+// The item at place i.
+pub fn get_index(s: &[u64], cap: usize, i: usize) -> PeerId
+    requires { ⌜ ValidSet cap (now s) ⌝ }
+    requires { ⌜ i < length (items-at cap (now s)) ⌝ }
+    ensures { λ r. ⌜ r ≡ getD (items-at cap (now (s .entry))) i 0 ⌝ }
+{
+    s[i]
+}
+
+// The place of x, or the number of items where it is not there.
+pub fn position(s: &[u64], cap: usize, x: PeerId) -> usize
+    requires { ⌜ ValidSet cap (now s) ⌝ }
+    ensures { λ r. ⌜ (r ≡ index-of x (items-at cap (now (s .entry)))) × (r ≤ length (items-at cap (now (s .entry)))) ⌝ }
+{
+    let n = s[cap] as usize;
+    find(&s[..cap], n, x)
+}
+
+pub fn contains(s: &[u64], cap: usize, x: PeerId) -> bool
+    requires { ⌜ ValidSet cap (now s) ⌝ }
+    ensures { λ r. ⌜ r ≡ mem x (items-at cap (now (s .entry))) ⌝ }
+{
+    let n = s[cap] as usize;
+    scan::contains(&s[..n], x)
+}
+
+// Whether no item stands twice.
+pub fn is_distinct(s: &[u64], cap: usize) -> bool
+    requires { ⌜ ValidSet cap (now s) ⌝ }
+    ensures { λ r. ⌜ r ≡ distinct (items-at cap (now (s .entry))) ⌝ }
+{
+    let n = s[cap] as usize;
+    scan::distinct(&s[..n])
+}
+
+// Whether each item is below the next.
+pub fn is_rising(s: &[u64], cap: usize) -> bool
+    requires { ⌜ ValidSet cap (now s) ⌝ }
+    ensures { λ r. ⌜ r ≡ rising (items-at cap (now (s .entry))) ⌝ }
+{
+    let n = s[cap] as usize;
+    scan::rising(&s[..n])
+}
+
+// Whether every item of a is one of b.
+pub fn is_subset(a: &[u64], acap: usize, b: &[u64], bcap: usize) -> bool
+    requires { ⌜ ValidSet acap (now a) ⌝ }
+    requires { ⌜ ValidSet bcap (now b) ⌝ }
+    ensures { λ r. ⌜ r ≡ subset (items-at acap (now (a .entry))) (items-at bcap (now (b .entry))) ⌝ }
+{
+    let m = a[acap] as usize;
+    let n = b[bcap] as usize;
+    scan::subset(&a[..m], &b[..n])
+}
+
+// Whether no item of a is one of b.
+pub fn is_disjoint(a: &[u64], acap: usize, b: &[u64], bcap: usize) -> bool
+    requires { ⌜ ValidSet acap (now a) ⌝ }
+    requires { ⌜ ValidSet bcap (now b) ⌝ }
+    ensures { λ r. ⌜ r ≡ disjoint (items-at acap (now (a .entry))) (items-at bcap (now (b .entry))) ⌝ }
+{
+    let m = a[acap] as usize;
+    let n = b[bcap] as usize;
+    scan::disjoint(&a[..m], &b[..n])
+}
+
+// No items, whatever the words were.
+pub fn clear(s: &mut [u64], cap: usize)
+    requires { ⌜ length (now s) ≡ cap + 1 ⌝ }
+    ensures { λ _. ⌜ HoldsSet cap (now (s .exit)) [] ⌝ }
+{
+    clear_from(s, 0);
+}
+
+// x at the end; also the deques' push_back.
+pub fn push(s: &mut [u64], cap: usize, x: PeerId)
+    requires { ⌜ ValidSet cap (now s) ⌝ }
+    requires { ⌜ length (items-at cap (now s)) < cap ⌝ }
+    ensures { λ _. ⌜ HoldsSet cap (now (s .exit)) (items-at cap (now (s .entry)) ++ (x ∷ [])) ⌝ }
+{
+    let n = s[cap] as usize;
+    s[n] = x;
+    s[cap] = (n + 1) as u64;
+}
+
+// Without the item at place i: the last one moves into the gap.
+pub fn remove_index(s: &mut [u64], cap: usize, i: usize)
+    requires { ⌜ ValidSet cap (now s) ⌝ }
+    requires { ⌜ i < length (items-at cap (now s)) ⌝ }
+    ensures { λ _. ⌜ HoldsSet cap (now (s .exit)) (swap-remove i (items-at cap (now (s .entry)))) ⌝ }
+{
+    let last = s[cap] as usize - 1;
+    let y = s[last];
+    s[i] = y;
+    s[last] = 0;
+    s[cap] = last as u64;
+}
+
+// Without x: the last item moves into the gap.
+pub fn remove(s: &mut [u64], cap: usize, x: PeerId)
+    requires { ⌜ ValidSet cap (now s) ⌝ }
+    ensures { λ _. ⌜ HoldsSet cap (now (s .exit)) (remove x (items-at cap (now (s .entry)))) ⌝ }
+{
+    let n = s[cap] as usize;
+    let i = find(&s[..cap], n, x);
+    if i < n {
+        remove_index(s, cap, i);
+    }
+}
+
+// Without the item at place i: the later ones move down.
+pub fn shift_remove_index(s: &mut [u64], cap: usize, i: usize)
+    requires { ⌜ ValidSet cap (now s) ⌝ }
+    requires { ⌜ i < length (items-at cap (now s)) ⌝ }
+    ensures { λ _. ⌜ HoldsSet cap (now (s .exit)) (shift-remove i (items-at cap (now (s .entry)))) ⌝ }
+{
+    let n = s[cap] as usize;
+    take_out(&mut s[..cap], n, i);
+    s[cap] = (n - 1) as u64;
+}
+
+// What the Rust's HashSet::insert is, in rising order.
+pub fn insert_sorted(s: &mut [u64], cap: usize, x: PeerId)
+    requires { ⌜ ValidSet cap (now s) ⌝ }
+    requires { ⌜ length (insert x (items-at cap (now s))) ≤ cap ⌝ }
+    ensures { λ _. ⌜ HoldsSet cap (now (s .exit)) (insert x (items-at cap (now (s .entry)))) ⌝ }
+{
+    let n = s[cap] as usize;
+    let i = find(&s[..cap], n, x);
+    if i < n {
+        return;
+    }
+    let at = rank_of(&s[..cap], n, x);
+    put_in(&mut s[..cap], n, at, x);
+    s[cap] = (n + 1) as u64;
+}
+
+// The items that are not x, in order.
+pub fn without(s: &mut [u64], cap: usize, x: PeerId)
+    requires { ⌜ ValidSet cap (now s) ⌝ }
+    ensures { λ _. ⌜ HoldsSet cap (now (s .exit)) (without x (items-at cap (now (s .entry)))) ⌝ }
+{
+    let n = s[cap] as usize;
+    let m = without_in(&mut s[..cap], n, x);
+    s[cap] = m as u64;
+}
+
+// x as the newest of at most `most`: the oldest leaves where there are too many.
+pub fn renew(s: &mut [u64], cap: usize, most: usize, x: PeerId)
+    requires { ⌜ ValidSet cap (now s) ⌝ }
+    requires { ⌜ (1 ≤ most) × (most ≤ cap) ⌝ }
+    ensures { λ _. ⌜ HoldsSet cap (now (s .exit)) (renew most x (items-at cap (now (s .entry)))) ⌝ }
+{
+    let n = s[cap] as usize;
+    let m = renew_in(&mut s[..cap], n, most, x);
+    s[cap] = m as u64;
+}
+
+// The first k items.
+pub fn truncate(s: &mut [u64], cap: usize, k: usize)
+    requires { ⌜ ValidSet cap (now s) ⌝ }
+    ensures { λ _. ⌜ HoldsSet cap (now (s .exit)) (take k (items-at cap (now (s .entry)))) ⌝ }
+{
+    let n = s[cap] as usize;
+    if n <= k {
+        return;
+    }
+    clear_from(&mut s[..cap], k);
+    s[cap] = k as u64;
+}
+
+// The items that are not in `skip`, in order.
+pub fn without_all(s: &mut [u64], cap: usize, skip: &[u64], scap: usize)
+    requires { ⌜ ValidSet cap (now s) ⌝ }
+    requires { ⌜ ValidSet scap (now skip) ⌝ }
+    ensures { λ _. ⌜ HoldsSet cap (now (s .exit)) (without-all (items-at scap (now (skip .entry))) (items-at cap (now (s .entry)))) ⌝ }
+{
+    let n = s[cap] as usize;
+    let k = skip[scap] as usize;
+    let m = without_all_in(&mut s[..cap], n, &skip[..k]);
+    s[cap] = m as u64;
+}
+
+// In the order that the draws from place `at` on decide; the answer is the place in the draws after them, past the end where there are too few.
+pub fn shuffle(s: &mut [u64], cap: usize, draws: &[u32], at: usize) -> usize
+    requires { ⌜ ValidSet cap (now s) ⌝ }
+    requires { ⌜ cap ≤ 32 ⌝ }
+    requires { ⌜ at ≤ length (now draws) ⌝ }
+    ensures { λ _. ⌜ HoldsSet cap (now (s .exit)) (shuffle (drop at (now (draws .entry))) (items-at cap (now (s .entry)))) ⌝ }
+    ensures { λ r. ⌜ r ≡ at + shuffle-draws (drop at (now (draws .entry))) (items-at cap (now (s .entry))) ⌝ }
+{
+    let n = s[cap] as usize;
+    shuffle_in(&mut s[..cap], n, draws, at)
+}
+
+// The items of s, and whatever t held is gone.
+pub fn copy_into(s: &[u64], cap: usize, t: &mut [u64])
+    requires { ⌜ ValidSet cap (now s) ⌝ }
+    requires { ⌜ cap ≤ 32 ⌝ }
+    requires { ⌜ length (now t) ≡ 33 ⌝ }
+    ensures { λ _. ⌜ HoldsSet 32 (now (t .exit)) (items-at cap (now (s .entry))) ⌝ }
+{
+    let n = s[cap] as usize;
+    copy_column(&s[..cap], n, t);
+}
+
+// The items of `more` after those of s.
+pub fn append(s: &mut [u64], cap: usize, more: &[u64], mcap: usize)
+    requires { ⌜ ValidSet cap (now s) ⌝ }
+    requires { ⌜ ValidSet mcap (now more) ⌝ }
+    requires { ⌜ length (items-at cap (now s)) + length (items-at mcap (now more)) ≤ cap ⌝ }
+    ensures { λ _. ⌜ HoldsSet cap (now (s .exit)) (items-at cap (now (s .entry)) ++ items-at mcap (now (more .entry))) ⌝ }
+{
+    let n = s[cap] as usize;
+    let m = more[mcap] as usize;
+    let mut i: usize = 0;
+    while i < m {
+        s[n + i] = more[i];
+        i += 1;
+    }
+    s[cap] = (n + m) as u64;
 }

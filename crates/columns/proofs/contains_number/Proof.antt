@@ -1,4 +1,4 @@
-use Rattle.section.specs.Section.{part}
+use Rattle.util.specs.Section.{part}
 use Rattle.columns.proofs.Numbers.{number-inside, number-count, number-has}
 use borrow.Author.Needs.{needs}
 use Rattle.columns.proofs.contains_number.Statement.{statement}

@@ -1,4 +1,4 @@
-use Rattle.section.specs.Section.{part}
+use Rattle.util.specs.Section.{part}
 use Rattle.columns.specs.Columns.{head-of}
 use Rattle.columns.proofs.Testing.{words-inside, words-size, words-count, words-no, words-first, words-second, words-rows, words-all}
 use borrow.Author.Needs.{needs}

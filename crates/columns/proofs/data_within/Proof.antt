@@ -1,4 +1,4 @@
-use Rattle.section.proofs.Sets.{lent-long}
+use Rattle.util.proofs.Sets.{lent-long}
 use Rattle.columns.proofs.Kept.{data-counted, within-lent}
 use borrow.Author.Needs.{needs}
 use Rattle.columns.proofs.data_within.Statement.{statement}

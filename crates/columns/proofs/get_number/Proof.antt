@@ -1,4 +1,4 @@
-use Rattle.section.specs.Section.{part}
+use Rattle.util.specs.Section.{part}
 use Rattle.columns.proofs.Numbers.{number-inside, number-count, number-found, number-none}
 use borrow.Author.Needs.{needs}
 use Rattle.columns.proofs.get_number.Statement.{statement}

@@ -1,6 +1,6 @@
 use Prim.Native.Nat.{_+_}
 use native.Mathlib.Omega.{arith}
-use Rattle.section.specs.Section.{part}
+use Rattle.util.specs.Section.{part}
 use Rattle.columns.specs.Columns.{head-of}
 use Rattle.columns.proofs.Data.{data-inside, data-count}
 use Rattle.columns.proofs.Holding.{holds-none, holds-len, holds-low, holds-high}

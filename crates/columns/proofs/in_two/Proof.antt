@@ -1,4 +1,4 @@
-use Rattle.section.specs.Section.{part}
+use Rattle.util.specs.Section.{part}
 use Rattle.columns.proofs.Two.{two-inside, two-room, two-filled, two-fits, two-in}
 use borrow.Author.Needs.{needs}
 use Rattle.columns.proofs.in_two.Statement.{statement}

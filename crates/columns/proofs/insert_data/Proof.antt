@@ -1,4 +1,4 @@
-use Rattle.section.specs.Section.{part}
+use Rattle.util.specs.Section.{part}
 use Rattle.columns.specs.Columns.{head-of}
 use Rattle.columns.proofs.Data.{data-inside, data-size, data-count, data-keyed, data-lens, store-2, store-3, data-room, tail-size, tail-lows, tail-highs, data-long, data-replaced, data-inserted}
 use borrow.Author.Needs.{needs}

@@ -1,4 +1,4 @@
-use Rattle.section.specs.Section.{part}
+use Rattle.util.specs.Section.{part}
 use Rattle.columns.proofs.Numbers.{number-inside, number-count, number-column, number-fits, number-room, numbers-long, second-filled, second-fits, number-replaced, number-inserted}
 use borrow.Author.Needs.{needs}
 use Rattle.columns.proofs.insert_number.Statement.{statement}

@@ -1,4 +1,4 @@
-use Rattle.section.specs.Section.{part}
+use Rattle.util.specs.Section.{part}
 use Rattle.columns.proofs.Numbers.{number-inside, number-column}
 use Rattle.columns.proofs.Sections.{keys-few, keys-copied}
 use borrow.Author.Needs.{needs}

@@ -1,4 +1,4 @@
-use Rattle.section.specs.Section.{part}
+use Rattle.util.specs.Section.{part}
 use Rattle.columns.proofs.Numbers.{test-inside, test-count, test-no, test-first, test-second, test-all}
 use borrow.Author.Needs.{needs}
 use Rattle.columns.proofs.numbers_valid.Statement.{statement}

@@ -1,4 +1,4 @@
-use Rattle.section.specs.Section.{part}
+use Rattle.util.specs.Section.{part}
 use Rattle.columns.proofs.Two.{two-inside, two-filled, two-out}
 use borrow.Author.Needs.{needs}
 use Rattle.columns.proofs.out_two.Statement.{statement}

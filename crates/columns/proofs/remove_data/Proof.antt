@@ -1,4 +1,4 @@
-use Rattle.section.specs.Section.{part}
+use Rattle.util.specs.Section.{part}
 use Rattle.columns.specs.Columns.{head-of}
 use Rattle.columns.proofs.Data.{data-inside, data-size, data-count, data-keyed, data-lens, data-kept, tail-size, tail-lows, tail-highs, data-long, data-removed}
 use borrow.Author.Needs.{needs}

@@ -1,4 +1,4 @@
-use Rattle.section.specs.Section.{part}
+use Rattle.util.specs.Section.{part}
 use Rattle.columns.proofs.Numbers.{number-inside, number-count, number-column, numbers-long, second-filled, cut-kept, removed}
 use borrow.Author.Needs.{needs}
 use Rattle.columns.proofs.remove_number.Statement.{statement}

@@ -1,4 +1,4 @@
-use Rattle.section.specs.Section.{part}
+use Rattle.util.specs.Section.{part}
 use Rattle.columns.proofs.Two.{two-inside}
 use Rattle.columns.proofs.Testing.{zero-count, zero-no, zero-both}
 use borrow.Author.Needs.{needs}

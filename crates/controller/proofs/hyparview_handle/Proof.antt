@@ -48,14 +48,14 @@ use Rattle.tally.proofs.raise as raise
 use Rattle.tally.proofs.raise.Symbol as raise-def
 use Rattle.tally.proofs.raise.Symbol.{name as #tally·raise}
 use Rattle.tally.proofs.raise.Met as raise-thm
-use Rattle.hyparview_words.specs.declared.Done.{Done}
-use Rattle.hyparview_words.specs.Handled.{handled}
-use Rattle.hyparview_words.proofs.Done as D
-use Rattle.hyparview_words.proofs.Done.Laws as D′
-use Rattle.hyparview_words.proofs.handle as core
-use Rattle.hyparview_words.proofs.handle.Symbol as core-def
-use Rattle.hyparview_words.proofs.handle.Symbol.{name as #hyparview-words·handle}
-use Rattle.hyparview_words.proofs.handle.Met as core-thm
+use Rattle.hyparview.specs.declared.Done.{Done}
+use Rattle.hyparview.specs.Handled.{handled}
+use Rattle.hyparview.proofs.Done as D
+use Rattle.hyparview.proofs.Done.Laws as D′
+use Rattle.hyparview.proofs.handle as core
+use Rattle.hyparview.proofs.handle.Symbol as core-def
+use Rattle.hyparview.proofs.handle.Symbol.{name as #hyparview-words·handle}
+use Rattle.hyparview.proofs.handle.Met as core-thm
 use Rattle.controller.specs.Calls.{Called, called}
 use Rattle.controller.proofs.Laws.{called-by}
 use Rattle.controller.proofs.Lent.{LentAgain, lends-again, comes-back, shares-on}

@@ -50,7 +50,7 @@ use Rattle.timing.proofs.Config.Laws as K′
 use Rattle.tally.specs.declared.Tally.{Tally}
 use Rattle.tally.proofs.Tally as T
 use Rattle.tally.proofs.Tally.Laws as T′
-use Rattle.queries_words.specs.Made.{lent}
+use Rattle.hyparview.specs.Made.{lent}
 use Rattle.controller.specs.Calls.{Begun, begun}
 use Rattle.controller.specs.declared.Start.{Start}
 use Rattle.controller.proofs.Start as S

@@ -4,7 +4,7 @@ use Rattle.demand.proofs.handle.Statement.{statement}
 use Rattle.demand.proofs.handle.Tie as tie
 use Rattle.demand.proofs.handle.Reads as reads
 use Rattle.demand.proofs.handle.Lts as lts
-use Rattle.hyparview_words.proofs.handle.Reads as handle-reads
+use Rattle.hyparview.proofs.handle.Reads as handle-reads
 
 -- src/lib.rt:18:5
 handle-requires : tie.Need-handle-requires

@@ -2,7 +2,7 @@ use Prim.Native.Nat.{_-_}
 use lib.ListN.{length}
 use mathlib.Core.Path.{_≡_}
 use Rattle.lists.specs.Lists.{subset}
-use Rattle.util.proofs.Tests.{is-in}
+use Rattle.scan.proofs.Tests.{is-in}
 use Rattle.scan.proofs.Loops.{Left, Every, subset-start, every-asked, every-end}
 use borrow.Author.Needs.{needs}
 use Rattle.scan.proofs.subset.Statement.{statement}

@@ -1,4 +1,4 @@
-use Rattle.words.proofs.Bridge.{on-passed, on-done}
+use Rattle.state.proofs.Bridge.{on-passed, on-done}
 use Rattle.step_active.proofs.Entering.{gained}
 use borrow.Author.Needs.{needs}
 use Rattle.step_active.proofs.gain_neighbor.Statement.{statement}

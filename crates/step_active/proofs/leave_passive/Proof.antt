@@ -1,5 +1,5 @@
 use mathlib.Core.Path.{refl}
-use Rattle.words.proofs.Bridge.{change-then}
+use Rattle.state.proofs.Bridge.{change-then}
 use borrow.Author.Needs.{needs}
 use Rattle.step_active.proofs.leave_passive.Statement.{statement}
 use Rattle.step_active.proofs.leave_passive.Tie as tie

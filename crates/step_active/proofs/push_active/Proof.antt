@@ -1,9 +1,9 @@
-use Rattle.section.specs.Section.{part}
+use Rattle.util.specs.Section.{part}
 use Rattle.protocol.specs.Active.{push-active}
-use Rattle.words.specs.Unpack.{unpack, station-of}
-use Rattle.words.proofs.Access.{of-packed}
-use Rattle.words.proofs.Bridge.{on-passed, on-done}
-use Rattle.words.proofs.Fields.{put-active}
+use Rattle.state.specs.Unpack.{unpack, station-of}
+use Rattle.state.proofs.Access.{of-packed}
+use Rattle.state.proofs.Bridge.{on-passed, on-done}
+use Rattle.state.proofs.Fields.{put-active}
 use Rattle.step_active.proofs.Entering.{place-active, one-more}
 use borrow.Author.Needs.{needs}
 use Rattle.step_active.proofs.push_active.Statement.{statement}

@@ -1,5 +1,5 @@
-use Rattle.words.proofs.Bridge.{on-passed, on-done}
-use Rattle.words.proofs.Fields.{put-refused, put-alive}
+use Rattle.state.proofs.Bridge.{on-passed, on-done}
+use Rattle.state.proofs.Fields.{put-refused, put-alive}
 use borrow.Author.Needs.{needs}
 use Rattle.step_events.proofs.clear_marks.Statement.{statement}
 use Rattle.step_events.proofs.clear_marks.Tie as tie

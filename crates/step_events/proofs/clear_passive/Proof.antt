@@ -1,6 +1,6 @@
-use Rattle.words.proofs.Bridge.{on-passed, on-done}
+use Rattle.state.proofs.Bridge.{on-passed, on-done}
 use native.Mathlib.Omega.{arith}
-use Rattle.words.proofs.Fields.{put-peer-data, put-passive}
+use Rattle.state.proofs.Fields.{put-peer-data, put-passive}
 use borrow.Author.Needs.{needs}
 use Rattle.step_events.proofs.clear_passive.Statement.{statement}
 use Rattle.step_events.proofs.clear_passive.Tie as tie

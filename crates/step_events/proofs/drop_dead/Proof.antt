@@ -1,4 +1,4 @@
-use Rattle.words.proofs.Bridge.{on-twice, change-then}
+use Rattle.state.proofs.Bridge.{on-twice, change-then}
 use Rattle.protocol.specs.Events.{drop-dead}
 use borrow.Author.Needs.{needs}
 use Rattle.step_events.proofs.drop_dead.Statement.{statement}

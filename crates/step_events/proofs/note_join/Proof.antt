@@ -1,10 +1,10 @@
-use Rattle.section.specs.Section.{part}
-use Rattle.words.specs.Unpack.{unpack, station-of}
-use Rattle.words.proofs.Access.{of-packed}
-use Rattle.words.proofs.Bridge.{on-passed, on-done}
+use Rattle.util.specs.Section.{part}
+use Rattle.state.specs.Unpack.{unpack, station-of}
+use Rattle.state.proofs.Access.{of-packed}
+use Rattle.state.proofs.Bridge.{on-passed, on-done}
 use native.Mathlib.Omega.{arith}
 use Rattle.protocol.specs.Events.{note-join}
-use Rattle.words.proofs.Fields.{put-joins, put-next-join}
+use Rattle.state.proofs.Fields.{put-joins, put-next-join}
 use Rattle.step_events.proofs.Joining.{place-left, number-left}
 use borrow.Author.Needs.{needs}
 use Rattle.step_events.proofs.note_join.Statement.{statement}

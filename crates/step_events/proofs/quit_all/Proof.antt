@@ -8,9 +8,9 @@ use lib.Seq.{take-length}
 use Rattle.lists.proofs.Rest.{Rest, rest-next, rest-end}
 use Rattle.protocol.specs.Run.{Run}
 use Rattle.protocol.specs.Events.{quit-one, quit-all}
-use Rattle.words.specs.declared.Work.{Work}
-use Rattle.words.specs.Layout.{words}
-use Rattle.words.specs.Work.{work-of, run, Fine, Does}
+use Rattle.state.specs.declared.Work.{Work}
+use Rattle.state.specs.Layout.{words}
+use Rattle.state.specs.Work.{work-of, run, Fine, Does}
 use borrow.Author.Needs.{needs}
 use Rattle.step_events.proofs.quit_all.Statement.{statement}
 use Rattle.step_events.proofs.quit_all.Tie as tie

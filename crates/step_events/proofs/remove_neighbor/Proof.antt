@@ -1,9 +1,9 @@
-use Rattle.section.specs.Section.{part}
-use Rattle.words.specs.Unpack.{unpack, station-of}
-use Rattle.words.proofs.Access.{of-packed}
-use Rattle.words.proofs.Bridge.{on-passed, on-done}
+use Rattle.util.specs.Section.{part}
+use Rattle.state.specs.Unpack.{unpack, station-of}
+use Rattle.state.proofs.Access.{of-packed}
+use Rattle.state.proofs.Bridge.{on-passed, on-done}
 use Rattle.protocol.specs.Events.{remove-neighbor}
-use Rattle.words.proofs.Fields.{put-active}
+use Rattle.state.proofs.Fields.{put-active}
 use Rattle.step_events.proofs.Leaving.{fewer-active}
 use borrow.Author.Needs.{needs}
 use Rattle.step_events.proofs.remove_neighbor.Statement.{statement}

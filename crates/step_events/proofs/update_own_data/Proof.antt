@@ -1,4 +1,4 @@
-use Rattle.words.proofs.Bridge.{on-passed, on-done}
+use Rattle.state.proofs.Bridge.{on-passed, on-done}
 use Rattle.protocol.specs.Events.{update-own-data}
 use borrow.Author.Needs.{needs}
 use Rattle.step_events.proofs.update_own_data.Statement.{statement}

@@ -1,8 +1,8 @@
-use Rattle.words.specs.Unpack.{unpack, station-of}
+use Rattle.state.specs.Unpack.{unpack, station-of}
 use native.Mathlib.Omega.{arith}
-use Rattle.words.proofs.Bridge.{on-passed, on-done}
+use Rattle.state.proofs.Bridge.{on-passed, on-done}
 use Rattle.protocol.specs.Timers.{add-alone}
-use Rattle.words.proofs.Fields.{put-passes-alone}
+use Rattle.state.proofs.Fields.{put-passes-alone}
 use Rattle.step_maintenance.proofs.Counted.{alone-left, one-more-alone}
 use borrow.Author.Needs.{needs}
 use Rattle.step_maintenance.proofs.add_alone.Statement.{statement}

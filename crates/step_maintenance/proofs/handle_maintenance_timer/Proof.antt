@@ -1,6 +1,6 @@
 use Rattle.step_refill.proofs.Asking.{fine-after}
-use Rattle.words.proofs.Bridge.{still, then, seq}
-use Rattle.words.proofs.Any.{then-tell-any}
+use Rattle.state.proofs.Bridge.{still, then, seq}
+use Rattle.state.proofs.Any.{then-tell-any}
 use Rattle.protocol.specs.Timers.{maintain, handle-maintenance-timer}
 use borrow.Author.Needs.{needs}
 use Rattle.step_maintenance.proofs.handle_maintenance_timer.Statement.{statement}

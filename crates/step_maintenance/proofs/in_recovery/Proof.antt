@@ -1,4 +1,4 @@
-use Rattle.words.specs.Unpack.{unpack, station-of}
+use Rattle.state.specs.Unpack.{unpack, station-of}
 use Rattle.protocol.specs.Timers.{in-recovery}
 use borrow.Author.Needs.{needs}
 use Rattle.step_maintenance.proofs.in_recovery.Statement.{statement}

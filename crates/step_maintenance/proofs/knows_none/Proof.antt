@@ -1,6 +1,6 @@
-use Rattle.words.specs.Unpack.{unpack, station-of}
-use Rattle.section.specs.Section.{part}
-use Rattle.words.proofs.Access.{of-packed}
+use Rattle.state.specs.Unpack.{unpack, station-of}
+use Rattle.util.specs.Section.{part}
+use Rattle.state.proofs.Access.{of-packed}
 use Rattle.protocol.specs.Timers.{knows-none}
 use Rattle.protocol.specs.Station.{is-alone}
 use borrow.Author.Needs.{needs}

@@ -1,5 +1,5 @@
 use native.Mathlib.Omega.{arith}
-use Rattle.words.proofs.Access.{of-short}
+use Rattle.state.proofs.Access.{of-short}
 use Rattle.step_maintenance.proofs.Passes.{refill-due, refill-not-due}
 use borrow.Author.Needs.{needs}
 use Rattle.step_maintenance.proofs.refill_if_due.Statement.{statement}

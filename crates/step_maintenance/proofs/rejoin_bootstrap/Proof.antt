@@ -1,5 +1,5 @@
-use Rattle.section.specs.Section.{part}
-use Rattle.words.proofs.Access.{of-packed}
+use Rattle.util.specs.Section.{part}
+use Rattle.state.proofs.Access.{of-packed}
 use Prim.Native.Nat.{_-_}
 use Rattle.step_maintenance.proofs.Joins.{Joining, joins-start, joins-below, joins-next, joins-end}
 use borrow.Author.Needs.{needs}

@@ -1,5 +1,5 @@
 use native.Mathlib.Omega.{arith}
-use Rattle.words.proofs.Access.{of-alone}
+use Rattle.state.proofs.Access.{of-alone}
 use Rattle.step_maintenance.proofs.Joins.{rejoin-due, rejoin-not-due}
 use borrow.Author.Needs.{needs}
 use Rattle.step_maintenance.proofs.rejoin_if_due.Statement.{statement}

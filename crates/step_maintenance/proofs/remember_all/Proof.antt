@@ -1,9 +1,9 @@
-use Rattle.words.specs.Unpack.{unpack, station-of}
-use Rattle.section.specs.Section.{part}
-use Rattle.words.proofs.Access.{of-packed}
-use Rattle.words.proofs.Bridge.{on-passed, on-done}
+use Rattle.state.specs.Unpack.{unpack, station-of}
+use Rattle.util.specs.Section.{part}
+use Rattle.state.proofs.Access.{of-packed}
+use Rattle.state.proofs.Bridge.{on-passed, on-done}
 use Rattle.protocol.specs.Timers.{remember-all}
-use Rattle.words.proofs.Fields.{put-recent}
+use Rattle.state.proofs.Fields.{put-recent}
 use Rattle.step_maintenance.proofs.Counted.{remembered}
 use borrow.Author.Needs.{needs}
 use Rattle.step_maintenance.proofs.remember_all.Statement.{statement}

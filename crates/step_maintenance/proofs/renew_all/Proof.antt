@@ -7,7 +7,7 @@ use lib.ListN.{length, getD}
 use lib.Seq.{take-all}
 use Rattle.lists.specs.Lists.{renew}
 use Rattle.lists.proofs.Rest.{Rest, rest-next, rest-end}
-use Rattle.section.specs.Section.{items-at, ValidSet, HoldsSet}
+use Rattle.util.specs.Section.{items-at, ValidSet, HoldsSet}
 use Rattle.protocol.specs.Timers.{renew-all}
 use borrow.Author.Needs.{needs}
 use Rattle.step_maintenance.proofs.renew_all.Statement.{statement}

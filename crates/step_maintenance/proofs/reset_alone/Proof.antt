@@ -1,7 +1,7 @@
-use Rattle.words.specs.Unpack.{unpack, station-of}
+use Rattle.state.specs.Unpack.{unpack, station-of}
 use native.Mathlib.Omega.{arith}
-use Rattle.words.proofs.Bridge.{on-passed, on-done}
-use Rattle.words.proofs.Fields.{put-passes-alone}
+use Rattle.state.proofs.Bridge.{on-passed, on-done}
+use Rattle.state.proofs.Fields.{put-passes-alone}
 use borrow.Author.Needs.{needs}
 use Rattle.step_maintenance.proofs.reset_alone.Statement.{statement}
 use Rattle.step_maintenance.proofs.reset_alone.Tie as tie

@@ -10,9 +10,9 @@ use Rattle.columns.specs.Columns.{node-in}
 use Rattle.record.specs.Format.{Rec}
 use Rattle.protocol.specs.Run.{Run, emit, emit-all}
 use Rattle.protocol.specs.Messages.{forward-join-to}
-use Rattle.words.specs.declared.Work.{Work}
-use Rattle.words.specs.Unpack.{PackedState}
-use Rattle.words.specs.Work.{work-of, run, TellsAny}
+use Rattle.state.specs.declared.Work.{Work}
+use Rattle.state.specs.Unpack.{PackedState}
+use Rattle.state.specs.Work.{work-of, run, TellsAny}
 use borrow.Author.Needs.{needs}
 use Rattle.step_messages.proofs.forward_join_to_all.Statement.{statement}
 use Rattle.step_messages.proofs.forward_join_to_all.Tie as tie

@@ -1,5 +1,5 @@
 use mathlib.Core.Path.{refl}
-use Rattle.words.proofs.Bridge.{change-then}
+use Rattle.state.proofs.Bridge.{change-then}
 use Rattle.protocol.specs.Peers.{drop-passive}
 use borrow.Author.Needs.{needs}
 use Rattle.step_peers.proofs.drop_passive.Statement.{statement}

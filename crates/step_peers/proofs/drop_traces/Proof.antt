@@ -1,7 +1,7 @@
 use mathlib.Core.Path.{refl}
-use Rattle.words.proofs.Bridge.{change-then}
+use Rattle.state.proofs.Bridge.{change-then}
 use Rattle.protocol.specs.Peers.{drop-traces}
-use Rattle.words.proofs.Bridge.{on-twice}
+use Rattle.state.proofs.Bridge.{on-twice}
 use borrow.Author.Needs.{needs}
 use Rattle.step_peers.proofs.drop_traces.Statement.{statement}
 use Rattle.step_peers.proofs.drop_traces.Tie as tie

@@ -1,5 +1,5 @@
 use mathlib.Core.Path.{refl}
-use Rattle.words.proofs.Bridge.{unchanged, change-yes, change-no}
+use Rattle.state.proofs.Bridge.{unchanged, change-yes, change-no}
 use Rattle.protocol.specs.Station.{in-view}
 use Rattle.protocol.specs.Peers.{forget-peer}
 use borrow.Author.Needs.{needs}

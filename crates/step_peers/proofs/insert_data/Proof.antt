@@ -1,5 +1,5 @@
 use mathlib.Core.Path.{refl}
-use Rattle.words.proofs.Bridge.{unchanged, telling, tell-yes}
+use Rattle.state.proofs.Bridge.{unchanged, telling, tell-yes}
 use Rattle.protocol.specs.Peers.{insert-data, is-known}
 use Rattle.step_peers.proofs.Laws.{inserted}
 use borrow.Author.Needs.{needs}

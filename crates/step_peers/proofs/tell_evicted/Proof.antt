@@ -1,4 +1,4 @@
-use Rattle.writer64.specs.Write.{rec-in}
+use Rattle.writer.specs.Write.{rec-in}
 use borrow.Author.Needs.{needs}
 use Rattle.step_peers.proofs.tell_evicted.Statement.{statement}
 use Rattle.step_peers.proofs.tell_evicted.Tie as tie

@@ -1,5 +1,5 @@
 use mathlib.Core.Path.{refl}
-use Rattle.words.specs.Unpack.{refill-in}
+use Rattle.state.specs.Unpack.{refill-in}
 use borrow.Author.Needs.{needs}
 use Rattle.step_refill.proofs.few_requests.Statement.{statement}
 use Rattle.step_refill.proofs.few_requests.Tie as tie

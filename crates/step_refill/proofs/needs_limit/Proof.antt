@@ -1,5 +1,5 @@
 use Rattle.protocol.specs.Refill.{needs-limit}
-use Rattle.words.specs.Unpack.{unpack, station-of}
+use Rattle.state.specs.Unpack.{unpack, station-of}
 use borrow.Author.Needs.{needs}
 use Rattle.step_refill.proofs.needs_limit.Statement.{statement}
 use Rattle.step_refill.proofs.needs_limit.Tie as tie

@@ -1,5 +1,5 @@
-use Rattle.section.specs.Section.{part}
-use Rattle.words.proofs.Access.{of-packed}
+use Rattle.util.specs.Section.{part}
+use Rattle.state.proofs.Access.{of-packed}
 use Rattle.step_refill.proofs.Asking.{none-needed}
 use borrow.Author.Needs.{needs}
 use Rattle.step_refill.proofs.needs_none.Statement.{statement}

@@ -1,9 +1,9 @@
 use Prim.Native.Nat.{ℕ, _-_}
 use mathlib.Core.Path.{_≡_}
 use Rattle.protocol.specs.Refill.{one-less}
-use Rattle.words.specs.Unpack.{refill-in}
-use Rattle.words.specs.declared.RefillLimit.{RefillLimit}
-use Rattle.words.specs.declared.RefillLimit.the-variants.{Automatic, Requests, Recovery}
+use Rattle.state.specs.Unpack.{refill-in}
+use Rattle.state.specs.declared.RefillLimit.{RefillLimit}
+use Rattle.state.specs.declared.RefillLimit.the-variants.{Automatic, Requests, Recovery}
 use borrow.Author.Needs.{needs}
 use Rattle.step_refill.proofs.one_less.Statement.{statement}
 use Rattle.step_refill.proofs.one_less.Tie as tie

@@ -1,5 +1,5 @@
 use Rattle.protocol.specs.Station.{recovery-is-over}
-use Rattle.words.specs.Unpack.{unpack, station-of}
+use Rattle.state.specs.Unpack.{unpack, station-of}
 use borrow.Author.Needs.{needs}
 use Rattle.step_refill.proofs.recovery_is_over.Statement.{statement}
 use Rattle.step_refill.proofs.recovery_is_over.Tie as tie

@@ -1,4 +1,4 @@
-use Rattle.words.proofs.Bridge.{on-passed, on-done}
+use Rattle.state.proofs.Bridge.{on-passed, on-done}
 use borrow.Author.Needs.{needs}
 use Rattle.step_refill.proofs.set_refill.Statement.{statement}
 use Rattle.step_refill.proofs.set_refill.Tie as tie

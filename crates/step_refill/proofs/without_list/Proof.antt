@@ -1,5 +1,5 @@
-use Rattle.section.specs.Section.{part}
-use Rattle.section.proofs.Sets.{set-inside, set-column}
+use Rattle.util.specs.Section.{part}
+use Rattle.util.proofs.Sets.{set-inside, set-column}
 use Rattle.step_refill.proofs.Asking.{left-list}
 use borrow.Author.Needs.{needs}
 use Rattle.step_refill.proofs.without_list.Statement.{statement}

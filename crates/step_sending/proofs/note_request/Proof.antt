@@ -1,10 +1,10 @@
 use native.Mathlib.Omega.{arith}
-use Rattle.section.specs.Section.{part}
+use Rattle.util.specs.Section.{part}
 use Rattle.protocol.specs.Sending.{note-request}
-use Rattle.words.specs.Unpack.{unpack, station-of}
-use Rattle.words.proofs.Access.{of-packed}
-use Rattle.words.proofs.Bridge.{on-passed, on-done}
-use Rattle.words.proofs.Fields.{put-requests, put-next-request}
+use Rattle.state.specs.Unpack.{unpack, station-of}
+use Rattle.state.proofs.Access.{of-packed}
+use Rattle.state.proofs.Bridge.{on-passed, on-done}
+use Rattle.state.proofs.Fields.{put-requests, put-next-request}
 use Rattle.step_sending.proofs.Told.{place-left, number-left}
 use borrow.Author.Needs.{needs}
 use Rattle.step_sending.proofs.note_request.Statement.{statement}

@@ -1,9 +1,9 @@
 use mathlib.Core.Path.{ap}
-use Rattle.section.specs.Section.{part}
+use Rattle.util.specs.Section.{part}
 use Rattle.columns.specs.Columns.{node-in}
 use Rattle.protocol.specs.Run.{node}
-use Rattle.words.specs.Unpack.{unpack, station-of}
-use Rattle.words.proofs.Access.{of-packed}
+use Rattle.state.specs.Unpack.{unpack, station-of}
+use Rattle.state.proofs.Access.{of-packed}
 use borrow.Author.Needs.{needs}
 use Rattle.step_sending.proofs.peer_info.Statement.{statement}
 use Rattle.step_sending.proofs.peer_info.Tie as tie

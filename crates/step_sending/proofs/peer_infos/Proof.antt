@@ -9,12 +9,12 @@ use Rattle.lists.proofs.Rest.{Rest, rest-next, rest-end}
 use Rattle.peer.specs.Data.{Node}
 use Rattle.columns.specs.Columns.{node-in}
 use Rattle.columns.specs.declared.PeerInfo.{PeerInfo}
-use Rattle.writer64.specs.declared.Nodes.{Nodes}
-use Rattle.writer64.specs.Nodes.{nodes-in, ValidNodes, HoldsNodes}
-use Rattle.writer64.proofs.Ways.{length-nodes}
+use Rattle.writer.specs.declared.Nodes.{Nodes}
+use Rattle.writer.specs.Nodes.{nodes-in, ValidNodes, HoldsNodes}
+use Rattle.writer.proofs.Ways.{length-nodes}
 use Rattle.protocol.specs.Station.{Station}
 use Rattle.protocol.specs.Run.{node, peer-info, peer-infos}
-use Rattle.words.specs.Unpack.{unpack}
+use Rattle.state.specs.Unpack.{unpack}
 use borrow.Author.Needs.{needs}
 use Rattle.step_sending.proofs.peer_infos.Statement.{statement}
 use Rattle.step_sending.proofs.peer_infos.Tie as tie

@@ -2,8 +2,8 @@ use mathlib.Core.Path.{refl}
 use native.Mathlib.Omega.{arith}
 use Rattle.protocol.specs.Sending.{reply-length}
 use Rattle.timing.proofs.Ranges.{ranges}
-use Rattle.words.specs.Unpack.{unpack, station-of, settings-at}
-use Rattle.words.proofs.Access.{of-settings}
+use Rattle.state.specs.Unpack.{unpack, station-of, settings-at}
+use Rattle.state.proofs.Access.{of-settings}
 use borrow.Author.Needs.{needs}
 use Rattle.step_sending.proofs.reply_length.Statement.{statement}
 use Rattle.step_sending.proofs.reply_length.Tie as tie

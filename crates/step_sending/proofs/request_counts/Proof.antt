@@ -1,6 +1,6 @@
 use mathlib.Core.Path.{refl}
 use Rattle.protocol.specs.Sending.{request-counts}
-use Rattle.words.specs.Unpack.{unpack, station-of}
+use Rattle.state.specs.Unpack.{unpack, station-of}
 use borrow.Author.Needs.{needs}
 use Rattle.step_sending.proofs.request_counts.Statement.{statement}
 use Rattle.step_sending.proofs.request_counts.Tie as tie

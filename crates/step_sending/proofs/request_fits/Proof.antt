@@ -1,7 +1,7 @@
-use Rattle.section.specs.Section.{part}
+use Rattle.util.specs.Section.{part}
 use Rattle.protocol.specs.Sending.{request-fits}
-use Rattle.words.specs.Unpack.{unpack, station-of}
-use Rattle.words.proofs.Access.{of-packed}
+use Rattle.state.specs.Unpack.{unpack, station-of}
+use Rattle.state.proofs.Access.{of-packed}
 use borrow.Author.Needs.{needs}
 use Rattle.step_sending.proofs.request_fits.Statement.{statement}
 use Rattle.step_sending.proofs.request_fits.Tie as tie

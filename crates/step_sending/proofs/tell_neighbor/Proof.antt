@@ -1,4 +1,4 @@
-use Rattle.words.proofs.Access.{of-packed}
+use Rattle.state.proofs.Access.{of-packed}
 use Rattle.step_sending.proofs.Told.{neighbor-told}
 use borrow.Author.Needs.{needs}
 use Rattle.step_sending.proofs.tell_neighbor.Statement.{statement}

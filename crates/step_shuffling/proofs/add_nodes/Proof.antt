@@ -13,10 +13,10 @@ use Rattle.record.specs.Read.{node-at, nodes-of}
 use Rattle.record.specs.Answers.{HoldsNode}
 use Rattle.protocol.specs.Run.{Run}
 use Rattle.protocol.specs.Peers.{is-newcomer, add-passive, add-nodes, any-new}
-use Rattle.words.specs.declared.Work.{Work}
-use Rattle.words.specs.Unpack.{unpack}
-use Rattle.words.specs.Work.{work-of, run, Fine, Does}
-use Rattle.words.proofs.Bridge.{at-run}
+use Rattle.state.specs.declared.Work.{Work}
+use Rattle.state.specs.Unpack.{unpack}
+use Rattle.state.specs.Work.{work-of, run, Fine, Does}
+use Rattle.state.proofs.Bridge.{at-run}
 use Rattle.step_peers.specs.declared.Added.{Added}
 use Rattle.step_peers.specs.Answer.{Adds}
 use Rattle.step_shuffling.proofs.Nodes.{nodes-from, nodes-start, nodes-end, or-more}

@@ -12,9 +12,9 @@ use Rattle.peer.specs.declared.PeerInfo.{PeerInfo}
 use Rattle.peer.specs.Held as held
 use Rattle.record.specs.Read.{header-of, well-formed, node-at, nodes-of}
 use Rattle.record.specs.Answers.{HoldsNode}
-use Rattle.writer64.specs.declared.Nodes.{Nodes}
-use Rattle.writer64.specs.Nodes.{nodes-in, ValidNodes, HoldsNodes}
-use Rattle.writer64.proofs.Ways.{length-nodes}
+use Rattle.writer.specs.declared.Nodes.{Nodes}
+use Rattle.writer.specs.Nodes.{nodes-in, ValidNodes, HoldsNodes}
+use Rattle.writer.proofs.Ways.{length-nodes}
 use Rattle.step_shuffling.proofs.Nodes.{nodes-from, nodes-start, nodes-end, few-nodes}
 use borrow.Author.Needs.{needs}
 use Rattle.step_shuffling.proofs.event_nodes.Statement.{statement}

@@ -1,4 +1,4 @@
-use Rattle.words.specs.Unpack.{unpack, station-of}
+use Rattle.state.specs.Unpack.{unpack, station-of}
 use Rattle.protocol.specs.Messages.{renews-limit}
 use borrow.Author.Needs.{needs}
 use Rattle.step_shuffling.proofs.renews_limit.Statement.{statement}

@@ -1,8 +1,8 @@
-use Rattle.words.specs.Unpack.{unpack, station-of}
+use Rattle.state.specs.Unpack.{unpack, station-of}
 use native.Mathlib.Omega.{arith}
-use Rattle.words.proofs.Bridge.{on-passed, on-done}
+use Rattle.state.proofs.Bridge.{on-passed, on-done}
 use Rattle.protocol.specs.Timers.{double-interval}
-use Rattle.words.proofs.Access.{of-interval}
+use Rattle.state.proofs.Access.{of-interval}
 use Rattle.step_timers.proofs.Shuffles.{put-doubled}
 use borrow.Author.Needs.{needs}
 use Rattle.step_timers.proofs.double_interval.Statement.{statement}

@@ -1,5 +1,5 @@
 use native.Mathlib.Omega.{arith}
-use Rattle.words.proofs.Access.{of-interval}
+use Rattle.state.proofs.Access.{of-interval}
 use Rattle.step_timers.proofs.Shuffles.{scheduled}
 use borrow.Author.Needs.{needs}
 use Rattle.step_timers.proofs.schedule_shuffle.Statement.{statement}

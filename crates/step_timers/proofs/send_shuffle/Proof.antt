@@ -1,4 +1,4 @@
-use Rattle.words.proofs.Access.{of-packed}
+use Rattle.state.proofs.Access.{of-packed}
 use native.Mathlib.Omega.{arith}
 use Rattle.step_sending.proofs.Sets.{lent-count, lent-few}
 use Rattle.step_timers.proofs.Shuffles.{place-named, walk-fits, shuffle-told}

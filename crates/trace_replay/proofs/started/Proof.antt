@@ -1,5 +1,5 @@
 use borrow.Author.Needs.{needs}
-use Rattle.rules_words.specs.Pack.{pack, front}
+use Rattle.rules.specs.Pack.{pack, front}
 use Rattle.trace_replay.specs.Ending.{counting}
 use Rattle.trace_replay.proofs.started.Statement.{statement}
 use Rattle.trace_replay.proofs.started.Tie as tie

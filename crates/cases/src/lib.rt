@@ -1,1 +1,0 @@
-// No code: the worked values of document 01, checked against the definitions (specs/Table.antt).

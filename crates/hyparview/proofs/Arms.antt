@@ -1,0 +1,254 @@
+-- Which step an event is: the header that the code looks at is that of the record that the definition looks at.
+-- Assumes nothing.
+use Prim.Native.Nat.{ℕ, zero, suc, _%_, _≤_, _<_}
+use mathlib.Core.Path.{_≡_, refl, sym, ap, _∙_}
+use mathlib.Core.Bool.{Bool, true, false, not, _||_}
+use mathlib.Core.List.{List}
+use native.Mathlib.Omega.{arith}
+use native.Mathlib.Nat.{not-suc-le-zero}
+use lib.ListN.{length}
+use lib.Dec.{eqb, leb}
+use borrow.Author.Tests.{eq-eqb, ne-eqb, eqb-true, eqb-false, leb-true}
+use Rattle.lists.specs.Lists.{choose}
+use Rattle.lists.proofs.Choice.{choose-yes, choose-no, split, and-left, and-right}
+use Rattle.peer.specs.declared.PeerInfo.{PeerInfo}
+use Rattle.peer.specs.Data.{Node}
+use Rattle.peer.specs.Held.{data-in, node-in}
+use Rattle.columns.specs.Columns as C
+use Rattle.record.specs.declared.Header.{Header}
+use Rattle.record.specs.Read as R
+use Rattle.record.specs.Answers.{HoldsNode}
+use Rattle.protocol.specs.Run.{Run, on}
+use Rattle.protocol.specs.Messages.{on-join, on-forward-join, on-shuffle, on-shuffle-reply, on-neighbor, on-disconnect}
+use Rattle.protocol.specs.Timers.{handle-shuffle-timer, handle-maintenance-timer, handle-pending-neighbor-timer, retry-join}
+use Rattle.protocol.specs.Events.{handle-connection-closed, handle-join, update-own-data, handle-quit}
+use Rattle.protocol.specs.Handle.{first-node, first-data, is-high, says-alive, handle-message, dispatch}
+use Rattle.protocol.proofs.Whole.{quit-dispatch}
+use Rattle.state.specs.Work.{Held, Does}
+use Rattle.state.proofs.Bridge.{by}
+use Rattle.hyparview.specs.Begun.{Headed, Single, timer-expired}
+
+past-five : (m : ℕ) → suc (suc (suc (suc (suc (suc m))))) ≤ 5 → ⊥
+past-five m l = omega (arith, l)
+
+at-most : {x y : ℕ} → x ≡ y → y ≤ 4 → x ≤ 5
+at-most e l = omega (arith, e, l)
+
+not-five : {x y : ℕ} → x ≡ y → y ≤ 4 → x ≡ 5 → ⊥
+not-five e l z = omega (arith, e, l, z)
+
+only-four : (m : ℕ) → m ≤ 5 → (m ≡ 0 → ⊥) → (m ≡ 1 → ⊥) → (m ≡ 2 → ⊥) → (m ≡ 3 → ⊥) → (m ≡ 5 → ⊥) → m ≡ 4
+only-four zero l n₀ n₁ n₂ n₃ n₅ = absurd (n₀ refl)
+only-four (suc zero) l n₀ n₁ n₂ n₃ n₅ = absurd (n₁ refl)
+only-four (suc (suc zero)) l n₀ n₁ n₂ n₃ n₅ = absurd (n₂ refl)
+only-four (suc (suc (suc zero))) l n₀ n₁ n₂ n₃ n₅ = absurd (n₃ refl)
+only-four (suc (suc (suc (suc zero)))) l n₀ n₁ n₂ n₃ n₅ = refl
+only-four (suc (suc (suc (suc (suc zero))))) l n₀ n₁ n₂ n₃ n₅ = absurd (n₅ refl)
+only-four (suc (suc (suc (suc (suc (suc m)))))) l n₀ n₁ n₂ n₃ n₅ = absurd (past-five m l)
+
+-- ---- the fields of the record read
+
+module _ (b : List ℕ) (h : Header) (v : Headed b h) where
+  pub kind-of : R.rec-of b .kind ≡ h .kind
+  unfolding R.rec-of
+  kind-of = ap (λ (x : Header). x .kind) (sym (v .head))
+
+  number-of : R.rec-of b .number ≡ h .number
+  unfolding R.rec-of
+  number-of = ap (λ (x : Header). x .number) (sym (v .head))
+
+  message-of : R.rec-of b .message ≡ h .message
+  unfolding R.rec-of
+  message-of = ap (λ (x : Header). x .message) (sym (v .head))
+
+  peer-of : R.rec-of b .peer ≡ h .peer
+  unfolding R.rec-of
+  peer-of = ap (λ (x : Header). x .peer) (sym (v .head))
+
+  second-of : R.rec-of b .second ≡ h .second
+  unfolding R.rec-of
+  second-of = ap (λ (x : Header). x .second) (sym (v .head))
+
+  ttl-of : R.rec-of b .ttl ≡ h .ttl
+  unfolding R.rec-of
+  ttl-of = ap (λ (x : Header). x .ttl) (sym (v .head))
+
+  flags-of : R.rec-of b .flags ≡ h .flags
+  unfolding R.rec-of
+  flags-of = ap (λ (x : Header). x .flags) (sym (v .head))
+
+  nodes-are : (n : ℕ) → n ≡ h .nodes → R.rec-of b .nodes ≡ R.nodes-of b 0 n
+  unfolding R.rec-of
+  nodes-are n e = ap (R.nodes-of b 0) (ap (λ (x : Header). x .nodes) (sym (v .head)) ∙ sym e)
+
+  pub count-is : (n : ℕ) → n ≡ h .nodes → n ≡ R.header-of b .nodes
+  count-is n e = e ∙ ap (λ (x : Header). x .nodes) (v .head)
+
+  is-message : (k : ℕ) → h .message ≡ k → eqb (R.rec-of b .message) k ≡ true
+  is-message k q = eq-eqb _ _ (message-of ∙ q)
+
+  no-message : (k : ℕ) → (h .message ≡ k → ⊥) → eqb (R.rec-of b .message) k ≡ false
+  no-message k n = ne-eqb _ _ (λ z. n (sym message-of ∙ z))
+
+  -- the kinds of record that have one node have it
+  header-fine : R.header-ok h ≡ true
+  unfolding R.well-formed
+  header-fine = ap R.header-ok (v .head) ∙ and-left _ _ (and-right (leb 24 (length b)) _ (v .formed))
+
+  one-is : (R.is-message 0 h || (R.is-message 1 h || (R.is-message 4 h || R.is-data h))) ≡ true → R.header-of b .nodes ≡ 1
+  unfolding R.header-ok R.count-ok
+  one-is t =
+      ap (λ (x : Header). x .nodes) (sym (v .head))
+      ∙ eqb-true _ _ (sym (choose-yes _ _ _ t) ∙ and-left _ _ (and-right (R.flags-ok h) _ (and-right (R.kind-ok h) _ header-fine)))
+
+  pub one-node : h .kind ≡ 7 → R.header-of b .nodes ≡ 1
+  unfolding R.is-message R.is-data
+  one-node q = one-is (rw q)
+
+  few-messages : h .kind ≡ 0 → h .message ≤ 5
+  unfolding R.header-ok R.kind-ok
+  few-messages q = leb-true _ _ (sym (choose-yes _ _ _ (eq-eqb _ _ q)) ∙ and-right (not (eqb (R.fixed-size (h .kind)) 0)) _ (and-left _ _ header-fine))
+
+  pub single : h .kind ≡ 0 → (h .message ≡ 2 → ⊥) → (h .message ≡ 3 → ⊥) → (h .message ≡ 5 → ⊥) → Single b h
+  unfolding R.is-message R.is-data
+  single q n₂ n₃ n₅ =
+      let few = few-messages q in
+      record {
+        headed = v;
+        one = split (eqb (h .message) 0) (λ z. one-is (rw (q, eqb-true (h .message) 0 z)))
+            (λ z₀. split (eqb (h .message) 1) (λ z. one-is (rw (q, eqb-true (h .message) 1 z)))
+            (λ z₁. one-is (rw (q, only-four (h .message) few (eqb-false (h .message) 0 z₀) (eqb-false (h .message) 1 z₁) n₂ n₃ n₅))));
+        which = λ n₀ n₁. only-four (h .message) few n₀ n₁ n₂ n₃ n₅;
+      }
+
+pub single-formed : (b : List ℕ) (h : Header) → Single b h → R.well-formed b ≡ true
+single-formed b h v = v .headed .formed
+
+pub single-some : (b : List ℕ) (h : Header) → Single b h → 0 < R.header-of b .nodes
+single-some b h v = omega (arith, v .one)
+
+-- ---- the six messages
+
+first-of : (b : List ℕ) (n : ℕ) → 0 < n → first-node (R.nodes-of b 0 n) ≡ R.node-at b 0
+unfolding R.nodes-of first-node
+first-of b zero h = absurd (not-suc-le-zero h)
+first-of b (suc n) h = refl
+
+module _ (b : List ℕ) (h : Header) (v : Headed b h) (g : Run) (r : Held) (ds o : List ℕ) where
+  pub arm-shuffle : (n : ℕ) → n ≡ h .nodes → h .message ≡ 2 → Does r ds o (on-shuffle (h .peer) (h .second) (R.nodes-of b 0 n) (h .ttl) g) → Does r ds o (handle-message (R.rec-of b) g)
+  unfolding handle-message
+  arm-shuffle n e q k =
+      by _ (choose-no _ _ _ (no-message b h v 0 (λ z. omega (arith, z, q))) ∙ (choose-no _ _ _ (no-message b h v 1 (λ z. omega (arith, z, q))) ∙ (choose-yes _ _ _ (is-message b h v 2 q)
+      ∙ (λ i. on-shuffle (peer-of b h v i) (second-of b h v i) (nodes-are b h v n e i) (ttl-of b h v i) g)))) k
+
+  pub arm-reply : (n : ℕ) → n ≡ h .nodes → h .message ≡ 3 → Does r ds o (on-shuffle-reply (h .peer) (R.nodes-of b 0 n) g) → Does r ds o (handle-message (R.rec-of b) g)
+  unfolding handle-message
+  arm-reply n e q k =
+      by _ (choose-no _ _ _ (no-message b h v 0 (λ z. omega (arith, z, q))) ∙ (choose-no _ _ _ (no-message b h v 1 (λ z. omega (arith, z, q))) ∙ (choose-no _ _ _ (no-message b h v 2 (λ z. omega (arith, z, q))) ∙ (choose-yes _ _ _ (is-message b h v 3 q)
+      ∙ (λ i. on-shuffle-reply (peer-of b h v i) (nodes-are b h v n e i) g))))) k
+
+  pub arm-disconnect : (t : Bool) → t ≡ eqb (h .flags % 2) 1 → h .message ≡ 5 → Does r ds o (on-disconnect (h .peer) t g) → Does r ds o (handle-message (R.rec-of b) g)
+  unfolding handle-message says-alive
+  arm-disconnect t e q k =
+      by _ (choose-no _ _ _ (no-message b h v 0 (λ z. omega (arith, z, q))) ∙ (choose-no _ _ _ (no-message b h v 1 (λ z. omega (arith, z, q))) ∙ (choose-no _ _ _ (no-message b h v 2 (λ z. omega (arith, z, q)))
+      ∙ (choose-no _ _ _ (no-message b h v 3 (λ z. omega (arith, z, q))) ∙ (choose-no _ _ _ (no-message b h v 4 (λ z. omega (arith, z, q)))
+      ∙ (λ i. on-disconnect (peer-of b h v i) ((ap (λ (y : ℕ). eqb (y % 2) 1) (flags-of b h v) ∙ sym e) i) g)))))) k
+
+module _ (b : List ℕ) (h : Header) (u : Single b h) (g : Run) (r : Held) (ds o : List ℕ) (n : PeerInfo) (x : HoldsNode n (R.node-at b 0)) where
+  v : Headed b h
+  v = u .headed
+
+  first-is : first-node (R.rec-of b .nodes) ≡ node-in n
+  unfolding R.rec-of
+  first-is = first-of b (R.header-of b .nodes) (single-some b h u) ∙ sym (x .holds)
+
+  data-is : first-data (R.rec-of b) ≡ data-in (n .data)
+  unfolding first-data node-in
+  data-is = ap (λ (y : Node). y .data-of) first-is
+
+  pub arm-join : h .message ≡ 0 → Does r ds o (on-join (h .peer) (data-in (n .data)) g) → Does r ds o (handle-message (R.rec-of b) g)
+  unfolding handle-message
+  arm-join q k = by _ (choose-yes _ _ _ (is-message b h v 0 q) ∙ (λ i. on-join (peer-of b h v i) (data-is i) g)) k
+
+  -- the node with its peer widened
+  wide-is : first-node (R.rec-of b .nodes) ≡ C.node-in (record { id = n .id; «data» = n .data })
+  unfolding C.node-in node-in
+  wide-is = first-is
+
+  pub arm-forward : h .message ≡ 1 → Does r ds o (on-forward-join (h .peer) (C.node-in (record { id = n .id; «data» = n .data })) (h .ttl) g) → Does r ds o (handle-message (R.rec-of b) g)
+  unfolding handle-message
+  arm-forward q k =
+      by _ (choose-no _ _ _ (no-message b h v 0 (λ z. omega (arith, z, q))) ∙ (choose-yes _ _ _ (is-message b h v 1 q) ∙ (λ i. on-forward-join (peer-of b h v i) (wide-is i) (ttl-of b h v i) g))) k
+
+  pub arm-neighbor : (h .message ≡ 0 → ⊥) → (h .message ≡ 1 → ⊥) → (t : Bool) → t ≡ eqb (h .flags) 1 → Does r ds o (on-neighbor (h .peer) (data-in (n .data)) t g) → Does r ds o (handle-message (R.rec-of b) g)
+  unfolding handle-message is-high
+  arm-neighbor n₀ n₁ t e k =
+      let q = u .which n₀ n₁ in
+      by _ (choose-no _ _ _ (no-message b h v 0 (λ z. omega (arith, z, q))) ∙ (choose-no _ _ _ (no-message b h v 1 (λ z. omega (arith, z, q))) ∙ (choose-no _ _ _ (no-message b h v 2 (λ z. omega (arith, z, q)))
+      ∙ (choose-no _ _ _ (no-message b h v 3 (λ z. omega (arith, z, q))) ∙ (choose-yes _ _ _ (is-message b h v 4 q)
+      ∙ (λ i. on-neighbor (peer-of b h v i) (data-is i) ((ap (λ (y : ℕ). eqb y 1) (flags-of b h v) ∙ sym e) i) g)))))) k
+
+-- ---- the nine kinds
+
+module _ (b : List ℕ) (h : Header) (v : Headed b h) (g : Run) (r : Held) (ds o : List ℕ) where
+  by-kind : (k : ℕ) → h .kind ≡ k → R.rec-of b .kind ≡ k
+  by-kind k q = kind-of b h v ∙ q
+
+  pub kind-message : h .kind ≡ 0 → Does r ds o (handle-message (R.rec-of b) g) → Does r ds o (dispatch (R.rec-of b) g)
+  unfolding dispatch choose
+  kind-message q k = by _ (rw (by-kind 0 q)) k
+
+  timers-are : (h .kind ≡ 0 → ⊥) → h .kind ≤ 4 → dispatch (R.rec-of b) g ≡ timer-expired (R.rec-of b .kind) (R.rec-of b .peer) (R.rec-of b .number) g
+  unfolding dispatch timer-expired
+  timers-are n l =
+      choose-no _ _ _ (ne-eqb _ _ (λ z. n (sym (kind-of b h v) ∙ z)))
+      ∙ split (eqb (R.rec-of b .kind) 1) (λ z. choose-yes _ _ _ z ∙ sym (choose-yes _ _ _ z))
+      (λ z₁. choose-no _ _ _ z₁ ∙ (split (eqb (R.rec-of b .kind) 2) (λ z. choose-yes _ _ _ z ∙ sym (choose-yes _ _ _ z))
+      (λ z₂. choose-no _ _ _ z₂ ∙ (split (eqb (R.rec-of b .kind) 3) (λ z. choose-yes _ _ _ z ∙ sym (choose-yes _ _ _ z))
+      (λ z₃. choose-no _ _ _ z₃ ∙ (choose-yes _ _ _ (eq-eqb _ _ (four z₁ z₂ z₃)) ∙ sym (choose-no _ _ _ z₃))) ∙ sym (choose-no _ _ _ z₂))) ∙ sym (choose-no _ _ _ z₁)))
+    where
+      four : eqb (R.rec-of b .kind) 1 ≡ false → eqb (R.rec-of b .kind) 2 ≡ false → eqb (R.rec-of b .kind) 3 ≡ false → R.rec-of b .kind ≡ 4
+      four z₁ z₂ z₃ =
+          let e = kind-of b h v in
+          only-four (R.rec-of b .kind) (at-most e l) (λ z. n (sym e ∙ z)) (eqb-false (R.rec-of b .kind) 1 z₁) (eqb-false (R.rec-of b .kind) 2 z₂) (eqb-false (R.rec-of b .kind) 3 z₃) (not-five e l)
+
+  pub kind-timer : (h .kind ≡ 0 → ⊥) → h .kind ≤ 4 → Does r ds o (timer-expired (h .kind) (h .peer) (h .number) g) → Does r ds o (dispatch (R.rec-of b) g)
+  kind-timer n l k = by _ (timers-are n l ∙ (λ i. timer-expired (kind-of b h v i) (peer-of b h v i) (number-of b h v i) g)) k
+
+  pub kind-closed : h .kind ≡ 5 → Does r ds o (handle-connection-closed (h .peer) g) → Does r ds o (dispatch (R.rec-of b) g)
+  unfolding dispatch choose
+  kind-closed q k = by _ (rw (by-kind 5 q) (λ i. handle-connection-closed (peer-of b h v i) g)) k
+
+  pub kind-join : h .kind ≡ 6 → Does r ds o (handle-join (h .peer) g) → Does r ds o (dispatch (R.rec-of b) g)
+  unfolding dispatch choose
+  kind-join q k = by _ (rw (by-kind 6 q) (λ i. handle-join (peer-of b h v i) g)) k
+
+  pub kind-data : (n : PeerInfo) → HoldsNode n (R.node-at b 0) → h .kind ≡ 7 → Does r ds o (on (update-own-data (data-in (n .data))) g) → Does r ds o (dispatch (R.rec-of b) g)
+  unfolding dispatch choose R.rec-of first-data node-in
+  kind-data n x q k =
+      let e : first-node (R.nodes-of b 0 (R.header-of b .nodes)) ≡ node-in n = first-of b (R.header-of b .nodes) (omega (arith, one-node b h v q)) ∙ sym (x .holds) in
+      by _ (rw (by-kind 7 q) (λ i. on (update-own-data (e i .data-of)) g)) k
+
+  pub kind-quit : 4 < h .kind → (h .kind ≡ 5 → ⊥) → (h .kind ≡ 6 → ⊥) → (h .kind ≡ 7 → ⊥) → h .kind ≤ 8 → Does r ds o (handle-quit g) → Does r ds o (dispatch (R.rec-of b) g)
+  kind-quit n₄ n₅ n₆ n₇ l k =
+      let e = kind-of b h v in
+      by _ (quit-dispatch (R.rec-of b) (eq-eqb (R.rec-of b .kind) 8 (omega (arith, e, n₄, n₅, n₆, n₇, l))) g) k
+
+-- ---- one timer
+
+module _ (k p n : ℕ) (g : Run) (r : Held) (ds o : List ℕ) where
+  pub shuffle-timer : k ≡ 1 → Does r ds o (handle-shuffle-timer g) → Does r ds o (timer-expired k p n g)
+  unfolding timer-expired choose
+  shuffle-timer q d = by _ (rw q) d
+
+  pub maintenance-timer : k ≡ 2 → Does r ds o (handle-maintenance-timer g) → Does r ds o (timer-expired k p n g)
+  unfolding timer-expired choose
+  maintenance-timer q d = by _ (rw q) d
+
+  pub request-timer : k ≡ 3 → Does r ds o (handle-pending-neighbor-timer p n g) → Does r ds o (timer-expired k p n g)
+  unfolding timer-expired choose
+  request-timer q d = by _ (rw q) d
+
+  pub join-timer : (k ≡ 1 → ⊥) → (k ≡ 2 → ⊥) → (k ≡ 3 → ⊥) → Does r ds o (retry-join p n g) → Does r ds o (timer-expired k p n g)
+  unfolding timer-expired
+  join-timer n₁ n₂ n₃ d = by _ (choose-no _ _ _ (ne-eqb _ _ n₁) ∙ (choose-no _ _ _ (ne-eqb _ _ n₂) ∙ choose-no _ _ _ (ne-eqb _ _ n₃))) d

@@ -1,0 +1,54 @@
+-- Laws of the ends of a call, and of its first timers.
+-- Assumes nothing.
+use Prim.Native.Nat.{ℕ, _-_}
+use mathlib.Core.Path.{_≡_, sym, ap, _∙_}
+use mathlib.Core.List.{List}
+use native.Mathlib.Omega.{arith}
+use lib.ListN.{length, replicate}
+use borrow.Author.Tests.{eq-eqb, ne-eqb}
+use Rattle.lists.proofs.Choice.{choose-yes, choose-no}
+use Rattle.peer.specs.Data.{Data}
+use Rattle.timing.specs.declared.Config.{Config}
+use Rattle.protocol.specs.Run.{on}
+use Rattle.protocol.specs.Timers.{schedule-shuffle, schedule-maintenance}
+use Rattle.protocol.specs.Handle.{new, note-scheduled, first-timers}
+use Rattle.hyparview.specs.Made.{Made, made, pack-made}
+use Rattle.state.specs.declared.Work.{Work}
+use Rattle.state.specs.Layout as layout
+use Rattle.state.specs.Unpack.{station-of, unpack}
+use Rattle.state.specs.Work.{work-of, run, Changes, TellsAny, Fine, Does}
+use Rattle.state.proofs.Bridge.{still, taken, left, then, seq}
+use Rattle.state.proofs.Any.{then-tell-any}
+use Rattle.hyparview.specs.declared.Done.{Done}
+use Rattle.hyparview.specs.Handled.{cleared, refusal, ended}
+
+pub all-zero : (xs : List ℕ) (k : ℕ) (out o : List ℕ) → o ≡ cleared 0 out → record { code = k; draws = 0; words = xs; output = o } ≡ refusal k xs (length out)
+unfolding refusal cleared
+all-zero xs k out o e =
+    let z : length out - 0 ≡ length out = omega arith in
+    ap (λ (l : List ℕ). record { code = k; draws = 0; words = xs; output = l }) (e ∙ ap (λ (n : ℕ). replicate n 0) z)
+
+module _ (old : List ℕ) (w : Work) (ys out o : List ℕ) where
+  pub ended-refused : (zs : List ℕ) (r : Done) → (w .code ≡ 0 → ⊥) → zs ≡ old → record { code = r .code; draws = r .draws; words = zs; output = o } ≡ refusal (w .code) zs (length out)
+      → record { code = r .code; draws = r .draws; words = zs; output = o } ≡ ended old w ys out
+  unfolding ended
+  ended-refused zs r h q e = e ∙ (ap (λ (l : List ℕ). refusal (w .code) l (length out)) q ∙ sym (choose-no _ _ _ (ne-eqb _ _ h)))
+
+  pub ended-accepted : w .code ≡ 0 → o ≡ cleared (w .written) out → record { code = 0; draws = w .drawn; words = ys; output = o } ≡ ended old w ys out
+  unfolding ended
+  ended-accepted h e = ap (λ (l : List ℕ). record { code = 0; draws = w .drawn; words = ys; output = l }) e ∙ sym (choose-yes _ _ _ (eq-eqb _ _ h))
+
+-- `new` on as many words as a state has
+pub made-whole : (xs : List ℕ) (me : ℕ) (d : Data) (c : Config) (r : Made) → length xs ≡ layout.words → r ≡ made xs me d c → r ≡ pack-made (new me d c)
+unfolding made
+made-whole xs me d c r l e = e ∙ choose-yes _ _ _ (eq-eqb _ _ l)
+
+module _ (w : Work) (xs ds out : List ℕ) (v : Fine (work-of w xs) ds out) where
+  pub timers-run : layout.timers-scheduled xs ≡ 1 → Does (work-of w xs) ds out (first-timers (run (work-of w xs) ds out))
+  unfolding first-timers run unpack station-of
+  timers-run h = taken _ _ (eq-eqb _ _ h) (still v)
+
+  pub timers-start : (a b r : Work) (ys zs o o₂ : List ℕ) → (layout.timers-scheduled xs ≡ 1 → ⊥) → TellsAny schedule-maintenance b r o o₂ → Does (work-of b zs) ds o (schedule-shuffle (run (work-of a ys) ds out))
+      → Changes (on note-scheduled) (work-of w xs) (work-of a ys) → Does (work-of r zs) ds o₂ (first-timers (run (work-of w xs) ds out))
+  unfolding first-timers run unpack station-of
+  timers-start a b r ys zs o o₂ h k₃ k₂ k₁ = left _ _ (ne-eqb _ _ h) (then-tell-any k₃ (seq schedule-shuffle k₂ (then k₁ (still v))))

@@ -1,0 +1,7 @@
+pub mod Copies
+pub mod Laws
+pub mod Arms
+pub mod Opening
+pub mod Kept
+pub mod Asked
+pub mod Making

@@ -1,0 +1,138 @@
+-- A new station in its words.
+-- Assumes nothing.
+use Prim.Native.Nat.{ℕ, _<_}
+use mathlib.Core.Path.{_≡_, refl, sym, ap, _∙_, subst}
+use mathlib.Core.Bool.{Bool, true, false, _&&_}
+use mathlib.Core.List.{List, [], _++_}
+use mathlib.Core.Option.{none, some}
+use lib.Dec.{eqb, leb}
+use lib.ListN.{length, set, take, drop}
+use mir.Val.{boolByte}
+use borrow.Author.Tests.{eq-eqb, ne-eqb}
+use Rattle.lists.specs.Array.{pad}
+use Rattle.lists.specs.Bytes.{le, read-le}
+use Rattle.lists.specs.Lists.{choose}
+use Rattle.lists.specs.Maps.{keys, values}
+use Rattle.lists.proofs.Choice.{choose-yes, choose-no, and-right}
+use Rattle.util.specs.Section.{section}
+use Rattle.columns.specs.Columns.{word-bytes, numbers-section, low-word, high-word, data-section}
+use Rattle.columns.proofs.Data.{bytes-back}
+use Rattle.peer.specs.declared.PeerData.{PeerData}
+use Rattle.peer.specs.declared.MaybeData.{MaybeData}
+use Rattle.peer.specs.Data.{Data, bytes-of}
+use Rattle.peer.specs.Held.{data-in, ValidData, HoldsData, Takes, taken}
+use Rattle.timing.specs.declared.Config.{Config}
+use Rattle.timing.specs.Timing.{in-range}
+use Rattle.protocol.specs.Rules.{short-data}
+use Rattle.protocol.specs.Handle as handle
+use Rattle.protocol.specs.Handle.{new-station, zero-config, zero-station}
+use Rattle.state.specs.Layout as layout
+use Rattle.state.proofs.Memory.{byte-fits, byte-back}
+use Rattle.rules.specs.Pack.{present-word, kind-word, requests-word, front, pack}
+use Rattle.rules.specs.Ok.{words-end}
+use Rattle.rules.proofs.Back.{present-back, len-back, low-back, high-back}
+use Rattle.hyparview.specs.Made.{lent, with-own, with-views, with-walks, with-times, pack-made, made, Own}
+
+-- ---- the sections of a new station are zeroes
+
+none-packed : pad {A = ℕ} 0 529 [] ≡ section 8 [] ++ (section 32 [] ++ (section 32 [] ++ (section 32 []
+    ++ (numbers-section 32 [] ++ (section 8 [] ++ (section 8 [] ++ (numbers-section 8 [] ++ data-section 80 [])))))))
+unfolding section numbers-section data-section pad keys values
+none-packed = refl
+
+-- the state of zeroes is a list of zeroes
+pub zero-words : pad 0 551 [] ≡ pack zero-station
+unfolding pack front zero-station new-station zero-config present-word kind-word requests-word bytes-of low-word high-word read-le section numbers-section data-section pad keys values
+zero-words = refl
+
+-- ---- own data in its words
+
+module _ (d : PeerData) (low high : ℕ) (v : ValidData d) (e : le 8 low ≡ take 8 (drop 0 (d .bytes))) (f : le 8 high ≡ take 8 (drop 8 (d .bytes))) (s : low < words-end) (t : high < words-end) where
+  abbrev kept : PeerData
+  kept = record { present = eqb (boolByte (d .present)) 1; len = d .len; bytes = word-bytes low high }
+
+  same : kept ≡ d
+  same = λ i. record { present = byte-back (d .present) i; len = d .len; bytes = bytes-back d low high v e f i }
+
+  kept-valid : ValidData kept
+  kept-valid = subst ValidData (sym same) v
+
+  own-present : present-word (data-in d) ≡ boolByte (d .present)
+  own-present = ap (λ (x : PeerData). present-word (data-in x)) (sym same) ∙ present-back (boolByte (d .present)) (d .len) low high (byte-fits (d .present)) kept-valid s t
+
+  own-len : length (bytes-of (data-in d)) ≡ d .len
+  own-len = ap (λ (x : PeerData). length (bytes-of (data-in x))) (sym same) ∙ len-back (boolByte (d .present)) (d .len) low high (byte-fits (d .present)) kept-valid s t
+
+  own-low : low-word (bytes-of (data-in d)) ≡ low
+  own-low = ap (λ (x : PeerData). low-word (bytes-of (data-in x))) (sym same) ∙ low-back (boolByte (d .present)) (d .len) low high (byte-fits (d .present)) kept-valid s t
+
+  own-high : high-word (bytes-of (data-in d)) ≡ high
+  own-high = ap (λ (x : PeerData). high-word (bytes-of (data-in x))) (sym same) ∙ high-back (boolByte (d .present)) (d .len) low high (byte-fits (d .present)) kept-valid s t
+
+  pub own-stored : (xs : List ℕ) → set (set (set (set xs 1 (boolByte (d .present))) 2 (d .len)) 20 low) 21 high ≡ with-own (data-in d) xs
+  unfolding with-own
+  own-stored xs = λ i. set (set (set (set xs 1 (sym own-present i)) 2 (sym own-len i)) 20 (sym own-low i)) 21 (sym own-high i)
+
+-- ---- a new station
+
+stored-is : (me : ℕ) (d : Data) (c : Config) → with-times c (with-walks me c (with-views c (with-own d (pad 0 551 [])))) ≡ front (new-station me d c) ++ pad 0 529 []
+unfolding with-own with-views with-walks with-times front new-station kind-word requests-word pad
+stored-is me d c = refl
+
+pub fresh-is : (xs : List ℕ) (me : ℕ) (d : PeerData) (c : Config) (us bs cs ds : List ℕ) → xs ≡ pad 0 551 [] → us ≡ with-own (data-in d) xs → bs ≡ with-views c us → cs ≡ with-walks me c bs → ds ≡ with-times c cs
+    → ds ≡ pack (new-station me (data-in d) c)
+unfolding pack new-station
+fresh-is xs me d c us bs cs ds z p q r s =
+    s ∙ ap (with-times c) (r ∙ ap (with-walks me c) (q ∙ ap (with-views c) (p ∙ ap (with-own (data-in d)) z)))
+    ∙ stored-is me (data-in d) c ∙ ap (λ (l : List ℕ). front (new-station me (data-in d) c) ++ l) none-packed
+
+-- ---- own data that is lent
+
+taken-some : (b : List ℕ) → leb (length b) 16 ≡ true → taken b ≡ some b
+unfolding taken
+taken-some b e = choose-yes _ _ _ e
+
+pub own-taken : (r : MaybeData) (b : List ℕ) (p : Bool) → p ≡ true → Takes r b → Own r (lent p b)
+unfolding lent choose short-data
+own-taken r b p e t = rw e
+    (record {
+      ok = t .ok;
+      valid = t .held .valid;
+      held = λ h. record { valid = t .held .valid; holds = t .held .holds ∙ taken-some b (sym (t .ok) ∙ h) };
+    })
+
+pub own-absent : (x : PeerData) (b : List ℕ) (p : Bool) → p ≡ false → HoldsData x none → Own (record { ok = true; «data» = x }) (lent p b)
+unfolding lent choose short-data
+own-absent x b p e h = rw e (record { ok = refl; valid = h .valid; held = λ t. h })
+
+-- ---- the answer
+
+pub other-length : (xs : List ℕ) (me : ℕ) (d : Data) (c : Config) → (length xs ≡ layout.words → ⊥) → record { code = 2; words = xs } ≡ made xs me d c
+unfolding made
+other-length xs me d c n = sym (choose-no _ _ _ (ne-eqb (length xs) layout.words n))
+
+-- the words are cleared before all else
+pub cleared : (xs ys : List ℕ) → length xs ≡ layout.words → ys ≡ pad 0 (length xs) (take 0 xs) → ys ≡ pad 0 551 []
+cleared xs ys l e = e ∙ ap (λ (n : ℕ). pad {A = ℕ} 0 n []) l
+
+module _ (xs : List ℕ) (me : ℕ) (d : Data) (c : Config) (m : MaybeData) (b : Bool) (l : length xs ≡ layout.words) (e : b ≡ in-range c) (o : Own m d) where
+  to-made : pack-made (handle.new me d c) ≡ made xs me d c
+  unfolding made
+  to-made = sym (choose-yes _ _ _ (eq-eqb (length xs) layout.words l))
+
+  tested : (in-range c && short-data d) ≡ (b && m .ok)
+  tested = λ i. sym e i && sym (o .ok) i
+
+  pub accepted : (ys : List ℕ) → (b && m .ok) ≡ true → ys ≡ pack (new-station me (data-in (m .«data»)) c) → record { code = 0; words = ys } ≡ made xs me d c
+  unfolding pack-made handle.new
+  accepted ys t p =
+      let z : ys ≡ pack (new-station me d c) = p ∙ ap (λ (x : Data). pack (new-station me x c)) (o .held (and-right b (m .ok) t) .holds) in
+      let w : record { code = 0; state = new-station me d c } ≡ handle.new me d c = sym (choose-yes _ _ _ (tested ∙ t)) in
+      (λ i. record { code = 0; words = z i }) ∙ ap pack-made w ∙ to-made
+
+  pub turned-down : (ys : List ℕ) → (b && m .ok) ≡ false → ys ≡ pad 0 (length xs) (take 0 xs) → record { code = 1; words = ys } ≡ made xs me d c
+  unfolding pack-made handle.new
+  turned-down ys t p =
+      let z : ys ≡ pack zero-station = cleared xs ys l p ∙ zero-words in
+      let w : record { code = 1; state = zero-station } ≡ handle.new me d c = sym (choose-no _ _ _ (tested ∙ t)) in
+      (λ i. record { code = 1; words = z i }) ∙ ap pack-made w ∙ to-made

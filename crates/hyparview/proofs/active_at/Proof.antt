@@ -1,0 +1,56 @@
+use Rattle.util.specs.Section.{part}
+use Rattle.state.proofs.Access.{of-packed}
+use Rattle.state.specs.Unpack.{unpack, station-of}
+use Rattle.hyparview.proofs.Asked.{past-last}
+use borrow.Author.Needs.{needs}
+use Rattle.hyparview.proofs.active_at.Statement.{statement}
+use Rattle.hyparview.proofs.active_at.Tie as tie
+
+sub-count : tie.Need-sub-count
+sub-count c = search needs
+
+part-count-start : tie.Need-part-count-start
+part-count-start c = search needs
+
+part-count-end : tie.Need-part-count-end
+part-count-end c = search needs
+
+count-requires : tie.Need-count-requires
+unfolding part
+count-requires c κs = search (of-packed, needs)
+
+sub-get-index : tie.Need-sub-get-index
+sub-get-index c = search needs
+
+part-get-index-start : tie.Need-part-get-index-start
+part-get-index-start c = search needs
+
+part-get-index-end : tie.Need-part-get-index-end
+part-get-index-end c = search needs
+
+get-index-requires : tie.Need-get-index-requires
+unfolding part
+get-index-requires c κs = (search (of-packed, needs), search needs)
+
+returns : tie.Need-returns
+unfolding unpack station-of part
+returns c = search needs
+
+returns-2 : tie.Need-returns-2
+unfolding part
+returns-2 c = search past-last
+
+pub active-at-spec : {M : Type 1} → statement M
+active-at-spec =
+    tie.close
+    (tie.spec
+    sub-count
+    part-count-start
+    part-count-end
+    count-requires
+    sub-get-index
+    part-get-index-start
+    part-get-index-end
+    get-index-requires
+    returns
+    returns-2)

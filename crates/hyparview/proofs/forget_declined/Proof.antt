@@ -1,0 +1,95 @@
+use Rattle.util.specs.Section.{part}
+use Rattle.protocol.specs.Station.{data-peers}
+use Rattle.protocol.specs.Handle.{forget-declined}
+use Rattle.state.specs.Unpack.{unpack, station-of}
+use Rattle.state.proofs.Access.{of-packed}
+use Rattle.state.proofs.Bridge.{on-passed, on-done}
+use Rattle.state.proofs.Fields.{put-peer-data}
+use borrow.Author.Needs.{needs}
+use Rattle.hyparview.proofs.Opening.{retained}
+use Rattle.hyparview.proofs.forget_declined.Statement.{statement}
+use Rattle.hyparview.proofs.forget_declined.Tie as tie
+
+returns : tie.Need-returns
+returns c = search on-passed
+
+sub-data-peers : tie.Need-sub-data-peers
+sub-data-peers c = search needs
+
+part-data-peers-start : tie.Need-part-data-peers-start
+part-data-peers-start c = search needs
+
+part-data-peers-end : tie.Need-part-data-peers-end
+part-data-peers-end c = search needs
+
+sub-data-peers-2 : tie.Need-sub-data-peers-2
+sub-data-peers-2 c = search needs
+
+part-data-peers-start-2 : tie.Need-part-data-peers-start-2
+part-data-peers-start-2 c = search needs
+
+part-data-peers-end-2 : tie.Need-part-data-peers-end-2
+part-data-peers-end-2 c = search needs
+
+sub-data-peers-3 : tie.Need-sub-data-peers-3
+sub-data-peers-3 c = search needs
+
+part-data-peers-start-3 : tie.Need-part-data-peers-start-3
+part-data-peers-start-3 c = search needs
+
+part-data-peers-end-3 : tie.Need-part-data-peers-end-3
+part-data-peers-end-3 c = search needs
+
+slice-aggregate-data-peers : tie.Need-slice-aggregate-data-peers
+slice-aggregate-data-peers c = search needs
+
+data-peers-requires : tie.Need-data-peers-requires
+unfolding part
+data-peers-requires c κs = search (of-packed, needs)
+
+sub-retain-data : tie.Need-sub-retain-data
+sub-retain-data c = search needs
+
+part-retain-data-start : tie.Need-part-retain-data-start
+part-retain-data-start c = search needs
+
+part-retain-data-end : tie.Need-part-retain-data-end
+part-retain-data-end c = search needs
+
+slice-aggregate-retain-data : tie.Need-slice-aggregate-retain-data
+slice-aggregate-retain-data c = search needs
+
+retain-data-requires : tie.Need-retain-data-requires
+unfolding part
+retain-data-requires c κs = search (of-packed, needs)
+
+same-length : tie.Need-same-length
+same-length c = search needs
+
+returns-2 : tie.Need-returns-2
+unfolding forget-declined data-peers unpack station-of part
+returns-2 c = on-done _ (search needs) _ _ (search needs) (put-peer-data (retained _ _ _ _ (c .before .before .retain-data .ensures) (search needs)))
+
+pub forget-declined-spec : {M : Type 1} → statement M
+forget-declined-spec =
+    tie.close
+    (tie.spec
+    returns
+    sub-data-peers
+    part-data-peers-start
+    part-data-peers-end
+    sub-data-peers-2
+    part-data-peers-start-2
+    part-data-peers-end-2
+    sub-data-peers-3
+    part-data-peers-start-3
+    part-data-peers-end-3
+    slice-aggregate-data-peers
+    data-peers-requires
+    sub-retain-data
+    part-retain-data-start
+    part-retain-data-end
+    slice-aggregate-retain-data
+    retain-data-requires
+    same-length
+    returns-2)

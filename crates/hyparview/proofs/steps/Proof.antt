@@ -1,0 +1,25 @@
+use borrow.Author.Needs.{needs}
+use Rattle.hyparview.proofs.Opening.{stepped}
+use Rattle.hyparview.proofs.steps.Statement.{statement}
+use Rattle.hyparview.proofs.steps.Tie as tie
+
+dispatch-requires : tie.Need-dispatch-requires
+dispatch-requires c κs = c .before .before .before .before .before .before .pre
+
+first-timers-requires : tie.Need-first-timers-requires
+first-timers-requires c κs = (search needs, c .before .before .before .before .before .before .dispatch .ensures .fine)
+
+forget-declined-requires : tie.Need-forget-declined-requires
+forget-declined-requires c κs = (search needs, c .before .before .before .before .before .first-timers .ensures .fine .ready .packed)
+
+same-length : tie.Need-same-length
+same-length c = search needs
+
+same-length-2 : tie.Need-same-length-2
+same-length-2 c = search needs
+
+returns : tie.Need-returns
+returns c = stepped _ _ _ _ _ _ _ _ _ (c .before .before .forget-declined .ensures) (c .before .before .before .before .before .before .before .before .first-timers .ensures) (c .before .before .before .before .before .before .before .before .before .before .before .before .before .before .before .dispatch .ensures)
+
+pub steps-spec : {M : Type 1} → statement M
+steps-spec = tie.close (tie.spec dispatch-requires first-timers-requires forget-declined-requires same-length same-length-2 returns)

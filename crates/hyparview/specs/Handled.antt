@@ -1,0 +1,42 @@
+-- `handle` on the words of a state: the definition's answer, packed; and code 2 for words that are not well formed.
+-- Assumes nothing.
+use Prim.Native.Nat.{ℕ, _-_}
+use mathlib.Core.List.{List, _++_}
+use lib.ListN.{length, take, replicate}
+use lib.Dec.{eqb}
+use Rattle.lists.specs.Lists.{choose}
+use Rattle.protocol.specs.Handle as P
+use Rattle.state.specs.declared.Work.{Work}
+use Rattle.state.specs.Unpack.{unpack}
+use Rattle.rules.specs.Pack.{pack}
+use Rattle.rules.specs.Ok.{packed-ok}
+
+-- what a call hands back, and the words and the output as it leaves them
+pub record Outcome : Type 0 where
+  pub code : ℕ
+  pub draws : ℕ
+  pub words : List ℕ
+  pub output : List ℕ
+
+-- the places from `from` on cleared
+unfoldable pub cleared : ℕ → List ℕ → List ℕ
+cleared from l = take from l ++ replicate (length l - from) 0
+
+-- "A refused call has its code, the old state, an output of zero bytes only, and 0 draws used."
+unfoldable pub refusal : ℕ → List ℕ → ℕ → Outcome
+refusal c xs room = record { code = c; draws = 0; words = xs; output = replicate room 0 }
+
+-- the call at the end of its steps, which began at the words old and reached ys
+unfoldable pub ended : List ℕ → Work → List ℕ → List ℕ → Outcome
+ended old w ys out =
+    choose (eqb (w .code) 0) (record { code = 0; draws = w .drawn; words = ys; output = cleared (w .written) out })
+    (refusal (w .code) old (length out))
+
+-- the definition's answer with its station packed
+unfoldable pub packed-answer : P.Answer → Outcome
+packed-answer a = record { code = a .code; draws = a .used; words = pack (a .state); output = a .output }
+
+-- `handle`: code 2 where the words are no state (another number of them, a part that is not well formed, an unused place that is not zero), else the definition's answer;
+-- that a refusal leaves the words as they were is `ok-back` of rules_words
+unfoldable pub handled : List ℕ → List ℕ → List ℕ → ℕ → Outcome
+handled xs b ds room = choose (packed-ok xs) (packed-answer (P.handle (unpack xs) b ds room)) (refusal 2 xs room)

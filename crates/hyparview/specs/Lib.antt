@@ -1,0 +1,4 @@
+pub mod Handled
+pub mod Begun
+pub mod Made
+pub mod Queries

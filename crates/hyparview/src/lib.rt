@@ -1,0 +1,537 @@
+// `handle`: one event, whatever it is, to the whole result or one numbered refusal, over the words of a state.
+use columns::PeerInfo;
+use peer::MaybeData;
+use peer::PeerData;
+use record::Event;
+use record::Flags;
+use record::Header;
+use record::Kind;
+use record::Message;
+use record::Refusal;
+use state::Layout;
+use state::Work;
+use timing::Config;
+use timing::Timing;
+use util::PeerId;
+ghost use mathlib.Core.Path.{_≡_};
+ghost use mathlib.Core.Bool.{true};
+ghost use Prim.Native.Nat.{_≤_, min};
+ghost use lib.ListN.{length, getD};
+ghost use Rattle.record.specs.Read.{rec-of};
+ghost use Rattle.protocol.specs.Budgets.{arriving};
+ghost use Rattle.protocol.specs.Run.{on};
+ghost use Rattle.protocol.specs.Handle.{new, note-scheduled, first-timers, forget-declined, handle-message, dispatch, steps, new-station};
+ghost use Rattle.state.specs.Layout.{words};
+ghost use Rattle.state.specs.Unpack.{PackedState, unpack};
+ghost use Rattle.state.specs.Work.{work-of, run, Changes, Fine, Does};
+ghost use Rattle.rules.specs.Ok.{state-ok};
+ghost use Rattle.hyparview.specs.Made.{lent, pack-made, Own, with-own, with-views, with-walks, with-times, made};
+ghost use Rattle.step_messages.specs.Between.{Between};
+ghost use Rattle.hyparview.specs.Handled.{cleared, refusal, ended, handled};
+ghost use Rattle.hyparview.specs.Begun.{Headed, Single, ReadAs, Opens, timer-expired};
+ghost use mathlib.Core.List.{[]};
+ghost use Rattle.lists.specs.Array.{pad};
+ghost use Rattle.timing.specs.Timing.{initial-shuffle-interval};
+ghost use Rattle.peer.specs.Held.{data-in, ValidData};
+ghost use Rattle.rules.specs.Pack.{pack};
+ghost use Rattle.hyparview.specs.Queries.{wants-connection, wants-connection-in, is-neighbor-in, neighbors-in, spare-addresses-in};
+
+// The delay before the first shuffle, no longer than the setting.
+fn first_interval(config: Config) -> u32
+    ensures { λ r. ⌜ r ≡ min initial-shuffle-interval (config .«shuffle_interval») ⌝ }
+{
+    if Timing::INITIAL_SHUFFLE_INTERVAL <= config.shuffle_interval {
+        return Timing::INITIAL_SHUFFLE_INTERVAL;
+    }
+    config.shuffle_interval
+}
+
+// Own data in its words.
+fn fresh_own(st: &mut [u64], own: PeerData)
+    requires { ⌜ length (now st) ≡ 551 ⌝ }
+    requires { ⌜ ValidData own ⌝ }
+    ensures { λ _. ⌜ now (st .exit) ≡ with-own (data-in own) (now (st .entry)) ⌝ }
+{
+    let b = own.bytes;
+    let low = columns::word_at(b, 0);
+    let high = columns::word_at(b, 8);
+    st[Layout::OWN_PRESENT] = own.present as u64;
+    st[Layout::OWN_LEN] = own.len as u64;
+    st[Layout::OWN_LOW] = low;
+    st[Layout::OWN_HIGH] = high;
+}
+
+// The capacities of the views, and what a shuffle takes of them.
+fn fresh_views(st: &mut [u64], config: Config)
+    requires { ⌜ length (now st) ≡ 551 ⌝ }
+    ensures { λ _. ⌜ now (st .exit) ≡ with-views config (now (st .entry)) ⌝ }
+{
+    st[Layout::ACTIVE_VIEW_CAPACITY] = config.active_view_capacity as u64;
+    st[Layout::PASSIVE_VIEW_CAPACITY] = config.passive_view_capacity as u64;
+    st[Layout::SHUFFLE_ACTIVE_VIEW_COUNT] = config.shuffle_active_view_count as u64;
+    st[Layout::SHUFFLE_PASSIVE_VIEW_COUNT] = config.shuffle_passive_view_count as u64;
+}
+
+// The station itself and the walk lengths.
+fn fresh_walks(st: &mut [u64], me: u32, config: Config)
+    requires { ⌜ length (now st) ≡ 551 ⌝ }
+    ensures { λ _. ⌜ now (st .exit) ≡ with-walks me config (now (st .entry)) ⌝ }
+{
+    st[Layout::ME] = me as u64;
+    st[Layout::ACTIVE_RANDOM_WALK_LENGTH] = config.active_random_walk_length as u64;
+    st[Layout::PASSIVE_RANDOM_WALK_LENGTH] = config.passive_random_walk_length as u64;
+    st[Layout::SHUFFLE_RANDOM_WALK_LENGTH] = config.shuffle_random_walk_length as u64;
+}
+
+// The interval, the timeout and the delay before the first shuffle.
+fn fresh_times(st: &mut [u64], config: Config)
+    requires { ⌜ length (now st) ≡ 551 ⌝ }
+    ensures { λ _. ⌜ now (st .exit) ≡ with-times config (now (st .entry)) ⌝ }
+{
+    let interval = first_interval(config);
+    st[Layout::SHUFFLE_INTERVAL] = config.shuffle_interval as u64;
+    st[Layout::NEIGHBOR_REQUEST_TIMEOUT] = config.neighbor_request_timeout as u64;
+    st[Layout::NEXT_SHUFFLE_INTERVAL] = interval as u64;
+}
+
+// The words of a station that has met no event, in words that are zero.
+fn fresh(st: &mut [u64], me: u32, own: PeerData, config: Config)
+    requires { ⌜ length (now st) ≡ 551 ⌝ }
+    requires { ⌜ now st ≡ pad 0 551 [] ⌝ }
+    requires { ⌜ ValidData own ⌝ }
+    ensures { λ _. ⌜ now (st .exit) ≡ pack (new-station me (data-in own) config) ⌝ }
+{
+    fresh_own(st, own);
+    fresh_views(st, config);
+    fresh_walks(st, me, config);
+    fresh_times(st, config);
+}
+
+// The lent bytes as own data, or absent; not ok where there are more than 16.
+fn own_data(present: bool, own: &[u8]) -> MaybeData
+    ensures { λ r. ⌜ Own r (lent present (now (own .entry))) ⌝ }
+{
+    if present {
+        return PeerData::from_slice(own);
+    }
+    let none = PeerData::absent();
+    MaybeData {
+        ok: true,
+        data: none,
+    }
+}
+
+// State::new: self, own data lent as bytes or absent, and the settings. Code 1, and zeroes, where a setting is out of range or own data is over 16 bytes; code 2, and nothing touched, where the
+// words are too few or too many.
+pub fn new(st: &mut [u64], me: u32, present: bool, own: &[u8], config: Config) -> u32
+    ensures { λ r. ⌜ record { code = r; words = now (st .exit) } ≡ made (now (st .entry)) me (lent present (now (own .entry))) config ⌝ }
+{
+    if st.len() != Layout::LENGTH {
+        return Refusal::STATE;
+    }
+    util::clear_from(st, 0);
+    let d = own_data(present, own);
+    let fits = config.in_range() & d.ok;
+    if fits {
+        let data = d.data;
+        fresh(st, me, data, config);
+        return 0;
+    }
+    Refusal::SETTINGS
+}
+
+// ---- what a supervisor asks
+
+// Whether a connection to the peer is wanted: it is a neighbor, or its reply to a Neighbor or a Join is awaited.
+fn is_wanted(st: &[u64], p: PeerId) -> bool
+    requires { ⌜ length (now st) ≡ 551 ⌝ }
+    requires { ⌜ PackedState (now st) ⌝ }
+    ensures { λ r. ⌜ r ≡ wants-connection p (unpack (now (st .entry))) ⌝ }
+{
+    state::in_active(st, p)
+        | (columns::contains_number(&st[Layout::REQUESTS..Layout::REQUESTS_END], Layout::ALL, p)
+            | columns::contains_number(&st[Layout::JOINS..Layout::JOINS_END], Layout::FEW, p))
+}
+
+// The neighbor at place i, and 0 past the last.
+fn active_at(st: &[u64], i: usize) -> PeerId
+    requires { ⌜ length (now st) ≡ 551 ⌝ }
+    requires { ⌜ PackedState (now st) ⌝ }
+    ensures { λ r. ⌜ r ≡ getD (unpack (now (st .entry)) .active) i 0 ⌝ }
+{
+    let n = util::count(&st[Layout::ACTIVE..Layout::ACTIVE_END], Layout::FEW);
+    if i < n {
+        return util::get_index(&st[Layout::ACTIVE..Layout::ACTIVE_END], Layout::FEW, i);
+    }
+    0
+}
+
+// Whether a connection to the peer is wanted; not by words that break a station rule.
+pub fn wants_connection(st: &[u64], p: PeerId) -> bool
+    ensures { λ r. ⌜ r ≡ wants-connection-in p (now (st .entry)) ⌝ }
+{
+    if rules::is_ok(st) {
+        return is_wanted(st, p);
+    }
+    false
+}
+
+pub fn is_neighbor(st: &[u64], p: PeerId) -> bool
+    ensures { λ r. ⌜ r ≡ is-neighbor-in p (now (st .entry)) ⌝ }
+{
+    if rules::is_ok(st) {
+        return state::in_active(st, p);
+    }
+    false
+}
+
+// How many neighbors there are.
+pub fn neighbor_count(st: &[u64]) -> usize
+    ensures { λ r. ⌜ r ≡ length (neighbors-in (now (st .entry))) ⌝ }
+{
+    if rules::is_ok(st) {
+        return util::count(&st[Layout::ACTIVE..Layout::ACTIVE_END], Layout::FEW);
+    }
+    0
+}
+
+// The neighbor at place i, in order, and 0 past the last.
+pub fn neighbor(st: &[u64], i: usize) -> PeerId
+    ensures { λ r. ⌜ r ≡ getD (neighbors-in (now (st .entry))) i 0 ⌝ }
+{
+    if rules::is_ok(st) {
+        return active_at(st, i);
+    }
+    0
+}
+
+// How many spare addresses there are.
+pub fn spare_addresses(st: &[u64]) -> usize
+    ensures { λ r. ⌜ r ≡ spare-addresses-in (now (st .entry)) ⌝ }
+{
+    if rules::is_ok(st) {
+        return util::count(&st[Layout::PASSIVE..Layout::PASSIVE_END], Layout::ALL);
+    }
+    0
+}
+
+// ---- one event
+
+// What a call hands back beside the words: its code, and how many draws are used.
+#[repr(C)]
+pub struct Done {
+    pub code: u32,
+    pub draws: usize,
+}
+
+// The places from `from` on become zero.
+fn clear(out: &mut [u8], from: usize)
+    requires { ⌜ from ≤ length (now out) ⌝ }
+    ensures { λ _. ⌜ now (out .exit) ≡ cleared from (now (out .entry)) ⌝ }
+{
+    let mut i = from;
+    while i < out.len() {
+        out[i] = 0;
+        i += 1;
+    }
+}
+
+// The words of a into b.
+fn copy_words(a: &[u64], b: &mut [u64])
+    requires { ⌜ length (now a) ≡ length (now b) ⌝ }
+    ensures { λ _. ⌜ now (b .exit) ≡ now (a .entry) ⌝ }
+{
+    let mut i: usize = 0;
+    while i < b.len() {
+        b[i] = a[i];
+        i += 1;
+    }
+}
+
+// Zeroes only, and no draw; the words stay as they are.
+fn refuse(st: &[u64], out: &mut [u8], code: u32) -> Done
+    ensures { λ r. ⌜ record { code = r .code; draws = r .draws; words = now (st .entry); output = now (out .exit) } ≡ refusal code (now (st .entry)) (length (now (out .entry))) ⌝ }
+{
+    clear(out, 0);
+    Done {
+        code: code,
+        draws: 0,
+    }
+}
+
+// The words that the steps reached, with zeroes after the records; or the refusal that they met, with the old words.
+fn finish(old: &[u64], st: &mut [u64], w: Work, out: &mut [u8]) -> Done
+    requires { ⌜ length (now old) ≡ words ⌝ }
+    requires { ⌜ length (now st) ≡ words ⌝ }
+    requires { ⌜ w .written ≤ length (now out) ⌝ }
+    ensures { λ r. ⌜ record { code = r .code; draws = r .draws; words = now (st .exit); output = now (out .exit) } ≡ ended (now (old .entry)) w (now (st .entry)) (now (out .entry)) ⌝ }
+{
+    let code = w.code;
+    if code != 0 {
+        copy_words(old, st);
+        return refuse(st, out, code);
+    }
+    let at = w.written;
+    clear(out, at);
+    Done {
+        code: 0,
+        draws: w.drawn,
+    }
+}
+
+fn note_scheduled(w: Work, st: &mut [u64]) -> Work
+    requires { ⌜ length (now st) ≡ words ⌝ }
+    requires { ⌜ PackedState (now st) ⌝ }
+    ensures { λ r. ⌜ Changes (on note-scheduled) (work-of w (now (st .entry))) (work-of r (now (st .exit))) ⌝ }
+{
+    if w.code != 0 {
+        return w;
+    }
+    st[Layout::TIMERS_SCHEDULED] = 1;
+    w
+}
+
+// The first accepted call starts both timers.
+fn first_timers(w: Work, st: &mut [u64], draws: &[u32], out: &mut [u8]) -> Work
+    requires { ⌜ length (now st) ≡ words ⌝ }
+    requires { ⌜ Fine (work-of w (now st)) (now draws) (now out) ⌝ }
+    ensures { λ r. ⌜ Does (work-of r (now (st .exit))) (now (draws .entry)) (now (out .exit)) (first-timers (run (work-of w (now (st .entry))) (now (draws .entry)) (now (out .entry)))) ⌝ }
+{
+    if st[Layout::TIMERS_SCHEDULED] == 1 {
+        return w;
+    }
+    let a = note_scheduled(w, st);
+    let b = step_timers::schedule_shuffle(a, st, draws, out);
+    step_maintenance::schedule_maintenance(b, out)
+}
+
+// 02, S-5: the data of a peer in neither view and without an open request goes, where the event is accepted.
+fn forget_declined(w: Work, st: &mut [u64]) -> Work
+    requires { ⌜ length (now st) ≡ words ⌝ }
+    requires { ⌜ PackedState (now st) ⌝ }
+    ensures { λ r. ⌜ Changes (on forget-declined) (work-of w (now (st .entry))) (work-of r (now (st .exit))) ⌝ }
+{
+    if w.code != 0 {
+        return w;
+    }
+    let mut v = [0u64; 73];
+    columns::data_peers(
+        &st[Layout::ACTIVE..Layout::ACTIVE_END],
+        &st[Layout::PASSIVE..Layout::PASSIVE_END],
+        &st[Layout::REQUESTS..Layout::REQUESTS_END],
+        &mut v,
+    );
+    columns::retain_data(
+        &mut st[Layout::DATA..Layout::DATA_END],
+        Layout::DATA_CAP,
+        &v,
+        columns::KNOWN,
+    );
+    w
+}
+
+// Join, ForwardJoin or Neighbor, which have one node.
+fn handle_single(
+    w: Work,
+    st: &mut [u64],
+    draws: &[u32],
+    out: &mut [u8],
+    b: &[u8],
+    h: Header,
+) -> Work
+    requires { ⌜ length (now st) ≡ words ⌝ }
+    requires { ⌜ Fine (work-of w (now st)) (now draws) (now out) ⌝ }
+    requires { ⌜ Single (now b) h ⌝ }
+    requires { ⌜ Between 0 arriving 40 (run (work-of w (now st)) (now draws) (now out)) ⌝ }
+    ensures { λ r. ⌜ Does (work-of r (now (st .exit))) (now (draws .entry)) (now (out .exit)) (handle-message (rec-of (now (b .entry))) (run (work-of w (now (st .entry))) (now (draws .entry)) (now (out .entry)))) ⌝ }
+{
+    let p = h.peer as u64;
+    let n = record::peer_info(b, 0);
+    let d = n.data;
+    if h.message == Message::JOIN {
+        return step_messages::on_join(w, st, draws, out, p, d);
+    }
+    if h.message == Message::FORWARD_JOIN {
+        let node = PeerInfo {
+            id: n.id as u64,
+            data: d,
+        };
+        return step_messages::on_forward_join(w, st, draws, out, p, node, h.ttl);
+    }
+    step_messages::on_neighbor(w, st, draws, out, p, d, h.flags == Flags::HIGH)
+}
+
+// One of the six messages.
+fn handle_message(
+    w: Work,
+    st: &mut [u64],
+    draws: &[u32],
+    out: &mut [u8],
+    b: &[u8],
+    h: Header,
+) -> Work
+    requires { ⌜ length (now st) ≡ words ⌝ }
+    requires { ⌜ Fine (work-of w (now st)) (now draws) (now out) ⌝ }
+    requires { ⌜ Headed (now b) h ⌝ }
+    requires { ⌜ h .kind ≡ 0 ⌝ }
+    requires { ⌜ Between 0 arriving 40 (run (work-of w (now st)) (now draws) (now out)) ⌝ }
+    ensures { λ r. ⌜ Does (work-of r (now (st .exit))) (now (draws .entry)) (now (out .exit)) (handle-message (rec-of (now (b .entry))) (run (work-of w (now (st .entry))) (now (draws .entry)) (now (out .entry)))) ⌝ }
+{
+    let p = h.peer as u64;
+    let n = h.nodes as usize;
+    if h.message == Message::SHUFFLE {
+        let origin = h.second as u64;
+        return step_shuffling::on_shuffle(w, st, draws, out, p, origin, b, n, h.ttl);
+    }
+    if h.message == Message::SHUFFLE_REPLY {
+        return step_shuffling::on_shuffle_reply(w, st, draws, out, p, b, n);
+    }
+    if h.message == Message::DISCONNECT {
+        return step_messages::on_disconnect(w, st, draws, out, p, h.flags % 2 == 1);
+    }
+    handle_single(w, st, draws, out, b, h)
+}
+
+// One of the four timers.
+fn handle_timer(w: Work, st: &mut [u64], draws: &[u32], out: &mut [u8], h: Header) -> Work
+    requires { ⌜ length (now st) ≡ words ⌝ }
+    requires { ⌜ Fine (work-of w (now st)) (now draws) (now out) ⌝ }
+    requires { ⌜ 1 ≤ h .kind ⌝ }
+    requires { ⌜ h .kind ≤ 4 ⌝ }
+    ensures { λ r. ⌜ Does (work-of r (now (st .exit))) (now (draws .entry)) (now (out .exit)) (timer-expired (h .kind) (h .peer) (h .number) (run (work-of w (now (st .entry))) (now (draws .entry)) (now (out .entry)))) ⌝ }
+{
+    let p = h.peer as u64;
+    if h.kind == Kind::DO_SHUFFLE {
+        return step_timers::handle_shuffle_timer(w, st, draws, out);
+    }
+    if h.kind == Kind::DO_MAINTENANCE {
+        return step_maintenance::handle_maintenance_timer(w, st, draws, out);
+    }
+    if h.kind == Kind::PENDING_NEIGHBOR_REQUEST {
+        return step_timers::handle_pending_neighbor_timer(w, st, draws, out, p, h.number);
+    }
+    step_timers::retry_join(w, st, out, p, h.number)
+}
+
+// What an event says is done, whichever kind it is.
+fn dispatch(w: Work, st: &mut [u64], draws: &[u32], out: &mut [u8], b: &[u8], h: Header) -> Work
+    requires { ⌜ length (now st) ≡ words ⌝ }
+    requires { ⌜ Fine (work-of w (now st)) (now draws) (now out) ⌝ }
+    requires { ⌜ Headed (now b) h ⌝ }
+    requires { ⌜ h .kind ≤ 8 ⌝ }
+    requires { ⌜ Opens (h .kind) (run (work-of w (now st)) (now draws) (now out)) ⌝ }
+    ensures { λ r. ⌜ Does (work-of r (now (st .exit))) (now (draws .entry)) (now (out .exit)) (dispatch (rec-of (now (b .entry))) (run (work-of w (now (st .entry))) (now (draws .entry)) (now (out .entry)))) ⌝ }
+{
+    let p = h.peer as u64;
+    if h.kind == Kind::MESSAGE {
+        return handle_message(w, st, draws, out, b, h);
+    }
+    if h.kind <= Kind::RETRY_JOIN {
+        return handle_timer(w, st, draws, out, h);
+    }
+    if h.kind == Kind::PEER_DISCONNECTED {
+        return step_events::handle_connection_closed(w, st, draws, out, p);
+    }
+    if h.kind == Kind::REQUEST_JOIN {
+        return step_events::handle_join(w, st, out, p);
+    }
+    if h.kind == Kind::UPDATE_PEER_DATA {
+        let n = record::peer_info(b, 0);
+        let d = n.data;
+        return step_events::update_own_data(w, st, d);
+    }
+    step_events::handle_quit(w, st, draws, out)
+}
+
+// The steps of one event.
+fn steps(w: Work, st: &mut [u64], draws: &[u32], out: &mut [u8], b: &[u8], h: Header) -> Work
+    requires { ⌜ length (now st) ≡ words ⌝ }
+    requires { ⌜ Fine (work-of w (now st)) (now draws) (now out) ⌝ }
+    requires { ⌜ Headed (now b) h ⌝ }
+    requires { ⌜ h .kind ≤ 8 ⌝ }
+    requires { ⌜ Opens (h .kind) (run (work-of w (now st)) (now draws) (now out)) ⌝ }
+    ensures { λ r. ⌜ Does (work-of r (now (st .exit))) (now (draws .entry)) (now (out .exit)) (steps (rec-of (now (b .entry))) (run (work-of w (now (st .entry))) (now (draws .entry)) (now (out .entry)))) ⌝ }
+{
+    let a = dispatch(w, st, draws, out, b, h);
+    let c = first_timers(a, st, draws, out);
+    forget_declined(c, st)
+}
+
+// An event that was read, at words that keep the rules; they are kept aside for a refusal.
+fn handle_event(st: &mut [u64], b: &[u8], draws: &[u32], out: &mut [u8], h: Header) -> Done
+    requires { ⌜ length (now st) ≡ words ⌝ }
+    requires { ⌜ state-ok (now st) ≡ true ⌝ }
+    requires { ⌜ ReadAs (now b) h ⌝ }
+    ensures { λ r. ⌜ record { code = r .code; draws = r .draws; words = now (st .exit); output = now (out .exit) } ≡ handled (now (st .entry)) (now (b .entry)) (now (draws .entry)) (length (now (out .entry))) ⌝ }
+{
+    let mut old = [0u64; 551];
+    copy_words(st, &mut old);
+    let w = Work {
+        drawn: 0,
+        written: 0,
+        code: 0,
+    };
+    let a = steps(w, st, draws, out, b, h);
+    finish(&old, st, a, out)
+}
+
+// One event: the whole result, or one numbered refusal that leaves every word as it was.
+pub fn handle(st: &mut [u64], b: &[u8], draws: &[u32], out: &mut [u8]) -> Done
+    ensures { λ r. ⌜ record { code = r .code; draws = r .draws; words = now (st .exit); output = now (out .exit) } ≡ handled (now (st .entry)) (now (b .entry)) (now (draws .entry)) (length (now (out .entry))) ⌝ }
+{
+    if !rules::is_ok(st) {
+        return refuse(st, out, Refusal::STATE);
+    }
+    let e = record::read_event(b);
+    match e {
+        Event::Refused(c) => refuse(st, out, c),
+        Event::Record(h) => handle_event(st, b, draws, out, h),
+    }
+}
+
+// The state by value.
+pub struct State {
+    pub words: [u64; 551],
+}
+
+// What a call by value hands back: its code, the state, and how many draws are used.
+pub struct Answer {
+    pub code: u32,
+    pub state: State,
+    pub draws: usize,
+}
+
+// What `new` by value hands back: code 0 and the state, or code 1 and a state of zeroes.
+pub struct Made {
+    pub code: u32,
+    pub state: State,
+}
+
+impl State {
+    // The state of a station that has met no event.
+    pub fn new(me: u32, present: bool, own: &[u8], config: Config) -> Made
+        ensures { λ r. ⌜ record { code = r .code; words = r .state .words } ≡ pack-made (new me (lent present (now (own .entry))) config) ⌝ }
+    {
+        let mut words = [0u64; 551];
+        let code = new(&mut words, me, present, own, config);
+        let s = State { words: words };
+        Made {
+            code: code,
+            state: s,
+        }
+    }
+
+    // The form that 01 names: `handle` takes self by value.
+    pub fn handle(self, b: &[u8], draws: &[u32], out: &mut [u8]) -> Answer
+        ensures { λ r. ⌜ record { code = r .code; draws = r .draws; words = r .state .words; output = now (out .exit) } ≡ handled (self .words) (now (b .entry)) (now (draws .entry)) (length (now (out .entry))) ⌝ }
+    {
+        let mut words = self.words;
+        let d = handle(&mut words, b, draws, out);
+        let s = State { words: words };
+        Answer {
+            code: d.code,
+            state: s,
+            draws: d.draws,
+        }
+    }
+}

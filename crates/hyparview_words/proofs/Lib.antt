@@ -1,5 +1,0 @@
-pub mod Copies
-pub mod Laws
-pub mod Arms
-pub mod Opening
-pub mod Kept

@@ -1,0 +1,44 @@
+-- "the state breaks a station rule": the test of every station rule of document 01 on words, however many there are and whatever they are.
+-- Assumes nothing.
+use Prim.Native.Nat.{ℕ}
+use mathlib.Core.Bool.{Bool, _&&_}
+use mathlib.Core.List.{List}
+use lib.ListN.{length}
+use lib.Dec.{leb, eqb}
+use Rattle.util.specs.Section.{valid-set}
+use Rattle.columns.specs.Columns.{valid-numbers, valid-data-words}
+use Rattle.peer.specs.Held.{valid-data}
+use Rattle.protocol.specs.Rules.{all-under, station-ok}
+use Rattle.state.specs.Layout as layout
+use Rattle.state.specs.Unpack.{own-at, limit-formed, unpack}
+
+-- words have 64 bits
+abbrev pub words-end : ℕ
+words-end = 18446744073709551616
+
+-- every word has 64 bits, and those that stand for a bool or a limit are one
+unfoldable pub formed : List ℕ → Bool
+formed xs =
+    all-under words-end xs
+    && (leb (layout.own-present xs) 1
+    && (leb (layout.timers-scheduled xs) 1 && limit-formed (layout.refill-kind xs) (layout.refill-requests xs)))
+
+-- every set and map is well formed, its count within its places, and zeroes past it
+unfoldable pub sections-ok : List ℕ → Bool
+sections-ok xs =
+    valid-set 8 (layout.active-part xs)
+    && (valid-set 32 (layout.passive-part xs)
+    && (valid-set 32 (layout.alive-part xs)
+    && (valid-set 32 (layout.refused-part xs)
+    && (valid-numbers 32 (layout.requests-part xs)
+    && (valid-set 8 (layout.bootstrap-part xs)
+    && (valid-set 8 (layout.recent-part xs)
+    && (valid-numbers 8 (layout.joins-part xs) && valid-data-words 80 (layout.peer-data-part xs))))))))
+
+-- "unused places zero": as many words as a state has, and each part well formed
+unfoldable pub packed-ok : List ℕ → Bool
+packed-ok xs = eqb (length xs) layout.words && (formed xs && (valid-data (own-at xs) && sections-ok xs))
+
+-- every station rule, unused places included
+unfoldable pub state-ok : List ℕ → Bool
+state-ok xs = packed-ok xs && station-ok (unpack xs)

@@ -1,0 +1,121 @@
+-- Where each number and each section of the state's words stands. Written by tools/layout.py.
+-- Assumes nothing.
+use Prim.Native.Nat.{ℕ}
+use mathlib.Core.List.{List}
+use lib.ListN.{getD}
+use Rattle.util.specs.Section.{part}
+
+-- the words of a state
+abbrev pub words : ℕ
+words = 551
+
+-- ---- the numbers
+
+abbrev pub me : List ℕ → ℕ
+me xs = getD xs 0 0
+
+abbrev pub own-present : List ℕ → ℕ
+own-present xs = getD xs 1 0
+
+abbrev pub own-len : List ℕ → ℕ
+own-len xs = getD xs 2 0
+
+abbrev pub active-view-capacity : List ℕ → ℕ
+active-view-capacity xs = getD xs 3 0
+
+abbrev pub passive-view-capacity : List ℕ → ℕ
+passive-view-capacity xs = getD xs 4 0
+
+abbrev pub active-random-walk-length : List ℕ → ℕ
+active-random-walk-length xs = getD xs 5 0
+
+abbrev pub passive-random-walk-length : List ℕ → ℕ
+passive-random-walk-length xs = getD xs 6 0
+
+abbrev pub shuffle-random-walk-length : List ℕ → ℕ
+shuffle-random-walk-length xs = getD xs 7 0
+
+abbrev pub shuffle-active-view-count : List ℕ → ℕ
+shuffle-active-view-count xs = getD xs 8 0
+
+abbrev pub shuffle-passive-view-count : List ℕ → ℕ
+shuffle-passive-view-count xs = getD xs 9 0
+
+abbrev pub shuffle-interval : List ℕ → ℕ
+shuffle-interval xs = getD xs 10 0
+
+abbrev pub neighbor-request-timeout : List ℕ → ℕ
+neighbor-request-timeout xs = getD xs 11 0
+
+abbrev pub timers-scheduled : List ℕ → ℕ
+timers-scheduled xs = getD xs 12 0
+
+abbrev pub next-shuffle-interval : List ℕ → ℕ
+next-shuffle-interval xs = getD xs 13 0
+
+abbrev pub passes-alone : List ℕ → ℕ
+passes-alone xs = getD xs 14 0
+
+abbrev pub passes-short : List ℕ → ℕ
+passes-short xs = getD xs 15 0
+
+abbrev pub refill-kind : List ℕ → ℕ
+refill-kind xs = getD xs 16 0
+
+abbrev pub refill-requests : List ℕ → ℕ
+refill-requests xs = getD xs 17 0
+
+abbrev pub next-neighbor-request : List ℕ → ℕ
+next-neighbor-request xs = getD xs 18 0
+
+abbrev pub next-join : List ℕ → ℕ
+next-join xs = getD xs 19 0
+
+abbrev pub own-low : List ℕ → ℕ
+own-low xs = getD xs 20 0
+
+abbrev pub own-high : List ℕ → ℕ
+own-high xs = getD xs 21 0
+
+-- ---- the sections
+
+abbrev pub active-part : List ℕ → List ℕ
+active-part xs = part 22 9 xs
+
+abbrev pub passive-part : List ℕ → List ℕ
+passive-part xs = part 31 33 xs
+
+abbrev pub alive-part : List ℕ → List ℕ
+alive-part xs = part 64 33 xs
+
+abbrev pub refused-part : List ℕ → List ℕ
+refused-part xs = part 97 33 xs
+
+abbrev pub requests-part : List ℕ → List ℕ
+requests-part xs = part 130 65 xs
+
+abbrev pub bootstrap-part : List ℕ → List ℕ
+bootstrap-part xs = part 195 9 xs
+
+abbrev pub recent-part : List ℕ → List ℕ
+recent-part xs = part 204 9 xs
+
+abbrev pub joins-part : List ℕ → List ℕ
+joins-part xs = part 213 17 xs
+
+abbrev pub peer-data-part : List ℕ → List ℕ
+peer-data-part xs = part 230 321 xs
+
+pub record Sections : Type 0 where
+  pub active : List ℕ
+  pub passive : List ℕ
+  pub alive : List ℕ
+  pub refused : List ℕ
+  pub requests : List ℕ
+  pub bootstrap : List ℕ
+  pub recent : List ℕ
+  pub joins : List ℕ
+  pub peer-data : List ℕ
+
+abbrev pub sections : List ℕ → Sections
+sections xs = record { active = active-part xs; passive = passive-part xs; alive = alive-part xs; refused = refused-part xs; requests = requests-part xs; bootstrap = bootstrap-part xs; recent = recent-part xs; joins = joins-part xs; peer-data = peer-data-part xs }

@@ -1,0 +1,534 @@
+// The state of a station as one lent list of words, and the work that the steps of one event hand on.
+use columns::PeerInfo;
+use peer::PeerData;
+use record::Refusal;
+use util::PeerId;
+use writer::Fields;
+use writer::Nodes;
+use writer::Written;
+ghost use mathlib.Core.Path.{_≡_};
+ghost use mathlib.Core.List.{[], _∷_};
+ghost use Prim.Native.Nat.{_≤_, _<_};
+ghost use lib.ListN.{length, getD, drop};
+ghost use Rattle.util.specs.Chances.{pick, shuffle};
+ghost use Rattle.peer.specs.Held.{data-in, ValidData};
+ghost use Rattle.util.specs.Section.{items-at, ValidSet, HoldsSet};
+ghost use Rattle.columns.specs.Columns.{node-in};
+ghost use Rattle.writer.specs.Nodes.{ValidNodes, nodes-in};
+ghost use Rattle.writer.specs.Write.{rec-in};
+ghost use Rattle.protocol.specs.Run.{on, draw, draw-one-of, draw-shuffle, require, emit};
+ghost use Rattle.protocol.specs.Setters.{set-own-data, set-refill};
+ghost use Rattle.protocol.specs.Messages.{drop-join, drop-request, drop-pending};
+ghost use Rattle.protocol.specs.Station.{is-me, in-active, in-passive, in-view, is-alone, active-is-full, passive-is-full, is-short, is-last-hop};
+ghost use Rattle.protocol.specs.Station.{is-recovery, is-automatic, is-spent, is-requested};
+ghost use Rattle.state.specs.Unpack.{unpack, own-at, limit-at, refill-in, PackedState, Becomes};
+ghost use Rattle.state.specs.Work.{work-of, Changes, ChangesAny, DrawsAny, Reaches, TellsAny, after-record};
+
+// The layout of the state: the place of each number, and where each section begins and ends. A set is its places and then their count; a map has more columns of as many places before the
+// count. Every name is a whole constant, since a sum in the body of a function would be one more thing to prove.
+pub struct Layout {}
+
+impl Layout {
+    pub const ME: usize = 0;
+
+    // Own data: 1 present, 0 absent; the bytes stand in two words, `OWN_LOW` and `OWN_HIGH`.
+    pub const OWN_PRESENT: usize = 1;
+
+    pub const OWN_LEN: usize = 2;
+
+    // The settings, in the order of `Config`.
+    pub const ACTIVE_VIEW_CAPACITY: usize = 3;
+
+    pub const PASSIVE_VIEW_CAPACITY: usize = 4;
+
+    pub const ACTIVE_RANDOM_WALK_LENGTH: usize = 5;
+
+    pub const PASSIVE_RANDOM_WALK_LENGTH: usize = 6;
+
+    pub const SHUFFLE_RANDOM_WALK_LENGTH: usize = 7;
+
+    pub const SHUFFLE_ACTIVE_VIEW_COUNT: usize = 8;
+
+    pub const SHUFFLE_PASSIVE_VIEW_COUNT: usize = 9;
+
+    pub const SHUFFLE_INTERVAL: usize = 10;
+
+    pub const NEIGHBOR_REQUEST_TIMEOUT: usize = 11;
+
+    pub const TIMERS_SCHEDULED: usize = 12;
+
+    pub const NEXT_SHUFFLE_INTERVAL: usize = 13;
+
+    pub const PASSES_ALONE: usize = 14;
+
+    pub const PASSES_SHORT: usize = 15;
+
+    // The limit on refills: kind 0 Automatic, 1 Requests, 2 Recovery; the requests are 0 but in kind 1.
+    pub const REFILL_KIND: usize = 16;
+
+    pub const REFILL_REQUESTS: usize = 17;
+
+    pub const NEXT_NEIGHBOR_REQUEST: usize = 18;
+
+    pub const NEXT_JOIN: usize = 19;
+
+    pub const OWN_LOW: usize = 20;
+
+    pub const OWN_HIGH: usize = 21;
+
+    // The places of a section: few for the active view, bootstrap peers, recent neighbors and joins, and all for the other sets and the requests.
+    pub const FEW: usize = 8;
+
+    pub const ALL: usize = 32;
+
+    pub const DATA_CAP: usize = 80;
+
+    pub const ACTIVE: usize = 22;
+
+    pub const ACTIVE_COUNT: usize = Layout::ACTIVE + Layout::FEW;
+
+    pub const ACTIVE_END: usize = Layout::ACTIVE_COUNT + 1;
+
+    pub const PASSIVE: usize = Layout::ACTIVE_END;
+
+    pub const PASSIVE_COUNT: usize = Layout::PASSIVE + Layout::ALL;
+
+    pub const PASSIVE_END: usize = Layout::PASSIVE_COUNT + 1;
+
+    pub const ALIVE: usize = Layout::PASSIVE_END;
+
+    pub const ALIVE_COUNT: usize = Layout::ALIVE + Layout::ALL;
+
+    pub const ALIVE_END: usize = Layout::ALIVE_COUNT + 1;
+
+    pub const REFUSED: usize = Layout::ALIVE_END;
+
+    pub const REFUSED_COUNT: usize = Layout::REFUSED + Layout::ALL;
+
+    pub const REFUSED_END: usize = Layout::REFUSED_COUNT + 1;
+
+    pub const REQUESTS: usize = Layout::REFUSED_END;
+
+    pub const REQUESTS_COUNT: usize = Layout::REQUESTS + 2 * Layout::ALL;
+
+    pub const REQUESTS_END: usize = Layout::REQUESTS_COUNT + 1;
+
+    pub const BOOTSTRAP: usize = Layout::REQUESTS_END;
+
+    pub const BOOTSTRAP_COUNT: usize = Layout::BOOTSTRAP + Layout::FEW;
+
+    pub const BOOTSTRAP_END: usize = Layout::BOOTSTRAP_COUNT + 1;
+
+    pub const RECENT: usize = Layout::BOOTSTRAP_END;
+
+    pub const RECENT_COUNT: usize = Layout::RECENT + Layout::FEW;
+
+    pub const RECENT_END: usize = Layout::RECENT_COUNT + 1;
+
+    pub const JOINS: usize = Layout::RECENT_END;
+
+    pub const JOINS_COUNT: usize = Layout::JOINS + 2 * Layout::FEW;
+
+    pub const JOINS_END: usize = Layout::JOINS_COUNT + 1;
+
+    pub const DATA: usize = Layout::JOINS_END;
+
+    pub const DATA_COUNT: usize = Layout::DATA + 4 * Layout::DATA_CAP;
+
+    pub const DATA_END: usize = Layout::DATA_COUNT + 1;
+
+    pub const LENGTH: usize = Layout::DATA_END;
+}
+
+// What bounds a refill; protocol/Station says of `Refill` why there are three cases.
+pub enum RefillLimit {
+    Automatic,
+    Requests(u64),
+    Recovery,
+}
+
+// The draws used and the bytes written so far, and a code that is 0 while all is well.
+pub struct Work {
+    pub drawn: usize,
+    pub written: usize,
+    pub code: u32,
+}
+
+// The next draw, and the work that has taken it.
+pub struct Drawn {
+    pub work: Work,
+    pub value: u32,
+}
+
+// The place that a draw decided, and the work that has taken it.
+pub struct Chosen {
+    pub work: Work,
+    pub index: usize,
+}
+
+// ---- own data and the limit on refills
+
+pub fn own_data(st: &[u64]) -> PeerData
+    requires { ⌜ length (now st) ≡ 551 ⌝ }
+    requires { ⌜ PackedState (now st) ⌝ }
+    ensures { λ r. ⌜ r ≡ own-at (now (st .entry)) ⌝ }
+{
+    let bytes = columns::bytes_of(st[Layout::OWN_LOW], st[Layout::OWN_HIGH]);
+    let len = st[Layout::OWN_LEN] as u8;
+    PeerData {
+        present: st[Layout::OWN_PRESENT] == 1,
+        len: len,
+        bytes: bytes,
+    }
+}
+
+pub fn keep_own(st: &mut [u64], d: PeerData)
+    requires { ⌜ length (now st) ≡ 551 ⌝ }
+    requires { ⌜ PackedState (now st) ⌝ }
+    requires { ⌜ ValidData d ⌝ }
+    ensures { λ _. ⌜ Becomes (now (st .exit)) (set-own-data (data-in d) (unpack (now (st .entry)))) ⌝ }
+{
+    let b = d.bytes;
+    let low = columns::word_at(b, 0);
+    let high = columns::word_at(b, 8);
+    st[Layout::OWN_PRESENT] = d.present as u64;
+    st[Layout::OWN_LEN] = d.len as u64;
+    st[Layout::OWN_LOW] = low;
+    st[Layout::OWN_HIGH] = high;
+}
+
+pub fn limit_of(st: &[u64]) -> RefillLimit
+    requires { ⌜ length (now st) ≡ 551 ⌝ }
+    ensures { λ r. ⌜ r ≡ limit-at (now (st .entry)) ⌝ }
+{
+    if st[Layout::REFILL_KIND] == 0 {
+        return RefillLimit::Automatic;
+    }
+    if st[Layout::REFILL_KIND] == 1 {
+        return RefillLimit::Requests(st[Layout::REFILL_REQUESTS]);
+    }
+    RefillLimit::Recovery
+}
+
+pub fn keep_limit(st: &mut [u64], l: RefillLimit)
+    requires { ⌜ length (now st) ≡ 551 ⌝ }
+    requires { ⌜ PackedState (now st) ⌝ }
+    ensures { λ _. ⌜ Becomes (now (st .exit)) (set-refill (refill-in l) (unpack (now (st .entry)))) ⌝ }
+{
+    match l {
+        RefillLimit::Automatic => {
+            st[Layout::REFILL_KIND] = 0;
+            st[Layout::REFILL_REQUESTS] = 0;
+        }
+        RefillLimit::Requests(n) => {
+            st[Layout::REFILL_KIND] = 1;
+            st[Layout::REFILL_REQUESTS] = n;
+        }
+        RefillLimit::Recovery => {
+            st[Layout::REFILL_KIND] = 2;
+            st[Layout::REFILL_REQUESTS] = 0;
+        }
+    }
+}
+
+impl RefillLimit {
+    pub fn is_recovery(self) -> bool
+        ensures { λ r. ⌜ r ≡ is-recovery (refill-in self) ⌝ }
+    {
+        match self {
+            RefillLimit::Automatic => false,
+            RefillLimit::Requests(_) => false,
+            RefillLimit::Recovery => true,
+        }
+    }
+
+    pub fn is_automatic(self) -> bool
+        ensures { λ r. ⌜ r ≡ is-automatic (refill-in self) ⌝ }
+    {
+        match self {
+            RefillLimit::Automatic => true,
+            RefillLimit::Requests(_) => false,
+            RefillLimit::Recovery => false,
+        }
+    }
+
+    // Whether no request is left.
+    pub fn is_spent(self) -> bool
+        ensures { λ r. ⌜ r ≡ is-spent (refill-in self) ⌝ }
+    {
+        match self {
+            RefillLimit::Automatic => false,
+            RefillLimit::Requests(n) => n == 0,
+            RefillLimit::Recovery => false,
+        }
+    }
+}
+
+// ---- draws
+
+// The draw at a place, 0 where there is none.
+fn draw_at(draws: &[u32], at: usize) -> u32
+    ensures { λ r. ⌜ r ≡ getD (now (draws .entry)) at 0 ⌝ }
+{
+    if at < draws.len() {
+        return draws[at];
+    }
+    0
+}
+
+// The work that has taken the draws before `next`; code 5 where there are not so many.
+fn reach(w: Work, draws: &[u32], next: usize) -> Work
+    requires { ⌜ w .drawn ≤ length (now draws) ⌝ }
+    ensures { λ r. ⌜ Reaches next w r (now (draws .entry)) ⌝ }
+{
+    if w.code != 0 {
+        return w;
+    }
+    let mut r = w;
+    if draws.len() < next {
+        r.code = Refusal::DRAWS;
+        return r;
+    }
+    r.drawn = next;
+    r
+}
+
+// Takes the next draw, which a delay never passes over; code 5 where there is none, and then the value is 0.
+pub fn draw(w: Work, draws: &[u32]) -> Drawn
+    requires { ⌜ w .drawn ≤ length (now draws) ⌝ }
+    ensures { λ r. ⌜ DrawsAny (draw 1) w (r .work) (now (draws .entry)) ⌝ }
+    ensures { λ r. ⌜ r .value ≡ getD (now (draws .entry)) (w .drawn) 0 ⌝ }
+{
+    let value = draw_at(draws, w.drawn);
+    let a = reach(w, draws, w.drawn + 1);
+    Drawn {
+        work: a,
+        value: value,
+    }
+}
+
+// Takes the draws that decide one of n places, with those passed over; code 5 where none is kept.
+pub fn choose(w: Work, draws: &[u32], n: usize) -> Chosen
+    requires { ⌜ w .drawn ≤ length (now draws) ⌝ }
+    requires { ⌜ 0 < n ⌝ }
+    ensures { λ r. ⌜ DrawsAny (draw-one-of n) w (r .work) (now (draws .entry)) ⌝ }
+    ensures { λ r. ⌜ (r .index ≡ pick n (drop (w .drawn) (now (draws .entry)))) × (r .index < n) ⌝ }
+{
+    let p = util::pick_index(draws, w.drawn, n);
+    let i = p.index;
+    let a = reach(w, draws, p.next);
+    Chosen { work: a, index: i }
+}
+
+// Shuffles a working set of 32 places where it lies, and takes the draws of that; code 5 where there are not so many.
+pub fn shuffle(w: Work, draws: &[u32], v: &mut [u64]) -> Work
+    requires { ⌜ w .drawn ≤ length (now draws) ⌝ }
+    requires { ⌜ ValidSet 32 (now v) ⌝ }
+    ensures { λ r. ⌜ DrawsAny (draw-shuffle (items-at 32 (now (v .entry)))) w r (now (draws .entry)) ⌝ }
+    ensures { λ _. ⌜ HoldsSet 32 (now (v .exit)) (shuffle (drop (w .drawn) (now (draws .entry))) (items-at 32 (now (v .entry)))) ⌝ }
+{
+    let next = util::shuffle(v, Layout::ALL, draws, w.drawn);
+    reach(w, draws, next)
+}
+
+// ---- refusals and records
+
+// A refusal with this code, unless the test holds.
+pub fn require(w: Work, code: u32, test: bool) -> Work
+    ensures { λ r. ⌜ ChangesAny (require code test) w r ⌝ }
+{
+    if w.code != 0 {
+        return w;
+    }
+    if test {
+        return w;
+    }
+    let mut r = w;
+    r.code = code;
+    r
+}
+
+// The work after a record was written, or was found not to fit.
+fn after_record(w: Work, a: Written) -> Work
+    ensures { λ r. ⌜ r ≡ after-record a w ⌝ }
+{
+    let mut r = w;
+    match a {
+        Written::At(n) => {
+            r.written = n;
+            r
+        }
+        Written::Full => {
+            r.code = Refusal::OUTPUT;
+            r
+        }
+    }
+}
+
+// A record without nodes into the output; code 9 where it does not fit.
+pub fn emit_bare(w: Work, out: &mut [u8], f: Fields) -> Work
+    requires { ⌜ w .written ≤ length (now out) ⌝ }
+    ensures { λ r. ⌜ TellsAny (emit (rec-in f [])) w r (now (out .entry)) (now (out .exit)) ⌝ }
+{
+    if w.code != 0 {
+        return w;
+    }
+    let at = w.written;
+    let a = writer::write_bare(out, at, f);
+    after_record(w, a)
+}
+
+// A record with one node.
+pub fn emit_one(w: Work, out: &mut [u8], f: Fields, p: PeerInfo) -> Work
+    requires { ⌜ w .written ≤ length (now out) ⌝ }
+    requires { ⌜ ValidData (p .data) ⌝ }
+    ensures { λ r. ⌜ TellsAny (emit (rec-in f (node-in p ∷ []))) w r (now (out .entry)) (now (out .exit)) ⌝ }
+{
+    if w.code != 0 {
+        return w;
+    }
+    let at = w.written;
+    let a = writer::write_one(out, at, f, p);
+    after_record(w, a)
+}
+
+// A record with these nodes.
+pub fn emit_nodes(w: Work, out: &mut [u8], f: Fields, ns: Nodes) -> Work
+    requires { ⌜ w .written ≤ length (now out) ⌝ }
+    requires { ⌜ ValidNodes ns ⌝ }
+    ensures { λ r. ⌜ TellsAny (emit (rec-in f (nodes-in ns))) w r (now (out .entry)) (now (out .exit)) ⌝ }
+{
+    if w.code != 0 {
+        return w;
+    }
+    let at = w.written;
+    let a = writer::write(out, at, f, ns);
+    after_record(w, a)
+}
+
+// ---- what several steps ask of the state
+
+pub fn is_me(st: &[u64], p: PeerId) -> bool
+    requires { ⌜ length (now st) ≡ 551 ⌝ }
+    ensures { λ r. ⌜ r ≡ is-me p (unpack (now (st .entry))) ⌝ }
+{
+    p == st[Layout::ME]
+}
+
+pub fn in_active(st: &[u64], p: PeerId) -> bool
+    requires { ⌜ length (now st) ≡ 551 ⌝ }
+    requires { ⌜ PackedState (now st) ⌝ }
+    ensures { λ r. ⌜ r ≡ in-active p (unpack (now (st .entry))) ⌝ }
+{
+    util::contains(&st[Layout::ACTIVE..Layout::ACTIVE_END], Layout::FEW, p)
+}
+
+pub fn in_passive(st: &[u64], p: PeerId) -> bool
+    requires { ⌜ length (now st) ≡ 551 ⌝ }
+    requires { ⌜ PackedState (now st) ⌝ }
+    ensures { λ r. ⌜ r ≡ in-passive p (unpack (now (st .entry))) ⌝ }
+{
+    util::contains(&st[Layout::PASSIVE..Layout::PASSIVE_END], Layout::ALL, p)
+}
+
+pub fn in_view(st: &[u64], p: PeerId) -> bool
+    requires { ⌜ length (now st) ≡ 551 ⌝ }
+    requires { ⌜ PackedState (now st) ⌝ }
+    ensures { λ r. ⌜ r ≡ in-view p (unpack (now (st .entry))) ⌝ }
+{
+    in_active(st, p) | in_passive(st, p)
+}
+
+// Whether a request to p is open.
+pub fn is_requested(st: &[u64], p: PeerId) -> bool
+    requires { ⌜ length (now st) ≡ 551 ⌝ }
+    requires { ⌜ PackedState (now st) ⌝ }
+    ensures { λ r. ⌜ r ≡ is-requested p (unpack (now (st .entry))) ⌝ }
+{
+    columns::contains_number(&st[Layout::REQUESTS..Layout::REQUESTS_END], Layout::ALL, p)
+}
+
+// Whether there is no neighbor.
+pub fn is_alone(st: &[u64]) -> bool
+    requires { ⌜ length (now st) ≡ 551 ⌝ }
+    requires { ⌜ PackedState (now st) ⌝ }
+    ensures { λ r. ⌜ r ≡ is-alone (unpack (now (st .entry))) ⌝ }
+{
+    st[Layout::ACTIVE_COUNT] == 0
+}
+
+pub fn active_is_full(st: &[u64]) -> bool
+    requires { ⌜ length (now st) ≡ 551 ⌝ }
+    requires { ⌜ PackedState (now st) ⌝ }
+    ensures { λ r. ⌜ r ≡ active-is-full (unpack (now (st .entry))) ⌝ }
+{
+    st[Layout::ACTIVE_VIEW_CAPACITY] <= st[Layout::ACTIVE_COUNT]
+}
+
+pub fn passive_is_full(st: &[u64]) -> bool
+    requires { ⌜ length (now st) ≡ 551 ⌝ }
+    requires { ⌜ PackedState (now st) ⌝ }
+    ensures { λ r. ⌜ r ≡ passive-is-full (unpack (now (st .entry))) ⌝ }
+{
+    st[Layout::PASSIVE_VIEW_CAPACITY] <= st[Layout::PASSIVE_COUNT]
+}
+
+// Too few neighbors: fewer than half of those that there is room for, rounded up.
+pub fn is_short(st: &[u64]) -> bool
+    requires { ⌜ length (now st) ≡ 551 ⌝ }
+    requires { ⌜ PackedState (now st) ⌝ }
+    ensures { λ r. ⌜ r ≡ is-short (unpack (now (st .entry))) ⌝ }
+{
+    st[Layout::ACTIVE_COUNT] < (st[Layout::ACTIVE_VIEW_CAPACITY] + 1) / 2
+}
+
+// Whether a walk ends here for want of neighbors.
+pub fn is_last_hop(st: &[u64]) -> bool
+    requires { ⌜ length (now st) ≡ 551 ⌝ }
+    requires { ⌜ PackedState (now st) ⌝ }
+    ensures { λ r. ⌜ r ≡ is-last-hop (unpack (now (st .entry))) ⌝ }
+{
+    st[Layout::ACTIVE_COUNT] <= 1
+}
+
+// ---- the open requests and the open joins of a peer
+
+// The join to p is open no more.
+pub fn drop_join(w: Work, st: &mut [u64], p: PeerId) -> Work
+    requires { ⌜ length (now st) ≡ 551 ⌝ }
+    requires { ⌜ PackedState (now st) ⌝ }
+    ensures { λ r. ⌜ Changes (on (drop-join p)) (work-of w (now (st .entry))) (work-of r (now (st .exit))) ⌝ }
+{
+    if w.code != 0 {
+        return w;
+    }
+    columns::remove_number(&mut st[Layout::JOINS..Layout::JOINS_END], Layout::FEW, p);
+    w
+}
+
+// The request to p is open no more.
+pub fn drop_request(w: Work, st: &mut [u64], p: PeerId) -> Work
+    requires { ⌜ length (now st) ≡ 551 ⌝ }
+    requires { ⌜ PackedState (now st) ⌝ }
+    ensures { λ r. ⌜ Changes (on (drop-request p)) (work-of w (now (st .entry))) (work-of r (now (st .exit))) ⌝ }
+{
+    if w.code != 0 {
+        return w;
+    }
+    columns::remove_number(
+        &mut st[Layout::REQUESTS..Layout::REQUESTS_END],
+        Layout::ALL,
+        p,
+    );
+    w
+}
+
+// Neither a join nor a request to p is open.
+pub fn drop_pending(w: Work, st: &mut [u64], p: PeerId) -> Work
+    requires { ⌜ length (now st) ≡ 551 ⌝ }
+    requires { ⌜ PackedState (now st) ⌝ }
+    ensures { λ r. ⌜ Changes (drop-pending p) (work-of w (now (st .entry))) (work-of r (now (st .exit))) ⌝ }
+{
+    let a = drop_join(w, st, p);
+    drop_request(a, st, p)
+}

@@ -1,0 +1,30 @@
+use Rattle.lists.specs.Lists.{mem}
+use Rattle.util.proofs.Sets.{lent-long, lent-mem}
+use borrow.Author.Needs.{needs}
+use Rattle.util.proofs.contains.Statement.{statement}
+use Rattle.util.proofs.contains.Tie as tie
+
+mul-n : tie.Need-mul-n
+mul-n c = search needs
+
+shared-slice-read-n : tie.Need-shared-slice-read-n
+shared-slice-read-n c = search needs
+
+slice-aggregate-contains : tie.Need-slice-aggregate-contains
+slice-aggregate-contains c = search lent-long
+
+contains-requires : tie.Need-contains-requires
+contains-requires c κs = search needs
+
+returns : tie.Need-returns
+returns c = search lent-mem
+
+pub contains-spec : {M : Type 1} → statement M
+contains-spec =
+    tie.close
+    (tie.spec
+    mul-n
+    shared-slice-read-n
+    slice-aggregate-contains
+    contains-requires
+    returns)

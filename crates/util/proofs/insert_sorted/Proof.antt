@@ -1,0 +1,91 @@
+use Rattle.util.specs.Section.{part}
+use Rattle.util.proofs.Sets.{set-inside, set-count, set-column, insert-kept, insert-fits, inserted}
+use borrow.Author.Needs.{needs}
+use borrow.Author.Needs.{needs}
+use Rattle.util.proofs.insert_sorted.Statement.{statement}
+use Rattle.util.proofs.insert_sorted.Tie as tie
+
+mul-n : tie.Need-mul-n
+mul-n c = search needs
+
+slice-read-n : tie.Need-slice-read-n
+slice-read-n c = search needs
+
+slice-reshare-prefix-find : tie.Need-slice-reshare-prefix-find
+slice-reshare-prefix-find c = search needs
+
+slice-aggregate-find : tie.Need-slice-aggregate-find
+unfolding part
+slice-aggregate-find c = search set-inside
+
+find-requires : tie.Need-find-requires
+unfolding part
+find-requires c κs = search set-count
+
+same-length : tie.Need-same-length
+same-length c = search needs
+
+returns : tie.Need-returns
+unfolding part
+returns c = search insert-kept
+
+slice-reshare-prefix-rank-of : tie.Need-slice-reshare-prefix-rank-of
+slice-reshare-prefix-rank-of c = search needs
+
+slice-aggregate-rank-of : tie.Need-slice-aggregate-rank-of
+unfolding part
+slice-aggregate-rank-of c = search set-inside
+
+rank-of-requires : tie.Need-rank-of-requires
+unfolding part
+rank-of-requires c κs = search set-count
+
+slice-relend-prefix-put-in : tie.Need-slice-relend-prefix-put-in
+slice-relend-prefix-put-in c = search needs
+
+slice-aggregate-put-in : tie.Need-slice-aggregate-put-in
+unfolding part
+slice-aggregate-put-in c = search set-inside
+
+put-in-requires : tie.Need-put-in-requires
+unfolding part
+put-in-requires c κs = (search set-column, (search insert-fits, search needs))
+
+add-s : tie.Need-add-s
+add-s c = search needs
+
+mul-s : tie.Need-mul-s
+mul-s c = search needs
+
+slice-write-s : tie.Need-slice-write-s
+slice-write-s c = search needs
+
+same-length-2 : tie.Need-same-length-2
+same-length-2 c = search needs
+
+returns-2 : tie.Need-returns-2
+unfolding part
+returns-2 c = search inserted
+
+pub insert-sorted-spec : {M : Type 1} → statement M
+insert-sorted-spec =
+    tie.close
+    (tie.spec
+    mul-n
+    slice-read-n
+    slice-reshare-prefix-find
+    slice-aggregate-find
+    find-requires
+    same-length
+    returns
+    slice-reshare-prefix-rank-of
+    slice-aggregate-rank-of
+    rank-of-requires
+    slice-relend-prefix-put-in
+    slice-aggregate-put-in
+    put-in-requires
+    add-s
+    mul-s
+    slice-write-s
+    same-length-2
+    returns-2)

@@ -1,0 +1,29 @@
+use Rattle.util.proofs.Sets.{lent-long, lent-rising}
+use borrow.Author.Needs.{needs}
+use Rattle.util.proofs.is_rising.Statement.{statement}
+use Rattle.util.proofs.is_rising.Tie as tie
+
+mul-n : tie.Need-mul-n
+mul-n c = search needs
+
+shared-slice-read-n : tie.Need-shared-slice-read-n
+shared-slice-read-n c = search needs
+
+slice-aggregate-rising : tie.Need-slice-aggregate-rising
+slice-aggregate-rising c = search lent-long
+
+rising-requires : tie.Need-rising-requires
+rising-requires c κs = search needs
+
+returns : tie.Need-returns
+returns c = search lent-rising
+
+pub is-rising-spec : {M : Type 1} → statement M
+is-rising-spec =
+    tie.close
+    (tie.spec
+    mul-n
+    shared-slice-read-n
+    slice-aggregate-rising
+    rising-requires
+    returns)

@@ -1,0 +1,37 @@
+use Rattle.util.specs.Section.{part}
+use Rattle.util.proofs.Sets.{too-many, places-inside, places-count, few}
+use borrow.Author.Needs.{needs}
+use Rattle.util.proofs.is_section.Statement.{statement}
+use Rattle.util.proofs.is_section.Tie as tie
+
+mul-n : tie.Need-mul-n
+mul-n c = search needs
+
+shared-slice-read-n : tie.Need-shared-slice-read-n
+shared-slice-read-n c = search needs
+
+returns : tie.Need-returns
+returns c = search too-many
+
+slice-aggregate-zero-from : tie.Need-slice-aggregate-zero-from
+unfolding part
+slice-aggregate-zero-from c = search places-inside
+
+zero-from-requires : tie.Need-zero-from-requires
+unfolding part
+zero-from-requires c κs = search places-count
+
+returns-2 : tie.Need-returns-2
+unfolding part
+returns-2 c = search few
+
+pub is-section-spec : {M : Type 1} → statement M
+is-section-spec =
+    tie.close
+    (tie.spec
+    mul-n
+    shared-slice-read-n
+    returns
+    slice-aggregate-zero-from
+    zero-from-requires
+    returns-2)

@@ -1,0 +1,158 @@
+-- Laws of the nodes that are written, and of the bytes that their data take.
+-- Assumes nothing.
+use Prim.Native.Nat.{ℕ, _+_, _/_, _%_, _≤_, _<_}
+use mathlib.Core.Path.{_≡_, refl, sym, ap, _∙_}
+use mathlib.Core.Bool.{true, false}
+use mathlib.Core.List.{List, [], _∷_, _++_, map, map-append}
+use mathlib.Core.Option.{some}
+use native.Mathlib.Numerals.{add-one}
+use native.Mathlib.Omega.{arith}
+use borrow.Author.Count.{below-more}
+use lib.ListN.{length, take, getD, set, length-append}
+use lib.Seq.{length-take-le, take-suc-set, getD-set-same, getD-set-other}
+use Rattle.lists.specs.Array.{pad}
+use Rattle.lists.specs.Bytes.{le}
+use Rattle.lists.proofs.Array.{length-pad, push-pad}
+use Rattle.lists.specs.Bytes.{overwrite}
+use Rattle.lists.proofs.Bytes.{overwrite-append}
+use Rattle.lists.proofs.Front.{getD-any}
+use Rattle.lists.proofs.Rest.{Rest, rest-next, rest-end}
+use Rattle.peer.specs.Data.{Data, bytes-of}
+use Rattle.peer.specs.Held.{data-in, ValidData}
+use Rattle.columns.specs.Columns.{node-in}
+use Rattle.peer.proofs.Data.{data-present, data-absent, length-bytes, bytes-in}
+use Rattle.peer.specs.declared.PeerData.{PeerData}
+use Rattle.columns.specs.declared.PeerInfo.{PeerInfo}
+use Rattle.record.specs.Format.{present, offset, entry, entries, datas}
+use Rattle.writer.specs.Nodes.{blank, nodes-in, ValidNodes, HoldsNodes}
+use Rattle.writer.specs.declared.Nodes.{Nodes}
+
+module _ (d : PeerData) (v : ValidData d) where
+  pub length-places : length (d .bytes) ≡ 16
+  length-places = ap length (v .packed) ∙ length-pad 0 16 (take (d .len) (d .bytes))
+
+  pub exact : d .len ≡ length (take (d .len) (d .bytes))
+  exact = sym (length-bytes d v)
+
+  pub length-in : length (bytes-of (data-in d)) ≡ d .len
+  length-in = ap length (bytes-in d v) ∙ length-bytes d v
+
+-- ---- a node entry
+
+pub entry-there : (p : PeerInfo) (at : ℕ) → ValidData (p .data) → p .data .present ≡ true
+    → p .id % 256 ∷ p .id / 256 % 256 ∷ p .id / 256 / 256 % 256 ∷ p .id / 256 / 256 / 256 % 256 ∷ at % 256 ∷ at / 256 % 256 ∷ p .data .len ∷ 1 ∷ []
+    ≡ entry (node-in p) at
+unfolding entry node-in data-in le offset present bytes-of
+entry-there p at v y =
+    let q : data-in (p .data) ≡ some (take (p .data .len) (p .data .bytes)) = data-present (p .data) y in
+    let z : p .data .len ≡ length (take (p .data .len) (p .data .bytes)) = sym (length-bytes (p .data) v) in
+    ap (λ (n : ℕ). p .id % 256 ∷ p .id / 256 % 256 ∷ p .id / 256 / 256 % 256 ∷ p .id / 256 / 256 / 256 % 256 ∷ at % 256 ∷ at / 256 % 256 ∷ n ∷ 1 ∷ []) z
+    ∙ ap (λ (x : Data). entry (record { id = p .id; data-of = x }) at) (sym q)
+
+pub entry-absent : (p : PeerInfo) (at : ℕ) → p .data .present ≡ false
+    → p .id % 256 ∷ p .id / 256 % 256 ∷ p .id / 256 / 256 % 256 ∷ p .id / 256 / 256 / 256 % 256 ∷ 0 ∷ 0 ∷ 0 ∷ 0 ∷ [] ≡ entry (node-in p) at
+unfolding entry node-in data-in le offset present bytes-of
+entry-absent p at n =
+    ap (λ (x : Data). entry (record { id = p .id; data-of = x }) at) (sym (data-absent (p .data) n))
+
+-- ---- the lengths of the data, added up
+
+abbrev pub sum : ℕ → List PeerInfo → ℕ
+sum k l = k + length (datas (map node-in l))
+
+pub sum-next : (k : ℕ) (p : PeerInfo) (l : List PeerInfo) → ValidData (p .data) → sum k (p ∷ l) ≡ sum (k + p .data .len) l
+unfolding datas node-in
+sum-next k p l v = omega (arith, length-append (bytes-of (data-in (p .data))) (datas (map node-in l)), length-in (p .data) v)
+
+-- ---- nodes as they are gathered
+
+-- what a read past the end would give
+abbrev pub missing : PeerInfo
+missing = record { id = 0; «data» = record { present = false; len = 0; bytes = [] } }
+
+module _ (l : List PeerInfo) (n : ℕ) (p : PeerInfo) (h : n < 32) (e : l ≡ pad blank 32 (take n l)) where
+  long : length l ≡ 32
+  long = ap length e ∙ length-pad blank 32 (take n l)
+
+  first : length (take n l) ≡ n
+  first = length-take-le n l (omega (arith, long))
+
+  taken : take (n + 1) (set l n p) ≡ take n l ++ (p ∷ [])
+  taken = rw (add-one n) (take-suc-set l n p (omega (arith, long)))
+
+  stored : set l n p ≡ pad blank 32 (take (n + 1) (set l n p))
+  stored =
+      ap (λ (k : List PeerInfo). set k n p) e
+      ∙ ap (λ (m : ℕ). set (pad blank 32 (take n l)) m p) (sym first)
+      ∙ push-pad blank 32 (take n l) p (omega (arith, first))
+      ∙ ap (pad blank 32) (sym taken)
+
+pub pushed : (s : Nodes) (p : PeerInfo) → ValidNodes s → s .len < 32 → ValidData (p .data)
+    → HoldsNodes (record { items = set (s .items) (s .len) p; len = s .len + 1 }) (nodes-in s ++ (node-in p ∷ []))
+unfolding nodes-in
+pushed s p v h w = record {
+  valid = record {
+    fits = omega arith;
+    packed = stored (s .items) (s .len) p h (v .packed);
+    valid =
+        below-more (λ (i : ℕ). ValidData (getD (set (s .items) (s .len) p) i blank .data)) (s .len)
+        (λ i k. rw (getD-set-other (s .items) (s .len) i p blank (omega arith)) (v .valid i k))
+        (rw (getD-set-same (s .items) (s .len) p blank (omega (arith, long (s .items) (s .len) p h (v .packed)))) w);
+  };
+  holds = ap (map node-in) (taken (s .items) (s .len) p h (v .packed)) ∙ map-append node-in (take (s .len) (s .items)) (p ∷ []);
+}
+
+-- ---- a walk over the nodes
+
+pub long-items : (s : Nodes) → ValidNodes s → length (s .items) ≡ 32
+long-items s v = ap length (v .packed) ∙ length-pad blank 32 (take (s .len) (s .items))
+
+-- the nodes from place i on are to come, and all of them are valid
+pub record Walk {X Y : Type 0} (F : X → List PeerInfo → Y) (items : List PeerInfo) (n : ℕ) (whole : Y) (x : X) (i : ℕ) : Type 0 where
+  pub valid : ValidNodes (record { items = items; len = n })
+  pub rest : Rest F 32 items n whole x i
+
+pub walk-start : {X Y : Type 0} (F : X → List PeerInfo → Y) (s : Nodes) (x : X) → ValidNodes s → Walk F (s .items) (s .len) (F x (take (s .len) (s .items))) x 0
+walk-start F s x v = record { valid = v; rest = record { low = omega arith; top = v .fits; long = long-items s v; same = refl } }
+
+module _ {X Y : Type 0} (F : X → List PeerInfo → Y) {items : List PeerInfo} {n : ℕ} {whole : Y} {x : X} {i : ℕ} (v : Walk F items n whole x i) where
+  pub walk-valid : i < n → ValidData (getD items i missing .data)
+  walk-valid h = rw (getD-any items i missing blank (omega (arith, v .rest .top, v .rest .long))) (v .valid .valid i h)
+
+  pub walk-next : (x′ : X) → i < n → ((l : List PeerInfo) → F x (getD items i missing ∷ l) ≡ F x′ l) → Walk F items n whole x′ (i + 1)
+  walk-next x′ h e = record { valid = v .valid; rest = rest-next missing F (v .rest) x′ h e }
+
+  pub walk-end : n ≤ i → whole ≡ F x []
+  walk-end h = rest-end missing F (v .rest) h
+
+-- ---- entries and data, stored one after the other
+
+-- the bytes so far, the place of the next entry, and the place that the data have reached
+pub record Spot : Type 0 where
+  pub bytes : List ℕ
+  pub at : ℕ
+  pub reached : ℕ
+
+abbrev pub with-entries : Spot → List PeerInfo → List ℕ
+with-entries x l = overwrite (x .bytes) (x .at) (entries (map node-in l) (x .reached))
+
+entry-then : (out : List ℕ) (at reached : ℕ) (p : PeerInfo) (l : List PeerInfo) → ValidData (p .data)
+    → overwrite out at (entries (map node-in (p ∷ l)) reached)
+    ≡ overwrite (overwrite out at (entry (node-in p) reached)) (at + 8) (entries (map node-in l) (reached + p .data .len))
+unfolding entries node-in entry le
+entry-then out at reached p l v =
+    sym (overwrite-append out at (entry (node-in p) reached) (entries (map node-in l) (reached + length (bytes-of (data-in (p .data))))))
+    ∙ ap (λ (m : ℕ). overwrite (overwrite out at (entry (node-in p) reached)) (at + 8) (entries (map node-in l) (reached + m))) (length-in (p .data) v)
+
+pub entry-next : (out o a : List ℕ) (at at′ reached : ℕ) (p : PeerInfo) (l : List PeerInfo) → ValidData (p .data) → a ≡ entry (node-in p) reached → o ≡ overwrite out at a → at′ ≡ at + 8
+    → overwrite out at (entries (map node-in (p ∷ l)) reached) ≡ overwrite o at′ (entries (map node-in l) (reached + p .data .len))
+entry-next out o a at at′ reached p l v q e k = entry-then out at reached p l v ∙ rw (e, q, k)
+
+abbrev pub with-data : Spot → List PeerInfo → List ℕ
+with-data x l = overwrite (x .bytes) (x .at) (datas (map node-in l))
+
+pub data-next : (out o : List ℕ) (at : ℕ) (p : PeerInfo) (l : List PeerInfo) → ValidData (p .data) → o ≡ overwrite out at (take (p .data .len) (p .data .bytes))
+    → overwrite out at (datas (map node-in (p ∷ l))) ≡ overwrite o (at + p .data .len) (datas (map node-in l))
+unfolding datas node-in
+data-next out o at p l v e =
+    rw (bytes-in (p .data) v, ← overwrite-append out at (take (p .data .len) (p .data .bytes)) (datas (map node-in l)), length-bytes (p .data) v, e)

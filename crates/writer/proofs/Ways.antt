@@ -1,0 +1,106 @@
+-- Laws of what the writers do, in each of the ways through them.
+-- Assumes nothing.
+use Prim.Native.Nat.{ℕ, _+_, _*_, _-_, _≤_, _<_}
+use mathlib.Core.Path.{_≡_, refl, sym, ap, _∙_}
+use mathlib.Core.List.{List, [], _∷_, _++_, append-nil}
+use native.Mathlib.Omega.{arith}
+use borrow.Author.Tests.{le-leb, lt-leb}
+use lib.ListN.{length, take, length-map, length-append}
+use lib.Seq.{length-take-le}
+use Rattle.lists.specs.Lists.{choose}
+use Rattle.lists.specs.Bytes.{le, overwrite}
+use Rattle.lists.proofs.Bytes.{then}
+use Rattle.peer.specs.Data.{Node, bytes-of}
+use Rattle.peer.specs.Held.{data-in, ValidData}
+use Rattle.columns.specs.Columns.{node-in}
+use Rattle.columns.specs.declared.PeerInfo.{PeerInfo}
+use Rattle.peer.proofs.Data.{bytes-in}
+use Rattle.record.specs.Format.{Rec, entry, entries, datas, size, header, encode}
+use Rattle.record.proofs.Format.{length-entries, length-header}
+use Rattle.writer.specs.Nodes.{nodes-in, ValidNodes}
+use Rattle.writer.specs.Write.{rec-in, header-bytes, fits, written, reached, Wrote}
+use Rattle.writer.specs.declared.Nodes.{Nodes}
+use Rattle.writer.specs.declared.Fields.{Fields}
+use Rattle.writer.specs.declared.Written.the-variants.{At, Full}
+use Rattle.writer.proofs.Laws.{long-items, length-in}
+
+module _ (e : Rec) (at : ℕ) (out : List ℕ) where
+  full : length out < at + size e → Wrote e at out Full out
+  unfolding reached written fits choose
+  full h = record { answer = rw (lt-leb _ _ h); bytes = rw (lt-leb _ _ h) }
+
+  stored : (o : List ℕ) → at + size e ≤ length out → o ≡ overwrite out at (encode e) → Wrote e at out (At (at + size e)) o
+  unfolding reached written fits choose
+  stored o h q = record { answer = rw (le-leb _ _ h); bytes = q ∙ rw (le-leb _ _ h) }
+
+  -- header, entries and data, stored one after the other
+  in-turn : (o₁ o₂ o₃ : List ℕ) (n : ℕ) → n ≡ length (e .nodes) → o₃ ≡ overwrite o₂ (at + 24 + 8 * n) (datas (e .nodes)) → o₂ ≡ overwrite o₁ (at + 24) (entries (e .nodes) (24 + 8 * n))
+      → o₁ ≡ overwrite out at (header e) → o₃ ≡ overwrite out at (encode e)
+  unfolding encode
+  in-turn o₁ o₂ o₃ n k r q p =
+      let s : List ℕ = entries (e .nodes) (24 + 8 * length (e .nodes)) in
+      let z : length s ≡ 8 * length (e .nodes) = length-entries (e .nodes) (24 + 8 * length (e .nodes)) in
+      let q′ : o₂ ≡ overwrite o₁ (at + 24) s = q ∙ rw k in
+      then out at (header e) (s ++ datas (e .nodes)) p
+      (then o₁ (at + 24) s (datas (e .nodes)) q′ r (omega (arith, z, k)))
+      (omega (arith, length-header e))
+
+pub length-nodes : (s : Nodes) → ValidNodes s → length (nodes-in s) ≡ s .len
+unfolding nodes-in
+length-nodes s v = length-map (take (s .len) (s .items)) node-in ∙ length-take-le (s .len) (s .items) (omega (arith, v .fits, long-items s v))
+
+-- a record of n nodes and z bytes
+module _ (f : Fields) (ns : List Node) (n z at : ℕ) (out : List ℕ) (p : n ≡ length ns) (k : z ≡ 24 + (8 * n + length (datas ns))) where
+  size-is : size (rec-in f ns) ≡ z
+  unfolding size rec-in
+  size-is = omega (arith, k, p)
+
+  pub no-room : (r : ℕ) → r ≡ length out - at → r < z → Wrote (rec-in f ns) at out Full out
+  no-room r e h = full (rec-in f ns) at out (omega (arith, size-is))
+
+  header-is : header-bytes f n z ≡ header (rec-in f ns)
+  unfolding header-bytes header rec-in size
+  header-is =
+      let q : z ≡ 24 + (8 * length ns + length (datas ns)) = omega (arith, k, p) in
+      λ i. f .kind ∷ f .message ∷ f .flags ∷ p i ∷ (le 4 (f .peer) ++ (le 4 (f .second) ++ (le 2 (f .ttl) ++ (le 2 (q i) ++ le 8 (f .number)))))
+
+  pub done : (o₁ o₂ o₃ : List ℕ) (r : ℕ) → r ≡ length out - at → z ≤ r → o₃ ≡ overwrite o₂ (at + 24 + 8 * n) (datas ns)
+      → o₂ ≡ overwrite o₁ (at + 24) (entries ns (24 + 8 * n)) → o₁ ≡ overwrite out at (header-bytes f n z) → Wrote (rec-in f ns) at out (At (at + z)) o₃
+  unfolding rec-in
+  done o₁ o₂ o₃ r l h w q e =
+      rw (← size-is)
+      (stored (rec-in f ns) at out o₃ (omega (arith, size-is, k))
+      (in-turn (rec-in f ns) at out o₁ o₂ o₃ n p w q (e ∙ ap (overwrite out at) header-is)))
+
+-- ---- the records of no node and of one
+
+module _ (f : Fields) (at : ℕ) (out : List ℕ) (r : ℕ) (l : r ≡ length out - at) where
+  pub no-room-bare : r < 24 → Wrote (rec-in f []) at out Full out
+  unfolding datas
+  no-room-bare h = no-room f [] 0 24 at out refl refl r l h
+
+  pub done-bare : (o : List ℕ) → 24 ≤ r → o ≡ overwrite out at (header-bytes f 0 24) → Wrote (rec-in f []) at out (At (at + 24)) o
+  unfolding datas entries overwrite
+  done-bare o h e = done f [] 0 24 at out refl refl o o o r l h refl refl e
+
+module _ (f : Fields) (p : PeerInfo) (v : ValidData (p .data)) where
+  abbrev one : List Node
+  one = node-in p ∷ []
+
+  size-one : 32 + p .data .len ≡ 24 + (8 * 1 + length (datas one))
+  unfolding datas node-in
+  size-one = omega (arith, length-append (bytes-of (data-in (p .data))) [], length-in (p .data) v)
+
+  pub no-room-one : (at : ℕ) (out : List ℕ) (r : ℕ) → r ≡ length out - at → r < 32 + p .data .len → Wrote (rec-in f one) at out Full out
+  no-room-one at out r l h = no-room f one 1 (32 + p .data .len) at out refl size-one r l h
+
+  pub done-one : (at : ℕ) (out : List ℕ) (r : ℕ) → r ≡ length out - at → 32 + p .data .len ≤ r → (o₁ o₂ o₃ a : List ℕ) → o₃ ≡ overwrite o₂ (at + 32) (take (p .data .len) (p .data .bytes))
+      → o₂ ≡ overwrite o₁ (at + 24) a → a ≡ entry (node-in p) 32 → o₁ ≡ overwrite out at (header-bytes f 1 (32 + p .data .len))
+      → Wrote (rec-in f one) at out (At (at + (32 + p .data .len))) o₃
+  unfolding datas entries node-in
+  done-one at out r l h o₁ o₂ o₃ a s q w e =
+      let m : at + 24 + 8 * 1 ≡ at + 32 = omega arith in
+      done f one 1 (32 + p .data .len) at out refl size-one o₁ o₂ o₃ r l h
+      (s ∙ rw (m, bytes-in (p .data) v, append-nil (take (p .data .len) (p .data .bytes))))
+      (q ∙ ap (overwrite o₁ (at + 24)) (w ∙ sym (append-nil (entry (node-in p) 32))))
+      e

@@ -1,0 +1,90 @@
+use native.Mathlib.Omega.{arith}
+use borrow.Author.Needs.{needs}
+use Rattle.writer.proofs.Laws.{length-places, exact}
+use Rattle.writer.proofs.Ways.{no-room-one, done-one}
+use Rattle.writer.proofs.write_one.Statement.{statement}
+use Rattle.writer.proofs.write_one.Tie as tie
+
+cast-n : tie.Need-cast-n
+cast-n c = search needs
+
+add-whole : tie.Need-add-whole
+add-whole c = search needs
+
+left-requires : tie.Need-left-requires
+left-requires c κs = search needs
+
+returns : tie.Need-returns
+returns c = search no-room-one
+
+cast-put-header : tie.Need-cast-put-header
+cast-put-header c = search needs
+
+put-header-requires : tie.Need-put-header-requires
+put-header-requires c κs = search needs
+
+entry-array-requires : tie.Need-entry-array-requires
+entry-array-requires c κs = search needs
+
+add-put-bytes : tie.Need-add-put-bytes
+add-put-bytes c = search needs
+
+slice-aggregate-put-bytes : tie.Need-slice-aggregate-put-bytes
+slice-aggregate-put-bytes c = search needs
+
+put-bytes-requires : tie.Need-put-bytes-requires
+put-bytes-requires c κs = search needs
+
+add-put-bytes-2 : tie.Need-add-put-bytes-2
+add-put-bytes-2 c = search needs
+
+array-share-prefix-bytes : tie.Need-array-share-prefix-bytes
+array-share-prefix-bytes c = search (length-places, needs)
+
+slice-aggregate-put-bytes-2 : tie.Need-slice-aggregate-put-bytes-2
+slice-aggregate-put-bytes-2 c = search exact
+
+put-bytes-requires-2 : tie.Need-put-bytes-requires-2
+put-bytes-requires-2 c κs =
+    let b = c .before .before .before .before .before in
+    let h = b .before .before .before .before .before .before in
+    let t = h .before .before in
+    omega (arith, exact _ (t .before .before .before .before .before .pre), t .before .left .ensures, t .if1 .left, h .put-header .kept .0, b .put-bytes .kept .0)
+
+add-t10 : tie.Need-add-t10
+add-t10 c = search needs
+
+same-length : tie.Need-same-length
+same-length c = search needs
+
+returns-2 : tie.Need-returns-2
+returns-2 c =
+    let d = c .before .before in
+    let e = d .before .before .before .before .before .before in
+    let a = e .before .before .before in
+    let h = a .before .before .before in
+    let t = h .before .before in
+    done-one _ _ (t .before .before .before .before .before .pre) _ _ _ (t .before .left .ensures) (t .if1 .left) _ _ _ _
+    (d .put-bytes2 .ensures) (e .put-bytes .ensures) (a .entry-array .ensures) (h .put-header .ensures)
+
+pub write-one-spec : {M : Type 1} → statement M
+write-one-spec =
+    tie.close
+    (tie.spec
+    cast-n
+    add-whole
+    left-requires
+    returns
+    cast-put-header
+    put-header-requires
+    entry-array-requires
+    add-put-bytes
+    slice-aggregate-put-bytes
+    put-bytes-requires
+    add-put-bytes-2
+    array-share-prefix-bytes
+    slice-aggregate-put-bytes-2
+    put-bytes-requires-2
+    add-t10
+    same-length
+    returns-2)

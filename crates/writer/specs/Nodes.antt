@@ -1,0 +1,30 @@
+-- The nodes that a record is written with: at most 32 peers with their data, unused places blank.
+-- Assumes nothing.
+use Prim.Native.Nat.{ℕ, _≤_, _<_}
+use mathlib.Core.Path.{_≡_}
+use mathlib.Core.Bool.{false}
+use mathlib.Core.List.{List, map}
+use lib.ListN.{take, getD, replicate}
+use Rattle.lists.specs.Array.{pad}
+use Rattle.peer.specs.Data.{Node}
+use Rattle.peer.specs.Held.{ValidData}
+use Rattle.columns.specs.declared.PeerInfo.{PeerInfo}
+use Rattle.columns.specs.Columns.{node-in}
+use Rattle.writer.specs.declared.Nodes.{Nodes}
+
+-- an unused place
+abbrev pub blank : PeerInfo
+blank = record { id = 0; «data» = record { present = false; len = 0; bytes = replicate 16 0 } }
+
+unfoldable pub nodes-in : Nodes → List Node
+nodes-in s = map node-in (take (s .len) (s .items))
+
+pub record ValidNodes (s : Nodes) : Type 0 where
+  pub fits : s .len ≤ 32
+  pub packed : s .items ≡ pad blank 32 (take (s .len) (s .items))
+  pub valid : (i : ℕ) → i < s .len → ValidData (getD (s .items) i blank .data)
+
+-- s is valid and stands for the nodes ns, which determine s
+pub record HoldsNodes (s : Nodes) (ns : List Node) : Type 0 where
+  pub valid : ValidNodes s
+  pub holds : nodes-in s ≡ ns

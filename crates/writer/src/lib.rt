@@ -1,0 +1,274 @@
+// Part 3 of document 01: the writers of records, from peers of 64 bits, of which a record carries the four low bytes.
+use columns::PeerInfo;
+use peer::PeerData;
+use util::PeerId;
+ghost use mathlib.Core.Path.{_≡_};
+ghost use mathlib.Core.List.{List, [], _∷_, _++_};
+ghost use Prim.Native.Nat.{_+_, _*_, _-_, _≤_, _<_};
+ghost use lib.ListN.{length};
+ghost use Rattle.lists.specs.Bytes.{overwrite};
+ghost use Rattle.columns.specs.Columns.{node-in};
+ghost use Rattle.peer.specs.Held.{ValidData};
+ghost use Rattle.record.specs.Format.{entry, entries, datas};
+ghost use Rattle.writer.specs.Nodes.{nodes-in, ValidNodes, HoldsNodes};
+ghost use Rattle.writer.specs.Write.{rec-in, header-bytes, Wrote};
+
+// A record's fields but its nodes; their number and the whole length follow from the nodes.
+pub struct Fields {
+    pub kind: u8,
+    pub message: u8,
+    pub flags: u8,
+    pub peer: PeerId,
+    pub second: u64,
+    pub ttl: u16,
+    pub number: u64,
+}
+
+// The nodes of a record to be written.
+pub struct Nodes {
+    pub items: [PeerInfo; 32],
+    pub len: usize,
+}
+
+// The place reached, or that the record does not fit.
+pub enum Written {
+    At(usize),
+    Full,
+}
+
+impl Nodes {
+    pub fn new() -> Nodes
+        ensures { λ r. ⌜ HoldsNodes r [] ⌝ }
+    {
+        let data = PeerData {
+            present: false,
+            len: 0,
+            bytes: [0u8; 16],
+        };
+        let blank = PeerInfo { id: 0, data: data };
+        Nodes {
+            items: [blank; 32],
+            len: 0,
+        }
+    }
+
+    // One more node, at the end.
+    pub fn push(self, n: PeerInfo) -> Nodes
+        requires { ⌜ ValidNodes self ⌝ }
+        requires { ⌜ self .len < 32 ⌝ }
+        requires { ⌜ ValidData (n .data) ⌝ }
+        ensures { λ r. ⌜ HoldsNodes r (nodes-in self ++ (node-in n ∷ [])) ⌝ }
+    {
+        let mut s = self;
+        let at = s.len;
+        s.items[at] = n;
+        s.len = at + 1;
+        s
+    }
+
+    // The whole length of a record with these nodes: at most 792, which two bytes hold.
+    fn size(self) -> usize
+        requires { ⌜ ValidNodes self ⌝ }
+        ensures { λ r. ⌜ (r ≡ 24 + (8 * self .len + length (datas (nodes-in self)))) × (r ≤ 792) ⌝ }
+    {
+        let n = self.len;
+        let items = self.items;
+        let mut total = 24 + 8 * n;
+        let mut i: usize = 0;
+        while i < n {
+            let p = items[i];
+            let d = p.data;
+            total += d.len as usize;
+            i += 1;
+        }
+        total
+    }
+}
+
+// The bytes bs, from place `at` on.
+fn put_bytes(out: &mut [u8], at: usize, bs: &[u8])
+    requires { ⌜ at + length (now bs) ≤ length (now out) ⌝ }
+    ensures { λ _. ⌜ now (out .exit) ≡ overwrite (now (out .entry)) at (now (bs .entry)) ⌝ }
+{
+    let mut i: usize = 0;
+    while i < bs.len() {
+        out[at + i] = bs[i];
+        i += 1;
+    }
+}
+
+// The header of a record of so many nodes and so many bytes.
+fn header_array(f: Fields, nodes: u8, size: u16) -> [u8; 24]
+    ensures { λ r. ⌜ r ≡ header-bytes f nodes size ⌝ }
+{
+    let p = f.peer;
+    let s = f.second;
+    let t = f.ttl;
+    let z = size;
+    let n = f.number;
+    [
+        f.kind,
+        f.message,
+        f.flags,
+        nodes,
+        (p % 256) as u8,
+        (p / 256 % 256) as u8,
+        (p / 256 / 256 % 256) as u8,
+        (p / 256 / 256 / 256 % 256) as u8,
+        (s % 256) as u8,
+        (s / 256 % 256) as u8,
+        (s / 256 / 256 % 256) as u8,
+        (s / 256 / 256 / 256 % 256) as u8,
+        (t % 256) as u8,
+        (t / 256 % 256) as u8,
+        (z % 256) as u8,
+        (z / 256 % 256) as u8,
+        (n % 256) as u8,
+        (n / 256 % 256) as u8,
+        (n / 256 / 256 % 256) as u8,
+        (n / 256 / 256 / 256 % 256) as u8,
+        (n / 256 / 256 / 256 / 256 % 256) as u8,
+        (n / 256 / 256 / 256 / 256 / 256 % 256) as u8,
+        (n / 256 / 256 / 256 / 256 / 256 / 256 % 256) as u8,
+        (n / 256 / 256 / 256 / 256 / 256 / 256 / 256 % 256) as u8,
+    ]
+}
+
+// A node entry, whose data stand at the place reached.
+fn entry_array(p: PeerInfo, reached: usize) -> [u8; 8]
+    requires { ⌜ ValidData (p .data) ⌝ }
+    ensures { λ r. ⌜ r ≡ entry (node-in p) reached ⌝ }
+{
+    let d = p.data;
+    let id = p.id;
+    let id1 = id / 256;
+    let id2 = id1 / 256;
+    let id3 = id2 / 256;
+    if d.present {
+        return [
+            (id % 256) as u8,
+            (id1 % 256) as u8,
+            (id2 % 256) as u8,
+            (id3 % 256) as u8,
+            (reached % 256) as u8,
+            (reached / 256 % 256) as u8,
+            d.len,
+            1,
+        ];
+    }
+    [
+        (id % 256) as u8,
+        (id1 % 256) as u8,
+        (id2 % 256) as u8,
+        (id3 % 256) as u8,
+        0,
+        0,
+        0,
+        0,
+    ]
+}
+
+fn put_entries(out: &mut [u8], at: usize, ns: Nodes)
+    requires { ⌜ ValidNodes ns ⌝ }
+    requires { ⌜ at + 8 * ns .len ≤ length (now out) ⌝ }
+    ensures { λ _. ⌜ now (out .exit) ≡ overwrite (now (out .entry)) at (entries (nodes-in ns) (24 + 8 * ns .len)) ⌝ }
+{
+    let n = ns.len;
+    let items = ns.items;
+    let mut reached = 24 + 8 * n;
+    let mut i: usize = 0;
+    while i < n {
+        let p = items[i];
+        let a = entry_array(p, reached);
+        put_bytes(out, at + 8 * i, &a);
+        let d = p.data;
+        reached += d.len as usize;
+        i += 1;
+    }
+}
+
+// The nodes' data, one after the other.
+fn put_data(out: &mut [u8], at: usize, ns: Nodes)
+    requires { ⌜ ValidNodes ns ⌝ }
+    requires { ⌜ at + length (datas (nodes-in ns)) ≤ length (now out) ⌝ }
+    ensures { λ _. ⌜ now (out .exit) ≡ overwrite (now (out .entry)) at (datas (nodes-in ns)) ⌝ }
+{
+    let n = ns.len;
+    let items = ns.items;
+    let mut k = at;
+    let mut i: usize = 0;
+    while i < n {
+        let p = items[i];
+        let d = p.data;
+        let m = d.len as usize;
+        let bytes = d.bytes;
+        put_bytes(out, k, &bytes[..m]);
+        k += m;
+        i += 1;
+    }
+}
+
+// How many bytes are left from place `at` on: none where it is past the end.
+fn left(len: usize, at: usize) -> usize
+    ensures { λ r. ⌜ r ≡ len - at ⌝ }
+{
+    if len < at {
+        return 0;
+    }
+    len - at
+}
+
+// The same, from place `at` on.
+fn put_header(out: &mut [u8], at: usize, f: Fields, nodes: u8, size: u16)
+    requires { ⌜ at + 24 ≤ length (now out) ⌝ }
+    ensures { λ _. ⌜ now (out .exit) ≡ overwrite (now (out .entry)) at (header-bytes f nodes size) ⌝ }
+{
+    let a = header_array(f, nodes, size);
+    put_bytes(out, at, &a);
+}
+
+// The record from place `at` on; nothing is touched where it does not fit.
+pub fn write(out: &mut [u8], at: usize, f: Fields, ns: Nodes) -> Written
+    requires { ⌜ ValidNodes ns ⌝ }
+    ensures { λ r. ⌜ Wrote (rec-in f (nodes-in ns)) at (now (out .entry)) r (now (out .exit)) ⌝ }
+{
+    let n = ns.len;
+    let size = ns.size();
+    if left(out.len(), at) < size {
+        return Written::Full;
+    }
+    put_header(out, at, f, n as u8, size as u16);
+    put_entries(out, at + 24, ns);
+    put_data(out, at + 24 + 8 * n, ns);
+    Written::At(at + size)
+}
+
+// A record without nodes.
+pub fn write_bare(out: &mut [u8], at: usize, f: Fields) -> Written
+    ensures { λ r. ⌜ Wrote (rec-in f []) at (now (out .entry)) r (now (out .exit)) ⌝ }
+{
+    if left(out.len(), at) < 24 {
+        return Written::Full;
+    }
+    put_header(out, at, f, 0, 24);
+    Written::At(at + 24)
+}
+
+// A record with one node.
+pub fn write_one(out: &mut [u8], at: usize, f: Fields, p: PeerInfo) -> Written
+    requires { ⌜ ValidData (p .data) ⌝ }
+    ensures { λ r. ⌜ Wrote (rec-in f (node-in p ∷ [])) at (now (out .entry)) r (now (out .exit)) ⌝ }
+{
+    let d = p.data;
+    let n = d.len as usize;
+    let whole = 32 + n;
+    if left(out.len(), at) < whole {
+        return Written::Full;
+    }
+    put_header(out, at, f, 1, whole as u16);
+    let a = entry_array(p, 32);
+    put_bytes(out, at + 24, &a);
+    let bytes = d.bytes;
+    put_bytes(out, at + 32, &bytes[..n]);
+    Written::At(at + whole)
+}
