@@ -54,7 +54,7 @@ use Rattle.hyparview.proofs.Done as D
 use Rattle.hyparview.proofs.Done.Laws as D′
 use Rattle.hyparview.proofs.handle as core
 use Rattle.hyparview.proofs.handle.Symbol as core-def
-use Rattle.hyparview.proofs.handle.Symbol.{name as #hyparview-words·handle}
+use Rattle.hyparview.proofs.handle.Symbol.{name as #hyparview·handle}
 use Rattle.hyparview.proofs.handle.Met as core-thm
 use Rattle.controller.specs.Calls.{Called, called}
 use Rattle.controller.proofs.Laws.{called-by}
@@ -264,7 +264,7 @@ module _ {M : Type 1} (𝓤 : URA M) (H : Heap 𝓤) (A : Atoms 𝓤) (W : Given
       nothing ! $ move ! (5 ∷ 0 ∷ []) $ fjoin ! $ move ! (2 ∷ 0 ∷ []) $ fjoin ! $ move ! (1 ∷ 0 ∷ []) $ fjoin ! $ move ! (2 ∷ 0 ∷ []) $ fjoin ! $ move ! (1 ∷ 0 ∷ []) $ fjoin ! $ frame ! $
       owned ! D.the-row (Is D.the-row) ((LL.makes D.the-type D′.the-plain) 𝓤 H A) r _ is $ done !
 
-  module _ (C : Calls 𝓤 H) (Λ : Loops 𝓤 H) (fm : FmC 𝓤 H (W .laws) C) (known : Triple 𝓤 (C #hyparview-words·handle) (Handle 𝓤 H A at-mem run)) (raises : Triple 𝓤 (C #tally·raise) (Raise 𝓤 H A at-mem run)) where
+  module _ (C : Calls 𝓤 H) (Λ : Loops 𝓤 H) (fm : FmC 𝓤 H (W .laws) C) (known : Triple 𝓤 (C #hyparview·handle) (Handle 𝓤 H A at-mem run)) (raises : Triple 𝓤 (C #tally·raise) (Raise 𝓤 H A at-mem run)) where
     walk : Is (MutSlice (named 0) κs u64) s (vs ∷ []) → Is (ShrSlice (named 2) κe u8) e (ve ∷ []) → Is (ShrSlice (named 3) κd u32) d (vd ∷ []) → Is (MutSlice (named 4) κo u8) (w γo ys) (vo ∷ [])
         → ent 𝓤 (onEntry 𝓤 H A f.signature (κs, (κt, (κe, (κd, (κo, tt))))) (qs, (qt, (qe, (qd, (qo, tt))))) x at) (WpFn 𝓤 H C Λ code.function (vs ∷ vptr b o ∷ ve ∷ vd ∷ vo ∷ []) Post)
     walk ps pe pd po =
@@ -308,7 +308,7 @@ module _ {M : Type 1} (𝓤 : URA M) (H : Heap 𝓤) (A : Atoms 𝓤) (W : Given
         by ! (id⊢ 𝓤 (Post (LL.val D.the-type D′.the-laws r)))))))))))))))))))))))))))))
 
 module _ {M : Type 1} (𝓤 : URA M) (H : Heap 𝓤) (A : Atoms 𝓤) (W : Given 𝓤 H A) (at-mem : Memory → SProp 𝓤) (run : Routine → Fun 𝓤) where
-  handle-walks : (C : Calls 𝓤 H) (Λ : Loops 𝓤 H) → FmC 𝓤 H (W .laws) C → Triple 𝓤 (C #hyparview-words·handle) (Handle 𝓤 H A at-mem run) → Triple 𝓤 (C #tally·raise) (Raise 𝓤 H A at-mem run) → Walks 𝓤 H A f.ended stayed (WpFn 𝓤 H C Λ code.function) (f.clauses 𝓤 H A at-mem run)
+  handle-walks : (C : Calls 𝓤 H) (Λ : Loops 𝓤 H) → FmC 𝓤 H (W .laws) C → Triple 𝓤 (C #hyparview·handle) (Handle 𝓤 H A at-mem run) → Triple 𝓤 (C #tally·raise) (Raise 𝓤 H A at-mem run) → Walks 𝓤 H A f.ended stayed (WpFn 𝓤 H C Λ code.function) (f.clauses 𝓤 H A at-mem run)
   handle-walks C Λ fm known raises =
       walked 𝓤 H A f.ended stayed (f.clauses 𝓤 H A at-mem run) (WpFn 𝓤 H C Λ code.function) (λ κs. (slice-vals, (ptr-vals, (slice-vals, (slice-vals, (slice-vals, tt))))))
       (λ κs. (mut-slice-tells (named 0) (κs .0) u64, (mut-tells (named 1) (κs .1 .0) T.the-row, (shr-slice-tells (named 2) (κs .1 .1 .0) u8, (shr-slice-tells (named 3) (κs .1 .1 .1 .0) u32, (mut-slice-tells (named 4) (κs .1 .1 .1 .1 .0) u8, tt))))))
@@ -318,7 +318,7 @@ module _ {M : Type 1} (𝓤 : URA M) (H : Heap 𝓤) (A : Atoms 𝓤) (W : Given
   goes : AllGo 𝓤 H A W 5 (f.signature .params) (f.ended .kept) stayed
   goes = (goes-gave-slice 𝓤 H A W 5 0 tt (plain (λ _. u64)), (goes-gave-ref 𝓤 H A W 5 1 tt (plain (λ _. T.the-row)), (goes-none-slice 𝓤 H A W 5 (2 ∷ []) tt (plain (λ _. u8)) yes, (goes-none-slice 𝓤 H A W 5 (3 ∷ []) tt (plain (λ _. u32)) yes, (goes-gave-slice 𝓤 H A W 5 4 tt (plain (λ _. u8)), tt)))))
 
-handle-meets : {M : Type 1} (𝓤 : URA M) (H : Heap 𝓤) (A : Atoms 𝓤) → Given 𝓤 H A → (at-mem : Memory → SProp 𝓤) (run : Routine → Fun 𝓤) (𝓣 : Tables 𝓤 H) → Triple 𝓤 (𝓣 .C #hyparview-words·handle) (Handle 𝓤 H A at-mem run) → Triple 𝓤 (𝓣 .C #tally·raise) (Raise 𝓤 H A at-mem run)
+handle-meets : {M : Type 1} (𝓤 : URA M) (H : Heap 𝓤) (A : Atoms 𝓤) → Given 𝓤 H A → (at-mem : Memory → SProp 𝓤) (run : Routine → Fun 𝓤) (𝓣 : Tables 𝓤 H) → Triple 𝓤 (𝓣 .C #hyparview·handle) (Handle 𝓤 H A at-mem run) → Triple 𝓤 (𝓣 .C #tally·raise) (Raise 𝓤 H A at-mem run)
     → Meets 𝓤 H A f.signature (WpFn 𝓤 H (𝓣 .C) (𝓣 .Λ) code.function) (f.spec 𝓤 H A at-mem run)
 handle-meets 𝓤 H A W at-mem run 𝓣 known raises =
     walk-meets 𝓤 H A f.ended stayed W (goes 𝓤 H A W at-mem run) (f.clauses 𝓤 H A at-mem run) (WpFn 𝓤 H (𝓣 .C) (𝓣 .Λ) code.function) (WpFn-mono 𝓤 H (W .laws) 𝓣 code.function)
@@ -330,5 +330,5 @@ hyparview-handle-spec 𝓤 H 𝓜 𝓖 𝓡 =
     entered 𝓤 H (tripleOf 𝓤 H (𝓖 .A) f.signature (f.spec 𝓤 H (𝓖 .A) (𝓜 .mem) (𝓡 .run)))
     (tables 𝓤 H 𝓜 𝓡 code.env .C) (tables 𝓤 H 𝓜 𝓡 code.env .Λ) #controller·hyparview-handle code.function (code.unfolded 𝓤 H 𝓜 𝓡)
     (handle-meets 𝓤 H (𝓖 .A) (givenOf 𝓤 H 𝓜 𝓖) (𝓜 .mem) (𝓡 .run) (tablesOf 𝓤 H 𝓜 (tables 𝓤 H 𝓜 𝓡 code.env))
-    (cited 𝓤 H (Handle 𝓤 H (𝓖 .A) (𝓜 .mem) (𝓡 .run)) 𝓜 𝓡 code.env #hyparview-words·handle core-def.routine code.calls-hyparview-words·handle (core-thm.met 𝓤 H 𝓜 𝓖 𝓡))
+    (cited 𝓤 H (Handle 𝓤 H (𝓖 .A) (𝓜 .mem) (𝓡 .run)) 𝓜 𝓡 code.env #hyparview·handle core-def.routine code.calls-hyparview·handle (core-thm.met 𝓤 H 𝓜 𝓖 𝓡))
     (cited 𝓤 H (Raise 𝓤 H (𝓖 .A) (𝓜 .mem) (𝓡 .run)) 𝓜 𝓡 code.env #tally·raise raise-def.routine code.calls-tally·raise (raise-thm.met 𝓤 H 𝓜 𝓖 𝓡)))
