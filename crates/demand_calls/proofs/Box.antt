@@ -122,7 +122,7 @@ pub enough-lent : B.Enough-lent
 unfolding outcome D.outcome called counted
 enough-lent x ok v =
     let k = P.enough-lent (x .words) ok v in
-    record { no-five = k .no-five; no-nine = k .no-nine; draws-used = k .draws-used; few-draws = k .few-draws }
+    record { five = k .five; no-five = k .no-five; no-nine = k .no-nine; draws-used = k .draws-used; few-draws = k .few-draws }
 
 pub never-one : B.Never-one
 unfolding outcome D.outcome called counted
