@@ -2,6 +2,7 @@
 use hyparview::Done;
 use record::Entry;
 use record::Header;
+use record::Refusal;
 use tally::Tally;
 use timing::Config;
 use util::PeerId;
@@ -69,7 +70,7 @@ fn begin(st: &mut [u64], t: Tally, me: u32, present: u8, own: &[u8], config: Con
     ensures { λ r. ⌜ record { code = r .code; words = now (st .exit); tally = r .tally } ≡ begun (now (st .entry)) t me (lent (not (eqb present 0)) (now (own .entry))) config ⌝ }
 {
     let code = hyparview::new(st, me, present != 0, own, config);
-    if code == 2 {
+    if code == Refusal::STATE {
         return Start {
             code: code,
             tally: t,
@@ -154,7 +155,7 @@ fn no_header() -> Header
     }
 }
 
-// The one reader for kinds 0 to 11.
+// The one reader for kinds 0 to 12.
 #[no_mangle]
 pub extern "C" fn hyparview_read(b: &[u8]) -> Reading
     ensures { λ r. ⌜ r ≡ reading (now (b .entry)) ⌝ }

@@ -2,12 +2,13 @@
 -- Assumes nothing.
 use Prim.Native.Nat.{ℕ}
 use mathlib.Core.Path.{_≡_, refl, sym, ap, subst, _∙_}
-use mathlib.Core.Bool.{Bool, true, _&&_}
+use mathlib.Core.Bool.{Bool, true, false, _&&_}
 use mathlib.Core.List.{List, []}
 use native.Mathlib.Omega.{arith}
 use lib.ListN.{length, replicate}
 use lib.Dec.{eqb}
 use Rattle.lists.specs.Array.{pad}
+use Rattle.lists.specs.Lists.{mem}
 use Rattle.lists.proofs.Choice.{by-choice, choose-yes, choose-no, split, and-left, and-right}
 use Rattle.peer.specs.Data.{Data, bytes-of}
 use Rattle.timing.specs.declared.Config.{Config}
@@ -19,14 +20,15 @@ use Rattle.record.specs.Read.{Reading, read-event, rec-of}
 use Rattle.protocol.proofs.Reading.{by-reading}
 use Rattle.protocol.proofs.Bounds.{finished}
 use Rattle.protocol.proofs.Enough.{enough}
+use Rattle.protocol.proofs.Uncrowded as crowded
 use Rattle.protocol.proofs.Unreachable as unreachable
-use Rattle.history.specs.Calls.{Call, Given, narrow-draws, answer, answered, state-after}
+use Rattle.history.specs.Calls.{Call, Given, narrow-draws, answer, answered, state-after, codes}
 use Rattle.history.specs.Calls as calls
 use Rattle.history.specs.Demand.{Demand3}
 use Rattle.history.specs.Outputs.{OutputsRead}
 use Rattle.history.specs.Rejoin.{ticks, Promised}
 use Rattle.history.specs.Packing.{Packs}
-use Rattle.history.proofs.Packing.{demand-packed, rejoin-packed, outputs-packed, states-packed}
+use Rattle.history.proofs.Packing.{demand-packed, eight-packed, rejoin-packed, outputs-packed, states-packed}
 use Rattle.tally.proofs.History.{counts-all}
 use Rattle.shuffle_times.specs.Claims.{Timed}
 use Rattle.shuffle_times.proofs.Packed.{timed-packed}
@@ -171,6 +173,16 @@ never-one xs v e =
     split (state-ok xs)
     (λ ok. not-one (unpack xs) (rules-kept xs ok) v (sym (ap (λ (x : Outcome). x .code) (answers xs ok v)) ∙ e))
     (λ broken. let two : 2 ≡ 1 = ap (λ (x : Outcome). x .code) (handled-two xs (v .event) (v .draws) (length (v .output)) broken) ∙ e in omega (arith, two))
+
+-- No call is answered 8.
+pub never-eight : D.Never-eight
+unfolding answered packed-answer
+never-eight xs ok v e =
+    crowded.never-eight (unpack xs) (rules-kept xs ok) (v .draws) (length (v .output)) (v .event) (v .are-bytes) (sym (ap (λ (x : Outcome). x .code) (answers xs ok v)) ∙ e)
+
+pub never-eight-after : D.Never-eight-after
+never-eight-after xs me present own c t z vs =
+    from-new (λ (s : List ℕ). mem 8 (codes program vs s) ≡ false) xs me present own c z (λ e. eight-packed packs me (lent present own) c (given me present own t) e vs)
 
 -- `unreachable!` is never reached.
 pub never-unreachable : D.Never-unreachable

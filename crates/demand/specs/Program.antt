@@ -6,7 +6,7 @@ use mathlib.Core.Path.{_≡_}
 use mathlib.Core.Bool.{Bool, true, false}
 use mathlib.Core.List.{List}
 use lib.ListN.{length, replicate}
-use Rattle.lists.specs.Lists.{null, without}
+use Rattle.lists.specs.Lists.{null, mem, without}
 use Rattle.timing.specs.declared.Config.{Config}
 use Rattle.util.specs.Chances.{sure-end, sure}
 use Rattle.peer.specs.Data.{Node}
@@ -14,7 +14,7 @@ use Rattle.protocol.specs.Station.{Station, peers-end, bytes-end}
 use Rattle.protocol.specs.Messages.{ends-here, learn-joiner}
 use Rattle.protocol.specs.Rules.{all-under}
 use Rattle.protocol.specs.Handle as definition
-use Rattle.history.specs.Calls.{Call, narrow-draws, Machine, code-of, state-after}
+use Rattle.history.specs.Calls.{Call, narrow-draws, Machine, code-of, state-after, codes}
 use Rattle.history.specs.Demand.{Demand3}
 use Rattle.history.specs.Outputs.{OutputsRead}
 use Rattle.history.specs.Rejoin.{ticks, Promised}
@@ -97,6 +97,15 @@ Enough-lent = (xs : List ℕ) → state-ok xs ≡ true → (v : Call) → Suffic
 -- "Code 1 belongs to `new` alone", whatever the words and the event are
 abbrev pub Never-one : Type 0
 Never-one = (xs : List ℕ) (v : Call) → code-of program v xs ≡ 1 → ⊥
+
+-- 02, S-5: "Code 8 stays in the table and is proved never to occur after a new station"; at any words that keep the rules, and so after every list of calls
+abbrev pub Never-eight : Type 0
+Never-eight = (xs : List ℕ) → state-ok xs ≡ true → (v : Call) → code-of program v xs ≡ 8 → ⊥
+
+abbrev pub Never-eight-after : Type 0
+Never-eight-after =
+    (xs : List ℕ) (me : ℕ) (present : Bool) (own : List ℕ) (c : Config) → Typed me own → made xs me present own c .code ≡ 0
+    → (vs : List Call) → mem 8 (codes program vs (made xs me present own c .words)) ≡ false
 
 -- at the station s a ForwardJoin that is neither answered nor dropped finds a neighbour other than its sender: the Rust's `unreachable!` is not reached
 abbrev pub Goes-on : Station → Type 0

@@ -128,6 +128,14 @@ pub never-one : B.Never-one
 unfolding outcome D.outcome called counted
 never-one x v e = P.never-one (x .words) v e
 
+pub never-eight : B.Never-eight
+unfolding outcome D.outcome called counted
+never-eight x ok v e = P.never-eight (x .words) ok v e
+
+pub never-eight-after : B.Never-eight-after
+unfolding made begun with-tally D.made
+never-eight-after x me present own c t z vs = ap (mem 8) (codes-follow vs (filled (made x me present own c))) ∙ P.never-eight-after (x .words) me (not (eqb present 0)) own c t z vs
+
 pub never-unreachable : B.Never-unreachable
 never-unreachable x ok = P.never-unreachable (x .words) ok
 

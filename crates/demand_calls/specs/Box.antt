@@ -3,14 +3,15 @@
 -- Assumes nothing.
 use Prim.Native.Nat.{ℕ, _≤_}
 use mathlib.Core.Path.{_≡_}
-use mathlib.Core.Bool.{Bool, true, not}
+use mathlib.Core.Bool.{Bool, true, false, not}
 use mathlib.Core.List.{List}
 use lib.ListN.{length, replicate}
 use lib.Dec.{eqb}
 use Rattle.timing.specs.declared.Config.{Config}
 use Rattle.protocol.specs.Station.{Station}
 use Rattle.history.specs.Ledger.{Ledger, empty-ledger}
-use Rattle.history.specs.Calls.{Call, narrow-draws, Machine, code-of, state-after, ledger-after}
+use Rattle.lists.specs.Lists.{mem}
+use Rattle.history.specs.Calls.{Call, narrow-draws, Machine, code-of, state-after, codes, ledger-after}
 use Rattle.history.specs.Demand.{Demand3}
 use Rattle.history.specs.Outputs.{OutputsRead}
 use Rattle.history.specs.Rejoin.{ticks, Promised}
@@ -93,13 +94,22 @@ Shuffles-timed =
     (x : Box) (me present : ℕ) (own : List ℕ) (c : Config) → Typed me own → made x me present own c .code ≡ 0
     → Timed box c (filled (made x me present own c))
 
--- "8,192 output bytes and 512 draws always suffice": of one call at words that keep the rules, whatever the tally is
+-- "8,192 output bytes and 512 draws always suffice", by 02, S-6, draws below 2^32 - 32: of one call at words that keep the rules, whatever the tally is
 abbrev pub Enough-lent : Type 0
 Enough-lent = (x : Box) → box-passes x ≡ true → (v : Call) → Suffices box station-in x v
 
 -- "Code 1 belongs to `new` alone", whatever the words, the tally and the event are
 abbrev pub Never-one : Type 0
 Never-one = (x : Box) (v : Call) → code-of box v x ≡ 1 → ⊥
+
+-- 02, S-5: code 8 never occurs at words that keep the rules, and so after no list of calls
+abbrev pub Never-eight : Type 0
+Never-eight = (x : Box) → box-passes x ≡ true → (v : Call) → code-of box v x ≡ 8 → ⊥
+
+abbrev pub Never-eight-after : Type 0
+Never-eight-after =
+    (x : Box) (me present : ℕ) (own : List ℕ) (c : Config) → Typed me own → made x me present own c .code ≡ 0
+    → (vs : List Call) → mem 8 (codes box vs (filled (made x me present own c))) ≡ false
 
 -- the Rust's `unreachable!` is not reached at words that keep the rules
 abbrev pub Never-unreachable : Type 0

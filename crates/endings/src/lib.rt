@@ -2,6 +2,9 @@
 use columns::PeerInfo;
 use hyparview::State;
 use peer::PeerData;
+use record::Flags;
+use record::Kind;
+use record::Message;
 use timing::Config;
 use timing::Timing;
 use util::PeerId;
@@ -48,7 +51,7 @@ fn put_one(out: &mut [u8], message: u8, flags: u8, p: PeerId) -> Written
     ensures { λ r. ⌜ Wrote (event 0 message flags p no-data) 0 (now (out .entry)) r (now (out .exit)) ⌝ }
 {
     let f = Fields {
-        kind: 0,
+        kind: Kind::MESSAGE,
         message: message,
         flags: flags,
         peer: p,
@@ -67,24 +70,24 @@ fn put_of_peer(out: &mut [u8], i: usize, p: PeerId) -> Written
     ensures { λ r. ⌜ Wrote (getD (of-peer p) i quit) 0 (now (out .entry)) r (now (out .exit)) ⌝ }
 {
     if i == 0 {
-        return put_bare(out, 6, 0, 0, p);
+        return put_bare(out, Kind::REQUEST_JOIN, 0, 0, p);
     }
     if i == 1 {
-        return put_one(out, 0, 0, p);
+        return put_one(out, Message::JOIN, 0, p);
     }
     if i == 2 {
-        return put_one(out, 4, 1, p);
+        return put_one(out, Message::NEIGHBOR, Flags::HIGH, p);
     }
     if i == 3 {
-        return put_one(out, 4, 0, p);
+        return put_one(out, Message::NEIGHBOR, 0, p);
     }
     if i == 4 {
-        return put_bare(out, 0, 5, 1, p);
+        return put_bare(out, Kind::MESSAGE, Message::DISCONNECT, Flags::ALIVE, p);
     }
     if i == 5 {
-        return put_bare(out, 0, 5, 0, p);
+        return put_bare(out, Kind::MESSAGE, Message::DISCONNECT, 0, p);
     }
-    put_bare(out, 5, 0, 0, p)
+    put_bare(out, Kind::PEER_DISCONNECTED, 0, 0, p)
 }
 
 // The event at place i of the sixteen.
@@ -99,9 +102,9 @@ fn put_event(out: &mut [u8], i: usize) -> Written
         return put_of_peer(out, i - 7, 3);
     }
     if i == 14 {
-        return put_bare(out, 2, 0, 0, 0);
+        return put_bare(out, Kind::DO_MAINTENANCE, 0, 0, 0);
     }
-    put_bare(out, 8, 0, 0, 0)
+    put_bare(out, Kind::QUIT, 0, 0, 0)
 }
 
 // The new station: self 1, no data, capacities of 1 and other settings default.

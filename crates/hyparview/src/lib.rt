@@ -387,7 +387,14 @@ fn handle_message(
         return step_shuffling::on_shuffle_reply(w, st, draws, out, p, b, n);
     }
     if h.message == Message::DISCONNECT {
-        return step_messages::on_disconnect(w, st, draws, out, p, h.flags % 2 == 1);
+        return step_messages::on_disconnect(
+            w,
+            st,
+            draws,
+            out,
+            p,
+            h.flags % Flags::RESPOND == Flags::ALIVE,
+        );
     }
     handle_single(w, st, draws, out, b, h)
 }

@@ -1,5 +1,6 @@
 // What the run program prints (document 01, "The run program"): the text of a run, from the input's bytes into lent bytes.
 use hyparview::State;
+use record::Refusal;
 use run_input::Input;
 use run_input::Layout;
 use run_text::Text;
@@ -129,7 +130,7 @@ fn open_layout(l: Layout) -> Opened
     let config = l.config;
     let m = State::new(l.me, false, b"", config);
     if m.code != 0 {
-        return Opened::Line(1);
+        return Opened::Line(Refusal::SETTINGS);
     }
     Opened::Events(l)
 }
@@ -140,7 +141,7 @@ pub fn open(b: &[u8]) -> Opened
 {
     let i = run_input::read(b);
     match i {
-        Input::Refused => Opened::Line(3),
+        Input::Refused => Opened::Line(Refusal::MALFORMED),
         Input::Whole(l) => open_layout(l),
     }
 }

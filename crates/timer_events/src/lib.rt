@@ -1,5 +1,7 @@
 // Document 02, S-1: what a controller without timers of its own runs by. The timers of an output are put into the queue at once, and a due timer comes out as the event that `handle` reads.
 use record::Header;
+use record::Kind;
+use record::Refusal;
 use timer_map::Entry;
 use timer_map::Id;
 use timer_map::Timer;
@@ -15,18 +17,7 @@ ghost use Rattle.timer_map.specs.Calls.{put};
 ghost use Rattle.timer_events.specs.Records.{no-start, started, start-of, timer-of, timers-in, insert-all, insert-records, records-inserted};
 ghost use Rattle.timer_events.specs.Events.{has-event, event-rec, event-popped, event-taken};
 
-// The codes of refusals.
-const BROKEN: u32 = 2;
-
-const MALFORMED: u32 = 3;
-
-const NO_ROOM: u32 = 9;
-
-// The kinds of a timer record; those up to the second have neither peer nor number.
-const FIRST_KIND: u8 = 1;
-
-const LAST_KIND: u8 = 4;
-
+// The kinds of a timer in the queue; those up to the second have neither peer nor number.
 const FIRST_TIMER: u64 = 1;
 
 const LAST_BARE_TIMER: u64 = 2;
@@ -106,7 +97,7 @@ fn insert_record(q: &mut [u64], time: u64, b: &[u8], h: Header) -> u32
     requires { ⌜ h ≡ header-of (now b) ⌝ }
     ensures { λ r. ⌜ record { code = r; words = now (q .exit) } ≡ put (insert-all time (timer-of (now (b .entry))) (entries-of (now (q .entry)))) ⌝ }
 {
-    if (FIRST_KIND <= h.kind) & (h.kind <= LAST_KIND) {
+    if (Kind::DO_SHUFFLE <= h.kind) & (h.kind <= Kind::RETRY_JOIN) {
         let n = h.size as usize;
         let x = start_of(b, n);
         let item = x.item;
@@ -161,7 +152,7 @@ pub extern "C" fn timer_map_insert_records(q: &mut [u64], time: u64, out: &[u8])
     if timer_map::is_ok(q) {
         return records_ok(q, time, out);
     }
-    BROKEN
+    Refusal::STATE
 }
 
 // Whether an entry is what an event record can say.
@@ -221,7 +212,7 @@ fn pop_event_ok(q: &mut [u64], limit: u64, out: &mut [u8]) -> PoppedEvent
                 }
                 writer::Written::Full => {
                     return PoppedEvent {
-                        code: NO_ROOM,
+                        code: Refusal::OUTPUT,
                         found: false,
                         time: 0,
                     };
@@ -229,7 +220,7 @@ fn pop_event_ok(q: &mut [u64], limit: u64, out: &mut [u8]) -> PoppedEvent
             }
         }
         return PoppedEvent {
-            code: MALFORMED,
+            code: Refusal::MALFORMED,
             found: false,
             time: 0,
         };
@@ -251,7 +242,7 @@ pub extern "C" fn timer_map_pop_event(q: &mut [u64], limit: u64, out: &mut [u8])
         return pop_event_ok(q, limit, out);
     }
     PoppedEvent {
-        code: BROKEN,
+        code: Refusal::STATE,
         found: false,
         time: 0,
     }

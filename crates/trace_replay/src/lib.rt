@@ -2,6 +2,7 @@
 mod event_text;
 
 use hyparview::State;
+use record::Refusal;
 use run_input::Input;
 use run_input::Layout;
 use run_text::Text;
@@ -203,7 +204,7 @@ pub fn history(b: &[u8], start: Start) -> Ended
     match i {
         Input::Refused => {
             let none = zeroes();
-            refused(3, none)
+            refused(Refusal::MALFORMED, none)
         }
         Input::Whole(l) => whole(b, l, start),
     }
