@@ -59,10 +59,10 @@ extern "C" {
 #define HYPARVIEW_CODE_STATE 2     /* the words are not HYPARVIEW_WORDS, or break a station rule */
 #define HYPARVIEW_CODE_EVENT 3     /* the event record is malformed */
 #define HYPARVIEW_CODE_NODES 4     /* the event has more than 32 nodes */
-#define HYPARVIEW_CODE_DRAWS 5     /* a draw is needed and none is left: lend HYPARVIEW_DRAWS */
+#define HYPARVIEW_CODE_DRAWS 5     /* a draw is needed and none is left: lend HYPARVIEW_DRAWS, or others */
 #define HYPARVIEW_CODE_REQUESTS 6  /* a 33rd request to a peer would be open */
 #define HYPARVIEW_CODE_REFUSERS 7  /* a 33rd peer that refused would be noted */
-#define HYPARVIEW_CODE_DATA 8      /* data of an 81st peer would be held */
+#define HYPARVIEW_CODE_DATA 8      /* data of an 81st peer would be held: never answered, as such words are met with 2 */
 #define HYPARVIEW_CODE_OUTPUT 9    /* a record does not fit into the output: lend HYPARVIEW_OUTPUT */
 #define HYPARVIEW_CODE_COUNTER 10  /* a counter is at its top */
 
@@ -313,7 +313,7 @@ uint32_t hyparview_new(uint64_t *state, size_t words, struct hyparview_tally *ta
  * `draws` are the station's random choices: any numbers do, but stations that draw the same choose the same, and peers who
  * can foresee the draws can foresee the choices. The first `done.draws` of them are used up. A choice passes over draws near
  * 2^32, so that all items have equal chances; of HYPARVIEW_DRAWS even draws too many are passed over with a chance below
- * 2^-5000: then the code is HYPARVIEW_CODE_DRAWS, and the same event may be brought again with others. Of several reasons to
+ * 2^-5000 (docs/FORMAT.md works it out): then the code is HYPARVIEW_CODE_DRAWS, and the same event may be brought again with others. Of several reasons to
  * refuse the first holds: 2; 3 for under 24 bytes; 4; 3; then of 5 to 10 what the steps meet first. */
 struct hyparview_done hyparview_handle(uint64_t *state, size_t words, struct hyparview_tally *tally, const uint8_t *event,
                                        size_t event_len, const uint32_t *draws, size_t draws_len, uint8_t *out,

@@ -222,6 +222,9 @@ fn all_stories(arguments: &[String]) -> Answer {
 /// The options of what makes histories.
 const HISTORIES: [&str; 4] = ["seed", "histories", "events", "mix"];
 
+/// The options of `compare`.
+const COMPARED: [&str; 5] = ["seed", "histories", "events", "mix", "evicted"];
+
 /// The histories that the options name, each written by `write`.
 fn generate(arguments: &[String], write: impl Fn(&Stored) -> String) -> Answer {
     let options = Options::read(arguments, &HISTORIES)?;
@@ -268,7 +271,7 @@ fn compare(arguments: &[String]) -> Answer {
     let (Some(split), false) = (split, command.is_empty()) else {
         return Err(misuse("compare: no command after --"));
     };
-    let options = Options::read(&arguments[..split], &HISTORIES)?;
+    let options = Options::read(&arguments[..split], &COMPARED)?;
     let seeds = options.seeds(10)?;
     compare::run(
         seeds.start,

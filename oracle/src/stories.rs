@@ -13,7 +13,7 @@ use crate::{
 const ME: u32 = 1;
 const PEERS: [u32; 2] = [2, 3];
 const LONGEST: u32 = 4;
-/// 512 draws always suffice for an event.
+/// 512 draws of 0 always suffice for an event.
 const DRAWS: usize = 512 * LONGEST as usize;
 
 /// How many histories end so, by active size and then passive size: 0 0, 0 1, 1 0, 1 1.

@@ -71,7 +71,7 @@ evict-at i r = forget-peer (getD (r .station .passive) i 0) (on (shift-passive i
 unfoldable pub must-evict : Station → Bool
 must-evict s = passive-is-full s && not (null (s .passive))
 
--- 02, S-2: the peer that leaves a full passive view before another enters, as the next draw decides
+-- 02, S-2: the peer that leaves a full passive view before another enters, as the next draw kept decides
 unfoldable pub evicted : Run → Option ℕ
 evicted r = choose (must-evict (r .station)) (some (picked (r .station .passive) r)) none
 
@@ -98,6 +98,7 @@ enter-passive p r = choose (is-newcomer p (r .station)) (on (push-passive p) (ma
 unfoldable pub add-passive : ℕ → Data → Run → Run
 add-passive p d r = enter-passive p (insert-peer-info p d r)
 
+-- the same, once the newcomer's data is stored (S-2)
 unfoldable pub evicted-for : ℕ → Run → Option ℕ
 evicted-for p r = choose (is-newcomer p (r .station)) (evicted r) none
 

@@ -306,7 +306,7 @@ fn tell_evicted(w: Work, out: &mut [u8], p: PeerId) -> Work
     state::emit_bare(w, out, f)
 }
 
-// One peer leaves a full passive view, as the next draw decides, and its record follows.
+// One peer leaves a full passive view, as the next draw kept decides, and its record follows.
 fn make_room(w: Work, st: &mut [u64], draws: &[u32], out: &mut [u8]) -> Added
     requires { ⌜ length (now st) ≡ words ⌝ }
     requires { ⌜ Fine (work-of w (now st)) (now draws) (now out) ⌝ }

@@ -51,7 +51,7 @@ shuffle ds xs = shuffle-down (length xs - 1) ds xs
 unfoldable pub shuffle-draws : List ℕ → List ℕ → ℕ
 shuffle-draws ds xs = draws-down (length xs - 1) ds
 
--- a draw below this is kept for every number of items up to 32: the remainder of 2^32 is below it
+-- 02, S-6: a draw below this is kept for every number of items up to 32: the remainder of 2^32 is below it
 abbrev pub sure-end : ℕ
 sure-end = all-draws - 32
 
