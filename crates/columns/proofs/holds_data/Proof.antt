@@ -65,7 +65,12 @@ shared-slice-read-if3 c = search needs
 
 returns-3 : tie.Need-returns-3
 unfolding part head-of
-returns-3 c = holds-low _ _ (c .before .before .before .before .before .before .before .before .before .before .before .before .before .pre .0) _ _ (c .before .before .before .before .before .before .before .before .before .find .ensures .0) _ (c .before .before .before .before .before .before .before .before .before .before .before .before .before .pre .1) (c .before .before .before .before .before .before .before .before .if1 .left) _ _ (c .before .before .before .before .before .if2 .left) (c .before .before .before .word-at .ensures .0) (c .before .before .word-at2 .ensures .0) (c .before .before .before .word-at .ensures .1) (c .before .before .word-at2 .ensures .1) (omega (arith, c .before .shared-slice-known4 .given (c .before .before .before .before .before .before .before .before .before .before .before .before .before .args .cap + c .before .before .before .before .before .before .before .before .before .before .before .before .before .args .cap + c .before .before .before .before .before .before .before .before .before .find .result))) (omega (arith, c .before .shared-slice-known4 .given (c .before .before .before .before .before .before .before .before .before .before .before .before .before .args .cap + c .before .before .before .before .before .before .before .before .before .before .before .before .before .args .cap + c .before .before .before .before .before .before .before .before .before .before .before .before .before .args .cap + c .before .before .before .before .before .before .before .before .before .find .result))) (c .if3 .taken)
+returns-3 c =
+    let given = c .before .before .before .before .before .before .before .before .before .before .before .before .before .pre in
+    let find = c .before .before .before .before .before .before .before .before .before .find in
+    let if1 = c .before .before .before .before .before .before .before .before .if1 in
+    let args = c .before .before .before .before .before .before .before .before .before .before .before .before .before .args in
+    holds-low _ _ (given .0) _ _ (find .ensures .0) _ (given .1) (if1 .left) _ _ (c .before .before .before .before .before .if2 .left) (c .before .before .before .word-at .ensures .0) (c .before .before .word-at2 .ensures .0) (c .before .before .before .word-at .ensures .1) (c .before .before .word-at2 .ensures .1) (omega (arith, c .before .shared-slice-known4 .given (args .cap + args .cap + find .result))) (omega (arith, c .before .shared-slice-known4 .given (args .cap + args .cap + args .cap + find .result))) (c .if3 .taken)
 
 add-result : tie.Need-add-result
 add-result c = search needs
@@ -81,7 +86,12 @@ shared-slice-read-result c = search needs
 
 returns-4 : tie.Need-returns-4
 unfolding part head-of
-returns-4 c = holds-high _ _ (c .before .before .before .before .before .before .before .before .before .before .before .before .before .before .pre .0) _ _ (c .before .before .before .before .before .before .before .before .before .before .find .ensures .0) _ (c .before .before .before .before .before .before .before .before .before .before .before .before .before .before .pre .1) (c .before .before .before .before .before .before .before .before .before .if1 .left) _ _ (c .before .before .before .before .before .before .if2 .left) (c .before .before .before .before .word-at .ensures .0) (c .before .before .before .word-at2 .ensures .0) (c .before .before .before .before .word-at .ensures .1) (c .before .before .before .word-at2 .ensures .1) (omega (arith, c .shared-slice-known5 .given (c .before .before .before .before .before .before .before .before .before .before .before .before .before .before .args .cap + c .before .before .before .before .before .before .before .before .before .before .before .before .before .before .args .cap + c .before .before .before .before .before .before .before .before .before .before .find .result))) (omega (arith, c .shared-slice-known5 .given (c .before .before .before .before .before .before .before .before .before .before .before .before .before .before .args .cap + c .before .before .before .before .before .before .before .before .before .before .before .before .before .before .args .cap + c .before .before .before .before .before .before .before .before .before .before .before .before .before .before .args .cap + c .before .before .before .before .before .before .before .before .before .before .find .result))) (c .before .if3 .left)
+returns-4 c =
+    let given = c .before .before .before .before .before .before .before .before .before .before .before .before .before .before .pre in
+    let find = c .before .before .before .before .before .before .before .before .before .before .find in
+    let if1 = c .before .before .before .before .before .before .before .before .before .if1 in
+    let args = c .before .before .before .before .before .before .before .before .before .before .before .before .before .before .args in
+    holds-high _ _ (given .0) _ _ (find .ensures .0) _ (given .1) (if1 .left) _ _ (c .before .before .before .before .before .before .if2 .left) (c .before .before .before .before .word-at .ensures .0) (c .before .before .before .word-at2 .ensures .0) (c .before .before .before .before .word-at .ensures .1) (c .before .before .before .word-at2 .ensures .1) (omega (arith, c .shared-slice-known5 .given (args .cap + args .cap + find .result))) (omega (arith, c .shared-slice-known5 .given (args .cap + args .cap + args .cap + find .result))) (c .before .if3 .left)
 
 pub holds-data-spec : {M : Type 1} → statement M
 holds-data-spec =

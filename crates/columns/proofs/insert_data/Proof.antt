@@ -115,7 +115,9 @@ part-in-two-end c = search needs
 
 in-two-requires-2 : tie.Need-in-two-requires-2
 unfolding part head-of
-in-two-requires-2 c κs = (search tail-size, (tail-lows _ _ (c .before .before .before .before .before .before .before .before .before .before .before .before .before .before .before .before .pre .0) _ _ _ (c .before .before .before .in-two .ensures), (tail-highs _ _ (c .before .before .before .before .before .before .before .before .before .before .before .before .before .before .before .before .pre .0) _ _ _ (c .before .before .before .in-two .ensures), (search data-room, search needs))))
+in-two-requires-2 c κs =
+    let given = c .before .before .before .before .before .before .before .before .before .before .before .before .before .before .before .before .pre in
+    (search tail-size, (tail-lows _ _ (given .0) _ _ _ (c .before .before .before .in-two .ensures), (tail-highs _ _ (given .0) _ _ _ (c .before .before .before .in-two .ensures), (search data-room, search needs))))
 
 add-m-5 : tie.Need-add-m-5
 add-m-5 c = search needs
@@ -128,11 +130,20 @@ slice-write-m-4 c = search needs
 
 same-length-2 : tie.Need-same-length-2
 unfolding part
-same-length-2 c = data-long _ _ (c .before .before .before .before .before .before .before .before .before .before .before .before .before .before .before .before .before .before .before .pre .0) _ _ _ (c .before .before .before .before .before .before .in-two .ensures) _ _ _ _ (c .before .before .in-two2 .ensures)
+same-length-2 c =
+    let given = c .before .before .before .before .before .before .before .before .before .before .before .before .before .before .before .before .before .before .before .pre in
+    data-long _ _ (given .0) _ _ _ (c .before .before .before .before .before .before .in-two .ensures) _ _ _ _ (c .before .before .in-two2 .ensures)
 
 returns-2 : tie.Need-returns-2
 unfolding part head-of
-returns-2 c = data-inserted _ _ (c .before .before .before .before .before .before .before .before .before .before .before .before .before .before .before .before .before .before .before .pre .0) _ _ (c .before .before .before .before .before .before .before .before .before .before .before .before .find .ensures .0) _ _ _ (c .before .before .before .before .before .before .before .before .before .before .before .before .before .before .before .before .before .before .before .pre .1 .0) (c .before .before .before .before .before .before .before .before .before .before .before .before .before .before .before .word-at .ensures .0) (c .before .before .before .before .before .before .before .before .before .before .before .before .before .before .word-at2 .ensures .0) _ _ _ (c .before .before .before .before .before .before .before .before .before .before .before .if1 .left) (c .before .before .before .before .before .before .before .before .before .before .before .before .before .before .before .before .before .before .before .pre .1 .1) (c .before .before .before .before .before .before .before .before .before .rank-of .ensures .0) (c .before .before .before .before .before .before .in-two .ensures) (c .before .before .in-two2 .ensures)
+returns-2 c =
+    let given = c .before .before .before .before .before .before .before .before .before .before .before .before .before .before .before .before .before .before .before .pre in
+    let find = c .before .before .before .before .before .before .before .before .before .before .before .before .find in
+    let word-at = c .before .before .before .before .before .before .before .before .before .before .before .before .before .before .before .word-at in
+    let word-at2 = c .before .before .before .before .before .before .before .before .before .before .before .before .before .before .word-at2 in
+    let if1 = c .before .before .before .before .before .before .before .before .before .before .before .if1 in
+    let rank-of = c .before .before .before .before .before .before .before .before .before .rank-of in
+    data-inserted _ _ (given .0) _ _ (find .ensures .0) _ _ _ (given .1 .0) (word-at .ensures .0) (word-at2 .ensures .0) _ _ _ (if1 .left) (given .1 .1) (rank-of .ensures .0) (c .before .before .before .before .before .before .in-two .ensures) (c .before .before .in-two2 .ensures)
 
 pub insert-data-spec : {M : Type 1} → statement M
 insert-data-spec =

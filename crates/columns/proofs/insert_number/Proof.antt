@@ -89,7 +89,9 @@ slice-write-m-2 c = search needs
 
 same-length-2 : tie.Need-same-length-2
 unfolding part
-same-length-2 c = numbers-long _ _ _ _ _ _ _ (c .before .before .before .before .before .before .put-in .ensures) (c .before .before .put-in2 .ensures) (c .before .before .before .before .before .before .before .before .before .before .before .before .before .before .before .pre .0)
+same-length-2 c =
+    let given = c .before .before .before .before .before .before .before .before .before .before .before .before .before .before .before .pre in
+    numbers-long _ _ _ _ _ _ _ (c .before .before .before .before .before .before .put-in .ensures) (c .before .before .put-in2 .ensures) (given .0)
 
 returns-2 : tie.Need-returns-2
 unfolding part

@@ -60,7 +60,9 @@ part-out-two-end c = search needs
 
 out-two-requires-2 : tie.Need-out-two-requires-2
 unfolding part head-of
-out-two-requires-2 c κs = (search tail-size, (tail-lows _ _ (c .before .before .before .before .before .before .before .before .before .before .pre) _ _ _ (c .before .before .before .out-two .ensures), (tail-highs _ _ (c .before .before .before .before .before .before .before .before .before .before .pre) _ _ _ (c .before .before .before .out-two .ensures), search needs)))
+out-two-requires-2 c κs =
+    let given = c .before .before .before .before .before .before .before .before .before .before .pre in
+    (search tail-size, (tail-lows _ _ (given) _ _ _ (c .before .before .before .out-two .ensures), (tail-highs _ _ (given) _ _ _ (c .before .before .before .out-two .ensures), search needs)))
 
 sub-m : tie.Need-sub-m
 sub-m c = search needs
@@ -73,7 +75,9 @@ slice-write-m c = search needs
 
 same-length-2 : tie.Need-same-length-2
 unfolding part
-same-length-2 c = data-long _ _ (c .before .before .before .before .before .before .before .before .before .before .before .before .before .pre) _ _ _ (c .before .before .before .before .before .before .out-two .ensures) _ _ _ _ (c .before .before .out-two2 .ensures)
+same-length-2 c =
+    let given = c .before .before .before .before .before .before .before .before .before .before .before .before .before .pre in
+    data-long _ _ (given) _ _ _ (c .before .before .before .before .before .before .out-two .ensures) _ _ _ _ (c .before .before .out-two2 .ensures)
 
 returns-2 : tie.Need-returns-2
 unfolding part head-of

@@ -69,7 +69,9 @@ slice-write-m c = search needs
 
 same-length-2 : tie.Need-same-length-2
 unfolding part
-same-length-2 c = numbers-long _ _ _ _ _ _ _ (c .before .before .before .before .before .before .take-out .ensures) (c .before .before .take-out2 .ensures) (c .before .before .before .before .before .before .before .before .before .before .before .before .before .pre)
+same-length-2 c =
+    let given = c .before .before .before .before .before .before .before .before .before .before .before .before .before .pre in
+    numbers-long _ _ _ _ _ _ _ (c .before .before .before .before .before .before .take-out .ensures) (c .before .before .take-out2 .ensures) (given)
 
 returns-2 : tie.Need-returns-2
 unfolding part

@@ -12,7 +12,9 @@ cast-p : tie.Need-cast-p
 cast-p c = search needs
 
 handle-message-requires : tie.Need-handle-message-requires
-handle-message-requires c κs = (c .before .before .before .before .before .before .before .before .before .pre .0, (c .before .before .before .before .before .before .before .before .before .pre .1 .0, (c .before .before .before .before .before .before .before .before .before .pre .1 .1 .0, (c .before .before .if1 .taken, opens-between _ _ 0 (c .before .before .if1 .taken) (λ z. omega (arith, z)) (c .before .before .before .before .before .before .before .before .before .pre .1 .1 .1 .1)))))
+handle-message-requires c κs =
+    let given = c .before .before .before .before .before .before .before .before .before .pre in
+    (given .0, (given .1 .0, (given .1 .1 .0, (c .before .before .if1 .taken, opens-between _ _ 0 (c .before .before .if1 .taken) (λ z. omega (arith, z)) (given .1 .1 .1 .1)))))
 
 same-length : tie.Need-same-length
 same-length c = search needs
@@ -21,10 +23,14 @@ same-length-2 : tie.Need-same-length-2
 same-length-2 c = search needs
 
 returns : tie.Need-returns
-returns c = kind-message _ _ (c .before .before .before .before .before .before .before .before .before .before .before .before .before .before .pre .1 .1 .0) _ _ _ _ (c .before .before .before .before .before .before .before .if1 .taken) (c .before .before .before .before .handle-message .ensures)
+returns c =
+    let given = c .before .before .before .before .before .before .before .before .before .before .before .before .before .before .pre in
+    kind-message _ _ (given .1 .1 .0) _ _ _ _ (c .before .before .before .before .before .before .before .if1 .taken) (c .before .before .before .before .handle-message .ensures)
 
 handle-timer-requires : tie.Need-handle-timer-requires
-handle-timer-requires c κs = (c .before .before .before .before .before .before .before .before .before .before .before .pre .0, (c .before .before .before .before .before .before .before .before .before .before .before .pre .1 .0, (let n = c .before .before .before .before .if1 .left in omega (arith, n), c .before .before .if2 .taken)))
+handle-timer-requires c κs =
+    let given = c .before .before .before .before .before .before .before .before .before .before .before .pre in
+    (given .0, (given .1 .0, (let n = c .before .before .before .before .if1 .left in omega (arith, n), c .before .before .if2 .taken)))
 
 same-length-3 : tie.Need-same-length-3
 same-length-3 c = search needs
@@ -33,10 +39,15 @@ same-length-4 : tie.Need-same-length-4
 same-length-4 c = search needs
 
 returns-2 : tie.Need-returns-2
-returns-2 c = kind-timer _ _ (c .before .before .before .before .before .before .before .before .before .before .before .before .before .before .before .before .pre .1 .1 .0) _ _ _ _ (c .before .before .before .before .before .before .before .before .before .if1 .left) (c .before .before .before .before .before .before .before .if2 .taken) (c .before .before .before .before .handle-timer .ensures)
+returns-2 c =
+    let given = c .before .before .before .before .before .before .before .before .before .before .before .before .before .before .before .before .pre in
+    let if1 = c .before .before .before .before .before .before .before .before .before .if1 in
+    kind-timer _ _ (given .1 .1 .0) _ _ _ _ (if1 .left) (c .before .before .before .before .before .before .before .if2 .taken) (c .before .before .before .before .handle-timer .ensures)
 
 handle-connection-closed-requires : tie.Need-handle-connection-closed-requires
-handle-connection-closed-requires c κs = (c .before .before .before .before .before .before .before .before .before .before .before .before .before .pre .0, (c .before .before .before .before .before .before .before .before .before .before .before .before .before .pre .1 .0, between-calm _ _ _ _ _ _ (between-less _ _ _ _ _ (omega arith) (omega arith) (opens-between _ _ 5 (c .before .before .if3 .taken) (λ z. omega (arith, z)) (c .before .before .before .before .before .before .before .before .before .before .before .before .before .pre .1 .1 .1 .1)))))
+handle-connection-closed-requires c κs =
+    let given = c .before .before .before .before .before .before .before .before .before .before .before .before .before .pre in
+    (given .0, (given .1 .0, between-calm _ _ _ _ _ _ (between-less _ _ _ _ _ (omega arith) (omega arith) (opens-between _ _ 5 (c .before .before .if3 .taken) (λ z. omega (arith, z)) (given .1 .1 .1 .1)))))
 
 same-length-5 : tie.Need-same-length-5
 same-length-5 c = search needs
@@ -45,10 +56,14 @@ same-length-6 : tie.Need-same-length-6
 same-length-6 c = search needs
 
 returns-3 : tie.Need-returns-3
-returns-3 c = kind-closed _ _ (c .before .before .before .before .before .before .before .before .before .before .before .before .before .before .before .before .before .before .pre .1 .1 .0) _ _ _ _ (c .before .before .before .before .before .before .before .if3 .taken) (c .before .before .before .before .handle-connection-closed .ensures)
+returns-3 c =
+    let given = c .before .before .before .before .before .before .before .before .before .before .before .before .before .before .before .before .before .before .pre in
+    kind-closed _ _ (given .1 .1 .0) _ _ _ _ (c .before .before .before .before .before .before .before .if3 .taken) (c .before .before .before .before .handle-connection-closed .ensures)
 
 handle-join-requires : tie.Need-handle-join-requires
-handle-join-requires c κs = (c .before .before .before .before .before .before .before .before .before .before .before .before .before .before .before .pre .0, (room-of _ _ _ (c .before .before .before .before .before .before .before .before .before .before .before .before .before .before .before .pre .1 .0), opens-join _ _ _ _ _ 6 (c .before .before .if4 .taken) (λ z. omega (arith, z)) (c .before .before .before .before .before .before .before .before .before .before .before .before .before .before .before .pre .1 .1 .1 .1)))
+handle-join-requires c κs =
+    let given = c .before .before .before .before .before .before .before .before .before .before .before .before .before .before .before .pre in
+    (given .0, (room-of _ _ _ (given .1 .0), opens-join _ _ _ _ _ 6 (c .before .before .if4 .taken) (λ z. omega (arith, z)) (given .1 .1 .1 .1)))
 
 same-length-7 : tie.Need-same-length-7
 same-length-7 c = search needs
@@ -57,22 +72,32 @@ same-length-8 : tie.Need-same-length-8
 same-length-8 c = search needs
 
 returns-4 : tie.Need-returns-4
-returns-4 c = kind-join _ _ (c .before .before .before .before .before .before .before .before .before .before .before .before .before .before .before .before .before .before .before .before .pre .1 .1 .0) _ _ _ _ (c .before .before .before .before .before .before .before .if4 .taken) (then-tell (c .before .before .before .before .handle-join .ensures) (still (c .before .before .before .before .before .before .before .before .before .before .before .before .before .before .before .before .before .before .before .before .pre .1 .0)))
+returns-4 c =
+    let given = c .before .before .before .before .before .before .before .before .before .before .before .before .before .before .before .before .before .before .before .before .pre in
+    kind-join _ _ (given .1 .1 .0) _ _ _ _ (c .before .before .before .before .before .before .before .if4 .taken) (then-tell (c .before .before .before .before .handle-join .ensures) (still (given .1 .0)))
 
 peer-info-requires : tie.Need-peer-info-requires
-peer-info-requires c κs = (c .before .before .before .before .before .before .before .before .before .before .before .before .before .before .before .pre .1 .1 .0 .formed, let e = one-node _ _ (c .before .before .before .before .before .before .before .before .before .before .before .before .before .before .before .pre .1 .1 .0) (c .if5 .taken) in omega (arith, e))
+peer-info-requires c κs =
+    let given = c .before .before .before .before .before .before .before .before .before .before .before .before .before .before .before .pre in
+    (given .1 .1 .0 .formed, let e = one-node _ _ (given .1 .1 .0) (c .if5 .taken) in omega (arith, e))
 
 update-own-data-requires : tie.Need-update-own-data-requires
-update-own-data-requires c κs = (c .before .before .before .before .before .before .before .before .before .before .before .before .before .before .before .before .before .before .pre .0, (c .before .before .before .before .before .before .before .before .before .before .before .before .before .before .before .before .before .before .pre .1 .0 .ready .packed, c .before .before .peer-info .ensures .valid))
+update-own-data-requires c κs =
+    let given = c .before .before .before .before .before .before .before .before .before .before .before .before .before .before .before .before .before .before .pre in
+    (given .0, (given .1 .0 .ready .packed, c .before .before .peer-info .ensures .valid))
 
 same-length-9 : tie.Need-same-length-9
 same-length-9 c = search needs
 
 returns-5 : tie.Need-returns-5
-returns-5 c = kind-data _ _ (c .before .before .before .before .before .before .before .before .before .before .before .before .before .before .before .before .before .before .before .before .before .pre .1 .1 .0) _ _ _ _ _ (c .before .before .before .before .before .peer-info .ensures) (c .before .before .before .before .before .before .if5 .taken) (then (c .before .before .update-own-data .ensures) (still (c .before .before .before .before .before .before .before .before .before .before .before .before .before .before .before .before .before .before .before .before .before .pre .1 .0)))
+returns-5 c =
+    let given = c .before .before .before .before .before .before .before .before .before .before .before .before .before .before .before .before .before .before .before .before .before .pre in
+    kind-data _ _ (given .1 .1 .0) _ _ _ _ _ (c .before .before .before .before .before .peer-info .ensures) (c .before .before .before .before .before .before .if5 .taken) (then (c .before .before .update-own-data .ensures) (still (given .1 .0)))
 
 handle-quit-requires : tie.Need-handle-quit-requires
-handle-quit-requires c κs = (c .before .before .before .before .before .before .before .before .before .before .before .before .before .before .before .before .before .pre .0, c .before .before .before .before .before .before .before .before .before .before .before .before .before .before .before .before .before .pre .1 .0)
+handle-quit-requires c κs =
+    let given = c .before .before .before .before .before .before .before .before .before .before .before .before .before .before .before .before .before .pre in
+    (given .0, given .1 .0)
 
 same-length-10 : tie.Need-same-length-10
 same-length-10 c = search needs
@@ -81,7 +106,12 @@ same-length-11 : tie.Need-same-length-11
 same-length-11 c = search needs
 
 returns-6 : tie.Need-returns-6
-returns-6 c = kind-quit _ _ (c .before .before .before .before .before .before .before .before .before .before .before .before .before .before .before .before .before .before .before .before .before .before .pre .1 .1 .0) _ _ _ _ (c .before .before .before .before .before .before .before .before .before .before .before .before .before .if2 .left) (c .before .before .before .before .before .before .before .before .before .before .before .if3 .left) (c .before .before .before .before .before .before .before .before .before .if4 .left) (c .before .before .before .before .before .before .before .if5 .left) (c .before .before .before .before .before .before .before .before .before .before .before .before .before .before .before .before .before .before .before .before .before .before .pre .1 .1 .1 .0) (c .before .before .before .before .handle-quit .ensures)
+returns-6 c =
+    let given = c .before .before .before .before .before .before .before .before .before .before .before .before .before .before .before .before .before .before .before .before .before .before .pre in
+    let if2 = c .before .before .before .before .before .before .before .before .before .before .before .before .before .if2 in
+    let if3 = c .before .before .before .before .before .before .before .before .before .before .before .if3 in
+    let if4 = c .before .before .before .before .before .before .before .before .before .if4 in
+    kind-quit _ _ (given .1 .1 .0) _ _ _ _ (if2 .left) (if3 .left) (if4 .left) (c .before .before .before .before .before .before .before .if5 .left) (given .1 .1 .1 .0) (c .before .before .before .before .handle-quit .ensures)
 
 pub dispatch-spec : {M : Type 1} → statement M
 dispatch-spec =

@@ -16,7 +16,9 @@ same-length-2 : tie.Need-same-length-2
 same-length-2 c = search needs
 
 returns : tie.Need-returns
-returns c = ended-refused _ _ _ _ _ _ _ (c .before .before .before .before .before .before .before .before .before .if1 .taken) (c .before .before .before .before .before .before .before .copy-words .ensures) (c .before .before .refuse .ensures)
+returns c =
+    let if1 = c .before .before .before .before .before .before .before .before .before .if1 in
+    ended-refused _ _ _ _ _ _ _ (if1 .taken) (c .before .before .before .before .before .before .before .copy-words .ensures) (c .before .before .refuse .ensures)
 
 clear-requires : tie.Need-clear-requires
 clear-requires c κs = search needs

@@ -14,7 +14,9 @@ note-scheduled-requires : tie.Need-note-scheduled-requires
 note-scheduled-requires c κs = (c .before .before .before .before .before .before .pre .0, c .before .before .before .before .before .before .pre .1 .ready .packed)
 
 schedule-shuffle-requires : tie.Need-schedule-shuffle-requires
-schedule-shuffle-requires c κs = (search needs, fine-after _ _ _ _ _ _ (c .before .before .before .before .before .before .before .before .before .before .before .pre .1) (c .before .before .before .before .note-scheduled .ensures))
+schedule-shuffle-requires c κs =
+    let given = c .before .before .before .before .before .before .before .before .before .before .before .pre in
+    (search needs, fine-after _ _ _ _ _ _ (given .1) (c .before .before .before .before .note-scheduled .ensures))
 
 schedule-maintenance-requires : tie.Need-schedule-maintenance-requires
 schedule-maintenance-requires c κs = c .before .before .before .before .before .schedule-shuffle .ensures .fine .written
@@ -26,7 +28,12 @@ same-length-2 : tie.Need-same-length-2
 same-length-2 c = search needs
 
 returns-2 : tie.Need-returns-2
-returns-2 c = timers-start _ _ _ _ (c .before .before .before .before .before .before .before .before .before .before .before .before .before .before .before .before .before .before .before .before .pre .1) _ _ _ _ _ _ _ (c .before .before .before .before .before .before .before .before .before .before .before .before .before .before .before .if1 .left) (c .before .before .schedule-maintenance .ensures) (c .before .before .before .before .before .before .before .before .schedule-shuffle .ensures) (c .before .before .before .before .before .before .before .before .before .before .before .before .before .note-scheduled .ensures)
+returns-2 c =
+    let given = c .before .before .before .before .before .before .before .before .before .before .before .before .before .before .before .before .before .before .before .before .pre in
+    let if1 = c .before .before .before .before .before .before .before .before .before .before .before .before .before .before .before .if1 in
+    let schedule-shuffle = c .before .before .before .before .before .before .before .before .schedule-shuffle in
+    let note-scheduled = c .before .before .before .before .before .before .before .before .before .before .before .before .before .note-scheduled in
+    timers-start _ _ _ _ (given .1) _ _ _ _ _ _ _ (if1 .left) (c .before .before .schedule-maintenance .ensures) (schedule-shuffle .ensures) (note-scheduled .ensures)
 
 pub first-timers-spec : {M : Type 1} → statement M
 first-timers-spec =

@@ -40,7 +40,11 @@ same-length-4 : tie.Need-same-length-4
 same-length-4 c = search needs
 
 returns-2 : tie.Need-returns-2
-returns-2 c = handled-unread _ _ _ _ _ _ (c .before .before .before .before .before .before .before .before .before .before .is-ok .ensures) _ _ (c .before .before .before .before .before .before .before .before .before .if1 .left) (c .before .before .before .before .before .before .before .before .read-event .ensures) (search needs) (c .before .before .refuse2 .ensures)
+returns-2 c =
+    let is-ok = c .before .before .before .before .before .before .before .before .before .before .is-ok in
+    let if1 = c .before .before .before .before .before .before .before .before .before .if1 in
+    let read-event = c .before .before .before .before .before .before .before .before .read-event in
+    handled-unread _ _ _ _ _ _ (is-ok .ensures) _ _ (if1 .left) (read-event .ensures) (search needs) (c .before .before .refuse2 .ensures)
 
 same-length-5 : tie.Need-same-length-5
 same-length-5 c = search needs

@@ -11,7 +11,10 @@ copy-words-requires : tie.Need-copy-words-requires
 copy-words-requires c κs = search needs
 
 steps-requires : tie.Need-steps-requires
-steps-requires c κs = let v = c .before .before .before .before .before .before .before .before .before .before .pre .1 .1 in (c .before .before .before .before .before .before .before .before .before .before .pre .0, (starts _ _ _ (c .before .before .before .before .before .before .before .before .before .before .pre .1 .0), (v .headed, (v .low, opens _ _ _ _ _ (c .before .before .before .before .before .before .before .before .before .before .pre .1 .0) v (c .before .before .before .before .before .before .before .before .before .before .good .1 .1 .1 .1 .0 .1 .1 .1 .1 .1 .1 .0 .1)))))
+steps-requires c κs =
+    let given = c .before .before .before .before .before .before .before .before .before .before .pre in
+    let good = c .before .before .before .before .before .before .before .before .before .before .good in
+    let v = given .1 .1 in (given .0, (starts _ _ _ (given .1 .0), (v .headed, (v .low, opens _ _ _ _ _ (given .1 .0) v (good .1 .1 .1 .1 .0 .1 .1 .1 .1 .1 .1 .0 .1)))))
 
 slice-aggregate-finish : tie.Need-slice-aggregate-finish
 slice-aggregate-finish c = search needs
@@ -26,7 +29,12 @@ same-length-2 : tie.Need-same-length-2
 same-length-2 c = search needs
 
 returns : tie.Need-returns
-returns c = event-handled _ _ _ _ _ _ _ _ _ _ (c .before .before .before .before .before .before .before .before .before .before .before .before .before .before .before .before .before .before .before .before .before .before .before .pre .1 .0) (c .before .before .before .before .before .before .before .before .before .before .before .before .before .before .before .before .before .before .before .before .before .before .before .pre .1 .1) (λ i. omega (arith, c .before .before .before .before .before .before .before .before .before .before .slice-known3 .given i)) (c .before .before .before .before .before .before .before .before .before .before .before .before .before .before .before .before .copy-words .ensures) (c .before .before .before .before .finish .ensures) (c .before .before .before .before .before .before .before .before .before .before .before .before .steps .ensures)
+returns c =
+    let given = c .before .before .before .before .before .before .before .before .before .before .before .before .before .before .before .before .before .before .before .before .before .before .before .pre in
+    let slice-known3 = c .before .before .before .before .before .before .before .before .before .before .slice-known3 in
+    let copy-words = c .before .before .before .before .before .before .before .before .before .before .before .before .before .before .before .before .copy-words in
+    let steps = c .before .before .before .before .before .before .before .before .before .before .before .before .steps in
+    event-handled _ _ _ _ _ _ _ _ _ _ (given .1 .0) (given .1 .1) (λ i. omega (arith, slice-known3 .given i)) (copy-words .ensures) (c .before .before .before .before .finish .ensures) (steps .ensures)
 
 pub handle-event-spec : {M : Type 1} → statement M
 handle-event-spec =

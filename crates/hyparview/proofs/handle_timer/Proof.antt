@@ -9,7 +9,9 @@ cast-p : tie.Need-cast-p
 cast-p c = search needs
 
 handle-shuffle-timer-requires : tie.Need-handle-shuffle-timer-requires
-handle-shuffle-timer-requires c κs = (c .before .before .before .before .before .before .before .before .pre .0, c .before .before .before .before .before .before .before .before .pre .1 .0)
+handle-shuffle-timer-requires c κs =
+    let given = c .before .before .before .before .before .before .before .before .pre in
+    (given .0, given .1 .0)
 
 same-length : tie.Need-same-length
 same-length c = search needs
@@ -21,7 +23,9 @@ returns : tie.Need-returns
 returns c = shuffle-timer _ _ _ _ _ _ _ (c .before .before .before .before .before .before .before .if1 .taken) (c .before .before .before .before .handle-shuffle-timer .ensures)
 
 handle-maintenance-timer-requires : tie.Need-handle-maintenance-timer-requires
-handle-maintenance-timer-requires c κs = (c .before .before .before .before .before .before .before .before .before .before .pre .0, c .before .before .before .before .before .before .before .before .before .before .pre .1 .0)
+handle-maintenance-timer-requires c κs =
+    let given = c .before .before .before .before .before .before .before .before .before .before .pre in
+    (given .0, given .1 .0)
 
 same-length-3 : tie.Need-same-length-3
 same-length-3 c = search needs
@@ -33,7 +37,9 @@ returns-2 : tie.Need-returns-2
 returns-2 c = maintenance-timer _ _ _ _ _ _ _ (c .before .before .before .before .before .before .before .if2 .taken) (c .before .before .before .before .handle-maintenance-timer .ensures)
 
 handle-pending-neighbor-timer-requires : tie.Need-handle-pending-neighbor-timer-requires
-handle-pending-neighbor-timer-requires c κs = (c .before .before .before .before .before .before .before .before .before .before .before .before .pre .0, c .before .before .before .before .before .before .before .before .before .before .before .before .pre .1 .0)
+handle-pending-neighbor-timer-requires c κs =
+    let given = c .before .before .before .before .before .before .before .before .before .before .before .before .pre in
+    (given .0, given .1 .0)
 
 same-length-5 : tie.Need-same-length-5
 same-length-5 c = search needs
@@ -45,7 +51,9 @@ returns-3 : tie.Need-returns-3
 returns-3 c = request-timer _ _ _ _ _ _ _ (c .before .before .before .before .before .before .before .if3 .taken) (c .before .before .before .before .handle-pending-neighbor-timer .ensures)
 
 retry-join-requires : tie.Need-retry-join-requires
-retry-join-requires c κs = (c .before .before .before .before .before .before .before .before .before .before .before .before .pre .0, room-of _ _ _ (c .before .before .before .before .before .before .before .before .before .before .before .before .pre .1 .0))
+retry-join-requires c κs =
+    let given = c .before .before .before .before .before .before .before .before .before .before .before .before .pre in
+    (given .0, room-of _ _ _ (given .1 .0))
 
 same-length-7 : tie.Need-same-length-7
 same-length-7 c = search needs
@@ -54,7 +62,11 @@ same-length-8 : tie.Need-same-length-8
 same-length-8 c = search needs
 
 returns-4 : tie.Need-returns-4
-returns-4 c = join-timer _ _ _ _ _ _ _ (c .before .before .before .before .before .before .before .before .before .before .before .if1 .left) (c .before .before .before .before .before .before .before .before .before .if2 .left) (c .before .before .before .before .before .before .before .if3 .left) (then-tell (c .before .before .before .before .retry-join .ensures) (still (c .before .before .before .before .before .before .before .before .before .before .before .before .before .before .before .before .before .pre .1 .0)))
+returns-4 c =
+    let if1 = c .before .before .before .before .before .before .before .before .before .before .before .if1 in
+    let if2 = c .before .before .before .before .before .before .before .before .before .if2 in
+    let given = c .before .before .before .before .before .before .before .before .before .before .before .before .before .before .before .before .before .pre in
+    join-timer _ _ _ _ _ _ _ (if1 .left) (if2 .left) (c .before .before .before .before .before .before .before .if3 .left) (then-tell (c .before .before .before .before .retry-join .ensures) (still (given .1 .0)))
 
 pub handle-timer-spec : {M : Type 1} → statement M
 handle-timer-spec =

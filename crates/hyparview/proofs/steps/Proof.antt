@@ -19,7 +19,10 @@ same-length-2 : tie.Need-same-length-2
 same-length-2 c = search needs
 
 returns : tie.Need-returns
-returns c = stepped _ _ _ _ _ _ _ _ _ (c .before .before .forget-declined .ensures) (c .before .before .before .before .before .before .before .before .first-timers .ensures) (c .before .before .before .before .before .before .before .before .before .before .before .before .before .before .before .dispatch .ensures)
+returns c =
+    let first-timers = c .before .before .before .before .before .before .before .before .first-timers in
+    let dispatch = c .before .before .before .before .before .before .before .before .before .before .before .before .before .before .before .dispatch in
+    stepped _ _ _ _ _ _ _ _ _ (c .before .before .forget-declined .ensures) (first-timers .ensures) (dispatch .ensures)
 
 pub steps-spec : {M : Type 1} → statement M
 steps-spec = tie.close (tie.spec dispatch-requires first-timers-requires forget-declined-requires same-length same-length-2 returns)

@@ -25,7 +25,9 @@ same-length-2 : tie.Need-same-length-2
 same-length-2 c = search needs
 
 returns : tie.Need-returns
-returns c = walked _ _ _ _ _ _ _ _ _ (c .before .before .before .before .before .before .before .before .before .before .before .before .before .pre .1 .0) (c .before .before .before .before .before .before .before .before .before .before .before .before .before .pre .1 .1) (c .before .before .before .before .put-events .ensures)
+returns c =
+    let given = c .before .before .before .before .before .before .before .before .before .before .before .before .before .pre in
+    walked _ _ _ _ _ _ _ _ _ (given .1 .0) (given .1 .1) (c .before .before .before .before .put-events .ensures)
 
 pub put-walk-spec : {M : Type 1} → statement M
 put-walk-spec = tie.close (tie.spec sub-put-events part-put-events-start part-put-events-end slice-aggregate-put-events put-events-requires same-length same-length-2 returns)

@@ -26,7 +26,9 @@ slice-aggregate-put-walk-2 : tie.Need-slice-aggregate-put-walk-2
 slice-aggregate-put-walk-2 c = search needs
 
 put-walk-requires : tie.Need-put-walk-requires
-put-walk-requires c κs = (c .before .before .before .before .before .before .before .before .before .pre, numbers-read _ _ _ _ (c .before .before .before .before .before .before .before .before .before .pre) refl (c .before .before .before .before .read-numbers .ensures))
+put-walk-requires c κs =
+    let given = c .before .before .before .before .before .before .before .before .before .pre in
+    (given, numbers-read _ _ _ _ (given) refl (c .before .before .before .before .read-numbers .ensures))
 
 same-length : tie.Need-same-length
 same-length c = search needs

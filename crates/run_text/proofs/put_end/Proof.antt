@@ -19,7 +19,10 @@ same-length : tie.Need-same-length
 same-length c = search needs
 
 returns : tie.Need-returns
-returns c = end-put _ _ _ _ _ _ _ _ _ _ _ _ (c .before .before .put-field2 .ensures) (c .before .before .before .before .before .before .put-field .ensures) (c .before .before .before .before .before .before .before .before .before .before .put2 .ensures) (c .before .before .before .before .before .before .before .before .before .before .before .before .before .before .put .ensures)
+returns c =
+    let put2 = c .before .before .before .before .before .before .before .before .before .before .put2 in
+    let put = c .before .before .before .before .before .before .before .before .before .before .before .before .before .before .put in
+    end-put _ _ _ _ _ _ _ _ _ _ _ _ (c .before .before .put-field2 .ensures) (c .before .before .before .before .before .before .put-field .ensures) (put2 .ensures) (put .ensures)
 
 pub put-end-spec : {M : Type 1} → statement M
 put-end-spec = tie.close (tie.spec put-requires put-requires-2 put-field-requires put-field-requires-2 same-length returns)

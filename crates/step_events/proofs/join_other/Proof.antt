@@ -22,7 +22,9 @@ join-requires-2 : tie.Need-join-requires-2
 join-requires-2 c κs = search needs
 
 await-join-requires : tie.Need-await-join-requires
-await-join-requires c κs = (search needs, (search needs, free-after-join _ _ _ _ _ _ _ (c .before .before .before .before .join2 .ensures) (c .before .before .before .before .before .before .before .before .before .before .before .before .pre .1 .1)))
+await-join-requires c κs =
+    let given = c .before .before .before .before .before .before .before .before .before .before .before .before .pre in
+    (search needs, (search needs, free-after-join _ _ _ _ _ _ _ (c .before .before .before .before .join2 .ensures) (given .1 .1)))
 
 same-length-3 : tie.Need-same-length-3
 same-length-3 c = search needs

@@ -30,7 +30,9 @@ unfolding part unpack station-of
 insert-number-requires c κs = (search (of-packed, needs), search place-left)
 
 add-st : tie.Need-add-st
-add-st c = record { fits = omega (arith, number-left _ _ _ (c .before .before .before .before .before .before .before .before .pre .1 .1) (c .before .before .before .before .before .if1 .left)) }
+add-st c =
+    let given = c .before .before .before .before .before .before .before .before .pre in
+    record { fits = omega (arith, number-left _ _ _ (given .1 .1) (c .before .before .before .before .before .if1 .left)) }
 
 slice-write-st : tie.Need-slice-write-st
 slice-write-st c = search needs

@@ -23,7 +23,11 @@ same-length-2 c = search needs
 
 returns : tie.Need-returns
 unfolding handle-maintenance-timer
-returns c = then-tell-any (c .before .before .schedule-maintenance .ensures) (seq maintain (c .before .before .before .before .before .before .before .before .maintain .ensures) (then (c .before .before .before .before .before .before .before .before .before .before .before .before .before .remember-all .ensures) (still (c .before .before .before .before .before .before .before .before .before .before .before .before .before .before .before .before .before .before .pre .1))))
+returns c =
+    let maintain-2 = c .before .before .before .before .before .before .before .before .maintain in
+    let remember-all = c .before .before .before .before .before .before .before .before .before .before .before .before .before .remember-all in
+    let given = c .before .before .before .before .before .before .before .before .before .before .before .before .before .before .before .before .before .before .pre in
+    then-tell-any (c .before .before .schedule-maintenance .ensures) (seq maintain (maintain-2 .ensures) (then (remember-all .ensures) (still (given .1))))
 
 pub handle-maintenance-timer-spec : {M : Type 1} → statement M
 handle-maintenance-timer-spec =

@@ -28,7 +28,11 @@ same-length : tie.Need-same-length
 same-length c = search needs
 
 returns-2 : tie.Need-returns-2
-returns-2 c = one-recent _ _ _ _ _ _ (c .before .before .before .before .before .before .before .before .before .before .before .before .before .before .pre .1 .0) (c .before .before .before .before .before .before .before .before .before .is-empty .ensures) _ _ _ (c .before .before .before .before .before .before .before .count .ensures .0) (c .before .before .before .before .before .before .choose .ensures .1 .0) (c .before .before .before .before .get-index .ensures) _ _ _ (c .before .before .before .before .before .before .before .before .if1 .left) (c .before .before .join .ensures) (c .before .before .before .before .before .before .choose .ensures .0)
+returns-2 c =
+    let given = c .before .before .before .before .before .before .before .before .before .before .before .before .before .before .pre in
+    let is-empty = c .before .before .before .before .before .before .before .before .before .is-empty in
+    let if1 = c .before .before .before .before .before .before .before .before .if1 in
+    one-recent _ _ _ _ _ _ (given .1 .0) (is-empty .ensures) _ _ _ (c .before .before .before .before .before .before .before .count .ensures .0) (c .before .before .before .before .before .before .choose .ensures .1 .0) (c .before .before .before .before .get-index .ensures) _ _ _ (if1 .left) (c .before .before .join .ensures) (c .before .before .before .before .before .before .choose .ensures .0)
 
 pub rejoin-recent-spec : {M : Type 1} → statement M
 rejoin-recent-spec =

@@ -16,7 +16,9 @@ same-length : tie.Need-same-length
 same-length c = search needs
 
 returns : tie.Need-returns
-returns c = open-forgotten _ _ _ _ _ _ (c .before .before .drop-request .ensures) (c .before .before .before .before .before .before .forget-recent .ensures) (c .before .before .before .before .before .before .before .before .before .before .drop-join .ensures)
+returns c =
+    let drop-join = c .before .before .before .before .before .before .before .before .before .before .drop-join in
+    open-forgotten _ _ _ _ _ _ (c .before .before .drop-request .ensures) (c .before .before .before .before .before .before .forget-recent .ensures) (drop-join .ensures)
 
 pub forget-open-spec : {M : Type 1} → statement M
 forget-open-spec =

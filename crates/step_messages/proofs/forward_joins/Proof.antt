@@ -21,7 +21,9 @@ shared-slice-read-ttl : tie.Need-shared-slice-read-ttl
 shared-slice-read-ttl c = search needs
 
 cast-ttl : tie.Need-cast-ttl
-cast-ttl c = record { fits = omega (arith, walk-fits _ (c .before .before .before .before .before .before .before .before .pre .1 .0 .packed)) }
+cast-ttl c =
+    let given = c .before .before .before .before .before .before .before .before .pre in
+    record { fits = omega (arith, walk-fits _ (given .1 .0 .packed)) }
 
 array-share-prefix-v : tie.Need-array-share-prefix-v
 array-share-prefix-v c = search needs

@@ -11,7 +11,9 @@ forget-open-requires : tie.Need-forget-open-requires
 forget-open-requires c κs = search needs
 
 disconnected-requires : tie.Need-disconnected-requires
-disconnected-requires c κs = (search needs, (fine-after _ _ _ _ _ _ (c .before .before .before .before .before .before .before .before .before .before .before .pre .1 .0) (c .before .before .before .before .forget-open .ensures), ended-between _ _ _ _ _ _ (c .before .before .before .before .forget-open .ensures) _ _ _ (c .before .before .before .before .before .before .before .before .before .before .before .pre .1 .1)))
+disconnected-requires c κs =
+    let given = c .before .before .before .before .before .before .before .before .before .before .before .pre in
+    (search needs, (fine-after _ _ _ _ _ _ (given .1 .0) (c .before .before .before .before .forget-open .ensures), ended-between _ _ _ _ _ _ (c .before .before .before .before .forget-open .ensures) _ _ _ (given .1 .1)))
 
 same-length : tie.Need-same-length
 same-length c = search needs
@@ -20,7 +22,11 @@ same-length-2 : tie.Need-same-length-2
 same-length-2 c = search needs
 
 returns : tie.Need-returns
-returns c = disconnect-done _ _ _ _ _ _ (c .before .before .before .before .before .before .before .before .before .forget-open .ensures) _ _ _ (c .before .before .before .before .before .before .before .before .before .before .before .before .before .before .before .before .pre .1 .0) (c .before .before .before .before .before .before .before .before .before .before .before .is-requested .ensures) (c .before .before .before .before .disconnected .ensures)
+returns c =
+    let forget-open = c .before .before .before .before .before .before .before .before .before .forget-open in
+    let given = c .before .before .before .before .before .before .before .before .before .before .before .before .before .before .before .before .pre in
+    let is-requested = c .before .before .before .before .before .before .before .before .before .before .before .is-requested in
+    disconnect-done _ _ _ _ _ _ (forget-open .ensures) _ _ _ (given .1 .0) (is-requested .ensures) (c .before .before .before .before .disconnected .ensures)
 
 pub on-disconnect-spec : {M : Type 1} → statement M
 on-disconnect-spec =

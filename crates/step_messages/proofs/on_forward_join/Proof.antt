@@ -32,7 +32,11 @@ same-length-4 : tie.Need-same-length-4
 same-length-4 c = search needs
 
 returns-2 : tie.Need-returns-2
-returns-2 c = walk-goes-on _ _ _ _ _ _ _ _ _ (c .before .before .before .before .before .before .before .before .before .before .before .before .before .ends-here .ensures) _ _ (c .before .before .before .before .before .before .before .before .before .before .before .before .if1 .left) (c .before .before .walk-on .ensures) (c .before .before .before .before .before .before .before .before .before .learn-joiner .ensures)
+returns-2 c =
+    let ends-here = c .before .before .before .before .before .before .before .before .before .before .before .before .before .ends-here in
+    let if1 = c .before .before .before .before .before .before .before .before .before .before .before .before .if1 in
+    let learn-joiner = c .before .before .before .before .before .before .before .before .before .learn-joiner in
+    walk-goes-on _ _ _ _ _ _ _ _ _ (ends-here .ensures) _ _ (if1 .left) (c .before .before .walk-on .ensures) (learn-joiner .ensures)
 
 pub on-forward-join-spec : {M : Type 1} → statement M
 on-forward-join-spec =

@@ -20,7 +20,11 @@ same-length-2 : tie.Need-same-length-2
 same-length-2 c = search needs
 
 returns : tie.Need-returns
-returns c = joined _ _ _ _ _ (c .before .before .before .before .before .before .before .before .before .before .before .before .before .before .drop-pending .ensures) (c .before .before .before .before .before .before .before .before .before .before .before .before .before .before .before .before .before .before .before .pre .1 .0) _ _ _ _ _ (c .before .before .forward-joins .ensures) (c .before .before .before .before .before .before .before .before .before .add-active .ensures)
+returns c =
+    let drop-pending = c .before .before .before .before .before .before .before .before .before .before .before .before .before .before .drop-pending in
+    let given = c .before .before .before .before .before .before .before .before .before .before .before .before .before .before .before .before .before .before .before .pre in
+    let add-active = c .before .before .before .before .before .before .before .before .before .add-active in
+    joined _ _ _ _ _ (drop-pending .ensures) (given .1 .0) _ _ _ _ _ (c .before .before .forward-joins .ensures) (add-active .ensures)
 
 pub on-join-spec : {M : Type 1} → statement M
 on-join-spec =

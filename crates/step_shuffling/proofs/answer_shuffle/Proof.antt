@@ -17,7 +17,9 @@ same-length-2 : tie.Need-same-length-2
 same-length-2 c = search needs
 
 returns : tie.Need-returns
-returns c = answered _ _ _ _ _ _ _ _ _ _ _ _ _ (c .before .before .send-shuffle-reply .ensures) (c .before .before .before .before .before .before .before .before .before .before .add-nodes .ensures .0)
+returns c =
+    let add-nodes = c .before .before .before .before .before .before .before .before .before .before .add-nodes in
+    answered _ _ _ _ _ _ _ _ _ _ _ _ _ (c .before .before .send-shuffle-reply .ensures) (add-nodes .ensures .0)
 
 pub answer-shuffle-spec : {M : Type 1} → statement M
 answer-shuffle-spec =

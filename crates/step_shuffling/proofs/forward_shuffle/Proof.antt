@@ -28,13 +28,21 @@ next-requires : tie.Need-next-requires
 next-requires c κs = search needs
 
 emit-nodes-requires : tie.Need-emit-nodes-requires
-emit-nodes-requires c κs = (room-drawn _ _ _ _ _ (c .before .before .before .before .before .before .before .before .before .before .before .before .before .before .pre .1 .0) (c .before .before .before .before .before .choose .ensures .0) .written, search needs)
+emit-nodes-requires c κs =
+    let given = c .before .before .before .before .before .before .before .before .before .before .before .before .before .before .pre in
+    (room-drawn _ _ _ _ _ (given .1 .0) (c .before .before .before .before .before .choose .ensures .0) .written, search needs)
 
 same-length : tie.Need-same-length
 same-length c = search needs
 
 returns-2 : tie.Need-returns-2
-returns-2 c = shuffle-on _ _ _ _ _ _ _ _ _ (c .before .before .before .before .before .before .before .before .before .before .before .before .before .before .before .before .before .pre .1 .0) (c .before .before .before .before .before .before .before .before .before .before .before .is-empty .ensures) _ _ _ _ _ (c .before .before .before .before .before .before .before .before .before .count .ensures .0) (c .before .before .before .before .before .before .before .before .choose .ensures .1 .0) (c .before .before .before .before .before .before .get-index .ensures) (c .before .before .before .before .next .ensures) (c .before .before .before .before .before .event-nodes .ensures) _ _ _ (c .before .before .before .before .before .before .before .before .before .before .if1 .left) (c .before .before .emit-nodes .ensures) (c .before .before .before .before .before .before .before .before .choose .ensures .0)
+returns-2 c =
+    let given = c .before .before .before .before .before .before .before .before .before .before .before .before .before .before .before .before .before .pre in
+    let is-empty = c .before .before .before .before .before .before .before .before .before .before .before .is-empty in
+    let count = c .before .before .before .before .before .before .before .before .before .count in
+    let choose = c .before .before .before .before .before .before .before .before .choose in
+    let if1 = c .before .before .before .before .before .before .before .before .before .before .if1 in
+    shuffle-on _ _ _ _ _ _ _ _ _ (given .1 .0) (is-empty .ensures) _ _ _ _ _ (count .ensures .0) (choose .ensures .1 .0) (c .before .before .before .before .before .before .get-index .ensures) (c .before .before .before .before .next .ensures) (c .before .before .before .before .before .event-nodes .ensures) _ _ _ (if1 .left) (c .before .before .emit-nodes .ensures) (choose .ensures .0)
 
 pub forward-shuffle-spec : {M : Type 1} → statement M
 forward-shuffle-spec =

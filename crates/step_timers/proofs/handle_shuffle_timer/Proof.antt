@@ -18,7 +18,9 @@ same-length-2 c = search needs
 
 returns : tie.Need-returns
 unfolding handle-shuffle-timer
-returns c = seq schedule-shuffle (c .before .before .before .before .schedule-shuffle .ensures) (c .before .before .before .before .before .before .before .before .before .shuffle-any .ensures)
+returns c =
+    let shuffle-any = c .before .before .before .before .before .before .before .before .before .shuffle-any in
+    seq schedule-shuffle (c .before .before .before .before .schedule-shuffle .ensures) (shuffle-any .ensures)
 
 pub handle-shuffle-timer-spec : {M : Type 1} → statement M
 handle-shuffle-timer-spec =

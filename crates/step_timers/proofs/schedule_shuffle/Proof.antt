@@ -18,7 +18,9 @@ draw-requires : tie.Need-draw-requires
 draw-requires c κs = search needs
 
 delay-requires : tie.Need-delay-requires
-delay-requires c κs = of-interval _ (c .before .before .before .before .before .before .before .before .before .before .pre .1 .ready .packed)
+delay-requires c κs =
+    let given = c .before .before .before .before .before .before .before .before .before .before .pre in
+    of-interval _ (given .1 .ready .packed)
 
 cast-t12 : tie.Need-cast-t12
 cast-t12 c = search needs
@@ -33,7 +35,10 @@ same-length-2 : tie.Need-same-length-2
 same-length-2 c = search needs
 
 returns : tie.Need-returns
-returns c = scheduled _ _ _ _ _ _ _ _ _ _ _ (c .before .before .before .before .before .before .before .before .before .before .before .before .before .before .before .pre .1) (c .before .before .before .before .delay .ensures) (c .before .before .before .before .before .before .draw .ensures .1) (c .before .before .emit-bare .ensures) (c .before .before .before .before .before .before .draw .ensures .0) (c .before .before .before .before .before .before .before .before .before .double-interval .ensures)
+returns c =
+    let given = c .before .before .before .before .before .before .before .before .before .before .before .before .before .before .before .pre in
+    let double-interval = c .before .before .before .before .before .before .before .before .before .double-interval in
+    scheduled _ _ _ _ _ _ _ _ _ _ _ (given .1) (c .before .before .before .before .delay .ensures) (c .before .before .before .before .before .before .draw .ensures .1) (c .before .before .emit-bare .ensures) (c .before .before .before .before .before .before .draw .ensures .0) (double-interval .ensures)
 
 pub schedule-shuffle-spec : {M : Type 1} → statement M
 schedule-shuffle-spec =

@@ -28,7 +28,9 @@ shared-slice-read-ttl : tie.Need-shared-slice-read-ttl
 shared-slice-read-ttl c = search needs
 
 cast-ttl : tie.Need-cast-ttl
-cast-ttl c = record { fits = omega (arith, walk-fits _ (c .before .before .before .before .before .before .before .before .before .before .pre .1 .0 .packed)) }
+cast-ttl c =
+    let given = c .before .before .before .before .before .before .before .before .before .before .pre in
+    record { fits = omega (arith, walk-fits _ (given .1 .0 .packed)) }
 
 emit-nodes-requires : tie.Need-emit-nodes-requires
 emit-nodes-requires c κs = search needs
@@ -37,7 +39,11 @@ same-length : tie.Need-same-length
 same-length c = search needs
 
 returns : tie.Need-returns
-returns c = shuffle-told _ _ _ _ _ _ _ _ _ _ _ (c .before .before .before .before .before .before .before .before .before .before .before .before .before .before .pre .1 .0) (c .before .before .before .before .before .before .before .before .before .before .before .before .before .before .pre .1 .1 .0) (c .before .before .before .before .before .before .before .before .before .before .count .ensures .0) (c .before .before .before .before .before .before .own-data .ensures) (c .before .before .before .before .before .before .before .before .peer-infos .ensures) (c .before .before .before .before .before .push .ensures) (c .before .before .emit-nodes .ensures)
+returns c =
+    let given = c .before .before .before .before .before .before .before .before .before .before .before .before .before .before .pre in
+    let count = c .before .before .before .before .before .before .before .before .before .before .count in
+    let peer-infos = c .before .before .before .before .before .before .before .before .peer-infos in
+    shuffle-told _ _ _ _ _ _ _ _ _ _ _ (given .1 .0) (given .1 .1 .0) (count .ensures .0) (c .before .before .before .before .before .before .own-data .ensures) (peer-infos .ensures) (c .before .before .before .before .before .push .ensures) (c .before .before .emit-nodes .ensures)
 
 pub send-shuffle-spec : {M : Type 1} → statement M
 send-shuffle-spec =

@@ -50,7 +50,12 @@ same-length c = search needs
 
 returns-2 : tie.Need-returns-2
 unfolding part
-returns-2 c = one-asked _ _ _ _ _ (c .before .before .before .before .before .before .before .before .before .before .before .before .before .before .before .pre .1) (c .before .before .before .before .before .before .before .before .before .before .before .is-alone .ensures) _ _ _ (c .before .before .before .before .before .before .before .before .count .ensures .0) (c .before .before .before .before .before .before .before .choose .ensures .1 .0) (c .before .before .before .before .get-index .ensures) _ _ _ (c .before .before .before .before .before .before .before .before .before .before .if1 .left) (c .before .before .shuffle-with .ensures) (c .before .before .before .before .before .before .before .choose .ensures .0)
+returns-2 c =
+    let given = c .before .before .before .before .before .before .before .before .before .before .before .before .before .before .before .pre in
+    let is-alone = c .before .before .before .before .before .before .before .before .before .before .before .is-alone in
+    let count = c .before .before .before .before .before .before .before .before .count in
+    let if1 = c .before .before .before .before .before .before .before .before .before .before .if1 in
+    one-asked _ _ _ _ _ (given .1) (is-alone .ensures) _ _ _ (count .ensures .0) (c .before .before .before .before .before .before .before .choose .ensures .1 .0) (c .before .before .before .before .get-index .ensures) _ _ _ (if1 .left) (c .before .before .shuffle-with .ensures) (c .before .before .before .before .before .before .before .choose .ensures .0)
 
 pub shuffle-any-spec : {M : Type 1} → statement M
 shuffle-any-spec =

@@ -30,11 +30,16 @@ slice-aggregate-append c = search needs
 
 append-requires : tie.Need-append-requires
 unfolding part
-append-requires c κs = (search needs, (c .before .before .before .some-peers .ensures .1 .valid, both-fit _ (c .before .before .before .before .before .before .before .before .before .before .before .pre .1 .0 .ready .packed) _ _ _ (c .before .before .before .some-peers .ensures .1) (c .before .before .before .before .before .before .before .before .before .before .before .pre .1 .1 .1)))
+append-requires c κs =
+    let given = c .before .before .before .before .before .before .before .before .before .before .before .pre in
+    (search needs, (c .before .before .before .some-peers .ensures .1 .valid, both-fit _ (given .1 .0 .ready .packed) _ _ _ (c .before .before .before .some-peers .ensures .1) (given .1 .1 .1)))
 
 send-shuffle-requires : tie.Need-send-shuffle-requires
 unfolding part
-send-shuffle-requires c κs = (search needs, (room-drawn _ _ _ _ _ (c .before .before .before .before .before .before .before .before .before .before .before .before .before .before .before .before .pre .1 .0) (c .before .before .before .before .before .before .before .before .some-peers .ensures .0), (c .before .before .before .before .append .ensures .valid, all-fit _ (c .before .before .before .before .before .before .before .before .before .before .before .before .before .before .before .before .pre .1 .0 .ready .packed) _ _ _ _ (c .before .before .before .before .before .before .before .before .some-peers .ensures .1) (c .before .before .before .before .before .before .before .before .before .before .before .before .before .before .before .before .pre .1 .1 .1) (c .before .before .before .before .append .ensures))))
+send-shuffle-requires c κs =
+    let given = c .before .before .before .before .before .before .before .before .before .before .before .before .before .before .before .before .pre in
+    let some-peers = c .before .before .before .before .before .before .before .before .some-peers in
+    (search needs, (room-drawn _ _ _ _ _ (given .1 .0) (some-peers .ensures .0), (c .before .before .before .before .append .ensures .valid, all-fit _ (given .1 .0 .ready .packed) _ _ _ _ (some-peers .ensures .1) (given .1 .1 .1) (c .before .before .before .before .append .ensures))))
 
 same-length : tie.Need-same-length
 same-length c = search needs
@@ -44,7 +49,10 @@ same-length-2 c = search needs
 
 returns : tie.Need-returns
 unfolding part
-returns c = passive-done _ _ _ _ _ _ _ _ (c .before .before .before .before .before .before .before .before .before .before .before .before .before .before .before .before .before .before .before .pre .1 .0) _ _ _ (c .before .before .before .before .before .before .before .before .before .before .before .some-peers .ensures .0) (c .before .before .before .before .before .before .before .before .before .before .before .some-peers .ensures .1) (c .before .before .before .before .before .before .before .append .ensures) (c .before .before .send-shuffle .ensures)
+returns c =
+    let given = c .before .before .before .before .before .before .before .before .before .before .before .before .before .before .before .before .before .before .before .pre in
+    let some-peers = c .before .before .before .before .before .before .before .before .before .before .before .some-peers in
+    passive-done _ _ _ _ _ _ _ _ (given .1 .0) _ _ _ (some-peers .ensures .0) (some-peers .ensures .1) (c .before .before .before .before .before .before .before .append .ensures) (c .before .before .send-shuffle .ensures)
 
 pub shuffle-passive-spec : {M : Type 1} → statement M
 shuffle-passive-spec =

@@ -30,14 +30,18 @@ slice-aggregate-shuffle-passive c = search needs
 
 shuffle-passive-requires : tie.Need-shuffle-passive-requires
 unfolding part
-shuffle-passive-requires c κs = (search needs, (fine-drawn _ _ _ _ _ (c .before .before .before .before .before .before .before .before .before .before .pre .1) (c .before .before .before .some-peers .ensures .0), (c .before .before .before .some-peers .ensures .1 .valid, few-active _ (c .before .before .before .before .before .before .before .before .before .before .pre .1 .ready .packed) _ _ (c .before .before .before .some-peers .ensures .1))))
+shuffle-passive-requires c κs =
+    let given = c .before .before .before .before .before .before .before .before .before .before .pre in
+    (search needs, (fine-drawn _ _ _ _ _ (given .1) (c .before .before .before .some-peers .ensures .0), (c .before .before .before .some-peers .ensures .1 .valid, few-active _ (given .1 .ready .packed) _ _ (c .before .before .before .some-peers .ensures .1))))
 
 same-length : tie.Need-same-length
 same-length c = search needs
 
 returns : tie.Need-returns
 unfolding part
-returns c = with-done _ _ _ _ _ _ _ _ (c .before .before .before .before .before .before .before .before .before .before .before .before .before .before .pre .1) _ (c .before .before .before .before .before .before .before .some-peers .ensures .0) (c .before .before .before .before .before .before .before .some-peers .ensures .1) (c .before .before .before .shuffle-passive .ensures)
+returns c =
+    let given = c .before .before .before .before .before .before .before .before .before .before .before .before .before .before .pre in
+    with-done _ _ _ _ _ _ _ _ (given .1) _ (c .before .before .before .before .before .before .before .some-peers .ensures .0) (c .before .before .before .before .before .before .before .some-peers .ensures .1) (c .before .before .before .shuffle-passive .ensures)
 
 pub shuffle-with-spec : {M : Type 1} → statement M
 shuffle-with-spec =

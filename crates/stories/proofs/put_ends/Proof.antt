@@ -19,7 +19,10 @@ same-length : tie.Need-same-length
 same-length c = search needs
 
 returns : tie.Need-returns
-returns c = ends-put _ _ _ _ _ _ _ _ _ _ _ (c .before .before .put-line4 .ensures) (c .before .before .before .before .before .before .put-line3 .ensures) (c .before .before .before .before .before .before .before .before .before .before .put-line2 .ensures) (c .before .before .before .before .before .before .before .before .before .before .before .before .before .before .put-line .ensures)
+returns c =
+    let put-line2 = c .before .before .before .before .before .before .before .before .before .before .put-line2 in
+    let put-line = c .before .before .before .before .before .before .before .before .before .before .before .before .before .before .put-line in
+    ends-put _ _ _ _ _ _ _ _ _ _ _ (c .before .before .put-line4 .ensures) (c .before .before .before .before .before .before .put-line3 .ensures) (put-line2 .ensures) (put-line .ensures)
 
 pub put-ends-spec : {M : Type 1} → statement M
 put-ends-spec = tie.close (tie.spec put-line-requires put-line-requires-2 put-line-requires-3 put-line-requires-4 same-length returns)

@@ -28,12 +28,15 @@ slice-write-q c = search needs
 
 same-length : tie.Need-same-length
 same-length c =
+    let args = c .before .before .before .before .before .before .before .before .before .before .args in
     let k : length (c .before .before .clear-from .last .0) ≡ length (c .before .before .before .before .before .before .shift-down .last .0) = c .before .before .clear-from .kept .0 in
-    let m : length (c .before .before .before .before .before .before .shift-down .last .0) ≡ length (c .before .before .before .before .before .before .before .before .before .before .args .q .now) = c .before .before .before .before .before .before .shift-down .kept .0 in
+    let m : length (c .before .before .before .before .before .before .shift-down .last .0) ≡ length (args .q .now) = c .before .before .before .before .before .before .shift-down .kept .0 in
     length-set (c .before .before .clear-from .last .0) 0 _ ∙ k ∙ m
 
 returns : tie.Need-returns
-returns c = remove-law _ _ _ _ (c .before .before .before .before .before .before .before .before .before .before .pre .0) (c .before .before .before .before .before .before .before .before .before .before .pre .1) (c .before .before .clear-from .ensures) (c .before .before .before .before .before .before .shift-down .ensures)
+returns c =
+    let given = c .before .before .before .before .before .before .before .before .before .before .pre in
+    remove-law _ _ _ _ (given .0) (given .1) (c .before .before .clear-from .ensures) (c .before .before .before .before .before .before .shift-down .ensures)
 
 pub remove-spec : {M : Type 1} → statement M
 remove-spec =
