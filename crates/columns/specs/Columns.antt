@@ -16,11 +16,6 @@ use Rattle.peer.specs.Held.{data-in}
 use Rattle.peer.specs.Maps.{DataEntry, entry-bytes, ValidEntry, valid-entry}
 use Rattle.scan.specs.Words.{unused}
 use Rattle.util.specs.Section.{part, Filled}
-use Rattle.columns.specs.declared.PeerInfo.{PeerInfo}
-
--- the peer with its data that i stands for (the Rust's PeerInfo)
-unfoldable pub node-in : PeerInfo → Node
-node-in i = record { id = i .id; data-of = data-in (i .data) }
 
 -- ---- a map of numbers: n peers, their n numbers, and then the count
 

@@ -1,7 +1,7 @@
 // Maps by peer as sections of one lent list of 64-bit words: columns of `cap` places in rising order of the peers, and then the count of those in use.
 use peer::Number;
 use peer::PeerData;
-use util::PeerId;
+use peer::PeerId;
 ghost use mathlib.Core.Path.{_≡_};
 ghost use mathlib.Core.Bool.{true, _||_, _&&_};
 ghost use mathlib.Core.List.{[], _++_};
@@ -18,12 +18,6 @@ ghost use Rattle.peer.specs.Maps.{number-in, valid-entry};
 ghost use Rattle.scan.specs.Words.{unused};
 ghost use Rattle.util.specs.Section.{part, Filled, items-at, ValidSet, HoldsSet};
 ghost use Rattle.columns.specs.Columns.{numbers-at, ValidNumbers, HoldsNumbers, valid-numbers, Two, word-bytes, row, entries-at, data-at, ValidDataWords, HoldsDataWords, valid-data-words};
-
-// A peer with its data.
-pub struct PeerInfo {
-    pub id: PeerId,
-    pub data: PeerData,
-}
 
 // ---- two columns of cap places
 

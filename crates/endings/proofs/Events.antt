@@ -17,10 +17,9 @@ use Rattle.lists.proofs.Stored.{take-stored}
 use Rattle.timing.specs.Timing.{default}
 use Rattle.timing.specs.declared.Config.{Config}
 use Rattle.peer.specs.Data.{Data, bytes-of}
-use Rattle.peer.specs.Held.{HoldsData}
+use Rattle.peer.specs.Held.{HoldsData, node-in}
 use Rattle.peer.specs.declared.PeerData.{PeerData}
-use Rattle.columns.specs.Columns.{node-in}
-use Rattle.record.specs.Format.{Rec, datas, size, encode}
+use Rattle.record.specs.Format.{Rec, datas, size, size-by, encode}
 use Rattle.record.proofs.Format.{length-encode}
 use Rattle.writer.specs.Write.{rec-in, fits, written, reached, Wrote}
 use Rattle.writer.specs.declared.Written.{Written}
@@ -129,7 +128,7 @@ passes-at t d e (x ∷ xs) h zero = and-left (t x) _ h
 passes-at t d e (x ∷ xs) h (suc i) = passes-at t d e xs (and-right (t x) _ h) i
 
 small : (i : ℕ) → leb (0 + size (event-at i)) 32 ≡ true
-unfolding event-at events of-peer size datas bytes-of every
+unfolding event-at events of-peer size-by datas bytes-of every
 small i = passes-at (λ e. leb (0 + size e) 32) quit refl events refl i
 
 module _ (i : ℕ) (out : List ℕ) (long : length out ≡ 32) (w : Written) (b : List ℕ) (h : Wrote (event-at i) 0 out w b) where

@@ -16,7 +16,7 @@ use Rattle.histories.specs.Histories.{up-to}
 use Rattle.histories.proofs.Once.{how-many as histories-in-all}
 use Rattle.timing.specs.Timing.{default, within, in-range}
 use Rattle.peer.specs.Data.{bytes-of}
-use Rattle.record.specs.Format.{present, offset, entry, entries, datas, size, header, encode}
+use Rattle.record.specs.Format.{present, offset, entry-by, entries-by, datas, size-by, header-by, encode, encode-by}
 use Rattle.protocol.specs.Station.{Station}
 use Rattle.protocol.specs.Rules.{all-under, short-data, station-ok}
 use Rattle.protocol.specs.Handle.{new}
@@ -42,7 +42,7 @@ use Rattle.endings.proofs.Counts.{Counting, counting-end}
 -- ---- a history as a list of calls
 
 are-bytes : (i : ℕ) → all-under 256 (encode (event-at i)) ≡ true
-unfolding event-at events of-peer encode header entries entry datas size bytes-of offset present le all-under every
+unfolding event-at events of-peer encode-by header-by entries-by entry-by datas size-by bytes-of offset present le all-under every
 are-bytes i = passes-at (λ e. all-under 256 (encode e)) quit refl events refl i
 
 call : ℕ → Call

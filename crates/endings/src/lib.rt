@@ -1,13 +1,13 @@
 // Document 02, S-13: every history of at most four of sixteen events, and how many of them end with each size of the two views.
-use columns::PeerInfo;
 use hyparview::State;
 use peer::PeerData;
+use peer::PeerId;
+use peer::PeerInfo;
 use record::Flags;
 use record::Kind;
 use record::Message;
 use timing::Config;
 use timing::Timing;
-use util::PeerId;
 use writer::Fields;
 use writer::Written;
 ghost use mathlib.Core.Path.{_≡_};

@@ -11,7 +11,7 @@ use borrow.Author.Tests.{eqb-true, ne-eqb}
 use Rattle.lists.specs.Lists.{choose, without, push-new}
 use Rattle.lists.specs.Bytes.{le, read-le}
 use Rattle.lists.proofs.Choice.{split, choose-no}
-use Rattle.record.specs.Format.{Rec, header, encode}
+use Rattle.record.specs.Format.{Rec, header-by, encode, encode-by}
 use Rattle.record.specs.Walk.{kind-in, peer-in, records-in, walk}
 use Rattle.record.proofs.Walk.{records-written, records-zeros}
 use Rattle.protocol.specs.Station.{peers-end}
@@ -57,11 +57,11 @@ enter-same k p q l h =
 -- one record in front of other bytes
 module _ (e : Rec) (rest : List ℕ) (s : Sound e) where
   peer-is : e .peer < peers-end → peer-in (encode e ++ rest) ≡ e .peer
-  unfolding peer-in encode header le read-le
+  unfolding peer-in encode-by header-by le read-le
   peer-is n = omega (arith, n)
 
   kind-is : kind-in (encode e ++ rest) ≡ e .kind
-  unfolding kind-in encode header
+  unfolding kind-in encode-by header-by
   kind-is = refl
 
   entered : (l : Ledger) → enter (kind-in (encode e ++ rest)) (peer-in (encode e ++ rest)) l ≡ enter (e .kind) (e .peer) l

@@ -18,7 +18,7 @@ use Rattle.timing.specs.declared.Config.{Config}
 use Rattle.peer.specs.Data.{Data}
 use Rattle.record.specs.Format.{Rec}
 use Rattle.record.specs.InForm.{InForm}
-use Rattle.record.specs.Read.{Reading, read-event, rec-of, header-of}
+use Rattle.record.specs.Read.{Reading, read-event, rec-of, rec-of-by, header-of-by}
 use Rattle.record.specs.Walk.{kind-in, message-in}
 use Rattle.protocol.specs.Station.{Station}
 use Rattle.protocol.specs.Rules.{station-ok, short-data}
@@ -47,7 +47,7 @@ two-kinds : {C : Type 0} (x i j : ℕ) → (i ≡ j → ⊥) → eqb x i ≡ tru
 two-kinds x i j n a b = absurd (n (sym (eqb-true x i a) ∙ eqb-true x j b))
 
 pub pays : (a : ℕ) (b : List ℕ) → Pays a (number-of a b) (rec-of b)
-unfolding number-of message-number kind-in message-in rec-of header-of
+unfolding number-of message-number kind-in message-in rec-of-by header-of-by
 pays a b =
     let k = getD b 0 0 in
     let m = getD b 1 0 in
@@ -73,7 +73,7 @@ pub record Fine (c : Config) (me : ℕ) (b : List ℕ) (l : Ledger) (a : Answer)
 told-kept : (c : Config) (me : ℕ) (b : List ℕ) (l : Ledger) (alone : ℕ) (ds : List ℕ) (room : ℕ) (o : List Rec) (v : Station)
     → Good (at-start c me (l .up) (l .sent) (l .allowance + number-of (c .«active_view_capacity») b) alone ds room (rec-of b)) calm 0 v o → Lawful v → Narrow v → Covered v
     → Kept c me (booked o (open-event (c .«active_view_capacity») b l)) v
-unfolding booked open-event up-after sent-after kind-in rec-of header-of
+unfolding booked open-event up-after sent-after kind-in rec-of-by header-of-by
 told-kept c me b l alone ds room o v g w n y =
     record {
       core = record {

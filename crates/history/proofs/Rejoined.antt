@@ -11,7 +11,7 @@ use borrow.Author.Tests.{eqb-true, eqb-false, eq-eqb, le-ltb}
 use Rattle.lists.proofs.Choice.{by-choice, choose-yes, choose-no, and-left, and-right, and-false, clash}
 use Rattle.timing.specs.Timing.{backoff-due, in-range}
 use Rattle.timing.specs.declared.Config.{Config}
-use Rattle.record.specs.Read.{Reading, read-event, rec-of, header-of}
+use Rattle.record.specs.Read.{Reading, read-event, rec-of, rec-of-by, header-of-by}
 use Rattle.record.specs.Walk.{kind-in}
 use Rattle.protocol.specs.Station.{Station}
 use Rattle.protocol.specs.Timers.{knows-none}
@@ -55,7 +55,7 @@ begun t out zeros e b = record {
 
 module _ {c : Config} {me : ℕ} {l : Ledger} {s : Station} (h : Kept c me l s) (b ds : List ℕ) (room : ℕ) where
   passed-event : Readable (rec-of b) → Passed b s (finish s (steps (rec-of b) (start s ds room)))
-  unfolding finish accepted kind-in rec-of header-of
+  unfolding finish accepted kind-in rec-of-by header-of-by
   passed-event w =
       let a = c .«active_view_capacity» in
       let e = rec-of b in

@@ -50,35 +50,35 @@ only-four (suc (suc (suc (suc (suc (suc m)))))) l n₀ n₁ n₂ n₃ n₅ = abs
 
 module _ (b : List ℕ) (h : Header) (v : Headed b h) where
   pub kind-of : R.rec-of b .kind ≡ h .kind
-  unfolding R.rec-of
+  unfolding R.rec-of-by
   kind-of = ap (λ (x : Header). x .kind) (sym (v .head))
 
   number-of : R.rec-of b .number ≡ h .number
-  unfolding R.rec-of
+  unfolding R.rec-of-by
   number-of = ap (λ (x : Header). x .number) (sym (v .head))
 
   message-of : R.rec-of b .message ≡ h .message
-  unfolding R.rec-of
+  unfolding R.rec-of-by
   message-of = ap (λ (x : Header). x .message) (sym (v .head))
 
   peer-of : R.rec-of b .peer ≡ h .peer
-  unfolding R.rec-of
+  unfolding R.rec-of-by
   peer-of = ap (λ (x : Header). x .peer) (sym (v .head))
 
   second-of : R.rec-of b .second ≡ h .second
-  unfolding R.rec-of
+  unfolding R.rec-of-by
   second-of = ap (λ (x : Header). x .second) (sym (v .head))
 
   ttl-of : R.rec-of b .ttl ≡ h .ttl
-  unfolding R.rec-of
+  unfolding R.rec-of-by
   ttl-of = ap (λ (x : Header). x .ttl) (sym (v .head))
 
   flags-of : R.rec-of b .flags ≡ h .flags
-  unfolding R.rec-of
+  unfolding R.rec-of-by
   flags-of = ap (λ (x : Header). x .flags) (sym (v .head))
 
   nodes-are : (n : ℕ) → n ≡ h .nodes → R.rec-of b .nodes ≡ R.nodes-of b 0 n
-  unfolding R.rec-of
+  unfolding R.rec-of-by
   nodes-are n e = ap (R.nodes-of b 0) (ap (λ (x : Header). x .nodes) (sym (v .head)) ∙ sym e)
 
   pub count-is : (n : ℕ) → n ≡ h .nodes → n ≡ R.header-of b .nodes
@@ -92,7 +92,7 @@ module _ (b : List ℕ) (h : Header) (v : Headed b h) where
 
   -- the kinds of record that have one node have it
   header-fine : R.header-ok h ≡ true
-  unfolding R.well-formed
+  unfolding R.well-formed-by
   header-fine = ap R.header-ok (v .head) ∙ and-left _ _ (and-right (leb 24 (length b)) _ (v .formed))
 
   one-is : (R.is-message 0 h || (R.is-message 1 h || (R.is-message 4 h || R.is-data h))) ≡ true → R.header-of b .nodes ≡ 1
@@ -130,7 +130,7 @@ single-some b h v = omega (arith, v .one)
 -- ---- the six messages
 
 first-of : (b : List ℕ) (n : ℕ) → 0 < n → first-node (R.nodes-of b 0 n) ≡ R.node-at b 0
-unfolding R.nodes-of first-node
+unfolding R.nodes-of-by first-node
 first-of b zero h = absurd (not-suc-le-zero h)
 first-of b (suc n) h = refl
 
@@ -159,7 +159,7 @@ module _ (b : List ℕ) (h : Header) (u : Single b h) (g : Run) (r : Held) (ds o
   v = u .headed
 
   first-is : first-node (R.rec-of b .nodes) ≡ node-in n
-  unfolding R.rec-of
+  unfolding R.rec-of-by
   first-is = first-of b (R.header-of b .nodes) (single-some b h u) ∙ sym (x .holds)
 
   data-is : first-data (R.rec-of b) ≡ data-in (n .data)
@@ -224,7 +224,7 @@ module _ (b : List ℕ) (h : Header) (v : Headed b h) (g : Run) (r : Held) (ds o
   kind-join q k = by _ (rw (by-kind 6 q) (λ i. handle-join (peer-of b h v i) g)) k
 
   pub kind-data : (n : PeerInfo) → HoldsNode n (R.node-at b 0) → h .kind ≡ 7 → Does r ds o (on (update-own-data (data-in (n .data))) g) → Does r ds o (dispatch (R.rec-of b) g)
-  unfolding dispatch choose R.rec-of first-data node-in
+  unfolding dispatch choose R.rec-of-by first-data node-in
   kind-data n x q k =
       let e : first-node (R.nodes-of b 0 (R.header-of b .nodes)) ≡ node-in n = first-of b (R.header-of b .nodes) (omega (arith, one-node b h v q)) ∙ sym (x .holds) in
       by _ (rw (by-kind 7 q) (λ i. on (update-own-data (e i .data-of)) g)) k

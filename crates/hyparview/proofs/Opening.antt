@@ -69,7 +69,7 @@ module _ (xs ds out : List ℕ) (ok : state-ok xs ≡ true) where
   start-is = refl
 
 pub opens : (xs b : List ℕ) (h : Header) (ds out : List ℕ) → state-ok xs ≡ true → ReadAs b h → h .peer < peers-end → Opens (h .kind) (run (at-start xs) ds out)
-unfolding R.rec-of
+unfolding R.rec-of-by
 opens xs b h ds out ok v narrow =
     let e = v .headed .head in
     let w = readable b (v .headed .formed) (subst (λ (x : Header). x .kind ≤ 8) e (v .low)) (subst (λ (x : Header). x .nodes ≤ 32) e (v .few)) (subst (λ (x : Header). x .peer < peers-end) e narrow) in
@@ -175,7 +175,7 @@ is-record (Refused c) = 0
 is-record (Record h) = 1
 
 read-of : (b : List ℕ) (h : Header) → R.event (R.rec-of b) ≡ R.read-event b → event-answer b ≡ Record h → ReadAs b h
-unfolding event-answer R.is-event R.header-of header-in is-record
+unfolding event-answer R.is-event R.header-of-by header-in is-record
 read-of b h reads =
     by-choice X _ (λ z q. absurd (no-refusal 3 q))
     (λ z. by-choice X (ltb 32 (R.header-of b .nodes)) (λ y q. absurd (no-refusal 4 q))

@@ -1,7 +1,8 @@
 // `handle`: one event, whatever it is, to the whole result or one numbered refusal, over the words of a state.
-use columns::PeerInfo;
 use peer::MaybeData;
 use peer::PeerData;
+use peer::PeerId;
+use peer::PeerInfo;
 use record::Event;
 use record::Flags;
 use record::Header;
@@ -12,7 +13,6 @@ use state::Layout;
 use state::Work;
 use timing::Config;
 use timing::Timing;
-use util::PeerId;
 ghost use mathlib.Core.Path.{_≡_};
 ghost use mathlib.Core.Bool.{true};
 ghost use Prim.Native.Nat.{_≤_, min};

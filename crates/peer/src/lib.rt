@@ -1,9 +1,12 @@
-// Part 3 of document 01: a peer's data, and a peer with its data as a record has it.
+// Part 3 of document 01: a peer's data, and a peer with its data.
 ghost use mathlib.Core.Path.{_≡_};
 ghost use mathlib.Core.Option.{none};
 ghost use Rattle.lists.specs.Lists.{null};
 ghost use Rattle.peer.specs.Data.{bytes-of};
 ghost use Rattle.peer.specs.Held.{data-in, ValidData, HoldsData, Takes};
+
+// A peer, by its number.
+pub type PeerId = u64;
 
 // Data of a peer: absent, or 0 to 16 bytes. Unused bytes are zero, and absent data has length 0.
 pub struct PeerData {
@@ -12,9 +15,9 @@ pub struct PeerData {
     pub bytes: [u8; 16],
 }
 
-// A peer with its data, as a record has it: four bytes of the peer.
+// A peer with its data.
 pub struct PeerInfo {
-    pub id: u32,
+    pub id: PeerId,
     pub data: PeerData,
 }
 

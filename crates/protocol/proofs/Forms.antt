@@ -14,14 +14,14 @@ use Rattle.peer.specs.Data.{Data, Node, bytes-of}
 use Rattle.record.specs.declared.Header.{Header}
 use Rattle.record.specs.Format.{present}
 use Rattle.record.specs.Read as Rd
-use Rattle.record.specs.InForm.{InForm, NodesInForm, header-in}
+use Rattle.record.specs.InForm.{InForm, NodesInForm, NodesInFormBy, header-in-by}
 use Rattle.protocol.specs.Station.{top-counter, peers-end}
 use Rattle.protocol.specs.Run as R
 use Rattle.protocol.proofs.Narrow.{Peer, Held, Named}
 
 -- nodes of a record whose kind asks no more of them
 nodes-form : (h : Header) → ((id : ℕ) → Rd.id-ok h id ≡ true) → ((p : ℕ) → Rd.present-ok h p ≡ true) → (ns : List Node) → All Named ns → NodesInForm h ns
-unfolding NodesInForm All
+unfolding NodesInFormBy All
 nodes-form h f g [] a = tt
 nodes-form h f g (n ∷ ns) a =
     (record { id = a .0 .id; few = a .0 .held .few; bytes = a .0 .held .bytes; unnamed = f (n .id); there = g (present (n .data-of)) }, nodes-form h f g ns (a .1))
@@ -32,7 +32,7 @@ flag-low b = by-choice (λ (n : ℕ). n ≤ 1) b (λ e. omega arith) (λ e. omeg
 
 -- messages: Join, ForwardJoin, Shuffle, ShuffleReply, Neighbor, Disconnect
 pub form-join : (d : Data) {p : ℕ} → Held (bytes-of d) → Peer p → InForm (R.message 0 p 0 0 0 (R.node 0 d ∷ []))
-unfolding header-in Rd.header-ok Rd.kind-ok Rd.flags-ok Rd.count-ok Rd.peer-ok Rd.fields-ok Rd.fixed-size Rd.is-message Rd.is-timer Rd.is-data choose NodesInForm
+unfolding header-in-by Rd.header-ok Rd.kind-ok Rd.flags-ok Rd.count-ok Rd.peer-ok Rd.fields-ok Rd.fixed-size Rd.is-message Rd.is-timer Rd.is-data choose NodesInFormBy
 form-join d f l = record {
   header = refl;
   peer = l;
@@ -43,7 +43,7 @@ form-join d f l = record {
 }
 
 pub form-forward : (n : Node) {t p : ℕ} → Named n → t < 65536 → Peer p → InForm (R.message 1 p 0 0 t (n ∷ []))
-unfolding header-in Rd.header-ok Rd.kind-ok Rd.flags-ok Rd.count-ok Rd.peer-ok Rd.fields-ok Rd.fixed-size Rd.is-message Rd.is-timer Rd.is-data choose NodesInForm
+unfolding header-in-by Rd.header-ok Rd.kind-ok Rd.flags-ok Rd.count-ok Rd.peer-ok Rd.fields-ok Rd.fixed-size Rd.is-message Rd.is-timer Rd.is-data choose NodesInFormBy
 form-forward n f t l = record {
   header = refl;
   peer = l;
@@ -54,7 +54,7 @@ form-forward n f t l = record {
 }
 
 pub form-shuffle : {p o t : ℕ} (ns : List Node) → Peer p → Peer o → t < 65536 → length ns ≤ 32 → All Named ns → InForm (R.message 2 p 0 o t ns)
-unfolding header-in Rd.header-ok Rd.kind-ok Rd.flags-ok Rd.count-ok Rd.peer-ok Rd.fields-ok Rd.fixed-size Rd.is-message Rd.is-timer Rd.is-data choose
+unfolding header-in-by Rd.header-ok Rd.kind-ok Rd.flags-ok Rd.count-ok Rd.peer-ok Rd.fields-ok Rd.fixed-size Rd.is-message Rd.is-timer Rd.is-data choose
 form-shuffle ns l o t n f = record {
   header = rw (le-leb (length ns) 32 n);
   peer = l;
@@ -65,7 +65,7 @@ form-shuffle ns l o t n f = record {
 }
 
 pub form-reply : {p : ℕ} (ns : List Node) → Peer p → length ns ≤ 32 → All Named ns → InForm (R.message 3 p 0 0 0 ns)
-unfolding header-in Rd.header-ok Rd.kind-ok Rd.flags-ok Rd.count-ok Rd.peer-ok Rd.fields-ok Rd.fixed-size Rd.is-message Rd.is-timer Rd.is-data choose
+unfolding header-in-by Rd.header-ok Rd.kind-ok Rd.flags-ok Rd.count-ok Rd.peer-ok Rd.fields-ok Rd.fixed-size Rd.is-message Rd.is-timer Rd.is-data choose
 form-reply ns l n f = record {
   header = rw (le-leb (length ns) 32 n);
   peer = l;
@@ -76,7 +76,7 @@ form-reply ns l n f = record {
 }
 
 pub form-neighbor : (d : Data) (high : Bool) {p : ℕ} → Held (bytes-of d) → Peer p → InForm (R.message 4 p (R.flag high) 0 0 (R.node 0 d ∷ []))
-unfolding header-in Rd.header-ok Rd.kind-ok Rd.flags-ok Rd.count-ok Rd.peer-ok Rd.fields-ok Rd.fixed-size Rd.is-message Rd.is-timer Rd.is-data choose NodesInForm
+unfolding header-in-by Rd.header-ok Rd.kind-ok Rd.flags-ok Rd.count-ok Rd.peer-ok Rd.fields-ok Rd.fixed-size Rd.is-message Rd.is-timer Rd.is-data choose NodesInFormBy
 form-neighbor d high f l = record {
   header = rw (le-leb (R.flag high) 1 (flag-low high));
   peer = l;
@@ -87,7 +87,7 @@ form-neighbor d high f l = record {
 }
 
 pub form-disconnect : (alive : Bool) {p : ℕ} → Peer p → InForm (R.message 5 p (R.flag alive) 0 0 [])
-unfolding header-in Rd.header-ok Rd.kind-ok Rd.flags-ok Rd.count-ok Rd.peer-ok Rd.fields-ok Rd.fixed-size Rd.is-message Rd.is-timer Rd.is-data choose NodesInForm
+unfolding header-in-by Rd.header-ok Rd.kind-ok Rd.flags-ok Rd.count-ok Rd.peer-ok Rd.fields-ok Rd.fixed-size Rd.is-message Rd.is-timer Rd.is-data choose NodesInFormBy
 form-disconnect b l = record {
   header = rw (le-leb (R.flag b) 3 (let n : R.flag b ≤ 1 = flag-low b in omega arith));
   peer = l;
@@ -99,37 +99,37 @@ form-disconnect b l = record {
 
 -- timers: DoShuffle, DoMaintenance, PendingNeighborRequest, RetryJoin
 pub form-shuffle-timer : {t : ℕ} → t < peers-end → InForm (R.timer 1 0 t 0)
-unfolding header-in Rd.header-ok Rd.kind-ok Rd.flags-ok Rd.count-ok Rd.peer-ok Rd.fields-ok Rd.fixed-size Rd.is-message Rd.is-timer Rd.is-data choose NodesInForm
+unfolding header-in-by Rd.header-ok Rd.kind-ok Rd.flags-ok Rd.count-ok Rd.peer-ok Rd.fields-ok Rd.fixed-size Rd.is-message Rd.is-timer Rd.is-data choose NodesInFormBy
 form-shuffle-timer t = record { header = refl; peer = omega arith; second = t; ttl = omega arith; number = omega arith; nodes = tt }
 
 pub form-maintenance-timer : {t : ℕ} → t < peers-end → InForm (R.timer 2 0 t 0)
-unfolding header-in Rd.header-ok Rd.kind-ok Rd.flags-ok Rd.count-ok Rd.peer-ok Rd.fields-ok Rd.fixed-size Rd.is-message Rd.is-timer Rd.is-data choose NodesInForm
+unfolding header-in-by Rd.header-ok Rd.kind-ok Rd.flags-ok Rd.count-ok Rd.peer-ok Rd.fields-ok Rd.fixed-size Rd.is-message Rd.is-timer Rd.is-data choose NodesInFormBy
 form-maintenance-timer t = record { header = refl; peer = omega arith; second = t; ttl = omega arith; number = omega arith; nodes = tt }
 
 pub form-request-timer : {p t n : ℕ} → Peer p → t < peers-end → n ≤ top-counter → InForm (R.timer 3 p t n)
-unfolding header-in Rd.header-ok Rd.kind-ok Rd.flags-ok Rd.count-ok Rd.peer-ok Rd.fields-ok Rd.fixed-size Rd.is-message Rd.is-timer Rd.is-data choose NodesInForm
+unfolding header-in-by Rd.header-ok Rd.kind-ok Rd.flags-ok Rd.count-ok Rd.peer-ok Rd.fields-ok Rd.fixed-size Rd.is-message Rd.is-timer Rd.is-data choose NodesInFormBy
 form-request-timer p t n = record { header = refl; peer = p; second = t; ttl = omega arith; number = omega arith; nodes = tt }
 
 pub form-retry-timer : {p t n : ℕ} → Peer p → t < peers-end → n ≤ top-counter → InForm (R.timer 4 p t n)
-unfolding header-in Rd.header-ok Rd.kind-ok Rd.flags-ok Rd.count-ok Rd.peer-ok Rd.fields-ok Rd.fixed-size Rd.is-message Rd.is-timer Rd.is-data choose NodesInForm
+unfolding header-in-by Rd.header-ok Rd.kind-ok Rd.flags-ok Rd.count-ok Rd.peer-ok Rd.fields-ok Rd.fixed-size Rd.is-message Rd.is-timer Rd.is-data choose NodesInFormBy
 form-retry-timer p t n = record { header = refl; peer = p; second = t; ttl = omega arith; number = omega arith; nodes = tt }
 
 -- notices
 pub form-up : {p : ℕ} → Peer p → InForm (R.notice 9 p)
-unfolding header-in Rd.header-ok Rd.kind-ok Rd.flags-ok Rd.count-ok Rd.peer-ok Rd.fields-ok Rd.fixed-size Rd.is-message Rd.is-timer Rd.is-data choose NodesInForm
+unfolding header-in-by Rd.header-ok Rd.kind-ok Rd.flags-ok Rd.count-ok Rd.peer-ok Rd.fields-ok Rd.fixed-size Rd.is-message Rd.is-timer Rd.is-data choose NodesInFormBy
 form-up p = record { header = refl; peer = p; second = omega arith; ttl = omega arith; number = omega arith; nodes = tt }
 
 pub form-down : {p : ℕ} → Peer p → InForm (R.notice 10 p)
-unfolding header-in Rd.header-ok Rd.kind-ok Rd.flags-ok Rd.count-ok Rd.peer-ok Rd.fields-ok Rd.fixed-size Rd.is-message Rd.is-timer Rd.is-data choose NodesInForm
+unfolding header-in-by Rd.header-ok Rd.kind-ok Rd.flags-ok Rd.count-ok Rd.peer-ok Rd.fields-ok Rd.fixed-size Rd.is-message Rd.is-timer Rd.is-data choose NodesInFormBy
 form-down p = record { header = refl; peer = p; second = omega arith; ttl = omega arith; number = omega arith; nodes = tt }
 
 -- whom the passive view evicted
 pub form-evicted : {p : ℕ} → Peer p → InForm (R.notice 12 p)
-unfolding header-in Rd.header-ok Rd.kind-ok Rd.flags-ok Rd.count-ok Rd.peer-ok Rd.fields-ok Rd.fixed-size Rd.is-message Rd.is-timer Rd.is-data choose NodesInForm
+unfolding header-in-by Rd.header-ok Rd.kind-ok Rd.flags-ok Rd.count-ok Rd.peer-ok Rd.fields-ok Rd.fixed-size Rd.is-message Rd.is-timer Rd.is-data choose NodesInFormBy
 form-evicted p = record { header = refl; peer = p; second = omega arith; ttl = omega arith; number = omega arith; nodes = tt }
 
 pub form-data : {p : ℕ} (b : List ℕ) → Peer p → Held b → InForm (R.data-notice p b)
-unfolding header-in Rd.header-ok Rd.kind-ok Rd.flags-ok Rd.count-ok Rd.peer-ok Rd.fields-ok Rd.fixed-size Rd.is-message Rd.is-timer Rd.is-data choose NodesInForm bytes-of present
+unfolding header-in-by Rd.header-ok Rd.kind-ok Rd.flags-ok Rd.count-ok Rd.peer-ok Rd.fields-ok Rd.fixed-size Rd.is-message Rd.is-timer Rd.is-data choose NodesInFormBy bytes-of present
 form-data b p f = record {
   header = refl;
   peer = p;

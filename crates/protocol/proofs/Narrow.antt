@@ -12,7 +12,7 @@ use Rattle.lists.proofs.Entries.{all-set}
 use Rattle.timing.specs.declared.Config.{Config}
 use Rattle.peer.specs.Data.{Data, Node, bytes-of}
 use Rattle.record.specs.declared.Header.{Header}
-use Rattle.record.specs.InForm.{NodesInForm}
+use Rattle.record.specs.InForm.{NodesInForm, NodesInFormBy}
 use Rattle.protocol.specs.Station.{Station, top-counter, peers-end, bytes-end}
 use Rattle.protocol.specs.Run as R
 use Rattle.protocol.specs.Rules.{peer-lists}
@@ -125,6 +125,6 @@ named-infos s (p ∷ ps) h a = (record { id = a .0; held = held-lookup p (s .pee
 
 -- the nodes of a record in form
 pub form-nodes : (h : Header) (ns : List Node) → NodesInForm h ns → All Named ns
-unfolding NodesInForm All
+unfolding NodesInFormBy All
 form-nodes h [] a = tt
 form-nodes h (n ∷ ns) a = (record { id = a .0 .id; held = record { few = a .0 .few; bytes = a .0 .bytes } }, form-nodes h ns (a .1))

@@ -15,7 +15,7 @@ use Rattle.record.specs.Format.{Rec}
 use Rattle.record.specs.InForm.{InForm}
 use Rattle.record.proofs.Back.{in-form-back}
 use Rattle.record.specs.Read as Rd
-use Rattle.record.specs.Read.{Reading, refused, event, read-event, rec-of, header-of, entry-at}
+use Rattle.record.specs.Read.{Reading, refused, event, read-event, rec-of, rec-of-by, header-of, header-of-by, entry-at}
 use Rattle.record.specs.declared.Header.{Header}
 use Rattle.record.specs.declared.Entry.{Entry}
 use Rattle.protocol.specs.Station.{peers-end}
@@ -40,7 +40,7 @@ unfolding read-le
 narrow-peer b e = omega (arith, byte-at b 4 e, byte-at b 5 e, byte-at b 6 e, byte-at b 7 e)
 
 length-nodes : (b : List ℕ) (i n : ℕ) → length (Rd.nodes-of b i n) ≡ n
-unfolding Rd.nodes-of
+unfolding Rd.nodes-of-by
 length-nodes b i zero = refl
 length-nodes b i (suc n) = ap suc (length-nodes b (suc i) n)
 
@@ -57,7 +57,7 @@ short-entry b e at h =
     omega (arith, length-part (e .offset) (e .len) b))
 
 short-nodes : (h : Header) (b : List ℕ) (i n at : ℕ) → Rd.entries-ok h b i n at ≡ true → ShortNodes (Rd.nodes-of b i n)
-unfolding Rd.entries-ok Rd.nodes-of Rd.node-at Rd.entry-ok ShortNodes
+unfolding Rd.entries-ok-by Rd.nodes-of-by Rd.node-at-by Rd.entry-ok ShortNodes
 short-nodes h b i zero at e = tt
 short-nodes h b i (suc n) at e = (
   short-entry b (entry-at b i) at (and-left (Rd.data-ok (entry-at b i) at) _ (and-left (Rd.entry-ok h (entry-at b i) at) _ e)),
@@ -66,7 +66,7 @@ short-nodes h b i (suc n) at e = (
 
 -- a record of an event's kinds keeps them; its peer's width is that of the bytes, or of the type that it was read into
 pub readable : (b : List ℕ) → Rd.well-formed b ≡ true → header-of b .kind ≤ 8 → header-of b .nodes ≤ 32 → header-of b .peer < peers-end → Readable (rec-of b)
-unfolding rec-of Rd.well-formed
+unfolding rec-of-by Rd.well-formed-by
 readable b w low few narrow = record {
   low = low;
   narrow = narrow;
@@ -77,7 +77,7 @@ readable b w low few narrow = record {
 
 -- by cases: refused with 3 or 4, or an event in form that keeps its promises
 pub by-form : (b : List ℕ) → all-under 256 b ≡ true → (X : Reading → Type 0) → ((c : ℕ) → 3 ≤ c → c ≤ 4 → X (refused c)) → (Readable (rec-of b) → InForm (rec-of b) → X (event (rec-of b))) → X (read-event b)
-unfolding read-event Rd.is-event header-of
+unfolding read-event Rd.is-event header-of-by
 by-form b bytes X f g =
     by-choice X _ (λ e. f 3 (omega arith) (omega arith))
     (λ e. by-choice X (ltb 32 (getD b 3 0)) (λ i. f 4 (omega arith) (omega arith))

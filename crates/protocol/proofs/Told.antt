@@ -7,7 +7,7 @@ use Prim.Native.Nat.{ℕ, suc, _+_, _*_, _≤_}
 use native.Mathlib.Omega.{arith}
 use lib.ListN.{length, length-append}
 use Rattle.peer.specs.Data.{Data, Node, bytes-of}
-use Rattle.record.specs.Format.{Rec, size, datas}
+use Rattle.record.specs.Format.{Rec, size, size-by, datas}
 use Rattle.protocol.specs.Station.{Station}
 use Rattle.protocol.specs.Run.{peer-info, peer-infos}
 use Rattle.protocol.specs.Budgets.{bare, full-node}
@@ -30,7 +30,7 @@ length-datas (n ∷ ns) h =
     omega (arith, length-append (bytes-of (n .data-of)) (datas ns), length-datas ns (h .1), length-data (n .data-of) (h .0))
 
 pub size-short : (e : Rec) → ShortNodes (e .nodes) → size e ≤ bare + full-node * length (e .nodes)
-unfolding size
+unfolding size-by
 size-short e h = omega (arith, length-datas (e .nodes) h)
 
 -- what the station holds of a peer is short

@@ -16,9 +16,9 @@ use Rattle.lists.proofs.Choice.{choose-yes, choose-no, split, and-left, and-rig
 use Rattle.lists.proofs.Slices.{slice-append, slice-whole, slice-each}
 use Rattle.lists.proofs.Numbers.{Bytes, read-below, le-read, le-read-then}
 use Rattle.peer.specs.Data.{Data, Node, bytes-of}
-use Rattle.record.specs.Format.{Rec, header-length, node-length, present, offset, entry, entries, datas, size, header, encode}
-use Rattle.record.specs.Read.{header-of, entry-at, header-ok, data-ok, id-ok, present-ok, entry-ok, entries-ok, well-formed, data-at, node-at, nodes-of, rec-of, decode}
-use Rattle.record.specs.InForm.{header-in, NodeInForm, NodesInForm, InForm}
+use Rattle.record.specs.Format.{Rec, header-length-by, node-length-by, present, offset, entry-by, entries-by, datas, size-by, header-by, encode-by}
+use Rattle.record.specs.Read.{header-of-by, entry-from, entry-at-by, header-ok, data-ok, id-ok, present-ok, entry-ok, entries-ok-by, well-formed-by, data-at, node-at-by, nodes-of-by, rec-of-by, decode-by}
+use Rattle.record.specs.InForm.{header-in-by, NodeInForm, NodesInFormBy, InFormBy}
 use Rattle.record.specs.declared.Header.{Header}
 use Rattle.record.specs.declared.Entry.{Entry}
 use Rattle.record.proofs.Laws.{well-formed-long, entries-reach}
@@ -73,197 +73,211 @@ two l i h =
     (slice-cons i (i + 2) l 0 (omega arith) h
     ∙ ap (λ (r : List ℕ). getD l i 0 ∷ r) (slice-cons (suc i) (i + 2) l 0 (omega arith) h ∙ ap (λ (r : List ℕ). getD l (suc i) 0 ∷ r) (rw e (slice-empty (suc (suc i)) l))))
 
-module _ (b : List ℕ) (w : Bytes b) (i at : ℕ) where
+-- where the i-th entry stands
+abbrev pub place-by : ℕ → ℕ → ℕ
+place-by w i = header-length-by w + node-length-by w * i
+
+module _ (w : ℕ) (b : List ℕ) (ok : Bytes b) (i at : ℕ) where
   abbrev e : Entry
-  e = entry-at b i
+  e = entry-at-by w b i
 
   abbrev place : ℕ
-  place = header-length + node-length * i
+  place = place-by w i
 
-  module _ (s : Sound b (e .present) (e .offset) (e .len) at (data-at b e)) (fits : at + e .len ≤ length b) (room : place + 8 ≤ length b) where
+  abbrev end : ℕ
+  end = place + node-length-by w
+
+  module _ (s : Sound b (e .present) (e .offset) (e .len) at (data-at b e)) (fits : at + e .len ≤ length b) (room : end ≤ length b) where
     length-data : length (bytes-of (data-at b e)) ≡ e .len
     length-data = ap length (s .bytes) ∙ length-slice at (at + e .len) b fits ∙ (let q : at + e .len - at ≡ e .len = omega arith in q)
 
-    entry-back : entry (node-at b i) at ≡ slice place (place + 8) b
-    unfolding entry node-at entry-at
+    entry-back : entry-by w (node-at-by w b i) at ≡ slice place end b
+    unfolding entry-by node-at-by entry-at-by entry-from
     entry-back =
-        let k₆ : place + 4 + 2 ≡ place + 6 = omega arith in
-        let k₇ : place + 7 ≡ suc (place + 6) = omega arith in
-        let k₈ : place + 6 + 2 ≡ place + 8 = omega arith in
-        let q₀ : le 4 (read-le 4 b place) ++ slice (place + 4) (place + 8) b ≡ slice place (place + 8) b = le-read-then 4 b place (place + 8) w (omega arith) room in
-        let q₁ : le 2 (read-le 2 b (place + 4)) ++ slice (place + 4 + 2) (place + 8) b ≡ slice (place + 4) (place + 8) b = le-read-then 2 b (place + 4) (place + 8) w (omega arith) room in
-        let q₂ : getD b (place + 6) 0 ∷ getD b (place + 7) 0 ∷ [] ≡ slice (place + 4 + 2) (place + 8) b = rw (k₆, k₇, ← k₈) (two b (place + 6) (omega arith)) in
-        (λ j. le 4 (read-le 4 b place) ++ (le 2 (s .place j) ++ (length-data j ∷ s .there j ∷ [])))
-        ∙ ap (λ (r : List ℕ). le 4 (read-le 4 b place) ++ (le 2 (read-le 2 b (place + 4)) ++ r)) q₂ ∙ ap (λ (r : List ℕ). le 4 (read-le 4 b place) ++ r) q₁ ∙ q₀
+        let k₂ : place + w + 2 ≡ place + (w + 2) = omega arith in
+        let k₃ : place + (w + 3) ≡ suc (place + (w + 2)) = omega arith in
+        let k₄ : place + (w + 2) + 2 ≡ end = omega arith in
+        let q₀ : le w (read-le w b place) ++ slice (place + w) end b ≡ slice place end b = le-read-then w b place end ok (omega arith) room in
+        let q₁ : le 2 (read-le 2 b (place + w)) ++ slice (place + (w + 2)) end b ≡ slice (place + w) end b = rw (← k₂) (le-read-then 2 b (place + w) end ok (omega arith) room) in
+        let q₂ : getD b (place + (w + 2)) 0 ∷ getD b (place + (w + 3)) 0 ∷ [] ≡ slice (place + (w + 2)) end b = rw (k₃, ← k₄) (two b (place + (w + 2)) (omega arith)) in
+        (λ j. le w (read-le w b place) ++ (le 2 (s .place j) ++ (length-data j ∷ s .there j ∷ [])))
+        ∙ ap (λ (r : List ℕ). le w (read-le w b place) ++ (le 2 (read-le 2 b (place + w)) ++ r)) q₂ ∙ ap (λ (r : List ℕ). le w (read-le w b place) ++ r) q₁ ∙ q₀
 
-    node-form : (h : Header) → id-ok h (e .id) ≡ true → present-ok h (e .present) ≡ true → NodeInForm h (node-at b i)
-    unfolding node-at entry-at
+    node-form : (h : Header) → id-ok h (e .id) ≡ true → present-ok h (e .present) ≡ true → NodeInForm w h (node-at-by w b i)
+    unfolding node-at-by entry-at-by entry-from
     node-form h p q = record {
-      id = read-below 4 b place w;
+      id = read-below w b place ok;
       few = omega (arith, length-data, s .few);
-      bytes = λ k. rw (s .bytes) (slice-each (λ (x : ℕ). x < 256) 0 at (at + e .len) b (omega arith) w k);
+      bytes = λ k. rw (s .bytes) (slice-each (λ (x : ℕ). x < 256) 0 at (at + e .len) b (omega arith) ok k);
       unnamed = p;
       there = rw (s .there) q;
     }
 
 -- ---- all entries
 
-record Back (h : Header) (b : List ℕ) (i n at : ℕ) : Type 0 where
-  count : length (nodes-of b i n) ≡ n
-  reach : at + length (datas (nodes-of b i n)) ≡ length b
-  entries-are : entries (nodes-of b i n) at ≡ slice (header-length + node-length * i) (header-length + node-length * (i + n)) b
-  datas-are : datas (nodes-of b i n) ≡ slice at (length b) b
-  form : NodesInForm h (nodes-of b i n)
+record Back (w : ℕ) (h : Header) (b : List ℕ) (i n at : ℕ) : Type 0 where
+  count : length (nodes-of-by w b i n) ≡ n
+  reach : at + length (datas (nodes-of-by w b i n)) ≡ length b
+  entries-are : entries-by w (nodes-of-by w b i n) at ≡ slice (place-by w i) (place-by w (i + n)) b
+  datas-are : datas (nodes-of-by w b i n) ≡ slice at (length b) b
+  form : NodesInFormBy w h (nodes-of-by w b i n)
 
-module _ (h : Header) (b : List ℕ) (w : Bytes b) where
-  back-end : (i at : ℕ) → at ≡ length b → Back h b i 0 at
-  unfolding nodes-of entries datas NodesInForm
+module _ (w : ℕ) (h : Header) (b : List ℕ) (ok : Bytes b) where
+  back-end : (i at : ℕ) → at ≡ length b → Back w h b i 0 at
+  unfolding nodes-of-by entries-by datas NodesInFormBy
   back-end i at e =
       let z : i + 0 ≡ i = omega arith in
       record {
         count = refl;
         reach = omega arith;
-        entries-are = rw z (sym (slice-empty (header-length + node-length * i) b));
+        entries-are = rw z (sym (slice-empty (place-by w i) b));
         datas-are = rw e (sym (slice-empty (length b) b));
         form = tt;
       }
 
-  back-next : (i n at : ℕ) → header-length + node-length * (i + suc n) ≤ length b → entry-ok h (entry-at b i) at ≡ true → Back h b (suc i) n (at + entry-at b i .len) → Back h b i (suc n) at
-  unfolding nodes-of entries datas NodesInForm entry-ok node-at
-  back-next i n at room ok r =
-      let e : Entry = entry-at b i in
-      let ids : (id-ok h (e .id) && present-ok h (e .present)) ≡ true = and-right (data-ok e at) (id-ok h (e .id) && present-ok h (e .present)) ok in
-      let s : Sound b (e .present) (e .offset) (e .len) at (data-at b e) = sound b e at (and-left (data-ok e at) (id-ok h (e .id) && present-ok h (e .present)) ok) in
+  back-next : (i n at : ℕ) → place-by w (i + suc n) ≤ length b → entry-ok h (entry-at-by w b i) at ≡ true → Back w h b (suc i) n (at + entry-at-by w b i .len) → Back w h b i (suc n) at
+  unfolding nodes-of-by entries-by datas NodesInFormBy entry-ok node-at-by
+  back-next i n at room good r =
+      let e : Entry = entry-at-by w b i in
+      let p : ℕ = place-by w i in
+      let ids : (id-ok h (e .id) && present-ok h (e .present)) ≡ true = and-right (data-ok e at) (id-ok h (e .id) && present-ok h (e .present)) good in
+      let s : Sound b (e .present) (e .offset) (e .len) at (data-at b e) = sound b e at (and-left (data-ok e at) (id-ok h (e .id) && present-ok h (e .present)) good) in
       let fits : at + e .len ≤ length b = omega (arith, r .reach) in
-      let here : header-length + node-length * i + 8 ≤ length b = omega arith in
-      let l : length (bytes-of (data-at b e)) ≡ e .len = length-data b w i at s fits here in
-      let last : header-length + node-length * (suc i + n) ≡ header-length + node-length * (i + suc n) = omega arith in
-      let step : header-length + node-length * suc i ≡ header-length + node-length * i + 8 = omega arith in
+      let last : place-by w (suc i + n) ≡ place-by w (i + suc n) = omega arith in
+      let step : place-by w (suc i) ≡ p + node-length-by w = omega arith in
+      let more : p + node-length-by w ≤ place-by w (i + suc n) = omega arith in
+      let here : p + node-length-by w ≤ length b = omega arith in
+      let l : length (bytes-of (data-at b e)) ≡ e .len = length-data w b ok i at s fits here in
       record {
         count = ap suc (r .count);
-        reach = omega (arith, length-append (bytes-of (data-at b e)) (datas (nodes-of b (suc i) n)), l, r .reach);
+        reach = omega (arith, length-append (bytes-of (data-at b e)) (datas (nodes-of-by w b (suc i) n)), l, r .reach);
         entries-are =
-            (λ j. entry-back b w i at s fits here j ++ entries (nodes-of b (suc i) n) (at + l j))
-            ∙ ap (λ (x : List ℕ). slice (header-length + node-length * i) (header-length + node-length * i + 8) b ++ x) (r .entries-are ∙ rw (last, step))
-            ∙ slice-append (header-length + node-length * i) (header-length + node-length * i + 8) (header-length + node-length * (i + suc n)) b (omega arith) (omega arith) room;
+            (λ j. entry-back w b ok i at s fits here j ++ entries-by w (nodes-of-by w b (suc i) n) (at + l j))
+            ∙ ap (λ (x : List ℕ). slice p (p + node-length-by w) b ++ x) (r .entries-are ∙ rw (last, step))
+            ∙ slice-append p (p + node-length-by w) (place-by w (i + suc n)) b (omega arith) more room;
         datas-are = (λ j. s .bytes j ++ r .datas-are j) ∙ slice-append at (at + e .len) (length b) b (omega arith) fits (omega arith);
-        form = (node-form b w i at s fits here h (and-left (id-ok h (e .id)) (present-ok h (e .present)) ids) (and-right (id-ok h (e .id)) (present-ok h (e .present)) ids), r .form);
+        form = (node-form w b ok i at s fits here h (and-left (id-ok h (e .id)) (present-ok h (e .present)) ids) (and-right (id-ok h (e .id)) (present-ok h (e .present)) ids), r .form);
       }
 
-  back : (i n at : ℕ) → header-length + node-length * (i + n) ≤ length b → entries-ok h b i n at ≡ true → Back h b i n at
-  unfolding entries-ok
-  back i zero at room ok = back-end i at (eqb-true at (length b) ok)
-  back i (suc n) at room ok =
-      back-next i n at room (and-left (entry-ok h (entry-at b i) at) (entries-ok h b (suc i) n (at + entry-at b i .len)) ok)
-      (back (suc i) n (at + entry-at b i .len) (omega arith) (and-right (entry-ok h (entry-at b i) at) (entries-ok h b (suc i) n (at + entry-at b i .len)) ok))
+  back : (i n at : ℕ) → place-by w (i + n) ≤ length b → entries-ok-by w h b i n at ≡ true → Back w h b i n at
+  unfolding entries-ok-by
+  back i zero at room good = back-end i at (eqb-true at (length b) good)
+  back i (suc n) at room good =
+      back-next i n at room (and-left (entry-ok h (entry-at-by w b i) at) (entries-ok-by w h b (suc i) n (at + entry-at-by w b i .len)) good)
+      (back (suc i) n (at + entry-at-by w b i .len) (omega arith) (and-right (entry-ok h (entry-at-by w b i) at) (entries-ok-by w h b (suc i) n (at + entry-at-by w b i .len)) good))
 
 -- ---- the whole record
 
 -- what the bytes of a record meet
-pub record Parts (b : List ℕ) : Type 0 where
-  pub long : header-length ≤ length b
-  pub heads : header-ok (header-of b) ≡ true
-  pub sized : header-of b .size ≡ length b
-  pub listed : entries-ok (header-of b) b 0 (header-of b .nodes) (header-length + node-length * header-of b .nodes) ≡ true
+pub record Parts (w : ℕ) (b : List ℕ) : Type 0 where
+  pub long : header-length-by w ≤ length b
+  pub heads : header-ok (header-of-by w b) ≡ true
+  pub sized : header-of-by w b .size ≡ length b
+  pub listed : entries-ok-by w (header-of-by w b) b 0 (header-of-by w b .nodes) (place-by w (header-of-by w b .nodes)) ≡ true
 
-pub parts : (b : List ℕ) → well-formed b ≡ true → Parts b
-unfolding well-formed
-parts b t =
-    let h : Header = header-of b in
-    let n : Bool = entries-ok h b 0 (h .nodes) (header-length + node-length * h .nodes) in
-    let t₁ : (header-ok h && (eqb (h .size) (length b) && n)) ≡ true = and-right (leb header-length (length b)) (header-ok h && (eqb (h .size) (length b) && n)) t in
+pub parts : (w : ℕ) (b : List ℕ) → well-formed-by w b ≡ true → Parts w b
+unfolding well-formed-by
+parts w b t =
+    let h : Header = header-of-by w b in
+    let n : Bool = entries-ok-by w h b 0 (h .nodes) (place-by w (h .nodes)) in
+    let t₁ : (header-ok h && (eqb (h .size) (length b) && n)) ≡ true = and-right (leb (header-length-by w) (length b)) (header-ok h && (eqb (h .size) (length b) && n)) t in
     let t₂ : (eqb (h .size) (length b) && n) ≡ true = and-right (header-ok h) (eqb (h .size) (length b) && n) t₁ in
     record {
-      long = well-formed-long b t;
+      long = well-formed-long w b t;
       heads = and-left (header-ok h) (eqb (h .size) (length b) && n) t₁;
       sized = eqb-true (h .size) (length b) (and-left (eqb (h .size) (length b)) n t₂);
       listed = and-right (eqb (h .size) (length b)) n t₂;
     }
 
 -- the header's bytes are those that stood there
-header-slice : (b : List ℕ) → Bytes b → header-length ≤ length b → (n z : ℕ) → n ≡ getD b 3 0 → z ≡ read-le 2 b 14
-    → getD b 0 0 ∷ getD b 1 0 ∷ getD b 2 0 ∷ n ∷ (le 4 (read-le 4 b 4) ++ (le 4 (read-le 4 b 8) ++ (le 2 (read-le 2 b 12) ++ (le 2 z ++ le 8 (read-le 8 b 16)))))
-    ≡ slice 0 header-length b
-header-slice b w long n z p q =
-    let q₁₆ : le 8 (read-le 8 b 16) ≡ slice 16 24 b = le-read 8 b 16 w long in
-    let q₁₄ : le 2 z ++ slice 16 24 b ≡ slice 14 24 b = rw q (le-read-then 2 b 14 24 w (omega arith) long) in
-    let q₁₂ : le 2 (read-le 2 b 12) ++ slice 14 24 b ≡ slice 12 24 b = le-read-then 2 b 12 24 w (omega arith) long in
-    let q₈ : le 4 (read-le 4 b 8) ++ slice 12 24 b ≡ slice 8 24 b = le-read-then 4 b 8 24 w (omega arith) long in
-    let q₄ : le 4 (read-le 4 b 4) ++ slice 8 24 b ≡ slice 4 24 b = le-read-then 4 b 4 24 w (omega arith) long in
-    let q₃ : n ∷ slice 4 24 b ≡ slice 3 24 b = rw p (sym (slice-cons 3 24 b 0 (omega arith) long)) in
-    let q₂ : getD b 2 0 ∷ slice 3 24 b ≡ slice 2 24 b = sym (slice-cons 2 24 b 0 (omega arith) long) in
-    let q₁ : getD b 1 0 ∷ slice 2 24 b ≡ slice 1 24 b = sym (slice-cons 1 24 b 0 (omega arith) long) in
-    let q₀ : getD b 0 0 ∷ slice 1 24 b ≡ slice 0 24 b = sym (slice-cons 0 24 b 0 (omega arith) long) in
+header-slice : (w : ℕ) (b : List ℕ) → Bytes b → header-length-by w ≤ length b → (n z : ℕ) → n ≡ getD b 3 0 → z ≡ read-le 2 b (6 + 2 * w)
+    → getD b 0 0 ∷ getD b 1 0 ∷ getD b 2 0 ∷ n ∷ (le w (read-le w b 4) ++ (le w (read-le w b (4 + w)) ++ (le 2 (read-le 2 b (4 + 2 * w)) ++ (le 2 z ++ le 8 (read-le 8 b (8 + 2 * w))))))
+    ≡ slice 0 (header-length-by w) b
+header-slice w b ok long n z p q =
+    let t : ℕ = header-length-by w in
+    let e₂ : 4 + w + w ≡ 4 + 2 * w = omega arith in
+    let e₆ : 4 + 2 * w + 2 ≡ 6 + 2 * w = omega arith in
+    let e₈ : 6 + 2 * w + 2 ≡ 8 + 2 * w = omega arith in
+    let e₉ : 8 + 2 * w + 8 ≡ t = omega arith in
+    let qₙ : le 8 (read-le 8 b (8 + 2 * w)) ≡ slice (8 + 2 * w) t b = rw (← e₉) (le-read 8 b (8 + 2 * w) ok (omega arith)) in
+    let q_z : le 2 z ++ slice (8 + 2 * w) t b ≡ slice (6 + 2 * w) t b = rw (q, ← e₈) (le-read-then 2 b (6 + 2 * w) t ok (omega arith) long) in
+    let qₜ : le 2 (read-le 2 b (4 + 2 * w)) ++ slice (6 + 2 * w) t b ≡ slice (4 + 2 * w) t b = rw (← e₆) (le-read-then 2 b (4 + 2 * w) t ok (omega arith) long) in
+    let qₛ : le w (read-le w b (4 + w)) ++ slice (4 + 2 * w) t b ≡ slice (4 + w) t b = rw (← e₂) (le-read-then w b (4 + w) t ok (omega arith) long) in
+    let qₚ : le w (read-le w b 4) ++ slice (4 + w) t b ≡ slice 4 t b = le-read-then w b 4 t ok (omega arith) long in
+    let q₃ : n ∷ slice 4 t b ≡ slice 3 t b = rw p (sym (slice-cons 3 t b 0 (omega arith) long)) in
+    let q₂ : getD b 2 0 ∷ slice 3 t b ≡ slice 2 t b = sym (slice-cons 2 t b 0 (omega arith) long) in
+    let q₁ : getD b 1 0 ∷ slice 2 t b ≡ slice 1 t b = sym (slice-cons 1 t b 0 (omega arith) long) in
+    let q₀ : getD b 0 0 ∷ slice 1 t b ≡ slice 0 t b = sym (slice-cons 0 t b 0 (omega arith) long) in
     cc
 
-module _ (b : List ℕ) (w : Bytes b) (t : well-formed b ≡ true) where
+module _ (w : ℕ) (b : List ℕ) (ok : Bytes b) (t : well-formed-by w b ≡ true) where
   abbrev count : ℕ
-  count = header-of b .nodes
+  count = header-of-by w b .nodes
 
   abbrev start : ℕ
-  start = header-length + node-length * count
+  start = place-by w count
 
-  the-parts : Parts b
-  the-parts = parts b t
+  the-parts : Parts w b
+  the-parts = parts w b t
 
   room : start ≤ length b
-  room = entries-reach (header-of b) b 0 count start (the-parts .listed)
+  room = entries-reach w (header-of-by w b) b 0 count start (the-parts .listed)
 
-  all-back : Back (header-of b) b 0 count start
-  all-back = let z : 0 + count ≡ count = omega arith in back (header-of b) b w 0 count start (rw z room) (the-parts .listed)
+  all-back : Back w (header-of-by w b) b 0 count start
+  all-back = let z : 0 + count ≡ count = omega arith in back w (header-of-by w b) b ok 0 count start (rw z room) (the-parts .listed)
 
-  size-back : size (rec-of b) ≡ header-of b .size
-  unfolding size rec-of
-  size-back = omega (arith, all-back .count, all-back .reach, the-parts .sized)
+  size-back : size-by w (rec-of-by w b) ≡ header-of-by w b .size
+  unfolding size-by rec-of-by
+  size-back = rw (all-back .count) (omega (arith, all-back .reach, the-parts .sized))
 
-  pub header-back : header-in (rec-of b) ≡ header-of b
-  unfolding header-in rec-of
+  pub header-back : header-in-by w (rec-of-by w b) ≡ header-of-by w b
+  unfolding header-in-by rec-of-by
   header-back = λ j. record {
-    kind = header-of b .kind;
-    message = header-of b .message;
-    flags = header-of b .flags;
+    kind = header-of-by w b .kind;
+    message = header-of-by w b .message;
+    flags = header-of-by w b .flags;
     nodes = all-back .count j;
-    peer = header-of b .peer;
-    second = header-of b .second;
-    ttl = header-of b .ttl;
+    peer = header-of-by w b .peer;
+    second = header-of-by w b .second;
+    ttl = header-of-by w b .ttl;
     size = size-back j;
-    number = header-of b .number;
+    number = header-of-by w b .number;
   }
 
-  header-again : header (rec-of b) ≡ slice 0 header-length b
-  unfolding header rec-of header-of
-  header-again = header-slice b w (the-parts .long) (length (rec-of b .nodes)) (size (rec-of b)) (all-back .count) size-back
+  header-again : header-by w (rec-of-by w b) ≡ slice 0 (header-length-by w) b
+  unfolding header-by rec-of-by header-of-by
+  header-again = header-slice w b ok (the-parts .long) (length (rec-of-by w b .nodes)) (size-by w (rec-of-by w b)) (all-back .count) size-back
 
   abbrev ns : List Node
-  ns = nodes-of b 0 count
+  ns = nodes-of-by w b 0 count
 
-  entries-again : entries ns (header-length + node-length * length ns) ≡ slice header-length start b
+  entries-again : entries-by w ns (place-by w (length ns)) ≡ slice (header-length-by w) start b
   entries-again =
       let z : 0 + count ≡ count = omega arith in
-      let o : header-length + node-length * 0 ≡ header-length = omega arith in
-      (λ j. entries ns (header-length + node-length * all-back .count j)) ∙ all-back .entries-are ∙ rw (z, o)
+      let o : place-by w 0 ≡ header-length-by w = omega arith in
+      (λ j. entries-by w ns (place-by w (all-back .count j))) ∙ all-back .entries-are ∙ rw (z, o)
 
-  pub encode-back : encode (rec-of b) ≡ b
-  unfolding encode rec-of
+  pub encode-back : encode-by w (rec-of-by w b) ≡ b
+  unfolding encode-by rec-of-by
   encode-back =
       (λ j. header-again j ++ (entries-again j ++ all-back .datas-are j))
-      ∙ ap (λ (l : List ℕ). slice 0 header-length b ++ l) (slice-append header-length start (length b) b (omega arith) room (omega arith))
-      ∙ slice-append 0 header-length (length b) b (omega arith) (the-parts .long) (omega arith)
+      ∙ ap (λ (l : List ℕ). slice 0 (header-length-by w) b ++ l) (slice-append (header-length-by w) start (length b) b (omega arith) room (omega arith))
+      ∙ slice-append 0 (header-length-by w) (length b) b (omega arith) (the-parts .long) (omega arith)
       ∙ slice-whole b
 
-  pub in-form-back : InForm (rec-of b)
-  unfolding rec-of header-of
+  pub in-form-back : InFormBy w (rec-of-by w b)
+  unfolding rec-of-by header-of-by
   in-form-back = record {
     header = subst (λ (h : Header). header-ok h ≡ true) (sym header-back) (the-parts .heads);
-    peer = read-below 4 b 4 w;
-    second = read-below 4 b 8 w;
-    ttl = read-below 2 b 12 w;
-    number = read-below 8 b 16 w;
-    nodes = subst (λ (h : Header). NodesInForm h ns) (sym header-back) (all-back .form);
+    peer = read-below w b 4 ok;
+    second = read-below w b (4 + w) ok;
+    ttl = read-below 2 b (4 + 2 * w) ok;
+    number = read-below 8 b (8 + 2 * w) ok;
+    nodes = subst (λ (h : Header). NodesInFormBy w h ns) (sym header-back) (all-back .form);
   }
 
-pub decoded : (b : List ℕ) (e : Rec) → decode b ≡ some e → (well-formed b ≡ true) × (rec-of b ≡ e)
-unfolding decode
-decoded b e d =
-    split (well-formed b) (λ y. (y, let q : some (rec-of b) ≡ some e = sym (choose-yes (well-formed b) (some (rec-of b)) none y) ∙ d in cc))
-    (λ n. absurd (let q : none ≡ some e = sym (choose-no (well-formed b) (some (rec-of b)) none n) ∙ d in let z : _≡_ {A = ℕ} 0 1 = cc in omega arith))
+pub decoded : (w : ℕ) (b : List ℕ) (e : Rec) → decode-by w b ≡ some e → (well-formed-by w b ≡ true) × (rec-of-by w b ≡ e)
+unfolding decode-by
+decoded w b e d =
+    split (well-formed-by w b) (λ y. (y, let q : some (rec-of-by w b) ≡ some e = sym (choose-yes (well-formed-by w b) (some (rec-of-by w b)) none y) ∙ d in cc))
+    (λ n. absurd (let q : none ≡ some e = sym (choose-no (well-formed-by w b) (some (rec-of-by w b)) none n) ∙ d in let z : _≡_ {A = ℕ} 0 1 = cc in omega arith))

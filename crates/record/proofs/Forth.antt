@@ -1,29 +1,31 @@
 -- Every record in form reads back from its bytes as it is.
 -- Assumes nothing.
 use Prim.Native.Nat.{ℕ, suc, _+_, _*_, _^_, _≤_, _<_}
-use mathlib.Core.Path.{_≡_, refl, sym, ap, _∙_}
+use mathlib.Core.Path.{_≡_, refl, sym, ap, _∙_, subst}
 use mathlib.Core.Bool.{Bool, true, false, _&&_, _||_}
 use mathlib.Core.List.{List, [], _∷_, _++_, append-assoc}
 use mathlib.Core.Option.{none, some}
+use native.Mathlib.Nat.{mul-le-mul-right}
 use native.Mathlib.Omega.{arith}
 use borrow.Author.Tests.{eq-eqb, le-leb, leb-true, eqb-true}
-use lib.ListN.{length, getD, length-append}
-use lib.Seq.{getD-append-add}
+use lib.ListN.{length, length-append}
 use lib.Dec.{leb, eqb}
 use Rattle.lists.specs.Lists.{choose}
-use Rattle.lists.specs.Bytes.{le, read-le}
+use Rattle.lists.specs.Bytes.{le}
 use Rattle.lists.proofs.Choice.{choose-yes, and-left, and-right}
 use Rattle.lists.proofs.Slices.{slice-mid}
-use Rattle.lists.proofs.Numbers.{read-after}
+use Rattle.lists.proofs.Bytes.{length-le}
+use Rattle.lists.proofs.Numbers.{From, past, byte-from, number-from}
 use Rattle.peer.specs.Data.{Data, Node, bytes-of}
-use Rattle.record.specs.Format.{Rec, header-length, node-length, present, offset, entry, entries, datas, size, header, encode}
-use Rattle.record.specs.Read.{header-of, entry-at, is-message, is-data, kind-ok, flags-ok, count-ok, peer-ok, fields-ok, header-ok, data-ok, entry-ok, entries-ok, well-formed, data-at, node-at, nodes-of, rec-of, decode}
-use Rattle.record.specs.InForm.{header-in, NodesInForm, InForm}
+use Rattle.record.specs.Format.{Rec, peer-length, header-length-by, node-length-by, present, offset, entry-by, entries-by, datas, size, size-by, header-by, encode, encode-by}
+use Rattle.record.specs.Read.{header-of, header-of-by, entry-from, entry-at-by, is-message, is-data, kind-ok, flags-ok, count-ok, peer-ok, fields-ok, header-ok, data-ok, entry-ok, entries-ok-by, well-formed, well-formed-by, data-at, node-at-by, nodes-of-by, rec-of, rec-of-by, decode-by}
+use Rattle.record.specs.InForm.{header-in, header-in-by, NodesInFormBy, InForm, InFormBy}
 use Rattle.record.specs.declared.Header.{Header}
 use Rattle.record.specs.Answers.{answer}
 use Rattle.record.specs.declared.Entry.{Entry}
 use Rattle.record.specs.declared.Answer.the-variants.{Record}
-use Rattle.record.proofs.Format.{length-entry, length-entries, length-header, length-encode}
+use Rattle.record.proofs.Format.{length-entry, length-entries, length-header, length-encode-by}
+use Rattle.record.proofs.Back.{place-by}
 
 both-true : (a b : Bool) → a ≡ true → b ≡ true → (a && b) ≡ true
 both-true a b p q = rw (p, q)
@@ -35,79 +37,62 @@ abbrev entry-of : ℕ → Data → ℕ → Entry
 entry-of id d at = record { id = id; offset = offset d at; len = length (bytes-of d); present = present d }
 
 -- the entries of ns stand from the i-th on, and their data from place `at` on
-record Placed (b : List ℕ) (ns : List Node) (i at : ℕ) : Type 0 where
-  pre : List ℕ
+record Placed (w : ℕ) (b : List ℕ) (ns : List Node) (i at : ℕ) : Type 0 where
   post : List ℕ
-  front : List ℕ
-  entries-are : b ≡ pre ++ (entries ns at ++ post)
-  before : length pre ≡ header-length + node-length * i
-  data-are : b ≡ front ++ datas ns
-  reached : length front ≡ at
+  entries-are : From b (place-by w i) (entries-by w ns at ++ post)
+  data-are : From b at (datas ns)
 
 offset-below : (d : Data) (at : ℕ) → at < 65536 → offset d at < 65536
 unfolding offset
 offset-below none at h = omega arith
 offset-below (some b) at h = h
 
-module _ (n : Node) (at : ℕ) (rest : List ℕ) where
-  id-read : n .id < 2 ^ 32 → read-le 4 (entry n at ++ rest) 0 ≡ n .id
-  unfolding entry le read-le
-  id-read h = omega (arith, h)
+module _ (w : ℕ) {b : List ℕ} (n : Node) (at j : ℕ) (rest : List ℕ) where
+  -- an entry, field by field
+  entry-here : n .id < 256 ^ w → at < 65536 → From b j (entry-by w n at ++ rest) → entry-from w b j ≡ entry-of (n .id) (n .data-of) at
+  unfolding entry-by entry-from
+  entry-here h k f =
+      let d : Data = n .data-of in
+      let tail : List ℕ = length (bytes-of d) ∷ present d ∷ [] in
+      let mid : List ℕ = le 2 (offset d at) in
+      let q : (le w (n .id) ++ (mid ++ tail)) ++ rest ≡ le w (n .id) ++ (mid ++ (tail ++ rest)) =
+      append-assoc (le w (n .id)) (mid ++ tail) rest ∙ ap (λ (l : List ℕ). le w (n .id) ++ l) (append-assoc mid tail rest) in
+      let f₀ : From b j (le w (n .id) ++ (mid ++ (tail ++ rest))) = subst (λ (l : List ℕ). From b j l) q f in
+      let f₁ : From b (j + w) (mid ++ (tail ++ rest)) = past (le w (n .id)) (mid ++ (tail ++ rest)) (j + w) (omega (arith, length-le w (n .id))) f₀ in
+      let f₂ : From b (j + (w + 2)) (tail ++ rest) = past mid (tail ++ rest) (j + (w + 2)) (omega (arith, length-le 2 (offset d at))) f₁ in
+      let f₃ : From b (j + (w + 3)) (present d ∷ rest) = past (length (bytes-of d) ∷ []) (present d ∷ rest) (j + (w + 3)) (omega arith) f₂ in
+      λ i. record {
+        id = number-from w (n .id) (mid ++ (tail ++ rest)) h f₀ i;
+        offset = number-from 2 (offset d at) (tail ++ rest) (offset-below d at k) f₁ i;
+        len = byte-from (length (bytes-of d)) (present d ∷ rest) f₂ i;
+        present = byte-from (present d) rest f₃ i;
+      }
 
-  offset-read : at < 65536 → read-le 2 (entry n at ++ rest) 4 ≡ offset (n .data-of) at
-  unfolding entry le read-le
-  offset-read h = omega (arith, offset-below (n .data-of) at h)
-
-  len-read : getD (entry n at ++ rest) 6 0 ≡ length (bytes-of (n .data-of))
-  unfolding entry le
-  len-read = refl
-
-  present-read : getD (entry n at ++ rest) 7 0 ≡ present (n .data-of)
-  unfolding entry le
-  present-read = refl
-
-getD-after : (xs l : List ℕ) (j i : ℕ) → j ≡ length xs + i → getD (xs ++ l) j 0 ≡ getD l i 0
-getD-after xs l j i e = rw e (getD-append-add xs l i 0)
-
-module _ {b : List ℕ} {n : Node} {ns : List Node} {i at : ℕ} (p : Placed b (n ∷ ns) i at) where
+module _ {w : ℕ} {b : List ℕ} {n : Node} {ns : List Node} {i at : ℕ} (p : Placed w b (n ∷ ns) i at) where
   abbrev rest : List ℕ
-  rest = entries ns (at + length (bytes-of (n .data-of))) ++ p .post
+  rest = entries-by w ns (at + length (bytes-of (n .data-of))) ++ p .post
 
-  here : b ≡ p .pre ++ (entry n at ++ rest)
-  unfolding entries
-  here = p .entries-are ∙ ap (λ (l : List ℕ). p .pre ++ l) (append-assoc (entry n at) (entries ns (at + length (bytes-of (n .data-of)))) (p .post))
+  here : From b (place-by w i) (entry-by w n at ++ rest)
+  unfolding entries-by
+  here = subst (λ (l : List ℕ). From b (place-by w i) l) (append-assoc (entry-by w n at) (entries-by w ns (at + length (bytes-of (n .data-of)))) (p .post)) (p .entries-are)
 
-  placed-next : Placed b ns (suc i) (at + length (bytes-of (n .data-of)))
+  placed-next : Placed w b ns (suc i) (at + length (bytes-of (n .data-of)))
   unfolding datas
   placed-next = record {
-    pre = p .pre ++ entry n at;
     post = p .post;
-    front = p .front ++ bytes-of (n .data-of);
-    entries-are = here ∙ sym (append-assoc (p .pre) (entry n at) rest);
-    before = omega (arith, length-append (p .pre) (entry n at), length-entry n at, p .before);
-    data-are = p .data-are ∙ sym (append-assoc (p .front) (bytes-of (n .data-of)) (datas ns));
-    reached = length-append (p .front) (bytes-of (n .data-of)) ∙ ap (λ (k : ℕ). k + length (bytes-of (n .data-of))) (p .reached);
+    entries-are = past (entry-by w n at) rest (place-by w (suc i)) (omega (arith, length-entry w n at)) here;
+    data-are = past (bytes-of (n .data-of)) (datas ns) (at + length (bytes-of (n .data-of))) refl (p .data-are);
   }
 
-  abbrev place : ℕ
-  place = header-length + node-length * i
-
-  entry-read : n .id < 2 ^ 32 → at < 65536 → entry-at b i ≡ entry-of (n .id) (n .data-of) at
-  unfolding entry-at
-  entry-read h k =
-      let e : List ℕ = entry n at ++ rest in
-      let q : b ≡ p .pre ++ e = here in
-      let r₀ : read-le 4 b place ≡ n .id = rw q (read-after 4 (p .pre) e place 0 (omega (arith, p .before)) ∙ id-read n at rest h) in
-      let r₁ : read-le 2 b (place + 4) ≡ offset (n .data-of) at = rw q (read-after 2 (p .pre) e (place + 4) 4 (omega (arith, p .before)) ∙ offset-read n at rest k) in
-      let r₂ : getD b (place + 6) 0 ≡ length (bytes-of (n .data-of)) = rw q (getD-after (p .pre) e (place + 6) 6 (omega (arith, p .before)) ∙ len-read n at rest) in
-      let r₃ : getD b (place + 7) 0 ≡ present (n .data-of) = rw q (getD-after (p .pre) e (place + 7) 7 (omega (arith, p .before)) ∙ present-read n at rest) in
-      λ j. record { id = r₀ j; offset = r₁ j; len = r₂ j; present = r₃ j }
+  entry-read : n .id < 256 ^ w → at < 65536 → entry-at-by w b i ≡ entry-of (n .id) (n .data-of) at
+  unfolding entry-at-by
+  entry-read h k = entry-here w n at (place-by w i) rest h k here
 
 -- the data that an entry points at
-data-read : (b front rest : List ℕ) (id : ℕ) (d : Data) (at : ℕ) → b ≡ front ++ (bytes-of d ++ rest) → length front ≡ at → data-at b (entry-of id d at) ≡ d
+data-read : (b rest : List ℕ) (id : ℕ) (d : Data) (at : ℕ) → From b at (bytes-of d ++ rest) → data-at b (entry-of id d at) ≡ d
 unfolding data-at choose present offset bytes-of
-data-read b front rest id none at q l = refl
-data-read b front rest id (some d) at q l = ap some (rw q (slice-mid front d rest at l))
+data-read b rest id none at f = refl
+data-read b rest id (some d) at f = ap some (rw (f .is) (slice-mid (f .pre) d rest at (f .long)))
 
 data-sound : (d : Data) (id at : ℕ) → length (bytes-of d) ≤ 16 → data-ok (entry-of id d at) at ≡ true
 unfolding data-ok choose present offset bytes-of
@@ -116,30 +101,29 @@ data-sound (some d) id at h = rw (eq-eqb at at refl, le-leb _ _ h)
 
 -- ---- all entries
 
-datas-most : (h : Header) (ns : List Node) → NodesInForm h ns → length (datas ns) ≤ 16 * length ns
-unfolding datas NodesInForm
-datas-most h [] f = omega arith
-datas-most h (n ∷ ns) f = omega (arith, length-append (bytes-of (n .data-of)) (datas ns), f .0 .few, datas-most h ns (f .1))
+datas-most : (w : ℕ) (h : Header) (ns : List Node) → NodesInFormBy w h ns → length (datas ns) ≤ 16 * length ns
+unfolding datas NodesInFormBy
+datas-most w h [] f = omega arith
+datas-most w h (n ∷ ns) f = omega (arith, length-append (bytes-of (n .data-of)) (datas ns), f .0 .few, datas-most w h ns (f .1))
 
-entries-sound : (h : Header) (b : List ℕ) (ns : List Node) (i at : ℕ) → Placed b ns i at → NodesInForm h ns → at + length (datas ns) ≡ length b → length b < 65536
-    → entries-ok h b i (length ns) at ≡ true
-unfolding entries-ok entry-ok datas NodesInForm
-entries-sound h b [] i at p f l k = eq-eqb at (length b) (omega (arith, l))
-entries-sound h b (n ∷ ns) i at p f l k =
-    let s : at + length (bytes-of (n .data-of)) + length (datas ns) ≡ length b = omega (arith, l, length-append (bytes-of (n .data-of)) (datas ns)) in
-    let e : entry-at b i ≡ entry-of (n .id) (n .data-of) at = entry-read p (f .0 .id) (omega arith) in
-    rw (e, data-sound (n .data-of) (n .id) at (f .0 .few), f .0 .unnamed, f .0 .there) (entries-sound h b ns (suc i) (at + length (bytes-of (n .data-of))) (placed-next p) (f .1) s k)
+module _ (w : ℕ) (h : Header) (b : List ℕ) where
+  entries-sound : (ns : List Node) (i at : ℕ) → Placed w b ns i at → NodesInFormBy w h ns → at + length (datas ns) ≡ length b → length b < 65536 → entries-ok-by w h b i (length ns) at ≡ true
+  unfolding entries-ok-by entry-ok datas NodesInFormBy
+  entries-sound [] i at p f l k = eq-eqb at (length b) (omega (arith, l))
+  entries-sound (n ∷ ns) i at p f l k =
+      let s : at + length (bytes-of (n .data-of)) + length (datas ns) ≡ length b = omega (arith, l, length-append (bytes-of (n .data-of)) (datas ns)) in
+      let e : entry-at-by w b i ≡ entry-of (n .id) (n .data-of) at = entry-read p (f .0 .id) (omega arith) in
+      rw (e, data-sound (n .data-of) (n .id) at (f .0 .few), f .0 .unnamed, f .0 .there) (entries-sound ns (suc i) (at + length (bytes-of (n .data-of))) (placed-next p) (f .1) s k)
 
-nodes-back : (h : Header) (b : List ℕ) (ns : List Node) (i at : ℕ) → Placed b ns i at → NodesInForm h ns → at + length (datas ns) ≡ length b → length b < 65536
-    → nodes-of b i (length ns) ≡ ns
-unfolding nodes-of node-at datas NodesInForm
-nodes-back h b [] i at p f l k = refl
-nodes-back h b (n ∷ ns) i at p f l k =
-    let s : at + length (bytes-of (n .data-of)) + length (datas ns) ≡ length b = omega (arith, l, length-append (bytes-of (n .data-of)) (datas ns)) in
-    let e : entry-at b i ≡ entry-of (n .id) (n .data-of) at = entry-read p (f .0 .id) (omega arith) in
-    let d : data-at b (entry-of (n .id) (n .data-of) at) ≡ n .data-of = data-read b (p .front) (datas ns) (n .id) (n .data-of) at (p .data-are) (p .reached) in
-    let r : nodes-of b (suc i) (length ns) ≡ ns = nodes-back h b ns (suc i) (at + length (bytes-of (n .data-of))) (placed-next p) (f .1) s k in
-    rw (e, d, r)
+  nodes-back : (ns : List Node) (i at : ℕ) → Placed w b ns i at → NodesInFormBy w h ns → at + length (datas ns) ≡ length b → length b < 65536 → nodes-of-by w b i (length ns) ≡ ns
+  unfolding nodes-of-by node-at-by datas NodesInFormBy
+  nodes-back [] i at p f l k = refl
+  nodes-back (n ∷ ns) i at p f l k =
+      let s : at + length (bytes-of (n .data-of)) + length (datas ns) ≡ length b = omega (arith, l, length-append (bytes-of (n .data-of)) (datas ns)) in
+      let e : entry-at-by w b i ≡ entry-of (n .id) (n .data-of) at = entry-read p (f .0 .id) (omega arith) in
+      let d : data-at b (entry-of (n .id) (n .data-of) at) ≡ n .data-of = data-read b (datas ns) (n .id) (n .data-of) at (p .data-are) in
+      let r : nodes-of-by w b (suc i) (length ns) ≡ ns = nodes-back ns (suc i) (at + length (bytes-of (n .data-of))) (placed-next p) (f .1) s k in
+      rw (e, d, r)
 
 -- ---- the whole record
 
@@ -171,71 +155,103 @@ with-nodes e ns = record {
   nodes = ns;
 }
 
-module _ (e : Rec) (f : InForm e) where
+module _ (w : ℕ) (wide : w ≤ peer-length) (e : Rec) (f : InFormBy w e) where
   abbrev start : ℕ
-  start = header-length + node-length * length (e .nodes)
+  start = place-by w (length (e .nodes))
+
+  few-nodes : length (e .nodes) ≤ 32
+  unfolding header-in-by
+  few-nodes = count-most (header-in-by w e) (f .header)
 
   -- 32 nodes of 16 bytes: the whole length fits two bytes
-  pub size-most : size e ≤ 792
-  unfolding size header-in
-  size-most = omega (arith, count-most (header-in e) (f .header), datas-most (header-in e) (e .nodes) (f .nodes))
+  size-most-by : size-by w e ≤ 928
+  unfolding size-by
+  size-most-by =
+      omega (arith, wide, few-nodes, datas-most w (header-in-by w e) (e .nodes) (f .nodes), mul-le-mul-right {m = node-length-by w} {n = 12} (length (e .nodes)) (omega (arith, wide)))
 
-  pub header-read : header-of (encode e) ≡ header-in e
-  unfolding header-of encode header header-in le read-le
-  header-read =
-      let p : read-le 4 (encode e) 4 ≡ e .peer = omega (arith, f .peer) in
-      let s : read-le 4 (encode e) 8 ≡ e .second = omega (arith, f .second) in
-      let t : read-le 2 (encode e) 12 ≡ e .ttl = omega (arith, f .ttl) in
-      let z : read-le 2 (encode e) 14 ≡ size e = omega (arith, size-most) in
-      let n : read-le 8 (encode e) 16 ≡ e .number = omega (arith, f .number) in
+  header-read-by : header-of-by w (encode-by w e) ≡ header-in-by w e
+  unfolding header-of-by encode-by header-by header-in-by
+  header-read-by =
+      let b : List ℕ = encode-by w e in
+      let four : List ℕ = e .kind ∷ e .message ∷ e .flags ∷ length (e .nodes) ∷ [] in
+      let last : List ℕ = entries-by w (e .nodes) start ++ datas (e .nodes) in
+      let n : List ℕ = le 8 (e .number) in
+      let z : List ℕ = le 2 (size-by w e) in
+      let t : List ℕ = le 2 (e .ttl) in
+      let s : List ℕ = le w (e .second) in
+      let p : List ℕ = le w (e .peer) in
+      let q : (p ++ (s ++ (t ++ (z ++ n)))) ++ last ≡ p ++ (s ++ (t ++ (z ++ (n ++ last)))) =
+      append-assoc p (s ++ (t ++ (z ++ n))) last
+      ∙ ap (λ (l : List ℕ). p ++ l) (append-assoc s (t ++ (z ++ n)) last ∙ ap (λ (l : List ℕ). s ++ l) (append-assoc t (z ++ n) last ∙ ap (λ (l : List ℕ). t ++ l) (append-assoc z n last))) in
+      let f₀ : From b 4 (p ++ (s ++ (t ++ (z ++ (n ++ last))))) = record { pre = four; is = ap (λ (l : List ℕ). four ++ l) q; long = refl } in
+      let f₁ : From b (4 + w) (s ++ (t ++ (z ++ (n ++ last)))) = past p (s ++ (t ++ (z ++ (n ++ last)))) (4 + w) (omega (arith, length-le w (e .peer))) f₀ in
+      let f₂ : From b (4 + 2 * w) (t ++ (z ++ (n ++ last))) = past s (t ++ (z ++ (n ++ last))) (4 + 2 * w) (omega (arith, length-le w (e .second))) f₁ in
+      let f₃ : From b (6 + 2 * w) (z ++ (n ++ last)) = past t (z ++ (n ++ last)) (6 + 2 * w) (omega (arith, length-le 2 (e .ttl))) f₂ in
+      let f₄ : From b (8 + 2 * w) (n ++ last) = past z (n ++ last) (8 + 2 * w) (omega (arith, length-le 2 (size-by w e))) f₃ in
       λ j. record {
         kind = e .kind;
         message = e .message;
         flags = e .flags;
         nodes = length (e .nodes);
-        peer = p j;
-        second = s j;
-        ttl = t j;
-        size = z j;
-        number = n j;
+        peer = number-from w (e .peer) (s ++ (t ++ (z ++ (n ++ last)))) (f .peer) f₀ j;
+        second = number-from w (e .second) (t ++ (z ++ (n ++ last))) (f .second) f₁ j;
+        ttl = number-from 2 (e .ttl) (z ++ (n ++ last)) (f .ttl) f₂ j;
+        size = number-from 2 (size-by w e) (n ++ last) (omega (arith, size-most-by)) f₃ j;
+        number = number-from 8 (e .number) last (f .number) f₄ j;
       }
 
-  placed : Placed (encode e) (e .nodes) 0 start
-  unfolding encode
+  placed : Placed w (encode-by w e) (e .nodes) 0 start
+  unfolding encode-by
   placed = record {
-    pre = header e;
     post = datas (e .nodes);
-    front = header e ++ entries (e .nodes) start;
-    entries-are = refl;
-    before = length-header e;
-    data-are = sym (append-assoc (header e) (entries (e .nodes) start) (datas (e .nodes)));
-    reached = omega (arith, length-append (header e) (entries (e .nodes) start), length-header e, length-entries (e .nodes) start);
+    entries-are = record { pre = header-by w e; is = refl; long = omega (arith, length-header w e) };
+    data-are =
+        past (entries-by w (e .nodes) start) (datas (e .nodes)) start (omega (arith, length-entries w (e .nodes) start))
+        (record { pre = header-by w e; is = refl; long = length-header w e });
   }
 
-  whole : start + length (datas (e .nodes)) ≡ length (encode e)
-  unfolding size
-  whole = omega (arith, length-encode e)
+  whole : start + length (datas (e .nodes)) ≡ length (encode-by w e)
+  unfolding size-by
+  whole = omega (arith, length-encode-by w e)
 
-  small : length (encode e) < 65536
-  small = omega (arith, length-encode e, size-most)
+  small : length (encode-by w e) < 65536
+  small = omega (arith, length-encode-by w e, size-most-by)
+
+  well-formed-encode-by : well-formed-by w (encode-by w e) ≡ true
+  unfolding well-formed-by header-in-by
+  well-formed-encode-by =
+      rw header-read-by
+      (both-true _ _ (le-leb (header-length-by w) (length (encode-by w e)) (omega (arith, whole)))
+      (both-true _ _ (f .header)
+      (both-true _ _ (eq-eqb (size-by w e) (length (encode-by w e)) (sym (length-encode-by w e))) (entries-sound w (header-in-by w e) (encode-by w e) (e .nodes) 0 start placed (f .nodes) whole small))))
+
+  rec-of-encode-by : rec-of-by w (encode-by w e) ≡ e
+  unfolding rec-of-by header-in-by
+  rec-of-encode-by = rw header-read-by (ap (λ (ns : List Node). with-nodes e ns) (nodes-back w (header-in-by w e) (encode-by w e) (e .nodes) 0 start placed (f .nodes) whole small))
+
+  pub decode-encode : decode-by w (encode-by w e) ≡ some e
+  unfolding decode-by
+  decode-encode = choose-yes _ _ _ well-formed-encode-by ∙ ap some rec-of-encode-by
+
+-- ---- in this form
+
+abbrev as-wide : peer-length ≤ peer-length
+as-wide = omega arith
+
+module _ (e : Rec) (f : InForm e) where
+  pub size-most : size e ≤ 928
+  size-most = size-most-by peer-length as-wide e f
+
+  pub header-read : header-of (encode e) ≡ header-in e
+  header-read = header-read-by peer-length as-wide e f
 
   pub well-formed-encode : well-formed (encode e) ≡ true
-  unfolding well-formed header-in
-  well-formed-encode =
-      rw header-read
-      (both-true _ _ (le-leb header-length (length (encode e)) (omega (arith, whole)))
-      (both-true _ _ (f .header)
-      (both-true _ _ (eq-eqb (size e) (length (encode e)) (sym (length-encode e))) (entries-sound (header-in e) (encode e) (e .nodes) 0 start placed (f .nodes) whole small))))
+  well-formed-encode = well-formed-encode-by peer-length as-wide e f
 
   pub rec-of-encode : rec-of (encode e) ≡ e
-  unfolding rec-of header-in
-  rec-of-encode = rw header-read (ap (λ (ns : List Node). with-nodes e ns) (nodes-back (header-in e) (encode e) (e .nodes) 0 start placed (f .nodes) whole small))
+  rec-of-encode = rec-of-encode-by peer-length as-wide e f
 
-pub decode-encode : (e : Rec) → InForm e → decode (encode e) ≡ some e
-unfolding decode
-decode-encode e f = choose-yes _ _ _ (well-formed-encode e f) ∙ ap some (rec-of-encode e f)
-
--- the one reader's answer to what was written
-pub answer-encode : (e : Rec) → InForm e → answer (encode e) ≡ Record (header-in e)
-unfolding answer
-answer-encode e f = choose-yes _ _ _ (well-formed-encode e f) ∙ ap Record (header-read e f)
+  -- the one reader's answer to what was written
+  pub answer-encode : answer (encode e) ≡ Record (header-in e)
+  unfolding answer
+  answer-encode = choose-yes _ _ _ well-formed-encode ∙ ap Record header-read

@@ -10,8 +10,8 @@ use lib.ListN.{length, getD}
 use lib.Dec.{leb, ltb}
 use Rattle.lists.specs.Lists.{choose}
 use Rattle.lists.proofs.Choice.{choose-yes, choose-no, split, clash, and-left}
-use Rattle.record.specs.Format.{header-length}
-use Rattle.record.specs.Read.{header-of, entry-at, entry-ok, entries-ok, well-formed, rec-of, is-event, refused, event, read-event}
+use Rattle.record.specs.Format.{header-length, header-length-by}
+use Rattle.record.specs.Read.{header-of, entry-at-by, entry-ok, entries-ok-by, well-formed, well-formed-by, rec-of, is-event, refused, event, read-event}
 use Rattle.record.specs.Answers.{answer, event-answer, event-in, EventIs}
 pub use Rattle.record.specs.Answers.{Found}
 use Rattle.record.specs.declared.Header.{Header}
@@ -23,19 +23,20 @@ and-none : (a : Bool) → (a && false) ≡ false
 and-none true = refl
 and-none false = refl
 
--- data that would start past the end are no data of the record
-pub entries-short : (h : Header) (b : List ℕ) (i n at : ℕ) → length b < at → entries-ok h b i n at ≡ false
-unfolding entries-ok
-entries-short h b i zero at l = ne-eqb at (length b) (λ e. omega (arith, e))
-entries-short h b i (suc n) at l = rw (entries-short h b (suc i) n (at + entry-at b i .len) (omega arith)) (and-none (entry-ok h (entry-at b i) at))
+module _ (w : ℕ) where
+  -- data that would start past the end are no data of the record
+  pub entries-short : (h : Header) (b : List ℕ) (i n at : ℕ) → length b < at → entries-ok-by w h b i n at ≡ false
+  unfolding entries-ok-by
+  entries-short h b i zero at l = ne-eqb at (length b) (λ e. omega (arith, e))
+  entries-short h b i (suc n) at l = rw (entries-short h b (suc i) n (at + entry-at-by w b i .len) (omega arith)) (and-none (entry-ok h (entry-at-by w b i) at))
 
--- where entries are sound, their data start within the record
-pub entries-reach : (h : Header) (b : List ℕ) (i n at : ℕ) → entries-ok h b i n at ≡ true → at ≤ length b
-entries-reach h b i n at t = split (leb at (length b)) (λ y. leb-true at (length b) y) (λ n′. clash _ t (entries-short h b i n at (leb-false at (length b) n′)))
+  -- where entries are sound, their data start within the record
+  pub entries-reach : (h : Header) (b : List ℕ) (i n at : ℕ) → entries-ok-by w h b i n at ≡ true → at ≤ length b
+  entries-reach h b i n at t = split (leb at (length b)) (λ y. leb-true at (length b) y) (λ n′. clash _ t (entries-short h b i n at (leb-false at (length b) n′)))
 
-pub well-formed-long : (b : List ℕ) → well-formed b ≡ true → header-length ≤ length b
-unfolding well-formed
-well-formed-long b w = leb-true _ _ (and-left _ _ w)
+  pub well-formed-long : (b : List ℕ) → well-formed-by w b ≡ true → header-length-by w ≤ length b
+  unfolding well-formed-by
+  well-formed-long b t = leb-true _ _ (and-left _ _ t)
 
 -- a record's header, or none
 pub answer-record : (b : List ℕ) (h : Header) (t : Bool) → t ≡ well-formed b → t ≡ true → h ≡ header-of b → Answers.Record h ≡ answer b

@@ -5,7 +5,7 @@ use mathlib.Core.Path.{_≡_, refl, sym, ap, _∙_, subst}
 use mathlib.Core.Bool.{true, _&&_}
 use mathlib.Core.List.{List}
 use mathlib.Core.Option.{none, some}
-use native.Mathlib.Nat.{not-suc-le-zero}
+use native.Mathlib.Nat.{not-suc-le-zero, mul-le-mul-left}
 use native.Mathlib.Omega.{arith}
 use lib.ListN.{length, getD}
 use lib.Seq.{slice, length-slice}
@@ -16,80 +16,69 @@ use Rattle.lists.proofs.Choice.{choose-yes, choose-no, and-left, and-right}
 use Rattle.peer.specs.Data.{Data, Node, bytes-of}
 use Rattle.peer.specs.Held.{HoldsData, taken, node-in}
 use Rattle.peer.specs.declared.PeerData.{PeerData}
-use Rattle.record.specs.Format.{header-length, node-length, present}
-use Rattle.record.specs.Read.{header-of, entry-at, data-ok, id-ok, present-ok, entry-ok, entries-ok, well-formed, data-at, node-at, nodes-of, rec-of}
+use Rattle.record.specs.Format.{peer-length, header-length, node-length, node-length-by, present}
+use Rattle.record.specs.Read.{header-of, header-of-by, entry-at, entry-at-by, data-ok, id-ok, present-ok, entry-ok, entries-ok-by, well-formed, well-formed-by, data-at, node-at, node-at-by, nodes-of, nodes-of-by, rec-of, rec-of-by}
 use Rattle.record.specs.Answers.{HoldsNode}
 use Rattle.record.specs.declared.Header.{Header}
 use Rattle.record.specs.declared.Entry.{Entry}
 use Rattle.record.proofs.Laws.{entries-reach}
-use Rattle.record.proofs.Back.{Sound, sound, parts}
+use Rattle.record.proofs.Back.{Sound, sound, place-by, parts}
 
--- the i-th entry of b: its eight bytes and its data stand within b, the data are those that it points at, at most 16 bytes
-pub record EntryIn (b : List ℕ) (i : ℕ) : Type 0 where
-  pub room : header-length + node-length * i + 8 ≤ length b
-  pub within : entry-at b i .offset + entry-at b i .len ≤ length b
-  pub few : entry-at b i .len ≤ 16
-  pub bytes : bytes-of (data-at b (entry-at b i)) ≡ slice (entry-at b i .offset) (entry-at b i .offset + entry-at b i .len) b
-  pub there : present (data-at b (entry-at b i)) ≡ entry-at b i .present
+-- the i-th entry of b: its bytes and its data stand within b, the data are those that it points at, at most 16 bytes
+pub record EntryIn (w : ℕ) (b : List ℕ) (i : ℕ) : Type 0 where
+  pub room : place-by w i + node-length-by w ≤ length b
+  pub within : entry-at-by w b i .offset + entry-at-by w b i .len ≤ length b
+  pub few : entry-at-by w b i .len ≤ 16
+  pub bytes : bytes-of (data-at b (entry-at-by w b i)) ≡ slice (entry-at-by w b i .offset) (entry-at-by w b i .offset + entry-at-by w b i .len) b
+  pub there : present (data-at b (entry-at-by w b i)) ≡ entry-at-by w b i .present
 
-module _ (h : Header) (b : List ℕ) where
+module _ (w : ℕ) (h : Header) (b : List ℕ) where
   -- the data of the k-th entry from the i-th on stand at some place `at`
   record Stands (j : ℕ) : Type 0 where
     at : ℕ
-    sound-there : Sound b (entry-at b j .present) (entry-at b j .offset) (entry-at b j .len) at (data-at b (entry-at b j))
-    reach : at + entry-at b j .len ≤ length b
+    sound-there : Sound b (entry-at-by w b j .present) (entry-at-by w b j .offset) (entry-at-by w b j .len) at (data-at b (entry-at-by w b j))
+    reach : at + entry-at-by w b j .len ≤ length b
 
-  first : (i n at : ℕ) → entries-ok h b i (suc n) at ≡ true → Stands i
-  unfolding entries-ok entry-ok
+  first : (i n at : ℕ) → entries-ok-by w h b i (suc n) at ≡ true → Stands i
+  unfolding entries-ok-by entry-ok
   first i n at t =
-      let e = entry-at b i in
-      let rest = entries-ok h b (suc i) n (at + e .len) in
+      let e = entry-at-by w b i in
+      let rest = entries-ok-by w h b (suc i) n (at + e .len) in
       record {
         at = at;
         sound-there = sound b e at (and-left (data-ok e at) (id-ok h (e .id) && present-ok h (e .present)) (and-left (entry-ok h e at) rest t));
-        reach = entries-reach h b (suc i) n (at + e .len) (and-right (entry-ok h e at) rest t);
+        reach = entries-reach w h b (suc i) n (at + e .len) (and-right (entry-ok h e at) rest t);
       }
 
-  stands : (n i at k : ℕ) → entries-ok h b i n at ≡ true → k < n → Stands (i + k)
-  unfolding entries-ok
+  stands : (n i at k : ℕ) → entries-ok-by w h b i n at ≡ true → k < n → Stands (i + k)
+  unfolding entries-ok-by
   stands zero i at k t l = absurd (not-suc-le-zero l)
   stands (suc n) i at zero t l = (let z : i + 0 ≡ i = omega arith in rw z (first i n at t))
   stands (suc n) i at (suc k) t l =
       let z : i + suc k ≡ suc i + k = omega arith in
-      rw z (stands n (suc i) (at + entry-at b i .len) k (and-right (entry-ok h (entry-at b i) at) (entries-ok h b (suc i) n (at + entry-at b i .len)) t) (omega arith))
+      rw z (stands n (suc i) (at + entry-at-by w b i .len) k (and-right (entry-ok h (entry-at-by w b i) at) (entries-ok-by w h b (suc i) n (at + entry-at-by w b i .len)) t) (omega arith))
 
-module _ (b : List ℕ) (t : well-formed b ≡ true) (i : ℕ) (l : i < header-of b .nodes) where
+module _ (w : ℕ) (b : List ℕ) (t : well-formed-by w b ≡ true) (i : ℕ) (l : i < header-of-by w b .nodes) where
   abbrev n : ℕ
-  n = header-of b .nodes
+  n = header-of-by w b .nodes
 
-  pub entry-in : EntryIn b i
+  pub entry-in : EntryIn w b i
   entry-in =
-      let listed : entries-ok (header-of b) b 0 n (header-length + node-length * n) ≡ true = parts b t .listed in
+      let listed : entries-ok-by w (header-of-by w b) b 0 n (place-by w n) ≡ true = parts w b t .listed in
       let z : 0 + i ≡ i = omega arith in
-      let s : Stands (header-of b) b i = rw z at (stands (header-of b) b n 0 (header-length + node-length * n) i listed l) in
+      let s : Stands w (header-of-by w b) b i = rw z at (stands w (header-of-by w b) b n 0 (place-by w n) i listed l) in
       record {
-        room = omega (arith, entries-reach (header-of b) b 0 n (header-length + node-length * n) listed);
+        room = omega (arith, mul-le-mul-left (node-length-by w) l, entries-reach w (header-of-by w b) b 0 n (place-by w n) listed);
         within = omega (arith, s .reach, s .sound-there .low);
         few = s .sound-there .few;
         bytes = s .sound-there .own;
         there = s .sound-there .there;
       }
 
--- the i-th node of a record
-nodes-at : (b : List ℕ) (n i k : ℕ) (d : Node) → k < n → getD (nodes-of b i n) k d ≡ node-at b (i + k)
-unfolding nodes-of
-nodes-at b zero i k d l = absurd (not-suc-le-zero l)
-nodes-at b (suc n) i zero d l = let z : i + 0 ≡ i = omega arith in rw z
-nodes-at b (suc n) i (suc k) d l = let z : i + suc k ≡ suc i + k = omega arith in rw z (nodes-at b n (suc i) k d (omega arith))
-
 pub length-nodes-of : (b : List ℕ) (i n : ℕ) → length (nodes-of b i n) ≡ n
-unfolding nodes-of
+unfolding nodes-of-by
 length-nodes-of b i zero = refl
 length-nodes-of b i (suc n) = ap suc (length-nodes-of b (suc i) n)
-
-pub node-of-record : (b : List ℕ) (i : ℕ) (d : Node) → i < header-of b .nodes → getD (rec-of b .nodes) i d ≡ node-at b i
-unfolding rec-of
-node-of-record b i d l = let z : 0 + i ≡ i = omega arith in nodes-at b (header-of b .nodes) 0 i d l ∙ rw z
 
 -- ---- a node's data by value
 
@@ -107,7 +96,7 @@ module _ (b : List ℕ) (e : Entry) (r : PeerData) where
       subst (λ (x : Data). HoldsData r x) (t ∙ sym d) h
 
 pub node-held : (b : List ℕ) (i : ℕ) (e : Entry) (d : PeerData) → e ≡ entry-at b i → HoldsData d (data-at b e) → HoldsNode (record { id = e .id; «data» = d }) (node-at b i)
-unfolding node-at node-in
+unfolding node-at-by node-in
 node-held b i e d q h = record {
   valid = h .valid;
   holds = λ j. record { id = q j .id; data-of = (h .holds ∙ ap (data-at b) q) j };
@@ -116,11 +105,11 @@ node-held b i e d q h = record {
 -- ---- what the code asks of an entry that it read
 
 module _ (b : List ℕ) (i : ℕ) (t : well-formed b ≡ true) (l : i < header-of b .nodes) where
-  pub entry-room : 24 + 8 * i + 8 ≤ length b
-  entry-room = entry-in b t i l .room
+  pub entry-room : header-length + node-length * i + node-length ≤ length b
+  entry-room = entry-in peer-length b t i l .room
 
   pub entry-within : (e : Entry) → e ≡ entry-at b i → e .offset + e .len ≤ length b
-  entry-within e q = omega (arith, entry-in b t i l .within, ap (λ (x : Entry). x .offset) q, ap (λ (x : Entry). x .len) q)
+  entry-within e q = omega (arith, entry-in peer-length b t i l .within, ap (λ (x : Entry). x .offset) q, ap (λ (x : Entry). x .len) q)
 
   pub entry-few : (e : Entry) → e ≡ entry-at b i → e .len ≤ 16
-  entry-few e q = omega (arith, entry-in b t i l .few, ap (λ (x : Entry). x .len) q)
+  entry-few e q = omega (arith, entry-in peer-length b t i l .few, ap (λ (x : Entry). x .len) q)

@@ -1,4 +1,4 @@
--- Document 01, "Records": which bytes are a record, what it then says, and which bytes are an event.
+-- Document 01, "Records": which bytes are a record of the form where a peer has w bytes, what it then says, and which bytes are an event.
 -- Assumes nothing.
 use Prim.Native.Nat.{ℕ, zero, suc, _+_, _*_}
 use mathlib.Core.Bool.{Bool, true, not, _&&_, _||_}
@@ -10,36 +10,40 @@ use lib.Dec.{leb, ltb, eqb}
 use Rattle.lists.specs.Lists.{choose}
 use Rattle.lists.specs.Bytes.{read-le}
 use Rattle.peer.specs.Data.{Data, Node}
-use Rattle.record.specs.Format.{Rec, header-length, node-length, peer-length}
+use Rattle.record.specs.Format.{Rec, peer-length, header-length, header-length-by, node-length, node-length-by}
 use Rattle.record.specs.declared.Header.{Header}
 use Rattle.record.specs.declared.Entry.{Entry}
 
--- Part 3: "fixed sizes": 32 for kinds 7 and 11, 24 for the other kinds from 0 to 12 (12 by document 02, S-2), 0 for every other byte
+-- Part 3 and S-8, "fixed sizes": 44 for kinds 7 and 11, 32 for the other kinds from 0 to 12 (12 by document 02, S-2), 0 for every other byte
 unfoldable pub fixed-size : ℕ → ℕ
 fixed-size k = choose (eqb k 7 || eqb k 11) (header-length + node-length) (choose (leb k 12) header-length 0)
 
 -- the header's fields, as they stand
-unfoldable pub header-of : List ℕ → Header
-header-of b = record {
+unfoldable pub header-of-by : ℕ → List ℕ → Header
+header-of-by w b = record {
   kind = getD b 0 0;
   message = getD b 1 0;
   flags = getD b 2 0;
   nodes = getD b 3 0;
-  peer = read-le peer-length b 4;
-  second = read-le peer-length b 8;
-  ttl = read-le 2 b 12;
-  size = read-le 2 b 14;
-  number = read-le 8 b 16;
+  peer = read-le w b 4;
+  second = read-le w b (4 + w);
+  ttl = read-le 2 b (4 + 2 * w);
+  size = read-le 2 b (6 + 2 * w);
+  number = read-le 8 b (8 + 2 * w);
 }
 
--- the i-th node entry's fields, as they stand
-unfoldable pub entry-at : List ℕ → ℕ → Entry
-entry-at b i = record {
-  id = read-le peer-length b (header-length + node-length * i);
-  offset = read-le 2 b (header-length + node-length * i + 4);
-  len = getD b (header-length + node-length * i + 6) 0;
-  present = getD b (header-length + node-length * i + 7) 0;
+-- the fields of the node entry at a place, as they stand
+unfoldable pub entry-from : ℕ → List ℕ → ℕ → Entry
+entry-from w b at = record {
+  id = read-le w b at;
+  offset = read-le 2 b (at + w);
+  len = getD b (at + (w + 2)) 0;
+  present = getD b (at + (w + 3)) 0;
 }
+
+-- the i-th node entry
+unfoldable pub entry-at-by : ℕ → List ℕ → ℕ → Entry
+entry-at-by w b i = entry-from w b (header-length-by w + node-length-by w * i)
 
 -- message m of kind 0
 unfoldable pub is-message : ℕ → Header → Bool
@@ -53,7 +57,7 @@ is-timer h = leb 1 (h .kind) && leb (h .kind) 4
 unfoldable pub is-data : Header → Bool
 is-data h = eqb (h .kind) 7 || eqb (h .kind) 11
 
--- "Byte 0", "Byte 1": a known kind, and a message only in kind 0
+-- "Byte 0", "Byte 1": a known kind, the same in both forms, and a message only in kind 0
 unfoldable pub kind-ok : Header → Bool
 kind-ok h = not (eqb (fixed-size (h .kind)) 0) && choose (eqb (h .kind) 0) (leb (h .message) 5) (eqb (h .message) 0)
 
@@ -100,46 +104,72 @@ unfoldable pub entry-ok : Header → Entry → ℕ → Bool
 entry-ok h e at = data-ok e at && (id-ok h (e .id) && present-ok h (e .present))
 
 -- n entries from the i-th on are sound, and their data reach from place `at` to the whole length
-unfoldable pub entries-ok : Header → List ℕ → ℕ → ℕ → ℕ → Bool
-entries-ok h b i zero at = eqb at (length b)
-entries-ok h b i (suc n) at = entry-ok h (entry-at b i) at && entries-ok h b (suc i) n (at + entry-at b i .len)
+unfoldable pub entries-ok-by : ℕ → Header → List ℕ → ℕ → ℕ → ℕ → Bool
+entries-ok-by w h b i zero at = eqb at (length b)
+entries-ok-by w h b i (suc n) at = entry-ok h (entry-at-by w b i) at && entries-ok-by w h b (suc i) n (at + entry-at-by w b i .len)
 
 -- the bytes are a record
-unfoldable pub well-formed : List ℕ → Bool
-well-formed b =
-    leb header-length (length b)
-    && (header-ok (header-of b)
-    && (eqb (header-of b .size) (length b)
-    && entries-ok (header-of b) b 0 (header-of b .nodes) (header-length + node-length * header-of b .nodes)))
+unfoldable pub well-formed-by : ℕ → List ℕ → Bool
+well-formed-by w b =
+    leb (header-length-by w) (length b)
+    && (header-ok (header-of-by w b)
+    && (eqb (header-of-by w b .size) (length b)
+    && entries-ok-by w (header-of-by w b) b 0 (header-of-by w b .nodes) (header-length-by w + node-length-by w * header-of-by w b .nodes)))
 
 -- "A node's data is handed back as a part of the event's own bytes"
 unfoldable pub data-at : List ℕ → Entry → Data
 data-at b e = choose (eqb (e .present) 0) none (some (slice (e .offset) (e .offset + e .len) b))
 
-unfoldable pub node-at : List ℕ → ℕ → Node
-node-at b i = record { id = entry-at b i .id; data-of = data-at b (entry-at b i) }
+unfoldable pub node-at-by : ℕ → List ℕ → ℕ → Node
+node-at-by w b i = record { id = entry-at-by w b i .id; data-of = data-at b (entry-at-by w b i) }
 
 -- n nodes from the i-th on
-unfoldable pub nodes-of : List ℕ → ℕ → ℕ → List Node
-nodes-of b i zero = []
-nodes-of b i (suc n) = node-at b i ∷ nodes-of b (suc i) n
+unfoldable pub nodes-of-by : ℕ → List ℕ → ℕ → ℕ → List Node
+nodes-of-by w b i zero = []
+nodes-of-by w b i (suc n) = node-at-by w b i ∷ nodes-of-by w b (suc i) n
 
 -- what bytes say that are a record
-unfoldable pub rec-of : List ℕ → Rec
-rec-of b = record {
-  kind = header-of b .kind;
-  message = header-of b .message;
-  flags = header-of b .flags;
-  peer = header-of b .peer;
-  second = header-of b .second;
-  ttl = header-of b .ttl;
-  number = header-of b .number;
-  nodes = nodes-of b 0 (header-of b .nodes);
+unfoldable pub rec-of-by : ℕ → List ℕ → Rec
+rec-of-by w b = record {
+  kind = header-of-by w b .kind;
+  message = header-of-by w b .message;
+  flags = header-of-by w b .flags;
+  peer = header-of-by w b .peer;
+  second = header-of-by w b .second;
+  ttl = header-of-by w b .ttl;
+  number = header-of-by w b .number;
+  nodes = nodes-of-by w b 0 (header-of-by w b .nodes);
 }
 
 -- The one reader for kinds 0 to 12
-unfoldable pub decode : List ℕ → Option Rec
-decode b = choose (well-formed b) (some (rec-of b)) none
+unfoldable pub decode-by : ℕ → List ℕ → Option Rec
+decode-by w b = choose (well-formed-by w b) (some (rec-of-by w b)) none
+
+-- ---- the same in this form
+
+abbrev pub header-of : List ℕ → Header
+header-of = header-of-by peer-length
+
+abbrev pub entry-at : List ℕ → ℕ → Entry
+entry-at = entry-at-by peer-length
+
+abbrev pub entries-ok : Header → List ℕ → ℕ → ℕ → ℕ → Bool
+entries-ok = entries-ok-by peer-length
+
+abbrev pub well-formed : List ℕ → Bool
+well-formed = well-formed-by peer-length
+
+abbrev pub node-at : List ℕ → ℕ → Node
+node-at = node-at-by peer-length
+
+abbrev pub nodes-of : List ℕ → ℕ → ℕ → List Node
+nodes-of = nodes-of-by peer-length
+
+abbrev pub rec-of : List ℕ → Rec
+rec-of = rec-of-by peer-length
+
+abbrev pub decode : List ℕ → Option Rec
+decode = decode-by peer-length
 
 -- "as an event, kinds 9 to 11 and a timer's nonzero delay are malformed", and kind 12 by S-2
 unfoldable pub is-event : Header → Bool
@@ -150,7 +180,7 @@ pub data Reading : Type 0 where
   refused : ℕ → Reading
   event : Rec → Reading
 
--- "Order: 3 if under 24 bytes; 4; any other 3"
+-- "Order: 3 if under 24 bytes; 4; any other 3", since S-8 under 32
 unfoldable pub read-event : List ℕ → Reading
 read-event b =
     choose (ltb (length b) header-length) (refused 3)

@@ -1,5 +1,6 @@
 // Part 3 of document 01: the records, their fixed sizes, and one reader.
 use peer::PeerData;
+use peer::PeerId;
 use peer::PeerInfo;
 ghost use mathlib.Core.Path.{_≡_};
 ghost use mathlib.Core.Bool.{true};
@@ -8,19 +9,25 @@ ghost use lib.ListN.{length};
 ghost use lib.Seq.{slice};
 ghost use Rattle.lists.specs.Lists.{choose};
 ghost use Rattle.lists.specs.Bytes.{read-le};
+ghost use Rattle.record.specs.Format.{header-length, node-length};
 ghost use Rattle.record.specs.Read.{fixed-size, header-of, entry-at, is-message, is-timer, is-data, kind-ok, flags-ok, count-ok, peer-ok, fields-ok, header-ok, data-ok, entry-ok, entries-ok, well-formed, is-event, data-at, node-at};
 ghost use Rattle.peer.specs.Held.{HoldsData};
 ghost use Rattle.record.specs.Answers.{answer, EventIs, HoldsNode};
 
-// The 24 bytes that every record starts with, as numbers.
+// The bytes of a header and of a node entry.
+pub const HEADER: usize = 32;
+
+pub const NODE: usize = 12;
+
+// The header that every record starts with, as numbers.
 #[repr(C)]
 pub struct Header {
     pub kind: u8,
     pub message: u8,
     pub flags: u8,
     pub nodes: u8,
-    pub peer: u32,
-    pub second: u32,
+    pub peer: PeerId,
+    pub second: u64,
     pub ttl: u16,
     pub size: u16,
     pub number: u64,
@@ -29,7 +36,7 @@ pub struct Header {
 // A node entry: the peer, and where its data stands in the record.
 #[repr(C)]
 pub struct Entry {
-    pub id: u32,
+    pub id: PeerId,
     pub offset: u16,
     pub len: u8,
     pub present: u8,
@@ -128,10 +135,10 @@ pub fn fixed_size(kind: u8) -> u8
     ensures { λ r. ⌜ r ≡ fixed-size kind ⌝ }
 {
     if (kind == Kind::UPDATE_PEER_DATA) | (kind == Kind::PEER_DATA) {
-        return 32;
+        return 44;
     }
     if kind <= Kind::EVICTED {
-        return 24;
+        return 32;
     }
     0
 }
@@ -174,7 +181,7 @@ fn read_u64(b: &[u8], at: usize) -> u64
 
 // The header's fields, as they stand.
 pub fn read_header(b: &[u8]) -> Header
-    requires { ⌜ 24 ≤ length (now b) ⌝ }
+    requires { ⌜ header-length ≤ length (now b) ⌝ }
     ensures { λ r. ⌜ r ≡ header-of (now (b .entry)) ⌝ }
 {
     Header {
@@ -182,25 +189,25 @@ pub fn read_header(b: &[u8]) -> Header
         message: b[1],
         flags: b[2],
         nodes: b[3],
-        peer: read_u32(b, 4),
-        second: read_u32(b, 8),
-        ttl: read_u16(b, 12),
-        size: read_u16(b, 14),
-        number: read_u64(b, 16),
+        peer: read_u64(b, 4),
+        second: read_u64(b, 12),
+        ttl: read_u16(b, 20),
+        size: read_u16(b, 22),
+        number: read_u64(b, 24),
     }
 }
 
 // The i-th node entry's fields, as they stand.
 pub fn node(b: &[u8], i: usize) -> Entry
-    requires { ⌜ 24 + 8 * i + 8 ≤ length (now b) ⌝ }
+    requires { ⌜ header-length + node-length * i + node-length ≤ length (now b) ⌝ }
     ensures { λ r. ⌜ r ≡ entry-at (now (b .entry)) i ⌝ }
 {
-    let at = 24 + 8 * i;
+    let at = HEADER + NODE * i;
     Entry {
-        id: read_u32(b, at),
-        offset: read_u16(b, at + 4),
-        len: b[at + 6],
-        present: b[at + 7],
+        id: read_u64(b, at),
+        offset: read_u16(b, at + 8),
+        len: b[at + 10],
+        present: b[at + 11],
     }
 }
 
@@ -329,10 +336,10 @@ fn entry_ok(h: Header, e: Entry, at: usize) -> bool
 
 // Every entry is sound, and the data reach the whole length.
 fn entries_ok(h: Header, b: &[u8]) -> bool
-    ensures { λ r. ⌜ r ≡ entries-ok h (now (b .entry)) 0 (h .nodes) (24 + 8 * h .nodes) ⌝ }
+    ensures { λ r. ⌜ r ≡ entries-ok h (now (b .entry)) 0 (h .nodes) (header-length + node-length * h .nodes) ⌝ }
 {
     let n = h.nodes as usize;
-    let mut at = 24 + 8 * n;
+    let mut at = HEADER + NODE * n;
     if b.len() < at {
         return false;
     }
@@ -353,7 +360,7 @@ fn entries_ok(h: Header, b: &[u8]) -> bool
 fn well_formed(b: &[u8]) -> bool
     ensures { λ r. ⌜ r ≡ well-formed (now (b .entry)) ⌝ }
 {
-    if b.len() < 24 {
+    if b.len() < HEADER {
         return false;
     }
     let h = read_header(b);
@@ -394,7 +401,7 @@ pub enum Event {
 pub fn read_event(b: &[u8]) -> Event
     ensures { λ r. ⌜ EventIs (now (b .entry)) r ⌝ }
 {
-    if b.len() < 24 {
+    if b.len() < HEADER {
         return Event::Refused(Refusal::MALFORMED);
     }
     if 32 < b[3] {

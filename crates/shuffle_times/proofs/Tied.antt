@@ -14,7 +14,7 @@ use Rattle.timing.specs.Timing.{in-range, delay}
 use Rattle.timing.specs.declared.Config.{Config}
 use Rattle.peer.specs.Data.{Data}
 use Rattle.record.specs.Format.{Rec}
-use Rattle.record.specs.Read.{Reading, read-event, rec-of, header-of}
+use Rattle.record.specs.Read.{Reading, read-event, rec-of, rec-of-by, header-of-by}
 use Rattle.record.specs.Walk.{kind-in, headers}
 use Rattle.protocol.specs.Station.{Station}
 use Rattle.protocol.specs.Run.{Run}
@@ -100,7 +100,7 @@ module _ {c : Config} {me : ℕ} {l : Ledger} {s : Station} (ranges : in-range c
   quietly r small k = (ap (after t) (out-told (k .adds .records) (r .out) (r .room - length (r .out)) [] (k .adds .is) (k .adds .timers) small refl), k .same-clock)
 
   called-event : Readable (rec-of b) → Called t b s (finish s (steps (rec-of b) (start s ds room)))
-  unfolding finish accepted kind-in rec-of header-of
+  unfolding finish accepted kind-in rec-of-by header-of-by
   called-event w =
       let a = c .«active_view_capacity» in
       let e = rec-of b in

@@ -11,8 +11,8 @@ use borrow.Author.Tests.{ltb-true}
 use Rattle.lists.specs.Lists.{choose}
 use Rattle.lists.specs.Bytes.{le, read-le}
 use Rattle.lists.proofs.Choice.{choose-yes, choose-no, and-left, and-right}
-use Rattle.record.specs.Format.{Rec, size, header, encode}
-use Rattle.record.specs.Read.{header-of}
+use Rattle.record.specs.Format.{Rec, size, header-by, encode, encode-by}
+use Rattle.record.specs.Read.{header-of, header-of-by}
 use Rattle.record.specs.Walk.{headers}
 use Rattle.record.proofs.Format.{length-encode}
 use Rattle.record.proofs.Walk.{records-written, records-zeros}
@@ -42,11 +42,11 @@ shuffles-append (e ∷ es) b = rw (shuffles-append es b) (either (eqb (e .kind) 
 -- one record in front of other bytes
 module _ (e : Rec) (rest : List ℕ) where
   second-is : e .second < draws-end → header-of (encode e ++ rest) .second ≡ e .second
-  unfolding header-of encode header le read-le
+  unfolding header-of-by encode-by header-by le read-le
   second-is h = omega arith
 
   kind-is : header-of (encode e ++ rest) .kind ≡ e .kind
-  unfolding header-of encode header
+  unfolding header-of-by encode-by header-by
   kind-is = refl
 
 -- the delays of a refused call: none

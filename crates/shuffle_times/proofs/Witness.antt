@@ -15,7 +15,7 @@ use Rattle.lists.proofs.Choice.{choose-yes, choose-no, and-left, and-right}
 use Rattle.timing.specs.Timing.{in-range, delay, maintenance-interval}
 use Rattle.timing.specs.declared.Config.{Config}
 use Rattle.peer.specs.Data.{Data}
-use Rattle.record.specs.Format.{Rec, size, datas, header, entries, encode}
+use Rattle.record.specs.Format.{Rec, size-by, datas, header-by, entries-by, encode, encode-by}
 use Rattle.record.specs.Read as Rd
 use Rattle.record.specs.Read.{event, read-event}
 use Rattle.record.specs.Walk.{kind-in, headers}
@@ -42,11 +42,11 @@ use Rattle.shuffle_times.proofs.Tied.{out-told, interval-of, delay-unde
 
 -- a call with the event e, one draw and room for the records that it asks for
 unfoldable quit-call : ℕ → Call
-unfolding encode header entries datas size le all-under
+unfolding encode-by header-by entries-by datas size-by le all-under
 quit-call x = record { event = encode (notice 8 0); are-bytes = refl; draws = x ∷ []; output = replicate 48 0 }
 
 unfoldable shuffle-call : ℕ → Call
-unfolding encode header entries datas size le all-under
+unfolding encode-by header-by entries-by datas size-by le all-under
 shuffle-call x = record { event = encode (timer 1 0 0 0); are-bytes = refl; draws = x ∷ []; output = replicate 24 0 }
 
 -- the same at a time
@@ -71,23 +71,23 @@ unfolding shuffle-at
 shuffle-time t x u = refl
 
 quit-kind : (t x : ℕ) (u : x < draws-end) → eqb (kind-in (quit-at t x u .call .event)) 1 ≡ false
-unfolding quit-at quit-call kind-in encode header
+unfolding quit-at quit-call kind-in encode-by header-by
 quit-kind t x u = refl
 
 quit-counts : (t x : ℕ) (u : x < draws-end) → leb (kind-in (quit-at t x u .call .event)) 8 ≡ true
-unfolding quit-at quit-call kind-in encode header
+unfolding quit-at quit-call kind-in encode-by header-by
 quit-counts t x u = refl
 
 shuffle-kind : (t x : ℕ) (u : x < draws-end) → eqb (kind-in (shuffle-at t x u .call .event)) 1 ≡ true
-unfolding shuffle-at shuffle-call kind-in encode header
+unfolding shuffle-at shuffle-call kind-in encode-by header-by
 shuffle-kind t x u = refl
 
 read-quit : read-event (encode (notice 8 0)) ≡ event (notice 8 0)
-unfolding choose le read-le encode header entries datas size read-event Rd.header-of Rd.fixed-size Rd.is-message Rd.is-timer Rd.is-data Rd.kind-ok Rd.flags-ok Rd.count-ok Rd.peer-ok Rd.fields-ok Rd.header-ok Rd.entries-ok Rd.well-formed Rd.nodes-of Rd.rec-of Rd.is-event
+unfolding choose le read-le encode-by header-by entries-by datas size-by read-event Rd.header-of-by Rd.fixed-size Rd.is-message Rd.is-timer Rd.is-data Rd.kind-ok Rd.flags-ok Rd.count-ok Rd.peer-ok Rd.fields-ok Rd.header-ok Rd.entries-ok-by Rd.well-formed-by Rd.nodes-of-by Rd.rec-of-by Rd.is-event
 read-quit = refl
 
 read-shuffle : read-event (encode (timer 1 0 0 0)) ≡ event (timer 1 0 0 0)
-unfolding choose le read-le encode header entries datas size read-event Rd.header-of Rd.fixed-size Rd.is-message Rd.is-timer Rd.is-data Rd.kind-ok Rd.flags-ok Rd.count-ok Rd.peer-ok Rd.fields-ok Rd.header-ok Rd.entries-ok Rd.well-formed Rd.nodes-of Rd.rec-of Rd.is-event
+unfolding choose le read-le encode-by header-by entries-by datas size-by read-event Rd.header-of-by Rd.fixed-size Rd.is-message Rd.is-timer Rd.is-data Rd.kind-ok Rd.flags-ok Rd.count-ok Rd.peer-ok Rd.fields-ok Rd.header-ok Rd.entries-ok-by Rd.well-formed-by Rd.nodes-of-by Rd.rec-of-by Rd.is-event
 read-shuffle = refl
 
 -- a call that reads as the event e, to a station that keeps the rules
@@ -128,7 +128,7 @@ module _ (me : ℕ) (d : Data) (c : Config) where
   }
 
   quit-steps : (x : ℕ) → finish (new-station me d c) (steps (notice 8 0) (start (new-station me d c) (x ∷ []) 48)) ≡ accepted (quit-run x)
-  unfolding quit-run next-interval first-interval choose finish steps H.forget-declined H.dispatch H.first-timers H.note-scheduled E.handle-quit E.quit-all E.clear-all T.schedule-maintenance T.schedule-shuffle T.double-interval new-station retain guard on emit draw drawn size datas encode header entries le
+  unfolding quit-run next-interval first-interval choose finish steps H.forget-declined H.dispatch H.first-timers H.note-scheduled E.handle-quit E.quit-all E.clear-all T.schedule-maintenance T.schedule-shuffle T.double-interval new-station retain guard on emit draw drawn size-by datas encode-by header-by entries-by le
   quit-steps x = refl
 
   shuffle-run : ℕ → ℕ → Run
@@ -142,23 +142,23 @@ module _ (me : ℕ) (d : Data) (c : Config) where
   }
 
   shuffle-steps : (i x : ℕ) → finish (ticking i) (steps (timer 1 0 0 0) (start (ticking i) (x ∷ []) 24)) ≡ accepted (shuffle-run i x)
-  unfolding shuffle-run next-interval choose null is-alone finish steps H.forget-declined H.dispatch H.first-timers T.handle-shuffle-timer T.shuffle-any T.schedule-shuffle T.double-interval new-station retain guard on emit draw drawn size datas encode header entries le
+  unfolding shuffle-run next-interval choose null is-alone finish steps H.forget-declined H.dispatch H.first-timers T.handle-shuffle-timer T.shuffle-any T.schedule-shuffle T.double-interval new-station retain guard on emit draw drawn size-by datas encode-by header-by entries-by le
   shuffle-steps i x = refl
 
   quit-told : (x : ℕ) → quit-run x .out ≡ encode-all (timer 1 0 (delay (first-interval top) x) 0 ∷ timer 2 0 maintenance-interval 0 ∷ [])
-  unfolding quit-run encode-all encode header entries datas size le
+  unfolding quit-run encode-all encode-by header-by entries-by datas size-by le
   quit-told x = refl
 
   quit-short : (x : ℕ) → length (quit-run x .out) ≤ 8192
-  unfolding quit-run encode header entries datas size le
+  unfolding quit-run encode-by header-by entries-by datas size-by le
   quit-short x = omega arith
 
   shuffle-told : (i x : ℕ) → shuffle-run i x .out ≡ encode-all (timer 1 0 (delay i x) 0 ∷ [])
-  unfolding shuffle-run encode-all encode header entries datas size le
+  unfolding shuffle-run encode-all encode-by header-by entries-by datas size-by le
   shuffle-told i x = refl
 
   shuffle-short : (i x : ℕ) → length (shuffle-run i x .out) ≤ 8192
-  unfolding shuffle-run encode header entries datas size le
+  unfolding shuffle-run encode-by header-by entries-by datas size-by le
   shuffle-short i x = omega arith
 
   module _ (ranges : in-range c ≡ true) where

@@ -1,8 +1,8 @@
 // The state of a station as one lent list of words, and the work that the steps of one event hand on.
-use columns::PeerInfo;
 use peer::PeerData;
+use peer::PeerId;
+use peer::PeerInfo;
 use record::Refusal;
-use util::PeerId;
 use writer::Fields;
 use writer::Nodes;
 use writer::Written;
@@ -11,9 +11,8 @@ ghost use mathlib.Core.List.{[], _∷_};
 ghost use Prim.Native.Nat.{_≤_, _<_};
 ghost use lib.ListN.{length, getD, drop};
 ghost use Rattle.util.specs.Chances.{pick, shuffle};
-ghost use Rattle.peer.specs.Held.{data-in, ValidData};
+ghost use Rattle.peer.specs.Held.{data-in, ValidData, node-in};
 ghost use Rattle.util.specs.Section.{items-at, ValidSet, HoldsSet};
-ghost use Rattle.columns.specs.Columns.{node-in};
 ghost use Rattle.writer.specs.Nodes.{ValidNodes, nodes-in};
 ghost use Rattle.writer.specs.Write.{rec-in};
 ghost use Rattle.protocol.specs.Run.{on, draw, draw-one-of, draw-shuffle, require, emit};

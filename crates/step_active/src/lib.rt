@@ -1,11 +1,11 @@
 // The active view: peers that leave it and peers that enter it (the definition's `Active`).
 use peer::PeerData;
+use peer::PeerId;
 use record::Kind;
 use state::Layout;
 use state::RefillLimit;
 use state::Work;
 use timing::Timing;
-use util::PeerId;
 use writer::Fields;
 ghost use mathlib.Core.Path.{_≡_};
 ghost use mathlib.Core.Bool.{false};

@@ -1,12 +1,12 @@
 // What comes from the station's own side: a request to join, new data of its own, a closed connection, and Quit (the definition's `Events`).
 use peer::PeerData;
+use peer::PeerId;
 use record::Kind;
 use record::Refusal;
 use state::Layout;
 use state::Work;
 use step_active::Loss;
 use timing::Timing;
-use util::PeerId;
 use writer::Fields;
 ghost use mathlib.Core.Path.{_≡_};
 ghost use mathlib.Core.Bool.{true};

@@ -13,11 +13,10 @@ use Rattle.lists.specs.Lists.{without, insert}
 use Rattle.lists.proofs.Choice.{by-choice, choose-yes, choose-no}
 use Rattle.util.specs.Chances.{pick}
 use Rattle.peer.specs.Data.{Node}
-use Rattle.peer.specs.Held.{data-in}
+use Rattle.peer.specs.Held.{data-in, node-in}
 use Rattle.peer.specs.declared.PeerData.{PeerData}
 use Rattle.util.specs.Section.{items-at, HoldsSet}
-use Rattle.columns.specs.declared.PeerInfo.{PeerInfo}
-use Rattle.columns.specs.Columns.{node-in}
+use Rattle.peer.specs.declared.PeerInfo.{PeerInfo}
 use Rattle.timing.specs.Timing.{next}
 use Rattle.timing.proofs.Ranges.{ranges}
 use Rattle.writer.specs.Write.{rec-in}

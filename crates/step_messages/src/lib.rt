@@ -1,6 +1,7 @@
 // The messages received but for the two of a shuffle (the definition's `Messages`).
-use columns::PeerInfo;
 use peer::PeerData;
+use peer::PeerId;
+use peer::PeerInfo;
 use record::Kind;
 use record::Message;
 use record::Refusal;
@@ -8,16 +9,14 @@ use state::Layout;
 use state::Work;
 use step_active::Loss;
 use timing::Ttl;
-use util::PeerId;
 use writer::Fields;
 ghost use mathlib.Core.Path.{_≡_};
 ghost use Prim.Native.Nat.{_≤_};
 ghost use lib.ListN.{length, drop, getD};
 ghost use Rattle.lists.specs.Lists.{without};
 ghost use Rattle.util.specs.Chances.{pick};
-ghost use Rattle.peer.specs.Held.{ValidData, data-in};
+ghost use Rattle.peer.specs.Held.{ValidData, data-in, node-in};
 ghost use Rattle.util.specs.Section.{HoldsSet};
-ghost use Rattle.columns.specs.Columns.{node-in};
 ghost use Rattle.protocol.specs.Budgets.{leaving, arriving};
 ghost use Rattle.protocol.specs.Run.{on, emit, emit-all, draw-one-of};
 ghost use Rattle.protocol.specs.Active.{accepts};

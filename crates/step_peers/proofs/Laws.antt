@@ -19,9 +19,8 @@ use Rattle.lists.proofs.Count.{length-shift, length-remove}
 use Rattle.util.specs.Chances.{pick}
 use Rattle.util.proofs.Chances.{pick-below}
 use Rattle.peer.specs.declared.PeerData.{PeerData}
-use Rattle.peer.specs.Held.{data-in}
+use Rattle.peer.specs.Held.{data-in, node-in}
 use Rattle.writer.specs.Write.{rec-in}
-use Rattle.columns.specs.Columns.{node-in}
 use Rattle.state.specs.declared.Work.{Work}
 use Rattle.protocol.specs.Run.{Run, guard, on, emit, to-draw, one-of, draw-one-of, require, picked, notice, node}
 use Rattle.state.specs.Work.{Held, work-of, ChangesAny, DrawsAny, TellsAny, run, Changes, Room, Tells, Fine}

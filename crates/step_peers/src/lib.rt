@@ -1,11 +1,11 @@
 // What the station holds of other peers: their data, and the passive view (the definition's `Peers`).
-use columns::PeerInfo;
 use peer::PeerData;
+use peer::PeerId;
+use peer::PeerInfo;
 use record::Kind;
 use record::Refusal;
 use state::Layout;
 use state::Work;
-use util::PeerId;
 use writer::Fields;
 ghost use mathlib.Core.Path.{_≡_};
 ghost use mathlib.Core.Bool.{true};

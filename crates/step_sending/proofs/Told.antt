@@ -11,10 +11,10 @@ use borrow.Author.Tests.{ltb-true}
 use Rattle.lists.specs.Maps.{has}
 use Rattle.lists.proofs.Choice.{choose-yes, choose-no}
 use Rattle.util.specs.Section.{items-at, ValidSet}
-use Rattle.columns.specs.Columns.{numbers-at, node-in}
+use Rattle.columns.specs.Columns.{numbers-at}
+use Rattle.peer.specs.Held.{node-in, data-in}
 use Rattle.peer.specs.declared.PeerData.{PeerData}
 use Rattle.peer.specs.Data.{Node}
-use Rattle.peer.specs.Held.{data-in}
 use Rattle.writer.specs.declared.Fields.{Fields}
 use Rattle.writer.specs.declared.Nodes.{Nodes}
 use Rattle.writer.specs.Nodes.{nodes-in, HoldsNodes}

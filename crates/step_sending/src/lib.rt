@@ -1,11 +1,11 @@
 // What the station sends: Join, Neighbor, ShuffleReply and Disconnect (the definition's `Sending`).
-use columns::PeerInfo;
+use peer::PeerId;
+use peer::PeerInfo;
 use record::Kind;
 use record::Message;
 use record::Refusal;
 use state::Layout;
 use state::Work;
-use util::PeerId;
 use writer::Fields;
 use writer::Nodes;
 ghost use mathlib.Core.Path.{_≡_};
@@ -14,9 +14,8 @@ ghost use Prim.Native.Nat.{_-_, _≤_};
 ghost use lib.ListN.{length, take, drop};
 ghost use Rattle.lists.specs.Maps.{lookup};
 ghost use Rattle.util.specs.Chances.{shuffle};
-ghost use Rattle.peer.specs.Held.{ValidData};
+ghost use Rattle.peer.specs.Held.{ValidData, node-in};
 ghost use Rattle.util.specs.Section.{items-at, ValidSet, HoldsSet};
-ghost use Rattle.columns.specs.Columns.{node-in};
 ghost use Rattle.writer.specs.Nodes.{HoldsNodes};
 ghost use Rattle.protocol.specs.Run.{on, emit, flag, node, peer-infos, draw-shuffle};
 ghost use Rattle.protocol.specs.Sending.{join, send-nodes, send-filled, reply-with, send-shuffle-reply, reply-length, send-disconnect};

@@ -10,12 +10,12 @@ use borrow.Author.Tests.{eqb-true, leb-true}
 use Rattle.lists.specs.Lists.{choose}
 use Rattle.lists.proofs.Choice.{and-left, and-right}
 use Rattle.record.specs.declared.Header.{Header}
-use Rattle.record.specs.Read.{header-of, is-message, is-data, kind-ok, flags-ok, count-ok, peer-ok, fields-ok, header-ok, well-formed, node-at, nodes-of}
+use Rattle.record.specs.Read.{header-of, is-message, is-data, kind-ok, flags-ok, count-ok, peer-ok, fields-ok, header-ok, well-formed, node-at, nodes-of, nodes-of-by}
 use Rattle.record.proofs.Back.{parts}
 
 -- the node at i, and those after it
 pub nodes-from : (b : List ℕ) (i n : ℕ) → i < n → nodes-of b i (n - i) ≡ node-at b i ∷ nodes-of b (i + 1) (n - (i + 1))
-unfolding nodes-of
+unfolding nodes-of-by
 nodes-from b i n h =
     let e : n - i ≡ suc (n - (i + 1)) = omega arith in
     let q : suc i ≡ i + 1 = omega arith in
@@ -25,7 +25,7 @@ pub nodes-start : (b : List ℕ) (n : ℕ) → nodes-of b 0 n ≡ nodes-of b 0 (
 nodes-start b n = let e : n ≡ n - 0 = omega arith in ap (nodes-of b 0) e
 
 pub nodes-end : (b : List ℕ) (i n : ℕ) → n ≤ i → nodes-of b i (n - i) ≡ []
-unfolding nodes-of
+unfolding nodes-of-by
 nodes-end b i n h = let e : n - i ≡ 0 = omega arith in ap (nodes-of b i) e
 
 counted : (s t : Bool) (n : ℕ) → choose s (eqb n 1) (choose t (leb n 32) (eqb n 0)) ≡ true → n ≤ 32

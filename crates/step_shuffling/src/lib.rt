@@ -1,11 +1,11 @@
 // The two messages of a shuffle (the definition's `Messages`).
-use columns::PeerInfo;
+use peer::PeerId;
+use peer::PeerInfo;
 use record::Kind;
 use record::Message;
 use state::Layout;
 use state::Work;
 use timing::Ttl;
-use util::PeerId;
 use writer::Fields;
 use writer::Nodes;
 ghost use mathlib.Core.Path.{_≡_};

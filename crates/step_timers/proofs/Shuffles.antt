@@ -15,7 +15,7 @@ use Rattle.peer.specs.declared.PeerData.{PeerData}
 use Rattle.peer.specs.Data.{Node}
 use Rattle.util.specs.Section.{items-at, ValidSet, HoldsSet}
 use Rattle.util.proofs.Sets.{set-length, set-then, empty-is-null}
-use Rattle.columns.specs.Columns.{node-in}
+use Rattle.peer.specs.Held.{node-in}
 use Rattle.writer.specs.declared.Nodes.{Nodes}
 use Rattle.writer.specs.Nodes.{nodes-in, HoldsNodes}
 use Rattle.writer.specs.Write.{rec-in}

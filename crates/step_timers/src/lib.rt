@@ -1,11 +1,11 @@
 // The timers of a request, of a join and of the shuffle (the definition's `Timers`).
-use columns::PeerInfo;
 use peer::Number;
+use peer::PeerId;
+use peer::PeerInfo;
 use record::Kind;
 use record::Message;
 use state::Layout;
 use state::Work;
-use util::PeerId;
 use writer::Fields;
 ghost use mathlib.Core.Path.{_≡_};
 ghost use Prim.Native.Nat.{_≤_, _<_, min};

@@ -11,9 +11,9 @@ use borrow.Author.Tests.{leb-true, lt-ltb}
 use Rattle.lists.specs.Lists.{choose}
 use Rattle.lists.specs.Tests.{every, All}
 use Rattle.lists.proofs.Choice.{split, and-left, and-right}
-use Rattle.record.specs.Format.{Rec, header, encode}
+use Rattle.record.specs.Format.{Rec, header-by, encode, encode-by}
 use Rattle.record.specs.Read as Rd
-use Rattle.record.specs.InForm.{InForm, header-in}
+use Rattle.record.specs.InForm.{InForm, header-in-by}
 use Rattle.record.specs.Walk.{kind-in, message-in}
 use Rattle.record.proofs.Walk.{records-written, records-zeros}
 use Rattle.protocol.specs.Written.{encode-all}
@@ -30,7 +30,7 @@ use Rattle.tally.proofs.Sum.{never-less-fed, sum-agrees}
 
 -- a message in form has one of the six values in byte 1
 form-counts : (e : Rec) (rest : List ℕ) → InForm e → has-count (encode e ++ rest) ≡ true
-unfolding has-count kind-in message-in encode header header-in Rd.header-ok Rd.kind-ok choose
+unfolding has-count kind-in message-in encode-by header-by header-in-by Rd.header-ok Rd.kind-ok choose
 form-counts e rest f =
     let k = and-right (not (eqb (Rd.fixed-size (e .kind)) 0)) _ (and-left (not (eqb (Rd.fixed-size (e .kind)) 0) && choose (eqb (e .kind) 0) (leb (e .message) 5) (eqb (e .message) 0)) _ (f .header)) in
     split (eqb (e .kind) 0)

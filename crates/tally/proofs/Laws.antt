@@ -7,7 +7,7 @@ use lib.ListN.{length, take, drop}
 use borrow.Author.Tests.{eq-eqb, ne-eqb}
 use Rattle.lists.specs.Lists.{choose}
 use Rattle.record.specs.declared.Header.{Header}
-use Rattle.record.specs.Read.{header-of}
+use Rattle.record.specs.Read.{header-of, header-of-by}
 use Rattle.record.specs.Walk.{kind-in, message-in, records-in, walk}
 use Rattle.record.proofs.Walk.{records-few, taken-none, taken-next, taken-last}
 use Rattle.tally.specs.declared.Tally.{Tally}
@@ -45,7 +45,7 @@ module _ (whole r : Tally) (b : List ℕ) (v : Counting whole r b) where
     counting-none e = ends (taken-none b h is e)
 
     goes-on : (s : Tally) (bs : List (List ℕ)) → s ≡ enter (h .kind) (h .message) r → records-in b ≡ b ∷ bs → whole ≡ walk counting bs s
-    unfolding walk header-of kind-in message-in
+    unfolding walk header-of-by kind-in message-in
     goes-on s bs e q = by-records (b ∷ bs) q ∙ ap (walk counting bs) (sym (e ∙ ap (λ (x : Header). enter (x .kind) (x .message) r) is))
 
     pub counting-last : (s : Tally) → length b < h .size → (h .size ≡ 0 → ⊥) → s ≡ enter (h .kind) (h .message) r → 24 ≤ length b → s ≡ whole

@@ -13,9 +13,9 @@ use Rattle.lists.specs.Lists.{choose}
 use Rattle.lists.proofs.Choice.{split, and-left, and-right, choose-yes, choose-no}
 use Rattle.lists.proofs.Numbers.{Bytes}
 use Rattle.lists.proofs.Tests.{both-true}
-use Rattle.record.specs.Format.{size, datas, encode}
-use Rattle.record.specs.Read.{fixed-size, header-of, is-message, is-timer, is-data, kind-ok, flags-ok, count-ok, peer-ok, fields-ok, header-ok, well-formed, rec-of, nodes-of, is-event, event, read-event}
-use Rattle.record.specs.InForm.{InForm, NodesInForm, header-in}
+use Rattle.record.specs.Format.{size, size-by, datas, encode}
+use Rattle.record.specs.Read.{fixed-size, header-of, header-of-by, is-message, is-timer, is-data, kind-ok, flags-ok, count-ok, peer-ok, fields-ok, header-ok, well-formed, rec-of, rec-of-by, nodes-of, nodes-of-by, is-event, event, read-event}
+use Rattle.record.specs.InForm.{InForm, NodesInFormBy, header-in, header-in-by}
 use Rattle.record.specs.Answers.{answer}
 use Rattle.record.specs.declared.Header.{Header}
 use Rattle.record.specs.declared.Answer.the-variants as Answers
@@ -160,11 +160,11 @@ fine e s =
     by-high (suc (suc (suc (suc (suc k))))) p u l h = absurd (omega arith)
 
 header-event : (e : Entry) → header-in (event-rec e) ≡ event-head (e .item .kind) (e .item .peer) (e .item .number)
-unfolding header-in event-rec size datas
+unfolding header-in-by event-rec size-by datas
 header-event e = refl
 
 in-form : (e : Entry) → Says e → e .item .number < 18446744073709551616 → InForm (event-rec e)
-unfolding NodesInForm event-rec
+unfolding NodesInFormBy event-rec
 in-form e s n = record {
   header = ap header-ok (header-event e) ∙ fine e s .ok;
   peer = omega (arith, s .narrow);
@@ -175,11 +175,11 @@ in-form e s n = record {
 }
 
 event-size : (e : Entry) → size (event-rec e) ≡ 24
-unfolding size event-rec datas
+unfolding size-by event-rec datas
 event-size e = refl
 
 nodes-field : (b : List ℕ) → getD b 3 0 ≡ header-of b .nodes
-unfolding header-of
+unfolding header-of-by
 nodes-field b = refl
 
 -- the event's bytes read back as the event
@@ -210,7 +210,7 @@ all-bytes (x ∷ b) e zero = ltb-true x 256 (and-left (ltb x 256) _ e)
 all-bytes (x ∷ b) e (suc k) = all-bytes b (and-right (ltb x 256) _ e) k
 
 no-nodes : (b : List ℕ) → header-of b .nodes ≡ 0 → nodes-of b 0 (header-of b .nodes) ≡ []
-unfolding nodes-of
+unfolding nodes-of-by
 no-nodes b e = ap (nodes-of b 0) e
 
 timer-low : (b : List ℕ) → is-timer (header-of b) ≡ true → 1 ≤ header-of b .kind
@@ -222,11 +222,11 @@ unfolding is-timer
 timer-high b t = leb-true (header-of b .kind) 4 (and-right (leb 1 (header-of b .kind)) _ t)
 
 peer-below : (b : List ℕ) → InForm (rec-of b) → header-of b .peer < 4294967296
-unfolding rec-of
+unfolding rec-of-by
 peer-below b q = omega (arith, q .peer)
 
 number-below : (b : List ℕ) → InForm (rec-of b) → header-of b .number < 18446744073709551616
-unfolding rec-of
+unfolding rec-of-by
 number-below b q = omega (arith, q .number)
 
 has-timer : (e : Entry) → 1 ≤ e .item .kind → e .item .kind ≤ 4 → (e .item .kind ≤ 2 → (e .item .peer ≡ 0) × (e .item .number ≡ 0)) → e .item .peer < 4294967296 → has-event e ≡ true
@@ -238,7 +238,7 @@ has-timer e l h b p =
 
 -- what the record leaves at zero
 same-record : (b : List ℕ) (time : ℕ) → Plain (header-of b) → event-rec (record { time = time; item = started (header-of b) .item }) ≡ without-delay (rec-of b)
-unfolding event-rec without-delay rec-of
+unfolding event-rec without-delay rec-of-by
 same-record b time p = λ i. record {
   kind = header-of b .kind;
   message = sym (p .message) i;

@@ -1,4 +1,5 @@
 // Sets of peers as sections of one lent list of 64-bit words: `cap` places, and then the count of those in use.
+use peer::PeerId;
 ghost use mathlib.Core.Path.{_≡_};
 ghost use mathlib.Core.List.{[], _∷_, _++_};
 ghost use Prim.Native.Nat.{_+_, _-_, _≤_, _<_};
@@ -9,9 +10,6 @@ ghost use Rattle.lists.specs.Tests.{every};
 ghost use Rattle.util.specs.Chances.{pick-draws, pick, shuffle, shuffle-draws};
 ghost use Rattle.scan.specs.Words.{unused};
 ghost use Rattle.util.specs.Section.{part, Filled, items-at, ValidSet, HoldsSet, valid-set};
-
-// A peer, by its number.
-pub type PeerId = u64;
 
 // How many places a working set has: as many as the largest set.
 const PLACES: usize = 32;

@@ -18,12 +18,11 @@ use Rattle.lists.proofs.Bytes.{overwrite-append}
 use Rattle.lists.proofs.Front.{getD-any}
 use Rattle.lists.proofs.Rest.{Rest, rest-next, rest-end}
 use Rattle.peer.specs.Data.{Data, bytes-of}
-use Rattle.peer.specs.Held.{data-in, ValidData}
-use Rattle.columns.specs.Columns.{node-in}
+use Rattle.peer.specs.Held.{data-in, ValidData, node-in}
 use Rattle.peer.proofs.Data.{data-present, data-absent, length-bytes, bytes-in}
 use Rattle.peer.specs.declared.PeerData.{PeerData}
-use Rattle.columns.specs.declared.PeerInfo.{PeerInfo}
-use Rattle.record.specs.Format.{present, offset, entry, entries, datas}
+use Rattle.peer.specs.declared.PeerInfo.{PeerInfo}
+use Rattle.record.specs.Format.{present, offset, entry, entry-by, entries, entries-by, datas}
 use Rattle.writer.specs.Nodes.{blank, nodes-in, ValidNodes, HoldsNodes}
 use Rattle.writer.specs.declared.Nodes.{Nodes}
 
@@ -42,7 +41,7 @@ module _ (d : PeerData) (v : ValidData d) where
 pub entry-there : (p : PeerInfo) (at : ℕ) → ValidData (p .data) → p .data .present ≡ true
     → p .id % 256 ∷ p .id / 256 % 256 ∷ p .id / 256 / 256 % 256 ∷ p .id / 256 / 256 / 256 % 256 ∷ at % 256 ∷ at / 256 % 256 ∷ p .data .len ∷ 1 ∷ []
     ≡ entry (node-in p) at
-unfolding entry node-in data-in le offset present bytes-of
+unfolding entry-by node-in data-in le offset present bytes-of
 entry-there p at v y =
     let q : data-in (p .data) ≡ some (take (p .data .len) (p .data .bytes)) = data-present (p .data) y in
     let z : p .data .len ≡ length (take (p .data .len) (p .data .bytes)) = sym (length-bytes (p .data) v) in
@@ -51,7 +50,7 @@ entry-there p at v y =
 
 pub entry-absent : (p : PeerInfo) (at : ℕ) → p .data .present ≡ false
     → p .id % 256 ∷ p .id / 256 % 256 ∷ p .id / 256 / 256 % 256 ∷ p .id / 256 / 256 / 256 % 256 ∷ 0 ∷ 0 ∷ 0 ∷ 0 ∷ [] ≡ entry (node-in p) at
-unfolding entry node-in data-in le offset present bytes-of
+unfolding entry-by node-in data-in le offset present bytes-of
 entry-absent p at n =
     ap (λ (x : Data). entry (record { id = p .id; data-of = x }) at) (sym (data-absent (p .data) n))
 
@@ -139,7 +138,7 @@ with-entries x l = overwrite (x .bytes) (x .at) (entries (map node-in l) (x .rea
 entry-then : (out : List ℕ) (at reached : ℕ) (p : PeerInfo) (l : List PeerInfo) → ValidData (p .data)
     → overwrite out at (entries (map node-in (p ∷ l)) reached)
     ≡ overwrite (overwrite out at (entry (node-in p) reached)) (at + 8) (entries (map node-in l) (reached + p .data .len))
-unfolding entries node-in entry le
+unfolding entries-by node-in entry-by le
 entry-then out at reached p l v =
     sym (overwrite-append out at (entry (node-in p) reached) (entries (map node-in l) (reached + length (bytes-of (data-in (p .data))))))
     ∙ ap (λ (m : ℕ). overwrite (overwrite out at (entry (node-in p) reached)) (at + 8) (entries (map node-in l) (reached + m))) (length-in (p .data) v)

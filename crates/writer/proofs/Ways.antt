@@ -11,11 +11,10 @@ use Rattle.lists.specs.Lists.{choose}
 use Rattle.lists.specs.Bytes.{le, overwrite}
 use Rattle.lists.proofs.Bytes.{then}
 use Rattle.peer.specs.Data.{Node, bytes-of}
-use Rattle.peer.specs.Held.{data-in, ValidData}
-use Rattle.columns.specs.Columns.{node-in}
-use Rattle.columns.specs.declared.PeerInfo.{PeerInfo}
+use Rattle.peer.specs.Held.{data-in, ValidData, node-in}
+use Rattle.peer.specs.declared.PeerInfo.{PeerInfo}
 use Rattle.peer.proofs.Data.{bytes-in}
-use Rattle.record.specs.Format.{Rec, entry, entries, datas, size, header, encode}
+use Rattle.record.specs.Format.{Rec, entry, entries, entries-by, datas, size, size-by, header, header-by, encode, encode-by}
 use Rattle.record.proofs.Format.{length-entries, length-header}
 use Rattle.writer.specs.Nodes.{nodes-in, ValidNodes}
 use Rattle.writer.specs.Write.{rec-in, header-bytes, fits, written, reached, Wrote}
@@ -36,7 +35,7 @@ module _ (e : Rec) (at : ℕ) (out : List ℕ) where
   -- header, entries and data, stored one after the other
   in-turn : (o₁ o₂ o₃ : List ℕ) (n : ℕ) → n ≡ length (e .nodes) → o₃ ≡ overwrite o₂ (at + 24 + 8 * n) (datas (e .nodes)) → o₂ ≡ overwrite o₁ (at + 24) (entries (e .nodes) (24 + 8 * n))
       → o₁ ≡ overwrite out at (header e) → o₃ ≡ overwrite out at (encode e)
-  unfolding encode
+  unfolding encode-by
   in-turn o₁ o₂ o₃ n k r q p =
       let s : List ℕ = entries (e .nodes) (24 + 8 * length (e .nodes)) in
       let z : length s ≡ 8 * length (e .nodes) = length-entries (e .nodes) (24 + 8 * length (e .nodes)) in
@@ -52,14 +51,14 @@ length-nodes s v = length-map (take (s .len) (s .items)) node-in ∙ length-take
 -- a record of n nodes and z bytes
 module _ (f : Fields) (ns : List Node) (n z at : ℕ) (out : List ℕ) (p : n ≡ length ns) (k : z ≡ 24 + (8 * n + length (datas ns))) where
   size-is : size (rec-in f ns) ≡ z
-  unfolding size rec-in
+  unfolding size-by rec-in
   size-is = omega (arith, k, p)
 
   pub no-room : (r : ℕ) → r ≡ length out - at → r < z → Wrote (rec-in f ns) at out Full out
   no-room r e h = full (rec-in f ns) at out (omega (arith, size-is))
 
   header-is : header-bytes f n z ≡ header (rec-in f ns)
-  unfolding header-bytes header rec-in size
+  unfolding header-bytes header-by rec-in size-by
   header-is =
       let q : z ≡ 24 + (8 * length ns + length (datas ns)) = omega (arith, k, p) in
       λ i. f .kind ∷ f .message ∷ f .flags ∷ p i ∷ (le 4 (f .peer) ++ (le 4 (f .second) ++ (le 2 (f .ttl) ++ (le 2 (q i) ++ le 8 (f .number)))))
@@ -80,7 +79,7 @@ module _ (f : Fields) (at : ℕ) (out : List ℕ) (r : ℕ) (l : r ≡ length ou
   no-room-bare h = no-room f [] 0 24 at out refl refl r l h
 
   pub done-bare : (o : List ℕ) → 24 ≤ r → o ≡ overwrite out at (header-bytes f 0 24) → Wrote (rec-in f []) at out (At (at + 24)) o
-  unfolding datas entries overwrite
+  unfolding datas entries-by overwrite
   done-bare o h e = done f [] 0 24 at out refl refl o o o r l h refl refl e
 
 module _ (f : Fields) (p : PeerInfo) (v : ValidData (p .data)) where
@@ -97,7 +96,7 @@ module _ (f : Fields) (p : PeerInfo) (v : ValidData (p .data)) where
   pub done-one : (at : ℕ) (out : List ℕ) (r : ℕ) → r ≡ length out - at → 32 + p .data .len ≤ r → (o₁ o₂ o₃ a : List ℕ) → o₃ ≡ overwrite o₂ (at + 32) (take (p .data .len) (p .data .bytes))
       → o₂ ≡ overwrite o₁ (at + 24) a → a ≡ entry (node-in p) 32 → o₁ ≡ overwrite out at (header-bytes f 1 (32 + p .data .len))
       → Wrote (rec-in f one) at out (At (at + (32 + p .data .len))) o₃
-  unfolding datas entries node-in
+  unfolding datas entries-by node-in
   done-one at out r l h o₁ o₂ o₃ a s q w e =
       let m : at + 24 + 8 * 1 ≡ at + 32 = omega arith in
       done f one 1 (32 + p .data .len) at out refl size-one o₁ o₂ o₃ r l h

@@ -7,9 +7,8 @@ use mathlib.Core.List.{List, map}
 use lib.ListN.{take, getD, replicate}
 use Rattle.lists.specs.Array.{pad}
 use Rattle.peer.specs.Data.{Node}
-use Rattle.peer.specs.Held.{ValidData}
-use Rattle.columns.specs.declared.PeerInfo.{PeerInfo}
-use Rattle.columns.specs.Columns.{node-in}
+use Rattle.peer.specs.Held.{ValidData, node-in}
+use Rattle.peer.specs.declared.PeerInfo.{PeerInfo}
 use Rattle.writer.specs.declared.Nodes.{Nodes}
 
 -- an unused place

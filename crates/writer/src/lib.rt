@@ -1,14 +1,13 @@
 // Part 3 of document 01: the writers of records, from peers of 64 bits, of which a record carries the four low bytes.
-use columns::PeerInfo;
 use peer::PeerData;
-use util::PeerId;
+use peer::PeerId;
+use peer::PeerInfo;
 ghost use mathlib.Core.Path.{_≡_};
 ghost use mathlib.Core.List.{List, [], _∷_, _++_};
 ghost use Prim.Native.Nat.{_+_, _*_, _-_, _≤_, _<_};
 ghost use lib.ListN.{length};
 ghost use Rattle.lists.specs.Bytes.{overwrite};
-ghost use Rattle.columns.specs.Columns.{node-in};
-ghost use Rattle.peer.specs.Held.{ValidData};
+ghost use Rattle.peer.specs.Held.{node-in, ValidData};
 ghost use Rattle.record.specs.Format.{entry, entries, datas};
 ghost use Rattle.writer.specs.Nodes.{nodes-in, ValidNodes, HoldsNodes};
 ghost use Rattle.writer.specs.Write.{rec-in, header-bytes, Wrote};

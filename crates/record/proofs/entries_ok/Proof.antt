@@ -8,7 +8,8 @@ use native.Mathlib.Omega.{arith}
 use borrow.Author.Needs.{needs}
 use lib.ListN.{length}
 use lib.Dec.{eqb}
-use Rattle.record.specs.Read.{entry-at, entry-ok, entries-ok}
+use Rattle.record.specs.Format.{peer-length, header-length, node-length}
+use Rattle.record.specs.Read.{entry-at, entry-ok, entries-ok, entries-ok-by}
 use Rattle.record.specs.declared.Header.{Header}
 use Rattle.record.specs.declared.Entry.{Entry}
 use Rattle.record.proofs.Laws.{entries-short}
@@ -18,20 +19,20 @@ use Rattle.record.proofs.entries_ok.Tie as tie
 record Inv (h : Header) (b : List ℕ) (n at i : ℕ) : Type 0 where
   low : i ≤ n
   few : n ≤ 255
-  room : 24 + 8 * n ≤ length b
-  small : at ≤ 24 + 8 * n + 255 * i
-  same : (left : ℕ) → i + left ≡ n → entries-ok h b 0 n (24 + 8 * n) ≡ entries-ok h b i left at
+  room : header-length + node-length * n ≤ length b
+  small : at ≤ header-length + node-length * n + 255 * i
+  same : (left : ℕ) → i + left ≡ n → entries-ok h b 0 n (header-length + node-length * n) ≡ entries-ok h b i left at
 
-start : (h : Header) (b : List ℕ) (n : ℕ) → n ≤ 255 → 24 + 8 * n ≤ length b → Inv h b n (24 + 8 * n) 0
+start : (h : Header) (b : List ℕ) (n : ℕ) → n ≤ 255 → header-length + node-length * n ≤ length b → Inv h b n (header-length + node-length * n) 0
 start h b n f r = record { low = omega arith; few = f; room = r; small = omega arith; same = λ left e. let q : left ≡ n = omega arith in rw q }
 
 short : (h : Header) (b : List ℕ) (n at : ℕ) → length b < at → false ≡ entries-ok h b 0 n at
-short h b n at l = sym (entries-short h b 0 n at l)
+short h b n at l = sym (entries-short peer-length h b 0 n at l)
 
 module _ (h : Header) (b : List ℕ) (n at i : ℕ) (v : Inv h b n at i) where
   module _ (e : Entry) (t : Bool) (p : e ≡ entry-at b i) (q : t ≡ entry-ok h e at) where
     next : i < n → e .len ≤ 255 → t ≡ true → Inv h b n (at + e .len) (i + 1)
-    unfolding entries-ok
+    unfolding entries-ok-by
     next l s y = record {
       low = omega arith;
       few = v .few;
@@ -40,12 +41,12 @@ module _ (h : Header) (b : List ℕ) (n at i : ℕ) (v : Inv h b n at i) where
       same = λ left k. v .same (suc left) (omega arith) ∙ rw (← p, ← q, y, add-one i);
     }
 
-    bad : i < n → t ≡ false → false ≡ entries-ok h b 0 n (24 + 8 * n)
-    unfolding entries-ok
+    bad : i < n → t ≡ false → false ≡ entries-ok h b 0 n (header-length + node-length * n)
+    unfolding entries-ok-by
     bad l y = sym (v .same (suc (n - suc i)) (omega arith) ∙ rw (← p, ← q, y))
 
-  end : n ≤ i → eqb at (length b) ≡ entries-ok h b 0 n (24 + 8 * n)
-  unfolding entries-ok
+  end : n ≤ i → eqb at (length b) ≡ entries-ok h b 0 n (header-length + node-length * n)
+  unfolding entries-ok-by
   end l = sym (v .same 0 (omega (arith, v .low)))
 
 abbrev Inv-loop : tie.InvT-loop

@@ -9,12 +9,12 @@ use Rattle.record.proofs.fixed_size.Statement.{statement}
 use Rattle.record.proofs.fixed_size.Tie as tie
 
 -- a kind whose one node has data
-with-node : (k : ℕ) → (eqb k 7 || eqb k 11) ≡ true → 32 ≡ fixed-size k
+with-node : (k : ℕ) → (eqb k 7 || eqb k 11) ≡ true → 44 ≡ fixed-size k
 unfolding fixed-size choose
 with-node k t = rw t
 
 -- the other kinds
-bare : (k : ℕ) → (eqb k 7 || eqb k 11) ≡ false → k ≤ 12 → 24 ≡ fixed-size k
+bare : (k : ℕ) → (eqb k 7 || eqb k 11) ≡ false → k ≤ 12 → 32 ≡ fixed-size k
 unfolding fixed-size choose
 bare k t h = rw (t, le-leb _ _ h)
 

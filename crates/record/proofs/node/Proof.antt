@@ -1,4 +1,4 @@
-use Rattle.record.specs.Read.{entry-at}
+use Rattle.record.specs.Read.{entry-from, entry-at-by}
 use borrow.Author.Needs.{needs}
 use Rattle.record.proofs.node.Statement.{statement}
 use Rattle.record.proofs.node.Tie as tie
@@ -9,8 +9,8 @@ mul-at c = search needs
 add-at : tie.Need-add-at
 add-at c = search needs
 
-read-u32-requires : tie.Need-read-u32-requires
-read-u32-requires c κs = search needs
+read-u64-requires : tie.Need-read-u64-requires
+read-u64-requires c κs = search needs
 
 add-read-u16 : tie.Need-add-read-u16
 add-read-u16 c = search needs
@@ -31,7 +31,7 @@ shared-slice-read-t12 : tie.Need-shared-slice-read-t12
 shared-slice-read-t12 c = search needs
 
 returns : tie.Need-returns
-unfolding entry-at
+unfolding entry-at-by entry-from
 returns c = cc
 
 pub node-spec : {M : Type 1} → statement M
@@ -40,7 +40,7 @@ node-spec =
     (tie.spec
     mul-at
     add-at
-    read-u32-requires
+    read-u64-requires
     add-read-u16
     read-u16-requires
     add-t7

@@ -3,14 +3,15 @@ use mathlib.Core.Path.{_≡_, sym, _∙_}
 use mathlib.Core.Bool.{Bool, true}
 use mathlib.Core.List.{List}
 use lib.ListN.{length}
+use Rattle.record.specs.Format.{peer-length, header-length}
 use Rattle.record.specs.Read.{well-formed}
 use Rattle.record.proofs.Laws.{well-formed-long, answer-record, answer-malformed}
 use borrow.Author.Needs.{needs}
 use Rattle.record.proofs.read.Statement.{statement}
 use Rattle.record.proofs.read.Tie as tie
 
-long : (b : List ℕ) (t : Bool) → t ≡ well-formed b → t ≡ true → 24 ≤ length b
-long b t p q = well-formed-long b (sym p ∙ q)
+long : (b : List ℕ) (t : Bool) → t ≡ well-formed b → t ≡ true → header-length ≤ length b
+long b t p q = well-formed-long peer-length b (sym p ∙ q)
 
 well-formed-requires : tie.Need-well-formed-requires
 well-formed-requires c κs = search needs

@@ -5,19 +5,20 @@ use mathlib.Core.List.{List}
 use borrow.Author.Tests.{le-leb, lt-leb}
 use lib.ListN.{length}
 use lib.Dec.{eqb}
-use Rattle.record.specs.Read.{header-of, header-ok, entries-ok, well-formed}
+use Rattle.record.specs.Format.{header-length, node-length}
+use Rattle.record.specs.Read.{header-of, header-ok, entries-ok, well-formed, well-formed-by}
 use Rattle.record.specs.declared.Header.{Header}
 use borrow.Author.Needs.{needs}
 use Rattle.record.proofs.well_formed.Statement.{statement}
 use Rattle.record.proofs.well_formed.Tie as tie
 
-short : (b : List ℕ) → length b < 24 → false ≡ well-formed b
-unfolding well-formed
+short : (b : List ℕ) → length b < header-length → false ≡ well-formed b
+unfolding well-formed-by
 short b l = rw (lt-leb _ _ l)
 
-long : (b : List ℕ) (h : Header) (r s : Bool) → 24 ≤ length b → h ≡ header-of b → r ≡ header-ok h → s ≡ entries-ok h b 0 (h .nodes) (24 + 8 * h .nodes)
+long : (b : List ℕ) (h : Header) (r s : Bool) → header-length ≤ length b → h ≡ header-of b → r ≡ header-ok h → s ≡ entries-ok h b 0 (h .nodes) (header-length + node-length * h .nodes)
     → (r && (eqb (h .size) (length b) && s)) ≡ well-formed b
-unfolding well-formed
+unfolding well-formed-by
 long b h r s l e p q = rw (p, q, e, le-leb _ _ l)
 
 returns : tie.Need-returns

@@ -6,7 +6,7 @@ use lib.ListN.{length, take, drop, length-drop}
 use lib.Seq.{take-all}
 use Rattle.lists.specs.Bytes.{read-le}
 use Rattle.record.specs.declared.Header.{Header}
-use Rattle.record.specs.Read.{header-of}
+use Rattle.record.specs.Read.{header-of, header-of-by}
 use Rattle.run_input.specs.Input.{event-length}
 use Rattle.run_input.proofs.Laws.{event-none, event-cut}
 use borrow.Author.Needs.{needs}
@@ -29,7 +29,7 @@ module _ (b : List ℕ) (at : ℕ) where
 
   module _ (h : Header) (e : h ≡ header-of rest) where
     size-is : h .size ≡ read-le 2 (drop at b) 14
-    unfolding header-of
+    unfolding header-of-by
     size-is = ap (λ (g : Header). g .size) e ∙ ap (λ (l : List ℕ). read-le 2 l 14) rest-is
 
     small : h .size < 24 → 0 ≡ event-length (drop at b)

@@ -6,7 +6,7 @@ use native.Mathlib.Omega.{arith}
 use lib.ListN.{length, getD}
 use lib.Seq.{take-length}
 use Rattle.lists.proofs.Rest.{Rest, rest-next, rest-end}
-use Rattle.columns.specs.Columns.{node-in}
+use Rattle.peer.specs.Held.{node-in}
 use Rattle.record.specs.Format.{Rec}
 use Rattle.protocol.specs.Run.{Run, emit, emit-all}
 use Rattle.protocol.specs.Messages.{forward-join-to}

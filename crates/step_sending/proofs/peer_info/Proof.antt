@@ -1,6 +1,6 @@
 use mathlib.Core.Path.{ap}
 use Rattle.util.specs.Section.{part}
-use Rattle.columns.specs.Columns.{node-in}
+use Rattle.peer.specs.Held.{node-in}
 use Rattle.protocol.specs.Run.{node}
 use Rattle.state.specs.Unpack.{unpack, station-of}
 use Rattle.state.proofs.Access.{of-packed}

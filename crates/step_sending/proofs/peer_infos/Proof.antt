@@ -7,8 +7,8 @@ use lib.Seq.{append-snoc, take-length}
 use Rattle.lists.specs.Maps.{lookup}
 use Rattle.lists.proofs.Rest.{Rest, rest-next, rest-end}
 use Rattle.peer.specs.Data.{Node}
-use Rattle.columns.specs.Columns.{node-in}
-use Rattle.columns.specs.declared.PeerInfo.{PeerInfo}
+use Rattle.peer.specs.Held.{node-in}
+use Rattle.peer.specs.declared.PeerInfo.{PeerInfo}
 use Rattle.writer.specs.declared.Nodes.{Nodes}
 use Rattle.writer.specs.Nodes.{nodes-in, ValidNodes, HoldsNodes}
 use Rattle.writer.proofs.Ways.{length-nodes}

@@ -7,7 +7,7 @@ use native.Mathlib.Omega.{arith}
 use lib.ListN.{length, length-append}
 use lib.Seq.{append-snoc}
 use Rattle.peer.specs.Data.{Node}
-use Rattle.columns.specs.Columns.{node-in}
+use Rattle.peer.specs.Held.{node-in}
 use Rattle.peer.specs.declared.PeerInfo.{PeerInfo}
 use Rattle.peer.specs.Held as held
 use Rattle.record.specs.Read.{header-of, well-formed, node-at, nodes-of}

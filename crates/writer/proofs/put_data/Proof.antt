@@ -8,7 +8,7 @@ use lib.ListN.{length, take, getD}
 use lib.Seq.{slice}
 use Rattle.lists.specs.Bytes.{overwrite}
 use Rattle.lists.proofs.Rest.{rest-at}
-use Rattle.columns.specs.declared.PeerInfo.{PeerInfo}
+use Rattle.peer.specs.declared.PeerInfo.{PeerInfo}
 use Rattle.peer.proofs.Data.{length-bytes}
 use Rattle.peer.specs.Held.{ValidData}
 use Rattle.record.specs.Format.{datas}

@@ -6,10 +6,9 @@ use native.Mathlib.Omega.{arith}
 use borrow.Author.Needs.{needs}
 use lib.ListN.{length, take, getD}
 use Rattle.lists.specs.Bytes.{overwrite}
-use Rattle.columns.specs.declared.PeerInfo.{PeerInfo}
-use Rattle.peer.specs.Held.{ValidData}
-use Rattle.columns.specs.Columns.{node-in}
-use Rattle.record.specs.Format.{entry, entries}
+use Rattle.peer.specs.declared.PeerInfo.{PeerInfo}
+use Rattle.peer.specs.Held.{ValidData, node-in}
+use Rattle.record.specs.Format.{entry, entries, entries-by}
 use Rattle.writer.specs.declared.Nodes.{Nodes}
 use Rattle.writer.specs.Nodes.{nodes-in, ValidNodes}
 use Rattle.writer.proofs.Laws.{Spot, with-entries, entry-next, missing, Walk, walk-start, walk-valid, walk-next, walk-end}
@@ -48,7 +47,7 @@ module _ (out₀ : List ℕ) (at n : ℕ) (items : List PeerInfo) (out : List �
   }
 
   end : n ≤ i → out ≡ overwrite out₀ at (entries (nodes-in (record { items = items; len = n })) (24 + 8 * n))
-  unfolding nodes-in entries overwrite
+  unfolding nodes-in entries-by overwrite
   end h = sym (walk-end with-entries (v .walk) h)
 
 abbrev Inv-loop : tie.InvT-loop

@@ -5,7 +5,7 @@ use mathlib.Core.List.{List}
 use native.Mathlib.Omega.{arith}
 use borrow.Author.Needs.{needs}
 use lib.ListN.{length, take, getD}
-use Rattle.columns.specs.declared.PeerInfo.{PeerInfo}
+use Rattle.peer.specs.declared.PeerInfo.{PeerInfo}
 use Rattle.record.specs.Format.{datas}
 use Rattle.writer.specs.declared.Nodes.{Nodes}
 use Rattle.writer.specs.Nodes.{nodes-in, ValidNodes}
