@@ -22,7 +22,7 @@ use Rattle.peer.specs.Held.{data-in, ValidData, node-in}
 use Rattle.peer.proofs.Data.{data-present, data-absent, length-bytes, bytes-in}
 use Rattle.peer.specs.declared.PeerData.{PeerData}
 use Rattle.peer.specs.declared.PeerInfo.{PeerInfo}
-use Rattle.record.specs.Format.{present, offset, entry, entry-by, entries, entries-by, datas}
+use Rattle.record.specs.Format.{peer-length, node-length, present, offset, entry, entry-by, entries, entries-by, datas}
 use Rattle.writer.specs.Nodes.{blank, nodes-in, ValidNodes, HoldsNodes}
 use Rattle.writer.specs.declared.Nodes.{Nodes}
 
@@ -39,17 +39,16 @@ module _ (d : PeerData) (v : ValidData d) where
 -- ---- a node entry
 
 pub entry-there : (p : PeerInfo) (at : ℕ) → ValidData (p .data) → p .data .present ≡ true
-    → p .id % 256 ∷ p .id / 256 % 256 ∷ p .id / 256 / 256 % 256 ∷ p .id / 256 / 256 / 256 % 256 ∷ at % 256 ∷ at / 256 % 256 ∷ p .data .len ∷ 1 ∷ []
-    ≡ entry (node-in p) at
+    → le peer-length (p .id) ++ (at % 256 ∷ at / 256 % 256 ∷ p .data .len ∷ 1 ∷ []) ≡ entry (node-in p) at
 unfolding entry-by node-in data-in le offset present bytes-of
 entry-there p at v y =
     let q : data-in (p .data) ≡ some (take (p .data .len) (p .data .bytes)) = data-present (p .data) y in
     let z : p .data .len ≡ length (take (p .data .len) (p .data .bytes)) = sym (length-bytes (p .data) v) in
-    ap (λ (n : ℕ). p .id % 256 ∷ p .id / 256 % 256 ∷ p .id / 256 / 256 % 256 ∷ p .id / 256 / 256 / 256 % 256 ∷ at % 256 ∷ at / 256 % 256 ∷ n ∷ 1 ∷ []) z
+    ap (λ (n : ℕ). le peer-length (p .id) ++ (at % 256 ∷ at / 256 % 256 ∷ n ∷ 1 ∷ [])) z
     ∙ ap (λ (x : Data). entry (record { id = p .id; data-of = x }) at) (sym q)
 
 pub entry-absent : (p : PeerInfo) (at : ℕ) → p .data .present ≡ false
-    → p .id % 256 ∷ p .id / 256 % 256 ∷ p .id / 256 / 256 % 256 ∷ p .id / 256 / 256 / 256 % 256 ∷ 0 ∷ 0 ∷ 0 ∷ 0 ∷ [] ≡ entry (node-in p) at
+    → le peer-length (p .id) ++ (0 ∷ 0 ∷ 0 ∷ 0 ∷ []) ≡ entry (node-in p) at
 unfolding entry-by node-in data-in le offset present bytes-of
 entry-absent p at n =
     ap (λ (x : Data). entry (record { id = p .id; data-of = x }) at) (sym (data-absent (p .data) n))
@@ -137,13 +136,13 @@ with-entries x l = overwrite (x .bytes) (x .at) (entries (map node-in l) (x .rea
 
 entry-then : (out : List ℕ) (at reached : ℕ) (p : PeerInfo) (l : List PeerInfo) → ValidData (p .data)
     → overwrite out at (entries (map node-in (p ∷ l)) reached)
-    ≡ overwrite (overwrite out at (entry (node-in p) reached)) (at + 8) (entries (map node-in l) (reached + p .data .len))
+    ≡ overwrite (overwrite out at (entry (node-in p) reached)) (at + node-length) (entries (map node-in l) (reached + p .data .len))
 unfolding entries-by node-in entry-by le
 entry-then out at reached p l v =
     sym (overwrite-append out at (entry (node-in p) reached) (entries (map node-in l) (reached + length (bytes-of (data-in (p .data))))))
-    ∙ ap (λ (m : ℕ). overwrite (overwrite out at (entry (node-in p) reached)) (at + 8) (entries (map node-in l) (reached + m))) (length-in (p .data) v)
+    ∙ ap (λ (m : ℕ). overwrite (overwrite out at (entry (node-in p) reached)) (at + node-length) (entries (map node-in l) (reached + m))) (length-in (p .data) v)
 
-pub entry-next : (out o a : List ℕ) (at at′ reached : ℕ) (p : PeerInfo) (l : List PeerInfo) → ValidData (p .data) → a ≡ entry (node-in p) reached → o ≡ overwrite out at a → at′ ≡ at + 8
+pub entry-next : (out o a : List ℕ) (at at′ reached : ℕ) (p : PeerInfo) (l : List PeerInfo) → ValidData (p .data) → a ≡ entry (node-in p) reached → o ≡ overwrite out at a → at′ ≡ at + node-length
     → overwrite out at (entries (map node-in (p ∷ l)) reached) ≡ overwrite o at′ (entries (map node-in l) (reached + p .data .len))
 entry-next out o a at at′ reached p l v q e k = entry-then out at reached p l v ∙ rw (e, q, k)
 

@@ -14,7 +14,7 @@ use Rattle.peer.specs.Data.{Node, bytes-of}
 use Rattle.peer.specs.Held.{data-in, ValidData, node-in}
 use Rattle.peer.specs.declared.PeerInfo.{PeerInfo}
 use Rattle.peer.proofs.Data.{bytes-in}
-use Rattle.record.specs.Format.{Rec, entry, entries, entries-by, datas, size, size-by, header, header-by, encode, encode-by}
+use Rattle.record.specs.Format.{Rec, peer-length, header-length, node-length, entry, entries, entries-by, datas, size, size-by, header, header-by, encode, encode-by}
 use Rattle.record.proofs.Format.{length-entries, length-header}
 use Rattle.writer.specs.Nodes.{nodes-in, ValidNodes}
 use Rattle.writer.specs.Write.{rec-in, header-bytes, fits, written, reached, Wrote}
@@ -33,23 +33,23 @@ module _ (e : Rec) (at : ℕ) (out : List ℕ) where
   stored o h q = record { answer = rw (le-leb _ _ h); bytes = q ∙ rw (le-leb _ _ h) }
 
   -- header, entries and data, stored one after the other
-  in-turn : (o₁ o₂ o₃ : List ℕ) (n : ℕ) → n ≡ length (e .nodes) → o₃ ≡ overwrite o₂ (at + 24 + 8 * n) (datas (e .nodes)) → o₂ ≡ overwrite o₁ (at + 24) (entries (e .nodes) (24 + 8 * n))
+  in-turn : (o₁ o₂ o₃ : List ℕ) (n : ℕ) → n ≡ length (e .nodes) → o₃ ≡ overwrite o₂ (at + header-length + node-length * n) (datas (e .nodes)) → o₂ ≡ overwrite o₁ (at + header-length) (entries (e .nodes) (header-length + node-length * n))
       → o₁ ≡ overwrite out at (header e) → o₃ ≡ overwrite out at (encode e)
   unfolding encode-by
   in-turn o₁ o₂ o₃ n k r q p =
-      let s : List ℕ = entries (e .nodes) (24 + 8 * length (e .nodes)) in
-      let z : length s ≡ 8 * length (e .nodes) = length-entries (e .nodes) (24 + 8 * length (e .nodes)) in
-      let q′ : o₂ ≡ overwrite o₁ (at + 24) s = q ∙ rw k in
+      let s : List ℕ = entries (e .nodes) (header-length + node-length * length (e .nodes)) in
+      let z : length s ≡ node-length * length (e .nodes) = length-entries peer-length (e .nodes) (header-length + node-length * length (e .nodes)) in
+      let q′ : o₂ ≡ overwrite o₁ (at + header-length) s = q ∙ rw k in
       then out at (header e) (s ++ datas (e .nodes)) p
-      (then o₁ (at + 24) s (datas (e .nodes)) q′ r (omega (arith, z, k)))
-      (omega (arith, length-header e))
+      (then o₁ (at + header-length) s (datas (e .nodes)) q′ r (omega (arith, z, k)))
+      (omega (arith, length-header peer-length e))
 
 pub length-nodes : (s : Nodes) → ValidNodes s → length (nodes-in s) ≡ s .len
 unfolding nodes-in
 length-nodes s v = length-map (take (s .len) (s .items)) node-in ∙ length-take-le (s .len) (s .items) (omega (arith, v .fits, long-items s v))
 
 -- a record of n nodes and z bytes
-module _ (f : Fields) (ns : List Node) (n z at : ℕ) (out : List ℕ) (p : n ≡ length ns) (k : z ≡ 24 + (8 * n + length (datas ns))) where
+module _ (f : Fields) (ns : List Node) (n z at : ℕ) (out : List ℕ) (p : n ≡ length ns) (k : z ≡ header-length + (node-length * n + length (datas ns))) where
   size-is : size (rec-in f ns) ≡ z
   unfolding size-by rec-in
   size-is = omega (arith, k, p)
@@ -60,11 +60,11 @@ module _ (f : Fields) (ns : List Node) (n z at : ℕ) (out : List ℕ) (p : n �
   header-is : header-bytes f n z ≡ header (rec-in f ns)
   unfolding header-bytes header-by rec-in size-by
   header-is =
-      let q : z ≡ 24 + (8 * length ns + length (datas ns)) = omega (arith, k, p) in
-      λ i. f .kind ∷ f .message ∷ f .flags ∷ p i ∷ (le 4 (f .peer) ++ (le 4 (f .second) ++ (le 2 (f .ttl) ++ (le 2 (q i) ++ le 8 (f .number)))))
+      let q : z ≡ header-length + (node-length * length ns + length (datas ns)) = omega (arith, k, p) in
+      λ i. f .kind ∷ f .message ∷ f .flags ∷ p i ∷ (le peer-length (f .peer) ++ (le peer-length (f .second) ++ (le 2 (f .ttl) ++ (le 2 (q i) ++ le 8 (f .number)))))
 
-  pub done : (o₁ o₂ o₃ : List ℕ) (r : ℕ) → r ≡ length out - at → z ≤ r → o₃ ≡ overwrite o₂ (at + 24 + 8 * n) (datas ns)
-      → o₂ ≡ overwrite o₁ (at + 24) (entries ns (24 + 8 * n)) → o₁ ≡ overwrite out at (header-bytes f n z) → Wrote (rec-in f ns) at out (At (at + z)) o₃
+  pub done : (o₁ o₂ o₃ : List ℕ) (r : ℕ) → r ≡ length out - at → z ≤ r → o₃ ≡ overwrite o₂ (at + header-length + node-length * n) (datas ns)
+      → o₂ ≡ overwrite o₁ (at + header-length) (entries ns (header-length + node-length * n)) → o₁ ≡ overwrite out at (header-bytes f n z) → Wrote (rec-in f ns) at out (At (at + z)) o₃
   unfolding rec-in
   done o₁ o₂ o₃ r l h w q e =
       rw (← size-is)
@@ -74,32 +74,36 @@ module _ (f : Fields) (ns : List Node) (n z at : ℕ) (out : List ℕ) (p : n �
 -- ---- the records of no node and of one
 
 module _ (f : Fields) (at : ℕ) (out : List ℕ) (r : ℕ) (l : r ≡ length out - at) where
-  pub no-room-bare : r < 24 → Wrote (rec-in f []) at out Full out
+  pub no-room-bare : r < header-length → Wrote (rec-in f []) at out Full out
   unfolding datas
-  no-room-bare h = no-room f [] 0 24 at out refl refl r l h
+  no-room-bare h = no-room f [] 0 header-length at out refl refl r l h
 
-  pub done-bare : (o : List ℕ) → 24 ≤ r → o ≡ overwrite out at (header-bytes f 0 24) → Wrote (rec-in f []) at out (At (at + 24)) o
+  pub done-bare : (o : List ℕ) → header-length ≤ r → o ≡ overwrite out at (header-bytes f 0 header-length) → Wrote (rec-in f []) at out (At (at + header-length)) o
   unfolding datas entries-by overwrite
-  done-bare o h e = done f [] 0 24 at out refl refl o o o r l h refl refl e
+  done-bare o h e = done f [] 0 header-length at out refl refl o o o r l h refl refl e
+
+-- where the data of one node stand
+abbrev fixed : ℕ
+fixed = header-length + node-length
 
 module _ (f : Fields) (p : PeerInfo) (v : ValidData (p .data)) where
   abbrev one : List Node
   one = node-in p ∷ []
 
-  size-one : 32 + p .data .len ≡ 24 + (8 * 1 + length (datas one))
+  size-one : fixed + p .data .len ≡ header-length + (node-length * 1 + length (datas one))
   unfolding datas node-in
   size-one = omega (arith, length-append (bytes-of (data-in (p .data))) [], length-in (p .data) v)
 
-  pub no-room-one : (at : ℕ) (out : List ℕ) (r : ℕ) → r ≡ length out - at → r < 32 + p .data .len → Wrote (rec-in f one) at out Full out
-  no-room-one at out r l h = no-room f one 1 (32 + p .data .len) at out refl size-one r l h
+  pub no-room-one : (at : ℕ) (out : List ℕ) (r : ℕ) → r ≡ length out - at → r < fixed + p .data .len → Wrote (rec-in f one) at out Full out
+  no-room-one at out r l h = no-room f one 1 (fixed + p .data .len) at out refl size-one r l h
 
-  pub done-one : (at : ℕ) (out : List ℕ) (r : ℕ) → r ≡ length out - at → 32 + p .data .len ≤ r → (o₁ o₂ o₃ a : List ℕ) → o₃ ≡ overwrite o₂ (at + 32) (take (p .data .len) (p .data .bytes))
-      → o₂ ≡ overwrite o₁ (at + 24) a → a ≡ entry (node-in p) 32 → o₁ ≡ overwrite out at (header-bytes f 1 (32 + p .data .len))
-      → Wrote (rec-in f one) at out (At (at + (32 + p .data .len))) o₃
+  pub done-one : (at : ℕ) (out : List ℕ) (r : ℕ) → r ≡ length out - at → fixed + p .data .len ≤ r → (o₁ o₂ o₃ a : List ℕ) → o₃ ≡ overwrite o₂ (at + fixed) (take (p .data .len) (p .data .bytes))
+      → o₂ ≡ overwrite o₁ (at + header-length) a → a ≡ entry (node-in p) fixed → o₁ ≡ overwrite out at (header-bytes f 1 (fixed + p .data .len))
+      → Wrote (rec-in f one) at out (At (at + (fixed + p .data .len))) o₃
   unfolding datas entries-by node-in
   done-one at out r l h o₁ o₂ o₃ a s q w e =
-      let m : at + 24 + 8 * 1 ≡ at + 32 = omega arith in
-      done f one 1 (32 + p .data .len) at out refl size-one o₁ o₂ o₃ r l h
+      let m : at + header-length + node-length * 1 ≡ at + fixed = omega arith in
+      done f one 1 (fixed + p .data .len) at out refl size-one o₁ o₂ o₃ r l h
       (s ∙ rw (m, bytes-in (p .data) v, append-nil (take (p .data .len) (p .data .bytes))))
-      (q ∙ ap (overwrite o₁ (at + 24)) (w ∙ sym (append-nil (entry (node-in p) 32))))
+      (q ∙ ap (overwrite o₁ (at + header-length)) (w ∙ sym (append-nil (entry (node-in p) fixed))))
       e

@@ -27,7 +27,7 @@ rec-in f ns = record {
   nodes = ns;
 }
 
--- the 24 bytes of the header of a record with these fields, n nodes and z bytes
+-- the bytes of the header of a record with these fields, n nodes and z bytes
 unfoldable pub header-bytes : Fields → ℕ → ℕ → List ℕ
 header-bytes f n z =
     f .kind ∷ f .message ∷ f .flags ∷ n

@@ -1,14 +1,16 @@
-// Part 3 of document 01: the writers of records, from peers of 64 bits, of which a record carries the four low bytes.
+// Part 3 of document 01: the writers of records.
 use peer::PeerData;
 use peer::PeerId;
 use peer::PeerInfo;
+use record::HEADER;
+use record::NODE;
 ghost use mathlib.Core.Path.{_≡_};
 ghost use mathlib.Core.List.{List, [], _∷_, _++_};
 ghost use Prim.Native.Nat.{_+_, _*_, _-_, _≤_, _<_};
 ghost use lib.ListN.{length};
-ghost use Rattle.lists.specs.Bytes.{overwrite};
+ghost use Rattle.lists.specs.Bytes.{le, overwrite};
 ghost use Rattle.peer.specs.Held.{node-in, ValidData};
-ghost use Rattle.record.specs.Format.{entry, entries, datas};
+ghost use Rattle.record.specs.Format.{peer-length, header-length, node-length, entry, entries, datas};
 ghost use Rattle.writer.specs.Nodes.{nodes-in, ValidNodes, HoldsNodes};
 ghost use Rattle.writer.specs.Write.{rec-in, header-bytes, Wrote};
 
@@ -65,14 +67,14 @@ impl Nodes {
         s
     }
 
-    // The whole length of a record with these nodes: at most 792, which two bytes hold.
+    // The whole length of a record with these nodes: at most 928, which two bytes hold.
     fn size(self) -> usize
         requires { ⌜ ValidNodes self ⌝ }
-        ensures { λ r. ⌜ (r ≡ 24 + (8 * self .len + length (datas (nodes-in self)))) × (r ≤ 792) ⌝ }
+        ensures { λ r. ⌜ (r ≡ header-length + (node-length * self .len + length (datas (nodes-in self)))) × (r ≤ 928) ⌝ }
     {
         let n = self.len;
         let items = self.items;
-        let mut total = 24 + 8 * n;
+        let mut total = HEADER + NODE * n;
         let mut i: usize = 0;
         while i < n {
             let p = items[i];
@@ -96,15 +98,12 @@ fn put_bytes(out: &mut [u8], at: usize, bs: &[u8])
     }
 }
 
-// The header of a record of so many nodes and so many bytes.
-fn header_array(f: Fields, nodes: u8, size: u16) -> [u8; 24]
-    ensures { λ r. ⌜ r ≡ header-bytes f nodes size ⌝ }
+// The fields of a header before its ttl, for a record of so many nodes.
+fn header_front(f: Fields, nodes: u8) -> [u8; 20]
+    ensures { λ r. ⌜ r ≡ f .kind ∷ f .message ∷ f .flags ∷ nodes ∷ (le peer-length (f .peer) ++ le peer-length (f .second)) ⌝ }
 {
     let p = f.peer;
     let s = f.second;
-    let t = f.ttl;
-    let z = size;
-    let n = f.number;
     [
         f.kind,
         f.message,
@@ -114,14 +113,32 @@ fn header_array(f: Fields, nodes: u8, size: u16) -> [u8; 24]
         (p / 256 % 256) as u8,
         (p / 256 / 256 % 256) as u8,
         (p / 256 / 256 / 256 % 256) as u8,
+        (p / 256 / 256 / 256 / 256 % 256) as u8,
+        (p / 256 / 256 / 256 / 256 / 256 % 256) as u8,
+        (p / 256 / 256 / 256 / 256 / 256 / 256 % 256) as u8,
+        (p / 256 / 256 / 256 / 256 / 256 / 256 / 256 % 256) as u8,
         (s % 256) as u8,
         (s / 256 % 256) as u8,
         (s / 256 / 256 % 256) as u8,
         (s / 256 / 256 / 256 % 256) as u8,
+        (s / 256 / 256 / 256 / 256 % 256) as u8,
+        (s / 256 / 256 / 256 / 256 / 256 % 256) as u8,
+        (s / 256 / 256 / 256 / 256 / 256 / 256 % 256) as u8,
+        (s / 256 / 256 / 256 / 256 / 256 / 256 / 256 % 256) as u8,
+    ]
+}
+
+// The rest of the header of a record of so many bytes.
+fn header_back(f: Fields, size: u16) -> [u8; 12]
+    ensures { λ r. ⌜ r ≡ le 2 (f .ttl) ++ (le 2 size ++ le 8 (f .number)) ⌝ }
+{
+    let t = f.ttl;
+    let n = f.number;
+    [
         (t % 256) as u8,
         (t / 256 % 256) as u8,
-        (z % 256) as u8,
-        (z / 256 % 256) as u8,
+        (size % 256) as u8,
+        (size / 256 % 256) as u8,
         (n % 256) as u8,
         (n / 256 % 256) as u8,
         (n / 256 / 256 % 256) as u8,
@@ -134,21 +151,22 @@ fn header_array(f: Fields, nodes: u8, size: u16) -> [u8; 24]
 }
 
 // A node entry, whose data stand at the place reached.
-fn entry_array(p: PeerInfo, reached: usize) -> [u8; 8]
+fn entry_array(p: PeerInfo, reached: usize) -> [u8; 12]
     requires { ⌜ ValidData (p .data) ⌝ }
     ensures { λ r. ⌜ r ≡ entry (node-in p) reached ⌝ }
 {
     let d = p.data;
     let id = p.id;
-    let id1 = id / 256;
-    let id2 = id1 / 256;
-    let id3 = id2 / 256;
     if d.present {
         return [
             (id % 256) as u8,
-            (id1 % 256) as u8,
-            (id2 % 256) as u8,
-            (id3 % 256) as u8,
+            (id / 256 % 256) as u8,
+            (id / 256 / 256 % 256) as u8,
+            (id / 256 / 256 / 256 % 256) as u8,
+            (id / 256 / 256 / 256 / 256 % 256) as u8,
+            (id / 256 / 256 / 256 / 256 / 256 % 256) as u8,
+            (id / 256 / 256 / 256 / 256 / 256 / 256 % 256) as u8,
+            (id / 256 / 256 / 256 / 256 / 256 / 256 / 256 % 256) as u8,
             (reached % 256) as u8,
             (reached / 256 % 256) as u8,
             d.len,
@@ -157,9 +175,13 @@ fn entry_array(p: PeerInfo, reached: usize) -> [u8; 8]
     }
     [
         (id % 256) as u8,
-        (id1 % 256) as u8,
-        (id2 % 256) as u8,
-        (id3 % 256) as u8,
+        (id / 256 % 256) as u8,
+        (id / 256 / 256 % 256) as u8,
+        (id / 256 / 256 / 256 % 256) as u8,
+        (id / 256 / 256 / 256 / 256 % 256) as u8,
+        (id / 256 / 256 / 256 / 256 / 256 % 256) as u8,
+        (id / 256 / 256 / 256 / 256 / 256 / 256 % 256) as u8,
+        (id / 256 / 256 / 256 / 256 / 256 / 256 / 256 % 256) as u8,
         0,
         0,
         0,
@@ -169,17 +191,17 @@ fn entry_array(p: PeerInfo, reached: usize) -> [u8; 8]
 
 fn put_entries(out: &mut [u8], at: usize, ns: Nodes)
     requires { ⌜ ValidNodes ns ⌝ }
-    requires { ⌜ at + 8 * ns .len ≤ length (now out) ⌝ }
-    ensures { λ _. ⌜ now (out .exit) ≡ overwrite (now (out .entry)) at (entries (nodes-in ns) (24 + 8 * ns .len)) ⌝ }
+    requires { ⌜ at + node-length * ns .len ≤ length (now out) ⌝ }
+    ensures { λ _. ⌜ now (out .exit) ≡ overwrite (now (out .entry)) at (entries (nodes-in ns) (header-length + node-length * ns .len)) ⌝ }
 {
     let n = ns.len;
     let items = ns.items;
-    let mut reached = 24 + 8 * n;
+    let mut reached = HEADER + NODE * n;
     let mut i: usize = 0;
     while i < n {
         let p = items[i];
         let a = entry_array(p, reached);
-        put_bytes(out, at + 8 * i, &a);
+        put_bytes(out, at + NODE * i, &a);
         let d = p.data;
         reached += d.len as usize;
         i += 1;
@@ -217,13 +239,18 @@ fn left(len: usize, at: usize) -> usize
     len - at
 }
 
-// The same, from place `at` on.
+// The bytes of a header before its ttl.
+const FRONT: usize = 20;
+
+// The header of a record of so many nodes and so many bytes, from place `at` on.
 fn put_header(out: &mut [u8], at: usize, f: Fields, nodes: u8, size: u16)
-    requires { ⌜ at + 24 ≤ length (now out) ⌝ }
+    requires { ⌜ at + header-length ≤ length (now out) ⌝ }
     ensures { λ _. ⌜ now (out .exit) ≡ overwrite (now (out .entry)) at (header-bytes f nodes size) ⌝ }
 {
-    let a = header_array(f, nodes, size);
-    put_bytes(out, at, &a);
+    let front = header_front(f, nodes);
+    put_bytes(out, at, &front);
+    let back = header_back(f, size);
+    put_bytes(out, at + FRONT, &back);
 }
 
 // The record from place `at` on; nothing is touched where it does not fit.
@@ -237,8 +264,8 @@ pub fn write(out: &mut [u8], at: usize, f: Fields, ns: Nodes) -> Written
         return Written::Full;
     }
     put_header(out, at, f, n as u8, size as u16);
-    put_entries(out, at + 24, ns);
-    put_data(out, at + 24 + 8 * n, ns);
+    put_entries(out, at + HEADER, ns);
+    put_data(out, at + HEADER + NODE * n, ns);
     Written::At(at + size)
 }
 
@@ -246,11 +273,11 @@ pub fn write(out: &mut [u8], at: usize, f: Fields, ns: Nodes) -> Written
 pub fn write_bare(out: &mut [u8], at: usize, f: Fields) -> Written
     ensures { λ r. ⌜ Wrote (rec-in f []) at (now (out .entry)) r (now (out .exit)) ⌝ }
 {
-    if left(out.len(), at) < 24 {
+    if left(out.len(), at) < HEADER {
         return Written::Full;
     }
-    put_header(out, at, f, 0, 24);
-    Written::At(at + 24)
+    put_header(out, at, f, 0, HEADER as u16);
+    Written::At(at + HEADER)
 }
 
 // A record with one node.
@@ -260,14 +287,15 @@ pub fn write_one(out: &mut [u8], at: usize, f: Fields, p: PeerInfo) -> Written
 {
     let d = p.data;
     let n = d.len as usize;
-    let whole = 32 + n;
+    let fixed = HEADER + NODE;
+    let whole = fixed + n;
     if left(out.len(), at) < whole {
         return Written::Full;
     }
     put_header(out, at, f, 1, whole as u16);
-    let a = entry_array(p, 32);
-    put_bytes(out, at + 24, &a);
+    let a = entry_array(p, fixed);
+    put_bytes(out, at + HEADER, &a);
     let bytes = d.bytes;
-    put_bytes(out, at + 32, &bytes[..n]);
+    put_bytes(out, at + fixed, &bytes[..n]);
     Written::At(at + whole)
 }

@@ -8,7 +8,7 @@ use lib.ListN.{length, take, getD}
 use Rattle.lists.specs.Bytes.{overwrite}
 use Rattle.peer.specs.declared.PeerInfo.{PeerInfo}
 use Rattle.peer.specs.Held.{ValidData, node-in}
-use Rattle.record.specs.Format.{entry, entries, entries-by}
+use Rattle.record.specs.Format.{header-length, node-length, entry, entries, entries-by}
 use Rattle.writer.specs.declared.Nodes.{Nodes}
 use Rattle.writer.specs.Nodes.{nodes-in, ValidNodes}
 use Rattle.writer.proofs.Laws.{Spot, with-entries, entry-next, missing, Walk, walk-start, walk-valid, walk-next, walk-end}
@@ -19,15 +19,15 @@ abbrev spot : List ℕ → ℕ → ℕ → Spot
 spot out k reached = record { bytes = out; at = k; reached = reached }
 
 record Inv (out₀ : List ℕ) (at n : ℕ) (items : List PeerInfo) (out : List ℕ) (reached i : ℕ) : Type 0 where
-  walk : Walk with-entries items n (overwrite out₀ at (entries (map node-in (take n items)) (24 + 8 * n))) (spot out (at + 8 * i) reached) i
-  small : reached ≤ 24 + 8 * n + 16 * i
-  room : at + 8 * n ≤ length out
+  walk : Walk with-entries items n (overwrite out₀ at (entries (map node-in (take n items)) (header-length + node-length * n))) (spot out (at + node-length * i) reached) i
+  small : reached ≤ header-length + node-length * n + 16 * i
+  room : at + node-length * n ≤ length out
   len : length out ≡ length out₀
 
-start : (out : List ℕ) (at : ℕ) (s : Nodes) → ValidNodes s → at + 8 * s .len ≤ length out → Inv out at (s .len) (s .items) out (24 + 8 * s .len) 0
+start : (out : List ℕ) (at : ℕ) (s : Nodes) → ValidNodes s → at + node-length * s .len ≤ length out → Inv out at (s .len) (s .items) out (header-length + node-length * s .len) 0
 start out at s v h =
-    let e : at + 8 * 0 ≡ at = omega arith in
-    record { walk = rw e (walk-start with-entries s (spot out at (24 + 8 * s .len)) v); small = omega arith; room = h; len = refl }
+    let e : at + node-length * 0 ≡ at = omega arith in
+    record { walk = rw e (walk-start with-entries s (spot out at (header-length + node-length * s .len)) v); small = omega arith; room = h; len = refl }
 
 module _ (out₀ : List ℕ) (at n : ℕ) (items : List PeerInfo) (out : List ℕ) (reached i : ℕ) (v : Inv out₀ at n items out reached i) where
   here : i < n → ValidData (getD items i missing .data)
@@ -36,17 +36,17 @@ module _ (out₀ : List ℕ) (at n : ℕ) (items : List PeerInfo) (out : List �
   few : i < n → getD items i missing .data .len ≤ 16
   few h = here h .fits
 
-  next : (o a : List ℕ) → a ≡ entry (node-in (getD items i missing)) reached → o ≡ overwrite out (at + 8 * i) a → length o ≡ length out → i < n
+  next : (o a : List ℕ) → a ≡ entry (node-in (getD items i missing)) reached → o ≡ overwrite out (at + node-length * i) a → length o ≡ length out → i < n
       → Inv out₀ at n items o (reached + getD items i missing .data .len) (i + 1)
   next o a q e k h = record {
-    walk = walk-next with-entries (v .walk) (spot o (at + 8 * (i + 1)) (reached + getD items i missing .data .len)) h
-        (λ l. entry-next out o a (at + 8 * i) (at + 8 * (i + 1)) reached (getD items i missing) l (here h) q e (omega arith));
+    walk = walk-next with-entries (v .walk) (spot o (at + node-length * (i + 1)) (reached + getD items i missing .data .len)) h
+        (λ l. entry-next out o a (at + node-length * i) (at + node-length * (i + 1)) reached (getD items i missing) l (here h) q e (omega arith));
     small = omega (arith, v .small, few h);
     room = omega (arith, v .room);
     len = k ∙ v .len;
   }
 
-  end : n ≤ i → out ≡ overwrite out₀ at (entries (nodes-in (record { items = items; len = n })) (24 + 8 * n))
+  end : n ≤ i → out ≡ overwrite out₀ at (entries (nodes-in (record { items = items; len = n })) (header-length + node-length * n))
   unfolding nodes-in entries-by overwrite
   end h = sym (walk-end with-entries (v .walk) h)
 

@@ -1,13 +1,22 @@
-use Prim.Native.Nat.{ℕ}
+use Prim.Native.Nat.{ℕ, _+_}
 use mathlib.Core.Path.{_≡_, ap, _∙_}
-use mathlib.Core.List.{List}
+use mathlib.Core.List.{List, _∷_, _++_}
+use native.Mathlib.Omega.{arith}
+use lib.ListN.{length}
+use Rattle.lists.specs.Bytes.{le, overwrite}
+use Rattle.lists.proofs.Bytes.{then}
+use Rattle.record.specs.Format.{peer-length}
+use Rattle.writer.specs.Write.{header-bytes}
+use Rattle.writer.specs.declared.Fields.{Fields}
 use borrow.Author.Needs.{needs}
-use Rattle.lists.specs.Bytes.{overwrite}
 use Rattle.writer.proofs.put_header.Statement.{statement}
 use Rattle.writer.proofs.put_header.Tie as tie
+use Rattle.writer.proofs.header_back.Reads as header-back-reads
+use Rattle.writer.proofs.header_front.Reads as header-front-reads
+use Rattle.writer.proofs.put_bytes.Reads as put-bytes-reads
 
-header-array-requires : tie.Need-header-array-requires
-header-array-requires c κs = search needs
+header-front-requires : tie.Need-header-front-requires
+header-front-requires c κs = search needs
 
 slice-aggregate-put-bytes : tie.Need-slice-aggregate-put-bytes
 slice-aggregate-put-bytes c = search needs
@@ -15,14 +24,47 @@ slice-aggregate-put-bytes c = search needs
 put-bytes-requires : tie.Need-put-bytes-requires
 put-bytes-requires c κs = search needs
 
+header-back-requires : tie.Need-header-back-requires
+header-back-requires c κs = search needs
+
+add-put-bytes : tie.Need-add-put-bytes
+add-put-bytes c = search needs
+
+slice-aggregate-put-bytes-2 : tie.Need-slice-aggregate-put-bytes-2
+slice-aggregate-put-bytes-2 c = search needs
+
+put-bytes-requires-2 : tie.Need-put-bytes-requires-2
+put-bytes-requires-2 c κs = search needs
+
 same-length : tie.Need-same-length
 same-length c = search needs
 
-put : (out o a b : List ℕ) (at : ℕ) → o ≡ overwrite out at a → a ≡ b → o ≡ overwrite out at b
-put out o a b at e q = e ∙ ap (overwrite out at) q
+module _ (f : Fields) (n z at : ℕ) (out o₁ o front back : List ℕ) (p : front ≡ f .kind ∷ f .message ∷ f .flags ∷ n ∷ (le peer-length (f .peer) ++ le peer-length (f .second)))
+    (q : back ≡ le 2 (f .ttl) ++ (le 2 z ++ le 8 (f .number))) where
+  joined : front ++ back ≡ header-bytes f n z
+  unfolding header-bytes le
+  joined = rw (p, q)
+
+  twenty : length front ≡ 20
+  unfolding le
+  twenty = ap length p
+
+  put : o₁ ≡ overwrite out at front → o ≡ overwrite o₁ (at + 20) back → o ≡ overwrite out at (header-bytes f n z)
+  put e h = then out at front back e h (omega (arith, twenty)) ∙ ap (overwrite out at) joined
 
 returns : tie.Need-returns
-returns c = put _ _ _ _ _ (c .before .before .put-bytes .ensures) (c .before .before .before .before .before .header-array .ensures)
+returns c = search put
 
 pub put-header-spec : {M : Type 1} → statement M
-put-header-spec = tie.close (tie.spec header-array-requires slice-aggregate-put-bytes put-bytes-requires same-length returns)
+put-header-spec =
+    tie.close
+    (tie.spec
+    header-front-requires
+    slice-aggregate-put-bytes
+    put-bytes-requires
+    header-back-requires
+    add-put-bytes
+    slice-aggregate-put-bytes-2
+    put-bytes-requires-2
+    same-length
+    returns)

@@ -9,6 +9,9 @@ left-requires c κs = search needs
 returns : tie.Need-returns
 returns c = search no-room-bare
 
+cast-put-header : tie.Need-cast-put-header
+cast-put-header c = search needs
+
 put-header-requires : tie.Need-put-header-requires
 put-header-requires c κs = search needs
 
@@ -22,4 +25,4 @@ returns-2 : tie.Need-returns-2
 returns-2 c = search done-bare
 
 pub write-bare-spec : {M : Type 1} → statement M
-write-bare-spec = tie.close (tie.spec left-requires returns put-header-requires add-t4 same-length returns-2)
+write-bare-spec = tie.close (tie.spec left-requires returns cast-put-header put-header-requires add-t4 same-length returns-2)

@@ -8,6 +8,9 @@ use Rattle.writer.proofs.write_one.Tie as tie
 cast-n : tie.Need-cast-n
 cast-n c = search needs
 
+add-fixed : tie.Need-add-fixed
+add-fixed c = search needs
+
 add-whole : tie.Need-add-whole
 add-whole c = search needs
 
@@ -51,8 +54,8 @@ put-bytes-requires-2 c κs =
     let t = h .before .before in
     omega (arith, exact _ (t .before .before .before .before .before .pre), t .before .left .ensures, t .if1 .left, h .put-header .kept .0, b .put-bytes .kept .0)
 
-add-t10 : tie.Need-add-t10
-add-t10 c = search needs
+add-t11 : tie.Need-add-t11
+add-t11 c = search needs
 
 same-length : tie.Need-same-length
 same-length c = search needs
@@ -72,6 +75,7 @@ write-one-spec =
     tie.close
     (tie.spec
     cast-n
+    add-fixed
     add-whole
     left-requires
     returns
@@ -85,6 +89,6 @@ write-one-spec =
     array-share-prefix-bytes
     slice-aggregate-put-bytes-2
     put-bytes-requires-2
-    add-t10
+    add-t11
     same-length
     returns-2)

@@ -6,7 +6,7 @@ use native.Mathlib.Omega.{arith}
 use borrow.Author.Needs.{needs}
 use lib.ListN.{length, take, getD}
 use Rattle.peer.specs.declared.PeerInfo.{PeerInfo}
-use Rattle.record.specs.Format.{datas}
+use Rattle.record.specs.Format.{header-length, node-length, datas}
 use Rattle.writer.specs.declared.Nodes.{Nodes}
 use Rattle.writer.specs.Nodes.{nodes-in, ValidNodes}
 use Rattle.writer.proofs.Laws.{sum, sum-next, missing, Walk, walk-start, walk-valid, walk-next, walk-end}
@@ -14,11 +14,11 @@ use Rattle.writer.proofs.Nodes.size.Statement.{statement}
 use Rattle.writer.proofs.Nodes.size.Tie as tie
 
 record Inv (items : List PeerInfo) (n total i : ℕ) : Type 0 where
-  walk : Walk sum items n (sum (24 + 8 * n) (take n items)) total i
-  small : total ≤ 24 + 8 * n + 16 * i
+  walk : Walk sum items n (sum (header-length + node-length * n) (take n items)) total i
+  small : total ≤ header-length + node-length * n + 16 * i
 
-start : (s : Nodes) → ValidNodes s → Inv (s .items) (s .len) (24 + 8 * s .len) 0
-start s v = record { walk = walk-start sum s (24 + 8 * s .len) v; small = omega arith }
+start : (s : Nodes) → ValidNodes s → Inv (s .items) (s .len) (header-length + node-length * s .len) 0
+start s v = record { walk = walk-start sum s (header-length + node-length * s .len) v; small = omega arith }
 
 module _ (items : List PeerInfo) (n total i : ℕ) (v : Inv items n total i) where
   few : i < n → getD items i missing .data .len ≤ 16
@@ -30,11 +30,11 @@ module _ (items : List PeerInfo) (n total i : ℕ) (v : Inv items n total i) whe
     small = omega (arith, v .small, few h);
   }
 
-  end : n ≤ i → total ≡ 24 + (8 * n + length (datas (nodes-in (record { items = items; len = n }))))
+  end : n ≤ i → total ≡ header-length + (node-length * n + length (datas (nodes-in (record { items = items; len = n }))))
   unfolding nodes-in datas
   end h = omega (arith, walk-end sum (v .walk) h)
 
-  most : n ≤ i → total ≤ 792
+  most : n ≤ i → total ≤ 928
   most h = omega (arith, v .small, v .walk .rest .low, v .walk .rest .top)
 
 abbrev Inv-loop : tie.InvT-loop
