@@ -10,10 +10,12 @@ use lib.Seq.{slice}
 use lib.Dec.{leb, ltb, eqb}
 use borrow.Author.Tests.{leb-true, ltb-true, ltb-false}
 use Rattle.lists.specs.Bytes.{read-le}
+use Rattle.lists.proofs.Numbers.{read-below}
 use Rattle.lists.proofs.Choice.{by-choice, choose-no, and-left, and-right}
-use Rattle.record.specs.Format.{Rec}
+use Rattle.record.specs.Format.{Rec, peer-length, header-length, node-length}
 use Rattle.record.specs.InForm.{InForm}
 use Rattle.record.proofs.Back.{in-form-back}
+use Rattle.record.proofs.Nodes.{length-nodes-of}
 use Rattle.record.specs.Read as Rd
 use Rattle.record.specs.Read.{Reading, refused, event, read-event, rec-of, rec-of-by, header-of, header-of-by, entry-at}
 use Rattle.record.specs.declared.Header.{Header}
@@ -35,14 +37,8 @@ byte-at [] i e = omega arith
 byte-at (x ∷ xs) zero e = ltb-true x 256 (and-left (ltb x 256) (all-under 256 xs) e)
 byte-at (x ∷ xs) (suc i) e = byte-at xs i (and-right (ltb x 256) (all-under 256 xs) e)
 
-narrow-peer : (b : List ℕ) → all-under 256 b ≡ true → read-le 4 b 4 < peers-end
-unfolding read-le
-narrow-peer b e = omega (arith, byte-at b 4 e, byte-at b 5 e, byte-at b 6 e, byte-at b 7 e)
-
-length-nodes : (b : List ℕ) (i n : ℕ) → length (Rd.nodes-of b i n) ≡ n
-unfolding Rd.nodes-of-by
-length-nodes b i zero = refl
-length-nodes b i (suc n) = ap suc (length-nodes b (suc i) n)
+narrow-peer : (b : List ℕ) → all-under 256 b ≡ true → read-le peer-length b 4 < peers-end
+narrow-peer b e = read-below peer-length b 4 (λ k. byte-at b k e)
 
 length-part : (i n : ℕ) (b : List ℕ) → length (slice i (i + n) b) ≤ n
 length-part i n b = simp (length-drop, length-take) (omega arith)
@@ -70,9 +66,9 @@ unfolding rec-of-by Rd.well-formed-by
 readable b w low few narrow = record {
   low = low;
   narrow = narrow;
-  shorts = short-nodes (header-of b) b 0 (header-of b .nodes) (24 + 8 * header-of b .nodes)
-      (and-right (eqb (header-of b .size) (length b)) _ (and-right (Rd.header-ok (header-of b)) _ (and-right (leb 24 (length b)) _ w)));
-  few = omega (arith, length-nodes b 0 (header-of b .nodes), few);
+  shorts = short-nodes (header-of b) b 0 (header-of b .nodes) (header-length + node-length * header-of b .nodes)
+      (and-right (eqb (header-of b .size) (length b)) _ (and-right (Rd.header-ok (header-of b)) _ (and-right (leb header-length (length b)) _ w)));
+  few = omega (arith, length-nodes-of b 0 (header-of b .nodes), few);
 }
 
 -- by cases: refused with 3 or 4, or an event in form that keeps its promises
@@ -84,7 +80,7 @@ by-form b bytes X f g =
     (λ i. by-choice X (Rd.well-formed b && Rd.is-event (header-of b))
     (λ w. let y = and-left (Rd.well-formed b) _ w in
     g (readable b y (leb-true (getD b 0 0) 8 (and-left (leb (getD b 0 0) 8) _ (and-right (Rd.well-formed b) _ w))) (let n = ltb-false 32 (getD b 3 0) i in omega (arith, n)) (narrow-peer b bytes))
-    (in-form-back b (λ k. byte-at b k bytes) y))
+    (in-form-back peer-length b (λ k. byte-at b k bytes) y))
     (λ w. f 3 (omega arith) (omega arith))))
 
 pub by-reading : (b : List ℕ) → all-under 256 b ≡ true → (X : Reading → Type 0) → ((c : ℕ) → 3 ≤ c → c ≤ 4 → X (refused c)) → (Readable (rec-of b) → X (event (rec-of b))) → X (read-event b)

@@ -115,7 +115,7 @@ peer-lists s =
 abbrev pub data-lists : Station → List (List ℕ)
 data-lists s = bytes-of (s .own-data) ∷ values (s .peer-data)
 
--- "Peers are 32-bit numbers", "Counters have 64 bits, the two pass counts 32"; data is bytes
+-- Peers are 64-bit numbers (document 02, S-8), "Counters have 64 bits, the two pass counts 32"; data is bytes
 unfoldable pub width-rule : Station → Bool
 width-rule s =
     lists-under peers-end (peer-lists s)

@@ -72,9 +72,9 @@ top-counter = 18446744073709551615
 abbrev pub top-passes : ℕ
 top-passes = 4294967295
 
--- peers and draws have 32 bits, bytes 8
+-- peers have 64 bits (document 02, S-8), draws 32, bytes 8
 abbrev pub peers-end : ℕ
-peers-end = 4294967296
+peers-end = 18446744073709551616
 
 abbrev pub draws-end : ℕ
 draws-end = 4294967296

@@ -10,6 +10,7 @@ use borrow.Author.Tests.{eqb-true, leb-true}
 use Rattle.lists.specs.Lists.{choose}
 use Rattle.lists.proofs.Choice.{and-left, and-right}
 use Rattle.record.specs.declared.Header.{Header}
+use Rattle.record.specs.Format.{peer-length}
 use Rattle.record.specs.Read.{header-of, is-message, is-data, kind-ok, flags-ok, count-ok, peer-ok, fields-ok, header-ok, well-formed, node-at, nodes-of, nodes-of-by}
 use Rattle.record.proofs.Back.{parts}
 
@@ -46,7 +47,7 @@ head-few h e =
 
 -- an event has at most 32 nodes
 pub few-nodes : (b : List ℕ) (n : ℕ) → well-formed b ≡ true → n ≡ header-of b .nodes → n ≤ 32
-few-nodes b n t e = omega (arith, e, head-few (header-of b) (parts b t .heads))
+few-nodes b n t e = omega (arith, e, head-few (header-of b) (parts peer-length b t .heads))
 
 pub or-more : (a b c : Bool) → (a || (b || c)) ≡ ((a || b) || c)
 or-more true b c = refl

@@ -13,7 +13,7 @@ use Rattle.lists.specs.Lists.{choose}
 use Rattle.lists.proofs.Choice.{split, and-left, and-right, choose-yes, choose-no}
 use Rattle.lists.proofs.Numbers.{Bytes}
 use Rattle.lists.proofs.Tests.{both-true}
-use Rattle.record.specs.Format.{size, size-by, datas, encode}
+use Rattle.record.specs.Format.{peer-length, size, size-by, datas, encode}
 use Rattle.record.specs.Read.{fixed-size, header-of, header-of-by, is-message, is-timer, is-data, kind-ok, flags-ok, count-ok, peer-ok, fields-ok, header-ok, well-formed, rec-of, rec-of-by, nodes-of, nodes-of-by, is-event, event, read-event}
 use Rattle.record.specs.InForm.{InForm, NodesInFormBy, header-in, header-in-by}
 use Rattle.record.specs.Answers.{answer}
@@ -253,10 +253,10 @@ same-record b time p = λ i. record {
 pub event-comes-back : Event-comes-back
 event-comes-back b u w t time =
     let h : Header = header-of b in
-    let q : InForm (rec-of b) = in-form-back b (all-bytes b u) w in
+    let q : InForm (rec-of b) = in-form-back peer-length b (all-bytes b u) w in
     let l : 1 ≤ h .kind = timer-low b t in
     let k : h .kind ≤ 4 = timer-high b t in
-    let p : Plain h = plain h l k (parts b w .heads) in
+    let p : Plain h = plain h l k (parts peer-length b w .heads) in
     let e : Entry = record { time = time; item = started h .item } in
     let y : has-event e ≡ true = has-timer e l k (p .bare) (peer-below b q) in
     let s : event-rec e ≡ without-delay (rec-of b) = same-record b time p in
