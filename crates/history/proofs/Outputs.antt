@@ -36,7 +36,7 @@ cut bs = map (λ b. take (whole-length b) b) bs
 
 -- a record in form is shorter than a whole length can say
 pub form-small : (e : Rec) → InForm e → size e < 65536
-form-small e f = let m : size e ≤ 792 = size-most e f in omega arith
+form-small e f = let m : size e ≤ 928 = size-most e f in omega arith
 
 cut-all : (es : List Rec) (zeros : ℕ) → All InForm es → cut-records (encode-all es ++ replicate zeros 0) ≡ map encode es
 unfolding cut-records encode-all All

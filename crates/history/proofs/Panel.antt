@@ -40,8 +40,8 @@ expired = encode (timer 3 2 0 0)
 unfoldable pub asking : ℕ → List Call
 unfolding followed
 asking n =
-    record { event = two-peers; are-bytes = refl; draws = n ∷ 0 ∷ []; output = replicate 104 0 }
-    ∷ record { event = expired; are-bytes = refl; draws = 0 ∷ []; output = replicate 56 0 }
+    record { event = two-peers; are-bytes = refl; draws = n ∷ 0 ∷ []; output = replicate 140 0 }
+    ∷ record { event = expired; are-bytes = refl; draws = 0 ∷ []; output = replicate 76 0 }
     ∷ []
 
 abbrev first : Station
