@@ -50,62 +50,7 @@ module _ (n : ℕ) where
     unfolding all-under
     below-end h = sym (left-end Below v h ∙ and-true ok)
 
--- ---- the same by the bits of all words
-
-narrow-or : (a b : ℕ) → ltb (bitOr a b) peers-end ≡ (ltb a peers-end && ltb b peers-end)
-narrow-or a b =
-    let s = or-add-and a b in
-    split (ltb a peers-end)
-    (λ p. rw p
-    (split (ltb b peers-end) (λ q. rw q (lt-ltb (bitOr a b) peers-end (or-lt 32 a b (ltb-true a peers-end p) (ltb-true b peers-end q))))
-    (λ q. rw q (le-ltb (bitOr a b) peers-end (omega (arith, s, and-le-l a b, ltb-false b peers-end q))))))
-    (λ p. rw p (le-ltb (bitOr a b) peers-end (omega (arith, s, and-le-r a b, ltb-false a peers-end p))))
-
-abbrev pub Narrow : ℕ → List ℕ → Bool
-Narrow bits l = ltb bits peers-end && all-under peers-end l
-
-pub narrow-start : (s : List ℕ) → Left Narrow s (all-under peers-end s) 0 0
-narrow-start s = left-start Narrow s 0
-
-module _ (s : List ℕ) (whole : Bool) (bits i : ℕ) (v : Left Narrow s whole bits i) where
-  pub narrow-next : i < length s → Left Narrow s whole (bitOr bits (getD s i 0)) (i + 1)
-  unfolding all-under
-  narrow-next h =
-      left-next Narrow v (bitOr bits (getD s i 0)) h
-      (rw (narrow-or bits (getD s i 0)) (sym (and-assoc (ltb bits peers-end) (ltb (getD s i 0) peers-end) (all-under peers-end (drop (i + 1) s)))))
-
-  pub narrow-end : length s ≤ i → ltb bits peers-end ≡ whole
-  unfolding all-under
-  narrow-end h = sym (left-end Narrow v h ∙ and-true (ltb bits peers-end))
-
 -- ---- the tests of a map
-
--- of a list that rises the last decides
-under-last : (e : ℕ) (xs : List ℕ) (i : ℕ) → Rising xs → i + 1 ≡ length xs → ltb (getD xs i 0) e ≡ all-under e xs
-unfolding Rising Above all-under
-under-last e [] i r h = absurd (omega arith)
-under-last e (x ∷ []) zero r h = sym (and-true (ltb x e))
-under-last e (x ∷ []) (suc i) r h = absurd (omega arith)
-under-last e (x ∷ y ∷ ys) zero r h = absurd (omega arith)
-under-last e (x ∷ y ∷ ys) (suc i) r h =
-    let t = under-last e (y ∷ ys) i (r .1) (omega arith) in
-    let u : Bool = all-under e (y ∷ ys) in
-    split u
-    (λ a. t ∙ sym (ap (λ (b : Bool). b && u) (lt-ltb x e (omega (arith, r .0 .0, ltb-true y e (and-left (ltb y e) _ a))))))
-    (λ a. t ∙ a ∙ sym (ap (λ (b : Bool). ltb x e && b) a ∙ and-no (ltb x e)))
-
-module _ (n : ℕ) (m : List ℕ) (v : ValidDataWords n m) where
-  pub no-data-under : (e : ℕ) → count-of n m ≡ 0 → true ≡ all-under e (keys (data-at n m))
-  unfolding all-under
-  no-data-under e z = ap (all-under e) (sym (data-keys n m v ∙ ap (λ (k : ℕ). take k (head-of n m)) z))
-
-  pub data-last : (e : ℕ) → (count-of n m ≡ 0 → ⊥) → ltb (getD m (count-of n m - 1) 0) e ≡ all-under e (keys (data-at n m))
-  unfolding part head-of
-  data-last e h =
-      let i : ℕ = count-of n m - 1 in
-      let g : getD (keys (data-at n m)) i 0 ≡ getD m i 0 =
-      ap (λ (l : List ℕ). getD l i 0) (data-keys n m v) ∙ getD-take (count-of n m) (head-of n m) i 0 (omega arith) ∙ getD-take (n + n) m i 0 (omega (arith, v .fits)) in
-      ap (λ (x : ℕ). ltb x e) (sym g) ∙ under-last e (keys (data-at n m)) i (v .rises) (omega (arith, length-keys (data-at n m), v .counted))
 
 pub numbers-are : (n : ℕ) (m : List (ℕ × ℕ)) → numbers-under n m ≡ all-under n (values m)
 unfolding numbers-under all-under values

@@ -16,14 +16,7 @@ ghost use Rattle.protocol.specs.Rules.{joins-rule, numbers-rule, self-rule, lim
 ghost use Rattle.state.specs.Unpack.{unpack, own-at};
 ghost use Rattle.rules.specs.Ok.{formed, sections-ok, packed-ok, state-ok};
 
-// Where the peers of the requests and of the joins end.
-const REQUESTS_PEERS_END: usize = Layout::REQUESTS + Layout::ALL;
-
-const JOINS_PEERS_END: usize = Layout::JOINS + Layout::FEW;
-
-// One more than the greatest peer, and the greatest pass count.
-const PEERS_END: u64 = 4294967296;
-
+// The greatest pass count.
 const TOP_PASSES: u64 = 4294967295;
 
 // ---- tests of a whole list
@@ -39,19 +32,6 @@ fn all_under(s: &[u64], end: u64) -> bool
         i += 1;
     }
     ok
-}
-
-// Whether every word has 32 bits, by the bits of all of them.
-fn is_narrow(s: &[u64]) -> bool
-    ensures { λ r. ⌜ r ≡ all-under 4294967296 (now (s .entry)) ⌝ }
-{
-    let mut bits: u64 = 0;
-    let mut i: usize = 0;
-    while i < s.len() {
-        bits = bits | s[i];
-        i += 1;
-    }
-    bits < PEERS_END
 }
 
 // ---- tests of the peers and the numbers of a map
@@ -84,20 +64,6 @@ fn peers_apart(m: &[u64], cap: usize, s: &[u64], scap: usize) -> bool
     }
     let k = s[scap] as usize;
     scan::disjoint(&m[..n], &s[..k])
-}
-
-// Whether every peer that has data has 32 bits: they rise, so the last one decides.
-fn data_narrow(m: &[u64], cap: usize) -> bool
-    requires { ⌜ ValidDataWords cap (now m) ⌝ }
-    ensures { λ r. ⌜ r ≡ all-under 4294967296 (keys (data-at cap (now (m .entry)))) ⌝ }
-{
-    let half = cap + cap;
-    let end = half + half;
-    let n = m[end] as usize;
-    if n == 0 {
-        return true;
-    }
-    m[n - 1] < PEERS_END
 }
 
 // Whether every number of the map is below `end`.
@@ -340,19 +306,13 @@ fn interval_rule(st: &[u64]) -> bool
     )
 }
 
-// "Peers are 32-bit numbers", "Counters have 64 bits, the two pass counts 32". The words from the active view to the peers of the requests, and from the bootstrap peers to the peers of
-// the joins, are peers, small counts and zeroes. Data is bytes, and counters have 64 bits, whatever the words are.
+// "the two pass counts 32" bits. Peers and counters have 64 bits, and data is bytes, whatever the words are.
 fn width_rule(st: &[u64]) -> bool
     requires { ⌜ length (now st) ≡ 551 ⌝ }
     requires { ⌜ packed-ok (now st) ≡ true ⌝ }
     ensures { λ r. ⌜ r ≡ width-rule (unpack (now (st .entry))) ⌝ }
 {
-    (st[Layout::ME] < PEERS_END)
-        & (is_narrow(&st[Layout::ACTIVE..REQUESTS_PEERS_END])
-            & (is_narrow(&st[Layout::BOOTSTRAP..JOINS_PEERS_END])
-                & (data_narrow(&st[Layout::DATA..Layout::DATA_END], Layout::DATA_CAP)
-                    & ((st[Layout::PASSES_ALONE] <= TOP_PASSES)
-                        & (st[Layout::PASSES_SHORT] <= TOP_PASSES)))))
+    (st[Layout::PASSES_ALONE] <= TOP_PASSES) & (st[Layout::PASSES_SHORT] <= TOP_PASSES)
 }
 
 // 02, S-5: no data is held of a peer in neither view and without an open request.
