@@ -66,7 +66,7 @@ fn no_messages() -> Tally
 }
 
 // A new station in the lent words, its tally by value; own data is absent where `present` is 0.
-fn begin(st: &mut [u64], t: Tally, me: u32, present: u8, own: &[u8], config: Config) -> Start
+fn begin(st: &mut [u64], t: Tally, me: PeerId, present: u8, own: &[u8], config: Config) -> Start
     ensures { λ r. ⌜ record { code = r .code; words = now (st .exit); tally = r .tally } ≡ begun (now (st .entry)) t me (lent (not (eqb present 0)) (now (own .entry))) config ⌝ }
 {
     let code = hyparview::new(st, me, present != 0, own, config);
@@ -87,7 +87,7 @@ fn begin(st: &mut [u64], t: Tally, me: u32, present: u8, own: &[u8], config: Con
 pub extern "C" fn hyparview_new(
     st: &mut [u64],
     t: &mut Tally,
-    me: u32,
+    me: PeerId,
     present: u8,
     own: &[u8],
     config: Config,

@@ -3,11 +3,12 @@ use hyparview::Answer;
 use hyparview::Done;
 use hyparview::Made;
 use hyparview::State;
+use peer::PeerId;
 use timing::Config;
 ghost use mathlib.Core.Path.{_≡_};
 ghost use Rattle.demand.specs.Program.{made, outcome, made-state};
 
-pub fn new(st: &mut [u64], me: u32, present: bool, own: &[u8], config: Config) -> u32
+pub fn new(st: &mut [u64], me: PeerId, present: bool, own: &[u8], config: Config) -> u32
     ensures { λ r. ⌜ record { code = r; words = now (st .exit) } ≡ made (now (st .entry)) me present (now (own .entry)) config ⌝ }
 {
     hyparview::new(st, me, present, own, config)
@@ -20,7 +21,7 @@ pub fn handle(st: &mut [u64], b: &[u8], draws: &[u32], out: &mut [u8]) -> Done
 }
 
 // The same by value.
-pub fn new_state(me: u32, present: bool, own: &[u8], config: Config) -> Made
+pub fn new_state(me: PeerId, present: bool, own: &[u8], config: Config) -> Made
     ensures { λ r. ⌜ r ≡ made-state me present (now (own .entry)) config ⌝ }
 {
     State::new(me, present, own, config)

@@ -14,7 +14,6 @@ use Rattle.lists.proofs.Choice.{choose-yes, choose-no, split, and-left, and-rig
 use Rattle.peer.specs.declared.PeerInfo.{PeerInfo}
 use Rattle.peer.specs.Data.{Node}
 use Rattle.peer.specs.Held.{data-in, node-in}
-use Rattle.columns.specs.Columns as C
 use Rattle.record.specs.declared.Header.{Header}
 use Rattle.record.specs.Read as R
 use Rattle.record.specs.Answers.{HoldsNode}
@@ -170,15 +169,10 @@ module _ (b : List ℕ) (h : Header) (u : Single b h) (g : Run) (r : Held) (ds o
   unfolding handle-message
   arm-join q k = by _ (choose-yes _ _ _ (is-message b h v 0 q) ∙ (λ i. on-join (peer-of b h v i) (data-is i) g)) k
 
-  -- the node with its peer widened
-  wide-is : first-node (R.rec-of b .nodes) ≡ C.node-in (record { id = n .id; «data» = n .data })
-  unfolding C.node-in node-in
-  wide-is = first-is
-
-  pub arm-forward : h .message ≡ 1 → Does r ds o (on-forward-join (h .peer) (C.node-in (record { id = n .id; «data» = n .data })) (h .ttl) g) → Does r ds o (handle-message (R.rec-of b) g)
+  pub arm-forward : h .message ≡ 1 → Does r ds o (on-forward-join (h .peer) (node-in n) (h .ttl) g) → Does r ds o (handle-message (R.rec-of b) g)
   unfolding handle-message
   arm-forward q k =
-      by _ (choose-no _ _ _ (no-message b h v 0 (λ z. omega (arith, z, q))) ∙ (choose-yes _ _ _ (is-message b h v 1 q) ∙ (λ i. on-forward-join (peer-of b h v i) (wide-is i) (ttl-of b h v i) g))) k
+      by _ (choose-no _ _ _ (no-message b h v 0 (λ z. omega (arith, z, q))) ∙ (choose-yes _ _ _ (is-message b h v 1 q) ∙ (λ i. on-forward-join (peer-of b h v i) (first-is i) (ttl-of b h v i) g))) k
 
   pub arm-neighbor : (h .message ≡ 0 → ⊥) → (h .message ≡ 1 → ⊥) → (t : Bool) → t ≡ eqb (h .flags) 1 → Does r ds o (on-neighbor (h .peer) (data-in (n .data)) t g) → Does r ds o (handle-message (R.rec-of b) g)
   unfolding handle-message is-high

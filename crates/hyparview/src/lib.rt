@@ -2,7 +2,6 @@
 use peer::MaybeData;
 use peer::PeerData;
 use peer::PeerId;
-use peer::PeerInfo;
 use record::Event;
 use record::Flags;
 use record::Header;
@@ -73,11 +72,11 @@ fn fresh_views(st: &mut [u64], config: Config)
 }
 
 // The station itself and the walk lengths.
-fn fresh_walks(st: &mut [u64], me: u32, config: Config)
+fn fresh_walks(st: &mut [u64], me: PeerId, config: Config)
     requires { ⌜ length (now st) ≡ 551 ⌝ }
     ensures { λ _. ⌜ now (st .exit) ≡ with-walks me config (now (st .entry)) ⌝ }
 {
-    st[Layout::ME] = me as u64;
+    st[Layout::ME] = me;
     st[Layout::ACTIVE_RANDOM_WALK_LENGTH] = config.active_random_walk_length as u64;
     st[Layout::PASSIVE_RANDOM_WALK_LENGTH] = config.passive_random_walk_length as u64;
     st[Layout::SHUFFLE_RANDOM_WALK_LENGTH] = config.shuffle_random_walk_length as u64;
@@ -95,7 +94,7 @@ fn fresh_times(st: &mut [u64], config: Config)
 }
 
 // The words of a station that has met no event, in words that are zero.
-fn fresh(st: &mut [u64], me: u32, own: PeerData, config: Config)
+fn fresh(st: &mut [u64], me: PeerId, own: PeerData, config: Config)
     requires { ⌜ length (now st) ≡ 551 ⌝ }
     requires { ⌜ now st ≡ pad 0 551 [] ⌝ }
     requires { ⌜ ValidData own ⌝ }
@@ -123,7 +122,7 @@ fn own_data(present: bool, own: &[u8]) -> MaybeData
 
 // State::new: self, own data lent as bytes or absent, and the settings. Code 1, and zeroes, where a setting is out of range or own data is over 16 bytes; code 2, and nothing touched, where the
 // words are too few or too many.
-pub fn new(st: &mut [u64], me: u32, present: bool, own: &[u8], config: Config) -> u32
+pub fn new(st: &mut [u64], me: PeerId, present: bool, own: &[u8], config: Config) -> u32
     ensures { λ r. ⌜ record { code = r; words = now (st .exit) } ≡ made (now (st .entry)) me (lent present (now (own .entry))) config ⌝ }
 {
     if st.len() != Layout::LENGTH {
@@ -345,18 +344,14 @@ fn handle_single(
     requires { ⌜ Between 0 arriving 40 (run (work-of w (now st)) (now draws) (now out)) ⌝ }
     ensures { λ r. ⌜ Does (work-of r (now (st .exit))) (now (draws .entry)) (now (out .exit)) (handle-message (rec-of (now (b .entry))) (run (work-of w (now (st .entry))) (now (draws .entry)) (now (out .entry)))) ⌝ }
 {
-    let p = h.peer as u64;
+    let p = h.peer;
     let n = record::peer_info(b, 0);
     let d = n.data;
     if h.message == Message::JOIN {
         return step_messages::on_join(w, st, draws, out, p, d);
     }
     if h.message == Message::FORWARD_JOIN {
-        let node = PeerInfo {
-            id: n.id as u64,
-            data: d,
-        };
-        return step_messages::on_forward_join(w, st, draws, out, p, node, h.ttl);
+        return step_messages::on_forward_join(w, st, draws, out, p, n, h.ttl);
     }
     step_messages::on_neighbor(w, st, draws, out, p, d, h.flags == Flags::HIGH)
 }
@@ -377,11 +372,10 @@ fn handle_message(
     requires { ⌜ Between 0 arriving 40 (run (work-of w (now st)) (now draws) (now out)) ⌝ }
     ensures { λ r. ⌜ Does (work-of r (now (st .exit))) (now (draws .entry)) (now (out .exit)) (handle-message (rec-of (now (b .entry))) (run (work-of w (now (st .entry))) (now (draws .entry)) (now (out .entry)))) ⌝ }
 {
-    let p = h.peer as u64;
+    let p = h.peer;
     let n = h.nodes as usize;
     if h.message == Message::SHUFFLE {
-        let origin = h.second as u64;
-        return step_shuffling::on_shuffle(w, st, draws, out, p, origin, b, n, h.ttl);
+        return step_shuffling::on_shuffle(w, st, draws, out, p, h.second, b, n, h.ttl);
     }
     if h.message == Message::SHUFFLE_REPLY {
         return step_shuffling::on_shuffle_reply(w, st, draws, out, p, b, n);
@@ -407,7 +401,7 @@ fn handle_timer(w: Work, st: &mut [u64], draws: &[u32], out: &mut [u8], h: Heade
     requires { ⌜ h .kind ≤ 4 ⌝ }
     ensures { λ r. ⌜ Does (work-of r (now (st .exit))) (now (draws .entry)) (now (out .exit)) (timer-expired (h .kind) (h .peer) (h .number) (run (work-of w (now (st .entry))) (now (draws .entry)) (now (out .entry)))) ⌝ }
 {
-    let p = h.peer as u64;
+    let p = h.peer;
     if h.kind == Kind::DO_SHUFFLE {
         return step_timers::handle_shuffle_timer(w, st, draws, out);
     }
@@ -429,7 +423,7 @@ fn dispatch(w: Work, st: &mut [u64], draws: &[u32], out: &mut [u8], b: &[u8], h:
     requires { ⌜ Opens (h .kind) (run (work-of w (now st)) (now draws) (now out)) ⌝ }
     ensures { λ r. ⌜ Does (work-of r (now (st .exit))) (now (draws .entry)) (now (out .exit)) (dispatch (rec-of (now (b .entry))) (run (work-of w (now (st .entry))) (now (draws .entry)) (now (out .entry)))) ⌝ }
 {
-    let p = h.peer as u64;
+    let p = h.peer;
     if h.kind == Kind::MESSAGE {
         return handle_message(w, st, draws, out, b, h);
     }
@@ -516,7 +510,7 @@ pub struct Made {
 
 impl State {
     // The state of a station that has met no event.
-    pub fn new(me: u32, present: bool, own: &[u8], config: Config) -> Made
+    pub fn new(me: PeerId, present: bool, own: &[u8], config: Config) -> Made
         ensures { λ r. ⌜ record { code = r .code; words = r .state .words } ≡ pack-made (new me (lent present (now (own .entry))) config) ⌝ }
     {
         let mut words = [0u64; 551];

@@ -1,6 +1,5 @@
 // The two messages of a shuffle (the definition's `Messages`).
 use peer::PeerId;
-use peer::PeerInfo;
 use record::Kind;
 use record::Message;
 use state::Layout;
@@ -43,7 +42,7 @@ fn add_nodes(w: Work, st: &mut [u64], draws: &[u32], out: &mut [u8], b: &[u8], n
     let mut i: usize = 0;
     while i < n {
         let x = record::peer_info(b, i);
-        let p = x.id as u64;
+        let p = x.id;
         let d = x.data;
         fresh = fresh | step_peers::is_newcomer(st, p);
         i += 1;
@@ -66,10 +65,8 @@ fn event_nodes(b: &[u8], n: usize) -> Nodes
     let mut i: usize = 0;
     while i < n {
         let x = record::peer_info(b, i);
-        let p = x.id as u64;
-        let d = x.data;
         i += 1;
-        t = t.push(PeerInfo { id: p, data: d });
+        t = t.push(x);
     }
     t
 }

@@ -8,9 +8,6 @@ use Rattle.hyparview.proofs.Opening.{between-less, opens-between, opens
 use Rattle.hyparview.proofs.dispatch.Statement.{statement}
 use Rattle.hyparview.proofs.dispatch.Tie as tie
 
-cast-p : tie.Need-cast-p
-cast-p c = search needs
-
 handle-message-requires : tie.Need-handle-message-requires
 handle-message-requires c κs =
     let given = c .before .before .before .before .before .before .before .before .before .pre in
@@ -117,7 +114,6 @@ pub dispatch-spec : {M : Type 1} → statement M
 dispatch-spec =
     tie.close
     (tie.spec
-    cast-p
     handle-message-requires
     same-length
     same-length-2

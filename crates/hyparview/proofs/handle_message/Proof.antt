@@ -6,14 +6,8 @@ use Rattle.hyparview.proofs.Arms.{single, count-is, arm-shuffle, arm-re
 use Rattle.hyparview.proofs.handle_message.Statement.{statement}
 use Rattle.hyparview.proofs.handle_message.Tie as tie
 
-cast-p : tie.Need-cast-p
-cast-p c = search needs
-
 cast-n : tie.Need-cast-n
 cast-n c = search needs
-
-cast-origin : tie.Need-cast-origin
-cast-origin c = search needs
 
 on-shuffle-requires : tie.Need-on-shuffle-requires
 on-shuffle-requires c κs =
@@ -83,9 +77,7 @@ pub handle-message-spec : {M : Type 1} → statement M
 handle-message-spec =
     tie.close
     (tie.spec
-    cast-p
     cast-n
-    cast-origin
     on-shuffle-requires
     same-length
     same-length-2

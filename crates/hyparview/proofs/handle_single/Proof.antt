@@ -4,9 +4,6 @@ use Rattle.hyparview.proofs.Arms.{single-formed, single-some, arm-join,
 use Rattle.hyparview.proofs.handle_single.Statement.{statement}
 use Rattle.hyparview.proofs.handle_single.Tie as tie
 
-cast-p : tie.Need-cast-p
-cast-p c = search needs
-
 peer-info-requires : tie.Need-peer-info-requires
 peer-info-requires c κs = (single-formed _ _ (c .before .before .before .before .before .pre .1 .1 .0), single-some _ _ (c .before .before .before .before .before .pre .1 .1 .0))
 
@@ -26,9 +23,6 @@ returns c =
     let given = c .before .before .before .before .before .before .before .before .before .before .before .before .before .before .before .before .pre in
     let peer-info = c .before .before .before .before .before .before .before .before .before .before .peer-info in
     arm-join _ _ (given .1 .1 .0) _ _ _ _ _ (peer-info .ensures) (c .before .before .before .before .before .before .before .if1 .taken) (c .before .before .before .before .on-join .ensures)
-
-cast-t16 : tie.Need-cast-t16
-cast-t16 c = search needs
 
 on-forward-join-requires : tie.Need-on-forward-join-requires
 on-forward-join-requires c κs =
@@ -73,13 +67,11 @@ pub handle-single-spec : {M : Type 1} → statement M
 handle-single-spec =
     tie.close
     (tie.spec
-    cast-p
     peer-info-requires
     on-join-requires
     same-length
     same-length-2
     returns
-    cast-t16
     on-forward-join-requires
     same-length-3
     same-length-4

@@ -5,9 +5,6 @@ use Rattle.hyparview.proofs.Arms.{shuffle-timer, maintenance-timer, req
 use Rattle.hyparview.proofs.handle_timer.Statement.{statement}
 use Rattle.hyparview.proofs.handle_timer.Tie as tie
 
-cast-p : tie.Need-cast-p
-cast-p c = search needs
-
 handle-shuffle-timer-requires : tie.Need-handle-shuffle-timer-requires
 handle-shuffle-timer-requires c κs =
     let given = c .before .before .before .before .before .before .before .before .pre in
@@ -72,7 +69,6 @@ pub handle-timer-spec : {M : Type 1} → statement M
 handle-timer-spec =
     tie.close
     (tie.spec
-    cast-p
     handle-shuffle-timer-requires
     same-length
     same-length-2

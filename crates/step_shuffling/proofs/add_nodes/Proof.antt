@@ -95,9 +95,6 @@ loop-holds c = search (start, needs)
 peer-info-requires : tie.Need-peer-info-requires Inv-loop μ-loop
 peer-info-requires c κs = search needs
 
-cast-p : tie.Need-cast-p Inv-loop μ-loop
-cast-p c = search needs
-
 is-newcomer-requires : tie.Need-is-newcomer-requires Inv-loop μ-loop
 is-newcomer-requires c κs = search needs
 
@@ -130,7 +127,6 @@ add-nodes-spec =
     μ-loop
     loop-holds
     peer-info-requires
-    cast-p
     is-newcomer-requires
     add-i
     add-passive-requires

@@ -9,7 +9,6 @@ use lib.Seq.{append-snoc}
 use Rattle.peer.specs.Data.{Node}
 use Rattle.peer.specs.Held.{node-in}
 use Rattle.peer.specs.declared.PeerInfo.{PeerInfo}
-use Rattle.peer.specs.Held as held
 use Rattle.record.specs.Read.{header-of, well-formed, node-at, nodes-of}
 use Rattle.record.specs.Answers.{HoldsNode}
 use Rattle.writer.specs.declared.Nodes.{Nodes}
@@ -37,19 +36,18 @@ start b n t h w e = record {
 }
 
 module _ (b : List ℕ) (n : ℕ) (t : Nodes) (i : ℕ) (v : Naming b n t i) where
-  next : (x : PeerInfo) (r : Nodes) → i < n → HoldsNode x (node-at b i) → HoldsNodes r (nodes-in t ++ (node-in (record { id = x .id; «data» = x .data }) ∷ [])) → Naming b n r (i + 1)
-  unfolding node-in held.node-in
+  next : (x : PeerInfo) (r : Nodes) → i < n → HoldsNode x (node-at b i) → HoldsNodes r (nodes-in t ++ (node-in x ∷ [])) → Naming b n r (i + 1)
   next x r h e k = record {
     valid = k .valid;
     count =
-        let q : length (nodes-in r) ≡ length (nodes-in t) + 1 = ap length (k .holds) ∙ length-append (nodes-in t) (node-in (record { id = x .id; «data» = x .data }) ∷ []) in
+        let q : length (nodes-in r) ≡ length (nodes-in t) + 1 = ap length (k .holds) ∙ length-append (nodes-in t) (node-in x ∷ []) in
         omega (arith, v .count, length-nodes t (v .valid), length-nodes r (k .valid));
     low = omega arith;
     few = v .few;
     same =
         v .same ∙ ap (λ (l : List Node). nodes-in t ++ l) (nodes-from b i n h)
         ∙ ap (λ (y : Node). nodes-in t ++ (y ∷ nodes-of b (i + 1) (n - (i + 1)))) (sym (e .holds))
-        ∙ sym (append-snoc (nodes-in t) (node-in (record { id = x .id; «data» = x .data })) (nodes-of b (i + 1) (n - (i + 1))))
+        ∙ sym (append-snoc (nodes-in t) (node-in x) (nodes-of b (i + 1) (n - (i + 1))))
         ∙ ap (λ (l : List Node). l ++ nodes-of b (i + 1) (n - (i + 1))) (sym (k .holds));
   }
 
@@ -70,9 +68,6 @@ loop-holds c = search (start, needs)
 
 peer-info-requires : tie.Need-peer-info-requires Inv-loop μ-loop
 peer-info-requires c κs = search needs
-
-cast-p : tie.Need-cast-p Inv-loop μ-loop
-cast-p c = search needs
 
 add-i : tie.Need-add-i Inv-loop μ-loop
 add-i c = search needs
@@ -98,7 +93,6 @@ event-nodes-spec =
     new-requires
     loop-holds
     peer-info-requires
-    cast-p
     add-i
     push-requires
     loop-less
