@@ -116,70 +116,69 @@ module _ (n at : ℕ) (ds : List ℕ) (k : ℕ) (v : Passing n at ds k) where
 
 -- ---- the draws that were kept
 
--- at most n are
-pub record KeptAtMost (n : ℕ) (ds rest : List ℕ) : Type 0 where
-  pub kept : ℕ
-  pub read : Kept ds rest kept
-  pub few : kept ≤ n
-
--- m draws of rest are taken, of which at most k are kept; and where there are not m, all of rest is read, and fewer than k of it are kept
-pub record Costs (k m : ℕ) (rest : List ℕ) : Type 0 where
-  pub taken : (ds : List ℕ) (j : ℕ) → Kept ds rest j → m ≤ length rest → KeptAtMost (j + k) ds (drop m rest)
+-- m draws of rest are taken, of which k are kept; and where there are not m, all of rest is read, and fewer than k of it are kept
+pub record Keeps (k m : ℕ) (rest : List ℕ) : Type 0 where
+  pub taken : (ds : List ℕ) (j : ℕ) → Kept ds rest j → m ≤ length rest → Kept ds (drop m rest) (j + k)
   pub short : (ds : List ℕ) (j : ℕ) → Kept ds rest j → length rest < m → KeptFewer (j + k) ds
 
-more : {k l m : ℕ} {rest : List ℕ} → k ≤ l → Costs k m rest → Costs l m rest
-more h c = record {
-  taken = λ ds j r f. let t = c .taken ds j r f in record { kept = t .kept; read = t .read; few = omega (arith, t .few) };
-  short = λ ds j r f. let t = c .short ds j r f in record { kept = t .kept; read = t .read; few = omega (arith, t .few) };
-}
+counted : {ds rest : List ℕ} {k l : ℕ} → k ≡ l → Kept ds rest k → Kept ds rest l
+counted {ds} {rest} e r = subst (Kept ds rest) e r
 
-none-costs : (rest : List ℕ) → Costs 0 0 rest
-none-costs rest = record {
-  taken = λ ds j r f. record { kept = j; read = r; few = omega arith };
-  short = λ ds j r f. absurd (omega arith);
-}
+none-keeps : (rest : List ℕ) → Keeps 0 0 rest
+none-keeps rest = record { taken = λ ds j r f. counted (omega arith) r; short = λ ds j r f. absurd (omega arith) }
 
 -- a delay's draw
+pub one-keeps : (rest : List ℕ) → Keeps 1 1 rest
+one-keeps [] = record { taken = λ ds j r f. absurd (omega arith); short = λ ds j r f. record { kept = j; read = r; few = omega arith } }
+one-keeps (d ∷ rest) = record { taken = λ ds j r f. counted (omega arith) (delay r); short = λ ds j r f. absurd (omega arith) }
+
+pub pick-keeps : (n : ℕ) (rest : List ℕ) → 0 < n → n ≤ 32 → Keeps 1 (pick-draws n rest) rest
+pick-keeps n rest some few =
+    let m = pick-some n rest some in
+    record {
+      taken = λ ds j r f. counted (omega arith) (choice {rest = rest} n some few (omega (arith, m, f)) r);
+      short = λ ds j r f. record { kept = j; read = missed {rest = rest} n some few (omega (arith, m, f, few-passed n rest)) r; few = omega arith };
+    }
+
+down-keeps : (i : ℕ) (rest : List ℕ) → i < 32 → Keeps i (draws-down i rest) rest
+unfolding draws-down
+down-keeps zero rest h = none-keeps rest
+down-keeps (suc i) rest h =
+    let m = pick-draws (i + 2) rest in
+    let c = pick-keeps (i + 2) rest (omega arith) (omega arith) in
+    let t = down-keeps i (drop m rest) (omega arith) in
+    record {
+      taken = λ ds j r f.
+          let v = t .taken ds (j + 1) (c .taken ds j r (omega arith)) (omega (arith, length-drop m rest)) in
+          counted (omega arith) (subst (λ (l : List ℕ). Kept ds l (j + 1 + i)) (drop-drop (draws-down i (drop m rest)) m rest) v);
+      short = λ ds j r f. split (ltb (length rest) m)
+          (λ e. let u = c .short ds j r (ltb-true (length rest) m e) in record { kept = u .kept; read = u .read; few = omega (arith, u .few) })
+          (λ e. let l = ltb-false (length rest) m e in
+          let v = t .short ds (j + 1) (c .taken ds j r l) (omega (arith, l, length-drop m rest)) in
+          record { kept = v .kept; read = v .read; few = omega (arith, v .few) });
+    }
+
+pub shuffle-keeps : (rest xs : List ℕ) → length xs ≤ 32 → Keeps (length xs - 1) (shuffle-draws rest xs) rest
+unfolding shuffle-draws
+shuffle-keeps rest xs few = down-keeps (length xs - 1) rest (omega arith)
+
+-- at most k are kept
+pub record Costs (k m : ℕ) (rest : List ℕ) : Type 0 where
+  pub kept : ℕ
+  pub few : kept ≤ k
+  pub keeps : Keeps kept m rest
+
 pub one-costs : (rest : List ℕ) → Costs 1 1 rest
-one-costs [] = record { taken = λ ds j r f. absurd (omega arith); short = λ ds j r f. record { kept = j; read = r; few = omega arith } }
-one-costs (d ∷ rest) = record { taken = λ ds j r f. record { kept = suc j; read = delay r; few = omega arith }; short = λ ds j r f. absurd (omega arith) }
+one-costs rest = record { kept = 1; few = omega arith; keeps = one-keeps rest }
 
 pub pick-costs : (n : ℕ) (rest : List ℕ) → n ≤ 32 → Costs 1 (pick-draws n rest) rest
 pick-costs n rest few =
     split (eqb n 0)
-    (λ e. subst (λ (m : ℕ). Costs 1 m rest) (sym (ap (λ (i : ℕ). pick-draws i rest) (eqb-true n 0 e) ∙ pick-none rest)) (more (omega arith) (none-costs rest)))
-    (λ e. let o = eqb-false n 0 e in
-    let some : 0 < n = omega arith in
-    let m = pick-some n rest some in
-    record {
-      taken = λ ds j r f. record { kept = suc j; read = choice n some few (omega (arith, m, f)) r; few = omega arith };
-      short = λ ds j r f. record { kept = j; read = missed n some few (omega (arith, m, f, few-passed n rest)) r; few = omega arith };
-    })
-
-down-costs : (i : ℕ) (rest : List ℕ) → i < 32 → Costs i (draws-down i rest) rest
-unfolding draws-down
-down-costs zero rest h = none-costs rest
-down-costs (suc i) rest h =
-    let m = pick-draws (i + 2) rest in
-    let c = pick-costs (i + 2) rest (omega arith) in
-    let t = down-costs i (drop m rest) (omega arith) in
-    record {
-      taken = λ ds j r f.
-          let u = c .taken ds j r (omega arith) in
-          let v = t .taken ds (u .kept) (u .read) (omega (arith, length-drop m rest)) in
-          record { kept = v .kept; read = subst (λ (l : List ℕ). Kept ds l (v .kept)) (drop-drop (draws-down i (drop m rest)) m rest) (v .read); few = omega (arith, u .few, v .few) };
-      short = λ ds j r f. split (ltb (length rest) m)
-          (λ e. let u = c .short ds j r (ltb-true (length rest) m e) in record { kept = u .kept; read = u .read; few = omega (arith, u .few) })
-          (λ e. let u = c .taken ds j r (ltb-false (length rest) m e) in
-          let v = t .short ds (u .kept) (u .read) (omega (arith, ltb-false (length rest) m e, length-drop m rest)) in
-          record { kept = v .kept; read = v .read; few = omega (arith, u .few, v .few) });
-    }
+    (λ e. record { kept = 0; few = omega arith; keeps = subst (λ (m : ℕ). Keeps 0 m rest) (sym (ap (λ (i : ℕ). pick-draws i rest) (eqb-true n 0 e) ∙ pick-none rest)) (none-keeps rest) })
+    (λ e. let o = eqb-false n 0 e in record { kept = 1; few = omega arith; keeps = pick-keeps n rest (omega arith) few })
 
 pub shuffle-costs : (k : ℕ) (rest xs : List ℕ) → length xs - 1 ≤ k → k < 32 → Costs k (shuffle-draws rest xs) rest
-unfolding shuffle-draws
-shuffle-costs k rest xs h few = more h (down-costs (length xs - 1) rest (omega arith))
-
--- ---- the draws that every choice keeps
+shuffle-costs k rest xs h few = record { kept = length xs - 1; few = h; keeps = shuffle-keeps rest xs (omega arith) }
 
 -- a choice of at most 32 items passes over no draw that is below 2^32 - 32
 pub sure-kept : (n d : ℕ) → 0 < n → n ≤ 32 → d < sure-end → is-kept n d ≡ true
