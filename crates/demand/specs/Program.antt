@@ -8,7 +8,7 @@ use mathlib.Core.List.{List}
 use lib.ListN.{length, replicate}
 use Rattle.lists.specs.Lists.{null, mem, without}
 use Rattle.timing.specs.declared.Config.{Config}
-use Rattle.util.specs.Chances.{sure-end, sure}
+use Rattle.util.specs.Chances.{sure-end, KeptFewer}
 use Rattle.peer.specs.Data.{Node}
 use Rattle.protocol.specs.Station.{Station, peers-end, bytes-end}
 use Rattle.protocol.specs.Messages.{ends-here, learn-joiner}
@@ -82,8 +82,9 @@ Shuffles-timed =
 
 -- of one call to a machine, at a state that stands for a station
 pub record Suffices {S : Type 0} (m : Machine S) (station : S → Station) (s : S) (v : Call) : Type 0 where
-  -- "8,192 output bytes and 512 draws always suffice"; by 02, S-6, 512 draws that are below 2^32 - 32: a draw is missed only where fewer of those lent are below it
-  pub five : code-of m v s ≡ 5 → sure (v .draws) < 512
+  -- "8,192 output bytes and 512 draws always suffice"; by 02, S-6, 512 draws that are kept: a draw is missed only where all those lent are read and fewer than 512 of them kept
+  pub five : code-of m v s ≡ 5 → KeptFewer 512 (v .draws)
+  -- and so 512 draws below 2^32 - 32 suffice, which every choice keeps
   pub no-five : 512 ≤ length (v .draws) → all-under sure-end (v .draws) ≡ true → code-of m v s ≡ 5 → ⊥
   pub no-nine : 8192 ≤ length (v .output) → code-of m v s ≡ 9 → ⊥
   -- "The count in the result equals the draws the definition consumes"; by S-6 those lent bound it, and no longer 512

@@ -94,7 +94,7 @@ Shuffles-timed =
     (x : Box) (me present : ℕ) (own : List ℕ) (c : Config) → Typed me own → made x me present own c .code ≡ 0
     → Timed box c (filled (made x me present own c))
 
--- "8,192 output bytes and 512 draws always suffice", by 02, S-6, draws below 2^32 - 32: of one call at words that keep the rules, whatever the tally is
+-- "8,192 output bytes and 512 draws always suffice", by 02, S-6, draws that are kept: of one call at words that keep the rules, whatever the tally is
 abbrev pub Enough-lent : Type 0
 Enough-lent = (x : Box) → box-passes x ≡ true → (v : Call) → Suffices box station-in x v
 

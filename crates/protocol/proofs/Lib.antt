@@ -21,6 +21,7 @@ pub mod Reading
 pub mod Whole
 pub mod Tested
 pub mod Unreachable
+pub mod Taking
 pub mod Enough
 pub mod Written
 pub mod Cases
