@@ -16,7 +16,7 @@ use Rattle.peer.specs.Data.{Data}
 use Rattle.record.specs.Format.{Rec}
 use Rattle.record.specs.Read.{Reading, read-event, rec-of, rec-of-by, header-of-by}
 use Rattle.record.specs.Walk.{kind-in, headers}
-use Rattle.protocol.specs.Station.{Station}
+use Rattle.protocol.specs.Station.{Station, draws-end}
 use Rattle.protocol.specs.Run.{Run}
 use Rattle.protocol.specs.Rules.{all-under, station-ok, short-data}
 use Rattle.protocol.specs.Handle.{Answer, new-station, start, steps, refusal, accepted, finish, handle-reading, handle}
@@ -29,7 +29,7 @@ use Rattle.history.specs.Calls.{Given, answer, answered, definition}
 use Rattle.history.proofs.Kept.{Kept, pays, fine-answer, kept-new}
 use Rattle.protocol.specs.Written.{encode-all}
 use Rattle.shuffle_times.specs.Times.{highest-draw, first-interval, next-interval, dues}
-use Rattle.shuffle_times.specs.Histories.{Brought, draws-end, shuffle-delays, after, set-by, shuffles-due, counts, start-of, fires, is-first, on-time}
+use Rattle.shuffle_times.specs.Histories.{Brought, shuffle-delays, after, set-by, shuffles-due, counts, start-of, fires, is-first, on-time}
 use Rattle.shuffle_times.specs.Claims.{Tied}
 use Rattle.shuffle_times.proofs.Delays.{Interval, delay-few, delay-rises}
 use Rattle.shuffle_times.proofs.Asked.{top-of}

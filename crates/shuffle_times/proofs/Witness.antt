@@ -3,7 +3,7 @@
 use mathlib.Core.Path.{_≡_, refl, sym, ap, subst, _∙_}
 use mathlib.Core.Bool.{Bool, true, false, _&&_}
 use mathlib.Core.List.{List, [], _∷_, _++_}
-use Prim.Native.Nat.{ℕ, _+_, _-_, _≤_, _<_}
+use Prim.Native.Nat.{ℕ, _+_, _*_, _-_, _≤_, _<_}
 use native.Mathlib.Omega.{arith}
 use lib.ListN.{length, replicate}
 use lib.Dec.{leb, ltb, eqb}
@@ -15,11 +15,11 @@ use Rattle.lists.proofs.Choice.{choose-yes, choose-no, and-left, and-right}
 use Rattle.timing.specs.Timing.{in-range, delay, maintenance-interval}
 use Rattle.timing.specs.declared.Config.{Config}
 use Rattle.peer.specs.Data.{Data}
-use Rattle.record.specs.Format.{Rec, size-by, datas, header-by, entries-by, encode, encode-by}
+use Rattle.record.specs.Format.{Rec, header-length, size-by, datas, header-by, entries-by, encode, encode-by}
 use Rattle.record.specs.Read as Rd
 use Rattle.record.specs.Read.{event, read-event}
 use Rattle.record.specs.Walk.{kind-in, headers}
-use Rattle.protocol.specs.Station.{Station, is-alone}
+use Rattle.protocol.specs.Station.{Station, is-alone, draws-end}
 use Rattle.protocol.specs.Setters.{set-scheduled, set-next-interval}
 use Rattle.protocol.specs.Run.{Run, guard, on, emit, draw, drawn, timer, notice}
 use Rattle.protocol.specs.Rules.{all-under, station-ok}
@@ -34,20 +34,24 @@ use Rattle.history.specs.Calls.{Call, answer, answered, definition}
 use Rattle.history.proofs.Kept.{Kept, fine-answer}
 use Rattle.protocol.specs.Written.{encode-all}
 use Rattle.shuffle_times.specs.Times.{first-interval, next-interval, dues}
-use Rattle.shuffle_times.specs.Histories.{Brought, draws-end, shuffle-delays, after, set-by, shuffles-due, counts, start-of, fires, is-first, on-time, in-time-order}
+use Rattle.shuffle_times.specs.Histories.{Brought, shuffle-delays, after, set-by, shuffles-due, counts, start-of, fires, is-first, on-time, in-time-order}
 use Rattle.shuffle_times.proofs.Delays.{first-ok}
 use Rattle.shuffle_times.proofs.Asked.{top-of}
 use Rattle.shuffle_times.proofs.Told.{shuffles}
 use Rattle.shuffle_times.proofs.Tied.{out-told, interval-of, delay-under}
 
+-- the bytes of both timers of a first event
+abbrev two-records : ℕ
+two-records = 2 * header-length
+
 -- a call with the event e, one draw and room for the records that it asks for
 unfoldable quit-call : ℕ → Call
 unfolding encode-by header-by entries-by datas size-by le all-under
-quit-call x = record { event = encode (notice 8 0); are-bytes = refl; draws = x ∷ []; output = replicate 48 0 }
+quit-call x = record { event = encode (notice 8 0); are-bytes = refl; draws = x ∷ []; output = replicate two-records 0 }
 
 unfoldable shuffle-call : ℕ → Call
 unfolding encode-by header-by entries-by datas size-by le all-under
-shuffle-call x = record { event = encode (timer 1 0 0 0); are-bytes = refl; draws = x ∷ []; output = replicate 24 0 }
+shuffle-call x = record { event = encode (timer 1 0 0 0); are-bytes = refl; draws = x ∷ []; output = replicate header-length 0 }
 
 -- the same at a time
 one-under : (x : ℕ) → x < draws-end → all-under draws-end (x ∷ []) ≡ true
@@ -122,12 +126,12 @@ module _ (me : ℕ) (d : Data) (c : Config) where
     station = ticking (next-interval top (first-interval top));
     draws = x ∷ [];
     used = 1;
-    room = 48;
+    room = two-records;
     out = encode (timer 1 0 (delay (first-interval top) x) 0) ++ encode (timer 2 0 maintenance-interval 0);
     code = 0;
   }
 
-  quit-steps : (x : ℕ) → finish (new-station me d c) (steps (notice 8 0) (start (new-station me d c) (x ∷ []) 48)) ≡ accepted (quit-run x)
+  quit-steps : (x : ℕ) → finish (new-station me d c) (steps (notice 8 0) (start (new-station me d c) (x ∷ []) two-records)) ≡ accepted (quit-run x)
   unfolding quit-run next-interval first-interval choose finish steps H.forget-declined H.dispatch H.first-timers H.note-scheduled E.handle-quit E.quit-all E.clear-all T.schedule-maintenance T.schedule-shuffle T.double-interval new-station retain guard on emit draw drawn size-by datas encode-by header-by entries-by le
   quit-steps x = refl
 
@@ -136,12 +140,12 @@ module _ (me : ℕ) (d : Data) (c : Config) where
     station = ticking (next-interval top i);
     draws = x ∷ [];
     used = 1;
-    room = 24;
+    room = header-length;
     out = encode (timer 1 0 (delay i x) 0);
     code = 0;
   }
 
-  shuffle-steps : (i x : ℕ) → finish (ticking i) (steps (timer 1 0 0 0) (start (ticking i) (x ∷ []) 24)) ≡ accepted (shuffle-run i x)
+  shuffle-steps : (i x : ℕ) → finish (ticking i) (steps (timer 1 0 0 0) (start (ticking i) (x ∷ []) header-length)) ≡ accepted (shuffle-run i x)
   unfolding shuffle-run next-interval choose null is-alone finish steps H.forget-declined H.dispatch H.first-timers T.handle-shuffle-timer T.shuffle-any T.schedule-shuffle T.double-interval new-station retain guard on emit draw drawn size-by datas encode-by header-by entries-by le
   shuffle-steps i x = refl
 

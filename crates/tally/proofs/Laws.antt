@@ -7,6 +7,7 @@ use lib.ListN.{length, take, drop}
 use borrow.Author.Tests.{eq-eqb, ne-eqb}
 use Rattle.lists.specs.Lists.{choose}
 use Rattle.record.specs.declared.Header.{Header}
+use Rattle.record.specs.Format.{header-length}
 use Rattle.record.specs.Read.{header-of, header-of-by}
 use Rattle.record.specs.Walk.{kind-in, message-in, records-in, walk}
 use Rattle.record.proofs.Walk.{records-few, taken-none, taken-next, taken-last}
@@ -37,7 +38,7 @@ module _ (whole r : Tally) (b : List ℕ) (v : Counting whole r b) where
   unfolding walk
   ends e = sym (by-records [] e)
 
-  pub counting-few : length b < 24 → r ≡ whole
+  pub counting-few : length b < header-length → r ≡ whole
   counting-few h = ends (records-few b h)
 
   module _ (h : Header) (is : h ≡ header-of b) where
@@ -48,10 +49,10 @@ module _ (whole r : Tally) (b : List ℕ) (v : Counting whole r b) where
     unfolding walk header-of-by kind-in message-in
     goes-on s bs e q = by-records (b ∷ bs) q ∙ ap (walk counting bs) (sym (e ∙ ap (λ (x : Header). enter (x .kind) (x .message) r) is))
 
-    pub counting-last : (s : Tally) → length b < h .size → (h .size ≡ 0 → ⊥) → s ≡ enter (h .kind) (h .message) r → 24 ≤ length b → s ≡ whole
+    pub counting-last : (s : Tally) → length b < h .size → (h .size ≡ 0 → ⊥) → s ≡ enter (h .kind) (h .message) r → header-length ≤ length b → s ≡ whole
     unfolding walk
     counting-last s l z e m = sym (goes-on s [] e (taken-last b h is m z l))
 
-    pub counting-next : (s : Tally) → (h .size ≡ 0 → ⊥) → s ≡ enter (h .kind) (h .message) r → 24 ≤ length b → Counting whole s (take (length b - h .size) (drop (h .size) b))
+    pub counting-next : (s : Tally) → (h .size ≡ 0 → ⊥) → s ≡ enter (h .kind) (h .message) r → header-length ≤ length b → Counting whole s (take (length b - h .size) (drop (h .size) b))
     unfolding raise-records
     counting-next s z e m = record { same = goes-on s _ e (taken-next b h is m z) }

@@ -1,4 +1,5 @@
 // The tally of 01, "What the Rust does that needs another form": the messages sent, by kind.
+use record::HEADER;
 use record::Header;
 use record::Kind;
 use record::Message;
@@ -62,7 +63,7 @@ pub fn raised(t: Tally, code: u32, out: &[u8]) -> Tally
     }
     let mut r = t;
     let mut rest = out;
-    while 24 <= rest.len() {
+    while HEADER <= rest.len() {
         let h = record::read_header(rest);
         let n = h.size as usize;
         if n == 0 {

@@ -14,6 +14,7 @@ use Rattle.lists.proofs.Choice.{by-choice, split, choose-yes, choose-no}
 use Rattle.record.specs.declared.Header.{Header}
 use Rattle.record.specs.declared.Answer.{Answer}
 use Rattle.record.specs.declared.Answer.the-variants as Answers
+use Rattle.record.specs.Format.{header-length}
 use Rattle.record.specs.Read.{header-of, is-timer}
 use Rattle.record.specs.Answers.{answer}
 use Rattle.record.specs.Walk.{whole-length, records-in}
@@ -141,14 +142,14 @@ module _ (time : ℕ) (whole : PutWords) (q₀ q rest : List ℕ) (v : Inserting
   unfolding put insert-all flatMap
   ends e = ap (words-of 0) (v .sound .is) ∙ sym (by-records [] e)
 
-  pub inserting-few : length rest < 24 → record { code = 0; words = q } ≡ whole
+  pub inserting-few : length rest < header-length → record { code = 0; words = q } ≡ whole
   inserting-few h = ends (records-few rest h)
 
   module _ (h : Header) (is : h ≡ header-of rest) where
     pub inserting-none : h .size ≡ 0 → record { code = 0; words = q } ≡ whole
     inserting-none e = ends (taken-none rest h is e)
 
-    module _ (code : ℕ) (q′ : List ℕ) (e : record { code = code; words = q′ } ≡ put (insert-all time (timer-of rest) (entries-of q))) (z : h .size ≡ 0 → ⊥) (m : 24 ≤ length rest) where
+    module _ (code : ℕ) (q′ : List ℕ) (e : record { code = code; words = q′ } ≡ put (insert-all time (timer-of rest) (entries-of q))) (z : h .size ≡ 0 → ⊥) (m : header-length ≤ length rest) where
       step : (bs : List (List ℕ)) → records-in rest ≡ rest ∷ bs → whole ≡ put (next time (flatMap timer-of bs) (insert-all time (timer-of rest) (entries-of q)))
       unfolding flatMap
       step bs r = by-records (rest ∷ bs) r ∙ ap put (insert-all-append time (timer-of rest) (flatMap timer-of bs) (entries-of q))

@@ -1,6 +1,6 @@
 -- The event that comes out is the record that went in, without its delay, and reads back as that event.
 -- Assumes nothing.
-use Prim.Native.Nat.{ℕ, zero, suc, _≤_, _<_}
+use Prim.Native.Nat.{ℕ, zero, suc, _^_, _≤_, _<_}
 use mathlib.Core.Path.{_≡_, refl, sym, ap, _∙_, subst}
 use mathlib.Core.Bool.{true}
 use mathlib.Core.List.{List, [], _∷_}
@@ -8,12 +8,12 @@ use native.Mathlib.Omega.{arith}
 use lib.ListN.{length, getD}
 use lib.Seq.{take-length}
 use lib.Dec.{ltb, leb, eqb}
-use borrow.Author.Tests.{eqb-true, eq-eqb, leb-true, leb-false, ltb-true, le-ltb, lt-ltb}
+use borrow.Author.Tests.{eqb-true, leb-true, leb-false, ltb-true, le-ltb}
 use Rattle.lists.specs.Lists.{choose}
 use Rattle.lists.proofs.Choice.{split, and-left, and-right, choose-yes, choose-no}
 use Rattle.lists.proofs.Numbers.{Bytes}
 use Rattle.lists.proofs.Tests.{both-true}
-use Rattle.record.specs.Format.{peer-length, size, size-by, datas, encode}
+use Rattle.record.specs.Format.{peer-length, header-length, size, size-by, datas, encode}
 use Rattle.record.specs.Read.{fixed-size, header-of, header-of-by, is-message, is-timer, is-data, kind-ok, flags-ok, count-ok, peer-ok, fields-ok, header-ok, well-formed, rec-of, rec-of-by, nodes-of, nodes-of-by, is-event, event, read-event}
 use Rattle.record.specs.InForm.{InForm, NodesInFormBy, header-in, header-in-by}
 use Rattle.record.specs.Answers.{answer}
@@ -22,13 +22,14 @@ use Rattle.record.specs.declared.Answer.the-variants as Answers
 use Rattle.record.proofs.Back.{in-form-back, parts}
 use Rattle.record.proofs.Forth.{header-read, well-formed-encode, rec-of-encode}
 use Rattle.record.proofs.Format.{length-encode}
+use Rattle.protocol.specs.Station.{peers-end}
 use Rattle.protocol.specs.Rules.{all-under}
 use Rattle.timer_map.specs.declared.Entry.{Entry}
 use Rattle.timer_events.specs.declared.Start.{Start}
 use Rattle.timer_events.specs.Records.{started, started-by, start-of}
 use Rattle.timer_events.specs.Events.{has-event, event-rec}
 use Rattle.timer_events.specs.Claims.{without-delay, ComesBack, Event-comes-back}
-use Rattle.timer_events.proofs.Events.{Says, says, bare-kind, peer-kind}
+use Rattle.timer_events.proofs.Events.{Says, says, said}
 
 -- ---- headers of the four kinds
 
@@ -119,7 +120,7 @@ plain h l k e =
 -- ---- an entry's event
 
 abbrev event-head : ℕ → ℕ → ℕ → Header
-event-head k p u = head k 0 0 0 p 0 0 24 u
+event-head k p u = head k 0 0 0 p 0 0 header-length u
 
 -- a header of a timer without its delay is an event's
 record Fine (h : Header) : Type 0 where
@@ -163,18 +164,18 @@ header-event : (e : Entry) → header-in (event-rec e) ≡ event-head (e .item .
 unfolding header-in-by event-rec size-by datas
 header-event e = refl
 
-in-form : (e : Entry) → Says e → e .item .number < 18446744073709551616 → InForm (event-rec e)
+in-form : (e : Entry) → Says e → e .item .peer < peers-end → e .item .number < 2 ^ 64 → InForm (event-rec e)
 unfolding NodesInFormBy event-rec
-in-form e s n = record {
+in-form e s p n = record {
   header = ap header-ok (header-event e) ∙ fine e s .ok;
-  peer = omega (arith, s .narrow);
+  peer = p;
   second = omega arith;
   ttl = omega arith;
-  number = omega (arith, n);
+  number = n;
   nodes = tt;
 }
 
-event-size : (e : Entry) → size (event-rec e) ≡ 24
+event-size : (e : Entry) → size (event-rec e) ≡ header-length
 unfolding size-by event-rec datas
 event-size e = refl
 
@@ -183,14 +184,14 @@ unfolding header-of-by
 nodes-field b = refl
 
 -- the event's bytes read back as the event
-pub reads-back : (e : Entry) → has-event e ≡ true → e .item .number < 18446744073709551616 → read-event (encode (event-rec e)) ≡ event (event-rec e)
+pub reads-back : (e : Entry) → has-event e ≡ true → e .item .peer < peers-end → e .item .number < 2 ^ 64 → read-event (encode (event-rec e)) ≡ event (event-rec e)
 unfolding read-event
-reads-back e h n =
-    let f : InForm (event-rec e) = in-form e (says e h) n in
+reads-back e h p n =
+    let f : InForm (event-rec e) = in-form e (says e h) p n in
     let b : header-of (encode (event-rec e)) ≡ event-head (e .item .kind) (e .item .peer) (e .item .number) = header-read (event-rec e) f ∙ header-event e in
     let z : getD (encode (event-rec e)) 3 0 ≡ 0 = nodes-field (encode (event-rec e)) ∙ ap (λ (y : Header). y .nodes) b in
-    let l : length (encode (event-rec e)) ≡ 24 = length-encode (event-rec e) ∙ event-size e in
-    choose-no _ _ _ (le-ltb (length (encode (event-rec e))) 24 (omega (arith, l)))
+    let l : length (encode (event-rec e)) ≡ header-length = length-encode (event-rec e) ∙ event-size e in
+    choose-no _ _ _ (le-ltb (length (encode (event-rec e))) header-length (omega (arith, l)))
     ∙ choose-no _ _ _ (le-ltb 32 (getD (encode (event-rec e)) 3 0) (omega (arith, z)))
     ∙ choose-yes _ _ _ (both-true (well-formed (encode (event-rec e))) _ (well-formed-encode (event-rec e) f) (ap is-event b ∙ fine e (says e h) .is-one))
     ∙ ap event (rec-of-encode (event-rec e) f)
@@ -221,20 +222,13 @@ timer-high : (b : List ℕ) → is-timer (header-of b) ≡ true → header-of b 
 unfolding is-timer
 timer-high b t = leb-true (header-of b .kind) 4 (and-right (leb 1 (header-of b .kind)) _ t)
 
-peer-below : (b : List ℕ) → InForm (rec-of b) → header-of b .peer < 4294967296
+peer-below : (b : List ℕ) → InForm (rec-of b) → header-of b .peer < peers-end
 unfolding rec-of-by
-peer-below b q = omega (arith, q .peer)
+peer-below b q = q .peer
 
-number-below : (b : List ℕ) → InForm (rec-of b) → header-of b .number < 18446744073709551616
+number-below : (b : List ℕ) → InForm (rec-of b) → header-of b .number < 2 ^ 64
 unfolding rec-of-by
-number-below b q = omega (arith, q .number)
-
-has-timer : (e : Entry) → 1 ≤ e .item .kind → e .item .kind ≤ 4 → (e .item .kind ≤ 2 → (e .item .peer ≡ 0) × (e .item .number ≡ 0)) → e .item .peer < 4294967296 → has-event e ≡ true
-has-timer e l h b p =
-    split (leb (e .item .kind) 2)
-    (λ t. let k : e .item .kind ≤ 2 = leb-true (e .item .kind) 2 t in
-    sym (bare-kind e l h k) ∙ both-true (eqb (e .item .peer) 0) _ (eq-eqb (e .item .peer) 0 (b k .0)) (eq-eqb (e .item .number) 0 (b k .1)))
-    (λ t. sym (peer-kind e l h (leb-false (e .item .kind) 2 t)) ∙ lt-ltb (e .item .peer) 4294967296 p)
+number-below b q = q .number
 
 -- what the record leaves at zero
 same-record : (b : List ℕ) (time : ℕ) → Plain (header-of b) → event-rec (record { time = time; item = started (header-of b) .item }) ≡ without-delay (rec-of b)
@@ -258,7 +252,7 @@ event-comes-back b u w t time =
     let k : h .kind ≤ 4 = timer-high b t in
     let p : Plain h = plain h l k (parts peer-length b w .heads) in
     let e : Entry = record { time = time; item = started h .item } in
-    let y : has-event e ≡ true = has-timer e l k (p .bare) (peer-below b q) in
+    let y : has-event e ≡ true = said e (record { low = l; high = k; bare = p .bare }) in
     let s : event-rec e ≡ without-delay (rec-of b) = same-record b time p in
     subst (λ (x : Start). ComesBack b (record { time = time; item = x .item })) (sym (read-whole b w))
-    (record { has = y; is = s; reads = reads-back e y (number-below b q) ∙ ap event s })
+    (record { has = y; is = s; reads = reads-back e y (peer-below b q) (number-below b q) ∙ ap event s })

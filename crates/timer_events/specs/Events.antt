@@ -1,7 +1,7 @@
 -- Document 02, S-1: a due timer taken out as the event record that `handle` reads.
 -- Assumes nothing.
 use Prim.Native.Nat.{ℕ}
-use mathlib.Core.Bool.{Bool, true, false, _&&_}
+use mathlib.Core.Bool.{Bool, true, false, _&&_, _||_}
 use mathlib.Core.List.{List, []}
 use lib.ListN.{length}
 use lib.Dec.{ltb, leb, eqb}
@@ -13,12 +13,12 @@ use Rattle.timer_map.specs.Words.{entries-of, queue-ok, pack}
 use Rattle.timer_map.specs.declared.Entry.{Entry}
 use Rattle.timer_events.specs.declared.PoppedEvent.{PoppedEvent}
 
--- whether an event record can say the entry: kinds 1 to 4; 1 and 2 have neither peer nor number; a peer of a record's width
+-- whether an event record can say the entry: kinds 1 to 4, of which 1 and 2 have neither peer nor number
 unfoldable pub has-event : Entry → Bool
 has-event e =
-    choose (ltb (e .item .kind) 1) false
-    (choose (ltb 4 (e .item .kind)) false
-    (choose (leb (e .item .kind) 2) (eqb (e .item .peer) 0 && eqb (e .item .number) 0) (ltb (e .item .peer) 4294967296)))
+    leb 1 (e .item .kind)
+    && (leb (e .item .kind) 4
+    && (ltb 2 (e .item .kind) || (eqb (e .item .peer) 0 && eqb (e .item .number) 0)))
 
 -- the event: the timer's record, without its delay
 unfoldable pub event-rec : Entry → Rec

@@ -1,4 +1,5 @@
 // Document 02, S-1: what a controller without timers of its own runs by. The timers of an output are put into the queue at once, and a due timer comes out as the event that `handle` reads.
+use record::HEADER;
 use record::Header;
 use record::Kind;
 use record::Refusal;
@@ -23,11 +24,6 @@ const FIRST_TIMER: u64 = 1;
 const LAST_BARE_TIMER: u64 = 2;
 
 const LAST_TIMER: u64 = 4;
-
-// One more than the largest peer that a record can name.
-const PEERS_END: u64 = 4294967296;
-
-const HEADER: usize = 24;
 
 // A timer to be put in, and its delay.
 pub struct Start {
@@ -67,12 +63,12 @@ fn started(h: Header) -> Start
     let id = Id(0, 0, 0, 0);
     let item = Timer {
         kind: h.kind as u64,
-        peer: h.peer as u64,
+        peer: h.peer,
         number: h.number,
         id: id,
     };
     Start {
-        delay: h.second as u64,
+        delay: h.second,
         item: item,
     }
 }
@@ -160,16 +156,8 @@ fn has_event(e: Entry) -> bool
     ensures { λ r. ⌜ r ≡ has-event e ⌝ }
 {
     let x = e.item;
-    if x.kind < FIRST_TIMER {
-        return false;
-    }
-    if LAST_TIMER < x.kind {
-        return false;
-    }
-    if x.kind <= LAST_BARE_TIMER {
-        return (x.peer == 0) & (x.number == 0);
-    }
-    x.peer < PEERS_END
+    let bare = (x.peer == 0) & (x.number == 0);
+    (FIRST_TIMER <= x.kind) & ((x.kind <= LAST_TIMER) & ((LAST_BARE_TIMER < x.kind) | bare))
 }
 
 // The fields of that record.
@@ -232,7 +220,7 @@ fn pop_event_ok(q: &mut [u64], limit: u64, out: &mut [u8]) -> PoppedEvent
     }
 }
 
-// TimerMap::pop_before, with the entry written as the 24 bytes of its event. Code 2; 3, where the entry is none that an event record can say;
+// TimerMap::pop_before, with the entry written as the 32 bytes of its event. Code 2; 3, where the entry is none that an event record can say;
 // 9, where the bytes do not fit: then nothing changes.
 #[no_mangle]
 pub extern "C" fn timer_map_pop_event(q: &mut [u64], limit: u64, out: &mut [u8]) -> PoppedEvent
