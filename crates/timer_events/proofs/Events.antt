@@ -10,12 +10,12 @@ use mir.Syntax.{w8}
 use borrow.Author.Tests.{eqb-true, ltb-true, ltb-false, leb-false, lt-ltb, le-ltb, le-leb, lt-leb}
 use Rattle.lists.specs.Lists.{choose}
 use Rattle.lists.proofs.Choice.{split, clash, and-left, and-right, choose-yes, choose-no}
-use Rattle.timer_map.specs.declared.Entry.{Entry}
+use Rattle.timer_map.specs.declared.TimerMapEntry.{TimerMapEntry}
 use Rattle.timer_events.specs.Events.{has-event}
 
 -- ---- has_event
 
-module _ (e : Entry) where
+module _ (e : TimerMapEntry) where
   pub below-kinds : e .item .kind < 1 → false ≡ has-event e
   unfolding has-event
   below-kinds h = sym (choose-yes _ _ _ (lt-ltb (e .item .kind) 1 h))
@@ -37,13 +37,13 @@ module _ (e : Entry) where
       peer-kind k = sym (inner ∙ choose-no _ _ _ (lt-leb (e .item .kind) 2 k))
 
 -- what it says
-pub record Says (e : Entry) : Type 0 where
+pub record Says (e : TimerMapEntry) : Type 0 where
   pub low : 1 ≤ e .item .kind
   pub high : e .item .kind ≤ 4
   pub bare : e .item .kind ≤ 2 → (e .item .peer ≡ 0) × (e .item .number ≡ 0)
   pub narrow : e .item .peer < 4294967296
 
-pub says : (e : Entry) → has-event e ≡ true → Says e
+pub says : (e : TimerMapEntry) → has-event e ≡ true → Says e
 unfolding has-event
 says e t =
     split (ltb (e .item .kind) 1)
@@ -67,5 +67,5 @@ says e t =
       narrow = ltb-true (e .item .peer) 4294967296 f;
     })))
 
-pub kind-fits : (e : Entry) → has-event e ≡ true → Fits w8 (e .item .kind)
+pub kind-fits : (e : TimerMapEntry) → has-event e ≡ true → Fits w8 (e .item .kind)
 kind-fits e t = record { fits = omega (arith, says e t .high) }
