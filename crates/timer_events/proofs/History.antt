@@ -13,7 +13,7 @@ use Rattle.lists.specs.Lists.{choose, null, mem, index-of, shift-remove}
 use Rattle.lists.proofs.Choice.{split, clash, and-right, choose-yes, choose-no}
 use Rattle.writer.specs.Write.{fits, written}
 use Rattle.timer_map.specs.Entries as E
-use Rattle.timer_map.specs.Entries.{Put, times, soonest, first-entry, is-due, no-queue-entry}
+use Rattle.timer_map.specs.Entries.{Put, due-times, soonest, first-entry, is-due, no-queue-entry}
 use Rattle.timer_map.specs.Words.{pack-queue}
 use Rattle.timer_map.specs.Calls as C
 use Rattle.timer_map.specs.Calls.{PutWords, PoppedWords, put, refused-pop, inserted, taken-out, first-in, first-of, count-in, renewed}
@@ -86,11 +86,11 @@ same : (v : QueueCall) (r : Reply) (es : List TimerMapEntry) → reply-code r �
 same v r es c t a = sym (append-nil es) ∙ ap (λ (l : List TimerMapEntry). es ++ l) (sym a) ∙ grown v r es c t
 
 -- the first of a due time comes out
-gone : (v : QueueCall) (r : Reply) (es : List TimerMapEntry) (t : ℕ) → reply-code r ≡ 0 → time-out r ≡ some t → asked v ≡ [] → shift-remove (index-of t (times es)) es ≡ booked v r es
+gone : (v : QueueCall) (r : Reply) (es : List TimerMapEntry) (t : ℕ) → reply-code r ≡ 0 → time-out r ≡ some t → asked v ≡ [] → shift-remove (index-of t (due-times es)) es ≡ booked v r es
 unfolding booked cut-at
 gone v r es t c o a =
     sym (choose-yes _ _ _ (eq-eqb (reply-code r) 0 c) ∙ ap (λ (y : Option ℕ). cut-at y (es ++ asked v)) o
-    ∙ ap (λ (l : List TimerMapEntry). shift-remove (index-of t (times l)) l) (ap (λ (l : List TimerMapEntry). es ++ l) a ∙ append-nil es))
+    ∙ ap (λ (l : List TimerMapEntry). shift-remove (index-of t (due-times l)) l) (ap (λ (l : List TimerMapEntry). es ++ l) a ∙ append-nil es))
 
 abbrev of-put : PutWords → QueueOutcome
 of-put w = record { reply = code (w .code); words = w .words }
@@ -206,13 +206,13 @@ unfolding queue-answered
 event-way limit out es g w e = ap of-event (event-packed es g limit out ∙ e)
 
 -- the place of the entry that goes
-place : (limit : ℕ) (es : List TimerMapEntry) → is-due limit es ≡ true → shift-remove (soonest es) es ≡ shift-remove (index-of (first-entry es .time) (times es)) es
+place : (limit : ℕ) (es : List TimerMapEntry) → is-due limit es ≡ true → shift-remove (soonest es) es ≡ shift-remove (index-of (first-entry es .time) (due-times es)) es
 place limit es d = ap (λ (n : ℕ). shift-remove n es) (sym (first-place es (due-some limit es d)))
 
 smaller : (limit : ℕ) (es : List TimerMapEntry) → Good es → is-due limit es ≡ true → Good (shift-remove (soonest es) es)
 smaller limit es g d = good-remove (soonest es) es (soonest-below es (due-some limit es d)) g
 
-pop-found : (limit : ℕ) (es : List TimerMapEntry) → shift-remove (index-of (first-entry es .time) (times es)) es ≡ booked (pop-before limit) (popped (record { code = 0; found = true; entry = first-entry es })) es
+pop-found : (limit : ℕ) (es : List TimerMapEntry) → shift-remove (index-of (first-entry es .time) (due-times es)) es ≡ booked (pop-before limit) (popped (record { code = 0; found = true; entry = first-entry es })) es
 unfolding reply-code time-out asked choose
 pop-found limit es = gone (pop-before limit) (popped (record { code = 0; found = true; entry = first-entry es })) es (first-entry es .time) refl refl refl
 
@@ -254,7 +254,7 @@ no-pop c = record { code = c; found = false; time = 0 }
 abbrev pop-one : TimerMapEntry → PoppedEvent
 pop-one e = record { code = 0; found = true; time = e .time }
 
-event-found : (limit : ℕ) (out bytes : List ℕ) (es : List TimerMapEntry) → shift-remove (index-of (first-entry es .time) (times es)) es ≡ booked (pop-event limit out) (event (pop-one (first-entry es)) bytes) es
+event-found : (limit : ℕ) (out bytes : List ℕ) (es : List TimerMapEntry) → shift-remove (index-of (first-entry es .time) (due-times es)) es ≡ booked (pop-event limit out) (event (pop-one (first-entry es)) bytes) es
 unfolding reply-code time-out asked choose
 event-found limit out bytes es = gone (pop-event limit out) (event (pop-one (first-entry es)) bytes) es (first-entry es .time) refl refl refl
 
@@ -351,7 +351,7 @@ first-got es = refl
 right : (limit : ℕ) (es : List TimerMapEntry) → is-due limit es ≡ true → Right limit es (first-entry es)
 right limit es d =
     let s : 0 < length es = due-some limit es d in
-    let p : index-of (first-entry es .time) (times es) ≡ soonest es = first-place es s in
+    let p : index-of (first-entry es .time) (due-times es) ≡ soonest es = first-place es s in
     record {
       due = due-limit limit es d;
       there = subst (λ (n : ℕ). n < length es) (sym p) (soonest-below es s);

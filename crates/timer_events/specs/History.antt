@@ -7,7 +7,7 @@ use mathlib.Core.Option.{Option, none, some}
 use lib.ListN.{length, getD}
 use lib.Dec.{eqb}
 use Rattle.lists.specs.Lists.{choose, index-of, shift-remove}
-use Rattle.timer_map.specs.Entries.{times, no-queue-entry}
+use Rattle.timer_map.specs.Entries.{due-times, no-queue-entry}
 use Rattle.timer_map.specs.Calls.{inserted, taken-out, first-in, count-in}
 use Rattle.timer_map.specs.declared.Timer.{Timer}
 use Rattle.timer_map.specs.declared.TimerMapEntry.{TimerMapEntry}
@@ -84,7 +84,7 @@ time-out (held a) = none
 -- the first of that due time goes
 unfoldable pub cut-at : Option ℕ → List TimerMapEntry → List TimerMapEntry
 cut-at none es = es
-cut-at (some t) es = shift-remove (index-of t (times es)) es
+cut-at (some t) es = shift-remove (index-of t (due-times es)) es
 
 -- a refusal changes nothing
 unfoldable pub booked : QueueCall → Reply → List TimerMapEntry → List TimerMapEntry
@@ -107,7 +107,7 @@ book-after (v ∷ vs) ws es = book-after vs (queue-answered v ws .words) (booked
 -- e is due at the limit, is held, is the earliest, and is the oldest of its time
 pub record Right (limit : ℕ) (es : List TimerMapEntry) (e : TimerMapEntry) : Type 0 where
   pub due : e .time ≤ limit
-  pub there : index-of (e .time) (times es) < length es
-  pub is : getD es (index-of (e .time) (times es)) no-queue-entry ≡ e
+  pub there : index-of (e .time) (due-times es) < length es
+  pub is : getD es (index-of (e .time) (due-times es)) no-queue-entry ≡ e
   pub earliest : (k : ℕ) → k < length es → e .time ≤ getD es k no-queue-entry .time
-  pub oldest : (k : ℕ) → k < index-of (e .time) (times es) → e .time < getD es k no-queue-entry .time
+  pub oldest : (k : ℕ) → k < index-of (e .time) (due-times es) → e .time < getD es k no-queue-entry .time

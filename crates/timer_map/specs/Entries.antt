@@ -48,9 +48,9 @@ insert-timer time delay x es =
     (record { code = 3; entries = es })
 
 -- the due times
-unfoldable pub times : List TimerMapEntry → List ℕ
-times [] = []
-times (e ∷ es) = e .time ∷ times es
+unfoldable pub due-times : List TimerMapEntry → List ℕ
+due-times [] = []
+due-times (e ∷ es) = e .time ∷ due-times es
 
 -- the smallest of m and the numbers
 unfoldable pub least : ℕ → List ℕ → ℕ
@@ -64,7 +64,7 @@ smallest (x ∷ xs) = least x xs
 
 -- "The earliest due comes out first; equal times come out in the order put in": the place of the first with the smallest due time
 unfoldable pub soonest : List TimerMapEntry → ℕ
-soonest es = index-of (smallest (times es)) (times es)
+soonest es = index-of (smallest (due-times es)) (due-times es)
 
 -- all zero: what stands for an entry where there is none
 abbrev pub no-queue-entry : TimerMapEntry
