@@ -11,14 +11,14 @@ use Rattle.lists.proofs.Choice.{and-left, and-right, choose-yes}
 use Rattle.timing.specs.Timing.{in-range}
 use Rattle.timing.specs.declared.Config.{Config}
 use Rattle.peer.specs.Data.{Data}
-use Rattle.protocol.specs.Station.{Station}
+use Rattle.protocol.specs.Station.{Station, draws-end}
 use Rattle.protocol.specs.Rules.{all-under, short-data}
 use Rattle.protocol.specs.Handle.{Made, new, new-station}
 use Rattle.history.specs.Calls.{Given, definition}
 use Rattle.history.proofs.Kept.{kept-new, accepted-new}
 use Rattle.shuffle_times.specs.Times.{lowest-draw, highest-draw, first-interval, dues, due, due-by, has-times, shuffle-times}
 use Rattle.shuffle_times.specs.declared.ShuffleTimes.{ShuffleTimes}
-use Rattle.shuffle_times.specs.Histories.{Brought, draws-end, on-time, shuffles-due, start-of}
+use Rattle.shuffle_times.specs.Histories.{Brought, on-time, shuffles-due, start-of}
 use Rattle.shuffle_times.specs.Claims.{Within, Reached, Timed, Shuffles-timed, Zero-is-empty}
 use Rattle.shuffle_times.proofs.Delays.{first-ok, length-dues, dues-at, under-take, due-between, found, due-grows}
 use Rattle.shuffle_times.proofs.Asked.{asked, times-are}

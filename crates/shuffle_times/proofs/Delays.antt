@@ -12,10 +12,10 @@ use borrow.Author.Tests.{leb-true, leb-false, ltb-true, lt-ltb}
 use Rattle.lists.proofs.Choice.{split, and-left, and-right}
 use Rattle.timing.specs.Timing.{delay}
 use Rattle.timing.proofs.Ranges.{Within}
+use Rattle.protocol.specs.Station.{draws-end}
 use Rattle.protocol.specs.Rules.{all-under}
 use Rattle.lists.proofs.Members.{both}
 use Rattle.shuffle_times.specs.Times.{lowest-draw, highest-draw, first-interval, next-interval, dues, due}
-use Rattle.shuffle_times.specs.Histories.{draws-end}
 
 -- an interval that a station can have, or its setting
 abbrev pub Interval : ℕ → Type 0

@@ -13,7 +13,7 @@ use Rattle.lists.proofs.Choice.{by-choice, choose-yes, choose-no, and-left, and
 use Rattle.timing.specs.Timing.{delay}
 use Rattle.timing.specs.declared.Config.{Config}
 use Rattle.record.specs.Format.{Rec}
-use Rattle.protocol.specs.Station.{Station}
+use Rattle.protocol.specs.Station.{Station, draws-end}
 use Rattle.protocol.specs.Run.{Run, guard, on, emit, draw, drawn, timer}
 use Rattle.protocol.specs.Rules.{all-under}
 use Rattle.protocol.specs.Timers as T
@@ -23,7 +23,6 @@ use Rattle.protocol.proofs.Keeping.{draw-station, draw-fine, emit-station, emit
 use Rattle.protocol.proofs.Entering.{on-same}
 use Rattle.history.proofs.Ticks.{draw-out, on-out}
 use Rattle.shuffle_times.specs.Times.{next-interval}
-use Rattle.shuffle_times.specs.Histories.{draws-end}
 use Rattle.shuffle_times.proofs.Told.{shuffles}
 use Rattle.shuffle_times.proofs.Quiet.{Adds, adds-more, Still, Quiet, then, changes, adds-one, on-lent, schedule-maintenance, shuffle-any, dispatch}
 

@@ -16,9 +16,10 @@ use Rattle.record.specs.Read.{header-of}
 use Rattle.record.specs.Walk.{headers}
 use Rattle.record.proofs.Format.{length-encode}
 use Rattle.record.proofs.Walk.{records-written, records-zeros}
+use Rattle.protocol.specs.Station.{draws-end}
 use Rattle.protocol.specs.Rules.{all-under}
 use Rattle.protocol.specs.Written.{encode-all}
-use Rattle.shuffle_times.specs.Histories.{draws-end, shuffle-delays}
+use Rattle.shuffle_times.specs.Histories.{shuffle-delays}
 
 -- the delays of the shuffle timers among them
 unfoldable pub shuffles : List Rec → List ℕ
