@@ -7,11 +7,12 @@ use mathlib.Core.Path.{_≡_}
 use lib.ListN.{length, getD}
 use Rattle.timing.specs.declared.Config.{Config}
 use Rattle.peer.specs.Data.{Data}
+use Rattle.protocol.specs.Station.{draws-end}
 use Rattle.protocol.specs.Rules.{all-under}
 use Rattle.protocol.specs.Handle.{new}
 use Rattle.history.specs.Calls.{Given, Machine, definition}
 use Rattle.shuffle_times.specs.Times.{first-interval, dues, has-times, shuffle-times}
-use Rattle.shuffle_times.specs.Histories.{Brought, draws-end, shuffles-due, start-of, on-time, in-time-order}
+use Rattle.shuffle_times.specs.Histories.{Brought, shuffles-due, start-of, on-time, in-time-order}
 
 -- the shuffle timers of the calls have the intervals of the definition, each with the draw beside it
 pub record Tied {S : Type 0} (m : Machine S) (c : Config) (s : S) (vs : List Brought) : Type 0 where

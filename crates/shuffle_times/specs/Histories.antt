@@ -9,12 +9,9 @@ use lib.Dec.{leb, eqb}
 use Rattle.lists.specs.Lists.{choose}
 use Rattle.record.specs.Walk.{kind-in, headers}
 use Rattle.record.specs.declared.Header.{Header}
+use Rattle.protocol.specs.Station.{draws-end}
 use Rattle.protocol.specs.Rules.{all-under}
 use Rattle.history.specs.Calls.{Call, Machine, code-of, state-of, output-of}
-
--- one more than the highest draw
-abbrev pub draws-end : ℕ
-draws-end = 4294967296
 
 -- a call at a time, in milliseconds, with draws of 32 bits
 pub record Brought : Type 0 where
