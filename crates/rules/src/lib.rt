@@ -17,7 +17,7 @@ ghost use Rattle.state.specs.Unpack.{unpack, own-at};
 ghost use Rattle.rules.specs.Ok.{formed, sections-ok, packed-ok, state-ok};
 
 // Where the peers of the requests and of the joins end.
-const REQUESTS_PEERS_END: usize = Layout::REQUESTS + Layout::ALL;
+const ASKED_PEERS_END: usize = Layout::ASKED + Layout::ALL;
 
 const JOINS_PEERS_END: usize = Layout::JOINS + Layout::FEW;
 
@@ -144,12 +144,9 @@ fn sections_valid(st: &[u64]) -> bool
 {
     util::is_section(&st[Layout::ACTIVE..Layout::ACTIVE_END], Layout::FEW)
         & (util::is_section(&st[Layout::PASSIVE..Layout::PASSIVE_END], Layout::ALL)
-            & (util::is_section(&st[Layout::ALIVE..Layout::ALIVE_END], Layout::ALL)
+            & (util::is_section(&st[Layout::MARKS..Layout::MARKS_END], Layout::ALL)
                 & (util::is_section(&st[Layout::REFUSED..Layout::REFUSED_END], Layout::ALL)
-                    & (columns::numbers_valid(
-                        &st[Layout::REQUESTS..Layout::REQUESTS_END],
-                        Layout::ALL,
-                    )
+                    & (columns::numbers_valid(&st[Layout::ASKED..Layout::ASKED_END], Layout::ALL)
                         & (util::is_section(
                             &st[Layout::BOOTSTRAP..Layout::BOOTSTRAP_END],
                             Layout::FEW,
@@ -163,7 +160,7 @@ fn sections_valid(st: &[u64]) -> bool
                                     Layout::FEW,
                                 )
                                     & columns::data_valid(
-                                        &st[Layout::DATA..Layout::DATA_END],
+                                        &st[Layout::HELD..Layout::HELD_END],
                                         Layout::DATA_CAP,
                                     ))))))))
 }
@@ -222,7 +219,7 @@ fn order_rule(st: &[u64]) -> bool
     requires { ⌜ packed-ok (now st) ≡ true ⌝ }
     ensures { λ r. ⌜ r ≡ order-rule (unpack (now (st .entry))) ⌝ }
 {
-    util::is_rising(&st[Layout::ALIVE..Layout::ALIVE_END], Layout::ALL)
+    util::is_rising(&st[Layout::MARKS..Layout::MARKS_END], Layout::ALL)
         & util::is_rising(&st[Layout::REFUSED..Layout::REFUSED_END], Layout::ALL)
 }
 
@@ -260,7 +257,7 @@ fn alive_rule(st: &[u64]) -> bool
     ensures { λ r. ⌜ r ≡ alive-rule (unpack (now (st .entry))) ⌝ }
 {
     util::is_subset(
-        &st[Layout::ALIVE..Layout::ALIVE_END],
+        &st[Layout::MARKS..Layout::MARKS_END],
         Layout::ALL,
         &st[Layout::PASSIVE..Layout::PASSIVE_END],
         Layout::ALL,
@@ -298,7 +295,7 @@ fn numbers_rule(st: &[u64]) -> bool
     let next_request = st[Layout::NEXT_NEIGHBOR_REQUEST];
     let next_join = st[Layout::NEXT_JOIN];
     numbers_under(
-        &st[Layout::REQUESTS..Layout::REQUESTS_END],
+        &st[Layout::ASKED..Layout::ASKED_END],
         Layout::ALL,
         next_request,
     )
@@ -316,7 +313,7 @@ fn self_rule(st: &[u64]) -> bool
     ensures { λ r. ⌜ r ≡ self-rule (unpack (now (st .entry))) ⌝ }
 {
     let me = st[Layout::ME];
-    !columns::contains_data(&st[Layout::DATA..Layout::DATA_END], Layout::DATA_CAP, me)
+    !columns::contains_data(&st[Layout::HELD..Layout::HELD_END], Layout::DATA_CAP, me)
 }
 
 // "`Requests` at most 3"; the requests are 0 in every other limit
@@ -348,9 +345,9 @@ fn width_rule(st: &[u64]) -> bool
     ensures { λ r. ⌜ r ≡ width-rule (unpack (now (st .entry))) ⌝ }
 {
     (st[Layout::ME] < PEERS_END)
-        & (is_narrow(&st[Layout::ACTIVE..REQUESTS_PEERS_END])
+        & (is_narrow(&st[Layout::ACTIVE..ASKED_PEERS_END])
             & (is_narrow(&st[Layout::BOOTSTRAP..JOINS_PEERS_END])
-                & (data_narrow(&st[Layout::DATA..Layout::DATA_END], Layout::DATA_CAP)
+                & (data_narrow(&st[Layout::HELD..Layout::HELD_END], Layout::DATA_CAP)
                     & ((st[Layout::PASSES_ALONE] <= TOP_PASSES)
                         & (st[Layout::PASSES_SHORT] <= TOP_PASSES)))))
 }
@@ -365,11 +362,11 @@ fn held_rule(st: &[u64]) -> bool
     columns::data_peers(
         &st[Layout::ACTIVE..Layout::ACTIVE_END],
         &st[Layout::PASSIVE..Layout::PASSIVE_END],
-        &st[Layout::REQUESTS..Layout::REQUESTS_END],
+        &st[Layout::ASKED..Layout::ASKED_END],
         &mut v,
     );
     columns::data_within(
-        &st[Layout::DATA..Layout::DATA_END],
+        &st[Layout::HELD..Layout::HELD_END],
         Layout::DATA_CAP,
         &v,
         columns::KNOWN,
