@@ -221,8 +221,8 @@ def fields():
     return "\n".join(laws)
 
 
-# the one section whose name in code is not that of the field
-IN_CODE = {"peer-data": "DATA"}
+# the sections whose name in code is not that of the field: ALIVE, REQUESTS and DATA are a flag and two refusals of a record
+IN_CODE = {"alive": "MARKS", "requests": "ASKED", "peer-data": "HELD"}
 
 
 def constants():

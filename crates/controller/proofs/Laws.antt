@@ -14,7 +14,7 @@ use Rattle.tally.specs.History.{no-messages}
 use Rattle.hyparview.specs.Made.{Made, made}
 use Rattle.hyparview.specs.Handled.{Outcome, handled}
 use Rattle.hyparview.proofs.Kept.{handled-refused}
-use Rattle.controller.specs.Calls.{with-tally, begun, counted, called}
+use Rattle.controller.specs.Calls.{with-tally, begun, tallied, called}
 
 module _ (xs : List ℕ) (t : Tally) (me : ℕ) (d : Data) (c : Config) (code : ℕ) (ys : List ℕ) (is : record { code = code; words = ys } ≡ made xs me d c) where
   pub begun-kept : code ≡ 2 → record { code = code; words = ys; tally = t } ≡ begun xs t me d c
@@ -27,10 +27,10 @@ module _ (xs : List ℕ) (t : Tally) (me : ℕ) (d : Data) (c : Config) (code : 
 
 -- "a refusal changes none"
 pub refused-same : (xs : List ℕ) (t : Tally) (b ds : List ℕ) (room : ℕ) → (called xs t b ds room .code ≡ 0 → ⊥) → (called xs t b ds room .words ≡ xs) × (called xs t b ds room .tally ≡ t)
-unfolding called counted raised
+unfolding called tallied raised
 refused-same xs t b ds room n = (handled-refused xs b ds room n, choose-no _ _ _ (ne-eqb (handled xs b ds room .code) 0 n))
 
 pub called-by : (xs : List ℕ) (t : Tally) (b ds : List ℕ) (room code draws : ℕ) (ws out : List ℕ) (r : Tally) → r ≡ raised code out t → record { code = code; draws = draws; words = ws; output = out } ≡ handled xs b ds room
     → record { code = code; draws = draws; words = ws; tally = r; output = out } ≡ called xs t b ds room
-unfolding called counted
-called-by xs t b ds room code draws ws out r q e = ap (λ (y : Tally). record { code = code; draws = draws; words = ws; tally = y; output = out }) q ∙ ap (counted t) e
+unfolding called tallied
+called-by xs t b ds room code draws ws out r q e = ap (λ (y : Tally). record { code = code; draws = draws; words = ws; tally = y; output = out }) q ∙ ap (tallied t) e

@@ -35,9 +35,9 @@ pub record Called : Type 0 where
   pub output : List ℕ
 
 -- an answer of `handle` with the tally t beside it, "raised once an event is accepted"
-unfoldable pub counted : Tally → Outcome → Called
-counted t o = record { code = o .code; draws = o .draws; words = o .words; tally = raised (o .code) (o .output) t; output = o .output }
+unfoldable pub tallied : Tally → Outcome → Called
+tallied t o = record { code = o .code; draws = o .draws; words = o .words; tally = raised (o .code) (o .output) t; output = o .output }
 
 -- `hyparview_handle` at the words xs and the tally t, with as many bytes of output; that a refusal leaves both as they were is `refused-same`
 unfoldable pub called : List ℕ → Tally → List ℕ → List ℕ → ℕ → Called
-called xs t b ds room = counted t (handled xs b ds room)
+called xs t b ds room = tallied t (handled xs b ds room)

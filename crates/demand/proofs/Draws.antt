@@ -12,7 +12,7 @@ use Rattle.protocol.specs.Station.{Station, automatic}
 use Rattle.protocol.specs.Rules.{station-ok}
 use Rattle.protocol.specs.Run.{notice}
 use Rattle.protocol.specs.Traced.{traced}
-use Rattle.history.specs.Calls.{Call, answer, answered, code-of}
+use Rattle.history.specs.Calls.{Call, result-of, answered, code-of}
 use Rattle.rules.specs.Pack.{pack}
 use Rattle.hyparview.specs.Handled.{Outcome, packed-answer}
 use Rattle.demand.specs.Program.{program}
@@ -65,11 +65,11 @@ pub full-is-fine : station-ok full ≡ true
 unfolding traced full largest
 full-is-fine = refl
 
-pub takes-254 : answer (quits 254) full .used ≡ 254
+pub takes-254 : result-of (quits 254) full .used ≡ 254
 unfolding traced full largest quits answered
 takes-254 = refl
 
-five : answer (quits 253) full .code ≡ 5
+five : result-of (quits 253) full .code ≡ 5
 unfolding traced full largest quits answered
 five = refl
 

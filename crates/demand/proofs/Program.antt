@@ -22,7 +22,7 @@ use Rattle.protocol.proofs.Bounds.{finished}
 use Rattle.protocol.proofs.Enough.{enough}
 use Rattle.protocol.proofs.Uncrowded as crowded
 use Rattle.protocol.proofs.Unreachable as unreachable
-use Rattle.history.specs.Calls.{Call, Given, narrow-draws, answer, answered, state-after, codes}
+use Rattle.history.specs.Calls.{Call, Given, narrow-draws, result-of, answered, state-after, codes}
 use Rattle.history.specs.Calls as calls
 use Rattle.history.specs.Demand.{Demand3}
 use Rattle.history.specs.Outputs.{OutputsRead}
@@ -45,7 +45,7 @@ use Rattle.hyparview.specs.Handled.{Outcome, packed-answer, handled}
 use Rattle.hyparview.specs.Handled as Handled
 use Rattle.hyparview.proofs.Opening.{handled-two}
 use Rattle.demand.specs.Program as D
-use Rattle.demand.specs.Program.{made, outcome, program, made-state, value-program, unpack-state, state-passes}
+use Rattle.demand.specs.Program.{program-made, program-outcome, program, made-state, value-program, unpack-state, state-passes}
 
 ok-both : (xs : List ℕ) → state-ok xs ≡ true → (packed-ok xs && station-ok (unpack xs)) ≡ true
 unfolding state-ok
@@ -55,12 +55,12 @@ rules-kept : (xs : List ℕ) → state-ok xs ≡ true → station-ok (unpack xs)
 rules-kept xs ok = and-right (packed-ok xs) (station-ok (unpack xs)) (ok-both xs ok)
 
 -- at words that keep the rules the program answers what the definition does, packed
-answers : (xs : List ℕ) → state-ok xs ≡ true → (v : Call) → outcome (v .event) (v .draws) (v .output) xs ≡ packed-answer (answer v (unpack xs))
-unfolding outcome handled answered
+answers : (xs : List ℕ) → state-ok xs ≡ true → (v : Call) → program-outcome (v .event) (v .draws) (v .output) xs ≡ packed-answer (result-of v (unpack xs))
+unfolding program-outcome handled answered
 answers xs ok v = choose-yes _ _ _ (and-left (packed-ok xs) _ (ok-both xs ok))
 
-pub answers-packed : (v : Call) (g : Station) → station-ok g ≡ true → outcome (v .event) (v .draws) (v .output) (pack g) ≡ packed-answer (answer v g)
-answers-packed v g t = answers (pack g) (pack-ok g t) v ∙ ap (λ (x : Station). packed-answer (answer v x)) (ok-unpacked g t)
+pub answers-packed : (v : Call) (g : Station) → station-ok g ≡ true → program-outcome (v .event) (v .draws) (v .output) (pack g) ≡ packed-answer (result-of v g)
+answers-packed v g t = answers (pack g) (pack-ok g t) v ∙ ap (λ (x : Station). packed-answer (result-of v x)) (ok-unpacked g t)
 
 packs : Packs program pack unpack state-ok
 unfolding packed-answer
@@ -82,14 +82,14 @@ given me present own t = record {
 -- ---- a new station
 
 -- with any other code than 2 the words lent were as many as a state has, and hold what the definition's `new` answers
-whole : (xs : List ℕ) (me : ℕ) (present : Bool) (own : List ℕ) (c : Config) → (made xs me present own c .code ≡ 2 → ⊥) → made xs me present own c ≡ pack-made (definition.new me (lent present own) c)
-unfolding made lending.made
+whole : (xs : List ℕ) (me : ℕ) (present : Bool) (own : List ℕ) (c : Config) → (program-made xs me present own c .code ≡ 2 → ⊥) → program-made xs me present own c ≡ pack-made (definition.new me (lent present own) c)
+unfolding program-made lending.made
 whole xs me present own c h =
     split (eqb (length xs) words) (λ y. choose-yes _ _ _ y) (λ n. absurd (h (ap (λ (m : Made). m .code) (choose-no _ _ _ n))))
 
 -- a claim on what `new` answered with code 0 is one on the definition's answer, packed
-from-new : (X : List ℕ → Type 0) (xs : List ℕ) (me : ℕ) (present : Bool) (own : List ℕ) (c : Config) → made xs me present own c .code ≡ 0
-    → (definition.new me (lent present own) c .code ≡ 0 → X (pack (definition.new me (lent present own) c .state))) → X (made xs me present own c .words)
+from-new : (X : List ℕ → Type 0) (xs : List ℕ) (me : ℕ) (present : Bool) (own : List ℕ) (c : Config) → program-made xs me present own c .code ≡ 0
+    → (definition.new me (lent present own) c .code ≡ 0 → X (pack (definition.new me (lent present own) c .state))) → X (program-made xs me present own c .words)
 unfolding pack-made
 from-new X xs me present own c z h =
     let e = whole xs me present own c (λ two. omega (arith, two, z)) in
@@ -101,8 +101,8 @@ demand-3-holds xs me present own c t z vs =
     from-new (λ (s : List ℕ). Demand3 program unpack state-ok me c s vs) xs me present own c z (λ e. demand-packed packs me (lent present own) c (given me present own t) e vs)
 
 -- The words after a list of calls are the definition's state, packed.
-pub states-same : (xs : List ℕ) (me : ℕ) (present : Bool) (own : List ℕ) (c : Config) → D.Typed me own → made xs me present own c .code ≡ 0
-    → (vs : List Call) → state-after program vs (made xs me present own c .words) ≡ pack (state-after calls.definition vs (definition.new me (lent present own) c .state))
+pub states-same : (xs : List ℕ) (me : ℕ) (present : Bool) (own : List ℕ) (c : Config) → D.Typed me own → program-made xs me present own c .code ≡ 0
+    → (vs : List Call) → state-after program vs (program-made xs me present own c .words) ≡ pack (state-after calls.definition vs (definition.new me (lent present own) c .state))
 states-same xs me present own c t z vs =
     from-new (λ (s : List ℕ). state-after program vs s ≡ pack (state-after calls.definition vs (definition.new me (lent present own) c .state))) xs me present own c z
     (λ e. states-packed packs me (lent present own) c (given me present own t) e vs)
@@ -157,7 +157,7 @@ enough-lent xs ok v =
     }
 
 -- a code of `handle` at a station that keeps the rules is 0, 3, 4, or from 5 to 10
-not-one : (g : Station) → station-ok g ≡ true → (v : Call) → answer v g .code ≡ 1 → ⊥
+not-one : (g : Station) → station-ok g ≡ true → (v : Call) → result-of v g .code ≡ 1 → ⊥
 unfolding answered definition.handle definition.handle-reading definition.finish definition.accepted definition.refusal
 not-one g ok v =
     let room = length (v .output) in
@@ -168,7 +168,7 @@ not-one g ok v =
     by-choice (λ (a : definition.Answer). a .code ≡ 1 → ⊥) (eqb (r .code) 0) (λ z e. omega (arith, e)) (λ z e. let five = k .codes .low (omega (arith, e)) in omega (arith, five, e))))
 
 pub never-one : D.Never-one
-unfolding outcome packed-answer Handled.refusal
+unfolding program-outcome packed-answer Handled.refusal
 never-one xs v e =
     split (state-ok xs)
     (λ ok. not-one (unpack xs) (rules-kept xs ok) v (sym (ap (λ (x : Outcome). x .code) (answers xs ok v)) ∙ e))
@@ -190,7 +190,7 @@ never-unreachable xs ok = unreachable.never-unreachable (unpack xs) (rules-kept 
 
 pub never-unreachable-after : D.Never-unreachable-after
 never-unreachable-after xs me present own c t z vs =
-    never-unreachable (state-after program vs (made xs me present own c .words)) (demand-3-holds xs me present own c t z vs .rules-hold)
+    never-unreachable (state-after program vs (program-made xs me present own c .words)) (demand-3-holds xs me present own c t z vs .rules-hold)
 
 -- ---- by value
 

@@ -1,5 +1,5 @@
 -- What is claimed of the program: of every list of calls of `handle`, from the words that `new` filled.
--- `made` and `outcome` are what the contracts of this crate's functions say, which call the program's own; the check ties the claims to the code by them.
+-- `program-made` and `program-outcome` are what the contracts of this crate's functions say, which call the program's own; the check ties the claims to the code by them.
 -- Assumes nothing.
 use Prim.Native.Nat.{ℕ, _≤_, _<_}
 use mathlib.Core.Path.{_≡_}
@@ -30,19 +30,19 @@ use Rattle.hyparview.specs.declared.Made as by-value
 use Rattle.hyparview.specs.Handled.{Outcome, handled}
 
 -- what `new` answers, and the words xs that it was lent as it leaves them
-unfoldable pub made : List ℕ → ℕ → Bool → List ℕ → Config → Made
-made xs me present own c = lending.made xs me (lent present own) c
+unfoldable pub program-made : List ℕ → ℕ → Bool → List ℕ → Config → Made
+program-made xs me present own c = lending.made xs me (lent present own) c
 
 -- what `handle` answers, and the words and the output as it leaves them
-unfoldable pub outcome : List ℕ → List ℕ → List ℕ → List ℕ → Outcome
-outcome b ds out xs = handled xs b ds (length out)
+unfoldable pub program-outcome : List ℕ → List ℕ → List ℕ → List ℕ → Outcome
+program-outcome b ds out xs = handled xs b ds (length out)
 
 abbrev pub program : Machine (List ℕ)
 program = record {
-  code = λ b ds out xs. outcome b ds out xs .code;
-  state = λ b ds out xs. outcome b ds out xs .words;
-  used = λ b ds out xs. outcome b ds out xs .draws;
-  output = λ b ds out xs. outcome b ds out xs .output;
+  code = λ b ds out xs. program-outcome b ds out xs .code;
+  state = λ b ds out xs. program-outcome b ds out xs .words;
+  used = λ b ds out xs. program-outcome b ds out xs .draws;
+  output = λ b ds out xs. program-outcome b ds out xs .output;
 }
 
 -- what the types of `new`'s arguments give: a 32-bit number, and bytes
@@ -53,32 +53,32 @@ pub record Typed (me : ℕ) (own : List ℕ) : Type 0 where
 -- Demand 3. "For every list of events brought to a new station": one that `new` answered with code 0, whatever the words held before
 abbrev pub Demand3-holds : Type 0
 Demand3-holds =
-    (xs : List ℕ) (me : ℕ) (present : Bool) (own : List ℕ) (c : Config) → Typed me own → made xs me present own c .code ≡ 0
-    → (vs : List Call) → Demand3 program unpack state-ok me c (made xs me present own c .words) vs
+    (xs : List ℕ) (me : ℕ) (present : Bool) (own : List ℕ) (c : Config) → Typed me own → program-made xs me present own c .code ≡ 0
+    → (vs : List Call) → Demand3 program unpack state-ok me c (program-made xs me present own c .words) vs
 
 -- the rejoin promise, for the same lists
 abbrev pub Rejoin-promise : Type 0
 Rejoin-promise =
-    (xs : List ℕ) (me : ℕ) (present : Bool) (own : List ℕ) (c : Config) → Typed me own → made xs me present own c .code ≡ 0
-    → (vs : List Call) → Promised (ticks program unpack vs (made xs me present own c .words))
+    (xs : List ℕ) (me : ℕ) (present : Bool) (own : List ℕ) (c : Config) → Typed me own → program-made xs me present own c .code ≡ 0
+    → (vs : List Call) → Promised (ticks program unpack vs (program-made xs me present own c .words))
 
 -- what an accepted call writes is read back, for the same lists; draws have 32 bits by their type
 abbrev pub Outputs-read-back : Type 0
 Outputs-read-back =
-    (xs : List ℕ) (me : ℕ) (present : Bool) (own : List ℕ) (c : Config) → Typed me own → made xs me present own c .code ≡ 0
-    → (vs : List Call) → narrow-draws vs ≡ true → OutputsRead program vs (made xs me present own c .words)
+    (xs : List ℕ) (me : ℕ) (present : Bool) (own : List ℕ) (c : Config) → Typed me own → program-made xs me present own c .code ≡ 0
+    → (vs : List Call) → narrow-draws vs ≡ true → OutputsRead program vs (program-made xs me present own c .words)
 
 -- and the tally raised after each call counts every message that the ledger reads
 abbrev pub Every-message-counted : Type 0
 Every-message-counted =
-    (xs : List ℕ) (me : ℕ) (present : Bool) (own : List ℕ) (c : Config) → Typed me own → made xs me present own c .code ≡ 0
-    → (vs : List Call) → narrow-draws vs ≡ true → CountsAll program (c .«active_view_capacity») vs (made xs me present own c .words)
+    (xs : List ℕ) (me : ℕ) (present : Bool) (own : List ℕ) (c : Config) → Typed me own → program-made xs me present own c .code ≡ 0
+    → (vs : List Call) → narrow-draws vs ≡ true → CountsAll program (c .«active_view_capacity») vs (program-made xs me present own c .words)
 
 -- S-11 of document 02: when its shuffles are due
 abbrev pub Shuffles-timed : Type 0
 Shuffles-timed =
-    (xs : List ℕ) (me : ℕ) (present : Bool) (own : List ℕ) (c : Config) → Typed me own → made xs me present own c .code ≡ 0
-    → Timed program c (made xs me present own c .words)
+    (xs : List ℕ) (me : ℕ) (present : Bool) (own : List ℕ) (c : Config) → Typed me own → program-made xs me present own c .code ≡ 0
+    → Timed program c (program-made xs me present own c .words)
 
 -- of one call to a machine, at a state that stands for a station
 pub record Suffices {S : Type 0} (m : Machine S) (station : S → Station) (s : S) (v : Call) : Type 0 where
@@ -105,8 +105,8 @@ Never-eight = (xs : List ℕ) → state-ok xs ≡ true → (v : Call) → code-o
 
 abbrev pub Never-eight-after : Type 0
 Never-eight-after =
-    (xs : List ℕ) (me : ℕ) (present : Bool) (own : List ℕ) (c : Config) → Typed me own → made xs me present own c .code ≡ 0
-    → (vs : List Call) → mem 8 (codes program vs (made xs me present own c .words)) ≡ false
+    (xs : List ℕ) (me : ℕ) (present : Bool) (own : List ℕ) (c : Config) → Typed me own → program-made xs me present own c .code ≡ 0
+    → (vs : List Call) → mem 8 (codes program vs (program-made xs me present own c .words)) ≡ false
 
 -- at the station s a ForwardJoin that is neither answered nor dropped finds a neighbour other than its sender: the Rust's `unreachable!` is not reached
 abbrev pub Goes-on : Station → Type 0
@@ -121,13 +121,13 @@ Never-unreachable = (xs : List ℕ) → state-ok xs ≡ true → Goes-on (unpack
 -- and so after every list of calls to a new station
 abbrev pub Never-unreachable-after : Type 0
 Never-unreachable-after =
-    (xs : List ℕ) (me : ℕ) (present : Bool) (own : List ℕ) (c : Config) → Typed me own → made xs me present own c .code ≡ 0
-    → (vs : List Call) → Goes-on (unpack (state-after program vs (made xs me present own c .words)))
+    (xs : List ℕ) (me : ℕ) (present : Bool) (own : List ℕ) (c : Config) → Typed me own → program-made xs me present own c .code ≡ 0
+    → (vs : List Call) → Goes-on (unpack (state-after program vs (program-made xs me present own c .words)))
 
 -- a refused `new` hands back "a state of zeroes", word by word
 abbrev pub Refused-zeroes : Type 0
 Refused-zeroes =
-    (xs : List ℕ) (me : ℕ) (present : Bool) (own : List ℕ) (c : Config) → made xs me present own c .code ≡ 1 → made xs me present own c .words ≡ replicate words 0
+    (xs : List ℕ) (me : ℕ) (present : Bool) (own : List ℕ) (c : Config) → program-made xs me present own c .code ≡ 1 → program-made xs me present own c .words ≡ replicate words 0
 
 -- ---- the form that document 01 names: the state by value, `State::new` and `handle` with self
 
@@ -139,10 +139,10 @@ made-state me present own c =
 
 abbrev pub value-program : Machine State
 value-program = record {
-  code = λ b ds out s. outcome b ds out (s .words) .code;
-  state = λ b ds out s. record { words = outcome b ds out (s .words) .words };
-  used = λ b ds out s. outcome b ds out (s .words) .draws;
-  output = λ b ds out s. outcome b ds out (s .words) .output;
+  code = λ b ds out s. program-outcome b ds out (s .words) .code;
+  state = λ b ds out s. record { words = program-outcome b ds out (s .words) .words };
+  used = λ b ds out s. program-outcome b ds out (s .words) .draws;
+  output = λ b ds out s. program-outcome b ds out (s .words) .output;
 }
 
 abbrev pub unpack-state : State → Station

@@ -6,16 +6,16 @@ use hyparview::State;
 use peer::PeerId;
 use timing::Config;
 ghost use mathlib.Core.Path.{_≡_};
-ghost use Rattle.demand.specs.Program.{made, outcome, made-state};
+ghost use Rattle.demand.specs.Program.{program-made, program-outcome, made-state};
 
 pub fn new(st: &mut [u64], me: PeerId, present: bool, own: &[u8], config: Config) -> u32
-    ensures { λ r. ⌜ record { code = r; words = now (st .exit) } ≡ made (now (st .entry)) me present (now (own .entry)) config ⌝ }
+    ensures { λ r. ⌜ record { code = r; words = now (st .exit) } ≡ program-made (now (st .entry)) me present (now (own .entry)) config ⌝ }
 {
     hyparview::new(st, me, present, own, config)
 }
 
 pub fn handle(st: &mut [u64], b: &[u8], draws: &[u32], out: &mut [u8]) -> Done
-    ensures { λ r. ⌜ record { code = r .code; draws = r .draws; words = now (st .exit); output = now (out .exit) } ≡ outcome (now (b .entry)) (now (draws .entry)) (now (out .entry)) (now (st .entry)) ⌝ }
+    ensures { λ r. ⌜ record { code = r .code; draws = r .draws; words = now (st .exit); output = now (out .exit) } ≡ program-outcome (now (b .entry)) (now (draws .entry)) (now (out .entry)) (now (st .entry)) ⌝ }
 {
     hyparview::handle(st, b, draws, out)
 }
@@ -28,7 +28,7 @@ pub fn new_state(me: PeerId, present: bool, own: &[u8], config: Config) -> Made
 }
 
 pub fn handle_state(s: State, b: &[u8], draws: &[u32], out: &mut [u8]) -> Answer
-    ensures { λ r. ⌜ record { code = r .code; draws = r .draws; words = r .state .words; output = now (out .exit) } ≡ outcome (now (b .entry)) (now (draws .entry)) (now (out .entry)) (s .words) ⌝ }
+    ensures { λ r. ⌜ record { code = r .code; draws = r .draws; words = r .state .words; output = now (out .exit) } ≡ program-outcome (now (b .entry)) (now (draws .entry)) (now (out .entry)) (s .words) ⌝ }
 {
     s.handle(b, draws, out)
 }

@@ -24,65 +24,65 @@ use Rattle.shuffle_times.specs.Histories.{Brought, set-by, shuffles-due, counts
 use Rattle.shuffle_times.proofs.Carried.{timed-carried}
 use Rattle.state.specs.Unpack.{unpack}
 use Rattle.rules.specs.Ok.{state-ok}
-use Rattle.controller.specs.Calls.{with-tally, begun, counted, called}
+use Rattle.controller.specs.Calls.{with-tally, begun, tallied, called}
 use Rattle.demand.specs.Program as D
 use Rattle.demand.specs.Program.{program}
 use Rattle.demand.proofs.Program as P
 use Rattle.demand_calls.specs.Box as B
-use Rattle.demand_calls.specs.Box.{Box, made, filled, outcome, box, station-in, ledger}
+use Rattle.demand_calls.specs.Box.{Box, box-made, filled, box-outcome, box, station-in, ledger}
 
 states-follow : (vs : List Call) (x : Box) → state-after box vs x ≡ record { words = state-after program vs (x .words); tally = tally-after program vs (x .words) (x .tally) }
-unfolding state-after tally-after outcome D.outcome called counted
+unfolding state-after tally-after box-outcome D.program-outcome called tallied
 states-follow [] x = refl
 states-follow (v ∷ vs) x = states-follow vs (state-of box v x)
 
 codes-follow : (vs : List Call) (x : Box) → codes box vs x ≡ codes program vs (x .words)
-unfolding codes outcome D.outcome called counted
+unfolding codes box-outcome D.program-outcome called tallied
 codes-follow [] x = refl
 codes-follow (v ∷ vs) x = ap (λ (cs : List ℕ). code-of box v x ∷ cs) (codes-follow vs (state-of box v x))
 
 ledgers-follow : (a : ℕ) (vs : List Call) (x : Box) (l : Ledger) → ledger-after box a vs x l ≡ ledger-after program a vs (x .words) l
-unfolding ledger-after outcome D.outcome called counted
+unfolding ledger-after box-outcome D.program-outcome called tallied
 ledgers-follow a [] x l = refl
 ledgers-follow a (v ∷ vs) x l = ledgers-follow a vs (state-of box v x) (feed a (v .event) (code-of box v x) (output-of box v x) l)
 
 outputs-follow : (vs : List Call) (x : Box) → OutputsRead program vs (x .words) → OutputsRead box vs x
-unfolding OutputsRead outcome D.outcome called counted
+unfolding OutputsRead box-outcome D.program-outcome called tallied
 outputs-follow [] x o = tt
 outputs-follow (v ∷ vs) x o = (o .0, outputs-follow vs (state-of box v x) (o .1))
 
 ticks-follow : (vs : List Call) (x : Box) → ticks box station-in vs x ≡ ticks program unpack vs (x .words)
-unfolding ticks is-tick outcome D.outcome called counted
+unfolding ticks is-tick box-outcome D.program-outcome called tallied
 ticks-follow [] x = refl
 ticks-follow (v ∷ vs) x =
     ap (λ (ts : List Tick). choose (is-tick program v (x .words)) (record { met = station-in x; output = output-of box v x } ∷ ts) ts) (ticks-follow vs (state-of box v x))
 
 shuffles-follow : (vs : List Brought) (x : Box) → shuffles-due box vs x ≡ shuffles-due program vs (x .words)
-unfolding shuffles-due set-by outcome D.outcome called counted
+unfolding shuffles-due set-by box-outcome D.program-outcome called tallied
 shuffles-follow [] x = refl
 shuffles-follow (v ∷ vs) x = ap (λ (ts : List ℕ). set-by box v x ++ ts) (shuffles-follow vs (state-of box (v .call) x))
 
 start-follows : (vs : List Brought) (x : Box) → start-of box vs x ≡ start-of program vs (x .words)
-unfolding start-of counts outcome D.outcome called counted
+unfolding start-of counts box-outcome D.program-outcome called tallied
 start-follows [] x = refl
 start-follows (v ∷ vs) x = ap (choose (counts box v x) (v .at)) (start-follows vs (state-of box (v .call) x))
 
 on-time-follows : (vs : List Brought) (x : Box) (waiting : List ℕ) → on-time box vs x waiting ≡ on-time program vs (x .words) waiting
-unfolding on-time fires set-by outcome D.outcome called counted
+unfolding on-time fires set-by box-outcome D.program-outcome called tallied
 on-time-follows [] x waiting = refl
 on-time-follows (v ∷ vs) x waiting =
     let rest = on-time-follows vs (state-of box (v .call) x) in
     (λ i. choose (fires box v x) (is-first (v .at) waiting && rest (drop 1 waiting ++ set-by box v x) i) (rest (waiting ++ set-by box v x) i))
 
 -- with any other code than 2 `new` leaves a tally of zeroes
-tally-zeroed : (x : Box) (me present : ℕ) (own : List ℕ) (c : Config) → (made x me present own c .code ≡ 2 → ⊥) → made x me present own c .tally ≡ no-messages
-unfolding made begun with-tally
-tally-zeroed x me present own c n = choose-no _ _ _ (ne-eqb (made x me present own c .code) 2 n)
+tally-zeroed : (x : Box) (me present : ℕ) (own : List ℕ) (c : Config) → (box-made x me present own c .code ≡ 2 → ⊥) → box-made x me present own c .tally ≡ no-messages
+unfolding box-made begun with-tally
+tally-zeroed x me present own c n = choose-no _ _ _ (ne-eqb (box-made x me present own c .code) 2 n)
 
 pub demand-3-holds : B.Demand3-holds
-unfolding made begun with-tally D.made
+unfolding box-made begun with-tally D.program-made
 demand-3-holds x me present own c t z vs =
-    let start = filled (made x me present own c) in
+    let start = filled (box-made x me present own c) in
     let d = P.demand-3-holds (x .words) me (not (eqb present 0)) own c t z vs in
     let same = states-follow vs start in
     record {
@@ -94,57 +94,57 @@ demand-3-holds x me present own c t z vs =
     }
 
 pub outputs-read-back : B.Outputs-read-back
-unfolding made begun with-tally D.made
-outputs-read-back x me present own c t z vs n = outputs-follow vs (filled (made x me present own c)) (P.outputs-read-back (x .words) me (not (eqb present 0)) own c t z vs n)
+unfolding box-made begun with-tally D.program-made
+outputs-read-back x me present own c t z vs n = outputs-follow vs (filled (box-made x me present own c)) (P.outputs-read-back (x .words) me (not (eqb present 0)) own c t z vs n)
 
 pub every-message-counted : B.Every-message-counted
-unfolding made begun with-tally D.made
+unfolding box-made begun with-tally D.program-made
 every-message-counted x me present own c t z vs n few =
-    let start = filled (made x me present own c) in
+    let start = filled (box-made x me present own c) in
     let e : ledger c vs start .sent ≡ ledger-after program (c .«active_view_capacity») vs (start .words) empty-ledger .sent = ap (λ (l : Ledger). l .sent) (ledgers-follow (c .«active_view_capacity») vs start empty-ledger) in
     ap (λ (y : Box). total (y .tally)) (states-follow vs start)
     ∙ (ap (λ (u : Tally). total (tally-after program vs (start .words) u)) (tally-zeroed x me present own c (λ two. omega (arith, two, z)))
     ∙ (P.every-message-counted (x .words) me (not (eqb present 0)) own c t z vs n (subst (λ (k : ℕ). k ≤ top) e few) ∙ sym e))
 
 pub rejoin-promise : B.Rejoin-promise
-unfolding made begun with-tally D.made
+unfolding box-made begun with-tally D.program-made
 rejoin-promise x me present own c t z vs before twelve after e =
-    P.rejoin-promise (x .words) me (not (eqb present 0)) own c t z vs before twelve after (sym (ticks-follow vs (filled (made x me present own c))) ∙ e)
+    P.rejoin-promise (x .words) me (not (eqb present 0)) own c t z vs before twelve after (sym (ticks-follow vs (filled (box-made x me present own c))) ∙ e)
 
 pub shuffles-timed : B.Shuffles-timed
-unfolding made begun with-tally D.made
+unfolding box-made begun with-tally D.program-made
 shuffles-timed x me present own c t z =
-    let start = filled (made x me present own c) in
+    let start = filled (box-made x me present own c) in
     timed-carried (λ vs. shuffles-follow vs start) (λ vs. start-follows vs start) (λ vs. on-time-follows vs start []) c (P.shuffles-timed (x .words) me (not (eqb present 0)) own c t z)
 
 -- One call: the tally stands beside the answer, and changes neither code nor draws.
 pub enough-lent : B.Enough-lent
-unfolding outcome D.outcome called counted
+unfolding box-outcome D.program-outcome called tallied
 enough-lent x ok v =
     let k = P.enough-lent (x .words) ok v in
     record { five = k .five; no-five = k .no-five; no-nine = k .no-nine; draws-used = k .draws-used; few-draws = k .few-draws }
 
 pub never-one : B.Never-one
-unfolding outcome D.outcome called counted
+unfolding box-outcome D.program-outcome called tallied
 never-one x v e = P.never-one (x .words) v e
 
 pub never-eight : B.Never-eight
-unfolding outcome D.outcome called counted
+unfolding box-outcome D.program-outcome called tallied
 never-eight x ok v e = P.never-eight (x .words) ok v e
 
 pub never-eight-after : B.Never-eight-after
-unfolding made begun with-tally D.made
-never-eight-after x me present own c t z vs = ap (mem 8) (codes-follow vs (filled (made x me present own c))) ∙ P.never-eight-after (x .words) me (not (eqb present 0)) own c t z vs
+unfolding box-made begun with-tally D.program-made
+never-eight-after x me present own c t z vs = ap (mem 8) (codes-follow vs (filled (box-made x me present own c))) ∙ P.never-eight-after (x .words) me (not (eqb present 0)) own c t z vs
 
 pub never-unreachable : B.Never-unreachable
 never-unreachable x ok = P.never-unreachable (x .words) ok
 
 pub never-unreachable-after : B.Never-unreachable-after
 never-unreachable-after x me present own c t z vs =
-    never-unreachable (state-after box vs (filled (made x me present own c))) (demand-3-holds x me present own c t z vs .rules-hold)
+    never-unreachable (state-after box vs (filled (box-made x me present own c))) (demand-3-holds x me present own c t z vs .rules-hold)
 
 pub refused-zeroes : B.Refused-zeroes
-unfolding made begun with-tally D.made
+unfolding box-made begun with-tally D.program-made
 refused-zeroes x me present own c one =
     let zeroes = P.refused-zeroes (x .words) me (not (eqb present 0)) own c one in
     let none = tally-zeroed x me present own c (λ two. omega (arith, two, one)) in

@@ -18,7 +18,7 @@ use Rattle.tally.specs.declared.Tally.{Tally}
 use Rattle.hyparview.specs.declared.Done.{Done}
 use Rattle.controller.proofs.hyparview_new as new
 use Rattle.controller.proofs.hyparview_handle as handle
-use Rattle.demand_calls.specs.Box.{Box, made, outcome}
+use Rattle.demand_calls.specs.Box.{Box, box-made, box-outcome}
 
 -- what the references to words and tally show
 abbrev held : RefT (List ℕ) → RefT Tally → Box
@@ -31,8 +31,8 @@ module _ {M : Type 1} (𝓤 : URA M) (H : Heap 𝓤) (A : Atoms 𝓤) (at-mem : 
 
     pub new-says : (s′ : RefT (List ℕ)) (t′ : RefT Tally) (own′ : RefT (List ℕ)) (code : ℕ)
         → new.clauses 𝓤 H A at-mem run κs (s, (t, (me, (present, (own, (c, tt)))))) .ensures tt code (s′, (t′, (me, (present, (own′, (c, tt))))))
-        ≡ fact 𝓤 (record { code = code; words = now s′; tally = now t′ } ≡ made (held s t) me present (now own) c)
-    unfolding made
+        ≡ fact 𝓤 (record { code = code; words = now s′; tally = now t′ } ≡ box-made (held s t) me present (now own) c)
+    unfolding box-made
     new-says s′ t′ own′ code = refl
 
   module _ (κs : Lfts 5) (s : RefT (List ℕ)) (t : RefT Tally) (e d o : RefT (List ℕ)) where
@@ -41,6 +41,6 @@ module _ {M : Type 1} (𝓤 : URA M) (H : Heap 𝓤) (A : Atoms 𝓤) (at-mem : 
 
     pub handle-says : (s′ : RefT (List ℕ)) (t′ : RefT Tally) (e′ d′ o′ : RefT (List ℕ)) (r : Done)
         → handle.clauses 𝓤 H A at-mem run κs (s, (t, (e, (d, (o, tt))))) .ensures tt r (s′, (t′, (e′, (d′, (o′, tt)))))
-        ≡ fact 𝓤 (record { code = r .code; draws = r .draws; words = now s′; tally = now t′; output = now o′ } ≡ outcome (now e) (now d) (now o) (held s t))
-    unfolding outcome
+        ≡ fact 𝓤 (record { code = r .code; draws = r .draws; words = now s′; tally = now t′; output = now o′ } ≡ box-outcome (now e) (now d) (now o) (held s t))
+    unfolding box-outcome
     handle-says s′ t′ e′ d′ o′ r = refl

@@ -1,5 +1,5 @@
 -- What is claimed of what a box calls: of every list of calls of `hyparview_handle`, from the words and the tally that `hyparview_new` filled.
--- `made` and `outcome` are what the contracts of the two exported functions say; the check ties them to the claims by `new-says` and `handle-says`.
+-- `box-made` and `box-outcome` are what the contracts of the two exported functions say; the check ties them to the claims by `new-says` and `handle-says`.
 -- Assumes nothing.
 use Prim.Native.Nat.{ℕ, _≤_}
 use mathlib.Core.Path.{_≡_}
@@ -33,23 +33,23 @@ pub record Box : Type 0 where
   pub tally : Tally
 
 -- `hyparview_new` on what the box lends, whatever it holds; own data is absent where `present` is 0
-unfoldable pub made : Box → ℕ → ℕ → List ℕ → Config → Begun
-made x me present own c = begun (x .words) (x .tally) me (lent (not (eqb present 0)) own) c
+unfoldable pub box-made : Box → ℕ → ℕ → List ℕ → Config → Begun
+box-made x me present own c = begun (x .words) (x .tally) me (lent (not (eqb present 0)) own) c
 
 -- what the box holds after it
 abbrev pub filled : Begun → Box
 filled m = record { words = m .words; tally = m .tally }
 
 -- `hyparview_handle` on what the box holds
-unfoldable pub outcome : List ℕ → List ℕ → List ℕ → Box → Called
-outcome b ds out x = called (x .words) (x .tally) b ds (length out)
+unfoldable pub box-outcome : List ℕ → List ℕ → List ℕ → Box → Called
+box-outcome b ds out x = called (x .words) (x .tally) b ds (length out)
 
 abbrev pub box : Machine Box
 box = record {
-  code = λ b ds out x. outcome b ds out x .code;
-  state = λ b ds out x. record { words = outcome b ds out x .words; tally = outcome b ds out x .tally };
-  used = λ b ds out x. outcome b ds out x .draws;
-  output = λ b ds out x. outcome b ds out x .output;
+  code = λ b ds out x. box-outcome b ds out x .code;
+  state = λ b ds out x. record { words = box-outcome b ds out x .words; tally = box-outcome b ds out x .tally };
+  used = λ b ds out x. box-outcome b ds out x .draws;
+  output = λ b ds out x. box-outcome b ds out x .output;
 }
 
 -- the station that it holds, and whether the words keep the rules
@@ -62,20 +62,20 @@ box-passes x = state-ok (x .words)
 -- Demand 3. "For every list of events brought to a new station": one that `hyparview_new` answered with code 0
 abbrev pub Demand3-holds : Type 0
 Demand3-holds =
-    (x : Box) (me present : ℕ) (own : List ℕ) (c : Config) → Typed me own → made x me present own c .code ≡ 0
-    → (vs : List Call) → Demand3 box station-in box-passes me c (filled (made x me present own c)) vs
+    (x : Box) (me present : ℕ) (own : List ℕ) (c : Config) → Typed me own → box-made x me present own c .code ≡ 0
+    → (vs : List Call) → Demand3 box station-in box-passes me c (filled (box-made x me present own c)) vs
 
 -- the rejoin promise, for the same lists
 abbrev pub Rejoin-promise : Type 0
 Rejoin-promise =
-    (x : Box) (me present : ℕ) (own : List ℕ) (c : Config) → Typed me own → made x me present own c .code ≡ 0
-    → (vs : List Call) → Promised (ticks box station-in vs (filled (made x me present own c)))
+    (x : Box) (me present : ℕ) (own : List ℕ) (c : Config) → Typed me own → box-made x me present own c .code ≡ 0
+    → (vs : List Call) → Promised (ticks box station-in vs (filled (box-made x me present own c)))
 
 -- what an accepted call writes is read back, for the same lists; draws have 32 bits by their type
 abbrev pub Outputs-read-back : Type 0
 Outputs-read-back =
-    (x : Box) (me present : ℕ) (own : List ℕ) (c : Config) → Typed me own → made x me present own c .code ≡ 0
-    → (vs : List Call) → narrow-draws vs ≡ true → OutputsRead box vs (filled (made x me present own c))
+    (x : Box) (me present : ℕ) (own : List ℕ) (c : Config) → Typed me own → box-made x me present own c .code ≡ 0
+    → (vs : List Call) → narrow-draws vs ≡ true → OutputsRead box vs (filled (box-made x me present own c))
 
 -- the ledger of the list
 abbrev pub ledger : Config → List Call → Box → Ledger
@@ -84,15 +84,15 @@ ledger c vs x = ledger-after box (c .«active_view_capacity») vs x empty-ledger
 -- and the six counts of the lent tally together are the messages that the ledger has read, while these are below 2^64
 abbrev pub Every-message-counted : Type 0
 Every-message-counted =
-    (x : Box) (me present : ℕ) (own : List ℕ) (c : Config) → Typed me own → made x me present own c .code ≡ 0
-    → (vs : List Call) → narrow-draws vs ≡ true → ledger c vs (filled (made x me present own c)) .sent ≤ top
-    → total (state-after box vs (filled (made x me present own c)) .tally) ≡ ledger c vs (filled (made x me present own c)) .sent
+    (x : Box) (me present : ℕ) (own : List ℕ) (c : Config) → Typed me own → box-made x me present own c .code ≡ 0
+    → (vs : List Call) → narrow-draws vs ≡ true → ledger c vs (filled (box-made x me present own c)) .sent ≤ top
+    → total (state-after box vs (filled (box-made x me present own c)) .tally) ≡ ledger c vs (filled (box-made x me present own c)) .sent
 
 -- S-11 of document 02: when its shuffles are due
 abbrev pub Shuffles-timed : Type 0
 Shuffles-timed =
-    (x : Box) (me present : ℕ) (own : List ℕ) (c : Config) → Typed me own → made x me present own c .code ≡ 0
-    → Timed box c (filled (made x me present own c))
+    (x : Box) (me present : ℕ) (own : List ℕ) (c : Config) → Typed me own → box-made x me present own c .code ≡ 0
+    → Timed box c (filled (box-made x me present own c))
 
 -- "8,192 output bytes and 512 draws always suffice", by 02, S-6, draws that are kept: of one call at words that keep the rules, whatever the tally is
 abbrev pub Enough-lent : Type 0
@@ -108,8 +108,8 @@ Never-eight = (x : Box) → box-passes x ≡ true → (v : Call) → code-of box
 
 abbrev pub Never-eight-after : Type 0
 Never-eight-after =
-    (x : Box) (me present : ℕ) (own : List ℕ) (c : Config) → Typed me own → made x me present own c .code ≡ 0
-    → (vs : List Call) → mem 8 (codes box vs (filled (made x me present own c))) ≡ false
+    (x : Box) (me present : ℕ) (own : List ℕ) (c : Config) → Typed me own → box-made x me present own c .code ≡ 0
+    → (vs : List Call) → mem 8 (codes box vs (filled (box-made x me present own c))) ≡ false
 
 -- the Rust's `unreachable!` is not reached at words that keep the rules
 abbrev pub Never-unreachable : Type 0
@@ -118,10 +118,10 @@ Never-unreachable = (x : Box) → box-passes x ≡ true → Goes-on (station-in 
 -- and so after every list of calls
 abbrev pub Never-unreachable-after : Type 0
 Never-unreachable-after =
-    (x : Box) (me present : ℕ) (own : List ℕ) (c : Config) → Typed me own → made x me present own c .code ≡ 0
-    → (vs : List Call) → Goes-on (station-in (state-after box vs (filled (made x me present own c))))
+    (x : Box) (me present : ℕ) (own : List ℕ) (c : Config) → Typed me own → box-made x me present own c .code ≡ 0
+    → (vs : List Call) → Goes-on (station-in (state-after box vs (filled (box-made x me present own c))))
 
 -- a refused `hyparview_new` leaves words and tally of zeroes
 abbrev pub Refused-zeroes : Type 0
 Refused-zeroes =
-    (x : Box) (me present : ℕ) (own : List ℕ) (c : Config) → made x me present own c .code ≡ 1 → filled (made x me present own c) ≡ record { words = replicate words 0; tally = no-messages }
+    (x : Box) (me present : ℕ) (own : List ℕ) (c : Config) → box-made x me present own c .code ≡ 1 → filled (box-made x me present own c) ≡ record { words = replicate words 0; tally = no-messages }

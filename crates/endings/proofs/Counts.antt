@@ -15,8 +15,8 @@ use Rattle.histories.proofs.Once.{how-many as histories-in-all}
 use Rattle.hyparview.specs.Queries.{neighbors-in, spare-addresses-in}
 use Rattle.hyparview.specs.declared.State.{State}
 use Rattle.endings.specs.declared.Ends.{Ends}
-use Rattle.endings.specs.Ends.{Sizes, how-many, counts}
-use Rattle.endings.specs.Steps.{first-state, played, after-in, sizes-in, plus, Room}
+use Rattle.endings.specs.Ends.{Sizes, how-many, count-ends}
+use Rattle.endings.specs.Steps.{first-state, played, after-in, sizes-in, plus, CountRoom}
 
 -- ---- one history
 
@@ -29,8 +29,8 @@ one z a p h = omega arith
 
 pub counted : (s : State) (c : Ends) (a p n₀ n₁ n₂ n₃ : ℕ) → a ≡ length (neighbors-in (s .words)) → p ≡ spare-addresses-in (s .words)
     → n₀ ≡ choose (eqb a 0 && eqb p 0) 1 0 → n₁ ≡ choose (eqb a 0 && eqb p 1) 1 0 → n₂ ≡ choose (eqb a 1 && eqb p 0) 1 0 → n₃ ≡ choose (eqb a 1 && eqb p 1) 1 0
-    → record { neither = c .neither + n₀; passive = c .passive + n₁; active = c .active + n₂; both = c .both + n₃ } ≡ plus c (counts (sizes-in s) ([] ∷ []))
-unfolding plus counts sizes-in after-in
+    → record { neither = c .neither + n₀; passive = c .passive + n₁; active = c .active + n₂; both = c .both + n₃ } ≡ plus c (count-ends (sizes-in s) ([] ∷ []))
+unfolding plus count-ends sizes-in after-in
 counted s c a p n₀ n₁ n₂ n₃ ea ep e₀ e₁ e₂ e₃ =
     let z = sizes-in s in
     let count : (x y n : ℕ) → n ≡ choose (eqb a x && eqb p y) 1 0 → n ≡ how-many z x y ([] ∷ []) =
@@ -56,25 +56,25 @@ unfolding how-many sizes-in after-in
 many-behind s i a p [] = refl
 many-behind s i a p (h ∷ hs) = ap (λ (n : ℕ). choose (eqb (sizes-in (played i s) h .0) a && eqb (sizes-in (played i s) h .1) p) 1 0 + n) (many-behind s i a p hs)
 
-counts-append : (z : Sizes) (xs ys : List (List ℕ)) → counts z (xs ++ ys) ≡ plus (counts z xs) (counts z ys)
-unfolding counts plus
+counts-append : (z : Sizes) (xs ys : List (List ℕ)) → count-ends z (xs ++ ys) ≡ plus (count-ends z xs) (count-ends z ys)
+unfolding count-ends plus
 counts-append z xs ys = ends-are _ _ (many-append z 0 0 xs ys) (many-append z 0 1 xs ys) (many-append z 1 0 xs ys) (many-append z 1 1 xs ys)
 
-counts-behind : (s : State) (i : ℕ) (hs : List (List ℕ)) → counts (sizes-in s) (map (λ h. i ∷ h) hs) ≡ counts (sizes-in (played i s)) hs
-unfolding counts
+counts-behind : (s : State) (i : ℕ) (hs : List (List ℕ)) → count-ends (sizes-in s) (map (λ h. i ∷ h) hs) ≡ count-ends (sizes-in (played i s)) hs
+unfolding count-ends
 counts-behind s i hs = ends-are _ _ (many-behind s i 0 0 hs) (many-behind s i 0 1 hs) (many-behind s i 1 0 hs) (many-behind s i 1 1 hs)
 
 plus-assoc : (c d e : Ends) → plus (plus c d) e ≡ plus c (plus d e)
 unfolding plus
 plus-assoc c d e = ends-are _ _ (omega arith) (omega arith) (omega arith) (omega arith)
 
-plus-none : (z : Sizes) (c : Ends) → plus c (counts z []) ≡ c
-unfolding plus counts how-many
+plus-none : (z : Sizes) (c : Ends) → plus c (count-ends z []) ≡ c
+unfolding plus count-ends how-many
 plus-none z c = ends-are _ _ (omega arith) (omega arith) (omega arith) (omega arith)
 
 -- room is used up by what is counted
-room-less : (z : Sizes) (hs : List (List ℕ)) (n : ℕ) (c : Ends) → Room c (length hs + n) → Room (plus c (counts z hs)) n
-unfolding plus counts
+room-less : (z : Sizes) (hs : List (List ℕ)) (n : ℕ) (c : Ends) → CountRoom c (length hs + n) → CountRoom (plus c (count-ends z hs)) n
+unfolding plus count-ends
 room-less z hs n c r = record {
   neither = omega (arith, r .neither, many-le z 0 0 hs);
   passive = omega (arith, r .passive, many-le z 0 1 hs);
@@ -82,7 +82,7 @@ room-less z hs n c r = record {
   both = omega (arith, r .both, many-le z 1 1 hs);
 }
 
-room-first : (c : Ends) (m n : ℕ) → Room c (m + n) → Room c m
+room-first : (c : Ends) (m n : ℕ) → CountRoom c (m + n) → CountRoom c m
 room-first c m n r = record { neither = omega (arith, r .neither); passive = omega (arith, r .passive); active = omega (arith, r .active); both = omega (arith, r .both) }
 
 -- ---- the loop over the sixteen events
@@ -105,56 +105,56 @@ come-length i n h =
 pub record Extending (s : State) (left : ℕ) (c sum : Ends) (i : ℕ) : Type 0 where
   pub low : i ≤ 16
   pub more : 0 < left
-  pub room : Room sum (length (to-come i (left - 1)))
-  pub same : plus c (counts (sizes-in s) (of-length 16 left)) ≡ plus sum (counts (sizes-in s) (to-come i (left - 1)))
+  pub room : CountRoom sum (length (to-come i (left - 1)))
+  pub same : plus c (count-ends (sizes-in s) (of-length 16 left)) ≡ plus sum (count-ends (sizes-in s) (to-come i (left - 1)))
 
 longer : (left : ℕ) → (left ≡ 0 → ⊥) → of-length 16 left ≡ to-come 0 (left - 1)
 unfolding of-length
 longer zero f = absurd (f refl)
 longer (suc n) f = ap (λ (m : ℕ). each (places 0 16) (of-length 16 m)) (let e : n ≡ suc n - 1 = omega arith in e)
 
-pub extending-start : (s : State) (left : ℕ) (c : Ends) → (left ≡ 0 → ⊥) → Room c (length (of-length 16 left)) → Extending s left c c 0
+pub extending-start : (s : State) (left : ℕ) (c : Ends) → (left ≡ 0 → ⊥) → CountRoom c (length (of-length 16 left)) → Extending s left c c 0
 extending-start s left c f r = record {
   low = omega arith;
   more = pos-of-ne-zero f;
-  room = subst (λ (hs : List (List ℕ)). Room c (length hs)) (longer left f) r;
-  same = ap (λ (hs : List (List ℕ)). plus c (counts (sizes-in s) hs)) (longer left f);
+  room = subst (λ (hs : List (List ℕ)). CountRoom c (length hs)) (longer left f) r;
+  same = ap (λ (hs : List (List ℕ)). plus c (count-ends (sizes-in s) hs)) (longer left f);
 }
 
 module _ (s : State) (left : ℕ) (c sum : Ends) (i : ℕ) (v : Extending s left c sum i) (h : i < 16) where
-  pub extending-room : Room sum (length (of-length 16 (left - 1)))
-  extending-room = room-first sum _ (length (to-come (i + 1) (left - 1))) (subst (Room sum) (come-length i (left - 1) h) (v .room))
+  pub extending-room : CountRoom sum (length (of-length 16 (left - 1)))
+  extending-room = room-first sum _ (length (to-come (i + 1) (left - 1))) (subst (CountRoom sum) (come-length i (left - 1) h) (v .room))
 
-  pub extending-next : (next : State) (r : Ends) → next ≡ played i s → r ≡ plus sum (counts (sizes-in next) (of-length 16 (left - 1))) → Extending s left c r (i + 1)
+  pub extending-next : (next : State) (r : Ends) → next ≡ played i s → r ≡ plus sum (count-ends (sizes-in next) (of-length 16 (left - 1))) → Extending s left c r (i + 1)
   extending-next next r e q =
       let n = left - 1 in
       let hs = of-length 16 n in
       let rest = to-come (i + 1) n in
-      let here : r ≡ plus sum (counts (sizes-in (played i s)) hs) = q ∙ ap (λ (x : State). plus sum (counts (sizes-in x) hs)) e in
-      let split-off : counts (sizes-in s) (to-come i n) ≡ plus (counts (sizes-in (played i s)) hs) (counts (sizes-in s) rest) =
-      ap (counts (sizes-in s)) (come-next i n h) ∙ (counts-append (sizes-in s) (map (λ h. i ∷ h) hs) rest ∙ ap (λ (x : Ends). plus x (counts (sizes-in s) rest)) (counts-behind s i hs)) in
+      let here : r ≡ plus sum (count-ends (sizes-in (played i s)) hs) = q ∙ ap (λ (x : State). plus sum (count-ends (sizes-in x) hs)) e in
+      let split-off : count-ends (sizes-in s) (to-come i n) ≡ plus (count-ends (sizes-in (played i s)) hs) (count-ends (sizes-in s) rest) =
+      ap (count-ends (sizes-in s)) (come-next i n h) ∙ (counts-append (sizes-in s) (map (λ h. i ∷ h) hs) rest ∙ ap (λ (x : Ends). plus x (count-ends (sizes-in s) rest)) (counts-behind s i hs)) in
       record {
         low = omega arith;
         more = v .more;
-        room = subst (λ (x : Ends). Room x (length rest)) (sym here) (room-less (sizes-in (played i s)) hs (length rest) sum (subst (Room sum) (come-length i n h) (v .room)));
-        same = v .same ∙ (ap (plus sum) split-off ∙ (sym (plus-assoc sum _ _) ∙ ap (λ (x : Ends). plus x (counts (sizes-in s) rest)) (sym here)));
+        room = subst (λ (x : Ends). CountRoom x (length rest)) (sym here) (room-less (sizes-in (played i s)) hs (length rest) sum (subst (CountRoom sum) (come-length i n h) (v .room)));
+        same = v .same ∙ (ap (plus sum) split-off ∙ (sym (plus-assoc sum _ _) ∙ ap (λ (x : Ends). plus x (count-ends (sizes-in s) rest)) (sym here)));
       }
 
-pub extending-end : (s : State) (left : ℕ) (c sum : Ends) (i : ℕ) → Extending s left c sum i → 16 ≤ i → sum ≡ plus c (counts (sizes-in s) (of-length 16 left))
+pub extending-end : (s : State) (left : ℕ) (c sum : Ends) (i : ℕ) → Extending s left c sum i → 16 ≤ i → sum ≡ plus c (count-ends (sizes-in s) (of-length 16 left))
 unfolding each places
 extending-end s left c sum i v h =
     let none : 16 - i ≡ 0 = omega arith in
     let gone : to-come i (left - 1) ≡ [] = ap (λ (m : ℕ). each (places i m) (of-length 16 (left - 1))) none in
-    sym (v .same ∙ (ap (λ (hs : List (List ℕ)). plus sum (counts (sizes-in s) hs)) gone ∙ plus-none (sizes-in s) sum))
+    sym (v .same ∙ (ap (λ (hs : List (List ℕ)). plus sum (count-ends (sizes-in s) hs)) gone ∙ plus-none (sizes-in s) sum))
 
 -- the length is spent
-pub spent-room : (left : ℕ) (c : Ends) → left ≡ 0 → Room c (length (of-length 16 left)) → Room c 1
+pub spent-room : (left : ℕ) (c : Ends) → left ≡ 0 → CountRoom c (length (of-length 16 left)) → CountRoom c 1
 unfolding of-length
-spent-room left c e r = subst (λ (n : ℕ). Room c (length (of-length 16 n))) e r
+spent-room left c e r = subst (λ (n : ℕ). CountRoom c (length (of-length 16 n))) e r
 
-pub spent : (s : State) (left : ℕ) (c r : Ends) → left ≡ 0 → r ≡ plus c (counts (sizes-in s) ([] ∷ [])) → r ≡ plus c (counts (sizes-in s) (of-length 16 left))
+pub spent : (s : State) (left : ℕ) (c r : Ends) → left ≡ 0 → r ≡ plus c (count-ends (sizes-in s) ([] ∷ [])) → r ≡ plus c (count-ends (sizes-in s) (of-length 16 left))
 unfolding of-length
-spent s left c r e q = q ∙ ap (λ (n : ℕ). plus c (counts (sizes-in s) (of-length 16 n))) (sym e)
+spent s left c r e q = q ∙ ap (λ (n : ℕ). plus c (count-ends (sizes-in s) (of-length 16 n))) (sym e)
 
 -- the remaining length falls
 pub deeper : (left t : ℕ) → left ≡ t → 0 < left → left - 1 < t
@@ -185,35 +185,35 @@ few n h = omega (arith, rising-length n (4 - n), ap (λ (k : ℕ). length (up-to
 pub record Counting (s : State) (sum : Ends) (n : ℕ) : Type 0 where
   pub begun : s ≡ first-state
   pub low : n ≤ 5
-  pub same : sum ≡ counts (sizes-in s) (shorter n)
+  pub same : sum ≡ count-ends (sizes-in s) (shorter n)
 
 pub counting-start : (s : State) → s ≡ first-state → Counting s (record { neither = 0; passive = 0; active = 0; both = 0 }) 0
-unfolding counts how-many
+unfolding count-ends how-many
 counting-start s e = record { begun = e; low = omega arith; same = refl }
 
 module _ (s : State) (sum : Ends) (n : ℕ) (v : Counting s sum n) (h : n < 5) where
-  pub counting-room : Room sum (length (of-length 16 n))
-  unfolding counts
+  pub counting-room : CountRoom sum (length (of-length 16 n))
+  unfolding count-ends
   counting-room =
       let z = sizes-in s in
       let all = ap length (shorter-next n) ∙ length-append (shorter n) (of-length 16 n) in
       let most = few n (omega arith) in
-      subst (λ (c : Ends). Room c (length (of-length 16 n))) (sym (v .same)) (record {
+      subst (λ (c : Ends). CountRoom c (length (of-length 16 n))) (sym (v .same)) (record {
         neither = omega (arith, many-le z 0 0 (shorter n), all, most);
         passive = omega (arith, many-le z 0 1 (shorter n), all, most);
         active = omega (arith, many-le z 1 0 (shorter n), all, most);
         both = omega (arith, many-le z 1 1 (shorter n), all, most);
       })
 
-  pub counting-next : (r : Ends) → r ≡ plus sum (counts (sizes-in s) (of-length 16 n)) → Counting s r (n + 1)
+  pub counting-next : (r : Ends) → r ≡ plus sum (count-ends (sizes-in s) (of-length 16 n)) → Counting s r (n + 1)
   counting-next r q =
       let one-more : suc n ≡ n + 1 = omega arith in
       record {
         begun = v .begun;
         low = omega arith;
-        same = q ∙ (ap (λ (c : Ends). plus c (counts (sizes-in s) (of-length 16 n))) (v .same)
-            ∙ (sym (counts-append (sizes-in s) (shorter n) (of-length 16 n)) ∙ ap (counts (sizes-in s)) (sym (shorter-next n) ∙ ap shorter one-more)));
+        same = q ∙ (ap (λ (c : Ends). plus c (count-ends (sizes-in s) (of-length 16 n))) (v .same)
+            ∙ (sym (counts-append (sizes-in s) (shorter n) (of-length 16 n)) ∙ ap (count-ends (sizes-in s)) (sym (shorter-next n) ∙ ap shorter one-more)));
       }
 
-pub counting-end : (s : State) (sum : Ends) (n : ℕ) → Counting s sum n → 5 ≤ n → sum ≡ counts (sizes-in s) (up-to 16 4)
-counting-end s sum n v h = v .same ∙ ap (λ (k : ℕ). counts (sizes-in s) (shorter k)) (let e : n ≡ 5 = omega (arith, v .low) in e)
+pub counting-end : (s : State) (sum : Ends) (n : ℕ) → Counting s sum n → 5 ≤ n → sum ≡ count-ends (sizes-in s) (up-to 16 4)
+counting-end s sum n v h = v .same ∙ ap (λ (k : ℕ). count-ends (sizes-in s) (shorter k)) (let e : n ≡ 5 = omega (arith, v .low) in e)

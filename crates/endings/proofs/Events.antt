@@ -29,14 +29,14 @@ use Rattle.hyparview.specs.declared.Made.{Made}
 use Rattle.hyparview.specs.declared.Answer.{Answer}
 use Rattle.hyparview.specs.Handled.{Outcome}
 use Rattle.demand.specs.Program.{outcome, made-state}
-use Rattle.endings.specs.Events.{no-data, event, of-peer, maintenance, quit, events, event-at, tiny, draws, output}
+use Rattle.endings.specs.Events.{no-data-node, event, of-peer, maintenance, quit, events, event-at, tiny, draws, output}
 use Rattle.endings.specs.Steps.{first-state, played}
 
 -- ---- the writers
 
 pub wrote-one : (m f p : ℕ) (d : PeerData) (out : List ℕ) (r : Written) (o : List ℕ) → HoldsData d none
     → Wrote (rec-in (record { kind = 0; message = m; flags = f; peer = p; second = 0; ttl = 0; number = 0 }) (node-in (record { id = 0; «data» = d }) ∷ [])) 0 out r o
-    → Wrote (event 0 m f p no-data) 0 out r o
+    → Wrote (event 0 m f p no-data-node) 0 out r o
 unfolding rec-in node-in
 wrote-one m f p d out r o h w = subst (λ (x : Data). Wrote (event 0 m f p (record { id = 0; data-of = x } ∷ [])) 0 out r o) (h .holds) w
 
@@ -49,15 +49,15 @@ module _ (p i : ℕ) (out : List ℕ) (r : Written) (o : List ℕ) where
   unfolding of-peer
   at-0 h w = rw h w
 
-  pub at-1 : i ≡ 1 → Wrote (event 0 0 0 p no-data) 0 out r o → Wrote (getD (of-peer p) i quit) 0 out r o
+  pub at-1 : i ≡ 1 → Wrote (event 0 0 0 p no-data-node) 0 out r o → Wrote (getD (of-peer p) i quit) 0 out r o
   unfolding of-peer
   at-1 h w = rw h w
 
-  pub at-2 : i ≡ 2 → Wrote (event 0 4 1 p no-data) 0 out r o → Wrote (getD (of-peer p) i quit) 0 out r o
+  pub at-2 : i ≡ 2 → Wrote (event 0 4 1 p no-data-node) 0 out r o → Wrote (getD (of-peer p) i quit) 0 out r o
   unfolding of-peer
   at-2 h w = rw h w
 
-  pub at-3 : i ≡ 3 → Wrote (event 0 4 0 p no-data) 0 out r o → Wrote (getD (of-peer p) i quit) 0 out r o
+  pub at-3 : i ≡ 3 → Wrote (event 0 4 0 p no-data-node) 0 out r o → Wrote (getD (of-peer p) i quit) 0 out r o
   unfolding of-peer
   at-3 h w = rw h w
 

@@ -33,8 +33,8 @@ use Rattle.hyparview.specs.declared.State.{State}
 use Rattle.demand.specs.Program.{Typed, made, program, made-state}
 use Rattle.demand.proofs.Program.{states-same}
 use Rattle.endings.specs.declared.Ends.{Ends}
-use Rattle.endings.specs.Events.{of-peer, quit, events, event-at, tiny, first, draws, output, after}
-use Rattle.endings.specs.Ends.{Sizes, how-many, counts, sizes-after, all-histories, all-ends, total}
+use Rattle.endings.specs.Events.{of-peer, quit, events, event-at, tiny, first, draws, output, after-history}
+use Rattle.endings.specs.Ends.{Sizes, how-many, count-ends, sizes-after, all-histories, all-ends, total-ends}
 use Rattle.endings.specs.Steps.{first-state, played, after-in, sizes-in}
 use Rattle.endings.proofs.Events.{passes-at}
 use Rattle.endings.proofs.Counts.{Counting, counting-end}
@@ -53,8 +53,8 @@ unfolding after-in played state-after call
 program-follows [] s = refl
 program-follows (e ∷ h) s = program-follows h (played e s)
 
-definition-follows : (h : List ℕ) (g : Station) → after h g ≡ state-after definition (map call h) g
-unfolding after state-after call
+definition-follows : (h : List ℕ) (g : Station) → after-history h g ≡ state-after definition (map call h) g
+unfolding after-history state-after call
 definition-follows [] g = refl
 definition-follows (e ∷ h) g = definition-follows h (answered (encode (event-at e)) draws output g .state)
 
@@ -86,10 +86,10 @@ holds : (h : List ℕ) → Demand3 definition (λ s. s) station-ok 1 tiny first 
 unfolding first
 holds h = demand-3 1 none tiny narrow taken (map call h)
 
-ok-after : (h : List ℕ) → station-ok (after h first) ≡ true
+ok-after : (h : List ℕ) → station-ok (after-history h first) ≡ true
 ok-after h = subst (λ (g : Station). station-ok g ≡ true) (sym (definition-follows h first)) (holds h .rules-hold)
 
-packed-after : (h : List ℕ) → after-in h first-state .words ≡ pack (after h first)
+packed-after : (h : List ℕ) → after-in h first-state .words ≡ pack (after-history h first)
 unfolding first lent choose
 packed-after h =
     program-follows h first-state
@@ -109,8 +109,8 @@ same-sizes : (h : List ℕ) → sizes-in first-state h ≡ sizes-after first h
 unfolding sizes-in sizes-after
 same-sizes h =
     let t = ok-after h in
-    let a : length (neighbors-in (after-in h first-state .words)) ≡ length (after h first .active) = ap (λ (xs : List ℕ). length (neighbors-in xs)) (packed-after h) ∙ ap length (neighbors-packed (after h first) t) in
-    let p : spare-addresses-in (after-in h first-state .words) ≡ length (after h first .passive) = ap spare-addresses-in (packed-after h) ∙ spare-packed (after h first) t in
+    let a : length (neighbors-in (after-in h first-state .words)) ≡ length (after-history h first .active) = ap (λ (xs : List ℕ). length (neighbors-in xs)) (packed-after h) ∙ ap length (neighbors-packed (after-history h first) t) in
+    let p : spare-addresses-in (after-in h first-state .words) ≡ length (after-history h first .passive) = ap spare-addresses-in (packed-after h) ∙ spare-packed (after-history h first) t in
     λ i. (a i, p i)
 
 many-same : (y z : Sizes) → ((h : List ℕ) → y h ≡ z h) → (a p : ℕ) (hs : List (List ℕ)) → how-many y a p hs ≡ how-many z a p hs
@@ -119,9 +119,9 @@ many-same y z e a p [] = refl
 many-same y z e a p (h ∷ hs) = λ i. choose (eqb (e h i .0) a && eqb (e h i .1) p) 1 0 + many-same y z e a p hs i
 
 pub counted-all : (s : State) (sum : Ends) (n : ℕ) → Counting s sum n → 5 ≤ n → sum ≡ all-ends
-unfolding all-ends all-histories counts
+unfolding all-ends all-histories count-ends
 counted-all s sum n v l =
-    counting-end s sum n v l ∙ (ap (λ (x : State). counts (sizes-in x) (up-to 16 4)) (v .begun)
+    counting-end s sum n v l ∙ (ap (λ (x : State). count-ends (sizes-in x) (up-to 16 4)) (v .begun)
     ∙ (λ i. record {
       neither = many-same (sizes-in first-state) (sizes-after first) same-sizes 0 0 (up-to 16 4) i;
       passive = many-same (sizes-in first-state) (sizes-after first) same-sizes 0 1 (up-to 16 4) i;
@@ -132,7 +132,7 @@ counted-all s sum n v l =
 -- ---- no end outside the four
 
 -- after any history each view has at most one peer
-pub few-peers : (h : List ℕ) → (length (after h first .active) ≤ 1) × (length (after h first .passive) ≤ 1)
+pub few-peers : (h : List ℕ) → (length (after-history h first .active) ≤ 1) × (length (after-history h first .passive) ≤ 1)
 unfolding tiny
 few-peers h =
     let v = holds h .views in
@@ -150,14 +150,14 @@ four-ways zero (suc (suc p)) l m = absurd (omega (arith, m))
 four-ways (suc zero) (suc (suc p)) l m = absurd (omega (arith, m))
 four-ways (suc (suc a)) p l m = absurd (omega (arith, l))
 
-each-once : (hs : List (List ℕ)) → total (counts (sizes-after first) hs) ≡ length hs
-unfolding total counts how-many sizes-after
+each-once : (hs : List (List ℕ)) → total-ends (count-ends (sizes-after first) hs) ≡ length hs
+unfolding total-ends count-ends how-many sizes-after
 each-once [] = refl
 each-once (h ∷ hs) =
     let few = few-peers h in
-    omega (arith, four-ways (length (after h first .active)) (length (after h first .passive)) (few .0) (few .1), each-once hs)
+    omega (arith, four-ways (length (after-history h first .active)) (length (after-history h first .passive)) (few .0) (few .1), each-once hs)
 
 -- the four counts together are all histories, so none ends otherwise
-pub none-else : total all-ends ≡ 69905
+pub none-else : total-ends all-ends ≡ 69905
 unfolding all-ends all-histories
 none-else = each-once (up-to 16 4) ∙ histories-in-all

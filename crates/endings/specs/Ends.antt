@@ -9,7 +9,7 @@ use Rattle.lists.specs.Lists.{choose}
 use Rattle.histories.specs.Histories.{up-to}
 use Rattle.protocol.specs.Station.{Station}
 use Rattle.endings.specs.declared.Ends.{Ends}
-use Rattle.endings.specs.Events.{first, after}
+use Rattle.endings.specs.Events.{first, after-history}
 
 -- the sizes of the active and of the passive view at the end of a history
 abbrev pub Sizes : Type 0
@@ -20,12 +20,12 @@ unfoldable pub how-many : Sizes → ℕ → ℕ → List (List ℕ) → ℕ
 how-many z a p [] = 0
 how-many z a p (h ∷ hs) = choose (eqb (z h .0) a && eqb (z h .1) p) 1 0 + how-many z a p hs
 
-unfoldable pub counts : Sizes → List (List ℕ) → Ends
-counts z hs = record { neither = how-many z 0 0 hs; passive = how-many z 0 1 hs; active = how-many z 1 0 hs; both = how-many z 1 1 hs }
+unfoldable pub count-ends : Sizes → List (List ℕ) → Ends
+count-ends z hs = record { neither = how-many z 0 0 hs; passive = how-many z 0 1 hs; active = how-many z 1 0 hs; both = how-many z 1 1 hs }
 
 -- the definition's sizes, from the station g on
 unfoldable pub sizes-after : Station → Sizes
-sizes-after g h = (length (after h g .active), length (after h g .passive))
+sizes-after g h = (length (after-history h g .active), length (after-history h g .passive))
 
 -- all histories of at most four of the sixteen events
 unfoldable pub all-histories : List (List ℕ)
@@ -33,8 +33,8 @@ all-histories = up-to 16 4
 
 -- what the program prints
 unfoldable pub all-ends : Ends
-all-ends = counts (sizes-after first) all-histories
+all-ends = count-ends (sizes-after first) all-histories
 
 -- how many histories were counted
-unfoldable pub total : Ends → ℕ
-total c = c .neither + (c .passive + (c .active + c .both))
+unfoldable pub total-ends : Ends → ℕ
+total-ends c = c .neither + (c .passive + (c .active + c .both))

@@ -13,8 +13,8 @@ use Rattle.protocol.specs.Handle.{new}
 use Rattle.history.specs.Calls.{answered}
 
 -- "no data": the one node of Join and Neighbor
-abbrev pub no-data : List Node
-no-data = record { id = 0; data-of = none } ∷ []
+abbrev pub no-data-node : List Node
+no-data-node = record { id = 0; data-of = none } ∷ []
 
 -- a record of a kind, a message, flags, a peer and nodes
 abbrev pub event : ℕ → ℕ → ℕ → ℕ → List Node → Rec
@@ -23,7 +23,7 @@ event k m f p ns = record { kind = k; message = m; flags = f; peer = p; second =
 -- "all seven for peer ..: RequestJoin, Join, Neighbor High, Neighbor Low, Disconnect alive, Disconnect not alive, disconnection"
 unfoldable pub of-peer : ℕ → List Rec
 of-peer p =
-    event 6 0 0 p [] ∷ event 0 0 0 p no-data ∷ event 0 4 1 p no-data ∷ event 0 4 0 p no-data ∷ event 0 5 1 p [] ∷ event 0 5 0 p [] ∷ event 5 0 0 p [] ∷ []
+    event 6 0 0 p [] ∷ event 0 0 0 p no-data-node ∷ event 0 4 1 p no-data-node ∷ event 0 4 0 p no-data-node ∷ event 0 5 1 p [] ∷ event 0 5 0 p [] ∷ event 5 0 0 p [] ∷ []
 
 -- "then maintenance and Quit"
 abbrev pub maintenance : Rec
@@ -66,6 +66,6 @@ unfoldable pub output : List ℕ
 output = replicate 8192 0
 
 -- the state after a history, by the definition
-unfoldable pub after : List ℕ → Station → Station
-after [] g = g
-after (e ∷ es) g = after es (answered (encode (event-at e)) draws output g .state)
+unfoldable pub after-history : List ℕ → Station → Station
+after-history [] g = g
+after-history (e ∷ es) g = after-history es (answered (encode (event-at e)) draws output g .state)

@@ -33,7 +33,7 @@ unfoldable pub plus : Ends → Ends → Ends
 plus c d = record { neither = c .neither + d .neither; passive = c .passive + d .passive; active = c .active + d .active; both = c .both + d .both }
 
 -- n more histories can be counted in 32 bits
-pub record Room (c : Ends) (n : ℕ) : Type 0 where
+pub record CountRoom (c : Ends) (n : ℕ) : Type 0 where
   pub neither : c .neither + n ≤ 4294967295
   pub passive : c .passive + n ≤ 4294967295
   pub active : c .active + n ≤ 4294967295

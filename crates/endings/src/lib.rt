@@ -18,9 +18,9 @@ ghost use Rattle.lists.specs.Lists.{choose};
 ghost use Rattle.histories.specs.Histories.{of-length};
 ghost use Rattle.record.specs.Format.{encode};
 ghost use Rattle.writer.specs.Write.{Wrote};
-ghost use Rattle.endings.specs.Events.{no-data, event, of-peer, quit, event-at};
-ghost use Rattle.endings.specs.Ends.{counts, all-ends};
-ghost use Rattle.endings.specs.Steps.{first-state, played, sizes-in, plus, Room};
+ghost use Rattle.endings.specs.Events.{no-data-node, event, of-peer, quit, event-at};
+ghost use Rattle.endings.specs.Ends.{count-ends, all-ends};
+ghost use Rattle.endings.specs.Steps.{first-state, played, sizes-in, plus, CountRoom};
 
 // How many histories end so: with no peer in a view, with one in the passive view alone, in the active view alone, in both.
 pub struct Ends {
@@ -48,7 +48,7 @@ fn put_bare(out: &mut [u8], kind: u8, message: u8, flags: u8, p: PeerId) -> Writ
 
 // A message of a peer with one node, without data.
 fn put_one(out: &mut [u8], message: u8, flags: u8, p: PeerId) -> Written
-    ensures { λ r. ⌜ Wrote (event 0 message flags p no-data) 0 (now (out .entry)) r (now (out .exit)) ⌝ }
+    ensures { λ r. ⌜ Wrote (event 0 message flags p no-data-node) 0 (now (out .entry)) r (now (out .exit)) ⌝ }
 {
     let f = Fields {
         kind: Kind::MESSAGE,
@@ -152,8 +152,8 @@ fn one_if(test: bool) -> u32
 
 // One more history, which ended in s.
 fn count(s: State, c: Ends) -> Ends
-    requires { ⌜ Room c 1 ⌝ }
-    ensures { λ r. ⌜ r ≡ plus c (counts (sizes-in s) ([] ∷ [])) ⌝ }
+    requires { ⌜ CountRoom c 1 ⌝ }
+    ensures { λ r. ⌜ r ≡ plus c (count-ends (sizes-in s) ([] ∷ [])) ⌝ }
 {
     let words = s.words;
     let active = hyparview::neighbor_count(&words);
@@ -168,8 +168,8 @@ fn count(s: State, c: Ends) -> Ends
 
 // Every history that goes on from s with `left` more events, by the order of events.
 fn extend(s: State, left: usize, c: Ends) -> Ends
-    requires { ⌜ Room c (length (of-length 16 left)) ⌝ }
-    ensures { λ r. ⌜ r ≡ plus c (counts (sizes-in s) (of-length 16 left)) ⌝ }
+    requires { ⌜ CountRoom c (length (of-length 16 left)) ⌝ }
+    ensures { λ r. ⌜ r ≡ plus c (count-ends (sizes-in s) (of-length 16 left)) ⌝ }
 {
     if left == 0 {
         return count(s, c);

@@ -17,7 +17,7 @@ use Rattle.record.proofs.Walk.{records-written, records-zeros}
 use Rattle.protocol.specs.Station.{peers-end}
 use Rattle.protocol.specs.Written.{encode-all}
 use Rattle.protocol.proofs.Told.{spell, note, up-after, sent-after, Sound, AllSound, no-more, one-more}
-use Rattle.history.specs.Ledger.{Ledger, count-message, note-up, note-down, enter, read-records}
+use Rattle.history.specs.Ledger.{Ledger, count-message, note-up, note-down, note-record, read-records}
 
 -- the ledger after the records of a run, of which the newest stands first
 unfoldable pub booked : List Rec → Ledger → Ledger
@@ -33,8 +33,8 @@ by-kinds false true c p l f g = refl
 by-kinds false false true p l f g = refl
 by-kinds false false false p l f g = refl
 
-enter-booked : (e : Rec) (o : List Rec) (l : Ledger) → enter (e .kind) (e .peer) (booked o l) ≡ booked (e ∷ o) l
-unfolding enter booked up-after sent-after note
+enter-booked : (e : Rec) (o : List Rec) (l : Ledger) → note-record (e .kind) (e .peer) (booked o l) ≡ booked (e ∷ o) l
+unfolding note-record booked up-after sent-after note
 enter-booked e o l =
     by-kinds (eqb (e .kind) 0) (eqb (e .kind) 9) (eqb (e .kind) 10) (e .peer) (booked o l) (other 9 (λ z. omega arith)) (other 10 (λ z. omega arith))
   where
@@ -42,8 +42,8 @@ enter-booked e o l =
     other n d z = ne-eqb (e .kind) n (λ w. d (sym (eqb-true (e .kind) 0 z) ∙ w))
 
 -- the peer counts only in notices
-enter-same : (k p q : ℕ) (l : Ledger) → (9 ≤ k → k ≤ 10 → p ≡ q) → enter k p l ≡ enter k q l
-unfolding enter
+enter-same : (k p q : ℕ) (l : Ledger) → (9 ≤ k → k ≤ 10 → p ≡ q) → note-record k p l ≡ note-record k q l
+unfolding note-record
 enter-same k p q l h =
     split (eqb k 9)
     (λ e. let z : p ≡ q = h (omega (arith, eqb-true k 9 e)) (omega (arith, eqb-true k 9 e)) in rw z)
@@ -64,22 +64,22 @@ module _ (e : Rec) (rest : List ℕ) (s : Sound e) where
   unfolding kind-in encode-by header-by
   kind-is = refl
 
-  entered : (l : Ledger) → enter (kind-in (encode e ++ rest)) (peer-in (encode e ++ rest)) l ≡ enter (e .kind) (e .peer) l
+  entered : (l : Ledger) → note-record (kind-in (encode e ++ rest)) (peer-in (encode e ++ rest)) l ≡ note-record (e .kind) (e .peer) l
   entered l = rw kind-is (enter-same (e .kind) (peer-in (encode e ++ rest)) (e .peer) l (λ a b. peer-is (s .narrow a b)))
 
 -- by an output's records
-by-records : (out : List ℕ) (bs : List (List ℕ)) (l : Ledger) → records-in out ≡ bs → read-records out l ≡ walk (λ b. enter (kind-in b) (peer-in b)) bs l
+by-records : (out : List ℕ) (bs : List (List ℕ)) (l : Ledger) → records-in out ≡ bs → read-records out l ≡ walk (λ b. note-record (kind-in b) (peer-in b)) bs l
 unfolding read-records
-by-records out bs l e = ap (λ (x : List (List ℕ)). walk (λ b. enter (kind-in b) (peer-in b)) x l) e
+by-records out bs l e = ap (λ (x : List (List ℕ)). walk (λ b. note-record (kind-in b) (peer-in b)) x l) e
 
-one-read : (e : Rec) (rest : List ℕ) (l : Ledger) → Sound e → read-records (encode e ++ rest) l ≡ read-records rest (enter (e .kind) (e .peer) l)
+one-read : (e : Rec) (rest : List ℕ) (l : Ledger) → Sound e → read-records (encode e ++ rest) l ≡ read-records rest (note-record (e .kind) (e .peer) l)
 unfolding read-records walk
 one-read e rest l s = by-records (encode e ++ rest) _ l (records-written e rest (s .small)) ∙ ap (read-records rest) (entered e rest s l)
 
 -- the ledger after records, the oldest first
 unfoldable enter-all : List Rec → Ledger → Ledger
 enter-all [] l = l
-enter-all (e ∷ es) l = enter-all es (enter (e .kind) (e .peer) l)
+enter-all (e ∷ es) l = enter-all es (note-record (e .kind) (e .peer) l)
 
 all-read : (es : List Rec) (zeros : ℕ) (l : Ledger) → AllSound es → read-records (encode-all es ++ replicate zeros 0) l ≡ enter-all es l
 unfolding encode-all enter-all walk

@@ -34,7 +34,7 @@ use Rattle.protocol.proofs.Tested.{ranges-of, data-true, own-held, distinct-yes
 use Rattle.protocol.proofs.Written.{formed-event}
 use Rattle.protocol.proofs.Uncrowded.{never-eight}
 use Rattle.history.specs.Ledger.{Ledger, empty-ledger, message-number, number-of, open-event, feed}
-use Rattle.history.specs.Calls.{Call, Given, answer, answered, state-after, codes, ledger-after, definition}
+use Rattle.history.specs.Calls.{Call, Given, result-of, answered, state-after, codes, ledger-after, definition}
 use Rattle.history.specs.Demand.{Views, Booked, Demand3, Demand3-holds}
 use Rattle.history.specs.Refusals.{Never-eight}
 use Rattle.history.proofs.Heard.{booked, heard}
@@ -111,7 +111,7 @@ module _ {c : Config} {me : ℕ} {l : Ledger} {s : Station} (h : Kept c me l s) 
       (λ z. rw z (fine-refusal (r .code) (r .room) (let ne : r .code ≡ 0 → ⊥ = eqb-false (r .code) 0 z in omega (arith, k .codes .low (omega (arith, ne))))))
 
 module _ {c : Config} {me : ℕ} (ranges : in-range c ≡ true) where
-  pub fine-answer : {l : Ledger} {s : Station} (v : Call) → Kept c me l s → Fine c me (v .event) l (answer v s)
+  pub fine-answer : {l : Ledger} {s : Station} (v : Call) → Kept c me l s → Fine c me (v .event) l (result-of v s)
   unfolding answered handle handle-reading
   fine-answer {l} {s} v h =
       let room = length (v .output) in
@@ -128,14 +128,14 @@ module _ {c : Config} {me : ℕ} (ranges : in-range c ≡ true) where
   unfolding codes count
   none-two [] h = refl
   none-two (v ∷ vs) {s = s} h =
-      omega (arith, is-not 2 (answer v s .code) (ne-eqb 2 (answer v s .code) (λ e. fine-answer v h .not-two (sym e))), none-two vs (fine-answer v h .kept))
+      omega (arith, is-not 2 (result-of v s .code) (ne-eqb 2 (result-of v s .code) (λ e. fine-answer v h .not-two (sym e))), none-two vs (fine-answer v h .kept))
 
   pub none-eight : (vs : List Call) {l : Ledger} {s : Station} → Kept c me l s → count 8 (codes definition vs s) ≡ 0
   unfolding codes answered count
   none-eight [] h = refl
   none-eight (v ∷ vs) {s = s} h =
       let n = never-eight s (rules-of s ranges h) (v .draws) (length (v .output)) (v .event) (v .are-bytes) in
-      omega (arith, is-not 8 (answer v s .code) (ne-eqb 8 (answer v s .code) (λ e. n (sym e))), none-eight vs (fine-answer v h .kept))
+      omega (arith, is-not 8 (result-of v s .code) (ne-eqb 8 (result-of v s .code) (λ e. n (sym e))), none-eight vs (fine-answer v h .kept))
 
 -- a new station
 pub kept-new : (me : ℕ) (d : Data) (c : Config) → Given me d → in-range c ≡ true → short-data d ≡ true → Kept c me empty-ledger (new-station me d c)

@@ -17,7 +17,7 @@ use Rattle.protocol.specs.Handle.{Made, new, new-station}
 use Rattle.lists.proofs.Members.{mem-no}
 use Rattle.protocol.proofs.Tested.{rules-of}
 use Rattle.history.specs.Ledger.{Ledger, empty-ledger, feed}
-use Rattle.history.specs.Calls.{Call, Given, narrow-draws, Machine, state-of, answer, state-after, codes, ledger-after, definition}
+use Rattle.history.specs.Calls.{Call, Given, narrow-draws, Machine, state-of, result-of, state-after, codes, ledger-after, definition}
 use Rattle.history.specs.Demand.{Views, Booked, Demand3}
 use Rattle.history.specs.Outputs.{ReadsBack, OutputsRead}
 use Rattle.history.specs.Packing.{Packs}
@@ -38,7 +38,7 @@ module _ {S : Type 0} {m : Machine S} {pack : Station → S} {station : S → St
     codes-follow [] h = refl
     codes-follow (v ∷ vs) {g = g} h =
         let t = rules-of g ranges h in
-        (λ i. k .code v g t i ∷ codes m vs (k .state v g t i)) ∙ ap (λ (cs : List ℕ). answer v g .code ∷ cs) (codes-follow vs (fine-answer ranges v h .kept))
+        (λ i. k .code v g t i ∷ codes m vs (k .state v g t i)) ∙ ap (λ (cs : List ℕ). result-of v g .code ∷ cs) (codes-follow vs (fine-answer ranges v h .kept))
 
     ledgers-follow : (a : ℕ) (vs : List Call) {l : Ledger} {g : Station} → Kept c me l g → (b : Ledger) → ledger-after m a vs (pack g) b ≡ ledger-after definition a vs g b
     unfolding ledger-after
@@ -52,7 +52,7 @@ module _ {S : Type 0} {m : Machine S} {pack : Station → S} {station : S → St
     ticks-follow [] h = refl
     ticks-follow (v ∷ vs) {g = g} h =
         let t = rules-of g ranges h in
-        let rest : ticks m station vs (state-of m v (pack g)) ≡ ticks definition (λ s. s) vs (answer v g .state) = ap (ticks m station vs) (k .state v g t) ∙ ticks-follow vs (fine-answer ranges v h .kept) in
+        let rest : ticks m station vs (state-of m v (pack g)) ≡ ticks definition (λ s. s) vs (result-of v g .state) = ap (ticks m station vs) (k .state v g t) ∙ ticks-follow vs (fine-answer ranges v h .kept) in
         (λ i. choose (eqb (kind-in (v .event)) 2 && eqb (k .code v g t i) 0) (record { met = k .stands g t i; output = k .output v g t i } ∷ rest i) (rest i))
 
     outputs-follow : (vs : List Call) {l : Ledger} {g : Station} → Kept c me l g → OutputsRead definition vs g → OutputsRead m vs (pack g)

@@ -21,7 +21,7 @@ use Rattle.protocol.proofs.Reading.{Readable, by-reading}
 use Rattle.protocol.proofs.Whole.{ok-steps}
 use Rattle.protocol.proofs.Tested.{rules-of}
 use Rattle.history.specs.Ledger.{Ledger, number-of}
-use Rattle.history.specs.Calls.{Call, answer, answered, definition}
+use Rattle.history.specs.Calls.{Call, result-of, answered, definition}
 use Rattle.history.specs.Rejoin.{Tick, is-tick, ticks, all-alone, joins-to, Rejoins, Some, here, later, Rejoin-promise}
 use Rattle.history.proofs.Kept.{Kept, pays, fine-answer, kept-new, accepted-new}
 use Rattle.history.proofs.Ticks.{Begins, tick-counts, tick-rejoins}
@@ -69,7 +69,7 @@ module _ {c : Config} {me : ℕ} {l : Ledger} {s : Station} (h : Kept c me l s) 
       })
       (λ z. passed-refusal b s (r .code) (r .room) (eqb-false (r .code) 0 z))
 
-passed : {c : Config} {me : ℕ} {l : Ledger} {s : Station} → in-range c ≡ true → Kept c me l s → (v : Call) → Passed (v .event) s (answer v s)
+passed : {c : Config} {me : ℕ} {l : Ledger} {s : Station} → in-range c ≡ true → Kept c me l s → (v : Call) → Passed (v .event) s (result-of v s)
 unfolding answered handle handle-reading
 passed {s = s} ranges h v =
     let room = length (v .output) in
@@ -96,9 +96,9 @@ module _ {c : Config} {me : ℕ} (ranges : in-range c ≡ true) where
   chained (v ∷ vs) {s = s} h =
       let p = passed ranges h v in
       let i = chained vs (fine-answer ranges v h .kept) in
-      by-choice (λ ts. Next (s .passes-alone) ts × Chained ts) (eqb (kind-in (v .event)) 2 && eqb (answer v s .code) 0)
-      (λ t. (refl, ((λ alone. subst (λ (n : ℕ). Next n (ticks definition (λ x. x) vs (answer v s .state))) (p .counts t alone) (i .0)), ((λ alone due. p .rejoins t alone due), i .1))))
-      (λ t. (subst (λ (n : ℕ). Next n (ticks definition (λ x. x) vs (answer v s .state))) (p .quiet t) (i .0), i .1))
+      by-choice (λ ts. Next (s .passes-alone) ts × Chained ts) (eqb (kind-in (v .event)) 2 && eqb (result-of v s .code) 0)
+      (λ t. (refl, ((λ alone. subst (λ (n : ℕ). Next n (ticks definition (λ x. x) vs (result-of v s .state))) (p .counts t alone) (i .0)), ((λ alone due. p .rejoins t alone due), i .1))))
+      (λ t. (subst (λ (n : ℕ). Next n (ticks definition (λ x. x) vs (result-of v s .state))) (p .quiet t) (i .0), i .1))
 
 drop-before : (before ts : List Tick) → Chained (before ++ ts) → Chained ts
 unfolding Chained

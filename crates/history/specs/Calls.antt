@@ -64,8 +64,8 @@ ledger-after m a (v ∷ vs) s l = ledger-after m a vs (state-of m v s) (feed a (
 unfoldable pub answered : List ℕ → List ℕ → List ℕ → Station → Answer
 answered b ds out s = handle s b ds (length out)
 
-abbrev pub answer : Call → Station → Answer
-answer v s = answered (v .event) (v .draws) (v .output) s
+abbrev pub result-of : Call → Station → Answer
+result-of v s = answered (v .event) (v .draws) (v .output) s
 
 -- the definition as a machine
 abbrev pub definition : Machine Station

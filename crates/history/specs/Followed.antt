@@ -10,10 +10,10 @@ use Rattle.record.specs.Walk.{kind-in, message-in, peer-in, whole-length, recor
 use Rattle.protocol.specs.Station.{Station}
 use Rattle.protocol.specs.Handle.{new}
 use Rattle.protocol.specs.Traced.{traced}
-use Rattle.history.specs.Ledger.{Ledger, empty-ledger, count-message, note-up, note-down, enter, read-records, message-number, number-of, open-event, feed}
-use Rattle.history.specs.Calls.{Call, answer, answered, state-after, codes, ledger-after, definition}
+use Rattle.history.specs.Ledger.{Ledger, empty-ledger, count-message, note-up, note-down, note-record, read-records, message-number, number-of, open-event, feed}
+use Rattle.history.specs.Calls.{Call, result-of, answered, state-after, codes, ledger-after, definition}
 
 -- the ledger and the state after a list of calls to a new station, which a proof that says `unfolding followed` can evaluate
 unfoldable pub followed : ℕ → Data → Config → List Call → Ledger × Station
-unfolding traced push-new default empty-ledger kind-in message-in peer-in whole-length records-from records-in walk count-message note-up note-down enter read-records message-number number-of open-event feed answered state-after codes ledger-after
+unfolding traced push-new default empty-ledger kind-in message-in peer-in whole-length records-from records-in walk count-message note-up note-down note-record read-records message-number number-of open-event feed answered state-after codes ledger-after
 followed me d c vs = (ledger-after definition (c .«active_view_capacity») vs (new me d c .state) empty-ledger, state-after definition vs (new me d c .state))

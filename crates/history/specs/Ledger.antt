@@ -29,12 +29,12 @@ unfoldable pub note-down : ℕ → Ledger → Ledger
 note-down p l = record { up = without p (l .up); sent = l .sent; allowance = l .allowance }
 
 -- one record of kind k, for peer p: "Other kinds change nothing."
-unfoldable pub enter : ℕ → ℕ → Ledger → Ledger
-enter k p l = choose (eqb k 0) (count-message l) (choose (eqb k 9) (note-up p l) (choose (eqb k 10) (note-down p l) l))
+unfoldable pub note-record : ℕ → ℕ → Ledger → Ledger
+note-record k p l = choose (eqb k 0) (count-message l) (choose (eqb k 9) (note-up p l) (choose (eqb k 10) (note-down p l) l))
 
 -- "Then the output's records are taken in order"
 unfoldable pub read-records : List ℕ → Ledger → Ledger
-read-records out l = walk (λ b. enter (kind-in b) (peer-in b)) (records-in out) l
+read-records out l = walk (λ b. note-record (kind-in b) (peer-in b)) (records-in out) l
 
 -- "(A + 2) for a Join received, 3 for a Neighbor received, .. 1 for any other" message
 unfoldable pub message-number : ℕ → ℕ → ℕ

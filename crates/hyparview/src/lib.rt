@@ -148,7 +148,7 @@ fn is_wanted(st: &[u64], p: PeerId) -> bool
     ensures { λ r. ⌜ r ≡ wants-connection p (unpack (now (st .entry))) ⌝ }
 {
     state::in_active(st, p)
-        | (columns::contains_number(&st[Layout::REQUESTS..Layout::REQUESTS_END], Layout::ALL, p)
+        | (columns::contains_number(&st[Layout::ASKED..Layout::ASKED_END], Layout::ALL, p)
             | columns::contains_number(&st[Layout::JOINS..Layout::JOINS_END], Layout::FEW, p))
 }
 
@@ -317,11 +317,11 @@ fn forget_declined(w: Work, st: &mut [u64]) -> Work
     columns::data_peers(
         &st[Layout::ACTIVE..Layout::ACTIVE_END],
         &st[Layout::PASSIVE..Layout::PASSIVE_END],
-        &st[Layout::REQUESTS..Layout::REQUESTS_END],
+        &st[Layout::ASKED..Layout::ASKED_END],
         &mut v,
     );
     columns::retain_data(
-        &mut st[Layout::DATA..Layout::DATA_END],
+        &mut st[Layout::HELD..Layout::HELD_END],
         Layout::DATA_CAP,
         &v,
         columns::KNOWN,

@@ -110,12 +110,9 @@ fn sections_valid(st: &[u64]) -> bool
 {
     util::is_section(&st[Layout::ACTIVE..Layout::ACTIVE_END], Layout::FEW)
         & (util::is_section(&st[Layout::PASSIVE..Layout::PASSIVE_END], Layout::ALL)
-            & (util::is_section(&st[Layout::ALIVE..Layout::ALIVE_END], Layout::ALL)
+            & (util::is_section(&st[Layout::MARKS..Layout::MARKS_END], Layout::ALL)
                 & (util::is_section(&st[Layout::REFUSED..Layout::REFUSED_END], Layout::ALL)
-                    & (columns::numbers_valid(
-                        &st[Layout::REQUESTS..Layout::REQUESTS_END],
-                        Layout::ALL,
-                    )
+                    & (columns::numbers_valid(&st[Layout::ASKED..Layout::ASKED_END], Layout::ALL)
                         & (util::is_section(
                             &st[Layout::BOOTSTRAP..Layout::BOOTSTRAP_END],
                             Layout::FEW,
@@ -129,7 +126,7 @@ fn sections_valid(st: &[u64]) -> bool
                                     Layout::FEW,
                                 )
                                     & columns::data_valid(
-                                        &st[Layout::DATA..Layout::DATA_END],
+                                        &st[Layout::HELD..Layout::HELD_END],
                                         Layout::DATA_CAP,
                                     ))))))))
 }
@@ -188,7 +185,7 @@ fn order_rule(st: &[u64]) -> bool
     requires { ⌜ packed-ok (now st) ≡ true ⌝ }
     ensures { λ r. ⌜ r ≡ order-rule (unpack (now (st .entry))) ⌝ }
 {
-    util::is_rising(&st[Layout::ALIVE..Layout::ALIVE_END], Layout::ALL)
+    util::is_rising(&st[Layout::MARKS..Layout::MARKS_END], Layout::ALL)
         & util::is_rising(&st[Layout::REFUSED..Layout::REFUSED_END], Layout::ALL)
 }
 
@@ -226,7 +223,7 @@ fn alive_rule(st: &[u64]) -> bool
     ensures { λ r. ⌜ r ≡ alive-rule (unpack (now (st .entry))) ⌝ }
 {
     util::is_subset(
-        &st[Layout::ALIVE..Layout::ALIVE_END],
+        &st[Layout::MARKS..Layout::MARKS_END],
         Layout::ALL,
         &st[Layout::PASSIVE..Layout::PASSIVE_END],
         Layout::ALL,
@@ -264,7 +261,7 @@ fn numbers_rule(st: &[u64]) -> bool
     let next_request = st[Layout::NEXT_NEIGHBOR_REQUEST];
     let next_join = st[Layout::NEXT_JOIN];
     numbers_under(
-        &st[Layout::REQUESTS..Layout::REQUESTS_END],
+        &st[Layout::ASKED..Layout::ASKED_END],
         Layout::ALL,
         next_request,
     )
@@ -282,7 +279,7 @@ fn self_rule(st: &[u64]) -> bool
     ensures { λ r. ⌜ r ≡ self-rule (unpack (now (st .entry))) ⌝ }
 {
     let me = st[Layout::ME];
-    !columns::contains_data(&st[Layout::DATA..Layout::DATA_END], Layout::DATA_CAP, me)
+    !columns::contains_data(&st[Layout::HELD..Layout::HELD_END], Layout::DATA_CAP, me)
 }
 
 // "`Requests` at most 3"; the requests are 0 in every other limit
@@ -325,11 +322,11 @@ fn held_rule(st: &[u64]) -> bool
     columns::data_peers(
         &st[Layout::ACTIVE..Layout::ACTIVE_END],
         &st[Layout::PASSIVE..Layout::PASSIVE_END],
-        &st[Layout::REQUESTS..Layout::REQUESTS_END],
+        &st[Layout::ASKED..Layout::ASKED_END],
         &mut v,
     );
     columns::data_within(
-        &st[Layout::DATA..Layout::DATA_END],
+        &st[Layout::HELD..Layout::HELD_END],
         Layout::DATA_CAP,
         &v,
         columns::KNOWN,

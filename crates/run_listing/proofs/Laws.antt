@@ -40,7 +40,7 @@ use Rattle.run_listing.specs.declared.Shown.{Shown}
 use Rattle.run_listing.specs.declared.Shown.the-variants.{Bytes, TooShort}
 use Rattle.run_listing.specs.Run.{outcome-text, events-text, laid-text, made-text, input-text, run-text}
 use Rattle.run_listing.specs.Place.{Steps, fitting, Answers}
-use Rattle.run_listing.specs.Opened.{first-place, opened-layout, opened-input, opened, opened-text, rest-text}
+use Rattle.run_listing.specs.Opened.{first-place, opened-layout, opened-input, opened-run, opened-text, rest-text}
 
 -- ---- one event
 
@@ -177,12 +177,12 @@ module _ (l : Layout) (m : Made) (own : List ℕ) (e : record { code = m .code; 
   begins-at = λ j. record { state = record { words = made-is j .words }; at = 0; used = 0 }
 
 module _ (b : List ℕ) (x : Input) (e : x ≡ input-of b) where
-  pub open-refused : x ≡ Refused → Line 3 ≡ opened b
-  unfolding opened opened-input
+  pub open-refused : x ≡ Refused → Line 3 ≡ opened-run b
+  unfolding opened-run opened-input
   open-refused h = ap opened-input (sym h ∙ e)
 
-  pub open-whole : (l : Layout) (r : Opened) → x ≡ Whole l → r ≡ opened-layout l → r ≡ opened b
-  unfolding opened opened-input
+  pub open-whole : (l : Layout) (r : Opened) → x ≡ Whole l → r ≡ opened-layout l → r ≡ opened-run b
+  unfolding opened-run opened-input
   open-whole l r h k = k ∙ ap opened-input (sym h ∙ e)
 
 layout-text : (l : Layout) (b : List ℕ) → made-text (pack-made (new (l .me) none (l .config))) l b ≡ opened-text (opened-layout l) b
@@ -198,11 +198,11 @@ input-opened Refused b = refl
 input-opened (Whole l) b = layout-text l b
 
 -- the text of a run is what is printed after the decision
-pub text-opened : (b : List ℕ) → run-text b ≡ opened-text (opened b) b
-unfolding run-text opened
+pub text-opened : (b : List ℕ) → run-text b ≡ opened-text (opened-run b) b
+unfolding run-text opened-run
 text-opened b = input-opened (input-of b) b
 
-module _ (b : List ℕ) (o : Opened) (e : o ≡ opened b) where
+module _ (b : List ℕ) (o : Opened) (e : o ≡ opened-run b) where
   text-is : run-text b ≡ opened-text o b
   text-is = text-opened b ∙ ap (λ (x : Opened). opened-text x b) (sym e)
 
@@ -238,8 +238,8 @@ whole-input Refused l e = line-not 3 l e
 whole-input (Whole m) l e = ap Whole (whole-layout m l e)
 
 -- an input with events has them in their places
-pub opened-laid : (b : List ℕ) (o : Opened) (l : Layout) → o ≡ opened b → o ≡ Events l → Laid b l
-unfolding opened
+pub opened-laid : (b : List ℕ) (o : Opened) (l : Layout) → o ≡ opened-run b → o ≡ Events l → Laid b l
+unfolding opened-run
 opened-laid b o l e h = laid b l (whole-input (input-of b) l (sym e ∙ h))
 
 -- ---- the answer

@@ -25,7 +25,7 @@ use Rattle.run_walk.proofs.Draws.{counted}
 use Rattle.run_listing.specs.declared.Opened.the-variants.{Events}
 use Rattle.run_listing.specs.Run.{events-text, laid-text, run-text}
 use Rattle.run_listing.specs.Place.{Fronts, Lines, first-line, first-size}
-use Rattle.run_listing.specs.Opened.{first-place, opened, rest-text}
+use Rattle.run_listing.specs.Opened.{first-place, opened-run, rest-text}
 use Rattle.run_listing.proofs.Laws.{whole-text}
 
 -- ---- how long a line is
@@ -110,12 +110,12 @@ module _ (i : ℕ) (b out : List ℕ) where
 -- ---- the events one after another
 
 -- an input with events prints what is left at their first place
-pub rest-first : (b : List ℕ) (l : Layout) → opened b ≡ Events l
+pub rest-first : (b : List ℕ) (l : Layout) → opened-run b ≡ Events l
     → run-text b ≡ rest-text 8192 (first-place l) 0 (l .events) (slice 56 (l .«draws_at») b) (numbers (l .draws) 0 (drop (l .«draws_at») b))
 unfolding rest-text laid-text first-place
 rest-first b l e =
     let n : l .events ≡ l .events - 0 = omega arith in
-    whole-text b (opened b) refl l e ∙ ap (λ (x : ℕ). events-text 8192 0 (first-place l .state .words) (cut-events x (slice 56 (l .«draws_at») b)) (numbers (l .draws) 0 (drop (l .«draws_at») b))) n
+    whole-text b (opened-run b) refl l e ∙ ap (λ (x : ℕ). events-text 8192 0 (first-place l .state .words) (cut-events x (slice 56 (l .«draws_at») b)) (numbers (l .draws) 0 (drop (l .«draws_at») b))) n
 
 -- the lines of an event are its first record's and those of the output behind that record, to the first place where none is
 pub lines-step : (i code draws : ℕ) (b : List ℕ) → (first-size b ≡ 0 → ⊥) → event-text i code draws b ≡ first-line i b ++ event-text i code draws (drop (first-size b) b)

@@ -31,8 +31,8 @@ unfoldable pub opened-input : Input → Opened
 opened-input Refused = Line 3
 opened-input (Whole l) = opened-layout l
 
-unfoldable pub opened : List ℕ → Opened
-opened b = opened-input (input-of b)
+unfoldable pub opened-run : List ℕ → Opened
+opened-run b = opened-input (input-of b)
 
 -- what is printed of the input b after this decision
 unfoldable pub opened-text : Opened → List ℕ → List ℕ

@@ -16,7 +16,7 @@ ghost use Rattle.run_text.specs.Text.{Puts};
 ghost use Rattle.run_text.specs.Lines.{end-line};
 ghost use Rattle.run_listing.specs.Run.{events-text, laid-text, run-text};
 ghost use Rattle.run_listing.specs.Place.{Steps, Fronts, Lines, fitting, Answers};
-ghost use Rattle.run_listing.specs.Opened.{opened, opened-layout, first-place};
+ghost use Rattle.run_listing.specs.Opened.{opened-run, opened-layout, first-place};
 
 // The place after an event, and the text so far.
 struct Stepped {
@@ -137,7 +137,7 @@ fn open_layout(l: Layout) -> Opened
 
 // Every decision that is taken before the first event.
 pub fn open(b: &[u8]) -> Opened
-    ensures { λ r. ⌜ r ≡ opened (now (b .entry)) ⌝ }
+    ensures { λ r. ⌜ r ≡ opened-run (now (b .entry)) ⌝ }
 {
     let i = run_input::read(b);
     match i {

@@ -17,7 +17,7 @@ use Rattle.protocol.specs.Rules.{station-ok, short-data}
 use Rattle.protocol.specs.Handle.{Made, new, new-station}
 use Rattle.protocol.proofs.Tested.{rules-of}
 use Rattle.history.specs.Ledger.{Ledger}
-use Rattle.history.specs.Calls.{Given, Machine, state-of, answer, definition}
+use Rattle.history.specs.Calls.{Given, Machine, state-of, result-of, definition}
 use Rattle.history.specs.Packing.{Packs}
 use Rattle.history.proofs.Kept.{Kept, fine-answer, kept-new, accepted-new}
 use Rattle.shuffle_times.specs.Histories.{Brought, shuffle-delays, after, set-by, shuffles-due, counts, start-of, fires, is-first, on-time}
@@ -36,7 +36,7 @@ module _ {S : Type 0} {m : Machine S} {pack : Station → S} {station : S → St
     shuffles-follow [] h = refl
     shuffles-follow (v ∷ vs) {g = g} h =
         let t = rules-of g ranges h in
-        let rest : shuffles-due m vs (state-of m (v .call) (pack g)) ≡ shuffles-due definition vs (answer (v .call) g .state) =
+        let rest : shuffles-due m vs (state-of m (v .call) (pack g)) ≡ shuffles-due definition vs (result-of (v .call) g .state) =
         ap (shuffles-due m vs) (k .state (v .call) g t) ∙ shuffles-follow vs (fine-answer ranges (v .call) h .kept) in
         (λ i. set-follows v g t i ++ rest i)
 
@@ -45,7 +45,7 @@ module _ {S : Type 0} {m : Machine S} {pack : Station → S} {station : S → St
     start-follows [] h = refl
     start-follows (v ∷ vs) {g = g} h =
         let t = rules-of g ranges h in
-        let rest : start-of m vs (state-of m (v .call) (pack g)) ≡ start-of definition vs (answer (v .call) g .state) =
+        let rest : start-of m vs (state-of m (v .call) (pack g)) ≡ start-of definition vs (result-of (v .call) g .state) =
         ap (start-of m vs) (k .state (v .call) g t) ∙ start-follows vs (fine-answer ranges (v .call) h .kept) in
         (λ i. choose (leb (kind-in (v .call .event)) 8 && eqb (k .code (v .call) g t i) 0) (v .at) (rest i))
 
@@ -54,9 +54,9 @@ module _ {S : Type 0} {m : Machine S} {pack : Station → S} {station : S → St
     on-time-follows [] h waiting = refl
     on-time-follows (v ∷ vs) {g = g} h waiting =
         let t = rules-of g ranges h in
-        let rest : (w : List ℕ) → on-time m vs (state-of m (v .call) (pack g)) w ≡ on-time definition vs (answer (v .call) g .state) w =
+        let rest : (w : List ℕ) → on-time m vs (state-of m (v .call) (pack g)) w ≡ on-time definition vs (result-of (v .call) g .state) w =
         λ w. ap (λ (s : S). on-time m vs s w) (k .state (v .call) g t) ∙ on-time-follows vs (fine-answer ranges (v .call) h .kept) w in
-        let after-set : (w : List ℕ) → on-time m vs (state-of m (v .call) (pack g)) (w ++ set-by m v (pack g)) ≡ on-time definition vs (answer (v .call) g .state) (w ++ set-by definition v g) =
+        let after-set : (w : List ℕ) → on-time m vs (state-of m (v .call) (pack g)) (w ++ set-by m v (pack g)) ≡ on-time definition vs (result-of (v .call) g .state) (w ++ set-by definition v g) =
         λ w. ap (λ (x : List ℕ). on-time m vs (state-of m (v .call) (pack g)) (w ++ x)) (set-follows v g t) ∙ rest (w ++ set-by definition v g) in
         (λ i. choose (eqb (kind-in (v .call .event)) 1 && eqb (k .code (v .call) g t i) 0) (is-first (v .at) waiting && after-set (drop 1 waiting) i) (after-set waiting i))
 

@@ -25,7 +25,7 @@ use Rattle.protocol.proofs.Reading.{Readable, by-reading}
 use Rattle.protocol.proofs.Whole.{ok-steps}
 use Rattle.protocol.proofs.Tested.{rules-of}
 use Rattle.history.specs.Ledger.{Ledger, number-of}
-use Rattle.history.specs.Calls.{Given, answer, answered, definition}
+use Rattle.history.specs.Calls.{Given, result-of, answered, definition}
 use Rattle.history.proofs.Kept.{Kept, pays, fine-answer, kept-new}
 use Rattle.protocol.specs.Written.{encode-all}
 use Rattle.shuffle_times.specs.Times.{highest-draw, first-interval, next-interval, dues}
@@ -122,7 +122,7 @@ module _ {c : Config} {me : ℕ} {l : Ledger} {s : Station} (ranges : in-range c
       by-mark true f i fine small = newly _ small (fired (rec-of b) s ds room i f fine)
       by-mark false f i fine small = newly _ small (first (rec-of b) s ds room i f fine)
 
-called : {c : Config} {me : ℕ} {l : Ledger} {s : Station} → in-range c ≡ true → Kept c me l s → (v : Brought) → Called (v .at) (v .call .event) s (answer (v .call) s)
+called : {c : Config} {me : ℕ} {l : Ledger} {s : Station} → in-range c ≡ true → Kept c me l s → (v : Brought) → Called (v .at) (v .call .event) s (result-of (v .call) s)
 unfolding answered handle handle-reading
 called {s = s} ranges h v =
     let b = v .call .event in
@@ -176,7 +176,7 @@ module _ {c : Config} {me : ℕ} (ranges : in-range c ≡ true) where
   unfolding shuffles-due on-time set-by fires is-first dues all-under
   tied-on [] h m p o = record { draws = []; are-draws = refl; same = refl }
   tied-on (v ∷ vs) {s = s} h m p o =
-      let a = answer (v .call) s in
+      let a = result-of (v .call) s in
       let k = called ranges h v in
       let more = fine-answer ranges (v .call) h .kept in
       let kind = eqb (kind-in (v .call .event)) 1 in
@@ -204,7 +204,7 @@ module _ {c : Config} {me : ℕ} (ranges : in-range c ≡ true) where
   unfolding shuffles-due start-of counts on-time set-by fires is-first dues all-under
   tied-off [] h m o = record { draws = []; are-draws = refl; same = refl }
   tied-off (v ∷ vs) {s = s} h m o =
-      let a = answer (v .call) s in
+      let a = result-of (v .call) s in
       let k = called ranges h v in
       let more = fine-answer ranges (v .call) h .kept in
       let kind = eqb (kind-in (v .call .event)) 1 in

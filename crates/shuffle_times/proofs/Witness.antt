@@ -30,7 +30,7 @@ use Rattle.protocol.specs.Handle.{Answer, new-station, start, steps, accepted, 
 use Rattle.lists.proofs.Members.{both}
 use Rattle.protocol.proofs.Tested.{rules-of}
 use Rattle.history.specs.Ledger.{Ledger}
-use Rattle.history.specs.Calls.{Call, answer, answered, definition}
+use Rattle.history.specs.Calls.{Call, result-of, answered, definition}
 use Rattle.history.proofs.Kept.{Kept, fine-answer}
 use Rattle.protocol.specs.Written.{encode-all}
 use Rattle.shuffle_times.specs.Times.{first-interval, next-interval, dues}
@@ -95,17 +95,17 @@ unfolding choose le read-le encode-by header-by entries-by datas size-by read-ev
 read-shuffle = refl
 
 -- a call that reads as the event e, to a station that keeps the rules
-answer-of : (v : Call) (e : Rec) (s : Station) → station-ok s ≡ true → read-event (v .event) ≡ event e → answer v s ≡ finish s (steps e (start s (v .draws) (length (v .output))))
+answer-of : (v : Call) (e : Rec) (s : Station) → station-ok s ≡ true → read-event (v .event) ≡ event e → result-of v s ≡ finish s (steps e (start s (v .draws) (length (v .output))))
 unfolding answered handle handle-reading
 answer-of v e s ok r = choose-yes (station-ok s) _ _ ok ∙ rw r
 
 -- what a call leads to
 record Leads (v : Brought) (s t : Station) (due : ℕ) : Type 0 where
-  code : answer (v .call) s .code ≡ 0
-  state : answer (v .call) s .state ≡ t
+  code : result-of (v .call) s .code ≡ 0
+  state : result-of (v .call) s .state ≡ t
   sets : set-by definition v s ≡ due ∷ []
 
-leads : (v : Brought) (s t : Station) (w : Run) (l : ℕ) (es : List Rec) → answer (v .call) s ≡ accepted w → w .station ≡ t → w .out ≡ encode-all es → shuffles es ≡ l ∷ [] → length (w .out) ≤ 8192 → all-under draws-end (l ∷ []) ≡ true → Leads v s t (v .at + l)
+leads : (v : Brought) (s t : Station) (w : Run) (l : ℕ) (es : List Rec) → result-of (v .call) s ≡ accepted w → w .station ≡ t → w .out ≡ encode-all es → shuffles es ≡ l ∷ [] → length (w .out) ≤ 8192 → all-under draws-end (l ∷ []) ≡ true → Leads v s t (v .at + l)
 unfolding accepted set-by after
 leads v s t w l es e f g h small u = record {
   code = ap (λ (a : Answer). a .code) e;
@@ -200,10 +200,10 @@ module _ (me : ℕ) (d : Data) (c : Config) where
         record {
           calls = v ∷ w .calls;
           fire = choose-yes (fires definition v (ticking i)) _ _ fires-now ∙ both _ _ (eq-eqb (v .at) p (shuffle-time p x low))
-              (subst (λ (l : List ℕ). on-time definition (w .calls) (answer (v .call) (ticking i) .state) l ≡ true) (sym (k .sets))
+              (subst (λ (l : List ℕ). on-time definition (w .calls) (result-of (v .call) (ticking i) .state) l ≡ true) (sym (k .sets))
               (subst (λ (s : Station). on-time definition (w .calls) s ((p + delay i x) ∷ []) ≡ true) (sym (k .state)) (w .fire)));
           ordered = λ q e. both _ _ (le-leb q (v .at) (omega (arith, shuffle-time p x low))) (w .ordered (v .at) (omega (arith, shuffle-time p x low)));
-          same = ap (λ (l : List ℕ). l ++ shuffles-due definition (w .calls) (answer (v .call) (ticking i) .state)) (k .sets)
+          same = ap (λ (l : List ℕ). l ++ shuffles-due definition (w .calls) (result-of (v .call) (ticking i) .state)) (k .sets)
               ∙ ap (λ (l : List ℕ). (p + delay i x) ∷ l) (ap (shuffles-due definition (w .calls)) (k .state) ∙ w .same);
         }
 
@@ -227,11 +227,11 @@ module _ (me : ℕ) (d : Data) (c : Config) where
         let w = chain ds (and-right (ltb x draws-end) (all-under draws-end ds) u) more (t + delay i x) in
         record {
           calls = v ∷ w .calls;
-          fire = choose-no (fires definition v s) _ _ (ap (λ (b : Bool). b && eqb (answer (v .call) s .code) 0) (quit-kind t x low))
-              ∙ subst (λ (l : List ℕ). on-time definition (w .calls) (answer (v .call) s .state) l ≡ true) (sym (k .sets))
+          fire = choose-no (fires definition v s) _ _ (ap (λ (b : Bool). b && eqb (result-of (v .call) s .code) 0) (quit-kind t x low))
+              ∙ subst (λ (l : List ℕ). on-time definition (w .calls) (result-of (v .call) s .state) l ≡ true) (sym (k .sets))
               (subst (λ (s : Station). on-time definition (w .calls) s ((t + delay i x) ∷ []) ≡ true) (sym (k .state)) (w .fire));
           ordered = both _ _ (le-leb 0 (v .at) (omega arith)) (w .ordered (v .at) (omega (arith, quit-time t x low)));
           starts = choose-yes (counts definition v s) _ _ (both _ _ (quit-counts t x low) (eq-eqb _ 0 (k .code))) ∙ quit-time t x low;
-          same = ap (λ (l : List ℕ). l ++ shuffles-due definition (w .calls) (answer (v .call) s .state)) (k .sets)
+          same = ap (λ (l : List ℕ). l ++ shuffles-due definition (w .calls) (result-of (v .call) s .state)) (k .sets)
               ∙ ap (λ (l : List ℕ). (t + delay i x) ∷ l) (ap (shuffles-due definition (w .calls)) (k .state) ∙ w .same);
         }

@@ -10,7 +10,7 @@ use Rattle.shuffle_times.specs.Times.{first-interval, next-interval, due
 abbrev pub from-to : ℕ → ℕ → ShuffleTimes
 from-to a b = record { earliest = a; latest = b }
 
-pub record Table : Type 0 where
+pub record TimesTable : Type 0 where
   -- "From start 0 with default settings the third lies from 5250 to 8747."
   pub third : shuffle-times 0 0 default 3 ≡ from-to 5250 8747
   pub first : shuffle-times 0 0 default 1 ≡ from-to 750 1249
@@ -21,9 +21,9 @@ pub record Table : Type 0 where
   pub last-start : shuffle-times 0 9223372036854775808 default 1 ≡ from-to 750 9223372036854777057
   pub start-above : shuffle-times 0 9223372036854775809 default 1 ≡ from-to 0 0
 
-pub table : Table
+pub times-table : TimesTable
 unfolding choose default within in-range delay first-interval next-interval due due-by has-times shuffle-times
-table = record {
+times-table = record {
   third = refl;
   first = refl;
   first-of-starts = refl;

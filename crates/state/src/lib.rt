@@ -94,25 +94,25 @@ impl Layout {
 
     pub const PASSIVE_END: usize = Layout::PASSIVE_COUNT + 1;
 
-    pub const ALIVE: usize = Layout::PASSIVE_END;
+    pub const MARKS: usize = Layout::PASSIVE_END;
 
-    pub const ALIVE_COUNT: usize = Layout::ALIVE + Layout::ALL;
+    pub const MARKS_COUNT: usize = Layout::MARKS + Layout::ALL;
 
-    pub const ALIVE_END: usize = Layout::ALIVE_COUNT + 1;
+    pub const MARKS_END: usize = Layout::MARKS_COUNT + 1;
 
-    pub const REFUSED: usize = Layout::ALIVE_END;
+    pub const REFUSED: usize = Layout::MARKS_END;
 
     pub const REFUSED_COUNT: usize = Layout::REFUSED + Layout::ALL;
 
     pub const REFUSED_END: usize = Layout::REFUSED_COUNT + 1;
 
-    pub const REQUESTS: usize = Layout::REFUSED_END;
+    pub const ASKED: usize = Layout::REFUSED_END;
 
-    pub const REQUESTS_COUNT: usize = Layout::REQUESTS + 2 * Layout::ALL;
+    pub const ASKED_COUNT: usize = Layout::ASKED + 2 * Layout::ALL;
 
-    pub const REQUESTS_END: usize = Layout::REQUESTS_COUNT + 1;
+    pub const ASKED_END: usize = Layout::ASKED_COUNT + 1;
 
-    pub const BOOTSTRAP: usize = Layout::REQUESTS_END;
+    pub const BOOTSTRAP: usize = Layout::ASKED_END;
 
     pub const BOOTSTRAP_COUNT: usize = Layout::BOOTSTRAP + Layout::FEW;
 
@@ -130,13 +130,13 @@ impl Layout {
 
     pub const JOINS_END: usize = Layout::JOINS_COUNT + 1;
 
-    pub const DATA: usize = Layout::JOINS_END;
+    pub const HELD: usize = Layout::JOINS_END;
 
-    pub const DATA_COUNT: usize = Layout::DATA + 4 * Layout::DATA_CAP;
+    pub const HELD_COUNT: usize = Layout::HELD + 4 * Layout::DATA_CAP;
 
-    pub const DATA_END: usize = Layout::DATA_COUNT + 1;
+    pub const HELD_END: usize = Layout::HELD_COUNT + 1;
 
-    pub const LENGTH: usize = Layout::DATA_END;
+    pub const LENGTH: usize = Layout::HELD_END;
 }
 
 // What bounds a refill; protocol/Station says of `Refill` why there are three cases.
@@ -444,7 +444,7 @@ pub fn is_requested(st: &[u64], p: PeerId) -> bool
     requires { ⌜ PackedState (now st) ⌝ }
     ensures { λ r. ⌜ r ≡ is-requested p (unpack (now (st .entry))) ⌝ }
 {
-    columns::contains_number(&st[Layout::REQUESTS..Layout::REQUESTS_END], Layout::ALL, p)
+    columns::contains_number(&st[Layout::ASKED..Layout::ASKED_END], Layout::ALL, p)
 }
 
 // Whether there is no neighbor.
@@ -514,11 +514,7 @@ pub fn drop_request(w: Work, st: &mut [u64], p: PeerId) -> Work
     if w.code != 0 {
         return w;
     }
-    columns::remove_number(
-        &mut st[Layout::REQUESTS..Layout::REQUESTS_END],
-        Layout::ALL,
-        p,
-    );
+    columns::remove_number(&mut st[Layout::ASKED..Layout::ASKED_END], Layout::ALL, p);
     w
 }
 

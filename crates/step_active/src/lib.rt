@@ -73,7 +73,7 @@ fn demote(w: Work, st: &mut [u64], draws: &[u32], out: &mut [u8], p: PeerId) -> 
     requires { ⌜ Fine (work-of w (now st)) (now draws) (now out) ⌝ }
     ensures { λ r. ⌜ Does (work-of r (now (st .exit))) (now (draws .entry)) (now (out .exit)) (demote p (run (work-of w (now (st .entry))) (now (draws .entry)) (now (out .entry)))) ⌝ }
 {
-    let d = columns::get_data(&st[Layout::DATA..Layout::DATA_END], Layout::DATA_CAP, p);
+    let d = columns::get_data(&st[Layout::HELD..Layout::HELD_END], Layout::DATA_CAP, p);
     let a = step_peers::drop_data(w, st, p);
     let t = step_peers::add_passive(a, st, draws, out, p, d);
     t.work
@@ -88,7 +88,7 @@ pub fn mark_alive(w: Work, st: &mut [u64], p: PeerId) -> Work
     if w.code != 0 {
         return w;
     }
-    util::insert_sorted(&mut st[Layout::ALIVE..Layout::ALIVE_END], Layout::ALL, p);
+    util::insert_sorted(&mut st[Layout::MARKS..Layout::MARKS_END], Layout::ALL, p);
     w
 }
 

@@ -333,7 +333,7 @@ fn clear_marks(w: Work, st: &mut [u64]) -> Work
         return w;
     }
     util::clear(&mut st[Layout::REFUSED..Layout::REFUSED_END], Layout::ALL);
-    util::clear(&mut st[Layout::ALIVE..Layout::ALIVE_END], Layout::ALL);
+    util::clear(&mut st[Layout::MARKS..Layout::MARKS_END], Layout::ALL);
     w
 }
 
@@ -346,7 +346,7 @@ fn clear_passive(w: Work, st: &mut [u64]) -> Work
     if w.code != 0 {
         return w;
     }
-    columns::clear_data(&mut st[Layout::DATA..Layout::DATA_END], Layout::DATA_CAP);
+    columns::clear_data(&mut st[Layout::HELD..Layout::HELD_END], Layout::DATA_CAP);
     util::clear(&mut st[Layout::PASSIVE..Layout::PASSIVE_END], Layout::ALL);
     w
 }
@@ -371,7 +371,7 @@ fn clear_all(w: Work, st: &mut [u64]) -> Work
     if a.code != 0 {
         return a;
     }
-    columns::clear_numbers(&mut st[Layout::REQUESTS..Layout::REQUESTS_END], Layout::ALL);
+    columns::clear_numbers(&mut st[Layout::ASKED..Layout::ASKED_END], Layout::ALL);
     a
 }
 

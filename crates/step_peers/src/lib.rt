@@ -43,7 +43,7 @@ fn is_known(st: &[u64], p: PeerId, d: PeerData) -> bool
     ensures { λ r. ⌜ r ≡ is-known p (bytes-of (data-in d)) (unpack (now (st .entry))) ⌝ }
 {
     state::is_me(st, p)
-        | columns::holds_data(&st[Layout::DATA..Layout::DATA_END], Layout::DATA_CAP, p, d)
+        | columns::holds_data(&st[Layout::HELD..Layout::HELD_END], Layout::DATA_CAP, p, d)
 }
 
 // Whether p has a data entry, or there is a free one.
@@ -52,12 +52,12 @@ fn data_fits(st: &[u64], p: PeerId) -> bool
     requires { ⌜ PackedState (now st) ⌝ }
     ensures { λ r. ⌜ r ≡ data-fits p (unpack (now (st .entry))) ⌝ }
 {
-    if columns::count_data(&st[Layout::DATA..Layout::DATA_END], Layout::DATA_CAP)
+    if columns::count_data(&st[Layout::HELD..Layout::HELD_END], Layout::DATA_CAP)
         < Layout::DATA_CAP
     {
         return true;
     }
-    columns::contains_data(&st[Layout::DATA..Layout::DATA_END], Layout::DATA_CAP, p)
+    columns::contains_data(&st[Layout::HELD..Layout::HELD_END], Layout::DATA_CAP, p)
 }
 
 // Whether p is neither the station itself nor in a view.
@@ -84,7 +84,7 @@ pub fn is_marked(st: &[u64], p: PeerId) -> bool
     requires { ⌜ PackedState (now st) ⌝ }
     ensures { λ r. ⌜ r ≡ is-marked p (unpack (now (st .entry))) ⌝ }
 {
-    util::contains(&st[Layout::ALIVE..Layout::ALIVE_END], Layout::ALL, p)
+    util::contains(&st[Layout::MARKS..Layout::MARKS_END], Layout::ALL, p)
 }
 
 // The peer at place i leaves the passive view; the order is kept.
@@ -150,7 +150,7 @@ fn store_data(w: Work, st: &mut [u64], p: PeerId, d: PeerData) -> Work
         return w;
     }
     columns::insert_data(
-        &mut st[Layout::DATA..Layout::DATA_END],
+        &mut st[Layout::HELD..Layout::HELD_END],
         Layout::DATA_CAP,
         p,
         d,
@@ -166,7 +166,7 @@ pub fn drop_data(w: Work, st: &mut [u64], p: PeerId) -> Work
     if w.code != 0 {
         return w;
     }
-    columns::remove_data(&mut st[Layout::DATA..Layout::DATA_END], Layout::DATA_CAP, p);
+    columns::remove_data(&mut st[Layout::HELD..Layout::HELD_END], Layout::DATA_CAP, p);
     w
 }
 
@@ -178,7 +178,7 @@ pub fn drop_mark(w: Work, st: &mut [u64], p: PeerId) -> Work
     if w.code != 0 {
         return w;
     }
-    util::without(&mut st[Layout::ALIVE..Layout::ALIVE_END], Layout::ALL, p);
+    util::without(&mut st[Layout::MARKS..Layout::MARKS_END], Layout::ALL, p);
     w
 }
 

@@ -83,7 +83,7 @@ fn asked_outside(st: &[u64], t: &mut [u64])
     requires { ⌜ length (now t) ≡ 33 ⌝ }
     ensures { λ _. ⌜ HoldsSet 32 (now (t .exit)) (asked-outside (unpack (now (st .entry)))) ⌝ }
 {
-    columns::keys_into(&st[Layout::REQUESTS..Layout::REQUESTS_END], Layout::ALL, t);
+    columns::keys_into(&st[Layout::ASKED..Layout::ASKED_END], Layout::ALL, t);
     util::without_all(
         t,
         Layout::ALL,
@@ -169,7 +169,7 @@ fn without_asked(st: &[u64], t: &mut [u64])
 {
     let mut asked = [0u64; 33];
     columns::keys_into(
-        &st[Layout::REQUESTS..Layout::REQUESTS_END],
+        &st[Layout::ASKED..Layout::ASKED_END],
         Layout::ALL,
         &mut asked,
     );

@@ -42,7 +42,7 @@ fn peer_info(st: &[u64], p: PeerId) -> PeerInfo
     ensures { λ r. ⌜ ValidData (r .data) ⌝ }
     ensures { λ r. ⌜ node-in r ≡ node p (lookup p (unpack (now (st .entry)) .peer-data)) ⌝ }
 {
-    let d = columns::get_data(&st[Layout::DATA..Layout::DATA_END], Layout::DATA_CAP, p);
+    let d = columns::get_data(&st[Layout::HELD..Layout::HELD_END], Layout::DATA_CAP, p);
     PeerInfo { id: p, data: d }
 }
 
@@ -270,7 +270,7 @@ fn request_fits(st: &[u64]) -> bool
     requires { ⌜ PackedState (now st) ⌝ }
     ensures { λ r. ⌜ r ≡ request-fits (unpack (now (st .entry))) ⌝ }
 {
-    let n = columns::count_numbers(&st[Layout::REQUESTS..Layout::REQUESTS_END], Layout::ALL);
+    let n = columns::count_numbers(&st[Layout::ASKED..Layout::ASKED_END], Layout::ALL);
     n < Layout::ALL
 }
 
@@ -286,7 +286,7 @@ fn note_request(w: Work, st: &mut [u64], p: PeerId) -> Work
     }
     let id = st[Layout::NEXT_NEIGHBOR_REQUEST];
     columns::insert_number(
-        &mut st[Layout::REQUESTS..Layout::REQUESTS_END],
+        &mut st[Layout::ASKED..Layout::ASKED_END],
         Layout::ALL,
         p,
         id,

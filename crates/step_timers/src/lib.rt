@@ -37,7 +37,7 @@ fn request_is(st: &[u64], p: PeerId, id: u64) -> bool
     requires { ⌜ PackedState (now st) ⌝ }
     ensures { λ r. ⌜ r ≡ request-is p id (unpack (now (st .entry))) ⌝ }
 {
-    let m = columns::get_number(&st[Layout::REQUESTS..Layout::REQUESTS_END], Layout::ALL, p);
+    let m = columns::get_number(&st[Layout::ASKED..Layout::ASKED_END], Layout::ALL, p);
     is_number(id, m)
 }
 

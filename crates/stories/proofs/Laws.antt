@@ -13,14 +13,14 @@ use Rattle.run_text.specs.Numbers.{field}
 use Rattle.run_text.specs.declared.Text.{Text}
 use Rattle.run_text.proofs.Written.{begun, then}
 use Rattle.endings.specs.declared.Ends.{Ends}
-use Rattle.stories.specs.Lines.{end-line, ends-text}
+use Rattle.stories.specs.Lines.{ends-line, ends-text}
 
-pub line-put : (a p n : ℕ) (t t₁ t₂ r : Text) (o o₁ o₂ o₃ : List ℕ) → Puts (field n 10) t₂ o₂ r o₃ → Puts (field p 32) t₁ o₁ t₂ o₂ → Puts (field a 32) t o t₁ o₁ → Puts (end-line a p n) t o r o₃
-unfolding end-line
+pub line-put : (a p n : ℕ) (t t₁ t₂ r : Text) (o o₁ o₂ o₃ : List ℕ) → Puts (field n 10) t₂ o₂ r o₃ → Puts (field p 32) t₁ o₁ t₂ o₂ → Puts (field a 32) t o t₁ o₁ → Puts (ends-line a p n) t o r o₃
+unfolding ends-line
 line-put a p n t t₁ t₂ r o o₁ o₂ o₃ k₃ k₂ k₁ = then (then k₃ k₂) k₁
 
-pub ends-put : (c : Ends) (t t₁ t₂ t₃ r : Text) (o o₁ o₂ o₃ o₄ : List ℕ) → Puts (end-line 1 1 (c .both)) t₃ o₃ r o₄ → Puts (end-line 1 0 (c .active)) t₂ o₂ t₃ o₃
-    → Puts (end-line 0 1 (c .passive)) t₁ o₁ t₂ o₂ → Puts (end-line 0 0 (c .neither)) t o t₁ o₁ → Puts (ends-text c) t o r o₄
+pub ends-put : (c : Ends) (t t₁ t₂ t₃ r : Text) (o o₁ o₂ o₃ o₄ : List ℕ) → Puts (ends-line 1 1 (c .both)) t₃ o₃ r o₄ → Puts (ends-line 1 0 (c .active)) t₂ o₂ t₃ o₃
+    → Puts (ends-line 0 1 (c .passive)) t₁ o₁ t₂ o₂ → Puts (ends-line 0 0 (c .neither)) t o t₁ o₁ → Puts (ends-text c) t o r o₄
 unfolding ends-text
 ends-put c t t₁ t₂ t₃ r o o₁ o₂ o₃ o₄ k₄ k₃ k₂ k₁ = then (then (then k₄ k₃) k₂) k₁
 

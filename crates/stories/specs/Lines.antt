@@ -3,17 +3,11 @@
 use Prim.Native.Nat.{ℕ}
 use mathlib.Core.List.{List, _++_}
 use Rattle.run_text.specs.Numbers.{field}
+use Rattle.run_text.specs.Lines.{space, newline}
 use Rattle.endings.specs.declared.Ends.{Ends}
 
--- a space and the end of a line, as bytes
-abbrev pub space : ℕ
-space = 32
-
-abbrev pub newline : ℕ
-newline = 10
-
-unfoldable pub end-line : ℕ → ℕ → ℕ → List ℕ
-end-line a p n = field a space ++ (field p space ++ field n newline)
+unfoldable pub ends-line : ℕ → ℕ → ℕ → List ℕ
+ends-line a p n = field a space ++ (field p space ++ field n newline)
 
 unfoldable pub ends-text : Ends → List ℕ
-ends-text c = end-line 0 0 (c .neither) ++ (end-line 0 1 (c .passive) ++ (end-line 1 0 (c .active) ++ end-line 1 1 (c .both)))
+ends-text c = ends-line 0 0 (c .neither) ++ (ends-line 0 1 (c .passive) ++ (ends-line 1 0 (c .active) ++ ends-line 1 1 (c .both)))

@@ -6,10 +6,10 @@ ghost use Prim.Native.Nat.{_≤_, min};
 ghost use lib.ListN.{length};
 ghost use Rattle.lists.specs.Bytes.{overwrite};
 ghost use Rattle.run_text.specs.Text.{Puts};
-ghost use Rattle.stories.specs.Lines.{end-line, ends-text};
+ghost use Rattle.stories.specs.Lines.{ends-line, ends-text};
 
 fn put_line(out: &mut [u8], t: Text, active: u64, passive: u64, n: u32) -> Text
-    ensures { λ r. ⌜ Puts (end-line active passive n) t (now (out .entry)) r (now (out .exit)) ⌝ }
+    ensures { λ r. ⌜ Puts (ends-line active passive n) t (now (out .entry)) r (now (out .exit)) ⌝ }
 {
     let a = run_text::put_field(out, t, active, 32);
     let b = run_text::put_field(out, a, passive, 32);

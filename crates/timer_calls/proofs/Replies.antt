@@ -11,28 +11,28 @@ use Rattle.timer_map.specs.Calls.{PutWords, PoppedWords, inserted, taken-out, f
 use Rattle.timer_events.specs.declared.PoppedEvent.{PoppedEvent}
 use Rattle.timer_events.specs.Records.{records-inserted}
 use Rattle.timer_events.specs.Events.{Taken, event-taken}
-use Rattle.timer_events.specs.History.{Outcome, insert, insert-records, pop-before, pop-event, first, count, code, popped, event, next, held, answered}
+use Rattle.timer_events.specs.History.{QueueOutcome, insert, insert-records, pop-before, pop-event, first, count, code, popped, event, next, held, queue-answered}
 
-pub put-in : (c time delay : ℕ) (x : Timer) (ws ys : List ℕ) → record { code = c; words = ys } ≡ inserted time delay x ws → record { reply = code c; words = ys } ≡ answered (insert time delay x) ws
-unfolding answered
+pub put-in : (c time delay : ℕ) (x : Timer) (ws ys : List ℕ) → record { code = c; words = ys } ≡ inserted time delay x ws → record { reply = code c; words = ys } ≡ queue-answered (insert time delay x) ws
+unfolding queue-answered
 put-in c time delay x ws ys e = ap (λ (p : PutWords). record { reply = code (p .code); words = p .words }) e
 
-pub records-in : (c time : ℕ) (out ws ys : List ℕ) → record { code = c; words = ys } ≡ records-inserted time out ws → record { reply = code c; words = ys } ≡ answered (insert-records time out) ws
-unfolding answered
+pub records-in : (c time : ℕ) (out ws ys : List ℕ) → record { code = c; words = ys } ≡ records-inserted time out ws → record { reply = code c; words = ys } ≡ queue-answered (insert-records time out) ws
+unfolding queue-answered
 records-in c time out ws ys e = ap (λ (p : PutWords). record { reply = code (p .code); words = p .words }) e
 
-pub taken : (r : Popped) (limit : ℕ) (ws ys : List ℕ) → record { answer = r; words = ys } ≡ taken-out limit ws → record { reply = popped r; words = ys } ≡ answered (pop-before limit) ws
-unfolding answered
+pub taken : (r : Popped) (limit : ℕ) (ws ys : List ℕ) → record { answer = r; words = ys } ≡ taken-out limit ws → record { reply = popped r; words = ys } ≡ queue-answered (pop-before limit) ws
+unfolding queue-answered
 taken r limit ws ys e = ap (λ (p : PoppedWords). record { reply = popped (p .answer); words = p .words }) e
 
-pub told : (r : First) (ws : List ℕ) → r ≡ first-in ws → record { reply = next r; words = ws } ≡ answered first ws
-unfolding answered
+pub told : (r : First) (ws : List ℕ) → r ≡ first-in ws → record { reply = next r; words = ws } ≡ queue-answered first ws
+unfolding queue-answered
 told r ws e = ap (λ (x : First). record { reply = next x; words = ws }) e
 
-pub counted : (r : Len) (ws : List ℕ) → r ≡ count-in ws → record { reply = held r; words = ws } ≡ answered count ws
-unfolding answered
+pub counted : (r : Len) (ws : List ℕ) → r ≡ count-in ws → record { reply = held r; words = ws } ≡ queue-answered count ws
+unfolding queue-answered
 counted r ws e = ap (λ (x : Len). record { reply = held x; words = ws }) e
 
-pub event-out : (r : PoppedEvent) (limit : ℕ) (ws ys out os : List ℕ) → record { answer = r; words = ys; output = os } ≡ event-taken limit ws out → record { reply = event r os; words = ys } ≡ answered (pop-event limit out) ws
-unfolding answered
+pub event-out : (r : PoppedEvent) (limit : ℕ) (ws ys out os : List ℕ) → record { answer = r; words = ys; output = os } ≡ event-taken limit ws out → record { reply = event r os; words = ys } ≡ queue-answered (pop-event limit out) ws
+unfolding queue-answered
 event-out r limit ws ys out os e = ap (λ (p : Taken). record { reply = event (p .answer) (p .output); words = p .words }) e

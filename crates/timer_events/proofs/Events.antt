@@ -10,15 +10,15 @@ use mir.Syntax.{w8}
 use borrow.Author.Tests.{eqb-true, eq-eqb, leb-true, le-leb, ltb-true, ltb-false}
 use Rattle.lists.proofs.Choice.{or-true, and-left, and-right}
 use Rattle.lists.proofs.Tests.{both-true}
-use Rattle.timer_map.specs.declared.Entry.{Entry}
+use Rattle.timer_map.specs.declared.TimerMapEntry.{TimerMapEntry}
 use Rattle.timer_events.specs.Events.{has-event}
 
-pub record Says (e : Entry) : Type 0 where
+pub record Says (e : TimerMapEntry) : Type 0 where
   pub low : 1 ≤ e .item .kind
   pub high : e .item .kind ≤ 4
   pub bare : e .item .kind ≤ 2 → (e .item .peer ≡ 0) × (e .item .number ≡ 0)
 
-pub says : (e : Entry) → has-event e ≡ true → Says e
+pub says : (e : TimerMapEntry) → has-event e ≡ true → Says e
 unfolding has-event
 says e t =
     let k = e .item .kind in
@@ -35,7 +35,7 @@ yes-or : (a b : Bool) → (a ≡ false → b ≡ true) → (a || b) ≡ true
 yes-or true b h = refl
 yes-or false b h = h refl
 
-pub said : (e : Entry) → Says e → has-event e ≡ true
+pub said : (e : TimerMapEntry) → Says e → has-event e ≡ true
 unfolding has-event
 said e s =
     let k = e .item .kind in
@@ -44,5 +44,5 @@ said e s =
     (yes-or (ltb 2 k) _ (λ w. let z = s .bare (ltb-false 2 k w) in
     both-true (eqb (e .item .peer) 0) _ (eq-eqb (e .item .peer) 0 (z .0)) (eq-eqb (e .item .number) 0 (z .1)))))
 
-pub kind-fits : (e : Entry) → has-event e ≡ true → Fits w8 (e .item .kind)
+pub kind-fits : (e : TimerMapEntry) → has-event e ≡ true → Fits w8 (e .item .kind)
 kind-fits e t = record { fits = omega (arith, says e t .high) }

@@ -24,9 +24,9 @@ use Rattle.record.proofs.Forth.{header-read, well-formed-encode, rec-of-encode}
 use Rattle.record.proofs.Format.{length-encode}
 use Rattle.protocol.specs.Station.{peers-end}
 use Rattle.protocol.specs.Rules.{all-under}
-use Rattle.timer_map.specs.declared.Entry.{Entry}
-use Rattle.timer_events.specs.declared.Start.{Start}
-use Rattle.timer_events.specs.Records.{started, started-by, start-of}
+use Rattle.timer_map.specs.declared.TimerMapEntry.{TimerMapEntry}
+use Rattle.timer_events.specs.declared.ScheduleTimer.{ScheduleTimer}
+use Rattle.timer_events.specs.Records.{started, started-by, schedule-of}
 use Rattle.timer_events.specs.Events.{has-event, event-rec}
 use Rattle.timer_events.specs.Claims.{without-delay, ComesBack, Event-comes-back}
 use Rattle.timer_events.proofs.Events.{Says, says, said}
@@ -142,7 +142,7 @@ fine-4 : (p u : ℕ) → Fine (event-head 4 p u)
 unfolding header-ok kind-ok flags-ok count-ok peer-ok fields-ok is-message is-timer is-data fixed-size choose is-event
 fine-4 p u = record { ok = refl; is-one = refl }
 
-fine : (e : Entry) → Says e → Fine (event-head (e .item .kind) (e .item .peer) (e .item .number))
+fine : (e : TimerMapEntry) → Says e → Fine (event-head (e .item .kind) (e .item .peer) (e .item .number))
 fine e s =
     split (leb (e .item .kind) 2)
     (λ t. let h : e .item .kind ≤ 2 = leb-true (e .item .kind) 2 t in
@@ -160,11 +160,11 @@ fine e s =
     by-high (suc (suc (suc (suc zero)))) p u l h = fine-4 p u
     by-high (suc (suc (suc (suc (suc k))))) p u l h = absurd (omega arith)
 
-header-event : (e : Entry) → header-in (event-rec e) ≡ event-head (e .item .kind) (e .item .peer) (e .item .number)
+header-event : (e : TimerMapEntry) → header-in (event-rec e) ≡ event-head (e .item .kind) (e .item .peer) (e .item .number)
 unfolding header-in-by event-rec size-by datas
 header-event e = refl
 
-in-form : (e : Entry) → Says e → e .item .peer < peers-end → e .item .number < 2 ^ 64 → InForm (event-rec e)
+in-form : (e : TimerMapEntry) → Says e → e .item .peer < peers-end → e .item .number < 2 ^ 64 → InForm (event-rec e)
 unfolding NodesInFormBy event-rec
 in-form e s p n = record {
   header = ap header-ok (header-event e) ∙ fine e s .ok;
@@ -175,7 +175,7 @@ in-form e s p n = record {
   nodes = tt;
 }
 
-event-size : (e : Entry) → size (event-rec e) ≡ header-length
+event-size : (e : TimerMapEntry) → size (event-rec e) ≡ header-length
 unfolding size-by event-rec datas
 event-size e = refl
 
@@ -184,7 +184,7 @@ unfolding header-of-by
 nodes-field b = refl
 
 -- the event's bytes read back as the event
-pub reads-back : (e : Entry) → has-event e ≡ true → e .item .peer < peers-end → e .item .number < 2 ^ 64 → read-event (encode (event-rec e)) ≡ event (event-rec e)
+pub reads-back : (e : TimerMapEntry) → has-event e ≡ true → e .item .peer < peers-end → e .item .number < 2 ^ 64 → read-event (encode (event-rec e)) ≡ event (event-rec e)
 unfolding read-event
 reads-back e h p n =
     let f : InForm (event-rec e) = in-form e (says e h) p n in
@@ -198,8 +198,8 @@ reads-back e h p n =
 
 -- ---- a record's timer
 
-read-whole : (b : List ℕ) → well-formed b ≡ true → start-of (length b) b ≡ started (header-of b)
-unfolding start-of started-by answer
+read-whole : (b : List ℕ) → well-formed b ≡ true → schedule-of (length b) b ≡ started (header-of b)
+unfolding schedule-of started-by answer
 read-whole b w =
     choose-no _ _ _ (le-ltb (length b) (length b) (omega arith)) ∙ ap (λ (l : List ℕ). started-by (choose (well-formed l) (Answers.Record (header-of l)) Answers.Malformed)) (take-length b)
     ∙ ap started-by (choose-yes (well-formed b) (Answers.Record (header-of b)) Answers.Malformed w)
@@ -251,8 +251,8 @@ event-comes-back b u w t time =
     let l : 1 ≤ h .kind = timer-low b t in
     let k : h .kind ≤ 4 = timer-high b t in
     let p : Plain h = plain h l k (parts peer-length b w .heads) in
-    let e : Entry = record { time = time; item = started h .item } in
+    let e : TimerMapEntry = record { time = time; item = started h .item } in
     let y : has-event e ≡ true = said e (record { low = l; high = k; bare = p .bare }) in
     let s : event-rec e ≡ without-delay (rec-of b) = same-record b time p in
-    subst (λ (x : Start). ComesBack b (record { time = time; item = x .item })) (sym (read-whole b w))
+    subst (λ (x : ScheduleTimer). ComesBack b (record { time = time; item = x .item })) (sym (read-whole b w))
     (record { has = y; is = s; reads = reads-back e y (peer-below b q) (number-below b q) ∙ ap event s })

@@ -14,9 +14,9 @@ use Rattle.writer.specs.declared.Fields.{Fields}
 use Rattle.writer.specs.declared.Written.{Written}
 use Rattle.writer.specs.declared.Written.the-variants.{At, Full}
 use Rattle.timer_map.specs.Entries.{soonest, first-entry, is-due}
-use Rattle.timer_map.specs.Words.{entries-of, queue-ok, pack, Sound}
+use Rattle.timer_map.specs.Words.{entries-of, queue-ok, pack-queue, SoundQueue}
 use Rattle.timer_map.specs.Calls.{due-in}
-use Rattle.timer_map.specs.declared.Entry.{Entry}
+use Rattle.timer_map.specs.declared.TimerMapEntry.{TimerMapEntry}
 use Rattle.timer_map.specs.declared.Due.{Due}
 use Rattle.timer_map.proofs.Ways.{due-yes, due-no, due-is}
 use Rattle.timer_events.specs.Events.{has-event, event-rec, Taken, untaken, event-popped, event-taken}
@@ -39,29 +39,29 @@ unwritten : (r : Rec) (out : List ℕ) → fits r 0 (length out) ≡ false → w
 unfolding written
 unwritten r out t = choose-no _ _ _ t
 
-pub asked : (e : Entry) (b : Bool) → b ≡ has-event e → b ≡ true → has-event e ≡ true
+pub asked : (e : TimerMapEntry) (b : Bool) → b ≡ has-event e → b ≡ true → has-event e ≡ true
 asked e b h t = sym h ∙ t
 
 -- the ways of the definition
-module _ (limit : ℕ) (es : List Entry) (out : List ℕ) where
-  pub none-event : is-due limit es ≡ false → event-popped limit es out ≡ untaken 0 (pack es) out
+module _ (limit : ℕ) (es : List TimerMapEntry) (out : List ℕ) where
+  pub none-event : is-due limit es ≡ false → event-popped limit es out ≡ untaken 0 (pack-queue es) out
   unfolding event-popped
   none-event d = choose-no _ _ _ d
 
-  pub no-event : is-due limit es ≡ true → has-event (first-entry es) ≡ false → event-popped limit es out ≡ untaken 3 (pack es) out
+  pub no-event : is-due limit es ≡ true → has-event (first-entry es) ≡ false → event-popped limit es out ≡ untaken 3 (pack-queue es) out
   unfolding event-popped
   no-event d h = choose-yes _ _ _ d ∙ choose-no _ _ _ h
 
-  pub no-room : is-due limit es ≡ true → has-event (first-entry es) ≡ true → fits (event-rec (first-entry es)) 0 (length out) ≡ false → event-popped limit es out ≡ untaken 9 (pack es) out
+  pub no-room : is-due limit es ≡ true → has-event (first-entry es) ≡ true → fits (event-rec (first-entry es)) 0 (length out) ≡ false → event-popped limit es out ≡ untaken 9 (pack-queue es) out
   unfolding event-popped
   no-room d h f = choose-yes _ _ _ d ∙ choose-yes _ _ _ h ∙ choose-no _ _ _ f
 
   pub an-event : is-due limit es ≡ true → has-event (first-entry es) ≡ true → fits (event-rec (first-entry es)) 0 (length out) ≡ true
-      → event-popped limit es out ≡ record { answer = record { code = 0; found = true; time = first-entry es .time }; words = pack (shift-remove (soonest es) es); output = written (event-rec (first-entry es)) 0 out }
+      → event-popped limit es out ≡ record { answer = record { code = 0; found = true; time = first-entry es .time }; words = pack-queue (shift-remove (soonest es) es); output = written (event-rec (first-entry es)) 0 out }
   unfolding event-popped
   an-event d h f = choose-yes _ _ _ d ∙ choose-yes _ _ _ h ∙ choose-yes _ _ _ f
 
-module _ (ws : List ℕ) (limit : ℕ) (out : List ℕ) (v : Sound ws) (d : Due) (e : d ≡ due-in limit (entries-of ws)) where
+module _ (ws : List ℕ) (limit : ℕ) (out : List ℕ) (v : SoundQueue ws) (d : Due) (e : d ≡ due-in limit (entries-of ws)) where
   pub took-none : d .found ≡ false → record { answer = record { code = 0; found = false; time = 0 }; words = ws; output = out } ≡ event-popped limit (entries-of ws) out
   took-none t = ap (λ (l : List ℕ). untaken 0 l out) (v .is) ∙ sym (none-event limit (entries-of ws) out (due-no limit (entries-of ws) d e t))
 
@@ -91,12 +91,12 @@ module _ (ws : List ℕ) (limit : ℕ) (out : List ℕ) (v : Sound ws) (d : Due)
           (λ i. untaken 9 (v .is i) ((k .bytes ∙ unwritten (rec-in f []) out n) i))
           ∙ sym (no-room limit (entries-of ws) out due (sym has ∙ u) (ap (λ (y : Rec). fits y 0 (length out)) (sym rec-is) ∙ n))
 
-      pub took-event : (n : ℕ) (q : List ℕ) → w ≡ At n → q ≡ pack (shift-remove (d .place) (entries-of ws)) → record { answer = record { code = 0; found = true; time = d .entry .time }; words = q; output = o } ≡ event-popped limit (entries-of ws) out
+      pub took-event : (n : ℕ) (q : List ℕ) → w ≡ At n → q ≡ pack-queue (shift-remove (d .place) (entries-of ws)) → record { answer = record { code = 0; found = true; time = d .entry .time }; words = q; output = o } ≡ event-popped limit (entries-of ws) out
       took-event n q p s =
           let y : fits (rec-in f []) 0 (length out) ≡ true = wrote-fits (rec-in f []) out w n (k .answer) p in
           (λ i. record {
             answer = record { code = 0; found = true; time = entry-is i .time };
-            words = (s ∙ ap (λ (j : ℕ). pack (shift-remove j (entries-of ws))) place-is) i;
+            words = (s ∙ ap (λ (j : ℕ). pack-queue (shift-remove j (entries-of ws))) place-is) i;
             output = (k .bytes ∙ ap (λ (x : Rec). written x 0 out) rec-is) i;
           })
           ∙ sym (an-event limit (entries-of ws) out due (sym has ∙ u) (ap (λ (x : Rec). fits x 0 (length out)) (sym rec-is) ∙ y))

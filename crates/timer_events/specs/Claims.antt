@@ -11,43 +11,43 @@ use Rattle.record.specs.Read as R
 use Rattle.record.specs.Read.{header-of, is-timer, well-formed, rec-of, read-event}
 use Rattle.protocol.specs.Rules.{all-under}
 use Rattle.writer.specs.Write.{written}
-use Rattle.timer_map.specs.Entries.{no-entry}
-use Rattle.timer_map.specs.Words.{pack}
+use Rattle.timer_map.specs.Entries.{no-queue-entry}
+use Rattle.timer_map.specs.Words.{pack-queue}
 use Rattle.timer_map.specs.Calls.{renewed}
-use Rattle.timer_map.specs.declared.Entry.{Entry}
-use Rattle.timer_events.specs.History.{Call, pop-before, pop-event, popped, event, answered, words-after, codes, book-after, Right}
+use Rattle.timer_map.specs.declared.TimerMapEntry.{TimerMapEntry}
+use Rattle.timer_events.specs.History.{QueueCall, pop-before, pop-event, popped, event, queue-answered, queue-after, reply-codes, book-after, Right}
 use Rattle.timer_map.specs.declared.Popped.{Popped}
 use Rattle.timer_events.specs.declared.PoppedEvent.{PoppedEvent}
-use Rattle.timer_events.specs.Records.{start-of}
+use Rattle.timer_events.specs.Records.{schedule-of}
 use Rattle.timer_events.specs.Events.{has-event, event-rec}
 
 -- what was taken out as an event: the entry, its due time, and its event's bytes
-pub record EventRight (limit : ℕ) (es : List Entry) (out : List ℕ) (a : PoppedEvent) (bytes : List ℕ) : Type 0 where
-  pub entry : Entry
+pub record EventRight (limit : ℕ) (es : List TimerMapEntry) (out : List ℕ) (a : PoppedEvent) (bytes : List ℕ) : Type 0 where
+  pub entry : TimerMapEntry
   pub right : Right limit es entry
   pub time : a .time ≡ entry .time
   pub has : has-event entry ≡ true
   pub bytes-are : bytes ≡ written (event-rec entry) 0 out
 
 -- the next call of a queue at the words ws, which holds the entries es
-pub record Takes (ws : List ℕ) (es : List Entry) : Type 0 where
+pub record TakesOut (ws : List ℕ) (es : List TimerMapEntry) : Type 0 where
   -- what is taken out is due, is the earliest, and is the oldest of its time
-  pub popped-right : (limit : ℕ) (a : Popped) → answered (pop-before limit) ws .reply ≡ popped a → a .found ≡ true → Right limit es (a .entry)
+  pub popped-right : (limit : ℕ) (a : Popped) → queue-answered (pop-before limit) ws .reply ≡ popped a → a .found ≡ true → Right limit es (a .entry)
   -- where nothing is, none is due
-  pub none-due : (limit : ℕ) (a : Popped) → answered (pop-before limit) ws .reply ≡ popped a → a .found ≡ false → (k : ℕ) → k < length es → limit < getD es k no-entry .time
-  pub event-right : (limit : ℕ) (out : List ℕ) (a : PoppedEvent) (bytes : List ℕ) → answered (pop-event limit out) ws .reply ≡ event a bytes → a .found ≡ true → EventRight limit es out a bytes
+  pub none-due : (limit : ℕ) (a : Popped) → queue-answered (pop-before limit) ws .reply ≡ popped a → a .found ≡ false → (k : ℕ) → k < length es → limit < getD es k no-queue-entry .time
+  pub event-right : (limit : ℕ) (out : List ℕ) (a : PoppedEvent) (bytes : List ℕ) → queue-answered (pop-event limit out) ws .reply ≡ event a bytes → a .found ≡ true → EventRight limit es out a bytes
 
 -- the queue after the calls vs, from the words ws that `new` left
-pub record Holds (ws : List ℕ) (vs : List Call) : Type 0 where
+pub record Holds (ws : List ℕ) (vs : List QueueCall) : Type 0 where
   -- every word: what was put in and not yet taken out, in order
-  pub holds : words-after vs ws ≡ pack (book-after vs ws [])
+  pub holds : queue-after vs ws ≡ pack-queue (book-after vs ws [])
   -- "and never to be answered 2"
-  pub none-is-two : mem 2 (codes vs ws) ≡ false
-  pub takes : Takes (words-after vs ws) (book-after vs ws [])
+  pub none-is-two : mem 2 (reply-codes vs ws) ≡ false
+  pub takes : TakesOut (queue-after vs ws) (book-after vs ws [])
 
 -- "From empty on": any words of the right number, renewed by timer_map_new
 abbrev pub Queue-holds : Type 0
-Queue-holds = (ws : List ℕ) → renewed ws .code ≡ 0 → (vs : List Call) → Holds (renewed ws .words) vs
+Queue-holds = (ws : List ℕ) → renewed ws .code ≡ 0 → (vs : List QueueCall) → Holds (renewed ws .words) vs
 
 -- the record without its delay
 unfoldable pub without-delay : Rec → Rec
@@ -63,7 +63,7 @@ without-delay r = record {
 }
 
 -- what comes out as an event is the record that went in, without its delay, and it reads back as that event: b is the record, and e an entry of the timer that it starts
-pub record ComesBack (b : List ℕ) (e : Entry) : Type 0 where
+pub record ComesBack (b : List ℕ) (e : TimerMapEntry) : Type 0 where
   pub has : has-event e ≡ true
   pub is : event-rec e ≡ without-delay (rec-of b)
   pub reads : read-event (encode (event-rec e)) ≡ R.event (without-delay (rec-of b))
@@ -71,4 +71,4 @@ pub record ComesBack (b : List ℕ) (e : Entry) : Type 0 where
 abbrev pub Event-comes-back : Type 0
 Event-comes-back =
     (b : List ℕ) → all-under 256 b ≡ true → well-formed b ≡ true → is-timer (header-of b) ≡ true
-    → (time : ℕ) → ComesBack b (record { time = time; item = start-of (length b) b .item })
+    → (time : ℕ) → ComesBack b (record { time = time; item = schedule-of (length b) b .item })

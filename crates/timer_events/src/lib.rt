@@ -3,9 +3,9 @@ use record::HEADER;
 use record::Header;
 use record::Kind;
 use record::Refusal;
-use timer_map::Entry;
 use timer_map::Id;
 use timer_map::Timer;
+use timer_map::TimerMapEntry;
 use writer::Fields;
 ghost use mathlib.Core.Path.{_≡_};
 ghost use mathlib.Core.Bool.{true, false};
@@ -13,9 +13,9 @@ ghost use mathlib.Core.List.{[]};
 ghost use Prim.Native.Nat.{_≤_};
 ghost use Rattle.record.specs.Read.{header-of};
 ghost use Rattle.writer.specs.Write.{rec-in};
-ghost use Rattle.timer_map.specs.Words.{entries-of, Sound};
+ghost use Rattle.timer_map.specs.Words.{entries-of, SoundQueue};
 ghost use Rattle.timer_map.specs.Calls.{put};
-ghost use Rattle.timer_events.specs.Records.{no-start, started, start-of, timer-of, timers-in, insert-all, insert-records, records-inserted};
+ghost use Rattle.timer_events.specs.Records.{no-start, started, schedule-of, timer-of, timers-in, insert-all, insert-records, records-inserted};
 ghost use Rattle.timer_events.specs.Events.{has-event, event-rec, event-popped, event-taken};
 
 // The kinds of a timer in the queue; those up to the second have neither peer nor number.
@@ -26,7 +26,7 @@ const LAST_BARE_TIMER: u64 = 2;
 const LAST_TIMER: u64 = 4;
 
 // A timer to be put in, and its delay.
-pub struct Start {
+pub struct ScheduleTimer {
     pub delay: u64,
     pub item: Timer,
 }
@@ -40,7 +40,7 @@ pub struct PoppedEvent {
 }
 
 // What is no timer: the queue refuses it with code 3.
-fn no_start() -> Start
+fn no_start() -> ScheduleTimer
     ensures { λ r. ⌜ r ≡ no-start ⌝ }
 {
     let id = Id(0, 0, 0, 0);
@@ -50,14 +50,14 @@ fn no_start() -> Start
         number: 0,
         id: id,
     };
-    Start {
+    ScheduleTimer {
         delay: 0,
         item: item,
     }
 }
 
 // The timer that a record with this header starts.
-fn started(h: Header) -> Start
+fn started(h: Header) -> ScheduleTimer
     ensures { λ r. ⌜ r ≡ started h ⌝ }
 {
     let id = Id(0, 0, 0, 0);
@@ -67,15 +67,15 @@ fn started(h: Header) -> Start
         number: h.number,
         id: id,
     };
-    Start {
+    ScheduleTimer {
         delay: h.second,
         item: item,
     }
 }
 
 // The timer that the first n bytes start; what is no record starts no timer.
-fn start_of(b: &[u8], n: usize) -> Start
-    ensures { λ r. ⌜ r ≡ start-of n (now (b .entry)) ⌝ }
+fn schedule_of(b: &[u8], n: usize) -> ScheduleTimer
+    ensures { λ r. ⌜ r ≡ schedule-of n (now (b .entry)) ⌝ }
 {
     if b.len() < n {
         return no_start();
@@ -89,13 +89,13 @@ fn start_of(b: &[u8], n: usize) -> Start
 
 // The record at the front of b, whose header is h: put in where it is a timer's.
 fn insert_record(q: &mut [u64], time: u64, b: &[u8], h: Header) -> u32
-    requires { ⌜ Sound (now q) ⌝ }
+    requires { ⌜ SoundQueue (now q) ⌝ }
     requires { ⌜ h ≡ header-of (now b) ⌝ }
     ensures { λ r. ⌜ record { code = r; words = now (q .exit) } ≡ put (insert-all time (timer-of (now (b .entry))) (entries-of (now (q .entry)))) ⌝ }
 {
     if (Kind::DO_SHUFFLE <= h.kind) & (h.kind <= Kind::RETRY_JOIN) {
         let n = h.size as usize;
-        let x = start_of(b, n);
+        let x = schedule_of(b, n);
         let item = x.item;
         return timer_map::insert_ok(q, time, x.delay, item);
     }
@@ -104,7 +104,7 @@ fn insert_record(q: &mut [u64], time: u64, b: &[u8], h: Header) -> u32
 
 // The timers of an output one after the other, up to the first that is refused.
 fn insert_all(q: &mut [u64], time: u64, out: &[u8]) -> u32
-    requires { ⌜ Sound (now q) ⌝ }
+    requires { ⌜ SoundQueue (now q) ⌝ }
     ensures { λ r. ⌜ record { code = r; words = now (q .exit) } ≡ put (insert-all time (timers-in (now (out .entry))) (entries-of (now (q .entry)))) ⌝ }
 {
     let mut rest = out;
@@ -128,7 +128,7 @@ fn insert_all(q: &mut [u64], time: u64, out: &[u8]) -> u32
 
 // The same into a queue that keeps its rules, all or none.
 fn records_ok(q: &mut [u64], time: u64, out: &[u8]) -> u32
-    requires { ⌜ Sound (now q) ⌝ }
+    requires { ⌜ SoundQueue (now q) ⌝ }
     ensures { λ r. ⌜ record { code = r; words = now (q .exit) } ≡ put (insert-records time (now (out .entry)) (entries-of (now (q .entry)))) ⌝ }
 {
     let n = q[timer_map::COUNT];
@@ -152,7 +152,7 @@ pub extern "C" fn timer_map_insert_records(q: &mut [u64], time: u64, out: &[u8])
 }
 
 // Whether an entry is what an event record can say.
-fn has_event(e: Entry) -> bool
+fn has_event(e: TimerMapEntry) -> bool
     ensures { λ r. ⌜ r ≡ has-event e ⌝ }
 {
     let x = e.item;
@@ -161,7 +161,7 @@ fn has_event(e: Entry) -> bool
 }
 
 // The fields of that record.
-fn fields(e: Entry) -> Fields
+fn fields(e: TimerMapEntry) -> Fields
     requires { ⌜ has-event e ≡ true ⌝ }
     ensures { λ r. ⌜ rec-in r [] ≡ event-rec e ⌝ }
 {
@@ -179,7 +179,7 @@ fn fields(e: Entry) -> Fields
 
 // A due timer of a queue that keeps its rules, as an event.
 fn pop_event_ok(q: &mut [u64], limit: u64, out: &mut [u8]) -> PoppedEvent
-    requires { ⌜ Sound (now q) ⌝ }
+    requires { ⌜ SoundQueue (now q) ⌝ }
     ensures { λ r. ⌜ record { answer = r; words = now (q .exit); output = now (out .exit) } ≡ event-popped limit (entries-of (now (q .entry))) (now (out .entry)) ⌝ }
 {
     let d = timer_map::find_due(q, limit);

@@ -10,9 +10,9 @@ use lib.Dec.{ltb, eqb}
 use borrow.Author.Tests.{ltb-true, ltb-false, le-ltb, eq-eqb, ne-eqb, eqb-true, eqb-false}
 use Rattle.lists.specs.Lists.{choose, index-of}
 use Rattle.lists.proofs.Choice.{split, choose-yes, choose-no}
-use Rattle.timer_map.specs.Entries.{times, least, smallest, soonest, first-entry, no-entry}
-use Rattle.timer_map.specs.Words.{entry-at, entries-at}
-use Rattle.timer_map.specs.declared.Entry.{Entry}
+use Rattle.timer_map.specs.Entries.{due-times, least, smallest, soonest, first-entry, no-queue-entry}
+use Rattle.timer_map.specs.Words.{queue-entry-at, queue-entries-at}
+use Rattle.timer_map.specs.declared.TimerMapEntry.{TimerMapEntry}
 
 -- b is the best place so far, and m its time; the times xs from place i on are to come
 unfoldable pub seek : ℕ → ℕ → ℕ → List ℕ → ℕ
@@ -82,14 +82,14 @@ pub record Seeking (ws : List ℕ) (n whole best i : ℕ) : Type 0 where
   pub low : i ≤ n
   pub room : 1 + 8 * n ≤ length ws
   pub under : best < n
-  pub same : whole ≡ seek best (getD ws (1 + 8 * best) 0) i (times (entries-at ws (1 + 8 * i) (n - i)))
+  pub same : whole ≡ seek best (getD ws (1 + 8 * best) 0) i (due-times (queue-entries-at ws (1 + 8 * i) (n - i)))
 
 -- the search from the first time on
-begun : (ws : List ℕ) (j : ℕ) → soonest (entries-at ws 1 (suc j)) ≡ seek 0 (getD ws 1 0) 0 (times (entries-at ws 1 (suc j)))
-unfolding soonest times entries-at entry-at
-begun ws j = sym (seek-is (getD ws 1 0) (times (entries-at ws 9 j)))
+begun : (ws : List ℕ) (j : ℕ) → soonest (queue-entries-at ws 1 (suc j)) ≡ seek 0 (getD ws 1 0) 0 (due-times (queue-entries-at ws 1 (suc j)))
+unfolding soonest due-times queue-entries-at queue-entry-at
+begun ws j = sym (seek-is (getD ws 1 0) (due-times (queue-entries-at ws 9 j)))
 
-pub seek-start : (ws : List ℕ) (n : ℕ) → 1 + 8 * n ≤ length ws → 0 < n → Seeking ws n (soonest (entries-at ws 1 n)) 0 0
+pub seek-start : (ws : List ℕ) (n : ℕ) → 1 + 8 * n ≤ length ws → 0 < n → Seeking ws n (soonest (queue-entries-at ws 1 n)) 0 0
 seek-start ws n h z =
     let k : n ≡ suc (n - 1) = omega arith in
     let m : suc (n - 1) ≡ n - 0 = omega arith in
@@ -97,12 +97,12 @@ seek-start ws n h z =
       low = omega arith;
       room = h;
       under = z;
-      same = ap (λ (j : ℕ). soonest (entries-at ws 1 j)) k ∙ begun ws (n - 1) ∙ ap (λ (j : ℕ). seek 0 (getD ws 1 0) 0 (times (entries-at ws 1 j))) m;
+      same = ap (λ (j : ℕ). soonest (queue-entries-at ws 1 j)) k ∙ begun ws (n - 1) ∙ ap (λ (j : ℕ). seek 0 (getD ws 1 0) 0 (due-times (queue-entries-at ws 1 j))) m;
     }
 
 -- one time more
-taken : (ws : List ℕ) (b m i j at : ℕ) → seek b m i (times (entries-at ws at (suc j))) ≡ choose (ltb (getD ws at 0) m) (seek i (getD ws at 0) (i + 1) (times (entries-at ws (at + 8) j))) (seek b m (i + 1) (times (entries-at ws (at + 8) j)))
-unfolding seek times entries-at entry-at
+taken : (ws : List ℕ) (b m i j at : ℕ) → seek b m i (due-times (queue-entries-at ws at (suc j))) ≡ choose (ltb (getD ws at 0) m) (seek i (getD ws at 0) (i + 1) (due-times (queue-entries-at ws (at + 8) j))) (seek b m (i + 1) (due-times (queue-entries-at ws (at + 8) j)))
+unfolding seek due-times queue-entries-at queue-entry-at
 taken ws b m i j at = refl
 
 module _ (ws : List ℕ) (n whole best i : ℕ) (v : Seeking ws n whole best i) where
@@ -111,9 +111,9 @@ module _ (ws : List ℕ) (n whole best i : ℕ) (v : Seeking ws n whole best i) 
       let k : n - i ≡ suc (n - (i + 1)) = omega arith in
       let p : 1 + 8 * i + 8 ≡ 1 + 8 * (i + 1) = omega arith in
       let m : ℕ = getD ws (1 + 8 * best) 0 in
-      let s : whole ≡ choose (ltb (getD ws (1 + 8 * i) 0) m) (seek i (getD ws (1 + 8 * i) 0) (i + 1) (times (entries-at ws (1 + 8 * (i + 1)) (n - (i + 1))))) (seek best m (i + 1) (times (entries-at ws (1 + 8 * (i + 1)) (n - (i + 1))))) =
-      v .same ∙ ap (λ (j : ℕ). seek best m i (times (entries-at ws (1 + 8 * i) j))) k ∙ taken ws best m i (n - (i + 1)) (1 + 8 * i)
-      ∙ ap (λ (at : ℕ). choose (ltb (getD ws (1 + 8 * i) 0) m) (seek i (getD ws (1 + 8 * i) 0) (i + 1) (times (entries-at ws at (n - (i + 1))))) (seek best m (i + 1) (times (entries-at ws at (n - (i + 1)))))) p in
+      let s : whole ≡ choose (ltb (getD ws (1 + 8 * i) 0) m) (seek i (getD ws (1 + 8 * i) 0) (i + 1) (due-times (queue-entries-at ws (1 + 8 * (i + 1)) (n - (i + 1))))) (seek best m (i + 1) (due-times (queue-entries-at ws (1 + 8 * (i + 1)) (n - (i + 1))))) =
+      v .same ∙ ap (λ (j : ℕ). seek best m i (due-times (queue-entries-at ws (1 + 8 * i) j))) k ∙ taken ws best m i (n - (i + 1)) (1 + 8 * i)
+      ∙ ap (λ (at : ℕ). choose (ltb (getD ws (1 + 8 * i) 0) m) (seek i (getD ws (1 + 8 * i) 0) (i + 1) (due-times (queue-entries-at ws at (n - (i + 1))))) (seek best m (i + 1) (due-times (queue-entries-at ws at (n - (i + 1)))))) p in
       split (ltb (getD ws (1 + 8 * i) 0) m)
       (λ t. let z : r ≡ i = e ∙ choose-yes _ i best t in
       record { low = omega arith; room = v .room; under = omega (arith, z); same = s ∙ choose-yes _ _ _ t ∙ rw z refl })
@@ -121,13 +121,13 @@ module _ (ws : List ℕ) (n whole best i : ℕ) (v : Seeking ws n whole best i) 
       record { low = omega arith; room = v .room; under = omega (arith, z, v .under); same = s ∙ choose-no _ _ _ t ∙ rw z refl })
 
   pub seek-end : n ≤ i → (best ≡ whole) × (best < n)
-  unfolding seek times entries-at
-  seek-end h = let k : n - i ≡ 0 = omega arith in (sym (v .same ∙ ap (λ (j : ℕ). seek best (getD ws (1 + 8 * best) 0) i (times (entries-at ws (1 + 8 * i) j))) k), v .under)
+  unfolding seek due-times queue-entries-at
+  seek-end h = let k : n - i ≡ 0 = omega arith in (sym (v .same ∙ ap (λ (j : ℕ). seek best (getD ws (1 + 8 * best) 0) i (due-times (queue-entries-at ws (1 + 8 * i) j))) k), v .under)
 
 -- ---- what the first with the smallest due time is
 
-length-times : (es : List Entry) → length (times es) ≡ length es
-unfolding times
+length-times : (es : List TimerMapEntry) → length (due-times es) ≡ length es
+unfolding due-times
 length-times [] = refl
 length-times (e ∷ es) = ap suc (length-times es)
 
@@ -146,10 +146,10 @@ smallest-there : (x : ℕ) (xs : List ℕ) → index-of (smallest (x ∷ xs)) (x
 unfolding smallest index-of
 smallest-there x xs = split (eqb (least x xs) x) (λ u. rw u (omega arith)) (λ u. rw u (omega (arith, least-there x xs (eqb-false (least x xs) x u))))
 
-pub soonest-below : (es : List Entry) → 0 < length es → soonest es < length es
-unfolding soonest times
+pub soonest-below : (es : List TimerMapEntry) → 0 < length es → soonest es < length es
+unfolding soonest due-times
 soonest-below [] h = absurd (omega arith)
-soonest-below (e ∷ es) h = omega (arith, smallest-there (e .time) (times es), length-times es)
+soonest-below (e ∷ es) h = omega (arith, smallest-there (e .time) (due-times es), length-times es)
 
 least-all : (m : ℕ) (xs : List ℕ) (k : ℕ) → k < length xs → least m xs ≤ getD xs k 0
 unfolding least
@@ -181,32 +181,32 @@ unfolding index-of
 index-first m [] k h e = absurd (omega arith)
 index-first m (x ∷ xs) k h e = split (eqb m x) (λ u. let q : k < 0 = rw u at h in omega arith) (λ u. before m x xs k (rw u at h) e u (λ j. index-first m xs j))
 
-getD-times : (es : List Entry) (k : ℕ) → k < length es → getD (times es) k 0 ≡ getD es k no-entry .time
-unfolding times
+getD-times : (es : List TimerMapEntry) (k : ℕ) → k < length es → getD (due-times es) k 0 ≡ getD es k no-queue-entry .time
+unfolding due-times
 getD-times [] k h = absurd (omega arith)
 getD-times (e ∷ es) zero h = refl
 getD-times (e ∷ es) (suc k) h = getD-times es k (omega arith)
 
-module _ (es : List Entry) (some : 0 < length es) where
-  pub first-time : first-entry es .time ≡ smallest (times es)
+module _ (es : List TimerMapEntry) (some : 0 < length es) where
+  pub first-time : first-entry es .time ≡ smallest (due-times es)
   unfolding first-entry soonest
   first-time =
       let b : soonest es < length es = soonest-below es some in
-      sym (getD-times es (soonest es) b) ∙ getD-index (smallest (times es)) (times es) (omega (arith, length-times es, b))
+      sym (getD-times es (soonest es) b) ∙ getD-index (smallest (due-times es)) (due-times es) (omega (arith, length-times es, b))
 
   -- "The earliest due comes out first"
-  pub first-earliest : (k : ℕ) → k < length es → first-entry es .time ≤ getD es k no-entry .time
-  first-earliest k h = omega (arith, first-time, smallest-all (times es) k (omega (arith, length-times es)), getD-times es k h)
+  pub first-earliest : (k : ℕ) → k < length es → first-entry es .time ≤ getD es k no-queue-entry .time
+  first-earliest k h = omega (arith, first-time, smallest-all (due-times es) k (omega (arith, length-times es)), getD-times es k h)
 
   -- "equal times come out in the order put in": what was put in before it is due later
-  pub first-oldest : (k : ℕ) → k < soonest es → first-entry es .time < getD es k no-entry .time
+  pub first-oldest : (k : ℕ) → k < soonest es → first-entry es .time < getD es k no-queue-entry .time
   unfolding soonest
   first-oldest k h =
       let b : soonest es < length es = soonest-below es some in
-      let n : getD (times es) k 0 ≡ smallest (times es) → ⊥ = index-first (smallest (times es)) (times es) k h in
-      let l : smallest (times es) ≤ getD (times es) k 0 = smallest-all (times es) k (omega (arith, length-times es)) in
+      let n : getD (due-times es) k 0 ≡ smallest (due-times es) → ⊥ = index-first (smallest (due-times es)) (due-times es) k h in
+      let l : smallest (due-times es) ≤ getD (due-times es) k 0 = smallest-all (due-times es) k (omega (arith, length-times es)) in
       omega (arith, first-time, getD-times es k (omega (arith, b)), n, l)
 
-  pub first-place : index-of (first-entry es .time) (times es) ≡ soonest es
+  pub first-place : index-of (first-entry es .time) (due-times es) ≡ soonest es
   unfolding soonest
-  first-place = ap (λ (t : ℕ). index-of t (times es)) first-time
+  first-place = ap (λ (t : ℕ). index-of t (due-times es)) first-time

@@ -6,10 +6,10 @@ use mathlib.Core.List.{List, []}
 use lib.ListN.{length}
 use lib.Dec.{eqb}
 use Rattle.lists.specs.Lists.{choose, null}
-use Rattle.timer_map.specs.Entries.{Put, insert, is-due, soonest, first-entry, no-entry, popped-entries}
-use Rattle.timer_map.specs.Words.{words, entries-of, queue-ok, pack}
+use Rattle.timer_map.specs.Entries.{Put, insert-timer, is-due, soonest, first-entry, no-queue-entry, popped-entries}
+use Rattle.timer_map.specs.Words.{queue-words, entries-of, queue-ok, pack-queue}
 use Rattle.timer_map.specs.declared.Timer.{Timer}
-use Rattle.timer_map.specs.declared.Entry.{Entry}
+use Rattle.timer_map.specs.declared.TimerMapEntry.{TimerMapEntry}
 use Rattle.timer_map.specs.declared.Due.{Due}
 use Rattle.timer_map.specs.declared.Popped.{Popped}
 use Rattle.timer_map.specs.declared.First.{First}
@@ -21,39 +21,39 @@ pub record PutWords : Type 0 where
   pub words : List ℕ
 
 unfoldable pub put : Put → PutWords
-put p = record { code = p .code; words = pack (p .entries) }
+put p = record { code = p .code; words = pack-queue (p .entries) }
 
 -- TimerMap::insert
 unfoldable pub inserted : ℕ → ℕ → Timer → List ℕ → PutWords
-inserted time delay x ws = choose (queue-ok ws) (put (insert time delay x (entries-of ws))) (record { code = 2; words = ws })
+inserted time delay x ws = choose (queue-ok ws) (put (insert-timer time delay x (entries-of ws))) (record { code = 2; words = ws })
 
 -- without an entry: a refusal, or code 0 where none is due
 abbrev pub refused-pop : ℕ → Popped
-refused-pop code = record { code = code; found = false; entry = no-entry }
+refused-pop code = record { code = code; found = false; entry = no-queue-entry }
 
 -- the entry that is to come out, and its place
 abbrev pub no-due : Due
-no-due = record { found = false; place = 0; entry = no-entry }
+no-due = record { found = false; place = 0; entry = no-queue-entry }
 
-unfoldable pub due-in : ℕ → List Entry → Due
+unfoldable pub due-in : ℕ → List TimerMapEntry → Due
 due-in limit es = choose (is-due limit es) (record { found = true; place = soonest es; entry = first-entry es }) no-due
 
-unfoldable pub popped : ℕ → List Entry → Popped
+unfoldable pub popped : ℕ → List TimerMapEntry → Popped
 popped limit es = choose (is-due limit es) (record { code = 0; found = true; entry = first-entry es }) (refused-pop 0)
 
 pub record PoppedWords : Type 0 where
   pub answer : Popped
   pub words : List ℕ
 
-unfoldable pub popped-words : ℕ → List Entry → PoppedWords
-popped-words limit es = record { answer = popped limit es; words = pack (popped-entries limit es) }
+unfoldable pub popped-words : ℕ → List TimerMapEntry → PoppedWords
+popped-words limit es = record { answer = popped limit es; words = pack-queue (popped-entries limit es) }
 
 -- TimerMap::pop_before
 unfoldable pub taken-out : ℕ → List ℕ → PoppedWords
 taken-out limit ws = choose (queue-ok ws) (popped-words limit (entries-of ws)) (record { answer = refused-pop 2; words = ws })
 
 -- TimerMap::first
-unfoldable pub first-of : List Entry → First
+unfoldable pub first-of : List TimerMapEntry → First
 first-of es = choose (null es) (record { code = 0; found = false; time = 0 }) (record { code = 0; found = true; time = first-entry es .time })
 
 unfoldable pub first-in : List ℕ → First
@@ -65,4 +65,4 @@ count-in ws = choose (queue-ok ws) (record { code = 0; count = length (entries-o
 
 -- TimerMap::default, in words of any content
 unfoldable pub renewed : List ℕ → PutWords
-renewed ws = choose (eqb (length ws) words) (record { code = 0; words = pack [] }) (record { code = 2; words = ws })
+renewed ws = choose (eqb (length ws) queue-words) (record { code = 0; words = pack-queue [] }) (record { code = 2; words = ws })

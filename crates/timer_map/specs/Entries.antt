@@ -8,7 +8,7 @@ use lib.Dec.{ltb, leb, eqb}
 use Rattle.lists.specs.Lists.{choose, null, index-of, shift-remove}
 use Rattle.timer_map.specs.declared.Id.{Id}
 use Rattle.timer_map.specs.declared.Timer.{Timer}
-use Rattle.timer_map.specs.declared.Entry.{Entry}
+use Rattle.timer_map.specs.declared.TimerMapEntry.{TimerMapEntry}
 
 -- "for up to 64 timers"
 abbrev pub capacity : ℕ
@@ -26,31 +26,31 @@ no-id x = eqb (x .0) 0 && (eqb (x .1) 0 && (eqb (x .2) 0 && eqb (x .3) 0))
 unfoldable pub timer-ok : Timer → Bool
 timer-ok x = leb 1 (x .kind) && (leb (x .kind) 4 && no-id (x .id))
 
-unfoldable pub entry-ok : Entry → Bool
-entry-ok e = timer-ok (e .item)
+unfoldable pub queue-entry-ok : TimerMapEntry → Bool
+queue-entry-ok e = timer-ok (e .item)
 
 -- "Answers, in this order: .. 12, due time passes 2^64 - 1; 11, queue holds 64 and one is added", of n entries held
-unfoldable pub refusal : ℕ → ℕ → ℕ → ℕ
-refusal time delay n = choose (ltb latest (time + delay)) 12 (choose (leb capacity n) 11 0)
+unfoldable pub insert-refusal : ℕ → ℕ → ℕ → ℕ
+insert-refusal time delay n = choose (ltb latest (time + delay)) 12 (choose (leb capacity n) 11 0)
 
 -- a code, and the entries then held
 pub record Put : Type 0 where
   pub code : ℕ
-  pub entries : List Entry
+  pub entries : List TimerMapEntry
 
 -- "A timer is put in with the time and its delay"; a refusal leaves the queue as it was. What is no timer is malformed, 3.
-unfoldable pub insert : ℕ → ℕ → Timer → List Entry → Put
-insert time delay x es =
+unfoldable pub insert-timer : ℕ → ℕ → Timer → List TimerMapEntry → Put
+insert-timer time delay x es =
     choose (timer-ok x)
-    (choose (eqb (refusal time delay (length es)) 0)
+    (choose (eqb (insert-refusal time delay (length es)) 0)
     (record { code = 0; entries = es ++ (record { time = time + delay; item = x } ∷ []) })
-    (record { code = refusal time delay (length es); entries = es }))
+    (record { code = insert-refusal time delay (length es); entries = es }))
     (record { code = 3; entries = es })
 
 -- the due times
-unfoldable pub times : List Entry → List ℕ
-times [] = []
-times (e ∷ es) = e .time ∷ times es
+unfoldable pub due-times : List TimerMapEntry → List ℕ
+due-times [] = []
+due-times (e ∷ es) = e .time ∷ due-times es
 
 -- the smallest of m and the numbers
 unfoldable pub least : ℕ → List ℕ → ℕ
@@ -63,21 +63,21 @@ smallest [] = 0
 smallest (x ∷ xs) = least x xs
 
 -- "The earliest due comes out first; equal times come out in the order put in": the place of the first with the smallest due time
-unfoldable pub soonest : List Entry → ℕ
-soonest es = index-of (smallest (times es)) (times es)
+unfoldable pub soonest : List TimerMapEntry → ℕ
+soonest es = index-of (smallest (due-times es)) (due-times es)
 
 -- all zero: what stands for an entry where there is none
-abbrev pub no-entry : Entry
-no-entry = record { time = 0; item = record { kind = 0; peer = 0; number = 0; id = record { 0 = 0; 1 = 0; 2 = 0; 3 = 0 } } }
+abbrev pub no-queue-entry : TimerMapEntry
+no-queue-entry = record { time = 0; item = record { kind = 0; peer = 0; number = 0; id = record { 0 = 0; 1 = 0; 2 = 0; 3 = 0 } } }
 
 -- that entry
-unfoldable pub first-entry : List Entry → Entry
-first-entry es = getD es (soonest es) no-entry
+unfoldable pub first-entry : List TimerMapEntry → TimerMapEntry
+first-entry es = getD es (soonest es) no-queue-entry
 
 -- "Asking with a time takes out the first entry due at or before it, or none"
-unfoldable pub is-due : ℕ → List Entry → Bool
+unfoldable pub is-due : ℕ → List TimerMapEntry → Bool
 is-due limit es = not (null es) && leb (first-entry es .time) limit
 
 -- what is held after it
-unfoldable pub popped-entries : ℕ → List Entry → List Entry
+unfoldable pub popped-entries : ℕ → List TimerMapEntry → List TimerMapEntry
 popped-entries limit es = choose (is-due limit es) (shift-remove (soonest es) es) es

@@ -7,8 +7,8 @@ ghost use lib.Dec.{ltb};
 ghost use Rattle.lists.specs.Lists.{choose, shift-remove};
 ghost use Rattle.lists.specs.Bytes.{overwrite};
 ghost use Rattle.lists.specs.Tests.{every};
-ghost use Rattle.timer_map.specs.Entries.{timer-ok, entry-ok, refusal, insert, soonest, no-entry};
-ghost use Rattle.timer_map.specs.Words.{count-of, entry-at, entries-at, entries-of, row, unused, queue-ok, pack, Sound};
+ghost use Rattle.timer_map.specs.Entries.{timer-ok, queue-entry-ok, insert-refusal, insert-timer, soonest, no-queue-entry};
+ghost use Rattle.timer_map.specs.Words.{queue-count, queue-entry-at, queue-entries-at, entries-of, queue-row, unused-word, queue-ok, pack-queue, SoundQueue};
 ghost use Rattle.timer_map.specs.Calls.{put, no-due, due-in, popped-words, refused-pop, inserted, taken-out, first-of, first-in, count-in, renewed};
 
 // The lent words: the count, then a row for each place. A sum is a constant of its own.
@@ -35,7 +35,7 @@ const LAST_KIND: u64 = 4;
 // The codes of refusals.
 const BROKEN: u32 = 2;
 
-const MALFORMED: u32 = 3;
+const NO_TIMER: u32 = 3;
 
 const FULL: u32 = 11;
 
@@ -56,7 +56,7 @@ pub struct Timer {
 
 // TimerMapEntry without its sequence number: entries stand in the order put in.
 #[repr(C)]
-pub struct Entry {
+pub struct TimerMapEntry {
     pub time: u64,
     pub item: Timer,
 }
@@ -65,7 +65,7 @@ pub struct Entry {
 pub struct Due {
     pub found: bool,
     pub place: usize,
-    pub entry: Entry,
+    pub entry: TimerMapEntry,
 }
 
 // What taking out hands back; without an entry all of it is zero.
@@ -73,7 +73,7 @@ pub struct Due {
 pub struct Popped {
     pub code: u32,
     pub found: bool,
-    pub entry: Entry,
+    pub entry: TimerMapEntry,
 }
 
 // The next due time, if any.
@@ -101,9 +101,9 @@ pub fn timer_ok(x: Timer) -> bool
 }
 
 // The entry whose row stands at place `at`.
-fn entry_at(q: &[u64], at: usize) -> Entry
+fn entry_at(q: &[u64], at: usize) -> TimerMapEntry
     requires { ⌜ at + 8 ≤ length (now q) ⌝ }
-    ensures { λ r. ⌜ r ≡ entry-at (now (q .entry)) at ⌝ }
+    ensures { λ r. ⌜ r ≡ queue-entry-at (now (q .entry)) at ⌝ }
 {
     let id = Id(q[at + 4], q[at + 5], q[at + 6], q[at + 7]);
     let item = Timer {
@@ -112,15 +112,15 @@ fn entry_at(q: &[u64], at: usize) -> Entry
         number: q[at + 3],
         id: id,
     };
-    Entry {
+    TimerMapEntry {
         time: q[at],
         item: item,
     }
 }
 
 // The row of an entry.
-fn row(e: Entry) -> [u64; 8]
-    ensures { λ r. ⌜ r ≡ row e ⌝ }
+fn row(e: TimerMapEntry) -> [u64; 8]
+    ensures { λ r. ⌜ r ≡ queue-row e ⌝ }
 {
     let x = e.item;
     let id = x.id;
@@ -130,7 +130,7 @@ fn row(e: Entry) -> [u64; 8]
 // Whether the first n rows are timers.
 fn entries_ok(q: &[u64], n: usize) -> bool
     requires { ⌜ 1 + 8 * n ≤ length (now q) ⌝ }
-    ensures { λ r. ⌜ r ≡ every entry-ok (entries-at (now (q .entry)) 1 n) ⌝ }
+    ensures { λ r. ⌜ r ≡ every queue-entry-ok (queue-entries-at (now (q .entry)) 1 n) ⌝ }
 {
     let mut ok = true;
     let mut at = ROWS;
@@ -148,7 +148,7 @@ fn entries_ok(q: &[u64], n: usize) -> bool
 // Whether the words from place `from` on are zero.
 fn zero_from(q: &[u64], from: usize) -> bool
     requires { ⌜ from ≤ length (now q) ⌝ }
-    ensures { λ r. ⌜ r ≡ every unused (drop from (now (q .entry))) ⌝ }
+    ensures { λ r. ⌜ r ≡ every unused-word (drop from (now (q .entry))) ⌝ }
 {
     let mut ok = true;
     let mut i = from;
@@ -213,10 +213,10 @@ fn shift_down(q: &mut [u64], at: usize)
 }
 
 // One more entry, at the end.
-fn push(q: &mut [u64], e: Entry)
-    requires { ⌜ Sound (now q) ⌝ }
-    requires { ⌜ count-of (now q) < 64 ⌝ }
-    ensures { λ _. ⌜ now (q .exit) ≡ pack (entries-of (now (q .entry)) ++ (e ∷ [])) ⌝ }
+fn push(q: &mut [u64], e: TimerMapEntry)
+    requires { ⌜ SoundQueue (now q) ⌝ }
+    requires { ⌜ queue-count (now q) < 64 ⌝ }
+    ensures { λ _. ⌜ now (q .exit) ≡ pack-queue (entries-of (now (q .entry)) ++ (e ∷ [])) ⌝ }
 {
     let n = q[COUNT];
     let a = row(e);
@@ -227,9 +227,9 @@ fn push(q: &mut [u64], e: Entry)
 
 // The i-th entry goes, and the later ones keep their order.
 pub fn remove(q: &mut [u64], i: usize)
-    requires { ⌜ Sound (now q) ⌝ }
-    requires { ⌜ i < count-of (now q) ⌝ }
-    ensures { λ _. ⌜ now (q .exit) ≡ pack (shift-remove i (entries-of (now (q .entry)))) ⌝ }
+    requires { ⌜ SoundQueue (now q) ⌝ }
+    requires { ⌜ i < queue-count (now q) ⌝ }
+    ensures { λ _. ⌜ now (q .exit) ≡ pack-queue (shift-remove i (entries-of (now (q .entry)))) ⌝ }
 {
     let n = q[COUNT];
     let at = ROWS + ROW * i;
@@ -240,9 +240,9 @@ pub fn remove(q: &mut [u64], i: usize)
 
 // The first n entries stay, and the later ones go.
 pub fn truncate(q: &mut [u64], n: u64)
-    requires { ⌜ Sound (now q) ⌝ }
-    requires { ⌜ n ≤ count-of (now q) ⌝ }
-    ensures { λ _. ⌜ now (q .exit) ≡ pack (take n (entries-of (now (q .entry)))) ⌝ }
+    requires { ⌜ SoundQueue (now q) ⌝ }
+    requires { ⌜ n ≤ queue-count (now q) ⌝ }
+    ensures { λ _. ⌜ now (q .exit) ≡ pack-queue (take n (entries-of (now (q .entry)))) ⌝ }
 {
     let at = ROWS + ROW * (n as usize);
     clear_from(q, at);
@@ -251,7 +251,7 @@ pub fn truncate(q: &mut [u64], n: u64)
 
 // Why a timer with this delay cannot be put in beside n others, or 0.
 fn refusal(time: u64, delay: u64, n: u64) -> u32
-    ensures { λ r. ⌜ r ≡ refusal time delay n ⌝ }
+    ensures { λ r. ⌜ r ≡ insert-refusal time delay n ⌝ }
 {
     let late = LATEST - time < delay;
     let full = CAPACITY <= n;
@@ -266,22 +266,22 @@ fn refusal(time: u64, delay: u64, n: u64) -> u32
 
 // A timer into a queue that keeps its rules.
 pub fn insert_ok(q: &mut [u64], time: u64, delay: u64, item: Timer) -> u32
-    requires { ⌜ Sound (now q) ⌝ }
-    ensures { λ r. ⌜ record { code = r; words = now (q .exit) } ≡ put (insert time delay item (entries-of (now (q .entry)))) ⌝ }
+    requires { ⌜ SoundQueue (now q) ⌝ }
+    ensures { λ r. ⌜ record { code = r; words = now (q .exit) } ≡ put (insert-timer time delay item (entries-of (now (q .entry)))) ⌝ }
 {
     if timer_ok(item) {
         let code = refusal(time, delay, q[COUNT]);
         if code != 0 {
             return code;
         }
-        let e = Entry {
+        let e = TimerMapEntry {
             time: time + delay,
             item: item,
         };
         push(q, e);
         return 0;
     }
-    MALFORMED
+    NO_TIMER
 }
 
 // TimerMap::insert, by the time and a delay: 0, or 2, 3 (no timer), 12, 11, and then every word is as it was.
@@ -313,7 +313,7 @@ fn earlier(q: &[u64], best: usize, i: usize) -> usize
 fn soonest(q: &[u64], n: usize) -> usize
     requires { ⌜ 1 + 8 * n ≤ length (now q) ⌝ }
     requires { ⌜ 0 < n ⌝ }
-    ensures { λ r. ⌜ (r ≡ soonest (entries-at (now (q .entry)) 1 n)) × (r < n) ⌝ }
+    ensures { λ r. ⌜ (r ≡ soonest (queue-entries-at (now (q .entry)) 1 n)) × (r < n) ⌝ }
 {
     let mut best: usize = 0;
     let mut i: usize = 0;
@@ -324,8 +324,8 @@ fn soonest(q: &[u64], n: usize) -> usize
     best
 }
 
-fn no_entry() -> Entry
-    ensures { λ r. ⌜ r ≡ no-entry ⌝ }
+fn no_entry() -> TimerMapEntry
+    ensures { λ r. ⌜ r ≡ no-queue-entry ⌝ }
 {
     let id = Id(0, 0, 0, 0);
     let item = Timer {
@@ -334,7 +334,7 @@ fn no_entry() -> Entry
         number: 0,
         id: id,
     };
-    Entry {
+    TimerMapEntry {
         time: 0,
         item: item,
     }
@@ -365,7 +365,7 @@ fn no_pop(code: u32) -> Popped
 
 // The first entry with the smallest due time, where that is at most the limit, of a queue that keeps its rules.
 pub fn find_due(q: &[u64], limit: u64) -> Due
-    requires { ⌜ Sound (now q) ⌝ }
+    requires { ⌜ SoundQueue (now q) ⌝ }
     ensures { λ r. ⌜ r ≡ due-in limit (entries-of (now (q .entry))) ⌝ }
 {
     let n = q[COUNT] as usize;
@@ -387,7 +387,7 @@ pub fn find_due(q: &[u64], limit: u64) -> Due
 
 // Taking out of a queue that keeps its rules.
 fn pop_ok(q: &mut [u64], limit: u64) -> Popped
-    requires { ⌜ Sound (now q) ⌝ }
+    requires { ⌜ SoundQueue (now q) ⌝ }
     ensures { λ r. ⌜ record { answer = r; words = now (q .exit) } ≡ popped-words limit (entries-of (now (q .entry))) ⌝ }
 {
     let d = find_due(q, limit);
@@ -417,7 +417,7 @@ pub extern "C" fn timer_map_pop_before(q: &mut [u64], limit: u64) -> Popped
 
 // The next due time of a queue that keeps its rules.
 fn first_ok(q: &[u64]) -> First
-    requires { ⌜ Sound (now q) ⌝ }
+    requires { ⌜ SoundQueue (now q) ⌝ }
     ensures { λ r. ⌜ r ≡ first-of (entries-of (now (q .entry))) ⌝ }
 {
     let n = q[COUNT] as usize;
@@ -479,68 +479,4 @@ pub extern "C" fn timer_map_new(q: &mut [u64]) -> u32
     }
     clear_from(q, 0);
     0
-}
-
-// A queue by value.
-#[repr(C)]
-pub struct TimerMap {
-    pub words: [u64; 513],
-}
-
-// A queue, and the code of what was done to it.
-pub struct Inserted {
-    pub code: u32,
-    pub map: TimerMap,
-}
-
-// A queue, and what was taken out of it.
-pub struct Drawn {
-    pub answer: Popped,
-    pub map: TimerMap,
-}
-
-impl TimerMap {
-    pub fn new() -> TimerMap
-        ensures { λ r. ⌜ r .words ≡ pack [] ⌝ }
-    {
-        TimerMap { words: [0u64; 513] }
-    }
-
-    pub fn insert(self, time: u64, delay: u64, item: Timer) -> Inserted
-        ensures { λ r. ⌜ record { code = r .code; words = r .map .words } ≡ inserted time delay item (self .words) ⌝ }
-    {
-        let mut words = self.words;
-        let code = timer_map_insert(&mut words, time, delay, item);
-        let map = TimerMap { words: words };
-        Inserted {
-            code: code,
-            map: map,
-        }
-    }
-
-    pub fn pop_before(self, limit: u64) -> Drawn
-        ensures { λ r. ⌜ record { answer = r .answer; words = r .map .words } ≡ taken-out limit (self .words) ⌝ }
-    {
-        let mut words = self.words;
-        let answer = timer_map_pop_before(&mut words, limit);
-        let map = TimerMap { words: words };
-        Drawn {
-            answer: answer,
-            map: map,
-        }
-    }
-
-    pub fn first(self) -> First
-        ensures { λ r. ⌜ r ≡ first-in (self .words) ⌝ }
-    {
-        let words = self.words;
-        timer_map_first(&words)
-    }
-
-    pub fn len(self) -> Len
-        ensures { λ r. ⌜ r ≡ count-in (self .words) ⌝ }
-    {
-        let words = self.words;
-        timer_map_len(&words)
-    }
 }

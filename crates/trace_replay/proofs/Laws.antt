@@ -33,7 +33,7 @@ use Rattle.run_walk.proofs.Draws.{counted, first-draws, part-is}
 use Rattle.run_walk.proofs.Fresh.{made-bare}
 use Rattle.trace_replay.specs.declared.Start.{Start}
 use Rattle.trace_replay.specs.declared.Ended.{Ended}
-use Rattle.trace_replay.specs.Ending.{Counting, room-of, counting, words-after, laid-words, ended, made-end, input-end, ended-of}
+use Rattle.trace_replay.specs.Ending.{Counting, room-of, counting, words-after, laid-words, ended-at, made-end, input-end, ended-of}
 
 -- ---- the room
 
@@ -110,20 +110,20 @@ module _ (start : Start) (l : Layout) (b : List ℕ) (m : Made) (own : List ℕ)
   pub whole-refused : (r : Ended) → (m .code ≡ 0 → ⊥) → r ≡ record { code = m .code; state = m .state } → r ≡ made-end start (P.new (l .me) none (l .config)) l b
   unfolding made-end
   whole-refused r h k =
-      k ∙ ((λ j. ended (made-code j) (made-words j)) ∙ sym (choose-no _ _ _ (ap (λ (x : ℕ). eqb x 0) (sym made-code) ∙ ne-eqb _ _ h)))
+      k ∙ ((λ j. ended-at (made-code j) (made-words j)) ∙ sym (choose-no _ _ _ (ap (λ (x : ℕ). eqb x 0) (sym made-code) ∙ ne-eqb _ _ h)))
 
   pub whole-run : (s last : State) (room : ℕ) → m .code ≡ 0 → Counting start (m .state) s → room ≡ room-of start → last .words ≡ laid-words room (s .words) l b
       → _≡_ {A = Ended} (record { code = 0; state = last }) (made-end start (P.new (l .me) none (l .config)) l b)
   unfolding made-end
   whole-run s last room h c q k =
       let first : s .words ≡ pack (counting start (P.new (l .me) none (l .config) .state)) = c .same _ made-words in
-      ap (ended 0) (k ∙ (λ i. laid-words (q i) (first i) l b))
+      ap (ended-at 0) (k ∙ (λ i. laid-words (q i) (first i) l b))
       ∙ sym (choose-yes _ _ _ (ap (λ (x : ℕ). eqb x 0) (sym made-code) ∙ eq-eqb _ _ h))
 
 module _ (start : Start) (b : List ℕ) (x : Input) (e : x ≡ input-of b) where
   pub ends-refused : (r : Ended) (s : State) → x ≡ Refused → s .words ≡ pack P.zero-station → r ≡ record { code = 3; state = s } → r ≡ ended-of start b
   unfolding ended-of input-end
-  ends-refused r s h z k = k ∙ (ap (ended 3) z ∙ ap (λ (y : Input). input-end start y b) (sym h ∙ e))
+  ends-refused r s h z k = k ∙ (ap (ended-at 3) z ∙ ap (λ (y : Input). input-end start y b) (sym h ∙ e))
 
   pub ends-whole : (l : Layout) (r : Ended) → x ≡ Whole l → r ≡ made-end start (P.new (l .me) none (l .config)) l b → r ≡ ended-of start b
   unfolding ended-of input-end

@@ -45,17 +45,17 @@ unfoldable pub laid-words : ℕ → List ℕ → Layout → List ℕ → List �
 laid-words room xs l b = words-after room xs (cut-events (l .events) (slice 56 (l .«draws_at») b)) (numbers (l .draws) 0 (drop (l .«draws_at») b))
 
 -- a code, and the state of these words
-abbrev pub ended : ℕ → List ℕ → Ended
-ended code xs = record { code = code; state = record { words = xs } }
+abbrev pub ended-at : ℕ → List ℕ → Ended
+ended-at code xs = record { code = code; state = record { words = xs } }
 
 -- "otherwise out-of-range settings": the answer of `new`; else code 0 and the state after the last event
 unfoldable pub made-end : Start → Made → Layout → List ℕ → Ended
 made-end start m l b =
-    choose (eqb (m .code) 0) (ended 0 (laid-words (room-of start) (pack (counting start (m .state))) l b)) (ended (m .code) (pack (m .state)))
+    choose (eqb (m .code) 0) (ended-at 0 (laid-words (room-of start) (pack (counting start (m .state))) l b)) (ended-at (m .code) (pack (m .state)))
 
 -- an input that is refused as a whole: code 3, and "a state of zeroes"; "Own data is absent."
 unfoldable pub input-end : Start → Input → List ℕ → Ended
-input-end start Refused b = ended 3 (pack zero-station)
+input-end start Refused b = ended-at 3 (pack zero-station)
 input-end start (Whole l) b = made-end start (new (l .me) none (l .config)) l b
 
 -- how the history of the input b ends

@@ -182,7 +182,7 @@ fn put_views(out: &mut [u8], t: Text, st: &[u64]) -> Text
 fn put_open(out: &mut [u8], t: Text, st: &[u64]) -> Text
     requires { ⌜ length (now st) ≡ 551 ⌝ }
 {
-    let requests = &st[Layout::REQUESTS..Layout::REQUESTS_END];
+    let requests = &st[Layout::ASKED..Layout::ASKED_END];
     let joins = &st[Layout::JOINS..Layout::JOINS_END];
     let a = numbers_field(out, t, b" requests=", requests, Layout::ALL);
     let b = number_field(out, a, b" next_request=", st[Layout::NEXT_NEIGHBOR_REQUEST]);
@@ -193,8 +193,8 @@ fn put_open(out: &mut [u8], t: Text, st: &[u64]) -> Text
 fn put_kept(out: &mut [u8], t: Text, st: &[u64]) -> Text
     requires { ⌜ length (now st) ≡ 551 ⌝ }
 {
-    let data = &st[Layout::DATA..Layout::DATA_END];
-    let alive = &st[Layout::ALIVE..Layout::ALIVE_END];
+    let data = &st[Layout::HELD..Layout::HELD_END];
+    let alive = &st[Layout::MARKS..Layout::MARKS_END];
     let refused = &st[Layout::REFUSED..Layout::REFUSED_END];
     let refill = state::limit_of(st);
     let a = data_field(out, t, data);

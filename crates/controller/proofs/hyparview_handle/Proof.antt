@@ -244,8 +244,8 @@ module _ {M : Type 1} (𝓤 : URA M) (H : Heap 𝓤) (A : Atoms 𝓤) (W : Given
   abbrev Counted : ℕ → List ℕ → Val → Tally → Item 𝓤
   Counted c l v t′ = given ((v ≡ vunit) × (t′ ≡ raised c l h)) (Counting ⊛ ‵ (fres γ (T.the-row .coded .code t′)))
 
-  counted : (c : ℕ) (δ : GName) (l : List ℕ) (v : Val) → ent 𝓤 (Raise 𝓤 H A at-mem run .post (to-raise c δ l) v) (mean 𝓤 H A (later (some (Counted c l v))))
-  counted c δ l v =
+  tallied : (c : ℕ) (δ : GName) (l : List ℕ) (v : Val) → ent 𝓤 (Raise 𝓤 H A at-mem run .post (to-raise c δ l) v) (mean 𝓤 H A (later (some (Counted c l v))))
+  tallied c δ l v =
       qed W (raw (Raise 𝓤 H A at-mem run .post (to-raise c δ l) v) ∷ []) ∵ updating ! $
       use1 W (later (some (λ (y : Unit {0}). (Counting ⊛ ‵ (unit .own y (v ∷ []))) ⊛ raw (ensured 𝓤 H A raise.ended (raise.clauses 𝓤 H A at-mem run) (κt, (κo, tt)) (counts c δ l) tt y)))) (id⊢ 𝓤 _) $ await ! tt $ pick ! (λ y.
       split ! $ move ! (1 ∷ []) $ use1 W (some (λ (ts : Raised). ‵ (lasts raise.ended (κt, (κo, tt)) (counts c δ l) ts) ⊛ raw (fact 𝓤 (ts .0 ≡ raised c l h)))) (id⊢ 𝓤 _) $ pick ! (λ ts.
@@ -299,7 +299,7 @@ module _ {M : Type 1} (𝓤 : URA M) (H : Heap 𝓤) (A : Atoms 𝓤) (W : Given
         move ! (0 ∷ 33 ∷ []) $ use2 W (raw (Raise 𝓤 H A at-mem run .pre (to-raise (r .code) δ′ (zs .1 .1 .1 .0))) ⊛ ‵ (finally u8 γo (zs .1 .1 .1 .0))) (raise-goes-in (r .code) δ′ (zs .1 .1 .1 .0) (LL.owed D.the-type D′.the-laws r (u ∷ []) was .0 .1)) $ split ! $
         -- [what `raise` asks; the last output; the rest that `handle` gave back; what event and draws own; _14; …; _1; …; room for _0; …]
         calls-at ! fm (Raise 𝓤 H A at-mem run) raises (to-raise (r .code) δ′ (zs .1 .1 .1 .0)) (and-then ! (load ! (from ! (stop !)) (look ! 8 refl)) (and-then ! (load ! (from ! (fld ! refl (stop !))) (look-in ! 20 (sub ! 0 refl (whole !)))) (and-then ! (load ! (from ! (stop !)) (look ! 4 refl)) (no-more !)))) (λ v.
-        use1 W (later (some (Counted (r .code) (zs .1 .1 .1 .0) v))) (counted (r .code) δ′ (zs .1 .1 .1 .0) v) $ await ! tt $ pick ! (λ t′. learn ! (λ rose.
+        use1 W (later (some (Counted (r .code) (zs .1 .1 .1 .0) v))) (tallied (r .code) δ′ (zs .1 .1 .1 .0) v) $ await ! tt $ pick ! (λ t′. learn ! (λ rose.
         land ! (from ! (stop !)) (init ! 10 refl (subst (λ (y : Val). Holds (hasTy tyUnit y) × WT y) (sym (rose .0)) (tt, tt))) $
         assigns ! (of-opd ! (load ! (from ! (stop !)) (look ! 20 refl))) (from ! (stop !)) (init ! 32 refl (LL.lawful D.the-type D′.the-laws 𝓤 H A W .typed r _ is .0)) $
         join ! $ use3 W (raw (Post (LL.val D.the-type D′.the-laws r))) (exits r zs t′ told (rose .1) is) $

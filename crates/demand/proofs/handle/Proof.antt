@@ -1,5 +1,5 @@
 use borrow.Author.Needs.{needs}
-use Rattle.demand.specs.Program.{outcome}
+use Rattle.demand.specs.Program.{program-outcome}
 use Rattle.demand.proofs.handle.Statement.{statement}
 use Rattle.demand.proofs.handle.Tie as tie
 use Rattle.demand.proofs.handle.Reads as reads
@@ -20,7 +20,7 @@ same-length-2 c = search needs
 
 -- src/lib.rt:15:1
 returns : tie.Need-returns
-unfolding outcome
+unfolding program-outcome
 returns c = search needs
 
 pub handle-spec : {M : Type 1} → statement M

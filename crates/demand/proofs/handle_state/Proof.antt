@@ -1,5 +1,5 @@
 use borrow.Author.Needs.{needs}
-use Rattle.demand.specs.Program.{outcome}
+use Rattle.demand.specs.Program.{program-outcome}
 use Rattle.demand.proofs.handle_state.Statement.{statement}
 use Rattle.demand.proofs.handle_state.Tie as tie
 
@@ -10,7 +10,7 @@ same-length : tie.Need-same-length
 same-length c = search needs
 
 returns : tie.Need-returns
-unfolding outcome
+unfolding program-outcome
 returns c = search needs
 
 pub handle-state-spec : {M : Type 1} → statement M

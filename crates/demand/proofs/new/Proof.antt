@@ -1,5 +1,5 @@
 use borrow.Author.Needs.{needs}
-use Rattle.demand.specs.Program.{made}
+use Rattle.demand.specs.Program.{program-made}
 use Rattle.demand.proofs.new.Statement.{statement}
 use Rattle.demand.proofs.new.Tie as tie
 use Rattle.demand.proofs.new.Reads as reads
@@ -16,7 +16,7 @@ same-length c = search needs
 
 -- src/lib.rt:9:1
 returns : tie.Need-returns
-unfolding made
+unfolding program-made
 returns c = search needs
 
 pub new-spec : {M : Type 1} → statement M

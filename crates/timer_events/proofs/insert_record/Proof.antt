@@ -6,8 +6,8 @@ use Rattle.timer_events.proofs.insert_record.Tie as tie
 cast-n : tie.Need-cast-n
 cast-n c = search needs
 
-start-of-requires : tie.Need-start-of-requires
-start-of-requires c κs = search needs
+schedule-of-requires : tie.Need-schedule-of-requires
+schedule-of-requires c κs = search needs
 
 insert-ok-requires : tie.Need-insert-ok-requires
 insert-ok-requires c κs = search needs
@@ -23,4 +23,4 @@ returns-2 c = search put-other
 
 pub insert-record-spec : {M : Type 1} → statement M
 insert-record-spec =
-    tie.close (tie.spec cast-n start-of-requires insert-ok-requires same-length returns returns-2)
+    tie.close (tie.spec cast-n schedule-of-requires insert-ok-requires same-length returns returns-2)

@@ -1,14 +1,14 @@
 use Prim.Native.Nat.{_-_}
 use borrow.Author.Needs.{needs}
 use Rattle.lists.specs.Tests.{every}
-use Rattle.timer_map.specs.Entries.{entry-ok}
-use Rattle.timer_map.specs.Words.{entries-at}
+use Rattle.timer_map.specs.Entries.{queue-entry-ok}
+use Rattle.timer_map.specs.Words.{queue-entries-at}
 use Rattle.timer_map.proofs.Walk.{Walk, Timers, timers-start, timers-next, timers-end}
 use Rattle.timer_map.proofs.entries_ok.Statement.{statement}
 use Rattle.timer_map.proofs.entries_ok.Tie as tie
 
 abbrev Inv-loop : tie.InvT-loop
-Inv-loop q n ok₀ at₀ i₀ ok at i = Walk Timers q n (every entry-ok (entries-at q 1 n)) ok at i
+Inv-loop q n ok₀ at₀ i₀ ok at i = Walk Timers q n (every queue-entry-ok (queue-entries-at q 1 n)) ok at i
 
 abbrev μ-loop : tie.MeasureT-loop
 μ-loop q n ok₀ at₀ i₀ ok at i = n - i

@@ -1,6 +1,6 @@
 use mathlib.Core.Path.{refl}
 use borrow.Author.Needs.{needs}
-use Rattle.timer_map.specs.Words.{entry-at}
+use Rattle.timer_map.specs.Words.{queue-entry-at}
 use Rattle.timer_map.proofs.entry_at.Statement.{statement}
 use Rattle.timer_map.proofs.entry_at.Tie as tie
 
@@ -74,7 +74,7 @@ shared-slice-read-t12-3 : tie.Need-shared-slice-read-t12-3
 shared-slice-read-t12-3 c = search needs
 
 returns : tie.Need-returns
-unfolding entry-at
+unfolding queue-entry-at
 returns c = refl
 
 pub entry-at-spec : {M : Type 1} → statement M

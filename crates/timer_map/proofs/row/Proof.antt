@@ -1,10 +1,10 @@
 use mathlib.Core.Path.{refl}
-use Rattle.timer_map.specs.Words.{row}
+use Rattle.timer_map.specs.Words.{queue-row}
 use Rattle.timer_map.proofs.row.Statement.{statement}
 use Rattle.timer_map.proofs.row.Tie as tie
 
 returns : tie.Need-returns
-unfolding row
+unfolding queue-row
 returns c = refl
 
 pub row-spec : {M : Type 1} → statement M

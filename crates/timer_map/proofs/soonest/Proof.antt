@@ -1,13 +1,13 @@
 use Prim.Native.Nat.{_-_}
 use borrow.Author.Needs.{needs}
 use Rattle.timer_map.specs.Entries.{soonest}
-use Rattle.timer_map.specs.Words.{entries-at}
+use Rattle.timer_map.specs.Words.{queue-entries-at}
 use Rattle.timer_map.proofs.Order.{Seeking, seek-start, seek-next, seek-end}
 use Rattle.timer_map.proofs.soonest.Statement.{statement}
 use Rattle.timer_map.proofs.soonest.Tie as tie
 
 abbrev Inv-loop : tie.InvT-loop
-Inv-loop q n best₀ i₀ best i = Seeking q n (soonest (entries-at q 1 n)) best i
+Inv-loop q n best₀ i₀ best i = Seeking q n (soonest (queue-entries-at q 1 n)) best i
 
 abbrev μ-loop : tie.MeasureT-loop
 μ-loop q n best₀ i₀ best i = n - i

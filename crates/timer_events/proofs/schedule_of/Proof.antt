@@ -1,7 +1,7 @@
 use borrow.Author.Needs.{needs}
 use Rattle.timer_events.proofs.Inserting.{short-start, read-start, no-record, part-long}
-use Rattle.timer_events.proofs.start_of.Statement.{statement}
-use Rattle.timer_events.proofs.start_of.Tie as tie
+use Rattle.timer_events.proofs.schedule_of.Statement.{statement}
+use Rattle.timer_events.proofs.schedule_of.Tie as tie
 
 no-start-requires : tie.Need-no-start-requires
 no-start-requires c κs = search needs
@@ -33,8 +33,8 @@ returns-2 c = search read-start
 returns-3 : tie.Need-returns-3
 returns-3 c = search no-record
 
-pub start-of-spec : {M : Type 1} → statement M
-start-of-spec =
+pub schedule-of-spec : {M : Type 1} → statement M
+schedule-of-spec =
     tie.close
     (tie.spec
     no-start-requires
