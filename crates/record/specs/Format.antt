@@ -28,6 +28,10 @@ header-length-by w = 16 + 2 * w
 abbrev pub node-length-by : ℕ → ℕ
 node-length-by w = 4 + w
 
+-- where the i-th node entry stands, and from the entry after the last on the data
+abbrev pub place-by : ℕ → ℕ → ℕ
+place-by w i = header-length-by w + node-length-by w * i
+
 abbrev pub header-length : ℕ
 header-length = header-length-by peer-length
 
@@ -78,7 +82,7 @@ header-by w e =
 
 -- the bytes of a record
 unfoldable pub encode-by : ℕ → Rec → List ℕ
-encode-by w e = header-by w e ++ (entries-by w (e .nodes) (header-length-by w + node-length-by w * length (e .nodes)) ++ datas (e .nodes))
+encode-by w e = header-by w e ++ (entries-by w (e .nodes) (place-by w (length (e .nodes))) ++ datas (e .nodes))
 
 -- ---- the same in this form
 

@@ -9,8 +9,8 @@ ghost use lib.ListN.{length};
 ghost use lib.Seq.{slice};
 ghost use Rattle.lists.specs.Lists.{choose};
 ghost use Rattle.lists.specs.Bytes.{read-le};
-ghost use Rattle.record.specs.Format.{IsForm, header-length, header-length-by, node-length, node-length-by};
-ghost use Rattle.record.specs.Read.{fixed-size, header-of, header-of-by, entry-from, entry-at, is-message, is-timer, is-data, kind-ok, flags-ok, count-ok, peer-ok, fields-ok, header-ok, data-ok, entry-ok, entries-ok-by, well-formed, well-formed-by, is-event, data-at, node-at};
+ghost use Rattle.record.specs.Format.{IsForm, header-length, header-length-by, node-length, node-length-by, place-by};
+ghost use Rattle.record.specs.Read.{fixed-size, header-of, header-of-by, entry-from, entry-at, entry-at-by, is-message, is-timer, is-data, kind-ok, flags-ok, count-ok, peer-ok, fields-ok, header-ok, data-ok, entry-ok, entries-ok-by, well-formed, well-formed-by, is-event, data-at, node-at};
 ghost use Rattle.peer.specs.Held.{HoldsData};
 ghost use Rattle.record.specs.Answers.{answer, EventIs, HoldsNode};
 
@@ -226,7 +226,7 @@ pub fn read_header(b: &[u8]) -> Header
 }
 
 // The fields of the node entry at a place, as they stand, where a peer has w bytes.
-pub fn read_entry(b: &[u8], at: usize, w: usize) -> Entry
+fn read_entry(b: &[u8], at: usize, w: usize) -> Entry
     requires { ⌜ IsForm w ⌝ }
     requires { ⌜ at + node-length-by w ≤ length (now b) ⌝ }
     ensures { λ r. ⌜ r ≡ entry-from w (now (b .entry)) at ⌝ }
@@ -239,7 +239,26 @@ pub fn read_entry(b: &[u8], at: usize, w: usize) -> Entry
     }
 }
 
-// The i-th node entry's fields, as they stand.
+// Where the i-th node entry stands; the data stand from the place of the entry after the last on.
+pub fn place(i: usize, w: usize) -> usize
+    requires { ⌜ IsForm w ⌝ }
+    requires { ⌜ i ≤ 255 ⌝ }
+    ensures { λ r. ⌜ (r ≡ place-by w i) × (r ≤ 3092) ⌝ }
+{
+    16 + 2 * w + (4 + w) * i
+}
+
+// The i-th node entry's fields, where a peer has w bytes.
+pub fn node_by(b: &[u8], i: usize, w: usize) -> Entry
+    requires { ⌜ IsForm w ⌝ }
+    requires { ⌜ i ≤ 255 ⌝ }
+    requires { ⌜ place-by w i + node-length-by w ≤ length (now b) ⌝ }
+    ensures { λ r. ⌜ r ≡ entry-at-by w (now (b .entry)) i ⌝ }
+{
+    read_entry(b, place(i, w), w)
+}
+
+// The i-th node entry's fields.
 pub fn node(b: &[u8], i: usize) -> Entry
     requires { ⌜ header-length + node-length * i + node-length ≤ length (now b) ⌝ }
     ensures { λ r. ⌜ r ≡ entry-at (now (b .entry)) i ⌝ }
@@ -373,20 +392,17 @@ fn entry_ok(h: Header, e: Entry, at: usize) -> bool
 // Every entry is sound, and the data reach the whole length.
 fn entries_ok(h: Header, b: &[u8], w: usize) -> bool
     requires { ⌜ IsForm w ⌝ }
-    ensures { λ r. ⌜ r ≡ entries-ok-by w h (now (b .entry)) 0 (h .nodes) (header-length-by w + node-length-by w * h .nodes) ⌝ }
+    ensures { λ r. ⌜ r ≡ entries-ok-by w h (now (b .entry)) 0 (h .nodes) (place-by w (h .nodes)) ⌝ }
 {
     let n = h.nodes as usize;
-    let step = 4 + w;
-    let mut place = 16 + 2 * w;
-    let mut at = place + step * n;
+    let mut at = place(n, w);
     if b.len() < at {
         return false;
     }
     let mut i: usize = 0;
     while i < n {
-        let e = read_entry(b, place, w);
+        let e = node_by(b, i, w);
         if entry_ok(h, e, at) {
-            place += step;
             at += e.len as usize;
             i += 1;
         } else {

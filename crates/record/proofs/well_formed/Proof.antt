@@ -1,11 +1,11 @@
-use Prim.Native.Nat.{ℕ, _+_, _*_, _≤_, _<_}
+use Prim.Native.Nat.{ℕ, _≤_, _<_}
 use mathlib.Core.Path.{_≡_}
 use mathlib.Core.Bool.{Bool, false, _&&_}
 use mathlib.Core.List.{List}
 use borrow.Author.Tests.{le-leb, lt-leb}
 use lib.ListN.{length}
 use lib.Dec.{eqb}
-use Rattle.record.specs.Format.{header-length-by, node-length-by}
+use Rattle.record.specs.Format.{header-length-by, place-by}
 use Rattle.record.specs.Read.{header-of-by, header-ok, entries-ok-by, well-formed-by}
 use Rattle.record.specs.declared.Header.{Header}
 use borrow.Author.Needs.{needs}
@@ -18,7 +18,7 @@ module _ (w : ℕ) (b : List ℕ) where
   short l = rw (lt-leb _ _ l)
 
   long : (h : Header) (r s : Bool) → header-length-by w ≤ length b → h ≡ header-of-by w b → r ≡ header-ok h
-      → s ≡ entries-ok-by w h b 0 (h .nodes) (header-length-by w + node-length-by w * h .nodes) → (r && (eqb (h .size) (length b) && s)) ≡ well-formed-by w b
+      → s ≡ entries-ok-by w h b 0 (h .nodes) (place-by w (h .nodes)) → (r && (eqb (h .size) (length b) && s)) ≡ well-formed-by w b
   unfolding well-formed-by
   long h r s l e p q = rw (p, q, e, le-leb _ _ l)
 
