@@ -16,7 +16,7 @@ use Rattle.lists.proofs.Choice.{choose-yes, choose-no, split, and-left, and-rig
 use Rattle.lists.proofs.Slices.{slice-append, slice-whole, slice-each}
 use Rattle.lists.proofs.Numbers.{Bytes, read-below, le-read, le-read-then}
 use Rattle.peer.specs.Data.{Data, Node, bytes-of}
-use Rattle.record.specs.Format.{Rec, header-length-by, node-length-by, present, offset, entry-by, entries-by, datas, size-by, header-by, encode-by}
+use Rattle.record.specs.Format.{Rec, header-length-by, node-length-by, place-by, present, offset, entry-by, entries-by, datas, size-by, header-by, encode-by}
 use Rattle.record.specs.Read.{header-of-by, entry-from, entry-at-by, header-ok, data-ok, id-ok, present-ok, entry-ok, entries-ok-by, well-formed-by, data-at, node-at-by, nodes-of-by, rec-of-by, decode-by}
 use Rattle.record.specs.InForm.{header-in-by, NodeInForm, NodesInFormBy, InFormBy}
 use Rattle.record.specs.declared.Header.{Header}
@@ -73,10 +73,6 @@ two l i h =
     (slice-cons i (i + 2) l 0 (omega arith) h
     ∙ ap (λ (r : List ℕ). getD l i 0 ∷ r) (slice-cons (suc i) (i + 2) l 0 (omega arith) h ∙ ap (λ (r : List ℕ). getD l (suc i) 0 ∷ r) (rw e (slice-empty (suc (suc i)) l))))
 
--- where the i-th entry stands
-abbrev pub place-by : ℕ → ℕ → ℕ
-place-by w i = header-length-by w + node-length-by w * i
-
 module _ (w : ℕ) (b : List ℕ) (ok : Bytes b) (i at : ℕ) where
   abbrev e : Entry
   e = entry-at-by w b i
@@ -115,12 +111,12 @@ module _ (w : ℕ) (b : List ℕ) (ok : Bytes b) (i at : ℕ) where
 
 -- ---- all entries
 
-record Back (w : ℕ) (h : Header) (b : List ℕ) (i n at : ℕ) : Type 0 where
-  count : length (nodes-of-by w b i n) ≡ n
-  reach : at + length (datas (nodes-of-by w b i n)) ≡ length b
-  entries-are : entries-by w (nodes-of-by w b i n) at ≡ slice (place-by w i) (place-by w (i + n)) b
-  datas-are : datas (nodes-of-by w b i n) ≡ slice at (length b) b
-  form : NodesInFormBy w h (nodes-of-by w b i n)
+pub record Back (w : ℕ) (h : Header) (b : List ℕ) (i n at : ℕ) : Type 0 where
+  pub count : length (nodes-of-by w b i n) ≡ n
+  pub reach : at + length (datas (nodes-of-by w b i n)) ≡ length b
+  pub entries-are : entries-by w (nodes-of-by w b i n) at ≡ slice (place-by w i) (place-by w (i + n)) b
+  pub datas-are : datas (nodes-of-by w b i n) ≡ slice at (length b) b
+  pub form : NodesInFormBy w h (nodes-of-by w b i n)
 
 module _ (w : ℕ) (h : Header) (b : List ℕ) (ok : Bytes b) where
   back-end : (i at : ℕ) → at ≡ length b → Back w h b i 0 at
@@ -220,10 +216,10 @@ module _ (w : ℕ) (b : List ℕ) (ok : Bytes b) (t : well-formed-by w b ≡ tru
   the-parts : Parts w b
   the-parts = parts w b t
 
-  room : start ≤ length b
+  pub room : start ≤ length b
   room = entries-reach w (header-of-by w b) b 0 count start (the-parts .listed)
 
-  all-back : Back w (header-of-by w b) b 0 count start
+  pub all-back : Back w (header-of-by w b) b 0 count start
   all-back = let z : 0 + count ≡ count = omega arith in back w (header-of-by w b) b ok 0 count start (rw z room) (the-parts .listed)
 
   size-back : size-by w (rec-of-by w b) ≡ header-of-by w b .size

@@ -17,7 +17,7 @@ use Rattle.lists.proofs.Slices.{slice-mid}
 use Rattle.lists.proofs.Bytes.{length-le}
 use Rattle.lists.proofs.Numbers.{From, past, byte-from, number-from}
 use Rattle.peer.specs.Data.{Data, Node, bytes-of}
-use Rattle.record.specs.Format.{Rec, peer-length, header-length-by, node-length-by, present, offset, entry-by, entries-by, datas, size, size-by, header-by, encode, encode-by}
+use Rattle.record.specs.Format.{Rec, peer-length, header-length-by, node-length-by, place-by, present, offset, entry-by, entries-by, datas, size, size-by, header-by, encode, encode-by}
 use Rattle.record.specs.Read.{header-of, header-of-by, entry-from, entry-at-by, is-message, is-data, kind-ok, flags-ok, count-ok, peer-ok, fields-ok, header-ok, data-ok, entry-ok, entries-ok-by, well-formed, well-formed-by, data-at, node-at-by, nodes-of-by, rec-of, rec-of-by, decode-by}
 use Rattle.record.specs.InForm.{header-in, header-in-by, NodesInFormBy, InForm, InFormBy}
 use Rattle.record.specs.declared.Header.{Header}
@@ -25,7 +25,6 @@ use Rattle.record.specs.Answers.{answer}
 use Rattle.record.specs.declared.Entry.{Entry}
 use Rattle.record.specs.declared.Answer.the-variants.{Record}
 use Rattle.record.proofs.Format.{length-entry, length-entries, length-header, length-encode-by}
-use Rattle.record.proofs.Back.{place-by}
 
 both-true : (a b : Bool) → a ≡ true → b ≡ true → (a && b) ≡ true
 both-true a b p q = rw (p, q)
@@ -137,7 +136,7 @@ count-few : (h : Header) → count-ok h ≡ true → h .nodes ≤ 32
 unfolding count-ok
 count-few h e = counted (is-message 0 h || (is-message 1 h || (is-message 4 h || is-data h))) (is-message 2 h || is-message 3 h) (h .nodes) e
 
-count-most : (h : Header) → header-ok h ≡ true → h .nodes ≤ 32
+pub count-most : (h : Header) → header-ok h ≡ true → h .nodes ≤ 32
 unfolding header-ok
 count-most h e =
     let rest : Bool = peer-ok h && fields-ok h in
@@ -164,12 +163,12 @@ module _ (w : ℕ) (wide : w ≤ peer-length) (e : Rec) (f : InFormBy w e) where
   few-nodes = count-most (header-in-by w e) (f .header)
 
   -- 32 nodes of 16 bytes: the whole length fits two bytes
-  size-most-by : size-by w e ≤ 928
+  pub size-most-by : size-by w e ≤ 928
   unfolding size-by
   size-most-by =
       omega (arith, wide, few-nodes, datas-most w (header-in-by w e) (e .nodes) (f .nodes), mul-le-mul-right {m = node-length-by w} {n = 12} (length (e .nodes)) (omega (arith, wide)))
 
-  header-read-by : header-of-by w (encode-by w e) ≡ header-in-by w e
+  pub header-read-by : header-of-by w (encode-by w e) ≡ header-in-by w e
   unfolding header-of-by encode-by header-by header-in-by
   header-read-by =
       let b : List ℕ = encode-by w e in
@@ -217,7 +216,7 @@ module _ (w : ℕ) (wide : w ≤ peer-length) (e : Rec) (f : InFormBy w e) where
   small : length (encode-by w e) < 65536
   small = omega (arith, length-encode-by w e, size-most-by)
 
-  well-formed-encode-by : well-formed-by w (encode-by w e) ≡ true
+  pub well-formed-encode-by : well-formed-by w (encode-by w e) ≡ true
   unfolding well-formed-by header-in-by
   well-formed-encode-by =
       rw header-read-by
@@ -225,7 +224,7 @@ module _ (w : ℕ) (wide : w ≤ peer-length) (e : Rec) (f : InFormBy w e) where
       (both-true _ _ (f .header)
       (both-true _ _ (eq-eqb (size-by w e) (length (encode-by w e)) (sym (length-encode-by w e))) (entries-sound w (header-in-by w e) (encode-by w e) (e .nodes) 0 start placed (f .nodes) whole small))))
 
-  rec-of-encode-by : rec-of-by w (encode-by w e) ≡ e
+  pub rec-of-encode-by : rec-of-by w (encode-by w e) ≡ e
   unfolding rec-of-by header-in-by
   rec-of-encode-by = rw header-read-by (ap (λ (ns : List Node). with-nodes e ns) (nodes-back w (header-in-by w e) (encode-by w e) (e .nodes) 0 start placed (f .nodes) whole small))
 

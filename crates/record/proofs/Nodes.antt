@@ -16,13 +16,13 @@ use Rattle.lists.proofs.Choice.{choose-yes, choose-no, and-left, and-right}
 use Rattle.peer.specs.Data.{Data, Node, bytes-of}
 use Rattle.peer.specs.Held.{HoldsData, taken, node-in}
 use Rattle.peer.specs.declared.PeerData.{PeerData}
-use Rattle.record.specs.Format.{peer-length, header-length, node-length, node-length-by, present}
+use Rattle.record.specs.Format.{peer-length, header-length, node-length, node-length-by, place-by, present}
 use Rattle.record.specs.Read.{header-of, header-of-by, entry-at, entry-at-by, data-ok, id-ok, present-ok, entry-ok, entries-ok-by, well-formed, well-formed-by, data-at, node-at, node-at-by, nodes-of, nodes-of-by, rec-of, rec-of-by}
 use Rattle.record.specs.Answers.{HoldsNode}
 use Rattle.record.specs.declared.Header.{Header}
 use Rattle.record.specs.declared.Entry.{Entry}
 use Rattle.record.proofs.Laws.{entries-reach}
-use Rattle.record.proofs.Back.{Sound, sound, place-by, parts}
+use Rattle.record.proofs.Back.{Sound, sound, parts}
 
 -- the i-th entry of b: its bytes and its data stand within b, the data are those that it points at, at most 16 bytes
 pub record EntryIn (w : ℕ) (b : List ℕ) (i : ℕ) : Type 0 where

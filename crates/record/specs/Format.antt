@@ -1,7 +1,8 @@
 -- Document 01, "Records": what a record is, and its bytes: a header, an entry for each node, then the nodes' data without gaps. A peer has w bytes:
 -- 8 since document 02, S-8, which makes headers of 32 bytes and entries of 12; 4 in the old form, with headers of 24 and entries of 8.
 -- Assumes nothing.
-use Prim.Native.Nat.{ℕ, _+_, _*_}
+use Prim.Native.Nat.{ℕ, _+_, _*_, _≤_}
+use mathlib.Core.Path.{_≡_}
 use mathlib.Core.List.{List, [], _∷_, _++_}
 use mathlib.Core.Option.{none, some}
 use lib.ListN.{length}
@@ -15,12 +16,21 @@ peer-length = 8
 abbrev pub old-length : ℕ
 old-length = 4
 
+-- w is the bytes of a peer in one of the two forms
+pub record IsForm (w : ℕ) : Type 0 where
+  pub most : w ≤ peer-length
+  pub other : (w ≡ old-length → ⊥) → w ≡ peer-length
+
 -- the bytes of a header and of a node entry
 abbrev pub header-length-by : ℕ → ℕ
 header-length-by w = 16 + 2 * w
 
 abbrev pub node-length-by : ℕ → ℕ
 node-length-by w = 4 + w
+
+-- where the i-th node entry stands, and from the entry after the last on the data
+abbrev pub place-by : ℕ → ℕ → ℕ
+place-by w i = header-length-by w + node-length-by w * i
 
 abbrev pub header-length : ℕ
 header-length = header-length-by peer-length
@@ -72,7 +82,7 @@ header-by w e =
 
 -- the bytes of a record
 unfoldable pub encode-by : ℕ → Rec → List ℕ
-encode-by w e = header-by w e ++ (entries-by w (e .nodes) (header-length-by w + node-length-by w * length (e .nodes)) ++ datas (e .nodes))
+encode-by w e = header-by w e ++ (entries-by w (e .nodes) (place-by w (length (e .nodes))) ++ datas (e .nodes))
 
 -- ---- the same in this form
 

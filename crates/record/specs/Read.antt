@@ -10,7 +10,7 @@ use lib.Dec.{leb, ltb, eqb}
 use Rattle.lists.specs.Lists.{choose}
 use Rattle.lists.specs.Bytes.{read-le}
 use Rattle.peer.specs.Data.{Data, Node}
-use Rattle.record.specs.Format.{Rec, peer-length, header-length, header-length-by, node-length, node-length-by}
+use Rattle.record.specs.Format.{Rec, peer-length, header-length, header-length-by, node-length, place-by}
 use Rattle.record.specs.declared.Header.{Header}
 use Rattle.record.specs.declared.Entry.{Entry}
 
@@ -43,7 +43,7 @@ entry-from w b at = record {
 
 -- the i-th node entry
 unfoldable pub entry-at-by : ℕ → List ℕ → ℕ → Entry
-entry-at-by w b i = entry-from w b (header-length-by w + node-length-by w * i)
+entry-at-by w b i = entry-from w b (place-by w i)
 
 -- message m of kind 0
 unfoldable pub is-message : ℕ → Header → Bool
@@ -114,7 +114,7 @@ well-formed-by w b =
     leb (header-length-by w) (length b)
     && (header-ok (header-of-by w b)
     && (eqb (header-of-by w b .size) (length b)
-    && entries-ok-by w (header-of-by w b) b 0 (header-of-by w b .nodes) (header-length-by w + node-length-by w * header-of-by w b .nodes)))
+    && entries-ok-by w (header-of-by w b) b 0 (header-of-by w b .nodes) (place-by w (header-of-by w b .nodes))))
 
 -- "A node's data is handed back as a part of the event's own bytes"
 unfoldable pub data-at : List ℕ → Entry → Data

@@ -9,10 +9,15 @@ ghost use lib.ListN.{length};
 ghost use lib.Seq.{slice};
 ghost use Rattle.lists.specs.Lists.{choose};
 ghost use Rattle.lists.specs.Bytes.{read-le};
-ghost use Rattle.record.specs.Format.{header-length, node-length};
-ghost use Rattle.record.specs.Read.{fixed-size, header-of, entry-at, is-message, is-timer, is-data, kind-ok, flags-ok, count-ok, peer-ok, fields-ok, header-ok, data-ok, entry-ok, entries-ok, well-formed, is-event, data-at, node-at};
+ghost use Rattle.record.specs.Format.{IsForm, header-length, header-length-by, node-length, node-length-by, place-by};
+ghost use Rattle.record.specs.Read.{fixed-size, header-of, header-of-by, entry-from, entry-at, entry-at-by, is-message, is-timer, is-data, kind-ok, flags-ok, count-ok, peer-ok, fields-ok, header-ok, data-ok, entry-ok, entries-ok-by, well-formed, well-formed-by, is-event, data-at, node-at};
 ghost use Rattle.peer.specs.Held.{HoldsData};
 ghost use Rattle.record.specs.Answers.{answer, EventIs, HoldsNode};
+
+// The bytes of a peer's number, in this form and in the old one.
+pub const PEER: usize = 8;
+
+pub const OLD_PEER: usize = 4;
 
 // The bytes of a header and of a node entry.
 pub const HEADER: usize = 32;
@@ -127,6 +132,8 @@ impl Refusal {
     pub const OUTPUT: u32 = 9;
 
     pub const COUNTER: u32 = 10;
+
+    pub const NO_OTHER_FORM: u32 = 19;
 }
 
 // The fixed size of a record by its kind byte; 0 where no kind has that number. By comparisons, since a match over the kinds is
@@ -179,36 +186,84 @@ fn read_u64(b: &[u8], at: usize) -> u64
     low + 4294967296 * high
 }
 
-// The header's fields, as they stand.
-pub fn read_header(b: &[u8]) -> Header
-    requires { ⌜ header-length ≤ length (now b) ⌝ }
-    ensures { λ r. ⌜ r ≡ header-of (now (b .entry)) ⌝ }
+// A peer's number, where it has w bytes.
+fn read_peer(b: &[u8], at: usize, w: usize) -> u64
+    requires { ⌜ IsForm w ⌝ }
+    requires { ⌜ at + w ≤ length (now b) ⌝ }
+    ensures { λ r. ⌜ r ≡ read-le w (now (b .entry)) at ⌝ }
+{
+    if w == OLD_PEER {
+        return read_u32(b, at) as u64;
+    }
+    read_u64(b, at)
+}
+
+// The header's fields, as they stand, where a peer has w bytes.
+pub fn read_header_by(b: &[u8], w: usize) -> Header
+    requires { ⌜ IsForm w ⌝ }
+    requires { ⌜ header-length-by w ≤ length (now b) ⌝ }
+    ensures { λ r. ⌜ r ≡ header-of-by w (now (b .entry)) ⌝ }
 {
     Header {
         kind: b[0],
         message: b[1],
         flags: b[2],
         nodes: b[3],
-        peer: read_u64(b, 4),
-        second: read_u64(b, 12),
-        ttl: read_u16(b, 20),
-        size: read_u16(b, 22),
-        number: read_u64(b, 24),
+        peer: read_peer(b, 4, w),
+        second: read_peer(b, 4 + w, w),
+        ttl: read_u16(b, 4 + 2 * w),
+        size: read_u16(b, 6 + 2 * w),
+        number: read_u64(b, 8 + 2 * w),
     }
 }
 
-// The i-th node entry's fields, as they stand.
+// The same in this form.
+pub fn read_header(b: &[u8]) -> Header
+    requires { ⌜ header-length ≤ length (now b) ⌝ }
+    ensures { λ r. ⌜ r ≡ header-of (now (b .entry)) ⌝ }
+{
+    read_header_by(b, PEER)
+}
+
+// The fields of the node entry at a place, as they stand, where a peer has w bytes.
+fn read_entry(b: &[u8], at: usize, w: usize) -> Entry
+    requires { ⌜ IsForm w ⌝ }
+    requires { ⌜ at + node-length-by w ≤ length (now b) ⌝ }
+    ensures { λ r. ⌜ r ≡ entry-from w (now (b .entry)) at ⌝ }
+{
+    Entry {
+        id: read_peer(b, at, w),
+        offset: read_u16(b, at + w),
+        len: b[at + (w + 2)],
+        present: b[at + (w + 3)],
+    }
+}
+
+// Where the i-th node entry stands; the data stand from the place of the entry after the last on.
+pub fn place(i: usize, w: usize) -> usize
+    requires { ⌜ IsForm w ⌝ }
+    requires { ⌜ i ≤ 255 ⌝ }
+    ensures { λ r. ⌜ (r ≡ place-by w i) × (r ≤ 3092) ⌝ }
+{
+    16 + 2 * w + (4 + w) * i
+}
+
+// The i-th node entry's fields, where a peer has w bytes.
+pub fn node_by(b: &[u8], i: usize, w: usize) -> Entry
+    requires { ⌜ IsForm w ⌝ }
+    requires { ⌜ i ≤ 255 ⌝ }
+    requires { ⌜ place-by w i + node-length-by w ≤ length (now b) ⌝ }
+    ensures { λ r. ⌜ r ≡ entry-at-by w (now (b .entry)) i ⌝ }
+{
+    read_entry(b, place(i, w), w)
+}
+
+// The i-th node entry's fields.
 pub fn node(b: &[u8], i: usize) -> Entry
     requires { ⌜ header-length + node-length * i + node-length ≤ length (now b) ⌝ }
     ensures { λ r. ⌜ r ≡ entry-at (now (b .entry)) i ⌝ }
 {
-    let at = HEADER + NODE * i;
-    Entry {
-        id: read_u64(b, at),
-        offset: read_u16(b, at + 8),
-        len: b[at + 10],
-        present: b[at + 11],
-    }
+    read_entry(b, HEADER + NODE * i, PEER)
 }
 
 // x where the test holds, else y.
@@ -335,17 +390,18 @@ fn entry_ok(h: Header, e: Entry, at: usize) -> bool
 }
 
 // Every entry is sound, and the data reach the whole length.
-fn entries_ok(h: Header, b: &[u8]) -> bool
-    ensures { λ r. ⌜ r ≡ entries-ok h (now (b .entry)) 0 (h .nodes) (header-length + node-length * h .nodes) ⌝ }
+fn entries_ok(h: Header, b: &[u8], w: usize) -> bool
+    requires { ⌜ IsForm w ⌝ }
+    ensures { λ r. ⌜ r ≡ entries-ok-by w h (now (b .entry)) 0 (h .nodes) (place-by w (h .nodes)) ⌝ }
 {
     let n = h.nodes as usize;
-    let mut at = HEADER + NODE * n;
+    let mut at = place(n, w);
     if b.len() < at {
         return false;
     }
     let mut i: usize = 0;
     while i < n {
-        let e = node(b, i);
+        let e = node_by(b, i, w);
         if entry_ok(h, e, at) {
             at += e.len as usize;
             i += 1;
@@ -356,16 +412,17 @@ fn entries_ok(h: Header, b: &[u8]) -> bool
     at == b.len()
 }
 
-// The bytes are a record.
-fn well_formed(b: &[u8]) -> bool
-    ensures { λ r. ⌜ r ≡ well-formed (now (b .entry)) ⌝ }
+// The bytes are a record of the form where a peer has w bytes.
+pub fn well_formed(b: &[u8], w: usize) -> bool
+    requires { ⌜ IsForm w ⌝ }
+    ensures { λ r. ⌜ r ≡ well-formed-by w (now (b .entry)) ⌝ }
 {
-    if b.len() < HEADER {
+    if b.len() < 16 + 2 * w {
         return false;
     }
-    let h = read_header(b);
+    let h = read_header_by(b, w);
     let size = h.size as usize;
-    header_ok(h) & ((size == b.len()) & entries_ok(h, b))
+    header_ok(h) & ((size == b.len()) & entries_ok(h, b, w))
 }
 
 // A record's header, or that the bytes are none.
@@ -378,7 +435,7 @@ pub enum Answer {
 pub fn read(b: &[u8]) -> Answer
     ensures { λ r. ⌜ r ≡ answer (now (b .entry)) ⌝ }
 {
-    if well_formed(b) {
+    if well_formed(b, PEER) {
         return Answer::Record(read_header(b));
     }
     Answer::Malformed
@@ -408,7 +465,7 @@ pub fn read_event(b: &[u8]) -> Event
         return Event::Refused(Refusal::NODES);
     }
     let h = read_header(b);
-    if well_formed(b) & is_event(h) {
+    if well_formed(b, PEER) & is_event(h) {
         return Event::Record(h);
     }
     Event::Refused(Refusal::MALFORMED)

@@ -3,35 +3,45 @@ use Prim.Native.Nat.{ℕ, suc, _+_, _*_, _-_, _≤_, _<_}
 use mathlib.Core.Path.{_≡_, sym, _∙_}
 use mathlib.Core.Bool.{Bool, true, false}
 use mathlib.Core.List.{List}
+use native.Mathlib.Nat.{mul-le-mul-left}
 use native.Mathlib.Numerals.{add-one}
 use native.Mathlib.Omega.{arith}
 use borrow.Author.Needs.{needs}
 use lib.ListN.{length}
 use lib.Dec.{eqb}
-use Rattle.record.specs.Format.{peer-length, header-length, node-length}
-use Rattle.record.specs.Read.{entry-at, entry-ok, entries-ok, entries-ok-by}
+use Rattle.record.specs.Format.{node-length-by, place-by}
+use Rattle.record.specs.Read.{entry-at-by, entry-ok, entries-ok-by}
 use Rattle.record.specs.declared.Header.{Header}
 use Rattle.record.specs.declared.Entry.{Entry}
 use Rattle.record.proofs.Laws.{entries-short}
 use Rattle.record.proofs.entries_ok.Statement.{statement}
 use Rattle.record.proofs.entries_ok.Tie as tie
 
-record Inv (h : Header) (b : List ℕ) (n at i : ℕ) : Type 0 where
+record Inv (w : ℕ) (h : Header) (b : List ℕ) (n at i : ℕ) : Type 0 where
   low : i ≤ n
   few : n ≤ 255
-  room : header-length + node-length * n ≤ length b
-  small : at ≤ header-length + node-length * n + 255 * i
-  same : (left : ℕ) → i + left ≡ n → entries-ok h b 0 n (header-length + node-length * n) ≡ entries-ok h b i left at
+  room : place-by w n ≤ length b
+  small : at ≤ 3092 + 255 * i
+  same : (left : ℕ) → i + left ≡ n → entries-ok-by w h b 0 n (place-by w n) ≡ entries-ok-by w h b i left at
 
-start : (h : Header) (b : List ℕ) (n : ℕ) → n ≤ 255 → header-length + node-length * n ≤ length b → Inv h b n (header-length + node-length * n) 0
-start h b n f r = record { low = omega arith; few = f; room = r; small = omega arith; same = λ left e. let q : left ≡ n = omega arith in rw q }
+start : (w : ℕ) (h : Header) (b : List ℕ) (n at : ℕ) → at ≡ place-by w n → at ≤ 3092 → n ≤ 255 → at ≤ length b → Inv w h b n at 0
+start w h b n at e m f r = record {
+  low = omega arith;
+  few = f;
+  room = omega (arith, e);
+  small = omega arith;
+  same = λ left k. let q : left ≡ n = omega arith in rw (q, e);
+}
 
-short : (h : Header) (b : List ℕ) (n at : ℕ) → length b < at → false ≡ entries-ok h b 0 n at
-short h b n at l = sym (entries-short peer-length h b 0 n at l)
+short : (w : ℕ) (h : Header) (b : List ℕ) (n at : ℕ) → at ≡ place-by w n → length b < at → false ≡ entries-ok-by w h b 0 n (place-by w n)
+short w h b n at e l = sym (entries-short w h b 0 n (place-by w n) (omega (arith, e)))
 
-module _ (h : Header) (b : List ℕ) (n at i : ℕ) (v : Inv h b n at i) where
-  module _ (e : Entry) (t : Bool) (p : e ≡ entry-at b i) (q : t ≡ entry-ok h e at) where
-    next : i < n → e .len ≤ 255 → t ≡ true → Inv h b n (at + e .len) (i + 1)
+module _ (w : ℕ) (h : Header) (b : List ℕ) (n at i : ℕ) (v : Inv w h b n at i) where
+  entry-fits : i < n → place-by w i + node-length-by w ≤ length b
+  entry-fits l = omega (arith, v .room, mul-le-mul-left (node-length-by w) l)
+
+  module _ (e : Entry) (t : Bool) (p : e ≡ entry-at-by w b i) (q : t ≡ entry-ok h e at) where
+    next : i < n → e .len ≤ 255 → t ≡ true → Inv w h b n (at + e .len) (i + 1)
     unfolding entries-ok-by
     next l s y = record {
       low = omega arith;
@@ -41,37 +51,34 @@ module _ (h : Header) (b : List ℕ) (n at i : ℕ) (v : Inv h b n at i) where
       same = λ left k. v .same (suc left) (omega arith) ∙ rw (← p, ← q, y, add-one i);
     }
 
-    bad : i < n → t ≡ false → false ≡ entries-ok h b 0 n (header-length + node-length * n)
+    bad : i < n → t ≡ false → false ≡ entries-ok-by w h b 0 n (place-by w n)
     unfolding entries-ok-by
     bad l y = sym (v .same (suc (n - suc i)) (omega arith) ∙ rw (← p, ← q, y))
 
-  end : n ≤ i → eqb at (length b) ≡ entries-ok h b 0 n (header-length + node-length * n)
+  end : n ≤ i → eqb at (length b) ≡ entries-ok-by w h b 0 n (place-by w n)
   unfolding entries-ok-by
   end l = sym (v .same 0 (omega (arith, v .low)))
 
 abbrev Inv-loop : tie.InvT-loop
-Inv-loop h b n at₀ i₀ at i = Inv h b n at i
+Inv-loop h b w n at₀ i₀ at i = Inv w h b n at i
 
 abbrev μ-loop : tie.MeasureT-loop
-μ-loop h b n at₀ i₀ at i = n - i
+μ-loop h b w n at₀ i₀ at i = n - i
 
 cast-n : tie.Need-cast-n Inv-loop μ-loop
 cast-n c = search needs
 
-mul-at : tie.Need-mul-at Inv-loop μ-loop
-mul-at c = search needs
-
-add-at : tie.Need-add-at Inv-loop μ-loop
-add-at c = search needs
+place-requires : tie.Need-place-requires Inv-loop μ-loop
+place-requires c κs = search needs
 
 returns : tie.Need-returns Inv-loop μ-loop
 returns c = search short
 
 loop-holds : tie.Need-loop-holds Inv-loop μ-loop
-loop-holds c = start _ _ _ (search needs) (search needs)
+loop-holds c = start _ _ _ _ _ (c .before .place .ensures .0) (c .before .place .ensures .1) (search needs) (search needs)
 
-node-requires : tie.Need-node-requires Inv-loop μ-loop
-node-requires c κs = search needs
+node-by-requires : tie.Need-node-by-requires Inv-loop μ-loop
+node-by-requires c κs = (search needs, (search needs, search entry-fits))
 
 entry-ok-requires : tie.Need-entry-ok-requires Inv-loop μ-loop
 entry-ok-requires c κs = search needs
@@ -79,8 +86,8 @@ entry-ok-requires c κs = search needs
 cast-at : tie.Need-cast-at Inv-loop μ-loop
 cast-at c = search needs
 
-add-at-2 : tie.Need-add-at-2 Inv-loop μ-loop
-add-at-2 c = search needs
+add-at : tie.Need-add-at Inv-loop μ-loop
+add-at c = search needs
 
 add-i : tie.Need-add-i Inv-loop μ-loop
 add-i c = search needs
@@ -89,7 +96,8 @@ loop-less : tie.Need-loop-less Inv-loop μ-loop
 loop-less c = search needs
 
 loop-again : tie.Need-loop-again Inv-loop μ-loop
-loop-again c = next _ _ _ _ _ (search needs) _ _ (c .before .before .before .node .ensures) (c .before .before .entry-ok .ensures) (search needs) (search needs) (c .before .if2 .taken)
+loop-again c =
+    next _ _ _ _ _ _ (search needs) _ _ (c .before .before .before .node-by .ensures) (c .before .before .entry-ok .ensures) (search needs) (search needs) (c .before .if2 .taken)
 
 returns-2 : tie.Need-returns-2 Inv-loop μ-loop
 returns-2 c = search bad
@@ -104,14 +112,13 @@ entries-ok-spec =
     Inv-loop
     μ-loop
     cast-n
-    mul-at
-    add-at
+    place-requires
     returns
     loop-holds
-    node-requires
+    node-by-requires
     entry-ok-requires
     cast-at
-    add-at-2
+    add-at
     add-i
     loop-less
     loop-again

@@ -1,31 +1,38 @@
-use Prim.Native.Nat.{ℕ, _+_, _*_, _≤_, _<_}
+use Prim.Native.Nat.{ℕ, _≤_, _<_}
 use mathlib.Core.Path.{_≡_}
 use mathlib.Core.Bool.{Bool, false, _&&_}
 use mathlib.Core.List.{List}
 use borrow.Author.Tests.{le-leb, lt-leb}
 use lib.ListN.{length}
 use lib.Dec.{eqb}
-use Rattle.record.specs.Format.{header-length, node-length}
-use Rattle.record.specs.Read.{header-of, header-ok, entries-ok, well-formed, well-formed-by}
+use Rattle.record.specs.Format.{header-length-by, place-by}
+use Rattle.record.specs.Read.{header-of-by, header-ok, entries-ok-by, well-formed-by}
 use Rattle.record.specs.declared.Header.{Header}
 use borrow.Author.Needs.{needs}
 use Rattle.record.proofs.well_formed.Statement.{statement}
 use Rattle.record.proofs.well_formed.Tie as tie
 
-short : (b : List ℕ) → length b < header-length → false ≡ well-formed b
-unfolding well-formed-by
-short b l = rw (lt-leb _ _ l)
+module _ (w : ℕ) (b : List ℕ) where
+  short : length b < header-length-by w → false ≡ well-formed-by w b
+  unfolding well-formed-by
+  short l = rw (lt-leb _ _ l)
 
-long : (b : List ℕ) (h : Header) (r s : Bool) → header-length ≤ length b → h ≡ header-of b → r ≡ header-ok h → s ≡ entries-ok h b 0 (h .nodes) (header-length + node-length * h .nodes)
-    → (r && (eqb (h .size) (length b) && s)) ≡ well-formed b
-unfolding well-formed-by
-long b h r s l e p q = rw (p, q, e, le-leb _ _ l)
+  long : (h : Header) (r s : Bool) → header-length-by w ≤ length b → h ≡ header-of-by w b → r ≡ header-ok h
+      → s ≡ entries-ok-by w h b 0 (h .nodes) (place-by w (h .nodes)) → (r && (eqb (h .size) (length b) && s)) ≡ well-formed-by w b
+  unfolding well-formed-by
+  long h r s l e p q = rw (p, q, e, le-leb _ _ l)
+
+mul-if1 : tie.Need-mul-if1
+mul-if1 c = search needs
+
+add-if1 : tie.Need-add-if1
+add-if1 c = search needs
 
 returns : tie.Need-returns
 returns c = search short
 
-read-header-requires : tie.Need-read-header-requires
-read-header-requires c κs = search needs
+read-header-by-requires : tie.Need-read-header-by-requires
+read-header-by-requires c κs = search needs
 
 cast-size : tie.Need-cast-size
 cast-size c = search needs
@@ -43,8 +50,10 @@ pub well-formed-spec : {M : Type 1} → statement M
 well-formed-spec =
     tie.close
     (tie.spec
+    mul-if1
+    add-if1
     returns
-    read-header-requires
+    read-header-by-requires
     cast-size
     header-ok-requires
     entries-ok-requires
