@@ -4,7 +4,7 @@ use super::{
     mix::{Act, DataRule, SettingsRule, Twist},
     Generator,
 };
-use crate::record::{kind, message, Node, Record, MOST_DATA};
+use crate::record::{kind, message, Node, Peer, Record, MOST_DATA};
 
 /// Which peers of the station an event may name.
 #[derive(Clone, Copy)]
@@ -58,13 +58,13 @@ impl Generator<'_> {
     }
 
     /// A peer of one of the pools; any peer where the pool is empty.
-    fn peer(&mut self, pools: &[Pool]) -> u32 {
+    fn peer(&mut self, pools: &[Pool]) -> Peer {
         if self.source.chance(2) {
             return self.me;
         }
         let pool = self.source.one_of(pools);
         let parts = &self.parts;
-        let keys = |pairs: &[(u32, u64)]| pairs.iter().map(|(peer, _)| *peer).collect::<Vec<_>>();
+        let keys = |pairs: &[(Peer, u64)]| pairs.iter().map(|(peer, _)| *peer).collect::<Vec<_>>();
         let pool = match pool {
             Pool::Any => Vec::new(),
             Pool::Me => vec![self.me],
