@@ -223,6 +223,9 @@ const CROWDED: &[(Act, usize)] = &[
     (Quit, 1),
 ];
 
+/// A full passive view that is picked from and shuffled.
+const FULL: &[(Act, usize)] = &[(ShuffleReply, 6), (Shuffle, 4), (Join, 2), (DoShuffle, 1)];
+
 const DAMAGED: &[(Act, usize)] = &[(Damaged, 8), (Join, 1), (Shuffle, 1), (RequestJoin, 1)];
 
 const fn mix(
@@ -284,6 +287,13 @@ pub const MIXES: &[Mix] = &[
     twisted(
         Twist::HighDraws,
         mix("passing_crowd", CROWDED, SettingsRule::Any, (8, 200)),
+    ),
+    twisted(
+        Twist::HighDraws,
+        with_data(
+            DataRule::Absent,
+            mix("passing_full", FULL, SettingsRule::Any, (60, 80)),
+        ),
     ),
     wide(mix("wide", EVEN, SettingsRule::Any, (4, 60))),
     wide(mix("wide_crowd", CROWDED, SettingsRule::Any, (8, 200))),
