@@ -184,7 +184,7 @@ impl Numbers {
             0 => [0, 5, 32, u64::MAX][self.below(4) as usize],
             n => 1 + n % 4,
         };
-        if kind <= 2 && self.below(40) != 0 {
+        if kind <= 2 && self.below(10) != 0 {
             return [kind, 0, 0];
         }
         let peer = match self.below(6) {
