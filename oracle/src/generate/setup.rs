@@ -20,6 +20,9 @@ const LARGE_PEERS: [Peer; 4] = [(1 << 32) - 1, 1 << 32, (1 << 32) + 1, Peer::MAX
 /// The upper halves of wide numbers, which each lower half has in turn.
 const UPPER_HALVES: [Peer; 4] = [0, 1, 1 << 31, (1 << 32) - 1];
 
+/// The first wide numbers are those with the lower halves 2^32 - 1 and 0, the least and the largest number among them.
+pub const FIRST_WIDE: usize = 2 * UPPER_HALVES.len();
+
 /// The peers of a history, each once.
 pub fn peers(source: &mut Source, rule: Numbers, (least, most): (usize, usize)) -> Vec<Peer> {
     let count = source.within(least, most);
