@@ -68,49 +68,51 @@ extern "C" {
 
 /* ---- Records
  *
- * Events and output have one form: a header of 24 bytes, 8 bytes for each node, then the data of the nodes. Numbers are
- * little-endian. On x86-64 the header's bytes are those of `struct hyparview_header` and a node's those of
- * `struct hyparview_entry`, so that an event without nodes can be written as
+ * Events and output have one form: a header of 32 bytes, 12 bytes for each node, then the data of the nodes. Numbers are
+ * little-endian and stand without gaps, so the bytes are not those of `struct hyparview_header` and `struct hyparview_entry`,
+ * which hyparview_read and hyparview_node hand back. An event without nodes can be written as
  *
  *     struct hyparview_header join = {0};
+ *     uint8_t event[HYPARVIEW_HEADER];
  *     join.kind = HYPARVIEW_KIND_REQUEST_JOIN;
  *     join.peer = 7;
- *     join.size = sizeof join;
- *     hyparview_handle(state, HYPARVIEW_WORDS, &tally, (const uint8_t *)&join, sizeof join, ...)
+ *     join.size = HYPARVIEW_HEADER;
+ *     hyparview_write_header(event, join);
+ *     hyparview_handle(state, HYPARVIEW_WORDS, &tally, event, sizeof event, ...)
  *
  *     bytes   field    what it is
  *     0       kind     below
  *     1       message  of kind 0, else 0
  *     2       flags    of Neighbor and Disconnect, else 0
  *     3       nodes    1 for Join, ForwardJoin, Neighbor and kinds 7 and 11, 0 to 32 for both shuffles, else 0
- *     4-7     peer     in an event the sender or the peer meant, in output the receiver or the peer meant;
+ *     4-11    peer     in an event the sender or the peer meant, in output the receiver or the peer meant;
  *                      0 in kinds 1, 2, 7 and 8
- *     8-11    second   the origin of a Shuffle; in output the delay of a timer, in ms; else 0
- *     12-13   ttl      the hops that are left to a ForwardJoin or a Shuffle, else 0
- *     14-15   size     of the whole record, which is the length lent; at most HYPARVIEW_RECORD
- *     16-23   number   which request or join a timer of kind 3 or 4 is for, else 0
+ *     12-19   second   the origin of a Shuffle; in output the delay of a timer, in ms; else 0
+ *     20-21   ttl      the hops that are left to a ForwardJoin or a Shuffle, else 0
+ *     22-23   size     of the whole record, which is the length lent; at most HYPARVIEW_RECORD
+ *     24-31   number   which request or join a timer of kind 3 or 4 is for, else 0
  *
  *     bytes of a node
- *     0-3     id       the peer; 0 in Join, Neighbor and kinds 7 and 11
- *     4-5     offset   where its data stands, from the record's start; 0 where data is absent
- *     6       len      of its data, at most 16; 0 where data is absent
- *     7       present  1, or 0 where data is absent; always 1 in kinds 7 and 11
+ *     0-7     id       the peer; 0 in Join, Neighbor and kinds 7 and 11
+ *     8-9     offset   where its data stands, from the record's start; 0 where data is absent
+ *     10      len      of its data, at most 16; 0 where data is absent
+ *     11      present  1, or 0 where data is absent; always 1 in kinds 7 and 11
  *
  * Data is what a peer wishes others to know of it, such as its address: absent, or 0 to 16 bytes; empty is not absent. It
  * stands after the last node in the order of the nodes, without gaps, to the end of the record; the offset of empty data
- * is the place that the data before it has reached. Anything else is malformed. So an UpdatePeerData of 4 bytes has 36: a
- * header of kind 7 with nodes 1 and size 36, the node {0, 32, 4, 1}, and the bytes.
+ * is the place that the data before it has reached. Anything else is malformed. So an UpdatePeerData of 4 bytes has 48: a
+ * header of kind 7 with nodes 1 and size 48, the node with offset 44, length 4 and present 1, and the bytes.
  *
  * A message goes over the air as its record. Its receiver is handed the same bytes, but for the field `peer`, which is then
  * the sender: put it in from what the connection says. A timer that expires is handed back as its record, but for the field
  * `second`, which is then 0. No timer needs to be stopped: one that is out of date is told by its number and does nothing.
  * include/timer_map.h is a timer queue that does this by itself. */
 
-#define HYPARVIEW_HEADER 24
-#define HYPARVIEW_NODE 8
+#define HYPARVIEW_HEADER 32
+#define HYPARVIEW_NODE 12
 #define HYPARVIEW_NODES 32   /* the most nodes of a record */
 #define HYPARVIEW_DATA 16    /* the most bytes of data */
-#define HYPARVIEW_RECORD 792 /* the longest record: 32 nodes with 16 bytes of data each */
+#define HYPARVIEW_RECORD 928 /* the longest record: 32 nodes with 16 bytes of data each */
 
 /* Kinds, byte 0. Kinds 0 to 8 are events; kinds 0 to 4 and 9 to 12 come in output. */
 #define HYPARVIEW_KIND_MESSAGE 0                  /* event: received. Output: to be sent to `peer` */
@@ -154,8 +156,8 @@ struct hyparview_header {
     uint8_t message;
     uint8_t flags;
     uint8_t nodes;
-    uint32_t peer;
-    uint32_t second;
+    uint64_t peer;
+    uint64_t second;
     uint16_t ttl;
     uint16_t size;
     uint64_t number;
@@ -163,7 +165,7 @@ struct hyparview_header {
 
 /* A record's node. */
 struct hyparview_entry {
-    uint32_t id;
+    uint64_t id;
     uint16_t offset;
     uint8_t len;
     uint8_t present;
@@ -180,6 +182,41 @@ struct hyparview_node_reading {
     bool ok;
     struct hyparview_entry node;
 };
+
+/* The whole length of the record that begins at `record`, of which HYPARVIEW_HEADER bytes are looked at. */
+static inline size_t hyparview_record_size(const uint8_t *record)
+{
+    return (size_t)(record[22] | record[23] << 8);
+}
+
+/* The header in the first HYPARVIEW_HEADER bytes of `record`. */
+static inline void hyparview_write_header(uint8_t *record, struct hyparview_header header)
+{
+    record[0] = header.kind;
+    record[1] = header.message;
+    record[2] = header.flags;
+    record[3] = header.nodes;
+    for (int i = 0; i < 8; i++) {
+        record[4 + i] = (uint8_t)(header.peer >> 8 * i);
+        record[12 + i] = (uint8_t)(header.second >> 8 * i);
+        record[24 + i] = (uint8_t)(header.number >> 8 * i);
+    }
+    for (int i = 0; i < 2; i++) {
+        record[20 + i] = (uint8_t)(header.ttl >> 8 * i);
+        record[22 + i] = (uint8_t)(header.size >> 8 * i);
+    }
+}
+
+/* A node in the HYPARVIEW_NODE bytes at `place` in a record; its data is the caller's to put at record + node.offset. */
+static inline void hyparview_write_node(uint8_t *place, struct hyparview_entry node)
+{
+    for (int i = 0; i < 8; i++)
+        place[i] = (uint8_t)(node.id >> 8 * i);
+    for (int i = 0; i < 2; i++)
+        place[8 + i] = (uint8_t)(node.offset >> 8 * i);
+    place[10] = node.len;
+    place[11] = node.present;
+}
 
 /* ---- Settings */
 
@@ -301,20 +338,20 @@ struct hyparview_done {
  *
  * HYPARVIEW_CODE_SETTINGS: words and tally are zeroes, which is no station. HYPARVIEW_CODE_STATE, for another number of
  * words: both are as they were. Writes `state` and `tally`. */
-uint32_t hyparview_new(uint64_t *state, size_t words, struct hyparview_tally *tally, uint32_t me, uint8_t present,
+uint32_t hyparview_new(uint64_t *state, size_t words, struct hyparview_tally *tally, uint64_t me, uint8_t present,
                        const uint8_t *own, size_t own_len, struct hyparview_config config);
 
 /* One event.
  *
  * HYPARVIEW_ACCEPTED: the words are the station after it, its messages are counted in the tally, and `out` has the records
- * one after the other, then zeroes: take them by their `size` until a size is 0 or no header fits. Any other code: see
+ * one after the other, then zeroes: take them by hyparview_record_size until that is 0 or no header fits. Any other code: see
  * Refusals. Writes `state`, `tally` and all of `out`, whatever it held.
  *
  * `draws` are the station's random choices: any numbers do, but stations that draw the same choose the same, and peers who
  * can foresee the draws can foresee the choices. The first `done.draws` of them are used up. A choice passes over draws near
  * 2^32, so that all items have equal chances; of HYPARVIEW_DRAWS even draws too many are passed over with a chance below
  * 2^-5000 (docs/FORMAT.md works it out): then the code is HYPARVIEW_CODE_DRAWS, and the same event may be brought again with others. Of several reasons to
- * refuse the first holds: 2; 3 for under 24 bytes; 4; 3; then of 5 to 10 what the steps meet first. */
+ * refuse the first holds: 2; 3 for under 32 bytes; 4; 3; then of 5 to 10 what the steps meet first. */
 struct hyparview_done hyparview_handle(uint64_t *state, size_t words, struct hyparview_tally *tally, const uint8_t *event,
                                        size_t event_len, const uint32_t *draws, size_t draws_len, uint8_t *out,
                                        size_t out_len);
@@ -348,16 +385,16 @@ HYPARVIEW_ASSERT(sizeof(bool) == 1, "bool");
 HYPARVIEW_ASSERT(sizeof(struct hyparview_config) == 36, "hyparview_config");
 HYPARVIEW_ASSERT(sizeof(struct hyparview_tally) == 48, "hyparview_tally");
 HYPARVIEW_ASSERT(sizeof(struct hyparview_done) == 16 && offsetof(struct hyparview_done, draws) == 8, "hyparview_done");
-HYPARVIEW_ASSERT(sizeof(struct hyparview_header) == HYPARVIEW_HEADER, "hyparview_header");
-HYPARVIEW_ASSERT(offsetof(struct hyparview_header, peer) == 4 && offsetof(struct hyparview_header, second) == 8 &&
-                     offsetof(struct hyparview_header, ttl) == 12 && offsetof(struct hyparview_header, size) == 14 &&
-                     offsetof(struct hyparview_header, number) == 16,
+HYPARVIEW_ASSERT(sizeof(struct hyparview_header) == 40, "hyparview_header");
+HYPARVIEW_ASSERT(offsetof(struct hyparview_header, peer) == 8 && offsetof(struct hyparview_header, second) == 16 &&
+                     offsetof(struct hyparview_header, ttl) == 24 && offsetof(struct hyparview_header, size) == 26 &&
+                     offsetof(struct hyparview_header, number) == 32,
                  "hyparview_header");
-HYPARVIEW_ASSERT(sizeof(struct hyparview_entry) == HYPARVIEW_NODE && offsetof(struct hyparview_entry, present) == 7,
+HYPARVIEW_ASSERT(sizeof(struct hyparview_entry) == 16 && offsetof(struct hyparview_entry, present) == 11,
                  "hyparview_entry");
-HYPARVIEW_ASSERT(sizeof(struct hyparview_reading) == 32 && offsetof(struct hyparview_reading, header) == 8,
+HYPARVIEW_ASSERT(sizeof(struct hyparview_reading) == 48 && offsetof(struct hyparview_reading, header) == 8,
                  "hyparview_reading");
-HYPARVIEW_ASSERT(sizeof(struct hyparview_node_reading) == 12 && offsetof(struct hyparview_node_reading, node) == 4,
+HYPARVIEW_ASSERT(sizeof(struct hyparview_node_reading) == 24 && offsetof(struct hyparview_node_reading, node) == 8,
                  "hyparview_node_reading");
 HYPARVIEW_ASSERT(HYPARVIEW_WORDS == HYPARVIEW_WORD_HELD_END, "the words");
 HYPARVIEW_ASSERT(HYPARVIEW_RECORD == HYPARVIEW_HEADER + HYPARVIEW_NODES * (HYPARVIEW_NODE + HYPARVIEW_DATA), "a record");

@@ -34,7 +34,7 @@ extern "C" {
 #define TIMER_MAP_LAST_KIND 4
 
 /* The bytes of a timer's event. */
-#define TIMER_MAP_EVENT_BYTES 24
+#define TIMER_MAP_EVENT_BYTES 32
 
 /* The codes. */
 #define TIMER_MAP_DONE 0

@@ -1,5 +1,5 @@
 /* The exported functions one by one, in C and in C++: hyparview_new with own data and with settings about their ranges,
- * lengths that are none, NULL with length 0, outputs and draws that are too short, and that nothing else is written. It
+ * lengths that are none, numbers that agree in a half, NULL with length 0, outputs and draws that are too short, and that nothing else is written. It
  * stops with 1 at the first fault.
  *
  * usage: calls FILE    rows of four words by tools/record_vectors.py: whether own data is present, its bytes after an x, the
@@ -80,26 +80,33 @@ static void begin(void)
     memcpy(&kept, &lent, sizeof kept);
 }
 
-static struct hyparview_done handle(const struct hyparview_header *h, size_t draws, size_t room)
+/* An event without nodes. */
+struct event {
+    uint8_t bytes[HYPARVIEW_HEADER];
+};
+
+static struct hyparview_done handle(const struct event *e, size_t draws, size_t room)
 {
-    struct hyparview_header e = *h;
+    struct event copy = *e;
     memset(lent.out, FILLER, sizeof lent.out);
-    struct hyparview_done done = hyparview_handle(lent.state, HYPARVIEW_WORDS, &lent.tally, (const uint8_t *)&e, sizeof e,
+    struct hyparview_done done = hyparview_handle(lent.state, HYPARVIEW_WORDS, &lent.tally, copy.bytes, sizeof copy.bytes,
                                                   zeroes, draws, lent.out, room);
-    CHECK(guarded() && memcmp(&e, h, sizeof e) == 0 && all(lent.out + room, sizeof lent.out - room, FILLER));
+    CHECK(guarded() && memcmp(&copy, e, sizeof copy) == 0 && all(lent.out + room, sizeof lent.out - room, FILLER));
     if (done.code != HYPARVIEW_ACCEPTED)
         CHECK(left() && done.draws == 0 && all(lent.out, room, 0));
     return done;
 }
 
-static struct hyparview_header event(uint8_t kind, uint32_t peer)
+static struct event event(uint8_t kind, uint64_t peer)
 {
     struct hyparview_header h;
+    struct event e;
     memset(&h, 0, sizeof h);
     h.kind = kind;
     h.peer = peer;
-    h.size = sizeof h;
-    return h;
+    h.size = HYPARVIEW_HEADER;
+    hyparview_write_header(e.bytes, h);
+    return e;
 }
 
 /* ---- a new station */
@@ -157,7 +164,7 @@ static void own_data(const char *name)
         CHECK(make((uint8_t)present, own, len, defaults) == code && guarded() && all(lent.out, sizeof lent.out, FILLER));
         CHECK(all(&lent.tally, sizeof lent.tally, 0));
         memcpy(&kept, &lent, sizeof kept);
-        struct hyparview_header join = event(HYPARVIEW_KIND_REQUEST_JOIN, 7);
+        struct event join = event(HYPARVIEW_KIND_REQUEST_JOIN, 7);
         if (code == HYPARVIEW_ACCEPTED) {
             CHECK(is_new(present != 0, own, len));
             struct hyparview_done done = handle(&join, 1, sizeof lent.out);
@@ -201,13 +208,13 @@ static void settings(void)
 /* A number of words that is none touches nothing but the output. */
 static void lengths(void)
 {
-    const struct hyparview_header join = event(HYPARVIEW_KIND_REQUEST_JOIN, 7);
+    const struct event join = event(HYPARVIEW_KIND_REQUEST_JOIN, 7);
     const size_t wrong[] = {0, 1, HYPARVIEW_WORDS - 1, HYPARVIEW_WORDS + 1};
     for (size_t i = 0; i < sizeof wrong / sizeof wrong[0]; i++) {
         begin();
         CHECK(hyparview_new(lent.state, wrong[i], &lent.tally, 2, 0, none, 0, defaults) == HYPARVIEW_CODE_STATE && left());
         lent.tally.join = kept.tally.join = 5;
-        struct hyparview_done done = hyparview_handle(lent.state, wrong[i], &lent.tally, (const uint8_t *)&join, sizeof join,
+        struct hyparview_done done = hyparview_handle(lent.state, wrong[i], &lent.tally, join.bytes, sizeof join.bytes,
                                                       zeroes, HYPARVIEW_DRAWS, lent.out, sizeof lent.out);
         CHECK(done.code == HYPARVIEW_CODE_STATE && done.draws == 0 && left() && guarded());
         CHECK(all(lent.out, sizeof lent.out, 0));
@@ -217,11 +224,11 @@ static void lengths(void)
     }
 }
 
-/* The first event writes a Join of 32 bytes and three timers of 24: every shorter output is refused, and so are no draws. */
+/* The first event writes a Join of one node and three timers: every shorter output is refused, and so are no draws. */
 static void shortness(void)
 {
-    const struct hyparview_header join = event(HYPARVIEW_KIND_REQUEST_JOIN, 7);
-    const size_t whole = 32 + 3 * HYPARVIEW_HEADER;
+    const struct event join = event(HYPARVIEW_KIND_REQUEST_JOIN, 7);
+    const size_t whole = 4 * HYPARVIEW_HEADER + HYPARVIEW_NODE;
     begin();
     for (size_t room = 0; room < whole; room++)
         CHECK(handle(&join, 1, room).code == HYPARVIEW_CODE_OUTPUT);
@@ -230,23 +237,57 @@ static void shortness(void)
     CHECK(done.code == HYPARVIEW_ACCEPTED && done.draws == 1 && lent.tally.join == 1);
 }
 
+/* ---- numbers of 64 bits (02, S-8) */
+
+/* Self and peers that agree in their lower half are others: each is a neighbour of its own. */
+static void numbers(void)
+{
+    static const uint64_t peers[] = {7, (UINT64_C(1) << 32) + 7, (UINT64_C(1) << 63) + 7, UINT64_MAX};
+    const uint64_t me = (UINT64_C(1) << 40) + 7;
+    fill();
+    CHECK(hyparview_new(lent.state, HYPARVIEW_WORDS, &lent.tally, me, 0, none, 0, defaults) == HYPARVIEW_ACCEPTED);
+    CHECK(lent.state[HYPARVIEW_WORD_ME] == me);
+    for (size_t i = 0; i < sizeof peers / sizeof peers[0]; i++) {
+        uint8_t neighbor[HYPARVIEW_HEADER + HYPARVIEW_NODE];
+        struct hyparview_header h;
+        struct hyparview_entry absent;
+        memset(&h, 0, sizeof h);
+        memset(&absent, 0, sizeof absent);
+        h.message = HYPARVIEW_MESSAGE_NEIGHBOR;
+        h.flags = HYPARVIEW_FLAG_HIGH;
+        h.nodes = 1;
+        h.peer = peers[i];
+        h.size = sizeof neighbor;
+        hyparview_write_header(neighbor, h);
+        hyparview_write_node(neighbor + HYPARVIEW_HEADER, absent);
+        CHECK(!hyparview_is_neighbor(lent.state, HYPARVIEW_WORDS, peers[i]));
+        CHECK(hyparview_handle(lent.state, HYPARVIEW_WORDS, &lent.tally, neighbor, sizeof neighbor, zeroes, HYPARVIEW_DRAWS,
+                               lent.out, sizeof lent.out).code == HYPARVIEW_ACCEPTED && guarded());
+        CHECK(hyparview_neighbor_count(lent.state, HYPARVIEW_WORDS) == i + 1);
+        CHECK(hyparview_neighbor(lent.state, HYPARVIEW_WORDS, i) == peers[i]);
+        struct hyparview_reading up = hyparview_read(lent.out, hyparview_record_size(lent.out));
+        CHECK(up.ok && up.header.kind == HYPARVIEW_KIND_NEIGHBOR_UP && up.header.peer == peers[i]);
+    }
+    CHECK(!hyparview_is_neighbor(lent.state, HYPARVIEW_WORDS, me) && !hyparview_is_neighbor(lent.state, HYPARVIEW_WORDS, 0));
+}
+
 /* ---- NULL with length 0 */
 
 static void nulls(void)
 {
-    const struct hyparview_header join = event(HYPARVIEW_KIND_REQUEST_JOIN, 7);
-    const struct hyparview_header closed = event(HYPARVIEW_KIND_PEER_DISCONNECTED, 9);
-    const uint8_t *e = (const uint8_t *)&closed;
+    const struct event join = event(HYPARVIEW_KIND_REQUEST_JOIN, 7);
+    const struct event closed = event(HYPARVIEW_KIND_PEER_DISCONNECTED, 9);
+    const uint8_t *e = closed.bytes;
     begin();
     CHECK(hyparview_new(NULL, 0, &lent.tally, 1, 0, NULL, 0, defaults) == HYPARVIEW_CODE_STATE && left());
     CHECK(hyparview_handle(NULL, 0, &lent.tally, NULL, 0, NULL, 0, NULL, 0).code == HYPARVIEW_CODE_STATE && left());
     CHECK(hyparview_handle(lent.state, HYPARVIEW_WORDS, &lent.tally, NULL, 0, NULL, 0, NULL, 0).code == HYPARVIEW_CODE_EVENT);
-    CHECK(hyparview_handle(lent.state, HYPARVIEW_WORDS, &lent.tally, e, sizeof closed, NULL, 0, lent.out, 8).code ==
+    CHECK(hyparview_handle(lent.state, HYPARVIEW_WORDS, &lent.tally, e, sizeof closed.bytes, NULL, 0, lent.out, 8).code ==
               HYPARVIEW_CODE_DRAWS && left());
-    CHECK(hyparview_handle(lent.state, HYPARVIEW_WORDS, &lent.tally, e, sizeof closed, zeroes, 1, NULL, 0).code ==
+    CHECK(hyparview_handle(lent.state, HYPARVIEW_WORDS, &lent.tally, e, sizeof closed.bytes, zeroes, 1, NULL, 0).code ==
               HYPARVIEW_CODE_OUTPUT && left());
     CHECK(handle(&join, 1, sizeof lent.out).code == HYPARVIEW_ACCEPTED);
-    CHECK(hyparview_handle(lent.state, HYPARVIEW_WORDS, &lent.tally, e, sizeof closed, NULL, 0, NULL, 0).code ==
+    CHECK(hyparview_handle(lent.state, HYPARVIEW_WORDS, &lent.tally, e, sizeof closed.bytes, NULL, 0, NULL, 0).code ==
           HYPARVIEW_ACCEPTED);
     CHECK(make(1, NULL, 0, defaults) == HYPARVIEW_ACCEPTED && is_new(true, NULL, 0) && guarded());
     CHECK(!hyparview_wants_connection(NULL, 0, 0) && !hyparview_is_neighbor(NULL, 0, 0));
@@ -267,7 +308,8 @@ int main(int argc, char **argv)
     settings();
     lengths();
     shortness();
+    numbers();
     nulls();
-    printf("calls: %ld checks: new with own data, settings, lengths, NULL, short outputs\n", checks);
+    printf("calls: %ld checks: new with own data, settings, lengths, 64-bit numbers, NULL, short outputs\n", checks);
     return 0;
 }

@@ -92,8 +92,9 @@ static bool queries_agree(size_t lent, bool station)
 
 static int answer(size_t lent)
 {
-    const uint8_t maintenance[HYPARVIEW_HEADER] = {HYPARVIEW_KIND_DO_MAINTENANCE, 0, 0, 0, 0, 0, 0, 0,
-                                                   0, 0, 0, 0, 0, 0, HYPARVIEW_HEADER};
+    const struct hyparview_header due = {.kind = HYPARVIEW_KIND_DO_MAINTENANCE, .size = HYPARVIEW_HEADER};
+    uint8_t maintenance[HYPARVIEW_HEADER];
+    hyparview_write_header(maintenance, due);
     uint32_t first = call(lent, NULL, 0);
     bool station = first == HYPARVIEW_CODE_EVENT;
     bool agreed = queries_agree(lent, station);

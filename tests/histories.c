@@ -136,15 +136,18 @@ static void put_state(void)
     put_field(" short=", state[HYPARVIEW_WORD_PASSES_SHORT]);
 }
 
-/* A record read back: its header's bytes are its own, each of its nodes is there, and none after them. */
+/* A record read back: its header and each of its nodes, written again, are its bytes, and no node is after them. */
 static void check_record(const uint8_t *record, size_t size, uint64_t *sent)
 {
     struct hyparview_reading r = hyparview_read(record, size);
-    if (!r.ok || r.header.size != size || memcmp(&r.header, record, HYPARVIEW_HEADER) != 0)
+    uint8_t again[HYPARVIEW_HEADER];
+    hyparview_write_header(again, r.header);
+    if (!r.ok || r.header.size != size || memcmp(again, record, HYPARVIEW_HEADER) != 0)
         stop("the next record is read as another");
     for (size_t i = 0; i < r.header.nodes; i++) {
         struct hyparview_node_reading n = hyparview_node(record, size, i);
-        if (!n.ok || memcmp(&n.node, record + HYPARVIEW_HEADER + HYPARVIEW_NODE * i, HYPARVIEW_NODE) != 0)
+        hyparview_write_node(again, n.node);
+        if (!n.ok || memcmp(again, record + HYPARVIEW_HEADER + HYPARVIEW_NODE * i, HYPARVIEW_NODE) != 0)
             stop("a node of the next record is read as another");
     }
     if (hyparview_node(record, size, r.header.nodes).ok)
@@ -162,7 +165,7 @@ static void meet_records(size_t room, uint64_t *sent)
 {
     size_t at = 0;
     while (at + HYPARVIEW_HEADER <= room) {
-        size_t size = (size_t)(out[at + 14] | out[at + 15] << 8);
+        size_t size = hyparview_record_size(out + at);
         if (size == 0)
             break;
         check_record(out + at, size, sent);
@@ -210,28 +213,37 @@ static uint32_t word(size_t at)
     return input[at] | (uint32_t)input[at + 1] << 8 | (uint32_t)input[at + 2] << 16 | (uint32_t)input[at + 3] << 24;
 }
 
-/* Whether the events, cut by their bytes 14 and 15, and the draws exactly fill the input. */
+/* The input's numbers: self in two halves, the settings, and these. */
+#define SETTING(i) word(8 + 4 * (i))
+#define EVENT_COUNT word(44)
+#define EVENT_OFFSET word(48)
+#define DRAW_COUNT word(52)
+#define DRAW_OFFSET word(56)
+#define HEAD 60
+
+/* Whether the events, cut by their whole lengths, and the draws exactly fill the input. */
 static int is_filled(size_t n)
 {
-    if (n < 56 || n > 65536 || word(44) != 56)
+    if (n < HEAD || n > 65536 || EVENT_OFFSET != HEAD)
         return 0;
-    size_t at = 56;
-    for (uint32_t i = 0; i < word(40); i++) {
-        if (at + 24 > n || (input[at + 14] | input[at + 15] << 8) < 24)
+    size_t at = HEAD;
+    for (uint32_t i = 0; i < EVENT_COUNT; i++) {
+        if (at + HYPARVIEW_HEADER > n || hyparview_record_size(input + at) < HYPARVIEW_HEADER)
             return 0;
-        at += (size_t)(input[at + 14] | input[at + 15] << 8);
+        at += hyparview_record_size(input + at);
     }
-    return at == word(52) && at <= n && (n - at) % 4 == 0 && word(48) == (n - at) / 4;
+    return at == DRAW_OFFSET && at <= n && (n - at) % 4 == 0 && DRAW_COUNT == (n - at) / 4;
 }
 
 /* A new station by the input's first numbers; its counters are put at other places where a history says so. */
 static uint32_t begin(const char *counters)
 {
-    struct hyparview_config settings = {word(4),  word(8),  word(12), word(16), word(20),
-                                        word(24), word(28), word(32), word(36)};
+    struct hyparview_config settings = {SETTING(0), SETTING(1), SETTING(2), SETTING(3), SETTING(4),
+                                        SETTING(5), SETTING(6), SETTING(7), SETTING(8)};
+    uint64_t me = word(0) | (uint64_t)word(4) << 32;
     memset(state, 0xff, sizeof state);
     memset(&tally, 0xff, sizeof tally);
-    uint32_t code = hyparview_new(state, HYPARVIEW_WORDS, &tally, word(0), 0, NULL, 0, settings);
+    uint32_t code = hyparview_new(state, HYPARVIEW_WORDS, &tally, me, 0, NULL, 0, settings);
     if (code == HYPARVIEW_ACCEPTED && counters != NULL) {
         unsigned long long n[4];
         if (sscanf(counters, "%llu,%llu,%llu,%llu", &n[0], &n[1], &n[2], &n[3]) != 4)
@@ -267,12 +279,12 @@ static long run_history(size_t n, size_t room, const char *counters)
     if (memcmp(&tally, &none, sizeof tally) != 0)
         stop("a new station has a tally of messages");
     memcpy(&tally, sent, sizeof tally);
-    size_t left = word(48), at = 56;
+    size_t left = DRAW_COUNT, at = HEAD;
     for (size_t i = 0; i < left; i++)
-        draws[i] = word(word(52) + 4 * i);
+        draws[i] = word(DRAW_OFFSET + 4 * i);
     const uint32_t *draw = draws;
-    for (uint32_t i = 0; i < word(40); i++) {
-        size_t size = (size_t)(input[at + 14] | input[at + 15] << 8);
+    for (uint32_t i = 0; i < EVENT_COUNT; i++) {
+        size_t size = hyparview_record_size(input + at);
         memset(out, 0xff, sizeof out);
         struct hyparview_done done =
             hyparview_handle(state, HYPARVIEW_WORDS, &tally, input + at, size, draw, left, out, room);
@@ -285,7 +297,7 @@ static long run_history(size_t n, size_t room, const char *counters)
         left -= done.draws;
         at += size;
     }
-    return word(40);
+    return EVENT_COUNT;
 }
 
 static size_t read_hex(const char *hex)

@@ -164,9 +164,12 @@ fn check_record(r: &[u8], sent: &mut Tally) -> bool {
         && node(r, nodes).is_none()
 }
 
+/// The bytes of the input's numbers: self in two halves, the settings, two counts and two places.
+const HEAD: usize = 15 * 4;
+
 /// The input's numbers, events and draws, where they exactly fill it.
 fn cut(input: &[u8]) -> Option<(Vec<u32>, Vec<&[u8]>, Vec<u32>)> {
-    if input.len() < 56 || input.len() > 65536 {
+    if input.len() < HEAD || input.len() > 65536 {
         return None;
     }
     let words = |b: &[u8]| {
@@ -174,17 +177,17 @@ fn cut(input: &[u8]) -> Option<(Vec<u32>, Vec<&[u8]>, Vec<u32>)> {
             .map(|w| u32::from_le_bytes(w.try_into().unwrap()))
             .collect::<Vec<_>>()
     };
-    let head = words(&input[..56]);
-    let mut rest = &input[56..];
+    let head = words(&input[..HEAD]);
+    let mut rest = &input[HEAD..];
     let mut events = Vec::new();
-    for _ in 0..head[10] {
+    for _ in 0..head[11] {
         let event = first(rest)?;
         events.push(event);
         rest = &rest[event.len()..];
     }
     let draws = words(rest);
-    let filled = head[11] == 56 && head[13] as usize == input.len() - rest.len();
-    (filled && rest.len() % 4 == 0 && head[12] as usize == draws.len())
+    let filled = head[12] as usize == HEAD && head[14] as usize == input.len() - rest.len();
+    (filled && rest.len() % 4 == 0 && head[13] as usize == draws.len())
         .then_some((head, events, draws))
 }
 
@@ -225,7 +228,8 @@ fn answers(input: &[u8], room: usize, counters: Option<&str>) -> (Vec<String>, u
     let Some((head, events, draws)) = cut(input) else {
         return (vec![format!("= {CODE_EVENT} 0")], 0);
     };
-    let mut s = match Station::new(head[0], None, config(&head[1..10])) {
+    let me = head[0] as u64 | (head[1] as u64) << 32;
+    let mut s = match Station::new(me, None, config(&head[2..11])) {
         Ok(s) => s,
         Err(code) => return (vec![format!("= {code} 0")], 0),
     };

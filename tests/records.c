@@ -18,7 +18,7 @@ static void print_node(size_t len, size_t i)
         printf(" no node");
         return;
     }
-    printf(" node %u %u %u", n.node.id, n.node.present, n.node.len);
+    printf(" node %llu %u %u", (unsigned long long)n.node.id, n.node.present, n.node.len);
     for (size_t k = 0; k < n.node.len; k++)
         printf(" %u", record[n.node.offset + k]);
 }
@@ -34,8 +34,9 @@ int main(void)
         struct hyparview_reading r = hyparview_read(record, len);
         const struct hyparview_header *h = &r.header;
         if (r.ok)
-            printf("record %u %u %u %u %u %u %u %u %llu", h->kind, h->message, h->flags, h->nodes, h->peer, h->second,
-                   h->ttl, h->size, (unsigned long long)h->number);
+            printf("record %u %u %u %u %llu %llu %u %u %llu", h->kind, h->message, h->flags, h->nodes,
+                   (unsigned long long)h->peer, (unsigned long long)h->second, h->ttl, h->size,
+                   (unsigned long long)h->number);
         else
             printf("malformed");
         for (size_t i = 0; i < h->nodes; i++)

@@ -17,7 +17,7 @@ patches of 10 bytes, a place (2) and a value (8), places rising. There are two k
   lent = 65535   a base: from here on the base is 560 zeroes with these patches. The program ends the line, if one is begun.
   else           a case: a copy of the base with these patches, of which the first `lent` words (551, or at most 560) are
                  lent to `handle` three times, with 512 draws of 0 and 8,192 bytes that are not zero before each call:
-                 first an event of no bytes, then DoMaintenance (24 bytes: 2 at place 0, 24 at place 14, else 0), then
+                 first an event of no bytes, then DoMaintenance (32 bytes: 2 at place 0, 32 at place 22, else 0), then
                  the event of no bytes again. The program writes one character:
                    2   all three calls answer 2 and leave every word, and the queries say no
                    3   the first call answers 3 and leaves every word, the queries say what the words say, the second call
@@ -96,10 +96,6 @@ def data_bytes(low, high):
 
 def settings_in_range(w):
     return all(low <= w[SETTINGS + i] <= high for i, (low, high) in enumerate(SETTING_RANGES))
-
-
-def peers_have_32_bits(w):
-    return w[ME] <= TOP32 and all(peer <= TOP32 for name in SECTIONS for peer in peers(w, name))
 
 
 def lists_free_of_repeats(w):
@@ -227,7 +223,6 @@ def unused_places_zero(w):
 
 RULES = [
     settings_in_range,
-    peers_have_32_bits,
     lists_free_of_repeats,
     maps_and_sets_in_rising_order,
     active_within_capacity,
@@ -303,7 +298,7 @@ class State:
         return list(dict.fromkeys([self.at(ME)] + [peer for name in SECTIONS for peer in self.peers(name)]))
 
     def fresh(self, n):
-        """n numbers of 32 bits that no list has, rising."""
+        """n small numbers that no list has, rising."""
         known, found, number = set(self.known()), [], 1000
         while len(found) < n:
             if number not in known:
@@ -316,6 +311,12 @@ def with_entry(state, name, peer):
     """The entries of a map or a set with one more, in its place; its number or data is 0 or empty."""
     columns = SECTIONS[name][2]
     return sorted(state.rows(name) + [(peer,) + (0,) * (columns - 1)])
+
+
+def with_last(state, name, peer):
+    """The entries of a map or a set with this peer in place of the last, in its place."""
+    entries = state.rows(name)
+    return sorted(entries[:-1] + [(peer,) + entries[-1][1:]])
 
 
 def replaced(entries, old, new):
@@ -351,31 +352,58 @@ def near_settings(s):
 
 
 def near_widths(s):
+    """Any number of 64 bits is a peer (02, S-8)."""
     spare = {name: [peer for peer in s.peers(name) if peer not in s.peers(other)]
              for name, other in (("passive", "alive"), ("bootstrap", "joins"))}
     known = s.known()
     for value in (TOP32, TOP32 + 1, 2**63, TOP64):
         if value in known:
             continue
-        rule = peers_have_32_bits if value > TOP32 else None
-        yield rule, s.put(ME, value)
+        yield None, s.put(ME, value)
         for name in ("active", "recent"):
             for peer in s.peers(name)[-1:]:
-                yield rule, s.but(**{name: replaced(s.peers(name), peer, value)})
+                yield None, s.but(**{name: replaced(s.peers(name), peer, value)})
         for name, few in spare.items():
             for peer in few[-1:]:
-                yield rule, s.but(**{name: replaced(s.peers(name), peer, value)})
+                yield None, s.but(**{name: replaced(s.peers(name), peer, value)})
         for name in ("refused", "requests"):
-            if s.rows(name):
-                last = s.rows(name)[-1]
-                yield rule, s.but(**{name: s.rows(name)[:-1] + [(value,) + last[1:]]})
+            for last in s.rows(name)[-1:]:
+                yield None, s.but(**{name: with_last(s, name, value)})
         for last in s.rows("data")[-1:]:
-            yield rule, asking(s, value).but(data=s.rows("data")[:-1] + [(value,) + last[1:]])
+            yield None, asking(s, value).but(data=with_last(s, "data", value))
         for name, other in (("alive", "passive"), ("joins", "bootstrap")):
             if s.rows(name):
                 last = s.rows(name)[-1]
-                lists = {name: s.rows(name)[:-1] + [(value,) + last[1:]], other: replaced(s.peers(other), last[0], value)}
-                yield rule, s.but(**lists)
+                yield None, s.but(**{name: with_last(s, name, value), other: replaced(s.peers(other), last[0], value)})
+
+
+def near_halves(s):
+    """Numbers that agree in their lower half, or whose lower halves stand in another order than they."""
+    low, next_ = s.fresh(2)
+    far, farther = low + 2**32, low + 2**63
+    if {far, farther} & set(s.known()):
+        return
+    for name in ("refused", "requests"):
+        rows = lambda *few: [(peer, 0)[: SECTIONS[name][2]] for peer in few]
+        base = s.put(NEXT_NEIGHBOR_REQUEST, max(1, s.at(NEXT_NEIGHBOR_REQUEST)))
+        yield None, base.but(**{name: rows(low, far, farther)})
+        yield None, base.but(**{name: rows(next_, far)})
+        yield maps_and_sets_in_rising_order, base.but(**{name: rows(far, next_)})
+        yield maps_and_sets_in_rising_order, base.but(**{name: rows(low, farther, far)})
+        yield lists_free_of_repeats, base.but(**{name: rows(low, far, far)})
+    two = s.put(ACTIVE_CAPACITY, 8, PASSIVE_CAPACITY, 32).but(active=[low, far], passive=[farther, next_], alive=[], joins=[])
+    yield None, two
+    yield None, two.put(ME, low + 2**40)
+    yield views_without_self, two.put(ME, farther)
+    yield views_disjoint, two.but(passive=[farther, far])
+    yield lists_free_of_repeats, two.but(active=[far, far])
+    yield None, two.but(alive=[farther])
+    yield alive_marks_passive, two.but(alive=[low + 2**62])
+    joining = two.put(NEXT_JOIN, max(1, s.at(NEXT_JOIN))).but(bootstrap=[next_, farther])
+    yield None, joining.but(joins=[(farther, 0)])
+    yield pending_joins_bootstrap, joining.but(joins=[(low + 2**62, 0)])
+    yield None, two.but(requests=[], data=[(low, 0, 0, 0), (far, 0, 0, 0)])
+    yield data_of_known_peers, two.but(requests=[], data=[(low, 0, 0, 0), (low + 2**62, 0, 0, 0)])
 
 
 def near_repeats(s):
@@ -396,7 +424,7 @@ def near_repeats(s):
 def near_strides(s):
     """Full views of peers that agree in their low bits, which a search by marks must still tell apart."""
     known = set(s.known())
-    for bits in (3, 5, 6, 7, 8, 10, 16, 20, 26):
+    for bits in (3, 5, 6, 7, 8, 10, 16, 20, 26, 32, 40, 57):
         spread = [peer for peer in (5 + (i << bits) for i in range(60)) if peer not in known][:40]
         active, passive = spread[:8], spread[8:]
         full = s.put(ACTIVE_CAPACITY, 8, PASSIVE_CAPACITY, 32).but(active=active, passive=passive, alive=[])
@@ -418,8 +446,8 @@ def near_order(s):
                 yield rule, s.but(**{name: entries[: i - 1] + [entries[i], entries[i - 1]] + entries[i + 1 :]})
         if len(entries) > 2:
             yield rule, s.but(**{name: entries[-1:] + entries[1:-1] + entries[:1]})
-    if s.peers("refused") and s.peers("refused")[-1] < TOP32:
-        yield None, s.but(refused=s.peers("refused")[:-1] + [TOP32])
+    if s.peers("refused") and s.peers("refused")[-1] < TOP64:
+        yield None, s.but(refused=s.peers("refused")[:-1] + [TOP64])
 
 
 def near_capacities(s):
@@ -654,6 +682,7 @@ def near_unused(s):
 NEAR = [
     near_settings,
     near_widths,
+    near_halves,
     near_repeats,
     near_order,
     near_capacities,
@@ -899,7 +928,7 @@ def features(w):
         full = len(listed) == capacities.get(name, places)
         yield name, "full" if full else min(len(listed), 3)
         yield name, "no place left", len(listed) == places
-        yield from ((name, "peer", peer) for peer in (0, TOP32) if peer in listed)
+        yield from ((name, "peer", peer) for peer in (0, TOP32, TOP32 + 1, TOP64) if peer in listed)
     yield from (("setting", i, w[SETTINGS + i]) for i, ends in enumerate(SETTING_RANGES) if w[SETTINGS + i] in ends)
     yield "lists with peers", fullness(w)[0]
     yield "refill", w[REFILL_KIND], w[REFILL_REQUESTS]
@@ -908,7 +937,7 @@ def features(w):
     yield "interval", w[NEXT_SHUFFLE_INTERVAL] == w[SHUFFLE_INTERVAL]
     yield from (("top", place) for place in (NEXT_NEIGHBOR_REQUEST, NEXT_JOIN) if w[place] == TOP64)
     yield from (("top", place) for place in (PASSES_ALONE, PASSES_SHORT) if w[place] == TOP32)
-    yield "self", w[ME] in (0, TOP32), w[ME] in peers(w, "requests"), w[ME] in peers(w, "bootstrap")
+    yield "self", w[ME] in (0, TOP64), w[ME] in peers(w, "requests"), w[ME] in peers(w, "bootstrap")
 
 
 def choose():

@@ -1,5 +1,5 @@
 #!/usr/bin/env python3
-"""Records, sound and damaged, and what a reader must answer to each, from document 01 and 02's S-2 alone.
+"""Records, sound and damaged, and what a reader must answer to each, by tools/records.py, which is written from the documents alone.
 
 usage: tools/record_vectors.py make | check
 
@@ -11,88 +11,12 @@ import struct
 import sys
 
 import tool
+from records import NEW, event_code, make, read
 
-
-def make(kind, message=0, flags=0, peer=0, second=0, ttl=0, number=0, nodes=()):
-    """The bytes of a record; a node is (id, None or its data)."""
-    at = 24 + 8 * len(nodes)
-    entries, data = b"", b""
-    for ident, own in nodes:
-        if own is None:
-            entries += struct.pack("<IHBB", ident, 0, 0, 0)
-        else:
-            entries += struct.pack("<IHBB", ident, at + len(data), len(own), 1)
-            data += own
-    size = at + len(data)
-    return struct.pack("<BBBBIIHHQ", kind, message, flags, len(nodes), peer, second, ttl, size, number) + entries + data
-
-
-def named(kind, message):
-    """The fields that may be nonzero: peer, second, ttl, number, and the node count's least and largest."""
-    peer = kind not in (1, 2, 7, 8)
-    shuffle = kind == 0 and message == 2
-    second = shuffle or kind in (1, 2, 3, 4)
-    ttl = kind == 0 and message in (1, 2)
-    number = kind in (3, 4)
-    if kind in (7, 11) or (kind == 0 and message in (0, 1, 4)):
-        count = (1, 1)
-    elif kind == 0 and message in (2, 3):
-        count = (0, 32)
-    else:
-        count = (0, 0)
-    return peer, second, ttl, number, count
-
-
-def read(b):
-    """The header and the nodes of a record, or None where the bytes are malformed."""
-    if len(b) < 24:
-        return None
-    kind, message, flags, count, peer, second, ttl, size, number = struct.unpack("<BBBBIIHHQ", b[:24])
-    if kind > 12 or message > (5 if kind == 0 else 0):
-        return None
-    most = {4: 1, 5: 3}.get(message, 0) if kind == 0 else 0
-    if flags > most:
-        return None
-    has_peer, has_second, has_ttl, has_number, (least, largest) = named(kind, message)
-    if not least <= count <= largest:
-        return None
-    for has, value in ((has_peer, peer), (has_second, second), (has_ttl, ttl), (has_number, number)):
-        if value and not has:
-            return None
-    if size != len(b) or 24 + 8 * count > size:
-        return None
-    reached, nodes = 24 + 8 * count, []
-    for i in range(count):
-        ident, offset, length, present = struct.unpack("<IHBB", b[24 + 8 * i:32 + 8 * i])
-        if present > 1 or length > 16:
-            return None
-        if present == 0 and (offset or length):
-            return None
-        if present == 1 and offset != reached:
-            return None
-        if ident and (kind in (7, 11) or (kind == 0 and message in (0, 4))):
-            return None
-        if present == 0 and kind in (7, 11):
-            return None
-        nodes.append((ident, present, b[offset:offset + length]))
-        reached += length
-    if reached != size:
-        return None
-    return (kind, message, flags, count, peer, second, ttl, size, number), nodes
-
-
-def code(b):
-    """The code of the event's refusal, 0 where it is accepted."""
-    if len(b) < 24:
-        return 3
-    if b[3] > 32:
-        return 4
-    found = read(b)
-    if found is None or found[0][0] > 8:
-        return 3
-    if found[0][0] in (1, 2, 3, 4) and found[0][5]:
-        return 3
-    return 0
+HEADER, NODE, LENGTH = NEW.header.size, NEW.node.size, NEW.length_at
+TOP = 2**64 - 1
+# the far neighbour of the station in examples/, which has the lower half of its other one, 7
+FAR = 2**32 + 7
 
 
 def line(b):
@@ -105,16 +29,17 @@ def line(b):
         words += [str(x) for x in found[0]]
         for ident, present, data in found[1]:
             words += ["node", str(ident), str(present), str(len(data))] + [str(x) for x in data]
-    return " ".join(words + ["code", str(code(b))]) + "\n"
+    return " ".join(words + ["code", str(event_code(b))]) + "\n"
 
 
 def sound():
     """One record of each kind and message, and the shapes of nodes."""
-    three = [(5, b"abc"), (6, None), (4294967295, b"")]
+    three = [(5, b"abc"), (6, None), (TOP, b"")]
     yield make(0, 0, peer=7, nodes=[(0, None)])
     yield make(0, 0, peer=7, nodes=[(0, b"")])
     yield make(0, 1, peer=8, ttl=6, nodes=[(9, b"xy")])
-    yield make(0, 2, peer=4294967295, second=11, ttl=65535, nodes=three)
+    yield make(0, 2, peer=TOP, second=11, ttl=65535, nodes=three)
+    yield make(0, 2, peer=2**32 - 1, second=TOP, nodes=[(2**32 + 5, b"h"), (5, b"l")])
     yield make(0, 2, peer=0, second=0, ttl=0)
     yield make(0, 3, peer=12, nodes=three[:2])
     yield make(0, 3, peer=12)
@@ -125,19 +50,21 @@ def sound():
     for kind in (1, 2):
         yield make(kind)
         yield make(kind, second=750)
+    yield make(1, second=2**32)
     for kind in (3, 4):
-        yield make(kind, peer=15, number=2 ** 64 - 1)
+        yield make(kind, peer=15, number=TOP)
         yield make(kind, peer=15, number=1, second=10000)
     for kind in (5, 6, 9, 10, 12):
-        yield make(kind, peer=16)
+        yield make(kind, peer=2**32 + 16)
     yield make(8)
     yield make(7, nodes=[(0, b"")])
     yield make(7, nodes=[(0, bytes(range(240, 256)))])
     yield make(11, peer=17, nodes=[(0, b"data")])
 
 
-FIELDS = [(0, 1), (1, 1), (2, 1), (3, 1), (4, 4), (8, 4), (12, 2), (14, 2), (16, 8)]
-NODE = [(0, 4), (4, 2), (6, 1), (7, 1)]
+# the places and widths of the fields of a header and of a node
+FIELDS = [(0, 1), (1, 1), (2, 1), (3, 1), (4, 8), (12, 8), (20, 2), (22, 2), (24, 8)]
+NODE_FIELDS = [(0, 8), (8, 2), (10, 1), (11, 1)]
 
 
 def off(b, at, width, by):
@@ -148,15 +75,16 @@ def off(b, at, width, by):
 
 def damaged(b):
     places = list(FIELDS)
-    for i in range((min(len(b), 24 + 8 * b[3]) - 24) // 8):
-        places += [(24 + 8 * i + at, width) for at, width in NODE]
+    for i in range((min(len(b), HEADER + NODE * b[3]) - HEADER) // NODE):
+        places += [(HEADER + NODE * i + at, width) for at, width in NODE_FIELDS]
     for at, width in places:
-        for by in (1, -1):
+        # a number of 64 bits in its upper half alone too
+        for by in (1, -1, 2**32)[: 3 if width == 8 else 2]:
             yield off(b, at, width, by)
     yield b[:-1]
     yield b + b"\0"
-    yield off(b[:-1], 14, 2, -1)
-    yield off(b + b"\0", 14, 2, 1)
+    yield off(b[:-1], LENGTH, 2, -1)
+    yield off(b + b"\0", LENGTH, 2, 1)
 
 
 def special():
@@ -171,23 +99,25 @@ def special():
     yield make(7, nodes=[(0, None)])
     yield make(11, peer=3, nodes=[(0, None)])
     yield make(11, peer=3, nodes=[(1, b"a")])
+    # the places of the first and the second node's offset, and of the data of two nodes
+    offset, second, data = HEADER + 8, HEADER + NODE + 8, HEADER + 2 * NODE
     two = make(0, 3, peer=1, nodes=[(1, b"ab"), (2, b"cd")])
-    gap = off(off(two, 36, 2, 1), 14, 2, 1)
-    yield gap[:42] + b"\0" + gap[42:]
-    first = off(off(off(two, 28, 2, 1), 36, 2, 1), 14, 2, 1)
-    yield first[:40] + b"\0" + first[40:]
-    yield two[:28] + two[36:38] + two[30:36] + two[28:30] + two[38:]
+    gap = off(off(two, second, 2, 1), LENGTH, 2, 1)
+    yield gap[: data + 2] + b"\0" + gap[data + 2 :]
+    first = off(off(off(two, offset, 2, 1), second, 2, 1), LENGTH, 2, 1)
+    yield first[:data] + b"\0" + first[data:]
+    yield two[:offset] + two[second : second + 2] + two[offset + 2 : second] + two[offset : offset + 2] + two[second + 2 :]
     empty = make(0, 3, peer=1, nodes=[(1, b""), (2, b"cd")])
     yield empty
-    yield empty[:28] + b"\0\0" + empty[30:]
-    yield empty[:31] + b"\2" + empty[32:]
-    yield empty[:31] + b"\0" + empty[32:]
+    yield empty[:offset] + b"\0\0" + empty[offset + 2 :]
+    for present in (2, 0):
+        yield empty[: offset + 3] + bytes([present]) + empty[offset + 4 :]
     for kind in range(13, 256):
         yield make(kind)
     for count in (32, 33, 255):
         for kind in (0, 5, 13, 255):
             yield make(kind)[:3] + bytes([count]) + make(kind)[4:]
-    for length in range(24):
+    for length in range(HEADER):
         yield make(8)[:length]
         yield (make(8)[:3] + b"\x21" + make(8)[4:])[:length]
 
@@ -215,7 +145,7 @@ def station():
     """The events of the station in examples/, each with the lines that it prints; self is 1, the settings the usual ones."""
     full = [(100 + i, bytes([i]) * 16) for i in range(32)]
     yield make(6, peer=7), 0, [
-        "send message 0 to 7: 32 bytes",
+        f"send message 0 to 7: {HEADER + NODE} bytes",
         "start timer 4 for 7, number 0, in 10000 ms",
         f"start timer 1 for 0, number 0, in {delay(1000, first_draw())} ms",
         "start timer 2 for 0, number 0, in 5000 ms",
@@ -223,19 +153,19 @@ def station():
     yield make(0, 4, flags=1, peer=7, nodes=[(0, b"at 7")]), 0, [
         "tell kind 11 of 7",
         "tell kind 9 of 7",
-        "send message 4 to 7: 32 bytes",
+        f"send message 4 to 7: {HEADER + NODE} bytes",
         "start timer 3 for 7, number 0, in 3000 ms",
     ]
-    yield make(0, 4, flags=1, peer=8, nodes=[(0, None)]), 0, [
-        "tell kind 9 of 8",
-        "send message 4 to 8: 32 bytes",
-        "start timer 3 for 8, number 1, in 3000 ms",
+    yield make(0, 4, flags=1, peer=FAR, nodes=[(0, None)]), 0, [
+        f"tell kind 9 of {FAR}",
+        f"send message 4 to {FAR}: {HEADER + NODE} bytes",
+        f"start timer 3 for {FAR}, number 1, in 3000 ms",
     ]
     # the longest record goes on to the one neighbor that is neither its sender nor its origin
-    yield make(0, 2, peer=7, second=9, ttl=3, nodes=full), 0, [f"send message 2 to 8: {24 + 32 * (8 + 16)} bytes"]
+    yield make(0, 2, peer=7, second=9, ttl=3, nodes=full), 0, [f"send message 2 to {FAR}: {HEADER + 32 * (NODE + 16)} bytes"]
     yield make(5, peer=7), 0, ["tell kind 10 of 7"]
     yield make(9, peer=7), 3, []
-    yield make(8)[:23], 3, []
+    yield make(8)[: HEADER - 1], 3, []
 
 
 def station_files():

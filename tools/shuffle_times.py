@@ -11,6 +11,7 @@ import random
 import struct
 import sys
 
+import records
 import timeline
 import tool
 
@@ -89,8 +90,7 @@ def files():
 
 
 def event(kind, message=0, flags=0, peer=0, nodes=()):
-    entries = b"".join(struct.pack("<IHBB", node, 0, 0, 0) for node in nodes)
-    return struct.pack("<4BIIHHQ", kind, message, flags, len(nodes), peer, 0, 0, 24 + len(entries), 0) + entries
+    return records.make(kind, message, flags, peer, nodes=[(node, None) for node in nodes])
 
 
 # Histories by name: the first event, and what goes before each shuffle timer. The second has three neighbours and passive peers, and
@@ -106,10 +106,9 @@ HISTORIES = {
 
 def delays_of(interval, events, draws):
     """The delays of the shuffle timers that the Rust asks for."""
-    body = b"".join(events)
-    head = struct.pack("<14I", 1, *with_setting(INTERVAL, interval), len(events), 56, len(draws), 56 + len(body))
+    given = records.whole(1, with_setting(INTERVAL, interval), events, draws)
     found = []
-    for text in tool.oracle("station", input=head + body + struct.pack(f"<{len(draws)}I", *draws)).decode().splitlines():
+    for text in tool.oracle("station", input=given).decode().splitlines():
         words = text.split(" ")
         if words[0] == "=" and words[1] != "0":
             tool.fail(f"the Rust refused an event with code {words[1]}")

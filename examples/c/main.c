@@ -5,6 +5,7 @@
  * to be sent, and its receiver hands it to its own `handle` with the sender as `peer`. */
 #include "hyparview.h"
 
+#include <inttypes.h>
 #include <stdio.h>
 #include <stdlib.h>
 
@@ -17,7 +18,7 @@ static uint8_t event[HYPARVIEW_RECORD], out[HYPARVIEW_OUTPUT];
 static size_t wait_for_event(void)
 {
     size_t n = fread(event, 1, HYPARVIEW_HEADER, stdin);
-    size_t size = n < HYPARVIEW_HEADER ? n : (size_t)(event[14] | event[15] << 8);
+    size_t size = n < HYPARVIEW_HEADER ? n : hyparview_record_size(event);
     return size > n && size <= sizeof event ? n + fread(event + n, 1, size - n, stdin) : n;
 }
 
@@ -29,19 +30,19 @@ static void draw(size_t n)
         draws[i] = last = last * 1664525 + 1013904223;
 }
 
-static void send_message(uint32_t to, const uint8_t *record, size_t len)
+static void send_message(uint64_t to, const uint8_t *record, size_t len)
 {
-    printf("send message %u to %u: %zu bytes\n", record[1], to, len);
+    printf("send message %u to %" PRIu64 ": %zu bytes\n", record[1], to, len);
 }
 
 static void start_timer(const struct hyparview_header *h)
 {
-    printf("start timer %u for %u, number %llu, in %u ms\n", h->kind, h->peer, (unsigned long long)h->number, h->second);
+    printf("start timer %u for %" PRIu64 ", number %" PRIu64 ", in %" PRIu64 " ms\n", h->kind, h->peer, h->number, h->second);
 }
 
 static void tell(const struct hyparview_header *h)
 {
-    printf("tell kind %u of %u\n", h->kind, h->peer);
+    printf("tell kind %u of %" PRIu64 "\n", h->kind, h->peer);
 }
 
 /* One event, and all that it brings about. */
@@ -53,7 +54,7 @@ static void handle(size_t len)
     if (done.code == HYPARVIEW_CODE_STATE)
         exit(1); /* the memory is damaged: begin anew with hyparview_new */
     for (size_t at = 0; at + HYPARVIEW_HEADER <= sizeof out;) {
-        size_t size = (size_t)(out[at + 14] | out[at + 15] << 8);
+        size_t size = hyparview_record_size(out + at);
         struct hyparview_reading r = hyparview_read(out + at, size);
         if (size == 0 || !r.ok)
             break; /* the records end; each of them is well-formed */

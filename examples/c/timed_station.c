@@ -67,12 +67,14 @@ static void fire(void)
 int main(void)
 {
     const struct hyparview_config settings = HYPARVIEW_DEFAULTS;
-    const struct hyparview_header join = {.kind = HYPARVIEW_KIND_REQUEST_JOIN, .peer = 7, .size = sizeof join};
+    const struct hyparview_header join = {.kind = HYPARVIEW_KIND_REQUEST_JOIN, .peer = 7, .size = HYPARVIEW_HEADER};
+    uint8_t first[HYPARVIEW_HEADER];
+    hyparview_write_header(first, join);
     if (hyparview_new(state, HYPARVIEW_WORDS, &tally, 1, 0, NULL, 0, settings) != HYPARVIEW_ACCEPTED)
         stop("new is refused", HYPARVIEW_CODE_SETTINGS);
     if (timer_map_new(queue, TIMER_MAP_WORDS) != TIMER_MAP_DONE)
         stop("a new queue is refused", TIMER_MAP_BROKEN);
-    handle((const uint8_t *)&join, sizeof join);
+    handle(first, sizeof first);
     for (;;) {
         struct timer_map_first next = timer_map_first(queue, TIMER_MAP_WORDS);
         if (next.code != 0 || !next.found)

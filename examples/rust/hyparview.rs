@@ -7,8 +7,8 @@ use std::mem::{offset_of, size_of};
 pub const WORDS: usize = 551;
 pub const OUTPUT: usize = 8192;
 pub const DRAWS: usize = 512;
-pub const HEADER: usize = 24;
-pub const RECORD: usize = 792;
+pub const HEADER: usize = 32;
+pub const RECORD: usize = 928;
 
 pub const ACCEPTED: u32 = 0;
 pub const CODE_STATE: u32 = 2;
@@ -65,8 +65,8 @@ pub struct Header {
     pub message: u8,
     pub flags: u8,
     pub nodes: u8,
-    pub peer: u32,
-    pub second: u32,
+    pub peer: u64,
+    pub second: u64,
     pub ttl: u16,
     pub size: u16,
     pub number: u64,
@@ -80,7 +80,7 @@ struct Reading {
 
 #[repr(C)]
 struct Entry {
-    id: u32,
+    id: u64,
     offset: u16,
     len: u8,
     present: u8,
@@ -96,9 +96,9 @@ struct NodeReading {
 const _: () = {
     assert!(size_of::<usize>() == 8 && size_of::<Config>() == 36 && size_of::<Tally>() == 48);
     assert!(size_of::<Done>() == 16 && offset_of!(Done, draws) == 8);
-    assert!(size_of::<Header>() == HEADER && size_of::<Entry>() == 8);
-    assert!(size_of::<Reading>() == 32 && offset_of!(Reading, header) == 8);
-    assert!(size_of::<NodeReading>() == 12 && offset_of!(NodeReading, node) == 4);
+    assert!(size_of::<Header>() == 40 && size_of::<Entry>() == 16);
+    assert!(size_of::<Reading>() == 48 && offset_of!(Reading, header) == 8);
+    assert!(size_of::<NodeReading>() == 24 && offset_of!(NodeReading, node) == 8);
 };
 
 #[link(name = "controller", kind = "static")]
@@ -107,7 +107,7 @@ extern "C" {
         state: *mut u64,
         words: usize,
         tally: *mut Tally,
-        me: u32,
+        me: u64,
         present: u8,
         own: *const u8,
         own_len: usize,
@@ -141,7 +141,7 @@ pub struct Station {
 
 impl Station {
     /// A new station, or the code of the refusal.
-    pub fn new(me: u32, own: Option<&[u8]>, config: Config) -> Result<Station, u32> {
+    pub fn new(me: u64, own: Option<&[u8]>, config: Config) -> Result<Station, u32> {
         let mut s = Station {
             words: [0; WORDS],
             tally: Tally::default(),
@@ -217,7 +217,7 @@ pub fn read(record: &[u8]) -> Option<Header> {
 }
 
 /// The i-th node of a record: the peer, and its data as a part of the record.
-pub fn node(record: &[u8], i: usize) -> Option<(u32, Option<&[u8]>)> {
+pub fn node(record: &[u8], i: usize) -> Option<(u64, Option<&[u8]>)> {
     // SAFETY: the pointer is a slice's.
     let r = unsafe { hyparview_node(record.as_ptr(), record.len(), i) };
     let at = r.node.offset as usize;
@@ -225,9 +225,14 @@ pub fn node(record: &[u8], i: usize) -> Option<(u32, Option<&[u8]>)> {
     r.ok.then_some((r.node.id, data))
 }
 
+/// The whole length of the record with this header.
+pub fn size(header: &[u8]) -> usize {
+    u16::from_le_bytes([header[22], header[23]]) as usize
+}
+
 /// The record that begins the bytes, by its whole length; none where that is under a header or over the bytes.
 pub fn first(bytes: &[u8]) -> Option<&[u8]> {
-    let size = u16::from_le_bytes([*bytes.get(14)?, *bytes.get(15)?]) as usize;
+    let size = size(bytes.get(..HEADER)?);
     bytes.get(..size).filter(|r| r.len() >= HEADER)
 }
 

@@ -5,8 +5,8 @@
 mod hyparview;
 
 use hyparview::{
-    read, records, Header, Station, CODE_STATE, DEFAULTS, DRAWS, HEADER, KIND_MESSAGE, LAST_TIMER,
-    OUTPUT, RECORD,
+    read, records, size, Header, Station, CODE_STATE, DEFAULTS, DRAWS, HEADER, KIND_MESSAGE,
+    LAST_TIMER, OUTPUT, RECORD,
 };
 use std::io::Read;
 
@@ -20,7 +20,7 @@ fn wait_for_event() -> Vec<u8> {
         .read_to_end(&mut event)
         .unwrap();
     if event.len() == HEADER {
-        let size = u16::from_le_bytes([event[14], event[15]]) as usize;
+        let size = size(&event);
         let rest = if size <= RECORD {
             size.saturating_sub(HEADER)
         } else {

@@ -5,7 +5,7 @@ use std::iter;
 
 use crate::{
     collections::Limit,
-    record::{kind, message, tells_evicted, NodeParts, Record, View, Writer},
+    record::{kind, message, tells_evicted, NodeParts, Peer, Record, View, Writer},
 };
 
 #[cfg(feature = "tools")]
@@ -29,15 +29,15 @@ pub struct Counters {
 #[derive(Clone, Debug, PartialEq, Eq)]
 pub struct Parts {
     pub me_data: Option<Vec<u8>>,
-    pub active: Vec<u32>,
-    pub passive: Vec<u32>,
-    pub bootstrap: Vec<u32>,
-    pub recent: Vec<u32>,
-    pub requests: Vec<(u32, u64)>,
-    pub joins: Vec<(u32, u64)>,
-    pub data: Vec<(u32, Vec<u8>)>,
-    pub alive: Vec<u32>,
-    pub refused: Vec<u32>,
+    pub active: Vec<Peer>,
+    pub passive: Vec<Peer>,
+    pub bootstrap: Vec<Peer>,
+    pub recent: Vec<Peer>,
+    pub requests: Vec<(Peer, u64)>,
+    pub joins: Vec<(Peer, u64)>,
+    pub data: Vec<(Peer, Vec<u8>)>,
+    pub alive: Vec<Peer>,
+    pub refused: Vec<Peer>,
     pub refill: Refill,
     pub timers: bool,
     pub interval: u64,
@@ -51,9 +51,9 @@ pub enum Refill {
     Recovery,
 }
 
-impl<RG: Rng + Clone> State<u32, RG> {
+impl<RG: Rng + Clone> State<Peer, RG> {
     /// The Rust's `State::new` with 01's limits on its maps and sets.
-    pub fn limited(me: u32, me_data: Option<&[u8]>, config: Config, rng: RG) -> Self {
+    pub fn limited(me: Peer, me_data: Option<&[u8]>, config: Config, rng: RG) -> Self {
         let mut state = Self::new(me, me_data.map(PeerData::new), config, rng);
         let limit = |most, code| Limit { most, code };
         state
@@ -108,7 +108,7 @@ impl<RG: Rng + Clone> State<u32, RG> {
     }
 }
 
-impl<RG: Clone> Clone for State<u32, RG> {
+impl<RG: Clone> Clone for State<Peer, RG> {
     fn clone(&self) -> Self {
         Self {
             me: self.me,
@@ -173,7 +173,7 @@ fn plain(data: &PeerData) -> Vec<u8> {
     data.as_bytes().to_vec()
 }
 
-fn parts_of(info: &PeerInfo<u32>) -> NodeParts<'_> {
+fn parts_of(info: &PeerInfo<Peer>) -> NodeParts<'_> {
     (info.id, bytes_of(&info.data))
 }
 
@@ -181,7 +181,7 @@ fn bytes_of(data: &Option<PeerData>) -> Option<&[u8]> {
     data.as_ref().map(PeerData::as_bytes)
 }
 
-fn info((id, data): NodeParts) -> PeerInfo<u32> {
+fn info((id, data): NodeParts) -> PeerInfo<Peer> {
     PeerInfo {
         id,
         data: data.map(PeerData::new),
@@ -189,7 +189,7 @@ fn info((id, data): NodeParts) -> PeerInfo<u32> {
 }
 
 /// The Rust's event of a record that the reader accepted.
-pub fn event(view: &View) -> InEvent<u32> {
+pub fn event(view: &View) -> InEvent<Peer> {
     let fields = view.fields();
     let (peer, number) = (fields.peer, fields.number);
     match fields.kind {
@@ -211,11 +211,11 @@ pub fn event(view: &View) -> InEvent<u32> {
 }
 
 /// The one node of a record whose kind has one.
-fn single(view: &View) -> PeerInfo<u32> {
+fn single(view: &View) -> PeerInfo<Peer> {
     view.nodes().next().map(info).expect("a node")
 }
 
-fn received(view: &View, fields: &Record<()>) -> Message<u32> {
+fn received(view: &View, fields: &Record<()>) -> Message<Peer> {
     let ttl = Ttl(fields.ttl);
     match fields.message {
         message::JOIN => Message::Join(single(view).data),
@@ -247,8 +247,8 @@ fn received(view: &View, fields: &Record<()>) -> Message<u32> {
     }
 }
 
-impl IO<u32> for Writer<'_> {
-    fn send(&mut self, peer: u32, sent: Message<u32>) {
+impl IO<Peer> for Writer<'_> {
+    fn send(&mut self, peer: Peer, sent: Message<Peer>) {
         let nameless = |data| iter::once((0, bytes_of(data)));
         match &sent {
             Message::Join(data) => self.put(Record::message(message::JOIN, peer, nameless(data))),
@@ -281,7 +281,7 @@ impl IO<u32> for Writer<'_> {
         }
     }
 
-    fn emit(&mut self, event: Event<u32>) {
+    fn emit(&mut self, event: Event<Peer>) {
         let (kind, peer) = match event {
             Event::NeighborUp(peer) => (kind::NEIGHBOR_UP, peer),
             Event::NeighborDown(peer) => (kind::NEIGHBOR_DOWN, peer),
@@ -291,7 +291,7 @@ impl IO<u32> for Writer<'_> {
         self.put(Record::<iter::Empty<_>>::of(kind, peer));
     }
 
-    fn schedule(&mut self, delay: Duration, timer: Timer<u32>) {
+    fn schedule(&mut self, delay: Duration, timer: Timer<Peer>) {
         let (kind, peer, number) = match timer {
             Timer::DoShuffle => (kind::DO_SHUFFLE, 0, 0),
             Timer::DoMaintenance => (kind::DO_MAINTENANCE, 0, 0),
@@ -299,13 +299,13 @@ impl IO<u32> for Writer<'_> {
             Timer::RetryJoin(peer, id) => (kind::RETRY_JOIN, peer, id),
         };
         self.put(Record {
-            second: delay.as_millis().try_into().expect("a delay has 32 bits"),
+            second: delay.as_millis(),
             number,
             ..Record::<iter::Empty<_>>::of(kind, peer)
         });
     }
 
-    fn peer_data(&mut self, peer: u32, data: PeerData) {
+    fn peer_data(&mut self, peer: Peer, data: PeerData) {
         let nodes = iter::once((0, Some(data.as_bytes())));
         self.put(Record::<()>::of(kind::PEER_DATA, peer).with_nodes(nodes));
     }

@@ -5,7 +5,7 @@ use std::{
     fmt::Write,
 };
 
-use rand::Draws;
+use rand::{Draws, PICKS, SHUFFLES};
 
 use crate::{
     generate::{self, mix::MIXES},
@@ -18,10 +18,12 @@ use crate::{
 };
 
 /// So many draws suffice, if no choice passes over any of them.
-const ENOUGH_DRAWS: usize = 512;
+const ENOUGH_DRAWS: u64 = 512;
 
-/// Below this no choice of at most 32 items passes over a draw (02, S-6).
-const SURE_END: u32 = u32::MAX - 31;
+/// The draws that choices passed over so far (02, S-6).
+fn passed_over() -> u64 {
+    PICKS.counts().into_iter().chain(SHUFFLES.counts()).sum()
+}
 
 /// One history under way, with its book.
 struct Watch {
@@ -48,9 +50,10 @@ impl Watch {
     fn step(&mut self, index: usize) -> (Answer, Vec<&'static str>) {
         let event = &self.input.events[index];
         let left = &self.input.draws[self.station.place().min(self.input.draws.len())..];
-        let lent = left.len();
-        let sure = left.iter().filter(|draw| **draw < SURE_END).count();
+        let (lent, passed) = (left.len(), passed_over());
         let answer = self.station.handle(event, self.start.room);
+        // Where a draw is wanted and none is left, all that were lent are read.
+        let kept = (lent as u64).saturating_sub(passed_over() - passed);
         let capacity = self.input.settings[0];
         self.ledger.enter(capacity, event, &answer);
         let parts = self.station.parts();
@@ -63,8 +66,8 @@ impl Watch {
             ("message bound", sum <= ledger.allowance),
             ("draws lent", answer.drawn <= lent),
             (
-                "no 5 with 512 sure draws",
-                answer.code != 5 || sure < ENOUGH_DRAWS,
+                "no 5 with 512 draws kept",
+                answer.code != 5 || kept < ENOUGH_DRAWS,
             ),
             ("8192 bytes", answer.out.len() <= ROOM),
             (

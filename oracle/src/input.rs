@@ -1,16 +1,16 @@
-//! The run program's input (01, "The run program"): header, events, draws, without gaps.
+//! The run program's input (01, "The run program", and 02, S-8): header, events, draws, without gaps.
 
 use crate::{
-    record::{self, u32_at},
+    record::{self, Peer},
     station::Settings,
 };
 
-pub const HEADER: usize = 56;
+pub const HEADER: usize = 60;
 pub const MOST: usize = 65_536;
 
 #[derive(Clone, Debug, PartialEq, Eq)]
 pub struct Input {
-    pub me: u32,
+    pub me: Peer,
     pub settings: Settings,
     pub events: Vec<Vec<u8>>,
     pub draws: Vec<u32>,
@@ -25,7 +25,8 @@ impl Input {
             self.draws.len() as u32,
             (HEADER + events.len()) as u32,
         ];
-        let head = [self.me].into_iter().chain(self.settings).chain(numbers);
+        let me = [self.me as u32, (self.me >> 32) as u32];
+        let head = me.into_iter().chain(self.settings).chain(numbers);
         let mut bytes: Vec<u8> = head.flat_map(u32::to_le_bytes).collect();
         bytes.extend(events);
         bytes.extend(self.draws.iter().flat_map(|draw| draw.to_le_bytes()));
@@ -37,9 +38,10 @@ impl Input {
         if bytes.len() < HEADER || bytes.len() > MOST {
             return None;
         }
-        let number = |index: usize| u32_at(bytes, 4 * index);
+        let words: Vec<_> = bytes[..HEADER].chunks_exact(4).map(u32_of).collect();
+        let number = |index: usize| words[index];
         let place = |index: usize| number(index) as usize;
-        let (count, start, draws, end) = (place(10), place(11), place(12), place(13));
+        let (count, start, draws, end) = (place(11), place(12), place(13), place(14));
         if start != HEADER || end < HEADER || end + 4 * draws != bytes.len() {
             return None;
         }
@@ -49,13 +51,14 @@ impl Input {
             return None;
         }
         Some(Self {
-            me: number(0),
-            settings: std::array::from_fn(|index| number(1 + index)),
+            me: Peer::from(number(0)) | Peer::from(number(1)) << 32,
+            settings: std::array::from_fn(|index| number(2 + index)),
             events: events.into_iter().map(<[u8]>::to_vec).collect(),
-            draws: bytes[end..]
-                .chunks_exact(4)
-                .map(|draw| u32_at(draw, 0))
-                .collect(),
+            draws: bytes[end..].chunks_exact(4).map(u32_of).collect(),
         })
     }
+}
+
+fn u32_of(bytes: &[u8]) -> u32 {
+    u32::from_le_bytes(bytes.try_into().expect("four bytes"))
 }

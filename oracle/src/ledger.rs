@@ -3,13 +3,13 @@
 use std::collections::BTreeSet;
 
 use crate::{
-    record::{cut, kind, message, u32_at},
+    record::{cut, kind, message, peer_of, Peer},
     station::Answer,
 };
 
 #[derive(Default)]
 pub struct Ledger {
-    pub neighbors: BTreeSet<u32>,
+    pub neighbors: BTreeSet<Peer>,
     pub messages: u64,
     pub allowance: u64,
 }
@@ -24,7 +24,7 @@ impl Ledger {
         }
         self.allowance += u64::from(price(capacity, event));
         for record in cut(&answer.out) {
-            let peer = u32_at(record, 4);
+            let peer = peer_of(record);
             match record[0] {
                 kind::MESSAGE => self.messages += 1,
                 kind::NEIGHBOR_UP => _ = self.neighbors.insert(peer),

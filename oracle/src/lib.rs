@@ -30,6 +30,8 @@ pub mod generate;
 pub mod input;
 #[cfg(feature = "tools")]
 pub mod ledger;
+#[cfg(feature = "tools")]
+pub mod passing;
 pub mod record;
 #[cfg(feature = "tools")]
 pub mod rules;

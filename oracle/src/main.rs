@@ -14,6 +14,7 @@ use std::{
 use oracle::{
     check, compare,
     generate::mix::{self, MIXES},
+    passing,
     stored::{self, Stored},
     stories,
     text::{self, Form, Start},
@@ -25,7 +26,8 @@ oracle station|trace [--room BYTES] [--counters REQUEST,JOIN,ALONE,SHORT]   inpu
 oracle generate [--seed N] [--histories N] [--events N] [--mix NAME]        stored form
 oracle words [--seed N] [--histories N] [--events N] [--mix NAME]           states as words
 oracle make                          names (MIX SEED EVENTS) on stdin, stored form
-oracle replay FILE...                stored histories that do not hold now
+oracle replay FILE...                stored histories that do not hold now; - is stdin
+oracle passing FILE...               how often picks and shuffles pass over draws, by their size
 oracle check [--seed N] [--events N] [--length N]
 oracle time [--seed N] [--histories N] [--events N] [--rounds N]
 oracle compare [--seed N] [--histories N] [--events N] [--mix NAME] [--evicted true] -- COMMAND
@@ -83,7 +85,8 @@ fn answer(arguments: &[String]) -> Answer {
             )
         }),
         "make" => make(),
-        "replay" => replay(rest),
+        "replay" => stored::replay(&texts(mode, rest)?).map_err(Failure::Report),
+        "passing" => passing::run(&texts(mode, rest)?).map_err(Failure::Report),
         "check" => {
             let options = Options::read(rest, &["seed", "events", "length"])?;
             let text = check::run(
@@ -255,14 +258,18 @@ fn make() -> Answer {
         .collect()
 }
 
-fn replay(files: &[String]) -> Answer {
+/// The texts of files of stored histories; - is standard input.
+fn texts(mode: &str, files: &[String]) -> Result<Vec<String>, Failure> {
     if files.is_empty() {
-        return Err(misuse("replay: no file of stored histories is named"));
+        return Err(misuse(format!(
+            "{mode}: no file of stored histories is named"
+        )));
     }
-    for file in files {
-        fs::metadata(file).map_err(|error| misuse(format!("{file}: {error}")))?;
-    }
-    stored::replay(files).map_err(Failure::Report)
+    let text = |file: &String| match file.as_str() {
+        "-" => Ok(String::from_utf8_lossy(&read_input()).into_owned()),
+        _ => fs::read_to_string(file).map_err(|error| misuse(format!("{file}: {error}"))),
+    };
+    files.iter().map(text).collect()
 }
 
 fn compare(arguments: &[String]) -> Answer {

@@ -2,8 +2,11 @@
 
 use std::sync::atomic::{AtomicBool, Ordering};
 
-pub const HEADER: usize = 24;
-pub const NODE: usize = 8;
+pub const HEADER: usize = 32;
+pub const NODE: usize = 12;
+/// Where a record's peer and its whole length stand.
+pub const PEER: usize = 4;
+pub const LENGTH: usize = 22;
 pub const MOST_NODES: u8 = 32;
 pub const MOST_DATA: usize = 16;
 
@@ -50,12 +53,15 @@ pub fn tells_evicted() -> bool {
     TELLS_EVICTED.load(Ordering::Relaxed)
 }
 
+/// A station's number (02, S-8).
+pub type Peer = u64;
+
 /// A node's id and its data.
-pub type NodeParts<'a> = (u32, Option<&'a [u8]>);
+pub type NodeParts<'a> = (Peer, Option<&'a [u8]>);
 
 #[derive(Clone, Debug, Default, PartialEq, Eq)]
 pub struct Node {
-    pub id: u32,
+    pub id: Peer,
     pub data: Option<Vec<u8>>,
 }
 
@@ -71,15 +77,15 @@ pub struct Record<N = Vec<Node>> {
     pub kind: u8,
     pub message: u8,
     pub flags: u8,
-    pub peer: u32,
-    pub second: u32,
+    pub peer: Peer,
+    pub second: u64,
     pub ttl: u16,
     pub number: u64,
     pub nodes: N,
 }
 
 impl<N: Default> Record<N> {
-    pub fn of(kind: u8, peer: u32) -> Self {
+    pub fn of(kind: u8, peer: Peer) -> Self {
         Self {
             kind,
             peer,
@@ -89,7 +95,7 @@ impl<N: Default> Record<N> {
 }
 
 impl<N> Record<N> {
-    pub fn message(message: u8, peer: u32, nodes: N) -> Self {
+    pub fn message(message: u8, peer: Peer, nodes: N) -> Self {
         Record::<()>::of(kind::MESSAGE, peer).with(message, nodes)
     }
 
@@ -166,11 +172,11 @@ impl<'a> Writer<'a> {
         };
         let (head, rest) = bytes.split_at_mut(HEADER);
         head[..4].copy_from_slice(&[record.kind, record.message, record.flags, count as u8]);
-        head[4..8].copy_from_slice(&record.peer.to_le_bytes());
-        head[8..12].copy_from_slice(&record.second.to_le_bytes());
-        head[12..14].copy_from_slice(&record.ttl.to_le_bytes());
-        head[14..16].copy_from_slice(&(size as u16).to_le_bytes());
-        head[16..24].copy_from_slice(&record.number.to_le_bytes());
+        head[4..12].copy_from_slice(&record.peer.to_le_bytes());
+        head[12..20].copy_from_slice(&record.second.to_le_bytes());
+        head[20..22].copy_from_slice(&record.ttl.to_le_bytes());
+        head[22..24].copy_from_slice(&(size as u16).to_le_bytes());
+        head[24..32].copy_from_slice(&record.number.to_le_bytes());
         put_nodes(rest, count, record.nodes);
         self.written += size;
         if record.kind == kind::MESSAGE {
@@ -184,13 +190,13 @@ fn put_nodes<'n>(out: &mut [u8], count: usize, nodes: impl Iterator<Item = NodeP
     let (entries, mut rest) = out.split_at_mut(NODE * count);
     let mut reached = HEADER + NODE * count;
     for (entry, (id, data)) in entries.chunks_exact_mut(NODE).zip(nodes) {
-        entry[..4].copy_from_slice(&id.to_le_bytes());
+        entry[..8].copy_from_slice(&id.to_le_bytes());
         let Some(data) = data else {
-            entry[4..].fill(0);
+            entry[8..].fill(0);
             continue;
         };
-        entry[4..6].copy_from_slice(&(reached as u16).to_le_bytes());
-        entry[6..].copy_from_slice(&[data.len() as u8, 1]);
+        entry[8..10].copy_from_slice(&(reached as u16).to_le_bytes());
+        entry[10..].copy_from_slice(&[data.len() as u8, 1]);
         let (place, after) = rest.split_at_mut(data.len());
         place.copy_from_slice(data);
         rest = after;
@@ -205,7 +211,7 @@ pub struct View<'a> {
 }
 
 impl<'a> View<'a> {
-    /// Reads an event. Order of refusals: 3 if under 24 bytes, 4, any other 3.
+    /// Reads an event. Order of refusals: 3 if under 32 bytes, 4, any other 3.
     pub fn event(bytes: &'a [u8]) -> Result<Self, u8> {
         if bytes.len() < HEADER {
             return Err(MALFORMED);
@@ -216,27 +222,17 @@ impl<'a> View<'a> {
         let view = Self { bytes };
         let fields = view.fields();
         let allowed = fields.kind <= kind::QUIT && !(fields.is_timer() && fields.second != 0);
-        let length = usize::from(u16_at(bytes, 14)) == bytes.len();
+        let length = length_of(bytes) == bytes.len();
         let in_form = allowed && length && fields.fit() && view.nodes_fit(&fields);
         in_form.then_some(view).ok_or(MALFORMED)
     }
 
     /// The header's fields.
     pub fn fields(&self) -> Record<()> {
-        let bytes = self.bytes;
-        Record {
-            kind: bytes[0],
-            message: bytes[1],
-            flags: bytes[2],
-            peer: u32_at(bytes, 4),
-            second: u32_at(bytes, 8),
-            ttl: u16_at(bytes, 12),
-            number: u64::from_le_bytes(bytes[16..24].try_into().expect("eight bytes")),
-            nodes: (),
-        }
+        header_of(self.bytes)
     }
 
-    /// The nodes' entries, eight bytes each; none where they do not fit in the bytes.
+    /// The nodes' entries, twelve bytes each; none where they do not fit in the bytes.
     fn entries(&self) -> std::slice::ChunksExact<'a, u8> {
         let end = HEADER + NODE * usize::from(self.bytes[3]);
         self.bytes
@@ -248,9 +244,9 @@ impl<'a> View<'a> {
     pub fn nodes(&self) -> impl Iterator<Item = NodeParts<'a>> + Clone + 'a {
         let bytes = self.bytes;
         self.entries().map(move |entry| {
-            let (offset, len) = (usize::from(u16_at(entry, 4)), usize::from(entry[6]));
-            let data = (entry[7] == 1).then(|| &bytes[offset..offset + len]);
-            (u32_at(entry, 0), data)
+            let (offset, len) = (usize::from(u16_at(entry, 8)), usize::from(entry[10]));
+            let data = (entry[11] == 1).then(|| &bytes[offset..offset + len]);
+            (u64_at(entry, 0), data)
         })
     }
 
@@ -261,14 +257,14 @@ impl<'a> View<'a> {
         let (nameless, with_data) = (fields.is_nameless(), fields.is_data());
         let mut reached = HEADER + NODE * count;
         let in_order = self.entries().all(|entry| {
-            let (offset, len) = (usize::from(u16_at(entry, 4)), usize::from(entry[6]));
-            let data_fits = match entry[7] {
+            let (offset, len) = (usize::from(u16_at(entry, 8)), usize::from(entry[10]));
+            let data_fits = match entry[11] {
                 0 => offset == 0 && len == 0 && !with_data,
                 1 => offset == reached && len <= MOST_DATA,
                 _ => false,
             };
             reached += len;
-            data_fits && (!nameless || u32_at(entry, 0) == 0)
+            data_fits && (!nameless || u64_at(entry, 0) == 0)
         });
         let asked = fields.is_shuffle() || count == usize::from(fields.is_single());
         asked && in_order && reached == self.bytes.len()
@@ -334,12 +330,36 @@ impl Record<()> {
     }
 }
 
+/// The fields of a record's header.
+pub fn header_of(bytes: &[u8]) -> Record<()> {
+    Record {
+        kind: bytes[0],
+        message: bytes[1],
+        flags: bytes[2],
+        peer: peer_of(bytes),
+        second: u64_at(bytes, 12),
+        ttl: u16_at(bytes, 20),
+        number: u64_at(bytes, 24),
+        nodes: (),
+    }
+}
+
 fn u16_at(bytes: &[u8], place: usize) -> u16 {
     u16::from_le_bytes([bytes[place], bytes[place + 1]])
 }
 
-pub fn u32_at(bytes: &[u8], place: usize) -> u32 {
-    u32::from_le_bytes(bytes[place..place + 4].try_into().expect("four bytes"))
+fn u64_at(bytes: &[u8], place: usize) -> u64 {
+    u64::from_le_bytes(bytes[place..place + 8].try_into().expect("eight bytes"))
+}
+
+/// The peer of a record's header.
+pub fn peer_of(record: &[u8]) -> Peer {
+    u64_at(record, PEER)
+}
+
+/// The whole length that a record's header tells.
+pub fn length_of(record: &[u8]) -> usize {
+    usize::from(u16_at(record, LENGTH))
 }
 
 /// The records that stand one after another in `bytes`, each cut by its whole length.
@@ -349,7 +369,7 @@ pub fn cut(bytes: &[u8]) -> Vec<&[u8]> {
     let mut rest = bytes;
     let mut records = Vec::new();
     while rest.len() >= HEADER {
-        let len = usize::from(u16_at(rest, 14));
+        let len = length_of(rest);
         if len < HEADER || len > rest.len() {
             break;
         }

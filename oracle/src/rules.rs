@@ -4,14 +4,14 @@ use std::collections::BTreeSet;
 
 use crate::{
     hyparview::access::{Parts, Refill},
-    record::MOST_DATA,
+    record::{Peer, MOST_DATA},
     station::Settings,
 };
 
 /// A claim's name and whether it holds.
 pub type Claim = (&'static str, bool);
 
-pub fn broken(me: u32, settings: &Settings, parts: &Parts) -> Vec<&'static str> {
+pub fn broken(me: Peer, settings: &Settings, parts: &Parts) -> Vec<&'static str> {
     let claims = [
         &views(me, settings, parts)[..],
         &lists(parts)[..],
@@ -30,9 +30,9 @@ pub fn failing(claims: &[Claim]) -> Vec<&'static str> {
         .collect()
 }
 
-fn views(me: u32, settings: &Settings, parts: &Parts) -> [Claim; 5] {
+fn views(me: Peer, settings: &Settings, parts: &Parts) -> [Claim; 5] {
     let [active, passive] = [0, 1].map(|index| settings[index] as usize);
-    let is_passive = |peer: &u32| parts.passive.contains(peer);
+    let is_passive = |peer: &Peer| parts.passive.contains(peer);
     [
         ("active capacity", parts.active.len() <= active),
         ("passive capacity", parts.passive.len() <= passive),
@@ -46,7 +46,7 @@ fn views(me: u32, settings: &Settings, parts: &Parts) -> [Claim; 5] {
 }
 
 fn lists(parts: &Parts) -> [Claim; 7] {
-    let once = |list: &&Vec<u32>| list.iter().collect::<BTreeSet<_>>().len() == list.len();
+    let once = |list: &&Vec<Peer>| list.iter().collect::<BTreeSet<_>>().len() == list.len();
     let lists = [
         &parts.active,
         &parts.passive,
@@ -67,8 +67,8 @@ fn lists(parts: &Parts) -> [Claim; 7] {
     ]
 }
 
-fn joins(me: u32, parts: &Parts) -> [Claim; 3] {
-    let all = |test: &dyn Fn(&u32) -> bool| parts.joins.iter().all(|(peer, _)| test(peer));
+fn joins(me: Peer, parts: &Parts) -> [Claim; 3] {
+    let all = |test: &dyn Fn(&Peer) -> bool| parts.joins.iter().all(|(peer, _)| test(peer));
     [
         (
             "joins are bootstrap peers",
@@ -82,10 +82,10 @@ fn joins(me: u32, parts: &Parts) -> [Claim; 3] {
     ]
 }
 
-fn numbers(me: u32, settings: &Settings, parts: &Parts) -> [Claim; 6] {
-    let below = |open: &[(u32, u64)], next| open.iter().all(|(_, number)| *number < next);
+fn numbers(me: Peer, settings: &Settings, parts: &Parts) -> [Claim; 6] {
+    let below = |open: &[(Peer, u64)], next| open.iter().all(|(_, number)| *number < next);
     // 02, S-5: in a view, or with an open request.
-    let is_known = |peer: &u32| {
+    let is_known = |peer: &Peer| {
         parts.active.contains(peer)
             || parts.passive.contains(peer)
             || parts.requests.iter().any(|(asked, _)| asked == peer)

@@ -8,7 +8,7 @@ use crate::{
         access::{self, Counters, Parts},
         Config, State,
     },
-    record::{View, Writer},
+    record::{Peer, View, Writer},
     text::Start,
 };
 
@@ -44,12 +44,12 @@ pub struct Answer {
 
 #[derive(Clone)]
 pub struct Station {
-    state: State<u32, Draws>,
+    state: State<Peer, Draws>,
 }
 
 impl Station {
     /// `None` where 01 answers 1: a setting is out of range.
-    pub fn new(me: u32, settings: &Settings, draws: Draws) -> Option<Self> {
+    pub fn new(me: Peer, settings: &Settings, draws: Draws) -> Option<Self> {
         let config = config(settings)?;
         let state = State::limited(me, None, config, draws);
         Some(Self { state })
@@ -75,7 +75,7 @@ impl Station {
         self.state.rng().place()
     }
 
-    pub fn state(&self) -> &State<u32, Draws> {
+    pub fn state(&self) -> &State<Peer, Draws> {
         &self.state
     }
 
@@ -98,7 +98,7 @@ impl Station {
         }
     }
 
-    fn try_handle(&self, event: &[u8], room: usize) -> Result<(State<u32, Draws>, Vec<u8>), u8> {
+    fn try_handle(&self, event: &[u8], room: usize) -> Result<(State<Peer, Draws>, Vec<u8>), u8> {
         let view = View::event(event)?;
         refusal::first_refusal(|| {
             let mut state = self.state.clone();

@@ -8,10 +8,7 @@
 //! (the trace, TRACE.md)
 //! ```
 
-use std::{
-    fs,
-    panic::{self, AssertUnwindSafe},
-};
+use std::panic::{self, AssertUnwindSafe};
 
 #[cfg(feature = "tools")]
 use crate::generate::{self, mix};
@@ -96,12 +93,11 @@ pub fn read_all(text: &str) -> Option<Vec<Stored>> {
     text.split_terminator("\n\n").map(Stored::read).collect()
 }
 
-/// Replays the stored histories of the files; `Err` where one does not hold now.
-pub fn replay(files: &[String]) -> Result<String, String> {
+/// Replays the stored histories of the texts; `Err` where one does not hold now.
+pub fn replay(texts: &[String]) -> Result<String, String> {
     let (mut held, mut text) = (0, String::new());
-    for file in files {
-        let stored = fs::read_to_string(file).map_err(|error| format!("{file}: {error}\n"))?;
-        let stored = read_all(&stored).ok_or(format!("{file}: not in the stored form\n"))?;
+    for stored in texts {
+        let stored = read_all(stored).ok_or("not in the stored form\n")?;
         for history in &stored {
             if history.holds() {
                 held += 1;

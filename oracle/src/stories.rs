@@ -6,12 +6,12 @@ use std::fmt::Write;
 use rand::Draws;
 
 use crate::{
-    record::{kind, message, Node, Record},
+    record::{kind, message, Node, Peer, Record},
     station::{Settings, Station, DEFAULTS, ROOM},
 };
 
-const ME: u32 = 1;
-const PEERS: [u32; 2] = [2, 3];
+const ME: Peer = 1;
+const PEERS: [Peer; 2] = [2, 3];
 const LONGEST: u32 = 4;
 /// 512 draws of 0 always suffice for an event.
 const DRAWS: usize = 512 * LONGEST as usize;
@@ -26,7 +26,7 @@ fn settings() -> Settings {
     settings
 }
 
-fn flagged(message: u8, flags: u8, peer: u32, nodes: Vec<Node>) -> Record {
+fn flagged(message: u8, flags: u8, peer: Peer, nodes: Vec<Node>) -> Record {
     Record {
         flags,
         ..Record::message(message, peer, nodes)

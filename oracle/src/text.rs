@@ -7,7 +7,7 @@ use rand::Draws;
 use crate::{
     hyparview::access::{Counters, Parts, Refill},
     input::Input,
-    record::{self, u32_at},
+    record::{self, Peer},
     station::{Answer, Station, ROOM},
 };
 
@@ -58,10 +58,10 @@ pub fn run(input: &[u8], start: Start, form: Form) -> String {
 fn station_lines(index: usize, answer: &Answer) -> String {
     let mut text = String::new();
     for record in record::cut(&answer.out) {
-        let ttl = u16::from_le_bytes([record[12], record[13]]);
-        let number = u64::from_le_bytes(record[16..24].try_into().expect("eight bytes"));
-        let (peer, second) = (u32_at(record, 4), u32_at(record, 8));
-        let [kind, message, count] = [record[0], record[1], record[3]];
+        let fields = record::header_of(record);
+        let (kind, message, peer, second) =
+            (fields.kind, fields.message, fields.peer, fields.second);
+        let (ttl, number, count) = (fields.ttl, fields.number, record[3]);
         writeln!(
             text,
             "{index} {kind} {message} {peer} {second} {ttl} {number} {count}"
@@ -128,7 +128,7 @@ fn list<T: ToString>(items: impl IntoIterator<Item = T>) -> String {
     format!("[{}]", items.join(","))
 }
 
-fn pairs(items: &[(u32, u64)]) -> impl Iterator<Item = String> + '_ {
+fn pairs(items: &[(Peer, u64)]) -> impl Iterator<Item = String> + '_ {
     items
         .iter()
         .map(|(peer, number)| format!("{peer}:{number}"))

@@ -8,7 +8,7 @@ use std::{
     time::{Duration, Instant},
 };
 
-use crate::proto::TimerMap;
+use crate::{proto::TimerMap, record::Record};
 
 pub const WORDS: usize = 6;
 pub type Call = [u64; WORDS];
@@ -32,19 +32,19 @@ struct Item {
     number: u64,
 }
 
-/// 01's event record of a timer, as three words; none where a record cannot say it.
-fn event(item: &Item) -> Option<[u64; 3]> {
+/// The event record of a timer, as four words; none where a record cannot say it.
+fn event(item: &Item) -> Option<[u64; 4]> {
     let bare = item.peer == 0 && item.number == 0;
-    if (item.kind <= 2 && !bare) || item.peer >= 1 << 32 {
+    if item.kind <= 2 && !bare {
         return None;
     }
-    let mut bytes = [0; 24];
-    bytes[0] = item.kind as u8;
-    bytes[4..8].copy_from_slice(&(item.peer as u32).to_le_bytes());
-    bytes[14..16].copy_from_slice(&24u16.to_le_bytes());
-    bytes[16..24].copy_from_slice(&item.number.to_le_bytes());
+    let record: Record = Record {
+        number: item.number,
+        ..Record::of(item.kind as u8, item.peer)
+    };
+    let bytes = record.write();
     let word = |at: usize| u64::from_le_bytes(bytes[at..at + 8].try_into().expect("8 bytes"));
-    Some([word(0), word(8), word(16)])
+    Some([word(0), word(8), word(16), word(24)])
 }
 
 /// The Rust's queue, its times as milliseconds after one instant, and how many it holds.
@@ -130,12 +130,12 @@ pub fn answers(calls: &[Call]) -> String {
             },
             LEN => vec![0, queue.held as u64],
             EVENT => match queue.peek(time).map(|(due, i)| (due, event(&i))) {
-                Some((due, Some([a, b, c]))) => {
+                Some((due, Some([a, b, c, d]))) => {
                     queue.pop(time);
-                    vec![0, 1, due, a, b, c]
+                    vec![0, 1, due, a, b, c, d]
                 }
-                Some((_, None)) => vec![MALFORMED, 0, 0, 0, 0, 0],
-                None => vec![0; 6],
+                Some((_, None)) => vec![MALFORMED, 0, 0, 0, 0, 0, 0],
+                None => vec![0; 7],
             },
             _ => {
                 queue = Queue::new();
@@ -184,11 +184,11 @@ impl Numbers {
             0 => [0, 5, 32, u64::MAX][self.below(4) as usize],
             n => 1 + n % 4,
         };
-        if kind <= 2 && self.below(40) != 0 {
+        if kind <= 2 && self.below(10) != 0 {
             return [kind, 0, 0];
         }
-        let peer = match self.below(12) {
-            0 => [1 << 32, (1 << 32) - 1, u64::MAX][self.below(3) as usize],
+        let peer = match self.below(6) {
+            0 => [(1 << 32) - 1, 1 << 32, (1 << 32) + 7, u64::MAX][self.below(4) as usize],
             n => n,
         };
         [kind, peer, self.below(1 << 40)]

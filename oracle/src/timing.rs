@@ -14,7 +14,7 @@ use crate::{
     generate::{self, mix::MIXES},
     hyparview::{access, InEvent, Message, State, Timer},
     input::Input,
-    record::View,
+    record::{Peer, View},
     station::Station,
     text::Start,
     topic::{Event, IO},
@@ -24,25 +24,25 @@ use crate::{
 /// Takes what the station hands out and drops it.
 pub struct Silent;
 
-impl IO<u32> for Silent {
-    fn send(&mut self, peer: u32, message: Message<u32>) {
+impl IO<Peer> for Silent {
+    fn send(&mut self, peer: Peer, message: Message<Peer>) {
         black_box((peer, message));
     }
 
-    fn emit(&mut self, event: Event<u32>) {
+    fn emit(&mut self, event: Event<Peer>) {
         black_box(event);
     }
 
-    fn schedule(&mut self, delay: n0_future::time::Duration, timer: Timer<u32>) {
+    fn schedule(&mut self, delay: n0_future::time::Duration, timer: Timer<Peer>) {
         black_box((delay, timer));
     }
 
-    fn peer_data(&mut self, peer: u32, data: PeerData) {
+    fn peer_data(&mut self, peer: Peer, data: PeerData) {
         black_box((peer, data));
     }
 }
 
-pub type RustState = State<u32, Draws>;
+pub type RustState = State<Peer, Draws>;
 
 /// An accepted event, the kind's name, and the state that it met.
 pub struct Case<'a> {
@@ -52,7 +52,7 @@ pub struct Case<'a> {
 }
 
 impl Case<'_> {
-    fn event(&self) -> InEvent<u32> {
+    fn event(&self) -> InEvent<Peer> {
         access::event(&View::event(self.event).expect("an accepted event"))
     }
 }

@@ -4,7 +4,7 @@
 use rand::Draws;
 
 use super::*;
-use crate::{record::MOST_DATA, station::RANGES};
+use crate::{record::{Peer, MOST_DATA}, station::RANGES};
 
 /// 01's code 2: the state breaks a station rule.
 pub const RULE: u8 = 2;
@@ -19,13 +19,13 @@ pub struct Done {
 /// What a caller keeps beside the state.
 pub struct Book {
     /// The state before the call: a copy whose memory serves again.
-    kept: State<u32, Draws>,
+    kept: State<Peer, Draws>,
     /// The messages sent, by byte 1.
     pub tally: [u64; 6],
 }
 
 impl Book {
-    pub fn new(state: &State<u32, Draws>) -> Self {
+    pub fn new(state: &State<Peer, Draws>) -> Self {
         Self {
             kept: state.clone(),
             tally: [0; 6],
@@ -33,7 +33,7 @@ impl Book {
     }
 
     /// One event. Refused, the state is as it was and the output has zeroes alone.
-    pub fn call(&mut self, state: &mut State<u32, Draws>, event: &[u8], out: &mut [u8]) -> Done {
+    pub fn call(&mut self, state: &mut State<Peer, Draws>, event: &[u8], out: &mut [u8]) -> Done {
         match self.try_call(state, event, out) {
             Ok((written, drawn)) => {
                 out[written..].fill(0);
@@ -48,7 +48,7 @@ impl Book {
 
     fn try_call(
         &mut self,
-        state: &mut State<u32, Draws>,
+        state: &mut State<Peer, Draws>,
         event: &[u8],
         out: &mut [u8],
     ) -> Result<(usize, usize), u8> {
@@ -69,13 +69,13 @@ impl Book {
     }
 }
 
-fn event_of(bytes: &[u8]) -> Result<InEvent<u32>, u8> {
+fn event_of(bytes: &[u8]) -> Result<InEvent<Peer>, u8> {
     View::event(bytes).map(|view| event(&view))
 }
 
 /// The station rules of 01 that the types leave open. A set has no repeats, a map has no order and
 /// no unused places, and peers and counters have their widths by type.
-pub fn keeps_rules<RG>(state: &State<u32, RG>) -> bool {
+pub fn keeps_rules<RG>(state: &State<Peer, RG>) -> bool {
     settings_fit(&state.config) && views_fit(state) && lists_fit(state) && joins_fit(state)
 }
 
@@ -96,7 +96,7 @@ fn settings_fit(config: &Config) -> bool {
     settings.into_iter().zip(RANGES).all(fits)
 }
 
-fn views_fit<RG>(state: &State<u32, RG>) -> bool {
+fn views_fit<RG>(state: &State<Peer, RG>) -> bool {
     let (active, passive) = (&state.active_view, &state.passive_view);
     active.len() <= state.config.active_view_capacity
         && passive.len() <= state.config.passive_view_capacity
@@ -109,7 +109,7 @@ fn views_fit<RG>(state: &State<u32, RG>) -> bool {
             .all(|peer| passive.contains(peer))
 }
 
-fn lists_fit<RG>(state: &State<u32, RG>) -> bool {
+fn lists_fit<RG>(state: &State<Peer, RG>) -> bool {
     let interval = state.next_shuffle_interval.as_millis();
     let own = state
         .me_data
@@ -132,14 +132,14 @@ fn lists_fit<RG>(state: &State<u32, RG>) -> bool {
 }
 
 /// 02, S-5: data is held of a peer in a view or with an open request.
-fn may_be_held<RG>(state: &State<u32, RG>, peer: &u32) -> bool {
+fn may_be_held<RG>(state: &State<Peer, RG>, peer: &Peer) -> bool {
     state.active_view.contains(peer)
         || state.passive_view.contains(peer)
         || state.pending_neighbor_requests.contains_key(peer)
 }
 
 /// Whether a list has at most N peers, each once.
-fn has_few<const N: usize>(peers: &VecDeque<u32>) -> bool {
+fn has_few<const N: usize>(peers: &VecDeque<Peer>) -> bool {
     let mut seen = [0; N];
     peers.len() <= N
         && peers.iter().enumerate().all(|(place, peer)| {
@@ -148,8 +148,8 @@ fn has_few<const N: usize>(peers: &VecDeque<u32>) -> bool {
         })
 }
 
-fn joins_fit<RG>(state: &State<u32, RG>) -> bool {
-    let join_fits = |(peer, number): (&u32, &u64)| {
+fn joins_fit<RG>(state: &State<Peer, RG>) -> bool {
+    let join_fits = |(peer, number): (&Peer, &u64)| {
         *number < state.next_join
             && *peer != state.me
             && state.bootstrap_peers.contains(peer)
@@ -162,7 +162,7 @@ fn joins_fit<RG>(state: &State<u32, RG>) -> bool {
             .all(|number| *number < state.next_neighbor_request)
 }
 
-fn enter(view: &mut IndexSet<u32>, peers: impl IntoIterator<Item = u32>) {
+fn enter(view: &mut IndexSet<Peer>, peers: impl IntoIterator<Item = Peer>) {
     for peer in peers {
         view.insert(peer);
     }
@@ -170,7 +170,7 @@ fn enter(view: &mut IndexSet<u32>, peers: impl IntoIterator<Item = u32>) {
 
 /// Changes that each break a station rule of a state with a neighbor, a passive peer and a pending
 /// join, for a test of the check.
-pub const BREAKS: [fn(&mut State<u32, Draws>); 23] = [
+pub const BREAKS: [fn(&mut State<Peer, Draws>); 23] = [
     |state| state.config.active_view_capacity = 9,
     |state| state.config.passive_view_capacity = 0,
     |state| state.config.shuffle_passive_view_count = 24,

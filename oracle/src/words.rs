@@ -7,7 +7,7 @@ use rand::Draws;
 use crate::{
     hyparview::access::{Parts, Refill},
     input::Input,
-    record::MOST_DATA,
+    record::{Peer, MOST_DATA},
     station::{Settings, Station},
     text::Start,
 };
@@ -15,7 +15,7 @@ use crate::{
 pub const WORDS: usize = 551;
 
 /// The words of a state, in the order of the layout; `None` where a list has more than its places.
-pub fn words(me: u32, settings: &Settings, parts: &Parts) -> Option<Vec<u64>> {
+pub fn words(me: Peer, settings: &Settings, parts: &Parts) -> Option<Vec<u64>> {
     let own = parts.me_data.as_deref();
     let (low, high) = halves(own.unwrap_or_default())?;
     let (kind, left) = match parts.refill {
@@ -24,11 +24,7 @@ pub fn words(me: u32, settings: &Settings, parts: &Parts) -> Option<Vec<u64>> {
         Refill::Recovery => (2, 0),
     };
     let counters = &parts.counters;
-    let mut words = vec![
-        me.into(),
-        own.is_some().into(),
-        own.map_or(0, <[u8]>::len) as u64,
-    ];
+    let mut words = vec![me, own.is_some().into(), own.map_or(0, <[u8]>::len) as u64];
     words.extend(settings.map(u64::from));
     words.extend([u64::from(parts.timers), parts.interval]);
     words.extend([counters.passes_alone, counters.passes_short].map(u64::from));
@@ -53,19 +49,19 @@ pub fn words(me: u32, settings: &Settings, parts: &Parts) -> Option<Vec<u64>> {
     Some(words)
 }
 
-fn set(peers: &[u32]) -> Vec<[u64; 1]> {
-    peers.iter().map(|peer| [u64::from(*peer)]).collect()
+fn set(peers: &[Peer]) -> Vec<[u64; 1]> {
+    peers.iter().map(|peer| [*peer]).collect()
 }
 
-fn map(numbers: &[(u32, u64)]) -> Vec<[u64; 2]> {
-    let row = |(peer, number): &(u32, u64)| [u64::from(*peer), *number];
+fn map(numbers: &[(Peer, u64)]) -> Vec<[u64; 2]> {
+    let row = |(peer, number): &(Peer, u64)| [*peer, *number];
     numbers.iter().map(row).collect()
 }
 
-fn data(entries: &[(u32, Vec<u8>)]) -> Option<Vec<[u64; 4]>> {
-    let row = |(peer, bytes): &(u32, Vec<u8>)| {
+fn data(entries: &[(Peer, Vec<u8>)]) -> Option<Vec<[u64; 4]>> {
+    let row = |(peer, bytes): &(Peer, Vec<u8>)| {
         let (low, high) = halves(bytes)?;
-        Some([u64::from(*peer), bytes.len() as u64, low, high])
+        Some([*peer, bytes.len() as u64, low, high])
     };
     entries.iter().map(row).collect()
 }

@@ -6,19 +6,19 @@ use oracle::{
     hyparview::access::{Parts, Refill},
     input::Input,
     ledger::Ledger,
-    record::{kind, message, Node, Record},
+    record::{kind, message, Node, Peer, Record},
     rules, shrink,
     station::{Station, DEFAULTS, ROOM},
 };
 use rand::Draws;
 
-const ME: u32 = 1;
+const ME: Peer = 1;
 
 fn station() -> Station {
     Station::new(ME, &DEFAULTS, Draws::new(vec![0; 64])).expect("settings in range")
 }
 
-fn join(peer: u32) -> Vec<u8> {
+fn join(peer: Peer) -> Vec<u8> {
     Record::message(message::JOIN, peer, vec![Node::default()]).write()
 }
 

@@ -4,14 +4,14 @@ use n0_future::time::Duration;
 use oracle::{
     hyparview::access::{is_backoff_due, Counters},
     input::Input,
-    record::{kind, message, Node, Record},
+    record::{kind, message, Node, Peer, Record},
     station::{Answer, Settings, Station, DEFAULTS, ROOM},
     text::{self, Form, Start},
     words::{words, WORDS},
 };
 use rand::{seq::SliceRandom, Draws, RngExt};
 
-const ME: u32 = 1;
+const ME: Peer = 1;
 
 fn station(settings: &Settings) -> Station {
     Station::new(ME, settings, Draws::new(vec![0; 4096])).expect("settings in range")
@@ -21,16 +21,16 @@ fn handle(station: &mut Station, record: Record) -> Answer {
     station.handle(&record.write(), ROOM)
 }
 
-fn join(peer: u32) -> Record {
+fn join(peer: Peer) -> Record {
     Record::message(message::JOIN, peer, vec![Node::default()])
 }
 
 /// A ForwardJoin of `id` at the end of its walk.
-fn expired_join(id: u32, data: Option<Vec<u8>>) -> Record {
+fn expired_join(id: Peer, data: Option<Vec<u8>>) -> Record {
     Record::message(message::FORWARD_JOIN, 2, vec![Node { id, data }])
 }
 
-fn alive_disconnect(peer: u32) -> Record {
+fn alive_disconnect(peer: Peer) -> Record {
     Record {
         flags: 1,
         ..Record::message(message::DISCONNECT, peer, vec![])
@@ -50,8 +50,8 @@ fn the_listing() {
         draws: vec![0],
     };
     let bytes = input.write();
-    assert_eq!(bytes[44..48], 56u32.to_le_bytes());
-    assert_eq!(bytes[52..56], 80u32.to_le_bytes());
+    assert_eq!(bytes[48..52], 60u32.to_le_bytes());
+    assert_eq!(bytes[56..60], 92u32.to_le_bytes());
     let lines =
         "0 0 0 7 0 0 0 1\n0 4 0 7 10000 0 0 0\n0 1 0 0 750 0 0 0\n0 2 0 0 5000 0 0 0\n= 0 1\n";
     assert_eq!(text::run(&bytes, Start::default(), Form::Station), lines);
@@ -123,7 +123,7 @@ fn code_1_active_capacity_0() {
 fn codes_3_and_4_by_the_event_bytes() {
     let mut station = station(&DEFAULTS);
     let before = station.parts();
-    assert_eq!(station.handle(&[0; 23], ROOM).code, 3);
+    assert_eq!(station.handle(&[0; 31], ROOM).code, 3);
     let mut shuffle = Record::message(message::SHUFFLE, 2, vec![]).write();
     shuffle[3] = 33;
     assert_eq!(station.handle(&shuffle, ROOM).code, 4);
@@ -179,7 +179,7 @@ fn data_of_those_who_declined_is_forgotten() {
 fn code_9_first_event_and_0_bytes() {
     let quit = Record::of(kind::QUIT, 0).write();
     assert_eq!(station(&DEFAULTS).handle(&quit, 0).code, 9);
-    assert_eq!(station(&DEFAULTS).handle(&quit, 48).code, 0);
+    assert_eq!(station(&DEFAULTS).handle(&quit, 64).code, 0);
 }
 
 #[test]
@@ -227,11 +227,11 @@ fn the_first_refusal_met_wins() {
     full.set_counters(top);
     assert_eq!(code(&mut full, expired_join(132, None), 0), 10);
     let request = Record::of(kind::REQUEST_JOIN, 7);
-    assert_eq!(code(&mut full, request.clone(), 31), 9);
-    assert_eq!(code(&mut full, request.clone(), 32), 10);
+    assert_eq!(code(&mut full, request.clone(), 43), 9);
+    assert_eq!(code(&mut full, request.clone(), 44), 10);
     full.set_counters(Counters::default());
-    assert_eq!(code(&mut full, request.clone(), 55), 9);
-    assert_eq!(code(&mut full, request, 56), 0);
+    assert_eq!(code(&mut full, request.clone(), 75), 9);
+    assert_eq!(code(&mut full, request, 76), 0);
 }
 
 /// The layout's places for the station of 01's listing, after RequestJoin 7.
@@ -240,7 +240,7 @@ fn words_of_the_listing() {
     let mut station = station(&DEFAULTS);
     accepted(&mut station, Record::of(kind::REQUEST_JOIN, 7));
     let mut expected = [0; WORDS];
-    expected[0] = ME.into();
+    expected[0] = ME;
     expected[3..12].copy_from_slice(&DEFAULTS.map(u64::from));
     // Timers scheduled, the next interval, the next join.
     (expected[12], expected[13], expected[19]) = (1, 2000, 1);

@@ -38,25 +38,25 @@ fn inputs_that_are_not_exactly_filled_print_3() {
     let good = input().write();
     assert_ne!(run(&good), "= 3 0\n");
     for bad in [
-        with(10, 1),
-        with(10, 3),
-        with(11, 80),
-        with(12, 1),
-        with(13, 80),
+        with(11, 1),
+        with(11, 3),
+        with(12, 92),
+        with(13, 1),
+        with(14, 92),
     ] {
         assert_eq!(run(&bad), "= 3 0\n");
     }
-    assert_eq!(run(&good[..55]), "= 3 0\n");
+    assert_eq!(run(&good[..59]), "= 3 0\n");
     assert_eq!(run(&[&good[..], &[0]].concat()), "= 3 0\n");
     let mut short_event = good.clone();
-    short_event[56 + 14] = 23;
+    short_event[60 + 22] = 31;
     assert_eq!(run(&short_event), "= 3 0\n");
 }
 
 #[test]
 fn the_largest_input_is_taken_and_one_more_byte_is_not() {
     let mut largest = input();
-    largest.draws = vec![0; (65_536 - 56 - 48) / 4];
+    largest.draws = vec![0; (65_536 - 60 - 64) / 4];
     let bytes = largest.write();
     assert_eq!(bytes.len(), 65_536);
     assert_ne!(run(&bytes), "= 3 0\n");
@@ -65,11 +65,20 @@ fn the_largest_input_is_taken_and_one_more_byte_is_not() {
 
 #[test]
 fn settings_are_looked_at_after_the_layout() {
-    assert_eq!(run(&with(1, 0)), "= 1 0\n");
-    assert_eq!(run(&with(3, 65_536)), "= 1 0\n");
-    let mut both = with(1, 0);
+    assert_eq!(run(&with(2, 0)), "= 1 0\n");
+    assert_eq!(run(&with(4, 65_536)), "= 1 0\n");
+    let mut both = with(2, 0);
     both.push(0);
     assert_eq!(run(&both), "= 3 0\n");
+}
+
+/// 02, S-8: self is the low half and then the high one.
+#[test]
+fn self_has_64_bits() {
+    let mut far = input();
+    far.me = (7 << 32) + 1;
+    assert_eq!(far.write()[..8], [1, 0, 0, 0, 7, 0, 0, 0]);
+    assert_eq!(Input::read(&far.write()), Some(far));
 }
 
 #[test]
@@ -117,12 +126,12 @@ fn damaged_headers_are_malformed() {
     let disconnect = Record::message(message::DISCONNECT, 2, vec![]);
     tells(
         Record::of(kind::DO_SHUFFLE, 0),
-        &[(1, 1), (4, 1), (8, 1), (16, 1)],
+        &[(1, 1), (4, 1), (11, 1), (12, 1), (19, 1), (24, 1)],
     );
-    tells(timer, &[(2, 1), (8, 1), (12, 1)]);
+    tells(timer, &[(2, 1), (12, 1), (19, 1), (20, 1)]);
     tells(
         Record::of(kind::PEER_DISCONNECTED, 2),
-        &[(3, 1), (14, 1), (16, 1)],
+        &[(3, 1), (22, 1), (24, 1)],
     );
     tells(disconnect, &[(1, 2), (2, 4)]);
 }
@@ -138,9 +147,12 @@ fn damaged_nodes_are_malformed() {
     let join = Record::message(message::JOIN, 2, node(0));
     let neighbor = Record::message(message::NEIGHBOR, 2, node(0));
     let forward_join = Record::message(message::FORWARD_JOIN, 2, node(3));
-    tells(join, &[(8, 1), (24, 1), (28, 1), (30, 1), (31, 2)]);
-    tells(neighbor, &[(2, 2), (3, 3), (12, 1)]);
-    tells(forward_join, &[(3, 1), (31, 1)]);
+    tells(
+        join,
+        &[(12, 1), (32, 1), (39, 1), (40, 1), (42, 1), (43, 2)],
+    );
+    tells(neighbor, &[(2, 2), (3, 3), (20, 1)]);
+    tells(forward_join, &[(3, 1), (43, 1)]);
 }
 
 #[test]

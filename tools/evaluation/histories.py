@@ -1,11 +1,11 @@
 """Histories: the run program's input, and the answers of the Rust to it in the trace form."""
 import dataclasses
-import struct
 import subprocess
+
+import records
 
 ROOM = 8192
 COUNTERS = (0, 0, 0, 0)
-HEAD = struct.Struct("<14I")
 
 
 @dataclasses.dataclass(frozen=True)
@@ -20,9 +20,7 @@ class History:
     counters: tuple = COUNTERS
 
     def input(self):
-        places = HEAD.size, HEAD.size + sum(map(len, self.events))
-        head = HEAD.pack(self.me, *self.settings, len(self.events), places[0], len(self.draws), places[1])
-        return head + b"".join(self.events) + struct.pack(f"<{len(self.draws)}I", *self.draws)
+        return records.whole(self.me, self.settings, self.events, self.draws)
 
 
 @dataclasses.dataclass(frozen=True)
@@ -36,22 +34,10 @@ class Answer:
 
 def read_input(name, data, room=ROOM, counters=COUNTERS):
     """The history of an input, None where the run program answers it by `= 3 0` alone."""
-    if not HEAD.size <= len(data) <= 65536:
+    found = records.parts(data)
+    if found is None:
         return None
-    me, *numbers = HEAD.unpack_from(data)
-    settings, (count, place, drawn, draws_place) = numbers[:9], numbers[9:]
-    if place != HEAD.size:
-        return None
-    events = []
-    for _ in range(count):
-        length = int.from_bytes(data[place + 14 : place + 16], "little")
-        if length < 24 or place + length > len(data):
-            return None
-        events.append(data[place : place + length])
-        place += length
-    if place != draws_place or place + 4 * drawn != len(data):
-        return None
-    draws = struct.unpack_from(f"<{drawn}I", data, place)
+    me, settings, events, draws = found
     return History(name, me, tuple(settings), tuple(events), draws, room, counters)
 
 

@@ -17,6 +17,7 @@ use oracle::{
     generate::{self, mix::MIXES},
     hyparview::access::whole::Book,
     input::Input,
+    record::HEADER,
     station::ROOM,
     text::Start,
     timing::{cases, fastest, in_a_row, on_copies, Case},
@@ -158,12 +159,12 @@ fn each(rounds: usize, calls: &[&Call], work: impl Fn(&Call)) -> u128 {
 /// Parts of a call, on some states that stay in the cache: each is measured alone, by a call that does little else.
 fn parts(rounds: usize, calls: &[Call]) {
     let some: Vec<&Call> = calls.iter().step_by(calls.len().div_ceil(STATES)).collect();
-    let malformed = [0; 24];
+    let malformed = [0; HEADER - 1];
     let refused = |room: usize| {
         each(rounds, &some, |call| {
             let mut copy = call.before.clone();
             let mut out = [0; ROOM];
-            black_box(copy.handle(&malformed[..23], &[], &mut out[..room]));
+            black_box(copy.handle(&malformed, &[], &mut out[..room]));
         })
     };
     let read = each(rounds, &some, |call| {

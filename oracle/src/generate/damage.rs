@@ -3,7 +3,7 @@
 use super::source::Source;
 use crate::{record, station::RANGES};
 
-/// A damaged copy of an event; its bytes 14 and 15 still hold its length, so a run can be cut.
+/// A damaged copy of an event; its header still holds its length, so a run can be cut.
 pub fn damaged_event(source: &mut Source, event: &[u8]) -> Vec<u8> {
     let mut bytes = event.to_vec();
     match source.below(7) {
@@ -12,7 +12,7 @@ pub fn damaged_event(source: &mut Source, event: &[u8]) -> Vec<u8> {
         2 => bytes.extend(source.bytes(1 + excess(event))),
         3 => bytes.truncate(record::HEADER.max(bytes.len() - 1 - source.below(8))),
         4 => {
-            let place = source.one_of(&[0, 1, 2, 3, 4, 8, 12, 16, 23]);
+            let place = source.one_of(&[0, 1, 2, 3, 4, 8, 12, 16, 19, 20, 24, 31]);
             bytes[place] ^= 1 << source.below(8);
         }
         _ => {
@@ -21,7 +21,7 @@ pub fn damaged_event(source: &mut Source, event: &[u8]) -> Vec<u8> {
         }
     }
     let length = (bytes.len() as u16).to_le_bytes();
-    bytes[14..16].copy_from_slice(&length);
+    bytes[record::LENGTH..record::LENGTH + 2].copy_from_slice(&length);
     bytes
 }
 
@@ -34,6 +34,9 @@ fn excess(event: &[u8]) -> usize {
     }
 }
 
+/// The number of the run program's input that is the first setting, after self's two halves.
+const FIRST_SETTING: usize = 2;
+
 /// A damaged copy of a run program's input, most of which it answers by `= 3 0` or `= 1 0`.
 pub fn damaged_input(source: &mut Source, input: &[u8]) -> Vec<u8> {
     let mut bytes = input.to_vec();
@@ -43,15 +46,15 @@ pub fn damaged_input(source: &mut Source, input: &[u8]) -> Vec<u8> {
     match source.below(6) {
         0 => bytes.truncate(source.below(input.len())),
         1 => bytes.extend(source.bytes(4)),
-        2 => set(source.within(10, 13), source.below(100) as u32),
-        3 => set(source.within(10, 13), u32::MAX - source.below(4) as u32),
+        2 => set(source.within(11, 14), source.below(100) as u32),
+        3 => set(source.within(11, 14), u32::MAX - source.below(4) as u32),
         4 => {
             let setting = source.below(RANGES.len());
-            set(1 + setting, RANGES[setting].1 + 1);
+            set(FIRST_SETTING + setting, RANGES[setting].1 + 1);
         }
         _ => {
             let setting = source.one_of(&[0, 1, 7, 8]);
-            set(1 + setting, 0);
+            set(FIRST_SETTING + setting, 0);
         }
     }
     bytes

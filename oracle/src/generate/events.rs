@@ -1,10 +1,11 @@
 //! Single events: which peers, data and numbers they name.
 
 use super::{
-    mix::{Act, DataRule, SettingsRule, Twist},
+    mix::{Act, DataRule, Numbers, SettingsRule, Twist},
+    setup::FIRST_WIDE,
     Generator,
 };
-use crate::record::{kind, message, Node, Record, MOST_DATA};
+use crate::record::{kind, message, Node, Peer, Record, MOST_DATA};
 
 /// Which peers of the station an event may name.
 #[derive(Clone, Copy)]
@@ -57,14 +58,14 @@ impl Generator<'_> {
         }
     }
 
-    /// A peer of one of the pools; any peer where the pool is empty.
-    fn peer(&mut self, pools: &[Pool]) -> u32 {
+    /// A peer of one of the pools; any peer where the pool is empty, of wide ones often one of the first.
+    fn peer(&mut self, pools: &[Pool]) -> Peer {
         if self.source.chance(2) {
             return self.me;
         }
         let pool = self.source.one_of(pools);
         let parts = &self.parts;
-        let keys = |pairs: &[(u32, u64)]| pairs.iter().map(|(peer, _)| *peer).collect::<Vec<_>>();
+        let keys = |pairs: &[(Peer, u64)]| pairs.iter().map(|(peer, _)| *peer).collect::<Vec<_>>();
         let pool = match pool {
             Pool::Any => Vec::new(),
             Pool::Me => vec![self.me],
@@ -76,8 +77,14 @@ impl Generator<'_> {
             Pool::Alive => parts.alive.clone(),
             Pool::Recent => parts.recent.clone(),
         };
-        let pool = if pool.is_empty() { &self.peers } else { &pool };
-        self.source.one_of(pool)
+        if !pool.is_empty() {
+            return self.source.one_of(&pool);
+        }
+        let often = match self.mix.numbers {
+            Numbers::Wide if self.source.chance(30) => FIRST_WIDE.min(self.peers.len()),
+            _ => self.peers.len(),
+        };
+        self.source.one_of(&self.peers[..often])
     }
 
     /// The next peer that no event has brought, with data.

@@ -53,6 +53,15 @@ pub enum DataRule {
     Absent,
 }
 
+/// How peers are numbered (02, S-8).
+#[derive(Clone, Copy, PartialEq, Eq)]
+pub enum Numbers {
+    /// From 0 on; in some histories the last are about 2^32 and 2^64 - 1.
+    Small,
+    /// In fours that have the same lower half and different upper halves, 0 and 2^64 - 1 among them.
+    Wide,
+}
+
 /// What is special about a mix's histories.
 #[derive(Clone, Copy, PartialEq, Eq)]
 pub enum Twist {
@@ -77,6 +86,7 @@ pub struct Mix {
     pub settings: SettingsRule,
     /// The smallest and the largest number of peers.
     pub peers: (usize, usize),
+    pub numbers: Numbers,
     pub data: DataRule,
     pub twist: Twist,
 }
@@ -213,6 +223,9 @@ const CROWDED: &[(Act, usize)] = &[
     (Quit, 1),
 ];
 
+/// A full passive view that is picked from and shuffled.
+const FULL: &[(Act, usize)] = &[(ShuffleReply, 6), (Shuffle, 4), (Join, 2), (DoShuffle, 1)];
+
 const DAMAGED: &[(Act, usize)] = &[(Damaged, 8), (Join, 1), (Shuffle, 1), (RequestJoin, 1)];
 
 const fn mix(
@@ -226,6 +239,7 @@ const fn mix(
         acts,
         settings,
         peers,
+        numbers: Numbers::Small,
         data: DataRule::Mixed,
         twist: Twist::None,
     }
@@ -233,6 +247,13 @@ const fn mix(
 
 const fn twisted(twist: Twist, mix: Mix) -> Mix {
     Mix { twist, ..mix }
+}
+
+const fn wide(mix: Mix) -> Mix {
+    Mix {
+        numbers: Numbers::Wide,
+        ..mix
+    }
 }
 
 const fn with_data(data: DataRule, mix: Mix) -> Mix {
@@ -267,6 +288,15 @@ pub const MIXES: &[Mix] = &[
         Twist::HighDraws,
         mix("passing_crowd", CROWDED, SettingsRule::Any, (8, 200)),
     ),
+    twisted(
+        Twist::HighDraws,
+        with_data(
+            DataRule::Absent,
+            mix("passing_full", FULL, SettingsRule::Any, (60, 80)),
+        ),
+    ),
+    wide(mix("wide", EVEN, SettingsRule::Any, (4, 60))),
+    wide(mix("wide_crowd", CROWDED, SettingsRule::Any, (8, 200))),
     mix("asking", ASKING, SettingsRule::Any, (40, 200)),
     with_data(
         DataRule::Absent,

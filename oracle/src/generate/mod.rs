@@ -15,7 +15,7 @@ use self::{
 use crate::{
     hyparview::access::Parts,
     input::Input,
-    record::{self, kind, message, Record},
+    record::{self, kind, message, Peer, Record},
     station::{Settings, Station},
     text::{self, Form, Start},
 };
@@ -47,8 +47,8 @@ pub fn history(mix: &Mix, seed: u64, length: usize) -> History {
 struct Generator<'a> {
     mix: &'a Mix,
     source: Source,
-    me: u32,
-    peers: Vec<u32>,
+    me: Peer,
+    peers: Vec<Peer>,
     settings: Settings,
     start: Start,
     draws: Vec<u32>,
@@ -57,7 +57,7 @@ struct Generator<'a> {
     events: Vec<Vec<u8>>,
     event_bytes: usize,
     /// Timers that earlier answers scheduled for a peer: kind, peer, number.
-    timers: Vec<(u8, u32, u64)>,
+    timers: Vec<(u8, Peer, u64)>,
     /// The place of the next peer that a filled history brings.
     fresh: usize,
 }
@@ -65,7 +65,7 @@ struct Generator<'a> {
 impl<'a> Generator<'a> {
     fn new(mix: &'a Mix, seed: u64) -> Self {
         let mut source = Source::new(seed);
-        let peers = setup::peers(&mut source, mix.peers);
+        let peers = setup::peers(&mut source, mix.numbers, mix.peers);
         let me = source.one_of(&peers);
         let settings = setup::settings(&mut source, mix.settings);
         let start = setup::start(&mut source, mix.twist);
@@ -99,10 +99,12 @@ impl<'a> Generator<'a> {
     fn handle(&mut self, event: Vec<u8>) {
         let answer = self.station.handle(&event, self.start.room);
         for output in record::cut(&answer.out) {
-            if matches!(output[0], kind::PENDING_NEIGHBOR_REQUEST | kind::RETRY_JOIN) {
-                let number = u64::from_le_bytes(output[16..24].try_into().expect("eight bytes"));
-                self.timers
-                    .push((output[0], record::u32_at(output, 4), number));
+            let fields = record::header_of(output);
+            if matches!(
+                fields.kind,
+                kind::PENDING_NEIGHBOR_REQUEST | kind::RETRY_JOIN
+            ) {
+                self.timers.push((fields.kind, fields.peer, fields.number));
             }
         }
         self.parts = self.station.parts();

@@ -1,11 +1,12 @@
 //! What a history starts with: peers, settings, room, counters and draws.
 
 use super::{
-    mix::{SettingsRule, Twist},
+    mix::{Numbers, SettingsRule, Twist},
     source::Source,
 };
 use crate::{
     hyparview::access::Counters,
+    record::Peer,
     station::{Settings, DEFAULTS, RANGES},
     text::Start,
 };
@@ -13,15 +14,41 @@ use crate::{
 /// More draws than a history needs, and few enough to fit in an input.
 const DRAWS: usize = 6000;
 
-/// Numbers from 0 on; in some histories two large ones stand in place of the last.
-pub fn peers(source: &mut Source, (least, most): (usize, usize)) -> Vec<u32> {
+/// Numbers about 2^32 and the largest one, rising; the last but one has the low half of peer 1.
+const LARGE_PEERS: [Peer; 4] = [(1 << 32) - 1, 1 << 32, (1 << 32) + 1, Peer::MAX];
+
+/// The upper halves of wide numbers, which each lower half has in turn.
+const UPPER_HALVES: [Peer; 4] = [0, 1, 1 << 31, (1 << 32) - 1];
+
+/// The first wide numbers are those with the lower halves 2^32 - 1 and 0, the least and the largest number among them.
+pub const FIRST_WIDE: usize = 2 * UPPER_HALVES.len();
+
+/// The peers of a history, each once.
+pub fn peers(source: &mut Source, rule: Numbers, (least, most): (usize, usize)) -> Vec<Peer> {
     let count = source.within(least, most);
-    let mut peers: Vec<_> = (0..count as u32).collect();
+    match rule {
+        Numbers::Small => small_peers(source, count),
+        Numbers::Wide => (0..count).map(wide_peer).collect(),
+    }
+}
+
+/// Numbers from 0 on; in some histories two or four large ones stand in place of the last.
+fn small_peers(source: &mut Source, count: usize) -> Vec<Peer> {
+    let mut peers: Vec<_> = (0..count as Peer).collect();
     if source.chance(20) {
-        peers[count - 1] = u32::MAX;
-        peers[count - 2] = 1 << 31;
+        let large = &LARGE_PEERS[if count < 8 { 2 } else { 0 }..];
+        peers[count - large.len()..].copy_from_slice(large);
     }
     peers
+}
+
+/// Four numbers in a row have the same lower half: 2^32 - 1, then 0, 1 and so on.
+fn wide_peer(place: usize) -> Peer {
+    let lower = match (place / UPPER_HALVES.len()) as Peer {
+        0 => (1 << 32) - 1,
+        later => later - 1,
+    };
+    UPPER_HALVES[place % UPPER_HALVES.len()] << 32 | lower
 }
 
 /// Ranges of the settings for views of a few peers.
