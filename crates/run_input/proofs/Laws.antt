@@ -13,7 +13,7 @@ use Rattle.lists.specs.Bytes.{read-le}
 use Rattle.record.specs.Format.{header-length}
 use Rattle.record.specs.Walk.{whole-length}
 use Rattle.lists.proofs.Choice.{by-choice, split, clash, choose-yes, choose-no, and-left, and-right}
-use Rattle.run_input.specs.Input.{head-length, most-bytes, event-offset, draw-count, draw-offset, number, numbers, event-length, are-events, cut-events, places-ok, events-part, events-ok, head-of, input-of}
+use Rattle.run_input.specs.Input.{head-length, most-bytes, event-offset, draw-count, draw-offset, number, numbers, event-length, are-events, cut-events, places-ok, events-part, events-ok, input-head, input-of}
 pub use Rattle.run_input.specs.Input.{Laid}
 use Rattle.run_input.specs.declared.Head.{Head}
 use Rattle.run_input.specs.declared.Input.{Input}
@@ -96,8 +96,8 @@ places-true b e =
       most = leb-true _ _ (and-left t₂ (t₃ && (t₄ && t₅)) e₂);
     }
 
-laid-of : (b : List ℕ) → places-ok b ≡ true → events-ok b ≡ true → Laid b (head-of b)
-unfolding head-of events-ok events-part
+laid-of : (b : List ℕ) → places-ok b ≡ true → events-ok b ≡ true → Laid b (input-head b)
+unfolding input-head events-ok events-part
 laid-of b p e = let at : Places b = places-true b p in record { low = at .low; full = at .full; most = at .most; events = e }
 
 whole-is : (x y : Head) → _≡_ {A = Input} (Whole x) (Whole y) → x ≡ y
@@ -110,6 +110,6 @@ laid b h e =
     let q : Bool = events-ok b in
     split (p && q)
     (λ t.
-    let s : head-of b ≡ h = whole-is _ _ (sym (choose-yes (p && q) (Whole (head-of b)) Refused t) ∙ e) in
+    let s : input-head b ≡ h = whole-is _ _ (sym (choose-yes (p && q) (Whole (input-head b)) Refused t) ∙ e) in
     subst (Laid b) s (laid-of b (and-left p q t) (and-right p q t)))
-    (λ f. let s : Refused ≡ Whole h = sym (choose-no (p && q) (Whole (head-of b)) Refused f) ∙ e in let z : _≡_ {A = ℕ} 0 1 = cc in absurd (omega arith))
+    (λ f. let s : Refused ≡ Whole h = sym (choose-no (p && q) (Whole (input-head b)) Refused f) ∙ e in let z : _≡_ {A = ℕ} 0 1 = cc in absurd (omega arith))

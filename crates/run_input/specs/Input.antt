@@ -31,8 +31,8 @@ self-low = 0
 abbrev pub self-high : ℕ
 self-high = 1
 
-abbrev pub settings : ℕ
-settings = 2
+abbrev pub first-setting : ℕ
+first-setting = 2
 
 abbrev pub event-count : ℕ
 event-count = 11
@@ -62,15 +62,15 @@ from-halves low high = low + 2 ^ 32 * high
 -- the nine settings, in `Config`'s order
 unfoldable pub config-of : List ℕ → Config
 config-of b = record {
-  «active_view_capacity» = number b settings;
-  «passive_view_capacity» = number b (settings + 1);
-  «active_random_walk_length» = number b (settings + 2);
-  «passive_random_walk_length» = number b (settings + 3);
-  «shuffle_random_walk_length» = number b (settings + 4);
-  «shuffle_active_view_count» = number b (settings + 5);
-  «shuffle_passive_view_count» = number b (settings + 6);
-  «shuffle_interval» = number b (settings + 7);
-  «neighbor_request_timeout» = number b (settings + 8);
+  «active_view_capacity» = number b first-setting;
+  «passive_view_capacity» = number b (first-setting + 1);
+  «active_random_walk_length» = number b (first-setting + 2);
+  «passive_random_walk_length» = number b (first-setting + 3);
+  «shuffle_random_walk_length» = number b (first-setting + 4);
+  «shuffle_active_view_count» = number b (first-setting + 5);
+  «shuffle_passive_view_count» = number b (first-setting + 6);
+  «shuffle_interval» = number b (first-setting + 7);
+  «neighbor_request_timeout» = number b (first-setting + 8);
 }
 
 -- "Events are cut by bytes 14–15", since S-8 by 22–23: how long the event at the front is; 0 where that is less than a header or more than there is
@@ -103,8 +103,8 @@ events-part b = slice head-length (number b draw-offset) b
 unfoldable pub events-ok : List ℕ → Bool
 events-ok b = are-events (number b event-count) (events-part b)
 
-unfoldable pub head-of : List ℕ → Head
-head-of b = record {
+unfoldable pub input-head : List ℕ → Head
+input-head b = record {
   me = from-halves (number b self-low) (number b self-high);
   config = config-of b;
   events = number b event-count;
@@ -114,7 +114,7 @@ head-of b = record {
 
 -- what an input is: refused as a whole (`= 3 0`), or its head
 unfoldable pub input-of : List ℕ → Input
-input-of b = choose (places-ok b && events-ok b) (Whole (head-of b)) Refused
+input-of b = choose (places-ok b && events-ok b) (Whole (input-head b)) Refused
 
 -- what the head of an input that is not refused says of its places
 pub record Laid (b : List ℕ) (h : Head) : Type 0 where

@@ -5,7 +5,7 @@ ghost use mathlib.Core.Path.{_≡_};
 ghost use mathlib.Core.Bool.{true};
 ghost use Prim.Native.Nat.{_-_, _≤_};
 ghost use lib.ListN.{length, drop};
-ghost use Rattle.run_input.specs.Input.{number, numbers, from-halves, config-of, event-length, are-events, places-ok, events-ok, head-of, input-of};
+ghost use Rattle.run_input.specs.Input.{number, numbers, from-halves, config-of, event-length, are-events, places-ok, events-ok, input-head, input-of};
 
 // The most bytes of an input.
 const MOST_BYTES: usize = 65536;
@@ -21,14 +21,14 @@ pub struct Head {
 
 impl Head {
     // The bytes of a head, right after which the events stand.
-    pub const LENGTH: usize = 60;
+    pub const BYTES: usize = 60;
 
     // The places of its numbers, each of four bytes; the settings are nine.
     const SELF_LOW: usize = 0;
 
     const SELF_HIGH: usize = 1;
 
-    const SETTINGS: usize = 2;
+    const FIRST_SETTING: usize = 2;
 
     const EVENT_COUNT: usize = 11;
 
@@ -78,15 +78,15 @@ fn config_of(b: &[u8]) -> Config
     ensures { λ r. ⌜ r ≡ config-of (now (b .entry)) ⌝ }
 {
     Config {
-        active_view_capacity: number(b, Head::SETTINGS),
-        passive_view_capacity: number(b, Head::SETTINGS + 1),
-        active_random_walk_length: number(b, Head::SETTINGS + 2),
-        passive_random_walk_length: number(b, Head::SETTINGS + 3),
-        shuffle_random_walk_length: number(b, Head::SETTINGS + 4),
-        shuffle_active_view_count: number(b, Head::SETTINGS + 5),
-        shuffle_passive_view_count: number(b, Head::SETTINGS + 6),
-        shuffle_interval: number(b, Head::SETTINGS + 7),
-        neighbor_request_timeout: number(b, Head::SETTINGS + 8),
+        active_view_capacity: number(b, Head::FIRST_SETTING),
+        passive_view_capacity: number(b, Head::FIRST_SETTING + 1),
+        active_random_walk_length: number(b, Head::FIRST_SETTING + 2),
+        passive_random_walk_length: number(b, Head::FIRST_SETTING + 3),
+        shuffle_random_walk_length: number(b, Head::FIRST_SETTING + 4),
+        shuffle_active_view_count: number(b, Head::FIRST_SETTING + 5),
+        shuffle_passive_view_count: number(b, Head::FIRST_SETTING + 6),
+        shuffle_interval: number(b, Head::FIRST_SETTING + 7),
+        neighbor_request_timeout: number(b, Head::FIRST_SETTING + 8),
     }
 }
 
@@ -137,9 +137,9 @@ fn places_ok(b: &[u8]) -> bool
     let start = number(b, Head::EVENT_OFFSET) as usize;
     let at = number(b, Head::DRAW_OFFSET) as usize;
     let draws = number(b, Head::DRAW_COUNT) as usize;
-    (Head::LENGTH <= n)
+    (Head::BYTES <= n)
         & ((n <= MOST_BYTES)
-            & ((start == Head::LENGTH) & ((Head::LENGTH <= at) & (at + 4 * draws == n))))
+            & ((start == Head::BYTES) & ((Head::BYTES <= at) & (at + 4 * draws == n))))
 }
 
 // Whether the events exactly fill the place between the head and the draws.
@@ -149,7 +149,7 @@ fn events_ok(b: &[u8]) -> bool
 {
     let end = number(b, Head::DRAW_OFFSET) as usize;
     let n = number(b, Head::EVENT_COUNT) as usize;
-    are_events(&b[Head::LENGTH..end], n)
+    are_events(&b[Head::BYTES..end], n)
 }
 
 // The whole input: its head, or that it is refused.

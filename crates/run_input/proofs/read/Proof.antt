@@ -6,7 +6,7 @@ use borrow.Author.Needs.{needs}
 use Rattle.lists.proofs.Choice.{choose-yes, choose-no}
 use Rattle.lists.proofs.Tests.{both-true, and-no}
 use Rattle.timing.specs.declared.Config.{Config}
-use Rattle.run_input.specs.Input.{self-low, self-high, event-count, draw-count, draw-offset, number, from-halves, config-of, places-ok, events-ok, head-of, input-of}
+use Rattle.run_input.specs.Input.{self-low, self-high, event-count, draw-count, draw-offset, number, from-halves, config-of, places-ok, events-ok, input-head, input-of}
 use Rattle.run_input.specs.declared.Head.{Head}
 use Rattle.run_input.specs.declared.Input.the-variants.{Refused, Whole}
 use Rattle.run_input.proofs.read.Statement.{statement}
@@ -16,22 +16,22 @@ module _ (b : List ℕ) (p : Bool) (pe : p ≡ places-ok b) where
   kept : p ≡ true → places-ok b ≡ true
   kept t = sym pe ∙ t
 
-  whole : (q : Bool) (h : Head) → q ≡ events-ok b → p ≡ true → q ≡ true → h ≡ head-of b → Whole h ≡ input-of b
+  whole : (q : Bool) (h : Head) → q ≡ events-ok b → p ≡ true → q ≡ true → h ≡ input-head b → Whole h ≡ input-of b
   unfolding input-of
-  whole q h qe t u e = sym (choose-yes (places-ok b && events-ok b) (Whole (head-of b)) Refused (both-true _ _ (sym pe ∙ t) (sym qe ∙ u)) ∙ ap Whole (sym e))
+  whole q h qe t u e = sym (choose-yes (places-ok b && events-ok b) (Whole (input-head b)) Refused (both-true _ _ (sym pe ∙ t) (sym qe ∙ u)) ∙ ap Whole (sym e))
 
   no-events : (q : Bool) → q ≡ events-ok b → q ≡ false → Refused ≡ input-of b
   unfolding input-of
-  no-events q qe f = sym (choose-no (places-ok b && events-ok b) (Whole (head-of b)) Refused (rw (← qe, f) (and-no (places-ok b))))
+  no-events q qe f = sym (choose-no (places-ok b && events-ok b) (Whole (input-head b)) Refused (rw (← qe, f) (and-no (places-ok b))))
 
   no-places : p ≡ false → Refused ≡ input-of b
   unfolding input-of
-  no-places f = sym (choose-no (places-ok b && events-ok b) (Whole (head-of b)) Refused (rw (← pe, f)))
+  no-places f = sym (choose-no (places-ok b && events-ok b) (Whole (input-head b)) Refused (rw (← pe, f)))
 
 headed : (b : List ℕ) (low high me n at d : ℕ) (config : Config) → low ≡ number b self-low → high ≡ number b self-high → me ≡ from-halves low high
     → config ≡ config-of b → n ≡ number b event-count → at ≡ number b draw-offset → d ≡ number b draw-count
-    → record { me = me; config = config; events = n; «draws_at» = at; draws = d } ≡ head-of b
-unfolding head-of
+    → record { me = me; config = config; events = n; «draws_at» = at; draws = d } ≡ input-head b
+unfolding input-head
 headed b low high me n at d config l h e₀ e₁ e₂ e₃ e₄ =
     let m : me ≡ from-halves (number b self-low) (number b self-high) = e₀ ∙ (λ i. from-halves (l i) (h i)) in
     λ i. record { me = m i; config = e₁ i; events = e₂ i; «draws_at» = e₃ i; draws = e₄ i }
