@@ -10,10 +10,12 @@ use lib.ListN.{length, getD, take, drop}
 use lib.Dec.{leb, eqb}
 use borrow.Author.Tests.{leb-true, le-leb, lt-leb, eqb-true, eq-eqb, ne-eqb}
 use Rattle.lists.specs.Bytes.{read-le}
+use Rattle.record.specs.Format.{header-length}
+use Rattle.record.specs.Walk.{whole-length}
 use Rattle.lists.proofs.Choice.{by-choice, split, clash, choose-yes, choose-no, and-left, and-right}
-use Rattle.run_input.specs.Input.{number, numbers, event-length, are-events, cut-events, places-ok, events-part, events-ok, layout-of, input-of}
+use Rattle.run_input.specs.Input.{head-length, most-bytes, event-offset, draw-count, draw-offset, number, numbers, event-length, are-events, cut-events, places-ok, events-part, events-ok, input-head, input-of}
 pub use Rattle.run_input.specs.Input.{Laid}
-use Rattle.run_input.specs.declared.Layout.{Layout}
+use Rattle.run_input.specs.declared.Head.{Head}
 use Rattle.run_input.specs.declared.Input.{Input}
 use Rattle.run_input.specs.declared.Input.the-variants.{Refused, Whole}
 
@@ -39,17 +41,17 @@ length-numbers zero i b = refl
 length-numbers (suc n) i b = ap suc (length-numbers n (suc i) b)
 
 module _ (l : List ℕ) where
-  -- an event that is under 24 bytes or runs over the end is none
-  pub event-none : (24 ≤ read-le 2 l 14 → read-le 2 l 14 ≤ length l → ⊥) → event-length l ≡ 0
+  -- an event that is shorter than a header or runs over the end is none
+  pub event-none : (header-length ≤ whole-length l → whole-length l ≤ length l → ⊥) → event-length l ≡ 0
   unfolding event-length
   event-none h =
-      let low : Bool = leb 24 (read-le 2 l 14) in
-      let most : Bool = leb (read-le 2 l 14) (length l) in
+      let low : Bool = leb header-length (whole-length l) in
+      let most : Bool = leb (whole-length l) (length l) in
       by-choice (λ (x : ℕ). x ≡ 0) (low && most) (λ e. absurd (h (leb-true _ _ (and-left low most e)) (leb-true _ _ (and-right low most e)))) (λ e. refl)
 
-  pub event-cut : 24 ≤ read-le 2 l 14 → read-le 2 l 14 ≤ length l → event-length l ≡ read-le 2 l 14
+  pub event-cut : header-length ≤ whole-length l → whole-length l ≤ length l → event-length l ≡ whole-length l
   unfolding event-length
-  event-cut p q = choose-yes (leb 24 (read-le 2 l 14) && leb (read-le 2 l 14) (length l)) _ _ (rw (le-leb _ _ p, le-leb _ _ q))
+  event-cut p q = choose-yes (leb header-length (whole-length l) && leb (whole-length l) (length l)) _ _ (rw (le-leb _ _ p, le-leb _ _ q))
 
 -- where there is no event at the front
 pub none-first : (k : ℕ) (l : List ℕ) → 0 < k → event-length l ≡ 0 → are-events k l ≡ false
@@ -74,18 +76,18 @@ cut-first (suc k) l h = let q : suc k - 1 ≡ k = omega arith in rw q
 
 -- where the parts of an input stand
 pub record Places (b : List ℕ) : Type 0 where
-  pub low : 56 ≤ number b 13
-  pub full : number b 13 + 4 * number b 12 ≡ length b
-  pub most : length b ≤ 65536
+  pub low : head-length ≤ number b draw-offset
+  pub full : number b draw-offset + 4 * number b draw-count ≡ length b
+  pub most : length b ≤ most-bytes
 
 pub places-true : (b : List ℕ) → places-ok b ≡ true → Places b
 unfolding places-ok
 places-true b e =
-    let t₅ : Bool = eqb (number b 13 + 4 * number b 12) (length b) in
-    let t₄ : Bool = leb 56 (number b 13) in
-    let t₃ : Bool = eqb (number b 11) 56 in
-    let t₂ : Bool = leb (length b) 65536 in
-    let t₁ : Bool = leb 56 (length b) in
+    let t₅ : Bool = eqb (number b draw-offset + 4 * number b draw-count) (length b) in
+    let t₄ : Bool = leb head-length (number b draw-offset) in
+    let t₃ : Bool = eqb (number b event-offset) head-length in
+    let t₂ : Bool = leb (length b) most-bytes in
+    let t₁ : Bool = leb head-length (length b) in
     let e₂ : (t₂ && (t₃ && (t₄ && t₅))) ≡ true = and-right t₁ (t₂ && (t₃ && (t₄ && t₅))) e in
     let e₄ : (t₄ && t₅) ≡ true = and-right t₃ (t₄ && t₅) (and-right t₂ (t₃ && (t₄ && t₅)) e₂) in
     record {
@@ -94,20 +96,20 @@ places-true b e =
       most = leb-true _ _ (and-left t₂ (t₃ && (t₄ && t₅)) e₂);
     }
 
-laid-of : (b : List ℕ) → places-ok b ≡ true → events-ok b ≡ true → Laid b (layout-of b)
-unfolding layout-of events-ok events-part
-laid-of b p e = let h : Places b = places-true b p in record { low = h .low; full = h .full; most = h .most; events = e }
+laid-of : (b : List ℕ) → places-ok b ≡ true → events-ok b ≡ true → Laid b (input-head b)
+unfolding input-head events-ok events-part
+laid-of b p e = let at : Places b = places-true b p in record { low = at .low; full = at .full; most = at .most; events = e }
 
-whole-is : (x y : Layout) → _≡_ {A = Input} (Whole x) (Whole y) → x ≡ y
+whole-is : (x y : Head) → _≡_ {A = Input} (Whole x) (Whole y) → x ≡ y
 whole-is x y e = cc
 
-pub laid : (b : List ℕ) (l : Layout) → input-of b ≡ Whole l → Laid b l
+pub laid : (b : List ℕ) (h : Head) → input-of b ≡ Whole h → Laid b h
 unfolding input-of
-laid b l e =
+laid b h e =
     let p : Bool = places-ok b in
     let q : Bool = events-ok b in
     split (p && q)
     (λ t.
-    let s : layout-of b ≡ l = whole-is _ _ (sym (choose-yes (p && q) (Whole (layout-of b)) Refused t) ∙ e) in
+    let s : input-head b ≡ h = whole-is _ _ (sym (choose-yes (p && q) (Whole (input-head b)) Refused t) ∙ e) in
     subst (Laid b) s (laid-of b (and-left p q t) (and-right p q t)))
-    (λ f. let s : Refused ≡ Whole l = sym (choose-no (p && q) (Whole (layout-of b)) Refused f) ∙ e in let z : _≡_ {A = ℕ} 0 1 = cc in absurd (omega arith))
+    (λ f. let s : Refused ≡ Whole h = sym (choose-no (p && q) (Whole (input-head b)) Refused f) ∙ e in let z : _≡_ {A = ℕ} 0 1 = cc in absurd (omega arith))

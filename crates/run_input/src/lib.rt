@@ -1,24 +1,48 @@
 // The run program's input (document 01, "The run program"): its check as a whole, its settings, and the cutting of its events and draws.
+use peer::PeerId;
 use timing::Config;
 ghost use mathlib.Core.Path.{_≡_};
 ghost use mathlib.Core.Bool.{true};
 ghost use Prim.Native.Nat.{_-_, _≤_};
 ghost use lib.ListN.{length, drop};
-ghost use Rattle.run_input.specs.Input.{number, numbers, config-of, event-length, are-events, places-ok, events-ok, layout-of, input-of};
+ghost use Rattle.run_input.specs.Input.{number, numbers, from-halves, config-of, event-length, are-events, places-ok, events-ok, input-head, input-of};
 
-// What an input that is not refused holds: self, the settings, how many events there are, the place where they end and the draws begin, and how many draws there are.
-pub struct Layout {
-    pub me: u32,
+// The most bytes of an input.
+const MOST_BYTES: usize = 65536;
+
+// What the head of an input says: self, the settings, how many events there are, the place where they end and the draws begin, and how many draws there are.
+pub struct Head {
+    pub me: PeerId,
     pub config: Config,
     pub events: usize,
     pub draws_at: usize,
     pub draws: usize,
 }
 
-// An input is refused as a whole, or has a layout.
+impl Head {
+    // The bytes of a head, right after which the events stand.
+    pub const BYTES: usize = 60;
+
+    // The places of its numbers, each of four bytes; the settings are nine.
+    const SELF_LOW: usize = 0;
+
+    const SELF_HIGH: usize = 1;
+
+    const FIRST_SETTING: usize = 2;
+
+    const EVENT_COUNT: usize = 11;
+
+    const EVENT_OFFSET: usize = 12;
+
+    const DRAW_COUNT: usize = 13;
+
+    const DRAW_OFFSET: usize = 14;
+}
+
+// An input is refused as a whole, or has a head that fits it.
 pub enum Input {
     Refused,
-    Whole(Layout),
+    Whole(Head),
 }
 
 // The i-th number of four bytes; 0 where there are not so many bytes.
@@ -42,24 +66,31 @@ pub fn read_numbers(b: &[u8], to: &mut [u32])
     }
 }
 
+// A number of eight bytes from its halves.
+pub fn from_halves(low: u32, high: u32) -> u64
+    ensures { λ r. ⌜ r ≡ from-halves low high ⌝ }
+{
+    low as u64 + 4294967296 * high as u64
+}
+
 // The nine settings.
 fn config_of(b: &[u8]) -> Config
     ensures { λ r. ⌜ r ≡ config-of (now (b .entry)) ⌝ }
 {
     Config {
-        active_view_capacity: number(b, 1),
-        passive_view_capacity: number(b, 2),
-        active_random_walk_length: number(b, 3),
-        passive_random_walk_length: number(b, 4),
-        shuffle_random_walk_length: number(b, 5),
-        shuffle_active_view_count: number(b, 6),
-        shuffle_passive_view_count: number(b, 7),
-        shuffle_interval: number(b, 8),
-        neighbor_request_timeout: number(b, 9),
+        active_view_capacity: number(b, Head::FIRST_SETTING),
+        passive_view_capacity: number(b, Head::FIRST_SETTING + 1),
+        active_random_walk_length: number(b, Head::FIRST_SETTING + 2),
+        passive_random_walk_length: number(b, Head::FIRST_SETTING + 3),
+        shuffle_random_walk_length: number(b, Head::FIRST_SETTING + 4),
+        shuffle_active_view_count: number(b, Head::FIRST_SETTING + 5),
+        shuffle_passive_view_count: number(b, Head::FIRST_SETTING + 6),
+        shuffle_interval: number(b, Head::FIRST_SETTING + 7),
+        neighbor_request_timeout: number(b, Head::FIRST_SETTING + 8),
     }
 }
 
-// How long the event at a place is by its bytes 14 and 15; 0 where that is under 24 or runs over the end.
+// How long the event at a place is by its whole length; 0 where that is less than a header's or runs over the end.
 pub fn event_length(b: &[u8], at: usize) -> usize
     ensures { λ r. ⌜ (r ≡ event-length (drop at (now (b .entry)))) × (r ≤ length (now (b .entry)) - at) ⌝ }
 {
@@ -67,12 +98,12 @@ pub fn event_length(b: &[u8], at: usize) -> usize
         return 0;
     }
     let rest = &b[at..];
-    if rest.len() < 24 {
+    if rest.len() < record::HEADER {
         return 0;
     }
     let h = record::read_header(rest);
     let size = h.size as usize;
-    if size < 24 {
+    if size < record::HEADER {
         return 0;
     }
     if rest.len() < size {
@@ -98,39 +129,44 @@ fn are_events(b: &[u8], n: usize) -> bool
     at == b.len()
 }
 
-// Whether the events are said to stand right after the numbers, and the draws to end the input.
+// Whether the events are said to stand right after the head, and the draws to end the input.
 fn places_ok(b: &[u8]) -> bool
     ensures { λ r. ⌜ r ≡ places-ok (now (b .entry)) ⌝ }
 {
     let n = b.len();
-    let at = number(b, 13) as usize;
-    let draws = number(b, 12) as usize;
-    (56 <= n) & ((n <= 65536) & ((number(b, 11) == 56) & ((56 <= at) & (at + 4 * draws == n))))
+    let start = number(b, Head::EVENT_OFFSET) as usize;
+    let at = number(b, Head::DRAW_OFFSET) as usize;
+    let draws = number(b, Head::DRAW_COUNT) as usize;
+    (Head::BYTES <= n)
+        & ((n <= MOST_BYTES)
+            & ((start == Head::BYTES) & ((Head::BYTES <= at) & (at + 4 * draws == n))))
 }
 
-// Whether the events exactly fill the place between the numbers and the draws.
+// Whether the events exactly fill the place between the head and the draws.
 fn events_ok(b: &[u8]) -> bool
     requires { ⌜ places-ok (now b) ≡ true ⌝ }
     ensures { λ r. ⌜ r ≡ events-ok (now (b .entry)) ⌝ }
 {
-    let end = number(b, 13) as usize;
-    let n = number(b, 10) as usize;
-    are_events(&b[56..end], n)
+    let end = number(b, Head::DRAW_OFFSET) as usize;
+    let n = number(b, Head::EVENT_COUNT) as usize;
+    are_events(&b[Head::BYTES..end], n)
 }
 
-// The whole input: its layout, or that it is refused.
+// The whole input: its head, or that it is refused.
 pub fn read(b: &[u8]) -> Input
     ensures { λ r. ⌜ r ≡ input-of (now (b .entry)) ⌝ }
 {
     if places_ok(b) {
         if events_ok(b) {
             let config = config_of(b);
-            return Input::Whole(Layout {
-                me: number(b, 0),
+            let low = number(b, Head::SELF_LOW);
+            let high = number(b, Head::SELF_HIGH);
+            return Input::Whole(Head {
+                me: from_halves(low, high),
                 config: config,
-                events: number(b, 10) as usize,
-                draws_at: number(b, 13) as usize,
-                draws: number(b, 12) as usize,
+                events: number(b, Head::EVENT_COUNT) as usize,
+                draws_at: number(b, Head::DRAW_OFFSET) as usize,
+                draws: number(b, Head::DRAW_COUNT) as usize,
             });
         }
     }

@@ -21,10 +21,10 @@ use Rattle.protocol.specs.Handle.{new}
 use Rattle.hyparview.specs.declared.Made.{Made}
 use Rattle.hyparview.specs.Made as packed
 use Rattle.hyparview.specs.Made.{lent, pack-made}
-use Rattle.run_input.specs.declared.Layout.{Layout}
+use Rattle.run_input.specs.declared.Head.{Head}
 use Rattle.run_input.specs.declared.Input.{Input}
 use Rattle.run_input.specs.declared.Input.the-variants.{Refused, Whole}
-use Rattle.run_input.specs.Input.{numbers, event-length, cut-events, input-of}
+use Rattle.run_input.specs.Input.{head-length, numbers, event-length, cut-events, input-of}
 use Rattle.run_input.proofs.Laws.{Laid, laid}
 use Rattle.run_walk.specs.declared.Runner.{Runner}
 use Rattle.run_walk.specs.declared.Ran.{Ran}
@@ -40,7 +40,7 @@ use Rattle.run_listing.specs.declared.Shown.{Shown}
 use Rattle.run_listing.specs.declared.Shown.the-variants.{Bytes, TooShort}
 use Rattle.run_listing.specs.Run.{outcome-text, events-text, laid-text, made-text, input-text, run-text}
 use Rattle.run_listing.specs.Place.{Steps, fitting, Answers}
-use Rattle.run_listing.specs.Opened.{first-place, opened-layout, opened-input, opened-run, opened-text, rest-text}
+use Rattle.run_listing.specs.Opened.{first-place, opened-head, opened-input, opened-run, opened-text, rest-text}
 
 -- ---- one event
 
@@ -152,27 +152,27 @@ module _ (w : ℕ) (out o : List ℕ) (r : Shown) (n : ℕ) (e : r ≡ fitting w
   pub shown-counted : n ≡ length (take n o)
   shown-counted = counted n o shown-within
 
-pub walked : (room : ℕ) (xs : List ℕ) (l : Layout) (b ns : List ℕ) (t r : Text) (out o : List ℕ) → Counts (l .draws) ns → ns ≡ numbers (length ns) 0 (drop (l .«draws_at») b)
-    → Puts (events-text room 0 xs (cut-events (l .events) (take (l .«draws_at» - 56) (drop 56 b))) (take (l .draws) ns)) t out r o → Puts (laid-text room xs l b) t out r o
+pub walked : (room : ℕ) (xs : List ℕ) (head : Head) (b ns : List ℕ) (t r : Text) (out o : List ℕ) → Counts (head .draws) ns → ns ≡ numbers (length ns) 0 (drop (head .«draws_at») b)
+    → Puts (events-text room 0 xs (cut-events (head .events) (take (head .«draws_at» - head-length) (drop head-length b))) (take (head .draws) ns)) t out r o → Puts (laid-text room xs head b) t out r o
 unfolding laid-text
-walked room xs l b ns t r out o h e k =
-    named (λ j. events-text room 0 xs (cut-events (l .events) (sym (part-is 56 (l .«draws_at») b) j)) (first-draws b ns l h e j)) k
+walked room xs head b ns t r out o h e k =
+    named (λ j. events-text room 0 xs (cut-events (head .events) (sym (part-is head-length (head .«draws_at») b) j)) (first-draws b ns head h e j)) k
 
 -- ---- what is decided before the first event
 
-module _ (l : Layout) (m : Made) (own : List ℕ) (e : record { code = m .code; words = m .state .words } ≡ pack-made (new (l .me) (lent false own) (l .config))) where
-  made-is : record { code = m .code; words = m .state .words } ≡ pack-made (new (l .me) none (l .config))
-  made-is = made-bare (l .me) (l .config) _ own e
+module _ (head : Head) (m : Made) (own : List ℕ) (e : record { code = m .code; words = m .state .words } ≡ pack-made (new (head .me) (lent false own) (head .config))) where
+  made-is : record { code = m .code; words = m .state .words } ≡ pack-made (new (head .me) none (head .config))
+  made-is = made-bare (head .me) (head .config) _ own e
 
-  pub open-unset : (m .code ≡ 0 → ⊥) → Line 1 ≡ opened-layout l
-  unfolding opened-layout
-  open-unset h = sym (choose-no _ (Events l) (Line 1) (ap (λ (x : packed.Made). eqb (x .code) 0) (sym made-is) ∙ ne-eqb _ _ h))
+  pub open-unset : (m .code ≡ 0 → ⊥) → Line 1 ≡ opened-head head
+  unfolding opened-head
+  open-unset h = sym (choose-no _ (Events head) (Line 1) (ap (λ (x : packed.Made). eqb (x .code) 0) (sym made-is) ∙ ne-eqb _ _ h))
 
-  pub open-events : m .code ≡ 0 → Events l ≡ opened-layout l
-  unfolding opened-layout
-  open-events h = sym (choose-yes _ (Events l) (Line 1) (ap (λ (x : packed.Made). eqb (x .code) 0) (sym made-is) ∙ eq-eqb _ _ h))
+  pub open-events : m .code ≡ 0 → Events head ≡ opened-head head
+  unfolding opened-head
+  open-events h = sym (choose-yes _ (Events head) (Line 1) (ap (λ (x : packed.Made). eqb (x .code) 0) (sym made-is) ∙ eq-eqb _ _ h))
 
-  pub begins-at : _≡_ {A = Runner} (record { state = m .state; at = 0; used = 0 }) (first-place l)
+  pub begins-at : _≡_ {A = Runner} (record { state = m .state; at = 0; used = 0 }) (first-place head)
   unfolding first-place
   begins-at = λ j. record { state = record { words = made-is j .words }; at = 0; used = 0 }
 
@@ -181,21 +181,21 @@ module _ (b : List ℕ) (x : Input) (e : x ≡ input-of b) where
   unfolding opened-run opened-input
   open-refused h = ap opened-input (sym h ∙ e)
 
-  pub open-whole : (l : Layout) (r : Opened) → x ≡ Whole l → r ≡ opened-layout l → r ≡ opened-run b
+  pub open-whole : (head : Head) (r : Opened) → x ≡ Whole head → r ≡ opened-head head → r ≡ opened-run b
   unfolding opened-run opened-input
-  open-whole l r h k = k ∙ ap opened-input (sym h ∙ e)
+  open-whole head r h k = k ∙ ap opened-input (sym h ∙ e)
 
-layout-text : (l : Layout) (b : List ℕ) → made-text (pack-made (new (l .me) none (l .config))) l b ≡ opened-text (opened-layout l) b
-unfolding made-text opened-layout opened-text first-place
-layout-text l b =
-    let t : Bool = eqb (pack-made (new (l .me) none (l .config)) .code) 0 in
-    split t (λ e. choose-yes t _ _ e ∙ sym (ap (λ (o : Opened). opened-text o b) (choose-yes t (Events l) (Line 1) e)))
-    (λ e. choose-no t _ _ e ∙ sym (ap (λ (o : Opened). opened-text o b) (choose-no t (Events l) (Line 1) e)))
+head-text : (head : Head) (b : List ℕ) → made-text (pack-made (new (head .me) none (head .config))) head b ≡ opened-text (opened-head head) b
+unfolding made-text opened-head opened-text first-place
+head-text head b =
+    let t : Bool = eqb (pack-made (new (head .me) none (head .config)) .code) 0 in
+    split t (λ e. choose-yes t _ _ e ∙ sym (ap (λ (o : Opened). opened-text o b) (choose-yes t (Events head) (Line 1) e)))
+    (λ e. choose-no t _ _ e ∙ sym (ap (λ (o : Opened). opened-text o b) (choose-no t (Events head) (Line 1) e)))
 
 input-opened : (x : Input) (b : List ℕ) → input-text x b ≡ opened-text (opened-input x) b
 unfolding input-text opened-input opened-text
 input-opened Refused b = refl
-input-opened (Whole l) b = layout-text l b
+input-opened (Whole head) b = head-text head b
 
 -- the text of a run is what is printed after the decision
 pub text-opened : (b : List ℕ) → run-text b ≡ opened-text (opened-run b) b
@@ -210,37 +210,37 @@ module _ (b : List ℕ) (o : Opened) (e : o ≡ opened-run b) where
   unfolding opened-text
   line-text c h = text-is ∙ ap (λ (x : Opened). opened-text x b) h
 
-  pub whole-text : (l : Layout) → o ≡ Events l → run-text b ≡ laid-text 8192 (first-place l .state .words) l b
+  pub whole-text : (head : Head) → o ≡ Events head → run-text b ≡ laid-text 8192 (first-place head .state .words) head b
   unfolding opened-text
-  whole-text l h = text-is ∙ ap (λ (x : Opened). opened-text x b) h
+  whole-text head h = text-is ∙ ap (λ (x : Opened). opened-text x b) h
 
   pub run-line : (c : ℕ) (t r : Text) (out p : List ℕ) → o ≡ Line c → Puts (end-line c 0) t out r p → Puts (run-text b) t out r p
   run-line c t r out p h k = named (sym (line-text c h)) k
 
-  pub run-events : (l : Layout) (q : Runner) (t r : Text) (out p : List ℕ) → o ≡ Events l → q ≡ first-place l → Puts (laid-text 8192 (q .state .words) l b) t out r p → Puts (run-text b) t out r p
-  run-events l q t r out p h f k = named (ap (λ (x : Runner). laid-text 8192 (x .state .words) l b) f ∙ sym (whole-text l h)) k
+  pub run-events : (head : Head) (q : Runner) (t r : Text) (out p : List ℕ) → o ≡ Events head → q ≡ first-place head → Puts (laid-text 8192 (q .state .words) head b) t out r p → Puts (run-text b) t out r p
+  run-events head q t r out p h f k = named (ap (λ (x : Runner). laid-text 8192 (x .state .words) head b) f ∙ sym (whole-text head h)) k
 
-events-is : (x y : Layout) → _≡_ {A = Opened} (Events x) (Events y) → x ≡ y
+events-is : (x y : Head) → _≡_ {A = Opened} (Events x) (Events y) → x ≡ y
 events-is x y e = cc
 
-line-not : {C : Type 0} (c : ℕ) (l : Layout) → _≡_ {A = Opened} (Line c) (Events l) → C
-line-not c l e = let z : _≡_ {A = ℕ} 0 1 = cc in absurd (omega arith)
+line-not : {C : Type 0} (c : ℕ) (head : Head) → _≡_ {A = Opened} (Line c) (Events head) → C
+line-not c head e = let z : _≡_ {A = ℕ} 0 1 = cc in absurd (omega arith)
 
-whole-layout : (m l : Layout) → opened-layout m ≡ Events l → m ≡ l
-unfolding opened-layout
-whole-layout m l e =
+whole-head : (m head : Head) → opened-head m ≡ Events head → m ≡ head
+unfolding opened-head
+whole-head m head e =
     let t : Bool = eqb (pack-made (new (m .me) none (m .config)) .code) 0 in
-    split t (λ y. events-is _ _ (sym (choose-yes t (Events m) (Line 1) y) ∙ e)) (λ n. line-not 1 l (sym (choose-no t (Events m) (Line 1) n) ∙ e))
+    split t (λ y. events-is _ _ (sym (choose-yes t (Events m) (Line 1) y) ∙ e)) (λ n. line-not 1 head (sym (choose-no t (Events m) (Line 1) n) ∙ e))
 
-whole-input : (x : Input) (l : Layout) → opened-input x ≡ Events l → x ≡ Whole l
+whole-input : (x : Input) (head : Head) → opened-input x ≡ Events head → x ≡ Whole head
 unfolding opened-input
-whole-input Refused l e = line-not 3 l e
-whole-input (Whole m) l e = ap Whole (whole-layout m l e)
+whole-input Refused head e = line-not 3 head e
+whole-input (Whole m) head e = ap Whole (whole-head m head e)
 
 -- an input with events has them in their places
-pub opened-laid : (b : List ℕ) (o : Opened) (l : Layout) → o ≡ opened-run b → o ≡ Events l → Laid b l
+pub opened-laid : (b : List ℕ) (o : Opened) (head : Head) → o ≡ opened-run b → o ≡ Events head → Laid b head
 unfolding opened-run
-opened-laid b o l e h = laid b l (whole-input (input-of b) l (sym e ∙ h))
+opened-laid b o head e h = laid b head (whole-input (input-of b) head (sym e ∙ h))
 
 -- ---- the answer
 

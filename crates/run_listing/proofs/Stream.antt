@@ -12,6 +12,7 @@ use Rattle.lists.specs.Bytes.{overwrite}
 use Rattle.lists.proofs.Bytes.{length-overwrite}
 use Rattle.lists.proofs.Choice.{by-choice, split, choose-yes, choose-no}
 use Rattle.record.specs.declared.Header.{Header}
+use Rattle.record.specs.Format.{header-length}
 use Rattle.record.specs.Read.{header-of}
 use Rattle.run_text.specs.declared.Text.{Text}
 use Rattle.run_text.specs.Text.{Puts, Begins}
@@ -19,8 +20,8 @@ use Rattle.run_text.specs.Numbers.{digits-within, decimal, field}
 use Rattle.run_text.proofs.Written.{begun}
 use Rattle.run_text.specs.Lines.{four, record-line, end-line, event-text}
 use Rattle.run_text.proofs.Laws.{text-few, text-none, text-step}
-use Rattle.run_input.specs.declared.Layout.{Layout}
-use Rattle.run_input.specs.Input.{numbers, cut-events}
+use Rattle.run_input.specs.declared.Head.{Head}
+use Rattle.run_input.specs.Input.{head-length, numbers, cut-events}
 use Rattle.run_walk.proofs.Draws.{counted}
 use Rattle.run_listing.specs.declared.Opened.the-variants.{Events}
 use Rattle.run_listing.specs.Run.{events-text, laid-text, run-text}
@@ -82,21 +83,21 @@ empty-fronts w out e = record { size = ap length (sym e); counts = (omega arith,
 
 module _ (i : ℕ) (b out : List ℕ) where
   -- too few bytes for a header
-  pub lines-few-bytes : length b < 24 → Lines i b out (record { size = 0; taken = 0 }) out
+  pub lines-few-bytes : length b < header-length → Lines i b out (record { size = 0; taken = 0 }) out
   unfolding first-line first-size
-  lines-few-bytes l = let y = lt-ltb (length b) 24 l in record { line = empty-fronts _ out (choose-yes _ _ _ y); taken = sym (choose-yes _ _ _ y) }
+  lines-few-bytes l = let y = lt-ltb (length b) header-length l in record { line = empty-fronts _ out (choose-yes _ _ _ y); taken = sym (choose-yes _ _ _ y) }
 
-  module _ (h : Header) (is : h ≡ header-of b) (m : 24 ≤ length b) where
+  module _ (h : Header) (is : h ≡ header-of b) (m : header-length ≤ length b) where
     size-is : h .size ≡ first-size b
     unfolding first-size
-    size-is = ap (λ (x : Header). x .size) is ∙ sym (choose-no _ _ _ (le-ltb (length b) 24 m))
+    size-is = ap (λ (x : Header). x .size) is ∙ sym (choose-no _ _ _ (le-ltb (length b) header-length m))
 
     -- the zeroes behind the last record
     pub lines-none : h .size ≡ 0 → Lines i b out (record { size = 0; taken = 0 }) out
     unfolding first-line
     lines-none z =
         let e : header-of b .size ≡ 0 = ap (λ (x : Header). x .size) (sym is) ∙ z in
-        record { line = empty-fronts _ out (choose-no _ _ _ (le-ltb (length b) 24 m) ∙ choose-yes _ _ _ (eq-eqb _ 0 e)); taken = sym z ∙ size-is }
+        record { line = empty-fronts _ out (choose-no _ _ _ (le-ltb (length b) header-length m) ∙ choose-yes _ _ _ (eq-eqb _ 0 e)); taken = sym z ∙ size-is }
 
     pub lines-one : (t r : Text) (o : List ℕ) → (h .size ≡ 0 → ⊥) → 168 ≤ length out → Begins t → Puts (record-line i h) t out r o
         → Lines i b out (record { size = r .at; taken = h .size }) o
@@ -104,24 +105,24 @@ module _ (i : ℕ) (b out : List ℕ) where
     lines-one t r o z l g k =
         let few = line-few i h in
         let w : record-line i h ≡ first-line i b =
-        ap (record-line i) is ∙ sym (choose-no _ _ _ (le-ltb (length b) 24 m) ∙ choose-no _ _ _ (ne-eqb _ 0 (λ e. z (ap (λ (x : Header). x .size) is ∙ e)))) in
+        ap (record-line i) is ∙ sym (choose-no _ _ _ (le-ltb (length b) header-length m) ∙ choose-no _ _ _ (ne-eqb _ 0 (λ e. z (ap (λ (x : Header). x .size) is ∙ e)))) in
         record { line = subst (λ (x : List ℕ). Fronts x out (r .at) o) w (fronts (record-line i h) out t r o (omega (arith, few, l)) g k); taken = size-is }
 
 -- ---- the events one after another
 
 -- an input with events prints what is left at their first place
-pub rest-first : (b : List ℕ) (l : Layout) → opened-run b ≡ Events l
-    → run-text b ≡ rest-text 8192 (first-place l) 0 (l .events) (slice 56 (l .«draws_at») b) (numbers (l .draws) 0 (drop (l .«draws_at») b))
+pub rest-first : (b : List ℕ) (head : Head) → opened-run b ≡ Events head
+    → run-text b ≡ rest-text 8192 (first-place head) 0 (head .events) (slice head-length (head .«draws_at») b) (numbers (head .draws) 0 (drop (head .«draws_at») b))
 unfolding rest-text laid-text first-place
-rest-first b l e =
-    let n : l .events ≡ l .events - 0 = omega arith in
-    whole-text b (opened-run b) refl l e ∙ ap (λ (x : ℕ). events-text 8192 0 (first-place l .state .words) (cut-events x (slice 56 (l .«draws_at») b)) (numbers (l .draws) 0 (drop (l .«draws_at») b))) n
+rest-first b head e =
+    let n : head .events ≡ head .events - 0 = omega arith in
+    whole-text b (opened-run b) refl head e ∙ ap (λ (x : ℕ). events-text 8192 0 (first-place head .state .words) (cut-events x (slice head-length (head .«draws_at») b)) (numbers (head .draws) 0 (drop (head .«draws_at») b))) n
 
 -- the lines of an event are its first record's and those of the output behind that record, to the first place where none is
 pub lines-step : (i code draws : ℕ) (b : List ℕ) → (first-size b ≡ 0 → ⊥) → event-text i code draws b ≡ first-line i b ++ event-text i code draws (drop (first-size b) b)
 unfolding first-line first-size
 lines-step i code draws b z =
-    split (ltb (length b) 24) (λ y. absurd (z (choose-yes _ _ _ y)))
+    split (ltb (length b) header-length) (λ y. absurd (z (choose-yes _ _ _ y)))
     (λ n. let same : first-size b ≡ header-of b .size = choose-no _ _ _ n in
     let e : header-of b .size ≡ 0 → ⊥ = λ q. z (same ∙ q) in
     let line : first-line i b ≡ record-line i (header-of b) = choose-no _ _ _ n ∙ choose-no _ _ _ (ne-eqb _ 0 e) in
@@ -130,4 +131,4 @@ lines-step i code draws b z =
 pub lines-end : (i code draws : ℕ) (b : List ℕ) → first-size b ≡ 0 → event-text i code draws b ≡ end-line code draws
 unfolding first-size
 lines-end i code draws b z =
-    split (ltb (length b) 24) (λ y. text-few i code draws b (ltb-true _ _ y)) (λ n. text-none i code draws b (sym (choose-no _ _ _ n) ∙ z))
+    split (ltb (length b) header-length) (λ y. text-few i code draws b (ltb-true _ _ y)) (λ n. text-none i code draws b (sym (choose-no _ _ _ n) ∙ z))

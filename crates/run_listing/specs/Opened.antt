@@ -8,7 +8,7 @@ use lib.Dec.{eqb}
 use Rattle.lists.specs.Lists.{choose}
 use Rattle.protocol.specs.Handle.{new}
 use Rattle.hyparview.specs.Made.{pack-made}
-use Rattle.run_input.specs.declared.Layout.{Layout}
+use Rattle.run_input.specs.declared.Head.{Head}
 use Rattle.run_input.specs.declared.Input.{Input}
 use Rattle.run_input.specs.declared.Input.the-variants.{Refused, Whole}
 use Rattle.run_input.specs.Input.{cut-events, input-of}
@@ -19,17 +19,17 @@ use Rattle.run_listing.specs.declared.Opened.the-variants.{Line, Events}
 use Rattle.run_listing.specs.Run.{events-text, laid-text}
 
 -- the place before the first event; "Own data is absent."
-unfoldable pub first-place : Layout → Runner
-first-place l = record { state = record { words = pack-made (new (l .me) none (l .config)) .words }; at = 0; used = 0 }
+unfoldable pub first-place : Head → Runner
+first-place head = record { state = record { words = pack-made (new (head .me) none (head .config)) .words }; at = 0; used = 0 }
 
 -- "otherwise out-of-range settings print only `= 1 0`"
-unfoldable pub opened-layout : Layout → Opened
-opened-layout l = choose (eqb (pack-made (new (l .me) none (l .config)) .code) 0) (Events l) (Line 1)
+unfoldable pub opened-head : Head → Opened
+opened-head head = choose (eqb (pack-made (new (head .me) none (head .config)) .code) 0) (Events head) (Line 1)
 
 -- a refused input "prints only `= 3 0`"
 unfoldable pub opened-input : Input → Opened
 opened-input Refused = Line 3
-opened-input (Whole l) = opened-layout l
+opened-input (Whole head) = opened-head head
 
 unfoldable pub opened-run : List ℕ → Opened
 opened-run b = opened-input (input-of b)
@@ -37,7 +37,7 @@ opened-run b = opened-input (input-of b)
 -- what is printed of the input b after this decision
 unfoldable pub opened-text : Opened → List ℕ → List ℕ
 opened-text (Line c) b = end-line c 0
-opened-text (Events l) b = laid-text 8192 (first-place l .state .words) l b
+opened-text (Events head) b = laid-text 8192 (first-place head .state .words) head b
 
 -- what is left to print at the place p before the i-th of n events
 unfoldable pub rest-text : ℕ → Runner → ℕ → ℕ → List ℕ → List ℕ → List ℕ

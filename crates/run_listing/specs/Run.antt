@@ -10,10 +10,10 @@ use Rattle.lists.specs.Lists.{choose}
 use Rattle.protocol.specs.Handle.{new}
 use Rattle.hyparview.specs.Made.{Made, pack-made}
 use Rattle.hyparview.specs.Handled.{Outcome, handled}
-use Rattle.run_input.specs.declared.Layout.{Layout}
+use Rattle.run_input.specs.declared.Head.{Head}
 use Rattle.run_input.specs.declared.Input.{Input}
 use Rattle.run_input.specs.declared.Input.the-variants.{Refused, Whole}
-use Rattle.run_input.specs.Input.{numbers, cut-events, input-of}
+use Rattle.run_input.specs.Input.{head-length, numbers, cut-events, input-of}
 use Rattle.run_text.specs.Lines.{end-line, event-text}
 
 -- the lines of the i-th event
@@ -27,17 +27,17 @@ events-text room i xs (b ∷ bs) ds =
     outcome-text i (handled xs b ds room) ++ events-text room (i + 1) (handled xs b ds room .words) bs (drop (handled xs b ds room .draws) ds)
 
 -- the lines of the events that stand in b, with its draws
-unfoldable pub laid-text : ℕ → List ℕ → Layout → List ℕ → List ℕ
-laid-text room xs l b = events-text room 0 xs (cut-events (l .events) (slice 56 (l .«draws_at») b)) (numbers (l .draws) 0 (drop (l .«draws_at») b))
+unfoldable pub laid-text : ℕ → List ℕ → Head → List ℕ → List ℕ
+laid-text room xs head b = events-text room 0 xs (cut-events (head .events) (slice head-length (head .«draws_at») b)) (numbers (head .draws) 0 (drop (head .«draws_at») b))
 
 -- "otherwise out-of-range settings print only `= 1 0`"
-unfoldable pub made-text : Made → Layout → List ℕ → List ℕ
-made-text m l b = choose (eqb (m .code) 0) (laid-text 8192 (m .words) l b) (end-line 1 0)
+unfoldable pub made-text : Made → Head → List ℕ → List ℕ
+made-text m head b = choose (eqb (m .code) 0) (laid-text 8192 (m .words) head b) (end-line 1 0)
 
 -- "whose events, so cut, or draws do not exactly fill their places .. prints only `= 3 0`"; "Own data is absent."
 unfoldable pub input-text : Input → List ℕ → List ℕ
 input-text Refused b = end-line 3 0
-input-text (Whole l) b = made-text (pack-made (new (l .me) none (l .config))) l b
+input-text (Whole head) b = made-text (pack-made (new (head .me) none (head .config))) head b
 
 -- what the run program prints for the input b
 unfoldable pub run-text : List ℕ → List ℕ

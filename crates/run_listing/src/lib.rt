@@ -1,8 +1,8 @@
 // What the run program prints (document 01, "The run program"): the text of a run, from the input's bytes into lent bytes.
 use hyparview::State;
 use record::Refusal;
+use run_input::Head;
 use run_input::Input;
-use run_input::Layout;
 use run_text::Text;
 use run_walk::Runner;
 ghost use mathlib.Core.Path.{_≡_};
@@ -16,7 +16,7 @@ ghost use Rattle.run_text.specs.Text.{Puts};
 ghost use Rattle.run_text.specs.Lines.{end-line};
 ghost use Rattle.run_listing.specs.Run.{events-text, laid-text, run-text};
 ghost use Rattle.run_listing.specs.Place.{Steps, Fronts, Lines, fitting, Answers};
-ghost use Rattle.run_listing.specs.Opened.{opened-run, opened-layout, first-place};
+ghost use Rattle.run_listing.specs.Opened.{opened-run, opened-head, first-place};
 
 // The place after an event, and the text so far.
 struct Stepped {
@@ -33,7 +33,7 @@ pub struct Lined {
 // What is decided of an input before its first event: the code of its one line, or that it has events.
 pub enum Opened {
     Line(u32),
-    Events(Layout),
+    Events(Head),
 }
 
 // How many bytes the text has, or that it has more than were lent.
@@ -95,44 +95,52 @@ fn put_events(
 fn put_walk(
     s: State,
     b: &[u8],
-    l: Layout,
+    head: Head,
     drawn: &[u32],
     records: &mut [u8],
     out: &mut [u8],
     t: Text,
 ) -> Text
-    requires { ⌜ Laid (now b) l ⌝ }
-    requires { ⌜ Counts (l .draws) (now drawn) ⌝ }
-    requires { ⌜ now drawn ≡ numbers (length (now drawn)) 0 (drop (l .«draws_at») (now b)) ⌝ }
-    ensures { λ r. ⌜ Puts (laid-text (length (now (records .entry))) (s .words) l (now (b .entry))) t (now (out .entry)) r (now (out .exit)) ⌝ }
+    requires { ⌜ Laid (now b) head ⌝ }
+    requires { ⌜ Counts (head .draws) (now drawn) ⌝ }
+    requires { ⌜ now drawn ≡ numbers (length (now drawn)) 0 (drop (head .«draws_at») (now b)) ⌝ }
+    ensures { λ r. ⌜ Puts (laid-text (length (now (records .entry))) (s .words) head (now (b .entry))) t (now (out .entry)) r (now (out .exit)) ⌝ }
 {
-    let at = l.draws_at;
-    let n = l.draws;
-    put_events(s, l.events, &b[56..at], &drawn[..n], records, out, t)
+    let at = head.draws_at;
+    let n = head.draws;
+    put_events(
+        s,
+        head.events,
+        &b[Head::BYTES..at],
+        &drawn[..n],
+        records,
+        out,
+        t,
+    )
 }
 
 // The same, with space for the draws and the output: the longest input has fewer than 16,384 draws.
-fn put_whole(s: State, b: &[u8], l: Layout, out: &mut [u8], t: Text) -> Text
-    requires { ⌜ Laid (now b) l ⌝ }
-    ensures { λ r. ⌜ Puts (laid-text 8192 (s .words) l (now (b .entry))) t (now (out .entry)) r (now (out .exit)) ⌝ }
+fn put_whole(s: State, b: &[u8], head: Head, out: &mut [u8], t: Text) -> Text
+    requires { ⌜ Laid (now b) head ⌝ }
+    ensures { λ r. ⌜ Puts (laid-text 8192 (s .words) head (now (b .entry))) t (now (out .entry)) r (now (out .exit)) ⌝ }
 {
     let mut drawn = [0u32; 16384];
     let mut records = [0u8; 8192];
-    let at = l.draws_at;
+    let at = head.draws_at;
     run_input::read_numbers(&b[at..], &mut drawn);
-    put_walk(s, b, l, &drawn, &mut records, out, t)
+    put_walk(s, b, head, &drawn, &mut records, out, t)
 }
 
 // An input that is not refused as a whole: settings out of range have one line only.
-fn open_layout(l: Layout) -> Opened
-    ensures { λ r. ⌜ r ≡ opened-layout l ⌝ }
+fn open_head(head: Head) -> Opened
+    ensures { λ r. ⌜ r ≡ opened-head head ⌝ }
 {
-    let config = l.config;
-    let m = State::new(l.me, false, b"", config);
+    let config = head.config;
+    let m = State::new(head.me, false, b"", config);
     if m.code != 0 {
         return Opened::Line(Refusal::SETTINGS);
     }
-    Opened::Events(l)
+    Opened::Events(head)
 }
 
 // Every decision that is taken before the first event.
@@ -142,7 +150,7 @@ pub fn open(b: &[u8]) -> Opened
     let i = run_input::read(b);
     match i {
         Input::Refused => Opened::Line(Refusal::MALFORMED),
-        Input::Whole(l) => open_layout(l),
+        Input::Whole(head) => open_head(head),
     }
 }
 
@@ -161,7 +169,7 @@ pub fn record_line(i: usize, records: &[u8], out: &mut [u8]) -> Lined
     requires { ⌜ 168 ≤ length (now out) ⌝ }
     ensures { λ r. ⌜ Lines i (now (records .entry)) (now (out .entry)) r (now (out .exit)) ⌝ }
 {
-    if records.len() < 24 {
+    if records.len() < record::HEADER {
         return Lined { size: 0, taken: 0 };
     }
     let h = record::read_header(records);
@@ -178,11 +186,11 @@ pub fn record_line(i: usize, records: &[u8], out: &mut [u8]) -> Lined
 }
 
 // The place before the first event: the new station.
-pub fn begin(l: Layout) -> Runner
-    ensures { λ r. ⌜ r ≡ first-place l ⌝ }
+pub fn begin(head: Head) -> Runner
+    ensures { λ r. ⌜ r ≡ first-place head ⌝ }
 {
-    let config = l.config;
-    let m = State::new(l.me, false, b"", config);
+    let config = head.config;
+    let m = State::new(head.me, false, b"", config);
     let s = m.state;
     Runner {
         state: s,
@@ -198,10 +206,10 @@ fn put_run(b: &[u8], out: &mut [u8], t: Text) -> Text
     let o = open(b);
     match o {
         Opened::Line(code) => run_text::put_end(out, t, code, 0),
-        Opened::Events(l) => {
-            let p = begin(l);
+        Opened::Events(head) => {
+            let p = begin(head);
             let s = p.state;
-            put_whole(s, b, l, out, t)
+            put_whole(s, b, head, out, t)
         }
     }
 }

@@ -5,6 +5,7 @@ use mathlib.Core.Path.{_≡_, refl, sym, ap, _∙_}
 use mathlib.Core.List.{List, [], _∷_, _++_, append-nil, append-assoc, map}
 use lib.ListN.{length, take, drop}
 use Rattle.record.specs.declared.Header.{Header}
+use Rattle.record.specs.Format.{header-length}
 use Rattle.record.specs.Read.{header-of}
 use Rattle.record.specs.Walk.{records-in, headers}
 use Rattle.record.proofs.Walk.{records-few, taken-none, taken-one, taken-next, taken-last}
@@ -38,7 +39,7 @@ module _ (i code draws : ℕ) (b : List ℕ) where
   unfolding event-text headers
   text-by bs e = ap (λ (x : List (List ℕ)). record-lines i (map header-of x) ++ end-line code draws) e
 
-  pub text-few : length b < 24 → event-text i code draws b ≡ end-line code draws
+  pub text-few : length b < header-length → event-text i code draws b ≡ end-line code draws
   unfolding record-lines
   text-few h = text-by [] (records-few b h)
 
@@ -46,7 +47,7 @@ module _ (i code draws : ℕ) (b : List ℕ) where
   unfolding record-lines
   text-none e = text-by [] (taken-none b (header-of b) refl e)
 
-  pub text-step : 24 ≤ length b → (header-of b .size ≡ 0 → ⊥) → event-text i code draws b ≡ record-line i (header-of b) ++ event-text i code draws (drop (header-of b .size) b)
+  pub text-step : header-length ≤ length b → (header-of b .size ≡ 0 → ⊥) → event-text i code draws b ≡ record-line i (header-of b) ++ event-text i code draws (drop (header-of b .size) b)
   unfolding record-lines event-text headers
   text-step h e =
       let rest : List (List ℕ) = records-in (drop (header-of b .size) b) in
@@ -71,14 +72,14 @@ module _ (i : ℕ) (whole : List ℕ) (t : Text) (out : List ℕ) (r : Text) (o 
   unfolding record-lines
   ends e = named (sym (by-records [] e ∙ append-nil (v .done))) (v .so-far)
 
-  pub listing-few : length b < 24 → Puts whole t out r o
+  pub listing-few : length b < header-length → Puts whole t out r o
   listing-few h = ends (records-few b h)
 
   module _ (h : Header) (is : h ≡ header-of b) where
     pub listing-none : h .size ≡ 0 → Puts whole t out r o
     listing-none e = ends (taken-none b h is e)
 
-    module _ (s : Text) (p : List ℕ) (k : Puts (record-line i h) r o s p) (q : length p ≡ length o) (z : h .size ≡ 0 → ⊥) (m : 24 ≤ length b) where
+    module _ (s : Text) (p : List ℕ) (k : Puts (record-line i h) r o s p) (q : length p ≡ length o) (z : h .size ≡ 0 → ⊥) (m : header-length ≤ length b) where
       goes-on : (bs : List (List ℕ)) → records-in b ≡ b ∷ bs → whole ≡ (v .done ++ record-line i h) ++ record-lines i (map header-of bs)
       unfolding record-lines
       goes-on bs e =

@@ -84,12 +84,10 @@ pub fn put_record(out: &mut [u8], t: Text, i: u64, h: Header) -> Text
 {
     let kind = h.kind as u64;
     let message = h.message as u64;
-    let peer = h.peer as u64;
-    let second = h.second as u64;
     let ttl = h.ttl as u64;
     let nodes = h.nodes as u64;
-    let a = put_four(out, t, i, kind, message, peer, 32);
-    put_four(out, a, second, ttl, h.number, nodes, 10)
+    let a = put_four(out, t, i, kind, message, h.peer, 32);
+    put_four(out, a, h.second, ttl, h.number, nodes, 10)
 }
 
 // The line that ends an event.
@@ -108,7 +106,7 @@ fn put_records(out: &mut [u8], t: Text, i: u64, records: &[u8]) -> Text
 {
     let mut r = t;
     let mut rest = records;
-    while 24 <= rest.len() {
+    while record::HEADER <= rest.len() {
         let h = record::read_header(rest);
         let n = h.size as usize;
         if n == 0 {

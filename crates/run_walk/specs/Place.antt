@@ -10,7 +10,7 @@ use Rattle.draws.specs.Place.{past}
 use Rattle.run_walk.specs.declared.Runner.{Runner}
 use Rattle.run_walk.specs.declared.Ran.{Ran}
 
--- what the event at p gives, with the draws left and `room` bytes of output; "Events are cut by bytes 14–15."
+-- what the event at p gives, with the draws left and `room` bytes of output; "Events are cut by bytes 14–15", since document 02, S-8 by 22–23
 abbrev pub met : ℕ → Runner → List ℕ → List ℕ → Outcome
 met room p events draws = handled (p .state .words) (take (event-length (drop (p .at) events)) (drop (p .at) events)) (drop (p .used) draws) room
 

@@ -1,7 +1,6 @@
 // Reads questions of 14 numbers of four bytes, each an earliest and a latest start (low half first), the nine settings and a k, and
 // writes a line for each: both ends of the k-th shuffle's due time. An input that is no such list, or too long, gets `= 3`.
 use timing::Config;
-ghost use Prim.Native.Nat.{_≤_};
 
 const QUESTION: usize = 56;
 
@@ -26,17 +25,6 @@ fn say_all(b: &[u8]) {
     }
 }
 
-fn wide(x: u32) -> u64
-    ensures { λ r. ⌜ r ≤ 4294967295 ⌝ }
-{
-    x as u64
-}
-
-// A number of eight bytes.
-fn long(low: u32, high: u32) -> u64 {
-    wide(low) + 4294967296 * wide(high)
-}
-
 fn config_of(b: &[u8]) -> Config {
     Config {
         active_view_capacity: run_input::number(b, 4),
@@ -52,8 +40,8 @@ fn config_of(b: &[u8]) -> Config {
 }
 
 fn say(b: &[u8]) {
-    let earliest = long(run_input::number(b, 0), run_input::number(b, 1));
-    let latest = long(run_input::number(b, 2), run_input::number(b, 3));
+    let earliest = run_input::from_halves(run_input::number(b, 0), run_input::number(b, 1));
+    let latest = run_input::from_halves(run_input::number(b, 2), run_input::number(b, 3));
     let config = config_of(b);
     let k = run_input::number(b, 13);
     let t = shuffle_times::hyparview_shuffle_times(earliest, latest, config, k);

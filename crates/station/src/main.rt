@@ -1,5 +1,5 @@
 // The run program (document 01): standard input is a history, standard output gets the lines of its events.
-use run_input::Layout;
+use run_input::Head;
 use run_listing::Opened;
 use run_walk::Runner;
 ghost use mathlib.Core.Path.{_≡_};
@@ -49,26 +49,26 @@ fn say_events(first: Runner, n: usize, events: &[u8], draws: &[u32], records: &m
 }
 
 // The events of an input, with the numbers that stand where its draws do.
-fn say_layout(b: &[u8], l: Layout, drawn: &[u32], records: &mut [u8; 8192])
-    requires { ⌜ Laid (now b) l ⌝ }
-    requires { ⌜ Counts (l .draws) (now drawn) ⌝ }
-    requires { ⌜ now drawn ≡ numbers (length (now drawn)) 0 (drop (l .«draws_at») (now b)) ⌝ }
+fn say_walk(b: &[u8], head: Head, drawn: &[u32], records: &mut [u8; 8192])
+    requires { ⌜ Laid (now b) head ⌝ }
+    requires { ⌜ Counts (head .draws) (now drawn) ⌝ }
+    requires { ⌜ now drawn ≡ numbers (length (now drawn)) 0 (drop (head .«draws_at») (now b)) ⌝ }
 {
-    let at = l.draws_at;
-    let n = l.draws;
-    let p = run_listing::begin(l);
-    say_events(p, l.events, &b[56..at], &drawn[..n], records);
+    let at = head.draws_at;
+    let n = head.draws;
+    let p = run_listing::begin(head);
+    say_events(p, head.events, &b[Head::BYTES..at], &drawn[..n], records);
 }
 
 // The same, with the space: the longest input has fewer than 16,384 draws, and 8,192 bytes of output always suffice.
-fn say_whole(b: &[u8], l: Layout)
-    requires { ⌜ Laid (now b) l ⌝ }
+fn say_whole(b: &[u8], head: Head)
+    requires { ⌜ Laid (now b) head ⌝ }
 {
     let mut drawn = [0u32; 16384];
     let mut records = [0u8; 8192];
-    let at = l.draws_at;
+    let at = head.draws_at;
     run_input::read_numbers(&b[at..], &mut drawn);
-    say_layout(b, l, &drawn, &mut records);
+    say_walk(b, head, &drawn, &mut records);
 }
 
 // What an input is answered with.
@@ -76,7 +76,7 @@ fn say(b: &[u8]) {
     let o = run_listing::open(b);
     match o {
         Opened::Line(code) => say_end(code, 0),
-        Opened::Events(l) => say_whole(b, l),
+        Opened::Events(head) => say_whole(b, head),
     }
 }
 

@@ -70,8 +70,8 @@ fn show_header(h: Header) {
     word(h.message as u64);
     word(h.flags as u64);
     word(h.nodes as u64);
-    word(h.peer as u64);
-    word(h.second as u64);
+    word(h.peer);
+    word(h.second);
     word(h.ttl as u64);
     word(h.size as u64);
     word(h.number);
@@ -85,7 +85,7 @@ fn show_nodes(b: &[u8], h: Header)
     while i < n {
         let e = record::node(b, i);
         io::write_all(1, b" node");
-        word(e.id as u64);
+        word(e.id);
         word(e.present as u64);
         word(e.len as u64);
         show_bytes(record::node_data(b, e));

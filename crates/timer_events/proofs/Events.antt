@@ -28,7 +28,7 @@ says e t =
       low = leb-true 1 k (and-left (leb 1 k) _ t);
       high = leb-true k 4 (and-left (leb k 4) _ u);
       bare = λ h. or-true (ltb 2 k) f (and-right (leb k 4) _ u) (λ w. absurd (omega (arith, ltb-true 2 k w, h)))
-      (λ w. (eqb-true (e .item .peer) 0 (and-left (eqb (e .item .peer) 0) _ w), eqb-true (e .item .number) 0 (and-right (eqb (e .item .peer) 0) _ w)));
+          (λ w. (eqb-true (e .item .peer) 0 (and-left (eqb (e .item .peer) 0) _ w), eqb-true (e .item .number) 0 (and-right (eqb (e .item .peer) 0) _ w)));
     }
 
 yes-or : (a b : Bool) → (a ≡ false → b ≡ true) → (a || b) ≡ true

@@ -21,10 +21,10 @@ use Rattle.hyparview.specs.Made.{lent, pack-made}
 use Rattle.hyparview.specs.declared.State.{State}
 use Rattle.hyparview.specs.declared.Made.{Made}
 use Rattle.hyparview.specs.Handled.{handled}
-use Rattle.run_input.specs.declared.Layout.{Layout}
+use Rattle.run_input.specs.declared.Head.{Head}
 use Rattle.run_input.specs.declared.Input.{Input}
 use Rattle.run_input.specs.declared.Input.the-variants.{Refused, Whole}
-use Rattle.run_input.specs.Input.{numbers, event-length, cut-events, input-of}
+use Rattle.run_input.specs.Input.{head-length, numbers, event-length, cut-events, input-of}
 use Rattle.run_input.proofs.Laws.{Laid, laid}
 use Rattle.run_walk.specs.declared.Runner.{Runner}
 use Rattle.run_walk.specs.Place.{passed}
@@ -82,14 +82,14 @@ module _ (room : ℕ) (last events draws : List ℕ) (p : Runner) (left : ℕ) (
       let z : left ≡ 0 = omega (arith, h) in
       sym (v .same ∙ ap (λ (x : ℕ). words-after room (p .state .words) (cut-events x (drop (p .at) events)) (drop (p .used) draws)) z)
 
-pub walked : (room : ℕ) (xs ys : List ℕ) (l : Layout) (b ns : List ℕ) → Counts (l .draws) ns → ns ≡ numbers (length ns) 0 (drop (l .«draws_at») b)
-    → ys ≡ words-after room xs (cut-events (l .events) (take (l .«draws_at» - 56) (drop 56 b))) (take (l .draws) ns) → ys ≡ laid-words room xs l b
+pub walked : (room : ℕ) (xs ys : List ℕ) (head : Head) (b ns : List ℕ) → Counts (head .draws) ns → ns ≡ numbers (length ns) 0 (drop (head .«draws_at») b)
+    → ys ≡ words-after room xs (cut-events (head .events) (take (head .«draws_at» - head-length) (drop head-length b))) (take (head .draws) ns) → ys ≡ laid-words room xs head b
 unfolding laid-words
-walked room xs ys l b ns h e k = k ∙ (λ j. words-after room xs (cut-events (l .events) (sym (part-is 56 (l .«draws_at») b) j)) (first-draws b ns l h e j))
+walked room xs ys head b ns h e k = k ∙ (λ j. words-after room xs (cut-events (head .events) (sym (part-is head-length (head .«draws_at») b) j)) (first-draws b ns head h e j))
 
 -- a room that is a part of the output
-pub in-room : (room : ℕ) (xs ys : List ℕ) (l : Layout) (b out : List ℕ) → room ≤ length out → ys ≡ laid-words (length (take room out)) xs l b → ys ≡ laid-words room xs l b
-in-room room xs ys l b out h k = k ∙ ap (λ (x : ℕ). laid-words x xs l b) (sym (counted room out h))
+pub in-room : (room : ℕ) (xs ys : List ℕ) (head : Head) (b out : List ℕ) → room ≤ length out → ys ≡ laid-words (length (take room out)) xs head b → ys ≡ laid-words room xs head b
+in-room room xs ys head b out h k = k ∙ ap (λ (x : ℕ). laid-words x xs head b) (sym (counted room out h))
 
 -- ---- the whole
 
@@ -98,26 +98,26 @@ pub unset : (c : Config) (m : Made) (own : List ℕ) → in-range c ≡ false �
 unfolding P.new pack-made
 unset c m own h e = ap (λ (x : packed.Made). x .words) e ∙ ap (λ (x : P.Made). pack (x .state)) (choose-no _ _ _ (ap (λ (t : Bool). t && short-data (lent false own)) h))
 
-module _ (start : Start) (l : Layout) (b : List ℕ) (m : Made) (own : List ℕ) (e : record { code = m .code; words = m .state .words } ≡ pack-made (P.new (l .me) (lent false own) (l .config))) where
-  made-code : m .code ≡ P.new (l .me) none (l .config) .code
+module _ (start : Start) (head : Head) (b : List ℕ) (m : Made) (own : List ℕ) (e : record { code = m .code; words = m .state .words } ≡ pack-made (P.new (head .me) (lent false own) (head .config))) where
+  made-code : m .code ≡ P.new (head .me) none (head .config) .code
   unfolding pack-made
-  made-code = ap (λ (x : packed.Made). x .code) (made-bare (l .me) (l .config) _ own e)
+  made-code = ap (λ (x : packed.Made). x .code) (made-bare (head .me) (head .config) _ own e)
 
-  made-words : m .state .words ≡ pack (P.new (l .me) none (l .config) .state)
+  made-words : m .state .words ≡ pack (P.new (head .me) none (head .config) .state)
   unfolding pack-made
-  made-words = ap (λ (x : packed.Made). x .words) (made-bare (l .me) (l .config) _ own e)
+  made-words = ap (λ (x : packed.Made). x .words) (made-bare (head .me) (head .config) _ own e)
 
-  pub whole-refused : (r : Ended) → (m .code ≡ 0 → ⊥) → r ≡ record { code = m .code; state = m .state } → r ≡ made-end start (P.new (l .me) none (l .config)) l b
+  pub whole-refused : (r : Ended) → (m .code ≡ 0 → ⊥) → r ≡ record { code = m .code; state = m .state } → r ≡ made-end start (P.new (head .me) none (head .config)) head b
   unfolding made-end
   whole-refused r h k =
       k ∙ ((λ j. ended-at (made-code j) (made-words j)) ∙ sym (choose-no _ _ _ (ap (λ (x : ℕ). eqb x 0) (sym made-code) ∙ ne-eqb _ _ h)))
 
-  pub whole-run : (s last : State) (room : ℕ) → m .code ≡ 0 → Counting start (m .state) s → room ≡ room-of start → last .words ≡ laid-words room (s .words) l b
-      → _≡_ {A = Ended} (record { code = 0; state = last }) (made-end start (P.new (l .me) none (l .config)) l b)
+  pub whole-run : (s last : State) (room : ℕ) → m .code ≡ 0 → Counting start (m .state) s → room ≡ room-of start → last .words ≡ laid-words room (s .words) head b
+      → _≡_ {A = Ended} (record { code = 0; state = last }) (made-end start (P.new (head .me) none (head .config)) head b)
   unfolding made-end
   whole-run s last room h c q k =
-      let first : s .words ≡ pack (counting start (P.new (l .me) none (l .config) .state)) = c .same _ made-words in
-      ap (ended-at 0) (k ∙ (λ i. laid-words (q i) (first i) l b))
+      let first : s .words ≡ pack (counting start (P.new (head .me) none (head .config) .state)) = c .same _ made-words in
+      ap (ended-at 0) (k ∙ (λ i. laid-words (q i) (first i) head b))
       ∙ sym (choose-yes _ _ _ (ap (λ (x : ℕ). eqb x 0) (sym made-code) ∙ eq-eqb _ _ h))
 
 module _ (start : Start) (b : List ℕ) (x : Input) (e : x ≡ input-of b) where
@@ -125,9 +125,9 @@ module _ (start : Start) (b : List ℕ) (x : Input) (e : x ≡ input-of b) where
   unfolding ended-of input-end
   ends-refused r s h z k = k ∙ (ap (ended-at 3) z ∙ ap (λ (y : Input). input-end start y b) (sym h ∙ e))
 
-  pub ends-whole : (l : Layout) (r : Ended) → x ≡ Whole l → r ≡ made-end start (P.new (l .me) none (l .config)) l b → r ≡ ended-of start b
+  pub ends-whole : (head : Head) (r : Ended) → x ≡ Whole head → r ≡ made-end start (P.new (head .me) none (head .config)) head b → r ≡ ended-of start b
   unfolding ended-of input-end
-  ends-whole l r h k = k ∙ ap (λ (y : Input). input-end start y b) (sym h ∙ e)
+  ends-whole head r h k = k ∙ ap (λ (y : Input). input-end start y b) (sym h ∙ e)
 
-  pub there : (l : Layout) → x ≡ Whole l → Laid b l
-  there l h = laid b l (sym e ∙ h)
+  pub there : (head : Head) → x ≡ Whole head → Laid b head
+  there head h = laid b head (sym e ∙ h)

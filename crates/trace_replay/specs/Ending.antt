@@ -14,10 +14,10 @@ use Rattle.protocol.specs.Handle.{Made, new, zero-station}
 use Rattle.rules.specs.Pack.{pack}
 use Rattle.hyparview.specs.declared.State.{State}
 use Rattle.hyparview.specs.Handled.{handled}
-use Rattle.run_input.specs.declared.Layout.{Layout}
+use Rattle.run_input.specs.declared.Head.{Head}
 use Rattle.run_input.specs.declared.Input.{Input}
 use Rattle.run_input.specs.declared.Input.the-variants.{Refused, Whole}
-use Rattle.run_input.specs.Input.{numbers, cut-events, input-of}
+use Rattle.run_input.specs.Input.{head-length, numbers, cut-events, input-of}
 use Rattle.trace_replay.specs.declared.Start.{Start}
 use Rattle.trace_replay.specs.declared.Ended.{Ended}
 
@@ -41,22 +41,22 @@ words-after room xs [] ds = xs
 words-after room xs (b ∷ bs) ds = words-after room (handled xs b ds room .words) bs (drop (handled xs b ds room .draws) ds)
 
 -- the words after the events that stand in b, with its draws
-unfoldable pub laid-words : ℕ → List ℕ → Layout → List ℕ → List ℕ
-laid-words room xs l b = words-after room xs (cut-events (l .events) (slice 56 (l .«draws_at») b)) (numbers (l .draws) 0 (drop (l .«draws_at») b))
+unfoldable pub laid-words : ℕ → List ℕ → Head → List ℕ → List ℕ
+laid-words room xs head b = words-after room xs (cut-events (head .events) (slice head-length (head .«draws_at») b)) (numbers (head .draws) 0 (drop (head .«draws_at») b))
 
 -- a code, and the state of these words
 abbrev pub ended-at : ℕ → List ℕ → Ended
 ended-at code xs = record { code = code; state = record { words = xs } }
 
 -- "otherwise out-of-range settings": the answer of `new`; else code 0 and the state after the last event
-unfoldable pub made-end : Start → Made → Layout → List ℕ → Ended
-made-end start m l b =
-    choose (eqb (m .code) 0) (ended-at 0 (laid-words (room-of start) (pack (counting start (m .state))) l b)) (ended-at (m .code) (pack (m .state)))
+unfoldable pub made-end : Start → Made → Head → List ℕ → Ended
+made-end start m head b =
+    choose (eqb (m .code) 0) (ended-at 0 (laid-words (room-of start) (pack (counting start (m .state))) head b)) (ended-at (m .code) (pack (m .state)))
 
 -- an input that is refused as a whole: code 3, and "a state of zeroes"; "Own data is absent."
 unfoldable pub input-end : Start → Input → List ℕ → Ended
 input-end start Refused b = ended-at 3 (pack zero-station)
-input-end start (Whole l) b = made-end start (new (l .me) none (l .config)) l b
+input-end start (Whole head) b = made-end start (new (head .me) none (head .config)) head b
 
 -- how the history of the input b ends
 unfoldable pub ended-of : Start → List ℕ → Ended

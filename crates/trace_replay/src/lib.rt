@@ -3,8 +3,8 @@ mod event_text;
 
 use hyparview::State;
 use record::Refusal;
+use run_input::Head;
 use run_input::Input;
-use run_input::Layout;
 use run_text::Text;
 use run_walk::Runner;
 use timing::Config;
@@ -151,45 +151,45 @@ fn events(s: State, b: &[u8], n: usize, draws: &[u32], out: &mut [u8], text: &mu
 }
 
 // The events of an input, with the numbers that stand where its draws do.
-fn walk(s: State, b: &[u8], l: Layout, drawn: &[u32], out: &mut [u8], text: &mut [u8]) -> State
-    requires { ⌜ Laid (now b) l ⌝ }
-    requires { ⌜ Counts (l .draws) (now drawn) ⌝ }
-    requires { ⌜ now drawn ≡ numbers (length (now drawn)) 0 (drop (l .«draws_at») (now b)) ⌝ }
-    ensures { λ r. ⌜ r .words ≡ laid-words (length (now (out .entry))) (s .words) l (now (b .entry)) ⌝ }
+fn walk(s: State, b: &[u8], head: Head, drawn: &[u32], out: &mut [u8], text: &mut [u8]) -> State
+    requires { ⌜ Laid (now b) head ⌝ }
+    requires { ⌜ Counts (head .draws) (now drawn) ⌝ }
+    requires { ⌜ now drawn ≡ numbers (length (now drawn)) 0 (drop (head .«draws_at») (now b)) ⌝ }
+    ensures { λ r. ⌜ r .words ≡ laid-words (length (now (out .entry))) (s .words) head (now (b .entry)) ⌝ }
 {
-    let at = l.draws_at;
-    let n = l.draws;
-    events(s, &b[56..at], l.events, &drawn[..n], out, text)
+    let at = head.draws_at;
+    let n = head.draws;
+    events(s, &b[Head::BYTES..at], head.events, &drawn[..n], out, text)
 }
 
 // The same, with the space: the longest input has fewer than 16,384 draws, and the longest text is under 32,768 bytes.
-fn with_space(s: State, b: &[u8], l: Layout, room: usize) -> State
-    requires { ⌜ Laid (now b) l ⌝ }
+fn with_space(s: State, b: &[u8], head: Head, room: usize) -> State
+    requires { ⌜ Laid (now b) head ⌝ }
     requires { ⌜ room ≤ 8192 ⌝ }
-    ensures { λ r. ⌜ r .words ≡ laid-words room (s .words) l (now (b .entry)) ⌝ }
+    ensures { λ r. ⌜ r .words ≡ laid-words room (s .words) head (now (b .entry)) ⌝ }
 {
     let mut drawn = [0u32; 16384];
     let mut out = [0u8; 8192];
     let mut text = [0u8; 32768];
-    let at = l.draws_at;
+    let at = head.draws_at;
     run_input::read_numbers(&b[at..], &mut drawn);
-    walk(s, b, l, &drawn, &mut out[..room], &mut text)
+    walk(s, b, head, &drawn, &mut out[..room], &mut text)
 }
 
 // An input that is not refused: the answer of `new`, or its events.
-fn whole(b: &[u8], l: Layout, start: Start) -> Ended
-    requires { ⌜ Laid (now b) l ⌝ }
-    ensures { λ r. ⌜ r ≡ made-end start (new (l .me) none (l .config)) l (now (b .entry)) ⌝ }
+fn whole(b: &[u8], head: Head, start: Start) -> Ended
+    requires { ⌜ Laid (now b) head ⌝ }
+    ensures { λ r. ⌜ r ≡ made-end start (new (head .me) none (head .config)) head (now (b .entry)) ⌝ }
 {
-    let config = l.config;
-    let m = State::new(l.me, false, b"", config);
+    let config = head.config;
+    let m = State::new(head.me, false, b"", config);
     let fresh = m.state;
     if m.code != 0 {
         return refused(m.code, fresh);
     }
     let s = started(fresh, start);
     let room = room_of(start);
-    let last = with_space(s, b, l, room);
+    let last = with_space(s, b, head, room);
     Ended {
         code: 0,
         state: last,
@@ -206,6 +206,6 @@ pub fn history(b: &[u8], start: Start) -> Ended
             let none = zeroes();
             refused(Refusal::MALFORMED, none)
         }
-        Input::Whole(l) => whole(b, l, start),
+        Input::Whole(head) => whole(b, head, start),
     }
 }

@@ -1,22 +1,15 @@
 // Standard input holds histories one after another; standard output gets their traces, each ended by an empty line.
 // A history is a head of 32 bytes and then its input. The head has the input's length and the room (4 bytes each), the next request and the next join (8 each), and the two pass counts (4 each).
 use trace_replay::Start;
-ghost use Prim.Native.Nat.{_≤_};
-
-// The number of 8 bytes whose lower half is the i-th number of 4.
-fn wide(head: &[u8], i: usize) -> u64
-    requires { ⌜ i ≤ 100 ⌝ }
-{
-    let low = run_input::number(head, i) as u64;
-    let high = run_input::number(head, i + 1) as u64;
-    low + 4294967296 * high
-}
 
 fn start_of(head: &[u8]) -> Start {
     Start {
         room: run_input::number(head, 1) as usize,
-        next_neighbor_request: wide(head, 2),
-        next_join: wide(head, 4),
+        next_neighbor_request: run_input::from_halves(
+            run_input::number(head, 2),
+            run_input::number(head, 3),
+        ),
+        next_join: run_input::from_halves(run_input::number(head, 4), run_input::number(head, 5)),
         passes_alone: run_input::number(head, 6),
         passes_short: run_input::number(head, 7),
     }

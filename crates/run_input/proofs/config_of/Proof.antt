@@ -6,26 +6,50 @@ use Rattle.run_input.proofs.config_of.Tie as tie
 number-requires : tie.Need-number-requires
 number-requires c κs = search needs
 
+add-number : tie.Need-add-number
+add-number c = search needs
+
 number-requires-2 : tie.Need-number-requires-2
 number-requires-2 c κs = search needs
+
+add-number-2 : tie.Need-add-number-2
+add-number-2 c = search needs
 
 number-requires-3 : tie.Need-number-requires-3
 number-requires-3 c κs = search needs
 
+add-number-3 : tie.Need-add-number-3
+add-number-3 c = search needs
+
 number-requires-4 : tie.Need-number-requires-4
 number-requires-4 c κs = search needs
+
+add-number-4 : tie.Need-add-number-4
+add-number-4 c = search needs
 
 number-requires-5 : tie.Need-number-requires-5
 number-requires-5 c κs = search needs
 
+add-number-5 : tie.Need-add-number-5
+add-number-5 c = search needs
+
 number-requires-6 : tie.Need-number-requires-6
 number-requires-6 c κs = search needs
+
+add-number-6 : tie.Need-add-number-6
+add-number-6 c = search needs
 
 number-requires-7 : tie.Need-number-requires-7
 number-requires-7 c κs = search needs
 
+add-number-7 : tie.Need-add-number-7
+add-number-7 c = search needs
+
 number-requires-8 : tie.Need-number-requires-8
 number-requires-8 c κs = search needs
+
+add-number-8 : tie.Need-add-number-8
+add-number-8 c = search needs
 
 number-requires-9 : tie.Need-number-requires-9
 number-requires-9 c κs = search needs
@@ -39,12 +63,20 @@ config-of-spec =
     tie.close
     (tie.spec
     number-requires
+    add-number
     number-requires-2
+    add-number-2
     number-requires-3
+    add-number-3
     number-requires-4
+    add-number-4
     number-requires-5
+    add-number-5
     number-requires-6
+    add-number-6
     number-requires-7
+    add-number-7
     number-requires-8
+    add-number-8
     number-requires-9
     returns)

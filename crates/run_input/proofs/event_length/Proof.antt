@@ -4,9 +4,10 @@ use mathlib.Core.List.{List}
 use native.Mathlib.Omega.{arith}
 use lib.ListN.{length, take, drop, length-drop}
 use lib.Seq.{take-all}
-use Rattle.lists.specs.Bytes.{read-le}
 use Rattle.record.specs.declared.Header.{Header}
+use Rattle.record.specs.Format.{header-length}
 use Rattle.record.specs.Read.{header-of, header-of-by}
+use Rattle.record.specs.Walk.{whole-length}
 use Rattle.run_input.specs.Input.{event-length}
 use Rattle.run_input.proofs.Laws.{event-none, event-cut}
 use borrow.Author.Needs.{needs}
@@ -24,21 +25,21 @@ module _ (b : List ℕ) (at : ℕ) where
   past : length b < at → 0 ≡ event-length (drop at b)
   past h = sym (event-none (drop at b) (λ p q. omega (arith, length-drop at b)))
 
-  short : length rest < 24 → 0 ≡ event-length (drop at b)
+  short : length rest < header-length → 0 ≡ event-length (drop at b)
   short h = sym (event-none (drop at b) (λ p q. omega (arith, ap length rest-is)))
 
   module _ (h : Header) (e : h ≡ header-of rest) where
-    size-is : h .size ≡ read-le 2 (drop at b) 14
-    unfolding header-of-by
-    size-is = ap (λ (g : Header). g .size) e ∙ ap (λ (l : List ℕ). read-le 2 l 14) rest-is
+    size-is : h .size ≡ whole-length (drop at b)
+    unfolding header-of-by whole-length
+    size-is = ap (λ (g : Header). g .size) e ∙ ap whole-length rest-is
 
-    small : h .size < 24 → 0 ≡ event-length (drop at b)
+    small : h .size < header-length → 0 ≡ event-length (drop at b)
     small l = sym (event-none (drop at b) (λ p q. omega (arith, size-is)))
 
     over : length rest < h .size → 0 ≡ event-length (drop at b)
     over l = sym (event-none (drop at b) (λ p q. omega (arith, size-is, ap length rest-is)))
 
-    cut : 24 ≤ h .size → h .size ≤ length rest → h .size ≡ event-length (drop at b)
+    cut : header-length ≤ h .size → h .size ≤ length rest → h .size ≡ event-length (drop at b)
     cut l m = size-is ∙ sym (event-cut (drop at b) (omega (arith, size-is)) (omega (arith, size-is, ap length rest-is)))
 
 returns : tie.Need-returns

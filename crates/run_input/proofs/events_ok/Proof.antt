@@ -7,23 +7,23 @@ use lib.ListN.{length, take, drop}
 use lib.Seq.{slice}
 use borrow.Author.Needs.{needs}
 use Rattle.lists.proofs.Slices.{slice-part}
-use Rattle.run_input.specs.Input.{number, are-events, places-ok, events-part, events-ok}
+use Rattle.run_input.specs.Input.{head-length, event-count, draw-offset, number, are-events, places-ok, events-part, events-ok}
 use Rattle.run_input.proofs.Laws.{places-true}
 use Rattle.run_input.proofs.events_ok.Statement.{statement}
 use Rattle.run_input.proofs.events_ok.Tie as tie
 
-module _ (b : List ℕ) (end : ℕ) (e : end ≡ number b 13) (p : places-ok b ≡ true) where
-  from : 56 ≤ end
+module _ (b : List ℕ) (end : ℕ) (e : end ≡ number b draw-offset) (p : places-ok b ≡ true) where
+  from : head-length ≤ end
   from = omega (arith, places-true b p)
 
   upto : end ≤ length b
   upto = omega (arith, places-true b p)
 
-  filled : (n : ℕ) (r : Bool) → n ≡ number b 10 → r ≡ are-events n (take (end - 56) (drop 56 b)) → r ≡ events-ok b
+  filled : (n : ℕ) (r : Bool) → n ≡ number b event-count → r ≡ are-events n (take (end - head-length) (drop head-length b)) → r ≡ events-ok b
   unfolding events-ok events-part
   filled n r q h =
-      let k : 56 + (end - 56) ≡ number b 13 = omega (arith, from) in
-      h ∙ rw q (ap (are-events (number b 10)) (slice-part 56 (end - 56) b ∙ ap (λ (t : ℕ). slice 56 t b) k))
+      let k : head-length + (end - head-length) ≡ number b draw-offset = omega (arith, from) in
+      h ∙ rw q (ap (are-events (number b event-count)) (slice-part head-length (end - head-length) b ∙ ap (λ (t : ℕ). slice head-length t b) k))
 
 number-requires : tie.Need-number-requires
 number-requires c κs = search needs

@@ -12,8 +12,8 @@ enum-told c = search needs
 enum-known-i : tie.Need-enum-known-i
 enum-known-i c = search needs
 
-open-layout-requires : tie.Need-open-layout-requires
-open-layout-requires c κs = search needs
+open-head-requires : tie.Need-open-head-requires
+open-head-requires c κs = search needs
 
 returns : tie.Need-returns
 returns c = search (open-refused, needs)
@@ -24,4 +24,4 @@ returns-2 c = search (open-whole, needs)
 pub open-spec : {M : Type 1} → statement M
 open-spec =
     tie.close
-    (tie.spec read-requires enum-told enum-known-i open-layout-requires returns returns-2)
+    (tie.spec read-requires enum-told enum-known-i open-head-requires returns returns-2)

@@ -9,12 +9,6 @@ cast-kind c = search needs
 cast-message : tie.Need-cast-message
 cast-message c = search needs
 
-cast-peer : tie.Need-cast-peer
-cast-peer c = search needs
-
-cast-second : tie.Need-cast-second
-cast-second c = search needs
-
 cast-ttl : tie.Need-cast-ttl
 cast-ttl c = search needs
 
@@ -34,4 +28,4 @@ returns : tie.Need-returns
 returns c = record-put _ _ _ _ _ _ _ _ (c .before .before .put-four2 .ensures) (c .before .before .before .before .before .before .put-four .ensures)
 
 pub put-record-spec : {M : Type 1} → statement M
-put-record-spec = tie.close (tie.spec cast-kind cast-message cast-peer cast-second cast-ttl cast-nodes put-four-requires put-four-requires-2 same-length returns)
+put-record-spec = tie.close (tie.spec cast-kind cast-message cast-ttl cast-nodes put-four-requires put-four-requires-2 same-length returns)

@@ -19,11 +19,11 @@ slice-aggregate-read-numbers c = search needs
 read-numbers-requires : tie.Need-read-numbers-requires
 read-numbers-requires c κs = search needs
 
-slice-aggregate-say-layout : tie.Need-slice-aggregate-say-layout
-slice-aggregate-say-layout c = search needs
+slice-aggregate-say-walk : tie.Need-slice-aggregate-say-walk
+slice-aggregate-say-walk c = search needs
 
-say-layout-requires : tie.Need-say-layout-requires
-say-layout-requires c κs = (c .before .before .before .before .before .before .before .pre, numbers-read _ _ _ _ (c .before .before .before .before .before .before .before .pre) refl (c .before .before .before .read-numbers .ensures))
+say-walk-requires : tie.Need-say-walk-requires
+say-walk-requires c κs = (c .before .before .before .before .before .before .before .pre, numbers-read _ _ _ _ (c .before .before .before .before .before .before .before .pre) refl (c .before .before .before .read-numbers .ensures))
 
 returns : tie.Need-returns
 returns c = search needs
@@ -37,6 +37,6 @@ say-whole-spec =
     part-read-numbers-end
     slice-aggregate-read-numbers
     read-numbers-requires
-    slice-aggregate-say-layout
-    say-layout-requires
+    slice-aggregate-say-walk
+    say-walk-requires
     returns)

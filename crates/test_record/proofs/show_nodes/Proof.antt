@@ -6,6 +6,7 @@ use mathlib.Core.List.{List}
 use native.Mathlib.Omega.{arith}
 use borrow.Author.Needs.{needs}
 use lib.ListN.{length}
+use Rattle.record.specs.Format.{header-length, node-length}
 use Rattle.record.specs.Read.{header-of, entry-at, well-formed}
 use Rattle.record.specs.declared.Header.{Header}
 use Rattle.record.specs.declared.Entry.{Entry}
@@ -23,7 +24,7 @@ start : (b : List ℕ) (h : Header) → Found b h → Inv b (h .nodes) 0
 start b h f = record { low = omega arith; well = f .well; count = omega (arith, ap (λ (g : Header). g .nodes) (f .header)) }
 
 module _ (b : List ℕ) (n i : ℕ) (v : Inv b n i) (l : i < n) where
-  room : 24 + 8 * i + 8 ≤ length b
+  room : header-length + node-length * i + node-length ≤ length b
   room = entry-room b i (v .well) (omega (arith, v .count))
 
   within : (e : Entry) → e ≡ entry-at b i → e .offset + e .len ≤ length b
@@ -50,20 +51,17 @@ slice-aggregate-write-all c = search needs
 write-all-requires : tie.Need-write-all-requires Inv-loop μ-loop
 write-all-requires c κs = search needs
 
-cast-word : tie.Need-cast-word Inv-loop μ-loop
-cast-word c = search needs
-
 word-requires : tie.Need-word-requires Inv-loop μ-loop
 word-requires c κs = search needs
 
-cast-word-2 : tie.Need-cast-word-2 Inv-loop μ-loop
-cast-word-2 c = search needs
+cast-word : tie.Need-cast-word Inv-loop μ-loop
+cast-word c = search needs
 
 word-requires-2 : tie.Need-word-requires-2 Inv-loop μ-loop
 word-requires-2 c κs = search needs
 
-cast-word-3 : tie.Need-cast-word-3 Inv-loop μ-loop
-cast-word-3 c = search needs
+cast-word-2 : tie.Need-cast-word-2 Inv-loop μ-loop
+cast-word-2 c = search needs
 
 word-requires-3 : tie.Need-word-requires-3 Inv-loop μ-loop
 word-requires-3 c κs = search needs
@@ -97,11 +95,10 @@ show-nodes-spec =
     node-requires
     slice-aggregate-write-all
     write-all-requires
-    cast-word
     word-requires
-    cast-word-2
+    cast-word
     word-requires-2
-    cast-word-3
+    cast-word-2
     word-requires-3
     node-data-requires
     show-bytes-requires

@@ -1,6 +1,6 @@
 use borrow.Author.Needs.{needs}
-use Rattle.station.proofs.say_layout.Statement.{statement}
-use Rattle.station.proofs.say_layout.Tie as tie
+use Rattle.station.proofs.say_walk.Statement.{statement}
+use Rattle.station.proofs.say_walk.Tie as tie
 
 begin-requires : tie.Need-begin-requires
 begin-requires c κs = search needs
@@ -23,8 +23,8 @@ say-events-requires c κs = search needs
 returns : tie.Need-returns
 returns c = search needs
 
-pub say-layout-spec : {M : Type 1} → statement M
-say-layout-spec =
+pub say-walk-spec : {M : Type 1} → statement M
+say-walk-spec =
     tie.close
     (tie.spec
     begin-requires
