@@ -315,9 +315,9 @@ pub fn remove_data(m: &mut [u64], cap: usize, p: PeerId)
 }
 
 // The places of the active view, of the passive view and of the requests, and of the peers of all three together.
-const FEW: usize = 8;
+pub const ACTIVE_PLACES: usize = 8;
 
-const ALL: usize = 32;
+pub const PASSIVE_PLACES: usize = 32;
 
 pub const KNOWN: usize = 72;
 
@@ -330,11 +330,11 @@ pub fn data_peers(active: &[u64], passive: &[u64], requests: &[u64], v: &mut [u6
     ensures { λ _. ⌜ HoldsSet 72 (now (v .exit)) (items-at 8 (now (active .entry)) ++ (items-at 32 (now (passive .entry)) ++ keys (numbers-at 32 (now (requests .entry))))) ⌝ }
 {
     let mut asked = [0u64; 33];
-    keys_into(requests, ALL, &mut asked);
+    keys_into(requests, PASSIVE_PLACES, &mut asked);
     util::clear(v, KNOWN);
-    util::append(v, KNOWN, active, FEW);
-    util::append(v, KNOWN, passive, ALL);
-    util::append(v, KNOWN, &asked, ALL);
+    util::append(v, KNOWN, active, ACTIVE_PLACES);
+    util::append(v, KNOWN, passive, PASSIVE_PLACES);
+    util::append(v, KNOWN, &asked, PASSIVE_PLACES);
 }
 
 // Whether every peer of the map is in the set.

@@ -21,10 +21,8 @@ const ASKED_PEERS_END: usize = Layout::ASKED + Layout::ALL;
 
 const JOINS_PEERS_END: usize = Layout::JOINS + Layout::FEW;
 
-// One more than the greatest peer, and the greatest pass count.
+// One more than the greatest peer.
 const PEERS_END: u64 = 4294967296;
-
-const TOP_PASSES: u64 = 4294967295;
 
 // ---- tests of a whole list
 
@@ -348,8 +346,8 @@ fn width_rule(st: &[u64]) -> bool
         & (is_narrow(&st[Layout::ACTIVE..ASKED_PEERS_END])
             & (is_narrow(&st[Layout::BOOTSTRAP..JOINS_PEERS_END])
                 & (data_narrow(&st[Layout::HELD..Layout::HELD_END], Layout::DATA_CAP)
-                    & ((st[Layout::PASSES_ALONE] <= TOP_PASSES)
-                        & (st[Layout::PASSES_SHORT] <= TOP_PASSES)))))
+                    & ((st[Layout::PASSES_ALONE] <= state::TOP_PASSES)
+                        & (st[Layout::PASSES_SHORT] <= state::TOP_PASSES)))))
 }
 
 // 02, S-5: no data is held of a peer in neither view and without an open request.
