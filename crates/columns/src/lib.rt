@@ -17,7 +17,7 @@ ghost use Rattle.peer.specs.Held.{data-in, ValidData, HoldsData};
 ghost use Rattle.peer.specs.Maps.{number-in, valid-entry};
 ghost use Rattle.scan.specs.Words.{unused};
 ghost use Rattle.util.specs.Section.{part, Filled, items-at, ValidSet, HoldsSet};
-ghost use Rattle.columns.specs.Columns.{numbers-at, ValidNumbers, HoldsNumbers, valid-numbers, Two, word-bytes, row, entries-at, data-at, ValidDataWords, HoldsDataWords, valid-data-words};
+ghost use Rattle.columns.specs.Columns.{numbers-at, ValidNumbers, HoldsNumbers, valid-numbers, Two, word-bytes, row, entries-at, data-map-at, ValidDataWords, HoldsDataWords, valid-data-words};
 
 // A peer with its data.
 pub struct PeerInfo {
@@ -235,7 +235,7 @@ pub fn numbers_valid(m: &[u64], cap: usize) -> bool
 
 pub fn count_data(m: &[u64], cap: usize) -> usize
     requires { ⌜ ValidDataWords cap (now m) ⌝ }
-    ensures { λ r. ⌜ (r ≡ length (data-at cap (now (m .entry)))) × (r ≤ cap) ⌝ }
+    ensures { λ r. ⌜ (r ≡ length (data-map-at cap (now (m .entry)))) × (r ≤ cap) ⌝ }
 {
     let half = cap + cap;
     let end = half + half;
@@ -244,7 +244,7 @@ pub fn count_data(m: &[u64], cap: usize) -> usize
 
 pub fn contains_data(m: &[u64], cap: usize, p: PeerId) -> bool
     requires { ⌜ ValidDataWords cap (now m) ⌝ }
-    ensures { λ r. ⌜ r ≡ has p (data-at cap (now (m .entry))) ⌝ }
+    ensures { λ r. ⌜ r ≡ has p (data-map-at cap (now (m .entry))) ⌝ }
 {
     let half = cap + cap;
     let end = half + half;
@@ -255,7 +255,7 @@ pub fn contains_data(m: &[u64], cap: usize, p: PeerId) -> bool
 
 pub fn get_data(m: &[u64], cap: usize, p: PeerId) -> PeerData
     requires { ⌜ ValidDataWords cap (now m) ⌝ }
-    ensures { λ r. ⌜ HoldsData r (lookup p (data-at cap (now (m .entry)))) ⌝ }
+    ensures { λ r. ⌜ HoldsData r (lookup p (data-map-at cap (now (m .entry)))) ⌝ }
 {
     let half = cap + cap;
     let end = half + half;
@@ -277,7 +277,7 @@ pub fn get_data(m: &[u64], cap: usize, p: PeerId) -> PeerData
 pub fn holds_data(m: &[u64], cap: usize, p: PeerId, d: PeerData) -> bool
     requires { ⌜ ValidDataWords cap (now m) ⌝ }
     requires { ⌜ ValidData d ⌝ }
-    ensures { λ r. ⌜ r ≡ holds (lookup p (data-at cap (now (m .entry)))) (bytes-of (data-in d)) ⌝ }
+    ensures { λ r. ⌜ r ≡ holds (lookup p (data-map-at cap (now (m .entry)))) (bytes-of (data-in d)) ⌝ }
 {
     let half = cap + cap;
     let end = half + half;
@@ -300,7 +300,7 @@ pub fn holds_data(m: &[u64], cap: usize, p: PeerId, d: PeerData) -> bool
 
 pub fn remove_data(m: &mut [u64], cap: usize, p: PeerId)
     requires { ⌜ ValidDataWords cap (now m) ⌝ }
-    ensures { λ _. ⌜ HoldsDataWords cap (now (m .exit)) (cut p (data-at cap (now (m .entry)))) ⌝ }
+    ensures { λ _. ⌜ HoldsDataWords cap (now (m .exit)) (cut p (data-map-at cap (now (m .entry)))) ⌝ }
 {
     let half = cap + cap;
     let end = half + half;
@@ -341,7 +341,7 @@ pub fn data_peers(active: &[u64], passive: &[u64], requests: &[u64], v: &mut [u6
 pub fn data_within(m: &[u64], cap: usize, s: &[u64], scap: usize) -> bool
     requires { ⌜ ValidDataWords cap (now m) ⌝ }
     requires { ⌜ ValidSet scap (now s) ⌝ }
-    ensures { λ r. ⌜ r ≡ subset (keys (data-at cap (now (m .entry)))) (items-at scap (now (s .entry))) ⌝ }
+    ensures { λ r. ⌜ r ≡ subset (keys (data-map-at cap (now (m .entry)))) (items-at scap (now (s .entry))) ⌝ }
 {
     let half = cap + cap;
     let end = half + half;
@@ -354,7 +354,7 @@ pub fn data_within(m: &[u64], cap: usize, s: &[u64], scap: usize) -> bool
 pub fn retain_data(m: &mut [u64], cap: usize, s: &[u64], scap: usize)
     requires { ⌜ ValidDataWords cap (now m) ⌝ }
     requires { ⌜ ValidSet scap (now s) ⌝ }
-    ensures { λ _. ⌜ HoldsDataWords cap (now (m .exit)) (retain (items-at scap (now (s .entry))) (data-at cap (now (m .entry)))) ⌝ }
+    ensures { λ _. ⌜ HoldsDataWords cap (now (m .exit)) (retain (items-at scap (now (s .entry))) (data-map-at cap (now (m .entry)))) ⌝ }
 {
     if data_within(m, cap, s, scap) {
         return;
@@ -376,8 +376,8 @@ pub fn retain_data(m: &mut [u64], cap: usize, s: &[u64], scap: usize)
 pub fn insert_data(m: &mut [u64], cap: usize, p: PeerId, d: PeerData)
     requires { ⌜ ValidDataWords cap (now m) ⌝ }
     requires { ⌜ ValidData d ⌝ }
-    requires { ⌜ (has p (data-at cap (now m)) || ltb (length (data-at cap (now m))) cap) ≡ true ⌝ }
-    ensures { λ _. ⌜ HoldsDataWords cap (now (m .exit)) (put p (bytes-of (data-in d)) (data-at cap (now (m .entry)))) ⌝ }
+    requires { ⌜ (has p (data-map-at cap (now m)) || ltb (length (data-map-at cap (now m))) cap) ≡ true ⌝ }
+    ensures { λ _. ⌜ HoldsDataWords cap (now (m .exit)) (put p (bytes-of (data-in d)) (data-map-at cap (now (m .entry)))) ⌝ }
 {
     let half = cap + cap;
     let end = half + half;

@@ -20,7 +20,7 @@ use Rattle.lists.proofs.Entries.{entries-values}
 use Rattle.scan.proofs.Loops.{Left, left-start, left-next, left-end}
 use Rattle.util.specs.Section.{part, items-at, ValidSet, valid-set}
 use Rattle.util.proofs.Sets.{lent}
-use Rattle.columns.specs.Columns.{word-bytes, row, numbers-at, ValidNumbers, valid-numbers, head-of, count-of, data-at, ValidDataWords, valid-data-words}
+use Rattle.columns.specs.Columns.{word-bytes, row, numbers-at, ValidNumbers, valid-numbers, head-of, count-of, data-map-at, ValidDataWords, valid-data-words}
 use Rattle.columns.proofs.Numbers.{number-entries, number-keys}
 use Rattle.columns.proofs.Data.{data-keys}
 use Rattle.peer.specs.Held.{zero-byte, valid-data}
@@ -95,17 +95,17 @@ under-last e (x ∷ y ∷ ys) (suc i) r h =
     (λ a. t ∙ a ∙ sym (ap (λ (b : Bool). ltb x e && b) a ∙ and-no (ltb x e)))
 
 module _ (n : ℕ) (m : List ℕ) (v : ValidDataWords n m) where
-  pub no-data-under : (e : ℕ) → count-of n m ≡ 0 → true ≡ all-under e (keys (data-at n m))
+  pub no-data-under : (e : ℕ) → count-of n m ≡ 0 → true ≡ all-under e (keys (data-map-at n m))
   unfolding all-under
   no-data-under e z = ap (all-under e) (sym (data-keys n m v ∙ ap (λ (k : ℕ). take k (head-of n m)) z))
 
-  pub data-last : (e : ℕ) → (count-of n m ≡ 0 → ⊥) → ltb (getD m (count-of n m - 1) 0) e ≡ all-under e (keys (data-at n m))
+  pub data-last : (e : ℕ) → (count-of n m ≡ 0 → ⊥) → ltb (getD m (count-of n m - 1) 0) e ≡ all-under e (keys (data-map-at n m))
   unfolding part head-of
   data-last e h =
       let i : ℕ = count-of n m - 1 in
-      let g : getD (keys (data-at n m)) i 0 ≡ getD m i 0 =
+      let g : getD (keys (data-map-at n m)) i 0 ≡ getD m i 0 =
       ap (λ (l : List ℕ). getD l i 0) (data-keys n m v) ∙ getD-take (count-of n m) (head-of n m) i 0 (omega arith) ∙ getD-take (n + n) m i 0 (omega (arith, v .fits)) in
-      ap (λ (x : ℕ). ltb x e) (sym g) ∙ under-last e (keys (data-at n m)) i (v .rises) (omega (arith, length-keys (data-at n m), v .counted))
+      ap (λ (x : ℕ). ltb x e) (sym g) ∙ under-last e (keys (data-map-at n m)) i (v .rises) (omega (arith, length-keys (data-map-at n m), v .counted))
 
 pub numbers-are : (n : ℕ) (m : List (ℕ × ℕ)) → numbers-under n m ≡ all-under n (values m)
 unfolding numbers-under all-under values

@@ -18,7 +18,7 @@ use Rattle.lists.proofs.Tests.{both-true, and-no}
 use Rattle.lists.proofs.Entries.{entries-values}
 use Rattle.util.specs.Section.{part, items-at, ValidSet, section}
 use Rattle.util.proofs.Sets.{set-words}
-use Rattle.columns.specs.Columns.{word-bytes, rows, count-of, entries-at, numbers-at, ValidNumbers, data-at, ValidDataWords}
+use Rattle.columns.specs.Columns.{word-bytes, rows, count-of, entries-at, numbers-at, ValidNumbers, data-map-at, ValidDataWords}
 use Rattle.columns.proofs.Numbers.{number-entries, number-keys}
 use Rattle.columns.proofs.Data.{data-entries}
 use Rattle.peer.specs.Data.{Data, bytes-of}
@@ -125,7 +125,7 @@ own-under : (xs : List ℕ) → all-under bytes-end (bytes-of (data-in (own-at x
 unfolding data-in own-at bytes-of all-under
 own-under xs = by-choice (λ (d : Data). all-under bytes-end (bytes-of d) ≡ true) _ (λ t. word-under (layout.own-len xs) (layout.own-low xs) (layout.own-high xs)) (λ t. refl)
 
-held-under : (m : List ℕ) → ValidDataWords 80 m → lists-under bytes-end (values (data-at 80 m)) ≡ true
+held-under : (m : List ℕ) → ValidDataWords 80 m → lists-under bytes-end (values (data-map-at 80 m)) ≡ true
 unfolding entries-at
 held-under m v = ap (lists-under bytes-end) (entries-values no-data 80 entry-bytes ValidEntry _ _ _ _ (data-entries 80 m v)) ∙ rows-under (count-of 80 m) _ _ _
 
@@ -150,7 +150,7 @@ reordered true true true false f true true true true true z = refl
 reordered true true true true false true true true true true z = refl
 reordered true true true true true true true true true true z = refl
 
-pub width-is : (xs : List ℕ) → packed-ok xs ≡ true → (a b c : Bool) → a ≡ all-under peers-end (part 22 140 xs) → b ≡ all-under peers-end (part 195 26 xs) → c ≡ all-under peers-end (keys (data-at 80 (layout.peer-data-part xs)))
+pub width-is : (xs : List ℕ) → packed-ok xs ≡ true → (a b c : Bool) → a ≡ all-under peers-end (part 22 140 xs) → b ≡ all-under peers-end (part 195 26 xs) → c ≡ all-under peers-end (keys (data-map-at 80 (layout.peer-data-part xs)))
     → (ltb (layout.me xs) peers-end && (a && (b && (c && (leb (layout.passes-alone xs) top-passes && leb (layout.passes-short xs) top-passes))))) ≡ width-rule (unpack xs)
 unfolding width-rule unpack station-of lists-under all-under
 width-is xs e a b c p q r =

@@ -10,7 +10,7 @@ ghost use Rattle.timing.specs.Timing.{within};
 ghost use Rattle.peer.specs.Held.{valid-data};
 ghost use Rattle.peer.specs.Maps.{numbers-under};
 ghost use Rattle.util.specs.Section.{items-at, ValidSet};
-ghost use Rattle.columns.specs.Columns.{numbers-at, ValidNumbers, data-at, ValidDataWords};
+ghost use Rattle.columns.specs.Columns.{numbers-at, ValidNumbers, data-map-at, ValidDataWords};
 ghost use Rattle.protocol.specs.Rules.{all-under, settings-rule, repeats-rule, order-rule, capacity-rule, views-rule, alive-rule};
 ghost use Rattle.protocol.specs.Rules.{joins-rule, numbers-rule, self-rule, limit-rule, interval-rule, width-rule, held-rule, station-ok};
 ghost use Rattle.state.specs.Unpack.{unpack, own-at};
@@ -87,7 +87,7 @@ fn peers_apart(m: &[u64], cap: usize, s: &[u64], scap: usize) -> bool
 // Whether every peer that has data has 32 bits: they rise, so the last one decides.
 fn data_narrow(m: &[u64], cap: usize) -> bool
     requires { ⌜ ValidDataWords cap (now m) ⌝ }
-    ensures { λ r. ⌜ r ≡ all-under 4294967296 (keys (data-at cap (now (m .entry)))) ⌝ }
+    ensures { λ r. ⌜ r ≡ all-under 4294967296 (keys (data-map-at cap (now (m .entry)))) ⌝ }
 {
     let half = cap + cap;
     let end = half + half;
