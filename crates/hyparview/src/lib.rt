@@ -27,7 +27,7 @@ ghost use Rattle.state.specs.Work.{work-of, run, Changes, Fine, Does};
 ghost use Rattle.rules.specs.Ok.{state-ok};
 ghost use Rattle.hyparview.specs.Made.{lent, pack-made, Own, with-own, with-views, with-walks, with-times, made};
 ghost use Rattle.step_messages.specs.Between.{Between};
-ghost use Rattle.hyparview.specs.Handled.{cleared, refusal, ended, handled};
+ghost use Rattle.hyparview.specs.Handled.{cleared, refused-words, ended, handled};
 ghost use Rattle.hyparview.specs.Begun.{Headed, Single, ReadAs, Opens, timer-expired};
 ghost use mathlib.Core.List.{[]};
 ghost use Rattle.lists.specs.Array.{pad};
@@ -250,7 +250,7 @@ fn copy_words(a: &[u64], b: &mut [u64])
 
 // Zeroes only, and no draw; the words stay as they are.
 fn refuse(st: &[u64], out: &mut [u8], code: u32) -> Done
-    ensures { λ r. ⌜ record { code = r .code; draws = r .draws; words = now (st .entry); output = now (out .exit) } ≡ refusal code (now (st .entry)) (length (now (out .entry))) ⌝ }
+    ensures { λ r. ⌜ record { code = r .code; draws = r .draws; words = now (st .entry); output = now (out .exit) } ≡ refused-words code (now (st .entry)) (length (now (out .entry))) ⌝ }
 {
     clear(out, 0);
     Done {
@@ -502,40 +502,40 @@ pub struct State {
 }
 
 // What a call by value hands back: its code, the state, and how many draws are used.
-pub struct Answer {
+pub struct HandledState {
     pub code: u32,
     pub state: State,
     pub draws: usize,
 }
 
 // What `new` by value hands back: code 0 and the state, or code 1 and a state of zeroes.
-pub struct Made {
+pub struct MadeState {
     pub code: u32,
     pub state: State,
 }
 
 impl State {
     // The state of a station that has met no event.
-    pub fn new(me: u32, present: bool, own: &[u8], config: Config) -> Made
+    pub fn new(me: u32, present: bool, own: &[u8], config: Config) -> MadeState
         ensures { λ r. ⌜ record { code = r .code; words = r .state .words } ≡ pack-made (new me (lent present (now (own .entry))) config) ⌝ }
     {
         let mut words = [0u64; 551];
         let code = new(&mut words, me, present, own, config);
         let s = State { words: words };
-        Made {
+        MadeState {
             code: code,
             state: s,
         }
     }
 
     // The form that 01 names: `handle` takes self by value.
-    pub fn handle(self, b: &[u8], draws: &[u32], out: &mut [u8]) -> Answer
+    pub fn handle(self, b: &[u8], draws: &[u32], out: &mut [u8]) -> HandledState
         ensures { λ r. ⌜ record { code = r .code; draws = r .draws; words = r .state .words; output = now (out .exit) } ≡ handled (self .words) (now (b .entry)) (now (draws .entry)) (length (now (out .entry))) ⌝ }
     {
         let mut words = self.words;
         let d = handle(&mut words, b, draws, out);
         let s = State { words: words };
-        Answer {
+        HandledState {
             code: d.code,
             state: s,
             draws: d.draws,

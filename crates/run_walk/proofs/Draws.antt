@@ -7,7 +7,7 @@ use native.Mathlib.Omega.{arith}
 use lib.ListN.{length, take, drop, length-drop}
 use lib.Seq.{take-nil, slice, take-all, length-take-le}
 use Rattle.io.specs.Counts.{Counts}
-use Rattle.run_input.specs.declared.Layout.{Layout}
+use Rattle.run_input.specs.declared.InputLayout.{InputLayout}
 use Rattle.run_input.specs.Input.{number, numbers}
 use Rattle.run_input.proofs.Laws.{length-numbers, Laid}
 
@@ -27,7 +27,7 @@ part-is (suc f) (suc t) [] = sym (take-nil (suc t - suc f))
 part-is (suc f) (suc t) (x ∷ l) = part-is f t l ∙ (let e : t - f ≡ suc t - suc f = omega arith in ap (λ (y : ℕ). take y (drop f l)) e)
 
 -- the numbers read from the rest of b into a space of 16,384
-pub numbers-read : (b ns : List ℕ) (l : Layout) (k : ℕ) → Laid b l → k ≡ 16384 → ns ≡ numbers k 0 (take (length b - l .«draws_at») (drop (l .«draws_at») b))
+pub numbers-read : (b ns : List ℕ) (l : InputLayout) (k : ℕ) → Laid b l → k ≡ 16384 → ns ≡ numbers k 0 (take (length b - l .«draws_at») (drop (l .«draws_at») b))
     → Counts (l .draws) ns × (ns ≡ numbers (length ns) 0 (drop (l .«draws_at») b))
 numbers-read b ns l k v z q =
     let e : length ns ≡ k = ap length q ∙ length-numbers k 0 (take (length b - l .«draws_at») (drop (l .«draws_at») b)) in
@@ -35,5 +35,5 @@ numbers-read b ns l k v z q =
     ((few, counted (l .draws) ns few), q ∙ (λ j. numbers (sym e j) 0 (take-all (length b - l .«draws_at») (drop (l .«draws_at») b) (simp length-drop (omega arith)) j)))
 
 -- as many of them as the input has draws
-pub first-draws : (b ns : List ℕ) (l : Layout) → Counts (l .draws) ns → ns ≡ numbers (length ns) 0 (drop (l .«draws_at») b) → take (l .draws) ns ≡ numbers (l .draws) 0 (drop (l .«draws_at») b)
+pub first-draws : (b ns : List ℕ) (l : InputLayout) → Counts (l .draws) ns → ns ≡ numbers (length ns) 0 (drop (l .«draws_at») b) → take (l .draws) ns ≡ numbers (l .draws) 0 (drop (l .«draws_at») b)
 first-draws b ns l h e = ap (take (l .draws)) e ∙ first-numbers (l .draws) (length ns) 0 (drop (l .«draws_at») b) (h .0)
