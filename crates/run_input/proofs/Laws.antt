@@ -13,7 +13,7 @@ use Rattle.lists.specs.Bytes.{read-le}
 use Rattle.lists.proofs.Choice.{by-choice, split, clash, choose-yes, choose-no, and-left, and-right}
 use Rattle.run_input.specs.Input.{number, numbers, event-length, are-events, cut-events, places-ok, events-part, events-ok, layout-of, input-of}
 pub use Rattle.run_input.specs.Input.{Laid}
-use Rattle.run_input.specs.declared.Layout.{Layout}
+use Rattle.run_input.specs.declared.InputLayout.{InputLayout}
 use Rattle.run_input.specs.declared.Input.{Input}
 use Rattle.run_input.specs.declared.Input.the-variants.{Refused, Whole}
 
@@ -98,10 +98,10 @@ laid-of : (b : List ℕ) → places-ok b ≡ true → events-ok b ≡ true → L
 unfolding layout-of events-ok events-part
 laid-of b p e = let h : Places b = places-true b p in record { low = h .low; full = h .full; most = h .most; events = e }
 
-whole-is : (x y : Layout) → _≡_ {A = Input} (Whole x) (Whole y) → x ≡ y
+whole-is : (x y : InputLayout) → _≡_ {A = Input} (Whole x) (Whole y) → x ≡ y
 whole-is x y e = cc
 
-pub laid : (b : List ℕ) (l : Layout) → input-of b ≡ Whole l → Laid b l
+pub laid : (b : List ℕ) (l : InputLayout) → input-of b ≡ Whole l → Laid b l
 unfolding input-of
 laid b l e =
     let p : Bool = places-ok b in

@@ -12,7 +12,7 @@ use Rattle.lists.specs.Lists.{choose, null}
 use Rattle.lists.specs.Bytes.{read-le}
 use Rattle.record.specs.Format.{header-length}
 use Rattle.timing.specs.declared.Config.{Config}
-use Rattle.run_input.specs.declared.Layout.{Layout}
+use Rattle.run_input.specs.declared.InputLayout.{InputLayout}
 use Rattle.run_input.specs.declared.Input.{Input}
 use Rattle.run_input.specs.declared.Input.the-variants.{Refused, Whole}
 
@@ -65,7 +65,7 @@ events-part b = slice 56 (number b 13) b
 unfoldable pub events-ok : List ℕ → Bool
 events-ok b = are-events (number b 10) (events-part b)
 
-unfoldable pub layout-of : List ℕ → Layout
+unfoldable pub layout-of : List ℕ → InputLayout
 layout-of b = record { me = number b 0; config = config-of b; events = number b 10; «draws_at» = number b 13; draws = number b 12 }
 
 -- what an input is: refused as a whole (`= 3 0`), or its layout
@@ -73,7 +73,7 @@ unfoldable pub input-of : List ℕ → Input
 input-of b = choose (places-ok b && events-ok b) (Whole (layout-of b)) Refused
 
 -- what the layout of an input that is not refused says of its places
-pub record Laid (b : List ℕ) (l : Layout) : Type 0 where
+pub record Laid (b : List ℕ) (l : InputLayout) : Type 0 where
   pub low : 56 ≤ l .«draws_at»
   pub full : l .«draws_at» + 4 * l .draws ≡ length b
   pub most : length b ≤ 65536

@@ -7,7 +7,7 @@ ghost use lib.ListN.{length, drop};
 ghost use Rattle.run_input.specs.Input.{number, numbers, config-of, event-length, are-events, places-ok, events-ok, layout-of, input-of};
 
 // What an input that is not refused holds: self, the settings, how many events there are, the place where they end and the draws begin, and how many draws there are.
-pub struct Layout {
+pub struct InputLayout {
     pub me: u32,
     pub config: Config,
     pub events: usize,
@@ -18,7 +18,7 @@ pub struct Layout {
 // An input is refused as a whole, or has a layout.
 pub enum Input {
     Refused,
-    Whole(Layout),
+    Whole(InputLayout),
 }
 
 // The i-th number of four bytes; 0 where there are not so many bytes.
@@ -125,7 +125,7 @@ pub fn read(b: &[u8]) -> Input
     if places_ok(b) {
         if events_ok(b) {
             let config = config_of(b);
-            return Input::Whole(Layout {
+            return Input::Whole(InputLayout {
                 me: number(b, 0),
                 config: config,
                 events: number(b, 10) as usize,

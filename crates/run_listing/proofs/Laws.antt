@@ -18,10 +18,10 @@ use Rattle.run_text.specs.Text.{Puts, Begins}
 use Rattle.run_text.proofs.Written.{begun, nothing, then, named}
 use Rattle.lists.specs.Bytes.{overwrite}
 use Rattle.protocol.specs.Handle.{new}
-use Rattle.hyparview.specs.declared.Made.{Made}
+use Rattle.hyparview.specs.declared.MadeState.{MadeState}
 use Rattle.hyparview.specs.Made as packed
 use Rattle.hyparview.specs.Made.{lent, pack-made}
-use Rattle.run_input.specs.declared.Layout.{Layout}
+use Rattle.run_input.specs.declared.InputLayout.{InputLayout}
 use Rattle.run_input.specs.declared.Input.{Input}
 use Rattle.run_input.specs.declared.Input.the-variants.{Refused, Whole}
 use Rattle.run_input.specs.Input.{numbers, event-length, cut-events, input-of}
@@ -152,7 +152,7 @@ module _ (w : ℕ) (out o : List ℕ) (r : Shown) (n : ℕ) (e : r ≡ fitting w
   pub shown-counted : n ≡ length (take n o)
   shown-counted = counted n o shown-within
 
-pub walked : (room : ℕ) (xs : List ℕ) (l : Layout) (b ns : List ℕ) (t r : Text) (out o : List ℕ) → Counts (l .draws) ns → ns ≡ numbers (length ns) 0 (drop (l .«draws_at») b)
+pub walked : (room : ℕ) (xs : List ℕ) (l : InputLayout) (b ns : List ℕ) (t r : Text) (out o : List ℕ) → Counts (l .draws) ns → ns ≡ numbers (length ns) 0 (drop (l .«draws_at») b)
     → Puts (events-text room 0 xs (cut-events (l .events) (take (l .«draws_at» - 56) (drop 56 b))) (take (l .draws) ns)) t out r o → Puts (laid-text room xs l b) t out r o
 unfolding laid-text
 walked room xs l b ns t r out o h e k =
@@ -160,17 +160,17 @@ walked room xs l b ns t r out o h e k =
 
 -- ---- what is decided before the first event
 
-module _ (l : Layout) (m : Made) (own : List ℕ) (e : record { code = m .code; words = m .state .words } ≡ pack-made (new (l .me) (lent false own) (l .config))) where
+module _ (l : InputLayout) (m : MadeState) (own : List ℕ) (e : record { code = m .code; words = m .state .words } ≡ pack-made (new (l .me) (lent false own) (l .config))) where
   made-is : record { code = m .code; words = m .state .words } ≡ pack-made (new (l .me) none (l .config))
   made-is = made-bare (l .me) (l .config) _ own e
 
   pub open-unset : (m .code ≡ 0 → ⊥) → Line 1 ≡ opened-layout l
   unfolding opened-layout
-  open-unset h = sym (choose-no _ (Events l) (Line 1) (ap (λ (x : packed.Made). eqb (x .code) 0) (sym made-is) ∙ ne-eqb _ _ h))
+  open-unset h = sym (choose-no _ (Events l) (Line 1) (ap (λ (x : packed.MadeWords). eqb (x .code) 0) (sym made-is) ∙ ne-eqb _ _ h))
 
   pub open-events : m .code ≡ 0 → Events l ≡ opened-layout l
   unfolding opened-layout
-  open-events h = sym (choose-yes _ (Events l) (Line 1) (ap (λ (x : packed.Made). eqb (x .code) 0) (sym made-is) ∙ eq-eqb _ _ h))
+  open-events h = sym (choose-yes _ (Events l) (Line 1) (ap (λ (x : packed.MadeWords). eqb (x .code) 0) (sym made-is) ∙ eq-eqb _ _ h))
 
   pub begins-at : _≡_ {A = Runner} (record { state = m .state; at = 0; used = 0 }) (first-place l)
   unfolding first-place
@@ -181,11 +181,11 @@ module _ (b : List ℕ) (x : Input) (e : x ≡ input-of b) where
   unfolding opened-run opened-input
   open-refused h = ap opened-input (sym h ∙ e)
 
-  pub open-whole : (l : Layout) (r : Opened) → x ≡ Whole l → r ≡ opened-layout l → r ≡ opened-run b
+  pub open-whole : (l : InputLayout) (r : Opened) → x ≡ Whole l → r ≡ opened-layout l → r ≡ opened-run b
   unfolding opened-run opened-input
   open-whole l r h k = k ∙ ap opened-input (sym h ∙ e)
 
-layout-text : (l : Layout) (b : List ℕ) → made-text (pack-made (new (l .me) none (l .config))) l b ≡ opened-text (opened-layout l) b
+layout-text : (l : InputLayout) (b : List ℕ) → made-text (pack-made (new (l .me) none (l .config))) l b ≡ opened-text (opened-layout l) b
 unfolding made-text opened-layout opened-text first-place
 layout-text l b =
     let t : Bool = eqb (pack-made (new (l .me) none (l .config)) .code) 0 in
@@ -210,35 +210,35 @@ module _ (b : List ℕ) (o : Opened) (e : o ≡ opened-run b) where
   unfolding opened-text
   line-text c h = text-is ∙ ap (λ (x : Opened). opened-text x b) h
 
-  pub whole-text : (l : Layout) → o ≡ Events l → run-text b ≡ laid-text 8192 (first-place l .state .words) l b
+  pub whole-text : (l : InputLayout) → o ≡ Events l → run-text b ≡ laid-text 8192 (first-place l .state .words) l b
   unfolding opened-text
   whole-text l h = text-is ∙ ap (λ (x : Opened). opened-text x b) h
 
   pub run-line : (c : ℕ) (t r : Text) (out p : List ℕ) → o ≡ Line c → Puts (end-line c 0) t out r p → Puts (run-text b) t out r p
   run-line c t r out p h k = named (sym (line-text c h)) k
 
-  pub run-events : (l : Layout) (q : Runner) (t r : Text) (out p : List ℕ) → o ≡ Events l → q ≡ first-place l → Puts (laid-text 8192 (q .state .words) l b) t out r p → Puts (run-text b) t out r p
+  pub run-events : (l : InputLayout) (q : Runner) (t r : Text) (out p : List ℕ) → o ≡ Events l → q ≡ first-place l → Puts (laid-text 8192 (q .state .words) l b) t out r p → Puts (run-text b) t out r p
   run-events l q t r out p h f k = named (ap (λ (x : Runner). laid-text 8192 (x .state .words) l b) f ∙ sym (whole-text l h)) k
 
-events-is : (x y : Layout) → _≡_ {A = Opened} (Events x) (Events y) → x ≡ y
+events-is : (x y : InputLayout) → _≡_ {A = Opened} (Events x) (Events y) → x ≡ y
 events-is x y e = cc
 
-line-not : {C : Type 0} (c : ℕ) (l : Layout) → _≡_ {A = Opened} (Line c) (Events l) → C
+line-not : {C : Type 0} (c : ℕ) (l : InputLayout) → _≡_ {A = Opened} (Line c) (Events l) → C
 line-not c l e = let z : _≡_ {A = ℕ} 0 1 = cc in absurd (omega arith)
 
-whole-layout : (m l : Layout) → opened-layout m ≡ Events l → m ≡ l
+whole-layout : (m l : InputLayout) → opened-layout m ≡ Events l → m ≡ l
 unfolding opened-layout
 whole-layout m l e =
     let t : Bool = eqb (pack-made (new (m .me) none (m .config)) .code) 0 in
     split t (λ y. events-is _ _ (sym (choose-yes t (Events m) (Line 1) y) ∙ e)) (λ n. line-not 1 l (sym (choose-no t (Events m) (Line 1) n) ∙ e))
 
-whole-input : (x : Input) (l : Layout) → opened-input x ≡ Events l → x ≡ Whole l
+whole-input : (x : Input) (l : InputLayout) → opened-input x ≡ Events l → x ≡ Whole l
 unfolding opened-input
 whole-input Refused l e = line-not 3 l e
 whole-input (Whole m) l e = ap Whole (whole-layout m l e)
 
 -- an input with events has them in their places
-pub opened-laid : (b : List ℕ) (o : Opened) (l : Layout) → o ≡ opened-run b → o ≡ Events l → Laid b l
+pub opened-laid : (b : List ℕ) (o : Opened) (l : InputLayout) → o ≡ opened-run b → o ≡ Events l → Laid b l
 unfolding opened-run
 opened-laid b o l e h = laid b l (whole-input (input-of b) l (sym e ∙ h))
 

@@ -19,7 +19,7 @@ use Rattle.run_text.specs.Numbers.{digits-within, decimal, field}
 use Rattle.run_text.proofs.Written.{begun}
 use Rattle.run_text.specs.Lines.{four, record-line, end-line, event-text}
 use Rattle.run_text.proofs.Laws.{text-few, text-none, text-step}
-use Rattle.run_input.specs.declared.Layout.{Layout}
+use Rattle.run_input.specs.declared.InputLayout.{InputLayout}
 use Rattle.run_input.specs.Input.{numbers, cut-events}
 use Rattle.run_walk.proofs.Draws.{counted}
 use Rattle.run_listing.specs.declared.Opened.the-variants.{Events}
@@ -110,7 +110,7 @@ module _ (i : ℕ) (b out : List ℕ) where
 -- ---- the events one after another
 
 -- an input with events prints what is left at their first place
-pub rest-first : (b : List ℕ) (l : Layout) → opened-run b ≡ Events l
+pub rest-first : (b : List ℕ) (l : InputLayout) → opened-run b ≡ Events l
     → run-text b ≡ rest-text 8192 (first-place l) 0 (l .events) (slice 56 (l .«draws_at») b) (numbers (l .draws) 0 (drop (l .«draws_at») b))
 unfolding rest-text laid-text first-place
 rest-first b l e =

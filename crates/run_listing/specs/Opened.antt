@@ -8,7 +8,7 @@ use lib.Dec.{eqb}
 use Rattle.lists.specs.Lists.{choose}
 use Rattle.protocol.specs.Handle.{new}
 use Rattle.hyparview.specs.Made.{pack-made}
-use Rattle.run_input.specs.declared.Layout.{Layout}
+use Rattle.run_input.specs.declared.InputLayout.{InputLayout}
 use Rattle.run_input.specs.declared.Input.{Input}
 use Rattle.run_input.specs.declared.Input.the-variants.{Refused, Whole}
 use Rattle.run_input.specs.Input.{cut-events, input-of}
@@ -19,11 +19,11 @@ use Rattle.run_listing.specs.declared.Opened.the-variants.{Line, Events}
 use Rattle.run_listing.specs.Run.{events-text, laid-text}
 
 -- the place before the first event; "Own data is absent."
-unfoldable pub first-place : Layout → Runner
+unfoldable pub first-place : InputLayout → Runner
 first-place l = record { state = record { words = pack-made (new (l .me) none (l .config)) .words }; at = 0; used = 0 }
 
 -- "otherwise out-of-range settings print only `= 1 0`"
-unfoldable pub opened-layout : Layout → Opened
+unfoldable pub opened-layout : InputLayout → Opened
 opened-layout l = choose (eqb (pack-made (new (l .me) none (l .config)) .code) 0) (Events l) (Line 1)
 
 -- a refused input "prints only `= 3 0`"

@@ -8,9 +8,9 @@ use lib.Seq.{slice}
 use lib.Dec.{eqb}
 use Rattle.lists.specs.Lists.{choose}
 use Rattle.protocol.specs.Handle.{new}
-use Rattle.hyparview.specs.Made.{Made, pack-made}
+use Rattle.hyparview.specs.Made.{MadeWords, pack-made}
 use Rattle.hyparview.specs.Handled.{Outcome, handled}
-use Rattle.run_input.specs.declared.Layout.{Layout}
+use Rattle.run_input.specs.declared.InputLayout.{InputLayout}
 use Rattle.run_input.specs.declared.Input.{Input}
 use Rattle.run_input.specs.declared.Input.the-variants.{Refused, Whole}
 use Rattle.run_input.specs.Input.{numbers, cut-events, input-of}
@@ -27,11 +27,11 @@ events-text room i xs (b ∷ bs) ds =
     outcome-text i (handled xs b ds room) ++ events-text room (i + 1) (handled xs b ds room .words) bs (drop (handled xs b ds room .draws) ds)
 
 -- the lines of the events that stand in b, with its draws
-unfoldable pub laid-text : ℕ → List ℕ → Layout → List ℕ → List ℕ
+unfoldable pub laid-text : ℕ → List ℕ → InputLayout → List ℕ → List ℕ
 laid-text room xs l b = events-text room 0 xs (cut-events (l .events) (slice 56 (l .«draws_at») b)) (numbers (l .draws) 0 (drop (l .«draws_at») b))
 
 -- "otherwise out-of-range settings print only `= 1 0`"
-unfoldable pub made-text : Made → Layout → List ℕ → List ℕ
+unfoldable pub made-text : MadeWords → InputLayout → List ℕ → List ℕ
 made-text m l b = choose (eqb (m .code) 0) (laid-text 8192 (m .words) l b) (end-line 1 0)
 
 -- "whose events, so cut, or draws do not exactly fill their places .. prints only `= 3 0`"; "Own data is absent."

@@ -2,7 +2,7 @@
 use hyparview::State;
 use record::Refusal;
 use run_input::Input;
-use run_input::Layout;
+use run_input::InputLayout;
 use run_text::Text;
 use run_walk::Runner;
 ghost use mathlib.Core.Path.{_≡_};
@@ -33,7 +33,7 @@ pub struct Lined {
 // What is decided of an input before its first event: the code of its one line, or that it has events.
 pub enum Opened {
     Line(u32),
-    Events(Layout),
+    Events(InputLayout),
 }
 
 // How many bytes the text has, or that it has more than were lent.
@@ -95,7 +95,7 @@ fn put_events(
 fn put_walk(
     s: State,
     b: &[u8],
-    l: Layout,
+    l: InputLayout,
     drawn: &[u32],
     records: &mut [u8],
     out: &mut [u8],
@@ -112,7 +112,7 @@ fn put_walk(
 }
 
 // The same, with space for the draws and the output: the longest input has fewer than 16,384 draws.
-fn put_whole(s: State, b: &[u8], l: Layout, out: &mut [u8], t: Text) -> Text
+fn put_whole(s: State, b: &[u8], l: InputLayout, out: &mut [u8], t: Text) -> Text
     requires { ⌜ Laid (now b) l ⌝ }
     ensures { λ r. ⌜ Puts (laid-text 8192 (s .words) l (now (b .entry))) t (now (out .entry)) r (now (out .exit)) ⌝ }
 {
@@ -124,7 +124,7 @@ fn put_whole(s: State, b: &[u8], l: Layout, out: &mut [u8], t: Text) -> Text
 }
 
 // An input that is not refused as a whole: settings out of range have one line only.
-fn open_layout(l: Layout) -> Opened
+fn open_layout(l: InputLayout) -> Opened
     ensures { λ r. ⌜ r ≡ opened-layout l ⌝ }
 {
     let config = l.config;
@@ -178,7 +178,7 @@ pub fn record_line(i: usize, records: &[u8], out: &mut [u8]) -> Lined
 }
 
 // The place before the first event: the new station.
-pub fn begin(l: Layout) -> Runner
+pub fn begin(l: InputLayout) -> Runner
     ensures { λ r. ⌜ r ≡ first-place l ⌝ }
 {
     let config = l.config;

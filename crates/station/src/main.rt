@@ -1,5 +1,5 @@
 // The run program (document 01): standard input is a history, standard output gets the lines of its events.
-use run_input::Layout;
+use run_input::InputLayout;
 use run_listing::Opened;
 use run_walk::Runner;
 ghost use mathlib.Core.Path.{_≡_};
@@ -49,7 +49,7 @@ fn say_events(first: Runner, n: usize, events: &[u8], draws: &[u32], records: &m
 }
 
 // The events of an input, with the numbers that stand where its draws do.
-fn say_layout(b: &[u8], l: Layout, drawn: &[u32], records: &mut [u8; 8192])
+fn say_layout(b: &[u8], l: InputLayout, drawn: &[u32], records: &mut [u8; 8192])
     requires { ⌜ Laid (now b) l ⌝ }
     requires { ⌜ Counts (l .draws) (now drawn) ⌝ }
     requires { ⌜ now drawn ≡ numbers (length (now drawn)) 0 (drop (l .«draws_at») (now b)) ⌝ }
@@ -61,7 +61,7 @@ fn say_layout(b: &[u8], l: Layout, drawn: &[u32], records: &mut [u8; 8192])
 }
 
 // The same, with the space: the longest input has fewer than 16,384 draws, and 8,192 bytes of output always suffice.
-fn say_whole(b: &[u8], l: Layout)
+fn say_whole(b: &[u8], l: InputLayout)
     requires { ⌜ Laid (now b) l ⌝ }
 {
     let mut drawn = [0u32; 16384];

@@ -19,9 +19,9 @@ use Rattle.rules.specs.Pack.{pack}
 use Rattle.hyparview.specs.Made as packed
 use Rattle.hyparview.specs.Made.{lent, pack-made}
 use Rattle.hyparview.specs.declared.State.{State}
-use Rattle.hyparview.specs.declared.Made.{Made}
+use Rattle.hyparview.specs.declared.MadeState.{MadeState}
 use Rattle.hyparview.specs.Handled.{handled}
-use Rattle.run_input.specs.declared.Layout.{Layout}
+use Rattle.run_input.specs.declared.InputLayout.{InputLayout}
 use Rattle.run_input.specs.declared.Input.{Input}
 use Rattle.run_input.specs.declared.Input.the-variants.{Refused, Whole}
 use Rattle.run_input.specs.Input.{numbers, event-length, cut-events, input-of}
@@ -31,13 +31,13 @@ use Rattle.run_walk.specs.Place.{passed}
 use Rattle.run_walk.proofs.Laws.{next-words, next-left, next-events}
 use Rattle.run_walk.proofs.Draws.{counted, first-draws, part-is}
 use Rattle.run_walk.proofs.Fresh.{made-bare}
-use Rattle.trace_replay.specs.declared.Start.{Start}
+use Rattle.trace_replay.specs.declared.TraceStart.{TraceStart}
 use Rattle.trace_replay.specs.declared.Ended.{Ended}
 use Rattle.trace_replay.specs.Ending.{Counting, room-of, counting, words-after, laid-words, ended-at, made-end, input-end, ended-of}
 
 -- ---- the room
 
-module _ (start : Start) where
+module _ (start : TraceStart) where
   pub room-given : start .room ≤ 8192 → start .room ≡ room-of start
   unfolding room-of
   room-given h = omega (arith, h)
@@ -82,30 +82,30 @@ module _ (room : ℕ) (last events draws : List ℕ) (p : Runner) (left : ℕ) (
       let z : left ≡ 0 = omega (arith, h) in
       sym (v .same ∙ ap (λ (x : ℕ). words-after room (p .state .words) (cut-events x (drop (p .at) events)) (drop (p .used) draws)) z)
 
-pub walked : (room : ℕ) (xs ys : List ℕ) (l : Layout) (b ns : List ℕ) → Counts (l .draws) ns → ns ≡ numbers (length ns) 0 (drop (l .«draws_at») b)
+pub walked : (room : ℕ) (xs ys : List ℕ) (l : InputLayout) (b ns : List ℕ) → Counts (l .draws) ns → ns ≡ numbers (length ns) 0 (drop (l .«draws_at») b)
     → ys ≡ words-after room xs (cut-events (l .events) (take (l .«draws_at» - 56) (drop 56 b))) (take (l .draws) ns) → ys ≡ laid-words room xs l b
 unfolding laid-words
 walked room xs ys l b ns h e k = k ∙ (λ j. words-after room xs (cut-events (l .events) (sym (part-is 56 (l .«draws_at») b) j)) (first-draws b ns l h e j))
 
 -- a room that is a part of the output
-pub in-room : (room : ℕ) (xs ys : List ℕ) (l : Layout) (b out : List ℕ) → room ≤ length out → ys ≡ laid-words (length (take room out)) xs l b → ys ≡ laid-words room xs l b
+pub in-room : (room : ℕ) (xs ys : List ℕ) (l : InputLayout) (b out : List ℕ) → room ≤ length out → ys ≡ laid-words (length (take room out)) xs l b → ys ≡ laid-words room xs l b
 in-room room xs ys l b out h k = k ∙ ap (λ (x : ℕ). laid-words x xs l b) (sym (counted room out h))
 
 -- ---- the whole
 
 -- `new` with settings that are out of range
-pub unset : (c : Config) (m : Made) (own : List ℕ) → in-range c ≡ false → record { code = m .code; words = m .state .words } ≡ pack-made (P.new 0 (lent false own) c) → m .state .words ≡ pack P.zero-station
+pub unset : (c : Config) (m : MadeState) (own : List ℕ) → in-range c ≡ false → record { code = m .code; words = m .state .words } ≡ pack-made (P.new 0 (lent false own) c) → m .state .words ≡ pack P.zero-station
 unfolding P.new pack-made
-unset c m own h e = ap (λ (x : packed.Made). x .words) e ∙ ap (λ (x : P.Made). pack (x .state)) (choose-no _ _ _ (ap (λ (t : Bool). t && short-data (lent false own)) h))
+unset c m own h e = ap (λ (x : packed.MadeWords). x .words) e ∙ ap (λ (x : P.Made). pack (x .state)) (choose-no _ _ _ (ap (λ (t : Bool). t && short-data (lent false own)) h))
 
-module _ (start : Start) (l : Layout) (b : List ℕ) (m : Made) (own : List ℕ) (e : record { code = m .code; words = m .state .words } ≡ pack-made (P.new (l .me) (lent false own) (l .config))) where
+module _ (start : TraceStart) (l : InputLayout) (b : List ℕ) (m : MadeState) (own : List ℕ) (e : record { code = m .code; words = m .state .words } ≡ pack-made (P.new (l .me) (lent false own) (l .config))) where
   made-code : m .code ≡ P.new (l .me) none (l .config) .code
   unfolding pack-made
-  made-code = ap (λ (x : packed.Made). x .code) (made-bare (l .me) (l .config) _ own e)
+  made-code = ap (λ (x : packed.MadeWords). x .code) (made-bare (l .me) (l .config) _ own e)
 
   made-words : m .state .words ≡ pack (P.new (l .me) none (l .config) .state)
   unfolding pack-made
-  made-words = ap (λ (x : packed.Made). x .words) (made-bare (l .me) (l .config) _ own e)
+  made-words = ap (λ (x : packed.MadeWords). x .words) (made-bare (l .me) (l .config) _ own e)
 
   pub whole-refused : (r : Ended) → (m .code ≡ 0 → ⊥) → r ≡ record { code = m .code; state = m .state } → r ≡ made-end start (P.new (l .me) none (l .config)) l b
   unfolding made-end
@@ -120,14 +120,14 @@ module _ (start : Start) (l : Layout) (b : List ℕ) (m : Made) (own : List ℕ)
       ap (ended-at 0) (k ∙ (λ i. laid-words (q i) (first i) l b))
       ∙ sym (choose-yes _ _ _ (ap (λ (x : ℕ). eqb x 0) (sym made-code) ∙ eq-eqb _ _ h))
 
-module _ (start : Start) (b : List ℕ) (x : Input) (e : x ≡ input-of b) where
+module _ (start : TraceStart) (b : List ℕ) (x : Input) (e : x ≡ input-of b) where
   pub ends-refused : (r : Ended) (s : State) → x ≡ Refused → s .words ≡ pack P.zero-station → r ≡ record { code = 3; state = s } → r ≡ ended-of start b
   unfolding ended-of input-end
   ends-refused r s h z k = k ∙ (ap (ended-at 3) z ∙ ap (λ (y : Input). input-end start y b) (sym h ∙ e))
 
-  pub ends-whole : (l : Layout) (r : Ended) → x ≡ Whole l → r ≡ made-end start (P.new (l .me) none (l .config)) l b → r ≡ ended-of start b
+  pub ends-whole : (l : InputLayout) (r : Ended) → x ≡ Whole l → r ≡ made-end start (P.new (l .me) none (l .config)) l b → r ≡ ended-of start b
   unfolding ended-of input-end
   ends-whole l r h k = k ∙ ap (λ (y : Input). input-end start y b) (sym h ∙ e)
 
-  pub there : (l : Layout) → x ≡ Whole l → Laid b l
+  pub there : (l : InputLayout) → x ≡ Whole l → Laid b l
   there l h = laid b l (sym e ∙ h)

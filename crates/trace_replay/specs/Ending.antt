@@ -14,25 +14,25 @@ use Rattle.protocol.specs.Handle.{Made, new, zero-station}
 use Rattle.rules.specs.Pack.{pack}
 use Rattle.hyparview.specs.declared.State.{State}
 use Rattle.hyparview.specs.Handled.{handled}
-use Rattle.run_input.specs.declared.Layout.{Layout}
+use Rattle.run_input.specs.declared.InputLayout.{InputLayout}
 use Rattle.run_input.specs.declared.Input.{Input}
 use Rattle.run_input.specs.declared.Input.the-variants.{Refused, Whole}
 use Rattle.run_input.specs.Input.{numbers, cut-events, input-of}
-use Rattle.trace_replay.specs.declared.Start.{Start}
+use Rattle.trace_replay.specs.declared.TraceStart.{TraceStart}
 use Rattle.trace_replay.specs.declared.Ended.{Ended}
 
 -- the bytes of output lent to each event: "8,192 output bytes .. always suffice", and no more are there
-unfoldable pub room-of : Start → ℕ
+unfoldable pub room-of : TraceStart → ℕ
 room-of start = min (start .room) 8192
 
 -- the station g with the counters of a start
-unfoldable pub counting : Start → Station → Station
+unfoldable pub counting : TraceStart → Station → Station
 counting start g =
     set-passes-short (start .«passes_short»)
     (set-passes-alone (start .«passes_alone») (set-next-join (start .«next_join») (set-next-request (start .«next_neighbor_request») g)))
 
 -- the state t counts from a start, and is s otherwise
-pub record Counting (start : Start) (s t : State) : Type 0 where
+pub record Counting (start : TraceStart) (s t : State) : Type 0 where
   pub same : (g : Station) → s .words ≡ pack g → t .words ≡ pack (counting start g)
 
 -- the words after these events; "Draws go on where the last accepted event stopped."
@@ -41,7 +41,7 @@ words-after room xs [] ds = xs
 words-after room xs (b ∷ bs) ds = words-after room (handled xs b ds room .words) bs (drop (handled xs b ds room .draws) ds)
 
 -- the words after the events that stand in b, with its draws
-unfoldable pub laid-words : ℕ → List ℕ → Layout → List ℕ → List ℕ
+unfoldable pub laid-words : ℕ → List ℕ → InputLayout → List ℕ → List ℕ
 laid-words room xs l b = words-after room xs (cut-events (l .events) (slice 56 (l .«draws_at») b)) (numbers (l .draws) 0 (drop (l .«draws_at») b))
 
 -- a code, and the state of these words
@@ -49,15 +49,15 @@ abbrev pub ended-at : ℕ → List ℕ → Ended
 ended-at code xs = record { code = code; state = record { words = xs } }
 
 -- "otherwise out-of-range settings": the answer of `new`; else code 0 and the state after the last event
-unfoldable pub made-end : Start → Made → Layout → List ℕ → Ended
+unfoldable pub made-end : TraceStart → Made → InputLayout → List ℕ → Ended
 made-end start m l b =
     choose (eqb (m .code) 0) (ended-at 0 (laid-words (room-of start) (pack (counting start (m .state))) l b)) (ended-at (m .code) (pack (m .state)))
 
 -- an input that is refused as a whole: code 3, and "a state of zeroes"; "Own data is absent."
-unfoldable pub input-end : Start → Input → List ℕ → Ended
+unfoldable pub input-end : TraceStart → Input → List ℕ → Ended
 input-end start Refused b = ended-at 3 (pack zero-station)
 input-end start (Whole l) b = made-end start (new (l .me) none (l .config)) l b
 
 -- how the history of the input b ends
-unfoldable pub ended-of : Start → List ℕ → Ended
+unfoldable pub ended-of : TraceStart → List ℕ → Ended
 ended-of start b = input-end start (input-of b) b

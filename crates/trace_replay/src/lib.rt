@@ -4,7 +4,7 @@ mod event_text;
 use hyparview::State;
 use record::Refusal;
 use run_input::Input;
-use run_input::Layout;
+use run_input::InputLayout;
 use run_text::Text;
 use run_walk::Runner;
 use timing::Config;
@@ -27,7 +27,7 @@ pub struct Ended {
 }
 
 // What a history starts with beside its input: the room for output, and the counters of the new station.
-pub struct Start {
+pub struct TraceStart {
     pub room: usize,
     pub next_neighbor_request: u64,
     pub next_join: u64,
@@ -35,12 +35,12 @@ pub struct Start {
     pub passes_short: u32,
 }
 
-impl Start {
+impl TraceStart {
     // The run program's: 8,192 bytes of room, and a new station's own counters.
-    pub fn usual() -> Start
+    pub fn usual() -> TraceStart
         ensures { λ r. ⌜ r ≡ record { room = 8192; «next_neighbor_request» = 0; «next_join» = 0; «passes_alone» = 0; «passes_short» = 0 } ⌝ }
     {
-        Start {
+        TraceStart {
             room: 8192,
             next_neighbor_request: 0,
             next_join: 0,
@@ -51,7 +51,7 @@ impl Start {
 }
 
 // The new station with these counters.
-fn started(s: State, start: Start) -> State
+fn started(s: State, start: TraceStart) -> State
     ensures { λ r. ⌜ Counting start s r ⌝ }
 {
     let mut words = s.words;
@@ -63,7 +63,7 @@ fn started(s: State, start: Start) -> State
 }
 
 // The room for output, and no more than there is.
-fn room_of(start: Start) -> usize
+fn room_of(start: TraceStart) -> usize
     ensures { λ r. ⌜ r ≡ room-of start ⌝ }
     ensures { λ r. ⌜ r ≤ 8192 ⌝ }
 {
@@ -151,7 +151,7 @@ fn events(s: State, b: &[u8], n: usize, draws: &[u32], out: &mut [u8], text: &mu
 }
 
 // The events of an input, with the numbers that stand where its draws do.
-fn walk(s: State, b: &[u8], l: Layout, drawn: &[u32], out: &mut [u8], text: &mut [u8]) -> State
+fn walk(s: State, b: &[u8], l: InputLayout, drawn: &[u32], out: &mut [u8], text: &mut [u8]) -> State
     requires { ⌜ Laid (now b) l ⌝ }
     requires { ⌜ Counts (l .draws) (now drawn) ⌝ }
     requires { ⌜ now drawn ≡ numbers (length (now drawn)) 0 (drop (l .«draws_at») (now b)) ⌝ }
@@ -163,7 +163,7 @@ fn walk(s: State, b: &[u8], l: Layout, drawn: &[u32], out: &mut [u8], text: &mut
 }
 
 // The same, with the space: the longest input has fewer than 16,384 draws, and the longest text is under 32,768 bytes.
-fn with_space(s: State, b: &[u8], l: Layout, room: usize) -> State
+fn with_space(s: State, b: &[u8], l: InputLayout, room: usize) -> State
     requires { ⌜ Laid (now b) l ⌝ }
     requires { ⌜ room ≤ 8192 ⌝ }
     ensures { λ r. ⌜ r .words ≡ laid-words room (s .words) l (now (b .entry)) ⌝ }
@@ -177,7 +177,7 @@ fn with_space(s: State, b: &[u8], l: Layout, room: usize) -> State
 }
 
 // An input that is not refused: the answer of `new`, or its events.
-fn whole(b: &[u8], l: Layout, start: Start) -> Ended
+fn whole(b: &[u8], l: InputLayout, start: TraceStart) -> Ended
     requires { ⌜ Laid (now b) l ⌝ }
     ensures { λ r. ⌜ r ≡ made-end start (new (l .me) none (l .config)) l (now (b .entry)) ⌝ }
 {
@@ -197,7 +197,7 @@ fn whole(b: &[u8], l: Layout, start: Start) -> Ended
 }
 
 // A whole history on standard output, and how it ended.
-pub fn history(b: &[u8], start: Start) -> Ended
+pub fn history(b: &[u8], start: TraceStart) -> Ended
     ensures { λ r. ⌜ r ≡ ended-of start (now (b .entry)) ⌝ }
 {
     let i = run_input::read(b);

@@ -1,6 +1,6 @@
 // Standard input holds histories one after another; standard output gets their traces, each ended by an empty line.
 // A history is a head of 32 bytes and then its input. The head has the input's length and the room (4 bytes each), the next request and the next join (8 each), and the two pass counts (4 each).
-use trace_replay::Start;
+use trace_replay::TraceStart;
 ghost use Prim.Native.Nat.{_≤_};
 
 // The number of 8 bytes whose lower half is the i-th number of 4.
@@ -12,8 +12,8 @@ fn wide(head: &[u8], i: usize) -> u64
     low + 4294967296 * high
 }
 
-fn start_of(head: &[u8]) -> Start {
-    Start {
+fn start_of(head: &[u8]) -> TraceStart {
+    TraceStart {
         room: run_input::number(head, 1) as usize,
         next_neighbor_request: wide(head, 2),
         next_join: wide(head, 4),
@@ -23,7 +23,7 @@ fn start_of(head: &[u8]) -> Start {
 }
 
 // One history, whose input is as long as the lent bytes; false where standard input has not so many.
-fn show(bytes: &mut [u8], start: Start) -> bool {
+fn show(bytes: &mut [u8], start: TraceStart) -> bool {
     let n = io::read_full(0, bytes);
     if n < bytes.len() {
         return false;

@@ -7,7 +7,7 @@ use Rattle.lists.proofs.Choice.{choose-yes, choose-no}
 use Rattle.lists.proofs.Tests.{both-true, and-no}
 use Rattle.timing.specs.declared.Config.{Config}
 use Rattle.run_input.specs.Input.{number, config-of, places-ok, events-ok, layout-of, input-of}
-use Rattle.run_input.specs.declared.Layout.{Layout}
+use Rattle.run_input.specs.declared.InputLayout.{InputLayout}
 use Rattle.run_input.specs.declared.Input.the-variants.{Refused, Whole}
 use Rattle.run_input.proofs.read.Statement.{statement}
 use Rattle.run_input.proofs.read.Tie as tie
@@ -16,7 +16,7 @@ module _ (b : List ℕ) (p : Bool) (pe : p ≡ places-ok b) where
   kept : p ≡ true → places-ok b ≡ true
   kept t = sym pe ∙ t
 
-  whole : (q : Bool) (l : Layout) → q ≡ events-ok b → p ≡ true → q ≡ true → l ≡ layout-of b → Whole l ≡ input-of b
+  whole : (q : Bool) (l : InputLayout) → q ≡ events-ok b → p ≡ true → q ≡ true → l ≡ layout-of b → Whole l ≡ input-of b
   unfolding input-of
   whole q l qe t u e = sym (choose-yes (places-ok b && events-ok b) (Whole (layout-of b)) Refused (both-true _ _ (sym pe ∙ t) (sym qe ∙ u)) ∙ ap Whole (sym e))
 
