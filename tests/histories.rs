@@ -14,13 +14,13 @@ struct Section(usize, usize, usize);
 
 const ACTIVE: Section = Section(22, 8, 30);
 const PASSIVE: Section = Section(31, 32, 63);
-const ALIVE: Section = Section(64, 32, 96);
+const MARKS: Section = Section(64, 32, 96);
 const REFUSED: Section = Section(97, 32, 129);
-const REQUESTS: Section = Section(130, 32, 194);
+const ASKED: Section = Section(130, 32, 194);
 const BOOTSTRAP: Section = Section(195, 8, 203);
 const RECENT: Section = Section(204, 8, 212);
 const JOINS: Section = Section(213, 8, 229);
-const DATA: Section = Section(230, 80, 550);
+const HELD: Section = Section(230, 80, 550);
 
 const OWN_PRESENT: usize = 1;
 const OWN_LEN: usize = 2;
@@ -111,12 +111,12 @@ fn state(w: &[u64]) -> String {
         set(w, PASSIVE),
         set(w, BOOTSTRAP),
         set(w, RECENT),
-        numbers(w, REQUESTS),
+        numbers(w, ASKED),
         w[NEXT_NEIGHBOR_REQUEST],
         numbers(w, JOINS),
         w[NEXT_JOIN],
-        map(w, DATA),
-        set(w, ALIVE),
+        map(w, HELD),
+        set(w, MARKS),
         set(w, REFUSED),
     );
     format!(
@@ -137,7 +137,7 @@ fn agrees(s: &Station, t: &Tally) -> bool {
         && s.spare_addresses() == PASSIVE.peers(w).len()
         && ACTIVE.peers(w).iter().all(|p| s.is_neighbor(*p))
         && PASSIVE.peers(w).iter().all(|p| !s.is_neighbor(*p))
-        && REQUESTS.peers(w).iter().all(|p| s.wants_connection(*p))
+        && ASKED.peers(w).iter().all(|p| s.wants_connection(*p))
         && JOINS.peers(w).iter().all(|p| s.wants_connection(*p))
 }
 

@@ -248,9 +248,11 @@ def header(text):
 
 def hold_code(text):
     """`Layout` in the code has the same names, places and length."""
+    columns = tool.read(tool.ROOT / "crates/columns/src/lib.rt")
+    shared = {name: int(value) for name, value in re.findall(r"^pub const (\w+): usize = (\d+);", columns, re.M)}
     found = {}
     for name, value in re.findall(r"pub const (\w+): usize = ([^;]+);", text):
-        found[name] = eval(value.replace("Layout::", ""), {}, found)
+        found[name] = eval(value.replace("Layout::", "").replace("columns::", ""), shared, found)
     due = {name: at for name, at in constants() if not name.endswith("_PLACES")} | {"LENGTH": length()}
     wrong = [name for name, at in due.items() if found.get(name) != at]
     wrong += [name for name in found if name not in due and name not in ("FEW", "ALL", "DATA_CAP")]

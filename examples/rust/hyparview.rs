@@ -73,7 +73,7 @@ pub struct Header {
 }
 
 #[repr(C)]
-struct Reading {
+struct HeaderReading {
     ok: bool,
     header: Header,
 }
@@ -97,7 +97,7 @@ const _: () = {
     assert!(size_of::<usize>() == 8 && size_of::<Config>() == 36 && size_of::<Tally>() == 48);
     assert!(size_of::<Done>() == 16 && offset_of!(Done, draws) == 8);
     assert!(size_of::<Header>() == 40 && size_of::<Entry>() == 16);
-    assert!(size_of::<Reading>() == 48 && offset_of!(Reading, header) == 8);
+    assert!(size_of::<HeaderReading>() == 48 && offset_of!(HeaderReading, header) == 8);
     assert!(size_of::<NodeReading>() == 24 && offset_of!(NodeReading, node) == 8);
 };
 
@@ -129,7 +129,7 @@ extern "C" {
     fn hyparview_neighbor_count(state: *const u64, words: usize) -> usize;
     fn hyparview_neighbor(state: *const u64, words: usize, i: usize) -> u64;
     fn hyparview_spare_addresses(state: *const u64, words: usize) -> usize;
-    fn hyparview_read(record: *const u8, len: usize) -> Reading;
+    fn hyparview_read(record: *const u8, len: usize) -> HeaderReading;
     fn hyparview_node(record: *const u8, len: usize, i: usize) -> NodeReading;
 }
 

@@ -27,7 +27,7 @@ use Rattle.peer.specs.Maps.{DataEntry, no-data, entry-bytes, ValidEntry}
 use Rattle.peer.proofs.Data.{bytes-in, holds-some}
 use Rattle.peer.proofs.Maps.{unread, length-entry}
 use Rattle.util.specs.Section.{part, Filled}
-use Rattle.columns.specs.Columns.{Two, word-bytes, row, rows, head-of, tail-of, count-of, entries-at, data-at, ValidDataWords, HoldsDataWords}
+use Rattle.columns.specs.Columns.{Two, word-bytes, row, rows, head-of, tail-of, count-of, entries-at, data-map-at, ValidDataWords, HoldsDataWords}
 use Rattle.util.proofs.Columns.{filled-of, filled-length}
 use Rattle.util.proofs.Parts.{part-long, part-set-after, part-set-in, part-set-before}
 use Rattle.columns.proofs.Numbers.{Stored, twice-long, both-stored, once-second}
@@ -71,8 +71,8 @@ module _ (n : ℕ) (m : List ℕ) (v : ValidDataWords n m) where
   pub highs-like : length (take (count-of n m) (part n n (tail-of n m))) ≡ length (take (count-of n m) (part n n (head-of n m)))
   highs-like = filled-length _ _ (v .highs) ∙ sym (filled-length _ _ (v .lens))
 
-  pub data-entries : Entries no-data n entry-bytes ValidEntry (part 0 n (head-of n m)) (entries-at n m) (count-of n m) (data-at n m)
-  unfolding data-at entries-at
+  pub data-entries : Entries no-data n entry-bytes ValidEntry (part 0 n (head-of n m)) (entries-at n m) (count-of n m) (data-map-at n m)
+  unfolding data-map-at entries-at
   data-entries = record {
     fits = v .fits;
     keyed = filled-to n _ _ keys-long (v .keyed);
@@ -88,13 +88,13 @@ module _ (n : ℕ) (m : List ℕ) (v : ValidDataWords n m) where
   unfolding part
   peers-read = sym (take-take (count-of n m) n (head-of n m) (v .fits))
 
-  pub data-keys : keys (data-at n m) ≡ take (count-of n m) (head-of n m)
+  pub data-keys : keys (data-map-at n m) ≡ take (count-of n m) (head-of n m)
   data-keys = entries-keys no-data n entry-bytes ValidEntry _ _ _ _ data-entries ∙ sym peers-read
 
 -- the two halves hold the columns ks, bs, cs and ds
 pub data-held : (n : ℕ) (m us ws : List ℕ) (c : ℕ) (ks bs cs ds : List ℕ) (l : List (ℕ × List ℕ)) → Stored (n + n) m us ws c → Two n us ks bs → Two n ws cs ds → c ≡ length ks → c ≡ length bs → c ≡ length cs → c ≡ length ds → c ≤ n
     → Entries no-data n entry-bytes ValidEntry (pad 0 n ks) (pad no-data n (rows bs cs ds)) c l → HoldsDataWords n m l
-unfolding data-at entries-at head-of tail-of
+unfolding data-map-at entries-at head-of tail-of
 data-held n m us ws c ks bs cs ds l s a b p q r o h e =
     let k : part 0 n (part 0 (n + n) m) ≡ pad 0 n ks = ap (part 0 n) (s .first) ∙ a .first in
     let x : part n n (part 0 (n + n) m) ≡ pad 0 n bs = ap (part n n) (s .first) ∙ a .second in
@@ -211,22 +211,22 @@ module _ (n : ℕ) (m : List ℕ) (v : ValidDataWords n m) where
     stored zs cs ds c u = both-stored (n + n) m ys zs c (v .long) (t .long) (u .long)
 
   module _ (p i : ℕ) (e : i ≡ index-of p (take (count-of n m) (head-of n m))) where
-    pub data-at-key : i ≡ index-of p (keys (data-at n m))
+    pub data-at-key : i ≡ index-of p (keys (data-map-at n m))
     data-at-key = e ∙ ap (index-of p) (sym (data-keys n m v))
 
-    pub data-has : ltb i (count-of n m) ≡ has p (data-at n m)
+    pub data-has : ltb i (count-of n m) ≡ has p (data-map-at n m)
     data-has = entries-has no-data n entry-bytes ValidEntry _ _ _ _ (data-entries n m v) p i data-at-key
 
-    pub data-kept : count-of n m ≤ i → HoldsDataWords n m (cut p (data-at n m))
-    data-kept h = record { valid = v; items = sym (cut-missing p (data-at n m) (omega (arith, v .counted, data-at-key))) }
+    pub data-kept : count-of n m ≤ i → HoldsDataWords n m (cut p (data-map-at n m))
+    data-kept h = record { valid = v; items = sym (cut-missing p (data-map-at n m) (omega (arith, v .counted, data-at-key))) }
 
-    pub data-room : count-of n m ≤ i → (has p (data-at n m) || ltb (length (data-at n m)) n) ≡ true → count-of n m < n
+    pub data-room : count-of n m ≤ i → (has p (data-map-at n m) || ltb (length (data-map-at n m)) n) ≡ true → count-of n m < n
     data-room h t = entries-room no-data n entry-bytes ValidEntry _ _ _ _ (data-entries n m v) p i data-at-key h t
 
     pub data-removed : (ys zs : List ℕ) → i < count-of n m
         → Two n ys (shift-remove i (take (count-of n m) (part 0 n (head-of n m)))) (shift-remove i (take (count-of n m) (part n n (head-of n m))))
         → Two n zs (shift-remove i (take (count-of n m) (part 0 n (part (n + n) (n + n + (n + n) - (n + n)) (putMid 0 (n + n) m ys))))) (shift-remove i (take (count-of n m) (part n n (part (n + n) (n + n + (n + n) - (n + n)) (putMid 0 (n + n) m ys)))))
-        → HoldsDataWords n (set (putMid (n + n) (n + n + (n + n) - (n + n)) (putMid 0 (n + n) m ys) zs) (n + n + (n + n)) (count-of n m - 1)) (cut p (data-at n m))
+        → HoldsDataWords n (set (putMid (n + n) (n + n + (n + n) - (n + n)) (putMid 0 (n + n) m ys) zs) (n + n + (n + n)) (count-of n m - 1)) (cut p (data-map-at n m))
     data-removed ys zs h a b =
         let u : Two n zs (shift-remove i (take (count-of n m) (part 0 n (tail-of n m)))) (shift-remove i (take (count-of n m) (part n n (tail-of n m)))) =
         subst (λ (s : List ℕ). Two n zs (shift-remove i (take (count-of n m) (part 0 n s))) (shift-remove i (take (count-of n m) (part n n s)))) (tail-is ys _ _ a) b in
@@ -238,10 +238,10 @@ module _ (n : ℕ) (m : List ℕ) (v : ValidDataWords n m) where
         (ap (pad no-data n) (shift-rows i _ _ _ (lows-like n m v) (highs-like n m v) ∙ ap (shift-remove i) (sym (taken-rows n m v)))) (omega arith))
 
     module _ (d : PeerData) (low high : ℕ) (w : ValidData d) (f : le 8 low ≡ take 8 (drop 0 (d .bytes))) (g : le 8 high ≡ take 8 (drop 8 (d .bytes))) where
-      pub data-inserted : (a : ℕ) (ys zs : List ℕ) → count-of n m ≤ i → (has p (data-at n m) || ltb (length (data-at n m)) n) ≡ true → a ≡ rank p (take (count-of n m) (head-of n m))
+      pub data-inserted : (a : ℕ) (ys zs : List ℕ) → count-of n m ≤ i → (has p (data-map-at n m) || ltb (length (data-map-at n m)) n) ≡ true → a ≡ rank p (take (count-of n m) (head-of n m))
           → Two n ys (insert-at a p (take (count-of n m) (part 0 n (head-of n m)))) (insert-at a (d .len) (take (count-of n m) (part n n (head-of n m))))
           → Two n zs (insert-at a low (take (count-of n m) (part 0 n (part (n + n) (n + n + (n + n) - (n + n)) (putMid 0 (n + n) m ys))))) (insert-at a high (take (count-of n m) (part n n (part (n + n) (n + n + (n + n) - (n + n)) (putMid 0 (n + n) m ys)))))
-          → HoldsDataWords n (set (putMid (n + n) (n + n + (n + n) - (n + n)) (putMid 0 (n + n) m ys) zs) (n + n + (n + n)) (count-of n m + 1)) (put p (bytes-of (data-in d)) (data-at n m))
+          → HoldsDataWords n (set (putMid (n + n) (n + n + (n + n) - (n + n)) (putMid 0 (n + n) m ys) zs) (n + n + (n + n)) (count-of n m + 1)) (put p (bytes-of (data-in d)) (data-map-at n m))
       data-inserted a ys zs h t r x b =
           let k = bytes-back d low high w f g in
           let u : Two n zs (insert-at a low (take (count-of n m) (part 0 n (tail-of n m)))) (insert-at a high (take (count-of n m) (part n n (tail-of n m)))) =
@@ -255,7 +255,7 @@ module _ (n : ℕ) (m : List ℕ) (v : ValidDataWords n m) where
           (ap (pad no-data n) (insert-rows a (d .len) low high _ _ _ (lows-like n m v) (highs-like n m v) ∙ ap (insert-at a (row (d .len) low high)) (sym (taken-rows n m v)))))
 
       -- the words of the entry are stored over
-      pub data-replaced : i < count-of n m → HoldsDataWords n (set (set (set m (n + i) (d .len)) (n + n + i) low) (n + n + n + i) high) (put p (bytes-of (data-in d)) (data-at n m))
+      pub data-replaced : i < count-of n m → HoldsDataWords n (set (set (set m (n + i) (d .len)) (n + n + i) low) (n + n + n + i) high) (put p (bytes-of (data-in d)) (data-map-at n m))
       unfolding head-of tail-of
       data-replaced h =
           let k = bytes-back d low high w f g in
@@ -294,8 +294,8 @@ module _ (n : ℕ) (m : List ℕ) (v : ValidDataWords n m) where
           ∙ ap (pad no-data n) (ap (λ (t : List DataEntry). set t i (row (d .len) low high)) (taken-rows n m v) ∙ sym (set-rows i (d .len) low high _ _ _)) in
           let z : (t : List ℕ) (j : ℕ) → Filled t c → c ≡ length (set (take c t) i j) = λ t j o. sym (length-set (take c t) i j ∙ filled-length t c o) in
           data-held n r us ws c _ _ _ _ _ s a b (sym (filled-length _ _ (v .keyed))) (z _ (d .len) (v .lens)) (z _ low (v .lows)) (z _ high (v .highs)) (v .fits)
-          (subst (λ (t : List DataEntry). Entries no-data n entry-bytes ValidEntry (pad 0 n (take c (part 0 n (head-of n m)))) t c (put p (bytes-of (data-in d)) (data-at n m))) e₁
-          (subst (λ (t : List ℕ). Entries no-data n entry-bytes ValidEntry t (set (entries-at n m) i (row (d .len) low high)) c (put p (bytes-of (data-in d)) (data-at n m))) (filled-to n _ c (keys-long n m v) (v .keyed)) x))
+          (subst (λ (t : List DataEntry). Entries no-data n entry-bytes ValidEntry (pad 0 n (take c (part 0 n (head-of n m)))) t c (put p (bytes-of (data-in d)) (data-map-at n m))) e₁
+          (subst (λ (t : List ℕ). Entries no-data n entry-bytes ValidEntry t (set (entries-at n m) i (row (d .len) low high)) c (put p (bytes-of (data-in d)) (data-map-at n m))) (filled-to n _ c (keys-long n m v) (v .keyed)) x))
 
     -- ---- a read
 
@@ -317,15 +317,15 @@ module _ (n : ℕ) (m : List ℕ) (v : ValidDataWords n m) where
     pub len-byte : i < count-of n m → Fits w8 (getD m (n + i) 0)
     len-byte h = let y = len-fits h in omega arith
 
-    pub data-looked : i < count-of n m → lookup p (data-at n m) ≡ some (entry-bytes (row (getD m (n + i) 0) (getD m (n + n + i) 0) (getD m (n + n + n + i) 0)))
+    pub data-looked : i < count-of n m → lookup p (data-map-at n m) ≡ some (entry-bytes (row (getD m (n + i) 0) (getD m (n + n + i) 0) (getD m (n + n + n + i) 0)))
     data-looked h = entries-found no-data n entry-bytes ValidEntry _ _ _ _ (data-entries n m v) p i unread data-at-key h ∙ ap (λ (r : DataEntry). some (entry-bytes r)) (row-at h)
 
-    pub data-found : (b : List ℕ) → b ≡ word-bytes (getD m (n + n + i) 0) (getD m (n + n + n + i) 0) → i < count-of n m → HoldsData (record { present = true; len = getD m (n + i) 0; bytes = b }) (lookup p (data-at n m))
+    pub data-found : (b : List ℕ) → b ≡ word-bytes (getD m (n + n + i) 0) (getD m (n + n + n + i) 0) → i < count-of n m → HoldsData (record { present = true; len = getD m (n + i) 0; bytes = b }) (lookup p (data-map-at n m))
     data-found b q h =
         let r : DataEntry = row (getD m (n + i) 0) (getD m (n + n + i) 0) (getD m (n + n + n + i) 0) in
         let f = row-fine h in
         subst (HoldsData (record { present = true; len = getD m (n + i) 0; bytes = b })) (sym (data-looked h))
         (holds-some (entry-bytes r) b (r .len) (q ∙ f .packed) (sym (length-entry r f)) (subst (λ (j : ℕ). j ≤ 16) (sym (length-entry r f)) (f .fits)))
 
-    pub data-missing : (d : PeerData) → count-of n m ≤ i → HoldsData d none → HoldsData d (lookup p (data-at n m))
+    pub data-missing : (d : PeerData) → count-of n m ≤ i → HoldsData d none → HoldsData d (lookup p (data-map-at n m))
     data-missing d h w = subst (HoldsData d) (sym (entries-none no-data n entry-bytes ValidEntry _ _ _ _ (data-entries n m v) p i data-at-key h)) w

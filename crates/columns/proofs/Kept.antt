@@ -18,7 +18,7 @@ use Rattle.lists.proofs.Maps.{length-keys, keys-cut, retain-cut, retain-all}
 use Rattle.lists.proofs.Tests.{both-true}
 use Rattle.util.specs.Section.{part, items-at, ValidSet, HoldsSet}
 use Rattle.util.proofs.Sets.{lent}
-use Rattle.columns.specs.Columns.{head-of, count-of, data-at, ValidDataWords, HoldsDataWords}
+use Rattle.columns.specs.Columns.{head-of, count-of, data-map-at, ValidDataWords, HoldsDataWords}
 use Rattle.columns.proofs.Data.{data-keys}
 
 -- the first i are all among ps
@@ -40,36 +40,36 @@ without-among (suc i) p (k ∷ ks) ps n f =
     (λ e. both-true (mem k ps) _ y (without-among i p ks ps n (and-right (mem k ps) (subset (take i ks) ps) f)))
 
 module _ (n : ℕ) (m : List ℕ) (v : ValidDataWords n m) where
-  peers-lent : take (count-of n m) m ≡ keys (data-at n m)
+  peers-lent : take (count-of n m) m ≡ keys (data-map-at n m)
   unfolding head-of part
   peers-lent = sym (data-keys n m v ∙ take-take (count-of n m) (n + n) m (omega (arith, v .fits)))
 
   pub data-counted : count-of n m ≡ length (take (count-of n m) m)
   data-counted = sym (length-take-le (count-of n m) m (omega (arith, v .fits, v .long)))
 
-  pub within-lent : (k : ℕ) (s : List ℕ) (w : ValidSet k s) (r : Bool) → r ≡ subset (take (count-of n m) m) (take (getD s k 0) s) → r ≡ subset (keys (data-at n m)) (items-at k s)
+  pub within-lent : (k : ℕ) (s : List ℕ) (w : ValidSet k s) (r : Bool) → r ≡ subset (take (count-of n m) m) (take (getD s k 0) s) → r ≡ subset (keys (data-map-at n m)) (items-at k s)
   within-lent k s w r q = q ∙ (λ i. subset (peers-lent i) (lent k s w i))
 
-  pub all-within : (ps : List ℕ) (r : Bool) → r ≡ subset (keys (data-at n m)) ps → r ≡ true → HoldsDataWords n m (retain ps (data-at n m))
-  all-within ps r q e = record { valid = v; items = sym (retain-all ps (data-at n m) (sym q ∙ e)) }
+  pub all-within : (ps : List ℕ) (r : Bool) → r ≡ subset (keys (data-map-at n m)) ps → r ≡ true → HoldsDataWords n m (retain ps (data-map-at n m))
+  all-within ps r q e = record { valid = v; items = sym (retain-all ps (data-map-at n m) (sym q ∙ e)) }
 
-  key-read : (i : ℕ) → i < count-of n m → getD (keys (data-at n m)) i 0 ≡ getD m i 0
+  key-read : (i : ℕ) → i < count-of n m → getD (keys (data-map-at n m)) i 0 ≡ getD m i 0
   key-read i h = ap (λ (l : List ℕ). getD l i 0) (sym peers-lent) ∙ getD-take (count-of n m) m i 0 h
 
 -- what is to be retained is the same, and the peers before i are among those whose data stays
 pub record Retaining (n : ℕ) (k : ℕ) (s m₀ m : List ℕ) (c i : ℕ) : Type 0 where
   pub valid : ValidDataWords n m
-  pub same : retain (items-at k s) (data-at n m) ≡ retain (items-at k s) (data-at n m₀)
-  pub counted : c ≡ length (data-at n m)
-  pub front : subset (take i (keys (data-at n m))) (items-at k s) ≡ true
+  pub same : retain (items-at k s) (data-map-at n m) ≡ retain (items-at k s) (data-map-at n m₀)
+  pub counted : c ≡ length (data-map-at n m)
+  pub front : subset (take i (keys (data-map-at n m))) (items-at k s) ≡ true
   pub long : length m ≡ length m₀
 
-pub retaining-start : (n k : ℕ) (s m : List ℕ) (c : ℕ) → ValidDataWords n m → c ≡ length (data-at n m) → Retaining n k s m m c 0
+pub retaining-start : (n k : ℕ) (s m : List ℕ) (c : ℕ) → ValidDataWords n m → c ≡ length (data-map-at n m) → Retaining n k s m m c 0
 unfolding subset
 retaining-start n k s m c v q = record { valid = v; same = refl; counted = q; front = refl; long = refl }
 
 module _ (n k : ℕ) (s m₀ m : List ℕ) (c i : ℕ) (r : Retaining n k s m₀ m c i) (h : i < c) where
-  here : getD (keys (data-at n m)) i 0 ≡ getD m i 0
+  here : getD (keys (data-map-at n m)) i 0 ≡ getD m i 0
   here = key-read n m (r .valid) i (omega (arith, r .counted, r .valid .counted))
 
   pub retaining-next : (b : Bool) → b ≡ mem (getD m i 0) (items-at k s) → b ≡ true → Retaining n k s m₀ m c (i + 1)
@@ -77,38 +77,38 @@ module _ (n k : ℕ) (s m₀ m : List ℕ) (c i : ℕ) (r : Retaining n k s m₀
     valid = r .valid;
     same = r .same;
     counted = r .counted;
-    front = rw (add-one i) (next-among i (keys (data-at n m)) (items-at k s) (omega (arith, r .counted, length-keys (data-at n m))) (r .front) (ap (λ (x : ℕ). mem x (items-at k s)) here ∙ sym q ∙ e));
+    front = rw (add-one i) (next-among i (keys (data-map-at n m)) (items-at k s) (omega (arith, r .counted, length-keys (data-map-at n m))) (r .front) (ap (λ (x : ℕ). mem x (items-at k s)) here ∙ sym q ∙ e));
     long = r .long;
   }
 
-  fewer : length (cut (getD m i 0) (data-at n m)) < length (data-at n m)
+  fewer : length (cut (getD m i 0) (data-map-at n m)) < length (data-map-at n m)
   fewer =
       let p = getD m i 0 in
-      let y : 1 ≤ count p (keys (data-at n m)) = subst (λ (x : ℕ). 1 ≤ count x (keys (data-at n m))) here (count-at (keys (data-at n m)) i (omega (arith, r .counted, length-keys (data-at n m)))) in
-      omega (arith, length-without p (keys (data-at n m)), ap length (keys-cut p (data-at n m)), length-keys (cut p (data-at n m)), length-keys (data-at n m))
+      let y : 1 ≤ count p (keys (data-map-at n m)) = subst (λ (x : ℕ). 1 ≤ count x (keys (data-map-at n m))) here (count-at (keys (data-map-at n m)) i (omega (arith, r .counted, length-keys (data-map-at n m)))) in
+      omega (arith, length-without p (keys (data-map-at n m)), ap length (keys-cut p (data-map-at n m)), length-keys (cut p (data-map-at n m)), length-keys (data-map-at n m))
 
-  pub retaining-less : (b : Bool) (m₁ : List ℕ) (d : ℕ) → b ≡ mem (getD m i 0) (items-at k s) → b ≡ false → HoldsDataWords n m₁ (cut (getD m i 0) (data-at n m)) → d ≡ length (data-at n m₁) → d - i < c - i
+  pub retaining-less : (b : Bool) (m₁ : List ℕ) (d : ℕ) → b ≡ mem (getD m i 0) (items-at k s) → b ≡ false → HoldsDataWords n m₁ (cut (getD m i 0) (data-map-at n m)) → d ≡ length (data-map-at n m₁) → d - i < c - i
   retaining-less b m₁ d q e w z = omega (arith, fewer, r .counted, ap length (w .items))
 
-  pub retaining-cut : (b : Bool) (m₁ : List ℕ) (d : ℕ) → b ≡ mem (getD m i 0) (items-at k s) → b ≡ false → HoldsDataWords n m₁ (cut (getD m i 0) (data-at n m)) → d ≡ length (data-at n m₁) → Retaining n k s m₀ m₁ d i
+  pub retaining-cut : (b : Bool) (m₁ : List ℕ) (d : ℕ) → b ≡ mem (getD m i 0) (items-at k s) → b ≡ false → HoldsDataWords n m₁ (cut (getD m i 0) (data-map-at n m)) → d ≡ length (data-map-at n m₁) → Retaining n k s m₀ m₁ d i
   retaining-cut b m₁ d q e w z =
       let p = getD m i 0 in
       let ps = items-at k s in
       let f : mem p ps ≡ false = sym q ∙ e in
-      let g : subset (take i (without p (keys (data-at n m)))) ps ≡ true = without-among i p (keys (data-at n m)) ps f (r .front) in
+      let g : subset (take i (without p (keys (data-map-at n m)))) ps ≡ true = without-among i p (keys (data-map-at n m)) ps f (r .front) in
       record {
         valid = w .valid;
-        same = ap (retain ps) (w .items) ∙ retain-cut p ps (data-at n m) f ∙ r .same;
+        same = ap (retain ps) (w .items) ∙ retain-cut p ps (data-map-at n m) f ∙ r .same;
         counted = z;
-        front = subst (λ (l : List ℕ). subset (take i l) ps ≡ true) (sym (ap keys (w .items) ∙ keys-cut p (data-at n m))) g;
+        front = subst (λ (l : List ℕ). subset (take i l) ps ≡ true) (sym (ap keys (w .items) ∙ keys-cut p (data-map-at n m))) g;
         long = w .valid .long ∙ sym (r .valid .long) ∙ r .long;
       }
 
-pub retaining-end : (n k : ℕ) (s m₀ m : List ℕ) (c i : ℕ) → Retaining n k s m₀ m c i → c ≤ i → HoldsDataWords n m (retain (items-at k s) (data-at n m₀))
+pub retaining-end : (n k : ℕ) (s m₀ m : List ℕ) (c i : ℕ) → Retaining n k s m₀ m c i → c ≤ i → HoldsDataWords n m (retain (items-at k s) (data-map-at n m₀))
 retaining-end n k s m₀ m c i r h =
     let ps = items-at k s in
-    let all : take i (keys (data-at n m)) ≡ keys (data-at n m) = take-all i (keys (data-at n m)) (omega (arith, r .counted, length-keys (data-at n m))) in
-    record { valid = r .valid; items = sym (retain-all ps (data-at n m) (subst (λ (l : List ℕ). subset l ps ≡ true) all (r .front))) ∙ r .same }
+    let all : take i (keys (data-map-at n m)) ≡ keys (data-map-at n m) = take-all i (keys (data-map-at n m)) (omega (arith, r .counted, length-keys (data-map-at n m))) in
+    record { valid = r .valid; items = sym (retain-all ps (data-map-at n m) (subst (λ (l : List ℕ). subset l ps ≡ true) all (r .front))) ∙ r .same }
 
 -- ---- the peers whose data may be held
 

@@ -20,7 +20,7 @@ use Rattle.peer.proofs.Maps.{itself, Any, map-itself, length-entry}
 use Rattle.util.specs.Section.{part, HoldsSet}
 use Rattle.util.proofs.Parts.{part-long}
 use Rattle.util.proofs.Sets.{set-as}
-use Rattle.columns.specs.Columns.{Two, row, rows, head-of, tail-of, count-of, numbers-at, ValidNumbers, HoldsNumbers, numbers-section, data-at, ValidDataWords, HoldsDataWords, low-word, high-word, data-section}
+use Rattle.columns.specs.Columns.{Two, row, rows, head-of, tail-of, count-of, numbers-at, ValidNumbers, HoldsNumbers, numbers-section, data-map-at, ValidDataWords, HoldsDataWords, low-word, high-word, data-section}
 use Rattle.columns.proofs.Numbers.{Stored, number-entries, number-held, number-keys}
 use Rattle.columns.proofs.Data.{filled-to, head-long, tail-long, keys-long, lens-long, lows-long, highs-long, taken-rows, lows-like, highs-like, data-entries, data-held}
 use Rattle.columns.proofs.Words.{word-low, word-high}
@@ -167,7 +167,7 @@ highs-back (l ∷ ls) (w ∷ ws) (x ∷ xs) p q f g a =
     λ i. high-back l w x (a .0) (f 0) (g 0) i ∷ highs-back ls ws xs (omega arith) (omega arith) (λ k. f (suc k)) (λ k. g (suc k)) (a .1) i
 
 module _ (n : ℕ) (m : List ℕ) (v : ValidDataWords n m) (f : Small m) where
-  words-taken : values (data-at n m) ≡ map entry-bytes (rows (take (count-of n m) (part n n (head-of n m))) (take (count-of n m) (part 0 n (tail-of n m))) (take (count-of n m) (part n n (tail-of n m))))
+  words-taken : values (data-map-at n m) ≡ map entry-bytes (rows (take (count-of n m) (part n n (head-of n m))) (take (count-of n m) (part 0 n (tail-of n m))) (take (count-of n m) (part n n (tail-of n m))))
   words-taken = entries-values no-data n entry-bytes ValidEntry _ _ _ _ (data-entries n m v) ∙ ap (map entry-bytes) (taken-rows n m v)
 
   each-row : All ValidEntry (rows (take (count-of n m) (part n n (head-of n m))) (take (count-of n m) (part 0 n (tail-of n m))) (take (count-of n m) (part n n (tail-of n m))))
@@ -183,19 +183,19 @@ module _ (n : ℕ) (m : List ℕ) (v : ValidDataWords n m) (f : Small m) where
   small-high : Small (take (count-of n m) (part n n (tail-of n m)))
   small-high = small-taken (count-of n m) (part n n (tail-of n m)) (small-part n n (tail-of n m) small-tail)
 
-  key-column : part 0 n (head-of n m) ≡ pad 0 n (keys (data-at n m))
+  key-column : part 0 n (head-of n m) ≡ pad 0 n (keys (data-map-at n m))
   key-column = data-entries n m v .keyed ∙ ap (pad 0 n) (sym (entries-keys no-data n entry-bytes ValidEntry _ _ _ _ (data-entries n m v)))
 
-  len-column : part n n (head-of n m) ≡ pad 0 n (map length (values (data-at n m)))
+  len-column : part n n (head-of n m) ≡ pad 0 n (map length (values (data-map-at n m)))
   len-column =
       filled-to n _ _ (lens-long n m v) (v .lens) ∙ ap (pad 0 n) (sym (ap (map length) words-taken ∙ lens-back _ _ _ (lows-like n m v) (highs-like n m v) each-row))
 
-  low-column : part 0 n (tail-of n m) ≡ pad 0 n (map low-word (values (data-at n m)))
+  low-column : part 0 n (tail-of n m) ≡ pad 0 n (map low-word (values (data-map-at n m)))
   low-column =
       filled-to n _ _ (lows-long n m v) (v .lows)
       ∙ ap (pad 0 n) (sym (ap (map low-word) words-taken ∙ lows-back _ _ _ (lows-like n m v) (highs-like n m v) small-low small-high each-row))
 
-  high-column : part n n (tail-of n m) ≡ pad 0 n (map high-word (values (data-at n m)))
+  high-column : part n n (tail-of n m) ≡ pad 0 n (map high-word (values (data-map-at n m)))
   high-column =
       filled-to n _ _ (highs-long n m v) (v .highs)
       ∙ ap (pad 0 n) (sym (ap (map high-word) words-taken ∙ highs-back _ _ _ (lows-like n m v) (highs-like n m v) small-low small-high each-row))
@@ -204,13 +204,13 @@ module _ (n : ℕ) (m : List ℕ) (v : ValidDataWords n m) (f : Small m) where
   unfolding head-of tail-of part
   halves = take-add (n + n) (n + n) m
 
-  pub data-words : m ≡ data-section n (data-at n m)
+  pub data-words : m ≡ data-section n (data-map-at n m)
   unfolding data-section
   data-words =
       let h = in-two n (head-of n m) (head-long n m (v .long)) ∙ (λ i. key-column i ++ len-column i) in
       let t = in-two n (tail-of n m) (tail-long n m (v .long)) ∙ (λ i. low-column i ++ high-column i) in
-      with-last (n + n + (n + n)) m (v .long) ∙ (λ i. halves i ++ (sym (v .counted) i ∷ [])) ∙ (λ i. h i ++ t i ++ (length (data-at n m) ∷ []))
-      ∙ ap (λ (l : List ℕ). l ++ (length (data-at n m) ∷ [])) (grouped (pad 0 n (keys (data-at n m)) ++ pad 0 n (map length (values (data-at n m)))) (pad 0 n (map low-word (values (data-at n m)))) (pad 0 n (map high-word (values (data-at n m)))))
+      with-last (n + n + (n + n)) m (v .long) ∙ (λ i. halves i ++ (sym (v .counted) i ∷ [])) ∙ (λ i. h i ++ t i ++ (length (data-map-at n m) ∷ []))
+      ∙ ap (λ (l : List ℕ). l ++ (length (data-map-at n m) ∷ [])) (grouped (pad 0 n (keys (data-map-at n m)) ++ pad 0 n (map length (values (data-map-at n m)))) (pad 0 n (map low-word (values (data-map-at n m)))) (pad 0 n (map high-word (values (data-map-at n m)))))
 
 pub data-same : (n : ℕ) (s t : List ℕ) (l : List (ℕ × List ℕ)) → Small s → Small t → HoldsDataWords n s l → HoldsDataWords n t l → s ≡ t
 data-same n s t l f g h k = data-words n s (h .valid) f ∙ ap (data-section n) (h .items ∙ sym (k .items)) ∙ sym (data-words n t (k .valid) g)

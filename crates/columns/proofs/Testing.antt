@@ -22,7 +22,7 @@ use Rattle.peer.specs.Maps.{DataEntry, valid-entry, entry-bytes, ValidEntry}
 use Rattle.scan.specs.Words.{unused}
 use Rattle.peer.proofs.Maps.{unread, valid-entry-true, true-valid-entry}
 use Rattle.util.specs.Section.{part, Filled}
-use Rattle.columns.specs.Columns.{row, rows, head-of, tail-of, count-of, entries-at, data-at, ValidDataWords, valid-data-words}
+use Rattle.columns.specs.Columns.{row, rows, head-of, tail-of, count-of, entries-at, data-map-at, ValidDataWords, valid-data-words}
 use Rattle.util.proofs.Parts.{part-long}
 use Rattle.columns.proofs.Rows.{length-rows, getD-rows}
 use Rattle.columns.proofs.Data.{head-long, tail-long, keys-long, lens-long, lows-long, highs-long, head-read, low-read, high-read}
@@ -100,13 +100,13 @@ module _ (n : ℕ) (m : List ℕ) (l : length m ≡ n + n + (n + n) + 1) where
   unfolding valid-data-words
   words-no h = rw (lt-leb _ _ h)
 
-  words-keys : count-of n m ≤ n → keys (data-at n m) ≡ take (count-of n m) (part 0 n (head-of n m))
-  unfolding data-at
+  words-keys : count-of n m ≤ n → keys (data-map-at n m) ≡ take (count-of n m) (part 0 n (head-of n m))
+  unfolding data-map-at
   words-keys h =
       keys-zip _ _ (length-take-le (count-of n m) (part 0 n (head-of n m)) (omega (arith, part-long 0 n (head-of n m) (omega (arith, head-long n m l))))
       ∙ sym (length-map (take (count-of n m) (entries-at n m)) entry-bytes ∙ length-take-le (count-of n m) (entries-at n m) (omega (arith, entries-long n m l))))
 
-  words-read : count-of n m ≤ n → keys (data-at n m) ≡ take (count-of n m) (head-of n m)
+  words-read : count-of n m ≤ n → keys (data-map-at n m) ≡ take (count-of n m) (head-of n m)
   unfolding part
   words-read h = words-keys h ∙ take-take (count-of n m) n (head-of n m) h
 
@@ -155,18 +155,18 @@ valid-words-true n m l t =
     let s = and-right (packed unused n (count-of n m) (part 0 n (head-of n m)) && packed unused n (count-of n m) (part n n (head-of n m))) _ r in
     let b = and-left (packed unused n (count-of n m) (part 0 n (tail-of n m)) && packed unused n (count-of n m) (part n n (tail-of n m))) _ s in
     let u = and-right (packed unused n (count-of n m) (part 0 n (tail-of n m)) && packed unused n (count-of n m) (part n n (tail-of n m))) _ s in
-    let k : length (keys (data-at n m)) ≡ count-of n m =
+    let k : length (keys (data-map-at n m)) ≡ count-of n m =
     ap length (words-keys n m l h) ∙ length-take-le (count-of n m) (part 0 n (head-of n m)) (omega (arith, part-long 0 n (head-of n m) (omega (arith, head-long n m l)))) in
     record {
       long = l;
       fits = h;
-      counted = sym (length-keys (data-at n m)) ∙ k;
+      counted = sym (length-keys (data-map-at n m)) ∙ k;
       keyed = packed-filled n _ _ (part-long 0 n (head-of n m) (omega (arith, head-long n m l))) h (and-left (packed unused n (count-of n m) (part 0 n (head-of n m))) _ a);
       lens = packed-filled n _ _ (part-long n n (head-of n m) (omega (arith, head-long n m l))) h (and-right (packed unused n (count-of n m) (part 0 n (head-of n m))) _ a);
       lows = packed-filled n _ _ (part-long 0 n (tail-of n m) (omega (arith, tail-long n m l))) h (and-left (packed unused n (count-of n m) (part 0 n (tail-of n m))) _ b);
       highs = packed-filled n _ _ (part-long n n (tail-of n m) (omega (arith, tail-long n m l))) h (and-right (packed unused n (count-of n m) (part 0 n (tail-of n m))) _ b);
       each = every-true valid-entry ValidEntry valid-entry-true (take (count-of n m) (entries-at n m)) (and-left (every valid-entry (take (count-of n m) (entries-at n m))) _ u);
-      rises = rising-true (keys (data-at n m)) (and-right (every valid-entry (take (count-of n m) (entries-at n m))) _ u);
+      rises = rising-true (keys (data-map-at n m)) (and-right (every valid-entry (take (count-of n m) (entries-at n m))) _ u);
     }
 
 filled-packed : (n k : ℕ) (s : List ℕ) → length s ≡ n → Filled s k → packed unused n k s ≡ true
@@ -178,4 +178,4 @@ true-valid-words n m v =
     both-true (leb (count-of n m) n) _ (le-leb (count-of n m) n (v .fits))
     (both-true _ _ (both-true _ _ (filled-packed n _ _ (keys-long n m v) (v .keyed)) (filled-packed n _ _ (lens-long n m v) (v .lens)))
     (both-true _ _ (both-true _ _ (filled-packed n _ _ (lows-long n m v) (v .lows)) (filled-packed n _ _ (highs-long n m v) (v .highs)))
-    (both-true _ _ (true-every valid-entry ValidEntry true-valid-entry (take (count-of n m) (entries-at n m)) (v .each)) (true-rising (keys (data-at n m)) (v .rises)))))
+    (both-true _ _ (true-every valid-entry ValidEntry true-valid-entry (take (count-of n m) (entries-at n m)) (v .each)) (true-rising (keys (data-map-at n m)) (v .rises)))))

@@ -82,25 +82,25 @@ count-of n m = getD m (n + n + (n + n)) 0
 unfoldable pub entries-at : ℕ → List ℕ → List DataEntry
 entries-at n m = rows (part n n (head-of n m)) (part 0 n (tail-of n m)) (part n n (tail-of n m))
 
-unfoldable pub data-at : ℕ → List ℕ → List (ℕ × List ℕ)
-data-at n m = zip (take (count-of n m) (part 0 n (head-of n m))) (map entry-bytes (take (count-of n m) (entries-at n m)))
+unfoldable pub data-map-at : ℕ → List ℕ → List (ℕ × List ℕ)
+data-map-at n m = zip (take (count-of n m) (part 0 n (head-of n m))) (map entry-bytes (take (count-of n m) (entries-at n m)))
 
 -- the count is at most n, zeroes past all columns, each entry is valid, and the peers rise; the third as in `ValidNumbers`
 pub record ValidDataWords (n : ℕ) (m : List ℕ) : Type 0 where
   pub long : length m ≡ n + n + (n + n) + 1
   pub fits : count-of n m ≤ n
-  pub counted : length (data-at n m) ≡ count-of n m
+  pub counted : length (data-map-at n m) ≡ count-of n m
   pub keyed : Filled (part 0 n (head-of n m)) (count-of n m)
   pub lens : Filled (part n n (head-of n m)) (count-of n m)
   pub lows : Filled (part 0 n (tail-of n m)) (count-of n m)
   pub highs : Filled (part n n (tail-of n m)) (count-of n m)
   pub each : All ValidEntry (take (count-of n m) (entries-at n m))
-  pub rises : Rising (keys (data-at n m))
+  pub rises : Rising (keys (data-map-at n m))
 
 -- m is valid and stands for l, which determines m where its words fit 64 bits
 pub record HoldsDataWords (n : ℕ) (m : List ℕ) (l : List (ℕ × List ℕ)) : Type 0 where
   pub valid : ValidDataWords n m
-  pub items : data-at n m ≡ l
+  pub items : data-map-at n m ≡ l
 
 -- what `ValidDataWords` says of a list of the right length, as a test
 unfoldable pub valid-data-words : ℕ → List ℕ → Bool
@@ -108,7 +108,7 @@ valid-data-words n m =
     leb (count-of n m) n
     && ((packed unused n (count-of n m) (part 0 n (head-of n m)) && packed unused n (count-of n m) (part n n (head-of n m)))
     && ((packed unused n (count-of n m) (part 0 n (tail-of n m)) && packed unused n (count-of n m) (part n n (tail-of n m)))
-    && (every valid-entry (take (count-of n m) (entries-at n m)) && rising (keys (data-at n m)))))
+    && (every valid-entry (take (count-of n m) (entries-at n m)) && rising (keys (data-map-at n m)))))
 
 -- the words of at most 16 bytes
 unfoldable pub low-word : List ℕ → ℕ

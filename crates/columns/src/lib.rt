@@ -17,7 +17,7 @@ ghost use Rattle.peer.specs.Held.{data-in, ValidData, HoldsData};
 ghost use Rattle.peer.specs.Maps.{number-in, valid-entry};
 ghost use Rattle.scan.specs.Words.{unused};
 ghost use Rattle.util.specs.Section.{part, Filled, items-at, ValidSet, HoldsSet};
-ghost use Rattle.columns.specs.Columns.{numbers-at, ValidNumbers, HoldsNumbers, valid-numbers, Two, word-bytes, row, entries-at, data-at, ValidDataWords, HoldsDataWords, valid-data-words};
+ghost use Rattle.columns.specs.Columns.{numbers-at, ValidNumbers, HoldsNumbers, valid-numbers, Two, word-bytes, row, entries-at, data-map-at, ValidDataWords, HoldsDataWords, valid-data-words};
 
 // ---- two columns of cap places
 
@@ -229,7 +229,7 @@ pub fn numbers_valid(m: &[u64], cap: usize) -> bool
 
 pub fn count_data(m: &[u64], cap: usize) -> usize
     requires { ⌜ ValidDataWords cap (now m) ⌝ }
-    ensures { λ r. ⌜ (r ≡ length (data-at cap (now (m .entry)))) × (r ≤ cap) ⌝ }
+    ensures { λ r. ⌜ (r ≡ length (data-map-at cap (now (m .entry)))) × (r ≤ cap) ⌝ }
 {
     let half = cap + cap;
     let end = half + half;
@@ -238,7 +238,7 @@ pub fn count_data(m: &[u64], cap: usize) -> usize
 
 pub fn contains_data(m: &[u64], cap: usize, p: PeerId) -> bool
     requires { ⌜ ValidDataWords cap (now m) ⌝ }
-    ensures { λ r. ⌜ r ≡ has p (data-at cap (now (m .entry))) ⌝ }
+    ensures { λ r. ⌜ r ≡ has p (data-map-at cap (now (m .entry))) ⌝ }
 {
     let half = cap + cap;
     let end = half + half;
@@ -249,7 +249,7 @@ pub fn contains_data(m: &[u64], cap: usize, p: PeerId) -> bool
 
 pub fn get_data(m: &[u64], cap: usize, p: PeerId) -> PeerData
     requires { ⌜ ValidDataWords cap (now m) ⌝ }
-    ensures { λ r. ⌜ HoldsData r (lookup p (data-at cap (now (m .entry)))) ⌝ }
+    ensures { λ r. ⌜ HoldsData r (lookup p (data-map-at cap (now (m .entry)))) ⌝ }
 {
     let half = cap + cap;
     let end = half + half;
@@ -271,7 +271,7 @@ pub fn get_data(m: &[u64], cap: usize, p: PeerId) -> PeerData
 pub fn holds_data(m: &[u64], cap: usize, p: PeerId, d: PeerData) -> bool
     requires { ⌜ ValidDataWords cap (now m) ⌝ }
     requires { ⌜ ValidData d ⌝ }
-    ensures { λ r. ⌜ r ≡ holds (lookup p (data-at cap (now (m .entry)))) (bytes-of (data-in d)) ⌝ }
+    ensures { λ r. ⌜ r ≡ holds (lookup p (data-map-at cap (now (m .entry)))) (bytes-of (data-in d)) ⌝ }
 {
     let half = cap + cap;
     let end = half + half;
@@ -294,7 +294,7 @@ pub fn holds_data(m: &[u64], cap: usize, p: PeerId, d: PeerData) -> bool
 
 pub fn remove_data(m: &mut [u64], cap: usize, p: PeerId)
     requires { ⌜ ValidDataWords cap (now m) ⌝ }
-    ensures { λ _. ⌜ HoldsDataWords cap (now (m .exit)) (cut p (data-at cap (now (m .entry)))) ⌝ }
+    ensures { λ _. ⌜ HoldsDataWords cap (now (m .exit)) (cut p (data-map-at cap (now (m .entry)))) ⌝ }
 {
     let half = cap + cap;
     let end = half + half;
@@ -309,9 +309,9 @@ pub fn remove_data(m: &mut [u64], cap: usize, p: PeerId)
 }
 
 // The places of the active view, of the passive view and of the requests, and of the peers of all three together.
-const FEW: usize = 8;
+pub const ACTIVE_PLACES: usize = 8;
 
-const ALL: usize = 32;
+pub const PASSIVE_PLACES: usize = 32;
 
 pub const KNOWN: usize = 72;
 
@@ -324,18 +324,18 @@ pub fn data_peers(active: &[u64], passive: &[u64], requests: &[u64], v: &mut [u6
     ensures { λ _. ⌜ HoldsSet 72 (now (v .exit)) (items-at 8 (now (active .entry)) ++ (items-at 32 (now (passive .entry)) ++ keys (numbers-at 32 (now (requests .entry))))) ⌝ }
 {
     let mut asked = [0u64; 33];
-    keys_into(requests, ALL, &mut asked);
+    keys_into(requests, PASSIVE_PLACES, &mut asked);
     util::clear(v, KNOWN);
-    util::append(v, KNOWN, active, FEW);
-    util::append(v, KNOWN, passive, ALL);
-    util::append(v, KNOWN, &asked, ALL);
+    util::append(v, KNOWN, active, ACTIVE_PLACES);
+    util::append(v, KNOWN, passive, PASSIVE_PLACES);
+    util::append(v, KNOWN, &asked, PASSIVE_PLACES);
 }
 
 // Whether every peer of the map is in the set.
 pub fn data_within(m: &[u64], cap: usize, s: &[u64], scap: usize) -> bool
     requires { ⌜ ValidDataWords cap (now m) ⌝ }
     requires { ⌜ ValidSet scap (now s) ⌝ }
-    ensures { λ r. ⌜ r ≡ subset (keys (data-at cap (now (m .entry)))) (items-at scap (now (s .entry))) ⌝ }
+    ensures { λ r. ⌜ r ≡ subset (keys (data-map-at cap (now (m .entry)))) (items-at scap (now (s .entry))) ⌝ }
 {
     let half = cap + cap;
     let end = half + half;
@@ -348,7 +348,7 @@ pub fn data_within(m: &[u64], cap: usize, s: &[u64], scap: usize) -> bool
 pub fn retain_data(m: &mut [u64], cap: usize, s: &[u64], scap: usize)
     requires { ⌜ ValidDataWords cap (now m) ⌝ }
     requires { ⌜ ValidSet scap (now s) ⌝ }
-    ensures { λ _. ⌜ HoldsDataWords cap (now (m .exit)) (retain (items-at scap (now (s .entry))) (data-at cap (now (m .entry)))) ⌝ }
+    ensures { λ _. ⌜ HoldsDataWords cap (now (m .exit)) (retain (items-at scap (now (s .entry))) (data-map-at cap (now (m .entry)))) ⌝ }
 {
     if data_within(m, cap, s, scap) {
         return;
@@ -370,8 +370,8 @@ pub fn retain_data(m: &mut [u64], cap: usize, s: &[u64], scap: usize)
 pub fn insert_data(m: &mut [u64], cap: usize, p: PeerId, d: PeerData)
     requires { ⌜ ValidDataWords cap (now m) ⌝ }
     requires { ⌜ ValidData d ⌝ }
-    requires { ⌜ (has p (data-at cap (now m)) || ltb (length (data-at cap (now m))) cap) ≡ true ⌝ }
-    ensures { λ _. ⌜ HoldsDataWords cap (now (m .exit)) (put p (bytes-of (data-in d)) (data-at cap (now (m .entry)))) ⌝ }
+    requires { ⌜ (has p (data-map-at cap (now m)) || ltb (length (data-map-at cap (now m))) cap) ≡ true ⌝ }
+    ensures { λ _. ⌜ HoldsDataWords cap (now (m .exit)) (put p (bytes-of (data-in d)) (data-map-at cap (now (m .entry)))) ⌝ }
 {
     let half = cap + cap;
     let end = half + half;

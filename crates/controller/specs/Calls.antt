@@ -9,7 +9,7 @@ use Rattle.peer.specs.Data.{Data}
 use Rattle.tally.specs.declared.Tally.{Tally}
 use Rattle.tally.specs.Counts.{raised}
 use Rattle.tally.specs.History.{no-messages}
-use Rattle.hyparview.specs.Made.{Made, made}
+use Rattle.hyparview.specs.Made.{MadeWords, made}
 use Rattle.hyparview.specs.Handled.{Outcome, handled}
 
 -- what `hyparview_new` hands back, and the words and the tally as it leaves them
@@ -19,7 +19,7 @@ pub record Begun : Type 0 where
   pub tally : Tally
 
 -- State::new with the tally t beside it, which becomes zeroes, and stays where the words are too few or too many
-unfoldable pub with-tally : Tally → Made → Begun
+unfoldable pub with-tally : Tally → MadeWords → Begun
 with-tally t m = record { code = m .code; words = m .words; tally = choose (eqb (m .code) 2) t no-messages }
 
 -- `hyparview_new` at the words xs and the tally t

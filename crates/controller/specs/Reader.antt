@@ -7,14 +7,14 @@ use lib.Dec.{ltb}
 use Rattle.lists.specs.Lists.{choose}
 use Rattle.record.specs.declared.Header.{Header}
 use Rattle.record.specs.Read.{well-formed, header-of, entry-at}
-use Rattle.controller.specs.declared.Reading.{Reading}
+use Rattle.controller.specs.declared.HeaderReading.{HeaderReading}
 use Rattle.controller.specs.declared.NodeReading.{NodeReading}
 
 unfoldable pub no-header : Header
 no-header = record { kind = 0; message = 0; flags = 0; nodes = 0; peer = 0; second = 0; ttl = 0; size = 0; number = 0 }
 
 -- the header of bytes that are a record
-unfoldable pub reading : List ℕ → Reading
+unfoldable pub reading : List ℕ → HeaderReading
 reading b = choose (well-formed b) (record { ok = true; header = header-of b }) (record { ok = false; header = no-header })
 
 unfoldable pub no-entry : NodeReading

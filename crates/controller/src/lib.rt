@@ -24,7 +24,7 @@ pub struct Start {
 
 // A record's header, or not ok and zeroes.
 #[repr(C)]
-pub struct Reading {
+pub struct HeaderReading {
     pub ok: bool,
     pub header: Header,
 }
@@ -157,16 +157,16 @@ fn no_header() -> Header
 
 // The one reader for kinds 0 to 12.
 #[no_mangle]
-pub extern "C" fn hyparview_read(b: &[u8]) -> Reading
+pub extern "C" fn hyparview_read(b: &[u8]) -> HeaderReading
     ensures { λ r. ⌜ r ≡ reading (now (b .entry)) ⌝ }
 {
     let a = record::read(b);
     match a {
-        record::Answer::Record(h) => Reading {
+        record::Answer::Record(h) => HeaderReading {
             ok: true,
             header: h,
         },
-        record::Answer::Malformed => Reading {
+        record::Answer::Malformed => HeaderReading {
             ok: false,
             header: no_header(),
         },

@@ -37,7 +37,7 @@ use Rattle.state.specs.Unpack.{unpack}
 use Rattle.rules.specs.Pack.{pack}
 use Rattle.rules.specs.Ok.{packed-ok, state-ok}
 use Rattle.rules.proofs.Fitting.{ok-unpacked, pack-ok}
-use Rattle.hyparview.specs.Made.{Made, lent, pack-made}
+use Rattle.hyparview.specs.Made.{MadeWords, lent, pack-made}
 use Rattle.hyparview.specs.Made as lending
 use Rattle.hyparview.proofs.Making.{zero-words}
 use Rattle.hyparview.specs.declared.State.{State}
@@ -85,7 +85,7 @@ given me present own t = record {
 whole : (xs : List ℕ) (me : ℕ) (present : Bool) (own : List ℕ) (c : Config) → (program-made xs me present own c .code ≡ 2 → ⊥) → program-made xs me present own c ≡ pack-made (definition.new me (lent present own) c)
 unfolding program-made lending.made
 whole xs me present own c h =
-    split (eqb (length xs) words) (λ y. choose-yes _ _ _ y) (λ n. absurd (h (ap (λ (m : Made). m .code) (choose-no _ _ _ n))))
+    split (eqb (length xs) words) (λ y. choose-yes _ _ _ y) (λ n. absurd (h (ap (λ (m : MadeWords). m .code) (choose-no _ _ _ n))))
 
 -- a claim on what `new` answered with code 0 is one on the definition's answer, packed
 from-new : (X : List ℕ → Type 0) (xs : List ℕ) (me : ℕ) (present : Bool) (own : List ℕ) (c : Config) → program-made xs me present own c .code ≡ 0
@@ -93,7 +93,7 @@ from-new : (X : List ℕ → Type 0) (xs : List ℕ) (me : ℕ) (present : Bool)
 unfolding pack-made
 from-new X xs me present own c z h =
     let e = whole xs me present own c (λ two. omega (arith, two, z)) in
-    subst (λ (m : Made). X (m .words)) (sym e) (h (sym (ap (λ (m : Made). m .code) e) ∙ z))
+    subst (λ (m : MadeWords). X (m .words)) (sym e) (h (sym (ap (λ (m : MadeWords). m .code) e) ∙ z))
 
 -- Demand 3 for the program.
 pub demand-3-holds : D.Demand3-holds
@@ -135,8 +135,8 @@ refused-zeroes xs me present own c one =
     let d = lent present own in
     let e = whole xs me present own c (λ two. omega (arith, two, one)) in
     split (in-range c && short-data d)
-    (λ y. let zero : 0 ≡ 1 = sym (ap (λ (m : definition.Made). m .code) (choose-yes (in-range c && short-data d) _ _ y)) ∙ (sym (ap (λ (m : Made). m .code) e) ∙ one) in absurd (omega (arith, zero)))
-    (λ n. ap (λ (m : Made). m .words) e ∙ (ap (λ (m : definition.Made). pack (m .state)) (choose-no (in-range c && short-data d) _ _ n) ∙ (sym zero-words ∙ sym zeroes)))
+    (λ y. let zero : 0 ≡ 1 = sym (ap (λ (m : definition.Made). m .code) (choose-yes (in-range c && short-data d) _ _ y)) ∙ (sym (ap (λ (m : MadeWords). m .code) e) ∙ one) in absurd (omega (arith, zero)))
+    (λ n. ap (λ (m : MadeWords). m .words) e ∙ (ap (λ (m : definition.Made). pack (m .state)) (choose-no (in-range c && short-data d) _ _ n) ∙ (sym zero-words ∙ sym zeroes)))
 
 -- ---- one call
 
@@ -165,10 +165,10 @@ not-one g ok v =
     (by-reading (v .event) (v .are-bytes) (λ (x : Reading). definition.handle-reading x g (v .draws) room .code ≡ 1 → ⊥) (λ c l h e. omega (arith, l, e))
     (λ w. let r = definition.steps (rec-of (v .event)) (definition.start g (v .draws) room) in
     let k = finished g ok (v .draws) room (rec-of (v .event)) w in
-    by-choice (λ (a : definition.Answer). a .code ≡ 1 → ⊥) (eqb (r .code) 0) (λ z e. omega (arith, e)) (λ z e. let five = k .codes .low (omega (arith, e)) in omega (arith, five, e))))
+    by-choice (λ (a : definition.Result). a .code ≡ 1 → ⊥) (eqb (r .code) 0) (λ z e. omega (arith, e)) (λ z e. let five = k .codes .low (omega (arith, e)) in omega (arith, five, e))))
 
 pub never-one : D.Never-one
-unfolding program-outcome packed-answer Handled.refusal
+unfolding program-outcome packed-answer Handled.refused-words
 never-one xs v e =
     split (state-ok xs)
     (λ ok. not-one (unpack xs) (rules-kept xs ok) v (sym (ap (λ (x : Outcome). x .code) (answers xs ok v)) ∙ e))

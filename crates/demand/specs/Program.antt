@@ -23,14 +23,14 @@ use Rattle.shuffle_times.specs.Claims.{Timed}
 use Rattle.state.specs.Layout.{words}
 use Rattle.state.specs.Unpack.{unpack}
 use Rattle.rules.specs.Ok.{state-ok}
-use Rattle.hyparview.specs.Made.{Made, lent, pack-made}
+use Rattle.hyparview.specs.Made.{MadeWords, lent, pack-made}
 use Rattle.hyparview.specs.Made as lending
 use Rattle.hyparview.specs.declared.State.{State}
-use Rattle.hyparview.specs.declared.Made as by-value
+use Rattle.hyparview.specs.declared.MadeState as by-value
 use Rattle.hyparview.specs.Handled.{Outcome, handled}
 
 -- what `new` answers, and the words xs that it was lent as it leaves them
-unfoldable pub program-made : List ℕ → ℕ → Bool → List ℕ → Config → Made
+unfoldable pub program-made : List ℕ → ℕ → Bool → List ℕ → Config → MadeWords
 program-made xs me present own c = lending.made xs me (lent present own) c
 
 -- what `handle` answers, and the words and the output as it leaves them
@@ -132,7 +132,7 @@ Refused-zeroes =
 -- ---- the form that document 01 names: the state by value, `State::new` and `handle` with self
 
 -- what `State::new` hands back
-unfoldable pub made-state : ℕ → Bool → List ℕ → Config → by-value.Made
+unfoldable pub made-state : ℕ → Bool → List ℕ → Config → by-value.MadeState
 made-state me present own c =
     let m = pack-made (definition.new me (lent present own) c) in
     record { code = m .code; state = record { words = m .words } }

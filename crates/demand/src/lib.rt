@@ -1,7 +1,7 @@
 // The program's `new` and `handle` under the names that demand 3 speaks of: a contract of theirs that said less would not prove these.
-use hyparview::Answer;
 use hyparview::Done;
-use hyparview::Made;
+use hyparview::HandledState;
+use hyparview::MadeState;
 use hyparview::State;
 use peer::PeerId;
 use timing::Config;
@@ -21,13 +21,13 @@ pub fn handle(st: &mut [u64], b: &[u8], draws: &[u32], out: &mut [u8]) -> Done
 }
 
 // The same by value.
-pub fn new_state(me: PeerId, present: bool, own: &[u8], config: Config) -> Made
+pub fn new_state(me: PeerId, present: bool, own: &[u8], config: Config) -> MadeState
     ensures { λ r. ⌜ r ≡ made-state me present (now (own .entry)) config ⌝ }
 {
     State::new(me, present, own, config)
 }
 
-pub fn handle_state(s: State, b: &[u8], draws: &[u32], out: &mut [u8]) -> Answer
+pub fn handle_state(s: State, b: &[u8], draws: &[u32], out: &mut [u8]) -> HandledState
     ensures { λ r. ⌜ record { code = r .code; draws = r .draws; words = r .state .words; output = now (out .exit) } ≡ program-outcome (now (b .entry)) (now (draws .entry)) (now (out .entry)) (s .words) ⌝ }
 {
     s.handle(b, draws, out)

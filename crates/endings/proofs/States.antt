@@ -30,7 +30,7 @@ use Rattle.hyparview.specs.Made.{lent, pack-made}
 use Rattle.hyparview.specs.Made as lending
 use Rattle.hyparview.specs.Queries.{neighbors-in, spare-addresses, spare-addresses-in}
 use Rattle.hyparview.specs.declared.State.{State}
-use Rattle.demand.specs.Program.{Typed, made, program, made-state}
+use Rattle.demand.specs.Program.{Typed, program-made, program, made-state}
 use Rattle.demand.proofs.Program.{states-same}
 use Rattle.endings.specs.declared.Ends.{Ends}
 use Rattle.endings.specs.Events.{of-peer, quit, events, event-at, tiny, first, draws, output, after-history}
@@ -64,12 +64,12 @@ unfolding new tiny default in-range within short-data choose
 taken = refl
 
 -- on words that hold zeroes, as `State::new` lends them
-made-zero : made (replicate words 0) 1 false [] tiny .code ≡ 0
-unfolding made lending.made pack-made lent choose
+made-zero : program-made (replicate words 0) 1 false [] tiny .code ≡ 0
+unfolding program-made lending.made pack-made lent choose
 made-zero = taken
 
-first-made : first-state .words ≡ made (replicate words 0) 1 false [] tiny .words
-unfolding first-state made-state made lending.made choose
+first-made : first-state .words ≡ program-made (replicate words 0) 1 false [] tiny .words
+unfolding first-state made-state program-made lending.made choose
 first-made = refl
 
 -- the number of the station has 32 bits, and it has no data

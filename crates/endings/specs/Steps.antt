@@ -7,7 +7,7 @@ use lib.ListN.{length}
 use Rattle.record.specs.Format.{encode}
 use Rattle.hyparview.specs.Queries.{neighbors-in, spare-addresses-in}
 use Rattle.hyparview.specs.declared.State.{State}
-use Rattle.demand.specs.Program.{outcome, made-state}
+use Rattle.demand.specs.Program.{program-outcome, made-state}
 use Rattle.endings.specs.declared.Ends.{Ends}
 use Rattle.endings.specs.Events.{event-at, tiny, draws, output}
 use Rattle.endings.specs.Ends.{Sizes}
@@ -18,7 +18,7 @@ first-state = made-state 1 false [] tiny .state
 
 -- one event
 unfoldable pub played : ℕ → State → State
-played e s = record { words = outcome (encode (event-at e)) draws output (s .words) .words }
+played e s = record { words = program-outcome (encode (event-at e)) draws output (s .words) .words }
 
 -- a history
 unfoldable pub after-in : List ℕ → State → State

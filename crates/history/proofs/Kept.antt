@@ -22,7 +22,7 @@ use Rattle.record.specs.Read.{Reading, read-event, rec-of, rec-of-by, header-of
 use Rattle.record.specs.Walk.{kind-in, message-in}
 use Rattle.protocol.specs.Station.{Station}
 use Rattle.protocol.specs.Rules.{station-ok, short-data}
-use Rattle.protocol.specs.Handle.{Answer, Made, new, new-station, start, steps, refusal, accepted, finish, handle-reading, handle}
+use Rattle.protocol.specs.Handle.{Result, Made, new, new-station, start, steps, refusal, accepted, finish, handle-reading, handle}
 use Rattle.lists.proofs.Members.{mem-yes, mem-no, same-length}
 use Rattle.protocol.proofs.Law.{Lawful, Small}
 use Rattle.protocol.proofs.Told.{up-after, sent-after}
@@ -65,7 +65,7 @@ abbrev pub Kept : Config → ℕ → Ledger → Station → Type 0
 Kept c me l s = Between c me (l .up) (l .sent) (l .allowance) s
 
 -- an answer that is not 2, and keeps it
-pub record Fine (c : Config) (me : ℕ) (b : List ℕ) (l : Ledger) (a : Answer) : Type 0 where
+pub record Fine (c : Config) (me : ℕ) (b : List ℕ) (l : Ledger) (a : Result) : Type 0 where
   pub not-two : a .code ≡ 2 → ⊥
   pub kept : Kept c me (feed (c .«active_view_capacity») b (a .code) (a .output) l) (a .state)
 

@@ -23,7 +23,7 @@ use Rattle.record.proofs.RoundTrip.{written-reads-back}
 use Rattle.protocol.specs.Station.{Station, draws-end}
 use Rattle.protocol.specs.Rules.{all-under, short-data}
 use Rattle.protocol.specs.Handle.{Made, new, new-station}
-use Rattle.protocol.specs.Written.{encode-all, Written}
+use Rattle.protocol.specs.Written.{encode-all, WrittenOut}
 use Rattle.protocol.proofs.Tested.{rules-of}
 use Rattle.protocol.proofs.Written.{writes-records}
 use Rattle.history.specs.Ledger.{Ledger}
@@ -53,7 +53,7 @@ decode-all [] a = refl
 decode-all (e ∷ es) a = λ i. written-reads-back e (a .0) i ∷ decode-all es (a .1) i
 
 -- what is written reads back
-pub reads : (out : List ℕ) → Written out → ReadsBack out
+pub reads : (out : List ℕ) → WrittenOut out → ReadsBack out
 reads out w =
     let es = w .records in
     let parts : cut-records out ≡ map encode es =

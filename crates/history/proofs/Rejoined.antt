@@ -16,7 +16,7 @@ use Rattle.record.specs.Walk.{kind-in}
 use Rattle.protocol.specs.Station.{Station}
 use Rattle.protocol.specs.Timers.{knows-none}
 use Rattle.protocol.specs.Rules.{station-ok, short-data}
-use Rattle.protocol.specs.Handle.{Answer, Made, new, new-station, start, steps, refusal, accepted, finish, handle-reading, handle}
+use Rattle.protocol.specs.Handle.{Result, Made, new, new-station, start, steps, refusal, accepted, finish, handle-reading, handle}
 use Rattle.protocol.proofs.Reading.{Readable, by-reading}
 use Rattle.protocol.proofs.Whole.{ok-steps}
 use Rattle.protocol.proofs.Tested.{rules-of}
@@ -34,7 +34,7 @@ due-at n =
     choose-no (ltb k 12) _ _ (le-ltb k 12 (omega arith)) ∙ eq-eqb (k % 12) 0 (omega arith)
 
 -- what a call does to the passes: a tick at a station with both views empty counts one, and rejoins where it is due; nothing but a tick counts
-record Passed (b : List ℕ) (s : Station) (a : Answer) : Type 0 where
+record Passed (b : List ℕ) (s : Station) (a : Result) : Type 0 where
   counts : (eqb (kind-in b) 2 && eqb (a .code) 0) ≡ true → knows-none s ≡ true → a .state .passes-alone ≡ s .passes-alone + 1
   rejoins : (eqb (kind-in b) 2 && eqb (a .code) 0) ≡ true → knows-none s ≡ true → backoff-due (s .passes-alone + 1) ≡ true → Rejoins (record { met = s; output = a .output })
   quiet : (eqb (kind-in b) 2 && eqb (a .code) 0) ≡ false → a .state .passes-alone ≡ s .passes-alone

@@ -9,7 +9,7 @@ use lib.ListN.{length}
 use Rattle.peer.specs.Data.{Data, bytes-of}
 use Rattle.protocol.specs.Station.{Station, peers-end, draws-end, bytes-end}
 use Rattle.protocol.specs.Rules.{all-under}
-use Rattle.protocol.specs.Handle.{Answer, handle}
+use Rattle.protocol.specs.Handle.{Result, handle}
 use Rattle.history.specs.Ledger.{Ledger, feed}
 
 -- "Each event is one `handle` .. with any event bytes, draws and output, whatever the output held"
@@ -61,10 +61,10 @@ ledger-after m a [] s l = l
 ledger-after m a (v ∷ vs) s l = ledger-after m a vs (state-of m v s) (feed a (v .event) (code-of m v s) (output-of m v s) l)
 
 -- the definition's answer
-unfoldable pub answered : List ℕ → List ℕ → List ℕ → Station → Answer
+unfoldable pub answered : List ℕ → List ℕ → List ℕ → Station → Result
 answered b ds out s = handle s b ds (length out)
 
-abbrev pub result-of : Call → Station → Answer
+abbrev pub result-of : Call → Station → Result
 result-of v s = answered (v .event) (v .draws) (v .output) s
 
 -- the definition as a machine

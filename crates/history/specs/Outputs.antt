@@ -12,7 +12,7 @@ use Rattle.record.specs.Format.{encode}
 use Rattle.record.specs.Read.{decode}
 use Rattle.record.specs.Walk.{whole-length, records-in}
 use Rattle.protocol.specs.Handle.{new}
-use Rattle.protocol.specs.Written.{Written}
+use Rattle.protocol.specs.Written.{WrittenOut}
 use Rattle.history.specs.Calls.{Call, Given, narrow-draws, Machine, code-of, state-of, output-of, definition}
 
 -- the records of an output, each without the bytes behind it
@@ -21,7 +21,7 @@ cut-records out = map (λ b. take (whole-length b) b) (records-in out)
 
 -- records in form and zeroes; cut by whole lengths, the output is these records and no others; and the reader reads each of them back
 pub record ReadsBack (out : List ℕ) : Type 0 where
-  pub written : Written out
+  pub written : WrittenOut out
   pub parts : cut-records out ≡ map encode (written .records)
   pub read : map decode (cut-records out) ≡ map some (written .records)
 

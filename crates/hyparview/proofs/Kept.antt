@@ -13,12 +13,12 @@ use Rattle.state.specs.Unpack.{unpack}
 use Rattle.rules.specs.Pack.{pack}
 use Rattle.rules.specs.Ok.{packed-ok}
 use Rattle.rules.proofs.Back.{ok-back}
-use Rattle.hyparview.specs.Handled.{Outcome, packed-answer, refusal, handled}
+use Rattle.hyparview.specs.Handled.{Outcome, packed-answer, refused-words, handled}
 
-abbrev code-of : P.Answer → ℕ
+abbrev code-of : P.Result → ℕ
 code-of a = a .code
 
-abbrev station-of : P.Answer → Station
+abbrev station-of : P.Result → Station
 station-of a = a .state
 
 module _ (g : Station) (ds : List ℕ) (room : ℕ) where
@@ -39,7 +39,7 @@ module _ (g : Station) (ds : List ℕ) (room : ℕ) where
       (λ z. ap station-of (choose-no _ _ _ z))
 
 pub handled-refused : (xs b ds : List ℕ) (room : ℕ) → (handled xs b ds room .code ≡ 0 → ⊥) → handled xs b ds room .words ≡ xs
-unfolding handled packed-answer refusal
+unfolding handled packed-answer refused-words
 handled-refused xs b ds room n =
     split (packed-ok xs)
     (λ p.

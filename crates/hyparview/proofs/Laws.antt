@@ -12,7 +12,7 @@ use Rattle.timing.specs.declared.Config.{Config}
 use Rattle.protocol.specs.Run.{on}
 use Rattle.protocol.specs.Timers.{schedule-shuffle, schedule-maintenance}
 use Rattle.protocol.specs.Handle.{new, note-scheduled, first-timers}
-use Rattle.hyparview.specs.Made.{Made, made, pack-made}
+use Rattle.hyparview.specs.Made.{MadeWords, made, pack-made}
 use Rattle.state.specs.declared.Work.{Work}
 use Rattle.state.specs.Layout as layout
 use Rattle.state.specs.Unpack.{station-of, unpack}
@@ -20,26 +20,26 @@ use Rattle.state.specs.Work.{work-of, run, Changes, TellsAny, Fine, Does}
 use Rattle.state.proofs.Bridge.{still, taken, left, then, seq}
 use Rattle.state.proofs.Any.{then-tell-any}
 use Rattle.hyparview.specs.declared.Done.{Done}
-use Rattle.hyparview.specs.Handled.{cleared, refusal, ended}
+use Rattle.hyparview.specs.Handled.{cleared, refused-words, ended}
 
-pub all-zero : (xs : List ℕ) (k : ℕ) (out o : List ℕ) → o ≡ cleared 0 out → record { code = k; draws = 0; words = xs; output = o } ≡ refusal k xs (length out)
-unfolding refusal cleared
+pub all-zero : (xs : List ℕ) (k : ℕ) (out o : List ℕ) → o ≡ cleared 0 out → record { code = k; draws = 0; words = xs; output = o } ≡ refused-words k xs (length out)
+unfolding refused-words cleared
 all-zero xs k out o e =
     let z : length out - 0 ≡ length out = omega arith in
     ap (λ (l : List ℕ). record { code = k; draws = 0; words = xs; output = l }) (e ∙ ap (λ (n : ℕ). replicate n 0) z)
 
 module _ (old : List ℕ) (w : Work) (ys out o : List ℕ) where
-  pub ended-refused : (zs : List ℕ) (r : Done) → (w .code ≡ 0 → ⊥) → zs ≡ old → record { code = r .code; draws = r .draws; words = zs; output = o } ≡ refusal (w .code) zs (length out)
+  pub ended-refused : (zs : List ℕ) (r : Done) → (w .code ≡ 0 → ⊥) → zs ≡ old → record { code = r .code; draws = r .draws; words = zs; output = o } ≡ refused-words (w .code) zs (length out)
       → record { code = r .code; draws = r .draws; words = zs; output = o } ≡ ended old w ys out
   unfolding ended
-  ended-refused zs r h q e = e ∙ (ap (λ (l : List ℕ). refusal (w .code) l (length out)) q ∙ sym (choose-no _ _ _ (ne-eqb _ _ h)))
+  ended-refused zs r h q e = e ∙ (ap (λ (l : List ℕ). refused-words (w .code) l (length out)) q ∙ sym (choose-no _ _ _ (ne-eqb _ _ h)))
 
   pub ended-accepted : w .code ≡ 0 → o ≡ cleared (w .written) out → record { code = 0; draws = w .drawn; words = ys; output = o } ≡ ended old w ys out
   unfolding ended
   ended-accepted h e = ap (λ (l : List ℕ). record { code = 0; draws = w .drawn; words = ys; output = l }) e ∙ sym (choose-yes _ _ _ (eq-eqb _ _ h))
 
 -- `new` on as many words as a state has
-pub made-whole : (xs : List ℕ) (me : ℕ) (d : Data) (c : Config) (r : Made) → length xs ≡ layout.words → r ≡ made xs me d c → r ≡ pack-made (new me d c)
+pub made-whole : (xs : List ℕ) (me : ℕ) (d : Data) (c : Config) (r : MadeWords) → length xs ≡ layout.words → r ≡ made xs me d c → r ≡ pack-made (new me d c)
 unfolding made
 made-whole xs me d c r l e = e ∙ choose-yes _ _ _ (eq-eqb _ _ l)
 

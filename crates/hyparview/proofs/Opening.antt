@@ -40,7 +40,7 @@ use Rattle.rules.specs.Ok.{words-end, packed-ok, state-ok}
 use Rattle.rules.proofs.Back.{ok-back, packed-back}
 use Rattle.rules.proofs.Packed.{ok-state}
 use Rattle.hyparview.specs.Begun.{ReadAs, Opens}
-use Rattle.hyparview.specs.Handled.{Outcome, cleared, refusal, ended, packed-answer, handled}
+use Rattle.hyparview.specs.Handled.{Outcome, cleared, refused-words, ended, packed-answer, handled}
 
 -- ---- what holds at the start
 
@@ -100,8 +100,8 @@ unfolding packed-answer P.accepted cleared run
 accepted-is a ds o v small = rw (packed-back (a .state) (v .ready .packed) small, length-take-le (a .written) o (v .written))
 
 module _ (xs : List ℕ) (ok : packed-ok xs ≡ true) where
-  refusal-is : (c room : ℕ) → refusal c xs room ≡ packed-answer (P.refusal c (unpack xs) room)
-  unfolding refusal packed-answer P.refusal
+  refusal-is : (c room : ℕ) → refused-words c xs room ≡ packed-answer (P.refusal c (unpack xs) room)
+  unfolding refused-words packed-answer P.refusal
   refusal-is c room = rw (ok-back xs ok)
 
   ended-is : (a : Work) (ys ds o : List ℕ) → Fine (work-of a ys) ds o → ((i : ℕ) → getD ys i 0 < words-end) → ended xs a ys o ≡ packed-answer (P.finish (unpack xs) (run (work-of a ys) ds o))
@@ -134,7 +134,7 @@ event-handled xs b h a ys old ds out o₁ r ok v small same e d =
     ∙ (ap (λ (g : Run). packed-answer (P.finish (unpack xs) g)) (d .same ∙ ap (steps (R.rec-of b)) (start-is xs ds out ok))
     ∙ (ap (λ (x : R.Reading). packed-answer (handle-reading x (unpack xs) ds (length out))) (v .reads) ∙ sym (handled-ok xs b ds (length out) ok)))))
 
-pub handled-two : (xs b ds : List ℕ) (room : ℕ) → state-ok xs ≡ false → refusal 2 xs room ≡ handled xs b ds room
+pub handled-two : (xs b ds : List ℕ) (room : ℕ) → state-ok xs ≡ false → refused-words 2 xs room ≡ handled xs b ds room
 unfolding handled P.handle state-ok
 handled-two xs b ds room broken =
     split (packed-ok xs)
@@ -154,10 +154,10 @@ long-ok : (xs : List ℕ) → state-ok xs ≡ true → length xs ≡ layout.word
 long-ok xs ok = long (ok-state xs ok .packed)
 
 module _ (xs b ds : List ℕ) (room : ℕ) (r : Outcome) (t : Bool) (e : t ≡ state-ok xs) where
-  pub handled-broken : not t ≡ true → r ≡ refusal 2 xs room → r ≡ handled xs b ds room
+  pub handled-broken : not t ≡ true → r ≡ refused-words 2 xs room → r ≡ handled xs b ds room
   handled-broken h k = k ∙ handled-two xs b ds room (sym e ∙ is-no t h)
 
-  pub handled-unread : (x : Event) (c : ℕ) → not t ≡ false → EventIs b x → x ≡ Refused c → r ≡ refusal c xs room → r ≡ handled xs b ds room
+  pub handled-unread : (x : Event) (c : ℕ) → not t ≡ false → EventIs b x → x ≡ Refused c → r ≡ refused-words c xs room → r ≡ handled xs b ds room
   unfolding event-in handle-reading
   handled-unread x c h k q d =
       let ok = sym e ∙ is-yes t h in

@@ -23,20 +23,20 @@ unfoldable pub cleared : ℕ → List ℕ → List ℕ
 cleared from l = take from l ++ replicate (length l - from) 0
 
 -- "A refused call has its code, the old state, an output of zero bytes only, and 0 draws used."
-unfoldable pub refusal : ℕ → List ℕ → ℕ → Outcome
-refusal c xs room = record { code = c; draws = 0; words = xs; output = replicate room 0 }
+unfoldable pub refused-words : ℕ → List ℕ → ℕ → Outcome
+refused-words c xs room = record { code = c; draws = 0; words = xs; output = replicate room 0 }
 
 -- the call at the end of its steps, which began at the words old and reached ys
 unfoldable pub ended : List ℕ → Work → List ℕ → List ℕ → Outcome
 ended old w ys out =
     choose (eqb (w .code) 0) (record { code = 0; draws = w .drawn; words = ys; output = cleared (w .written) out })
-    (refusal (w .code) old (length out))
+    (refused-words (w .code) old (length out))
 
 -- the definition's answer with its station packed
-unfoldable pub packed-answer : P.Answer → Outcome
+unfoldable pub packed-answer : P.Result → Outcome
 packed-answer a = record { code = a .code; draws = a .used; words = pack (a .state); output = a .output }
 
 -- `handle`: code 2 where the words are no state (another number of them, a part that is not well formed, an unused place that is not zero), else the definition's answer;
 -- that a refusal leaves the words as they were is `ok-back` of rules
 unfoldable pub handled : List ℕ → List ℕ → List ℕ → ℕ → Outcome
-handled xs b ds room = choose (packed-ok xs) (packed-answer (P.handle (unpack xs) b ds room)) (refusal 2 xs room)
+handled xs b ds room = choose (packed-ok xs) (packed-answer (P.handle (unpack xs) b ds room)) (refused-words 2 xs room)

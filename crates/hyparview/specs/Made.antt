@@ -24,16 +24,16 @@ unfoldable pub lent : Bool → List ℕ → Data
 lent present b = choose present (some b) none
 
 -- the code, and every word, as the call leaves them
-pub record Made : Type 0 where
+pub record MadeWords : Type 0 where
   pub code : ℕ
   pub words : List ℕ
 
 -- the definition's answer with its state packed; a refused one has code 1 and "a state of zeroes", which is a list of zeroes by `zero-words`
-unfoldable pub pack-made : handle.Made → Made
+unfoldable pub pack-made : handle.Made → MadeWords
 pack-made m = record { code = m .code; words = pack (m .state) }
 
 -- State::new on the words xs; code 2, and the words as they were, where there are not as many as a state has
-unfoldable pub made : List ℕ → ℕ → Data → Config → Made
+unfoldable pub made : List ℕ → ℕ → Data → Config → MadeWords
 made xs me d c = choose (eqb (length xs) words) (pack-made (handle.new me d c)) (record { code = 2; words = xs })
 
 -- ---- the words of a new station, some at a time

@@ -1,4 +1,4 @@
-// `handle`: one event, whatever it is, to the whole result or one numbered refusal, over the words of a state.
+// `handle`: one event, whatever it is, to the whole result or one numbered refused-words, over the words of a state.
 use peer::MaybeData;
 use peer::PeerData;
 use peer::PeerId;
@@ -24,9 +24,9 @@ ghost use Rattle.state.specs.Layout.{words};
 ghost use Rattle.state.specs.Unpack.{PackedState, unpack};
 ghost use Rattle.state.specs.Work.{work-of, run, Changes, Fine, Does};
 ghost use Rattle.rules.specs.Ok.{state-ok};
-ghost use Rattle.hyparview.specs.Made.{lent, pack-made, Own, with-own, with-views, with-walks, with-times, made};
+ghost use Rattle.hyparview.specs.MadeState.{lent, pack-made, Own, with-own, with-views, with-walks, with-times, made};
 ghost use Rattle.step_messages.specs.Between.{Between};
-ghost use Rattle.hyparview.specs.Handled.{cleared, refusal, ended, handled};
+ghost use Rattle.hyparview.specs.Handled.{cleared, refused-words, ended, handled};
 ghost use Rattle.hyparview.specs.Begun.{Headed, Single, ReadAs, Opens, timer-expired};
 ghost use mathlib.Core.List.{[]};
 ghost use Rattle.lists.specs.Array.{pad};
@@ -249,7 +249,7 @@ fn copy_words(a: &[u64], b: &mut [u64])
 
 // Zeroes only, and no draw; the words stay as they are.
 fn refuse(st: &[u64], out: &mut [u8], code: u32) -> Done
-    ensures { λ r. ⌜ record { code = r .code; draws = r .draws; words = now (st .entry); output = now (out .exit) } ≡ refusal code (now (st .entry)) (length (now (out .entry))) ⌝ }
+    ensures { λ r. ⌜ record { code = r .code; draws = r .draws; words = now (st .entry); output = now (out .exit) } ≡ refused-words code (now (st .entry)) (length (now (out .entry))) ⌝ }
 {
     clear(out, 0);
     Done {
@@ -258,7 +258,7 @@ fn refuse(st: &[u64], out: &mut [u8], code: u32) -> Done
     }
 }
 
-// The words that the steps reached, with zeroes after the records; or the refusal that they met, with the old words.
+// The words that the steps reached, with zeroes after the records; or the refused-words that they met, with the old words.
 fn finish(old: &[u64], st: &mut [u64], w: Work, out: &mut [u8]) -> Done
     requires { ⌜ length (now old) ≡ words ⌝ }
     requires { ⌜ length (now st) ≡ words ⌝ }
@@ -458,7 +458,7 @@ fn steps(w: Work, st: &mut [u64], draws: &[u32], out: &mut [u8], b: &[u8], h: He
     forget_declined(c, st)
 }
 
-// An event that was read, at words that keep the rules; they are kept aside for a refusal.
+// An event that was read, at words that keep the rules; they are kept aside for a refused-words.
 fn handle_event(st: &mut [u64], b: &[u8], draws: &[u32], out: &mut [u8], h: Header) -> Done
     requires { ⌜ length (now st) ≡ words ⌝ }
     requires { ⌜ state-ok (now st) ≡ true ⌝ }
@@ -476,7 +476,7 @@ fn handle_event(st: &mut [u64], b: &[u8], draws: &[u32], out: &mut [u8], h: Head
     finish(&old, st, a, out)
 }
 
-// One event: the whole result, or one numbered refusal that leaves every word as it was.
+// One event: the whole result, or one numbered refused-words that leaves every word as it was.
 pub fn handle(st: &mut [u64], b: &[u8], draws: &[u32], out: &mut [u8]) -> Done
     ensures { λ r. ⌜ record { code = r .code; draws = r .draws; words = now (st .exit); output = now (out .exit) } ≡ handled (now (st .entry)) (now (b .entry)) (now (draws .entry)) (length (now (out .entry))) ⌝ }
 {
@@ -496,40 +496,40 @@ pub struct State {
 }
 
 // What a call by value hands back: its code, the state, and how many draws are used.
-pub struct Answer {
+pub struct HandledState {
     pub code: u32,
     pub state: State,
     pub draws: usize,
 }
 
 // What `new` by value hands back: code 0 and the state, or code 1 and a state of zeroes.
-pub struct Made {
+pub struct MadeState {
     pub code: u32,
     pub state: State,
 }
 
 impl State {
     // The state of a station that has met no event.
-    pub fn new(me: PeerId, present: bool, own: &[u8], config: Config) -> Made
+    pub fn new(me: PeerId, present: bool, own: &[u8], config: Config) -> MadeState
         ensures { λ r. ⌜ record { code = r .code; words = r .state .words } ≡ pack-made (new me (lent present (now (own .entry))) config) ⌝ }
     {
         let mut words = [0u64; 551];
         let code = new(&mut words, me, present, own, config);
         let s = State { words: words };
-        Made {
+        MadeState {
             code: code,
             state: s,
         }
     }
 
     // The form that 01 names: `handle` takes self by value.
-    pub fn handle(self, b: &[u8], draws: &[u32], out: &mut [u8]) -> Answer
+    pub fn handle(self, b: &[u8], draws: &[u32], out: &mut [u8]) -> HandledState
         ensures { λ r. ⌜ record { code = r .code; draws = r .draws; words = r .state .words; output = now (out .exit) } ≡ handled (self .words) (now (b .entry)) (now (draws .entry)) (length (now (out .entry))) ⌝ }
     {
         let mut words = self.words;
         let d = handle(&mut words, b, draws, out);
         let s = State { words: words };
-        Answer {
+        HandledState {
             code: d.code,
             state: s,
             draws: d.draws,

@@ -18,7 +18,7 @@ use Rattle.protocol.specs.Station.{Refill, automatic, requests-left, rec
 use Rattle.protocol.specs.Refill.{one-less, unless-recovery}
 use Rattle.protocol.specs.Timers.{renew-all}
 use Rattle.lists.proofs.Members.{each-cut, each-retain, each-put, each-more, count-cut, length-insert, count-absent, renewed}
-use Rattle.protocol.proofs.Law.{Short, Small, InOrder, Numbered, Requests, Held, Refused, Recent}
+use Rattle.protocol.proofs.Law.{Short, Small, InOrder, Numbered, Requests, HeldData, Refused, Recent}
 
 pub put-numbered : {n : ℕ} {m : List (ℕ × ℕ)} (p : ℕ) → ltb n top-counter ≡ true → Numbered m n → Numbered (put p n m) (n + 1)
 put-numbered {n} {m} p t h = record {
@@ -45,7 +45,7 @@ put-request {n} {m} p r t h =
 pub cut-request : {n : ℕ} {m : List (ℕ × ℕ)} (p : ℕ) → Requests m n → Requests (cut p m) n
 cut-request {n} {m} p h = record { numbered = cut-numbered p (h .numbered); few = omega (arith, h .few, length-cut p m) }
 
-pub cut-held : {me : ℕ} {m : List (ℕ × List ℕ)} (p : ℕ) → Held me m → Held me (cut p m)
+pub cut-held : {me : ℕ} {m : List (ℕ × List ℕ)} (p : ℕ) → HeldData me m → HeldData me (cut p m)
 cut-held {me} {m} p h = record {
   rise = rw (keys-cut p m) (rising-without p (keys m) (h .rise));
   few = omega (arith, h .few, length-cut p m);
@@ -53,7 +53,7 @@ cut-held {me} {m} p h = record {
   not-own = omega (arith, h .not-own, count-cut me p m (omega (arith, h .not-own)));
 }
 
-pub retain-held : {me : ℕ} {m : List (ℕ × List ℕ)} (ps : List ℕ) → Held me m → Held me (retain ps m)
+pub retain-held : {me : ℕ} {m : List (ℕ × List ℕ)} (ps : List ℕ) → HeldData me m → HeldData me (retain ps m)
 retain-held {me} {m} ps h = record {
   rise = rising-retain ps m (h .rise);
   few = omega (arith, h .few, length-retain ps m);
@@ -61,7 +61,7 @@ retain-held {me} {m} ps h = record {
   not-own = omega (arith, h .not-own, count-retain me ps m);
 }
 
-pub put-held : {me : ℕ} {m : List (ℕ × List ℕ)} (p : ℕ) (b : List ℕ) → eqb p me ≡ false → length b ≤ 16 → (has p m || ltb (length m) 80) ≡ true → Held me m → Held me (put p b m)
+pub put-held : {me : ℕ} {m : List (ℕ × List ℕ)} (p : ℕ) (b : List ℕ) → eqb p me ≡ false → length b ≤ 16 → (has p m || ltb (length m) 80) ≡ true → HeldData me m → HeldData me (put p b m)
 put-held {me} {m} p b n l t h = record {
   rise = rw (keys-put p b m) (rising-insert p (keys m) (h .rise));
   few = length-put p 80 b m t (h .few);

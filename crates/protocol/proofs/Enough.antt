@@ -16,13 +16,13 @@ use Rattle.record.specs.Format.{Rec}
 use Rattle.record.specs.Read.{Reading, read-event}
 use Rattle.protocol.specs.Station.{Station}
 use Rattle.protocol.specs.Rules.{all-under, station-ok}
-use Rattle.protocol.specs.Handle.{Answer, start, steps, refusal, accepted, finish, handle-reading, handle}
+use Rattle.protocol.specs.Handle.{Result, start, steps, refusal, accepted, finish, handle-reading, handle}
 use Rattle.protocol.proofs.Reading.{Readable, by-reading}
 use Rattle.protocol.proofs.Whole.{Pays, ok-steps}
 use Rattle.protocol.proofs.Tested.{between-of}
 
 -- of an answer, to a call that lends the draws ds and room bytes
-pub record Enough (ds : List ℕ) (room : ℕ) (a : Answer) : Type 0 where
+pub record Enough (ds : List ℕ) (room : ℕ) (a : Result) : Type 0 where
   -- a draw is missed only where all those lent are read and fewer than 512 of them kept, and a byte only where fewer than 8,192 are lent
   pub five : a .code ≡ 5 → KeptFewer 512 ds
   pub no-nine : 8192 ≤ room → a .code ≡ 9 → ⊥

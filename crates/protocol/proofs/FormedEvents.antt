@@ -31,7 +31,7 @@ use Rattle.lists.proofs.Members.{length-cut-to}
 use Rattle.protocol.proofs.Told.{length-infos}
 use Rattle.protocol.proofs.Among.{all-append, all-take, all-get, all-without, all-without-all, all-insert, all-renew, all-renew-all, all-keys-cut, all-keys-put, all-remove}
 use Rattle.protocol.proofs.Narrow as N
-use Rattle.protocol.proofs.Narrow.{Peer, Peers, no-peer, no-peers, Held, Named, at, change, change-own, change-held, change-pace, change-next-join, named-infos}
+use Rattle.protocol.proofs.Narrow.{Peer, Peers, no-peer, no-peers, HeldData, Named, at, change, change-own, change-held, change-pace, change-next-join, named-infos}
 use Rattle.protocol.proofs.Forms.{form-join, form-forward, form-shuffle, form-shuffle-timer, form-maintenance-timer, form-retry-timer}
 use Rattle.protocol.proofs.Keeping.{seven, ten}
 use Rattle.protocol.proofs.Formed.{Formed, either, either-way, alter, claim, drew, drew-one-of, drew-shuffle, wrote, wrote-if, wrote-all, picked-peer, shuffled-peers}
@@ -70,7 +70,7 @@ module _ {ds es : List ℕ} where
   formed-drop-pending p k = formed-drop-request p (formed-drop-join p k)
 
 module _ {ds : List ℕ} where
-  pub formed-on-join : (p : ℕ) (d : Data) {r : Run} → Peer p → Held (bytes-of d) → Formed ds [] r → Formed ds (by-entering p d true (M.drop-pending p r)) (M.on-join p d r)
+  pub formed-on-join : (p : ℕ) (d : Data) {r : Run} → Peer p → HeldData (bytes-of d) → Formed ds [] r → Formed ds (by-entering p d true (M.drop-pending p r)) (M.on-join p d r)
   unfolding M.on-join M.forward-joins M.forward-join-to
   formed-on-join p d {r} l h k =
       let j = formed-add-active p d _ _ l h (formed-drop-pending p k) in
@@ -95,7 +95,7 @@ module _ {ds : List ℕ} where
       let j : Formed ds (by-nodes ns r) (P.add-nodes ns r) = formed-add-nodes ns a k in
       either _ j (either _ (formed-start-refill _ _ j) (formed-refill _ j))
 
-  pub formed-on-neighbor : (p : ℕ) (d : Data) (high : Bool) {r : Run} → Peer p → Held (bytes-of d) → Formed ds [] r → Formed ds (by-entering p d high (M.drop-pending p r)) (M.on-neighbor p d high r)
+  pub formed-on-neighbor : (p : ℕ) (d : Data) (high : Bool) {r : Run} → Peer p → HeldData (bytes-of d) → Formed ds [] r → Formed ds (by-entering p d high (M.drop-pending p r)) (M.on-neighbor p d high r)
   unfolding M.on-neighbor M.answer-neighbor M.refuse-neighbor
   formed-on-neighbor p d high l h k =
       let j = formed-add-active p d high _ l h (formed-drop-pending p k) in either _ j (formed-forget p (formed-send-disconnect p _ l j))
@@ -142,7 +142,7 @@ module _ {ds es : List ℕ} where
       let i = formed-join p l j in
       either _ j (either _ i (wrote _ refl (form-retry-timer l (omega arith) (i .narrow .joins-top)) (formed-open-join p l i)))
 
-  pub formed-update : (d : Data) {r : Run} → Held (bytes-of d) → Formed ds es r → Formed ds es (on (E.update-own-data d) r)
+  pub formed-update : (d : Data) {r : Run} → HeldData (bytes-of d) → Formed ds es r → Formed ds es (on (E.update-own-data d) r)
   unfolding E.update-own-data
   formed-update d h k = alter (E.update-own-data d) (λ w. change-own w h) k
 
@@ -189,7 +189,7 @@ module _ {ds es : List ℕ} where
       (all-append Named (R.peer-infos s ps) (R.node (s .me) (s .own-data) ∷ []) (named-infos s ps (k .narrow .held) a) last)) k
 
   formed-shuffle-with : (to : ℕ) {r : Run} → Peer to → Formed ds es r → Formed ds es (T.shuffle-with to r)
-  unfolding T.shuffle-with T.shuffle-passive T.active-part T.passive-part
+  unfolding T.shuffle-with T.shuffle-passive T.active-sample T.passive-sample
   formed-shuffle-with to {r} l k =
       let w = R.draw-shuffle (without to (r .station .active)) r in
       let j : Formed ds es w = drew-shuffle _ k in

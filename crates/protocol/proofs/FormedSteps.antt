@@ -27,7 +27,7 @@ use Rattle.lists.proofs.Members.{each-cut, each-put, length-cut-to}
 use Rattle.protocol.proofs.Told.{length-infos}
 use Rattle.protocol.proofs.Among.{all-append, all-take, all-get, all-without, all-without-all, all-insert, all-more, all-renew, all-keys-cut, all-keys-put, all-swap-remove, all-remove}
 use Rattle.protocol.proofs.Narrow as N
-use Rattle.protocol.proofs.Narrow.{Peer, Peers, no-peer, no-peers, Held, Named, Narrow, at, change, change-held, change-next-request, held-lookup, named-infos}
+use Rattle.protocol.proofs.Narrow.{Peer, Peers, no-peer, no-peers, HeldData, Named, Narrow, at, change, change-held, change-next-request, held-lookup, named-infos}
 use Rattle.protocol.proofs.Forms.{form-join, form-reply, form-neighbor, form-disconnect, form-request-timer, form-up, form-down, form-evicted, form-data}
 use Rattle.protocol.proofs.Keeping.{six, eight, ten, require-fine}
 use Rattle.protocol.proofs.Formed.{Formed, either, either-way, alter, asked, claim, drew-one-of, drew-shuffle, wrote, wrote-evicted, picked-peer, shuffled-peers}
@@ -36,7 +36,7 @@ use Rattle.protocol.proofs.Formed.{Formed, either, either-way, alter, a
 pub drop-data-narrow : (p : ℕ) (s : Station) → Narrow s → Narrow (P.drop-data p s)
 unfolding P.drop-data
 drop-data-narrow p s w =
-    change-held (change w N.peer-data _ (all-keys-cut Peer p (s .peer-data) (at w N.peer-data))) (each-cut Held p (s .peer-data) (w .held))
+    change-held (change w N.peer-data _ (all-keys-cut Peer p (s .peer-data) (at w N.peer-data))) (each-cut HeldData p (s .peer-data) (w .held))
 
 pub drop-mark-narrow : (p : ℕ) (s : Station) → Narrow s → Narrow (P.drop-mark p s)
 unfolding P.drop-mark
@@ -68,12 +68,12 @@ newcomer false x g j = nobody j
 
 module _ {ds es : List ℕ} where
   -- data of a peer
-  pub formed-insert-peer-info : (p : ℕ) (d : Data) {r : Run} → Peer p → Held (bytes-of d) → Formed ds es r → Formed ds es (P.insert-peer-info p d r)
+  pub formed-insert-peer-info : (p : ℕ) (d : Data) {r : Run} → Peer p → HeldData (bytes-of d) → Formed ds es r → Formed ds es (P.insert-peer-info p d r)
   unfolding P.insert-peer-info P.insert-data P.announce-data P.keep-data P.store-data bytes-of
   formed-insert-peer-info p none l h k = k
   formed-insert-peer-info p (some b) l h k =
       either _ k
-      (claim eight _ (P.store-data p b) (λ z e w. change-held (change w N.peer-data _ (all-keys-put Peer p b _ l (at w N.peer-data))) (each-put Held p b _ h (w .held)))
+      (claim eight _ (P.store-data p b) (λ z e w. change-held (change w N.peer-data _ (all-keys-put Peer p b _ l (at w N.peer-data))) (each-put HeldData p b _ h (w .held)))
       (either _ k (wrote _ refl (form-data b l h) k)))
 
   pub formed-forget : (p : ℕ) {r : Run} → Formed ds es r → Formed ds es (P.forget-peer p r)
@@ -93,7 +93,7 @@ module _ {ds es : List ℕ} where
       (λ e. wrote-evicted _ (form-evicted (picked-peer (r .station .passive) r (at (k .narrow) N.passive))) (formed-evict k))
       (λ e. nobody (formed-evict k))
 
-  pub formed-add-passive : (p : ℕ) (d : Data) {r : Run} → Peer p → Held (bytes-of d) → Formed ds es r → Formed ds (es ++ by-adding p d r) (P.add-passive p d r)
+  pub formed-add-passive : (p : ℕ) (d : Data) {r : Run} → Peer p → HeldData (bytes-of d) → Formed ds es r → Formed ds (es ++ by-adding p d r) (P.add-passive p d r)
   unfolding P.add-passive P.enter-passive P.push-passive by-adding P.evicted-by P.evicted-for
   formed-add-passive p d {r} l h k =
       let j : Formed ds es (P.insert-peer-info p d r) = formed-insert-peer-info p d l h k in
@@ -224,7 +224,7 @@ unfolding A.add-active-unchecked A.enter-active A.gain-neighbor
 formed-enter p high reply l k =
     formed-reply-neighbor reply p high l (alter A.gain-neighbor (λ w. w) (wrote _ refl (form-up l) (alter (A.move-in p) (move-in-narrow p _ l) k)))
 
-pub formed-add-active : {ds : List ℕ} (p : ℕ) (d : Data) (high reply : Bool) {r : Run} → Peer p → Held (bytes-of d) → Formed ds [] r → Formed ds (by-entering p d high r) (A.add-active p d high reply r)
+pub formed-add-active : {ds : List ℕ} (p : ℕ) (d : Data) (high reply : Bool) {r : Run} → Peer p → HeldData (bytes-of d) → Formed ds [] r → Formed ds (by-entering p d high r) (A.add-active p d high reply r)
 unfolding A.add-active A.admit A.admit-new A.admit-full by-entering by-admitting
 formed-add-active {ds} p d high reply {r} l h k =
     let j : Formed ds [] (P.insert-peer-info p d r) = formed-insert-peer-info p d l h k in

@@ -18,7 +18,7 @@ use Rattle.protocol.specs.Station.{Station, data-peers}
 use Rattle.protocol.specs.Run.{Run}
 use Rattle.protocol.specs.Handle as H
 use Rattle.protocol.specs.Evictions.{by-message, evictions}
-use Rattle.protocol.proofs.Narrow.{no-peer, no-data, Held, Named, form-nodes, Peer, Narrow, at, change, change-held}
+use Rattle.protocol.proofs.Narrow.{no-peer, no-data, HeldData, Named, form-nodes, Peer, Narrow, at, change, change-held}
 use Rattle.protocol.proofs.Formed.{Formed, either, either-way, alter}
 use Rattle.lists.proofs.Members.{each-retain}
 use Rattle.protocol.proofs.Narrow as N
@@ -39,13 +39,13 @@ other c k h {ds} fs {x} g j =
 declined-narrow : (s : Station) → Narrow s → Narrow (H.forget-declined s)
 unfolding H.forget-declined
 declined-narrow s w =
-    change-held (change w N.peer-data _ (all-retain Peer (data-peers s) (s .peer-data) (at w N.peer-data))) (each-retain Held (data-peers s) (s .peer-data) (w .held))
+    change-held (change w N.peer-data _ (all-retain Peer (data-peers s) (s .peer-data) (at w N.peer-data))) (each-retain HeldData (data-peers s) (s .peer-data) (w .held))
 
 module _ (e : Rec) (f : InForm e) (few : length (e .nodes) ≤ 32) where
   nodes-named : All Named (e .nodes)
   nodes-named = form-nodes (header-in e) (e .nodes) (f .nodes)
 
-  data-held : Held (bytes-of (H.first-data e))
+  data-held : HeldData (bytes-of (H.first-data e))
   unfolding H.first-data
   data-held = first-named (e .nodes) nodes-named .held
 

@@ -17,7 +17,7 @@ use Rattle.record.specs.Read as Rd
 use Rattle.record.specs.InForm.{InForm, NodesInForm, NodesInFormBy, header-in-by}
 use Rattle.protocol.specs.Station.{top-counter, peers-end}
 use Rattle.protocol.specs.Run as R
-use Rattle.protocol.proofs.Narrow.{Peer, Held, Named}
+use Rattle.protocol.proofs.Narrow.{Peer, HeldData, Named}
 
 -- nodes of a record whose kind asks no more of them
 nodes-form : (h : Header) → ((id : ℕ) → Rd.id-ok h id ≡ true) → ((p : ℕ) → Rd.present-ok h p ≡ true) → (ns : List Node) → All Named ns → NodesInForm h ns
@@ -31,7 +31,7 @@ unfolding R.flag
 flag-low b = by-choice (λ (n : ℕ). n ≤ 1) b (λ e. omega arith) (λ e. omega arith)
 
 -- messages: Join, ForwardJoin, Shuffle, ShuffleReply, Neighbor, Disconnect
-pub form-join : (d : Data) {p : ℕ} → Held (bytes-of d) → Peer p → InForm (R.message 0 p 0 0 0 (R.node 0 d ∷ []))
+pub form-join : (d : Data) {p : ℕ} → HeldData (bytes-of d) → Peer p → InForm (R.message 0 p 0 0 0 (R.node 0 d ∷ []))
 unfolding header-in-by Rd.header-ok Rd.kind-ok Rd.flags-ok Rd.count-ok Rd.peer-ok Rd.fields-ok Rd.fixed-size Rd.is-message Rd.is-timer Rd.is-data choose NodesInFormBy
 form-join d f l = record {
   header = refl;
@@ -75,7 +75,7 @@ form-reply ns l n f = record {
   nodes = nodes-form _ (λ i. refl) (λ i. refl) ns f;
 }
 
-pub form-neighbor : (d : Data) (high : Bool) {p : ℕ} → Held (bytes-of d) → Peer p → InForm (R.message 4 p (R.flag high) 0 0 (R.node 0 d ∷ []))
+pub form-neighbor : (d : Data) (high : Bool) {p : ℕ} → HeldData (bytes-of d) → Peer p → InForm (R.message 4 p (R.flag high) 0 0 (R.node 0 d ∷ []))
 unfolding header-in-by Rd.header-ok Rd.kind-ok Rd.flags-ok Rd.count-ok Rd.peer-ok Rd.fields-ok Rd.fixed-size Rd.is-message Rd.is-timer Rd.is-data choose NodesInFormBy
 form-neighbor d high f l = record {
   header = rw (le-leb (R.flag high) 1 (flag-low high));
@@ -128,7 +128,7 @@ pub form-evicted : {p : ℕ} → Peer p → InForm (R.notice 12 p)
 unfolding header-in-by Rd.header-ok Rd.kind-ok Rd.flags-ok Rd.count-ok Rd.peer-ok Rd.fields-ok Rd.fixed-size Rd.is-message Rd.is-timer Rd.is-data choose NodesInFormBy
 form-evicted p = record { header = refl; peer = p; second = omega arith; ttl = omega arith; number = omega arith; nodes = tt }
 
-pub form-data : {p : ℕ} (b : List ℕ) → Peer p → Held b → InForm (R.data-notice p b)
+pub form-data : {p : ℕ} (b : List ℕ) → Peer p → HeldData b → InForm (R.data-notice p b)
 unfolding header-in-by Rd.header-ok Rd.kind-ok Rd.flags-ok Rd.count-ok Rd.peer-ok Rd.fields-ok Rd.fixed-size Rd.is-message Rd.is-timer Rd.is-data choose NodesInFormBy bytes-of present
 form-data b p f = record {
   header = refl;

@@ -5,7 +5,7 @@ use Prim.Native.Nat.{ℕ}
 use Rattle.peer.specs.Data.{Data, Node}
 use Rattle.protocol.specs.Station.{Refill}
 unfoldable pub use Rattle.protocol.specs.Invariant.{Short, Small}
-pub use Rattle.protocol.specs.Invariant.{InOrder, Numbered, Requests, Held, Refused, Recent, Pace, Passes, Law, Lawful}
+pub use Rattle.protocol.specs.Invariant.{InOrder, Numbered, Requests, HeldData, Refused, Recent, Pace, Passes, Law, Lawful}
 
 -- one part changed
 module _ {me top : ℕ} {own : Data} {req : List (ℕ × ℕ)} {nreq : ℕ} {joi : List (ℕ × ℕ)} {njoi : ℕ} {dat : List (ℕ × List ℕ)} {ali ref : List ℕ} {fill : Refill} {rec : List ℕ} {int alone short : ℕ}
@@ -40,7 +40,7 @@ module _ {me top : ℕ} {own : Data} {req : List (ℕ × ℕ)} {nreq : ℕ} {joi
     short-ok = h .short-ok;
   }
 
-  pub law-held : {v : List (ℕ × List ℕ)} → Held me v → Law me top own req nreq joi njoi v ali ref fill rec int alone short
+  pub law-held : {v : List (ℕ × List ℕ)} → HeldData me v → Law me top own req nreq joi njoi v ali ref fill rec int alone short
   law-held x = record {
     requests-ok = h .requests-ok;
     joins-ok = h .joins-ok;

@@ -33,20 +33,20 @@ unfolding All
 no-peers = tt
 
 -- data of at most 16 bytes
-pub record Held (b : List ℕ) : Type 0 where
+pub record HeldData (b : List ℕ) : Type 0 where
   pub few : length b ≤ 16
   pub bytes : (k : ℕ) → getD b k 0 < bytes-end
 
 pub record Named (n : Node) : Type 0 where
   pub id : Peer (n .id)
-  pub held : Held (bytes-of (n .data-of))
+  pub held : HeldData (bytes-of (n .data-of))
 
 -- over the parts that it speaks of, so that a change of another part leaves it as it is
 pub record Widths (c : Config) (peers : List (List ℕ)) (own : List ℕ) (m : List (ℕ × List ℕ)) (interval next-request next-join : ℕ) : Type 0 where
   pub settings : Ranges c
   pub named : All Peers peers
-  pub mine : Held own
-  pub held : Each Held m
+  pub mine : HeldData own
+  pub held : Each HeldData m
   pub pace : interval ≤ c .«shuffle_interval»
   pub requests-top : next-request ≤ top-counter
   pub joins-top : next-join ≤ top-counter
@@ -94,10 +94,10 @@ module _ {c : Config} {ls : List (List ℕ)} {own : List ℕ} {m : List (ℕ × 
   pub change : (i : ℕ) (v : List ℕ) → Peers v → Widths c (set ls i v) own m int nr nj
   change i v p = record { settings = h .settings; named = all-set Peers ls i v p (h .named); mine = h .mine; held = h .held; pace = h .pace; requests-top = h .requests-top; joins-top = h .joins-top }
 
-  pub change-own : {v : List ℕ} → Held v → Widths c ls v m int nr nj
+  pub change-own : {v : List ℕ} → HeldData v → Widths c ls v m int nr nj
   change-own p = record { settings = h .settings; named = h .named; mine = p; held = h .held; pace = h .pace; requests-top = h .requests-top; joins-top = h .joins-top }
 
-  pub change-held : {v : List (ℕ × List ℕ)} → Each Held v → Widths c ls own v int nr nj
+  pub change-held : {v : List (ℕ × List ℕ)} → Each HeldData v → Widths c ls own v int nr nj
   change-held p = record { settings = h .settings; named = h .named; mine = h .mine; held = p; pace = h .pace; requests-top = h .requests-top; joins-top = h .joins-top }
 
   pub change-pace : {v : ℕ} → v ≤ c .«shuffle_interval» → Widths c ls own m v nr nj
@@ -110,15 +110,15 @@ module _ {c : Config} {ls : List (List ℕ)} {own : List ℕ} {m : List (ℕ × 
   change-next-join p = record { settings = h .settings; named = h .named; mine = h .mine; held = h .held; pace = h .pace; requests-top = h .requests-top; joins-top = p }
 
 -- data
-pub no-data : Held []
+pub no-data : HeldData []
 no-data = record { few = omega arith; bytes = λ k. omega arith }
 
-pub held-lookup : (p : ℕ) (m : List (ℕ × List ℕ)) → Each Held m → Held (bytes-of (lookup p m))
+pub held-lookup : (p : ℕ) (m : List (ℕ × List ℕ)) → Each HeldData m → HeldData (bytes-of (lookup p m))
 unfolding Each lookup bytes-of
 held-lookup p [] h = no-data
-held-lookup p (e ∷ m) h = by-choice (λ (d : Data). Held (bytes-of d)) (eqb p (e .0)) (λ t. h .0) (λ t. held-lookup p m (h .1))
+held-lookup p (e ∷ m) h = by-choice (λ (d : Data). HeldData (bytes-of d)) (eqb p (e .0)) (λ t. h .0) (λ t. held-lookup p m (h .1))
 
-pub named-infos : (s : Station) (ps : List ℕ) → Each Held (s .peer-data) → Peers ps → All Named (R.peer-infos s ps)
+pub named-infos : (s : Station) (ps : List ℕ) → Each HeldData (s .peer-data) → Peers ps → All Named (R.peer-infos s ps)
 unfolding R.peer-infos R.peer-info All
 named-infos s [] h a = tt
 named-infos s (p ∷ ps) h a = (record { id = a .0; held = held-lookup p (s .peer-data) h }, named-infos s ps h (a .1))

@@ -25,25 +25,25 @@ use Rattle.protocol.specs.Rules.{station-ok}
 use Rattle.lists.proofs.Members.{both, negate, mem-yes, mem-no, rising-once}
 use Rattle.protocol.proofs.Law.{Lawful, Short, Small}
 use Rattle.protocol.proofs.Told.{up-after, sent-after}
-use Rattle.protocol.proofs.Narrow.{no-data, Held, Narrow}
+use Rattle.protocol.proofs.Narrow.{no-data, HeldData, Narrow}
 use Rattle.protocol.proofs.Invariant.{Ranges}
 use Rattle.protocol.proofs.Reading.{byte-at}
 use Rattle.protocol.proofs.Whole.{Between}
 
 -- lists of tests
-also : (b : Bool) (bs : List Bool) → b ≡ true → R.every bs ≡ true → R.every (b ∷ bs) ≡ true
-unfolding R.every
+also : (b : Bool) (bs : List Bool) → b ≡ true → R.all-hold bs ≡ true → R.all-hold (b ∷ bs) ≡ true
+unfolding R.all-hold
 also b bs e f = rw e f
 
-no-tests : R.every [] ≡ true
-unfolding R.every
+no-tests : R.all-hold [] ≡ true
+unfolding R.all-hold
 no-tests = refl
 
-every-at : (bs : List Bool) (n : ℕ) → R.every bs ≡ true → getD bs n true ≡ true
-unfolding R.every
+every-at : (bs : List Bool) (n : ℕ) → R.all-hold bs ≡ true → getD bs n true ≡ true
+unfolding R.all-hold
 every-at [] n e = refl
-every-at (b ∷ bs) zero e = and-left b (R.every bs) e
-every-at (b ∷ bs) (suc n) e = every-at bs n (and-right b (R.every bs) e)
+every-at (b ∷ bs) zero e = and-left b (R.all-hold bs) e
+every-at (b ∷ bs) (suc n) e = every-at bs n (and-right b (R.all-hold bs) e)
 
 -- each test, from and to what it says
 pub distinct-yes : (xs : List ℕ) → ((x : ℕ) → count x xs ≤ 1) → distinct xs ≡ true
@@ -135,12 +135,12 @@ unfolding R.all-under
 bytes-yes [] h = refl
 bytes-yes (x ∷ xs) h = both (ltb x bytes-end) (R.all-under bytes-end xs) (lt-ltb x bytes-end (h 0)) (bytes-yes xs (λ k. h (suc k)))
 
-held-yes : (m : List (ℕ × List ℕ)) → Each Held m → R.lists-under bytes-end (values m) ≡ true
+held-yes : (m : List (ℕ × List ℕ)) → Each HeldData m → R.lists-under bytes-end (values m) ≡ true
 unfolding R.lists-under values Each
 held-yes [] h = refl
 held-yes (e ∷ m) h = both (R.all-under bytes-end (e .1)) (R.lists-under bytes-end (values m)) (bytes-yes (e .1) (h .0 .bytes)) (held-yes m (h .1))
 
-held-true : (m : List (ℕ × List ℕ)) → Each (λ b. length b ≤ 16) m → R.lists-under bytes-end (values m) ≡ true → Each Held m
+held-true : (m : List (ℕ × List ℕ)) → Each (λ b. length b ≤ 16) m → R.lists-under bytes-end (values m) ≡ true → Each HeldData m
 unfolding R.lists-under values Each
 held-true [] s e = tt
 held-true (p ∷ m) s e = (
@@ -149,7 +149,7 @@ held-true (p ∷ m) s e = (
 )
 
 -- data that is short and bytes
-pub own-held : (d : Data) → Short d → R.all-under bytes-end (bytes-of d) ≡ true → Held (bytes-of d)
+pub own-held : (d : Data) → Short d → R.all-under bytes-end (bytes-of d) ≡ true → HeldData (bytes-of d)
 unfolding Short bytes-of
 own-held none s e = no-data
 own-held (some b) s e = record { few = s; bytes = λ k. byte-at b k e }

@@ -74,7 +74,7 @@ module _ {q : Fixed} where
       (omega (arith, l z, length-infos (r .station) ps, length-append (R.peer-infos (r .station) ps) (R.node (r .station .me) (r .station .own-data) ∷ [])))) k
 
   pub ok-shuffle-with : {m b d : ℕ} (to : ℕ) {r : Run} → Ok q calm (m + 1) (b + crowd) (d + 38) r → Ok q calm m b d (T.shuffle-with to r)
-  unfolding T.shuffle-with T.shuffle-passive R.draw-shuffle T.active-part T.passive-part
+  unfolding T.shuffle-with T.shuffle-passive R.draw-shuffle T.active-sample T.passive-sample
   ok-shuffle-with {m} {b} {d} to {r} k =
       let w = draw (shuffle-draws (R.to-draw r) (without to (r .station .active))) r in
       let j : Ok q calm (m + 1) (b + crowd) (d + 31) w =

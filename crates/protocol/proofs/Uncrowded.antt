@@ -25,9 +25,9 @@ use Rattle.protocol.specs.Run.{Run, with-code, guard, on, emit, draw, to
 use Rattle.protocol.specs.Peers as P
 use Rattle.protocol.specs.Messages as M
 use Rattle.protocol.specs.Handle as H
-use Rattle.protocol.specs.Handle.{Answer, start, steps, refusal, accepted, finish, handle-reading, handle}
+use Rattle.protocol.specs.Handle.{Result, start, steps, refusal, accepted, finish, handle-reading, handle}
 use Rattle.lists.proofs.Members.{null-yes, null-no, shorter, count-cut, count-put, rising-once}
-use Rattle.protocol.proofs.Law.{Held, Short, ShortNodes}
+use Rattle.protocol.proofs.Law.{HeldData, Short, ShortNodes}
 use Rattle.protocol.proofs.Changes.{cut-held, put-held}
 use Rattle.protocol.proofs.Invariant.{Ranges}
 use Rattle.protocol.proofs.Keeping.{one-of-station}
@@ -40,7 +40,7 @@ use Rattle.protocol.proofs.Fits.{Fits, or-so}
 
 -- of a station: data is held only of peers in a view, with an open request or among `loose`, and the passive view has `places` more
 pub record Snug (loose : List ℕ) (places : ℕ) (s : Station) : Type 0 where
-  pub held : Held (s .me) (s .peer-data)
+  pub held : HeldData (s .me) (s .peer-data)
   pub ranges : Ranges (s .config)
   pub slots : length (s .active) ≤ 8
   pub fits : length (s .passive) + places ≤ s .config .«passive_view_capacity»
@@ -285,4 +285,4 @@ module _ (s : Station) (ok : station-ok s ≡ true) (ds : List ℕ) (room : ℕ)
       rw (choose-yes (station-ok s) (handle-reading (read-event b) s ds room) (refusal 2 s room) ok)
       (by-reading b bytes (λ (x : Reading). handle-reading x s ds room .code ≡ 8 → ⊥)
       (λ c l m z. omega arith)
-      (λ w. let r = steps _ (start s ds room) in by-choice (λ (a : Answer). a .code ≡ 8 → ⊥) (eqb (r .code) 0) (λ e z. omega arith) (λ e z. fit-steps _ w fine-start .clear z)))
+      (λ w. let r = steps _ (start s ds room) in by-choice (λ (a : Result). a .code ≡ 8 → ⊥) (eqb (r .code) 0) (λ e z. omega arith) (λ e z. fit-steps _ w fine-start .clear z)))

@@ -14,7 +14,7 @@ use Rattle.record.specs.Read.{Reading, rec-of, read-event}
 use Rattle.protocol.specs.Station.{Station, draws-end}
 use Rattle.protocol.specs.Run.{Run}
 use Rattle.protocol.specs.Rules.{station-ok}
-use Rattle.protocol.specs.Handle.{Answer, start, steps, refusal, accepted, finish, handle-reading, handle}
+use Rattle.protocol.specs.Handle.{Result, start, steps, refusal, accepted, finish, handle-reading, handle}
 use Rattle.protocol.specs.Written.{Writes-records}
 use Rattle.protocol.specs.Evictions.{evictions, Names, Names-evictions}
 use Rattle.protocol.proofs.Narrow.{Narrow}
@@ -31,7 +31,7 @@ formed-event s n ds room e w f =
 named-run : (s : Station) (r : Run) {ds es : List ℕ} → Formed ds es r → Draws ds → finish s r .code ≡ 0 → Names es (finish s r .output)
 unfolding finish accepted refusal
 named-run s r {ds} {es} k d =
-    by-choice (λ (a : Answer). a .code ≡ 0 → Names es (a .output)) (eqb (r .code) 0)
+    by-choice (λ (a : Result). a .code ≡ 0 → Names es (a .output)) (eqb (r .code) 0)
     (λ z e. let w = k .spelled d in record {
       written = record {
         records = w .records;

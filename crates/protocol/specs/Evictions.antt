@@ -20,7 +20,7 @@ use Rattle.protocol.specs.Active.{Reason, connection-closed, disconnect-
 use Rattle.protocol.specs.Messages.{drop-join, drop-request, drop-pending, forget-recent, ends-here, answers-shuffle}
 use Rattle.protocol.specs.Rules.{all-under, station-ok}
 use Rattle.protocol.specs.Handle.{first-node, first-data, is-high, says-alive, start, handle}
-use Rattle.protocol.specs.Written.{Written}
+use Rattle.protocol.specs.Written.{WrittenOut}
 
 -- The evictions of each step that reaches `add-passive`; no other step has any
 
@@ -108,7 +108,7 @@ named (e ∷ es) = choose (eqb (e .kind) 12) (e .peer ∷ named es) (named es)
 
 -- an output whose records of kind 12 name these peers, in this order
 pub record Names (ps out : List ℕ) : Type 0 where
-  pub written : Written out
+  pub written : WrittenOut out
   pub exactly : named (written .records) ≡ ps
 
 -- "Other ways of forgetting give no such record": of every accepted call to a station that keeps the rules; an event is bytes, and draws have 32 bits

@@ -131,7 +131,7 @@ abbrev pub start : Station → List ℕ → ℕ → Run
 start s ds room = record { station = s; draws = ds; used = 0; room = room; out = []; code = 0 }
 
 -- what `handle` answers
-pub record Answer : Type 0 where
+pub record Result : Type 0 where
   pub code : ℕ
   pub state : Station
   -- how many of the draws are used
@@ -140,20 +140,20 @@ pub record Answer : Type 0 where
   pub output : List ℕ
 
 -- "A refused call has its code, the old state, an output of zero bytes only, and 0 draws used."
-unfoldable pub refusal : ℕ → Station → ℕ → Answer
+unfoldable pub refusal : ℕ → Station → ℕ → Result
 refusal c s room = record { code = c; state = s; used = 0; output = replicate room 0 }
 
 -- "An accepted call has code 0, the new state, and records in the output followed by zero bytes."
-unfoldable pub accepted : Run → Answer
+unfoldable pub accepted : Run → Result
 accepted r = record { code = 0; state = r .station; used = r .used; output = r .out ++ replicate (r .room - length (r .out)) 0 }
 
-unfoldable pub finish : Station → Run → Answer
+unfoldable pub finish : Station → Run → Result
 finish s r = choose (eqb (r .code) 0) (accepted r) (refusal (r .code) s (r .room))
 
-unfoldable pub handle-reading : Reading → Station → List ℕ → ℕ → Answer
+unfoldable pub handle-reading : Reading → Station → List ℕ → ℕ → Result
 handle-reading (refused c) s ds room = refusal c s room
 handle-reading (event e) s ds room = finish s (steps e (start s ds room))
 
 -- `handle` of a station, an event's bytes, the draws lent and the bytes of output lent: codes 2, then 3, 4 and 3 of the reader, then 5 to 10
-unfoldable pub handle : Station → List ℕ → List ℕ → ℕ → Answer
+unfoldable pub handle : Station → List ℕ → List ℕ → ℕ → Result
 handle s b ds room = choose (station-ok s) (handle-reading (read-event b) s ds room) (refusal 2 s room)

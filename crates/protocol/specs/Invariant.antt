@@ -42,7 +42,7 @@ pub record Requests (m : List (ℕ × ℕ)) (next : ℕ) : Type 0 where
   pub numbered : Numbered m next
   pub few : length m ≤ 32
 
-pub record Held (me : ℕ) (m : List (ℕ × List ℕ)) : Type 0 where
+pub record HeldData (me : ℕ) (m : List (ℕ × List ℕ)) : Type 0 where
   pub rise : Rising (keys m)
   pub few : length m ≤ 80
   pub shorts : Each (λ b. length b ≤ 16) m
@@ -67,7 +67,7 @@ pub record Passes (n : ℕ) : Type 0 where
 pub record Law (me top : ℕ) (own : Data) (req : List (ℕ × ℕ)) (nreq : ℕ) (joi : List (ℕ × ℕ)) (njoi : ℕ) (dat : List (ℕ × List ℕ)) (ali ref : List ℕ) (fill : Refill) (rec : List ℕ) (int alone short : ℕ) : Type 0 where
   pub requests-ok : Requests req nreq
   pub joins-ok : Numbered joi njoi
-  pub held-ok : Held me dat
+  pub held-ok : HeldData me dat
   pub own-ok : Short own
   pub alive-ok : InOrder ali
   pub refused-ok : Refused ref
@@ -192,7 +192,7 @@ pub record Waits (barred rooted : List ℕ) (me : ℕ) (act jks boo : List ℕ) 
   pub rooting : (x : ℕ) → count x rooted ≤ count x boo
 
 -- who is up by the notices, and m messages that may still be sent
-pub record Tally (silent : List ℕ) (m : ℕ) (act up : List ℕ) (sent allowed : ℕ) : Type 0 where
+pub record Account (silent : List ℕ) (m : ℕ) (act up : List ℕ) (sent allowed : ℕ) : Type 0 where
   pub noted : (x : ℕ) → count x up + count x silent ≡ count x act
   pub bound : sent + 2 * length act + m ≤ allowed
 
@@ -200,7 +200,7 @@ pub record Core (cfg0 : Config) (me0 : ℕ) (kept : Bool) (old : ℕ) (t : Terms
   pub still : Still cfg0 me0 kept old me cfg alone
   pub seats : Seats (t .guest) (t .loose) (t .inside) (t .slots) (t .places) me cfg act pas ali
   pub waits : Waits (t .barred) (t .rooted) me act jks boo
-  pub tally : Tally (t .silent) m act up sent allowed
+  pub tally : Account (t .silent) m act up sent allowed
 
 abbrev pub Good : Fixed → Terms → ℕ → Station → List Rec → Type 0
 Good q t m s o =

@@ -14,9 +14,9 @@ use Rattle.peer.specs.Maps.{numbers-under}
 use Rattle.protocol.specs.Station.{Station, Refill, automatic, requests-left, recovery, max-requests, max-refused, max-peer-data, max-data-length, top-counter, top-passes, peers-end, bytes-end, data-peers}
 
 -- all of the tests hold
-unfoldable pub every : List Bool → Bool
-every [] = true
-every (b ∷ bs) = b && every bs
+unfoldable pub all-hold : List Bool → Bool
+all-hold [] = true
+all-hold (b ∷ bs) = b && all-hold bs
 
 -- all are below n
 unfoldable pub all-under : ℕ → List ℕ → Bool
@@ -135,4 +135,4 @@ rules s =
     ∷ held-rule s ∷ []
 
 unfoldable pub station-ok : Station → Bool
-station-ok s = every (rules s)
+station-ok s = all-hold (rules s)

@@ -63,18 +63,18 @@ send-shuffle to ps r =
     emit (message 2 to 0 (r .station .me) (r .station .config .«shuffle_random_walk_length») (shuffle-nodes ps (r .station))) r
 
 -- shuffled_without_and_capped, of each view
-unfoldable pub active-part : ℕ → Run → List ℕ
-active-part to r = take (r .station .config .«shuffle_active_view_count») (shuffled (without to (r .station .active)) r)
+unfoldable pub active-sample : ℕ → Run → List ℕ
+active-sample to r = take (r .station .config .«shuffle_active_view_count») (shuffled (without to (r .station .active)) r)
 
-unfoldable pub passive-part : ℕ → Run → List ℕ
-passive-part to r = take (r .station .config .«shuffle_passive_view_count») (shuffled (without to (r .station .passive)) r)
+unfoldable pub passive-sample : ℕ → Run → List ℕ
+passive-sample to r = take (r .station .config .«shuffle_passive_view_count») (shuffled (without to (r .station .passive)) r)
 
 unfoldable pub shuffle-passive : ℕ → List ℕ → Run → Run
 shuffle-passive to acts r =
-    send-shuffle to (acts ++ passive-part to r) (draw-shuffle (without to (r .station .passive)) r)
+    send-shuffle to (acts ++ passive-sample to r) (draw-shuffle (without to (r .station .passive)) r)
 
 unfoldable pub shuffle-with : ℕ → Run → Run
-shuffle-with to r = shuffle-passive to (active-part to r) (draw-shuffle (without to (r .station .active)) r)
+shuffle-with to r = shuffle-passive to (active-sample to r) (draw-shuffle (without to (r .station .active)) r)
 
 unfoldable pub shuffle-any : Run → Run
 shuffle-any r = choose (is-alone (r .station)) r (shuffle-with (picked (r .station .active) r) (draw-one-of (length (r .station .active)) r))

@@ -18,7 +18,7 @@ encode-all [] = []
 encode-all (e ∷ es) = encode e ++ encode-all es
 
 -- "records in the output followed by zero bytes", each of them in form, so that it reads back (law `written-reads-back` of `record`)
-pub record Written (out : List ℕ) : Type 0 where
+pub record WrittenOut (out : List ℕ) : Type 0 where
   pub records : List Rec
   pub in-form : All InForm records
   pub zeros : ℕ
@@ -28,4 +28,4 @@ pub record Written (out : List ℕ) : Type 0 where
 abbrev pub Writes-records : Type 0
 Writes-records =
     (s : Station) → station-ok s ≡ true → (b : List ℕ) → all-under 256 b ≡ true → (ds : List ℕ) → all-under draws-end ds ≡ true
-    → (room : ℕ) → handle s b ds room .code ≡ 0 → Written (handle s b ds room .output)
+    → (room : ℕ) → handle s b ds room .code ≡ 0 → WrittenOut (handle s b ds room .output)

@@ -20,7 +20,7 @@ use Rattle.lists.proofs.Tests.{both-true, and-no, rising-true}
 use Rattle.lists.proofs.Zip.{length-values}
 use Rattle.util.specs.Section.{items-at, ValidSet, section}
 use Rattle.util.proofs.Sets.{section-holds}
-use Rattle.columns.specs.Columns.{word-bytes, numbers-at, ValidNumbers, numbers-section, low-word, high-word, data-at, ValidDataWords, data-section}
+use Rattle.columns.specs.Columns.{word-bytes, numbers-at, ValidNumbers, numbers-section, low-word, high-word, data-map-at, ValidDataWords, data-section}
 use Rattle.peer.specs.declared.PeerData.{PeerData}
 use Rattle.peer.specs.Data.{Data, bytes-of}
 use Rattle.peer.specs.Held.{data-in, ValidData}
@@ -186,7 +186,7 @@ unpack-pack g v =
       next-request = g .next-request;
       joins = (ap (λ (t : Sections). numbers-at 8 (t .joins)) s ∙ numbers-hold 8 (g .joins) (v .joins) (v .joins-rise) .items) i;
       next-join = g .next-join;
-      peer-data = (ap (λ (t : Sections). data-at 80 (t .peer-data)) s ∙ data-hold 80 (g .peer-data) (v .peer-data) (v .peer-data-rise) (v .short) (v .bytes) .items) i;
+      peer-data = (ap (λ (t : Sections). data-map-at 80 (t .peer-data)) s ∙ data-hold 80 (g .peer-data) (v .peer-data) (v .peer-data-rise) (v .short) (v .bytes) .items) i;
       alive = (ap (λ (t : Sections). items-at 32 (t .alive)) s ∙ section-holds 32 (g .alive) (v .alive) .items) i;
       refused = (ap (λ (t : Sections). items-at 32 (t .refused)) s ∙ section-holds 32 (g .refused) (v .refused) .items) i;
       refill = limit-out (g .refill) i;
@@ -369,7 +369,7 @@ pack-ok g e =
 -- ---- "a state of zeroes, which later calls meet with code 2"
 
 zero-rules : station-ok zero-station ≡ false
-unfolding station-ok rules R.every settings-rule zero-station new-station zero-config in-range within
+unfolding station-ok rules R.all-hold settings-rule zero-station new-station zero-config in-range within
 zero-rules = refl
 
 zero-fits : Fits zero-station

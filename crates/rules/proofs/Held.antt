@@ -15,7 +15,7 @@ use Rattle.lists.proofs.Choice.{split, or-true, and-right}
 use Rattle.lists.proofs.Tests.{both-true, true-rising, all-map}
 use Rattle.lists.proofs.Entries.{entries-values}
 use Rattle.util.specs.Section.{items-at, HoldsSet}
-use Rattle.columns.specs.Columns.{numbers-at, data-at, entries-at, count-of, ValidDataWords}
+use Rattle.columns.specs.Columns.{numbers-at, data-map-at, entries-at, count-of, ValidDataWords}
 use Rattle.columns.proofs.Data.{data-entries}
 use Rattle.peer.specs.declared.PeerData.{PeerData}
 use Rattle.peer.specs.Held.{data-in, ValidData}
@@ -83,7 +83,7 @@ module _ (xs : List ℕ) (e : packed-ok xs ≡ true) where
       let v = ok-shape xs e in
       both-true _ _ (le-leb (length (numbers-at 32 (layout.requests-part xs))) 32 (omega (arith, v .requests .counted, v .requests .fits)))
       (both-true _ _ (le-leb (length (items-at 32 (layout.refused-part xs))) 32 (omega (arith, v .refused .counted, v .refused .fits)))
-      (le-leb (length (data-at 80 (layout.peer-data-part xs))) 80 (omega (arith, v .peer-data .counted, v .peer-data .fits))))
+      (le-leb (length (data-map-at 80 (layout.peer-data-part xs))) 80 (omega (arith, v .peer-data .counted, v .peer-data .fits))))
 
   pub few-held : few-rule (unpack xs) ≡ true
   unfolding few-rule unpack station-of
@@ -97,7 +97,7 @@ unfolding all-short All values
 values-short [] a = refl
 values-short (x ∷ m) a = both-true (leb (length (x .1)) 16) _ (le-leb (length (x .1)) 16 (a .0)) (values-short m (a .1))
 
-data-short : (m : List ℕ) → ValidDataWords 80 m → All (λ (b : List ℕ). length b ≤ 16) (values (data-at 80 m))
+data-short : (m : List ℕ) → ValidDataWords 80 m → All (λ (b : List ℕ). length b ≤ 16) (values (data-map-at 80 m))
 data-short m v =
     rw (entries-values no-data 80 entry-bytes ValidEntry _ _ _ _ (data-entries 80 m v))
     (all-map ValidEntry (λ (b : List ℕ). length b ≤ 16) entry-bytes (λ x h. omega (arith, length-entry x h, h .fits)) (take (count-of 80 m) (entries-at 80 m)) (v .each))
@@ -135,7 +135,7 @@ module _ (xs : List ℕ) where
 -- three rules are left out where they hold
 pub rules-left : (g : Station) → few-rule g ≡ true → room-rule g ≡ true → data-rule g ≡ true
     → station-ok g ≡ (settings-rule g && (repeats-rule g && (order-rule g && (capacity-rule g && (views-rule g && (alive-rule g && (joins-rule g && (numbers-rule g && (self-rule g && (limit-rule g && (interval-rule g && (width-rule g && held-rule g))))))))))))
-unfolding station-ok rules R.every
+unfolding station-ok rules R.all-hold
 rules-left g f a b = rw (f, a, b, and-true (held-rule g))
 
 pub rules-are : (xs : List ℕ) → packed-ok xs ≡ true → (a b c d e f g h k l m n o : Bool) → a ≡ settings-rule (unpack xs) → b ≡ repeats-rule (unpack xs) → c ≡ order-rule (unpack xs) → d ≡ capacity-rule (unpack xs)

@@ -39,7 +39,7 @@ pub record Kept (g : Station) : Type 0 where
   pub width : width-rule g ≡ true
 
 pub ok-kept : (g : Station) → station-ok g ≡ true → Kept g
-unfolding station-ok rules R.every
+unfolding station-ok rules R.all-hold
 ok-kept g e =
     let e₁ = and-right (settings-rule g) _ e in
     let e₂ = and-right (repeats-rule g) _ e₁ in

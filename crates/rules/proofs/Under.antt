@@ -20,7 +20,7 @@ use Rattle.lists.proofs.Entries.{entries-values}
 use Rattle.scan.proofs.Loops.{Left, left-start, left-next, left-end}
 use Rattle.util.specs.Section.{part, items-at, ValidSet, valid-set}
 use Rattle.util.proofs.Sets.{lent}
-use Rattle.columns.specs.Columns.{word-bytes, row, numbers-at, ValidNumbers, valid-numbers, head-of, count-of, data-at, ValidDataWords, valid-data-words}
+use Rattle.columns.specs.Columns.{word-bytes, row, numbers-at, ValidNumbers, valid-numbers, head-of, count-of, data-map-at, ValidDataWords, valid-data-words}
 use Rattle.columns.proofs.Numbers.{number-entries, number-keys}
 use Rattle.columns.proofs.Data.{data-keys}
 use Rattle.peer.specs.Held.{zero-byte, valid-data}

@@ -15,7 +15,7 @@ use Rattle.lists.proofs.Choice.{by-choice, and-left, and-right}
 use Rattle.lists.proofs.Tests.{both-true}
 use Rattle.lists.proofs.Entries.{entries-values}
 use Rattle.util.specs.Section.{part, items-at, section}
-use Rattle.columns.specs.Columns.{word-bytes, rows, count-of, head-of, entries-at, numbers-at, ValidNumbers, data-at, ValidDataWords}
+use Rattle.columns.specs.Columns.{word-bytes, rows, count-of, head-of, entries-at, numbers-at, ValidNumbers, data-map-at, ValidDataWords}
 use Rattle.columns.proofs.Numbers.{number-keys}
 use Rattle.columns.proofs.Data.{data-entries, data-keys}
 use Rattle.peer.specs.Data.{Data, bytes-of}
@@ -79,7 +79,7 @@ module _ (n : ℕ) where
   numbers-under : (k : ℕ) (m : List ℕ) → ValidNumbers k m → all-under n m ≡ true → all-under n (keys (numbers-at k m)) ≡ true
   numbers-under k m v e = ap (all-under n) (number-keys k m v) ∙ take-under (getD m (k + k) 0) (part 0 k m) (part-under 0 k m e)
 
-  data-under : (k : ℕ) (m : List ℕ) → ValidDataWords k m → all-under n m ≡ true → all-under n (keys (data-at k m)) ≡ true
+  data-under : (k : ℕ) (m : List ℕ) → ValidDataWords k m → all-under n m ≡ true → all-under n (keys (data-map-at k m)) ≡ true
   unfolding head-of
   data-under k m v e = ap (all-under n) (data-keys k m v) ∙ take-under (count-of k m) (head-of k m) (part-under 0 (k + k) m e)
 
@@ -121,7 +121,7 @@ own-under : (xs : List ℕ) → all-under bytes-end (bytes-of (data-in (own-at x
 unfolding data-in own-at bytes-of all-under
 own-under xs = by-choice (λ (d : Data). all-under bytes-end (bytes-of d) ≡ true) _ (λ t. word-under (layout.own-len xs) (layout.own-low xs) (layout.own-high xs)) (λ t. refl)
 
-held-under : (m : List ℕ) → ValidDataWords 80 m → lists-under bytes-end (values (data-at 80 m)) ≡ true
+held-under : (m : List ℕ) → ValidDataWords 80 m → lists-under bytes-end (values (data-map-at 80 m)) ≡ true
 unfolding entries-at
 held-under m v = ap (lists-under bytes-end) (entries-values no-data 80 entry-bytes ValidEntry _ _ _ _ (data-entries 80 m v)) ∙ rows-under (count-of 80 m) _ _ _
 

@@ -10,14 +10,11 @@ ghost use Rattle.timing.specs.Timing.{within};
 ghost use Rattle.peer.specs.Held.{valid-data};
 ghost use Rattle.peer.specs.Maps.{numbers-under};
 ghost use Rattle.util.specs.Section.{items-at, ValidSet};
-ghost use Rattle.columns.specs.Columns.{numbers-at, ValidNumbers, data-at, ValidDataWords};
+ghost use Rattle.columns.specs.Columns.{numbers-at, ValidNumbers, data-map-at, ValidDataWords};
 ghost use Rattle.protocol.specs.Rules.{all-under, settings-rule, repeats-rule, order-rule, capacity-rule, views-rule, alive-rule};
 ghost use Rattle.protocol.specs.Rules.{joins-rule, numbers-rule, self-rule, limit-rule, interval-rule, width-rule, held-rule, station-ok};
 ghost use Rattle.state.specs.Unpack.{unpack, own-at};
 ghost use Rattle.rules.specs.Ok.{formed, sections-ok, packed-ok, state-ok};
-
-// The greatest pass count.
-const TOP_PASSES: u64 = 4294967295;
 
 // ---- tests of a whole list
 
@@ -309,7 +306,7 @@ fn width_rule(st: &[u64]) -> bool
     requires { ⌜ packed-ok (now st) ≡ true ⌝ }
     ensures { λ r. ⌜ r ≡ width-rule (unpack (now (st .entry))) ⌝ }
 {
-    (st[Layout::PASSES_ALONE] <= TOP_PASSES) & (st[Layout::PASSES_SHORT] <= TOP_PASSES)
+    (st[Layout::PASSES_ALONE] <= state::TOP_PASSES) & (st[Layout::PASSES_SHORT] <= state::TOP_PASSES)
 }
 
 // 02, S-5: no data is held of a peer in neither view and without an open request.

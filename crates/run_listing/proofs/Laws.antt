@@ -18,7 +18,7 @@ use Rattle.run_text.specs.Text.{Puts, Begins}
 use Rattle.run_text.proofs.Written.{begun, nothing, then, named}
 use Rattle.lists.specs.Bytes.{overwrite}
 use Rattle.protocol.specs.Handle.{new}
-use Rattle.hyparview.specs.declared.Made.{Made}
+use Rattle.hyparview.specs.declared.MadeState.{MadeState}
 use Rattle.hyparview.specs.Made as packed
 use Rattle.hyparview.specs.Made.{lent, pack-made}
 use Rattle.run_input.specs.declared.Head.{Head}
@@ -160,17 +160,17 @@ walked room xs head b ns t r out o h e k =
 
 -- ---- what is decided before the first event
 
-module _ (head : Head) (m : Made) (own : List ℕ) (e : record { code = m .code; words = m .state .words } ≡ pack-made (new (head .me) (lent false own) (head .config))) where
+module _ (head : Head) (m : MadeState) (own : List ℕ) (e : record { code = m .code; words = m .state .words } ≡ pack-made (new (head .me) (lent false own) (head .config))) where
   made-is : record { code = m .code; words = m .state .words } ≡ pack-made (new (head .me) none (head .config))
   made-is = made-bare (head .me) (head .config) _ own e
 
   pub open-unset : (m .code ≡ 0 → ⊥) → Line 1 ≡ opened-head head
   unfolding opened-head
-  open-unset h = sym (choose-no _ (Events head) (Line 1) (ap (λ (x : packed.Made). eqb (x .code) 0) (sym made-is) ∙ ne-eqb _ _ h))
+  open-unset h = sym (choose-no _ (Events head) (Line 1) (ap (λ (x : packed.MadeWords). eqb (x .code) 0) (sym made-is) ∙ ne-eqb _ _ h))
 
   pub open-events : m .code ≡ 0 → Events head ≡ opened-head head
   unfolding opened-head
-  open-events h = sym (choose-yes _ (Events head) (Line 1) (ap (λ (x : packed.Made). eqb (x .code) 0) (sym made-is) ∙ eq-eqb _ _ h))
+  open-events h = sym (choose-yes _ (Events head) (Line 1) (ap (λ (x : packed.MadeWords). eqb (x .code) 0) (sym made-is) ∙ eq-eqb _ _ h))
 
   pub begins-at : _≡_ {A = Runner} (record { state = m .state; at = 0; used = 0 }) (first-place head)
   unfolding first-place

@@ -8,7 +8,7 @@ use lib.Seq.{slice}
 use lib.Dec.{eqb}
 use Rattle.lists.specs.Lists.{choose}
 use Rattle.protocol.specs.Handle.{new}
-use Rattle.hyparview.specs.Made.{Made, pack-made}
+use Rattle.hyparview.specs.Made.{MadeWords, pack-made}
 use Rattle.hyparview.specs.Handled.{Outcome, handled}
 use Rattle.run_input.specs.declared.Head.{Head}
 use Rattle.run_input.specs.declared.Input.{Input}
@@ -31,7 +31,7 @@ unfoldable pub laid-text : ℕ → List ℕ → Head → List ℕ → List ℕ
 laid-text room xs head b = events-text room 0 xs (cut-events (head .events) (slice head-length (head .«draws_at») b)) (numbers (head .draws) 0 (drop (head .«draws_at») b))
 
 -- "otherwise out-of-range settings print only `= 1 0`"
-unfoldable pub made-text : Made → Head → List ℕ → List ℕ
+unfoldable pub made-text : MadeWords → Head → List ℕ → List ℕ
 made-text m head b = choose (eqb (m .code) 0) (laid-text 8192 (m .words) head b) (end-line 1 0)
 
 -- "whose events, so cut, or draws do not exactly fill their places .. prints only `= 3 0`"; "Own data is absent."

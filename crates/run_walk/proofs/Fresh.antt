@@ -9,11 +9,11 @@ use Rattle.lists.specs.Lists.{choose}
 use Rattle.timing.specs.declared.Config.{Config}
 use Rattle.peer.specs.Data.{Data}
 use Rattle.protocol.specs.Handle.{new}
-use Rattle.hyparview.specs.Made.{Made, lent, pack-made}
+use Rattle.hyparview.specs.Made.{MadeWords, lent, pack-made}
 
 no-data : (own : List ℕ) → lent false own ≡ none
 unfolding lent choose
 no-data own = refl
 
-pub made-bare : (me : ℕ) (config : Config) (m : Made) (own : List ℕ) → m ≡ pack-made (new me (lent false own) config) → m ≡ pack-made (new me none config)
+pub made-bare : (me : ℕ) (config : Config) (m : MadeWords) (own : List ℕ) → m ≡ pack-made (new me (lent false own) config) → m ≡ pack-made (new me none config)
 made-bare me config m own e = e ∙ ap (λ (d : Data). pack-made (new me d config)) (no-data own)

@@ -5,7 +5,7 @@ use mathlib.Core.Path.{_≡_, sym, ap, _∙_}
 use mathlib.Core.List.{List}
 use lib.ListN.{take, drop}
 use lib.Seq.{drop-drop}
-use Rattle.hyparview.specs.declared.Answer.{Answer}
+use Rattle.hyparview.specs.declared.HandledState.{HandledState}
 use Rattle.hyparview.specs.Handled.{Outcome, handled}
 use Rattle.run_input.specs.Input.{event-length}
 use Rattle.draws.specs.Place.{past}
@@ -15,7 +15,7 @@ use Rattle.run_walk.specs.Place.{Runs, met, passed}
 
 module _ (room : ℕ) (p : Runner) (events draws : List ℕ) where
   -- the call with the event cut out by its length
-  pub ran : (n : ℕ) (a : Answer) (event left recs : List ℕ) (u : ℕ) → n ≡ event-length (drop (p .at) events) → event ≡ take n (drop (p .at) events) → left ≡ drop (p .used) draws
+  pub ran : (n : ℕ) (a : HandledState) (event left recs : List ℕ) (u : ℕ) → n ≡ event-length (drop (p .at) events) → event ≡ take n (drop (p .at) events) → left ≡ drop (p .used) draws
       → record { code = a .code; draws = a .draws; words = a .state .words; output = recs } ≡ handled (p .state .words) event left room → u ≡ past draws (p .used) (a .draws)
       → Runs room p events draws (record { runner = record { state = a .state; at = p .at + n; used = u }; code = a .code; draws = a .draws }) recs
   unfolding passed

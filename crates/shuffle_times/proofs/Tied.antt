@@ -19,7 +19,7 @@ use Rattle.record.specs.Walk.{kind-in, headers}
 use Rattle.protocol.specs.Station.{Station, draws-end}
 use Rattle.protocol.specs.Run.{Run}
 use Rattle.protocol.specs.Rules.{all-under, station-ok, short-data}
-use Rattle.protocol.specs.Handle.{Answer, new-station, start, steps, refusal, accepted, finish, handle-reading, handle}
+use Rattle.protocol.specs.Handle.{Result, new-station, start, steps, refusal, accepted, finish, handle-reading, handle}
 use Rattle.lists.proofs.Members.{both}
 use Rattle.protocol.proofs.Reading.{Readable, by-reading}
 use Rattle.protocol.proofs.Whole.{ok-steps}
@@ -38,7 +38,7 @@ use Rattle.shuffle_times.proofs.Quiet.{clock, Still}
 use Rattle.shuffle_times.proofs.Sets.{Starts, plain, first, fired}
 
 -- the due times that an answer at time t asks for
-abbrev set-of : ℕ → Answer → List ℕ
+abbrev set-of : ℕ → Result → List ℕ
 set-of t a = after t (shuffle-delays (headers (a .output)))
 
 pub out-told : (es : List Rec) (out : List ℕ) (zeros : ℕ) (l : List ℕ) → out ≡ encode-all es → shuffles es ≡ l → length out ≤ 8192 → all-under draws-end l ≡ true → shuffle-delays (headers (out ++ replicate zeros 0)) ≡ l
@@ -47,7 +47,7 @@ out-told es out zeros l e f h u =
     rw e (told es zeros s (subst (λ (x : List ℕ). all-under draws-end x ≡ true) (sym f) u) ∙ f)
 
 -- one shuffle timer is set
-record New (t : ℕ) (s : Station) (a : Answer) : Type 0 where
+record New (t : ℕ) (s : Station) (a : Result) : Type 0 where
   draw-of : ℕ
   low : draw-of < draws-end
   set : set-of t a ≡ (t + delay (s .next-interval) draw-of) ∷ []
@@ -55,7 +55,7 @@ record New (t : ℕ) (s : Station) (a : Answer) : Type 0 where
   mark : a .state .scheduled ≡ true
 
 -- what a call with the event b at time t does to a station
-record Called (t : ℕ) (b : List ℕ) (s : Station) (a : Answer) : Type 0 where
+record Called (t : ℕ) (b : List ℕ) (s : Station) (a : Result) : Type 0 where
   refused : eqb (a .code) 0 ≡ false → (set-of t a ≡ []) × (clock (a .state) ≡ clock s)
   quiet : eqb (a .code) 0 ≡ true → eqb (kind-in b) 1 ≡ false → s .scheduled ≡ true → (set-of t a ≡ []) × (clock (a .state) ≡ clock s)
   sets : eqb (a .code) 0 ≡ true → eqb (kind-in b) 1 ≡ s .scheduled → New t s a

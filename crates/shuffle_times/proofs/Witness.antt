@@ -26,7 +26,7 @@ use Rattle.protocol.specs.Rules.{all-under, station-ok}
 use Rattle.protocol.specs.Events as E
 use Rattle.protocol.specs.Timers as T
 use Rattle.protocol.specs.Handle as H
-use Rattle.protocol.specs.Handle.{Answer, new-station, start, steps, accepted, finish, handle-reading, handle}
+use Rattle.protocol.specs.Handle.{Result, new-station, start, steps, accepted, finish, handle-reading, handle}
 use Rattle.lists.proofs.Members.{both}
 use Rattle.protocol.proofs.Tested.{rules-of}
 use Rattle.history.specs.Ledger.{Ledger}
@@ -108,9 +108,9 @@ record Leads (v : Brought) (s t : Station) (due : ℕ) : Type 0 where
 leads : (v : Brought) (s t : Station) (w : Run) (l : ℕ) (es : List Rec) → result-of (v .call) s ≡ accepted w → w .station ≡ t → w .out ≡ encode-all es → shuffles es ≡ l ∷ [] → length (w .out) ≤ 8192 → all-under draws-end (l ∷ []) ≡ true → Leads v s t (v .at + l)
 unfolding accepted set-by after
 leads v s t w l es e f g h small u = record {
-  code = ap (λ (a : Answer). a .code) e;
-  state = ap (λ (a : Answer). a .state) e ∙ f;
-  sets = ap (λ (a : Answer). after (v .at) (shuffle-delays (headers (a .output)))) e ∙ ap (after (v .at)) (out-told es (w .out) (w .room - length (w .out)) (l ∷ []) g h small u);
+  code = ap (λ (a : Result). a .code) e;
+  state = ap (λ (a : Result). a .state) e ∙ f;
+  sets = ap (λ (a : Result). after (v .at) (shuffle-delays (headers (a .output)))) e ∙ ap (after (v .at)) (out-told es (w .out) (w .room - length (w .out)) (l ∷ []) g h small u);
 }
 
 module _ (me : ℕ) (d : Data) (c : Config) where

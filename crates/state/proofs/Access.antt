@@ -11,7 +11,7 @@ use lib.ListN.{length, take, drop, getD}
 use lib.Seq.{getD-take, getD-drop}
 use Rattle.lists.proofs.Choice.{and-left, and-right}
 use Rattle.util.specs.Section.{part, items-at, ValidSet}
-use Rattle.columns.specs.Columns.{numbers-at, ValidNumbers, data-at, ValidDataWords}
+use Rattle.columns.specs.Columns.{numbers-at, ValidNumbers, data-map-at, ValidDataWords}
 use Rattle.peer.specs.declared.PeerData.{PeerData}
 use Rattle.peer.specs.Held.{ValidData}
 use Rattle.timing.specs.Timing.{in-range, within}
@@ -113,5 +113,5 @@ module _ (xs : List ℕ) (p : PackedState xs) where
   pub count-joins : length (numbers-at 8 (layout.joins-part xs)) ≡ getD xs 229 0
   count-joins = opened p .joins .counted ∙ in-part 213 17 16 xs (omega arith)
 
-  pub count-data : length (data-at 80 (layout.peer-data-part xs)) ≡ getD xs 550 0
+  pub count-data : length (data-map-at 80 (layout.peer-data-part xs)) ≡ getD xs 550 0
   count-data = opened p .peer-data .counted ∙ in-part 230 321 320 xs (omega arith)

@@ -23,7 +23,7 @@ use Rattle.protocol.specs.Station.{Station}
 use Rattle.protocol.specs.Run.{Run, guard, on, emit, draw, require, drawn}
 use Rattle.state.specs.declared.Work.{Work}
 use Rattle.state.specs.Unpack.{unpack, PackedState, Becomes}
-use Rattle.state.specs.Work.{Held, work-of, run, Changes, Ready, Draws, Room, Tells, Fine, Does, after-record}
+use Rattle.state.specs.Work.{Held, work-of, run, Changes, Ready, DrawsFrom, Room, Tells, Fine, Does, after-record}
 
 abbrev pub with-state : List ℕ → Held → Held
 with-state s w = record { state = s; drawn = w .drawn; written = w .written; code = w .code }
@@ -78,16 +78,16 @@ module _ (w : Held) (v : PackedState (w .state)) where
   require-refused k b h t = record { packed = v; drawn = refl; written = refl; same = λ ds out. sym (guard-open _ _ h ∙ choose-no _ _ _ t) }
 
 module _ (w : Held) (ds : List ℕ) (v : Ready w ds) where
-  pub draw-passed : (n : ℕ) → (w .code ≡ 0 → ⊥) → Draws (draw n) w w ds
+  pub draw-passed : (n : ℕ) → (w .code ≡ 0 → ⊥) → DrawsFrom (draw n) w w ds
   unfolding run draw
   draw-passed n h = record { ready = v; written = refl; same = λ out. sym (guard-shut _ _ h) }
 
-  pub draw-short : (n : ℕ) → w .code ≡ 0 → length ds < w .drawn + n → Draws (draw n) w (with-code 5 w) ds
+  pub draw-short : (n : ℕ) → w .code ≡ 0 → length ds < w .drawn + n → DrawsFrom (draw n) w (with-code 5 w) ds
   unfolding run draw
   draw-short n h x =
       record { ready = record { packed = v .packed; drawn = v .drawn }; written = refl; same = λ out. sym (guard-open _ _ h ∙ choose-no _ _ _ (lt-leb _ _ x)) }
 
-  pub draw-done : (n : ℕ) → w .code ≡ 0 → w .drawn + n ≤ length ds → Draws (draw n) w (with-drawn (w .drawn + n) w) ds
+  pub draw-done : (n : ℕ) → w .code ≡ 0 → w .drawn + n ≤ length ds → DrawsFrom (draw n) w (with-drawn (w .drawn + n) w) ds
   unfolding run draw
   draw-done n h x =
       record { ready = record { packed = v .packed; drawn = x }; written = refl; same = λ out. sym (guard-open _ _ h ∙ choose-yes _ _ _ (le-leb _ _ x)) }
@@ -177,13 +177,13 @@ module _ {w r : Held} (test : Station → Bool) {t : Bool} (e : t ≡ test (unpa
   change-no x h k = change-by _ (λ ds out. choose-no _ _ _ (sym e ∙ h)) k
 
 -- a step that is lent nothing, where draws are lent
-pub drawing : {w r : Held} {ds : List ℕ} {g : Run → Run} → Ready w ds → Changes g w r → Draws g w r ds
+pub drawing : {w r : Held} {ds : List ℕ} {g : Run → Run} → Ready w ds → Changes g w r → DrawsFrom g w r ds
 drawing v k = record { ready = record { packed = k .packed; drawn = rw (k .drawn) (v .drawn) }; written = k .written; same = λ out. k .same _ out }
 
-pub draw-by : {w r : Held} {ds : List ℕ} {g : Run → Run} (h : Run → Run) → ((out : List ℕ) → h (run w ds out) ≡ g (run w ds out)) → Draws g w r ds → Draws h w r ds
+pub draw-by : {w r : Held} {ds : List ℕ} {g : Run → Run} (h : Run → Run) → ((out : List ℕ) → h (run w ds out) ≡ g (run w ds out)) → DrawsFrom g w r ds → DrawsFrom h w r ds
 draw-by h e k = record { ready = k .ready; written = k .written; same = λ out. k .same out ∙ sym (e out) }
 
-pub draw-then : {w a r : Held} {ds : List ℕ} {f g : Run → Run} (h : Run → Run) → ((out : List ℕ) → h (run w ds out) ≡ g (f (run w ds out))) → Draws g a r ds → Draws f w a ds → Draws h w r ds
+pub draw-then : {w a r : Held} {ds : List ℕ} {f g : Run → Run} (h : Run → Run) → ((out : List ℕ) → h (run w ds out) ≡ g (f (run w ds out))) → DrawsFrom g a r ds → DrawsFrom f w a ds → DrawsFrom h w r ds
 draw-then {g = g} h e k₂ k₁ = record {
   ready = k₂ .ready;
   written = k₂ .written ∙ k₁ .written;
@@ -191,11 +191,11 @@ draw-then {g = g} h e k₂ k₁ = record {
 }
 
 module _ {w r : Held} {ds : List ℕ} (test : Station → Bool) {t : Bool} (e : t ≡ test (unpack (w .state))) where
-  pub draw-yes : {x : Run → Run} (y : Run → Run) → t ≡ true → Draws x w r ds → Draws (λ g. choose (test (g .station)) (x g) (y g)) w r ds
+  pub draw-yes : {x : Run → Run} (y : Run → Run) → t ≡ true → DrawsFrom x w r ds → DrawsFrom (λ g. choose (test (g .station)) (x g) (y g)) w r ds
   unfolding run
   draw-yes y h k = draw-by _ (λ out. choose-yes _ _ _ (sym e ∙ h)) k
 
-  pub draw-no : (x : Run → Run) {y : Run → Run} → t ≡ false → Draws y w r ds → Draws (λ g. choose (test (g .station)) (x g) (y g)) w r ds
+  pub draw-no : (x : Run → Run) {y : Run → Run} → t ≡ false → DrawsFrom y w r ds → DrawsFrom (λ g. choose (test (g .station)) (x g) (y g)) w r ds
   unfolding run
   draw-no x h k = draw-by _ (λ out. choose-no _ _ _ (sym e ∙ h)) k
 
@@ -238,7 +238,7 @@ then {g = g} k d = record {
 }
 
 -- then a step that is lent the draws
-pub then-draw : {a r : Held} {ds o : List ℕ} {g : Run → Run} {h : Run} → Draws g a r ds → Does a ds o h → Does r ds o (g h)
+pub then-draw : {a r : Held} {ds o : List ℕ} {g : Run → Run} {h : Run} → DrawsFrom g a r ds → Does a ds o h → Does r ds o (g h)
 then-draw {g = g} k d = record { fine = record { ready = k .ready; written = rw (k .written) (d .fine .written) }; same = k .same _ ∙ ap g (d .same) }
 
 -- then a step that is lent the output

@@ -8,7 +8,7 @@ use lib.ListN.{length}
 use lib.Dec.{leb, eqb}
 use Rattle.lists.specs.Lists.{choose}
 use Rattle.util.specs.Section.{items-at, ValidSet}
-use Rattle.columns.specs.Columns.{numbers-at, ValidNumbers, word-bytes, data-at, ValidDataWords}
+use Rattle.columns.specs.Columns.{numbers-at, ValidNumbers, word-bytes, data-map-at, ValidDataWords}
 use Rattle.peer.specs.declared.PeerData.{PeerData}
 use Rattle.peer.specs.Held.{data-in, ValidData}
 use Rattle.timing.specs.declared.Config.{Config}
@@ -70,7 +70,7 @@ station-of n s = record {
   next-request = layout.next-neighbor-request n;
   joins = numbers-at 8 (s .joins);
   next-join = layout.next-join n;
-  peer-data = data-at 80 (s .peer-data);
+  peer-data = data-map-at 80 (s .peer-data);
   alive = items-at 32 (s .alive);
   refused = items-at 32 (s .refused);
   refill = refill-in (limit-at n);

@@ -44,7 +44,7 @@ pub record Ready (w : Held) (ds : List ℕ) : Type 0 where
   pub drawn : w .drawn ≤ length ds
 
 -- a step that is lent the draws makes r of w, whatever the output is
-pub record Draws (step : Run → Run) (w r : Held) (ds : List ℕ) : Type 0 where
+pub record DrawsFrom (step : Run → Run) (w r : Held) (ds : List ℕ) : Type 0 where
   pub ready : Ready r ds
   pub written : r .written ≡ w .written
   pub same : (out : List ℕ) → run r ds out ≡ step (run w ds out)
@@ -80,7 +80,7 @@ pub record ChangesAny (step : Run → Run) (w r : Work) : Type 0 where
 pub record DrawsAny (step : Run → Run) (w r : Work) (ds : List ℕ) : Type 0 where
   pub drawn : r .drawn ≤ length ds
   pub written : r .written ≡ w .written
-  pub any : (xs : List ℕ) → PackedState xs → Draws step (work-of w xs) (work-of r xs) ds
+  pub any : (xs : List ℕ) → PackedState xs → DrawsFrom step (work-of w xs) (work-of r xs) ds
 
 -- the draws before `next` are taken, however their number is said
 pub record Reaches (next : ℕ) (w r : Work) (ds : List ℕ) : Type 0 where

@@ -76,9 +76,9 @@ impl Layout {
     pub const OWN_HIGH: usize = 21;
 
     // The places of a section: few for the active view, bootstrap peers, recent neighbors and joins, and all for the other sets and the requests.
-    pub const FEW: usize = 8;
+    pub const FEW: usize = columns::ACTIVE_PLACES;
 
-    pub const ALL: usize = 32;
+    pub const ALL: usize = columns::PASSIVE_PLACES;
 
     pub const DATA_CAP: usize = 80;
 
@@ -138,6 +138,9 @@ impl Layout {
 
     pub const LENGTH: usize = Layout::HELD_END;
 }
+
+// The most passes that are counted (the Rust's `u32::MAX`).
+pub const TOP_PASSES: u64 = 4294967295;
 
 // What bounds a refill; protocol/Station says of `Refill` why there are three cases.
 pub enum RefillLimit {

@@ -21,9 +21,6 @@ ghost use Rattle.state.specs.Unpack.{unpack, PackedState};
 ghost use Rattle.state.specs.Work.{work-of, run, Changes, Room, Tells, TellsAny, Fine, Does};
 ghost use Rattle.step_maintenance.specs.Counts.{Counts};
 
-// The most passes that are counted (the Rust's `u32::MAX`).
-const TOP_PASSES: u64 = 4294967295;
-
 // The peers of a working set as the newest of the known ones, one after the other.
 fn renew_all(known: &mut [u64], v: &[u64])
     requires { ⌜ ValidSet 8 (now known) ⌝ }
@@ -125,7 +122,7 @@ fn alone_counts(st: &[u64]) -> bool
     requires { ⌜ length (now st) ≡ words ⌝ }
     ensures { λ r. ⌜ r ≡ alone-counts (unpack (now (st .entry))) ⌝ }
 {
-    st[Layout::PASSES_ALONE] < TOP_PASSES
+    st[Layout::PASSES_ALONE] < state::TOP_PASSES
 }
 
 fn add_alone(w: Work, st: &mut [u64]) -> Work
@@ -180,7 +177,7 @@ fn short_counts(st: &[u64]) -> bool
     requires { ⌜ length (now st) ≡ words ⌝ }
     ensures { λ r. ⌜ r ≡ short-counts (unpack (now (st .entry))) ⌝ }
 {
-    st[Layout::PASSES_SHORT] < TOP_PASSES
+    st[Layout::PASSES_SHORT] < state::TOP_PASSES
 }
 
 fn add_short(w: Work, st: &mut [u64]) -> Work

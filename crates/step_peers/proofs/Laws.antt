@@ -12,7 +12,7 @@ use borrow.Author.Tests.{eqb-false, leb-false, lt-ltb, le-ltb}
 use Rattle.lists.specs.Lists.{null, remove, shift-remove}
 use Rattle.util.specs.Section.{items-at}
 use Rattle.state.specs.Layout.{passive-part, peer-data-part, passive-view-capacity}
-use Rattle.columns.specs.Columns.{data-at}
+use Rattle.columns.specs.Columns.{data-map-at}
 use Rattle.lists.specs.Maps.{lookup, has}
 use Rattle.lists.proofs.Choice.{by-choice, choose-yes, choose-no, and-right, and-false}
 use Rattle.lists.proofs.Count.{length-shift, length-remove}
@@ -119,18 +119,18 @@ pub some-choice : (xs : List ℕ) (n : ℕ) (t : Bool) → n ≡ length (unpack 
 unfolding must-evict
 some-choice xs n t e f h = omega (arith, e, some-item (unpack xs .passive) (was-not _ (and-right (passive-is-full (unpack xs)) (not (null (unpack xs .passive))) (sym f ∙ h))))
 
-pub entry-free : (xs : List ℕ) (code p : ℕ) → code ≡ 0 → FreeData p code (unpack xs) → (has p (data-at 80 (peer-data-part xs)) || ltb (length (data-at 80 (peer-data-part xs))) 80) ≡ true
+pub entry-free : (xs : List ℕ) (code p : ℕ) → code ≡ 0 → FreeData p code (unpack xs) → (has p (data-map-at 80 (peer-data-part xs)) || ltb (length (data-map-at 80 (peer-data-part xs))) 80) ≡ true
 unfolding unpack station-of data-fits
 entry-free xs code p z h = h .free z
 
 -- a free entry, or one that the peer has
-pub roomy : (xs : List ℕ) (p n : ℕ) → n ≡ length (data-at 80 (peer-data-part xs)) → n < 80 → true ≡ data-fits p (unpack xs)
+pub roomy : (xs : List ℕ) (p n : ℕ) → n ≡ length (data-map-at 80 (peer-data-part xs)) → n < 80 → true ≡ data-fits p (unpack xs)
 unfolding data-fits unpack station-of
-roomy xs p n e h = rw (← e, lt-ltb n 80 h) (sym (or-true (has p (data-at 80 (peer-data-part xs)))))
+roomy xs p n e h = rw (← e, lt-ltb n 80 h) (sym (or-true (has p (data-map-at 80 (peer-data-part xs)))))
 
-pub crowded : (xs : List ℕ) (p n : ℕ) (t : Bool) → n ≡ length (data-at 80 (peer-data-part xs)) → 80 ≤ n → t ≡ has p (data-at 80 (peer-data-part xs)) → t ≡ data-fits p (unpack xs)
+pub crowded : (xs : List ℕ) (p n : ℕ) (t : Bool) → n ≡ length (data-map-at 80 (peer-data-part xs)) → 80 ≤ n → t ≡ has p (data-map-at 80 (peer-data-part xs)) → t ≡ data-fits p (unpack xs)
 unfolding data-fits unpack station-of
-crowded xs p n t e h f = rw (← e, le-ltb n 80 h) (f ∙ sym (or-false (has p (data-at 80 (peer-data-part xs)))))
+crowded xs p n t e h f = rw (← e, le-ltb n 80 h) (f ∙ sym (or-false (has p (data-map-at 80 (peer-data-part xs)))))
 
 module _ (w a r : Held) (out o : List ℕ) (p : ℕ) (b : List ℕ) (t : Bool) where
   pub inserted : t ≡ is-known p b (unpack (w .state)) → t ≡ false → Changes (keep-data p b) a r → Tells (announce-data p b) w a out o → Tells (insert-data p b) w r out o

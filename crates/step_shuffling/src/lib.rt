@@ -23,13 +23,13 @@ ghost use Rattle.state.specs.Unpack.{unpack, PackedState};
 ghost use Rattle.state.specs.Work.{work-of, run, Fine, Does};
 
 // The work after an event's nodes were learned, and whether one of them was new.
-struct Added {
+struct Learned {
     work: Work,
     fresh: bool,
 }
 
 // The n nodes of the event b go to the passive view.
-fn add_nodes(w: Work, st: &mut [u64], draws: &[u32], out: &mut [u8], b: &[u8], n: usize) -> Added
+fn add_nodes(w: Work, st: &mut [u64], draws: &[u32], out: &mut [u8], b: &[u8], n: usize) -> Learned
     requires { ⌜ length (now st) ≡ words ⌝ }
     requires { ⌜ Fine (work-of w (now st)) (now draws) (now out) ⌝ }
     requires { ⌜ well-formed (now b) ≡ true ⌝ }
@@ -49,7 +49,7 @@ fn add_nodes(w: Work, st: &mut [u64], draws: &[u32], out: &mut [u8], b: &[u8], n
         let t = step_peers::add_passive(a, st, draws, out, p, d);
         a = t.work;
     }
-    Added {
+    Learned {
         work: a,
         fresh: fresh,
     }

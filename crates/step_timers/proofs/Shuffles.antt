@@ -23,7 +23,7 @@ use Rattle.writer.proofs.Ways.{length-nodes}
 use Rattle.protocol.specs.Station.{Station, is-alone}
 use Rattle.protocol.specs.Setters.{set-next-interval}
 use Rattle.protocol.specs.Run.{on, emit, draw, drawn, to-draw, one-of, draw-one-of, picked, shuffled, draw-shuffle, message, timer, peer-infos}
-use Rattle.protocol.specs.Timers.{double-interval, schedule-shuffle, shuffle-nodes, send-shuffle, active-part, passive-part, shuffle-passive, shuffle-with, shuffle-any}
+use Rattle.protocol.specs.Timers.{double-interval, schedule-shuffle, shuffle-nodes, send-shuffle, active-sample, passive-sample, shuffle-passive, shuffle-with, shuffle-any}
 use Rattle.state.specs.declared.Work.{Work}
 use Rattle.state.specs.Layout as layout
 use Rattle.state.specs.Layout.{next-shuffle-interval, shuffle-interval, me, shuffle-random-walk-length, shuffle-active-view-count, shuffle-passive-view-count}
@@ -114,7 +114,7 @@ module _ (w a r : Work) (xs ds out o : List ℕ) (to : ℕ) (f : Fine (work-of w
       → HoldsSet 32 m (take (shuffle-passive-view-count xs) (shuffled-by w ds (without to (items-at 32 (layout.passive-part xs)))))
       → HoldsSet 32 all (items-at 32 v ++ items-at 32 m) → Tells (send-shuffle to (items-at 32 all)) (work-of a xs) (work-of r xs) out o
       → Does (work-of r xs) ds o (shuffle-passive to (items-at 32 v) (run (work-of w xs) ds out))
-  unfolding shuffle-passive passive-part shuffled to-draw run unpack station-of settings-at
+  unfolding shuffle-passive passive-sample shuffled to-draw run unpack station-of settings-at
   passive-done v m all k h e t =
       by _
       (ap (λ (l : List ℕ). send-shuffle to l (draw-shuffle (without to (items-at 32 (layout.passive-part xs))) (run (work-of w xs) ds out)))
@@ -124,7 +124,7 @@ module _ (w a r : Work) (xs ds out o : List ℕ) (to : ℕ) (f : Fine (work-of w
   pub with-done : (v : List ℕ) → DrawsAny (draw-shuffle (without to (items-at 8 (layout.active-part xs)))) w a ds
       → HoldsSet 32 v (take (shuffle-active-view-count xs) (shuffled-by w ds (without to (items-at 8 (layout.active-part xs)))))
       → Does (work-of r xs) ds o (shuffle-passive to (items-at 32 v) (run (work-of a xs) ds out)) → Does (work-of r xs) ds o (shuffle-with to (run (work-of w xs) ds out))
-  unfolding shuffle-with active-part shuffled to-draw run unpack station-of settings-at
+  unfolding shuffle-with active-sample shuffled to-draw run unpack station-of settings-at
   with-done v k h d =
       by _ (ap (λ (l : List ℕ). shuffle-passive to l (draw-shuffle (without to (items-at 8 (layout.active-part xs))) (run (work-of w xs) ds out))) (sym (h .items)))
       (seq (shuffle-passive to (items-at 32 v)) d (then-draw-any k (still f)))

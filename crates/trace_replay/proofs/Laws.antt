@@ -19,7 +19,7 @@ use Rattle.rules.specs.Pack.{pack}
 use Rattle.hyparview.specs.Made as packed
 use Rattle.hyparview.specs.Made.{lent, pack-made}
 use Rattle.hyparview.specs.declared.State.{State}
-use Rattle.hyparview.specs.declared.Made.{Made}
+use Rattle.hyparview.specs.declared.MadeState.{MadeState}
 use Rattle.hyparview.specs.Handled.{handled}
 use Rattle.run_input.specs.declared.Head.{Head}
 use Rattle.run_input.specs.declared.Input.{Input}
@@ -31,13 +31,13 @@ use Rattle.run_walk.specs.Place.{passed}
 use Rattle.run_walk.proofs.Laws.{next-words, next-left, next-events}
 use Rattle.run_walk.proofs.Draws.{counted, first-draws, part-is}
 use Rattle.run_walk.proofs.Fresh.{made-bare}
-use Rattle.trace_replay.specs.declared.Start.{Start}
+use Rattle.trace_replay.specs.declared.TraceStart.{TraceStart}
 use Rattle.trace_replay.specs.declared.Ended.{Ended}
 use Rattle.trace_replay.specs.Ending.{Counting, room-of, counting, words-after, laid-words, ended-at, made-end, input-end, ended-of}
 
 -- ---- the room
 
-module _ (start : Start) where
+module _ (start : TraceStart) where
   pub room-given : start .room ≤ 8192 → start .room ≡ room-of start
   unfolding room-of
   room-given h = omega (arith, h)
@@ -94,18 +94,18 @@ in-room room xs ys head b out h k = k ∙ ap (λ (x : ℕ). laid-words x xs head
 -- ---- the whole
 
 -- `new` with settings that are out of range
-pub unset : (c : Config) (m : Made) (own : List ℕ) → in-range c ≡ false → record { code = m .code; words = m .state .words } ≡ pack-made (P.new 0 (lent false own) c) → m .state .words ≡ pack P.zero-station
+pub unset : (c : Config) (m : MadeState) (own : List ℕ) → in-range c ≡ false → record { code = m .code; words = m .state .words } ≡ pack-made (P.new 0 (lent false own) c) → m .state .words ≡ pack P.zero-station
 unfolding P.new pack-made
-unset c m own h e = ap (λ (x : packed.Made). x .words) e ∙ ap (λ (x : P.Made). pack (x .state)) (choose-no _ _ _ (ap (λ (t : Bool). t && short-data (lent false own)) h))
+unset c m own h e = ap (λ (x : packed.MadeWords). x .words) e ∙ ap (λ (x : P.Made). pack (x .state)) (choose-no _ _ _ (ap (λ (t : Bool). t && short-data (lent false own)) h))
 
-module _ (start : Start) (head : Head) (b : List ℕ) (m : Made) (own : List ℕ) (e : record { code = m .code; words = m .state .words } ≡ pack-made (P.new (head .me) (lent false own) (head .config))) where
+module _ (start : TraceStart) (head : Head) (b : List ℕ) (m : MadeState) (own : List ℕ) (e : record { code = m .code; words = m .state .words } ≡ pack-made (P.new (head .me) (lent false own) (head .config))) where
   made-code : m .code ≡ P.new (head .me) none (head .config) .code
   unfolding pack-made
-  made-code = ap (λ (x : packed.Made). x .code) (made-bare (head .me) (head .config) _ own e)
+  made-code = ap (λ (x : packed.MadeWords). x .code) (made-bare (head .me) (head .config) _ own e)
 
   made-words : m .state .words ≡ pack (P.new (head .me) none (head .config) .state)
   unfolding pack-made
-  made-words = ap (λ (x : packed.Made). x .words) (made-bare (head .me) (head .config) _ own e)
+  made-words = ap (λ (x : packed.MadeWords). x .words) (made-bare (head .me) (head .config) _ own e)
 
   pub whole-refused : (r : Ended) → (m .code ≡ 0 → ⊥) → r ≡ record { code = m .code; state = m .state } → r ≡ made-end start (P.new (head .me) none (head .config)) head b
   unfolding made-end
@@ -120,7 +120,7 @@ module _ (start : Start) (head : Head) (b : List ℕ) (m : Made) (own : List ℕ
       ap (ended-at 0) (k ∙ (λ i. laid-words (q i) (first i) head b))
       ∙ sym (choose-yes _ _ _ (ap (λ (x : ℕ). eqb x 0) (sym made-code) ∙ eq-eqb _ _ h))
 
-module _ (start : Start) (b : List ℕ) (x : Input) (e : x ≡ input-of b) where
+module _ (start : TraceStart) (b : List ℕ) (x : Input) (e : x ≡ input-of b) where
   pub ends-refused : (r : Ended) (s : State) → x ≡ Refused → s .words ≡ pack P.zero-station → r ≡ record { code = 3; state = s } → r ≡ ended-of start b
   unfolding ended-of input-end
   ends-refused r s h z k = k ∙ (ap (ended-at 3) z ∙ ap (λ (y : Input). input-end start y b) (sym h ∙ e))

@@ -18,21 +18,21 @@ use Rattle.run_input.specs.declared.Head.{Head}
 use Rattle.run_input.specs.declared.Input.{Input}
 use Rattle.run_input.specs.declared.Input.the-variants.{Refused, Whole}
 use Rattle.run_input.specs.Input.{head-length, numbers, cut-events, input-of}
-use Rattle.trace_replay.specs.declared.Start.{Start}
+use Rattle.trace_replay.specs.declared.TraceStart.{TraceStart}
 use Rattle.trace_replay.specs.declared.Ended.{Ended}
 
 -- the bytes of output lent to each event: "8,192 output bytes .. always suffice", and no more are there
-unfoldable pub room-of : Start → ℕ
+unfoldable pub room-of : TraceStart → ℕ
 room-of start = min (start .room) 8192
 
 -- the station g with the counters of a start
-unfoldable pub counting : Start → Station → Station
+unfoldable pub counting : TraceStart → Station → Station
 counting start g =
     set-passes-short (start .«passes_short»)
     (set-passes-alone (start .«passes_alone») (set-next-join (start .«next_join») (set-next-request (start .«next_neighbor_request») g)))
 
 -- the state t counts from a start, and is s otherwise
-pub record Counting (start : Start) (s t : State) : Type 0 where
+pub record Counting (start : TraceStart) (s t : State) : Type 0 where
   pub same : (g : Station) → s .words ≡ pack g → t .words ≡ pack (counting start g)
 
 -- the words after these events; "Draws go on where the last accepted event stopped."
@@ -49,15 +49,15 @@ abbrev pub ended-at : ℕ → List ℕ → Ended
 ended-at code xs = record { code = code; state = record { words = xs } }
 
 -- "otherwise out-of-range settings": the answer of `new`; else code 0 and the state after the last event
-unfoldable pub made-end : Start → Made → Head → List ℕ → Ended
+unfoldable pub made-end : TraceStart → Made → Head → List ℕ → Ended
 made-end start m head b =
     choose (eqb (m .code) 0) (ended-at 0 (laid-words (room-of start) (pack (counting start (m .state))) head b)) (ended-at (m .code) (pack (m .state)))
 
 -- an input that is refused as a whole: code 3, and "a state of zeroes"; "Own data is absent."
-unfoldable pub input-end : Start → Input → List ℕ → Ended
+unfoldable pub input-end : TraceStart → Input → List ℕ → Ended
 input-end start Refused b = ended-at 3 (pack zero-station)
 input-end start (Whole head) b = made-end start (new (head .me) none (head .config)) head b
 
 -- how the history of the input b ends
-unfoldable pub ended-of : Start → List ℕ → Ended
+unfoldable pub ended-of : TraceStart → List ℕ → Ended
 ended-of start b = input-end start (input-of b) b

@@ -27,7 +27,7 @@ pub struct Ended {
 }
 
 // What a history starts with beside its input: the room for output, and the counters of the new station.
-pub struct Start {
+pub struct TraceStart {
     pub room: usize,
     pub next_neighbor_request: u64,
     pub next_join: u64,
@@ -35,12 +35,12 @@ pub struct Start {
     pub passes_short: u32,
 }
 
-impl Start {
+impl TraceStart {
     // The run program's: 8,192 bytes of room, and a new station's own counters.
-    pub fn usual() -> Start
+    pub fn usual() -> TraceStart
         ensures { λ r. ⌜ r ≡ record { room = 8192; «next_neighbor_request» = 0; «next_join» = 0; «passes_alone» = 0; «passes_short» = 0 } ⌝ }
     {
-        Start {
+        TraceStart {
             room: 8192,
             next_neighbor_request: 0,
             next_join: 0,
@@ -51,7 +51,7 @@ impl Start {
 }
 
 // The new station with these counters.
-fn started(s: State, start: Start) -> State
+fn started(s: State, start: TraceStart) -> State
     ensures { λ r. ⌜ Counting start s r ⌝ }
 {
     let mut words = s.words;
@@ -63,7 +63,7 @@ fn started(s: State, start: Start) -> State
 }
 
 // The room for output, and no more than there is.
-fn room_of(start: Start) -> usize
+fn room_of(start: TraceStart) -> usize
     ensures { λ r. ⌜ r ≡ room-of start ⌝ }
     ensures { λ r. ⌜ r ≤ 8192 ⌝ }
 {
@@ -177,7 +177,7 @@ fn with_space(s: State, b: &[u8], head: Head, room: usize) -> State
 }
 
 // An input that is not refused: the answer of `new`, or its events.
-fn whole(b: &[u8], head: Head, start: Start) -> Ended
+fn whole(b: &[u8], head: Head, start: TraceStart) -> Ended
     requires { ⌜ Laid (now b) head ⌝ }
     ensures { λ r. ⌜ r ≡ made-end start (new (head .me) none (head .config)) head (now (b .entry)) ⌝ }
 {
@@ -197,7 +197,7 @@ fn whole(b: &[u8], head: Head, start: Start) -> Ended
 }
 
 // A whole history on standard output, and how it ended.
-pub fn history(b: &[u8], start: Start) -> Ended
+pub fn history(b: &[u8], start: TraceStart) -> Ended
     ensures { λ r. ⌜ r ≡ ended-of start (now (b .entry)) ⌝ }
 {
     let i = run_input::read(b);

@@ -1,9 +1,9 @@
 // Standard input holds histories one after another; standard output gets their traces, each ended by an empty line.
 // A history is a head of 32 bytes and then its input. The head has the input's length and the room (4 bytes each), the next request and the next join (8 each), and the two pass counts (4 each).
-use trace_replay::Start;
+use trace_replay::TraceStart;
 
-fn start_of(head: &[u8]) -> Start {
-    Start {
+fn start_of(head: &[u8]) -> TraceStart {
+    TraceStart {
         room: run_input::number(head, 1) as usize,
         next_neighbor_request: run_input::from_halves(
             run_input::number(head, 2),
@@ -16,7 +16,7 @@ fn start_of(head: &[u8]) -> Start {
 }
 
 // One history, whose input is as long as the lent bytes; false where standard input has not so many.
-fn show(bytes: &mut [u8], start: Start) -> bool {
+fn show(bytes: &mut [u8], start: TraceStart) -> bool {
     let n = io::read_full(0, bytes);
     if n < bytes.len() {
         return false;
