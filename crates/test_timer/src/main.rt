@@ -114,9 +114,9 @@ fn len(q: &[u64]) {
     show(&line);
 }
 
-// The event's bytes as three words; the bytes are zero before.
+// The event's bytes as four words; the bytes are zero before.
 fn event(q: &mut [u64], limit: u64) {
-    let mut space = [0u8; 24];
+    let mut space = [0u8; 32];
     let out: &mut [u8] = &mut space;
     let p = timer_events::timer_map_pop_event(q, limit, out);
     let line = [
@@ -127,6 +127,7 @@ fn event(q: &mut [u64], limit: u64) {
         number(out, 0),
         number(out, 8),
         number(out, 16),
+        number(out, 24),
     ];
     show(&line);
 }
