@@ -1,0 +1,62 @@
+use Prim.Native.Nat.{ℕ, _+_}
+use mathlib.Core.Path.{_≡_}
+use mathlib.Core.List.{List, [], _∷_}
+use native.Mathlib.Omega.{arith}
+use Rattle.lists.specs.Bytes.{le, overwrite}
+use Rattle.lists.proofs.Bytes.{then, length-le}
+use Rattle.record.specs.declared.Entry.{Entry}
+use Rattle.convert.specs.Convert.{entry-bytes}
+use borrow.Author.Needs.{needs}
+use Rattle.convert.proofs.put_entry.Statement.{statement}
+use Rattle.convert.proofs.put_entry.Tie as tie
+
+parts : (w at : ℕ) (e : Entry) (out o₁ o₂ o₃ : List ℕ) → o₃ ≡ overwrite o₂ (at + (w + 2)) (e .len ∷ e .present ∷ []) → o₂ ≡ overwrite o₁ (at + w) (le 2 (e .offset))
+    → o₁ ≡ overwrite out at (le w (e .id)) → o₃ ≡ overwrite out at (entry-bytes w e)
+unfolding entry-bytes
+parts w at e out o₁ o₂ o₃ r q p =
+    then out at (le w (e .id)) _ p (then o₁ (at + w) (le 2 (e .offset)) _ q r (omega (arith, length-le 2 (e .offset)))) (omega (arith, length-le w (e .id)))
+
+put-number-requires : tie.Need-put-number-requires
+put-number-requires c κs = search needs
+
+add-put-number : tie.Need-add-put-number
+add-put-number c = search needs
+
+cast-put-number : tie.Need-cast-put-number
+cast-put-number c = search needs
+
+put-number-requires-2 : tie.Need-put-number-requires-2
+put-number-requires-2 c κs = search needs
+
+add-put-bytes : tie.Need-add-put-bytes
+add-put-bytes c = search needs
+
+add-put-bytes-2 : tie.Need-add-put-bytes-2
+add-put-bytes-2 c = search needs
+
+slice-aggregate-put-bytes : tie.Need-slice-aggregate-put-bytes
+slice-aggregate-put-bytes c = search needs
+
+put-bytes-requires : tie.Need-put-bytes-requires
+put-bytes-requires c κs = search needs
+
+same-length : tie.Need-same-length
+same-length c = search needs
+
+returns : tie.Need-returns
+returns c = parts _ _ _ _ _ _ _ (c .before .before .put-bytes .ensures) (c .before .before .before .before .before .before .before .put-number2 .ensures) (c .before .before .before .before .before .before .before .before .before .before .before .before .put-number .ensures)
+
+pub put-entry-spec : {M : Type 1} → statement M
+put-entry-spec =
+    tie.close
+    (tie.spec
+    put-number-requires
+    add-put-number
+    cast-put-number
+    put-number-requires-2
+    add-put-bytes
+    add-put-bytes-2
+    slice-aggregate-put-bytes
+    put-bytes-requires
+    same-length
+    returns)

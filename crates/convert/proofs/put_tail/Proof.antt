@@ -1,0 +1,58 @@
+use Prim.Native.Nat.{ℕ, _+_}
+use mathlib.Core.Path.{_≡_}
+use mathlib.Core.List.{List}
+use native.Mathlib.Omega.{arith}
+use Rattle.lists.specs.Bytes.{le, overwrite}
+use Rattle.lists.proofs.Bytes.{then, length-le}
+use Rattle.record.specs.declared.Header.{Header}
+use Rattle.convert.specs.Convert.{tail-bytes}
+use borrow.Author.Needs.{needs}
+use Rattle.convert.proofs.put_tail.Statement.{statement}
+use Rattle.convert.proofs.put_tail.Tie as tie
+
+parts : (at : ℕ) (h : Header) (out o₁ o₂ o₃ : List ℕ) → o₃ ≡ overwrite o₂ (at + 4) (le 8 (h .number)) → o₂ ≡ overwrite o₁ (at + 2) (le 2 (h .size))
+    → o₁ ≡ overwrite out at (le 2 (h .ttl)) → o₃ ≡ overwrite out at (tail-bytes h)
+unfolding tail-bytes
+parts at h out o₁ o₂ o₃ r q p =
+    then out at (le 2 (h .ttl)) _ p (then o₁ (at + 2) (le 2 (h .size)) _ q r (omega (arith, length-le 2 (h .size)))) (omega (arith, length-le 2 (h .ttl)))
+
+cast-put-number : tie.Need-cast-put-number
+cast-put-number c = search needs
+
+put-number-requires : tie.Need-put-number-requires
+put-number-requires c κs = search needs
+
+add-put-number : tie.Need-add-put-number
+add-put-number c = search needs
+
+cast-put-number-2 : tie.Need-cast-put-number-2
+cast-put-number-2 c = search needs
+
+put-number-requires-2 : tie.Need-put-number-requires-2
+put-number-requires-2 c κs = search needs
+
+add-put-number-2 : tie.Need-add-put-number-2
+add-put-number-2 c = search needs
+
+put-number-requires-3 : tie.Need-put-number-requires-3
+put-number-requires-3 c κs = search needs
+
+same-length : tie.Need-same-length
+same-length c = search needs
+
+returns : tie.Need-returns
+returns c = parts _ _ _ _ _ _ (c .before .before .put-number3 .ensures) (c .before .before .before .before .before .before .put-number2 .ensures) (c .before .before .before .before .before .before .before .before .before .before .before .put-number .ensures)
+
+pub put-tail-spec : {M : Type 1} → statement M
+put-tail-spec =
+    tie.close
+    (tie.spec
+    cast-put-number
+    put-number-requires
+    add-put-number
+    cast-put-number-2
+    put-number-requires-2
+    add-put-number-2
+    put-number-requires-3
+    same-length
+    returns)

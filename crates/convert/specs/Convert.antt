@@ -1,0 +1,81 @@
+-- Document 02, S-8: a record of one form as a record of the other. v is the bytes of a peer where it is read, w where it is written.
+-- Assumes nothing.
+use Prim.Native.Nat.{ℕ, _^_}
+use mathlib.Core.Bool.{Bool, not, _&&_}
+use mathlib.Core.List.{List, [], _∷_, _++_}
+use lib.ListN.{length, getD}
+use lib.Dec.{ltb, eqb}
+use Rattle.lists.specs.Lists.{choose}
+use Rattle.lists.specs.Array.{pad}
+use Rattle.lists.specs.Bytes.{le}
+use Rattle.lists.specs.Tests.{every}
+use Rattle.peer.specs.Data.{Node}
+use Rattle.record.specs.Format.{Rec, header-length-by, size-by, encode-by}
+use Rattle.record.specs.Read.{well-formed-by, rec-of-by}
+use Rattle.record.specs.declared.Header.{Header}
+use Rattle.record.specs.declared.Entry.{Entry}
+use Rattle.convert.specs.declared.Converted.{Converted}
+
+-- the nodes' ids have w bytes
+unfoldable pub ids-fit : ℕ → List Node → Bool
+ids-fit w ns = every (λ (n : Node). ltb (n .id) (256 ^ w)) ns
+
+-- "a number or whole length too large for the other form": none is
+unfoldable pub has-form : ℕ → Rec → Bool
+has-form w e = ltb (e .peer) (256 ^ w) && (ltb (e .second) (256 ^ w) && (ids-fit w (e .nodes) && ltb (size-by w e) 65536))
+
+-- "Answers, in this order: the reader's; 19 ..; 9"; 0 where there is none
+unfoldable pub answer : ℕ → ℕ → List ℕ → ℕ → ℕ
+answer v w b room =
+    choose (ltb (length b) (header-length-by v)) 3
+    (choose (ltb 32 (getD b 3 0)) 4
+    (choose (not (well-formed-by v b)) 3
+    (choose (not (has-form w (rec-of-by v b))) 19
+    (choose (ltb room (size-by w (rec-of-by v b))) 9 0))))
+
+-- an answer, the bytes written, and the whole output
+pub record Outcome : Type 0 where
+  pub code : ℕ
+  pub written : ℕ
+  pub output : List ℕ
+
+-- the bytes from place 0 on, and zeroes behind them
+unfoldable pub outcome : ℕ → List ℕ → ℕ → Outcome
+outcome code bytes room = record { code = code; written = length bytes; output = pad 0 room bytes }
+
+-- the conversion into an output of so much room: a refusal writes nothing
+unfoldable pub conversion : ℕ → ℕ → List ℕ → ℕ → Outcome
+conversion v w b room = outcome (answer v w b room) (choose (eqb (answer v w b room) 0) (encode-by w (rec-of-by v b)) []) room
+
+-- what the code hands back, and the output that it leaves
+abbrev pub outcome-of : Converted → List ℕ → Outcome
+outcome-of r out = record { code = r .code; written = r .written; output = out }
+
+-- ---- a header and an entry by their fields
+
+unfoldable pub tail-bytes : Header → List ℕ
+tail-bytes h = le 2 (h .ttl) ++ (le 2 (h .size) ++ le 8 (h .number))
+
+unfoldable pub header-bytes : ℕ → Header → List ℕ
+header-bytes w h = h .kind ∷ h .message ∷ h .flags ∷ h .nodes ∷ (le w (h .peer) ++ (le w (h .second) ++ tail-bytes h))
+
+unfoldable pub entry-bytes : ℕ → Entry → List ℕ
+entry-bytes w e = le w (e .id) ++ (le 2 (e .offset) ++ (e .len ∷ e .present ∷ []))
+
+-- an entry whose data stand at the place reached, if it has any
+unfoldable pub moved : Entry → ℕ → Entry
+moved e at = record { id = e .id; offset = choose (eqb (e .present) 0) 0 at; len = e .len; present = e .present }
+
+-- a header with another whole length
+abbrev pub resized : Header → ℕ → Header
+resized h size = record {
+  kind = h .kind;
+  message = h .message;
+  flags = h .flags;
+  nodes = h .nodes;
+  peer = h .peer;
+  second = h .second;
+  ttl = h .ttl;
+  size = size;
+  number = h .number;
+}

@@ -1,0 +1,297 @@
+// Document 02, S-8: a record of the old form made one of this form, and back, on lent bytes.
+use record::Entry;
+use record::Header;
+use record::Refusal;
+ghost use mathlib.Core.Path.{_≡_};
+ghost use mathlib.Core.Bool.{true};
+ghost use mathlib.Core.List.{[]};
+ghost use Prim.Native.Nat.{_+_, _*_, _-_, _^_, _≤_, _<_};
+ghost use lib.ListN.{length, drop};
+ghost use lib.Dec.{ltb};
+ghost use Rattle.lists.specs.Array.{pad};
+ghost use Rattle.lists.specs.Bytes.{le, overwrite};
+ghost use Rattle.record.specs.Format.{IsForm, old-length, peer-length, header-length-by, node-length-by, place-by, entries-by, size-by, encode-by};
+ghost use Rattle.record.specs.Read.{header-of-by, well-formed-by, nodes-of-by, rec-of-by};
+ghost use Rattle.convert.specs.Convert.{ids-fit, answer, conversion, outcome-of, tail-bytes, header-bytes, entry-bytes, moved, resized};
+
+// The answer, 0 or a refusal's code, and how many bytes of the output were written.
+pub struct Converted {
+    pub code: u32,
+    pub written: usize,
+}
+
+fn clear(out: &mut [u8])
+    ensures { λ _. ⌜ now (out .exit) ≡ pad 0 (length (now (out .entry))) [] ⌝ }
+{
+    let mut i: usize = 0;
+    while i < out.len() {
+        out[i] = 0;
+        i += 1;
+    }
+}
+
+// The bytes bs, from place `at` on.
+fn put_bytes(out: &mut [u8], at: usize, bs: &[u8])
+    requires { ⌜ at + length (now bs) ≤ length (now out) ⌝ }
+    ensures { λ _. ⌜ now (out .exit) ≡ overwrite (now (out .entry)) at (now (bs .entry)) ⌝ }
+{
+    let mut i: usize = 0;
+    while i < bs.len() {
+        out[at + i] = bs[i];
+        i += 1;
+    }
+}
+
+// x in k bytes, lowest first, from place `at` on.
+fn put_number(out: &mut [u8], at: usize, x: u64, k: usize)
+    requires { ⌜ at + k ≤ length (now out) ⌝ }
+    ensures { λ _. ⌜ now (out .exit) ≡ overwrite (now (out .entry)) at (le k x) ⌝ }
+{
+    let mut rest = x;
+    let mut i: usize = 0;
+    while i < k {
+        out[at + i] = (rest % 256) as u8;
+        rest = rest / 256;
+        i += 1;
+    }
+}
+
+// The header's fields behind its peers: they are as long in both forms.
+fn put_tail(out: &mut [u8], at: usize, h: Header)
+    requires { ⌜ at + 12 ≤ length (now out) ⌝ }
+    ensures { λ _. ⌜ now (out .exit) ≡ overwrite (now (out .entry)) at (tail-bytes h) ⌝ }
+{
+    put_number(out, at, h.ttl as u64, 2);
+    put_number(out, at + 2, h.size as u64, 2);
+    put_number(out, at + 4, h.number, 8);
+}
+
+// The header, where a peer has w bytes.
+fn put_header(out: &mut [u8], h: Header, w: usize)
+    requires { ⌜ IsForm w ⌝ }
+    requires { ⌜ header-length-by w ≤ length (now out) ⌝ }
+    ensures { λ _. ⌜ now (out .exit) ≡ overwrite (now (out .entry)) 0 (header-bytes w h) ⌝ }
+{
+    let first = [h.kind, h.message, h.flags, h.nodes];
+    put_bytes(out, 0, &first);
+    put_number(out, 4, h.peer, w);
+    put_number(out, 4 + w, h.second, w);
+    put_tail(out, 4 + 2 * w, h);
+}
+
+// The node entry at a place.
+fn put_entry(out: &mut [u8], at: usize, e: Entry, w: usize)
+    requires { ⌜ IsForm w ⌝ }
+    requires { ⌜ at + node-length-by w ≤ length (now out) ⌝ }
+    ensures { λ _. ⌜ now (out .exit) ≡ overwrite (now (out .entry)) at (entry-bytes w e) ⌝ }
+{
+    put_number(out, at, e.id, w);
+    put_number(out, at + w, e.offset as u64, 2);
+    let last = [e.len, e.present];
+    put_bytes(out, at + (w + 2), &last);
+}
+
+// An entry whose data stand at the place reached, if it has any.
+fn moved(e: Entry, at: usize) -> Entry
+    requires { ⌜ at < 65536 ⌝ }
+    ensures { λ r. ⌜ r ≡ moved e at ⌝ }
+{
+    let offset = if e.present == 0 { 0u16 } else { at as u16 };
+    Entry {
+        id: e.id,
+        offset: offset,
+        len: e.len,
+        present: e.present,
+    }
+}
+
+// The entries of a record's n nodes, read where a peer has v bytes and written where it has w.
+fn put_entries(out: &mut [u8], b: &[u8], n: usize, v: usize, w: usize)
+    requires { ⌜ IsForm v ⌝ }
+    requires { ⌜ IsForm w ⌝ }
+    requires { ⌜ well-formed-by v (now b) ≡ true ⌝ }
+    requires { ⌜ n ≡ header-of-by v (now b) .nodes ⌝ }
+    requires { ⌜ place-by w n ≤ length (now out) ⌝ }
+    ensures { λ _. ⌜ now (out .exit) ≡ overwrite (now (out .entry)) (header-length-by w) (entries-by w (nodes-of-by v (now (b .entry)) 0 n) (place-by w n)) ⌝ }
+{
+    let mut reached = record::place(n, w);
+    let mut i: usize = 0;
+    while i < n {
+        let e = record::node_by(b, i, v);
+        put_entry(out, record::place(i, w), moved(e, reached), w);
+        reached += e.len as usize;
+        i += 1;
+    }
+}
+
+// The data behind the entries of n nodes, as they stand.
+fn put_data(out: &mut [u8], b: &[u8], n: usize, v: usize, w: usize)
+    requires { ⌜ IsForm v ⌝ }
+    requires { ⌜ IsForm w ⌝ }
+    requires { ⌜ n ≤ 255 ⌝ }
+    requires { ⌜ place-by v n ≤ length (now b) ⌝ }
+    requires { ⌜ place-by w n + (length (now b) - place-by v n) ≤ length (now out) ⌝ }
+    ensures { λ _. ⌜ now (out .exit) ≡ overwrite (now (out .entry)) (place-by w n) (drop (place-by v n) (now (b .entry))) ⌝ }
+{
+    let data = record::place(n, v);
+    put_bytes(out, record::place(n, w), &b[data..]);
+}
+
+// The whole length in the other form: the data stay as long as they are.
+fn other_size(len: usize, n: usize, v: usize, w: usize) -> usize
+    requires { ⌜ IsForm v ⌝ }
+    requires { ⌜ IsForm w ⌝ }
+    requires { ⌜ n ≤ 255 ⌝ }
+    requires { ⌜ place-by v n ≤ len ⌝ }
+    requires { ⌜ len ≤ 65535 ⌝ }
+    ensures { λ r. ⌜ r ≡ place-by w n + (len - place-by v n) ⌝ }
+{
+    record::place(n, w) + (len - record::place(n, v))
+}
+
+// A header with another whole length.
+fn resized(h: Header, size: u16) -> Header
+    ensures { λ r. ⌜ r ≡ resized h size ⌝ }
+{
+    Header {
+        kind: h.kind,
+        message: h.message,
+        flags: h.flags,
+        nodes: h.nodes,
+        peer: h.peer,
+        second: h.second,
+        ttl: h.ttl,
+        size: size,
+        number: h.number,
+    }
+}
+
+// The record's header in the other form.
+fn other_header(b: &[u8], v: usize, w: usize) -> Header
+    requires { ⌜ IsForm v ⌝ }
+    requires { ⌜ IsForm w ⌝ }
+    requires { ⌜ well-formed-by v (now b) ≡ true ⌝ }
+    requires { ⌜ size-by w (rec-of-by v (now b)) < 65536 ⌝ }
+    ensures { λ r. ⌜ r ≡ resized (header-of-by v (now (b .entry))) (size-by w (rec-of-by v (now (b .entry)))) ⌝ }
+{
+    let h = record::read_header_by(b, v);
+    let size = other_size(b.len(), h.nodes as usize, v, w);
+    resized(h, size as u16)
+}
+
+// The record in the other form, whose header is h: the header, the entries, and the data as they stand.
+fn write(out: &mut [u8], b: &[u8], h: Header, v: usize, w: usize)
+    requires { ⌜ IsForm v ⌝ }
+    requires { ⌜ IsForm w ⌝ }
+    requires { ⌜ well-formed-by v (now b) ≡ true ⌝ }
+    requires { ⌜ h ≡ resized (header-of-by v (now b)) (size-by w (rec-of-by v (now b))) ⌝ }
+    requires { ⌜ h .size ≤ length (now out) ⌝ }
+    ensures { λ _. ⌜ now (out .exit) ≡ overwrite (now (out .entry)) 0 (encode-by w (rec-of-by v (now (b .entry)))) ⌝ }
+{
+    let n = h.nodes as usize;
+    put_header(out, h, w);
+    put_entries(out, b, n, v, w);
+    put_data(out, b, n, v, w);
+}
+
+// The number has w bytes.
+fn fits(x: u64, w: usize) -> bool
+    requires { ⌜ IsForm w ⌝ }
+    ensures { λ r. ⌜ r ≡ ltb x (256 ^ w) ⌝ }
+{
+    if w == record::OLD_PEER {
+        return x < 4294967296;
+    }
+    true
+}
+
+// The ids of all nodes have.
+fn ids_fit(b: &[u8], n: usize, v: usize, w: usize) -> bool
+    requires { ⌜ IsForm v ⌝ }
+    requires { ⌜ IsForm w ⌝ }
+    requires { ⌜ n ≤ 255 ⌝ }
+    requires { ⌜ place-by v n ≤ length (now b) ⌝ }
+    ensures { λ r. ⌜ r ≡ ids-fit w (nodes-of-by v (now (b .entry)) 0 n) ⌝ }
+{
+    let mut i: usize = 0;
+    while i < n {
+        let e = record::node_by(b, i, v);
+        if fits(e.id, w) {
+            i += 1;
+        } else {
+            return false;
+        }
+    }
+    true
+}
+
+// What a record is answered that is well formed.
+fn other_form(b: &[u8], room: usize, v: usize, w: usize) -> u32
+    requires { ⌜ IsForm v ⌝ }
+    requires { ⌜ IsForm w ⌝ }
+    requires { ⌜ well-formed-by v (now b) ≡ true ⌝ }
+    ensures { λ r. ⌜ r ≡ answer v w (now (b .entry)) room ⌝ }
+{
+    let h = record::read_header_by(b, v);
+    let n = h.nodes as usize;
+    let size = other_size(b.len(), n, v, w);
+    if fits(h.peer, w) & (fits(h.second, w) & (ids_fit(b, n, v, w) & (size < 65536))) {
+        if room < size {
+            return Refusal::OUTPUT;
+        }
+        return 0;
+    }
+    Refusal::NO_OTHER_FORM
+}
+
+// What bytes are answered that are to go into an output of so much room.
+fn answer(b: &[u8], room: usize, v: usize, w: usize) -> u32
+    requires { ⌜ IsForm v ⌝ }
+    requires { ⌜ IsForm w ⌝ }
+    ensures { λ r. ⌜ r ≡ answer v w (now (b .entry)) room ⌝ }
+{
+    if b.len() < record::place(0, v) {
+        return Refusal::MALFORMED;
+    }
+    if 32 < b[3] {
+        return Refusal::NODES;
+    }
+    if record::well_formed(b, v) {
+        return other_form(b, room, v, w);
+    }
+    Refusal::MALFORMED
+}
+
+fn convert(b: &[u8], out: &mut [u8], v: usize, w: usize) -> Converted
+    requires { ⌜ IsForm v ⌝ }
+    requires { ⌜ IsForm w ⌝ }
+    ensures { λ r. ⌜ outcome-of r (now (out .exit)) ≡ conversion v w (now (b .entry)) (length (now (out .entry))) ⌝ }
+{
+    let room = out.len();
+    clear(out);
+    let code = answer(b, room, v, w);
+    if code == 0 {
+        let h = other_header(b, v, w);
+        write(out, b, h, v, w);
+        return Converted {
+            code: 0,
+            written: h.size as usize,
+        };
+    }
+    Converted {
+        code: code,
+        written: 0,
+    }
+}
+
+pub fn old_to_new(b: &[u8], out: &mut [u8]) -> Converted
+    ensures { λ r. ⌜ outcome-of r (now (out .exit)) ≡ conversion old-length peer-length (now (b .entry)) (length (now (out .entry))) ⌝ }
+{
+    convert(b, out, record::OLD_PEER, record::PEER)
+}
+
+pub fn new_to_old(b: &[u8], out: &mut [u8]) -> Converted
+    ensures { λ r. ⌜ outcome-of r (now (out .exit)) ≡ conversion peer-length old-length (now (b .entry)) (length (now (out .entry))) ⌝ }
+{
+    convert(b, out, record::PEER, record::OLD_PEER)
+}
