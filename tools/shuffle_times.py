@@ -23,6 +23,8 @@ RANGES = ((1, 8), (1, 32), (0, 65535), (0, 65535), (0, 65535), (0, 8), (0, 23), 
 INTERVAL = 7
 FIRST_INTERVAL, MOST_SHUFFLES, LATEST_START = 1000, 1000, 2**63
 LOWEST_DRAW, HIGHEST_DRAW = 0, 2**32 - 1
+# A draw that no choice passes over (document 02, S-6), and whose delays are those of the highest of all.
+KEPT_DRAW = 2**32 - 33
 INTERVALS = (1, 2, 3, 4, 5, 999, 1000, 1001, 1999, 2000, 2001, 3600000)
 
 
@@ -93,14 +95,14 @@ def event(kind, message=0, flags=0, peer=0, nodes=()):
     return records.make(kind, message, flags, peer, nodes=[(node, None) for node in nodes])
 
 
-# Histories by name: the first event, and what goes before each shuffle timer. The second has three neighbours and passive peers, and
-# other events between the timers.
+# Histories by name: the first event, what goes before each shuffle timer, how many shuffles, how many draws, and a draw of the longest
+# delays. The second has three neighbours and passive peers, so that it also chooses by draws, and other events between the timers.
 JOIN, SHUFFLE, MAINTENANCE, QUIT = event(6, peer=7), event(1), event(2), event(8)
 NEIGHBOURS = [event(0, 4, flags=1, peer=peer, nodes=(0,)) for peer in (7, 8, 9)]
 REPLY = event(0, 3, peer=8, nodes=(20, 21, 22, 23))
 HISTORIES = {
-    "alone": ([QUIT], [], 1000, 1000),
-    "with neighbours": ([JOIN, *NEIGHBOURS, REPLY], [MAINTENANCE, REPLY], 150, 6000),
+    "alone": ([QUIT], [], 1000, 1000, HIGHEST_DRAW),
+    "with neighbours": ([JOIN, *NEIGHBOURS, REPLY], [MAINTENANCE, REPLY], 150, 6000, KEPT_DRAW),
 }
 
 
@@ -119,11 +121,11 @@ def delays_of(interval, events, draws):
 
 def oracle():
     rng, met, runs = random.Random(11), 0, 0
-    for interval, (name, (first, between, count, drawn)) in itertools.product(INTERVALS + (DEFAULTS[INTERVAL],), HISTORIES.items()):
+    for interval, (name, (first, between, count, drawn, highest)) in itertools.product(INTERVALS + (DEFAULTS[INTERVAL],), HISTORIES.items()):
         events = first + [one for _ in range(count - 1) for one in between + [SHUFFLE]]
         asked = b"".join(packed((0, 0, with_setting(INTERVAL, interval), k)) for k in range(1, count + 1))
         both = [tuple(map(int, text.split(" "))) for text in tool.run([PROGRAM], input=asked).decode().splitlines()]
-        lists = {"lowest": [LOWEST_DRAW] * drawn, "highest": [HIGHEST_DRAW] * drawn}
+        lists = {"lowest": [LOWEST_DRAW] * drawn, "highest": [highest] * drawn}
         lists.update({f"random {i}": [rng.getrandbits(32) for _ in range(drawn)] for i in range(3)})
         for kind, draws in lists.items():
             times = list(itertools.accumulate(delays_of(interval, events, draws)))
