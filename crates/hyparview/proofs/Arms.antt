@@ -15,6 +15,7 @@ use Rattle.peer.specs.declared.PeerInfo.{PeerInfo}
 use Rattle.peer.specs.Data.{Node}
 use Rattle.peer.specs.Held.{data-in, node-in}
 use Rattle.record.specs.declared.Header.{Header}
+use Rattle.record.specs.Format.{header-length}
 use Rattle.record.specs.Read as R
 use Rattle.record.specs.Answers.{HoldsNode}
 use Rattle.protocol.specs.Run.{Run, on}
@@ -92,7 +93,7 @@ module _ (b : List ℕ) (h : Header) (v : Headed b h) where
   -- the kinds of record that have one node have it
   header-fine : R.header-ok h ≡ true
   unfolding R.well-formed-by
-  header-fine = ap R.header-ok (v .head) ∙ and-left _ _ (and-right (leb 24 (length b)) _ (v .formed))
+  header-fine = ap R.header-ok (v .head) ∙ and-left _ _ (and-right (leb header-length (length b)) _ (v .formed))
 
   one-is : (R.is-message 0 h || (R.is-message 1 h || (R.is-message 4 h || R.is-data h))) ≡ true → R.header-of b .nodes ≡ 1
   unfolding R.header-ok R.count-ok

@@ -24,7 +24,7 @@ ghost use Rattle.state.specs.Layout.{words};
 ghost use Rattle.state.specs.Unpack.{PackedState, unpack};
 ghost use Rattle.state.specs.Work.{work-of, run, Changes, Fine, Does};
 ghost use Rattle.rules.specs.Ok.{state-ok};
-ghost use Rattle.hyparview.specs.MadeState.{lent, pack-made, Own, with-own, with-views, with-walks, with-times, made};
+ghost use Rattle.hyparview.specs.Made.{lent, pack-made, Own, with-own, with-views, with-walks, with-times, made};
 ghost use Rattle.step_messages.specs.Between.{Between};
 ghost use Rattle.hyparview.specs.Handled.{cleared, refused-words, ended, handled};
 ghost use Rattle.hyparview.specs.Begun.{Headed, Single, ReadAs, Opens, timer-expired};

@@ -306,7 +306,8 @@ fn width_rule(st: &[u64]) -> bool
     requires { ⌜ packed-ok (now st) ≡ true ⌝ }
     ensures { λ r. ⌜ r ≡ width-rule (unpack (now (st .entry))) ⌝ }
 {
-    (st[Layout::PASSES_ALONE] <= state::TOP_PASSES) & (st[Layout::PASSES_SHORT] <= state::TOP_PASSES)
+    (st[Layout::PASSES_ALONE] <= state::TOP_PASSES)
+        & (st[Layout::PASSES_SHORT] <= state::TOP_PASSES)
 }
 
 // 02, S-5: no data is held of a peer in neither view and without an open request.

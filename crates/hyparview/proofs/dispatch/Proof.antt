@@ -10,7 +10,7 @@ use Rattle.hyparview.proofs.dispatch.Tie as tie
 
 handle-message-requires : tie.Need-handle-message-requires
 handle-message-requires c κs =
-    let given = c .before .before .before .before .before .before .before .before .before .pre in
+    let given = c .before .before .before .before .before .before .before .before .pre in
     (given .0, (given .1 .0, (given .1 .1 .0, (c .before .before .if1 .taken, opens-between _ _ 0 (c .before .before .if1 .taken) (λ z. omega (arith, z)) (given .1 .1 .1 .1)))))
 
 same-length : tie.Need-same-length
@@ -21,12 +21,12 @@ same-length-2 c = search needs
 
 returns : tie.Need-returns
 returns c =
-    let given = c .before .before .before .before .before .before .before .before .before .before .before .before .before .before .pre in
+    let given = c .before .before .before .before .before .before .before .before .before .before .before .before .before .pre in
     kind-message _ _ (given .1 .1 .0) _ _ _ _ (c .before .before .before .before .before .before .before .if1 .taken) (c .before .before .before .before .handle-message .ensures)
 
 handle-timer-requires : tie.Need-handle-timer-requires
 handle-timer-requires c κs =
-    let given = c .before .before .before .before .before .before .before .before .before .before .before .pre in
+    let given = c .before .before .before .before .before .before .before .before .before .before .pre in
     (given .0, (given .1 .0, (let n = c .before .before .before .before .if1 .left in omega (arith, n), c .before .before .if2 .taken)))
 
 same-length-3 : tie.Need-same-length-3
@@ -37,13 +37,13 @@ same-length-4 c = search needs
 
 returns-2 : tie.Need-returns-2
 returns-2 c =
-    let given = c .before .before .before .before .before .before .before .before .before .before .before .before .before .before .before .before .pre in
+    let given = c .before .before .before .before .before .before .before .before .before .before .before .before .before .before .before .pre in
     let if1 = c .before .before .before .before .before .before .before .before .before .if1 in
     kind-timer _ _ (given .1 .1 .0) _ _ _ _ (if1 .left) (c .before .before .before .before .before .before .before .if2 .taken) (c .before .before .before .before .handle-timer .ensures)
 
 handle-connection-closed-requires : tie.Need-handle-connection-closed-requires
 handle-connection-closed-requires c κs =
-    let given = c .before .before .before .before .before .before .before .before .before .before .before .before .before .pre in
+    let given = c .before .before .before .before .before .before .before .before .before .before .before .before .pre in
     (given .0, (given .1 .0, between-calm _ _ _ _ _ _ (between-less _ _ _ _ _ (omega arith) (omega arith) (opens-between _ _ 5 (c .before .before .if3 .taken) (λ z. omega (arith, z)) (given .1 .1 .1 .1)))))
 
 same-length-5 : tie.Need-same-length-5
@@ -54,12 +54,12 @@ same-length-6 c = search needs
 
 returns-3 : tie.Need-returns-3
 returns-3 c =
-    let given = c .before .before .before .before .before .before .before .before .before .before .before .before .before .before .before .before .before .before .pre in
+    let given = c .before .before .before .before .before .before .before .before .before .before .before .before .before .before .before .before .before .pre in
     kind-closed _ _ (given .1 .1 .0) _ _ _ _ (c .before .before .before .before .before .before .before .if3 .taken) (c .before .before .before .before .handle-connection-closed .ensures)
 
 handle-join-requires : tie.Need-handle-join-requires
 handle-join-requires c κs =
-    let given = c .before .before .before .before .before .before .before .before .before .before .before .before .before .before .before .pre in
+    let given = c .before .before .before .before .before .before .before .before .before .before .before .before .before .before .pre in
     (given .0, (room-of _ _ _ (given .1 .0), opens-join _ _ _ _ _ 6 (c .before .before .if4 .taken) (λ z. omega (arith, z)) (given .1 .1 .1 .1)))
 
 same-length-7 : tie.Need-same-length-7
@@ -70,17 +70,17 @@ same-length-8 c = search needs
 
 returns-4 : tie.Need-returns-4
 returns-4 c =
-    let given = c .before .before .before .before .before .before .before .before .before .before .before .before .before .before .before .before .before .before .before .before .pre in
+    let given = c .before .before .before .before .before .before .before .before .before .before .before .before .before .before .before .before .before .before .before .pre in
     kind-join _ _ (given .1 .1 .0) _ _ _ _ (c .before .before .before .before .before .before .before .if4 .taken) (then-tell (c .before .before .before .before .handle-join .ensures) (still (given .1 .0)))
 
 peer-info-requires : tie.Need-peer-info-requires
 peer-info-requires c κs =
-    let given = c .before .before .before .before .before .before .before .before .before .before .before .before .before .before .before .pre in
+    let given = c .before .before .before .before .before .before .before .before .before .before .before .before .before .before .pre in
     (given .1 .1 .0 .formed, let e = one-node _ _ (given .1 .1 .0) (c .if5 .taken) in omega (arith, e))
 
 update-own-data-requires : tie.Need-update-own-data-requires
 update-own-data-requires c κs =
-    let given = c .before .before .before .before .before .before .before .before .before .before .before .before .before .before .before .before .before .before .pre in
+    let given = c .before .before .before .before .before .before .before .before .before .before .before .before .before .before .before .before .before .pre in
     (given .0, (given .1 .0 .ready .packed, c .before .before .peer-info .ensures .valid))
 
 same-length-9 : tie.Need-same-length-9
@@ -88,12 +88,12 @@ same-length-9 c = search needs
 
 returns-5 : tie.Need-returns-5
 returns-5 c =
-    let given = c .before .before .before .before .before .before .before .before .before .before .before .before .before .before .before .before .before .before .before .before .before .pre in
+    let given = c .before .before .before .before .before .before .before .before .before .before .before .before .before .before .before .before .before .before .before .before .pre in
     kind-data _ _ (given .1 .1 .0) _ _ _ _ _ (c .before .before .before .before .before .peer-info .ensures) (c .before .before .before .before .before .before .if5 .taken) (then (c .before .before .update-own-data .ensures) (still (given .1 .0)))
 
 handle-quit-requires : tie.Need-handle-quit-requires
 handle-quit-requires c κs =
-    let given = c .before .before .before .before .before .before .before .before .before .before .before .before .before .before .before .before .before .pre in
+    let given = c .before .before .before .before .before .before .before .before .before .before .before .before .before .before .before .before .pre in
     (given .0, given .1 .0)
 
 same-length-10 : tie.Need-same-length-10
@@ -104,7 +104,7 @@ same-length-11 c = search needs
 
 returns-6 : tie.Need-returns-6
 returns-6 c =
-    let given = c .before .before .before .before .before .before .before .before .before .before .before .before .before .before .before .before .before .before .before .before .before .before .pre in
+    let given = c .before .before .before .before .before .before .before .before .before .before .before .before .before .before .before .before .before .before .before .before .before .pre in
     let if2 = c .before .before .before .before .before .before .before .before .before .before .before .before .before .if2 in
     let if3 = c .before .before .before .before .before .before .before .before .before .before .before .if3 in
     let if4 = c .before .before .before .before .before .before .before .before .before .if4 in

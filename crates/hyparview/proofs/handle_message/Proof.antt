@@ -11,7 +11,7 @@ cast-n c = search needs
 
 on-shuffle-requires : tie.Need-on-shuffle-requires
 on-shuffle-requires c κs =
-    let given = c .before .before .before .before .before .before .before .before .before .before .before .pre in
+    let given = c .before .before .before .before .before .before .before .before .before .pre in
     (given .0, (given .1 .0, (given .1 .1 .0 .formed, count-is _ _ (given .1 .1 .0) _ refl)))
 
 same-length : tie.Need-same-length
@@ -22,13 +22,13 @@ same-length-2 c = search needs
 
 returns : tie.Need-returns
 returns c =
-    let given = c .before .before .before .before .before .before .before .before .before .before .before .before .before .before .before .before .pre in
-    let if1 = c .before .before .before .before .before .before .before .before .if1 in
+    let given = c .before .before .before .before .before .before .before .before .before .before .before .before .before .before .pre in
+    let if1 = c .before .before .before .before .before .before .before .if1 in
     arm-shuffle _ _ (given .1 .1 .0) _ _ _ _ _ refl (if1 .taken) (c .before .before .before .before .on-shuffle .ensures)
 
 on-shuffle-reply-requires : tie.Need-on-shuffle-reply-requires
 on-shuffle-reply-requires c κs =
-    let given = c .before .before .before .before .before .before .before .before .before .before .before .before .pre in
+    let given = c .before .before .before .before .before .before .before .before .before .before .before .pre in
     (given .0, (given .1 .0, (given .1 .1 .0 .formed, count-is _ _ (given .1 .1 .0) _ refl)))
 
 same-length-3 : tie.Need-same-length-3
@@ -39,12 +39,12 @@ same-length-4 c = search needs
 
 returns-2 : tie.Need-returns-2
 returns-2 c =
-    let given = c .before .before .before .before .before .before .before .before .before .before .before .before .before .before .before .before .before .pre in
+    let given = c .before .before .before .before .before .before .before .before .before .before .before .before .before .before .before .before .pre in
     arm-reply _ _ (given .1 .1 .0) _ _ _ _ _ refl (c .before .before .before .before .before .before .before .if2 .taken) (c .before .before .before .before .on-shuffle-reply .ensures)
 
 on-disconnect-requires : tie.Need-on-disconnect-requires
 on-disconnect-requires c κs =
-    let given = c .before .before .before .before .before .before .before .before .before .before .before .before .before .before .before .pre in
+    let given = c .before .before .before .before .before .before .before .before .before .before .before .before .before .before .pre in
     (given .0, (given .1 .0, between-less _ _ _ _ _ (omega arith) (omega arith) (given .1 .1 .1 .1)))
 
 same-length-5 : tie.Need-same-length-5
@@ -55,13 +55,13 @@ same-length-6 c = search needs
 
 returns-3 : tie.Need-returns-3
 returns-3 c =
-    let given = c .before .before .before .before .before .before .before .before .before .before .before .before .before .before .before .before .before .before .before .before .pre in
+    let given = c .before .before .before .before .before .before .before .before .before .before .before .before .before .before .before .before .before .before .before .pre in
     let if3 = c .before .before .before .before .before .before .before .before .if3 in
     arm-disconnect _ _ (given .1 .1 .0) _ _ _ _ _ refl (if3 .taken) (c .before .before .before .before .on-disconnect .ensures)
 
 handle-single-requires : tie.Need-handle-single-requires
 handle-single-requires c κs =
-    let given = c .before .before .before .before .before .before .before .before .before .before .before .before .before .before .pre in
+    let given = c .before .before .before .before .before .before .before .before .before .before .before .before .before .pre in
     (given .0, (given .1 .0, (single _ _ (given .1 .1 .0) (given .1 .1 .1 .0) (c .before .before .before .before .before .before .if1 .left) (c .before .before .before .before .if2 .left) (c .before .before .if3 .left), given .1 .1 .1 .1)))
 
 same-length-7 : tie.Need-same-length-7

@@ -7,7 +7,7 @@ use Rattle.hyparview.proofs.handle_timer.Tie as tie
 
 handle-shuffle-timer-requires : tie.Need-handle-shuffle-timer-requires
 handle-shuffle-timer-requires c κs =
-    let given = c .before .before .before .before .before .before .before .before .pre in
+    let given = c .before .before .before .before .before .before .before .pre in
     (given .0, given .1 .0)
 
 same-length : tie.Need-same-length
@@ -21,7 +21,7 @@ returns c = shuffle-timer _ _ _ _ _ _ _ (c .before .before .before .before .befo
 
 handle-maintenance-timer-requires : tie.Need-handle-maintenance-timer-requires
 handle-maintenance-timer-requires c κs =
-    let given = c .before .before .before .before .before .before .before .before .before .before .pre in
+    let given = c .before .before .before .before .before .before .before .before .before .pre in
     (given .0, given .1 .0)
 
 same-length-3 : tie.Need-same-length-3
@@ -35,7 +35,7 @@ returns-2 c = maintenance-timer _ _ _ _ _ _ _ (c .before .before .before .before
 
 handle-pending-neighbor-timer-requires : tie.Need-handle-pending-neighbor-timer-requires
 handle-pending-neighbor-timer-requires c κs =
-    let given = c .before .before .before .before .before .before .before .before .before .before .before .before .pre in
+    let given = c .before .before .before .before .before .before .before .before .before .before .before .pre in
     (given .0, given .1 .0)
 
 same-length-5 : tie.Need-same-length-5
@@ -49,7 +49,7 @@ returns-3 c = request-timer _ _ _ _ _ _ _ (c .before .before .before .before .be
 
 retry-join-requires : tie.Need-retry-join-requires
 retry-join-requires c κs =
-    let given = c .before .before .before .before .before .before .before .before .before .before .before .before .pre in
+    let given = c .before .before .before .before .before .before .before .before .before .before .before .pre in
     (given .0, room-of _ _ _ (given .1 .0))
 
 same-length-7 : tie.Need-same-length-7
@@ -62,7 +62,7 @@ returns-4 : tie.Need-returns-4
 returns-4 c =
     let if1 = c .before .before .before .before .before .before .before .before .before .before .before .if1 in
     let if2 = c .before .before .before .before .before .before .before .before .before .if2 in
-    let given = c .before .before .before .before .before .before .before .before .before .before .before .before .before .before .before .before .before .pre in
+    let given = c .before .before .before .before .before .before .before .before .before .before .before .before .before .before .before .before .pre in
     join-timer _ _ _ _ _ _ _ (if1 .left) (if2 .left) (c .before .before .before .before .before .before .before .if3 .left) (then-tell (c .before .before .before .before .retry-join .ensures) (still (given .1 .0)))
 
 pub handle-timer-spec : {M : Type 1} → statement M
