@@ -19,7 +19,7 @@ use Rattle.timing.specs.declared.Config.{Config}
 use Rattle.peer.specs.Data.{Data, bytes-of}
 use Rattle.peer.specs.Held.{HoldsData, node-in}
 use Rattle.peer.specs.declared.PeerData.{PeerData}
-use Rattle.record.specs.Format.{Rec, datas, size, size-by, encode}
+use Rattle.record.specs.Format.{header-length, node-length, Rec, datas, size, size-by, encode}
 use Rattle.record.proofs.Format.{length-encode}
 use Rattle.writer.specs.Write.{rec-in, fits, written, reached, Wrote}
 use Rattle.writer.specs.declared.Written.{Written}
@@ -127,11 +127,15 @@ passes-at t d e [] h i = e
 passes-at t d e (x ∷ xs) h zero = and-left (t x) _ h
 passes-at t d e (x ∷ xs) h (suc i) = passes-at t d e xs (and-right (t x) _ h) i
 
-small : (i : ℕ) → leb (0 + size (event-at i)) 32 ≡ true
-unfolding event-at events of-peer size-by datas bytes-of every
-small i = passes-at (λ e. leb (0 + size e) 32) quit refl events refl i
+-- an event has a node at most
+abbrev longest : ℕ
+longest = header-length + node-length
 
-module _ (i : ℕ) (out : List ℕ) (long : length out ≡ 32) (w : Written) (b : List ℕ) (h : Wrote (event-at i) 0 out w b) where
+small : (i : ℕ) → leb (0 + size (event-at i)) longest ≡ true
+unfolding event-at events of-peer size-by datas bytes-of every
+small i = passes-at (λ e. leb (0 + size e) longest) quit refl events refl i
+
+module _ (i : ℕ) (out : List ℕ) (long : length out ≡ longest) (w : Written) (b : List ℕ) (h : Wrote (event-at i) 0 out w b) where
   fitting : leb (0 + size (event-at i)) (length out) ≡ true
   fitting = ap (λ (n : ℕ). leb (0 + size (event-at i)) n) long ∙ small i
 
@@ -149,8 +153,8 @@ module _ (i : ℕ) (out : List ℕ) (long : length out ≡ 32) (w : Written) (b 
   reaches : (n : ℕ) → w ≡ At n → 0 + size (event-at i) ≡ n
   reaches n e = let g : At (0 + size (event-at i)) ≡ At n = sym fit ∙ e in cc
 
-  pub few-bytes : (n : ℕ) → w ≡ At n → n ≤ 32
-  few-bytes n e = subst (λ (k : ℕ). k ≤ 32) (reaches n e) (leb-true _ _ (small i))
+  pub few-bytes : (n : ℕ) → w ≡ At n → n ≤ longest
+  few-bytes n e = subst (λ (k : ℕ). k ≤ longest) (reaches n e) (leb-true _ _ (small i))
 
   pub the-bytes : (n : ℕ) → w ≡ At n → take n b ≡ encode (event-at i)
   the-bytes n e =
@@ -162,5 +166,5 @@ pub plays : (i : ℕ) (s : State) (b : List ℕ) (n : ℕ) (a : HandledState) (o
 unfolding played draws output
 plays i s b n a o e q = ap (λ (x : Outcome). record { words = x .words }) (q ∙ ap (λ (l : List ℕ). program-outcome l (replicate 512 0) (replicate 8192 0) (s .words)) e)
 
-pub cut-length : (n : ℕ) (b : List ℕ) → n ≤ 32 → length b ≡ 32 → n ≡ length (take n b)
+pub cut-length : (n : ℕ) (b : List ℕ) → n ≤ longest → length b ≡ longest → n ≡ length (take n b)
 cut-length n b l e = sym (length-take-le n b (omega (arith, l, e)))

@@ -72,7 +72,7 @@ first-made : first-state .words ≡ program-made (replicate words 0) 1 false [] 
 unfolding first-state made-state program-made lending.made choose
 first-made = refl
 
--- the number of the station has 32 bits, and it has no data
+-- the number of the station has 64 bits, and it has no data
 narrow : Given 1 none
 unfolding all-under bytes-of
 narrow = record { narrow = omega arith; are-bytes = refl }

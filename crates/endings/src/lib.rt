@@ -12,11 +12,11 @@ use writer::Fields;
 use writer::Written;
 ghost use mathlib.Core.Path.{_≡_};
 ghost use mathlib.Core.List.{[], _∷_};
-ghost use Prim.Native.Nat.{_≤_, _<_};
+ghost use Prim.Native.Nat.{_+_, _≤_, _<_};
 ghost use lib.ListN.{length, getD, take};
 ghost use Rattle.lists.specs.Lists.{choose};
 ghost use Rattle.histories.specs.Histories.{of-length};
-ghost use Rattle.record.specs.Format.{encode};
+ghost use Rattle.record.specs.Format.{header-length, node-length, encode};
 ghost use Rattle.writer.specs.Write.{Wrote};
 ghost use Rattle.endings.specs.Events.{no-data-node, event, of-peer, quit, event-at};
 ghost use Rattle.endings.specs.Ends.{count-ends, all-ends};
@@ -118,11 +118,11 @@ fn first() -> State
     m.state
 }
 
-// How many bytes the event at place i has, which stand at the front of the lent ones.
+// How many bytes the event at place i has, which stand at the front of the lent ones; it has a node at most.
 fn event_bytes(out: &mut [u8], i: usize) -> usize
     requires { ⌜ i < 16 ⌝ }
-    requires { ⌜ length (now out) ≡ 32 ⌝ }
-    ensures { λ r. ⌜ (r ≤ 32) × (take r (now (out .exit)) ≡ encode (event-at i)) ⌝ }
+    requires { ⌜ length (now out) ≡ header-length + node-length ⌝ }
+    ensures { λ r. ⌜ (r ≤ header-length + node-length) × (take r (now (out .exit)) ≡ encode (event-at i)) ⌝ }
 {
     let w = put_event(out, i);
     match w {
@@ -136,7 +136,7 @@ fn play(s: State, i: usize) -> State
     requires { ⌜ i < 16 ⌝ }
     ensures { λ r. ⌜ r ≡ played i s ⌝ }
 {
-    let mut event = [0u8; 32];
+    let mut event = [0u8; 44];
     let draws = [0u32; 512];
     let mut out = [0u8; 8192];
     let n = event_bytes(&mut event, i);
