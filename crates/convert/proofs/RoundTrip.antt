@@ -19,7 +19,7 @@ use Rattle.record.specs.InForm.{InFormBy}
 use Rattle.record.proofs.Format.{length-encode-by}
 use Rattle.record.proofs.Back.{encode-back, in-form-back}
 use Rattle.record.proofs.Forth.{well-formed-encode-by, rec-of-encode-by}
-use Rattle.convert.specs.Convert.{has-form, answer, Outcome, outcome, conversion, bytes-in, large}
+use Rattle.convert.specs.Convert.{has-form, answer, outcome, converted, conversion, bytes-in, large}
 use Rattle.convert.proofs.Laws.{answer-well}
 use Rattle.convert.proofs.Forms.{other-in-form, wide-form, old-form-of}
 
@@ -30,7 +30,7 @@ module _ (v w : ℕ) (b : List ℕ) (t : well-formed-by v b ≡ true) (f : has-f
   accepts = answer-well v w b t r ∙ rw (f, le-ltb r (size-by w (rec-of-by v b)) l)
 
   pub converts : conversion v w b r ≡ outcome 0 (encode-by w (rec-of-by v b)) r
-  unfolding conversion
+  unfolding conversion converted
   converts = rw (accepts) (ap (λ (bs : List ℕ). outcome 0 bs r) (choose-yes (eqb 0 0) (encode-by w (rec-of-by v b)) [] refl))
 
   pub converts-to : bytes-in (conversion v w b r) ≡ encode-by w (rec-of-by v b)

@@ -7,7 +7,7 @@ use lib.ListN.{length, getD, take}
 use lib.Dec.{leb, ltb, eqb}
 use Rattle.lists.specs.Lists.{choose}
 use Rattle.lists.specs.Array.{pad}
-use Rattle.lists.specs.Bytes.{le}
+use Rattle.lists.specs.Bytes.{le, overwrite}
 use Rattle.lists.specs.Tests.{every}
 use Rattle.peer.specs.Data.{Node}
 use Rattle.record.specs.Format.{Rec, header-length-by, size-by, encode-by}
@@ -43,9 +43,21 @@ pub record Outcome : Type 0 where
 unfoldable pub outcome : ℕ → List ℕ → ℕ → Outcome
 outcome code bytes room = record { code = code; written = length bytes; output = pad 0 room bytes }
 
--- the conversion into an output of so much room: a refusal writes nothing
+-- the bytes in the other form: none where there is a refusal
+unfoldable pub converted : ℕ → ℕ → List ℕ → ℕ → List ℕ
+converted v w b room = choose (eqb (answer v w b room) 0) (encode-by w (rec-of-by v b)) []
+
+-- the conversion into an output of so much room
 unfoldable pub conversion : ℕ → ℕ → List ℕ → ℕ → Outcome
-conversion v w b room = outcome (answer v w b room) (choose (eqb (answer v w b room) 0) (encode-by w (rec-of-by v b)) []) room
+conversion v w b room = outcome (answer v w b room) (converted v w b room) room
+
+-- the same onto what stands in the output
+unfoldable pub placed : ℕ → ℕ → List ℕ → List ℕ → Outcome
+placed v w b out = record {
+  code = answer v w b (length out);
+  written = length (converted v w b (length out));
+  output = overwrite out 0 (converted v w b (length out));
+}
 
 -- what the code hands back, and the output that it leaves
 abbrev pub outcome-of : Converted → List ℕ → Outcome

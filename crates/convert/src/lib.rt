@@ -12,7 +12,7 @@ ghost use Rattle.lists.specs.Array.{pad};
 ghost use Rattle.lists.specs.Bytes.{le, overwrite};
 ghost use Rattle.record.specs.Format.{IsForm, old-length, peer-length, header-length-by, node-length-by, place-by, entries-by, size-by, encode-by};
 ghost use Rattle.record.specs.Read.{header-of-by, well-formed-by, nodes-of-by, rec-of-by};
-ghost use Rattle.convert.specs.Convert.{ids-fit, answer, conversion, outcome-of, tail-bytes, header-bytes, entry-bytes, moved, resized};
+ghost use Rattle.convert.specs.Convert.{ids-fit, answer, conversion, placed, outcome-of, tail-bytes, header-bytes, entry-bytes, moved, resized};
 
 // The answer, 0 or a refusal's code, and how many bytes of the output were written.
 pub struct Converted {
@@ -262,14 +262,13 @@ fn answer(b: &[u8], room: usize, v: usize, w: usize) -> u32
     Refusal::MALFORMED
 }
 
-fn convert(b: &[u8], out: &mut [u8], v: usize, w: usize) -> Converted
+// The record in the other form onto what stands in the output.
+fn put_record(b: &[u8], out: &mut [u8], v: usize, w: usize) -> Converted
     requires { ⌜ IsForm v ⌝ }
     requires { ⌜ IsForm w ⌝ }
-    ensures { λ r. ⌜ outcome-of r (now (out .exit)) ≡ conversion v w (now (b .entry)) (length (now (out .entry))) ⌝ }
+    ensures { λ r. ⌜ outcome-of r (now (out .exit)) ≡ placed v w (now (b .entry)) (now (out .entry)) ⌝ }
 {
-    let room = out.len();
-    clear(out);
-    let code = answer(b, room, v, w);
+    let code = answer(b, out.len(), v, w);
     if code == 0 {
         let h = other_header(b, v, w);
         write(out, b, h, v, w);
@@ -282,6 +281,15 @@ fn convert(b: &[u8], out: &mut [u8], v: usize, w: usize) -> Converted
         code: code,
         written: 0,
     }
+}
+
+fn convert(b: &[u8], out: &mut [u8], v: usize, w: usize) -> Converted
+    requires { ⌜ IsForm v ⌝ }
+    requires { ⌜ IsForm w ⌝ }
+    ensures { λ r. ⌜ outcome-of r (now (out .exit)) ≡ conversion v w (now (b .entry)) (length (now (out .entry))) ⌝ }
+{
+    clear(out);
+    put_record(b, out, v, w)
 }
 
 pub fn old_to_new(b: &[u8], out: &mut [u8]) -> Converted
