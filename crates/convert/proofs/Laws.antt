@@ -7,7 +7,7 @@ use mathlib.Core.List.{List, [], _∷_, _++_}
 use mathlib.Core.Option.{none, some}
 use native.Mathlib.Nat.{not-suc-le-zero, le-of-suc-le-suc}
 use native.Mathlib.Omega.{arith}
-use borrow.Author.Tests.{lt-ltb, le-ltb, ltb-true, ltb-false, ne-eqb}
+use borrow.Author.Tests.{lt-ltb, le-ltb, ltb-true, ltb-false, eqb-true, ne-eqb}
 use lib.ListN.{length, getD, drop}
 use lib.Seq.{slice, length-slice, take-length}
 use lib.Dec.{ltb, eqb}
@@ -15,7 +15,7 @@ use Rattle.lists.specs.Lists.{choose}
 use Rattle.lists.specs.Array.{pad}
 use Rattle.lists.specs.Bytes.{le, overwrite}
 use Rattle.lists.proofs.Array.{length-pad}
-use Rattle.lists.proofs.Choice.{and-right}
+use Rattle.lists.proofs.Choice.{by-choice, and-right}
 use Rattle.lists.proofs.Numbers.{Bytes, read-below}
 use Rattle.lists.proofs.Bytes.{then, overwrite-is}
 use Rattle.peer.specs.Data.{bytes-of}
@@ -28,7 +28,7 @@ use Rattle.record.proofs.Laws.{well-formed-long, entries-reach}
 use Rattle.record.proofs.Back.{parts, all-back}
 use Rattle.record.proofs.Forth.{count-most}
 use Rattle.record.proofs.Nodes.{EntryIn, entry-in}
-use Rattle.convert.specs.Convert.{ids-fit, has-form, answer, outcome, conversion, outcome-of, tail-bytes, header-bytes, entry-bytes, moved, resized}
+use Rattle.convert.specs.Convert.{ids-fit, has-form, answer, Outcome, outcome, converted, conversion, placed, outcome-of, tail-bytes, header-bytes, entry-bytes, moved, resized}
 
 offset-by : (t : Bool) (x : List ℕ) (at : ℕ) → offset (choose t none (some x)) at ≡ choose t 0 at
 unfolding offset choose
@@ -196,19 +196,33 @@ stored n bs h = overwrite-is (pad 0 n []) 0 bs (omega (arith, h, length-pad {A =
 
 -- ---- the whole outcome
 
-pub refused-outcome : (v w : ℕ) (b out₁ : List ℕ) (r code : ℕ) → code ≡ answer v w b r → (code ≡ 0 → ⊥) → out₁ ≡ pad 0 r []
-    → outcome-of (record { code = code; written = 0 }) out₁ ≡ conversion v w b r
-unfolding conversion outcome choose
-refused-outcome v w b out₁ r code p n q = rw (← p, ne-eqb code 0 n, q)
+pub converted-fits : (v w : ℕ) (b : List ℕ) (r : ℕ) → length (converted v w b r) ≤ r
+unfolding converted
+converted-fits v w b r =
+    by-choice (λ (bs : List ℕ). length bs ≤ r) (eqb (answer v w b r) 0)
+    (λ y. omega (arith, length-encode-by w (rec-of-by v b), accepted v w b r (eqb-true _ _ y) .fits)) (λ n. omega arith)
 
-module _ (v w : ℕ) (b out₁ out₂ : List ℕ) (h : Header) (r code : ℕ) where
-  pub done-outcome : code ≡ answer v w b r → code ≡ 0 → out₁ ≡ pad 0 r [] → h ≡ resized (header-of-by v b) (size-by w (rec-of-by v b))
-      → out₂ ≡ overwrite out₁ 0 (encode-by w (rec-of-by v b)) → outcome-of (record { code = 0; written = h .size }) out₂ ≡ conversion v w b r
-  unfolding conversion outcome choose
-  done-outcome p z q d s =
-      let a : answer v w b r ≡ 0 = sym p ∙ z in
-      let x : Accepted v w b r = accepted v w b r a in
-      let l : length (encode-by w (rec-of-by v b)) ≡ size-by w (rec-of-by v b) = length-encode-by w (rec-of-by v b) in
-      let o : out₂ ≡ pad 0 r (encode-by w (rec-of-by v b)) = s ∙ ap (λ (m : List ℕ). overwrite m 0 (encode-by w (rec-of-by v b))) q ∙ stored r (encode-by w (rec-of-by v b)) (omega (arith, l, x .fits)) in
-      let n : h .size ≡ length (encode-by w (rec-of-by v b)) = ap (λ (y : Header). y .size) d ∙ sym l in
-      rw (a, o, n)
+-- onto zeroes
+pub placed-zeroes : (v w : ℕ) (b out : List ℕ) (r : ℕ) (x : Outcome) → out ≡ pad 0 r [] → x ≡ placed v w b out → x ≡ conversion v w b r
+unfolding placed conversion outcome
+placed-zeroes v w b out r x q e =
+    let n : length out ≡ r = ap length q ∙ length-pad {A = ℕ} 0 r [] in
+    e ∙ (λ j. record {
+      code = answer v w b (n j);
+      written = length (converted v w b (n j));
+      output = overwrite (q j) 0 (converted v w b (n j));
+    })
+    ∙ ap (λ (o : List ℕ). record { code = answer v w b r; written = length (converted v w b r); output = o }) (stored r (converted v w b r) (converted-fits v w b r))
+
+module _ (v w : ℕ) (b out : List ℕ) (code : ℕ) (p : code ≡ answer v w b (length out)) where
+  pub refused-placed : (code ≡ 0 → ⊥) → outcome-of (record { code = code; written = 0 }) out ≡ placed v w b out
+  unfolding placed converted choose overwrite
+  refused-placed n = rw (← p, ne-eqb code 0 n)
+
+  pub done-placed : (h : Header) (o : List ℕ) → code ≡ 0 → h ≡ resized (header-of-by v b) (size-by w (rec-of-by v b)) → o ≡ overwrite out 0 (encode-by w (rec-of-by v b))
+      → outcome-of (record { code = 0; written = h .size }) o ≡ placed v w b out
+  unfolding placed converted choose
+  done-placed h o z d s =
+      let a : answer v w b (length out) ≡ 0 = sym p ∙ z in
+      let n : h .size ≡ length (encode-by w (rec-of-by v b)) = ap (λ (y : Header). y .size) d ∙ sym (length-encode-by w (rec-of-by v b)) in
+      rw (a, n, s)

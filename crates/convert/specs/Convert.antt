@@ -1,13 +1,13 @@
 -- Document 02, S-8: a record of one form as a record of the other. v is the bytes of a peer where it is read, w where it is written.
 -- Assumes nothing.
 use Prim.Native.Nat.{ℕ, _^_}
-use mathlib.Core.Bool.{Bool, not, _&&_}
+use mathlib.Core.Bool.{Bool, false, not, _&&_, _||_}
 use mathlib.Core.List.{List, [], _∷_, _++_}
-use lib.ListN.{length, getD}
-use lib.Dec.{ltb, eqb}
+use lib.ListN.{length, getD, take}
+use lib.Dec.{leb, ltb, eqb}
 use Rattle.lists.specs.Lists.{choose}
 use Rattle.lists.specs.Array.{pad}
-use Rattle.lists.specs.Bytes.{le}
+use Rattle.lists.specs.Bytes.{le, overwrite}
 use Rattle.lists.specs.Tests.{every}
 use Rattle.peer.specs.Data.{Node}
 use Rattle.record.specs.Format.{Rec, header-length-by, size-by, encode-by}
@@ -43,13 +43,37 @@ pub record Outcome : Type 0 where
 unfoldable pub outcome : ℕ → List ℕ → ℕ → Outcome
 outcome code bytes room = record { code = code; written = length bytes; output = pad 0 room bytes }
 
--- the conversion into an output of so much room: a refusal writes nothing
+-- the bytes in the other form: none where there is a refusal
+unfoldable pub converted : ℕ → ℕ → List ℕ → ℕ → List ℕ
+converted v w b room = choose (eqb (answer v w b room) 0) (encode-by w (rec-of-by v b)) []
+
+-- the conversion into an output of so much room
 unfoldable pub conversion : ℕ → ℕ → List ℕ → ℕ → Outcome
-conversion v w b room = outcome (answer v w b room) (choose (eqb (answer v w b room) 0) (encode-by w (rec-of-by v b)) []) room
+conversion v w b room = outcome (answer v w b room) (converted v w b room) room
+
+-- the same onto what stands in the output
+unfoldable pub placed : ℕ → ℕ → List ℕ → List ℕ → Outcome
+placed v w b out = record {
+  code = answer v w b (length out);
+  written = length (converted v w b (length out));
+  output = overwrite out 0 (converted v w b (length out));
+}
 
 -- what the code hands back, and the output that it leaves
 abbrev pub outcome-of : Converted → List ℕ → Outcome
 outcome-of r out = record { code = r .code; written = r .written; output = out }
+
+-- the bytes that an outcome says were written
+unfoldable pub bytes-in : Outcome → List ℕ
+bytes-in o = take (o .written) (o .output)
+
+-- "a number .. too large" for the old form: a peer, the second field or a node's id
+unfoldable pub large-id : List Node → Bool
+large-id [] = false
+large-id (n ∷ ns) = leb (2 ^ 32) (n .id) || large-id ns
+
+unfoldable pub large : Rec → Bool
+large e = leb (2 ^ 32) (e .peer) || (leb (2 ^ 32) (e .second) || large-id (e .nodes))
 
 -- ---- a header and an entry by their fields
 

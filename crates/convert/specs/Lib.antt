@@ -1,1 +1,2 @@
 pub mod Convert
+pub mod Walk

@@ -12,11 +12,19 @@ ghost use Rattle.lists.specs.Array.{pad};
 ghost use Rattle.lists.specs.Bytes.{le, overwrite};
 ghost use Rattle.record.specs.Format.{IsForm, old-length, peer-length, header-length-by, node-length-by, place-by, entries-by, size-by, encode-by};
 ghost use Rattle.record.specs.Read.{header-of-by, well-formed-by, nodes-of-by, rec-of-by};
-ghost use Rattle.convert.specs.Convert.{ids-fit, answer, conversion, outcome-of, tail-bytes, header-bytes, entry-bytes, moved, resized};
+ghost use Rattle.convert.specs.Convert.{ids-fit, answer, conversion, placed, outcome-of, tail-bytes, header-bytes, entry-bytes, moved, resized};
+ghost use Rattle.convert.specs.Walk.{first, walked, outcomes, outcomes-of};
 
 // The answer, 0 or a refusal's code, and how many bytes of the output were written.
 pub struct Converted {
     pub code: u32,
+    pub written: usize,
+}
+
+// The same of a file of records: the answer, how many of its bytes are records that were converted, and how many bytes were written.
+pub struct Progress {
+    pub code: u32,
+    pub taken: usize,
     pub written: usize,
 }
 
@@ -262,14 +270,13 @@ fn answer(b: &[u8], room: usize, v: usize, w: usize) -> u32
     Refusal::MALFORMED
 }
 
-fn convert(b: &[u8], out: &mut [u8], v: usize, w: usize) -> Converted
+// The record in the other form onto what stands in the output.
+fn put_record(b: &[u8], out: &mut [u8], v: usize, w: usize) -> Converted
     requires { ⌜ IsForm v ⌝ }
     requires { ⌜ IsForm w ⌝ }
-    ensures { λ r. ⌜ outcome-of r (now (out .exit)) ≡ conversion v w (now (b .entry)) (length (now (out .entry))) ⌝ }
+    ensures { λ r. ⌜ outcome-of r (now (out .exit)) ≡ placed v w (now (b .entry)) (now (out .entry)) ⌝ }
 {
-    let room = out.len();
-    clear(out);
-    let code = answer(b, room, v, w);
+    let code = answer(b, out.len(), v, w);
     if code == 0 {
         let h = other_header(b, v, w);
         write(out, b, h, v, w);
@@ -284,6 +291,15 @@ fn convert(b: &[u8], out: &mut [u8], v: usize, w: usize) -> Converted
     }
 }
 
+fn convert(b: &[u8], out: &mut [u8], v: usize, w: usize) -> Converted
+    requires { ⌜ IsForm v ⌝ }
+    requires { ⌜ IsForm w ⌝ }
+    ensures { λ r. ⌜ outcome-of r (now (out .exit)) ≡ conversion v w (now (b .entry)) (length (now (out .entry))) ⌝ }
+{
+    clear(out);
+    put_record(b, out, v, w)
+}
+
 pub fn old_to_new(b: &[u8], out: &mut [u8]) -> Converted
     ensures { λ r. ⌜ outcome-of r (now (out .exit)) ≡ conversion old-length peer-length (now (b .entry)) (length (now (out .entry))) ⌝ }
 {
@@ -294,4 +310,62 @@ pub fn new_to_old(b: &[u8], out: &mut [u8]) -> Converted
     ensures { λ r. ⌜ outcome-of r (now (out .exit)) ≡ conversion peer-length old-length (now (b .entry)) (length (now (out .entry))) ⌝ }
 {
     convert(b, out, record::PEER, record::OLD_PEER)
+}
+
+// How many bytes the first record has.
+fn first_length(b: &[u8], v: usize) -> usize
+    requires { ⌜ IsForm v ⌝ }
+    ensures { λ r. ⌜ (r ≡ length (first v (now (b .entry)))) × (r ≤ length (now (b .entry))) ⌝ }
+{
+    let n = b.len();
+    if n < record::place(0, v) {
+        return n;
+    }
+    let h = record::read_header_by(b, v);
+    let size = h.size as usize;
+    if n < size {
+        return n;
+    }
+    size
+}
+
+// Each record of a file in order, to its end or to the first record that is refused.
+fn convert_all(b: &[u8], out: &mut [u8], v: usize, w: usize) -> Progress
+    requires { ⌜ IsForm v ⌝ }
+    requires { ⌜ IsForm w ⌝ }
+    ensures { λ r. ⌜ outcomes-of r (now (out .exit)) ≡ outcomes (walked v w (now (b .entry)) (length (now (out .entry)))) (length (now (out .entry))) ⌝ }
+{
+    clear(out);
+    let mut from: usize = 0;
+    let mut to: usize = 0;
+    while from < b.len() {
+        let end = from + first_length(&b[from..], v);
+        let c = put_record(&b[from..end], &mut out[to..], v, w);
+        if c.code != 0 {
+            return Progress {
+                code: c.code,
+                taken: from,
+                written: to,
+            };
+        }
+        from = end;
+        to += c.written;
+    }
+    Progress {
+        code: 0,
+        taken: from,
+        written: to,
+    }
+}
+
+pub fn all_to_new(b: &[u8], out: &mut [u8]) -> Progress
+    ensures { λ r. ⌜ outcomes-of r (now (out .exit)) ≡ outcomes (walked old-length peer-length (now (b .entry)) (length (now (out .entry)))) (length (now (out .entry))) ⌝ }
+{
+    convert_all(b, out, record::OLD_PEER, record::PEER)
+}
+
+pub fn all_to_old(b: &[u8], out: &mut [u8]) -> Progress
+    ensures { λ r. ⌜ outcomes-of r (now (out .exit)) ≡ outcomes (walked peer-length old-length (now (b .entry)) (length (now (out .entry)))) (length (now (out .entry))) ⌝ }
+{
+    convert_all(b, out, record::PEER, record::OLD_PEER)
 }

@@ -1,0 +1,129 @@
+-- What remains: the records from place `from` on, into the room from place `to` on. The measure is the bytes that are left.
+use Prim.Native.Nat.{ℕ, _+_, _-_, _≤_, _<_}
+use mathlib.Core.Path.{_≡_, ap, subst, _∙_}
+use mathlib.Core.List.{List, []}
+use native.Mathlib.Omega.{arith}
+use lib.ListN.{length, take, drop}
+use borrow.Rule.Slice.PartMut.{putMid}
+use Rattle.lists.specs.Array.{pad}
+use Rattle.lists.proofs.Array.{length-pad}
+use Rattle.convert.specs.Convert.{placed, outcome-of}
+use Rattle.convert.specs.Walk.{first, walked, Outcomes, outcomes}
+use Rattle.convert.proofs.Walk.{Walking, walking-start, walking-len, walking-end, walking-top, walking-stop, walking-less, walking-next}
+use borrow.Author.Needs.{needs}
+use Rattle.convert.proofs.convert_all.Statement.{statement}
+use Rattle.convert.proofs.convert_all.Tie as tie
+
+record Inv (v w : ℕ) (b : List ℕ) (room : ℕ) (out : List ℕ) (from to : ℕ) : Type 0 where
+  low : from ≤ length b
+  top : to ≤ room
+  len : length out ≡ room
+  at : Walking v w b room out from to
+
+inv : (v w : ℕ) (b : List ℕ) (room : ℕ) (out : List ℕ) (from to : ℕ) → Walking v w b room out from to → Inv v w b room out from to
+inv v w b room out from to u = record { low = u .low; top = u .top; len = walking-len v w b room out from to u; at = u }
+
+start : (v w : ℕ) (b : List ℕ) (n : ℕ) (out : List ℕ) → out ≡ pad 0 n [] → Inv v w b (length out) out 0 0
+start v w b n out e =
+    let l : length out ≡ n = ap length e ∙ length-pad {A = ℕ} 0 n [] in
+    inv v w b (length out) out 0 0 (walking-start v w b (length out) out (e ∙ rw l))
+
+same-room : (v w : ℕ) (b : List ℕ) (n m : ℕ) (x : Outcomes) → n ≡ m → x ≡ outcomes (walked v w b n) n → x ≡ outcomes (walked v w b m) m
+same-room v w b n m x e q = q ∙ ap (λ (k : ℕ). outcomes (walked v w b k) k) e
+
+abbrev Inv-loop : tie.InvT-loop
+Inv-loop b out₀ v w from₀ to₀ out from to = Inv v w b (length out₀) out from to
+
+abbrev μ-loop : tie.MeasureT-loop
+μ-loop b out₀ v w from₀ to₀ out from to = length b - from
+
+clear-requires : tie.Need-clear-requires Inv-loop μ-loop
+clear-requires c κs = search needs
+
+loop-holds : tie.Need-loop-holds Inv-loop μ-loop
+loop-holds c = start _ _ _ _ _ (c .before .before .clear .ensures)
+
+sub-first-length : tie.Need-sub-first-length Inv-loop μ-loop
+sub-first-length c = search needs
+
+part-first-length-start : tie.Need-part-first-length-start Inv-loop μ-loop
+part-first-length-start c = search needs
+
+part-first-length-end : tie.Need-part-first-length-end Inv-loop μ-loop
+part-first-length-end c = search needs
+
+first-length-requires : tie.Need-first-length-requires Inv-loop μ-loop
+first-length-requires c κs = search needs
+
+add-end : tie.Need-add-end Inv-loop μ-loop
+add-end c = search needs
+
+sub-put-record : tie.Need-sub-put-record Inv-loop μ-loop
+sub-put-record c = search needs
+
+part-put-record-start : tie.Need-part-put-record-start Inv-loop μ-loop
+part-put-record-start c = search needs
+
+part-put-record-end : tie.Need-part-put-record-end Inv-loop μ-loop
+part-put-record-end c = search needs
+
+sub-put-record-2 : tie.Need-sub-put-record-2 Inv-loop μ-loop
+sub-put-record-2 c = search needs
+
+part-put-record-start-2 : tie.Need-part-put-record-start-2 Inv-loop μ-loop
+part-put-record-start-2 c = search needs
+
+part-put-record-end-2 : tie.Need-part-put-record-end-2 Inv-loop μ-loop
+part-put-record-end-2 c = search needs
+
+put-record-requires : tie.Need-put-record-requires Inv-loop μ-loop
+put-record-requires c κs = search needs
+
+same-length : tie.Need-same-length Inv-loop μ-loop
+same-length c = search needs
+
+returns : tie.Need-returns Inv-loop μ-loop
+returns c = same-room _ _ _ _ _ _ (search needs) (walking-stop _ _ _ _ _ _ _ (c .before .before .before .before .before .before .before .before .before .before .loop .inv .at) (c .before .before .before .before .before .before .before .before .before .loop-test .taken) _ (c .before .before .before .before .before .before .before .first-length .ensures .0) _ _ _ (c .before .before .before .before .put-record .ensures) (c .if1 .taken))
+
+add-to : tie.Need-add-to Inv-loop μ-loop
+add-to c = record { fits = omega (arith, walking-top _ _ _ _ _ _ _ (c .before .before .before .before .before .before .before .before .before .before .before .loop .inv .at) (c .before .before .before .before .before .before .before .before .before .before .loop-test .taken) _ (c .before .before .before .before .before .before .before .before .first-length .ensures .0) _ _ _ (c .before .before .before .before .before .put-record .ensures), c .before .before .before .before .before .before .before .before .before .before .before .loop .inv .len) }
+
+loop-less : tie.Need-loop-less Inv-loop μ-loop
+loop-less c = walking-less _ _ _ _ _ _ _ (c .before .before .before .before .before .before .before .before .before .before .before .loop .inv .at) (c .before .before .before .before .before .before .before .before .before .before .loop-test .taken) _ (c .before .before .before .before .before .before .before .before .first-length .ensures .0) _ _ _ (c .before .before .before .before .before .put-record .ensures) (search needs)
+
+loop-again : tie.Need-loop-again Inv-loop μ-loop
+loop-again c = inv _ _ _ _ _ _ _ (walking-next _ _ _ _ _ _ _ (c .before .before .before .before .before .before .before .before .before .before .before .loop .inv .at) (c .before .before .before .before .before .before .before .before .before .before .loop-test .taken) _ (c .before .before .before .before .before .before .before .before .first-length .ensures .0) _ _ _ (c .before .before .before .before .before .put-record .ensures) (search needs) (c .before .before .before .before .before .before .before .before .first-length .ensures .1))
+
+same-length-2 : tie.Need-same-length-2 Inv-loop μ-loop
+same-length-2 c = search needs
+
+returns-2 : tie.Need-returns-2 Inv-loop μ-loop
+returns-2 c = same-room _ _ _ _ _ _ (search needs) (walking-end _ _ _ _ _ _ _ (c .before .loop .inv .at) (c .loop-test .left))
+
+pub convert-all-spec : {M : Type 1} → statement M
+convert-all-spec =
+    tie.close
+    (tie.spec
+    Inv-loop
+    μ-loop
+    clear-requires
+    loop-holds
+    sub-first-length
+    part-first-length-start
+    part-first-length-end
+    first-length-requires
+    add-end
+    sub-put-record
+    part-put-record-start
+    part-put-record-end
+    sub-put-record-2
+    part-put-record-start-2
+    part-put-record-end-2
+    put-record-requires
+    same-length
+    returns
+    add-to
+    loop-less
+    loop-again
+    same-length-2
+    returns-2)

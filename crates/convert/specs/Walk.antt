@@ -1,0 +1,56 @@
+-- Document 02, S-8, over a whole file: nothing but records, without gaps, up to its end.
+-- Assumes nothing.
+use Prim.Native.Nat.{ℕ, zero, suc, _+_, _*_, _-_}
+use mathlib.Core.List.{List, [], _++_}
+use lib.ListN.{length, take, drop}
+use lib.Dec.{ltb, eqb}
+use Rattle.lists.specs.Lists.{choose, null}
+use Rattle.lists.specs.Array.{pad}
+use Rattle.lists.specs.Bytes.{read-le}
+use Rattle.record.specs.Format.{header-length-by}
+use Rattle.convert.specs.Convert.{answer, converted}
+use Rattle.convert.specs.declared.Progress.{Progress}
+
+-- the bytes of the first record, by the whole length that it says: all of them where no header fits or the record is cut off
+unfoldable pub first : ℕ → List ℕ → List ℕ
+first v b = choose (ltb (length b) (header-length-by v)) b (take (read-le 2 b (6 + 2 * v)) b)
+
+-- the answer, the bytes of the records before it, and the bytes written
+pub record Walked : Type 0 where
+  pub code : ℕ
+  pub taken : ℕ
+  pub bytes : List ℕ
+
+-- the same behind k bytes that gave the bytes bs
+unfoldable pub behind : ℕ → List ℕ → Walked → Walked
+behind k bs x = record { code = x .code; taken = k + x .taken; bytes = bs ++ x .bytes }
+
+abbrev pub stopped : ℕ → Walked
+stopped code = record { code = code; taken = 0; bytes = [] }
+
+-- each record in order, to the end or to the first that is refused; each takes a byte or more, so that n, the number of bytes, is never used up before
+unfoldable pub walk : ℕ → ℕ → ℕ → List ℕ → ℕ → Walked
+walk v w zero b room = stopped 0
+walk v w (suc n) b room =
+    choose (null b) (stopped 0)
+    (choose (eqb (answer v w (first v b) room) 0)
+    (behind (length (first v b)) (converted v w (first v b) room)
+    (walk v w n (drop (length (first v b)) b) (room - length (converted v w (first v b) room)))) (stopped (answer v w (first v b) room)))
+
+unfoldable pub walked : ℕ → ℕ → List ℕ → ℕ → Walked
+walked v w b room = walk v w (length b) b room
+
+-- what the code hands back, and the output that it leaves
+pub record Outcomes : Type 0 where
+  pub progress : Progress
+  pub output : List ℕ
+
+-- the bytes from place 0 on, and zeroes behind them
+unfoldable pub outcomes : Walked → ℕ → Outcomes
+outcomes x room = record {
+  progress = record { code = x .code; taken = x .taken; written = length (x .bytes) };
+  output = pad 0 room (x .bytes);
+}
+
+abbrev pub outcomes-of : Progress → List ℕ → Outcomes
+outcomes-of r out = record { progress = r; output = out }
