@@ -13,6 +13,7 @@ use Rattle.record.specs.declared.Header.{Header}
 use Rattle.record.specs.declared.Entry.{Entry}
 use Rattle.record.specs.declared.Answer.{Answer}
 use Rattle.record.specs.declared.Answer.the-variants.{Record, Malformed}
+use Rattle.record.specs.Format.{header-length, node-length}
 use Rattle.record.specs.Read.{well-formed, header-of, entry-at}
 use Rattle.record.specs.Answers.{answer}
 use Rattle.record.proofs.Laws.{Found, answer-found}
@@ -37,7 +38,7 @@ module _ (b : List ℕ) (a : Answer) (p : a ≡ answer b) where
     unfolding reading choose
     read-record = rw (found .header, found .well)
 
-    pub node-room : (i : ℕ) → i < h .nodes → 24 + 8 * i + 8 ≤ length b
+    pub node-room : (i : ℕ) → i < h .nodes → header-length + node-length * i + node-length ≤ length b
     node-room i l = entry-room b i (found .well) (rw (← (found .header)) l)
 
     pub node-there : (i : ℕ) (e : Entry) → i < h .nodes → e ≡ entry-at b i → record { ok = true; node = e } ≡ node-reading b i
