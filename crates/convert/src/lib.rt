@@ -334,6 +334,7 @@ fn convert_all(b: &[u8], out: &mut [u8], v: usize, w: usize) -> Progress
     requires { ⌜ IsForm v ⌝ }
     requires { ⌜ IsForm w ⌝ }
     ensures { λ r. ⌜ outcomes-of r (now (out .exit)) ≡ outcomes (walked v w (now (b .entry)) (length (now (out .entry)))) (length (now (out .entry))) ⌝ }
+    ensures { λ r. ⌜ (r .taken ≤ length (now (b .entry))) × (r .written ≤ length (now (out .entry))) ⌝ }
 {
     clear(out);
     let mut from: usize = 0;
@@ -360,12 +361,14 @@ fn convert_all(b: &[u8], out: &mut [u8], v: usize, w: usize) -> Progress
 
 pub fn all_to_new(b: &[u8], out: &mut [u8]) -> Progress
     ensures { λ r. ⌜ outcomes-of r (now (out .exit)) ≡ outcomes (walked old-length peer-length (now (b .entry)) (length (now (out .entry)))) (length (now (out .entry))) ⌝ }
+    ensures { λ r. ⌜ (r .taken ≤ length (now (b .entry))) × (r .written ≤ length (now (out .entry))) ⌝ }
 {
     convert_all(b, out, record::OLD_PEER, record::PEER)
 }
 
 pub fn all_to_old(b: &[u8], out: &mut [u8]) -> Progress
     ensures { λ r. ⌜ outcomes-of r (now (out .exit)) ≡ outcomes (walked peer-length old-length (now (b .entry)) (length (now (out .entry)))) (length (now (out .entry))) ⌝ }
+    ensures { λ r. ⌜ (r .taken ≤ length (now (b .entry))) × (r .written ≤ length (now (out .entry))) ⌝ }
 {
     convert_all(b, out, record::PEER, record::OLD_PEER)
 }

@@ -83,7 +83,7 @@ same-length : tie.Need-same-length Inv-loop μ-loop
 same-length c = search needs
 
 returns : tie.Need-returns Inv-loop μ-loop
-returns c = same-room _ _ _ _ _ _ (search needs) (walking-stop _ _ _ _ _ _ _ (c .before .before .before .before .before .before .before .before .before .before .loop .inv .at) (c .before .before .before .before .before .before .before .before .before .loop-test .taken) _ (c .before .before .before .before .before .before .before .first-length .ensures .0) _ _ _ (c .before .before .before .before .put-record .ensures) (c .if1 .taken))
+returns c = (same-room _ _ _ _ _ _ (search needs) (walking-stop _ _ _ _ _ _ _ (c .before .before .before .before .before .before .before .before .before .before .loop .inv .at) (c .before .before .before .before .before .before .before .before .before .loop-test .taken) _ (c .before .before .before .before .before .before .before .first-length .ensures .0) _ _ _ (c .before .before .before .before .put-record .ensures) (c .if1 .taken)), (search needs, search needs))
 
 add-to : tie.Need-add-to Inv-loop μ-loop
 add-to c = record { fits = omega (arith, walking-top _ _ _ _ _ _ _ (c .before .before .before .before .before .before .before .before .before .before .before .loop .inv .at) (c .before .before .before .before .before .before .before .before .before .before .loop-test .taken) _ (c .before .before .before .before .before .before .before .before .first-length .ensures .0) _ _ _ (c .before .before .before .before .before .put-record .ensures), c .before .before .before .before .before .before .before .before .before .before .before .loop .inv .len) }
@@ -98,7 +98,7 @@ same-length-2 : tie.Need-same-length-2 Inv-loop μ-loop
 same-length-2 c = search needs
 
 returns-2 : tie.Need-returns-2 Inv-loop μ-loop
-returns-2 c = same-room _ _ _ _ _ _ (search needs) (walking-end _ _ _ _ _ _ _ (c .before .loop .inv .at) (c .loop-test .left))
+returns-2 c = (same-room _ _ _ _ _ _ (search needs) (walking-end _ _ _ _ _ _ _ (c .before .loop .inv .at) (c .loop-test .left)), (search needs, search needs))
 
 pub convert-all-spec : {M : Type 1} → statement M
 convert-all-spec =

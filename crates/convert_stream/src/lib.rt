@@ -1,0 +1,112 @@
+// Document 02, S-8: a file of records of any length from standard input to standard output, each record in the other form.
+use convert::Progress;
+ghost use mathlib.Core.Path.{_≡_};
+ghost use mathlib.Core.List.{_++_};
+ghost use Prim.Native.Nat.{_-_, _≤_};
+ghost use lib.ListN.{length, drop};
+ghost use lib.Seq.{slice};
+
+// How often the input is read at most, each time up to 65,536 bytes: more than any disk has, so that the place in it has 64 bits.
+const TURNS: u64 = 1099511627776;
+
+// The records of b, by the way that they go.
+fn convert_by(b: &[u8], out: &mut [u8], back: bool) -> Progress
+    ensures { λ r. ⌜ (r .taken ≤ length (now (b .entry))) × (r .written ≤ length (now (out .entry))) ⌝ }
+{
+    if back {
+        return convert::all_to_old(b, out);
+    }
+    convert::all_to_new(b, out)
+}
+
+// The bytes from place `from` to n to the front.
+fn keep(b: &mut [u8], from: usize, n: usize)
+    requires { ⌜ from ≤ n ⌝ }
+    requires { ⌜ n ≤ length (now b) ⌝ }
+    ensures { λ _. ⌜ now (b .exit) ≡ slice from n (now (b .entry)) ++ drop (n - from) (now (b .entry)) ⌝ }
+{
+    let k = n - from;
+    let mut i: usize = 0;
+    while i < k {
+        let x = b[from + i];
+        b[i] = x;
+        i += 1;
+    }
+}
+
+// The line that ends it where bytes are refused: the answer, and their place in the input.
+fn complain(code: u32, place: u64) {
+    io::write_all(2, b"answer ");
+    io::print_decimal(2, code as u64);
+    io::write_all(2, b" at byte ");
+    io::print_decimal(2, place);
+    io::write_all(2, b"\n");
+}
+
+// Reads on, behind the bytes that are held at the front: how many stand there then, fewer than there is room for only at the end of the input.
+fn fill(buffer: &mut [u8], held: usize) -> usize
+    requires { ⌜ held ≤ length (now buffer) ⌝ }
+    ensures { λ r. ⌜ r ≤ length (now (buffer .entry)) ⌝ }
+{
+    held + io::read_full(0, &mut buffer[held..])
+}
+
+// The records of b to standard output, to the first that is refused or is cut off.
+fn pass(b: &[u8], out: &mut [u8], back: bool) -> Progress
+    ensures { λ r. ⌜ r .taken ≤ length (now (b .entry)) ⌝ }
+{
+    let p = convert_by(b, out, back);
+    let size = p.written;
+    io::write_all(1, &out[..size]);
+    p
+}
+
+// What a turn leaves: how many bytes are held, how many were converted, and the answer to those that are held.
+struct Turned {
+    held: usize,
+    taken: usize,
+    code: u32,
+}
+
+fn turn(buffer: &mut [u8], held: usize, out: &mut [u8], back: bool) -> Turned
+    requires { ⌜ held ≤ length (now buffer) ⌝ }
+    ensures { λ r. ⌜ (r .held ≤ length (now (buffer .entry))) × (r .taken ≤ length (now (buffer .entry))) ⌝ }
+{
+    let n = fill(buffer, held);
+    let p = pass(&buffer[..n], out, back);
+    let taken = p.taken;
+    keep(buffer, taken, n);
+    Turned {
+        held: n - taken,
+        taken: taken,
+        code: p.code,
+    }
+}
+
+// Turn by turn, to the end of the input or to the first record that is refused: its bytes are held whole then, as the buffer is longer than any record.
+fn stream(buffer: &mut [u8], out: &mut [u8], back: bool)
+    requires { ⌜ length (now buffer) ≤ 65536 ⌝ }
+{
+    let mut held: usize = 0;
+    let mut place: u64 = 0;
+    let mut left = TURNS;
+    while 0 < left {
+        let t = turn(buffer, held, out, back);
+        held = t.held;
+        if t.taken == 0 {
+            if 0 < held {
+                complain(t.code, place);
+            }
+            return;
+        }
+        place += t.taken as u64;
+        left -= 1;
+    }
+}
+
+// The whole of the input; 65,536 bytes of records become at most 98,304.
+pub fn run(back: bool) {
+    let mut buffer = [0u8; 65536];
+    let mut out = [0u8; 98304];
+    stream(&mut buffer, &mut out, back);
+}
