@@ -45,7 +45,7 @@ program = record {
   output = λ b ds out xs. program-outcome b ds out xs .output;
 }
 
--- what the types of `new`'s arguments give: a 32-bit number, and bytes
+-- what the types of `new`'s arguments give: a 64-bit number, and bytes
 pub record Typed (me : ℕ) (own : List ℕ) : Type 0 where
   pub narrow : me < peers-end
   pub are-bytes : all-under bytes-end own ≡ true

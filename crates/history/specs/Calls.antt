@@ -24,7 +24,7 @@ unfoldable pub narrow-draws : List Call → Bool
 narrow-draws [] = true
 narrow-draws (v ∷ vs) = all-under draws-end (v .draws) && narrow-draws vs
 
--- what `new` is given: "Peers are 32-bit numbers", and own data is bytes
+-- what `new` is given: a peer is a 64-bit number (02, S-8), and own data is bytes
 pub record Given (me : ℕ) (d : Data) : Type 0 where
   pub narrow : me < peers-end
   pub are-bytes : all-under bytes-end (bytes-of d) ≡ true

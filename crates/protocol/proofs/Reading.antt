@@ -1,4 +1,4 @@
--- What the reader promises of an event: data of at most 16 bytes, at most 32 nodes, a peer of 32 bits.
+-- What the reader promises of an event: data of at most 16 bytes, at most 32 nodes, a peer of 64 bits.
 -- Assumes nothing.
 use mathlib.Core.Path.{_≡_, refl, sym, ap, _∙_}
 use mathlib.Core.Bool.{true, _&&_}

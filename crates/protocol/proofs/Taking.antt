@@ -14,16 +14,16 @@ use Rattle.util.specs.Chances.{Kept, none-read}
 use Rattle.util.proofs.Chances.{Keeps, one-keeps, pick-keeps, shuffle-keeps}
 use Rattle.protocol.specs.Run.{Run, with-used, with-code, guard, on, emit, draw, require, to-draw, draw-one-of, draw-shuffle}
 use Rattle.protocol.specs.Taking as T
-use Rattle.protocol.specs.Taking.{Takes}
+use Rattle.protocol.specs.Taking.{TakesDraws}
 
 exact : (ds rest : List ℕ) (k : ℕ) → Kept ds rest (0 + k) → Kept ds rest k
 exact ds rest k r = subst (Kept ds rest) (omega arith) r
 
-takes : (k n : ℕ) (r : Run) → Keeps k n (to-draw r) → r .code ≡ 0 → r .used ≤ length (r .draws) → Takes k r (draw n r)
+takes : (k n : ℕ) (r : Run) → Keeps k n (to-draw r) → r .code ≡ 0 → r .used ≤ length (r .draws) → TakesDraws k r (draw n r)
 unfolding draw guard to-draw
 takes k n r h z l =
     rw (choose-yes (eqb (r .code) 0) (choose (leb (r .used + n) (length (r .draws))) (with-used (r .used + n) r) (with-code 5 r)) r (eq-eqb (r .code) 0 z))
-    (by-choice (Takes k r) (leb (r .used + n) (length (r .draws)))
+    (by-choice (TakesDraws k r) (leb (r .used + n) (length (r .draws)))
     (λ e. record {
       taken = λ c. exact _ _ _ (subst (λ (l : List ℕ). Kept (drop (r .used) (r .draws)) l (0 + k)) (drop-drop n (r .used) (r .draws)) (h .taken (drop (r .used) (r .draws)) 0 none-read (omega (arith, leb-true (r .used + n) (length (r .draws)) e, length-drop (r .used) (r .draws)))));
       short = λ c. absurd (omega (arith, c, z));

@@ -11,15 +11,15 @@ use Rattle.protocol.specs.Station.{Station}
 use Rattle.protocol.specs.Run.{Run, on, emit, draw, require, to-draw, draw-one-of, draw-shuffle}
 
 -- the run w took draws after r: k of them are kept; or there were too few, and all that were left are read and fewer than k of them kept
-pub record Takes (k : ℕ) (r w : Run) : Type 0 where
+pub record TakesDraws (k : ℕ) (r w : Run) : Type 0 where
   pub taken : w .code ≡ 0 → Kept (to-draw r) (to-draw w) k
   pub short : w .code ≡ 5 → KeptFewer k (to-draw r)
 
 -- of a run that is not refused, and has used no more draws than are lent
 pub record Taking (r : Run) : Type 0 where
-  pub delay : Takes 1 r (draw 1 r)
-  pub choice : (n : ℕ) → 0 < n → n ≤ 32 → Takes 1 r (draw-one-of n r)
-  pub shuffle : (xs : List ℕ) → length xs ≤ 32 → Takes (length xs - 1) r (draw-shuffle xs r)
+  pub delay : TakesDraws 1 r (draw 1 r)
+  pub choice : (n : ℕ) → 0 < n → n ≤ 32 → TakesDraws 1 r (draw-one-of n r)
+  pub shuffle : (xs : List ℕ) → length xs ≤ 32 → TakesDraws (length xs - 1) r (draw-shuffle xs r)
 
 -- of every run
 pub record TakingNone (r : Run) : Type 0 where

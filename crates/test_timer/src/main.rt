@@ -23,7 +23,7 @@ const DELAY: usize = 16;
 
 const KIND: usize = 24;
 
-const PEER: usize = 32;
+const PEER_AT: usize = 32;
 
 const NUMBER: usize = 40;
 
@@ -70,7 +70,7 @@ fn insert(q: &mut [u64], b: &[u8])
     let id = Id(0, 0, 0, 0);
     let item = Timer {
         kind: number(b, KIND),
-        peer: number(b, PEER),
+        peer: number(b, PEER_AT),
         number: number(b, NUMBER),
         id: id,
     };
