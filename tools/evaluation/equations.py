@@ -23,7 +23,7 @@ use lib.Count.{ones, onesIn}
 use Rattle.timing.specs.declared.Config.{Config}
 use Rattle.protocol.specs.Station.{Station, automatic, requests-left, recovery}
 use Rattle.protocol.specs.Setters.{set-next-request, set-next-join, set-passes-alone, set-passes-short}
-use Rattle.protocol.specs.Handle.{Answer, Made, zero-station, new}
+use Rattle.protocol.specs.Handle.{Result, Made, zero-station, new}
 use Rattle.protocol.specs.Traced.{traced}
 """
 
