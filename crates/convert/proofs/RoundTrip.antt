@@ -1,15 +1,14 @@
 -- Document 02, S-8: "back again gives the old bytes", "A new record goes to the old form and back unchanged", and which records have no other form.
 -- Assumes nothing.
 use Prim.Native.Nat.{ℕ, _≤_}
-use mathlib.Core.Path.{_≡_, refl, sym, ap, _∙_}
+use mathlib.Core.Path.{_≡_, refl, ap, _∙_}
 use mathlib.Core.Bool.{Bool, true, false, not, _&&_}
 use mathlib.Core.List.{List, []}
 use native.Mathlib.Omega.{arith}
-use borrow.Author.Tests.{le-ltb, eq-eqb, ne-eqb}
-use lib.ListN.{length, getD, take}
+use borrow.Author.Tests.{le-ltb}
+use lib.ListN.{length, getD}
 use lib.Dec.{ltb, eqb}
 use Rattle.lists.specs.Lists.{choose}
-use Rattle.lists.specs.Array.{pad}
 use Rattle.lists.proofs.Array.{take-pad}
 use Rattle.lists.proofs.Choice.{choose-yes, split}
 use Rattle.lists.proofs.Numbers.{Bytes}
