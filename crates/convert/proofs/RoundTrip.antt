@@ -24,7 +24,7 @@ use Rattle.convert.proofs.Forms.{other-in-form, wide-form, old-form-of}
 
 -- the bytes of a record are converted where they fit
 module _ (v w : ℕ) (b : List ℕ) (t : well-formed-by v b ≡ true) (f : has-form w (rec-of-by v b) ≡ true) (r : ℕ) (l : size-by w (rec-of-by v b) ≤ r) where
-  accepts : answer v w b r ≡ 0
+  pub accepts : answer v w b r ≡ 0
   unfolding choose
   accepts = answer-well v w b t r ∙ rw (f, le-ltb r (size-by w (rec-of-by v b)) l)
 

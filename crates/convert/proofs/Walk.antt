@@ -30,7 +30,7 @@ module _ (v : ℕ) (b : List ℕ) where
   first-short l = choose-yes _ _ _ (lt-ltb (length b) (header-length-by v) l)
 
   module _ (l : header-length-by v ≤ length b) where
-    first-long : first v b ≡ take (read-le 2 b (6 + 2 * v)) b
+    pub first-long : first v b ≡ take (read-le 2 b (6 + 2 * v)) b
     unfolding first
     first-long = choose-no _ _ _ (le-ltb (length b) (header-length-by v) l)
 
@@ -46,7 +46,7 @@ part-again s b =
     split (leb s (length b)) (λ y. ap (λ (k : ℕ). take k b) (length-take-le s b (leb-true s (length b) y)))
     (λ n. let e : take s b ≡ b = take-all s b (omega (arith, leb-false s (length b) n)) in rw e (take-length b))
 
-first-part : (v : ℕ) (b : List ℕ) → take (length (first v b)) b ≡ first v b
+pub first-part : (v : ℕ) (b : List ℕ) → take (length (first v b)) b ≡ first v b
 unfolding first
 first-part v b =
     by-choice (λ (f : List ℕ). take (length f) b ≡ f) (ltb (length b) (header-length-by v)) (λ _. take-length b) (λ _. part-again (read-le 2 b (6 + 2 * v)) b)
