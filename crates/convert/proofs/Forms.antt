@@ -1,6 +1,6 @@
 -- Which records have both forms.
 -- Assumes nothing.
-use Prim.Native.Nat.{ℕ, _+_, _*_, _^_, _≤_, _<_}
+use Prim.Native.Nat.{ℕ, _^_, _≤_, _<_}
 use mathlib.Core.Path.{_≡_, refl, sym, ap, _∙_}
 use mathlib.Core.Bool.{Bool, true, false, not, _&&_, _||_}
 use mathlib.Core.List.{List, [], _∷_}
@@ -11,7 +11,7 @@ use lib.Dec.{leb, ltb}
 use Rattle.lists.specs.Tests.{every}
 use Rattle.lists.proofs.Choice.{split, and-left, and-right}
 use Rattle.peer.specs.Data.{Node}
-use Rattle.record.specs.Format.{Rec, peer-length, old-length, header-length-by, node-length-by, size-by}
+use Rattle.record.specs.Format.{Rec, peer-length, old-length, size-by}
 use Rattle.record.specs.Read.{is-message, is-timer, is-data, kind-ok, flags-ok, count-ok, peer-ok, fields-ok, header-ok}
 use Rattle.record.specs.InForm.{header-in-by, NodeInForm, NodesInFormBy, InFormBy}
 use Rattle.record.proofs.Forth.{size-most-by}

@@ -1,15 +1,14 @@
 -- Document 02, S-8: "back again gives the old bytes", "A new record goes to the old form and back unchanged", and which records have no other form.
 -- Assumes nothing.
 use Prim.Native.Nat.{ℕ, _≤_}
-use mathlib.Core.Path.{_≡_, refl, sym, ap, _∙_}
+use mathlib.Core.Path.{_≡_, refl, ap, _∙_}
 use mathlib.Core.Bool.{Bool, true, false, not, _&&_}
 use mathlib.Core.List.{List, []}
 use native.Mathlib.Omega.{arith}
-use borrow.Author.Tests.{le-ltb, eq-eqb, ne-eqb}
-use lib.ListN.{length, getD, take}
+use borrow.Author.Tests.{le-ltb}
+use lib.ListN.{length, getD}
 use lib.Dec.{ltb, eqb}
 use Rattle.lists.specs.Lists.{choose}
-use Rattle.lists.specs.Array.{pad}
 use Rattle.lists.proofs.Array.{take-pad}
 use Rattle.lists.proofs.Choice.{choose-yes, split}
 use Rattle.lists.proofs.Numbers.{Bytes}
@@ -25,7 +24,7 @@ use Rattle.convert.proofs.Forms.{other-in-form, wide-form, old-form-of}
 
 -- the bytes of a record are converted where they fit
 module _ (v w : ℕ) (b : List ℕ) (t : well-formed-by v b ≡ true) (f : has-form w (rec-of-by v b) ≡ true) (r : ℕ) (l : size-by w (rec-of-by v b) ≤ r) where
-  accepts : answer v w b r ≡ 0
+  pub accepts : answer v w b r ≡ 0
   unfolding choose
   accepts = answer-well v w b t r ∙ rw (f, le-ltb r (size-by w (rec-of-by v b)) l)
 

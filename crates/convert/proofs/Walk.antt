@@ -2,7 +2,7 @@
 -- Assumes nothing.
 use Prim.Native.Nat.{ℕ, zero, suc, _+_, _*_, _-_, _≤_, _<_}
 use mathlib.Core.Path.{_≡_, refl, sym, ap, _∙_}
-use mathlib.Core.Bool.{Bool, true, false}
+use mathlib.Core.Bool.{false}
 use mathlib.Core.List.{List, [], _∷_, _++_, append-assoc, append-nil}
 use native.Mathlib.Nat.{not-suc-le-zero, le-of-suc-le-suc, add-assoc, zero-add}
 use native.Mathlib.Omega.{arith}
@@ -10,7 +10,7 @@ use borrow.Author.Tests.{lt-ltb, le-ltb, leb-true, leb-false, eq-eqb, ne-eqb}
 use borrow.Rule.Slice.PartMut.{putMid}
 use lib.ListN.{length, take, drop, length-drop, length-append}
 use lib.Seq.{take-all, take-length, take-at, length-take-le, drop-at, drop-length, drop-drop}
-use lib.Dec.{leb, ltb, eqb}
+use lib.Dec.{leb, ltb}
 use Rattle.lists.specs.Lists.{choose, null}
 use Rattle.lists.specs.Array.{pad}
 use Rattle.lists.specs.Bytes.{read-le}
@@ -30,7 +30,7 @@ module _ (v : ℕ) (b : List ℕ) where
   first-short l = choose-yes _ _ _ (lt-ltb (length b) (header-length-by v) l)
 
   module _ (l : header-length-by v ≤ length b) where
-    first-long : first v b ≡ take (read-le 2 b (6 + 2 * v)) b
+    pub first-long : first v b ≡ take (read-le 2 b (6 + 2 * v)) b
     unfolding first
     first-long = choose-no _ _ _ (le-ltb (length b) (header-length-by v) l)
 
@@ -46,7 +46,7 @@ part-again s b =
     split (leb s (length b)) (λ y. ap (λ (k : ℕ). take k b) (length-take-le s b (leb-true s (length b) y)))
     (λ n. let e : take s b ≡ b = take-all s b (omega (arith, leb-false s (length b) n)) in rw e (take-length b))
 
-first-part : (v : ℕ) (b : List ℕ) → take (length (first v b)) b ≡ first v b
+pub first-part : (v : ℕ) (b : List ℕ) → take (length (first v b)) b ≡ first v b
 unfolding first
 first-part v b =
     by-choice (λ (f : List ℕ). take (length f) b ≡ f) (ltb (length b) (header-length-by v)) (λ _. take-length b) (λ _. part-again (read-le 2 b (6 + 2 * v)) b)

@@ -1,14 +1,12 @@
 -- What remains: the records from place `from` on, into the room from place `to` on. The measure is the bytes that are left.
-use Prim.Native.Nat.{ℕ, _+_, _-_, _≤_, _<_}
-use mathlib.Core.Path.{_≡_, ap, subst, _∙_}
+use Prim.Native.Nat.{ℕ, _-_, _≤_}
+use mathlib.Core.Path.{_≡_, ap, _∙_}
 use mathlib.Core.List.{List, []}
 use native.Mathlib.Omega.{arith}
-use lib.ListN.{length, take, drop}
-use borrow.Rule.Slice.PartMut.{putMid}
+use lib.ListN.{length}
 use Rattle.lists.specs.Array.{pad}
 use Rattle.lists.proofs.Array.{length-pad}
-use Rattle.convert.specs.Convert.{placed, outcome-of}
-use Rattle.convert.specs.Walk.{first, walked, Outcomes, outcomes}
+use Rattle.convert.specs.Walk.{walked, Outcomes, outcomes}
 use Rattle.convert.proofs.Walk.{Walking, walking-start, walking-len, walking-end, walking-top, walking-stop, walking-less, walking-next}
 use borrow.Author.Needs.{needs}
 use Rattle.convert.proofs.convert_all.Statement.{statement}

@@ -3,7 +3,7 @@ use mathlib.Core.Path.{_≡_, sym, ap, _∙_}
 use mathlib.Core.List.{List}
 use native.Mathlib.Omega.{arith}
 use lib.ListN.{length}
-use Rattle.record.specs.Format.{header-length-by, place-by}
+use Rattle.record.specs.Format.{place-by}
 use Rattle.record.specs.Read.{header-of-by}
 use Rattle.record.specs.declared.Header.{Header}
 use Rattle.convert.specs.Walk.{first}

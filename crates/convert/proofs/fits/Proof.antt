@@ -4,7 +4,6 @@ use mathlib.Core.Bool.{true}
 use lib.Dec.{ltb}
 use borrow.Author.Tests.{lt-ltb}
 use Rattle.record.specs.Format.{IsForm, old-length}
-use borrow.Author.Needs.{needs}
 use Rattle.convert.proofs.fits.Statement.{statement}
 use Rattle.convert.proofs.fits.Tie as tie
 
