@@ -28,7 +28,7 @@ use Rattle.record.proofs.Laws.{well-formed-long, entries-reach}
 use Rattle.record.proofs.Back.{parts, all-back}
 use Rattle.record.proofs.Forth.{count-most}
 use Rattle.record.proofs.Nodes.{EntryIn, entry-in}
-use Rattle.convert.specs.Convert.{ids-fit, has-form, answer, Outcome, outcome, converted, conversion, placed, outcome-of, tail-bytes, header-bytes, entry-bytes, moved, resized}
+use Rattle.convert.specs.Convert.{ids-fit, has-form, conversion-code, Conversion, outcome, converted, conversion, placed, outcome-of, tail-bytes, header-fields, entry-fields, moved-entry, resized}
 
 offset-by : (t : Bool) (x : List ℕ) (at : ℕ) → offset (choose t none (some x)) at ≡ choose t 0 at
 unfolding offset choose
@@ -64,15 +64,15 @@ module _ (v w : ℕ) (b : List ℕ) (t : well-formed-by v b ≡ true) where
   n = header-of-by v b .nodes
 
   -- the i-th entry with its data at another place
-  pub entry-moved : (i at : ℕ) → i < n → entry-by w (node-at-by v b i) at ≡ entry-bytes w (moved (entry-at-by v b i) at)
-  unfolding entry-by entry-bytes moved node-at-by data-at
+  pub entry-moved : (i at : ℕ) → i < n → entry-by w (node-at-by v b i) at ≡ entry-fields w (moved-entry (entry-at-by v b i) at)
+  unfolding entry-by entry-fields moved-entry node-at-by data-at
   entry-moved i at l =
       let e : Entry = entry-at-by v b i in
       λ j. le w (e .id) ++ (le 2 (offset-by (eqb (e .present) 0) (slice (e .offset) (e .offset + e .len) b) at j) ++ (length-data v b t i l j ∷ entry-in v b t i l .there j ∷ []))
 
   -- what is answered where the reader answers nothing
-  pub answer-well : (r : ℕ) → answer v w b r ≡ choose (not (has-form w (rec-of-by v b))) 19 (choose (ltb r (size-by w (rec-of-by v b))) 9 0)
-  unfolding answer choose header-of-by
+  pub answer-well : (r : ℕ) → conversion-code v w b r ≡ choose (not (has-form w (rec-of-by v b))) 19 (choose (ltb r (size-by w (rec-of-by v b))) 9 0)
+  unfolding conversion-code choose header-of-by
   answer-well r = rw (le-ltb (length b) (header-length-by v) (well-formed-long v b t), le-ltb 32 (getD b 3 0) (few v b t), t)
 
   module _ (ok : Bytes b) where
@@ -80,8 +80,8 @@ module _ (v w : ℕ) (b : List ℕ) (t : well-formed-by v b ≡ true) where
     unfolding size-by rec-of-by
     size-other = rw (all-back v b ok t .count) (omega (arith, all-back v b ok t .reach))
 
-    header-other : header-by w (rec-of-by v b) ≡ header-bytes w (resized (header-of-by v b) (size-by w (rec-of-by v b)))
-    unfolding header-by header-bytes tail-bytes rec-of-by
+    header-other : header-by w (rec-of-by v b) ≡ header-fields w (resized (header-of-by v b) (size-by w (rec-of-by v b)))
+    unfolding header-by header-fields tail-bytes rec-of-by
     header-other =
         let h : Header = header-of-by v b in
         λ j. h .kind ∷ h .message ∷ h .flags ∷ all-back v b ok t .count j
@@ -100,7 +100,7 @@ module _ (v w : ℕ) (b : List ℕ) (t : well-formed-by v b ≡ true) where
     datas-other = all-back v b ok t .datas-are ∙ ap (drop (place-by v n)) (take-length b)
 
     -- the three parts of the record, one after the other
-    pub written : (out o₁ o₂ o₃ : List ℕ) → o₁ ≡ overwrite out 0 (header-bytes w (resized (header-of-by v b) (size-by w (rec-of-by v b))))
+    pub written : (out o₁ o₂ o₃ : List ℕ) → o₁ ≡ overwrite out 0 (header-fields w (resized (header-of-by v b) (size-by w (rec-of-by v b))))
         → o₂ ≡ overwrite o₁ (header-length-by w) (entries-by w (nodes-of-by v b 0 n) (place-by w n)) → o₃ ≡ overwrite o₂ (place-by w n) (drop (place-by v n) b)
         → o₃ ≡ overwrite out 0 (encode-by w (rec-of-by v b))
     unfolding encode-by
@@ -125,30 +125,30 @@ module _ (v w : ℕ) (b : List ℕ) (t : well-formed-by v b ≡ true) where
         unfolding has-form rec-of-by
         form-is = rw (p₁, p₂, p₃, size-is, q)
 
-        pub full : (f₁ && (f₂ && (f₃ && ltb size 65536))) ≡ true → r < size → 9 ≡ answer v w b r
+        pub full : (f₁ && (f₂ && (f₃ && ltb size 65536))) ≡ true → r < size → 9 ≡ conversion-code v w b r
         unfolding choose
         full y l = sym (answer-well r ∙ rw (form-is, y, lt-ltb r (size-by w (rec-of-by v b)) (omega (arith, size-is))))
 
-        pub done : (f₁ && (f₂ && (f₃ && ltb size 65536))) ≡ true → size ≤ r → 0 ≡ answer v w b r
+        pub done : (f₁ && (f₂ && (f₃ && ltb size 65536))) ≡ true → size ≤ r → 0 ≡ conversion-code v w b r
         unfolding choose
         done y l = sym (answer-well r ∙ rw (form-is, y, le-ltb r (size-by w (rec-of-by v b)) (omega (arith, size-is))))
 
-        pub none-such : (f₁ && (f₂ && (f₃ && ltb size 65536))) ≡ false → 19 ≡ answer v w b r
+        pub none-such : (f₁ && (f₂ && (f₃ && ltb size 65536))) ≡ false → 19 ≡ conversion-code v w b r
         unfolding choose
         none-such y = sym (answer-well r ∙ rw (form-is, y))
 
 module _ (v w : ℕ) (b : List ℕ) (r at : ℕ) (e : at ≡ place-by v 0) where
-  pub short-answer : length b < at → 3 ≡ answer v w b r
-  unfolding answer choose
+  pub short-answer : length b < at → 3 ≡ conversion-code v w b r
+  unfolding conversion-code choose
   short-answer l = rw (lt-ltb (length b) (header-length-by v) (omega (arith, e)))
 
   module _ (l : at ≤ length b) where
-    pub crowded-answer : 32 < getD b 3 0 → 4 ≡ answer v w b r
-    unfolding answer choose
+    pub crowded-answer : 32 < getD b 3 0 → 4 ≡ conversion-code v w b r
+    unfolding conversion-code choose
     crowded-answer k = rw (le-ltb (length b) (header-length-by v) (omega (arith, e)), lt-ltb 32 (getD b 3 0) k)
 
-    pub bad-answer : (t : Bool) → getD b 3 0 ≤ 32 → t ≡ well-formed-by v b → t ≡ false → 3 ≡ answer v w b r
-    unfolding answer choose
+    pub bad-answer : (t : Bool) → getD b 3 0 ≤ 32 → t ≡ well-formed-by v b → t ≡ false → 3 ≡ conversion-code v w b r
+    unfolding conversion-code choose
     bad-answer t k p n = rw (le-ltb (length b) (header-length-by v) (omega (arith, e)), le-ltb 32 (getD b 3 0) k, ← p, n)
 
 -- ---- what an answer of 0 says
@@ -167,8 +167,8 @@ pub record Accepted (v w : ℕ) (b : List ℕ) (r : ℕ) : Type 0 where
   pub form : has-form w (rec-of-by v b) ≡ true
   pub fits : size-by w (rec-of-by v b) ≤ r
 
-pub accepted : (v w : ℕ) (b : List ℕ) (r : ℕ) → answer v w b r ≡ 0 → Accepted v w b r
-unfolding answer
+pub accepted : (v w : ℕ) (b : List ℕ) (r : ℕ) → conversion-code v w b r ≡ 0 → Accepted v w b r
+unfolding conversion-code
 accepted v w b r e =
     let a = accepted-by (ltb (length b) (header-length-by v)) (ltb 32 (getD b 3 0)) (well-formed-by v b) (has-form w (rec-of-by v b)) (ltb r (size-by w (rec-of-by v b))) e in
     record { well = a .0; form = a .1 .0; fits = ltb-false _ _ (a .1 .1) }
@@ -199,22 +199,22 @@ stored n bs h = overwrite-is (pad 0 n []) 0 bs (omega (arith, h, length-pad {A =
 pub converted-fits : (v w : ℕ) (b : List ℕ) (r : ℕ) → length (converted v w b r) ≤ r
 unfolding converted
 converted-fits v w b r =
-    by-choice (λ (bs : List ℕ). length bs ≤ r) (eqb (answer v w b r) 0)
+    by-choice (λ (bs : List ℕ). length bs ≤ r) (eqb (conversion-code v w b r) 0)
     (λ y. omega (arith, length-encode-by w (rec-of-by v b), accepted v w b r (eqb-true _ _ y) .fits)) (λ n. omega arith)
 
 -- onto zeroes
-pub placed-zeroes : (v w : ℕ) (b out : List ℕ) (r : ℕ) (x : Outcome) → out ≡ pad 0 r [] → x ≡ placed v w b out → x ≡ conversion v w b r
+pub placed-zeroes : (v w : ℕ) (b out : List ℕ) (r : ℕ) (x : Conversion) → out ≡ pad 0 r [] → x ≡ placed v w b out → x ≡ conversion v w b r
 unfolding placed conversion outcome
 placed-zeroes v w b out r x q e =
     let n : length out ≡ r = ap length q ∙ length-pad {A = ℕ} 0 r [] in
     e ∙ (λ j. record {
-      code = answer v w b (n j);
+      code = conversion-code v w b (n j);
       written = length (converted v w b (n j));
       output = overwrite (q j) 0 (converted v w b (n j));
     })
-    ∙ ap (λ (o : List ℕ). record { code = answer v w b r; written = length (converted v w b r); output = o }) (stored r (converted v w b r) (converted-fits v w b r))
+    ∙ ap (λ (o : List ℕ). record { code = conversion-code v w b r; written = length (converted v w b r); output = o }) (stored r (converted v w b r) (converted-fits v w b r))
 
-module _ (v w : ℕ) (b out : List ℕ) (code : ℕ) (p : code ≡ answer v w b (length out)) where
+module _ (v w : ℕ) (b out : List ℕ) (code : ℕ) (p : code ≡ conversion-code v w b (length out)) where
   pub refused-placed : (code ≡ 0 → ⊥) → outcome-of (record { code = code; written = 0 }) out ≡ placed v w b out
   unfolding placed converted choose overwrite
   refused-placed n = rw (← p, ne-eqb code 0 n)
@@ -223,6 +223,6 @@ module _ (v w : ℕ) (b out : List ℕ) (code : ℕ) (p : code ≡ answer v w b 
       → outcome-of (record { code = 0; written = h .size }) o ≡ placed v w b out
   unfolding placed converted choose
   done-placed h o z d s =
-      let a : answer v w b (length out) ≡ 0 = sym p ∙ z in
+      let a : conversion-code v w b (length out) ≡ 0 = sym p ∙ z in
       let n : h .size ≡ length (encode-by w (rec-of-by v b)) = ap (λ (y : Header). y .size) d ∙ sym (length-encode-by w (rec-of-by v b)) in
       rw (a, n, s)

@@ -12,19 +12,19 @@ use Rattle.lists.specs.Lists.{choose}
 use Rattle.lists.proofs.Array.{take-pad}
 use Rattle.lists.proofs.Choice.{choose-yes, split}
 use Rattle.lists.proofs.Numbers.{Bytes}
-use Rattle.record.specs.Format.{Rec, peer-length, old-length, header-length-by, size-by, encode-by}
+use Rattle.record.specs.Format.{Rec, peer-length, old-peer-length, header-length-by, size-by, encode-by}
 use Rattle.record.specs.Read.{well-formed-by, rec-of-by}
 use Rattle.record.specs.InForm.{InFormBy}
 use Rattle.record.proofs.Format.{length-encode-by}
 use Rattle.record.proofs.Back.{encode-back, in-form-back}
 use Rattle.record.proofs.Forth.{well-formed-encode-by, rec-of-encode-by}
-use Rattle.convert.specs.Convert.{has-form, answer, outcome, converted, conversion, bytes-in, large}
+use Rattle.convert.specs.Convert.{has-form, conversion-code, outcome, converted, conversion, bytes-in, large}
 use Rattle.convert.proofs.Laws.{answer-well}
 use Rattle.convert.proofs.Forms.{other-in-form, wide-form, old-form-of}
 
 -- the bytes of a record are converted where they fit
 module _ (v w : ℕ) (b : List ℕ) (t : well-formed-by v b ≡ true) (f : has-form w (rec-of-by v b) ≡ true) (r : ℕ) (l : size-by w (rec-of-by v b) ≤ r) where
-  pub accepts : answer v w b r ≡ 0
+  pub accepts : conversion-code v w b r ≡ 0
   unfolding choose
   accepts = answer-well v w b t r ∙ rw (f, le-ltb r (size-by w (rec-of-by v b)) l)
 
@@ -71,25 +71,25 @@ module _ (v w : ℕ) (p : v ≤ peer-length) (q : w ≤ peer-length) (b : List �
 
 module _ (b : List ℕ) (ok : Bytes b) where
   -- every old record has a form of today
-  pub new-form-of-old : well-formed-by old-length b ≡ true → has-form peer-length (rec-of-by old-length b) ≡ true
-  new-form-of-old t = wide-form old-length peer-length (rec-of-by old-length b) (omega arith) (omega arith) (in-form-back old-length b ok t)
+  pub new-form-of-old : well-formed-by old-peer-length b ≡ true → has-form peer-length (rec-of-by old-peer-length b) ≡ true
+  new-form-of-old t = wide-form old-peer-length peer-length (rec-of-by old-peer-length b) (omega arith) (omega arith) (in-form-back old-peer-length b ok t)
 
   -- "A conversion of old records .. back again gives the old bytes."
-  pub old-new-old : well-formed-by old-length b ≡ true → encode-by old-length (rec-of-by peer-length (encode-by peer-length (rec-of-by old-length b))) ≡ b
-  old-new-old t = back old-length peer-length (omega arith) (omega arith) b ok t (new-form-of-old t)
+  pub old-new-old : well-formed-by old-peer-length b ≡ true → encode-by old-peer-length (rec-of-by peer-length (encode-by peer-length (rec-of-by old-peer-length b))) ≡ b
+  old-new-old t = back old-peer-length peer-length (omega arith) (omega arith) b ok t (new-form-of-old t)
 
-  pub old-new-old-outcome : well-formed-by old-length b ≡ true → (r s : ℕ) → size-by peer-length (rec-of-by old-length b) ≤ r → length b ≤ s
-      → conversion peer-length old-length (bytes-in (conversion old-length peer-length b r)) s ≡ outcome 0 b s
-  old-new-old-outcome t = there-and-back old-length peer-length (omega arith) (omega arith) b ok t (new-form-of-old t)
+  pub old-new-old-outcome : well-formed-by old-peer-length b ≡ true → (r s : ℕ) → size-by peer-length (rec-of-by old-peer-length b) ≤ r → length b ≤ s
+      → conversion peer-length old-peer-length (bytes-in (conversion old-peer-length peer-length b r)) s ≡ outcome 0 b s
+  old-new-old-outcome t = there-and-back old-peer-length peer-length (omega arith) (omega arith) b ok t (new-form-of-old t)
 
   -- "A new record goes to the old form and back unchanged.", where it has one
-  pub new-old-new : well-formed-by peer-length b ≡ true → has-form old-length (rec-of-by peer-length b) ≡ true
-      → encode-by peer-length (rec-of-by old-length (encode-by old-length (rec-of-by peer-length b))) ≡ b
-  new-old-new t f = back peer-length old-length (omega arith) (omega arith) b ok t f
+  pub new-old-new : well-formed-by peer-length b ≡ true → has-form old-peer-length (rec-of-by peer-length b) ≡ true
+      → encode-by peer-length (rec-of-by old-peer-length (encode-by old-peer-length (rec-of-by peer-length b))) ≡ b
+  new-old-new t f = back peer-length old-peer-length (omega arith) (omega arith) b ok t f
 
-  pub new-old-new-outcome : well-formed-by peer-length b ≡ true → has-form old-length (rec-of-by peer-length b) ≡ true → (r s : ℕ) → size-by old-length (rec-of-by peer-length b) ≤ r → length b ≤ s
-      → conversion old-length peer-length (bytes-in (conversion peer-length old-length b r)) s ≡ outcome 0 b s
-  new-old-new-outcome t f = there-and-back peer-length old-length (omega arith) (omega arith) b ok t f
+  pub new-old-new-outcome : well-formed-by peer-length b ≡ true → has-form old-peer-length (rec-of-by peer-length b) ≡ true → (r s : ℕ) → size-by old-peer-length (rec-of-by peer-length b) ≤ r → length b ≤ s
+      → conversion old-peer-length peer-length (bytes-in (conversion peer-length old-peer-length b r)) s ≡ outcome 0 b s
+  new-old-new-outcome t f = there-and-back peer-length old-peer-length (omega arith) (omega arith) b ok t f
 
 -- ---- 19
 
@@ -106,26 +106,26 @@ by-form true false = refl
 by-form false t = refl
 
 -- bytes that are no record are answered by the reader
-malformed : (v w : ℕ) (b : List ℕ) (r : ℕ) → well-formed-by v b ≡ false → eqb (answer v w b r) 19 ≡ false
-unfolding answer
+malformed : (v w : ℕ) (b : List ℕ) (r : ℕ) → well-formed-by v b ≡ false → eqb (conversion-code v w b r) 19 ≡ false
+unfolding conversion-code
 malformed v w b r n =
     rw n
     (by-reader (ltb (length b) (header-length-by v)) (ltb 32 (getD b 3 0)) (choose (not (has-form w (rec-of-by v b))) 19 (choose (ltb r (size-by w (rec-of-by v b))) 9 0)))
 
 -- 19 is the answer to the records that have no other form, and to nothing else
-pub nineteen : (v w : ℕ) (b : List ℕ) (r : ℕ) → eqb (answer v w b r) 19 ≡ (well-formed-by v b && not (has-form w (rec-of-by v b)))
+pub nineteen : (v w : ℕ) (b : List ℕ) (r : ℕ) → eqb (conversion-code v w b r) 19 ≡ (well-formed-by v b && not (has-form w (rec-of-by v b)))
 nineteen v w b r =
     split (well-formed-by v b) (λ t. rw (answer-well v w b t r, t) (by-form (has-form w (rec-of-by v b)) (ltb r (size-by w (rec-of-by v b))))) (λ n. malformed v w b r n ∙ rw n)
 
 -- an old record is never answered 19
-pub never-nineteen : (b : List ℕ) → Bytes b → (r : ℕ) → eqb (answer old-length peer-length b r) 19 ≡ false
+pub never-nineteen : (b : List ℕ) → Bytes b → (r : ℕ) → eqb (conversion-code old-peer-length peer-length b r) 19 ≡ false
 never-nineteen b ok r =
-    nineteen old-length peer-length b r ∙ split (well-formed-by old-length b) (λ t. rw (t, new-form-of-old b ok t)) (λ n. rw n)
+    nineteen old-peer-length peer-length b r ∙ split (well-formed-by old-peer-length b) (λ t. rw (t, new-form-of-old b ok t)) (λ n. rw n)
 
 -- a record of today is, exactly where its peer, second field or a node's id has 2^32 or more
-pub exactly-nineteen : (b : List ℕ) → Bytes b → (r : ℕ) → eqb (answer peer-length old-length b r) 19 ≡ (well-formed-by peer-length b && large (rec-of-by peer-length b))
+pub exactly-nineteen : (b : List ℕ) → Bytes b → (r : ℕ) → eqb (conversion-code peer-length old-peer-length b r) 19 ≡ (well-formed-by peer-length b && large (rec-of-by peer-length b))
 exactly-nineteen b ok r =
-    nineteen peer-length old-length b r
+    nineteen peer-length old-peer-length b r
     ∙ split (well-formed-by peer-length b) (λ t. rw (t, old-form-of (rec-of-by peer-length b) (in-form-back peer-length b ok t)) (twice (large (rec-of-by peer-length b)))) (λ n. rw n)
   where
     twice : (a : Bool) → not (not a) ≡ a

@@ -17,27 +17,27 @@ use Rattle.lists.specs.Bytes.{read-le}
 use Rattle.lists.proofs.Array.{length-pad}
 use Rattle.lists.proofs.Choice.{by-choice, choose-yes, choose-no, split}
 use Rattle.record.specs.Format.{header-length-by}
-use Rattle.convert.specs.Convert.{answer, Outcome, outcome, converted, conversion, placed, outcome-of}
-use Rattle.convert.specs.Walk.{first, Walked, behind, stopped, walk, walked, outcomes, outcomes-of}
+use Rattle.convert.specs.Convert.{conversion-code, Conversion, outcome, converted, conversion, placed, outcome-of}
+use Rattle.convert.specs.Walk.{first-record, Walked, behind, stopped, converting, walked, outcomes, outcomes-of}
 use Rattle.record.proofs.Laws.{well-formed-long}
 use Rattle.convert.proofs.Laws.{Accepted, accepted, converted-fits, placed-zeroes}
 
 -- ---- the first record
 
 module _ (v : ℕ) (b : List ℕ) where
-  pub first-short : length b < header-length-by v → first v b ≡ b
-  unfolding first
+  pub first-short : length b < header-length-by v → first-record v b ≡ b
+  unfolding first-record
   first-short l = choose-yes _ _ _ (lt-ltb (length b) (header-length-by v) l)
 
   module _ (l : header-length-by v ≤ length b) where
-    pub first-long : first v b ≡ take (read-le 2 b (6 + 2 * v)) b
-    unfolding first
+    pub first-long : first-record v b ≡ take (read-le 2 b (6 + 2 * v)) b
+    unfolding first-record
     first-long = choose-no _ _ _ (le-ltb (length b) (header-length-by v) l)
 
-    pub first-cut : length b < read-le 2 b (6 + 2 * v) → first v b ≡ b
+    pub first-cut : length b < read-le 2 b (6 + 2 * v) → first-record v b ≡ b
     first-cut k = first-long ∙ take-all (read-le 2 b (6 + 2 * v)) b (omega arith)
 
-    pub first-whole : read-le 2 b (6 + 2 * v) ≤ length b → length (first v b) ≡ read-le 2 b (6 + 2 * v)
+    pub first-whole : read-le 2 b (6 + 2 * v) ≤ length b → length (first-record v b) ≡ read-le 2 b (6 + 2 * v)
     first-whole k = ap length first-long ∙ length-take-le (read-le 2 b (6 + 2 * v)) b k
 
 -- the part of b that the code cuts
@@ -46,8 +46,8 @@ part-again s b =
     split (leb s (length b)) (λ y. ap (λ (k : ℕ). take k b) (length-take-le s b (leb-true s (length b) y)))
     (λ n. let e : take s b ≡ b = take-all s b (omega (arith, leb-false s (length b) n)) in rw e (take-length b))
 
-pub first-part : (v : ℕ) (b : List ℕ) → take (length (first v b)) b ≡ first v b
-unfolding first
+pub first-part : (v : ℕ) (b : List ℕ) → take (length (first-record v b)) b ≡ first-record v b
+unfolding first-record
 first-part v b =
     by-choice (λ (f : List ℕ). take (length f) b ≡ f) (ltb (length b) (header-length-by v)) (λ _. take-length b) (λ _. part-again (read-le 2 b (6 + 2 * v)) b)
 
@@ -59,17 +59,17 @@ null-some [] h = absurd (not-suc-le-zero h)
 null-some (x ∷ c) h = refl
 
 module _ (v w n : ℕ) (c : List ℕ) (r : ℕ) (some : 0 < length c) where
-  pub walk-on : answer v w (first v c) r ≡ 0
-      → walk v w (suc n) c r ≡ behind (length (first v c)) (converted v w (first v c) r) (walk v w n (drop (length (first v c)) c) (r - length (converted v w (first v c) r)))
-  unfolding walk
-  walk-on e = choose-no _ _ _ (null-some c some) ∙ choose-yes _ _ _ (eq-eqb (answer v w (first v c) r) 0 e)
+  pub walk-on : conversion-code v w (first-record v c) r ≡ 0
+      → converting v w (suc n) c r ≡ behind (length (first-record v c)) (converted v w (first-record v c) r) (converting v w n (drop (length (first-record v c)) c) (r - length (converted v w (first-record v c) r)))
+  unfolding converting
+  walk-on e = choose-no _ _ _ (null-some c some) ∙ choose-yes _ _ _ (eq-eqb (conversion-code v w (first-record v c) r) 0 e)
 
-  pub walk-stop : (answer v w (first v c) r ≡ 0 → ⊥) → walk v w (suc n) c r ≡ stopped (answer v w (first v c) r)
-  unfolding walk
-  walk-stop e = choose-no _ _ _ (null-some c some) ∙ choose-no _ _ _ (ne-eqb (answer v w (first v c) r) 0 e)
+  pub walk-stop : (conversion-code v w (first-record v c) r ≡ 0 → ⊥) → converting v w (suc n) c r ≡ stopped (conversion-code v w (first-record v c) r)
+  unfolding converting
+  walk-stop e = choose-no _ _ _ (null-some c some) ∙ choose-no _ _ _ (ne-eqb (conversion-code v w (first-record v c) r) 0 e)
 
-pub walk-end : (v w n : ℕ) (r : ℕ) → walk v w n [] r ≡ stopped 0
-unfolding walk null choose
+pub walk-end : (v w n : ℕ) (r : ℕ) → converting v w n [] r ≡ stopped 0
+unfolding converting null choose
 walk-end v w zero r = refl
 walk-end v w (suc n) r = refl
 
@@ -124,7 +124,7 @@ pub record Walking (v w : ℕ) (b : List ℕ) (room : ℕ) (out : List ℕ) (fro
   pub is : out ≡ pad 0 room done
   pub left : ℕ
   pub enough : length b ≤ from + left
-  pub same : walked v w b room ≡ behind from done (walk v w left (drop from b) (room - to))
+  pub same : walked v w b room ≡ behind from done (converting v w left (drop from b) (room - to))
 
 pub walking-start : (v w : ℕ) (b : List ℕ) (room : ℕ) (out : List ℕ) → out ≡ pad 0 room [] → Walking v w b room out 0 0
 unfolding walked behind
@@ -139,9 +139,9 @@ walking-start v w b room out e =
       left = length b;
       enough = omega arith;
       same = rw z (λ j. record {
-        code = walk v w (length b) b room .code;
-        taken = sym (zero-add (walk v w (length b) b room .taken)) j;
-        bytes = walk v w (length b) b room .bytes;
+        code = converting v w (length b) b room .code;
+        taken = sym (zero-add (converting v w (length b) b room .taken)) j;
+        bytes = converting v w (length b) b room .bytes;
       });
     }
 
@@ -149,12 +149,12 @@ module _ (v w : ℕ) (b : List ℕ) (room : ℕ) (out : List ℕ) (from to : ℕ
   pub walking-len : length out ≡ room
   walking-len = len room to (u .done) out (u .long) (u .top) (u .is)
 
-  at-end : (n : ℕ) → length b ≤ from → walk v w n (drop from b) (room - to) ≡ stopped 0
+  at-end : (n : ℕ) → length b ≤ from → converting v w n (drop from b) (room - to) ≡ stopped 0
   at-end n l =
       let e : from ≡ length b = omega (arith, u .low) in
-      ap (λ (c : List ℕ). walk v w n c (room - to)) (ap (λ (k : ℕ). drop k b) e ∙ drop-length b) ∙ walk-end v w n (room - to)
+      ap (λ (c : List ℕ). converting v w n c (room - to)) (ap (λ (k : ℕ). drop k b) e ∙ drop-length b) ∙ walk-end v w n (room - to)
 
-  stops : (code : ℕ) → walk v w (u .left) (drop from b) (room - to) ≡ stopped code → outcomes-of (record { code = code; taken = from; written = to }) (pad 0 room (u .done)) ≡ outcomes (walked v w b room) room
+  stops : (code : ℕ) → converting v w (u .left) (drop from b) (room - to) ≡ stopped code → outcomes-of (record { code = code; taken = from; written = to }) (pad 0 room (u .done)) ≡ outcomes (walked v w b room) room
   unfolding outcomes behind
   stops code e =
       let q : walked v w b room ≡ behind from (u .done) (stopped code) = u .same ∙ ap (behind from (u .done)) e in
@@ -164,7 +164,7 @@ module _ (v w : ℕ) (b : List ℕ) (room : ℕ) (out : List ℕ) (from to : ℕ
   pub walking-end : length b ≤ from → outcomes-of (record { code = 0; taken = from; written = to }) out ≡ outcomes (walked v w b room) room
   walking-end l = ap (λ (o : List ℕ). outcomes-of (record { code = 0; taken = from; written = to }) o) (u .is) ∙ stops 0 (at-end (u .left) l)
 
-  module _ (more : from < length b) (k : ℕ) (ke : k ≡ length (first v (take (length b - from) (drop from b)))) (code written : ℕ) (part : List ℕ)
+  module _ (more : from < length b) (k : ℕ) (ke : k ≡ length (first-record v (take (length b - from) (drop from b)))) (code written : ℕ) (part : List ℕ)
       (x : outcome-of (record { code = code; written = written }) part ≡ placed v w (take (from + k - from) (drop from b)) (take (length out - to) (drop to out))) where
     abbrev c : List ℕ
     c = drop from b
@@ -175,28 +175,28 @@ module _ (v w : ℕ) (b : List ℕ) (room : ℕ) (out : List ℕ) (from to : ℕ
     all : take (length b - from) c ≡ c
     all = take-all (length b - from) c (simp length-drop (omega arith))
 
-    one : take (from + k - from) c ≡ first v c
+    one : take (from + k - from) c ≡ first-record v c
     one =
-        let e : from + k - from ≡ length (first v c) = omega (arith, ke, ap (λ (l : List ℕ). length (first v l)) all) in
+        let e : from + k - from ≡ length (first-record v c) = omega (arith, ke, ap (λ (l : List ℕ). length (first-record v l)) all) in
         ap (λ (n : ℕ). take n c) e ∙ first-part v c
 
-    result : outcome-of (record { code = code; written = written }) part ≡ conversion v w (first v c) r
-    result = placed-zeroes v w (first v c) _ r _ (lent room to (u .done) out (u .long) (u .top) (u .is)) (x ∙ ap (λ (f : List ℕ). placed v w f (take (length out - to) (drop to out))) one)
+    result : outcome-of (record { code = code; written = written }) part ≡ conversion v w (first-record v c) r
+    result = placed-zeroes v w (first-record v c) _ r _ (lent room to (u .done) out (u .long) (u .top) (u .is)) (x ∙ ap (λ (f : List ℕ). placed v w f (take (length out - to) (drop to out))) one)
 
     abbrev bs : List ℕ
-    bs = converted v w (first v c) r
+    bs = converted v w (first-record v c) r
 
-    code-is : code ≡ answer v w (first v c) r
+    code-is : code ≡ conversion-code v w (first-record v c) r
     unfolding conversion outcome
-    code-is = ap (λ (o : Outcome). o .code) result
+    code-is = ap (λ (o : Conversion). o .code) result
 
     written-is : written ≡ length bs
     unfolding conversion outcome
-    written-is = ap (λ (o : Outcome). o .written) result
+    written-is = ap (λ (o : Conversion). o .written) result
 
     part-is : part ≡ pad 0 r bs
     unfolding conversion outcome
-    part-is = ap (λ (o : Outcome). o .output) result
+    part-is = ap (λ (o : Conversion). o .output) result
 
     length-c : length c ≡ length b - from
     length-c = length-drop from b
@@ -206,7 +206,7 @@ module _ (v w : ℕ) (b : List ℕ) (room : ℕ) (out : List ℕ) (from to : ℕ
 
     -- a record was done or not, the place in the output is within it
     pub walking-top : to + written ≤ room
-    walking-top = omega (arith, written-is, converted-fits v w (first v c) r, u .top)
+    walking-top = omega (arith, written-is, converted-fits v w (first-record v c) r, u .top)
 
     one-left : u .left ≡ suc (u .left - 1)
     one-left = omega (arith, u .enough)
@@ -214,26 +214,26 @@ module _ (v w : ℕ) (b : List ℕ) (room : ℕ) (out : List ℕ) (from to : ℕ
     pub walking-stop : (code ≡ 0 → ⊥) → outcomes-of (record { code = code; taken = from; written = to }) (putMid to (length out - to) out part) ≡ outcomes (walked v w b room) room
     unfolding converted
     walking-stop n =
-        let none : bs ≡ [] = choose-no _ _ _ (ne-eqb (answer v w (first v c) r) 0 (λ z. n (code-is ∙ z))) in
+        let none : bs ≡ [] = choose-no _ _ _ (ne-eqb (conversion-code v w (first-record v c) r) 0 (λ z. n (code-is ∙ z))) in
         let o : putMid to (length out - to) out part ≡ pad 0 room (u .done) = lent-back room to (u .done) out (u .long) (u .top) (u .is) part [] (part-is ∙ ap (pad 0 r) none) ∙ ap (pad 0 room) (append-nil (u .done)) in
         ap (λ (l : List ℕ). outcomes-of (record { code = code; taken = from; written = to }) l) o
-        ∙ stops code (ap (λ (m : ℕ). walk v w m c r) one-left ∙ walk-stop v w (u .left - 1) c r some (λ z. n (code-is ∙ z)) ∙ ap stopped (sym code-is))
+        ∙ stops code (ap (λ (m : ℕ). converting v w m c r) one-left ∙ walk-stop v w (u .left - 1) c r some (λ z. n (code-is ∙ z)) ∙ ap stopped (sym code-is))
 
     module _ (z : code ≡ 0) where
-      accept : Accepted v w (first v c) r
-      accept = accepted v w (first v c) r (sym code-is ∙ z)
+      accept : Accepted v w (first-record v c) r
+      accept = accepted v w (first-record v c) r (sym code-is ∙ z)
 
       pub walking-less : length b - (from + k) < length b - from
-      walking-less = omega (arith, ke, ap (λ (l : List ℕ). length (first v l)) all, well-formed-long v (first v c) (accept .well))
+      walking-less = omega (arith, ke, ap (λ (l : List ℕ). length (first-record v l)) all, well-formed-long v (first-record v c) (accept .well))
 
       pub walking-next : k ≤ length (take (length b - from) (drop from b)) → Walking v w b room (putMid to (length out - to) out part) (from + k) (to + written)
       walking-next h =
-          let kc : k ≡ length (first v c) = ke ∙ ap (λ (l : List ℕ). length (first v l)) all in
-          let d : drop (length (first v c)) c ≡ drop (from + k) b = drop-drop (length (first v c)) from b ∙ ap (λ (m : ℕ). drop (from + m) b) (sym kc) in
+          let kc : k ≡ length (first-record v c) = ke ∙ ap (λ (l : List ℕ). length (first-record v l)) all in
+          let d : drop (length (first-record v c)) c ≡ drop (from + k) b = drop-drop (length (first-record v c)) from b ∙ ap (λ (m : ℕ). drop (from + m) b) (sym kc) in
           let left-room : r - length bs ≡ room - (to + written) = omega (arith, written-is) in
-          let on : walk v w (u .left) c r ≡ behind k bs (walk v w (u .left - 1) (drop (from + k) b) (room - (to + written))) =
-          ap (λ (m : ℕ). walk v w m c r) one-left ∙ walk-on v w (u .left - 1) c r some (sym code-is ∙ z)
-          ∙ (λ j. behind (sym kc j) bs (walk v w (u .left - 1) (d j) (left-room j))) in
+          let on : converting v w (u .left) c r ≡ behind k bs (converting v w (u .left - 1) (drop (from + k) b) (room - (to + written))) =
+          ap (λ (m : ℕ). converting v w m c r) one-left ∙ walk-on v w (u .left - 1) c r some (sym code-is ∙ z)
+          ∙ (λ j. behind (sym kc j) bs (converting v w (u .left - 1) (d j) (left-room j))) in
           record {
             low = omega (arith, ap length all, length-c);
             top = walking-top;
@@ -242,5 +242,5 @@ module _ (v w : ℕ) (b : List ℕ) (room : ℕ) (out : List ℕ) (from to : ℕ
             is = lent-back room to (u .done) out (u .long) (u .top) (u .is) part bs part-is;
             left = u .left - 1;
             enough = omega (arith, u .enough, walking-less);
-            same = u .same ∙ ap (behind from (u .done)) on ∙ behind-behind from k (u .done) bs (walk v w (u .left - 1) (drop (from + k) b) (room - (to + written)));
+            same = u .same ∙ ap (behind from (u .done)) on ∙ behind-behind from k (u .done) bs (converting v w (u .left - 1) (drop (from + k) b) (room - (to + written)));
           }

@@ -8,12 +8,12 @@ use Rattle.lists.specs.Lists.{choose, null}
 use Rattle.lists.specs.Array.{pad}
 use Rattle.lists.specs.Bytes.{read-le}
 use Rattle.record.specs.Format.{header-length-by}
-use Rattle.convert.specs.Convert.{answer, converted}
+use Rattle.convert.specs.Convert.{conversion-code, converted}
 use Rattle.convert.specs.declared.Progress.{Progress}
 
 -- the bytes of the first record, by the whole length that it says: all of them where no header fits or the record is cut off
-unfoldable pub first : ℕ → List ℕ → List ℕ
-first v b = choose (ltb (length b) (header-length-by v)) b (take (read-le 2 b (6 + 2 * v)) b)
+unfoldable pub first-record : ℕ → List ℕ → List ℕ
+first-record v b = choose (ltb (length b) (header-length-by v)) b (take (read-le 2 b (6 + 2 * v)) b)
 
 -- the answer, the bytes of the records before it, and the bytes written
 pub record Walked : Type 0 where
@@ -29,16 +29,16 @@ abbrev pub stopped : ℕ → Walked
 stopped code = record { code = code; taken = 0; bytes = [] }
 
 -- each record in order, to the end or to the first that is refused; each takes a byte or more, so that n, the number of bytes, is never used up before
-unfoldable pub walk : ℕ → ℕ → ℕ → List ℕ → ℕ → Walked
-walk v w zero b room = stopped 0
-walk v w (suc n) b room =
+unfoldable pub converting : ℕ → ℕ → ℕ → List ℕ → ℕ → Walked
+converting v w zero b room = stopped 0
+converting v w (suc n) b room =
     choose (null b) (stopped 0)
-    (choose (eqb (answer v w (first v b) room) 0)
-    (behind (length (first v b)) (converted v w (first v b) room)
-    (walk v w n (drop (length (first v b)) b) (room - length (converted v w (first v b) room)))) (stopped (answer v w (first v b) room)))
+    (choose (eqb (conversion-code v w (first-record v b) room) 0)
+    (behind (length (first-record v b)) (converted v w (first-record v b) room)
+    (converting v w n (drop (length (first-record v b)) b) (room - length (converted v w (first-record v b) room)))) (stopped (conversion-code v w (first-record v b) room)))
 
 unfoldable pub walked : ℕ → ℕ → List ℕ → ℕ → Walked
-walked v w b room = walk v w (length b) b room
+walked v w b room = converting v w (length b) b room
 
 -- what the code hands back, and the output that it leaves
 pub record Outcomes : Type 0 where

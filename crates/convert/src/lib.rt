@@ -10,10 +10,10 @@ ghost use lib.ListN.{length, drop};
 ghost use lib.Dec.{ltb};
 ghost use Rattle.lists.specs.Array.{pad};
 ghost use Rattle.lists.specs.Bytes.{le, overwrite};
-ghost use Rattle.record.specs.Format.{IsForm, old-length, peer-length, header-length-by, node-length-by, place-by, entries-by, size-by, encode-by};
+ghost use Rattle.record.specs.Format.{IsForm, old-peer-length, peer-length, header-length-by, node-length-by, place-by, entries-by, size-by, encode-by};
 ghost use Rattle.record.specs.Read.{header-of-by, well-formed-by, nodes-of-by, rec-of-by};
-ghost use Rattle.convert.specs.Convert.{ids-fit, answer, conversion, placed, outcome-of, tail-bytes, header-bytes, entry-bytes, moved, resized};
-ghost use Rattle.convert.specs.Walk.{first, walked, outcomes, outcomes-of};
+ghost use Rattle.convert.specs.Convert.{ids-fit, conversion-code, conversion, placed, outcome-of, tail-bytes, header-fields, entry-fields, moved-entry, resized};
+ghost use Rattle.convert.specs.Walk.{first-record, walked, outcomes, outcomes-of};
 
 // The answer, 0 or a refusal's code, and how many bytes of the output were written.
 pub struct Converted {
@@ -34,18 +34,6 @@ fn clear(out: &mut [u8])
     let mut i: usize = 0;
     while i < out.len() {
         out[i] = 0;
-        i += 1;
-    }
-}
-
-// The bytes bs, from place `at` on.
-fn put_bytes(out: &mut [u8], at: usize, bs: &[u8])
-    requires { ⌜ at + length (now bs) ≤ length (now out) ⌝ }
-    ensures { λ _. ⌜ now (out .exit) ≡ overwrite (now (out .entry)) at (now (bs .entry)) ⌝ }
-{
-    let mut i: usize = 0;
-    while i < bs.len() {
-        out[at + i] = bs[i];
         i += 1;
     }
 }
@@ -78,10 +66,10 @@ fn put_tail(out: &mut [u8], at: usize, h: Header)
 fn put_header(out: &mut [u8], h: Header, w: usize)
     requires { ⌜ IsForm w ⌝ }
     requires { ⌜ header-length-by w ≤ length (now out) ⌝ }
-    ensures { λ _. ⌜ now (out .exit) ≡ overwrite (now (out .entry)) 0 (header-bytes w h) ⌝ }
+    ensures { λ _. ⌜ now (out .exit) ≡ overwrite (now (out .entry)) 0 (header-fields w h) ⌝ }
 {
     let first = [h.kind, h.message, h.flags, h.nodes];
-    put_bytes(out, 0, &first);
+    writer::put_bytes(out, 0, &first);
     put_number(out, 4, h.peer, w);
     put_number(out, 4 + w, h.second, w);
     put_tail(out, 4 + 2 * w, h);
@@ -91,18 +79,18 @@ fn put_header(out: &mut [u8], h: Header, w: usize)
 fn put_entry(out: &mut [u8], at: usize, e: Entry, w: usize)
     requires { ⌜ IsForm w ⌝ }
     requires { ⌜ at + node-length-by w ≤ length (now out) ⌝ }
-    ensures { λ _. ⌜ now (out .exit) ≡ overwrite (now (out .entry)) at (entry-bytes w e) ⌝ }
+    ensures { λ _. ⌜ now (out .exit) ≡ overwrite (now (out .entry)) at (entry-fields w e) ⌝ }
 {
     put_number(out, at, e.id, w);
     put_number(out, at + w, e.offset as u64, 2);
     let last = [e.len, e.present];
-    put_bytes(out, at + (w + 2), &last);
+    writer::put_bytes(out, at + (w + 2), &last);
 }
 
 // An entry whose data stand at the place reached, if it has any.
 fn moved(e: Entry, at: usize) -> Entry
     requires { ⌜ at < 65536 ⌝ }
-    ensures { λ r. ⌜ r ≡ moved e at ⌝ }
+    ensures { λ r. ⌜ r ≡ moved-entry e at ⌝ }
 {
     let offset = if e.present == 0 { 0u16 } else { at as u16 };
     Entry {
@@ -142,7 +130,7 @@ fn put_data(out: &mut [u8], b: &[u8], n: usize, v: usize, w: usize)
     ensures { λ _. ⌜ now (out .exit) ≡ overwrite (now (out .entry)) (place-by w n) (drop (place-by v n) (now (b .entry))) ⌝ }
 {
     let data = record::place(n, v);
-    put_bytes(out, record::place(n, w), &b[data..]);
+    writer::put_bytes(out, record::place(n, w), &b[data..]);
 }
 
 // The whole length in the other form: the data stay as long as they are.
@@ -213,7 +201,7 @@ fn fits(x: u64, w: usize) -> bool
     true
 }
 
-// The ids of all nodes have.
+// The ids of all nodes have w bytes.
 fn ids_fit(b: &[u8], n: usize, v: usize, w: usize) -> bool
     requires { ⌜ IsForm v ⌝ }
     requires { ⌜ IsForm w ⌝ }
@@ -238,7 +226,7 @@ fn other_form(b: &[u8], room: usize, v: usize, w: usize) -> u32
     requires { ⌜ IsForm v ⌝ }
     requires { ⌜ IsForm w ⌝ }
     requires { ⌜ well-formed-by v (now b) ≡ true ⌝ }
-    ensures { λ r. ⌜ r ≡ answer v w (now (b .entry)) room ⌝ }
+    ensures { λ r. ⌜ r ≡ conversion-code v w (now (b .entry)) room ⌝ }
 {
     let h = record::read_header_by(b, v);
     let n = h.nodes as usize;
@@ -256,7 +244,7 @@ fn other_form(b: &[u8], room: usize, v: usize, w: usize) -> u32
 fn answer(b: &[u8], room: usize, v: usize, w: usize) -> u32
     requires { ⌜ IsForm v ⌝ }
     requires { ⌜ IsForm w ⌝ }
-    ensures { λ r. ⌜ r ≡ answer v w (now (b .entry)) room ⌝ }
+    ensures { λ r. ⌜ r ≡ conversion-code v w (now (b .entry)) room ⌝ }
 {
     if b.len() < record::place(0, v) {
         return Refusal::MALFORMED;
@@ -300,14 +288,16 @@ fn convert(b: &[u8], out: &mut [u8], v: usize, w: usize) -> Converted
     put_record(b, out, v, w)
 }
 
+// A record of the old form in this one.
 pub fn old_to_new(b: &[u8], out: &mut [u8]) -> Converted
-    ensures { λ r. ⌜ outcome-of r (now (out .exit)) ≡ conversion old-length peer-length (now (b .entry)) (length (now (out .entry))) ⌝ }
+    ensures { λ r. ⌜ outcome-of r (now (out .exit)) ≡ conversion old-peer-length peer-length (now (b .entry)) (length (now (out .entry))) ⌝ }
 {
     convert(b, out, record::OLD_PEER, record::PEER)
 }
 
+// A record of this form in the old one.
 pub fn new_to_old(b: &[u8], out: &mut [u8]) -> Converted
-    ensures { λ r. ⌜ outcome-of r (now (out .exit)) ≡ conversion peer-length old-length (now (b .entry)) (length (now (out .entry))) ⌝ }
+    ensures { λ r. ⌜ outcome-of r (now (out .exit)) ≡ conversion peer-length old-peer-length (now (b .entry)) (length (now (out .entry))) ⌝ }
 {
     convert(b, out, record::PEER, record::OLD_PEER)
 }
@@ -315,7 +305,7 @@ pub fn new_to_old(b: &[u8], out: &mut [u8]) -> Converted
 // How many bytes the first record has.
 fn first_length(b: &[u8], v: usize) -> usize
     requires { ⌜ IsForm v ⌝ }
-    ensures { λ r. ⌜ (r ≡ length (first v (now (b .entry)))) × (r ≤ length (now (b .entry))) ⌝ }
+    ensures { λ r. ⌜ (r ≡ length (first-record v (now (b .entry)))) × (r ≤ length (now (b .entry))) ⌝ }
 {
     let n = b.len();
     if n < record::place(0, v) {
@@ -360,14 +350,14 @@ fn convert_all(b: &[u8], out: &mut [u8], v: usize, w: usize) -> Progress
 }
 
 pub fn all_to_new(b: &[u8], out: &mut [u8]) -> Progress
-    ensures { λ r. ⌜ outcomes-of r (now (out .exit)) ≡ outcomes (walked old-length peer-length (now (b .entry)) (length (now (out .entry)))) (length (now (out .entry))) ⌝ }
+    ensures { λ r. ⌜ outcomes-of r (now (out .exit)) ≡ outcomes (walked old-peer-length peer-length (now (b .entry)) (length (now (out .entry)))) (length (now (out .entry))) ⌝ }
     ensures { λ r. ⌜ (r .taken ≤ length (now (b .entry))) × (r .written ≤ length (now (out .entry))) ⌝ }
 {
     convert_all(b, out, record::OLD_PEER, record::PEER)
 }
 
 pub fn all_to_old(b: &[u8], out: &mut [u8]) -> Progress
-    ensures { λ r. ⌜ outcomes-of r (now (out .exit)) ≡ outcomes (walked peer-length old-length (now (b .entry)) (length (now (out .entry)))) (length (now (out .entry))) ⌝ }
+    ensures { λ r. ⌜ outcomes-of r (now (out .exit)) ≡ outcomes (walked peer-length old-peer-length (now (b .entry)) (length (now (out .entry)))) (length (now (out .entry))) ⌝ }
     ensures { λ r. ⌜ (r .taken ≤ length (now (b .entry))) × (r .written ≤ length (now (out .entry))) ⌝ }
 {
     convert_all(b, out, record::PEER, record::OLD_PEER)

@@ -51,21 +51,33 @@ fn fill(buffer: &mut [u8], held: usize) -> usize
     held + io::read_full(0, &mut buffer[held..])
 }
 
+// How many bytes were converted, the answer to those behind them, and whether standard output took what was written.
+struct Passed {
+    taken: usize,
+    code: u32,
+    wrote: bool,
+}
+
 // The records of b to standard output, to the first that is refused or is cut off.
-fn pass(b: &[u8], out: &mut [u8], back: bool) -> Progress
+fn pass(b: &[u8], out: &mut [u8], back: bool) -> Passed
     ensures { λ r. ⌜ r .taken ≤ length (now (b .entry)) ⌝ }
 {
     let p = convert_by(b, out, back);
     let size = p.written;
-    io::write_all(1, &out[..size]);
-    p
+    let wrote = io::write_all(1, &out[..size]);
+    Passed {
+        taken: p.taken,
+        code: p.code,
+        wrote: wrote,
+    }
 }
 
-// What a turn leaves: how many bytes are held, how many were converted, and the answer to those that are held.
+// What a turn leaves: how many bytes are held, and what `Passed` says.
 struct Turned {
     held: usize,
     taken: usize,
     code: u32,
+    wrote: bool,
 }
 
 fn turn(buffer: &mut [u8], held: usize, out: &mut [u8], back: bool) -> Turned
@@ -80,6 +92,7 @@ fn turn(buffer: &mut [u8], held: usize, out: &mut [u8], back: bool) -> Turned
         held: n - taken,
         taken: taken,
         code: p.code,
+        wrote: p.wrote,
     }
 }
 
@@ -92,6 +105,10 @@ fn stream(buffer: &mut [u8], out: &mut [u8], back: bool)
     let mut left = TURNS;
     while 0 < left {
         let t = turn(buffer, held, out, back);
+        if !t.wrote {
+            io::write_all(2, b"standard output takes no more\n");
+            return;
+        }
         held = t.held;
         if t.taken == 0 {
             if 0 < held {

@@ -13,13 +13,13 @@ use Rattle.peer.specs.Data.{Data, Node, bytes-of}
 abbrev pub peer-length : ℕ
 peer-length = 8
 
-abbrev pub old-length : ℕ
-old-length = 4
+abbrev pub old-peer-length : ℕ
+old-peer-length = 4
 
 -- w is the bytes of a peer in one of the two forms
 pub record IsForm (w : ℕ) : Type 0 where
   pub most : w ≤ peer-length
-  pub other : (w ≡ old-length → ⊥) → w ≡ peer-length
+  pub other : (w ≡ old-peer-length → ⊥) → w ≡ peer-length
 
 -- the bytes of a header and of a node entry
 abbrev pub header-length-by : ℕ → ℕ

@@ -87,7 +87,7 @@ impl Nodes {
 }
 
 // The bytes bs, from place `at` on.
-fn put_bytes(out: &mut [u8], at: usize, bs: &[u8])
+pub fn put_bytes(out: &mut [u8], at: usize, bs: &[u8])
     requires { ⌜ at + length (now bs) ≤ length (now out) ⌝ }
     ensures { λ _. ⌜ now (out .exit) ≡ overwrite (now (out .entry)) at (now (bs .entry)) ⌝ }
 {

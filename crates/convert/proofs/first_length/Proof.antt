@@ -6,22 +6,22 @@ use lib.ListN.{length}
 use Rattle.record.specs.Format.{place-by}
 use Rattle.record.specs.Read.{header-of-by}
 use Rattle.record.specs.declared.Header.{Header}
-use Rattle.convert.specs.Walk.{first}
+use Rattle.convert.specs.Walk.{first-record}
 use Rattle.convert.proofs.Walk.{first-short, first-cut, first-whole}
 use borrow.Author.Needs.{needs}
 use Rattle.convert.proofs.first_length.Statement.{statement}
 use Rattle.convert.proofs.first_length.Tie as tie
 
 module _ (v : ℕ) (b : List ℕ) (at : ℕ) (e : at ≡ place-by v 0) where
-  short : length b < at → length b ≡ length (first v b)
+  short : length b < at → length b ≡ length (first-record v b)
   short l = ap length (sym (first-short v b (omega (arith, e))))
 
   module _ (l : at ≤ length b) (h : Header) (q : h ≡ header-of-by v b) where
-    cut : length b < h .size → length b ≡ length (first v b)
+    cut : length b < h .size → length b ≡ length (first-record v b)
     unfolding header-of-by
     cut k = ap length (sym (first-cut v b (omega (arith, e)) (omega (arith, ap (λ (x : Header). x .size) q))))
 
-    whole : h .size ≤ length b → h .size ≡ length (first v b)
+    whole : h .size ≤ length b → h .size ≡ length (first-record v b)
     unfolding header-of-by
     whole k = ap (λ (x : Header). x .size) q ∙ sym (first-whole v b (omega (arith, e)) (omega (arith, ap (λ (x : Header). x .size) q)))
 

@@ -3,18 +3,18 @@ use mathlib.Core.Path.{_≡_}
 use borrow.Author.Tests.{eq-eqb, ne-eqb}
 use Rattle.lists.specs.Lists.{choose}
 use Rattle.record.specs.declared.Entry.{Entry}
-use Rattle.convert.specs.Convert.{moved}
+use Rattle.convert.specs.Convert.{moved-entry}
 use borrow.Author.Needs.{needs}
 use Rattle.convert.proofs.moved.Statement.{statement}
 use Rattle.convert.proofs.moved.Tie as tie
 
 module _ (e : Entry) (at : ℕ) where
-  absent : e .present ≡ 0 → record { id = e .id; offset = 0; len = e .len; present = e .present } ≡ moved e at
-  unfolding moved choose
+  absent : e .present ≡ 0 → record { id = e .id; offset = 0; len = e .len; present = e .present } ≡ moved-entry e at
+  unfolding moved-entry choose
   absent z = rw (eq-eqb _ _ z)
 
-  there : (e .present ≡ 0 → ⊥) → record { id = e .id; offset = at; len = e .len; present = e .present } ≡ moved e at
-  unfolding moved choose
+  there : (e .present ≡ 0 → ⊥) → record { id = e .id; offset = at; len = e .len; present = e .present } ≡ moved-entry e at
+  unfolding moved-entry choose
   there z = rw (ne-eqb _ _ z)
 
 cast-offset : tie.Need-cast-offset

@@ -15,7 +15,7 @@ use Rattle.record.specs.Read.{header-of-by, entry-at-by, well-formed-by, node-a
 use Rattle.record.specs.declared.Entry.{Entry}
 use Rattle.record.proofs.Format.{length-entry}
 use Rattle.record.proofs.Nodes.{entry-in}
-use Rattle.convert.specs.Convert.{entry-bytes, moved}
+use Rattle.convert.specs.Convert.{entry-fields, moved-entry}
 use Rattle.convert.proofs.Laws.{few, length-data, entry-moved}
 use borrow.Author.Needs.{needs}
 use Rattle.convert.proofs.put_entries.Statement.{statement}
@@ -61,7 +61,7 @@ module _ (v w : ℕ) (b : List ℕ) (n : ℕ) (out₀ out : List ℕ) (reached i
     few-bytes : (e : Entry) → e ≡ entry-at-by v b i → e .len ≤ 16
     few-bytes e q = rw q (entry-in v b (u .well) i there .few)
 
-    next : (e m : Entry) (p : ℕ) (o : List ℕ) → e ≡ entry-at-by v b i → m ≡ moved e reached → p ≡ place-by w i → o ≡ overwrite out p (entry-bytes w m) → length o ≡ length out
+    next : (e m : Entry) (p : ℕ) (o : List ℕ) → e ≡ entry-at-by v b i → m ≡ moved-entry e reached → p ≡ place-by w i → o ≡ overwrite out p (entry-fields w m) → length o ≡ length out
         → Inv v w b n out₀ o (reached + e .len) (i + 1)
     unfolding nodes-of-by entries-by node-at-by
     next e m p o q k d s a = record {

@@ -5,14 +5,14 @@ use native.Mathlib.Omega.{arith}
 use Rattle.lists.specs.Bytes.{le, overwrite}
 use Rattle.lists.proofs.Bytes.{then, length-le}
 use Rattle.record.specs.declared.Entry.{Entry}
-use Rattle.convert.specs.Convert.{entry-bytes}
+use Rattle.convert.specs.Convert.{entry-fields}
 use borrow.Author.Needs.{needs}
 use Rattle.convert.proofs.put_entry.Statement.{statement}
 use Rattle.convert.proofs.put_entry.Tie as tie
 
 parts : (w at : ℕ) (e : Entry) (out o₁ o₂ o₃ : List ℕ) → o₃ ≡ overwrite o₂ (at + (w + 2)) (e .len ∷ e .present ∷ []) → o₂ ≡ overwrite o₁ (at + w) (le 2 (e .offset))
-    → o₁ ≡ overwrite out at (le w (e .id)) → o₃ ≡ overwrite out at (entry-bytes w e)
-unfolding entry-bytes
+    → o₁ ≡ overwrite out at (le w (e .id)) → o₃ ≡ overwrite out at (entry-fields w e)
+unfolding entry-fields
 parts w at e out o₁ o₂ o₃ r q p =
     then out at (le w (e .id)) _ p (then o₁ (at + w) (le 2 (e .offset)) _ q r (omega (arith, length-le 2 (e .offset)))) (omega (arith, length-le w (e .id)))
 

@@ -5,14 +5,14 @@ use native.Mathlib.Omega.{arith}
 use Rattle.lists.specs.Bytes.{le, overwrite}
 use Rattle.lists.proofs.Bytes.{then, length-le}
 use Rattle.record.specs.declared.Header.{Header}
-use Rattle.convert.specs.Convert.{tail-bytes, header-bytes}
+use Rattle.convert.specs.Convert.{tail-bytes, header-fields}
 use borrow.Author.Needs.{needs}
 use Rattle.convert.proofs.put_header.Statement.{statement}
 use Rattle.convert.proofs.put_header.Tie as tie
 
 parts : (w : ℕ) (h : Header) (out o₁ o₂ o₃ o₄ : List ℕ) → o₄ ≡ overwrite o₃ (4 + 2 * w) (tail-bytes h) → o₃ ≡ overwrite o₂ (4 + w) (le w (h .second))
-    → o₂ ≡ overwrite o₁ 4 (le w (h .peer)) → o₁ ≡ overwrite out 0 (h .kind ∷ h .message ∷ h .flags ∷ h .nodes ∷ []) → o₄ ≡ overwrite out 0 (header-bytes w h)
-unfolding header-bytes
+    → o₂ ≡ overwrite o₁ 4 (le w (h .peer)) → o₁ ≡ overwrite out 0 (h .kind ∷ h .message ∷ h .flags ∷ h .nodes ∷ []) → o₄ ≡ overwrite out 0 (header-fields w h)
+unfolding header-fields
 parts w h out o₁ o₂ o₃ o₄ s r q p =
     then out 0 (h .kind ∷ h .message ∷ h .flags ∷ h .nodes ∷ []) _ p
     (then o₁ 4 (le w (h .peer)) _ q (then o₂ (4 + w) (le w (h .second)) _ r s (omega (arith, length-le w (h .second)))) (omega (arith, length-le w (h .peer)))) (omega arith)

@@ -6,13 +6,13 @@ use native.Mathlib.Omega.{arith}
 use Rattle.record.specs.Format.{size-by}
 use Rattle.record.specs.Read.{header-of-by, well-formed-by, rec-of-by}
 use Rattle.record.specs.declared.Header.{Header}
-use Rattle.convert.specs.Convert.{answer, resized}
+use Rattle.convert.specs.Convert.{conversion-code, resized}
 use Rattle.convert.proofs.Laws.{Accepted, accepted, size-small, refused-placed, done-placed}
 use borrow.Author.Needs.{needs}
 use Rattle.convert.proofs.put_record.Statement.{statement}
 use Rattle.convert.proofs.put_record.Tie as tie
 
-module _ (v w : ℕ) (b : List ℕ) (r code : ℕ) (p : code ≡ answer v w b r) (z : code ≡ 0) where
+module _ (v w : ℕ) (b : List ℕ) (r code : ℕ) (p : code ≡ conversion-code v w b r) (z : code ≡ 0) where
   ok : Accepted v w b r
   ok = accepted v w b r (sym p ∙ z)
 

@@ -9,7 +9,7 @@ use Rattle.lists.proofs.Numbers.{Bytes}
 use Rattle.record.specs.Format.{header-length-by, place-by, entries-by, size-by, encode-by}
 use Rattle.record.specs.Read.{header-of-by, well-formed-by, nodes-of-by, rec-of-by}
 use Rattle.record.specs.declared.Header.{Header}
-use Rattle.convert.specs.Convert.{header-bytes, resized}
+use Rattle.convert.specs.Convert.{header-fields, resized}
 use Rattle.convert.proofs.Laws.{reach, size-other, written}
 use borrow.Author.Needs.{needs}
 use Rattle.convert.proofs.write.Statement.{statement}
@@ -35,11 +35,11 @@ module _ (v w : ℕ) (b : List ℕ) (t : well-formed-by v b ≡ true) (ok : Byte
     all : place-by w (h .nodes) + (length b - place-by v (h .nodes)) ≤ room
     all = omega (arith, total, l)
 
-  whole : (out o₁ o₂ o₃ : List ℕ) → o₁ ≡ overwrite out 0 (header-bytes w h) → o₂ ≡ overwrite o₁ (header-length-by w) (entries-by w (nodes-of-by v b 0 (h .nodes)) (place-by w (h .nodes)))
+  whole : (out o₁ o₂ o₃ : List ℕ) → o₁ ≡ overwrite out 0 (header-fields w h) → o₂ ≡ overwrite o₁ (header-length-by w) (entries-by w (nodes-of-by v b 0 (h .nodes)) (place-by w (h .nodes)))
       → o₃ ≡ overwrite o₂ (place-by w (h .nodes)) (drop (place-by v (h .nodes)) b) → o₃ ≡ overwrite out 0 (encode-by w (rec-of-by v b))
   whole out o₁ o₂ o₃ p q r =
       let n : h .nodes ≡ header-of-by v b .nodes = nodes-are v w b h d in
-      written v w b t ok out o₁ o₂ o₃ (p ∙ ap (λ (x : Header). overwrite out 0 (header-bytes w x)) d)
+      written v w b t ok out o₁ o₂ o₃ (p ∙ ap (λ (x : Header). overwrite out 0 (header-fields w x)) d)
       (q ∙ ap (λ (k : ℕ). overwrite o₁ (header-length-by w) (entries-by w (nodes-of-by v b 0 k) (place-by w k))) n) (r ∙ ap (λ (k : ℕ). overwrite o₂ (place-by w k) (drop (place-by v k) b)) n)
 
 cast-n : tie.Need-cast-n

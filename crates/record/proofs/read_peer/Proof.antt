@@ -4,19 +4,19 @@ use mathlib.Core.List.{List}
 use native.Mathlib.Omega.{arith}
 use lib.ListN.{length}
 use Rattle.lists.specs.Bytes.{read-le}
-use Rattle.record.specs.Format.{IsForm, peer-length, old-length}
+use Rattle.record.specs.Format.{IsForm, peer-length, old-peer-length}
 use borrow.Author.Needs.{needs}
 use Rattle.record.proofs.read_peer.Statement.{statement}
 use Rattle.record.proofs.read_peer.Tie as tie
 
 module _ (b : List ℕ) (at w : ℕ) where
-  old : (r : ℕ) → w ≡ old-length → r ≡ read-le old-length b at → r ≡ read-le w b at
+  old : (r : ℕ) → w ≡ old-peer-length → r ≡ read-le old-peer-length b at → r ≡ read-le w b at
   old r e q = rw e q
 
-  room : IsForm w → (w ≡ old-length → ⊥) → at + w ≤ length b → at + peer-length ≤ length b
+  room : IsForm w → (w ≡ old-peer-length → ⊥) → at + w ≤ length b → at + peer-length ≤ length b
   room f n h = omega (arith, f .other n, h)
 
-  new : (r : ℕ) → IsForm w → (w ≡ old-length → ⊥) → r ≡ read-le peer-length b at → r ≡ read-le w b at
+  new : (r : ℕ) → IsForm w → (w ≡ old-peer-length → ⊥) → r ≡ read-le peer-length b at → r ≡ read-le w b at
   new r f n q = rw (f .other n) q
 
 read-u32-requires : tie.Need-read-u32-requires
