@@ -1,4 +1,4 @@
--- "8,192 output bytes always suffice"; a draw is missed only where fewer than 512 of those lent were kept, and so 512 draws that no choice passes over suffice (02, S-6). For every station that passes the rules.
+-- "8,192 output bytes always suffice", and 512 draws that no choice passes over (02, S-6), for every station that passes the rules.
 -- Assumes nothing.
 use mathlib.Core.Path.{_≡_, refl, sym, subst, _∙_}
 use mathlib.Core.Bool.{true}
@@ -23,8 +23,7 @@ use Rattle.protocol.proofs.Tested.{between-of}
 
 -- of an answer, to a call that lends the draws ds and room bytes
 pub record Enough (ds : List ℕ) (room : ℕ) (a : Answer) : Type 0 where
-  -- a draw is missed only where all those lent are read and fewer than 512 of them kept, and a byte only where fewer than 8,192 are lent
-  pub five : a .code ≡ 5 → KeptFewer 512 ds
+  -- a byte is missed only where fewer than 8,192 are lent
   pub no-nine : 8192 ≤ room → a .code ≡ 9 → ⊥
   -- a draw below 2^32 - 32 is passed over by no choice, so 512 such draws suffice
   pub no-five : 512 ≤ length ds → all-under sure-end ds ≡ true → a .code ≡ 5 → ⊥
@@ -42,7 +41,7 @@ none-passed n d ds h l a =
     choose-yes (is-kept n d) 0 (suc (passed-over n ds)) (sure-kept n d h l (ltb-true d sure-end (and-left b (all-under sure-end ds) a)))
 
 -- so all that are read are kept
-record AllKept (ds rest : List ℕ) (k : ℕ) : Type 0 where
+pub record AllKept (ds rest : List ℕ) (k : ℕ) : Type 0 where
   pub each : k + length rest ≡ length ds
   pub under : all-under sure-end rest ≡ true
 
@@ -60,7 +59,7 @@ none-missed : {ds : List ℕ} {k : ℕ} (rest : List ℕ) (n : ℕ) → 0 < n �
 none-missed [] n s f e h = h
 none-missed (d ∷ rest) n s f e h = absurd (omega (arith, e, none-passed n d rest s f (h .under)))
 
-all-kept : {ds rest : List ℕ} {k : ℕ} → all-under sure-end ds ≡ true → Kept ds rest k → AllKept ds rest k
+pub all-kept : {ds rest : List ℕ} {k : ℕ} → all-under sure-end ds ≡ true → Kept ds rest k → AllKept ds rest k
 all-kept a none-read = record { each = omega arith; under = a }
 all-kept a (delay {d = d} r) = after-one d _ (all-kept a r)
 all-kept a (choice {rest = rest} n s f l r) = after-choice rest n s f l (all-kept a r)
@@ -91,7 +90,6 @@ pays-all a e = record { for-join = λ _ _. omega arith; for-neighbor = λ _ _. o
 enough-refusal : (ds : List ℕ) (c room : ℕ) (s : Station) → (c ≡ 5 → KeptFewer 512 ds) → (c ≡ 9 → room < 8192) → c ≤ 10 → Enough ds room (refusal c s room)
 unfolding refusal zeros
 enough-refusal ds c room s f g h = record {
-  five = f;
   no-five = λ l a e. absurd (let g = f e in let h = all-kept a (g .read) in omega (arith, g .few, h .each));
   no-nine = λ l e. absurd (omega (arith, g e));
   few-draws = omega arith;
@@ -108,7 +106,6 @@ module _ (s : Station) (ok : station-ok s ≡ true) (ds : List ℕ) (room : ℕ)
       let k = ok-steps (a + 9) ds room e w (pays-all a e) (between-of s ok) in
       by-choice (Enough ds room) (eqb (r .code) 0)
       (λ z. let g = k .good (eqb-true (r .code) 0 z) in record {
-        five = λ f. absurd (omega arith);
         no-five = λ l a f. omega arith;
         no-nine = λ l f. omega arith;
         few-draws = k .codes .within;

@@ -20,7 +20,7 @@ use Rattle.protocol.specs.Station.{Station, peers-end}
 use Rattle.protocol.specs.Run.{Run, with-station, with-code, guard, on, emit, draw, to-draw, draw-one-of, require}
 use Rattle.protocol.proofs.Law.{Lawful}
 use Rattle.protocol.proofs.Told.{spell, note, up-after, sent-after, one-more}
-use Rattle.protocol.proofs.Invariant.{Fixed, Terms, Core, Good, Told, Codes, Ok}
+use Rattle.protocol.proofs.Invariant.{Fixed, Terms, Core, Good, Told, Codes, Ok, Roomy}
 
 -- codes 6, 7, 8 and 10
 pub record Plain (c : ℕ) : Type 0 where
@@ -42,9 +42,9 @@ pub ten : Plain 10
 ten = record { low = omega arith; high = omega arith; not-five = λ e. omega arith; not-nine = λ e. omega arith }
 
 module _ {q : Fixed} {t : Terms} {m b d : ℕ} where
-  pub ok-refuse : (c : ℕ) (r : Run) → 5 ≤ c → c ≤ 10 → (c ≡ 5 → KeptFewer 512 (q .draws-lent)) → (c ≡ 9 → q .room-lent < 8192) → Codes q r → Ok q t m b d (with-code c r)
-  ok-refuse c r l h f n k =
-      record { good = λ e. absurd (omega arith); codes = record { lent = k .lent; within = k .within; space = k .space; five = f; nine = n; low = λ w. l; high = h } }
+  pub ok-refuse : (c : ℕ) (r : Run) → 5 ≤ c → c ≤ 10 → (c ≡ 5 → KeptFewer 512 (q .draws-lent)) → (c ≡ 5 → Roomy (r .station)) → (c ≡ 9 → q .room-lent < 8192) → Codes q r → Ok q t m b d (with-code c r)
+  ok-refuse c r l h f o n k =
+      record { good = λ e. absurd (omega arith); codes = record { lent = k .lent; within = k .within; space = k .space; five = f; roomy = o; nine = n; low = λ w. l; high = h } }
 
   pub ok-if : (test : Bool) {x y : Run} → (test ≡ true → Ok q t m b d x) → (test ≡ false → Ok q t m b d y) → Ok q t m b d (choose test x y)
   ok-if test f g = by-choice (Ok q t m b d) test f g
@@ -124,7 +124,7 @@ module _ {q : Fixed} {t : Terms} {m b d : ℕ} where
           bytes-left = w .bytes-left;
           draws-left = w .draws-left;
         };
-        codes = record { lent = k .codes .lent; within = k .codes .within; space = k .codes .space; five = k .codes .five; nine = k .codes .nine; low = k .codes .low; high = k .codes .high };
+        codes = record { lent = k .codes .lent; within = k .codes .within; space = k .codes .space; five = k .codes .five; roomy = λ y. absurd (omega (arith, y, z)); nine = k .codes .nine; low = k .codes .low; high = k .codes .high };
       })
       (λ e. record { good = λ z. absurd (eqb-false (r .code) 0 e z); codes = k .codes })
 
@@ -150,10 +150,12 @@ module _ {q : Fixed} {t : Terms} {m b d : ℕ} where
           bytes-left = w .bytes-left;
           draws-left = record { kept = f .kept + l .kept; read = subst (λ (x : List ℕ). Kept (q .draws-lent) x (f .kept + l .kept)) (drop-drop n (r .used) (r .draws)) g; left = omega (arith, l .few, f .left) };
         };
-        codes = record { lent = i .codes .lent; within = omega (arith, fits, ap length (i .codes .lent)); space = i .codes .space; five = i .codes .five; nine = i .codes .nine; low = i .codes .low; high = i .codes .high };
+        codes = record { lent = i .codes .lent; within = omega (arith, fits, ap length (i .codes .lent)); space = i .codes .space; five = i .codes .five; roomy = λ y. absurd (omega (arith, y, z)); nine = i .codes .nine; low = i .codes .low; high = i .codes .high };
       })
       (λ e. let g = l .keeps .short (q .draws-lent) (f .kept) (f .read) (omega (arith, left, i .codes .within, ap length (i .codes .lent), leb-false (r .used + n) (length (r .draws)) e)) in
-      ok-refuse 5 r (omega arith) (omega arith) (λ y. record { kept = g .kept; read = g .read; few = omega (arith, g .few, l .few, f .left) }) (λ y. absurd (omega arith)) (i .codes)))
+      ok-refuse 5 r (omega arith) (omega arith) (λ y. record { kept = g .kept; read = g .read; few = omega (arith, g .few, l .few, f .left) })
+      (λ y. let c = w .core in record { active-few = omega (arith, c .seats .slots-left, c .still .ranges .few-slots); passive-few = omega (arith, c .seats .places-left, c .still .ranges .few-places); recent-few = omega (arith, w .law .recent-ok .few) })
+      (λ y. absurd (omega arith)) (i .codes)))
 
   pub ok-draw-one : {r : Run} → Ok q t m b (d + 1) r → Ok q t m b d (draw 1 r)
   ok-draw-one {r} k = ok-draw 1 (λ o g l. one-costs (to-draw r)) k
@@ -167,7 +169,7 @@ module _ {q : Fixed} {t : Terms} {m b d : ℕ} where
   unfolding require
   ok-require {c} p test {r} k =
       ok-guard (k .codes) (λ z. ok-if test (λ e. k)
-      (λ e. ok-refuse c r (p .low) (p .high) (λ y. absurd (p .not-five y)) (λ y. absurd (p .not-nine y)) (k .codes)))
+      (λ e. ok-refuse c r (p .low) (p .high) (λ y. absurd (p .not-five y)) (λ y. absurd (p .not-five y)) (λ y. absurd (p .not-nine y)) (k .codes)))
 
 -- what a test that was passed says
 pub require-fine : {c : ℕ} → Plain c → (test : Bool) (r : Run) → (require c test r) .code ≡ 0 → (require c test r ≡ r) × (test ≡ true)
@@ -225,7 +227,7 @@ codes-on : {q : Fixed} (f : Station → Station) {r : Run} → Codes q r → Cod
 unfolding on guard
 codes-on {q} f {r} c =
     by-choice (Codes q) (eqb (r .code) 0)
-    (λ e. record { lent = c .lent; within = c .within; space = c .space; five = c .five; nine = c .nine; low = c .low; high = c .high }) (λ e. c)
+    (λ e. record { lent = c .lent; within = c .within; space = c .space; five = c .five; roomy = λ y. absurd (omega (arith, y, eqb-true (r .code) 0 e)); nine = c .nine; low = c .low; high = c .high }) (λ e. c)
 
 -- a record of at most n bytes
 module _ {q : Fixed} {u : Terms} {m b d : ℕ} (e : Rec) (n : ℕ) where
@@ -235,9 +237,9 @@ module _ {q : Fixed} {u : Terms} {m b d : ℕ} (e : Rec) (n : ℕ) where
       ok-guard c (λ z. ok-if _
       (λ f. record {
         good = λ y. h z .1;
-        codes = record { lent = c .lent; within = c .within; space = c .space; five = c .five; nine = c .nine; low = c .low; high = c .high };
+        codes = record { lent = c .lent; within = c .within; space = c .space; five = c .five; roomy = λ y. absurd (omega (arith, y, z)); nine = c .nine; low = c .low; high = c .high };
       })
-      (λ f. ok-refuse 9 r (omega arith) (omega arith) (λ y. absurd (omega arith)) (λ y. omega (arith, c .space, h z .0, leb-false (length (r .out) + size e) (r .room) f)) c))
+      (λ f. ok-refuse 9 r (omega arith) (omega arith) (λ y. absurd (omega arith)) (λ y. absurd (omega arith)) (λ y. omega (arith, c .space, h z .0, leb-false (length (r .out) + size e) (r .room) f)) c))
 
   said : {t : Terms} {k : ℕ} {s v : Station} {out rest : List ℕ} → size e ≤ n → (9 ≤ e .kind → e .kind ≤ 10 → e .peer < peers-end)
       → ((o : List Rec) → Good q t k s o → Good q u m v (e ∷ o)) → (Lawful s → Lawful v) → Told q t k (b + n) d s out rest

@@ -162,7 +162,7 @@ module _ {c : Config} {me : ℕ} {up : List ℕ} {sent allowed : ℕ} {s : Stati
       bytes-left = omega arith;
       draws-left = record { kept = 0; read = none-read; left = omega arith };
     };
-    codes = record { lent = refl; within = omega arith; space = refl; five = λ z. absurd (omega arith); nine = λ z. absurd (omega arith); low = λ z. absurd (omega arith); high = omega arith };
+    codes = record { lent = refl; within = omega arith; space = refl; five = λ z. absurd (omega arith); roomy = λ z. absurd (omega arith); nine = λ z. absurd (omega arith); low = λ z. absurd (omega arith); high = omega arith };
   }
 
   pub start-quit : eqb (e .kind) 8 ≡ true → Ok (at-start c me up sent (allowed + n) (s .passes-alone) ds room e) (quitting (s .active)) 0 8192 512 (start s ds room)
@@ -182,7 +182,7 @@ module _ {c : Config} {me : ℕ} {up : List ℕ} {sent allowed : ℕ} {s : Stati
       bytes-left = omega arith;
       draws-left = record { kept = 0; read = none-read; left = omega arith };
     };
-    codes = record { lent = refl; within = omega arith; space = refl; five = λ z. absurd (omega arith); nine = λ z. absurd (omega arith); low = λ z. absurd (omega arith); high = omega arith };
+    codes = record { lent = refl; within = omega arith; space = refl; five = λ z. absurd (omega arith); roomy = λ z. absurd (omega arith); nine = λ z. absurd (omega arith); low = λ z. absurd (omega arith); high = omega arith };
   }
 
   some-slot : 1 ≤ c .«active_view_capacity»

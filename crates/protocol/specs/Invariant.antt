@@ -223,12 +223,19 @@ pub record Told (q : Fixed) (t : Terms) (m b d : ℕ) (s : Station) (out rest : 
   pub bytes-left : length out + b ≤ 8192
   pub draws-left : Drawn (q .draws-lent) rest d
 
+-- the lists that choices are made from are short
+pub record Roomy (s : Station) : Type 0 where
+  pub active-few : length (s .active) ≤ 32
+  pub passive-few : length (s .passive) ≤ 32
+  pub recent-few : length (s .recent) ≤ 32
+
 -- no more draws are used than are lent; and what a code says: 5 is met only where all draws lent are read and fewer than 512 kept, 9 only where less is lent than always suffices
 pub record Codes (q : Fixed) (r : Run) : Type 0 where
   pub lent : r .draws ≡ q .draws-lent
   pub within : r .used ≤ length (q .draws-lent)
   pub space : r .room ≡ q .room-lent
   pub five : r .code ≡ 5 → KeptFewer 512 (q .draws-lent)
+  pub roomy : r .code ≡ 5 → Roomy (r .station)
   pub nine : r .code ≡ 9 → q .room-lent < 8192
   pub low : 1 ≤ r .code → 5 ≤ r .code
   pub high : r .code ≤ 10
