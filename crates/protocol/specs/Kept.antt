@@ -13,7 +13,7 @@ pub data Struck : List ℕ → List ℕ → Type 0 where
   stays : {d : ℕ} {ds ks : List ℕ} → Struck ds ks → Struck (d ∷ ds) (d ∷ ks)
   goes : {d : ℕ} {ds ks : List ℕ} (n : ℕ) → 0 < n → n ≤ 32 → is-kept n d ≡ false → Struck ds ks → Struck (d ∷ ds) ks
 
--- of the draws ds, all read, those kept are ks: a call, whose code, draws used and state are given for every list lent, does with ks what it does with ds, whatever more is lent after them
+-- of the draws ds those kept are ks, and the others are passed over: a call, of which code, draws used and state are given for each list that is lent, does with ks what it does with ds, whatever more is lent after them
 pub record KeptAre {S : Type 0} (code used : List ℕ → ℕ) (state : List ℕ → S) (ds ks : List ℕ) : Type 0 where
   pub struck : Struck ds ks
   pub same-code : (more : List ℕ) → code (ks ++ more) ≡ code (ds ++ more)
