@@ -25,7 +25,7 @@ use Rattle.protocol.proofs.Tested.{between-of}
 use Rattle.protocol.proofs.Readers.{Sure, Parts}
 use Rattle.protocol.proofs.Plays.{Like, At, Alike, Follows, goes, ends, crowded, Plays}
 use Rattle.protocol.proofs.Played.{plays-steps}
-use Rattle.protocol.proofs.Enough.{pays-all, all-kept}
+use Rattle.protocol.proofs.Enough.{pays-all, all-sure}
 
 -- the same of a machine that answers as another does
 pub fewer-as : {S T : Type 0} {n : ℕ} {code used code′ used′ : List ℕ → ℕ} {state : List ℕ → S} {state′ : List ℕ → T} {ds : List ℕ} (f : S → T)
@@ -44,10 +44,10 @@ fewer-as {ds = ds} f c u s k =
       few = k .few;
     }
 
-all-sure : (js : List ℕ) → All Sure js → all-under sure-end js ≡ true
+all-below : (js : List ℕ) → All Sure js → all-under sure-end js ≡ true
 unfolding all-under All
-all-sure [] a = refl
-all-sure (j ∷ js) a = rw (lt-ltb j sure-end (a .0)) (all-sure js (a .1))
+all-below [] a = refl
+all-below (j ∷ js) a = rw (lt-ltb j sure-end (a .0)) (all-below js (a .1))
 
 finish-code : (s : Station) (r : Run) → finish s r .code ≡ r .code
 unfolding finish accepted refusal
@@ -96,7 +96,6 @@ module _ (s : Station) (ok : station-ok s ≡ true) (room : ℕ) (e : Rec) (w : 
       let ks = p .kept-of in
       let o = ok-steps (s .config .«active_view_capacity» + 9) js room e w (pays-all (s .config .«active_view_capacity») e) (between-of s ok) in
       let g = o .codes .five (k (start s js room) (from-start ds js) (at-start js)) in
-      let each = all-kept (all-sure js (p .sure)) (g .read) in
       let alike : (more : List ℕ) → Alike (run (ds ++ more)) (run (ks ++ more)) = (λ more.
       h more (start s (ds ++ more) room) (start s (ks ++ more) room) (from-start ds (ds ++ more)) (from-start ds (ks ++ more))
       (subst (λ (l : List ℕ). At (start s (ds ++ more) room) (l ++ more)) q (at-start (ds ++ more))) (at-start (ks ++ more))) in
@@ -111,7 +110,7 @@ module _ (s : Station) (ok : station-ok s ≡ true) (room : ℕ) (e : Rec) (w : 
               let b = alike more .both y in
               omega (arith, finish-open s (run (ds ++ more)) y .1, finish-open s (run (ks ++ more)) (alike more .like .code ∙ y) .1, all-drawn (ds ++ more) (b .rest) (b .here), all-drawn (ks ++ more) (b .rest) (b .there), length-append ds more, length-append ks more);
         };
-        few = omega (arith, g .few, each .each, p .paired);
+        few = omega (arith, g, all-sure js (all-below js (p .sure)), p .paired);
       }
 
   kept-event : (ds : List ℕ) → answered ds .code ≡ 5 → FewerKept 512 (λ l. answered l .code) (λ l. answered l .used) (λ l. answered l .state) ds
