@@ -1,29 +1,28 @@
 -- Code 5 is answered only where fewer than 512 of the draws lent were kept.
 -- Assumes nothing.
 use mathlib.Core.Path.{_≡_, refl, sym, ap, subst, _∙_}
-use mathlib.Core.Bool.{true, false}
+use mathlib.Core.Bool.{true}
 use mathlib.Core.List.{List, [], _∷_, _++_}
-use Prim.Native.Nat.{ℕ, _+_, _≤_, _<_}
+use Prim.Native.Nat.{ℕ, _+_, _≤_}
 use native.Mathlib.Omega.{arith}
-use lib.ListN.{length, drop, length-append, length-drop}
-use lib.Dec.{eqb, ltb}
+use lib.ListN.{length, length-append, length-drop}
+use lib.Dec.{eqb}
 use borrow.Author.Tests.{eqb-true, eqb-false, lt-ltb}
 use Rattle.lists.specs.Tests.{All}
-use Rattle.lists.proofs.Choice.{by-choice, choose-yes, choose-no, split}
+use Rattle.lists.proofs.Choice.{by-choice, choose-yes, split}
 use Rattle.util.specs.Chances.{sure-end}
 use Rattle.record.specs.Format.{Rec}
 use Rattle.record.specs.Read.{Reading, read-event, refused, event}
 use Rattle.protocol.specs.Station.{Station}
 use Rattle.protocol.specs.Run.{Run}
 use Rattle.protocol.specs.Rules.{all-under, station-ok}
-use Rattle.protocol.specs.Kept.{Struck, KeptAre, FewerKept}
+use Rattle.protocol.specs.Kept.{Struck, FewerKept}
 use Rattle.protocol.specs.Handle.{Answer, start, steps, refusal, accepted, finish, handle-reading, handle}
-use Rattle.protocol.proofs.Invariant.{Ok}
 use Rattle.protocol.proofs.Reading.{Readable, by-reading}
 use Rattle.protocol.proofs.Whole.{ok-steps}
 use Rattle.protocol.proofs.Tested.{between-of}
-use Rattle.protocol.proofs.Readers.{Sure, Parts}
-use Rattle.protocol.proofs.Plays.{Like, At, Alike, Follows, goes, ends, crowded, Plays}
+use Rattle.protocol.proofs.Readers.{Sure}
+use Rattle.protocol.proofs.Plays.{Like, At, Alike, Follows, goes, ends, crowded}
 use Rattle.protocol.proofs.Played.{plays-steps}
 use Rattle.protocol.proofs.Enough.{pays-all, all-sure}
 

@@ -1,17 +1,17 @@
 -- Every step of the definition reads draws by delays, choices and shuffles alone.
 -- Assumes nothing.
-use mathlib.Core.Path.{_≡_, refl, sym, ap, subst, _∙_}
+use mathlib.Core.Path.{_≡_, refl, sym, ap, _∙_}
 use mathlib.Core.Bool.{Bool, true, false, not, _&&_, _||_}
 use mathlib.Core.List.{List, [], _∷_, _++_}
-use mathlib.Core.Option.{Option, none, some}
-use Prim.Native.Nat.{ℕ, _+_, _-_, _≤_, _<_}
+use mathlib.Core.Option.{none, some}
+use Prim.Native.Nat.{ℕ, _-_, _≤_}
 use native.Mathlib.Omega.{arith}
 use lib.ListN.{length, take, drop, getD}
 use lib.Dec.{leb, ltb, eqb}
 use borrow.Author.Tests.{ne-eqb, leb-true, leb-false}
 use Rattle.lists.specs.Lists.{choose, null, index-of, without, without-all}
 use Rattle.lists.specs.Maps.{lookup}
-use Rattle.lists.proofs.Choice.{by-choice, choose-yes, choose-no, split}
+use Rattle.lists.proofs.Choice.{choose-yes, choose-no, split}
 use Rattle.lists.proofs.Count.{length-without, length-without-all}
 use Rattle.timing.specs.Timing.{join-retry-delay, maintenance-interval, next, backoff-due, delay}
 use Rattle.peer.specs.Data.{Data, Node}
@@ -29,8 +29,8 @@ use Rattle.protocol.specs.Messages as M
 use Rattle.protocol.specs.Events as E
 use Rattle.protocol.specs.Timers as T
 use Rattle.protocol.specs.Handle as H
-use Rattle.protocol.proofs.Keeping.{emit-station}
-use Rattle.protocol.proofs.Readers.{Reading, read-pick, read-shuffle, read-one, map-reading, read-any, read-few}
+use Rattle.protocol.proofs.Timed.{told-station}
+use Rattle.protocol.proofs.Readers.{read-pick, read-shuffle, read-one, map-reading, read-any, read-few}
 use Rattle.protocol.proofs.Readers as R
 use Rattle.protocol.proofs.Plays.{Plays, same-plays, by-station, idle, either, thens, changes, tests, tells, told, reads}
 
@@ -453,18 +453,13 @@ plays-shuffle-timer =
     thens (by-station (λ s r. choose (is-alone s) r (T.shuffle-with (picked (r .station .active) r) (draw-one-of (length (r .station .active)) r)))
     (λ s. either (is-alone s) idle (picks-item (λ s. s .active) (λ s o. o .active-few) (λ s i r. T.shuffle-with i r) (λ s i. plays-shuffle-with i)))) plays-schedule-shuffle
 
-emit-all-station : (f : ℕ → Rec) (ps : List ℕ) (r : Run) → emit-all f ps r .station ≡ r .station
-unfolding emit-all
-emit-all-station f [] r = refl
-emit-all-station f (p ∷ ps) r = emit-all-station f ps (emit (f p) r) ∙ emit-station (f p) r
-
 plays-rejoin : Plays T.rejoin
 unfolding T.rejoin T.rejoin-recent T.rejoin-bootstrap T.other-recent
 plays-rejoin =
     let after : Run → Run = (λ r. emit-all (S.join-to (r .station .own-data)) (r .station .bootstrap) r) in
     let others : Station → List ℕ = (λ s. without-all (s .bootstrap) (s .recent)) in
     let join-one : Run → Run = (λ r. choose (null (others (r .station))) r (S.join (picked (others (r .station)) r) (draw-one-of (length (others (r .station))) r))) in
-    same-plays (λ r. ap (λ (s : Station). choose (null (others s)) (after r) (S.join (picked (others s) (after r)) (draw-one-of (length (others s)) (after r)))) (sym (emit-all-station (S.join-to (r .station .own-data)) (r .station .bootstrap) r)))
+    same-plays (λ r. ap (λ (s : Station). choose (null (others s)) (after r) (S.join (picked (others s) (after r)) (draw-one-of (length (others s)) (after r)))) (sym (told-station (S.join-to (r .station .own-data)) (r .station .bootstrap) r)))
     (thens (by-station (λ s r. emit-all (S.join-to (s .own-data)) (s .bootstrap) r) (λ s. plays-emit-all (S.join-to (s .own-data)) (s .bootstrap)))
     (by-station (λ s r. choose (null (others s)) r (S.join (picked (others (r .station)) r) (draw-one-of (length (others (r .station))) r)))
     (λ s. either (null (others s)) idle (picks-item others (λ s o. omega (arith, length-without-all (s .bootstrap) (s .recent), o .recent-few)) (λ s i r. S.join i r) (λ s i. plays-join i)))))

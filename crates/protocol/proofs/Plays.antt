@@ -2,7 +2,7 @@
 -- Assumes nothing.
 use mathlib.Core.Path.{_≡_, refl, sym, ap, subst, _∙_}
 use mathlib.Core.Bool.{Bool, true, false}
-use mathlib.Core.List.{List, [], _∷_, _++_, append-assoc, append-nil}
+use mathlib.Core.List.{List, [], _++_, append-assoc, append-nil}
 use Prim.Native.Nat.{ℕ, _+_, _≤_, _<_}
 use native.Mathlib.Omega.{arith}
 use lib.ListN.{length, drop, length-append, length-drop}
@@ -16,7 +16,7 @@ use Rattle.record.specs.Format.{Rec, size, encode}
 use Rattle.record.proofs.Format.{length-encode}
 use Rattle.protocol.specs.Station.{Station}
 use Rattle.protocol.specs.Invariant.{Roomy}
-use Rattle.protocol.specs.Run.{Run, with-station, with-used, with-out, with-code, guard, on, emit, draw, require, to-draw}
+use Rattle.protocol.specs.Run.{Run, with-used, with-out, with-code, guard, on, emit, draw, require}
 use Rattle.protocol.proofs.Among.{all-append}
 use Rattle.protocol.proofs.Readers.{Which, whole, kept, small, Sure, Parts, part, joined, part-joined, no-parts, part-none, Reading, took, wants}
 use Rattle.protocol.proofs.Readers as R

@@ -1,16 +1,16 @@
 -- What a delay, a choice and a shuffle read off a list of draws, and off the list without the draws that they pass over.
 -- Assumes nothing.
 use Prim.Native.Nat.{ℕ, zero, suc, _+_, _-_, _%_, _≤_, _<_}
-use mathlib.Core.Path.{_≡_, refl, sym, ap, subst, _∙_}
+use mathlib.Core.Path.{_≡_, refl, sym, ap, _∙_}
 use mathlib.Core.Bool.{true, false}
-use mathlib.Core.List.{List, [], _∷_, _++_, append-assoc, append-nil}
+use mathlib.Core.List.{List, [], _∷_, _++_, append-assoc}
 use native.Mathlib.Nat.{mod-lt, mod-eq-of-lt}
 use native.Mathlib.Omega.{arith}
 use lib.ListN.{length, drop, getD, length-append}
 use lib.Seq.{drop-append-seam, drop-append-add}
-use lib.Dec.{leb, ltb, eqb}
+use lib.Dec.{leb, eqb}
 use borrow.Author.Tests.{eqb-true, eqb-false, leb-true, leb-false, lt-ltb}
-use Rattle.lists.specs.Lists.{choose, swap}
+use Rattle.lists.specs.Lists.{swap}
 use Rattle.lists.specs.Tests.{All}
 use Rattle.lists.proofs.Choice.{choose-yes, choose-no, split}
 use Rattle.util.specs.Chances.{all-draws, kept-end, is-kept, passed-over, pick-draws, pick, shuffle-down, draws-down, shuffle, shuffle-draws, sure-end}
