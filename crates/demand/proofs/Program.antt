@@ -145,14 +145,14 @@ refused-zeroes xs me present own c one =
 pub enough-lent : D.Enough-lent
 unfolding answered packed-answer
 enough-lent xs ok v =
-    let with : (l : List ℕ) → outcome (v .event) l (v .output) xs ≡ packed-answer (definition.handle (unpack xs) (v .event) l (length (v .output))) =
+    let lent-with : (l : List ℕ) → outcome (v .event) l (v .output) xs ≡ packed-answer (definition.handle (unpack xs) (v .event) l (length (v .output))) =
     (λ l. answers xs ok (record { event = v .event; are-bytes = v .are-bytes; draws = l; output = v .output })) in
-    let e = with (v .draws) in
+    let e = lent-with (v .draws) in
     let code = ap (λ (x : Outcome). x .code) e in
     let draws = ap (λ (x : Outcome). x .draws) e in
     let k = enough (unpack xs) (rules-kept xs ok) (v .draws) (length (v .output)) (v .event) (v .are-bytes) in
     record {
-      five = λ f. fewer-as (λ (g : Station). unpack (pack g)) (λ l. ap (λ (x : Outcome). x .code) (with l)) (λ l. ap (λ (x : Outcome). x .draws) (with l)) (λ l. ap (λ (x : Outcome). unpack (x .words)) (with l))
+      five = λ f. fewer-as (λ (g : Station). unpack (pack g)) (λ l. ap (λ (x : Outcome). x .code) (lent-with l)) (λ l. ap (λ (x : Outcome). x .draws) (lent-with l)) (λ l. ap (λ (x : Outcome). unpack (x .words)) (lent-with l))
           (fewer-kept (unpack xs) (rules-kept xs ok) (v .event) (v .are-bytes) (v .draws) (length (v .output)) (sym code ∙ f));
       no-five = λ h a f. k .no-five h a (sym code ∙ f);
       no-nine = λ h f. k .no-nine h (sym code ∙ f);
