@@ -20,6 +20,7 @@ use Rattle.record.specs.Read.{Reading, read-event, rec-of}
 use Rattle.protocol.proofs.Reading.{by-reading}
 use Rattle.protocol.proofs.Bounds.{finished}
 use Rattle.protocol.proofs.Enough.{enough}
+use Rattle.protocol.proofs.Decided.{fewer-as, fewer-kept}
 use Rattle.protocol.proofs.Uncrowded as crowded
 use Rattle.protocol.proofs.Unreachable as unreachable
 use Rattle.history.specs.Calls.{Call, Given, narrow-draws, result-of, answered, state-after, codes}
@@ -140,16 +141,19 @@ refused-zeroes xs me present own c one =
 
 -- ---- one call
 
--- 512 draws below 2^32 - 32 and 8,192 bytes suffice, whatever the event and the words that keep the rules.
+-- A draw is missed only where fewer than 512 were kept, and 512 draws below 2^32 - 32 and 8,192 bytes suffice, whatever the event and the words that keep the rules.
 pub enough-lent : D.Enough-lent
 unfolding answered packed-answer
 enough-lent xs ok v =
-    let e = answers xs ok v in
+    let lent-with : (l : List ℕ) → outcome (v .event) l (v .output) xs ≡ packed-answer (definition.handle (unpack xs) (v .event) l (length (v .output))) =
+    (λ l. answers xs ok (record { event = v .event; are-bytes = v .are-bytes; draws = l; output = v .output })) in
+    let e = lent-with (v .draws) in
     let code = ap (λ (x : Outcome). x .code) e in
     let draws = ap (λ (x : Outcome). x .draws) e in
     let k = enough (unpack xs) (rules-kept xs ok) (v .draws) (length (v .output)) (v .event) (v .are-bytes) in
     record {
-      five = λ f. k .five (sym code ∙ f);
+      five = λ f. fewer-as (λ (g : Station). unpack (pack g)) (λ l. ap (λ (x : Outcome). x .code) (lent-with l)) (λ l. ap (λ (x : Outcome). x .draws) (lent-with l)) (λ l. ap (λ (x : Outcome). unpack (x .words)) (lent-with l))
+          (fewer-kept (unpack xs) (rules-kept xs ok) (v .event) (v .are-bytes) (v .draws) (length (v .output)) (sym code ∙ f));
       no-five = λ h a f. k .no-five h a (sym code ∙ f);
       no-nine = λ h f. k .no-nine h (sym code ∙ f);
       draws-used = draws;

@@ -8,11 +8,12 @@ use mathlib.Core.List.{List}
 use lib.ListN.{length, replicate}
 use Rattle.lists.specs.Lists.{null, mem, without}
 use Rattle.timing.specs.declared.Config.{Config}
-use Rattle.util.specs.Chances.{sure-end, KeptFewer}
+use Rattle.util.specs.Chances.{sure-end}
 use Rattle.peer.specs.Data.{Node}
 use Rattle.protocol.specs.Station.{Station, peers-end, bytes-end}
 use Rattle.protocol.specs.Messages.{ends-here, learn-joiner}
 use Rattle.protocol.specs.Rules.{all-under}
+use Rattle.protocol.specs.Kept.{FewerKept}
 use Rattle.protocol.specs.Handle as definition
 use Rattle.history.specs.Calls.{Call, narrow-draws, Machine, code-of, state-after, codes}
 use Rattle.history.specs.Demand.{Demand3}
@@ -82,8 +83,8 @@ Shuffles-timed =
 
 -- of one call to a machine, at a state that stands for a station
 pub record Suffices {S : Type 0} (m : Machine S) (station : S → Station) (s : S) (v : Call) : Type 0 where
-  -- "8,192 output bytes and 512 draws always suffice"; by 02, S-6, 512 draws that are kept: a draw is missed only where all those lent are read and fewer than 512 of them kept
-  pub five : code-of m v s ≡ 5 → KeptFewer 512 (v .draws)
+  -- "8,192 output bytes and 512 draws always suffice"; by 02, S-6, 512 draws that are kept: code 5 is answered only where fewer than 512 of those lent were kept
+  pub five : code-of m v s ≡ 5 → FewerKept 512 (λ ds. m .code (v .event) ds (v .output) s) (λ ds. m .used (v .event) ds (v .output) s) (λ ds. station (m .state (v .event) ds (v .output) s)) (v .draws)
   -- and so 512 draws below 2^32 - 32 suffice, which every choice keeps
   pub no-five : 512 ≤ length (v .draws) → all-under sure-end (v .draws) ≡ true → code-of m v s ≡ 5 → ⊥
   pub no-nine : 8192 ≤ length (v .output) → code-of m v s ≡ 9 → ⊥

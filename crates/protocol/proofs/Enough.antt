@@ -1,6 +1,6 @@
--- "8,192 output bytes always suffice"; a draw is missed only where fewer than 512 of those lent were kept, and so 512 draws that no choice passes over suffice (02, S-6). For every station that passes the rules.
+-- "8,192 output bytes always suffice", and 512 draws that no choice passes over (02, S-6), for every station that passes the rules.
 -- Assumes nothing.
-use mathlib.Core.Path.{_≡_, refl, sym, subst, _∙_}
+use mathlib.Core.Path.{_≡_, refl, subst, _∙_}
 use mathlib.Core.Bool.{true}
 use mathlib.Core.List.{List, [], _∷_, _++_}
 use Prim.Native.Nat.{ℕ, zero, suc, _+_, _-_, _≤_, _<_}
@@ -8,10 +8,9 @@ use native.Mathlib.Omega.{arith}
 use lib.ListN.{length, drop, replicate}
 use lib.Seq.{drop-append-add}
 use lib.Dec.{eqb, ltb}
-use borrow.Author.Tests.{eqb-true, ltb-true}
+use borrow.Author.Tests.{eqb-true}
 use Rattle.lists.proofs.Choice.{by-choice, choose-yes, and-left, and-right}
-use Rattle.util.specs.Chances.{is-kept, passed-over, pick-draws, sure-end, Kept, none-read, delay, choice, missed, KeptFewer}
-use Rattle.util.proofs.Chances.{pick-some, sure-kept}
+use Rattle.util.specs.Chances.{sure-end, sure}
 use Rattle.record.specs.Format.{Rec}
 use Rattle.record.specs.Read.{Reading, read-event}
 use Rattle.protocol.specs.Station.{Station}
@@ -23,10 +22,9 @@ use Rattle.protocol.proofs.Tested.{between-of}
 
 -- of an answer, to a call that lends the draws ds and room bytes
 pub record Enough (ds : List ℕ) (room : ℕ) (a : Result) : Type 0 where
-  -- a draw is missed only where all those lent are read and fewer than 512 of them kept, and a byte only where fewer than 8,192 are lent
-  pub five : a .code ≡ 5 → KeptFewer 512 ds
+  -- a byte is missed only where fewer than 8,192 are lent
   pub no-nine : 8192 ≤ room → a .code ≡ 9 → ⊥
-  -- a draw below 2^32 - 32 is passed over by no choice, so 512 such draws suffice
+  -- a draw below 2^32 - 32 is passed over by no choice, so 512 of them suffice
   pub no-five : 512 ≤ length ds → all-under sure-end ds ≡ true → a .code ≡ 5 → ⊥
   -- at most the draws lent are used, those passed over among them, and past 8,192 bytes nothing is written
   pub few-draws : a .used ≤ length ds
@@ -34,37 +32,12 @@ pub record Enough (ds : List ℕ) (room : ℕ) (a : Result) : Type 0 where
   -- and the code is one of the table's
   pub known-code : a .code ≤ 10
 
--- of draws below 2^32 - 32 a choice passes over none
-none-passed : (n : ℕ) (d : ℕ) (ds : List ℕ) → 0 < n → n ≤ 32 → all-under sure-end (d ∷ ds) ≡ true → passed-over n (d ∷ ds) ≡ 0
-unfolding all-under passed-over
-none-passed n d ds h l a =
+pub all-sure : (ds : List ℕ) → all-under sure-end ds ≡ true → sure ds ≡ length ds
+unfolding all-under sure
+all-sure [] e = refl
+all-sure (d ∷ ds) e =
     let b = ltb d sure-end in
-    choose-yes (is-kept n d) 0 (suc (passed-over n ds)) (sure-kept n d h l (ltb-true d sure-end (and-left b (all-under sure-end ds) a)))
-
--- so all that are read are kept
-record AllKept (ds rest : List ℕ) (k : ℕ) : Type 0 where
-  pub each : k + length rest ≡ length ds
-  pub under : all-under sure-end rest ≡ true
-
-after-one : {ds : List ℕ} {k : ℕ} (d : ℕ) (rest : List ℕ) → AllKept ds (d ∷ rest) k → AllKept ds rest (suc k)
-unfolding all-under
-after-one d rest h = record { each = omega (arith, h .each); under = and-right (ltb d sure-end) (all-under sure-end rest) (h .under) }
-
-after-choice : {ds : List ℕ} {k : ℕ} (rest : List ℕ) (n : ℕ) → 0 < n → n ≤ 32 → passed-over n rest < length rest → AllKept ds rest k → AllKept ds (drop (pick-draws n rest) rest) (suc k)
-after-choice [] n s f l h = absurd (omega arith)
-after-choice {ds} {k} (d ∷ rest) n s f l h =
-    let one : pick-draws n (d ∷ rest) ≡ 1 = omega (arith, pick-some n (d ∷ rest) s, none-passed n d rest s f (h .under)) in
-    subst (λ (m : ℕ). AllKept ds (drop m (d ∷ rest)) (suc k)) (sym one) (after-one d rest h)
-
-none-missed : {ds : List ℕ} {k : ℕ} (rest : List ℕ) (n : ℕ) → 0 < n → n ≤ 32 → passed-over n rest ≡ length rest → AllKept ds rest k → AllKept ds [] k
-none-missed [] n s f e h = h
-none-missed (d ∷ rest) n s f e h = absurd (omega (arith, e, none-passed n d rest s f (h .under)))
-
-all-kept : {ds rest : List ℕ} {k : ℕ} → all-under sure-end ds ≡ true → Kept ds rest k → AllKept ds rest k
-all-kept a none-read = record { each = omega arith; under = a }
-all-kept a (delay {d = d} r) = after-one d _ (all-kept a r)
-all-kept a (choice {rest = rest} n s f l r) = after-choice rest n s f l (all-kept a r)
-all-kept a (missed {rest = rest} n s f e r) = none-missed rest n s f e (all-kept a r)
+    omega (arith, choose-yes {A = ℕ} b 1 0 (and-left b (all-under sure-end ds) e), all-sure ds (and-right b (all-under sure-end ds) e))
 
 zeros : ℕ → List ℕ
 zeros n = replicate n 0
@@ -88,11 +61,10 @@ rest-zero out room l =
 pub pays-all : (a : ℕ) (e : Rec) → Pays a (a + 9) e
 pays-all a e = record { for-join = λ _ _. omega arith; for-neighbor = λ _ _. omega arith; for-message = λ _. omega arith; for-maintenance = λ _. omega arith; for-other = λ _ _. omega arith }
 
-enough-refusal : (ds : List ℕ) (c room : ℕ) (s : Station) → (c ≡ 5 → KeptFewer 512 ds) → (c ≡ 9 → room < 8192) → c ≤ 10 → Enough ds room (refusal c s room)
+enough-refusal : (ds : List ℕ) (c room : ℕ) (s : Station) → (c ≡ 5 → sure ds < 512) → (c ≡ 9 → room < 8192) → c ≤ 10 → Enough ds room (refusal c s room)
 unfolding refusal zeros
 enough-refusal ds c room s f g h = record {
-  five = f;
-  no-five = λ l a e. absurd (let g = f e in let h = all-kept a (g .read) in omega (arith, g .few, h .each));
+  no-five = λ l a e. absurd (omega (arith, f e, all-sure ds a));
   no-nine = λ l e. absurd (omega (arith, g e));
   few-draws = omega arith;
   few-bytes = drop-zeros 8192 room (room - 8192) refl;
@@ -108,7 +80,6 @@ module _ (s : Station) (ok : station-ok s ≡ true) (ds : List ℕ) (room : ℕ)
       let k = ok-steps (a + 9) ds room e w (pays-all a e) (between-of s ok) in
       by-choice (Enough ds room) (eqb (r .code) 0)
       (λ z. let g = k .good (eqb-true (r .code) 0 z) in record {
-        five = λ f. absurd (omega arith);
         no-five = λ l a f. omega arith;
         no-nine = λ l f. omega arith;
         few-draws = k .codes .within;

@@ -5,7 +5,7 @@ use Prim.Native.Nat.{ℕ, _+_, _≤_}
 use lib.ListN.{length}
 use Rattle.lists.specs.Lists.{count}
 use Rattle.timing.specs.declared.Config.{Config}
-pub use Rattle.protocol.specs.Invariant.{Fixed, Terms, busy, calm, Ranges, Still, Seats, Waits, Account, Core, Good, Drawn, Told, Codes, Ok}
+pub use Rattle.protocol.specs.Invariant.{Fixed, Terms, busy, calm, Ranges, Still, Seats, Waits, Account, Core, Good, spent, Told, Roomy, Codes, Ok}
 
 module _ {guest loose inside : List ℕ} {slots places me : ℕ} {cfg : Config} {act pas ali : List ℕ} (h : Seats guest loose inside slots places me cfg act pas ali) where
   pub with-marks : {xs : List ℕ} → ((x : ℕ) → count x xs ≤ count x pas + count x loose) → Seats guest loose inside slots places me cfg act pas xs

@@ -5,22 +5,22 @@ use mathlib.Core.Bool.{Bool, true, false}
 use mathlib.Core.List.{List, _∷_, _++_}
 use Prim.Native.Nat.{ℕ, _+_, _≤_, _<_}
 use native.Mathlib.Omega.{arith}
-use lib.ListN.{length, drop, length-append, length-drop}
-use lib.Seq.{drop-drop}
+use lib.ListN.{length, take, drop, length-append, length-drop}
+use lib.Seq.{take-add}
 use lib.Dec.{leb, eqb}
 use borrow.Author.Tests.{eqb-true, eqb-false, eq-eqb, ne-eqb, leb-true, leb-false}
 use Rattle.lists.specs.Lists.{choose}
 use Rattle.lists.proofs.Choice.{by-choice, choose-yes}
 use Rattle.timing.specs.declared.Config.{Config}
-use Rattle.util.specs.Chances.{Kept, KeptFewer}
-use Rattle.util.proofs.Chances.{Costs, one-costs, pick-costs}
+use Rattle.util.specs.Chances.{sure}
+use Rattle.util.proofs.Chances.{Costs, sure-append, sure-at, one-costs, pick-costs}
 use Rattle.record.specs.Format.{Rec, size, encode}
 use Rattle.record.proofs.Format.{length-encode}
 use Rattle.protocol.specs.Station.{Station, peers-end}
 use Rattle.protocol.specs.Run.{Run, with-station, with-code, guard, on, emit, draw, to-draw, draw-one-of, require}
 use Rattle.protocol.proofs.Law.{Lawful}
 use Rattle.protocol.proofs.Told.{spell, note, up-after, sent-after, one-more}
-use Rattle.protocol.proofs.Invariant.{Fixed, Terms, Core, Good, Told, Codes, Ok}
+use Rattle.protocol.proofs.Invariant.{Fixed, Terms, Core, Good, Told, Roomy, Codes, Ok, spent}
 
 -- codes 6, 7, 8 and 10
 pub record Plain (c : ℕ) : Type 0 where
@@ -42,9 +42,9 @@ pub ten : Plain 10
 ten = record { low = omega arith; high = omega arith; not-five = λ e. omega arith; not-nine = λ e. omega arith }
 
 module _ {q : Fixed} {t : Terms} {m b d : ℕ} where
-  pub ok-refuse : (c : ℕ) (r : Run) → 5 ≤ c → c ≤ 10 → (c ≡ 5 → KeptFewer 512 (q .draws-lent)) → (c ≡ 9 → q .room-lent < 8192) → Codes q r → Ok q t m b d (with-code c r)
-  ok-refuse c r l h f n k =
-      record { good = λ e. absurd (omega arith); codes = record { lent = k .lent; within = k .within; space = k .space; five = f; nine = n; low = λ w. l; high = h } }
+  pub ok-refuse : (c : ℕ) (r : Run) → 5 ≤ c → c ≤ 10 → (c ≡ 5 → sure (q .draws-lent) < 512) → (c ≡ 5 → Roomy (r .station)) → (c ≡ 9 → q .room-lent < 8192) → Codes q r → Ok q t m b d (with-code c r)
+  ok-refuse c r l h f o n k =
+      record { good = λ e. absurd (omega arith); codes = record { lent = k .lent; within = k .within; space = k .space; five = f; roomy = o; nine = n; low = λ w. l; high = h } }
 
   pub ok-if : (test : Bool) {x y : Run} → (test ≡ true → Ok q t m b d x) → (test ≡ false → Ok q t m b d y) → Ok q t m b d (choose test x y)
   ok-if test f g = by-choice (Ok q t m b d) test f g
@@ -89,7 +89,7 @@ module _ {q : Fixed} {t : Terms} {m b d : ℕ} where
       core = record { still = h .still; seats = h .seats; waits = h .waits; tally = record { noted = h .tally .noted; bound = omega (arith, h .tally .bound) } };
       law = w .law;
       bytes-left = omega (arith, w .bytes-left);
-      draws-left = let k = w .draws-left in record { kept = k .kept; read = k .read; left = omega (arith, k .left) };
+      draws-left = omega (arith, w .draws-left);
     };
     codes = k .codes;
   }
@@ -124,7 +124,7 @@ module _ {q : Fixed} {t : Terms} {m b d : ℕ} where
           bytes-left = w .bytes-left;
           draws-left = w .draws-left;
         };
-        codes = record { lent = k .codes .lent; within = k .codes .within; space = k .codes .space; five = k .codes .five; nine = k .codes .nine; low = k .codes .low; high = k .codes .high };
+        codes = record { lent = k .codes .lent; within = k .codes .within; space = k .codes .space; five = k .codes .five; roomy = λ y. absurd (omega (arith, y, z)); nine = k .codes .nine; low = k .codes .low; high = k .codes .high };
       })
       (λ e. record { good = λ z. absurd (eqb-false (r .code) 0 e z); codes = k .codes })
 
@@ -132,15 +132,13 @@ module _ {q : Fixed} {t : Terms} {m b d : ℕ} where
   pub ok-on : {u : Terms} {n : ℕ} (f : Station → Station) {r : Run} → ((o : List Rec) → Good q t m (r .station) o → Good q u n (f (r .station)) o) → (Lawful (r .station) → Lawful (f (r .station))) → Ok q t m b d r → Ok q u n b d (on f r)
   ok-on f h l k = ok-change f (λ z o g w. (h o g, l w)) k
 
-  -- n draws, of which at most k are kept
+  -- n draws, of which every choice would keep at most k
   pub ok-draw : {k : ℕ} (n : ℕ) {r : Run} → ((o : List Rec) → Good q t m (r .station) o → Lawful (r .station) → Costs k n (to-draw r)) → Ok q t m b (d + k) r → Ok q t m b d (draw n r)
   unfolding draw to-draw
   ok-draw {k} n {r} h i =
-      ok-guard (i .codes) (λ z. let w = i .good z in let l = h (w .told) (w .core) (w .law) in let f = w .draws-left in
-      let left = length-drop (r .used) (r .draws) in
+      ok-guard (i .codes) (λ z. let w = i .good z in let l = h (w .told) (w .core) (w .law) in
       ok-if (leb (r .used + n) (length (r .draws)))
-      (λ e. let fits = leb-true (r .used + n) (length (r .draws)) e in
-      let g = l .keeps .taken (q .draws-lent) (f .kept) (f .read) (omega arith) in record {
+      (λ e. record {
         good = λ y. record {
           told = w .told;
           spelled = w .spelled;
@@ -148,12 +146,13 @@ module _ {q : Fixed} {t : Terms} {m b d : ℕ} where
           core = w .core;
           law = w .law;
           bytes-left = w .bytes-left;
-          draws-left = record { kept = f .kept + l .kept; read = subst (λ (x : List ℕ). Kept (q .draws-lent) x (f .kept + l .kept)) (drop-drop n (r .used) (r .draws)) g; left = omega (arith, l .few, f .left) };
+          draws-left = omega (arith, w .draws-left, l .taken, ap sure (take-add (r .used) n (r .draws)), sure-append (take (r .used) (r .draws)) (take n (drop (r .used) (r .draws))));
         };
-        codes = record { lent = i .codes .lent; within = omega (arith, fits, ap length (i .codes .lent)); space = i .codes .space; five = i .codes .five; nine = i .codes .nine; low = i .codes .low; high = i .codes .high };
+        codes = record { lent = i .codes .lent; within = omega (arith, leb-true (r .used + n) (length (r .draws)) e, ap length (i .codes .lent)); space = i .codes .space; five = i .codes .five; roomy = λ y. absurd (omega (arith, y, z)); nine = i .codes .nine; low = i .codes .low; high = i .codes .high };
       })
-      (λ e. let g = l .keeps .short (q .draws-lent) (f .kept) (f .read) (omega (arith, left, i .codes .within, ap length (i .codes .lent), leb-false (r .used + n) (length (r .draws)) e)) in
-      ok-refuse 5 r (omega arith) (omega arith) (λ y. record { kept = g .kept; read = g .read; few = omega (arith, g .few, l .few, f .left) }) (λ y. absurd (omega arith)) (i .codes)))
+      (λ e. ok-refuse 5 r (omega arith) (omega arith) (λ y. omega (arith, ap sure (i .codes .lent), w .draws-left, sure-at (r .used) (r .draws), l .short (omega (arith, i .codes .within, ap length (i .codes .lent), length-drop (r .used) (r .draws), leb-false (r .used + n) (length (r .draws)) e))))
+      (λ y. let c = w .core in record { active-few = omega (arith, c .seats .slots-left, c .still .ranges .few-slots); passive-few = omega (arith, c .seats .places-left, c .still .ranges .few-places); recent-few = omega (arith, w .law .recent-ok .few) })
+      (λ y. absurd (omega arith)) (i .codes)))
 
   pub ok-draw-one : {r : Run} → Ok q t m b (d + 1) r → Ok q t m b d (draw 1 r)
   ok-draw-one {r} k = ok-draw 1 (λ o g l. one-costs (to-draw r)) k
@@ -167,7 +166,7 @@ module _ {q : Fixed} {t : Terms} {m b d : ℕ} where
   unfolding require
   ok-require {c} p test {r} k =
       ok-guard (k .codes) (λ z. ok-if test (λ e. k)
-      (λ e. ok-refuse c r (p .low) (p .high) (λ y. absurd (p .not-five y)) (λ y. absurd (p .not-nine y)) (k .codes)))
+      (λ e. ok-refuse c r (p .low) (p .high) (λ y. absurd (p .not-five y)) (λ y. absurd (p .not-five y)) (λ y. absurd (p .not-nine y)) (k .codes)))
 
 -- what a test that was passed says
 pub require-fine : {c : ℕ} → Plain c → (test : Bool) (r : Run) → (require c test r) .code ≡ 0 → (require c test r ≡ r) × (test ≡ true)
@@ -225,23 +224,23 @@ codes-on : {q : Fixed} (f : Station → Station) {r : Run} → Codes q r → Cod
 unfolding on guard
 codes-on {q} f {r} c =
     by-choice (Codes q) (eqb (r .code) 0)
-    (λ e. record { lent = c .lent; within = c .within; space = c .space; five = c .five; nine = c .nine; low = c .low; high = c .high }) (λ e. c)
+    (λ e. record { lent = c .lent; within = c .within; space = c .space; five = c .five; roomy = λ y. absurd (omega (arith, y, eqb-true (r .code) 0 e)); nine = c .nine; low = c .low; high = c .high }) (λ e. c)
 
 -- a record of at most n bytes
 module _ {q : Fixed} {u : Terms} {m b d : ℕ} (e : Rec) (n : ℕ) where
-  pub ok-emit-fine : {r : Run} → Codes q r → (r .code ≡ 0 → (length (r .out) + size e ≤ 8192) × Told q u m b d (r .station) (r .out ++ encode e) (drop (r .used) (r .draws))) → Ok q u m b d (emit e r)
+  pub ok-emit-fine : {r : Run} → Codes q r → (r .code ≡ 0 → (length (r .out) + size e ≤ 8192) × Told q u m b d (r .station) (r .out ++ encode e) (spent r)) → Ok q u m b d (emit e r)
   unfolding emit
   ok-emit-fine {r} c h =
       ok-guard c (λ z. ok-if _
       (λ f. record {
         good = λ y. h z .1;
-        codes = record { lent = c .lent; within = c .within; space = c .space; five = c .five; nine = c .nine; low = c .low; high = c .high };
+        codes = record { lent = c .lent; within = c .within; space = c .space; five = c .five; roomy = λ y. absurd (omega (arith, y, z)); nine = c .nine; low = c .low; high = c .high };
       })
-      (λ f. ok-refuse 9 r (omega arith) (omega arith) (λ y. absurd (omega arith)) (λ y. omega (arith, c .space, h z .0, leb-false (length (r .out) + size e) (r .room) f)) c))
+      (λ f. ok-refuse 9 r (omega arith) (omega arith) (λ y. absurd (omega arith)) (λ y. absurd (omega arith)) (λ y. omega (arith, c .space, h z .0, leb-false (length (r .out) + size e) (r .room) f)) c))
 
-  said : {t : Terms} {k : ℕ} {s v : Station} {out rest : List ℕ} → size e ≤ n → (9 ≤ e .kind → e .kind ≤ 10 → e .peer < peers-end)
-      → ((o : List Rec) → Good q t k s o → Good q u m v (e ∷ o)) → (Lawful s → Lawful v) → Told q t k (b + n) d s out rest
-      → (length out + size e ≤ 8192) × Told q u m b d v (out ++ encode e) rest
+  said : {t : Terms} {k : ℕ} {s v : Station} {out : List ℕ} {drawn : ℕ} → size e ≤ n → (9 ≤ e .kind → e .kind ≤ 10 → e .peer < peers-end)
+      → ((o : List Rec) → Good q t k s o → Good q u m v (e ∷ o)) → (Lawful s → Lawful v) → Told q t k (b + n) d s out drawn
+      → (length out + size e ≤ 8192) × Told q u m b d v (out ++ encode e) drawn
   unfolding spell
   said {out = out} l a h w g = (
     omega (arith, g .bytes-left),

@@ -21,8 +21,11 @@ pub mod Reading
 pub mod Whole
 pub mod Tested
 pub mod Unreachable
-pub mod Taking
+pub mod Readers
+pub mod Plays
+pub mod Played
 pub mod Enough
+pub mod Decided
 pub mod Written
 pub mod Cases
 pub mod Bounds

@@ -60,7 +60,7 @@ unfolding ShortNodes
 short-more [] n h l = (l, tt)
 short-more (x ∷ ns) n h l = (h .0, short-more ns n (h .1) l)
 
-told-station : (f : ℕ → Rec) (ps : List ℕ) (r : Run) → (R.emit-all f ps r) .station ≡ r .station
+pub told-station : (f : ℕ → Rec) (ps : List ℕ) (r : Run) → (R.emit-all f ps r) .station ≡ r .station
 unfolding R.emit-all
 told-station f [] r = refl
 told-station f (p ∷ ps) r = told-station f ps (R.emit (f p) r) ∙ emit-station (f p) r

@@ -14,7 +14,7 @@ use Rattle.lists.proofs.Choice.{by-choice, split}
 use Rattle.lists.proofs.Maps.{subset-retain}
 use Rattle.timing.specs.declared.Config.{Config}
 use Rattle.peer.specs.Data.{Node}
-use Rattle.util.specs.Chances.{none-read}
+use Rattle.util.specs.Chances.{sure}
 use Rattle.record.specs.Format.{Rec}
 use Rattle.protocol.specs.Station.{Station, data-peers}
 use Rattle.protocol.specs.Run.{Run, guard, on}
@@ -146,7 +146,7 @@ at-start c me up sent allowed alone draws room e = record {
 
 module _ {c : Config} {me : ℕ} {up : List ℕ} {sent allowed : ℕ} {s : Station} (n : ℕ) (ds : List ℕ) (room : ℕ) (e : Rec) (w : Readable e) (p : Pays (c .«active_view_capacity») n e) (h : Between c me up sent allowed s) where
   pub start-plain : eqb (e .kind) 8 ≡ false → Ok (at-start c me up sent (allowed + n) (s .passes-alone) ds room e) calm n 8192 512 (start s ds room)
-  unfolding up-after sent-after spell choose
+  unfolding up-after sent-after spell choose sure
   start-plain f = record {
     good = λ z. record {
       told = [];
@@ -160,13 +160,13 @@ module _ {c : Config} {me : ℕ} {up : List ℕ} {sent allowed : ℕ} {s : Stati
       };
       law = h .law;
       bytes-left = omega arith;
-      draws-left = record { kept = 0; read = none-read; left = omega arith };
+      draws-left = omega arith;
     };
-    codes = record { lent = refl; within = omega arith; space = refl; five = λ z. absurd (omega arith); nine = λ z. absurd (omega arith); low = λ z. absurd (omega arith); high = omega arith };
+    codes = record { lent = refl; within = omega arith; space = refl; five = λ z. absurd (omega arith); roomy = λ z. absurd (omega arith); nine = λ z. absurd (omega arith); low = λ z. absurd (omega arith); high = omega arith };
   }
 
   pub start-quit : eqb (e .kind) 8 ≡ true → Ok (at-start c me up sent (allowed + n) (s .passes-alone) ds room e) (quitting (s .active)) 0 8192 512 (start s ds room)
-  unfolding up-after sent-after spell choose count
+  unfolding up-after sent-after spell choose count sure
   start-quit f = record {
     good = λ z. record {
       told = [];
@@ -180,9 +180,9 @@ module _ {c : Config} {me : ℕ} {up : List ℕ} {sent allowed : ℕ} {s : Stati
       };
       law = h .law;
       bytes-left = omega arith;
-      draws-left = record { kept = 0; read = none-read; left = omega arith };
+      draws-left = omega arith;
     };
-    codes = record { lent = refl; within = omega arith; space = refl; five = λ z. absurd (omega arith); nine = λ z. absurd (omega arith); low = λ z. absurd (omega arith); high = omega arith };
+    codes = record { lent = refl; within = omega arith; space = refl; five = λ z. absurd (omega arith); roomy = λ z. absurd (omega arith); nine = λ z. absurd (omega arith); low = λ z. absurd (omega arith); high = omega arith };
   }
 
   some-slot : 1 ≤ c .«active_view_capacity»

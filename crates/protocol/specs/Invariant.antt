@@ -5,12 +5,12 @@ use mathlib.Core.Bool.{Bool, true}
 use mathlib.Core.List.{List, [], _∷_, _++_}
 use mathlib.Core.Option.{none, some}
 use Prim.Native.Nat.{ℕ, _+_, _*_, _≤_, _<_}
-use lib.ListN.{length, drop}
+use lib.ListN.{length, take}
 use lib.Dec.{eqb}
 use Rattle.lists.specs.Lists.{choose, is, count, without, push-new, Rising}
 use Rattle.lists.specs.Maps.{keys, Each}
 use Rattle.timing.specs.declared.Config.{Config}
-use Rattle.util.specs.Chances.{Kept, KeptFewer}
+use Rattle.util.specs.Chances.{sure}
 use Rattle.peer.specs.Data.{Data}
 use Rattle.record.specs.Format.{Rec, size, encode}
 use Rattle.protocol.specs.Station.{Station, Refill, automatic, requests-left, recovery, top-counter, top-passes, peers-end}
@@ -207,33 +207,38 @@ Good q t m s o =
     Core (q .config-of) (q .self-of) (q .alone-kept) (q .alone-of) t m (s .me) (s .config) (s .passes-alone) (s .active) (s .passive) (s .alive) (keys (s .joins)) (s .bootstrap)
     (up-after o (q .up-of)) (sent-after o (q .sent-of)) (q .allowed)
 
--- of the draws ds all but rest are read, and beside those kept d more of 512 may be
-pub record Drawn (ds rest : List ℕ) (d : ℕ) : Type 0 where
-  pub kept : ℕ
-  pub read : Kept ds rest kept
-  pub left : kept + d ≤ 512
+-- of the draws used, how many are kept by every choice: those passed over, which count as used, are never among them
+abbrev pub spent : Run → ℕ
+spent r = sure (take (r .used) (r .draws))
 
--- the bytes written are those of some records, which the rest speaks of; b bytes are left of 8,192, and d draws that may be kept
-pub record Told (q : Fixed) (t : Terms) (m b d : ℕ) (s : Station) (out rest : List ℕ) : Type 0 where
+-- the bytes written are those of some records, which the rest speaks of; b bytes are left of 8,192, and of such draws d of 512
+pub record Told (q : Fixed) (t : Terms) (m b d : ℕ) (s : Station) (out : List ℕ) (drawn : ℕ) : Type 0 where
   pub told : List Rec
   pub spelled : out ≡ spell told
   pub sound : AllSound told
   pub core : Good q t m s told
   pub law : Lawful s
   pub bytes-left : length out + b ≤ 8192
-  pub draws-left : Drawn (q .draws-lent) rest d
+  pub draws-left : drawn + d ≤ 512
 
--- no more draws are used than are lent; and what a code says: 5 is met only where all draws lent are read and fewer than 512 kept, 9 only where less is lent than always suffices
+-- the lists that choices are made from are short
+pub record Roomy (s : Station) : Type 0 where
+  pub active-few : length (s .active) ≤ 32
+  pub passive-few : length (s .passive) ≤ 32
+  pub recent-few : length (s .recent) ≤ 32
+
+-- no more draws are used than are lent; and what a code says: 5 and 9 are met only where less is lent than always suffices
 pub record Codes (q : Fixed) (r : Run) : Type 0 where
   pub lent : r .draws ≡ q .draws-lent
   pub within : r .used ≤ length (q .draws-lent)
   pub space : r .room ≡ q .room-lent
-  pub five : r .code ≡ 5 → KeptFewer 512 (q .draws-lent)
+  pub five : r .code ≡ 5 → sure (q .draws-lent) < 512
+  pub roomy : r .code ≡ 5 → Roomy (r .station)
   pub nine : r .code ≡ 9 → q .room-lent < 8192
   pub low : 1 ≤ r .code → 5 ≤ r .code
   pub high : r .code ≤ 10
 
 -- the invariant: of a refused run only what its code says
 pub record Ok (q : Fixed) (t : Terms) (m b d : ℕ) (r : Run) : Type 0 where
-  pub good : r .code ≡ 0 → Told q t m b d (r .station) (r .out) (drop (r .used) (r .draws))
+  pub good : r .code ≡ 0 → Told q t m b d (r .station) (r .out) (spent r)
   pub codes : Codes q r

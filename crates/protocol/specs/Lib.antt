@@ -14,6 +14,6 @@ pub mod Handle
 pub mod Written
 pub mod Evictions
 pub mod Traced
-pub mod Taking
+pub mod Kept
 pub mod Invariant
 pub mod Table

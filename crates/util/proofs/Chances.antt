@@ -1,19 +1,19 @@
 -- Laws of the random choices: where they end, and how many draws they take.
 -- Assumes nothing.
 use Prim.Native.Nat.{ℕ, zero, suc, _+_, _-_, _%_, _≤_, _<_}
-use mathlib.Core.Path.{_≡_, refl, sym, ap, subst, _∙_}
-use mathlib.Core.Bool.{true}
-use mathlib.Core.List.{List, [], _∷_}
+use mathlib.Core.Path.{_≡_, refl, sym, ap, _∙_}
+use mathlib.Core.Bool.{false}
+use mathlib.Core.List.{List, [], _∷_, _++_}
 use native.Mathlib.Nat.{mod-lt, zero-mod, not-suc-le-zero}
 use native.Mathlib.Numerals.{add-one, sub-one}
 use native.Mathlib.Omega.{arith}
-use lib.ListN.{length, drop, getD, length-set, length-drop, drop-of-length-le, List·getD-eq-default}
-use lib.Seq.{drop-cons, drop-drop, getD-drop}
+use lib.ListN.{length, take, drop, getD, length-set, length-drop, take-append-drop, drop-of-length-le, List·getD-eq-default}
+use lib.Seq.{take-add, drop-cons, drop-drop, getD-drop}
 use lib.Dec.{eqb, ltb}
-use borrow.Author.Tests.{eqb-true, eqb-false, ltb-true, ltb-false, lt-ltb, le-ltb, ne-eqb}
+use borrow.Author.Tests.{eqb-false, ltb-true, ltb-false, lt-ltb, le-ltb, ne-eqb}
 use Rattle.lists.specs.Lists.{choose, swap}
 use Rattle.lists.proofs.Choice.{by-choice, choose-yes, choose-no, split}
-use Rattle.util.specs.Chances.{all-draws, kept-end, is-kept, passed-over, pick-draws, pick, shuffle-down, draws-down, shuffle, shuffle-draws, sure-end, Kept, delay, choice, missed, KeptFewer}
+use Rattle.util.specs.Chances.{all-draws, kept-end, is-kept, passed-over, pick-draws, pick, shuffle-down, draws-down, shuffle, shuffle-draws, sure-end, sure}
 
 -- a choice among n is below n
 pub pick-below : (n : ℕ) (ds : List ℕ) → 0 < n → pick n ds < n
@@ -114,73 +114,72 @@ module _ (n at : ℕ) (ds : List ℕ) (k : ℕ) (v : Passing n at ds k) where
     pub none-next : 0 < n → k + 1 ≡ at + pick-draws n (drop at ds)
     none-next z = omega (arith, ends, pick-some n (drop at ds) z)
 
--- ---- the draws that were kept
+-- ---- the draws that every choice keeps
 
--- m draws of rest are taken, of which k are kept; and where there are not m, all of rest is read, and fewer than k of it are kept
-pub record Keeps (k m : ℕ) (rest : List ℕ) : Type 0 where
-  pub taken : (ds : List ℕ) (j : ℕ) → Kept ds rest j → m ≤ length rest → Kept ds (drop m rest) (j + k)
-  pub short : (ds : List ℕ) (j : ℕ) → Kept ds rest j → length rest < m → KeptFewer (j + k) ds
+pub sure-append : (xs ys : List ℕ) → sure (xs ++ ys) ≡ sure xs + sure ys
+unfolding sure
+sure-append [] ys = omega arith
+sure-append (d ∷ xs) ys = omega (arith, sure-append xs ys)
 
-counted : {ds rest : List ℕ} {k l : ℕ} → k ≡ l → Kept ds rest k → Kept ds rest l
-counted {ds} {rest} e r = subst (Kept ds rest) e r
+pub sure-at : (k : ℕ) (ds : List ℕ) → sure (take k ds) + sure (drop k ds) ≡ sure ds
+sure-at k ds = sym (sure-append (take k ds) (drop k ds)) ∙ ap sure (take-append-drop k ds)
 
-none-keeps : (rest : List ℕ) → Keeps 0 0 rest
-none-keeps rest = record { taken = λ ds j r f. counted (omega arith) r; short = λ ds j r f. absurd (omega arith) }
-
--- a delay's draw
-pub one-keeps : (rest : List ℕ) → Keeps 1 1 rest
-one-keeps [] = record { taken = λ ds j r f. absurd (omega arith); short = λ ds j r f. record { kept = j; read = r; few = omega arith } }
-one-keeps (d ∷ rest) = record { taken = λ ds j r f. counted (omega arith) (delay r); short = λ ds j r f. absurd (omega arith) }
-
-pub pick-keeps : (n : ℕ) (rest : List ℕ) → 0 < n → n ≤ 32 → Keeps 1 (pick-draws n rest) rest
-pick-keeps n rest some few =
-    let m = pick-some n rest some in
-    record {
-      taken = λ ds j r f. counted (omega arith) (choice {rest = rest} n some few (omega (arith, m, f)) r);
-      short = λ ds j r f. record { kept = j; read = missed {rest = rest} n some few (omega (arith, m, f, few-passed n rest)) r; few = omega arith };
-    }
-
-down-keeps : (i : ℕ) (rest : List ℕ) → i < 32 → Keeps i (draws-down i rest) rest
-unfolding draws-down
-down-keeps zero rest h = none-keeps rest
-down-keeps (suc i) rest h =
-    let m = pick-draws (i + 2) rest in
-    let c = pick-keeps (i + 2) rest (omega arith) (omega arith) in
-    let t = down-keeps i (drop m rest) (omega arith) in
-    record {
-      taken = λ ds j r f.
-          let v = t .taken ds (j + 1) (c .taken ds j r (omega arith)) (omega (arith, length-drop m rest)) in
-          counted (omega arith) (subst (λ (l : List ℕ). Kept ds l (j + 1 + i)) (drop-drop (draws-down i (drop m rest)) m rest) v);
-      short = λ ds j r f. split (ltb (length rest) m)
-          (λ e. let u = c .short ds j r (ltb-true (length rest) m e) in record { kept = u .kept; read = u .read; few = omega (arith, u .few) })
-          (λ e. let l = ltb-false (length rest) m e in
-          let v = t .short ds (j + 1) (c .taken ds j r l) (omega (arith, l, length-drop m rest)) in
-          record { kept = v .kept; read = v .read; few = omega (arith, v .few) });
-    }
-
-pub shuffle-keeps : (rest xs : List ℕ) → length xs ≤ 32 → Keeps (length xs - 1) (shuffle-draws rest xs) rest
-unfolding shuffle-draws
-shuffle-keeps rest xs few = down-keeps (length xs - 1) rest (omega arith)
-
--- at most k are kept
-pub record Costs (k m : ℕ) (rest : List ℕ) : Type 0 where
-  pub kept : ℕ
-  pub few : kept ≤ k
-  pub keeps : Keeps kept m rest
-
-pub one-costs : (rest : List ℕ) → Costs 1 1 rest
-one-costs rest = record { kept = 1; few = omega arith; keeps = one-keeps rest }
-
-pub pick-costs : (n : ℕ) (rest : List ℕ) → n ≤ 32 → Costs 1 (pick-draws n rest) rest
-pick-costs n rest few =
-    split (eqb n 0)
-    (λ e. record { kept = 0; few = omega arith; keeps = subst (λ (m : ℕ). Keeps 0 m rest) (sym (ap (λ (i : ℕ). pick-draws i rest) (eqb-true n 0 e) ∙ pick-none rest)) (none-keeps rest) })
-    (λ e. let o = eqb-false n 0 e in record { kept = 1; few = omega arith; keeps = pick-keeps n rest (omega arith) few })
-
-pub shuffle-costs : (k : ℕ) (rest xs : List ℕ) → length xs - 1 ≤ k → k < 32 → Costs k (shuffle-draws rest xs) rest
-shuffle-costs k rest xs h few = record { kept = length xs - 1; few = h; keeps = shuffle-keeps rest xs (omega arith) }
+pub sure-length : (ds : List ℕ) → sure ds ≤ length ds
+unfolding sure
+sure-length [] = omega arith
+sure-length (d ∷ ds) = by-choice (λ (c : ℕ). c + sure ds ≤ suc (length ds)) (ltb d sure-end) (λ e. omega (arith, sure-length ds)) (λ e. omega (arith, sure-length ds))
 
 -- a choice of at most 32 items passes over no draw that is below 2^32 - 32
-pub sure-kept : (n d : ℕ) → 0 < n → n ≤ 32 → d < sure-end → is-kept n d ≡ true
+passed-unsure : (n d : ℕ) → 0 < n → n ≤ 32 → is-kept n d ≡ false → ltb d sure-end ≡ false
 unfolding is-kept kept-end
-sure-kept n d h l s = lt-ltb d (all-draws - all-draws % n) (omega (arith, mod-lt all-draws {m = n} h))
+passed-unsure n d h l e =
+    split (ltb d sure-end) (λ t. absurd (omega (arith, ltb-true d sure-end t, ltb-false d (all-draws - all-draws % n) e, mod-lt all-draws {m = n} h))) (λ t. t)
+
+-- m draws of ds are at most k that every choice keeps; and where there are not m, ds has fewer than k of them
+pub record Costs (k m : ℕ) (ds : List ℕ) : Type 0 where
+  pub taken : sure (take m ds) ≤ k
+  pub short : length ds < m → sure ds < k
+
+-- a delay's draw
+pub one-costs : (ds : List ℕ) → Costs 1 1 ds
+unfolding sure
+one-costs [] = record { taken = omega arith; short = λ h. omega arith }
+one-costs (d ∷ ds) = record { taken = by-choice (λ (c : ℕ). c + 0 ≤ 1) (ltb d sure-end) (λ e. omega arith) (λ e. omega arith); short = λ h. absurd (omega arith) }
+
+module _ (n : ℕ) (h : 0 < n) (few : n ≤ 32) where
+  some-costs : (ds : List ℕ) → Costs 1 (suc (passed-over n ds)) ds
+  unfolding passed-over sure
+  some-costs [] = record { taken = omega arith; short = λ l. omega arith }
+  some-costs (d ∷ ds) =
+      by-choice (λ (c : ℕ). Costs 1 (suc c) (d ∷ ds)) (is-kept n d)
+      (λ e. record { taken = by-choice (λ (c : ℕ). c + 0 ≤ 1) (ltb d sure-end) (λ e. omega arith) (λ e. omega arith); short = λ l. absurd (omega arith) })
+      (λ e. let t = choose-no {A = ℕ} (ltb d sure-end) 1 0 (passed-unsure n d h few e) in
+      let c = some-costs ds in
+      record { taken = omega (arith, t, c .taken); short = λ l. omega (arith, t, c .short (omega arith)) })
+
+pub pick-costs : (n : ℕ) (ds : List ℕ) → n ≤ 32 → Costs 1 (pick-draws n ds) ds
+unfolding pick-draws sure
+pick-costs n ds few =
+    by-choice (λ (m : ℕ). Costs 1 m ds) (eqb n 0)
+    (λ e. record { taken = omega arith; short = λ l. absurd (omega arith) })
+    (λ e. let o = eqb-false n 0 e in rw (add-one (passed-over n ds)) (some-costs n (omega arith) few ds))
+
+down-costs : (i : ℕ) (ds : List ℕ) → i < 32 → Costs i (draws-down i ds) ds
+unfolding draws-down sure
+down-costs zero ds h = record { taken = omega arith; short = λ l. absurd (omega arith) }
+down-costs (suc i) ds h =
+    let m = pick-draws (i + 2) ds in
+    let c = pick-costs (i + 2) ds (omega arith) in
+    let r = down-costs i (drop m ds) (omega arith) in
+    record {
+      taken = omega (arith, ap sure (take-add m (draws-down i (drop m ds)) ds), sure-append (take m ds) (take (draws-down i (drop m ds)) (drop m ds)), c .taken, r .taken);
+      short = λ l. split (ltb (length ds) m)
+          (λ e. omega (arith, c .short (ltb-true (length ds) m e)))
+          (λ e. omega (arith, ltb-false (length ds) m e, sure-at m ds, c .taken, r .short (omega (arith, length-drop m ds, ltb-false (length ds) m e))));
+    }
+
+pub shuffle-costs : (k : ℕ) (ds xs : List ℕ) → length xs - 1 ≤ k → k < 32 → Costs k (shuffle-draws ds xs) ds
+unfolding shuffle-draws
+shuffle-costs k ds xs h few =
+    let c = down-costs (length xs - 1) ds (omega arith) in
+    record { taken = omega (arith, c .taken); short = λ l. omega (arith, c .short l) }

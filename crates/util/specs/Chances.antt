@@ -1,8 +1,7 @@
 -- Document 01, "Random choices", with 02, S-6: what a list of draws decides, and how many of them that takes.
 -- Draws that are not there count as 0; who takes them first sees that they are there.
 -- Assumes nothing.
-use Prim.Native.Nat.{ℕ, zero, suc, _+_, _-_, _%_, _≤_, _<_}
-use mathlib.Core.Path.{_≡_}
+use Prim.Native.Nat.{ℕ, zero, suc, _+_, _-_, _%_}
 use mathlib.Core.Bool.{Bool}
 use mathlib.Core.List.{List, [], _∷_}
 use lib.ListN.{length, drop, getD}
@@ -56,18 +55,7 @@ shuffle-draws ds xs = draws-down (length xs - 1) ds
 abbrev pub sure-end : ℕ
 sure-end = all-draws - 32
 
--- 02, S-6, a draw that was kept: delays and choices, one after another, have read the draws ds up to rest, and kept k of them
-pub data Kept : List ℕ → List ℕ → ℕ → Type 0 where
-  none-read : {ds : List ℕ} → Kept ds ds 0
-  -- a delay keeps the next draw
-  delay : {ds rest : List ℕ} {d k : ℕ} → Kept ds (d ∷ rest) k → Kept ds rest (suc k)
-  -- a choice of one of n items passes over what is not kept for n, and keeps one draw
-  choice : {ds rest : List ℕ} {k : ℕ} (n : ℕ) → 0 < n → n ≤ 32 → passed-over n rest < length rest → Kept ds rest k → Kept ds (drop (pick-draws n rest) rest) (suc k)
-  -- a choice for which none is kept has read all that was left
-  missed : {ds rest : List ℕ} {k : ℕ} (n : ℕ) → 0 < n → n ≤ 32 → passed-over n rest ≡ length rest → Kept ds rest k → Kept ds [] k
-
--- all of ds is read, and fewer than n of its draws are kept
-pub record KeptFewer (n : ℕ) (ds : List ℕ) : Type 0 where
-  pub kept : ℕ
-  pub read : Kept ds [] kept
-  pub few : kept < n
+-- how many draws of a list are below it
+unfoldable pub sure : List ℕ → ℕ
+sure [] = 0
+sure (d ∷ ds) = choose (ltb d sure-end) 1 0 + sure ds
