@@ -15,7 +15,7 @@ use Rattle.lists.proofs.Choice.{choose-yes, choose-no, split}
 use Rattle.lists.proofs.Count.{length-without, length-without-all}
 use Rattle.timing.specs.Timing.{join-retry-delay, maintenance-interval, next, backoff-due, delay}
 use Rattle.peer.specs.Data.{Data, Node}
-use Rattle.record.specs.Format.{Rec, size}
+use Rattle.record.specs.Format.{Rec, size-by}
 use Rattle.util.specs.Chances.{pick-draws, pick, shuffle, shuffle-draws}
 use Rattle.protocol.specs.Station.{Station, Refill, recovery, is-me, in-active, in-passive, in-view, is-requested, is-alone, active-is-full, passive-is-full, is-short}
 use Rattle.protocol.specs.Invariant.{Roomy}
@@ -425,9 +425,9 @@ plays-retry-join : (p id : ℕ) → Plays (T.retry-join p id)
 unfolding T.retry-join
 plays-retry-join p id = by-station (λ s r. choose (T.join-is p id s) (S.join p (on (M.drop-join p) r)) r) (λ s. either (T.join-is p id s) (thens (changes (M.drop-join p)) (plays-join p)) idle)
 
--- the delay drawn stands in the record, and does not change its size
+-- the delay drawn stands in the record, and does not change its length
 plays-schedule-shuffle : Plays T.schedule-shuffle
-unfolding T.schedule-shuffle size
+unfolding T.schedule-shuffle size-by
 plays-schedule-shuffle = tells (thens (changes T.double-interval) delays) (λ r. timer 1 0 (delay (r .station .next-interval) (drawn r)) 0) (λ r w e. refl)
 
 plays-send-shuffle : (to : ℕ) (ps : List ℕ) → Plays (T.send-shuffle to ps)
