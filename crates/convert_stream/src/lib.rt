@@ -43,6 +43,11 @@ fn complain(code: u32, place: u64) {
     io::write_all(2, b"\n");
 }
 
+// The line that ends it where its output cannot be written.
+fn complain_full() {
+    io::write_all(2, b"standard output takes no more\n");
+}
+
 // Reads on, behind the bytes that are held at the front: how many stand there then, fewer than there is room for only at the end of the input.
 fn fill(buffer: &mut [u8], held: usize) -> usize
     requires { ⌜ held ≤ length (now buffer) ⌝ }
@@ -106,7 +111,7 @@ fn stream(buffer: &mut [u8], out: &mut [u8], back: bool)
     while 0 < left {
         let t = turn(buffer, held, out, back);
         if !t.wrote {
-            io::write_all(2, b"standard output takes no more\n");
+            complain_full();
             return;
         }
         held = t.held;
