@@ -55,7 +55,7 @@ fn show_in(form: u8, b: &[u8], out: &mut [u8]) {
     show_result(r, out);
 }
 
-// To this form where it is 0, otherwise to the old one.
+// To the new form where the byte is 0, otherwise to the old one.
 fn convert_to(form: u8, b: &[u8], out: &mut [u8]) -> Converted
     ensures { λ r. ⌜ r .written ≤ length (now (out .entry)) ⌝ }
 {

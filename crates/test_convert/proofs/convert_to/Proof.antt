@@ -4,7 +4,7 @@ use mathlib.Core.Path.{_≡_, ap}
 use mathlib.Core.List.{List}
 use native.Mathlib.Omega.{arith}
 use lib.ListN.{length}
-use Rattle.convert.specs.Convert.{Outcome, outcome, conversion, outcome-of, converted}
+use Rattle.convert.specs.Convert.{Outcome, outcome, conversion, outcome-of}
 use Rattle.convert.specs.declared.Converted.{Converted}
 use Rattle.convert.proofs.Laws.{converted-fits}
 use borrow.Author.Needs.{needs}
