@@ -1,0 +1,91 @@
+-- The measure is what is left of the input.
+use Prim.Native.Nat.{_≤_, _-_}
+use lib.ListN.{length}
+use borrow.Author.Needs.{needs}
+use Rattle.test_convert.proofs.show_all.Statement.{statement}
+use Rattle.test_convert.proofs.show_all.Tie as tie
+
+abbrev Inv-loop : tie.InvT-loop
+Inv-loop s at₀ at = at ≤ length s
+
+abbrev μ-loop : tie.MeasureT-loop
+μ-loop s at₀ at = length s - at
+
+loop-holds : tie.Need-loop-holds Inv-loop μ-loop
+loop-holds c = search needs
+
+sub-left : tie.Need-sub-left Inv-loop μ-loop
+sub-left c = search needs
+
+returns : tie.Need-returns Inv-loop μ-loop
+returns c = search needs
+
+add-length-at : tie.Need-add-length-at Inv-loop μ-loop
+add-length-at c = search needs
+
+length-at-requires : tie.Need-length-at-requires Inv-loop μ-loop
+length-at-requires c κs = search needs
+
+add-length-at-2 : tie.Need-add-length-at-2 Inv-loop μ-loop
+add-length-at-2 c = search needs
+
+length-at-requires-2 : tie.Need-length-at-requires-2 Inv-loop μ-loop
+length-at-requires-2 c κs = search needs
+
+returns-2 : tie.Need-returns-2 Inv-loop μ-loop
+returns-2 c = search needs
+
+add-start : tie.Need-add-start Inv-loop μ-loop
+add-start c = search needs
+
+add-end : tie.Need-add-end Inv-loop μ-loop
+add-end c = search needs
+
+shared-slice-read-show : tie.Need-shared-slice-read-show Inv-loop μ-loop
+shared-slice-read-show c = search needs
+
+sub-show : tie.Need-sub-show Inv-loop μ-loop
+sub-show c = search needs
+
+part-show-start : tie.Need-part-show-start Inv-loop μ-loop
+part-show-start c = search needs
+
+part-show-end : tie.Need-part-show-end Inv-loop μ-loop
+part-show-end c = search needs
+
+show-requires : tie.Need-show-requires Inv-loop μ-loop
+show-requires c κs = search needs
+
+loop-less : tie.Need-loop-less Inv-loop μ-loop
+loop-less c = search needs
+
+loop-again : tie.Need-loop-again Inv-loop μ-loop
+loop-again c = search needs
+
+returns-3 : tie.Need-returns-3 Inv-loop μ-loop
+returns-3 c = search needs
+
+pub show-all-spec : {M : Type 1} → statement M
+show-all-spec =
+    tie.close
+    (tie.spec
+    Inv-loop
+    μ-loop
+    loop-holds
+    sub-left
+    returns
+    add-length-at
+    length-at-requires
+    add-length-at-2
+    length-at-requires-2
+    returns-2
+    add-start
+    add-end
+    shared-slice-read-show
+    sub-show
+    part-show-start
+    part-show-end
+    show-requires
+    loop-less
+    loop-again
+    returns-3)
