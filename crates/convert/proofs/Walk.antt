@@ -17,6 +17,7 @@ use Rattle.lists.specs.Bytes.{read-le}
 use Rattle.lists.proofs.Array.{length-pad}
 use Rattle.lists.proofs.Choice.{by-choice, choose-yes, choose-no, split}
 use Rattle.record.specs.Format.{header-length-by}
+use Rattle.record.specs.Read.{header-of-by}
 use Rattle.convert.specs.Convert.{conversion-code, Conversion, outcome, converted, conversion, placed, outcome-of}
 use Rattle.convert.specs.Walk.{first-record, Walked, behind, stopped, converting, walked, outcomes, outcomes-of}
 use Rattle.record.proofs.Laws.{well-formed-long}
@@ -26,12 +27,12 @@ use Rattle.convert.proofs.Laws.{Accepted, accepted, converted-fits, pla
 
 module _ (v : ℕ) (b : List ℕ) where
   pub first-short : length b < header-length-by v → first-record v b ≡ b
-  unfolding first-record
+  unfolding first-record header-of-by
   first-short l = choose-yes _ _ _ (lt-ltb (length b) (header-length-by v) l)
 
   module _ (l : header-length-by v ≤ length b) where
     pub first-long : first-record v b ≡ take (read-le 2 b (6 + 2 * v)) b
-    unfolding first-record
+    unfolding first-record header-of-by
     first-long = choose-no _ _ _ (le-ltb (length b) (header-length-by v) l)
 
     pub first-cut : length b < read-le 2 b (6 + 2 * v) → first-record v b ≡ b
@@ -47,7 +48,7 @@ part-again s b =
     (λ n. let e : take s b ≡ b = take-all s b (omega (arith, leb-false s (length b) n)) in rw e (take-length b))
 
 pub first-part : (v : ℕ) (b : List ℕ) → take (length (first-record v b)) b ≡ first-record v b
-unfolding first-record
+unfolding first-record header-of-by
 first-part v b =
     by-choice (λ (f : List ℕ). take (length f) b ≡ f) (ltb (length b) (header-length-by v)) (λ _. take-length b) (λ _. part-again (read-le 2 b (6 + 2 * v)) b)
 

@@ -1,19 +1,19 @@
 -- Document 02, S-8, over a whole file: nothing but records, without gaps, up to its end.
 -- Assumes nothing.
-use Prim.Native.Nat.{ℕ, zero, suc, _+_, _*_, _-_}
+use Prim.Native.Nat.{ℕ, zero, suc, _+_, _-_}
 use mathlib.Core.List.{List, [], _++_}
 use lib.ListN.{length, take, drop}
 use lib.Dec.{ltb, eqb}
 use Rattle.lists.specs.Lists.{choose, null}
 use Rattle.lists.specs.Array.{pad}
-use Rattle.lists.specs.Bytes.{read-le}
 use Rattle.record.specs.Format.{header-length-by}
+use Rattle.record.specs.Read.{header-of-by}
 use Rattle.convert.specs.Convert.{conversion-code, converted}
 use Rattle.convert.specs.declared.Progress.{Progress}
 
 -- the bytes of the first record, by the whole length that it says: all of them where no header fits or the record is cut off
 unfoldable pub first-record : ℕ → List ℕ → List ℕ
-first-record v b = choose (ltb (length b) (header-length-by v)) b (take (read-le 2 b (6 + 2 * v)) b)
+first-record v b = choose (ltb (length b) (header-length-by v)) b (take (header-of-by v b .size) b)
 
 -- the answer, the bytes of the records before it, and the bytes written
 pub record Walked : Type 0 where

@@ -249,7 +249,7 @@ fn answer(b: &[u8], room: usize, v: usize, w: usize) -> u32
     if b.len() < record::place(0, v) {
         return Refusal::MALFORMED;
     }
-    if 32 < b[3] {
+    if record::MOST_NODES < b[3] {
         return Refusal::NODES;
     }
     if record::well_formed(b, v) {

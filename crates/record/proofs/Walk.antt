@@ -92,7 +92,7 @@ size-some e = omega arith
 
 module _ (e : Rec) (rest : List ℕ) (s : size e < 65536) where
   pub whole-is : whole-length (encode e ++ rest) ≡ size e
-  unfolding whole-length encode-by header-by le read-le
+  unfolding whole-length header-of-by encode-by header-by le read-le
   whole-is = omega (arith, s)
 
   pub records-written : records-in (encode e ++ rest) ≡ (encode e ++ rest) ∷ records-in rest
@@ -107,5 +107,5 @@ zero-at (suc n) zero = refl
 zero-at (suc n) (suc i) = zero-at n i
 
 pub records-zeros : (n : ℕ) → records-in (replicate n 0) ≡ []
-unfolding whole-length read-le
+unfolding whole-length header-of-by read-le
 records-zeros n = records-none (replicate n 0) (omega (arith, zero-at n 22, zero-at n 23))

@@ -21,7 +21,7 @@ unfoldable pub peer-in : List ℕ → ℕ
 peer-in b = read-le peer-length b 4
 
 unfoldable pub whole-length : List ℕ → ℕ
-whole-length b = read-le 2 b 22
+whole-length b = header-of b .size
 
 -- "Then the output's records are taken in order, each by its whole length, until that is 0 or no header fits.": each with the bytes behind it.
 -- Each takes a byte or more, so that n, the output's length, is never used up before.

@@ -24,6 +24,16 @@ pub const HEADER: usize = 32;
 
 pub const NODE: usize = 12;
 
+// The most nodes of a record, and the most bytes of a node's data.
+pub const MOST_NODES: u8 = 32;
+
+const MOST_DATA: u8 = 16;
+
+// The fixed sizes: of a header, and of a header with a node.
+const BARE: u8 = 32;
+
+const WITH_NODE: u8 = 44;
+
 // The header that every record starts with, as numbers.
 #[repr(C)]
 pub struct Header {
@@ -142,10 +152,10 @@ pub fn fixed_size(kind: u8) -> u8
     ensures { λ r. ⌜ r ≡ fixed-size kind ⌝ }
 {
     if (kind == Kind::UPDATE_PEER_DATA) | (kind == Kind::PEER_DATA) {
-        return 44;
+        return WITH_NODE;
     }
     if kind <= Kind::EVICTED {
-        return 32;
+        return BARE;
     }
     0
 }
@@ -327,7 +337,7 @@ fn count_ok(h: Header) -> bool
     let one = is_message(Message::JOIN, h)
         | (is_message(Message::FORWARD_JOIN, h) | (is_message(Message::NEIGHBOR, h) | is_data(h)));
     let some = is_message(Message::SHUFFLE, h) | is_message(Message::SHUFFLE_REPLY, h);
-    choose(one, h.nodes == 1, choose(some, h.nodes <= 32, h.nodes == 0))
+    choose(one, h.nodes == 1, choose(some, h.nodes <= MOST_NODES, h.nodes == 0))
 }
 
 // Peer is 0 in kinds 1, 2, 7, 8.
@@ -377,7 +387,7 @@ fn data_ok(e: Entry, at: usize) -> bool
     choose(
         e.present == 0,
         (e.offset == 0) & (e.len == 0),
-        (e.present == 1) & ((offset == at) & (e.len <= 16)),
+        (e.present == 1) & ((offset == at) & (e.len <= MOST_DATA)),
     )
 }
 
@@ -461,7 +471,7 @@ pub fn read_event(b: &[u8]) -> Event
     if b.len() < HEADER {
         return Event::Refused(Refusal::MALFORMED);
     }
-    if 32 < b[3] {
+    if MOST_NODES < b[3] {
         return Event::Refused(Refusal::NODES);
     }
     let h = read_header(b);
