@@ -350,8 +350,9 @@ uint32_t hyparview_new(uint64_t *state, size_t words, struct hyparview_tally *ta
  * `draws` are the station's random choices: any numbers do, but stations that draw the same choose the same, and peers who
  * can foresee the draws can foresee the choices. The first `done.draws` of them are used up. A choice passes over draws near
  * 2^32, so that all items have equal chances; of HYPARVIEW_DRAWS even draws too many are passed over with a chance below
- * 2^-5000 (docs/FORMAT.md works it out): then the code is HYPARVIEW_CODE_DRAWS, and the same event may be brought again with others. Of several reasons to
- * refuse the first holds: 2; 3 for under 32 bytes; 4; 3; then of 5 to 10 what the steps meet first. */
+ * 2^-5000 (docs/FORMAT.md works it out): then the code is HYPARVIEW_CODE_DRAWS, and the same event may be brought again
+ * with others. Of several reasons to refuse the first holds: 2; 3 for under 32 bytes; 4; 3; then of 5 to 10 what the steps
+ * meet first. */
 struct hyparview_done hyparview_handle(uint64_t *state, size_t words, struct hyparview_tally *tally, const uint8_t *event,
                                        size_t event_len, const uint32_t *draws, size_t draws_len, uint8_t *out,
                                        size_t out_len);

@@ -49,7 +49,7 @@ more-spelled e f w = record {
   bytes = ap (λ (l : List ℕ). l ++ encode e) (w .bytes) ∙ sym (encode-more (w .records) e);
 }
 
--- draws have 32 bits, as a timer's delay has
+-- draws have 32 bits, so that a timer's delay fits its field
 abbrev pub Draws : List ℕ → Type 0
 Draws ds = All (λ d. d < draws-end) ds
 
