@@ -1,25 +1,24 @@
 -- The section of a map of data: its two halves are put back.
 -- Assumes nothing.
-use Prim.Native.Nat.{ℕ, zero, suc, _+_, _-_, _≤_, _<_}
+use Prim.Native.Nat.{ℕ, _+_, _-_, _≤_, _<_}
 use mathlib.Core.Path.{_≡_, refl, sym, ap, _∙_, subst}
 use mathlib.Core.Bool.{true, _||_}
-use mathlib.Core.List.{List, [], _∷_, _++_, map}
+use mathlib.Core.List.{List, _++_}
 use mathlib.Core.Option.{none, some}
 use native.Mathlib.Omega.{arith}
 use lib.ListN.{length, take, drop, getD, set, length-set, length-drop, take-append-drop}
-use lib.Seq.{length-take-le, take-take, take-at, take-all, take-set-lt, drop-set-lt, getD-take, getD-drop, getD-set-other}
+use lib.Seq.{take-take, take-all, take-set-lt, getD-take, getD-drop, getD-set-other}
 use lib.Dec.{ltb}
 use borrow.Rule.Slice.PartMut.{putMid}
 use mir.Syntax.{w8}
 use mir.Val.{Fits}
 use Rattle.lists.specs.Array.{pad}
 use Rattle.lists.specs.Lists.{index-of, rank, shift-remove, insert-at, Rising}
-use Rattle.lists.specs.Maps.{keys, zip, has, lookup, cut, put}
-use Rattle.lists.specs.Tests.{All}
+use Rattle.lists.specs.Maps.{keys, has, lookup, cut, put}
 use Rattle.lists.specs.Bytes.{le}
 use Rattle.lists.proofs.Places.{cut-missing}
 use Rattle.lists.proofs.Array.{length-pad, set-pad, length-shift-remove, length-insert-at}
-use Rattle.lists.proofs.Entries.{Entries, entries-keys, entries-length, entries-taken, entries-has, entries-found, entries-none, entries-each, entries-room, entries-cut, entries-cut-none, entries-replace, entries-insert}
+use Rattle.lists.proofs.Entries.{Entries, entries-keys, entries-length, entries-taken, entries-has, entries-found, entries-none, entries-each, entries-room, entries-cut, entries-replace, entries-insert}
 use Rattle.peer.specs.declared.PeerData.{PeerData}
 use Rattle.peer.specs.Data.{bytes-of}
 use Rattle.peer.specs.Held.{data-in, ValidData, HoldsData}
@@ -31,7 +30,7 @@ use Rattle.columns.specs.Columns.{Two, word-bytes, row, rows, head-of, t
 use Rattle.util.proofs.Columns.{filled-of, filled-length}
 use Rattle.util.proofs.Parts.{part-long, part-set-after, part-set-in, part-set-before}
 use Rattle.columns.proofs.Numbers.{Stored, twice-long, both-stored, once-second}
-use Rattle.columns.proofs.Rows.{take-rows, length-rows, pad-rows, shift-rows, insert-rows, set-rows, getD-rows}
+use Rattle.columns.proofs.Rows.{take-rows, pad-rows, shift-rows, insert-rows, set-rows, getD-rows}
 
 -- ---- the section and the map
 

@@ -1,9 +1,9 @@
 -- A map of numbers as a section: both columns or the count are put back, and what its words are.
 -- Assumes nothing.
-use Prim.Native.Nat.{ℕ, suc, _+_, _-_, _≤_, _<_}
+use Prim.Native.Nat.{ℕ, _+_, _-_, _≤_, _<_}
 use mathlib.Core.Path.{_≡_, refl, sym, ap, _∙_, subst}
 use mathlib.Core.Bool.{Bool, true, false, _||_, _&&_}
-use mathlib.Core.List.{List, [], _∷_, _++_}
+use mathlib.Core.List.{List}
 use mathlib.Core.Option.{some}
 use native.Mathlib.Omega.{arith}
 use lib.ListN.{length, take, drop, getD, set, length-set}
@@ -13,20 +13,20 @@ use borrow.Author.Tests.{lt-leb, le-leb, leb-true, eq-eqb, eqb-true}
 use borrow.Rule.Slice.PartMut.{putMid}
 use Rattle.lists.specs.Array.{pad}
 use Rattle.lists.specs.Lists.{index-of, rank, shift-remove, insert-at, Rising, rising}
-use Rattle.lists.specs.Maps.{keys, values, zip, has, lookup, cut, put}
+use Rattle.lists.specs.Maps.{keys, zip, has, lookup, cut, put}
 use Rattle.lists.specs.Tests.{every, packed}
 use Rattle.lists.proofs.Array.{length-pad}
 use Rattle.lists.proofs.Choice.{and-left, and-right}
 use Rattle.lists.proofs.Tests.{both-true, rising-true, true-rising, packed-true, true-packed}
 use Rattle.lists.proofs.Zip.{keys-zip}
-use Rattle.lists.proofs.Entries.{Entries, entries-keys, entries-values, entries-length, entries-has, entries-found, entries-none, entries-room, entries-cut, entries-cut-none, entries-replace, entries-insert}
+use Rattle.lists.proofs.Entries.{Entries, entries-keys, entries-length, entries-has, entries-found, entries-none, entries-room, entries-cut, entries-cut-none, entries-replace, entries-insert}
 use Rattle.peer.specs.Maps.{number-in}
 use Rattle.peer.specs.declared.Number.the-variants.{Absent, Is}
 use Rattle.peer.proofs.Maps.{itself, Any, all-any, map-itself}
 use Rattle.scan.specs.Words.{unused}
 use Rattle.util.specs.Section.{part, Filled}
 use Rattle.util.proofs.Parts.{part-long, part-put, part-before, part-set-after, part-set-in, put-long, first-put-long, after-first}
-use Rattle.columns.specs.Columns.{Two, numbers-at, ValidNumbers, HoldsNumbers, valid-numbers, numbers-section}
+use Rattle.columns.specs.Columns.{numbers-at, ValidNumbers, HoldsNumbers, valid-numbers}
 
 -- ---- a map of numbers
 

@@ -1,6 +1,6 @@
 -- The test of an entry by its words: the bytes of a word past a place are zero where the word is small.
 -- Assumes nothing.
-use Prim.Native.Nat.{ℕ, zero, suc, _+_, _-_, _*_, _/_, _%_, _^_, _≤_, _<_}
+use Prim.Native.Nat.{ℕ, zero, suc, _+_, _-_, _/_, _%_, _^_, _≤_, _<_}
 use mathlib.Core.Path.{_≡_, refl, sym, ap, _∙_}
 use mathlib.Core.Bool.{Bool, true, false, _&&_, and-assoc}
 use mathlib.Core.List.{List, [], _∷_, _++_}
@@ -8,13 +8,12 @@ use native.Mathlib.Nat.{div-lt-iff-lt-mul, pow-suc, not-suc-le-zero}
 use native.Mathlib.Omega.{arith}
 use lib.ListN.{length, drop, length-append, drop-of-length-le}
 use lib.Seq.{drop-append-le, drop-append-add}
-use lib.Dec.{eqb, ltb, leb}
+use lib.Dec.{eqb, ltb}
 use borrow.Author.Tests.{eqb-true, eqb-false, eq-eqb, ne-eqb, ltb-true, ltb-false, lt-ltb, le-ltb, le-leb, lt-leb}
 use Rattle.lists.specs.Bytes.{le}
 use Rattle.lists.specs.Tests.{every, packed}
 use Rattle.lists.proofs.Bytes.{length-le}
 use Rattle.lists.proofs.Choice.{split}
-use Rattle.lists.proofs.Tests.{and-no}
 use Rattle.peer.specs.Held.{zero-byte}
 use Rattle.peer.specs.Maps.{valid-entry}
 use Rattle.columns.specs.Columns.{word-bytes, row}

@@ -22,7 +22,7 @@ use Rattle.util.proofs.Parts.{part-long}
 use Rattle.util.proofs.Sets.{set-as}
 use Rattle.columns.specs.Columns.{Two, row, rows, head-of, tail-of, count-of, numbers-at, ValidNumbers, HoldsNumbers, numbers-section, data-map-at, ValidDataWords, HoldsDataWords, low-word, high-word, data-section}
 use Rattle.columns.proofs.Numbers.{Stored, number-entries, number-held, number-keys}
-use Rattle.columns.proofs.Data.{filled-to, head-long, tail-long, keys-long, lens-long, lows-long, highs-long, taken-rows, lows-like, highs-like, data-entries, data-held}
+use Rattle.columns.proofs.Data.{filled-to, head-long, tail-long, lens-long, lows-long, highs-long, taken-rows, lows-like, highs-like, data-entries, data-held}
 use Rattle.columns.proofs.Words.{word-low, word-high}
 
 -- ---- a list in its parts
@@ -54,9 +54,6 @@ numbers-words n m v =
     let w : values (numbers-at n m) ≡ take (getD m (n + n) 0) (part n n m) = entries-values 0 n itself Any _ _ _ _ e ∙ map-itself (take (getD m (n + n) 0) (part n n m)) in
     let q : part n n m ≡ pad 0 n (values (numbers-at n m)) = e .packed ∙ ap (pad 0 n) (sym w) in
     with-last (n + n) m (v .long) ∙ (λ i. in-halves n m i ++ (sym (v .counted) i ∷ [])) ∙ (λ i. p i ++ q i ++ (length (numbers-at n m) ∷ []))
-
-pub numbers-same : (n : ℕ) (s t : List ℕ) (l : List (ℕ × ℕ)) → HoldsNumbers n s l → HoldsNumbers n t l → s ≡ t
-numbers-same n s t l h k = numbers-words n s (h .valid) ∙ ap (numbers-section n) (h .items ∙ sym (k .items)) ∙ sym (numbers-words n t (k .valid))
 
 -- ---- all zeroes
 

@@ -3,7 +3,7 @@
 use Prim.Native.Nat.{ℕ, _+_, _-_, _≤_, _<_}
 use mathlib.Core.Path.{_≡_, refl, sym, ap, _∙_, subst}
 use mathlib.Core.Bool.{Bool, true, false, _&&_}
-use mathlib.Core.List.{List, map}
+use mathlib.Core.List.{List}
 use native.Mathlib.Omega.{arith}
 use lib.ListN.{length, take, drop, getD, length-map}
 use lib.Seq.{length-take-le, take-take}
@@ -18,11 +18,11 @@ use Rattle.lists.proofs.Zip.{keys-zip}
 use Rattle.lists.specs.Tests.{every, packed}
 use Rattle.lists.proofs.Rest.{Rest}
 use Rattle.lists.proofs.Tests.{Every, every-first, every-stop, every-go, every-end, every-true, true-every, both-true, rising-true, true-rising, packed-true, true-packed}
-use Rattle.peer.specs.Maps.{DataEntry, valid-entry, entry-bytes, ValidEntry}
+use Rattle.peer.specs.Maps.{valid-entry, entry-bytes, ValidEntry}
 use Rattle.scan.specs.Words.{unused}
 use Rattle.peer.proofs.Maps.{unread, valid-entry-true, true-valid-entry}
 use Rattle.util.specs.Section.{part, Filled}
-use Rattle.columns.specs.Columns.{row, rows, head-of, tail-of, count-of, entries-at, data-map-at, ValidDataWords, valid-data-words}
+use Rattle.columns.specs.Columns.{row, head-of, tail-of, count-of, entries-at, data-map-at, ValidDataWords, valid-data-words}
 use Rattle.util.proofs.Parts.{part-long}
 use Rattle.columns.proofs.Rows.{length-rows, getD-rows}
 use Rattle.columns.proofs.Data.{head-long, tail-long, keys-long, lens-long, lows-long, highs-long, head-read, low-read, high-read}

@@ -11,8 +11,6 @@ use Rattle.lists.specs.Lists.{Rising, rising}
 use Rattle.lists.specs.Maps.{keys, values, zip}
 use Rattle.lists.specs.Tests.{All, every, packed}
 use Rattle.lists.specs.Bytes.{le, read-le}
-use Rattle.peer.specs.Data.{Node}
-use Rattle.peer.specs.Held.{data-in}
 use Rattle.peer.specs.Maps.{DataEntry, entry-bytes, ValidEntry, valid-entry}
 use Rattle.scan.specs.Words.{unused}
 use Rattle.util.specs.Section.{part, Filled}

@@ -11,8 +11,8 @@ use Rattle.peer.specs.Data.{Data}
 use Rattle.tally.specs.declared.Tally.{Tally}
 use Rattle.tally.specs.Counts.{raised}
 use Rattle.tally.specs.History.{no-messages}
-use Rattle.hyparview.specs.Made.{MadeWords, made}
-use Rattle.hyparview.specs.Handled.{Outcome, handled}
+use Rattle.hyparview.specs.Made.{made}
+use Rattle.hyparview.specs.Handled.{handled}
 use Rattle.hyparview.proofs.Kept.{handled-refused}
 use Rattle.controller.specs.Calls.{with-tally, begun, tallied, called}
 

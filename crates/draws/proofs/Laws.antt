@@ -1,22 +1,16 @@
 -- What the place says of the draws that are left.
 -- Assumes nothing.
-use Prim.Native.Nat.{ℕ, _+_, _≤_}
+use Prim.Native.Nat.{ℕ, _+_}
 use mathlib.Core.Path.{_≡_, sym, _∙_}
 use mathlib.Core.List.{List}
-use native.Mathlib.Omega.{arith}
 use lib.ListN.{length, drop, drop-of-length-le}
 use lib.Seq.{drop-drop, drop-length}
 use lib.Dec.{ltb}
-use borrow.Author.Tests.{ltb-true, ltb-false}
+use borrow.Author.Tests.{ltb-false}
 use Rattle.lists.proofs.Choice.{by-choice}
 use Rattle.draws.specs.Place.{past}
 
 module _ (l : List ℕ) (at n : ℕ) where
-  -- the place is never past the end
-  pub past-within : past l at n ≤ length l
-  unfolding past
-  past-within = by-choice (λ (k : ℕ). k ≤ length l) (ltb (at + n) (length l)) (λ h. omega (arith, ltb-true (at + n) (length l) h)) (λ h. omega arith)
-
   -- "Draws go on where the last accepted event stopped": after n draws, what is left is what was left without its first n
   pub past-rest : drop (past l at n) l ≡ drop n (drop at l)
   unfolding past

@@ -11,7 +11,7 @@ use Rattle.protocol.specs.Station.{Station}
 use Rattle.protocol.specs.Handle.{new}
 use Rattle.protocol.specs.Traced.{traced}
 use Rattle.history.specs.Ledger.{Ledger, empty-ledger, count-message, note-up, note-down, note-record, read-records, message-number, number-of, open-event, feed}
-use Rattle.history.specs.Calls.{Call, result-of, answered, state-after, codes, ledger-after, definition}
+use Rattle.history.specs.Calls.{Call, answered, state-after, codes, ledger-after, definition}
 
 -- the ledger and the state after a list of calls to a new station, which a proof that says `unfolding followed` can evaluate
 unfoldable pub followed : ℕ → Data → Config → List Call → Ledger × Station

@@ -1,21 +1,20 @@
 -- A map by peer held in two arrays of N places, of the keys and of the entries: `value` is the value of an entry, z an unused one, and P what holds of each.
 -- Assumes nothing.
 use mathlib.Core.Path.{_≡_, refl, sym, ap, _∙_, subst}
-use mathlib.Core.Bool.{Bool, true, false, _&&_, _||_}
+use mathlib.Core.Bool.{true, _||_}
 use mathlib.Core.List.{List, [], _∷_, map}
 use mathlib.Core.Option.{none, some}
 use Prim.Native.Nat.{ℕ, zero, suc, _+_, _-_, _≤_, _<_}
 use native.Mathlib.Nat.{le-of-suc-le-suc, not-suc-le-zero}
-use native.Mathlib.Numerals.{add-one}
 use native.Mathlib.Decide.{decLt}
 use native.Mathlib.Omega.{arith}
-use lib.ListN.{length, take, drop, getD, set, length-map, length-set}
-use lib.Seq.{slice, slice-cons, slice-empty, length-take-le, getD-take}
+use lib.ListN.{length, take, getD, set, length-map, length-set}
+use lib.Seq.{length-take-le, getD-take}
 use lib.Dec.{ltb}
 use borrow.Author.Tests.{lt-ltb, le-ltb, ltb-true}
 use Rattle.lists.specs.Array.{pad}
 use Rattle.lists.specs.Tests.{All}
-use Rattle.lists.specs.Lists.{index-of, rank, shift-remove, insert-at, Rising, rising}
+use Rattle.lists.specs.Lists.{index-of, rank, shift-remove, insert-at, Rising}
 use Rattle.lists.specs.Maps.{keys, values, zip, has, lookup, cut, replace, place-entry, put}
 use Rattle.lists.proofs.Choice.{choose-yes, choose-no, or-true, clash}
 use Rattle.lists.proofs.Rising.{rising-without, rising-insert}
@@ -24,7 +23,6 @@ use Rattle.lists.proofs.Maps.{length-keys, keys-cut, keys-put}
 use Rattle.lists.proofs.Zip.{keys-zip, values-zip, getD-zip, zip-set, zip-shift-remove, zip-insert-at}
 use Rattle.lists.proofs.Array.{length-pad, take-pad, set-pad, length-shift-remove, length-insert-at}
 use Rattle.lists.proofs.Front.{getD-any}
-use Rattle.lists.proofs.Rest.{Rest, rest-at, rest-end}
 use Rattle.lists.proofs.Remove.{Removing, removing-start, removing-next, removing-end}
 use Rattle.lists.proofs.Insert.{Inserting, inserting-start, inserting-next, inserting-end}
 use Rattle.lists.proofs.Places.{has-found, has-missing, lookup-found, lookup-missing, cut-missing, cut-found, replace-found, place-is}
@@ -211,77 +209,7 @@ module _ {E B : Type 0} (z : E) (N : ℕ) (value : E → B) (P : E → Type 0) w
             ∙ sym (choose-no (has k m) (replace k w m) (place-entry k w m) (has-missing k m (omega (arith, entries-length)))
             ∙ place-is k w m ∙ ap (λ (j : ℕ). insert-at j (k, w) m) (sym q)))
 
--- ---- the map determines the arrays, where a value determines the entry
-
-module _ {E B : Type 0} (value : E → B) (P : E → Type 0) (one : (x y : E) → P x → P y → value x ≡ value y → x ≡ y) where
-  map-one : (xs ys : List E) → All P xs → All P ys → map value xs ≡ map value ys → xs ≡ ys
-  unfolding All
-  map-one [] [] a b e = refl
-  map-one [] (y ∷ ys) a b e = absurd (omega (arith, ap length e))
-  map-one (x ∷ xs) [] a b e = absurd (omega (arith, ap length e))
-  map-one (x ∷ xs) (y ∷ ys) a b e =
-      let p : x ≡ y = one x y (a .0) (b .0) (ap (λ (l : List B). getD l 0 (value x)) e) in
-      let q : xs ≡ ys = map-one xs ys (a .1) (b .1) (ap (λ (l : List B). drop 1 l) e) in
-      λ i. p i ∷ q i
-
-  module _ (z : E) (N : ℕ) (ks hs : List ℕ) (es fs : List E) (n k : ℕ) (m : List (ℕ × B)) (v : Entries z N value P ks es n m) (w : Entries z N value P hs fs k m) where
-    pub entries-same-length : n ≡ k
-    entries-same-length = sym (entries-length z N value P ks es n m v) ∙ entries-length z N value P hs fs k m w
-
-    pub entries-same-keys : ks ≡ hs
-    entries-same-keys =
-        v .keyed
-        ∙ ap (pad 0 N) (sym (entries-keys z N value P ks es n m v) ∙ entries-keys z N value P hs fs k m w)
-        ∙ sym (w .keyed)
-
-    pub entries-same : es ≡ fs
-    entries-same =
-        v .packed
-        ∙ ap (pad z N) (map-one (take n es) (take k fs) (v .each) (w .each) (sym (entries-values z N value P ks es n m v) ∙ entries-values z N value P hs fs k m w))
-        ∙ sym (w .packed)
-
 -- ---- the loops
-
--- whether the keys from i on rise
-abbrev pub Rises : ℕ → List ℕ → Bool
-Rises i l = rising l
-
-module _ (N : ℕ) where
-  pub rises-start : (l : List ℕ) (n : ℕ) → n ≤ N → length l ≡ N → Rest Rises N l n (rising (take n l)) 0 0
-  rises-start l n h e = record { low = omega arith; top = h; long = e; same = refl }
-
-  module _ (l : List ℕ) (n : ℕ) (whole : Bool) (i : ℕ) (v : Rest Rises N l n whole i i) where
-    two : i + 1 < n → slice (suc i) n l ≡ getD l (i + 1) 0 ∷ slice (suc (suc i)) n l
-    two h =
-        slice-cons (suc i) n l 0 (omega arith) (omega (arith, v .top, v .long))
-        ∙ ap (λ (j : ℕ). getD l j 0 ∷ slice (suc (suc i)) n l) (sym (add-one i))
-
-    rises-at : i + 1 < n → whole ≡ (ltb (getD l i 0) (getD l (i + 1) 0) && rising (slice (suc i) n l))
-    unfolding rising
-    rises-at h =
-        rest-at 0 Rises v (omega arith)
-        ∙ ap (λ (m : List ℕ). rising (getD l i 0 ∷ m)) (two h)
-        ∙ ap (λ (m : List ℕ). ltb (getD l i 0) (getD l (i + 1) 0) && rising m) (sym (two h))
-
-    pub rises-no : i + 1 < n → getD l (i + 1) 0 ≤ getD l i 0 → false ≡ whole
-    rises-no h e = sym (rises-at h ∙ rw (le-ltb _ _ e))
-
-    pub rises-next : i + 1 < n → getD l i 0 < getD l (i + 1) 0 → Rest Rises N l n whole (i + 1) (i + 1)
-    rises-next h e = record { low = omega arith; top = v .top; long = v .long; same = rises-at h ∙ rw (lt-ltb _ _ e) (rw (add-one i) refl) }
-
-    last-rises : (m : List ℕ) → m ≡ [] → rising (getD l i 0 ∷ m) ≡ true
-    unfolding rising
-    last-rises m e = rw e
-
-    rises-stop : n ≤ i + 1 → Dec (i < n) → true ≡ whole
-    unfolding rising
-    rises-stop h (yes p) =
-        let e : suc i ≡ n = omega arith in
-        sym (rest-at 0 Rises v p ∙ last-rises (slice (suc i) n l) (ap (λ (j : ℕ). slice j n l) e ∙ slice-empty n l))
-    rises-stop h (no p) = sym (rest-end 0 Rises v (omega arith))
-
-    pub rises-end : n ≤ i + 1 → true ≡ whole
-    rises-end h = rises-stop h (decLt i n)
 
 -- the item at place i of the first n of l₀ is taken out: what the array holds when place j is the next to be stored to, and last is the last item's place
 pub record Cutting {A : Type 0} (z : A) (N : ℕ) (l₀ : List A) (n i last : ℕ) (l : List A) (j : ℕ) : Type 0 where

@@ -4,12 +4,11 @@ use mathlib.Core.Path.{_≡_, refl, sym, ap, _∙_}
 use mathlib.Core.Bool.{Bool, true, false, _&&_, and-true, and-assoc}
 use mathlib.Core.List.{List, [], _∷_, map}
 use Prim.Native.Nat.{ℕ, zero, suc, _+_, _≤_, _<_}
-use native.Mathlib.Numerals.{add-one}
 use native.Mathlib.Omega.{arith}
 use lib.ListN.{length, take, drop, getD}
-use lib.Seq.{take-nil, take-all, slice, slice-cons, slice-empty}
+use lib.Seq.{take-nil, take-all}
 use lib.Dec.{eqb, ltb}
-use borrow.Author.Tests.{eqb-true, eq-eqb, ne-eqb, ltb-true, lt-ltb}
+use borrow.Author.Tests.{eqb-true, eq-eqb, ltb-true, lt-ltb}
 use Rattle.lists.specs.Lists.{rising, same, Above, Rising}
 use Rattle.lists.specs.Array.{pad}
 use Rattle.lists.specs.Tests.{every, packed, All}
@@ -138,9 +137,6 @@ abbrev pub So-far : {A : Type 0} → (A → Bool) → Bool → List A → Bool
 So-far t ok l = ok && every t l
 
 module _ {A : Type 0} (t : A → Bool) (d : A) (N : ℕ) where
-  pub so-far-first : (l : List A) (n : ℕ) → n ≤ N → length l ≡ N → Rest (So-far t) N l n (every t (take n l)) true 0
-  so-far-first l n h e = record { low = omega arith; top = h; long = e; same = refl }
-
   pub so-far-from : (l : List A) (k : ℕ) → k ≤ N → length l ≡ N → Rest (So-far t) N l N (every t (drop k l)) true k
   so-far-from l k h e = record { low = h; top = omega arith; long = e; same = every-from t d N l k h e .same }
 
@@ -152,38 +148,3 @@ module _ {A : Type 0} (t : A → Bool) (d : A) (N : ℕ) where
     pub so-far-end : n ≤ i → ok ≡ whole
     unfolding every
     so-far-end h = sym (rest-end d (So-far t) v h ∙ and-true ok)
-
--- two lists are compared from i on
-pub record Alike (N : ℕ) (xs ys : List ℕ) (n : ℕ) (whole : Bool) (i : ℕ) : Type 0 where
-  pub low : i ≤ n
-  pub top : n ≤ N
-  pub long : length xs ≡ N
-  pub wide : length ys ≡ N
-  pub same-from : whole ≡ same (slice i n xs) (slice i n ys)
-
-pub alike-start : (N : ℕ) (xs ys : List ℕ) (n : ℕ) → n ≤ N → length xs ≡ N → length ys ≡ N → Alike N xs ys n (same (take n xs) (take n ys)) 0
-alike-start N xs ys n h p q = record { low = omega arith; top = h; long = p; wide = q; same-from = refl }
-
-module _ (N : ℕ) (xs ys : List ℕ) (n : ℕ) (whole : Bool) (i : ℕ) (v : Alike N xs ys n whole i) where
-  alike-at : i < n → whole ≡ (eqb (getD xs i 0) (getD ys i 0) && same (slice (suc i) n xs) (slice (suc i) n ys))
-  unfolding same
-  alike-at h =
-      v .same-from ∙ (λ j. same (slice-cons i n xs 0 h (omega (arith, v .top, v .long)) j) (slice-cons i n ys 0 h (omega (arith, v .top, v .wide)) j))
-
-  pub alike-no : i < n → (getD xs i 0 ≡ getD ys i 0 → ⊥) → false ≡ whole
-  alike-no h e = sym (alike-at h ∙ rw (ne-eqb _ _ e))
-
-  pub alike-next : i < n → getD xs i 0 ≡ getD ys i 0 → Alike N xs ys n whole (i + 1)
-  alike-next h e = record {
-    low = omega arith;
-    top = v .top;
-    long = v .long;
-    wide = v .wide;
-    same-from = alike-at h ∙ rw (eq-eqb _ _ e) (rw (add-one i) refl);
-  }
-
-  pub alike-end : n ≤ i → true ≡ whole
-  unfolding same
-  alike-end h =
-      let e : i ≡ n = omega (arith, v .low) in
-      sym (v .same-from ∙ rw (e, slice-empty n xs, slice-empty n ys))

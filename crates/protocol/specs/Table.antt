@@ -2,8 +2,8 @@
 -- Assumes nothing.
 use Prim.Native.Nat.{ℕ, _^_, _-_}
 use mathlib.Core.Path.{_≡_, refl}
-use mathlib.Core.Bool.{Bool, true, false}
-use mathlib.Core.List.{List, [], _∷_}
+use mathlib.Core.Bool.{true, false}
+use mathlib.Core.List.{[], _∷_}
 use lib.Count.{ones, onesIn}
 use Rattle.lists.specs.Lists.{choose, mem, index-of, swap, swap-remove, remove}
 use Rattle.timing.specs.Timing.{backoff-due, delay}

@@ -10,7 +10,7 @@ use lib.ListN.{length, getD}
 use lib.Dec.{leb, ltb}
 use Rattle.lists.specs.Lists.{choose}
 use Rattle.lists.proofs.Choice.{choose-yes, choose-no, split, clash, and-left}
-use Rattle.record.specs.Format.{IsForm, peer-length, old-peer-length, header-length, header-length-by}
+use Rattle.record.specs.Format.{IsForm, peer-length, header-length, header-length-by}
 use Rattle.record.specs.Read.{header-of, entry-at-by, entry-ok, entries-ok-by, well-formed, well-formed-by, rec-of, is-event, refused, event, read-event}
 use Rattle.record.specs.Answers.{answer, event-answer, event-in, EventIs}
 pub use Rattle.record.specs.Answers.{Found}
@@ -26,9 +26,6 @@ and-none false = refl
 -- the two forms
 pub new-form : IsForm peer-length
 new-form = record { most = omega arith; other = λ n. refl }
-
-pub old-form : IsForm old-peer-length
-old-form = record { most = omega arith; other = λ n. absurd (n refl) }
 
 module _ (w : ℕ) where
   -- data that would start past the end are no data of the record

@@ -8,7 +8,6 @@ use mathlib.Core.List.{List, [], _∷_}
 use lib.ListN.{length, getD}
 use lib.Dec.{eqb, eqb→eq}
 use Rattle.lists.specs.Lists.{choose}
-use Rattle.record.specs.Format.{header-length, node-length}
 use Rattle.record.specs.Read.{fixed-size}
 use Rattle.lists.proofs.Table.{at}
 

@@ -337,7 +337,11 @@ fn count_ok(h: Header) -> bool
     let one = is_message(Message::JOIN, h)
         | (is_message(Message::FORWARD_JOIN, h) | (is_message(Message::NEIGHBOR, h) | is_data(h)));
     let some = is_message(Message::SHUFFLE, h) | is_message(Message::SHUFFLE_REPLY, h);
-    choose(one, h.nodes == 1, choose(some, h.nodes <= MOST_NODES, h.nodes == 0))
+    choose(
+        one,
+        h.nodes == 1,
+        choose(some, h.nodes <= MOST_NODES, h.nodes == 0),
+    )
 }
 
 // Peer is 0 in kinds 1, 2, 7, 8.

@@ -33,7 +33,7 @@ use Rattle.protocol.specs.Rules.{short-data, all-short, all-under, lists-under,
 use Rattle.protocol.specs.Rules as R
 use Rattle.protocol.specs.Handle.{new-station, zero-config, zero-station}
 use Rattle.state.specs.Layout as layout
-use Rattle.state.specs.Layout.{Sections, sections}
+use Rattle.state.specs.Layout.{Sections}
 use Rattle.state.specs.Unpack.{own-at, settings-at, limit-at, limit-formed, refill-in, station-of, unpack}
 use Rattle.state.proofs.Memory.{bit-fits, bool-back, two-limit}
 use Rattle.rules.specs.Pack.{present-word, kind-word, requests-word, front, pack}

@@ -1,33 +1,28 @@
 -- Words below a bound: what the loops carry, and what the maps' tests say.
 -- Assumes nothing.
-use Prim.Native.Nat.{ℕ, zero, suc, _+_, _-_, _≤_, _<_}
+use Prim.Native.Nat.{ℕ, suc, _+_, _-_, _≤_, _<_}
 use mathlib.Core.Path.{_≡_, refl, sym, ap, _∙_}
 use mathlib.Core.Bool.{Bool, true, _&&_, _||_, and-true, and-assoc}
 use mathlib.Core.List.{List, [], _∷_}
 use native.Mathlib.Omega.{arith}
 use lib.ListN.{length, take, drop, getD}
-use lib.Seq.{take-take, getD-take}
+use lib.Seq.{take-take}
 use lib.Dec.{leb, ltb, eqb}
-use lib.Bits.{bitOr, or-lt, or-add-and, and-le-l, and-le-r}
-use borrow.Author.Tests.{lt-ltb, le-ltb, ltb-true, ltb-false, eq-eqb}
-use Rattle.lists.specs.Lists.{Above, Rising, subset, disjoint}
+use borrow.Author.Tests.{lt-ltb, eq-eqb}
+use Rattle.lists.specs.Lists.{subset, disjoint}
 use Rattle.lists.specs.Maps.{keys, values}
 use Rattle.lists.specs.Tests.{packed}
-use Rattle.lists.proofs.Choice.{split, and-left}
-use Rattle.lists.proofs.Maps.{length-keys}
-use Rattle.lists.proofs.Tests.{both-true, and-no}
+use Rattle.lists.proofs.Tests.{both-true}
 use Rattle.lists.proofs.Entries.{entries-values}
 use Rattle.scan.proofs.Loops.{Left, left-start, left-next, left-end}
 use Rattle.util.specs.Section.{part, items-at, ValidSet, valid-set}
 use Rattle.util.proofs.Sets.{lent}
-use Rattle.columns.specs.Columns.{word-bytes, row, numbers-at, ValidNumbers, valid-numbers, head-of, count-of, data-map-at, ValidDataWords, valid-data-words}
+use Rattle.columns.specs.Columns.{word-bytes, row, numbers-at, ValidNumbers, valid-numbers, valid-data-words}
 use Rattle.columns.proofs.Numbers.{number-entries, number-keys}
-use Rattle.columns.proofs.Data.{data-keys}
 use Rattle.peer.specs.Held.{zero-byte, valid-data}
 use Rattle.peer.specs.Maps.{numbers-under, valid-entry}
 use Rattle.peer.proofs.Maps.{itself, Any, map-itself}
 use Rattle.protocol.specs.Rules.{all-under}
-use Rattle.protocol.specs.Station.{peers-end}
 use Rattle.state.specs.Layout as layout
 use Rattle.state.specs.Unpack.{own-at, limit-formed}
 use Rattle.rules.specs.Ok.{words-end, formed, sections-ok, packed-ok}

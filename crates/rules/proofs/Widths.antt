@@ -2,7 +2,7 @@
 -- Assumes nothing.
 use Prim.Native.Nat.{ℕ, zero, suc, _+_, _%_, _/_, _≤_, _<_}
 use mathlib.Core.Path.{_≡_, refl, sym, ap, _∙_}
-use mathlib.Core.Bool.{Bool, true, false, _&&_, and-true, and-assoc}
+use mathlib.Core.Bool.{Bool, true, _&&_, and-true, and-assoc}
 use mathlib.Core.List.{List, [], _∷_, _++_, map}
 use native.Mathlib.Omega.{arith}
 use lib.ListN.{length, take, drop, getD}
@@ -22,7 +22,7 @@ use Rattle.peer.specs.Data.{Data, bytes-of}
 use Rattle.peer.specs.Held.{data-in}
 use Rattle.peer.specs.Maps.{no-data, entry-bytes, ValidEntry}
 use Rattle.protocol.specs.Rules.{all-under, lists-under, peer-lists, data-lists, width-rule}
-use Rattle.protocol.specs.Station.{Station, peers-end, bytes-end, top-counter, top-passes}
+use Rattle.protocol.specs.Station.{peers-end, bytes-end, top-counter, top-passes}
 use Rattle.state.specs.Layout as layout
 use Rattle.state.specs.Unpack.{own-at, station-of, unpack}
 use Rattle.rules.specs.Ok.{words-end, packed-ok}

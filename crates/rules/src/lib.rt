@@ -10,7 +10,7 @@ ghost use Rattle.timing.specs.Timing.{within};
 ghost use Rattle.peer.specs.Held.{valid-data};
 ghost use Rattle.peer.specs.Maps.{numbers-under};
 ghost use Rattle.util.specs.Section.{items-at, ValidSet};
-ghost use Rattle.columns.specs.Columns.{numbers-at, ValidNumbers, data-map-at, ValidDataWords};
+ghost use Rattle.columns.specs.Columns.{numbers-at, ValidNumbers};
 ghost use Rattle.protocol.specs.Rules.{all-under, settings-rule, repeats-rule, order-rule, capacity-rule, views-rule, alive-rule};
 ghost use Rattle.protocol.specs.Rules.{joins-rule, numbers-rule, self-rule, limit-rule, interval-rule, width-rule, held-rule, station-ok};
 ghost use Rattle.state.specs.Unpack.{unpack, own-at};

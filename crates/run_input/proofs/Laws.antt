@@ -3,17 +3,17 @@
 use Prim.Native.Nat.{ℕ, zero, suc, _+_, _*_, _-_, _/_, _≤_, _<_}
 use mathlib.Core.Path.{_≡_, refl, sym, ap, subst, _∙_}
 use mathlib.Core.Bool.{Bool, true, false, _&&_}
-use mathlib.Core.List.{List, _∷_}
+use mathlib.Core.List.{List}
 use native.Mathlib.Nat.{add-zero, add-suc, suc-add, not-suc-le-zero, le-of-suc-le-suc}
 use native.Mathlib.Omega.{arith}
-use lib.ListN.{length, getD, take, drop}
+use lib.ListN.{length, getD, drop}
 use lib.Dec.{leb, eqb}
 use borrow.Author.Tests.{leb-true, le-leb, lt-leb, eqb-true, eq-eqb, ne-eqb}
 use Rattle.lists.specs.Bytes.{read-le}
 use Rattle.record.specs.Format.{header-length}
 use Rattle.record.specs.Walk.{whole-length}
-use Rattle.lists.proofs.Choice.{by-choice, split, clash, choose-yes, choose-no, and-left, and-right}
-use Rattle.run_input.specs.Input.{head-length, most-bytes, event-offset, draw-count, draw-offset, number, numbers, event-length, are-events, cut-events, places-ok, events-part, events-ok, input-head, input-of}
+use Rattle.lists.proofs.Choice.{by-choice, split, choose-yes, choose-no, and-left, and-right}
+use Rattle.run_input.specs.Input.{head-length, most-bytes, event-offset, draw-count, draw-offset, number, numbers, event-length, are-events, places-ok, events-part, events-ok, input-head, input-of}
 pub use Rattle.run_input.specs.Input.{Laid}
 use Rattle.run_input.specs.declared.Head.{Head}
 use Rattle.run_input.specs.declared.Input.{Input}
@@ -64,15 +64,6 @@ pub one-first : (k : ℕ) (l : List ℕ) → 0 < k → (event-length l ≡ 0 →
 unfolding are-events
 one-first zero l h e = absurd (omega arith)
 one-first (suc k) l h e = let q : suc k - 1 ≡ k = omega arith in rw (ne-eqb _ _ e, q)
-
--- events that are left begin with one, and go on with those after it
-pub first-event : (k : ℕ) (l : List ℕ) → 0 < k → are-events k l ≡ true → event-length l ≡ 0 → ⊥
-first-event k l h e z = clash (are-events k l) e (none-first k l h z)
-
-pub cut-first : (k : ℕ) (l : List ℕ) → 0 < k → cut-events k l ≡ take (event-length l) l ∷ cut-events (k - 1) (drop (event-length l) l)
-unfolding cut-events
-cut-first zero l h = absurd (omega arith)
-cut-first (suc k) l h = let q : suc k - 1 ≡ k = omega arith in rw q
 
 -- where the parts of an input stand
 pub record Places (b : List ℕ) : Type 0 where

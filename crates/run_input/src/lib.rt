@@ -5,7 +5,7 @@ ghost use mathlib.Core.Path.{_≡_};
 ghost use mathlib.Core.Bool.{true};
 ghost use Prim.Native.Nat.{_-_, _≤_};
 ghost use lib.ListN.{length, drop};
-ghost use Rattle.run_input.specs.Input.{number, numbers, from-halves, config-of, event-length, are-events, places-ok, events-ok, input-head, input-of};
+ghost use Rattle.run_input.specs.Input.{number, numbers, from-halves, config-of, event-length, are-events, places-ok, events-ok, input-of};
 
 // The most bytes of an input.
 const MOST_BYTES: usize = 65536;

@@ -1,7 +1,6 @@
 // Text into lent bytes: as much of it as fits, and whether all of it did; and the lines that the run program prints for one event (document 01, "The run program").
 use record::Header;
-ghost use mathlib.Core.Path.{_≡_};
-ghost use mathlib.Core.List.{[], _∷_, _++_};
+ghost use mathlib.Core.List.{[], _∷_};
 ghost use Rattle.run_text.specs.Text.{Puts, Begins};
 ghost use Rattle.run_text.specs.Numbers.{decimal, field};
 ghost use Rattle.record.specs.Walk.{headers};

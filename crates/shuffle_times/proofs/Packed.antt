@@ -4,7 +4,7 @@ use Prim.Native.Nat.{ℕ}
 use mathlib.Core.Path.{_≡_, refl, sym, ap, subst, _∙_}
 use mathlib.Core.Bool.{Bool, true, _&&_}
 use mathlib.Core.List.{List, [], _∷_, _++_}
-use lib.ListN.{length, drop}
+use lib.ListN.{drop}
 use lib.Dec.{leb, eqb}
 use Rattle.lists.specs.Lists.{choose}
 use Rattle.lists.proofs.Choice.{choose-yes, and-left, and-right}

@@ -7,11 +7,11 @@ use mathlib.Core.List.{List}
 use native.Mathlib.Omega.{arith}
 use borrow.Author.Tests.{leb-true}
 use lib.Dec.{leb}
-use lib.ListN.{length, take, drop, getD}
+use lib.ListN.{length, drop, getD}
 use lib.Seq.{getD-take, getD-drop}
 use Rattle.lists.proofs.Choice.{and-left, and-right}
 use Rattle.util.specs.Section.{part, items-at, ValidSet}
-use Rattle.columns.specs.Columns.{numbers-at, ValidNumbers, data-map-at, ValidDataWords}
+use Rattle.columns.specs.Columns.{ValidNumbers, ValidDataWords}
 use Rattle.peer.specs.declared.PeerData.{PeerData}
 use Rattle.peer.specs.Held.{ValidData}
 use Rattle.timing.specs.Timing.{in-range, within}
@@ -94,24 +94,3 @@ module _ (xs : List ℕ) (p : PackedState xs) where
 
   pub count-passive : length (items-at 32 (layout.passive-part xs)) ≡ getD xs 63 0
   count-passive = opened p .passive .counted ∙ in-part 31 33 32 xs (omega arith)
-
-  pub count-alive : length (items-at 32 (layout.alive-part xs)) ≡ getD xs 96 0
-  count-alive = opened p .alive .counted ∙ in-part 64 33 32 xs (omega arith)
-
-  pub count-refused : length (items-at 32 (layout.refused-part xs)) ≡ getD xs 129 0
-  count-refused = opened p .refused .counted ∙ in-part 97 33 32 xs (omega arith)
-
-  pub count-requests : length (numbers-at 32 (layout.requests-part xs)) ≡ getD xs 194 0
-  count-requests = opened p .requests .counted ∙ in-part 130 65 64 xs (omega arith)
-
-  pub count-bootstrap : length (items-at 8 (layout.bootstrap-part xs)) ≡ getD xs 203 0
-  count-bootstrap = opened p .bootstrap .counted ∙ in-part 195 9 8 xs (omega arith)
-
-  pub count-recent : length (items-at 8 (layout.recent-part xs)) ≡ getD xs 212 0
-  count-recent = opened p .recent .counted ∙ in-part 204 9 8 xs (omega arith)
-
-  pub count-joins : length (numbers-at 8 (layout.joins-part xs)) ≡ getD xs 229 0
-  count-joins = opened p .joins .counted ∙ in-part 213 17 16 xs (omega arith)
-
-  pub count-data : length (data-map-at 80 (layout.peer-data-part xs)) ≡ getD xs 550 0
-  count-data = opened p .peer-data .counted ∙ in-part 230 321 320 xs (omega arith)

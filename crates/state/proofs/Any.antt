@@ -18,9 +18,8 @@ use Rattle.writer.specs.declared.Written.the-variants.{At, Full}
 use Rattle.writer.specs.Write.{fits, reached, written, Wrote}
 use Rattle.protocol.specs.Run.{Run, emit, draw, to-draw, draw-one-of, draw-shuffle, require}
 use Rattle.state.specs.declared.Work.{Work}
-use Rattle.state.specs.Unpack.{PackedState}
-use Rattle.state.specs.Work.{work-of, run, Ready, Room, Does, ChangesAny, DrawsAny, Reaches, TellsAny, after-record}
-use Rattle.state.proofs.Bridge.{require-passed, require-held, require-refused, draw-passed, draw-short, draw-done, emit-passed, emit-done, then, then-draw, then-tell}
+use Rattle.state.specs.Work.{work-of, run, Does, ChangesAny, DrawsAny, Reaches, TellsAny, after-record}
+use Rattle.state.proofs.Bridge.{require-passed, require-held, require-refused, draw-passed, draw-short, draw-done, emit-passed, emit-done, then-draw, then-tell}
 
 module _ (w : Work) (k : ℕ) (t : Bool) where
   pub required-passed : (w .code ≡ 0 → ⊥) → ChangesAny (require k t) w w
@@ -76,18 +75,7 @@ module _ (w : Work) (out : List ℕ) (e : Rec) (l : w .written ≤ length out) w
     any = λ xs v. emit-done w xs out e (record { packed = v; written = l }) a o r h k q;
   }
 
--- ---- for a step that has words: what the next call asks
-
-pub ready-after : {step : Run → Run} (w r : Work) (ds xs : List ℕ) → DrawsAny step w r ds → PackedState xs → Ready (work-of r xs) ds
-ready-after w r ds xs k v = k .any xs v .ready
-
-pub room-after : {step : Run → Run} (w r : Work) (out o xs : List ℕ) → TellsAny step w r out o → PackedState xs → Room (work-of r xs) o
-room-after w r out o xs k v = k .any xs v .room
-
 -- ---- in a row of steps that are lent both
-
-pub then-any : {step : Run → Run} {a r : Work} {xs ds o : List ℕ} {g : Run} → ChangesAny step a r → Does (work-of a xs) ds o g → Does (work-of r xs) ds o (step g)
-then-any k d = then (k .any _ (d .fine .ready .packed)) d
 
 pub then-draw-any : {step : Run → Run} {a r : Work} {xs ds o : List ℕ} {g : Run} → DrawsAny step a r ds → Does (work-of a xs) ds o g → Does (work-of r xs) ds o (step g)
 then-draw-any k d = then-draw (k .any _ (d .fine .ready .packed)) d

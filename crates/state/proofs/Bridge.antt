@@ -176,29 +176,6 @@ module _ {w r : Held} (test : Station → Bool) {t : Bool} (e : t ≡ test (unpa
   unfolding run
   change-no x h k = change-by _ (λ ds out. choose-no _ _ _ (sym e ∙ h)) k
 
--- a step that is lent nothing, where draws are lent
-pub drawing : {w r : Held} {ds : List ℕ} {g : Run → Run} → Ready w ds → Changes g w r → DrawsFrom g w r ds
-drawing v k = record { ready = record { packed = k .packed; drawn = rw (k .drawn) (v .drawn) }; written = k .written; same = λ out. k .same _ out }
-
-pub draw-by : {w r : Held} {ds : List ℕ} {g : Run → Run} (h : Run → Run) → ((out : List ℕ) → h (run w ds out) ≡ g (run w ds out)) → DrawsFrom g w r ds → DrawsFrom h w r ds
-draw-by h e k = record { ready = k .ready; written = k .written; same = λ out. k .same out ∙ sym (e out) }
-
-pub draw-then : {w a r : Held} {ds : List ℕ} {f g : Run → Run} (h : Run → Run) → ((out : List ℕ) → h (run w ds out) ≡ g (f (run w ds out))) → DrawsFrom g a r ds → DrawsFrom f w a ds → DrawsFrom h w r ds
-draw-then {g = g} h e k₂ k₁ = record {
-  ready = k₂ .ready;
-  written = k₂ .written ∙ k₁ .written;
-  same = λ out. k₂ .same out ∙ (ap g (k₁ .same out) ∙ sym (e out));
-}
-
-module _ {w r : Held} {ds : List ℕ} (test : Station → Bool) {t : Bool} (e : t ≡ test (unpack (w .state))) where
-  pub draw-yes : {x : Run → Run} (y : Run → Run) → t ≡ true → DrawsFrom x w r ds → DrawsFrom (λ g. choose (test (g .station)) (x g) (y g)) w r ds
-  unfolding run
-  draw-yes y h k = draw-by _ (λ out. choose-yes _ _ _ (sym e ∙ h)) k
-
-  pub draw-no : (x : Run → Run) {y : Run → Run} → t ≡ false → DrawsFrom y w r ds → DrawsFrom (λ g. choose (test (g .station)) (x g) (y g)) w r ds
-  unfolding run
-  draw-no x h k = draw-by _ (λ out. choose-no _ _ _ (sym e ∙ h)) k
-
 -- a step that is lent nothing, where output is lent
 pub telling : {w r : Held} {out : List ℕ} {g : Run → Run} → Room w out → Changes g w r → Tells g w r out out
 telling v k = record { room = record { packed = k .packed; written = rw (k .written) (v .written) }; drawn = k .drawn; same = λ ds. k .same ds _ }
@@ -273,11 +250,6 @@ holds-at w ds out f e h = sym e ∙ h
 pub at-run : (w : Held) (ds out : List ℕ) {A : Type 0} (f : Station → A) → f (unpack (w .state)) ≡ f (run w ds out .station)
 unfolding run
 at-run w ds out f = refl
-
--- the draw that is read in code is the run's next draw
-pub drawn-is : (w : Held) (ds out : List ℕ) → drawn (run w ds out) ≡ getD ds (w .drawn) 0
-unfolding drawn run
-drawn-is w ds out = refl
 
 pub getD-past : (l : List ℕ) (i : ℕ) → length l ≤ i → 0 ≡ getD l i 0
 getD-past [] i h = refl

@@ -4,7 +4,7 @@ use Prim.Native.Nat.{ℕ, _+_, _/_}
 use mathlib.Core.Path.{_≡_, refl, sym, ap, _∙_}
 use mathlib.Core.List.{List}
 use lib.Dec.{leb, ltb, eqb}
-use lib.ListN.{length, getD}
+use lib.ListN.{getD}
 use Rattle.util.proofs.Sets.{empty-is-null}
 use Rattle.protocol.specs.Station.{is-alone, active-is-full, passive-is-full, is-short, is-last-hop}
 use Rattle.state.specs.Layout as layout

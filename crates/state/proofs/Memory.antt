@@ -1,7 +1,7 @@
 -- Own data, a bool and a limit come back from their words as they went there.
 -- Assumes nothing.
 use Prim.Native.Nat.{ℕ, _≤_}
-use mathlib.Core.Path.{_≡_, refl, sym, ap, _∙_}
+use mathlib.Core.Path.{_≡_, refl}
 use mathlib.Core.Bool.{Bool, true, false, cond}
 use mathlib.Core.List.{List}
 use native.Mathlib.Omega.{arith}
@@ -12,7 +12,7 @@ use Rattle.lists.specs.Lists.{choose}
 use Rattle.state.specs.declared.RefillLimit.{RefillLimit}
 use Rattle.state.specs.declared.RefillLimit.the-variants.{Automatic, Requests, Recovery}
 use Rattle.state.specs.Layout.{refill-kind, refill-requests}
-use Rattle.state.specs.Unpack.{limit-at, limit-formed}
+use Rattle.state.specs.Unpack.{limit-at}
 
 -- ---- a bool
 

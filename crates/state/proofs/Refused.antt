@@ -7,7 +7,7 @@ use mathlib.Core.List.{[]}
 use lib.Dec.{eqb}
 use borrow.Author.Tests.{eqb-true, eqb-false}
 use Rattle.lists.proofs.Choice.{split}
-use Rattle.protocol.specs.Run.{Run, on, require}
+use Rattle.protocol.specs.Run.{Run, require}
 use Rattle.state.specs.Work.{Held, run, Changes}
 use Rattle.state.proofs.Bridge.{guard-shut}
 

@@ -25,7 +25,6 @@ use Rattle.protocol.specs.Sending.{join-to, join}
 use Rattle.protocol.specs.Messages.{drop-join}
 use Rattle.protocol.specs.Events.{must-drop-oldest, oldest, drop-oldest-join, push-bootstrap, join-counts, note-join, open-join, await-join, join-other, join-new, handle-join}
 use Rattle.lists.proofs.Members.{shorter, renewed}
-use Rattle.protocol.proofs.Invariant.{Fixed, calm, Ok}
 use Rattle.protocol.proofs.Requested.{fewer-joins}
 use Rattle.state.specs.declared.Work.{Work}
 use Rattle.state.specs.Layout.{bootstrap-part, joins-part, next-join}
@@ -118,14 +117,6 @@ module _ (w a : Work) (xs : List ℕ) (p : ℕ) (t : Bool) (v : PackedState xs) 
   pub join-opened : (r : Work) (ys : List ℕ) → Changes (on (note-join p)) (work-of a xs) (work-of r ys) → Changes (open-join p) (work-of w xs) (work-of r ys)
   unfolding open-join run
   join-opened r ys k₂ = change-then _ (λ ds out. rw e) k₂ (k .any xs v)
-
--- what holds between events
-pub ok-known : {q : Fixed} {m b d : ℕ} (g : Run) → Ok q calm m b d g → KnownJoins (g .code) (g .station)
-ok-known g k = record {
-  known = λ z. k .good z .core .waits .known;
-  once = λ z. k .good z .core .waits .boots;
-  few = λ z. k .good z .core .waits .few;
-}
 
 -- there is a place for the join to a bootstrap peer
 placed : (p : ℕ) (js : List (ℕ × ℕ)) (boo : List ℕ) → ((x : ℕ) → count x (keys js) ≤ count x boo) → is p p ≤ count p boo → length boo ≤ 8 → (has p js || ltb (length js) 8) ≡ true

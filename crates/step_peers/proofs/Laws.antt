@@ -139,10 +139,6 @@ module _ (w a r : Held) (out o : List ℕ) (p : ℕ) (b : List ℕ) (t : Bool) w
 
 -- ---- the passive view
 
-pub evictable : (s : List ℕ) (t : Bool) → t ≡ must-evict (unpack s) → t ≡ true → null (unpack s .passive) ≡ false
-unfolding must-evict unpack
-evictable s t e h = was-not _ (and-right (passive-is-full (unpack s)) (not (null (unpack s .passive))) (sym e ∙ h))
-
 -- the place chosen among the n passive peers is one of theirs
 pub still-below : (xs : List ℕ) (n i : ℕ) → n ≡ length (unpack xs .passive) → i < n → i < length (unpack xs .passive)
 still-below xs n i e h = omega (arith, e, h)

@@ -11,7 +11,7 @@ use Rattle.timer_map.specs.Calls.{PutWords, PoppedWords, inserted, taken-out, f
 use Rattle.timer_events.specs.declared.PoppedEvent.{PoppedEvent}
 use Rattle.timer_events.specs.Records.{records-inserted}
 use Rattle.timer_events.specs.Events.{Taken, event-taken}
-use Rattle.timer_events.specs.History.{QueueOutcome, insert, insert-records, pop-before, pop-event, first, count, code, popped, event, next, held, queue-answered}
+use Rattle.timer_events.specs.History.{insert, insert-records, pop-before, pop-event, first, count, code, popped, event, next, held, queue-answered}
 
 pub put-in : (c time delay : ℕ) (x : Timer) (ws ys : List ℕ) → record { code = c; words = ys } ≡ inserted time delay x ws → record { reply = code c; words = ys } ≡ queue-answered (insert time delay x) ws
 unfolding queue-answered

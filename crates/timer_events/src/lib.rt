@@ -10,7 +10,6 @@ use writer::Fields;
 ghost use mathlib.Core.Path.{_≡_};
 ghost use mathlib.Core.Bool.{true, false};
 ghost use mathlib.Core.List.{[]};
-ghost use Prim.Native.Nat.{_≤_};
 ghost use Rattle.record.specs.Read.{header-of};
 ghost use Rattle.writer.specs.Write.{rec-in};
 ghost use Rattle.timer_map.specs.Words.{entries-of, SoundQueue};

@@ -13,13 +13,12 @@ use Rattle.lists.specs.Tests.{every}
 use Rattle.lists.proofs.Array.{length-shift-remove}
 use Rattle.lists.proofs.Choice.{by-choice, split, and-left, and-right}
 use Rattle.lists.proofs.Tests.{both-true}
-use Rattle.timer_map.specs.Entries.{Put, timer-ok, queue-entry-ok, insert-refusal, insert-timer, soonest, is-due, popped-entries}
+use Rattle.timer_map.specs.Entries.{Put, timer-ok, queue-entry-ok, insert-refusal, insert-timer}
 use Rattle.timer_map.specs.Words.{entries-of, queue-ok, pack-queue, SoundQueue}
 use Rattle.timer_map.specs.declared.Timer.{Timer}
 use Rattle.timer_map.specs.declared.TimerMapEntry.{TimerMapEntry}
-use Rattle.timer_map.proofs.Order.{soonest-below}
 use Rattle.timer_map.proofs.Pack.{sound, ok-pack}
-use Rattle.timer_map.proofs.Ways.{accepted, insert-malformed, insert-refused, insert-done, due-some}
+use Rattle.timer_map.proofs.Ways.{accepted, insert-malformed, insert-refused, insert-done}
 
 -- the entries of a queue that keeps its rules
 pub record Good (es : List TimerMapEntry) : Type 0 where
@@ -89,8 +88,3 @@ good-insert time delay x es g = go (inserts time delay x es)
 
 pub good-remove : (i : ℕ) (es : List TimerMapEntry) → i < length es → Good es → Good (shift-remove i es)
 good-remove i es h g = record { few = omega (arith, length-shift-remove i es h, g .few); timers = every-remove i es (g .timers) }
-
-pub good-popped : (limit : ℕ) (es : List TimerMapEntry) → Good es → Good (popped-entries limit es)
-unfolding popped-entries
-good-popped limit es g =
-    by-choice Good (is-due limit es) (λ t. good-remove (soonest es) es (soonest-below es (due-some limit es t)) g) (λ t. g)

@@ -2,19 +2,19 @@
 -- Assumes nothing.
 use Prim.Native.Nat.{ℕ, zero, suc, _+_, _-_, _≤_, _<_}
 use mathlib.Core.Path.{_≡_, refl, sym, ap, _∙_, subst}
-use mathlib.Core.Bool.{Bool, true, false, _&&_}
+use mathlib.Core.Bool.{Bool, true, false}
 use mathlib.Core.List.{List, [], _∷_, _++_}
 use native.Mathlib.Numerals.{add-one}
 use native.Mathlib.Omega.{arith}
-use lib.ListN.{length, take, drop, getD, set, replicate, length-set, length-append, List·getD-append}
-use lib.Seq.{take-length, take-take, take-suc, getD-take, getD-at, getD-append-add, getD-set-same, set-at, set-append-left, length-take-le}
+use lib.ListN.{length, take, drop, getD, set, length-set, length-append, List·getD-append}
+use lib.Seq.{take-length, take-take, take-suc, getD-at, getD-append-add, getD-set-same, set-at, set-append-left, length-take-le}
 use lib.Dec.{eqb, leb}
 use borrow.Author.Tests.{lt-leb, le-leb, leb-true, eq-eqb, eqb-true}
 use borrow.Rule.Slice.PartMut.{putMid}
 use Rattle.lists.specs.Array.{pad}
 use Rattle.lists.specs.Lists.{null, index-of, rank, remove, shift-remove, swap-remove, insert-at, insert, without, without-all, renew, mem, distinct, rising, subset, disjoint}
 use Rattle.lists.specs.Tests.{every, packed}
-use Rattle.lists.proofs.Array.{length-pad, take-pad, getD-pad, set-pad, push-pad, pop-pad, length-shift-remove, length-insert-at}
+use Rattle.lists.proofs.Array.{length-pad, getD-pad, set-pad, push-pad, pop-pad, length-shift-remove, length-insert-at}
 use Rattle.lists.proofs.Choice.{and-left, and-right}
 use Rattle.lists.proofs.Entries.{taken-is}
 use Rattle.lists.proofs.Search.{index-mem, index-not-mem}
@@ -145,10 +145,6 @@ section-holds n xs h = set-of n (framed n xs (length xs)) xs (framed-long n xs (
 pub holds-by : (n : ℕ) (s xs : List ℕ) → s ≡ section n xs → length xs ≤ n → HoldsSet n s xs
 holds-by n s xs e h = subst (λ (t : List ℕ). HoldsSet n t xs) (sym e) (section-holds n xs h)
 
--- two sets that hold one list are one
-pub set-same : (n : ℕ) (s t xs : List ℕ) → HoldsSet n s xs → HoldsSet n t xs → s ≡ t
-set-same n s t xs h k = set-words n s (h .valid) ∙ ap (section n) (h .items ∙ sym (k .items)) ∙ sym (set-words n t (k .valid))
-
 -- the same list by another name
 pub set-as : (n : ℕ) (s xs ys : List ℕ) → HoldsSet n s xs → xs ≡ ys → HoldsSet n s ys
 set-as n s xs ys h e = record { valid = h .valid; items = h .items ∙ e }
@@ -242,19 +238,6 @@ zeroes-more (suc k) = ap (λ (l : List ℕ). 0 ∷ l) (zeroes-more k)
 pub cleared : (n : ℕ) (s t : List ℕ) → length s ≡ n + 1 → t ≡ pad 0 (length s) (take 0 s) → HoldsSet n t []
 unfolding section
 cleared n s t l e = holds-by n t [] (e ∙ ap (λ (k : ℕ). pad {A = ℕ} 0 k []) (l ∙ add-one n) ∙ zeroes-more n) (omega arith)
-
-zeroes-are : (k : ℕ) → replicate k 0 ≡ pad {A = ℕ} 0 k []
-unfolding pad
-zeroes-are zero = refl
-zeroes-are (suc k) = ap (λ (l : List ℕ). 0 ∷ l) (zeroes-are k)
-
--- an array of zeroes, as a local one starts
-pub zeroes-set : (n : ℕ) → HoldsSet n (replicate (suc n) 0) []
-unfolding section
-zeroes-set n = holds-by n (replicate (suc n) 0) [] (zeroes-are (suc n) ∙ zeroes-more n) (omega arith)
-
-pub zeroes-room : (n : ℕ) → 0 < n → length (items-at n (replicate (suc n) 0)) < n
-zeroes-room n h = omega (arith, ap length (zeroes-set n .items))
 
 module _ (n : ℕ) (s : List ℕ) (v : ValidSet n s) where
   few-items : length (items-at n s) ≤ n

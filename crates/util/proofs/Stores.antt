@@ -1,10 +1,9 @@
 -- The loops of a column that store: its end is cleared, items leave it, and it is shuffled.
 -- Assumes nothing.
-use Prim.Native.Nat.{ℕ, zero, suc, _+_, _-_, _%_, _≤_, _<_}
+use Prim.Native.Nat.{ℕ, _+_, _-_, _≤_, _<_}
 use mathlib.Core.Path.{_≡_, refl, sym, ap, _∙_}
 use mathlib.Core.Bool.{Bool, true, false}
 use mathlib.Core.List.{List, [], _∷_, _++_, append-nil}
-use native.Mathlib.Nat.{mod-lt}
 use native.Mathlib.Numerals.{add-one}
 use native.Mathlib.Omega.{arith}
 use lib.ListN.{length, take, drop, getD, set, length-set, length-take, List·getD-eq-default}
@@ -15,7 +14,7 @@ use Rattle.lists.proofs.Array.{length-pad, getD-pad, set-pad}
 use Rattle.lists.proofs.Front.{Front, front-start, front-step, front-end}
 use Rattle.lists.proofs.Rest.{Rest, rest-next, rest-end}
 use Rattle.util.specs.Chances.{pick-draws, pick, shuffle-down, draws-down, shuffle, shuffle-draws}
-use Rattle.util.proofs.Chances.{length-swapped, length-shuffled, pick-below, picks-next, shuffle-step, draws-step}
+use Rattle.util.proofs.Chances.{length-swapped, length-shuffled, picks-next, shuffle-step, draws-step}
 use borrow.Rule.Slice.PartMut.{putMid}
 use Rattle.util.specs.Section.{part, Filled, items-at, ValidSet, HoldsSet}
 use Rattle.util.proofs.Columns.{filled-length}

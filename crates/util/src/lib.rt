@@ -9,7 +9,7 @@ ghost use Rattle.lists.specs.Lists.{null, mem, index-of, rank, shift-remove, sw
 ghost use Rattle.lists.specs.Tests.{every};
 ghost use Rattle.util.specs.Chances.{pick-draws, pick, shuffle, shuffle-draws};
 ghost use Rattle.scan.specs.Words.{unused};
-ghost use Rattle.util.specs.Section.{part, Filled, items-at, ValidSet, HoldsSet, valid-set};
+ghost use Rattle.util.specs.Section.{Filled, items-at, ValidSet, HoldsSet, valid-set};
 
 // How many places a working set has: as many as the largest set.
 const PLACES: usize = 32;

@@ -3,16 +3,16 @@
 use Prim.Native.Nat.{ℕ, _+_, _≤_}
 use mathlib.Core.Path.{_≡_, refl, sym, _∙_}
 use mathlib.Core.Bool.{Bool, true, false}
-use mathlib.Core.List.{List, _++_}
+use mathlib.Core.List.{List}
 use mathlib.Core.Option.{some}
 use native.Mathlib.Omega.{arith}
 use borrow.Author.Tests.{leb-true}
-use lib.ListN.{length, take}
+use lib.ListN.{length}
 use lib.Seq.{slice}
 use Rattle.lists.specs.Lists.{choose}
 use Rattle.lists.specs.Bytes.{overwrite}
 use Rattle.lists.proofs.Choice.{choose-yes}
-use Rattle.lists.proofs.Stored.{take-stored, slice-stored}
+use Rattle.lists.proofs.Stored.{slice-stored}
 use Rattle.record.specs.Format.{Rec, size, encode}
 use Rattle.record.specs.Read.{decode}
 use Rattle.record.specs.InForm.{header-in, InForm}
@@ -50,10 +50,6 @@ module _ (e : Rec) (at : ℕ) (out : List ℕ) (r : Written) (o : List ℕ) (k :
   -- where the writer answers a place, the bytes up to there are the record's
   pub part-written : slice at k o ≡ encode e
   part-written = rw (← stored .place, stored .bytes) (slice-stored out at (encode e) (stored .room))
-
-  -- and the output up to there is longer by them
-  pub front-written : take k o ≡ take at out ++ encode e
-  front-written = rw (← stored .place, stored .bytes) (take-stored out at (encode e) (stored .room))
 
   pub record ReadsBack : Type 0 where
     pub record-is : decode (slice at k o) ≡ some e

@@ -1,6 +1,5 @@
 use Rattle.util.specs.Section.{part}
 use Rattle.columns.specs.Columns.{head-of}
-use native.Mathlib.Omega.{arith}
 use Rattle.columns.proofs.Data.{data-inside, data-count, len-byte, data-found, data-missing}
 use borrow.Author.Needs.{needs}
 use Rattle.columns.proofs.get_data.Statement.{statement}

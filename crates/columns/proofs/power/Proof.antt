@@ -1,7 +1,7 @@
 -- The rule is tested for each of the eight numbers by one computation.
 use mathlib.Core.Bool.{Bool}
 use mathlib.Core.List.{List, [], _∷_}
-use mathlib.Core.Path.{_≡_, sym, _∙_}
+use mathlib.Core.Path.{sym, _∙_}
 use Prim.Native.Nat.{ℕ, _*_, _%_, _^_}
 use lib.ListN.{getD}
 use lib.Dec.{eqb, eqb→eq}

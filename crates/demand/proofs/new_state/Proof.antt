@@ -1,5 +1,4 @@
 use borrow.Author.Needs.{needs}
-use mathlib.Core.Path.{_≡_}
 use Rattle.demand.specs.Program.{made-state}
 use Rattle.demand.proofs.new_state.Statement.{statement}
 use Rattle.demand.proofs.new_state.Tie as tie

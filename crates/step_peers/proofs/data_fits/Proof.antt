@@ -1,5 +1,4 @@
 use Rattle.util.specs.Section.{part}
-use Rattle.state.specs.Unpack.{unpack, station-of}
 use Rattle.state.proofs.Access.{of-packed}
 use Rattle.step_peers.proofs.Laws.{roomy, crowded}
 use borrow.Author.Needs.{needs}

@@ -1,4 +1,3 @@
-use mathlib.Core.Path.{refl}
 use Rattle.state.proofs.Bridge.{change-then}
 use Rattle.protocol.specs.Peers.{drop-traces}
 use Rattle.state.proofs.Bridge.{on-twice}

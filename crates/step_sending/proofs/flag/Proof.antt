@@ -2,7 +2,6 @@ use mathlib.Core.Path.{_≡_, sym}
 use mathlib.Core.Bool.{Bool, true, false}
 use Rattle.lists.proofs.Choice.{choose-yes, choose-no}
 use Rattle.protocol.specs.Run.{flag}
-use borrow.Author.Needs.{needs}
 use Rattle.step_sending.proofs.flag.Statement.{statement}
 use Rattle.step_sending.proofs.flag.Tie as tie
 

@@ -1,4 +1,3 @@
-use Rattle.lists.specs.Lists.{mem}
 use Rattle.util.proofs.Sets.{lent-long, lent-mem}
 use borrow.Author.Needs.{needs}
 use Rattle.util.proofs.contains.Statement.{statement}

@@ -1,5 +1,4 @@
 use lib.ListN.{length-set}
-use native.Mathlib.Omega.{arith}
 use Rattle.util.proofs.Sets.{pushed}
 use borrow.Author.Needs.{needs}
 use Rattle.util.proofs.push.Statement.{statement}
