@@ -145,7 +145,7 @@ refused-zeroes xs me present own c one =
 pub enough-lent : D.Enough-lent
 unfolding answered packed-answer
 enough-lent xs ok v =
-    let lent-with : (l : List ℕ) → outcome (v .event) l (v .output) xs ≡ packed-answer (definition.handle (unpack xs) (v .event) l (length (v .output))) =
+    let lent-with : (l : List ℕ) → program-outcome (v .event) l (v .output) xs ≡ packed-answer (definition.handle (unpack xs) (v .event) l (length (v .output))) =
     (λ l. answers xs ok (record { event = v .event; are-bytes = v .are-bytes; draws = l; output = v .output })) in
     let e = lent-with (v .draws) in
     let code = ap (λ (x : Outcome). x .code) e in
