@@ -41,6 +41,8 @@ pub mod station;
 pub mod stored;
 #[cfg(feature = "tools")]
 pub mod stories;
+#[cfg(feature = "tools")]
+pub mod tallies;
 pub mod text;
 #[cfg(feature = "tools")]
 pub mod timers;

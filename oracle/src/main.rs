@@ -16,7 +16,7 @@ use oracle::{
     generate::mix::{self, MIXES},
     passing,
     stored::{self, Stored},
-    stories,
+    stories, tallies,
     text::{self, Form, Start},
     timers, timing, words, SUBSTITUTIONS,
 };
@@ -34,6 +34,8 @@ oracle compare [--seed N] [--histories N] [--events N] [--mix NAME] [--evicted t
 oracle timer-calls [--seed N] [--calls N]    calls of a timer queue, six 64-bit words each
 oracle timers                        the Rust's answers to such calls on stdin
 oracle stories [lengths]             where all histories of at most four of 02's sixteen events end
+oracle tally-cases                   outputs with the codes of their events, as test_tally reads them
+oracle tally-counts                  the messages sent up to each of them, as it must print them
 oracle substitutions
 ";
 
@@ -113,10 +115,7 @@ fn answer(arguments: &[String]) -> Answer {
         "timer-calls" => {
             let options = Options::read(rest, &["seed", "calls"])?;
             let calls = timers::generate(options.get("seed", 1)?, options.count("calls", 300_000)?);
-            io::stdout()
-                .write_all(&timers::to_bytes(&calls))
-                .map_err(|error| misuse(format!("timer-calls: {error}")))?;
-            Ok(String::new())
+            bytes(mode, &timers::to_bytes(&calls))
         }
         "timers" => {
             let calls = timers::from_bytes(&read_input());
@@ -126,6 +125,8 @@ fn answer(arguments: &[String]) -> Answer {
             Ok(timers::answers(&calls))
         }
         "stories" => all_stories(rest),
+        "tally-cases" => bytes(mode, &tallies::to_bytes(&tallies::cases())),
+        "tally-counts" => Ok(tallies::to_text(&tallies::cases())),
         "compare" => compare(rest),
         "-h" | "--help" => Ok(USAGE.into()),
         _ => Err(misuse(format!("no mode is {mode}; --help tells them"))),
@@ -200,6 +201,14 @@ fn read_input() -> Vec<u8> {
         .read_to_end(&mut input)
         .expect("standard input is open");
     input
+}
+
+/// An answer that is no text.
+fn bytes(mode: &str, bytes: &[u8]) -> Answer {
+    io::stdout()
+        .write_all(bytes)
+        .map_err(|error| misuse(format!("{mode}: {error}")))?;
+    Ok(String::new())
 }
 
 fn run(arguments: &[String], form: Form) -> Answer {

@@ -40,6 +40,8 @@ pub struct Answer {
     pub code: u8,
     pub drawn: usize,
     pub out: Vec<u8>,
+    /// The messages sent, by byte 1, counted where the Rust sends them.
+    pub sent: [u64; 6],
 }
 
 #[derive(Clone)]
@@ -82,13 +84,14 @@ impl Station {
     /// Handles an event on a copy, which is kept only when no refusal was met.
     pub fn handle(&mut self, event: &[u8], room: usize) -> Answer {
         match self.try_handle(event, room) {
-            Ok((state, out)) => {
+            Ok((state, out, sent)) => {
                 let drawn = state.rng().place() - self.place();
                 self.state = state;
                 Answer {
                     code: 0,
                     drawn,
                     out,
+                    sent,
                 }
             }
             Err(code) => Answer {
@@ -98,16 +101,20 @@ impl Station {
         }
     }
 
-    fn try_handle(&self, event: &[u8], room: usize) -> Result<(State<Peer, Draws>, Vec<u8>), u8> {
+    fn try_handle(
+        &self,
+        event: &[u8],
+        room: usize,
+    ) -> Result<(State<Peer, Draws>, Vec<u8>, [u64; 6]), u8> {
         let view = View::event(event)?;
         refusal::first_refusal(|| {
             let mut state = self.state.clone();
             let mut bytes = vec![0; room];
             let mut output = Writer::new(&mut bytes);
             state.handle(access::event(&view), &mut output);
-            let written = output.written();
+            let (written, sent) = (output.written(), output.sent);
             bytes.truncate(written);
-            (state, bytes)
+            (state, bytes, sent)
         })
     }
 }
