@@ -71,6 +71,6 @@ fn main() {
     if n < buffer.len() {
         show_all(&buffer[..n]);
     } else {
-        io::write_all(1, b"! more input than the buffer holds\n");
+        io::write_all(1, b"! an input that is too long\n");
     }
 }
