@@ -66,11 +66,14 @@ shared-slice-read-if3 c = search needs
 returns-3 : tie.Need-returns-3
 unfolding part head-of
 returns-3 c =
-    let given = c .before .before .before .before .before .before .before .before .before .before .before .before .before .pre in
-    let find = c .before .before .before .before .before .before .before .before .before .find in
-    let if1 = c .before .before .before .before .before .before .before .before .if1 in
-    let args = c .before .before .before .before .before .before .before .before .before .before .before .before .before .args in
-    holds-low _ _ (given .0) _ _ (find .ensures .0) _ (given .1) (if1 .left) _ _ (c .before .before .before .before .before .if2 .left) (c .before .before .before .word-at .ensures .0) (c .before .before .word-at2 .ensures .0) (c .before .before .before .word-at .ensures .1) (c .before .before .word-at2 .ensures .1) (omega (arith, c .before .shared-slice-known4 .given (args .cap + args .cap + find .result))) (omega (arith, c .before .shared-slice-known4 .given (args .cap + args .cap + args .cap + find .result))) (c .if3 .taken)
+    let at-shared-slice-known4 = c .before in
+    let at-word-at2 = at-shared-slice-known4 .before in
+    let at-word-at = at-word-at2 .before in
+    let at-if2 = at-word-at .before .before in
+    let at-if1 = at-if2 .before .before .before in
+    let at-find = at-if1 .before in
+    let start = at-find .before .before .before .before in
+    holds-low _ _ (start .pre .0) _ _ (at-find .find .ensures .0) _ (start .pre .1) (at-if1 .if1 .left) _ _ (at-if2 .if2 .left) (at-word-at .word-at .ensures .0) (at-word-at2 .word-at2 .ensures .0) (at-word-at .word-at .ensures .1) (at-word-at2 .word-at2 .ensures .1) (omega (arith, at-shared-slice-known4 .shared-slice-known4 .given (start .args .cap + start .args .cap + at-find .find .result))) (omega (arith, at-shared-slice-known4 .shared-slice-known4 .given (start .args .cap + start .args .cap + start .args .cap + at-find .find .result))) (c .if3 .taken)
 
 add-result : tie.Need-add-result
 add-result c = search needs
@@ -87,11 +90,14 @@ shared-slice-read-result c = search needs
 returns-4 : tie.Need-returns-4
 unfolding part head-of
 returns-4 c =
-    let given = c .before .before .before .before .before .before .before .before .before .before .before .before .before .before .pre in
-    let find = c .before .before .before .before .before .before .before .before .before .before .find in
-    let if1 = c .before .before .before .before .before .before .before .before .before .if1 in
-    let args = c .before .before .before .before .before .before .before .before .before .before .before .before .before .before .args in
-    holds-high _ _ (given .0) _ _ (find .ensures .0) _ (given .1) (if1 .left) _ _ (c .before .before .before .before .before .before .if2 .left) (c .before .before .before .before .word-at .ensures .0) (c .before .before .before .word-at2 .ensures .0) (c .before .before .before .before .word-at .ensures .1) (c .before .before .before .word-at2 .ensures .1) (omega (arith, c .shared-slice-known5 .given (args .cap + args .cap + find .result))) (omega (arith, c .shared-slice-known5 .given (args .cap + args .cap + args .cap + find .result))) (c .before .if3 .left)
+    let at-if3 = c .before in
+    let at-word-at2 = at-if3 .before .before in
+    let at-word-at = at-word-at2 .before in
+    let at-if2 = at-word-at .before .before in
+    let at-if1 = at-if2 .before .before .before in
+    let at-find = at-if1 .before in
+    let start = at-find .before .before .before .before in
+    holds-high _ _ (start .pre .0) _ _ (at-find .find .ensures .0) _ (start .pre .1) (at-if1 .if1 .left) _ _ (at-if2 .if2 .left) (at-word-at .word-at .ensures .0) (at-word-at2 .word-at2 .ensures .0) (at-word-at .word-at .ensures .1) (at-word-at2 .word-at2 .ensures .1) (omega (arith, c .shared-slice-known5 .given (start .args .cap + start .args .cap + at-find .find .result))) (omega (arith, c .shared-slice-known5 .given (start .args .cap + start .args .cap + start .args .cap + at-find .find .result))) (at-if3 .if3 .left)
 
 pub holds-data-spec : {M : Type 1} → statement M
 holds-data-spec =

@@ -116,8 +116,13 @@ part-in-two-end c = search needs
 in-two-requires-2 : tie.Need-in-two-requires-2
 unfolding part head-of
 in-two-requires-2 c κs =
-    let given = c .before .before .before .before .before .before .before .before .before .before .before .before .before .before .before .before .pre in
-    (search tail-size, (tail-lows _ _ (given .0) _ _ _ (c .before .before .before .in-two .ensures), (tail-highs _ _ (given .0) _ _ _ (c .before .before .before .in-two .ensures), (search data-room, search needs))))
+    let at-in-two = c .before .before .before in
+    let at-rank-of = at-in-two .before .before .before in
+    let at-if1 = at-rank-of .before .before in
+    let at-find = at-if1 .before in
+    let at-word-at = at-find .before .before .before in
+    let start = at-word-at .before .before .before .before in
+    (search tail-size, (tail-lows _ _ (start .pre .0) _ _ _ (at-in-two .in-two .ensures), (tail-highs _ _ (start .pre .0) _ _ _ (at-in-two .in-two .ensures), (data-room _ _ (start .pre .0) _ _ (at-find .find .ensures .0) (at-if1 .if1 .left) (start .pre .1 .1), at-rank-of .rank-of .ensures .1))))
 
 add-m-5 : tie.Need-add-m-5
 add-m-5 c = search needs
@@ -131,19 +136,25 @@ slice-write-m-4 c = search needs
 same-length-2 : tie.Need-same-length-2
 unfolding part
 same-length-2 c =
-    let given = c .before .before .before .before .before .before .before .before .before .before .before .before .before .before .before .before .before .before .before .pre in
-    data-long _ _ (given .0) _ _ _ (c .before .before .before .before .before .before .in-two .ensures) _ _ _ _ (c .before .before .in-two2 .ensures)
+    let at-in-two2 = c .before .before in
+    let at-in-two = at-in-two2 .before .before .before .before in
+    let at-find = at-in-two .before .before .before .before .before .before in
+    let at-b = at-find .before .before .before .before in
+    let start = at-b .before .before .before in
+    data-long _ _ (start .pre .0) _ _ _ (at-in-two .in-two .ensures) _ _ _ _ (at-in-two2 .in-two2 .ensures)
 
 returns-2 : tie.Need-returns-2
 unfolding part head-of
 returns-2 c =
-    let given = c .before .before .before .before .before .before .before .before .before .before .before .before .before .before .before .before .before .before .before .pre in
-    let find = c .before .before .before .before .before .before .before .before .before .before .before .before .find in
-    let word-at = c .before .before .before .before .before .before .before .before .before .before .before .before .before .before .before .word-at in
-    let word-at2 = c .before .before .before .before .before .before .before .before .before .before .before .before .before .before .word-at2 in
-    let if1 = c .before .before .before .before .before .before .before .before .before .before .before .if1 in
-    let rank-of = c .before .before .before .before .before .before .before .before .before .rank-of in
-    data-inserted _ _ (given .0) _ _ (find .ensures .0) _ _ _ (given .1 .0) (word-at .ensures .0) (word-at2 .ensures .0) _ _ _ (if1 .left) (given .1 .1) (rank-of .ensures .0) (c .before .before .before .before .before .before .in-two .ensures) (c .before .before .in-two2 .ensures)
+    let at-in-two2 = c .before .before in
+    let at-in-two = at-in-two2 .before .before .before .before in
+    let at-rank-of = at-in-two .before .before .before in
+    let at-if1 = at-rank-of .before .before in
+    let at-find = at-if1 .before in
+    let at-word-at2 = at-find .before .before in
+    let at-word-at = at-word-at2 .before in
+    let start = at-word-at .before .before .before .before in
+    data-inserted _ _ (start .pre .0) _ _ (at-find .find .ensures .0) _ _ _ (start .pre .1 .0) (at-word-at .word-at .ensures .0) (at-word-at2 .word-at2 .ensures .0) _ _ _ (at-if1 .if1 .left) (start .pre .1 .1) (at-rank-of .rank-of .ensures .0) (at-in-two .in-two .ensures) (at-in-two2 .in-two2 .ensures)
 
 pub insert-data-spec : {M : Type 1} → statement M
 insert-data-spec =

@@ -90,8 +90,11 @@ slice-write-m-2 c = search needs
 same-length-2 : tie.Need-same-length-2
 unfolding part
 same-length-2 c =
-    let given = c .before .before .before .before .before .before .before .before .before .before .before .before .before .before .before .pre in
-    numbers-long _ _ _ _ _ _ _ (c .before .before .before .before .before .before .put-in .ensures) (c .before .before .put-in2 .ensures) (given .0)
+    let at-put-in2 = c .before .before in
+    let at-put-in = at-put-in2 .before .before .before .before in
+    let at-find = at-put-in .before .before .before .before .before in
+    let start = at-find .before .before .before .before in
+    numbers-long _ _ _ _ _ _ _ (at-put-in .put-in .ensures) (at-put-in2 .put-in2 .ensures) (start .pre .0)
 
 returns-2 : tie.Need-returns-2
 unfolding part

@@ -61,8 +61,11 @@ part-out-two-end c = search needs
 out-two-requires-2 : tie.Need-out-two-requires-2
 unfolding part head-of
 out-two-requires-2 c κs =
-    let given = c .before .before .before .before .before .before .before .before .before .before .pre in
-    (search tail-size, (tail-lows _ _ (given) _ _ _ (c .before .before .before .out-two .ensures), (tail-highs _ _ (given) _ _ _ (c .before .before .before .out-two .ensures), search needs)))
+    let at-out-two = c .before .before .before in
+    let at-find = at-out-two .before .before .before in
+    let start = at-find .before .before .before .before in
+    let given = start .pre in
+    (search tail-size, (tail-lows _ _ (given) _ _ _ (at-out-two .out-two .ensures), (tail-highs _ _ (given) _ _ _ (at-out-two .out-two .ensures), search needs)))
 
 sub-m : tie.Need-sub-m
 sub-m c = search needs
@@ -76,8 +79,11 @@ slice-write-m c = search needs
 same-length-2 : tie.Need-same-length-2
 unfolding part
 same-length-2 c =
-    let given = c .before .before .before .before .before .before .before .before .before .before .before .before .before .pre in
-    data-long _ _ (given) _ _ _ (c .before .before .before .before .before .before .out-two .ensures) _ _ _ _ (c .before .before .out-two2 .ensures)
+    let at-out-two2 = c .before .before in
+    let at-out-two = at-out-two2 .before .before .before .before in
+    let at-find = at-out-two .before .before .before in
+    let start = at-find .before .before .before .before in
+    data-long _ _ (start .pre) _ _ _ (at-out-two .out-two .ensures) _ _ _ _ (at-out-two2 .out-two2 .ensures)
 
 returns-2 : tie.Need-returns-2
 unfolding part head-of

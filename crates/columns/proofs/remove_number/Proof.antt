@@ -70,8 +70,11 @@ slice-write-m c = search needs
 same-length-2 : tie.Need-same-length-2
 unfolding part
 same-length-2 c =
-    let given = c .before .before .before .before .before .before .before .before .before .before .before .before .before .pre in
-    numbers-long _ _ _ _ _ _ _ (c .before .before .before .before .before .before .take-out .ensures) (c .before .before .take-out2 .ensures) (given)
+    let at-take-out2 = c .before .before in
+    let at-take-out = at-take-out2 .before .before .before .before in
+    let at-find = at-take-out .before .before .before in
+    let start = at-find .before .before .before .before in
+    numbers-long _ _ _ _ _ _ _ (at-take-out .take-out .ensures) (at-take-out2 .take-out2 .ensures) (start .pre)
 
 returns-2 : tie.Need-returns-2
 unfolding part

@@ -81,16 +81,39 @@ same-length : tie.Need-same-length Inv-loop μ-loop
 same-length c = search needs
 
 returns : tie.Need-returns Inv-loop μ-loop
-returns c = (same-room _ _ _ _ _ _ (search needs) (walking-stop _ _ _ _ _ _ _ (c .before .before .before .before .before .before .before .before .before .before .loop .inv .at) (c .before .before .before .before .before .before .before .before .before .loop-test .taken) _ (c .before .before .before .before .before .before .before .first-length .ensures .0) _ _ _ (c .before .before .before .before .put-record .ensures) (c .if1 .taken)), (search needs, search needs))
+returns c =
+    let at-put-record = c .before .before .before .before in
+    let at-first-length = at-put-record .before .before .before in
+    let at-loop-test = at-first-length .before .before in
+    let at-loop = at-loop-test .before in
+    (same-room _ _ _ _ _ _ (search needs) (walking-stop _ _ _ _ _ _ _ (at-loop .loop .inv .at) (at-loop-test .loop-test .taken) _ (at-first-length .first-length .ensures .0) _ _ _ (at-put-record .put-record .ensures) (c .if1 .taken)), (search needs, search needs))
 
 add-to : tie.Need-add-to Inv-loop μ-loop
-add-to c = record { fits = omega (arith, walking-top _ _ _ _ _ _ _ (c .before .before .before .before .before .before .before .before .before .before .before .loop .inv .at) (c .before .before .before .before .before .before .before .before .before .before .loop-test .taken) _ (c .before .before .before .before .before .before .before .before .first-length .ensures .0) _ _ _ (c .before .before .before .before .before .put-record .ensures), c .before .before .before .before .before .before .before .before .before .before .before .loop .inv .len) }
+add-to c =
+    let at-first-length = c .before .before .before .before .before .before .before .before in
+    let long = at-first-length .before .before .before .loop .inv .len in
+    let top =
+    let at-put-record = c .before .before .before .before .before in
+    let at-loop-test = at-first-length .before .before in
+    let at-loop = at-loop-test .before in
+    walking-top _ _ _ _ _ _ _ (at-loop .loop .inv .at) (at-loop-test .loop-test .taken) _ (at-first-length .first-length .ensures .0) _ _ _ (at-put-record .put-record .ensures) in
+    record { fits = omega (arith, top, long) }
 
 loop-less : tie.Need-loop-less Inv-loop μ-loop
-loop-less c = walking-less _ _ _ _ _ _ _ (c .before .before .before .before .before .before .before .before .before .before .before .loop .inv .at) (c .before .before .before .before .before .before .before .before .before .before .loop-test .taken) _ (c .before .before .before .before .before .before .before .before .first-length .ensures .0) _ _ _ (c .before .before .before .before .before .put-record .ensures) (search needs)
+loop-less c =
+    let at-put-record = c .before .before .before .before .before in
+    let at-first-length = at-put-record .before .before .before in
+    let at-loop-test = at-first-length .before .before in
+    let at-loop = at-loop-test .before in
+    walking-less _ _ _ _ _ _ _ (at-loop .loop .inv .at) (at-loop-test .loop-test .taken) _ (at-first-length .first-length .ensures .0) _ _ _ (at-put-record .put-record .ensures) (search needs)
 
 loop-again : tie.Need-loop-again Inv-loop μ-loop
-loop-again c = inv _ _ _ _ _ _ _ (walking-next _ _ _ _ _ _ _ (c .before .before .before .before .before .before .before .before .before .before .before .loop .inv .at) (c .before .before .before .before .before .before .before .before .before .before .loop-test .taken) _ (c .before .before .before .before .before .before .before .before .first-length .ensures .0) _ _ _ (c .before .before .before .before .before .put-record .ensures) (search needs) (c .before .before .before .before .before .before .before .before .first-length .ensures .1))
+loop-again c =
+    let at-put-record = c .before .before .before .before .before in
+    let at-first-length = at-put-record .before .before .before in
+    let at-loop-test = at-first-length .before .before in
+    let at-loop = at-loop-test .before in
+    inv _ _ _ _ _ _ _ (walking-next _ _ _ _ _ _ _ (at-loop .loop .inv .at) (at-loop-test .loop-test .taken) _ (at-first-length .first-length .ensures .0) _ _ _ (at-put-record .put-record .ensures) (search needs) (at-first-length .first-length .ensures .1))
 
 same-length-2 : tie.Need-same-length-2 Inv-loop μ-loop
 same-length-2 c = search needs

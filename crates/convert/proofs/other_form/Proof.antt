@@ -24,10 +24,26 @@ ids-fit-requires : tie.Need-ids-fit-requires
 ids-fit-requires c κs = (search needs, (search needs, (search needs, reach _ _ (search needs) _ (c .before .before .before .before .read-header-by .ensures))))
 
 returns : tie.Need-returns
-returns c = full _ _ _ (search needs) (λ k. omega (arith, c .before .before .before .before .before .before .before .before .shared-slice-known .given k)) _ (c .before .before .before .before .before .before .before .read-header-by .ensures) _ (c .before .before .before .before .before .other-size .ensures) _ _ _ _ (c .before .before .before .before .fits2 .ensures) (c .before .before .before .fits3 .ensures) (c .before .before .ids-fit .ensures) (c .before .if1 .taken) (c .if2 .taken)
+returns c =
+    let at-if1 = c .before in
+    let at-ids-fit = at-if1 .before in
+    let at-fits3 = at-ids-fit .before in
+    let at-fits2 = at-fits3 .before in
+    let at-other-size = at-fits2 .before in
+    let at-read-header-by = at-other-size .before .before in
+    let at-shared-slice-known = at-read-header-by .before in
+    full _ _ _ (search needs) (λ k. omega (arith, at-shared-slice-known .shared-slice-known .given k)) _ (at-read-header-by .read-header-by .ensures) _ (at-other-size .other-size .ensures) _ _ _ _ (at-fits2 .fits2 .ensures) (at-fits3 .fits3 .ensures) (at-ids-fit .ids-fit .ensures) (at-if1 .if1 .taken) (c .if2 .taken)
 
 returns-2 : tie.Need-returns-2
-returns-2 c = done _ _ _ (search needs) (λ k. omega (arith, c .before .before .before .before .before .before .before .before .shared-slice-known .given k)) _ (c .before .before .before .before .before .before .before .read-header-by .ensures) _ (c .before .before .before .before .before .other-size .ensures) _ _ _ _ (c .before .before .before .before .fits2 .ensures) (c .before .before .before .fits3 .ensures) (c .before .before .ids-fit .ensures) (c .before .if1 .taken) (c .if2 .left)
+returns-2 c =
+    let at-if1 = c .before in
+    let at-ids-fit = at-if1 .before in
+    let at-fits3 = at-ids-fit .before in
+    let at-fits2 = at-fits3 .before in
+    let at-other-size = at-fits2 .before in
+    let at-read-header-by = at-other-size .before .before in
+    let at-shared-slice-known = at-read-header-by .before in
+    done _ _ _ (search needs) (λ k. omega (arith, at-shared-slice-known .shared-slice-known .given k)) _ (at-read-header-by .read-header-by .ensures) _ (at-other-size .other-size .ensures) _ _ _ _ (at-fits2 .fits2 .ensures) (at-fits3 .fits3 .ensures) (at-ids-fit .ids-fit .ensures) (at-if1 .if1 .taken) (c .if2 .left)
 
 returns-3 : tie.Need-returns-3
 returns-3 c = none-such _ _ _ (search needs) (λ k. omega (arith, c .before .before .before .before .before .before .before .shared-slice-known .given k)) _ (c .before .before .before .before .before .before .read-header-by .ensures) _ (c .before .before .before .before .other-size .ensures) _ _ _ _ (c .before .before .before .fits2 .ensures) (c .before .before .fits3 .ensures) (c .before .ids-fit .ensures) (c .if1 .left)

@@ -124,7 +124,13 @@ loop-less c = search needs
 
 loop-again : tie.Need-loop-again Inv-loop μ-loop
 loop-again c =
-    next _ _ _ _ _ _ _ _ (c .before .before .before .before .before .before .before .before .before .loop .inv) (c .before .before .before .before .before .before .before .before .loop-test .taken) _ _ _ _ (c .before .before .before .before .before .before .before .node-by .ensures) (c .before .before .before .before .moved .ensures) (c .before .before .before .before .before .place2 .ensures .0) (c .before .before .before .put-entry .ensures) (search needs)
+    let at-put-entry = c .before .before .before in
+    let at-moved = at-put-entry .before in
+    let at-place2 = at-moved .before in
+    let at-node-by = at-place2 .before .before in
+    let at-loop-test = at-node-by .before in
+    let at-loop = at-loop-test .before in
+    next _ _ _ _ _ _ _ _ (at-loop .loop .inv) (at-loop-test .loop-test .taken) _ _ _ _ (at-node-by .node-by .ensures) (at-moved .moved .ensures) (at-place2 .place2 .ensures .0) (at-put-entry .put-entry .ensures) (search needs)
 
 same-length : tie.Need-same-length Inv-loop μ-loop
 same-length c = search needs

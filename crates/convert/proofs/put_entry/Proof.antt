@@ -44,7 +44,11 @@ same-length : tie.Need-same-length
 same-length c = search needs
 
 returns : tie.Need-returns
-returns c = parts _ _ _ _ _ _ _ (c .before .before .put-bytes .ensures) (c .before .before .before .before .before .before .before .put-number2 .ensures) (c .before .before .before .before .before .before .before .before .before .before .before .before .put-number .ensures)
+returns c =
+    let at-put-bytes = c .before .before in
+    let at-put-number2 = at-put-bytes .before .before .before .before .before in
+    let at-put-number = at-put-number2 .before .before .before .before .before in
+    parts _ _ _ _ _ _ _ (at-put-bytes .put-bytes .ensures) (at-put-number2 .put-number2 .ensures) (at-put-number .put-number .ensures)
 
 pub put-entry-spec : {M : Type 1} → statement M
 put-entry-spec =

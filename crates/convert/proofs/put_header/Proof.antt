@@ -45,7 +45,12 @@ same-length : tie.Need-same-length
 same-length c = search needs
 
 returns : tie.Need-returns
-returns c = parts _ _ _ _ _ _ _ (c .before .before .put-tail .ensures) (c .before .before .before .before .before .before .put-number2 .ensures) (c .before .before .before .before .before .before .before .before .before .before .put-number .ensures) (c .before .before .before .before .before .before .before .before .before .before .before .before .before .before .put-bytes .ensures)
+returns c =
+    let at-put-tail = c .before .before in
+    let at-put-number2 = at-put-tail .before .before .before .before in
+    let at-put-number = at-put-number2 .before .before .before .before in
+    let at-put-bytes = at-put-number .before .before .before .before in
+    parts _ _ _ _ _ _ _ (at-put-tail .put-tail .ensures) (at-put-number2 .put-number2 .ensures) (at-put-number .put-number .ensures) (at-put-bytes .put-bytes .ensures)
 
 pub put-header-spec : {M : Type 1} → statement M
 put-header-spec =

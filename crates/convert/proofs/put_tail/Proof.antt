@@ -41,7 +41,11 @@ same-length : tie.Need-same-length
 same-length c = search needs
 
 returns : tie.Need-returns
-returns c = parts _ _ _ _ _ _ (c .before .before .put-number3 .ensures) (c .before .before .before .before .before .before .put-number2 .ensures) (c .before .before .before .before .before .before .before .before .before .before .before .put-number .ensures)
+returns c =
+    let at-put-number3 = c .before .before in
+    let at-put-number2 = at-put-number3 .before .before .before .before in
+    let at-put-number = at-put-number2 .before .before .before .before .before in
+    parts _ _ _ _ _ _ (at-put-number3 .put-number3 .ensures) (at-put-number2 .put-number2 .ensures) (at-put-number .put-number .ensures)
 
 pub put-tail-spec : {M : Type 1} → statement M
 put-tail-spec =

@@ -49,16 +49,38 @@ put-header-requires : tie.Need-put-header-requires
 put-header-requires c κs = (search needs, start _ _ _ (c .before .before .before .before .pre .1 .1 .0) (λ k. omega (arith, c .before .before .shared-slice-known .given k)) _ (c .before .before .before .before .pre .1 .1 .1 .0) _ (c .before .before .before .before .pre .1 .1 .1 .1))
 
 put-entries-requires : tie.Need-put-entries-requires
-put-entries-requires c κs = (search needs, (search needs, (search needs, (nodes-are _ _ _ _ (c .before .before .before .before .before .before .before .before .pre .1 .1 .1 .0), entries _ _ _ (c .before .before .before .before .before .before .before .before .pre .1 .1 .0) (λ k. omega (arith, c .before .before .before .before .before .before .shared-slice-known .given k)) _ (c .before .before .before .before .before .before .before .before .pre .1 .1 .1 .0) _ (search needs)))))
+put-entries-requires c κs =
+    let at-shared-slice-known = c .before .before .before .before .before .before in
+    let start = at-shared-slice-known .before .before in
+    (search needs, (search needs, (search needs, (nodes-are _ _ _ _ (start .pre .1 .1 .1 .0), entries _ _ _ (start .pre .1 .1 .0) (λ k. omega (arith, at-shared-slice-known .shared-slice-known .given k)) _ (start .pre .1 .1 .1 .0) _ (search needs)))))
 
 put-data-requires : tie.Need-put-data-requires
-put-data-requires c κs = (search needs, (search needs, (search needs, (within _ _ _ (c .before .before .before .before .before .before .before .before .before .before .before .before .pre .1 .1 .0) (λ k. omega (arith, c .before .before .before .before .before .before .before .before .before .before .shared-slice-known .given k)) _ (c .before .before .before .before .before .before .before .before .before .before .before .before .pre .1 .1 .1 .0), all _ _ _ (c .before .before .before .before .before .before .before .before .before .before .before .before .pre .1 .1 .0) (λ k. omega (arith, c .before .before .before .before .before .before .before .before .before .before .shared-slice-known .given k)) _ (c .before .before .before .before .before .before .before .before .before .before .before .before .pre .1 .1 .1 .0) _ (search needs)))))
+put-data-requires c κs = (
+  search needs,
+  (
+    search needs,
+    (
+      search needs,
+      let at-put-entries = c .before .before .before in
+          let at-put-header = at-put-entries .before .before .before .before in
+          let at-shared-slice-known = at-put-header .before .before .before in
+          let start = at-shared-slice-known .before .before in
+          (within _ _ _ (start .pre .1 .1 .0) (λ k. omega (arith, at-shared-slice-known .shared-slice-known .given k)) _ (start .pre .1 .1 .1 .0), all _ _ _ (start .pre .1 .1 .0) (λ k. omega (arith, at-shared-slice-known .shared-slice-known .given k)) _ (start .pre .1 .1 .1 .0) _ (search needs)),
+    ),
+  ),
+)
 
 same-length : tie.Need-same-length
 same-length c = search needs
 
 returns : tie.Need-returns
-returns c = whole _ _ _ (c .before .before .before .before .before .before .before .before .before .before .before .before .before .before .before .pre .1 .1 .0) (λ k. omega (arith, c .before .before .before .before .before .before .before .before .before .before .before .before .before .shared-slice-known .given k)) _ (c .before .before .before .before .before .before .before .before .before .before .before .before .before .before .before .pre .1 .1 .1 .0) _ _ _ _ (c .before .before .before .before .before .before .before .before .before .before .put-header .ensures) (c .before .before .before .before .before .before .put-entries .ensures) (c .before .before .put-data .ensures)
+returns c =
+    let at-put-data = c .before .before in
+    let at-put-entries = at-put-data .before .before .before .before in
+    let at-put-header = at-put-entries .before .before .before .before in
+    let at-shared-slice-known = at-put-header .before .before .before in
+    let start = at-shared-slice-known .before .before in
+    whole _ _ _ (start .pre .1 .1 .0) (λ k. omega (arith, at-shared-slice-known .shared-slice-known .given k)) _ (start .pre .1 .1 .1 .0) _ _ _ _ (at-put-header .put-header .ensures) (at-put-entries .put-entries .ensures) (at-put-data .put-data .ensures)
 
 pub write-spec : {M : Type 1} → statement M
 write-spec = tie.close (tie.spec cast-n put-header-requires put-entries-requires put-data-requires same-length returns)

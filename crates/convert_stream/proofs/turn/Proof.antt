@@ -35,7 +35,10 @@ same-length-2 : tie.Need-same-length-2
 same-length-2 c = search needs
 
 returns : tie.Need-returns
-returns c = rest _ _ _ _ (c .before .before .before .before .before .before .pass .ensures) (search needs) (c .before .before .before .before .before .before .before .before .before .before .before .fill .ensures)
+returns c =
+    let at-pass = c .before .before .before .before .before .before in
+    let at-fill = at-pass .before .before .before .before .before in
+    rest _ _ _ _ (at-pass .pass .ensures) (search needs) (at-fill .fill .ensures)
 
 pub turn-spec : {M : Type 1} → statement M
 turn-spec = tie.close (tie.spec fill-requires slice-reshare-prefix-pass slice-aggregate-pass pass-requires keep-requires sub-t17 same-length same-length-2 returns)

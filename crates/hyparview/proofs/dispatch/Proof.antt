@@ -10,8 +10,9 @@ use Rattle.hyparview.proofs.dispatch.Tie as tie
 
 handle-message-requires : tie.Need-handle-message-requires
 handle-message-requires c κs =
-    let given = c .before .before .before .before .before .before .before .before .pre in
-    (given .0, (given .1 .0, (given .1 .1 .0, (c .before .before .if1 .taken, opens-between _ _ 0 (c .before .before .if1 .taken) (λ z. omega (arith, z)) (given .1 .1 .1 .1)))))
+    let at-if1 = c .before .before in
+    let start = at-if1 .before .before .before .before .before .before in
+    (start .pre .0, (start .pre .1 .0, (start .pre .1 .1 .0, (at-if1 .if1 .taken, opens-between _ _ 0 (at-if1 .if1 .taken) (λ z. omega (arith, z)) (start .pre .1 .1 .1 .1)))))
 
 same-length : tie.Need-same-length
 same-length c = search needs
@@ -21,13 +22,17 @@ same-length-2 c = search needs
 
 returns : tie.Need-returns
 returns c =
-    let given = c .before .before .before .before .before .before .before .before .before .before .before .before .before .pre in
-    kind-message _ _ (given .1 .1 .0) _ _ _ _ (c .before .before .before .before .before .before .before .if1 .taken) (c .before .before .before .before .handle-message .ensures)
+    let at-handle-message = c .before .before .before .before in
+    let at-if1 = at-handle-message .before .before .before in
+    let start = at-if1 .before .before .before .before .before .before in
+    kind-message _ _ (start .pre .1 .1 .0) _ _ _ _ (at-if1 .if1 .taken) (at-handle-message .handle-message .ensures)
 
 handle-timer-requires : tie.Need-handle-timer-requires
 handle-timer-requires c κs =
-    let given = c .before .before .before .before .before .before .before .before .before .before .pre in
-    (given .0, (given .1 .0, (let n = c .before .before .before .before .if1 .left in omega (arith, n), c .before .before .if2 .taken)))
+    let at-if2 = c .before .before in
+    let at-if1 = at-if2 .before .before in
+    let start = at-if1 .before .before .before .before .before .before in
+    (start .pre .0, (start .pre .1 .0, (let n = at-if1 .if1 .left in omega (arith, n), at-if2 .if2 .taken)))
 
 same-length-3 : tie.Need-same-length-3
 same-length-3 c = search needs
@@ -37,14 +42,18 @@ same-length-4 c = search needs
 
 returns-2 : tie.Need-returns-2
 returns-2 c =
-    let given = c .before .before .before .before .before .before .before .before .before .before .before .before .before .before .before .pre in
-    let if1 = c .before .before .before .before .before .before .before .before .before .if1 in
-    kind-timer _ _ (given .1 .1 .0) _ _ _ _ (if1 .left) (c .before .before .before .before .before .before .before .if2 .taken) (c .before .before .before .before .handle-timer .ensures)
+    let at-handle-timer = c .before .before .before .before in
+    let at-if2 = at-handle-timer .before .before .before in
+    let at-if1 = at-if2 .before .before in
+    let start = at-if1 .before .before .before .before .before .before in
+    kind-timer _ _ (start .pre .1 .1 .0) _ _ _ _ (at-if1 .if1 .left) (at-if2 .if2 .taken) (at-handle-timer .handle-timer .ensures)
 
 handle-connection-closed-requires : tie.Need-handle-connection-closed-requires
 handle-connection-closed-requires c κs =
-    let given = c .before .before .before .before .before .before .before .before .before .before .before .before .pre in
-    (given .0, (given .1 .0, between-calm _ _ _ _ _ _ (between-less _ _ _ _ _ (omega arith) (omega arith) (opens-between _ _ 5 (c .before .before .if3 .taken) (λ z. omega (arith, z)) (given .1 .1 .1 .1)))))
+    let at-if3 = c .before .before in
+    let at-if1 = at-if3 .before .before .before .before in
+    let start = at-if1 .before .before .before .before .before .before in
+    (start .pre .0, (start .pre .1 .0, between-calm _ _ _ _ _ _ (between-less _ _ _ _ _ (omega arith) (omega arith) (opens-between _ _ 5 (at-if3 .if3 .taken) (λ z. omega (arith, z)) (start .pre .1 .1 .1 .1)))))
 
 same-length-5 : tie.Need-same-length-5
 same-length-5 c = search needs
@@ -54,13 +63,18 @@ same-length-6 c = search needs
 
 returns-3 : tie.Need-returns-3
 returns-3 c =
-    let given = c .before .before .before .before .before .before .before .before .before .before .before .before .before .before .before .before .before .pre in
-    kind-closed _ _ (given .1 .1 .0) _ _ _ _ (c .before .before .before .before .before .before .before .if3 .taken) (c .before .before .before .before .handle-connection-closed .ensures)
+    let at-handle-connection-closed = c .before .before .before .before in
+    let at-if3 = at-handle-connection-closed .before .before .before in
+    let at-if1 = at-if3 .before .before .before .before in
+    let start = at-if1 .before .before .before .before .before .before in
+    kind-closed _ _ (start .pre .1 .1 .0) _ _ _ _ (at-if3 .if3 .taken) (at-handle-connection-closed .handle-connection-closed .ensures)
 
 handle-join-requires : tie.Need-handle-join-requires
 handle-join-requires c κs =
-    let given = c .before .before .before .before .before .before .before .before .before .before .before .before .before .before .pre in
-    (given .0, (room-of _ _ _ (given .1 .0), opens-join _ _ _ _ _ 6 (c .before .before .if4 .taken) (λ z. omega (arith, z)) (given .1 .1 .1 .1)))
+    let at-if4 = c .before .before in
+    let at-if1 = at-if4 .before .before .before .before .before .before in
+    let start = at-if1 .before .before .before .before .before .before in
+    (start .pre .0, (room-of _ _ _ (start .pre .1 .0), opens-join _ _ _ _ _ 6 (at-if4 .if4 .taken) (λ z. omega (arith, z)) (start .pre .1 .1 .1 .1)))
 
 same-length-7 : tie.Need-same-length-7
 same-length-7 c = search needs
@@ -70,31 +84,46 @@ same-length-8 c = search needs
 
 returns-4 : tie.Need-returns-4
 returns-4 c =
-    let given = c .before .before .before .before .before .before .before .before .before .before .before .before .before .before .before .before .before .before .before .pre in
-    kind-join _ _ (given .1 .1 .0) _ _ _ _ (c .before .before .before .before .before .before .before .if4 .taken) (then-tell (c .before .before .before .before .handle-join .ensures) (still (given .1 .0)))
+    let at-handle-join = c .before .before .before .before in
+    let at-if4 = at-handle-join .before .before .before in
+    let at-if1 = at-if4 .before .before .before .before .before .before in
+    let start = at-if1 .before .before .before .before .before .before in
+    kind-join _ _ (start .pre .1 .1 .0) _ _ _ _ (at-if4 .if4 .taken) (then-tell (at-handle-join .handle-join .ensures) (still (start .pre .1 .0)))
 
 peer-info-requires : tie.Need-peer-info-requires
 peer-info-requires c κs =
-    let given = c .before .before .before .before .before .before .before .before .before .before .before .before .before .before .pre in
-    (given .1 .1 .0 .formed, let e = one-node _ _ (given .1 .1 .0) (c .if5 .taken) in omega (arith, e))
+    let at-if2 = c .before .before .before .before .before .before in
+    let at-if1 = at-if2 .before .before in
+    let start = at-if1 .before .before .before .before .before .before in
+    (start .pre .1 .1 .0 .formed, let e = one-node _ _ (start .pre .1 .1 .0) (c .if5 .taken) in omega (arith, e))
 
 update-own-data-requires : tie.Need-update-own-data-requires
 update-own-data-requires c κs =
-    let given = c .before .before .before .before .before .before .before .before .before .before .before .before .before .before .before .before .before .pre in
-    (given .0, (given .1 .0 .ready .packed, c .before .before .peer-info .ensures .valid))
+    let at-peer-info = c .before .before in
+    let at-if3 = at-peer-info .before .before .before .before .before in
+    let at-if1 = at-if3 .before .before .before .before in
+    let start = at-if1 .before .before .before .before .before .before in
+    (start .pre .0, (start .pre .1 .0 .ready .packed, at-peer-info .peer-info .ensures .valid))
 
 same-length-9 : tie.Need-same-length-9
 same-length-9 c = search needs
 
 returns-5 : tie.Need-returns-5
 returns-5 c =
-    let given = c .before .before .before .before .before .before .before .before .before .before .before .before .before .before .before .before .before .before .before .before .pre in
-    kind-data _ _ (given .1 .1 .0) _ _ _ _ _ (c .before .before .before .before .before .peer-info .ensures) (c .before .before .before .before .before .before .if5 .taken) (then (c .before .before .update-own-data .ensures) (still (given .1 .0)))
+    let at-update-own-data = c .before .before in
+    let at-peer-info = at-update-own-data .before .before .before in
+    let at-if5 = at-peer-info .before in
+    let at-if2 = at-if5 .before .before .before .before .before .before in
+    let at-if1 = at-if2 .before .before in
+    let start = at-if1 .before .before .before .before .before .before in
+    kind-data _ _ (start .pre .1 .1 .0) _ _ _ _ _ (at-peer-info .peer-info .ensures) (at-if5 .if5 .taken) (then (at-update-own-data .update-own-data .ensures) (still (start .pre .1 .0)))
 
 handle-quit-requires : tie.Need-handle-quit-requires
 handle-quit-requires c κs =
-    let given = c .before .before .before .before .before .before .before .before .before .before .before .before .before .before .before .before .pre in
-    (given .0, given .1 .0)
+    let at-if3 = c .before .before .before .before .before .before in
+    let at-if1 = at-if3 .before .before .before .before in
+    let start = at-if1 .before .before .before .before .before .before in
+    (start .pre .0, start .pre .1 .0)
 
 same-length-10 : tie.Need-same-length-10
 same-length-10 c = search needs
@@ -104,11 +133,14 @@ same-length-11 c = search needs
 
 returns-6 : tie.Need-returns-6
 returns-6 c =
-    let given = c .before .before .before .before .before .before .before .before .before .before .before .before .before .before .before .before .before .before .before .before .before .pre in
-    let if2 = c .before .before .before .before .before .before .before .before .before .before .before .before .before .if2 in
-    let if3 = c .before .before .before .before .before .before .before .before .before .before .before .if3 in
-    let if4 = c .before .before .before .before .before .before .before .before .before .if4 in
-    kind-quit _ _ (given .1 .1 .0) _ _ _ _ (if2 .left) (if3 .left) (if4 .left) (c .before .before .before .before .before .before .before .if5 .left) (given .1 .1 .1 .0) (c .before .before .before .before .handle-quit .ensures)
+    let at-handle-quit = c .before .before .before .before in
+    let at-if5 = at-handle-quit .before .before .before in
+    let at-if4 = at-if5 .before .before in
+    let at-if3 = at-if4 .before .before in
+    let at-if2 = at-if3 .before .before in
+    let at-if1 = at-if2 .before .before in
+    let start = at-if1 .before .before .before .before .before .before in
+    kind-quit _ _ (start .pre .1 .1 .0) _ _ _ _ (at-if2 .if2 .left) (at-if3 .if3 .left) (at-if4 .if4 .left) (at-if5 .if5 .left) (start .pre .1 .1 .1 .0) (at-handle-quit .handle-quit .ensures)
 
 pub dispatch-spec : {M : Type 1} → statement M
 dispatch-spec =

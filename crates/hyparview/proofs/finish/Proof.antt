@@ -17,8 +17,10 @@ same-length-2 c = search needs
 
 returns : tie.Need-returns
 returns c =
-    let if1 = c .before .before .before .before .before .before .before .before .before .if1 in
-    ended-refused _ _ _ _ _ _ _ (if1 .taken) (c .before .before .before .before .before .before .before .copy-words .ensures) (c .before .before .refuse .ensures)
+    let at-refuse = c .before .before in
+    let at-copy-words = at-refuse .before .before .before .before .before in
+    let at-if1 = at-copy-words .before .before in
+    ended-refused _ _ _ _ _ _ _ (at-if1 .if1 .taken) (at-copy-words .copy-words .ensures) (at-refuse .refuse .ensures)
 
 clear-requires : tie.Need-clear-requires
 clear-requires c κs = search needs

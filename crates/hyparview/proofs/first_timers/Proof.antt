@@ -15,8 +15,11 @@ note-scheduled-requires c κs = (c .before .before .before .before .before .befo
 
 schedule-shuffle-requires : tie.Need-schedule-shuffle-requires
 schedule-shuffle-requires c κs =
-    let given = c .before .before .before .before .before .before .before .before .before .before .before .pre in
-    (search needs, fine-after _ _ _ _ _ _ (given .1) (c .before .before .before .before .note-scheduled .ensures))
+    let at-note-scheduled = c .before .before .before .before in
+    let at-if1 = at-note-scheduled .before .before in
+    let start = at-if1 .before .before .before .before .before in
+    let given = start .pre in
+    (search needs, fine-after _ _ _ _ _ _ (given .1) (at-note-scheduled .note-scheduled .ensures))
 
 schedule-maintenance-requires : tie.Need-schedule-maintenance-requires
 schedule-maintenance-requires c κs = c .before .before .before .before .before .schedule-shuffle .ensures .fine .written
@@ -29,11 +32,12 @@ same-length-2 c = search needs
 
 returns-2 : tie.Need-returns-2
 returns-2 c =
-    let given = c .before .before .before .before .before .before .before .before .before .before .before .before .before .before .before .before .before .before .before .before .pre in
-    let if1 = c .before .before .before .before .before .before .before .before .before .before .before .before .before .before .before .if1 in
-    let schedule-shuffle = c .before .before .before .before .before .before .before .before .schedule-shuffle in
-    let note-scheduled = c .before .before .before .before .before .before .before .before .before .before .before .before .before .note-scheduled in
-    timers-start _ _ _ _ (given .1) _ _ _ _ _ _ _ (if1 .left) (c .before .before .schedule-maintenance .ensures) (schedule-shuffle .ensures) (note-scheduled .ensures)
+    let at-schedule-maintenance = c .before .before in
+    let at-schedule-shuffle = at-schedule-maintenance .before .before .before .before .before .before in
+    let at-note-scheduled = at-schedule-shuffle .before .before .before .before .before in
+    let at-if1 = at-note-scheduled .before .before in
+    let start = at-if1 .before .before .before .before .before in
+    timers-start _ _ _ _ (start .pre .1) _ _ _ _ _ _ _ (at-if1 .if1 .left) (at-schedule-maintenance .schedule-maintenance .ensures) (at-schedule-shuffle .schedule-shuffle .ensures) (at-note-scheduled .note-scheduled .ensures)
 
 pub first-timers-spec : {M : Type 1} → statement M
 first-timers-spec =

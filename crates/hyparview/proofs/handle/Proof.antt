@@ -41,10 +41,14 @@ same-length-4 c = search needs
 
 returns-2 : tie.Need-returns-2
 returns-2 c =
-    let is-ok = c .before .before .before .before .before .before .before .before .before .before .is-ok in
-    let if1 = c .before .before .before .before .before .before .before .before .before .if1 in
-    let read-event = c .before .before .before .before .before .before .before .before .read-event in
-    handled-unread _ _ _ _ _ _ (is-ok .ensures) _ _ (if1 .left) (read-event .ensures) (search needs) (c .before .before .refuse2 .ensures)
+    let at-refuse2 = c .before .before in
+    let at-read-event = at-refuse2 .before .before .before .before .before .before in
+    let at-if1 = at-read-event .before in
+    let at-is-ok = at-if1 .before in
+    let is-ok = at-is-ok .is-ok in
+    let if1 = at-if1 .if1 in
+    let read-event = at-read-event .read-event in
+    handled-unread _ _ _ _ _ _ (is-ok .ensures) _ _ (if1 .left) (read-event .ensures) (search needs) (at-refuse2 .refuse2 .ensures)
 
 same-length-5 : tie.Need-same-length-5
 same-length-5 c = search needs

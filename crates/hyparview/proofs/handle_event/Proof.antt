@@ -12,9 +12,10 @@ copy-words-requires c κs = search needs
 
 steps-requires : tie.Need-steps-requires
 steps-requires c κs =
-    let given = c .before .before .before .before .before .before .before .before .before .before .pre in
-    let good = c .before .before .before .before .before .before .before .before .before .before .good in
-    let v = given .1 .1 in (given .0, (starts _ _ _ (given .1 .0), (v .headed, (v .low, opens _ _ _ _ _ (given .1 .0) v (good .1 .1 .1 .1 .0 .1 .1 .1 .1 .1 .1 .0 .1)))))
+    let at-old = c .before .before .before .before in
+    let start = at-old .before .before .before .before .before .before in
+    let v = start .pre .1 .1 in
+    (start .pre .0, (starts _ _ _ (start .pre .1 .0), (v .headed, (v .low, opens _ _ _ _ _ (start .pre .1 .0) v (start .good .1 .1 .1 .1 .0 .1 .1 .1 .1 .1 .1 .0 .1)))))
 
 slice-aggregate-finish : tie.Need-slice-aggregate-finish
 slice-aggregate-finish c = search needs
@@ -30,11 +31,13 @@ same-length-2 c = search needs
 
 returns : tie.Need-returns
 returns c =
-    let given = c .before .before .before .before .before .before .before .before .before .before .before .before .before .before .before .before .before .before .before .before .before .before .before .pre in
-    let slice-known3 = c .before .before .before .before .before .before .before .before .before .before .slice-known3 in
-    let copy-words = c .before .before .before .before .before .before .before .before .before .before .before .before .before .before .before .before .copy-words in
-    let steps = c .before .before .before .before .before .before .before .before .before .before .before .before .steps in
-    event-handled _ _ _ _ _ _ _ _ _ _ (given .1 .0) (given .1 .1) (λ i. omega (arith, slice-known3 .given i)) (copy-words .ensures) (c .before .before .before .before .finish .ensures) (steps .ensures)
+    let at-finish = c .before .before .before .before in
+    let at-slice-known3 = at-finish .before .before .before .before .before .before in
+    let at-steps = at-slice-known3 .before .before in
+    let at-copy-words = at-steps .before .before .before .before in
+    let at-old = at-copy-words .before in
+    let start = at-old .before .before .before .before .before .before in
+    event-handled _ _ _ _ _ _ _ _ _ _ (start .pre .1 .0) (start .pre .1 .1) (λ i. omega (arith, at-slice-known3 .slice-known3 .given i)) (at-copy-words .copy-words .ensures) (at-finish .finish .ensures) (at-steps .steps .ensures)
 
 pub handle-event-spec : {M : Type 1} → statement M
 handle-event-spec =

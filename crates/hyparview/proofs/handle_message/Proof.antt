@@ -11,8 +11,9 @@ cast-n c = search needs
 
 on-shuffle-requires : tie.Need-on-shuffle-requires
 on-shuffle-requires c κs =
-    let given = c .before .before .before .before .before .before .before .before .before .pre in
-    (given .0, (given .1 .0, (given .1 .1 .0 .formed, count-is _ _ (given .1 .1 .0) _ refl)))
+    let at-if1 = c .before .before in
+    let start = at-if1 .before .before .before .before .before .before .before in
+    (start .pre .0, (start .pre .1 .0, (start .pre .1 .1 .0 .formed, count-is _ _ (start .pre .1 .1 .0) _ refl)))
 
 same-length : tie.Need-same-length
 same-length c = search needs
@@ -22,14 +23,16 @@ same-length-2 c = search needs
 
 returns : tie.Need-returns
 returns c =
-    let given = c .before .before .before .before .before .before .before .before .before .before .before .before .before .before .pre in
-    let if1 = c .before .before .before .before .before .before .before .if1 in
-    arm-shuffle _ _ (given .1 .1 .0) _ _ _ _ _ refl (if1 .taken) (c .before .before .before .before .on-shuffle .ensures)
+    let at-on-shuffle = c .before .before .before .before in
+    let at-if1 = at-on-shuffle .before .before .before in
+    let start = at-if1 .before .before .before .before .before .before .before in
+    arm-shuffle _ _ (start .pre .1 .1 .0) _ _ _ _ _ refl (at-if1 .if1 .taken) (at-on-shuffle .on-shuffle .ensures)
 
 on-shuffle-reply-requires : tie.Need-on-shuffle-reply-requires
 on-shuffle-reply-requires c κs =
-    let given = c .before .before .before .before .before .before .before .before .before .before .before .pre in
-    (given .0, (given .1 .0, (given .1 .1 .0 .formed, count-is _ _ (given .1 .1 .0) _ refl)))
+    let at-if1 = c .before .before .before .before in
+    let start = at-if1 .before .before .before .before .before .before .before in
+    (start .pre .0, (start .pre .1 .0, (start .pre .1 .1 .0 .formed, count-is _ _ (start .pre .1 .1 .0) _ refl)))
 
 same-length-3 : tie.Need-same-length-3
 same-length-3 c = search needs
@@ -39,13 +42,18 @@ same-length-4 c = search needs
 
 returns-2 : tie.Need-returns-2
 returns-2 c =
-    let given = c .before .before .before .before .before .before .before .before .before .before .before .before .before .before .before .before .pre in
-    arm-reply _ _ (given .1 .1 .0) _ _ _ _ _ refl (c .before .before .before .before .before .before .before .if2 .taken) (c .before .before .before .before .on-shuffle-reply .ensures)
+    let at-on-shuffle-reply = c .before .before .before .before in
+    let at-if2 = at-on-shuffle-reply .before .before .before in
+    let at-if1 = at-if2 .before .before in
+    let start = at-if1 .before .before .before .before .before .before .before in
+    arm-reply _ _ (start .pre .1 .1 .0) _ _ _ _ _ refl (at-if2 .if2 .taken) (at-on-shuffle-reply .on-shuffle-reply .ensures)
 
 on-disconnect-requires : tie.Need-on-disconnect-requires
 on-disconnect-requires c κs =
-    let given = c .before .before .before .before .before .before .before .before .before .before .before .before .before .before .pre in
-    (given .0, (given .1 .0, between-less _ _ _ _ _ (omega arith) (omega arith) (given .1 .1 .1 .1)))
+    let at-if2 = c .before .before .before .before .before in
+    let at-if1 = at-if2 .before .before in
+    let start = at-if1 .before .before .before .before .before .before .before in
+    (start .pre .0, (start .pre .1 .0, between-less _ _ _ _ _ (omega arith) (omega arith) (start .pre .1 .1 .1 .1)))
 
 same-length-5 : tie.Need-same-length-5
 same-length-5 c = search needs
@@ -55,14 +63,19 @@ same-length-6 c = search needs
 
 returns-3 : tie.Need-returns-3
 returns-3 c =
-    let given = c .before .before .before .before .before .before .before .before .before .before .before .before .before .before .before .before .before .before .before .pre in
-    let if3 = c .before .before .before .before .before .before .before .before .if3 in
-    arm-disconnect _ _ (given .1 .1 .0) _ _ _ _ _ refl (if3 .taken) (c .before .before .before .before .on-disconnect .ensures)
+    let at-on-disconnect = c .before .before .before .before in
+    let at-if3 = at-on-disconnect .before .before .before .before in
+    let at-if1 = at-if3 .before .before .before .before in
+    let start = at-if1 .before .before .before .before .before .before .before in
+    arm-disconnect _ _ (start .pre .1 .1 .0) _ _ _ _ _ refl (at-if3 .if3 .taken) (at-on-disconnect .on-disconnect .ensures)
 
 handle-single-requires : tie.Need-handle-single-requires
 handle-single-requires c κs =
-    let given = c .before .before .before .before .before .before .before .before .before .before .before .before .before .pre in
-    (given .0, (given .1 .0, (single _ _ (given .1 .1 .0) (given .1 .1 .1 .0) (c .before .before .before .before .before .before .if1 .left) (c .before .before .before .before .if2 .left) (c .before .before .if3 .left), given .1 .1 .1 .1)))
+    let at-if3 = c .before .before in
+    let at-if2 = at-if3 .before .before in
+    let at-if1 = at-if2 .before .before in
+    let start = at-if1 .before .before .before .before .before .before .before in
+    (start .pre .0, (start .pre .1 .0, (single _ _ (start .pre .1 .1 .0) (start .pre .1 .1 .1 .0) (at-if1 .if1 .left) (at-if2 .if2 .left) (at-if3 .if3 .left), start .pre .1 .1 .1 .1)))
 
 same-length-7 : tie.Need-same-length-7
 same-length-7 c = search needs

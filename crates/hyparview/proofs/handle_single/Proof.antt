@@ -9,8 +9,9 @@ peer-info-requires c κs = (single-formed _ _ (c .before .before .before .before
 
 on-join-requires : tie.Need-on-join-requires
 on-join-requires c κs =
-    let given = c .before .before .before .before .before .before .before .before .before .before .pre in
-    (given .0, (given .1 .0, (c .before .before .before .before .before .peer-info .ensures .valid, given .1 .1 .1)))
+    let at-peer-info = c .before .before .before .before .before in
+    let start = at-peer-info .before .before .before .before .before in
+    (start .pre .0, (start .pre .1 .0, (at-peer-info .peer-info .ensures .valid, start .pre .1 .1 .1)))
 
 same-length : tie.Need-same-length
 same-length c = search needs
@@ -20,15 +21,18 @@ same-length-2 c = search needs
 
 returns : tie.Need-returns
 returns c =
-    let given = c .before .before .before .before .before .before .before .before .before .before .before .before .before .before .before .pre in
-    let peer-info = c .before .before .before .before .before .before .before .before .before .before .peer-info in
-    arm-join _ _ (given .1 .1 .0) _ _ _ _ _ (peer-info .ensures) (c .before .before .before .before .before .before .before .if1 .taken) (c .before .before .before .before .on-join .ensures)
+    let at-on-join = c .before .before .before .before in
+    let at-if1 = at-on-join .before .before .before in
+    let at-peer-info = at-if1 .before .before .before in
+    let start = at-peer-info .before .before .before .before .before in
+    arm-join _ _ (start .pre .1 .1 .0) _ _ _ _ _ (at-peer-info .peer-info .ensures) (at-if1 .if1 .taken) (at-on-join .on-join .ensures)
 
 on-forward-join-requires : tie.Need-on-forward-join-requires
 on-forward-join-requires c κs =
-    let given = c .before .before .before .before .before .before .before .before .before .before .before .before .pre in
-    let peer-info = c .before .before .before .before .before .before .before .peer-info in
-    (given .0, (given .1 .0, peer-info .ensures .valid))
+    let at-d = c .before .before .before .before .before .before in
+    let at-peer-info = at-d .before in
+    let start = at-peer-info .before .before .before .before .before in
+    (start .pre .0, (start .pre .1 .0, at-peer-info .peer-info .ensures .valid))
 
 same-length-3 : tie.Need-same-length-3
 same-length-3 c = search needs
@@ -38,16 +42,18 @@ same-length-4 c = search needs
 
 returns-2 : tie.Need-returns-2
 returns-2 c =
-    let given = c .before .before .before .before .before .before .before .before .before .before .before .before .before .before .before .before .before .pre in
-    let peer-info = c .before .before .before .before .before .before .before .before .before .before .before .before .peer-info in
-    let if2 = c .before .before .before .before .before .before .before .if2 in
-    arm-forward _ _ (given .1 .1 .0) _ _ _ _ _ (peer-info .ensures) (if2 .taken) (c .before .before .before .before .on-forward-join .ensures)
+    let at-on-forward-join = c .before .before .before .before in
+    let at-if2 = at-on-forward-join .before .before .before in
+    let at-peer-info = at-if2 .before .before .before .before .before in
+    let start = at-peer-info .before .before .before .before .before in
+    arm-forward _ _ (start .pre .1 .1 .0) _ _ _ _ _ (at-peer-info .peer-info .ensures) (at-if2 .if2 .taken) (at-on-forward-join .on-forward-join .ensures)
 
 on-neighbor-requires : tie.Need-on-neighbor-requires
 on-neighbor-requires c κs =
-    let given = c .before .before .before .before .before .before .before .before .before .before .before .before .before .pre in
-    let peer-info = c .before .before .before .before .before .before .before .before .peer-info in
-    (given .0, (given .1 .0, (peer-info .ensures .valid, given .1 .1 .1)))
+    let at-if1 = c .before .before .before .before .before in
+    let at-peer-info = at-if1 .before .before .before in
+    let start = at-peer-info .before .before .before .before .before in
+    (start .pre .0, (start .pre .1 .0, (at-peer-info .peer-info .ensures .valid, start .pre .1 .1 .1)))
 
 same-length-5 : tie.Need-same-length-5
 same-length-5 c = search needs
@@ -57,11 +63,12 @@ same-length-6 c = search needs
 
 returns-3 : tie.Need-returns-3
 returns-3 c =
-    let given = c .before .before .before .before .before .before .before .before .before .before .before .before .before .before .before .before .before .before .pre in
-    let peer-info = c .before .before .before .before .before .before .before .before .before .before .before .before .before .peer-info in
-    let if1 = c .before .before .before .before .before .before .before .before .before .before .if1 in
-    let if2 = c .before .before .before .before .before .before .before .before .if2 in
-    arm-neighbor _ _ (given .1 .1 .0) _ _ _ _ _ (peer-info .ensures) (if1 .left) (if2 .left) _ refl (c .before .before .before .before .on-neighbor .ensures)
+    let at-on-neighbor = c .before .before .before .before in
+    let at-if2 = at-on-neighbor .before .before .before .before in
+    let at-if1 = at-if2 .before .before in
+    let at-peer-info = at-if1 .before .before .before in
+    let start = at-peer-info .before .before .before .before .before in
+    arm-neighbor _ _ (start .pre .1 .1 .0) _ _ _ _ _ (at-peer-info .peer-info .ensures) (at-if1 .if1 .left) (at-if2 .if2 .left) _ refl (at-on-neighbor .on-neighbor .ensures)
 
 pub handle-single-spec : {M : Type 1} → statement M
 handle-single-spec =

@@ -21,8 +21,9 @@ returns c = shuffle-timer _ _ _ _ _ _ _ (c .before .before .before .before .befo
 
 handle-maintenance-timer-requires : tie.Need-handle-maintenance-timer-requires
 handle-maintenance-timer-requires c κs =
-    let given = c .before .before .before .before .before .before .before .before .before .pre in
-    (given .0, given .1 .0)
+    let at-if1 = c .before .before .before .before in
+    let start = at-if1 .before .before .before .before .before in
+    (start .pre .0, start .pre .1 .0)
 
 same-length-3 : tie.Need-same-length-3
 same-length-3 c = search needs
@@ -35,8 +36,9 @@ returns-2 c = maintenance-timer _ _ _ _ _ _ _ (c .before .before .before .before
 
 handle-pending-neighbor-timer-requires : tie.Need-handle-pending-neighbor-timer-requires
 handle-pending-neighbor-timer-requires c κs =
-    let given = c .before .before .before .before .before .before .before .before .before .before .before .pre in
-    (given .0, given .1 .0)
+    let at-if1 = c .before .before .before .before .before .before in
+    let start = at-if1 .before .before .before .before .before in
+    (start .pre .0, start .pre .1 .0)
 
 same-length-5 : tie.Need-same-length-5
 same-length-5 c = search needs
@@ -49,8 +51,9 @@ returns-3 c = request-timer _ _ _ _ _ _ _ (c .before .before .before .before .be
 
 retry-join-requires : tie.Need-retry-join-requires
 retry-join-requires c κs =
-    let given = c .before .before .before .before .before .before .before .before .before .before .before .pre in
-    (given .0, room-of _ _ _ (given .1 .0))
+    let at-if1 = c .before .before .before .before .before .before in
+    let start = at-if1 .before .before .before .before .before in
+    (start .pre .0, room-of _ _ _ (start .pre .1 .0))
 
 same-length-7 : tie.Need-same-length-7
 same-length-7 c = search needs
@@ -60,10 +63,12 @@ same-length-8 c = search needs
 
 returns-4 : tie.Need-returns-4
 returns-4 c =
-    let if1 = c .before .before .before .before .before .before .before .before .before .before .before .if1 in
-    let if2 = c .before .before .before .before .before .before .before .before .before .if2 in
-    let given = c .before .before .before .before .before .before .before .before .before .before .before .before .before .before .before .before .pre in
-    join-timer _ _ _ _ _ _ _ (if1 .left) (if2 .left) (c .before .before .before .before .before .before .before .if3 .left) (then-tell (c .before .before .before .before .retry-join .ensures) (still (given .1 .0)))
+    let at-retry-join = c .before .before .before .before in
+    let at-if3 = at-retry-join .before .before .before in
+    let at-if2 = at-if3 .before .before in
+    let at-if1 = at-if2 .before .before in
+    let start = at-if1 .before .before .before .before .before in
+    join-timer _ _ _ _ _ _ _ (at-if1 .if1 .left) (at-if2 .if2 .left) (at-if3 .if3 .left) (then-tell (at-retry-join .retry-join .ensures) (still (start .pre .1 .0)))
 
 pub handle-timer-spec : {M : Type 1} → statement M
 handle-timer-spec =

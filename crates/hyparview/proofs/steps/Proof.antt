@@ -20,9 +20,11 @@ same-length-2 c = search needs
 
 returns : tie.Need-returns
 returns c =
-    let first-timers = c .before .before .before .before .before .before .before .before .first-timers in
-    let dispatch = c .before .before .before .before .before .before .before .before .before .before .before .before .before .before .before .dispatch in
-    stepped _ _ _ _ _ _ _ _ _ (c .before .before .forget-declined .ensures) (first-timers .ensures) (dispatch .ensures)
+    let at-forget-declined = c .before .before in
+    let at-first-timers = at-forget-declined .before .before .before .before .before .before in
+    let at-st = at-first-timers .before .before .before .before .before .before in
+    let at-dispatch = at-st .before in
+    stepped _ _ _ _ _ _ _ _ _ (at-forget-declined .forget-declined .ensures) (at-first-timers .first-timers .ensures) (at-dispatch .dispatch .ensures)
 
 pub steps-spec : {M : Type 1} → statement M
 steps-spec = tie.close (tie.spec dispatch-requires first-timers-requires forget-declined-requires same-length same-length-2 returns)

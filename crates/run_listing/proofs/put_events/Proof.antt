@@ -23,7 +23,10 @@ step-requires c κs = search needs
 
 add-i : tie.Need-add-i Inv-loop μ-loop
 add-i c =
-    let good = c .before .before .before .before .before .before .before .before .before .before .before .before .before .good in
+    let at-step = c .before .before .before .before in
+    let at-loop = at-step .before .before .before .before in
+    let start = at-loop .before .before .before .before .before in
+    let good = start .good in
     search (needs, good .1)
 
 loop-less : tie.Need-loop-less Inv-loop μ-loop
@@ -31,9 +34,12 @@ loop-less c = search needs
 
 loop-again : tie.Need-loop-again Inv-loop μ-loop
 loop-again c =
-    let loop = c .before .before .before .before .before .before .before .before .before .before .loop in
-    let loop-test = c .before .before .before .before .before .before .before .before .before .loop-test in
-    running-next _ _ _ _ _ _ _ _ _ _ _ _ (loop .inv) _ _ _ (loop-test .taken) (c .before .before .before .before .before .before .step .ensures) (search needs) (search needs)
+    let at-step = c .before .before .before .before .before .before in
+    let at-loop-test = at-step .before .before .before in
+    let at-loop = at-loop-test .before in
+    let loop = at-loop .loop in
+    let loop-test = at-loop-test .loop-test in
+    running-next _ _ _ _ _ _ _ _ _ _ _ _ (loop .inv) _ _ _ (loop-test .taken) (at-step .step .ensures) (search needs) (search needs)
 
 same-length : tie.Need-same-length Inv-loop μ-loop
 same-length c = search needs

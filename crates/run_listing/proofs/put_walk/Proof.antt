@@ -26,8 +26,10 @@ same-length-2 c = search needs
 
 returns : tie.Need-returns
 returns c =
-    let given = c .before .before .before .before .before .before .before .before .before .before .before .before .before .pre in
-    walked _ _ _ _ _ _ _ _ _ (given .1 .0) (given .1 .1) (c .before .before .before .before .put-events .ensures)
+    let at-put-events = c .before .before .before .before in
+    let at-put-events-arg = at-put-events .before .before .before .before in
+    let start = at-put-events-arg .before .before .before .before .before in
+    walked _ _ _ _ _ _ _ _ _ (start .pre .1 .0) (start .pre .1 .1) (at-put-events .put-events .ensures)
 
 pub put-walk-spec : {M : Type 1} → statement M
 put-walk-spec = tie.close (tie.spec sub-put-events part-put-events-start part-put-events-end slice-aggregate-put-events put-events-requires same-length same-length-2 returns)

@@ -27,8 +27,9 @@ slice-aggregate-put-walk-2 c = search needs
 
 put-walk-requires : tie.Need-put-walk-requires
 put-walk-requires c κs =
-    let given = c .before .before .before .before .before .before .before .before .before .pre in
-    (given, numbers-read _ _ _ _ (given) refl (c .before .before .before .before .read-numbers .ensures))
+    let at-read-numbers = c .before .before .before .before in
+    let start = at-read-numbers .before .before .before .before .before in
+    (start .pre, numbers-read _ _ _ _ (start .pre) refl (at-read-numbers .read-numbers .ensures))
 
 same-length : tie.Need-same-length
 same-length c = search needs

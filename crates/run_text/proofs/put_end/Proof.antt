@@ -20,9 +20,11 @@ same-length c = search needs
 
 returns : tie.Need-returns
 returns c =
-    let put2 = c .before .before .before .before .before .before .before .before .before .before .put2 in
-    let put = c .before .before .before .before .before .before .before .before .before .before .before .before .before .before .put in
-    end-put _ _ _ _ _ _ _ _ _ _ _ _ (c .before .before .put-field2 .ensures) (c .before .before .before .before .before .before .put-field .ensures) (put2 .ensures) (put .ensures)
+    let at-put-field2 = c .before .before in
+    let at-put-field = at-put-field2 .before .before .before .before in
+    let at-put2 = at-put-field .before .before .before .before in
+    let at-put = at-put2 .before .before .before .before in
+    end-put _ _ _ _ _ _ _ _ _ _ _ _ (at-put-field2 .put-field2 .ensures) (at-put-field .put-field .ensures) (at-put2 .put2 .ensures) (at-put .put .ensures)
 
 pub put-end-spec : {M : Type 1} → statement M
 put-end-spec = tie.close (tie.spec put-requires put-requires-2 put-field-requires put-field-requires-2 same-length returns)

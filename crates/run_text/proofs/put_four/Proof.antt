@@ -20,9 +20,11 @@ same-length c = search needs
 
 returns : tie.Need-returns
 returns c =
-    let put-field2 = c .before .before .before .before .before .before .before .before .before .before .put-field2 in
-    let put-field = c .before .before .before .before .before .before .before .before .before .before .before .before .before .before .put-field in
-    four-put _ _ _ _ _ _ _ _ _ _ _ _ _ _ _ (c .before .before .put-field4 .ensures) (c .before .before .before .before .before .before .put-field3 .ensures) (put-field2 .ensures) (put-field .ensures)
+    let at-put-field4 = c .before .before in
+    let at-put-field3 = at-put-field4 .before .before .before .before in
+    let at-put-field2 = at-put-field3 .before .before .before .before in
+    let at-put-field = at-put-field2 .before .before .before .before in
+    four-put _ _ _ _ _ _ _ _ _ _ _ _ _ _ _ (at-put-field4 .put-field4 .ensures) (at-put-field3 .put-field3 .ensures) (at-put-field2 .put-field2 .ensures) (at-put-field .put-field .ensures)
 
 pub put-four-spec : {M : Type 1} → statement M
 put-four-spec = tie.close (tie.spec put-field-requires put-field-requires-2 put-field-requires-3 put-field-requires-4 same-length returns)

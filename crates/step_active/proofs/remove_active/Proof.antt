@@ -38,11 +38,12 @@ same-length-2 c = search needs
 returns : tie.Need-returns
 unfolding part unpack station-of
 returns c =
-    let c₂ = c .before .before .before .before in
-    let c₁ = c₂ .before .before .before .before .before .before .before in
+    let at-refill-after = c .before .before .before .before in
+    let at-before = at-refill-after .before .before .before .before .before .before in
+    let c₁ = at-before .before in
     let q = c₁ .before .before .before in
     removed _ _ _ _ _ _ _ (q .before .before .before .before .before .before .before .before .before .pre .1 .0) (q .before .before .before .before .in-active .ensures) _ _ _ _ _ _ _ (q .before .before .before .if1 .taken) (q .position .ensures .0)
-    (c₂ .refill-after .ensures) (c₁ .remove-active-by-index .ensures)
+    (at-refill-after .refill-after .ensures) (c₁ .remove-active-by-index .ensures)
 
 same-length-3 : tie.Need-same-length-3
 same-length-3 c = search needs

@@ -23,8 +23,11 @@ join-requires-2 c κs = search needs
 
 await-join-requires : tie.Need-await-join-requires
 await-join-requires c κs =
-    let given = c .before .before .before .before .before .before .before .before .before .before .before .before .pre in
-    (search needs, (search needs, free-after-join _ _ _ _ _ _ _ (c .before .before .before .before .join2 .ensures) (given .1 .1)))
+    let at-join2 = c .before .before .before .before in
+    let at-is-me = at-join2 .before .before .before .before in
+    let start = at-is-me .before .before .before .before in
+    let given = start .pre in
+    (search needs, (search needs, free-after-join _ _ _ _ _ _ _ (at-join2 .join2 .ensures) (given .1 .1)))
 
 same-length-3 : tie.Need-same-length-3
 same-length-3 c = search needs

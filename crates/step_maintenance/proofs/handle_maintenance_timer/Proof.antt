@@ -24,10 +24,11 @@ same-length-2 c = search needs
 returns : tie.Need-returns
 unfolding handle-maintenance-timer
 returns c =
-    let maintain-2 = c .before .before .before .before .before .before .before .before .maintain in
-    let remember-all = c .before .before .before .before .before .before .before .before .before .before .before .before .before .remember-all in
-    let given = c .before .before .before .before .before .before .before .before .before .before .before .before .before .before .before .before .before .before .pre in
-    then-tell-any (c .before .before .schedule-maintenance .ensures) (seq maintain (maintain-2 .ensures) (then (remember-all .ensures) (still (given .1))))
+    let at-schedule-maintenance = c .before .before in
+    let at-maintain = at-schedule-maintenance .before .before .before .before .before .before in
+    let at-remember-all = at-maintain .before .before .before .before .before in
+    let start = at-remember-all .before .before .before .before .before in
+    then-tell-any (at-schedule-maintenance .schedule-maintenance .ensures) (seq maintain (at-maintain .maintain .ensures) (then (at-remember-all .remember-all .ensures) (still (start .pre .1))))
 
 pub handle-maintenance-timer-spec : {M : Type 1} → statement M
 handle-maintenance-timer-spec =

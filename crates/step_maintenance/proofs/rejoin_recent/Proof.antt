@@ -29,10 +29,14 @@ same-length c = search needs
 
 returns-2 : tie.Need-returns-2
 returns-2 c =
-    let given = c .before .before .before .before .before .before .before .before .before .before .before .before .before .before .pre in
-    let is-empty = c .before .before .before .before .before .before .before .before .before .is-empty in
-    let if1 = c .before .before .before .before .before .before .before .before .if1 in
-    one-recent _ _ _ _ _ _ (given .1 .0) (is-empty .ensures) _ _ _ (c .before .before .before .before .before .before .before .count .ensures .0) (c .before .before .before .before .before .before .choose .ensures .1 .0) (c .before .before .before .before .get-index .ensures) _ _ _ (if1 .left) (c .before .before .join .ensures) (c .before .before .before .before .before .before .choose .ensures .0)
+    let at-join = c .before .before in
+    let at-get-index = at-join .before .before in
+    let at-choose = at-get-index .before .before in
+    let at-count = at-choose .before in
+    let at-if1 = at-count .before in
+    let at-is-empty = at-if1 .before in
+    let start = at-is-empty .before .before .before .before .before in
+    one-recent _ _ _ _ _ _ (start .pre .1 .0) (at-is-empty .is-empty .ensures) _ _ _ (at-count .count .ensures .0) (at-choose .choose .ensures .1 .0) (at-get-index .get-index .ensures) _ _ _ (at-if1 .if1 .left) (at-join .join .ensures) (at-choose .choose .ensures .0)
 
 pub rejoin-recent-spec : {M : Type 1} → statement M
 rejoin-recent-spec =

@@ -17,8 +17,10 @@ same-length c = search needs
 
 returns : tie.Need-returns
 returns c =
-    let drop-join = c .before .before .before .before .before .before .before .before .before .before .drop-join in
-    open-forgotten _ _ _ _ _ _ (c .before .before .drop-request .ensures) (c .before .before .before .before .before .before .forget-recent .ensures) (drop-join .ensures)
+    let at-drop-request = c .before .before in
+    let at-forget-recent = at-drop-request .before .before .before .before in
+    let at-drop-join = at-forget-recent .before .before .before .before in
+    open-forgotten _ _ _ _ _ _ (at-drop-request .drop-request .ensures) (at-forget-recent .forget-recent .ensures) (at-drop-join .drop-join .ensures)
 
 pub forget-open-spec : {M : Type 1} → statement M
 forget-open-spec =

@@ -22,8 +22,9 @@ shared-slice-read-ttl c = search needs
 
 cast-ttl : tie.Need-cast-ttl
 cast-ttl c =
-    let given = c .before .before .before .before .before .before .before .before .pre in
-    record { fits = omega (arith, walk-fits _ (given .1 .0 .packed)) }
+    let at-v = c .before .before .before .before .before in
+    let start = at-v .before .before .before in
+    record { fits = omega (arith, walk-fits _ (start .pre .1 .0 .packed)) }
 
 array-share-prefix-v : tie.Need-array-share-prefix-v
 array-share-prefix-v c = search needs

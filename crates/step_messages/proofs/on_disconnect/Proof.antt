@@ -12,8 +12,11 @@ forget-open-requires c κs = search needs
 
 disconnected-requires : tie.Need-disconnected-requires
 disconnected-requires c κs =
-    let given = c .before .before .before .before .before .before .before .before .before .before .before .pre in
-    (search needs, (fine-after _ _ _ _ _ _ (given .1 .0) (c .before .before .before .before .forget-open .ensures), ended-between _ _ _ _ _ _ (c .before .before .before .before .forget-open .ensures) _ _ _ (given .1 .1)))
+    let at-forget-open = c .before .before .before .before in
+    let at-is-requested = at-forget-open .before .before in
+    let start = at-is-requested .before .before .before .before .before in
+    let given = start .pre in
+    (search needs, (fine-after _ _ _ _ _ _ (given .1 .0) (at-forget-open .forget-open .ensures), ended-between _ _ _ _ _ _ (at-forget-open .forget-open .ensures) _ _ _ (given .1 .1)))
 
 same-length : tie.Need-same-length
 same-length c = search needs
@@ -23,10 +26,11 @@ same-length-2 c = search needs
 
 returns : tie.Need-returns
 returns c =
-    let forget-open = c .before .before .before .before .before .before .before .before .before .forget-open in
-    let given = c .before .before .before .before .before .before .before .before .before .before .before .before .before .before .before .before .pre in
-    let is-requested = c .before .before .before .before .before .before .before .before .before .before .before .is-requested in
-    disconnect-done _ _ _ _ _ _ (forget-open .ensures) _ _ _ (given .1 .0) (is-requested .ensures) (c .before .before .before .before .disconnected .ensures)
+    let at-disconnected = c .before .before .before .before in
+    let at-forget-open = at-disconnected .before .before .before .before .before in
+    let at-is-requested = at-forget-open .before .before in
+    let start = at-is-requested .before .before .before .before .before in
+    disconnect-done _ _ _ _ _ _ (at-forget-open .forget-open .ensures) _ _ _ (start .pre .1 .0) (at-is-requested .is-requested .ensures) (at-disconnected .disconnected .ensures)
 
 pub on-disconnect-spec : {M : Type 1} → statement M
 on-disconnect-spec =

@@ -33,10 +33,12 @@ same-length-4 c = search needs
 
 returns-2 : tie.Need-returns-2
 returns-2 c =
-    let ends-here = c .before .before .before .before .before .before .before .before .before .before .before .before .before .ends-here in
-    let if1 = c .before .before .before .before .before .before .before .before .before .before .before .before .if1 in
-    let learn-joiner = c .before .before .before .before .before .before .before .before .before .learn-joiner in
-    walk-goes-on _ _ _ _ _ _ _ _ _ (ends-here .ensures) _ _ (if1 .left) (c .before .before .walk-on .ensures) (learn-joiner .ensures)
+    let at-walk-on = c .before .before in
+    let at-st2 = at-walk-on .before .before .before .before .before .before in
+    let at-learn-joiner = at-st2 .before in
+    let at-if1 = at-learn-joiner .before .before .before in
+    let at-ends-here = at-if1 .before in
+    walk-goes-on _ _ _ _ _ _ _ _ _ (at-ends-here .ends-here .ensures) _ _ (at-if1 .if1 .left) (at-walk-on .walk-on .ensures) (at-learn-joiner .learn-joiner .ensures)
 
 pub on-forward-join-spec : {M : Type 1} → statement M
 on-forward-join-spec =

@@ -21,10 +21,12 @@ same-length-2 c = search needs
 
 returns : tie.Need-returns
 returns c =
-    let drop-pending = c .before .before .before .before .before .before .before .before .before .before .before .before .before .before .drop-pending in
-    let given = c .before .before .before .before .before .before .before .before .before .before .before .before .before .before .before .before .before .before .before .pre in
-    let add-active = c .before .before .before .before .before .before .before .before .before .add-active in
-    joined _ _ _ _ _ (drop-pending .ensures) (given .1 .0) _ _ _ _ _ (c .before .before .forward-joins .ensures) (add-active .ensures)
+    let at-forward-joins = c .before .before in
+    let at-st2 = at-forward-joins .before .before .before .before .before .before in
+    let at-add-active = at-st2 .before in
+    let at-drop-pending = at-add-active .before .before .before .before .before in
+    let start = at-drop-pending .before .before .before .before .before in
+    joined _ _ _ _ _ (at-drop-pending .drop-pending .ensures) (start .pre .1 .0) _ _ _ _ _ (at-forward-joins .forward-joins .ensures) (at-add-active .add-active .ensures)
 
 pub on-join-spec : {M : Type 1} → statement M
 on-join-spec =

@@ -18,8 +18,10 @@ same-length-2 c = search needs
 
 returns : tie.Need-returns
 returns c =
-    let add-nodes = c .before .before .before .before .before .before .before .before .before .before .add-nodes in
-    answered _ _ _ _ _ _ _ _ _ _ _ _ _ (c .before .before .send-shuffle-reply .ensures) (add-nodes .ensures .0)
+    let at-send-shuffle-reply = c .before .before in
+    let at-a = at-send-shuffle-reply .before .before .before in
+    let at-add-nodes = at-a .before .before .before .before .before in
+    answered _ _ _ _ _ _ _ _ _ _ _ _ _ (at-send-shuffle-reply .send-shuffle-reply .ensures) (at-add-nodes .add-nodes .ensures .0)
 
 pub answer-shuffle-spec : {M : Type 1} → statement M
 answer-shuffle-spec =

@@ -29,20 +29,27 @@ next-requires c κs = search needs
 
 emit-nodes-requires : tie.Need-emit-nodes-requires
 emit-nodes-requires c κs =
-    let given = c .before .before .before .before .before .before .before .before .before .before .before .before .before .before .pre in
-    (room-drawn _ _ _ _ _ (given .1 .0) (c .before .before .before .before .before .choose .ensures .0) .written, search needs)
+    let at-choose = c .before .before .before .before .before in
+    let at-is-empty = at-choose .before .before .before in
+    let start = at-is-empty .before .before .before .before .before .before in
+    let given = start .pre in
+    (room-drawn _ _ _ _ _ (given .1 .0) (at-choose .choose .ensures .0) .written, search needs)
 
 same-length : tie.Need-same-length
 same-length c = search needs
 
 returns-2 : tie.Need-returns-2
 returns-2 c =
-    let given = c .before .before .before .before .before .before .before .before .before .before .before .before .before .before .before .before .before .pre in
-    let is-empty = c .before .before .before .before .before .before .before .before .before .before .before .is-empty in
-    let count = c .before .before .before .before .before .before .before .before .before .count in
-    let choose = c .before .before .before .before .before .before .before .before .choose in
-    let if1 = c .before .before .before .before .before .before .before .before .before .before .if1 in
-    shuffle-on _ _ _ _ _ _ _ _ _ (given .1 .0) (is-empty .ensures) _ _ _ _ _ (count .ensures .0) (choose .ensures .1 .0) (c .before .before .before .before .before .before .get-index .ensures) (c .before .before .before .before .next .ensures) (c .before .before .before .before .before .event-nodes .ensures) _ _ _ (if1 .left) (c .before .before .emit-nodes .ensures) (choose .ensures .0)
+    let at-emit-nodes = c .before .before in
+    let at-next = at-emit-nodes .before .before in
+    let at-event-nodes = at-next .before in
+    let at-get-index = at-event-nodes .before in
+    let at-choose = at-get-index .before .before in
+    let at-count = at-choose .before in
+    let at-if1 = at-count .before in
+    let at-is-empty = at-if1 .before in
+    let start = at-is-empty .before .before .before .before .before .before in
+    shuffle-on _ _ _ _ _ _ _ _ _ (start .pre .1 .0) (at-is-empty .is-empty .ensures) _ _ _ _ _ (at-count .count .ensures .0) (at-choose .choose .ensures .1 .0) (at-get-index .get-index .ensures) (at-next .next .ensures) (at-event-nodes .event-nodes .ensures) _ _ _ (at-if1 .if1 .left) (at-emit-nodes .emit-nodes .ensures) (at-choose .choose .ensures .0)
 
 pub forward-shuffle-spec : {M : Type 1} → statement M
 forward-shuffle-spec =

@@ -19,8 +19,9 @@ same-length-2 c = search needs
 returns : tie.Need-returns
 unfolding handle-shuffle-timer
 returns c =
-    let shuffle-any = c .before .before .before .before .before .before .before .before .before .shuffle-any in
-    seq schedule-shuffle (c .before .before .before .before .schedule-shuffle .ensures) (shuffle-any .ensures)
+    let at-schedule-shuffle = c .before .before .before .before in
+    let at-shuffle-any = at-schedule-shuffle .before .before .before .before .before in
+    seq schedule-shuffle (at-schedule-shuffle .schedule-shuffle .ensures) (at-shuffle-any .shuffle-any .ensures)
 
 pub handle-shuffle-timer-spec : {M : Type 1} → statement M
 handle-shuffle-timer-spec =

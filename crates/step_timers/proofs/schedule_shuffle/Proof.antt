@@ -19,8 +19,9 @@ draw-requires c κs = search needs
 
 delay-requires : tie.Need-delay-requires
 delay-requires c κs =
-    let given = c .before .before .before .before .before .before .before .before .before .before .pre in
-    of-interval _ (given .1 .ready .packed)
+    let at-double-interval = c .before .before .before .before in
+    let start = at-double-interval .before .before .before .before .before .before in
+    of-interval _ (start .pre .1 .ready .packed)
 
 cast-t12 : tie.Need-cast-t12
 cast-t12 c = search needs
@@ -36,9 +37,12 @@ same-length-2 c = search needs
 
 returns : tie.Need-returns
 returns c =
-    let given = c .before .before .before .before .before .before .before .before .before .before .before .before .before .before .before .pre in
-    let double-interval = c .before .before .before .before .before .before .before .before .before .double-interval in
-    scheduled _ _ _ _ _ _ _ _ _ _ _ (given .1) (c .before .before .before .before .delay .ensures) (c .before .before .before .before .before .before .draw .ensures .1) (c .before .before .emit-bare .ensures) (c .before .before .before .before .before .before .draw .ensures .0) (double-interval .ensures)
+    let at-emit-bare = c .before .before in
+    let at-delay = at-emit-bare .before .before in
+    let at-draw = at-delay .before .before in
+    let at-double-interval = at-draw .before .before .before in
+    let start = at-double-interval .before .before .before .before .before .before in
+    scheduled _ _ _ _ _ _ _ _ _ _ _ (start .pre .1) (at-delay .delay .ensures) (at-draw .draw .ensures .1) (at-emit-bare .emit-bare .ensures) (at-draw .draw .ensures .0) (at-double-interval .double-interval .ensures)
 
 pub schedule-shuffle-spec : {M : Type 1} → statement M
 schedule-shuffle-spec =

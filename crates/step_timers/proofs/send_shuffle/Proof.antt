@@ -29,8 +29,9 @@ shared-slice-read-ttl c = search needs
 
 cast-ttl : tie.Need-cast-ttl
 cast-ttl c =
-    let given = c .before .before .before .before .before .before .before .before .before .before .pre in
-    record { fits = omega (arith, walk-fits _ (given .1 .0 .packed)) }
+    let at-count = c .before .before .before .before .before .before in
+    let start = at-count .before .before .before .before in
+    record { fits = omega (arith, walk-fits _ (start .pre .1 .0 .packed)) }
 
 emit-nodes-requires : tie.Need-emit-nodes-requires
 emit-nodes-requires c κs = search needs
@@ -40,10 +41,13 @@ same-length c = search needs
 
 returns : tie.Need-returns
 returns c =
-    let given = c .before .before .before .before .before .before .before .before .before .before .before .before .before .before .pre in
-    let count = c .before .before .before .before .before .before .before .before .before .before .count in
-    let peer-infos = c .before .before .before .before .before .before .before .before .peer-infos in
-    shuffle-told _ _ _ _ _ _ _ _ _ _ _ (given .1 .0) (given .1 .1 .0) (count .ensures .0) (c .before .before .before .before .before .before .own-data .ensures) (peer-infos .ensures) (c .before .before .before .before .before .push .ensures) (c .before .before .emit-nodes .ensures)
+    let at-emit-nodes = c .before .before in
+    let at-push = at-emit-nodes .before .before .before in
+    let at-own-data = at-push .before in
+    let at-peer-infos = at-own-data .before .before in
+    let at-count = at-peer-infos .before .before in
+    let start = at-count .before .before .before .before in
+    shuffle-told _ _ _ _ _ _ _ _ _ _ _ (start .pre .1 .0) (start .pre .1 .1 .0) (at-count .count .ensures .0) (at-own-data .own-data .ensures) (at-peer-infos .peer-infos .ensures) (at-push .push .ensures) (at-emit-nodes .emit-nodes .ensures)
 
 pub send-shuffle-spec : {M : Type 1} → statement M
 send-shuffle-spec =

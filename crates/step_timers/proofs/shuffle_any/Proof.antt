@@ -51,11 +51,14 @@ same-length c = search needs
 returns-2 : tie.Need-returns-2
 unfolding part
 returns-2 c =
-    let given = c .before .before .before .before .before .before .before .before .before .before .before .before .before .before .before .pre in
-    let is-alone = c .before .before .before .before .before .before .before .before .before .before .before .is-alone in
-    let count = c .before .before .before .before .before .before .before .before .count in
-    let if1 = c .before .before .before .before .before .before .before .before .before .before .if1 in
-    one-asked _ _ _ _ _ (given .1) (is-alone .ensures) _ _ _ (count .ensures .0) (c .before .before .before .before .before .before .before .choose .ensures .1 .0) (c .before .before .before .before .get-index .ensures) _ _ _ (if1 .left) (c .before .before .shuffle-with .ensures) (c .before .before .before .before .before .before .before .choose .ensures .0)
+    let at-shuffle-with = c .before .before in
+    let at-get-index = at-shuffle-with .before .before in
+    let at-choose = at-get-index .before .before .before in
+    let at-count = at-choose .before in
+    let at-if1 = at-count .before .before in
+    let at-is-alone = at-if1 .before in
+    let start = at-is-alone .before .before .before .before in
+    one-asked _ _ _ _ _ (start .pre .1) (at-is-alone .is-alone .ensures) _ _ _ (at-count .count .ensures .0) (at-choose .choose .ensures .1 .0) (at-get-index .get-index .ensures) _ _ _ (at-if1 .if1 .left) (at-shuffle-with .shuffle-with .ensures) (at-choose .choose .ensures .0)
 
 pub shuffle-any-spec : {M : Type 1} → statement M
 shuffle-any-spec =

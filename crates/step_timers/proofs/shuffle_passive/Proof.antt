@@ -31,15 +31,24 @@ slice-aggregate-append c = search needs
 append-requires : tie.Need-append-requires
 unfolding part
 append-requires c κs =
-    let given = c .before .before .before .before .before .before .before .before .before .before .before .pre in
-    (search needs, (c .before .before .before .some-peers .ensures .1 .valid, both-fit _ (given .1 .0 .ready .packed) _ _ _ (c .before .before .before .some-peers .ensures .1) (given .1 .1 .1)))
+    let at-some-peers = c .before .before .before in
+    let at-more = at-some-peers .before in
+    let at-some-peers-arg = at-more .before in
+    let start = at-some-peers-arg .before .before .before .before .before .before in
+    let given = start .pre in
+    (search needs, (at-some-peers .some-peers .ensures .1 .valid, both-fit _ (given .1 .0 .ready .packed) _ _ _ (at-some-peers .some-peers .ensures .1) (given .1 .1 .1)))
 
 send-shuffle-requires : tie.Need-send-shuffle-requires
 unfolding part
 send-shuffle-requires c κs =
-    let given = c .before .before .before .before .before .before .before .before .before .before .before .before .before .before .before .before .pre in
-    let some-peers = c .before .before .before .before .before .before .before .before .some-peers in
-    (search needs, (room-drawn _ _ _ _ _ (given .1 .0) (some-peers .ensures .0), (c .before .before .before .before .append .ensures .valid, all-fit _ (given .1 .0 .ready .packed) _ _ _ _ (some-peers .ensures .1) (given .1 .1 .1) (c .before .before .before .before .append .ensures))))
+    let at-append = c .before .before .before .before in
+    let at-some-peers = at-append .before .before .before .before in
+    let at-more = at-some-peers .before in
+    let at-some-peers-arg = at-more .before in
+    let start = at-some-peers-arg .before .before .before .before .before .before in
+    let given = start .pre in
+    let some-peers = at-some-peers .some-peers in
+    (search needs, (room-drawn _ _ _ _ _ (given .1 .0) (some-peers .ensures .0), (at-append .append .ensures .valid, all-fit _ (given .1 .0 .ready .packed) _ _ _ _ (some-peers .ensures .1) (given .1 .1 .1) (at-append .append .ensures))))
 
 same-length : tie.Need-same-length
 same-length c = search needs
@@ -50,9 +59,13 @@ same-length-2 c = search needs
 returns : tie.Need-returns
 unfolding part
 returns c =
-    let given = c .before .before .before .before .before .before .before .before .before .before .before .before .before .before .before .before .before .before .before .pre in
-    let some-peers = c .before .before .before .before .before .before .before .before .before .before .before .some-peers in
-    passive-done _ _ _ _ _ _ _ _ (given .1 .0) _ _ _ (some-peers .ensures .0) (some-peers .ensures .1) (c .before .before .before .before .before .before .before .append .ensures) (c .before .before .send-shuffle .ensures)
+    let at-send-shuffle = c .before .before in
+    let at-append = at-send-shuffle .before .before .before .before .before in
+    let at-some-peers = at-append .before .before .before .before in
+    let at-more = at-some-peers .before in
+    let at-some-peers-arg = at-more .before in
+    let start = at-some-peers-arg .before .before .before .before .before .before in
+    passive-done _ _ _ _ _ _ _ _ (start .pre .1 .0) _ _ _ (at-some-peers .some-peers .ensures .0) (at-some-peers .some-peers .ensures .1) (at-append .append .ensures) (at-send-shuffle .send-shuffle .ensures)
 
 pub shuffle-passive-spec : {M : Type 1} → statement M
 shuffle-passive-spec =

@@ -31,8 +31,11 @@ slice-aggregate-shuffle-passive c = search needs
 shuffle-passive-requires : tie.Need-shuffle-passive-requires
 unfolding part
 shuffle-passive-requires c κs =
-    let given = c .before .before .before .before .before .before .before .before .before .before .pre in
-    (search needs, (fine-drawn _ _ _ _ _ (given .1) (c .before .before .before .some-peers .ensures .0), (c .before .before .before .some-peers .ensures .1 .valid, few-active _ (given .1 .ready .packed) _ _ (c .before .before .before .some-peers .ensures .1))))
+    let at-some-peers = c .before .before .before in
+    let at-v = at-some-peers .before in
+    let start = at-v .before .before .before .before .before .before in
+    let given = start .pre in
+    (search needs, (fine-drawn _ _ _ _ _ (given .1) (at-some-peers .some-peers .ensures .0), (at-some-peers .some-peers .ensures .1 .valid, few-active _ (given .1 .ready .packed) _ _ (at-some-peers .some-peers .ensures .1))))
 
 same-length : tie.Need-same-length
 same-length c = search needs
@@ -40,8 +43,11 @@ same-length c = search needs
 returns : tie.Need-returns
 unfolding part
 returns c =
-    let given = c .before .before .before .before .before .before .before .before .before .before .before .before .before .before .pre in
-    with-done _ _ _ _ _ _ _ _ (given .1) _ (c .before .before .before .before .before .before .before .some-peers .ensures .0) (c .before .before .before .before .before .before .before .some-peers .ensures .1) (c .before .before .before .shuffle-passive .ensures)
+    let at-shuffle-passive = c .before .before .before in
+    let at-some-peers = at-shuffle-passive .before .before .before .before in
+    let at-v = at-some-peers .before in
+    let start = at-v .before .before .before .before .before .before in
+    with-done _ _ _ _ _ _ _ _ (start .pre .1) _ (at-some-peers .some-peers .ensures .0) (at-some-peers .some-peers .ensures .1) (at-shuffle-passive .shuffle-passive .ensures)
 
 pub shuffle-with-spec : {M : Type 1} → statement M
 shuffle-with-spec =

@@ -20,9 +20,11 @@ same-length c = search needs
 
 returns : tie.Need-returns
 returns c =
-    let put-line2 = c .before .before .before .before .before .before .before .before .before .before .put-line2 in
-    let put-line = c .before .before .before .before .before .before .before .before .before .before .before .before .before .before .put-line in
-    ends-put _ _ _ _ _ _ _ _ _ _ _ (c .before .before .put-line4 .ensures) (c .before .before .before .before .before .before .put-line3 .ensures) (put-line2 .ensures) (put-line .ensures)
+    let at-put-line4 = c .before .before in
+    let at-put-line3 = at-put-line4 .before .before .before .before in
+    let at-put-line2 = at-put-line3 .before .before .before .before in
+    let at-put-line = at-put-line2 .before .before .before .before in
+    ends-put _ _ _ _ _ _ _ _ _ _ _ (at-put-line4 .put-line4 .ensures) (at-put-line3 .put-line3 .ensures) (at-put-line2 .put-line2 .ensures) (at-put-line .put-line .ensures)
 
 pub put-ends-spec : {M : Type 1} → statement M
 put-ends-spec = tie.close (tie.spec put-line-requires put-line-requires-2 put-line-requires-3 put-line-requires-4 same-length returns)

@@ -28,15 +28,19 @@ slice-write-q c = search needs
 
 same-length : tie.Need-same-length
 same-length c =
-    let args = c .before .before .before .before .before .before .before .before .before .before .args in
-    let k : length (c .before .before .clear-from .last .0) ≡ length (c .before .before .before .before .before .before .shift-down .last .0) = c .before .before .clear-from .kept .0 in
-    let m : length (c .before .before .before .before .before .before .shift-down .last .0) ≡ length (args .q .now) = c .before .before .before .before .before .before .shift-down .kept .0 in
-    length-set (c .before .before .clear-from .last .0) 0 _ ∙ k ∙ m
+    let at-clear-from = c .before .before in
+    let at-shift-down = at-clear-from .before .before .before .before in
+    let start = at-shift-down .before .before .before .before in
+    let k : length (at-clear-from .clear-from .last .0) ≡ length (at-shift-down .shift-down .last .0) = at-clear-from .clear-from .kept .0 in
+    let m : length (at-shift-down .shift-down .last .0) ≡ length (start .args .q .now) = at-shift-down .shift-down .kept .0 in
+    length-set (at-clear-from .clear-from .last .0) 0 _ ∙ k ∙ m
 
 returns : tie.Need-returns
 returns c =
-    let given = c .before .before .before .before .before .before .before .before .before .before .pre in
-    remove-law _ _ _ _ (given .0) (given .1) (c .before .before .clear-from .ensures) (c .before .before .before .before .before .before .shift-down .ensures)
+    let at-clear-from = c .before .before in
+    let at-shift-down = at-clear-from .before .before .before .before in
+    let start = at-shift-down .before .before .before .before in
+    remove-law _ _ _ _ (start .pre .0) (start .pre .1) (at-clear-from .clear-from .ensures) (at-shift-down .shift-down .ensures)
 
 pub remove-spec : {M : Type 1} → statement M
 remove-spec =
