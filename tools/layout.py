@@ -253,7 +253,7 @@ def hold_code(text):
     found = {}
     for name, value in re.findall(r"pub const (\w+): usize = ([^;]+);", text):
         found[name] = eval(value.replace("Layout::", "").replace("columns::", ""), shared, found)
-    due = {name: at for name, at in constants() if not name.endswith("_PLACES")} | {"LENGTH": length()}
+    due = {name: at for name, at in constants() if not name.endswith("_PLACES")} | {"LENGTH": length(), "SET": max(size for _, kind, _, _, size in places() if kind == "set")}
     wrong = [name for name, at in due.items() if found.get(name) != at]
     wrong += [name for name in found if name not in due and name not in ("FEW", "ALL", "DATA_CAP")]
     if wrong:

@@ -70,7 +70,7 @@ fn wide(x: u8) -> u64
 }
 
 // The eight bytes from `at` on, lowest first.
-pub fn word_at(b: [u8; 16], at: usize) -> u64
+pub fn word_at(b: [u8; PeerData::BYTES], at: usize) -> u64
     requires { ⌜ at ≤ 8 ⌝ }
     ensures { λ r. ⌜ (le 8 r ≡ take 8 (drop at b)) × (r < 18446744073709551616) ⌝ }
 {
@@ -84,7 +84,7 @@ pub fn word_at(b: [u8; 16], at: usize) -> u64
     wide(b[at]) + 256 * k
 }
 
-pub fn bytes_of(w: u64, x: u64) -> [u8; 16]
+pub fn bytes_of(w: u64, x: u64) -> [u8; PeerData::BYTES]
     ensures { λ r. ⌜ r ≡ word-bytes w x ⌝ }
 {
     let w1 = w / 256;
@@ -323,7 +323,7 @@ pub fn data_peers(active: &[u64], passive: &[u64], requests: &[u64], v: &mut [u6
     requires { ⌜ length (now v) ≡ 73 ⌝ }
     ensures { λ _. ⌜ HoldsSet 72 (now (v .exit)) (items-at 8 (now (active .entry)) ++ (items-at 32 (now (passive .entry)) ++ keys (numbers-at 32 (now (requests .entry))))) ⌝ }
 {
-    let mut asked = [0u64; 33];
+    let mut asked = [0u64; PASSIVE_PLACES + 1];
     keys_into(requests, PASSIVE_PLACES, &mut asked);
     util::clear(v, KNOWN);
     util::append(v, KNOWN, active, ACTIVE_PLACES);

@@ -136,9 +136,9 @@ fn play(s: State, i: usize) -> State
     requires { ⌜ i < 16 ⌝ }
     ensures { λ r. ⌜ r ≡ played i s ⌝ }
 {
-    let mut event = [0u8; 44];
+    let mut event = [0u8; record::HEADER + record::NODE];
     let draws = [0u32; 512];
-    let mut out = [0u8; 8192];
+    let mut out = [0u8; hyparview::OUTPUT];
     let n = event_bytes(&mut event, i);
     let a = demand::handle_state(s, &event[..n], &draws, &mut out);
     a.state

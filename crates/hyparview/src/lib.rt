@@ -35,6 +35,9 @@ ghost use Rattle.peer.specs.Held.{data-in, ValidData};
 ghost use Rattle.rules.specs.Pack.{pack};
 ghost use Rattle.hyparview.specs.Queries.{wants-connection, wants-connection-in, is-neighbor-in, neighbors-in, spare-addresses-in};
 
+// The bytes of output that suffice for every event.
+pub const OUTPUT: usize = 8192;
+
 // The delay before the first shuffle, no longer than the setting.
 fn first_interval(config: Config) -> u32
     ensures { λ r. ⌜ r ≡ min initial-shuffle-interval (config .«shuffle_interval») ⌝ }
@@ -47,7 +50,7 @@ fn first_interval(config: Config) -> u32
 
 // Own data in its words.
 fn fresh_own(st: &mut [u64], own: PeerData)
-    requires { ⌜ length (now st) ≡ 551 ⌝ }
+    requires { ⌜ length (now st) ≡ words ⌝ }
     requires { ⌜ ValidData own ⌝ }
     ensures { λ _. ⌜ now (st .exit) ≡ with-own (data-in own) (now (st .entry)) ⌝ }
 {
@@ -62,7 +65,7 @@ fn fresh_own(st: &mut [u64], own: PeerData)
 
 // The capacities of the views, and what a shuffle takes of them.
 fn fresh_views(st: &mut [u64], config: Config)
-    requires { ⌜ length (now st) ≡ 551 ⌝ }
+    requires { ⌜ length (now st) ≡ words ⌝ }
     ensures { λ _. ⌜ now (st .exit) ≡ with-views config (now (st .entry)) ⌝ }
 {
     st[Layout::ACTIVE_VIEW_CAPACITY] = config.active_view_capacity as u64;
@@ -73,7 +76,7 @@ fn fresh_views(st: &mut [u64], config: Config)
 
 // The station itself and the walk lengths.
 fn fresh_walks(st: &mut [u64], me: PeerId, config: Config)
-    requires { ⌜ length (now st) ≡ 551 ⌝ }
+    requires { ⌜ length (now st) ≡ words ⌝ }
     ensures { λ _. ⌜ now (st .exit) ≡ with-walks me config (now (st .entry)) ⌝ }
 {
     st[Layout::ME] = me;
@@ -84,7 +87,7 @@ fn fresh_walks(st: &mut [u64], me: PeerId, config: Config)
 
 // The interval, the timeout and the delay before the first shuffle.
 fn fresh_times(st: &mut [u64], config: Config)
-    requires { ⌜ length (now st) ≡ 551 ⌝ }
+    requires { ⌜ length (now st) ≡ words ⌝ }
     ensures { λ _. ⌜ now (st .exit) ≡ with-times config (now (st .entry)) ⌝ }
 {
     let interval = first_interval(config);
@@ -95,8 +98,8 @@ fn fresh_times(st: &mut [u64], config: Config)
 
 // The words of a station that has met no event, in words that are zero.
 fn fresh(st: &mut [u64], me: PeerId, own: PeerData, config: Config)
-    requires { ⌜ length (now st) ≡ 551 ⌝ }
-    requires { ⌜ now st ≡ pad 0 551 [] ⌝ }
+    requires { ⌜ length (now st) ≡ words ⌝ }
+    requires { ⌜ now st ≡ pad 0 words [] ⌝ }
     requires { ⌜ ValidData own ⌝ }
     ensures { λ _. ⌜ now (st .exit) ≡ pack (new-station me (data-in own) config) ⌝ }
 {
@@ -143,7 +146,7 @@ pub fn new(st: &mut [u64], me: PeerId, present: bool, own: &[u8], config: Config
 
 // Whether a connection to the peer is wanted: it is a neighbor, or its reply to a Neighbor or a Join is awaited.
 fn is_wanted(st: &[u64], p: PeerId) -> bool
-    requires { ⌜ length (now st) ≡ 551 ⌝ }
+    requires { ⌜ length (now st) ≡ words ⌝ }
     requires { ⌜ PackedState (now st) ⌝ }
     ensures { λ r. ⌜ r ≡ wants-connection p (unpack (now (st .entry))) ⌝ }
 {
@@ -154,7 +157,7 @@ fn is_wanted(st: &[u64], p: PeerId) -> bool
 
 // The neighbor at place i, and 0 past the last.
 fn active_at(st: &[u64], i: usize) -> PeerId
-    requires { ⌜ length (now st) ≡ 551 ⌝ }
+    requires { ⌜ length (now st) ≡ words ⌝ }
     requires { ⌜ PackedState (now st) ⌝ }
     ensures { λ r. ⌜ r ≡ getD (unpack (now (st .entry)) .active) i 0 ⌝ }
 {
@@ -313,7 +316,7 @@ fn forget_declined(w: Work, st: &mut [u64]) -> Work
     if w.code != 0 {
         return w;
     }
-    let mut v = [0u64; 73];
+    let mut v = [0u64; columns::KNOWN + 1];
     columns::data_peers(
         &st[Layout::ACTIVE..Layout::ACTIVE_END],
         &st[Layout::PASSIVE..Layout::PASSIVE_END],
@@ -465,7 +468,7 @@ fn handle_event(st: &mut [u64], b: &[u8], draws: &[u32], out: &mut [u8], h: Head
     requires { ⌜ ReadAs (now b) h ⌝ }
     ensures { λ r. ⌜ record { code = r .code; draws = r .draws; words = now (st .exit); output = now (out .exit) } ≡ handled (now (st .entry)) (now (b .entry)) (now (draws .entry)) (length (now (out .entry))) ⌝ }
 {
-    let mut old = [0u64; 551];
+    let mut old = [0u64; Layout::LENGTH];
     copy_words(st, &mut old);
     let w = Work {
         drawn: 0,
@@ -492,7 +495,7 @@ pub fn handle(st: &mut [u64], b: &[u8], draws: &[u32], out: &mut [u8]) -> Done
 
 // The state by value.
 pub struct State {
-    pub words: [u64; 551],
+    pub words: [u64; Layout::LENGTH],
 }
 
 // What a call by value hands back: its code, the state, and how many draws are used.
@@ -513,7 +516,7 @@ impl State {
     pub fn new(me: PeerId, present: bool, own: &[u8], config: Config) -> MadeState
         ensures { λ r. ⌜ record { code = r .code; words = r .state .words } ≡ pack-made (new me (lent present (now (own .entry))) config) ⌝ }
     {
-        let mut words = [0u64; 551];
+        let mut words = [0u64; Layout::LENGTH];
         let code = new(&mut words, me, present, own, config);
         let s = State { words: words };
         MadeState {

@@ -12,7 +12,7 @@ pub type PeerId = u64;
 pub struct PeerData {
     pub present: bool,
     pub len: u8,
-    pub bytes: [u8; 16],
+    pub bytes: [u8; PeerData::BYTES],
 }
 
 // A peer with its data.
@@ -28,13 +28,16 @@ pub struct MaybeData {
 }
 
 impl PeerData {
+    // The bytes that data has room for.
+    pub const BYTES: usize = 16;
+
     pub fn absent() -> PeerData
         ensures { λ r. ⌜ HoldsData r none ⌝ }
     {
         PeerData {
             present: false,
             len: 0,
-            bytes: [0u8; 16],
+            bytes: [0u8; PeerData::BYTES],
         }
     }
 
@@ -43,14 +46,14 @@ impl PeerData {
         ensures { λ r. ⌜ Takes r (now (bytes .entry)) ⌝ }
     {
         let n = bytes.len();
-        if n > 16 {
+        if n > PeerData::BYTES {
             let none = PeerData::absent();
             return MaybeData {
                 ok: false,
                 data: none,
             };
         }
-        let mut b = [0u8; 16];
+        let mut b = [0u8; PeerData::BYTES];
         let mut i: usize = 0;
         while i < n {
             b[i] = bytes[i];

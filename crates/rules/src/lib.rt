@@ -13,6 +13,7 @@ ghost use Rattle.util.specs.Section.{items-at, ValidSet};
 ghost use Rattle.columns.specs.Columns.{numbers-at, ValidNumbers};
 ghost use Rattle.protocol.specs.Rules.{all-under, settings-rule, repeats-rule, order-rule, capacity-rule, views-rule, alive-rule};
 ghost use Rattle.protocol.specs.Rules.{joins-rule, numbers-rule, self-rule, limit-rule, interval-rule, width-rule, held-rule, station-ok};
+ghost use Rattle.state.specs.Layout.{words};
 ghost use Rattle.state.specs.Unpack.{unpack, own-at};
 ghost use Rattle.rules.specs.Ok.{formed, sections-ok, packed-ok, state-ok};
 
@@ -78,7 +79,7 @@ fn numbers_under(m: &[u64], cap: usize, end: u64) -> bool
 
 // Whether the words that stand for a bool or a limit are one. That every word has 64 bits is its type.
 fn is_formed(st: &[u64]) -> bool
-    requires { ⌜ length (now st) ≡ 551 ⌝ }
+    requires { ⌜ length (now st) ≡ words ⌝ }
     ensures { λ r. ⌜ r ≡ formed (now (st .entry)) ⌝ }
 {
     (st[Layout::OWN_PRESENT] <= 1)
@@ -89,7 +90,7 @@ fn is_formed(st: &[u64]) -> bool
 
 // Whether own data is data: zeroes past its bytes, and no bytes where it is absent.
 fn own_valid(st: &[u64]) -> bool
-    requires { ⌜ length (now st) ≡ 551 ⌝ }
+    requires { ⌜ length (now st) ≡ words ⌝ }
     ensures { λ r. ⌜ r ≡ valid-data (own-at (now (st .entry))) ⌝ }
 {
     columns::row_valid(
@@ -102,7 +103,7 @@ fn own_valid(st: &[u64]) -> bool
 
 // Whether every set and map is well formed, with zeroes in its unused places.
 fn sections_valid(st: &[u64]) -> bool
-    requires { ⌜ length (now st) ≡ 551 ⌝ }
+    requires { ⌜ length (now st) ≡ words ⌝ }
     ensures { λ r. ⌜ r ≡ sections-ok (now (st .entry)) ⌝ }
 {
     util::is_section(&st[Layout::ACTIVE..Layout::ACTIVE_END], Layout::FEW)
@@ -130,7 +131,7 @@ fn sections_valid(st: &[u64]) -> bool
 
 // Whether every part is well formed, with zeroes in the unused places; of any words.
 fn is_packed(st: &[u64]) -> bool
-    requires { ⌜ length (now st) ≡ 551 ⌝ }
+    requires { ⌜ length (now st) ≡ words ⌝ }
     ensures { λ r. ⌜ r ≡ packed-ok (now (st .entry)) ⌝ }
 {
     is_formed(st) & (own_valid(st) & sections_valid(st))
@@ -146,7 +147,7 @@ fn within(low: u64, high: u64, x: u64) -> bool
 
 // "settings in range"
 fn settings_rule(st: &[u64]) -> bool
-    requires { ⌜ length (now st) ≡ 551 ⌝ }
+    requires { ⌜ length (now st) ≡ words ⌝ }
     ensures { λ r. ⌜ r ≡ settings-rule (unpack (now (st .entry))) ⌝ }
 {
     within(1, 8, st[Layout::ACTIVE_VIEW_CAPACITY])
@@ -166,7 +167,7 @@ fn settings_rule(st: &[u64]) -> bool
 
 // "every list free of repeats"; maps and sets are, where they rise
 fn repeats_rule(st: &[u64]) -> bool
-    requires { ⌜ length (now st) ≡ 551 ⌝ }
+    requires { ⌜ length (now st) ≡ words ⌝ }
     requires { ⌜ packed-ok (now st) ≡ true ⌝ }
     ensures { λ r. ⌜ r ≡ repeats-rule (unpack (now (st .entry))) ⌝ }
 {
@@ -178,7 +179,7 @@ fn repeats_rule(st: &[u64]) -> bool
 
 // "those for maps and sets in rising peer order"; a well formed map rises
 fn order_rule(st: &[u64]) -> bool
-    requires { ⌜ length (now st) ≡ 551 ⌝ }
+    requires { ⌜ length (now st) ≡ words ⌝ }
     requires { ⌜ packed-ok (now st) ≡ true ⌝ }
     ensures { λ r. ⌜ r ≡ order-rule (unpack (now (st .entry))) ⌝ }
 {
@@ -188,7 +189,7 @@ fn order_rule(st: &[u64]) -> bool
 
 // "views as in demand 3": within capacity
 fn capacity_rule(st: &[u64]) -> bool
-    requires { ⌜ length (now st) ≡ 551 ⌝ }
+    requires { ⌜ length (now st) ≡ words ⌝ }
     requires { ⌜ packed-ok (now st) ≡ true ⌝ }
     ensures { λ r. ⌜ r ≡ capacity-rule (unpack (now (st .entry))) ⌝ }
 {
@@ -198,7 +199,7 @@ fn capacity_rule(st: &[u64]) -> bool
 
 // "views as in demand 3": disjoint and without the station itself
 fn views_rule(st: &[u64]) -> bool
-    requires { ⌜ length (now st) ≡ 551 ⌝ }
+    requires { ⌜ length (now st) ≡ words ⌝ }
     requires { ⌜ packed-ok (now st) ≡ true ⌝ }
     ensures { λ r. ⌜ r ≡ views-rule (unpack (now (st .entry))) ⌝ }
 {
@@ -215,7 +216,7 @@ fn views_rule(st: &[u64]) -> bool
 
 // "alive marks passive"
 fn alive_rule(st: &[u64]) -> bool
-    requires { ⌜ length (now st) ≡ 551 ⌝ }
+    requires { ⌜ length (now st) ≡ words ⌝ }
     requires { ⌜ packed-ok (now st) ≡ true ⌝ }
     ensures { λ r. ⌜ r ≡ alive-rule (unpack (now (st .entry))) ⌝ }
 {
@@ -229,7 +230,7 @@ fn alive_rule(st: &[u64]) -> bool
 
 // "pending joins bootstrap, not active, not self"
 fn joins_rule(st: &[u64]) -> bool
-    requires { ⌜ length (now st) ≡ 551 ⌝ }
+    requires { ⌜ length (now st) ≡ words ⌝ }
     requires { ⌜ packed-ok (now st) ≡ true ⌝ }
     ensures { λ r. ⌜ r ≡ joins-rule (unpack (now (st .entry))) ⌝ }
 {
@@ -251,7 +252,7 @@ fn joins_rule(st: &[u64]) -> bool
 
 // "open numbers below their counters"
 fn numbers_rule(st: &[u64]) -> bool
-    requires { ⌜ length (now st) ≡ 551 ⌝ }
+    requires { ⌜ length (now st) ≡ words ⌝ }
     requires { ⌜ packed-ok (now st) ≡ true ⌝ }
     ensures { λ r. ⌜ r ≡ numbers-rule (unpack (now (st .entry))) ⌝ }
 {
@@ -271,7 +272,7 @@ fn numbers_rule(st: &[u64]) -> bool
 
 // "no data held under self"
 fn self_rule(st: &[u64]) -> bool
-    requires { ⌜ length (now st) ≡ 551 ⌝ }
+    requires { ⌜ length (now st) ≡ words ⌝ }
     requires { ⌜ packed-ok (now st) ≡ true ⌝ }
     ensures { λ r. ⌜ r ≡ self-rule (unpack (now (st .entry))) ⌝ }
 {
@@ -281,7 +282,7 @@ fn self_rule(st: &[u64]) -> bool
 
 // "`Requests` at most 3"; the requests are 0 in every other limit
 fn limit_rule(st: &[u64]) -> bool
-    requires { ⌜ length (now st) ≡ 551 ⌝ }
+    requires { ⌜ length (now st) ≡ words ⌝ }
     requires { ⌜ packed-ok (now st) ≡ true ⌝ }
     ensures { λ r. ⌜ r ≡ limit-rule (unpack (now (st .entry))) ⌝ }
 {
@@ -290,7 +291,7 @@ fn limit_rule(st: &[u64]) -> bool
 
 // "next interval from 1 to the shuffle interval"
 fn interval_rule(st: &[u64]) -> bool
-    requires { ⌜ length (now st) ≡ 551 ⌝ }
+    requires { ⌜ length (now st) ≡ words ⌝ }
     ensures { λ r. ⌜ r ≡ interval-rule (unpack (now (st .entry))) ⌝ }
 {
     within(
@@ -302,7 +303,7 @@ fn interval_rule(st: &[u64]) -> bool
 
 // "the two pass counts 32" bits. Peers and counters have 64 bits, and data is bytes, whatever the words are.
 fn width_rule(st: &[u64]) -> bool
-    requires { ⌜ length (now st) ≡ 551 ⌝ }
+    requires { ⌜ length (now st) ≡ words ⌝ }
     requires { ⌜ packed-ok (now st) ≡ true ⌝ }
     ensures { λ r. ⌜ r ≡ width-rule (unpack (now (st .entry))) ⌝ }
 {
@@ -312,11 +313,11 @@ fn width_rule(st: &[u64]) -> bool
 
 // 02, S-5: no data is held of a peer in neither view and without an open request.
 fn held_rule(st: &[u64]) -> bool
-    requires { ⌜ length (now st) ≡ 551 ⌝ }
+    requires { ⌜ length (now st) ≡ words ⌝ }
     requires { ⌜ packed-ok (now st) ≡ true ⌝ }
     ensures { λ r. ⌜ r ≡ held-rule (unpack (now (st .entry))) ⌝ }
 {
-    let mut v = [0u64; 73];
+    let mut v = [0u64; columns::KNOWN + 1];
     columns::data_peers(
         &st[Layout::ACTIVE..Layout::ACTIVE_END],
         &st[Layout::PASSIVE..Layout::PASSIVE_END],
@@ -333,7 +334,7 @@ fn held_rule(st: &[u64]) -> bool
 
 // Every station rule. That sets and maps have room and data are short is so of all well formed words.
 fn keeps_rules(st: &[u64]) -> bool
-    requires { ⌜ length (now st) ≡ 551 ⌝ }
+    requires { ⌜ length (now st) ≡ words ⌝ }
     requires { ⌜ packed-ok (now st) ≡ true ⌝ }
     ensures { λ r. ⌜ r ≡ station-ok (unpack (now (st .entry))) ⌝ }
 {

@@ -8,7 +8,7 @@ ghost use lib.ListN.{length, drop};
 ghost use Rattle.run_input.specs.Input.{number, numbers, from-halves, config-of, event-length, are-events, places-ok, events-ok, input-of};
 
 // The most bytes of an input.
-const MOST_BYTES: usize = 65536;
+pub const MOST_BYTES: usize = 65536;
 
 // What the head of an input says: self, the settings, how many events there are, the place where they end and the draws begin, and how many draws there are.
 pub struct Head {

@@ -6,7 +6,7 @@ const QUESTION: usize = 56;
 
 fn main() {
     // One byte more than an input may have, so that a longer one is noticed.
-    let mut buffer = [0u8; 65537];
+    let mut buffer = [0u8; run_input::MOST_BYTES + 1];
     let n = io::read_full(0, &mut buffer);
     say_all(&buffer[..n]);
 }

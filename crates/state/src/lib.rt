@@ -20,6 +20,7 @@ ghost use Rattle.protocol.specs.Setters.{set-own-data, set-refill};
 ghost use Rattle.protocol.specs.Messages.{drop-join, drop-request, drop-pending};
 ghost use Rattle.protocol.specs.Station.{is-me, in-active, in-passive, in-view, is-alone, active-is-full, passive-is-full, is-short, is-last-hop};
 ghost use Rattle.protocol.specs.Station.{is-recovery, is-automatic, is-spent, is-requested};
+ghost use Rattle.state.specs.Layout.{words};
 ghost use Rattle.state.specs.Unpack.{unpack, own-at, limit-at, refill-in, PackedState, Becomes};
 ghost use Rattle.state.specs.Work.{work-of, Changes, ChangesAny, DrawsAny, Reaches, TellsAny, after-record};
 
@@ -79,6 +80,9 @@ impl Layout {
     pub const FEW: usize = columns::ACTIVE_PLACES;
 
     pub const ALL: usize = columns::PASSIVE_PLACES;
+
+    // The words of a set of all places, with its count.
+    pub const SET: usize = Layout::ALL + 1;
 
     pub const DATA_CAP: usize = 80;
 
@@ -171,7 +175,7 @@ pub struct Chosen {
 // ---- own data and the limit on refills
 
 pub fn own_data(st: &[u64]) -> PeerData
-    requires { ⌜ length (now st) ≡ 551 ⌝ }
+    requires { ⌜ length (now st) ≡ words ⌝ }
     requires { ⌜ PackedState (now st) ⌝ }
     ensures { λ r. ⌜ r ≡ own-at (now (st .entry)) ⌝ }
 {
@@ -185,7 +189,7 @@ pub fn own_data(st: &[u64]) -> PeerData
 }
 
 pub fn keep_own(st: &mut [u64], d: PeerData)
-    requires { ⌜ length (now st) ≡ 551 ⌝ }
+    requires { ⌜ length (now st) ≡ words ⌝ }
     requires { ⌜ PackedState (now st) ⌝ }
     requires { ⌜ ValidData d ⌝ }
     ensures { λ _. ⌜ Becomes (now (st .exit)) (set-own-data (data-in d) (unpack (now (st .entry)))) ⌝ }
@@ -200,7 +204,7 @@ pub fn keep_own(st: &mut [u64], d: PeerData)
 }
 
 pub fn limit_of(st: &[u64]) -> RefillLimit
-    requires { ⌜ length (now st) ≡ 551 ⌝ }
+    requires { ⌜ length (now st) ≡ words ⌝ }
     ensures { λ r. ⌜ r ≡ limit-at (now (st .entry)) ⌝ }
 {
     if st[Layout::REFILL_KIND] == 0 {
@@ -213,7 +217,7 @@ pub fn limit_of(st: &[u64]) -> RefillLimit
 }
 
 pub fn keep_limit(st: &mut [u64], l: RefillLimit)
-    requires { ⌜ length (now st) ≡ 551 ⌝ }
+    requires { ⌜ length (now st) ≡ words ⌝ }
     requires { ⌜ PackedState (now st) ⌝ }
     ensures { λ _. ⌜ Becomes (now (st .exit)) (set-refill (refill-in l) (unpack (now (st .entry)))) ⌝ }
 {
@@ -411,14 +415,14 @@ pub fn emit_nodes(w: Work, out: &mut [u8], f: Fields, ns: Nodes) -> Work
 // ---- what several steps ask of the state
 
 pub fn is_me(st: &[u64], p: PeerId) -> bool
-    requires { ⌜ length (now st) ≡ 551 ⌝ }
+    requires { ⌜ length (now st) ≡ words ⌝ }
     ensures { λ r. ⌜ r ≡ is-me p (unpack (now (st .entry))) ⌝ }
 {
     p == st[Layout::ME]
 }
 
 pub fn in_active(st: &[u64], p: PeerId) -> bool
-    requires { ⌜ length (now st) ≡ 551 ⌝ }
+    requires { ⌜ length (now st) ≡ words ⌝ }
     requires { ⌜ PackedState (now st) ⌝ }
     ensures { λ r. ⌜ r ≡ in-active p (unpack (now (st .entry))) ⌝ }
 {
@@ -426,7 +430,7 @@ pub fn in_active(st: &[u64], p: PeerId) -> bool
 }
 
 pub fn in_passive(st: &[u64], p: PeerId) -> bool
-    requires { ⌜ length (now st) ≡ 551 ⌝ }
+    requires { ⌜ length (now st) ≡ words ⌝ }
     requires { ⌜ PackedState (now st) ⌝ }
     ensures { λ r. ⌜ r ≡ in-passive p (unpack (now (st .entry))) ⌝ }
 {
@@ -434,7 +438,7 @@ pub fn in_passive(st: &[u64], p: PeerId) -> bool
 }
 
 pub fn in_view(st: &[u64], p: PeerId) -> bool
-    requires { ⌜ length (now st) ≡ 551 ⌝ }
+    requires { ⌜ length (now st) ≡ words ⌝ }
     requires { ⌜ PackedState (now st) ⌝ }
     ensures { λ r. ⌜ r ≡ in-view p (unpack (now (st .entry))) ⌝ }
 {
@@ -443,7 +447,7 @@ pub fn in_view(st: &[u64], p: PeerId) -> bool
 
 // Whether a request to p is open.
 pub fn is_requested(st: &[u64], p: PeerId) -> bool
-    requires { ⌜ length (now st) ≡ 551 ⌝ }
+    requires { ⌜ length (now st) ≡ words ⌝ }
     requires { ⌜ PackedState (now st) ⌝ }
     ensures { λ r. ⌜ r ≡ is-requested p (unpack (now (st .entry))) ⌝ }
 {
@@ -452,7 +456,7 @@ pub fn is_requested(st: &[u64], p: PeerId) -> bool
 
 // Whether there is no neighbor.
 pub fn is_alone(st: &[u64]) -> bool
-    requires { ⌜ length (now st) ≡ 551 ⌝ }
+    requires { ⌜ length (now st) ≡ words ⌝ }
     requires { ⌜ PackedState (now st) ⌝ }
     ensures { λ r. ⌜ r ≡ is-alone (unpack (now (st .entry))) ⌝ }
 {
@@ -460,7 +464,7 @@ pub fn is_alone(st: &[u64]) -> bool
 }
 
 pub fn active_is_full(st: &[u64]) -> bool
-    requires { ⌜ length (now st) ≡ 551 ⌝ }
+    requires { ⌜ length (now st) ≡ words ⌝ }
     requires { ⌜ PackedState (now st) ⌝ }
     ensures { λ r. ⌜ r ≡ active-is-full (unpack (now (st .entry))) ⌝ }
 {
@@ -468,7 +472,7 @@ pub fn active_is_full(st: &[u64]) -> bool
 }
 
 pub fn passive_is_full(st: &[u64]) -> bool
-    requires { ⌜ length (now st) ≡ 551 ⌝ }
+    requires { ⌜ length (now st) ≡ words ⌝ }
     requires { ⌜ PackedState (now st) ⌝ }
     ensures { λ r. ⌜ r ≡ passive-is-full (unpack (now (st .entry))) ⌝ }
 {
@@ -477,7 +481,7 @@ pub fn passive_is_full(st: &[u64]) -> bool
 
 // Too few neighbors: fewer than half of those that there is room for, rounded up.
 pub fn is_short(st: &[u64]) -> bool
-    requires { ⌜ length (now st) ≡ 551 ⌝ }
+    requires { ⌜ length (now st) ≡ words ⌝ }
     requires { ⌜ PackedState (now st) ⌝ }
     ensures { λ r. ⌜ r ≡ is-short (unpack (now (st .entry))) ⌝ }
 {
@@ -486,7 +490,7 @@ pub fn is_short(st: &[u64]) -> bool
 
 // Whether a walk ends here for want of neighbors.
 pub fn is_last_hop(st: &[u64]) -> bool
-    requires { ⌜ length (now st) ≡ 551 ⌝ }
+    requires { ⌜ length (now st) ≡ words ⌝ }
     requires { ⌜ PackedState (now st) ⌝ }
     ensures { λ r. ⌜ r ≡ is-last-hop (unpack (now (st .entry))) ⌝ }
 {
@@ -497,7 +501,7 @@ pub fn is_last_hop(st: &[u64]) -> bool
 
 // The join to p is open no more.
 pub fn drop_join(w: Work, st: &mut [u64], p: PeerId) -> Work
-    requires { ⌜ length (now st) ≡ 551 ⌝ }
+    requires { ⌜ length (now st) ≡ words ⌝ }
     requires { ⌜ PackedState (now st) ⌝ }
     ensures { λ r. ⌜ Changes (on (drop-join p)) (work-of w (now (st .entry))) (work-of r (now (st .exit))) ⌝ }
 {
@@ -510,7 +514,7 @@ pub fn drop_join(w: Work, st: &mut [u64], p: PeerId) -> Work
 
 // The request to p is open no more.
 pub fn drop_request(w: Work, st: &mut [u64], p: PeerId) -> Work
-    requires { ⌜ length (now st) ≡ 551 ⌝ }
+    requires { ⌜ length (now st) ≡ words ⌝ }
     requires { ⌜ PackedState (now st) ⌝ }
     ensures { λ r. ⌜ Changes (on (drop-request p)) (work-of w (now (st .entry))) (work-of r (now (st .exit))) ⌝ }
 {
@@ -523,7 +527,7 @@ pub fn drop_request(w: Work, st: &mut [u64], p: PeerId) -> Work
 
 // Neither a join nor a request to p is open.
 pub fn drop_pending(w: Work, st: &mut [u64], p: PeerId) -> Work
-    requires { ⌜ length (now st) ≡ 551 ⌝ }
+    requires { ⌜ length (now st) ≡ words ⌝ }
     requires { ⌜ PackedState (now st) ⌝ }
     ensures { λ r. ⌜ Changes (drop-pending p) (work-of w (now (st .entry))) (work-of r (now (st .exit))) ⌝ }
 {

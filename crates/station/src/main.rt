@@ -49,7 +49,7 @@ fn say_events(first: Runner, n: usize, events: &[u8], draws: &[u32], records: &m
 }
 
 // The events of an input, with the numbers that stand where its draws do.
-fn say_walk(b: &[u8], head: Head, drawn: &[u32], records: &mut [u8; 8192])
+fn say_walk(b: &[u8], head: Head, drawn: &[u32], records: &mut [u8; hyparview::OUTPUT])
     requires { ⌜ Laid (now b) head ⌝ }
     requires { ⌜ Counts (head .draws) (now drawn) ⌝ }
     requires { ⌜ now drawn ≡ numbers (length (now drawn)) 0 (drop (head .«draws_at») (now b)) ⌝ }
@@ -65,7 +65,7 @@ fn say_whole(b: &[u8], head: Head)
     requires { ⌜ Laid (now b) head ⌝ }
 {
     let mut drawn = [0u32; 16384];
-    let mut records = [0u8; 8192];
+    let mut records = [0u8; hyparview::OUTPUT];
     let at = head.draws_at;
     run_input::read_numbers(&b[at..], &mut drawn);
     say_walk(b, head, &drawn, &mut records);
@@ -82,7 +82,7 @@ fn say(b: &[u8]) {
 
 fn main() {
     // One byte more than an input may have, so that a longer one is noticed.
-    let mut buffer = [0u8; 65537];
+    let mut buffer = [0u8; run_input::MOST_BYTES + 1];
     let n = io::read_full(0, &mut buffer);
     say(&buffer[..n]);
 }

@@ -47,7 +47,7 @@ fn must_drop_oldest(st: &[u64], p: PeerId) -> bool
     requires { ⌜ PackedState (now st) ⌝ }
     ensures { λ r. ⌜ r ≡ must-drop-oldest p (unpack (now (st .entry))) ⌝ }
 {
-    let mut others = [0u64; 33];
+    let mut others = [0u64; Layout::SET];
     others_into(st, p, &mut others);
     let n = util::count(&others, Layout::ALL);
     Timing::MAX_BOOTSTRAP_PEERS < n + 1
@@ -60,7 +60,7 @@ fn oldest(st: &[u64], p: PeerId) -> PeerId
     requires { ⌜ must-drop-oldest p (unpack (now st)) ≡ true ⌝ }
     ensures { λ r. ⌜ r ≡ oldest p (unpack (now (st .entry))) ⌝ }
 {
-    let mut others = [0u64; 33];
+    let mut others = [0u64; Layout::SET];
     others_into(st, p, &mut others);
     util::get_index(&others, Layout::ALL, 0)
 }
@@ -381,7 +381,7 @@ pub fn handle_quit(w: Work, st: &mut [u64], draws: &[u32], out: &mut [u8]) -> Wo
     requires { ⌜ Fine (work-of w (now st)) (now draws) (now out) ⌝ }
     ensures { λ r. ⌜ Does (work-of r (now (st .exit))) (now (draws .entry)) (now (out .exit)) (handle-quit (run (work-of w (now (st .entry))) (now (draws .entry)) (now (out .entry)))) ⌝ }
 {
-    let mut v = [0u64; 33];
+    let mut v = [0u64; Layout::SET];
     util::copy_into(&st[Layout::ACTIVE..Layout::ACTIVE_END], Layout::FEW, &mut v);
     let n = util::count(&v, Layout::ALL);
     let a = quit_all(w, st, draws, out, &v[..n]);

@@ -45,7 +45,7 @@ fn remember_all(w: Work, st: &mut [u64]) -> Work
     if w.code != 0 {
         return w;
     }
-    let mut v = [0u64; 33];
+    let mut v = [0u64; Layout::SET];
     util::copy_into(&st[Layout::ACTIVE..Layout::ACTIVE_END], Layout::FEW, &mut v);
     renew_all(&mut st[Layout::RECENT..Layout::RECENT_END], &v);
     w
@@ -111,7 +111,7 @@ fn rejoin(w: Work, st: &[u64], draws: &[u32], out: &mut [u8]) -> Work
     requires { ⌜ Fine (work-of w (now st)) (now draws) (now out) ⌝ }
     ensures { λ r. ⌜ Does (work-of r (now (st .entry))) (now (draws .entry)) (now (out .exit)) (rejoin (run (work-of w (now (st .entry))) (now (draws .entry)) (now (out .entry)))) ⌝ }
 {
-    let mut v = [0u64; 33];
+    let mut v = [0u64; Layout::SET];
     other_recent(st, &mut v);
     let a = rejoin_bootstrap(w, st, out);
     rejoin_recent(a, st, draws, out, &v)

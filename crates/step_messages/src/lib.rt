@@ -174,7 +174,7 @@ fn walk_on(
     if state::is_requested(st, p) {
         return w;
     }
-    let mut v = [0u64; 33];
+    let mut v = [0u64; Layout::SET];
     others_into(st, from, &mut v);
     let k = util::count(&v, Layout::ALL);
     forward_join_on(w, st, draws, out, &v[..k], n, ttl)
@@ -409,7 +409,7 @@ fn forward_joins(w: Work, st: &[u64], out: &mut [u8], p: PeerId, d: PeerData) ->
     requires { ⌜ ValidData d ⌝ }
     ensures { λ r. ⌜ Tells (forward-joins p (data-in d)) (work-of w (now (st .entry))) (work-of r (now (st .entry))) (now (out .entry)) (now (out .exit)) ⌝ }
 {
-    let mut v = [0u64; 33];
+    let mut v = [0u64; Layout::SET];
     others_into(st, p, &mut v);
     let k = util::count(&v, Layout::ALL);
     let ttl = st[Layout::ACTIVE_RANDOM_WALK_LENGTH] as u16;

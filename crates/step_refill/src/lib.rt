@@ -99,7 +99,7 @@ fn recovery_is_over(st: &[u64]) -> bool
     ensures { λ r. ⌜ r ≡ recovery-is-over (unpack (now (st .entry))) ⌝ }
 {
     let l = state::limit_of(st);
-    let mut t = [0u64; 33];
+    let mut t = [0u64; Layout::SET];
     asked_outside(st, &mut t);
     l.is_recovery() & util::is_empty(&t, Layout::ALL)
 }
@@ -167,7 +167,7 @@ fn without_asked(st: &[u64], t: &mut [u64])
     requires { ⌜ ValidSet 32 (now t) ⌝ }
     ensures { λ _. ⌜ HoldsSet 32 (now (t .exit)) (without-all (keys (unpack (now (st .entry)) .requests)) (items-at 32 (now (t .entry)))) ⌝ }
 {
-    let mut asked = [0u64; 33];
+    let mut asked = [0u64; Layout::SET];
     columns::keys_into(
         &st[Layout::ASKED..Layout::ASKED_END],
         Layout::ALL,
@@ -232,7 +232,7 @@ fn refill_limited(w: Work, st: &mut [u64], draws: &[u32], out: &mut [u8], skip: 
     requires { ⌜ Fine (work-of w (now st)) (now draws) (now out) ⌝ }
     ensures { λ r. ⌜ Does (work-of r (now (st .exit))) (now (draws .entry)) (now (out .exit)) (refill-limited (now (skip .entry)) (run (work-of w (now (st .entry))) (now (draws .entry)) (now (out .entry)))) ⌝ }
 {
-    let mut from = [0u64; 33];
+    let mut from = [0u64; Layout::SET];
     candidates(st, skip, &mut from);
     ask_one(w, st, draws, out, &from)
 }
@@ -244,7 +244,7 @@ fn needs_none(st: &[u64]) -> bool
     ensures { λ r. ⌜ r ≡ needs-none (unpack (now (st .entry))) ⌝ }
 {
     let l = state::limit_of(st);
-    let mut t = [0u64; 33];
+    let mut t = [0u64; Layout::SET];
     asked_outside(st, &mut t);
     let asked = util::count(&t, Layout::ALL);
     let n = util::count(&st[Layout::ACTIVE..Layout::ACTIVE_END], Layout::FEW);

@@ -138,7 +138,7 @@ fn fill_active(w: Work, st: &[u64], draws: &[u32], len: usize, v: &mut [u64]) ->
     ensures { λ r. ⌜ HoldsSet 32 (now (v .exit)) (items-at 32 (now (v .entry)) ++ take (len - length (items-at 32 (now (v .entry)))) (shuffle (drop (w .drawn) (now (draws .entry))) (unpack (now (st .entry)) .active))) ⌝ }
 {
     let n = util::count(v, Layout::ALL);
-    let mut more = [0u64; 33];
+    let mut more = [0u64; Layout::SET];
     util::copy_into(
         &st[Layout::ACTIVE..Layout::ACTIVE_END],
         Layout::FEW,
@@ -207,7 +207,7 @@ pub fn send_shuffle_reply(
     requires { ⌜ len ≤ 32 ⌝ }
     ensures { λ r. ⌜ Does (work-of r (now (st .entry))) (now (draws .entry)) (now (out .exit)) (send-shuffle-reply to len (run (work-of w (now (st .entry))) (now (draws .entry)) (now (out .entry)))) ⌝ }
 {
-    let mut v = [0u64; 33];
+    let mut v = [0u64; Layout::SET];
     util::copy_into(
         &st[Layout::PASSIVE..Layout::PASSIVE_END],
         Layout::ALL,

@@ -174,7 +174,7 @@ fn pass_shuffle(
     requires { ⌜ n ≡ header-of (now b) .nodes ⌝ }
     ensures { λ r. ⌜ Does (work-of r (now (st .entry))) (now (draws .entry)) (now (out .exit)) (forward-shuffle (without-all (origin ∷ from ∷ []) (unpack (now (st .entry)) .active)) origin (nodes-of (now (b .entry)) 0 n) ttl (run (work-of w (now (st .entry))) (now (draws .entry)) (now (out .entry)))) ⌝ }
 {
-    let mut v = [0u64; 33];
+    let mut v = [0u64; Layout::SET];
     other_neighbors(st, origin, from, &mut v);
     forward_shuffle(w, st, draws, out, &v, origin, b, n, ttl)
 }

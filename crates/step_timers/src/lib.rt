@@ -207,7 +207,7 @@ fn shuffle_passive(
     requires { ⌜ length (items-at 32 (now v)) ≤ 8 ⌝ }
     ensures { λ r. ⌜ Does (work-of r (now (st .entry))) (now (draws .entry)) (now (out .exit)) (shuffle-passive to (items-at 32 (now (v .entry))) (run (work-of w (now (st .entry))) (now (draws .entry)) (now (out .entry)))) ⌝ }
 {
-    let mut more = [0u64; 33];
+    let mut more = [0u64; Layout::SET];
     let most = st[Layout::SHUFFLE_PASSIVE_VIEW_COUNT] as usize;
     let a = some_peers(
         w,
@@ -228,7 +228,7 @@ fn shuffle_with(w: Work, st: &[u64], draws: &[u32], out: &mut [u8], to: PeerId) 
     requires { ⌜ Fine (work-of w (now st)) (now draws) (now out) ⌝ }
     ensures { λ r. ⌜ Does (work-of r (now (st .entry))) (now (draws .entry)) (now (out .exit)) (shuffle-with to (run (work-of w (now (st .entry))) (now (draws .entry)) (now (out .entry)))) ⌝ }
 {
-    let mut v = [0u64; 33];
+    let mut v = [0u64; Layout::SET];
     let most = st[Layout::SHUFFLE_ACTIVE_VIEW_COUNT] as usize;
     let a = some_peers(
         w,

@@ -44,7 +44,7 @@ const MOST_INPUTS: usize = 1000000;
 fn main() {
     let mut space = [0u8; 4];
     let head: &mut [u8] = &mut space;
-    let mut buffer = [0u8; 65537];
+    let mut buffer = [0u8; run_input::MOST_BYTES + 1];
     let bytes: &mut [u8] = &mut buffer;
     let mut text = [0u8; 262144];
     let mut left = MOST_INPUTS;

@@ -179,7 +179,7 @@ fn next(q: &mut [u64], b: &mut [u8]) -> bool
 }
 
 fn main() {
-    let mut words = [0u64; 513];
+    let mut words = [0u64; timer_map::WORDS];
     let q: &mut [u64] = &mut words;
     let mut space = [0u8; 48];
     let b: &mut [u8] = &mut space;

@@ -12,7 +12,7 @@ ghost use Rattle.timer_map.specs.Words.{queue-count, queue-entry-at, que
 ghost use Rattle.timer_map.specs.Calls.{put, no-due, due-in, popped-words, refused-pop, inserted, taken-out, first-of, first-in, count-in, renewed};
 
 // The lent words: the count, then a row for each place. A sum is a constant of its own.
-const WORDS: usize = 513;
+pub const WORDS: usize = 513;
 
 pub const COUNT: usize = 0;
 
@@ -119,7 +119,7 @@ fn entry_at(q: &[u64], at: usize) -> TimerMapEntry
 }
 
 // The row of an entry.
-fn row(e: TimerMapEntry) -> [u64; 8]
+fn row(e: TimerMapEntry) -> [u64; ROW]
     ensures { λ r. ⌜ r ≡ queue-row e ⌝ }
 {
     let x = e.item;

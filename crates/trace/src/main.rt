@@ -3,7 +3,7 @@ use trace_replay::TraceStart;
 
 fn main() {
     // One byte more than an input may have, so that a longer one is noticed.
-    let mut buffer = [0u8; 65537];
+    let mut buffer = [0u8; run_input::MOST_BYTES + 1];
     let n = io::read_full(0, &mut buffer);
     let start = TraceStart::usual();
     trace_replay::history(&buffer[..n], start);

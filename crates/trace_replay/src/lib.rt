@@ -41,7 +41,7 @@ impl TraceStart {
         ensures { λ r. ⌜ r ≡ record { room = 8192; «next_neighbor_request» = 0; «next_join» = 0; «passes_alone» = 0; «passes_short» = 0 } ⌝ }
     {
         TraceStart {
-            room: 8192,
+            room: hyparview::OUTPUT,
             next_neighbor_request: 0,
             next_join: 0,
             passes_alone: 0,
@@ -67,10 +67,10 @@ fn room_of(start: TraceStart) -> usize
     ensures { λ r. ⌜ r ≡ room-of start ⌝ }
     ensures { λ r. ⌜ r ≤ 8192 ⌝ }
 {
-    if start.room <= 8192 {
+    if start.room <= hyparview::OUTPUT {
         return start.room;
     }
-    8192
+    hyparview::OUTPUT
 }
 
 // The state of an input that has none: what `new` hands back when it refuses.
@@ -169,7 +169,7 @@ fn with_space(s: State, b: &[u8], head: Head, room: usize) -> State
     ensures { λ r. ⌜ r .words ≡ laid-words room (s .words) head (now (b .entry)) ⌝ }
 {
     let mut drawn = [0u32; 16384];
-    let mut out = [0u8; 8192];
+    let mut out = [0u8; hyparview::OUTPUT];
     let mut text = [0u8; 32768];
     let at = head.draws_at;
     run_input::read_numbers(&b[at..], &mut drawn);

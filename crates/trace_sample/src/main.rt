@@ -46,7 +46,7 @@ const MOST_HISTORIES: usize = 1000000;
 fn main() {
     let mut space = [0u8; 32];
     let head: &mut [u8] = &mut space;
-    let mut buffer = [0u8; 65537];
+    let mut buffer = [0u8; run_input::MOST_BYTES + 1];
     let bytes: &mut [u8] = &mut buffer;
     let mut left = MOST_HISTORIES;
     while left > 0 {

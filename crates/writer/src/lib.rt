@@ -27,7 +27,7 @@ pub struct Fields {
 
 // The nodes of a record to be written.
 pub struct Nodes {
-    pub items: [PeerInfo; 32],
+    pub items: [PeerInfo; record::MOST_NODES as usize],
     pub len: usize,
 }
 
@@ -44,11 +44,11 @@ impl Nodes {
         let data = PeerData {
             present: false,
             len: 0,
-            bytes: [0u8; 16],
+            bytes: [0u8; PeerData::BYTES],
         };
         let blank = PeerInfo { id: 0, data: data };
         Nodes {
-            items: [blank; 32],
+            items: [blank; record::MOST_NODES as usize],
             len: 0,
         }
     }
@@ -99,7 +99,7 @@ pub fn put_bytes(out: &mut [u8], at: usize, bs: &[u8])
 }
 
 // The fields of a header before its ttl, for a record of so many nodes.
-fn header_front(f: Fields, nodes: u8) -> [u8; 20]
+fn header_front(f: Fields, nodes: u8) -> [u8; FRONT]
     ensures { λ r. ⌜ r ≡ f .kind ∷ f .message ∷ f .flags ∷ nodes ∷ (le peer-length (f .peer) ++ le peer-length (f .second)) ⌝ }
 {
     let p = f.peer;
@@ -129,7 +129,7 @@ fn header_front(f: Fields, nodes: u8) -> [u8; 20]
 }
 
 // The rest of the header of a record of so many bytes.
-fn header_back(f: Fields, size: u16) -> [u8; 12]
+fn header_back(f: Fields, size: u16) -> [u8; record::HEADER - FRONT]
     ensures { λ r. ⌜ r ≡ le 2 (f .ttl) ++ (le 2 size ++ le 8 (f .number)) ⌝ }
 {
     let t = f.ttl;
@@ -151,7 +151,7 @@ fn header_back(f: Fields, size: u16) -> [u8; 12]
 }
 
 // A node entry, whose data stand at the place reached.
-fn entry_array(p: PeerInfo, reached: usize) -> [u8; 12]
+fn entry_array(p: PeerInfo, reached: usize) -> [u8; record::NODE]
     requires { ⌜ ValidData (p .data) ⌝ }
     ensures { λ r. ⌜ r ≡ entry (node-in p) reached ⌝ }
 {
