@@ -1,6 +1,6 @@
 -- A station that keeps the rules is packed into words that pass the test, and comes out of them again.
 -- Assumes nothing.
-use Prim.Native.Nat.{ℕ, _+_, _≤_, _<_, zero-le}
+use Prim.Native.Nat.{ℕ, _≤_, _<_, zero-le}
 use mathlib.Core.Path.{_≡_, refl, sym, ap, _∙_, subst}
 use mathlib.Core.Bool.{Bool, true, false, _&&_}
 use mathlib.Core.List.{List, [], _∷_, _++_, map}
@@ -32,7 +32,6 @@ use Rattle.protocol.specs.Station.{Station, Refill, automatic, requests-left, r
 use Rattle.protocol.specs.Rules.{short-data, all-short, all-under, lists-under, peer-lists, limit-ok, settings-rule, order-rule, capacity-rule, alive-rule, few-rule, joins-rule, numbers-rule, room-rule, data-rule, limit-rule, interval-rule, rules, station-ok}
 use Rattle.protocol.specs.Rules as R
 use Rattle.protocol.specs.Handle.{new-station, zero-config, zero-station}
-use Rattle.state.specs.Layout as layout
 use Rattle.state.specs.Layout.{Sections}
 use Rattle.state.specs.Unpack.{own-at, settings-at, limit-at, limit-formed, refill-in, station-of, unpack}
 use Rattle.state.proofs.Memory.{bit-fits, bool-back, two-limit}
