@@ -196,7 +196,7 @@ fn fits(x: u64, w: usize) -> bool
     ensures { λ r. ⌜ r ≡ ltb x (256 ^ w) ⌝ }
 {
     if w == record::OLD_PEER {
-        return x < 4294967296;
+        return x < record::FOUR_BYTES_END;
     }
     true
 }

@@ -12,7 +12,7 @@ use borrow.Author.Tests.{ne-eqb, leb-true, ltb-false}
 use Rattle.lists.specs.Maps.{retain}
 use Rattle.lists.proofs.Choice.{by-choice, choose-yes, choose-no, split, and-left, and-right, and-false, clash}
 use Rattle.util.specs.Section.{items-at, HoldsSet}
-use Rattle.columns.specs.Columns.{HoldsDataWords}
+use Rattle.columns.specs.Columns.{words-end, HoldsDataWords}
 use Rattle.record.specs.declared.Header.{Header}
 use Rattle.record.specs.declared.Event.{Event}
 use Rattle.record.specs.declared.Event.the-variants.{Refused, Record}
@@ -36,7 +36,7 @@ use Rattle.state.specs.Work.{Held, work-of, run, Changes, Fine, Does}
 use Rattle.state.proofs.Bridge.{then, seq}
 use Rattle.step_events.specs.Free.{KnownJoins}
 use Rattle.step_messages.specs.Between.{Between}
-use Rattle.rules.specs.Ok.{words-end, packed-ok, state-ok}
+use Rattle.rules.specs.Ok.{packed-ok, state-ok}
 use Rattle.rules.proofs.Back.{ok-back, packed-back}
 use Rattle.rules.proofs.Packed.{ok-state}
 use Rattle.hyparview.specs.Begun.{ReadAs, Opens}

@@ -16,6 +16,10 @@ peer-length = 8
 abbrev pub old-peer-length : ℕ
 old-peer-length = 4
 
+-- the first number that has more than four bytes
+abbrev pub four-bytes-end : ℕ
+four-bytes-end = 4294967296
+
 -- w is the bytes of a peer in one of the two forms
 pub record IsForm (w : ℕ) : Type 0 where
   pub most : w ≤ peer-length

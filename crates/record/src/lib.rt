@@ -19,6 +19,9 @@ pub const PEER: usize = 8;
 
 pub const OLD_PEER: usize = 4;
 
+// The first number that has more than four bytes.
+pub const FOUR_BYTES_END: u64 = 4294967296;
+
 // The bytes of a header and of a node entry.
 pub const HEADER: usize = 32;
 
@@ -193,7 +196,7 @@ fn read_u64(b: &[u8], at: usize) -> u64
 {
     let low = read_u32(b, at) as u64;
     let high = read_u32(b, at + 4) as u64;
-    low + 4294967296 * high
+    low + FOUR_BYTES_END * high
 }
 
 // A peer's number, where it has w bytes.

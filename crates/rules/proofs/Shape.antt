@@ -13,7 +13,7 @@ use Rattle.lists.proofs.Tests.{both-true}
 use Rattle.util.specs.Section.{ValidSet, valid-set}
 use Rattle.util.proofs.Parts.{part-long}
 use Rattle.util.proofs.Sets.{valid-set-true, true-valid-set}
-use Rattle.columns.specs.Columns.{ValidNumbers, valid-numbers, ValidDataWords}
+use Rattle.columns.specs.Columns.{words-end, ValidNumbers, valid-numbers, ValidDataWords}
 use Rattle.columns.proofs.Numbers.{valid-numbers-true, true-valid-numbers}
 use Rattle.columns.proofs.Testing.{valid-words-true, true-valid-words}
 use Rattle.peer.specs.Held.{ValidData, valid-data}
@@ -21,7 +21,7 @@ use Rattle.peer.proofs.Data.{valid-data-true, true-valid-data}
 use Rattle.protocol.specs.Rules.{all-under}
 use Rattle.state.specs.Layout as layout
 use Rattle.state.specs.Unpack.{own-at, limit-formed, PackedState, opened, long}
-use Rattle.rules.specs.Ok.{words-end, formed, sections-ok, packed-ok}
+use Rattle.rules.specs.Ok.{formed, sections-ok, packed-ok}
 
 -- every part is well formed
 pub record Shape (xs : List ℕ) : Type 0 where
