@@ -1,16 +1,16 @@
 -- Laws of the readers' definitions.
 -- Assumes nothing.
-use Prim.Native.Nat.{ℕ, zero, suc, _+_, _≤_, _<_}
+use Prim.Native.Nat.{ℕ, zero, suc, _+_, _*_, _^_, _≤_, _<_}
 use mathlib.Core.Path.{_≡_, refl, sym, ap, _∙_}
 use mathlib.Core.Bool.{Bool, true, false, _&&_}
 use mathlib.Core.List.{List}
 use native.Mathlib.Omega.{arith}
-use borrow.Author.Tests.{ne-eqb, lt-ltb, le-ltb, leb-true, leb-false}
+use borrow.Author.Tests.{ne-eqb, eqb-true, eqb-false, lt-ltb, le-ltb, leb-true, leb-false}
 use lib.ListN.{length, getD}
-use lib.Dec.{leb, ltb}
+use lib.Dec.{eqb, leb, ltb}
 use Rattle.lists.specs.Lists.{choose}
 use Rattle.lists.proofs.Choice.{choose-yes, choose-no, split, clash, and-left}
-use Rattle.record.specs.Format.{IsForm, peer-length, header-length, header-length-by}
+use Rattle.record.specs.Format.{IsForm, peer-length, old-peer-length, header-length, header-length-by, node-length-by}
 use Rattle.record.specs.Read.{header-of, entry-at-by, entry-ok, entries-ok-by, well-formed, well-formed-by, rec-of, is-event, refused, event, read-event}
 use Rattle.record.specs.Answers.{answer, event-answer, event-in, EventIs}
 pub use Rattle.record.specs.Answers.{Found}
@@ -25,7 +25,23 @@ and-none false = refl
 
 -- the two forms
 pub new-form : IsForm peer-length
-new-form = record { most = omega arith; other = λ n. refl }
+new-form = record { other = λ n. refl }
+
+pub form-most : (w : ℕ) → IsForm w → w ≤ peer-length
+form-most w f =
+    split (eqb w old-peer-length)
+    (λ e. omega (arith, eqb-true w old-peer-length e))
+    (λ n. omega (arith, f .other (eqb-false w old-peer-length n)))
+
+module _ (w : ℕ) (f : IsForm w) where
+  pub twice-fits : 2 * w < 2 ^ 64
+  twice-fits = omega (arith, form-most w f)
+
+  pub header-fits : header-length-by w < 2 ^ 64
+  header-fits = omega (arith, form-most w f)
+
+  pub node-fits : node-length-by w < 2 ^ 64
+  node-fits = omega (arith, form-most w f)
 
 module _ (w : ℕ) where
   -- data that would start past the end are no data of the record
