@@ -190,7 +190,7 @@ pub fn read_u32(b: &[u8], at: usize) -> u32
     b0 + 256 * (b1 + 256 * (b2 + 256 * b3))
 }
 
-fn read_u64(b: &[u8], at: usize) -> u64
+pub fn read_u64(b: &[u8], at: usize) -> u64
     requires { ⌜ at + 8 ≤ length (now b) ⌝ }
     ensures { λ r. ⌜ r ≡ read-le 8 (now (b .entry)) at ⌝ }
 {
