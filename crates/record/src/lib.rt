@@ -170,7 +170,7 @@ fn wide(x: u8) -> u32
     x as u32
 }
 
-fn read_u16(b: &[u8], at: usize) -> u16
+pub fn read_u16(b: &[u8], at: usize) -> u16
     requires { ⌜ at + 2 ≤ length (now b) ⌝ }
     ensures { λ r. ⌜ r ≡ read-le 2 (now (b .entry)) at ⌝ }
 {
