@@ -93,6 +93,13 @@ def number(found, name, usual):
     return int(text)
 
 
+def differs(name, expected, written):
+    """Ends the tool with the first line where a text is another than the one expected."""
+    pairs = zip(expected.split("\n") + ["(end)"], written.split("\n") + ["(end)"])
+    left, right = next(pair for pair in pairs if pair[0] != pair[1])
+    sys.exit(f"{name} differs\nexpected: {left}\nwritten:  {right}")
+
+
 def made(files, mode):
     """Writes the files, whose content is given by name, or with `check` fails where one is another."""
     if mode == "make":
@@ -102,3 +109,15 @@ def made(files, mode):
     old = [name for name, content in files.items() if not (ROOT / name).is_file() or (ROOT / name).read_bytes() != content]
     if old:
         fail(f"not what `make` writes: {' '.join(old)}")
+
+
+def sample(text, files, compare, names):
+    """A sample's tool, whose help is the text: `make` or `check` of its files, or `compare` with options of these names, `--` and a command."""
+    mode, rest = sys.argv[1:2], sys.argv[2:]
+    if mode in (["make"], ["check"]) and not rest:
+        made(files(), mode[0])
+    elif mode == ["compare"] and "--" in rest[:-1]:
+        split = rest.index("--")
+        compare(options(rest[:split], names), rest[split + 1 :])
+    else:
+        usage(text)

@@ -7,7 +7,7 @@ use mathlib.Core.List.{List, _++_}
 use mathlib.Core.Option.{none, some}
 use native.Mathlib.Omega.{arith}
 use lib.ListN.{length, take, drop, getD, set, length-set, length-drop, take-append-drop}
-use lib.Seq.{take-take, take-all, take-set-lt, getD-take, getD-drop, getD-set-other}
+use lib.Seq.{take-take, take-all, take-set-lt, getD-take, getD-set-other}
 use lib.Dec.{ltb}
 use borrow.Rule.Slice.PartMut.{putMid}
 use mir.Syntax.{w8}
@@ -28,7 +28,7 @@ use Rattle.peer.proofs.Maps.{unread, length-entry}
 use Rattle.util.specs.Section.{part, Filled}
 use Rattle.columns.specs.Columns.{Two, word-bytes, row, rows, head-of, tail-of, count-of, entries-at, data-map-at, ValidDataWords, HoldsDataWords}
 use Rattle.util.proofs.Columns.{filled-of, filled-length}
-use Rattle.util.proofs.Parts.{part-long, part-set-after, part-set-in, part-set-before}
+use Rattle.util.proofs.Parts.{part-long, part-read, part-set-after, part-set-in, part-set-before}
 use Rattle.columns.proofs.Numbers.{Stored, twice-long, both-stored, once-second}
 use Rattle.columns.proofs.Rows.{take-rows, pad-rows, shift-rows, insert-rows, set-rows, getD-rows}
 
@@ -148,18 +148,17 @@ head-set n m i x h = first-set (n + n) m (n + i) x (omega arith)
 
 pub head-read : (n : ℕ) (m : List ℕ) (i : ℕ) → i < n → getD (part n n (head-of n m)) i 0 ≡ getD m (n + i) 0
 unfolding part head-of
-head-read n m i h = getD-take n (drop n (take (n + n) m)) i 0 h ∙ getD-drop n (take (n + n) m) i 0 ∙ getD-take (n + n) m (n + i) 0 (omega arith)
+head-read n m i h = part-read n n i (head-of n m) h ∙ getD-take (n + n) m (n + i) 0 (omega arith)
 
 pub low-read : (n : ℕ) (m : List ℕ) (i : ℕ) → i < n → getD (part 0 n (tail-of n m)) i 0 ≡ getD m (n + n + i) 0
 unfolding part tail-of
-low-read n m i h = getD-take n (take (n + n) (drop (n + n) m)) i 0 h ∙ getD-take (n + n) (drop (n + n) m) i 0 (omega arith) ∙ getD-drop (n + n) m i 0
+low-read n m i h = getD-take n (tail-of n m) i 0 h ∙ part-read (n + n) (n + n) i m (omega arith)
 
 pub high-read : (n : ℕ) (m : List ℕ) (i : ℕ) → i < n → getD (part n n (tail-of n m)) i 0 ≡ getD m (n + n + n + i) 0
-unfolding part tail-of
+unfolding tail-of
 high-read n m i h =
     let q : n + n + (n + i) ≡ n + n + n + i = omega arith in
-    getD-take n (drop n (take (n + n) (drop (n + n) m))) i 0 h ∙ getD-drop n (take (n + n) (drop (n + n) m)) i 0
-    ∙ getD-take (n + n) (drop (n + n) m) (n + i) 0 (omega arith) ∙ getD-drop (n + n) m (n + i) 0 ∙ ap (λ (j : ℕ). getD m j 0) q
+    part-read n n i (tail-of n m) h ∙ part-read (n + n) (n + n) (n + i) m (omega arith) ∙ ap (λ (j : ℕ). getD m j 0) q
 
 -- ---- the steps
 

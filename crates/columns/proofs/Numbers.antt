@@ -7,7 +7,7 @@ use mathlib.Core.List.{List}
 use mathlib.Core.Option.{some}
 use native.Mathlib.Omega.{arith}
 use lib.ListN.{length, take, drop, getD, set, length-set}
-use lib.Seq.{length-take-le, getD-take, getD-drop, getD-set-same, getD-set-other}
+use lib.Seq.{length-take-le, getD-set-same, getD-set-other}
 use lib.Dec.{ltb, leb}
 use borrow.Author.Tests.{lt-leb, le-leb, leb-true, eq-eqb, eqb-true}
 use borrow.Rule.Slice.PartMut.{putMid}
@@ -25,7 +25,7 @@ use Rattle.peer.specs.declared.Number.the-variants.{Absent, Is}
 use Rattle.peer.proofs.Maps.{itself, Any, all-any, map-itself}
 use Rattle.scan.specs.Words.{unused}
 use Rattle.util.specs.Section.{part, Filled}
-use Rattle.util.proofs.Parts.{part-long, part-put, part-before, part-set-after, part-set-in, put-long, first-put-long, after-first}
+use Rattle.util.proofs.Parts.{part-long, part-read, part-put, part-before, part-set-after, part-set-in, put-long, first-put-long, after-first}
 use Rattle.columns.specs.Columns.{numbers-at, ValidNumbers, HoldsNumbers, valid-numbers}
 
 -- ---- a map of numbers
@@ -119,10 +119,9 @@ module _ (n : ℕ) (m : List ℕ) (v : ValidNumbers n m) where
     number-has = entries-has 0 n itself Any _ _ _ _ (number-entries n m v) p i at-key
 
     pub number-found : i < getD m (n + n) 0 → number-in (Is (getD m (n + i) 0)) ≡ lookup p (numbers-at n m)
-    unfolding number-in part
+    unfolding number-in
     number-found h =
-        let b : getD (part n n m) i 0 ≡ getD m (n + i) 0 = getD-take n (drop n m) i 0 (omega (arith, v .fits)) ∙ getD-drop n m i 0 in
-        ap some (sym b) ∙ sym (entries-found 0 n itself Any _ _ _ _ (number-entries n m v) p i 0 at-key h)
+        ap some (sym (part-read n n i m (omega (arith, v .fits)))) ∙ sym (entries-found 0 n itself Any _ _ _ _ (number-entries n m v) p i 0 at-key h)
 
     pub number-none : getD m (n + n) 0 ≤ i → number-in Absent ≡ lookup p (numbers-at n m)
     unfolding number-in

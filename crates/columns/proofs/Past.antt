@@ -16,7 +16,7 @@ use Rattle.lists.proofs.Bytes.{length-le}
 use Rattle.lists.proofs.Choice.{split}
 use Rattle.peer.specs.Held.{zero-byte}
 use Rattle.peer.specs.Maps.{valid-entry}
-use Rattle.columns.specs.Columns.{word-bytes, row}
+use Rattle.columns.specs.Columns.{words-end, word-bytes, row}
 
 every-append : (xs ys : List ℕ) → every zero-byte (xs ++ ys) ≡ (every zero-byte xs && every zero-byte ys)
 unfolding every
@@ -75,14 +75,14 @@ module _ (l w x : ℕ) where
   unfolding valid-entry
   row-no h = rw (lt-leb _ _ h)
 
-  pub row-short : (p : ℕ) → p ≡ 256 ^ l → l < 8 → w < 18446744073709551616 → x < 18446744073709551616 → (ltb w p && eqb x 0) ≡ valid-entry (row l w x)
+  pub row-short : (p : ℕ) → p ≡ 256 ^ l → l < 8 → w < words-end → x < words-end → (ltb w p && eqb x 0) ≡ valid-entry (row l w x)
   unfolding word-bytes
   row-short p e h a b =
       sym (tested (omega arith) ∙ ap (every zero-byte) (drop-append-le l (le 8 w) (le 8 x) (omega (arith, length-le 8 w)))
       ∙ every-append (drop l (le 8 w)) (le 8 x) ∙ (λ i. past-word 8 l w (omega arith) a i && zero-word 8 x b i)
       ∙ ap (λ (q : ℕ). ltb w q && eqb x 0) (sym e))
 
-  pub row-long : (p : ℕ) → p ≡ 256 ^ (l - 8) → 8 ≤ l → l < 16 → x < 18446744073709551616 → ltb x p ≡ valid-entry (row l w x)
+  pub row-long : (p : ℕ) → p ≡ 256 ^ (l - 8) → 8 ≤ l → l < 16 → x < words-end → ltb x p ≡ valid-entry (row l w x)
   unfolding word-bytes
   row-long p e g h b =
       let k : l ≡ length (le 8 w) + (l - 8) = omega (arith, length-le 8 w) in

@@ -20,7 +20,7 @@ use Rattle.peer.proofs.Maps.{itself, Any, map-itself, length-entry}
 use Rattle.util.specs.Section.{part, HoldsSet}
 use Rattle.util.proofs.Parts.{part-long}
 use Rattle.util.proofs.Sets.{set-as}
-use Rattle.columns.specs.Columns.{Two, row, rows, head-of, tail-of, count-of, numbers-at, ValidNumbers, HoldsNumbers, numbers-section, data-map-at, ValidDataWords, HoldsDataWords, low-word, high-word, data-section}
+use Rattle.columns.specs.Columns.{words-end, Two, row, rows, head-of, tail-of, count-of, numbers-at, ValidNumbers, HoldsNumbers, numbers-section, data-map-at, ValidDataWords, HoldsDataWords, low-word, high-word, data-section}
 use Rattle.columns.proofs.Numbers.{Stored, number-entries, number-held, number-keys}
 use Rattle.columns.proofs.Data.{filled-to, head-long, tail-long, lens-long, lows-long, highs-long, taken-rows, lows-like, highs-like, data-entries, data-held}
 use Rattle.columns.proofs.Words.{word-low, word-high}
@@ -119,14 +119,14 @@ keys-few n m k v h = omega (arith, part-long 0 n m (omega (arith, v .long)))
 
 -- every word fits 64 bits, which the code knows of each word that it is lent
 abbrev pub Small : List ℕ → Type 0
-Small m = (i : ℕ) → getD m i 0 < 18446744073709551616
+Small m = (i : ℕ) → getD m i 0 < words-end
 
 small-part : (a k : ℕ) (m : List ℕ) → Small m → Small (part a k m)
 unfolding part
-small-part a k m f i = rw (slice-part a k m) (slice-each (λ x. x < 18446744073709551616) 0 a (a + k) m (omega arith) f i)
+small-part a k m f i = rw (slice-part a k m) (slice-each (λ x. x < words-end) 0 a (a + k) m (omega arith) f i)
 
 small-taken : (k : ℕ) (m : List ℕ) → Small m → Small (take k m)
-small-taken k m f i = slice-each (λ x. x < 18446744073709551616) 0 0 k m (omega arith) f i
+small-taken k m f i = slice-each (λ x. x < words-end) 0 0 k m (omega arith) f i
 
 -- the columns of the bytes of valid entries
 lens-back : (ls ws xs : List ℕ) → length ws ≡ length ls → length xs ≡ length ls → All ValidEntry (rows ls ws xs) → map length (map entry-bytes (rows ls ws xs)) ≡ ls
@@ -136,7 +136,7 @@ lens-back (l ∷ ls) [] xs p q a = absurd (omega arith)
 lens-back (l ∷ ls) (w ∷ ws) [] p q a = absurd (omega arith)
 lens-back (l ∷ ls) (w ∷ ws) (x ∷ xs) p q a = λ i. length-entry (row l w x) (a .0) i ∷ lens-back ls ws xs (omega arith) (omega arith) (a .1) i
 
-module _ (l w x : ℕ) (v : ValidEntry (row l w x)) (f : w < 18446744073709551616) (g : x < 18446744073709551616) where
+module _ (l w x : ℕ) (v : ValidEntry (row l w x)) (f : w < words-end) (g : x < words-end) where
   low-back : low-word (entry-bytes (row l w x)) ≡ w
   unfolding low-word
   low-back = ap (λ (b : List ℕ). read-le 8 b 0) (sym (v .packed)) ∙ word-low w x f g

@@ -10,7 +10,7 @@ use lib.ListN.{length, getD, take, drop, length-append, length-drop, take-append
 use lib.Seq.{drop-cons, take-all, getD-append-seam, append-snoc}
 use Rattle.lists.specs.Bytes.{le, read-le}
 use Rattle.lists.proofs.Bytes.{length-le}
-use Rattle.columns.specs.Columns.{word-bytes}
+use Rattle.columns.specs.Columns.{words-end, word-bytes}
 
 -- ---- eight bytes read
 
@@ -87,7 +87,7 @@ read-word (suc k) x p r i e h =
     ∙ read-word k (x / 256) (p ++ (x % 256 ∷ [])) r (suc i) (omega (arith, length-append p (x % 256 ∷ []))) (div-lt-iff-lt-mul (omega arith) .1 (rw pow-suc at h)) in
     rw (a, b) (mod-add-div x 256)
 
-module _ (w x : ℕ) (h : w < 18446744073709551616) (k : x < 18446744073709551616) where
+module _ (w x : ℕ) (h : w < words-end) (k : x < words-end) where
   pub word-low : read-le 8 (word-bytes w x) 0 ≡ w
   unfolding word-bytes
   word-low = read-word 8 w [] (le 8 x) 0 refl h

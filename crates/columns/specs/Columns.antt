@@ -53,6 +53,10 @@ pub record Two (n : ℕ) (r xs ys : List ℕ) : Type 0 where
   pub first : part 0 n r ≡ pad 0 n xs
   pub second : part n n r ≡ pad 0 n ys
 
+-- words have 64 bits
+abbrev pub words-end : ℕ
+words-end = 18446744073709551616
+
 -- 16 bytes in two words
 unfoldable pub word-bytes : ℕ → ℕ → List ℕ
 word-bytes w x = le 8 w ++ le 8 x

@@ -17,7 +17,7 @@ ghost use Rattle.peer.specs.Held.{data-in, ValidData, HoldsData};
 ghost use Rattle.peer.specs.Maps.{number-in, valid-entry};
 ghost use Rattle.scan.specs.Words.{unused};
 ghost use Rattle.util.specs.Section.{part, Filled, items-at, ValidSet, HoldsSet};
-ghost use Rattle.columns.specs.Columns.{numbers-at, ValidNumbers, HoldsNumbers, valid-numbers, Two, word-bytes, row, entries-at, data-map-at, ValidDataWords, HoldsDataWords, valid-data-words};
+ghost use Rattle.columns.specs.Columns.{numbers-at, ValidNumbers, HoldsNumbers, valid-numbers, Two, word-bytes, row, entries-at, data-map-at, ValidDataWords, HoldsDataWords, valid-data-words, words-end};
 
 // ---- two columns of cap places
 
@@ -72,7 +72,7 @@ fn wide(x: u8) -> u64
 // The eight bytes from `at` on, lowest first.
 pub fn word_at(b: [u8; PeerData::BYTES], at: usize) -> u64
     requires { ⌜ at ≤ 8 ⌝ }
-    ensures { λ r. ⌜ (le 8 r ≡ take 8 (drop at b)) × (r < 18446744073709551616) ⌝ }
+    ensures { λ r. ⌜ (le 8 r ≡ take 8 (drop at b)) × (r < words-end) ⌝ }
 {
     let h = wide(b[at + 7]);
     let g = wide(b[at + 6]) + 256 * h;

@@ -11,7 +11,7 @@ use lib.Dec.{leb, ltb}
 use Rattle.lists.specs.Tests.{every}
 use Rattle.lists.proofs.Choice.{split, and-left, and-right}
 use Rattle.peer.specs.Data.{Node}
-use Rattle.record.specs.Format.{Rec, peer-length, old-peer-length, size-by}
+use Rattle.record.specs.Format.{Rec, peer-length, old-peer-length, size-by, four-bytes-end}
 use Rattle.record.specs.Read.{is-message, is-timer, is-data, kind-ok, flags-ok, count-ok, peer-ok, fields-ok, header-ok}
 use Rattle.record.specs.InForm.{header-in-by, NodeInForm, NodesInFormBy, InFormBy}
 use Rattle.record.proofs.Forth.{size-most-by}
@@ -88,7 +88,7 @@ over x n = split (leb n x) (λ y. le-ltb x n (leb-true n x y) ∙ sym (ap not y)
 all-over : (ns : List Node) → ids-fit old-peer-length ns ≡ not (large-id ns)
 unfolding ids-fit every large-id
 all-over [] = refl
-all-over (n ∷ ns) = rw (over (n .id) (2 ^ 32), all-over ns) (neither (leb (2 ^ 32) (n .id)) (large-id ns))
+all-over (n ∷ ns) = rw (over (n .id) four-bytes-end, all-over ns) (neither (leb four-bytes-end (n .id)) (large-id ns))
   where
     neither : (a b : Bool) → (not a && not b) ≡ not (a || b)
     neither true b = refl
@@ -103,5 +103,5 @@ none-of false false false = refl
 pub old-form-of : (e : Rec) → InFormBy peer-length e → has-form old-peer-length e ≡ not (large e)
 unfolding has-form large size-by
 old-form-of e f =
-    rw (over (e .peer) (2 ^ 32), over (e .second) (2 ^ 32), all-over (e .nodes), lt-ltb (size-by old-peer-length e) 65536 (omega (arith, size-most-by peer-length (omega arith) e f)))
-    (none-of (leb (2 ^ 32) (e .peer)) (leb (2 ^ 32) (e .second)) (large-id (e .nodes)))
+    rw (over (e .peer) four-bytes-end, over (e .second) four-bytes-end, all-over (e .nodes), lt-ltb (size-by old-peer-length e) 65536 (omega (arith, size-most-by peer-length (omega arith) e f)))
+    (none-of (leb four-bytes-end (e .peer)) (leb four-bytes-end (e .second)) (large-id (e .nodes)))

@@ -19,7 +19,7 @@ use Rattle.lists.proofs.Choice.{by-choice, and-right}
 use Rattle.lists.proofs.Numbers.{Bytes, read-below}
 use Rattle.lists.proofs.Bytes.{then, overwrite-is}
 use Rattle.peer.specs.Data.{bytes-of}
-use Rattle.record.specs.Format.{Rec, header-length-by, place-by, offset, present, entry-by, entries-by, datas, size-by, header-by, encode-by}
+use Rattle.record.specs.Format.{Rec, header-length-by, place-by, offset, entry-by, entries-by, datas, size-by, header-by, encode-by}
 use Rattle.record.specs.Read.{header-of-by, entry-at-by, well-formed-by, data-at, node-at-by, nodes-of-by, rec-of-by}
 use Rattle.record.specs.declared.Header.{Header}
 use Rattle.record.specs.declared.Entry.{Entry}

@@ -10,7 +10,7 @@ use Rattle.lists.specs.Array.{pad}
 use Rattle.lists.specs.Bytes.{le, overwrite}
 use Rattle.lists.specs.Tests.{every}
 use Rattle.peer.specs.Data.{Node}
-use Rattle.record.specs.Format.{Rec, header-length-by, size-by, encode-by}
+use Rattle.record.specs.Format.{Rec, header-length-by, size-by, encode-by, four-bytes-end}
 use Rattle.record.specs.Read.{well-formed-by, rec-of-by}
 use Rattle.record.specs.declared.Header.{Header}
 use Rattle.record.specs.declared.Entry.{Entry}
@@ -33,7 +33,7 @@ conversion-code v w b room =
     (choose (not (has-form w (rec-of-by v b))) 19
     (choose (ltb room (size-by w (rec-of-by v b))) 9 0))))
 
--- an conversion-code, the bytes written, and the whole output
+-- the answer, the bytes written, and the whole output
 pub record Conversion : Type 0 where
   pub code : ℕ
   pub written : ℕ
@@ -70,10 +70,10 @@ bytes-in o = take (o .written) (o .output)
 -- "a number .. too large" for the old form: a peer, the second field or a node's id
 unfoldable pub large-id : List Node → Bool
 large-id [] = false
-large-id (n ∷ ns) = leb (2 ^ 32) (n .id) || large-id ns
+large-id (n ∷ ns) = leb four-bytes-end (n .id) || large-id ns
 
 unfoldable pub large : Rec → Bool
-large e = leb (2 ^ 32) (e .peer) || (leb (2 ^ 32) (e .second) || large-id (e .nodes))
+large e = leb four-bytes-end (e .peer) || (leb four-bytes-end (e .second) || large-id (e .nodes))
 
 -- ---- a header and an entry by their fields
 

@@ -5,7 +5,7 @@ use record::Refusal;
 ghost use mathlib.Core.Path.{_≡_};
 ghost use mathlib.Core.Bool.{true};
 ghost use mathlib.Core.List.{[]};
-ghost use Prim.Native.Nat.{_+_, _*_, _-_, _^_, _≤_, _<_};
+ghost use Prim.Native.Nat.{_+_, _-_, _^_, _≤_, _<_};
 ghost use lib.ListN.{length, drop};
 ghost use lib.Dec.{ltb};
 ghost use Rattle.lists.specs.Array.{pad};
@@ -196,7 +196,7 @@ fn fits(x: u64, w: usize) -> bool
     ensures { λ r. ⌜ r ≡ ltb x (256 ^ w) ⌝ }
 {
     if w == record::OLD_PEER {
-        return x < 4294967296;
+        return x < record::FOUR_BYTES_END;
     }
     true
 }

@@ -32,9 +32,13 @@ sizes-in s h = (length (neighbors-in (after-in h s .words)), spare-addresses-in 
 unfoldable pub plus : Ends → Ends → Ends
 plus c d = record { neither = c .neither + d .neither; passive = c .passive + d .passive; active = c .active + d .active; both = c .both + d .both }
 
--- n more histories can be counted in 32 bits
+-- the last value of a count, which has 32 bits
+abbrev pub top-ends : ℕ
+top-ends = 4294967295
+
+-- n more histories can be counted
 pub record CountRoom (c : Ends) (n : ℕ) : Type 0 where
-  pub neither : c .neither + n ≤ 4294967295
-  pub passive : c .passive + n ≤ 4294967295
-  pub active : c .active + n ≤ 4294967295
-  pub both : c .both + n ≤ 4294967295
+  pub neither : c .neither + n ≤ top-ends
+  pub passive : c .passive + n ≤ top-ends
+  pub active : c .active + n ≤ top-ends
+  pub both : c .both + n ≤ top-ends

@@ -6,7 +6,6 @@ use peer::PeerInfo;
 use record::Flags;
 use record::Kind;
 use record::Message;
-use timing::Config;
 use timing::Timing;
 use writer::Fields;
 use writer::Written;

@@ -15,7 +15,7 @@ use Rattle.lists.specs.Lists.{choose}
 use Rattle.lists.specs.Maps.{keys, values}
 use Rattle.lists.proofs.Choice.{choose-yes, choose-no, and-right}
 use Rattle.util.specs.Section.{section}
-use Rattle.columns.specs.Columns.{word-bytes, numbers-section, low-word, high-word, data-section}
+use Rattle.columns.specs.Columns.{words-end, word-bytes, numbers-section, low-word, high-word, data-section}
 use Rattle.columns.proofs.Data.{bytes-back}
 use Rattle.peer.specs.declared.PeerData.{PeerData}
 use Rattle.peer.specs.declared.MaybeData.{MaybeData}
@@ -29,7 +29,6 @@ use Rattle.protocol.specs.Handle.{new-station, zero-config, zero-station}
 use Rattle.state.specs.Layout as layout
 use Rattle.state.proofs.Memory.{byte-fits, byte-back}
 use Rattle.rules.specs.Pack.{present-word, kind-word, requests-word, front, pack}
-use Rattle.rules.specs.Ok.{words-end}
 use Rattle.rules.proofs.Back.{present-back, len-back, low-back, high-back}
 use Rattle.hyparview.specs.Made.{lent, with-own, with-views, with-walks, with-times, pack-made, made, Own}
 

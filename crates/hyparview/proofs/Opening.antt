@@ -12,13 +12,13 @@ use borrow.Author.Tests.{ne-eqb, leb-true, ltb-false}
 use Rattle.lists.specs.Maps.{retain}
 use Rattle.lists.proofs.Choice.{by-choice, choose-yes, choose-no, split, and-left, and-right, and-false, clash}
 use Rattle.util.specs.Section.{items-at, HoldsSet}
-use Rattle.columns.specs.Columns.{HoldsDataWords}
+use Rattle.columns.specs.Columns.{words-end, HoldsDataWords}
 use Rattle.record.specs.declared.Header.{Header}
 use Rattle.record.specs.declared.Event.{Event}
 use Rattle.record.specs.declared.Event.the-variants.{Refused, Record}
 use Rattle.record.specs.Format.{Rec}
 use Rattle.record.specs.Read as R
-use Rattle.record.specs.Answers.{EventIs, event-answer, event-in}
+use Rattle.record.specs.Answers.{EventIs, answer-to, event-answer, event-in}
 use Rattle.protocol.specs.Budgets.{arriving}
 use Rattle.protocol.specs.Station.{peers-end}
 use Rattle.protocol.specs.Run.{Run, on}
@@ -36,7 +36,7 @@ use Rattle.state.specs.Work.{Held, work-of, run, Changes, Fine, Does}
 use Rattle.state.proofs.Bridge.{then, seq}
 use Rattle.step_events.specs.Free.{KnownJoins}
 use Rattle.step_messages.specs.Between.{Between}
-use Rattle.rules.specs.Ok.{words-end, packed-ok, state-ok}
+use Rattle.rules.specs.Ok.{packed-ok, state-ok}
 use Rattle.rules.proofs.Back.{ok-back, packed-back}
 use Rattle.rules.proofs.Packed.{ok-state}
 use Rattle.hyparview.specs.Begun.{ReadAs, Opens}
@@ -175,7 +175,7 @@ is-record (Refused c) = 0
 is-record (Record h) = 1
 
 read-of : (b : List ℕ) (h : Header) → R.event (R.rec-of b) ≡ R.read-event b → event-answer b ≡ Record h → ReadAs b h
-unfolding event-answer R.is-event R.header-of-by header-in is-record
+unfolding event-answer answer-to R.read-event R.is-event R.header-of-by header-in is-record
 read-of b h reads =
     by-choice X _ (λ z q. absurd (no-refusal 3 q))
     (λ z. by-choice X (ltb 32 (R.header-of b .nodes)) (λ y q. absurd (no-refusal 4 q))
@@ -188,8 +188,8 @@ read-of b h reads =
     })
     (λ f q. absurd (no-refusal 3 q))))
   where
-    X : Event → Type 0
-    X x = x ≡ Record h → ReadAs b h
+    X : R.Reading → Type 0
+    X x = answer-to b x ≡ Record h → ReadAs b h
 
     no-refusal : (c : ℕ) → Refused c ≡ Record h → ⊥
     no-refusal c q = let z : _≡_ {A = ℕ} 0 1 = ap is-record q in omega (arith, z)

@@ -102,7 +102,7 @@ unfoldable pub sent-after : List Rec → ℕ → ℕ
 sent-after [] n = n
 sent-after (e ∷ es) n = choose (eqb (e .kind) 0) (sent-after es n + 1) (sent-after es n)
 
--- a record whose bytes say what it is: its length fits two bytes, and a notice's peer four
+-- a record whose bytes say what it is: its length fits two bytes, and a notice's peer eight
 pub record Sound (e : Rec) : Type 0 where
   pub small : size e < 65536
   pub narrow : 9 ≤ e .kind → e .kind ≤ 10 → e .peer < peers-end

@@ -1,18 +1,18 @@
 -- Laws of the readers' definitions.
 -- Assumes nothing.
-use Prim.Native.Nat.{ℕ, zero, suc, _+_, _≤_, _<_}
+use Prim.Native.Nat.{ℕ, zero, suc, _+_, _*_, _^_, _≤_, _<_}
 use mathlib.Core.Path.{_≡_, refl, sym, ap, _∙_}
 use mathlib.Core.Bool.{Bool, true, false, _&&_}
 use mathlib.Core.List.{List}
 use native.Mathlib.Omega.{arith}
-use borrow.Author.Tests.{ne-eqb, lt-ltb, le-ltb, leb-true, leb-false}
+use borrow.Author.Tests.{ne-eqb, eqb-true, eqb-false, lt-ltb, le-ltb, leb-true, leb-false}
 use lib.ListN.{length, getD}
-use lib.Dec.{leb, ltb}
+use lib.Dec.{eqb, leb, ltb}
 use Rattle.lists.specs.Lists.{choose}
 use Rattle.lists.proofs.Choice.{choose-yes, choose-no, split, clash, and-left}
-use Rattle.record.specs.Format.{IsForm, peer-length, header-length, header-length-by}
-use Rattle.record.specs.Read.{header-of, entry-at-by, entry-ok, entries-ok-by, well-formed, well-formed-by, rec-of, is-event, refused, event, read-event}
-use Rattle.record.specs.Answers.{answer, event-answer, event-in, EventIs}
+use Rattle.record.specs.Format.{IsForm, peer-length, old-peer-length, header-length, header-length-by, node-length-by}
+use Rattle.record.specs.Read.{header-of, entry-at-by, entry-ok, entries-ok-by, well-formed, well-formed-by, rec-of, is-event, Reading, refused, event, read-event}
+use Rattle.record.specs.Answers.{answer, answer-to, event-answer, event-in, EventIs}
 pub use Rattle.record.specs.Answers.{Found}
 use Rattle.record.specs.declared.Header.{Header}
 use Rattle.record.specs.declared.Answer.the-variants as Answers
@@ -25,7 +25,23 @@ and-none false = refl
 
 -- the two forms
 pub new-form : IsForm peer-length
-new-form = record { most = omega arith; other = λ n. refl }
+new-form = record { other = λ n. refl }
+
+pub form-most : (w : ℕ) → IsForm w → w ≤ peer-length
+form-most w f =
+    split (eqb w old-peer-length)
+    (λ e. omega (arith, eqb-true w old-peer-length e))
+    (λ n. omega (arith, f .other (eqb-false w old-peer-length n)))
+
+module _ (w : ℕ) (f : IsForm w) where
+  pub twice-fits : 2 * w < 2 ^ 64
+  twice-fits = omega (arith, form-most w f)
+
+  pub header-fits : header-length-by w < 2 ^ 64
+  header-fits = omega (arith, form-most w f)
+
+  pub node-fits : node-length-by w < 2 ^ 64
+  node-fits = omega (arith, form-most w f)
 
 module _ (w : ℕ) where
   -- data that would start past the end are no data of the record
@@ -66,9 +82,9 @@ pub record FoundEvent (b : List ℕ) (h : Header) : Type 0 where
 
 -- the answer by its three tests
 found-by : (b : List ℕ) (h : Header) (s t w e : Bool)
-    → choose s (Events.Refused 3) (choose t (Events.Refused 4) (choose (w && e) (Events.Record (header-of b)) (Events.Refused 3))) ≡ Events.Record h
+    → answer-to b (choose s (refused 3) (choose t (refused 4) (choose (w && e) (event (rec-of b)) (refused 3)))) ≡ Events.Record h
     → ((w ≡ true) × ((e ≡ true) × (h ≡ header-of b)))
-unfolding choose
+unfolding choose answer-to
 found-by b h true t w e a = absurd (let z : _≡_ {A = ℕ} 0 1 = cc in omega arith)
 found-by b h false true w e a = absurd (let z : _≡_ {A = ℕ} 0 1 = cc in omega arith)
 found-by b h false false true true a = (refl, (refl, cc))
@@ -76,16 +92,15 @@ found-by b h false false true false a = absurd (let z : _≡_ {A = ℕ} 0 1 = cc
 found-by b h false false false e a = absurd (let z : _≡_ {A = ℕ} 0 1 = cc in omega arith)
 
 pub event-found : (b : List ℕ) (h : Header) → event-answer b ≡ Events.Record h → FoundEvent b h
-unfolding event-answer
+unfolding event-answer read-event
 event-found b h a =
     let f = found-by b h (ltb (length b) header-length) (ltb 32 (getD b 3 0)) (well-formed b) (is-event (header-of b)) a in
     record { well = f .0; is-one = f .1 .0; header = f .1 .1 }
 
 module _ (b : List ℕ) where
   events : (s t w : Bool)
-      → event-in b (choose s (Events.Refused 3) (choose t (Events.Refused 4) (choose w (Events.Record (header-of b)) (Events.Refused 3))))
-      ≡ choose s (refused 3) (choose t (refused 4) (choose w (event (rec-of b)) (refused 3)))
-  unfolding choose event-in
+      → let x : Reading = choose s (refused 3) (choose t (refused 4) (choose w (event (rec-of b)) (refused 3))) in event-in b (answer-to b x) ≡ x
+  unfolding choose answer-to event-in
   events true t w = refl
   events false true w = refl
   events false false true = refl
@@ -100,12 +115,12 @@ module _ (b : List ℕ) where
   event-is r e = record { is = e; reads = ap (event-in b) e ∙ event-reads }
 
   pub event-short : length b < header-length → EventIs b (Events.Refused 3)
-  unfolding event-answer choose
+  unfolding event-answer answer-to read-event choose
   event-short h = event-is (Events.Refused 3) (rw (lt-ltb _ _ h))
 
   module _ (l : header-length ≤ length b) where
     pub event-crowded : 32 < getD b 3 0 → EventIs b (Events.Refused 4)
-    unfolding event-answer choose
+    unfolding event-answer answer-to read-event choose
     event-crowded h = event-is (Events.Refused 4) (rw (le-ltb _ _ l, lt-ltb _ _ h))
 
     module _ (few : getD b 3 0 ≤ 32) (h : Header) (w e : Bool) (p : w ≡ well-formed b) (q : h ≡ header-of b) (r : e ≡ is-event h) where
@@ -113,9 +128,9 @@ module _ (b : List ℕ) where
       test = rw (p, r, q)
 
       pub event-record : (w && e) ≡ true → EventIs b (Events.Record h)
-      unfolding event-answer choose
+      unfolding event-answer answer-to read-event choose
       event-record t = event-is (Events.Record h) (rw (q, le-ltb _ _ l, le-ltb _ _ few, ← test, t))
 
       pub event-refused : (w && e) ≡ false → EventIs b (Events.Refused 3)
-      unfolding event-answer choose
+      unfolding event-answer answer-to read-event choose
       event-refused t = event-is (Events.Refused 3) (rw (le-ltb _ _ l, le-ltb _ _ few, ← test, t))

@@ -2,16 +2,13 @@
 -- Assumes nothing.
 use Prim.Native.Nat.{ℕ}
 use mathlib.Core.Path.{_≡_}
-use mathlib.Core.Bool.{true, _&&_}
+use mathlib.Core.Bool.{true}
 use mathlib.Core.List.{List}
-use lib.ListN.{length, getD}
-use lib.Dec.{ltb}
 use Rattle.lists.specs.Lists.{choose}
 use Rattle.peer.specs.Data.{Node}
 use Rattle.peer.specs.Held.{ValidData, node-in}
 use Rattle.peer.specs.declared.PeerInfo.{PeerInfo}
-use Rattle.record.specs.Format.{header-length}
-use Rattle.record.specs.Read.{header-of, well-formed, rec-of, is-event, Reading, refused, event, read-event}
+use Rattle.record.specs.Read.{header-of, well-formed, rec-of, Reading, refused, event, read-event}
 use Rattle.record.specs.declared.Header.{Header}
 use Rattle.record.specs.declared.Answer.{Answer}
 use Rattle.record.specs.declared.Answer.the-variants as Answers
@@ -27,12 +24,13 @@ pub record Found (b : List ℕ) (h : Header) : Type 0 where
   pub well : well-formed b ≡ true
   pub header : h ≡ header-of b
 
--- the code's answer to an event
+-- the code's answer to bytes that read so: the code of a refusal, or their header
+unfoldable pub answer-to : List ℕ → Reading → Event
+answer-to b (refused k) = Events.Refused k
+answer-to b (event e) = Events.Record (header-of b)
+
 unfoldable pub event-answer : List ℕ → Event
-event-answer b =
-    choose (ltb (length b) header-length) (Events.Refused 3)
-    (choose (ltb 32 (getD b 3 0)) (Events.Refused 4)
-    (choose (well-formed b && is-event (header-of b)) (Events.Record (header-of b)) (Events.Refused 3)))
+event-answer b = answer-to b (read-event b)
 
 -- what an answer about the bytes b stands for: the code of a refusal, or the record that b says
 unfoldable pub event-in : List ℕ → Event → Reading

@@ -1,7 +1,7 @@
 -- Document 01, "Records": what a record is, and its bytes: a header, an entry for each node, then the nodes' data without gaps. A peer has w bytes:
 -- 8 since document 02, S-8, which makes headers of 32 bytes and entries of 12; 4 in the old form, with headers of 24 and entries of 8.
 -- Assumes nothing.
-use Prim.Native.Nat.{ℕ, _+_, _*_, _≤_}
+use Prim.Native.Nat.{ℕ, _+_, _*_}
 use mathlib.Core.Path.{_≡_}
 use mathlib.Core.List.{List, [], _∷_, _++_}
 use mathlib.Core.Option.{none, some}
@@ -16,9 +16,12 @@ peer-length = 8
 abbrev pub old-peer-length : ℕ
 old-peer-length = 4
 
+-- the first number that has more than four bytes
+abbrev pub four-bytes-end : ℕ
+four-bytes-end = 4294967296
+
 -- w is the bytes of a peer in one of the two forms
 pub record IsForm (w : ℕ) : Type 0 where
-  pub most : w ≤ peer-length
   pub other : (w ≡ old-peer-length → ⊥) → w ≡ peer-length
 
 -- the bytes of a header and of a node entry

@@ -19,6 +19,9 @@ pub const PEER: usize = 8;
 
 pub const OLD_PEER: usize = 4;
 
+// The first number that has more than four bytes.
+pub const FOUR_BYTES_END: u64 = 4294967296;
+
 // The bytes of a header and of a node entry.
 pub const HEADER: usize = 32;
 
@@ -167,7 +170,7 @@ fn wide(x: u8) -> u32
     x as u32
 }
 
-fn read_u16(b: &[u8], at: usize) -> u16
+pub fn read_u16(b: &[u8], at: usize) -> u16
     requires { ⌜ at + 2 ≤ length (now b) ⌝ }
     ensures { λ r. ⌜ r ≡ read-le 2 (now (b .entry)) at ⌝ }
 {
@@ -187,13 +190,13 @@ pub fn read_u32(b: &[u8], at: usize) -> u32
     b0 + 256 * (b1 + 256 * (b2 + 256 * b3))
 }
 
-fn read_u64(b: &[u8], at: usize) -> u64
+pub fn read_u64(b: &[u8], at: usize) -> u64
     requires { ⌜ at + 8 ≤ length (now b) ⌝ }
     ensures { λ r. ⌜ r ≡ read-le 8 (now (b .entry)) at ⌝ }
 {
     let low = read_u32(b, at) as u64;
     let high = read_u32(b, at + 4) as u64;
-    low + 4294967296 * high
+    low + FOUR_BYTES_END * high
 }
 
 // A peer's number, where it has w bytes.

@@ -16,7 +16,7 @@ use Rattle.lists.proofs.Choice.{split, or-true, and-left, and-right}
 use Rattle.lists.proofs.Slices.{slice-part, slice-each}
 use Rattle.util.specs.Section.{part}
 use Rattle.util.proofs.Sets.{set-words}
-use Rattle.columns.specs.Columns.{word-bytes, low-word, high-word}
+use Rattle.columns.specs.Columns.{words-end, word-bytes, low-word, high-word}
 use Rattle.columns.proofs.Words.{word-low, word-high}
 use Rattle.columns.proofs.Sections.{Small, numbers-words, data-words}
 use Rattle.peer.specs.declared.PeerData.{PeerData}
@@ -27,7 +27,7 @@ use Rattle.state.specs.Layout as layout
 use Rattle.state.specs.Unpack.{own-at, settings-at, limit-at, limit-formed, refill-in, station-of, unpack, PackedState}
 use Rattle.state.proofs.Memory.{two-limit}
 use Rattle.rules.specs.Pack.{present-word, kind-word, requests-word, front, pack}
-use Rattle.rules.specs.Ok.{words-end, packed-ok}
+use Rattle.rules.specs.Ok.{packed-ok}
 use Rattle.rules.proofs.Under.{under-of}
 use Rattle.rules.proofs.Widths.{under-at}
 use Rattle.rules.proofs.Shape.{Shape, ok-shape, packed-shape}

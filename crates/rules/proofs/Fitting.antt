@@ -1,6 +1,6 @@
 -- A station that keeps the rules is packed into words that pass the test, and comes out of them again.
 -- Assumes nothing.
-use Prim.Native.Nat.{ℕ, _+_, _≤_, _<_, zero-le}
+use Prim.Native.Nat.{ℕ, _≤_, _<_, zero-le}
 use mathlib.Core.Path.{_≡_, refl, sym, ap, _∙_, subst}
 use mathlib.Core.Bool.{Bool, true, false, _&&_}
 use mathlib.Core.List.{List, [], _∷_, _++_, map}
@@ -20,7 +20,7 @@ use Rattle.lists.proofs.Tests.{both-true, and-no, rising-true}
 use Rattle.lists.proofs.Zip.{length-values}
 use Rattle.util.specs.Section.{items-at, ValidSet, section}
 use Rattle.util.proofs.Sets.{section-holds}
-use Rattle.columns.specs.Columns.{word-bytes, numbers-at, ValidNumbers, numbers-section, low-word, high-word, data-map-at, ValidDataWords, data-section}
+use Rattle.columns.specs.Columns.{words-end, word-bytes, numbers-at, ValidNumbers, numbers-section, low-word, high-word, data-map-at, ValidDataWords, data-section}
 use Rattle.peer.specs.declared.PeerData.{PeerData}
 use Rattle.peer.specs.Data.{Data, bytes-of}
 use Rattle.peer.specs.Held.{data-in, ValidData}
@@ -32,12 +32,11 @@ use Rattle.protocol.specs.Station.{Station, Refill, automatic, requests-left, r
 use Rattle.protocol.specs.Rules.{short-data, all-short, all-under, lists-under, peer-lists, limit-ok, settings-rule, order-rule, capacity-rule, alive-rule, few-rule, joins-rule, numbers-rule, room-rule, data-rule, limit-rule, interval-rule, rules, station-ok}
 use Rattle.protocol.specs.Rules as R
 use Rattle.protocol.specs.Handle.{new-station, zero-config, zero-station}
-use Rattle.state.specs.Layout as layout
 use Rattle.state.specs.Layout.{Sections}
 use Rattle.state.specs.Unpack.{own-at, settings-at, limit-at, limit-formed, refill-in, station-of, unpack}
 use Rattle.state.proofs.Memory.{bit-fits, bool-back, two-limit}
 use Rattle.rules.specs.Pack.{present-word, kind-word, requests-word, front, pack}
-use Rattle.rules.specs.Ok.{words-end, packed-ok, state-ok}
+use Rattle.rules.specs.Ok.{packed-ok, state-ok}
 use Rattle.rules.proofs.Under.{numbers-are}
 use Rattle.rules.proofs.Shape.{Shape, shape-ok}
 use Rattle.rules.proofs.Widths.{under-append, under-pad, under-section}

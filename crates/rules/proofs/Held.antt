@@ -28,8 +28,9 @@ use Rattle.protocol.specs.Station.{Station, data-peers}
 use Rattle.state.specs.Layout as layout
 use Rattle.state.specs.Unpack.{settings-at, limit-at, limit-formed, refill-in, station-of, unpack}
 use Rattle.state.proofs.Memory.{two-limit}
+use Rattle.state.proofs.Access.{count-active, count-passive}
 use Rattle.rules.specs.Ok.{packed-ok, state-ok}
-use Rattle.rules.proofs.Shape.{ok-shape, count-active, count-passive}
+use Rattle.rules.proofs.Shape.{ok-shape, ok-active, ok-passive}
 
 -- ---- a rule's tests
 
@@ -44,7 +45,7 @@ module _ (xs : List ℕ) (e : packed-ok xs ≡ true) where
 
   pub capacity-is : (leb (getD xs 30 0) (layout.active-view-capacity xs) && leb (getD xs 63 0) (layout.passive-view-capacity xs)) ≡ capacity-rule (unpack xs)
   unfolding capacity-rule unpack station-of settings-at
-  capacity-is = sym (rw (count-active xs (ok-shape xs e), count-passive xs (ok-shape xs e)) refl)
+  capacity-is = sym (rw (count-active xs (ok-active xs e), count-passive xs (ok-passive xs e)) refl)
 
 pub views-is : (xs : List ℕ) (a b c : Bool) → a ≡ disjoint (items-at 8 (layout.active-part xs)) (items-at 32 (layout.passive-part xs)) → b ≡ mem (layout.me xs) (items-at 8 (layout.active-part xs)) → c ≡ mem (layout.me xs) (items-at 32 (layout.passive-part xs))
     → (a && (not b && not c)) ≡ views-rule (unpack xs)

@@ -21,7 +21,7 @@ use Rattle.lists.proofs.Entries.{entries-of}
 use Rattle.lists.proofs.Maps.{length-keys}
 use Rattle.lists.proofs.Zip.{zip-back, length-values}
 use Rattle.util.specs.Section.{part}
-use Rattle.columns.specs.Columns.{Two, word-bytes, row, rows, HoldsNumbers, numbers-section, HoldsDataWords, low-word, high-word, data-section}
+use Rattle.columns.specs.Columns.{words-end, Two, word-bytes, row, rows, HoldsNumbers, numbers-section, HoldsDataWords, low-word, high-word, data-section}
 use Rattle.columns.proofs.Numbers.{Stored, number-held}
 use Rattle.columns.proofs.Rows.{length-rows}
 use Rattle.columns.proofs.Data.{data-held}
@@ -30,7 +30,6 @@ use Rattle.peer.specs.Maps.{no-data, entry-bytes, ValidEntry}
 use Rattle.peer.proofs.Maps.{itself, Any, all-any, map-itself}
 use Rattle.protocol.specs.Rules.{all-short, all-under, lists-under}
 use Rattle.protocol.specs.Station.{bytes-end}
-use Rattle.rules.specs.Ok.{words-end}
 use Rattle.rules.proofs.Widths.{under-pad, under-at}
 
 -- ---- columns put together

@@ -1,20 +1,19 @@
 -- What the test `packed-ok` says of each part, both ways.
 -- Assumes nothing.
-use Prim.Native.Nat.{ℕ, _+_, _≤_, _<_}
-use mathlib.Core.Path.{_≡_, _∙_}
+use Prim.Native.Nat.{ℕ, _≤_}
+use mathlib.Core.Path.{_≡_}
 use mathlib.Core.Bool.{true}
 use mathlib.Core.List.{List}
 use native.Mathlib.Omega.{arith}
-use lib.ListN.{length, drop, getD}
-use lib.Seq.{getD-take, getD-drop}
+use lib.ListN.{length}
 use lib.Dec.{leb, eqb}
 use borrow.Author.Tests.{leb-true, le-leb, eqb-true, eq-eqb}
 use Rattle.lists.proofs.Choice.{and-left, and-right}
 use Rattle.lists.proofs.Tests.{both-true}
-use Rattle.util.specs.Section.{part, items-at, ValidSet, valid-set}
+use Rattle.util.specs.Section.{ValidSet, valid-set}
 use Rattle.util.proofs.Parts.{part-long}
 use Rattle.util.proofs.Sets.{valid-set-true, true-valid-set}
-use Rattle.columns.specs.Columns.{ValidNumbers, valid-numbers, ValidDataWords}
+use Rattle.columns.specs.Columns.{words-end, ValidNumbers, valid-numbers, ValidDataWords}
 use Rattle.columns.proofs.Numbers.{valid-numbers-true, true-valid-numbers}
 use Rattle.columns.proofs.Testing.{valid-words-true, true-valid-words}
 use Rattle.peer.specs.Held.{ValidData, valid-data}
@@ -22,7 +21,7 @@ use Rattle.peer.proofs.Data.{valid-data-true, true-valid-data}
 use Rattle.protocol.specs.Rules.{all-under}
 use Rattle.state.specs.Layout as layout
 use Rattle.state.specs.Unpack.{own-at, limit-formed, PackedState, opened, long}
-use Rattle.rules.specs.Ok.{words-end, formed, sections-ok, packed-ok}
+use Rattle.rules.specs.Ok.{formed, sections-ok, packed-ok}
 
 -- every part is well formed
 pub record Shape (xs : List ℕ) : Type 0 where
@@ -143,15 +142,3 @@ module _ (xs : List ℕ) (e : packed-ok xs ≡ true) where
   ok-peer-data = ok-shape xs e .peer-data
 
 pub ruleset of-ok = (ok-active, ok-passive, ok-alive, ok-refused, ok-requests, ok-bootstrap, ok-recent, ok-joins, ok-peer-data)
-
--- the counts of the views, as they are read
-in-part : (a n k : ℕ) (xs : List ℕ) → k < n → getD (part a n xs) k 0 ≡ getD xs (a + k) 0
-unfolding part
-in-part a n k xs h = getD-take n (drop a xs) k 0 h ∙ getD-drop a xs k 0
-
-module _ (xs : List ℕ) (v : Shape xs) where
-  pub count-active : length (items-at 8 (layout.active-part xs)) ≡ getD xs 30 0
-  count-active = v .active .counted ∙ in-part 22 9 8 xs (omega arith)
-
-  pub count-passive : length (items-at 32 (layout.passive-part xs)) ≡ getD xs 63 0
-  count-passive = v .passive .counted ∙ in-part 31 33 32 xs (omega arith)

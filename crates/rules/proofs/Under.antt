@@ -17,7 +17,7 @@ use Rattle.lists.proofs.Entries.{entries-values}
 use Rattle.scan.proofs.Loops.{Left, left-start, left-next, left-end}
 use Rattle.util.specs.Section.{part, items-at, ValidSet, valid-set}
 use Rattle.util.proofs.Sets.{lent}
-use Rattle.columns.specs.Columns.{word-bytes, row, numbers-at, ValidNumbers, valid-numbers, valid-data-words}
+use Rattle.columns.specs.Columns.{words-end, word-bytes, row, numbers-at, ValidNumbers, valid-numbers, valid-data-words}
 use Rattle.columns.proofs.Numbers.{number-entries, number-keys}
 use Rattle.peer.specs.Held.{zero-byte, valid-data}
 use Rattle.peer.specs.Maps.{numbers-under, valid-entry}
@@ -25,7 +25,7 @@ use Rattle.peer.proofs.Maps.{itself, Any, map-itself}
 use Rattle.protocol.specs.Rules.{all-under}
 use Rattle.state.specs.Layout as layout
 use Rattle.state.specs.Unpack.{own-at, limit-formed}
-use Rattle.rules.specs.Ok.{words-end, formed, sections-ok, packed-ok}
+use Rattle.rules.specs.Ok.{formed, sections-ok, packed-ok}
 
 -- ---- a loop that compares
 

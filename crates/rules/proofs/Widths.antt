@@ -15,7 +15,7 @@ use Rattle.lists.proofs.Choice.{by-choice, and-left, and-right}
 use Rattle.lists.proofs.Tests.{both-true}
 use Rattle.lists.proofs.Entries.{entries-values}
 use Rattle.util.specs.Section.{part, items-at, section}
-use Rattle.columns.specs.Columns.{word-bytes, rows, count-of, head-of, entries-at, numbers-at, ValidNumbers, data-map-at, ValidDataWords}
+use Rattle.columns.specs.Columns.{words-end, word-bytes, rows, count-of, head-of, entries-at, numbers-at, ValidNumbers, data-map-at, ValidDataWords}
 use Rattle.columns.proofs.Numbers.{number-keys}
 use Rattle.columns.proofs.Data.{data-entries, data-keys}
 use Rattle.peer.specs.Data.{Data, bytes-of}
@@ -25,7 +25,7 @@ use Rattle.protocol.specs.Rules.{all-under, lists-under, peer-lists, data-lists
 use Rattle.protocol.specs.Station.{peers-end, bytes-end, top-counter, top-passes}
 use Rattle.state.specs.Layout as layout
 use Rattle.state.specs.Unpack.{own-at, station-of, unpack}
-use Rattle.rules.specs.Ok.{words-end, packed-ok}
+use Rattle.rules.specs.Ok.{packed-ok}
 use Rattle.rules.proofs.Shape.{Shape, ok-shape}
 
 -- ---- lists put together

@@ -6,15 +6,11 @@ use mathlib.Core.List.{List}
 use lib.ListN.{length}
 use lib.Dec.{leb, eqb}
 use Rattle.util.specs.Section.{valid-set}
-use Rattle.columns.specs.Columns.{valid-numbers, valid-data-words}
+use Rattle.columns.specs.Columns.{words-end, valid-numbers, valid-data-words}
 use Rattle.peer.specs.Held.{valid-data}
 use Rattle.protocol.specs.Rules.{all-under, station-ok}
 use Rattle.state.specs.Layout as layout
 use Rattle.state.specs.Unpack.{own-at, limit-formed, unpack}
-
--- words have 64 bits
-abbrev pub words-end : ℕ
-words-end = 18446744073709551616
 
 -- every word has 64 bits, and those that stand for a bool or a limit are one
 unfoldable pub formed : List ℕ → Bool

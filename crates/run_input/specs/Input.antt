@@ -1,7 +1,7 @@
 -- Document 01, "The run program": which bytes are an input, and what it says: self, settings, events, draws.
 -- A head of 15 numbers of 4 bytes (self in two halves by document 02, S-8, nine settings, event count, event offset, draw count, draw offset), events, draws, without gaps.
 -- Assumes nothing.
-use Prim.Native.Nat.{ℕ, zero, suc, _+_, _*_, _^_, _≤_}
+use Prim.Native.Nat.{ℕ, zero, suc, _+_, _*_, _≤_}
 use mathlib.Core.Path.{_≡_}
 use mathlib.Core.Bool.{Bool, true, not, _&&_}
 use mathlib.Core.List.{List, [], _∷_}
@@ -10,7 +10,7 @@ use lib.Seq.{slice}
 use lib.Dec.{leb, eqb}
 use Rattle.lists.specs.Lists.{choose, null}
 use Rattle.lists.specs.Bytes.{read-le}
-use Rattle.record.specs.Format.{header-length}
+use Rattle.record.specs.Format.{header-length, four-bytes-end}
 use Rattle.record.specs.Walk.{whole-length}
 use Rattle.timing.specs.declared.Config.{Config}
 use Rattle.run_input.specs.declared.Head.{Head}
@@ -57,7 +57,7 @@ numbers (suc n) i b = number b i ∷ numbers n (suc i) b
 
 -- "self as two 4-byte halves, low half first"
 abbrev pub from-halves : ℕ → ℕ → ℕ
-from-halves low high = low + 2 ^ 32 * high
+from-halves low high = low + four-bytes-end * high
 
 -- the nine settings, in `Config`'s order
 unfoldable pub config-of : List ℕ → Config

@@ -70,7 +70,7 @@ pub fn read_numbers(b: &[u8], to: &mut [u32])
 pub fn from_halves(low: u32, high: u32) -> u64
     ensures { λ r. ⌜ r ≡ from-halves low high ⌝ }
 {
-    low as u64 + 4294967296 * high as u64
+    low as u64 + record::FOUR_BYTES_END * high as u64
 }
 
 // The nine settings.

@@ -2,7 +2,7 @@
 -- Assumes nothing.
 use Prim.Native.Nat.{ℕ, zero, suc, _+_, _-_, _%_, _≤_, _<_}
 use mathlib.Core.Path.{_≡_, refl, sym, ap, _∙_}
-use mathlib.Core.Bool.{Bool, true, false, not, _&&_}
+use mathlib.Core.Bool.{Bool, true, false, not}
 use mathlib.Core.List.{List, [], _∷_}
 use native.Mathlib.Nat.{le-of-suc-le-suc, not-suc-le-zero}
 use native.Mathlib.Omega.{arith}
@@ -17,7 +17,7 @@ use Rattle.lists.proofs.Tests.{both-true}
 use Rattle.scan.proofs.Tests.{not-in}
 use Rattle.scan.proofs.Marks.{mark, unmarked, marks-kept}
 use Rattle.scan.specs.Words.{marked}
-use Rattle.scan.proofs.Loops.{Left, Every, disjoint-start, every-asked, every-end, left-end, left-next}
+use Rattle.scan.proofs.Loops.{Left, Every, disjoint-start, every-asked, every-end}
 
 -- a word is among those of which it is one
 mem-at : (s : List ℕ) (h : ℕ) → h < length s → mem (getD s h 0) s ≡ true

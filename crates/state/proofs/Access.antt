@@ -1,16 +1,16 @@
 -- What packed words give of each section and number: for `search (of-packed, needs)`, under `unfolding part` where a section is lent.
 -- Assumes nothing.
-use Prim.Native.Nat.{ℕ, _+_, _≤_, _<_}
+use Prim.Native.Nat.{ℕ, _≤_, _<_}
 use mathlib.Core.Path.{_≡_, _∙_}
 use mathlib.Core.Bool.{true, _&&_}
 use mathlib.Core.List.{List}
 use native.Mathlib.Omega.{arith}
 use borrow.Author.Tests.{leb-true}
 use lib.Dec.{leb}
-use lib.ListN.{length, drop, getD}
-use lib.Seq.{getD-take, getD-drop}
+use lib.ListN.{length, getD}
 use Rattle.lists.proofs.Choice.{and-left, and-right}
-use Rattle.util.specs.Section.{part, items-at, ValidSet}
+use Rattle.util.specs.Section.{items-at, ValidSet}
+use Rattle.util.proofs.Parts.{part-read}
 use Rattle.columns.specs.Columns.{ValidNumbers, ValidDataWords}
 use Rattle.peer.specs.declared.PeerData.{PeerData}
 use Rattle.peer.specs.Held.{ValidData}
@@ -82,15 +82,10 @@ module _ (xs : List ℕ) (p : PackedState xs) where
 pub ruleset of-packed =
     (of-own-data, of-own, of-own-len, of-settings, of-interval, of-alone, of-short, of-active, of-passive, of-alive, of-refused, of-requests, of-bootstrap, of-recent, of-joins, of-peer-data, active-fits, passive-fits)
 
--- ---- the counts, as they are read
+-- ---- the counts of the views, as they are read
 
-in-part : (a n k : ℕ) (xs : List ℕ) → k < n → getD (part a n xs) k 0 ≡ getD xs (a + k) 0
-unfolding part
-in-part a n k xs h = getD-take n (drop a xs) k 0 h ∙ getD-drop a xs k 0
+pub count-active : (xs : List ℕ) → ValidSet 8 (layout.active-part xs) → length (items-at 8 (layout.active-part xs)) ≡ getD xs 30 0
+count-active xs v = v .counted ∙ part-read 22 9 8 xs (omega arith)
 
-module _ (xs : List ℕ) (p : PackedState xs) where
-  pub count-active : length (items-at 8 (layout.active-part xs)) ≡ getD xs 30 0
-  count-active = opened p .active .counted ∙ in-part 22 9 8 xs (omega arith)
-
-  pub count-passive : length (items-at 32 (layout.passive-part xs)) ≡ getD xs 63 0
-  count-passive = opened p .passive .counted ∙ in-part 31 33 32 xs (omega arith)
+pub count-passive : (xs : List ℕ) → ValidSet 32 (layout.passive-part xs) → length (items-at 32 (layout.passive-part xs)) ≡ getD xs 63 0
+count-passive xs v = v .counted ∙ part-read 31 33 32 xs (omega arith)

@@ -20,7 +20,7 @@ use Rattle.writer.specs.declared.Written.{Written}
 use Rattle.writer.specs.declared.Written.the-variants.{At, Full}
 use Rattle.writer.specs.Write.{fits, reached, written, Wrote}
 use Rattle.protocol.specs.Station.{Station}
-use Rattle.protocol.specs.Run.{Run, guard, on, emit, draw, require, drawn}
+use Rattle.protocol.specs.Run.{Run, guard, on, emit, draw, require}
 use Rattle.state.specs.declared.Work.{Work}
 use Rattle.state.specs.Unpack.{unpack, PackedState, Becomes}
 use Rattle.state.specs.Work.{Held, work-of, run, Changes, Ready, DrawsFrom, Room, Tells, Fine, Does, after-record}

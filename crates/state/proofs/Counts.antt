@@ -9,25 +9,25 @@ use Rattle.util.proofs.Sets.{empty-is-null}
 use Rattle.protocol.specs.Station.{is-alone, active-is-full, passive-is-full, is-short, is-last-hop}
 use Rattle.state.specs.Layout as layout
 use Rattle.state.specs.Unpack.{unpack, station-of, settings-at, PackedState}
-use Rattle.state.proofs.Access.{of-active, count-active, count-passive}
+use Rattle.state.proofs.Access.{of-active, of-passive, count-active, count-passive}
 
 module _ (xs : List ℕ) (p : PackedState xs) where
   pub alone : eqb (getD xs 30 0) 0 ≡ is-alone (unpack xs)
   unfolding is-alone unpack station-of
-  alone = ap (λ (n : ℕ). eqb n 0) (sym (count-active xs p) ∙ of-active xs p .counted) ∙ empty-is-null 8 (layout.active-part xs) (of-active xs p)
+  alone = ap (λ (n : ℕ). eqb n 0) (sym (count-active xs (of-active xs p)) ∙ of-active xs p .counted) ∙ empty-is-null 8 (layout.active-part xs) (of-active xs p)
 
   pub active-full : leb (layout.active-view-capacity xs) (getD xs 30 0) ≡ active-is-full (unpack xs)
   unfolding active-is-full unpack station-of settings-at
-  active-full = rw (← count-active xs p) refl
+  active-full = rw (← count-active xs (of-active xs p)) refl
 
   pub passive-full : leb (layout.passive-view-capacity xs) (getD xs 63 0) ≡ passive-is-full (unpack xs)
   unfolding passive-is-full unpack station-of settings-at
-  passive-full = rw (← count-passive xs p) refl
+  passive-full = rw (← count-passive xs (of-passive xs p)) refl
 
   pub short : ltb (getD xs 30 0) ((layout.active-view-capacity xs + 1) / 2) ≡ is-short (unpack xs)
   unfolding is-short unpack station-of settings-at
-  short = rw (← count-active xs p) refl
+  short = rw (← count-active xs (of-active xs p)) refl
 
   pub last-hop : leb (getD xs 30 0) 1 ≡ is-last-hop (unpack xs)
   unfolding is-last-hop unpack station-of
-  last-hop = rw (← count-active xs p) refl
+  last-hop = rw (← count-active xs (of-active xs p)) refl

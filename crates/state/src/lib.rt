@@ -143,7 +143,9 @@ impl Layout {
     pub const LENGTH: usize = Layout::HELD_END;
 }
 
-// The most passes that are counted (the Rust's `u32::MAX`).
+// The last number of a request or a join (the Rust's `u64::MAX`), and the most passes that are counted (`u32::MAX`).
+pub const TOP_COUNTER: u64 = 18446744073709551615;
+
 pub const TOP_PASSES: u64 = 4294967295;
 
 // What bounds a refill; protocol/Station says of `Refill` why there are three cases.

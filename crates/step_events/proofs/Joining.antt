@@ -19,7 +19,7 @@ use Rattle.columns.specs.Columns.{numbers-at}
 use Rattle.record.specs.Format.{Rec}
 use Rattle.writer.specs.Write.{rec-in}
 use Rattle.protocol.specs.Setters.{set-joins, set-bootstrap}
-use Rattle.protocol.specs.Station.{Station, is-me, in-active}
+use Rattle.protocol.specs.Station.{Station, is-me, in-active, top-counter}
 use Rattle.protocol.specs.Run.{Run, guard, on, emit, require}
 use Rattle.protocol.specs.Sending.{join-to, join}
 use Rattle.protocol.specs.Messages.{drop-join}
@@ -99,7 +99,7 @@ module _ (w a : Work) (xs ys : List ℕ) (p : ℕ) (k : Changes (on (drop-oldest
 -- ---- a place and a number
 
 module _ (xs : List ℕ) (p code : ℕ) (v : Joinable p code (unpack xs)) (z : code ≡ 0) where
-  pub number-left : next-join xs < 18446744073709551615
+  pub number-left : next-join xs < top-counter
   unfolding join-counts unpack station-of
   number-left = ltb-true _ _ (v .counts z)
 

@@ -102,7 +102,7 @@ fn join_counts(st: &[u64]) -> bool
     requires { ⌜ length (now st) ≡ words ⌝ }
     ensures { λ r. ⌜ r ≡ join-counts (unpack (now (st .entry))) ⌝ }
 {
-    st[Layout::NEXT_JOIN] < 18446744073709551615
+    st[Layout::NEXT_JOIN] < state::TOP_COUNTER
 }
 
 // The join to p is open under the next number.

@@ -9,7 +9,7 @@ use borrow.Author.Tests.{ltb-true}
 use Rattle.lists.specs.Lists.{without-all}
 use Rattle.util.specs.Section.{items-at, HoldsSet}
 use Rattle.writer.specs.Write.{rec-in}
-use Rattle.protocol.specs.Station.{Station}
+use Rattle.protocol.specs.Station.{Station, top-passes}
 use Rattle.protocol.specs.Run.{on, emit, require}
 use Rattle.protocol.specs.Timers.{renew-all, other-recent, alone-counts, add-alone, count-alone, short-counts, add-short, count-short, schedule-maintenance}
 use Rattle.state.specs.declared.Work.{Work}
@@ -25,18 +25,18 @@ pub tested : (test : Station → Bool) (w a : Work) (xs : List ℕ) (t : Bool) �
 tested test w a xs t v e k = record { holds = λ z. sym e ∙ require-said (work-of w xs) (work-of a xs) 10 t (omega arith) (k .any xs v) z .1 }
 
 module _ (xs : List ℕ) (code : ℕ) (z : code ≡ 0) where
-  pub alone-left : Counts alone-counts code (unpack xs) → passes-alone xs < 4294967295
+  pub alone-left : Counts alone-counts code (unpack xs) → passes-alone xs < top-passes
   unfolding alone-counts unpack station-of
   alone-left v = ltb-true _ _ (v .holds z)
 
-  pub short-left : Counts short-counts code (unpack xs) → passes-short xs < 4294967295
+  pub short-left : Counts short-counts code (unpack xs) → passes-short xs < top-passes
   unfolding short-counts unpack station-of
   short-left v = ltb-true _ _ (v .holds z)
 
-  pub one-more-alone : Counts alone-counts code (unpack xs) → passes-alone xs + 1 ≤ 4294967295
+  pub one-more-alone : Counts alone-counts code (unpack xs) → passes-alone xs + 1 ≤ top-passes
   one-more-alone v = omega (arith, alone-left v)
 
-  pub one-more-short : Counts short-counts code (unpack xs) → passes-short xs + 1 ≤ 4294967295
+  pub one-more-short : Counts short-counts code (unpack xs) → passes-short xs + 1 ≤ top-passes
   one-more-short v = omega (arith, short-left v)
 
 module _ (w a r : Work) (xs ys : List ℕ) (t : Bool) (v : PackedState xs) where

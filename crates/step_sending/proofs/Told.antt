@@ -19,7 +19,7 @@ use Rattle.writer.specs.declared.Fields.{Fields}
 use Rattle.writer.specs.declared.Nodes.{Nodes}
 use Rattle.writer.specs.Nodes.{nodes-in, HoldsNodes}
 use Rattle.writer.specs.Write.{rec-in}
-use Rattle.protocol.specs.Station.{is-requested}
+use Rattle.protocol.specs.Station.{is-requested, top-counter}
 use Rattle.protocol.specs.Run.{Run, on, emit, require, node, message, flag, peer-infos}
 use Rattle.protocol.specs.Sending.{join-to, join, send-nodes, send-shuffle-reply, reply-length, send-disconnect, request-counts, request-fits, note-request, count-request, open-request, neighbor-to, tell-request, send-neighbor, reply-neighbor}
 use Rattle.state.specs.declared.Work.{Work}
@@ -87,7 +87,7 @@ module _ (w r : Work) (xs out o : List ℕ) where
 -- ---- requests
 
 module _ (xs : List ℕ) (code : ℕ) (z : code ≡ 0) (v : Notable code (unpack xs)) where
-  pub number-left : next-neighbor-request xs < 18446744073709551615
+  pub number-left : next-neighbor-request xs < top-counter
   unfolding request-counts unpack station-of
   number-left = ltb-true _ _ (v .counts z)
 

@@ -261,7 +261,7 @@ fn request_counts(st: &[u64]) -> bool
     requires { ⌜ length (now st) ≡ words ⌝ }
     ensures { λ r. ⌜ r ≡ request-counts (unpack (now (st .entry))) ⌝ }
 {
-    st[Layout::NEXT_NEIGHBOR_REQUEST] < 18446744073709551615
+    st[Layout::NEXT_NEIGHBOR_REQUEST] < state::TOP_COUNTER
 }
 
 // Whether there is a place for one more open request.

@@ -20,12 +20,15 @@ pub struct Tally {
 // How many values byte 1 of a message has.
 pub const COUNTS: usize = 6;
 
+// The last value of a count.
+const TOP: u64 = 18446744073709551615;
+
 // One more where the test holds; a count at 2^64 - 1 stays there.
 fn counted(test: bool, n: u64) -> u64
     ensures { λ r. ⌜ r ≡ counted test n ⌝ }
 {
     if test {
-        if n < 18446744073709551615 {
+        if n < TOP {
             return n + 1;
         }
         return n;

@@ -1,6 +1,6 @@
 // Reads cases of the conversion (tools/convert) and writes for each the converted record in hex, where the code is 0, and a line with the code.
 use convert::Converted;
-ghost use Prim.Native.Nat.{_+_, _≤_};
+ghost use Prim.Native.Nat.{_≤_};
 ghost use lib.ListN.{length};
 
 fn main() {
@@ -17,8 +17,8 @@ fn show_all(s: &[u8]) {
         if left < 5 {
             return;
         }
-        let room = length_at(s, at + 1);
-        let size = length_at(s, at + 3);
+        let room = record::read_u16(s, at + 1) as usize;
+        let size = record::read_u16(s, at + 3) as usize;
         if left - 5 < size {
             return;
         }
@@ -29,17 +29,8 @@ fn show_all(s: &[u8]) {
     }
 }
 
-fn length_at(s: &[u8], at: usize) -> usize
-    requires { ⌜ at + 2 ≤ length (now s) ⌝ }
-    ensures { λ r. ⌜ r ≤ 65535 ⌝ }
-{
-    wide(s[at]) + 256 * wide(s[at + 1])
-}
-
-fn wide(x: u8) -> usize
-    ensures { λ r. ⌜ r ≤ 255 ⌝ }
-{
-    x as usize
+fn wide(x: u8) -> u64 {
+    x as u64
 }
 
 // The output holds no 0 at first, so that a byte shows that is not cleared.
@@ -95,7 +86,7 @@ fn cleared(s: &[u8]) -> bool {
 fn show_bytes(s: &[u8]) {
     let mut i: usize = 0;
     while i < s.len() {
-        io::print_hex(1, wide(s[i]) as u64, 2);
+        io::print_hex(1, wide(s[i]), 2);
         i += 1;
     }
     io::write_all(1, b"\n");

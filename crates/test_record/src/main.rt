@@ -2,8 +2,6 @@
 use record::Answer;
 use record::Event;
 use record::Header;
-ghost use Prim.Native.Nat.{_+_, _≤_};
-ghost use lib.ListN.{length};
 ghost use Rattle.record.specs.Answers.{Found};
 
 fn main() {
@@ -20,7 +18,7 @@ fn show_all(s: &[u8]) {
         if left < 2 {
             return;
         }
-        let size = length_at(s, at);
+        let size = record::read_u16(s, at) as usize;
         if left - 2 < size {
             return;
         }
@@ -31,17 +29,8 @@ fn show_all(s: &[u8]) {
     }
 }
 
-fn length_at(s: &[u8], at: usize) -> usize
-    requires { ⌜ at + 2 ≤ length (now s) ⌝ }
-    ensures { λ r. ⌜ r ≤ 65535 ⌝ }
-{
-    wide(s[at]) + 256 * wide(s[at + 1])
-}
-
-fn wide(x: u8) -> usize
-    ensures { λ r. ⌜ r ≤ 255 ⌝ }
-{
-    x as usize
+fn wide(x: u8) -> u64 {
+    x as u64
 }
 
 fn show(b: &[u8]) {
@@ -96,7 +85,7 @@ fn show_nodes(b: &[u8], h: Header)
 fn show_bytes(s: &[u8]) {
     let mut i: usize = 0;
     while i < s.len() {
-        word(wide(s[i]) as u64);
+        word(wide(s[i]));
         i += 1;
     }
 }

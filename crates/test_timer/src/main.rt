@@ -2,7 +2,6 @@
 use timer_map::Id;
 use timer_map::Timer;
 ghost use mathlib.Core.Path.{_≡_};
-ghost use Prim.Native.Nat.{_+_, _≤_, _<_};
 ghost use lib.ListN.{length};
 
 // What a call is; any other number is a new queue.
@@ -32,20 +31,6 @@ const CALL: usize = 48;
 // More calls than are ever made: a program ends.
 const MOST_CALLS: usize = 100000000;
 
-fn half(x: u32) -> u64
-    ensures { λ r. ⌜ r ≤ 4294967295 ⌝ }
-{
-    x as u64
-}
-
-fn number(b: &[u8], at: usize) -> u64
-    requires { ⌜ at + 8 ≤ length (now b) ⌝ }
-{
-    let low = half(record::read_u32(b, at));
-    let high = half(record::read_u32(b, at + 4));
-    low + 4294967296 * high
-}
-
 // One line: each number and a space.
 fn show(ws: &[u64]) {
     let mut i: usize = 0;
@@ -69,13 +54,13 @@ fn insert(q: &mut [u64], b: &[u8])
 {
     let id = Id(0, 0, 0, 0);
     let item = Timer {
-        kind: number(b, KIND),
-        peer: number(b, PEER_AT),
-        number: number(b, NUMBER),
+        kind: record::read_u64(b, KIND),
+        peer: record::read_u64(b, PEER_AT),
+        number: record::read_u64(b, NUMBER),
         id: id,
     };
-    let time = number(b, TIME);
-    let delay = number(b, DELAY);
+    let time = record::read_u64(b, TIME);
+    let delay = record::read_u64(b, DELAY);
     let code = timer_map::timer_map_insert(q, time, delay, item);
     let line = [INSERT, code as u64];
     show(&line);
@@ -124,10 +109,10 @@ fn event(q: &mut [u64], limit: u64) {
         p.code as u64,
         mark(p.found),
         p.time,
-        number(out, 0),
-        number(out, 8),
-        number(out, 16),
-        number(out, 24),
+        record::read_u64(out, 0),
+        record::read_u64(out, 8),
+        record::read_u64(out, 16),
+        record::read_u64(out, 24),
     ];
     show(&line);
 }
@@ -141,8 +126,8 @@ fn renew(q: &mut [u64], what: u64) {
 fn call(q: &mut [u64], b: &[u8])
     requires { ⌜ length (now b) ≡ 48 ⌝ }
 {
-    let what = number(b, 0);
-    let time = number(b, TIME);
+    let what = record::read_u64(b, 0);
+    let time = record::read_u64(b, TIME);
     if what == INSERT {
         insert(q, b);
         return;

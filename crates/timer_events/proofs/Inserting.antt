@@ -23,7 +23,7 @@ use Rattle.timer_map.specs.Entries.{Put, insert-timer}
 use Rattle.timer_map.specs.Words.{queue-count, entries-of, queue-ok, pack-queue, SoundQueue}
 use Rattle.timer_map.specs.Calls.{PutWords, put}
 use Rattle.timer_map.specs.declared.TimerMapEntry.{TimerMapEntry}
-use Rattle.timer_map.proofs.Pack.{entries-pack, sound}
+use Rattle.timer_map.proofs.Pack.{entries-pack}
 use Rattle.timer_map.proofs.Kept.{Good, good-insert, good-sound, sound-good, Inserts, refused, done, inserts}
 use Rattle.timer_events.specs.declared.ScheduleTimer.{ScheduleTimer}
 use Rattle.timer_events.specs.Records.{no-start, started, started-by, schedule-of, timer-of, timers-in, insert-all, all-or-none, insert-records, records-inserted}

@@ -8,7 +8,7 @@ use timer_map::Timer;
 use timer_map::TimerMapEntry;
 use writer::Fields;
 ghost use mathlib.Core.Path.{_≡_};
-ghost use mathlib.Core.Bool.{true, false};
+ghost use mathlib.Core.Bool.{true};
 ghost use mathlib.Core.List.{[]};
 ghost use Rattle.record.specs.Read.{header-of};
 ghost use Rattle.writer.specs.Write.{rec-in};

@@ -13,7 +13,7 @@ use borrow.Author.Tests.{eq-eqb, ne-eqb, ltb-true, ltb-false, lt-ltb, le-ltb, le
 use Rattle.lists.specs.Lists.{null, shift-remove}
 use Rattle.lists.specs.Tests.{every}
 use Rattle.lists.proofs.Choice.{split, clash, choose-yes, choose-no}
-use Rattle.timer_map.specs.Entries.{queue-entry-ok, timer-ok, insert-refusal, insert-timer, soonest, first-entry, is-due, popped-entries, no-queue-entry}
+use Rattle.timer_map.specs.Entries.{latest, queue-entry-ok, timer-ok, insert-refusal, insert-timer, soonest, first-entry, is-due, popped-entries, no-queue-entry}
 use Rattle.timer_map.specs.Words.{queue-count, queue-entry-at, queue-entries-at, entries-of, unused-word, queue-ok, queue-rows, pack-queue, SoundQueue}
 use Rattle.timer_map.specs.Calls.{PutWords, put, inserted, PoppedWords, refused-pop, no-due, due-in, popped, popped-words, taken-out, first-of, first-in, count-in, renewed}
 use Rattle.timer_map.specs.declared.Timer.{Timer}
@@ -26,34 +26,34 @@ use Rattle.timer_map.proofs.Pack.{sound, getD-entries}
 
 -- ---- refusal
 
-pub too-late : (time delay n : ℕ) → ltb (18446744073709551615 - time) delay ≡ true → 12 ≡ insert-refusal time delay n
+pub too-late : (time delay n : ℕ) → ltb (latest - time) delay ≡ true → 12 ≡ insert-refusal time delay n
 unfolding insert-refusal
-too-late time delay n e = sym (choose-yes _ _ _ (lt-ltb 18446744073709551615 (time + delay) (omega (arith, ltb-true (18446744073709551615 - time) delay e))))
+too-late time delay n e = sym (choose-yes _ _ _ (lt-ltb latest (time + delay) (omega (arith, ltb-true (latest - time) delay e))))
 
-in-time : (time delay : ℕ) → time ≤ 18446744073709551615 → ltb (18446744073709551615 - time) delay ≡ false → ltb 18446744073709551615 (time + delay) ≡ false
-in-time time delay t e = le-ltb 18446744073709551615 (time + delay) (omega (arith, ltb-false (18446744073709551615 - time) delay e))
+in-time : (time delay : ℕ) → time ≤ latest → ltb (latest - time) delay ≡ false → ltb latest (time + delay) ≡ false
+in-time time delay t e = le-ltb latest (time + delay) (omega (arith, ltb-false (latest - time) delay e))
 
-pub too-many : (time delay n : ℕ) → time ≤ 18446744073709551615 → ltb (18446744073709551615 - time) delay ≡ false → leb 64 n ≡ true → 11 ≡ insert-refusal time delay n
+pub too-many : (time delay n : ℕ) → time ≤ latest → ltb (latest - time) delay ≡ false → leb 64 n ≡ true → 11 ≡ insert-refusal time delay n
 unfolding insert-refusal
 too-many time delay n t e f = sym (choose-no _ _ _ (in-time time delay t e) ∙ choose-yes _ _ _ f)
 
-pub may : (time delay n : ℕ) → time ≤ 18446744073709551615 → ltb (18446744073709551615 - time) delay ≡ false → leb 64 n ≡ false → 0 ≡ insert-refusal time delay n
+pub may : (time delay n : ℕ) → time ≤ latest → ltb (latest - time) delay ≡ false → leb 64 n ≡ false → 0 ≡ insert-refusal time delay n
 unfolding insert-refusal
 may time delay n t e f = sym (choose-no _ _ _ (in-time time delay t e) ∙ choose-no _ _ _ f)
 
 -- what no refusal says
 pub record Fits-in (time delay n : ℕ) : Type 0 where
-  pub due : time + delay ≤ 18446744073709551615
+  pub due : time + delay ≤ latest
   pub room : n < 64
 
 pub accepted : (time delay n : ℕ) → insert-refusal time delay n ≡ 0 → Fits-in time delay n
 unfolding insert-refusal
 accepted time delay n e =
-    split (ltb 18446744073709551615 (time + delay))
+    split (ltb latest (time + delay))
     (λ t. absurd (omega (arith, sym (choose-yes _ _ _ t) ∙ e)))
     (λ t. split (leb 64 n)
     (λ u. absurd (omega (arith, sym (choose-no _ _ _ t ∙ choose-yes _ _ _ u) ∙ e)))
-    (λ u. record { due = ltb-false 18446744073709551615 (time + delay) t; room = leb-false 64 n u }))
+    (λ u. record { due = ltb-false latest (time + delay) t; room = leb-false 64 n u }))
 
 -- ---- is_ok
 

@@ -4,14 +4,19 @@ use Prim.Native.Nat.{ℕ, _+_, _-_, _≤_, _<_}
 use mathlib.Core.Path.{_≡_, sym, ap, _∙_}
 use mathlib.Core.List.{List, _++_}
 use native.Mathlib.Omega.{arith}
-use lib.ListN.{length, take, drop, set, length-drop, take-append-drop}
-use lib.Seq.{take-at, drop-at, length-take-le, take-append-le, drop-append-le, drop-drop, drop-set-lt, drop-set-add, take-set-le, take-set-lt}
+use lib.ListN.{length, take, drop, getD, set, length-drop, take-append-drop}
+use lib.Seq.{take-at, drop-at, length-take-le, take-append-le, drop-append-le, drop-drop, drop-set-lt, drop-set-add, take-set-le, take-set-lt, getD-take, getD-drop}
 use borrow.Rule.Slice.PartMut.{putMid, drop-put, same-len-mid, mid-len}
 use Rattle.util.specs.Section.{part}
 
 pub part-long : (a k : ℕ) (xs : List ℕ) → a + k ≤ length xs → length (part a k xs) ≡ k
 unfolding part
 part-long a k xs h = length-take-le k (drop a xs) (omega (arith, length-drop a xs))
+
+-- a word of the part
+pub part-read : (a k i : ℕ) (xs : List ℕ) → i < k → getD (part a k xs) i 0 ≡ getD xs (a + i) 0
+unfolding part
+part-read a k i xs h = getD-take k (drop a xs) i 0 h ∙ getD-drop a xs i 0
 
 pub part-put : (a k : ℕ) (xs ys : List ℕ) → a ≤ length xs → length ys ≡ k → part a k (putMid a k xs ys) ≡ ys
 unfolding part

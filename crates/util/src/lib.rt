@@ -2,7 +2,7 @@
 use peer::PeerId;
 ghost use mathlib.Core.Path.{_≡_};
 ghost use mathlib.Core.List.{[], _∷_, _++_};
-ghost use Prim.Native.Nat.{_+_, _-_, _≤_, _<_};
+ghost use Prim.Native.Nat.{_+_, _≤_, _<_};
 ghost use lib.ListN.{length, take, drop, getD};
 ghost use Rattle.lists.specs.Array.{pad};
 ghost use Rattle.lists.specs.Lists.{null, mem, index-of, rank, shift-remove, swap-remove, remove, insert-at, insert, without, without-all, renew, swap, distinct, rising, subset, disjoint};

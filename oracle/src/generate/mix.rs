@@ -256,12 +256,17 @@ const fn wide(mix: Mix) -> Mix {
     }
 }
 
+/// All events, with settings anywhere, among 2 to so many peers.
+const fn even(name: &'static str, twist: Twist, most: usize) -> Mix {
+    twisted(twist, mix(name, EVEN, SettingsRule::Any, (2, most)))
+}
+
 const fn with_data(data: DataRule, mix: Mix) -> Mix {
     Mix { data, ..mix }
 }
 
 pub const MIXES: &[Mix] = &[
-    mix("even", EVEN, SettingsRule::Any, (2, 200)),
+    even("even", Twist::None, 200),
     mix("usual", EVEN, SettingsRule::Usual, (4, 60)),
     mix("tiny", EVEN, SettingsRule::Small, (2, 6)),
     mix("joining", JOINING, SettingsRule::Small, (3, 20)),
@@ -276,14 +281,8 @@ pub const MIXES: &[Mix] = &[
         mix("largest", CROWDED, SettingsRule::Large, (50, 200)),
     ),
     mix("damaged", DAMAGED, SettingsRule::Small, (2, 20)),
-    twisted(
-        Twist::ShortDraws,
-        mix("short", EVEN, SettingsRule::Any, (2, 40)),
-    ),
-    twisted(
-        Twist::HighDraws,
-        mix("passing", EVEN, SettingsRule::Any, (2, 60)),
-    ),
+    even("short", Twist::ShortDraws, 40),
+    even("passing", Twist::HighDraws, 60),
     twisted(
         Twist::HighDraws,
         mix("passing_crowd", CROWDED, SettingsRule::Any, (8, 200)),
@@ -309,18 +308,9 @@ pub const MIXES: &[Mix] = &[
             mix("leaking", LEAKING, SettingsRule::Large, (92, 99)),
         ),
     ),
-    twisted(
-        Twist::SmallRoom,
-        mix("room", EVEN, SettingsRule::Any, (2, 40)),
-    ),
-    twisted(
-        Twist::HighCounters,
-        mix("counters", EVEN, SettingsRule::Any, (2, 20)),
-    ),
-    twisted(
-        Twist::DamagedInput,
-        mix("input", EVEN, SettingsRule::Any, (2, 10)),
-    ),
+    even("room", Twist::SmallRoom, 40),
+    even("counters", Twist::HighCounters, 20),
+    even("input", Twist::DamagedInput, 10),
 ];
 
 pub fn named(name: &str) -> Option<&'static Mix> {

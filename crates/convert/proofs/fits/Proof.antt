@@ -3,11 +3,11 @@ use mathlib.Core.Path.{_≡_, sym}
 use mathlib.Core.Bool.{true}
 use lib.Dec.{ltb}
 use borrow.Author.Tests.{lt-ltb}
-use Rattle.record.specs.Format.{IsForm, old-peer-length}
+use Rattle.record.specs.Format.{IsForm, old-peer-length, four-bytes-end}
 use Rattle.convert.proofs.fits.Statement.{statement}
 use Rattle.convert.proofs.fits.Tie as tie
 
-old : (x w : ℕ) → w ≡ old-peer-length → ltb x 4294967296 ≡ ltb x (256 ^ w)
+old : (x w : ℕ) → w ≡ old-peer-length → ltb x four-bytes-end ≡ ltb x (256 ^ w)
 old x w e = rw e
 
 new : (x w : ℕ) → IsForm w → (w ≡ old-peer-length → ⊥) → x < 2 ^ 64 → true ≡ ltb x (256 ^ w)

@@ -2,9 +2,6 @@ use borrow.Author.Needs.{needs}
 use Rattle.demand.specs.Program.{program-outcome}
 use Rattle.demand.proofs.handle.Statement.{statement}
 use Rattle.demand.proofs.handle.Tie as tie
-use Rattle.demand.proofs.handle.Reads as reads
-use Rattle.demand.proofs.handle.Lts as lts
-use Rattle.hyparview.proofs.handle.Reads as handle-reads
 
 -- src/lib.rt:18:5
 handle-requires : tie.Need-handle-requires

@@ -2,9 +2,6 @@ use borrow.Author.Needs.{needs}
 use Rattle.demand.specs.Program.{program-made}
 use Rattle.demand.proofs.new.Statement.{statement}
 use Rattle.demand.proofs.new.Tie as tie
-use Rattle.demand.proofs.new.Reads as reads
-use Rattle.demand.proofs.new.Lts as lts
-use Rattle.hyparview.proofs.new.Reads as new-reads
 
 -- src/lib.rt:12:5
 new-requires : tie.Need-new-requires

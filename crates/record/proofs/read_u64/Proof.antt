@@ -4,11 +4,12 @@ use mathlib.Core.List.{List}
 use native.Mathlib.Numerals.{towards-suc}
 use native.Mathlib.Omega.{arith}
 use Rattle.lists.specs.Bytes.{read-le}
+use Rattle.record.specs.Format.{four-bytes-end}
 use borrow.Author.Needs.{needs}
 use Rattle.record.proofs.read_u64.Statement.{statement}
 use Rattle.record.proofs.read_u64.Tie as tie
 
-halves : (l : List ℕ) (i a b : ℕ) → a ≡ read-le 4 l i → b ≡ read-le 4 l (i + 4) → a + 4294967296 * b ≡ read-le 8 l i
+halves : (l : List ℕ) (i a b : ℕ) → a ≡ read-le 4 l i → b ≡ read-le 4 l (i + 4) → a + four-bytes-end * b ≡ read-le 8 l i
 unfolding read-le
 halves l i a b p q = simp (p, q, towards-suc) (omega arith)
 

@@ -8,6 +8,7 @@ use lib.Dec.{eqb}
 use Rattle.record.specs.Format.{header-length-by, place-by}
 use Rattle.record.specs.Read.{header-of-by, header-ok, entries-ok-by, well-formed-by}
 use Rattle.record.specs.declared.Header.{Header}
+use Rattle.record.proofs.Laws.{twice-fits, header-fits}
 use borrow.Author.Needs.{needs}
 use Rattle.record.proofs.well_formed.Statement.{statement}
 use Rattle.record.proofs.well_formed.Tie as tie
@@ -23,10 +24,10 @@ module _ (w : ℕ) (b : List ℕ) where
   long h r s l e p q = rw (p, q, e, le-leb _ _ l)
 
 mul-if1 : tie.Need-mul-if1
-mul-if1 c = search needs
+mul-if1 c = record { fits = twice-fits _ (search needs) }
 
 add-if1 : tie.Need-add-if1
-add-if1 c = search needs
+add-if1 c = record { fits = header-fits _ (search needs) }
 
 returns : tie.Need-returns
 returns c = search short

@@ -1,5 +1,4 @@
 use mathlib.Core.Path.{refl}
-use borrow.Author.Needs.{needs}
 use Rattle.run_listing.proofs.Laws.{shown-all, shown-part}
 use Rattle.run_listing.proofs.answer.Statement.{statement}
 use Rattle.run_listing.proofs.answer.Tie as tie

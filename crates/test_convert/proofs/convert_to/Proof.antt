@@ -3,7 +3,6 @@ use Prim.Native.Nat.{ℕ, _≤_}
 use mathlib.Core.Path.{_≡_, ap}
 use mathlib.Core.List.{List}
 use native.Mathlib.Omega.{arith}
-use lib.ListN.{length}
 use Rattle.convert.specs.Convert.{Conversion, outcome, conversion, outcome-of}
 use Rattle.convert.specs.declared.Converted.{Converted}
 use Rattle.convert.proofs.Laws.{converted-fits}

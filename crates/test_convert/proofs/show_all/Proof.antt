@@ -20,17 +20,23 @@ sub-left c = search needs
 returns : tie.Need-returns Inv-loop μ-loop
 returns c = search needs
 
-add-length-at : tie.Need-add-length-at Inv-loop μ-loop
-add-length-at c = search needs
+add-read-u16 : tie.Need-add-read-u16 Inv-loop μ-loop
+add-read-u16 c = search needs
 
-length-at-requires : tie.Need-length-at-requires Inv-loop μ-loop
-length-at-requires c κs = search needs
+read-u16-requires : tie.Need-read-u16-requires Inv-loop μ-loop
+read-u16-requires c κs = search needs
 
-add-length-at-2 : tie.Need-add-length-at-2 Inv-loop μ-loop
-add-length-at-2 c = search needs
+cast-room : tie.Need-cast-room Inv-loop μ-loop
+cast-room c = search needs
 
-length-at-requires-2 : tie.Need-length-at-requires-2 Inv-loop μ-loop
-length-at-requires-2 c κs = search needs
+add-read-u16-2 : tie.Need-add-read-u16-2 Inv-loop μ-loop
+add-read-u16-2 c = search needs
+
+read-u16-requires-2 : tie.Need-read-u16-requires-2 Inv-loop μ-loop
+read-u16-requires-2 c κs = search needs
+
+cast-size : tie.Need-cast-size Inv-loop μ-loop
+cast-size c = search needs
 
 returns-2 : tie.Need-returns-2 Inv-loop μ-loop
 returns-2 c = search needs
@@ -74,10 +80,12 @@ show-all-spec =
     loop-holds
     sub-left
     returns
-    add-length-at
-    length-at-requires
-    add-length-at-2
-    length-at-requires-2
+    add-read-u16
+    read-u16-requires
+    cast-room
+    add-read-u16-2
+    read-u16-requires-2
+    cast-size
     returns-2
     add-start
     add-end

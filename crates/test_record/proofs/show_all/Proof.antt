@@ -20,8 +20,11 @@ sub-left c = search needs
 returns : tie.Need-returns Inv-loop μ-loop
 returns c = search needs
 
-length-at-requires : tie.Need-length-at-requires Inv-loop μ-loop
-length-at-requires c κs = search needs
+read-u16-requires : tie.Need-read-u16-requires Inv-loop μ-loop
+read-u16-requires c κs = search needs
+
+cast-size : tie.Need-cast-size Inv-loop μ-loop
+cast-size c = search needs
 
 returns-2 : tie.Need-returns-2 Inv-loop μ-loop
 returns-2 c = search needs
@@ -62,7 +65,8 @@ show-all-spec =
     loop-holds
     sub-left
     returns
-    length-at-requires
+    read-u16-requires
+    cast-size
     returns-2
     add-start
     add-end

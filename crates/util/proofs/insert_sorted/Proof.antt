@@ -1,7 +1,6 @@
 use Rattle.util.specs.Section.{part}
 use Rattle.util.proofs.Sets.{set-inside, set-count, set-column, insert-kept, insert-fits, inserted}
 use borrow.Author.Needs.{needs}
-use borrow.Author.Needs.{needs}
 use Rattle.util.proofs.insert_sorted.Statement.{statement}
 use Rattle.util.proofs.insert_sorted.Tie as tie
 

@@ -1,7 +1,6 @@
 use Rattle.util.specs.Section.{part}
 use Rattle.util.proofs.Sets.{set-inside, set-column, renewed, renew-room-there}
 use borrow.Author.Needs.{needs}
-use borrow.Author.Needs.{needs}
 use Rattle.util.proofs.renew.Statement.{statement}
 use Rattle.util.proofs.renew.Tie as tie
 

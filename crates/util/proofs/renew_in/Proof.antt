@@ -2,7 +2,6 @@ use lib.ListN.{length-set}
 use native.Mathlib.Omega.{arith}
 use Rattle.util.proofs.Columns.{renew-new, renew-more, renew-filled, renew-old, renew-same}
 use borrow.Author.Needs.{needs}
-use borrow.Author.Needs.{needs}
 use Rattle.util.proofs.renew_in.Statement.{statement}
 use Rattle.util.proofs.renew_in.Tie as tie
 

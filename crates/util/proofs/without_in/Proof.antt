@@ -1,5 +1,4 @@
 -- What is left and what was there are one without x. The measure is how many are left.
-use Prim.Native.Nat.{_-_}
 use Rattle.util.proofs.Columns.{Dropping, dropping-start, dropping-next, dropping-end, dropping-count}
 use borrow.Author.Needs.{needs}
 use Rattle.util.proofs.without_in.Statement.{statement}

@@ -11,9 +11,6 @@ use Rattle.writer.specs.declared.Fields.{Fields}
 use borrow.Author.Needs.{needs}
 use Rattle.writer.proofs.put_header.Statement.{statement}
 use Rattle.writer.proofs.put_header.Tie as tie
-use Rattle.writer.proofs.header_back.Reads as header-back-reads
-use Rattle.writer.proofs.header_front.Reads as header-front-reads
-use Rattle.writer.proofs.put_bytes.Reads as put-bytes-reads
 
 header-front-requires : tie.Need-header-front-requires
 header-front-requires c κs = search needs

@@ -1,5 +1,4 @@
 use mathlib.Core.Path.{refl}
-use native.Mathlib.Omega.{arith}
 use borrow.Author.Needs.{needs}
 use Rattle.timing.specs.Timing.{next}
 use Rattle.timing.proofs.Ttl.next.Statement.{statement}
