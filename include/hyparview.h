@@ -24,9 +24,9 @@
  * bytes hold, each call answers.
  *
  * DAMAGE. Words that are no station which keeps the station rules (docs/FORMAT.md) are refused with HYPARVIEW_CODE_STATE,
- * and the queries say no of them; words after hyparview_new and any events keep the rules. So words that were kept over a
- * reset may be tried as they are, and made anew by hyparview_new where they are refused. Keep the timers that run beside
- * them: only the first accepted event of a new station starts DoShuffle and DoMaintenance. */
+ * and the queries say no of them; words after a hyparview_new that was accepted, and any events, keep the rules. So words
+ * that were kept over a reset may be tried as they are, and made anew by hyparview_new where they are refused. Keep the
+ * timers that run beside them: only the first accepted event of a new station starts DoShuffle and DoMaintenance. */
 #ifndef HYPARVIEW_H
 #define HYPARVIEW_H
 

@@ -126,8 +126,13 @@ def length():
 def layout():
     out = [LAYOUT_HEAD]
     out.append(f"-- the words of a state\nabbrev pub words : ℕ\nwords = {length()}\n")
-    out.append("-- ---- the numbers\n")
+    few, many, data = sorted({cap for _, _, cap in SECTIONS})
+    out.append("-- the places of a small section, of a large one and of the data map, and the words of a large set with its count\n")
+    for name, n in (("few-places", few), ("all-places", many), ("data-places", data), ("set-words", many + 1)):
+        out.append(f"abbrev pub {name} : ℕ\n{name} = {n}\n")
+    out.append("-- ---- the numbers, and where each stands\n")
     for i, name in enumerate(NUMBERS):
+        out.append(f"abbrev pub {name}-at : ℕ\n{name}-at = {i}\n")
         out.append(f"abbrev pub {name} : List ℕ → ℕ\n{name} xs = getD xs {i} 0\n")
     out.append("-- ---- the sections\n")
     for name, _, _, at, size in places():

@@ -17,6 +17,7 @@ use Rattle.columns.specs.Columns.{low-word, high-word}
 use Rattle.protocol.specs.Handle as handle
 use Rattle.protocol.specs.Rules.{short-data}
 use Rattle.state.specs.Layout.{words}
+use Rattle.state.specs.Layout.{me-at, own-present-at, own-len-at, own-low-at, own-high-at, active-view-capacity-at, passive-view-capacity-at, shuffle-active-view-count-at, shuffle-passive-view-count-at, active-random-walk-length-at, passive-random-walk-length-at, shuffle-random-walk-length-at, shuffle-interval-at, neighbor-request-timeout-at, next-shuffle-interval-at}
 use Rattle.rules.specs.Pack.{present-word, pack}
 
 -- own data as it is lent: the bytes, or absent; empty is not absent
@@ -39,18 +40,18 @@ made xs me d c = choose (eqb (length xs) words) (pack-made (handle.new me d c)) 
 -- ---- the words of a new station, some at a time
 
 unfoldable pub with-own : Data → List ℕ → List ℕ
-with-own d xs = set (set (set (set xs 1 (present-word d)) 2 (length (bytes-of d))) 20 (low-word (bytes-of d))) 21 (high-word (bytes-of d))
+with-own d xs = set (set (set (set xs own-present-at (present-word d)) own-len-at (length (bytes-of d))) own-low-at (low-word (bytes-of d))) own-high-at (high-word (bytes-of d))
 
 unfoldable pub with-views : Config → List ℕ → List ℕ
 with-views c xs =
-    set (set (set (set xs 3 (c .«active_view_capacity»)) 4 (c .«passive_view_capacity»)) 8 (c .«shuffle_active_view_count»)) 9 (c .«shuffle_passive_view_count»)
+    set (set (set (set xs active-view-capacity-at (c .«active_view_capacity»)) passive-view-capacity-at (c .«passive_view_capacity»)) shuffle-active-view-count-at (c .«shuffle_active_view_count»)) shuffle-passive-view-count-at (c .«shuffle_passive_view_count»)
 
 unfoldable pub with-walks : ℕ → Config → List ℕ → List ℕ
-with-walks me c xs = set (set (set (set xs 0 me) 5 (c .«active_random_walk_length»)) 6 (c .«passive_random_walk_length»)) 7 (c .«shuffle_random_walk_length»)
+with-walks me c xs = set (set (set (set xs me-at me) active-random-walk-length-at (c .«active_random_walk_length»)) passive-random-walk-length-at (c .«passive_random_walk_length»)) shuffle-random-walk-length-at (c .«shuffle_random_walk_length»)
 
 unfoldable pub with-times : Config → List ℕ → List ℕ
 with-times c xs =
-    set (set (set xs 10 (c .«shuffle_interval»)) 11 (c .«neighbor_request_timeout»)) 13 (min initial-shuffle-interval (c .«shuffle_interval»))
+    set (set (set xs shuffle-interval-at (c .«shuffle_interval»)) neighbor-request-timeout-at (c .«neighbor_request_timeout»)) next-shuffle-interval-at (min initial-shuffle-interval (c .«shuffle_interval»))
 
 -- r is the data d, or not ok where d is over 16 bytes
 pub record Own (r : MaybeData) (d : Data) : Type 0 where

@@ -1,4 +1,4 @@
-// `handle`: one event, whatever it is, to the whole result or one numbered refused-words, over the words of a state.
+// `handle`: one event, whatever it is, to the whole result or one numbered refusal, over the words of a state.
 use peer::MaybeData;
 use peer::PeerData;
 use peer::PeerId;
@@ -20,7 +20,7 @@ ghost use Rattle.record.specs.Read.{rec-of};
 ghost use Rattle.protocol.specs.Budgets.{arriving};
 ghost use Rattle.protocol.specs.Run.{on};
 ghost use Rattle.protocol.specs.Handle.{new, note-scheduled, first-timers, forget-declined, handle-message, dispatch, steps, new-station};
-ghost use Rattle.state.specs.Layout.{words};
+ghost use Rattle.state.specs.Layout.{words, few-places};
 ghost use Rattle.state.specs.Unpack.{PackedState, unpack};
 ghost use Rattle.state.specs.Work.{work-of, run, Changes, Fine, Does};
 ghost use Rattle.rules.specs.Ok.{state-ok};
@@ -261,7 +261,7 @@ fn refuse(st: &[u64], out: &mut [u8], code: u32) -> Done
     }
 }
 
-// The words that the steps reached, with zeroes after the records; or the refused-words that they met, with the old words.
+// The words that the steps reached, with zeroes after the records; or the refusal that they met, with the old words.
 fn finish(old: &[u64], st: &mut [u64], w: Work, out: &mut [u8]) -> Done
     requires { ⌜ length (now old) ≡ words ⌝ }
     requires { ⌜ length (now st) ≡ words ⌝ }
@@ -422,7 +422,7 @@ fn dispatch(w: Work, st: &mut [u64], draws: &[u32], out: &mut [u8], b: &[u8], h:
     requires { ⌜ length (now st) ≡ words ⌝ }
     requires { ⌜ Fine (work-of w (now st)) (now draws) (now out) ⌝ }
     requires { ⌜ Headed (now b) h ⌝ }
-    requires { ⌜ h .kind ≤ 8 ⌝ }
+    requires { ⌜ h .kind ≤ few-places ⌝ }
     requires { ⌜ Opens (h .kind) (run (work-of w (now st)) (now draws) (now out)) ⌝ }
     ensures { λ r. ⌜ Does (work-of r (now (st .exit))) (now (draws .entry)) (now (out .exit)) (dispatch (rec-of (now (b .entry))) (run (work-of w (now (st .entry))) (now (draws .entry)) (now (out .entry)))) ⌝ }
 {
@@ -452,7 +452,7 @@ fn steps(w: Work, st: &mut [u64], draws: &[u32], out: &mut [u8], b: &[u8], h: He
     requires { ⌜ length (now st) ≡ words ⌝ }
     requires { ⌜ Fine (work-of w (now st)) (now draws) (now out) ⌝ }
     requires { ⌜ Headed (now b) h ⌝ }
-    requires { ⌜ h .kind ≤ 8 ⌝ }
+    requires { ⌜ h .kind ≤ few-places ⌝ }
     requires { ⌜ Opens (h .kind) (run (work-of w (now st)) (now draws) (now out)) ⌝ }
     ensures { λ r. ⌜ Does (work-of r (now (st .exit))) (now (draws .entry)) (now (out .exit)) (steps (rec-of (now (b .entry))) (run (work-of w (now (st .entry))) (now (draws .entry)) (now (out .entry)))) ⌝ }
 {
@@ -461,7 +461,7 @@ fn steps(w: Work, st: &mut [u64], draws: &[u32], out: &mut [u8], b: &[u8], h: He
     forget_declined(c, st)
 }
 
-// An event that was read, at words that keep the rules; they are kept aside for a refused-words.
+// An event that was read, at words that keep the rules; they are kept aside for a refusal.
 fn handle_event(st: &mut [u64], b: &[u8], draws: &[u32], out: &mut [u8], h: Header) -> Done
     requires { ⌜ length (now st) ≡ words ⌝ }
     requires { ⌜ state-ok (now st) ≡ true ⌝ }
@@ -479,7 +479,7 @@ fn handle_event(st: &mut [u64], b: &[u8], draws: &[u32], out: &mut [u8], h: Head
     finish(&old, st, a, out)
 }
 
-// One event: the whole result, or one numbered refused-words that leaves every word as it was.
+// One event: the whole result, or one numbered refusal that leaves every word as it was.
 pub fn handle(st: &mut [u64], b: &[u8], draws: &[u32], out: &mut [u8]) -> Done
     ensures { λ r. ⌜ record { code = r .code; draws = r .draws; words = now (st .exit); output = now (out .exit) } ≡ handled (now (st .entry)) (now (b .entry)) (now (draws .entry)) (length (now (out .entry))) ⌝ }
 {

@@ -1,4 +1,4 @@
--- The loop of `distinct`: no word from place i on stands twice, and each has its mark. By the marks of util.
+-- The loop of `distinct`: no word from place i on stands twice, and each has its mark. By the marks of scan.
 -- Assumes nothing.
 use Prim.Native.Nat.{ℕ, suc, _-_, _%_, _≤_, _<_}
 use mathlib.Core.Path.{_≡_, sym, ap, _∙_}

@@ -9,70 +9,150 @@ use Rattle.util.specs.Section.{part}
 abbrev pub words : ℕ
 words = 551
 
--- ---- the numbers
+-- the places of a small section, of a large one and of the data map, and the words of a large set with its count
+
+abbrev pub few-places : ℕ
+few-places = 8
+
+abbrev pub all-places : ℕ
+all-places = 32
+
+abbrev pub data-places : ℕ
+data-places = 80
+
+abbrev pub set-words : ℕ
+set-words = 33
+
+-- ---- the numbers, and where each stands
+
+abbrev pub me-at : ℕ
+me-at = 0
 
 abbrev pub me : List ℕ → ℕ
 me xs = getD xs 0 0
 
+abbrev pub own-present-at : ℕ
+own-present-at = 1
+
 abbrev pub own-present : List ℕ → ℕ
 own-present xs = getD xs 1 0
+
+abbrev pub own-len-at : ℕ
+own-len-at = 2
 
 abbrev pub own-len : List ℕ → ℕ
 own-len xs = getD xs 2 0
 
+abbrev pub active-view-capacity-at : ℕ
+active-view-capacity-at = 3
+
 abbrev pub active-view-capacity : List ℕ → ℕ
 active-view-capacity xs = getD xs 3 0
+
+abbrev pub passive-view-capacity-at : ℕ
+passive-view-capacity-at = 4
 
 abbrev pub passive-view-capacity : List ℕ → ℕ
 passive-view-capacity xs = getD xs 4 0
 
+abbrev pub active-random-walk-length-at : ℕ
+active-random-walk-length-at = 5
+
 abbrev pub active-random-walk-length : List ℕ → ℕ
 active-random-walk-length xs = getD xs 5 0
+
+abbrev pub passive-random-walk-length-at : ℕ
+passive-random-walk-length-at = 6
 
 abbrev pub passive-random-walk-length : List ℕ → ℕ
 passive-random-walk-length xs = getD xs 6 0
 
+abbrev pub shuffle-random-walk-length-at : ℕ
+shuffle-random-walk-length-at = 7
+
 abbrev pub shuffle-random-walk-length : List ℕ → ℕ
 shuffle-random-walk-length xs = getD xs 7 0
+
+abbrev pub shuffle-active-view-count-at : ℕ
+shuffle-active-view-count-at = 8
 
 abbrev pub shuffle-active-view-count : List ℕ → ℕ
 shuffle-active-view-count xs = getD xs 8 0
 
+abbrev pub shuffle-passive-view-count-at : ℕ
+shuffle-passive-view-count-at = 9
+
 abbrev pub shuffle-passive-view-count : List ℕ → ℕ
 shuffle-passive-view-count xs = getD xs 9 0
+
+abbrev pub shuffle-interval-at : ℕ
+shuffle-interval-at = 10
 
 abbrev pub shuffle-interval : List ℕ → ℕ
 shuffle-interval xs = getD xs 10 0
 
+abbrev pub neighbor-request-timeout-at : ℕ
+neighbor-request-timeout-at = 11
+
 abbrev pub neighbor-request-timeout : List ℕ → ℕ
 neighbor-request-timeout xs = getD xs 11 0
+
+abbrev pub timers-scheduled-at : ℕ
+timers-scheduled-at = 12
 
 abbrev pub timers-scheduled : List ℕ → ℕ
 timers-scheduled xs = getD xs 12 0
 
+abbrev pub next-shuffle-interval-at : ℕ
+next-shuffle-interval-at = 13
+
 abbrev pub next-shuffle-interval : List ℕ → ℕ
 next-shuffle-interval xs = getD xs 13 0
+
+abbrev pub passes-alone-at : ℕ
+passes-alone-at = 14
 
 abbrev pub passes-alone : List ℕ → ℕ
 passes-alone xs = getD xs 14 0
 
+abbrev pub passes-short-at : ℕ
+passes-short-at = 15
+
 abbrev pub passes-short : List ℕ → ℕ
 passes-short xs = getD xs 15 0
+
+abbrev pub refill-kind-at : ℕ
+refill-kind-at = 16
 
 abbrev pub refill-kind : List ℕ → ℕ
 refill-kind xs = getD xs 16 0
 
+abbrev pub refill-requests-at : ℕ
+refill-requests-at = 17
+
 abbrev pub refill-requests : List ℕ → ℕ
 refill-requests xs = getD xs 17 0
+
+abbrev pub next-neighbor-request-at : ℕ
+next-neighbor-request-at = 18
 
 abbrev pub next-neighbor-request : List ℕ → ℕ
 next-neighbor-request xs = getD xs 18 0
 
+abbrev pub next-join-at : ℕ
+next-join-at = 19
+
 abbrev pub next-join : List ℕ → ℕ
 next-join xs = getD xs 19 0
 
+abbrev pub own-low-at : ℕ
+own-low-at = 20
+
 abbrev pub own-low : List ℕ → ℕ
 own-low xs = getD xs 20 0
+
+abbrev pub own-high-at : ℕ
+own-high-at = 21
 
 abbrev pub own-high : List ℕ → ℕ
 own-high xs = getD xs 21 0

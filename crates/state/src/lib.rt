@@ -20,7 +20,7 @@ ghost use Rattle.protocol.specs.Setters.{set-own-data, set-refill};
 ghost use Rattle.protocol.specs.Messages.{drop-join, drop-request, drop-pending};
 ghost use Rattle.protocol.specs.Station.{is-me, in-active, in-passive, in-view, is-alone, active-is-full, passive-is-full, is-short, is-last-hop};
 ghost use Rattle.protocol.specs.Station.{is-recovery, is-automatic, is-spent, is-requested};
-ghost use Rattle.state.specs.Layout.{words};
+ghost use Rattle.state.specs.Layout.{words, all-places};
 ghost use Rattle.state.specs.Unpack.{unpack, own-at, limit-at, refill-in, PackedState, Becomes};
 ghost use Rattle.state.specs.Work.{work-of, Changes, ChangesAny, DrawsAny, Reaches, TellsAny, after-record};
 
@@ -331,9 +331,9 @@ pub fn choose(w: Work, draws: &[u32], n: usize) -> Chosen
 // Shuffles a working set of 32 places where it lies, and takes the draws of that; code 5 where there are not so many.
 pub fn shuffle(w: Work, draws: &[u32], v: &mut [u64]) -> Work
     requires { ⌜ w .drawn ≤ length (now draws) ⌝ }
-    requires { ⌜ ValidSet 32 (now v) ⌝ }
-    ensures { λ r. ⌜ DrawsAny (draw-shuffle (items-at 32 (now (v .entry)))) w r (now (draws .entry)) ⌝ }
-    ensures { λ _. ⌜ HoldsSet 32 (now (v .exit)) (shuffle (drop (w .drawn) (now (draws .entry))) (items-at 32 (now (v .entry)))) ⌝ }
+    requires { ⌜ ValidSet all-places (now v) ⌝ }
+    ensures { λ r. ⌜ DrawsAny (draw-shuffle (items-at all-places (now (v .entry)))) w r (now (draws .entry)) ⌝ }
+    ensures { λ _. ⌜ HoldsSet all-places (now (v .exit)) (shuffle (drop (w .drawn) (now (draws .entry))) (items-at all-places (now (v .entry)))) ⌝ }
 {
     let next = util::shuffle(v, Layout::ALL, draws, w.drawn);
     reach(w, draws, next)

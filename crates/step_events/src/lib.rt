@@ -20,7 +20,7 @@ ghost use Rattle.protocol.specs.Budgets.{leaving};
 ghost use Rattle.protocol.specs.Run.{on};
 ghost use Rattle.protocol.specs.Events.{must-drop-oldest, oldest, drop-oldest-join, push-bootstrap, join-counts, note-join, open-join, await-join, join-other, join-new, handle-join};
 ghost use Rattle.protocol.specs.Events.{drop-dead, lose-passive, lose-other, lose, handle-connection-closed, update-own-data, remove-neighbor, quit-one, quit-all, clear-all, handle-quit};
-ghost use Rattle.state.specs.Layout.{words};
+ghost use Rattle.state.specs.Layout.{words, all-places, set-words};
 ghost use Rattle.state.specs.Unpack.{unpack, PackedState};
 ghost use Rattle.state.specs.Work.{work-of, run, Changes, Room, Tells, Fine, Does};
 ghost use Rattle.step_active.specs.Sane.{Calm};
@@ -30,8 +30,8 @@ ghost use Rattle.step_events.specs.Free.{FreeJoin, Joinable, KnownJoins}
 fn others_into(st: &[u64], p: PeerId, t: &mut [u64])
     requires { ⌜ length (now st) ≡ words ⌝ }
     requires { ⌜ PackedState (now st) ⌝ }
-    requires { ⌜ length (now t) ≡ 33 ⌝ }
-    ensures { λ _. ⌜ HoldsSet 32 (now (t .exit)) (without p (unpack (now (st .entry)) .bootstrap)) ⌝ }
+    requires { ⌜ length (now t) ≡ set-words ⌝ }
+    ensures { λ _. ⌜ HoldsSet all-places (now (t .exit)) (without p (unpack (now (st .entry)) .bootstrap)) ⌝ }
 {
     util::copy_into(
         &st[Layout::BOOTSTRAP..Layout::BOOTSTRAP_END],

@@ -16,16 +16,16 @@ ghost use Rattle.protocol.specs.Timers.{renew-all, remember-all, other-recent, 
 ghost use Rattle.protocol.specs.Timers.{alone-counts, add-alone, count-alone, rejoin-if-due, pass-alone, short-counts, add-short, count-short};
 ghost use Rattle.protocol.specs.Timers.{refill-anew, refill-if-due, in-recovery, pass-short, pass-neighbors, pass-known, not-alone, knows-none, maintain};
 ghost use Rattle.protocol.specs.Timers.{schedule-maintenance, handle-maintenance-timer};
-ghost use Rattle.state.specs.Layout.{words};
+ghost use Rattle.state.specs.Layout.{words, all-places, few-places, set-words};
 ghost use Rattle.state.specs.Unpack.{unpack, PackedState};
 ghost use Rattle.state.specs.Work.{work-of, run, Changes, Room, Tells, TellsAny, Fine, Does};
 ghost use Rattle.step_maintenance.specs.Counts.{Counts};
 
 // The peers of a working set as the newest of the known ones, one after the other.
 fn renew_all(known: &mut [u64], v: &[u64])
-    requires { ⌜ ValidSet 8 (now known) ⌝ }
-    requires { ⌜ ValidSet 32 (now v) ⌝ }
-    ensures { λ _. ⌜ HoldsSet 8 (now (known .exit)) (renew-all (items-at 32 (now (v .entry))) (items-at 8 (now (known .entry)))) ⌝ }
+    requires { ⌜ ValidSet few-places (now known) ⌝ }
+    requires { ⌜ ValidSet all-places (now v) ⌝ }
+    ensures { λ _. ⌜ HoldsSet few-places (now (known .exit)) (renew-all (items-at all-places (now (v .entry))) (items-at few-places (now (known .entry)))) ⌝ }
 {
     let n = util::count(v, Layout::ALL);
     let mut i: usize = 0;
@@ -55,8 +55,8 @@ fn remember_all(w: Work, st: &mut [u64]) -> Work
 fn other_recent(st: &[u64], v: &mut [u64])
     requires { ⌜ length (now st) ≡ words ⌝ }
     requires { ⌜ PackedState (now st) ⌝ }
-    requires { ⌜ length (now v) ≡ 33 ⌝ }
-    ensures { λ _. ⌜ HoldsSet 32 (now (v .exit)) (other-recent (unpack (now (st .entry)))) ⌝ }
+    requires { ⌜ length (now v) ≡ set-words ⌝ }
+    ensures { λ _. ⌜ HoldsSet all-places (now (v .exit)) (other-recent (unpack (now (st .entry)))) ⌝ }
 {
     util::copy_into(&st[Layout::RECENT..Layout::RECENT_END], Layout::FEW, v);
     util::without_all(
@@ -71,8 +71,8 @@ fn other_recent(st: &[u64], v: &mut [u64])
 fn rejoin_recent(w: Work, st: &[u64], draws: &[u32], out: &mut [u8], v: &[u64]) -> Work
     requires { ⌜ length (now st) ≡ words ⌝ }
     requires { ⌜ Fine (work-of w (now st)) (now draws) (now out) ⌝ }
-    requires { ⌜ ValidSet 32 (now v) ⌝ }
-    ensures { λ r. ⌜ Does (work-of r (now (st .entry))) (now (draws .entry)) (now (out .exit)) (rejoin-recent (items-at 32 (now (v .entry))) (run (work-of w (now (st .entry))) (now (draws .entry)) (now (out .entry)))) ⌝ }
+    requires { ⌜ ValidSet all-places (now v) ⌝ }
+    ensures { λ r. ⌜ Does (work-of r (now (st .entry))) (now (draws .entry)) (now (out .exit)) (rejoin-recent (items-at all-places (now (v .entry))) (run (work-of w (now (st .entry))) (now (draws .entry)) (now (out .entry)))) ⌝ }
 {
     if util::is_empty(v, Layout::ALL) {
         return w;

@@ -24,7 +24,7 @@ ghost use Rattle.protocol.specs.Messages.{forward-join-to, ends-here, ask-joine
 ghost use Rattle.protocol.specs.Messages.{forward-joins, on-join, refuse-neighbor, answer-neighbor, on-neighbor};
 ghost use Rattle.protocol.specs.Messages.{drop-join, drop-request, drop-recent, forget-recent, refused-fits, add-refused, note-refused, note-refusal, mark-passive, left-topic, disconnect-other};
 ghost use Rattle.protocol.specs.Messages.{disconnected, on-disconnect};
-ghost use Rattle.state.specs.Layout.{words};
+ghost use Rattle.state.specs.Layout.{words, all-places, set-words};
 ghost use Rattle.state.specs.Unpack.{unpack, PackedState};
 ghost use Rattle.state.specs.Work.{work-of, run, Changes, DrawsAny, TellsAny, Room, Tells, Fine, Does};
 ghost use Rattle.step_active.specs.Sane.{Calm};
@@ -35,8 +35,8 @@ ghost use Rattle.step_messages.specs.Places.{FreeRefused, FreePassiveMar
 fn others_into(st: &[u64], p: PeerId, t: &mut [u64])
     requires { ⌜ length (now st) ≡ words ⌝ }
     requires { ⌜ PackedState (now st) ⌝ }
-    requires { ⌜ length (now t) ≡ 33 ⌝ }
-    ensures { λ _. ⌜ HoldsSet 32 (now (t .exit)) (without p (unpack (now (st .entry)) .active)) ⌝ }
+    requires { ⌜ length (now t) ≡ set-words ⌝ }
+    ensures { λ _. ⌜ HoldsSet all-places (now (t .exit)) (without p (unpack (now (st .entry)) .active)) ⌝ }
 {
     util::copy_into(&st[Layout::ACTIVE..Layout::ACTIVE_END], Layout::FEW, t);
     util::without(t, Layout::ALL, p);

@@ -15,7 +15,7 @@ ghost use Rattle.protocol.specs.Run.{on};
 ghost use Rattle.protocol.specs.Refill.{few-requests, unless-recovery, one-less, use-request, end-recovery, needs-limit, limit-short, candidates};
 ghost use Rattle.protocol.specs.Refill.{ask-picked, ask-one, refill-limited, needs-none, refill-active-from-passive, begin-refill, start-refill};
 ghost use Rattle.protocol.specs.Active.{clear-refused};
-ghost use Rattle.state.specs.Layout.{words};
+ghost use Rattle.state.specs.Layout.{words, all-places, set-words};
 ghost use Rattle.state.specs.Unpack.{unpack, refill-in, PackedState};
 ghost use Rattle.state.specs.Work.{work-of, run, Changes, Fine, Does};
 
@@ -80,8 +80,8 @@ fn use_request(w: Work, st: &mut [u64]) -> Work
 fn asked_outside(st: &[u64], t: &mut [u64])
     requires { ⌜ length (now st) ≡ words ⌝ }
     requires { ⌜ PackedState (now st) ⌝ }
-    requires { ⌜ length (now t) ≡ 33 ⌝ }
-    ensures { λ _. ⌜ HoldsSet 32 (now (t .exit)) (asked-outside (unpack (now (st .entry)))) ⌝ }
+    requires { ⌜ length (now t) ≡ set-words ⌝ }
+    ensures { λ _. ⌜ HoldsSet all-places (now (t .exit)) (asked-outside (unpack (now (st .entry)))) ⌝ }
 {
     columns::keys_into(&st[Layout::ASKED..Layout::ASKED_END], Layout::ALL, t);
     util::without_all(
@@ -141,8 +141,8 @@ fn limit_short(w: Work, st: &mut [u64]) -> Work
 
 // The peers of a working set that are not in `skip`, in order.
 fn without_list(t: &mut [u64], skip: &[u64])
-    requires { ⌜ ValidSet 32 (now t) ⌝ }
-    ensures { λ _. ⌜ HoldsSet 32 (now (t .exit)) (without-all (now (skip .entry)) (items-at 32 (now (t .entry)))) ⌝ }
+    requires { ⌜ ValidSet all-places (now t) ⌝ }
+    ensures { λ _. ⌜ HoldsSet all-places (now (t .exit)) (without-all (now (skip .entry)) (items-at all-places (now (t .entry)))) ⌝ }
 {
     let n = t[Layout::ALL] as usize;
     let m = util::without_all_in(&mut t[..Layout::ALL], n, skip);
@@ -153,8 +153,8 @@ fn without_list(t: &mut [u64], skip: &[u64])
 fn passive_without(st: &[u64], skip: &[u64], t: &mut [u64])
     requires { ⌜ length (now st) ≡ words ⌝ }
     requires { ⌜ PackedState (now st) ⌝ }
-    requires { ⌜ length (now t) ≡ 33 ⌝ }
-    ensures { λ _. ⌜ HoldsSet 32 (now (t .exit)) (without-all (now (skip .entry)) (unpack (now (st .entry)) .passive)) ⌝ }
+    requires { ⌜ length (now t) ≡ set-words ⌝ }
+    ensures { λ _. ⌜ HoldsSet all-places (now (t .exit)) (without-all (now (skip .entry)) (unpack (now (st .entry)) .passive)) ⌝ }
 {
     util::copy_into(&st[Layout::PASSIVE..Layout::PASSIVE_END], Layout::ALL, t);
     without_list(t, skip);
@@ -164,8 +164,8 @@ fn passive_without(st: &[u64], skip: &[u64], t: &mut [u64])
 fn without_asked(st: &[u64], t: &mut [u64])
     requires { ⌜ length (now st) ≡ words ⌝ }
     requires { ⌜ PackedState (now st) ⌝ }
-    requires { ⌜ ValidSet 32 (now t) ⌝ }
-    ensures { λ _. ⌜ HoldsSet 32 (now (t .exit)) (without-all (keys (unpack (now (st .entry)) .requests)) (items-at 32 (now (t .entry)))) ⌝ }
+    requires { ⌜ ValidSet all-places (now t) ⌝ }
+    ensures { λ _. ⌜ HoldsSet all-places (now (t .exit)) (without-all (keys (unpack (now (st .entry)) .requests)) (items-at all-places (now (t .entry)))) ⌝ }
 {
     let mut asked = [0u64; Layout::SET];
     columns::keys_into(
@@ -180,8 +180,8 @@ fn without_asked(st: &[u64], t: &mut [u64])
 fn candidates(st: &[u64], skip: &[u64], t: &mut [u64])
     requires { ⌜ length (now st) ≡ words ⌝ }
     requires { ⌜ PackedState (now st) ⌝ }
-    requires { ⌜ length (now t) ≡ 33 ⌝ }
-    ensures { λ _. ⌜ HoldsSet 32 (now (t .exit)) (candidates (now (skip .entry)) (unpack (now (st .entry)))) ⌝ }
+    requires { ⌜ length (now t) ≡ set-words ⌝ }
+    ensures { λ _. ⌜ HoldsSet all-places (now (t .exit)) (candidates (now (skip .entry)) (unpack (now (st .entry)))) ⌝ }
 {
     passive_without(st, skip, t);
     without_asked(st, t);
@@ -200,9 +200,9 @@ fn candidates(st: &[u64], skip: &[u64], t: &mut [u64])
 fn ask_picked(w: Work, st: &mut [u64], draws: &[u32], out: &mut [u8], from: &[u64]) -> Work
     requires { ⌜ length (now st) ≡ words ⌝ }
     requires { ⌜ Fine (work-of w (now st)) (now draws) (now out) ⌝ }
-    requires { ⌜ ValidSet 32 (now from) ⌝ }
-    requires { ⌜ 0 < length (items-at 32 (now from)) ⌝ }
-    ensures { λ r. ⌜ Does (work-of r (now (st .exit))) (now (draws .entry)) (now (out .exit)) (ask-picked (items-at 32 (now (from .entry))) (run (work-of w (now (st .entry))) (now (draws .entry)) (now (out .entry)))) ⌝ }
+    requires { ⌜ ValidSet all-places (now from) ⌝ }
+    requires { ⌜ 0 < length (items-at all-places (now from)) ⌝ }
+    ensures { λ r. ⌜ Does (work-of r (now (st .exit))) (now (draws .entry)) (now (out .exit)) (ask-picked (items-at all-places (now (from .entry))) (run (work-of w (now (st .entry))) (now (draws .entry)) (now (out .entry)))) ⌝ }
 {
     let high = state::is_alone(st);
     let n = util::count(from, Layout::ALL);
@@ -218,8 +218,8 @@ fn ask_picked(w: Work, st: &mut [u64], draws: &[u32], out: &mut [u8], from: &[u6
 fn ask_one(w: Work, st: &mut [u64], draws: &[u32], out: &mut [u8], from: &[u64]) -> Work
     requires { ⌜ length (now st) ≡ words ⌝ }
     requires { ⌜ Fine (work-of w (now st)) (now draws) (now out) ⌝ }
-    requires { ⌜ ValidSet 32 (now from) ⌝ }
-    ensures { λ r. ⌜ Does (work-of r (now (st .exit))) (now (draws .entry)) (now (out .exit)) (ask-one (items-at 32 (now (from .entry))) (run (work-of w (now (st .entry))) (now (draws .entry)) (now (out .entry)))) ⌝ }
+    requires { ⌜ ValidSet all-places (now from) ⌝ }
+    ensures { λ r. ⌜ Does (work-of r (now (st .exit))) (now (draws .entry)) (now (out .exit)) (ask-one (items-at all-places (now (from .entry))) (run (work-of w (now (st .entry))) (now (draws .entry)) (now (out .entry)))) ⌝ }
 {
     if util::is_empty(from, Layout::ALL) {
         return end_recovery(w, st);

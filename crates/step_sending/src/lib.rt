@@ -20,7 +20,7 @@ ghost use Rattle.writer.specs.Nodes.{HoldsNodes};
 ghost use Rattle.protocol.specs.Run.{on, emit, flag, node, peer-infos, draw-shuffle};
 ghost use Rattle.protocol.specs.Sending.{join, send-nodes, send-filled, reply-with, send-shuffle-reply, reply-length, send-disconnect};
 ghost use Rattle.protocol.specs.Sending.{request-counts, request-fits, note-request, count-request, open-request, neighbor-to, tell-request, send-neighbor, reply-neighbor};
-ghost use Rattle.state.specs.Layout.{words};
+ghost use Rattle.state.specs.Layout.{words, all-places};
 ghost use Rattle.state.specs.Unpack.{unpack, PackedState};
 ghost use Rattle.state.specs.Work.{work-of, run, Changes, DrawsAny, Room, Tells, Fine, Does};
 ghost use Rattle.step_sending.specs.Requests.{Countable, Notable};
@@ -50,7 +50,7 @@ fn peer_info(st: &[u64], p: PeerId) -> PeerInfo
 pub fn peer_infos(st: &[u64], ids: &[u64]) -> Nodes
     requires { ⌜ length (now st) ≡ words ⌝ }
     requires { ⌜ PackedState (now st) ⌝ }
-    requires { ⌜ length (now ids) ≤ 32 ⌝ }
+    requires { ⌜ length (now ids) ≤ all-places ⌝ }
     ensures { λ r. ⌜ HoldsNodes r (peer-infos (unpack (now (st .entry))) (now (ids .entry))) ⌝ }
 {
     let mut t = Nodes::new();
@@ -87,7 +87,7 @@ pub fn join(w: Work, st: &[u64], out: &mut [u8], p: PeerId) -> Work
 fn send_nodes(w: Work, st: &[u64], out: &mut [u8], to: PeerId, ps: &[u64]) -> Work
     requires { ⌜ length (now st) ≡ words ⌝ }
     requires { ⌜ Room (work-of w (now st)) (now out) ⌝ }
-    requires { ⌜ length (now ps) ≤ 32 ⌝ }
+    requires { ⌜ length (now ps) ≤ all-places ⌝ }
     ensures { λ r. ⌜ Tells (send-nodes to (now (ps .entry))) (work-of w (now (st .entry))) (work-of r (now (st .entry))) (now (out .entry)) (now (out .exit)) ⌝ }
 {
     let ns = peer_infos(st, ps);
@@ -107,8 +107,8 @@ fn send_nodes(w: Work, st: &[u64], out: &mut [u8], to: PeerId, ps: &[u64]) -> Wo
 fn send_set(w: Work, st: &[u64], out: &mut [u8], to: PeerId, v: &[u64]) -> Work
     requires { ⌜ length (now st) ≡ words ⌝ }
     requires { ⌜ Room (work-of w (now st)) (now out) ⌝ }
-    requires { ⌜ ValidSet 32 (now v) ⌝ }
-    ensures { λ r. ⌜ Tells (send-nodes to (items-at 32 (now (v .entry)))) (work-of w (now (st .entry))) (work-of r (now (st .entry))) (now (out .entry)) (now (out .exit)) ⌝ }
+    requires { ⌜ ValidSet all-places (now v) ⌝ }
+    ensures { λ r. ⌜ Tells (send-nodes to (items-at all-places (now (v .entry)))) (work-of w (now (st .entry))) (work-of r (now (st .entry))) (now (out .entry)) (now (out .exit)) ⌝ }
 {
     let n = util::count(v, Layout::ALL);
     send_nodes(w, st, out, to, &v[..n])
@@ -117,9 +117,9 @@ fn send_set(w: Work, st: &[u64], out: &mut [u8], to: PeerId, v: &[u64]) -> Work
 // Shuffles a working set and cuts it to at most `most` peers.
 pub fn shuffle_and_cap(w: Work, draws: &[u32], most: usize, v: &mut [u64]) -> Work
     requires { ⌜ w .drawn ≤ length (now draws) ⌝ }
-    requires { ⌜ ValidSet 32 (now v) ⌝ }
-    ensures { λ r. ⌜ DrawsAny (draw-shuffle (items-at 32 (now (v .entry)))) w r (now (draws .entry)) ⌝ }
-    ensures { λ r. ⌜ HoldsSet 32 (now (v .exit)) (take most (shuffle (drop (w .drawn) (now (draws .entry))) (items-at 32 (now (v .entry))))) ⌝ }
+    requires { ⌜ ValidSet all-places (now v) ⌝ }
+    ensures { λ r. ⌜ DrawsAny (draw-shuffle (items-at all-places (now (v .entry)))) w r (now (draws .entry)) ⌝ }
+    ensures { λ r. ⌜ HoldsSet all-places (now (v .exit)) (take most (shuffle (drop (w .drawn) (now (draws .entry))) (items-at all-places (now (v .entry))))) ⌝ }
 {
     let r = state::shuffle(w, draws, v);
     util::truncate(v, Layout::ALL, most);
@@ -131,11 +131,11 @@ fn fill_active(w: Work, st: &[u64], draws: &[u32], len: usize, v: &mut [u64]) ->
     requires { ⌜ length (now st) ≡ words ⌝ }
     requires { ⌜ PackedState (now st) ⌝ }
     requires { ⌜ w .drawn ≤ length (now draws) ⌝ }
-    requires { ⌜ ValidSet 32 (now v) ⌝ }
-    requires { ⌜ length (items-at 32 (now v)) ≤ len ⌝ }
-    requires { ⌜ len ≤ 32 ⌝ }
+    requires { ⌜ ValidSet all-places (now v) ⌝ }
+    requires { ⌜ length (items-at all-places (now v)) ≤ len ⌝ }
+    requires { ⌜ len ≤ all-places ⌝ }
     ensures { λ r. ⌜ DrawsAny (draw-shuffle (unpack (now (st .entry)) .active)) w r (now (draws .entry)) ⌝ }
-    ensures { λ r. ⌜ HoldsSet 32 (now (v .exit)) (items-at 32 (now (v .entry)) ++ take (len - length (items-at 32 (now (v .entry)))) (shuffle (drop (w .drawn) (now (draws .entry))) (unpack (now (st .entry)) .active))) ⌝ }
+    ensures { λ r. ⌜ HoldsSet all-places (now (v .exit)) (items-at all-places (now (v .entry)) ++ take (len - length (items-at all-places (now (v .entry)))) (shuffle (drop (w .drawn) (now (draws .entry))) (unpack (now (st .entry)) .active))) ⌝ }
 {
     let n = util::count(v, Layout::ALL);
     let mut more = [0u64; Layout::SET];
@@ -161,10 +161,10 @@ fn send_filled(
 ) -> Work
     requires { ⌜ length (now st) ≡ words ⌝ }
     requires { ⌜ Fine (work-of w (now st)) (now draws) (now out) ⌝ }
-    requires { ⌜ ValidSet 32 (now v) ⌝ }
-    requires { ⌜ length (items-at 32 (now v)) ≤ len ⌝ }
-    requires { ⌜ len ≤ 32 ⌝ }
-    ensures { λ r. ⌜ Does (work-of r (now (st .entry))) (now (draws .entry)) (now (out .exit)) (send-filled to len (items-at 32 (now (v .entry))) (run (work-of w (now (st .entry))) (now (draws .entry)) (now (out .entry)))) ⌝ }
+    requires { ⌜ ValidSet all-places (now v) ⌝ }
+    requires { ⌜ length (items-at all-places (now v)) ≤ len ⌝ }
+    requires { ⌜ len ≤ all-places ⌝ }
+    ensures { λ r. ⌜ Does (work-of r (now (st .entry))) (now (draws .entry)) (now (out .exit)) (send-filled to len (items-at all-places (now (v .entry))) (run (work-of w (now (st .entry))) (now (draws .entry)) (now (out .entry)))) ⌝ }
 {
     let a = fill_active(w, st, draws, len, v);
     send_set(a, st, out, to, v)
@@ -182,9 +182,9 @@ fn reply_with(
 ) -> Work
     requires { ⌜ length (now st) ≡ words ⌝ }
     requires { ⌜ Fine (work-of w (now st)) (now draws) (now out) ⌝ }
-    requires { ⌜ ValidSet 32 (now v) ⌝ }
-    requires { ⌜ len ≤ 32 ⌝ }
-    ensures { λ r. ⌜ Does (work-of r (now (st .entry))) (now (draws .entry)) (now (out .exit)) (reply-with to len (items-at 32 (now (v .entry))) (run (work-of w (now (st .entry))) (now (draws .entry)) (now (out .entry)))) ⌝ }
+    requires { ⌜ ValidSet all-places (now v) ⌝ }
+    requires { ⌜ len ≤ all-places ⌝ }
+    ensures { λ r. ⌜ Does (work-of r (now (st .entry))) (now (draws .entry)) (now (out .exit)) (reply-with to len (items-at all-places (now (v .entry))) (run (work-of w (now (st .entry))) (now (draws .entry)) (now (out .entry)))) ⌝ }
 {
     let n = util::count(v, Layout::ALL);
     if n < len {
@@ -204,7 +204,7 @@ pub fn send_shuffle_reply(
 ) -> Work
     requires { ⌜ length (now st) ≡ words ⌝ }
     requires { ⌜ Fine (work-of w (now st)) (now draws) (now out) ⌝ }
-    requires { ⌜ len ≤ 32 ⌝ }
+    requires { ⌜ len ≤ all-places ⌝ }
     ensures { λ r. ⌜ Does (work-of r (now (st .entry))) (now (draws .entry)) (now (out .exit)) (send-shuffle-reply to len (run (work-of w (now (st .entry))) (now (draws .entry)) (now (out .entry)))) ⌝ }
 {
     let mut v = [0u64; Layout::SET];
@@ -222,7 +222,7 @@ fn reply_length(st: &[u64]) -> usize
     requires { ⌜ length (now st) ≡ words ⌝ }
     requires { ⌜ PackedState (now st) ⌝ }
     ensures { λ r. ⌜ r ≡ reply-length (unpack (now (st .entry))) ⌝ }
-    ensures { λ r. ⌜ r ≤ 32 ⌝ }
+    ensures { λ r. ⌜ r ≤ all-places ⌝ }
 {
     let n = st[Layout::SHUFFLE_ACTIVE_VIEW_COUNT] as usize;
     n + st[Layout::SHUFFLE_PASSIVE_VIEW_COUNT] as usize

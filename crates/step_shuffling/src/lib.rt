@@ -18,7 +18,7 @@ ghost use Rattle.writer.specs.Nodes.{HoldsNodes};
 ghost use Rattle.protocol.specs.Peers.{add-nodes, any-new};
 ghost use Rattle.protocol.specs.Messages.{answers-shuffle, answer-shuffle, forward-shuffle, on-shuffle};
 ghost use Rattle.protocol.specs.Messages.{stops-at-refusal, renews-limit, refill-with, after-reply, on-shuffle-reply};
-ghost use Rattle.state.specs.Layout.{words};
+ghost use Rattle.state.specs.Layout.{words, all-places, set-words};
 ghost use Rattle.state.specs.Unpack.{unpack, PackedState};
 ghost use Rattle.state.specs.Work.{work-of, run, Fine, Does};
 
@@ -106,8 +106,8 @@ fn answer_shuffle(
 fn other_neighbors(st: &[u64], p: PeerId, q: PeerId, v: &mut [u64])
     requires { ⌜ length (now st) ≡ words ⌝ }
     requires { ⌜ PackedState (now st) ⌝ }
-    requires { ⌜ length (now v) ≡ 33 ⌝ }
-    ensures { λ _. ⌜ HoldsSet 32 (now (v .exit)) (without-all (p ∷ q ∷ []) (unpack (now (st .entry)) .active)) ⌝ }
+    requires { ⌜ length (now v) ≡ set-words ⌝ }
+    ensures { λ _. ⌜ HoldsSet all-places (now (v .exit)) (without-all (p ∷ q ∷ []) (unpack (now (st .entry)) .active)) ⌝ }
 {
     // A set of two places, which are both in use.
     let skip = [p, q, 2];
@@ -129,10 +129,10 @@ fn forward_shuffle(
 ) -> Work
     requires { ⌜ length (now st) ≡ words ⌝ }
     requires { ⌜ Fine (work-of w (now st)) (now draws) (now out) ⌝ }
-    requires { ⌜ ValidSet 32 (now others) ⌝ }
+    requires { ⌜ ValidSet all-places (now others) ⌝ }
     requires { ⌜ well-formed (now b) ≡ true ⌝ }
     requires { ⌜ n ≡ header-of (now b) .nodes ⌝ }
-    ensures { λ r. ⌜ Does (work-of r (now (st .entry))) (now (draws .entry)) (now (out .exit)) (forward-shuffle (items-at 32 (now (others .entry))) origin (nodes-of (now (b .entry)) 0 n) ttl (run (work-of w (now (st .entry))) (now (draws .entry)) (now (out .entry)))) ⌝ }
+    ensures { λ r. ⌜ Does (work-of r (now (st .entry))) (now (draws .entry)) (now (out .exit)) (forward-shuffle (items-at all-places (now (others .entry))) origin (nodes-of (now (b .entry)) 0 n) ttl (run (work-of w (now (st .entry))) (now (draws .entry)) (now (out .entry)))) ⌝ }
 {
     if util::is_empty(others, Layout::ALL) {
         return w;

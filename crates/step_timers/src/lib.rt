@@ -17,7 +17,7 @@ ghost use Rattle.util.specs.Section.{items-at, ValidSet, HoldsSet};
 ghost use Rattle.protocol.specs.Run.{on, draw-shuffle};
 ghost use Rattle.protocol.specs.Timers.{is-number, request-is, request-failed, handle-pending-neighbor-timer, join-is, retry-join};
 ghost use Rattle.protocol.specs.Timers.{double-interval, schedule-shuffle, send-shuffle, shuffle-passive, shuffle-with, shuffle-any, handle-shuffle-timer};
-ghost use Rattle.state.specs.Layout.{words};
+ghost use Rattle.state.specs.Layout.{words, all-places, few-places, set-words};
 ghost use Rattle.state.specs.Unpack.{unpack, PackedState};
 ghost use Rattle.state.specs.Work.{work-of, run, Changes, DrawsAny, Room, Tells, Fine, Does};
 
@@ -148,9 +148,9 @@ pub fn schedule_shuffle(w: Work, st: &mut [u64], draws: &[u32], out: &mut [u8]) 
 fn send_shuffle(w: Work, st: &[u64], out: &mut [u8], to: PeerId, v: &[u64]) -> Work
     requires { ⌜ length (now st) ≡ words ⌝ }
     requires { ⌜ Room (work-of w (now st)) (now out) ⌝ }
-    requires { ⌜ ValidSet 32 (now v) ⌝ }
-    requires { ⌜ length (items-at 32 (now v)) < 32 ⌝ }
-    ensures { λ r. ⌜ Tells (send-shuffle to (items-at 32 (now (v .entry)))) (work-of w (now (st .entry))) (work-of r (now (st .entry))) (now (out .entry)) (now (out .exit)) ⌝ }
+    requires { ⌜ ValidSet all-places (now v) ⌝ }
+    requires { ⌜ length (items-at all-places (now v)) < all-places ⌝ }
+    ensures { λ r. ⌜ Tells (send-shuffle to (items-at all-places (now (v .entry)))) (work-of w (now (st .entry))) (work-of r (now (st .entry))) (now (out .entry)) (now (out .exit)) ⌝ }
 {
     let n = util::count(v, Layout::ALL);
     let named = step_sending::peer_infos(st, &v[..n]);
@@ -182,10 +182,10 @@ fn some_peers(
 ) -> Work
     requires { ⌜ w .drawn ≤ length (now draws) ⌝ }
     requires { ⌜ ValidSet cap (now view) ⌝ }
-    requires { ⌜ cap ≤ 32 ⌝ }
-    requires { ⌜ length (now v) ≡ 33 ⌝ }
+    requires { ⌜ cap ≤ all-places ⌝ }
+    requires { ⌜ length (now v) ≡ set-words ⌝ }
     ensures { λ r. ⌜ DrawsAny (draw-shuffle (without to (items-at cap (now (view .entry))))) w r (now (draws .entry)) ⌝ }
-    ensures { λ r. ⌜ HoldsSet 32 (now (v .exit)) (take most (shuffle (drop (w .drawn) (now (draws .entry))) (without to (items-at cap (now (view .entry)))))) ⌝ }
+    ensures { λ r. ⌜ HoldsSet all-places (now (v .exit)) (take most (shuffle (drop (w .drawn) (now (draws .entry))) (without to (items-at cap (now (view .entry)))))) ⌝ }
 {
     util::copy_into(view, cap, v);
     util::without(v, Layout::ALL, to);
@@ -203,9 +203,9 @@ fn shuffle_passive(
 ) -> Work
     requires { ⌜ length (now st) ≡ words ⌝ }
     requires { ⌜ Fine (work-of w (now st)) (now draws) (now out) ⌝ }
-    requires { ⌜ ValidSet 32 (now v) ⌝ }
-    requires { ⌜ length (items-at 32 (now v)) ≤ 8 ⌝ }
-    ensures { λ r. ⌜ Does (work-of r (now (st .entry))) (now (draws .entry)) (now (out .exit)) (shuffle-passive to (items-at 32 (now (v .entry))) (run (work-of w (now (st .entry))) (now (draws .entry)) (now (out .entry)))) ⌝ }
+    requires { ⌜ ValidSet all-places (now v) ⌝ }
+    requires { ⌜ length (items-at all-places (now v)) ≤ few-places ⌝ }
+    ensures { λ r. ⌜ Does (work-of r (now (st .entry))) (now (draws .entry)) (now (out .exit)) (shuffle-passive to (items-at all-places (now (v .entry))) (run (work-of w (now (st .entry))) (now (draws .entry)) (now (out .entry)))) ⌝ }
 {
     let mut more = [0u64; Layout::SET];
     let most = st[Layout::SHUFFLE_PASSIVE_VIEW_COUNT] as usize;
