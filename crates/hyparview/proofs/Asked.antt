@@ -10,7 +10,7 @@ use Rattle.lists.specs.Maps.{has}
 use Rattle.lists.proofs.Choice.{choose-yes, choose-no}
 use Rattle.util.specs.Section.{items-at}
 use Rattle.columns.specs.Columns.{numbers-at}
-use Rattle.protocol.specs.Station.{in-active}
+use Rattle.protocol.specs.Station.{in-active, is-requested}
 use Rattle.state.specs.Layout as layout
 use Rattle.state.specs.Unpack.{station-of, unpack, PackedState, long}
 use Rattle.rules.specs.Ok.{state-ok}
@@ -27,9 +27,9 @@ pub past-last : (xs : List ℕ) (n i : ℕ) → n ≡ length (items-at 8 (layout
 unfolding unpack station-of
 past-last xs n i e h = sym (List·getD-eq-default (items-at 8 (layout.active-part xs)) 0 (subst (λ (k : ℕ). k ≤ i) e h))
 
-pub wanted-is : (xs : List ℕ) (p : ℕ) (a q j : Bool) → a ≡ in-active p (unpack xs) → q ≡ has p (numbers-at 32 (layout.requests-part xs)) → j ≡ has p (numbers-at 8 (layout.joins-part xs))
+pub wanted-is : (xs : List ℕ) (p : ℕ) (a q j : Bool) → a ≡ in-active p (unpack xs) → q ≡ is-requested p (unpack xs) → j ≡ has p (numbers-at 8 (layout.joins-part xs))
     → (a || (q || j)) ≡ wants-connection p (unpack xs)
-unfolding wants-connection unpack station-of
+unfolding wants-connection is-requested has unpack station-of
 wanted-is xs p a q j x y z = λ i. x i || (y i || z i)
 
 module _ (xs : List ℕ) (b : Bool) (e : b ≡ state-ok xs) where

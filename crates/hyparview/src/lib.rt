@@ -151,7 +151,7 @@ fn is_wanted(st: &[u64], p: PeerId) -> bool
     ensures { λ r. ⌜ r ≡ wants-connection p (unpack (now (st .entry))) ⌝ }
 {
     state::in_active(st, p)
-        | (columns::contains_number(&st[Layout::ASKED..Layout::ASKED_END], Layout::ALL, p)
+        | (state::is_requested(st, p)
             | columns::contains_number(&st[Layout::JOINS..Layout::JOINS_END], Layout::FEW, p))
 }
 

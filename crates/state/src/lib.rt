@@ -3,6 +3,7 @@ use peer::PeerData;
 use peer::PeerId;
 use peer::PeerInfo;
 use record::Refusal;
+use timing::Timing;
 use writer::Fields;
 use writer::Nodes;
 use writer::Written;
@@ -20,6 +21,7 @@ ghost use Rattle.protocol.specs.Setters.{set-own-data, set-refill};
 ghost use Rattle.protocol.specs.Messages.{drop-join, drop-request, drop-pending};
 ghost use Rattle.protocol.specs.Station.{is-me, in-active, in-passive, in-view, is-alone, active-is-full, passive-is-full, is-short, is-last-hop};
 ghost use Rattle.protocol.specs.Station.{is-recovery, is-automatic, is-spent, is-requested};
+ghost use Rattle.protocol.specs.Refill.{few-requests, unless-recovery, one-less};
 ghost use Rattle.state.specs.Layout.{words, all-places};
 ghost use Rattle.state.specs.Unpack.{unpack, own-at, limit-at, refill-in, PackedState, Becomes};
 ghost use Rattle.state.specs.Work.{work-of, Changes, ChangesAny, DrawsAny, Reaches, TellsAny, after-record};
@@ -268,6 +270,39 @@ impl RefillLimit {
             RefillLimit::Automatic => false,
             RefillLimit::Requests(n) => n == 0,
             RefillLimit::Recovery => false,
+        }
+    }
+
+    // A limit of `MAX_REQUESTS_PER_REFILL`.
+    pub fn few_requests() -> RefillLimit
+        ensures { λ r. ⌜ refill-in r ≡ few-requests ⌝ }
+    {
+        RefillLimit::Requests(Timing::MAX_REQUESTS_PER_REFILL as u64)
+    }
+
+    // No limit changes a recovery that runs.
+    pub fn unless_recovery(self, new: RefillLimit) -> RefillLimit
+        ensures { λ r. ⌜ refill-in r ≡ unless-recovery (refill-in self) (refill-in new) ⌝ }
+    {
+        if self.is_recovery() {
+            return RefillLimit::Recovery;
+        }
+        new
+    }
+
+    // The limit after one more request.
+    pub fn one_less(self) -> RefillLimit
+        ensures { λ r. ⌜ refill-in r ≡ one-less (refill-in self) ⌝ }
+    {
+        match self {
+            RefillLimit::Automatic => RefillLimit::Automatic,
+            RefillLimit::Requests(n) => {
+                if n == 0 {
+                    return RefillLimit::Requests(0);
+                }
+                RefillLimit::Requests(n - 1)
+            }
+            RefillLimit::Recovery => RefillLimit::Recovery,
         }
     }
 }

@@ -299,7 +299,7 @@ fn gain_neighbor(w: Work, st: &mut [u64]) -> Work
         return w;
     }
     let old = state::limit_of(st);
-    let limit = step_refill::unless_recovery(old, RefillLimit::Automatic);
+    let limit = old.unless_recovery(RefillLimit::Automatic);
     state::keep_limit(st, limit);
     st[Layout::PASSES_SHORT] = 0;
     w

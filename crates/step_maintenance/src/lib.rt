@@ -211,7 +211,7 @@ fn refill_anew(w: Work, st: &mut [u64], draws: &[u32], out: &mut [u8]) -> Work
     ensures { λ r. ⌜ Does (work-of r (now (st .exit))) (now (draws .entry)) (now (out .exit)) (refill-anew (run (work-of w (now (st .entry))) (now (draws .entry)) (now (out .entry)))) ⌝ }
 {
     let a = step_refill::clear_refused(w, st);
-    let few = step_refill::few_requests();
+    let few = RefillLimit::few_requests();
     let none = [0u64; 0];
     step_refill::start_refill(a, st, draws, out, few, &none)
 }

@@ -8,12 +8,12 @@ use lib.Dec.{eqb}
 use borrow.Author.Tests.{eqb-true, eqb-false}
 use Rattle.lists.specs.Lists.{choose}
 use Rattle.lists.proofs.Choice.{split, choose-yes, choose-no}
-use Rattle.protocol.specs.Station.{Station, Refill, automatic, recovery, is-recovery, recovery-is-over}
+use Rattle.protocol.specs.Station.{Station, Refill, automatic, recovery-is-over}
 use Rattle.protocol.specs.Setters.{set-refill}
 use Rattle.protocol.specs.Run.{Run, guard, on, with-station}
 use Rattle.protocol.specs.Refill.{few-requests, unless-recovery, one-less, use-request, end-recovery, needs-limit, limit-short, begin-refill}
 use Rattle.state.specs.declared.RefillLimit.{RefillLimit}
-use Rattle.state.specs.declared.RefillLimit.the-variants.{Automatic, Recovery}
+use Rattle.state.specs.declared.RefillLimit.the-variants.{Automatic}
 use Rattle.state.specs.declared.Work.{Work}
 use Rattle.state.specs.Unpack.{unpack, station-of, limit-at, refill-in, PackedState}
 use Rattle.state.specs.Work.{Held, work-of, run, Changes}
@@ -47,19 +47,6 @@ module _ (f : Station → Station) (limit : Station → Refill) (d : (s : Statio
 automatic-in : refill-in Automatic ≡ automatic
 unfolding refill-in
 automatic-in = refl
-
-recovery-in : refill-in Recovery ≡ recovery
-unfolding refill-in
-recovery-in = refl
-
-module _ (old new : RefillLimit) (t : Bool) (e : t ≡ is-recovery (refill-in old)) where
-  pub in-recovery : t ≡ true → refill-in Recovery ≡ unless-recovery (refill-in old) (refill-in new)
-  unfolding unless-recovery
-  in-recovery h = recovery-in ∙ sym (choose-yes (is-recovery (refill-in old)) recovery (refill-in new) (sym e ∙ h))
-
-  pub no-recovery : t ≡ false → refill-in new ≡ unless-recovery (refill-in old) (refill-in new)
-  unfolding unless-recovery
-  no-recovery h = sym (choose-no (is-recovery (refill-in old)) recovery (refill-in new) (sym e ∙ h))
 
 module _ (w r : Work) (xs ys : List ℕ) where
   pub used : (old v : RefillLimit) → old ≡ limit-at xs → refill-in v ≡ one-less (refill-in old) → Changes (on (set-refill (refill-in v))) (work-of w xs) (work-of r ys) → Changes (on use-request) (work-of w xs) (work-of r ys)

@@ -2,7 +2,6 @@
 use state::Layout;
 use state::RefillLimit;
 use state::Work;
-use timing::Timing;
 ghost use mathlib.Core.Path.{_≡_};
 ghost use Prim.Native.Nat.{_<_};
 ghost use lib.ListN.{length};
@@ -12,45 +11,12 @@ ghost use Rattle.util.specs.Section.{items-at, ValidSet, HoldsSet};
 ghost use Rattle.protocol.specs.Station.{asked-outside, recovery-is-over};
 ghost use Rattle.protocol.specs.Setters.{set-refill};
 ghost use Rattle.protocol.specs.Run.{on};
-ghost use Rattle.protocol.specs.Refill.{few-requests, unless-recovery, one-less, use-request, end-recovery, needs-limit, limit-short, candidates};
+ghost use Rattle.protocol.specs.Refill.{use-request, end-recovery, needs-limit, limit-short, candidates};
 ghost use Rattle.protocol.specs.Refill.{ask-picked, ask-one, refill-limited, needs-none, refill-active-from-passive, begin-refill, start-refill};
 ghost use Rattle.protocol.specs.Active.{clear-refused};
 ghost use Rattle.state.specs.Layout.{words, all-places, set-words};
 ghost use Rattle.state.specs.Unpack.{unpack, refill-in, PackedState};
 ghost use Rattle.state.specs.Work.{work-of, run, Changes, Fine, Does};
-
-// A limit of `MAX_REQUESTS_PER_REFILL`.
-pub fn few_requests() -> RefillLimit
-    ensures { λ r. ⌜ refill-in r ≡ few-requests ⌝ }
-{
-    RefillLimit::Requests(Timing::MAX_REQUESTS_PER_REFILL as u64)
-}
-
-// No limit changes a recovery that runs.
-pub fn unless_recovery(old: RefillLimit, new: RefillLimit) -> RefillLimit
-    ensures { λ r. ⌜ refill-in r ≡ unless-recovery (refill-in old) (refill-in new) ⌝ }
-{
-    if old.is_recovery() {
-        return RefillLimit::Recovery;
-    }
-    new
-}
-
-// The limit after one more request.
-fn one_less(l: RefillLimit) -> RefillLimit
-    ensures { λ r. ⌜ refill-in r ≡ one-less (refill-in l) ⌝ }
-{
-    match l {
-        RefillLimit::Automatic => RefillLimit::Automatic,
-        RefillLimit::Requests(n) => {
-            if n == 0 {
-                return RefillLimit::Requests(0);
-            }
-            RefillLimit::Requests(n - 1)
-        }
-        RefillLimit::Recovery => RefillLimit::Recovery,
-    }
-}
 
 // Another limit on refills.
 fn set_refill(w: Work, st: &mut [u64], v: RefillLimit) -> Work
@@ -72,7 +38,7 @@ fn use_request(w: Work, st: &mut [u64]) -> Work
     ensures { λ r. ⌜ Changes (on use-request) (work-of w (now (st .entry))) (work-of r (now (st .exit))) ⌝ }
 {
     let old = state::limit_of(st);
-    let v = one_less(old);
+    let v = old.one_less();
     set_refill(w, st, v)
 }
 
@@ -133,7 +99,7 @@ fn limit_short(w: Work, st: &mut [u64]) -> Work
     ensures { λ r. ⌜ Changes (on limit-short) (work-of w (now (st .entry))) (work-of r (now (st .exit))) ⌝ }
 {
     if needs_limit(st) {
-        let v = few_requests();
+        let v = RefillLimit::few_requests();
         return set_refill(w, st, v);
     }
     w
@@ -277,7 +243,7 @@ fn begin_refill(w: Work, st: &mut [u64], limit: RefillLimit) -> Work
     ensures { λ r. ⌜ Changes (on (begin-refill (refill-in limit))) (work-of w (now (st .entry))) (work-of r (now (st .exit))) ⌝ }
 {
     let old = state::limit_of(st);
-    let v = unless_recovery(old, limit);
+    let v = old.unless_recovery(limit);
     set_refill(w, st, v)
 }
 

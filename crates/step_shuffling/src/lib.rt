@@ -3,6 +3,7 @@ use peer::PeerId;
 use record::Kind;
 use record::Message;
 use state::Layout;
+use state::RefillLimit;
 use state::Work;
 use timing::Ttl;
 use writer::Fields;
@@ -230,7 +231,7 @@ fn refill_with(w: Work, st: &mut [u64], draws: &[u32], out: &mut [u8], renewed: 
 {
     let none = [0u64; 0];
     if renewed {
-        let few = step_refill::few_requests();
+        let few = RefillLimit::few_requests();
         return step_refill::start_refill(w, st, draws, out, few, &none);
     }
     step_refill::refill_active_from_passive(w, st, draws, out, &none)

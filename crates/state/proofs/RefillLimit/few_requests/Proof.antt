@@ -1,8 +1,8 @@
 use mathlib.Core.Path.{refl}
 use Rattle.state.specs.Unpack.{refill-in}
 use borrow.Author.Needs.{needs}
-use Rattle.step_refill.proofs.few_requests.Statement.{statement}
-use Rattle.step_refill.proofs.few_requests.Tie as tie
+use Rattle.state.proofs.RefillLimit.few_requests.Statement.{statement}
+use Rattle.state.proofs.RefillLimit.few_requests.Tie as tie
 
 cast-t1 : tie.Need-cast-t1
 cast-t1 c = search needs

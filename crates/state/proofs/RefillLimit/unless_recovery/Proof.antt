@@ -1,7 +1,7 @@
-use Rattle.step_refill.proofs.Limits.{in-recovery, no-recovery}
+use Rattle.state.proofs.Limits.{in-recovery, no-recovery}
 use borrow.Author.Needs.{needs}
-use Rattle.step_refill.proofs.unless_recovery.Statement.{statement}
-use Rattle.step_refill.proofs.unless_recovery.Tie as tie
+use Rattle.state.proofs.RefillLimit.unless_recovery.Statement.{statement}
+use Rattle.state.proofs.RefillLimit.unless_recovery.Tie as tie
 
 is-recovery-requires : tie.Need-is-recovery-requires
 is-recovery-requires c κs = search needs

@@ -1,12 +1,12 @@
 use Prim.Native.Nat.{ℕ, _-_}
 use mathlib.Core.Path.{_≡_}
 use Rattle.protocol.specs.Refill.{one-less}
 use Rattle.state.specs.Unpack.{refill-in}
 use Rattle.state.specs.declared.RefillLimit.{RefillLimit}
 use Rattle.state.specs.declared.RefillLimit.the-variants.{Automatic, Requests, Recovery}
 use borrow.Author.Needs.{needs}
-use Rattle.step_refill.proofs.one_less.Statement.{statement}
-use Rattle.step_refill.proofs.one_less.Tie as tie
+use Rattle.state.proofs.RefillLimit.one_less.Statement.{statement}
+use Rattle.state.proofs.RefillLimit.one_less.Tie as tie
 
 first : (l : RefillLimit) → l ≡ Automatic → refill-in Automatic ≡ one-less (refill-in l)
 unfolding one-less refill-in
@@ -27,8 +27,8 @@ third l e = rw e
 enum-told : tie.Need-enum-told
 enum-told c = search needs
 
-enum-known-l : tie.Need-enum-known-l
-enum-known-l c = search needs
+enum-known-self : tie.Need-enum-known-self
+enum-known-self c = search needs
 
 returns : tie.Need-returns
 returns c = search none
@@ -49,4 +49,4 @@ returns-4 : tie.Need-returns-4
 returns-4 c = search third
 
 pub one-less-spec : {M : Type 1} → statement M
-one-less-spec = tie.close (tie.spec enum-told enum-known-l returns sub-t5 enum-told-2 returns-2 returns-3 returns-4)
+one-less-spec = tie.close (tie.spec enum-told enum-known-self returns sub-t5 enum-told-2 returns-2 returns-3 returns-4)
