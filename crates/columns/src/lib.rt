@@ -63,6 +63,14 @@ pub fn zero_two(s: &[u64], cap: usize, n: usize) -> bool
 
 // ---- 16 bytes in two words
 
+// The bytes of a word.
+pub const WORD: usize = 8;
+
+// The greatest lengths whose bytes stand in the first word, and in both.
+const IN_ONE: u64 = WORD as u64;
+
+const IN_BOTH: u64 = PeerData::BYTES as u64;
+
 fn wide(x: u8) -> u64
     ensures { λ r. ⌜ (r ≡ x) × (r < 256) ⌝ }
 {
@@ -285,7 +293,7 @@ pub fn holds_data(m: &[u64], cap: usize, p: PeerId, d: PeerData) -> bool
     }
     let b = d.bytes;
     let low = word_at(b, 0);
-    let high = word_at(b, 8);
+    let high = word_at(b, WORD);
     if m[half + i] != low {
         return false;
     }
@@ -313,7 +321,7 @@ pub const ACTIVE_PLACES: usize = 8;
 
 pub const PASSIVE_PLACES: usize = 32;
 
-pub const KNOWN: usize = 72;
+pub const KNOWN: usize = ACTIVE_PLACES + 2 * PASSIVE_PLACES;
 
 // The peers of both views and of the requests, whose data may be held, as a working set.
 pub fn data_peers(active: &[u64], passive: &[u64], requests: &[u64], v: &mut [u64])
@@ -378,7 +386,7 @@ pub fn insert_data(m: &mut [u64], cap: usize, p: PeerId, d: PeerData)
     let n = m[end] as usize;
     let b = d.bytes;
     let low = word_at(b, 0);
-    let high = word_at(b, 8);
+    let high = word_at(b, WORD);
     let i = util::find(&m[..half], n, p);
     if i < n {
         m[cap + i] = d.len as u64;
@@ -412,14 +420,14 @@ fn power(k: usize) -> u64
 pub fn row_valid(l: u64, w: u64, x: u64) -> bool
     ensures { λ r. ⌜ r ≡ valid-entry (row l w x) ⌝ }
 {
-    if 16 < l {
+    if IN_BOTH < l {
         return false;
     }
-    if l < 8 {
+    if l < IN_ONE {
         return (w < power(l as usize)) & (x == 0);
     }
-    if l < 16 {
-        return x < power(l as usize - 8);
+    if l < IN_BOTH {
+        return x < power(l as usize - WORD);
     }
     true
 }

@@ -136,7 +136,7 @@ fn play(s: State, i: usize) -> State
     ensures { λ r. ⌜ r ≡ played i s ⌝ }
 {
     let mut event = [0u8; record::HEADER + record::NODE];
-    let draws = [0u32; 512];
+    let draws = [0u32; hyparview::DRAWS];
     let mut out = [0u8; hyparview::OUTPUT];
     let n = event_bytes(&mut event, i);
     let a = demand::handle_state(s, &event[..n], &draws, &mut out);

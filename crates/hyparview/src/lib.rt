@@ -38,6 +38,9 @@ ghost use Rattle.hyparview.specs.Queries.{wants-connection, wants-connec
 // The bytes of output that suffice for every event.
 pub const OUTPUT: usize = 8192;
 
+// The draws that suffice for every event if they are below 2^32 - 32.
+pub const DRAWS: usize = 512;
+
 // The delay before the first shuffle, no longer than the setting.
 fn first_interval(config: Config) -> u32
     ensures { λ r. ⌜ r ≡ min initial-shuffle-interval (config .«shuffle_interval») ⌝ }
@@ -56,7 +59,7 @@ fn fresh_own(st: &mut [u64], own: PeerData)
 {
     let b = own.bytes;
     let low = columns::word_at(b, 0);
-    let high = columns::word_at(b, 8);
+    let high = columns::word_at(b, columns::WORD);
     st[Layout::OWN_PRESENT] = own.present as u64;
     st[Layout::OWN_LEN] = own.len as u64;
     st[Layout::OWN_LOW] = low;

@@ -200,7 +200,7 @@ pub fn read_u64(b: &[u8], at: usize) -> u64
 }
 
 // A peer's number, where it has w bytes.
-fn read_peer(b: &[u8], at: usize, w: usize) -> u64
+fn read_peer(b: &[u8], at: usize, w: usize) -> PeerId
     requires { ⌜ IsForm w ⌝ }
     requires { ⌜ at + w ≤ length (now b) ⌝ }
     ensures { λ r. ⌜ r ≡ read-le w (now (b .entry)) at ⌝ }

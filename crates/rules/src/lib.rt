@@ -1,5 +1,6 @@
 // The test of every station rule of document 01 on the words of a state.
 use state::Layout;
+use state::RefillLimit;
 use timing::Timing;
 ghost use mathlib.Core.Path.{_≡_};
 ghost use mathlib.Core.Bool.{true};
@@ -84,8 +85,9 @@ fn is_formed(st: &[u64]) -> bool
 {
     (st[Layout::OWN_PRESENT] <= 1)
         & ((st[Layout::TIMERS_SCHEDULED] <= 1)
-            & ((st[Layout::REFILL_KIND] <= 2)
-                & ((st[Layout::REFILL_KIND] == 1) | (st[Layout::REFILL_REQUESTS] == 0))))
+            & ((st[Layout::REFILL_KIND] <= RefillLimit::RECOVERY)
+                & ((st[Layout::REFILL_KIND] == RefillLimit::REQUESTS_LEFT)
+                    | (st[Layout::REFILL_REQUESTS] == 0))))
 }
 
 // Whether own data is data: zeroes past its bytes, and no bytes where it is absent.

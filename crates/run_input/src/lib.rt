@@ -10,6 +10,9 @@ ghost use Rattle.run_input.specs.Input.{number, numbers, from-halves, co
 // The most bytes of an input.
 pub const MOST_BYTES: usize = 65536;
 
+// The draws of four bytes that would fill one, more than any has.
+pub const MOST_DRAWS: usize = MOST_BYTES / 4;
+
 // What the head of an input says: self, the settings, how many events there are, the place where they end and the draws begin, and how many draws there are.
 pub struct Head {
     pub me: PeerId,

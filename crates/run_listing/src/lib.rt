@@ -124,7 +124,7 @@ fn put_whole(s: State, b: &[u8], head: Head, out: &mut [u8], t: Text) -> Text
     requires { ⌜ Laid (now b) head ⌝ }
     ensures { λ r. ⌜ Puts (laid-text 8192 (s .words) head (now (b .entry))) t (now (out .entry)) r (now (out .exit)) ⌝ }
 {
-    let mut drawn = [0u32; 16384];
+    let mut drawn = [0u32; run_input::MOST_DRAWS];
     let mut records = [0u8; hyparview::OUTPUT];
     let at = head.draws_at;
     run_input::read_numbers(&b[at..], &mut drawn);

@@ -200,7 +200,7 @@ pub fn keep_own(st: &mut [u64], d: PeerData)
 {
     let b = d.bytes;
     let low = columns::word_at(b, 0);
-    let high = columns::word_at(b, 8);
+    let high = columns::word_at(b, columns::WORD);
     st[Layout::OWN_PRESENT] = d.present as u64;
     st[Layout::OWN_LEN] = d.len as u64;
     st[Layout::OWN_LOW] = low;
@@ -211,10 +211,10 @@ pub fn limit_of(st: &[u64]) -> RefillLimit
     requires { ⌜ length (now st) ≡ words ⌝ }
     ensures { λ r. ⌜ r ≡ limit-at (now (st .entry)) ⌝ }
 {
-    if st[Layout::REFILL_KIND] == 0 {
+    if st[Layout::REFILL_KIND] == RefillLimit::AUTOMATIC {
         return RefillLimit::Automatic;
     }
-    if st[Layout::REFILL_KIND] == 1 {
+    if st[Layout::REFILL_KIND] == RefillLimit::REQUESTS_LEFT {
         return RefillLimit::Requests(st[Layout::REFILL_REQUESTS]);
     }
     RefillLimit::Recovery
@@ -227,21 +227,28 @@ pub fn keep_limit(st: &mut [u64], l: RefillLimit)
 {
     match l {
         RefillLimit::Automatic => {
-            st[Layout::REFILL_KIND] = 0;
+            st[Layout::REFILL_KIND] = RefillLimit::AUTOMATIC;
             st[Layout::REFILL_REQUESTS] = 0;
         }
         RefillLimit::Requests(n) => {
-            st[Layout::REFILL_KIND] = 1;
+            st[Layout::REFILL_KIND] = RefillLimit::REQUESTS_LEFT;
             st[Layout::REFILL_REQUESTS] = n;
         }
         RefillLimit::Recovery => {
-            st[Layout::REFILL_KIND] = 2;
+            st[Layout::REFILL_KIND] = RefillLimit::RECOVERY;
             st[Layout::REFILL_REQUESTS] = 0;
         }
     }
 }
 
 impl RefillLimit {
+    // The numbers of the cases, as the word of the limit's kind has them.
+    pub const AUTOMATIC: u64 = 0;
+
+    pub const REQUESTS_LEFT: u64 = 1;
+
+    pub const RECOVERY: u64 = 2;
+
     pub fn is_recovery(self) -> bool
         ensures { λ r. ⌜ r ≡ is-recovery (refill-in self) ⌝ }
     {

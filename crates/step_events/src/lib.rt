@@ -308,7 +308,7 @@ fn quit_one(w: Work, st: &mut [u64], draws: &[u32], out: &mut [u8], p: PeerId) -
 }
 
 // These peers leave the active view, one after the other.
-fn quit_all(w: Work, st: &mut [u64], draws: &[u32], out: &mut [u8], ps: &[u64]) -> Work
+fn quit_all(w: Work, st: &mut [u64], draws: &[u32], out: &mut [u8], ps: &[PeerId]) -> Work
     requires { ⌜ length (now st) ≡ words ⌝ }
     requires { ⌜ Fine (work-of w (now st)) (now draws) (now out) ⌝ }
     ensures { λ r. ⌜ Does (work-of r (now (st .exit))) (now (draws .entry)) (now (out .exit)) (quit-all (now (ps .entry)) (run (work-of w (now (st .entry))) (now (draws .entry)) (now (out .entry)))) ⌝ }

@@ -115,7 +115,7 @@ struct PickedPeer {
 }
 
 // One of these peers, and the work that has taken its draws; 0, and no draw, where there is none.
-fn picked(w: Work, draws: &[u32], ps: &[u64]) -> PickedPeer
+fn picked(w: Work, draws: &[u32], ps: &[PeerId]) -> PickedPeer
     requires { ⌜ w .drawn ≤ length (now draws) ⌝ }
     ensures { λ r. ⌜ DrawsAny (draw-one-of (length (now (ps .entry)))) w (r .work) (now (draws .entry)) ⌝ }
     ensures { λ r. ⌜ r .peer ≡ getD (now (ps .entry)) (pick (length (now (ps .entry))) (drop (w .drawn) (now (draws .entry)))) 0 ⌝ }
@@ -137,7 +137,7 @@ fn forward_join_on(
     st: &[u64],
     draws: &[u32],
     out: &mut [u8],
-    others: &[u64],
+    others: &[PeerId],
     n: PeerInfo,
     ttl: u16,
 ) -> Work
@@ -387,7 +387,7 @@ pub fn on_disconnect(
 // ---- Join and Neighbor
 
 // ForwardJoin to each of these peers.
-fn forward_join_to_all(w: Work, out: &mut [u8], others: &[u64], n: PeerInfo, ttl: u16) -> Work
+fn forward_join_to_all(w: Work, out: &mut [u8], others: &[PeerId], n: PeerInfo, ttl: u16) -> Work
     requires { ⌜ w .written ≤ length (now out) ⌝ }
     requires { ⌜ ValidData (n .data) ⌝ }
     ensures { λ r. ⌜ TellsAny (emit-all (forward-join-to (node-in n) ttl) (now (others .entry))) w r (now (out .entry)) (now (out .exit)) ⌝ }

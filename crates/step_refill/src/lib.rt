@@ -1,4 +1,5 @@
 // How the active view is refilled from the passive view (the definition's `Refill`).
+use peer::PeerId;
 use state::Layout;
 use state::RefillLimit;
 use state::Work;
@@ -106,7 +107,7 @@ fn limit_short(w: Work, st: &mut [u64]) -> Work
 }
 
 // The peers of a working set that are not in `skip`, in order.
-fn without_list(t: &mut [u64], skip: &[u64])
+fn without_list(t: &mut [u64], skip: &[PeerId])
     requires { ⌜ ValidSet all-places (now t) ⌝ }
     ensures { λ _. ⌜ HoldsSet all-places (now (t .exit)) (without-all (now (skip .entry)) (items-at all-places (now (t .entry)))) ⌝ }
 {
@@ -116,7 +117,7 @@ fn without_list(t: &mut [u64], skip: &[u64])
 }
 
 // The passive peers that are not in `skip`, as a working set.
-fn passive_without(st: &[u64], skip: &[u64], t: &mut [u64])
+fn passive_without(st: &[u64], skip: &[PeerId], t: &mut [u64])
     requires { ⌜ length (now st) ≡ words ⌝ }
     requires { ⌜ PackedState (now st) ⌝ }
     requires { ⌜ length (now t) ≡ set-words ⌝ }
@@ -143,7 +144,7 @@ fn without_asked(st: &[u64], t: &mut [u64])
 }
 
 // The passive peers that may be asked, as a working set: refused ones are skipped, but not with high priority.
-fn candidates(st: &[u64], skip: &[u64], t: &mut [u64])
+fn candidates(st: &[u64], skip: &[PeerId], t: &mut [u64])
     requires { ⌜ length (now st) ≡ words ⌝ }
     requires { ⌜ PackedState (now st) ⌝ }
     requires { ⌜ length (now t) ≡ set-words ⌝ }
@@ -193,7 +194,7 @@ fn ask_one(w: Work, st: &mut [u64], draws: &[u32], out: &mut [u8], from: &[u64])
     ask_picked(w, st, draws, out, from)
 }
 
-fn refill_limited(w: Work, st: &mut [u64], draws: &[u32], out: &mut [u8], skip: &[u64]) -> Work
+fn refill_limited(w: Work, st: &mut [u64], draws: &[u32], out: &mut [u8], skip: &[PeerId]) -> Work
     requires { ⌜ length (now st) ≡ words ⌝ }
     requires { ⌜ Fine (work-of w (now st)) (now draws) (now out) ⌝ }
     ensures { λ r. ⌜ Does (work-of r (now (st .exit))) (now (draws .entry)) (now (out .exit)) (refill-limited (now (skip .entry)) (run (work-of w (now (st .entry))) (now (draws .entry)) (now (out .entry)))) ⌝ }
@@ -223,7 +224,7 @@ pub fn refill_active_from_passive(
     st: &mut [u64],
     draws: &[u32],
     out: &mut [u8],
-    skip: &[u64],
+    skip: &[PeerId],
 ) -> Work
     requires { ⌜ length (now st) ≡ words ⌝ }
     requires { ⌜ Fine (work-of w (now st)) (now draws) (now out) ⌝ }
@@ -254,7 +255,7 @@ pub fn start_refill(
     draws: &[u32],
     out: &mut [u8],
     limit: RefillLimit,
-    skip: &[u64],
+    skip: &[PeerId],
 ) -> Work
     requires { ⌜ length (now st) ≡ words ⌝ }
     requires { ⌜ Fine (work-of w (now st)) (now draws) (now out) ⌝ }

@@ -47,7 +47,7 @@ fn peer_info(st: &[u64], p: PeerId) -> PeerInfo
 }
 
 // Peers with the data that is held of them, in order.
-pub fn peer_infos(st: &[u64], ids: &[u64]) -> Nodes
+pub fn peer_infos(st: &[u64], ids: &[PeerId]) -> Nodes
     requires { ⌜ length (now st) ≡ words ⌝ }
     requires { ⌜ PackedState (now st) ⌝ }
     requires { ⌜ length (now ids) ≤ all-places ⌝ }
@@ -84,7 +84,7 @@ pub fn join(w: Work, st: &[u64], out: &mut [u8], p: PeerId) -> Work
 }
 
 // ShuffleReply with these peers.
-fn send_nodes(w: Work, st: &[u64], out: &mut [u8], to: PeerId, ps: &[u64]) -> Work
+fn send_nodes(w: Work, st: &[u64], out: &mut [u8], to: PeerId, ps: &[PeerId]) -> Work
     requires { ⌜ length (now st) ≡ words ⌝ }
     requires { ⌜ Room (work-of w (now st)) (now out) ⌝ }
     requires { ⌜ length (now ps) ≤ all-places ⌝ }

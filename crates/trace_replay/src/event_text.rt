@@ -6,6 +6,7 @@ use state::RefillLimit;
 ghost use mathlib.Core.Path.{_≡_};
 ghost use Prim.Native.Nat.{_+_, _≤_};
 ghost use lib.ListN.{length};
+ghost use Rattle.state.specs.Layout.{words};
 
 // The lower four bits as a digit.
 fn hex_digit(x: u8) -> u8 {
@@ -138,7 +139,7 @@ fn data_field(out: &mut [u8], t: Text, m: &[u64]) -> Text
 
 // The station's own data.
 fn own_field(out: &mut [u8], t: Text, st: &[u64]) -> Text
-    requires { ⌜ length (now st) ≡ 551 ⌝ }
+    requires { ⌜ length (now st) ≡ words ⌝ }
 {
     let a = run_text::put_bytes(out, t, b"state me=");
     if st[Layout::OWN_PRESENT] == 1 {
@@ -167,7 +168,7 @@ fn refill_field(out: &mut [u8], t: Text, l: RefillLimit) -> Text {
 }
 
 fn put_views(out: &mut [u8], t: Text, st: &[u64]) -> Text
-    requires { ⌜ length (now st) ≡ 551 ⌝ }
+    requires { ⌜ length (now st) ≡ words ⌝ }
 {
     let active = &st[Layout::ACTIVE..Layout::ACTIVE_END];
     let passive = &st[Layout::PASSIVE..Layout::PASSIVE_END];
@@ -180,7 +181,7 @@ fn put_views(out: &mut [u8], t: Text, st: &[u64]) -> Text
 }
 
 fn put_open(out: &mut [u8], t: Text, st: &[u64]) -> Text
-    requires { ⌜ length (now st) ≡ 551 ⌝ }
+    requires { ⌜ length (now st) ≡ words ⌝ }
 {
     let requests = &st[Layout::ASKED..Layout::ASKED_END];
     let joins = &st[Layout::JOINS..Layout::JOINS_END];
@@ -191,7 +192,7 @@ fn put_open(out: &mut [u8], t: Text, st: &[u64]) -> Text
 }
 
 fn put_kept(out: &mut [u8], t: Text, st: &[u64]) -> Text
-    requires { ⌜ length (now st) ≡ 551 ⌝ }
+    requires { ⌜ length (now st) ≡ words ⌝ }
 {
     let data = &st[Layout::HELD..Layout::HELD_END];
     let alive = &st[Layout::MARKS..Layout::MARKS_END];
@@ -205,7 +206,7 @@ fn put_kept(out: &mut [u8], t: Text, st: &[u64]) -> Text
 
 // The timers, the interval and the pass counts, which end the line.
 fn put_counts(out: &mut [u8], t: Text, st: &[u64]) -> Text
-    requires { ⌜ length (now st) ≡ 551 ⌝ }
+    requires { ⌜ length (now st) ≡ words ⌝ }
 {
     let a = number_field(out, t, b" timers=", st[Layout::TIMERS_SCHEDULED]);
     let b = number_field(out, a, b" interval=", st[Layout::NEXT_SHUFFLE_INTERVAL]);
@@ -215,7 +216,7 @@ fn put_counts(out: &mut [u8], t: Text, st: &[u64]) -> Text
 }
 
 fn put_state(out: &mut [u8], t: Text, st: &[u64]) -> Text
-    requires { ⌜ length (now st) ≡ 551 ⌝ }
+    requires { ⌜ length (now st) ≡ words ⌝ }
 {
     let a = own_field(out, t, st);
     let b = put_views(out, a, st);
@@ -224,19 +225,22 @@ fn put_state(out: &mut [u8], t: Text, st: &[u64]) -> Text
     put_counts(out, d, st)
 }
 
-// A line for each record, to the first place where none is.
+// A line for each record, taken by its whole length; one that the end cuts off is the last, and is shown as far as it goes.
 fn put_records(out: &mut [u8], t: Text, records: &[u8]) -> Text {
     let mut r = t;
-    let mut at: usize = 0;
-    while at < records.len() {
-        let size = run_input::event_length(records, at);
-        if size == 0 {
+    let mut rest = records;
+    while record::HEADER <= rest.len() {
+        let h = record::read_header(rest);
+        let n = h.size as usize;
+        if n == 0 {
             return r;
         }
-        let end = at + size;
-        r = put_hex(out, r, &records[at..end]);
+        r = put_front(out, r, rest, h.size as u64);
         r = run_text::put(out, r, b'\n');
-        at = end;
+        if rest.len() < n {
+            return r;
+        }
+        rest = &rest[n..];
     }
     r
 }
@@ -257,7 +261,7 @@ pub fn put_event(
     draws: usize,
     st: &[u64],
 ) -> Text
-    requires { ⌜ length (now st) ≡ 551 ⌝ }
+    requires { ⌜ length (now st) ≡ words ⌝ }
 {
     let a = put_records(out, t, records);
     let b = put_answer(out, a, code, draws);

@@ -168,7 +168,7 @@ fn with_space(s: State, b: &[u8], head: Head, room: usize) -> State
     requires { ⌜ room ≤ 8192 ⌝ }
     ensures { λ r. ⌜ r .words ≡ laid-words room (s .words) head (now (b .entry)) ⌝ }
 {
-    let mut drawn = [0u32; 16384];
+    let mut drawn = [0u32; run_input::MOST_DRAWS];
     let mut out = [0u8; hyparview::OUTPUT];
     let mut text = [0u8; 32768];
     let at = head.draws_at;
