@@ -1,4 +1,4 @@
--- Own data and the limit on refills, as they are stored.
+-- Own data and the limit on refills, as they are stored, and a limit that is a recovery.
 -- Assumes nothing.
 use Prim.Native.Nat.{ℕ}
 use mathlib.Core.Path.{_≡_, refl, sym, subst, _∙_}
