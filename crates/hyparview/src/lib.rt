@@ -20,7 +20,7 @@ ghost use Rattle.record.specs.Read.{rec-of};
 ghost use Rattle.protocol.specs.Budgets.{arriving};
 ghost use Rattle.protocol.specs.Run.{on};
 ghost use Rattle.protocol.specs.Handle.{new, note-scheduled, first-timers, forget-declined, handle-message, dispatch, steps, new-station};
-ghost use Rattle.state.specs.Layout.{words, few-places};
+ghost use Rattle.state.specs.Layout.{words};
 ghost use Rattle.state.specs.Unpack.{PackedState, unpack};
 ghost use Rattle.state.specs.Work.{work-of, run, Changes, Fine, Does};
 ghost use Rattle.rules.specs.Ok.{state-ok};
@@ -425,7 +425,7 @@ fn dispatch(w: Work, st: &mut [u64], draws: &[u32], out: &mut [u8], b: &[u8], h:
     requires { ⌜ length (now st) ≡ words ⌝ }
     requires { ⌜ Fine (work-of w (now st)) (now draws) (now out) ⌝ }
     requires { ⌜ Headed (now b) h ⌝ }
-    requires { ⌜ h .kind ≤ few-places ⌝ }
+    requires { ⌜ h .kind ≤ 8 ⌝ }
     requires { ⌜ Opens (h .kind) (run (work-of w (now st)) (now draws) (now out)) ⌝ }
     ensures { λ r. ⌜ Does (work-of r (now (st .exit))) (now (draws .entry)) (now (out .exit)) (dispatch (rec-of (now (b .entry))) (run (work-of w (now (st .entry))) (now (draws .entry)) (now (out .entry)))) ⌝ }
 {
@@ -455,7 +455,7 @@ fn steps(w: Work, st: &mut [u64], draws: &[u32], out: &mut [u8], b: &[u8], h: He
     requires { ⌜ length (now st) ≡ words ⌝ }
     requires { ⌜ Fine (work-of w (now st)) (now draws) (now out) ⌝ }
     requires { ⌜ Headed (now b) h ⌝ }
-    requires { ⌜ h .kind ≤ few-places ⌝ }
+    requires { ⌜ h .kind ≤ 8 ⌝ }
     requires { ⌜ Opens (h .kind) (run (work-of w (now st)) (now draws) (now out)) ⌝ }
     ensures { λ r. ⌜ Does (work-of r (now (st .exit))) (now (draws .entry)) (now (out .exit)) (steps (rec-of (now (b .entry))) (run (work-of w (now (st .entry))) (now (draws .entry)) (now (out .entry)))) ⌝ }
 {

@@ -149,7 +149,7 @@ fn send_shuffle(w: Work, st: &[u64], out: &mut [u8], to: PeerId, v: &[u64]) -> W
     requires { ⌜ length (now st) ≡ words ⌝ }
     requires { ⌜ Room (work-of w (now st)) (now out) ⌝ }
     requires { ⌜ ValidSet all-places (now v) ⌝ }
-    requires { ⌜ length (items-at all-places (now v)) < all-places ⌝ }
+    requires { ⌜ length (items-at all-places (now v)) < 32 ⌝ }
     ensures { λ r. ⌜ Tells (send-shuffle to (items-at all-places (now (v .entry)))) (work-of w (now (st .entry))) (work-of r (now (st .entry))) (now (out .entry)) (now (out .exit)) ⌝ }
 {
     let n = util::count(v, Layout::ALL);
