@@ -40,28 +40,28 @@ fn least(a: usize, b: usize) -> usize
     if a < b { a } else { b }
 }
 
-// The items of a set.
-fn put_peers(out: &mut [u8], t: Text, s: &[u64], cap: usize) -> Text
+// A field that is a list of peers, from its name and bracket on.
+fn peers_field(out: &mut [u8], t: Text, name: &[u8], s: &[u64], cap: usize) -> Text
     requires { ⌜ length (now s) ≡ cap + 1 ⌝ }
 {
     let n = least(s[cap] as usize, cap);
-    let mut r = t;
+    let mut r = run_text::put_bytes(out, t, name);
     let mut i: usize = 0;
     while i < n {
         r = put_comma(out, r, i);
         r = run_text::put_decimal(out, r, s[i]);
         i += 1;
     }
-    r
+    run_text::put(out, r, b']')
 }
 
-// The peers of a map of numbers, each with its number.
-fn put_numbers(out: &mut [u8], t: Text, m: &[u64], cap: usize) -> Text
+// A field that is a list of peers, each with its number.
+fn numbers_field(out: &mut [u8], t: Text, name: &[u8], m: &[u64], cap: usize) -> Text
     requires { ⌜ length (now m) ≡ cap + cap + 1 ⌝ }
 {
     let end = cap + cap;
     let n = least(m[end] as usize, cap);
-    let mut r = t;
+    let mut r = run_text::put_bytes(out, t, name);
     let mut i: usize = 0;
     while i < n {
         r = put_comma(out, r, i);
@@ -70,7 +70,7 @@ fn put_numbers(out: &mut [u8], t: Text, m: &[u64], cap: usize) -> Text
         r = run_text::put_decimal(out, r, m[cap + i]);
         i += 1;
     }
-    r
+    run_text::put(out, r, b']')
 }
 
 // The first n of the bytes.
@@ -85,12 +85,12 @@ fn put_data(out: &mut [u8], t: Text, low: u64, high: u64, n: u64) -> Text {
     put_front(out, t, &bytes, n)
 }
 
-// The peers of a map of data, each with its bytes.
-fn put_data_map(out: &mut [u8], t: Text, m: &[u64]) -> Text
+// The field of the data that is held, of each peer its bytes.
+fn data_field(out: &mut [u8], t: Text, m: &[u64]) -> Text
     requires { ⌜ length (now m) ≡ 321 ⌝ }
 {
     let n = least(m[4 * Layout::DATA_CAP] as usize, Layout::DATA_CAP);
-    let mut r = t;
+    let mut r = run_text::put_bytes(out, t, b" data=[");
     let mut i: usize = 0;
     while i < n {
         let low = m[2 * Layout::DATA_CAP + i];
@@ -101,40 +101,12 @@ fn put_data_map(out: &mut [u8], t: Text, m: &[u64]) -> Text
         r = put_data(out, r, low, high, m[Layout::DATA_CAP + i]);
         i += 1;
     }
-    r
-}
-
-// A field that is a list of peers.
-fn peers_field(out: &mut [u8], t: Text, name: &[u8], s: &[u64], cap: usize) -> Text
-    requires { ⌜ length (now s) ≡ cap + 1 ⌝ }
-{
-    let a = run_text::put_bytes(out, t, name);
-    let b = run_text::put(out, a, b'[');
-    let c = put_peers(out, b, s, cap);
-    run_text::put(out, c, b']')
-}
-
-// A field that is a list of peers with their numbers.
-fn numbers_field(out: &mut [u8], t: Text, name: &[u8], m: &[u64], cap: usize) -> Text
-    requires { ⌜ length (now m) ≡ cap + cap + 1 ⌝ }
-{
-    let a = run_text::put_bytes(out, t, name);
-    let b = run_text::put(out, a, b'[');
-    let c = put_numbers(out, b, m, cap);
-    run_text::put(out, c, b']')
+    run_text::put(out, r, b']')
 }
 
 fn number_field(out: &mut [u8], t: Text, name: &[u8], n: u64) -> Text {
     let a = run_text::put_bytes(out, t, name);
     run_text::put_decimal(out, a, n)
-}
-
-fn data_field(out: &mut [u8], t: Text, m: &[u64]) -> Text
-    requires { ⌜ length (now m) ≡ 321 ⌝ }
-{
-    let a = run_text::put_bytes(out, t, b" data=[");
-    let b = put_data_map(out, a, m);
-    run_text::put(out, b, b']')
 }
 
 // The station's own data.
@@ -174,10 +146,10 @@ fn put_views(out: &mut [u8], t: Text, st: &[u64]) -> Text
     let passive = &st[Layout::PASSIVE..Layout::PASSIVE_END];
     let bootstrap = &st[Layout::BOOTSTRAP..Layout::BOOTSTRAP_END];
     let recent = &st[Layout::RECENT..Layout::RECENT_END];
-    let a = peers_field(out, t, b" active=", active, Layout::FEW);
-    let b = peers_field(out, a, b" passive=", passive, Layout::ALL);
-    let c = peers_field(out, b, b" bootstrap=", bootstrap, Layout::FEW);
-    peers_field(out, c, b" recent=", recent, Layout::FEW)
+    let a = peers_field(out, t, b" active=[", active, Layout::FEW);
+    let b = peers_field(out, a, b" passive=[", passive, Layout::ALL);
+    let c = peers_field(out, b, b" bootstrap=[", bootstrap, Layout::FEW);
+    peers_field(out, c, b" recent=[", recent, Layout::FEW)
 }
 
 fn put_open(out: &mut [u8], t: Text, st: &[u64]) -> Text
@@ -185,9 +157,9 @@ fn put_open(out: &mut [u8], t: Text, st: &[u64]) -> Text
 {
     let requests = &st[Layout::ASKED..Layout::ASKED_END];
     let joins = &st[Layout::JOINS..Layout::JOINS_END];
-    let a = numbers_field(out, t, b" requests=", requests, Layout::ALL);
+    let a = numbers_field(out, t, b" requests=[", requests, Layout::ALL);
     let b = number_field(out, a, b" next_request=", st[Layout::NEXT_NEIGHBOR_REQUEST]);
-    let c = numbers_field(out, b, b" joins=", joins, Layout::FEW);
+    let c = numbers_field(out, b, b" joins=[", joins, Layout::FEW);
     number_field(out, c, b" next_join=", st[Layout::NEXT_JOIN])
 }
 
@@ -199,8 +171,8 @@ fn put_kept(out: &mut [u8], t: Text, st: &[u64]) -> Text
     let refused = &st[Layout::REFUSED..Layout::REFUSED_END];
     let refill = state::limit_of(st);
     let a = data_field(out, t, data);
-    let b = peers_field(out, a, b" alive=", alive, Layout::ALL);
-    let c = peers_field(out, b, b" refused=", refused, Layout::ALL);
+    let b = peers_field(out, a, b" alive=[", alive, Layout::ALL);
+    let c = peers_field(out, b, b" refused=[", refused, Layout::ALL);
     refill_field(out, c, refill)
 }
 

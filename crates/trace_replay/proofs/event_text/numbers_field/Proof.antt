@@ -1,15 +1,15 @@
 use borrow.Author.Needs.{needs}
-use Prim.Native.Nat.{_+_, _-_, _≤_}
+use Prim.Native.Nat.{_+_, _-_, _^_, _≤_, _<_}
 use mathlib.Core.Path.{_≡_}
 use lib.ListN.{length}
-use Rattle.trace_replay.proofs.event_text.put_numbers.Statement.{statement}
-use Rattle.trace_replay.proofs.event_text.put_numbers.Tie as tie
+use Rattle.trace_replay.proofs.event_text.numbers_field.Statement.{statement}
+use Rattle.trace_replay.proofs.event_text.numbers_field.Tie as tie
 
 abbrev Inv-loop : tie.InvT-loop
-Inv-loop out₀ m cap end n r₀ i₀ out r i = (length out ≡ length out₀) × (i ≤ n) × (n ≤ cap) × (length m ≡ cap + cap + 1)
+Inv-loop out₀ name m cap end n r₀ i₀ out r i = (length out ≡ length out₀) × (i ≤ n) × (n ≤ cap) × (length m ≡ cap + cap + 1) × (cap + cap < 2 ^ 60)
 
 abbrev μ-loop : tie.MeasureT-loop
-μ-loop out₀ m cap end n r₀ i₀ out r i = n - i
+μ-loop out₀ name m cap end n r₀ i₀ out r i = n - i
 
 add-end : tie.Need-add-end Inv-loop μ-loop
 add-end c = search needs
@@ -22,6 +22,9 @@ shared-slice-read-least c = search needs
 
 least-requires : tie.Need-least-requires Inv-loop μ-loop
 least-requires c κs = search needs
+
+put-bytes-requires : tie.Need-put-bytes-requires Inv-loop μ-loop
+put-bytes-requires c κs = search needs
 
 loop-holds : tie.Need-loop-holds Inv-loop μ-loop
 loop-holds c = search needs
@@ -62,14 +65,17 @@ loop-less c = search needs
 loop-again : tie.Need-loop-again Inv-loop μ-loop
 loop-again c = search needs
 
+put-requires-2 : tie.Need-put-requires-2 Inv-loop μ-loop
+put-requires-2 c κs = search needs
+
 same-length : tie.Need-same-length Inv-loop μ-loop
 same-length c = search needs
 
 returns : tie.Need-returns Inv-loop μ-loop
 returns c = search needs
 
-pub put-numbers-spec : {M : Type 1} → statement M
-put-numbers-spec =
+pub numbers-field-spec : {M : Type 1} → statement M
+numbers-field-spec =
     tie.close
     (tie.spec
     Inv-loop
@@ -78,6 +84,7 @@ put-numbers-spec =
     mul-least
     shared-slice-read-least
     least-requires
+    put-bytes-requires
     loop-holds
     put-comma-requires
     mul-put-decimal
@@ -91,5 +98,6 @@ put-numbers-spec =
     add-i
     loop-less
     loop-again
+    put-requires-2
     same-length
     returns)

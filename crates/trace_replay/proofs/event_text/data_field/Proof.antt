@@ -2,8 +2,8 @@ use borrow.Author.Needs.{needs}
 use Prim.Native.Nat.{_-_, _≤_}
 use mathlib.Core.Path.{_≡_}
 use lib.ListN.{length}
-use Rattle.trace_replay.proofs.event_text.put_data_map.Statement.{statement}
-use Rattle.trace_replay.proofs.event_text.put_data_map.Tie as tie
+use Rattle.trace_replay.proofs.event_text.data_field.Statement.{statement}
+use Rattle.trace_replay.proofs.event_text.data_field.Tie as tie
 
 abbrev Inv-loop : tie.InvT-loop
 Inv-loop out₀ m n r₀ i₀ out r i = (length out ≡ length out₀) × (i ≤ n) × (n ≤ 80) × (length m ≡ 321)
@@ -22,6 +22,12 @@ shared-slice-read-least c = search needs
 
 least-requires : tie.Need-least-requires Inv-loop μ-loop
 least-requires c κs = search needs
+
+slice-aggregate-put-bytes : tie.Need-slice-aggregate-put-bytes Inv-loop μ-loop
+slice-aggregate-put-bytes c = search needs
+
+put-bytes-requires : tie.Need-put-bytes-requires Inv-loop μ-loop
+put-bytes-requires c κs = search needs
 
 loop-holds : tie.Need-loop-holds Inv-loop μ-loop
 loop-holds c = search needs
@@ -86,14 +92,17 @@ loop-less c = search needs
 loop-again : tie.Need-loop-again Inv-loop μ-loop
 loop-again c = search needs
 
+put-requires-2 : tie.Need-put-requires-2 Inv-loop μ-loop
+put-requires-2 c κs = search needs
+
 same-length : tie.Need-same-length Inv-loop μ-loop
 same-length c = search needs
 
 returns : tie.Need-returns Inv-loop μ-loop
 returns c = search needs
 
-pub put-data-map-spec : {M : Type 1} → statement M
-put-data-map-spec =
+pub data-field-spec : {M : Type 1} → statement M
+data-field-spec =
     tie.close
     (tie.spec
     Inv-loop
@@ -102,6 +111,8 @@ put-data-map-spec =
     mul-least-2
     shared-slice-read-least
     least-requires
+    slice-aggregate-put-bytes
+    put-bytes-requires
     loop-holds
     mul-low
     add-low
@@ -123,5 +134,6 @@ put-data-map-spec =
     add-i
     loop-less
     loop-again
+    put-requires-2
     same-length
     returns)

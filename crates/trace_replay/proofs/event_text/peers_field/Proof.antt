@@ -2,14 +2,14 @@ use borrow.Author.Needs.{needs}
 use Prim.Native.Nat.{_+_, _-_, _≤_}
 use mathlib.Core.Path.{_≡_}
 use lib.ListN.{length}
-use Rattle.trace_replay.proofs.event_text.put_peers.Statement.{statement}
-use Rattle.trace_replay.proofs.event_text.put_peers.Tie as tie
+use Rattle.trace_replay.proofs.event_text.peers_field.Statement.{statement}
+use Rattle.trace_replay.proofs.event_text.peers_field.Tie as tie
 
 abbrev Inv-loop : tie.InvT-loop
-Inv-loop out₀ s cap n r₀ i₀ out r i = (length out ≡ length out₀) × (i ≤ n) × (n ≤ cap) × (length s ≡ cap + 1)
+Inv-loop out₀ name s cap n r₀ i₀ out r i = (length out ≡ length out₀) × (i ≤ n) × (n ≤ cap) × (length s ≡ cap + 1)
 
 abbrev μ-loop : tie.MeasureT-loop
-μ-loop out₀ s cap n r₀ i₀ out r i = n - i
+μ-loop out₀ name s cap n r₀ i₀ out r i = n - i
 
 mul-least : tie.Need-mul-least Inv-loop μ-loop
 mul-least c = search needs
@@ -19,6 +19,9 @@ shared-slice-read-least c = search needs
 
 least-requires : tie.Need-least-requires Inv-loop μ-loop
 least-requires c κs = search needs
+
+put-bytes-requires : tie.Need-put-bytes-requires Inv-loop μ-loop
+put-bytes-requires c κs = search needs
 
 loop-holds : tie.Need-loop-holds Inv-loop μ-loop
 loop-holds c = search needs
@@ -44,14 +47,17 @@ loop-less c = search needs
 loop-again : tie.Need-loop-again Inv-loop μ-loop
 loop-again c = search needs
 
+put-requires : tie.Need-put-requires Inv-loop μ-loop
+put-requires c κs = search needs
+
 same-length : tie.Need-same-length Inv-loop μ-loop
 same-length c = search needs
 
 returns : tie.Need-returns Inv-loop μ-loop
 returns c = search needs
 
-pub put-peers-spec : {M : Type 1} → statement M
-put-peers-spec =
+pub peers-field-spec : {M : Type 1} → statement M
+peers-field-spec =
     tie.close
     (tie.spec
     Inv-loop
@@ -59,6 +65,7 @@ put-peers-spec =
     mul-least
     shared-slice-read-least
     least-requires
+    put-bytes-requires
     loop-holds
     put-comma-requires
     mul-put-decimal
@@ -67,5 +74,6 @@ put-peers-spec =
     add-i
     loop-less
     loop-again
+    put-requires
     same-length
     returns)
