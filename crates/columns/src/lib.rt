@@ -22,7 +22,7 @@ ghost use Rattle.columns.specs.Columns.{numbers-at, ValidNumbers, HoldsN
 // ---- two columns of cap places
 
 // Without the items at i.
-pub fn out_two(s: &mut [u64], cap: usize, n: usize, i: usize)
+fn out_two(s: &mut [u64], cap: usize, n: usize, i: usize)
     requires { ⌜ length (now s) ≡ cap + cap ⌝ }
     requires { ⌜ Filled (part 0 cap (now s)) n ⌝ }
     requires { ⌜ Filled (part cap cap (now s)) n ⌝ }
@@ -35,7 +35,7 @@ pub fn out_two(s: &mut [u64], cap: usize, n: usize, i: usize)
 }
 
 // With x and y at place i.
-pub fn in_two(s: &mut [u64], cap: usize, n: usize, i: usize, x: u64, y: u64)
+fn in_two(s: &mut [u64], cap: usize, n: usize, i: usize, x: u64, y: u64)
     requires { ⌜ length (now s) ≡ cap + cap ⌝ }
     requires { ⌜ Filled (part 0 cap (now s)) n ⌝ }
     requires { ⌜ Filled (part cap cap (now s)) n ⌝ }
@@ -49,7 +49,7 @@ pub fn in_two(s: &mut [u64], cap: usize, n: usize, i: usize, x: u64, y: u64)
 }
 
 // Whether the places from n on of both columns are zero.
-pub fn zero_two(s: &[u64], cap: usize, n: usize) -> bool
+fn zero_two(s: &[u64], cap: usize, n: usize) -> bool
     requires { ⌜ length (now s) ≡ cap + cap ⌝ }
     requires { ⌜ n ≤ cap ⌝ }
     ensures { λ r. ⌜ r ≡ (packed unused cap n (part 0 cap (now (s .entry))) && packed unused cap n (part cap cap (now (s .entry)))) ⌝ }
@@ -71,7 +71,7 @@ const IN_ONE: u64 = WORD as u64;
 
 const IN_BOTH: u64 = PeerData::BYTES as u64;
 
-fn wide(x: u8) -> u64
+fn wide_word(x: u8) -> u64
     ensures { λ r. ⌜ (r ≡ x) × (r < 256) ⌝ }
 {
     x as u64
@@ -82,14 +82,14 @@ pub fn word_at(b: [u8; PeerData::BYTES], at: usize) -> u64
     requires { ⌜ at ≤ 8 ⌝ }
     ensures { λ r. ⌜ (le 8 r ≡ take 8 (drop at b)) × (r < words-end) ⌝ }
 {
-    let h = wide(b[at + 7]);
-    let g = wide(b[at + 6]) + 256 * h;
-    let f = wide(b[at + 5]) + 256 * g;
-    let e = wide(b[at + 4]) + 256 * f;
-    let d = wide(b[at + 3]) + 256 * e;
-    let c = wide(b[at + 2]) + 256 * d;
-    let k = wide(b[at + 1]) + 256 * c;
-    wide(b[at]) + 256 * k
+    let h = wide_word(b[at + 7]);
+    let g = wide_word(b[at + 6]) + 256 * h;
+    let f = wide_word(b[at + 5]) + 256 * g;
+    let e = wide_word(b[at + 4]) + 256 * f;
+    let d = wide_word(b[at + 3]) + 256 * e;
+    let c = wide_word(b[at + 2]) + 256 * d;
+    let k = wide_word(b[at + 1]) + 256 * c;
+    wide_word(b[at]) + 256 * k
 }
 
 pub fn bytes_of(w: u64, x: u64) -> [u8; PeerData::BYTES]
@@ -319,7 +319,7 @@ pub fn remove_data(m: &mut [u64], cap: usize, p: PeerId)
 // The places of the active view, of the passive view and of the requests, and of the peers of all three together.
 pub const ACTIVE_PLACES: usize = 8;
 
-pub const PASSIVE_PLACES: usize = 32;
+pub const PASSIVE_PLACES: usize = util::PLACES;
 
 pub const KNOWN: usize = ACTIVE_PLACES + 2 * PASSIVE_PLACES;
 
@@ -433,7 +433,7 @@ pub fn row_valid(l: u64, w: u64, x: u64) -> bool
 }
 
 // Whether the first n entries are ones, of any words.
-pub fn rows_valid(m: &[u64], cap: usize, n: usize) -> bool
+fn rows_valid(m: &[u64], cap: usize, n: usize) -> bool
     requires { ⌜ length (now m) ≡ cap + cap + (cap + cap) + 1 ⌝ }
     requires { ⌜ n ≤ cap ⌝ }
     ensures { λ r. ⌜ r ≡ every valid-entry (take n (entries-at cap (now (m .entry)))) ⌝ }

@@ -28,7 +28,7 @@ pub struct Progress {
     pub written: usize,
 }
 
-fn clear(out: &mut [u8])
+fn clear_bytes(out: &mut [u8])
     ensures { λ _. ⌜ now (out .exit) ≡ pad 0 (length (now (out .entry))) [] ⌝ }
 {
     let mut i: usize = 0;
@@ -63,13 +63,13 @@ fn put_tail(out: &mut [u8], at: usize, h: Header)
 }
 
 // The header, where a peer has w bytes.
-fn put_header(out: &mut [u8], h: Header, w: usize)
+fn write_header(out: &mut [u8], h: Header, w: usize)
     requires { ⌜ IsForm w ⌝ }
     requires { ⌜ header-length-by w ≤ length (now out) ⌝ }
     ensures { λ _. ⌜ now (out .exit) ≡ overwrite (now (out .entry)) 0 (header-fields w h) ⌝ }
 {
     let first = [h.kind, h.message, h.flags, h.nodes];
-    writer::put_bytes(out, 0, &first);
+    writer::write_bytes(out, 0, &first);
     put_number(out, 4, h.peer, w);
     put_number(out, 4 + w, h.second, w);
     put_tail(out, 4 + 2 * w, h);
@@ -84,7 +84,7 @@ fn put_entry(out: &mut [u8], at: usize, e: Entry, w: usize)
     put_number(out, at, e.id, w);
     put_number(out, at + w, e.offset as u64, 2);
     let last = [e.len, e.present];
-    writer::put_bytes(out, at + (w + 2), &last);
+    writer::write_bytes(out, at + (w + 2), &last);
 }
 
 // An entry whose data stand at the place reached, if it has any.
@@ -102,7 +102,7 @@ fn moved(e: Entry, at: usize) -> Entry
 }
 
 // The entries of a record's n nodes, read where a peer has v bytes and written where it has w.
-fn put_entries(out: &mut [u8], b: &[u8], n: usize, v: usize, w: usize)
+fn write_entries(out: &mut [u8], b: &[u8], n: usize, v: usize, w: usize)
     requires { ⌜ IsForm v ⌝ }
     requires { ⌜ IsForm w ⌝ }
     requires { ⌜ well-formed-by v (now b) ≡ true ⌝ }
@@ -121,7 +121,7 @@ fn put_entries(out: &mut [u8], b: &[u8], n: usize, v: usize, w: usize)
 }
 
 // The data behind the entries of n nodes, as they stand.
-fn put_data(out: &mut [u8], b: &[u8], n: usize, v: usize, w: usize)
+fn write_data(out: &mut [u8], b: &[u8], n: usize, v: usize, w: usize)
     requires { ⌜ IsForm v ⌝ }
     requires { ⌜ IsForm w ⌝ }
     requires { ⌜ n ≤ 255 ⌝ }
@@ -130,7 +130,7 @@ fn put_data(out: &mut [u8], b: &[u8], n: usize, v: usize, w: usize)
     ensures { λ _. ⌜ now (out .exit) ≡ overwrite (now (out .entry)) (place-by w n) (drop (place-by v n) (now (b .entry))) ⌝ }
 {
     let data = record::place(n, v);
-    writer::put_bytes(out, record::place(n, w), &b[data..]);
+    writer::write_bytes(out, record::place(n, w), &b[data..]);
 }
 
 // The whole length in the other form: the data stay as long as they are.
@@ -176,7 +176,7 @@ fn other_header(b: &[u8], v: usize, w: usize) -> Header
 }
 
 // The record in the other form, whose header is h: the header, the entries, and the data as they stand.
-fn write(out: &mut [u8], b: &[u8], h: Header, v: usize, w: usize)
+fn write_form(out: &mut [u8], b: &[u8], h: Header, v: usize, w: usize)
     requires { ⌜ IsForm v ⌝ }
     requires { ⌜ IsForm w ⌝ }
     requires { ⌜ well-formed-by v (now b) ≡ true ⌝ }
@@ -185,9 +185,9 @@ fn write(out: &mut [u8], b: &[u8], h: Header, v: usize, w: usize)
     ensures { λ _. ⌜ now (out .exit) ≡ overwrite (now (out .entry)) 0 (encode-by w (rec-of-by v (now (b .entry)))) ⌝ }
 {
     let n = h.nodes as usize;
-    put_header(out, h, w);
-    put_entries(out, b, n, v, w);
-    put_data(out, b, n, v, w);
+    write_header(out, h, w);
+    write_entries(out, b, n, v, w);
+    write_data(out, b, n, v, w);
 }
 
 // The number has w bytes.
@@ -259,7 +259,7 @@ fn answer(b: &[u8], room: usize, v: usize, w: usize) -> u32
 }
 
 // The record in the other form onto what stands in the output.
-fn put_record(b: &[u8], out: &mut [u8], v: usize, w: usize) -> Converted
+fn place_record(b: &[u8], out: &mut [u8], v: usize, w: usize) -> Converted
     requires { ⌜ IsForm v ⌝ }
     requires { ⌜ IsForm w ⌝ }
     ensures { λ r. ⌜ outcome-of r (now (out .exit)) ≡ placed v w (now (b .entry)) (now (out .entry)) ⌝ }
@@ -267,7 +267,7 @@ fn put_record(b: &[u8], out: &mut [u8], v: usize, w: usize) -> Converted
     let code = answer(b, out.len(), v, w);
     if code == 0 {
         let h = other_header(b, v, w);
-        write(out, b, h, v, w);
+        write_form(out, b, h, v, w);
         return Converted {
             code: 0,
             written: h.size as usize,
@@ -284,8 +284,8 @@ fn convert(b: &[u8], out: &mut [u8], v: usize, w: usize) -> Converted
     requires { ⌜ IsForm w ⌝ }
     ensures { λ r. ⌜ outcome-of r (now (out .exit)) ≡ conversion v w (now (b .entry)) (length (now (out .entry))) ⌝ }
 {
-    clear(out);
-    put_record(b, out, v, w)
+    clear_bytes(out);
+    place_record(b, out, v, w)
 }
 
 // A record of the old form in this one.
@@ -326,12 +326,12 @@ fn convert_all(b: &[u8], out: &mut [u8], v: usize, w: usize) -> Progress
     ensures { λ r. ⌜ outcomes-of r (now (out .exit)) ≡ outcomes (walked v w (now (b .entry)) (length (now (out .entry)))) (length (now (out .entry))) ⌝ }
     ensures { λ r. ⌜ (r .taken ≤ length (now (b .entry))) × (r .written ≤ length (now (out .entry))) ⌝ }
 {
-    clear(out);
+    clear_bytes(out);
     let mut from: usize = 0;
     let mut to: usize = 0;
     while from < b.len() {
         let end = from + first_length(&b[from..], v);
-        let c = put_record(&b[from..end], &mut out[to..], v, w);
+        let c = place_record(&b[from..end], &mut out[to..], v, w);
         if c.code != 0 {
             return Progress {
                 code: c.code,

@@ -127,7 +127,7 @@ fn stream(buffer: &mut [u8], out: &mut [u8], back: bool)
 }
 
 // The whole of the input; 65,536 bytes of records become at most 98,304.
-pub fn run(back: bool) {
+pub fn convert_input(back: bool) {
     let mut buffer = [0u8; 65536];
     let mut out = [0u8; 98304];
     stream(&mut buffer, &mut out, back);

@@ -8,13 +8,13 @@ use timing::Config;
 ghost use mathlib.Core.Path.{_≡_};
 ghost use Rattle.demand.specs.Program.{program-made, program-outcome, made-state};
 
-pub fn new(st: &mut [u64], me: PeerId, present: bool, own: &[u8], config: Config) -> u32
+pub fn program_new(st: &mut [u64], me: PeerId, present: bool, own: &[u8], config: Config) -> u32
     ensures { λ r. ⌜ record { code = r; words = now (st .exit) } ≡ program-made (now (st .entry)) me present (now (own .entry)) config ⌝ }
 {
     hyparview::new(st, me, present, own, config)
 }
 
-pub fn handle(st: &mut [u64], b: &[u8], draws: &[u32], out: &mut [u8]) -> Done
+pub fn program_handle(st: &mut [u64], b: &[u8], draws: &[u32], out: &mut [u8]) -> Done
     ensures { λ r. ⌜ record { code = r .code; draws = r .draws; words = now (st .exit); output = now (out .exit) } ≡ program-outcome (now (b .entry)) (now (draws .entry)) (now (out .entry)) (now (st .entry)) ⌝ }
 {
     hyparview::handle(st, b, draws, out)

@@ -90,7 +90,7 @@ fn put_of_peer(out: &mut [u8], i: usize, p: PeerId) -> Written
 }
 
 // The event at place i of the sixteen.
-fn put_event(out: &mut [u8], i: usize) -> Written
+fn put_event_at(out: &mut [u8], i: usize) -> Written
     requires { ⌜ i < 16 ⌝ }
     ensures { λ r. ⌜ Wrote (event-at i) 0 (now (out .entry)) r (now (out .exit)) ⌝ }
 {
@@ -107,7 +107,7 @@ fn put_event(out: &mut [u8], i: usize) -> Written
 }
 
 // The new station: self 1, no data, capacities of 1 and other settings default.
-fn first() -> State
+fn first_station() -> State
     ensures { λ r. ⌜ r ≡ first-state ⌝ }
 {
     let mut config = Timing::default_settings();
@@ -123,7 +123,7 @@ fn event_bytes(out: &mut [u8], i: usize) -> usize
     requires { ⌜ length (now out) ≡ header-length + node-length ⌝ }
     ensures { λ r. ⌜ (r ≤ header-length + node-length) × (take r (now (out .exit)) ≡ encode (event-at i)) ⌝ }
 {
-    let w = put_event(out, i);
+    let w = put_event_at(out, i);
     match w {
         Written::At(n) => n,
         Written::Full => 0,
@@ -150,7 +150,7 @@ fn one_if(test: bool) -> u32
 }
 
 // One more history, which ended in s.
-fn count(s: State, c: Ends) -> Ends
+fn count_end(s: State, c: Ends) -> Ends
     requires { ⌜ CountRoom c 1 ⌝ }
     ensures { λ r. ⌜ r ≡ plus c (count-ends (sizes-in s) ([] ∷ [])) ⌝ }
 {
@@ -171,7 +171,7 @@ fn extend(s: State, left: usize, c: Ends) -> Ends
     ensures { λ r. ⌜ r ≡ plus c (count-ends (sizes-in s) (of-length 16 left)) ⌝ }
 {
     if left == 0 {
-        return count(s, c);
+        return count_end(s, c);
     }
     let mut sum = c;
     let mut i: usize = 0;
@@ -187,7 +187,7 @@ fn extend(s: State, left: usize, c: Ends) -> Ends
 pub fn count_ends() -> Ends
     ensures { λ r. ⌜ r ≡ all-ends ⌝ }
 {
-    let s = first();
+    let s = first_station();
     let mut sum = Ends {
         neither: 0,
         passive: 0,

@@ -45,10 +45,7 @@ pub const DRAWS: usize = 512;
 fn first_interval(config: Config) -> u32
     ensures { λ r. ⌜ r ≡ min initial-shuffle-interval (config .«shuffle_interval») ⌝ }
 {
-    if Timing::INITIAL_SHUFFLE_INTERVAL <= config.shuffle_interval {
-        return Timing::INITIAL_SHUFFLE_INTERVAL;
-    }
-    config.shuffle_interval
+    timing::shorter(Timing::INITIAL_SHUFFLE_INTERVAL, config.shuffle_interval)
 }
 
 // Own data in its words.
@@ -113,7 +110,7 @@ fn fresh(st: &mut [u64], me: PeerId, own: PeerData, config: Config)
 }
 
 // The lent bytes as own data, or absent; not ok where there are more than 16.
-fn own_data(present: bool, own: &[u8]) -> MaybeData
+fn own_given(present: bool, own: &[u8]) -> MaybeData
     ensures { λ r. ⌜ Own r (lent present (now (own .entry))) ⌝ }
 {
     if present {
@@ -135,7 +132,7 @@ pub fn new(st: &mut [u64], me: PeerId, present: bool, own: &[u8], config: Config
         return Refusal::STATE;
     }
     util::clear_from(st, 0);
-    let d = own_data(present, own);
+    let d = own_given(present, own);
     let fits = config.in_range() & d.ok;
     if fits {
         let data = d.data;
@@ -230,7 +227,7 @@ pub struct Done {
 }
 
 // The places from `from` on become zero.
-fn clear(out: &mut [u8], from: usize)
+fn clear_output(out: &mut [u8], from: usize)
     requires { ⌜ from ≤ length (now out) ⌝ }
     ensures { λ _. ⌜ now (out .exit) ≡ cleared from (now (out .entry)) ⌝ }
 {
@@ -257,7 +254,7 @@ fn copy_words(a: &[u64], b: &mut [u64])
 fn refuse(st: &[u64], out: &mut [u8], code: u32) -> Done
     ensures { λ r. ⌜ record { code = r .code; draws = r .draws; words = now (st .entry); output = now (out .exit) } ≡ refused-words code (now (st .entry)) (length (now (out .entry))) ⌝ }
 {
-    clear(out, 0);
+    clear_output(out, 0);
     Done {
         code: code,
         draws: 0,
@@ -277,7 +274,7 @@ fn finish(old: &[u64], st: &mut [u64], w: Work, out: &mut [u8]) -> Done
         return refuse(st, out, code);
     }
     let at = w.written;
-    clear(out, at);
+    clear_output(out, at);
     Done {
         code: 0,
         draws: w.drawn,
@@ -351,7 +348,7 @@ fn handle_single(
     ensures { λ r. ⌜ Does (work-of r (now (st .exit))) (now (draws .entry)) (now (out .exit)) (handle-message (rec-of (now (b .entry))) (run (work-of w (now (st .entry))) (now (draws .entry)) (now (out .entry)))) ⌝ }
 {
     let p = h.peer;
-    let n = record::peer_info(b, 0);
+    let n = record::peer_info_at(b, 0);
     let d = n.data;
     if h.message == Message::JOIN {
         return step_messages::on_join(w, st, draws, out, p, d);
@@ -443,7 +440,7 @@ fn dispatch(w: Work, st: &mut [u64], draws: &[u32], out: &mut [u8], b: &[u8], h:
         return step_events::handle_join(w, st, out, p);
     }
     if h.kind == Kind::UPDATE_PEER_DATA {
-        let n = record::peer_info(b, 0);
+        let n = record::peer_info_at(b, 0);
         let d = n.data;
         return step_events::update_own_data(w, st, d);
     }

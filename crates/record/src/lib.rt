@@ -151,7 +151,7 @@ impl Refusal {
 
 // The fixed size of a record by its kind byte; 0 where no kind has that number. By comparisons, since a match over the kinds is
 // compiled to a table in read-only memory.
-pub fn fixed_size(kind: u8) -> u8
+fn fixed_size(kind: u8) -> u8
     ensures { λ r. ⌜ r ≡ fixed-size kind ⌝ }
 {
     if (kind == Kind::UPDATE_PEER_DATA) | (kind == Kind::PEER_DATA) {
@@ -164,7 +164,7 @@ pub fn fixed_size(kind: u8) -> u8
 }
 
 // A byte as a wider number.
-fn wide(x: u8) -> u32
+pub fn wide(x: u8) -> u32
     ensures { λ r. ⌜ (r ≡ x) × (r < 256) ⌝ }
 {
     x as u32
@@ -280,7 +280,7 @@ pub fn node(b: &[u8], i: usize) -> Entry
 }
 
 // x where the test holds, else y.
-fn choose(test: bool, x: bool, y: bool) -> bool
+fn select(test: bool, x: bool, y: bool) -> bool
     ensures { λ r. ⌜ r ≡ choose test x y ⌝ }
 {
     if test { x } else { y }
@@ -312,7 +312,7 @@ fn kind_ok(h: Header) -> bool
     ensures { λ r. ⌜ r ≡ kind-ok h ⌝ }
 {
     !(fixed_size(h.kind) == 0)
-        & choose(
+        & select(
             h.kind == Kind::MESSAGE,
             h.message <= Message::DISCONNECT,
             h.message == 0,
@@ -323,10 +323,10 @@ fn kind_ok(h: Header) -> bool
 fn flags_ok(h: Header) -> bool
     ensures { λ r. ⌜ r ≡ flags-ok h ⌝ }
 {
-    choose(
+    select(
         is_message(Message::NEIGHBOR, h),
         h.flags <= Flags::HIGH,
-        choose(
+        select(
             is_message(Message::DISCONNECT, h),
             h.flags <= Flags::BOTH,
             h.flags == 0,
@@ -340,10 +340,10 @@ fn count_ok(h: Header) -> bool
     let one = is_message(Message::JOIN, h)
         | (is_message(Message::FORWARD_JOIN, h) | (is_message(Message::NEIGHBOR, h) | is_data(h)));
     let some = is_message(Message::SHUFFLE, h) | is_message(Message::SHUFFLE_REPLY, h);
-    choose(
+    select(
         one,
         h.nodes == 1,
-        choose(some, h.nodes <= MOST_NODES, h.nodes == 0),
+        select(some, h.nodes <= MOST_NODES, h.nodes == 0),
     )
 }
 
@@ -354,24 +354,24 @@ fn peer_ok(h: Header) -> bool
     let none = (h.kind == Kind::DO_SHUFFLE)
         | ((h.kind == Kind::DO_MAINTENANCE)
             | ((h.kind == Kind::UPDATE_PEER_DATA) | (h.kind == Kind::QUIT)));
-    choose(none, h.peer == 0, true)
+    select(none, h.peer == 0, true)
 }
 
 // Fields not named for a kind are 0.
 fn fields_ok(h: Header) -> bool
     ensures { λ r. ⌜ r ≡ fields-ok h ⌝ }
 {
-    let second = choose(
+    let second = select(
         is_message(Message::SHUFFLE, h) | is_timer(h),
         true,
         h.second == 0,
     );
-    let ttl = choose(
+    let ttl = select(
         is_message(Message::FORWARD_JOIN, h) | is_message(Message::SHUFFLE, h),
         true,
         h.ttl == 0,
     );
-    let number = choose(
+    let number = select(
         (h.kind == Kind::PENDING_NEIGHBOR_REQUEST) | (h.kind == Kind::RETRY_JOIN),
         true,
         h.number == 0,
@@ -391,7 +391,7 @@ fn data_ok(e: Entry, at: usize) -> bool
     ensures { λ r. ⌜ r ≡ data-ok e at ⌝ }
 {
     let offset = e.offset as usize;
-    choose(
+    select(
         e.present == 0,
         (e.offset == 0) & (e.len == 0),
         (e.present == 1) & ((offset == at) & (e.len <= MOST_DATA)),
@@ -402,8 +402,8 @@ fn entry_ok(h: Header, e: Entry, at: usize) -> bool
     ensures { λ r. ⌜ r ≡ entry-ok h e at ⌝ }
 {
     let unnamed = is_message(Message::JOIN, h) | (is_message(Message::NEIGHBOR, h) | is_data(h));
-    let id = choose(unnamed, e.id == 0, true);
-    data_ok(e, at) & (id & choose(is_data(h), e.present == 1, true))
+    let id = select(unnamed, e.id == 0, true);
+    data_ok(e, at) & (id & select(is_data(h), e.present == 1, true))
 }
 
 // Every entry is sound, and the data reach the whole length.
@@ -462,7 +462,7 @@ pub fn read(b: &[u8]) -> Answer
 fn is_event(h: Header) -> bool
     ensures { λ r. ⌜ r ≡ is-event h ⌝ }
 {
-    (h.kind <= Kind::QUIT) & choose(is_timer(h), h.second == 0, true)
+    (h.kind <= Kind::QUIT) & select(is_timer(h), h.second == 0, true)
 }
 
 // An event's header, or the code of its refusal.
@@ -499,7 +499,7 @@ pub fn node_data<'a>(b: &'a [u8], e: Entry) -> &'a [u8]
 }
 
 // A node's data by value.
-pub fn peer_data(b: &[u8], e: Entry) -> PeerData
+fn peer_data(b: &[u8], e: Entry) -> PeerData
     requires { ⌜ e .offset + e .len ≤ length (now b) ⌝ }
     requires { ⌜ e .len ≤ 16 ⌝ }
     ensures { λ r. ⌜ HoldsData r (data-at (now (b .entry)) e) ⌝ }
@@ -512,7 +512,7 @@ pub fn peer_data(b: &[u8], e: Entry) -> PeerData
 }
 
 // The i-th node of a record by value.
-pub fn peer_info(b: &[u8], i: usize) -> PeerInfo
+pub fn peer_info_at(b: &[u8], i: usize) -> PeerInfo
     requires { ⌜ well-formed (now b) ≡ true ⌝ }
     requires { ⌜ i < header-of (now b) .nodes ⌝ }
     ensures { λ r. ⌜ HoldsNode r (node-at (now (b .entry)) i) ⌝ }

@@ -1,6 +1,7 @@
 // The test of every station rule of document 01 on the words of a state.
 use state::Layout;
 use state::RefillLimit;
+use timing::Config;
 use timing::Timing;
 ghost use mathlib.Core.Path.{_≡_};
 ghost use mathlib.Core.Bool.{true};
@@ -141,7 +142,20 @@ fn is_packed(st: &[u64]) -> bool
 
 // ---- the station rules
 
-fn within(low: u64, high: u64, x: u64) -> bool
+// The tops of the settings' ranges, as words.
+const ACTIVE_TOP: u64 = Config::MOST_ACTIVE as u64;
+
+const PASSIVE_TOP: u64 = Config::MOST_PASSIVE as u64;
+
+const WALK_TOP: u64 = Config::LONGEST_WALK as u64;
+
+const SHUFFLE_ACTIVE_TOP: u64 = Config::MOST_SHUFFLE_ACTIVE as u64;
+
+const SHUFFLE_PASSIVE_TOP: u64 = Config::MOST_SHUFFLE_PASSIVE as u64;
+
+const TIME_TOP: u64 = Config::LONGEST_TIME as u64;
+
+fn is_within(low: u64, high: u64, x: u64) -> bool
     ensures { λ r. ⌜ r ≡ within low high x ⌝ }
 {
     (low <= x) & (x <= high)
@@ -152,17 +166,21 @@ fn settings_rule(st: &[u64]) -> bool
     requires { ⌜ length (now st) ≡ words ⌝ }
     ensures { λ r. ⌜ r ≡ settings-rule (unpack (now (st .entry))) ⌝ }
 {
-    within(1, 8, st[Layout::ACTIVE_VIEW_CAPACITY])
-        & (within(1, 32, st[Layout::PASSIVE_VIEW_CAPACITY])
-            & (within(0, 65535, st[Layout::ACTIVE_RANDOM_WALK_LENGTH])
-                & (within(0, 65535, st[Layout::PASSIVE_RANDOM_WALK_LENGTH])
-                    & (within(0, 65535, st[Layout::SHUFFLE_RANDOM_WALK_LENGTH])
-                        & (within(0, 8, st[Layout::SHUFFLE_ACTIVE_VIEW_COUNT])
-                            & (within(0, 23, st[Layout::SHUFFLE_PASSIVE_VIEW_COUNT])
-                                & (within(1, 3600000, st[Layout::SHUFFLE_INTERVAL])
-                                    & within(
+    is_within(1, ACTIVE_TOP, st[Layout::ACTIVE_VIEW_CAPACITY])
+        & (is_within(1, PASSIVE_TOP, st[Layout::PASSIVE_VIEW_CAPACITY])
+            & (is_within(0, WALK_TOP, st[Layout::ACTIVE_RANDOM_WALK_LENGTH])
+                & (is_within(0, WALK_TOP, st[Layout::PASSIVE_RANDOM_WALK_LENGTH])
+                    & (is_within(0, WALK_TOP, st[Layout::SHUFFLE_RANDOM_WALK_LENGTH])
+                        & (is_within(0, SHUFFLE_ACTIVE_TOP, st[Layout::SHUFFLE_ACTIVE_VIEW_COUNT])
+                            & (is_within(
+                                0,
+                                SHUFFLE_PASSIVE_TOP,
+                                st[Layout::SHUFFLE_PASSIVE_VIEW_COUNT],
+                            )
+                                & (is_within(1, TIME_TOP, st[Layout::SHUFFLE_INTERVAL])
+                                    & is_within(
                                         1,
-                                        3600000,
+                                        TIME_TOP,
                                         st[Layout::NEIGHBOR_REQUEST_TIMEOUT],
                                     ))))))))
 }
@@ -296,7 +314,7 @@ fn interval_rule(st: &[u64]) -> bool
     requires { ⌜ length (now st) ≡ words ⌝ }
     ensures { λ r. ⌜ r ≡ interval-rule (unpack (now (st .entry))) ⌝ }
 {
-    within(
+    is_within(
         1,
         st[Layout::SHUFFLE_INTERVAL],
         st[Layout::NEXT_SHUFFLE_INTERVAL],

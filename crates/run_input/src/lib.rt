@@ -156,7 +156,7 @@ fn events_ok(b: &[u8]) -> bool
 }
 
 // The whole input: its head, or that it is refused.
-pub fn read(b: &[u8]) -> Input
+pub fn read_input(b: &[u8]) -> Input
     ensures { λ r. ⌜ r ≡ input-of (now (b .entry)) ⌝ }
 {
     if places_ok(b) {

@@ -43,7 +43,7 @@ pub enum Shown {
 }
 
 // The event at the place reached, with the draws left and the output lent, and its lines.
-fn step(
+fn put_step(
     p: Runner,
     i: usize,
     events: &[u8],
@@ -83,7 +83,7 @@ fn put_events(
     let mut r = t;
     let mut i: usize = 0;
     while i < n {
-        let q = step(p, i, events, draws, records, out, r);
+        let q = put_step(p, i, events, draws, records, out, r);
         i += 1;
         p = q.runner;
         r = q.text;
@@ -147,7 +147,7 @@ fn open_head(head: Head) -> Opened
 pub fn open(b: &[u8]) -> Opened
     ensures { λ r. ⌜ r ≡ opened-run (now (b .entry)) ⌝ }
 {
-    let i = run_input::read(b);
+    let i = run_input::read_input(b);
     match i {
         Input::Refused => Opened::Line(Refusal::MALFORMED),
         Input::Whole(head) => open_head(head),
@@ -215,7 +215,7 @@ fn put_run(b: &[u8], out: &mut [u8], t: Text) -> Text
 }
 
 // How much text there is.
-fn answer(t: Text) -> Shown
+fn shown_of(t: Text) -> Shown
     ensures { λ r. ⌜ Answers t r ⌝ }
 {
     if t.full {
@@ -231,5 +231,5 @@ pub fn run(b: &[u8], out: &mut [u8]) -> Shown
 {
     let none = run_text::start();
     let t = put_run(b, out, none);
-    answer(t)
+    shown_of(t)
 }

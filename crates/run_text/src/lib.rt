@@ -71,9 +71,9 @@ pub fn put_field(out: &mut [u8], t: Text, n: u64, after: u8) -> Text
 fn put_four(out: &mut [u8], t: Text, a: u64, b: u64, c: u64, d: u64, after: u8) -> Text
     ensures { λ r. ⌜ Puts (four a b c d after) t (now (out .entry)) r (now (out .exit)) ⌝ }
 {
-    let t1 = put_field(out, t, a, 32);
-    let t2 = put_field(out, t1, b, 32);
-    let t3 = put_field(out, t2, c, 32);
+    let t1 = put_field(out, t, a, b' ');
+    let t2 = put_field(out, t1, b, b' ');
+    let t3 = put_field(out, t2, c, b' ');
     put_field(out, t3, d, after)
 }
 
@@ -85,18 +85,18 @@ pub fn put_record(out: &mut [u8], t: Text, i: u64, h: Header) -> Text
     let message = h.message as u64;
     let ttl = h.ttl as u64;
     let nodes = h.nodes as u64;
-    let a = put_four(out, t, i, kind, message, h.peer, 32);
-    put_four(out, a, h.second, ttl, h.number, nodes, 10)
+    let a = put_four(out, t, i, kind, message, h.peer, b' ');
+    put_four(out, a, h.second, ttl, h.number, nodes, b'\n')
 }
 
 // The line that ends an event.
 pub fn put_end(out: &mut [u8], t: Text, code: u32, draws: u64) -> Text
     ensures { λ r. ⌜ Puts (end-line code draws) t (now (out .entry)) r (now (out .exit)) ⌝ }
 {
-    let a = put(out, t, 61);
-    let b = put(out, a, 32);
-    let c = put_field(out, b, code as u64, 32);
-    put_field(out, c, draws, 10)
+    let a = put(out, t, b'=');
+    let b = put(out, a, b' ');
+    let c = put_field(out, b, code as u64, b' ');
+    put_field(out, c, draws, b'\n')
 }
 
 // The lines of the records in an output, each taken by its whole length.

@@ -21,7 +21,7 @@ pub fn no_bits(s: &[u64]) -> bool
 }
 
 // Whether x is one of the words.
-pub fn contains(s: &[u64], x: u64) -> bool
+pub fn is_in(s: &[u64], x: u64) -> bool
     ensures { λ r. ⌜ r ≡ mem x (now (s .entry)) ⌝ }
 {
     let mut hit = false;
@@ -55,10 +55,10 @@ fn found(s: &[u64], h: usize, x: u64) -> bool
             return true;
         }
     }
-    contains(s, x)
+    is_in(s, x)
 }
 
-fn wide(x: u8) -> usize {
+fn hinted(x: u8) -> usize {
     x as usize
 }
 
@@ -85,7 +85,7 @@ pub fn subset(a: &[u64], b: &[u64]) -> bool
     while i < a.len() {
         let x = a[i];
         let k = (x % 256) as usize;
-        let h = wide(hints[k]);
+        let h = hinted(hints[k]);
         ok = ok & found(b, h, x);
         i += 1;
     }
@@ -116,7 +116,7 @@ pub fn disjoint(a: &[u64], b: &[u64]) -> bool
         let x = a[i];
         let k = (x % 256) as usize;
         if seen[k] {
-            if contains(b, x) {
+            if is_in(b, x) {
                 return false;
             }
         }
@@ -135,7 +135,7 @@ pub fn distinct(s: &[u64]) -> bool
         let x = s[i - 1];
         let k = (x % 256) as usize;
         if seen[k] {
-            if contains(&s[i..], x) {
+            if is_in(&s[i..], x) {
                 return false;
             }
         }

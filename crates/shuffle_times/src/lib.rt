@@ -2,7 +2,7 @@
 use timing::Config;
 use timing::Timing;
 ghost use mathlib.Core.Path.{_≡_};
-ghost use Prim.Native.Nat.{_≤_, min};
+ghost use Prim.Native.Nat.{_≤_};
 ghost use lib.ListN.{replicate};
 ghost use Rattle.timing.specs.Timing.{delay};
 ghost use Rattle.shuffle_times.specs.Times.{lowest-draw, highest-draw, latest-start, most-shuffles, first-interval, next-interval, due, has-times, shuffle-times};
@@ -22,20 +22,11 @@ impl ShuffleTimes {
     pub const LATEST_START: u64 = 9223372036854775808;
 }
 
-fn smaller(a: u32, b: u32) -> u32
-    ensures { λ r. ⌜ r ≡ min a b ⌝ }
-{
-    if a < b {
-        return a;
-    }
-    b
-}
-
 // The interval of a station's first shuffle.
-fn first_interval(top: u32) -> u32
+fn initial_interval(top: u32) -> u32
     ensures { λ r. ⌜ r ≡ first-interval top ⌝ }
 {
-    smaller(Timing::INITIAL_SHUFFLE_INTERVAL, top)
+    timing::shorter(Timing::INITIAL_SHUFFLE_INTERVAL, top)
 }
 
 // The interval doubles up to the setting.
@@ -43,7 +34,7 @@ fn next_interval(top: u32, interval: u32) -> u32
     requires { ⌜ interval ≤ 3600000 ⌝ }
     ensures { λ r. ⌜ r ≡ next-interval top interval ⌝ }
 {
-    smaller(2 * interval, top)
+    timing::shorter(2 * interval, top)
 }
 
 // Three quarters of the interval: the delay of the lowest draw.
@@ -74,7 +65,7 @@ fn ends(earliest: u64, latest: u64, top: u32, k: u32) -> ShuffleTimes
 {
     let mut low = earliest;
     let mut high = latest;
-    let mut interval = first_interval(top);
+    let mut interval = initial_interval(top);
     let mut left = k;
     while left > 0 {
         low += least_delay(interval);

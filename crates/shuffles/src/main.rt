@@ -20,12 +20,12 @@ fn say_all(b: &[u8]) {
     let mut at: usize = 0;
     while b.len() - at >= QUESTION {
         let end = at + QUESTION;
-        say(&b[at..end]);
+        say_times(&b[at..end]);
         at = end;
     }
 }
 
-fn config_of(b: &[u8]) -> Config {
+fn settings_asked(b: &[u8]) -> Config {
     Config {
         active_view_capacity: run_input::number(b, 4),
         passive_view_capacity: run_input::number(b, 5),
@@ -39,10 +39,10 @@ fn config_of(b: &[u8]) -> Config {
     }
 }
 
-fn say(b: &[u8]) {
+fn say_times(b: &[u8]) {
     let earliest = run_input::from_halves(run_input::number(b, 0), run_input::number(b, 1));
     let latest = run_input::from_halves(run_input::number(b, 2), run_input::number(b, 3));
-    let config = config_of(b);
+    let config = settings_asked(b);
     let k = run_input::number(b, 13);
     let t = shuffle_times::hyparview_shuffle_times(earliest, latest, config, k);
     io::print_decimal(1, t.earliest);

@@ -371,7 +371,7 @@ pub fn choose(w: Work, draws: &[u32], n: usize) -> Chosen
 }
 
 // Shuffles a working set of 32 places where it lies, and takes the draws of that; code 5 where there are not so many.
-pub fn shuffle(w: Work, draws: &[u32], v: &mut [u64]) -> Work
+pub fn shuffle_by_draws(w: Work, draws: &[u32], v: &mut [u64]) -> Work
     requires { ⌜ w .drawn ≤ length (now draws) ⌝ }
     requires { ⌜ ValidSet all-places (now v) ⌝ }
     ensures { λ r. ⌜ DrawsAny (draw-shuffle (items-at all-places (now (v .entry)))) w r (now (draws .entry)) ⌝ }

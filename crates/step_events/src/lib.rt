@@ -27,7 +27,7 @@ ghost use Rattle.step_active.specs.Sane.{Calm};
 ghost use Rattle.step_events.specs.Free.{FreeJoin, Joinable, KnownJoins};
 
 // The bootstrap peers but p, as a working set.
-fn others_into(st: &[u64], p: PeerId, t: &mut [u64])
+fn other_bootstrap(st: &[u64], p: PeerId, t: &mut [u64])
     requires { ⌜ length (now st) ≡ words ⌝ }
     requires { ⌜ PackedState (now st) ⌝ }
     requires { ⌜ length (now t) ≡ set-words ⌝ }
@@ -48,7 +48,7 @@ fn must_drop_oldest(st: &[u64], p: PeerId) -> bool
     ensures { λ r. ⌜ r ≡ must-drop-oldest p (unpack (now (st .entry))) ⌝ }
 {
     let mut others = [0u64; Layout::SET];
-    others_into(st, p, &mut others);
+    other_bootstrap(st, p, &mut others);
     let n = util::count(&others, Layout::ALL);
     Timing::MAX_BOOTSTRAP_PEERS < n + 1
 }
@@ -61,7 +61,7 @@ fn oldest(st: &[u64], p: PeerId) -> PeerId
     ensures { λ r. ⌜ r ≡ oldest p (unpack (now (st .entry))) ⌝ }
 {
     let mut others = [0u64; Layout::SET];
-    others_into(st, p, &mut others);
+    other_bootstrap(st, p, &mut others);
     util::get_index(&others, Layout::ALL, 0)
 }
 

@@ -32,7 +32,7 @@ ghost use Rattle.step_messages.specs.Between.{Between};
 ghost use Rattle.step_messages.specs.Places.{FreeRefused, FreePassiveMark};
 
 // The neighbors but p, as a working set.
-fn others_into(st: &[u64], p: PeerId, t: &mut [u64])
+fn other_active(st: &[u64], p: PeerId, t: &mut [u64])
     requires { ⌜ length (now st) ≡ words ⌝ }
     requires { ⌜ PackedState (now st) ⌝ }
     requires { ⌜ length (now t) ≡ set-words ⌝ }
@@ -175,7 +175,7 @@ fn walk_on(
         return w;
     }
     let mut v = [0u64; Layout::SET];
-    others_into(st, from, &mut v);
+    other_active(st, from, &mut v);
     let k = util::count(&v, Layout::ALL);
     forward_join_on(w, st, draws, out, &v[..k], n, ttl)
 }
@@ -410,7 +410,7 @@ fn forward_joins(w: Work, st: &[u64], out: &mut [u8], p: PeerId, d: PeerData) ->
     ensures { λ r. ⌜ Tells (forward-joins p (data-in d)) (work-of w (now (st .entry))) (work-of r (now (st .entry))) (now (out .entry)) (now (out .exit)) ⌝ }
 {
     let mut v = [0u64; Layout::SET];
-    others_into(st, p, &mut v);
+    other_active(st, p, &mut v);
     let k = util::count(&v, Layout::ALL);
     let ttl = st[Layout::ACTIVE_RANDOM_WALK_LENGTH] as u16;
     let n = PeerInfo { id: p, data: d };

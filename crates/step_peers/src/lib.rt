@@ -263,7 +263,7 @@ fn announce_data(w: Work, st: &[u64], out: &mut [u8], p: PeerId, d: PeerData) ->
 }
 
 // Announces and stores data that is not known yet.
-fn insert_data(w: Work, st: &mut [u64], out: &mut [u8], p: PeerId, d: PeerData) -> Work
+fn insert_new_data(w: Work, st: &mut [u64], out: &mut [u8], p: PeerId, d: PeerData) -> Work
     requires { ⌜ length (now st) ≡ words ⌝ }
     requires { ⌜ Room (work-of w (now st)) (now out) ⌝ }
     requires { ⌜ ValidData d ⌝ }
@@ -284,7 +284,7 @@ pub fn insert_peer_info(w: Work, st: &mut [u64], out: &mut [u8], p: PeerId, d: P
     ensures { λ r. ⌜ Tells (insert-peer-info p (data-in d)) (work-of w (now (st .entry))) (work-of r (now (st .exit))) (now (out .entry)) (now (out .exit)) ⌝ }
 {
     if d.present {
-        return insert_data(w, st, out, p, d);
+        return insert_new_data(w, st, out, p, d);
     }
     w
 }

@@ -121,7 +121,7 @@ pub fn shuffle_and_cap(w: Work, draws: &[u32], most: usize, v: &mut [u64]) -> Wo
     ensures { λ r. ⌜ DrawsAny (draw-shuffle (items-at all-places (now (v .entry)))) w r (now (draws .entry)) ⌝ }
     ensures { λ r. ⌜ HoldsSet all-places (now (v .exit)) (take most (shuffle (drop (w .drawn) (now (draws .entry))) (items-at all-places (now (v .entry))))) ⌝ }
 {
-    let r = state::shuffle(w, draws, v);
+    let r = state::shuffle_by_draws(w, draws, v);
     util::truncate(v, Layout::ALL, most);
     r
 }

@@ -42,7 +42,7 @@ fn add_nodes(w: Work, st: &mut [u64], draws: &[u32], out: &mut [u8], b: &[u8], n
     let mut fresh = false;
     let mut i: usize = 0;
     while i < n {
-        let x = record::peer_info(b, i);
+        let x = record::peer_info_at(b, i);
         let p = x.id;
         let d = x.data;
         fresh = fresh | step_peers::is_newcomer(st, p);
@@ -65,7 +65,7 @@ fn event_nodes(b: &[u8], n: usize) -> Nodes
     let mut t = Nodes::new();
     let mut i: usize = 0;
     while i < n {
-        let x = record::peer_info(b, i);
+        let x = record::peer_info_at(b, i);
         i += 1;
         t = t.push(x);
     }

@@ -11,9 +11,9 @@ ghost use Rattle.stories.specs.Lines.{ends-line, ends-text};
 fn put_line(out: &mut [u8], t: Text, active: u64, passive: u64, n: u32) -> Text
     ensures { λ r. ⌜ Puts (ends-line active passive n) t (now (out .entry)) r (now (out .exit)) ⌝ }
 {
-    let a = run_text::put_field(out, t, active, 32);
-    let b = run_text::put_field(out, a, passive, 32);
-    run_text::put_field(out, b, n as u64, 10)
+    let a = run_text::put_field(out, t, active, b' ');
+    let b = run_text::put_field(out, a, passive, b' ');
+    run_text::put_field(out, b, n as u64, b'\n')
 }
 
 fn put_ends(out: &mut [u8], t: Text, c: Ends) -> Text

@@ -6,11 +6,11 @@ ghost use lib.ListN.{length};
 fn main() {
     let mut buffer = io::large_buffer();
     let n = io::read_full(0, &mut buffer);
-    show_all(&buffer[..n]);
+    show_cases(&buffer[..n]);
 }
 
 // Every case of the input, to the first that is cut off.
-fn show_all(s: &[u8]) {
+fn show_cases(s: &[u8]) {
     let mut at: usize = 0;
     while at < s.len() {
         let left = s.len() - at;
@@ -24,17 +24,13 @@ fn show_all(s: &[u8]) {
         }
         let start = at + 5;
         let end = start + size;
-        show(s[at], room, &s[start..end]);
+        show_case(s[at], room, &s[start..end]);
         at = end;
     }
 }
 
-fn wide(x: u8) -> u64 {
-    x as u64
-}
-
 // The output holds no 0 at first, so that a byte shows that is not cleared.
-fn show(form: u8, room: usize, b: &[u8])
+fn show_case(form: u8, room: usize, b: &[u8])
     requires { ⌜ room ≤ 65535 ⌝ }
 {
     let mut space = [255u8; 65536];
@@ -61,7 +57,7 @@ fn show_result(r: Converted, out: &[u8])
 {
     let written = r.written;
     if r.code == 0 {
-        show_bytes(&out[..written]);
+        show_hex(&out[..written]);
     }
     if cleared(&out[written..]) {
         io::write_all(1, b"= ");
@@ -83,10 +79,10 @@ fn cleared(s: &[u8]) -> bool {
     true
 }
 
-fn show_bytes(s: &[u8]) {
+fn show_hex(s: &[u8]) {
     let mut i: usize = 0;
     while i < s.len() {
-        io::print_hex(1, wide(s[i]), 2);
+        io::print_hex(1, record::wide(s[i]) as u64, 2);
         i += 1;
     }
     io::write_all(1, b"\n");

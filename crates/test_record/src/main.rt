@@ -7,11 +7,11 @@ ghost use Rattle.record.specs.Answers.{Found};
 fn main() {
     let mut buffer = io::large_buffer();
     let n = io::read_full(0, &mut buffer);
-    show_all(&buffer[..n]);
+    show_records(&buffer[..n]);
 }
 
 // Every record of the input, to the first that is cut off.
-fn show_all(s: &[u8]) {
+fn show_records(s: &[u8]) {
     let mut at: usize = 0;
     while at < s.len() {
         let left = s.len() - at;
@@ -24,16 +24,12 @@ fn show_all(s: &[u8]) {
         }
         let start = at + 2;
         let end = start + size;
-        show(&s[start..end]);
+        show_record(&s[start..end]);
         at = end;
     }
 }
 
-fn wide(x: u8) -> u64 {
-    x as u64
-}
-
-fn show(b: &[u8]) {
+fn show_record(b: &[u8]) {
     let answer = record::read(b);
     match answer {
         Answer::Record(h) => {
@@ -77,15 +73,15 @@ fn show_nodes(b: &[u8], h: Header)
         word(e.id);
         word(e.present as u64);
         word(e.len as u64);
-        show_bytes(record::node_data(b, e));
+        show_data(record::node_data(b, e));
         i += 1;
     }
 }
 
-fn show_bytes(s: &[u8]) {
+fn show_data(s: &[u8]) {
     let mut i: usize = 0;
     while i < s.len() {
-        word(wide(s[i]));
+        word(record::wide(s[i]) as u64);
         i += 1;
     }
 }

@@ -2,7 +2,7 @@
 use run_listing::Shown;
 
 // The text of one input; one that does not fit is named, and not cut off.
-fn show(b: &[u8], text: &mut [u8]) {
+fn show_listing(b: &[u8], text: &mut [u8]) {
     let shown = run_listing::run(b, text);
     match shown {
         Shown::Bytes(n) => {
@@ -21,12 +21,12 @@ fn take(bytes: &mut [u8], text: &mut [u8; 262144]) -> bool {
     if n < bytes.len() {
         return false;
     }
-    show(bytes, text);
+    show_listing(bytes, text);
     true
 }
 
 // The next input; false where there is none, or one longer than the lent bytes.
-fn next(head: &mut [u8], bytes: &mut [u8], text: &mut [u8; 262144]) -> bool {
+fn next_input(head: &mut [u8], bytes: &mut [u8], text: &mut [u8; 262144]) -> bool {
     let n = io::read_full(0, head);
     if n < head.len() {
         return false;
@@ -49,7 +49,7 @@ fn main() {
     let mut text = [0u8; 262144];
     let mut left = MOST_INPUTS;
     while left > 0 {
-        if next(head, bytes, &mut text) {
+        if next_input(head, bytes, &mut text) {
             left -= 1;
         } else {
             return;

@@ -24,7 +24,7 @@ fn show_count(n: u64, end: &[u8]) {
     io::write_all(1, end);
 }
 
-fn show(t: Tally) {
+fn show_tally(t: Tally) {
     show_count(t.join, b" ");
     show_count(t.forward_join, b" ");
     show_count(t.shuffle, b" ");
@@ -38,7 +38,7 @@ fn cut_off() {
 }
 
 // The tally after every case of the input, from no message on; a case that is cut off is named.
-fn show_all(s: &[u8]) {
+fn show_tallies(s: &[u8]) {
     let mut t = Tally {
         join: 0,
         forward_join: 0,
@@ -57,7 +57,7 @@ fn show_all(s: &[u8]) {
         }
         let end = HEAD + size;
         t = after(t, code, &rest[HEAD..end]);
-        show(t);
+        show_tally(t);
         rest = &rest[end..];
     }
     if rest.len() > 0 {
@@ -69,7 +69,7 @@ fn main() {
     let mut buffer = io::large_buffer();
     let n = io::read_full(0, &mut buffer);
     if n < buffer.len() {
-        show_all(&buffer[..n]);
+        show_tallies(&buffer[..n]);
     } else {
         io::write_all(1, b"! an input that is too long\n");
     }

@@ -32,7 +32,7 @@ const CALL: usize = 48;
 const MOST_CALLS: usize = 100000000;
 
 // One line: each number and a space.
-fn show(ws: &[u64]) {
+fn show_line(ws: &[u64]) {
     let mut i: usize = 0;
     while i < ws.len() {
         io::print_decimal(1, ws[i]);
@@ -49,7 +49,7 @@ fn mark(b: bool) -> u64 {
     0
 }
 
-fn insert(q: &mut [u64], b: &[u8])
+fn show_insert(q: &mut [u64], b: &[u8])
     requires { ⌜ length (now b) ≡ 48 ⌝ }
 {
     let id = Id(0, 0, 0, 0);
@@ -63,10 +63,10 @@ fn insert(q: &mut [u64], b: &[u8])
     let delay = record::read_u64(b, DELAY);
     let code = timer_map::timer_map_insert(q, time, delay, item);
     let line = [INSERT, code as u64];
-    show(&line);
+    show_line(&line);
 }
 
-fn pop(q: &mut [u64], limit: u64) {
+fn show_pop(q: &mut [u64], limit: u64) {
     let p = timer_map::timer_map_pop_before(q, limit);
     let e = p.entry;
     let x = e.item;
@@ -84,24 +84,24 @@ fn pop(q: &mut [u64], limit: u64) {
         id.2,
         id.3,
     ];
-    show(&line);
+    show_line(&line);
 }
 
-fn first(q: &[u64]) {
+fn show_first(q: &[u64]) {
     let f = timer_map::timer_map_first(q);
     let line = [FIRST, f.code as u64, mark(f.found), f.time];
-    show(&line);
+    show_line(&line);
 }
 
-fn len(q: &[u64]) {
+fn show_len(q: &[u64]) {
     let n = timer_map::timer_map_len(q);
     let line = [LEN, n.code as u64, n.count];
-    show(&line);
+    show_line(&line);
 }
 
 // The event's bytes as four words; the bytes are zero before.
-fn event(q: &mut [u64], limit: u64) {
-    let mut space = [0u8; 32];
+fn show_event(q: &mut [u64], limit: u64) {
+    let mut space = [0u8; record::HEADER];
     let out: &mut [u8] = &mut space;
     let p = timer_events::timer_map_pop_event(q, limit, out);
     let line = [
@@ -114,13 +114,13 @@ fn event(q: &mut [u64], limit: u64) {
         record::read_u64(out, 16),
         record::read_u64(out, 24),
     ];
-    show(&line);
+    show_line(&line);
 }
 
-fn renew(q: &mut [u64], what: u64) {
+fn show_new(q: &mut [u64], what: u64) {
     let code = timer_map::timer_map_new(q);
     let line = [what, code as u64];
-    show(&line);
+    show_line(&line);
 }
 
 fn call(q: &mut [u64], b: &[u8])
@@ -129,30 +129,30 @@ fn call(q: &mut [u64], b: &[u8])
     let what = record::read_u64(b, 0);
     let time = record::read_u64(b, TIME);
     if what == INSERT {
-        insert(q, b);
+        show_insert(q, b);
         return;
     }
     if what == POP {
-        pop(q, time);
+        show_pop(q, time);
         return;
     }
     if what == FIRST {
-        first(q);
+        show_first(q);
         return;
     }
     if what == LEN {
-        len(q);
+        show_len(q);
         return;
     }
     if what == EVENT {
-        event(q, time);
+        show_event(q, time);
         return;
     }
-    renew(q, what);
+    show_new(q, what);
 }
 
 // The next call; false where standard input has none.
-fn next(q: &mut [u64], b: &mut [u8]) -> bool
+fn next_call(q: &mut [u64], b: &mut [u8]) -> bool
     requires { ⌜ length (now b) ≡ 48 ⌝ }
 {
     let n = io::read_full(0, b);
@@ -166,11 +166,11 @@ fn next(q: &mut [u64], b: &mut [u8]) -> bool
 fn main() {
     let mut words = [0u64; timer_map::WORDS];
     let q: &mut [u64] = &mut words;
-    let mut space = [0u8; 48];
+    let mut space = [0u8; CALL];
     let b: &mut [u8] = &mut space;
     let mut left = MOST_CALLS;
     while left > 0 {
-        if next(q, b) {
+        if next_call(q, b) {
             left -= 1;
         } else {
             return;

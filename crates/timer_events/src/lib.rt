@@ -133,7 +133,7 @@ fn records_ok(q: &mut [u64], time: u64, out: &[u8]) -> u32
     let n = q[timer_map::COUNT];
     let code = insert_all(q, time, out);
     if code != 0 {
-        timer_map::truncate(q, n);
+        timer_map::truncate_entries(q, n);
         return code;
     }
     0
@@ -144,7 +144,7 @@ fn records_ok(q: &mut [u64], time: u64, out: &[u8]) -> u32
 pub extern "C" fn timer_map_insert_records(q: &mut [u64], time: u64, out: &[u8]) -> u32
     ensures { λ r. ⌜ record { code = r; words = now (q .exit) } ≡ records-inserted time (now (out .entry)) (now (q .entry)) ⌝ }
 {
-    if timer_map::is_ok(q) {
+    if timer_map::queue_ok(q) {
         return records_ok(q, time, out);
     }
     Refusal::STATE
@@ -190,7 +190,7 @@ fn pop_event_ok(q: &mut [u64], limit: u64, out: &mut [u8]) -> PoppedEvent
             let w = writer::write_bare(out, 0, f);
             match w {
                 writer::Written::At(_) => {
-                    timer_map::remove(q, i);
+                    timer_map::remove_entry(q, i);
                     return PoppedEvent {
                         code: 0,
                         found: true,
@@ -225,7 +225,7 @@ fn pop_event_ok(q: &mut [u64], limit: u64, out: &mut [u8]) -> PoppedEvent
 pub extern "C" fn timer_map_pop_event(q: &mut [u64], limit: u64, out: &mut [u8]) -> PoppedEvent
     ensures { λ r. ⌜ record { answer = r; words = now (q .exit); output = now (out .exit) } ≡ event-taken limit (now (q .entry)) (now (out .entry)) ⌝ }
 {
-    if timer_map::is_ok(q) {
+    if timer_map::queue_ok(q) {
         return pop_event_ok(q, limit, out);
     }
     PoppedEvent {

@@ -92,7 +92,7 @@ pub struct Len {
 }
 
 // Whether a timer can be so.
-pub fn timer_ok(x: Timer) -> bool
+fn timer_ok(x: Timer) -> bool
     ensures { λ r. ⌜ r ≡ timer-ok x ⌝ }
 {
     let id = x.id;
@@ -128,7 +128,7 @@ fn row(e: TimerMapEntry) -> [u64; ROW]
 }
 
 // Whether the first n rows are timers.
-fn entries_ok(q: &[u64], n: usize) -> bool
+fn queue_entries_ok(q: &[u64], n: usize) -> bool
     requires { ⌜ 1 + 8 * n ≤ length (now q) ⌝ }
     ensures { λ r. ⌜ r ≡ every queue-entry-ok (queue-entries-at (now (q .entry)) 1 n) ⌝ }
 {
@@ -146,7 +146,7 @@ fn entries_ok(q: &[u64], n: usize) -> bool
 }
 
 // Whether the words from place `from` on are zero.
-fn zero_from(q: &[u64], from: usize) -> bool
+fn unused_from(q: &[u64], from: usize) -> bool
     requires { ⌜ from ≤ length (now q) ⌝ }
     ensures { λ r. ⌜ r ≡ every unused-word (drop from (now (q .entry))) ⌝ }
 {
@@ -160,7 +160,7 @@ fn zero_from(q: &[u64], from: usize) -> bool
 }
 
 // Whether the words keep the queue's own rules.
-pub fn is_ok(q: &[u64]) -> bool
+pub fn queue_ok(q: &[u64]) -> bool
     ensures { λ r. ⌜ r ≡ queue-ok (now (q .entry)) ⌝ }
 {
     if q.len() != WORDS {
@@ -172,7 +172,7 @@ pub fn is_ok(q: &[u64]) -> bool
     }
     let count = n as usize;
     let end = ROWS + ROW * count;
-    entries_ok(q, count) & zero_from(q, end)
+    queue_entries_ok(q, count) & unused_from(q, end)
 }
 
 // The words ws, from place `at` on.
@@ -188,7 +188,7 @@ fn put_words(q: &mut [u64], at: usize, ws: &[u64])
 }
 
 // The words from place `from` on become zero.
-fn clear_from(q: &mut [u64], from: usize)
+fn clear_rows(q: &mut [u64], from: usize)
     requires { ⌜ from ≤ length (now q) ⌝ }
     ensures { λ _. ⌜ now (q .exit) ≡ take from (now (q .entry)) ++ replicate (length (now (q .entry)) - from) 0 ⌝ }
 {
@@ -213,7 +213,7 @@ fn shift_down(q: &mut [u64], at: usize)
 }
 
 // One more entry, at the end.
-fn push(q: &mut [u64], e: TimerMapEntry)
+fn push_entry(q: &mut [u64], e: TimerMapEntry)
     requires { ⌜ SoundQueue (now q) ⌝ }
     requires { ⌜ queue-count (now q) < 64 ⌝ }
     ensures { λ _. ⌜ now (q .exit) ≡ pack-queue (entries-of (now (q .entry)) ++ (e ∷ [])) ⌝ }
@@ -226,7 +226,7 @@ fn push(q: &mut [u64], e: TimerMapEntry)
 }
 
 // The i-th entry goes, and the later ones keep their order.
-pub fn remove(q: &mut [u64], i: usize)
+pub fn remove_entry(q: &mut [u64], i: usize)
     requires { ⌜ SoundQueue (now q) ⌝ }
     requires { ⌜ i < queue-count (now q) ⌝ }
     ensures { λ _. ⌜ now (q .exit) ≡ pack-queue (shift-remove i (entries-of (now (q .entry)))) ⌝ }
@@ -234,18 +234,18 @@ pub fn remove(q: &mut [u64], i: usize)
     let n = q[COUNT];
     let at = ROWS + ROW * i;
     shift_down(q, at);
-    clear_from(q, LAST_ROW);
+    clear_rows(q, LAST_ROW);
     q[COUNT] = n - 1;
 }
 
 // The first n entries stay, and the later ones go.
-pub fn truncate(q: &mut [u64], n: u64)
+pub fn truncate_entries(q: &mut [u64], n: u64)
     requires { ⌜ SoundQueue (now q) ⌝ }
     requires { ⌜ n ≤ queue-count (now q) ⌝ }
     ensures { λ _. ⌜ now (q .exit) ≡ pack-queue (take n (entries-of (now (q .entry)))) ⌝ }
 {
     let at = ROWS + ROW * (n as usize);
-    clear_from(q, at);
+    clear_rows(q, at);
     q[COUNT] = n;
 }
 
@@ -278,7 +278,7 @@ pub fn insert_ok(q: &mut [u64], time: u64, delay: u64, item: Timer) -> u32
             time: time + delay,
             item: item,
         };
-        push(q, e);
+        push_entry(q, e);
         return 0;
     }
     NO_TIMER
@@ -289,7 +289,7 @@ pub fn insert_ok(q: &mut [u64], time: u64, delay: u64, item: Timer) -> u32
 pub extern "C" fn timer_map_insert(q: &mut [u64], time: u64, delay: u64, item: Timer) -> u32
     ensures { λ r. ⌜ record { code = r; words = now (q .exit) } ≡ inserted time delay item (now (q .entry)) ⌝ }
 {
-    if is_ok(q) {
+    if queue_ok(q) {
         return insert_ok(q, time, delay, item);
     }
     BROKEN
@@ -394,7 +394,7 @@ fn pop_ok(q: &mut [u64], limit: u64) -> Popped
     if d.found {
         let i = d.place;
         let e = d.entry;
-        remove(q, i);
+        remove_entry(q, i);
         return Popped {
             code: 0,
             found: true,
@@ -409,7 +409,7 @@ fn pop_ok(q: &mut [u64], limit: u64) -> Popped
 pub extern "C" fn timer_map_pop_before(q: &mut [u64], limit: u64) -> Popped
     ensures { λ r. ⌜ record { answer = r; words = now (q .exit) } ≡ taken-out limit (now (q .entry)) ⌝ }
 {
-    if is_ok(q) {
+    if queue_ok(q) {
         return pop_ok(q, limit);
     }
     no_pop(BROKEN)
@@ -442,7 +442,7 @@ fn first_ok(q: &[u64]) -> First
 pub extern "C" fn timer_map_first(q: &[u64]) -> First
     ensures { λ r. ⌜ r ≡ first-in (now (q .entry)) ⌝ }
 {
-    if is_ok(q) {
+    if queue_ok(q) {
         return first_ok(q);
     }
     First {
@@ -457,7 +457,7 @@ pub extern "C" fn timer_map_first(q: &[u64]) -> First
 pub extern "C" fn timer_map_len(q: &[u64]) -> Len
     ensures { λ r. ⌜ r ≡ count-in (now (q .entry)) ⌝ }
 {
-    if is_ok(q) {
+    if queue_ok(q) {
         return Len {
             code: 0,
             count: q[COUNT],
@@ -477,6 +477,6 @@ pub extern "C" fn timer_map_new(q: &mut [u64]) -> u32
     if q.len() != WORDS {
         return BROKEN;
     }
-    clear_from(q, 0);
+    clear_rows(q, 0);
     0
 }

@@ -1,6 +1,6 @@
 // Part 1 of document 01: walk lengths, the settings with their defaults and ranges, the backoff and the delay.
 ghost use mathlib.Core.Path.{_≡_};
-ghost use Prim.Native.Nat.{_≤_};
+ghost use Prim.Native.Nat.{_≤_, min};
 ghost use Rattle.timing.specs.Timing.{expired, next, within, in-range, default, backoff-due, delay};
 
 // A walk length: how many hops a message has left.
@@ -40,19 +40,40 @@ pub struct Config {
 }
 
 impl Config {
+    // The top of each range: of the capacities, the walk lengths, what a shuffle takes of either view, and the times (an hour).
+    pub const MOST_ACTIVE: u32 = 8;
+
+    pub const MOST_PASSIVE: u32 = 32;
+
+    pub const LONGEST_WALK: u32 = 65535;
+
+    pub const MOST_SHUFFLE_ACTIVE: u32 = 8;
+
+    pub const MOST_SHUFFLE_PASSIVE: u32 = 23;
+
+    pub const LONGEST_TIME: u32 = 3600000;
+
     // Whether every setting is within its range.
     pub fn in_range(self) -> bool
         ensures { λ r. ⌜ r ≡ in-range self ⌝ }
     {
-        let active = within(1, 8, self.active_view_capacity);
-        let passive = within(1, 32, self.passive_view_capacity);
-        let active_walk = within(0, 65535, self.active_random_walk_length);
-        let passive_walk = within(0, 65535, self.passive_random_walk_length);
-        let shuffle_walk = within(0, 65535, self.shuffle_random_walk_length);
-        let shuffle_active = within(0, 8, self.shuffle_active_view_count);
-        let shuffle_passive = within(0, 23, self.shuffle_passive_view_count);
-        let interval = within(1, 3600000, self.shuffle_interval);
-        let timeout = within(1, 3600000, self.neighbor_request_timeout);
+        let active = within(1, Config::MOST_ACTIVE, self.active_view_capacity);
+        let passive = within(1, Config::MOST_PASSIVE, self.passive_view_capacity);
+        let active_walk = within(0, Config::LONGEST_WALK, self.active_random_walk_length);
+        let passive_walk = within(0, Config::LONGEST_WALK, self.passive_random_walk_length);
+        let shuffle_walk = within(0, Config::LONGEST_WALK, self.shuffle_random_walk_length);
+        let shuffle_active = within(
+            0,
+            Config::MOST_SHUFFLE_ACTIVE,
+            self.shuffle_active_view_count,
+        );
+        let shuffle_passive = within(
+            0,
+            Config::MOST_SHUFFLE_PASSIVE,
+            self.shuffle_passive_view_count,
+        );
+        let interval = within(1, Config::LONGEST_TIME, self.shuffle_interval);
+        let timeout = within(1, Config::LONGEST_TIME, self.neighbor_request_timeout);
         active
             & (passive
                 & (active_walk
@@ -110,6 +131,16 @@ impl Timing {
             neighbor_request_timeout: 3000,
         }
     }
+}
+
+// The shorter of two intervals.
+pub fn shorter(a: u32, b: u32) -> u32
+    ensures { λ r. ⌜ r ≡ min a b ⌝ }
+{
+    if a < b {
+        return a;
+    }
+    b
 }
 
 // Whether something is done at the nth pass in a row that wants it.

@@ -200,7 +200,7 @@ fn whole(b: &[u8], head: Head, start: TraceStart) -> Ended
 pub fn history(b: &[u8], start: TraceStart) -> Ended
     ensures { λ r. ⌜ r ≡ ended-of start (now (b .entry)) ⌝ }
 {
-    let i = run_input::read(b);
+    let i = run_input::read_input(b);
     match i {
         Input::Refused => {
             let none = zeroes();

@@ -16,7 +16,7 @@ fn start_of(head: &[u8]) -> TraceStart {
 }
 
 // One history, whose input is as long as the lent bytes; false where standard input has not so many.
-fn show(bytes: &mut [u8], start: TraceStart) -> bool {
+fn show_history(bytes: &mut [u8], start: TraceStart) -> bool {
     let n = io::read_full(0, bytes);
     if n < bytes.len() {
         return false;
@@ -27,7 +27,7 @@ fn show(bytes: &mut [u8], start: TraceStart) -> bool {
 }
 
 // The next history of standard input; false where there is none, or a longer one than any input.
-fn next(head: &mut [u8], bytes: &mut [u8]) -> bool {
+fn next_history(head: &mut [u8], bytes: &mut [u8]) -> bool {
     let n = io::read_full(0, head);
     if n < head.len() {
         return false;
@@ -37,7 +37,7 @@ fn next(head: &mut [u8], bytes: &mut [u8]) -> bool {
     if bytes.len() < size {
         return false;
     }
-    show(&mut bytes[..size], start)
+    show_history(&mut bytes[..size], start)
 }
 
 // More histories than any sample has: a program ends.
@@ -50,7 +50,7 @@ fn main() {
     let bytes: &mut [u8] = &mut buffer;
     let mut left = MOST_HISTORIES;
     while left > 0 {
-        if next(head, bytes) {
+        if next_history(head, bytes) {
             left -= 1;
         } else {
             return;

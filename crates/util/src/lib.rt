@@ -12,7 +12,7 @@ ghost use Rattle.scan.specs.Words.{unused};
 ghost use Rattle.util.specs.Section.{Filled, items-at, ValidSet, HoldsSet, valid-set};
 
 // How many places a working set has: as many as the largest set.
-const PLACES: usize = 32;
+pub const PLACES: usize = 32;
 
 // How many draws there are: 2^32, since a draw has 32 bits.
 const ALL_DRAWS: usize = 4294967296;
@@ -89,7 +89,7 @@ pub fn put_in(s: &mut [u64], n: usize, i: usize, x: u64)
 }
 
 // Without x, wherever it stands; the answer is how many are left.
-pub fn without_in(s: &mut [u64], n: usize, x: u64) -> usize
+fn without_in(s: &mut [u64], n: usize, x: u64) -> usize
     requires { ⌜ Filled (now s) n ⌝ }
     ensures { λ r. ⌜ now (s .exit) ≡ pad 0 (length (now (s .entry))) (without x (take n (now (s .entry)))) ⌝ }
     ensures { λ r. ⌜ (r ≡ length (without x (take n (now (s .entry))))) × (r ≤ n) ⌝ }
@@ -105,7 +105,7 @@ pub fn without_in(s: &mut [u64], n: usize, x: u64) -> usize
 }
 
 // x as the newest of at most `most`; the answer is how many there are.
-pub fn renew_in(s: &mut [u64], n: usize, most: usize, x: u64) -> usize
+fn renew_in(s: &mut [u64], n: usize, most: usize, x: u64) -> usize
     requires { ⌜ Filled (now s) n ⌝ }
     requires { ⌜ (1 ≤ most) × (most ≤ length (now s)) ⌝ }
     ensures { λ r. ⌜ now (s .exit) ≡ pad 0 (length (now (s .entry))) (renew most x (take n (now (s .entry)))) ⌝ }
@@ -159,7 +159,7 @@ pub fn without_all_in(s: &mut [u64], n: usize, skip: &[u64]) -> usize
     while i < n {
         let y = s[i];
         i += 1;
-        if scan::contains(skip, y) {
+        if scan::is_in(skip, y) {
             continue;
         }
         s[m] = y;
@@ -210,7 +210,7 @@ pub fn pick_index(draws: &[u32], at: usize, n: usize) -> PickedIndex
 }
 
 // In the order that the draws from place `at` on decide; the answer is the place in the draws after them, past the end where there are too few.
-pub fn shuffle_in(s: &mut [u64], n: usize, draws: &[u32], at: usize) -> usize
+fn shuffle_in(s: &mut [u64], n: usize, draws: &[u32], at: usize) -> usize
     requires { ⌜ Filled (now s) n ⌝ }
     requires { ⌜ n ≤ 32 ⌝ }
     requires { ⌜ at ≤ length (now draws) ⌝ }
@@ -301,7 +301,7 @@ pub fn contains(s: &[u64], cap: usize, x: PeerId) -> bool
     ensures { λ r. ⌜ r ≡ mem x (items-at cap (now (s .entry))) ⌝ }
 {
     let n = s[cap] as usize;
-    scan::contains(&s[..n], x)
+    scan::is_in(&s[..n], x)
 }
 
 // Whether no item stands twice.

@@ -87,7 +87,7 @@ impl Nodes {
 }
 
 // The bytes bs, from place `at` on.
-pub fn put_bytes(out: &mut [u8], at: usize, bs: &[u8])
+pub fn write_bytes(out: &mut [u8], at: usize, bs: &[u8])
     requires { ⌜ at + length (now bs) ≤ length (now out) ⌝ }
     ensures { λ _. ⌜ now (out .exit) ≡ overwrite (now (out .entry)) at (now (bs .entry)) ⌝ }
 {
@@ -201,7 +201,7 @@ fn put_entries(out: &mut [u8], at: usize, ns: Nodes)
     while i < n {
         let p = items[i];
         let a = entry_array(p, reached);
-        put_bytes(out, at + NODE * i, &a);
+        write_bytes(out, at + NODE * i, &a);
         let d = p.data;
         reached += d.len as usize;
         i += 1;
@@ -223,7 +223,7 @@ fn put_data(out: &mut [u8], at: usize, ns: Nodes)
         let d = p.data;
         let m = d.len as usize;
         let bytes = d.bytes;
-        put_bytes(out, k, &bytes[..m]);
+        write_bytes(out, k, &bytes[..m]);
         k += m;
         i += 1;
     }
@@ -248,9 +248,9 @@ fn put_header(out: &mut [u8], at: usize, f: Fields, nodes: u8, size: u16)
     ensures { λ _. ⌜ now (out .exit) ≡ overwrite (now (out .entry)) at (header-bytes f nodes size) ⌝ }
 {
     let front = header_front(f, nodes);
-    put_bytes(out, at, &front);
+    write_bytes(out, at, &front);
     let back = header_back(f, size);
-    put_bytes(out, at + FRONT, &back);
+    write_bytes(out, at + FRONT, &back);
 }
 
 // The record from place `at` on; nothing is touched where it does not fit.
@@ -294,8 +294,8 @@ pub fn write_one(out: &mut [u8], at: usize, f: Fields, p: PeerInfo) -> Written
     }
     put_header(out, at, f, 1, whole as u16);
     let a = entry_array(p, fixed);
-    put_bytes(out, at + HEADER, &a);
+    write_bytes(out, at + HEADER, &a);
     let bytes = d.bytes;
-    put_bytes(out, at + fixed, &bytes[..n]);
+    write_bytes(out, at + fixed, &bytes[..n]);
     Written::At(at + whole)
 }

@@ -3,17 +3,17 @@ use borrow.Author.Needs.{needs}
 use Rattle.convert.proofs.convert.Statement.{statement}
 use Rattle.convert.proofs.convert.Tie as tie
 
-clear-requires : tie.Need-clear-requires
-clear-requires c κs = search needs
+clear-bytes-requires : tie.Need-clear-bytes-requires
+clear-bytes-requires c κs = search needs
 
-put-record-requires : tie.Need-put-record-requires
-put-record-requires c κs = search needs
+place-record-requires : tie.Need-place-record-requires
+place-record-requires c κs = search needs
 
 same-length : tie.Need-same-length
 same-length c = search needs
 
 returns : tie.Need-returns
-returns c = placed-zeroes _ _ _ _ _ _ (c .before .before .before .before .before .before .clear .ensures) (c .before .before .put-record .ensures)
+returns c = placed-zeroes _ _ _ _ _ _ (c .before .before .before .before .before .before .clear-bytes .ensures) (c .before .before .place-record .ensures)
 
 pub convert-spec : {M : Type 1} → statement M
-convert-spec = tie.close (tie.spec clear-requires put-record-requires same-length returns)
+convert-spec = tie.close (tie.spec clear-bytes-requires place-record-requires same-length returns)

@@ -35,11 +35,11 @@ Inv-loop b out₀ v w from₀ to₀ out from to = Inv v w b (length out₀) out 
 abbrev μ-loop : tie.MeasureT-loop
 μ-loop b out₀ v w from₀ to₀ out from to = length b - from
 
-clear-requires : tie.Need-clear-requires Inv-loop μ-loop
-clear-requires c κs = search needs
+clear-bytes-requires : tie.Need-clear-bytes-requires Inv-loop μ-loop
+clear-bytes-requires c κs = search needs
 
 loop-holds : tie.Need-loop-holds Inv-loop μ-loop
-loop-holds c = start _ _ _ _ _ (c .before .before .clear .ensures)
+loop-holds c = start _ _ _ _ _ (c .before .before .clear-bytes .ensures)
 
 sub-first-length : tie.Need-sub-first-length Inv-loop μ-loop
 sub-first-length c = search needs
@@ -56,64 +56,64 @@ first-length-requires c κs = search needs
 add-end : tie.Need-add-end Inv-loop μ-loop
 add-end c = search needs
 
-sub-put-record : tie.Need-sub-put-record Inv-loop μ-loop
-sub-put-record c = search needs
+sub-place-record : tie.Need-sub-place-record Inv-loop μ-loop
+sub-place-record c = search needs
 
-part-put-record-start : tie.Need-part-put-record-start Inv-loop μ-loop
-part-put-record-start c = search needs
+part-place-record-start : tie.Need-part-place-record-start Inv-loop μ-loop
+part-place-record-start c = search needs
 
-part-put-record-end : tie.Need-part-put-record-end Inv-loop μ-loop
-part-put-record-end c = search needs
+part-place-record-end : tie.Need-part-place-record-end Inv-loop μ-loop
+part-place-record-end c = search needs
 
-sub-put-record-2 : tie.Need-sub-put-record-2 Inv-loop μ-loop
-sub-put-record-2 c = search needs
+sub-place-record-2 : tie.Need-sub-place-record-2 Inv-loop μ-loop
+sub-place-record-2 c = search needs
 
-part-put-record-start-2 : tie.Need-part-put-record-start-2 Inv-loop μ-loop
-part-put-record-start-2 c = search needs
+part-place-record-start-2 : tie.Need-part-place-record-start-2 Inv-loop μ-loop
+part-place-record-start-2 c = search needs
 
-part-put-record-end-2 : tie.Need-part-put-record-end-2 Inv-loop μ-loop
-part-put-record-end-2 c = search needs
+part-place-record-end-2 : tie.Need-part-place-record-end-2 Inv-loop μ-loop
+part-place-record-end-2 c = search needs
 
-put-record-requires : tie.Need-put-record-requires Inv-loop μ-loop
-put-record-requires c κs = search needs
+place-record-requires : tie.Need-place-record-requires Inv-loop μ-loop
+place-record-requires c κs = search needs
 
 same-length : tie.Need-same-length Inv-loop μ-loop
 same-length c = search needs
 
 returns : tie.Need-returns Inv-loop μ-loop
 returns c =
-    let at-put-record = c .before .before .before .before in
-    let at-first-length = at-put-record .before .before .before in
+    let at-place-record = c .before .before .before .before in
+    let at-first-length = at-place-record .before .before .before in
     let at-loop-test = at-first-length .before .before in
     let at-loop = at-loop-test .before in
-    (same-room _ _ _ _ _ _ (search needs) (walking-stop _ _ _ _ _ _ _ (at-loop .loop .inv .at) (at-loop-test .loop-test .taken) _ (at-first-length .first-length .ensures .0) _ _ _ (at-put-record .put-record .ensures) (c .if1 .taken)), (search needs, search needs))
+    (same-room _ _ _ _ _ _ (search needs) (walking-stop _ _ _ _ _ _ _ (at-loop .loop .inv .at) (at-loop-test .loop-test .taken) _ (at-first-length .first-length .ensures .0) _ _ _ (at-place-record .place-record .ensures) (c .if1 .taken)), (search needs, search needs))
 
 add-to : tie.Need-add-to Inv-loop μ-loop
 add-to c =
     let at-first-length = c .before .before .before .before .before .before .before .before in
     let long = at-first-length .before .before .before .loop .inv .len in
     let top =
-    let at-put-record = c .before .before .before .before .before in
+    let at-place-record = c .before .before .before .before .before in
     let at-loop-test = at-first-length .before .before in
     let at-loop = at-loop-test .before in
-    walking-top _ _ _ _ _ _ _ (at-loop .loop .inv .at) (at-loop-test .loop-test .taken) _ (at-first-length .first-length .ensures .0) _ _ _ (at-put-record .put-record .ensures) in
+    walking-top _ _ _ _ _ _ _ (at-loop .loop .inv .at) (at-loop-test .loop-test .taken) _ (at-first-length .first-length .ensures .0) _ _ _ (at-place-record .place-record .ensures) in
     record { fits = omega (arith, top, long) }
 
 loop-less : tie.Need-loop-less Inv-loop μ-loop
 loop-less c =
-    let at-put-record = c .before .before .before .before .before in
-    let at-first-length = at-put-record .before .before .before in
+    let at-place-record = c .before .before .before .before .before in
+    let at-first-length = at-place-record .before .before .before in
     let at-loop-test = at-first-length .before .before in
     let at-loop = at-loop-test .before in
-    walking-less _ _ _ _ _ _ _ (at-loop .loop .inv .at) (at-loop-test .loop-test .taken) _ (at-first-length .first-length .ensures .0) _ _ _ (at-put-record .put-record .ensures) (search needs)
+    walking-less _ _ _ _ _ _ _ (at-loop .loop .inv .at) (at-loop-test .loop-test .taken) _ (at-first-length .first-length .ensures .0) _ _ _ (at-place-record .place-record .ensures) (search needs)
 
 loop-again : tie.Need-loop-again Inv-loop μ-loop
 loop-again c =
-    let at-put-record = c .before .before .before .before .before in
-    let at-first-length = at-put-record .before .before .before in
+    let at-place-record = c .before .before .before .before .before in
+    let at-first-length = at-place-record .before .before .before in
     let at-loop-test = at-first-length .before .before in
     let at-loop = at-loop-test .before in
-    inv _ _ _ _ _ _ _ (walking-next _ _ _ _ _ _ _ (at-loop .loop .inv .at) (at-loop-test .loop-test .taken) _ (at-first-length .first-length .ensures .0) _ _ _ (at-put-record .put-record .ensures) (search needs) (at-first-length .first-length .ensures .1))
+    inv _ _ _ _ _ _ _ (walking-next _ _ _ _ _ _ _ (at-loop .loop .inv .at) (at-loop-test .loop-test .taken) _ (at-first-length .first-length .ensures .0) _ _ _ (at-place-record .place-record .ensures) (search needs) (at-first-length .first-length .ensures .1))
 
 same-length-2 : tie.Need-same-length-2 Inv-loop μ-loop
 same-length-2 c = search needs
@@ -127,20 +127,20 @@ convert-all-spec =
     (tie.spec
     Inv-loop
     μ-loop
-    clear-requires
+    clear-bytes-requires
     loop-holds
     sub-first-length
     part-first-length-start
     part-first-length-end
     first-length-requires
     add-end
-    sub-put-record
-    part-put-record-start
-    part-put-record-end
-    sub-put-record-2
-    part-put-record-start-2
-    part-put-record-end-2
-    put-record-requires
+    sub-place-record
+    part-place-record-start
+    part-place-record-end
+    sub-place-record-2
+    part-place-record-start-2
+    part-place-record-end-2
+    place-record-requires
     same-length
     returns
     add-to

@@ -28,27 +28,27 @@ cast-put-number c = search needs
 put-number-requires-2 : tie.Need-put-number-requires-2
 put-number-requires-2 c κs = search needs
 
-add-put-bytes : tie.Need-add-put-bytes
-add-put-bytes c = search needs
+add-write-bytes : tie.Need-add-write-bytes
+add-write-bytes c = search needs
 
-add-put-bytes-2 : tie.Need-add-put-bytes-2
-add-put-bytes-2 c = search needs
+add-write-bytes-2 : tie.Need-add-write-bytes-2
+add-write-bytes-2 c = search needs
 
-slice-aggregate-put-bytes : tie.Need-slice-aggregate-put-bytes
-slice-aggregate-put-bytes c = search needs
+slice-aggregate-write-bytes : tie.Need-slice-aggregate-write-bytes
+slice-aggregate-write-bytes c = search needs
 
-put-bytes-requires : tie.Need-put-bytes-requires
-put-bytes-requires c κs = search needs
+write-bytes-requires : tie.Need-write-bytes-requires
+write-bytes-requires c κs = search needs
 
 same-length : tie.Need-same-length
 same-length c = search needs
 
 returns : tie.Need-returns
 returns c =
-    let at-put-bytes = c .before .before in
-    let at-put-number2 = at-put-bytes .before .before .before .before .before in
+    let at-write-bytes = c .before .before in
+    let at-put-number2 = at-write-bytes .before .before .before .before .before in
     let at-put-number = at-put-number2 .before .before .before .before .before in
-    parts _ _ _ _ _ _ _ (at-put-bytes .put-bytes .ensures) (at-put-number2 .put-number2 .ensures) (at-put-number .put-number .ensures)
+    parts _ _ _ _ _ _ _ (at-write-bytes .write-bytes .ensures) (at-put-number2 .put-number2 .ensures) (at-put-number .put-number .ensures)
 
 pub put-entry-spec : {M : Type 1} → statement M
 put-entry-spec =
@@ -58,9 +58,9 @@ put-entry-spec =
     add-put-number
     cast-put-number
     put-number-requires-2
-    add-put-bytes
-    add-put-bytes-2
-    slice-aggregate-put-bytes
-    put-bytes-requires
+    add-write-bytes
+    add-write-bytes-2
+    slice-aggregate-write-bytes
+    write-bytes-requires
     same-length
     returns)

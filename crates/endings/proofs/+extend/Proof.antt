@@ -8,7 +8,7 @@ use borrow.Fn.PlainCycle.{Measures, is, falls, and}
 use Rattle.endings.proofs.extend.Reads as extend
 use Rattle.endings.proofs.extend.Kinds as extend-kinds
 use Rattle.endings.proofs.+extend.Lts-extend as extend-lts
-use Rattle.endings.proofs.count.Reads as count-reads
+use Rattle.endings.proofs.count_end.Reads as count-reads
 use Rattle.endings.proofs.play.Reads as play-reads
 use Rattle.endings.proofs.+extend.{statement}
 use Rattle.endings.proofs.+extend.Tie.{close}
@@ -28,7 +28,7 @@ extend-Inv-loop s left sum₀ i₀ sum i = Extending s left sum₀ sum i
 abbrev extend-μ-loop : extend-lts.MeasureT-loop
 extend-μ-loop s left sum₀ i₀ sum i = 16 - i
 
-extend-count-requires : (t : ℕ) → extend-lts.Need-count-requires (
+extend-count-end-requires : (t : ℕ) → extend-lts.Need-count-end-requires (
   count-reads.Asked,
   count-reads.Learnt,
   play-reads.Asked,
@@ -36,7 +36,7 @@ extend-count-requires : (t : ℕ) → extend-lts.Need-count-requires (
   extend-below t,
   extend.Post,
 ) (extend-at t) extend.Post extend-Inv-loop extend-μ-loop
-extend-count-requires t c κs = search spent-room
+extend-count-end-requires t c κs = search spent-room
 
 extend-returns : (t : ℕ) → extend-lts.Need-returns (
   count-reads.Asked,
@@ -141,7 +141,7 @@ pub +extend-spec : {M : Type 1} → statement M
     extend.Post
     extend-Inv-loop
     extend-μ-loop
-    (extend-count-requires t)
+    (extend-count-end-requires t)
     (extend-returns t)
     (extend-loop-holds t)
     (extend-play-requires t)

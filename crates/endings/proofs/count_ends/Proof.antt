@@ -11,8 +11,8 @@ Inv-loop s sum₀ n₀ sum n = Counting s sum n
 abbrev μ-loop : tie.MeasureT-loop
 μ-loop s sum₀ n₀ sum n = 5 - n
 
-first-requires : tie.Need-first-requires Inv-loop μ-loop
-first-requires c κs = search needs
+first-station-requires : tie.Need-first-station-requires Inv-loop μ-loop
+first-station-requires c κs = search needs
 
 loop-holds : tie.Need-loop-holds Inv-loop μ-loop
 loop-holds c = search counting-start
@@ -38,7 +38,7 @@ count-ends-spec =
     (tie.spec
     Inv-loop
     μ-loop
-    first-requires
+    first-station-requires
     loop-holds
     extend-requires
     add-n

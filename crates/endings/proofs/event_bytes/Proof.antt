@@ -3,8 +3,8 @@ use Rattle.endings.proofs.Events.{few-bytes, the-bytes, full-never}
 use Rattle.endings.proofs.event_bytes.Statement.{statement}
 use Rattle.endings.proofs.event_bytes.Tie as tie
 
-put-event-requires : tie.Need-put-event-requires
-put-event-requires c κs = search needs
+put-event-at-requires : tie.Need-put-event-at-requires
+put-event-at-requires c κs = search needs
 
 enum-known-w : tie.Need-enum-known-w
 enum-known-w c = search needs
@@ -28,7 +28,7 @@ pub event-bytes-spec : {M : Type 1} → statement M
 event-bytes-spec =
     tie.close
     (tie.spec
-    put-event-requires
+    put-event-at-requires
     enum-known-w
     enum-told
     same-length

@@ -90,8 +90,8 @@ returns-4 c =
     let start = at-if1 .before .before .before .before .before .before in
     kind-join _ _ (start .pre .1 .1 .0) _ _ _ _ (at-if4 .if4 .taken) (then-tell (at-handle-join .handle-join .ensures) (still (start .pre .1 .0)))
 
-peer-info-requires : tie.Need-peer-info-requires
-peer-info-requires c κs =
+peer-info-at-requires : tie.Need-peer-info-at-requires
+peer-info-at-requires c κs =
     let at-if2 = c .before .before .before .before .before .before in
     let at-if1 = at-if2 .before .before in
     let start = at-if1 .before .before .before .before .before .before in
@@ -99,11 +99,11 @@ peer-info-requires c κs =
 
 update-own-data-requires : tie.Need-update-own-data-requires
 update-own-data-requires c κs =
-    let at-peer-info = c .before .before in
-    let at-if3 = at-peer-info .before .before .before .before .before in
+    let at-peer-info-at = c .before .before in
+    let at-if3 = at-peer-info-at .before .before .before .before .before in
     let at-if1 = at-if3 .before .before .before .before in
     let start = at-if1 .before .before .before .before .before .before in
-    (start .pre .0, (start .pre .1 .0 .ready .packed, at-peer-info .peer-info .ensures .valid))
+    (start .pre .0, (start .pre .1 .0 .ready .packed, at-peer-info-at .peer-info-at .ensures .valid))
 
 same-length-9 : tie.Need-same-length-9
 same-length-9 c = search needs
@@ -111,12 +111,12 @@ same-length-9 c = search needs
 returns-5 : tie.Need-returns-5
 returns-5 c =
     let at-update-own-data = c .before .before in
-    let at-peer-info = at-update-own-data .before .before .before in
-    let at-if5 = at-peer-info .before in
+    let at-peer-info-at = at-update-own-data .before .before .before in
+    let at-if5 = at-peer-info-at .before in
     let at-if2 = at-if5 .before .before .before .before .before .before in
     let at-if1 = at-if2 .before .before in
     let start = at-if1 .before .before .before .before .before .before in
-    kind-data _ _ (start .pre .1 .1 .0) _ _ _ _ _ (at-peer-info .peer-info .ensures) (at-if5 .if5 .taken) (then (at-update-own-data .update-own-data .ensures) (still (start .pre .1 .0)))
+    kind-data _ _ (start .pre .1 .1 .0) _ _ _ _ _ (at-peer-info-at .peer-info-at .ensures) (at-if5 .if5 .taken) (then (at-update-own-data .update-own-data .ensures) (still (start .pre .1 .0)))
 
 handle-quit-requires : tie.Need-handle-quit-requires
 handle-quit-requires c κs =
@@ -162,7 +162,7 @@ dispatch-spec =
     same-length-7
     same-length-8
     returns-4
-    peer-info-requires
+    peer-info-at-requires
     update-own-data-requires
     same-length-9
     returns-5

@@ -22,8 +22,8 @@ returns c =
     let at-if1 = at-copy-words .before .before in
     ended-refused _ _ _ _ _ _ _ (at-if1 .if1 .taken) (at-copy-words .copy-words .ensures) (at-refuse .refuse .ensures)
 
-clear-requires : tie.Need-clear-requires
-clear-requires c κs = search needs
+clear-output-requires : tie.Need-clear-output-requires
+clear-output-requires c κs = search needs
 
 same-length-3 : tie.Need-same-length-3
 same-length-3 c = search needs
@@ -40,6 +40,6 @@ finish-spec =
     same-length
     same-length-2
     returns
-    clear-requires
+    clear-output-requires
     same-length-3
     returns-2)

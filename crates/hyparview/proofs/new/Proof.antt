@@ -9,8 +9,8 @@ returns c = search other-length
 clear-from-requires : tie.Need-clear-from-requires
 clear-from-requires c κs = search needs
 
-own-data-requires : tie.Need-own-data-requires
-own-data-requires c κs = search needs
+own-given-requires : tie.Need-own-given-requires
+own-given-requires c κs = search needs
 
 in-range-requires : tie.Need-in-range-requires
 in-range-requires c κs = search needs
@@ -36,7 +36,7 @@ new-spec =
     (tie.spec
     returns
     clear-from-requires
-    own-data-requires
+    own-given-requires
     in-range-requires
     fresh-requires
     same-length

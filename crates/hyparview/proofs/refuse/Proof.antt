@@ -3,8 +3,8 @@ use Rattle.hyparview.proofs.Laws.{all-zero}
 use Rattle.hyparview.proofs.refuse.Statement.{statement}
 use Rattle.hyparview.proofs.refuse.Tie as tie
 
-clear-requires : tie.Need-clear-requires
-clear-requires c κs = search needs
+clear-output-requires : tie.Need-clear-output-requires
+clear-output-requires c κs = search needs
 
 same-length : tie.Need-same-length
 same-length c = search needs
@@ -13,4 +13,4 @@ returns : tie.Need-returns
 returns c = search all-zero
 
 pub refuse-spec : {M : Type 1} → statement M
-refuse-spec = tie.close (tie.spec clear-requires same-length returns)
+refuse-spec = tie.close (tie.spec clear-output-requires same-length returns)

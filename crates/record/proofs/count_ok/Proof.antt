@@ -21,11 +21,11 @@ is-message-requires-4 c κs = search needs
 is-message-requires-5 : tie.Need-is-message-requires-5
 is-message-requires-5 c κs = search needs
 
-choose-requires : tie.Need-choose-requires
-choose-requires c κs = search needs
+select-requires : tie.Need-select-requires
+select-requires c κs = search needs
 
-choose-requires-2 : tie.Need-choose-requires-2
-choose-requires-2 c κs = search needs
+select-requires-2 : tie.Need-select-requires-2
+select-requires-2 c κs = search needs
 
 returns : tie.Need-returns
 unfolding count-ok
@@ -41,6 +41,6 @@ count-ok-spec =
     is-data-requires
     is-message-requires-4
     is-message-requires-5
-    choose-requires
-    choose-requires-2
+    select-requires
+    select-requires-2
     returns)

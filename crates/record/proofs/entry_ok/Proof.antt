@@ -12,8 +12,8 @@ is-message-requires-2 c κs = search needs
 is-data-requires : tie.Need-is-data-requires
 is-data-requires c κs = search needs
 
-choose-requires : tie.Need-choose-requires
-choose-requires c κs = search needs
+select-requires : tie.Need-select-requires
+select-requires c κs = search needs
 
 data-ok-requires : tie.Need-data-ok-requires
 data-ok-requires c κs = search needs
@@ -21,8 +21,8 @@ data-ok-requires c κs = search needs
 is-data-requires-2 : tie.Need-is-data-requires-2
 is-data-requires-2 c κs = search needs
 
-choose-requires-2 : tie.Need-choose-requires-2
-choose-requires-2 c κs = search needs
+select-requires-2 : tie.Need-select-requires-2
+select-requires-2 c κs = search needs
 
 returns : tie.Need-returns
 unfolding entry-ok
@@ -35,8 +35,8 @@ entry-ok-spec =
     is-message-requires
     is-message-requires-2
     is-data-requires
-    choose-requires
+    select-requires
     data-ok-requires
     is-data-requires-2
-    choose-requires-2
+    select-requires-2
     returns)

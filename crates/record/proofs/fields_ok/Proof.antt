@@ -9,8 +9,8 @@ is-message-requires c κs = search needs
 is-timer-requires : tie.Need-is-timer-requires
 is-timer-requires c κs = search needs
 
-choose-requires : tie.Need-choose-requires
-choose-requires c κs = search needs
+select-requires : tie.Need-select-requires
+select-requires c κs = search needs
 
 is-message-requires-2 : tie.Need-is-message-requires-2
 is-message-requires-2 c κs = search needs
@@ -18,11 +18,11 @@ is-message-requires-2 c κs = search needs
 is-message-requires-3 : tie.Need-is-message-requires-3
 is-message-requires-3 c κs = search needs
 
-choose-requires-2 : tie.Need-choose-requires-2
-choose-requires-2 c κs = search needs
+select-requires-2 : tie.Need-select-requires-2
+select-requires-2 c κs = search needs
 
-choose-requires-3 : tie.Need-choose-requires-3
-choose-requires-3 c κs = search needs
+select-requires-3 : tie.Need-select-requires-3
+select-requires-3 c κs = search needs
 
 returns : tie.Need-returns
 unfolding fields-ok
@@ -34,9 +34,9 @@ fields-ok-spec =
     (tie.spec
     is-message-requires
     is-timer-requires
-    choose-requires
+    select-requires
     is-message-requires-2
     is-message-requires-3
-    choose-requires-2
-    choose-requires-3
+    select-requires-2
+    select-requires-3
     returns)

@@ -9,11 +9,11 @@ is-message-requires c κs = search needs
 is-message-requires-2 : tie.Need-is-message-requires-2
 is-message-requires-2 c κs = search needs
 
-choose-requires : tie.Need-choose-requires
-choose-requires c κs = search needs
+select-requires : tie.Need-select-requires
+select-requires c κs = search needs
 
-choose-requires-2 : tie.Need-choose-requires-2
-choose-requires-2 c κs = search needs
+select-requires-2 : tie.Need-select-requires-2
+select-requires-2 c κs = search needs
 
 returns : tie.Need-returns
 unfolding flags-ok
@@ -22,4 +22,4 @@ returns c = cc
 pub flags-ok-spec : {M : Type 1} → statement M
 flags-ok-spec =
     tie.close
-    (tie.spec is-message-requires is-message-requires-2 choose-requires choose-requires-2 returns)
+    (tie.spec is-message-requires is-message-requires-2 select-requires select-requires-2 returns)

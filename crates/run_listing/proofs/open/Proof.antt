@@ -3,8 +3,8 @@ use Rattle.run_listing.proofs.Laws.{open-refused, open-whole}
 use Rattle.run_listing.proofs.open.Statement.{statement}
 use Rattle.run_listing.proofs.open.Tie as tie
 
-read-requires : tie.Need-read-requires
-read-requires c κs = search needs
+read-input-requires : tie.Need-read-input-requires
+read-input-requires c κs = search needs
 
 enum-told : tie.Need-enum-told
 enum-told c = search needs
@@ -24,4 +24,4 @@ returns-2 c = search (open-whole, needs)
 pub open-spec : {M : Type 1} → statement M
 open-spec =
     tie.close
-    (tie.spec read-requires enum-told enum-known-i open-head-requires returns returns-2)
+    (tie.spec read-input-requires enum-told enum-known-i open-head-requires returns returns-2)

@@ -18,13 +18,13 @@ abbrev μ-loop : tie.MeasureT-loop
 loop-holds : tie.Need-loop-holds Inv-loop μ-loop
 loop-holds c = search (running-start, needs)
 
-step-requires : tie.Need-step-requires Inv-loop μ-loop
-step-requires c κs = search needs
+put-step-requires : tie.Need-put-step-requires Inv-loop μ-loop
+put-step-requires c κs = search needs
 
 add-i : tie.Need-add-i Inv-loop μ-loop
 add-i c =
-    let at-step = c .before .before .before .before in
-    let at-loop = at-step .before .before .before .before in
+    let at-put-step = c .before .before .before .before in
+    let at-loop = at-put-step .before .before .before .before in
     let start = at-loop .before .before .before .before .before in
     let good = start .good in
     search (needs, good .1)
@@ -34,12 +34,12 @@ loop-less c = search needs
 
 loop-again : tie.Need-loop-again Inv-loop μ-loop
 loop-again c =
-    let at-step = c .before .before .before .before .before .before in
-    let at-loop-test = at-step .before .before .before in
+    let at-put-step = c .before .before .before .before .before .before in
+    let at-loop-test = at-put-step .before .before .before in
     let at-loop = at-loop-test .before in
     let loop = at-loop .loop in
     let loop-test = at-loop-test .loop-test in
-    running-next _ _ _ _ _ _ _ _ _ _ _ _ (loop .inv) _ _ _ (loop-test .taken) (at-step .step .ensures) (search needs) (search needs)
+    running-next _ _ _ _ _ _ _ _ _ _ _ _ (loop .inv) _ _ _ (loop-test .taken) (at-put-step .put-step .ensures) (search needs) (search needs)
 
 same-length : tie.Need-same-length Inv-loop μ-loop
 same-length c = search needs
@@ -51,4 +51,4 @@ returns : tie.Need-returns Inv-loop μ-loop
 returns c = search running-end
 
 pub put-events-spec : {M : Type 1} → statement M
-put-events-spec = tie.close (tie.spec Inv-loop μ-loop loop-holds step-requires add-i loop-less loop-again same-length same-length-2 returns)
+put-events-spec = tie.close (tie.spec Inv-loop μ-loop loop-holds put-step-requires add-i loop-less loop-again same-length same-length-2 returns)

@@ -30,8 +30,8 @@ shared-slice-read-x c = search needs
 array-read-if1 : tie.Need-array-read-if1 Inv-loop μ-loop
 array-read-if1 c = search needs
 
-contains-requires : tie.Need-contains-requires Inv-loop μ-loop
-contains-requires c κs = search needs
+is-in-requires : tie.Need-is-in-requires Inv-loop μ-loop
+is-in-requires c κs = search needs
 
 returns : tie.Need-returns Inv-loop μ-loop
 returns c = search stop
@@ -60,7 +60,7 @@ disjoint-spec =
     mul-x
     shared-slice-read-x
     array-read-if1
-    contains-requires
+    is-in-requires
     returns
     add-i
     loop-less

@@ -25,20 +25,20 @@ shared-slice-read-x c = search needs
 array-read-if1 : tie.Need-array-read-if1 Inv-loop μ-loop
 array-read-if1 c = search needs
 
-mul-contains : tie.Need-mul-contains Inv-loop μ-loop
-mul-contains c = search needs
+mul-is-in : tie.Need-mul-is-in Inv-loop μ-loop
+mul-is-in c = search needs
 
-sub-contains : tie.Need-sub-contains Inv-loop μ-loop
-sub-contains c = search needs
+sub-is-in : tie.Need-sub-is-in Inv-loop μ-loop
+sub-is-in c = search needs
 
-part-contains-start : tie.Need-part-contains-start Inv-loop μ-loop
-part-contains-start c = search needs
+part-is-in-start : tie.Need-part-is-in-start Inv-loop μ-loop
+part-is-in-start c = search needs
 
-part-contains-end : tie.Need-part-contains-end Inv-loop μ-loop
-part-contains-end c = search needs
+part-is-in-end : tie.Need-part-is-in-end Inv-loop μ-loop
+part-is-in-end c = search needs
 
-contains-requires : tie.Need-contains-requires Inv-loop μ-loop
-contains-requires c κs = search needs
+is-in-requires : tie.Need-is-in-requires Inv-loop μ-loop
+is-in-requires c κs = search needs
 
 returns : tie.Need-returns Inv-loop μ-loop
 returns c = search mark-twice
@@ -69,11 +69,11 @@ distinct-spec =
     mul-x
     shared-slice-read-x
     array-read-if1
-    mul-contains
-    sub-contains
-    part-contains-start
-    part-contains-end
-    contains-requires
+    mul-is-in
+    sub-is-in
+    part-is-in-start
+    part-is-in-end
+    is-in-requires
     returns
     array-write-seen
     sub-i

@@ -12,11 +12,11 @@ shared-slice-read-if2 c = search needs
 returns : tie.Need-returns
 returns c = search at-hint
 
-contains-requires : tie.Need-contains-requires
-contains-requires c κs = search needs
+is-in-requires : tie.Need-is-in-requires
+is-in-requires c κs = search needs
 
 returns-2 : tie.Need-returns-2
 returns-2 c = search needs
 
 pub found-spec : {M : Type 1} → statement M
-found-spec = tie.close (tie.spec mul-if2 shared-slice-read-if2 returns contains-requires returns-2)
+found-spec = tie.close (tie.spec mul-if2 shared-slice-read-if2 returns is-in-requires returns-2)

@@ -29,11 +29,11 @@ mul-x c = search needs
 shared-slice-read-x : tie.Need-shared-slice-read-x Inv-loop μ-loop
 shared-slice-read-x c = search needs
 
-array-read-wide : tie.Need-array-read-wide Inv-loop μ-loop
-array-read-wide c = search needs
+array-read-hinted : tie.Need-array-read-hinted Inv-loop μ-loop
+array-read-hinted c = search needs
 
-wide-requires : tie.Need-wide-requires Inv-loop μ-loop
-wide-requires c κs = search needs
+hinted-requires : tie.Need-hinted-requires Inv-loop μ-loop
+hinted-requires c κs = search needs
 
 found-requires : tie.Need-found-requires Inv-loop μ-loop
 found-requires c κs = search needs
@@ -61,8 +61,8 @@ subset-spec =
     loop-holds
     mul-x
     shared-slice-read-x
-    array-read-wide
-    wide-requires
+    array-read-hinted
+    hinted-requires
     found-requires
     add-i
     loop-less

@@ -73,8 +73,8 @@ Inv-loop earliest latest top k low₀ high₀ interval₀ left₀ low high inter
 abbrev μ-loop : tie.MeasureT-loop
 μ-loop earliest latest top k low₀ high₀ interval₀ left₀ low high interval left = left
 
-first-interval-requires : tie.Need-first-interval-requires Inv-loop μ-loop
-first-interval-requires c κs = search needs
+initial-interval-requires : tie.Need-initial-interval-requires Inv-loop μ-loop
+initial-interval-requires c κs = search needs
 
 loop-holds : tie.Need-loop-holds Inv-loop μ-loop
 loop-holds c = search start
@@ -112,7 +112,7 @@ ends-spec =
     (tie.spec
     Inv-loop
     μ-loop
-    first-interval-requires
+    initial-interval-requires
     loop-holds
     least-delay-requires
     add-low

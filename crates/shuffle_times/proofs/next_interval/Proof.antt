@@ -3,15 +3,15 @@ use borrow.Author.Needs.{needs}
 use Rattle.shuffle_times.proofs.next_interval.Statement.{statement}
 use Rattle.shuffle_times.proofs.next_interval.Tie as tie
 
-mul-smaller : tie.Need-mul-smaller
-mul-smaller c = search needs
+mul-shorter : tie.Need-mul-shorter
+mul-shorter c = search needs
 
-smaller-requires : tie.Need-smaller-requires
-smaller-requires c κs = search needs
+shorter-requires : tie.Need-shorter-requires
+shorter-requires c κs = search needs
 
 returns : tie.Need-returns
 unfolding next-interval
 returns c = search needs
 
 pub next-interval-spec : {M : Type 1} → statement M
-next-interval-spec = tie.close (tie.spec mul-smaller smaller-requires returns)
+next-interval-spec = tie.close (tie.spec mul-shorter shorter-requires returns)

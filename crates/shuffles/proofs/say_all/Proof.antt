@@ -29,17 +29,17 @@ sub-loop c = search needs
 add-end : tie.Need-add-end Inv-loop μ-loop
 add-end c = search needs
 
-sub-say : tie.Need-sub-say Inv-loop μ-loop
-sub-say c = search needs
+sub-say-times : tie.Need-sub-say-times Inv-loop μ-loop
+sub-say-times c = search needs
 
-part-say-start : tie.Need-part-say-start Inv-loop μ-loop
-part-say-start c = search needs
+part-say-times-start : tie.Need-part-say-times-start Inv-loop μ-loop
+part-say-times-start c = search needs
 
-part-say-end : tie.Need-part-say-end Inv-loop μ-loop
-part-say-end c = search needs
+part-say-times-end : tie.Need-part-say-times-end Inv-loop μ-loop
+part-say-times-end c = search needs
 
-say-requires : tie.Need-say-requires Inv-loop μ-loop
-say-requires c κs = search needs
+say-times-requires : tie.Need-say-times-requires Inv-loop μ-loop
+say-times-requires c κs = search needs
 
 loop-less : tie.Need-loop-less Inv-loop μ-loop
 loop-less c = search needs
@@ -62,10 +62,10 @@ say-all-spec =
     loop-holds
     sub-loop
     add-end
-    sub-say
-    part-say-start
-    part-say-end
-    say-requires
+    sub-say-times
+    part-say-times-start
+    part-say-times-end
+    say-times-requires
     loop-less
     loop-again
     returns-2)

@@ -5,11 +5,11 @@ use borrow.Author.Needs.{needs}
 use Rattle.step_messages.proofs.forward_joins.Statement.{statement}
 use Rattle.step_messages.proofs.forward_joins.Tie as tie
 
-slice-aggregate-others-into : tie.Need-slice-aggregate-others-into
-slice-aggregate-others-into c = search needs
+slice-aggregate-other-active : tie.Need-slice-aggregate-other-active
+slice-aggregate-other-active c = search needs
 
-others-into-requires : tie.Need-others-into-requires
-others-into-requires c κs = search needs
+other-active-requires : tie.Need-other-active-requires
+other-active-requires c κs = search needs
 
 slice-aggregate-count : tie.Need-slice-aggregate-count
 slice-aggregate-count c = search needs
@@ -45,8 +45,8 @@ pub forward-joins-spec : {M : Type 1} → statement M
 forward-joins-spec =
     tie.close
     (tie.spec
-    slice-aggregate-others-into
-    others-into-requires
+    slice-aggregate-other-active
+    other-active-requires
     slice-aggregate-count
     count-requires
     shared-slice-read-ttl

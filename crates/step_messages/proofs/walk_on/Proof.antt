@@ -10,11 +10,11 @@ is-requested-requires c κs = search needs
 returns : tie.Need-returns
 returns c = search walk-stopped
 
-slice-aggregate-others-into : tie.Need-slice-aggregate-others-into
-slice-aggregate-others-into c = search needs
+slice-aggregate-other-active : tie.Need-slice-aggregate-other-active
+slice-aggregate-other-active c = search needs
 
-others-into-requires : tie.Need-others-into-requires
-others-into-requires c κs = search needs
+other-active-requires : tie.Need-other-active-requires
+other-active-requires c κs = search needs
 
 slice-aggregate-count : tie.Need-slice-aggregate-count
 slice-aggregate-count c = search needs
@@ -43,8 +43,8 @@ walk-on-spec =
     (tie.spec
     is-requested-requires
     returns
-    slice-aggregate-others-into
-    others-into-requires
+    slice-aggregate-other-active
+    other-active-requires
     slice-aggregate-count
     count-requires
     array-share-prefix-v

@@ -3,8 +3,8 @@ use borrow.Author.Needs.{needs}
 use Rattle.step_peers.proofs.insert_peer_info.Statement.{statement}
 use Rattle.step_peers.proofs.insert_peer_info.Tie as tie
 
-insert-data-requires : tie.Need-insert-data-requires
-insert-data-requires c κs = search needs
+insert-new-data-requires : tie.Need-insert-new-data-requires
+insert-new-data-requires c κs = search needs
 
 same-length : tie.Need-same-length
 same-length c = search needs
@@ -20,4 +20,4 @@ returns-2 c = search no-info
 
 pub insert-peer-info-spec : {M : Type 1} → statement M
 insert-peer-info-spec =
-    tie.close (tie.spec insert-data-requires same-length same-length-2 returns returns-2)
+    tie.close (tie.spec insert-new-data-requires same-length same-length-2 returns returns-2)

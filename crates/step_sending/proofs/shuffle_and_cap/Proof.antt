@@ -3,8 +3,8 @@ use borrow.Author.Needs.{needs}
 use Rattle.step_sending.proofs.shuffle_and_cap.Statement.{statement}
 use Rattle.step_sending.proofs.shuffle_and_cap.Tie as tie
 
-shuffle-requires : tie.Need-shuffle-requires
-shuffle-requires c κs = search needs
+shuffle-by-draws-requires : tie.Need-shuffle-by-draws-requires
+shuffle-by-draws-requires c κs = search needs
 
 truncate-requires : tie.Need-truncate-requires
 truncate-requires c κs = search needs
@@ -16,4 +16,4 @@ returns : tie.Need-returns
 returns c = (search needs, search capped)
 
 pub shuffle-and-cap-spec : {M : Type 1} → statement M
-shuffle-and-cap-spec = tie.close (tie.spec shuffle-requires truncate-requires same-length returns)
+shuffle-and-cap-spec = tie.close (tie.spec shuffle-by-draws-requires truncate-requires same-length returns)

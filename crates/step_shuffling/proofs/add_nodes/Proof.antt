@@ -92,8 +92,8 @@ abbrev μ-loop : tie.MeasureT-loop
 loop-holds : tie.Need-loop-holds Inv-loop μ-loop
 loop-holds c = search (start, needs)
 
-peer-info-requires : tie.Need-peer-info-requires Inv-loop μ-loop
-peer-info-requires c κs = search needs
+peer-info-at-requires : tie.Need-peer-info-at-requires Inv-loop μ-loop
+peer-info-at-requires c κs = search needs
 
 is-newcomer-requires : tie.Need-is-newcomer-requires Inv-loop μ-loop
 is-newcomer-requires c κs = search needs
@@ -126,7 +126,7 @@ add-nodes-spec =
     Inv-loop
     μ-loop
     loop-holds
-    peer-info-requires
+    peer-info-at-requires
     is-newcomer-requires
     add-i
     add-passive-requires

@@ -66,8 +66,8 @@ new-requires c κs = search needs
 loop-holds : tie.Need-loop-holds Inv-loop μ-loop
 loop-holds c = search (start, needs)
 
-peer-info-requires : tie.Need-peer-info-requires Inv-loop μ-loop
-peer-info-requires c κs = search needs
+peer-info-at-requires : tie.Need-peer-info-at-requires Inv-loop μ-loop
+peer-info-at-requires c κs = search needs
 
 add-i : tie.Need-add-i Inv-loop μ-loop
 add-i c = search needs
@@ -92,7 +92,7 @@ event-nodes-spec =
     μ-loop
     new-requires
     loop-holds
-    peer-info-requires
+    peer-info-at-requires
     add-i
     push-requires
     loop-less

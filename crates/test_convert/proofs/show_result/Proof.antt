@@ -4,11 +4,11 @@ use borrow.Author.Needs.{needs}
 use Rattle.test_convert.proofs.show_result.Statement.{statement}
 use Rattle.test_convert.proofs.show_result.Tie as tie
 
-slice-aggregate-show-bytes : tie.Need-slice-aggregate-show-bytes
-slice-aggregate-show-bytes c = sym (length-take-le _ _ (search needs))
+slice-aggregate-show-hex : tie.Need-slice-aggregate-show-hex
+slice-aggregate-show-hex c = sym (length-take-le _ _ (search needs))
 
-show-bytes-requires : tie.Need-show-bytes-requires
-show-bytes-requires c κs = search needs
+show-hex-requires : tie.Need-show-hex-requires
+show-hex-requires c κs = search needs
 
 sub-cleared : tie.Need-sub-cleared
 sub-cleared c = search needs
@@ -56,8 +56,8 @@ pub show-result-spec : {M : Type 1} → statement M
 show-result-spec =
     tie.close
     (tie.spec
-    slice-aggregate-show-bytes
-    show-bytes-requires
+    slice-aggregate-show-hex
+    show-hex-requires
     sub-cleared
     part-cleared-start
     part-cleared-end

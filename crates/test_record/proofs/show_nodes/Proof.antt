@@ -69,8 +69,8 @@ word-requires-3 c κs = search needs
 node-data-requires : tie.Need-node-data-requires Inv-loop μ-loop
 node-data-requires c κs = search (within, needs)
 
-show-bytes-requires : tie.Need-show-bytes-requires Inv-loop μ-loop
-show-bytes-requires c κs = search needs
+show-data-requires : tie.Need-show-data-requires Inv-loop μ-loop
+show-data-requires c κs = search needs
 
 add-i : tie.Need-add-i Inv-loop μ-loop
 add-i c = search needs
@@ -101,7 +101,7 @@ show-nodes-spec =
     cast-word-2
     word-requires-3
     node-data-requires
-    show-bytes-requires
+    show-data-requires
     add-i
     loop-less
     loop-again

@@ -20,8 +20,8 @@ slice-aggregate-b c = search needs
 loop-holds : tie.Need-loop-holds Inv-loop μ-loop
 loop-holds c = search needs
 
-next-requires : tie.Need-next-requires Inv-loop μ-loop
-next-requires c κs = search needs
+next-call-requires : tie.Need-next-call-requires Inv-loop μ-loop
+next-call-requires c κs = search needs
 
 sub-left : tie.Need-sub-left Inv-loop μ-loop
 sub-left c = search needs
@@ -47,7 +47,7 @@ main-spec =
     slice-aggregate-q
     slice-aggregate-b
     loop-holds
-    next-requires
+    next-call-requires
     sub-left
     loop-less
     loop-again

@@ -20,8 +20,8 @@ write-bare-requires c κs = search needs
 enum-told : tie.Need-enum-told
 enum-told c = search needs
 
-remove-requires : tie.Need-remove-requires
-remove-requires c κs = (search needs, search place-below)
+remove-entry-requires : tie.Need-remove-entry-requires
+remove-entry-requires c κs = (search needs, search place-below)
 
 same-length : tie.Need-same-length
 same-length c = search needs
@@ -65,7 +65,7 @@ pop-event-ok-spec =
     fields-requires
     write-bare-requires
     enum-told
-    remove-requires
+    remove-entry-requires
     same-length
     same-length-2
     returns

@@ -9,8 +9,8 @@ slice-read-n c = search needs
 insert-all-requires : tie.Need-insert-all-requires
 insert-all-requires c κs = search needs
 
-truncate-requires : tie.Need-truncate-requires
-truncate-requires c κs = (search all-sound, search (all-more, needs))
+truncate-entries-requires : tie.Need-truncate-entries-requires
+truncate-entries-requires c κs = (search all-sound, search (all-more, needs))
 
 same-length : tie.Need-same-length
 same-length c = search needs
@@ -30,7 +30,7 @@ records-ok-spec =
     (tie.spec
     slice-read-n
     insert-all-requires
-    truncate-requires
+    truncate-entries-requires
     same-length
     returns
     same-length-2

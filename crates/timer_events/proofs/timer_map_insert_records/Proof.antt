@@ -4,8 +4,8 @@ use Rattle.timer_events.proofs.Inserting.{records-asked, records-broken
 use Rattle.timer_events.proofs.timer_map_insert_records.Statement.{statement}
 use Rattle.timer_events.proofs.timer_map_insert_records.Tie as tie
 
-is-ok-requires : tie.Need-is-ok-requires
-is-ok-requires c κs = search needs
+queue-ok-requires : tie.Need-queue-ok-requires
+queue-ok-requires c κs = search needs
 
 records-ok-requires : tie.Need-records-ok-requires
 records-ok-requires c κs = search (sound-asked, needs)
@@ -25,4 +25,4 @@ returns-2 c = search records-broken
 pub timer-map-insert-records-spec : {M : Type 1} → statement M
 timer-map-insert-records-spec =
     tie.close
-    (tie.spec is-ok-requires records-ok-requires same-length returns same-length-2 returns-2)
+    (tie.spec queue-ok-requires records-ok-requires same-length returns same-length-2 returns-2)

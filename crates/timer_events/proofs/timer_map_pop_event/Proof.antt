@@ -4,8 +4,8 @@ use Rattle.timer_events.proofs.Taking.{event-asked, event-broken}
 use Rattle.timer_events.proofs.timer_map_pop_event.Statement.{statement}
 use Rattle.timer_events.proofs.timer_map_pop_event.Tie as tie
 
-is-ok-requires : tie.Need-is-ok-requires
-is-ok-requires c κs = search needs
+queue-ok-requires : tie.Need-queue-ok-requires
+queue-ok-requires c κs = search needs
 
 pop-event-ok-requires : tie.Need-pop-event-ok-requires
 pop-event-ok-requires c κs = search (sound-asked, needs)
@@ -29,7 +29,7 @@ pub timer-map-pop-event-spec : {M : Type 1} → statement M
 timer-map-pop-event-spec =
     tie.close
     (tie.spec
-    is-ok-requires
+    queue-ok-requires
     pop-event-ok-requires
     same-length
     same-length-2

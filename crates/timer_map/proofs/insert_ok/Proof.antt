@@ -18,8 +18,8 @@ returns c = search put-refused
 add-t9 : tie.Need-add-t9
 add-t9 c = search due-fits
 
-push-requires : tie.Need-push-requires
-push-requires c κs = (search needs, search room-left)
+push-entry-requires : tie.Need-push-entry-requires
+push-entry-requires c κs = (search needs, search room-left)
 
 same-length : tie.Need-same-length
 same-length c = search needs
@@ -39,7 +39,7 @@ insert-ok-spec =
     refusal-requires
     returns
     add-t9
-    push-requires
+    push-entry-requires
     same-length
     returns-2
     returns-3)

@@ -6,8 +6,8 @@ use Rattle.timer_map.proofs.pop_ok.Tie as tie
 find-due-requires : tie.Need-find-due-requires
 find-due-requires c κs = search needs
 
-remove-requires : tie.Need-remove-requires
-remove-requires c κs = (search needs, search place-below)
+remove-entry-requires : tie.Need-remove-entry-requires
+remove-entry-requires c κs = (search needs, search place-below)
 
 same-length : tie.Need-same-length
 same-length c = search needs
@@ -29,7 +29,7 @@ pop-ok-spec =
     tie.close
     (tie.spec
     find-due-requires
-    remove-requires
+    remove-entry-requires
     same-length
     returns
     no-pop-requires

@@ -3,8 +3,8 @@ use Rattle.timer_map.proofs.Ways.{sound-asked, first-asked, first-broke
 use Rattle.timer_map.proofs.timer_map_first.Statement.{statement}
 use Rattle.timer_map.proofs.timer_map_first.Tie as tie
 
-is-ok-requires : tie.Need-is-ok-requires
-is-ok-requires c κs = search needs
+queue-ok-requires : tie.Need-queue-ok-requires
+queue-ok-requires c κs = search needs
 
 first-ok-requires : tie.Need-first-ok-requires
 first-ok-requires c κs = search (sound-asked, needs)
@@ -16,4 +16,4 @@ returns-2 : tie.Need-returns-2
 returns-2 c = search first-broken
 
 pub timer-map-first-spec : {M : Type 1} → statement M
-timer-map-first-spec = tie.close (tie.spec is-ok-requires first-ok-requires returns returns-2)
+timer-map-first-spec = tie.close (tie.spec queue-ok-requires first-ok-requires returns returns-2)

@@ -4,8 +4,8 @@ use Rattle.timer_map.proofs.Ways.{insert-asked, insert-broken}
 use Rattle.timer_map.proofs.timer_map_insert.Statement.{statement}
 use Rattle.timer_map.proofs.timer_map_insert.Tie as tie
 
-is-ok-requires : tie.Need-is-ok-requires
-is-ok-requires c κs = search needs
+queue-ok-requires : tie.Need-queue-ok-requires
+queue-ok-requires c κs = search needs
 
 insert-ok-requires : tie.Need-insert-ok-requires
 insert-ok-requires c κs = search (sound-asked, needs)
@@ -25,4 +25,4 @@ returns-2 c = search insert-broken
 pub timer-map-insert-spec : {M : Type 1} → statement M
 timer-map-insert-spec =
     tie.close
-    (tie.spec is-ok-requires insert-ok-requires same-length returns same-length-2 returns-2)
+    (tie.spec queue-ok-requires insert-ok-requires same-length returns same-length-2 returns-2)

@@ -3,8 +3,8 @@ use Rattle.timer_map.proofs.Ways.{lent, len-asked, len-broken}
 use Rattle.timer_map.proofs.timer_map_len.Statement.{statement}
 use Rattle.timer_map.proofs.timer_map_len.Tie as tie
 
-is-ok-requires : tie.Need-is-ok-requires
-is-ok-requires c κs = search needs
+queue-ok-requires : tie.Need-queue-ok-requires
+queue-ok-requires c κs = search needs
 
 shared-slice-read-t4 : tie.Need-shared-slice-read-t4
 shared-slice-read-t4 c = search (lent, needs)
@@ -16,4 +16,4 @@ returns-2 : tie.Need-returns-2
 returns-2 c = search len-broken
 
 pub timer-map-len-spec : {M : Type 1} → statement M
-timer-map-len-spec = tie.close (tie.spec is-ok-requires shared-slice-read-t4 returns returns-2)
+timer-map-len-spec = tie.close (tie.spec queue-ok-requires shared-slice-read-t4 returns returns-2)

@@ -6,8 +6,8 @@ use Rattle.timer_map.proofs.timer_map_new.Tie as tie
 returns : tie.Need-returns
 returns c = search new-broken
 
-clear-from-requires : tie.Need-clear-from-requires
-clear-from-requires c κs = search needs
+clear-rows-requires : tie.Need-clear-rows-requires
+clear-rows-requires c κs = search needs
 
 same-length : tie.Need-same-length
 same-length c = search needs
@@ -16,4 +16,4 @@ returns-2 : tie.Need-returns-2
 returns-2 c = search new-done
 
 pub timer-map-new-spec : {M : Type 1} → statement M
-timer-map-new-spec = tie.close (tie.spec returns clear-from-requires same-length returns-2)
+timer-map-new-spec = tie.close (tie.spec returns clear-rows-requires same-length returns-2)

@@ -3,8 +3,8 @@ use Rattle.timer_map.proofs.Ways.{sound-asked, pop-asked, pop-broken}
 use Rattle.timer_map.proofs.timer_map_pop_before.Statement.{statement}
 use Rattle.timer_map.proofs.timer_map_pop_before.Tie as tie
 
-is-ok-requires : tie.Need-is-ok-requires
-is-ok-requires c κs = search needs
+queue-ok-requires : tie.Need-queue-ok-requires
+queue-ok-requires c κs = search needs
 
 pop-ok-requires : tie.Need-pop-ok-requires
 pop-ok-requires c κs = search (sound-asked, needs)
@@ -28,7 +28,7 @@ pub timer-map-pop-before-spec : {M : Type 1} → statement M
 timer-map-pop-before-spec =
     tie.close
     (tie.spec
-    is-ok-requires
+    queue-ok-requires
     pop-ok-requires
     same-length
     returns

@@ -3,8 +3,8 @@ use Rattle.trace_replay.proofs.Laws.{there, ends-refused, ends-whole}
 use Rattle.trace_replay.proofs.history.Statement.{statement}
 use Rattle.trace_replay.proofs.history.Tie as tie
 
-read-requires : tie.Need-read-requires
-read-requires c κs = search needs
+read-input-requires : tie.Need-read-input-requires
+read-input-requires c κs = search needs
 
 enum-told : tie.Need-enum-told
 enum-told c = search needs
@@ -31,7 +31,7 @@ pub history-spec : {M : Type 1} → statement M
 history-spec =
     tie.close
     (tie.spec
-    read-requires
+    read-input-requires
     enum-told
     zeroes-requires
     refused-requires

@@ -9,11 +9,11 @@ mul-n c = search needs
 shared-slice-read-n : tie.Need-shared-slice-read-n
 shared-slice-read-n c = search needs
 
-slice-aggregate-contains : tie.Need-slice-aggregate-contains
-slice-aggregate-contains c = search lent-long
+slice-aggregate-is-in : tie.Need-slice-aggregate-is-in
+slice-aggregate-is-in c = search lent-long
 
-contains-requires : tie.Need-contains-requires
-contains-requires c κs = search needs
+is-in-requires : tie.Need-is-in-requires
+is-in-requires c κs = search needs
 
 returns : tie.Need-returns
 returns c = search lent-mem
@@ -24,6 +24,6 @@ contains-spec =
     (tie.spec
     mul-n
     shared-slice-read-n
-    slice-aggregate-contains
-    contains-requires
+    slice-aggregate-is-in
+    is-in-requires
     returns)

@@ -23,8 +23,8 @@ slice-read-y c = search needs
 add-i : tie.Need-add-i Inv-loop μ-loop
 add-i c = search needs
 
-contains-requires : tie.Need-contains-requires Inv-loop μ-loop
-contains-requires c κs = search needs
+is-in-requires : tie.Need-is-in-requires Inv-loop μ-loop
+is-in-requires c κs = search needs
 
 loop-less : tie.Need-loop-less Inv-loop μ-loop
 loop-less c = search needs
@@ -66,7 +66,7 @@ without-all-in-spec =
     mul-y
     slice-read-y
     add-i
-    contains-requires
+    is-in-requires
     loop-less
     loop-again
     mul-s

@@ -84,11 +84,11 @@ cast-m c = search needs
 array-share-prefix-bytes : tie.Need-array-share-prefix-bytes Inv-loop μ-loop
 array-share-prefix-bytes c = search within
 
-slice-aggregate-put-bytes : tie.Need-slice-aggregate-put-bytes Inv-loop μ-loop
-slice-aggregate-put-bytes c = search exact
+slice-aggregate-write-bytes : tie.Need-slice-aggregate-write-bytes Inv-loop μ-loop
+slice-aggregate-write-bytes c = search exact
 
-put-bytes-requires : tie.Need-put-bytes-requires Inv-loop μ-loop
-put-bytes-requires c κs = search room
+write-bytes-requires : tie.Need-write-bytes-requires Inv-loop μ-loop
+write-bytes-requires c κs = search room
 
 add-k : tie.Need-add-k Inv-loop μ-loop
 add-k c = search (left, needs)
@@ -119,8 +119,8 @@ put-data-spec =
     array-copy-out-p
     cast-m
     array-share-prefix-bytes
-    slice-aggregate-put-bytes
-    put-bytes-requires
+    slice-aggregate-write-bytes
+    write-bytes-requires
     add-k
     add-i
     loop-less

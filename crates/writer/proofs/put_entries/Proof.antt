@@ -74,17 +74,17 @@ array-copy-out-p c = search needs
 entry-array-requires : tie.Need-entry-array-requires Inv-loop μ-loop
 entry-array-requires c κs = search here
 
-mul-put-bytes : tie.Need-mul-put-bytes Inv-loop μ-loop
-mul-put-bytes c = search needs
+mul-write-bytes : tie.Need-mul-write-bytes Inv-loop μ-loop
+mul-write-bytes c = search needs
 
-add-put-bytes : tie.Need-add-put-bytes Inv-loop μ-loop
-add-put-bytes c = search needs
+add-write-bytes : tie.Need-add-write-bytes Inv-loop μ-loop
+add-write-bytes c = search needs
 
-slice-aggregate-put-bytes : tie.Need-slice-aggregate-put-bytes Inv-loop μ-loop
-slice-aggregate-put-bytes c = search needs
+slice-aggregate-write-bytes : tie.Need-slice-aggregate-write-bytes Inv-loop μ-loop
+slice-aggregate-write-bytes c = search needs
 
-put-bytes-requires : tie.Need-put-bytes-requires Inv-loop μ-loop
-put-bytes-requires c κs = search needs
+write-bytes-requires : tie.Need-write-bytes-requires Inv-loop μ-loop
+write-bytes-requires c κs = search needs
 
 cast-reached : tie.Need-cast-reached Inv-loop μ-loop
 cast-reached c = search needs
@@ -119,10 +119,10 @@ put-entries-spec =
     mul-p
     array-copy-out-p
     entry-array-requires
-    mul-put-bytes
-    add-put-bytes
-    slice-aggregate-put-bytes
-    put-bytes-requires
+    mul-write-bytes
+    add-write-bytes
+    slice-aggregate-write-bytes
+    write-bytes-requires
     cast-reached
     add-reached-2
     add-i

@@ -15,23 +15,23 @@ use Rattle.writer.proofs.put_header.Tie as tie
 header-front-requires : tie.Need-header-front-requires
 header-front-requires c κs = search needs
 
-slice-aggregate-put-bytes : tie.Need-slice-aggregate-put-bytes
-slice-aggregate-put-bytes c = search needs
+slice-aggregate-write-bytes : tie.Need-slice-aggregate-write-bytes
+slice-aggregate-write-bytes c = search needs
 
-put-bytes-requires : tie.Need-put-bytes-requires
-put-bytes-requires c κs = search needs
+write-bytes-requires : tie.Need-write-bytes-requires
+write-bytes-requires c κs = search needs
 
 header-back-requires : tie.Need-header-back-requires
 header-back-requires c κs = search needs
 
-add-put-bytes : tie.Need-add-put-bytes
-add-put-bytes c = search needs
+add-write-bytes : tie.Need-add-write-bytes
+add-write-bytes c = search needs
 
-slice-aggregate-put-bytes-2 : tie.Need-slice-aggregate-put-bytes-2
-slice-aggregate-put-bytes-2 c = search needs
+slice-aggregate-write-bytes-2 : tie.Need-slice-aggregate-write-bytes-2
+slice-aggregate-write-bytes-2 c = search needs
 
-put-bytes-requires-2 : tie.Need-put-bytes-requires-2
-put-bytes-requires-2 c κs = search needs
+write-bytes-requires-2 : tie.Need-write-bytes-requires-2
+write-bytes-requires-2 c κs = search needs
 
 same-length : tie.Need-same-length
 same-length c = search needs
@@ -57,11 +57,11 @@ put-header-spec =
     tie.close
     (tie.spec
     header-front-requires
-    slice-aggregate-put-bytes
-    put-bytes-requires
+    slice-aggregate-write-bytes
+    write-bytes-requires
     header-back-requires
-    add-put-bytes
-    slice-aggregate-put-bytes-2
-    put-bytes-requires-2
+    add-write-bytes
+    slice-aggregate-write-bytes-2
+    write-bytes-requires-2
     same-length
     returns)

@@ -29,30 +29,30 @@ put-header-requires c κs = search needs
 entry-array-requires : tie.Need-entry-array-requires
 entry-array-requires c κs = search needs
 
-add-put-bytes : tie.Need-add-put-bytes
-add-put-bytes c = search needs
+add-write-bytes : tie.Need-add-write-bytes
+add-write-bytes c = search needs
 
-slice-aggregate-put-bytes : tie.Need-slice-aggregate-put-bytes
-slice-aggregate-put-bytes c = search needs
+slice-aggregate-write-bytes : tie.Need-slice-aggregate-write-bytes
+slice-aggregate-write-bytes c = search needs
 
-put-bytes-requires : tie.Need-put-bytes-requires
-put-bytes-requires c κs = search needs
+write-bytes-requires : tie.Need-write-bytes-requires
+write-bytes-requires c κs = search needs
 
-add-put-bytes-2 : tie.Need-add-put-bytes-2
-add-put-bytes-2 c = search needs
+add-write-bytes-2 : tie.Need-add-write-bytes-2
+add-write-bytes-2 c = search needs
 
 array-share-prefix-bytes : tie.Need-array-share-prefix-bytes
 array-share-prefix-bytes c = search (length-places, needs)
 
-slice-aggregate-put-bytes-2 : tie.Need-slice-aggregate-put-bytes-2
-slice-aggregate-put-bytes-2 c = search exact
+slice-aggregate-write-bytes-2 : tie.Need-slice-aggregate-write-bytes-2
+slice-aggregate-write-bytes-2 c = search exact
 
-put-bytes-requires-2 : tie.Need-put-bytes-requires-2
-put-bytes-requires-2 c κs =
+write-bytes-requires-2 : tie.Need-write-bytes-requires-2
+write-bytes-requires-2 c κs =
     let b = c .before .before .before .before .before in
     let h = b .before .before .before .before .before .before in
     let t = h .before .before in
-    omega (arith, exact _ (t .before .before .before .before .before .pre), t .before .left .ensures, t .if1 .left, h .put-header .kept .0, b .put-bytes .kept .0)
+    omega (arith, exact _ (t .before .before .before .before .before .pre), t .before .left .ensures, t .if1 .left, h .put-header .kept .0, b .write-bytes .kept .0)
 
 add-t11 : tie.Need-add-t11
 add-t11 c = search needs
@@ -68,7 +68,7 @@ returns-2 c =
     let h = a .before .before .before in
     let t = h .before .before in
     done-one _ _ (t .before .before .before .before .before .pre) _ _ _ (t .before .left .ensures) (t .if1 .left) _ _ _ _
-    (d .put-bytes2 .ensures) (e .put-bytes .ensures) (a .entry-array .ensures) (h .put-header .ensures)
+    (d .write-bytes2 .ensures) (e .write-bytes .ensures) (a .entry-array .ensures) (h .put-header .ensures)
 
 pub write-one-spec : {M : Type 1} → statement M
 write-one-spec =
@@ -82,13 +82,13 @@ write-one-spec =
     cast-put-header
     put-header-requires
     entry-array-requires
-    add-put-bytes
-    slice-aggregate-put-bytes
-    put-bytes-requires
-    add-put-bytes-2
+    add-write-bytes
+    slice-aggregate-write-bytes
+    write-bytes-requires
+    add-write-bytes-2
     array-share-prefix-bytes
-    slice-aggregate-put-bytes-2
-    put-bytes-requires-2
+    slice-aggregate-write-bytes-2
+    write-bytes-requires-2
     add-t11
     same-length
     returns-2)

@@ -1,0 +1,61 @@
+use borrow.Author.Needs.{needs}
+use Rattle.endings.proofs.Counts.{counted}
+use Rattle.endings.proofs.count_end.Statement.{statement}
+use Rattle.endings.proofs.count_end.Tie as tie
+
+slice-aggregate-neighbor-count : tie.Need-slice-aggregate-neighbor-count
+slice-aggregate-neighbor-count c = search needs
+
+neighbor-count-requires : tie.Need-neighbor-count-requires
+neighbor-count-requires c κs = search needs
+
+slice-aggregate-spare-addresses : tie.Need-slice-aggregate-spare-addresses
+slice-aggregate-spare-addresses c = search needs
+
+spare-addresses-requires : tie.Need-spare-addresses-requires
+spare-addresses-requires c κs = search needs
+
+one-if-requires : tie.Need-one-if-requires
+one-if-requires c κs = search needs
+
+add-t14 : tie.Need-add-t14
+add-t14 c = search needs
+
+one-if-requires-2 : tie.Need-one-if-requires-2
+one-if-requires-2 c κs = search needs
+
+add-t19 : tie.Need-add-t19
+add-t19 c = search needs
+
+one-if-requires-3 : tie.Need-one-if-requires-3
+one-if-requires-3 c κs = search needs
+
+add-t24 : tie.Need-add-t24
+add-t24 c = search needs
+
+one-if-requires-4 : tie.Need-one-if-requires-4
+one-if-requires-4 c κs = search needs
+
+add-t29 : tie.Need-add-t29
+add-t29 c = search needs
+
+returns : tie.Need-returns
+returns c = search counted
+
+pub count-end-spec : {M : Type 1} → statement M
+count-end-spec =
+    tie.close
+    (tie.spec
+    slice-aggregate-neighbor-count
+    neighbor-count-requires
+    slice-aggregate-spare-addresses
+    spare-addresses-requires
+    one-if-requires
+    add-t14
+    one-if-requires-2
+    add-t19
+    one-if-requires-3
+    add-t24
+    one-if-requires-4
+    add-t29
+    returns)

@@ -1,0 +1,57 @@
+use mathlib.Core.Path.{_≡_, _∙_}
+use borrow.Author.Needs.{needs}
+use lib.ListN.{length, length-set}
+use Rattle.timer_map.proofs.Pack.{remove-law}
+use Rattle.timer_map.proofs.remove_entry.Statement.{statement}
+use Rattle.timer_map.proofs.remove_entry.Tie as tie
+
+slice-read-n : tie.Need-slice-read-n
+slice-read-n c = search needs
+
+mul-at : tie.Need-mul-at
+mul-at c = search needs
+
+add-at : tie.Need-add-at
+add-at c = search needs
+
+shift-down-requires : tie.Need-shift-down-requires
+shift-down-requires c κs = search needs
+
+clear-rows-requires : tie.Need-clear-rows-requires
+clear-rows-requires c κs = search needs
+
+sub-q : tie.Need-sub-q
+sub-q c = search needs
+
+slice-write-q : tie.Need-slice-write-q
+slice-write-q c = search needs
+
+same-length : tie.Need-same-length
+same-length c =
+    let at-clear-rows = c .before .before in
+    let at-shift-down = at-clear-rows .before .before .before .before in
+    let start = at-shift-down .before .before .before .before in
+    let k : length (at-clear-rows .clear-rows .last .0) ≡ length (at-shift-down .shift-down .last .0) = at-clear-rows .clear-rows .kept .0 in
+    let m : length (at-shift-down .shift-down .last .0) ≡ length (start .args .q .now) = at-shift-down .shift-down .kept .0 in
+    length-set (at-clear-rows .clear-rows .last .0) 0 _ ∙ k ∙ m
+
+returns : tie.Need-returns
+returns c =
+    let at-clear-rows = c .before .before in
+    let at-shift-down = at-clear-rows .before .before .before .before in
+    let start = at-shift-down .before .before .before .before in
+    remove-law _ _ _ _ (start .pre .0) (start .pre .1) (at-clear-rows .clear-rows .ensures) (at-shift-down .shift-down .ensures)
+
+pub remove-entry-spec : {M : Type 1} → statement M
+remove-entry-spec =
+    tie.close
+    (tie.spec
+    slice-read-n
+    mul-at
+    add-at
+    shift-down-requires
+    clear-rows-requires
+    sub-q
+    slice-write-q
+    same-length
+    returns)
