@@ -10,11 +10,10 @@ use lib.Dec.{eqb}
 use Rattle.lists.specs.Array.{pad}
 use Rattle.lists.specs.Lists.{mem}
 use Rattle.lists.proofs.Choice.{by-choice, choose-yes, choose-no, split, and-left, and-right}
-use Rattle.peer.specs.Data.{Data, bytes-of}
 use Rattle.timing.specs.declared.Config.{Config}
 use Rattle.timing.specs.Timing.{in-range}
-use Rattle.protocol.specs.Station.{Station, bytes-end}
-use Rattle.protocol.specs.Rules.{all-under, short-data, station-ok}
+use Rattle.protocol.specs.Station.{Station}
+use Rattle.protocol.specs.Rules.{short-data, station-ok}
 use Rattle.protocol.specs.Handle as definition
 use Rattle.record.specs.Read.{Reading, read-event, rec-of}
 use Rattle.protocol.proofs.Reading.{by-reading}
@@ -73,13 +72,6 @@ packs = record {
   output = λ v g t. ap (λ (x : Outcome). x .output) (answers-packed v g t);
 }
 
-given : (me : ℕ) (present : Bool) (own : List ℕ) → D.Typed me own → Given me (lent present own)
-unfolding lent bytes-of all-under
-given me present own t = record {
-  narrow = t .narrow;
-  are-bytes = by-choice (λ (d : Data). all-under bytes-end (bytes-of d) ≡ true) present (λ e. t .are-bytes) (λ e. refl);
-}
-
 -- ---- a new station
 
 -- with any other code than 2 the words lent were as many as a state has, and hold what the definition's `new` answers
@@ -89,41 +81,41 @@ whole xs me present own c h =
     split (eqb (length xs) words) (λ y. choose-yes _ _ _ y) (λ n. absurd (h (ap (λ (m : MadeWords). m .code) (choose-no _ _ _ n))))
 
 -- a claim on what `new` answered with code 0 is one on the definition's answer, packed
-from-new : (X : List ℕ → Type 0) (xs : List ℕ) (me : ℕ) (present : Bool) (own : List ℕ) (c : Config) → program-made xs me present own c .code ≡ 0
-    → (definition.new me (lent present own) c .code ≡ 0 → X (pack (definition.new me (lent present own) c .state))) → X (program-made xs me present own c .words)
+from-new : (X : List ℕ → Type 0) (me : ℕ) (g : D.Lending) (c : Config) → program .new-code me g c ≡ 0
+    → (definition.new me (program .own g) c .code ≡ 0 → X (pack (definition.new me (program .own g) c .state))) → X (program .new-state me g c)
 unfolding pack-made
-from-new X xs me present own c z h =
-    let e = whole xs me present own c (λ two. omega (arith, two, z)) in
+from-new X me g c z h =
+    let e = whole (g .words) me (g .present) (g .own) c (λ two. omega (arith, two, z)) in
     subst (λ (m : MadeWords). X (m .words)) (sym e) (h (sym (ap (λ (m : MadeWords). m .code) e) ∙ z))
 
 -- Demand 3 for the program.
 pub demand-3-holds : D.Demand3-holds
-demand-3-holds xs me present own c t z vs =
-    from-new (λ (s : List ℕ). Demand3 program unpack state-ok me c s vs) xs me present own c z (λ e. demand-packed packs me (lent present own) c (given me present own t) e vs)
+demand-3-holds me g c t z vs =
+    from-new (λ (s : List ℕ). Demand3 program unpack state-ok me c s vs) me g c z (λ e. demand-packed packs me (program .own g) c t e vs)
 
 -- The words after a list of calls are the definition's state, packed.
-pub states-same : (xs : List ℕ) (me : ℕ) (present : Bool) (own : List ℕ) (c : Config) → D.Typed me own → program-made xs me present own c .code ≡ 0
-    → (vs : List Call) → state-after program vs (program-made xs me present own c .words) ≡ pack (state-after calls.definition vs (definition.new me (lent present own) c .state))
-states-same xs me present own c t z vs =
-    from-new (λ (s : List ℕ). state-after program vs s ≡ pack (state-after calls.definition vs (definition.new me (lent present own) c .state))) xs me present own c z
-    (λ e. states-packed packs me (lent present own) c (given me present own t) e vs)
+pub states-same : (me : ℕ) (g : D.Lending) (c : Config) → Given me (program .own g) → program .new-code me g c ≡ 0
+    → (vs : List Call) → state-after program vs (program .new-state me g c) ≡ pack (state-after calls.definition vs (definition.new me (program .own g) c .state))
+states-same me g c t z vs =
+    from-new (λ (s : List ℕ). state-after program vs s ≡ pack (state-after calls.definition vs (definition.new me (program .own g) c .state))) me g c z
+    (λ e. states-packed packs me (program .own g) c t e vs)
 
 pub rejoin-promise : D.Rejoin-promise
-rejoin-promise xs me present own c t z vs =
-    from-new (λ (s : List ℕ). Promised (ticks program unpack vs s)) xs me present own c z (λ e. rejoin-packed packs me (lent present own) c (given me present own t) e vs)
+rejoin-promise me g c t z vs =
+    from-new (λ (s : List ℕ). Promised (ticks program unpack vs s)) me g c z (λ e. rejoin-packed packs me (program .own g) c t e vs)
 
 -- What the program writes is read back, and every message is counted.
 pub outputs-read-back : D.Outputs-read-back
-outputs-read-back xs me present own c t z vs n =
-    from-new (λ (s : List ℕ). OutputsRead program vs s) xs me present own c z (λ e. outputs-packed packs me (lent present own) c (given me present own t) e vs n)
+outputs-read-back me g c t z vs n =
+    from-new (λ (s : List ℕ). OutputsRead program vs s) me g c z (λ e. outputs-packed packs me (program .own g) c t e vs n)
 
 pub every-message-counted : D.Every-message-counted
-every-message-counted xs me present own c t z vs n = counts-all program _ vs _ (outputs-read-back xs me present own c t z vs n)
+every-message-counted me g c t z vs n = counts-all program _ vs _ (outputs-read-back me g c t z vs n)
 
 -- When the program's shuffles are due.
 pub shuffles-timed : D.Shuffles-timed
-shuffles-timed xs me present own c t z =
-    from-new (λ (s : List ℕ). Timed program c s) xs me present own c z (λ e. timed-packed packs me (lent present own) c (given me present own t) e)
+shuffles-timed me g c t z =
+    from-new (λ (s : List ℕ). Timed program c s) me g c z (λ e. timed-packed packs me (program .own g) c t e)
 
 -- A refused `new` hands back zeroes.
 zeroes : replicate words 0 ≡ pad {A = ℕ} 0 words []
@@ -132,9 +124,9 @@ zeroes = refl
 
 pub refused-zeroes : D.Refused-zeroes
 unfolding pack-made definition.new
-refused-zeroes xs me present own c one =
-    let d = lent present own in
-    let e = whole xs me present own c (λ two. omega (arith, two, one)) in
+refused-zeroes me g c one =
+    let d = program .own g in
+    let e = whole (g .words) me (g .present) (g .own) c (λ two. omega (arith, two, one)) in
     split (in-range c && short-data d)
     (λ y. let zero : 0 ≡ 1 = sym (ap (λ (m : definition.Made). m .code) (choose-yes (in-range c && short-data d) _ _ y)) ∙ (sym (ap (λ (m : MadeWords). m .code) e) ∙ one) in absurd (omega (arith, zero)))
     (λ n. ap (λ (m : MadeWords). m .words) e ∙ (ap (λ (m : definition.Made). pack (m .state)) (choose-no (in-range c && short-data d) _ _ n) ∙ (sym zero-words ∙ sym zeroes)))
@@ -185,16 +177,16 @@ never-eight xs ok v e =
     crowded.never-eight (unpack xs) (rules-kept xs ok) (v .draws) (length (v .output)) (v .event) (v .are-bytes) (sym (ap (λ (x : Outcome). x .code) (answers xs ok v)) ∙ e)
 
 pub never-eight-after : D.Never-eight-after
-never-eight-after xs me present own c t z vs =
-    from-new (λ (s : List ℕ). mem 8 (codes program vs s) ≡ false) xs me present own c z (λ e. eight-packed packs me (lent present own) c (given me present own t) e vs)
+never-eight-after me g c t z vs =
+    from-new (λ (s : List ℕ). mem 8 (codes program vs s) ≡ false) me g c z (λ e. eight-packed packs me (program .own g) c t e vs)
 
 -- `unreachable!` is never reached.
 pub never-unreachable : D.Never-unreachable
 never-unreachable xs ok = unreachable.never-unreachable (unpack xs) (rules-kept xs ok)
 
 pub never-unreachable-after : D.Never-unreachable-after
-never-unreachable-after xs me present own c t z vs =
-    never-unreachable (state-after program vs (program-made xs me present own c .words)) (demand-3-holds xs me present own c t z vs .rules-hold)
+never-unreachable-after me g c t z vs =
+    never-unreachable (state-after program vs (program .new-state me g c)) (demand-3-holds me g c t z vs .rules-hold)
 
 -- ---- by value
 
@@ -209,9 +201,8 @@ value-packs = record {
 
 pub by-value-holds : D.By-value-holds
 unfolding made-state pack-made
-by-value-holds me present own c t z =
+by-value-holds me (present, own) c g z =
     let d = lent present own in
-    let g = given me present own t in
     let s : State = record { words = pack (definition.new me d c .state) } in
     let demand : (vs : List Call) → Demand3 value-program unpack-state state-passes me c s vs = demand-packed value-packs me d c g z in
     let outputs : (vs : List Call) → narrow-draws vs ≡ true → OutputsRead value-program vs s = outputs-packed value-packs me d c g z in

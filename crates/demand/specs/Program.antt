@@ -1,26 +1,27 @@
 -- What is claimed of the program: of every list of calls of `handle`, from the words that `new` filled.
 -- `program-made` and `program-outcome` are what the contracts of this crate's functions say, which call the program's own; the check ties the claims to the code by them.
 -- Assumes nothing.
-use Prim.Native.Nat.{ℕ, _≤_, _<_}
+use Prim.Native.Nat.{ℕ, _≤_}
 use mathlib.Core.Path.{_≡_}
 use mathlib.Core.Bool.{Bool, true, false}
 use mathlib.Core.List.{List}
 use lib.ListN.{length, replicate}
-use Rattle.lists.specs.Lists.{null, mem, without}
+use Rattle.lists.specs.Lists.{null, without}
 use Rattle.timing.specs.declared.Config.{Config}
 use Rattle.util.specs.Chances.{sure-end}
 use Rattle.peer.specs.Data.{Node}
-use Rattle.protocol.specs.Station.{Station, peers-end, bytes-end}
+use Rattle.protocol.specs.Station.{Station}
 use Rattle.protocol.specs.Messages.{ends-here, learn-joiner}
 use Rattle.protocol.specs.Rules.{all-under}
 use Rattle.protocol.specs.Kept.{FewerKept}
 use Rattle.protocol.specs.Handle as definition
-use Rattle.history.specs.Calls.{Call, narrow-draws, Machine, code-of, state-after, codes}
-use Rattle.history.specs.Demand.{Demand3}
-use Rattle.history.specs.Outputs.{OutputsRead}
-use Rattle.history.specs.Rejoin.{ticks, Promised}
-use Rattle.tally.specs.History.{CountsAll}
-use Rattle.shuffle_times.specs.Claims.{Timed}
+use Rattle.history.specs.Calls.{Call, narrow-draws, Machine, After-new, code-of, state-after}
+use Rattle.history.specs.Demand.{Demand3, Demand3-of}
+use Rattle.history.specs.Outputs.{OutputsRead, Outputs-of}
+use Rattle.history.specs.Refusals.{Never-eight-of}
+use Rattle.history.specs.Rejoin.{ticks, Promised, Rejoin-of}
+use Rattle.tally.specs.History.{CountsAll, Counts-of}
+use Rattle.shuffle_times.specs.Claims.{Timed, Timed-of}
 use Rattle.state.specs.Layout.{words}
 use Rattle.state.specs.Unpack.{unpack}
 use Rattle.rules.specs.Ok.{state-ok}
@@ -38,51 +39,45 @@ program-made xs me present own c = lending.made xs me (lent present own) c
 unfoldable pub program-outcome : List ℕ → List ℕ → List ℕ → List ℕ → Outcome
 program-outcome b ds out xs = handled xs b ds (length out)
 
-abbrev pub program : Machine (List ℕ)
+-- what `new` is lent: the words, whatever they hold, and own data as a flag and bytes
+pub record Lending : Type 0 where
+  pub words : List ℕ
+  pub present : Bool
+  pub own : List ℕ
+
+abbrev pub program : Machine Lending (List ℕ)
 program = record {
+  own = λ g. lent (g .present) (g .own);
+  new-code = λ me g c. program-made (g .words) me (g .present) (g .own) c .code;
+  new-state = λ me g c. program-made (g .words) me (g .present) (g .own) c .words;
   code = λ b ds out xs. program-outcome b ds out xs .code;
   state = λ b ds out xs. program-outcome b ds out xs .words;
   used = λ b ds out xs. program-outcome b ds out xs .draws;
   output = λ b ds out xs. program-outcome b ds out xs .output;
 }
 
--- what the types of `new`'s arguments give: a 64-bit number, and bytes
-pub record Typed (me : ℕ) (own : List ℕ) : Type 0 where
-  pub narrow : me < peers-end
-  pub are-bytes : all-under bytes-end own ≡ true
-
--- Demand 3. "For every list of events brought to a new station": one that `new` answered with code 0, whatever the words held before
+-- Demand 3: of every list of calls, whatever the words held before `new`
 abbrev pub Demand3-holds : Type 0
-Demand3-holds =
-    (xs : List ℕ) (me : ℕ) (present : Bool) (own : List ℕ) (c : Config) → Typed me own → program-made xs me present own c .code ≡ 0
-    → (vs : List Call) → Demand3 program unpack state-ok me c (program-made xs me present own c .words) vs
+Demand3-holds = Demand3-of program unpack state-ok
 
 -- the rejoin promise, for the same lists
 abbrev pub Rejoin-promise : Type 0
-Rejoin-promise =
-    (xs : List ℕ) (me : ℕ) (present : Bool) (own : List ℕ) (c : Config) → Typed me own → program-made xs me present own c .code ≡ 0
-    → (vs : List Call) → Promised (ticks program unpack vs (program-made xs me present own c .words))
+Rejoin-promise = Rejoin-of program unpack
 
--- what an accepted call writes is read back, for the same lists; draws have 32 bits by their type
+-- what an accepted call writes is read back, for the same lists
 abbrev pub Outputs-read-back : Type 0
-Outputs-read-back =
-    (xs : List ℕ) (me : ℕ) (present : Bool) (own : List ℕ) (c : Config) → Typed me own → program-made xs me present own c .code ≡ 0
-    → (vs : List Call) → narrow-draws vs ≡ true → OutputsRead program vs (program-made xs me present own c .words)
+Outputs-read-back = Outputs-of program
 
 -- and the tally raised after each call counts every message that the ledger reads
 abbrev pub Every-message-counted : Type 0
-Every-message-counted =
-    (xs : List ℕ) (me : ℕ) (present : Bool) (own : List ℕ) (c : Config) → Typed me own → program-made xs me present own c .code ≡ 0
-    → (vs : List Call) → narrow-draws vs ≡ true → CountsAll program (c .«active_view_capacity») vs (program-made xs me present own c .words)
+Every-message-counted = Counts-of program
 
 -- S-11 of document 02: when its shuffles are due
 abbrev pub Shuffles-timed : Type 0
-Shuffles-timed =
-    (xs : List ℕ) (me : ℕ) (present : Bool) (own : List ℕ) (c : Config) → Typed me own → program-made xs me present own c .code ≡ 0
-    → Timed program c (program-made xs me present own c .words)
+Shuffles-timed = Timed-of program
 
 -- of one call to a machine, at a state that stands for a station
-pub record Suffices {S : Type 0} (m : Machine S) (station : S → Station) (s : S) (v : Call) : Type 0 where
+pub record Suffices {G S : Type 0} (m : Machine G S) (station : S → Station) (s : S) (v : Call) : Type 0 where
   -- "8,192 output bytes and 512 draws always suffice"; by 02, S-6, 512 draws that are kept: code 5 is answered only where fewer than 512 of those lent were kept
   pub five : code-of m v s ≡ 5 → FewerKept 512 (λ ds. m .code (v .event) ds (v .output) s) (λ ds. m .used (v .event) ds (v .output) s) (λ ds. station (m .state (v .event) ds (v .output) s)) (v .draws)
   -- and so 512 draws below 2^32 - 32 suffice, which every choice keeps
@@ -105,9 +100,7 @@ abbrev pub Never-eight : Type 0
 Never-eight = (xs : List ℕ) → state-ok xs ≡ true → (v : Call) → code-of program v xs ≡ 8 → ⊥
 
 abbrev pub Never-eight-after : Type 0
-Never-eight-after =
-    (xs : List ℕ) (me : ℕ) (present : Bool) (own : List ℕ) (c : Config) → Typed me own → program-made xs me present own c .code ≡ 0
-    → (vs : List Call) → mem 8 (codes program vs (program-made xs me present own c .words)) ≡ false
+Never-eight-after = Never-eight-of program
 
 -- at the station s a ForwardJoin that is neither answered nor dropped finds a neighbour other than its sender: the Rust's `unreachable!` is not reached
 abbrev pub Goes-on : Station → Type 0
@@ -121,14 +114,11 @@ Never-unreachable = (xs : List ℕ) → state-ok xs ≡ true → Goes-on (unpack
 
 -- and so after every list of calls to a new station
 abbrev pub Never-unreachable-after : Type 0
-Never-unreachable-after =
-    (xs : List ℕ) (me : ℕ) (present : Bool) (own : List ℕ) (c : Config) → Typed me own → program-made xs me present own c .code ≡ 0
-    → (vs : List Call) → Goes-on (unpack (state-after program vs (program-made xs me present own c .words)))
+Never-unreachable-after = After-new program (λ me c s. (vs : List Call) → Goes-on (unpack (state-after program vs s)))
 
 -- a refused `new` hands back "a state of zeroes", word by word
 abbrev pub Refused-zeroes : Type 0
-Refused-zeroes =
-    (xs : List ℕ) (me : ℕ) (present : Bool) (own : List ℕ) (c : Config) → program-made xs me present own c .code ≡ 1 → program-made xs me present own c .words ≡ replicate words 0
+Refused-zeroes = (me : ℕ) (g : Lending) (c : Config) → program .new-code me g c ≡ 1 → program .new-state me g c ≡ replicate words 0
 
 -- ---- the form that document 01 names: the state by value, `State::new` and `handle` with self
 
@@ -138,8 +128,11 @@ made-state me present own c =
     let m = pack-made (definition.new me (lent present own) c) in
     record { code = m .code; state = record { words = m .words } }
 
-abbrev pub value-program : Machine State
+abbrev pub value-program : Machine (Bool × List ℕ) State
 value-program = record {
+  own = λ g. lent (g .0) (g .1);
+  new-code = λ me g c. made-state me (g .0) (g .1) c .code;
+  new-state = λ me g c. made-state me (g .0) (g .1) c .state;
   code = λ b ds out s. program-outcome b ds out (s .words) .code;
   state = λ b ds out s. record { words = program-outcome b ds out (s .words) .words };
   used = λ b ds out s. program-outcome b ds out (s .words) .draws;
@@ -162,5 +155,4 @@ pub record By-value (me : ℕ) (c : Config) (s : State) : Type 0 where
   pub goes-on : (vs : List Call) → Goes-on (unpack-state (state-after value-program vs s))
 
 abbrev pub By-value-holds : Type 0
-By-value-holds =
-    (me : ℕ) (present : Bool) (own : List ℕ) (c : Config) → Typed me own → made-state me present own c .code ≡ 0 → By-value me c (made-state me present own c .state)
+By-value-holds = After-new value-program By-value

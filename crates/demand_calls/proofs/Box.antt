@@ -29,7 +29,7 @@ use Rattle.demand.specs.Program as D
 use Rattle.demand.specs.Program.{program}
 use Rattle.demand.proofs.Program as P
 use Rattle.demand_calls.specs.Box as B
-use Rattle.demand_calls.specs.Box.{Box, box-made, filled, box-outcome, box, station-in, ledger}
+use Rattle.demand_calls.specs.Box.{Box, box-made, box-outcome, box, station-in, ledger}
 
 states-follow : (vs : List Call) (x : Box) → state-after box vs x ≡ record { words = state-after program vs (x .words); tally = tally-after program vs (x .words) (x .tally) }
 unfolding state-after tally-after box-outcome D.program-outcome called tallied
@@ -74,16 +74,20 @@ on-time-follows (v ∷ vs) x waiting =
     let rest = on-time-follows vs (state-of box (v .call) x) in
     (λ i. choose (fires box v x) (is-first (v .at) waiting && rest (drop 1 waiting ++ set-by box v x) i) (rest (waiting ++ set-by box v x) i))
 
+-- what the program is lent by it
+abbrev lent-by : B.BoxLending → D.Lending
+lent-by g = record { words = g .held .words; present = not (eqb (g .present) 0); own = g .own }
+
 -- with any other code than 2 `new` leaves a tally of zeroes
-tally-zeroed : (x : Box) (me present : ℕ) (own : List ℕ) (c : Config) → (box-made x me present own c .code ≡ 2 → ⊥) → box-made x me present own c .tally ≡ no-messages
+tally-zeroed : (me : ℕ) (g : B.BoxLending) (c : Config) → (box .new-code me g c ≡ 2 → ⊥) → box .new-state me g c .tally ≡ no-messages
 unfolding box-made begun with-tally
-tally-zeroed x me present own c n = choose-no _ _ _ (ne-eqb (box-made x me present own c .code) 2 n)
+tally-zeroed me g c n = choose-no _ _ _ (ne-eqb (box .new-code me g c) 2 n)
 
 pub demand-3-holds : B.Demand3-holds
 unfolding box-made begun with-tally D.program-made
-demand-3-holds x me present own c t z vs =
-    let start = filled (box-made x me present own c) in
-    let d = P.demand-3-holds (x .words) me (not (eqb present 0)) own c t z vs in
+demand-3-holds me g c t z vs =
+    let start = box .new-state me g c in
+    let d = P.demand-3-holds me (lent-by g) c t z vs in
     let same = states-follow vs start in
     record {
       none-is-two = ap (mem 2) (codes-follow vs start) ∙ d .none-is-two;
@@ -95,27 +99,27 @@ demand-3-holds x me present own c t z vs =
 
 pub outputs-read-back : B.Outputs-read-back
 unfolding box-made begun with-tally D.program-made
-outputs-read-back x me present own c t z vs n = outputs-follow vs (filled (box-made x me present own c)) (P.outputs-read-back (x .words) me (not (eqb present 0)) own c t z vs n)
+outputs-read-back me g c t z vs n = outputs-follow vs (box .new-state me g c) (P.outputs-read-back me (lent-by g) c t z vs n)
 
 pub every-message-counted : B.Every-message-counted
 unfolding box-made begun with-tally D.program-made
-every-message-counted x me present own c t z vs n few =
-    let start = filled (box-made x me present own c) in
+every-message-counted me g c t z vs n few =
+    let start = box .new-state me g c in
     let e : ledger c vs start .sent ≡ ledger-after program (c .«active_view_capacity») vs (start .words) empty-ledger .sent = ap (λ (l : Ledger). l .sent) (ledgers-follow (c .«active_view_capacity») vs start empty-ledger) in
     ap (λ (y : Box). total (y .tally)) (states-follow vs start)
-    ∙ (ap (λ (u : Tally). total (tally-after program vs (start .words) u)) (tally-zeroed x me present own c (λ two. omega (arith, two, z)))
-    ∙ (P.every-message-counted (x .words) me (not (eqb present 0)) own c t z vs n (subst (λ (k : ℕ). k ≤ top) e few) ∙ sym e))
+    ∙ (ap (λ (u : Tally). total (tally-after program vs (start .words) u)) (tally-zeroed me g c (λ two. omega (arith, two, z)))
+    ∙ (P.every-message-counted me (lent-by g) c t z vs n (subst (λ (k : ℕ). k ≤ top) e few) ∙ sym e))
 
 pub rejoin-promise : B.Rejoin-promise
 unfolding box-made begun with-tally D.program-made
-rejoin-promise x me present own c t z vs before twelve after e =
-    P.rejoin-promise (x .words) me (not (eqb present 0)) own c t z vs before twelve after (sym (ticks-follow vs (filled (box-made x me present own c))) ∙ e)
+rejoin-promise me g c t z vs before twelve after e =
+    P.rejoin-promise me (lent-by g) c t z vs before twelve after (sym (ticks-follow vs (box .new-state me g c)) ∙ e)
 
 pub shuffles-timed : B.Shuffles-timed
 unfolding box-made begun with-tally D.program-made
-shuffles-timed x me present own c t z =
-    let start = filled (box-made x me present own c) in
-    timed-carried (λ vs. shuffles-follow vs start) (λ vs. start-follows vs start) (λ vs. on-time-follows vs start []) c (P.shuffles-timed (x .words) me (not (eqb present 0)) own c t z)
+shuffles-timed me g c t z =
+    let start = box .new-state me g c in
+    timed-carried (λ vs. shuffles-follow vs start) (λ vs. start-follows vs start) (λ vs. on-time-follows vs start []) c (P.shuffles-timed me (lent-by g) c t z)
 
 -- One call: the tally stands beside the answer, and changes neither code nor draws.
 pub enough-lent : B.Enough-lent
@@ -134,18 +138,18 @@ never-eight x ok v e = P.never-eight (x .words) ok v e
 
 pub never-eight-after : B.Never-eight-after
 unfolding box-made begun with-tally D.program-made
-never-eight-after x me present own c t z vs = ap (mem 8) (codes-follow vs (filled (box-made x me present own c))) ∙ P.never-eight-after (x .words) me (not (eqb present 0)) own c t z vs
+never-eight-after me g c t z vs = ap (mem 8) (codes-follow vs (box .new-state me g c)) ∙ P.never-eight-after me (lent-by g) c t z vs
 
 pub never-unreachable : B.Never-unreachable
 never-unreachable x ok = P.never-unreachable (x .words) ok
 
 pub never-unreachable-after : B.Never-unreachable-after
-never-unreachable-after x me present own c t z vs =
-    never-unreachable (state-after box vs (filled (box-made x me present own c))) (demand-3-holds x me present own c t z vs .rules-hold)
+never-unreachable-after me g c t z vs =
+    never-unreachable (state-after box vs (box .new-state me g c)) (demand-3-holds me g c t z vs .rules-hold)
 
 pub refused-zeroes : B.Refused-zeroes
 unfolding box-made begun with-tally D.program-made
-refused-zeroes x me present own c one =
-    let zeroes = P.refused-zeroes (x .words) me (not (eqb present 0)) own c one in
-    let none = tally-zeroed x me present own c (λ two. omega (arith, two, one)) in
+refused-zeroes me g c one =
+    let zeroes = P.refused-zeroes me (lent-by g) c one in
+    let none = tally-zeroed me g c (λ two. omega (arith, two, one)) in
     (λ i. record { words = zeroes i; tally = none i })

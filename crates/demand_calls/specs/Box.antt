@@ -3,29 +3,29 @@
 -- Assumes nothing.
 use Prim.Native.Nat.{ℕ, _≤_}
 use mathlib.Core.Path.{_≡_}
-use mathlib.Core.Bool.{Bool, true, false, not}
+use mathlib.Core.Bool.{Bool, true, not}
 use mathlib.Core.List.{List}
 use lib.ListN.{length, replicate}
 use lib.Dec.{eqb}
 use Rattle.timing.specs.declared.Config.{Config}
 use Rattle.protocol.specs.Station.{Station}
 use Rattle.history.specs.Ledger.{Ledger, empty-ledger}
-use Rattle.lists.specs.Lists.{mem}
-use Rattle.history.specs.Calls.{Call, narrow-draws, Machine, code-of, state-after, codes, ledger-after}
-use Rattle.history.specs.Demand.{Demand3}
-use Rattle.history.specs.Outputs.{OutputsRead}
-use Rattle.history.specs.Rejoin.{ticks, Promised}
+use Rattle.history.specs.Calls.{Call, narrow-draws, Machine, After-new, code-of, state-after, ledger-after}
+use Rattle.history.specs.Demand.{Demand3-of}
+use Rattle.history.specs.Outputs.{Outputs-of}
+use Rattle.history.specs.Refusals.{Never-eight-of}
+use Rattle.history.specs.Rejoin.{Rejoin-of}
 use Rattle.tally.specs.declared.Tally.{Tally}
 use Rattle.tally.specs.Counts.{top}
 use Rattle.tally.specs.Sum.{total}
 use Rattle.tally.specs.History.{no-messages}
-use Rattle.shuffle_times.specs.Claims.{Timed}
+use Rattle.shuffle_times.specs.Claims.{Timed-of}
 use Rattle.state.specs.Layout.{words}
 use Rattle.state.specs.Unpack.{unpack}
 use Rattle.rules.specs.Ok.{state-ok}
 use Rattle.hyparview.specs.Made.{lent}
 use Rattle.controller.specs.Calls.{Begun, begun, Called, called}
-use Rattle.demand.specs.Program.{Typed, Suffices, Goes-on}
+use Rattle.demand.specs.Program.{Suffices, Goes-on}
 
 -- what the box lends, and keeps between calls
 pub record Box : Type 0 where
@@ -44,8 +44,17 @@ filled m = record { words = m .words; tally = m .tally }
 unfoldable pub box-outcome : List ℕ → List ℕ → List ℕ → Box → Called
 box-outcome b ds out x = called (x .words) (x .tally) b ds (length out)
 
-abbrev pub box : Machine Box
+-- what `hyparview_new` is lent: what the box holds, and own data as a flag and bytes
+pub record BoxLending : Type 0 where
+  pub held : Box
+  pub present : ℕ
+  pub own : List ℕ
+
+abbrev pub box : Machine BoxLending Box
 box = record {
+  own = λ g. lent (not (eqb (g .present) 0)) (g .own);
+  new-code = λ me g c. box-made (g .held) me (g .present) (g .own) c .code;
+  new-state = λ me g c. filled (box-made (g .held) me (g .present) (g .own) c);
   code = λ b ds out x. box-outcome b ds out x .code;
   state = λ b ds out x. record { words = box-outcome b ds out x .words; tally = box-outcome b ds out x .tally };
   used = λ b ds out x. box-outcome b ds out x .draws;
@@ -59,23 +68,17 @@ station-in x = unpack (x .words)
 abbrev pub box-passes : Box → Bool
 box-passes x = state-ok (x .words)
 
--- Demand 3. "For every list of events brought to a new station": one that `hyparview_new` answered with code 0
+-- Demand 3: of every list of calls, whatever the box held before `hyparview_new`
 abbrev pub Demand3-holds : Type 0
-Demand3-holds =
-    (x : Box) (me present : ℕ) (own : List ℕ) (c : Config) → Typed me own → box-made x me present own c .code ≡ 0
-    → (vs : List Call) → Demand3 box station-in box-passes me c (filled (box-made x me present own c)) vs
+Demand3-holds = Demand3-of box station-in box-passes
 
 -- the rejoin promise, for the same lists
 abbrev pub Rejoin-promise : Type 0
-Rejoin-promise =
-    (x : Box) (me present : ℕ) (own : List ℕ) (c : Config) → Typed me own → box-made x me present own c .code ≡ 0
-    → (vs : List Call) → Promised (ticks box station-in vs (filled (box-made x me present own c)))
+Rejoin-promise = Rejoin-of box station-in
 
--- what an accepted call writes is read back, for the same lists; draws have 32 bits by their type
+-- what an accepted call writes is read back, for the same lists
 abbrev pub Outputs-read-back : Type 0
-Outputs-read-back =
-    (x : Box) (me present : ℕ) (own : List ℕ) (c : Config) → Typed me own → box-made x me present own c .code ≡ 0
-    → (vs : List Call) → narrow-draws vs ≡ true → OutputsRead box vs (filled (box-made x me present own c))
+Outputs-read-back = Outputs-of box
 
 -- the ledger of the list
 abbrev pub ledger : Config → List Call → Box → Ledger
@@ -84,15 +87,11 @@ ledger c vs x = ledger-after box (c .«active_view_capacity») vs x empty-ledger
 -- and the six counts of the lent tally together are the messages that the ledger has read, while these are below 2^64
 abbrev pub Every-message-counted : Type 0
 Every-message-counted =
-    (x : Box) (me present : ℕ) (own : List ℕ) (c : Config) → Typed me own → box-made x me present own c .code ≡ 0
-    → (vs : List Call) → narrow-draws vs ≡ true → ledger c vs (filled (box-made x me present own c)) .sent ≤ top
-    → total (state-after box vs (filled (box-made x me present own c)) .tally) ≡ ledger c vs (filled (box-made x me present own c)) .sent
+    After-new box (λ me c s. (vs : List Call) → narrow-draws vs ≡ true → ledger c vs s .sent ≤ top → total (state-after box vs s .tally) ≡ ledger c vs s .sent)
 
 -- S-11 of document 02: when its shuffles are due
 abbrev pub Shuffles-timed : Type 0
-Shuffles-timed =
-    (x : Box) (me present : ℕ) (own : List ℕ) (c : Config) → Typed me own → box-made x me present own c .code ≡ 0
-    → Timed box c (filled (box-made x me present own c))
+Shuffles-timed = Timed-of box
 
 -- "8,192 output bytes and 512 draws always suffice", by 02, S-6, draws that are kept: of one call at words that keep the rules, whatever the tally is
 abbrev pub Enough-lent : Type 0
@@ -107,9 +106,7 @@ abbrev pub Never-eight : Type 0
 Never-eight = (x : Box) → box-passes x ≡ true → (v : Call) → code-of box v x ≡ 8 → ⊥
 
 abbrev pub Never-eight-after : Type 0
-Never-eight-after =
-    (x : Box) (me present : ℕ) (own : List ℕ) (c : Config) → Typed me own → box-made x me present own c .code ≡ 0
-    → (vs : List Call) → mem 8 (codes box vs (filled (box-made x me present own c))) ≡ false
+Never-eight-after = Never-eight-of box
 
 -- the Rust's `unreachable!` is not reached at words that keep the rules
 abbrev pub Never-unreachable : Type 0
@@ -117,11 +114,8 @@ Never-unreachable = (x : Box) → box-passes x ≡ true → Goes-on (station-in 
 
 -- and so after every list of calls
 abbrev pub Never-unreachable-after : Type 0
-Never-unreachable-after =
-    (x : Box) (me present : ℕ) (own : List ℕ) (c : Config) → Typed me own → box-made x me present own c .code ≡ 0
-    → (vs : List Call) → Goes-on (station-in (state-after box vs (filled (box-made x me present own c))))
+Never-unreachable-after = After-new box (λ me c s. (vs : List Call) → Goes-on (station-in (state-after box vs s)))
 
 -- a refused `hyparview_new` leaves words and tally of zeroes
 abbrev pub Refused-zeroes : Type 0
-Refused-zeroes =
-    (x : Box) (me present : ℕ) (own : List ℕ) (c : Config) → box-made x me present own c .code ≡ 1 → filled (box-made x me present own c) ≡ record { words = replicate words 0; tally = no-messages }
+Refused-zeroes = (me : ℕ) (g : BoxLending) (c : Config) → box .new-code me g c ≡ 1 → box .new-state me g c ≡ record { words = replicate words 0; tally = no-messages }

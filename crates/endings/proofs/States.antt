@@ -30,7 +30,7 @@ use Rattle.hyparview.specs.Made.{lent, pack-made}
 use Rattle.hyparview.specs.Made as lending
 use Rattle.hyparview.specs.Queries.{neighbors-in, spare-addresses, spare-addresses-in}
 use Rattle.hyparview.specs.declared.State.{State}
-use Rattle.demand.specs.Program.{Typed, program-made, program, made-state}
+use Rattle.demand.specs.Program.{program-made, program, made-state}
 use Rattle.demand.proofs.Program.{states-same}
 use Rattle.endings.specs.declared.Ends.{Ends}
 use Rattle.endings.specs.Events.{of-peer, quit, events, event-at, tiny, first, draws, output, after-history}
@@ -77,10 +77,6 @@ narrow : Given 1 none
 unfolding all-under bytes-of
 narrow = record { narrow = omega arith; are-bytes = refl }
 
-typed : Typed 1 []
-unfolding all-under
-typed = record { narrow = omega arith; are-bytes = refl }
-
 -- demand 3 of a history
 holds : (h : List ℕ) → Demand3 definition (λ s. s) station-ok 1 tiny first (map call h)
 unfolding first
@@ -93,7 +89,7 @@ packed-after : (h : List ℕ) → after-in h first-state .words ≡ pack (after-
 unfolding first lent choose
 packed-after h =
     program-follows h first-state
-    ∙ (ap (state-after program (map call h)) first-made ∙ (states-same (replicate words 0) 1 false [] tiny typed made-zero (map call h) ∙ ap pack (sym (definition-follows h first))))
+    ∙ (ap (state-after program (map call h)) first-made ∙ (states-same 1 (record { words = replicate words 0; present = false; own = [] }) tiny narrow made-zero (map call h) ∙ ap pack (sym (definition-follows h first))))
 
 -- ---- the sizes at its end
 

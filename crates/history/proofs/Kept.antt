@@ -36,7 +36,7 @@ use Rattle.protocol.proofs.Uncrowded.{never-eight}
 use Rattle.history.specs.Ledger.{Ledger, empty-ledger, message-number, number-of, open-event, feed}
 use Rattle.history.specs.Calls.{Call, Given, result-of, answered, state-after, codes, ledger-after, definition}
 use Rattle.history.specs.Demand.{Views, Booked, Demand3, Demand3-holds}
-use Rattle.history.specs.Refusals.{Never-eight}
+use Rattle.history.specs.Refusals.{Never-eight-after}
 use Rattle.history.proofs.Heard.{booked, heard}
 
 -- the numbers of demand 3 are enough for their events
@@ -248,7 +248,7 @@ demand-3 me d c given z vs =
     })
 
 -- 02, S-5: no call after a new station is answered 8
-pub eight-never : Never-eight
+pub eight-never : Never-eight-after
 unfolding new
 eight-never me d c given z vs =
     let t = accepted-new me d c z in

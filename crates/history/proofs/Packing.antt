@@ -26,7 +26,7 @@ use Rattle.history.proofs.Kept.{Kept, fine-answer, none-eight, kept-new
 use Rattle.history.proofs.Rejoined.{rejoin-promise}
 use Rattle.history.proofs.Outputs.{outputs-read}
 
-module _ {S : Type 0} {m : Machine S} {pack : Station → S} {station : S → Station} {ok : S → Bool} (k : Packs m pack station ok) where
+module _ {G S : Type 0} {m : Machine G S} {pack : Station → S} {station : S → Station} {ok : S → Bool} (k : Packs m pack station ok) where
   module _ {c : Config} {me : ℕ} (ranges : in-range c ≡ true) where
     states-follow : (vs : List Call) {l : Ledger} {g : Station} → Kept c me l g → state-after m vs (pack g) ≡ pack (state-after definition vs g)
     unfolding state-after

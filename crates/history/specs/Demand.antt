@@ -8,12 +8,10 @@ use lib.ListN.{length}
 use Rattle.lists.specs.Lists.{mem, distinct}
 use Rattle.lists.specs.Maps.{keys}
 use Rattle.timing.specs.declared.Config.{Config}
-use Rattle.peer.specs.Data.{Data}
 use Rattle.protocol.specs.Station.{Station}
 use Rattle.protocol.specs.Rules.{station-ok}
-use Rattle.protocol.specs.Handle.{new}
 use Rattle.history.specs.Ledger.{Ledger, empty-ledger}
-use Rattle.history.specs.Calls.{Call, Given, Machine, state-after, codes, ledger-after, definition}
+use Rattle.history.specs.Calls.{Call, Machine, After-new, state-after, codes, ledger-after, definition}
 
 -- of the state s that the list left, for a station `me` with settings c
 pub record Views (me : ℕ) (c : Config) (s : Station) : Type 0 where
@@ -41,7 +39,7 @@ pub record Booked (s : Station) (l : Ledger) : Type 0 where
   pub allowed-held : l .sent + 2 * length (s .active) ≤ l .allowance
 
 -- demand 3 of the calls vs to the machine m, from a state s that stands for a station, as all its states do; `ok` is the test of every station rule
-pub record Demand3 {S : Type 0} (m : Machine S) (station : S → Station) (ok : S → Bool) (me : ℕ) (c : Config) (s : S) (vs : List Call) : Type 0 where
+pub record Demand3 {G S : Type 0} (m : Machine G S) (station : S → Station) (ok : S → Bool) (me : ℕ) (c : Config) (s : S) (vs : List Call) : Type 0 where
   -- "no event in it was answered 2"
   pub none-is-two : mem 2 (codes m vs s) ≡ false
   -- "Every station rule holds after the list"
@@ -49,6 +47,10 @@ pub record Demand3 {S : Type 0} (m : Machine S) (station : S → Station) (ok : 
   pub views : Views me c (station (state-after m vs s))
   pub booked : Booked (station (state-after m vs s)) (ledger-after m (c .«active_view_capacity») vs s empty-ledger)
 
--- "For every list of events brought to a new station": one that `new` answered with code 0
+-- Demand 3 of a machine. "For every list of events brought to a new station"
+abbrev pub Demand3-of : {G S : Type 0} → Machine G S → (S → Station) → (S → Bool) → Type 0
+Demand3-of m station ok = After-new m (λ me c s. (vs : List Call) → Demand3 m station ok me c s vs)
+
+-- of the definition
 abbrev pub Demand3-holds : Type 0
-Demand3-holds = (me : ℕ) (d : Data) (c : Config) → Given me d → new me d c .code ≡ 0 → (vs : List Call) → Demand3 definition (λ s. s) station-ok me c (new me d c .state) vs
+Demand3-holds = Demand3-of definition (λ s. s) station-ok

@@ -6,14 +6,11 @@ use mathlib.Core.List.{List, [], _∷_, map}
 use mathlib.Core.Option.{some}
 use mathlib.Core.Path.{_≡_}
 use lib.ListN.{take}
-use Rattle.timing.specs.declared.Config.{Config}
-use Rattle.peer.specs.Data.{Data}
 use Rattle.record.specs.Format.{encode}
 use Rattle.record.specs.Read.{decode}
 use Rattle.record.specs.Walk.{whole-length, records-in}
-use Rattle.protocol.specs.Handle.{new}
 use Rattle.protocol.specs.Written.{WrittenOut}
-use Rattle.history.specs.Calls.{Call, Given, narrow-draws, Machine, code-of, state-of, output-of, definition}
+use Rattle.history.specs.Calls.{Call, narrow-draws, Machine, After-new, code-of, state-of, output-of, definition}
 
 -- the records of an output, each without the bytes behind it
 unfoldable pub cut-records : List ℕ → List (List ℕ)
@@ -26,11 +23,14 @@ pub record ReadsBack (out : List ℕ) : Type 0 where
   pub read : map decode (cut-records out) ≡ map some (written .records)
 
 -- of every accepted one of the calls to a machine
-unfoldable pub OutputsRead : {S : Type 0} → Machine S → List Call → S → Type 0
+unfoldable pub OutputsRead : {G S : Type 0} → Machine G S → List Call → S → Type 0
 OutputsRead m [] s = Unit {0}
 OutputsRead m (v ∷ vs) s = (code-of m v s ≡ 0 → ReadsBack (output-of m v s)) × OutputsRead m vs (state-of m v s)
 
--- of every list of calls to a new station
+-- of every list of calls to a new station; draws have 32 bits by their type
+abbrev pub Outputs-of : {G S : Type 0} → Machine G S → Type 0
+Outputs-of m = After-new m (λ me c s. (vs : List Call) → narrow-draws vs ≡ true → OutputsRead m vs s)
+
+-- of the definition
 abbrev pub Outputs-read-back : Type 0
-Outputs-read-back =
-    (me : ℕ) (d : Data) (c : Config) → Given me d → new me d c .code ≡ 0 → (vs : List Call) → narrow-draws vs ≡ true → OutputsRead definition vs (new me d c .state)
+Outputs-read-back = Outputs-of definition

@@ -7,7 +7,7 @@ use Rattle.protocol.specs.Rules.{station-ok}
 use Rattle.history.specs.Calls.{Call, Machine, code-of, state-of, output-of, result-of}
 
 -- of the station g that a state stands for, and the test `ok` of every station rule on any state
-pub record Packs {S : Type 0} (m : Machine S) (pack : Station → S) (station : S → Station) (ok : S → Bool) : Type 0 where
+pub record Packs {G S : Type 0} (m : Machine G S) (pack : Station → S) (station : S → Station) (ok : S → Bool) : Type 0 where
   pub stands : (g : Station) → station-ok g ≡ true → station (pack g) ≡ g
   pub passes : (g : Station) → station-ok g ≡ true → ok (pack g) ≡ true
   pub code : (v : Call) (g : Station) → station-ok g ≡ true → code-of m v (pack g) ≡ result-of v g .code

@@ -21,7 +21,7 @@ shown [] = []
 shown (b ∷ bs) = choose (leb 9 (kind-in b)) (b ∷ shown bs) (shown bs)
 
 -- of each call its event, and these records of its output
-unfoldable pub hears : {S : Type 0} → Machine S → List Call → S → List (List ℕ × List (List ℕ))
+unfoldable pub hears : {G S : Type 0} → Machine G S → List Call → S → List (List ℕ × List (List ℕ))
 hears m [] s = []
 hears m (v ∷ vs) s = (v .event, shown (cut-records (output-of m v s))) ∷ hears m vs (state-of m v s)
 

@@ -7,26 +7,24 @@ use mathlib.Core.Path.{_≡_}
 use lib.ListN.{length}
 use lib.Dec.{eqb}
 use Rattle.lists.specs.Lists.{choose}
-use Rattle.timing.specs.declared.Config.{Config}
 use Rattle.peer.specs.Data.{Data}
 use Rattle.record.specs.Format.{encode}
 use Rattle.record.specs.Walk.{kind-in}
 use Rattle.protocol.specs.Station.{Station}
 use Rattle.protocol.specs.Sending.{join-to}
 use Rattle.protocol.specs.Timers.{knows-none}
-use Rattle.protocol.specs.Handle.{new}
-use Rattle.history.specs.Calls.{Call, Given, Machine, code-of, state-of, output-of, definition}
+use Rattle.history.specs.Calls.{Call, Machine, After-new, code-of, state-of, output-of, definition}
 
 -- an accepted maintenance timer: the state that it met, and the output that it left
 pub record Tick : Type 0 where
   pub met : Station
   pub output : List ℕ
 
-unfoldable pub is-tick : {S : Type 0} → Machine S → Call → S → Bool
+unfoldable pub is-tick : {G S : Type 0} → Machine G S → Call → S → Bool
 is-tick m v s = eqb (kind-in (v .event)) 2 && eqb (code-of m v s) 0
 
 -- the accepted maintenance timers among the calls to a machine, in order; each state of it stands for a station
-unfoldable pub ticks : {S : Type 0} → Machine S → (S → Station) → List Call → S → List Tick
+unfoldable pub ticks : {G S : Type 0} → Machine G S → (S → Station) → List Call → S → List Tick
 ticks m station [] s = []
 ticks m station (v ∷ vs) s =
     choose (is-tick m v s) (record { met = station s; output = output-of m v s } ∷ ticks m station vs (state-of m v s)) (ticks m station vs (state-of m v s))
@@ -56,5 +54,10 @@ pub data Some (X : Tick → Type 0) : List Tick → Type 0 where
 abbrev pub Promised : List Tick → Type 0
 Promised ts = (before twelve after : List Tick) → ts ≡ before ++ (twelve ++ after) → length twelve ≡ 12 → all-alone twelve ≡ true → Some Rejoins twelve
 
+-- of every list of calls to a new station
+abbrev pub Rejoin-of : {G S : Type 0} → Machine G S → (S → Station) → Type 0
+Rejoin-of m station = After-new m (λ me c s. (vs : List Call) → Promised (ticks m station vs s))
+
+-- of the definition
 abbrev pub Rejoin-promise : Type 0
-Rejoin-promise = (me : ℕ) (d : Data) (c : Config) → Given me d → new me d c .code ≡ 0 → (vs : List Call) → Promised (ticks definition (λ s. s) vs (new me d c .state))
+Rejoin-promise = Rejoin-of definition (λ s. s)

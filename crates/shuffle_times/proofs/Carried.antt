@@ -10,7 +10,7 @@ use Rattle.shuffle_times.specs.Times.{first-interval, dues, shuffle-time
 use Rattle.shuffle_times.specs.Histories.{Brought, shuffles-due, start-of, on-time}
 use Rattle.shuffle_times.specs.Claims.{Timed}
 
-module _ {S T : Type 0} {m : Machine S} {n : Machine T} {s : S} {t : T}
+module _ {G H S T : Type 0} {m : Machine G S} {n : Machine H T} {s : S} {t : T}
     (due : (vs : List Brought) → shuffles-due m vs s ≡ shuffles-due n vs t) (start : (vs : List Brought) → start-of m vs s ≡ start-of n vs t)
     (fire : (vs : List Brought) → on-time m vs s [] ≡ on-time n vs t []) where
   pub timed-carried : (c : Config) → Timed n c t → Timed m c s

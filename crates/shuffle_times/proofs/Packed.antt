@@ -25,7 +25,7 @@ use Rattle.shuffle_times.specs.Claims.{Timed}
 use Rattle.shuffle_times.proofs.Carried.{timed-carried}
 use Rattle.shuffle_times.proofs.Claims.{shuffles-timed}
 
-module _ {S : Type 0} {m : Machine S} {pack : Station → S} {station : S → Station} {ok : S → Bool} (k : Packs m pack station ok) where
+module _ {G S : Type 0} {m : Machine G S} {pack : Station → S} {station : S → Station} {ok : S → Bool} (k : Packs m pack station ok) where
   set-follows : (v : Brought) (g : Station) → station-ok g ≡ true → set-by m v (pack g) ≡ set-by definition v g
   unfolding set-by
   set-follows v g t = ap (λ (o : List ℕ). after (v .at) (shuffle-delays (headers o))) (k .output (v .call) g t)

@@ -6,27 +6,25 @@ use mathlib.Core.List.{List, []}
 use mathlib.Core.Path.{_≡_}
 use lib.ListN.{length, getD}
 use Rattle.timing.specs.declared.Config.{Config}
-use Rattle.peer.specs.Data.{Data}
 use Rattle.protocol.specs.Station.{draws-end}
 use Rattle.protocol.specs.Rules.{all-under}
-use Rattle.protocol.specs.Handle.{new}
-use Rattle.history.specs.Calls.{Given, Machine, definition}
+use Rattle.history.specs.Calls.{Machine, After-new, definition}
 use Rattle.shuffle_times.specs.Times.{first-interval, dues, has-times, shuffle-times}
 use Rattle.shuffle_times.specs.Histories.{Brought, shuffles-due, start-of, on-time, in-time-order}
 
 -- the shuffle timers of the calls have the intervals of the definition, each with the draw beside it
-pub record Tied {S : Type 0} (m : Machine S) (c : Config) (s : S) (vs : List Brought) : Type 0 where
+pub record Tied {G S : Type 0} (m : Machine G S) (c : Config) (s : S) (vs : List Brought) : Type 0 where
   pub draws : List ℕ
   pub are-draws : all-under draws-end draws ≡ true
   pub same : shuffles-due m vs s ≡ dues (c .«shuffle_interval») (first-interval (c .«shuffle_interval»)) (start-of m vs s) draws
 
 -- the k-th shuffle timer of the calls is due within the two ends
-pub record Within {S : Type 0} (m : Machine S) (earliest latest k : ℕ) (c : Config) (s : S) (vs : List Brought) : Type 0 where
+pub record Within {G S : Type 0} (m : Machine G S) (earliest latest k : ℕ) (c : Config) (s : S) (vs : List Brought) : Type 0 where
   pub not-before : shuffle-times earliest latest c k .earliest ≤ getD (shuffles-due m vs s) (k - 1) 0
   pub not-after : getD (shuffles-due m vs s) (k - 1) 0 ≤ shuffle-times earliest latest c k .latest
 
 -- calls with a start in the range, whose k-th shuffle timer is due at time t
-pub record Reached {S : Type 0} (m : Machine S) (earliest latest k t : ℕ) (s : S) : Type 0 where
+pub record Reached {G S : Type 0} (m : Machine G S) (earliest latest k t : ℕ) (s : S) : Type 0 where
   pub calls : List Brought
   pub fire : on-time m calls s [] ≡ true
   pub ordered : in-time-order 0 calls ≡ true
@@ -36,7 +34,7 @@ pub record Reached {S : Type 0} (m : Machine S) (earliest latest k t : ℕ) (s :
   pub due-then : getD (shuffles-due m calls s) (k - 1) 0 ≡ t
 
 -- of a machine with the settings c, from its new state s on, in every history whose shuffle timers fire when due
-pub record Timed {S : Type 0} (m : Machine S) (c : Config) (s : S) : Type 0 where
+pub record Timed {G S : Type 0} (m : Machine G S) (c : Config) (s : S) : Type 0 where
   -- the due times of the definition are the machine's own
   pub due-times-tied : (vs : List Brought) → on-time m vs s [] ≡ true → Tied m c s vs
   -- "nothing outside is"
@@ -48,9 +46,13 @@ pub record Timed {S : Type 0} (m : Machine S) (c : Config) (s : S) : Type 0 wher
       (earliest latest k : ℕ) → has-times earliest latest c k ≡ true
       → (t : ℕ) → shuffle-times earliest latest c k .earliest ≤ t → t ≤ shuffle-times earliest latest c k .latest → Reached m earliest latest k t s
 
--- S-11 of the definition of the station, after a `new` that answered 0
+-- S-11 of a machine, after a `new` that answered 0
+abbrev pub Timed-of : {G S : Type 0} → Machine G S → Type 0
+Timed-of m = After-new m (λ me c s. Timed m c s)
+
+-- of the definition
 abbrev pub Shuffles-timed : Type 0
-Shuffles-timed = (me : ℕ) (d : Data) (c : Config) → Given me d → new me d c .code ≡ 0 → Timed definition c (new me d c .state)
+Shuffles-timed = Timed-of definition
 
 -- "both ends 0" is the empty range alone: the latest end of any other is at least k
 abbrev pub Zero-is-empty : Type 0

@@ -30,25 +30,25 @@ after t [] = []
 after t (x ∷ xs) = (t + x) ∷ after t xs
 
 -- the due times of the shuffle timers that a call's output asks for
-unfoldable pub set-by : {S : Type 0} → Machine S → Brought → S → List ℕ
+unfoldable pub set-by : {G S : Type 0} → Machine G S → Brought → S → List ℕ
 set-by m v s = after (v .at) (shuffle-delays (headers (output-of m (v .call) s)))
 
 -- the same for all calls of a history, in order
-unfoldable pub shuffles-due : {S : Type 0} → Machine S → List Brought → S → List ℕ
+unfoldable pub shuffles-due : {G S : Type 0} → Machine G S → List Brought → S → List ℕ
 shuffles-due m [] s = []
 shuffles-due m (v ∷ vs) s = set-by m v s ++ shuffles-due m vs (state-of m (v .call) s)
 
 -- an accepted event of kinds 0 to 8
-unfoldable pub counts : {S : Type 0} → Machine S → Brought → S → Bool
+unfoldable pub counts : {G S : Type 0} → Machine G S → Brought → S → Bool
 counts m v s = leb (kind-in (v .call .event)) 8 && eqb (code-of m (v .call) s) 0
 
 -- "a start, the time of a station's first event of kinds 0 to 8"
-unfoldable pub start-of : {S : Type 0} → Machine S → List Brought → S → ℕ
+unfoldable pub start-of : {G S : Type 0} → Machine G S → List Brought → S → ℕ
 start-of m [] s = 0
 start-of m (v ∷ vs) s = choose (counts m v s) (v .at) (start-of m vs (state-of m (v .call) s))
 
 -- an accepted shuffle timer
-unfoldable pub fires : {S : Type 0} → Machine S → Brought → S → Bool
+unfoldable pub fires : {G S : Type 0} → Machine G S → Brought → S → Bool
 fires m v s = eqb (kind-in (v .call .event)) 1 && eqb (code-of m (v .call) s) 0
 
 unfoldable pub is-first : ℕ → List ℕ → Bool
@@ -57,7 +57,7 @@ is-first t (x ∷ xs) = eqb t x
 
 -- "if each timer fires when due": each accepted shuffle timer is the first of those that wait, the timers asked for and not yet
 -- brought back, and comes at its due time. So one that nobody asked for is left out. Other calls may stand anywhere.
-unfoldable pub on-time : {S : Type 0} → Machine S → List Brought → S → List ℕ → Bool
+unfoldable pub on-time : {G S : Type 0} → Machine G S → List Brought → S → List ℕ → Bool
 on-time m [] s waiting = true
 on-time m (v ∷ vs) s waiting =
     choose (fires m v s) (is-first (v .at) waiting && on-time m vs (state-of m (v .call) s) (drop 1 waiting ++ set-by m v s))

@@ -50,7 +50,7 @@ read-counts out r =
     let w = r .written in
     subst (λ (x : List ℕ). all-have x ≡ true) (sym (w .bytes)) (all-count (w .records) (w .zeros) (w .in-form))
 
-module _ {S : Type 0} (m : Machine S) (a : ℕ) where
+module _ {G S : Type 0} (m : Machine G S) (a : ℕ) where
   never-less-after : (vs : List Call) (s : S) (l : Ledger) → l .sent ≤ ledger-after m a vs s l .sent
   unfolding ledger-after
   never-less-after [] s l = omega arith
