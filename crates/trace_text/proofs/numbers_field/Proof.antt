@@ -2,8 +2,8 @@ use borrow.Author.Needs.{needs}
 use Prim.Native.Nat.{_+_, _-_, _^_, _≤_, _<_}
 use mathlib.Core.Path.{_≡_}
 use lib.ListN.{length}
-use Rattle.trace_replay.proofs.event_text.numbers_field.Statement.{statement}
-use Rattle.trace_replay.proofs.event_text.numbers_field.Tie as tie
+use Rattle.trace_text.proofs.numbers_field.Statement.{statement}
+use Rattle.trace_text.proofs.numbers_field.Tie as tie
 
 abbrev Inv-loop : tie.InvT-loop
 Inv-loop out₀ name m cap end n r₀ i₀ out r i = (length out ≡ length out₀) × (i ≤ n) × (n ≤ cap) × (length m ≡ cap + cap + 1) × (cap + cap < 2 ^ 60)

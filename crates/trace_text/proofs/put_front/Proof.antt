@@ -1,7 +1,7 @@
 use borrow.Author.Needs.{needs}
-use Rattle.run_walk.proofs.Draws.{counted}
-use Rattle.trace_replay.proofs.event_text.put_front.Statement.{statement}
-use Rattle.trace_replay.proofs.event_text.put_front.Tie as tie
+use Rattle.trace_text.proofs.Laws.{counted}
+use Rattle.trace_text.proofs.put_front.Statement.{statement}
+use Rattle.trace_text.proofs.put_front.Tie as tie
 
 least-requires : tie.Need-least-requires
 least-requires c κs = search needs

@@ -1,5 +1,4 @@
 // The text of one event, into lent bytes: each output record in hex, the code with the draws used, and the state that the call handed back.
-// No other crate sees these functions. Their contracts say that they are safe; what they write is compared with the Rust's by the programs over this crate.
 use run_text::Text;
 use state::Layout;
 use state::RefillLimit;
@@ -80,7 +79,7 @@ fn put_front(out: &mut [u8], t: Text, bytes: &[u8], n: u64) -> Text {
 }
 
 // The first n of the bytes in two words.
-fn put_data(out: &mut [u8], t: Text, low: u64, high: u64, n: u64) -> Text {
+fn put_data_hex(out: &mut [u8], t: Text, low: u64, high: u64, n: u64) -> Text {
     let bytes = columns::bytes_of(low, high);
     put_front(out, t, &bytes, n)
 }
@@ -98,7 +97,7 @@ fn data_field(out: &mut [u8], t: Text, m: &[u64]) -> Text
         r = put_comma(out, r, i);
         r = run_text::put_decimal(out, r, m[i]);
         r = run_text::put(out, r, b':');
-        r = put_data(out, r, low, high, m[Layout::DATA_CAP + i]);
+        r = put_data_hex(out, r, low, high, m[Layout::DATA_CAP + i]);
         i += 1;
     }
     run_text::put(out, r, b']')
@@ -116,7 +115,7 @@ fn own_field(out: &mut [u8], t: Text, st: &[u64]) -> Text
     let a = run_text::put_bytes(out, t, b"state me=");
     if st[Layout::OWN_PRESENT] == 1 {
         let b = run_text::put(out, a, b'x');
-        return put_data(
+        return put_data_hex(
             out,
             b,
             st[Layout::OWN_LOW],
@@ -198,7 +197,7 @@ fn put_state(out: &mut [u8], t: Text, st: &[u64]) -> Text
 }
 
 // A line for each record, taken by its whole length; one that the end cuts off is the last, and is shown as far as it goes.
-fn put_records(out: &mut [u8], t: Text, records: &[u8]) -> Text {
+fn put_record_bytes(out: &mut [u8], t: Text, records: &[u8]) -> Text {
     let mut r = t;
     let mut rest = records;
     while record::HEADER <= rest.len() {
@@ -218,14 +217,14 @@ fn put_records(out: &mut [u8], t: Text, records: &[u8]) -> Text {
 }
 
 // The line of a code and the draws used.
-pub fn put_answer(out: &mut [u8], t: Text, code: u32, draws: usize) -> Text {
+pub fn put_trace_answer(out: &mut [u8], t: Text, code: u32, draws: usize) -> Text {
     let a = number_field(out, t, b"= ", code as u64);
     let b = number_field(out, a, b" ", draws as u64);
     run_text::put(out, b, b'\n')
 }
 
 // One event: its output records, its code with the draws used, and the state.
-pub fn put_event(
+pub fn put_trace_event(
     out: &mut [u8],
     t: Text,
     records: &[u8],
@@ -235,7 +234,7 @@ pub fn put_event(
 ) -> Text
     requires { ⌜ length (now st) ≡ words ⌝ }
 {
-    let a = put_records(out, t, records);
-    let b = put_answer(out, a, code, draws);
+    let a = put_record_bytes(out, t, records);
+    let b = put_trace_answer(out, a, code, draws);
     put_state(out, b, st)
 }

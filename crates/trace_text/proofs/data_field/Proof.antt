@@ -2,8 +2,8 @@ use borrow.Author.Needs.{needs}
 use Prim.Native.Nat.{_-_, _≤_}
 use mathlib.Core.Path.{_≡_}
 use lib.ListN.{length}
-use Rattle.trace_replay.proofs.event_text.data_field.Statement.{statement}
-use Rattle.trace_replay.proofs.event_text.data_field.Tie as tie
+use Rattle.trace_text.proofs.data_field.Statement.{statement}
+use Rattle.trace_text.proofs.data_field.Tie as tie
 
 abbrev Inv-loop : tie.InvT-loop
 Inv-loop out₀ m n r₀ i₀ out r i = (length out ≡ length out₀) × (i ≤ n) × (n ≤ 80) × (length m ≡ 321)
@@ -71,17 +71,17 @@ put-decimal-requires c κs = search needs
 put-requires : tie.Need-put-requires Inv-loop μ-loop
 put-requires c κs = search needs
 
-add-put-data : tie.Need-add-put-data Inv-loop μ-loop
-add-put-data c = search needs
+add-put-data-hex : tie.Need-add-put-data-hex Inv-loop μ-loop
+add-put-data-hex c = search needs
 
-mul-put-data : tie.Need-mul-put-data Inv-loop μ-loop
-mul-put-data c = search needs
+mul-put-data-hex : tie.Need-mul-put-data-hex Inv-loop μ-loop
+mul-put-data-hex c = search needs
 
-shared-slice-read-put-data : tie.Need-shared-slice-read-put-data Inv-loop μ-loop
-shared-slice-read-put-data c = search needs
+shared-slice-read-put-data-hex : tie.Need-shared-slice-read-put-data-hex Inv-loop μ-loop
+shared-slice-read-put-data-hex c = search needs
 
-put-data-requires : tie.Need-put-data-requires Inv-loop μ-loop
-put-data-requires c κs = search needs
+put-data-hex-requires : tie.Need-put-data-hex-requires Inv-loop μ-loop
+put-data-hex-requires c κs = search needs
 
 add-i : tie.Need-add-i Inv-loop μ-loop
 add-i c = search needs
@@ -127,10 +127,10 @@ data-field-spec =
     shared-slice-read-put-decimal
     put-decimal-requires
     put-requires
-    add-put-data
-    mul-put-data
-    shared-slice-read-put-data
-    put-data-requires
+    add-put-data-hex
+    mul-put-data-hex
+    shared-slice-read-put-data-hex
+    put-data-hex-requires
     add-i
     loop-less
     loop-again

@@ -2,8 +2,8 @@ use borrow.Author.Needs.{needs}
 use Prim.Native.Nat.{_≤_, _-_}
 use mathlib.Core.Path.{_≡_}
 use lib.ListN.{length}
-use Rattle.trace_replay.proofs.event_text.put_hex.Statement.{statement}
-use Rattle.trace_replay.proofs.event_text.put_hex.Tie as tie
+use Rattle.trace_text.proofs.put_hex.Statement.{statement}
+use Rattle.trace_text.proofs.put_hex.Tie as tie
 
 abbrev Inv-loop : tie.InvT-loop
 Inv-loop out₀ s r₀ i₀ out r i = (length out ≡ length out₀) × (i ≤ length s)

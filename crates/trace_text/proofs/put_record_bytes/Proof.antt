@@ -1,8 +1,8 @@
 use borrow.Author.Needs.{needs}
 use mathlib.Core.Path.{_≡_}
 use lib.ListN.{length}
-use Rattle.trace_replay.proofs.event_text.put_records.Statement.{statement}
-use Rattle.trace_replay.proofs.event_text.put_records.Tie as tie
+use Rattle.trace_text.proofs.put_record_bytes.Statement.{statement}
+use Rattle.trace_text.proofs.put_record_bytes.Tie as tie
 
 abbrev Inv-loop : tie.InvT-loop
 Inv-loop out₀ records r₀ rest₀ out r rest = length out ≡ length out₀
@@ -61,8 +61,8 @@ same-length-3 c = search needs
 returns-3 : tie.Need-returns-3 Inv-loop μ-loop
 returns-3 c = search needs
 
-pub put-records-spec : {M : Type 1} → statement M
-put-records-spec =
+pub put-record-bytes-spec : {M : Type 1} → statement M
+put-record-bytes-spec =
     tie.close
     (tie.spec
     Inv-loop
