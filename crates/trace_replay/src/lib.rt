@@ -109,7 +109,7 @@ fn refused(code: u32, s: State) -> Ended
     let mut space = [0u8; 64];
     let text: &mut [u8] = &mut space;
     let none = run_text::start();
-    let t = trace_text::put_trace_answer(text, none, code, 0);
+    let t = run_text::put_end(text, none, code, 0);
     say_trace(text, t);
     Ended {
         code: code,

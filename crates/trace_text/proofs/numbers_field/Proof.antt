@@ -1,12 +1,13 @@
+-- The peers passed are written with their numbers. The measure is how many are left.
 use borrow.Author.Needs.{needs}
-use Prim.Native.Nat.{_+_, _-_, _^_, _≤_, _<_}
-use mathlib.Core.Path.{_≡_}
-use lib.ListN.{length}
+use Prim.Native.Nat.{_-_}
+use Rattle.trace_text.proofs.Listing.{NumbersListed, numbers-start, numbers-next, numbers-end}
+use Rattle.trace_text.proofs.Laws.{numbers-put}
 use Rattle.trace_text.proofs.numbers_field.Statement.{statement}
 use Rattle.trace_text.proofs.numbers_field.Tie as tie
 
 abbrev Inv-loop : tie.InvT-loop
-Inv-loop out₀ name m cap end n r₀ i₀ out r i = (length out ≡ length out₀) × (i ≤ n) × (n ≤ cap) × (length m ≡ cap + cap + 1) × (cap + cap < 2 ^ 60)
+Inv-loop out₀ name m cap end n r₀ i₀ out r i = NumbersListed m cap r₀ out₀ r out n i
 
 abbrev μ-loop : tie.MeasureT-loop
 μ-loop out₀ name m cap end n r₀ i₀ out r i = n - i
@@ -27,34 +28,25 @@ put-bytes-requires : tie.Need-put-bytes-requires Inv-loop μ-loop
 put-bytes-requires c κs = search needs
 
 loop-holds : tie.Need-loop-holds Inv-loop μ-loop
-loop-holds c = search needs
+loop-holds c = numbers-start _ _ _ _ _ (c .before .before .before .before .before .before .before .before .before .pre) (search needs) (c .before .before .before .before .least .ensures)
 
-put-comma-requires : tie.Need-put-comma-requires Inv-loop μ-loop
-put-comma-requires c κs = search needs
+mul-put-numbered : tie.Need-mul-put-numbered Inv-loop μ-loop
+mul-put-numbered c = search needs
 
-mul-put-decimal : tie.Need-mul-put-decimal Inv-loop μ-loop
-mul-put-decimal c = search needs
+shared-slice-read-put-numbered : tie.Need-shared-slice-read-put-numbered Inv-loop μ-loop
+shared-slice-read-put-numbered c = search needs
 
-shared-slice-read-put-decimal : tie.Need-shared-slice-read-put-decimal Inv-loop μ-loop
-shared-slice-read-put-decimal c = search needs
+add-put-numbered : tie.Need-add-put-numbered Inv-loop μ-loop
+add-put-numbered c = search needs
 
-put-decimal-requires : tie.Need-put-decimal-requires Inv-loop μ-loop
-put-decimal-requires c κs = search needs
+mul-put-numbered-2 : tie.Need-mul-put-numbered-2 Inv-loop μ-loop
+mul-put-numbered-2 c = search needs
 
-put-requires : tie.Need-put-requires Inv-loop μ-loop
-put-requires c κs = search needs
+shared-slice-read-put-numbered-2 : tie.Need-shared-slice-read-put-numbered-2 Inv-loop μ-loop
+shared-slice-read-put-numbered-2 c = search needs
 
-add-put-decimal : tie.Need-add-put-decimal Inv-loop μ-loop
-add-put-decimal c = search needs
-
-mul-put-decimal-2 : tie.Need-mul-put-decimal-2 Inv-loop μ-loop
-mul-put-decimal-2 c = search needs
-
-shared-slice-read-put-decimal-2 : tie.Need-shared-slice-read-put-decimal-2 Inv-loop μ-loop
-shared-slice-read-put-decimal-2 c = search needs
-
-put-decimal-requires-2 : tie.Need-put-decimal-requires-2 Inv-loop μ-loop
-put-decimal-requires-2 c κs = search needs
+put-numbered-requires : tie.Need-put-numbered-requires Inv-loop μ-loop
+put-numbered-requires c κs = search needs
 
 add-i : tie.Need-add-i Inv-loop μ-loop
 add-i c = search needs
@@ -63,16 +55,16 @@ loop-less : tie.Need-loop-less Inv-loop μ-loop
 loop-less c = search needs
 
 loop-again : tie.Need-loop-again Inv-loop μ-loop
-loop-again c = search needs
+loop-again c = search (numbers-next, needs)
 
-put-requires-2 : tie.Need-put-requires-2 Inv-loop μ-loop
-put-requires-2 c κs = search needs
+put-requires : tie.Need-put-requires Inv-loop μ-loop
+put-requires c κs = search needs
 
 same-length : tie.Need-same-length Inv-loop μ-loop
 same-length c = search needs
 
 returns : tie.Need-returns Inv-loop μ-loop
-returns c = search needs
+returns c = numbers-put _ _ _ _ _ _ _ _ _ _ _ (c .before .before .put .ensures) (numbers-end _ _ _ _ _ _ _ _ (c .before .before .before .before .before .loop .inv) (search needs)) (c .before .before .before .before .before .before .before .before .put-bytes .ensures)
 
 pub numbers-field-spec : {M : Type 1} → statement M
 numbers-field-spec =
@@ -86,18 +78,15 @@ numbers-field-spec =
     least-requires
     put-bytes-requires
     loop-holds
-    put-comma-requires
-    mul-put-decimal
-    shared-slice-read-put-decimal
-    put-decimal-requires
-    put-requires
-    add-put-decimal
-    mul-put-decimal-2
-    shared-slice-read-put-decimal-2
-    put-decimal-requires-2
+    mul-put-numbered
+    shared-slice-read-put-numbered
+    add-put-numbered
+    mul-put-numbered-2
+    shared-slice-read-put-numbered-2
+    put-numbered-requires
     add-i
     loop-less
     loop-again
-    put-requires-2
+    put-requires
     same-length
     returns)

@@ -1,0 +1,24 @@
+use borrow.Author.Needs.{needs}
+use Rattle.trace_text.proofs.Laws.{event-put}
+use Rattle.trace_text.proofs.put_trace_event.Statement.{statement}
+use Rattle.trace_text.proofs.put_trace_event.Tie as tie
+
+put-record-bytes-requires : tie.Need-put-record-bytes-requires
+put-record-bytes-requires c κs = search needs
+
+put-end-requires : tie.Need-put-end-requires
+put-end-requires c κs = search needs
+
+put-state-requires : tie.Need-put-state-requires
+put-state-requires c κs = search needs
+
+same-length : tie.Need-same-length
+same-length c = search needs
+
+returns : tie.Need-returns
+returns c = event-put _ _ _ _ _ _ _ _ _ _ _ _ (c .before .before .put-state .ensures) (c .before .before .before .before .before .before .before .put-end .ensures) (c .before .before .before .before .before .before .before .before .before .before .before .put-record-bytes .ensures)
+
+pub put-trace-event-spec : {M : Type 1} → statement M
+put-trace-event-spec =
+    tie.close
+    (tie.spec put-record-bytes-requires put-end-requires put-state-requires same-length returns)

@@ -1,0 +1,73 @@
+use borrow.Author.Needs.{needs}
+use Rattle.trace_text.specs.Items.{ascii}
+use Rattle.trace_text.proofs.Laws.{limit-automatic, limit-requests, limit-recovery}
+use Rattle.trace_text.proofs.refill_field.Statement.{statement}
+use Rattle.trace_text.proofs.refill_field.Tie as tie
+
+slice-aggregate-put-bytes : tie.Need-slice-aggregate-put-bytes
+slice-aggregate-put-bytes c = search needs
+
+put-bytes-requires : tie.Need-put-bytes-requires
+put-bytes-requires c κs = search needs
+
+enum-told : tie.Need-enum-told
+enum-told c = search needs
+
+put-requires : tie.Need-put-requires
+put-requires c κs = search needs
+
+enum-known-l : tie.Need-enum-known-l
+enum-known-l c = search needs
+
+put-requires-2 : tie.Need-put-requires-2
+put-requires-2 c κs = search needs
+
+put-decimal-requires : tie.Need-put-decimal-requires
+put-decimal-requires c κs = search needs
+
+enum-told-2 : tie.Need-enum-told-2
+enum-told-2 c = search needs
+
+put-requires-3 : tie.Need-put-requires-3
+put-requires-3 c κs = search needs
+
+same-length : tie.Need-same-length
+same-length c = search needs
+
+returns : tie.Need-returns
+unfolding ascii
+returns c = limit-automatic _ _ _ _ _ (c .before .before .before .before .before .before .before .before .put-bytes .ensures) _ _ (search needs) (c .before .before .put .ensures)
+
+same-length-2 : tie.Need-same-length-2
+same-length-2 c = search needs
+
+returns-2 : tie.Need-returns-2
+unfolding ascii
+returns-2 c = limit-requests _ _ _ _ _ (c .before .before .before .before .before .before .before .before .before .before .before .before .before .put-bytes .ensures) _ _ _ _ _ (search needs) (c .before .before .put-decimal .ensures) (c .before .before .before .before .before .before .put2 .ensures)
+
+same-length-3 : tie.Need-same-length-3
+same-length-3 c = search needs
+
+returns-3 : tie.Need-returns-3
+unfolding ascii
+returns-3 c = limit-recovery _ _ _ _ _ (c .before .before .before .before .before .before .before .before .put-bytes .ensures) _ _ (search needs) (c .before .before .put3 .ensures)
+
+pub refill-field-spec : {M : Type 1} → statement M
+refill-field-spec =
+    tie.close
+    (tie.spec
+    slice-aggregate-put-bytes
+    put-bytes-requires
+    enum-told
+    put-requires
+    enum-known-l
+    put-requires-2
+    put-decimal-requires
+    enum-told-2
+    put-requires-3
+    same-length
+    returns
+    same-length-2
+    returns-2
+    same-length-3
+    returns-3)
