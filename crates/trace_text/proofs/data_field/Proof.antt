@@ -93,7 +93,11 @@ same-length c = search needs
 
 returns : tie.Need-returns Inv-loop μ-loop
 unfolding ascii
-returns c = data-put _ _ _ _ _ _ _ _ _ (c .before .before .put .ensures) (data-end _ _ _ _ _ _ _ (c .before .before .before .before .before .loop .inv) (search needs)) (c .before .before .before .before .before .before .before .before .put-bytes .ensures)
+returns c =
+    let at-put = c .before .before in
+    let at-loop = at-put .before .before .before in
+    let at-bytes = at-loop .before .before .before in
+    data-put _ _ _ _ _ _ _ _ _ (at-put .put .ensures) (data-end _ _ _ _ _ _ _ (at-loop .loop .inv) (search needs)) (at-bytes .put-bytes .ensures)
 
 pub data-field-spec : {M : Type 1} → statement M
 data-field-spec =

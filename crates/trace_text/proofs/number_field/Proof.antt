@@ -13,7 +13,10 @@ same-length : tie.Need-same-length
 same-length c = search needs
 
 returns : tie.Need-returns
-returns c = number-put _ _ _ _ _ _ _ _ (c .before .before .put-decimal .ensures) (c .before .before .before .before .before .before .put-bytes .ensures)
+returns c =
+    let at-decimal = c .before .before in
+    let at-bytes = at-decimal .before .before .before .before in
+    number-put _ _ _ _ _ _ _ _ (at-decimal .put-decimal .ensures) (at-bytes .put-bytes .ensures)
 
 pub number-field-spec : {M : Type 1} → statement M
 number-field-spec =

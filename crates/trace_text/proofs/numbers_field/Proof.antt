@@ -28,7 +28,10 @@ put-bytes-requires : tie.Need-put-bytes-requires Inv-loop μ-loop
 put-bytes-requires c κs = search needs
 
 loop-holds : tie.Need-loop-holds Inv-loop μ-loop
-loop-holds c = numbers-start _ _ _ _ _ (c .before .before .before .before .before .before .before .before .before .pre) (search needs) (c .before .before .before .before .least .ensures)
+loop-holds c =
+    let at-least = c .before .before .before .before in
+    let first = at-least .before .before .before .before .before in
+    numbers-start _ _ _ _ _ (first .pre) (search needs) (at-least .least .ensures)
 
 mul-put-numbered : tie.Need-mul-put-numbered Inv-loop μ-loop
 mul-put-numbered c = search needs
@@ -64,7 +67,11 @@ same-length : tie.Need-same-length Inv-loop μ-loop
 same-length c = search needs
 
 returns : tie.Need-returns Inv-loop μ-loop
-returns c = numbers-put _ _ _ _ _ _ _ _ _ _ _ (c .before .before .put .ensures) (numbers-end _ _ _ _ _ _ _ _ (c .before .before .before .before .before .loop .inv) (search needs)) (c .before .before .before .before .before .before .before .before .put-bytes .ensures)
+returns c =
+    let at-put = c .before .before in
+    let at-loop = at-put .before .before .before in
+    let at-bytes = at-loop .before .before .before in
+    numbers-put _ _ _ _ _ _ _ _ _ _ _ (at-put .put .ensures) (numbers-end _ _ _ _ _ _ _ _ (at-loop .loop .inv) (search needs)) (at-bytes .put-bytes .ensures)
 
 pub numbers-field-spec : {M : Type 1} → statement M
 numbers-field-spec =

@@ -33,7 +33,12 @@ same-length c = search needs
 
 returns : tie.Need-returns
 unfolding ascii
-returns c = own-some _ _ _ _ _ _ _ _ _ (c .before .before .before .before .before .before .before .before .before .before .before .if1 .taken) (c .before .before .put-data-hex .ensures) (c .before .before .before .before .before .before .before .before .before .put .ensures) (c .before .before .before .before .before .before .before .before .before .before .before .before .before .before .before .put-bytes .ensures)
+returns c =
+    let at-hex = c .before .before in
+    let at-put = at-hex .before .before .before .before .before .before .before in
+    let at-if1 = at-put .before .before in
+    let at-bytes = at-if1 .before .before .before .before in
+    own-some _ _ _ _ _ _ _ _ _ (at-if1 .if1 .taken) (at-hex .put-data-hex .ensures) (at-put .put .ensures) (at-bytes .put-bytes .ensures)
 
 put-requires-2 : tie.Need-put-requires-2
 put-requires-2 c κs = search needs
@@ -43,7 +48,11 @@ same-length-2 c = search needs
 
 returns-2 : tie.Need-returns-2
 unfolding ascii
-returns-2 c = own-none _ _ _ _ _ _ _ (c .before .before .before .before .if1 .left) (c .before .before .put2 .ensures) (c .before .before .before .before .before .before .before .before .put-bytes .ensures)
+returns-2 c =
+    let at-put2 = c .before .before in
+    let at-if1 = at-put2 .before .before in
+    let at-bytes = at-if1 .before .before .before .before in
+    own-none _ _ _ _ _ _ _ (at-if1 .if1 .left) (at-put2 .put2 .ensures) (at-bytes .put-bytes .ensures)
 
 pub own-field-spec : {M : Type 1} → statement M
 own-field-spec =

@@ -52,7 +52,11 @@ same-length : tie.Need-same-length Inv-loop μ-loop
 same-length c = search needs
 
 returns : tie.Need-returns Inv-loop μ-loop
-returns c = peers-put _ _ _ _ _ _ _ _ _ _ _ (c .before .before .put .ensures) (peers-end _ _ _ _ _ _ _ _ (c .before .before .before .before .before .loop .inv) (search needs)) (c .before .before .before .before .before .before .before .before .put-bytes .ensures)
+returns c =
+    let at-put = c .before .before in
+    let at-loop = at-put .before .before .before in
+    let at-bytes = at-loop .before .before .before in
+    peers-put _ _ _ _ _ _ _ _ _ _ _ (at-put .put .ensures) (peers-end _ _ _ _ _ _ _ _ (at-loop .loop .inv) (search needs)) (at-bytes .put-bytes .ensures)
 
 pub peers-field-spec : {M : Type 1} → statement M
 peers-field-spec =

@@ -49,11 +49,12 @@ same-length c = search needs
 returns : tie.Need-returns
 unfolding ascii
 returns c =
-    let at-short = c .before .before .before .before .before .before in
+    let at-put = c .before .before in
+    let at-short = at-put .before .before .before .before in
     let at-alone = at-short .before .before .before .before .before .before in
     let at-interval = at-alone .before .before .before .before .before .before in
     let at-timers = at-interval .before .before .before .before .before .before in
-    counts-put _ _ _ _ _ _ _ _ _ _ _ _ _ (c .before .before .put .ensures) (at-short .number-field4 .ensures) (at-alone .number-field3 .ensures) (at-interval .number-field2 .ensures) (at-timers .number-field .ensures)
+    counts-put _ _ _ _ _ _ _ _ _ _ _ _ _ (at-put .put .ensures) (at-short .number-field4 .ensures) (at-alone .number-field3 .ensures) (at-interval .number-field2 .ensures) (at-timers .number-field .ensures)
 
 pub put-counts-spec : {M : Type 1} → statement M
 put-counts-spec =

@@ -16,7 +16,11 @@ same-length : tie.Need-same-length
 same-length c = search needs
 
 returns : tie.Need-returns
-returns c = same-front (c .before .before .before .before .before .before .before .args .n) _ _ _ _ _ _ (c .before .before .before .before .before .bytes-of .ensures) (c .before .before .put-front .ensures)
+returns c =
+    let at-front = c .before .before in
+    let at-bytes = at-front .before .before .before in
+    let first = at-bytes .before .before in
+    same-front (first .args .n) _ _ _ _ _ _ (at-bytes .bytes-of .ensures) (at-front .put-front .ensures)
 
 pub put-data-hex-spec : {M : Type 1} → statement M
 put-data-hex-spec =

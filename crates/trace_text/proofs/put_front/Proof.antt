@@ -16,7 +16,10 @@ same-length : tie.Need-same-length
 same-length c = search needs
 
 returns : tie.Need-returns
-returns c = front-put _ _ _ _ _ _ _ (c .before .before .before .before .before .least .ensures) (c .before .before .put-hex .ensures)
+returns c =
+    let at-hex = c .before .before in
+    let at-least = at-hex .before .before .before in
+    front-put _ _ _ _ _ _ _ (at-least .least .ensures) (at-hex .put-hex .ensures)
 
 pub put-front-spec : {M : Type 1} → statement M
 put-front-spec =

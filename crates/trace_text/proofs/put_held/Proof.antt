@@ -16,7 +16,11 @@ same-length : tie.Need-same-length
 same-length c = search needs
 
 returns : tie.Need-returns
-returns c = held-put _ _ _ _ _ _ _ _ _ _ _ (c .before .before .put-data-hex .ensures) (c .before .before .before .before .before .before .put .ensures) (c .before .before .before .before .before .before .before .before .before .before .put-peer .ensures)
+returns c =
+    let at-hex = c .before .before in
+    let at-put = at-hex .before .before .before .before in
+    let at-peer = at-put .before .before .before .before in
+    held-put _ _ _ _ _ _ _ _ _ _ _ (at-hex .put-data-hex .ensures) (at-put .put .ensures) (at-peer .put-peer .ensures)
 
 pub put-held-spec : {M : Type 1} → statement M
 put-held-spec =

@@ -38,9 +38,12 @@ loop-less c = search needs
 
 loop-again : tie.Need-loop-again Inv-loop μ-loop
 loop-again c =
-    let at-digit = c .before .before .before .before .before .before .before .before in
+    let at-put2 = c .before .before in
+    let at-digit2 = at-put2 .before in
+    let at-put = at-digit2 .before .before .before .before in
+    let at-digit = at-put .before in
     let at-loop = at-digit .before .before .before .before in
-    hex-next _ _ _ _ _ _ (at-loop .loop .inv) _ _ _ _ _ _ (search needs) (at-digit .hex-digit .ensures) (c .before .before .before .hex-digit2 .ensures) (c .before .before .put2 .ensures) (c .before .before .before .before .before .before .before .put .ensures) (search needs)
+    hex-next _ _ _ _ _ _ (at-loop .loop .inv) _ _ _ _ _ _ (search needs) (at-digit .hex-digit .ensures) (at-digit2 .hex-digit2 .ensures) (at-put2 .put2 .ensures) (at-put .put .ensures) (search needs)
 
 same-length : tie.Need-same-length Inv-loop μ-loop
 same-length c = search needs

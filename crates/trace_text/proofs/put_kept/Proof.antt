@@ -58,7 +58,13 @@ same-length c = search needs
 
 returns : tie.Need-returns
 unfolding ascii part
-returns c = kept-put _ _ _ _ _ _ _ _ _ _ _ _ (c .before .before .before .before .before .before .before .before .before .before .before .before .before .before .before .before .before .before .limit-of .ensures) (c .before .before .refill-field .ensures) (c .before .before .before .before .before .before .peers-field2 .ensures) (c .before .before .before .before .before .before .before .before .before .before .before .peers-field .ensures) (c .before .before .before .before .before .before .before .before .before .before .before .before .before .before .before .before .data-field .ensures)
+returns c =
+    let at-refill = c .before .before in
+    let at-refused = at-refill .before .before .before .before in
+    let at-alive = at-refused .before .before .before .before .before in
+    let at-data = at-alive .before .before .before .before .before in
+    let at-limit = at-data .before .before in
+    kept-put _ _ _ _ _ _ _ _ _ _ _ _ (at-limit .limit-of .ensures) (at-refill .refill-field .ensures) (at-refused .peers-field2 .ensures) (at-alive .peers-field .ensures) (at-data .data-field .ensures)
 
 pub put-kept-spec : {M : Type 1} → statement M
 put-kept-spec =

@@ -17,8 +17,10 @@ same-length c = search needs
 
 returns : tie.Need-returns
 returns c =
-    let at-put = c .before .before .before .before .before .before in
-    numbered-put _ _ _ _ _ _ _ _ _ _ _ (c .before .before .put-decimal .ensures) (at-put .put .ensures) (at-put .before .before .before .before .put-peer .ensures)
+    let at-decimal = c .before .before in
+    let at-put = at-decimal .before .before .before .before in
+    let at-peer = at-put .before .before .before .before in
+    numbered-put _ _ _ _ _ _ _ _ _ _ _ (at-decimal .put-decimal .ensures) (at-put .put .ensures) (at-peer .put-peer .ensures)
 
 pub put-numbered-spec : {M : Type 1} → statement M
 put-numbered-spec =

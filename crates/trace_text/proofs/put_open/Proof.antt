@@ -58,7 +58,12 @@ same-length c = search needs
 
 returns : tie.Need-returns
 unfolding ascii part
-returns c = open-put _ _ _ _ _ _ _ _ _ _ _ (c .before .before .number-field2 .ensures) (c .before .before .before .before .before .before .before .before .numbers-field2 .ensures) (c .before .before .before .before .before .before .before .before .before .before .before .before .before .number-field .ensures) (c .before .before .before .before .before .before .before .before .before .before .before .before .before .before .before .before .before .before .before .numbers-field .ensures)
+returns c =
+    let at-join = c .before .before in
+    let at-joins = at-join .before .before .before .before .before .before in
+    let at-request = at-joins .before .before .before .before .before in
+    let at-requests = at-request .before .before .before .before .before .before in
+    open-put _ _ _ _ _ _ _ _ _ _ _ (at-join .number-field2 .ensures) (at-joins .numbers-field2 .ensures) (at-request .number-field .ensures) (at-requests .numbers-field .ensures)
 
 pub put-open-spec : {M : Type 1} → statement M
 put-open-spec =

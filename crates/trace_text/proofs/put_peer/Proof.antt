@@ -13,7 +13,10 @@ same-length : tie.Need-same-length
 same-length c = search needs
 
 returns : tie.Need-returns
-returns c = peer-put _ _ _ _ _ _ _ _ (c .before .before .put-decimal .ensures) (c .before .before .before .before .before .before .put-comma .ensures)
+returns c =
+    let at-decimal = c .before .before in
+    let at-comma = at-decimal .before .before .before .before in
+    peer-put _ _ _ _ _ _ _ _ (at-decimal .put-decimal .ensures) (at-comma .put-comma .ensures)
 
 pub put-peer-spec : {M : Type 1} → statement M
 put-peer-spec = tie.close (tie.spec put-comma-requires put-decimal-requires same-length returns)

@@ -41,7 +41,12 @@ same-length-2 : tie.Need-same-length-2 Inv-loop μ-loop
 same-length-2 c = search needs
 
 returns-2 : tie.Need-returns-2 Inv-loop μ-loop
-returns-2 c = lines-last _ _ _ _ _ _ (c .before .before .before .before .before .before .before .before .before .before .before .before .before .before .loop .inv) _ (c .before .before .before .before .before .before .before .before .before .before .before .before .read-header .ensures) _ _ _ _ (c .before .before .before .put .ensures) (c .before .before .before .before .before .before .before .put-front .ensures) (search needs) (search needs) (search needs) (search needs)
+returns-2 c =
+    let at-put = c .before .before .before in
+    let at-front = at-put .before .before .before .before in
+    let at-header = at-front .before .before .before .before .before in
+    let at-loop = at-header .before .before in
+    lines-last _ _ _ _ _ _ (at-loop .loop .inv) _ (at-header .read-header .ensures) _ _ _ _ (at-put .put .ensures) (at-front .put-front .ensures) (search needs) (search needs) (search needs) (search needs)
 
 sub-rest : tie.Need-sub-rest Inv-loop μ-loop
 sub-rest c = search needs
@@ -56,7 +61,12 @@ loop-less : tie.Need-loop-less Inv-loop μ-loop
 loop-less c = search needs
 
 loop-again : tie.Need-loop-again Inv-loop μ-loop
-loop-again c = lines-next _ _ _ _ _ _ (c .before .before .before .before .before .before .before .before .before .before .before .before .before .before .before .loop .inv) _ (c .before .before .before .before .before .before .before .before .before .before .before .before .before .read-header .ensures) _ _ _ _ (c .before .before .before .before .put .ensures) (c .before .before .before .before .before .before .before .before .put-front .ensures) (search needs) (search needs) (search needs)
+loop-again c =
+    let at-put = c .before .before .before .before in
+    let at-front = at-put .before .before .before .before in
+    let at-header = at-front .before .before .before .before .before in
+    let at-loop = at-header .before .before in
+    lines-next _ _ _ _ _ _ (at-loop .loop .inv) _ (at-header .read-header .ensures) _ _ _ _ (at-put .put .ensures) (at-front .put-front .ensures) (search needs) (search needs) (search needs)
 
 same-length-3 : tie.Need-same-length-3 Inv-loop μ-loop
 same-length-3 c = search needs

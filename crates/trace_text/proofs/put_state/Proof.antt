@@ -22,7 +22,13 @@ same-length : tie.Need-same-length
 same-length c = search needs
 
 returns : tie.Need-returns
-returns c = state-put _ _ _ _ _ _ _ _ _ _ _ _ _ (c .before .before .put-counts .ensures) (c .before .before .before .before .before .before .put-kept .ensures) (c .before .before .before .before .before .before .before .before .before .before .put-open .ensures) (c .before .before .before .before .before .before .before .before .before .before .before .before .before .before .put-views .ensures) (c .before .before .before .before .before .before .before .before .before .before .before .before .before .before .before .before .before .before .own-field .ensures)
+returns c =
+    let at-counts = c .before .before in
+    let at-kept = at-counts .before .before .before .before in
+    let at-open = at-kept .before .before .before .before in
+    let at-views = at-open .before .before .before .before in
+    let at-own = at-views .before .before .before .before in
+    state-put _ _ _ _ _ _ _ _ _ _ _ _ _ (at-counts .put-counts .ensures) (at-kept .put-kept .ensures) (at-open .put-open .ensures) (at-views .put-views .ensures) (at-own .own-field .ensures)
 
 pub put-state-spec : {M : Type 1} → statement M
 put-state-spec =

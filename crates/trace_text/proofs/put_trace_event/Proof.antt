@@ -16,7 +16,11 @@ same-length : tie.Need-same-length
 same-length c = search needs
 
 returns : tie.Need-returns
-returns c = event-put _ _ _ _ _ _ _ _ _ _ _ _ (c .before .before .put-state .ensures) (c .before .before .before .before .before .before .before .put-end .ensures) (c .before .before .before .before .before .before .before .before .before .before .before .put-record-bytes .ensures)
+returns c =
+    let at-state = c .before .before in
+    let at-end = at-state .before .before .before .before .before in
+    let at-bytes = at-end .before .before .before .before in
+    event-put _ _ _ _ _ _ _ _ _ _ _ _ (at-state .put-state .ensures) (at-end .put-end .ensures) (at-bytes .put-record-bytes .ensures)
 
 pub put-trace-event-spec : {M : Type 1} → statement M
 put-trace-event-spec =

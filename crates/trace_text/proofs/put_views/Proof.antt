@@ -70,7 +70,12 @@ same-length c = search needs
 
 returns : tie.Need-returns
 unfolding ascii part
-returns c = views-put _ _ _ _ _ _ _ _ _ _ _ (c .before .before .peers-field4 .ensures) (c .before .before .before .before .before .before .before .peers-field3 .ensures) (c .before .before .before .before .before .before .before .before .before .before .before .before .peers-field2 .ensures) (c .before .before .before .before .before .before .before .before .before .before .before .before .before .before .before .before .before .peers-field .ensures)
+returns c =
+    let at-recent = c .before .before in
+    let at-bootstrap = at-recent .before .before .before .before .before in
+    let at-passive = at-bootstrap .before .before .before .before .before in
+    let at-active = at-passive .before .before .before .before .before in
+    views-put _ _ _ _ _ _ _ _ _ _ _ (at-recent .peers-field4 .ensures) (at-bootstrap .peers-field3 .ensures) (at-passive .peers-field2 .ensures) (at-active .peers-field .ensures)
 
 pub put-views-spec : {M : Type 1} → statement M
 put-views-spec =

@@ -36,21 +36,31 @@ same-length c = search needs
 
 returns : tie.Need-returns
 unfolding ascii
-returns c = limit-automatic _ _ _ _ _ (c .before .before .before .before .before .before .before .before .put-bytes .ensures) _ _ (search needs) (c .before .before .put .ensures)
+returns c =
+    let at-put = c .before .before in
+    let at-bytes = at-put .before .before .before .before .before .before in
+    limit-automatic _ _ _ _ _ (at-bytes .put-bytes .ensures) _ _ (search needs) (at-put .put .ensures)
 
 same-length-2 : tie.Need-same-length-2
 same-length-2 c = search needs
 
 returns-2 : tie.Need-returns-2
 unfolding ascii
-returns-2 c = limit-requests _ _ _ _ _ (c .before .before .before .before .before .before .before .before .before .before .before .before .before .put-bytes .ensures) _ _ _ _ _ (search needs) (c .before .before .put-decimal .ensures) (c .before .before .before .before .before .before .put2 .ensures)
+returns-2 c =
+    let at-decimal = c .before .before in
+    let at-put2 = at-decimal .before .before .before .before in
+    let at-bytes = at-put2 .before .before .before .before .before .before .before in
+    limit-requests _ _ _ _ _ (at-bytes .put-bytes .ensures) _ _ _ _ _ (search needs) (at-decimal .put-decimal .ensures) (at-put2 .put2 .ensures)
 
 same-length-3 : tie.Need-same-length-3
 same-length-3 c = search needs
 
 returns-3 : tie.Need-returns-3
 unfolding ascii
-returns-3 c = limit-recovery _ _ _ _ _ (c .before .before .before .before .before .before .before .before .put-bytes .ensures) _ _ (search needs) (c .before .before .put3 .ensures)
+returns-3 c =
+    let at-put3 = c .before .before in
+    let at-bytes = at-put3 .before .before .before .before .before .before in
+    limit-recovery _ _ _ _ _ (at-bytes .put-bytes .ensures) _ _ (search needs) (at-put3 .put3 .ensures)
 
 pub refill-field-spec : {M : Type 1} → statement M
 refill-field-spec =
