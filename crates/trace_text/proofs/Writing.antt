@@ -2,13 +2,15 @@
 -- Assumes nothing.
 use Prim.Native.Nat.{ℕ, suc, _+_, _-_, _/_, _%_, min, _≤_, _<_}
 use mathlib.Core.Path.{_≡_, refl, sym, ap, _∙_}
+use mathlib.Core.Bool.{Bool, cond}
 use mathlib.Core.List.{List, [], _∷_, _++_, append-nil, append-assoc}
 use native.Mathlib.Omega.{arith}
 use lib.ListN.{length, take, drop, getD, drop-of-length-le}
 use lib.Seq.{take-all, length-take-le, drop-cons}
 use lib.Dec.{leb}
 use borrow.Author.Tests.{lt-ltb, le-ltb, leb-true, leb-false}
-use Rattle.lists.proofs.Choice.{choose-yes, choose-no, split}
+use Rattle.lists.proofs.Choice.{split}
+use Rattle.io.specs.Digits.{glyph}
 use Rattle.record.specs.declared.Header.{Header}
 use Rattle.record.specs.Format.{header-length}
 use Rattle.record.specs.Read.{header-of}
@@ -17,7 +19,7 @@ use Rattle.record.proofs.Walk.{records-few, size-is, taken-none, taken-next, ta
 use Rattle.run_text.specs.declared.Text.{Text}
 use Rattle.run_text.specs.Text.{Puts}
 use Rattle.run_text.proofs.Written.{nothing, then, named}
-use Rattle.trace_text.specs.Hex.{hex-digit, hex, hex-lines}
+use Rattle.trace_text.specs.Hex.{hex, hex-lines}
 
 -- rest is to come of the whole text, after what was written
 pub record Writing (whole : List ℕ) (t : Text) (out : List ℕ) (r : Text) (o rest : List ℕ) : Type 0 where
@@ -43,13 +45,11 @@ module _ {whole : List ℕ} {t : Text} {out : List ℕ} {r : Text} {o rest : Lis
 
 -- ---- bytes in hex
 
-pub digit-low : (x : ℕ) → x % 16 < 10 → 48 + x % 16 ≡ hex-digit x
-unfolding hex-digit
-digit-low x h = sym (choose-yes _ _ _ (lt-ltb (x % 16) 10 h))
+pub digit-low : (d : ℕ) → d < 10 → 48 + d ≡ glyph d
+digit-low d h = ap (λ (b : Bool). cond b (48 + d) (87 + d)) (sym (lt-ltb d 10 h))
 
-pub digit-high : (x : ℕ) → 10 ≤ x % 16 → 87 + x % 16 ≡ hex-digit x
-unfolding hex-digit
-digit-high x h = sym (choose-no _ _ _ (le-ltb (x % 16) 10 h))
+pub digit-high : (d : ℕ) → 10 ≤ d → 97 + (d - 10) ≡ glyph d
+digit-high d h = let e : 97 + (d - 10) ≡ 87 + d = omega (arith, h) in e ∙ ap (λ (b : Bool). cond b (48 + d) (87 + d)) (sym (le-ltb d 10 h))
 
 -- i of the bytes s are written
 pub record Hexing (s : List ℕ) (t : Text) (out : List ℕ) (r : Text) (o : List ℕ) (i : ℕ) : Type 0 where
@@ -60,11 +60,11 @@ pub hex-start : (s : List ℕ) (t : Text) (out : List ℕ) → Hexing s t out t 
 hex-start s t out = record { within = omega arith; text = writing-start (hex s) t out }
 
 module _ (s : List ℕ) (t : Text) (out : List ℕ) (r : Text) (o : List ℕ) (i : ℕ) (v : Hexing s t out r o i) where
-  two-digits : i < length s → hex (drop i s) ≡ (hex-digit (getD s i 0 / 16) ∷ hex-digit (getD s i 0) ∷ []) ++ hex (drop (i + 1) s)
+  two-digits : i < length s → hex (drop i s) ≡ (glyph (getD s i 0 / 16 % 16) ∷ glyph (getD s i 0 % 16) ∷ []) ++ hex (drop (i + 1) s)
   unfolding hex
   two-digits h = let e : suc i ≡ i + 1 = omega arith in ap hex (drop-cons s i 0 h ∙ ap (λ (j : ℕ). getD s i 0 ∷ drop j s) e)
 
-  pub hex-next : (y z : ℕ) (a : Text) (o₁ : List ℕ) (b : Text) (o₂ : List ℕ) → i < length s → y ≡ hex-digit (getD s i 0 / 16) → z ≡ hex-digit (getD s i 0)
+  pub hex-next : (y z : ℕ) (a : Text) (o₁ : List ℕ) (b : Text) (o₂ : List ℕ) → i < length s → y ≡ glyph (getD s i 0 / 16 % 16) → z ≡ glyph (getD s i 0 % 16)
       → Puts (z ∷ []) a o₁ b o₂ → Puts (y ∷ []) r o a o₁ → length o₂ ≡ length o → Hexing s t out b o₂ (i + 1)
   hex-next y z a o₁ b o₂ h e f l k q = record {
     within = omega (arith, h);

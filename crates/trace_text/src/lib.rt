@@ -3,8 +3,9 @@ use run_text::Text;
 use state::Layout;
 use state::RefillLimit;
 ghost use mathlib.Core.Path.{_≡_};
-ghost use Prim.Native.Nat.{_+_, _*_, min};
+ghost use Prim.Native.Nat.{_+_, _*_, _%_, min};
 ghost use lib.ListN.{length, take};
+ghost use Rattle.io.specs.Digits.{glyph};
 ghost use Rattle.record.specs.Walk.{records-in};
 ghost use Rattle.peer.specs.Held.{data-in};
 ghost use Rattle.util.specs.Section.{items-at};
@@ -13,7 +14,7 @@ ghost use Rattle.state.specs.Layout.{words, data-places};
 ghost use Rattle.state.specs.Unpack.{own-at};
 ghost use Rattle.run_text.specs.Text.{Puts};
 ghost use Rattle.run_text.specs.Numbers.{decimal};
-ghost use Rattle.trace_text.specs.Hex.{hex-digit, hex, hex-lines};
+ghost use Rattle.trace_text.specs.Hex.{hex, hex-lines};
 ghost use Rattle.trace_text.specs.Items.{ascii, comma-before, item-text, list-field, number-field, numbered-text, held-text};
 ghost use Rattle.trace_text.specs.Event.{own-field, refill-field, views-text, open-text, kept-text, counts-text, state-line, trace-event};
 
@@ -21,10 +22,10 @@ ghost use Rattle.trace_text.specs.Event.{own-field, refill-field, views-
 
 // The lower four bits as a digit.
 fn hex_digit(x: u8) -> u8
-    ensures { λ r. ⌜ r ≡ hex-digit x ⌝ }
+    ensures { λ r. ⌜ r ≡ glyph (x % 16) ⌝ }
 {
     let d = x % 16;
-    if d < 10 { 48 + d } else { 87 + d }
+    if d < 10 { b'0' + d } else { b'a' + (d - 10) }
 }
 
 fn put_hex(out: &mut [u8], t: Text, s: &[u8]) -> Text
