@@ -1,6 +1,4 @@
 // One history of the run program's input on standard output, in the trace form: every byte of output, and every state.
-mod event_text;
-
 use hyparview::State;
 use record::Refusal;
 use run_input::Head;
@@ -93,7 +91,7 @@ fn zeroes() -> State
 }
 
 // What was written of the text; a text that did not fit is named, and not cut off.
-fn say(text: &[u8], t: Text) {
+fn say_trace(text: &[u8], t: Text) {
     let n = t.at;
     if n <= text.len() {
         if !t.full {
@@ -111,8 +109,8 @@ fn refused(code: u32, s: State) -> Ended
     let mut space = [0u8; 64];
     let text: &mut [u8] = &mut space;
     let none = run_text::start();
-    let t = event_text::put_answer(text, none, code, 0);
-    say(text, t);
+    let t = run_text::put_end(text, none, code, 0);
+    say_trace(text, t);
     Ended {
         code: code,
         state: s,
@@ -120,7 +118,7 @@ fn refused(code: u32, s: State) -> Ended
 }
 
 // The event at the place reached, and its text.
-fn step(p: Runner, b: &[u8], draws: &[u32], out: &mut [u8], text: &mut [u8]) -> Runner
+fn trace_step(p: Runner, b: &[u8], draws: &[u32], out: &mut [u8], text: &mut [u8]) -> Runner
     ensures { λ r. ⌜ r ≡ passed (length (now (out .entry))) p (now (b .entry)) (now (draws .entry)) ⌝ }
 {
     let a = run_walk::step(p, b, draws, out);
@@ -128,8 +126,8 @@ fn step(p: Runner, b: &[u8], draws: &[u32], out: &mut [u8], text: &mut [u8]) -> 
     let s = q.state;
     let words = s.words;
     let none = run_text::start();
-    let t = event_text::put_event(text, none, out, a.code, a.draws, &words);
-    say(text, t);
+    let t = trace_text::put_trace_event(text, none, out, a.code, a.draws, &words);
+    say_trace(text, t);
     q
 }
 
@@ -144,7 +142,7 @@ fn events(s: State, b: &[u8], n: usize, draws: &[u32], out: &mut [u8], text: &mu
     };
     let mut left = n;
     while left > 0 {
-        p = step(p, b, draws, out, text);
+        p = trace_step(p, b, draws, out, text);
         left -= 1;
     }
     p.state

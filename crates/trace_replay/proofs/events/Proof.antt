@@ -18,8 +18,8 @@ abbrev μ-loop : tie.MeasureT-loop
 loop-holds : tie.Need-loop-holds Inv-loop μ-loop
 loop-holds c = search (walking-start, needs)
 
-step-requires : tie.Need-step-requires Inv-loop μ-loop
-step-requires c κs = search needs
+trace-step-requires : tie.Need-trace-step-requires Inv-loop μ-loop
+trace-step-requires c κs = search needs
 
 sub-left : tie.Need-sub-left Inv-loop μ-loop
 sub-left c = search needs
@@ -40,4 +40,4 @@ returns : tie.Need-returns Inv-loop μ-loop
 returns c = search walking-end
 
 pub events-spec : {M : Type 1} → statement M
-events-spec = tie.close (tie.spec Inv-loop μ-loop loop-holds step-requires sub-left loop-less loop-again same-length same-length-2 returns)
+events-spec = tie.close (tie.spec Inv-loop μ-loop loop-holds trace-step-requires sub-left loop-less loop-again same-length same-length-2 returns)

@@ -1,12 +1,13 @@
+-- The peers passed are written. The measure is how many are left.
 use borrow.Author.Needs.{needs}
-use Prim.Native.Nat.{_+_, _-_, _≤_}
-use mathlib.Core.Path.{_≡_}
-use lib.ListN.{length}
-use Rattle.trace_replay.proofs.event_text.peers_field.Statement.{statement}
-use Rattle.trace_replay.proofs.event_text.peers_field.Tie as tie
+use Prim.Native.Nat.{_-_}
+use Rattle.trace_text.proofs.Listing.{PeersListed, peers-start, peers-next, peers-end}
+use Rattle.trace_text.proofs.Laws.{peers-put}
+use Rattle.trace_text.proofs.peers_field.Statement.{statement}
+use Rattle.trace_text.proofs.peers_field.Tie as tie
 
 abbrev Inv-loop : tie.InvT-loop
-Inv-loop out₀ name s cap n r₀ i₀ out r i = (length out ≡ length out₀) × (i ≤ n) × (n ≤ cap) × (length s ≡ cap + 1)
+Inv-loop out₀ name s cap n r₀ i₀ out r i = PeersListed s cap r₀ out₀ r out n i
 
 abbrev μ-loop : tie.MeasureT-loop
 μ-loop out₀ name s cap n r₀ i₀ out r i = n - i
@@ -24,19 +25,16 @@ put-bytes-requires : tie.Need-put-bytes-requires Inv-loop μ-loop
 put-bytes-requires c κs = search needs
 
 loop-holds : tie.Need-loop-holds Inv-loop μ-loop
-loop-holds c = search needs
+loop-holds c = search (peers-start, needs)
 
-put-comma-requires : tie.Need-put-comma-requires Inv-loop μ-loop
-put-comma-requires c κs = search needs
+mul-put-peer : tie.Need-mul-put-peer Inv-loop μ-loop
+mul-put-peer c = search needs
 
-mul-put-decimal : tie.Need-mul-put-decimal Inv-loop μ-loop
-mul-put-decimal c = search needs
+shared-slice-read-put-peer : tie.Need-shared-slice-read-put-peer Inv-loop μ-loop
+shared-slice-read-put-peer c = search needs
 
-shared-slice-read-put-decimal : tie.Need-shared-slice-read-put-decimal Inv-loop μ-loop
-shared-slice-read-put-decimal c = search needs
-
-put-decimal-requires : tie.Need-put-decimal-requires Inv-loop μ-loop
-put-decimal-requires c κs = search needs
+put-peer-requires : tie.Need-put-peer-requires Inv-loop μ-loop
+put-peer-requires c κs = search needs
 
 add-i : tie.Need-add-i Inv-loop μ-loop
 add-i c = search needs
@@ -45,7 +43,7 @@ loop-less : tie.Need-loop-less Inv-loop μ-loop
 loop-less c = search needs
 
 loop-again : tie.Need-loop-again Inv-loop μ-loop
-loop-again c = search needs
+loop-again c = search (peers-next, needs)
 
 put-requires : tie.Need-put-requires Inv-loop μ-loop
 put-requires c κs = search needs
@@ -54,7 +52,11 @@ same-length : tie.Need-same-length Inv-loop μ-loop
 same-length c = search needs
 
 returns : tie.Need-returns Inv-loop μ-loop
-returns c = search needs
+returns c =
+    let at-put = c .before .before in
+    let at-loop = at-put .before .before .before in
+    let at-bytes = at-loop .before .before .before in
+    peers-put _ _ _ _ _ _ _ _ _ _ _ (at-put .put .ensures) (peers-end _ _ _ _ _ _ _ _ (at-loop .loop .inv) (search needs)) (at-bytes .put-bytes .ensures)
 
 pub peers-field-spec : {M : Type 1} → statement M
 peers-field-spec =
@@ -67,10 +69,9 @@ peers-field-spec =
     least-requires
     put-bytes-requires
     loop-holds
-    put-comma-requires
-    mul-put-decimal
-    shared-slice-read-put-decimal
-    put-decimal-requires
+    mul-put-peer
+    shared-slice-read-put-peer
+    put-peer-requires
     add-i
     loop-less
     loop-again

@@ -1,12 +1,14 @@
+-- The peers passed are written with their data. The measure is how many are left.
 use borrow.Author.Needs.{needs}
-use Prim.Native.Nat.{_-_, _≤_}
-use mathlib.Core.Path.{_≡_}
-use lib.ListN.{length}
-use Rattle.trace_replay.proofs.event_text.data_field.Statement.{statement}
-use Rattle.trace_replay.proofs.event_text.data_field.Tie as tie
+use Prim.Native.Nat.{_-_}
+use Rattle.trace_text.specs.Items.{ascii}
+use Rattle.trace_text.proofs.Listing.{DataListed, data-start, data-next, data-end}
+use Rattle.trace_text.proofs.Laws.{data-put}
+use Rattle.trace_text.proofs.data_field.Statement.{statement}
+use Rattle.trace_text.proofs.data_field.Tie as tie
 
 abbrev Inv-loop : tie.InvT-loop
-Inv-loop out₀ m n r₀ i₀ out r i = (length out ≡ length out₀) × (i ≤ n) × (n ≤ 80) × (length m ≡ 321)
+Inv-loop out₀ m n r₀ i₀ out r i = DataListed m r₀ out₀ r out n i
 
 abbrev μ-loop : tie.MeasureT-loop
 μ-loop out₀ m n r₀ i₀ out r i = n - i
@@ -30,7 +32,7 @@ put-bytes-requires : tie.Need-put-bytes-requires Inv-loop μ-loop
 put-bytes-requires c κs = search needs
 
 loop-holds : tie.Need-loop-holds Inv-loop μ-loop
-loop-holds c = search needs
+loop-holds c = search (data-start, needs)
 
 mul-low : tie.Need-mul-low Inv-loop μ-loop
 mul-low c = search needs
@@ -56,32 +58,23 @@ mul-high-2 c = search needs
 shared-slice-read-high : tie.Need-shared-slice-read-high Inv-loop μ-loop
 shared-slice-read-high c = search needs
 
-put-comma-requires : tie.Need-put-comma-requires Inv-loop μ-loop
-put-comma-requires c κs = search needs
+mul-put-held : tie.Need-mul-put-held Inv-loop μ-loop
+mul-put-held c = search needs
 
-mul-put-decimal : tie.Need-mul-put-decimal Inv-loop μ-loop
-mul-put-decimal c = search needs
+shared-slice-read-put-held : tie.Need-shared-slice-read-put-held Inv-loop μ-loop
+shared-slice-read-put-held c = search needs
 
-shared-slice-read-put-decimal : tie.Need-shared-slice-read-put-decimal Inv-loop μ-loop
-shared-slice-read-put-decimal c = search needs
+add-put-held : tie.Need-add-put-held Inv-loop μ-loop
+add-put-held c = search needs
 
-put-decimal-requires : tie.Need-put-decimal-requires Inv-loop μ-loop
-put-decimal-requires c κs = search needs
+mul-put-held-2 : tie.Need-mul-put-held-2 Inv-loop μ-loop
+mul-put-held-2 c = search needs
 
-put-requires : tie.Need-put-requires Inv-loop μ-loop
-put-requires c κs = search needs
+shared-slice-read-put-held-2 : tie.Need-shared-slice-read-put-held-2 Inv-loop μ-loop
+shared-slice-read-put-held-2 c = search needs
 
-add-put-data : tie.Need-add-put-data Inv-loop μ-loop
-add-put-data c = search needs
-
-mul-put-data : tie.Need-mul-put-data Inv-loop μ-loop
-mul-put-data c = search needs
-
-shared-slice-read-put-data : tie.Need-shared-slice-read-put-data Inv-loop μ-loop
-shared-slice-read-put-data c = search needs
-
-put-data-requires : tie.Need-put-data-requires Inv-loop μ-loop
-put-data-requires c κs = search needs
+put-held-requires : tie.Need-put-held-requires Inv-loop μ-loop
+put-held-requires c κs = search needs
 
 add-i : tie.Need-add-i Inv-loop μ-loop
 add-i c = search needs
@@ -90,16 +83,21 @@ loop-less : tie.Need-loop-less Inv-loop μ-loop
 loop-less c = search needs
 
 loop-again : tie.Need-loop-again Inv-loop μ-loop
-loop-again c = search needs
+loop-again c = search (data-next, needs)
 
-put-requires-2 : tie.Need-put-requires-2 Inv-loop μ-loop
-put-requires-2 c κs = search needs
+put-requires : tie.Need-put-requires Inv-loop μ-loop
+put-requires c κs = search needs
 
 same-length : tie.Need-same-length Inv-loop μ-loop
 same-length c = search needs
 
 returns : tie.Need-returns Inv-loop μ-loop
-returns c = search needs
+unfolding ascii
+returns c =
+    let at-put = c .before .before in
+    let at-loop = at-put .before .before .before in
+    let at-bytes = at-loop .before .before .before in
+    data-put _ _ _ _ _ _ _ _ _ (at-put .put .ensures) (data-end _ _ _ _ _ _ _ (at-loop .loop .inv) (search needs)) (at-bytes .put-bytes .ensures)
 
 pub data-field-spec : {M : Type 1} → statement M
 data-field-spec =
@@ -122,18 +120,15 @@ data-field-spec =
     add-high
     mul-high-2
     shared-slice-read-high
-    put-comma-requires
-    mul-put-decimal
-    shared-slice-read-put-decimal
-    put-decimal-requires
-    put-requires
-    add-put-data
-    mul-put-data
-    shared-slice-read-put-data
-    put-data-requires
+    mul-put-held
+    shared-slice-read-put-held
+    add-put-held
+    mul-put-held-2
+    shared-slice-read-put-held-2
+    put-held-requires
     add-i
     loop-less
     loop-again
-    put-requires-2
+    put-requires
     same-length
     returns)

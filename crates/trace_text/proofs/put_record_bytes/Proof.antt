@@ -1,17 +1,20 @@
+-- What is left of the output is to be written. The measure is its length.
 use borrow.Author.Needs.{needs}
-use mathlib.Core.Path.{_≡_}
 use lib.ListN.{length}
-use Rattle.trace_replay.proofs.event_text.put_records.Statement.{statement}
-use Rattle.trace_replay.proofs.event_text.put_records.Tie as tie
+use Rattle.record.specs.Walk.{records-in}
+use Rattle.trace_text.specs.Hex.{hex-lines}
+use Rattle.trace_text.proofs.Writing.{Writing, writing-start, lines-few, lines-none, lines-next, lines-last}
+use Rattle.trace_text.proofs.put_record_bytes.Statement.{statement}
+use Rattle.trace_text.proofs.put_record_bytes.Tie as tie
 
 abbrev Inv-loop : tie.InvT-loop
-Inv-loop out₀ records r₀ rest₀ out r rest = length out ≡ length out₀
+Inv-loop out₀ records r₀ rest₀ out r rest = Writing (hex-lines (records-in records)) r₀ out₀ r out (hex-lines (records-in rest))
 
 abbrev μ-loop : tie.MeasureT-loop
 μ-loop out₀ records r₀ rest₀ out r rest = length rest
 
 loop-holds : tie.Need-loop-holds Inv-loop μ-loop
-loop-holds c = search needs
+loop-holds c = search (writing-start, needs)
 
 read-header-requires : tie.Need-read-header-requires Inv-loop μ-loop
 read-header-requires c κs = search needs
@@ -23,7 +26,7 @@ same-length : tie.Need-same-length Inv-loop μ-loop
 same-length c = search needs
 
 returns : tie.Need-returns Inv-loop μ-loop
-returns c = search needs
+returns c = search lines-none
 
 cast-put-front : tie.Need-cast-put-front Inv-loop μ-loop
 cast-put-front c = search needs
@@ -38,7 +41,12 @@ same-length-2 : tie.Need-same-length-2 Inv-loop μ-loop
 same-length-2 c = search needs
 
 returns-2 : tie.Need-returns-2 Inv-loop μ-loop
-returns-2 c = search needs
+returns-2 c =
+    let at-put = c .before .before .before in
+    let at-front = at-put .before .before .before .before in
+    let at-header = at-front .before .before .before .before .before in
+    let at-loop = at-header .before .before in
+    lines-last _ _ _ _ _ _ (at-loop .loop .inv) _ (at-header .read-header .ensures) _ _ _ _ (at-put .put .ensures) (at-front .put-front .ensures) (search needs) (search needs) (search needs) (search needs)
 
 sub-rest : tie.Need-sub-rest Inv-loop μ-loop
 sub-rest c = search needs
@@ -53,16 +61,21 @@ loop-less : tie.Need-loop-less Inv-loop μ-loop
 loop-less c = search needs
 
 loop-again : tie.Need-loop-again Inv-loop μ-loop
-loop-again c = search needs
+loop-again c =
+    let at-put = c .before .before .before .before in
+    let at-front = at-put .before .before .before .before in
+    let at-header = at-front .before .before .before .before .before in
+    let at-loop = at-header .before .before in
+    lines-next _ _ _ _ _ _ (at-loop .loop .inv) _ (at-header .read-header .ensures) _ _ _ _ (at-put .put .ensures) (at-front .put-front .ensures) (search needs) (search needs) (search needs)
 
 same-length-3 : tie.Need-same-length-3 Inv-loop μ-loop
 same-length-3 c = search needs
 
 returns-3 : tie.Need-returns-3 Inv-loop μ-loop
-returns-3 c = search needs
+returns-3 c = search lines-few
 
-pub put-records-spec : {M : Type 1} → statement M
-put-records-spec =
+pub put-record-bytes-spec : {M : Type 1} → statement M
+put-record-bytes-spec =
     tie.close
     (tie.spec
     Inv-loop

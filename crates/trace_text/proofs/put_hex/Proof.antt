@@ -1,18 +1,19 @@
+-- The bytes passed are written. The measure is what is left.
 use borrow.Author.Needs.{needs}
-use Prim.Native.Nat.{_≤_, _-_}
-use mathlib.Core.Path.{_≡_}
+use Prim.Native.Nat.{_-_}
 use lib.ListN.{length}
-use Rattle.trace_replay.proofs.event_text.put_hex.Statement.{statement}
-use Rattle.trace_replay.proofs.event_text.put_hex.Tie as tie
+use Rattle.trace_text.proofs.Writing.{Hexing, hex-start, hex-next, hex-end}
+use Rattle.trace_text.proofs.put_hex.Statement.{statement}
+use Rattle.trace_text.proofs.put_hex.Tie as tie
 
 abbrev Inv-loop : tie.InvT-loop
-Inv-loop out₀ s r₀ i₀ out r i = (length out ≡ length out₀) × (i ≤ length s)
+Inv-loop out₀ s r₀ i₀ out r i = Hexing s r₀ out₀ r out i
 
 abbrev μ-loop : tie.MeasureT-loop
 μ-loop out₀ s r₀ i₀ out r i = length s - i
 
 loop-holds : tie.Need-loop-holds Inv-loop μ-loop
-loop-holds c = search needs
+loop-holds c = search (hex-start, needs)
 
 shared-slice-read-x : tie.Need-shared-slice-read-x Inv-loop μ-loop
 shared-slice-read-x c = search needs
@@ -36,13 +37,19 @@ loop-less : tie.Need-loop-less Inv-loop μ-loop
 loop-less c = search needs
 
 loop-again : tie.Need-loop-again Inv-loop μ-loop
-loop-again c = search needs
+loop-again c =
+    let at-put2 = c .before .before in
+    let at-digit2 = at-put2 .before in
+    let at-put = at-digit2 .before .before .before .before in
+    let at-digit = at-put .before in
+    let at-loop = at-digit .before .before .before .before in
+    hex-next _ _ _ _ _ _ (at-loop .loop .inv) _ _ _ _ _ _ (search needs) (at-digit .hex-digit .ensures) (at-digit2 .hex-digit2 .ensures) (at-put2 .put2 .ensures) (at-put .put .ensures) (search needs)
 
 same-length : tie.Need-same-length Inv-loop μ-loop
 same-length c = search needs
 
 returns : tie.Need-returns Inv-loop μ-loop
-returns c = search needs
+returns c = search hex-end
 
 pub put-hex-spec : {M : Type 1} → statement M
 put-hex-spec =

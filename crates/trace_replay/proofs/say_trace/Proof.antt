@@ -1,7 +1,7 @@
 use borrow.Author.Needs.{needs}
 use Rattle.run_walk.proofs.Draws.{counted}
-use Rattle.trace_replay.proofs.say.Statement.{statement}
-use Rattle.trace_replay.proofs.say.Tie as tie
+use Rattle.trace_replay.proofs.say_trace.Statement.{statement}
+use Rattle.trace_replay.proofs.say_trace.Tie as tie
 
 slice-aggregate-write-all : tie.Need-slice-aggregate-write-all
 slice-aggregate-write-all c = search (counted, needs)
@@ -21,8 +21,8 @@ write-all-requires-2 c κs = search needs
 returns-2 : tie.Need-returns-2
 returns-2 c = search needs
 
-pub say-spec : {M : Type 1} → statement M
-say-spec =
+pub say-trace-spec : {M : Type 1} → statement M
+say-trace-spec =
     tie.close
     (tie.spec
     slice-aggregate-write-all

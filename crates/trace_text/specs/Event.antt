@@ -1,0 +1,70 @@
+-- The text of an event: its output records, its code with the draws used, and the state that it led to.
+-- Assumes nothing.
+use Prim.Native.Nat.{ℕ}
+use mathlib.Core.List.{List, _++_}
+use mathlib.Core.Option.{none, some}
+use Rattle.peer.specs.Data.{Data}
+use Rattle.peer.specs.Held.{data-in}
+use Rattle.record.specs.Walk.{records-in}
+use Rattle.util.specs.Section.{items-at}
+use Rattle.columns.specs.Columns.{numbers-at, data-map-at}
+use Rattle.state.specs.declared.RefillLimit.{RefillLimit}
+use Rattle.state.specs.declared.RefillLimit.the-variants.{Automatic, Requests, Recovery}
+use Rattle.state.specs.Layout as layout
+use Rattle.state.specs.Layout.{few-places, all-places, data-places}
+use Rattle.state.specs.Unpack.{own-at, limit-at}
+use Rattle.run_text.specs.Numbers.{decimal}
+use Rattle.run_text.specs.Lines.{end-line}
+use Rattle.trace_text.specs.Hex.{hex, hex-lines}
+use Rattle.trace_text.specs.Items.{ascii, list-field, number-field, numbered-text, held-text}
+
+-- the station's own data, after an `x`, or `-` where there is none
+unfoldable pub own-field : Data → List ℕ
+own-field none = ascii "state me=" ++ ascii "-"
+own-field (some b) = ascii "state me=" ++ (ascii "x" ++ hex b)
+
+-- the limit on refills
+unfoldable pub refill-field : RefillLimit → List ℕ
+refill-field Automatic = ascii " refill=" ++ ascii "A"
+refill-field (Requests n) = ascii " refill=" ++ (ascii "R" ++ decimal n)
+refill-field Recovery = ascii " refill=" ++ ascii "V"
+
+-- the views and the peers beside them, of the words xs; of each list no more than it has places
+unfoldable pub views-text : List ℕ → List ℕ
+views-text xs =
+    list-field (ascii " active=[") decimal (items-at few-places (layout.active-part xs))
+    ++ (list-field (ascii " passive=[") decimal (items-at all-places (layout.passive-part xs))
+    ++ (list-field (ascii " bootstrap=[") decimal (items-at few-places (layout.bootstrap-part xs))
+    ++ list-field (ascii " recent=[") decimal (items-at few-places (layout.recent-part xs))))
+
+-- the open requests and joins
+unfoldable pub open-text : List ℕ → List ℕ
+open-text xs =
+    list-field (ascii " requests=[") numbered-text (numbers-at all-places (layout.requests-part xs))
+    ++ (number-field (ascii " next_request=") (layout.next-neighbor-request xs)
+    ++ (list-field (ascii " joins=[") numbered-text (numbers-at few-places (layout.joins-part xs))
+    ++ number-field (ascii " next_join=") (layout.next-join xs)))
+
+-- what is kept of other peers, and the limit on refills
+unfoldable pub kept-text : List ℕ → List ℕ
+kept-text xs =
+    list-field (ascii " data=[") held-text (data-map-at data-places (layout.peer-data-part xs))
+    ++ (list-field (ascii " alive=[") decimal (items-at all-places (layout.alive-part xs))
+    ++ (list-field (ascii " refused=[") decimal (items-at all-places (layout.refused-part xs))
+    ++ refill-field (limit-at xs)))
+
+-- the timers, the interval and the pass counts, which end the line
+unfoldable pub counts-text : List ℕ → List ℕ
+counts-text xs =
+    number-field (ascii " timers=") (layout.timers-scheduled xs)
+    ++ (number-field (ascii " interval=") (layout.next-shuffle-interval xs)
+    ++ (number-field (ascii " alone=") (layout.passes-alone xs)
+    ++ (number-field (ascii " short=") (layout.passes-short xs) ++ ascii "\n")))
+
+-- the line of a state, of its words
+unfoldable pub state-line : List ℕ → List ℕ
+state-line xs = own-field (data-in (own-at xs)) ++ (views-text xs ++ (open-text xs ++ (kept-text xs ++ counts-text xs)))
+
+-- an event: its output, its code, the draws used, and the words of the state
+unfoldable pub trace-event : List ℕ → ℕ → ℕ → List ℕ → List ℕ
+trace-event out code draws xs = hex-lines (records-in out) ++ (end-line code draws ++ state-line xs)
