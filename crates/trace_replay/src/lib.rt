@@ -49,7 +49,7 @@ impl TraceStart {
 }
 
 // The new station with these counters.
-fn started(s: State, start: TraceStart) -> State
+fn with_counters(s: State, start: TraceStart) -> State
     ensures { λ r. ⌜ Counting start s r ⌝ }
 {
     let mut words = s.words;
@@ -185,7 +185,7 @@ fn whole(b: &[u8], head: Head, start: TraceStart) -> Ended
     if m.code != 0 {
         return refused(m.code, fresh);
     }
-    let s = started(fresh, start);
+    let s = with_counters(fresh, start);
     let room = room_of(start);
     let last = with_space(s, b, head, room);
     Ended {

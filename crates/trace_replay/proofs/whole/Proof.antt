@@ -15,8 +15,8 @@ refused-requires c κs = search needs
 returns : tie.Need-returns
 returns c = search whole-refused
 
-started-requires : tie.Need-started-requires
-started-requires c κs = search needs
+with-counters-requires : tie.Need-with-counters-requires
+with-counters-requires c κs = search needs
 
 room-of-requires : tie.Need-room-of-requires
 room-of-requires c κs = search needs
@@ -35,7 +35,7 @@ whole-spec =
     new-requires
     refused-requires
     returns
-    started-requires
+    with-counters-requires
     room-of-requires
     with-space-requires
     returns-2)
