@@ -1,4 +1,4 @@
--- Document 01, "A station's whole history": the records of an output, which the ledger, the tally, the run program's lines and the timer queue all take alike.
+-- Document 01, "A station's whole history": the records of an output, which the ledger, the tally, the run program's lines, the trace and the timer queue all take alike.
 -- Assumes nothing.
 use Prim.Native.Nat.{ℕ, zero, suc}
 use mathlib.Core.List.{List, [], _∷_, map}
