@@ -52,6 +52,9 @@ SECTIONS = [
 # the columns of each kind of section; the count is one word more
 COLUMNS = {"set": 1, "numbers": 2, "data": 4}
 
+# the name of each number of places, and whose value it is where another crate names it
+PLACES = {8: ("few-places", "active-places"), 32: ("all-places", "working-places"), 80: ("data-places", None)}
+
 # what a law is given of the new words: that they hold x
 HELD = {
     "set": ("HoldsSet", "List ℕ"),
@@ -65,7 +68,7 @@ CAPACITY = {"active": "active-view-capacity", "passive": "passive-view-capacity"
 # the numbers that a law stores: the word, the field of the definition's station, its type, the word of its value, what is asked of the value, and what holds of it in `Packed`
 STORED = [
     ("timers-scheduled", "scheduled", "Bool", "(cond v 1 0)", None, {"timers": "bit-fits v"}, "bool-back v i"),
-    ("next-shuffle-interval", "next-interval", "ℕ", "v", "v ≤ 3600000", {"short-interval": "h"}, "v"),
+    ("next-shuffle-interval", "next-interval", "ℕ", "v", "v ≤ longest-time", {"short-interval": "h"}, "v"),
     ("passes-alone", "passes-alone", "ℕ", "v", "v ≤ top-passes", {"alone": "h"}, "v"),
     ("passes-short", "passes-short", "ℕ", "v", "v ≤ top-passes", {"short": "h"}, "v"),
     ("next-neighbor-request", "next-request", "ℕ", "v", None, {}, "v"),
@@ -79,10 +82,11 @@ PACKED += [name for name, _, _ in SECTIONS] + [f"{view}-fits" for view in CAPACI
 # the fields of the definition's station that a number or own data stand for are kept by computing, so only sections are named in a law
 LAYOUT_HEAD = """-- Where each number and each section of the state's words stands. Written by tools/layout.py.
 -- Assumes nothing.
-use Prim.Native.Nat.{ℕ}
+use Prim.Native.Nat.{ℕ, _+_, _*_}
 use mathlib.Core.List.{List}
 use lib.ListN.{getD}
-use Rattle.util.specs.Section.{part}
+use Rattle.util.specs.Section.{part, working-places}
+use Rattle.columns.specs.Columns.{active-places}
 """
 
 FIELDS_HEAD = """-- The words with one number or one section stored anew stand for the station with that field changed: one law for each. Written by tools/layout.py.
@@ -100,6 +104,7 @@ use Rattle.util.proofs.Parts.{part-put, part-before, part-after, put-long}
 use Rattle.columns.specs.Columns.{HoldsNumbers, word-bytes, HoldsDataWords}
 use Rattle.peer.specs.Data.{Data}
 use Rattle.peer.specs.Held.{HoldsData}
+use Rattle.timing.specs.Timing.{longest-time}
 use Rattle.protocol.specs.Station.{Station, top-passes}
 use Rattle.protocol.specs.Setters as setters
 use Rattle.state.specs.declared.RefillLimit.{RefillLimit}
@@ -123,20 +128,28 @@ def length():
     return sum(COLUMNS[kind] * cap + 1 for _, kind, cap in SECTIONS) + len(NUMBERS)
 
 
+def section_words(kind, cap):
+    """The words of a section by the name of its places."""
+    name, columns = PLACES[cap][0], COLUMNS[kind]
+    if (kind, name) == ("set", "all-places"):
+        return "set-words"
+    return f"({name} + 1)" if columns == 1 else f"({columns} * {name} + 1)"
+
+
 def layout():
     out = [LAYOUT_HEAD]
     out.append(f"-- the words of a state\nabbrev pub words : ℕ\nwords = {length()}\n")
-    few, many, data = sorted({cap for _, _, cap in SECTIONS})
     out.append("-- the places of a small section, of a large one and of the data map, and the words of a large set with its count\n")
-    for name, n in (("few-places", few), ("all-places", many), ("data-places", data), ("set-words", many + 1)):
-        out.append(f"abbrev pub {name} : ℕ\n{name} = {n}\n")
+    for cap, (name, value) in PLACES.items():
+        out.append(f"abbrev pub {name} : ℕ\n{name} = {value or cap}\n")
+    out.append("abbrev pub set-words : ℕ\nset-words = all-places + 1\n")
     out.append("-- ---- the numbers, and where each stands\n")
     for i, name in enumerate(NUMBERS):
         out.append(f"abbrev pub {name}-at : ℕ\n{name}-at = {i}\n")
-        out.append(f"abbrev pub {name} : List ℕ → ℕ\n{name} xs = getD xs {i} 0\n")
+        out.append(f"abbrev pub {name} : List ℕ → ℕ\n{name} xs = getD xs {name}-at 0\n")
     out.append("-- ---- the sections\n")
-    for name, _, _, at, size in places():
-        out.append(f"abbrev pub {name}-part : List ℕ → List ℕ\n{name}-part xs = part {at} {size} xs\n")
+    for name, kind, cap, at, _ in places():
+        out.append(f"abbrev pub {name}-part : List ℕ → List ℕ\n{name}-part xs = part {at} {section_words(kind, cap)} xs\n")
     out.append("pub record Sections : Type 0 where")
     out += [f"  pub {name} : List ℕ" for name, _, _ in SECTIONS]
     out.append("\nabbrev pub sections : List ℕ → Sections")
@@ -253,11 +266,11 @@ def header(text):
 
 def hold_code(text):
     """`Layout` in the code has the same names, places and length."""
-    columns = tool.read(tool.ROOT / "crates/columns/src/lib.rt")
-    shared = {name: int(value) for name, value in re.findall(r"^pub const (\w+): usize = (\d+);", columns, re.M)}
-    found = {}
-    for name, value in re.findall(r"pub const (\w+): usize = ([^;]+);", text):
-        found[name] = eval(value.replace("Layout::", "").replace("columns::", ""), shared, found)
+    shared, found = {}, {}
+    for crate, names in (("util", shared), ("columns", shared), ("state", found)):
+        code = text if crate == "state" else tool.read(tool.ROOT / f"crates/{crate}/src/lib.rt")
+        for name, value in re.findall(r"pub const (\w+): usize = ([^;]+);", code):
+            names[name] = eval(re.sub(r"\w+::", "", value), shared, found)
     due = {name: at for name, at in constants() if not name.endswith("_PLACES")} | {"LENGTH": length(), "SET": max(size for _, kind, _, _, size in places() if kind == "set")}
     wrong = [name for name, at in due.items() if found.get(name) != at]
     wrong += [name for name in found if name not in due and name not in ("FEW", "ALL", "DATA_CAP")]

@@ -13,7 +13,14 @@ use Rattle.lists.specs.Tests.{All, every, packed}
 use Rattle.lists.specs.Bytes.{le, read-le}
 use Rattle.peer.specs.Maps.{DataEntry, entry-bytes, ValidEntry, valid-entry}
 use Rattle.scan.specs.Words.{unused}
-use Rattle.util.specs.Section.{part, Filled}
+use Rattle.util.specs.Section.{part, working-places, Filled}
+
+-- the places of the active view, and of the peers of both views and of the requests together
+abbrev pub active-places : ℕ
+active-places = 8
+
+abbrev pub known-places : ℕ
+known-places = active-places + working-places + working-places
 
 -- ---- a map of numbers: n peers, their n numbers, and then the count
 

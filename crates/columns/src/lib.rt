@@ -16,8 +16,8 @@ ghost use Rattle.peer.specs.Data.{bytes-of, holds};
 ghost use Rattle.peer.specs.Held.{data-in, ValidData, HoldsData};
 ghost use Rattle.peer.specs.Maps.{number-in, valid-entry};
 ghost use Rattle.scan.specs.Words.{unused};
-ghost use Rattle.util.specs.Section.{part, Filled, items-at, ValidSet, HoldsSet};
-ghost use Rattle.columns.specs.Columns.{numbers-at, ValidNumbers, HoldsNumbers, valid-numbers, Two, word-bytes, row, entries-at, data-map-at, ValidDataWords, HoldsDataWords, valid-data-words, words-end};
+ghost use Rattle.util.specs.Section.{part, working-places, Filled, items-at, ValidSet, HoldsSet};
+ghost use Rattle.columns.specs.Columns.{active-places, known-places, numbers-at, ValidNumbers, HoldsNumbers, valid-numbers, Two, word-bytes, row, entries-at, data-map-at, ValidDataWords, HoldsDataWords, valid-data-words, words-end};
 
 // ---- two columns of cap places
 
@@ -206,9 +206,9 @@ pub fn clear_numbers(m: &mut [u64], cap: usize)
 // The peers that have a number, as a working set.
 pub fn keys_into(m: &[u64], cap: usize, t: &mut [u64])
     requires { ⌜ ValidNumbers cap (now m) ⌝ }
-    requires { ⌜ cap ≤ 32 ⌝ }
-    requires { ⌜ length (now t) ≡ 33 ⌝ }
-    ensures { λ _. ⌜ HoldsSet 32 (now (t .exit)) (keys (numbers-at cap (now (m .entry)))) ⌝ }
+    requires { ⌜ cap ≤ working-places ⌝ }
+    requires { ⌜ length (now t) ≡ working-places + 1 ⌝ }
+    ensures { λ _. ⌜ HoldsSet working-places (now (t .exit)) (keys (numbers-at cap (now (m .entry)))) ⌝ }
 {
     let end = cap + cap;
     let n = m[end] as usize;
@@ -325,11 +325,11 @@ pub const KNOWN: usize = ACTIVE_PLACES + 2 * PASSIVE_PLACES;
 
 // The peers of both views and of the requests, whose data may be held, as a working set.
 pub fn data_peers(active: &[u64], passive: &[u64], requests: &[u64], v: &mut [u64])
-    requires { ⌜ ValidSet 8 (now active) ⌝ }
-    requires { ⌜ ValidSet 32 (now passive) ⌝ }
-    requires { ⌜ ValidNumbers 32 (now requests) ⌝ }
-    requires { ⌜ length (now v) ≡ 73 ⌝ }
-    ensures { λ _. ⌜ HoldsSet 72 (now (v .exit)) (items-at 8 (now (active .entry)) ++ (items-at 32 (now (passive .entry)) ++ keys (numbers-at 32 (now (requests .entry))))) ⌝ }
+    requires { ⌜ ValidSet active-places (now active) ⌝ }
+    requires { ⌜ ValidSet working-places (now passive) ⌝ }
+    requires { ⌜ ValidNumbers working-places (now requests) ⌝ }
+    requires { ⌜ length (now v) ≡ known-places + 1 ⌝ }
+    ensures { λ _. ⌜ HoldsSet known-places (now (v .exit)) (items-at active-places (now (active .entry)) ++ (items-at working-places (now (passive .entry)) ++ keys (numbers-at working-places (now (requests .entry))))) ⌝ }
 {
     let mut asked = [0u64; PASSIVE_PLACES + 1];
     keys_into(requests, PASSIVE_PLACES, &mut asked);

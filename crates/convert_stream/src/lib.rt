@@ -5,8 +5,14 @@ ghost use mathlib.Core.List.{_++_};
 ghost use Prim.Native.Nat.{_-_, _≤_};
 ghost use lib.ListN.{length, drop};
 ghost use lib.Seq.{slice};
+ghost use Rattle.convert_stream.specs.Chunk.{chunk-bytes};
 
-// How often the input is read at most, each time up to 65,536 bytes: more than any disk has, so that the place in it has 64 bits.
+// The bytes that are held at once, and the most that they become.
+const CHUNK: usize = 65536;
+
+const CONVERTED_CHUNK: usize = CHUNK + CHUNK / 2;
+
+// How often the input is read at most, each time up to `CHUNK` bytes: more than any disk has, so that the place in it has 64 bits.
 const TURNS: u64 = 1099511627776;
 
 // The records of b, by the way that they go.
@@ -103,7 +109,7 @@ fn turn(buffer: &mut [u8], held: usize, out: &mut [u8], back: bool) -> Turned
 
 // Turn by turn, to the end of the input or to the first record that is refused: its bytes are held whole then, as the buffer is longer than any record.
 fn stream(buffer: &mut [u8], out: &mut [u8], back: bool)
-    requires { ⌜ length (now buffer) ≤ 65536 ⌝ }
+    requires { ⌜ length (now buffer) ≤ chunk-bytes ⌝ }
 {
     let mut held: usize = 0;
     let mut place: u64 = 0;
@@ -126,9 +132,9 @@ fn stream(buffer: &mut [u8], out: &mut [u8], back: bool)
     }
 }
 
-// The whole of the input; 65,536 bytes of records become at most 98,304.
+// The whole of the input.
 pub fn convert_input(back: bool) {
-    let mut buffer = [0u8; 65536];
-    let mut out = [0u8; 98304];
+    let mut buffer = [0u8; CHUNK];
+    let mut out = [0u8; CONVERTED_CHUNK];
     stream(&mut buffer, &mut out, back);
 }

@@ -1,7 +1,7 @@
 -- How many bytes a step may write, as sums of a few units: other widths of a record change the units alone. `Ok` (Invariant) counts by them.
 -- Assumes nothing.
 use Prim.Native.Nat.{ℕ, _+_, _*_}
-use Rattle.record.specs.Format.{header-length, node-length}
+use Rattle.record.specs.Format.{most-nodes, header-length, node-length}
 
 -- The units
 
@@ -17,9 +17,9 @@ full-node = node-length + 16
 abbrev pub single : ℕ
 single = bare + full-node
 
--- a Shuffle or a ShuffleReply of 32 nodes
+-- a Shuffle or a ShuffleReply of the most nodes
 abbrev pub crowd : ℕ
-crowd = bare + 32 * full-node
+crowd = bare + most-nodes * full-node
 
 -- The steps that others are made of
 

@@ -10,6 +10,7 @@ use lib.Dec.{eqb}
 use Rattle.lists.specs.Lists.{choose, is, count, without, push-new, Rising}
 use Rattle.lists.specs.Maps.{keys, Each}
 use Rattle.timing.specs.declared.Config.{Config}
+use Rattle.timing.specs.Timing.{most-active, most-passive, longest-walk, most-shuffle-active, most-shuffle-passive, longest-time}
 use Rattle.util.specs.Chances.{sure}
 use Rattle.peer.specs.Data.{Data}
 use Rattle.record.specs.Format.{Rec, size, encode}
@@ -155,16 +156,16 @@ calm = busy [] [] [] 0 0
 -- of the settings in range, those that bounds come from
 pub record Ranges (c : Config) : Type 0 where
   pub some-slot : 1 ≤ c .«active_view_capacity»
-  pub few-slots : c .«active_view_capacity» ≤ 8
+  pub few-slots : c .«active_view_capacity» ≤ most-active
   pub some-place : 1 ≤ c .«passive_view_capacity»
-  pub few-places : c .«passive_view_capacity» ≤ 32
-  pub few-active : c .«shuffle_active_view_count» ≤ 8
-  pub few-passive : c .«shuffle_passive_view_count» ≤ 23
+  pub few-places : c .«passive_view_capacity» ≤ most-passive
+  pub few-active : c .«shuffle_active_view_count» ≤ most-shuffle-active
+  pub few-passive : c .«shuffle_passive_view_count» ≤ most-shuffle-passive
   pub some-time : 1 ≤ c .«shuffle_interval»
-  pub short-time : c .«shuffle_interval» ≤ 3600000
-  pub short-wait : c .«neighbor_request_timeout» ≤ 3600000
-  pub join-walk : c .«active_random_walk_length» ≤ 65535
-  pub shuffle-walk : c .«shuffle_random_walk_length» ≤ 65535
+  pub short-time : c .«shuffle_interval» ≤ longest-time
+  pub short-wait : c .«neighbor_request_timeout» ≤ longest-time
+  pub join-walk : c .«active_random_walk_length» ≤ longest-walk
+  pub shuffle-walk : c .«shuffle_random_walk_length» ≤ longest-walk
 
 pub record Still (cfg0 : Config) (me0 : ℕ) (kept : Bool) (old : ℕ) (me : ℕ) (cfg : Config) (alone : ℕ) : Type 0 where
   pub fixed : cfg ≡ cfg0

@@ -16,6 +16,10 @@ peer-length = 8
 abbrev pub old-peer-length : ℕ
 old-peer-length = 4
 
+-- the most nodes that a record names
+abbrev pub most-nodes : ℕ
+most-nodes = 32
+
 -- the first number that has more than four bytes
 abbrev pub four-bytes-end : ℕ
 four-bytes-end = 4294967296

@@ -10,7 +10,7 @@ use lib.Dec.{leb, ltb, eqb}
 use Rattle.lists.specs.Lists.{choose}
 use Rattle.lists.specs.Bytes.{read-le}
 use Rattle.peer.specs.Data.{Data, Node}
-use Rattle.record.specs.Format.{Rec, peer-length, header-length, header-length-by, node-length, place-by}
+use Rattle.record.specs.Format.{Rec, most-nodes, peer-length, header-length, header-length-by, node-length, place-by}
 use Rattle.record.specs.declared.Header.{Header}
 use Rattle.record.specs.declared.Entry.{Entry}
 
@@ -69,7 +69,7 @@ flags-ok h = choose (is-message 4 h) (leb (h .flags) 1) (choose (is-message 5 h)
 unfoldable pub count-ok : Header → Bool
 count-ok h =
     choose (is-message 0 h || (is-message 1 h || (is-message 4 h || is-data h))) (eqb (h .nodes) 1)
-    (choose (is-message 2 h || is-message 3 h) (leb (h .nodes) 32) (eqb (h .nodes) 0))
+    (choose (is-message 2 h || is-message 3 h) (leb (h .nodes) most-nodes) (eqb (h .nodes) 0))
 
 -- "Peer is 0 in kinds 1, 2, 7, 8"
 unfoldable pub peer-ok : Header → Bool
@@ -184,5 +184,5 @@ pub data Reading : Type 0 where
 unfoldable pub read-event : List ℕ → Reading
 read-event b =
     choose (ltb (length b) header-length) (refused 3)
-    (choose (ltb 32 (getD b 3 0)) (refused 4)
+    (choose (ltb most-nodes (getD b 3 0)) (refused 4)
     (choose (well-formed b && is-event (header-of b)) (event (rec-of b)) (refused 3)))

@@ -10,6 +10,7 @@ use Rattle.columns.specs.Columns.{words-end, valid-numbers, valid-data-words}
 use Rattle.peer.specs.Held.{valid-data}
 use Rattle.protocol.specs.Rules.{all-under, station-ok}
 use Rattle.state.specs.Layout as layout
+use Rattle.state.specs.Layout.{few-places, all-places, data-places}
 use Rattle.state.specs.Unpack.{own-at, limit-formed, unpack}
 
 -- every word has 64 bits, and those that stand for a bool or a limit are one
@@ -22,14 +23,14 @@ formed xs =
 -- every set and map is well formed, its count within its places, and zeroes past it
 unfoldable pub sections-ok : List ℕ → Bool
 sections-ok xs =
-    valid-set 8 (layout.active-part xs)
-    && (valid-set 32 (layout.passive-part xs)
-    && (valid-set 32 (layout.alive-part xs)
-    && (valid-set 32 (layout.refused-part xs)
-    && (valid-numbers 32 (layout.requests-part xs)
-    && (valid-set 8 (layout.bootstrap-part xs)
-    && (valid-set 8 (layout.recent-part xs)
-    && (valid-numbers 8 (layout.joins-part xs) && valid-data-words 80 (layout.peer-data-part xs))))))))
+    valid-set few-places (layout.active-part xs)
+    && (valid-set all-places (layout.passive-part xs)
+    && (valid-set all-places (layout.alive-part xs)
+    && (valid-set all-places (layout.refused-part xs)
+    && (valid-numbers all-places (layout.requests-part xs)
+    && (valid-set few-places (layout.bootstrap-part xs)
+    && (valid-set few-places (layout.recent-part xs)
+    && (valid-numbers few-places (layout.joins-part xs) && valid-data-words data-places (layout.peer-data-part xs))))))))
 
 -- "unused places zero": as many words as a state has, and each part well formed
 unfoldable pub packed-ok : List ℕ → Bool

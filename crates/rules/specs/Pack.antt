@@ -9,6 +9,7 @@ use Rattle.util.specs.Section.{section}
 use Rattle.columns.specs.Columns.{numbers-section, low-word, high-word, data-section}
 use Rattle.peer.specs.Data.{Data, bytes-of}
 use Rattle.protocol.specs.Station.{Station, Refill, automatic, requests-left, recovery}
+use Rattle.state.specs.Layout.{few-places, all-places, data-places}
 
 -- 1 present, 0 absent
 unfoldable pub present-word : Data → ℕ
@@ -39,5 +40,5 @@ front g =
 -- the 551 words that stand for g
 unfoldable pub pack : Station → List ℕ
 pack g =
-    front g ++ (section 8 (g .active) ++ (section 32 (g .passive) ++ (section 32 (g .alive) ++ (section 32 (g .refused)
-    ++ (numbers-section 32 (g .requests) ++ (section 8 (g .bootstrap) ++ (section 8 (g .recent) ++ (numbers-section 8 (g .joins) ++ data-section 80 (g .peer-data)))))))))
+    front g ++ (section few-places (g .active) ++ (section all-places (g .passive) ++ (section all-places (g .alive) ++ (section all-places (g .refused)
+    ++ (numbers-section all-places (g .requests) ++ (section few-places (g .bootstrap) ++ (section few-places (g .recent) ++ (numbers-section few-places (g .joins) ++ data-section data-places (g .peer-data)))))))))

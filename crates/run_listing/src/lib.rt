@@ -15,8 +15,13 @@ ghost use Rattle.run_input.specs.Input.{Laid};
 ghost use Rattle.run_text.specs.Text.{Puts};
 ghost use Rattle.run_text.specs.Lines.{end-line};
 ghost use Rattle.run_listing.specs.Run.{events-text, laid-text, run-text};
-ghost use Rattle.run_listing.specs.Place.{Steps, Fronts, Lines, fitting, Answers};
+ghost use Rattle.run_listing.specs.Place.{longest-end-line, longest-record-line, Steps, Fronts, Lines, fitting, Answers};
 ghost use Rattle.run_listing.specs.Opened.{opened-run, opened-head, first-place};
+
+// The most bytes of the line that ends an event, and of the line of a record.
+pub const END_LINE: usize = 44;
+
+pub const RECORD_LINE: usize = 168;
 
 // The place after an event, and the text so far.
 struct Stepped {
@@ -156,7 +161,7 @@ pub fn open(b: &[u8]) -> Opened
 
 // The line that ends an event, or the one line of an input without events, at the front of the lent bytes.
 pub fn end_line(code: u32, draws: usize, out: &mut [u8]) -> usize
-    requires { ⌜ 44 ≤ length (now out) ⌝ }
+    requires { ⌜ longest-end-line ≤ length (now out) ⌝ }
     ensures { λ r. ⌜ Fronts (end-line code draws) (now (out .entry)) r (now (out .exit)) ⌝ }
 {
     let none = run_text::start();
@@ -166,7 +171,7 @@ pub fn end_line(code: u32, draws: usize, out: &mut [u8]) -> usize
 
 // The line of the first record of an output, at the front of the lent bytes.
 pub fn record_line(i: usize, records: &[u8], out: &mut [u8]) -> Lined
-    requires { ⌜ 168 ≤ length (now out) ⌝ }
+    requires { ⌜ longest-record-line ≤ length (now out) ⌝ }
     ensures { λ r. ⌜ Lines i (now (records .entry)) (now (out .entry)) r (now (out .exit)) ⌝ }
 {
     if records.len() < record::HEADER {

@@ -13,6 +13,7 @@ use Rattle.util.proofs.Parts.{part-put, part-before, part-after, put-long}
 use Rattle.columns.specs.Columns.{HoldsNumbers, word-bytes, HoldsDataWords}
 use Rattle.peer.specs.Data.{Data}
 use Rattle.peer.specs.Held.{HoldsData}
+use Rattle.timing.specs.Timing.{longest-time}
 use Rattle.protocol.specs.Station.{Station, top-passes}
 use Rattle.protocol.specs.Setters as setters
 use Rattle.state.specs.declared.RefillLimit.{RefillLimit}
@@ -27,7 +28,7 @@ unfolding unpack station-of own-at limit-at settings-at
 put-scheduled {xs} {g} v b = let old = opened (b .packed) in
     becomes (cut-set 12 (cond v 1 0) (omega arith) (cut-self xs (long (b .packed)))) (record { present = old .present; timers = bit-fits v; limit = old .limit; alone = old .alone; short = old .short; own-data = old .own-data; settings = old .settings; short-interval = old .short-interval; active = old .active; passive = old .passive; alive = old .alive; refused = old .refused; requests = old .requests; bootstrap = old .bootstrap; recent = old .recent; joins = old .joins; peer-data = old .peer-data; active-fits = old .active-fits; passive-fits = old .passive-fits }) (λ i. setters.set-scheduled (bool-back v i) (b .same i))
 
-pub put-next-interval : {xs : List ℕ} {g : Station} (v : ℕ) → v ≤ 3600000 → Becomes xs g → Becomes (set xs 13 v) (setters.set-next-interval v g)
+pub put-next-interval : {xs : List ℕ} {g : Station} (v : ℕ) → v ≤ longest-time → Becomes xs g → Becomes (set xs 13 v) (setters.set-next-interval v g)
 unfolding unpack station-of own-at limit-at settings-at
 put-next-interval {xs} {g} v h b = let old = opened (b .packed) in
     becomes (cut-set 13 v (omega arith) (cut-self xs (long (b .packed)))) (record { present = old .present; timers = old .timers; limit = old .limit; alone = old .alone; short = old .short; own-data = old .own-data; settings = old .settings; short-interval = h; active = old .active; passive = old .passive; alive = old .alive; refused = old .refused; requests = old .requests; bootstrap = old .bootstrap; recent = old .recent; joins = old .joins; peer-data = old .peer-data; active-fits = old .active-fits; passive-fits = old .passive-fits }) (λ i. setters.set-next-interval (v) (b .same i))

@@ -12,12 +12,12 @@ use Rattle.columns.specs.Columns.{numbers-at, ValidNumbers, word-bytes, data-ma
 use Rattle.peer.specs.declared.PeerData.{PeerData}
 use Rattle.peer.specs.Held.{data-in, ValidData}
 use Rattle.timing.specs.declared.Config.{Config}
-use Rattle.timing.specs.Timing.{in-range}
+use Rattle.timing.specs.Timing.{longest-time, in-range}
 use Rattle.protocol.specs.Station.{Station, Refill, automatic, requests-left, recovery, top-passes}
 use Rattle.state.specs.declared.RefillLimit.{RefillLimit}
 use Rattle.state.specs.declared.RefillLimit.the-variants.{Automatic, Requests, Recovery}
 use Rattle.state.specs.Layout as layout
-use Rattle.state.specs.Layout.{words, Sections, sections}
+use Rattle.state.specs.Layout.{words, few-places, all-places, data-places, Sections, sections}
 
 -- ---- own data, the settings and the limit on refills, of the numbers n
 
@@ -57,22 +57,22 @@ unfoldable pub station-of : List ℕ → Sections → Station
 station-of n s = record {
   me = layout.me n;
   own-data = data-in (own-at n);
-  active = items-at 8 (s .active);
-  passive = items-at 32 (s .passive);
+  active = items-at few-places (s .active);
+  passive = items-at all-places (s .passive);
   config = settings-at n;
   scheduled = eqb (layout.timers-scheduled n) 1;
   next-interval = layout.next-shuffle-interval n;
-  bootstrap = items-at 8 (s .bootstrap);
+  bootstrap = items-at few-places (s .bootstrap);
   passes-alone = layout.passes-alone n;
   passes-short = layout.passes-short n;
-  recent = items-at 8 (s .recent);
-  requests = numbers-at 32 (s .requests);
+  recent = items-at few-places (s .recent);
+  requests = numbers-at all-places (s .requests);
   next-request = layout.next-neighbor-request n;
-  joins = numbers-at 8 (s .joins);
+  joins = numbers-at few-places (s .joins);
   next-join = layout.next-join n;
-  peer-data = data-map-at 80 (s .peer-data);
-  alive = items-at 32 (s .alive);
-  refused = items-at 32 (s .refused);
+  peer-data = data-map-at data-places (s .peer-data);
+  alive = items-at all-places (s .alive);
+  refused = items-at all-places (s .refused);
   refill = refill-in (limit-at n);
 }
 
@@ -92,18 +92,18 @@ pub record Packed (n : List ℕ) (s : Sections) : Type 0 where
   pub short : layout.passes-short n ≤ top-passes
   pub own-data : ValidData (own-at n)
   pub settings : in-range (settings-at n) ≡ true
-  pub short-interval : layout.next-shuffle-interval n ≤ 3600000
-  pub active : ValidSet 8 (s .active)
-  pub passive : ValidSet 32 (s .passive)
-  pub alive : ValidSet 32 (s .alive)
-  pub refused : ValidSet 32 (s .refused)
-  pub requests : ValidNumbers 32 (s .requests)
-  pub bootstrap : ValidSet 8 (s .bootstrap)
-  pub recent : ValidSet 8 (s .recent)
-  pub joins : ValidNumbers 8 (s .joins)
-  pub peer-data : ValidDataWords 80 (s .peer-data)
-  pub active-fits : length (items-at 8 (s .active)) ≤ layout.active-view-capacity n
-  pub passive-fits : length (items-at 32 (s .passive)) ≤ layout.passive-view-capacity n
+  pub short-interval : layout.next-shuffle-interval n ≤ longest-time
+  pub active : ValidSet few-places (s .active)
+  pub passive : ValidSet all-places (s .passive)
+  pub alive : ValidSet all-places (s .alive)
+  pub refused : ValidSet all-places (s .refused)
+  pub requests : ValidNumbers all-places (s .requests)
+  pub bootstrap : ValidSet few-places (s .bootstrap)
+  pub recent : ValidSet few-places (s .recent)
+  pub joins : ValidNumbers few-places (s .joins)
+  pub peer-data : ValidDataWords data-places (s .peer-data)
+  pub active-fits : length (items-at few-places (s .active)) ≤ layout.active-view-capacity n
+  pub passive-fits : length (items-at all-places (s .passive)) ≤ layout.passive-view-capacity n
 
 -- a data type, so that a search does not go into it
 pub data PackedState (xs : List ℕ) : Type 0 where

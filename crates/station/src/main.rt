@@ -10,14 +10,14 @@ ghost use Rattle.run_input.specs.Input.{Laid};
 
 // The line that ends an event, or the one line of an input without events.
 fn say_end(code: u32, draws: usize) {
-    let mut text = [0u8; 44];
+    let mut text = [0u8; run_listing::END_LINE];
     let n = run_listing::end_line(code, draws, &mut text);
     io::write_all(1, &text[..n]);
 }
 
 // The lines of the records in an output, one after another: no more space is needed than for one of them.
 fn say_records(i: usize, records: &[u8]) {
-    let mut line = [0u8; 168];
+    let mut line = [0u8; run_listing::RECORD_LINE];
     let text: &mut [u8] = &mut line;
     let mut rest = records;
     loop {

@@ -9,6 +9,7 @@ use Rattle.protocol.specs.Station.{Station}
 use Rattle.protocol.specs.Run.{Run}
 use Rattle.protocol.specs.Active.{Reason, connection-closed, disconnect-received}
 use Rattle.protocol.specs.Invariant.{Fixed, busy, Ok}
+use Rattle.state.specs.Layout.{all-places}
 use Rattle.step_active.specs.declared.Loss.{Loss}
 use Rattle.step_active.specs.declared.Loss.the-variants.{ConnectionClosed, DisconnectReceived}
 
@@ -23,7 +24,7 @@ pub record FreeActive (code : ℕ) (s : Station) : Type 0 where
 
 -- unless a code is set, there is a place for the mark of p
 pub record FreeMark (p code : ℕ) (s : Station) : Type 0 where
-  pub free : code ≡ 0 → length (insert p (s .alive)) ≤ 32
+  pub free : code ≡ 0 → length (insert p (s .alive)) ≤ all-places
 
 -- nothing is half done, and m messages, b bytes and d draws may be spent
 pub record Calm (m b d : ℕ) (g : Run) : Type 0 where

@@ -7,6 +7,7 @@ use lib.ListN.{length}
 use Rattle.lists.specs.Lists.{insert}
 use Rattle.protocol.specs.Station.{Station, in-passive}
 use Rattle.protocol.specs.Messages.{refused-fits}
+use Rattle.state.specs.Layout.{all-places}
 
 -- unless a code is set, p is among the refused peers or there is a place for it
 pub record FreeRefused (p code : ℕ) (s : Station) : Type 0 where
@@ -14,4 +15,4 @@ pub record FreeRefused (p code : ℕ) (s : Station) : Type 0 where
 
 -- unless a code is set, there is a place for the mark of p where p is a passive peer
 pub record FreePassiveMark (p code : ℕ) (s : Station) : Type 0 where
-  pub free : code ≡ 0 → in-passive p s ≡ true → length (insert p (s .alive)) ≤ 32
+  pub free : code ≡ 0 → in-passive p s ≡ true → length (insert p (s .alive)) ≤ all-places

@@ -20,6 +20,7 @@ ghost use Rattle.writer.specs.Nodes.{HoldsNodes};
 ghost use Rattle.protocol.specs.Run.{on, emit, flag, node, peer-infos, draw-shuffle};
 ghost use Rattle.protocol.specs.Sending.{join, send-nodes, send-filled, reply-with, send-shuffle-reply, reply-length, send-disconnect};
 ghost use Rattle.protocol.specs.Sending.{request-counts, request-fits, note-request, count-request, open-request, neighbor-to, tell-request, send-neighbor, reply-neighbor};
+ghost use Rattle.record.specs.Format.{most-nodes};
 ghost use Rattle.state.specs.Layout.{words, all-places};
 ghost use Rattle.state.specs.Unpack.{unpack, PackedState};
 ghost use Rattle.state.specs.Work.{work-of, run, Changes, DrawsAny, Room, Tells, Fine, Does};
@@ -50,7 +51,7 @@ fn peer_info(st: &[u64], p: PeerId) -> PeerInfo
 pub fn peer_infos(st: &[u64], ids: &[PeerId]) -> Nodes
     requires { ⌜ length (now st) ≡ words ⌝ }
     requires { ⌜ PackedState (now st) ⌝ }
-    requires { ⌜ length (now ids) ≤ 32 ⌝ }
+    requires { ⌜ length (now ids) ≤ most-nodes ⌝ }
     ensures { λ r. ⌜ HoldsNodes r (peer-infos (unpack (now (st .entry))) (now (ids .entry))) ⌝ }
 {
     let mut t = Nodes::new();
@@ -87,7 +88,7 @@ pub fn join(w: Work, st: &[u64], out: &mut [u8], p: PeerId) -> Work
 fn send_nodes(w: Work, st: &[u64], out: &mut [u8], to: PeerId, ps: &[PeerId]) -> Work
     requires { ⌜ length (now st) ≡ words ⌝ }
     requires { ⌜ Room (work-of w (now st)) (now out) ⌝ }
-    requires { ⌜ length (now ps) ≤ 32 ⌝ }
+    requires { ⌜ length (now ps) ≤ most-nodes ⌝ }
     ensures { λ r. ⌜ Tells (send-nodes to (now (ps .entry))) (work-of w (now (st .entry))) (work-of r (now (st .entry))) (now (out .entry)) (now (out .exit)) ⌝ }
 {
     let ns = peer_infos(st, ps);
@@ -133,7 +134,7 @@ fn fill_active(w: Work, st: &[u64], draws: &[u32], len: usize, v: &mut [u64]) ->
     requires { ⌜ w .drawn ≤ length (now draws) ⌝ }
     requires { ⌜ ValidSet all-places (now v) ⌝ }
     requires { ⌜ length (items-at all-places (now v)) ≤ len ⌝ }
-    requires { ⌜ len ≤ 32 ⌝ }
+    requires { ⌜ len ≤ most-nodes ⌝ }
     ensures { λ r. ⌜ DrawsAny (draw-shuffle (unpack (now (st .entry)) .active)) w r (now (draws .entry)) ⌝ }
     ensures { λ r. ⌜ HoldsSet all-places (now (v .exit)) (items-at all-places (now (v .entry)) ++ take (len - length (items-at all-places (now (v .entry)))) (shuffle (drop (w .drawn) (now (draws .entry))) (unpack (now (st .entry)) .active))) ⌝ }
 {
@@ -163,7 +164,7 @@ fn send_filled(
     requires { ⌜ Fine (work-of w (now st)) (now draws) (now out) ⌝ }
     requires { ⌜ ValidSet all-places (now v) ⌝ }
     requires { ⌜ length (items-at all-places (now v)) ≤ len ⌝ }
-    requires { ⌜ len ≤ 32 ⌝ }
+    requires { ⌜ len ≤ most-nodes ⌝ }
     ensures { λ r. ⌜ Does (work-of r (now (st .entry))) (now (draws .entry)) (now (out .exit)) (send-filled to len (items-at all-places (now (v .entry))) (run (work-of w (now (st .entry))) (now (draws .entry)) (now (out .entry)))) ⌝ }
 {
     let a = fill_active(w, st, draws, len, v);
@@ -183,7 +184,7 @@ fn reply_with(
     requires { ⌜ length (now st) ≡ words ⌝ }
     requires { ⌜ Fine (work-of w (now st)) (now draws) (now out) ⌝ }
     requires { ⌜ ValidSet all-places (now v) ⌝ }
-    requires { ⌜ len ≤ 32 ⌝ }
+    requires { ⌜ len ≤ most-nodes ⌝ }
     ensures { λ r. ⌜ Does (work-of r (now (st .entry))) (now (draws .entry)) (now (out .exit)) (reply-with to len (items-at all-places (now (v .entry))) (run (work-of w (now (st .entry))) (now (draws .entry)) (now (out .entry)))) ⌝ }
 {
     let n = util::count(v, Layout::ALL);
@@ -204,7 +205,7 @@ pub fn send_shuffle_reply(
 ) -> Work
     requires { ⌜ length (now st) ≡ words ⌝ }
     requires { ⌜ Fine (work-of w (now st)) (now draws) (now out) ⌝ }
-    requires { ⌜ len ≤ 32 ⌝ }
+    requires { ⌜ len ≤ most-nodes ⌝ }
     ensures { λ r. ⌜ Does (work-of r (now (st .entry))) (now (draws .entry)) (now (out .exit)) (send-shuffle-reply to len (run (work-of w (now (st .entry))) (now (draws .entry)) (now (out .entry)))) ⌝ }
 {
     let mut v = [0u64; Layout::SET];
@@ -222,7 +223,7 @@ fn reply_length(st: &[u64]) -> usize
     requires { ⌜ length (now st) ≡ words ⌝ }
     requires { ⌜ PackedState (now st) ⌝ }
     ensures { λ r. ⌜ r ≡ reply-length (unpack (now (st .entry))) ⌝ }
-    ensures { λ r. ⌜ r ≤ 32 ⌝ }
+    ensures { λ r. ⌜ r ≤ most-nodes ⌝ }
 {
     let n = st[Layout::SHUFFLE_ACTIVE_VIEW_COUNT] as usize;
     n + st[Layout::SHUFFLE_PASSIVE_VIEW_COUNT] as usize

@@ -17,7 +17,9 @@ ghost use Rattle.util.specs.Section.{items-at, ValidSet, HoldsSet};
 ghost use Rattle.protocol.specs.Run.{on, draw-shuffle};
 ghost use Rattle.protocol.specs.Timers.{is-number, request-is, request-failed, handle-pending-neighbor-timer, join-is, retry-join};
 ghost use Rattle.protocol.specs.Timers.{double-interval, schedule-shuffle, send-shuffle, shuffle-passive, shuffle-with, shuffle-any, handle-shuffle-timer};
-ghost use Rattle.state.specs.Layout.{words, all-places, few-places, set-words};
+ghost use Rattle.timing.specs.Timing.{most-shuffle-active};
+ghost use Rattle.record.specs.Format.{most-nodes};
+ghost use Rattle.state.specs.Layout.{words, all-places, set-words};
 ghost use Rattle.state.specs.Unpack.{unpack, PackedState};
 ghost use Rattle.state.specs.Work.{work-of, run, Changes, DrawsAny, Room, Tells, Fine, Does};
 
@@ -149,7 +151,7 @@ fn send_shuffle(w: Work, st: &[u64], out: &mut [u8], to: PeerId, v: &[u64]) -> W
     requires { ⌜ length (now st) ≡ words ⌝ }
     requires { ⌜ Room (work-of w (now st)) (now out) ⌝ }
     requires { ⌜ ValidSet all-places (now v) ⌝ }
-    requires { ⌜ length (items-at all-places (now v)) < 32 ⌝ }
+    requires { ⌜ length (items-at all-places (now v)) < most-nodes ⌝ }
     ensures { λ r. ⌜ Tells (send-shuffle to (items-at all-places (now (v .entry)))) (work-of w (now (st .entry))) (work-of r (now (st .entry))) (now (out .entry)) (now (out .exit)) ⌝ }
 {
     let n = util::count(v, Layout::ALL);
@@ -204,7 +206,7 @@ fn shuffle_passive(
     requires { ⌜ length (now st) ≡ words ⌝ }
     requires { ⌜ Fine (work-of w (now st)) (now draws) (now out) ⌝ }
     requires { ⌜ ValidSet all-places (now v) ⌝ }
-    requires { ⌜ length (items-at all-places (now v)) ≤ few-places ⌝ }
+    requires { ⌜ length (items-at all-places (now v)) ≤ most-shuffle-active ⌝ }
     ensures { λ r. ⌜ Does (work-of r (now (st .entry))) (now (draws .entry)) (now (out .exit)) (shuffle-passive to (items-at all-places (now (v .entry))) (run (work-of w (now (st .entry))) (now (draws .entry)) (now (out .entry)))) ⌝ }
 {
     let mut more = [0u64; Layout::SET];

@@ -35,10 +35,12 @@ fn tell(out: &mut [u8], c: Ends) -> usize
     t.at
 }
 
+// Four lines of two digits and a count of at most ten.
+const ENDS_SPACE: usize = 64;
+
 fn main() {
     let c = endings::count_ends();
-    // Four lines of two digits and a count of at most ten.
-    let mut text = [0u8; 64];
+    let mut text = [0u8; ENDS_SPACE];
     let n = tell(&mut text, c);
     io::write_all(1, &text[..n]);
 }

@@ -3,6 +3,9 @@ use convert::Converted;
 ghost use Prim.Native.Nat.{_≤_};
 ghost use lib.ListN.{length};
 
+// As much output as a case may lend, and one byte more.
+const CASE_SPACE: usize = 65536;
+
 fn main() {
     let mut buffer = io::large_buffer();
     let n = io::read_full(0, &mut buffer);
@@ -33,7 +36,7 @@ fn show_cases(s: &[u8]) {
 fn show_case(form: u8, room: usize, b: &[u8])
     requires { ⌜ room ≤ 65535 ⌝ }
 {
-    let mut space = [255u8; 65536];
+    let mut space = [255u8; CASE_SPACE];
     show_in(form, b, &mut space[..room]);
 }
 

@@ -1,6 +1,9 @@
 // Standard input holds inputs of the run program one after another, each with its length in 4 bytes in front; standard output gets the text of each, ended by an empty line.
 use run_listing::Shown;
 
+// Space for the text of one input.
+const TEXT_SPACE: usize = 262144;
+
 // The text of one input; one that does not fit is named, and not cut off.
 fn show_listing(b: &[u8], text: &mut [u8]) {
     let shown = run_listing::run(b, text);
@@ -16,7 +19,7 @@ fn show_listing(b: &[u8], text: &mut [u8]) {
 }
 
 // One input, as long as the lent bytes; false where standard input has not so many.
-fn take(bytes: &mut [u8], text: &mut [u8; 262144]) -> bool {
+fn take(bytes: &mut [u8], text: &mut [u8; TEXT_SPACE]) -> bool {
     let n = io::read_full(0, bytes);
     if n < bytes.len() {
         return false;
@@ -26,7 +29,7 @@ fn take(bytes: &mut [u8], text: &mut [u8; 262144]) -> bool {
 }
 
 // The next input; false where there is none, or one longer than the lent bytes.
-fn next_input(head: &mut [u8], bytes: &mut [u8], text: &mut [u8; 262144]) -> bool {
+fn next_input(head: &mut [u8], bytes: &mut [u8], text: &mut [u8; TEXT_SPACE]) -> bool {
     let n = io::read_full(0, head);
     if n < head.len() {
         return false;
@@ -46,7 +49,7 @@ fn main() {
     let head: &mut [u8] = &mut space;
     let mut buffer = [0u8; run_input::MOST_BYTES + 1];
     let bytes: &mut [u8] = &mut buffer;
-    let mut text = [0u8; 262144];
+    let mut text = [0u8; TEXT_SPACE];
     let mut left = MOST_INPUTS;
     while left > 0 {
         if next_input(head, bytes, &mut text) {

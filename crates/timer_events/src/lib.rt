@@ -18,11 +18,11 @@ ghost use Rattle.timer_events.specs.Records.{no-start, started, schedule
 ghost use Rattle.timer_events.specs.Events.{has-event, event-rec, event-popped, event-taken};
 
 // The kinds of a timer in the queue; those up to the second have neither peer nor number.
-const FIRST_TIMER: u64 = 1;
+const FIRST_TIMER: u64 = Kind::DO_SHUFFLE as u64;
 
-const LAST_BARE_TIMER: u64 = 2;
+const LAST_BARE_TIMER: u64 = Kind::DO_MAINTENANCE as u64;
 
-const LAST_TIMER: u64 = 4;
+const LAST_TIMER: u64 = Kind::RETRY_JOIN as u64;
 
 // A timer to be put in, and its delay.
 pub struct ScheduleTimer {

@@ -51,6 +51,25 @@ default = record {
   «neighbor_request_timeout» = 3000;
 }
 
+-- The top of each range: of the capacities, the walk lengths, what a shuffle takes of either view, and the times.
+abbrev pub most-active : ℕ
+most-active = 8
+
+abbrev pub most-passive : ℕ
+most-passive = 32
+
+abbrev pub longest-walk : ℕ
+longest-walk = 65535
+
+abbrev pub most-shuffle-active : ℕ
+most-shuffle-active = 8
+
+abbrev pub most-shuffle-passive : ℕ
+most-shuffle-passive = 23
+
+abbrev pub longest-time : ℕ
+longest-time = 3600000
+
 -- from low to high, both included
 unfoldable pub within : ℕ → ℕ → ℕ → Bool
 within low high x = leb low x && leb x high
@@ -58,15 +77,15 @@ within low high x = leb low x && leb x high
 -- "Settings in `Config`'s order": the range of each
 unfoldable pub in-range : Config → Bool
 in-range c =
-    within 1 8 (c .«active_view_capacity»)
-    && (within 1 32 (c .«passive_view_capacity»)
-    && (within 0 65535 (c .«active_random_walk_length»)
-    && (within 0 65535 (c .«passive_random_walk_length»)
-    && (within 0 65535 (c .«shuffle_random_walk_length»)
-    && (within 0 8 (c .«shuffle_active_view_count»)
-    && (within 0 23 (c .«shuffle_passive_view_count»)
-    && (within 1 3600000 (c .«shuffle_interval»)
-    && within 1 3600000 (c .«neighbor_request_timeout»))))))))
+    within 1 most-active (c .«active_view_capacity»)
+    && (within 1 most-passive (c .«passive_view_capacity»)
+    && (within 0 longest-walk (c .«active_random_walk_length»)
+    && (within 0 longest-walk (c .«passive_random_walk_length»)
+    && (within 0 longest-walk (c .«shuffle_random_walk_length»)
+    && (within 0 most-shuffle-active (c .«shuffle_active_view_count»)
+    && (within 0 most-shuffle-passive (c .«shuffle_passive_view_count»)
+    && (within 1 longest-time (c .«shuffle_interval»)
+    && within 1 longest-time (c .«neighbor_request_timeout»))))))))
 
 -- backoff_due: below 12 exactly one bit of n is set, from 12 on 12 divides n
 unfoldable pub backoff-due : ℕ → Bool

@@ -1,7 +1,7 @@
 // Part 1 of document 01: walk lengths, the settings with their defaults and ranges, the backoff and the delay.
 ghost use mathlib.Core.Path.{_≡_};
 ghost use Prim.Native.Nat.{_≤_, min};
-ghost use Rattle.timing.specs.Timing.{expired, next, within, in-range, default, backoff-due, delay};
+ghost use Rattle.timing.specs.Timing.{longest-time, expired, next, within, in-range, default, backoff-due, delay};
 
 // A walk length: how many hops a message has left.
 pub struct Ttl(pub u16);
@@ -156,7 +156,7 @@ pub fn backoff_due(n: u32) -> bool
 
 // The jittered delay of an interval for the draw d: from three quarters of it to just under five quarters.
 pub fn delay(interval: u32, d: u32) -> u32
-    requires { ⌜ interval ≤ 3600000 ⌝ }
+    requires { ⌜ interval ≤ longest-time ⌝ }
     ensures { λ r. ⌜ r ≡ delay interval d ⌝ }
 {
     let scaled = interval as u64 * (6442450944 + d as u64);

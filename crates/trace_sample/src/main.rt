@@ -2,6 +2,9 @@
 // A history is a head of 32 bytes and then its input. The head has the input's length and the room (4 bytes each), the next request and the next join (8 each), and the two pass counts (4 each).
 use trace_replay::TraceStart;
 
+// The bytes of a history's head.
+const HISTORY_HEAD: usize = 32;
+
 fn start_of(head: &[u8]) -> TraceStart {
     TraceStart {
         room: run_input::number(head, 1) as usize,
@@ -44,7 +47,7 @@ fn next_history(head: &mut [u8], bytes: &mut [u8]) -> bool {
 const MOST_HISTORIES: usize = 1000000;
 
 fn main() {
-    let mut space = [0u8; 32];
+    let mut space = [0u8; HISTORY_HEAD];
     let head: &mut [u8] = &mut space;
     let mut buffer = [0u8; run_input::MOST_BYTES + 1];
     let bytes: &mut [u8] = &mut buffer;

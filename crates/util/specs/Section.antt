@@ -10,6 +10,10 @@ use Rattle.lists.specs.Array.{pad}
 use Rattle.lists.specs.Tests.{packed}
 use Rattle.scan.specs.Words.{unused}
 
+-- the places of a working set, and of the largest set
+abbrev pub working-places : ℕ
+working-places = 32
+
 -- k words from place a on
 unfoldable pub part : ℕ → ℕ → List ℕ → List ℕ
 part a k xs = take k (drop a xs)

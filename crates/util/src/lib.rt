@@ -9,7 +9,7 @@ ghost use Rattle.lists.specs.Lists.{null, mem, index-of, rank, shift-remove, sw
 ghost use Rattle.lists.specs.Tests.{every};
 ghost use Rattle.util.specs.Chances.{pick-draws, pick, shuffle, shuffle-draws};
 ghost use Rattle.scan.specs.Words.{unused};
-ghost use Rattle.util.specs.Section.{Filled, items-at, ValidSet, HoldsSet, valid-set};
+ghost use Rattle.util.specs.Section.{working-places, Filled, items-at, ValidSet, HoldsSet, valid-set};
 
 // How many places a working set has: as many as the largest set.
 pub const PLACES: usize = 32;
@@ -26,7 +26,7 @@ pub struct PickedIndex {
 // ---- a column alone, of any length: the first n places are in use
 
 // The place of x, or n where it is not there.
-pub fn find(s: &[u64], n: usize, x: u64) -> usize
+pub fn find(s: &[u64], n: usize, x: PeerId) -> usize
     requires { ⌜ n ≤ length (now s) ⌝ }
     ensures { λ r. ⌜ (r ≡ index-of x (take n (now (s .entry)))) × (r ≤ n) ⌝ }
 {
@@ -41,7 +41,7 @@ pub fn find(s: &[u64], n: usize, x: u64) -> usize
 }
 
 // How many items stand before the first that is greater than x.
-pub fn rank_of(s: &[u64], n: usize, x: u64) -> usize
+pub fn rank_of(s: &[u64], n: usize, x: PeerId) -> usize
     requires { ⌜ n ≤ length (now s) ⌝ }
     ensures { λ r. ⌜ (r ≡ rank x (take n (now (s .entry)))) × (r ≤ n) ⌝ }
 {
@@ -89,7 +89,7 @@ pub fn put_in(s: &mut [u64], n: usize, i: usize, x: u64)
 }
 
 // Without x, wherever it stands; the answer is how many are left.
-fn without_in(s: &mut [u64], n: usize, x: u64) -> usize
+fn without_in(s: &mut [u64], n: usize, x: PeerId) -> usize
     requires { ⌜ Filled (now s) n ⌝ }
     ensures { λ r. ⌜ now (s .exit) ≡ pad 0 (length (now (s .entry))) (without x (take n (now (s .entry)))) ⌝ }
     ensures { λ r. ⌜ (r ≡ length (without x (take n (now (s .entry))))) × (r ≤ n) ⌝ }
@@ -105,7 +105,7 @@ fn without_in(s: &mut [u64], n: usize, x: u64) -> usize
 }
 
 // x as the newest of at most `most`; the answer is how many there are.
-fn renew_in(s: &mut [u64], n: usize, most: usize, x: u64) -> usize
+fn renew_in(s: &mut [u64], n: usize, most: usize, x: PeerId) -> usize
     requires { ⌜ Filled (now s) n ⌝ }
     requires { ⌜ (1 ≤ most) × (most ≤ length (now s)) ⌝ }
     ensures { λ r. ⌜ now (s .exit) ≡ pad 0 (length (now (s .entry))) (renew most x (take n (now (s .entry)))) ⌝ }
@@ -149,7 +149,7 @@ pub fn clear_from(s: &mut [u64], k: usize)
 }
 
 // The items that are not in `skip`, in order; the answer is how many there are.
-pub fn without_all_in(s: &mut [u64], n: usize, skip: &[u64]) -> usize
+pub fn without_all_in(s: &mut [u64], n: usize, skip: &[PeerId]) -> usize
     requires { ⌜ Filled (now s) n ⌝ }
     ensures { λ r. ⌜ now (s .exit) ≡ pad 0 (length (now (s .entry))) (without-all (now (skip .entry)) (take n (now (s .entry)))) ⌝ }
     ensures { λ r. ⌜ (r ≡ length (without-all (now (skip .entry)) (take n (now (s .entry))))) × (r ≤ n) ⌝ }
@@ -184,7 +184,7 @@ fn exchange(s: &mut [u64], i: usize, j: usize)
 // is 0, and `next` is past the draws.
 pub fn pick_index(draws: &[u32], at: usize, n: usize) -> PickedIndex
     requires { ⌜ 0 < n ⌝ }
-    requires { ⌜ at ≤ length (now draws) + 32 ⌝ }
+    requires { ⌜ at ≤ length (now draws) + working-places ⌝ }
     ensures { λ r. ⌜ (r .index ≡ pick n (drop at (now (draws .entry)))) × (r .index < n) ⌝ }
     ensures { λ r. ⌜ r .next ≡ at + pick-draws n (drop at (now (draws .entry))) ⌝ }
 {
@@ -212,7 +212,7 @@ pub fn pick_index(draws: &[u32], at: usize, n: usize) -> PickedIndex
 // In the order that the draws from place `at` on decide; the answer is the place in the draws after them, past the end where there are too few.
 fn shuffle_in(s: &mut [u64], n: usize, draws: &[u32], at: usize) -> usize
     requires { ⌜ Filled (now s) n ⌝ }
-    requires { ⌜ n ≤ 32 ⌝ }
+    requires { ⌜ n ≤ working-places ⌝ }
     requires { ⌜ at ≤ length (now draws) ⌝ }
     ensures { λ _. ⌜ now (s .exit) ≡ pad 0 (length (now (s .entry))) (shuffle (drop at (now (draws .entry))) (take n (now (s .entry)))) ⌝ }
     ensures { λ r. ⌜ r ≡ at + shuffle-draws (drop at (now (draws .entry))) (take n (now (s .entry))) ⌝ }
@@ -234,9 +234,9 @@ fn shuffle_in(s: &mut [u64], n: usize, draws: &[u32], at: usize) -> usize
 // The first n items as a working set, whatever t held.
 pub fn copy_column(s: &[u64], n: usize, t: &mut [u64])
     requires { ⌜ Filled (now s) n ⌝ }
-    requires { ⌜ length (now s) ≤ 32 ⌝ }
-    requires { ⌜ length (now t) ≡ 33 ⌝ }
-    ensures { λ _. ⌜ HoldsSet 32 (now (t .exit)) (take n (now (s .entry))) ⌝ }
+    requires { ⌜ length (now s) ≤ working-places ⌝ }
+    requires { ⌜ length (now t) ≡ working-places + 1 ⌝ }
+    ensures { λ _. ⌜ HoldsSet working-places (now (t .exit)) (take n (now (s .entry))) ⌝ }
 {
     let mut i: usize = 0;
     while i < s.len() {
@@ -464,7 +464,7 @@ pub fn without_all(s: &mut [u64], cap: usize, skip: &[u64], scap: usize)
 // In the order that the draws from place `at` on decide; the answer is the place in the draws after them, past the end where there are too few.
 pub fn shuffle(s: &mut [u64], cap: usize, draws: &[u32], at: usize) -> usize
     requires { ⌜ ValidSet cap (now s) ⌝ }
-    requires { ⌜ cap ≤ 32 ⌝ }
+    requires { ⌜ cap ≤ working-places ⌝ }
     requires { ⌜ at ≤ length (now draws) ⌝ }
     ensures { λ _. ⌜ HoldsSet cap (now (s .exit)) (shuffle (drop at (now (draws .entry))) (items-at cap (now (s .entry)))) ⌝ }
     ensures { λ r. ⌜ r ≡ at + shuffle-draws (drop at (now (draws .entry))) (items-at cap (now (s .entry))) ⌝ }
@@ -476,9 +476,9 @@ pub fn shuffle(s: &mut [u64], cap: usize, draws: &[u32], at: usize) -> usize
 // The items of s, and whatever t held is gone.
 pub fn copy_into(s: &[u64], cap: usize, t: &mut [u64])
     requires { ⌜ ValidSet cap (now s) ⌝ }
-    requires { ⌜ cap ≤ 32 ⌝ }
-    requires { ⌜ length (now t) ≡ 33 ⌝ }
-    ensures { λ _. ⌜ HoldsSet 32 (now (t .exit)) (items-at cap (now (s .entry))) ⌝ }
+    requires { ⌜ cap ≤ working-places ⌝ }
+    requires { ⌜ length (now t) ≡ working-places + 1 ⌝ }
+    ensures { λ _. ⌜ HoldsSet working-places (now (t .exit)) (items-at cap (now (s .entry))) ⌝ }
 {
     let n = s[cap] as usize;
     copy_column(&s[..cap], n, t);

@@ -9,6 +9,7 @@ use Rattle.lists.specs.Array.{pad}
 use Rattle.peer.specs.Data.{Node}
 use Rattle.peer.specs.Held.{ValidData, node-in}
 use Rattle.peer.specs.declared.PeerInfo.{PeerInfo}
+use Rattle.record.specs.Format.{most-nodes}
 use Rattle.writer.specs.declared.Nodes.{Nodes}
 
 -- an unused place
@@ -19,8 +20,8 @@ unfoldable pub nodes-in : Nodes → List Node
 nodes-in s = map node-in (take (s .len) (s .items))
 
 pub record ValidNodes (s : Nodes) : Type 0 where
-  pub fits : s .len ≤ 32
-  pub packed : s .items ≡ pad blank 32 (take (s .len) (s .items))
+  pub fits : s .len ≤ most-nodes
+  pub packed : s .items ≡ pad blank most-nodes (take (s .len) (s .items))
   pub valid : (i : ℕ) → i < s .len → ValidData (getD (s .items) i blank .data)
 
 -- s is valid and stands for the nodes ns, which determine s

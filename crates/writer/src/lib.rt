@@ -10,7 +10,7 @@ ghost use Prim.Native.Nat.{_+_, _*_, _-_, _≤_, _<_};
 ghost use lib.ListN.{length};
 ghost use Rattle.lists.specs.Bytes.{le, overwrite};
 ghost use Rattle.peer.specs.Held.{node-in, ValidData};
-ghost use Rattle.record.specs.Format.{peer-length, header-length, node-length, entry, entries, datas};
+ghost use Rattle.record.specs.Format.{most-nodes, peer-length, header-length, node-length, entry, entries, datas};
 ghost use Rattle.writer.specs.Nodes.{nodes-in, ValidNodes, HoldsNodes};
 ghost use Rattle.writer.specs.Write.{rec-in, header-bytes, Wrote};
 
@@ -56,7 +56,7 @@ impl Nodes {
     // One more node, at the end.
     pub fn push(self, n: PeerInfo) -> Nodes
         requires { ⌜ ValidNodes self ⌝ }
-        requires { ⌜ self .len < 32 ⌝ }
+        requires { ⌜ self .len < most-nodes ⌝ }
         requires { ⌜ ValidData (n .data) ⌝ }
         ensures { λ r. ⌜ HoldsNodes r (nodes-in self ++ (node-in n ∷ [])) ⌝ }
     {
