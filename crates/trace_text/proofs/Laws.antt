@@ -53,19 +53,9 @@ module _ (i p : ℕ) (t a : Text) (o o₁ : List ℕ) where
   held-put x b r o₂ o₃ k₃ k₂ k₁ = named (append-assoc (comma-before i) (decimal p) _) (then (then k₃ k₂) k₁)
 
 module _ {A : Type 0} (name : List ℕ) (f : A → List ℕ) (xs : List A) (t a b r : Text) (o o₁ o₂ o₃ : List ℕ) where
-  list-put : Puts (93 ∷ []) b o₂ r o₃ → Puts (items-text f 0 xs) a o₁ b o₂ → Puts name t o a o₁ → Puts (list-field name f xs) t o r o₃
+  pub list-put : Puts (93 ∷ []) b o₂ r o₃ → Puts (items-text f 0 xs) a o₁ b o₂ → Puts name t o a o₁ → Puts (list-field name f xs) t o r o₃
   unfolding list-field ascii
   list-put k₃ k₂ k₁ = then (then k₃ k₂) k₁
-
-pub peers-put : (name s : List ℕ) (cap : ℕ) (t a b r : Text) (o o₁ o₂ o₃ : List ℕ) → Puts (93 ∷ []) b o₂ r o₃ → Puts (items-text decimal 0 (items-at cap s)) a o₁ b o₂ → Puts name t o a o₁ → Puts (list-field name decimal (items-at cap s)) t o r o₃
-peers-put name s cap t a b r o o₁ o₂ o₃ k₃ k₂ k₁ = list-put name decimal (items-at cap s) t a b r o o₁ o₂ o₃ k₃ k₂ k₁
-
-pub numbers-put : (name m : List ℕ) (cap : ℕ) (t a b r : Text) (o o₁ o₂ o₃ : List ℕ) → Puts (93 ∷ []) b o₂ r o₃ → Puts (items-text numbered-text 0 (numbers-at cap m)) a o₁ b o₂ → Puts name t o a o₁ → Puts (list-field name numbered-text (numbers-at cap m)) t o r o₃
-numbers-put name m cap t a b r o o₁ o₂ o₃ k₃ k₂ k₁ = list-put name numbered-text (numbers-at cap m) t a b r o o₁ o₂ o₃ k₃ k₂ k₁
-
-pub data-put : (m : List ℕ) (t a b r : Text) (o o₁ o₂ o₃ : List ℕ) → Puts (93 ∷ []) b o₂ r o₃ → Puts (items-text held-text 0 (data-map-at data-places m)) a o₁ b o₂ → Puts (ascii " data=[") t o a o₁
-    → Puts (list-field (ascii " data=[") held-text (data-map-at data-places m)) t o r o₃
-data-put m t a b r o o₁ o₂ o₃ k₃ k₂ k₁ = list-put (ascii " data=[") held-text (data-map-at data-places m) t a b r o o₁ o₂ o₃ k₃ k₂ k₁
 
 -- ---- own data and the limit on refills
 

@@ -3,7 +3,7 @@ use borrow.Author.Needs.{needs}
 use Prim.Native.Nat.{_-_}
 use Rattle.trace_text.specs.Items.{ascii}
 use Rattle.trace_text.proofs.Listing.{DataListed, data-start, data-next, data-end}
-use Rattle.trace_text.proofs.Laws.{data-put}
+use Rattle.trace_text.proofs.Laws.{list-put}
 use Rattle.trace_text.proofs.data_field.Statement.{statement}
 use Rattle.trace_text.proofs.data_field.Tie as tie
 
@@ -97,7 +97,7 @@ returns c =
     let at-put = c .before .before in
     let at-loop = at-put .before .before .before in
     let at-bytes = at-loop .before .before .before in
-    data-put _ _ _ _ _ _ _ _ _ (at-put .put .ensures) (data-end _ _ _ _ _ _ _ (at-loop .loop .inv) (search needs)) (at-bytes .put-bytes .ensures)
+    list-put _ _ _ _ _ _ _ _ _ _ _ (at-put .put .ensures) (data-end _ _ _ _ _ _ _ (at-loop .loop .inv) (search needs)) (at-bytes .put-bytes .ensures)
 
 pub data-field-spec : {M : Type 1} → statement M
 data-field-spec =

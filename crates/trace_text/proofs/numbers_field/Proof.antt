@@ -2,7 +2,7 @@
 use borrow.Author.Needs.{needs}
 use Prim.Native.Nat.{_-_}
 use Rattle.trace_text.proofs.Listing.{NumbersListed, numbers-start, numbers-next, numbers-end}
-use Rattle.trace_text.proofs.Laws.{numbers-put}
+use Rattle.trace_text.proofs.Laws.{list-put}
 use Rattle.trace_text.proofs.numbers_field.Statement.{statement}
 use Rattle.trace_text.proofs.numbers_field.Tie as tie
 
@@ -71,7 +71,7 @@ returns c =
     let at-put = c .before .before in
     let at-loop = at-put .before .before .before in
     let at-bytes = at-loop .before .before .before in
-    numbers-put _ _ _ _ _ _ _ _ _ _ _ (at-put .put .ensures) (numbers-end _ _ _ _ _ _ _ _ (at-loop .loop .inv) (search needs)) (at-bytes .put-bytes .ensures)
+    list-put _ _ _ _ _ _ _ _ _ _ _ (at-put .put .ensures) (numbers-end _ _ _ _ _ _ _ _ (at-loop .loop .inv) (search needs)) (at-bytes .put-bytes .ensures)
 
 pub numbers-field-spec : {M : Type 1} → statement M
 numbers-field-spec =

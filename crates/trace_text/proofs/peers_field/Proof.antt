@@ -2,7 +2,7 @@
 use borrow.Author.Needs.{needs}
 use Prim.Native.Nat.{_-_}
 use Rattle.trace_text.proofs.Listing.{PeersListed, peers-start, peers-next, peers-end}
-use Rattle.trace_text.proofs.Laws.{peers-put}
+use Rattle.trace_text.proofs.Laws.{list-put}
 use Rattle.trace_text.proofs.peers_field.Statement.{statement}
 use Rattle.trace_text.proofs.peers_field.Tie as tie
 
@@ -56,7 +56,7 @@ returns c =
     let at-put = c .before .before in
     let at-loop = at-put .before .before .before in
     let at-bytes = at-loop .before .before .before in
-    peers-put _ _ _ _ _ _ _ _ _ _ _ (at-put .put .ensures) (peers-end _ _ _ _ _ _ _ _ (at-loop .loop .inv) (search needs)) (at-bytes .put-bytes .ensures)
+    list-put _ _ _ _ _ _ _ _ _ _ _ (at-put .put .ensures) (peers-end _ _ _ _ _ _ _ _ (at-loop .loop .inv) (search needs)) (at-bytes .put-bytes .ensures)
 
 pub peers-field-spec : {M : Type 1} → statement M
 peers-field-spec =
