@@ -10,7 +10,7 @@ use Rattle.lists.specs.Array.{pad}
 use Rattle.lists.specs.Bytes.{le, overwrite}
 use Rattle.lists.specs.Tests.{every}
 use Rattle.peer.specs.Data.{Node}
-use Rattle.record.specs.Format.{Rec, header-length-by, size-by, encode-by, four-bytes-end}
+use Rattle.record.specs.Format.{Rec, most-nodes, header-length-by, size-by, encode-by, four-bytes-end}
 use Rattle.record.specs.Read.{well-formed-by, rec-of-by}
 use Rattle.record.specs.declared.Header.{Header}
 use Rattle.record.specs.declared.Entry.{Entry}
@@ -28,7 +28,7 @@ has-form w e = ltb (e .peer) (256 ^ w) && (ltb (e .second) (256 ^ w) && (ids-fit
 unfoldable pub conversion-code : ℕ → ℕ → List ℕ → ℕ → ℕ
 conversion-code v w b room =
     choose (ltb (length b) (header-length-by v)) 3
-    (choose (ltb 32 (getD b 3 0)) 4
+    (choose (ltb most-nodes (getD b 3 0)) 4
     (choose (not (well-formed-by v b)) 3
     (choose (not (has-form w (rec-of-by v b))) 19
     (choose (ltb room (size-by w (rec-of-by v b))) 9 0))))

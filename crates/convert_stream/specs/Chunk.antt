@@ -2,6 +2,6 @@
 -- Assumes nothing.
 use Prim.Native.Nat.{ℕ}
 
--- the most bytes that are read at once
+-- the most bytes that are held at once
 abbrev pub chunk-bytes : ℕ
 chunk-bytes = 65536

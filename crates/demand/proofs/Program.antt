@@ -24,8 +24,8 @@ use Rattle.protocol.proofs.Uncrowded as crowded
 use Rattle.protocol.proofs.Unreachable as unreachable
 use Rattle.history.specs.Calls.{Call, Given, narrow-draws, result-of, answered, state-after, codes}
 use Rattle.history.specs.Calls as calls
-use Rattle.history.specs.Demand.{Demand3}
-use Rattle.history.specs.Outputs.{OutputsRead}
+use Rattle.history.specs.Demand.{Demand3, Demand3-of}
+use Rattle.history.specs.Outputs.{OutputsRead, Outputs-of}
 use Rattle.history.specs.Rejoin.{ticks, Promised}
 use Rattle.history.specs.Packing.{Packs}
 use Rattle.history.proofs.Packing.{demand-packed, eight-packed, rejoin-packed, outputs-packed, states-packed}
@@ -201,16 +201,15 @@ value-packs = record {
 
 pub by-value-holds : D.By-value-holds
 unfolding made-state pack-made
-by-value-holds me (present, own) c g z =
-    let d = lent present own in
-    let s : State = record { words = pack (definition.new me d c .state) } in
-    let demand : (vs : List Call) → Demand3 value-program unpack-state state-passes me c s vs = demand-packed value-packs me d c g z in
-    let outputs : (vs : List Call) → narrow-draws vs ≡ true → OutputsRead value-program vs s = outputs-packed value-packs me d c g z in
+by-value-holds =
+    let demand : Demand3-of value-program unpack-state state-passes = (λ me g c t z vs. demand-packed value-packs me (value-program .own g) c t z vs) in
+    let outputs : Outputs-of value-program = (λ me g c t z vs n. outputs-packed value-packs me (value-program .own g) c t z vs n) in
     record {
       demand-3 = demand;
-      rejoins = λ vs. rejoin-packed value-packs me d c g z vs;
+      rejoins = λ me g c t z vs. rejoin-packed value-packs me (value-program .own g) c t z vs;
       read-back = outputs;
-      counted = λ vs n. counts-all value-program _ vs _ (outputs vs n);
-      timed = timed-packed value-packs me d c g z;
-      goes-on = λ vs. never-unreachable (state-after value-program vs s .words) (demand vs .rules-hold);
+      counted = λ me g c t z vs n. counts-all value-program _ vs _ (outputs me g c t z vs n);
+      timed = λ me g c t z. timed-packed value-packs me (value-program .own g) c t z;
+      never-eight = λ me g c t z vs. eight-packed value-packs me (value-program .own g) c t z vs;
+      goes-on = λ me g c t z vs. never-unreachable (state-after value-program vs (value-program .new-state me g c) .words) (demand me g c t z vs .rules-hold);
     }

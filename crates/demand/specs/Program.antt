@@ -15,13 +15,13 @@ use Rattle.protocol.specs.Messages.{ends-here, learn-joiner}
 use Rattle.protocol.specs.Rules.{all-under}
 use Rattle.protocol.specs.Kept.{FewerKept}
 use Rattle.protocol.specs.Handle as definition
-use Rattle.history.specs.Calls.{Call, narrow-draws, Machine, After-new, code-of, state-after}
-use Rattle.history.specs.Demand.{Demand3, Demand3-of}
-use Rattle.history.specs.Outputs.{OutputsRead, Outputs-of}
+use Rattle.history.specs.Calls.{Call, Machine, After-new, code-of, state-after}
+use Rattle.history.specs.Demand.{Demand3-of}
+use Rattle.history.specs.Outputs.{Outputs-of}
 use Rattle.history.specs.Refusals.{Never-eight-of}
-use Rattle.history.specs.Rejoin.{ticks, Promised, Rejoin-of}
-use Rattle.tally.specs.History.{CountsAll, Counts-of}
-use Rattle.shuffle_times.specs.Claims.{Timed, Timed-of}
+use Rattle.history.specs.Rejoin.{Rejoin-of}
+use Rattle.tally.specs.History.{Counts-of}
+use Rattle.shuffle_times.specs.Claims.{Timed-of}
 use Rattle.state.specs.Layout.{words}
 use Rattle.state.specs.Unpack.{unpack}
 use Rattle.rules.specs.Ok.{state-ok}
@@ -113,8 +113,11 @@ abbrev pub Never-unreachable : Type 0
 Never-unreachable = (xs : List ℕ) → state-ok xs ≡ true → Goes-on (unpack xs)
 
 -- and so after every list of calls to a new station
+abbrev pub Goes-on-of : {G S : Type 0} → Machine G S → (S → Station) → Type 0
+Goes-on-of m station = After-new m (λ me c s. (vs : List Call) → Goes-on (station (state-after m vs s)))
+
 abbrev pub Never-unreachable-after : Type 0
-Never-unreachable-after = After-new program (λ me c s. (vs : List Call) → Goes-on (unpack (state-after program vs s)))
+Never-unreachable-after = Goes-on-of program unpack
 
 -- a refused `new` hands back "a state of zeroes", word by word
 abbrev pub Refused-zeroes : Type 0
@@ -145,14 +148,12 @@ unpack-state s = unpack (s .words)
 abbrev pub state-passes : State → Bool
 state-passes s = state-ok (s .words)
 
--- the claims above on lists of calls, from the state s of a station `me` with settings c
-pub record By-value (me : ℕ) (c : Config) (s : State) : Type 0 where
-  pub demand-3 : (vs : List Call) → Demand3 value-program unpack-state state-passes me c s vs
-  pub rejoins : (vs : List Call) → Promised (ticks value-program unpack-state vs s)
-  pub read-back : (vs : List Call) → narrow-draws vs ≡ true → OutputsRead value-program vs s
-  pub counted : (vs : List Call) → narrow-draws vs ≡ true → CountsAll value-program (c .«active_view_capacity») vs s
-  pub timed : Timed value-program c s
-  pub goes-on : (vs : List Call) → Goes-on (unpack-state (state-after value-program vs s))
-
-abbrev pub By-value-holds : Type 0
-By-value-holds = After-new value-program By-value
+-- the claims above on lists of calls
+pub record By-value-holds : Type 0 where
+  pub demand-3 : Demand3-of value-program unpack-state state-passes
+  pub rejoins : Rejoin-of value-program unpack-state
+  pub read-back : Outputs-of value-program
+  pub counted : Counts-of value-program
+  pub timed : Timed-of value-program
+  pub never-eight : Never-eight-of value-program
+  pub goes-on : Goes-on-of value-program unpack-state

@@ -25,7 +25,7 @@ use Rattle.state.specs.Unpack.{unpack}
 use Rattle.rules.specs.Ok.{state-ok}
 use Rattle.hyparview.specs.Made.{lent}
 use Rattle.controller.specs.Calls.{Begun, begun, Called, called}
-use Rattle.demand.specs.Program.{Suffices, Goes-on}
+use Rattle.demand.specs.Program.{Suffices, Goes-on, Goes-on-of}
 
 -- what the box lends, and keeps between calls
 pub record Box : Type 0 where
@@ -114,7 +114,7 @@ Never-unreachable = (x : Box) → box-passes x ≡ true → Goes-on (station-in 
 
 -- and so after every list of calls
 abbrev pub Never-unreachable-after : Type 0
-Never-unreachable-after = After-new box (λ me c s. (vs : List Call) → Goes-on (station-in (state-after box vs s)))
+Never-unreachable-after = Goes-on-of box station-in
 
 -- a refused `hyparview_new` leaves words and tally of zeroes
 abbrev pub Refused-zeroes : Type 0

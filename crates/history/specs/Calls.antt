@@ -72,9 +72,9 @@ answered b ds out s = handle s b ds (length out)
 abbrev pub result-of : Call → Station → Result
 result-of v s = answered (v .event) (v .draws) (v .output) s
 
--- what X says of self, settings and state holds of every new station: of one that `new` answered with code 0
+-- what X says of self, settings and state holds of every new station: of one that `new`, given a 64-bit number and data of bytes, answered with code 0
 abbrev pub After-new : {G S : Type 0} → Machine G S → (ℕ → Config → S → Type 0) → Type 0
-After-new m X = (me : ℕ) (g : _) (c : Config) → Given me (m .own g) → m .new-code me g c ≡ 0 → X me c (m .new-state me g c)
+After-new {G = G} m X = (me : ℕ) (g : G) (c : Config) → Given me (m .own g) → m .new-code me g c ≡ 0 → X me c (m .new-state me g c)
 
 -- the definition as a machine
 abbrev pub definition : Machine Data Station

@@ -7,6 +7,7 @@ use mathlib.Core.List.{List}
 use lib.Dec.{eqb}
 use Rattle.lists.specs.Lists.{choose}
 use Rattle.record.specs.declared.Header.{Header}
+use Rattle.record.specs.Format.{most-nodes}
 use Rattle.record.specs.Read.{well-formed, header-of, rec-of, event, read-event}
 use Rattle.protocol.specs.Budgets.{arriving}
 use Rattle.protocol.specs.Run.{Run}
@@ -22,7 +23,7 @@ pub record Headed (b : List ℕ) (h : Header) : Type 0 where
 pub record ReadAs (b : List ℕ) (h : Header) : Type 0 where
   pub headed : Headed b h
   pub low : h .kind ≤ 8
-  pub few : h .nodes ≤ 32
+  pub few : h .nodes ≤ most-nodes
   pub reads : event (rec-of b) ≡ read-event b
 
 -- b is Join, ForwardJoin or Neighbor, with its one node

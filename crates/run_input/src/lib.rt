@@ -11,7 +11,7 @@ ghost use Rattle.run_input.specs.Input.{number, numbers, from-halves, co
 pub const MOST_BYTES: usize = 65536;
 
 // The draws of four bytes that would fill one, more than any has.
-pub const MOST_DRAWS: usize = MOST_BYTES / 4;
+pub const DRAWS_ROOM: usize = MOST_BYTES / 4;
 
 // What the head of an input says: self, the settings, how many events there are, the place where they end and the draws begin, and how many draws there are.
 pub struct Head {

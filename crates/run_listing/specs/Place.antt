@@ -21,12 +21,12 @@ use Rattle.run_listing.specs.declared.Shown.{Shown}
 use Rattle.run_listing.specs.declared.Shown.the-variants.{Bytes, TooShort}
 use Rattle.run_listing.specs.Run.{outcome-text}
 
--- the most bytes of the line that ends an event, and of the line of a record
-abbrev pub longest-end-line : ℕ
-longest-end-line = 44
+-- bytes that suffice for the line that ends an event, and for the line of a record, with twenty digits for each number
+abbrev pub end-line-space : ℕ
+end-line-space = 44
 
-abbrev pub longest-record-line : ℕ
-longest-record-line = 168
+abbrev pub record-line-space : ℕ
+record-line-space = 168
 
 -- the place after the event at p, whose output is recs, and whose lines are written after the text t
 pub record Steps (room : ℕ) (p : Runner) (i : ℕ) (events draws : List ℕ) (t : Text) (out : List ℕ) (r : Stepped) (recs o : List ℕ) : Type 0 where

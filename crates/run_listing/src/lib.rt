@@ -15,10 +15,10 @@ ghost use Rattle.run_input.specs.Input.{Laid};
 ghost use Rattle.run_text.specs.Text.{Puts};
 ghost use Rattle.run_text.specs.Lines.{end-line};
 ghost use Rattle.run_listing.specs.Run.{events-text, laid-text, run-text};
-ghost use Rattle.run_listing.specs.Place.{longest-end-line, longest-record-line, Steps, Fronts, Lines, fitting, Answers};
+ghost use Rattle.run_listing.specs.Place.{end-line-space, record-line-space, Steps, Fronts, Lines, fitting, Answers};
 ghost use Rattle.run_listing.specs.Opened.{opened-run, opened-head, first-place};
 
-// The most bytes of the line that ends an event, and of the line of a record.
+// Bytes that suffice for the line that ends an event, and for the line of a record, with twenty digits for each number.
 pub const END_LINE: usize = 44;
 
 pub const RECORD_LINE: usize = 168;
@@ -129,7 +129,7 @@ fn put_whole(s: State, b: &[u8], head: Head, out: &mut [u8], t: Text) -> Text
     requires { ⌜ Laid (now b) head ⌝ }
     ensures { λ r. ⌜ Puts (laid-text 8192 (s .words) head (now (b .entry))) t (now (out .entry)) r (now (out .exit)) ⌝ }
 {
-    let mut drawn = [0u32; run_input::MOST_DRAWS];
+    let mut drawn = [0u32; run_input::DRAWS_ROOM];
     let mut records = [0u8; hyparview::OUTPUT];
     let at = head.draws_at;
     run_input::read_numbers(&b[at..], &mut drawn);
@@ -161,7 +161,7 @@ pub fn open(b: &[u8]) -> Opened
 
 // The line that ends an event, or the one line of an input without events, at the front of the lent bytes.
 pub fn end_line(code: u32, draws: usize, out: &mut [u8]) -> usize
-    requires { ⌜ longest-end-line ≤ length (now out) ⌝ }
+    requires { ⌜ end-line-space ≤ length (now out) ⌝ }
     ensures { λ r. ⌜ Fronts (end-line code draws) (now (out .entry)) r (now (out .exit)) ⌝ }
 {
     let none = run_text::start();
@@ -171,7 +171,7 @@ pub fn end_line(code: u32, draws: usize, out: &mut [u8]) -> usize
 
 // The line of the first record of an output, at the front of the lent bytes.
 pub fn record_line(i: usize, records: &[u8], out: &mut [u8]) -> Lined
-    requires { ⌜ longest-record-line ≤ length (now out) ⌝ }
+    requires { ⌜ record-line-space ≤ length (now out) ⌝ }
     ensures { λ r. ⌜ Lines i (now (records .entry)) (now (out .entry)) r (now (out .exit)) ⌝ }
 {
     if records.len() < record::HEADER {

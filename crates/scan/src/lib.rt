@@ -58,6 +58,7 @@ fn found(s: &[u64], h: usize, x: u64) -> bool
     is_in(s, x)
 }
 
+// A noted byte as the place to look at first.
 fn hinted(x: u8) -> usize {
     x as usize
 }

@@ -4,7 +4,7 @@ use timing::Timing;
 ghost use mathlib.Core.Path.{_≡_};
 ghost use Prim.Native.Nat.{_≤_};
 ghost use lib.ListN.{replicate};
-ghost use Rattle.timing.specs.Timing.{delay};
+ghost use Rattle.timing.specs.Timing.{longest-time, delay};
 ghost use Rattle.shuffle_times.specs.Times.{lowest-draw, highest-draw, latest-start, most-shuffles, first-interval, next-interval, due, has-times, shuffle-times};
 
 // Both ends, in milliseconds; both 0 where there is no such time.
@@ -31,7 +31,7 @@ fn initial_interval(top: u32) -> u32
 
 // The interval doubles up to the setting.
 fn next_interval(top: u32, interval: u32) -> u32
-    requires { ⌜ interval ≤ 3600000 ⌝ }
+    requires { ⌜ interval ≤ longest-time ⌝ }
     ensures { λ r. ⌜ r ≡ next-interval top interval ⌝ }
 {
     timing::shorter(2 * interval, top)
@@ -39,7 +39,7 @@ fn next_interval(top: u32, interval: u32) -> u32
 
 // Three quarters of the interval: the delay of the lowest draw.
 fn least_delay(interval: u32) -> u64
-    requires { ⌜ interval ≤ 3600000 ⌝ }
+    requires { ⌜ interval ≤ longest-time ⌝ }
     ensures { λ r. ⌜ r ≡ delay interval lowest-draw ⌝ }
 {
     (3 * interval / 4) as u64
@@ -48,7 +48,7 @@ fn least_delay(interval: u32) -> u64
 // Five quarters of the interval, rounded up, less one: the delay of the highest draw.
 fn most_delay(interval: u32) -> u64
     requires { ⌜ 1 ≤ interval ⌝ }
-    requires { ⌜ interval ≤ 3600000 ⌝ }
+    requires { ⌜ interval ≤ longest-time ⌝ }
     ensures { λ r. ⌜ r ≡ delay interval highest-draw ⌝ }
 {
     ((5 * interval + 3) / 4 - 1) as u64
@@ -59,7 +59,7 @@ fn ends(earliest: u64, latest: u64, top: u32, k: u32) -> ShuffleTimes
     requires { ⌜ earliest ≤ latest-start ⌝ }
     requires { ⌜ latest ≤ latest-start ⌝ }
     requires { ⌜ 1 ≤ top ⌝ }
-    requires { ⌜ top ≤ 3600000 ⌝ }
+    requires { ⌜ top ≤ longest-time ⌝ }
     requires { ⌜ k ≤ most-shuffles ⌝ }
     ensures { λ r. ⌜ r ≡ record { earliest = due top (first-interval top) earliest (replicate k lowest-draw); latest = due top (first-interval top) latest (replicate k highest-draw) } ⌝ }
 {

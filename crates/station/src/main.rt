@@ -64,7 +64,7 @@ fn say_walk(b: &[u8], head: Head, drawn: &[u32], records: &mut [u8; hyparview::O
 fn say_whole(b: &[u8], head: Head)
     requires { ⌜ Laid (now b) head ⌝ }
 {
-    let mut drawn = [0u32; run_input::MOST_DRAWS];
+    let mut drawn = [0u32; run_input::DRAWS_ROOM];
     let mut records = [0u8; hyparview::OUTPUT];
     let at = head.draws_at;
     run_input::read_numbers(&b[at..], &mut drawn);

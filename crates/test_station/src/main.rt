@@ -41,11 +41,14 @@ fn next_input(head: &mut [u8], bytes: &mut [u8], text: &mut [u8; TEXT_SPACE]) ->
     take(&mut bytes[..size], text)
 }
 
+// The bytes of an input's length.
+const LENGTH_BYTES: usize = 4;
+
 // More inputs than are ever stored: a program ends.
 const MOST_INPUTS: usize = 1000000;
 
 fn main() {
-    let mut space = [0u8; 4];
+    let mut space = [0u8; LENGTH_BYTES];
     let head: &mut [u8] = &mut space;
     let mut buffer = [0u8; run_input::MOST_BYTES + 1];
     let bytes: &mut [u8] = &mut buffer;

@@ -16,7 +16,7 @@ use Rattle.timer_map.specs.Entries as E
 use Rattle.timer_map.specs.Entries.{Put, due-times, soonest, first-entry, is-due, no-queue-entry}
 use Rattle.timer_map.specs.Words.{pack-queue}
 use Rattle.timer_map.specs.Calls as C
-use Rattle.timer_map.specs.Calls.{PutWords, PoppedWords, put, refused-pop, inserted, taken-out, first-in, first-of, count-in, renewed}
+use Rattle.timer_map.specs.Calls.{PutWords, PoppedWords, packed-put, refused-pop, inserted, taken-out, first-in, first-of, count-in, renewed}
 use Rattle.timer_map.specs.declared.Timer.{Timer}
 use Rattle.timer_map.specs.declared.TimerMapEntry.{TimerMapEntry}
 use Rattle.timer_map.specs.declared.Popped.{Popped}
@@ -39,13 +39,13 @@ use Rattle.timer_events.proofs.Taking.{none-event, no-event, no-room, a
 -- ---- the definitions at packed words
 
 module _ (es : List TimerMapEntry) (g : Good es) where
-  insert-packed : (time delay : ℕ) (x : Timer) → inserted time delay x (pack-queue es) ≡ put (E.insert-timer time delay x es)
+  insert-packed : (time delay : ℕ) (x : Timer) → inserted time delay x (pack-queue es) ≡ packed-put (E.insert-timer time delay x es)
   unfolding inserted
-  insert-packed time delay x = choose-yes _ _ _ (good-ok es g) ∙ ap (λ (l : List TimerMapEntry). put (E.insert-timer time delay x l)) (entries-pack es)
+  insert-packed time delay x = choose-yes _ _ _ (good-ok es g) ∙ ap (λ (l : List TimerMapEntry). packed-put (E.insert-timer time delay x l)) (entries-pack es)
 
-  records-packed : (time : ℕ) (out : List ℕ) → records-inserted time out (pack-queue es) ≡ put (R.insert-records time out es)
+  records-packed : (time : ℕ) (out : List ℕ) → records-inserted time out (pack-queue es) ≡ packed-put (R.insert-records time out es)
   unfolding records-inserted
-  records-packed time out = choose-yes _ _ _ (good-ok es g) ∙ ap (λ (l : List TimerMapEntry). put (R.insert-records time out l)) (entries-pack es)
+  records-packed time out = choose-yes _ _ _ (good-ok es g) ∙ ap (λ (l : List TimerMapEntry). packed-put (R.insert-records time out l)) (entries-pack es)
 
   pop-packed : (limit : ℕ) → taken-out limit (pack-queue es) ≡ C.popped-words limit es
   unfolding taken-out
@@ -100,12 +100,12 @@ unfolding reply-code
 code-reply c = refl
 
 inserted-way : (time delay : ℕ) (x : Timer) (es : List TimerMapEntry) → Good es → (p : Put) → E.insert-timer time delay x es ≡ p → queue-answered (insert time delay x) (pack-queue es) ≡ record { reply = code (p .code); words = pack-queue (p .entries) }
-unfolding queue-answered put
-inserted-way time delay x es g p e = ap of-put (insert-packed es g time delay x ∙ ap put e)
+unfolding queue-answered packed-put
+inserted-way time delay x es g p e = ap of-put (insert-packed es g time delay x ∙ ap packed-put e)
 
 records-way : (time : ℕ) (out : List ℕ) (es : List TimerMapEntry) → Good es → (p : Put) → R.insert-records time out es ≡ p → queue-answered (insert-records time out) (pack-queue es) ≡ record { reply = code (p .code); words = pack-queue (p .entries) }
-unfolding queue-answered put
-records-way time out es g p e = ap of-put (records-packed es g time out ∙ ap put e)
+unfolding queue-answered packed-put
+records-way time out es g p e = ap of-put (records-packed es g time out ∙ ap packed-put e)
 
 insert-book : (time delay : ℕ) (x : Timer) (es : List TimerMapEntry) → es ++ (record { time = time + delay; item = x } ∷ []) ≡ booked (insert time delay x) (code 0) es
 unfolding asked time-out reply-code

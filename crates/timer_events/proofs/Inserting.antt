@@ -21,7 +21,7 @@ use Rattle.record.specs.Walk.{whole-length, records-in}
 use Rattle.record.proofs.Walk.{size-is, records-few, taken-none, taken-one, taken-next, taken-last}
 use Rattle.timer_map.specs.Entries.{Put, insert-timer}
 use Rattle.timer_map.specs.Words.{queue-count, entries-of, queue-ok, pack-queue, SoundQueue}
-use Rattle.timer_map.specs.Calls.{PutWords, put}
+use Rattle.timer_map.specs.Calls.{PutWords, packed-put}
 use Rattle.timer_map.specs.declared.TimerMapEntry.{TimerMapEntry}
 use Rattle.timer_map.proofs.Pack.{entries-pack}
 use Rattle.timer_map.proofs.Kept.{Good, good-insert, good-sound, sound-good, Inserts, refused, done, inserts}
@@ -105,19 +105,19 @@ abbrev words-of : ℕ → List ℕ → PutWords
 words-of c l = record { code = c; words = l }
 
 module _ (ws b : List ℕ) (h : Header) (time : ℕ) (v : SoundQueue ws) (e : h ≡ header-of b) where
-  pub put-timer : (x : ScheduleTimer) (r : PutWords) → r ≡ put (insert-timer time (x .delay) (x .item) (entries-of ws)) → x ≡ schedule-of (h .size) b → (leb 1 (h .kind) && leb (h .kind) 4) ≡ true
-      → r ≡ put (insert-all time (timer-of b) (entries-of ws))
+  pub put-timer : (x : ScheduleTimer) (r : PutWords) → r ≡ packed-put (insert-timer time (x .delay) (x .item) (entries-of ws)) → x ≡ schedule-of (h .size) b → (leb 1 (h .kind) && leb (h .kind) 4) ≡ true
+      → r ≡ packed-put (insert-all time (timer-of b) (entries-of ws))
   unfolding timer-of is-timer
   put-timer x r p q t =
       let k : x ≡ schedule-of (whole-length b) b = q ∙ ap (λ (n : ℕ). schedule-of n b) (size-is b h e) in
       let u : is-timer (header-of b) ≡ true = sym (ap is-timer e) ∙ t in
-      p ∙ ap put (sym (one-insert time x (entries-of ws)) ∙ ap (λ (y : ScheduleTimer). insert-all time (y ∷ []) (entries-of ws)) k ∙ ap (λ (l : List ScheduleTimer). insert-all time l (entries-of ws)) (sym (choose-yes _ _ _ u)))
+      p ∙ ap packed-put (sym (one-insert time x (entries-of ws)) ∙ ap (λ (y : ScheduleTimer). insert-all time (y ∷ []) (entries-of ws)) k ∙ ap (λ (l : List ScheduleTimer). insert-all time l (entries-of ws)) (sym (choose-yes _ _ _ u)))
 
-  pub put-other : (leb 1 (h .kind) && leb (h .kind) 4) ≡ false → record { code = 0; words = ws } ≡ put (insert-all time (timer-of b) (entries-of ws))
-  unfolding timer-of is-timer insert-all put
+  pub put-other : (leb 1 (h .kind) && leb (h .kind) 4) ≡ false → record { code = 0; words = ws } ≡ packed-put (insert-all time (timer-of b) (entries-of ws))
+  unfolding timer-of is-timer insert-all packed-put
   put-other t =
       let u : is-timer (header-of b) ≡ false = sym (ap is-timer e) ∙ t in
-      ap (words-of 0) (v .is) ∙ ap (λ (l : List ScheduleTimer). put (insert-all time l (entries-of ws))) (sym (choose-no _ _ _ u))
+      ap (words-of 0) (v .is) ∙ ap (λ (l : List ScheduleTimer). packed-put (insert-all time l (entries-of ws))) (sym (choose-no _ _ _ u))
 
 -- ---- the loop
 
@@ -125,21 +125,21 @@ module _ (ws b : List ℕ) (h : Header) (time : ℕ) (v : SoundQueue ws) (e : h 
 pub record Inserting (time : ℕ) (whole : PutWords) (q₀ q rest : List ℕ) : Type 0 where
   pub sound : SoundQueue q
   pub first : length q₀ ≡ 513
-  pub same : whole ≡ put (insert-all time (timers-in rest) (entries-of q))
+  pub same : whole ≡ packed-put (insert-all time (timers-in rest) (entries-of q))
 
-pub inserting-start : (time : ℕ) (q out : List ℕ) → SoundQueue q → Inserting time (put (insert-all time (timers-in out) (entries-of q))) q q out
+pub inserting-start : (time : ℕ) (q out : List ℕ) → SoundQueue q → Inserting time (packed-put (insert-all time (timers-in out) (entries-of q))) q q out
 inserting-start time q out v = record { sound = v; first = v .long; same = refl }
 
 module _ (time : ℕ) (whole : PutWords) (q₀ q rest : List ℕ) (v : Inserting time whole q₀ q rest) where
   pub inserting-long : length q ≡ length q₀
   inserting-long = v .sound .long ∙ sym (v .first)
 
-  by-records : (bs : List (List ℕ)) → records-in rest ≡ bs → whole ≡ put (insert-all time (flatMap timer-of bs) (entries-of q))
+  by-records : (bs : List (List ℕ)) → records-in rest ≡ bs → whole ≡ packed-put (insert-all time (flatMap timer-of bs) (entries-of q))
   unfolding timers-in
-  by-records bs e = v .same ∙ ap (λ (x : List (List ℕ)). put (insert-all time (flatMap timer-of x) (entries-of q))) e
+  by-records bs e = v .same ∙ ap (λ (x : List (List ℕ)). packed-put (insert-all time (flatMap timer-of x) (entries-of q))) e
 
   ends : records-in rest ≡ [] → record { code = 0; words = q } ≡ whole
-  unfolding put insert-all flatMap
+  unfolding packed-put insert-all flatMap
   ends e = ap (words-of 0) (v .sound .is) ∙ sym (by-records [] e)
 
   pub inserting-few : length rest < header-length → record { code = 0; words = q } ≡ whole
@@ -149,22 +149,22 @@ module _ (time : ℕ) (whole : PutWords) (q₀ q rest : List ℕ) (v : Inserting
     pub inserting-none : h .size ≡ 0 → record { code = 0; words = q } ≡ whole
     inserting-none e = ends (taken-none rest h is e)
 
-    module _ (code : ℕ) (q′ : List ℕ) (e : record { code = code; words = q′ } ≡ put (insert-all time (timer-of rest) (entries-of q))) (z : h .size ≡ 0 → ⊥) (m : header-length ≤ length rest) where
-      step : (bs : List (List ℕ)) → records-in rest ≡ rest ∷ bs → whole ≡ put (next time (flatMap timer-of bs) (insert-all time (timer-of rest) (entries-of q)))
+    module _ (code : ℕ) (q′ : List ℕ) (e : record { code = code; words = q′ } ≡ packed-put (insert-all time (timer-of rest) (entries-of q))) (z : h .size ≡ 0 → ⊥) (m : header-length ≤ length rest) where
+      step : (bs : List (List ℕ)) → records-in rest ≡ rest ∷ bs → whole ≡ packed-put (next time (flatMap timer-of bs) (insert-all time (timer-of rest) (entries-of q)))
       unfolding flatMap
-      step bs r = by-records (rest ∷ bs) r ∙ ap put (insert-all-append time (timer-of rest) (flatMap timer-of bs) (entries-of q))
+      step bs r = by-records (rest ∷ bs) r ∙ ap packed-put (insert-all-append time (timer-of rest) (flatMap timer-of bs) (entries-of q))
 
       code-is : code ≡ insert-all time (timer-of rest) (entries-of q) .code
-      unfolding put
+      unfolding packed-put
       code-is = ap (λ (y : PutWords). y .code) e
 
       words-is : q′ ≡ pack-queue (insert-all time (timer-of rest) (entries-of q) .entries)
-      unfolding put
+      unfolding packed-put
       words-is = ap (λ (y : PutWords). y .words) e
 
       pub inserting-refused : (code ≡ 0 → ⊥) → record { code = code; words = q′ } ≡ whole
       unfolding next
-      inserting-refused n = e ∙ sym (step _ (taken-one rest h is m z) ∙ ap put (choose-no _ _ _ (ne-eqb _ 0 (λ o. n (code-is ∙ o)))))
+      inserting-refused n = e ∙ sym (step _ (taken-one rest h is m z) ∙ ap packed-put (choose-no _ _ _ (ne-eqb _ 0 (λ o. n (code-is ∙ o)))))
 
       held : entries-of q′ ≡ insert-all time (timer-of rest) (entries-of q) .entries
       held = ap entries-of words-is ∙ entries-pack _
@@ -172,13 +172,13 @@ module _ (time : ℕ) (whole : PutWords) (q₀ q rest : List ℕ) (v : Inserting
       kept : SoundQueue q′
       kept = subst SoundQueue (sym words-is) (good-sound _ (good-all time (timer-of rest) (entries-of q) (sound-good q (v .sound))))
 
-      goes-on : code ≡ 0 → (bs : List (List ℕ)) → records-in rest ≡ rest ∷ bs → whole ≡ put (insert-all time (flatMap timer-of bs) (entries-of q′))
+      goes-on : code ≡ 0 → (bs : List (List ℕ)) → records-in rest ≡ rest ∷ bs → whole ≡ packed-put (insert-all time (flatMap timer-of bs) (entries-of q′))
       unfolding next
       goes-on c bs r =
-          step bs r ∙ ap put (choose-yes _ _ _ (eq-eqb _ 0 (sym code-is ∙ c))) ∙ ap (λ (l : List TimerMapEntry). put (insert-all time (flatMap timer-of bs) l)) (sym held)
+          step bs r ∙ ap packed-put (choose-yes _ _ _ (eq-eqb _ 0 (sym code-is ∙ c))) ∙ ap (λ (l : List TimerMapEntry). packed-put (insert-all time (flatMap timer-of bs) l)) (sym held)
 
       pub inserting-last : code ≡ 0 → length rest < h .size → record { code = 0; words = q′ } ≡ whole
-      unfolding put insert-all flatMap
+      unfolding packed-put insert-all flatMap
       inserting-last c l = ap (words-of 0) (kept .is) ∙ sym (goes-on c [] (taken-last rest h is m z l))
 
       pub inserting-next : code ≡ 0 → Inserting time whole q₀ q′ (take (length rest - h .size) (drop (h .size) rest))
@@ -188,13 +188,13 @@ module _ (time : ℕ) (whole : PutWords) (q₀ q rest : List ℕ) (v : Inserting
 -- ---- all or none
 
 module _ (ws out : List ℕ) (time : ℕ) (v : SoundQueue ws) (code : ℕ) (q : List ℕ)
-    (e : record { code = code; words = q } ≡ put (insert-all time (timers-in out) (entries-of ws))) where
+    (e : record { code = code; words = q } ≡ packed-put (insert-all time (timers-in out) (entries-of ws))) where
   all-words : q ≡ pack-queue (insert-all time (timers-in out) (entries-of ws) .entries)
-  unfolding put
+  unfolding packed-put
   all-words = ap (λ (y : PutWords). y .words) e
 
   all-code : code ≡ insert-all time (timers-in out) (entries-of ws) .code
-  unfolding put
+  unfolding packed-put
   all-code = ap (λ (y : PutWords). y .code) e
 
   all-held : entries-of q ≡ insert-all time (timers-in out) (entries-of ws) .entries
@@ -212,18 +212,18 @@ module _ (ws out : List ℕ) (time : ℕ) (v : SoundQueue ws) (code : ℕ) (q : 
   old-front : take (queue-count ws) (entries-of q) ≡ entries-of ws
   old-front = ap (λ (n : ℕ). take n (entries-of q)) (sym (v .count)) ∙ ap (take (length (entries-of ws))) (front .is) ∙ take-append-seam (entries-of ws) (front .more)
 
-  pub none-put : (r : List ℕ) → r ≡ pack-queue (take (queue-count ws) (entries-of q)) → (code ≡ 0 → ⊥) → record { code = code; words = r } ≡ put (insert-records time out (entries-of ws))
-  unfolding insert-records all-or-none put
+  pub none-put : (r : List ℕ) → r ≡ pack-queue (take (queue-count ws) (entries-of q)) → (code ≡ 0 → ⊥) → record { code = code; words = r } ≡ packed-put (insert-records time out (entries-of ws))
+  unfolding insert-records all-or-none packed-put
   none-put r p n =
       (λ i. words-of (all-code i) ((p ∙ ap pack-queue old-front) i))
-      ∙ ap put (sym (choose-no (eqb (insert-all time (timers-in out) (entries-of ws) .code) 0) (insert-all time (timers-in out) (entries-of ws)) (record { code = insert-all time (timers-in out) (entries-of ws) .code; entries = entries-of ws }) (ne-eqb _ 0 (λ o. n (all-code ∙ o)))))
+      ∙ ap packed-put (sym (choose-no (eqb (insert-all time (timers-in out) (entries-of ws) .code) 0) (insert-all time (timers-in out) (entries-of ws)) (record { code = insert-all time (timers-in out) (entries-of ws) .code; entries = entries-of ws }) (ne-eqb _ 0 (λ o. n (all-code ∙ o)))))
 
-  pub all-put : code ≡ 0 → record { code = 0; words = q } ≡ put (insert-records time out (entries-of ws))
+  pub all-put : code ≡ 0 → record { code = 0; words = q } ≡ packed-put (insert-records time out (entries-of ws))
   unfolding insert-records all-or-none
-  all-put c = ap (λ (n : ℕ). words-of n q) (sym c) ∙ e ∙ ap put (sym (choose-yes (eqb (insert-all time (timers-in out) (entries-of ws) .code) 0) (insert-all time (timers-in out) (entries-of ws)) (record { code = insert-all time (timers-in out) (entries-of ws) .code; entries = entries-of ws }) (eq-eqb _ 0 (sym all-code ∙ c))))
+  all-put c = ap (λ (n : ℕ). words-of n q) (sym c) ∙ e ∙ ap packed-put (sym (choose-yes (eqb (insert-all time (timers-in out) (entries-of ws) .code) 0) (insert-all time (timers-in out) (entries-of ws)) (record { code = insert-all time (timers-in out) (entries-of ws) .code; entries = entries-of ws }) (eq-eqb _ 0 (sym all-code ∙ c))))
 
 module _ (ws out : List ℕ) (time : ℕ) (b : Bool) (e : b ≡ queue-ok ws) where
-  pub records-asked : (r : PutWords) → b ≡ true → r ≡ put (insert-records time out (entries-of ws)) → r ≡ records-inserted time out ws
+  pub records-asked : (r : PutWords) → b ≡ true → r ≡ packed-put (insert-records time out (entries-of ws)) → r ≡ records-inserted time out ws
   unfolding records-inserted
   records-asked r t p = p ∙ sym (choose-yes _ _ _ (sym e ∙ t))
 

@@ -13,7 +13,7 @@ use Rattle.record.specs.declared.Answer.{Answer}
 use Rattle.record.specs.declared.Answer.the-variants as Answers
 use Rattle.timer_map.specs.Entries.{Put, insert-timer}
 use Rattle.timer_map.specs.Words.{entries-of, queue-ok}
-use Rattle.timer_map.specs.Calls.{PutWords, put}
+use Rattle.timer_map.specs.Calls.{PutWords, packed-put}
 use Rattle.timer_map.specs.declared.TimerMapEntry.{TimerMapEntry}
 use Rattle.timer_events.specs.declared.ScheduleTimer.{ScheduleTimer}
 
@@ -59,4 +59,4 @@ insert-records time out es = all-or-none es (insert-all time (timers-in out) es)
 
 -- of any words
 unfoldable pub records-inserted : ℕ → List ℕ → List ℕ → PutWords
-records-inserted time out ws = choose (queue-ok ws) (put (insert-records time out (entries-of ws))) (record { code = 2; words = ws })
+records-inserted time out ws = choose (queue-ok ws) (packed-put (insert-records time out (entries-of ws))) (record { code = 2; words = ws })

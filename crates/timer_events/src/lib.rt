@@ -13,7 +13,7 @@ ghost use mathlib.Core.List.{[]};
 ghost use Rattle.record.specs.Read.{header-of};
 ghost use Rattle.writer.specs.Write.{rec-in};
 ghost use Rattle.timer_map.specs.Words.{entries-of, SoundQueue};
-ghost use Rattle.timer_map.specs.Calls.{put};
+ghost use Rattle.timer_map.specs.Calls.{packed-put};
 ghost use Rattle.timer_events.specs.Records.{no-start, started, schedule-of, timer-of, timers-in, insert-all, insert-records, records-inserted};
 ghost use Rattle.timer_events.specs.Events.{has-event, event-rec, event-popped, event-taken};
 
@@ -90,7 +90,7 @@ fn schedule_of(b: &[u8], n: usize) -> ScheduleTimer
 fn insert_record(q: &mut [u64], time: u64, b: &[u8], h: Header) -> u32
     requires { ⌜ SoundQueue (now q) ⌝ }
     requires { ⌜ h ≡ header-of (now b) ⌝ }
-    ensures { λ r. ⌜ record { code = r; words = now (q .exit) } ≡ put (insert-all time (timer-of (now (b .entry))) (entries-of (now (q .entry)))) ⌝ }
+    ensures { λ r. ⌜ record { code = r; words = now (q .exit) } ≡ packed-put (insert-all time (timer-of (now (b .entry))) (entries-of (now (q .entry)))) ⌝ }
 {
     if (Kind::DO_SHUFFLE <= h.kind) & (h.kind <= Kind::RETRY_JOIN) {
         let n = h.size as usize;
@@ -104,7 +104,7 @@ fn insert_record(q: &mut [u64], time: u64, b: &[u8], h: Header) -> u32
 // The timers of an output one after the other, up to the first that is refused.
 fn insert_all(q: &mut [u64], time: u64, out: &[u8]) -> u32
     requires { ⌜ SoundQueue (now q) ⌝ }
-    ensures { λ r. ⌜ record { code = r; words = now (q .exit) } ≡ put (insert-all time (timers-in (now (out .entry))) (entries-of (now (q .entry)))) ⌝ }
+    ensures { λ r. ⌜ record { code = r; words = now (q .exit) } ≡ packed-put (insert-all time (timers-in (now (out .entry))) (entries-of (now (q .entry)))) ⌝ }
 {
     let mut rest = out;
     while HEADER <= rest.len() {
@@ -128,7 +128,7 @@ fn insert_all(q: &mut [u64], time: u64, out: &[u8]) -> u32
 // The same into a queue that keeps its rules, all or none.
 fn records_ok(q: &mut [u64], time: u64, out: &[u8]) -> u32
     requires { ⌜ SoundQueue (now q) ⌝ }
-    ensures { λ r. ⌜ record { code = r; words = now (q .exit) } ≡ put (insert-records time (now (out .entry)) (entries-of (now (q .entry)))) ⌝ }
+    ensures { λ r. ⌜ record { code = r; words = now (q .exit) } ≡ packed-put (insert-records time (now (out .entry)) (entries-of (now (q .entry)))) ⌝ }
 {
     let n = q[timer_map::COUNT];
     let code = insert_all(q, time, out);

@@ -216,7 +216,7 @@ push-pack es e h =
     last : queue-rows es ++ queue-rows (e ∷ []) ≡ queue-rows es ++ queue-row e
     last = ap (λ (l : List ℕ). queue-rows es ++ l) (one-row e)
 
--- the words after the two stores of `push`: a is the row, and mid has it
+-- the words after the two stores of `push_entry`: a is the row, and mid has it
 pub push-law : (ws : List ℕ) (e : TimerMapEntry) (a mid : List ℕ) → SoundQueue ws → queue-count ws < 64 → a ≡ queue-row e → mid ≡ overwrite ws (1 + 8 * queue-count ws) a
     → set mid 0 (queue-count ws + 1) ≡ pack-queue (entries-of ws ++ (e ∷ []))
 push-law ws e a mid s h p q =
@@ -292,7 +292,7 @@ shifted-length ws i l h =
     length-append (take (1 + 8 * i) ws) (drop (1 + 8 * i + 8) ws ++ drop 505 ws)
     ∙ omega (arith, length-take-le (1 + 8 * i) ws (omega arith), length-append (drop (1 + 8 * i + 8) ws) (drop 505 ws), length-drop (1 + 8 * i + 8) ws, length-drop 505 ws)
 
--- the words after the three steps of `remove`: s is shifted, and c has its last row cleared
+-- the words after the three steps of `remove_entry`: s is shifted, and c has its last row cleared
 pub remove-law : (ws : List ℕ) (i : ℕ) (s c : List ℕ) → SoundQueue ws → i < queue-count ws
     → c ≡ take 505 s ++ replicate (length s - 505) 0 → s ≡ take (1 + 8 * i) ws ++ (drop (1 + 8 * i + 8) ws ++ drop 505 ws)
     → set c 0 (queue-count ws - 1) ≡ pack-queue (shift-remove i (entries-of ws))

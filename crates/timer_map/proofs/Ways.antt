@@ -15,7 +15,7 @@ use Rattle.lists.specs.Tests.{every}
 use Rattle.lists.proofs.Choice.{split, clash, choose-yes, choose-no}
 use Rattle.timer_map.specs.Entries.{latest, queue-entry-ok, timer-ok, insert-refusal, insert-timer, soonest, first-entry, is-due, popped-entries, no-queue-entry}
 use Rattle.timer_map.specs.Words.{queue-count, queue-entry-at, queue-entries-at, entries-of, unused-word, queue-ok, queue-rows, pack-queue, SoundQueue}
-use Rattle.timer_map.specs.Calls.{PutWords, put, inserted, PoppedWords, refused-pop, no-due, due-in, popped, popped-words, taken-out, first-of, first-in, count-in, renewed}
+use Rattle.timer_map.specs.Calls.{PutWords, packed-put, inserted, PoppedWords, refused-pop, no-due, due-in, popped, popped-words, taken-out, first-of, first-in, count-in, renewed}
 use Rattle.timer_map.specs.declared.Timer.{Timer}
 use Rattle.timer_map.specs.declared.TimerMapEntry.{TimerMapEntry}
 use Rattle.timer_map.specs.declared.Due.{Due}
@@ -55,7 +55,7 @@ accepted time delay n e =
     (λ u. absurd (omega (arith, sym (choose-no _ _ _ t ∙ choose-yes _ _ _ u) ∙ e)))
     (λ u. record { due = ltb-false latest (time + delay) t; room = leb-false 64 n u }))
 
--- ---- is_ok
+-- ---- queue_ok
 
 pub wrong-length : (ws : List ℕ) → (length ws ≡ 513 → ⊥) → false ≡ queue-ok ws
 unfolding queue-ok
@@ -90,22 +90,22 @@ abbrev words-of : ℕ → List ℕ → PutWords
 words-of c l = record { code = c; words = l }
 
 module _ (ws : List ℕ) (time delay : ℕ) (x : Timer) (b : Bool) (v : SoundQueue ws) (p : b ≡ timer-ok x) where
-  pub put-malformed : b ≡ false → record { code = 3; words = ws } ≡ put (insert-timer time delay x (entries-of ws))
-  unfolding put
-  put-malformed t = ap (words-of 3) (v .is) ∙ sym (ap put (insert-malformed time delay x (entries-of ws) (sym p ∙ t)))
+  pub put-malformed : b ≡ false → record { code = 3; words = ws } ≡ packed-put (insert-timer time delay x (entries-of ws))
+  unfolding packed-put
+  put-malformed t = ap (words-of 3) (v .is) ∙ sym (ap packed-put (insert-malformed time delay x (entries-of ws) (sym p ∙ t)))
 
   module _ (code : ℕ) (q : code ≡ insert-refusal time delay (queue-count ws)) (t : b ≡ true) where
     same-refusal : code ≡ insert-refusal time delay (length (entries-of ws))
     same-refusal = q ∙ ap (insert-refusal time delay) (sym (v .count))
 
-    pub put-refused : (code ≡ 0 → ⊥) → record { code = code; words = ws } ≡ put (insert-timer time delay x (entries-of ws))
-    unfolding put
+    pub put-refused : (code ≡ 0 → ⊥) → record { code = code; words = ws } ≡ packed-put (insert-timer time delay x (entries-of ws))
+    unfolding packed-put
     put-refused n =
-        (λ i. words-of (same-refusal i) (v .is i)) ∙ sym (ap put (insert-refused time delay x (entries-of ws) (sym p ∙ t) (λ z. n (same-refusal ∙ z))))
+        (λ i. words-of (same-refusal i) (v .is i)) ∙ sym (ap packed-put (insert-refused time delay x (entries-of ws) (sym p ∙ t) (λ z. n (same-refusal ∙ z))))
 
-    pub put-done : (after : List ℕ) → code ≡ 0 → after ≡ pack-queue (entries-of ws ++ (record { time = time + delay; item = x } ∷ [])) → record { code = 0; words = after } ≡ put (insert-timer time delay x (entries-of ws))
-    unfolding put
-    put-done after z e = ap (words-of 0) e ∙ sym (ap put (insert-done time delay x (entries-of ws) (sym p ∙ t) (sym same-refusal ∙ z)))
+    pub put-done : (after : List ℕ) → code ≡ 0 → after ≡ pack-queue (entries-of ws ++ (record { time = time + delay; item = x } ∷ [])) → record { code = 0; words = after } ≡ packed-put (insert-timer time delay x (entries-of ws))
+    unfolding packed-put
+    put-done after z e = ap (words-of 0) e ∙ sym (ap packed-put (insert-done time delay x (entries-of ws) (sym p ∙ t) (sym same-refusal ∙ z)))
 
 pub due-fits : (time delay n code : ℕ) → code ≡ insert-refusal time delay n → code ≡ 0 → Fits w64 (time + delay)
 due-fits time delay n code e z = record { fits = omega (arith, accepted time delay n (sym e ∙ z) .due) }
@@ -122,7 +122,7 @@ module _ (ws : List ℕ) (b : Bool) (e : b ≡ queue-ok ws) where
   pub lent : b ≡ true → 0 < length ws
   lent t = omega (arith, sound-asked t .long)
 
-  pub insert-asked : (time delay : ℕ) (x : Timer) (r : PutWords) → b ≡ true → r ≡ put (insert-timer time delay x (entries-of ws)) → r ≡ inserted time delay x ws
+  pub insert-asked : (time delay : ℕ) (x : Timer) (r : PutWords) → b ≡ true → r ≡ packed-put (insert-timer time delay x (entries-of ws)) → r ≡ inserted time delay x ws
   unfolding inserted
   insert-asked time delay x r t p = p ∙ sym (choose-yes _ _ _ (sym e ∙ t))
 

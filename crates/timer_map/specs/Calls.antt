@@ -20,12 +20,12 @@ pub record PutWords : Type 0 where
   pub code : ℕ
   pub words : List ℕ
 
-unfoldable pub put : Put → PutWords
-put p = record { code = p .code; words = pack-queue (p .entries) }
+unfoldable pub packed-put : Put → PutWords
+packed-put p = record { code = p .code; words = pack-queue (p .entries) }
 
 -- TimerMap::insert
 unfoldable pub inserted : ℕ → ℕ → Timer → List ℕ → PutWords
-inserted time delay x ws = choose (queue-ok ws) (put (insert-timer time delay x (entries-of ws))) (record { code = 2; words = ws })
+inserted time delay x ws = choose (queue-ok ws) (packed-put (insert-timer time delay x (entries-of ws))) (record { code = 2; words = ws })
 
 -- without an entry: a refusal, or code 0 where none is due
 abbrev pub refused-pop : ℕ → Popped

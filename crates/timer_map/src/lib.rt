@@ -9,7 +9,7 @@ ghost use Rattle.lists.specs.Bytes.{overwrite};
 ghost use Rattle.lists.specs.Tests.{every};
 ghost use Rattle.timer_map.specs.Entries.{timer-ok, queue-entry-ok, insert-refusal, insert-timer, soonest, no-queue-entry};
 ghost use Rattle.timer_map.specs.Words.{queue-count, queue-entry-at, queue-entries-at, entries-of, queue-row, unused-word, queue-ok, pack-queue, SoundQueue};
-ghost use Rattle.timer_map.specs.Calls.{put, no-due, due-in, popped-words, refused-pop, inserted, taken-out, first-of, first-in, count-in, renewed};
+ghost use Rattle.timer_map.specs.Calls.{packed-put, no-due, due-in, popped-words, refused-pop, inserted, taken-out, first-of, first-in, count-in, renewed};
 
 // The lent words: the count, then a row for each place. A sum is a constant of its own.
 pub const WORDS: usize = 513;
@@ -267,7 +267,7 @@ fn refusal(time: u64, delay: u64, n: u64) -> u32
 // A timer into a queue that keeps its rules.
 pub fn insert_ok(q: &mut [u64], time: u64, delay: u64, item: Timer) -> u32
     requires { ⌜ SoundQueue (now q) ⌝ }
-    ensures { λ r. ⌜ record { code = r; words = now (q .exit) } ≡ put (insert-timer time delay item (entries-of (now (q .entry)))) ⌝ }
+    ensures { λ r. ⌜ record { code = r; words = now (q .exit) } ≡ packed-put (insert-timer time delay item (entries-of (now (q .entry)))) ⌝ }
 {
     if timer_ok(item) {
         let code = refusal(time, delay, q[COUNT]);

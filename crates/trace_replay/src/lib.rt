@@ -18,6 +18,11 @@ ghost use Rattle.run_input.specs.Input.{Laid};
 ghost use Rattle.run_walk.specs.Place.{passed};
 ghost use Rattle.trace_replay.specs.Ending.{Counting, room-of, words-after, laid-words, made-end, ended-of};
 
+// Space for the line of a refused history, and for the text of an event.
+const REFUSAL_SPACE: usize = 64;
+
+const EVENT_SPACE: usize = 32768;
+
 // How a history ended: code 0 and the state after its last event, or the code that it was refused with as a whole and a state of zeroes.
 pub struct Ended {
     pub code: u32,
@@ -106,7 +111,7 @@ fn say_trace(text: &[u8], t: Text) {
 fn refused(code: u32, s: State) -> Ended
     ensures { λ r. ⌜ r ≡ record { code = code; state = s } ⌝ }
 {
-    let mut space = [0u8; 64];
+    let mut space = [0u8; REFUSAL_SPACE];
     let text: &mut [u8] = &mut space;
     let none = run_text::start();
     let t = run_text::put_end(text, none, code, 0);
@@ -166,9 +171,9 @@ fn with_space(s: State, b: &[u8], head: Head, room: usize) -> State
     requires { ⌜ room ≤ 8192 ⌝ }
     ensures { λ r. ⌜ r .words ≡ laid-words room (s .words) head (now (b .entry)) ⌝ }
 {
-    let mut drawn = [0u32; run_input::MOST_DRAWS];
+    let mut drawn = [0u32; run_input::DRAWS_ROOM];
     let mut out = [0u8; hyparview::OUTPUT];
-    let mut text = [0u8; 32768];
+    let mut text = [0u8; EVENT_SPACE];
     let at = head.draws_at;
     run_input::read_numbers(&b[at..], &mut drawn);
     walk(s, b, head, &drawn, &mut out[..room], &mut text)

@@ -65,7 +65,7 @@ fn put_data_hex(out: &mut [u8], t: Text, low: u64, high: u64, n: u64) -> Text
 }
 
 // A line for each record, taken by its whole length; one that the end cuts off is the last, and is shown as far as it goes.
-fn put_record_bytes(out: &mut [u8], t: Text, records: &[u8]) -> Text
+fn put_record_lines(out: &mut [u8], t: Text, records: &[u8]) -> Text
     ensures { λ r. ⌜ Puts (hex-lines (records-in (now (records .entry)))) t (now (out .entry)) r (now (out .exit)) ⌝ }
 {
     let mut r = t;
@@ -288,7 +288,7 @@ pub fn put_trace_event(
 ) -> Text
     ensures { λ r. ⌜ Puts (trace-event (now (records .entry)) code draws (now (st .entry))) t (now (out .entry)) r (now (out .exit)) ⌝ }
 {
-    let a = put_record_bytes(out, t, records);
+    let a = put_record_lines(out, t, records);
     let b = run_text::put_end(out, a, code, draws as u64);
     put_state(out, b, st)
 }

@@ -125,9 +125,6 @@ module _ (s w : List ℕ) (n m most x : ℕ) (e : w ≡ pad 0 (length s) (withou
   grown : (xs : List ℕ) → length (xs ++ (x ∷ [])) ≡ length xs + 1
   grown xs = length-append xs (x ∷ [])
 
-  pub renew-inside : m < most → most ≤ length s → m < length w
-  renew-inside h k = omega (arith, long)
-
   pub renew-new : m < most → most ≤ length s → set w m x ≡ pad 0 (length s) (renew most x (take n s))
   renew-new h k =
       ap (λ (l : List ℕ). set l m x) e ∙ ap (λ (j : ℕ). set (pad 0 (length s) (without x (take n s))) j x) q
@@ -146,9 +143,6 @@ module _ (s w : List ℕ) (n m most x : ℕ) (e : w ≡ pad 0 (length s) (withou
     oldest =
         p ∙ (λ a. pad 0 (long a) (shift-first (take m w) a))
         ∙ ap (λ (l : List ℕ). pad 0 (length s) (drop 1 l)) (taken-is 0 (length s) (without x (take n s)) w m e q (omega arith))
-
-    pub renew-inside-full : m - 1 < length t
-    renew-inside-full = omega (arith, ap length oldest ∙ length-pad 0 (length s) (drop 1 (without x (take n s))))
 
     pub renew-old : set t (m - 1) x ≡ pad 0 (length s) (renew most x (take n s))
     renew-old =

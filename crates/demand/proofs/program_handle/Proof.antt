@@ -3,19 +3,15 @@ use Rattle.demand.specs.Program.{program-outcome}
 use Rattle.demand.proofs.program_handle.Statement.{statement}
 use Rattle.demand.proofs.program_handle.Tie as tie
 
--- src/lib.rt:18:5
 handle-requires : tie.Need-handle-requires
 handle-requires c κs = search needs
 
--- src/lib.rt:15:1
 same-length : tie.Need-same-length
 same-length c = search needs
 
--- src/lib.rt:15:1
 same-length-2 : tie.Need-same-length-2
 same-length-2 c = search needs
 
--- src/lib.rt:15:1
 returns : tie.Need-returns
 unfolding program-outcome
 returns c = search needs

@@ -3,15 +3,12 @@ use Rattle.demand.specs.Program.{program-made}
 use Rattle.demand.proofs.program_new.Statement.{statement}
 use Rattle.demand.proofs.program_new.Tie as tie
 
--- src/lib.rt:12:5
 new-requires : tie.Need-new-requires
 new-requires c κs = search needs
 
--- src/lib.rt:9:1
 same-length : tie.Need-same-length
 same-length c = search needs
 
--- src/lib.rt:9:1
 returns : tie.Need-returns
 unfolding program-made
 returns c = search needs

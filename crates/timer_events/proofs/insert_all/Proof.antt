@@ -1,14 +1,14 @@
 use borrow.Author.Needs.{needs}
 use lib.ListN.{length}
 use Rattle.timer_map.specs.Words.{entries-of}
-use Rattle.timer_map.specs.Calls.{put}
+use Rattle.timer_map.specs.Calls.{packed-put}
 use Rattle.timer_events.specs.Records.{insert-all, timers-in}
 use Rattle.timer_events.proofs.Inserting.{Inserting, inserting-start, inserting-long, inserting-few, inserting-none, inserting-refused, inserting-last, inserting-next}
 use Rattle.timer_events.proofs.insert_all.Statement.{statement}
 use Rattle.timer_events.proofs.insert_all.Tie as tie
 
 abbrev Inv-loop : tie.InvT-loop
-Inv-loop q₀ time out rest₀ q rest = Inserting time (put (insert-all time (timers-in out) (entries-of q₀))) q₀ q rest
+Inv-loop q₀ time out rest₀ q rest = Inserting time (packed-put (insert-all time (timers-in out) (entries-of q₀))) q₀ q rest
 
 abbrev μ-loop : tie.MeasureT-loop
 μ-loop q₀ time out rest₀ q rest = length rest

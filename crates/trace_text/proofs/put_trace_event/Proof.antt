@@ -3,8 +3,8 @@ use Rattle.trace_text.proofs.Laws.{event-put}
 use Rattle.trace_text.proofs.put_trace_event.Statement.{statement}
 use Rattle.trace_text.proofs.put_trace_event.Tie as tie
 
-put-record-bytes-requires : tie.Need-put-record-bytes-requires
-put-record-bytes-requires c κs = search needs
+put-record-lines-requires : tie.Need-put-record-lines-requires
+put-record-lines-requires c κs = search needs
 
 put-end-requires : tie.Need-put-end-requires
 put-end-requires c κs = search needs
@@ -20,9 +20,9 @@ returns c =
     let at-state = c .before .before in
     let at-end = at-state .before .before .before .before .before in
     let at-bytes = at-end .before .before .before .before in
-    event-put _ _ _ _ _ _ _ _ _ _ _ _ (at-state .put-state .ensures) (at-end .put-end .ensures) (at-bytes .put-record-bytes .ensures)
+    event-put _ _ _ _ _ _ _ _ _ _ _ _ (at-state .put-state .ensures) (at-end .put-end .ensures) (at-bytes .put-record-lines .ensures)
 
 pub put-trace-event-spec : {M : Type 1} → statement M
 put-trace-event-spec =
     tie.close
-    (tie.spec put-record-bytes-requires put-end-requires put-state-requires same-length returns)
+    (tie.spec put-record-lines-requires put-end-requires put-state-requires same-length returns)

@@ -4,8 +4,8 @@ use lib.ListN.{length}
 use Rattle.record.specs.Walk.{records-in}
 use Rattle.trace_text.specs.Hex.{hex-lines}
 use Rattle.trace_text.proofs.Writing.{Writing, writing-start, lines-few, lines-none, lines-next, lines-last}
-use Rattle.trace_text.proofs.put_record_bytes.Statement.{statement}
-use Rattle.trace_text.proofs.put_record_bytes.Tie as tie
+use Rattle.trace_text.proofs.put_record_lines.Statement.{statement}
+use Rattle.trace_text.proofs.put_record_lines.Tie as tie
 
 abbrev Inv-loop : tie.InvT-loop
 Inv-loop out₀ records r₀ rest₀ out r rest = Writing (hex-lines (records-in records)) r₀ out₀ r out (hex-lines (records-in rest))
@@ -74,8 +74,8 @@ same-length-3 c = search needs
 returns-3 : tie.Need-returns-3 Inv-loop μ-loop
 returns-3 c = search lines-few
 
-pub put-record-bytes-spec : {M : Type 1} → statement M
-put-record-bytes-spec =
+pub put-record-lines-spec : {M : Type 1} → statement M
+put-record-lines-spec =
     tie.close
     (tie.spec
     Inv-loop
