@@ -22,7 +22,7 @@ use Rattle.protocol.proofs.Enough.{enough}
 use Rattle.protocol.proofs.Decided.{fewer-as, fewer-kept}
 use Rattle.protocol.proofs.Uncrowded as crowded
 use Rattle.protocol.proofs.Unreachable as unreachable
-use Rattle.history.specs.Calls.{Call, Given, narrow-draws, result-of, answered, state-after, codes}
+use Rattle.history.specs.Calls.{Call, Given, result-of, answered, state-after, codes}
 use Rattle.history.specs.Calls as calls
 use Rattle.history.specs.Demand.{Demand3, Demand3-of}
 use Rattle.history.specs.Outputs.{OutputsRead, Outputs-of}
@@ -40,7 +40,6 @@ use Rattle.rules.proofs.Fitting.{ok-unpacked, pack-ok}
 use Rattle.hyparview.specs.Made.{MadeWords, lent, pack-made}
 use Rattle.hyparview.specs.Made as lending
 use Rattle.hyparview.proofs.Making.{zero-words}
-use Rattle.hyparview.specs.declared.State.{State}
 use Rattle.hyparview.specs.Handled.{Outcome, packed-answer, handled}
 use Rattle.hyparview.specs.Handled as Handled
 use Rattle.hyparview.proofs.Opening.{handled-two}

@@ -112,10 +112,11 @@ Goes-on s =
 abbrev pub Never-unreachable : Type 0
 Never-unreachable = (xs : List ℕ) → state-ok xs ≡ true → Goes-on (unpack xs)
 
--- and so after every list of calls to a new station
+-- of a machine: after every list of calls to a new station
 abbrev pub Goes-on-of : {G S : Type 0} → Machine G S → (S → Station) → Type 0
 Goes-on-of m station = After-new m (λ me c s. (vs : List Call) → Goes-on (station (state-after m vs s)))
 
+-- and so of the program
 abbrev pub Never-unreachable-after : Type 0
 Never-unreachable-after = Goes-on-of program unpack
 

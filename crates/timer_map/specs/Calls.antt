@@ -20,6 +20,7 @@ pub record PutWords : Type 0 where
   pub code : ℕ
   pub words : List ℕ
 
+-- the answer, with its entries packed
 unfoldable pub packed-put : Put → PutWords
 packed-put p = record { code = p .code; words = pack-queue (p .entries) }
 
