@@ -24,10 +24,12 @@ use Rattle.record.proofs.Format.{length-encode}
 use Rattle.writer.specs.Write.{rec-in, fits, written, reached, Wrote}
 use Rattle.writer.specs.declared.Written.{Written}
 use Rattle.writer.specs.declared.Written.the-variants.{At, Full}
+use Rattle.protocol.specs.Handle.{new}
 use Rattle.hyparview.specs.declared.State.{State}
 use Rattle.hyparview.specs.declared.MadeState.{MadeState}
 use Rattle.hyparview.specs.declared.HandledState.{HandledState}
-use Rattle.hyparview.specs.Handled.{Outcome}
+use Rattle.hyparview.specs.Made.{MadeWords, lent, pack-made}
+use Rattle.hyparview.specs.Handled.{Outcome, handled}
 use Rattle.demand.specs.Program.{program-outcome, made-state}
 use Rattle.endings.specs.Events.{no-data-node, event, of-peer, maintenance, quit, events, event-at, tiny, draws, output}
 use Rattle.endings.specs.Steps.{first-state, played}
@@ -115,9 +117,9 @@ narrowed d = record {
   «neighbor_request_timeout» = d .«neighbor_request_timeout»;
 }
 
-pub begins : (d : Config) (m : MadeState) → d ≡ default → m ≡ made-state 1 false [] (narrowed d) → m .state ≡ first-state
-unfolding first-state tiny
-begins d m e w = ap (λ (x : MadeState). x .state) (w ∙ ap (λ (x : Config). made-state 1 false [] (narrowed x)) e)
+pub begins : (d : Config) (m : MadeState) → d ≡ default → record { code = m .code; words = m .state .words } ≡ pack-made (new 1 (lent false []) (narrowed d)) → m .state ≡ first-state
+unfolding first-state made-state tiny
+begins d m e w = ap (λ (x : MadeWords). record { words = x .words }) (w ∙ ap (λ (x : Config). pack-made (new 1 (lent false []) (narrowed x))) e)
 
 -- ---- one event
 
@@ -162,9 +164,9 @@ module _ (i : ℕ) (out : List ℕ) (long : length out ≡ longest) (w : Written
       let k : 0 + length (encode (event-at i)) ≡ n = omega (arith, whole, reaches n e) in
       rw (← k, stored) (take-stored out 0 (encode (event-at i)) (omega (arith, whole, leb-true (0 + size (event-at i)) (length out) fitting)))
 
-pub plays : (i : ℕ) (s : State) (b : List ℕ) (n : ℕ) (a : HandledState) (o : List ℕ) → take n b ≡ encode (event-at i) → record { code = a .code; draws = a .draws; words = a .state .words; output = o } ≡ program-outcome (take n b) (replicate 512 0) (replicate 8192 0) (s .words) → a .state ≡ played i s
-unfolding played draws output
-plays i s b n a o e q = ap (λ (x : Outcome). record { words = x .words }) (q ∙ ap (λ (l : List ℕ). program-outcome l (replicate 512 0) (replicate 8192 0) (s .words)) e)
+pub plays : (i : ℕ) (s : State) (b : List ℕ) (n : ℕ) (a : HandledState) (o : List ℕ) → take n b ≡ encode (event-at i) → record { code = a .code; draws = a .draws; words = a .state .words; output = o } ≡ handled (s .words) (take n b) (replicate 512 0) (length {A = ℕ} (replicate 8192 0)) → a .state ≡ played i s
+unfolding played program-outcome draws output
+plays i s b n a o e q = ap (λ (x : Outcome). record { words = x .words }) (q ∙ ap (λ (l : List ℕ). handled (s .words) l (replicate 512 0) (length {A = ℕ} (replicate 8192 0))) e)
 
 pub cut-length : (n : ℕ) (b : List ℕ) → n ≤ longest → length b ≡ longest → n ≡ length (take n b)
 cut-length n b l e = sym (length-take-le n b (omega (arith, l, e)))

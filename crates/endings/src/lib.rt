@@ -113,7 +113,7 @@ fn first_station() -> State
     let mut config = Timing::default_settings();
     config.active_view_capacity = 1;
     config.passive_view_capacity = 1;
-    let m = demand::new_state(1, false, b"", config);
+    let m = State::new(1, false, b"", config);
     m.state
 }
 
@@ -139,7 +139,7 @@ fn play(s: State, i: usize) -> State
     let draws = [0u32; hyparview::DRAWS];
     let mut out = [0u8; hyparview::OUTPUT];
     let n = event_bytes(&mut event, i);
-    let a = demand::handle_state(s, &event[..n], &draws, &mut out);
+    let a = s.handle(&event[..n], &draws, &mut out);
     a.state
 }
 

@@ -3,3 +3,4 @@ pub mod Events
 pub mod Taking
 pub mod History
 pub mod RoundTrip
+pub mod Tied

@@ -6,15 +6,15 @@ use Rattle.endings.proofs.first_station.Tie as tie
 default-settings-requires : tie.Need-default-settings-requires
 default-settings-requires c κs = search needs
 
-slice-aggregate-new-state : tie.Need-slice-aggregate-new-state
-slice-aggregate-new-state c = search needs
+slice-aggregate-new : tie.Need-slice-aggregate-new
+slice-aggregate-new c = search needs
 
-new-state-requires : tie.Need-new-state-requires
-new-state-requires c κs = search needs
+new-requires : tie.Need-new-requires
+new-requires c κs = search needs
 
 returns : tie.Need-returns
 returns c = search begins
 
 pub first-station-spec : {M : Type 1} → statement M
 first-station-spec =
-    tie.close (tie.spec default-settings-requires slice-aggregate-new-state new-state-requires returns)
+    tie.close (tie.spec default-settings-requires slice-aggregate-new new-requires returns)

@@ -12,17 +12,17 @@ event-bytes-requires c κs = search needs
 array-share-prefix-event : tie.Need-array-share-prefix-event
 array-share-prefix-event c = search needs
 
-slice-aggregate-handle-state : tie.Need-slice-aggregate-handle-state
-slice-aggregate-handle-state c = search cut-length
+slice-aggregate-handle : tie.Need-slice-aggregate-handle
+slice-aggregate-handle c = search cut-length
 
-slice-aggregate-handle-state-2 : tie.Need-slice-aggregate-handle-state-2
-slice-aggregate-handle-state-2 c = search needs
+slice-aggregate-handle-2 : tie.Need-slice-aggregate-handle-2
+slice-aggregate-handle-2 c = search needs
 
-slice-aggregate-handle-state-3 : tie.Need-slice-aggregate-handle-state-3
-slice-aggregate-handle-state-3 c = search needs
+slice-aggregate-handle-3 : tie.Need-slice-aggregate-handle-3
+slice-aggregate-handle-3 c = search needs
 
-handle-state-requires : tie.Need-handle-state-requires
-handle-state-requires c κs = search needs
+handle-requires : tie.Need-handle-requires
+handle-requires c κs = search needs
 
 returns : tie.Need-returns
 returns c = search plays
@@ -34,8 +34,8 @@ play-spec =
     slice-aggregate-event-bytes
     event-bytes-requires
     array-share-prefix-event
-    slice-aggregate-handle-state
-    slice-aggregate-handle-state-2
-    slice-aggregate-handle-state-3
-    handle-state-requires
+    slice-aggregate-handle
+    slice-aggregate-handle-2
+    slice-aggregate-handle-3
+    handle-requires
     returns)
