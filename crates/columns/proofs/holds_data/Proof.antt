@@ -1,12 +1,30 @@
+use Rattle.peer.specs.Held.{ValidData}
 use Prim.Native.Nat.{_+_}
 use native.Mathlib.Omega.{arith}
 use Rattle.util.specs.Section.{part}
-use Rattle.columns.specs.Columns.{head-of}
+use Rattle.columns.specs.Columns.{head-of, ValidDataWords}
 use Rattle.columns.proofs.Data.{data-inside, data-count}
 use Rattle.columns.proofs.Holding.{holds-none, holds-len, holds-low, holds-high}
 use borrow.Author.Needs.{needs}
 use Rattle.columns.proofs.holds_data.Statement.{statement}
 use Rattle.columns.proofs.holds_data.Tie as tie
+
+-- What holds_data was given.
+valid-words : (c : tie.Start) → ValidDataWords (c .args .cap) (c .args .m .now)
+valid-words c = c .pre .0
+
+valid-data : (c : tie.Start) → ValidData (c .args .d)
+valid-data c = c .pre .1
+
+-- The ways back, from a place to an earlier one.
+abbrev find-to-start : tie.After-find → tie.Start
+find-to-start c = c .before .before .before .before
+
+abbrev else2-to-else1 : tie.Else2 → tie.Else1
+else2-to-else1 c = c .before .before .before
+
+abbrev word-at-to-else2 : tie.After-word-at → tie.Else2
+word-at-to-else2 c = c .before .before
 
 add-half : tie.Need-add-half
 add-half c = search needs
@@ -69,11 +87,11 @@ returns-3 c =
     let at-shared-slice-known4 = c .before in
     let at-word-at2 = at-shared-slice-known4 .before in
     let at-word-at = at-word-at2 .before in
-    let at-if2 = at-word-at .before .before in
-    let at-if1 = at-if2 .before .before .before in
+    let at-if2 = word-at-to-else2 at-word-at in
+    let at-if1 = else2-to-else1 at-if2 in
     let at-find = at-if1 .before in
-    let start = at-find .before .before .before .before in
-    holds-low _ _ (start .pre .0) _ _ (at-find .find .ensures .0) _ (start .pre .1) (at-if1 .if1 .left) _ _ (at-if2 .if2 .left) (at-word-at .word-at .ensures .0) (at-word-at2 .word-at2 .ensures .0) (at-word-at .word-at .ensures .1) (at-word-at2 .word-at2 .ensures .1) (omega (arith, at-shared-slice-known4 .shared-slice-known4 .given (start .args .cap + start .args .cap + at-find .find .result))) (omega (arith, at-shared-slice-known4 .shared-slice-known4 .given (start .args .cap + start .args .cap + start .args .cap + at-find .find .result))) (c .if3 .taken)
+    let start = find-to-start at-find in
+    holds-low _ _ (valid-words start) _ _ (at-find .find .ensures .0) _ (valid-data start) (at-if1 .if1 .left) _ _ (at-if2 .if2 .left) (at-word-at .word-at .ensures .0) (at-word-at2 .word-at2 .ensures .0) (at-word-at .word-at .ensures .1) (at-word-at2 .word-at2 .ensures .1) (omega (arith, at-shared-slice-known4 .shared-slice-known4 .given (start .args .cap + start .args .cap + at-find .find .result))) (omega (arith, at-shared-slice-known4 .shared-slice-known4 .given (start .args .cap + start .args .cap + start .args .cap + at-find .find .result))) (c .if3 .taken)
 
 add-result : tie.Need-add-result
 add-result c = search needs
@@ -93,11 +111,11 @@ returns-4 c =
     let at-if3 = c .before in
     let at-word-at2 = at-if3 .before .before in
     let at-word-at = at-word-at2 .before in
-    let at-if2 = at-word-at .before .before in
-    let at-if1 = at-if2 .before .before .before in
+    let at-if2 = word-at-to-else2 at-word-at in
+    let at-if1 = else2-to-else1 at-if2 in
     let at-find = at-if1 .before in
-    let start = at-find .before .before .before .before in
-    holds-high _ _ (start .pre .0) _ _ (at-find .find .ensures .0) _ (start .pre .1) (at-if1 .if1 .left) _ _ (at-if2 .if2 .left) (at-word-at .word-at .ensures .0) (at-word-at2 .word-at2 .ensures .0) (at-word-at .word-at .ensures .1) (at-word-at2 .word-at2 .ensures .1) (omega (arith, c .shared-slice-known5 .given (start .args .cap + start .args .cap + at-find .find .result))) (omega (arith, c .shared-slice-known5 .given (start .args .cap + start .args .cap + start .args .cap + at-find .find .result))) (at-if3 .if3 .left)
+    let start = find-to-start at-find in
+    holds-high _ _ (valid-words start) _ _ (at-find .find .ensures .0) _ (valid-data start) (at-if1 .if1 .left) _ _ (at-if2 .if2 .left) (at-word-at .word-at .ensures .0) (at-word-at2 .word-at2 .ensures .0) (at-word-at .word-at .ensures .1) (at-word-at2 .word-at2 .ensures .1) (omega (arith, c .shared-slice-known5 .given (start .args .cap + start .args .cap + at-find .find .result))) (omega (arith, c .shared-slice-known5 .given (start .args .cap + start .args .cap + start .args .cap + at-find .find .result))) (at-if3 .if3 .left)
 
 pub holds-data-spec : {M : Type 1} → statement M
 holds-data-spec =

@@ -1,9 +1,40 @@
+use mathlib.Core.Path.{_≡_}
+use mathlib.Core.Bool.{true, _||_}
+use lib.Dec.{ltb}
+use lib.ListN.{length}
+use Rattle.lists.specs.Maps.{has}
 use Rattle.util.specs.Section.{part}
-use Rattle.columns.specs.Columns.{head-of}
+use Rattle.columns.specs.Columns.{head-of, ValidDataWords, data-map-at}
 use Rattle.columns.proofs.Data.{data-inside, data-size, data-count, data-keyed, data-lens, store-2, store-3, data-room, tail-size, tail-lows, tail-highs, data-long, data-replaced, data-inserted}
 use borrow.Author.Needs.{needs}
 use Rattle.columns.proofs.insert_data.Statement.{statement}
 use Rattle.columns.proofs.insert_data.Tie as tie
+
+-- What insert_data was given.
+valid-words : (c : tie.Start) → ValidDataWords (c .args .cap) (c .args .m .now)
+valid-words c = c .pre .0
+
+room : (c : tie.Start) → (has (c .args .p) (data-map-at (c .args .cap) (c .args .m .now)) || ltb (length (data-map-at (c .args .cap) (c .args .m .now))) (c .args .cap)) ≡ true
+room c = c .pre .1 .1
+
+-- The ways back, from a place to an earlier one.
+abbrev word-at-to-start : tie.After-word-at → tie.Start
+word-at-to-start c = c .before .before .before .before
+
+abbrev find-to-start : tie.After-find → tie.Start
+find-to-start c = word-at-to-start (c .before .before .before)
+
+abbrev rank-of-to-else1 : tie.After-rank-of → tie.Else1
+rank-of-to-else1 c = c .before .before
+
+abbrev in-two-to-start : tie.After-in-two → tie.Start
+in-two-to-start c = find-to-start (c .before .before .before .before .before .before)
+
+abbrev in-two-to-rank-of : tie.After-in-two → tie.After-rank-of
+in-two-to-rank-of c = c .before .before .before
+
+abbrev in-two2-to-in-two : tie.After-in-two2 → tie.After-in-two
+in-two2-to-in-two c = c .before .before .before .before
 
 add-half : tie.Need-add-half
 add-half c = search needs
@@ -117,12 +148,11 @@ in-two-requires-2 : tie.Need-in-two-requires-2
 unfolding part head-of
 in-two-requires-2 c κs =
     let at-in-two = c .before .before .before in
-    let at-rank-of = at-in-two .before .before .before in
-    let at-if1 = at-rank-of .before .before in
+    let at-rank-of = in-two-to-rank-of at-in-two in
+    let at-if1 = rank-of-to-else1 at-rank-of in
     let at-find = at-if1 .before in
-    let at-word-at = at-find .before .before .before in
-    let start = at-word-at .before .before .before .before in
-    (search tail-size, (tail-lows _ _ (start .pre .0) _ _ _ (at-in-two .in-two .ensures), (tail-highs _ _ (start .pre .0) _ _ _ (at-in-two .in-two .ensures), (data-room _ _ (start .pre .0) _ _ (at-find .find .ensures .0) (at-if1 .if1 .left) (start .pre .1 .1), at-rank-of .rank-of .ensures .1))))
+    let start = find-to-start at-find in
+    (search tail-size, (tail-lows _ _ (valid-words start) _ _ _ (at-in-two .in-two .ensures), (tail-highs _ _ (valid-words start) _ _ _ (at-in-two .in-two .ensures), (data-room _ _ (valid-words start) _ _ (at-find .find .ensures .0) (at-if1 .if1 .left) (room start), at-rank-of .rank-of .ensures .1))))
 
 add-m-5 : tie.Need-add-m-5
 add-m-5 c = search needs
@@ -137,24 +167,22 @@ same-length-2 : tie.Need-same-length-2
 unfolding part
 same-length-2 c =
     let at-in-two2 = c .before .before in
-    let at-in-two = at-in-two2 .before .before .before .before in
-    let at-find = at-in-two .before .before .before .before .before .before in
-    let at-b = at-find .before .before .before .before in
-    let start = at-b .before .before .before in
-    data-long _ _ (start .pre .0) _ _ _ (at-in-two .in-two .ensures) _ _ _ _ (at-in-two2 .in-two2 .ensures)
+    let at-in-two = in-two2-to-in-two at-in-two2 in
+    let start = in-two-to-start at-in-two in
+    data-long _ _ (valid-words start) _ _ _ (at-in-two .in-two .ensures) _ _ _ _ (at-in-two2 .in-two2 .ensures)
 
 returns-2 : tie.Need-returns-2
 unfolding part head-of
 returns-2 c =
     let at-in-two2 = c .before .before in
-    let at-in-two = at-in-two2 .before .before .before .before in
-    let at-rank-of = at-in-two .before .before .before in
-    let at-if1 = at-rank-of .before .before in
+    let at-in-two = in-two2-to-in-two at-in-two2 in
+    let at-rank-of = in-two-to-rank-of at-in-two in
+    let at-if1 = rank-of-to-else1 at-rank-of in
     let at-find = at-if1 .before in
     let at-word-at2 = at-find .before .before in
     let at-word-at = at-word-at2 .before in
-    let start = at-word-at .before .before .before .before in
-    data-inserted _ _ (start .pre .0) _ _ (at-find .find .ensures .0) _ _ _ (start .pre .1 .0) (at-word-at .word-at .ensures .0) (at-word-at2 .word-at2 .ensures .0) _ _ _ (at-if1 .if1 .left) (start .pre .1 .1) (at-rank-of .rank-of .ensures .0) (at-in-two .in-two .ensures) (at-in-two2 .in-two2 .ensures)
+    let start = word-at-to-start at-word-at in
+    data-inserted _ _ (valid-words start) _ _ (at-find .find .ensures .0) _ _ _ (start .pre .1 .0) (at-word-at .word-at .ensures .0) (at-word-at2 .word-at2 .ensures .0) _ _ _ (at-if1 .if1 .left) (room start) (at-rank-of .rank-of .ensures .0) (at-in-two .in-two .ensures) (at-in-two2 .in-two2 .ensures)
 
 pub insert-data-spec : {M : Type 1} → statement M
 insert-data-spec =

@@ -4,6 +4,10 @@ use borrow.Author.Needs.{needs}
 use Rattle.columns.proofs.insert_number.Statement.{statement}
 use Rattle.columns.proofs.insert_number.Tie as tie
 
+-- The ways back, from a place to an earlier one.
+abbrev put-in-to-start : tie.After-put-in → tie.Start
+put-in-to-start c = c .before .before .before .before .before .before .before .before .before
+
 add-end : tie.Need-add-end
 add-end c = search needs
 
@@ -92,8 +96,7 @@ unfolding part
 same-length-2 c =
     let at-put-in2 = c .before .before in
     let at-put-in = at-put-in2 .before .before .before .before in
-    let at-find = at-put-in .before .before .before .before .before in
-    let start = at-find .before .before .before .before in
+    let start = put-in-to-start at-put-in in
     numbers-long _ _ _ _ _ _ _ (at-put-in .put-in .ensures) (at-put-in2 .put-in2 .ensures) (start .pre .0)
 
 returns-2 : tie.Need-returns-2

@@ -1,9 +1,17 @@
 use Rattle.util.specs.Section.{part}
-use Rattle.columns.specs.Columns.{head-of}
+use Rattle.columns.specs.Columns.{head-of, ValidDataWords}
 use Rattle.columns.proofs.Data.{data-inside, data-size, data-count, data-keyed, data-lens, data-kept, tail-size, tail-lows, tail-highs, data-long, data-removed}
 use borrow.Author.Needs.{needs}
 use Rattle.columns.proofs.remove_data.Statement.{statement}
 use Rattle.columns.proofs.remove_data.Tie as tie
+
+-- What remove_data was given.
+valid-words : (c : tie.Start) → ValidDataWords (c .args .cap) (c .args .m .now)
+valid-words c = c .pre
+
+-- The ways back, from a place to an earlier one.
+abbrev out-two-to-start : tie.After-out-two → tie.Start
+out-two-to-start c = c .before .before .before .before .before .before .before
 
 add-half : tie.Need-add-half
 add-half c = search needs
@@ -62,10 +70,8 @@ out-two-requires-2 : tie.Need-out-two-requires-2
 unfolding part head-of
 out-two-requires-2 c κs =
     let at-out-two = c .before .before .before in
-    let at-find = at-out-two .before .before .before in
-    let start = at-find .before .before .before .before in
-    let given = start .pre in
-    (search tail-size, (tail-lows _ _ (given) _ _ _ (at-out-two .out-two .ensures), (tail-highs _ _ (given) _ _ _ (at-out-two .out-two .ensures), search needs)))
+    let start = out-two-to-start at-out-two in
+    (search tail-size, (tail-lows _ _ (valid-words start) _ _ _ (at-out-two .out-two .ensures), (tail-highs _ _ (valid-words start) _ _ _ (at-out-two .out-two .ensures), search needs)))
 
 sub-m : tie.Need-sub-m
 sub-m c = search needs
@@ -81,9 +87,8 @@ unfolding part
 same-length-2 c =
     let at-out-two2 = c .before .before in
     let at-out-two = at-out-two2 .before .before .before .before in
-    let at-find = at-out-two .before .before .before in
-    let start = at-find .before .before .before .before in
-    data-long _ _ (start .pre) _ _ _ (at-out-two .out-two .ensures) _ _ _ _ (at-out-two2 .out-two2 .ensures)
+    let start = out-two-to-start at-out-two in
+    data-long _ _ (valid-words start) _ _ _ (at-out-two .out-two .ensures) _ _ _ _ (at-out-two2 .out-two2 .ensures)
 
 returns-2 : tie.Need-returns-2
 unfolding part head-of

@@ -4,6 +4,10 @@ use borrow.Author.Needs.{needs}
 use Rattle.columns.proofs.remove_number.Statement.{statement}
 use Rattle.columns.proofs.remove_number.Tie as tie
 
+-- The ways back, from a place to an earlier one.
+abbrev take-out-to-start : tie.After-take-out → tie.Start
+take-out-to-start c = c .before .before .before .before .before .before .before
+
 add-end : tie.Need-add-end
 add-end c = search needs
 
@@ -72,8 +76,7 @@ unfolding part
 same-length-2 c =
     let at-take-out2 = c .before .before in
     let at-take-out = at-take-out2 .before .before .before .before in
-    let at-find = at-take-out .before .before .before in
-    let start = at-find .before .before .before .before in
+    let start = take-out-to-start at-take-out in
     numbers-long _ _ _ _ _ _ _ (at-take-out .take-out .ensures) (at-take-out2 .take-out2 .ensures) (start .pre)
 
 returns-2 : tie.Need-returns-2

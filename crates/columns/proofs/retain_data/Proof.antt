@@ -11,6 +11,22 @@ Inv-loop m₀ cap s scap n₀ i₀ m n i = Retaining cap scap s m₀ m n i
 abbrev μ-loop : tie.MeasureT-loop
 μ-loop m₀ cap s scap n₀ i₀ m n i = n - i
 
+-- The ways back, from a place to an earlier one.
+abbrev contains-to-at-loop : tie.After-contains Inv-loop μ-loop → tie.At-loop Inv-loop μ-loop
+contains-to-at-loop c = c .before .before .before
+
+abbrev contains-to-in-loop : tie.After-contains Inv-loop μ-loop → tie.In-loop Inv-loop μ-loop
+contains-to-in-loop c = c .before .before
+
+abbrev remove-data-to-contains : tie.After-remove-data Inv-loop μ-loop → tie.After-contains Inv-loop μ-loop
+remove-data-to-contains c = c .before .before .before
+
+abbrev remove-data-to-else2 : tie.After-remove-data Inv-loop μ-loop → tie.Else2 Inv-loop μ-loop
+remove-data-to-else2 c = c .before .before
+
+abbrev count-data2-to-remove-data : tie.After-count-data2 Inv-loop μ-loop → tie.After-remove-data Inv-loop μ-loop
+count-data2-to-remove-data c = c .before .before .before .before
+
 data-within-requires : tie.Need-data-within-requires Inv-loop μ-loop
 data-within-requires c κs = search needs
 
@@ -52,15 +68,15 @@ count-data-requires-2 c κs = search needs
 
 loop-less-2 : tie.Need-loop-less-2 Inv-loop μ-loop
 loop-less-2 c =
-    let t = c .before .before .before .before in
-    let k = t .before .before .before in
-    retaining-less _ _ _ _ _ _ _ (k .before .before .before .loop .inv) (k .before .before .loop-test .taken) _ _ _ (k .contains .ensures) (t .before .before .if2 .left) (t .remove-data .ensures) (c .count-data2 .ensures .0)
+    let t = count-data2-to-remove-data c in
+    let k = remove-data-to-contains t in
+    retaining-less _ _ _ _ _ _ _ (contains-to-at-loop k .loop .inv) (contains-to-in-loop k .loop-test .taken) _ _ _ (k .contains .ensures) (remove-data-to-else2 t .if2 .left) (t .remove-data .ensures) (c .count-data2 .ensures .0)
 
 loop-again-2 : tie.Need-loop-again-2 Inv-loop μ-loop
 loop-again-2 c =
-    let t = c .before .before .before .before in
-    let k = t .before .before .before in
-    retaining-cut _ _ _ _ _ _ _ (k .before .before .before .loop .inv) (k .before .before .loop-test .taken) _ _ _ (k .contains .ensures) (t .before .before .if2 .left) (t .remove-data .ensures) (c .count-data2 .ensures .0)
+    let t = count-data2-to-remove-data c in
+    let k = remove-data-to-contains t in
+    retaining-cut _ _ _ _ _ _ _ (contains-to-at-loop k .loop .inv) (contains-to-in-loop k .loop-test .taken) _ _ _ (k .contains .ensures) (remove-data-to-else2 t .if2 .left) (t .remove-data .ensures) (c .count-data2 .ensures .0)
 
 same-length-2 : tie.Need-same-length-2 Inv-loop μ-loop
 same-length-2 c = search needs

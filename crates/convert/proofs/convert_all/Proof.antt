@@ -35,6 +35,16 @@ Inv-loop b out₀ v w from₀ to₀ out from to = Inv v w b (length out₀) out 
 abbrev μ-loop : tie.MeasureT-loop
 μ-loop b out₀ v w from₀ to₀ out from to = length b - from
 
+-- The ways back, from a place to an earlier one.
+abbrev first-length-to-in-loop : tie.After-first-length Inv-loop μ-loop → tie.In-loop Inv-loop μ-loop
+first-length-to-in-loop c = c .before .before
+
+abbrev place-record-to-first-length : tie.After-place-record Inv-loop μ-loop → tie.After-first-length Inv-loop μ-loop
+place-record-to-first-length c = c .before .before .before
+
+abbrev struct-known2-to-place-record : tie.After-struct-known2 Inv-loop μ-loop → tie.After-place-record Inv-loop μ-loop
+struct-known2-to-place-record c = c .before .before .before .before .before
+
 clear-bytes-requires : tie.Need-clear-bytes-requires Inv-loop μ-loop
 clear-bytes-requires c κs = search needs
 
@@ -83,35 +93,35 @@ same-length c = search needs
 returns : tie.Need-returns Inv-loop μ-loop
 returns c =
     let at-place-record = c .before .before .before .before in
-    let at-first-length = at-place-record .before .before .before in
-    let at-loop-test = at-first-length .before .before in
+    let at-first-length = place-record-to-first-length at-place-record in
+    let at-loop-test = first-length-to-in-loop at-first-length in
     let at-loop = at-loop-test .before in
     (same-room _ _ _ _ _ _ (search needs) (walking-stop _ _ _ _ _ _ _ (at-loop .loop .inv .at) (at-loop-test .loop-test .taken) _ (at-first-length .first-length .ensures .0) _ _ _ (at-place-record .place-record .ensures) (c .if1 .taken)), (search needs, search needs))
 
 add-to : tie.Need-add-to Inv-loop μ-loop
 add-to c =
-    let at-first-length = c .before .before .before .before .before .before .before .before in
+    let at-first-length = place-record-to-first-length (c .before .before .before .before .before) in
     let long = at-first-length .before .before .before .loop .inv .len in
     let top =
-    let at-place-record = c .before .before .before .before .before in
-    let at-loop-test = at-first-length .before .before in
+    let at-place-record = struct-known2-to-place-record c in
+    let at-loop-test = first-length-to-in-loop at-first-length in
     let at-loop = at-loop-test .before in
     walking-top _ _ _ _ _ _ _ (at-loop .loop .inv .at) (at-loop-test .loop-test .taken) _ (at-first-length .first-length .ensures .0) _ _ _ (at-place-record .place-record .ensures) in
     record { fits = omega (arith, top, long) }
 
 loop-less : tie.Need-loop-less Inv-loop μ-loop
 loop-less c =
-    let at-place-record = c .before .before .before .before .before in
-    let at-first-length = at-place-record .before .before .before in
-    let at-loop-test = at-first-length .before .before in
+    let at-place-record = struct-known2-to-place-record c in
+    let at-first-length = place-record-to-first-length at-place-record in
+    let at-loop-test = first-length-to-in-loop at-first-length in
     let at-loop = at-loop-test .before in
     walking-less _ _ _ _ _ _ _ (at-loop .loop .inv .at) (at-loop-test .loop-test .taken) _ (at-first-length .first-length .ensures .0) _ _ _ (at-place-record .place-record .ensures) (search needs)
 
 loop-again : tie.Need-loop-again Inv-loop μ-loop
 loop-again c =
-    let at-place-record = c .before .before .before .before .before in
-    let at-first-length = at-place-record .before .before .before in
-    let at-loop-test = at-first-length .before .before in
+    let at-place-record = struct-known2-to-place-record c in
+    let at-first-length = place-record-to-first-length at-place-record in
+    let at-loop-test = first-length-to-in-loop at-first-length in
     let at-loop = at-loop-test .before in
     inv _ _ _ _ _ _ _ (walking-next _ _ _ _ _ _ _ (at-loop .loop .inv .at) (at-loop-test .loop-test .taken) _ (at-first-length .first-length .ensures .0) _ _ _ (at-place-record .place-record .ensures) (search needs) (at-first-length .first-length .ensures .1))
 

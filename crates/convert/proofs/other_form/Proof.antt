@@ -5,6 +5,10 @@ use borrow.Author.Needs.{needs}
 use Rattle.convert.proofs.other_form.Statement.{statement}
 use Rattle.convert.proofs.other_form.Tie as tie
 
+-- The ways back, from a place to an earlier one.
+abbrev other-size-to-read-header-by : tie.After-other-size → tie.After-read-header-by
+other-size-to-read-header-by c = c .before .before
+
 read-header-by-requires : tie.Need-read-header-by-requires
 read-header-by-requires c κs = (search needs, search well-formed-long)
 
@@ -30,7 +34,7 @@ returns c =
     let at-fits3 = at-ids-fit .before in
     let at-fits2 = at-fits3 .before in
     let at-other-size = at-fits2 .before in
-    let at-read-header-by = at-other-size .before .before in
+    let at-read-header-by = other-size-to-read-header-by at-other-size in
     let at-shared-slice-known = at-read-header-by .before in
     full _ _ _ (search needs) (λ k. omega (arith, at-shared-slice-known .shared-slice-known .given k)) _ (at-read-header-by .read-header-by .ensures) _ (at-other-size .other-size .ensures) _ _ _ _ (at-fits2 .fits2 .ensures) (at-fits3 .fits3 .ensures) (at-ids-fit .ids-fit .ensures) (at-if1 .if1 .taken) (c .if2 .taken)
 
@@ -41,12 +45,12 @@ returns-2 c =
     let at-fits3 = at-ids-fit .before in
     let at-fits2 = at-fits3 .before in
     let at-other-size = at-fits2 .before in
-    let at-read-header-by = at-other-size .before .before in
+    let at-read-header-by = other-size-to-read-header-by at-other-size in
     let at-shared-slice-known = at-read-header-by .before in
     done _ _ _ (search needs) (λ k. omega (arith, at-shared-slice-known .shared-slice-known .given k)) _ (at-read-header-by .read-header-by .ensures) _ (at-other-size .other-size .ensures) _ _ _ _ (at-fits2 .fits2 .ensures) (at-fits3 .fits3 .ensures) (at-ids-fit .ids-fit .ensures) (at-if1 .if1 .taken) (c .if2 .left)
 
 returns-3 : tie.Need-returns-3
-returns-3 c = none-such _ _ _ (search needs) (λ k. omega (arith, c .before .before .before .before .before .before .before .shared-slice-known .given k)) _ (c .before .before .before .before .before .before .read-header-by .ensures) _ (c .before .before .before .before .other-size .ensures) _ _ _ _ (c .before .before .before .fits2 .ensures) (c .before .before .fits3 .ensures) (c .before .ids-fit .ensures) (c .if1 .left)
+returns-3 c = none-such _ _ _ (search needs) (λ k. omega (arith, c .before .before .before .before .before .before .before .shared-slice-known .given k)) _ (other-size-to-read-header-by (c .before .before .before .before) .read-header-by .ensures) _ (c .before .before .before .before .other-size .ensures) _ _ _ _ (c .before .before .before .fits2 .ensures) (c .before .before .fits3 .ensures) (c .before .ids-fit .ensures) (c .if1 .left)
 
 pub other-form-spec : {M : Type 1} → statement M
 other-form-spec =

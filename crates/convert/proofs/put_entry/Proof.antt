@@ -16,6 +16,10 @@ unfolding entry-fields
 parts w at e out o₁ o₂ o₃ r q p =
     then out at (le w (e .id)) _ p (then o₁ (at + w) (le 2 (e .offset)) _ q r (omega (arith, length-le 2 (e .offset)))) (omega (arith, length-le w (e .id)))
 
+-- The ways back, from a place to an earlier one.
+abbrev put-number2-to-put-number : tie.After-put-number2 → tie.After-put-number
+put-number2-to-put-number c = c .before .before .before .before .before
+
 put-number-requires : tie.Need-put-number-requires
 put-number-requires c κs = search needs
 
@@ -47,7 +51,7 @@ returns : tie.Need-returns
 returns c =
     let at-write-bytes = c .before .before in
     let at-put-number2 = at-write-bytes .before .before .before .before .before in
-    let at-put-number = at-put-number2 .before .before .before .before .before in
+    let at-put-number = put-number2-to-put-number at-put-number2 in
     parts _ _ _ _ _ _ _ (at-write-bytes .write-bytes .ensures) (at-put-number2 .put-number2 .ensures) (at-put-number .put-number .ensures)
 
 pub put-entry-spec : {M : Type 1} → statement M

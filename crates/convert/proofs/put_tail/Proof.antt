@@ -16,6 +16,10 @@ unfolding tail-bytes
 parts at h out o₁ o₂ o₃ r q p =
     then out at (le 2 (h .ttl)) _ p (then o₁ (at + 2) (le 2 (h .size)) _ q r (omega (arith, length-le 2 (h .size)))) (omega (arith, length-le 2 (h .ttl)))
 
+-- The ways back, from a place to an earlier one.
+abbrev put-number2-to-put-number : tie.After-put-number2 → tie.After-put-number
+put-number2-to-put-number c = c .before .before .before .before .before
+
 cast-put-number : tie.Need-cast-put-number
 cast-put-number c = search needs
 
@@ -44,7 +48,7 @@ returns : tie.Need-returns
 returns c =
     let at-put-number3 = c .before .before in
     let at-put-number2 = at-put-number3 .before .before .before .before in
-    let at-put-number = at-put-number2 .before .before .before .before .before in
+    let at-put-number = put-number2-to-put-number at-put-number2 in
     parts _ _ _ _ _ _ (at-put-number3 .put-number3 .ensures) (at-put-number2 .put-number2 .ensures) (at-put-number .put-number .ensures)
 
 pub put-tail-spec : {M : Type 1} → statement M

@@ -42,17 +42,34 @@ module _ (v w : ℕ) (b : List ℕ) (t : well-formed-by v b ≡ true) (ok : Byte
       written v w b t ok out o₁ o₂ o₃ (p ∙ ap (λ (x : Header). overwrite out 0 (header-fields w x)) d)
       (q ∙ ap (λ (k : ℕ). overwrite o₁ (header-length-by w) (entries-by w (nodes-of-by v b 0 k) (place-by w k))) n) (r ∙ ap (λ (k : ℕ). overwrite o₂ (place-by w k) (drop (place-by v k) b)) n)
 
+-- What write_form was given.
+formed : (c : tie.Start) → well-formed-by (c .args .v) (c .args .b .now) ≡ true
+formed c = c .pre .1 .1 .0
+
+header : (c : tie.Start) → c .args .h ≡ resized (header-of-by (c .args .v) (c .args .b .now)) (size-by (c .args .w) (rec-of-by (c .args .v) (c .args .b .now)))
+header c = c .pre .1 .1 .1 .0
+
+-- The ways back, from a place to an earlier one.
+abbrev shared-slice-known-to-start : tie.After-shared-slice-known → tie.Start
+shared-slice-known-to-start c = c .before .before
+
+abbrev write-header-to-shared-slice-known : tie.After-write-header → tie.After-shared-slice-known
+write-header-to-shared-slice-known c = c .before .before .before
+
+abbrev write-entries-to-write-header : tie.After-write-entries → tie.After-write-header
+write-entries-to-write-header c = c .before .before .before .before
+
 cast-n : tie.Need-cast-n
 cast-n c = search needs
 
 write-header-requires : tie.Need-write-header-requires
-write-header-requires c κs = (search needs, start _ _ _ (c .before .before .before .before .pre .1 .1 .0) (λ k. omega (arith, c .before .before .shared-slice-known .given k)) _ (c .before .before .before .before .pre .1 .1 .1 .0) _ (c .before .before .before .before .pre .1 .1 .1 .1))
+write-header-requires c κs = (search needs, start _ _ _ (formed (c .before .before .before .before)) (λ k. omega (arith, c .before .before .shared-slice-known .given k)) _ (header (c .before .before .before .before)) _ (c .before .before .before .before .pre .1 .1 .1 .1))
 
 write-entries-requires : tie.Need-write-entries-requires
 write-entries-requires c κs =
     let at-shared-slice-known = c .before .before .before .before .before .before in
-    let start = at-shared-slice-known .before .before in
-    (search needs, (search needs, (search needs, (nodes-are _ _ _ _ (start .pre .1 .1 .1 .0), entries _ _ _ (start .pre .1 .1 .0) (λ k. omega (arith, at-shared-slice-known .shared-slice-known .given k)) _ (start .pre .1 .1 .1 .0) _ (search needs)))))
+    let start = shared-slice-known-to-start at-shared-slice-known in
+    (search needs, (search needs, (search needs, (nodes-are _ _ _ _ (header start), entries _ _ _ (formed start) (λ k. omega (arith, at-shared-slice-known .shared-slice-known .given k)) _ (header start) _ (search needs)))))
 
 write-data-requires : tie.Need-write-data-requires
 write-data-requires c κs = (
@@ -61,11 +78,9 @@ write-data-requires c κs = (
     search needs,
     (
       search needs,
-      let at-write-entries = c .before .before .before in
-          let at-write-header = at-write-entries .before .before .before .before in
-          let at-shared-slice-known = at-write-header .before .before .before in
-          let start = at-shared-slice-known .before .before in
-          (within _ _ _ (start .pre .1 .1 .0) (λ k. omega (arith, at-shared-slice-known .shared-slice-known .given k)) _ (start .pre .1 .1 .1 .0), all _ _ _ (start .pre .1 .1 .0) (λ k. omega (arith, at-shared-slice-known .shared-slice-known .given k)) _ (start .pre .1 .1 .1 .0) _ (search needs)),
+      let at-shared-slice-known = write-header-to-shared-slice-known (write-entries-to-write-header (c .before .before .before)) in
+          let start = shared-slice-known-to-start at-shared-slice-known in
+          (within _ _ _ (formed start) (λ k. omega (arith, at-shared-slice-known .shared-slice-known .given k)) _ (header start), all _ _ _ (formed start) (λ k. omega (arith, at-shared-slice-known .shared-slice-known .given k)) _ (header start) _ (search needs)),
     ),
   ),
 )
@@ -77,10 +92,10 @@ returns : tie.Need-returns
 returns c =
     let at-write-data = c .before .before in
     let at-write-entries = at-write-data .before .before .before .before in
-    let at-write-header = at-write-entries .before .before .before .before in
-    let at-shared-slice-known = at-write-header .before .before .before in
-    let start = at-shared-slice-known .before .before in
-    whole _ _ _ (start .pre .1 .1 .0) (λ k. omega (arith, at-shared-slice-known .shared-slice-known .given k)) _ (start .pre .1 .1 .1 .0) _ _ _ _ (at-write-header .write-header .ensures) (at-write-entries .write-entries .ensures) (at-write-data .write-data .ensures)
+    let at-write-header = write-entries-to-write-header at-write-entries in
+    let at-shared-slice-known = write-header-to-shared-slice-known at-write-header in
+    let start = shared-slice-known-to-start at-shared-slice-known in
+    whole _ _ _ (formed start) (λ k. omega (arith, at-shared-slice-known .shared-slice-known .given k)) _ (header start) _ _ _ _ (at-write-header .write-header .ensures) (at-write-entries .write-entries .ensures) (at-write-data .write-data .ensures)
 
 pub write-form-spec : {M : Type 1} → statement M
 write-form-spec = tie.close (tie.spec cast-n write-header-requires write-entries-requires write-data-requires same-length returns)

@@ -17,6 +17,13 @@ parts w h out o₁ o₂ o₃ o₄ s r q p =
     then out 0 (h .kind ∷ h .message ∷ h .flags ∷ h .nodes ∷ []) _ p
     (then o₁ 4 (le w (h .peer)) _ q (then o₂ (4 + w) (le w (h .second)) _ r s (omega (arith, length-le w (h .second)))) (omega (arith, length-le w (h .peer)))) (omega arith)
 
+-- The ways back, from a place to an earlier one.
+abbrev put-number-to-write-bytes : tie.After-put-number → tie.After-write-bytes
+put-number-to-write-bytes c = c .before .before .before .before
+
+abbrev put-number2-to-put-number : tie.After-put-number2 → tie.After-put-number
+put-number2-to-put-number c = c .before .before .before .before
+
 slice-aggregate-write-bytes : tie.Need-slice-aggregate-write-bytes
 slice-aggregate-write-bytes c = search needs
 
@@ -48,8 +55,8 @@ returns : tie.Need-returns
 returns c =
     let at-put-tail = c .before .before in
     let at-put-number2 = at-put-tail .before .before .before .before in
-    let at-put-number = at-put-number2 .before .before .before .before in
-    let at-write-bytes = at-put-number .before .before .before .before in
+    let at-put-number = put-number2-to-put-number at-put-number2 in
+    let at-write-bytes = put-number-to-write-bytes at-put-number in
     parts _ _ _ _ _ _ _ (at-put-tail .put-tail .ensures) (at-put-number2 .put-number2 .ensures) (at-put-number .put-number .ensures) (at-write-bytes .write-bytes .ensures)
 
 pub write-header-spec : {M : Type 1} → statement M

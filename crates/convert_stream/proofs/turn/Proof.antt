@@ -10,6 +10,13 @@ use Rattle.convert_stream.proofs.turn.Tie as tie
 rest : (t n m : ℕ) (l : List ℕ) → t ≤ length (take n l) → n ≤ length l → n ≤ m → (n - t ≤ m) × (t ≤ m)
 rest t n m l h k g = (omega arith, omega (arith, below t n l h k))
 
+-- The ways back, from a place to an earlier one.
+abbrev pass-to-fill : tie.After-pass → tie.After-fill
+pass-to-fill c = c .before .before .before .before .before
+
+abbrev slice-known5-to-pass : tie.After-slice-known5 → tie.After-pass
+slice-known5-to-pass c = c .before .before .before .before .before .before
+
 fill-requires : tie.Need-fill-requires
 fill-requires c κs = search needs
 
@@ -26,7 +33,7 @@ keep-requires : tie.Need-keep-requires
 keep-requires c κs = (below _ _ _ (c .before .before .before .pass .ensures) (search needs), search needs)
 
 sub-t17 : tie.Need-sub-t17
-sub-t17 c = below _ _ _ (c .before .before .before .before .before .before .pass .ensures) (search needs)
+sub-t17 c = below _ _ _ (slice-known5-to-pass c .pass .ensures) (search needs)
 
 same-length : tie.Need-same-length
 same-length c = search needs
@@ -36,8 +43,8 @@ same-length-2 c = search needs
 
 returns : tie.Need-returns
 returns c =
-    let at-pass = c .before .before .before .before .before .before in
-    let at-fill = at-pass .before .before .before .before .before in
+    let at-pass = slice-known5-to-pass c in
+    let at-fill = pass-to-fill at-pass in
     rest _ _ _ _ (at-pass .pass .ensures) (search needs) (at-fill .fill .ensures)
 
 pub turn-spec : {M : Type 1} → statement M

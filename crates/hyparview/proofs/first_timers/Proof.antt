@@ -1,8 +1,29 @@
+use mathlib.Core.Path.{_≡_}
+use Rattle.state.specs.Layout.{words}
+use lib.ListN.{length}
+use Rattle.state.specs.Work.{Fine, work-of}
 use borrow.Author.Needs.{needs}
 use Rattle.step_refill.proofs.Asking.{fine-after}
 use Rattle.hyparview.proofs.Laws.{timers-run, timers-start}
 use Rattle.hyparview.proofs.first_timers.Statement.{statement}
 use Rattle.hyparview.proofs.first_timers.Tie as tie
+
+-- What first_timers was given.
+long : (c : tie.Start) → length (c .args .st .now) ≡ words
+long c = c .pre .0
+
+fine : (c : tie.Start) → Fine (work-of (c .args .w) (c .args .st .now)) (c .args .draws .now) (c .args .out .now)
+fine c = c .pre .1
+
+-- The ways back, from a place to an earlier one.
+abbrev else1-to-start : tie.Else1 → tie.Start
+else1-to-start c = c .before .before .before .before .before
+
+abbrev note-scheduled-to-start : tie.After-note-scheduled → tie.Start
+note-scheduled-to-start c = else1-to-start (c .before .before)
+
+abbrev schedule-shuffle-to-note-scheduled : tie.After-schedule-shuffle → tie.After-note-scheduled
+schedule-shuffle-to-note-scheduled c = c .before .before .before .before .before
 
 slice-read-if1 : tie.Need-slice-read-if1
 slice-read-if1 c = search needs
@@ -11,15 +32,13 @@ returns : tie.Need-returns
 returns c = search timers-run
 
 note-scheduled-requires : tie.Need-note-scheduled-requires
-note-scheduled-requires c κs = (c .before .before .before .before .before .before .pre .0, c .before .before .before .before .before .before .pre .1 .ready .packed)
+note-scheduled-requires c κs = (long (else1-to-start (c .before)), fine (else1-to-start (c .before)) .ready .packed)
 
 schedule-shuffle-requires : tie.Need-schedule-shuffle-requires
 schedule-shuffle-requires c κs =
     let at-note-scheduled = c .before .before .before .before in
-    let at-if1 = at-note-scheduled .before .before in
-    let start = at-if1 .before .before .before .before .before in
-    let given = start .pre in
-    (search needs, fine-after _ _ _ _ _ _ (given .1) (at-note-scheduled .note-scheduled .ensures))
+    let start = note-scheduled-to-start at-note-scheduled in
+    (search needs, fine-after _ _ _ _ _ _ (fine start) (at-note-scheduled .note-scheduled .ensures))
 
 schedule-maintenance-requires : tie.Need-schedule-maintenance-requires
 schedule-maintenance-requires c κs = c .before .before .before .before .before .schedule-shuffle .ensures .fine .written
@@ -34,10 +53,10 @@ returns-2 : tie.Need-returns-2
 returns-2 c =
     let at-schedule-maintenance = c .before .before in
     let at-schedule-shuffle = at-schedule-maintenance .before .before .before .before .before .before in
-    let at-note-scheduled = at-schedule-shuffle .before .before .before .before .before in
+    let at-note-scheduled = schedule-shuffle-to-note-scheduled at-schedule-shuffle in
     let at-if1 = at-note-scheduled .before .before in
-    let start = at-if1 .before .before .before .before .before in
-    timers-start _ _ _ _ (start .pre .1) _ _ _ _ _ _ _ (at-if1 .if1 .left) (at-schedule-maintenance .schedule-maintenance .ensures) (at-schedule-shuffle .schedule-shuffle .ensures) (at-note-scheduled .note-scheduled .ensures)
+    let start = else1-to-start at-if1 in
+    timers-start _ _ _ _ (fine start) _ _ _ _ _ _ _ (at-if1 .if1 .left) (at-schedule-maintenance .schedule-maintenance .ensures) (at-schedule-shuffle .schedule-shuffle .ensures) (at-note-scheduled .note-scheduled .ensures)
 
 pub first-timers-spec : {M : Type 1} → statement M
 first-timers-spec =

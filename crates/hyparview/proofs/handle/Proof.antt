@@ -3,6 +3,10 @@ use Rattle.hyparview.proofs.Opening.{recorded, handled-broken, handled-
 use Rattle.hyparview.proofs.handle.Statement.{statement}
 use Rattle.hyparview.proofs.handle.Tie as tie
 
+-- The ways back, from a place to an earlier one.
+abbrev refuse2-to-read-event : tie.After-refuse2 → tie.After-read-event
+refuse2-to-read-event c = c .before .before .before .before .before .before
+
 is-ok-requires : tie.Need-is-ok-requires
 is-ok-requires c κs = search needs
 
@@ -42,7 +46,7 @@ same-length-4 c = search needs
 returns-2 : tie.Need-returns-2
 returns-2 c =
     let at-refuse2 = c .before .before in
-    let at-read-event = at-refuse2 .before .before .before .before .before .before in
+    let at-read-event = refuse2-to-read-event at-refuse2 in
     let at-if1 = at-read-event .before in
     let at-is-ok = at-if1 .before in
     let is-ok = at-is-ok .is-ok in

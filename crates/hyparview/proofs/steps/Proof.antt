@@ -3,6 +3,10 @@ use Rattle.hyparview.proofs.Opening.{stepped}
 use Rattle.hyparview.proofs.steps.Statement.{statement}
 use Rattle.hyparview.proofs.steps.Tie as tie
 
+-- The ways back, from a place to an earlier one.
+abbrev first-timers-to-dispatch : tie.After-first-timers → tie.After-dispatch
+first-timers-to-dispatch c = c .before .before .before .before .before .before .before
+
 dispatch-requires : tie.Need-dispatch-requires
 dispatch-requires c κs = c .before .before .before .before .before .before .pre
 
@@ -22,8 +26,7 @@ returns : tie.Need-returns
 returns c =
     let at-forget-declined = c .before .before in
     let at-first-timers = at-forget-declined .before .before .before .before .before .before in
-    let at-st = at-first-timers .before .before .before .before .before .before in
-    let at-dispatch = at-st .before in
+    let at-dispatch = first-timers-to-dispatch at-first-timers in
     stepped _ _ _ _ _ _ _ _ _ (at-forget-declined .forget-declined .ensures) (at-first-timers .first-timers .ensures) (at-dispatch .dispatch .ensures)
 
 pub steps-spec : {M : Type 1} → statement M

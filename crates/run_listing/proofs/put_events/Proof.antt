@@ -15,6 +15,16 @@ Inv-loop n events draws records₀ out₀ p₀ r₀ i₀ records out p r i =
 abbrev μ-loop : tie.MeasureT-loop
 μ-loop n events draws records₀ out₀ p₀ r₀ i₀ records out p r i = n - i
 
+-- The ways back, from a place to an earlier one.
+abbrev at-loop-to-start : tie.At-loop Inv-loop μ-loop → tie.Start Inv-loop μ-loop
+at-loop-to-start c = c .before .before .before .before .before
+
+abbrev put-step-to-at-loop : tie.After-put-step Inv-loop μ-loop → tie.At-loop Inv-loop μ-loop
+put-step-to-at-loop c = c .before .before .before .before
+
+abbrev put-step-to-in-loop : tie.After-put-step Inv-loop μ-loop → tie.In-loop Inv-loop μ-loop
+put-step-to-in-loop c = c .before .before .before
+
 loop-holds : tie.Need-loop-holds Inv-loop μ-loop
 loop-holds c = search (running-start, needs)
 
@@ -23,9 +33,7 @@ put-step-requires c κs = search needs
 
 add-i : tie.Need-add-i Inv-loop μ-loop
 add-i c =
-    let at-put-step = c .before .before .before .before in
-    let at-loop = at-put-step .before .before .before .before in
-    let start = at-loop .before .before .before .before .before in
+    let start = at-loop-to-start (put-step-to-at-loop (c .before .before .before .before)) in
     let good = start .good in
     search (needs, good .1)
 
@@ -35,7 +43,7 @@ loop-less c = search needs
 loop-again : tie.Need-loop-again Inv-loop μ-loop
 loop-again c =
     let at-put-step = c .before .before .before .before .before .before in
-    let at-loop-test = at-put-step .before .before .before in
+    let at-loop-test = put-step-to-in-loop at-put-step in
     let at-loop = at-loop-test .before in
     let loop = at-loop .loop in
     let loop-test = at-loop-test .loop-test in

@@ -3,6 +3,10 @@ use Rattle.run_listing.proofs.Laws.{walked}
 use Rattle.run_listing.proofs.put_walk.Statement.{statement}
 use Rattle.run_listing.proofs.put_walk.Tie as tie
 
+-- The ways back, from a place to an earlier one.
+abbrev put-events-to-start : tie.After-put-events → tie.Start
+put-events-to-start c = c .before .before .before .before .before .before .before .before .before
+
 sub-put-events : tie.Need-sub-put-events
 sub-put-events c = search needs
 
@@ -27,8 +31,7 @@ same-length-2 c = search needs
 returns : tie.Need-returns
 returns c =
     let at-put-events = c .before .before .before .before in
-    let at-put-events-arg = at-put-events .before .before .before .before in
-    let start = at-put-events-arg .before .before .before .before .before in
+    let start = put-events-to-start at-put-events in
     walked _ _ _ _ _ _ _ _ _ (start .pre .1 .0) (start .pre .1 .1) (at-put-events .put-events .ensures)
 
 pub put-walk-spec : {M : Type 1} → statement M

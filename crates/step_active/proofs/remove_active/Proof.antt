@@ -6,6 +6,16 @@ use borrow.Author.Needs.{needs}
 use Rattle.step_active.proofs.remove_active.Statement.{statement}
 use Rattle.step_active.proofs.remove_active.Tie as tie
 
+-- The ways back, from a place to an earlier one.
+abbrev position-to-start : tie.After-position → tie.Start
+position-to-start c = c .before .before .before .before .before .before .before .before .before
+
+abbrev position-to-in-active : tie.After-position → tie.After-in-active
+position-to-in-active c = c .before .before .before .before
+
+abbrev refill-after-to-remove-active-by-index : tie.After-refill-after → tie.After-remove-active-by-index
+refill-after-to-remove-active-by-index c = c .before .before .before .before .before .before .before
+
 in-active-requires : tie.Need-in-active-requires
 in-active-requires c κs = search needs
 
@@ -39,10 +49,9 @@ returns : tie.Need-returns
 unfolding part unpack station-of
 returns c =
     let at-refill-after = c .before .before .before .before in
-    let at-before = at-refill-after .before .before .before .before .before .before in
-    let c₁ = at-before .before in
+    let c₁ = refill-after-to-remove-active-by-index at-refill-after in
     let q = c₁ .before .before .before in
-    removed _ _ _ _ _ _ _ (q .before .before .before .before .before .before .before .before .before .pre .1 .0) (q .before .before .before .before .in-active .ensures) _ _ _ _ _ _ _ (q .before .before .before .if1 .taken) (q .position .ensures .0)
+    removed _ _ _ _ _ _ _ (position-to-start q .pre .1 .0) (position-to-in-active q .in-active .ensures) _ _ _ _ _ _ _ (q .before .before .before .if1 .taken) (q .position .ensures .0)
     (at-refill-after .refill-after .ensures) (c₁ .remove-active-by-index .ensures)
 
 same-length-3 : tie.Need-same-length-3

@@ -3,6 +3,10 @@ use borrow.Author.Needs.{needs}
 use Rattle.step_events.proofs.join_other.Statement.{statement}
 use Rattle.step_events.proofs.join_other.Tie as tie
 
+-- The ways back, from a place to an earlier one.
+abbrev join2-to-start : tie.After-join2 → tie.Start
+join2-to-start c = c .before .before .before .before .before .before .before .before
+
 is-me-requires : tie.Need-is-me-requires
 is-me-requires c κs = search needs
 
@@ -24,10 +28,8 @@ join-requires-2 c κs = search needs
 await-join-requires : tie.Need-await-join-requires
 await-join-requires c κs =
     let at-join2 = c .before .before .before .before in
-    let at-is-me = at-join2 .before .before .before .before in
-    let start = at-is-me .before .before .before .before in
-    let given = start .pre in
-    (search needs, (search needs, free-after-join _ _ _ _ _ _ _ (at-join2 .join2 .ensures) (given .1 .1)))
+    let start = join2-to-start at-join2 in
+    (search needs, (search needs, free-after-join _ _ _ _ _ _ _ (at-join2 .join2 .ensures) (start .pre .1 .1)))
 
 same-length-3 : tie.Need-same-length-3
 same-length-3 c = search needs

@@ -6,6 +6,13 @@ use borrow.Author.Needs.{needs}
 use Rattle.step_maintenance.proofs.handle_maintenance_timer.Statement.{statement}
 use Rattle.step_maintenance.proofs.handle_maintenance_timer.Tie as tie
 
+-- The ways back, from a place to an earlier one.
+abbrev remember-all-to-start : tie.After-remember-all → tie.Start
+remember-all-to-start c = c .before .before .before .before .before
+
+abbrev maintain-to-remember-all : tie.After-maintain → tie.After-remember-all
+maintain-to-remember-all c = c .before .before .before .before .before
+
 remember-all-requires : tie.Need-remember-all-requires
 remember-all-requires c κs = search needs
 
@@ -26,8 +33,8 @@ unfolding handle-maintenance-timer
 returns c =
     let at-schedule-maintenance = c .before .before in
     let at-maintain = at-schedule-maintenance .before .before .before .before .before .before in
-    let at-remember-all = at-maintain .before .before .before .before .before in
-    let start = at-remember-all .before .before .before .before .before in
+    let at-remember-all = maintain-to-remember-all at-maintain in
+    let start = remember-all-to-start at-remember-all in
     then-tell-any (at-schedule-maintenance .schedule-maintenance .ensures) (seq maintain (at-maintain .maintain .ensures) (then (at-remember-all .remember-all .ensures) (still (start .pre .1))))
 
 pub handle-maintenance-timer-spec : {M : Type 1} → statement M

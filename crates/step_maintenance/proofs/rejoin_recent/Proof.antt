@@ -6,6 +6,10 @@ use borrow.Author.Needs.{needs}
 use Rattle.step_maintenance.proofs.rejoin_recent.Statement.{statement}
 use Rattle.step_maintenance.proofs.rejoin_recent.Tie as tie
 
+-- The ways back, from a place to an earlier one.
+abbrev is-empty-to-start : tie.After-is-empty → tie.Start
+is-empty-to-start c = c .before .before .before .before .before
+
 is-empty-requires : tie.Need-is-empty-requires
 is-empty-requires c κs = search needs
 
@@ -35,7 +39,7 @@ returns-2 c =
     let at-count = at-choose .before in
     let at-if1 = at-count .before in
     let at-is-empty = at-if1 .before in
-    let start = at-is-empty .before .before .before .before .before in
+    let start = is-empty-to-start at-is-empty in
     one-recent _ _ _ _ _ _ (start .pre .1 .0) (at-is-empty .is-empty .ensures) _ _ _ (at-count .count .ensures .0) (at-choose .choose .ensures .1 .0) (at-get-index .get-index .ensures) _ _ _ (at-if1 .if1 .left) (at-join .join .ensures) (at-choose .choose .ensures .0)
 
 pub rejoin-recent-spec : {M : Type 1} → statement M

@@ -4,6 +4,10 @@ use borrow.Author.Needs.{needs}
 use Rattle.step_messages.proofs.on_forward_join.Statement.{statement}
 use Rattle.step_messages.proofs.on_forward_join.Tie as tie
 
+-- The ways back, from a place to an earlier one.
+abbrev walk-on-to-st2 : tie.After-walk-on → tie.After-st2
+walk-on-to-st2 c = c .before .before .before .before .before .before
+
 ends-here-requires : tie.Need-ends-here-requires
 ends-here-requires c κs = search needs
 
@@ -34,7 +38,7 @@ same-length-4 c = search needs
 returns-2 : tie.Need-returns-2
 returns-2 c =
     let at-walk-on = c .before .before in
-    let at-st2 = at-walk-on .before .before .before .before .before .before in
+    let at-st2 = walk-on-to-st2 at-walk-on in
     let at-learn-joiner = at-st2 .before in
     let at-if1 = at-learn-joiner .before .before .before in
     let at-ends-here = at-if1 .before in

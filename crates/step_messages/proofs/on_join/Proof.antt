@@ -4,6 +4,13 @@ use borrow.Author.Needs.{needs}
 use Rattle.step_messages.proofs.on_join.Statement.{statement}
 use Rattle.step_messages.proofs.on_join.Tie as tie
 
+-- The ways back, from a place to an earlier one.
+abbrev drop-pending-to-start : tie.After-drop-pending → tie.Start
+drop-pending-to-start c = c .before .before .before .before .before
+
+abbrev add-active-to-drop-pending : tie.After-add-active → tie.After-drop-pending
+add-active-to-drop-pending c = c .before .before .before .before .before
+
 drop-pending-requires : tie.Need-drop-pending-requires
 drop-pending-requires c κs = search needs
 
@@ -22,10 +29,9 @@ same-length-2 c = search needs
 returns : tie.Need-returns
 returns c =
     let at-forward-joins = c .before .before in
-    let at-st2 = at-forward-joins .before .before .before .before .before .before in
-    let at-add-active = at-st2 .before in
-    let at-drop-pending = at-add-active .before .before .before .before .before in
-    let start = at-drop-pending .before .before .before .before .before in
+    let at-add-active = at-forward-joins .before .before .before .before .before .before .before in
+    let at-drop-pending = add-active-to-drop-pending at-add-active in
+    let start = drop-pending-to-start at-drop-pending in
     joined _ _ _ _ _ (at-drop-pending .drop-pending .ensures) (start .pre .1 .0) _ _ _ _ _ (at-forward-joins .forward-joins .ensures) (at-add-active .add-active .ensures)
 
 pub on-join-spec : {M : Type 1} → statement M

@@ -6,6 +6,16 @@ use borrow.Author.Needs.{needs}
 use Rattle.step_peers.proofs.make_room.Statement.{statement}
 use Rattle.step_peers.proofs.make_room.Tie as tie
 
+-- The ways back, from a place to an earlier one.
+abbrev then1-to-start : tie.Then1 → tie.Start
+then1-to-start c = c .before .before .before .before .before .before
+
+abbrev choose-to-then1 : tie.After-choose → tie.Then1
+choose-to-then1 c = c .before .before .before .before
+
+abbrev get-index-to-choose : tie.After-get-index → tie.After-choose
+get-index-to-choose c = c .before .before .before .before
+
 must-evict-requires : tie.Need-must-evict-requires
 must-evict-requires c κs = search needs
 
@@ -58,9 +68,9 @@ returns c =
     let told = c .before .before in
     let gone = told .before .before .before .before in
     let read = gone .before .before in
-    let drew = read .before .before .before .before in
-    let t = drew .before .before .before .before in
-    made _ _ _ _ _ _ _ _ _ _ _ _ _ (t .before .before .before .before .before .before .pre .1) (t .before .must-evict .ensures) (t .if1 .taken) (drew .before .count .ensures .0)
+    let drew = get-index-to-choose read in
+    let t = choose-to-then1 drew in
+    made _ _ _ _ _ _ _ _ _ _ _ _ _ (then1-to-start t .pre .1) (t .before .must-evict .ensures) (t .if1 .taken) (drew .before .count .ensures .0)
     (drew .choose .ensures .1 .0) (read .get-index .ensures) (told .tell-evicted .ensures) (gone .evict-at .ensures) (drew .choose .ensures .0)
 
 same-length-3 : tie.Need-same-length-3

@@ -4,6 +4,13 @@ use borrow.Author.Needs.{needs}
 use Rattle.step_refill.proofs.ask_picked.Statement.{statement}
 use Rattle.step_refill.proofs.ask_picked.Tie as tie
 
+-- The ways back, from a place to an earlier one.
+abbrev count-to-start : tie.After-count → tie.Start
+count-to-start c = c .before .before .before .before .before .before .before
+
+abbrev use-request-to-send-neighbor : tie.After-use-request → tie.After-send-neighbor
+use-request-to-send-neighbor c = c .before .before .before .before .before .before
+
 is-alone-requires : tie.Need-is-alone-requires
 is-alone-requires c κs = search needs
 
@@ -31,11 +38,11 @@ same-length-2 c = search needs
 returns : tie.Need-returns
 returns c =
     let c₂ = c .before .before in
-    let c₁ = c₂ .before .before .before .before .before .before in
+    let c₁ = use-request-to-send-neighbor c₂ in
     let g = c₁ .before .before .before in
     let d = g .before .before in
     let n = d .before in
-    one-picked _ _ _ _ _ _ _ _ _ _ _ _ _ _ _ (n .before .before .before .before .before .before .before .pre .1 .0) (n .before .is-alone .ensures) (n .count .ensures .0) (d .choose .ensures .1 .0) (g .get-index .ensures)
+    one-picked _ _ _ _ _ _ _ _ _ _ _ _ _ _ _ (count-to-start n .pre .1 .0) (n .before .is-alone .ensures) (n .count .ensures .0) (d .choose .ensures .1 .0) (g .get-index .ensures)
     (c₂ .use-request .ensures) (c₁ .send-neighbor .ensures) (d .choose .ensures .0)
 
 pub ask-picked-spec : {M : Type 1} → statement M

@@ -6,6 +6,10 @@ use borrow.Author.Needs.{needs}
 use Rattle.step_sending.proofs.fill_active.Statement.{statement}
 use Rattle.step_sending.proofs.fill_active.Tie as tie
 
+-- The ways back, from a place to an earlier one.
+abbrev shuffle-and-cap-to-copy-into : tie.After-shuffle-and-cap → tie.After-copy-into
+shuffle-and-cap-to-copy-into c = c .before .before .before
+
 count-requires : tie.Need-count-requires
 count-requires c κs = search needs
 
@@ -48,7 +52,7 @@ unfolding unpack station-of part
 returns c =
     let c₃ = c .before .before in
     let c₂ = c₃ .before .before .before .before in
-    let c₁ = c₂ .before .before .before in
+    let c₁ = shuffle-and-cap-to-copy-into c₂ in
     filled-up _ _ _ _ _ _ _ _ _ _ (c₂ .shuffle-and-cap .ensures .0) (c₃ .append .ensures) (c₂ .shuffle-and-cap .ensures .1) (c₁ .copy-into .ensures) (c₁ .before .before .before .count .ensures .0)
 
 pub fill-active-spec : {M : Type 1} → statement M

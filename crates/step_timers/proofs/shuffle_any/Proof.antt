@@ -6,6 +6,13 @@ use borrow.Author.Needs.{needs}
 use Rattle.step_timers.proofs.shuffle_any.Statement.{statement}
 use Rattle.step_timers.proofs.shuffle_any.Tie as tie
 
+-- The ways back, from a place to an earlier one.
+abbrev is-alone-to-start : tie.After-is-alone → tie.Start
+is-alone-to-start c = c .before .before .before .before
+
+abbrev count-to-else1 : tie.After-count → tie.Else1
+count-to-else1 c = c .before .before
+
 is-alone-requires : tie.Need-is-alone-requires
 is-alone-requires c κs = search needs
 
@@ -55,9 +62,9 @@ returns-2 c =
     let at-get-index = at-shuffle-with .before .before in
     let at-choose = at-get-index .before .before .before in
     let at-count = at-choose .before in
-    let at-if1 = at-count .before .before in
+    let at-if1 = count-to-else1 at-count in
     let at-is-alone = at-if1 .before in
-    let start = at-is-alone .before .before .before .before in
+    let start = is-alone-to-start at-is-alone in
     one-asked _ _ _ _ _ (start .pre .1) (at-is-alone .is-alone .ensures) _ _ _ (at-count .count .ensures .0) (at-choose .choose .ensures .1 .0) (at-get-index .get-index .ensures) _ _ _ (at-if1 .if1 .left) (at-shuffle-with .shuffle-with .ensures) (at-choose .choose .ensures .0)
 
 pub shuffle-any-spec : {M : Type 1} → statement M

@@ -1,10 +1,29 @@
-use Rattle.util.specs.Section.{part}
+use Prim.Native.Nat.{_≤_}
+use Rattle.timing.specs.Timing.{most-shuffle-active}
+use lib.ListN.{length}
+use Rattle.state.specs.Layout.{all-places}
+use Rattle.state.specs.Work.{Fine, work-of}
+use Rattle.util.specs.Section.{part, items-at}
 use Rattle.state.proofs.Access.{of-packed}
 use Rattle.step_sending.proofs.Told.{room-drawn}
 use Rattle.step_timers.proofs.Shuffles.{both-fit, all-fit, passive-done}
 use borrow.Author.Needs.{needs}
 use Rattle.step_timers.proofs.shuffle_passive.Statement.{statement}
 use Rattle.step_timers.proofs.shuffle_passive.Tie as tie
+
+-- What shuffle_passive was given.
+fine : (c : tie.Start) → Fine (work-of (c .args .w) (c .args .st .now)) (c .args .draws .now) (c .args .out .now)
+fine c = c .pre .1 .0
+
+few : (c : tie.Start) → length (items-at all-places (c .args .v .now)) ≤ most-shuffle-active
+few c = c .pre .1 .1 .1
+
+-- The ways back, from a place to an earlier one.
+abbrev some-peers-to-start : tie.After-some-peers → tie.Start
+some-peers-to-start c = c .before .before .before .before .before .before .before .before
+
+abbrev append-to-some-peers : tie.After-append → tie.After-some-peers
+append-to-some-peers c = c .before .before .before .before
 
 shared-slice-read-most : tie.Need-shared-slice-read-most
 shared-slice-read-most c = search needs
@@ -32,23 +51,17 @@ append-requires : tie.Need-append-requires
 unfolding part
 append-requires c κs =
     let at-some-peers = c .before .before .before in
-    let at-more = at-some-peers .before in
-    let at-some-peers-arg = at-more .before in
-    let start = at-some-peers-arg .before .before .before .before .before .before in
-    let given = start .pre in
-    (search needs, (at-some-peers .some-peers .ensures .1 .valid, both-fit _ (given .1 .0 .ready .packed) _ _ _ (at-some-peers .some-peers .ensures .1) (given .1 .1 .1)))
+    let start = some-peers-to-start at-some-peers in
+    (search needs, (at-some-peers .some-peers .ensures .1 .valid, both-fit _ (fine start .ready .packed) _ _ _ (at-some-peers .some-peers .ensures .1) (few start)))
 
 send-shuffle-requires : tie.Need-send-shuffle-requires
 unfolding part
 send-shuffle-requires c κs =
     let at-append = c .before .before .before .before in
-    let at-some-peers = at-append .before .before .before .before in
-    let at-more = at-some-peers .before in
-    let at-some-peers-arg = at-more .before in
-    let start = at-some-peers-arg .before .before .before .before .before .before in
-    let given = start .pre in
+    let at-some-peers = append-to-some-peers at-append in
+    let start = some-peers-to-start at-some-peers in
     let some-peers = at-some-peers .some-peers in
-    (search needs, (room-drawn _ _ _ _ _ (given .1 .0) (some-peers .ensures .0), (at-append .append .ensures .valid, all-fit _ (given .1 .0 .ready .packed) _ _ _ _ (some-peers .ensures .1) (given .1 .1 .1) (at-append .append .ensures))))
+    (search needs, (room-drawn _ _ _ _ _ (fine start) (some-peers .ensures .0), (at-append .append .ensures .valid, all-fit _ (fine start .ready .packed) _ _ _ _ (some-peers .ensures .1) (few start) (at-append .append .ensures))))
 
 same-length : tie.Need-same-length
 same-length c = search needs
@@ -61,11 +74,9 @@ unfolding part
 returns c =
     let at-send-shuffle = c .before .before in
     let at-append = at-send-shuffle .before .before .before .before .before in
-    let at-some-peers = at-append .before .before .before .before in
-    let at-more = at-some-peers .before in
-    let at-some-peers-arg = at-more .before in
-    let start = at-some-peers-arg .before .before .before .before .before .before in
-    passive-done _ _ _ _ _ _ _ _ (start .pre .1 .0) _ _ _ (at-some-peers .some-peers .ensures .0) (at-some-peers .some-peers .ensures .1) (at-append .append .ensures) (at-send-shuffle .send-shuffle .ensures)
+    let at-some-peers = append-to-some-peers at-append in
+    let start = some-peers-to-start at-some-peers in
+    passive-done _ _ _ _ _ _ _ _ (fine start) _ _ _ (at-some-peers .some-peers .ensures .0) (at-some-peers .some-peers .ensures .1) (at-append .append .ensures) (at-send-shuffle .send-shuffle .ensures)
 
 pub shuffle-passive-spec : {M : Type 1} → statement M
 shuffle-passive-spec =

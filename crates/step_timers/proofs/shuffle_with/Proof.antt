@@ -1,3 +1,4 @@
+use Rattle.state.specs.Work.{Fine, work-of}
 use Rattle.util.specs.Section.{part}
 use Rattle.state.proofs.Access.{of-packed}
 use Rattle.step_sending.proofs.Told.{fine-drawn}
@@ -5,6 +6,14 @@ use Rattle.step_timers.proofs.Shuffles.{few-active, with-done}
 use borrow.Author.Needs.{needs}
 use Rattle.step_timers.proofs.shuffle_with.Statement.{statement}
 use Rattle.step_timers.proofs.shuffle_with.Tie as tie
+
+-- What shuffle_with was given.
+fine : (c : tie.Start) → Fine (work-of (c .args .w) (c .args .st .now)) (c .args .draws .now) (c .args .out .now)
+fine c = c .pre .1
+
+-- The ways back, from a place to an earlier one.
+abbrev some-peers-to-start : tie.After-some-peers → tie.Start
+some-peers-to-start c = c .before .before .before .before .before .before .before
 
 shared-slice-read-most : tie.Need-shared-slice-read-most
 shared-slice-read-most c = search needs
@@ -32,10 +41,8 @@ shuffle-passive-requires : tie.Need-shuffle-passive-requires
 unfolding part
 shuffle-passive-requires c κs =
     let at-some-peers = c .before .before .before in
-    let at-v = at-some-peers .before in
-    let start = at-v .before .before .before .before .before .before in
-    let given = start .pre in
-    (search needs, (fine-drawn _ _ _ _ _ (given .1) (at-some-peers .some-peers .ensures .0), (at-some-peers .some-peers .ensures .1 .valid, few-active _ (given .1 .ready .packed) _ _ (at-some-peers .some-peers .ensures .1))))
+    let start = some-peers-to-start at-some-peers in
+    (search needs, (fine-drawn _ _ _ _ _ (fine start) (at-some-peers .some-peers .ensures .0), (at-some-peers .some-peers .ensures .1 .valid, few-active _ (fine start .ready .packed) _ _ (at-some-peers .some-peers .ensures .1))))
 
 same-length : tie.Need-same-length
 same-length c = search needs
@@ -45,9 +52,8 @@ unfolding part
 returns c =
     let at-shuffle-passive = c .before .before .before in
     let at-some-peers = at-shuffle-passive .before .before .before .before in
-    let at-v = at-some-peers .before in
-    let start = at-v .before .before .before .before .before .before in
-    with-done _ _ _ _ _ _ _ _ (start .pre .1) _ (at-some-peers .some-peers .ensures .0) (at-some-peers .some-peers .ensures .1) (at-shuffle-passive .shuffle-passive .ensures)
+    let start = some-peers-to-start at-some-peers in
+    with-done _ _ _ _ _ _ _ _ (fine start) _ (at-some-peers .some-peers .ensures .0) (at-some-peers .some-peers .ensures .1) (at-shuffle-passive .shuffle-passive .ensures)
 
 pub shuffle-with-spec : {M : Type 1} → statement M
 shuffle-with-spec =

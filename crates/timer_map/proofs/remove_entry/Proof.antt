@@ -5,6 +5,13 @@ use Rattle.timer_map.proofs.Pack.{remove-law}
 use Rattle.timer_map.proofs.remove_entry.Statement.{statement}
 use Rattle.timer_map.proofs.remove_entry.Tie as tie
 
+-- The ways back, from a place to an earlier one.
+abbrev shift-down-to-start : tie.After-shift-down → tie.Start
+shift-down-to-start c = c .before .before .before .before
+
+abbrev clear-rows-to-shift-down : tie.After-clear-rows → tie.After-shift-down
+clear-rows-to-shift-down c = c .before .before .before .before
+
 slice-read-n : tie.Need-slice-read-n
 slice-read-n c = search needs
 
@@ -29,8 +36,8 @@ slice-write-q c = search needs
 same-length : tie.Need-same-length
 same-length c =
     let at-clear-rows = c .before .before in
-    let at-shift-down = at-clear-rows .before .before .before .before in
-    let start = at-shift-down .before .before .before .before in
+    let at-shift-down = clear-rows-to-shift-down at-clear-rows in
+    let start = shift-down-to-start at-shift-down in
     let k : length (at-clear-rows .clear-rows .last .0) ≡ length (at-shift-down .shift-down .last .0) = at-clear-rows .clear-rows .kept .0 in
     let m : length (at-shift-down .shift-down .last .0) ≡ length (start .args .q .now) = at-shift-down .shift-down .kept .0 in
     length-set (at-clear-rows .clear-rows .last .0) 0 _ ∙ k ∙ m
@@ -38,8 +45,8 @@ same-length c =
 returns : tie.Need-returns
 returns c =
     let at-clear-rows = c .before .before in
-    let at-shift-down = at-clear-rows .before .before .before .before in
-    let start = at-shift-down .before .before .before .before in
+    let at-shift-down = clear-rows-to-shift-down at-clear-rows in
+    let start = shift-down-to-start at-shift-down in
     remove-law _ _ _ _ (start .pre .0) (start .pre .1) (at-clear-rows .clear-rows .ensures) (at-shift-down .shift-down .ensures)
 
 pub remove-entry-spec : {M : Type 1} → statement M

@@ -3,6 +3,10 @@ use Rattle.trace_replay.proofs.Laws.{walked}
 use Rattle.trace_replay.proofs.walk.Statement.{statement}
 use Rattle.trace_replay.proofs.walk.Tie as tie
 
+-- The ways back, from a place to an earlier one.
+abbrev events-to-start : tie.After-events → tie.Start
+events-to-start c = c .before .before .before .before .before .before .before .before .before
+
 sub-events : tie.Need-sub-events
 sub-events c = search needs
 
@@ -27,7 +31,7 @@ same-length-2 c = search needs
 returns : tie.Need-returns
 returns c =
     let e = c .before .before .before .before in
-    let first = e .before .before .before .before .before .before .before .before .before in
+    let first = events-to-start e in
     walked _ _ _ _ _ _ (first .pre .1 .0) (first .pre .1 .1) (e .events .ensures)
 
 pub walk-spec : {M : Type 1} → statement M

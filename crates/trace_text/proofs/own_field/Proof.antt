@@ -4,6 +4,16 @@ use Rattle.trace_text.proofs.Laws.{own-none, own-some}
 use Rattle.trace_text.proofs.own_field.Statement.{statement}
 use Rattle.trace_text.proofs.own_field.Tie as tie
 
+-- The ways back, from a place to an earlier one.
+abbrev then1-to-put-bytes : tie.Then1 → tie.After-put-bytes
+then1-to-put-bytes c = c .before .before .before .before
+
+abbrev put-data-hex-to-put : tie.After-put-data-hex → tie.After-put
+put-data-hex-to-put c = c .before .before .before .before .before .before .before
+
+abbrev else1-to-put-bytes : tie.Else1 → tie.After-put-bytes
+else1-to-put-bytes c = c .before .before .before .before
+
 slice-aggregate-put-bytes : tie.Need-slice-aggregate-put-bytes
 slice-aggregate-put-bytes c = search needs
 
@@ -35,9 +45,9 @@ returns : tie.Need-returns
 unfolding ascii
 returns c =
     let at-hex = c .before .before in
-    let at-put = at-hex .before .before .before .before .before .before .before in
+    let at-put = put-data-hex-to-put at-hex in
     let at-if1 = at-put .before .before in
-    let at-bytes = at-if1 .before .before .before .before in
+    let at-bytes = then1-to-put-bytes at-if1 in
     own-some _ _ _ _ _ _ _ _ _ (at-if1 .if1 .taken) (at-hex .put-data-hex .ensures) (at-put .put .ensures) (at-bytes .put-bytes .ensures)
 
 put-requires-2 : tie.Need-put-requires-2
@@ -51,7 +61,7 @@ unfolding ascii
 returns-2 c =
     let at-put2 = c .before .before in
     let at-if1 = at-put2 .before .before in
-    let at-bytes = at-if1 .before .before .before .before in
+    let at-bytes = else1-to-put-bytes at-if1 in
     own-none _ _ _ _ _ _ _ (at-if1 .if1 .left) (at-put2 .put2 .ensures) (at-bytes .put-bytes .ensures)
 
 pub own-field-spec : {M : Type 1} → statement M

@@ -4,6 +4,16 @@ use Rattle.trace_text.proofs.Laws.{counts-put}
 use Rattle.trace_text.proofs.put_counts.Statement.{statement}
 use Rattle.trace_text.proofs.put_counts.Tie as tie
 
+-- The ways back, from a place to an earlier one.
+abbrev number-field2-to-number-field : tie.After-number-field2 → tie.After-number-field
+number-field2-to-number-field c = c .before .before .before .before .before .before
+
+abbrev number-field3-to-number-field2 : tie.After-number-field3 → tie.After-number-field2
+number-field3-to-number-field2 c = c .before .before .before .before .before .before
+
+abbrev number-field4-to-number-field3 : tie.After-number-field4 → tie.After-number-field3
+number-field4-to-number-field3 c = c .before .before .before .before .before .before
+
 slice-aggregate-number-field : tie.Need-slice-aggregate-number-field
 slice-aggregate-number-field c = search needs
 
@@ -51,9 +61,9 @@ unfolding ascii
 returns c =
     let at-put = c .before .before in
     let at-short = at-put .before .before .before .before in
-    let at-alone = at-short .before .before .before .before .before .before in
-    let at-interval = at-alone .before .before .before .before .before .before in
-    let at-timers = at-interval .before .before .before .before .before .before in
+    let at-alone = number-field4-to-number-field3 at-short in
+    let at-interval = number-field3-to-number-field2 at-alone in
+    let at-timers = number-field2-to-number-field at-interval in
     counts-put _ _ _ _ _ _ _ _ _ _ _ _ _ (at-put .put .ensures) (at-short .number-field4 .ensures) (at-alone .number-field3 .ensures) (at-interval .number-field2 .ensures) (at-timers .number-field .ensures)
 
 pub put-counts-spec : {M : Type 1} → statement M

@@ -12,6 +12,10 @@ Inv-loop out₀ s r₀ i₀ out r i = Hexing s r₀ out₀ r out i
 abbrev μ-loop : tie.MeasureT-loop
 μ-loop out₀ s r₀ i₀ out r i = length s - i
 
+-- The ways back, from a place to an earlier one.
+abbrev hex-digit-to-at-loop : tie.After-hex-digit Inv-loop μ-loop → tie.At-loop Inv-loop μ-loop
+hex-digit-to-at-loop c = c .before .before .before .before
+
 loop-holds : tie.Need-loop-holds Inv-loop μ-loop
 loop-holds c = search (hex-start, needs)
 
@@ -42,7 +46,7 @@ loop-again c =
     let at-digit2 = at-put2 .before in
     let at-put = at-digit2 .before .before .before .before in
     let at-digit = at-put .before in
-    let at-loop = at-digit .before .before .before .before in
+    let at-loop = hex-digit-to-at-loop at-digit in
     hex-next _ _ _ _ _ _ (at-loop .loop .inv) _ _ _ _ _ _ (search needs) (at-digit .hex-digit .ensures) (at-digit2 .hex-digit2 .ensures) (at-put2 .put2 .ensures) (at-put .put .ensures) (search needs)
 
 same-length : tie.Need-same-length Inv-loop μ-loop

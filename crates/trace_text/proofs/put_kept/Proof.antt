@@ -5,6 +5,13 @@ use Rattle.trace_text.proofs.Laws.{kept-put}
 use Rattle.trace_text.proofs.put_kept.Statement.{statement}
 use Rattle.trace_text.proofs.put_kept.Tie as tie
 
+-- The ways back, from a place to an earlier one.
+abbrev peers-field-to-data-field : tie.After-peers-field → tie.After-data-field
+peers-field-to-data-field c = c .before .before .before .before .before
+
+abbrev peers-field2-to-peers-field : tie.After-peers-field2 → tie.After-peers-field
+peers-field2-to-peers-field c = c .before .before .before .before .before
+
 sub-data : tie.Need-sub-data
 sub-data c = search needs
 
@@ -61,8 +68,8 @@ unfolding ascii part
 returns c =
     let at-refill = c .before .before in
     let at-refused = at-refill .before .before .before .before in
-    let at-alive = at-refused .before .before .before .before .before in
-    let at-data = at-alive .before .before .before .before .before in
+    let at-alive = peers-field2-to-peers-field at-refused in
+    let at-data = peers-field-to-data-field at-alive in
     let at-limit = at-data .before .before in
     kept-put _ _ _ _ _ _ _ _ _ _ _ _ (at-limit .limit-of .ensures) (at-refill .refill-field .ensures) (at-refused .peers-field2 .ensures) (at-alive .peers-field .ensures) (at-data .data-field .ensures)
 

@@ -5,6 +5,13 @@ use Rattle.trace_text.proofs.Laws.{open-put}
 use Rattle.trace_text.proofs.put_open.Statement.{statement}
 use Rattle.trace_text.proofs.put_open.Tie as tie
 
+-- The ways back, from a place to an earlier one.
+abbrev number-field-to-numbers-field : tie.After-number-field → tie.After-numbers-field
+number-field-to-numbers-field c = c .before .before .before .before .before .before
+
+abbrev numbers-field2-to-number-field : tie.After-numbers-field2 → tie.After-number-field
+numbers-field2-to-number-field c = c .before .before .before .before .before
+
 sub-requests : tie.Need-sub-requests
 sub-requests c = search needs
 
@@ -61,8 +68,8 @@ unfolding ascii part
 returns c =
     let at-join = c .before .before in
     let at-joins = at-join .before .before .before .before .before .before in
-    let at-request = at-joins .before .before .before .before .before in
-    let at-requests = at-request .before .before .before .before .before .before in
+    let at-request = numbers-field2-to-number-field at-joins in
+    let at-requests = number-field-to-numbers-field at-request in
     open-put _ _ _ _ _ _ _ _ _ _ _ (at-join .number-field2 .ensures) (at-joins .numbers-field2 .ensures) (at-request .number-field .ensures) (at-requests .numbers-field .ensures)
 
 pub put-open-spec : {M : Type 1} → statement M

@@ -13,6 +13,16 @@ Inv-loop out₀ records r₀ rest₀ out r rest = Writing (hex-lines (records-in
 abbrev μ-loop : tie.MeasureT-loop
 μ-loop out₀ records r₀ rest₀ out r rest = length rest
 
+-- The ways back, from a place to an earlier one.
+abbrev read-header-to-at-loop : tie.After-read-header Inv-loop μ-loop → tie.At-loop Inv-loop μ-loop
+read-header-to-at-loop c = c .before .before
+
+abbrev put-front-to-read-header : tie.After-put-front Inv-loop μ-loop → tie.After-read-header Inv-loop μ-loop
+put-front-to-read-header c = c .before .before .before .before .before
+
+abbrev put-to-put-front : tie.After-put Inv-loop μ-loop → tie.After-put-front Inv-loop μ-loop
+put-to-put-front c = c .before .before .before .before
+
 loop-holds : tie.Need-loop-holds Inv-loop μ-loop
 loop-holds c = search (writing-start, needs)
 
@@ -43,9 +53,9 @@ same-length-2 c = search needs
 returns-2 : tie.Need-returns-2 Inv-loop μ-loop
 returns-2 c =
     let at-put = c .before .before .before in
-    let at-front = at-put .before .before .before .before in
-    let at-header = at-front .before .before .before .before .before in
-    let at-loop = at-header .before .before in
+    let at-front = put-to-put-front at-put in
+    let at-header = put-front-to-read-header at-front in
+    let at-loop = read-header-to-at-loop at-header in
     lines-last _ _ _ _ _ _ (at-loop .loop .inv) _ (at-header .read-header .ensures) _ _ _ _ (at-put .put .ensures) (at-front .put-front .ensures) (search needs) (search needs) (search needs) (search needs)
 
 sub-rest : tie.Need-sub-rest Inv-loop μ-loop
@@ -63,9 +73,9 @@ loop-less c = search needs
 loop-again : tie.Need-loop-again Inv-loop μ-loop
 loop-again c =
     let at-put = c .before .before .before .before in
-    let at-front = at-put .before .before .before .before in
-    let at-header = at-front .before .before .before .before .before in
-    let at-loop = at-header .before .before in
+    let at-front = put-to-put-front at-put in
+    let at-header = put-front-to-read-header at-front in
+    let at-loop = read-header-to-at-loop at-header in
     lines-next _ _ _ _ _ _ (at-loop .loop .inv) _ (at-header .read-header .ensures) _ _ _ _ (at-put .put .ensures) (at-front .put-front .ensures) (search needs) (search needs) (search needs)
 
 same-length-3 : tie.Need-same-length-3 Inv-loop μ-loop

@@ -3,6 +3,10 @@ use Rattle.trace_text.proofs.Laws.{event-put}
 use Rattle.trace_text.proofs.put_trace_event.Statement.{statement}
 use Rattle.trace_text.proofs.put_trace_event.Tie as tie
 
+-- The ways back, from a place to an earlier one.
+abbrev put-end-to-put-record-lines : tie.After-put-end → tie.After-put-record-lines
+put-end-to-put-record-lines c = c .before .before .before .before
+
 put-record-lines-requires : tie.Need-put-record-lines-requires
 put-record-lines-requires c κs = search needs
 
@@ -19,7 +23,7 @@ returns : tie.Need-returns
 returns c =
     let at-state = c .before .before in
     let at-end = at-state .before .before .before .before .before in
-    let at-bytes = at-end .before .before .before .before in
+    let at-bytes = put-end-to-put-record-lines at-end in
     event-put _ _ _ _ _ _ _ _ _ _ _ _ (at-state .put-state .ensures) (at-end .put-end .ensures) (at-bytes .put-record-lines .ensures)
 
 pub put-trace-event-spec : {M : Type 1} → statement M

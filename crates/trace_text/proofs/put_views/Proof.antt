@@ -5,6 +5,13 @@ use Rattle.trace_text.proofs.Laws.{views-put}
 use Rattle.trace_text.proofs.put_views.Statement.{statement}
 use Rattle.trace_text.proofs.put_views.Tie as tie
 
+-- The ways back, from a place to an earlier one.
+abbrev peers-field2-to-peers-field : tie.After-peers-field2 → tie.After-peers-field
+peers-field2-to-peers-field c = c .before .before .before .before .before
+
+abbrev peers-field3-to-peers-field2 : tie.After-peers-field3 → tie.After-peers-field2
+peers-field3-to-peers-field2 c = c .before .before .before .before .before
+
 sub-active : tie.Need-sub-active
 sub-active c = search needs
 
@@ -73,8 +80,8 @@ unfolding ascii part
 returns c =
     let at-recent = c .before .before in
     let at-bootstrap = at-recent .before .before .before .before .before in
-    let at-passive = at-bootstrap .before .before .before .before .before in
-    let at-active = at-passive .before .before .before .before .before in
+    let at-passive = peers-field3-to-peers-field2 at-bootstrap in
+    let at-active = peers-field2-to-peers-field at-passive in
     views-put _ _ _ _ _ _ _ _ _ _ _ (at-recent .peers-field4 .ensures) (at-bootstrap .peers-field3 .ensures) (at-passive .peers-field2 .ensures) (at-active .peers-field .ensures)
 
 pub put-views-spec : {M : Type 1} → statement M

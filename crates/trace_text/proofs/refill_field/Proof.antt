@@ -4,6 +4,10 @@ use Rattle.trace_text.proofs.Laws.{limit-automatic, limit-requests, lim
 use Rattle.trace_text.proofs.refill_field.Statement.{statement}
 use Rattle.trace_text.proofs.refill_field.Tie as tie
 
+-- The ways back, from a place to an earlier one.
+abbrev put2-to-put-bytes : tie.After-put2 → tie.After-put-bytes
+put2-to-put-bytes c = c .before .before .before .before .before .before .before
+
 slice-aggregate-put-bytes : tie.Need-slice-aggregate-put-bytes
 slice-aggregate-put-bytes c = search needs
 
@@ -49,7 +53,7 @@ unfolding ascii
 returns-2 c =
     let at-decimal = c .before .before in
     let at-put2 = at-decimal .before .before .before .before in
-    let at-bytes = at-put2 .before .before .before .before .before .before .before in
+    let at-bytes = put2-to-put-bytes at-put2 in
     limit-requests _ _ _ _ _ (at-bytes .put-bytes .ensures) _ _ _ _ _ (search needs) (at-decimal .put-decimal .ensures) (at-put2 .put2 .ensures)
 
 same-length-3 : tie.Need-same-length-3

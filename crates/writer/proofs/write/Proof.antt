@@ -4,6 +4,13 @@ use Rattle.writer.proofs.Ways.{no-room, done, length-nodes}
 use Rattle.writer.proofs.write.Statement.{statement}
 use Rattle.writer.proofs.write.Tie as tie
 
+-- The ways back, from a place to an earlier one.
+abbrev else1-to-start : tie.Else1 → tie.Start
+else1-to-start c = c .before .before .before .before
+
+abbrev put-entries-to-put-header : tie.After-put-entries → tie.After-put-header
+put-entries-to-put-header c = c .before .before .before .before
+
 size-requires : tie.Need-size-requires
 size-requires c κs = search needs
 
@@ -51,9 +58,9 @@ returns-2 : tie.Need-returns-2
 returns-2 c =
     let d = c .before .before in
     let e = d .before .before .before .before in
-    let h = e .before .before .before .before in
+    let h = put-entries-to-put-header e in
     let t = h .before .before in
-    done _ _ _ _ _ _ (sym (length-nodes _ (t .before .before .before .before .pre))) (t .before .before .size .ensures .0) _ _ _ _ (t .before .left .ensures) (t .if1 .left)
+    done _ _ _ _ _ _ (sym (length-nodes _ (else1-to-start t .pre))) (t .before .before .size .ensures .0) _ _ _ _ (t .before .left .ensures) (t .if1 .left)
     (d .put-data .ensures) (e .put-entries .ensures) (h .put-header .ensures)
 
 pub write-spec : {M : Type 1} → statement M

@@ -5,6 +5,19 @@ use Rattle.writer.proofs.Ways.{no-room-one, done-one}
 use Rattle.writer.proofs.write_one.Statement.{statement}
 use Rattle.writer.proofs.write_one.Tie as tie
 
+-- The ways back, from a place to an earlier one.
+abbrev else1-to-start : tie.Else1 → tie.Start
+else1-to-start c = c .before .before .before .before .before
+
+abbrev put-header-to-else1 : tie.After-put-header → tie.Else1
+put-header-to-else1 c = c .before .before
+
+abbrev write-bytes-to-put-header : tie.After-write-bytes → tie.After-put-header
+write-bytes-to-put-header c = c .before .before .before .before .before .before
+
+abbrev write-bytes2-to-write-bytes : tie.After-write-bytes2 → tie.After-write-bytes
+write-bytes2-to-write-bytes c = c .before .before .before .before .before .before
+
 cast-n : tie.Need-cast-n
 cast-n c = search needs
 
@@ -50,9 +63,9 @@ slice-aggregate-write-bytes-2 c = search exact
 write-bytes-requires-2 : tie.Need-write-bytes-requires-2
 write-bytes-requires-2 c κs =
     let b = c .before .before .before .before .before in
-    let h = b .before .before .before .before .before .before in
-    let t = h .before .before in
-    omega (arith, exact _ (t .before .before .before .before .before .pre), t .before .left .ensures, t .if1 .left, h .put-header .kept .0, b .write-bytes .kept .0)
+    let h = write-bytes-to-put-header b in
+    let t = put-header-to-else1 h in
+    omega (arith, exact _ (else1-to-start t .pre), t .before .left .ensures, t .if1 .left, h .put-header .kept .0, b .write-bytes .kept .0)
 
 add-t11 : tie.Need-add-t11
 add-t11 c = search needs
@@ -63,11 +76,11 @@ same-length c = search needs
 returns-2 : tie.Need-returns-2
 returns-2 c =
     let d = c .before .before in
-    let e = d .before .before .before .before .before .before in
+    let e = write-bytes2-to-write-bytes d in
     let a = e .before .before .before in
     let h = a .before .before .before in
-    let t = h .before .before in
-    done-one _ _ (t .before .before .before .before .before .pre) _ _ _ (t .before .left .ensures) (t .if1 .left) _ _ _ _
+    let t = put-header-to-else1 h in
+    done-one _ _ (else1-to-start t .pre) _ _ _ (t .before .left .ensures) (t .if1 .left) _ _ _ _
     (d .write-bytes2 .ensures) (e .write-bytes .ensures) (a .entry-array .ensures) (h .put-header .ensures)
 
 pub write-one-spec : {M : Type 1} → statement M
