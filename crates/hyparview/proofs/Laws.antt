@@ -1,4 +1,4 @@
--- Laws of the ends of a call, and of its first timers.
+-- Laws of the ends of a call.
 -- Assumes nothing.
 use Prim.Native.Nat.{ℕ, _-_}
 use mathlib.Core.Path.{_≡_, sym, ap, _∙_}
@@ -10,15 +10,10 @@ use Rattle.lists.proofs.Choice.{choose-yes, choose-no}
 use Rattle.peer.specs.Data.{Data}
 use Rattle.timing.specs.declared.Config.{Config}
 use Rattle.protocol.specs.Run.{on}
-use Rattle.protocol.specs.Timers.{schedule-shuffle, schedule-maintenance}
-use Rattle.protocol.specs.Handle.{new, note-scheduled, first-timers}
+use Rattle.protocol.specs.Handle.{new}
 use Rattle.hyparview.specs.Made.{MadeWords, made, pack-made}
 use Rattle.state.specs.declared.Work.{Work}
 use Rattle.state.specs.Layout as layout
-use Rattle.state.specs.Unpack.{station-of, unpack}
-use Rattle.state.specs.Work.{work-of, run, Changes, TellsAny, Fine, Does}
-use Rattle.state.proofs.Bridge.{still, taken, left, then, seq}
-use Rattle.state.proofs.Any.{then-tell-any}
 use Rattle.hyparview.specs.declared.Done.{Done}
 use Rattle.hyparview.specs.Handled.{cleared, refused-words, ended}
 
@@ -42,13 +37,3 @@ module _ (old : List ℕ) (w : Work) (ys out o : List ℕ) where
 pub made-whole : (xs : List ℕ) (me : ℕ) (d : Data) (c : Config) (r : MadeWords) → length xs ≡ layout.words → r ≡ made xs me d c → r ≡ pack-made (new me d c)
 unfolding made
 made-whole xs me d c r l e = e ∙ choose-yes _ _ _ (eq-eqb _ _ l)
-
-module _ (w : Work) (xs ds out : List ℕ) (v : Fine (work-of w xs) ds out) where
-  pub timers-run : layout.timers-scheduled xs ≡ 1 → Does (work-of w xs) ds out (first-timers (run (work-of w xs) ds out))
-  unfolding first-timers run unpack station-of
-  timers-run h = taken _ _ (eq-eqb _ _ h) (still v)
-
-  pub timers-start : (a b r : Work) (ys zs o o₂ : List ℕ) → (layout.timers-scheduled xs ≡ 1 → ⊥) → TellsAny schedule-maintenance b r o o₂ → Does (work-of b zs) ds o (schedule-shuffle (run (work-of a ys) ds out))
-      → Changes (on note-scheduled) (work-of w xs) (work-of a ys) → Does (work-of r zs) ds o₂ (first-timers (run (work-of w xs) ds out))
-  unfolding first-timers run unpack station-of
-  timers-start a b r ys zs o o₂ h k₃ k₂ k₁ = left _ _ (ne-eqb _ _ h) (then-tell-any k₃ (seq schedule-shuffle k₂ (then k₁ (still v))))

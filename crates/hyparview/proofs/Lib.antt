@@ -1,6 +1,5 @@
 pub mod Copies
 pub mod Laws
-pub mod Arms
 pub mod Opening
 pub mod Kept
 pub mod Asked

@@ -9,22 +9,19 @@ use lib.ListN.{length, getD}
 use lib.Seq.{length-take-le}
 use lib.Dec.{eqb, leb, ltb}
 use borrow.Author.Tests.{ne-eqb, leb-true, ltb-false}
-use Rattle.lists.specs.Maps.{retain}
 use Rattle.lists.proofs.Choice.{by-choice, choose-yes, choose-no, split, and-left, and-right, and-false, clash}
-use Rattle.util.specs.Section.{items-at, HoldsSet}
-use Rattle.columns.specs.Columns.{words-end, HoldsDataWords}
+use Rattle.columns.specs.Columns.{words-end}
 use Rattle.record.specs.declared.Header.{Header}
 use Rattle.record.specs.declared.Event.{Event}
 use Rattle.record.specs.declared.Event.the-variants.{Refused, Record}
-use Rattle.record.specs.Format.{Rec}
 use Rattle.record.specs.Read as R
 use Rattle.record.specs.Answers.{EventIs, answer-to, event-answer, event-in}
 use Rattle.protocol.specs.Budgets.{arriving}
 use Rattle.protocol.specs.Station.{peers-end}
-use Rattle.protocol.specs.Run.{Run, on}
+use Rattle.protocol.specs.Run.{Run}
 use Rattle.protocol.specs.Rules.{station-ok}
 use Rattle.protocol.specs.Handle as P
-use Rattle.protocol.specs.Handle.{start, dispatch, first-timers, forget-declined, steps, handle-reading}
+use Rattle.protocol.specs.Handle.{start, steps, handle-reading}
 use Rattle.protocol.proofs.Invariant.{calm, Ok}
 use Rattle.protocol.proofs.Keeping.{ease}
 use Rattle.protocol.proofs.Reading.{readable}
@@ -32,29 +29,15 @@ use Rattle.protocol.proofs.Bounds.{begun, ready}
 use Rattle.state.specs.declared.Work.{Work}
 use Rattle.state.specs.Layout as layout
 use Rattle.state.specs.Unpack.{unpack, long}
-use Rattle.state.specs.Work.{Held, work-of, run, Changes, Fine, Does}
-use Rattle.state.proofs.Bridge.{then, seq}
-use Rattle.step_events.specs.Free.{KnownJoins}
-use Rattle.step_messages.specs.Between.{Between}
+use Rattle.state.specs.Work.{Held, work-of, run, Fine, Does}
 use Rattle.rules.specs.Ok.{packed-ok, state-ok}
 use Rattle.rules.proofs.Back.{ok-back, packed-back}
 use Rattle.rules.proofs.Packed.{ok-state}
-use Rattle.hyparview.specs.Begun.{ReadAs, Opens}
+use Rattle.hyparview.specs.Taken.{ReadAs}
 use Rattle.hyparview.specs.Handled.{Outcome, cleared, refused-words, ended, packed-answer, handled}
+use Rattle.step_dispatch.specs.Begun.{Opens}
 
 -- ---- what holds at the start
-
-pub between-less : (b c d e : ℕ) (g : Run) → c ≤ b → e ≤ d → Between 0 b d g → Between 0 c e g
-between-less b c d e g l m k = record { fixed = k .fixed; messages = k .messages; bytes = k .bytes; draws = k .draws; ok = ease (omega arith) (omega arith) (omega arith) (k .ok) }
-
-pub opens-between : (x : ℕ) (g : Run) (k : ℕ) → x ≡ k → (k ≡ 8 → ⊥) → Opens x g → Between 0 arriving 40 g
-opens-between x g k e n o = o .between (λ z. n (sym e ∙ z))
-
-pub opens-join : (x : ℕ) (w : Work) (xs ds out : List ℕ) (k : ℕ) → x ≡ k → (k ≡ 8 → ⊥) → Opens x (run (work-of w xs) ds out) → KnownJoins (w .code) (unpack xs)
-unfolding run
-opens-join x w xs ds out k e n o =
-    let b = opens-between x (run (work-of w xs) ds out) k e n o in
-    record { known = λ z. b .ok .good z .core .waits .known; once = λ z. b .ok .good z .core .waits .boots; few = λ z. b .ok .good z .core .waits .few }
 
 -- the work at the start of an event
 abbrev pub at-start : List ℕ → Held
@@ -83,14 +66,6 @@ opens xs b h ds out ok v narrow =
             ok = subst (Ok (begun (unpack xs) (ok-state xs ok .rules) ds (length out) (R.rec-of b) w) calm 0 arriving 40) (sym (start-is xs ds out ok)) (ease (omega arith) (omega arith) (omega arith) k);
           };
     }
-
-pub stepped : (w a b r : Held) (ds out o₁ o : List ℕ) (e : Rec) → Changes (on forget-declined) b r → Does b ds o (first-timers (run a ds o₁)) → Does a ds o₁ (dispatch e (run w ds out)) → Does r ds o (steps e (run w ds out))
-unfolding steps
-stepped w a b r ds out o₁ o e k₃ k₂ k₁ = then k₃ (seq first-timers k₂ k₁)
-
--- the data that a working set of peers retains
-pub retained : (m v ps : List ℕ) (l : List (ℕ × List ℕ)) → HoldsDataWords 80 m (retain (items-at 72 v) l) → HoldsSet 72 v ps → HoldsDataWords 80 m (retain ps l)
-retained m v ps l h k = subst (λ (qs : List ℕ). HoldsDataWords 80 m (retain qs l)) (k .items) h
 
 -- ---- the end
 

@@ -1,4 +1,4 @@
 pub mod Handled
-pub mod Begun
+pub mod Taken
 pub mod Made
 pub mod Queries

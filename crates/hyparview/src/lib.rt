@@ -3,10 +3,7 @@ use peer::MaybeData;
 use peer::PeerData;
 use peer::PeerId;
 use record::Event;
-use record::Flags;
 use record::Header;
-use record::Kind;
-use record::Message;
 use record::Refusal;
 use state::Layout;
 use state::Work;
@@ -16,18 +13,13 @@ ghost use mathlib.Core.Path.{_≡_};
 ghost use mathlib.Core.Bool.{true};
 ghost use Prim.Native.Nat.{_≤_, min};
 ghost use lib.ListN.{length, getD};
-ghost use Rattle.record.specs.Read.{rec-of};
-ghost use Rattle.protocol.specs.Budgets.{arriving};
-ghost use Rattle.protocol.specs.Run.{on};
-ghost use Rattle.protocol.specs.Handle.{new, note-scheduled, first-timers, forget-declined, handle-message, dispatch, steps, new-station};
+ghost use Rattle.protocol.specs.Handle.{new, new-station};
 ghost use Rattle.state.specs.Layout.{words};
 ghost use Rattle.state.specs.Unpack.{PackedState, unpack};
-ghost use Rattle.state.specs.Work.{work-of, run, Changes, Fine, Does};
 ghost use Rattle.rules.specs.Ok.{state-ok};
 ghost use Rattle.hyparview.specs.Made.{lent, pack-made, Own, with-own, with-views, with-walks, with-times, made};
-ghost use Rattle.step_messages.specs.Between.{Between};
 ghost use Rattle.hyparview.specs.Handled.{cleared, refused-words, ended, handled};
-ghost use Rattle.hyparview.specs.Begun.{Headed, Single, ReadAs, Opens, timer-expired};
+ghost use Rattle.hyparview.specs.Taken.{ReadAs};
 ghost use mathlib.Core.List.{[]};
 ghost use Rattle.lists.specs.Array.{pad};
 ghost use Rattle.timing.specs.Timing.{initial-shuffle-interval};
@@ -281,186 +273,6 @@ fn finish(old: &[u64], st: &mut [u64], w: Work, out: &mut [u8]) -> Done
     }
 }
 
-fn note_scheduled(w: Work, st: &mut [u64]) -> Work
-    requires { ⌜ length (now st) ≡ words ⌝ }
-    requires { ⌜ PackedState (now st) ⌝ }
-    ensures { λ r. ⌜ Changes (on note-scheduled) (work-of w (now (st .entry))) (work-of r (now (st .exit))) ⌝ }
-{
-    if w.code != 0 {
-        return w;
-    }
-    st[Layout::TIMERS_SCHEDULED] = 1;
-    w
-}
-
-// The first accepted call starts both timers.
-fn first_timers(w: Work, st: &mut [u64], draws: &[u32], out: &mut [u8]) -> Work
-    requires { ⌜ length (now st) ≡ words ⌝ }
-    requires { ⌜ Fine (work-of w (now st)) (now draws) (now out) ⌝ }
-    ensures { λ r. ⌜ Does (work-of r (now (st .exit))) (now (draws .entry)) (now (out .exit)) (first-timers (run (work-of w (now (st .entry))) (now (draws .entry)) (now (out .entry)))) ⌝ }
-{
-    if st[Layout::TIMERS_SCHEDULED] == 1 {
-        return w;
-    }
-    let a = note_scheduled(w, st);
-    let b = step_timers::schedule_shuffle(a, st, draws, out);
-    step_maintenance::schedule_maintenance(b, out)
-}
-
-// 02, S-5: the data of a peer in neither view and without an open request goes, where the event is accepted.
-fn forget_declined(w: Work, st: &mut [u64]) -> Work
-    requires { ⌜ length (now st) ≡ words ⌝ }
-    requires { ⌜ PackedState (now st) ⌝ }
-    ensures { λ r. ⌜ Changes (on forget-declined) (work-of w (now (st .entry))) (work-of r (now (st .exit))) ⌝ }
-{
-    if w.code != 0 {
-        return w;
-    }
-    let mut v = [0u64; columns::KNOWN + 1];
-    columns::data_peers(
-        &st[Layout::ACTIVE..Layout::ACTIVE_END],
-        &st[Layout::PASSIVE..Layout::PASSIVE_END],
-        &st[Layout::ASKED..Layout::ASKED_END],
-        &mut v,
-    );
-    columns::retain_data(
-        &mut st[Layout::HELD..Layout::HELD_END],
-        Layout::DATA_CAP,
-        &v,
-        columns::KNOWN,
-    );
-    w
-}
-
-// Join, ForwardJoin or Neighbor, which have one node.
-fn handle_single(
-    w: Work,
-    st: &mut [u64],
-    draws: &[u32],
-    out: &mut [u8],
-    b: &[u8],
-    h: Header,
-) -> Work
-    requires { ⌜ length (now st) ≡ words ⌝ }
-    requires { ⌜ Fine (work-of w (now st)) (now draws) (now out) ⌝ }
-    requires { ⌜ Single (now b) h ⌝ }
-    requires { ⌜ Between 0 arriving 40 (run (work-of w (now st)) (now draws) (now out)) ⌝ }
-    ensures { λ r. ⌜ Does (work-of r (now (st .exit))) (now (draws .entry)) (now (out .exit)) (handle-message (rec-of (now (b .entry))) (run (work-of w (now (st .entry))) (now (draws .entry)) (now (out .entry)))) ⌝ }
-{
-    let p = h.peer;
-    let n = record::peer_info_at(b, 0);
-    let d = n.data;
-    if h.message == Message::JOIN {
-        return step_messages::on_join(w, st, draws, out, p, d);
-    }
-    if h.message == Message::FORWARD_JOIN {
-        return step_messages::on_forward_join(w, st, draws, out, p, n, h.ttl);
-    }
-    step_messages::on_neighbor(w, st, draws, out, p, d, h.flags == Flags::HIGH)
-}
-
-// One of the six messages.
-fn handle_message(
-    w: Work,
-    st: &mut [u64],
-    draws: &[u32],
-    out: &mut [u8],
-    b: &[u8],
-    h: Header,
-) -> Work
-    requires { ⌜ length (now st) ≡ words ⌝ }
-    requires { ⌜ Fine (work-of w (now st)) (now draws) (now out) ⌝ }
-    requires { ⌜ Headed (now b) h ⌝ }
-    requires { ⌜ h .kind ≡ 0 ⌝ }
-    requires { ⌜ Between 0 arriving 40 (run (work-of w (now st)) (now draws) (now out)) ⌝ }
-    ensures { λ r. ⌜ Does (work-of r (now (st .exit))) (now (draws .entry)) (now (out .exit)) (handle-message (rec-of (now (b .entry))) (run (work-of w (now (st .entry))) (now (draws .entry)) (now (out .entry)))) ⌝ }
-{
-    let p = h.peer;
-    let n = h.nodes as usize;
-    if h.message == Message::SHUFFLE {
-        return step_shuffling::on_shuffle(w, st, draws, out, p, h.second, b, n, h.ttl);
-    }
-    if h.message == Message::SHUFFLE_REPLY {
-        return step_shuffling::on_shuffle_reply(w, st, draws, out, p, b, n);
-    }
-    if h.message == Message::DISCONNECT {
-        return step_messages::on_disconnect(
-            w,
-            st,
-            draws,
-            out,
-            p,
-            h.flags % Flags::RESPOND == Flags::ALIVE,
-        );
-    }
-    handle_single(w, st, draws, out, b, h)
-}
-
-// One of the four timers.
-fn handle_timer(w: Work, st: &mut [u64], draws: &[u32], out: &mut [u8], h: Header) -> Work
-    requires { ⌜ length (now st) ≡ words ⌝ }
-    requires { ⌜ Fine (work-of w (now st)) (now draws) (now out) ⌝ }
-    requires { ⌜ 1 ≤ h .kind ⌝ }
-    requires { ⌜ h .kind ≤ 4 ⌝ }
-    ensures { λ r. ⌜ Does (work-of r (now (st .exit))) (now (draws .entry)) (now (out .exit)) (timer-expired (h .kind) (h .peer) (h .number) (run (work-of w (now (st .entry))) (now (draws .entry)) (now (out .entry)))) ⌝ }
-{
-    let p = h.peer;
-    if h.kind == Kind::DO_SHUFFLE {
-        return step_timers::handle_shuffle_timer(w, st, draws, out);
-    }
-    if h.kind == Kind::DO_MAINTENANCE {
-        return step_maintenance::handle_maintenance_timer(w, st, draws, out);
-    }
-    if h.kind == Kind::PENDING_NEIGHBOR_REQUEST {
-        return step_timers::handle_pending_neighbor_timer(w, st, draws, out, p, h.number);
-    }
-    step_timers::retry_join(w, st, out, p, h.number)
-}
-
-// What an event says is done, whichever kind it is.
-fn dispatch(w: Work, st: &mut [u64], draws: &[u32], out: &mut [u8], b: &[u8], h: Header) -> Work
-    requires { ⌜ length (now st) ≡ words ⌝ }
-    requires { ⌜ Fine (work-of w (now st)) (now draws) (now out) ⌝ }
-    requires { ⌜ Headed (now b) h ⌝ }
-    requires { ⌜ h .kind ≤ 8 ⌝ }
-    requires { ⌜ Opens (h .kind) (run (work-of w (now st)) (now draws) (now out)) ⌝ }
-    ensures { λ r. ⌜ Does (work-of r (now (st .exit))) (now (draws .entry)) (now (out .exit)) (dispatch (rec-of (now (b .entry))) (run (work-of w (now (st .entry))) (now (draws .entry)) (now (out .entry)))) ⌝ }
-{
-    let p = h.peer;
-    if h.kind == Kind::MESSAGE {
-        return handle_message(w, st, draws, out, b, h);
-    }
-    if h.kind <= Kind::RETRY_JOIN {
-        return handle_timer(w, st, draws, out, h);
-    }
-    if h.kind == Kind::PEER_DISCONNECTED {
-        return step_events::handle_connection_closed(w, st, draws, out, p);
-    }
-    if h.kind == Kind::REQUEST_JOIN {
-        return step_events::handle_join(w, st, out, p);
-    }
-    if h.kind == Kind::UPDATE_PEER_DATA {
-        let n = record::peer_info_at(b, 0);
-        let d = n.data;
-        return step_events::update_own_data(w, st, d);
-    }
-    step_events::handle_quit(w, st, draws, out)
-}
-
-// The steps of one event.
-fn steps(w: Work, st: &mut [u64], draws: &[u32], out: &mut [u8], b: &[u8], h: Header) -> Work
-    requires { ⌜ length (now st) ≡ words ⌝ }
-    requires { ⌜ Fine (work-of w (now st)) (now draws) (now out) ⌝ }
-    requires { ⌜ Headed (now b) h ⌝ }
-    requires { ⌜ h .kind ≤ 8 ⌝ }
-    requires { ⌜ Opens (h .kind) (run (work-of w (now st)) (now draws) (now out)) ⌝ }
-    ensures { λ r. ⌜ Does (work-of r (now (st .exit))) (now (draws .entry)) (now (out .exit)) (steps (rec-of (now (b .entry))) (run (work-of w (now (st .entry))) (now (draws .entry)) (now (out .entry)))) ⌝ }
-{
-    let a = dispatch(w, st, draws, out, b, h);
-    let c = first_timers(a, st, draws, out);
-    forget_declined(c, st)
-}
-
 // An event that was read, at words that keep the rules; they are kept aside for a refusal.
 fn handle_event(st: &mut [u64], b: &[u8], draws: &[u32], out: &mut [u8], h: Header) -> Done
     requires { ⌜ length (now st) ≡ words ⌝ }
@@ -475,7 +287,7 @@ fn handle_event(st: &mut [u64], b: &[u8], draws: &[u32], out: &mut [u8], h: Head
         written: 0,
         code: 0,
     };
-    let a = steps(w, st, draws, out, b, h);
+    let a = step_dispatch::steps(w, st, draws, out, b, h);
     finish(&old, st, a, out)
 }
 

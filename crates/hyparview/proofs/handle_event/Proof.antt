@@ -1,7 +1,7 @@
 use mathlib.Core.Path.{_≡_}
 use mathlib.Core.Bool.{true}
 use Rattle.rules.specs.Ok.{state-ok}
-use Rattle.hyparview.specs.Begun.{ReadAs}
+use Rattle.hyparview.specs.Taken.{ReadAs}
 use borrow.Author.Needs.{needs}
 use native.Mathlib.Omega.{arith}
 use Rattle.hyparview.proofs.Opening.{starts, opens, event-handled}

@@ -1,4 +1,4 @@
-use Rattle.hyparview.specs.Begun.{Headed}
+use Rattle.step_dispatch.specs.Begun.{Headed}
 use Rattle.step_messages.specs.Between.{Between}
 use Rattle.protocol.specs.Budgets.{arriving}
 use Rattle.state.specs.Work.{work-of, run, Fine}
@@ -7,10 +7,10 @@ use lib.ListN.{length}
 use borrow.Author.Needs.{needs}
 use mathlib.Core.Path.{refl, _≡_}
 use native.Mathlib.Omega.{arith}
-use Rattle.hyparview.proofs.Opening.{between-less}
-use Rattle.hyparview.proofs.Arms.{single, count-is, arm-shuffle, arm-reply, arm-disconnect}
-use Rattle.hyparview.proofs.handle_message.Statement.{statement}
-use Rattle.hyparview.proofs.handle_message.Tie as tie
+use Rattle.step_dispatch.proofs.Laws.{between-less}
+use Rattle.step_dispatch.proofs.Arms.{single, count-is, arm-shuffle, arm-reply, arm-disconnect}
+use Rattle.step_dispatch.proofs.handle_message.Statement.{statement}
+use Rattle.step_dispatch.proofs.handle_message.Tie as tie
 
 -- What handle_message was given.
 long : (c : tie.Start) → length (c .args .st .now) ≡ words

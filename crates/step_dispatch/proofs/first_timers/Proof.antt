@@ -4,9 +4,9 @@ use lib.ListN.{length}
 use Rattle.state.specs.Work.{Fine, work-of}
 use borrow.Author.Needs.{needs}
 use Rattle.step_refill.proofs.Asking.{fine-after}
-use Rattle.hyparview.proofs.Laws.{timers-run, timers-start}
-use Rattle.hyparview.proofs.first_timers.Statement.{statement}
-use Rattle.hyparview.proofs.first_timers.Tie as tie
+use Rattle.step_dispatch.proofs.Laws.{timers-run, timers-start}
+use Rattle.step_dispatch.proofs.first_timers.Statement.{statement}
+use Rattle.step_dispatch.proofs.first_timers.Tie as tie
 
 -- What first_timers was given.
 long : (c : tie.Start) → length (c .args .st .now) ≡ words

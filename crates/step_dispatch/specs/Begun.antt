@@ -19,13 +19,6 @@ pub record Headed (b : List ℕ) (h : Header) : Type 0 where
   pub formed : well-formed b ≡ true
   pub head : h ≡ header-of b
 
--- the reader takes b as an event, with the header h
-pub record ReadAs (b : List ℕ) (h : Header) : Type 0 where
-  pub headed : Headed b h
-  pub low : h .kind ≤ 8
-  pub few : h .nodes ≤ most-nodes
-  pub reads : event (rec-of b) ≡ read-event b
-
 -- b is Join, ForwardJoin or Neighbor, with its one node
 pub record Single (b : List ℕ) (h : Header) : Type 0 where
   pub headed : Headed b h

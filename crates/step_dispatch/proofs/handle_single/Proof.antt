@@ -1,4 +1,4 @@
-use Rattle.hyparview.specs.Begun.{Single}
+use Rattle.step_dispatch.specs.Begun.{Single}
 use Rattle.step_messages.specs.Between.{Between}
 use Rattle.protocol.specs.Budgets.{arriving}
 use Rattle.state.specs.Work.{work-of, run, Fine}
@@ -6,9 +6,9 @@ use Rattle.state.specs.Layout.{words}
 use lib.ListN.{length}
 use borrow.Author.Needs.{needs}
 use mathlib.Core.Path.{refl, _≡_}
-use Rattle.hyparview.proofs.Arms.{single-formed, single-some, arm-join, arm-forward, arm-neighbor}
-use Rattle.hyparview.proofs.handle_single.Statement.{statement}
-use Rattle.hyparview.proofs.handle_single.Tie as tie
+use Rattle.step_dispatch.proofs.Arms.{single-formed, single-some, arm-join, arm-forward, arm-neighbor}
+use Rattle.step_dispatch.proofs.handle_single.Statement.{statement}
+use Rattle.step_dispatch.proofs.handle_single.Tie as tie
 
 -- What handle_single was given.
 long : (c : tie.Start) → length (c .args .st .now) ≡ words

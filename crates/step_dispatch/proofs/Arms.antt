@@ -26,7 +26,7 @@ use Rattle.protocol.specs.Handle.{first-node, first-data, is-high, says-alive, 
 use Rattle.protocol.proofs.Whole.{quit-dispatch}
 use Rattle.state.specs.Work.{Held, Does}
 use Rattle.state.proofs.Bridge.{by}
-use Rattle.hyparview.specs.Begun.{Headed, Single, timer-expired}
+use Rattle.step_dispatch.specs.Begun.{Headed, Single, timer-expired}
 
 past-five : (m : ℕ) → suc (suc (suc (suc (suc (suc m))))) ≤ 5 → ⊥
 past-five m l = omega (arith, l)

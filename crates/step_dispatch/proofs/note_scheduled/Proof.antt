@@ -5,8 +5,8 @@ use Rattle.protocol.specs.Handle.{note-scheduled}
 use Rattle.state.specs.Unpack.{station-of, unpack}
 use Rattle.state.proofs.Bridge.{on-passed, on-done}
 use Rattle.state.proofs.Fields.{put-scheduled}
-use Rattle.hyparview.proofs.note_scheduled.Statement.{statement}
-use Rattle.hyparview.proofs.note_scheduled.Tie as tie
+use Rattle.step_dispatch.proofs.note_scheduled.Statement.{statement}
+use Rattle.step_dispatch.proofs.note_scheduled.Tie as tie
 
 returns : tie.Need-returns
 returns c = search on-passed

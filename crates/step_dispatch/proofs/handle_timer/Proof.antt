@@ -5,9 +5,9 @@ use mathlib.Core.Path.{_≡_}
 use borrow.Author.Needs.{needs}
 use Rattle.state.proofs.Bridge.{still, then-tell}
 use Rattle.step_sending.proofs.Told.{room-of}
-use Rattle.hyparview.proofs.Arms.{shuffle-timer, maintenance-timer, request-timer, join-timer}
-use Rattle.hyparview.proofs.handle_timer.Statement.{statement}
-use Rattle.hyparview.proofs.handle_timer.Tie as tie
+use Rattle.step_dispatch.proofs.Arms.{shuffle-timer, maintenance-timer, request-timer, join-timer}
+use Rattle.step_dispatch.proofs.handle_timer.Statement.{statement}
+use Rattle.step_dispatch.proofs.handle_timer.Tie as tie
 
 -- What handle_timer was given.
 long : (c : tie.Start) → length (c .args .st .now) ≡ words

@@ -6,9 +6,9 @@ use Rattle.state.proofs.Access.{of-packed}
 use Rattle.state.proofs.Bridge.{on-passed, on-done}
 use Rattle.state.proofs.Fields.{put-peer-data}
 use borrow.Author.Needs.{needs}
-use Rattle.hyparview.proofs.Opening.{retained}
-use Rattle.hyparview.proofs.forget_declined.Statement.{statement}
-use Rattle.hyparview.proofs.forget_declined.Tie as tie
+use Rattle.step_dispatch.proofs.Laws.{retained}
+use Rattle.step_dispatch.proofs.forget_declined.Statement.{statement}
+use Rattle.step_dispatch.proofs.forget_declined.Tie as tie
 
 returns : tie.Need-returns
 returns c = search on-passed

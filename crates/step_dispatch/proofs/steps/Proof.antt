@@ -1,7 +1,7 @@
 use borrow.Author.Needs.{needs}
-use Rattle.hyparview.proofs.Opening.{stepped}
-use Rattle.hyparview.proofs.steps.Statement.{statement}
-use Rattle.hyparview.proofs.steps.Tie as tie
+use Rattle.step_dispatch.proofs.Laws.{stepped}
+use Rattle.step_dispatch.proofs.steps.Statement.{statement}
+use Rattle.step_dispatch.proofs.steps.Tie as tie
 
 -- The ways back, from a place to an earlier one.
 abbrev first-timers-to-dispatch : tie.After-first-timers → tie.After-dispatch

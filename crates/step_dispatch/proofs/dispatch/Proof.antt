@@ -1,4 +1,4 @@
-use Rattle.hyparview.specs.Begun.{Headed, Opens}
+use Rattle.step_dispatch.specs.Begun.{Headed, Opens}
 use Rattle.state.specs.Work.{work-of, run, Fine}
 use Prim.Native.Nat.{_≤_}
 use Rattle.state.specs.Layout.{words}
@@ -9,10 +9,10 @@ use native.Mathlib.Omega.{arith}
 use Rattle.state.proofs.Bridge.{still, then, then-tell}
 use Rattle.step_messages.proofs.Between.{between-calm}
 use Rattle.step_sending.proofs.Told.{room-of}
-use Rattle.hyparview.proofs.Arms.{one-node, kind-message, kind-timer, kind-closed, kind-join, kind-data, kind-quit}
-use Rattle.hyparview.proofs.Opening.{between-less, opens-between, opens-join}
-use Rattle.hyparview.proofs.dispatch.Statement.{statement}
-use Rattle.hyparview.proofs.dispatch.Tie as tie
+use Rattle.step_dispatch.proofs.Arms.{one-node, kind-message, kind-timer, kind-closed, kind-join, kind-data, kind-quit}
+use Rattle.step_dispatch.proofs.Laws.{between-less, opens-between, opens-join}
+use Rattle.step_dispatch.proofs.dispatch.Statement.{statement}
+use Rattle.step_dispatch.proofs.dispatch.Tie as tie
 
 -- What dispatch was given.
 long : (c : tie.Start) → length (c .args .st .now) ≡ words
