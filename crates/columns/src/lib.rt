@@ -145,8 +145,7 @@ pub fn contains_number(m: &[u64], cap: usize, p: PeerId) -> bool
 {
     let end = cap + cap;
     let n = m[end] as usize;
-    let i = util::find(&m[..cap], n, p);
-    i < n
+    scan::is_in(&m[..n], p)
 }
 
 pub fn get_number(m: &[u64], cap: usize, p: PeerId) -> Number
@@ -251,8 +250,7 @@ pub fn contains_data(m: &[u64], cap: usize, p: PeerId) -> bool
     let half = cap + cap;
     let end = half + half;
     let n = m[end] as usize;
-    let i = util::find(&m[..half], n, p);
-    i < n
+    scan::is_in(&m[..n], p)
 }
 
 pub fn get_data(m: &[u64], cap: usize, p: PeerId) -> PeerData
@@ -350,6 +348,23 @@ pub fn data_within(m: &[u64], cap: usize, s: &[u64], scap: usize) -> bool
     let n = m[end] as usize;
     let k = s[scap] as usize;
     scan::subset(&m[..n], &s[..k])
+}
+
+// Whether every peer of the map is in a view or has an open request, which `data_within` says of the set that `data_peers` makes; here nothing is copied.
+pub fn data_known(m: &[u64], cap: usize, active: &[u64], passive: &[u64], requests: &[u64]) -> bool
+    requires { ⌜ ValidDataWords cap (now m) ⌝ }
+    requires { ⌜ ValidSet active-places (now active) ⌝ }
+    requires { ⌜ ValidSet working-places (now passive) ⌝ }
+    requires { ⌜ ValidNumbers working-places (now requests) ⌝ }
+    ensures { λ r. ⌜ r ≡ subset (keys (data-map-at cap (now (m .entry)))) (items-at active-places (now (active .entry)) ++ (items-at working-places (now (passive .entry)) ++ keys (numbers-at working-places (now (requests .entry))))) ⌝ }
+{
+    let half = cap + cap;
+    let end = half + half;
+    let n = m[end] as usize;
+    let i = active[ACTIVE_PLACES] as usize;
+    let j = passive[PASSIVE_PLACES] as usize;
+    let k = requests[2 * PASSIVE_PLACES] as usize;
+    scan::subset_of_three(&m[..n], &active[..i], &passive[..j], &requests[..k])
 }
 
 // Only the data of the peers that are in the set; mostly all are, and nothing moves.
