@@ -95,21 +95,28 @@ pub fn subset(a: &[u64], b: &[u64]) -> bool
     ok
 }
 
-// The word at place h of three lists in a row.
-fn word_of_three(b: &[u64], c: &[u64], d: &[u64], h: usize) -> u64
-    requires { ⌜ h < length (now b ++ (now c ++ now d)) ⌝ }
-    ensures { λ r. ⌜ r ≡ getD (now (b .entry) ++ (now (c .entry) ++ now (d .entry))) h 0 ⌝ }
+// The word at place h of two lists in a row; the compiler can pick the list without a jump.
+fn word_of_two(b: &[u64], c: &[u64], h: usize) -> u64
+    requires { ⌜ h < length (now b) + length (now c) ⌝ }
+    ensures { λ r. ⌜ r ≡ getD (now (b .entry) ++ now (c .entry)) h 0 ⌝ }
 {
     let n = b.len();
     if h < n {
         return b[h];
     }
-    let k = h - n;
-    let m = c.len();
-    if k < m {
-        return c[k];
+    c[h - n]
+}
+
+// The word at place h of three lists in a row.
+fn word_of_three(b: &[u64], c: &[u64], d: &[u64], h: usize) -> u64
+    requires { ⌜ h < length (now b) + length (now c) + length (now d) ⌝ }
+    ensures { λ r. ⌜ r ≡ getD (now (b .entry) ++ (now (c .entry) ++ now (d .entry))) h 0 ⌝ }
+{
+    let n = b.len() + c.len();
+    if h < n {
+        return word_of_two(b, c, h);
     }
-    d[k - m]
+    d[h - n]
 }
 
 // Whether x is one of the words of three lists; h is a place in their row to look at first, whatever it is.
@@ -124,14 +131,15 @@ fn found_of_three(b: &[u64], c: &[u64], d: &[u64], h: usize, x: u64) -> bool
     is_in(b, x) | (is_in(c, x) | is_in(d, x))
 }
 
-// Whether every word of a is in b, in c or in d: looked for as `subset` does, without a copy that has the three in a row.
+// Whether every word of a is in b, in c or in d: looked for as `subset` does, without a copy that has the three in a row. The places of d are noted first, so
+// that a word that another list has too is looked for there.
 pub fn subset_of_three(a: &[u64], b: &[u64], c: &[u64], d: &[u64]) -> bool
     ensures { λ r. ⌜ r ≡ subset (now (a .entry)) (now (b .entry) ++ (now (c .entry) ++ now (d .entry))) ⌝ }
 {
     let mut hints = [0u8; 256];
+    note_places(d, b.len() + c.len(), &mut hints);
     note_places(b, 0, &mut hints);
     note_places(c, b.len(), &mut hints);
-    note_places(d, b.len() + c.len(), &mut hints);
     let mut ok = true;
     let mut i: usize = 0;
     while i < a.len() {

@@ -1,4 +1,4 @@
-use Rattle.scan.proofs.Three.{three-long, at-hint-of-three, in-three}
+use Rattle.scan.proofs.Three.{at-hint-of-three, in-three}
 use borrow.Author.Needs.{needs}
 use Rattle.scan.proofs.found_of_three.Statement.{statement}
 use Rattle.scan.proofs.found_of_three.Tie as tie
@@ -10,7 +10,7 @@ add-if1-2 : tie.Need-add-if1-2
 add-if1-2 c = search needs
 
 word-of-three-requires : tie.Need-word-of-three-requires
-word-of-three-requires c κs = search three-long
+word-of-three-requires c κs = search needs
 
 returns : tie.Need-returns
 returns c = search at-hint-of-three

@@ -15,6 +15,9 @@ Inv-loop a b c d hints ok₀ i₀ ok i = (length hints ≡ 256) × Left (Every (
 abbrev μ-loop : tie.MeasureT-loop
 μ-loop a b c d hints ok₀ i₀ ok i = length a - i
 
+add-note-places : tie.Need-add-note-places Inv-loop μ-loop
+add-note-places c = search needs
+
 slice-aggregate-note-places : tie.Need-slice-aggregate-note-places Inv-loop μ-loop
 slice-aggregate-note-places c = search needs
 
@@ -26,9 +29,6 @@ slice-aggregate-note-places-2 c = search needs
 
 note-places-requires-2 : tie.Need-note-places-requires-2 Inv-loop μ-loop
 note-places-requires-2 c κs = search needs
-
-add-note-places : tie.Need-add-note-places Inv-loop μ-loop
-add-note-places c = search needs
 
 slice-aggregate-note-places-3 : tie.Need-slice-aggregate-note-places-3 Inv-loop μ-loop
 slice-aggregate-note-places-3 c = search needs
@@ -72,11 +72,11 @@ subset-of-three-spec =
     (tie.spec
     Inv-loop
     μ-loop
+    add-note-places
     slice-aggregate-note-places
     note-places-requires
     slice-aggregate-note-places-2
     note-places-requires-2
-    add-note-places
     slice-aggregate-note-places-3
     note-places-requires-3
     loop-holds
