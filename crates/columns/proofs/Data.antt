@@ -2,23 +2,23 @@
 -- Assumes nothing.
 use Prim.Native.Nat.{ℕ, _+_, _-_, _≤_, _<_}
 use mathlib.Core.Path.{_≡_, refl, sym, ap, _∙_, subst}
-use mathlib.Core.Bool.{true, _||_}
+use mathlib.Core.Bool.{Bool, true, _||_}
 use mathlib.Core.List.{List, _++_}
 use mathlib.Core.Option.{none, some}
 use native.Mathlib.Omega.{arith}
 use lib.ListN.{length, take, drop, getD, set, length-set, length-drop, take-append-drop}
-use lib.Seq.{take-take, take-all, take-set-lt, getD-take, getD-set-other}
+use lib.Seq.{length-take-le, take-take, take-all, take-set-lt, getD-take, getD-set-other}
 use lib.Dec.{ltb}
 use borrow.Rule.Slice.PartMut.{putMid}
 use mir.Syntax.{w8}
 use mir.Val.{Fits}
 use Rattle.lists.specs.Array.{pad}
-use Rattle.lists.specs.Lists.{index-of, rank, shift-remove, insert-at, Rising}
+use Rattle.lists.specs.Lists.{mem, index-of, rank, shift-remove, insert-at, Rising}
 use Rattle.lists.specs.Maps.{keys, has, lookup, cut, put}
 use Rattle.lists.specs.Bytes.{le}
 use Rattle.lists.proofs.Places.{cut-missing}
 use Rattle.lists.proofs.Array.{length-pad, set-pad, length-shift-remove, length-insert-at}
-use Rattle.lists.proofs.Entries.{Entries, entries-keys, entries-length, entries-taken, entries-has, entries-found, entries-none, entries-each, entries-room, entries-cut, entries-replace, entries-insert}
+use Rattle.lists.proofs.Entries.{Entries, entries-keys, entries-length, entries-taken, entries-found, entries-none, entries-each, entries-room, entries-cut, entries-replace, entries-insert}
 use Rattle.peer.specs.declared.PeerData.{PeerData}
 use Rattle.peer.specs.Data.{bytes-of}
 use Rattle.peer.specs.Held.{data-in, ValidData, HoldsData}
@@ -89,6 +89,18 @@ module _ (n : ℕ) (m : List ℕ) (v : ValidDataWords n m) where
 
   pub data-keys : keys (data-map-at n m) ≡ take (count-of n m) (head-of n m)
   data-keys = entries-keys no-data n entry-bytes ValidEntry _ _ _ _ data-entries ∙ sym peers-read
+
+  -- the peers, as the code lends them
+  pub peers-lent : take (count-of n m) m ≡ keys (data-map-at n m)
+  unfolding head-of part
+  peers-lent = sym (data-keys ∙ take-take (count-of n m) (n + n) m (omega (arith, v .fits)))
+
+  pub data-counted : count-of n m ≡ length (take (count-of n m) m)
+  data-counted = sym (length-take-le (count-of n m) m (omega (arith, v .fits, v .long)))
+
+  pub data-has : (p : ℕ) (r : Bool) → r ≡ mem p (take (count-of n m) m) → r ≡ has p (data-map-at n m)
+  unfolding has
+  data-has p r q = q ∙ ap (mem p) peers-lent
 
 -- the two halves hold the columns ks, bs, cs and ds
 pub data-held : (n : ℕ) (m us ws : List ℕ) (c : ℕ) (ks bs cs ds : List ℕ) (l : List (ℕ × List ℕ)) → Stored (n + n) m us ws c → Two n us ks bs → Two n ws cs ds → c ≡ length ks → c ≡ length bs → c ≡ length cs → c ≡ length ds → c ≤ n
@@ -211,9 +223,6 @@ module _ (n : ℕ) (m : List ℕ) (v : ValidDataWords n m) where
   module _ (p i : ℕ) (e : i ≡ index-of p (take (count-of n m) (head-of n m))) where
     pub data-at-key : i ≡ index-of p (keys (data-map-at n m))
     data-at-key = e ∙ ap (index-of p) (sym (data-keys n m v))
-
-    pub data-has : ltb i (count-of n m) ≡ has p (data-map-at n m)
-    data-has = entries-has no-data n entry-bytes ValidEntry _ _ _ _ (data-entries n m v) p i data-at-key
 
     pub data-kept : count-of n m ≤ i → HoldsDataWords n m (cut p (data-map-at n m))
     data-kept h = record { valid = v; items = sym (cut-missing p (data-map-at n m) (omega (arith, v .counted, data-at-key))) }

@@ -7,7 +7,7 @@ use mathlib.Core.List.{List, [], _∷_, _++_, append-assoc}
 use native.Mathlib.Numerals.{add-one}
 use native.Mathlib.Omega.{arith}
 use lib.ListN.{length, take, getD, length-append}
-use lib.Seq.{length-take-le, take-take, take-all, getD-take}
+use lib.Seq.{take-all, getD-take}
 use lib.Dec.{eqb}
 use borrow.Author.Tests.{eqb-true}
 use Rattle.lists.specs.Lists.{count, mem, without, subset}
@@ -16,10 +16,11 @@ use Rattle.lists.proofs.Choice.{by-test, and-left, and-right, clash}
 use Rattle.lists.proofs.Count.{length-without, count-at}
 use Rattle.lists.proofs.Maps.{length-keys, keys-cut, retain-cut, retain-all}
 use Rattle.lists.proofs.Tests.{both-true}
-use Rattle.util.specs.Section.{part, items-at, ValidSet, HoldsSet}
+use Rattle.util.specs.Section.{items-at, ValidSet, HoldsSet}
 use Rattle.util.proofs.Sets.{lent}
-use Rattle.columns.specs.Columns.{head-of, count-of, data-map-at, ValidDataWords, HoldsDataWords}
-use Rattle.columns.proofs.Data.{data-keys}
+use Rattle.columns.specs.Columns.{numbers-at, ValidNumbers, count-of, data-map-at, ValidDataWords, HoldsDataWords}
+use Rattle.columns.proofs.Numbers.{numbers-lent}
+use Rattle.columns.proofs.Data.{peers-lent}
 
 -- the first i are all among ps
 next-among : (i : ℕ) (ks ps : List ℕ) → i < length ks → subset (take i ks) ps ≡ true → mem (getD ks i 0) ps ≡ true → subset (take (suc i) ks) ps ≡ true
@@ -40,21 +41,19 @@ without-among (suc i) p (k ∷ ks) ps n f =
     (λ e. both-true (mem k ps) _ y (without-among i p ks ps n (and-right (mem k ps) (subset (take i ks) ps) f)))
 
 module _ (n : ℕ) (m : List ℕ) (v : ValidDataWords n m) where
-  peers-lent : take (count-of n m) m ≡ keys (data-map-at n m)
-  unfolding head-of part
-  peers-lent = sym (data-keys n m v ∙ take-take (count-of n m) (n + n) m (omega (arith, v .fits)))
-
-  pub data-counted : count-of n m ≡ length (take (count-of n m) m)
-  data-counted = sym (length-take-le (count-of n m) m (omega (arith, v .fits, v .long)))
-
   pub within-lent : (k : ℕ) (s : List ℕ) (w : ValidSet k s) (r : Bool) → r ≡ subset (take (count-of n m) m) (take (getD s k 0) s) → r ≡ subset (keys (data-map-at n m)) (items-at k s)
-  within-lent k s w r q = q ∙ (λ i. subset (peers-lent i) (lent k s w i))
+  within-lent k s w r q = q ∙ (λ i. subset (peers-lent n m v i) (lent k s w i))
+
+  -- the same, where the set is three lists that lie apart
+  pub known-lent : (a p q : List ℕ) (r : Bool) → ValidSet 8 a → ValidSet 32 p → ValidNumbers 32 q → r ≡ subset (take (count-of n m) m) (take (getD a 8 0) a ++ (take (getD p 32 0) p ++ take (getD q 64 0) q))
+      → r ≡ subset (keys (data-map-at n m)) (items-at 8 a ++ (items-at 32 p ++ keys (numbers-at 32 q)))
+  known-lent a p q r x y z e = e ∙ (λ i. subset (peers-lent n m v i) (lent 8 a x i ++ (lent 32 p y i ++ numbers-lent 32 q z i)))
 
   pub all-within : (ps : List ℕ) (r : Bool) → r ≡ subset (keys (data-map-at n m)) ps → r ≡ true → HoldsDataWords n m (retain ps (data-map-at n m))
   all-within ps r q e = record { valid = v; items = sym (retain-all ps (data-map-at n m) (sym q ∙ e)) }
 
   key-read : (i : ℕ) → i < count-of n m → getD (keys (data-map-at n m)) i 0 ≡ getD m i 0
-  key-read i h = ap (λ (l : List ℕ). getD l i 0) (sym peers-lent) ∙ getD-take (count-of n m) m i 0 h
+  key-read i h = ap (λ (l : List ℕ). getD l i 0) (sym (peers-lent n m v)) ∙ getD-take (count-of n m) m i 0 h
 
 -- what is to be retained is the same, and the peers before i are among those whose data stays
 pub record Retaining (n : ℕ) (k : ℕ) (s m₀ m : List ℕ) (c i : ℕ) : Type 0 where

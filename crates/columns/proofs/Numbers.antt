@@ -7,19 +7,19 @@ use mathlib.Core.List.{List}
 use mathlib.Core.Option.{some}
 use native.Mathlib.Omega.{arith}
 use lib.ListN.{length, take, drop, getD, set, length-set}
-use lib.Seq.{length-take-le, getD-set-same, getD-set-other}
+use lib.Seq.{length-take-le, take-take, getD-set-same, getD-set-other}
 use lib.Dec.{ltb, leb}
 use borrow.Author.Tests.{lt-leb, le-leb, leb-true, eq-eqb, eqb-true}
 use borrow.Rule.Slice.PartMut.{putMid}
 use Rattle.lists.specs.Array.{pad}
-use Rattle.lists.specs.Lists.{index-of, rank, shift-remove, insert-at, Rising, rising}
+use Rattle.lists.specs.Lists.{mem, index-of, rank, shift-remove, insert-at, Rising, rising}
 use Rattle.lists.specs.Maps.{keys, zip, has, lookup, cut, put}
 use Rattle.lists.specs.Tests.{every, packed}
 use Rattle.lists.proofs.Array.{length-pad}
 use Rattle.lists.proofs.Choice.{and-left, and-right}
 use Rattle.lists.proofs.Tests.{both-true, rising-true, true-rising, packed-true, true-packed}
 use Rattle.lists.proofs.Zip.{keys-zip}
-use Rattle.lists.proofs.Entries.{Entries, entries-keys, entries-length, entries-has, entries-found, entries-none, entries-room, entries-cut, entries-cut-none, entries-replace, entries-insert}
+use Rattle.lists.proofs.Entries.{Entries, entries-keys, entries-length, entries-found, entries-none, entries-room, entries-cut, entries-cut-none, entries-replace, entries-insert}
 use Rattle.peer.specs.Maps.{number-in}
 use Rattle.peer.specs.declared.Number.the-variants.{Absent, Is}
 use Rattle.peer.proofs.Maps.{itself, Any, all-any, map-itself}
@@ -102,6 +102,18 @@ module _ (n : ℕ) (m : List ℕ) (v : ValidNumbers n m) where
   pub number-keys : keys (numbers-at n m) ≡ take (getD m (n + n) 0) (part 0 n m)
   number-keys = entries-keys 0 n itself Any _ _ _ _ (number-entries n m v)
 
+  -- the peers, as the code lends them
+  pub numbers-lent : take (getD m (n + n) 0) m ≡ keys (numbers-at n m)
+  unfolding part
+  numbers-lent = sym (number-keys ∙ take-take (getD m (n + n) 0) n m (v .fits))
+
+  pub numbers-counted : getD m (n + n) 0 ≡ length (take (getD m (n + n) 0) m)
+  numbers-counted = sym (length-take-le (getD m (n + n) 0) m (omega (arith, v .fits, v .long)))
+
+  pub number-has : (p : ℕ) (r : Bool) → r ≡ mem p (take (getD m (n + n) 0) m) → r ≡ has p (numbers-at n m)
+  unfolding has
+  number-has p r q = q ∙ ap (mem p) numbers-lent
+
   module _ (p i : ℕ) (e : i ≡ index-of p (take (getD m (n + n) 0) (part 0 n m))) where
     at-key : i ≡ index-of p (keys (numbers-at n m))
     at-key = e ∙ ap (index-of p) (sym number-keys)
@@ -114,9 +126,6 @@ module _ (n : ℕ) (m : List ℕ) (v : ValidNumbers n m) where
 
     pub number-fits : getD m (n + n) 0 ≤ i → (has p (numbers-at n m) || ltb (length (numbers-at n m)) n) ≡ true → getD m (n + n) 0 < length (part 0 n m)
     number-fits h t = omega (arith, number-room h t, part-long 0 n m (omega (arith, v .long)))
-
-    pub number-has : ltb i (getD m (n + n) 0) ≡ has p (numbers-at n m)
-    number-has = entries-has 0 n itself Any _ _ _ _ (number-entries n m v) p i at-key
 
     pub number-found : i < getD m (n + n) 0 → number-in (Is (getD m (n + i) 0)) ≡ lookup p (numbers-at n m)
     unfolding number-in

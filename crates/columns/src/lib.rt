@@ -145,8 +145,7 @@ pub fn contains_number(m: &[u64], cap: usize, p: PeerId) -> bool
 {
     let end = cap + cap;
     let n = m[end] as usize;
-    let i = util::find(&m[..cap], n, p);
-    i < n
+    scan::is_in(&m[..n], p)
 }
 
 pub fn get_number(m: &[u64], cap: usize, p: PeerId) -> Number
@@ -251,8 +250,7 @@ pub fn contains_data(m: &[u64], cap: usize, p: PeerId) -> bool
     let half = cap + cap;
     let end = half + half;
     let n = m[end] as usize;
-    let i = util::find(&m[..half], n, p);
-    i < n
+    scan::is_in(&m[..n], p)
 }
 
 pub fn get_data(m: &[u64], cap: usize, p: PeerId) -> PeerData
@@ -339,17 +337,21 @@ pub fn data_peers(active: &[u64], passive: &[u64], requests: &[u64], v: &mut [u6
     util::append(v, KNOWN, &asked, PASSIVE_PLACES);
 }
 
-// Whether every peer of the map is in the set.
-pub fn data_within(m: &[u64], cap: usize, s: &[u64], scap: usize) -> bool
+// Whether every peer of the map is in a view or has an open request; nothing is copied for it.
+pub fn data_known(m: &[u64], cap: usize, active: &[u64], passive: &[u64], requests: &[u64]) -> bool
     requires { ⌜ ValidDataWords cap (now m) ⌝ }
-    requires { ⌜ ValidSet scap (now s) ⌝ }
-    ensures { λ r. ⌜ r ≡ subset (keys (data-map-at cap (now (m .entry)))) (items-at scap (now (s .entry))) ⌝ }
+    requires { ⌜ ValidSet active-places (now active) ⌝ }
+    requires { ⌜ ValidSet working-places (now passive) ⌝ }
+    requires { ⌜ ValidNumbers working-places (now requests) ⌝ }
+    ensures { λ r. ⌜ r ≡ subset (keys (data-map-at cap (now (m .entry)))) (items-at active-places (now (active .entry)) ++ (items-at working-places (now (passive .entry)) ++ keys (numbers-at working-places (now (requests .entry))))) ⌝ }
 {
     let half = cap + cap;
     let end = half + half;
     let n = m[end] as usize;
-    let k = s[scap] as usize;
-    scan::subset(&m[..n], &s[..k])
+    let i = active[ACTIVE_PLACES] as usize;
+    let j = passive[PASSIVE_PLACES] as usize;
+    let k = requests[2 * PASSIVE_PLACES] as usize;
+    scan::subset_of_three(&m[..n], &active[..i], &passive[..j], &requests[..k])
 }
 
 // Only the data of the peers that are in the set; mostly all are, and nothing moves.
@@ -358,9 +360,6 @@ pub fn retain_data(m: &mut [u64], cap: usize, s: &[u64], scap: usize)
     requires { ⌜ ValidSet scap (now s) ⌝ }
     ensures { λ _. ⌜ HoldsDataWords cap (now (m .exit)) (retain (items-at scap (now (s .entry))) (data-map-at cap (now (m .entry)))) ⌝ }
 {
-    if data_within(m, cap, s, scap) {
-        return;
-    }
     let mut n = count_data(m, cap);
     let mut i: usize = 0;
     while i < n {

@@ -14,7 +14,7 @@ use Rattle.lists.specs.Tests.{All}
 use Rattle.lists.proofs.Choice.{split, or-true, and-right}
 use Rattle.lists.proofs.Tests.{both-true, true-rising, all-map}
 use Rattle.lists.proofs.Entries.{entries-values}
-use Rattle.util.specs.Section.{items-at, HoldsSet}
+use Rattle.util.specs.Section.{items-at}
 use Rattle.columns.specs.Columns.{numbers-at, data-map-at, entries-at, count-of, ValidDataWords}
 use Rattle.columns.proofs.Data.{data-entries}
 use Rattle.peer.specs.declared.PeerData.{PeerData}
@@ -24,7 +24,7 @@ use Rattle.peer.proofs.Data.{length-bytes}
 use Rattle.peer.proofs.Maps.{length-entry}
 use Rattle.protocol.specs.Rules.{all-short, short-data, limit-ok, settings-rule, repeats-rule, order-rule, capacity-rule, views-rule, alive-rule, few-rule, joins-rule, numbers-rule, self-rule, room-rule, data-rule, limit-rule, interval-rule, width-rule, held-rule, rules, station-ok}
 use Rattle.protocol.specs.Rules as R
-use Rattle.protocol.specs.Station.{Station, data-peers}
+use Rattle.protocol.specs.Station.{Station}
 use Rattle.state.specs.Layout as layout
 use Rattle.state.specs.Unpack.{settings-at, limit-at, limit-formed, refill-in, station-of, unpack}
 use Rattle.state.proofs.Memory.{two-limit}
@@ -146,7 +146,3 @@ pub rules-are : (xs : List ℕ) → packed-ok xs ≡ true → (a b c d e f g h k
 rules-are xs t a b c d e f g h k l m n o p₁ p₂ p₃ p₄ p₅ p₆ p₇ p₈ p₉ p₁₀ p₁₁ p₁₂ p₁₃ =
     (λ i. p₁ i && (p₂ i && (p₃ i && (p₄ i && (p₅ i && (p₆ i && (p₇ i && (p₈ i && (p₉ i && (p₁₀ i && (p₁₁ i && (p₁₂ i && p₁₃ i))))))))))))
     ∙ sym (rules-left (unpack xs) (few-held xs t) (room-held xs t) (data-held xs t))
-
-pub held-is : (xs : List ℕ) (v : List ℕ) (r : Bool) → HoldsSet 72 v (data-peers (unpack xs)) → r ≡ subset (keys (unpack xs .peer-data)) (items-at 72 v) → r ≡ held-rule (unpack xs)
-unfolding held-rule
-held-is xs v r h q = q ∙ ap (subset (keys (unpack xs .peer-data))) (h .items)

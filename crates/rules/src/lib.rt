@@ -337,18 +337,12 @@ fn held_rule(st: &[u64]) -> bool
     requires { ⌜ packed-ok (now st) ≡ true ⌝ }
     ensures { λ r. ⌜ r ≡ held-rule (unpack (now (st .entry))) ⌝ }
 {
-    let mut v = [0u64; columns::KNOWN + 1];
-    columns::data_peers(
+    columns::data_known(
+        &st[Layout::HELD..Layout::HELD_END],
+        Layout::DATA_CAP,
         &st[Layout::ACTIVE..Layout::ACTIVE_END],
         &st[Layout::PASSIVE..Layout::PASSIVE_END],
         &st[Layout::ASKED..Layout::ASKED_END],
-        &mut v,
-    );
-    columns::data_within(
-        &st[Layout::HELD..Layout::HELD_END],
-        Layout::DATA_CAP,
-        &v,
-        columns::KNOWN,
     )
 }
 

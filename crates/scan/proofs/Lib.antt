@@ -1,5 +1,6 @@
 pub mod Loops
 pub mod Marked
 pub mod Hints
+pub mod Three
 pub mod Marks
 pub mod Tests

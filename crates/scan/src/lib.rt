@@ -1,8 +1,10 @@
-// Tests of a whole list of 64-bit words that is lent. A loop looks at every word, so that the compiler makes vector code; only `disjoint` and `distinct` stop
-// early, where they have looked far.
+// Tests of a whole list of 64-bit words that is lent. `no_bits`, `is_in` and `rising` look at every word, so that the compiler makes vector code. The loops that
+// go by a table at the low byte are no vector code: `disjoint` and `distinct` stop at the first word that fails, and `found` and `found_of_three` at the place noted.
 ghost use mathlib.Core.Path.{_≡_};
 ghost use mathlib.Core.Bool.{true};
-ghost use lib.ListN.{length};
+ghost use mathlib.Core.List.{_++_};
+ghost use Prim.Native.Nat.{_+_, _<_};
+ghost use lib.ListN.{length, getD};
 ghost use Rattle.lists.specs.Lists.{mem, distinct, rising, subset, disjoint};
 ghost use Rattle.lists.specs.Tests.{every};
 ghost use Rattle.scan.specs.Words.{unused, marked};
@@ -63,14 +65,14 @@ fn hinted(x: u8) -> usize {
     x as usize
 }
 
-// At the low byte of each word its place.
-fn note_places(s: &[u64], hints: &mut [u8])
+// At the low byte of each word its place in a row of lists, in which these words start at `from`.
+fn note_places(s: &[u64], from: usize, hints: &mut [u8])
     requires { ⌜ length (now hints) ≡ 256 ⌝ }
 {
     let mut i: usize = 0;
     while i < s.len() {
         let k = (s[i] % 256) as usize;
-        hints[k] = (i % 256) as u8;
+        hints[k] = ((from % 256 + i) % 256) as u8;
         i += 1;
     }
 }
@@ -80,7 +82,7 @@ pub fn subset(a: &[u64], b: &[u64]) -> bool
     ensures { λ r. ⌜ r ≡ subset (now (a .entry)) (now (b .entry)) ⌝ }
 {
     let mut hints = [0u8; 256];
-    note_places(b, &mut hints);
+    note_places(b, 0, &mut hints);
     let mut ok = true;
     let mut i: usize = 0;
     while i < a.len() {
@@ -88,6 +90,63 @@ pub fn subset(a: &[u64], b: &[u64]) -> bool
         let k = (x % 256) as usize;
         let h = hinted(hints[k]);
         ok = ok & found(b, h, x);
+        i += 1;
+    }
+    ok
+}
+
+// The word at place h of two lists in a row; the compiler can pick the list without a jump.
+fn word_of_two(b: &[u64], c: &[u64], h: usize) -> u64
+    requires { ⌜ h < length (now b) + length (now c) ⌝ }
+    ensures { λ r. ⌜ r ≡ getD (now (b .entry) ++ now (c .entry)) h 0 ⌝ }
+{
+    let n = b.len();
+    if h < n {
+        return b[h];
+    }
+    c[h - n]
+}
+
+// The word at place h of three lists in a row.
+fn word_of_three(b: &[u64], c: &[u64], d: &[u64], h: usize) -> u64
+    requires { ⌜ h < length (now b) + length (now c) + length (now d) ⌝ }
+    ensures { λ r. ⌜ r ≡ getD (now (b .entry) ++ (now (c .entry) ++ now (d .entry))) h 0 ⌝ }
+{
+    let n = b.len() + c.len();
+    if h < n {
+        return word_of_two(b, c, h);
+    }
+    d[h - n]
+}
+
+// Whether x is one of the words of three lists; h is a place in their row to look at first, whatever it is.
+fn found_of_three(b: &[u64], c: &[u64], d: &[u64], h: usize, x: u64) -> bool
+    ensures { λ r. ⌜ r ≡ mem x (now (b .entry) ++ (now (c .entry) ++ now (d .entry))) ⌝ }
+{
+    if h < b.len() + c.len() + d.len() {
+        if x == word_of_three(b, c, d, h) {
+            return true;
+        }
+    }
+    is_in(b, x) | (is_in(c, x) | is_in(d, x))
+}
+
+// Whether every word of a is in b, in c or in d: looked for as `subset` does, without a copy that has the three in a row. The places of d are noted first, so
+// that a word that another list has too is looked for there.
+pub fn subset_of_three(a: &[u64], b: &[u64], c: &[u64], d: &[u64]) -> bool
+    ensures { λ r. ⌜ r ≡ subset (now (a .entry)) (now (b .entry) ++ (now (c .entry) ++ now (d .entry))) ⌝ }
+{
+    let mut hints = [0u8; 256];
+    note_places(d, b.len() + c.len(), &mut hints);
+    note_places(b, 0, &mut hints);
+    note_places(c, b.len(), &mut hints);
+    let mut ok = true;
+    let mut i: usize = 0;
+    while i < a.len() {
+        let x = a[i];
+        let k = (x % 256) as usize;
+        let h = hinted(hints[k]);
+        ok = ok & found_of_three(b, c, d, h, x);
         i += 1;
     }
     ok

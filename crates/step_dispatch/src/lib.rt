@@ -168,6 +168,15 @@ fn forget_declined(w: Work, st: &mut [u64]) -> Work
     if w.code != 0 {
         return w;
     }
+    if columns::data_known(
+        &st[Layout::HELD..Layout::HELD_END],
+        Layout::DATA_CAP,
+        &st[Layout::ACTIVE..Layout::ACTIVE_END],
+        &st[Layout::PASSIVE..Layout::PASSIVE_END],
+        &st[Layout::ASKED..Layout::ASKED_END],
+    ) {
+        return w;
+    }
     let mut v = [0u64; columns::KNOWN + 1];
     columns::data_peers(
         &st[Layout::ACTIVE..Layout::ACTIVE_END],

@@ -1,6 +1,4 @@
-use Rattle.util.specs.Section.{part}
-use Rattle.columns.specs.Columns.{head-of}
-use Rattle.columns.proofs.Data.{data-inside, data-count, data-has}
+use Rattle.columns.proofs.Data.{data-counted, data-has}
 use borrow.Author.Needs.{needs}
 use Rattle.columns.proofs.contains_data.Statement.{statement}
 use Rattle.columns.proofs.contains_data.Tie as tie
@@ -17,16 +15,13 @@ mul-n c = search needs
 shared-slice-read-n : tie.Need-shared-slice-read-n
 shared-slice-read-n c = search needs
 
-slice-aggregate-find : tie.Need-slice-aggregate-find
-unfolding part
-slice-aggregate-find c = search data-inside
+slice-aggregate-is-in : tie.Need-slice-aggregate-is-in
+slice-aggregate-is-in c = search data-counted
 
-find-requires : tie.Need-find-requires
-unfolding part
-find-requires c κs = search data-count
+is-in-requires : tie.Need-is-in-requires
+is-in-requires c κs = search needs
 
 returns : tie.Need-returns
-unfolding part head-of
 returns c = search data-has
 
 pub contains-data-spec : {M : Type 1} → statement M
@@ -37,6 +32,6 @@ contains-data-spec =
     add-end
     mul-n
     shared-slice-read-n
-    slice-aggregate-find
-    find-requires
+    slice-aggregate-is-in
+    is-in-requires
     returns)

@@ -1,5 +1,4 @@
-use Rattle.util.specs.Section.{part}
-use Rattle.columns.proofs.Numbers.{number-inside, number-count, number-has}
+use Rattle.columns.proofs.Numbers.{numbers-counted, number-has}
 use borrow.Author.Needs.{needs}
 use Rattle.columns.proofs.contains_number.Statement.{statement}
 use Rattle.columns.proofs.contains_number.Tie as tie
@@ -13,19 +12,16 @@ mul-n c = search needs
 shared-slice-read-n : tie.Need-shared-slice-read-n
 shared-slice-read-n c = search needs
 
-slice-aggregate-find : tie.Need-slice-aggregate-find
-unfolding part
-slice-aggregate-find c = search number-inside
+slice-aggregate-is-in : tie.Need-slice-aggregate-is-in
+slice-aggregate-is-in c = search numbers-counted
 
-find-requires : tie.Need-find-requires
-unfolding part
-find-requires c κs = search number-count
+is-in-requires : tie.Need-is-in-requires
+is-in-requires c κs = search needs
 
 returns : tie.Need-returns
-unfolding part
 returns c = search number-has
 
 pub contains-number-spec : {M : Type 1} → statement M
 contains-number-spec =
     tie.close
-    (tie.spec add-end mul-n shared-slice-read-n slice-aggregate-find find-requires returns)
+    (tie.spec add-end mul-n shared-slice-read-n slice-aggregate-is-in is-in-requires returns)

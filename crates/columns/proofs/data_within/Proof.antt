@@ -1,5 +1,6 @@
 use Rattle.util.proofs.Sets.{lent-long}
-use Rattle.columns.proofs.Kept.{data-counted, within-lent}
+use Rattle.columns.proofs.Data.{data-counted}
+use Rattle.columns.proofs.Kept.{within-lent}
 use borrow.Author.Needs.{needs}
 use Rattle.columns.proofs.data_within.Statement.{statement}
 use Rattle.columns.proofs.data_within.Tie as tie

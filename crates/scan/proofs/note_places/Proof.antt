@@ -6,10 +6,10 @@ use Rattle.scan.proofs.note_places.Statement.{statement}
 use Rattle.scan.proofs.note_places.Tie as tie
 
 abbrev Inv-loop : tie.InvT-loop
-Inv-loop s hints₀ i₀ hints i = (i ≤ length s) × (length hints ≡ 256)
+Inv-loop s from hints₀ i₀ hints i = (i ≤ length s) × (length hints ≡ 256)
 
 abbrev μ-loop : tie.MeasureT-loop
-μ-loop s hints₀ i₀ hints i = length s - i
+μ-loop s from hints₀ i₀ hints i = length s - i
 
 loop-holds : tie.Need-loop-holds Inv-loop μ-loop
 loop-holds c = search needs
@@ -19,6 +19,9 @@ mul-k c = search needs
 
 shared-slice-read-k : tie.Need-shared-slice-read-k Inv-loop μ-loop
 shared-slice-read-k c = search needs
+
+add-hints : tie.Need-add-hints Inv-loop μ-loop
+add-hints c = search needs
 
 cast-hints : tie.Need-cast-hints Inv-loop μ-loop
 cast-hints c = search needs
@@ -50,6 +53,7 @@ note-places-spec =
     loop-holds
     mul-k
     shared-slice-read-k
+    add-hints
     cast-hints
     slice-write-hints
     add-i

@@ -1,0 +1,91 @@
+use Prim.Native.Nat.{_-_}
+use lib.ListN.{length}
+use mathlib.Core.Path.{_≡_}
+use mathlib.Core.List.{_++_}
+use Rattle.lists.specs.Lists.{subset}
+use Rattle.scan.proofs.Tests.{is-in}
+use Rattle.scan.proofs.Loops.{Left, Every, subset-start, every-asked, every-end}
+use borrow.Author.Needs.{needs}
+use Rattle.scan.proofs.subset_of_three.Statement.{statement}
+use Rattle.scan.proofs.subset_of_three.Tie as tie
+
+abbrev Inv-loop : tie.InvT-loop
+Inv-loop a b c d hints ok₀ i₀ ok i = (length hints ≡ 256) × Left (Every (is-in (b ++ (c ++ d)))) a (subset a (b ++ (c ++ d))) ok i
+
+abbrev μ-loop : tie.MeasureT-loop
+μ-loop a b c d hints ok₀ i₀ ok i = length a - i
+
+add-note-places : tie.Need-add-note-places Inv-loop μ-loop
+add-note-places c = search needs
+
+slice-aggregate-note-places : tie.Need-slice-aggregate-note-places Inv-loop μ-loop
+slice-aggregate-note-places c = search needs
+
+note-places-requires : tie.Need-note-places-requires Inv-loop μ-loop
+note-places-requires c κs = search needs
+
+slice-aggregate-note-places-2 : tie.Need-slice-aggregate-note-places-2 Inv-loop μ-loop
+slice-aggregate-note-places-2 c = search needs
+
+note-places-requires-2 : tie.Need-note-places-requires-2 Inv-loop μ-loop
+note-places-requires-2 c κs = search needs
+
+slice-aggregate-note-places-3 : tie.Need-slice-aggregate-note-places-3 Inv-loop μ-loop
+slice-aggregate-note-places-3 c = search needs
+
+note-places-requires-3 : tie.Need-note-places-requires-3 Inv-loop μ-loop
+note-places-requires-3 c κs = search needs
+
+loop-holds : tie.Need-loop-holds Inv-loop μ-loop
+loop-holds c = (search needs, search subset-start)
+
+mul-x : tie.Need-mul-x Inv-loop μ-loop
+mul-x c = search needs
+
+shared-slice-read-x : tie.Need-shared-slice-read-x Inv-loop μ-loop
+shared-slice-read-x c = search needs
+
+array-read-hinted : tie.Need-array-read-hinted Inv-loop μ-loop
+array-read-hinted c = search needs
+
+hinted-requires : tie.Need-hinted-requires Inv-loop μ-loop
+hinted-requires c κs = search needs
+
+found-of-three-requires : tie.Need-found-of-three-requires Inv-loop μ-loop
+found-of-three-requires c κs = search needs
+
+add-i : tie.Need-add-i Inv-loop μ-loop
+add-i c = search needs
+
+loop-less : tie.Need-loop-less Inv-loop μ-loop
+loop-less c = search needs
+
+loop-again : tie.Need-loop-again Inv-loop μ-loop
+loop-again c = (search needs, search every-asked)
+
+returns : tie.Need-returns Inv-loop μ-loop
+returns c = search every-end
+
+pub subset-of-three-spec : {M : Type 1} → statement M
+subset-of-three-spec =
+    tie.close
+    (tie.spec
+    Inv-loop
+    μ-loop
+    add-note-places
+    slice-aggregate-note-places
+    note-places-requires
+    slice-aggregate-note-places-2
+    note-places-requires-2
+    slice-aggregate-note-places-3
+    note-places-requires-3
+    loop-holds
+    mul-x
+    shared-slice-read-x
+    array-read-hinted
+    hinted-requires
+    found-of-three-requires
+    add-i
+    loop-less
+    loop-again
+    returns)
