@@ -41,16 +41,10 @@ without-among (suc i) p (k ∷ ks) ps n f =
     (λ e. both-true (mem k ps) _ y (without-among i p ks ps n (and-right (mem k ps) (subset (take i ks) ps) f)))
 
 module _ (n : ℕ) (m : List ℕ) (v : ValidDataWords n m) where
-  pub within-lent : (k : ℕ) (s : List ℕ) (w : ValidSet k s) (r : Bool) → r ≡ subset (take (count-of n m) m) (take (getD s k 0) s) → r ≡ subset (keys (data-map-at n m)) (items-at k s)
-  within-lent k s w r q = q ∙ (λ i. subset (peers-lent n m v i) (lent k s w i))
-
-  -- the same, where the set is three lists that lie apart
+  -- the peers of both views and of the requests, where they lie
   pub known-lent : (a p q : List ℕ) (r : Bool) → ValidSet 8 a → ValidSet 32 p → ValidNumbers 32 q → r ≡ subset (take (count-of n m) m) (take (getD a 8 0) a ++ (take (getD p 32 0) p ++ take (getD q 64 0) q))
       → r ≡ subset (keys (data-map-at n m)) (items-at 8 a ++ (items-at 32 p ++ keys (numbers-at 32 q)))
   known-lent a p q r x y z e = e ∙ (λ i. subset (peers-lent n m v i) (lent 8 a x i ++ (lent 32 p y i ++ numbers-lent 32 q z i)))
-
-  pub all-within : (ps : List ℕ) (r : Bool) → r ≡ subset (keys (data-map-at n m)) ps → r ≡ true → HoldsDataWords n m (retain ps (data-map-at n m))
-  all-within ps r q e = record { valid = v; items = sym (retain-all ps (data-map-at n m) (sym q ∙ e)) }
 
   key-read : (i : ℕ) → i < count-of n m → getD (keys (data-map-at n m)) i 0 ≡ getD m i 0
   key-read i h = ap (λ (l : List ℕ). getD l i 0) (sym (peers-lent n m v)) ∙ getD-take (count-of n m) m i 0 h

@@ -1,6 +1,6 @@
 -- What is to be retained stays the same, and those before i stay. The measure is how many are to come.
 use Prim.Native.Nat.{_-_}
-use Rattle.columns.proofs.Kept.{all-within, Retaining, retaining-start, retaining-next, retaining-cut, retaining-less, retaining-end}
+use Rattle.columns.proofs.Kept.{Retaining, retaining-start, retaining-next, retaining-cut, retaining-less, retaining-end}
 use borrow.Author.Needs.{needs}
 use Rattle.columns.proofs.retain_data.Statement.{statement}
 use Rattle.columns.proofs.retain_data.Tie as tie
@@ -21,20 +21,11 @@ contains-to-in-loop c = c .before .before
 abbrev remove-data-to-contains : tie.After-remove-data Inv-loop μ-loop → tie.After-contains Inv-loop μ-loop
 remove-data-to-contains c = c .before .before .before
 
-abbrev remove-data-to-else2 : tie.After-remove-data Inv-loop μ-loop → tie.Else2 Inv-loop μ-loop
-remove-data-to-else2 c = c .before .before
+abbrev remove-data-to-else1 : tie.After-remove-data Inv-loop μ-loop → tie.Else1 Inv-loop μ-loop
+remove-data-to-else1 c = c .before .before
 
 abbrev count-data2-to-remove-data : tie.After-count-data2 Inv-loop μ-loop → tie.After-remove-data Inv-loop μ-loop
 count-data2-to-remove-data c = c .before .before .before .before
-
-data-within-requires : tie.Need-data-within-requires Inv-loop μ-loop
-data-within-requires c κs = search needs
-
-same-length : tie.Need-same-length Inv-loop μ-loop
-same-length c = search needs
-
-returns : tie.Need-returns Inv-loop μ-loop
-returns c = search all-within
 
 count-data-requires : tie.Need-count-data-requires Inv-loop μ-loop
 count-data-requires c κs = search needs
@@ -70,19 +61,19 @@ loop-less-2 : tie.Need-loop-less-2 Inv-loop μ-loop
 loop-less-2 c =
     let t = count-data2-to-remove-data c in
     let k = remove-data-to-contains t in
-    retaining-less _ _ _ _ _ _ _ (contains-to-at-loop k .loop .inv) (contains-to-in-loop k .loop-test .taken) _ _ _ (k .contains .ensures) (remove-data-to-else2 t .if2 .left) (t .remove-data .ensures) (c .count-data2 .ensures .0)
+    retaining-less _ _ _ _ _ _ _ (contains-to-at-loop k .loop .inv) (contains-to-in-loop k .loop-test .taken) _ _ _ (k .contains .ensures) (remove-data-to-else1 t .if1 .left) (t .remove-data .ensures) (c .count-data2 .ensures .0)
 
 loop-again-2 : tie.Need-loop-again-2 Inv-loop μ-loop
 loop-again-2 c =
     let t = count-data2-to-remove-data c in
     let k = remove-data-to-contains t in
-    retaining-cut _ _ _ _ _ _ _ (contains-to-at-loop k .loop .inv) (contains-to-in-loop k .loop-test .taken) _ _ _ (k .contains .ensures) (remove-data-to-else2 t .if2 .left) (t .remove-data .ensures) (c .count-data2 .ensures .0)
+    retaining-cut _ _ _ _ _ _ _ (contains-to-at-loop k .loop .inv) (contains-to-in-loop k .loop-test .taken) _ _ _ (k .contains .ensures) (remove-data-to-else1 t .if1 .left) (t .remove-data .ensures) (c .count-data2 .ensures .0)
 
-same-length-2 : tie.Need-same-length-2 Inv-loop μ-loop
-same-length-2 c = search needs
+same-length : tie.Need-same-length Inv-loop μ-loop
+same-length c = search needs
 
-returns-2 : tie.Need-returns-2 Inv-loop μ-loop
-returns-2 c = search retaining-end
+returns : tie.Need-returns Inv-loop μ-loop
+returns c = search retaining-end
 
 pub retain-data-spec : {M : Type 1} → statement M
 retain-data-spec =
@@ -90,9 +81,6 @@ retain-data-spec =
     (tie.spec
     Inv-loop
     μ-loop
-    data-within-requires
-    same-length
-    returns
     count-data-requires
     loop-holds
     mul-p
@@ -105,5 +93,5 @@ retain-data-spec =
     count-data-requires-2
     loop-less-2
     loop-again-2
-    same-length-2
-    returns-2)
+    same-length
+    returns)

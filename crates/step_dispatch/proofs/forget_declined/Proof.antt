@@ -6,12 +6,59 @@ use Rattle.state.proofs.Access.{of-packed}
 use Rattle.state.proofs.Bridge.{on-passed, on-done}
 use Rattle.state.proofs.Fields.{put-peer-data}
 use borrow.Author.Needs.{needs}
-use Rattle.step_dispatch.proofs.Laws.{retained}
+use Rattle.step_dispatch.proofs.Laws.{none-declined, retained}
 use Rattle.step_dispatch.proofs.forget_declined.Statement.{statement}
 use Rattle.step_dispatch.proofs.forget_declined.Tie as tie
 
 returns : tie.Need-returns
 returns c = search on-passed
+
+sub-data-known : tie.Need-sub-data-known
+sub-data-known c = search needs
+
+part-data-known-start : tie.Need-part-data-known-start
+part-data-known-start c = search needs
+
+part-data-known-end : tie.Need-part-data-known-end
+part-data-known-end c = search needs
+
+sub-data-known-2 : tie.Need-sub-data-known-2
+sub-data-known-2 c = search needs
+
+part-data-known-start-2 : tie.Need-part-data-known-start-2
+part-data-known-start-2 c = search needs
+
+part-data-known-end-2 : tie.Need-part-data-known-end-2
+part-data-known-end-2 c = search needs
+
+sub-data-known-3 : tie.Need-sub-data-known-3
+sub-data-known-3 c = search needs
+
+part-data-known-start-3 : tie.Need-part-data-known-start-3
+part-data-known-start-3 c = search needs
+
+part-data-known-end-3 : tie.Need-part-data-known-end-3
+part-data-known-end-3 c = search needs
+
+sub-data-known-4 : tie.Need-sub-data-known-4
+sub-data-known-4 c = search needs
+
+part-data-known-start-4 : tie.Need-part-data-known-start-4
+part-data-known-start-4 c = search needs
+
+part-data-known-end-4 : tie.Need-part-data-known-end-4
+part-data-known-end-4 c = search needs
+
+data-known-requires : tie.Need-data-known-requires
+unfolding part
+data-known-requires c κs = search (of-packed, needs)
+
+same-length : tie.Need-same-length
+same-length c = search needs
+
+returns-2 : tie.Need-returns-2
+unfolding data-peers unpack station-of part
+returns-2 c = on-done _ (search needs) _ _ (search needs) (search none-declined)
 
 sub-data-peers : tie.Need-sub-data-peers
 sub-data-peers c = search needs
@@ -63,18 +110,33 @@ retain-data-requires : tie.Need-retain-data-requires
 unfolding part
 retain-data-requires c κs = search (of-packed, needs)
 
-same-length : tie.Need-same-length
-same-length c = search needs
+same-length-2 : tie.Need-same-length-2
+same-length-2 c = search needs
 
-returns-2 : tie.Need-returns-2
+returns-3 : tie.Need-returns-3
 unfolding forget-declined data-peers unpack station-of part
-returns-2 c = on-done _ (search needs) _ _ (search needs) (put-peer-data (retained _ _ _ _ (c .before .before .retain-data .ensures) (search needs)))
+returns-3 c = on-done _ (search needs) _ _ (search needs) (put-peer-data (retained _ _ _ _ (c .before .before .retain-data .ensures) (search needs)))
 
 pub forget-declined-spec : {M : Type 1} → statement M
 forget-declined-spec =
     tie.close
     (tie.spec
     returns
+    sub-data-known
+    part-data-known-start
+    part-data-known-end
+    sub-data-known-2
+    part-data-known-start-2
+    part-data-known-end-2
+    sub-data-known-3
+    part-data-known-start-3
+    part-data-known-end-3
+    sub-data-known-4
+    part-data-known-start-4
+    part-data-known-end-4
+    data-known-requires
+    same-length
+    returns-2
     sub-data-peers
     part-data-peers-start
     part-data-peers-end
@@ -91,5 +153,5 @@ forget-declined-spec =
     part-retain-data-end
     slice-aggregate-retain-data
     retain-data-requires
-    same-length
-    returns-2)
+    same-length-2
+    returns-3)
