@@ -1,4 +1,5 @@
 // The text of one event, into lent bytes: each output record in hex, the code with the draws used, and the state that the call handed back.
+use peer::PeerId;
 use run_text::Text;
 use state::Layout;
 use state::RefillLimit;
@@ -106,7 +107,7 @@ fn put_comma(out: &mut [u8], t: Text, i: usize) -> Text
 }
 
 // The i-th item of a list of peers.
-fn put_peer(out: &mut [u8], t: Text, i: usize, p: u64) -> Text
+fn put_peer(out: &mut [u8], t: Text, i: usize, p: PeerId) -> Text
     ensures { λ r. ⌜ Puts (item-text decimal i p) t (now (out .entry)) r (now (out .exit)) ⌝ }
 {
     let a = put_comma(out, t, i);
@@ -114,7 +115,7 @@ fn put_peer(out: &mut [u8], t: Text, i: usize, p: u64) -> Text
 }
 
 // The i-th item of a list of peers with their numbers.
-fn put_numbered(out: &mut [u8], t: Text, i: usize, p: u64, n: u64) -> Text
+fn put_numbered(out: &mut [u8], t: Text, i: usize, p: PeerId, n: u64) -> Text
     ensures { λ r. ⌜ Puts (item-text numbered-text i (p, n)) t (now (out .entry)) r (now (out .exit)) ⌝ }
 {
     let a = put_peer(out, t, i, p);
@@ -123,7 +124,7 @@ fn put_numbered(out: &mut [u8], t: Text, i: usize, p: u64, n: u64) -> Text
 }
 
 // The i-th item of a list of peers with their data: the first n of the bytes in two words.
-fn put_held(out: &mut [u8], t: Text, i: usize, p: u64, low: u64, high: u64, n: u64) -> Text
+fn put_held(out: &mut [u8], t: Text, i: usize, p: PeerId, low: u64, high: u64, n: u64) -> Text
     ensures { λ r. ⌜ Puts (item-text held-text i (p, take n (word-bytes low high))) t (now (out .entry)) r (now (out .exit)) ⌝ }
 {
     let a = put_peer(out, t, i, p);
