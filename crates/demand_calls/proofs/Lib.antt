@@ -1,2 +1,2 @@
-pub mod Box
+pub mod Memory
 pub mod Tied

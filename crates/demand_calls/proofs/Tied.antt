@@ -18,10 +18,10 @@ use Rattle.tally.specs.Counts.{counts-in}
 use Rattle.hyparview.specs.declared.Done.{Done}
 use Rattle.controller.proofs.hyparview_new as new
 use Rattle.controller.proofs.hyparview_handle as handle
-use Rattle.demand_calls.specs.Box.{Box, box-made, box-outcome}
+use Rattle.demand_calls.specs.Memory.{LentMemory, memory-made, memory-outcome}
 
 -- what the references to the words and the six counts show
-abbrev held : RefT (List ℕ) → RefT (List ℕ) → Box
+abbrev held : RefT (List ℕ) → RefT (List ℕ) → LentMemory
 held s t = record { words = now s; tally = counts-in (now t) }
 
 module _ {M : Type 1} (𝓤 : URA M) (H : Heap 𝓤) (A : Atoms 𝓤) (at-mem : Memory → SProp 𝓤) (run : Routine → Fun 𝓤) where
@@ -31,8 +31,8 @@ module _ {M : Type 1} (𝓤 : URA M) (H : Heap 𝓤) (A : Atoms 𝓤) (at-mem : 
 
     pub new-says : (s′ t′ : RefT (List ℕ)) (own′ : RefT (List ℕ)) (code : ℕ)
         → new.clauses 𝓤 H A at-mem run κs (s, (t, (me, (present, (own, (c, tt)))))) .ensures tt code (s′, (t′, (me, (present, (own′, (c, tt))))))
-        ≡ fact 𝓤 (record { code = code; words = now s′; tally = counts-in (now t′) } ≡ box-made (held s t) me present (now own) c)
-    unfolding box-made
+        ≡ fact 𝓤 (record { code = code; words = now s′; tally = counts-in (now t′) } ≡ memory-made (held s t) me present (now own) c)
+    unfolding memory-made
     new-says s′ t′ own′ code = refl
 
   module _ (κs : Lfts 5) (s t : RefT (List ℕ)) (e d o : RefT (List ℕ)) where
@@ -41,6 +41,6 @@ module _ {M : Type 1} (𝓤 : URA M) (H : Heap 𝓤) (A : Atoms 𝓤) (at-mem : 
 
     pub handle-says : (s′ t′ : RefT (List ℕ)) (e′ d′ o′ : RefT (List ℕ)) (r : Done)
         → handle.clauses 𝓤 H A at-mem run κs (s, (t, (e, (d, (o, tt))))) .ensures tt r (s′, (t′, (e′, (d′, (o′, tt)))))
-        ≡ fact 𝓤 (record { code = r .code; draws = r .draws; words = now s′; tally = counts-in (now t′); output = now o′ } ≡ box-outcome (now e) (now d) (now o) (held s t))
-    unfolding box-outcome
+        ≡ fact 𝓤 (record { code = r .code; draws = r .draws; words = now s′; tally = counts-in (now t′); output = now o′ } ≡ memory-outcome (now e) (now d) (now o) (held s t))
+    unfolding memory-outcome
     handle-says s′ t′ e′ d′ o′ r = refl

@@ -1,1 +1,1 @@
-pub mod Box
+pub mod Memory

@@ -27,9 +27,19 @@ count-ends z hs = record { neither = how-many z 0 0 hs; passive = how-many z 0 1
 unfoldable pub sizes-after : Station → Sizes
 sizes-after g h = (length (after-history h g .active), length (after-history h g .passive))
 
+-- how many events are of one peer, how many there are, and the most of a history
+abbrev pub events-of-peer : ℕ
+events-of-peer = 7
+
+abbrev pub events-in-all : ℕ
+events-in-all = 16
+
+abbrev pub longest-history : ℕ
+longest-history = 4
+
 -- all histories of at most four of the sixteen events
 unfoldable pub all-histories : List (List ℕ)
-all-histories = up-to 16 4
+all-histories = up-to events-in-all longest-history
 
 -- what the program prints
 unfoldable pub all-ends : Ends

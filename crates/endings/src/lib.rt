@@ -18,8 +18,20 @@ ghost use Rattle.histories.specs.Histories.{of-length};
 ghost use Rattle.record.specs.Format.{header-length, node-length, encode};
 ghost use Rattle.writer.specs.Write.{Wrote};
 ghost use Rattle.endings.specs.Events.{no-data-node, event, of-peer, quit, event-at};
-ghost use Rattle.endings.specs.Ends.{count-ends, all-ends};
+ghost use Rattle.endings.specs.Ends.{events-of-peer, events-in-all, count-ends, all-ends};
 ghost use Rattle.endings.specs.Steps.{first-state, played, sizes-in, plus, CountRoom};
+
+// How many events are of one peer, of both peers, and there are with maintenance and Quit.
+const EVENTS_OF_PEER: usize = 7;
+
+const EVENTS_OF_PEERS: usize = 2 * EVENTS_OF_PEER;
+
+const EVENTS_IN_ALL: usize = EVENTS_OF_PEERS + 2;
+
+// The most events of a history, and how many lengths a history can have, from 0 on.
+const LONGEST_HISTORY: usize = 4;
+
+const HISTORY_LENGTHS: usize = LONGEST_HISTORY + 1;
 
 // How many histories end so: with no peer in a view, with one in the passive view alone, in the active view alone, in both.
 pub struct Ends {
@@ -65,7 +77,7 @@ fn put_one(out: &mut [u8], message: u8, flags: u8, p: PeerId) -> Written
 
 // The seven events of a peer, in the order of the request.
 fn put_of_peer(out: &mut [u8], i: usize, p: PeerId) -> Written
-    requires { ⌜ i < 7 ⌝ }
+    requires { ⌜ i < events-of-peer ⌝ }
     ensures { λ r. ⌜ Wrote (getD (of-peer p) i quit) 0 (now (out .entry)) r (now (out .exit)) ⌝ }
 {
     if i == 0 {
@@ -91,16 +103,16 @@ fn put_of_peer(out: &mut [u8], i: usize, p: PeerId) -> Written
 
 // The event at place i of the sixteen.
 fn put_event_at(out: &mut [u8], i: usize) -> Written
-    requires { ⌜ i < 16 ⌝ }
+    requires { ⌜ i < events-in-all ⌝ }
     ensures { λ r. ⌜ Wrote (event-at i) 0 (now (out .entry)) r (now (out .exit)) ⌝ }
 {
-    if i < 7 {
+    if i < EVENTS_OF_PEER {
         return put_of_peer(out, i, 2);
     }
-    if i < 14 {
-        return put_of_peer(out, i - 7, 3);
+    if i < EVENTS_OF_PEERS {
+        return put_of_peer(out, i - EVENTS_OF_PEER, 3);
     }
-    if i == 14 {
+    if i == EVENTS_OF_PEERS {
         return put_bare(out, Kind::DO_MAINTENANCE, 0, 0, 0);
     }
     put_bare(out, Kind::QUIT, 0, 0, 0)
@@ -119,7 +131,7 @@ fn first_station() -> State
 
 // How many bytes the event at place i has, which stand at the front of the lent ones; it has a node at most.
 fn event_bytes(out: &mut [u8], i: usize) -> usize
-    requires { ⌜ i < 16 ⌝ }
+    requires { ⌜ i < events-in-all ⌝ }
     requires { ⌜ length (now out) ≡ header-length + node-length ⌝ }
     ensures { λ r. ⌜ (r ≤ header-length + node-length) × (take r (now (out .exit)) ≡ encode (event-at i)) ⌝ }
 {
@@ -132,7 +144,7 @@ fn event_bytes(out: &mut [u8], i: usize) -> usize
 
 // The state after the event at place i, with draws of 0.
 fn play(s: State, i: usize) -> State
-    requires { ⌜ i < 16 ⌝ }
+    requires { ⌜ i < events-in-all ⌝ }
     ensures { λ r. ⌜ r ≡ played i s ⌝ }
 {
     let mut event = [0u8; record::HEADER + record::NODE];
@@ -167,15 +179,15 @@ fn count_end(s: State, c: Ends) -> Ends
 
 // Every history that goes on from s with `left` more events, by the order of events.
 fn extend(s: State, left: usize, c: Ends) -> Ends
-    requires { ⌜ CountRoom c (length (of-length 16 left)) ⌝ }
-    ensures { λ r. ⌜ r ≡ plus c (count-ends (sizes-in s) (of-length 16 left)) ⌝ }
+    requires { ⌜ CountRoom c (length (of-length events-in-all left)) ⌝ }
+    ensures { λ r. ⌜ r ≡ plus c (count-ends (sizes-in s) (of-length events-in-all left)) ⌝ }
 {
     if left == 0 {
         return count_end(s, c);
     }
     let mut sum = c;
     let mut i: usize = 0;
-    while i < 16 {
+    while i < EVENTS_IN_ALL {
         let next = play(s, i);
         sum = extend(next, left - 1, sum);
         i += 1;
@@ -195,7 +207,7 @@ pub fn count_ends() -> Ends
         both: 0,
     };
     let mut n: usize = 0;
-    while n < 5 {
+    while n < HISTORY_LENGTHS {
         sum = extend(s, n, sum);
         n += 1;
     }

@@ -6,4 +6,4 @@ pub mod Ticks
 pub mod Rejoined
 pub mod Outputs
 pub mod Packing
-pub mod Panel
+pub mod Observer

@@ -6,4 +6,4 @@ pub mod Rejoin
 pub mod Packing
 pub mod Outputs
 pub mod Refusals
-pub mod Panel
+pub mod Observer

@@ -30,12 +30,12 @@ pub const NODE: usize = 12;
 // The most nodes of a record, and the most bytes of a node's data.
 pub const MOST_NODES: u8 = 32;
 
-const MOST_DATA: u8 = 16;
+const MOST_DATA: u8 = PeerData::BYTES as u8;
 
 // The fixed sizes: of a header, and of a header with a node.
-const BARE: u8 = 32;
+const BARE: u8 = HEADER as u8;
 
-const WITH_NODE: u8 = 44;
+const WITH_NODE: u8 = (HEADER + NODE) as u8;
 
 // The header that every record starts with, as numbers.
 #[repr(C)]

@@ -8,6 +8,7 @@ use native.Mathlib.Omega.{arith}
 use lib.ListN.{length, take}
 use lib.Dec.{ltb}
 use borrow.Author.Tests.{ltb-true}
+use Rattle.lists.specs.Lists.{choose}
 use Rattle.lists.specs.Maps.{has}
 use Rattle.lists.proofs.Choice.{choose-yes, choose-no}
 use Rattle.util.specs.Section.{items-at, ValidSet}
@@ -64,10 +65,10 @@ module _ (w r : Work) (xs out o : List ℕ) where
       → Tells (send-nodes to (items-at 32 v)) (work-of w xs) (work-of r xs) out o
   set-told v n to s e k = subst (λ (l : List ℕ). Tells (send-nodes to l) (work-of w xs) (work-of r xs) out o) (lent-items v n s e) k
 
-  pub neighbor-told : (p : ℕ) (high : Bool) (f : ℕ) (d : PeerData) → Room (work-of w xs) out → f ≡ flag high → d ≡ own-at xs
+  pub neighbor-told : (p : ℕ) (high : Bool) (f : ℕ) (d : PeerData) → Room (work-of w xs) out → f ≡ choose high 1 0 → d ≡ own-at xs
       → TellsAny (emit (rec-in (sent 4 f p) (node-in (record { id = 0; «data» = d }) ∷ []))) w r out o
       → Tells (emit (neighbor-to (unpack xs .own-data) high p)) (work-of w xs) (work-of r xs) out o
-  unfolding neighbor-to rec-in node-in unpack station-of
+  unfolding neighbor-to flag rec-in node-in unpack station-of
   neighbor-told p high f d v e q k = tell-by _ (λ ds i. emit (message 4 p (sym e i) 0 0 (node 0 (data-in (sym q i)) ∷ [])) (run (work-of w xs) ds out)) (k .any xs (v .packed))
 
   pub request-told : (a : Work) (o₁ : List ℕ) (p : ℕ) (high : Bool) (id : ℕ)
@@ -77,10 +78,10 @@ module _ (w r : Work) (xs out o : List ℕ) where
   unfolding tell-request rec-in run unpack station-of settings-at
   request-told a o₁ p high id k₂ k₁ = tell-then _ (λ ds. refl) (k₂ .any xs (k₁ .room .packed)) k₁
 
-  pub disconnected : (a : Work) (o₁ ds : List ℕ) (p : ℕ) (alive : Bool) (len f : ℕ) → len ≡ reply-length (unpack xs) → f ≡ flag alive
+  pub disconnected : (a : Work) (o₁ ds : List ℕ) (p : ℕ) (alive : Bool) (len f : ℕ) → len ≡ reply-length (unpack xs) → f ≡ choose alive 1 0
       → TellsAny (emit (rec-in (sent 5 f p) [])) a r o₁ o → Does (work-of a xs) ds o₁ (send-shuffle-reply p len (run (work-of w xs) ds out))
       → Does (work-of r xs) ds o (send-disconnect p alive (run (work-of w xs) ds out))
-  unfolding send-disconnect rec-in run
+  unfolding send-disconnect flag rec-in run
   disconnected a o₁ ds p alive len f e q k d =
       by _ (λ i. emit (message 5 p (sym q i) 0 0 []) (send-shuffle-reply p (sym e i) (run (work-of w xs) ds out))) (then-tell-any k d)
 

@@ -1,6 +1,7 @@
 // What the station sends: Join, Neighbor, ShuffleReply and Disconnect (the definition's `Sending`).
 use peer::PeerId;
 use peer::PeerInfo;
+use record::Flags;
 use record::Kind;
 use record::Message;
 use record::Refusal;
@@ -12,12 +13,13 @@ ghost use mathlib.Core.Path.{_≡_};
 ghost use mathlib.Core.List.{_++_};
 ghost use Prim.Native.Nat.{_-_, _≤_};
 ghost use lib.ListN.{length, take, drop};
+ghost use Rattle.lists.specs.Lists.{choose};
 ghost use Rattle.lists.specs.Maps.{lookup};
 ghost use Rattle.util.specs.Chances.{shuffle};
 ghost use Rattle.peer.specs.Held.{ValidData, node-in};
 ghost use Rattle.util.specs.Section.{items-at, ValidSet, HoldsSet};
 ghost use Rattle.writer.specs.Nodes.{HoldsNodes};
-ghost use Rattle.protocol.specs.Run.{on, emit, flag, node, peer-infos, draw-shuffle};
+ghost use Rattle.protocol.specs.Run.{on, emit, node, peer-infos, draw-shuffle};
 ghost use Rattle.protocol.specs.Sending.{join, send-nodes, send-filled, reply-with, send-shuffle-reply, reply-length, send-disconnect};
 ghost use Rattle.protocol.specs.Sending.{request-counts, request-fits, note-request, count-request, open-request, neighbor-to, tell-request, send-neighbor, reply-neighbor};
 ghost use Rattle.record.specs.Format.{most-nodes};
@@ -26,14 +28,11 @@ ghost use Rattle.state.specs.Unpack.{unpack, PackedState};
 ghost use Rattle.state.specs.Work.{work-of, run, Changes, DrawsAny, Room, Tells, Fine, Does};
 ghost use Rattle.step_sending.specs.Requests.{Countable, Notable};
 
-// A flag as a number.
-fn flag(b: bool) -> u8
-    ensures { λ r. ⌜ r ≡ flag b ⌝ }
+// The flag where it is set, else 0.
+fn flag_if(set: bool, flag: u8) -> u8
+    ensures { λ r. ⌜ r ≡ choose set flag 0 ⌝ }
 {
-    if b {
-        return 1;
-    }
-    0
+    if set { flag } else { 0 }
 }
 
 // A peer with the data that is held of it.
@@ -244,7 +243,7 @@ pub fn send_disconnect(
 {
     let len = reply_length(st);
     let a = send_shuffle_reply(w, st, draws, out, p, len);
-    let flags = flag(alive);
+    let flags = flag_if(alive, Flags::ALIVE);
     let f = Fields {
         kind: Kind::MESSAGE,
         message: Message::DISCONNECT,
@@ -325,7 +324,7 @@ fn tell_neighbor(w: Work, st: &[u64], out: &mut [u8], p: PeerId, high: bool) -> 
     ensures { λ r. ⌜ Tells (emit (neighbor-to (unpack (now (st .entry)) .own-data) high p)) (work-of w (now (st .entry))) (work-of r (now (st .entry))) (now (out .entry)) (now (out .exit)) ⌝ }
 {
     let d = state::own_data(st);
-    let flags = flag(high);
+    let flags = flag_if(high, Flags::HIGH);
     let f = Fields {
         kind: Kind::MESSAGE,
         message: Message::NEIGHBOR,

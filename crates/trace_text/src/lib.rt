@@ -1,4 +1,5 @@
 // The text of one event, into lent bytes: each output record in hex, the code with the draws used, and the state that the call handed back.
+use peer::PeerId;
 use run_text::Text;
 use state::Layout;
 use state::RefillLimit;
@@ -106,7 +107,7 @@ fn put_comma(out: &mut [u8], t: Text, i: usize) -> Text
 }
 
 // The i-th item of a list of peers.
-fn put_peer(out: &mut [u8], t: Text, i: usize, p: u64) -> Text
+fn put_peer(out: &mut [u8], t: Text, i: usize, p: PeerId) -> Text
     ensures { λ r. ⌜ Puts (item-text decimal i p) t (now (out .entry)) r (now (out .exit)) ⌝ }
 {
     let a = put_comma(out, t, i);
@@ -114,7 +115,7 @@ fn put_peer(out: &mut [u8], t: Text, i: usize, p: u64) -> Text
 }
 
 // The i-th item of a list of peers with their numbers.
-fn put_numbered(out: &mut [u8], t: Text, i: usize, p: u64, n: u64) -> Text
+fn put_numbered(out: &mut [u8], t: Text, i: usize, p: PeerId, n: u64) -> Text
     ensures { λ r. ⌜ Puts (item-text numbered-text i (p, n)) t (now (out .entry)) r (now (out .exit)) ⌝ }
 {
     let a = put_peer(out, t, i, p);
@@ -123,7 +124,7 @@ fn put_numbered(out: &mut [u8], t: Text, i: usize, p: u64, n: u64) -> Text
 }
 
 // The i-th item of a list of peers with their data: the first n of the bytes in two words.
-fn put_held(out: &mut [u8], t: Text, i: usize, p: u64, low: u64, high: u64, n: u64) -> Text
+fn put_held(out: &mut [u8], t: Text, i: usize, p: PeerId, low: u64, high: u64, n: u64) -> Text
     ensures { λ r. ⌜ Puts (item-text held-text i (p, take n (word-bytes low high))) t (now (out .entry)) r (now (out .exit)) ⌝ }
 {
     let a = put_peer(out, t, i, p);
@@ -162,18 +163,27 @@ fn numbers_field(out: &mut [u8], t: Text, name: &[u8], m: &[u64], cap: usize) ->
     run_text::put(out, r, b']')
 }
 
+// The columns of the data map behind its peers: how many bytes each has, and the two words that hold them. Then its count.
+const DATA_LENGTHS: usize = Layout::DATA_CAP;
+
+const DATA_LOW_WORDS: usize = 2 * Layout::DATA_CAP;
+
+const DATA_HIGH_WORDS: usize = 3 * Layout::DATA_CAP;
+
+const DATA_COUNT: usize = 4 * Layout::DATA_CAP;
+
 // The field of the data that is held, of each peer its bytes.
 fn data_field(out: &mut [u8], t: Text, m: &[u64]) -> Text
     requires { ⌜ length (now m) ≡ 4 * data-places + 1 ⌝ }
     ensures { λ r. ⌜ Puts (list-field (ascii " data=[") held-text (data-map-at data-places (now (m .entry)))) t (now (out .entry)) r (now (out .exit)) ⌝ }
 {
-    let n = least(m[4 * Layout::DATA_CAP] as usize, Layout::DATA_CAP);
+    let n = least(m[DATA_COUNT] as usize, Layout::DATA_CAP);
     let mut r = run_text::put_bytes(out, t, b" data=[");
     let mut i: usize = 0;
     while i < n {
-        let low = m[2 * Layout::DATA_CAP + i];
-        let high = m[3 * Layout::DATA_CAP + i];
-        r = put_held(out, r, i, m[i], low, high, m[Layout::DATA_CAP + i]);
+        let low = m[DATA_LOW_WORDS + i];
+        let high = m[DATA_HIGH_WORDS + i];
+        r = put_held(out, r, i, m[i], low, high, m[DATA_LENGTHS + i]);
         i += 1;
     }
     run_text::put(out, r, b']')

@@ -9,8 +9,8 @@ reply-length-requires c κs = search needs
 send-shuffle-reply-requires : tie.Need-send-shuffle-reply-requires
 send-shuffle-reply-requires c κs = search needs
 
-flag-requires : tie.Need-flag-requires
-flag-requires c κs = search needs
+flag-if-requires : tie.Need-flag-if-requires
+flag-if-requires c κs = search needs
 
 emit-bare-requires : tie.Need-emit-bare-requires
 emit-bare-requires c κs = search needs
@@ -22,4 +22,4 @@ returns : tie.Need-returns
 returns c = search disconnected
 
 pub send-disconnect-spec : {M : Type 1} → statement M
-send-disconnect-spec = tie.close (tie.spec reply-length-requires send-shuffle-reply-requires flag-requires emit-bare-requires same-length returns)
+send-disconnect-spec = tie.close (tie.spec reply-length-requires send-shuffle-reply-requires flag-if-requires emit-bare-requires same-length returns)

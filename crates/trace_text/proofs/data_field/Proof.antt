@@ -13,12 +13,6 @@ Inv-loop out₀ m n r₀ i₀ out r i = DataListed m r₀ out₀ r out n i
 abbrev μ-loop : tie.MeasureT-loop
 μ-loop out₀ m n r₀ i₀ out r i = n - i
 
-mul-least : tie.Need-mul-least Inv-loop μ-loop
-mul-least c = search needs
-
-mul-least-2 : tie.Need-mul-least-2 Inv-loop μ-loop
-mul-least-2 c = search needs
-
 shared-slice-read-least : tie.Need-shared-slice-read-least Inv-loop μ-loop
 shared-slice-read-least c = search needs
 
@@ -34,26 +28,20 @@ put-bytes-requires c κs = search needs
 loop-holds : tie.Need-loop-holds Inv-loop μ-loop
 loop-holds c = search (data-start, needs)
 
-mul-low : tie.Need-mul-low Inv-loop μ-loop
-mul-low c = search needs
-
 add-low : tie.Need-add-low Inv-loop μ-loop
 add-low c = search needs
 
-mul-low-2 : tie.Need-mul-low-2 Inv-loop μ-loop
-mul-low-2 c = search needs
+mul-low : tie.Need-mul-low Inv-loop μ-loop
+mul-low c = search needs
 
 shared-slice-read-low : tie.Need-shared-slice-read-low Inv-loop μ-loop
 shared-slice-read-low c = search needs
 
-mul-high : tie.Need-mul-high Inv-loop μ-loop
-mul-high c = search needs
-
 add-high : tie.Need-add-high Inv-loop μ-loop
 add-high c = search needs
 
-mul-high-2 : tie.Need-mul-high-2 Inv-loop μ-loop
-mul-high-2 c = search needs
+mul-high : tie.Need-mul-high Inv-loop μ-loop
+mul-high c = search needs
 
 shared-slice-read-high : tie.Need-shared-slice-read-high Inv-loop μ-loop
 shared-slice-read-high c = search needs
@@ -105,20 +93,16 @@ data-field-spec =
     (tie.spec
     Inv-loop
     μ-loop
-    mul-least
-    mul-least-2
     shared-slice-read-least
     least-requires
     slice-aggregate-put-bytes
     put-bytes-requires
     loop-holds
-    mul-low
     add-low
-    mul-low-2
+    mul-low
     shared-slice-read-low
-    mul-high
     add-high
-    mul-high-2
+    mul-high
     shared-slice-read-high
     mul-put-held
     shared-slice-read-put-held

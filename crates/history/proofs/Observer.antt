@@ -1,4 +1,4 @@
--- What a panel that is shown notices and data can know of the spare addresses.
+-- What an observer that is shown notices and data can know of the spare addresses.
 -- Assumes nothing.
 use Prim.Native.Nat.{ℕ, _+_, _<_}
 use mathlib.Core.Path.{_≡_, refl, sym, ap, subst, _∙_}
@@ -28,7 +28,7 @@ use Rattle.protocol.proofs.Entering.{on-same, same-after-info}
 use Rattle.history.specs.Calls.{Call, state-after, definition}
 use Rattle.history.specs.Followed.{followed}
 use Rattle.history.specs.Outputs.{cut-records}
-use Rattle.history.specs.Panel.{shown, hears, Panel-can-tell, Additions-told}
+use Rattle.history.specs.Observer.{shown, hears, Observer-can-tell, Additions-told}
 
 -- two peers come with a ShuffleReply, one of them is asked, and the first request's timer for peer 2 expires; the first draw says whom
 abbrev two-peers : List ℕ
@@ -65,8 +65,8 @@ heard-3 : hears definition (asking 1) first ≡ (two-peers, []) ∷ (expired, []
 unfolding followed asking shown hears cut-records records-in records-from
 heard-3 = refl
 
-pub panel-cannot-tell : Panel-can-tell → ⊥
-panel-cannot-tell f =
+pub observer-cannot-tell : Observer-can-tell → ⊥
+observer-cannot-tell f =
     let e : _≡_ {A = List ℕ} (3 ∷ []) (2 ∷ 3 ∷ []) = sym asked-2 ∙ f 1 none default (asking 0) (asking 1) (heard-2 ∙ sym heard-3) ∙ asked-3 in
     absurd (omega (arith, ap length e))
 

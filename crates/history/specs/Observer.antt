@@ -1,4 +1,4 @@
--- Document 02, S-2: what a panel can know of the spare addresses, the passive view, that is shown each event and the notices and data of its output.
+-- Document 02, S-2: what an observer, such as a panel, can know of the spare addresses, the passive view, that is shown each event and the notices and data of its output.
 -- Assumes nothing.
 use Prim.Native.Nat.{ℕ, _+_}
 use mathlib.Core.List.{List, [], _∷_}
@@ -25,10 +25,10 @@ unfoldable pub hears : {G S : Type 0} → Machine G S → List Call → S → Li
 hears m [] s = []
 hears m (v ∷ vs) s = (v .event, shown (cut-records (output-of m v s))) ∷ hears m vs (state-of m v s)
 
--- "the panel's own list is right": whoever hears the same holds the same spare addresses. Refuted (proofs/Panel): not so, since a peer that does not
+-- "the panel's own list is right": whoever hears the same holds the same spare addresses. Refuted (proofs/Observer): not so, since a peer that does not
 -- answer is dropped by a timer, and which peer was asked, a draw decides, which only the messages and timers of the output tell.
-abbrev pub Panel-can-tell : Type 0
-Panel-can-tell =
+abbrev pub Observer-can-tell : Type 0
+Observer-can-tell =
     (me : ℕ) (d : Data) (c : Config) (vs ws : List Call) → hears definition vs (new me d c .state) ≡ hears definition ws (new me d c .state)
     → state-after definition vs (new me d c .state) .passive ≡ state-after definition ws (new me d c .state) .passive
 
