@@ -1,4 +1,4 @@
--- From what the contracts of the six calls say follow the equations with `queue-answered`, of which the claim over every list of calls speaks, and they ask nothing of the caller: one that said less, or asked more, would not be admitted here.
+-- The contract of `timer_map_new` says the equation with `renewed`, at which the claim over every list of calls begins, and from what the contracts of the six calls say follow the equations with `queue-answered`, of which it speaks; the seven ask nothing of the caller: one that said less, or asked more, would not be admitted here.
 -- Assumes nothing.
 use Prim.Native.Nat.{ℕ}
 use mathlib.Core.Path.{_≡_, refl, ap}
@@ -17,7 +17,8 @@ use Rattle.timer_map.specs.declared.Timer.{Timer}
 use Rattle.timer_map.specs.declared.Popped.{Popped}
 use Rattle.timer_map.specs.declared.First.{First}
 use Rattle.timer_map.specs.declared.Len.{Len}
-use Rattle.timer_map.specs.Calls.{PutWords, PoppedWords}
+use Rattle.timer_map.specs.Calls.{PutWords, PoppedWords, renewed}
+use Rattle.timer_map.proofs.timer_map_new as new
 use Rattle.timer_map.proofs.timer_map_insert as insert-timer
 use Rattle.timer_map.proofs.timer_map_pop_before as pop-timer
 use Rattle.timer_map.proofs.timer_map_first as first-timer
@@ -34,6 +35,12 @@ module _ {M : Type 1} (𝓤 : URA M) (H : Heap 𝓤) (A : Atoms 𝓤) (at-mem : 
   Answers said v q r q′ = ent 𝓤 said (fact 𝓤 (record { reply = r; words = now q′ } ≡ queue-answered v (now q)))
 
   module _ (κs : Lfts 1) (q : RefT (List ℕ)) where
+    pub new-asks : new.clauses 𝓤 H A at-mem run κs (q, tt) .requires tt ≡ connectives 𝓤 .⊤ₛ
+    new-asks = refl
+
+    pub new-says : (q′ : RefT (List ℕ)) (r : ℕ) → new.clauses 𝓤 H A at-mem run κs (q, tt) .ensures tt r (q′, tt) ≡ fact 𝓤 (record { code = r; words = now q′ } ≡ renewed (now q))
+    new-says q′ r = refl
+
     module _ (time delay : ℕ) (x : Timer) where
       pub insert-asks : insert-timer.clauses 𝓤 H A at-mem run κs (q, (time, (delay, (x, tt)))) .requires tt ≡ connectives 𝓤 .⊤ₛ
       insert-asks = refl

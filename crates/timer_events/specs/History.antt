@@ -41,7 +41,7 @@ pub record QueueOutcome : Type 0 where
   pub words : List ℕ
 
 -- What a call hands back and leaves: the definitions that the contracts of timer_map_insert, timer_map_insert_records, timer_map_pop_before,
--- timer_map_pop_event, timer_map_first and timer_map_len are equations with; the check ties the claim to the six by proofs/Tied.
+-- timer_map_pop_event, timer_map_first and timer_map_len are equations with; the check ties the claim to the six, and to timer_map_new, by proofs/Tied.
 unfoldable pub queue-answered : QueueCall → List ℕ → QueueOutcome
 queue-answered (insert time delay x) ws = record { reply = code (inserted time delay x ws .code); words = inserted time delay x ws .words }
 queue-answered (insert-records time out) ws = record { reply = code (records-inserted time out ws .code); words = records-inserted time out ws .words }
