@@ -131,12 +131,12 @@ fn found_of_three(b: &[u64], c: &[u64], d: &[u64], h: usize, x: u64) -> bool
     is_in(b, x) | (is_in(c, x) | is_in(d, x))
 }
 
-// Whether every word of a is in b, in c or in d: looked for as `subset` does, without a copy that has the three in a row. The places of d are noted first, so
-// that a word that another list has too is looked for there.
+// Whether every word of a is in b, in c or in d: looked for as `subset` does, without a copy that has the three in a row.
 pub fn subset_of_three(a: &[u64], b: &[u64], c: &[u64], d: &[u64]) -> bool
     ensures { λ r. ⌜ r ≡ subset (now (a .entry)) (now (b .entry) ++ (now (c .entry) ++ now (d .entry))) ⌝ }
 {
     let mut hints = [0u8; 256];
+    // First those of d, so that a word that another list has too is looked for there.
     note_places(d, b.len() + c.len(), &mut hints);
     note_places(b, 0, &mut hints);
     note_places(c, b.len(), &mut hints);
