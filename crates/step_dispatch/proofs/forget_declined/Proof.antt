@@ -1,14 +1,25 @@
 use Rattle.util.specs.Section.{part}
 use Rattle.protocol.specs.Station.{data-peers}
 use Rattle.protocol.specs.Handle.{forget-declined}
-use Rattle.state.specs.Unpack.{unpack, station-of}
-use Rattle.state.proofs.Access.{of-packed}
+use Rattle.state.specs.Unpack.{unpack, station-of, PackedState}
+use Rattle.state.proofs.Access.{of-packed, of-active, of-passive, of-requests, of-peer-data}
 use Rattle.state.proofs.Bridge.{on-passed, on-done}
 use Rattle.state.proofs.Fields.{put-peer-data}
 use borrow.Author.Needs.{needs}
 use Rattle.step_dispatch.proofs.Laws.{none-declined, retained}
 use Rattle.step_dispatch.proofs.forget_declined.Statement.{statement}
 use Rattle.step_dispatch.proofs.forget_declined.Tie as tie
+
+-- What forget_declined was given.
+packed : (c : tie.Start) → PackedState (c .args .st .now)
+packed c = c .pre .1
+
+-- The ways back, from a place to an earlier one.
+abbrev data-known-arg4-to-start : tie.After-data-known-arg4 → tie.Start
+data-known-arg4-to-start c = c .before .before .before .before .before .before .before .before
+
+abbrev v-to-start : tie.After-v → tie.Start
+v-to-start c = data-known-arg4-to-start (c .before .before .before .before .before .before .before)
 
 returns : tie.Need-returns
 returns c = search on-passed
@@ -51,7 +62,9 @@ part-data-known-end-4 c = search needs
 
 data-known-requires : tie.Need-data-known-requires
 unfolding part
-data-known-requires c κs = search (of-packed, needs)
+data-known-requires c κs =
+    let p = packed (data-known-arg4-to-start c) in
+    (of-peer-data _ p, (of-active _ p, (of-passive _ p, of-requests _ p)))
 
 same-length : tie.Need-same-length
 same-length c = search needs
@@ -92,7 +105,9 @@ slice-aggregate-data-peers c = search needs
 
 data-peers-requires : tie.Need-data-peers-requires
 unfolding part
-data-peers-requires c κs = search (of-packed, needs)
+data-peers-requires c κs =
+    let p = packed (v-to-start c) in
+    (of-active _ p, (of-passive _ p, (of-requests _ p, search needs)))
 
 sub-retain-data : tie.Need-sub-retain-data
 sub-retain-data c = search needs
