@@ -92,13 +92,6 @@ pub demand-3-holds : D.Demand3-holds
 demand-3-holds me g c t z vs =
     from-new (λ (s : List ℕ). Demand3 program unpack state-ok me c s vs) me g c z (λ e. demand-packed packs me (program .own g) c t e vs)
 
--- The words after a list of calls are the definition's state, packed.
-pub states-same : (me : ℕ) (g : D.Lending) (c : Config) → Given me (program .own g) → program .new-code me g c ≡ 0
-    → (vs : List Call) → state-after program vs (program .new-state me g c) ≡ pack (state-after calls.definition vs (definition.new me (program .own g) c .state))
-states-same me g c t z vs =
-    from-new (λ (s : List ℕ). state-after program vs s ≡ pack (state-after calls.definition vs (definition.new me (program .own g) c .state))) me g c z
-    (λ e. states-packed packs me (program .own g) c t e vs)
-
 pub rejoin-promise : D.Rejoin-promise
 rejoin-promise me g c t z vs =
     from-new (λ (s : List ℕ). Promised (ticks program unpack vs s)) me g c z (λ e. rejoin-packed packs me (program .own g) c t e vs)
@@ -197,6 +190,12 @@ value-packs = record {
   state = λ v g t. ap (λ (xs : List ℕ). record { words = xs }) (packs .state v g t);
   output = packs .output;
 }
+
+-- The state after a list of calls is the definition's, packed.
+pub states-same : (me : ℕ) (g : Bool × List ℕ) (c : Config) → Given me (value-program .own g) → value-program .new-code me g c ≡ 0
+    → (vs : List Call) → state-after value-program vs (value-program .new-state me g c) ≡ record { words = pack (state-after calls.definition vs (definition.new me (value-program .own g) c .state)) }
+unfolding made-state pack-made
+states-same me g c t z vs = states-packed value-packs me (value-program .own g) c t z vs
 
 pub by-value-holds : D.By-value-holds
 unfolding made-state pack-made

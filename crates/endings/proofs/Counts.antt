@@ -12,11 +12,12 @@ use Rattle.lists.specs.Lists.{choose}
 use Rattle.lists.proofs.Choice.{by-choice}
 use Rattle.histories.specs.Histories.{places, each, of-length, up-to}
 use Rattle.histories.proofs.Once.{how-many as histories-in-all}
+use Rattle.history.specs.Calls.{state-after}
 use Rattle.hyparview.specs.Queries.{neighbors-in, spare-addresses-in}
 use Rattle.hyparview.specs.declared.State.{State}
 use Rattle.endings.specs.declared.Ends.{Ends}
 use Rattle.endings.specs.Ends.{Sizes, how-many, count-ends}
-use Rattle.endings.specs.Steps.{first-state, played, after-in, sizes-in, plus, CountRoom}
+use Rattle.endings.specs.Steps.{first-state, played, sizes-in, plus, CountRoom}
 
 -- ---- one history
 
@@ -30,7 +31,7 @@ one z a p h = omega arith
 pub counted : (s : State) (c : Ends) (a p n₀ n₁ n₂ n₃ : ℕ) → a ≡ length (neighbors-in (s .words)) → p ≡ spare-addresses-in (s .words)
     → n₀ ≡ choose (eqb a 0 && eqb p 0) 1 0 → n₁ ≡ choose (eqb a 0 && eqb p 1) 1 0 → n₂ ≡ choose (eqb a 1 && eqb p 0) 1 0 → n₃ ≡ choose (eqb a 1 && eqb p 1) 1 0
     → record { neither = c .neither + n₀; passive = c .passive + n₁; active = c .active + n₂; both = c .both + n₃ } ≡ plus c (count-ends (sizes-in s) ([] ∷ []))
-unfolding plus count-ends sizes-in after-in
+unfolding plus count-ends sizes-in state-after
 counted s c a p n₀ n₁ n₂ n₃ ea ep e₀ e₁ e₂ e₃ =
     let z = sizes-in s in
     let count : (x y n : ℕ) → n ≡ choose (eqb a x && eqb p y) 1 0 → n ≡ how-many z x y ([] ∷ []) =
@@ -52,7 +53,7 @@ many-le z a p (h ∷ hs) = omega (arith, many-le z a p hs, by-choice (λ (n : �
 
 -- a history that begins with i goes on from the state after it
 many-behind : (s : State) (i a p : ℕ) (hs : List (List ℕ)) → how-many (sizes-in s) a p (map (λ h. i ∷ h) hs) ≡ how-many (sizes-in (played i s)) a p hs
-unfolding how-many sizes-in after-in
+unfolding how-many sizes-in played state-after
 many-behind s i a p [] = refl
 many-behind s i a p (h ∷ hs) = ap (λ (n : ℕ). choose (eqb (sizes-in (played i s) h .0) a && eqb (sizes-in (played i s) h .1) p) 1 0 + n) (many-behind s i a p hs)
 

@@ -1,8 +1,8 @@
 -- The events as they are written, and the state after one.
 -- Assumes nothing.
-use Prim.Native.Nat.{ℕ, zero, suc, _+_, _-_, _≤_, _<_}
+use Prim.Native.Nat.{ℕ, suc, _+_, _-_, _≤_, _<_}
 use mathlib.Core.Path.{_≡_, refl, sym, ap, subst, _∙_}
-use mathlib.Core.Bool.{Bool, true, false}
+use mathlib.Core.Bool.{true, false}
 use mathlib.Core.List.{List, [], _∷_, _++_}
 use mathlib.Core.Option.{none}
 use native.Mathlib.Omega.{arith}
@@ -12,7 +12,7 @@ use lib.Dec.{ltb, leb}
 use borrow.Author.Tests.{ltb-true, ltb-false, leb-true}
 use Rattle.lists.specs.Bytes.{overwrite}
 use Rattle.lists.specs.Tests.{every}
-use Rattle.lists.proofs.Choice.{split, choose-yes, and-left, and-right}
+use Rattle.lists.proofs.Choice.{split, choose-yes}
 use Rattle.lists.proofs.Stored.{take-stored}
 use Rattle.timing.specs.Timing.{default}
 use Rattle.timing.specs.declared.Config.{Config}
@@ -31,7 +31,7 @@ use Rattle.hyparview.specs.declared.HandledState.{HandledState}
 use Rattle.hyparview.specs.Made.{MadeWords, lent, pack-made}
 use Rattle.hyparview.specs.Handled.{Outcome, handled}
 use Rattle.demand.specs.Program.{program-outcome, made-state}
-use Rattle.endings.specs.Events.{no-data-node, event, of-peer, maintenance, quit, events, event-at, tiny, draws, output}
+use Rattle.endings.specs.Events.{no-data-node, event, of-peer, maintenance, quit, events, event-at, tiny, draws, output, passes-at}
 use Rattle.endings.specs.Steps.{first-state, played}
 
 -- ---- the writers
@@ -122,12 +122,6 @@ unfolding first-state made-state tiny
 begins d m e w = ap (λ (x : MadeWords). record { words = x .words }) (w ∙ ap (λ (x : Config). pack-made (new 1 (lent false []) (narrowed x))) e)
 
 -- ---- one event
-
-pub passes-at : (t : Rec → Bool) (d : Rec) → t d ≡ true → (es : List Rec) → every t es ≡ true → (i : ℕ) → t (getD es i d) ≡ true
-unfolding every
-passes-at t d e [] h i = e
-passes-at t d e (x ∷ xs) h zero = and-left (t x) _ h
-passes-at t d e (x ∷ xs) h (suc i) = passes-at t d e xs (and-right (t x) _ h) i
 
 -- an event has a node at most
 abbrev longest : ℕ

@@ -2,14 +2,15 @@
 -- Assumes nothing.
 use Prim.Native.Nat.{ℕ, _+_}
 use mathlib.Core.Bool.{_&&_}
-use mathlib.Core.List.{List, [], _∷_}
+use mathlib.Core.List.{List, [], _∷_, map}
 use lib.ListN.{length}
 use lib.Dec.{eqb}
 use Rattle.lists.specs.Lists.{choose}
 use Rattle.histories.specs.Histories.{up-to}
 use Rattle.protocol.specs.Station.{Station}
+use Rattle.history.specs.Calls.{definition, state-after}
 use Rattle.endings.specs.declared.Ends.{Ends}
-use Rattle.endings.specs.Events.{first, after-history}
+use Rattle.endings.specs.Events.{first, event-call}
 
 -- the sizes of the active and of the passive view at the end of a history
 abbrev pub Sizes : Type 0
@@ -25,7 +26,9 @@ count-ends z hs = record { neither = how-many z 0 0 hs; passive = how-many z 0 1
 
 -- the definition's sizes, from the station g on
 unfoldable pub sizes-after : Station → Sizes
-sizes-after g h = (length (after-history h g .active), length (after-history h g .passive))
+sizes-after g h =
+    let s = state-after definition (map event-call h) g in
+    (length (s .active), length (s .passive))
 
 -- how many events are of one peer, how many there are, and the most of a history
 abbrev pub events-of-peer : ℕ

@@ -1,16 +1,22 @@
 -- Document 02, S-13: the sixteen events in the order of the request, and the station that they are brought to.
 -- Assumes nothing.
-use Prim.Native.Nat.{ℕ}
+use Prim.Native.Nat.{ℕ, zero, suc}
+use mathlib.Core.Path.{_≡_, refl}
+use mathlib.Core.Bool.{Bool, true}
 use mathlib.Core.List.{List, [], _∷_, _++_}
 use mathlib.Core.Option.{none}
 use lib.ListN.{getD, replicate}
+use Rattle.lists.specs.Bytes.{le}
+use Rattle.lists.specs.Tests.{every}
+use Rattle.lists.proofs.Choice.{and-left, and-right}
 use Rattle.timing.specs.Timing.{default}
 use Rattle.timing.specs.declared.Config.{Config}
-use Rattle.peer.specs.Data.{Node}
-use Rattle.record.specs.Format.{Rec, encode}
+use Rattle.peer.specs.Data.{Node, bytes-of}
+use Rattle.record.specs.Format.{Rec, present, offset, entry-by, entries-by, datas, size-by, header-by, encode, encode-by}
 use Rattle.protocol.specs.Station.{Station}
+use Rattle.protocol.specs.Rules.{all-under}
 use Rattle.protocol.specs.Handle.{new}
-use Rattle.history.specs.Calls.{answered}
+use Rattle.history.specs.Calls.{Call}
 
 -- "no data": the one node of Join and Neighbor
 abbrev pub no-data-node : List Node
@@ -65,7 +71,18 @@ draws = replicate 512 0
 unfoldable pub output : List ℕ
 output = replicate 8192 0
 
--- the state after a history, by the definition
-unfoldable pub after-history : List ℕ → Station → Station
-after-history [] g = g
-after-history (e ∷ es) g = after-history es (answered (encode (event-at e)) draws output g .state)
+-- what every item of a list passes, and what stands for one past its end, the item at any place passes
+pub passes-at : (t : Rec → Bool) (d : Rec) → t d ≡ true → (es : List Rec) → every t es ≡ true → (i : ℕ) → t (getD es i d) ≡ true
+unfolding every
+passes-at t d e [] h i = e
+passes-at t d e (x ∷ xs) h zero = and-left (t x) _ h
+passes-at t d e (x ∷ xs) h (suc i) = passes-at t d e xs (and-right (t x) _ h) i
+
+-- an event is bytes, as a call asks
+pub are-bytes : (i : ℕ) → all-under 256 (encode (event-at i)) ≡ true
+unfolding event-at events of-peer encode-by header-by entries-by entry-by datas size-by bytes-of offset present le all-under every
+are-bytes i = passes-at (λ e. all-under 256 (encode e)) quit refl events refl i
+
+-- the call that brings the event at a place, so that a history is brought by `map event-call`
+abbrev pub event-call : ℕ → Call
+event-call i = record { event = encode (event-at i); are-bytes = are-bytes i; draws = draws; output = output }

@@ -1,32 +1,30 @@
 -- What the functions below the count speak of: the same histories on values of `State`.
 -- Assumes nothing.
 use Prim.Native.Nat.{ℕ, _+_, _≤_}
-use mathlib.Core.List.{List, [], _∷_}
+use mathlib.Core.List.{[], map}
 use mathlib.Core.Bool.{false}
 use lib.ListN.{length}
-use Rattle.record.specs.Format.{encode}
+use Rattle.history.specs.Calls.{state-of, state-after}
 use Rattle.hyparview.specs.Queries.{neighbors-in, spare-addresses-in}
 use Rattle.hyparview.specs.declared.State.{State}
-use Rattle.demand.specs.Program.{program-outcome, made-state}
+use Rattle.demand.specs.Program.{value-program}
 use Rattle.endings.specs.declared.Ends.{Ends}
-use Rattle.endings.specs.Events.{event-at, tiny, draws, output}
+use Rattle.endings.specs.Events.{tiny, event-call}
 use Rattle.endings.specs.Ends.{Sizes}
 
 -- what the program's `new` hands back
 unfoldable pub first-state : State
-first-state = made-state 1 false [] tiny .state
+first-state = value-program .new-state 1 (false, []) tiny
 
 -- one event
 unfoldable pub played : ℕ → State → State
-played e s = record { words = program-outcome (encode (event-at e)) draws output (s .words) .words }
+played i s = state-of value-program (event-call i) s
 
 -- a history
-unfoldable pub after-in : List ℕ → State → State
-after-in [] s = s
-after-in (e ∷ es) s = after-in es (played e s)
-
 unfoldable pub sizes-in : State → Sizes
-sizes-in s h = (length (neighbors-in (after-in h s .words)), spare-addresses-in (after-in h s .words))
+sizes-in s h =
+    let e = state-after value-program (map event-call h) s in
+    (length (neighbors-in (e .words)), spare-addresses-in (e .words))
 
 -- both counts together
 unfoldable pub plus : Ends → Ends → Ends

@@ -2,3 +2,4 @@ pub mod Handled
 pub mod Taken
 pub mod Made
 pub mod Queries
+pub mod Room

@@ -21,6 +21,7 @@ use Rattle.protocol.specs.Handle.{new}
 use Rattle.hyparview.specs.declared.MadeState.{MadeState}
 use Rattle.hyparview.specs.Made as packed
 use Rattle.hyparview.specs.Made.{lent, pack-made}
+use Rattle.hyparview.specs.Room.{output-room}
 use Rattle.run_input.specs.declared.Head.{Head}
 use Rattle.run_input.specs.declared.Input.{Input}
 use Rattle.run_input.specs.declared.Input.the-variants.{Refused, Whole}
@@ -210,15 +211,15 @@ module _ (b : List ℕ) (o : Opened) (e : o ≡ opened-run b) where
   unfolding opened-text
   line-text c h = text-is ∙ ap (λ (x : Opened). opened-text x b) h
 
-  pub whole-text : (head : Head) → o ≡ Events head → run-text b ≡ laid-text 8192 (first-place head .state .words) head b
+  pub whole-text : (head : Head) → o ≡ Events head → run-text b ≡ laid-text output-room (first-place head .state .words) head b
   unfolding opened-text
   whole-text head h = text-is ∙ ap (λ (x : Opened). opened-text x b) h
 
   pub run-line : (c : ℕ) (t r : Text) (out p : List ℕ) → o ≡ Line c → Puts (end-line c 0) t out r p → Puts (run-text b) t out r p
   run-line c t r out p h k = named (sym (line-text c h)) k
 
-  pub run-events : (head : Head) (q : Runner) (t r : Text) (out p : List ℕ) → o ≡ Events head → q ≡ first-place head → Puts (laid-text 8192 (q .state .words) head b) t out r p → Puts (run-text b) t out r p
-  run-events head q t r out p h f k = named (ap (λ (x : Runner). laid-text 8192 (x .state .words) head b) f ∙ sym (whole-text head h)) k
+  pub run-events : (head : Head) (q : Runner) (t r : Text) (out p : List ℕ) → o ≡ Events head → q ≡ first-place head → Puts (laid-text output-room (q .state .words) head b) t out r p → Puts (run-text b) t out r p
+  run-events head q t r out p h f k = named (ap (λ (x : Runner). laid-text output-room (x .state .words) head b) f ∙ sym (whole-text head h)) k
 
 events-is : (x y : Head) → _≡_ {A = Opened} (Events x) (Events y) → x ≡ y
 events-is x y e = cc

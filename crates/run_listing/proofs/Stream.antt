@@ -20,6 +20,7 @@ use Rattle.run_text.specs.Numbers.{digits-within, decimal, field}
 use Rattle.run_text.proofs.Written.{begun}
 use Rattle.run_text.specs.Lines.{four, record-line, end-line, event-text}
 use Rattle.run_text.proofs.Laws.{text-few, text-none, text-step}
+use Rattle.hyparview.specs.Room.{output-room}
 use Rattle.run_input.specs.declared.Head.{Head}
 use Rattle.run_input.specs.Input.{head-length, numbers, cut-events}
 use Rattle.run_walk.proofs.Draws.{counted}
@@ -112,11 +113,11 @@ module _ (i : ℕ) (b out : List ℕ) where
 
 -- an input with events prints what is left at their first place
 pub rest-first : (b : List ℕ) (head : Head) → opened-run b ≡ Events head
-    → run-text b ≡ rest-text 8192 (first-place head) 0 (head .events) (slice head-length (head .«draws_at») b) (numbers (head .draws) 0 (drop (head .«draws_at») b))
+    → run-text b ≡ rest-text output-room (first-place head) 0 (head .events) (slice head-length (head .«draws_at») b) (numbers (head .draws) 0 (drop (head .«draws_at») b))
 unfolding rest-text laid-text first-place
 rest-first b head e =
     let n : head .events ≡ head .events - 0 = omega arith in
-    whole-text b (opened-run b) refl head e ∙ ap (λ (x : ℕ). events-text 8192 0 (first-place head .state .words) (cut-events x (slice head-length (head .«draws_at») b)) (numbers (head .draws) 0 (drop (head .«draws_at») b))) n
+    whole-text b (opened-run b) refl head e ∙ ap (λ (x : ℕ). events-text output-room 0 (first-place head .state .words) (cut-events x (slice head-length (head .«draws_at») b)) (numbers (head .draws) 0 (drop (head .«draws_at») b))) n
 
 -- the lines of an event are its first record's and those of the output behind that record, to the first place where none is
 pub lines-step : (i code draws : ℕ) (b : List ℕ) → (first-size b ≡ 0 → ⊥) → event-text i code draws b ≡ first-line i b ++ event-text i code draws (drop (first-size b) b)

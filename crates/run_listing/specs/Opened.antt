@@ -7,6 +7,7 @@ use lib.ListN.{drop}
 use lib.Dec.{eqb}
 use Rattle.lists.specs.Lists.{choose}
 use Rattle.protocol.specs.Handle.{new}
+use Rattle.hyparview.specs.Room.{output-room}
 use Rattle.hyparview.specs.Made.{pack-made}
 use Rattle.run_input.specs.declared.Head.{Head}
 use Rattle.run_input.specs.declared.Input.{Input}
@@ -37,7 +38,7 @@ opened-run b = opened-input (input-of b)
 -- what is printed of the input b after this decision
 unfoldable pub opened-text : Opened → List ℕ → List ℕ
 opened-text (Line c) b = end-line c 0
-opened-text (Events head) b = laid-text 8192 (first-place head .state .words) head b
+opened-text (Events head) b = laid-text output-room (first-place head .state .words) head b
 
 -- what is left to print at the place p before the i-th of n events
 unfoldable pub rest-text : ℕ → Runner → ℕ → ℕ → List ℕ → List ℕ → List ℕ

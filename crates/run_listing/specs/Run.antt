@@ -8,6 +8,7 @@ use lib.Seq.{slice}
 use lib.Dec.{eqb}
 use Rattle.lists.specs.Lists.{choose}
 use Rattle.protocol.specs.Handle.{new}
+use Rattle.hyparview.specs.Room.{output-room}
 use Rattle.hyparview.specs.Made.{MadeWords, pack-made}
 use Rattle.hyparview.specs.Handled.{Outcome, handled}
 use Rattle.run_input.specs.declared.Head.{Head}
@@ -32,7 +33,7 @@ laid-text room xs head b = events-text room 0 xs (cut-events (head .events) (sli
 
 -- "otherwise out-of-range settings print only `= 1 0`"
 unfoldable pub made-text : MadeWords → Head → List ℕ → List ℕ
-made-text m head b = choose (eqb (m .code) 0) (laid-text 8192 (m .words) head b) (end-line 1 0)
+made-text m head b = choose (eqb (m .code) 0) (laid-text output-room (m .words) head b) (end-line 1 0)
 
 -- "whose events, so cut, or draws do not exactly fill their places .. prints only `= 3 0`"; "Own data is absent."
 unfoldable pub input-text : Input → List ℕ → List ℕ

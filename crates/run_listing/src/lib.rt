@@ -10,6 +10,7 @@ ghost use Prim.Native.Nat.{_≤_};
 ghost use lib.ListN.{length, drop};
 ghost use Rattle.io.specs.Counts.{Counts};
 ghost use Rattle.lists.specs.Bytes.{overwrite};
+ghost use Rattle.hyparview.specs.Room.{output-room};
 ghost use Rattle.run_input.specs.Input.{cut-events, numbers};
 ghost use Rattle.run_input.specs.Input.{Laid};
 ghost use Rattle.run_text.specs.Text.{Puts};
@@ -127,7 +128,7 @@ fn put_walk(
 // The same, with space for the draws and the output: the longest input has fewer than 16,384 draws.
 fn put_whole(s: State, b: &[u8], head: Head, out: &mut [u8], t: Text) -> Text
     requires { ⌜ Laid (now b) head ⌝ }
-    ensures { λ r. ⌜ Puts (laid-text 8192 (s .words) head (now (b .entry))) t (now (out .entry)) r (now (out .exit)) ⌝ }
+    ensures { λ r. ⌜ Puts (laid-text output-room (s .words) head (now (b .entry))) t (now (out .entry)) r (now (out .exit)) ⌝ }
 {
     let mut drawn = [0u32; run_input::DRAWS_ROOM];
     let mut records = [0u8; hyparview::OUTPUT];

@@ -3,6 +3,7 @@ use timer_map::Id;
 use timer_map::Timer;
 ghost use mathlib.Core.Path.{_≡_};
 ghost use lib.ListN.{length};
+ghost use Rattle.test_timer.specs.Call.{timer-call-bytes};
 
 // What a call is; any other number is a new queue.
 const INSERT: u64 = 0;
@@ -50,7 +51,7 @@ fn mark(b: bool) -> u64 {
 }
 
 fn show_insert(q: &mut [u64], b: &[u8])
-    requires { ⌜ length (now b) ≡ 48 ⌝ }
+    requires { ⌜ length (now b) ≡ timer-call-bytes ⌝ }
 {
     let id = Id(0, 0, 0, 0);
     let item = Timer {
@@ -124,7 +125,7 @@ fn show_new(q: &mut [u64], what: u64) {
 }
 
 fn call(q: &mut [u64], b: &[u8])
-    requires { ⌜ length (now b) ≡ 48 ⌝ }
+    requires { ⌜ length (now b) ≡ timer-call-bytes ⌝ }
 {
     let what = record::read_u64(b, 0);
     let time = record::read_u64(b, TIME);
@@ -153,7 +154,7 @@ fn call(q: &mut [u64], b: &[u8])
 
 // The next call; false where standard input has none.
 fn next_call(q: &mut [u64], b: &mut [u8]) -> bool
-    requires { ⌜ length (now b) ≡ 48 ⌝ }
+    requires { ⌜ length (now b) ≡ timer-call-bytes ⌝ }
 {
     let n = io::read_full(0, b);
     if n < CALL {

@@ -15,7 +15,7 @@ ghost use Rattle.writer.specs.Write.{rec-in};
 ghost use Rattle.timer_map.specs.Words.{entries-of, SoundQueue};
 ghost use Rattle.timer_map.specs.Calls.{packed-put};
 ghost use Rattle.timer_events.specs.Records.{no-start, started, schedule-of, timer-of, timers-in, insert-all, insert-records, records-inserted};
-ghost use Rattle.timer_events.specs.Events.{has-event, event-rec, event-popped, event-taken};
+ghost use Rattle.timer_events.specs.Events.{has-event, event-rec, refused-event, event-popped, event-taken};
 
 // The kinds of a timer in the queue; those up to the second have neither peer nor number.
 const FIRST_TIMER: u64 = Kind::DO_SHUFFLE as u64;
@@ -176,6 +176,17 @@ fn fields(e: TimerMapEntry) -> Fields
     }
 }
 
+// Without an event: none is due, or the code of a refusal.
+fn no_event(code: u32) -> PoppedEvent
+    ensures { λ r. ⌜ r ≡ refused-event code ⌝ }
+{
+    PoppedEvent {
+        code: code,
+        found: false,
+        time: 0,
+    }
+}
+
 // A due timer of a queue that keeps its rules, as an event.
 fn pop_event_ok(q: &mut [u64], limit: u64, out: &mut [u8]) -> PoppedEvent
     requires { ⌜ SoundQueue (now q) ⌝ }
@@ -198,25 +209,13 @@ fn pop_event_ok(q: &mut [u64], limit: u64, out: &mut [u8]) -> PoppedEvent
                     };
                 }
                 writer::Written::Full => {
-                    return PoppedEvent {
-                        code: Refusal::OUTPUT,
-                        found: false,
-                        time: 0,
-                    };
+                    return no_event(Refusal::OUTPUT);
                 }
             }
         }
-        return PoppedEvent {
-            code: Refusal::MALFORMED,
-            found: false,
-            time: 0,
-        };
+        return no_event(Refusal::MALFORMED);
     }
-    PoppedEvent {
-        code: 0,
-        found: false,
-        time: 0,
-    }
+    no_event(0)
 }
 
 // TimerMap::pop_before, with the entry written as the 32 bytes of its event. Code 2; 3, where the entry is none that an event record can say;
@@ -228,9 +227,5 @@ pub extern "C" fn timer_map_pop_event(q: &mut [u64], limit: u64, out: &mut [u8])
     if timer_map::queue_ok(q) {
         return pop_event_ok(q, limit, out);
     }
-    PoppedEvent {
-        code: Refusal::STATE,
-        found: false,
-        time: 0,
-    }
+    no_event(Refusal::STATE)
 }

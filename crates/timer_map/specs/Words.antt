@@ -10,6 +10,22 @@ use Rattle.lists.specs.Tests.{every}
 use Rattle.timer_map.specs.Entries.{capacity, queue-entry-ok}
 use Rattle.timer_map.specs.declared.TimerMapEntry.{TimerMapEntry}
 
+-- how many words a row has
+abbrev pub row-words : ℕ
+row-words = 8
+
+-- the place of the first row, behind the count
+abbrev pub first-row : ℕ
+first-row = 1
+
+-- the place of row i
+abbrev pub row-at : ℕ → ℕ
+row-at i = first-row + row-words * i
+
+-- the place of the last of 64 rows
+abbrev pub last-row : ℕ
+last-row = 505
+
 -- how many words a queue has
 abbrev pub queue-words : ℕ
 queue-words = 513
@@ -26,7 +42,7 @@ queue-rows (e ∷ es) = queue-row e ++ queue-rows es
 
 -- the words of a queue that holds these entries
 unfoldable pub pack-queue : List TimerMapEntry → List ℕ
-pack-queue es = length es ∷ (queue-rows es ++ replicate (512 - 8 * length es) 0)
+pack-queue es = length es ∷ (queue-rows es ++ replicate (row-words * capacity - row-words * length es) 0)
 
 -- the entry whose row stands at place `at`
 unfoldable pub queue-entry-at : List ℕ → ℕ → TimerMapEntry
@@ -43,14 +59,14 @@ queue-entry-at ws at = record {
 -- n entries whose rows stand from place `at` on
 unfoldable pub queue-entries-at : List ℕ → ℕ → ℕ → List TimerMapEntry
 queue-entries-at ws at zero = []
-queue-entries-at ws at (suc n) = queue-entry-at ws at ∷ queue-entries-at ws (at + 8) n
+queue-entries-at ws at (suc n) = queue-entry-at ws at ∷ queue-entries-at ws (at + row-words) n
 
 abbrev pub queue-count : List ℕ → ℕ
 queue-count ws = getD ws 0 0
 
 -- the entries that the words hold
 unfoldable pub entries-of : List ℕ → List TimerMapEntry
-entries-of ws = queue-entries-at ws 1 (queue-count ws)
+entries-of ws = queue-entries-at ws first-row (queue-count ws)
 
 -- an unused word
 abbrev pub unused-word : ℕ → Bool
@@ -61,7 +77,7 @@ unfoldable pub queue-ok : List ℕ → Bool
 queue-ok ws =
     eqb (length ws) queue-words
     && (leb (queue-count ws) capacity
-    && (every queue-entry-ok (entries-of ws) && every unused-word (drop (1 + 8 * queue-count ws) ws)))
+    && (every queue-entry-ok (entries-of ws) && every unused-word (drop (row-at (queue-count ws)) ws)))
 
 -- what `queue-ok` says, in facts: the words are those of the entries that they hold
 pub record SoundQueue (ws : List ℕ) : Type 0 where

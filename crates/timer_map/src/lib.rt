@@ -1,14 +1,14 @@
 // Document 02, S-1: the timer queue of util.rs, `TimerMap`, in 513 words that the caller lends.
 ghost use mathlib.Core.Path.{_≡_};
 ghost use mathlib.Core.List.{[], _∷_, _++_};
-ghost use Prim.Native.Nat.{_+_, _*_, _-_, _≤_, _<_};
+ghost use Prim.Native.Nat.{_+_, _-_, _≤_, _<_};
 ghost use lib.ListN.{length, take, drop, getD, replicate};
 ghost use lib.Dec.{ltb};
 ghost use Rattle.lists.specs.Lists.{choose, shift-remove};
 ghost use Rattle.lists.specs.Bytes.{overwrite};
 ghost use Rattle.lists.specs.Tests.{every};
-ghost use Rattle.timer_map.specs.Entries.{timer-ok, queue-entry-ok, insert-refusal, insert-timer, soonest, no-queue-entry};
-ghost use Rattle.timer_map.specs.Words.{queue-count, queue-entry-at, queue-entries-at, entries-of, queue-row, unused-word, queue-ok, pack-queue, SoundQueue};
+ghost use Rattle.timer_map.specs.Entries.{capacity, timer-ok, queue-entry-ok, insert-refusal, insert-timer, soonest, no-queue-entry};
+ghost use Rattle.timer_map.specs.Words.{row-words, first-row, row-at, last-row, queue-words, queue-count, queue-entry-at, queue-entries-at, entries-of, queue-row, unused-word, queue-ok, pack-queue, SoundQueue};
 ghost use Rattle.timer_map.specs.Calls.{packed-put, no-due, due-in, popped-words, refused-pop, inserted, taken-out, first-of, first-in, count-in, renewed};
 
 // The lent words: the count, then a row for each place. A sum is a constant of its own.
@@ -102,7 +102,7 @@ fn timer_ok(x: Timer) -> bool
 
 // The entry whose row stands at place `at`.
 fn entry_at(q: &[u64], at: usize) -> TimerMapEntry
-    requires { ⌜ at + 8 ≤ length (now q) ⌝ }
+    requires { ⌜ at + row-words ≤ length (now q) ⌝ }
     ensures { λ r. ⌜ r ≡ queue-entry-at (now (q .entry)) at ⌝ }
 {
     let id = Id(q[at + 4], q[at + 5], q[at + 6], q[at + 7]);
@@ -129,8 +129,8 @@ fn row(e: TimerMapEntry) -> [u64; ROW]
 
 // Whether the first n rows are timers.
 fn queue_entries_ok(q: &[u64], n: usize) -> bool
-    requires { ⌜ 1 + 8 * n ≤ length (now q) ⌝ }
-    ensures { λ r. ⌜ r ≡ every queue-entry-ok (queue-entries-at (now (q .entry)) 1 n) ⌝ }
+    requires { ⌜ row-at n ≤ length (now q) ⌝ }
+    ensures { λ r. ⌜ r ≡ every queue-entry-ok (queue-entries-at (now (q .entry)) first-row n) ⌝ }
 {
     let mut ok = true;
     let mut at = ROWS;
@@ -201,9 +201,9 @@ fn clear_rows(q: &mut [u64], from: usize)
 
 // The row at place `at` goes, and the later ones move down; the last row stays as it is.
 fn shift_down(q: &mut [u64], at: usize)
-    requires { ⌜ length (now q) ≡ 513 ⌝ }
-    requires { ⌜ at ≤ 505 ⌝ }
-    ensures { λ _. ⌜ now (q .exit) ≡ take at (now (q .entry)) ++ (drop (at + 8) (now (q .entry)) ++ drop 505 (now (q .entry))) ⌝ }
+    requires { ⌜ length (now q) ≡ queue-words ⌝ }
+    requires { ⌜ at ≤ last-row ⌝ }
+    ensures { λ _. ⌜ now (q .exit) ≡ take at (now (q .entry)) ++ (drop (at + row-words) (now (q .entry)) ++ drop last-row (now (q .entry))) ⌝ }
 {
     let mut k = at;
     while k < LAST_ROW {
@@ -215,7 +215,7 @@ fn shift_down(q: &mut [u64], at: usize)
 // One more entry, at the end.
 fn push_entry(q: &mut [u64], e: TimerMapEntry)
     requires { ⌜ SoundQueue (now q) ⌝ }
-    requires { ⌜ queue-count (now q) < 64 ⌝ }
+    requires { ⌜ queue-count (now q) < capacity ⌝ }
     ensures { λ _. ⌜ now (q .exit) ≡ pack-queue (entries-of (now (q .entry)) ++ (e ∷ [])) ⌝ }
 {
     let n = q[COUNT];
@@ -297,9 +297,9 @@ pub extern "C" fn timer_map_insert(q: &mut [u64], time: u64, delay: u64, item: T
 
 // The one of two places whose row is due earlier; where both are due at one time, the one that stood first.
 fn earlier(q: &[u64], best: usize, i: usize) -> usize
-    requires { ⌜ 9 + 8 * best ≤ length (now q) ⌝ }
-    requires { ⌜ 9 + 8 * i ≤ length (now q) ⌝ }
-    ensures { λ r. ⌜ r ≡ choose (ltb (getD (now (q .entry)) (1 + 8 * i) 0) (getD (now (q .entry)) (1 + 8 * best) 0)) i best ⌝ }
+    requires { ⌜ row-at best + row-words ≤ length (now q) ⌝ }
+    requires { ⌜ row-at i + row-words ≤ length (now q) ⌝ }
+    ensures { λ r. ⌜ r ≡ choose (ltb (getD (now (q .entry)) (row-at i) 0) (getD (now (q .entry)) (row-at best) 0)) i best ⌝ }
 {
     let old = ROWS + ROW * best;
     let new = ROWS + ROW * i;
@@ -311,9 +311,9 @@ fn earlier(q: &[u64], best: usize, i: usize) -> usize
 
 // The place of the first of n entries with the smallest due time.
 fn soonest(q: &[u64], n: usize) -> usize
-    requires { ⌜ 1 + 8 * n ≤ length (now q) ⌝ }
+    requires { ⌜ row-at n ≤ length (now q) ⌝ }
     requires { ⌜ 0 < n ⌝ }
-    ensures { λ r. ⌜ (r ≡ soonest (queue-entries-at (now (q .entry)) 1 n)) × (r < n) ⌝ }
+    ensures { λ r. ⌜ (r ≡ soonest (queue-entries-at (now (q .entry)) first-row n)) × (r < n) ⌝ }
 {
     let mut best: usize = 0;
     let mut i: usize = 0;

@@ -21,6 +21,7 @@ use Rattle.hyparview.specs.Made.{lent, pack-made}
 use Rattle.hyparview.specs.declared.State.{State}
 use Rattle.hyparview.specs.declared.MadeState.{MadeState}
 use Rattle.hyparview.specs.Handled.{handled}
+use Rattle.hyparview.specs.Room.{output-room}
 use Rattle.run_input.specs.declared.Head.{Head}
 use Rattle.run_input.specs.declared.Input.{Input}
 use Rattle.run_input.specs.declared.Input.the-variants.{Refused, Whole}
@@ -38,11 +39,11 @@ use Rattle.trace_replay.specs.Ending.{Counting, room-of, counting, words
 -- ---- the room
 
 module _ (start : TraceStart) where
-  pub room-given : start .room ≤ 8192 → start .room ≡ room-of start
+  pub room-given : start .room ≤ output-room → start .room ≡ room-of start
   unfolding room-of
   room-given h = omega (arith, h)
 
-  pub room-most : 8192 < start .room → 8192 ≡ room-of start
+  pub room-most : output-room < start .room → output-room ≡ room-of start
   unfolding room-of
   room-most h = omega (arith, h)
 

@@ -13,6 +13,7 @@ use Rattle.protocol.specs.Setters.{set-passes-alone, set-passes-short, set-next
 use Rattle.protocol.specs.Handle.{Made, new, zero-station}
 use Rattle.rules.specs.Pack.{pack}
 use Rattle.hyparview.specs.declared.State.{State}
+use Rattle.hyparview.specs.Room.{output-room}
 use Rattle.hyparview.specs.Handled.{handled}
 use Rattle.run_input.specs.declared.Head.{Head}
 use Rattle.run_input.specs.declared.Input.{Input}
@@ -23,7 +24,7 @@ use Rattle.trace_replay.specs.declared.Ended.{Ended}
 
 -- the bytes of output lent to each event: "8,192 output bytes .. always suffice", and no more are there
 unfoldable pub room-of : TraceStart → ℕ
-room-of start = min (start .room) 8192
+room-of start = min (start .room) output-room
 
 -- the station g with the counters of a start
 unfoldable pub counting : TraceStart → Station → Station

@@ -13,6 +13,7 @@ ghost use Prim.Native.Nat.{_≤_};
 ghost use Rattle.io.specs.Counts.{Counts};
 ghost use Rattle.protocol.specs.Handle.{new, zero-station};
 ghost use Rattle.rules.specs.Pack.{pack};
+ghost use Rattle.hyparview.specs.Room.{output-room};
 ghost use Rattle.run_input.specs.Input.{numbers, cut-events};
 ghost use Rattle.run_input.specs.Input.{Laid};
 ghost use Rattle.run_walk.specs.Place.{passed};
@@ -41,7 +42,7 @@ pub struct TraceStart {
 impl TraceStart {
     // The run program's: 8,192 bytes of room, and a new station's own counters.
     pub fn usual() -> TraceStart
-        ensures { λ r. ⌜ r ≡ record { room = 8192; «next_neighbor_request» = 0; «next_join» = 0; «passes_alone» = 0; «passes_short» = 0 } ⌝ }
+        ensures { λ r. ⌜ r ≡ record { room = output-room; «next_neighbor_request» = 0; «next_join» = 0; «passes_alone» = 0; «passes_short» = 0 } ⌝ }
     {
         TraceStart {
             room: hyparview::OUTPUT,
@@ -68,7 +69,7 @@ fn with_counters(s: State, start: TraceStart) -> State
 // The room for output, and no more than there is.
 fn room_of(start: TraceStart) -> usize
     ensures { λ r. ⌜ r ≡ room-of start ⌝ }
-    ensures { λ r. ⌜ r ≤ 8192 ⌝ }
+    ensures { λ r. ⌜ r ≤ output-room ⌝ }
 {
     if start.room <= hyparview::OUTPUT {
         return start.room;
@@ -168,7 +169,7 @@ fn walk(s: State, b: &[u8], head: Head, drawn: &[u32], out: &mut [u8], text: &mu
 // The same, with the space: the longest input has fewer than 16,384 draws, and the longest text is under 32,768 bytes.
 fn with_space(s: State, b: &[u8], head: Head, room: usize) -> State
     requires { ⌜ Laid (now b) head ⌝ }
-    requires { ⌜ room ≤ 8192 ⌝ }
+    requires { ⌜ room ≤ output-room ⌝ }
     ensures { λ r. ⌜ r .words ≡ laid-words room (s .words) head (now (b .entry)) ⌝ }
 {
     let mut drawn = [0u32; run_input::DRAWS_ROOM];

@@ -2,11 +2,12 @@ use Prim.Native.Nat.{_≤_}
 use mathlib.Core.Path.{_≡_}
 use borrow.Author.Needs.{needs}
 use lib.ListN.{length}
+use Rattle.test_timer.specs.Call.{timer-call-bytes}
 use Rattle.test_timer.proofs.main.Statement.{statement}
 use Rattle.test_timer.proofs.main.Tie as tie
 
 abbrev Inv-loop : tie.InvT-loop
-Inv-loop q₀ b₀ left₀ q b left = (left ≤ left₀) × (length b ≡ 48)
+Inv-loop q₀ b₀ left₀ q b left = (left ≤ left₀) × (length b ≡ timer-call-bytes)
 
 abbrev μ-loop : tie.MeasureT-loop
 μ-loop q₀ b₀ left₀ q b left = left

@@ -35,6 +35,9 @@ returns c = search took-event
 enum-told-2 : tie.Need-enum-told-2
 enum-told-2 c = search needs
 
+no-event-requires : tie.Need-no-event-requires
+no-event-requires c κs = search needs
+
 same-length-3 : tie.Need-same-length-3
 same-length-3 c = search needs
 
@@ -44,11 +47,17 @@ same-length-4 c = search needs
 returns-2 : tie.Need-returns-2
 returns-2 c = search took-full
 
+no-event-requires-2 : tie.Need-no-event-requires-2
+no-event-requires-2 c κs = search needs
+
 same-length-5 : tie.Need-same-length-5
 same-length-5 c = search needs
 
 returns-3 : tie.Need-returns-3
 returns-3 c = search took-malformed
+
+no-event-requires-3 : tie.Need-no-event-requires-3
+no-event-requires-3 c κs = search needs
 
 same-length-6 : tie.Need-same-length-6
 same-length-6 c = search needs
@@ -70,10 +79,13 @@ pop-event-ok-spec =
     same-length-2
     returns
     enum-told-2
+    no-event-requires
     same-length-3
     same-length-4
     returns-2
+    no-event-requires-2
     same-length-5
     returns-3
+    no-event-requires-3
     same-length-6
     returns-4)

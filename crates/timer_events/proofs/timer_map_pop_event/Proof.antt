@@ -19,6 +19,9 @@ same-length-2 c = search needs
 returns : tie.Need-returns
 returns c = search event-asked
 
+no-event-requires : tie.Need-no-event-requires
+no-event-requires c κs = search needs
+
 same-length-3 : tie.Need-same-length-3
 same-length-3 c = search needs
 
@@ -34,5 +37,6 @@ timer-map-pop-event-spec =
     same-length
     same-length-2
     returns
+    no-event-requires
     same-length-3
     returns-2)
