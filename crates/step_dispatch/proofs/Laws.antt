@@ -1,32 +1,24 @@
 -- Laws of what an event starts from, of its first timers and of the steps in a row.
 -- Assumes nothing.
 use Prim.Native.Nat.{ℕ, _≤_}
-use Rattle.columns.specs.Columns.{HoldsDataWords}
 use Rattle.step_dispatch.specs.Begun.{Opens}
-use Rattle.lists.specs.Lists.{subset}
-use Rattle.lists.specs.Maps.{keys, retain}
-use Rattle.lists.proofs.Maps.{retain-all}
 use Rattle.protocol.proofs.Keeping.{ease}
 use Rattle.protocol.specs.Budgets.{arriving}
 use Rattle.protocol.specs.Handle.{note-scheduled, first-timers, dispatch, forget-declined, steps}
 use Rattle.protocol.specs.Run.{Run, on}
-use Rattle.protocol.specs.Setters.{set-peer-data}
-use Rattle.protocol.specs.Station.{data-peers}
 use Rattle.protocol.specs.Timers.{schedule-shuffle, schedule-maintenance}
 use Rattle.record.specs.Format.{Rec}
 use Rattle.state.proofs.Any.{then-tell-any}
 use Rattle.state.proofs.Bridge.{still, taken, left, then, seq}
 use Rattle.state.specs.Layout as layout
-use Rattle.state.specs.Unpack.{station-of, unpack, Becomes}
+use Rattle.state.specs.Unpack.{station-of, unpack}
 use Rattle.state.specs.Work.{Held, work-of, run, Changes, Fine, Does, TellsAny}
 use Rattle.state.specs.declared.Work.{Work}
 use Rattle.step_events.specs.Free.{KnownJoins}
 use Rattle.step_messages.specs.Between.{Between}
-use Rattle.util.specs.Section.{items-at, HoldsSet}
 use borrow.Author.Tests.{eq-eqb, ne-eqb}
 use mathlib.Core.List.{List}
-use mathlib.Core.Path.{_≡_, sym, ap, _∙_, subst}
-use mathlib.Core.Bool.{Bool, true}
+use mathlib.Core.Path.{_≡_, sym, _∙_}
 use native.Mathlib.Omega.{arith}
 
 pub between-less : (b c d e : ℕ) (g : Run) → c ≤ b → e ≤ d → Between 0 b d g → Between 0 c e g
@@ -44,17 +36,6 @@ opens-join x w xs ds out k e n o =
 pub stepped : (w a b r : Held) (ds out o₁ o : List ℕ) (e : Rec) → Changes (on forget-declined) b r → Does b ds o (first-timers (run a ds o₁)) → Does a ds o₁ (dispatch e (run w ds out)) → Does r ds o (steps e (run w ds out))
 unfolding steps
 stepped w a b r ds out o₁ o e k₃ k₂ k₁ = then k₃ (seq first-timers k₂ k₁)
-
--- where all data is of peers in a view or with an open request, the last step changes nothing
-pub none-declined : (xs : List ℕ) (b : Bool) → b ≡ subset (keys (unpack xs .peer-data)) (data-peers (unpack xs)) → b ≡ true → Becomes xs (unpack xs) → Becomes xs (forget-declined (unpack xs))
-unfolding forget-declined
-none-declined xs b q e k =
-    let s = unpack xs in
-    record { packed = k .packed; same = k .same ∙ ap (λ (l : List (ℕ × List ℕ)). set-peer-data l s) (sym (retain-all (data-peers s) (s .peer-data) (sym q ∙ e))) }
-
--- the data that a working set of peers retains
-pub retained : (m v ps : List ℕ) (l : List (ℕ × List ℕ)) → HoldsDataWords 80 m (retain (items-at 72 v) l) → HoldsSet 72 v ps → HoldsDataWords 80 m (retain ps l)
-retained m v ps l h k = subst (λ (qs : List ℕ). HoldsDataWords 80 m (retain qs l)) (k .items) h
 
 module _ (w : Work) (xs ds out : List ℕ) (v : Fine (work-of w xs) ds out) where
   pub timers-run : layout.timers-scheduled xs ≡ 1 → Does (work-of w xs) ds out (first-timers (run (work-of w xs) ds out))

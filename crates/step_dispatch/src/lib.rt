@@ -11,7 +11,7 @@ ghost use lib.ListN.{length};
 ghost use Rattle.record.specs.Read.{rec-of};
 ghost use Rattle.protocol.specs.Budgets.{arriving};
 ghost use Rattle.protocol.specs.Run.{on};
-ghost use Rattle.protocol.specs.Handle.{note-scheduled, first-timers, forget-declined, handle-message, dispatch, steps};
+ghost use Rattle.protocol.specs.Handle.{note-scheduled, first-timers, handle-message, dispatch, steps};
 ghost use Rattle.state.specs.Layout.{words};
 ghost use Rattle.state.specs.Unpack.{PackedState};
 ghost use Rattle.state.specs.Work.{work-of, run, Changes, Fine, Does};
@@ -159,40 +159,6 @@ fn first_timers(w: Work, st: &mut [u64], draws: &[u32], out: &mut [u8]) -> Work
     step_maintenance::schedule_maintenance(b, out)
 }
 
-// 02, S-5: the data of a peer in neither view and without an open request goes, where the event is accepted.
-fn forget_declined(w: Work, st: &mut [u64]) -> Work
-    requires { ⌜ length (now st) ≡ words ⌝ }
-    requires { ⌜ PackedState (now st) ⌝ }
-    ensures { λ r. ⌜ Changes (on forget-declined) (work-of w (now (st .entry))) (work-of r (now (st .exit))) ⌝ }
-{
-    if w.code != 0 {
-        return w;
-    }
-    if columns::data_known(
-        &st[Layout::HELD..Layout::HELD_END],
-        Layout::DATA_CAP,
-        &st[Layout::ACTIVE..Layout::ACTIVE_END],
-        &st[Layout::PASSIVE..Layout::PASSIVE_END],
-        &st[Layout::ASKED..Layout::ASKED_END],
-    ) {
-        return w;
-    }
-    let mut v = [0u64; columns::KNOWN + 1];
-    columns::data_peers(
-        &st[Layout::ACTIVE..Layout::ACTIVE_END],
-        &st[Layout::PASSIVE..Layout::PASSIVE_END],
-        &st[Layout::ASKED..Layout::ASKED_END],
-        &mut v,
-    );
-    columns::retain_data(
-        &mut st[Layout::HELD..Layout::HELD_END],
-        Layout::DATA_CAP,
-        &v,
-        columns::KNOWN,
-    );
-    w
-}
-
 // The steps of one event.
 pub fn steps(w: Work, st: &mut [u64], draws: &[u32], out: &mut [u8], b: &[u8], h: Header) -> Work
     requires { ⌜ length (now st) ≡ words ⌝ }
@@ -204,5 +170,5 @@ pub fn steps(w: Work, st: &mut [u64], draws: &[u32], out: &mut [u8], b: &[u8], h
 {
     let a = dispatch(w, st, draws, out, b, h);
     let c = first_timers(a, st, draws, out);
-    forget_declined(c, st)
+    step_peers::forget_declined(c, st)
 }

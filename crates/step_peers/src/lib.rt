@@ -17,6 +17,7 @@ ghost use Rattle.peer.specs.Held.{data-in, ValidData};
 ghost use Rattle.protocol.specs.Peers.{is-known, data-fits, must-evict, is-newcomer, is-marked};
 ghost use Rattle.protocol.specs.Peers.{keep-data, announce-data, insert-data, insert-peer-info, forget-peer, evict-at, evicted, make-room, enter-passive, evicted-for, add-passive, evicted-by, drop-passive};
 ghost use Rattle.protocol.specs.Peers.{store-data, drop-data, drop-mark, drop-traces, shift-passive, push-passive, remove-passive};
+ghost use Rattle.protocol.specs.Handle.{forget-declined};
 ghost use Rattle.state.specs.Layout.{words};
 ghost use Rattle.state.specs.Unpack.{unpack, PackedState};
 ghost use Rattle.state.specs.Work.{work-of, Changes, Room, Tells, TellsAny, Fine, run};
@@ -366,4 +367,38 @@ pub fn add_passive(
 {
     let a = insert_peer_info(w, st, out, p, d);
     enter_passive(a, st, draws, out, p)
+}
+
+// 02, S-5: the data of a peer in neither view and without an open request goes, where the event is accepted.
+pub fn forget_declined(w: Work, st: &mut [u64]) -> Work
+    requires { ⌜ length (now st) ≡ words ⌝ }
+    requires { ⌜ PackedState (now st) ⌝ }
+    ensures { λ r. ⌜ Changes (on forget-declined) (work-of w (now (st .entry))) (work-of r (now (st .exit))) ⌝ }
+{
+    if w.code != 0 {
+        return w;
+    }
+    if columns::data_known(
+        &st[Layout::HELD..Layout::HELD_END],
+        Layout::DATA_CAP,
+        &st[Layout::ACTIVE..Layout::ACTIVE_END],
+        &st[Layout::PASSIVE..Layout::PASSIVE_END],
+        &st[Layout::ASKED..Layout::ASKED_END],
+    ) {
+        return w;
+    }
+    let mut v = [0u64; columns::KNOWN + 1];
+    columns::data_peers(
+        &st[Layout::ACTIVE..Layout::ACTIVE_END],
+        &st[Layout::PASSIVE..Layout::PASSIVE_END],
+        &st[Layout::ASKED..Layout::ASKED_END],
+        &mut v,
+    );
+    columns::retain_data(
+        &mut st[Layout::HELD..Layout::HELD_END],
+        Layout::DATA_CAP,
+        &v,
+        columns::KNOWN,
+    );
+    w
 }

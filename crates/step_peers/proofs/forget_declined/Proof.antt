@@ -6,9 +6,9 @@ use Rattle.state.proofs.Access.{of-packed, of-active, of-passive, of-requests, 
 use Rattle.state.proofs.Bridge.{on-passed, on-done}
 use Rattle.state.proofs.Fields.{put-peer-data}
 use borrow.Author.Needs.{needs}
-use Rattle.step_dispatch.proofs.Laws.{none-declined, retained}
-use Rattle.step_dispatch.proofs.forget_declined.Statement.{statement}
-use Rattle.step_dispatch.proofs.forget_declined.Tie as tie
+use Rattle.step_peers.proofs.Declined.{none-declined, retained}
+use Rattle.step_peers.proofs.forget_declined.Statement.{statement}
+use Rattle.step_peers.proofs.forget_declined.Tie as tie
 
 -- What forget_declined was given.
 packed : (c : tie.Start) → PackedState (c .args .st .now)
