@@ -354,7 +354,7 @@ pub fn data_known(m: &[u64], cap: usize, active: &[u64], passive: &[u64], reques
     scan::subset_of_three(&m[..n], &active[..i], &passive[..j], &requests[..k])
 }
 
-// Only the data of the peers that are in the set; mostly all are, and nothing moves.
+// Only the data of the peers that are in the set.
 pub fn retain_data(m: &mut [u64], cap: usize, s: &[u64], scap: usize)
     requires { ⌜ ValidDataWords cap (now m) ⌝ }
     requires { ⌜ ValidSet scap (now s) ⌝ }

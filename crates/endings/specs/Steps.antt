@@ -20,7 +20,7 @@ first-state = value-program .new-state 1 (false, []) tiny
 unfoldable pub played : ℕ → State → State
 played i s = state-of value-program (event-call i) s
 
--- a history
+-- the sizes of both views after a history of the program, from the state s on
 unfoldable pub sizes-in : State → Sizes
 sizes-in s h =
     let e = state-after value-program (map event-call h) s in

@@ -9,7 +9,6 @@ use borrow.Author.Tests.{eq-eqb, ne-eqb}
 use Rattle.lists.proofs.Choice.{choose-yes, choose-no}
 use Rattle.peer.specs.Data.{Data}
 use Rattle.timing.specs.declared.Config.{Config}
-use Rattle.protocol.specs.Run.{on}
 use Rattle.protocol.specs.Handle.{new}
 use Rattle.hyparview.specs.Made.{MadeWords, made, pack-made}
 use Rattle.state.specs.declared.Work.{Work}

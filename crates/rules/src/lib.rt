@@ -346,7 +346,7 @@ fn held_rule(st: &[u64]) -> bool
     )
 }
 
-// Every station rule. That sets and maps have room and data are short is so of all well formed words.
+// Every station rule. That sets and maps have room, bootstrap and recent peers are few and data are short is so of all well formed words.
 fn keeps_rules(st: &[u64]) -> bool
     requires { ⌜ length (now st) ≡ words ⌝ }
     requires { ⌜ packed-ok (now st) ≡ true ⌝ }

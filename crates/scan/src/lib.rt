@@ -1,5 +1,5 @@
 // Tests of a whole list of 64-bit words that is lent. `no_bits`, `is_in` and `rising` look at every word, so that the compiler makes vector code. The loops that
-// go by a table at the low byte are no vector code: `disjoint` and `distinct` stop at the first word that fails, and `found` and `found_of_three` at the place noted.
+// go by a table at the low byte are no vector code: `disjoint` and `distinct` stop at the first word that fails, `subset` and `subset_of_three` look for each word first at the place noted.
 ghost use mathlib.Core.Path.{_≡_};
 ghost use mathlib.Core.Bool.{true};
 ghost use mathlib.Core.List.{_++_};

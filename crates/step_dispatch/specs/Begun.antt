@@ -1,14 +1,13 @@
 -- What the steps of one event start from.
 -- Assumes nothing.
-use Prim.Native.Nat.{ℕ, _≤_}
+use Prim.Native.Nat.{ℕ}
 use mathlib.Core.Path.{_≡_}
 use mathlib.Core.Bool.{true}
 use mathlib.Core.List.{List}
 use lib.Dec.{eqb}
 use Rattle.lists.specs.Lists.{choose}
 use Rattle.record.specs.declared.Header.{Header}
-use Rattle.record.specs.Format.{most-nodes}
-use Rattle.record.specs.Read.{well-formed, header-of, rec-of, event, read-event}
+use Rattle.record.specs.Read.{well-formed, header-of}
 use Rattle.protocol.specs.Budgets.{arriving}
 use Rattle.protocol.specs.Run.{Run}
 use Rattle.protocol.specs.Timers.{handle-shuffle-timer, handle-maintenance-timer, handle-pending-neighbor-timer, retry-join}

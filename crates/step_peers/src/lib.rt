@@ -1,4 +1,4 @@
-// What the station holds of other peers: their data, and the passive view (the definition's `Peers`).
+// What the station holds of other peers: their data, and the passive view (the definition's `Peers`, and `forget-declined` of its `Handle`).
 use peer::PeerData;
 use peer::PeerId;
 use peer::PeerInfo;

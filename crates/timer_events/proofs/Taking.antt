@@ -20,7 +20,7 @@ use Rattle.timer_map.specs.declared.TimerMapEntry.{TimerMapEntry}
 use Rattle.timer_map.specs.declared.Due.{Due}
 use Rattle.timer_map.proofs.Ways.{due-yes, due-no, due-is}
 use Rattle.timer_events.specs.declared.PoppedEvent.{PoppedEvent}
-use Rattle.timer_events.specs.Events.{has-event, event-rec, Taken, refused-event, untaken, event-popped, event-taken}
+use Rattle.timer_events.specs.Events.{has-event, event-rec, Taken, without-event, untaken, event-popped, event-taken}
 
 -- what a writer's answer says
 wrote-fits : (r : Rec) (out : List ℕ) (w : Written) (n : ℕ) → w ≡ reached r 0 out → w ≡ At n → fits r 0 (length out) ≡ true
@@ -63,7 +63,7 @@ module _ (limit : ℕ) (es : List TimerMapEntry) (out : List ℕ) where
   an-event d h f = choose-yes _ _ _ d ∙ choose-yes _ _ _ h ∙ choose-yes _ _ _ f
 
 module _ (ws : List ℕ) (limit : ℕ) (out : List ℕ) (v : SoundQueue ws) (d : Due) (e : d ≡ due-in limit (entries-of ws)) where
-  pub took-none : (a : PoppedEvent) → a ≡ refused-event 0 → d .found ≡ false → record { answer = a; words = ws; output = out } ≡ event-popped limit (entries-of ws) out
+  pub took-none : (a : PoppedEvent) → a ≡ without-event 0 → d .found ≡ false → record { answer = a; words = ws; output = out } ≡ event-popped limit (entries-of ws) out
   took-none a p t = (λ i. record { answer = p i; words = v .is i; output = out }) ∙ sym (none-event limit (entries-of ws) out (due-no limit (entries-of ws) d e t))
 
   module _ (t : d .found ≡ true) (b : Bool) (h : b ≡ has-event (d .entry)) where
@@ -79,14 +79,14 @@ module _ (ws : List ℕ) (limit : ℕ) (out : List ℕ) (v : SoundQueue ws) (d :
     has : b ≡ has-event (first-entry (entries-of ws))
     has = h ∙ ap has-event entry-is
 
-    pub took-malformed : (a : PoppedEvent) → a ≡ refused-event 3 → b ≡ false → record { answer = a; words = ws; output = out } ≡ event-popped limit (entries-of ws) out
+    pub took-malformed : (a : PoppedEvent) → a ≡ without-event 3 → b ≡ false → record { answer = a; words = ws; output = out } ≡ event-popped limit (entries-of ws) out
     took-malformed a p u = (λ i. record { answer = p i; words = v .is i; output = out }) ∙ sym (no-event limit (entries-of ws) out due (sym has ∙ u))
 
     module _ (f : Fields) (w : Written) (o : List ℕ) (u : b ≡ true) (r : rec-in f [] ≡ event-rec (d .entry)) (k : Wrote (rec-in f []) 0 out w o) where
       rec-is : rec-in f [] ≡ event-rec (first-entry (entries-of ws))
       rec-is = r ∙ ap event-rec entry-is
 
-      pub took-full : (a : PoppedEvent) → a ≡ refused-event 9 → w ≡ Full → record { answer = a; words = ws; output = o } ≡ event-popped limit (entries-of ws) out
+      pub took-full : (a : PoppedEvent) → a ≡ without-event 9 → w ≡ Full → record { answer = a; words = ws; output = o } ≡ event-popped limit (entries-of ws) out
       took-full a s p =
           let n : fits (rec-in f []) 0 (length out) ≡ false = wrote-full (rec-in f []) out w (k .answer) p in
           (λ i. record { answer = s i; words = v .is i; output = (k .bytes ∙ unwritten (rec-in f []) out n) i })
@@ -107,6 +107,6 @@ module _ (ws : List ℕ) (limit : ℕ) (out : List ℕ) (b : Bool) (e : b ≡ qu
   unfolding event-taken
   event-asked r t p = p ∙ sym (choose-yes _ _ _ (sym e ∙ t))
 
-  pub event-broken : (a : PoppedEvent) → a ≡ refused-event 2 → b ≡ false → record { answer = a; words = ws; output = out } ≡ event-taken limit ws out
+  pub event-broken : (a : PoppedEvent) → a ≡ without-event 2 → b ≡ false → record { answer = a; words = ws; output = out } ≡ event-taken limit ws out
   unfolding event-taken
   event-broken a p t = ap (λ (y : PoppedEvent). record { answer = y; words = ws; output = out }) p ∙ sym (choose-no _ _ _ (sym e ∙ t))

@@ -31,12 +31,12 @@ pub record Taken : Type 0 where
   pub output : List ℕ
 
 -- without an event: none is due (code 0), or a refusal
-abbrev pub refused-event : ℕ → PoppedEvent
-refused-event code = record { code = code; found = false; time = 0 }
+abbrev pub without-event : ℕ → PoppedEvent
+without-event code = record { code = code; found = false; time = 0 }
 
 -- and then nothing changes
 abbrev pub untaken : ℕ → List ℕ → List ℕ → Taken
-untaken code ws out = record { answer = refused-event code; words = ws; output = out }
+untaken code ws out = record { answer = without-event code; words = ws; output = out }
 
 -- the first due entry goes, and its event is written: 3 where it has none, then 9 where it does not fit
 unfoldable pub event-popped : ℕ → List TimerMapEntry → List ℕ → Taken

@@ -15,7 +15,7 @@ ghost use Rattle.writer.specs.Write.{rec-in};
 ghost use Rattle.timer_map.specs.Words.{entries-of, SoundQueue};
 ghost use Rattle.timer_map.specs.Calls.{packed-put};
 ghost use Rattle.timer_events.specs.Records.{no-start, started, schedule-of, timer-of, timers-in, insert-all, insert-records, records-inserted};
-ghost use Rattle.timer_events.specs.Events.{has-event, event-rec, refused-event, event-popped, event-taken};
+ghost use Rattle.timer_events.specs.Events.{has-event, event-rec, without-event, event-popped, event-taken};
 
 // The kinds of a timer in the queue; those up to the second have neither peer nor number.
 const FIRST_TIMER: u64 = Kind::DO_SHUFFLE as u64;
@@ -178,7 +178,7 @@ fn fields(e: TimerMapEntry) -> Fields
 
 // Without an event: none is due, or the code of a refusal.
 fn no_event(code: u32) -> PoppedEvent
-    ensures { λ r. ⌜ r ≡ refused-event code ⌝ }
+    ensures { λ r. ⌜ r ≡ without-event code ⌝ }
 {
     PoppedEvent {
         code: code,

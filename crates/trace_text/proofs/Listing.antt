@@ -11,7 +11,7 @@ use Rattle.lists.proofs.Entries.{getD-mapped}
 use Rattle.peer.specs.Maps.{no-data, entry-bytes}
 use Rattle.util.specs.Section.{part, items-at}
 use Rattle.util.proofs.Parts.{part-long, part-read}
-use Rattle.columns.specs.Columns.{numbers-at, word-bytes, row, rows, head-of, tail-of, count-of, entries-at, data-map-at}
+use Rattle.columns.specs.Columns.{numbers-at, word-bytes, row, head-of, tail-of, count-of, entries-at, data-map-at}
 use Rattle.columns.proofs.Data.{head-long, tail-long, head-read, low-read, high-read}
 use Rattle.columns.proofs.Rows.{length-rows, getD-rows}
 use Rattle.state.specs.Layout.{data-places}

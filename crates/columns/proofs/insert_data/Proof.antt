@@ -1,3 +1,4 @@
+use Rattle.peer.specs.Held.{ValidData}
 use mathlib.Core.Path.{_≡_}
 use mathlib.Core.Bool.{true, _||_}
 use lib.Dec.{ltb}
@@ -16,6 +17,9 @@ valid-words c = c .pre .0
 
 room : (c : tie.Start) → (has (c .args .p) (data-map-at (c .args .cap) (c .args .m .now)) || ltb (length (data-map-at (c .args .cap) (c .args .m .now))) (c .args .cap)) ≡ true
 room c = c .pre .1 .1
+
+valid-data : (c : tie.Start) → ValidData (c .args .d)
+valid-data c = c .pre .1 .0
 
 -- The ways back, from a place to an earlier one.
 abbrev word-at-to-start : tie.After-word-at → tie.Start
@@ -182,7 +186,7 @@ returns-2 c =
     let at-word-at2 = at-find .before .before in
     let at-word-at = at-word-at2 .before in
     let start = word-at-to-start at-word-at in
-    data-inserted _ _ (valid-words start) _ _ (at-find .find .ensures .0) _ _ _ (start .pre .1 .0) (at-word-at .word-at .ensures .0) (at-word-at2 .word-at2 .ensures .0) _ _ _ (at-if1 .if1 .left) (room start) (at-rank-of .rank-of .ensures .0) (at-in-two .in-two .ensures) (at-in-two2 .in-two2 .ensures)
+    data-inserted _ _ (valid-words start) _ _ (at-find .find .ensures .0) _ _ _ (valid-data start) (at-word-at .word-at .ensures .0) (at-word-at2 .word-at2 .ensures .0) _ _ _ (at-if1 .if1 .left) (room start) (at-rank-of .rank-of .ensures .0) (at-in-two .in-two .ensures) (at-in-two2 .in-two2 .ensures)
 
 pub insert-data-spec : {M : Type 1} → statement M
 insert-data-spec =

@@ -1,8 +1,13 @@
+use Rattle.columns.specs.Columns.{ValidNumbers, valid-numbers}
 use Rattle.util.specs.Section.{part}
 use Rattle.columns.proofs.Numbers.{number-inside, number-count, number-column, numbers-long, second-filled, cut-kept, removed}
 use borrow.Author.Needs.{needs}
 use Rattle.columns.proofs.remove_number.Statement.{statement}
 use Rattle.columns.proofs.remove_number.Tie as tie
+
+-- What remove_number was given.
+valid-numbers : (c : tie.Start) → ValidNumbers (c .args .cap) (c .args .m .now)
+valid-numbers c = c .pre
 
 -- The ways back, from a place to an earlier one.
 abbrev take-out-to-start : tie.After-take-out → tie.Start
@@ -77,7 +82,7 @@ same-length-2 c =
     let at-take-out2 = c .before .before in
     let at-take-out = at-take-out2 .before .before .before .before in
     let start = take-out-to-start at-take-out in
-    numbers-long _ _ _ _ _ _ _ (at-take-out .take-out .ensures) (at-take-out2 .take-out2 .ensures) (start .pre)
+    numbers-long _ _ _ _ _ _ _ (at-take-out .take-out .ensures) (at-take-out2 .take-out2 .ensures) (valid-numbers start)
 
 returns-2 : tie.Need-returns-2
 unfolding part

@@ -1,3 +1,7 @@
+use Prim.Native.Nat.{_<_}
+use Rattle.protocol.specs.Station.{peers-end}
+use Rattle.state.specs.Layout.{words}
+use lib.ListN.{length}
 use mathlib.Core.Path.{_≡_}
 use mathlib.Core.Bool.{true}
 use Rattle.rules.specs.Ok.{state-ok}
@@ -14,6 +18,13 @@ ok c = c .pre .1 .0
 
 read-as : (c : tie.Start) → ReadAs (c .args .b .now) (c .args .h)
 read-as c = c .pre .1 .1
+
+long : (c : tie.Start) → length (c .args .st .now) ≡ words
+long c = c .pre .0
+
+-- a peer is a word
+narrow : (c : tie.Start) → c .args .h .peer < peers-end
+narrow c = c .good .1 .1 .1 .1 .0 .1 .1 .1 .1 .1 .1 .0 .1
 
 -- The ways back, from a place to an earlier one.
 abbrev copy-words-to-start : tie.After-copy-words → tie.Start
@@ -37,8 +48,8 @@ copy-words-requires c κs = search needs
 steps-requires : tie.Need-steps-requires
 steps-requires c κs =
     let start = steps-arg2-to-start c in
-    let v = start .pre .1 .1 in
-    (start .pre .0, (starts _ _ _ (ok start), (v .headed, (v .low, opens _ _ _ _ _ (ok start) v (start .good .1 .1 .1 .1 .0 .1 .1 .1 .1 .1 .1 .0 .1)))))
+    let v = read-as start in
+    (long start, (starts _ _ _ (ok start), (v .headed, (v .low, opens _ _ _ _ _ (ok start) v (narrow start)))))
 
 slice-aggregate-finish : tie.Need-slice-aggregate-finish
 slice-aggregate-finish c = search needs

@@ -1,3 +1,4 @@
+use Rattle.state.specs.Work.{Fine, work-of}
 use Rattle.util.specs.Section.{part}
 use Rattle.state.specs.Unpack.{unpack, station-of}
 use Rattle.state.proofs.Access.{of-packed}
@@ -5,6 +6,10 @@ use Rattle.step_active.proofs.Leaving.{place-of, removed, not-removed}
 use borrow.Author.Needs.{needs}
 use Rattle.step_active.proofs.remove_active.Statement.{statement}
 use Rattle.step_active.proofs.remove_active.Tie as tie
+
+-- What remove_active was given.
+fine : (c : tie.Start) → Fine (work-of (c .args .w) (c .args .st .now)) (c .args .draws .now) (c .args .out .now)
+fine c = c .pre .1 .0
 
 -- The ways back, from a place to an earlier one.
 abbrev position-to-start : tie.After-position → tie.Start
@@ -51,7 +56,7 @@ returns c =
     let at-refill-after = c .before .before .before .before in
     let c₁ = refill-after-to-remove-active-by-index at-refill-after in
     let q = c₁ .before .before .before in
-    removed _ _ _ _ _ _ _ (position-to-start q .pre .1 .0) (position-to-in-active q .in-active .ensures) _ _ _ _ _ _ _ (q .before .before .before .if1 .taken) (q .position .ensures .0)
+    removed _ _ _ _ _ _ _ (fine (position-to-start q)) (position-to-in-active q .in-active .ensures) _ _ _ _ _ _ _ (q .before .before .before .if1 .taken) (q .position .ensures .0)
     (at-refill-after .refill-after .ensures) (c₁ .remove-active-by-index .ensures)
 
 same-length-3 : tie.Need-same-length-3

@@ -1,7 +1,13 @@
+use Rattle.state.specs.Unpack.{unpack}
+use Rattle.step_events.specs.Free.{FreeJoin}
 use Rattle.step_events.proofs.Joining.{free-after-join, joined-self, joined-other}
 use borrow.Author.Needs.{needs}
 use Rattle.step_events.proofs.join_other.Statement.{statement}
 use Rattle.step_events.proofs.join_other.Tie as tie
+
+-- What join_other was given.
+free : (c : tie.Start) → FreeJoin (c .args .p) (c .args .w .code) (unpack (c .args .st .now))
+free c = c .pre .1 .1
 
 -- The ways back, from a place to an earlier one.
 abbrev join2-to-start : tie.After-join2 → tie.Start
@@ -29,7 +35,7 @@ await-join-requires : tie.Need-await-join-requires
 await-join-requires c κs =
     let at-join2 = c .before .before .before .before in
     let start = join2-to-start at-join2 in
-    (search needs, (search needs, free-after-join _ _ _ _ _ _ _ (at-join2 .join2 .ensures) (start .pre .1 .1)))
+    (search needs, (search needs, free-after-join _ _ _ _ _ _ _ (at-join2 .join2 .ensures) (free start)))
 
 same-length-3 : tie.Need-same-length-3
 same-length-3 c = search needs

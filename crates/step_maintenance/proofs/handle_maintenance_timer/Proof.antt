@@ -1,3 +1,4 @@
+use Rattle.state.specs.Work.{Fine, work-of}
 use Rattle.step_refill.proofs.Asking.{fine-after}
 use Rattle.state.proofs.Bridge.{still, then, seq}
 use Rattle.state.proofs.Any.{then-tell-any}
@@ -5,6 +6,10 @@ use Rattle.protocol.specs.Timers.{maintain, handle-maintenance-timer}
 use borrow.Author.Needs.{needs}
 use Rattle.step_maintenance.proofs.handle_maintenance_timer.Statement.{statement}
 use Rattle.step_maintenance.proofs.handle_maintenance_timer.Tie as tie
+
+-- What handle_maintenance_timer was given.
+fine : (c : tie.Start) → Fine (work-of (c .args .w) (c .args .st .now)) (c .args .draws .now) (c .args .out .now)
+fine c = c .pre .1
 
 -- The ways back, from a place to an earlier one.
 abbrev remember-all-to-start : tie.After-remember-all → tie.Start
@@ -35,7 +40,7 @@ returns c =
     let at-maintain = at-schedule-maintenance .before .before .before .before .before .before in
     let at-remember-all = maintain-to-remember-all at-maintain in
     let start = remember-all-to-start at-remember-all in
-    then-tell-any (at-schedule-maintenance .schedule-maintenance .ensures) (seq maintain (at-maintain .maintain .ensures) (then (at-remember-all .remember-all .ensures) (still (start .pre .1))))
+    then-tell-any (at-schedule-maintenance .schedule-maintenance .ensures) (seq maintain (at-maintain .maintain .ensures) (then (at-remember-all .remember-all .ensures) (still (fine start))))
 
 pub handle-maintenance-timer-spec : {M : Type 1} → statement M
 handle-maintenance-timer-spec =

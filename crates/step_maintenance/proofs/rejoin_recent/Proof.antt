@@ -1,3 +1,4 @@
+use Rattle.state.specs.Work.{Fine, work-of}
 use native.Mathlib.Omega.{arith}
 use Rattle.step_sending.proofs.Told.{room-drawn}
 use Rattle.step_refill.proofs.Asking.{some-there}
@@ -5,6 +6,10 @@ use Rattle.step_maintenance.proofs.Joins.{no-recent, one-recent}
 use borrow.Author.Needs.{needs}
 use Rattle.step_maintenance.proofs.rejoin_recent.Statement.{statement}
 use Rattle.step_maintenance.proofs.rejoin_recent.Tie as tie
+
+-- What rejoin_recent was given.
+fine : (c : tie.Start) → Fine (work-of (c .args .w) (c .args .st .now)) (c .args .draws .now) (c .args .out .now)
+fine c = c .pre .1 .0
 
 -- The ways back, from a place to an earlier one.
 abbrev is-empty-to-start : tie.After-is-empty → tie.Start
@@ -40,7 +45,7 @@ returns-2 c =
     let at-if1 = at-count .before in
     let at-is-empty = at-if1 .before in
     let start = is-empty-to-start at-is-empty in
-    one-recent _ _ _ _ _ _ (start .pre .1 .0) (at-is-empty .is-empty .ensures) _ _ _ (at-count .count .ensures .0) (at-choose .choose .ensures .1 .0) (at-get-index .get-index .ensures) _ _ _ (at-if1 .if1 .left) (at-join .join .ensures) (at-choose .choose .ensures .0)
+    one-recent _ _ _ _ _ _ (fine start) (at-is-empty .is-empty .ensures) _ _ _ (at-count .count .ensures .0) (at-choose .choose .ensures .1 .0) (at-get-index .get-index .ensures) _ _ _ (at-if1 .if1 .left) (at-join .join .ensures) (at-choose .choose .ensures .0)
 
 pub rejoin-recent-spec : {M : Type 1} → statement M
 rejoin-recent-spec =

@@ -1,9 +1,14 @@
+use Rattle.state.specs.Work.{Room, work-of}
 use Rattle.step_sending.proofs.Sets.{lent-count}
 use native.Mathlib.Omega.{arith}
 use Rattle.step_messages.proofs.Laws.{walk-fits, joins-forwarded}
 use borrow.Author.Needs.{needs}
 use Rattle.step_messages.proofs.forward_joins.Statement.{statement}
 use Rattle.step_messages.proofs.forward_joins.Tie as tie
+
+-- What forward_joins was given.
+room : (c : tie.Start) → Room (work-of (c .args .w) (c .args .st .now)) (c .args .out .now)
+room c = c .pre .1 .0
 
 slice-aggregate-other-active : tie.Need-slice-aggregate-other-active
 slice-aggregate-other-active c = search needs
@@ -24,7 +29,7 @@ cast-ttl : tie.Need-cast-ttl
 cast-ttl c =
     let at-v = c .before .before .before .before .before in
     let start = at-v .before .before .before in
-    record { fits = omega (arith, walk-fits _ (start .pre .1 .0 .packed)) }
+    record { fits = omega (arith, walk-fits _ (room start .packed)) }
 
 array-share-prefix-v : tie.Need-array-share-prefix-v
 array-share-prefix-v c = search needs

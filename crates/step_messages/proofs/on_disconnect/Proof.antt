@@ -1,4 +1,6 @@
-use Rattle.state.specs.Work.{Fine, work-of}
+use Rattle.protocol.specs.Budgets.{leaving}
+use Rattle.step_messages.specs.Between.{Between}
+use Rattle.state.specs.Work.{Fine, work-of, run}
 use Rattle.step_refill.proofs.Asking.{fine-after}
 use Rattle.step_messages.proofs.Between.{ended-between, disconnect-done}
 use borrow.Author.Needs.{needs}
@@ -8,6 +10,9 @@ use Rattle.step_messages.proofs.on_disconnect.Tie as tie
 -- What on_disconnect was given.
 fine : (c : tie.Start) → Fine (work-of (c .args .w) (c .args .st .now)) (c .args .draws .now) (c .args .out .now)
 fine c = c .pre .1 .0
+
+between : (c : tie.Start) → Between 0 leaving 1 (run (work-of (c .args .w) (c .args .st .now)) (c .args .draws .now) (c .args .out .now))
+between c = c .pre .1 .1
 
 -- The ways back, from a place to an earlier one.
 abbrev is-requested-to-start : tie.After-is-requested → tie.Start
@@ -29,7 +34,7 @@ disconnected-requires : tie.Need-disconnected-requires
 disconnected-requires c κs =
     let at-forget-open = c .before .before .before .before in
     let start = forget-open-to-start at-forget-open in
-    (search needs, (fine-after _ _ _ _ _ _ (fine start) (at-forget-open .forget-open .ensures), ended-between _ _ _ _ _ _ (at-forget-open .forget-open .ensures) _ _ _ (start .pre .1 .1)))
+    (search needs, (fine-after _ _ _ _ _ _ (fine start) (at-forget-open .forget-open .ensures), ended-between _ _ _ _ _ _ (at-forget-open .forget-open .ensures) _ _ _ (between start)))
 
 same-length : tie.Need-same-length
 same-length c = search needs

@@ -1,8 +1,13 @@
+use Rattle.state.specs.Work.{Fine, work-of}
 use Rattle.step_refill.proofs.Asking.{fine-after}
 use Rattle.step_messages.proofs.Between.{pending-calm, joined}
 use borrow.Author.Needs.{needs}
 use Rattle.step_messages.proofs.on_join.Statement.{statement}
 use Rattle.step_messages.proofs.on_join.Tie as tie
+
+-- What on_join was given.
+fine : (c : tie.Start) → Fine (work-of (c .args .w) (c .args .st .now)) (c .args .draws .now) (c .args .out .now)
+fine c = c .pre .1 .0
 
 -- The ways back, from a place to an earlier one.
 abbrev drop-pending-to-start : tie.After-drop-pending → tie.Start
@@ -32,7 +37,7 @@ returns c =
     let at-add-active = at-forward-joins .before .before .before .before .before .before .before in
     let at-drop-pending = add-active-to-drop-pending at-add-active in
     let start = drop-pending-to-start at-drop-pending in
-    joined _ _ _ _ _ (at-drop-pending .drop-pending .ensures) (start .pre .1 .0) _ _ _ _ _ (at-forward-joins .forward-joins .ensures) (at-add-active .add-active .ensures)
+    joined _ _ _ _ _ (at-drop-pending .drop-pending .ensures) (fine start) _ _ _ _ _ (at-forward-joins .forward-joins .ensures) (at-add-active .add-active .ensures)
 
 pub on-join-spec : {M : Type 1} → statement M
 on-join-spec =

@@ -1,3 +1,4 @@
+use Rattle.state.specs.Work.{Fine, work-of}
 use Rattle.util.specs.Section.{part}
 use Rattle.state.specs.Unpack.{unpack, station-of}
 use Rattle.state.proofs.Access.{of-packed}
@@ -5,6 +6,10 @@ use Rattle.step_peers.proofs.Laws.{some-choice, still-below, made, not-
 use borrow.Author.Needs.{needs}
 use Rattle.step_peers.proofs.make_room.Statement.{statement}
 use Rattle.step_peers.proofs.make_room.Tie as tie
+
+-- What make_room was given.
+fine : (c : tie.Start) → Fine (work-of (c .args .w) (c .args .st .now)) (c .args .draws .now) (c .args .out .now)
+fine c = c .pre .1
 
 -- The ways back, from a place to an earlier one.
 abbrev then1-to-start : tie.Then1 → tie.Start
@@ -70,7 +75,7 @@ returns c =
     let read = gone .before .before in
     let drew = get-index-to-choose read in
     let t = choose-to-then1 drew in
-    made _ _ _ _ _ _ _ _ _ _ _ _ _ (then1-to-start t .pre .1) (t .before .must-evict .ensures) (t .if1 .taken) (drew .before .count .ensures .0)
+    made _ _ _ _ _ _ _ _ _ _ _ _ _ (fine (then1-to-start t)) (t .before .must-evict .ensures) (t .if1 .taken) (drew .before .count .ensures .0)
     (drew .choose .ensures .1 .0) (read .get-index .ensures) (told .tell-evicted .ensures) (gone .evict-at .ensures) (drew .choose .ensures .0)
 
 same-length-3 : tie.Need-same-length-3

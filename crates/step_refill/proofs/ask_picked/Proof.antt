@@ -1,8 +1,13 @@
+use Rattle.state.specs.Work.{Fine, work-of}
 use Rattle.step_sending.proofs.Told.{room-drawn}
 use Rattle.step_refill.proofs.Asking.{one-picked}
 use borrow.Author.Needs.{needs}
 use Rattle.step_refill.proofs.ask_picked.Statement.{statement}
 use Rattle.step_refill.proofs.ask_picked.Tie as tie
+
+-- What ask_picked was given.
+fine : (c : tie.Start) → Fine (work-of (c .args .w) (c .args .st .now)) (c .args .draws .now) (c .args .out .now)
+fine c = c .pre .1 .0
 
 -- The ways back, from a place to an earlier one.
 abbrev count-to-start : tie.After-count → tie.Start
@@ -42,7 +47,7 @@ returns c =
     let g = c₁ .before .before .before in
     let d = g .before .before in
     let n = d .before in
-    one-picked _ _ _ _ _ _ _ _ _ _ _ _ _ _ _ (count-to-start n .pre .1 .0) (n .before .is-alone .ensures) (n .count .ensures .0) (d .choose .ensures .1 .0) (g .get-index .ensures)
+    one-picked _ _ _ _ _ _ _ _ _ _ _ _ _ _ _ (fine (count-to-start n)) (n .before .is-alone .ensures) (n .count .ensures .0) (d .choose .ensures .1 .0) (g .get-index .ensures)
     (c₂ .use-request .ensures) (c₁ .send-neighbor .ensures) (d .choose .ensures .0)
 
 pub ask-picked-spec : {M : Type 1} → statement M

@@ -1,3 +1,5 @@
+use Rattle.state.specs.Layout.{all-places}
+use Rattle.util.specs.Section.{ValidSet}
 use Rattle.state.specs.Work.{Room, work-of}
 use Rattle.state.proofs.Access.{of-packed}
 use native.Mathlib.Omega.{arith}
@@ -10,6 +12,9 @@ use Rattle.step_timers.proofs.send_shuffle.Tie as tie
 -- What send_shuffle was given.
 room : (c : tie.Start) → Room (work-of (c .args .w) (c .args .st .now)) (c .args .out .now)
 room c = c .pre .1 .0
+
+valid-set : (c : tie.Start) → ValidSet all-places (c .args .v .now)
+valid-set c = c .pre .1 .1 .0
 
 -- The ways back, from a place to an earlier one.
 abbrev count-to-start : tie.After-count → tie.Start
@@ -61,7 +66,7 @@ returns c =
     let at-peer-infos = own-data-to-peer-infos at-own-data in
     let at-count = at-peer-infos .before .before in
     let start = count-to-start at-count in
-    shuffle-told _ _ _ _ _ _ _ _ _ _ _ (room start) (start .pre .1 .1 .0) (at-count .count .ensures .0) (at-own-data .own-data .ensures) (at-peer-infos .peer-infos .ensures) (at-push .push .ensures) (at-emit-nodes .emit-nodes .ensures)
+    shuffle-told _ _ _ _ _ _ _ _ _ _ _ (room start) (valid-set start) (at-count .count .ensures .0) (at-own-data .own-data .ensures) (at-peer-infos .peer-infos .ensures) (at-push .push .ensures) (at-emit-nodes .emit-nodes .ensures)
 
 pub send-shuffle-spec : {M : Type 1} → statement M
 send-shuffle-spec =

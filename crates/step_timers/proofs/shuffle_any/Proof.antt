@@ -1,3 +1,4 @@
+use Rattle.state.specs.Work.{Fine, work-of}
 use Rattle.util.specs.Section.{part}
 use Rattle.state.proofs.Access.{of-packed}
 use Rattle.step_sending.proofs.Told.{fine-drawn}
@@ -5,6 +6,10 @@ use Rattle.step_timers.proofs.Shuffles.{some-there, none-asked, one-ask
 use borrow.Author.Needs.{needs}
 use Rattle.step_timers.proofs.shuffle_any.Statement.{statement}
 use Rattle.step_timers.proofs.shuffle_any.Tie as tie
+
+-- What shuffle_any was given.
+fine : (c : tie.Start) → Fine (work-of (c .args .w) (c .args .st .now)) (c .args .draws .now) (c .args .out .now)
+fine c = c .pre .1
 
 -- The ways back, from a place to an earlier one.
 abbrev is-alone-to-start : tie.After-is-alone → tie.Start
@@ -65,7 +70,7 @@ returns-2 c =
     let at-if1 = count-to-else1 at-count in
     let at-is-alone = at-if1 .before in
     let start = is-alone-to-start at-is-alone in
-    one-asked _ _ _ _ _ (start .pre .1) (at-is-alone .is-alone .ensures) _ _ _ (at-count .count .ensures .0) (at-choose .choose .ensures .1 .0) (at-get-index .get-index .ensures) _ _ _ (at-if1 .if1 .left) (at-shuffle-with .shuffle-with .ensures) (at-choose .choose .ensures .0)
+    one-asked _ _ _ _ _ (fine start) (at-is-alone .is-alone .ensures) _ _ _ (at-count .count .ensures .0) (at-choose .choose .ensures .1 .0) (at-get-index .get-index .ensures) _ _ _ (at-if1 .if1 .left) (at-shuffle-with .shuffle-with .ensures) (at-choose .choose .ensures .0)
 
 pub shuffle-any-spec : {M : Type 1} → statement M
 shuffle-any-spec =

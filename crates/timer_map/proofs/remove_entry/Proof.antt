@@ -1,9 +1,18 @@
+use Rattle.timer_map.specs.Words.{SoundQueue, queue-count}
+use Prim.Native.Nat.{_<_}
 use mathlib.Core.Path.{_≡_, _∙_}
 use borrow.Author.Needs.{needs}
 use lib.ListN.{length, length-set}
 use Rattle.timer_map.proofs.Pack.{remove-law}
 use Rattle.timer_map.proofs.remove_entry.Statement.{statement}
 use Rattle.timer_map.proofs.remove_entry.Tie as tie
+
+-- What remove_entry was given.
+sound : (c : tie.Start) → SoundQueue (c .args .q .now)
+sound c = c .pre .0
+
+within : (c : tie.Start) → c .args .i < queue-count (c .args .q .now)
+within c = c .pre .1
 
 -- The ways back, from a place to an earlier one.
 abbrev shift-down-to-start : tie.After-shift-down → tie.Start
@@ -47,7 +56,7 @@ returns c =
     let at-clear-rows = c .before .before in
     let at-shift-down = clear-rows-to-shift-down at-clear-rows in
     let start = shift-down-to-start at-shift-down in
-    remove-law _ _ _ _ (start .pre .0) (start .pre .1) (at-clear-rows .clear-rows .ensures) (at-shift-down .shift-down .ensures)
+    remove-law _ _ _ _ (sound start) (within start) (at-clear-rows .clear-rows .ensures) (at-shift-down .shift-down .ensures)
 
 pub remove-entry-spec : {M : Type 1} → statement M
 remove-entry-spec =

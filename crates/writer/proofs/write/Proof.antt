@@ -1,8 +1,13 @@
+use Rattle.writer.specs.Nodes.{ValidNodes}
 use mathlib.Core.Path.{sym}
 use borrow.Author.Needs.{needs}
 use Rattle.writer.proofs.Ways.{no-room, done, length-nodes}
 use Rattle.writer.proofs.write.Statement.{statement}
 use Rattle.writer.proofs.write.Tie as tie
+
+-- What write was given.
+valid-nodes : (c : tie.Start) → ValidNodes (c .args .ns)
+valid-nodes c = c .pre
 
 -- The ways back, from a place to an earlier one.
 abbrev else1-to-start : tie.Else1 → tie.Start
@@ -19,7 +24,7 @@ left-requires c κs = search needs
 
 returns : tie.Need-returns
 returns c =
-    no-room _ _ _ _ _ _ (sym (length-nodes _ (c .before .before .before .before .pre))) (c .before .before .size .ensures .0) _ (c .before .left .ensures) (c .if1 .taken)
+    no-room _ _ _ _ _ _ (sym (length-nodes _ (valid-nodes (c .before .before .before .before)))) (c .before .before .size .ensures .0) _ (c .before .left .ensures) (c .if1 .taken)
 
 cast-put-header : tie.Need-cast-put-header
 cast-put-header c = search needs
@@ -60,7 +65,7 @@ returns-2 c =
     let e = d .before .before .before .before in
     let h = put-entries-to-put-header e in
     let t = h .before .before in
-    done _ _ _ _ _ _ (sym (length-nodes _ (else1-to-start t .pre))) (t .before .before .size .ensures .0) _ _ _ _ (t .before .left .ensures) (t .if1 .left)
+    done _ _ _ _ _ _ (sym (length-nodes _ (valid-nodes (else1-to-start t)))) (t .before .before .size .ensures .0) _ _ _ _ (t .before .left .ensures) (t .if1 .left)
     (d .put-data .ensures) (e .put-entries .ensures) (h .put-header .ensures)
 
 pub write-spec : {M : Type 1} → statement M

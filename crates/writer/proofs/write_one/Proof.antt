@@ -1,9 +1,14 @@
+use Rattle.peer.specs.Held.{ValidData}
 use native.Mathlib.Omega.{arith}
 use borrow.Author.Needs.{needs}
 use Rattle.writer.proofs.Laws.{length-places, exact}
 use Rattle.writer.proofs.Ways.{no-room-one, done-one}
 use Rattle.writer.proofs.write_one.Statement.{statement}
 use Rattle.writer.proofs.write_one.Tie as tie
+
+-- What write_one was given.
+valid-data : (c : tie.Start) → ValidData (c .args .p .data)
+valid-data c = c .pre
 
 -- The ways back, from a place to an earlier one.
 abbrev else1-to-start : tie.Else1 → tie.Start
@@ -65,7 +70,7 @@ write-bytes-requires-2 c κs =
     let b = c .before .before .before .before .before in
     let h = write-bytes-to-put-header b in
     let t = put-header-to-else1 h in
-    omega (arith, exact _ (else1-to-start t .pre), t .before .left .ensures, t .if1 .left, h .put-header .kept .0, b .write-bytes .kept .0)
+    omega (arith, exact _ (valid-data (else1-to-start t)), t .before .left .ensures, t .if1 .left, h .put-header .kept .0, b .write-bytes .kept .0)
 
 add-t11 : tie.Need-add-t11
 add-t11 c = search needs
@@ -80,7 +85,7 @@ returns-2 c =
     let a = e .before .before .before in
     let h = a .before .before .before in
     let t = put-header-to-else1 h in
-    done-one _ _ (else1-to-start t .pre) _ _ _ (t .before .left .ensures) (t .if1 .left) _ _ _ _
+    done-one _ _ (valid-data (else1-to-start t)) _ _ _ (t .before .left .ensures) (t .if1 .left) _ _ _ _
     (d .write-bytes2 .ensures) (e .write-bytes .ensures) (a .entry-array .ensures) (h .put-header .ensures)
 
 pub write-one-spec : {M : Type 1} → statement M
