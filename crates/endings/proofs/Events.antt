@@ -31,8 +31,7 @@ use Rattle.hyparview.specs.declared.HandledState.{HandledState}
 use Rattle.hyparview.specs.Made.{MadeWords, lent, pack-made}
 use Rattle.hyparview.specs.Handled.{Outcome, handled}
 use Rattle.demand.specs.Program.{program-outcome, made-state}
-use Rattle.endings.specs.Events.{no-data-node, event, of-peer, maintenance, quit, events, event-at, tiny, draws, output}
-use Rattle.lists.proofs.Tests.{passes-at}
+use Rattle.endings.specs.Events.{no-data-node, event, of-peer, maintenance, quit, events, event-at, tiny, draws, output, passes-at}
 use Rattle.endings.specs.Steps.{first-state, played}
 
 -- ---- the writers

@@ -1,6 +1,6 @@
 -- Document 02, S-13: the sixteen events in the order of the request, and the station that they are brought to.
 -- Assumes nothing.
-use Prim.Native.Nat.{ℕ}
+use Prim.Native.Nat.{ℕ, zero, suc}
 use mathlib.Core.Path.{_≡_, refl}
 use mathlib.Core.Bool.{Bool, true}
 use mathlib.Core.List.{List, [], _∷_, _++_}
@@ -8,7 +8,7 @@ use mathlib.Core.Option.{none}
 use lib.ListN.{getD, replicate}
 use Rattle.lists.specs.Bytes.{le}
 use Rattle.lists.specs.Tests.{every}
-use Rattle.lists.proofs.Tests.{passes-at}
+use Rattle.lists.proofs.Choice.{and-left, and-right}
 use Rattle.timing.specs.Timing.{default}
 use Rattle.timing.specs.declared.Config.{Config}
 use Rattle.peer.specs.Data.{Node, bytes-of}
@@ -70,6 +70,13 @@ draws = replicate 512 0
 
 unfoldable pub output : List ℕ
 output = replicate 8192 0
+
+-- what every item of a list passes, and what stands for one past its end, the item at any place passes
+pub passes-at : (t : Rec → Bool) (d : Rec) → t d ≡ true → (es : List Rec) → every t es ≡ true → (i : ℕ) → t (getD es i d) ≡ true
+unfolding every
+passes-at t d e [] h i = e
+passes-at t d e (x ∷ xs) h zero = and-left (t x) _ h
+passes-at t d e (x ∷ xs) h (suc i) = passes-at t d e xs (and-right (t x) _ h) i
 
 -- an event is bytes, as a call asks
 pub are-bytes : (i : ℕ) → all-under 256 (encode (event-at i)) ≡ true

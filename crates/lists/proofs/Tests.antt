@@ -148,10 +148,3 @@ module _ {A : Type 0} (t : A → Bool) (d : A) (N : ℕ) where
     pub so-far-end : n ≤ i → ok ≡ whole
     unfolding every
     so-far-end h = sym (rest-end d (So-far t) v h ∙ and-true ok)
-
--- what every item of a list passes, and what stands for one past its end, the item at any place passes
-pub passes-at : {A : Type 0} (t : A → Bool) (d : A) → t d ≡ true → (xs : List A) → every t xs ≡ true → (i : ℕ) → t (getD xs i d) ≡ true
-unfolding every
-passes-at t d e [] h i = e
-passes-at t d e (x ∷ xs) h zero = and-left (t x) _ h
-passes-at t d e (x ∷ xs) h (suc i) = passes-at t d e xs (and-right (t x) _ h) i
