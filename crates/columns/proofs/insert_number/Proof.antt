@@ -1,4 +1,4 @@
-use Rattle.columns.specs.Columns.{ValidNumbers, valid-numbers}
+use Rattle.columns.specs.Columns.{ValidNumbers}
 use Rattle.util.specs.Section.{part}
 use Rattle.columns.proofs.Numbers.{number-inside, number-count, number-column, number-fits, number-room, numbers-long, second-filled, second-fits, number-replaced, number-inserted}
 use borrow.Author.Needs.{needs}
@@ -6,8 +6,8 @@ use Rattle.columns.proofs.insert_number.Statement.{statement}
 use Rattle.columns.proofs.insert_number.Tie as tie
 
 -- What insert_number was given.
-valid-numbers : (c : tie.Start) → ValidNumbers (c .args .cap) (c .args .m .now)
-valid-numbers c = c .pre .0
+valid-words : (c : tie.Start) → ValidNumbers (c .args .cap) (c .args .m .now)
+valid-words c = c .pre .0
 
 -- The ways back, from a place to an earlier one.
 abbrev put-in-to-start : tie.After-put-in → tie.Start
@@ -102,7 +102,7 @@ same-length-2 c =
     let at-put-in2 = c .before .before in
     let at-put-in = at-put-in2 .before .before .before .before in
     let start = put-in-to-start at-put-in in
-    numbers-long _ _ _ _ _ _ _ (at-put-in .put-in .ensures) (at-put-in2 .put-in2 .ensures) (valid-numbers start)
+    numbers-long _ _ _ _ _ _ _ (at-put-in .put-in .ensures) (at-put-in2 .put-in2 .ensures) (valid-words start)
 
 returns-2 : tie.Need-returns-2
 unfolding part
