@@ -1,6 +1,6 @@
 -- Laws of the nodes that are written, and of the bytes that their data take.
 -- Assumes nothing.
-use Prim.Native.Nat.{ℕ, _+_, _/_, _%_, _≤_, _<_}
+use Prim.Native.Nat.{ℕ, _+_, _≤_, _<_}
 use mathlib.Core.Path.{_≡_, refl, sym, ap, _∙_}
 use mathlib.Core.Bool.{true, false}
 use mathlib.Core.List.{List, [], _∷_, _++_, map, map-append}
@@ -14,7 +14,7 @@ use Rattle.lists.specs.Array.{pad}
 use Rattle.lists.specs.Bytes.{le}
 use Rattle.lists.proofs.Array.{length-pad, push-pad}
 use Rattle.lists.specs.Bytes.{overwrite}
-use Rattle.lists.proofs.Bytes.{overwrite-append}
+use Rattle.lists.proofs.Bytes.{overwrite-append, then, length-le}
 use Rattle.lists.proofs.Front.{getD-any}
 use Rattle.lists.proofs.Rest.{Rest, rest-next, rest-end}
 use Rattle.peer.specs.Data.{Data, bytes-of}
@@ -38,20 +38,32 @@ module _ (d : PeerData) (v : ValidData d) where
 
 -- ---- a node entry
 
-pub entry-there : (p : PeerInfo) (at : ℕ) → ValidData (p .data) → p .data .present ≡ true
-    → le peer-length (p .id) ++ (at % 256 ∷ at / 256 % 256 ∷ p .data .len ∷ 1 ∷ []) ≡ entry (node-in p) at
+entry-there : (p : PeerInfo) (at : ℕ) → ValidData (p .data) → p .data .present ≡ true
+    → le peer-length (p .id) ++ (le 2 at ++ (p .data .len ∷ 1 ∷ [])) ≡ entry (node-in p) at
 unfolding entry-by node-in data-in le offset present bytes-of
 entry-there p at v y =
     let q : data-in (p .data) ≡ some (take (p .data .len) (p .data .bytes)) = data-present (p .data) y in
     let z : p .data .len ≡ length (take (p .data .len) (p .data .bytes)) = sym (length-bytes (p .data) v) in
-    ap (λ (n : ℕ). le peer-length (p .id) ++ (at % 256 ∷ at / 256 % 256 ∷ n ∷ 1 ∷ [])) z
+    ap (λ (n : ℕ). le peer-length (p .id) ++ (le 2 at ++ (n ∷ 1 ∷ []))) z
     ∙ ap (λ (x : Data). entry (record { id = p .id; data-of = x }) at) (sym q)
 
-pub entry-absent : (p : PeerInfo) (at : ℕ) → p .data .present ≡ false
-    → le peer-length (p .id) ++ (0 ∷ 0 ∷ 0 ∷ 0 ∷ []) ≡ entry (node-in p) at
+entry-absent : (p : PeerInfo) (at : ℕ) → p .data .present ≡ false → le peer-length (p .id) ++ le 4 0 ≡ entry (node-in p) at
 unfolding entry-by node-in data-in le offset present bytes-of
 entry-absent p at n =
     ap (λ (x : Data). entry (record { id = p .id; data-of = x }) at) (sym (data-absent (p .data) n))
+
+module _ (p : PeerInfo) (at k : ℕ) (out o₁ : List ℕ) (e₁ : o₁ ≡ overwrite out at (le peer-length (p .id))) where
+  abbrev after : at + peer-length ≡ at + length (le peer-length (p .id))
+  after = sym (ap (λ (n : ℕ). at + n) (length-le peer-length (p .id)))
+
+  pub entry-put : (o₂ o : List ℕ) → ValidData (p .data) → p .data .present ≡ true → o ≡ overwrite o₂ (at + 10) (p .data .len ∷ 1 ∷ []) → o₂ ≡ overwrite o₁ (at + peer-length) (le 2 k)
+      → o ≡ overwrite out at (entry (node-in p) k)
+  entry-put o₂ o v y e₃ e₂ =
+      then out at (le peer-length (p .id)) (le 2 k ++ (p .data .len ∷ 1 ∷ [])) e₁ (then o₁ (at + peer-length) (le 2 k) (p .data .len ∷ 1 ∷ []) e₂ e₃ (omega (arith, length-le 2 k))) after
+      ∙ ap (overwrite out at) (entry-there p k v y)
+
+  pub absent-put : (o : List ℕ) → p .data .present ≡ false → o ≡ overwrite o₁ (at + peer-length) (le 4 0) → o ≡ overwrite out at (entry (node-in p) k)
+  absent-put o n e₂ = then out at (le peer-length (p .id)) (le 4 0) e₁ e₂ after ∙ ap (overwrite out at) (entry-absent p k n)
 
 -- ---- the lengths of the data, added up
 
@@ -142,9 +154,9 @@ entry-then out at reached p l v =
     sym (overwrite-append out at (entry (node-in p) reached) (entries (map node-in l) (reached + length (bytes-of (data-in (p .data))))))
     ∙ ap (λ (m : ℕ). overwrite (overwrite out at (entry (node-in p) reached)) (at + node-length) (entries (map node-in l) (reached + m))) (length-in (p .data) v)
 
-pub entry-next : (out o a : List ℕ) (at at′ reached : ℕ) (p : PeerInfo) (l : List PeerInfo) → ValidData (p .data) → a ≡ entry (node-in p) reached → o ≡ overwrite out at a → at′ ≡ at + node-length
+pub entry-next : (out o : List ℕ) (at at′ reached : ℕ) (p : PeerInfo) (l : List PeerInfo) → ValidData (p .data) → o ≡ overwrite out at (entry (node-in p) reached) → at′ ≡ at + node-length
     → overwrite out at (entries (map node-in (p ∷ l)) reached) ≡ overwrite o at′ (entries (map node-in l) (reached + p .data .len))
-entry-next out o a at at′ reached p l v q e k = entry-then out at reached p l v ∙ rw (e, q, k)
+entry-next out o at at′ reached p l v e k = entry-then out at reached p l v ∙ rw (e, k)
 
 abbrev pub with-data : Spot → List PeerInfo → List ℕ
 with-data x l = overwrite (x .bytes) (x .at) (datas (map node-in l))

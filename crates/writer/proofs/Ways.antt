@@ -9,7 +9,7 @@ use lib.ListN.{length, take, length-map, length-append}
 use lib.Seq.{length-take-le}
 use Rattle.lists.specs.Lists.{choose}
 use Rattle.lists.specs.Bytes.{le, overwrite}
-use Rattle.lists.proofs.Bytes.{then}
+use Rattle.lists.proofs.Bytes.{then, length-le}
 use Rattle.peer.specs.Data.{Node, bytes-of}
 use Rattle.peer.specs.Held.{data-in, ValidData, node-in}
 use Rattle.peer.specs.declared.PeerInfo.{PeerInfo}
@@ -43,6 +43,23 @@ module _ (e : Rec) (at : ℕ) (out : List ℕ) where
       then out at (header e) (s ++ datas (e .nodes)) p
       (then o₁ (at + header-length) s (datas (e .nodes)) q′ r (omega (arith, z, k)))
       (omega (arith, length-header peer-length e))
+
+-- a header's first four bytes and its numbers, stored one after the other
+pub header-put : (f : Fields) (n z at : ℕ) (out o₁ o₂ o₃ o₄ o₅ o₆ : List ℕ) → o₆ ≡ overwrite o₅ (at + 24) (le 8 (f .number)) → o₅ ≡ overwrite o₄ (at + 22) (le 2 z) → o₄ ≡ overwrite o₃ (at + 20) (le 2 (f .ttl))
+    → o₃ ≡ overwrite o₂ (at + 12) (le peer-length (f .second)) → o₂ ≡ overwrite o₁ (at + 4) (le peer-length (f .peer)) → o₁ ≡ overwrite out at (f .kind ∷ f .message ∷ f .flags ∷ n ∷ [])
+    → o₆ ≡ overwrite out at (header-bytes f n z)
+unfolding header-bytes
+header-put f n z at out o₁ o₂ o₃ o₄ o₅ o₆ e₆ e₅ e₄ e₃ e₂ e₁ =
+    let x : List ℕ = le peer-length (f .peer) in
+    let y : List ℕ = le peer-length (f .second) in
+    let t : List ℕ = le 2 (f .ttl) in
+    let s : List ℕ = le 2 z in
+    let u : List ℕ = le 8 (f .number) in
+    then out at (f .kind ∷ f .message ∷ f .flags ∷ n ∷ []) (x ++ (y ++ (t ++ (s ++ u)))) e₁
+    (then o₁ (at + 4) x (y ++ (t ++ (s ++ u))) e₂
+    (then o₂ (at + 12) y (t ++ (s ++ u)) e₃ (then o₃ (at + 20) t (s ++ u) e₄ (then o₄ (at + 22) s u e₅ e₆ (omega (arith, length-le 2 z))) (omega (arith, length-le 2 (f .ttl)))) (omega (arith, length-le peer-length (f .second))))
+    (omega (arith, length-le peer-length (f .peer))))
+    refl
 
 pub length-nodes : (s : Nodes) → ValidNodes s → length (nodes-in s) ≡ s .len
 unfolding nodes-in
@@ -97,13 +114,13 @@ module _ (f : Fields) (p : PeerInfo) (v : ValidData (p .data)) where
   pub no-room-one : (at : ℕ) (out : List ℕ) (r : ℕ) → r ≡ length out - at → r < fixed + p .data .len → Wrote (rec-in f one) at out Full out
   no-room-one at out r l h = no-room f one 1 (fixed + p .data .len) at out refl size-one r l h
 
-  pub done-one : (at : ℕ) (out : List ℕ) (r : ℕ) → r ≡ length out - at → fixed + p .data .len ≤ r → (o₁ o₂ o₃ a : List ℕ) → o₃ ≡ overwrite o₂ (at + fixed) (take (p .data .len) (p .data .bytes))
-      → o₂ ≡ overwrite o₁ (at + header-length) a → a ≡ entry (node-in p) fixed → o₁ ≡ overwrite out at (header-bytes f 1 (fixed + p .data .len))
+  pub done-one : (at : ℕ) (out : List ℕ) (r : ℕ) → r ≡ length out - at → fixed + p .data .len ≤ r → (o₁ o₂ o₃ : List ℕ) → o₃ ≡ overwrite o₂ (at + fixed) (take (p .data .len) (p .data .bytes))
+      → o₂ ≡ overwrite o₁ (at + header-length) (entry (node-in p) fixed) → o₁ ≡ overwrite out at (header-bytes f 1 (fixed + p .data .len))
       → Wrote (rec-in f one) at out (At (at + (fixed + p .data .len))) o₃
   unfolding datas entries-by node-in
-  done-one at out r l h o₁ o₂ o₃ a s q w e =
+  done-one at out r l h o₁ o₂ o₃ s q e =
       let m : at + header-length + node-length * 1 ≡ at + fixed = omega arith in
       done f one 1 (fixed + p .data .len) at out refl size-one o₁ o₂ o₃ r l h
       (s ∙ rw (m, bytes-in (p .data) v, append-nil (take (p .data .len) (p .data .bytes))))
-      (q ∙ ap (overwrite o₁ (at + header-length)) (w ∙ sym (append-nil (entry (node-in p) fixed))))
+      (q ∙ ap (overwrite o₁ (at + header-length)) (sym (append-nil (entry (node-in p) fixed))))
       e

@@ -4,6 +4,7 @@ use peer::PeerId;
 use peer::PeerInfo;
 use record::HEADER;
 use record::NODE;
+use record::PEER;
 ghost use mathlib.Core.Path.{_≡_};
 ghost use mathlib.Core.List.{[], _∷_, _++_};
 ghost use Prim.Native.Nat.{_+_, _*_, _-_, _≤_, _<_};
@@ -98,97 +99,47 @@ pub fn write_bytes(out: &mut [u8], at: usize, bs: &[u8])
     }
 }
 
-// The fields of a header before its ttl, for a record of so many nodes.
-fn header_front(f: Fields, nodes: u8) -> [u8; FRONT]
-    ensures { λ r. ⌜ r ≡ f .kind ∷ f .message ∷ f .flags ∷ nodes ∷ (le peer-length (f .peer) ++ le peer-length (f .second)) ⌝ }
+// The bytes of a number of 16 bits: a ttl, a record's length, a data's offset.
+const SHORT: usize = 2;
+
+// Where an entry has the length of the data.
+const LENGTH_AT: usize = PEER + SHORT;
+
+// The bytes of an entry after its peer.
+const AFTER_PEER: usize = NODE - PEER;
+
+// The n low bytes of x, the lowest first, from place `at` on.
+fn put_number(out: &mut [u8], at: usize, n: usize, x: u64)
+    requires { ⌜ at + n ≤ length (now out) ⌝ }
+    ensures { λ _. ⌜ now (out .exit) ≡ overwrite (now (out .entry)) at (le n x) ⌝ }
 {
-    let p = f.peer;
-    let s = f.second;
-    [
-        f.kind,
-        f.message,
-        f.flags,
-        nodes,
-        (p % 256) as u8,
-        (p / 256 % 256) as u8,
-        (p / 256 / 256 % 256) as u8,
-        (p / 256 / 256 / 256 % 256) as u8,
-        (p / 256 / 256 / 256 / 256 % 256) as u8,
-        (p / 256 / 256 / 256 / 256 / 256 % 256) as u8,
-        (p / 256 / 256 / 256 / 256 / 256 / 256 % 256) as u8,
-        (p / 256 / 256 / 256 / 256 / 256 / 256 / 256 % 256) as u8,
-        (s % 256) as u8,
-        (s / 256 % 256) as u8,
-        (s / 256 / 256 % 256) as u8,
-        (s / 256 / 256 / 256 % 256) as u8,
-        (s / 256 / 256 / 256 / 256 % 256) as u8,
-        (s / 256 / 256 / 256 / 256 / 256 % 256) as u8,
-        (s / 256 / 256 / 256 / 256 / 256 / 256 % 256) as u8,
-        (s / 256 / 256 / 256 / 256 / 256 / 256 / 256 % 256) as u8,
-    ]
+    let mut rest = x;
+    let mut i: usize = 0;
+    while i < n {
+        out[at + i] = (rest % 256) as u8;
+        rest = rest / 256;
+        i += 1;
+    }
 }
 
-// The rest of the header of a record of so many bytes.
-fn header_back(f: Fields, size: u16) -> [u8; record::HEADER - FRONT]
-    ensures { λ r. ⌜ r ≡ le 2 (f .ttl) ++ (le 2 size ++ le 8 (f .number)) ⌝ }
-{
-    let t = f.ttl;
-    let n = f.number;
-    [
-        (t % 256) as u8,
-        (t / 256 % 256) as u8,
-        (size % 256) as u8,
-        (size / 256 % 256) as u8,
-        (n % 256) as u8,
-        (n / 256 % 256) as u8,
-        (n / 256 / 256 % 256) as u8,
-        (n / 256 / 256 / 256 % 256) as u8,
-        (n / 256 / 256 / 256 / 256 % 256) as u8,
-        (n / 256 / 256 / 256 / 256 / 256 % 256) as u8,
-        (n / 256 / 256 / 256 / 256 / 256 / 256 % 256) as u8,
-        (n / 256 / 256 / 256 / 256 / 256 / 256 / 256 % 256) as u8,
-    ]
-}
-
-// A node entry, whose data stand at the place reached.
-fn entry_array(p: PeerInfo, reached: usize) -> [u8; record::NODE]
+// A node entry, whose data stand at the place reached, from place `at` on.
+fn put_entry(out: &mut [u8], at: usize, p: PeerInfo, reached: usize)
     requires { ⌜ ValidData (p .data) ⌝ }
-    ensures { λ r. ⌜ r ≡ entry (node-in p) reached ⌝ }
+    requires { ⌜ at + node-length ≤ length (now out) ⌝ }
+    ensures { λ _. ⌜ now (out .exit) ≡ overwrite (now (out .entry)) at (entry (node-in p) reached) ⌝ }
 {
     let d = p.data;
-    let id = p.id;
+    put_number(out, at, PEER, p.id);
     if d.present {
-        return [
-            (id % 256) as u8,
-            (id / 256 % 256) as u8,
-            (id / 256 / 256 % 256) as u8,
-            (id / 256 / 256 / 256 % 256) as u8,
-            (id / 256 / 256 / 256 / 256 % 256) as u8,
-            (id / 256 / 256 / 256 / 256 / 256 % 256) as u8,
-            (id / 256 / 256 / 256 / 256 / 256 / 256 % 256) as u8,
-            (id / 256 / 256 / 256 / 256 / 256 / 256 / 256 % 256) as u8,
-            (reached % 256) as u8,
-            (reached / 256 % 256) as u8,
-            d.len,
-            1,
-        ];
+        put_number(out, at + PEER, SHORT, reached as u64);
+        let back = [d.len, 1];
+        write_bytes(out, at + LENGTH_AT, &back);
+        return;
     }
-    [
-        (id % 256) as u8,
-        (id / 256 % 256) as u8,
-        (id / 256 / 256 % 256) as u8,
-        (id / 256 / 256 / 256 % 256) as u8,
-        (id / 256 / 256 / 256 / 256 % 256) as u8,
-        (id / 256 / 256 / 256 / 256 / 256 % 256) as u8,
-        (id / 256 / 256 / 256 / 256 / 256 / 256 % 256) as u8,
-        (id / 256 / 256 / 256 / 256 / 256 / 256 / 256 % 256) as u8,
-        0,
-        0,
-        0,
-        0,
-    ]
+    put_number(out, at + PEER, AFTER_PEER, 0);
 }
 
+// The entries of these nodes, from place `at` on.
 fn put_entries(out: &mut [u8], at: usize, ns: Nodes)
     requires { ⌜ ValidNodes ns ⌝ }
     requires { ⌜ at + node-length * ns .len ≤ length (now out) ⌝ }
@@ -200,8 +151,7 @@ fn put_entries(out: &mut [u8], at: usize, ns: Nodes)
     let mut i: usize = 0;
     while i < n {
         let p = items[i];
-        let a = entry_array(p, reached);
-        write_bytes(out, at + NODE * i, &a);
+        put_entry(out, at + NODE * i, p, reached);
         let d = p.data;
         reached += d.len as usize;
         i += 1;
@@ -239,18 +189,32 @@ fn left(len: usize, at: usize) -> usize
     len - at
 }
 
-// The bytes of a header before its ttl.
-const FRONT: usize = 20;
+// Where a header's numbers stand in it.
+const PEER_AT: usize = 4;
+
+const SECOND_AT: usize = PEER_AT + PEER;
+
+const TTL_AT: usize = SECOND_AT + PEER;
+
+const SIZE_AT: usize = TTL_AT + SHORT;
+
+const NUMBER_AT: usize = SIZE_AT + SHORT;
+
+// The bytes of a header's number.
+const NUMBER: usize = HEADER - NUMBER_AT;
 
 // The header of a record of so many nodes and so many bytes, from place `at` on.
 fn put_header(out: &mut [u8], at: usize, f: Fields, nodes: u8, size: u16)
     requires { ⌜ at + header-length ≤ length (now out) ⌝ }
     ensures { λ _. ⌜ now (out .exit) ≡ overwrite (now (out .entry)) at (header-bytes f nodes size) ⌝ }
 {
-    let front = header_front(f, nodes);
+    let front = [f.kind, f.message, f.flags, nodes];
     write_bytes(out, at, &front);
-    let back = header_back(f, size);
-    write_bytes(out, at + FRONT, &back);
+    put_number(out, at + PEER_AT, PEER, f.peer);
+    put_number(out, at + SECOND_AT, PEER, f.second);
+    put_number(out, at + TTL_AT, SHORT, f.ttl as u64);
+    put_number(out, at + SIZE_AT, SHORT, size as u64);
+    put_number(out, at + NUMBER_AT, NUMBER, f.number);
 }
 
 // The record from place `at` on; nothing is touched where it does not fit.
@@ -293,8 +257,7 @@ pub fn write_one(out: &mut [u8], at: usize, f: Fields, p: PeerInfo) -> Written
         return Written::Full;
     }
     put_header(out, at, f, 1, whole as u16);
-    let a = entry_array(p, fixed);
-    write_bytes(out, at + HEADER, &a);
+    put_entry(out, at + HEADER, p, fixed);
     let bytes = d.bytes;
     write_bytes(out, at + fixed, &bytes[..n]);
     Written::At(at + whole)

@@ -36,11 +36,11 @@ module _ (out₀ : List ℕ) (at n : ℕ) (items : List PeerInfo) (out : List �
   few : i < n → getD items i missing .data .len ≤ 16
   few h = here h .fits
 
-  next : (o a : List ℕ) → a ≡ entry (node-in (getD items i missing)) reached → o ≡ overwrite out (at + node-length * i) a → length o ≡ length out → i < n
+  next : (o : List ℕ) → o ≡ overwrite out (at + node-length * i) (entry (node-in (getD items i missing)) reached) → length o ≡ length out → i < n
       → Inv out₀ at n items o (reached + getD items i missing .data .len) (i + 1)
-  next o a q e k h = record {
+  next o e k h = record {
     walk = walk-next with-entries (v .walk) (spot o (at + node-length * (i + 1)) (reached + getD items i missing .data .len)) h
-        (λ l. entry-next out o a (at + node-length * i) (at + node-length * (i + 1)) reached (getD items i missing) l (here h) q e (omega arith));
+        (λ l. entry-next out o (at + node-length * i) (at + node-length * (i + 1)) reached (getD items i missing) l (here h) e (omega arith));
     small = omega (arith, v .small, few h);
     room = omega (arith, v .room);
     len = k ∙ v .len;
@@ -71,20 +71,14 @@ mul-p c = search needs
 array-copy-out-p : tie.Need-array-copy-out-p Inv-loop μ-loop
 array-copy-out-p c = search needs
 
-entry-array-requires : tie.Need-entry-array-requires Inv-loop μ-loop
-entry-array-requires c κs = search here
+mul-put-entry : tie.Need-mul-put-entry Inv-loop μ-loop
+mul-put-entry c = search needs
 
-mul-write-bytes : tie.Need-mul-write-bytes Inv-loop μ-loop
-mul-write-bytes c = search needs
+add-put-entry : tie.Need-add-put-entry Inv-loop μ-loop
+add-put-entry c = search needs
 
-add-write-bytes : tie.Need-add-write-bytes Inv-loop μ-loop
-add-write-bytes c = search needs
-
-slice-aggregate-write-bytes : tie.Need-slice-aggregate-write-bytes Inv-loop μ-loop
-slice-aggregate-write-bytes c = search needs
-
-write-bytes-requires : tie.Need-write-bytes-requires Inv-loop μ-loop
-write-bytes-requires c κs = search needs
+put-entry-requires : tie.Need-put-entry-requires Inv-loop μ-loop
+put-entry-requires c κs = (search here, search needs)
 
 cast-reached : tie.Need-cast-reached Inv-loop μ-loop
 cast-reached c = search needs
@@ -118,11 +112,9 @@ put-entries-spec =
     loop-holds
     mul-p
     array-copy-out-p
-    entry-array-requires
-    mul-write-bytes
-    add-write-bytes
-    slice-aggregate-write-bytes
-    write-bytes-requires
+    mul-put-entry
+    add-put-entry
+    put-entry-requires
     cast-reached
     add-reached-2
     add-i

@@ -17,11 +17,11 @@ else1-to-start c = c .before .before .before .before .before
 abbrev put-header-to-else1 : tie.After-put-header → tie.Else1
 put-header-to-else1 c = c .before .before
 
-abbrev write-bytes-to-put-header : tie.After-write-bytes → tie.After-put-header
-write-bytes-to-put-header c = c .before .before .before .before .before .before
+abbrev put-entry-to-put-header : tie.After-put-entry → tie.After-put-header
+put-entry-to-put-header c = c .before .before .before .before
 
-abbrev write-bytes2-to-write-bytes : tie.After-write-bytes2 → tie.After-write-bytes
-write-bytes2-to-write-bytes c = c .before .before .before .before .before .before
+abbrev write-bytes-to-put-entry : tie.After-write-bytes → tie.After-put-entry
+write-bytes-to-put-entry c = c .before .before .before .before .before .before
 
 cast-n : tie.Need-cast-n
 cast-n c = search needs
@@ -44,36 +44,30 @@ cast-put-header c = search needs
 put-header-requires : tie.Need-put-header-requires
 put-header-requires c κs = search needs
 
-entry-array-requires : tie.Need-entry-array-requires
-entry-array-requires c κs = search needs
+add-put-entry : tie.Need-add-put-entry
+add-put-entry c = search needs
+
+put-entry-requires : tie.Need-put-entry-requires
+put-entry-requires c κs = search needs
 
 add-write-bytes : tie.Need-add-write-bytes
 add-write-bytes c = search needs
 
-slice-aggregate-write-bytes : tie.Need-slice-aggregate-write-bytes
-slice-aggregate-write-bytes c = search needs
-
-write-bytes-requires : tie.Need-write-bytes-requires
-write-bytes-requires c κs = search needs
-
-add-write-bytes-2 : tie.Need-add-write-bytes-2
-add-write-bytes-2 c = search needs
-
 array-share-prefix-bytes : tie.Need-array-share-prefix-bytes
 array-share-prefix-bytes c = search (length-places, needs)
 
-slice-aggregate-write-bytes-2 : tie.Need-slice-aggregate-write-bytes-2
-slice-aggregate-write-bytes-2 c = search exact
+slice-aggregate-write-bytes : tie.Need-slice-aggregate-write-bytes
+slice-aggregate-write-bytes c = search exact
 
-write-bytes-requires-2 : tie.Need-write-bytes-requires-2
-write-bytes-requires-2 c κs =
+write-bytes-requires : tie.Need-write-bytes-requires
+write-bytes-requires c κs =
     let b = c .before .before .before .before .before in
-    let h = write-bytes-to-put-header b in
+    let h = put-entry-to-put-header b in
     let t = put-header-to-else1 h in
-    omega (arith, exact _ (valid-data (else1-to-start t)), t .before .left .ensures, t .if1 .left, h .put-header .kept .0, b .write-bytes .kept .0)
+    omega (arith, exact _ (valid-data (else1-to-start t)), t .before .left .ensures, t .if1 .left, h .put-header .kept .0, b .put-entry .kept .0)
 
-add-t11 : tie.Need-add-t11
-add-t11 c = search needs
+add-t10 : tie.Need-add-t10
+add-t10 c = search needs
 
 same-length : tie.Need-same-length
 same-length c = search needs
@@ -81,12 +75,11 @@ same-length c = search needs
 returns-2 : tie.Need-returns-2
 returns-2 c =
     let d = c .before .before in
-    let e = write-bytes2-to-write-bytes d in
-    let a = e .before .before .before in
-    let h = a .before .before .before in
+    let e = write-bytes-to-put-entry d in
+    let h = put-entry-to-put-header e in
     let t = put-header-to-else1 h in
-    done-one _ _ (valid-data (else1-to-start t)) _ _ _ (t .before .left .ensures) (t .if1 .left) _ _ _ _
-    (d .write-bytes2 .ensures) (e .write-bytes .ensures) (a .entry-array .ensures) (h .put-header .ensures)
+    done-one _ _ (valid-data (else1-to-start t)) _ _ _ (t .before .left .ensures) (t .if1 .left) _ _ _
+    (d .write-bytes .ensures) (e .put-entry .ensures) (h .put-header .ensures)
 
 pub write-one-spec : {M : Type 1} → statement M
 write-one-spec =
@@ -99,14 +92,12 @@ write-one-spec =
     returns
     cast-put-header
     put-header-requires
-    entry-array-requires
+    add-put-entry
+    put-entry-requires
     add-write-bytes
+    array-share-prefix-bytes
     slice-aggregate-write-bytes
     write-bytes-requires
-    add-write-bytes-2
-    array-share-prefix-bytes
-    slice-aggregate-write-bytes-2
-    write-bytes-requires-2
-    add-t11
+    add-t10
     same-length
     returns-2)
