@@ -82,16 +82,16 @@ pub fn word_at(b: [u8; PeerData::BYTES], at: usize) -> u64
     requires { ⌜ at ≤ 8 ⌝ }
     ensures { λ r. ⌜ (le 8 r ≡ take 8 (drop at b)) × (r < words-end) ⌝ }
 {
-    let h = wide_word(b[at + 7]);
-    let g = wide_word(b[at + 6]) + 256 * h;
-    let f = wide_word(b[at + 5]) + 256 * g;
-    let e = wide_word(b[at + 4]) + 256 * f;
-    let d = wide_word(b[at + 3]) + 256 * e;
-    let c = wide_word(b[at + 2]) + 256 * d;
-    let k = wide_word(b[at + 1]) + 256 * c;
-    wide_word(b[at]) + 256 * k
+    let mut r: u64 = 0;
+    let mut i: usize = WORD;
+    while 0 < i {
+        i -= 1;
+        r = wide_word(b[at + i]) + 256 * r;
+    }
+    r
 }
 
+// The bytes of two words, the lowest first.
 pub fn bytes_of(w: u64, x: u64) -> [u8; PeerData::BYTES]
     ensures { λ r. ⌜ r ≡ word-bytes w x ⌝ }
 {
