@@ -2,7 +2,7 @@
 -- Assumes nothing.
 use Prim.Native.Nat.{ℕ, _≤_, _<_}
 use mathlib.Core.Path.{_≡_, refl, sym, ap, _∙_, subst}
-use mathlib.Core.Bool.{Bool, true, false}
+use mathlib.Core.Bool.{Bool, true, false, _||_}
 use mathlib.Core.List.{List, [], _∷_}
 use mathlib.Core.Option.{Option}
 use native.Mathlib.Omega.{arith}
@@ -17,10 +17,10 @@ use Rattle.peer.specs.Held.{data-in, node-in}
 use Rattle.peer.specs.declared.PeerData.{PeerData}
 use Rattle.util.specs.Section.{items-at, HoldsSet}
 use Rattle.peer.specs.declared.PeerInfo.{PeerInfo}
-use Rattle.timing.specs.Timing.{next}
+use Rattle.timing.specs.Timing.{next, expired}
 use Rattle.timing.proofs.Ranges.{ranges}
 use Rattle.writer.specs.Write.{rec-in}
-use Rattle.protocol.specs.Station.{is-requested, in-passive}
+use Rattle.protocol.specs.Station.{Station, is-requested, in-passive, in-active, is-last-hop}
 use Rattle.protocol.specs.Run.{Run, guard, on, emit, to-draw, one-of, draw-one-of, require, picked, node, emit-all}
 use Rattle.protocol.specs.Peers.{insert-peer-info, forget-peer, add-passive, drop-passive}
 use Rattle.protocol.specs.Sending.{send-neighbor, send-disconnect}
@@ -110,6 +110,13 @@ module _ (w : Work) (xs ds out : List ℕ) (from : ℕ) (n : PeerInfo) (ttl : �
     unfolding walk-on node-in
     walked-on r o h d =
         left _ _ (holds-at (work-of w xs) ds out (is-requested (n .id)) e h) (by _ (ap (λ (l : List ℕ). forward-join-on l (node-in n) ttl (run (work-of w xs) ds out)) rest-are) d)
+
+pub place-kept : {step : Run → Run} {w a : Work} {xs ds out : List ℕ} → DrawsAny step w a ds → Fine (work-of w xs) ds out → a .written ≤ length out
+place-kept {w = w} {out = out} k v = subst (λ (m : ℕ). m ≤ length out) (sym (k .written)) (v .written)
+
+pub end-known : (s : Station) (p ttl : ℕ) (a b c : Bool) → a ≡ in-active p s → b ≡ expired ttl → c ≡ is-last-hop s → (a || (b || c)) ≡ ends-here p ttl s
+unfolding ends-here
+end-known s p ttl a b c x y z = λ i. x i || (y i || z i)
 
 module _ (w r : Held) (ds out o : List ℕ) (from : ℕ) (n : PeerInfo) (ttl : ℕ) (t : Bool) (e : t ≡ ends-here (n .id) ttl (unpack (w .state))) where
   pub walk-ended : Fine w ds out → t ≡ true → Tells (ask-joiner (node-in n)) w r out o → Does r ds o (on-forward-join from (node-in n) ttl (run w ds out))

@@ -20,7 +20,7 @@ ghost use Rattle.util.specs.Section.{HoldsSet};
 ghost use Rattle.protocol.specs.Budgets.{leaving, arriving};
 ghost use Rattle.protocol.specs.Run.{on, emit, emit-all, draw-one-of};
 ghost use Rattle.protocol.specs.Active.{accepts};
-ghost use Rattle.protocol.specs.Messages.{forward-join-to, ends-here, ask-joiner, learn-joiner, forward-join-on, walk-on, on-forward-join};
+ghost use Rattle.protocol.specs.Messages.{forward-join-to, learn-joiner, on-forward-join};
 ghost use Rattle.protocol.specs.Messages.{forward-joins, on-join, refuse-neighbor, answer-neighbor, on-neighbor};
 ghost use Rattle.protocol.specs.Messages.{drop-join, drop-request, drop-recent, forget-recent, refused-fits, add-refused, note-refused, note-refusal, mark-passive, left-topic, disconnect-other};
 ghost use Rattle.protocol.specs.Messages.{disconnected, on-disconnect};
@@ -43,29 +43,6 @@ fn other_active(st: &[u64], p: PeerId, t: &mut [u64])
 }
 
 // ---- ForwardJoin
-
-// Whether a ForwardJoin's walk ends here.
-fn ends_here(st: &[u64], p: PeerId, ttl: u16) -> bool
-    requires { ⌜ length (now st) ≡ words ⌝ }
-    requires { ⌜ PackedState (now st) ⌝ }
-    ensures { λ r. ⌜ r ≡ ends-here p ttl (unpack (now (st .entry))) ⌝ }
-{
-    let t = Ttl(ttl);
-    state::in_active(st, p) | (t.expired() | state::is_last_hop(st))
-}
-
-// Neighbor to the one who joins; it enters the active view once it answers.
-fn ask_joiner(w: Work, st: &mut [u64], out: &mut [u8], n: PeerInfo) -> Work
-    requires { ⌜ length (now st) ≡ words ⌝ }
-    requires { ⌜ Room (work-of w (now st)) (now out) ⌝ }
-    requires { ⌜ ValidData (n .data) ⌝ }
-    ensures { λ r. ⌜ Tells (ask-joiner (node-in n)) (work-of w (now (st .entry))) (work-of r (now (st .exit))) (now (out .entry)) (now (out .exit)) ⌝ }
-{
-    let p = n.id;
-    let d = n.data;
-    let a = step_peers::insert_peer_info(w, st, out, p, d);
-    step_sending::send_neighbor(a, st, out, p, true)
-}
 
 // Where the walk has the passive length left, the one who joins goes to the passive view.
 fn learn_joiner(
@@ -131,55 +108,6 @@ fn picked(w: Work, draws: &[u32], ps: &[PeerId]) -> PickedPeer
     PickedPeer { work: a, peer: p }
 }
 
-// ForwardJoin goes on to one of these peers; that there is one is never-unreachable.
-fn forward_join_on(
-    w: Work,
-    st: &[u64],
-    draws: &[u32],
-    out: &mut [u8],
-    others: &[PeerId],
-    n: PeerInfo,
-    ttl: u16,
-) -> Work
-    requires { ⌜ length (now st) ≡ words ⌝ }
-    requires { ⌜ Fine (work-of w (now st)) (now draws) (now out) ⌝ }
-    requires { ⌜ ValidData (n .data) ⌝ }
-    ensures { λ r. ⌜ Does (work-of r (now (st .entry))) (now (draws .entry)) (now (out .exit)) (forward-join-on (now (others .entry)) (node-in n) ttl (run (work-of w (now (st .entry))) (now (draws .entry)) (now (out .entry)))) ⌝ }
-{
-    let p = picked(w, draws, others);
-    let a = p.work;
-    let q = p.peer;
-    let t = Ttl(ttl);
-    let left = t.next();
-    let m = left.0;
-    forward_join_to(a, out, n, m, q)
-}
-
-// ForwardJoin goes on, unless a request to the one who joins is open.
-fn walk_on(
-    w: Work,
-    st: &[u64],
-    draws: &[u32],
-    out: &mut [u8],
-    from: PeerId,
-    n: PeerInfo,
-    ttl: u16,
-) -> Work
-    requires { ⌜ length (now st) ≡ words ⌝ }
-    requires { ⌜ Fine (work-of w (now st)) (now draws) (now out) ⌝ }
-    requires { ⌜ ValidData (n .data) ⌝ }
-    ensures { λ r. ⌜ Does (work-of r (now (st .entry))) (now (draws .entry)) (now (out .exit)) (walk-on from (node-in n) ttl (run (work-of w (now (st .entry))) (now (draws .entry)) (now (out .entry)))) ⌝ }
-{
-    let p = n.id;
-    if state::is_requested(st, p) {
-        return w;
-    }
-    let mut v = [0u64; Layout::SET];
-    other_active(st, from, &mut v);
-    let k = util::count(&v, Layout::ALL);
-    forward_join_on(w, st, draws, out, &v[..k], n, ttl)
-}
-
 pub fn on_forward_join(
     w: Work,
     st: &mut [u64],
@@ -194,12 +122,23 @@ pub fn on_forward_join(
     requires { ⌜ ValidData (n .data) ⌝ }
     ensures { λ r. ⌜ Does (work-of r (now (st .exit))) (now (draws .entry)) (now (out .exit)) (on-forward-join from (node-in n) ttl (run (work-of w (now (st .entry))) (now (draws .entry)) (now (out .entry)))) ⌝ }
 {
-    let p = n.id;
-    if ends_here(st, p, ttl) {
-        return ask_joiner(w, st, out, n);
+    let t = Ttl(ttl);
+    if state::in_active(st, n.id) | (t.expired() | state::is_last_hop(st)) {
+        // The walk ends here. Neighbor to the one who joins; it enters the active view once it answers.
+        let a = step_peers::insert_peer_info(w, st, out, n.id, n.data);
+        return step_sending::send_neighbor(a, st, out, n.id, true);
     }
     let a = learn_joiner(w, st, draws, out, n, ttl);
-    walk_on(a, st, draws, out, from, n, ttl)
+    if state::is_requested(st, n.id) {
+        return a;
+    }
+    // It goes on to one of the other neighbors; that there is one is never-unreachable.
+    let mut v = [0u64; Layout::SET];
+    other_active(st, from, &mut v);
+    let k = util::count(&v, Layout::ALL);
+    let q = picked(a, draws, &v[..k]);
+    let left = t.next();
+    forward_join_to(q.work, out, n, left.0, q.peer)
 }
 
 // ---- Disconnect
