@@ -2,14 +2,14 @@
 -- Assumes nothing.
 use Prim.Native.Nat.{ℕ, _≤_, _<_}
 use mathlib.Core.Path.{_≡_, refl, sym, ap, _∙_, subst}
-use mathlib.Core.Bool.{Bool, true, false, _||_}
+use mathlib.Core.Bool.{Bool, true, false, not, _&&_, _||_}
 use mathlib.Core.List.{List, [], _∷_}
 use mathlib.Core.Option.{Option}
 use native.Mathlib.Omega.{arith}
 use lib.ListN.{length, take, drop, getD}
-use lib.Dec.{eqb}
+use lib.Dec.{eqb, ltb}
 use borrow.Author.Tests.{eq-eqb, ne-eqb}
-use Rattle.lists.specs.Lists.{without, insert}
+use Rattle.lists.specs.Lists.{mem, without, insert}
 use Rattle.lists.proofs.Choice.{by-choice, choose-yes, choose-no}
 use Rattle.util.specs.Chances.{pick}
 use Rattle.peer.specs.Data.{Node}
@@ -20,12 +20,12 @@ use Rattle.peer.specs.declared.PeerInfo.{PeerInfo}
 use Rattle.timing.specs.Timing.{next, expired}
 use Rattle.timing.proofs.Ranges.{ranges}
 use Rattle.writer.specs.Write.{rec-in}
-use Rattle.protocol.specs.Station.{Station, is-requested, in-passive, in-active, is-last-hop}
+use Rattle.protocol.specs.Station.{Station, is-me, is-requested, in-passive, in-active, active-is-full, is-last-hop}
 use Rattle.protocol.specs.Run.{Run, guard, on, emit, to-draw, one-of, draw-one-of, require, picked, node, emit-all}
 use Rattle.protocol.specs.Peers.{insert-peer-info, forget-peer, add-passive, drop-passive}
 use Rattle.protocol.specs.Sending.{send-neighbor, send-disconnect}
 use Rattle.protocol.specs.Refill.{refill-active-from-passive}
-use Rattle.protocol.specs.Active.{mark-alive}
+use Rattle.protocol.specs.Active.{mark-alive, accepts}
 use Rattle.protocol.specs.Messages.{forward-join-to, ends-here, ask-joiner, learn-joiner, forward-join-on, walk-on, on-forward-join}
 use Rattle.protocol.specs.Messages.{forward-joins, refuse-neighbor}
 use Rattle.protocol.specs.Messages.{drop-recent, forget-recent, refused-fits, add-refused, note-refused, note-refusal, mark-passive, left-topic, disconnect-other}
@@ -41,7 +41,7 @@ use Rattle.state.proofs.Any.{drew-none-of, then-draw-any, then-tell-any}
 use Rattle.step_sending.proofs.Sets.{lent-items}
 use Rattle.state.proofs.Bridge.{unchanged, change-by, change-then, change-yes, change-no, tell-by, tell-then, require-said, by, still, then, then-tell, seq, taken, left, holds-at}
 use Rattle.step_active.specs.Sane.{FreeMark}
-use Rattle.step_messages.specs.Places.{FreeRefused, FreePassiveMark}
+use Rattle.step_messages.specs.Places.{FreePassiveMark}
 
 -- ---- joins that are forwarded
 
@@ -111,9 +111,6 @@ module _ (w : Work) (xs ds out : List ℕ) (from : ℕ) (n : PeerInfo) (ttl : �
     walked-on r o h d =
         left _ _ (holds-at (work-of w xs) ds out (is-requested (n .id)) e h) (by _ (ap (λ (l : List ℕ). forward-join-on l (node-in n) ttl (run (work-of w xs) ds out)) rest-are) d)
 
-pub place-kept : {step : Run → Run} {w a : Work} {xs ds out : List ℕ} → DrawsAny step w a ds → Fine (work-of w xs) ds out → a .written ≤ length out
-place-kept {w = w} {out = out} k v = subst (λ (m : ℕ). m ≤ length out) (sym (k .written)) (v .written)
-
 pub end-known : (s : Station) (p ttl : ℕ) (a b c : Bool) → a ≡ in-active p s → b ≡ expired ttl → c ≡ is-last-hop s → (a || (b || c)) ≡ ends-here p ttl s
 unfolding ends-here
 end-known s p ttl a b c x y z = λ i. x i || (y i || z i)
@@ -142,6 +139,10 @@ module _ (w r : Work) (xs out o : List ℕ) (p : ℕ) (d : PeerData) where
   joins-forwarded v k m h e t =
       tell-by _ (λ ds. ap (λ (l : List ℕ). emit-all (forward-join-to (node p (data-in d)) (active-random-walk-length xs)) l (run (work-of w xs) ds out)) (sym (lent-items v k (h .valid) e ∙ h .items))) (t .any xs (m .packed))
 
+pub accept-known : (s : Station) (p : ℕ) (high a b c : Bool) → a ≡ is-me p s → b ≡ in-active p s → c ≡ active-is-full s → (not a && (b || (high || not c))) ≡ accepts p high s
+unfolding accepts
+accept-known s p high a b c x y z = λ i. not (x i) && (y i || (high || not (z i)))
+
 pub neighbor-refused : (w a r : Held) (ds out o : List ℕ) (p : ℕ) → Changes (forget-peer p) a r → Does a ds o (send-disconnect p true (run w ds out)) → Does r ds o (refuse-neighbor p (run w ds out))
 unfolding refuse-neighbor
 neighbor-refused w a r ds out o p k₂ k₁ = then k₂ k₁
@@ -157,14 +158,16 @@ module _ (w : Held) (p : ℕ) (alive : Bool) where
   unfolding forget-recent
   recent-dropped r h k = change-by _ (λ ds out. choose-no _ _ _ h) k
 
-pub refused-place : (xs : List ℕ) (p code : ℕ) → PackedState xs → code ≡ 0 → FreeRefused p code (unpack xs) → length (insert p (items-at 32 (refused-part xs))) ≤ 32
-unfolding unpack station-of refused-fits
-refused-place xs p code v z h =
-    let f = of-refused xs v in
-    length-insert p 32 (items-at 32 (refused-part xs)) (h .free z) (omega (arith, f .fits, f .counted))
+pub fits-known : (xs : List ℕ) (p n : ℕ) (a : Bool) → n ≡ length (items-at 32 (refused-part xs)) → a ≡ mem p (items-at 32 (refused-part xs)) → (a || ltb n 32) ≡ refused-fits p (unpack xs)
+unfolding refused-fits unpack station-of
+fits-known xs p n a x y = λ i. y i || ltb (x i) 32
 
-pub refusable : (w a : Work) (xs : List ℕ) (p : ℕ) (t : Bool) → PackedState xs → t ≡ refused-fits p (unpack xs) → ChangesAny (require 7 t) w a → FreeRefused p (a .code) (unpack xs)
-refusable w a xs p t v e k = record { free = λ z. sym e ∙ require-said (work-of w xs) (work-of a xs) 7 t (omega arith) (k .any xs v) z .1 }
+pub refused-place : (w a : Work) (xs : List ℕ) (p : ℕ) (t : Bool) → PackedState xs → t ≡ refused-fits p (unpack xs) → ChangesAny (require 7 t) w a → a .code ≡ 0 → length (insert p (items-at 32 (refused-part xs))) ≤ 32
+unfolding unpack station-of refused-fits
+refused-place w a xs p t v e k z =
+    let f = of-refused xs v in
+    let h = sym e ∙ require-said (work-of w xs) (work-of a xs) 7 t (omega arith) (k .any xs v) z .1 in
+    length-insert p 32 (items-at 32 (refused-part xs)) h (omega (arith, f .fits, f .counted))
 
 pub refusal-noted : (w a r : Work) (xs ys : List ℕ) (p : ℕ) (t : Bool) → PackedState xs → t ≡ refused-fits p (unpack xs) → Changes (on (add-refused p)) (work-of a xs) (work-of r ys) → ChangesAny (require 7 t) w a
     → Changes (note-refused p) (work-of w xs) (work-of r ys)

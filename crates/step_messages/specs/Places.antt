@@ -1,4 +1,4 @@
--- What a step counts on before it notes a refusal or marks a passive peer.
+-- What a step counts on before it marks a passive peer.
 -- Assumes nothing.
 use Prim.Native.Nat.{ℕ, _≤_}
 use mathlib.Core.Path.{_≡_}
@@ -6,12 +6,7 @@ use mathlib.Core.Bool.{true}
 use lib.ListN.{length}
 use Rattle.lists.specs.Lists.{insert}
 use Rattle.protocol.specs.Station.{Station, in-passive}
-use Rattle.protocol.specs.Messages.{refused-fits}
 use Rattle.state.specs.Layout.{all-places}
-
--- unless a code is set, p is among the refused peers or there is a place for it
-pub record FreeRefused (p code : ℕ) (s : Station) : Type 0 where
-  pub free : code ≡ 0 → refused-fits p s ≡ true
 
 -- unless a code is set, there is a place for the mark of p where p is a passive peer
 pub record FreePassiveMark (p code : ℕ) (s : Station) : Type 0 where

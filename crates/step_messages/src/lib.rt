@@ -18,18 +18,16 @@ ghost use Rattle.util.specs.Chances.{pick};
 ghost use Rattle.peer.specs.Held.{ValidData, data-in, node-in};
 ghost use Rattle.util.specs.Section.{HoldsSet};
 ghost use Rattle.protocol.specs.Budgets.{leaving, arriving};
-ghost use Rattle.protocol.specs.Run.{on, emit, emit-all, draw-one-of};
-ghost use Rattle.protocol.specs.Active.{accepts};
+ghost use Rattle.protocol.specs.Run.{emit, emit-all, draw-one-of};
 ghost use Rattle.protocol.specs.Messages.{forward-join-to, learn-joiner, on-forward-join};
-ghost use Rattle.protocol.specs.Messages.{forward-joins, on-join, refuse-neighbor, answer-neighbor, on-neighbor};
-ghost use Rattle.protocol.specs.Messages.{drop-join, drop-request, drop-recent, forget-recent, refused-fits, add-refused, note-refused, note-refusal, mark-passive, left-topic, disconnect-other};
-ghost use Rattle.protocol.specs.Messages.{disconnected, on-disconnect};
+ghost use Rattle.protocol.specs.Messages.{on-join, on-neighbor};
+ghost use Rattle.protocol.specs.Messages.{forget-recent, note-refusal, disconnect-other};
+ghost use Rattle.protocol.specs.Messages.{on-disconnect};
 ghost use Rattle.state.specs.Layout.{words, all-places, set-words};
 ghost use Rattle.state.specs.Unpack.{unpack, PackedState};
-ghost use Rattle.state.specs.Work.{work-of, run, Changes, DrawsAny, TellsAny, Room, Tells, Fine, Does};
-ghost use Rattle.step_active.specs.Sane.{Calm};
+ghost use Rattle.state.specs.Work.{work-of, run, Changes, DrawsAny, TellsAny, Fine, Does};
 ghost use Rattle.step_messages.specs.Between.{Between};
-ghost use Rattle.step_messages.specs.Places.{FreeRefused, FreePassiveMark};
+ghost use Rattle.step_messages.specs.Places.{FreePassiveMark};
 
 // The neighbors but p, as a working set.
 fn other_active(st: &[u64], p: PeerId, t: &mut [u64])
@@ -143,18 +141,6 @@ pub fn on_forward_join(
 
 // ---- Disconnect
 
-fn drop_recent(w: Work, st: &mut [u64], p: PeerId) -> Work
-    requires { ⌜ length (now st) ≡ words ⌝ }
-    requires { ⌜ PackedState (now st) ⌝ }
-    ensures { λ r. ⌜ Changes (on (drop-recent p)) (work-of w (now (st .entry))) (work-of r (now (st .exit))) ⌝ }
-{
-    if w.code != 0 {
-        return w;
-    }
-    util::without(&mut st[Layout::RECENT..Layout::RECENT_END], Layout::FEW, p);
-    w
-}
-
 // Whoever went away for good cannot let the station in again, so it is not kept for a rejoin.
 fn forget_recent(w: Work, st: &mut [u64], p: PeerId, alive: bool) -> Work
     requires { ⌜ length (now st) ≡ words ⌝ }
@@ -164,91 +150,35 @@ fn forget_recent(w: Work, st: &mut [u64], p: PeerId, alive: bool) -> Work
     if alive {
         return w;
     }
-    drop_recent(w, st, p)
-}
-
-// Whether p is among the refused peers, or there is a place for it.
-fn refused_fits(st: &[u64], p: PeerId) -> bool
-    requires { ⌜ length (now st) ≡ words ⌝ }
-    requires { ⌜ PackedState (now st) ⌝ }
-    ensures { λ r. ⌜ r ≡ refused-fits p (unpack (now (st .entry))) ⌝ }
-{
-    let n = util::count(&st[Layout::REFUSED..Layout::REFUSED_END], Layout::ALL);
-    util::contains(&st[Layout::REFUSED..Layout::REFUSED_END], Layout::ALL, p) | (n < Layout::ALL)
-}
-
-fn add_refused(w: Work, st: &mut [u64], p: PeerId) -> Work
-    requires { ⌜ length (now st) ≡ words ⌝ }
-    requires { ⌜ PackedState (now st) ⌝ }
-    requires { ⌜ FreeRefused p (w .code) (unpack (now st)) ⌝ }
-    ensures { λ r. ⌜ Changes (on (add-refused p)) (work-of w (now (st .entry))) (work-of r (now (st .exit))) ⌝ }
-{
     if w.code != 0 {
         return w;
     }
-    util::insert_sorted(
-        &mut st[Layout::REFUSED..Layout::REFUSED_END],
-        Layout::ALL,
-        p,
-    );
+    util::without(&mut st[Layout::RECENT..Layout::RECENT_END], Layout::FEW, p);
     w
 }
 
-// p refused a request; code 7 where a 33rd refused peer would be needed.
-fn note_refused(w: Work, st: &mut [u64], p: PeerId) -> Work
-    requires { ⌜ length (now st) ≡ words ⌝ }
-    requires { ⌜ PackedState (now st) ⌝ }
-    ensures { λ r. ⌜ Changes (note-refused p) (work-of w (now (st .entry))) (work-of r (now (st .exit))) ⌝ }
-{
-    let test = refused_fits(st, p);
-    let a = state::require(w, Refusal::REFUSED_PEERS, test);
-    add_refused(a, st, p)
-}
-
-// p refused a request, where one was open.
+// p refused a request, where one was open; code 7 where a 33rd refused peer would be needed.
 fn note_refusal(w: Work, st: &mut [u64], p: PeerId, requested: bool) -> Work
     requires { ⌜ length (now st) ≡ words ⌝ }
     requires { ⌜ PackedState (now st) ⌝ }
     ensures { λ r. ⌜ Changes (note-refusal p requested) (work-of w (now (st .entry))) (work-of r (now (st .exit))) ⌝ }
 {
     if requested {
-        return note_refused(w, st, p);
+        let n = util::count(&st[Layout::REFUSED..Layout::REFUSED_END], Layout::ALL);
+        let fits = util::contains(&st[Layout::REFUSED..Layout::REFUSED_END], Layout::ALL, p)
+            | (n < Layout::ALL);
+        let a = state::require(w, Refusal::REFUSED_PEERS, fits);
+        if a.code != 0 {
+            return a;
+        }
+        util::insert_sorted(
+            &mut st[Layout::REFUSED..Layout::REFUSED_END],
+            Layout::ALL,
+            p,
+        );
+        return a;
     }
     w
-}
-
-// A passive peer that disconnected alive is marked.
-fn mark_passive(w: Work, st: &mut [u64], p: PeerId) -> Work
-    requires { ⌜ length (now st) ≡ words ⌝ }
-    requires { ⌜ PackedState (now st) ⌝ }
-    requires { ⌜ FreePassiveMark p (w .code) (unpack (now st)) ⌝ }
-    ensures { λ r. ⌜ Changes (mark-passive p) (work-of w (now (st .entry))) (work-of r (now (st .exit))) ⌝ }
-{
-    if state::in_passive(st, p) {
-        return step_active::mark_alive(w, st, p);
-    }
-    w
-}
-
-// p left the topic, so it is no longer asked; another is asked in its place where a request to it was open.
-fn left_topic(
-    w: Work,
-    st: &mut [u64],
-    draws: &[u32],
-    out: &mut [u8],
-    p: PeerId,
-    requested: bool,
-) -> Work
-    requires { ⌜ length (now st) ≡ words ⌝ }
-    requires { ⌜ Fine (work-of w (now st)) (now draws) (now out) ⌝ }
-    ensures { λ r. ⌜ Does (work-of r (now (st .exit))) (now (draws .entry)) (now (out .exit)) (left-topic p requested (run (work-of w (now (st .entry))) (now (draws .entry)) (now (out .entry)))) ⌝ }
-{
-    let a = step_peers::drop_passive(w, st, p);
-    if requested {
-        let skip = [p];
-        return step_refill::refill_active_from_passive(a, st, draws, out, &skip);
-    }
-    a
 }
 
 // Disconnect from a peer that is no neighbor.
@@ -268,41 +198,18 @@ fn disconnect_other(
 {
     if alive {
         let a = note_refusal(w, st, p, requested);
-        return mark_passive(a, st, p);
+        // A passive peer that disconnected alive is marked.
+        if state::in_passive(st, p) {
+            return step_active::mark_alive(a, st, p);
+        }
+        return a;
     }
-    left_topic(w, st, draws, out, p, requested)
-}
-
-// Disconnect from a neighbor, or from another peer.
-fn disconnected(
-    w: Work,
-    st: &mut [u64],
-    draws: &[u32],
-    out: &mut [u8],
-    p: PeerId,
-    alive: bool,
-    requested: bool,
-) -> Work
-    requires { ⌜ length (now st) ≡ words ⌝ }
-    requires { ⌜ Fine (work-of w (now st)) (now draws) (now out) ⌝ }
-    requires { ⌜ Between 0 leaving 1 (run (work-of w (now st)) (now draws) (now out)) ⌝ }
-    ensures { λ r. ⌜ Does (work-of r (now (st .exit))) (now (draws .entry)) (now (out .exit)) (disconnected p alive requested (run (work-of w (now (st .entry))) (now (draws .entry)) (now (out .entry)))) ⌝ }
-{
-    if state::in_active(st, p) {
-        return step_active::remove_active(w, st, draws, out, p, Loss::DisconnectReceived(alive));
+    // p left the topic, so it is no longer asked; another is asked in its place where a request to it was open.
+    let a = step_peers::drop_passive(w, st, p);
+    if requested {
+        return step_refill::refill_active_from_passive(a, st, draws, out, &[p]);
     }
-    disconnect_other(w, st, draws, out, p, alive, requested)
-}
-
-// Neither a join nor a request to p is open, and it is no recent neighbor unless it is alive.
-fn forget_open(w: Work, st: &mut [u64], p: PeerId, alive: bool) -> Work
-    requires { ⌜ length (now st) ≡ words ⌝ }
-    requires { ⌜ PackedState (now st) ⌝ }
-    ensures { λ r. ⌜ Changes (λ g. on (drop-request p) (forget-recent p alive (on (drop-join p) g))) (work-of w (now (st .entry))) (work-of r (now (st .exit))) ⌝ }
-{
-    let a = state::drop_join(w, st, p);
-    let b = forget_recent(a, st, p, alive);
-    state::drop_request(b, st, p)
+    a
 }
 
 pub fn on_disconnect(
@@ -319,8 +226,14 @@ pub fn on_disconnect(
     ensures { λ r. ⌜ Does (work-of r (now (st .exit))) (now (draws .entry)) (now (out .exit)) (on-disconnect p alive (run (work-of w (now (st .entry))) (now (draws .entry)) (now (out .entry)))) ⌝ }
 {
     let requested = state::is_requested(st, p);
-    let a = forget_open(w, st, p, alive);
-    disconnected(a, st, draws, out, p, alive, requested)
+    // Neither a join nor a request to p is open, and it is no recent neighbor unless it is alive.
+    let a = state::drop_join(w, st, p);
+    let b = forget_recent(a, st, p, alive);
+    let e = state::drop_request(b, st, p);
+    if state::in_active(st, p) {
+        return step_active::remove_active(e, st, draws, out, p, Loss::DisconnectReceived(alive));
+    }
+    disconnect_other(e, st, draws, out, p, alive, requested)
 }
 
 // ---- Join and Neighbor
@@ -341,31 +254,6 @@ fn forward_join_to_all(w: Work, out: &mut [u8], others: &[PeerId], n: PeerInfo, 
     a
 }
 
-// ForwardJoin to all neighbors but the one who joins.
-fn forward_joins(w: Work, st: &[u64], out: &mut [u8], p: PeerId, d: PeerData) -> Work
-    requires { ⌜ length (now st) ≡ words ⌝ }
-    requires { ⌜ Room (work-of w (now st)) (now out) ⌝ }
-    requires { ⌜ ValidData d ⌝ }
-    ensures { λ r. ⌜ Tells (forward-joins p (data-in d)) (work-of w (now (st .entry))) (work-of r (now (st .entry))) (now (out .entry)) (now (out .exit)) ⌝ }
-{
-    let mut v = [0u64; Layout::SET];
-    other_active(st, p, &mut v);
-    let k = util::count(&v, Layout::ALL);
-    let ttl = st[Layout::ACTIVE_RANDOM_WALK_LENGTH] as u16;
-    let n = PeerInfo { id: p, data: d };
-    forward_join_to_all(w, out, &v[..k], n, ttl)
-}
-
-// A peer that is not taken in is told so, and forgotten again.
-fn refuse_neighbor(w: Work, st: &mut [u64], draws: &[u32], out: &mut [u8], p: PeerId) -> Work
-    requires { ⌜ length (now st) ≡ words ⌝ }
-    requires { ⌜ Fine (work-of w (now st)) (now draws) (now out) ⌝ }
-    ensures { λ r. ⌜ Does (work-of r (now (st .exit))) (now (draws .entry)) (now (out .exit)) (refuse-neighbor p (run (work-of w (now (st .entry))) (now (draws .entry)) (now (out .entry)))) ⌝ }
-{
-    let a = step_sending::send_disconnect(w, st, draws, out, p, true);
-    step_peers::forget_peer(a, st, p)
-}
-
 pub fn on_join(
     w: Work,
     st: &mut [u64],
@@ -382,41 +270,12 @@ pub fn on_join(
 {
     let a = state::drop_pending(w, st, p);
     let b = step_active::add_active(a, st, draws, out, p, d, true, true);
-    forward_joins(b, st, out, p, d)
-}
-
-// Whether p is in the active view after it was to enter it.
-fn accepts(st: &[u64], p: PeerId, high: bool) -> bool
-    requires { ⌜ length (now st) ≡ words ⌝ }
-    requires { ⌜ PackedState (now st) ⌝ }
-    ensures { λ r. ⌜ r ≡ accepts p high (unpack (now (st .entry))) ⌝ }
-{
-    !state::is_me(st, p) & (state::in_active(st, p) | (high | !state::active_is_full(st)))
-}
-
-// p is taken in, or refused.
-fn answer_neighbor(
-    w: Work,
-    st: &mut [u64],
-    draws: &[u32],
-    out: &mut [u8],
-    p: PeerId,
-    d: PeerData,
-    high: bool,
-    reply: bool,
-) -> Work
-    requires { ⌜ length (now st) ≡ words ⌝ }
-    requires { ⌜ Fine (work-of w (now st)) (now draws) (now out) ⌝ }
-    requires { ⌜ ValidData d ⌝ }
-    requires { ⌜ Calm 0 arriving 40 (run (work-of w (now st)) (now draws) (now out)) ⌝ }
-    ensures { λ r. ⌜ Does (work-of r (now (st .exit))) (now (draws .entry)) (now (out .exit)) (answer-neighbor p (data-in d) high reply (run (work-of w (now (st .entry))) (now (draws .entry)) (now (out .entry)))) ⌝ }
-{
-    let accepted = accepts(st, p, high);
-    let a = step_active::add_active(w, st, draws, out, p, d, high, reply);
-    if accepted {
-        return a;
-    }
-    refuse_neighbor(a, st, draws, out, p)
+    // ForwardJoin to all neighbors but the one who joins.
+    let mut v = [0u64; Layout::SET];
+    other_active(st, p, &mut v);
+    let k = util::count(&v, Layout::ALL);
+    let ttl = st[Layout::ACTIVE_RANDOM_WALK_LENGTH] as u16;
+    forward_join_to_all(b, out, &v[..k], PeerInfo { id: p, data: d }, ttl)
 }
 
 // Neighbor from a peer with an open request is its reply, and is not answered.
@@ -437,5 +296,14 @@ pub fn on_neighbor(
 {
     let requested = state::is_requested(st, p);
     let a = state::drop_pending(w, st, p);
-    answer_neighbor(a, st, draws, out, p, d, high, !requested)
+    // Whether p is in the active view after it was to enter it.
+    let accepted = !state::is_me(st, p)
+        & (state::in_active(st, p) | (high | !state::active_is_full(st)));
+    let b = step_active::add_active(a, st, draws, out, p, d, high, !requested);
+    if accepted {
+        return b;
+    }
+    // A peer that is not taken in is told so, and forgotten again.
+    let e = step_sending::send_disconnect(b, st, draws, out, p, true);
+    step_peers::forget_peer(e, st, p)
 }

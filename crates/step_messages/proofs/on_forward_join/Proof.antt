@@ -1,5 +1,6 @@
+use Rattle.step_sending.proofs.Told.{room-drawn}
 use Rattle.step_sending.proofs.Sets.{lent-count}
-use Rattle.step_messages.proofs.Laws.{place-kept, end-known, joiner-asked, walk-ended, walk-stopped, walk-goes-on, walked-on, join-on}
+use Rattle.step_messages.proofs.Laws.{end-known, joiner-asked, walk-ended, walk-stopped, walk-goes-on, walked-on, join-on}
 use borrow.Author.Needs.{needs}
 use Rattle.step_messages.proofs.on_forward_join.Statement.{statement}
 use Rattle.step_messages.proofs.on_forward_join.Tie as tie
@@ -85,7 +86,7 @@ forward-join-to-requires c κs =
     let at-picked = c .before .before in
     let at-learn-joiner = if2-to-learn-joiner (picked-to-if2 at-picked) in
     let at-start = in-active-to-start (learn-joiner-to-in-active at-learn-joiner) in
-    (place-kept (at-picked .picked .ensures .0) (at-learn-joiner .learn-joiner .ensures .fine), at-start .pre .1 .1)
+    (room-drawn _ _ _ _ _ (at-learn-joiner .learn-joiner .ensures .fine) (at-picked .picked .ensures .0) .written, at-start .pre .1 .1)
 
 same-length-5 : tie.Need-same-length-5
 same-length-5 c = search needs
