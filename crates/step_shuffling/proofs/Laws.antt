@@ -2,7 +2,7 @@
 -- Assumes nothing.
 use Prim.Native.Nat.{ℕ}
 use mathlib.Core.Path.{_≡_, sym, ap, _∙_}
-use mathlib.Core.Bool.{Bool, true, false}
+use mathlib.Core.Bool.{Bool, true, false, not, _&&_, _||_}
 use mathlib.Core.List.{List, [], _∷_}
 use native.Mathlib.Omega.{arith}
 use lib.ListN.{length, drop, getD}
@@ -14,10 +14,11 @@ use Rattle.util.specs.Chances.{pick}
 use Rattle.peer.specs.Data.{Node}
 use Rattle.record.specs.Read.{nodes-of}
 use Rattle.record.proofs.Nodes.{length-nodes-of}
-use Rattle.timing.specs.Timing.{next}
+use Rattle.timing.specs.Timing.{next, expired}
 use Rattle.writer.specs.declared.Nodes.{Nodes}
 use Rattle.writer.specs.Nodes.{nodes-in, HoldsNodes}
 use Rattle.writer.specs.Write.{rec-in}
+use Rattle.protocol.specs.Station.{Station, is-requested, is-short, is-last-hop, is-spent}
 use Rattle.protocol.specs.Run.{emit, to-draw, one-of, draw-one-of, picked, message}
 use Rattle.protocol.specs.Peers.{add-nodes, any-new}
 use Rattle.protocol.specs.Sending.{send-shuffle-reply}
@@ -27,7 +28,7 @@ use Rattle.state.specs.declared.Work.{Work}
 use Rattle.state.specs.Work.{work-of, run, DrawsAny, TellsAny, Fine, Does}
 use Rattle.state.specs.Layout.{active-part}
 use Rattle.state.specs.declared.RefillLimit.{RefillLimit}
-use Rattle.state.specs.Unpack.{unpack, station-of, refill-in}
+use Rattle.state.specs.Unpack.{unpack, station-of, refill-in, limit-at}
 use Rattle.state.proofs.Bridge.{by, still, seq-at, taken, left, holds-at, at-run}
 use Rattle.state.proofs.Any.{then-draw-any, then-tell-any}
 
@@ -75,6 +76,10 @@ passed-on w r xs ds out o others ns origin from ttl h d = by _ (ap (λ (l : List
 
 -- ---- the two ways of a Shuffle
 
+pub answers-known : (s : Station) (ttl : ℕ) (a b : Bool) → a ≡ expired ttl → b ≡ is-last-hop s → (a || b) ≡ answers-shuffle ttl s
+unfolding answers-shuffle
+answers-known s ttl a b x y = λ i. x i || y i
+
 pub answered : (w a r : Work) (xs ys zs ds out o₁ o b : List ℕ) (n origin : ℕ) → Does (work-of r zs) ds o (send-shuffle-reply origin n (run (work-of a ys) ds o₁))
     → Does (work-of a ys) ds o₁ (add-nodes (nodes-of b 0 n) (run (work-of w xs) ds out)) → Does (work-of r zs) ds o (answer-shuffle origin (nodes-of b 0 n) (run (work-of w xs) ds out))
 unfolding answer-shuffle
@@ -91,6 +96,14 @@ module _ (w r : Work) (xs ys ds out o : List ℕ) (from origin : ℕ) (ns : List
   shuffle-forwarded h d = left _ _ (holds-at (work-of w xs) ds out (answers-shuffle ttl) e h) d
 
 -- ---- replies to shuffles
+
+pub stops-known : (s : Station) (p : ℕ) (a b : Bool) → a ≡ is-requested p s → b ≡ is-short s → (a && not b) ≡ stops-at-refusal p s
+unfolding stops-at-refusal
+stops-known s p a b x y = λ i. x i && not (y i)
+
+pub renews-known : (xs : List ℕ) (p : ℕ) (a new b : Bool) (l : RefillLimit) → a ≡ is-requested p (unpack xs) → b ≡ is-spent (refill-in l) → l ≡ limit-at xs → (not a && (new && b)) ≡ renews-limit p new (unpack xs)
+unfolding renews-limit unpack station-of
+renews-known xs p a new b l x y z = λ i. not (x i) && (new && (y ∙ ap (λ (m : RefillLimit). is-spent (refill-in m)) z) i)
 
 module _ (w r : Work) (xs ys ds out o : List ℕ) (renewed : Bool) where
   pub refilled-few : (l : RefillLimit) → renewed ≡ true → refill-in l ≡ few-requests → Does (work-of r ys) ds o (start-refill (refill-in l) [] (run (work-of w xs) ds out))
