@@ -42,11 +42,9 @@ fn add_nodes(w: Work, st: &mut [u64], draws: &[u32], out: &mut [u8], b: &[u8], n
     let mut i: usize = 0;
     while i < n {
         let x = record::peer_info_at(b, i);
-        let p = x.id;
-        let d = x.data;
-        fresh = fresh | step_peers::is_newcomer(st, p);
+        fresh = fresh | step_peers::is_newcomer(st, x.id);
         i += 1;
-        let t = step_peers::add_passive(a, st, draws, out, p, d);
+        let t = step_peers::add_passive(a, st, draws, out, x.id, x.data);
         a = t.work;
     }
     Learned {
@@ -64,9 +62,8 @@ fn event_nodes(b: &[u8], n: usize) -> Nodes
     let mut t = Nodes::new();
     let mut i: usize = 0;
     while i < n {
-        let x = record::peer_info_at(b, i);
+        t = t.push(record::peer_info_at(b, i));
         i += 1;
-        t = t.push(x);
     }
     t
 }

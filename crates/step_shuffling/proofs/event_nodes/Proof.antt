@@ -69,11 +69,11 @@ loop-holds c = search (start, needs)
 peer-info-at-requires : tie.Need-peer-info-at-requires Inv-loop μ-loop
 peer-info-at-requires c κs = search needs
 
-add-i : tie.Need-add-i Inv-loop μ-loop
-add-i c = search needs
-
 push-requires : tie.Need-push-requires Inv-loop μ-loop
 push-requires c κs = search needs
+
+add-i : tie.Need-add-i Inv-loop μ-loop
+add-i c = search needs
 
 loop-less : tie.Need-loop-less Inv-loop μ-loop
 loop-less c = search needs
@@ -93,8 +93,8 @@ event-nodes-spec =
     new-requires
     loop-holds
     peer-info-at-requires
-    add-i
     push-requires
+    add-i
     loop-less
     loop-again
     returns)
