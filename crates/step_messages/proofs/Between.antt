@@ -24,7 +24,7 @@ use Rattle.state.proofs.Bridge.{change-then, still, then, then-tell, seq, seq-a
 use Rattle.step_active.specs.declared.Loss.the-variants.{DisconnectReceived}
 use Rattle.step_active.specs.Sane.{Calm, reason-in}
 use Rattle.step_messages.specs.Between.{Between}
-use Rattle.step_messages.specs.Places.{FreePassiveMark}
+use Rattle.step_messages.proofs.Laws.{FreePassiveMark}
 
 pub between-calm : (m b d : ℕ) (w : Held) (ds out : List ℕ) → Between m b d (run w ds out) → Calm m b d (run w ds out)
 between-calm m b d w ds out k = record { fixed = k .fixed; guest = []; barred = []; messages = k .messages; bytes = k .bytes; draws = k .draws; ok = k .ok }

@@ -41,7 +41,6 @@ use Rattle.state.proofs.Any.{drew-none-of, then-draw-any, then-tell-any}
 use Rattle.step_sending.proofs.Sets.{lent-items}
 use Rattle.state.proofs.Bridge.{unchanged, change-by, change-then, change-yes, change-no, tell-by, tell-then, require-said, by, still, then, then-tell, seq, taken, left, holds-at}
 use Rattle.step_active.specs.Sane.{FreeMark}
-use Rattle.step_messages.specs.Places.{FreePassiveMark}
 
 -- ---- joins that are forwarded
 
@@ -73,40 +72,38 @@ module _ (w : Work) (xs ds out : List ℕ) (n : PeerInfo) (ttl : ℕ) where
   joiner-unlearned v h = left _ _ (ne-eqb _ _ (λ e. h (e ∙ walk-is))) (still v)
 
 -- one of no peers is 0
-pub none-picked : (ps ds : List ℕ) (n : ℕ) → n ≡ length ps → n ≡ 0 → 0 ≡ getD ps (pick (length ps) ds) 0
-none-picked [] ds n e h = refl
-none-picked (p ∷ ps) ds n e h = absurd (omega (arith, e, h))
+none-picked : (ps ds : List ℕ) (k : ℕ) → k ≡ length ps → k ≡ 0 → 0 ≡ getD ps (pick (length ps) ds) 0
+none-picked [] ds k e h = refl
+none-picked (p ∷ ps) ds k e h = absurd (omega (arith, e, h))
 
-pub none-drawn : (w : Work) (ds ps : List ℕ) (n : ℕ) → w .drawn ≤ length ds → n ≡ length ps → n ≡ 0 → DrawsAny (draw-one-of (length ps)) w w ds
-none-drawn w ds ps n l e h = drew-none-of w w ds (length ps) l (omega (arith, e, h))
-
-pub one-picked : (ps ds : List ℕ) (n i : ℕ) → n ≡ length ps → i ≡ pick n ds → getD ps i 0 ≡ getD ps (pick (length ps) ds) 0
-one-picked ps ds n i e h = rw (h, e)
-
-pub one-drawn : (w a : Work) (ds ps : List ℕ) (n : ℕ) → n ≡ length ps → DrawsAny (draw-one-of n) w a ds → DrawsAny (draw-one-of (length ps)) w a ds
-one-drawn w a ds ps n e k = subst (λ (m : ℕ). DrawsAny (draw-one-of m) w a ds) e k
-
-module _ (w : Work) (xs ds out ps : List ℕ) (n : Node) (ttl : ℕ) where
-  join-on-is : (q u : ℕ) → q ≡ getD ps (pick (length ps) (drop (w .drawn) ds)) 0 → u ≡ next ttl
+module _ (w : Work) (xs ds out ps : List ℕ) (n : Node) (ttl k u : ℕ) (v : Fine (work-of w xs) ds out) (c : k ≡ length ps) (y : u ≡ next ttl) where
+  join-on-is : (q : ℕ) → q ≡ getD ps (pick (length ps) (drop (w .drawn) ds)) 0
       → forward-join-on ps n ttl (run (work-of w xs) ds out) ≡ emit (forward-join-to n u q) (draw-one-of (length ps) (run (work-of w xs) ds out))
   unfolding forward-join-on picked one-of to-draw run
-  join-on-is q u p y = λ i. emit (forward-join-to n (sym y i) (sym p i)) (draw-one-of (length ps) (run (work-of w xs) ds out))
+  join-on-is q p = λ i. emit (forward-join-to n (sym y i) (sym p i)) (draw-one-of (length ps) (run (work-of w xs) ds out))
 
-  pub join-on : (a r : Work) (o : List ℕ) (q u : ℕ) → Fine (work-of w xs) ds out → q ≡ getD ps (pick (length ps) (drop (w .drawn) ds)) 0 → u ≡ next ttl
-      → TellsAny (emit (forward-join-to n u q)) a r out o → DrawsAny (draw-one-of (length ps)) w a ds → Does (work-of r xs) ds o (forward-join-on ps n ttl (run (work-of w xs) ds out))
-  join-on a r o q u v p y k₂ k₁ = by _ (join-on-is q u p y) (then-tell-any k₂ (then-draw-any k₁ (still v)))
+  join-on : (a r : Work) (o : List ℕ) (q : ℕ) → q ≡ getD ps (pick (length ps) (drop (w .drawn) ds)) 0 → TellsAny (emit (forward-join-to n u q)) a r out o → DrawsAny (draw-one-of (length ps)) w a ds
+      → Does (work-of r xs) ds o (forward-join-on ps n ttl (run (work-of w xs) ds out))
+  join-on a r o q p k₂ k₁ = by _ (join-on-is q p) (then-tell-any k₂ (then-draw-any k₁ (still v)))
+
+  pub join-on-none : (r : Work) (o : List ℕ) → k ≡ 0 → TellsAny (emit (forward-join-to n u 0)) w r out o → Does (work-of r xs) ds o (forward-join-on ps n ttl (run (work-of w xs) ds out))
+  join-on-none r o h d = join-on w r o 0 (none-picked ps (drop (w .drawn) ds) k c h) d (drew-none-of w w ds (length ps) (v .ready .drawn) (omega (arith, c, h)))
+
+  pub join-on-one : (a r : Work) (o : List ℕ) (q i : ℕ) → i ≡ pick k (drop (w .drawn) ds) → q ≡ getD ps i 0 → TellsAny (emit (forward-join-to n u q)) a r out o → DrawsAny (draw-one-of k) w a ds
+      → Does (work-of r xs) ds o (forward-join-on ps n ttl (run (work-of w xs) ds out))
+  join-on-one a r o q i p e k₂ k₁ = join-on a r o q (e ∙ rw (p, c)) k₂ (subst (λ (m : ℕ). DrawsAny (draw-one-of m) w a ds) c k₁)
 
 module _ (w : Work) (xs ds out : List ℕ) (from : ℕ) (n : PeerInfo) (ttl : ℕ) (t : Bool) (e : t ≡ is-requested (n .id) (unpack xs)) where
   pub walk-stopped : Fine (work-of w xs) ds out → t ≡ true → Does (work-of w xs) ds out (walk-on from (node-in n) ttl (run (work-of w xs) ds out))
   unfolding walk-on node-in
   walk-stopped v h = taken _ _ (holds-at (work-of w xs) ds out (is-requested (n .id)) e h) (still v)
 
-  module _ (v : List ℕ) (k : ℕ) (p : HoldsSet 32 v (without from (unpack xs .active))) (q : k ≡ length (items-at 32 v)) where
-    rest-are : without from (run (work-of w xs) ds out .station .active) ≡ take k v
+  module _ (v : List ℕ) (p : HoldsSet 32 v (without from (unpack xs .active))) where
+    rest-are : without from (run (work-of w xs) ds out .station .active) ≡ items-at 32 v
     unfolding run
-    rest-are = sym (lent-items v k (p .valid) q ∙ p .items)
+    rest-are = sym (p .items)
 
-    pub walked-on : (r : Held) (o : List ℕ) → t ≡ false → Does r ds o (forward-join-on (take k v) (node-in n) ttl (run (work-of w xs) ds out)) → Does r ds o (walk-on from (node-in n) ttl (run (work-of w xs) ds out))
+    pub walked-on : (r : Held) (o : List ℕ) → t ≡ false → Does r ds o (forward-join-on (items-at 32 v) (node-in n) ttl (run (work-of w xs) ds out)) → Does r ds o (walk-on from (node-in n) ttl (run (work-of w xs) ds out))
     unfolding walk-on node-in
     walked-on r o h d =
         left _ _ (holds-at (work-of w xs) ds out (is-requested (n .id)) e h) (by _ (ap (λ (l : List ℕ). forward-join-on l (node-in n) ttl (run (work-of w xs) ds out)) rest-are) d)
@@ -183,6 +180,10 @@ module _ (w : Held) (p : ℕ) (requested : Bool) where
   unfolding note-refusal
   refusal-none v h = unchanged (note-refusal p requested) v (λ ds out. choose-no _ _ _ h)
 
+-- unless a code is set, there is a place for the mark of p where p is a passive peer
+pub record FreePassiveMark (p code : ℕ) (s : Station) : Type 0 where
+  pub free : code ≡ 0 → in-passive p s ≡ true → length (insert p (s .alive)) ≤ 32
+
 pub mark-place : (xs : List ℕ) (p code : ℕ) (t : Bool) → t ≡ in-passive p (unpack xs) → t ≡ true → FreePassiveMark p code (unpack xs) → FreeMark p code (unpack xs)
 mark-place xs p code t e h f = record { free = λ z. f .free z (sym e ∙ h) }
 
@@ -227,11 +228,10 @@ pub still-markable : (w a : Work) (xs ys : List ℕ) (p : ℕ) (requested : Bool
 unfolding run
 still-markable w a xs ys p requested h k = subst (Markable p) (sym (k .same [] [])) (noted-mark p requested (run (work-of w xs) [] []) h)
 
-module _ (w r : Held) (ds out o : List ℕ) (p : ℕ) (alive requested : Bool) where
-  pub other-alive : (a : Held) → Fine w ds out → alive ≡ true → Changes (mark-passive p) a r → Changes (note-refusal p requested) w a → Does r ds out (disconnect-other p alive requested (run w ds out))
-  unfolding disconnect-other
-  other-alive a v h k₂ k₁ = taken _ _ h (then k₂ (then k₁ (still v)))
+pub other-alive : (w a r : Held) (ds out : List ℕ) (p : ℕ) (alive requested : Bool) → Fine w ds out → alive ≡ true → Changes (mark-passive p) a r → Changes (note-refusal p requested) w a → Does r ds out (disconnect-other p alive requested (run w ds out))
+unfolding disconnect-other
+other-alive w a r ds out p alive requested v h k₂ k₁ = taken _ _ h (then k₂ (then k₁ (still v)))
 
-  pub other-left : alive ≡ false → Does r ds o (left-topic p requested (run w ds out)) → Does r ds o (disconnect-other p alive requested (run w ds out))
-  unfolding disconnect-other
-  other-left h d = left _ _ h d
+pub other-left : (w r : Held) (ds out o : List ℕ) (p : ℕ) (alive requested : Bool) → alive ≡ false → Does r ds o (left-topic p requested (run w ds out)) → Does r ds o (disconnect-other p alive requested (run w ds out))
+unfolding disconnect-other
+other-left w r ds out o p alive requested h d = left _ _ h d

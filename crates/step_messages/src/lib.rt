@@ -12,22 +12,20 @@ use timing::Ttl;
 use writer::Fields;
 ghost use mathlib.Core.Path.{_≡_};
 ghost use Prim.Native.Nat.{_≤_};
-ghost use lib.ListN.{length, drop, getD};
+ghost use lib.ListN.{length};
 ghost use Rattle.lists.specs.Lists.{without};
-ghost use Rattle.util.specs.Chances.{pick};
 ghost use Rattle.peer.specs.Held.{ValidData, data-in, node-in};
 ghost use Rattle.util.specs.Section.{HoldsSet};
 ghost use Rattle.protocol.specs.Budgets.{leaving, arriving};
-ghost use Rattle.protocol.specs.Run.{emit, emit-all, draw-one-of};
+ghost use Rattle.protocol.specs.Run.{emit, emit-all};
 ghost use Rattle.protocol.specs.Messages.{forward-join-to, learn-joiner, on-forward-join};
 ghost use Rattle.protocol.specs.Messages.{on-join, on-neighbor};
-ghost use Rattle.protocol.specs.Messages.{forget-recent, note-refusal, disconnect-other};
+ghost use Rattle.protocol.specs.Messages.{forget-recent, note-refusal};
 ghost use Rattle.protocol.specs.Messages.{on-disconnect};
 ghost use Rattle.state.specs.Layout.{words, all-places, set-words};
 ghost use Rattle.state.specs.Unpack.{unpack, PackedState};
-ghost use Rattle.state.specs.Work.{work-of, run, Changes, DrawsAny, TellsAny, Fine, Does};
+ghost use Rattle.state.specs.Work.{work-of, run, Changes, TellsAny, Fine, Does};
 ghost use Rattle.step_messages.specs.Between.{Between};
-ghost use Rattle.step_messages.specs.Places.{FreePassiveMark};
 
 // The neighbors but p, as a working set.
 fn other_active(st: &[u64], p: PeerId, t: &mut [u64])
@@ -57,9 +55,7 @@ fn learn_joiner(
     ensures { λ r. ⌜ Does (work-of r (now (st .exit))) (now (draws .entry)) (now (out .exit)) (learn-joiner (node-in n) ttl (run (work-of w (now (st .entry))) (now (draws .entry)) (now (out .entry)))) ⌝ }
 {
     if ttl as u64 == st[Layout::PASSIVE_RANDOM_WALK_LENGTH] {
-        let p = n.id;
-        let d = n.data;
-        let t = step_peers::add_passive(w, st, draws, out, p, d);
+        let t = step_peers::add_passive(w, st, draws, out, n.id, n.data);
         return t.work;
     }
     w
@@ -81,29 +77,6 @@ fn forward_join_to(w: Work, out: &mut [u8], n: PeerInfo, ttl: u16, q: PeerId) ->
         number: 0,
     };
     state::emit_one(w, out, f, n)
-}
-
-// One of several peers, and the work that has taken its draws.
-struct PickedPeer {
-    work: Work,
-    peer: PeerId,
-}
-
-// One of these peers, and the work that has taken its draws; 0, and no draw, where there is none.
-fn picked(w: Work, draws: &[u32], ps: &[PeerId]) -> PickedPeer
-    requires { ⌜ w .drawn ≤ length (now draws) ⌝ }
-    ensures { λ r. ⌜ DrawsAny (draw-one-of (length (now (ps .entry)))) w (r .work) (now (draws .entry)) ⌝ }
-    ensures { λ r. ⌜ r .peer ≡ getD (now (ps .entry)) (pick (length (now (ps .entry))) (drop (w .drawn) (now (draws .entry)))) 0 ⌝ }
-{
-    let n = ps.len();
-    if n == 0 {
-        return PickedPeer { work: w, peer: 0 };
-    }
-    let t = state::choose(w, draws, n);
-    let a = t.work;
-    let i = t.index;
-    let p = ps[i];
-    PickedPeer { work: a, peer: p }
 }
 
 pub fn on_forward_join(
@@ -134,9 +107,13 @@ pub fn on_forward_join(
     let mut v = [0u64; Layout::SET];
     other_active(st, from, &mut v);
     let k = util::count(&v, Layout::ALL);
-    let q = picked(a, draws, &v[..k]);
     let left = t.next();
-    forward_join_to(q.work, out, n, left.0, q.peer)
+    if k == 0 {
+        return forward_join_to(a, out, n, left.0, 0);
+    }
+    let c = state::choose(a, draws, k);
+    let q = util::get_index(&v, Layout::ALL, c.index);
+    forward_join_to(c.work, out, n, left.0, q)
 }
 
 // ---- Disconnect
@@ -181,37 +158,6 @@ fn note_refusal(w: Work, st: &mut [u64], p: PeerId, requested: bool) -> Work
     w
 }
 
-// Disconnect from a peer that is no neighbor.
-fn disconnect_other(
-    w: Work,
-    st: &mut [u64],
-    draws: &[u32],
-    out: &mut [u8],
-    p: PeerId,
-    alive: bool,
-    requested: bool,
-) -> Work
-    requires { ⌜ length (now st) ≡ words ⌝ }
-    requires { ⌜ Fine (work-of w (now st)) (now draws) (now out) ⌝ }
-    requires { ⌜ FreePassiveMark p (w .code) (unpack (now st)) ⌝ }
-    ensures { λ r. ⌜ Does (work-of r (now (st .exit))) (now (draws .entry)) (now (out .exit)) (disconnect-other p alive requested (run (work-of w (now (st .entry))) (now (draws .entry)) (now (out .entry)))) ⌝ }
-{
-    if alive {
-        let a = note_refusal(w, st, p, requested);
-        // A passive peer that disconnected alive is marked.
-        if state::in_passive(st, p) {
-            return step_active::mark_alive(a, st, p);
-        }
-        return a;
-    }
-    // p left the topic, so it is no longer asked; another is asked in its place where a request to it was open.
-    let a = step_peers::drop_passive(w, st, p);
-    if requested {
-        return step_refill::refill_active_from_passive(a, st, draws, out, &[p]);
-    }
-    a
-}
-
 pub fn on_disconnect(
     w: Work,
     st: &mut [u64],
@@ -233,7 +179,20 @@ pub fn on_disconnect(
     if state::in_active(st, p) {
         return step_active::remove_active(e, st, draws, out, p, Loss::DisconnectReceived(alive));
     }
-    disconnect_other(e, st, draws, out, p, alive, requested)
+    if alive {
+        let f = note_refusal(e, st, p, requested);
+        // A passive peer that disconnected alive is marked.
+        if state::in_passive(st, p) {
+            return step_active::mark_alive(f, st, p);
+        }
+        return f;
+    }
+    // p left the topic, so it is no longer asked; another is asked in its place where a request to it was open.
+    let f = step_peers::drop_passive(e, st, p);
+    if requested {
+        return step_refill::refill_active_from_passive(f, st, draws, out, &[p]);
+    }
+    f
 }
 
 // ---- Join and Neighbor

@@ -1,13 +1,15 @@
 use Rattle.step_sending.proofs.Told.{room-drawn}
-use Rattle.step_sending.proofs.Sets.{lent-count}
-use Rattle.step_messages.proofs.Laws.{end-known, joiner-asked, walk-ended, walk-stopped, walk-goes-on, walked-on, join-on}
+use Rattle.step_messages.proofs.Laws.{end-known, joiner-asked, walk-ended, walk-stopped, walk-goes-on, walked-on, join-on-none, join-on-one}
 use borrow.Author.Needs.{needs}
 use Rattle.step_messages.proofs.on_forward_join.Statement.{statement}
 use Rattle.step_messages.proofs.on_forward_join.Tie as tie
 
 -- The ways back, from a place to an earlier one.
-abbrev picked-to-if2 : tie.After-picked → tie.Else2
-picked-to-if2 c = c .before .before .before .before .before .before .before .before
+abbrev choose-to-next : tie.After-choose → tie.After-next
+choose-to-next c = c .before .before
+
+abbrev next-to-if2 : tie.After-next → tie.Else2
+next-to-if2 c = c .before .before .before .before .before .before .before
 
 abbrev if2-to-learn-joiner : tie.Else2 → tie.After-learn-joiner
 if2-to-learn-joiner c = c .before .before .before .before .before .before .before
@@ -69,24 +71,14 @@ slice-aggregate-count c = search needs
 count-requires : tie.Need-count-requires
 count-requires c κs = search needs
 
-array-share-prefix-v : tie.Need-array-share-prefix-v
-array-share-prefix-v c = search needs
-
-slice-aggregate-picked : tie.Need-slice-aggregate-picked
-slice-aggregate-picked c = search lent-count
-
-picked-requires : tie.Need-picked-requires
-picked-requires c κs = search needs
-
 next-requires : tie.Need-next-requires
 next-requires c κs = search needs
 
 forward-join-to-requires : tie.Need-forward-join-to-requires
 forward-join-to-requires c κs =
-    let at-picked = c .before .before in
-    let at-learn-joiner = if2-to-learn-joiner (picked-to-if2 at-picked) in
+    let at-learn-joiner = if2-to-learn-joiner (next-to-if2 (c .before .before)) in
     let at-start = in-active-to-start (learn-joiner-to-in-active at-learn-joiner) in
-    (room-drawn _ _ _ _ _ (at-learn-joiner .learn-joiner .ensures .fine) (at-picked .picked .ensures .0) .written, at-start .pre .1 .1)
+    (at-learn-joiner .learn-joiner .ensures .fine .written, at-start .pre .1 .1)
 
 same-length-5 : tie.Need-same-length-5
 same-length-5 c = search needs
@@ -96,16 +88,54 @@ same-length-6 c = search needs
 
 returns-3 : tie.Need-returns-3
 returns-3 c =
-    let at-next = c .before .before .before .before in
-    let at-picked = at-next .before in
-    let at-if2 = picked-to-if2 at-picked in
+    let at-next = c .before .before .before .before .before in
+    let at-if2 = next-to-if2 at-next in
     let at-learn-joiner = if2-to-learn-joiner at-if2 in
     let at-if1 = at-learn-joiner .before .before .before in
-    let at-in-active = learn-joiner-to-in-active at-learn-joiner in
-    let ended = end-known _ _ _ _ _ _ (at-in-active .in-active .ensures) (at-if1 .before .before .before .expired .ensures) (at-if1 .before .is-last-hop .ensures) in
+    let ended = end-known _ _ _ _ _ _ (learn-joiner-to-in-active at-learn-joiner .in-active .ensures) (at-if1 .before .before .before .expired .ensures) (at-if1 .before .is-last-hop .ensures) in
     let walked =
-    walked-on _ _ _ _ _ _ _ _ (at-if2 .before .is-requested .ensures) _ _ (at-picked .before .before .before .before .before .other-active .ensures) (at-picked .before .before .count .ensures .0) _ _ (at-if2 .if2 .left)
-    (join-on _ _ _ _ _ _ _ _ _ _ _ _ (at-learn-joiner .learn-joiner .ensures .fine) (at-picked .picked .ensures .1) (at-next .next .ensures) (c .before .before .forward-join-to .ensures) (at-picked .picked .ensures .0))
+    walked-on _ _ _ _ _ _ _ _ (at-if2 .before .is-requested .ensures) _ (at-next .before .before .before .before .other-active .ensures) _ _ (at-if2 .if2 .left)
+    (join-on-none _ _ _ _ _ _ _ _ _ (at-learn-joiner .learn-joiner .ensures .fine) (at-next .before .count .ensures .0) (at-next .next .ensures) _ _ (c .before .before .before .before .if3 .taken) (c .before .before .forward-join-to .ensures))
+    in
+    walk-goes-on _ _ _ _ _ _ _ _ _ ended _ _ (at-if1 .if1 .left) walked (at-learn-joiner .learn-joiner .ensures)
+
+choose-requires : tie.Need-choose-requires
+choose-requires c κs = search needs
+
+slice-aggregate-get-index : tie.Need-slice-aggregate-get-index
+slice-aggregate-get-index c = search needs
+
+get-index-requires : tie.Need-get-index-requires
+get-index-requires c κs = search needs
+
+forward-join-to-requires-2 : tie.Need-forward-join-to-requires-2
+forward-join-to-requires-2 c κs =
+    let at-choose = c .before .before .before in
+    let at-learn-joiner = if2-to-learn-joiner (next-to-if2 (choose-to-next at-choose)) in
+    let at-start = in-active-to-start (learn-joiner-to-in-active at-learn-joiner) in
+    (room-drawn _ _ _ _ _ (at-learn-joiner .learn-joiner .ensures .fine) (at-choose .choose .ensures .0) .written, at-start .pre .1 .1)
+
+same-length-7 : tie.Need-same-length-7
+same-length-7 c =
+    let at-next = choose-to-next (c .before .before .before .before .before .before) in
+    search (needs, if2-to-learn-joiner (next-to-if2 at-next) .learn-joiner .kept)
+
+same-length-8 : tie.Need-same-length-8
+same-length-8 c =
+    let at-next = choose-to-next (c .before .before .before .before .before .before) in
+    search (needs, if2-to-learn-joiner (next-to-if2 at-next) .learn-joiner .kept)
+
+returns-4 : tie.Need-returns-4
+returns-4 c =
+    let at-choose = c .before .before .before .before .before .before in
+    let at-next = choose-to-next at-choose in
+    let at-if2 = next-to-if2 at-next in
+    let at-learn-joiner = if2-to-learn-joiner at-if2 in
+    let at-if1 = at-learn-joiner .before .before .before in
+    let ended = end-known _ _ _ _ _ _ (learn-joiner-to-in-active at-learn-joiner .in-active .ensures) (at-if1 .before .before .before .expired .ensures) (at-if1 .before .is-last-hop .ensures) in
+    let walked =
+    walked-on _ _ _ _ _ _ _ _ (at-if2 .before .is-requested .ensures) _ (at-next .before .before .before .before .other-active .ensures) _ _ (at-if2 .if2 .left)
+    (join-on-one _ _ _ _ _ _ _ _ _ (at-learn-joiner .learn-joiner .ensures .fine) (at-next .before .count .ensures .0) (at-next .next .ensures) _ _ _ _ _ (at-choose .choose .ensures .1 .0) (c .before .before .before .before .get-index .ensures) (c .before .before .forward-join-to2 .ensures) (at-choose .choose .ensures .0))
     in
     walk-goes-on _ _ _ _ _ _ _ _ _ ended _ _ (at-if1 .if1 .left) walked (at-learn-joiner .learn-joiner .ensures)
 
@@ -130,11 +160,15 @@ on-forward-join-spec =
     other-active-requires
     slice-aggregate-count
     count-requires
-    array-share-prefix-v
-    slice-aggregate-picked
-    picked-requires
     next-requires
     forward-join-to-requires
     same-length-5
     same-length-6
-    returns-3)
+    returns-3
+    choose-requires
+    slice-aggregate-get-index
+    get-index-requires
+    forward-join-to-requires-2
+    same-length-7
+    same-length-8
+    returns-4)
