@@ -19,8 +19,8 @@ use Rattle.protocol.proofs.Entering.{unbar}
 use Rattle.protocol.proofs.Received.{ok-drop-join, ok-drop-request, ok-drop-pending, ok-forget-recent}
 use Rattle.state.specs.declared.Work.{Work}
 use Rattle.state.specs.Unpack.{unpack}
-use Rattle.state.specs.Work.{Held, work-of, run, Changes, Tells, Fine, Does}
-use Rattle.state.proofs.Bridge.{change-then, still, then, then-tell, seq, seq-at, taken, left, holds-at, at-run}
+use Rattle.state.specs.Work.{Held, work-of, run, Changes, Fine, Does}
+use Rattle.state.proofs.Bridge.{change-then, still, then, seq, seq-at, taken, left, holds-at, at-run}
 use Rattle.step_active.specs.declared.Loss.the-variants.{DisconnectReceived}
 use Rattle.step_active.specs.Sane.{Calm, reason-in}
 use Rattle.step_messages.specs.Between.{Between}
@@ -61,9 +61,9 @@ module _ (w a : Held) (ds out : List ℕ) (p : ℕ) (k : Changes (drop-pending p
   }
 
   module _ (v : Fine w ds out) where
-    pub joined : (x : Data) (b r : Held) (o₁ o : List ℕ) → Tells (forward-joins p x) b r o₁ o → Does b ds o₁ (add-active p x true true (run a ds out)) → Does r ds o (on-join p x (run w ds out))
+    pub joined : (x : Data) (b r : Held) (o₁ o : List ℕ) → Does r ds o (forward-joins p x (run b ds o₁)) → Does b ds o₁ (add-active p x true true (run a ds out)) → Does r ds o (on-join p x (run w ds out))
     unfolding on-join
-    joined x b r o₁ o k₃ k₂ = then-tell k₃ (seq (add-active p x true true) k₂ (then k (still v)))
+    joined x b r o₁ o k₃ k₂ = seq (forward-joins p x) k₃ (seq (add-active p x true true) k₂ (then k (still v)))
 
     pub neighbor-answered : (x : Data) (high t : Bool) (r : Held) (o : List ℕ) → t ≡ is-requested p (unpack (w .state)) → Does r ds o (answer-neighbor p x high (not t) (run a ds out)) → Does r ds o (on-neighbor p x high (run w ds out))
     unfolding on-neighbor

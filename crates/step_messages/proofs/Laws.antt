@@ -35,11 +35,11 @@ use Rattle.step_peers.specs.declared.Added.{Added}
 use Rattle.step_peers.specs.Answer.{Adds}
 use Rattle.state.specs.Layout.{active-part, refused-part, active-random-walk-length, passive-random-walk-length}
 use Rattle.state.specs.Unpack.{unpack, station-of, settings-at, PackedState}
-use Rattle.state.specs.Work.{Held, work-of, run, Changes, ChangesAny, DrawsAny, Room, Tells, TellsAny, Fine, Does}
+use Rattle.state.specs.Work.{Held, work-of, run, Changes, ChangesAny, DrawsAny, Tells, TellsAny, Fine, Does}
 use Rattle.state.proofs.Access.{of-refused, of-settings}
 use Rattle.state.proofs.Any.{drew-none-of, then-draw-any, then-tell-any}
 use Rattle.step_sending.proofs.Sets.{lent-items}
-use Rattle.state.proofs.Bridge.{unchanged, change-by, change-then, change-yes, change-no, tell-by, tell-then, require-said, by, still, then, then-tell, seq, taken, left, holds-at}
+use Rattle.state.proofs.Bridge.{unchanged, change-by, change-then, change-yes, change-no, tell-then, require-said, by, still, then, then-tell, seq, taken, left, holds-at}
 use Rattle.step_active.specs.Sane.{FreeMark}
 
 -- ---- joins that are forwarded
@@ -128,13 +128,13 @@ pub walk-fits : (xs : List ℕ) → PackedState xs → active-random-walk-length
 unfolding settings-at
 walk-fits xs v = omega (arith, ranges (settings-at xs) (of-settings xs v) .active-walk .most)
 
-module _ (w r : Work) (xs out o : List ℕ) (p : ℕ) (d : PeerData) where
-  pub joins-forwarded : (v : List ℕ) (k : ℕ) → Room (work-of w xs) out → HoldsSet 32 v (without p (unpack xs .active)) → k ≡ length (items-at 32 v)
-      → TellsAny (emit-all (forward-join-to (node-in (record { id = p; «data» = d })) (active-random-walk-length xs)) (take k v)) w r out o
-      → Tells (forward-joins p (data-in d)) (work-of w xs) (work-of r xs) out o
+module _ (w r : Work) (xs ds out o : List ℕ) (p : ℕ) (d : PeerData) where
+  pub joins-forwarded : (v : List ℕ) (k : ℕ) → HoldsSet 32 v (without p (unpack xs .active)) → k ≡ length (items-at 32 v)
+      → Does (work-of r xs) ds o (emit-all (forward-join-to (node-in (record { id = p; «data» = d })) (active-random-walk-length xs)) (take k v) (run (work-of w xs) ds out))
+      → Does (work-of r xs) ds o (forward-joins p (data-in d) (run (work-of w xs) ds out))
   unfolding forward-joins node-in run unpack station-of settings-at
-  joins-forwarded v k m h e t =
-      tell-by _ (λ ds. ap (λ (l : List ℕ). emit-all (forward-join-to (node p (data-in d)) (active-random-walk-length xs)) l (run (work-of w xs) ds out)) (sym (lent-items v k (h .valid) e ∙ h .items))) (t .any xs (m .packed))
+  joins-forwarded v k h e t =
+      by _ (ap (λ (l : List ℕ). emit-all (forward-join-to (node p (data-in d)) (active-random-walk-length xs)) l (run (work-of w xs) ds out)) (sym (lent-items v k (h .valid) e ∙ h .items))) t
 
 pub accept-known : (s : Station) (p : ℕ) (high a b c : Bool) → a ≡ is-me p s → b ≡ in-active p s → c ≡ active-is-full s → (not a && (b || (high || not c))) ≡ accepts p high s
 unfolding accepts

@@ -17,7 +17,7 @@ ghost use Rattle.lists.specs.Lists.{without};
 ghost use Rattle.peer.specs.Held.{ValidData, data-in, node-in};
 ghost use Rattle.util.specs.Section.{HoldsSet};
 ghost use Rattle.protocol.specs.Budgets.{leaving, arriving};
-ghost use Rattle.protocol.specs.Run.{emit, emit-all};
+ghost use Rattle.protocol.specs.Run.{emit};
 ghost use Rattle.protocol.specs.Messages.{forward-join-to, learn-joiner, on-forward-join};
 ghost use Rattle.protocol.specs.Messages.{on-join, on-neighbor};
 ghost use Rattle.protocol.specs.Messages.{forget-recent, note-refusal};
@@ -197,22 +197,6 @@ pub fn on_disconnect(
 
 // ---- Join and Neighbor
 
-// ForwardJoin to each of these peers.
-fn forward_join_to_all(w: Work, out: &mut [u8], others: &[PeerId], n: PeerInfo, ttl: u16) -> Work
-    requires { ⌜ w .written ≤ length (now out) ⌝ }
-    requires { ⌜ ValidData (n .data) ⌝ }
-    ensures { λ r. ⌜ TellsAny (emit-all (forward-join-to (node-in n) ttl) (now (others .entry))) w r (now (out .entry)) (now (out .exit)) ⌝ }
-{
-    let mut a = w;
-    let mut i: usize = 0;
-    while i < others.len() {
-        let q = others[i];
-        i += 1;
-        a = forward_join_to(a, out, n, ttl, q);
-    }
-    a
-}
-
 pub fn on_join(
     w: Work,
     st: &mut [u64],
@@ -228,13 +212,19 @@ pub fn on_join(
     ensures { λ r. ⌜ Does (work-of r (now (st .exit))) (now (draws .entry)) (now (out .exit)) (on-join p (data-in d) (run (work-of w (now (st .entry))) (now (draws .entry)) (now (out .entry)))) ⌝ }
 {
     let a = state::drop_pending(w, st, p);
-    let b = step_active::add_active(a, st, draws, out, p, d, true, true);
+    let mut b = step_active::add_active(a, st, draws, out, p, d, true, true);
     // ForwardJoin to all neighbors but the one who joins.
     let mut v = [0u64; Layout::SET];
     other_active(st, p, &mut v);
     let k = util::count(&v, Layout::ALL);
     let ttl = st[Layout::ACTIVE_RANDOM_WALK_LENGTH] as u16;
-    forward_join_to_all(b, out, &v[..k], PeerInfo { id: p, data: d }, ttl)
+    let n = PeerInfo { id: p, data: d };
+    let mut i: usize = 0;
+    while i < k {
+        b = forward_join_to(b, out, n, ttl, v[i]);
+        i += 1;
+    }
+    b
 }
 
 // Neighbor from a peer with an open request is its reply, and is not answered.
