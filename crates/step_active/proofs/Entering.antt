@@ -8,16 +8,19 @@ use mathlib.Core.Option.{none, some}
 use native.Mathlib.Omega.{arith}
 use lib.ListN.{length, set, length-append}
 use lib.Dec.{eqb}
+use borrow.Rule.Slice.PartMut.{putMid}
 use borrow.Author.Tests.{leb-false}
+use Rattle.lists.specs.Lists.{renew}
 use Rattle.lists.proofs.Choice.{by-choice}
+use Rattle.timing.specs.Timing.{max-recent-neighbors}
 use Rattle.peer.specs.declared.PeerData.{PeerData}
 use Rattle.peer.specs.Data.{Data, bytes-of}
 use Rattle.peer.specs.Held.{data-in, ValidData}
 use Rattle.peer.proofs.Data.{short-bytes}
-use Rattle.util.specs.Section.{items-at}
+use Rattle.util.specs.Section.{items-at, HoldsSet}
 use Rattle.writer.specs.Write.{rec-in}
 use Rattle.protocol.specs.Station.{Station, Refill, automatic, is-me, in-active, active-is-full}
-use Rattle.protocol.specs.Setters.{set-refill}
+use Rattle.protocol.specs.Setters.{set-recent, set-refill}
 use Rattle.protocol.specs.Run.{Run, guard, on, emit, notice}
 use Rattle.protocol.specs.Budgets.{single, freeing, arriving}
 use Rattle.protocol.specs.Peers.{insert-peer-info, drop-mark, remove-passive}
@@ -35,8 +38,8 @@ use Rattle.state.specs.Layout.{active-view-capacity, active-part}
 use Rattle.state.specs.Unpack.{unpack, station-of, settings-at, limit-at, refill-in, PackedState, Becomes}
 use Rattle.state.specs.Work.{work-of, run, Changes, Room, Tells, TellsAny, Fine, Does}
 use Rattle.state.proofs.Access.{of-capacity}
-use Rattle.state.proofs.Fields.{put-passes-short}
-use Rattle.state.proofs.Bridge.{on-twice, change-then, telling, tell-then, still, then-tell, seq, taken, left, holds-at}
+use Rattle.state.proofs.Fields.{put-active, put-recent, put-passes-short}
+use Rattle.state.proofs.Bridge.{on-twice, on-passed, on-done, change-then, telling, tell-then, still, then-tell, seq, taken, left, holds-at}
 use Rattle.step_active.specs.Sane.{FreeActive, Calm}
 
 -- ---- places
@@ -62,23 +65,39 @@ kept-free f a c g h =
     (λ e. record { free = λ z. rw (a (g .station), c (g .station)) (h .free z) })
     (λ e. h)
 
-pub still-free : (w a : Work) (xs ys : List ℕ) (p : ℕ) → FreeActive (w .code) (unpack xs) → Changes (λ g. on (drop-mark p) (on (remove-passive p) g)) (work-of w xs) (work-of a ys) → FreeActive (a .code) (unpack ys)
-unfolding run drop-mark remove-passive
-still-free w a xs ys p h k =
-    subst (λ (x : Run). FreeActive (x .code) (x .station)) (sym (k .same [] []))
-    (kept-free (drop-mark p) (λ s. refl) (λ s. refl) _ (kept-free (remove-passive p) (λ s. refl) (λ s. refl) (run (work-of w xs) [] []) h))
+still-free : (f : Station → Station) → ((s : Station) → f s .active ≡ s .active) → ((s : Station) → f s .config ≡ s .config) → (w a : Work) (xs ys : List ℕ)
+    → Changes (on f) (work-of w xs) (work-of a ys) → FreeActive (w .code) (unpack xs) → FreeActive (a .code) (unpack ys)
+unfolding run
+still-free f m n w a xs ys k h = subst (λ (x : Run). FreeActive (x .code) (x .station)) (sym (k .same [] [])) (kept-free f m n (run (work-of w xs) [] []) h)
 
 -- ---- rows
 
-pub moved-in : (w a b r : Work) (xs ys zs us : List ℕ) (p : ℕ) → Changes (on (remember-neighbor p)) (work-of b zs) (work-of r us) → Changes (on (push-active p)) (work-of a ys) (work-of b zs)
-    → Changes (λ g. on (drop-mark p) (on (remove-passive p) g)) (work-of w xs) (work-of a ys) → Changes (on (move-in p)) (work-of w xs) (work-of r us)
-unfolding move-in
-moved-in w a b r xs ys zs us p k₃ k₂ k₁ =
-    change-then _
-    (λ ds out. on-twice (λ s. push-active p (drop-mark p (remove-passive p s))) (remember-neighbor p) (run (work-of w xs) ds out)
-    ∙ ap (on (remember-neighbor p)) (on-twice (λ s. drop-mark p (remove-passive p s)) (push-active p) (run (work-of w xs) ds out)
-    ∙ ap (on (push-active p)) (on-twice (remove-passive p) (drop-mark p) (run (work-of w xs) ds out))))
-    k₃ (change-then (λ g. on (push-active p) (on (drop-mark p) (on (remove-passive p) g))) (λ ds out. refl) k₂ k₁)
+module _ (w a b : Work) (xs ys zs : List ℕ) (p : ℕ) (k₂ : Changes (on (drop-mark p)) (work-of a ys) (work-of b zs)) (k₁ : Changes (on (remove-passive p)) (work-of w xs) (work-of a ys)) where
+  pub left-free : FreeActive (w .code) (unpack xs) → FreeActive (b .code) (unpack zs)
+  unfolding drop-mark remove-passive
+  left-free h = still-free (drop-mark p) (λ s. refl) (λ s. refl) a b ys zs k₂ (still-free (remove-passive p) (λ s. refl) (λ s. refl) w a xs ys k₁ h)
+
+  move-row : (us : List ℕ) → Changes (on (λ s. remember-neighbor p (push-active p s))) (work-of b zs) (work-of b us) → Changes (on (move-in p)) (work-of w xs) (work-of b us)
+  unfolding move-in
+  move-row us k₃ =
+      change-then _ (λ ds out. on-twice (λ s. drop-mark p (remove-passive p s)) (λ s. remember-neighbor p (push-active p s)) (run (work-of w xs) ds out)) k₃
+      (change-then (on (λ s. drop-mark p (remove-passive p s))) (λ ds out. on-twice (remove-passive p) (drop-mark p) (run (work-of w xs) ds out)) k₂ k₁)
+
+  pub not-moved : (b .code ≡ 0 → ⊥) → Changes (on (move-in p)) (work-of w xs) (work-of b zs)
+  not-moved h = move-row zs (on-passed (work-of b zs) (k₂ .packed) (λ s. remember-neighbor p (push-active p s)) h)
+
+  pub moved-in : (us : List ℕ) → b .code ≡ 0 → Becomes us (remember-neighbor p (push-active p (unpack zs))) → Changes (on (move-in p)) (work-of w xs) (work-of b us)
+  moved-in us z h = move-row us (on-done (work-of b zs) (k₂ .packed) (λ s. remember-neighbor p (push-active p s)) us z (λ _. h))
+
+pub pushed : (xs ys : List ℕ) (code p : ℕ) → PackedState xs → code ≡ 0 → FreeActive code (unpack xs) → HoldsSet 8 ys (items-at 8 (active-part xs) ++ (p ∷ [])) → Becomes (putMid 22 9 xs ys) (push-active p (unpack xs))
+unfolding push-active unpack station-of
+pushed xs ys code p v z f h = put-active h (one-more xs code v z f p) (record { packed = v; same = refl })
+
+-- the recent neighbors are those of before the push
+pub remembered : (xs ys : List ℕ) (s : Station) (p : ℕ) → Becomes xs s → HoldsSet 8 ys (renew max-recent-neighbors p (unpack xs .recent)) → Becomes (putMid 204 9 xs ys) (remember-neighbor p s)
+unfolding remember-neighbor
+remembered xs ys s p b h =
+    subst (λ (l : List ℕ). Becomes (putMid 204 9 xs ys) (set-recent (renew max-recent-neighbors p l) s)) (ap (λ (u : Station). u .recent) (b .same)) (put-recent h b)
 
 pub gained : (xs ys : List ℕ) (old v l : RefillLimit) → Becomes ys (set-refill (refill-in v) (unpack xs)) → refill-in v ≡ unless-recovery (refill-in old) (refill-in l) → l ≡ Automatic → old ≡ limit-at xs
     → Becomes (set ys 15 0) (gain-neighbor (unpack xs))
@@ -87,13 +106,19 @@ gained xs ys old v l h e a q =
     let z : refill-in v ≡ unless-recovery (refill-in (limit-at xs)) automatic = e ∙ (λ i. unless-recovery (refill-in (q i)) (refill-in (a i))) in
     put-passes-short 0 (omega arith) (subst (λ (y : Refill). Becomes ys (set-refill y (unpack xs))) z h)
 
-pub entered : (w a b r : Work) (xs ys zs out o : List ℕ) (p : ℕ) → Room (work-of w xs) out → Changes (on gain-neighbor) (work-of b ys) (work-of r zs)
-    → TellsAny (emit (rec-in (record { kind = 9; message = 0; flags = 0; peer = p; second = 0; ttl = 0; number = 0 }) [])) a b out o → Changes (on (move-in p)) (work-of w xs) (work-of a ys)
-    → Tells (enter-active p) (work-of w xs) (work-of r zs) out o
-unfolding enter-active rec-in
-entered w a b r xs ys zs out o p v k₃ k₂ k₁ =
-    let t = k₂ .any ys (k₁ .packed) in
-    tell-then _ (λ ds. refl) (telling (t .room) k₃) (tell-then (λ g. emit (notice 9 p) (on (move-in p) g)) (λ ds. refl) t (telling v k₁))
+module _ (w a b : Work) (xs ys out o : List ℕ) (p : ℕ) (v : Room (work-of w xs) out)
+    (k₂ : TellsAny (emit (rec-in (record { kind = 9; message = 0; flags = 0; peer = p; second = 0; ttl = 0; number = 0 }) [])) a b out o) (k₁ : Changes (on (move-in p)) (work-of w xs) (work-of a ys)) where
+  enter-row : (zs : List ℕ) → Changes (on gain-neighbor) (work-of b ys) (work-of b zs) → Tells (enter-active p) (work-of w xs) (work-of b zs) out o
+  unfolding enter-active rec-in
+  enter-row zs k₃ =
+      let t = k₂ .any ys (k₁ .packed) in
+      tell-then _ (λ ds. refl) (telling (t .room) k₃) (tell-then (λ g. emit (notice 9 p) (on (move-in p) g)) (λ ds. refl) t (telling v k₁))
+
+  pub not-entered : (b .code ≡ 0 → ⊥) → Tells (enter-active p) (work-of w xs) (work-of b ys) out o
+  not-entered h = enter-row ys (on-passed (work-of b ys) (k₁ .packed) gain-neighbor h)
+
+  pub entered : (zs : List ℕ) → b .code ≡ 0 → Becomes zs (gain-neighbor (unpack ys)) → Tells (enter-active p) (work-of w xs) (work-of b zs) out o
+  entered zs z h = enter-row zs (on-done (work-of b ys) (k₁ .packed) gain-neighbor zs z (λ _. h))
 
 pub added-unchecked : (w a r : Work) (xs ys zs out o₁ o : List ℕ) (p : ℕ) (high reply : Bool) → Tells (reply-neighbor reply p high) (work-of a ys) (work-of r zs) o₁ o → Tells (enter-active p) (work-of w xs) (work-of a ys) out o₁
     → Tells (add-active-unchecked p high reply) (work-of w xs) (work-of r zs) out o

@@ -20,7 +20,7 @@ use Rattle.writer.specs.Write.{rec-in}
 use Rattle.protocol.specs.Station.{recovery, in-active, is-alone}
 use Rattle.protocol.specs.Sending.{send-disconnect}
 use Rattle.protocol.specs.Refill.{start-refill}
-use Rattle.protocol.specs.Run.{Run, with-station, guard, on, emit, to-draw, one-of, draw-one-of}
+use Rattle.protocol.specs.Run.{Run, with-station, guard, on, emit, notice, to-draw, one-of, draw-one-of}
 use Rattle.protocol.specs.Budgets.{bare, adding, disconnecting, leaving, freeing}
 use Rattle.protocol.specs.Peers.{drop-data, drop-mark, forget-peer, add-passive, is-marked}
 use Rattle.protocol.specs.Active.{Reason, random, swap-active, drop-active, demote, mark-alive, demote-alive, settle-closed, settle, clear-refused, remove-active-by-index, refill-after, remove-active, remove-picked, free-random-slot-in-active-view}
@@ -36,7 +36,7 @@ use Rattle.state.specs.Layout.{active-view-capacity, active-part, alive-part}
 use Rattle.state.specs.Unpack.{unpack, station-of, refill-in, PackedState}
 use Rattle.state.specs.Work.{work-of, run, Changes, DrawsAny, Room, Tells, TellsAny, Fine, Does}
 use Rattle.state.proofs.Access.{active-fits}
-use Rattle.state.proofs.Bridge.{telling, tell-then, still, by, then, then-tell, seq, seq-at, taken, left, holds-at}
+use Rattle.state.proofs.Bridge.{on-passed, emit-passed, telling, tell-then, still, by, then, then-tell, seq, seq-at, taken, left, holds-at}
 use Rattle.state.proofs.Any.{then-draw-any}
 use Rattle.step_peers.specs.declared.Added.{Added}
 use Rattle.step_peers.specs.Answer.{Adds}
@@ -54,6 +54,11 @@ unfolding unpack station-of
 mark-place xs code p z h = h .free z
 
 -- ---- leaving
+
+pub not-dropped : (w : Work) (xs out : List ℕ) (i : ℕ) → Room (work-of w xs) out → (w .code ≡ 0 → ⊥) → Tells (drop-active i) (work-of w xs) (work-of w xs) out out
+unfolding drop-active run
+not-dropped w xs out i v h =
+    tell-then _ (λ ds. refl) (emit-passed w xs out (notice 10 (getD (unpack xs .active) i 0)) v h) (telling v (on-passed (work-of w xs) (v .packed) (swap-active i) h))
 
 pub dropped : (w a r : Work) (xs ys out o : List ℕ) (i p : ℕ) → Room (work-of w xs) out → p ≡ getD (unpack xs .active) i 0
     → TellsAny (emit (rec-in (record { kind = 10; message = 0; flags = 0; peer = p; second = 0; ttl = 0; number = 0 }) [])) a r out o → Changes (on (swap-active i)) (work-of w xs) (work-of a ys)
@@ -118,12 +123,9 @@ loose-after w a xs ys ds out o i p m B d n b l h c j e k =
       ok = subst (Ok q (busy g ba (p ∷ []) 1 0) (c .messages + n) (c .bytes + b) (c .draws + d)) (sym (k .same ds)) k₄;
     }
 
-module _ (w a : Work) (xs ys ds out o : List ℕ) (i p : ℕ) (j : i < length (unpack xs .active)) (e : p ≡ getD (unpack xs .active) i 0) (k : Tells (drop-active i) (work-of w xs) (work-of a ys) out o) where
-  pub loose-known : Calm 0 leaving 1 (run (work-of w xs) ds out) → Loose p 0 adding 1 (run (work-of a ys) ds o)
-  loose-known c = loose-after w a xs ys ds out o i p 0 leaving 1 0 adding (omega arith) (omega arith) c j e k
-
-  pub loose-random : Calm 0 freeing 39 (run (work-of w xs) ds out) → Loose p 2 (disconnecting + adding) 39 (run (work-of a ys) ds o)
-  loose-random c = loose-after w a xs ys ds out o i p 0 freeing 39 2 (disconnecting + adding) (omega arith) (omega arith) c j e k
+pub loose-known : (w a : Work) (xs ys ds out o : List ℕ) (i p : ℕ) → Calm 0 leaving 1 (run (work-of w xs) ds out) → i < length (unpack xs .active) → p ≡ getD (unpack xs .active) i 0
+    → Tells (drop-active i) (work-of w xs) (work-of a ys) out o → Loose p 0 adding 1 (run (work-of a ys) ds o)
+loose-known w a xs ys ds out o i p c j e k = loose-after w a xs ys ds out o i p 0 leaving 1 0 adding (omega arith) (omega arith) c j e k
 
 pub sent-loose : (w a : Work) (xs ys ds out o : List ℕ) (p : ℕ) → Loose p 2 (disconnecting + adding) 39 (run (work-of w xs) ds out) → Does (work-of a ys) ds o (send-disconnect p true (run (work-of w xs) ds out)) → Loose p 0 adding 1 (run (work-of a ys) ds o)
 sent-loose w a xs ys ds out o p c k = record {
@@ -139,7 +141,7 @@ sent-loose w a xs ys ds out o p c k = record {
       (ok-send-disconnect p true (ease (omega arith) (omega arith) (omega arith) (c .ok)));
 }
 
-pub calm-drawn : (w a : Work) (xs ds out : List ℕ) (n : ℕ) → n ≡ length (unpack xs .active) → Fine (work-of w xs) ds out → Calm 0 freeing 40 (run (work-of w xs) ds out) → DrawsAny (draw-one-of n) w a ds → Calm 0 freeing 39 (run (work-of a xs) ds out)
+calm-drawn : (w a : Work) (xs ds out : List ℕ) (n : ℕ) → n ≡ length (unpack xs .active) → Fine (work-of w xs) ds out → Calm 0 freeing 40 (run (work-of w xs) ds out) → DrawsAny (draw-one-of n) w a ds → Calm 0 freeing 39 (run (work-of a xs) ds out)
 unfolding run
 calm-drawn w a xs ds out n e v c k = record {
   fixed = c .fixed;
@@ -152,6 +154,11 @@ calm-drawn w a xs ds out n e v c k = record {
       subst (Ok (c .fixed) (busy (c .guest) (c .barred) [] 0 0) (c .messages + 0) (c .bytes + freeing) (c .draws + 39)) (sym (k .any xs (v .ready .packed) .same out))
       (ok-one-of n (λ o g l. omega (arith, g .seats .slots-left, g .still .ranges .few-slots)) (ease (omega arith) (omega arith) (omega arith) (c .ok)));
 }
+
+pub loose-picked : (w a b : Work) (xs ys ds out o : List ℕ) (n i p : ℕ) → Fine (work-of w xs) ds out → Calm 0 freeing 40 (run (work-of w xs) ds out) → n ≡ length (unpack xs .active) → i < n → p ≡ getD (unpack xs .active) i 0
+    → Tells (drop-active i) (work-of a xs) (work-of b ys) out o → DrawsAny (draw-one-of n) w a ds → Loose p 2 (disconnecting + adding) 39 (run (work-of b ys) ds o)
+loose-picked w a b xs ys ds out o n i p v c q j e k₂ k₁ =
+    loose-after a b xs ys ds out o i p 0 freeing 39 2 (disconnecting + adding) (omega arith) (omega arith) (calm-drawn w a xs ds out n q v c k₁) (omega (arith, q, j)) e k₂
 
 pub slot-free : (w a : Work) (xs ys ds out o : List ℕ) → Calm 0 freeing 40 (run (work-of w xs) ds out) → Does (work-of a ys) ds o (free-random-slot-in-active-view (run (work-of w xs) ds out)) → FreeActive (a .code) (unpack ys)
 unfolding run
@@ -169,10 +176,10 @@ by-index w a r xs ys zs ds out o o₂ i p why v e k₂ k₁ = seq-at (settle why
 pub fine-told : {step : Run → Run} (w a : Work) (xs ys ds out o : List ℕ) → Fine (work-of w xs) ds out → Tells step (work-of w xs) (work-of a ys) out o → Fine (work-of a ys) ds o
 fine-told w a xs ys ds out o v k = then-tell k (still v) .fine
 
-pub refilled : (w a r : Work) (xs ys zs ds out o : List ℕ) (p : ℕ) (l : RefillLimit) → Fine (work-of w xs) ds out → l ≡ Recovery
-    → Does (work-of r zs) ds o (start-refill (refill-in l) (p ∷ []) (run (work-of a ys) ds out)) → Changes (on clear-refused) (work-of w xs) (work-of a ys) → Does (work-of r zs) ds o (refill-after p (run (work-of w xs) ds out))
+pub refilled : (w a r : Work) (xs ys zs ds out o : List ℕ) (p : ℕ) (l : RefillLimit) → Fine (work-of w xs) ds out
+    → Does (work-of r zs) ds o (start-refill (refill-in l) (p ∷ []) (run (work-of a ys) ds out)) → l ≡ Recovery → Changes (on clear-refused) (work-of w xs) (work-of a ys) → Does (work-of r zs) ds o (refill-after p (run (work-of w xs) ds out))
 unfolding refill-after refill-in
-refilled w a r xs ys zs ds out o p l v e k₂ k₁ =
+refilled w a r xs ys zs ds out o p l v k₂ e k₁ =
     seq (start-refill recovery (p ∷ [])) (subst (λ (x : RefillLimit). Does (work-of r zs) ds o (start-refill (refill-in x) (p ∷ []) (run (work-of a ys) ds out))) e k₂) (then k₁ (still v))
 
 pub place-of : (xs : List ℕ) (p i : ℕ) (t : Bool) → t ≡ in-active p (unpack xs) → t ≡ true → i ≡ index-of p (unpack xs .active) → i < length (unpack xs .active)
@@ -203,17 +210,14 @@ some-item [] e = clash true refl e
 some-item (x ∷ l) e = omega arith
 
 -- there is one to pick, and the place picked is one of theirs
-pub some-choice : (xs : List ℕ) (n : ℕ) → n ≡ length (unpack xs .active) → null (unpack xs .active) ≡ false → 0 < n
-some-choice xs n e h = omega (arith, some-item (unpack xs .active) h)
+pub some-choice : (xs : List ℕ) (n : ℕ) (t : Bool) → n ≡ length (unpack xs .active) → t ≡ is-alone (unpack xs) → t ≡ false → 0 < n
+unfolding is-alone
+some-choice xs n t e q h = omega (arith, some-item (unpack xs .active) (sym q ∙ h))
 
 pub still-below : (xs : List ℕ) (n i : ℕ) → n ≡ length (unpack xs .active) → i < n → i < length (unpack xs .active)
 still-below xs n i e h = omega (arith, e, h)
 
 module _ (w : Work) (xs ds out : List ℕ) (t : Bool) (e : t ≡ is-alone (unpack xs)) where
-  pub some-neighbor : t ≡ false → null (unpack xs .active) ≡ false
-  unfolding is-alone
-  some-neighbor h = sym e ∙ h
-
   pub no-slot : Fine (work-of w xs) ds out → t ≡ true → Does (work-of w xs) ds out (free-random-slot-in-active-view (run (work-of w xs) ds out))
   unfolding free-random-slot-in-active-view
   no-slot v h = taken _ _ (holds-at (work-of w xs) ds out is-alone e h) (still v)

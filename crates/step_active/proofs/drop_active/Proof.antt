@@ -1,10 +1,20 @@
 use Rattle.util.specs.Section.{part}
+use Rattle.protocol.specs.Active.{swap-active}
 use Rattle.state.specs.Unpack.{unpack, station-of}
 use Rattle.state.proofs.Access.{of-packed}
-use Rattle.step_active.proofs.Leaving.{dropped}
+use Rattle.state.proofs.Bridge.{on-done}
+use Rattle.state.proofs.Fields.{put-active}
+use Rattle.step_active.proofs.Leaving.{fewer-active, not-dropped, dropped}
 use borrow.Author.Needs.{needs}
 use Rattle.step_active.proofs.drop_active.Statement.{statement}
 use Rattle.step_active.proofs.drop_active.Tie as tie
+
+-- The ways back, from a place to an earlier one.
+abbrev remove-index-to-start : tie.After-remove-index → tie.Start
+remove-index-to-start c = c .before .before .before .before .before .before .before .before .before
+
+returns : tie.Need-returns
+returns c = search not-dropped
 
 sub-get-index : tie.Need-sub-get-index
 sub-get-index c = search needs
@@ -19,8 +29,18 @@ get-index-requires : tie.Need-get-index-requires
 unfolding part unpack station-of
 get-index-requires c κs = (search (of-packed, needs), search needs)
 
-swap-active-requires : tie.Need-swap-active-requires
-swap-active-requires c κs = search needs
+sub-remove-index : tie.Need-sub-remove-index
+sub-remove-index c = search needs
+
+part-remove-index-start : tie.Need-part-remove-index-start
+part-remove-index-start c = search needs
+
+part-remove-index-end : tie.Need-part-remove-index-end
+part-remove-index-end c = search needs
+
+remove-index-requires : tie.Need-remove-index-requires
+unfolding part unpack station-of
+remove-index-requires c κs = (search (of-packed, needs), search needs)
 
 emit-bare-requires : tie.Need-emit-bare-requires
 emit-bare-requires c κs = search needs
@@ -31,9 +51,28 @@ same-length c = search needs
 same-length-2 : tie.Need-same-length-2
 same-length-2 c = search needs
 
-returns : tie.Need-returns
-unfolding part unpack station-of
-returns c = search dropped
+returns-2 : tie.Need-returns-2
+unfolding swap-active part unpack station-of
+returns-2 c =
+    let at-remove-index = c .before .before .before .before .before .before in
+    let room = remove-index-to-start at-remove-index .pre .1 .0 in
+    dropped _ _ _ _ _ _ _ _ _ room (at-remove-index .before .before .get-index .ensures) (c .before .before .emit-bare .ensures)
+    (on-done _ (room .packed) _ _ (search needs) (put-active (at-remove-index .remove-index .ensures) (fewer-active _ _ (room .packed))))
 
 pub drop-active-spec : {M : Type 1} → statement M
-drop-active-spec = tie.close (tie.spec sub-get-index part-get-index-start part-get-index-end get-index-requires swap-active-requires emit-bare-requires same-length same-length-2 returns)
+drop-active-spec =
+    tie.close
+    (tie.spec
+    returns
+    sub-get-index
+    part-get-index-start
+    part-get-index-end
+    get-index-requires
+    sub-remove-index
+    part-remove-index-start
+    part-remove-index-end
+    remove-index-requires
+    emit-bare-requires
+    same-length
+    same-length-2
+    returns-2)

@@ -1,15 +1,11 @@
-use Rattle.state.specs.Work.{Fine, work-of}
 use Rattle.util.specs.Section.{part}
 use Rattle.state.specs.Unpack.{unpack, station-of}
 use Rattle.state.proofs.Access.{of-packed}
-use Rattle.step_active.proofs.Leaving.{place-of, removed, not-removed}
+use Rattle.step_refill.proofs.Asking.{fine-after}
+use Rattle.step_active.proofs.Leaving.{refilled, place-of, removed, not-removed}
 use borrow.Author.Needs.{needs}
 use Rattle.step_active.proofs.remove_active.Statement.{statement}
 use Rattle.step_active.proofs.remove_active.Tie as tie
-
--- What remove_active was given.
-fine : (c : tie.Start) → Fine (work-of (c .args .w) (c .args .st .now)) (c .args .draws .now) (c .args .out .now)
-fine c = c .pre .1 .0
 
 -- The ways back, from a place to an earlier one.
 abbrev position-to-start : tie.After-position → tie.Start
@@ -18,8 +14,11 @@ position-to-start c = c .before .before .before .before .before .before .before 
 abbrev position-to-in-active : tie.After-position → tie.After-in-active
 position-to-in-active c = c .before .before .before .before
 
-abbrev refill-after-to-remove-active-by-index : tie.After-refill-after → tie.After-remove-active-by-index
-refill-after-to-remove-active-by-index c = c .before .before .before .before .before .before .before
+abbrev clear-refused-to-remove-active-by-index : tie.After-clear-refused → tie.After-remove-active-by-index
+clear-refused-to-remove-active-by-index c = c .before .before .before .before .before .before
+
+abbrev start-refill-to-clear-refused : tie.After-start-refill → tie.After-clear-refused
+start-refill-to-clear-refused c = c .before .before .before .before .before .before
 
 in-active-requires : tie.Need-in-active-requires
 in-active-requires c κs = search needs
@@ -41,8 +40,19 @@ remove-active-by-index-requires : tie.Need-remove-active-by-index-requires
 unfolding part unpack station-of
 remove-active-by-index-requires c κs = (search needs, (search needs, (search place-of, search needs)))
 
-refill-after-requires : tie.Need-refill-after-requires
-refill-after-requires c κs = search needs
+clear-refused-requires : tie.Need-clear-refused-requires
+clear-refused-requires c κs = search needs
+
+slice-aggregate-start-refill : tie.Need-slice-aggregate-start-refill
+slice-aggregate-start-refill c = search needs
+
+start-refill-requires : tie.Need-start-refill-requires
+start-refill-requires c κs =
+    let at-clear-refused = c .before .before .before .before .before in
+    let at-remove = clear-refused-to-remove-active-by-index at-clear-refused in (
+      search (needs, at-clear-refused .clear-refused .kept, at-remove .remove-active-by-index .kept, position-to-start (at-remove .before .before .before) .pre .0),
+      fine-after _ _ _ _ _ _ (at-remove .remove-active-by-index .ensures .fine) (at-clear-refused .clear-refused .ensures),
+    )
 
 same-length : tie.Need-same-length
 same-length c = search needs
@@ -53,11 +63,13 @@ same-length-2 c = search needs
 returns : tie.Need-returns
 unfolding part unpack station-of
 returns c =
-    let at-refill-after = c .before .before .before .before in
-    let c₁ = refill-after-to-remove-active-by-index at-refill-after in
-    let q = c₁ .before .before .before in
-    removed _ _ _ _ _ _ _ (fine (position-to-start q)) (position-to-in-active q .in-active .ensures) _ _ _ _ _ _ _ (q .before .before .before .if1 .taken) (q .position .ensures .0)
-    (at-refill-after .refill-after .ensures) (c₁ .remove-active-by-index .ensures)
+    let at-start-refill = c .before .before .before .before in
+    let at-clear-refused = start-refill-to-clear-refused at-start-refill in
+    let at-remove = clear-refused-to-remove-active-by-index at-clear-refused in
+    let at-position = at-remove .before .before .before in
+    let filled = refilled _ _ _ _ _ _ _ _ _ _ _ (at-remove .remove-active-by-index .ensures .fine) (at-start-refill .start-refill .ensures) (search needs) (at-clear-refused .clear-refused .ensures) in
+    removed _ _ _ _ _ _ _ (position-to-start at-position .pre .1 .0) (position-to-in-active at-position .in-active .ensures) _ _ _ _ _ _ _ (at-position .before .before .before .if1 .taken) (at-position .position .ensures .0)
+    filled (at-remove .remove-active-by-index .ensures)
 
 same-length-3 : tie.Need-same-length-3
 same-length-3 c = search needs
@@ -66,4 +78,20 @@ returns-2 : tie.Need-returns-2
 returns-2 c = search not-removed
 
 pub remove-active-spec : {M : Type 1} → statement M
-remove-active-spec = tie.close (tie.spec in-active-requires sub-position part-position-start part-position-end position-requires remove-active-by-index-requires refill-after-requires same-length same-length-2 returns same-length-3 returns-2)
+remove-active-spec =
+    tie.close
+    (tie.spec
+    in-active-requires
+    sub-position
+    part-position-start
+    part-position-end
+    position-requires
+    remove-active-by-index-requires
+    clear-refused-requires
+    slice-aggregate-start-refill
+    start-refill-requires
+    same-length
+    same-length-2
+    returns
+    same-length-3
+    returns-2)
