@@ -25,7 +25,7 @@ use Rattle.state.specs.declared.Work.{Work}
 use Rattle.state.specs.Layout.{active-view-capacity, active-part, requests-part}
 use Rattle.state.specs.declared.RefillLimit.{RefillLimit}
 use Rattle.state.specs.Unpack.{unpack, station-of, settings-at, limit-at, refill-in}
-use Rattle.state.specs.Work.{work-of, run, Changes, DrawsAny, Tells, Fine, Does}
+use Rattle.state.specs.Work.{Held, work-of, run, Changes, DrawsAny, Tells, Fine, Does}
 use Rattle.state.proofs.Bridge.{by, still, then, then-tell, seq, taken, left, holds-at}
 use Rattle.state.proofs.Any.{then-draw-any}
 
@@ -95,8 +95,8 @@ unfolding null
 some-item [] e = clash true refl e
 some-item (x ∷ l) e = omega arith
 
-pub some-there : (from : List ℕ) (t : Bool) → t ≡ null (items-at 32 from) → t ≡ false → 0 < length (items-at 32 from)
-some-there from t e h = some-item (items-at 32 from) (sym e ∙ h)
+pub some-there : (from : List ℕ) (n : ℕ) (t : Bool) → n ≡ length (items-at 32 from) → t ≡ null (items-at 32 from) → t ≡ false → 0 < n
+some-there from n t q e h = omega (arith, some-item (items-at 32 from) (sym e ∙ h))
 
 pub one-picked : (w a b r : Work) (xs ys zs ds out o from : List ℕ) (n i p : ℕ) (high : Bool) → Fine (work-of w xs) ds out → high ≡ is-alone (unpack xs) → n ≡ length (items-at 32 from) → i ≡ pick n (drop (w .drawn) ds)
     → p ≡ getD (items-at 32 from) i 0 → Changes (on use-request) (work-of b ys) (work-of r zs) → Tells (send-neighbor p high) (work-of a xs) (work-of b ys) out o → DrawsAny (draw-one-of n) w a ds
@@ -107,18 +107,18 @@ one-picked w a b r xs ys zs ds out o from n i p high v q c u e k₃ k₂ k₁ =
     by _ (λ j. on use-request (send-neighbor (sym at j) (sym q j) (draw-one-of (sym c j) (run (work-of w xs) ds out))))
     (then k₃ (then-tell k₂ (then-draw-any k₁ (still v))))
 
-module _ (from : List ℕ) (w r : Work) (xs ys ds out o : List ℕ) where
-  pub none-left : (t : Bool) → Fine (work-of w xs) ds out → t ≡ null (items-at 32 from) → t ≡ true → Changes (on end-recovery) (work-of w xs) (work-of r ys) → Does (work-of r ys) ds out (ask-one (items-at 32 from) (run (work-of w xs) ds out))
-  unfolding ask-one
-  none-left t v e h k = taken (null (items-at 32 from)) (ask-picked (items-at 32 from) (run (work-of w xs) ds out)) (sym e ∙ h) (then k (still v))
-
-  pub one-asked : (t : Bool) → t ≡ null (items-at 32 from) → t ≡ false → Does (work-of r ys) ds o (ask-picked (items-at 32 from) (run (work-of w xs) ds out)) → Does (work-of r ys) ds o (ask-one (items-at 32 from) (run (work-of w xs) ds out))
-  unfolding ask-one
-  one-asked t e h d = left (null (items-at 32 from)) (on end-recovery (run (work-of w xs) ds out)) (sym e ∙ h) d
-
-  pub limited-done : (skip : List ℕ) → HoldsSet 32 from (candidates skip (unpack xs)) → Does (work-of r ys) ds o (ask-one (items-at 32 from) (run (work-of w xs) ds out)) → Does (work-of r ys) ds o (refill-limited skip (run (work-of w xs) ds out))
+module _ (skip from : List ℕ) (w : Work) (xs ds out : List ℕ) (t : Bool) (c : HoldsSet 32 from (candidates skip (unpack xs))) (e : t ≡ null (items-at 32 from)) where
+  limited-done : (r : Held) (o : List ℕ) → Does r ds o (ask-one (items-at 32 from) (run (work-of w xs) ds out)) → Does r ds o (refill-limited skip (run (work-of w xs) ds out))
   unfolding refill-limited run
-  limited-done skip h d = by (refill-limited skip (run (work-of w xs) ds out)) (ap (λ (l : List ℕ). ask-one l (run (work-of w xs) ds out)) (sym (h .items))) d
+  limited-done r o d = by (refill-limited skip (run (work-of w xs) ds out)) (ap (λ (l : List ℕ). ask-one l (run (work-of w xs) ds out)) (sym (c .items))) d
+
+  pub none-left : (r : Work) (ys : List ℕ) → Fine (work-of w xs) ds out → t ≡ true → Changes (on end-recovery) (work-of w xs) (work-of r ys) → Does (work-of r ys) ds out (refill-limited skip (run (work-of w xs) ds out))
+  unfolding ask-one
+  none-left r ys v h k = limited-done (work-of r ys) out (taken (null (items-at 32 from)) (ask-picked (items-at 32 from) (run (work-of w xs) ds out)) (sym e ∙ h) (then k (still v)))
+
+  pub one-asked : (r : Work) (ys o : List ℕ) → t ≡ false → Does (work-of r ys) ds o (ask-picked (items-at 32 from) (run (work-of w xs) ds out)) → Does (work-of r ys) ds o (refill-limited skip (run (work-of w xs) ds out))
+  unfolding ask-one
+  one-asked r ys o h d = limited-done (work-of r ys) o (left (null (items-at 32 from)) (on end-recovery (run (work-of w xs) ds out)) (sym e ∙ h) d)
 
 -- ---- whether one is asked at all
 

@@ -2,13 +2,14 @@
 -- Assumes nothing.
 use Prim.Native.Nat.{ℕ}
 use mathlib.Core.Path.{_≡_, refl, sym, ap, _∙_}
-use mathlib.Core.Bool.{Bool, true, false}
+use mathlib.Core.Bool.{Bool, true, false, not, _&&_}
 use mathlib.Core.List.{List}
 use lib.Dec.{eqb}
 use borrow.Author.Tests.{eqb-true, eqb-false}
-use Rattle.lists.specs.Lists.{choose}
+use Rattle.lists.specs.Lists.{choose, null}
 use Rattle.lists.proofs.Choice.{split, choose-yes, choose-no}
-use Rattle.protocol.specs.Station.{Station, Refill, automatic, recovery-is-over}
+use Rattle.util.specs.Section.{items-at, HoldsSet}
+use Rattle.protocol.specs.Station.{Station, Refill, automatic, is-alone, is-short, is-recovery, is-automatic, asked-outside, recovery-is-over}
 use Rattle.protocol.specs.Setters.{set-refill}
 use Rattle.protocol.specs.Run.{Run, guard, on, with-station}
 use Rattle.protocol.specs.Refill.{few-requests, unless-recovery, one-less, use-request, end-recovery, needs-limit, limit-short, begin-refill}
@@ -47,6 +48,23 @@ module _ (f : Station → Station) (limit : Station → Refill) (d : (s : Statio
 automatic-in : refill-in Automatic ≡ automatic
 unfolding refill-in
 automatic-in = refl
+
+-- ---- tests
+
+pub over-known : (xs t : List ℕ) (l : RefillLimit) (a b : Bool) → l ≡ limit-at xs → HoldsSet 32 t (asked-outside (unpack xs)) → a ≡ is-recovery (refill-in l) → b ≡ null (items-at 32 t) → (a && b) ≡ recovery-is-over (unpack xs)
+unfolding recovery-is-over unpack station-of
+over-known xs t l a b q h e f =
+    let c = e ∙ ap (λ (x : RefillLimit). is-recovery (refill-in x)) q in
+    let d = f ∙ ap null (h .items) in
+    λ i. c i && d i
+
+pub limit-known : (xs : List ℕ) (l : RefillLimit) (a b c : Bool) → l ≡ limit-at xs → a ≡ is-automatic (refill-in l) → b ≡ is-alone (unpack xs) → c ≡ is-short (unpack xs) → (a && (not b && c)) ≡ needs-limit (unpack xs)
+unfolding needs-limit unpack station-of
+limit-known xs l a b c q e f g =
+    let d = e ∙ ap (λ (x : RefillLimit). is-automatic (refill-in x)) q in
+    λ i. d i && (not (f i) && g i)
+
+-- ---- changes
 
 module _ (w r : Work) (xs ys : List ℕ) where
   pub used : (old v : RefillLimit) → old ≡ limit-at xs → refill-in v ≡ one-less (refill-in old) → Changes (on (set-refill (refill-in v))) (work-of w xs) (work-of r ys) → Changes (on use-request) (work-of w xs) (work-of r ys)
