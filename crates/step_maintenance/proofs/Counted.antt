@@ -1,52 +1,63 @@
 -- Passes that are counted, and the peers that a pass looks at.
 -- Assumes nothing.
-use Prim.Native.Nat.{ℕ, _+_, _≤_, _<_}
-use mathlib.Core.Path.{_≡_, refl, sym, ap, _∙_}
-use mathlib.Core.Bool.{Bool}
+use Prim.Native.Nat.{ℕ, _+_, _≤_}
+use mathlib.Core.Path.{_≡_, refl, ap, _∙_}
 use mathlib.Core.List.{List, []}
 use native.Mathlib.Omega.{arith}
+use lib.ListN.{set}
+use lib.Dec.{ltb}
 use borrow.Author.Tests.{ltb-true}
 use Rattle.lists.specs.Lists.{without-all}
 use Rattle.util.specs.Section.{items-at, HoldsSet}
 use Rattle.writer.specs.Write.{rec-in}
-use Rattle.protocol.specs.Station.{Station, top-passes}
+use Rattle.protocol.specs.Station.{top-passes}
+use Rattle.protocol.specs.Setters.{set-passes-alone}
 use Rattle.protocol.specs.Run.{on, emit, require}
 use Rattle.protocol.specs.Timers.{renew-all, other-recent, alone-counts, add-alone, count-alone, short-counts, add-short, count-short, schedule-maintenance}
 use Rattle.state.specs.declared.Work.{Work}
 use Rattle.state.specs.Layout.{recent-part, bootstrap-part, passes-alone, passes-short}
 use Rattle.state.specs.Unpack.{unpack, station-of, PackedState}
 use Rattle.state.specs.Work.{work-of, run, Changes, ChangesAny, TellsAny}
-use Rattle.state.proofs.Bridge.{require-said, change-then, tell-by}
-use Rattle.step_maintenance.specs.Counts.{Counts}
+use Rattle.state.proofs.Bridge.{on-passed, on-done, require-said, change-then, tell-by}
+use Rattle.state.proofs.Fields.{put-passes-alone, put-passes-short}
 
 -- ---- passes
 
-pub tested : (test : Station → Bool) (w a : Work) (xs : List ℕ) (t : Bool) → PackedState xs → t ≡ test (unpack xs) → ChangesAny (require 10 t) w a → Counts test (a .code) (unpack xs)
-tested test w a xs t v e k = record { holds = λ z. sym e ∙ require-said (work-of w xs) (work-of a xs) 10 t (omega arith) (k .any xs v) z .1 }
+module _ (w a : Work) (xs : List ℕ) (v : PackedState xs) where
+  module _ (k : ChangesAny (require 10 (ltb (passes-alone xs) top-passes)) w a) where
+    alone-then : (ys : List ℕ) → Changes (on add-alone) (work-of a xs) (work-of a ys) → Changes count-alone (work-of w xs) (work-of a ys)
+    unfolding count-alone alone-counts run unpack station-of
+    alone-then ys m = change-then count-alone (λ ds out. refl) m (k .any xs v)
 
-module _ (xs : List ℕ) (code : ℕ) (z : code ≡ 0) where
-  pub alone-left : Counts alone-counts code (unpack xs) → passes-alone xs < top-passes
-  unfolding alone-counts unpack station-of
-  alone-left v = ltb-true _ _ (v .holds z)
+    pub alone-refused : (a .code ≡ 0 → ⊥) → Changes count-alone (work-of w xs) (work-of a xs)
+    alone-refused h = alone-then xs (on-passed (work-of a xs) v add-alone h)
 
-  pub short-left : Counts short-counts code (unpack xs) → passes-short xs < top-passes
-  unfolding short-counts unpack station-of
-  short-left v = ltb-true _ _ (v .holds z)
+    pub alone-left : a .code ≡ 0 → passes-alone xs + 1 ≤ top-passes
+    alone-left z = let h = ltb-true (passes-alone xs) top-passes (require-said (work-of w xs) (work-of a xs) 10 _ (omega arith) (k .any xs v) z .1) in omega arith
 
-  pub one-more-alone : Counts alone-counts code (unpack xs) → passes-alone xs + 1 ≤ top-passes
-  one-more-alone v = omega (arith, alone-left v)
+    pub alone-counted : a .code ≡ 0 → Changes count-alone (work-of w xs) (work-of a (set xs 14 (passes-alone xs + 1)))
+    unfolding add-alone unpack station-of
+    alone-counted z = alone-then _ (on-done (work-of a xs) v add-alone _ z (put-passes-alone _ (alone-left z)))
 
-  pub one-more-short : Counts short-counts code (unpack xs) → passes-short xs + 1 ≤ top-passes
-  one-more-short v = omega (arith, short-left v)
+  module _ (k : ChangesAny (require 10 (ltb (passes-short xs) top-passes)) w a) where
+    short-then : (ys : List ℕ) → Changes (on add-short) (work-of a xs) (work-of a ys) → Changes count-short (work-of w xs) (work-of a ys)
+    unfolding count-short short-counts run unpack station-of
+    short-then ys m = change-then count-short (λ ds out. refl) m (k .any xs v)
 
-module _ (w a r : Work) (xs ys : List ℕ) (t : Bool) (v : PackedState xs) where
-  pub alone-counted : t ≡ alone-counts (unpack xs) → Changes (on add-alone) (work-of a xs) (work-of r ys) → ChangesAny (require 10 t) w a → Changes count-alone (work-of w xs) (work-of r ys)
-  unfolding count-alone run
-  alone-counted e k₂ k₁ = change-then _ (λ ds out. rw e) k₂ (k₁ .any xs v)
+    pub short-refused : (a .code ≡ 0 → ⊥) → Changes count-short (work-of w xs) (work-of a xs)
+    short-refused h = short-then xs (on-passed (work-of a xs) v add-short h)
 
-  pub short-counted : t ≡ short-counts (unpack xs) → Changes (on add-short) (work-of a xs) (work-of r ys) → ChangesAny (require 10 t) w a → Changes count-short (work-of w xs) (work-of r ys)
-  unfolding count-short run
-  short-counted e k₂ k₁ = change-then _ (λ ds out. rw e) k₂ (k₁ .any xs v)
+    pub short-left : a .code ≡ 0 → passes-short xs + 1 ≤ top-passes
+    short-left z = let h = ltb-true (passes-short xs) top-passes (require-said (work-of w xs) (work-of a xs) 10 _ (omega arith) (k .any xs v) z .1) in omega arith
+
+    pub short-counted : a .code ≡ 0 → Changes count-short (work-of w xs) (work-of a (set xs 15 (passes-short xs + 1)))
+    unfolding add-short unpack station-of
+    short-counted z = short-then _ (on-done (work-of a xs) v add-short _ z (put-passes-short _ (short-left z)))
+
+-- no pass alone is counted any more
+pub alone-reset : (w : Work) (xs : List ℕ) → PackedState xs → w .code ≡ 0 → Changes (on (set-passes-alone 0)) (work-of w xs) (work-of w (set xs 14 0))
+unfolding unpack station-of
+alone-reset w xs v z = on-done (work-of w xs) v (set-passes-alone 0) _ z (put-passes-alone _ (omega arith))
 
 -- ---- peers
 

@@ -1,11 +1,13 @@
 -- The passes of a node that knows a peer.
 -- Assumes nothing.
 use Prim.Native.Nat.{ℕ}
-use mathlib.Core.Path.{_≡_, sym, _∙_}
-use mathlib.Core.Bool.{Bool, true, false}
+use mathlib.Core.Path.{_≡_, sym, ap, _∙_}
+use mathlib.Core.Bool.{Bool, true, false, _&&_}
 use mathlib.Core.List.{List, []}
+use Rattle.lists.specs.Lists.{null}
 use Rattle.timing.specs.Timing.{backoff-due}
-use Rattle.protocol.specs.Station.{Refill, is-alone, is-short}
+use Rattle.util.specs.Section.{items-at}
+use Rattle.protocol.specs.Station.{Refill, is-alone, is-short, is-recovery}
 use Rattle.protocol.specs.Setters.{set-passes-alone}
 use Rattle.protocol.specs.Run.{on}
 use Rattle.protocol.specs.Refill.{few-requests, end-recovery, start-refill}
@@ -14,8 +16,8 @@ use Rattle.protocol.specs.Timers.{count-short, refill-anew, refill-if-due, in-r
 use Rattle.state.specs.declared.RefillLimit.{RefillLimit}
 use Rattle.state.specs.declared.RefillLimit.the-variants.{Recovery}
 use Rattle.state.specs.declared.Work.{Work}
-use Rattle.state.specs.Layout.{passes-short}
-use Rattle.state.specs.Unpack.{unpack, station-of, refill-in}
+use Rattle.state.specs.Layout.{passive-part, passes-short}
+use Rattle.state.specs.Unpack.{unpack, station-of, refill-in, limit-at}
 use Rattle.state.specs.Work.{Held, work-of, run, Changes, Fine, Does}
 use Rattle.state.proofs.Bridge.{on-twice, change-then, still, then, seq, seq-at, taken, left, holds-at}
 
@@ -38,6 +40,16 @@ module _ (w : Work) (xs ds out : List ℕ) (t : Bool) (e : t ≡ backoff-due (pa
   pub refill-not-due : Fine (work-of w xs) ds out → t ≡ false → Does (work-of w xs) ds out (refill-if-due (run (work-of w xs) ds out))
   unfolding refill-if-due
   refill-not-due v h = left _ _ (due h) (still v)
+
+-- ---- tests
+
+pub recovery-known : (xs : List ℕ) (l : RefillLimit) (t : Bool) → l ≡ limit-at xs → t ≡ is-recovery (refill-in l) → t ≡ in-recovery (unpack xs)
+unfolding in-recovery unpack station-of
+recovery-known xs l t e h = h ∙ ap (λ (x : RefillLimit). is-recovery (refill-in x)) e
+
+pub none-known : (xs : List ℕ) (a b : Bool) → a ≡ is-alone (unpack xs) → b ≡ null (items-at 32 (passive-part xs)) → (a && b) ≡ knows-none (unpack xs)
+unfolding knows-none is-alone unpack station-of
+none-known xs a b x y = λ i. x i && y i
 
 -- ---- the branches of a pass
 

@@ -1,25 +1,44 @@
-use Rattle.protocol.specs.Timers.{short-counts}
-use Rattle.step_maintenance.proofs.Counted.{tested, short-counted}
+use native.Mathlib.Omega.{arith}
+use Rattle.step_maintenance.proofs.Counted.{short-refused, short-left, short-counted}
+use native.Mathlib.Omega.{arith}
+use Rattle.step_maintenance.proofs.Counted.{short-refused, short-left, short-counted}
 use borrow.Author.Needs.{needs}
 use Rattle.step_maintenance.proofs.count_short.Statement.{statement}
 use Rattle.step_maintenance.proofs.count_short.Tie as tie
 
-short-counts-requires : tie.Need-short-counts-requires
-short-counts-requires c κs = search needs
+slice-read-t : tie.Need-slice-read-t
+slice-read-t c = search needs
 
 require-requires : tie.Need-require-requires
 require-requires c κs = search needs
 
-add-short-requires : tie.Need-add-short-requires
-add-short-requires c κs = (search needs, (search needs, tested short-counts _ _ _ _ (c .before .before .before .before .before .pre .1) (c .before .before .short-counts .ensures) (c .before .require .ensures)))
+returns : tie.Need-returns
+returns c = search short-refused
+
+slice-read-st : tie.Need-slice-read-st
+slice-read-st c = search needs
+
+add-st : tie.Need-add-st
+add-st c = record { fits = omega (arith, short-left _ _ _ (c .before .before .before .before .before .before .pre .1) (c .before .before .before .require .ensures) (c .before .if1 .left)) }
+
+slice-write-st : tie.Need-slice-write-st
+slice-write-st c = search needs
 
 same-length : tie.Need-same-length
 same-length c = search needs
 
-returns : tie.Need-returns
-returns c = search short-counted
+returns-2 : tie.Need-returns-2
+returns-2 c = search short-counted
 
 pub count-short-spec : {M : Type 1} → statement M
 count-short-spec =
     tie.close
-    (tie.spec short-counts-requires require-requires add-short-requires same-length returns)
+    (tie.spec
+    slice-read-t
+    require-requires
+    returns
+    slice-read-st
+    add-st
+    slice-write-st
+    same-length
+    returns-2)
