@@ -3,24 +3,26 @@
 use Prim.Native.Nat.{ℕ, _+_, _≤_, _<_}
 use mathlib.Core.Path.{_≡_, refl, sym, ap, _∙_}
 use mathlib.Core.Bool.{Bool, true, false}
-use mathlib.Core.List.{List}
+use mathlib.Core.List.{List, [], _∷_}
 use native.Mathlib.Omega.{arith}
-use lib.ListN.{length, drop, getD}
-use lib.Seq.{take-all}
+use lib.ListN.{length, drop, getD, set}
+use lib.Seq.{take-all, getD-set-same}
 use Rattle.lists.specs.Lists.{null}
+use Rattle.lists.proofs.Choice.{split, choose-yes, choose-no}
 use Rattle.lists.proofs.Rest.{Rest, rest-next, rest-end}
 use Rattle.util.specs.Chances.{pick}
 use Rattle.timing.specs.Timing.{backoff-due}
 use Rattle.peer.specs.Data.{Data}
 use Rattle.util.specs.Section.{items-at, HoldsSet}
-use Rattle.protocol.specs.Run.{Run, emit, emit-all, to-draw, one-of, draw-one-of, picked}
+use Rattle.record.specs.Format.{Rec}
+use Rattle.protocol.specs.Run.{Run, emit, emit-all, draw, to-draw, one-of, draw-one-of, picked}
 use Rattle.protocol.specs.Sending.{join-to, join}
 use Rattle.protocol.specs.Timers.{other-recent, rejoin-recent, rejoin-bootstrap, rejoin, count-alone, rejoin-if-due, pass-alone}
 use Rattle.state.specs.declared.Work.{Work}
-use Rattle.state.specs.Layout.{bootstrap-part, passes-alone}
+use Rattle.state.specs.Layout.{words, bootstrap-part, passes-alone}
 use Rattle.state.specs.Unpack.{unpack, station-of}
 use Rattle.state.specs.Work.{work-of, run, Changes, DrawsAny, Room, Tells, Fine, Does}
-use Rattle.state.proofs.Bridge.{by, still, then, then-tell, seq, seq-at, taken, left}
+use Rattle.state.proofs.Bridge.{guard-shut, by, still, then, then-tell, seq, seq-at, taken, left}
 use Rattle.state.proofs.Any.{then-draw-any}
 
 -- ---- the bootstrap peers: the Joins to those to come, after what was done so far, are the answer
@@ -113,6 +115,41 @@ module _ (w : Work) (xs ds out : List ℕ) (t : Bool) (e : t ≡ backoff-due (pa
   pub rejoin-not-due : Fine (work-of w xs) ds out → t ≡ false → Does (work-of w xs) ds out (rejoin-if-due (run (work-of w xs) ds out))
   unfolding rejoin-if-due
   rejoin-not-due v h = left _ _ (due h) (still v)
+
+-- ---- a pass that cannot be counted: no Join goes out
+
+emits-rest : (f : ℕ → Rec) (l : List ℕ) (g : Run) → (g .code ≡ 0 → ⊥) → emit-all f l g ≡ g
+unfolding emit-all emit
+emits-rest f [] g h = refl
+emits-rest f (p ∷ l) g h = ap (emit-all f l) (guard-shut g _ h) ∙ emits-rest f l g h
+
+recent-rests : (from : List ℕ) (g : Run) → (g .code ≡ 0 → ⊥) → rejoin-recent from g ≡ g
+unfolding rejoin-recent join emit draw-one-of draw
+recent-rests from g h =
+    split (null from)
+    (λ t. choose-yes _ _ _ t)
+    (λ t. choose-no _ _ _ t ∙ (ap (join (picked from g)) (guard-shut g _ h) ∙ guard-shut g _ h))
+
+rejoin-rests : (g : Run) → (g .code ≡ 0 → ⊥) → rejoin-if-due g ≡ g
+unfolding rejoin-if-due rejoin rejoin-bootstrap
+rejoin-rests g h =
+    split (backoff-due (g .station .passes-alone))
+    (λ t. choose-yes _ _ _ t ∙ (ap (rejoin-recent (other-recent (g .station))) (emits-rest _ _ g h) ∙ recent-rests _ g h))
+    (λ t. choose-no _ _ _ t)
+
+stopped : (w : Work) (xs ds out : List ℕ) → (w .code ≡ 0 → ⊥) → rejoin-if-due (run (work-of w xs) ds out) ≡ run (work-of w xs) ds out
+unfolding run
+stopped w xs ds out h = rejoin-rests _ h
+
+pub alone-stopped : (w a : Work) (xs ds out : List ℕ) → Fine (work-of w xs) ds out → (a .code ≡ 0 → ⊥) → Changes count-alone (work-of w xs) (work-of a xs) → Does (work-of a xs) ds out (pass-alone (run (work-of w xs) ds out))
+unfolding pass-alone
+alone-stopped w a xs ds out v h k = let d = then k (still v) in seq rejoin-if-due (by _ (stopped a xs ds out h) (still (d .fine))) d
+
+-- ---- a pass that is counted
+
+-- the number that was written is the number of passes
+pub due-counted : (xs : List ℕ) (n : ℕ) (t : Bool) → length xs ≡ words → t ≡ backoff-due n → t ≡ backoff-due (passes-alone (set xs 14 n))
+due-counted xs n t l e = e ∙ ap backoff-due (sym (getD-set-same xs 14 n 0 (omega (arith, l))))
 
 pub passed-alone : (w a r : Work) (xs ys ds out o : List ℕ) → Fine (work-of w xs) ds out → Does (work-of r ys) ds o (rejoin-if-due (run (work-of a ys) ds out)) → Changes count-alone (work-of w xs) (work-of a ys)
     → Does (work-of r ys) ds o (pass-alone (run (work-of w xs) ds out))

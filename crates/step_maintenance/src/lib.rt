@@ -11,7 +11,7 @@ ghost use Prim.Native.Nat.{_≤_};
 ghost use lib.ListN.{length};
 ghost use Rattle.util.specs.Section.{items-at, ValidSet, HoldsSet};
 ghost use Rattle.protocol.specs.Run.{on};
-ghost use Rattle.protocol.specs.Timers.{renew-all, remember-all, rejoin-bootstrap, rejoin, count-alone, pass-alone, count-short, pass-known, not-alone, maintain};
+ghost use Rattle.protocol.specs.Timers.{renew-all, remember-all, rejoin-bootstrap, pass-alone, count-short, not-alone, maintain};
 ghost use Rattle.protocol.specs.Timers.{schedule-maintenance, handle-maintenance-timer};
 ghost use Rattle.state.specs.Layout.{words, all-places, few-places};
 ghost use Rattle.state.specs.Unpack.{PackedState};
@@ -68,57 +68,38 @@ fn rejoin_bootstrap(w: Work, st: &[u64], out: &mut [u8]) -> Work
     r
 }
 
-// Join to the bootstrap peers and to one recent neighbor.
-fn rejoin(w: Work, st: &[u64], draws: &[u32], out: &mut [u8]) -> Work
-    requires { ⌜ length (now st) ≡ words ⌝ }
-    requires { ⌜ Fine (work-of w (now st)) (now draws) (now out) ⌝ }
-    ensures { λ r. ⌜ Does (work-of r (now (st .entry))) (now (draws .entry)) (now (out .exit)) (rejoin (run (work-of w (now (st .entry))) (now (draws .entry)) (now (out .entry)))) ⌝ }
-{
-    // the recent neighbors that are no bootstrap peers
-    let mut v = [0u64; Layout::SET];
-    util::copy_into(&st[Layout::RECENT..Layout::RECENT_END], Layout::FEW, &mut v);
-    util::without_all(
-        &mut v,
-        Layout::ALL,
-        &st[Layout::BOOTSTRAP..Layout::BOOTSTRAP_END],
-        Layout::FEW,
-    );
-    let a = rejoin_bootstrap(w, st, out);
-    // one of them, where there is one
-    if util::is_empty(&v, Layout::ALL) {
-        return a;
-    }
-    let n = util::count(&v, Layout::ALL);
-    let t = state::choose(a, draws, n);
-    let p = util::get_index(&v, Layout::ALL, t.index);
-    step_sending::join(t.work, st, out, p)
-}
-
-// One more pass; code 10 where it cannot be counted.
-fn count_alone(w: Work, st: &mut [u64]) -> Work
-    requires { ⌜ length (now st) ≡ words ⌝ }
-    requires { ⌜ PackedState (now st) ⌝ }
-    ensures { λ r. ⌜ Changes count-alone (work-of w (now (st .entry))) (work-of r (now (st .exit))) ⌝ }
-{
-    let t = st[Layout::PASSES_ALONE] < state::TOP_PASSES;
-    let a = state::require(w, Refusal::COUNTER, t);
-    if a.code != 0 {
-        return a;
-    }
-    st[Layout::PASSES_ALONE] = st[Layout::PASSES_ALONE] + 1;
-    a
-}
-
-// A pass where both views are empty: it is counted, and the backoff says whether Joins go out.
+// A pass where both views are empty: it is counted, and the backoff says whether Joins go out, to the bootstrap peers and to one recent neighbor.
 fn pass_alone(w: Work, st: &mut [u64], draws: &[u32], out: &mut [u8]) -> Work
     requires { ⌜ length (now st) ≡ words ⌝ }
     requires { ⌜ Fine (work-of w (now st)) (now draws) (now out) ⌝ }
     ensures { λ r. ⌜ Does (work-of r (now (st .exit))) (now (draws .entry)) (now (out .exit)) (pass-alone (run (work-of w (now (st .entry))) (now (draws .entry)) (now (out .entry)))) ⌝ }
 {
-    let a = count_alone(w, st);
-    let n = st[Layout::PASSES_ALONE] as u32;
-    if timing::backoff_due(n) {
-        return rejoin(a, st, draws, out);
+    // code 10 where the pass cannot be counted
+    let t = st[Layout::PASSES_ALONE] < state::TOP_PASSES;
+    let a = state::require(w, Refusal::COUNTER, t);
+    if a.code != 0 {
+        return a;
+    }
+    let n = st[Layout::PASSES_ALONE] + 1;
+    st[Layout::PASSES_ALONE] = n;
+    if timing::backoff_due(n as u32) {
+        // the recent neighbors that are no bootstrap peers
+        let mut v = [0u64; Layout::SET];
+        util::copy_into(&st[Layout::RECENT..Layout::RECENT_END], Layout::FEW, &mut v);
+        util::without_all(
+            &mut v,
+            Layout::ALL,
+            &st[Layout::BOOTSTRAP..Layout::BOOTSTRAP_END],
+            Layout::FEW,
+        );
+        let b = rejoin_bootstrap(a, st, out);
+        // one of them, where there is one
+        if util::is_empty(&v, Layout::ALL) {
+            return b;
+        }
+        let c = state::choose(b, draws, util::count(&v, Layout::ALL));
+        let p = util::get_index(&v, Layout::ALL, c.index);
+        return step_sending::join(c.work, st, out, p);
     }
     a
 }
@@ -136,37 +117,6 @@ fn count_short(w: Work, st: &mut [u64]) -> Work
     }
     st[Layout::PASSES_SHORT] = st[Layout::PASSES_SHORT] + 1;
     a
-}
-
-// A pass where a view has peers: without neighbors, every pass begins a recovery; with enough of them, all refusals are forgotten.
-fn pass_known(w: Work, st: &mut [u64], draws: &[u32], out: &mut [u8]) -> Work
-    requires { ⌜ length (now st) ≡ words ⌝ }
-    requires { ⌜ Fine (work-of w (now st)) (now draws) (now out) ⌝ }
-    ensures { λ r. ⌜ Does (work-of r (now (st .exit))) (now (draws .entry)) (now (out .exit)) (pass-known (run (work-of w (now (st .entry))) (now (draws .entry)) (now (out .entry)))) ⌝ }
-{
-    if state::is_alone(st) {
-        let none = [0u64; 0];
-        return step_refill::start_refill(w, st, draws, out, RefillLimit::Recovery, &none);
-    }
-    if state::is_short(st) {
-        // nothing is done while a recovery runs
-        let l = state::limit_of(st);
-        if l.is_recovery() {
-            return w;
-        }
-        // the pass is counted, and the backoff says whether it refills
-        let a = count_short(w, st);
-        let n = st[Layout::PASSES_SHORT] as u32;
-        if timing::backoff_due(n) {
-            // with a new limit, before which all refusals are forgotten
-            let b = step_refill::clear_refused(a, st);
-            let few = RefillLimit::few_requests();
-            let none = [0u64; 0];
-            return step_refill::start_refill(b, st, draws, out, few, &none);
-        }
-        return a;
-    }
-    step_refill::clear_refused(w, st)
 }
 
 // A node that knows a peer is not alone: no pass alone is counted any more, and its recovery may be over.
@@ -195,7 +145,29 @@ fn maintain(w: Work, st: &mut [u64], draws: &[u32], out: &mut [u8]) -> Work
         return pass_alone(w, st, draws, out);
     }
     let a = not_alone(w, st);
-    pass_known(a, st, draws, out)
+    // without neighbors, every pass begins a recovery
+    if state::is_alone(st) {
+        let none = [0u64; 0];
+        return step_refill::start_refill(a, st, draws, out, RefillLimit::Recovery, &none);
+    }
+    if state::is_short(st) {
+        // nothing is done while a recovery runs
+        let l = state::limit_of(st);
+        if l.is_recovery() {
+            return a;
+        }
+        // the pass is counted, and the backoff says whether it refills
+        let b = count_short(a, st);
+        if timing::backoff_due(st[Layout::PASSES_SHORT] as u32) {
+            // with a new limit, before which all refusals are forgotten
+            let c = step_refill::clear_refused(b, st);
+            let few = RefillLimit::few_requests();
+            let none = [0u64; 0];
+            return step_refill::start_refill(c, st, draws, out, few, &none);
+        }
+        return b;
+    }
+    step_refill::clear_refused(a, st)
 }
 
 // The next pass of maintenance.
