@@ -22,7 +22,7 @@ use Rattle.writer.specs.Write.{rec-in}
 use Rattle.writer.proofs.Ways.{length-nodes}
 use Rattle.protocol.specs.Station.{Station, is-alone}
 use Rattle.protocol.specs.Setters.{set-next-interval}
-use Rattle.protocol.specs.Run.{on, emit, draw, drawn, to-draw, one-of, draw-one-of, picked, shuffled, draw-shuffle, message, timer, peer-infos}
+use Rattle.protocol.specs.Run.{Run, on, emit, draw, drawn, to-draw, one-of, draw-one-of, picked, shuffled, draw-shuffle, message, timer, peer-infos}
 use Rattle.protocol.specs.Timers.{double-interval, schedule-shuffle, shuffle-nodes, send-shuffle, active-sample, passive-sample, shuffle-passive, shuffle-with, shuffle-any}
 use Rattle.state.specs.declared.Work.{Work}
 use Rattle.state.specs.Layout as layout
@@ -31,19 +31,33 @@ use Rattle.state.specs.Unpack.{unpack, station-of, settings-at, own-at, PackedS
 use Rattle.state.specs.Work.{work-of, run, Changes, DrawsAny, Room, Tells, TellsAny, Fine, Does}
 use Rattle.state.proofs.Access.{of-settings, of-active}
 use Rattle.state.proofs.Fields.{put-next-interval}
-use Rattle.state.proofs.Bridge.{by, tell-by, still, then, then-tell, seq, seq-at, taken, left, holds-at}
+use Rattle.state.proofs.Bridge.{guard-shut, on-done, by, tell-by, still, then, then-tell, seq, seq-at, taken, left, holds-at}
 use Rattle.state.proofs.Any.{then-draw-any, then-tell-any}
 use Rattle.step_sending.proofs.Sets.{few-taken, lent-items, lent-count, shuffled-by, shuffle-of}
 
 -- ---- the interval
 
-short-enough : (xs : List ℕ) (x n : ℕ) → PackedState xs → n ≡ min x (shuffle-interval xs) → n ≤ 3600000
+pub setting-fits : (xs : List ℕ) → PackedState xs → shuffle-interval xs ≤ 3600000
 unfolding settings-at
-short-enough xs x n v e = omega (arith, ranges (settings-at xs) (of-settings xs v) .interval .most)
+setting-fits xs v = ranges (settings-at xs) (of-settings xs v) .interval .most
 
-pub put-doubled : (xs : List ℕ) (n : ℕ) → n ≡ min (2 * next-shuffle-interval xs) (shuffle-interval xs) → Becomes xs (unpack xs) → Becomes (set xs 13 n) (double-interval (unpack xs))
+put-doubled : (xs : List ℕ) (n : ℕ) → n ≡ min (2 * next-shuffle-interval xs) (shuffle-interval xs) → Becomes xs (unpack xs) → Becomes (set xs 13 n) (double-interval (unpack xs))
 unfolding double-interval unpack station-of settings-at
-put-doubled xs n e b = subst (λ (m : ℕ). Becomes (set xs 13 n) (set-next-interval m (unpack xs))) e (put-next-interval n (short-enough xs _ n (b .packed) e) b)
+put-doubled xs n e b = subst (λ (m : ℕ). Becomes (set xs 13 n) (set-next-interval m (unpack xs))) e (put-next-interval n (omega (arith, e, setting-fits xs (b .packed))) b)
+
+pub doubled : (w : Work) (xs : List ℕ) (n : ℕ) → PackedState xs → w .code ≡ 0 → n ≡ min (2 * next-shuffle-interval xs) (shuffle-interval xs) → Changes (on double-interval) (work-of w xs) (work-of w (set xs 13 n))
+doubled w xs n v z e = on-done (work-of w xs) v double-interval _ z (put-doubled xs n e)
+
+-- where a code is set, no timer is set
+schedule-rests : (g : Run) → (g .code ≡ 0 → ⊥) → schedule-shuffle g ≡ g
+unfolding schedule-shuffle emit draw on
+schedule-rests g h =
+    let e = timer 1 0 (delay (g .station .next-interval) (drawn g)) 0 in
+    ap (λ (x : Run). emit e (draw 1 x)) (guard-shut g _ h) ∙ (ap (emit e) (guard-shut g _ h) ∙ guard-shut g _ h)
+
+pub not-scheduled : (w : Work) (xs ds out : List ℕ) → Fine (work-of w xs) ds out → (w .code ≡ 0 → ⊥) → Does (work-of w xs) ds out (schedule-shuffle (run (work-of w xs) ds out))
+unfolding run
+not-scheduled w xs ds out v h = by _ (schedule-rests _ h) (still v)
 
 scheduled-is : (w : Work) (xs ds out : List ℕ) (x d : ℕ) → x ≡ delay (next-shuffle-interval xs) d → d ≡ getD ds (w .drawn) 0
     → schedule-shuffle (run (work-of w xs) ds out)

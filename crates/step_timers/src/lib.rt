@@ -8,20 +8,17 @@ use state::Layout;
 use state::Work;
 use writer::Fields;
 ghost use mathlib.Core.Path.{_≡_};
-ghost use Prim.Native.Nat.{_≤_, _<_, min};
+ghost use Prim.Native.Nat.{_≤_, _<_};
 ghost use lib.ListN.{length, take, drop};
 ghost use Rattle.lists.specs.Lists.{without};
 ghost use Rattle.util.specs.Chances.{shuffle};
 ghost use Rattle.peer.specs.Maps.{number-in};
 ghost use Rattle.util.specs.Section.{items-at, ValidSet, HoldsSet};
-ghost use Rattle.protocol.specs.Run.{on, draw-shuffle};
-ghost use Rattle.protocol.specs.Timers.{is-number, request-is, request-failed, handle-pending-neighbor-timer, join-is, retry-join};
-ghost use Rattle.protocol.specs.Timers.{double-interval, schedule-shuffle, send-shuffle, shuffle-passive, shuffle-with, shuffle-any, handle-shuffle-timer};
-ghost use Rattle.timing.specs.Timing.{most-shuffle-active};
+ghost use Rattle.protocol.specs.Run.{draw-shuffle};
+ghost use Rattle.protocol.specs.Timers.{is-number, handle-pending-neighbor-timer, retry-join, schedule-shuffle, send-shuffle, shuffle-any, handle-shuffle-timer};
 ghost use Rattle.record.specs.Format.{most-nodes};
 ghost use Rattle.state.specs.Layout.{words, all-places, set-words};
-ghost use Rattle.state.specs.Unpack.{unpack, PackedState};
-ghost use Rattle.state.specs.Work.{work-of, run, Changes, DrawsAny, Room, Tells, Fine, Does};
+ghost use Rattle.state.specs.Work.{work-of, run, DrawsAny, Room, Tells, Fine, Does};
 
 // Whether an answer names the number n.
 fn is_number(n: u64, m: Number) -> bool
@@ -31,38 +28,6 @@ fn is_number(n: u64, m: Number) -> bool
         Number::Absent => false,
         Number::Is(k) => n == k,
     }
-}
-
-// Whether the request to p is open under this number.
-fn request_is(st: &[u64], p: PeerId, id: u64) -> bool
-    requires { ⌜ length (now st) ≡ words ⌝ }
-    requires { ⌜ PackedState (now st) ⌝ }
-    ensures { λ r. ⌜ r ≡ request-is p id (unpack (now (st .entry))) ⌝ }
-{
-    let m = columns::get_number(&st[Layout::ASKED..Layout::ASKED_END], Layout::ALL, p);
-    is_number(id, m)
-}
-
-// Whether the join to p is open under this number.
-fn join_is(st: &[u64], p: PeerId, id: u64) -> bool
-    requires { ⌜ length (now st) ≡ words ⌝ }
-    requires { ⌜ PackedState (now st) ⌝ }
-    ensures { λ r. ⌜ r ≡ join-is p id (unpack (now (st .entry))) ⌝ }
-{
-    let m = columns::get_number(&st[Layout::JOINS..Layout::JOINS_END], Layout::FEW, p);
-    is_number(id, m)
-}
-
-// The request to p got no answer: p is dropped and another peer is asked.
-fn request_failed(w: Work, st: &mut [u64], draws: &[u32], out: &mut [u8], p: PeerId) -> Work
-    requires { ⌜ length (now st) ≡ words ⌝ }
-    requires { ⌜ Fine (work-of w (now st)) (now draws) (now out) ⌝ }
-    ensures { λ r. ⌜ Does (work-of r (now (st .exit))) (now (draws .entry)) (now (out .exit)) (request-failed p (run (work-of w (now (st .entry))) (now (draws .entry)) (now (out .entry)))) ⌝ }
-{
-    let a = state::drop_request(w, st, p);
-    let b = step_peers::drop_passive(a, st, p);
-    let none = [0u64; 0];
-    step_refill::refill_active_from_passive(b, st, draws, out, &none)
 }
 
 // The timer of a request; one whose number is not that of the open request does nothing.
@@ -78,8 +43,13 @@ pub fn handle_pending_neighbor_timer(
     requires { ⌜ Fine (work-of w (now st)) (now draws) (now out) ⌝ }
     ensures { λ r. ⌜ Does (work-of r (now (st .exit))) (now (draws .entry)) (now (out .exit)) (handle-pending-neighbor-timer p id (run (work-of w (now (st .entry))) (now (draws .entry)) (now (out .entry)))) ⌝ }
 {
-    if request_is(st, p, id) {
-        return request_failed(w, st, draws, out, p);
+    let m = columns::get_number(&st[Layout::ASKED..Layout::ASKED_END], Layout::ALL, p);
+    if is_number(id, m) {
+        // it got no answer: p is dropped and another peer is asked
+        let a = state::drop_request(w, st, p);
+        let b = step_peers::drop_passive(a, st, p);
+        let none = [0u64; 0];
+        return step_refill::refill_active_from_passive(b, st, draws, out, &none);
     }
     w
 }
@@ -90,36 +60,11 @@ pub fn retry_join(w: Work, st: &mut [u64], out: &mut [u8], p: PeerId, id: u64) -
     requires { ⌜ Room (work-of w (now st)) (now out) ⌝ }
     ensures { λ r. ⌜ Tells (retry-join p id) (work-of w (now (st .entry))) (work-of r (now (st .exit))) (now (out .entry)) (now (out .exit)) ⌝ }
 {
-    if join_is(st, p, id) {
+    let m = columns::get_number(&st[Layout::JOINS..Layout::JOINS_END], Layout::FEW, p);
+    if is_number(id, m) {
         let a = state::drop_join(w, st, p);
         return step_sending::join(a, st, out, p);
     }
-    w
-}
-
-// The smaller of two numbers.
-fn smaller(a: u64, b: u64) -> u64
-    ensures { λ r. ⌜ r ≡ min a b ⌝ }
-{
-    if a < b {
-        return a;
-    }
-    b
-}
-
-// The interval doubles up to its setting.
-fn double_interval(w: Work, st: &mut [u64]) -> Work
-    requires { ⌜ length (now st) ≡ words ⌝ }
-    requires { ⌜ PackedState (now st) ⌝ }
-    ensures { λ r. ⌜ Changes (on double-interval) (work-of w (now (st .entry))) (work-of r (now (st .exit))) ⌝ }
-{
-    if w.code != 0 {
-        return w;
-    }
-    let x = st[Layout::NEXT_SHUFFLE_INTERVAL];
-    let top = st[Layout::SHUFFLE_INTERVAL];
-    let next = smaller(2 * x, top);
-    st[Layout::NEXT_SHUFFLE_INTERVAL] = next;
     w
 }
 
@@ -129,21 +74,24 @@ pub fn schedule_shuffle(w: Work, st: &mut [u64], draws: &[u32], out: &mut [u8]) 
     requires { ⌜ Fine (work-of w (now st)) (now draws) (now out) ⌝ }
     ensures { λ r. ⌜ Does (work-of r (now (st .exit))) (now (draws .entry)) (now (out .exit)) (schedule-shuffle (run (work-of w (now (st .entry))) (now (draws .entry)) (now (out .entry)))) ⌝ }
 {
+    if w.code != 0 {
+        return w;
+    }
+    // the interval doubles up to its setting
     let x = st[Layout::NEXT_SHUFFLE_INTERVAL] as u32;
-    let a = double_interval(w, st);
-    let d = state::draw(a, draws);
-    let b = d.work;
-    let wait = timing::delay(x, d.value);
+    let next = timing::shorter(2 * x, st[Layout::SHUFFLE_INTERVAL] as u32);
+    st[Layout::NEXT_SHUFFLE_INTERVAL] = next as u64;
+    let d = state::draw(w, draws);
     let f = Fields {
         kind: Kind::DO_SHUFFLE,
         message: 0,
         flags: 0,
         peer: 0,
-        second: wait as u64,
+        second: timing::delay(x, d.value) as u64,
         ttl: 0,
         number: 0,
     };
-    state::emit_bare(b, out, f)
+    state::emit_bare(d.work, out, f)
 }
 
 // Shuffle with the peers of a working set, and the station itself last.
@@ -194,56 +142,6 @@ fn some_peers(
     step_sending::shuffle_and_cap(w, draws, most, v)
 }
 
-// Shuffle to a peer with the neighbors of a working set and some passive peers.
-fn shuffle_passive(
-    w: Work,
-    st: &[u64],
-    draws: &[u32],
-    out: &mut [u8],
-    to: PeerId,
-    v: &mut [u64],
-) -> Work
-    requires { ⌜ length (now st) ≡ words ⌝ }
-    requires { ⌜ Fine (work-of w (now st)) (now draws) (now out) ⌝ }
-    requires { ⌜ ValidSet all-places (now v) ⌝ }
-    requires { ⌜ length (items-at all-places (now v)) ≤ most-shuffle-active ⌝ }
-    ensures { λ r. ⌜ Does (work-of r (now (st .entry))) (now (draws .entry)) (now (out .exit)) (shuffle-passive to (items-at all-places (now (v .entry))) (run (work-of w (now (st .entry))) (now (draws .entry)) (now (out .entry)))) ⌝ }
-{
-    let mut more = [0u64; Layout::SET];
-    let most = st[Layout::SHUFFLE_PASSIVE_VIEW_COUNT] as usize;
-    let a = some_peers(
-        w,
-        draws,
-        &st[Layout::PASSIVE..Layout::PASSIVE_END],
-        Layout::ALL,
-        to,
-        most,
-        &mut more,
-    );
-    util::append(v, Layout::ALL, &more, Layout::ALL);
-    send_shuffle(a, st, out, to, v)
-}
-
-// Shuffle to a peer with some peers of each view, but not with itself.
-fn shuffle_with(w: Work, st: &[u64], draws: &[u32], out: &mut [u8], to: PeerId) -> Work
-    requires { ⌜ length (now st) ≡ words ⌝ }
-    requires { ⌜ Fine (work-of w (now st)) (now draws) (now out) ⌝ }
-    ensures { λ r. ⌜ Does (work-of r (now (st .entry))) (now (draws .entry)) (now (out .exit)) (shuffle-with to (run (work-of w (now (st .entry))) (now (draws .entry)) (now (out .entry)))) ⌝ }
-{
-    let mut v = [0u64; Layout::SET];
-    let most = st[Layout::SHUFFLE_ACTIVE_VIEW_COUNT] as usize;
-    let a = some_peers(
-        w,
-        draws,
-        &st[Layout::ACTIVE..Layout::ACTIVE_END],
-        Layout::FEW,
-        to,
-        most,
-        &mut v,
-    );
-    shuffle_passive(a, st, draws, out, to, &mut v)
-}
-
 // Shuffle to a neighbor, where there is one.
 fn shuffle_any(w: Work, st: &[u64], draws: &[u32], out: &mut [u8]) -> Work
     requires { ⌜ length (now st) ≡ words ⌝ }
@@ -255,13 +153,34 @@ fn shuffle_any(w: Work, st: &[u64], draws: &[u32], out: &mut [u8]) -> Work
     }
     let n = util::count(&st[Layout::ACTIVE..Layout::ACTIVE_END], Layout::FEW);
     let t = state::choose(w, draws, n);
-    let a = t.work;
     let to = util::get_index(
         &st[Layout::ACTIVE..Layout::ACTIVE_END],
         Layout::FEW,
         t.index,
     );
-    shuffle_with(a, st, draws, out, to)
+    // some peers of each view, but not that one
+    let mut v = [0u64; Layout::SET];
+    let a = some_peers(
+        t.work,
+        draws,
+        &st[Layout::ACTIVE..Layout::ACTIVE_END],
+        Layout::FEW,
+        to,
+        st[Layout::SHUFFLE_ACTIVE_VIEW_COUNT] as usize,
+        &mut v,
+    );
+    let mut more = [0u64; Layout::SET];
+    let b = some_peers(
+        a,
+        draws,
+        &st[Layout::PASSIVE..Layout::PASSIVE_END],
+        Layout::ALL,
+        to,
+        st[Layout::SHUFFLE_PASSIVE_VIEW_COUNT] as usize,
+        &mut more,
+    );
+    util::append(&mut v, Layout::ALL, &more, Layout::ALL);
+    send_shuffle(b, st, out, to, &v)
 }
 
 // The timer of the shuffle, which sets the next one.

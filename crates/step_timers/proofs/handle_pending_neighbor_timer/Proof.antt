@@ -1,13 +1,59 @@
-use Rattle.step_timers.proofs.Asked.{late, not-late}
+use Rattle.state.specs.Work.{Fine, work-of}
+use Rattle.util.specs.Section.{part}
+use native.Mathlib.Omega.{arith}
+use Rattle.state.proofs.Access.{of-packed}
+use Rattle.step_timers.proofs.Asked.{request-said, dropped-fine, failed, late, not-late}
 use borrow.Author.Needs.{needs}
 use Rattle.step_timers.proofs.handle_pending_neighbor_timer.Statement.{statement}
 use Rattle.step_timers.proofs.handle_pending_neighbor_timer.Tie as tie
 
-request-is-requires : tie.Need-request-is-requires
-request-is-requires c κs = search needs
+-- What handle_pending_neighbor_timer was given.
+fine : (c : tie.Start) → Fine (work-of (c .args .w) (c .args .st .now)) (c .args .draws .now) (c .args .out .now)
+fine c = c .pre .1
 
-request-failed-requires : tie.Need-request-failed-requires
-request-failed-requires c κs = search needs
+-- The ways back, from a place to an earlier one.
+abbrev get-number-to-start : tie.After-get-number → tie.Start
+get-number-to-start c = c .before .before .before .before .before .before
+
+abbrev drop-request-to-is-number : tie.After-drop-request → tie.After-is-number
+drop-request-to-is-number c = c .before .before .before
+
+abbrev drop-passive-to-drop-request : tie.After-drop-passive → tie.After-drop-request
+drop-passive-to-drop-request c = c .before .before .before .before
+
+sub-get-number : tie.Need-sub-get-number
+sub-get-number c = search needs
+
+part-get-number-start : tie.Need-part-get-number-start
+part-get-number-start c = search needs
+
+part-get-number-end : tie.Need-part-get-number-end
+part-get-number-end c = search needs
+
+get-number-requires : tie.Need-get-number-requires
+unfolding part
+get-number-requires c κs = search (of-packed, needs)
+
+is-number-requires : tie.Need-is-number-requires
+is-number-requires c κs = search needs
+
+drop-request-requires : tie.Need-drop-request-requires
+drop-request-requires c κs = search needs
+
+drop-passive-requires : tie.Need-drop-passive-requires
+drop-passive-requires c κs = search needs
+
+slice-aggregate-refill-active-from-passive : tie.Need-slice-aggregate-refill-active-from-passive
+slice-aggregate-refill-active-from-passive c = search needs
+
+refill-active-from-passive-requires : tie.Need-refill-active-from-passive-requires
+refill-active-from-passive-requires c κs =
+    let at-drop-passive = c .before .before .before .before .before in
+    let at-drop-request = drop-passive-to-drop-request at-drop-passive in
+    let start = get-number-to-start (drop-request-to-is-number at-drop-request .before) in (
+      omega (arith, at-drop-passive .drop-passive .kept .1 .0, at-drop-request .drop-request .kept .1 .0, start .pre .0),
+      dropped-fine _ _ _ _ _ _ _ _ _ (fine start) (at-drop-passive .drop-passive .ensures) (at-drop-request .drop-request .ensures),
+    )
 
 same-length : tie.Need-same-length
 same-length c = search needs
@@ -16,20 +62,40 @@ same-length-2 : tie.Need-same-length-2
 same-length-2 c = search needs
 
 returns : tie.Need-returns
-returns c = search late
+unfolding part
+returns c =
+    let at-refill-active-from-passive = c .before .before .before .before in
+    let at-drop-passive = at-refill-active-from-passive .before .before .before .before .before .before in
+    let at-drop-request = drop-passive-to-drop-request at-drop-passive in
+    let at-is-number = drop-request-to-is-number at-drop-request in
+    let at-get-number = at-is-number .before in
+    let start = get-number-to-start at-get-number in
+    late _ _ _ _ _ _ _ (request-said _ _ _ _ _ (at-is-number .is-number .ensures) (at-get-number .get-number .ensures)) _ _ _ (at-drop-request .before .before .if1 .taken)
+    (failed _ _ _ _ _ _ _ _ _ (fine start) (at-drop-passive .drop-passive .ensures) (at-drop-request .drop-request .ensures) _ _ _ (at-refill-active-from-passive .refill-active-from-passive .ensures))
 
 same-length-3 : tie.Need-same-length-3
 same-length-3 c = search needs
 
 returns-2 : tie.Need-returns-2
-returns-2 c = search not-late
+unfolding part
+returns-2 c =
+    let at-is-number = c .before in
+    let at-get-number = at-is-number .before in
+    not-late _ _ _ _ _ _ _ (request-said _ _ _ _ _ (at-is-number .is-number .ensures) (at-get-number .get-number .ensures)) (fine (get-number-to-start at-get-number)) (c .if1 .left)
 
 pub handle-pending-neighbor-timer-spec : {M : Type 1} → statement M
 handle-pending-neighbor-timer-spec =
     tie.close
     (tie.spec
-    request-is-requires
-    request-failed-requires
+    sub-get-number
+    part-get-number-start
+    part-get-number-end
+    get-number-requires
+    is-number-requires
+    drop-request-requires
+    drop-passive-requires
+    slice-aggregate-refill-active-from-passive
+    refill-active-from-passive-requires
     same-length
     same-length-2
     returns
