@@ -2,7 +2,7 @@
 -- Assumes nothing.
 use Prim.Native.Nat.{ℕ, _≤_, _<_}
 use mathlib.Core.Path.{_≡_, refl, sym, ap, _∙_, subst}
-use mathlib.Core.Bool.{Bool, true, false, not, _||_, or-true, or-false}
+use mathlib.Core.Bool.{Bool, true, false, not, _&&_, _||_, or-true, or-false}
 use mathlib.Core.List.{List, [], _∷_, _++_}
 use mathlib.Core.Option.{Option, none, some}
 use native.Mathlib.Omega.{arith}
@@ -24,20 +24,19 @@ use Rattle.writer.specs.Write.{rec-in}
 use Rattle.state.specs.declared.Work.{Work}
 use Rattle.protocol.specs.Run.{Run, guard, on, emit, to-draw, one-of, draw-one-of, require, picked, notice, node}
 use Rattle.state.specs.Work.{Held, work-of, ChangesAny, DrawsAny, TellsAny, run, Changes, Room, Tells, Fine}
-use Rattle.state.proofs.Bridge.{unchanged, change-then, telling, tell-by, tell-then, tell-no, still, by, then, then-draw, then-tell, seq, taken, left, require-said}
+use Rattle.state.proofs.Bridge.{on-passed, on-twice, unchanged, change-then, change-no, telling, tell-by, tell-then, tell-yes, tell-no, still, by, then, then-draw, then-tell, seq, taken, left, require-said}
 use Rattle.peer.specs.Data.{Data, bytes-of, holds}
 use Rattle.timing.proofs.Ranges.{ranges}
 use Rattle.protocol.proofs.Keeping.{one-of-station, emit-station, emit-fine}
 use Rattle.protocol.specs.Station.{Station, is-me, in-view, passive-is-full}
 use Rattle.protocol.specs.Peers.{is-known, data-fits, store-data, keep-data, announce-data, insert-data, insert-peer-info, forget-peer, drop-traces, drop-mark, drop-data, shift-passive, push-passive, evict-at, must-evict, evicted, evict, tell-evicted, make-room, is-newcomer, enter-passive, evicted-for, add-passive, evicted-by}
-use Rattle.step_peers.specs.Room.{FreePassive, FreeData}
 use Rattle.step_peers.specs.Answer.{named-in, Adds}
 use Rattle.step_peers.specs.declared.Evicted.the-variants.{Nobody, Peer}
 use Rattle.step_peers.specs.declared.Added.{Added}
 use Rattle.state.specs.Unpack.{unpack, station-of, settings-at, PackedState}
 use Rattle.state.proofs.Access.{of-settings, passive-fits}
 
-pub known : (s : List ℕ) (p : ℕ) (b : List ℕ) (x y : Bool) → x ≡ is-me p (unpack s) → y ≡ holds (lookup p (unpack s .peer-data)) b → (x || y) ≡ is-known p b (unpack s)
+known : (s : List ℕ) (p : ℕ) (b : List ℕ) (x y : Bool) → x ≡ is-me p (unpack s) → y ≡ holds (lookup p (unpack s .peer-data)) b → (x || y) ≡ is-known p b (unpack s)
 unfolding is-known unpack station-of
 known s p b x y e f = rw (e, f)
 
@@ -49,26 +48,13 @@ pub shifted-fits : (xs : List ℕ) (i : ℕ) → PackedState xs → i < length (
 unfolding unpack station-of
 shifted-fits xs i v h = omega (arith, length-shift (items-at 32 (passive-part xs)) i h, passive-fits xs v)
 
--- a free place in the passive view is one in its section, and is enough for one more
-module _ (xs : List ℕ) (code : ℕ) (v : PackedState xs) (z : code ≡ 0) (h : FreePassive code (unpack xs)) where
-  pub place-passive : length (items-at 32 (passive-part xs)) < 32
-  unfolding unpack station-of settings-at
-  place-passive = omega (arith, h .free z, ranges (settings-at xs) (of-settings xs v) .passive .most)
-
-  pub one-more : (p : ℕ) → length (items-at 32 (passive-part xs) ++ (p ∷ [])) ≤ passive-view-capacity xs
-  unfolding unpack station-of settings-at
-  one-more p = omega (arith, h .free z, length-append (items-at 32 (passive-part xs)) (p ∷ []))
-
 -- ---- rows and branches
 
-pub kept-free : (w a : Work) (xs : List ℕ) (p : ℕ) (t : Bool) → PackedState xs → t ≡ data-fits p (unpack xs) → ChangesAny (require 8 t) w a → FreeData p (a .code) (unpack xs)
-kept-free w a xs p t v e k = record { free = λ z. sym e ∙ require-said (work-of w xs) (work-of a xs) 8 t (omega arith) (k .any xs v) z .1 }
-
-pub keeps : (w a r : Work) (xs ys : List ℕ) (p : ℕ) (b : List ℕ) (t : Bool) → PackedState xs → t ≡ data-fits p (unpack xs) → Changes (on (store-data p b)) (work-of a xs) (work-of r ys) → ChangesAny (require 8 t) w a → Changes (keep-data p b) (work-of w xs) (work-of r ys)
+keeps : (w a r : Work) (xs ys : List ℕ) (p : ℕ) (b : List ℕ) (t : Bool) → PackedState xs → t ≡ data-fits p (unpack xs) → Changes (on (store-data p b)) (work-of a xs) (work-of r ys) → ChangesAny (require 8 t) w a → Changes (keep-data p b) (work-of w xs) (work-of r ys)
 unfolding keep-data run
 keeps w a r xs ys p b t v e k₂ k₁ = change-then _ (λ ds out. rw e) k₂ (k₁ .any xs v)
 
-pub evicts : (w a r : Held) (i p : ℕ) → p ≡ getD (unpack (w .state) .passive) i 0 → Changes (forget-peer p) a r → Changes (on (shift-passive i)) w a → Changes (evict-at i) w r
+evicts : (w a r : Held) (i p : ℕ) → p ≡ getD (unpack (w .state) .passive) i 0 → Changes (forget-peer p) a r → Changes (on (shift-passive i)) w a → Changes (evict-at i) w r
 unfolding evict-at run unpack station-of
 evicts w a r i p e k₂ k₁ = change-then _ (λ ds out. rw e) k₂ k₁
 
@@ -95,7 +81,7 @@ announced w r xs out o p d t v y e h k =
     tell-by _ (λ ds. choose-no _ _ _ (sym e ∙ h) ∙ ap (λ (x : Data). emit (record { kind = 11; message = 0; flags = 0; peer = p; second = 0; ttl = 0; number = 0; nodes = node 0 x ∷ [] }) (run (work-of w xs) ds out)) (sym (present-data d y))) (k .any xs (v .packed))
 
 module _ (w : Held) (out : List ℕ) (p : ℕ) (d : PeerData) where
-  pub some-info : (r : Held) (o : List ℕ) → d .present ≡ true → Tells (insert-data p (bytes-of (data-in d))) w r out o → Tells (insert-peer-info p (data-in d)) w r out o
+  some-info : (r : Held) (o : List ℕ) → d .present ≡ true → Tells (insert-data p (bytes-of (data-in d))) w r out o → Tells (insert-peer-info p (data-in d)) w r out o
   unfolding insert-peer-info
   some-info r o y k = tell-by _ (λ ds. ap (λ (x : Data). insert-peer-info p x (run w ds out)) (present-data d y)) k
 
@@ -115,13 +101,14 @@ was-not true e = sym e
 was-not false e = refl
 
 -- a set to choose from is not empty
-pub some-choice : (xs : List ℕ) (n : ℕ) (t : Bool) → n ≡ length (unpack xs .passive) → t ≡ must-evict (unpack xs) → t ≡ true → 0 < n
-unfolding must-evict
-some-choice xs n t e f h = omega (arith, e, some-item (unpack xs .passive) (was-not _ (and-right (passive-is-full (unpack xs)) (not (null (unpack xs .passive))) (sym f ∙ h))))
+pub some-choice : (xs : List ℕ) (n : ℕ) (x y : Bool) → n ≡ length (unpack xs .passive) → y ≡ null (unpack xs .passive) → (x && not y) ≡ true → 0 < n
+some-choice xs n x y e f h = omega (arith, e, some-item (unpack xs .passive) (sym f ∙ was-not y (and-right x (not y) h)))
 
-pub entry-free : (xs : List ℕ) (code p : ℕ) → code ≡ 0 → FreeData p code (unpack xs) → (has p (data-map-at 80 (peer-data-part xs)) || ltb (length (data-map-at 80 (peer-data-part xs))) 80) ≡ true
+-- a test that was passed found an entry for the data of p
+pub entry-free : (w a : Work) (xs : List ℕ) (p : ℕ) (t : Bool) → PackedState xs → t ≡ data-fits p (unpack xs) → ChangesAny (require 8 t) w a → a .code ≡ 0
+    → (has p (data-map-at 80 (peer-data-part xs)) || ltb (length (data-map-at 80 (peer-data-part xs))) 80) ≡ true
 unfolding unpack station-of data-fits
-entry-free xs code p z h = h .free z
+entry-free w a xs p t v e k z = sym e ∙ require-said (work-of w xs) (work-of a xs) 8 t (omega arith) (k .any xs v) z .1
 
 -- a free entry, or one that the peer has
 pub roomy : (xs : List ℕ) (p n : ℕ) → n ≡ length (data-map-at 80 (peer-data-part xs)) → n < 80 → true ≡ data-fits p (unpack xs)
@@ -133,15 +120,37 @@ unfolding data-fits unpack station-of
 crowded xs p n t e h f = rw (← e, le-ltb n 80 h) (f ∙ sym (or-false (has p (data-map-at 80 (peer-data-part xs)))))
 
 module _ (w a r : Held) (out o : List ℕ) (p : ℕ) (b : List ℕ) (t : Bool) where
-  pub inserted : t ≡ is-known p b (unpack (w .state)) → t ≡ false → Changes (keep-data p b) a r → Tells (announce-data p b) w a out o → Tells (insert-data p b) w r out o
+  inserted : t ≡ is-known p b (unpack (w .state)) → t ≡ false → Changes (keep-data p b) a r → Tells (announce-data p b) w a out o → Tells (insert-data p b) w r out o
   unfolding insert-data
   inserted e h k₂ k₁ = tell-no (is-known p b) e _ h (tell-then _ (λ ds. refl) (telling (k₁ .room) k₂) k₁)
 
+module _ (w : Work) (xs out : List ℕ) (p : ℕ) (d : PeerData) (x y : Bool) (h : d .present ≡ true) (e : x ≡ is-me p (unpack xs)) (f : y ≡ holds (lookup p (unpack xs .peer-data)) (bytes-of (data-in d))) where
+  pub info-known : Room (work-of w xs) out → (x || y) ≡ true → Tells (insert-peer-info p (data-in d)) (work-of w xs) (work-of w xs) out out
+  unfolding insert-data
+  info-known v t =
+      some-info (work-of w xs) out p d (work-of w xs) out h
+      (tell-yes (is-known p (bytes-of (data-in d))) (known xs p (bytes-of (data-in d)) x y e f) _ t (telling v (unchanged (λ g. g) (v .packed) (λ ds o. refl))))
+
+  module _ (a b : Work) (o : List ℕ) (t : Bool) (n : (x || y) ≡ false) (k₁ : Tells (announce-data p (bytes-of (data-in d))) (work-of w xs) (work-of a xs) out o) (q : t ≡ data-fits p (unpack xs)) (k₂ : ChangesAny (require 8 t) a b) where
+    pub info-stored : (ys : List ℕ) → Changes (on (store-data p (bytes-of (data-in d)))) (work-of b xs) (work-of b ys) → Tells (insert-peer-info p (data-in d)) (work-of w xs) (work-of b ys) out o
+    info-stored ys k₃ =
+        some-info (work-of w xs) out p d (work-of b ys) o h
+        (inserted _ _ _ _ _ _ _ (x || y) (known xs p (bytes-of (data-in d)) x y e f) n (keeps a b b xs ys p _ t (k₁ .room .packed) q k₃ k₂) k₁)
+
+    pub info-refused : (b .code ≡ 0 → ⊥) → Tells (insert-peer-info p (data-in d)) (work-of w xs) (work-of b xs) out o
+    info-refused z = info-stored xs (on-passed (work-of b xs) (k₁ .room .packed) _ z)
+
+-- ---- what is forgotten
+
+pub forgotten : (w a r : Held) (p : ℕ) (t : Bool) → t ≡ in-view p (unpack (w .state)) → t ≡ false → Changes (on (drop-mark p)) a r → Changes (on (drop-data p)) w a → Changes (forget-peer p) w r
+unfolding forget-peer drop-traces
+forgotten w a r p t e h k₂ k₁ = change-no (in-view p) e _ h (change-then _ (λ ds out. on-twice _ _ _) k₂ k₁)
+
 -- ---- the passive view
 
--- the place chosen among the n passive peers is one of theirs
-pub still-below : (xs : List ℕ) (n i : ℕ) → n ≡ length (unpack xs .passive) → i < n → i < length (unpack xs .passive)
-still-below xs n i e h = omega (arith, e, h)
+-- the place chosen among the n passive peers, m by the definition, is one of theirs
+pub still-below : (m n i : ℕ) → n ≡ m → i < n → i < m
+still-below m n i e h = omega (arith, e, h)
 
 -- who leaves, and what the run comes to
 module _ (g : Run) (i p : ℕ) (e : must-evict (g .station) ≡ true) (f : i ≡ one-of (length (g .station .passive)) g) where
@@ -170,36 +179,35 @@ module _ (g : Run) (e : must-evict (g .station) ≡ false) where
   unfolding make-room tell-evicted
   room-stays = sym (λ j. tell-evicted (none-evicted j) (none-leaves j))
 
-module _ (w a b r : Work) (xs ys ds out o : List ℕ) (n i p : ℕ) (t : Bool) where
-  pub made : Fine (work-of w xs) ds out → t ≡ must-evict (unpack xs) → t ≡ true → n ≡ length (unpack xs .passive) → i ≡ pick n (drop (w .drawn) ds) → p ≡ getD (unpack xs .passive) i 0
-      → TellsAny (emit (notice 12 p)) b r out o → Changes (evict-at i) (work-of a xs) (work-of b ys) → DrawsAny (draw-one-of n) w a ds
-      → Adds (record { work = r; evicted = Peer p }) ys ds o (make-room (run (work-of w xs) ds out)) (evicted (run (work-of w xs) ds out))
+must-known : (xs : List ℕ) (x y : Bool) → x ≡ passive-is-full (unpack xs) → y ≡ null (unpack xs .passive) → (x && not y) ≡ must-evict (unpack xs)
+unfolding must-evict
+must-known xs x y e f = λ i. e i && not (f i)
+
+module _ (w : Work) (xs ds out : List ℕ) (x y : Bool) (v : Fine (work-of w xs) ds out) (e : x ≡ passive-is-full (unpack xs)) (f : y ≡ null (unpack xs .passive)) where
+  pub made : (a b c r : Work) (ys zs o : List ℕ) (n i p : ℕ) → (x && not y) ≡ true → n ≡ length (unpack xs .passive) → i ≡ pick n (drop (w .drawn) ds) → p ≡ getD (unpack xs .passive) i 0
+      → TellsAny (emit (notice 12 p)) c r out o → Changes (forget-peer p) (work-of b ys) (work-of c zs) → Changes (on (shift-passive i)) (work-of a xs) (work-of b ys) → DrawsAny (draw-one-of n) w a ds
+      → Adds (record { work = r; evicted = Peer p }) zs ds o (make-room (run (work-of w xs) ds out)) (evicted (run (work-of w xs) ds out))
   unfolding named-in run one-of to-draw
-  made v e h q u l k₃ k₂ k₁ =
+  made a b c r ys zs o n i p h q u l k₄ k₃ k₂ k₁ =
       let g = run (work-of w xs) ds out in
-      let f : i ≡ one-of (length (g .station .passive)) g = u ∙ ap (λ (m : ℕ). pick m (drop (w .drawn) ds)) q in
+      let t : must-evict (g .station) ≡ true = sym (must-known xs x y e f) ∙ h in
+      let j : i ≡ one-of (length (g .station .passive)) g = u ∙ ap (λ (m : ℕ). pick m (drop (w .drawn) ds)) q in
       let d : DrawsAny (draw-one-of (length (g .station .passive))) w a ds = subst (λ (m : ℕ). DrawsAny (draw-one-of m) w a ds) q k₁ in
+      let k : Changes (evict-at i) (work-of a xs) (work-of c zs) = evicts (work-of a xs) (work-of b ys) (work-of c zs) i p l k₃ k₂ in
       record {
-        does = by _ (room-evicts g i p (sym e ∙ h) f l) (then-tell (k₃ .any ys (k₂ .packed)) (then k₂ (then-draw (d .any xs (v .ready .packed)) (still v))));
-        named = one-evicted g i p (sym e ∙ h) f l;
+        does = by _ (room-evicts g i p t j l) (then-tell (k₄ .any zs (k .packed)) (then k (then-draw (d .any xs (v .ready .packed)) (still v))));
+        named = one-evicted g i p t j l;
       }
 
-module _ (w : Work) (xs ds out : List ℕ) (t : Bool) where
-  pub not-made : Fine (work-of w xs) ds out → t ≡ must-evict (unpack xs) → t ≡ false → Adds (record { work = w; evicted = Nobody }) xs ds out (make-room (run (work-of w xs) ds out)) (evicted (run (work-of w xs) ds out))
+  pub not-made : (x && not y) ≡ false → Adds (record { work = w; evicted = Nobody }) xs ds out (make-room (run (work-of w xs) ds out)) (evicted (run (work-of w xs) ds out))
   unfolding named-in run
-  not-made v e h =
-      record { does = by _ (room-stays (run (work-of w xs) ds out) (sym e ∙ h)) (still v); named = none-evicted (run (work-of w xs) ds out) (sym e ∙ h) }
+  not-made h =
+      let t : must-evict (run (work-of w xs) ds out .station) ≡ false = sym (must-known xs x y e f) ∙ h in
+      record { does = by _ (room-stays (run (work-of w xs) ds out) t) (still v); named = none-evicted (run (work-of w xs) ds out) t }
 
-  pub not-entered : (p : ℕ) → Fine (work-of w xs) ds out → t ≡ is-newcomer p (unpack xs) → t ≡ false
-      → Adds (record { work = w; evicted = Nobody }) xs ds out (enter-passive p (run (work-of w xs) ds out)) (evicted-for p (run (work-of w xs) ds out))
-  unfolding enter-passive evicted-for named-in run
-  not-entered p v e h = record { does = left _ _ (sym e ∙ h) (still v); named = sym (choose-no _ _ _ (sym e ∙ h)) }
-
-  pub entered : (m : Added) (r : Work) (ys zs o : List ℕ) (p : ℕ) → t ≡ is-newcomer p (unpack xs) → t ≡ true → Changes (on (push-passive p)) (work-of (m .work) ys) (work-of r zs)
-      → Adds m ys ds o (make-room (run (work-of w xs) ds out)) (evicted (run (work-of w xs) ds out))
-      → Adds (record { work = r; evicted = m .evicted }) zs ds o (enter-passive p (run (work-of w xs) ds out)) (evicted-for p (run (work-of w xs) ds out))
-  unfolding enter-passive evicted-for run
-  entered m r ys zs o p e h k₂ k₁ = record { does = taken _ _ (sym e ∙ h) (then k₂ (k₁ .does)); named = k₁ .named ∙ sym (choose-yes _ _ _ (sym e ∙ h)) }
+-- unless a code is set, the passive view has a free place
+record FreePassive (code : ℕ) (s : Station) : Type 0 where
+  free : code ≡ 0 → length (s .passive) < s .config .«passive_view_capacity»
 
 forget-free : (p : ℕ) (g : Run) → FreePassive (g .code) (g .station) → FreePassive (forget-peer p g .code) (forget-peer p g .station)
 unfolding forget-peer on guard drop-traces drop-mark drop-data
@@ -245,17 +253,42 @@ made-free : (g : Run) → length (g .station .passive) ≤ g .station .config .�
 unfolding make-room
 made-free g l m = tell-free (evicted g) (evict g) (evict-free g l m)
 
-pub room-made : (w : Work) (m : Added) (xs ys ds out o : List ℕ) (x : Option ℕ) → Fine (work-of w xs) ds out → Adds m ys ds o (make-room (run (work-of w xs) ds out)) x → FreePassive (m .work .code) (unpack ys)
-unfolding run unpack station-of settings-at
-room-made w m xs ys ds out o x v k =
-    subst (λ (g : Run). FreePassive (g .code) (g .station)) (sym (k .does .same))
-    (made-free (run (work-of w xs) ds out) (passive-fits xs (v .ready .packed)) (ranges (settings-at xs) (of-settings xs (v .ready .packed)) .passive .least))
-
-pub added : (w a : Work) (m : Added) (xs ys zs ds out o o₂ : List ℕ) (p : ℕ) (x : Data) → Fine (work-of w xs) ds out → Adds m zs ds o₂ (enter-passive p (run (work-of a ys) ds o)) (evicted-for p (run (work-of a ys) ds o))
-    → Tells (insert-peer-info p x) (work-of w xs) (work-of a ys) out o
-    → Adds m zs ds o₂ (add-passive p x (run (work-of w xs) ds out)) (evicted-by p x (run (work-of w xs) ds out))
-unfolding add-passive evicted-by
-added w a m xs ys zs ds out o o₂ p x v k₂ k₁ = record { does = seq (enter-passive p) (k₂ .does) (then-tell k₁ (still v)); named = k₂ .named ∙ ap (evicted-for p) (k₁ .same ds) }
+-- ---- a newcomer in the passive view
 
 pub after-info : {step : Run → Run} (w a : Work) (xs ys ds out o : List ℕ) → Fine (work-of w xs) ds out → Tells step (work-of w xs) (work-of a ys) out o → Fine (work-of a ys) ds o
 after-info w a xs ys ds out o v k = then-tell k (still v) .fine
+
+module _ (w : Work) (m : Added) (xs ys ds out o : List ℕ) (x : Option ℕ) (v : Fine (work-of w xs) ds out) (k : Adds m ys ds o (make-room (run (work-of w xs) ds out)) x) (z : m .work .code ≡ 0) where
+  room-made : FreePassive (m .work .code) (unpack ys)
+  unfolding run unpack station-of settings-at
+  room-made =
+      subst (λ (g : Run). FreePassive (g .code) (g .station)) (sym (k .does .same))
+      (made-free (run (work-of w xs) ds out) (passive-fits xs (v .ready .packed)) (ranges (settings-at xs) (of-settings xs (v .ready .packed)) .passive .least))
+
+  -- the free place is one in the view's section, and is enough for one more
+  pub place-passive : length (items-at 32 (passive-part ys)) < 32
+  unfolding unpack station-of settings-at
+  place-passive = omega (arith, room-made .free z, ranges (settings-at ys) (of-settings ys (k .does .fine .ready .packed)) .passive .most)
+
+  pub one-more : (p : ℕ) → length (items-at 32 (passive-part ys) ++ (p ∷ [])) ≤ passive-view-capacity ys
+  unfolding unpack station-of settings-at
+  one-more p = omega (arith, room-made .free z, length-append (items-at 32 (passive-part ys)) (p ∷ []))
+
+module _ (w a : Work) (xs ys ds out o : List ℕ) (p : ℕ) (d : Data) (t : Bool) (v : Fine (work-of w xs) ds out) (k₁ : Tells (insert-peer-info p d) (work-of w xs) (work-of a ys) out o) (e : t ≡ is-newcomer p (unpack ys)) where
+  added : (m : Added) (zs o₂ : List ℕ) → Adds m zs ds o₂ (enter-passive p (run (work-of a ys) ds o)) (evicted-for p (run (work-of a ys) ds o))
+      → Adds m zs ds o₂ (add-passive p d (run (work-of w xs) ds out)) (evicted-by p d (run (work-of w xs) ds out))
+  unfolding add-passive evicted-by
+  added m zs o₂ k₂ = record { does = seq (enter-passive p) (k₂ .does) (then-tell k₁ (still v)); named = k₂ .named ∙ ap (evicted-for p) (k₁ .same ds) }
+
+  pub not-entered : t ≡ false → Adds (record { work = a; evicted = Nobody }) ys ds o (add-passive p d (run (work-of w xs) ds out)) (evicted-by p d (run (work-of w xs) ds out))
+  unfolding enter-passive evicted-for named-in run
+  not-entered h =
+      added _ ys o (record { does = left _ _ (sym e ∙ h) (still (after-info w a xs ys ds out o v k₁)); named = sym (choose-no _ _ _ (sym e ∙ h)) })
+
+  module _ (m : Added) (zs o₂ : List ℕ) (h : t ≡ true) (k₂ : Adds m zs ds o₂ (make-room (run (work-of a ys) ds o)) (evicted (run (work-of a ys) ds o))) where
+    pub entered : (us : List ℕ) → Changes (on (push-passive p)) (work-of (m .work) zs) (work-of (m .work) us) → Adds m us ds o₂ (add-passive p d (run (work-of w xs) ds out)) (evicted-by p d (run (work-of w xs) ds out))
+    unfolding enter-passive evicted-for run
+    entered us k₃ = added m us o₂ (record { does = taken _ _ (sym e ∙ h) (then k₃ (k₂ .does)); named = k₂ .named ∙ sym (choose-yes _ _ _ (sym e ∙ h)) })
+
+    pub refused : (m .work .code ≡ 0 → ⊥) → Adds m zs ds o₂ (add-passive p d (run (work-of w xs) ds out)) (evicted-by p d (run (work-of w xs) ds out))
+    refused z = entered zs (on-passed (work-of (m .work) zs) (k₂ .does .fine .ready .packed) _ z)

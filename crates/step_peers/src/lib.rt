@@ -9,19 +9,18 @@ use state::Work;
 use writer::Fields;
 ghost use mathlib.Core.Path.{_≡_};
 ghost use mathlib.Core.Bool.{true};
-ghost use Prim.Native.Nat.{_≤_, _<_};
+ghost use Prim.Native.Nat.{_<_};
 ghost use lib.ListN.{length};
-ghost use Rattle.protocol.specs.Run.{on, emit, notice};
+ghost use Rattle.protocol.specs.Run.{on};
 ghost use Rattle.peer.specs.Data.{bytes-of};
 ghost use Rattle.peer.specs.Held.{data-in, ValidData};
-ghost use Rattle.protocol.specs.Peers.{is-known, data-fits, must-evict, is-newcomer, is-marked};
-ghost use Rattle.protocol.specs.Peers.{keep-data, announce-data, insert-data, insert-peer-info, forget-peer, evict-at, evicted, make-room, enter-passive, evicted-for, add-passive, evicted-by, drop-passive};
-ghost use Rattle.protocol.specs.Peers.{store-data, drop-data, drop-mark, drop-traces, shift-passive, push-passive, remove-passive};
+ghost use Rattle.protocol.specs.Peers.{data-fits, is-newcomer, is-marked};
+ghost use Rattle.protocol.specs.Peers.{announce-data, insert-peer-info, forget-peer, evicted, make-room, add-passive, evicted-by, drop-passive};
+ghost use Rattle.protocol.specs.Peers.{drop-data, drop-mark, shift-passive, remove-passive};
 ghost use Rattle.protocol.specs.Handle.{forget-declined};
 ghost use Rattle.state.specs.Layout.{words};
 ghost use Rattle.state.specs.Unpack.{unpack, PackedState};
-ghost use Rattle.state.specs.Work.{work-of, Changes, Room, Tells, TellsAny, Fine, run};
-ghost use Rattle.step_peers.specs.Room.{FreePassive, FreeData};
+ghost use Rattle.state.specs.Work.{work-of, Changes, Room, Tells, Fine, run};
 ghost use Rattle.step_peers.specs.Answer.{Adds};
 
 // Who left the passive view before another entered it, if anyone (document 02, S-2).
@@ -34,17 +33,6 @@ pub enum Evicted {
 pub struct Added {
     pub work: Work,
     pub evicted: Evicted,
-}
-
-// Whether the data is the station's own or is held already, so that it is not stored.
-fn is_known(st: &[u64], p: PeerId, d: PeerData) -> bool
-    requires { ⌜ length (now st) ≡ words ⌝ }
-    requires { ⌜ PackedState (now st) ⌝ }
-    requires { ⌜ ValidData d ⌝ }
-    ensures { λ r. ⌜ r ≡ is-known p (bytes-of (data-in d)) (unpack (now (st .entry))) ⌝ }
-{
-    state::is_me(st, p)
-        | columns::holds_data(&st[Layout::HELD..Layout::HELD_END], Layout::DATA_CAP, p, d)
 }
 
 // Whether p has a data entry, or there is a free one.
@@ -68,16 +56,6 @@ pub fn is_newcomer(st: &[u64], p: PeerId) -> bool
     ensures { λ r. ⌜ r ≡ is-newcomer p (unpack (now (st .entry))) ⌝ }
 {
     !(state::is_me(st, p) | state::in_view(st, p))
-}
-
-// Whether one has to leave before another enters the passive view.
-fn must_evict(st: &[u64]) -> bool
-    requires { ⌜ length (now st) ≡ words ⌝ }
-    requires { ⌜ PackedState (now st) ⌝ }
-    ensures { λ r. ⌜ r ≡ must-evict (unpack (now (st .entry))) ⌝ }
-{
-    state::passive_is_full(st)
-        & !util::is_empty(&st[Layout::PASSIVE..Layout::PASSIVE_END], Layout::ALL)
 }
 
 pub fn is_marked(st: &[u64], p: PeerId) -> bool
@@ -122,43 +100,6 @@ pub fn remove_passive(w: Work, st: &mut [u64], p: PeerId) -> Work
     w
 }
 
-// p enters the passive view, which has a free place.
-fn push_passive(w: Work, st: &mut [u64], p: PeerId) -> Work
-    requires { ⌜ length (now st) ≡ words ⌝ }
-    requires { ⌜ PackedState (now st) ⌝ }
-    requires { ⌜ FreePassive (w .code) (unpack (now st)) ⌝ }
-    ensures { λ r. ⌜ Changes (on (push-passive p)) (work-of w (now (st .entry))) (work-of r (now (st .exit))) ⌝ }
-{
-    if w.code != 0 {
-        return w;
-    }
-    util::push(
-        &mut st[Layout::PASSIVE..Layout::PASSIVE_END],
-        Layout::ALL,
-        p,
-    );
-    w
-}
-
-fn store_data(w: Work, st: &mut [u64], p: PeerId, d: PeerData) -> Work
-    requires { ⌜ length (now st) ≡ words ⌝ }
-    requires { ⌜ PackedState (now st) ⌝ }
-    requires { ⌜ ValidData d ⌝ }
-    requires { ⌜ FreeData p (w .code) (unpack (now st)) ⌝ }
-    ensures { λ r. ⌜ Changes (on (store-data p (bytes-of (data-in d)))) (work-of w (now (st .entry))) (work-of r (now (st .exit))) ⌝ }
-{
-    if w.code != 0 {
-        return w;
-    }
-    columns::insert_data(
-        &mut st[Layout::HELD..Layout::HELD_END],
-        Layout::DATA_CAP,
-        p,
-        d,
-    );
-    w
-}
-
 pub fn drop_data(w: Work, st: &mut [u64], p: PeerId) -> Work
     requires { ⌜ length (now st) ≡ words ⌝ }
     requires { ⌜ PackedState (now st) ⌝ }
@@ -183,28 +124,6 @@ pub fn drop_mark(w: Work, st: &mut [u64], p: PeerId) -> Work
     w
 }
 
-// Without the data and the mark of p.
-fn drop_traces(w: Work, st: &mut [u64], p: PeerId) -> Work
-    requires { ⌜ length (now st) ≡ words ⌝ }
-    requires { ⌜ PackedState (now st) ⌝ }
-    ensures { λ r. ⌜ Changes (on (drop-traces p)) (work-of w (now (st .entry))) (work-of r (now (st .exit))) ⌝ }
-{
-    let a = drop_data(w, st, p);
-    drop_mark(a, st, p)
-}
-
-// Stores the data of p; code 8 where an 81st entry would be needed.
-fn keep_data(w: Work, st: &mut [u64], p: PeerId, d: PeerData) -> Work
-    requires { ⌜ length (now st) ≡ words ⌝ }
-    requires { ⌜ PackedState (now st) ⌝ }
-    requires { ⌜ ValidData d ⌝ }
-    ensures { λ r. ⌜ Changes (keep-data p (bytes-of (data-in d))) (work-of w (now (st .entry))) (work-of r (now (st .exit))) ⌝ }
-{
-    let test = data_fits(st, p);
-    let a = state::require(w, Refusal::DATA, test);
-    store_data(a, st, p, d)
-}
-
 // What is held of a peer goes with its last place in a view.
 pub fn forget_peer(w: Work, st: &mut [u64], p: PeerId) -> Work
     requires { ⌜ length (now st) ≡ words ⌝ }
@@ -214,19 +133,8 @@ pub fn forget_peer(w: Work, st: &mut [u64], p: PeerId) -> Work
     if state::in_view(st, p) {
         return w;
     }
-    drop_traces(w, st, p)
-}
-
-// The peer at place i leaves the passive view and is forgotten.
-fn evict_at(w: Work, st: &mut [u64], i: usize) -> Work
-    requires { ⌜ length (now st) ≡ words ⌝ }
-    requires { ⌜ PackedState (now st) ⌝ }
-    requires { ⌜ i < length (unpack (now st) .passive) ⌝ }
-    ensures { λ r. ⌜ Changes (evict-at i) (work-of w (now (st .entry))) (work-of r (now (st .exit))) ⌝ }
-{
-    let p = util::get_index(&st[Layout::PASSIVE..Layout::PASSIVE_END], Layout::ALL, i);
-    let a = shift_passive(w, st, i);
-    forget_peer(a, st, p)
+    let a = drop_data(w, st, p);
+    drop_mark(a, st, p)
 }
 
 // p leaves the passive view, where it is in it, and is forgotten.
@@ -263,21 +171,6 @@ fn announce_data(w: Work, st: &[u64], out: &mut [u8], p: PeerId, d: PeerData) ->
     state::emit_one(w, out, f, n)
 }
 
-// Announces and stores data that is not known yet.
-fn insert_new_data(w: Work, st: &mut [u64], out: &mut [u8], p: PeerId, d: PeerData) -> Work
-    requires { ⌜ length (now st) ≡ words ⌝ }
-    requires { ⌜ Room (work-of w (now st)) (now out) ⌝ }
-    requires { ⌜ ValidData d ⌝ }
-    requires { ⌜ d .present ≡ true ⌝ }
-    ensures { λ r. ⌜ Tells (insert-data p (bytes-of (data-in d))) (work-of w (now (st .entry))) (work-of r (now (st .exit))) (now (out .entry)) (now (out .exit)) ⌝ }
-{
-    if is_known(st, p, d) {
-        return w;
-    }
-    let a = announce_data(w, st, out, p, d);
-    keep_data(a, st, p, d)
-}
-
 pub fn insert_peer_info(w: Work, st: &mut [u64], out: &mut [u8], p: PeerId, d: PeerData) -> Work
     requires { ⌜ length (now st) ≡ words ⌝ }
     requires { ⌜ Room (work-of w (now st)) (now out) ⌝ }
@@ -285,26 +178,28 @@ pub fn insert_peer_info(w: Work, st: &mut [u64], out: &mut [u8], p: PeerId, d: P
     ensures { λ r. ⌜ Tells (insert-peer-info p (data-in d)) (work-of w (now (st .entry))) (work-of r (now (st .exit))) (now (out .entry)) (now (out .exit)) ⌝ }
 {
     if d.present {
-        return insert_new_data(w, st, out, p, d);
+        // The station's own data, and data that is held already, are not stored.
+        if state::is_me(st, p)
+            | columns::holds_data(&st[Layout::HELD..Layout::HELD_END], Layout::DATA_CAP, p, d)
+        {
+            return w;
+        }
+        let a = announce_data(w, st, out, p, d);
+        // Code 8 where an 81st entry would be needed.
+        let test = data_fits(st, p);
+        let b = state::require(a, Refusal::DATA, test);
+        if b.code != 0 {
+            return b;
+        }
+        columns::insert_data(
+            &mut st[Layout::HELD..Layout::HELD_END],
+            Layout::DATA_CAP,
+            p,
+            d,
+        );
+        return b;
     }
     w
-}
-
-// Document 02, S-2: the record of p, which the passive view evicted.
-fn tell_evicted(w: Work, out: &mut [u8], p: PeerId) -> Work
-    requires { ⌜ w .written ≤ length (now out) ⌝ }
-    ensures { λ r. ⌜ TellsAny (emit (notice 12 p)) w r (now (out .entry)) (now (out .exit)) ⌝ }
-{
-    let f = Fields {
-        kind: Kind::EVICTED,
-        message: 0,
-        flags: 0,
-        peer: p,
-        second: 0,
-        ttl: 0,
-        number: 0,
-    };
-    state::emit_bare(w, out, f)
 }
 
 // One peer leaves a full passive view, as the next draw kept decides, and its record follows.
@@ -313,37 +208,28 @@ fn make_room(w: Work, st: &mut [u64], draws: &[u32], out: &mut [u8]) -> Added
     requires { ⌜ Fine (work-of w (now st)) (now draws) (now out) ⌝ }
     ensures { λ r. ⌜ Adds r (now (st .exit)) (now (draws .entry)) (now (out .exit)) (make-room (run (work-of w (now (st .entry))) (now (draws .entry)) (now (out .entry)))) (evicted (run (work-of w (now (st .entry))) (now (draws .entry)) (now (out .entry)))) ⌝ }
 {
-    if must_evict(st) {
+    if state::passive_is_full(st)
+        & !util::is_empty(&st[Layout::PASSIVE..Layout::PASSIVE_END], Layout::ALL)
+    {
         let n = util::count(&st[Layout::PASSIVE..Layout::PASSIVE_END], Layout::ALL);
         let t = state::choose(w, draws, n);
-        let a = t.work;
         let i = t.index;
         let p = util::get_index(&st[Layout::PASSIVE..Layout::PASSIVE_END], Layout::ALL, i);
-        let b = evict_at(a, st, i);
-        return Added {
-            work: tell_evicted(b, out, p),
-            evicted: Evicted::Peer(p),
+        let a = shift_passive(t.work, st, i);
+        let b = forget_peer(a, st, p);
+        // Document 02, S-2: the record of p, which the passive view evicted.
+        let f = Fields {
+            kind: Kind::EVICTED,
+            message: 0,
+            flags: 0,
+            peer: p,
+            second: 0,
+            ttl: 0,
+            number: 0,
         };
-    }
-    Added {
-        work: w,
-        evicted: Evicted::Nobody,
-    }
-}
-
-// p enters the passive view, unless it is in a view or the station itself.
-fn enter_passive(w: Work, st: &mut [u64], draws: &[u32], out: &mut [u8], p: PeerId) -> Added
-    requires { ⌜ length (now st) ≡ words ⌝ }
-    requires { ⌜ Fine (work-of w (now st)) (now draws) (now out) ⌝ }
-    ensures { λ r. ⌜ Adds r (now (st .exit)) (now (draws .entry)) (now (out .exit)) (enter-passive p (run (work-of w (now (st .entry))) (now (draws .entry)) (now (out .entry)))) (evicted-for p (run (work-of w (now (st .entry))) (now (draws .entry)) (now (out .entry)))) ⌝ }
-{
-    if is_newcomer(st, p) {
-        let t = make_room(w, st, draws, out);
-        let a = t.work;
-        let e = t.evicted;
         return Added {
-            work: push_passive(a, st, p),
-            evicted: e,
+            work: state::emit_bare(b, out, f),
+            evicted: Evicted::Peer(p),
         };
     }
     Added {
@@ -366,7 +252,23 @@ pub fn add_passive(
     ensures { λ r. ⌜ Adds r (now (st .exit)) (now (draws .entry)) (now (out .exit)) (add-passive p (data-in d) (run (work-of w (now (st .entry))) (now (draws .entry)) (now (out .entry)))) (evicted-by p (data-in d) (run (work-of w (now (st .entry))) (now (draws .entry)) (now (out .entry)))) ⌝ }
 {
     let a = insert_peer_info(w, st, out, p, d);
-    enter_passive(a, st, draws, out, p)
+    // p enters the passive view, unless it is in a view or the station itself.
+    if is_newcomer(st, p) {
+        let t = make_room(a, st, draws, out);
+        if t.work.code != 0 {
+            return t;
+        }
+        util::push(
+            &mut st[Layout::PASSIVE..Layout::PASSIVE_END],
+            Layout::ALL,
+            p,
+        );
+        return t;
+    }
+    Added {
+        work: a,
+        evicted: Evicted::Nobody,
+    }
 }
 
 // 02, S-5: the data of a peer in neither view and without an open request goes, where the event is accepted.
