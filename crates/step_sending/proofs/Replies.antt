@@ -15,10 +15,11 @@ use Rattle.state.specs.Unpack.{unpack}
 use Rattle.state.specs.Work.{work-of, run, DrawsAny, Tells, Fine, Does}
 use Rattle.state.proofs.Bridge.{by, still, then-tell, seq, taken, left}
 use Rattle.state.proofs.Any.{then-draw-any}
-use Rattle.step_sending.proofs.Sets.{shuffled-by, shuffle-of}
+use Rattle.step_sending.proofs.Sets.{shuffled-by, shuffle-of, filled-up}
+use Rattle.step_sending.proofs.Told.{fine-drawn}
 
 module _ (to len : ℕ) (w a r : Work) (xs ds out o : List ℕ) (v : Fine (work-of w xs) ds out) where
-  pub filled-done : (ps all : List ℕ) → DrawsAny (draw-shuffle (unpack xs .active)) w a ds
+  filled-done : (ps all : List ℕ) → DrawsAny (draw-shuffle (unpack xs .active)) w a ds
       → HoldsSet 32 all (ps ++ take (len - length ps) (shuffled-by w ds (unpack xs .active)))
       → Tells (send-nodes to (items-at 32 all)) (work-of a xs) (work-of r xs) out o
       → Does (work-of r xs) ds o (send-filled to len ps (run (work-of w xs) ds out))
@@ -27,7 +28,7 @@ module _ (to len : ℕ) (w a r : Work) (xs ds out o : List ℕ) (v : Fine (work-
       by _ (ap (λ (l : List ℕ). send-nodes to l (draw-shuffle (unpack xs .active) (run (work-of w xs) ds out))) (sym (h .items)))
       (then-tell t (then-draw-any k (still v)))
 
-  pub reply-done : (v₁ v₂ : List ℕ) → HoldsSet 32 v₁ (unpack xs .passive) → DrawsAny (draw-shuffle (items-at 32 v₁)) w a ds
+  reply-done : (v₁ v₂ : List ℕ) → HoldsSet 32 v₁ (unpack xs .passive) → DrawsAny (draw-shuffle (items-at 32 v₁)) w a ds
       → HoldsSet 32 v₂ (take len (shuffled-by w ds (items-at 32 v₁)))
       → Does (work-of r xs) ds o (reply-with to len (items-at 32 v₂) (run (work-of a xs) ds out))
       → Does (work-of r xs) ds o (send-shuffle-reply to len (run (work-of w xs) ds out))
@@ -39,10 +40,25 @@ module _ (to len : ℕ) (w a r : Work) (xs ds out o : List ℕ) (v : Fine (work-
       (seq (reply-with to len (items-at 32 v₂)) d (then-draw-any k₁ (still v)))
 
 module _ (to len n : ℕ) (ps : List ℕ) (w r : Work) (xs ds out o : List ℕ) (e : n ≡ length ps) where
-  pub reply-short : n < len → Does (work-of r xs) ds o (send-filled to len ps (run (work-of w xs) ds out)) → Does (work-of r xs) ds o (reply-with to len ps (run (work-of w xs) ds out))
+  reply-short : n < len → Does (work-of r xs) ds o (send-filled to len ps (run (work-of w xs) ds out)) → Does (work-of r xs) ds o (reply-with to len ps (run (work-of w xs) ds out))
   unfolding reply-with
   reply-short h d = taken (ltb (length ps) len) (send-nodes to ps (run (work-of w xs) ds out)) (lt-ltb (length ps) len (omega arith)) d
 
-  pub reply-enough : Fine (work-of w xs) ds out → len ≤ n → Tells (send-nodes to ps) (work-of w xs) (work-of r xs) out o → Does (work-of r xs) ds o (reply-with to len ps (run (work-of w xs) ds out))
+  reply-long : Fine (work-of w xs) ds out → len ≤ n → Tells (send-nodes to ps) (work-of w xs) (work-of r xs) out o → Does (work-of r xs) ds o (reply-with to len ps (run (work-of w xs) ds out))
   unfolding reply-with
-  reply-enough v h k = left (ltb (length ps) len) (send-filled to len ps (run (work-of w xs) ds out)) (le-ltb (length ps) len (omega arith)) (then-tell k (still v))
+  reply-long v h k = left (ltb (length ps) len) (send-filled to len ps (run (work-of w xs) ds out)) (le-ltb (length ps) len (omega arith)) (then-tell k (still v))
+
+-- the passive view copied, shuffled and cut to the n peers of v₂
+module _ (to len : ℕ) (w a : Work) (xs ds out v₁ v₂ : List ℕ) (n : ℕ) (v : Fine (work-of w xs) ds out) (q : HoldsSet 32 v₁ (unpack xs .passive)) (k : DrawsAny (draw-shuffle (items-at 32 v₁)) w a ds)
+    (h : HoldsSet 32 v₂ (take len (shuffled-by w ds (items-at 32 v₁)))) (e : n ≡ length (items-at 32 v₂)) where
+  pub reply-filled : (b r : Work) (o m₀ m all : List ℕ) → n < len → HoldsSet 32 m₀ (unpack xs .active) → DrawsAny (draw-shuffle (items-at 32 m₀)) a b ds → HoldsSet 32 m (take (len - n) (shuffled-by a ds (items-at 32 m₀)))
+      → HoldsSet 32 all (items-at 32 v₂ ++ items-at 32 m) → Tells (send-nodes to (items-at 32 all)) (work-of b xs) (work-of r xs) out o
+      → Does (work-of r xs) ds o (send-shuffle-reply to len (run (work-of w xs) ds out))
+  reply-filled b r o m₀ m all l q₂ k₂ h₂ h₃ t =
+      let f = filled-up a b ds v₂ all m m₀ (unpack xs .active) len n k₂ h₃ h₂ q₂ e in
+      reply-done to len w a r xs ds out o v v₁ v₂ q k h
+      (reply-short to len n (items-at 32 v₂) a r xs ds out o e l (filled-done to len a b r xs ds out o (fine-drawn w a xs ds out v k) (items-at 32 v₂) all (f .0) (f .1) t))
+
+  pub reply-enough : (r : Work) (o : List ℕ) → len ≤ n → Tells (send-nodes to (items-at 32 v₂)) (work-of a xs) (work-of r xs) out o → Does (work-of r xs) ds o (send-shuffle-reply to len (run (work-of w xs) ds out))
+  reply-enough r o l t =
+      reply-done to len w a r xs ds out o v v₁ v₂ q k h (reply-long to len n (items-at 32 v₂) a r xs ds out o e (fine-drawn w a xs ds out v k) l t)

@@ -1,6 +1,6 @@
 -- Working sets of peers, for those who send them.
 -- Assumes nothing.
-use Prim.Native.Nat.{ℕ, zero, suc, _+_, _-_, _≤_}
+use Prim.Native.Nat.{ℕ, zero, suc, _+_, _-_, _≤_, _<_}
 use mathlib.Core.Path.{_≡_, sym, ap, _∙_, subst}
 use mathlib.Core.List.{List, [], _∷_, _++_}
 use native.Mathlib.Omega.{arith}
@@ -31,7 +31,7 @@ module _ (v : List ℕ) (n : ℕ) (s : ValidSet 32 v) (e : n ≡ length (items-a
 pub capped : (v r l : List ℕ) (most : ℕ) → HoldsSet 32 r (take most (items-at 32 v)) → HoldsSet 32 v l → HoldsSet 32 r (take most l)
 capped v r l most h k = set-then 32 (take most) h k
 
-pub fill-fits : (v m xs : List ℕ) (len n : ℕ) → HoldsSet 32 m (take (len - n) xs) → n ≡ length (items-at 32 v) → length (items-at 32 v) ≤ len → len ≤ 32
+pub fill-fits : (v m xs : List ℕ) (len n : ℕ) → HoldsSet 32 m (take (len - n) xs) → n ≡ length (items-at 32 v) → n < len → len ≤ 32
     → length (items-at 32 v) + length (items-at 32 m) ≤ 32
 fill-fits v m xs len n h e f g = omega (arith, set-length 32 m (take (len - n) xs) h, few-taken (len - n) xs)
 

@@ -1,8 +1,8 @@
 -- The records and requests of the code are those of the definition.
 -- Assumes nothing.
-use Prim.Native.Nat.{ℕ, _<_}
+use Prim.Native.Nat.{ℕ, _+_, _≤_, _<_}
 use mathlib.Core.Path.{_≡_, refl, sym, ap, _∙_, subst}
-use mathlib.Core.Bool.{Bool, true, false, _||_}
+use mathlib.Core.Bool.{Bool, true, false, _||_, or-true}
 use mathlib.Core.List.{List, [], _∷_}
 use native.Mathlib.Omega.{arith}
 use lib.ListN.{length, take}
@@ -24,13 +24,14 @@ use Rattle.protocol.specs.Station.{is-requested, top-counter}
 use Rattle.protocol.specs.Run.{Run, on, emit, require, node, message, flag, peer-infos}
 use Rattle.protocol.specs.Sending.{join-to, join, send-nodes, send-shuffle-reply, reply-length, send-disconnect, request-counts, request-fits, note-request, count-request, open-request, neighbor-to, tell-request, send-neighbor, reply-neighbor}
 use Rattle.state.specs.declared.Work.{Work}
-use Rattle.state.specs.Layout.{requests-part, neighbor-request-timeout, next-neighbor-request}
+use Rattle.state.specs.Layout.{requests-part, shuffle-active-view-count, shuffle-passive-view-count, neighbor-request-timeout, next-neighbor-request}
 use Rattle.state.specs.Unpack.{unpack, station-of, settings-at, own-at, PackedState}
 use Rattle.state.specs.Work.{Held, work-of, run, Changes, ChangesAny, DrawsAny, Room, Tells, TellsAny, Fine, Does}
-use Rattle.state.proofs.Bridge.{require-said, unchanged, change-by, change-then, telling, tell-by, tell-then, tell-yes, tell-no, by}
+use Rattle.state.proofs.Access.{of-settings}
+use Rattle.timing.proofs.Ranges.{ranges}
+use Rattle.state.proofs.Bridge.{on-passed, emit-passed, require-said, unchanged, change-by, change-then, telling, tell-by, tell-then, tell-yes, tell-no, by}
 use Rattle.state.proofs.Any.{then-tell-any}
 use Rattle.state.proofs.Refused.{required-code}
-use Rattle.step_sending.specs.Requests.{Countable, Notable}
 use Rattle.step_sending.proofs.Sets.{lent-items}
 
 -- what a step is lent, after another
@@ -56,70 +57,43 @@ module _ (w r : Work) (xs out o : List ℕ) where
   unfolding join join-to rec-in node-in run unpack station-of
   join-told p d v e k = tell-by _ (λ ds. ap (λ (x : PeerData). emit (message 0 p 0 0 0 (node 0 (data-in x) ∷ [])) (run (work-of w xs) ds out)) (sym e)) (k .any xs (v .packed))
 
-  pub nodes-told : (to : ℕ) (ps : List ℕ) (ns : Nodes) → Room (work-of w xs) out → HoldsNodes ns (peer-infos (unpack xs) ps) → TellsAny (emit (rec-in (sent 3 0 to) (nodes-in ns))) w r out o
+  nodes-told : (to : ℕ) (ps : List ℕ) (ns : Nodes) → Room (work-of w xs) out → HoldsNodes ns (peer-infos (unpack xs) ps) → TellsAny (emit (rec-in (sent 3 0 to) (nodes-in ns))) w r out o
       → Tells (send-nodes to ps) (work-of w xs) (work-of r xs) out o
   unfolding send-nodes rec-in run
   nodes-told to ps ns v h k = tell-by _ (λ ds. ap (λ (x : List Node). emit (message 3 to 0 0 0 x) (run (work-of w xs) ds out)) (sym (h .holds))) (k .any xs (v .packed))
 
-  pub set-told : (v : List ℕ) (n to : ℕ) → ValidSet 32 v → n ≡ length (items-at 32 v) → Tells (send-nodes to (take n v)) (work-of w xs) (work-of r xs) out o
+  pub set-told : (v : List ℕ) (n to : ℕ) (ns : Nodes) → Room (work-of w xs) out → ValidSet 32 v → n ≡ length (items-at 32 v) → HoldsNodes ns (peer-infos (unpack xs) (take n v)) → TellsAny (emit (rec-in (sent 3 0 to) (nodes-in ns))) w r out o
       → Tells (send-nodes to (items-at 32 v)) (work-of w xs) (work-of r xs) out o
-  set-told v n to s e k = subst (λ (l : List ℕ). Tells (send-nodes to l) (work-of w xs) (work-of r xs) out o) (lent-items v n s e) k
+  set-told v n to ns q s e h k = subst (λ (l : List ℕ). Tells (send-nodes to l) (work-of w xs) (work-of r xs) out o) (lent-items v n s e) (nodes-told to (take n v) ns q h k)
 
-  pub neighbor-told : (p : ℕ) (high : Bool) (f : ℕ) (d : PeerData) → Room (work-of w xs) out → f ≡ choose high 1 0 → d ≡ own-at xs
+  neighbor-told : (p : ℕ) (high : Bool) (f : ℕ) (d : PeerData) → Room (work-of w xs) out → f ≡ choose high 1 0 → d ≡ own-at xs
       → TellsAny (emit (rec-in (sent 4 f p) (node-in (record { id = 0; «data» = d }) ∷ []))) w r out o
       → Tells (emit (neighbor-to (unpack xs .own-data) high p)) (work-of w xs) (work-of r xs) out o
   unfolding neighbor-to flag rec-in node-in unpack station-of
   neighbor-told p high f d v e q k = tell-by _ (λ ds i. emit (message 4 p (sym e i) 0 0 (node 0 (data-in (sym q i)) ∷ [])) (run (work-of w xs) ds out)) (k .any xs (v .packed))
 
-  pub request-told : (a : Work) (o₁ : List ℕ) (p : ℕ) (high : Bool) (id : ℕ)
-      → TellsAny (emit (rec-in (record { kind = 3; message = 0; flags = 0; peer = p; second = neighbor-request-timeout xs; ttl = 0; number = id }) [])) a r o₁ o
-      → Tells (emit (neighbor-to (unpack xs .own-data) high p)) (work-of w xs) (work-of a xs) out o₁
-      → Tells (tell-request p high id) (work-of w xs) (work-of r xs) out o
-  unfolding tell-request rec-in run unpack station-of settings-at
-  request-told a o₁ p high id k₂ k₁ = tell-then _ (λ ds. refl) (k₂ .any xs (k₁ .room .packed)) k₁
-
-  pub disconnected : (a : Work) (o₁ ds : List ℕ) (p : ℕ) (alive : Bool) (len f : ℕ) → len ≡ reply-length (unpack xs) → f ≡ choose alive 1 0
-      → TellsAny (emit (rec-in (sent 5 f p) [])) a r o₁ o → Does (work-of a xs) ds o₁ (send-shuffle-reply p len (run (work-of w xs) ds out))
+  pub disconnected : (a : Work) (o₁ ds : List ℕ) (p : ℕ) (alive : Bool) (f : ℕ) → f ≡ choose alive 1 0
+      → TellsAny (emit (rec-in (sent 5 f p) [])) a r o₁ o → Does (work-of a xs) ds o₁ (send-shuffle-reply p (shuffle-active-view-count xs + shuffle-passive-view-count xs) (run (work-of w xs) ds out))
       → Does (work-of r xs) ds o (send-disconnect p alive (run (work-of w xs) ds out))
-  unfolding send-disconnect flag rec-in run
-  disconnected a o₁ ds p alive len f e q k d =
-      by _ (λ i. emit (message 5 p (sym q i) 0 0 []) (send-shuffle-reply p (sym e i) (run (work-of w xs) ds out))) (then-tell-any k d)
+  unfolding send-disconnect reply-length flag rec-in run unpack station-of settings-at
+  disconnected a o₁ ds p alive f q k d =
+      by _ (λ i. emit (message 5 p (sym q i) 0 0 []) (send-shuffle-reply p (shuffle-active-view-count xs + shuffle-passive-view-count xs) (run (work-of w xs) ds out))) (then-tell-any k d)
+
+pub request-told : (w a r : Work) (xs out o₁ o : List ℕ) (p : ℕ) (high : Bool) (id f : ℕ) (d : PeerData) → Room (work-of w xs) out → f ≡ choose high 1 0 → d ≡ own-at xs
+    → TellsAny (emit (rec-in (sent 4 f p) (node-in (record { id = 0; «data» = d }) ∷ []))) w a out o₁
+    → TellsAny (emit (rec-in (record { kind = 3; message = 0; flags = 0; peer = p; second = neighbor-request-timeout xs; ttl = 0; number = id }) [])) a r o₁ o
+    → Tells (tell-request p high id) (work-of w xs) (work-of r xs) out o
+unfolding tell-request rec-in run unpack station-of settings-at
+request-told w a r xs out o₁ o p high id f d v e q k₁ k₂ =
+    let k = neighbor-told w a xs out o₁ p high f d v e q k₁ in
+    tell-then _ (λ ds. refl) (k₂ .any xs (k .room .packed)) k
+
+-- how many peers a Disconnect's ShuffleReply names
+pub few-named : (xs : List ℕ) → PackedState xs → shuffle-active-view-count xs + shuffle-passive-view-count xs ≤ 32
+unfolding settings-at
+few-named xs v = let b = ranges (settings-at xs) (of-settings xs v) in omega (arith, b .shuffle-active .most, b .shuffle-passive .most)
 
 -- ---- requests
-
-module _ (xs : List ℕ) (code : ℕ) (z : code ≡ 0) (v : Notable code (unpack xs)) where
-  pub number-left : next-neighbor-request xs < top-counter
-  unfolding request-counts unpack station-of
-  number-left = ltb-true _ _ (v .counts z)
-
-  pub place-left : (p : ℕ) → (has p (numbers-at 32 (requests-part xs)) || ltb (length (numbers-at 32 (requests-part xs))) 32) ≡ true
-  unfolding request-fits unpack station-of
-  place-left p = or-yes (has p (numbers-at 32 (requests-part xs))) (ltb (length (numbers-at 32 (requests-part xs))) 32) (v .fits z)
-    where
-      or-yes : (a b : Bool) → b ≡ true → (a || b) ≡ true
-      or-yes true b e = refl
-      or-yes false b e = e
-
-pub counted : (w r : Work) (xs : List ℕ) (t : Bool) → PackedState xs → t ≡ request-counts (unpack xs) → ChangesAny (require 10 t) w r → Changes count-request (work-of w xs) (work-of r xs)
-unfolding count-request run
-counted w r xs t v e k = change-by _ (λ ds out. ap (λ (b : Bool). require 10 b (run (work-of w xs) ds out)) (sym e)) (k .any xs v)
-
-pub countable : (w a : Work) (xs : List ℕ) → Changes count-request (work-of w xs) (work-of a xs) → Countable (a .code) (unpack xs)
-unfolding count-request run
-countable w a xs k =
-    let q : Changes (require 10 (request-counts (unpack xs))) (work-of w xs) (work-of a xs) = change-by {g = count-request} _ (λ ds out. refl) k in
-    record { counts = λ z. require-said (work-of w xs) (work-of a xs) 10 _ (omega arith) q z .1 }
-
-module _ (w a : Work) (xs : List ℕ) (t : Bool) (v : PackedState xs) (e : t ≡ request-fits (unpack xs)) (k : ChangesAny (require 6 t) w a) where
-  pub notable : Countable (w .code) (unpack xs) → Notable (a .code) (unpack xs)
-  notable h = record {
-    counts = λ z. h .counts (required-code 6 t (work-of w xs) (work-of a xs) (k .any xs v) z);
-    fits = λ z. sym e ∙ require-said (work-of w xs) (work-of a xs) 6 t (omega arith) (k .any xs v) z .1;
-  }
-
-  pub request-opened : (p : ℕ) (r : Work) (ys : List ℕ) → Changes (on (note-request p)) (work-of a xs) (work-of r ys) → Changes (open-request p) (work-of w xs) (work-of r ys)
-  unfolding open-request run
-  request-opened p r ys k₂ = change-then _ (λ ds out. ap (λ (b : Bool). on (note-request p) (require 6 b (run (work-of w xs) ds out))) (sym e)) k₂ (k .any xs v)
 
 module _ (p : ℕ) (high : Bool) (w : Held) (out : List ℕ) (v : Room w out) where
   pub asked : (t : Bool) → t ≡ is-requested p (unpack (w .state)) → t ≡ true → Tells (send-neighbor p high) w w out out
@@ -134,14 +108,41 @@ module _ (p : ℕ) (high : Bool) (w : Held) (out : List ℕ) (v : Room w out) wh
   unfolding reply-neighbor
   not-replied reply h = telling v (unchanged _ (v .packed) (λ ds o. choose-no _ _ _ h))
 
-module _ (p : ℕ) (high : Bool) (w a b : Work) (xs ys out : List ℕ) (v : Room (work-of w xs) out) (k₂ : Changes (open-request p) (work-of a xs) (work-of b ys)) (k₁ : Changes count-request (work-of w xs) (work-of a xs)) where
-  noted : Tells (λ g. open-request p (count-request g)) (work-of w xs) (work-of b ys) out out
-  noted = telling v (change-then _ (λ ds o. refl) k₂ k₁)
+-- the two tests before a request is noted
+module _ (w a b : Work) (xs : List ℕ) (n : ℕ) (v : PackedState xs) (k₁ : ChangesAny (require 10 (ltb (next-neighbor-request xs) top-counter)) w a)
+    (e : n ≡ length (numbers-at 32 (requests-part xs))) (k₂ : ChangesAny (require 6 (ltb n 32)) a b) where
+  pub number-left : b .code ≡ 0 → next-neighbor-request xs < top-counter
+  number-left z = ltb-true _ _ (require-said (work-of w xs) (work-of a xs) 10 _ (omega arith) (k₁ .any xs v) (required-code 6 (ltb n 32) (work-of a xs) (work-of b xs) (k₂ .any xs v) z) .1)
 
-  pub noted-room : Room (work-of b ys) out
-  noted-room = noted .room
+  pub place-left : b .code ≡ 0 → (p : ℕ) → (has p (numbers-at 32 (requests-part xs)) || ltb (length (numbers-at 32 (requests-part xs))) 32) ≡ true
+  place-left z p =
+      let fits : ltb (length (numbers-at 32 (requests-part xs))) 32 ≡ true = ap (λ (m : ℕ). ltb m 32) (sym e) ∙ require-said (work-of a xs) (work-of b xs) 6 (ltb n 32) (omega arith) (k₂ .any xs v) z .1 in
+      rw fits (or-true (has p (numbers-at 32 (requests-part xs))))
 
-  pub neighbor-sent : (t : Bool) (r : Work) (o : List ℕ) → t ≡ is-requested p (unpack xs) → t ≡ false → Tells (tell-request p high (next-neighbor-request xs)) (work-of b ys) (work-of r ys) out o
-      → Tells (send-neighbor p high) (work-of w xs) (work-of r ys) out o
-  unfolding send-neighbor run unpack station-of
-  neighbor-sent t r o e h k = tell-no (is-requested p) e _ h (tell-then _ (λ ds. refl) k noted)
+  counted : Changes count-request (work-of w xs) (work-of a xs)
+  unfolding count-request request-counts run unpack station-of
+  counted = change-by _ (λ ds out. refl) (k₁ .any xs v)
+
+  module _ (p : ℕ) (ys : List ℕ) (k₃ : Changes (on (note-request p)) (work-of b xs) (work-of b ys)) where
+    opened : Changes (open-request p) (work-of a xs) (work-of b ys)
+    unfolding open-request request-fits run unpack station-of
+    opened = change-then _ (λ ds out. ap (λ (m : ℕ). on (note-request p) (require 6 (ltb m 32) (run (work-of a xs) ds out))) (sym e)) k₃ (k₂ .any xs v)
+
+    noted : (out : List ℕ) → Room (work-of w xs) out → Tells (λ g. open-request p (count-request g)) (work-of w xs) (work-of b ys) out out
+    noted out q = telling q (change-then _ (λ ds o. refl) opened counted)
+
+    pub noted-room : (out : List ℕ) → Room (work-of w xs) out → Room (work-of b ys) out
+    noted-room out q = noted out q .room
+
+    pub neighbor-sent : (high t : Bool) (r : Work) (out o : List ℕ) → Room (work-of w xs) out → t ≡ is-requested p (unpack xs) → t ≡ false → Tells (tell-request p high (next-neighbor-request xs)) (work-of b ys) (work-of r ys) out o
+        → Tells (send-neighbor p high) (work-of w xs) (work-of r ys) out o
+    unfolding send-neighbor run unpack station-of
+    neighbor-sent high t r out o q i h k = tell-no (is-requested p) i _ h (tell-then _ (λ ds. refl) k (noted out q))
+
+  -- a refused run is left alone
+  pub neighbor-refused : (p : ℕ) (high t : Bool) (out : List ℕ) → Room (work-of w xs) out → t ≡ is-requested p (unpack xs) → t ≡ false → (b .code ≡ 0 → ⊥) → Tells (send-neighbor p high) (work-of w xs) (work-of b xs) out out
+  unfolding tell-request run
+  neighbor-refused p high t out q i h z =
+      let k₃ = on-passed (work-of b xs) v (note-request p) z in
+      let room = noted-room p xs k₃ out q in
+      neighbor-sent p xs k₃ high t b out out q i h (tell-then _ (λ ds. refl) (emit-passed b xs out _ room z) (emit-passed b xs out _ room z))

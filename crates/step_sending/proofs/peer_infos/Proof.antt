@@ -7,14 +7,18 @@ use lib.Seq.{append-snoc, take-length}
 use Rattle.lists.specs.Maps.{lookup}
 use Rattle.lists.proofs.Rest.{Rest, rest-next, rest-end}
 use Rattle.peer.specs.Data.{Node}
-use Rattle.peer.specs.Held.{node-in}
-use Rattle.peer.specs.declared.PeerInfo.{PeerInfo}
+use Rattle.peer.specs.Held.{node-in, HoldsData}
+use Rattle.peer.specs.declared.PeerData.{PeerData}
 use Rattle.writer.specs.declared.Nodes.{Nodes}
 use Rattle.writer.specs.Nodes.{nodes-in, ValidNodes, HoldsNodes}
 use Rattle.writer.proofs.Ways.{length-nodes}
 use Rattle.protocol.specs.Station.{Station}
 use Rattle.protocol.specs.Run.{node, peer-info, peer-infos}
-use Rattle.state.specs.Unpack.{unpack}
+use Rattle.util.specs.Section.{part}
+use Rattle.columns.specs.Columns.{data-map-at}
+use Rattle.state.specs.Layout.{peer-data-part}
+use Rattle.state.specs.Unpack.{unpack, station-of}
+use Rattle.state.proofs.Access.{of-packed}
 use borrow.Author.Needs.{needs}
 use Rattle.step_sending.proofs.peer_infos.Statement.{statement}
 use Rattle.step_sending.proofs.peer_infos.Tie as tie
@@ -42,18 +46,18 @@ start s items t h f = record {
   };
 }
 
-next : (s : Station) (items : List ℕ) (t : Nodes) (i : ℕ) (x : PeerInfo) (r : Nodes) → Naming s items t i → i < length items
-    → node-in x ≡ node (getD items i 0) (lookup (getD items i 0) (s .peer-data)) → HoldsNodes r (nodes-in t ++ (node-in x ∷ [])) → Naming s items r (i + 1)
-unfolding peer-infos peer-info
-next s items t i x r v h e k = record {
+next : (xs items : List ℕ) (t : Nodes) (i : ℕ) (d : PeerData) (r : Nodes) → Naming (unpack xs) items t i → i < length items → HoldsData d (lookup (getD items i 0) (data-map-at 80 (peer-data-part xs)))
+    → HoldsNodes r (nodes-in t ++ (node-in (record { id = getD items i 0; «data» = d }) ∷ [])) → Naming (unpack xs) items r (i + 1)
+unfolding peer-infos peer-info node-in unpack station-of
+next xs items t i d r v h e k = record {
   valid = k .valid;
   count =
-      let q : length (nodes-in r) ≡ length (nodes-in t) + 1 = ap length (k .holds) ∙ length-append (nodes-in t) (node-in x ∷ []) in
+      let q : length (nodes-in r) ≡ length (nodes-in t) + 1 = ap length (k .holds) ∙ length-append (nodes-in t) (node-in (record { id = getD items i 0; «data» = d }) ∷ []) in
       omega (arith, v .count, length-nodes t (v .valid), length-nodes r (k .valid));
   few = v .few;
   rest =
-      rest-next 0 (Then s) (v .rest) (nodes-in r) h
-      (λ l. rw (k .holds, e) (sym (append-snoc (nodes-in t) (node (getD items i 0) (lookup (getD items i 0) (s .peer-data))) (peer-infos s l))));
+      rest-next 0 (Then (unpack xs)) (v .rest) (nodes-in r) h
+      (λ l. rw (k .holds, e .holds) (sym (append-snoc (nodes-in t) (node (getD items i 0) (lookup (getD items i 0) (unpack xs .peer-data))) (peer-infos (unpack xs) l))));
 }
 
 end : (s : Station) (items : List ℕ) (t : Nodes) (i : ℕ) → Naming s items t i → length items ≤ i → HoldsNodes t (peer-infos s items)
@@ -81,8 +85,18 @@ shared-slice-read-p c = search needs
 add-i : tie.Need-add-i Inv-loop μ-loop
 add-i c = search needs
 
-peer-info-requires : tie.Need-peer-info-requires Inv-loop μ-loop
-peer-info-requires c κs = search needs
+sub-get-data : tie.Need-sub-get-data Inv-loop μ-loop
+sub-get-data c = search needs
+
+part-get-data-start : tie.Need-part-get-data-start Inv-loop μ-loop
+part-get-data-start c = search needs
+
+part-get-data-end : tie.Need-part-get-data-end Inv-loop μ-loop
+part-get-data-end c = search needs
+
+get-data-requires : tie.Need-get-data-requires Inv-loop μ-loop
+unfolding part
+get-data-requires c κs = search (of-packed, needs)
 
 push-requires : tie.Need-push-requires Inv-loop μ-loop
 push-requires c κs = search needs
@@ -91,10 +105,28 @@ loop-less : tie.Need-loop-less Inv-loop μ-loop
 loop-less c = search needs
 
 loop-again : tie.Need-loop-again Inv-loop μ-loop
+unfolding part
 loop-again c = search next
 
 returns : tie.Need-returns Inv-loop μ-loop
 returns c = search end
 
 pub peer-infos-spec : {M : Type 1} → statement M
-peer-infos-spec = tie.close (tie.spec Inv-loop μ-loop new-requires loop-holds mul-p shared-slice-read-p add-i peer-info-requires push-requires loop-less loop-again returns)
+peer-infos-spec =
+    tie.close
+    (tie.spec
+    Inv-loop
+    μ-loop
+    new-requires
+    loop-holds
+    mul-p
+    shared-slice-read-p
+    add-i
+    sub-get-data
+    part-get-data-start
+    part-get-data-end
+    get-data-requires
+    push-requires
+    loop-less
+    loop-again
+    returns)

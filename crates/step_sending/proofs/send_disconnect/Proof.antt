@@ -1,13 +1,20 @@
-use Rattle.step_sending.proofs.Told.{disconnected}
+use native.Mathlib.Omega.{arith}
+use Rattle.step_sending.proofs.Told.{few-named, disconnected}
 use borrow.Author.Needs.{needs}
 use Rattle.step_sending.proofs.send_disconnect.Statement.{statement}
 use Rattle.step_sending.proofs.send_disconnect.Tie as tie
 
-reply-length-requires : tie.Need-reply-length-requires
-reply-length-requires c κs = search needs
+shared-slice-read-n : tie.Need-shared-slice-read-n
+shared-slice-read-n c = search needs
+
+shared-slice-read-len : tie.Need-shared-slice-read-len
+shared-slice-read-len c = search needs
+
+add-len : tie.Need-add-len
+add-len c = record { fits = omega (arith, few-named _ (c .before .before .before .before .before .pre .1 .ready .packed)) }
 
 send-shuffle-reply-requires : tie.Need-send-shuffle-reply-requires
-send-shuffle-reply-requires c κs = search needs
+send-shuffle-reply-requires c κs = (search needs, (search needs, few-named _ (c .before .before .before .before .before .before .pre .1 .ready .packed)))
 
 flag-if-requires : tie.Need-flag-if-requires
 flag-if-requires c κs = search needs
@@ -22,4 +29,14 @@ returns : tie.Need-returns
 returns c = search disconnected
 
 pub send-disconnect-spec : {M : Type 1} → statement M
-send-disconnect-spec = tie.close (tie.spec reply-length-requires send-shuffle-reply-requires flag-if-requires emit-bare-requires same-length returns)
+send-disconnect-spec =
+    tie.close
+    (tie.spec
+    shared-slice-read-n
+    shared-slice-read-len
+    add-len
+    send-shuffle-reply-requires
+    flag-if-requires
+    emit-bare-requires
+    same-length
+    returns)

@@ -7,11 +7,14 @@ use Rattle.step_sending.proofs.send_set.Tie as tie
 count-requires : tie.Need-count-requires
 count-requires c κs = search needs
 
-slice-aggregate-send-nodes : tie.Need-slice-aggregate-send-nodes
-slice-aggregate-send-nodes c = search lent-count
+slice-aggregate-peer-infos : tie.Need-slice-aggregate-peer-infos
+slice-aggregate-peer-infos c = search lent-count
 
-send-nodes-requires : tie.Need-send-nodes-requires
-send-nodes-requires c κs = (search needs, (search needs, search lent-few))
+peer-infos-requires : tie.Need-peer-infos-requires
+peer-infos-requires c κs = (search needs, (search needs, search lent-few))
+
+emit-nodes-requires : tie.Need-emit-nodes-requires
+emit-nodes-requires c κs = search needs
 
 same-length : tie.Need-same-length
 same-length c = search needs
@@ -20,4 +23,12 @@ returns : tie.Need-returns
 returns c = search set-told
 
 pub send-set-spec : {M : Type 1} → statement M
-send-set-spec = tie.close (tie.spec count-requires slice-aggregate-send-nodes send-nodes-requires same-length returns)
+send-set-spec =
+    tie.close
+    (tie.spec
+    count-requires
+    slice-aggregate-peer-infos
+    peer-infos-requires
+    emit-nodes-requires
+    same-length
+    returns)
