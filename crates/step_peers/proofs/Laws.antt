@@ -101,8 +101,8 @@ was-not true e = sym e
 was-not false e = refl
 
 -- a set to choose from is not empty
-pub some-choice : (xs : List ℕ) (n : ℕ) (x y : Bool) → n ≡ length (unpack xs .passive) → y ≡ null (unpack xs .passive) → (x && not y) ≡ true → 0 < n
-some-choice xs n x y e f h = omega (arith, e, some-item (unpack xs .passive) (sym f ∙ was-not y (and-right x (not y) h)))
+pub some-choice : (l : List ℕ) (n : ℕ) (x y : Bool) → y ≡ null l → (x && not y) ≡ true → n ≡ length l → 0 < n
+some-choice l n x y f h e = omega (arith, e, some-item l (sym f ∙ was-not y (and-right x (not y) h)))
 
 -- a test that was passed found an entry for the data of p
 pub entry-free : (w a : Work) (xs : List ℕ) (p : ℕ) (t : Bool) → PackedState xs → t ≡ data-fits p (unpack xs) → ChangesAny (require 8 t) w a → a .code ≡ 0

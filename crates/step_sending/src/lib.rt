@@ -186,12 +186,13 @@ fn tell_request(w: Work, st: &[u64], out: &mut [u8], p: PeerId, high: bool, id: 
         number: 0,
     };
     let a = state::emit_one(w, out, f, PeerInfo { id: 0, data: d });
+    let timeout = st[Layout::NEIGHBOR_REQUEST_TIMEOUT];
     let t = Fields {
         kind: Kind::PENDING_NEIGHBOR_REQUEST,
         message: 0,
         flags: 0,
         peer: p,
-        second: st[Layout::NEIGHBOR_REQUEST_TIMEOUT],
+        second: timeout,
         ttl: 0,
         number: id,
     };

@@ -60,7 +60,11 @@ count-requires c κs = search (of-packed, needs)
 
 choose-requires : tie.Need-choose-requires
 unfolding part unpack station-of
-choose-requires c κs = (search needs, search some-choice)
+choose-requires c κs = (
+  search needs,
+  let t = c .before .before .before in
+      some-choice _ _ (is-empty-to-passive-is-full (t .before) .passive-is-full .result) _ (t .before .is-empty .ensures) (t .if1 .taken) (c .count .ensures .0),
+)
 
 sub-get-index : tie.Need-sub-get-index
 sub-get-index c = search needs

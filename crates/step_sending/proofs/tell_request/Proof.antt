@@ -23,8 +23,8 @@ flag-if-requires c κs = search needs
 emit-one-requires : tie.Need-emit-one-requires
 emit-one-requires c κs = (search needs, search (of-packed, needs))
 
-shared-slice-read-t16 : tie.Need-shared-slice-read-t16
-shared-slice-read-t16 c = search needs
+shared-slice-read-timeout : tie.Need-shared-slice-read-timeout
+shared-slice-read-timeout c = search needs
 
 emit-bare-requires : tie.Need-emit-bare-requires
 emit-bare-requires c κs = search needs
@@ -45,7 +45,7 @@ tell-request-spec =
     own-data-requires
     flag-if-requires
     emit-one-requires
-    shared-slice-read-t16
+    shared-slice-read-timeout
     emit-bare-requires
     same-length
     returns)
