@@ -10,8 +10,7 @@ ghost use lib.Seq.{slice};
 ghost use Rattle.lists.specs.Lists.{choose};
 ghost use Rattle.lists.specs.Bytes.{read-le};
 ghost use Rattle.record.specs.Format.{IsForm, header-length, header-length-by, node-length, node-length-by, place-by};
-ghost use Rattle.record.specs.Read.{fixed-size, header-of, header-of-by, entry-from, entry-at, entry-at-by, is-message, is-timer, is-data, kind-ok, flags-ok, count-ok, peer-ok, fields-ok, header-ok, data-ok, entry-ok, entries-ok-by, well-formed, well-formed-by, is-event, data-at, node-at};
-ghost use Rattle.peer.specs.Held.{HoldsData};
+ghost use Rattle.record.specs.Read.{fixed-size, header-of, header-of-by, entry-from, entry-at, entry-at-by, is-message, is-timer, is-data, header-ok, well-formed, well-formed-by, node-at};
 ghost use Rattle.record.specs.Answers.{answer, EventIs, HoldsNode};
 
 // The bytes of a peer's number, in this form and in the old one.
@@ -307,126 +306,39 @@ fn is_data(h: Header) -> bool
     (h.kind == Kind::UPDATE_PEER_DATA) | (h.kind == Kind::PEER_DATA)
 }
 
-// A known kind, and a message only in kind 0.
-fn kind_ok(h: Header) -> bool
-    ensures { λ r. ⌜ r ≡ kind-ok h ⌝ }
-{
-    !(fixed_size(h.kind) == 0)
-        & select(
-            h.kind == Kind::MESSAGE,
-            h.message <= Message::DISCONNECT,
-            h.message == 0,
-        )
-}
-
-// Neighbor has one flag, Disconnect two.
-fn flags_ok(h: Header) -> bool
-    ensures { λ r. ⌜ r ≡ flags-ok h ⌝ }
-{
-    select(
-        is_message(Message::NEIGHBOR, h),
-        h.flags <= Flags::HIGH,
-        select(
-            is_message(Message::DISCONNECT, h),
-            h.flags <= Flags::BOTH,
-            h.flags == 0,
-        ),
-    )
-}
-
-fn count_ok(h: Header) -> bool
-    ensures { λ r. ⌜ r ≡ count-ok h ⌝ }
-{
-    let one = is_message(Message::JOIN, h)
-        | (is_message(Message::FORWARD_JOIN, h) | (is_message(Message::NEIGHBOR, h) | is_data(h)));
-    let some = is_message(Message::SHUFFLE, h) | is_message(Message::SHUFFLE_REPLY, h);
-    select(
-        one,
-        h.nodes == 1,
-        select(some, h.nodes <= MOST_NODES, h.nodes == 0),
-    )
-}
-
-// Peer is 0 in kinds 1, 2, 7, 8.
-fn peer_ok(h: Header) -> bool
-    ensures { λ r. ⌜ r ≡ peer-ok h ⌝ }
-{
-    let none = (h.kind == Kind::DO_SHUFFLE)
-        | ((h.kind == Kind::DO_MAINTENANCE)
-            | ((h.kind == Kind::UPDATE_PEER_DATA) | (h.kind == Kind::QUIT)));
-    select(none, h.peer == 0, true)
-}
-
-// Fields not named for a kind are 0.
-fn fields_ok(h: Header) -> bool
-    ensures { λ r. ⌜ r ≡ fields-ok h ⌝ }
-{
-    let second = select(
-        is_message(Message::SHUFFLE, h) | is_timer(h),
-        true,
-        h.second == 0,
-    );
-    let ttl = select(
-        is_message(Message::FORWARD_JOIN, h) | is_message(Message::SHUFFLE, h),
-        true,
-        h.ttl == 0,
-    );
-    let number = select(
-        (h.kind == Kind::PENDING_NEIGHBOR_REQUEST) | (h.kind == Kind::RETRY_JOIN),
-        true,
-        h.number == 0,
-    );
-    second & (ttl & number)
-}
-
 // What the header alone must meet.
 fn header_ok(h: Header) -> bool
     ensures { λ r. ⌜ r ≡ header-ok h ⌝ }
 {
-    kind_ok(h) & (flags_ok(h) & (count_ok(h) & (peer_ok(h) & fields_ok(h))))
-}
-
-// Absent data has offset and length 0; data present stand at the place reached.
-fn data_ok(e: Entry, at: usize) -> bool
-    ensures { λ r. ⌜ r ≡ data-ok e at ⌝ }
-{
-    let offset = e.offset as usize;
-    select(
-        e.present == 0,
-        (e.offset == 0) & (e.len == 0),
-        (e.present == 1) & ((offset == at) & (e.len <= MOST_DATA)),
-    )
-}
-
-fn entry_ok(h: Header, e: Entry, at: usize) -> bool
-    ensures { λ r. ⌜ r ≡ entry-ok h e at ⌝ }
-{
-    let unnamed = is_message(Message::JOIN, h) | (is_message(Message::NEIGHBOR, h) | is_data(h));
-    let id = select(unnamed, e.id == 0, true);
-    data_ok(e, at) & (id & select(is_data(h), e.present == 1, true))
-}
-
-// Every entry is sound, and the data reach the whole length.
-fn entries_ok(h: Header, b: &[u8], w: usize) -> bool
-    requires { ⌜ IsForm w ⌝ }
-    ensures { λ r. ⌜ r ≡ entries-ok-by w h (now (b .entry)) 0 (h .nodes) (place-by w (h .nodes)) ⌝ }
-{
-    let n = h.nodes as usize;
-    let mut at = place(n, w);
-    if b.len() < at {
-        return false;
-    }
-    let mut i: usize = 0;
-    while i < n {
-        let e = node_by(b, i, w);
-        if entry_ok(h, e, at) {
-            at += e.len as usize;
-            i += 1;
-        } else {
-            return false;
-        }
-    }
-    at == b.len()
+    // A known kind, and a message only in kind 0.
+    let kind = !(fixed_size(h.kind) == 0)
+        & select(
+            h.kind == Kind::MESSAGE,
+            h.message <= Message::DISCONNECT,
+            h.message == 0,
+        );
+    // Neighbor has one flag, Disconnect two.
+    let neighbor = is_message(Message::NEIGHBOR, h);
+    let disconnect = is_message(Message::DISCONNECT, h);
+    let other = select(disconnect, h.flags <= Flags::BOTH, h.flags == 0);
+    let flags = select(neighbor, h.flags <= Flags::HIGH, other);
+    let forward = is_message(Message::FORWARD_JOIN, h);
+    let shuffle = is_message(Message::SHUFFLE, h);
+    let one = is_message(Message::JOIN, h) | (forward | (neighbor | is_data(h)));
+    let some = shuffle | is_message(Message::SHUFFLE_REPLY, h);
+    let most = select(some, h.nodes <= MOST_NODES, h.nodes == 0);
+    let count = select(one, h.nodes == 1, most);
+    // Peer is 0 in kinds 1, 2, 7, 8.
+    let none = (h.kind == Kind::DO_SHUFFLE)
+        | ((h.kind == Kind::DO_MAINTENANCE)
+            | ((h.kind == Kind::UPDATE_PEER_DATA) | (h.kind == Kind::QUIT)));
+    let peer = !none | (h.peer == 0);
+    // Fields not named for a kind are 0.
+    let second = (shuffle | is_timer(h)) | (h.second == 0);
+    let ttl = (forward | shuffle) | (h.ttl == 0);
+    let numbered = (h.kind == Kind::PENDING_NEIGHBOR_REQUEST) | (h.kind == Kind::RETRY_JOIN);
+    let number = numbered | (h.number == 0);
+    kind & (flags & (count & (peer & (second & (ttl & number)))))
 }
 
 // The bytes are a record of the form where a peer has w bytes.
@@ -439,7 +351,33 @@ pub fn well_formed(b: &[u8], w: usize) -> bool
     }
     let h = read_header_by(b, w);
     let size = h.size as usize;
-    header_ok(h) & ((size == b.len()) & entries_ok(h, b, w))
+    let n = h.nodes as usize;
+    let mut at = place(n, w);
+    if header_ok(h) & ((size == b.len()) & (at <= b.len())) {
+        // Every entry is sound, and the data reach the whole length.
+        let known = is_data(h);
+        let unnamed = is_message(Message::JOIN, h) | (is_message(Message::NEIGHBOR, h) | known);
+        let mut i: usize = 0;
+        while i < n {
+            let e = read_entry(b, place(i, w), w);
+            // Absent data has offset and length 0; data present stand at the place reached.
+            let offset = e.offset as usize;
+            let data = select(
+                e.present == 0,
+                (e.offset == 0) & (e.len == 0),
+                (e.present == 1) & ((offset == at) & (e.len <= MOST_DATA)),
+            );
+            let id = !unnamed | (e.id == 0);
+            if data & (id & (!known | (e.present == 1))) {
+                at += e.len as usize;
+                i += 1;
+            } else {
+                return false;
+            }
+        }
+        return at == b.len();
+    }
+    false
 }
 
 // A record's header, or that the bytes are none.
@@ -456,13 +394,6 @@ pub fn read(b: &[u8]) -> Answer
         return Answer::Record(read_header(b));
     }
     Answer::Malformed
-}
-
-// Kinds 9 to 12 and a timer's nonzero delay are malformed as events.
-fn is_event(h: Header) -> bool
-    ensures { λ r. ⌜ r ≡ is-event h ⌝ }
-{
-    (h.kind <= Kind::QUIT) & select(is_timer(h), h.second == 0, true)
 }
 
 // An event's header, or the code of its refusal.
@@ -482,7 +413,9 @@ pub fn read_event(b: &[u8]) -> Event
         return Event::Refused(Refusal::NODES);
     }
     let h = read_header(b);
-    if well_formed(b, PEER) & is_event(h) {
+    // Kinds 9 to 12 and a timer's nonzero delay are malformed as events.
+    let event = (h.kind <= Kind::QUIT) & (!is_timer(h) | (h.second == 0));
+    if well_formed(b, PEER) & event {
         return Event::Record(h);
     }
     Event::Refused(Refusal::MALFORMED)
@@ -498,26 +431,22 @@ pub fn node_data<'a>(b: &'a [u8], e: Entry) -> &'a [u8]
     &b[at..end]
 }
 
-// A node's data by value.
-fn peer_data(b: &[u8], e: Entry) -> PeerData
-    requires { ⌜ e .offset + e .len ≤ length (now b) ⌝ }
-    requires { ⌜ e .len ≤ 16 ⌝ }
-    ensures { λ r. ⌜ HoldsData r (data-at (now (b .entry)) e) ⌝ }
-{
-    if e.present == 0 {
-        return PeerData::absent();
-    }
-    let m = PeerData::from_slice(node_data(b, e));
-    m.data
-}
-
 // The i-th node of a record by value.
 pub fn peer_info_at(b: &[u8], i: usize) -> PeerInfo
     requires { ⌜ well-formed (now b) ≡ true ⌝ }
     requires { ⌜ i < header-of (now b) .nodes ⌝ }
     ensures { λ r. ⌜ HoldsNode r (node-at (now (b .entry)) i) ⌝ }
 {
-    let e = node(b, i);
-    let d = peer_data(b, e);
+    let e = read_entry(b, HEADER + NODE * i, PEER);
+    if e.present == 0 {
+        return PeerInfo {
+            id: e.id,
+            data: PeerData::absent(),
+        };
+    }
+    let at = e.offset as usize;
+    let end = at + e.len as usize;
+    let m = PeerData::from_slice(&b[at..end]);
+    let d = m.data;
     PeerInfo { id: e.id, data: d }
 }

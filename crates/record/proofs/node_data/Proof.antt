@@ -1,10 +1,4 @@
-use lib.Seq.{slice}
-use Rattle.lists.proofs.Slices.{slice-part}
-use Prim.Native.Nat.{ℕ, _+_, _-_}
-use mathlib.Core.Path.{_≡_}
-use mathlib.Core.List.{List}
-use native.Mathlib.Omega.{arith}
-use lib.ListN.{take, drop}
+use Rattle.record.proofs.Laws.{part-is}
 use borrow.Author.Needs.{needs}
 use Rattle.record.proofs.node_data.Statement.{statement}
 use Rattle.record.proofs.node_data.Tie as tie
@@ -27,11 +21,8 @@ part-result-start c = search needs
 part-result-end : tie.Need-part-result-end
 part-result-end c = search needs
 
-cut : (l : List ℕ) (at n : ℕ) → take (at + n - at) (drop at l) ≡ slice at (at + n) l
-cut l at n = let e : at + n - at ≡ n = omega arith in rw e (slice-part at n l)
-
 returns : tie.Need-returns
-returns c = search cut
+returns c = search part-is
 
 pub node-data-spec : {M : Type 1} → statement M
 node-data-spec =

@@ -1,15 +1,69 @@
-use Rattle.record.proofs.Nodes.{entry-room, entry-within, entry-few, node-held}
+use Rattle.record.proofs.Laws.{new-form}
+use Rattle.record.proofs.Nodes.{entry-read, entry-room, entry-within, entry-few, absent-held, present-held, node-held}
+use borrow.Author.Needs.{needs}
 use Rattle.record.proofs.peer_info_at.Statement.{statement}
 use Rattle.record.proofs.peer_info_at.Tie as tie
 
-node-requires : tie.Need-node-requires
-node-requires c κs = search entry-room
+mul-read-entry : tie.Need-mul-read-entry
+mul-read-entry c = search (needs, entry-room _ _ (c .before .pre .0) (c .before .pre .1))
 
-peer-data-requires : tie.Need-peer-data-requires
-peer-data-requires c κs = (search entry-within, search entry-few)
+add-read-entry : tie.Need-add-read-entry
+add-read-entry c = search (needs, entry-room _ _ (c .before .pre .0) (c .before .pre .1))
+
+read-entry-requires : tie.Need-read-entry-requires
+read-entry-requires c κs = (new-form, search entry-room)
+
+absent-requires : tie.Need-absent-requires
+absent-requires c κs = search needs
 
 returns : tie.Need-returns
-returns c = search node-held
+returns c =
+    let read = c .before .before .before in
+    let entry = entry-read _ _ _ (read .read-entry .ensures) in
+    node-held _ _ _ _ entry (absent-held _ _ _ (c .before .if1 .taken) (c .absent .ensures))
+
+cast-at : tie.Need-cast-at
+cast-at c = search needs
+
+cast-end : tie.Need-cast-end
+cast-end c = search needs
+
+add-end : tie.Need-add-end
+add-end c = search needs
+
+sub-from-slice : tie.Need-sub-from-slice
+sub-from-slice c = search needs
+
+part-from-slice-start : tie.Need-part-from-slice-start
+part-from-slice-start c = search needs
+
+part-from-slice-end : tie.Need-part-from-slice-end
+part-from-slice-end c = search (needs, entry-within _ _ (c .before .before .before .before .before .before .pre .0) (c .before .before .before .before .before .before .pre .1) _ (entry-read _ _ _ (c .before .before .before .before .read-entry .ensures)))
+
+from-slice-requires : tie.Need-from-slice-requires
+from-slice-requires c κs = search needs
+
+returns-2 : tie.Need-returns-2
+returns-2 c =
+    let read = c .before .before .before .before .before .before .before in
+    let asked = read .before .before .pre in
+    let entry = entry-read _ _ _ (read .read-entry .ensures) in
+    node-held _ _ _ _ entry (present-held _ _ _ (c .before .before .before .before .before .if1 .left) (entry-within _ _ (asked .0) (asked .1) _ entry) (entry-few _ _ (asked .0) (asked .1) _ entry) (c .before .from-slice .ensures .held))
 
 pub peer-info-at-spec : {M : Type 1} → statement M
-peer-info-at-spec = tie.close (tie.spec node-requires peer-data-requires returns)
+peer-info-at-spec =
+    tie.close
+    (tie.spec
+    mul-read-entry
+    add-read-entry
+    read-entry-requires
+    absent-requires
+    returns
+    cast-at
+    cast-end
+    add-end
+    sub-from-slice
+    part-from-slice-start
+    part-from-slice-end
+    from-slice-requires
+    returns-2)

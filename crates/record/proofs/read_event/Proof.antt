@@ -15,11 +15,11 @@ returns-2 c = event-crowded _ (search needs) (search needs)
 read-header-requires : tie.Need-read-header-requires
 read-header-requires c κs = search needs
 
+is-timer-requires : tie.Need-is-timer-requires
+is-timer-requires c κs = search needs
+
 well-formed-requires : tie.Need-well-formed-requires
 well-formed-requires c κs = search needs
-
-is-event-requires : tie.Need-is-event-requires
-is-event-requires c κs = search needs
 
 returns-3 : tie.Need-returns-3
 returns-3 c = search event-record
@@ -35,7 +35,7 @@ read-event-spec =
     shared-slice-read-if2
     returns-2
     read-header-requires
+    is-timer-requires
     well-formed-requires
-    is-event-requires
     returns-3
     returns-4)
