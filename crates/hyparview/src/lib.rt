@@ -3,7 +3,6 @@ use peer::MaybeData;
 use peer::PeerData;
 use peer::PeerId;
 use record::Event;
-use record::Header;
 use record::Refusal;
 use state::Layout;
 use state::Work;
@@ -11,95 +10,19 @@ use timing::Config;
 use timing::Timing;
 ghost use mathlib.Core.Path.{_≡_};
 ghost use mathlib.Core.Bool.{true};
-ghost use Prim.Native.Nat.{_≤_, min};
+ghost use Prim.Native.Nat.{_≤_};
 ghost use lib.ListN.{length, getD};
-ghost use Rattle.protocol.specs.Handle.{new, new-station};
+ghost use Rattle.protocol.specs.Handle.{new};
 ghost use Rattle.state.specs.Layout.{words};
-ghost use Rattle.state.specs.Unpack.{PackedState, unpack};
-ghost use Rattle.rules.specs.Ok.{state-ok};
-ghost use Rattle.hyparview.specs.Made.{lent, pack-made, Own, with-own, with-views, with-walks, with-times, made};
-ghost use Rattle.hyparview.specs.Handled.{cleared, refused-words, ended, handled};
-ghost use Rattle.hyparview.specs.Taken.{ReadAs};
-ghost use mathlib.Core.List.{[]};
-ghost use Rattle.lists.specs.Array.{pad};
-ghost use Rattle.timing.specs.Timing.{initial-shuffle-interval};
-ghost use Rattle.peer.specs.Held.{data-in, ValidData};
-ghost use Rattle.rules.specs.Pack.{pack};
-ghost use Rattle.hyparview.specs.Queries.{wants-connection, wants-connection-in, is-neighbor-in, neighbors-in, spare-addresses-in};
+ghost use Rattle.hyparview.specs.Made.{lent, pack-made, Own, made};
+ghost use Rattle.hyparview.specs.Handled.{cleared, refused-words, handled};
+ghost use Rattle.hyparview.specs.Queries.{wants-connection-in, is-neighbor-in, neighbors-in, spare-addresses-in};
 
 // The bytes of output that suffice for every event.
 pub const OUTPUT: usize = 8192;
 
 // The draws that suffice for every event if they are below 2^32 - 32.
 pub const DRAWS: usize = 512;
-
-// The delay before the first shuffle, no longer than the setting.
-fn first_interval(config: Config) -> u32
-    ensures { λ r. ⌜ r ≡ min initial-shuffle-interval (config .«shuffle_interval») ⌝ }
-{
-    timing::shorter(Timing::INITIAL_SHUFFLE_INTERVAL, config.shuffle_interval)
-}
-
-// Own data in its words.
-fn fresh_own(st: &mut [u64], own: PeerData)
-    requires { ⌜ length (now st) ≡ words ⌝ }
-    requires { ⌜ ValidData own ⌝ }
-    ensures { λ _. ⌜ now (st .exit) ≡ with-own (data-in own) (now (st .entry)) ⌝ }
-{
-    let b = own.bytes;
-    let low = columns::word_at(b, 0);
-    let high = columns::word_at(b, columns::WORD);
-    st[Layout::OWN_PRESENT] = own.present as u64;
-    st[Layout::OWN_LEN] = own.len as u64;
-    st[Layout::OWN_LOW] = low;
-    st[Layout::OWN_HIGH] = high;
-}
-
-// The capacities of the views, and what a shuffle takes of them.
-fn fresh_views(st: &mut [u64], config: Config)
-    requires { ⌜ length (now st) ≡ words ⌝ }
-    ensures { λ _. ⌜ now (st .exit) ≡ with-views config (now (st .entry)) ⌝ }
-{
-    st[Layout::ACTIVE_VIEW_CAPACITY] = config.active_view_capacity as u64;
-    st[Layout::PASSIVE_VIEW_CAPACITY] = config.passive_view_capacity as u64;
-    st[Layout::SHUFFLE_ACTIVE_VIEW_COUNT] = config.shuffle_active_view_count as u64;
-    st[Layout::SHUFFLE_PASSIVE_VIEW_COUNT] = config.shuffle_passive_view_count as u64;
-}
-
-// The station itself and the walk lengths.
-fn fresh_walks(st: &mut [u64], me: PeerId, config: Config)
-    requires { ⌜ length (now st) ≡ words ⌝ }
-    ensures { λ _. ⌜ now (st .exit) ≡ with-walks me config (now (st .entry)) ⌝ }
-{
-    st[Layout::ME] = me;
-    st[Layout::ACTIVE_RANDOM_WALK_LENGTH] = config.active_random_walk_length as u64;
-    st[Layout::PASSIVE_RANDOM_WALK_LENGTH] = config.passive_random_walk_length as u64;
-    st[Layout::SHUFFLE_RANDOM_WALK_LENGTH] = config.shuffle_random_walk_length as u64;
-}
-
-// The interval, the timeout and the delay before the first shuffle.
-fn fresh_times(st: &mut [u64], config: Config)
-    requires { ⌜ length (now st) ≡ words ⌝ }
-    ensures { λ _. ⌜ now (st .exit) ≡ with-times config (now (st .entry)) ⌝ }
-{
-    let interval = first_interval(config);
-    st[Layout::SHUFFLE_INTERVAL] = config.shuffle_interval as u64;
-    st[Layout::NEIGHBOR_REQUEST_TIMEOUT] = config.neighbor_request_timeout as u64;
-    st[Layout::NEXT_SHUFFLE_INTERVAL] = interval as u64;
-}
-
-// The words of a station that has met no event, in words that are zero.
-fn fresh(st: &mut [u64], me: PeerId, own: PeerData, config: Config)
-    requires { ⌜ length (now st) ≡ words ⌝ }
-    requires { ⌜ now st ≡ pad 0 words [] ⌝ }
-    requires { ⌜ ValidData own ⌝ }
-    ensures { λ _. ⌜ now (st .exit) ≡ pack (new-station me (data-in own) config) ⌝ }
-{
-    fresh_own(st, own);
-    fresh_views(st, config);
-    fresh_walks(st, me, config);
-    fresh_times(st, config);
-}
 
 // The lent bytes as own data, or absent; not ok where there are more than 16.
 fn own_given(present: bool, own: &[u8]) -> MaybeData
@@ -128,7 +51,29 @@ pub fn new(st: &mut [u64], me: PeerId, present: bool, own: &[u8], config: Config
     let fits = config.in_range() & d.ok;
     if fits {
         let data = d.data;
-        fresh(st, me, data, config);
+        let b = data.bytes;
+        let low = columns::word_at(b, 0);
+        let high = columns::word_at(b, columns::WORD);
+        // The delay before the first shuffle is no longer than the setting.
+        let interval = timing::shorter(Timing::INITIAL_SHUFFLE_INTERVAL, config.shuffle_interval);
+        // Own data in its words.
+        st[Layout::OWN_PRESENT] = data.present as u64;
+        st[Layout::OWN_LEN] = data.len as u64;
+        st[Layout::OWN_LOW] = low;
+        st[Layout::OWN_HIGH] = high;
+        // The capacities of the views, and what a shuffle takes of them.
+        st[Layout::ACTIVE_VIEW_CAPACITY] = config.active_view_capacity as u64;
+        st[Layout::PASSIVE_VIEW_CAPACITY] = config.passive_view_capacity as u64;
+        st[Layout::SHUFFLE_ACTIVE_VIEW_COUNT] = config.shuffle_active_view_count as u64;
+        st[Layout::SHUFFLE_PASSIVE_VIEW_COUNT] = config.shuffle_passive_view_count as u64;
+        // The station itself, the walk lengths and the times.
+        st[Layout::ME] = me;
+        st[Layout::ACTIVE_RANDOM_WALK_LENGTH] = config.active_random_walk_length as u64;
+        st[Layout::PASSIVE_RANDOM_WALK_LENGTH] = config.passive_random_walk_length as u64;
+        st[Layout::SHUFFLE_RANDOM_WALK_LENGTH] = config.shuffle_random_walk_length as u64;
+        st[Layout::SHUFFLE_INTERVAL] = config.shuffle_interval as u64;
+        st[Layout::NEIGHBOR_REQUEST_TIMEOUT] = config.neighbor_request_timeout as u64;
+        st[Layout::NEXT_SHUFFLE_INTERVAL] = interval as u64;
         return 0;
     }
     Refusal::SETTINGS
@@ -136,36 +81,14 @@ pub fn new(st: &mut [u64], me: PeerId, present: bool, own: &[u8], config: Config
 
 // ---- what a supervisor asks
 
-// Whether a connection to the peer is wanted: it is a neighbor, or its reply to a Neighbor or a Join is awaited.
-fn is_wanted(st: &[u64], p: PeerId) -> bool
-    requires { ⌜ length (now st) ≡ words ⌝ }
-    requires { ⌜ PackedState (now st) ⌝ }
-    ensures { λ r. ⌜ r ≡ wants-connection p (unpack (now (st .entry))) ⌝ }
-{
-    state::in_active(st, p)
-        | (state::is_requested(st, p)
-            | columns::contains_number(&st[Layout::JOINS..Layout::JOINS_END], Layout::FEW, p))
-}
-
-// The neighbor at place i, and 0 past the last.
-fn active_at(st: &[u64], i: usize) -> PeerId
-    requires { ⌜ length (now st) ≡ words ⌝ }
-    requires { ⌜ PackedState (now st) ⌝ }
-    ensures { λ r. ⌜ r ≡ getD (unpack (now (st .entry)) .active) i 0 ⌝ }
-{
-    let n = util::count(&st[Layout::ACTIVE..Layout::ACTIVE_END], Layout::FEW);
-    if i < n {
-        return util::get_index(&st[Layout::ACTIVE..Layout::ACTIVE_END], Layout::FEW, i);
-    }
-    0
-}
-
-// Whether a connection to the peer is wanted; not by words that break a station rule.
+// Whether a connection to the peer is wanted: it is a neighbor, or its reply to a Neighbor or a Join is awaited. Not by words that break a station rule.
 pub fn wants_connection(st: &[u64], p: PeerId) -> bool
     ensures { λ r. ⌜ r ≡ wants-connection-in p (now (st .entry)) ⌝ }
 {
     if rules::is_ok(st) {
-        return is_wanted(st, p);
+        return state::in_active(st, p)
+            | (state::is_requested(st, p)
+                | columns::contains_number(&st[Layout::JOINS..Layout::JOINS_END], Layout::FEW, p));
     }
     false
 }
@@ -194,7 +117,11 @@ pub fn neighbor(st: &[u64], i: usize) -> PeerId
     ensures { λ r. ⌜ r ≡ getD (neighbors-in (now (st .entry))) i 0 ⌝ }
 {
     if rules::is_ok(st) {
-        return active_at(st, i);
+        let n = util::count(&st[Layout::ACTIVE..Layout::ACTIVE_END], Layout::FEW);
+        if i < n {
+            return util::get_index(&st[Layout::ACTIVE..Layout::ACTIVE_END], Layout::FEW, i);
+        }
+        return 0;
     }
     0
 }
@@ -253,44 +180,6 @@ fn refuse(st: &[u64], out: &mut [u8], code: u32) -> Done
     }
 }
 
-// The words that the steps reached, with zeroes after the records; or the refusal that they met, with the old words.
-fn finish(old: &[u64], st: &mut [u64], w: Work, out: &mut [u8]) -> Done
-    requires { ⌜ length (now old) ≡ words ⌝ }
-    requires { ⌜ length (now st) ≡ words ⌝ }
-    requires { ⌜ w .written ≤ length (now out) ⌝ }
-    ensures { λ r. ⌜ record { code = r .code; draws = r .draws; words = now (st .exit); output = now (out .exit) } ≡ ended (now (old .entry)) w (now (st .entry)) (now (out .entry)) ⌝ }
-{
-    let code = w.code;
-    if code != 0 {
-        copy_words(old, st);
-        return refuse(st, out, code);
-    }
-    let at = w.written;
-    clear_output(out, at);
-    Done {
-        code: 0,
-        draws: w.drawn,
-    }
-}
-
-// An event that was read, at words that keep the rules; they are kept aside for a refusal.
-fn handle_event(st: &mut [u64], b: &[u8], draws: &[u32], out: &mut [u8], h: Header) -> Done
-    requires { ⌜ length (now st) ≡ words ⌝ }
-    requires { ⌜ state-ok (now st) ≡ true ⌝ }
-    requires { ⌜ ReadAs (now b) h ⌝ }
-    ensures { λ r. ⌜ record { code = r .code; draws = r .draws; words = now (st .exit); output = now (out .exit) } ≡ handled (now (st .entry)) (now (b .entry)) (now (draws .entry)) (length (now (out .entry))) ⌝ }
-{
-    let mut old = [0u64; Layout::LENGTH];
-    copy_words(st, &mut old);
-    let w = Work {
-        drawn: 0,
-        written: 0,
-        code: 0,
-    };
-    let a = step_dispatch::steps(w, st, draws, out, b, h);
-    finish(&old, st, a, out)
-}
-
 // One event: the whole result, or one numbered refusal that leaves every word as it was.
 pub fn handle(st: &mut [u64], b: &[u8], draws: &[u32], out: &mut [u8]) -> Done
     ensures { λ r. ⌜ record { code = r .code; draws = r .draws; words = now (st .exit); output = now (out .exit) } ≡ handled (now (st .entry)) (now (b .entry)) (now (draws .entry)) (length (now (out .entry))) ⌝ }
@@ -301,7 +190,28 @@ pub fn handle(st: &mut [u64], b: &[u8], draws: &[u32], out: &mut [u8]) -> Done
     let e = record::read_event(b);
     match e {
         Event::Refused(c) => refuse(st, out, c),
-        Event::Record(h) => handle_event(st, b, draws, out, h),
+        Event::Record(h) => {
+            // The words are kept aside for a refusal, which leaves them as they were.
+            let mut old = [0u64; Layout::LENGTH];
+            copy_words(st, &mut old);
+            let w = Work {
+                drawn: 0,
+                written: 0,
+                code: 0,
+            };
+            let a = step_dispatch::steps(w, st, draws, out, b, h);
+            let code = a.code;
+            if code != 0 {
+                copy_words(&old, st);
+                return refuse(st, out, code);
+            }
+            let at = a.written;
+            clear_output(out, at);
+            Done {
+                code: 0,
+                draws: a.drawn,
+            }
+        }
     }
 }
 
