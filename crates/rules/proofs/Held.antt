@@ -1,22 +1,26 @@
 -- How the code's tests are the rules of the definition, and which rules hold of all well formed words.
 -- Assumes nothing.
-use Prim.Native.Nat.{ℕ, _≤_}
-use mathlib.Core.Path.{_≡_, refl, sym, _∙_}
-use mathlib.Core.Bool.{Bool, true, false, not, _&&_, and-true}
+use Prim.Native.Nat.{ℕ, _+_, _-_, _≤_, _<_}
+use mathlib.Core.Path.{_≡_, refl, sym, ap, _∙_}
+use mathlib.Core.Bool.{Bool, true, false, not, _&&_, and-true, and-assoc}
 use mathlib.Core.List.{List, [], _∷_}
 use native.Mathlib.Omega.{arith}
-use lib.ListN.{length, take, getD}
-use lib.Dec.{leb, eqb}
+use lib.ListN.{length, take, drop, getD}
+use lib.Seq.{take-take}
+use lib.Dec.{leb, leb·zero, eqb}
 use borrow.Author.Tests.{le-leb, eqb-true, eqb-false, ne-eqb}
-use Rattle.lists.specs.Lists.{mem, choose, rising, subset, disjoint}
+use Rattle.lists.specs.Lists.{mem, choose, distinct, rising, subset, disjoint}
 use Rattle.lists.specs.Maps.{keys, values, has}
 use Rattle.lists.specs.Tests.{All}
 use Rattle.lists.proofs.Choice.{split, or-true, and-right}
 use Rattle.lists.proofs.Tests.{both-true, true-rising, all-map}
 use Rattle.lists.proofs.Entries.{entries-values}
-use Rattle.util.specs.Section.{items-at}
+use Rattle.util.specs.Section.{part, items-at}
+use Rattle.util.proofs.Parts.{part-read}
+use Rattle.util.proofs.Sets.{lent}
 use Rattle.columns.specs.Columns.{numbers-at, data-map-at, entries-at, count-of, ValidDataWords}
 use Rattle.columns.proofs.Data.{data-entries}
+use Rattle.timing.specs.Timing.{within, in-range, most-active, most-passive, longest-walk, most-shuffle-active, most-shuffle-passive, longest-time}
 use Rattle.peer.specs.declared.PeerData.{PeerData}
 use Rattle.peer.specs.Held.{data-in, ValidData}
 use Rattle.peer.specs.Maps.{no-data, entry-bytes, ValidEntry}
@@ -24,38 +28,87 @@ use Rattle.peer.proofs.Data.{length-bytes}
 use Rattle.peer.proofs.Maps.{length-entry}
 use Rattle.protocol.specs.Rules.{all-short, short-data, limit-ok, settings-rule, repeats-rule, order-rule, capacity-rule, views-rule, alive-rule, few-rule, joins-rule, numbers-rule, self-rule, room-rule, data-rule, limit-rule, interval-rule, width-rule, held-rule, rules, station-ok}
 use Rattle.protocol.specs.Rules as R
-use Rattle.protocol.specs.Station.{Station}
+use Rattle.protocol.specs.Station.{Station, top-passes}
 use Rattle.state.specs.Layout as layout
 use Rattle.state.specs.Unpack.{settings-at, limit-at, limit-formed, refill-in, station-of, unpack}
 use Rattle.state.proofs.Memory.{two-limit}
 use Rattle.state.proofs.Access.{count-active, count-passive}
 use Rattle.rules.specs.Ok.{packed-ok, state-ok}
-use Rattle.rules.proofs.Shape.{ok-shape, ok-active, ok-passive}
+use Rattle.rules.proofs.Shape.{ok-shape, ok-active, ok-passive, ok-bootstrap, ok-joins}
+use Rattle.rules.proofs.Under.{peers-lent}
+use Rattle.rules.proofs.Widths.{width-is}
 
 -- ---- a rule's tests
 
+-- of numbers that may be 0 the code tests the top alone
+pub settings-are : (xs : List ℕ)
+    → (leb 1 (layout.active-view-capacity xs) && leb (layout.active-view-capacity xs) most-active && leb 1 (layout.passive-view-capacity xs) && leb (layout.passive-view-capacity xs) most-passive
+    && leb (layout.active-random-walk-length xs) longest-walk && leb (layout.passive-random-walk-length xs) longest-walk && leb (layout.shuffle-random-walk-length xs) longest-walk
+    && leb (layout.shuffle-active-view-count xs) most-shuffle-active && leb (layout.shuffle-passive-view-count xs) most-shuffle-passive
+    && leb 1 (layout.shuffle-interval xs) && leb (layout.shuffle-interval xs) longest-time && leb 1 (layout.neighbor-request-timeout xs) && leb (layout.neighbor-request-timeout xs) longest-time)
+    ≡ settings-rule (unpack xs)
+unfolding settings-rule unpack station-of settings-at in-range within
+settings-are xs = simp (and-assoc, leb·zero)
+
 module _ (xs : List ℕ) (e : packed-ok xs ≡ true) where
   -- the maps rise
-  pub order-is : (a b : Bool) → a ≡ rising (items-at 32 (layout.alive-part xs)) → b ≡ rising (items-at 32 (layout.refused-part xs)) → (a && b) ≡ order-rule (unpack xs)
+  order-is : (a b : Bool) → a ≡ rising (items-at 32 (layout.alive-part xs)) → b ≡ rising (items-at 32 (layout.refused-part xs)) → (a && b) ≡ order-rule (unpack xs)
   unfolding order-rule unpack station-of
   order-is a b p q =
       let v = ok-shape xs e in
       (λ i. p i && q i)
       ∙ sym (rw (true-rising _ (v .requests .rises), true-rising _ (v .joins .rises), true-rising _ (v .peer-data .rises)) refl)
 
-  pub capacity-is : (leb (getD xs 30 0) (layout.active-view-capacity xs) && leb (getD xs 63 0) (layout.passive-view-capacity xs)) ≡ capacity-rule (unpack xs)
+  capacity-is : (leb (getD xs 30 0) (layout.active-view-capacity xs) && leb (getD xs 63 0) (layout.passive-view-capacity xs)) ≡ capacity-rule (unpack xs)
   unfolding capacity-rule unpack station-of settings-at
   capacity-is = sym (rw (count-active xs (ok-active xs e), count-passive xs (ok-passive xs e)) refl)
+
+repeats-is : (xs : List ℕ) (a b c d : Bool) → a ≡ distinct (items-at 8 (layout.active-part xs)) → b ≡ distinct (items-at 32 (layout.passive-part xs)) → c ≡ distinct (items-at 8 (layout.bootstrap-part xs))
+    → d ≡ distinct (items-at 8 (layout.recent-part xs)) → (a && (b && (c && d))) ≡ repeats-rule (unpack xs)
+unfolding repeats-rule unpack station-of
+repeats-is xs a b c d p q r s = λ i. p i && (q i && (r i && s i))
 
 pub views-is : (xs : List ℕ) (a b c : Bool) → a ≡ disjoint (items-at 8 (layout.active-part xs)) (items-at 32 (layout.passive-part xs)) → b ≡ mem (layout.me xs) (items-at 8 (layout.active-part xs)) → c ≡ mem (layout.me xs) (items-at 32 (layout.passive-part xs))
     → (a && (not b && not c)) ≡ views-rule (unpack xs)
 unfolding views-rule unpack station-of
 views-is xs a b c p q r = λ i. p i && (not (q i) && not (r i))
 
-pub joins-is : (xs : List ℕ) (a b c : Bool) → a ≡ subset (keys (numbers-at 8 (layout.joins-part xs))) (items-at 8 (layout.bootstrap-part xs)) → b ≡ disjoint (keys (numbers-at 8 (layout.joins-part xs))) (items-at 8 (layout.active-part xs))
-    → c ≡ has (layout.me xs) (numbers-at 8 (layout.joins-part xs)) → (a && (b && not c)) ≡ joins-rule (unpack xs)
-unfolding joins-rule unpack station-of
-joins-is xs a b c p q r = λ i. p i && (q i && not (r i))
+-- ---- the joins, as the code lends them
+
+-- a section's words in use, the count read where it stands
+count-lent : (a k n : ℕ) (xs : List ℕ) → n < k → getD (part a k xs) n 0 ≤ n → part a (a + getD xs (a + n) 0 - a) xs ≡ take (getD (part a k xs) n 0) (part a k xs)
+unfolding part
+count-lent a k n xs h f =
+    let z : a + getD xs (a + n) 0 - a ≡ getD (part a k xs) n 0 = omega (arith, part-read a k n xs h) in
+    ap (λ (j : ℕ). take j (drop a xs)) z ∙ sym (take-take (getD (part a k xs) n 0) k (drop a xs) (omega arith))
+
+module _ (xs : List ℕ) (e : packed-ok xs ≡ true) where
+  pub few-joins : getD xs 229 0 ≤ 8
+  few-joins = omega (arith, part-read 213 17 16 xs (omega arith), ok-joins xs e .fits)
+
+  pub few-bootstrap : getD xs 203 0 ≤ 8
+  few-bootstrap = omega (arith, part-read 195 9 8 xs (omega arith), ok-bootstrap xs e .fits)
+
+  pub few-active : getD xs 30 0 ≤ 8
+  few-active = omega (arith, part-read 22 9 8 xs (omega arith), ok-active xs e .fits)
+
+  joins-lent : part 213 (213 + getD xs 229 0 - 213) xs ≡ keys (numbers-at 8 (layout.joins-part xs))
+  joins-lent = count-lent 213 17 16 xs (omega arith) (omega (arith, ok-joins xs e .fits)) ∙ peers-lent 8 _ (ok-joins xs e)
+
+  pub none-joined : getD xs 229 0 ≡ 0 → true ≡ joins-rule (unpack xs)
+  unfolding joins-rule unpack station-of part subset disjoint has mem
+  none-joined z =
+      let n : 0 ≡ 213 + getD xs 229 0 - 213 = omega arith in
+      ap (λ (l : List ℕ). subset l (items-at 8 (layout.bootstrap-part xs)) && (disjoint l (items-at 8 (layout.active-part xs)) && not (mem (layout.me xs) l))) (ap (λ (j : ℕ). take j (drop 213 xs)) n ∙ joins-lent)
+
+  pub joins-are : (a b c : Bool) → a ≡ subset (part 213 (213 + getD xs 229 0 - 213) xs) (part 195 (195 + getD xs 203 0 - 195) xs) → b ≡ disjoint (part 213 (213 + getD xs 229 0 - 213) xs) (part 22 (22 + getD xs 30 0 - 22) xs)
+      → c ≡ mem (layout.me xs) (part 213 (213 + getD xs 229 0 - 213) xs) → (a && b && not c) ≡ joins-rule (unpack xs)
+  unfolding joins-rule unpack station-of has
+  joins-are a b c p q r =
+      let boot = count-lent 195 9 8 xs (omega arith) (ok-bootstrap xs e .fits) ∙ lent 8 _ (ok-bootstrap xs e) in
+      let active = count-lent 22 9 8 xs (omega arith) (ok-active xs e .fits) ∙ lent 8 _ (ok-active xs e) in
+      and-assoc a b (not c)
+      ∙ (λ i. (p ∙ (λ j. subset (joins-lent j) (boot j))) i && ((q ∙ (λ j. disjoint (joins-lent j) (active j))) i && not ((r ∙ ap (mem (layout.me xs)) joins-lent) i)))
 
 -- ---- the limit
 
@@ -70,9 +123,17 @@ module _ (k n : ℕ) (f : limit-formed k n ≡ true) where
       split (eqb k 0) (λ z. rw z (none-left (λ o. omega (arith, eqb-true k 0 z, eqb-true k 1 o))))
       (λ z. rw z (split (eqb k 1) (λ o. rw o) (λ o. rw o (none-left (λ t. omega (arith, eqb-true k 1 t, eqb-false k 1 o))))))
 
-pub limit-is : (xs : List ℕ) → packed-ok xs ≡ true → leb (layout.refill-requests xs) 3 ≡ limit-rule (unpack xs)
+limit-is : (xs : List ℕ) → packed-ok xs ≡ true → leb (layout.refill-requests xs) 3 ≡ limit-rule (unpack xs)
 unfolding limit-rule unpack station-of limit-at
 limit-is xs e = limited (layout.refill-kind xs) (layout.refill-requests xs) (ok-shape xs e .limit)
+
+interval-is : (xs : List ℕ) → (leb 1 (layout.next-shuffle-interval xs) && leb (layout.next-shuffle-interval xs) (layout.shuffle-interval xs)) ≡ interval-rule (unpack xs)
+unfolding interval-rule unpack station-of settings-at within
+interval-is xs = refl
+
+self-is : (xs : List ℕ) (b : Bool) → b ≡ has (layout.me xs) (data-map-at 80 (layout.peer-data-part xs)) → not b ≡ self-rule (unpack xs)
+unfolding self-rule unpack station-of
+self-is xs b p = λ i. not (p i)
 
 -- ---- what well formed words keep anyway
 
@@ -115,6 +176,14 @@ data-held xs e = both-true _ _ (values-short _ (data-short _ (ok-shape xs e .pee
 
 -- ---- the rules together
 
+passed : (b : Bool) → not b ≡ false → b ≡ true
+passed true e = refl
+passed false e = sym e
+
+failed : (b : Bool) → not b ≡ true → b ≡ false
+failed true e = sym e
+failed false e = refl
+
 -- words of another length are no state, and those that are not well formed neither
 module _ (xs : List ℕ) where
   pub other-length : (length xs ≡ layout.words → ⊥) → false ≡ state-ok xs
@@ -122,16 +191,12 @@ module _ (xs : List ℕ) where
   other-length n = rw (ne-eqb (length xs) layout.words n)
 
   module _ (b : Bool) (e : b ≡ packed-ok xs) where
-    pub well-formed : b ≡ true → packed-ok xs ≡ true
-    well-formed t = sym e ∙ t
+    pub well-formed : not b ≡ false → packed-ok xs ≡ true
+    well-formed t = sym e ∙ passed b t
 
-    pub kept : (r : Bool) → b ≡ true → r ≡ station-ok (unpack xs) → r ≡ state-ok xs
+    pub broken : not b ≡ true → false ≡ state-ok xs
     unfolding state-ok
-    kept r t p = rw (← e, t, p)
-
-    pub broken : b ≡ false → false ≡ state-ok xs
-    unfolding state-ok
-    broken t = rw (← e, t)
+    broken t = rw (← e, failed b t)
 
 -- three rules are left out where they hold
 pub rules-left : (g : Station) → few-rule g ≡ true → room-rule g ≡ true → data-rule g ≡ true
@@ -139,10 +204,25 @@ pub rules-left : (g : Station) → few-rule g ≡ true → room-rule g ≡ true 
 unfolding station-ok rules R.all-hold
 rules-left g f a b = rw (f, a, b, and-true (held-rule g))
 
-pub rules-are : (xs : List ℕ) → packed-ok xs ≡ true → (a b c d e f g h k l m n o : Bool) → a ≡ settings-rule (unpack xs) → b ≡ repeats-rule (unpack xs) → c ≡ order-rule (unpack xs) → d ≡ capacity-rule (unpack xs)
+rules-are : (xs : List ℕ) → packed-ok xs ≡ true → (a b c d e f g h k l m n o : Bool) → a ≡ settings-rule (unpack xs) → b ≡ repeats-rule (unpack xs) → c ≡ order-rule (unpack xs) → d ≡ capacity-rule (unpack xs)
     → e ≡ views-rule (unpack xs) → f ≡ alive-rule (unpack xs) → g ≡ joins-rule (unpack xs) → h ≡ numbers-rule (unpack xs) → k ≡ self-rule (unpack xs) → l ≡ limit-rule (unpack xs)
     → m ≡ interval-rule (unpack xs) → n ≡ width-rule (unpack xs) → o ≡ held-rule (unpack xs)
     → (a && (b && (c && (d && (e && (f && (g && (h && (k && (l && (m && (n && o)))))))))))) ≡ station-ok (unpack xs)
 rules-are xs t a b c d e f g h k l m n o p₁ p₂ p₃ p₄ p₅ p₆ p₇ p₈ p₉ p₁₀ p₁₁ p₁₂ p₁₃ =
     (λ i. p₁ i && (p₂ i && (p₃ i && (p₄ i && (p₅ i && (p₆ i && (p₇ i && (p₈ i && (p₉ i && (p₁₀ i && (p₁₁ i && (p₁₂ i && p₁₃ i))))))))))))
     ∙ sym (rules-left (unpack xs) (few-held xs t) (room-held xs t) (data-held xs t))
+
+-- the tests one after another, as the code has them
+pub tests-are : (xs : List ℕ) → packed-ok xs ≡ true → (s a p b r k f v m j n h o : Bool) → s ≡ settings-rule (unpack xs)
+    → a ≡ distinct (items-at 8 (layout.active-part xs)) → p ≡ distinct (items-at 32 (layout.passive-part xs)) → b ≡ distinct (items-at 8 (layout.bootstrap-part xs)) → r ≡ distinct (items-at 8 (layout.recent-part xs))
+    → k ≡ rising (items-at 32 (layout.alive-part xs)) → f ≡ rising (items-at 32 (layout.refused-part xs))
+    → v ≡ views-rule (unpack xs) → m ≡ alive-rule (unpack xs) → j ≡ joins-rule (unpack xs) → n ≡ numbers-rule (unpack xs)
+    → h ≡ has (layout.me xs) (data-map-at 80 (layout.peer-data-part xs)) → o ≡ held-rule (unpack xs)
+    → (s && a && p && b && r && k && f && leb (getD xs 30 0) (layout.active-view-capacity xs) && leb (getD xs 63 0) (layout.passive-view-capacity xs) && v && m && j && n && not h
+    && leb (layout.refill-requests xs) 3 && leb 1 (layout.next-shuffle-interval xs) && leb (layout.next-shuffle-interval xs) (layout.shuffle-interval xs)
+    && leb (layout.passes-alone xs) top-passes && leb (layout.passes-short xs) top-passes && o)
+    ≡ state-ok xs
+unfolding state-ok
+tests-are xs t s a p b r k f v m j n h o e₁ e₂ e₃ e₄ e₅ e₆ e₇ e₈ e₉ e₁₀ e₁₁ e₁₂ e₁₃ =
+    rw t (simp and-assoc (simp and-assoc at (rules-are xs t _ _ _ _ _ _ _ _ _ _ _ _ _ e₁ (repeats-is xs a p b r e₂ e₃ e₄ e₅) (order-is xs t k f e₆ e₇) (capacity-is xs t) e₈ e₉ e₁₀ e₁₁
+    (self-is xs h e₁₂) (limit-is xs t) (interval-is xs) (width-is xs t) e₁₃)))

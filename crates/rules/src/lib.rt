@@ -6,65 +6,14 @@ use timing::Timing;
 ghost use mathlib.Core.Path.{_≡_};
 ghost use mathlib.Core.Bool.{true};
 ghost use lib.ListN.{length};
-ghost use Rattle.lists.specs.Lists.{subset, disjoint};
-ghost use Rattle.lists.specs.Maps.{keys};
-ghost use Rattle.timing.specs.Timing.{within};
-ghost use Rattle.peer.specs.Held.{valid-data};
 ghost use Rattle.peer.specs.Maps.{numbers-under};
-ghost use Rattle.util.specs.Section.{items-at, ValidSet};
 ghost use Rattle.columns.specs.Columns.{numbers-at, ValidNumbers};
-ghost use Rattle.protocol.specs.Rules.{all-under, settings-rule, repeats-rule, order-rule, capacity-rule, views-rule, alive-rule};
-ghost use Rattle.protocol.specs.Rules.{joins-rule, numbers-rule, self-rule, limit-rule, interval-rule, width-rule, held-rule, station-ok};
+ghost use Rattle.protocol.specs.Rules.{settings-rule, views-rule, alive-rule, joins-rule, numbers-rule, held-rule};
 ghost use Rattle.state.specs.Layout.{words};
-ghost use Rattle.state.specs.Unpack.{unpack, own-at};
-ghost use Rattle.rules.specs.Ok.{formed, sections-ok, packed-ok, state-ok};
+ghost use Rattle.state.specs.Unpack.{unpack};
+ghost use Rattle.rules.specs.Ok.{packed-ok, state-ok};
 
-// ---- tests of a whole list
-
-// Whether every word is below `end`.
-fn all_under(s: &[u64], end: u64) -> bool
-    ensures { λ r. ⌜ r ≡ all-under end (now (s .entry)) ⌝ }
-{
-    let mut ok = true;
-    let mut i: usize = 0;
-    while i < s.len() {
-        ok = ok & (s[i] < end);
-        i += 1;
-    }
-    ok
-}
-
-// ---- tests of the peers and the numbers of a map
-
-// Whether every peer of the map is in the set.
-fn peers_within(m: &[u64], cap: usize, s: &[u64], scap: usize) -> bool
-    requires { ⌜ ValidNumbers cap (now m) ⌝ }
-    requires { ⌜ ValidSet scap (now s) ⌝ }
-    ensures { λ r. ⌜ r ≡ subset (keys (numbers-at cap (now (m .entry)))) (items-at scap (now (s .entry))) ⌝ }
-{
-    let end = cap + cap;
-    let n = m[end] as usize;
-    if n == 0 {
-        return true;
-    }
-    let k = s[scap] as usize;
-    scan::subset(&m[..n], &s[..k])
-}
-
-// Whether no peer of the map is in the set.
-fn peers_apart(m: &[u64], cap: usize, s: &[u64], scap: usize) -> bool
-    requires { ⌜ ValidNumbers cap (now m) ⌝ }
-    requires { ⌜ ValidSet scap (now s) ⌝ }
-    ensures { λ r. ⌜ r ≡ disjoint (keys (numbers-at cap (now (m .entry)))) (items-at scap (now (s .entry))) ⌝ }
-{
-    let end = cap + cap;
-    let n = m[end] as usize;
-    if n == 0 {
-        return true;
-    }
-    let k = s[scap] as usize;
-    scan::disjoint(&m[..n], &s[..k])
-}
+// ---- a test of the numbers of a map
 
 // Whether every number of the map is below `end`.
 fn numbers_under(m: &[u64], cap: usize, end: u64) -> bool
@@ -72,72 +21,46 @@ fn numbers_under(m: &[u64], cap: usize, end: u64) -> bool
     ensures { λ r. ⌜ r ≡ numbers-under end (numbers-at cap (now (m .entry))) ⌝ }
 {
     let at = cap + cap;
-    let n = m[at] as usize;
-    let last = cap + n;
-    all_under(&m[cap..last], end)
+    let last = cap + m[at] as usize;
+    let mut ok = true;
+    let mut i = cap;
+    while i < last {
+        ok = ok & (m[i] < end);
+        i += 1;
+    }
+    ok
 }
 
 // ---- whether words are a state's at all
-
-// Whether the words that stand for a bool or a limit are one. That every word has 64 bits is its type.
-fn is_formed(st: &[u64]) -> bool
-    requires { ⌜ length (now st) ≡ words ⌝ }
-    ensures { λ r. ⌜ r ≡ formed (now (st .entry)) ⌝ }
-{
-    (st[Layout::OWN_PRESENT] <= 1)
-        & ((st[Layout::TIMERS_SCHEDULED] <= 1)
-            & ((st[Layout::REFILL_KIND] <= RefillLimit::RECOVERY)
-                & ((st[Layout::REFILL_KIND] == RefillLimit::REQUESTS_LEFT)
-                    | (st[Layout::REFILL_REQUESTS] == 0))))
-}
-
-// Whether own data is data: zeroes past its bytes, and no bytes where it is absent.
-fn own_valid(st: &[u64]) -> bool
-    requires { ⌜ length (now st) ≡ words ⌝ }
-    ensures { λ r. ⌜ r ≡ valid-data (own-at (now (st .entry))) ⌝ }
-{
-    columns::row_valid(
-        st[Layout::OWN_LEN],
-        st[Layout::OWN_LOW],
-        st[Layout::OWN_HIGH],
-    )
-        & ((st[Layout::OWN_PRESENT] == 1) | (st[Layout::OWN_LEN] == 0))
-}
-
-// Whether every set and map is well formed, with zeroes in its unused places.
-fn sections_valid(st: &[u64]) -> bool
-    requires { ⌜ length (now st) ≡ words ⌝ }
-    ensures { λ r. ⌜ r ≡ sections-ok (now (st .entry)) ⌝ }
-{
-    util::is_section(&st[Layout::ACTIVE..Layout::ACTIVE_END], Layout::FEW)
-        & (util::is_section(&st[Layout::PASSIVE..Layout::PASSIVE_END], Layout::ALL)
-            & (util::is_section(&st[Layout::MARKS..Layout::MARKS_END], Layout::ALL)
-                & (util::is_section(&st[Layout::REFUSED..Layout::REFUSED_END], Layout::ALL)
-                    & (columns::numbers_valid(&st[Layout::ASKED..Layout::ASKED_END], Layout::ALL)
-                        & (util::is_section(
-                            &st[Layout::BOOTSTRAP..Layout::BOOTSTRAP_END],
-                            Layout::FEW,
-                        )
-                            & (util::is_section(
-                                &st[Layout::RECENT..Layout::RECENT_END],
-                                Layout::FEW,
-                            )
-                                & (columns::numbers_valid(
-                                    &st[Layout::JOINS..Layout::JOINS_END],
-                                    Layout::FEW,
-                                )
-                                    & columns::data_valid(
-                                        &st[Layout::HELD..Layout::HELD_END],
-                                        Layout::DATA_CAP,
-                                    ))))))))
-}
 
 // Whether every part is well formed, with zeroes in the unused places; of any words.
 fn is_packed(st: &[u64]) -> bool
     requires { ⌜ length (now st) ≡ words ⌝ }
     ensures { λ r. ⌜ r ≡ packed-ok (now (st .entry)) ⌝ }
 {
-    is_formed(st) & (own_valid(st) & sections_valid(st))
+    // The words that stand for a bool or a limit are one. That every word has 64 bits is its type.
+    (st[Layout::OWN_PRESENT] <= 1)
+        & (st[Layout::TIMERS_SCHEDULED] <= 1)
+        & (st[Layout::REFILL_KIND] <= RefillLimit::RECOVERY)
+        & ((st[Layout::REFILL_KIND] == RefillLimit::REQUESTS_LEFT)
+            | (st[Layout::REFILL_REQUESTS] == 0))
+        // Own data is data: zeroes past its bytes, and no bytes where it is absent.
+        & columns::row_valid(
+            st[Layout::OWN_LEN],
+            st[Layout::OWN_LOW],
+            st[Layout::OWN_HIGH],
+        )
+        & ((st[Layout::OWN_PRESENT] == 1) | (st[Layout::OWN_LEN] == 0))
+        // Every set and map is well formed.
+        & util::is_section(&st[Layout::ACTIVE..Layout::ACTIVE_END], Layout::FEW)
+        & util::is_section(&st[Layout::PASSIVE..Layout::PASSIVE_END], Layout::ALL)
+        & util::is_section(&st[Layout::MARKS..Layout::MARKS_END], Layout::ALL)
+        & util::is_section(&st[Layout::REFUSED..Layout::REFUSED_END], Layout::ALL)
+        & columns::numbers_valid(&st[Layout::ASKED..Layout::ASKED_END], Layout::ALL)
+        & util::is_section(&st[Layout::BOOTSTRAP..Layout::BOOTSTRAP_END], Layout::FEW)
+        & util::is_section(&st[Layout::RECENT..Layout::RECENT_END], Layout::FEW)
+        & columns::numbers_valid(&st[Layout::JOINS..Layout::JOINS_END], Layout::FEW)
+        & columns::data_valid(&st[Layout::HELD..Layout::HELD_END], Layout::DATA_CAP)
 }
 
 // ---- the station rules
@@ -155,66 +78,24 @@ const SHUFFLE_PASSIVE_TOP: u64 = Config::MOST_SHUFFLE_PASSIVE as u64;
 
 const TIME_TOP: u64 = Config::LONGEST_TIME as u64;
 
-fn is_within(low: u64, high: u64, x: u64) -> bool
-    ensures { λ r. ⌜ r ≡ within low high x ⌝ }
-{
-    (low <= x) & (x <= high)
-}
-
 // "settings in range"
 fn settings_rule(st: &[u64]) -> bool
     requires { ⌜ length (now st) ≡ words ⌝ }
     ensures { λ r. ⌜ r ≡ settings-rule (unpack (now (st .entry))) ⌝ }
 {
-    is_within(1, ACTIVE_TOP, st[Layout::ACTIVE_VIEW_CAPACITY])
-        & (is_within(1, PASSIVE_TOP, st[Layout::PASSIVE_VIEW_CAPACITY])
-            & (is_within(0, WALK_TOP, st[Layout::ACTIVE_RANDOM_WALK_LENGTH])
-                & (is_within(0, WALK_TOP, st[Layout::PASSIVE_RANDOM_WALK_LENGTH])
-                    & (is_within(0, WALK_TOP, st[Layout::SHUFFLE_RANDOM_WALK_LENGTH])
-                        & (is_within(0, SHUFFLE_ACTIVE_TOP, st[Layout::SHUFFLE_ACTIVE_VIEW_COUNT])
-                            & (is_within(
-                                0,
-                                SHUFFLE_PASSIVE_TOP,
-                                st[Layout::SHUFFLE_PASSIVE_VIEW_COUNT],
-                            )
-                                & (is_within(1, TIME_TOP, st[Layout::SHUFFLE_INTERVAL])
-                                    & is_within(
-                                        1,
-                                        TIME_TOP,
-                                        st[Layout::NEIGHBOR_REQUEST_TIMEOUT],
-                                    ))))))))
-}
-
-// "every list free of repeats"; maps and sets are, where they rise
-fn repeats_rule(st: &[u64]) -> bool
-    requires { ⌜ length (now st) ≡ words ⌝ }
-    requires { ⌜ packed-ok (now st) ≡ true ⌝ }
-    ensures { λ r. ⌜ r ≡ repeats-rule (unpack (now (st .entry))) ⌝ }
-{
-    util::is_distinct(&st[Layout::ACTIVE..Layout::ACTIVE_END], Layout::FEW)
-        & (util::is_distinct(&st[Layout::PASSIVE..Layout::PASSIVE_END], Layout::ALL)
-            & (util::is_distinct(&st[Layout::BOOTSTRAP..Layout::BOOTSTRAP_END], Layout::FEW)
-                & util::is_distinct(&st[Layout::RECENT..Layout::RECENT_END], Layout::FEW)))
-}
-
-// "those for maps and sets in rising peer order"; a well formed map rises
-fn order_rule(st: &[u64]) -> bool
-    requires { ⌜ length (now st) ≡ words ⌝ }
-    requires { ⌜ packed-ok (now st) ≡ true ⌝ }
-    ensures { λ r. ⌜ r ≡ order-rule (unpack (now (st .entry))) ⌝ }
-{
-    util::is_rising(&st[Layout::MARKS..Layout::MARKS_END], Layout::ALL)
-        & util::is_rising(&st[Layout::REFUSED..Layout::REFUSED_END], Layout::ALL)
-}
-
-// "views as in demand 3": within capacity
-fn capacity_rule(st: &[u64]) -> bool
-    requires { ⌜ length (now st) ≡ words ⌝ }
-    requires { ⌜ packed-ok (now st) ≡ true ⌝ }
-    ensures { λ r. ⌜ r ≡ capacity-rule (unpack (now (st .entry))) ⌝ }
-{
-    (st[Layout::ACTIVE_COUNT] <= st[Layout::ACTIVE_VIEW_CAPACITY])
-        & (st[Layout::PASSIVE_COUNT] <= st[Layout::PASSIVE_VIEW_CAPACITY])
+    (1 <= st[Layout::ACTIVE_VIEW_CAPACITY])
+        & (st[Layout::ACTIVE_VIEW_CAPACITY] <= ACTIVE_TOP)
+        & (1 <= st[Layout::PASSIVE_VIEW_CAPACITY])
+        & (st[Layout::PASSIVE_VIEW_CAPACITY] <= PASSIVE_TOP)
+        & (st[Layout::ACTIVE_RANDOM_WALK_LENGTH] <= WALK_TOP)
+        & (st[Layout::PASSIVE_RANDOM_WALK_LENGTH] <= WALK_TOP)
+        & (st[Layout::SHUFFLE_RANDOM_WALK_LENGTH] <= WALK_TOP)
+        & (st[Layout::SHUFFLE_ACTIVE_VIEW_COUNT] <= SHUFFLE_ACTIVE_TOP)
+        & (st[Layout::SHUFFLE_PASSIVE_VIEW_COUNT] <= SHUFFLE_PASSIVE_TOP)
+        & (1 <= st[Layout::SHUFFLE_INTERVAL])
+        & (st[Layout::SHUFFLE_INTERVAL] <= TIME_TOP)
+        & (1 <= st[Layout::NEIGHBOR_REQUEST_TIMEOUT])
+        & (st[Layout::NEIGHBOR_REQUEST_TIMEOUT] <= TIME_TOP)
 }
 
 // "views as in demand 3": disjoint and without the station itself
@@ -254,20 +135,16 @@ fn joins_rule(st: &[u64]) -> bool
     requires { ⌜ packed-ok (now st) ≡ true ⌝ }
     ensures { λ r. ⌜ r ≡ joins-rule (unpack (now (st .entry))) ⌝ }
 {
-    let me = st[Layout::ME];
-    peers_within(
-        &st[Layout::JOINS..Layout::JOINS_END],
-        Layout::FEW,
-        &st[Layout::BOOTSTRAP..Layout::BOOTSTRAP_END],
-        Layout::FEW,
-    )
-        & (peers_apart(
-            &st[Layout::JOINS..Layout::JOINS_END],
-            Layout::FEW,
-            &st[Layout::ACTIVE..Layout::ACTIVE_END],
-            Layout::FEW,
-        )
-            & !columns::contains_number(&st[Layout::JOINS..Layout::JOINS_END], Layout::FEW, me))
+    let n = st[Layout::JOINS_COUNT] as usize;
+    if n == 0 {
+        return true;
+    }
+    let joins = Layout::JOINS + n;
+    let bootstrap = Layout::BOOTSTRAP + st[Layout::BOOTSTRAP_COUNT] as usize;
+    let active = Layout::ACTIVE + st[Layout::ACTIVE_COUNT] as usize;
+    scan::subset(&st[Layout::JOINS..joins], &st[Layout::BOOTSTRAP..bootstrap])
+        & scan::disjoint(&st[Layout::JOINS..joins], &st[Layout::ACTIVE..active])
+        & !scan::is_in(&st[Layout::JOINS..joins], st[Layout::ME])
 }
 
 // "open numbers below their counters"
@@ -290,47 +167,6 @@ fn numbers_rule(st: &[u64]) -> bool
         )
 }
 
-// "no data held under self"
-fn self_rule(st: &[u64]) -> bool
-    requires { ⌜ length (now st) ≡ words ⌝ }
-    requires { ⌜ packed-ok (now st) ≡ true ⌝ }
-    ensures { λ r. ⌜ r ≡ self-rule (unpack (now (st .entry))) ⌝ }
-{
-    let me = st[Layout::ME];
-    !columns::contains_data(&st[Layout::HELD..Layout::HELD_END], Layout::DATA_CAP, me)
-}
-
-// "`Requests` at most 3"; the requests are 0 in every other limit
-fn limit_rule(st: &[u64]) -> bool
-    requires { ⌜ length (now st) ≡ words ⌝ }
-    requires { ⌜ packed-ok (now st) ≡ true ⌝ }
-    ensures { λ r. ⌜ r ≡ limit-rule (unpack (now (st .entry))) ⌝ }
-{
-    st[Layout::REFILL_REQUESTS] <= Timing::MAX_REQUESTS_PER_REFILL as u64
-}
-
-// "next interval from 1 to the shuffle interval"
-fn interval_rule(st: &[u64]) -> bool
-    requires { ⌜ length (now st) ≡ words ⌝ }
-    ensures { λ r. ⌜ r ≡ interval-rule (unpack (now (st .entry))) ⌝ }
-{
-    is_within(
-        1,
-        st[Layout::SHUFFLE_INTERVAL],
-        st[Layout::NEXT_SHUFFLE_INTERVAL],
-    )
-}
-
-// "the two pass counts 32" bits. Peers and counters have 64 bits, and data is bytes, whatever the words are.
-fn width_rule(st: &[u64]) -> bool
-    requires { ⌜ length (now st) ≡ words ⌝ }
-    requires { ⌜ packed-ok (now st) ≡ true ⌝ }
-    ensures { λ r. ⌜ r ≡ width-rule (unpack (now (st .entry))) ⌝ }
-{
-    (st[Layout::PASSES_ALONE] <= state::TOP_PASSES)
-        & (st[Layout::PASSES_SHORT] <= state::TOP_PASSES)
-}
-
 // 02, S-5: no data is held of a peer in neither view and without an open request.
 fn held_rule(st: &[u64]) -> bool
     requires { ⌜ length (now st) ≡ words ⌝ }
@@ -346,35 +182,43 @@ fn held_rule(st: &[u64]) -> bool
     )
 }
 
-// Every station rule. That sets and maps have room, bootstrap and recent peers are few and data are short is so of all well formed words.
-fn keeps_rules(st: &[u64]) -> bool
-    requires { ⌜ length (now st) ≡ words ⌝ }
-    requires { ⌜ packed-ok (now st) ≡ true ⌝ }
-    ensures { λ r. ⌜ r ≡ station-ok (unpack (now (st .entry))) ⌝ }
-{
-    settings_rule(st)
-        & (repeats_rule(st)
-            & (order_rule(st)
-                & (capacity_rule(st)
-                    & (views_rule(st)
-                        & (alive_rule(st)
-                            & (joins_rule(st)
-                                & (numbers_rule(st)
-                                    & (self_rule(st)
-                                        & (limit_rule(st)
-                                            & (interval_rule(st)
-                                                & (width_rule(st) & held_rule(st))))))))))))
-}
-
-// Whether the words keep every station rule, unused places included; of any words, however many.
+// Whether the words keep every station rule, unused places included; of any words, however many. That sets and maps have room, bootstrap and recent peers are few
+// and data are short is so of all well formed words.
 pub fn is_ok(st: &[u64]) -> bool
     ensures { λ r. ⌜ r ≡ state-ok (now (st .entry)) ⌝ }
 {
     if st.len() != Layout::LENGTH {
         return false;
     }
-    if is_packed(st) {
-        return keeps_rules(st);
+    if !is_packed(st) {
+        return false;
     }
-    false
+    let me = st[Layout::ME];
+    settings_rule(st)
+        // "every list free of repeats"; maps and sets are, where they rise
+        & util::is_distinct(&st[Layout::ACTIVE..Layout::ACTIVE_END], Layout::FEW)
+        & util::is_distinct(&st[Layout::PASSIVE..Layout::PASSIVE_END], Layout::ALL)
+        & util::is_distinct(&st[Layout::BOOTSTRAP..Layout::BOOTSTRAP_END], Layout::FEW)
+        & util::is_distinct(&st[Layout::RECENT..Layout::RECENT_END], Layout::FEW)
+        // "those for maps and sets in rising peer order"; a well formed map rises
+        & util::is_rising(&st[Layout::MARKS..Layout::MARKS_END], Layout::ALL)
+        & util::is_rising(&st[Layout::REFUSED..Layout::REFUSED_END], Layout::ALL)
+        // "views as in demand 3": within capacity
+        & (st[Layout::ACTIVE_COUNT] <= st[Layout::ACTIVE_VIEW_CAPACITY])
+        & (st[Layout::PASSIVE_COUNT] <= st[Layout::PASSIVE_VIEW_CAPACITY])
+        & views_rule(st)
+        & alive_rule(st)
+        & joins_rule(st)
+        & numbers_rule(st)
+        // "no data held under self"
+        & !columns::contains_data(&st[Layout::HELD..Layout::HELD_END], Layout::DATA_CAP, me)
+        // "`Requests` at most 3"; the requests are 0 in every other limit
+        & (st[Layout::REFILL_REQUESTS] <= Timing::MAX_REQUESTS_PER_REFILL as u64)
+        // "next interval from 1 to the shuffle interval"
+        & (1 <= st[Layout::NEXT_SHUFFLE_INTERVAL])
+        & (st[Layout::NEXT_SHUFFLE_INTERVAL] <= st[Layout::SHUFFLE_INTERVAL])
+        // "the two pass counts 32" bits. Peers and counters have 64 bits, and data is bytes, whatever the words are.
+        & (st[Layout::PASSES_ALONE] <= state::TOP_PASSES)
+        & (st[Layout::PASSES_SHORT] <= state::TOP_PASSES)
+        & held_rule(st)
 }

@@ -1,95 +1,122 @@
-use Rattle.rules.proofs.Shape.{of-ok}
 use Rattle.util.specs.Section.{part}
-use Rattle.rules.proofs.Held.{joins-is}
+use Rattle.rules.proofs.Held.{few-joins, few-bootstrap, few-active, none-joined, joins-are}
 use borrow.Author.Needs.{needs}
 use Rattle.rules.proofs.joins_rule.Statement.{statement}
 use Rattle.rules.proofs.joins_rule.Tie as tie
 
-shared-slice-read-me : tie.Need-shared-slice-read-me
-shared-slice-read-me c = search needs
-
-sub-peers-within : tie.Need-sub-peers-within
-sub-peers-within c = search needs
-
-part-peers-within-start : tie.Need-part-peers-within-start
-part-peers-within-start c = search needs
-
-part-peers-within-end : tie.Need-part-peers-within-end
-part-peers-within-end c = search needs
-
-sub-peers-within-2 : tie.Need-sub-peers-within-2
-sub-peers-within-2 c = search needs
-
-part-peers-within-start-2 : tie.Need-part-peers-within-start-2
-part-peers-within-start-2 c = search needs
-
-part-peers-within-end-2 : tie.Need-part-peers-within-end-2
-part-peers-within-end-2 c = search needs
-
-peers-within-requires : tie.Need-peers-within-requires
-unfolding part
-peers-within-requires c κs = search (of-ok, needs)
-
-sub-peers-apart : tie.Need-sub-peers-apart
-sub-peers-apart c = search needs
-
-part-peers-apart-start : tie.Need-part-peers-apart-start
-part-peers-apart-start c = search needs
-
-part-peers-apart-end : tie.Need-part-peers-apart-end
-part-peers-apart-end c = search needs
-
-sub-peers-apart-2 : tie.Need-sub-peers-apart-2
-sub-peers-apart-2 c = search needs
-
-part-peers-apart-start-2 : tie.Need-part-peers-apart-start-2
-part-peers-apart-start-2 c = search needs
-
-part-peers-apart-end-2 : tie.Need-part-peers-apart-end-2
-part-peers-apart-end-2 c = search needs
-
-peers-apart-requires : tie.Need-peers-apart-requires
-unfolding part
-peers-apart-requires c κs = search (of-ok, needs)
-
-sub-contains-number : tie.Need-sub-contains-number
-sub-contains-number c = search needs
-
-part-contains-number-start : tie.Need-part-contains-number-start
-part-contains-number-start c = search needs
-
-part-contains-number-end : tie.Need-part-contains-number-end
-part-contains-number-end c = search needs
-
-contains-number-requires : tie.Need-contains-number-requires
-unfolding part
-contains-number-requires c κs = search (of-ok, needs)
+shared-slice-read-n : tie.Need-shared-slice-read-n
+shared-slice-read-n c = search needs
 
 returns : tie.Need-returns
+returns c = search none-joined
+
+add-joins : tie.Need-add-joins
+add-joins c = let few = few-joins _ (c .before .before .before .pre .1) in search needs
+
+shared-slice-read-bootstrap : tie.Need-shared-slice-read-bootstrap
+shared-slice-read-bootstrap c = search needs
+
+add-bootstrap : tie.Need-add-bootstrap
+add-bootstrap c = let few = few-bootstrap _ (c .before .before .before .before .pre .1) in search needs
+
+shared-slice-read-active : tie.Need-shared-slice-read-active
+shared-slice-read-active c = search needs
+
+add-active : tie.Need-add-active
+add-active c = let few = few-active _ (c .before .before .before .before .before .pre .1) in search needs
+
+sub-subset : tie.Need-sub-subset
+sub-subset c = search needs
+
+part-subset-start : tie.Need-part-subset-start
+part-subset-start c = search needs
+
+part-subset-end : tie.Need-part-subset-end
+part-subset-end c = let few = few-joins _ (c .before .before .before .before .before .pre .1) in search needs
+
+sub-subset-2 : tie.Need-sub-subset-2
+sub-subset-2 c = search needs
+
+part-subset-start-2 : tie.Need-part-subset-start-2
+part-subset-start-2 c = search needs
+
+part-subset-end-2 : tie.Need-part-subset-end-2
+part-subset-end-2 c = let few = few-bootstrap _ (c .before .before .before .before .before .before .pre .1) in search needs
+
+subset-requires : tie.Need-subset-requires
+subset-requires c κs = search needs
+
+abbrev subset-to-start : tie.After-subset → tie.Start
+subset-to-start c = c .before .before .before .before .before .before .before .before
+
+sub-disjoint : tie.Need-sub-disjoint
+sub-disjoint c = search needs
+
+part-disjoint-start : tie.Need-part-disjoint-start
+part-disjoint-start c = search needs
+
+part-disjoint-end : tie.Need-part-disjoint-end
+part-disjoint-end c = let few = few-joins _ (subset-to-start c .pre .1) in search needs
+
+sub-disjoint-2 : tie.Need-sub-disjoint-2
+sub-disjoint-2 c = search needs
+
+part-disjoint-start-2 : tie.Need-part-disjoint-start-2
+part-disjoint-start-2 c = search needs
+
+part-disjoint-end-2 : tie.Need-part-disjoint-end-2
+part-disjoint-end-2 c = let few = few-active _ (subset-to-start (c .before) .pre .1) in search needs
+
+disjoint-requires : tie.Need-disjoint-requires
+disjoint-requires c κs = search needs
+
+sub-is-in : tie.Need-sub-is-in
+sub-is-in c = search needs
+
+part-is-in-start : tie.Need-part-is-in-start
+part-is-in-start c = search needs
+
+part-is-in-end : tie.Need-part-is-in-end
+part-is-in-end c = let few = few-joins _ (subset-to-start (c .before .before .before) .pre .1) in search needs
+
+shared-slice-read-is-in : tie.Need-shared-slice-read-is-in
+shared-slice-read-is-in c = search needs
+
+is-in-requires : tie.Need-is-in-requires
+is-in-requires c κs = search needs
+
+returns-2 : tie.Need-returns-2
 unfolding part
-returns c = search joins-is
+returns-2 c = search joins-are
 
 pub joins-rule-spec : {M : Type 1} → statement M
 joins-rule-spec =
     tie.close
     (tie.spec
-    shared-slice-read-me
-    sub-peers-within
-    part-peers-within-start
-    part-peers-within-end
-    sub-peers-within-2
-    part-peers-within-start-2
-    part-peers-within-end-2
-    peers-within-requires
-    sub-peers-apart
-    part-peers-apart-start
-    part-peers-apart-end
-    sub-peers-apart-2
-    part-peers-apart-start-2
-    part-peers-apart-end-2
-    peers-apart-requires
-    sub-contains-number
-    part-contains-number-start
-    part-contains-number-end
-    contains-number-requires
-    returns)
+    shared-slice-read-n
+    returns
+    add-joins
+    shared-slice-read-bootstrap
+    add-bootstrap
+    shared-slice-read-active
+    add-active
+    sub-subset
+    part-subset-start
+    part-subset-end
+    sub-subset-2
+    part-subset-start-2
+    part-subset-end-2
+    subset-requires
+    sub-disjoint
+    part-disjoint-start
+    part-disjoint-end
+    sub-disjoint-2
+    part-disjoint-start-2
+    part-disjoint-end-2
+    disjoint-requires
+    sub-is-in
+    part-is-in-start
+    part-is-in-end
+    shared-slice-read-is-in
+    is-in-requires
+    returns-2)

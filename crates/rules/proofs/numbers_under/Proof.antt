@@ -1,51 +1,66 @@
-use Rattle.util.specs.Section.{part}
-use Rattle.rules.proofs.Under.{under-lent}
+use Prim.Native.Nat.{_-_}
+use lib.ListN.{length}
+use Rattle.lists.proofs.Rest.{Rest}
+use Rattle.columns.specs.Columns.{numbers-at}
+use Rattle.peer.specs.Maps.{numbers-under}
+use Rattle.rules.proofs.Under.{Below, below-start, below-next, below-end}
 use borrow.Author.Needs.{needs}
 use Rattle.rules.proofs.numbers_under.Statement.{statement}
 use Rattle.rules.proofs.numbers_under.Tie as tie
 
-add-at : tie.Need-add-at
+abbrev Inv-loop : tie.InvT-loop
+Inv-loop m cap end at last ok₀ i₀ ok i = Rest (Below end) (length m) m last (numbers-under end (numbers-at cap m)) ok i
+
+abbrev μ-loop : tie.MeasureT-loop
+μ-loop m cap end at last ok₀ i₀ ok i = last - i
+
+add-at : tie.Need-add-at Inv-loop μ-loop
 add-at c = search needs
 
-mul-n : tie.Need-mul-n
-mul-n c = search needs
+mul-last : tie.Need-mul-last Inv-loop μ-loop
+mul-last c = search needs
 
-shared-slice-read-n : tie.Need-shared-slice-read-n
-shared-slice-read-n c = search needs
+shared-slice-read-last : tie.Need-shared-slice-read-last Inv-loop μ-loop
+shared-slice-read-last c = search needs
 
-add-last : tie.Need-add-last
+add-last : tie.Need-add-last Inv-loop μ-loop
 add-last c = search needs
 
-mul-all-under : tie.Need-mul-all-under
-mul-all-under c = search needs
+loop-holds : tie.Need-loop-holds Inv-loop μ-loop
+loop-holds c = search below-start
 
-sub-all-under : tie.Need-sub-all-under
-sub-all-under c = search needs
+mul-ok : tie.Need-mul-ok Inv-loop μ-loop
+mul-ok c = search needs
 
-part-all-under-start : tie.Need-part-all-under-start
-part-all-under-start c = search needs
+shared-slice-read-ok : tie.Need-shared-slice-read-ok Inv-loop μ-loop
+shared-slice-read-ok c = search needs
 
-part-all-under-end : tie.Need-part-all-under-end
-part-all-under-end c = search needs
+add-i : tie.Need-add-i Inv-loop μ-loop
+add-i c = search needs
 
-all-under-requires : tie.Need-all-under-requires
-all-under-requires c κs = search needs
+loop-less : tie.Need-loop-less Inv-loop μ-loop
+loop-less c = search needs
 
-returns : tie.Need-returns
-unfolding part
-returns c = search under-lent
+loop-again : tie.Need-loop-again Inv-loop μ-loop
+loop-again c = search below-next
+
+returns : tie.Need-returns Inv-loop μ-loop
+returns c = search below-end
 
 pub numbers-under-spec : {M : Type 1} → statement M
 numbers-under-spec =
     tie.close
     (tie.spec
+    Inv-loop
+    μ-loop
     add-at
-    mul-n
-    shared-slice-read-n
+    mul-last
+    shared-slice-read-last
     add-last
-    mul-all-under
-    sub-all-under
-    part-all-under-start
-    part-all-under-end
-    all-under-requires
+    loop-holds
+    mul-ok
+    shared-slice-read-ok
+    add-i
+    loop-less
+    loop-again
     returns)
