@@ -16,7 +16,6 @@ use Rattle.lists.proofs.Choice.{split}
 use Rattle.lists.proofs.Tests.{both-true}
 use Rattle.scan.proofs.Tests.{not-in}
 use Rattle.scan.proofs.Marks.{mark, unmarked, marks-kept}
-use Rattle.scan.specs.Words.{marked}
 use Rattle.scan.proofs.Loops.{Left, Every, disjoint-start, every-asked, every-end}
 
 -- a word is among those of which it is one
@@ -54,18 +53,17 @@ module _ (s : List ℕ) (seen : List Bool) (i : ℕ) (v : Noting s seen i) where
         marked = rw d (both-true _ _ (getD-set-same seen (x % 256) true false q) (marks-kept seen (x % 256) q (drop i s) (v .marked)));
       }
 
-  pub noting-end : i ≤ 0 → marked seen s ≡ true
-  unfolding marked
+  pub noting-end : i ≤ 0 → every (mark seen) s ≡ true
   noting-end h = let z : i ≡ 0 = omega arith in rw z at (v .marked)
 
 -- ---- none of the words passed is in b
 
 pub record Passing (a b : List ℕ) (seen : List Bool) (i : ℕ) : Type 0 where
   pub size : length seen ≡ 256
-  pub marked : marked seen b ≡ true
+  pub marked : every (mark seen) b ≡ true
   pub left : Left (Every (not-in b)) a (disjoint a b) true i
 
-pub passing-start : (a b : List ℕ) (seen : List Bool) → length seen ≡ 256 → marked seen b ≡ true → Passing a b seen 0
+pub passing-start : (a b : List ℕ) (seen : List Bool) → length seen ≡ 256 → every (mark seen) b ≡ true → Passing a b seen 0
 passing-start a b seen e m = record { size = e; marked = m; left = disjoint-start a b }
 
 module _ (a b : List ℕ) (seen : List Bool) (i : ℕ) (v : Passing a b seen i) where
@@ -73,7 +71,6 @@ module _ (a b : List ℕ) (seen : List Bool) (i : ℕ) (v : Passing a b seen i) 
   pass h e = record { size = v .size; marked = v .marked; left = every-asked (not-in b) a (disjoint a b) true i (v .left) true (sym (ap not e)) h }
 
   pub pass-unmarked : i < length a → mark seen (getD a i 0) ≡ false → Passing a b seen (i + 1)
-  unfolding marked
   pass-unmarked h e = pass h (unmarked seen (getD a i 0) b (v .marked) e)
 
   module _ (r : Bool) (e : r ≡ mem (getD a i 0) b) (h : i < length a) where

@@ -1,7 +1,7 @@
 -- Loops over a whole list that look at every word: x is carried, and `F x l` is the answer where the words l are still to come.
 -- Assumes nothing.
 use Prim.Native.Nat.{ℕ, suc, _+_, _-_, _≤_, _<_}
-use mathlib.Core.Path.{_≡_, refl, sym, ap, _∙_}
+use mathlib.Core.Path.{_≡_, refl, sym, ap, _∙_, subst}
 use mathlib.Core.Bool.{Bool, true, false, cond, _&&_, _||_, and-true, and-assoc, or-false}
 use mathlib.Core.List.{List, [], _∷_}
 use native.Mathlib.Numerals.{add-one}
@@ -49,6 +49,10 @@ module _ (t : ℕ → Bool) where
     -- the same, where the test is a call's answer
     pub every-asked : (b : Bool) → b ≡ t (getD s i 0) → i < length s → Left (Every t) s whole (ok && b) (i + 1)
     every-asked b e h = rw e (every-next h)
+
+    -- and where it was seen to pass
+    pub every-seen : true ≡ t (getD s i 0) → i < length s → Left (Every t) s whole ok (i + 1)
+    every-seen e h = subst (λ (b : Bool). Left (Every t) s whole b (i + 1)) (and-true ok) (every-asked true e h)
 
     pub every-end : length s ≤ i → ok ≡ whole
     unfolding every

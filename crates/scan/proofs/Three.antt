@@ -1,4 +1,4 @@
--- Lists in a row, as `word_of_two`, `word_of_three` and `found_of_three` look at them.
+-- Lists in a row, as `word_of_three` and `subset_of_three` look at them.
 -- Assumes nothing.
 use Prim.Native.Nat.{ℕ, _+_, _-_, _≤_, _<_}
 use mathlib.Core.Path.{_≡_, sym, ap, _∙_}

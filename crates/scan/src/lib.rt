@@ -1,13 +1,12 @@
 // Tests of a whole list of 64-bit words that is lent. `no_bits`, `is_in` and `rising` look at every word, so that the compiler makes vector code. The loops that
 // go by a table at the low byte are no vector code: `disjoint` and `distinct` stop at the first word that fails, `subset` and `subset_of_three` look for each word first at the place noted.
 ghost use mathlib.Core.Path.{_≡_};
-ghost use mathlib.Core.Bool.{true};
 ghost use mathlib.Core.List.{_++_};
 ghost use Prim.Native.Nat.{_+_, _<_};
 ghost use lib.ListN.{length, getD};
 ghost use Rattle.lists.specs.Lists.{mem, distinct, rising, subset, disjoint};
 ghost use Rattle.lists.specs.Tests.{every};
-ghost use Rattle.scan.specs.Words.{unused, marked};
+ghost use Rattle.scan.specs.Words.{unused};
 
 // Whether every word is zero.
 pub fn no_bits(s: &[u64]) -> bool
@@ -48,18 +47,6 @@ pub fn rising(s: &[u64]) -> bool
     ok
 }
 
-// Whether x is one of the words; h is a place to look at first, whatever it is.
-fn found(s: &[u64], h: usize, x: u64) -> bool
-    ensures { λ r. ⌜ r ≡ mem x (now (s .entry)) ⌝ }
-{
-    if h < s.len() {
-        if x == s[h] {
-            return true;
-        }
-    }
-    is_in(s, x)
-}
-
 // A noted byte as the place to look at first.
 fn hinted(x: u8) -> usize {
     x as usize
@@ -89,46 +76,31 @@ pub fn subset(a: &[u64], b: &[u64]) -> bool
         let x = a[i];
         let k = (x % 256) as usize;
         let h = hinted(hints[k]);
-        ok = ok & found(b, h, x);
         i += 1;
+        if h < b.len() {
+            if x == b[h] {
+                continue;
+            }
+        }
+        ok = ok & is_in(b, x);
     }
     ok
 }
 
-// The word at place h of two lists in a row; the compiler can pick the list without a jump.
-fn word_of_two(b: &[u64], c: &[u64], h: usize) -> u64
-    requires { ⌜ h < length (now b) + length (now c) ⌝ }
-    ensures { λ r. ⌜ r ≡ getD (now (b .entry) ++ now (c .entry)) h 0 ⌝ }
-{
-    let n = b.len();
-    if h < n {
-        return b[h];
-    }
-    c[h - n]
-}
-
-// The word at place h of three lists in a row.
+// The word at place h of three lists in a row; the compiler can pick the list without a jump.
 fn word_of_three(b: &[u64], c: &[u64], d: &[u64], h: usize) -> u64
     requires { ⌜ h < length (now b) + length (now c) + length (now d) ⌝ }
     ensures { λ r. ⌜ r ≡ getD (now (b .entry) ++ (now (c .entry) ++ now (d .entry))) h 0 ⌝ }
 {
     let n = b.len() + c.len();
     if h < n {
-        return word_of_two(b, c, h);
+        let m = b.len();
+        if h < m {
+            return b[h];
+        }
+        return c[h - m];
     }
     d[h - n]
-}
-
-// Whether x is one of the words of three lists; h is a place in their row to look at first, whatever it is.
-fn found_of_three(b: &[u64], c: &[u64], d: &[u64], h: usize, x: u64) -> bool
-    ensures { λ r. ⌜ r ≡ mem x (now (b .entry) ++ (now (c .entry) ++ now (d .entry))) ⌝ }
-{
-    if h < b.len() + c.len() + d.len() {
-        if x == word_of_three(b, c, d, h) {
-            return true;
-        }
-    }
-    is_in(b, x) | (is_in(c, x) | is_in(d, x))
 }
 
 // Whether every word of a is in b, in c or in d: looked for as `subset` does, without a copy that has the three in a row.
@@ -146,23 +118,15 @@ pub fn subset_of_three(a: &[u64], b: &[u64], c: &[u64], d: &[u64]) -> bool
         let x = a[i];
         let k = (x % 256) as usize;
         let h = hinted(hints[k]);
-        ok = ok & found_of_three(b, c, d, h, x);
         i += 1;
+        if h < b.len() + c.len() + d.len() {
+            if x == word_of_three(b, c, d, h) {
+                continue;
+            }
+        }
+        ok = ok & (is_in(b, x) | (is_in(c, x) | is_in(d, x)));
     }
     ok
-}
-
-// At the low byte of each word a mark.
-fn mark_all(s: &[u64], seen: &mut [bool])
-    requires { ⌜ length (now seen) ≡ 256 ⌝ }
-    ensures { λ _. ⌜ marked (now (seen .exit)) (now (s .entry)) ≡ true ⌝ }
-{
-    let mut i = s.len();
-    while 0 < i {
-        let k = (s[i - 1] % 256) as usize;
-        seen[k] = true;
-        i -= 1;
-    }
 }
 
 // Whether no word of a is in b: only a word whose low byte is marked is looked for.
@@ -170,7 +134,13 @@ pub fn disjoint(a: &[u64], b: &[u64]) -> bool
     ensures { λ r. ⌜ r ≡ disjoint (now (a .entry)) (now (b .entry)) ⌝ }
 {
     let mut seen = [false; 256];
-    mark_all(b, &mut seen);
+    // At the low byte of each word of b a mark.
+    let mut j = b.len();
+    while 0 < j {
+        let k = (b[j - 1] % 256) as usize;
+        seen[k] = true;
+        j -= 1;
+    }
     let mut i: usize = 0;
     while i < a.len() {
         let x = a[i];

@@ -3,7 +3,8 @@ use lib.ListN.{length}
 use mathlib.Core.Path.{_≡_}
 use Rattle.lists.specs.Lists.{subset}
 use Rattle.scan.proofs.Tests.{is-in}
-use Rattle.scan.proofs.Loops.{Left, Every, subset-start, every-asked, every-end}
+use Rattle.scan.proofs.Hints.{at-hint}
+use Rattle.scan.proofs.Loops.{Left, Every, subset-start, every-seen, every-asked, every-end}
 use borrow.Author.Needs.{needs}
 use Rattle.scan.proofs.subset.Statement.{statement}
 use Rattle.scan.proofs.subset.Tie as tie
@@ -35,17 +36,29 @@ array-read-hinted c = search needs
 hinted-requires : tie.Need-hinted-requires Inv-loop μ-loop
 hinted-requires c κs = search needs
 
-found-requires : tie.Need-found-requires Inv-loop μ-loop
-found-requires c κs = search needs
-
 add-i : tie.Need-add-i Inv-loop μ-loop
 add-i c = search needs
+
+mul-if2 : tie.Need-mul-if2 Inv-loop μ-loop
+mul-if2 c = search needs
+
+shared-slice-read-if2 : tie.Need-shared-slice-read-if2 Inv-loop μ-loop
+shared-slice-read-if2 c = search needs
 
 loop-less : tie.Need-loop-less Inv-loop μ-loop
 loop-less c = search needs
 
 loop-again : tie.Need-loop-again Inv-loop μ-loop
-loop-again c = (search needs, search every-asked)
+loop-again c = (search needs, search (every-seen, at-hint))
+
+is-in-requires : tie.Need-is-in-requires Inv-loop μ-loop
+is-in-requires c κs = search needs
+
+loop-less-2 : tie.Need-loop-less-2 Inv-loop μ-loop
+loop-less-2 c = search needs
+
+loop-again-2 : tie.Need-loop-again-2 Inv-loop μ-loop
+loop-again-2 c = (search needs, search every-asked)
 
 returns : tie.Need-returns Inv-loop μ-loop
 returns c = search every-end
@@ -63,8 +76,12 @@ subset-spec =
     shared-slice-read-x
     array-read-hinted
     hinted-requires
-    found-requires
     add-i
+    mul-if2
+    shared-slice-read-if2
     loop-less
     loop-again
+    is-in-requires
+    loop-less-2
+    loop-again-2
     returns)

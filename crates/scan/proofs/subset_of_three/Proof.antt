@@ -4,7 +4,8 @@ use mathlib.Core.Path.{_≡_}
 use mathlib.Core.List.{_++_}
 use Rattle.lists.specs.Lists.{subset}
 use Rattle.scan.proofs.Tests.{is-in}
-use Rattle.scan.proofs.Loops.{Left, Every, subset-start, every-asked, every-end}
+use Rattle.scan.proofs.Three.{at-hint-of-three, in-three}
+use Rattle.scan.proofs.Loops.{Left, Every, subset-start, every-seen, every-asked, every-end}
 use borrow.Author.Needs.{needs}
 use Rattle.scan.proofs.subset_of_three.Statement.{statement}
 use Rattle.scan.proofs.subset_of_three.Tie as tie
@@ -51,17 +52,38 @@ array-read-hinted c = search needs
 hinted-requires : tie.Need-hinted-requires Inv-loop μ-loop
 hinted-requires c κs = search needs
 
-found-of-three-requires : tie.Need-found-of-three-requires Inv-loop μ-loop
-found-of-three-requires c κs = search needs
-
 add-i : tie.Need-add-i Inv-loop μ-loop
 add-i c = search needs
+
+add-if1 : tie.Need-add-if1 Inv-loop μ-loop
+add-if1 c = search needs
+
+add-if1-2 : tie.Need-add-if1-2 Inv-loop μ-loop
+add-if1-2 c = search needs
+
+word-of-three-requires : tie.Need-word-of-three-requires Inv-loop μ-loop
+word-of-three-requires c κs = search needs
 
 loop-less : tie.Need-loop-less Inv-loop μ-loop
 loop-less c = search needs
 
 loop-again : tie.Need-loop-again Inv-loop μ-loop
-loop-again c = (search needs, search every-asked)
+loop-again c = (search needs, search (every-seen, at-hint-of-three))
+
+is-in-requires : tie.Need-is-in-requires Inv-loop μ-loop
+is-in-requires c κs = search needs
+
+is-in-requires-2 : tie.Need-is-in-requires-2 Inv-loop μ-loop
+is-in-requires-2 c κs = search needs
+
+is-in-requires-3 : tie.Need-is-in-requires-3 Inv-loop μ-loop
+is-in-requires-3 c κs = search needs
+
+loop-less-2 : tie.Need-loop-less-2 Inv-loop μ-loop
+loop-less-2 c = search needs
+
+loop-again-2 : tie.Need-loop-again-2 Inv-loop μ-loop
+loop-again-2 c = (search needs, search (every-asked, in-three))
 
 returns : tie.Need-returns Inv-loop μ-loop
 returns c = search every-end
@@ -84,8 +106,15 @@ subset-of-three-spec =
     shared-slice-read-x
     array-read-hinted
     hinted-requires
-    found-of-three-requires
     add-i
+    add-if1
+    add-if1-2
+    word-of-three-requires
     loop-less
     loop-again
+    is-in-requires
+    is-in-requires-2
+    is-in-requires-3
+    loop-less-2
+    loop-again-2
     returns)
