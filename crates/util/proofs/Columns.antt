@@ -2,19 +2,18 @@
 -- Assumes nothing.
 use Prim.Native.Nat.{ℕ, _+_, _-_, _≤_, _<_}
 use mathlib.Core.Path.{_≡_, refl, sym, ap, _∙_}
-use mathlib.Core.List.{List, [], _∷_, _++_}
+use mathlib.Core.List.{List, [], _∷_}
 use native.Mathlib.Omega.{arith}
 use native.Mathlib.Nat.{zero-add, le-of-suc-le-suc, not-suc-le-zero}
-use lib.ListN.{length, take, drop, getD, set, length-append, length-drop}
+use lib.ListN.{length, take, getD, set}
 use lib.Seq.{length-take-le}
 use lib.Dec.{eqb}
 use Rattle.lists.specs.Array.{pad}
-use Rattle.lists.specs.Lists.{index-of, shift-remove, insert-at, without, renew}
-use Rattle.lists.proofs.Array.{length-pad, push-pad, length-shift-remove}
+use Rattle.lists.specs.Lists.{index-of, shift-remove, insert-at, without}
+use Rattle.lists.proofs.Array.{length-pad, length-shift-remove}
 use Rattle.lists.proofs.Choice.{split}
 use Rattle.lists.proofs.Rest.{Rest}
 use Rattle.lists.proofs.Search.{First, Place}
-use Rattle.lists.proofs.Sets.{renew-room, renew-full, shift-first}
 use Rattle.lists.proofs.Entries.{taken-is, Cutting, cutting-start, cutting-next, cutting-end, Putting, putting-start, putting-next, putting-end}
 use Rattle.util.specs.Section.{Filled}
 
@@ -115,44 +114,3 @@ module _ (s₀ : List ℕ) (n x : ℕ) (s : List ℕ) (m i : ℕ) (v : Dropping 
 
   pub dropping-count : m ≤ i → m ≡ length (without x (take n s₀))
   dropping-count h = sym (filled-length s m (v .filled)) ∙ ap length (nothing-left h)
-
--- ---- x is the newest; w is the column without it
-
-module _ (s w : List ℕ) (n m most x : ℕ) (e : w ≡ pad 0 (length s) (without x (take n s))) (q : m ≡ length (without x (take n s))) where
-  long : length w ≡ length s
-  long = ap length e ∙ length-pad 0 (length s) (without x (take n s))
-
-  grown : (xs : List ℕ) → length (xs ++ (x ∷ [])) ≡ length xs + 1
-  grown xs = length-append xs (x ∷ [])
-
-  pub renew-new : m < most → most ≤ length s → set w m x ≡ pad 0 (length s) (renew most x (take n s))
-  renew-new h k =
-      ap (λ (l : List ℕ). set l m x) e ∙ ap (λ (j : ℕ). set (pad 0 (length s) (without x (take n s))) j x) q
-      ∙ push-pad 0 (length s) (without x (take n s)) x (omega arith)
-      ∙ ap (pad 0 (length s)) (sym (renew-room most x (take n s) (omega arith)))
-
-  pub renew-more : m < most → m + 1 ≡ length (renew most x (take n s))
-  renew-more h =
-      omega (arith, ap length (renew-room most x (take n s) (omega arith)), grown (without x (take n s)))
-
-  pub renew-filled : m ≤ n → n ≤ length s → Filled w m
-  renew-filled h k = filled-of (length s) w (without x (take n s)) m e q (omega arith)
-
-  module _ (t : List ℕ) (o : 1 ≤ most) (h : most ≤ m) (b : m ≤ n) (k : n ≤ length s) (p : t ≡ pad 0 (length w) (shift-remove 0 (take m w))) where
-    oldest : t ≡ pad 0 (length s) (drop 1 (without x (take n s)))
-    oldest =
-        p ∙ (λ a. pad 0 (long a) (shift-first (take m w) a))
-        ∙ ap (λ (l : List ℕ). pad 0 (length s) (drop 1 l)) (taken-is 0 (length s) (without x (take n s)) w m e q (omega arith))
-
-    pub renew-old : set t (m - 1) x ≡ pad 0 (length s) (renew most x (take n s))
-    renew-old =
-        let d = length-drop 1 (without x (take n s)) in
-        let i : m - 1 ≡ length (drop 1 (without x (take n s))) = omega arith in
-        ap (λ (l : List ℕ). set l (m - 1) x) oldest
-        ∙ ap (λ (j : ℕ). set (pad 0 (length s) (drop 1 (without x (take n s)))) j x) i
-        ∙ push-pad 0 (length s) (drop 1 (without x (take n s))) x (omega arith)
-        ∙ ap (pad 0 (length s)) (sym (renew-full most x (take n s) o (omega arith)))
-
-pub renew-same : (s : List ℕ) (n m most x : ℕ) → m ≡ length (without x (take n s)) → 1 ≤ most → most ≤ m → m ≡ length (renew most x (take n s))
-renew-same s n m most x q o h =
-    omega (arith, ap length (renew-full most x (take n s) o (omega arith)), length-append (drop 1 (without x (take n s))) (x ∷ []), length-drop 1 (without x (take n s)))

@@ -6,7 +6,7 @@ use mathlib.Core.Bool.{Bool, true, false}
 use mathlib.Core.List.{List, [], _∷_, _++_}
 use native.Mathlib.Numerals.{add-one}
 use native.Mathlib.Omega.{arith}
-use lib.ListN.{length, take, drop, getD, set, length-set, length-append, List·getD-append}
+use lib.ListN.{length, take, drop, getD, set, length-set, length-append, length-drop, List·getD-append}
 use lib.Seq.{take-length, take-take, take-suc, getD-at, getD-append-add, getD-set-same, set-at, set-append-left, length-take-le}
 use lib.Dec.{eqb, leb}
 use borrow.Author.Tests.{lt-leb, le-leb, leb-true, eq-eqb, eqb-true}
@@ -18,7 +18,7 @@ use Rattle.lists.proofs.Array.{length-pad, getD-pad, set-pad, push-pad, pop-pad
 use Rattle.lists.proofs.Choice.{and-left, and-right}
 use Rattle.lists.proofs.Entries.{taken-is}
 use Rattle.lists.proofs.Search.{index-mem, index-not-mem}
-use Rattle.lists.proofs.Sets.{insert-there, insert-new}
+use Rattle.lists.proofs.Sets.{insert-there, insert-new, shift-first, renew-room, renew-full}
 use Rattle.lists.proofs.Tests.{both-true, packed-true, true-packed}
 use Rattle.scan.specs.Words.{unused}
 use Rattle.util.specs.Section.{part, Filled, items-at, ValidSet, HoldsSet, valid-set, section}
@@ -70,14 +70,6 @@ module _ (n : ℕ) (s : List ℕ) (x i : ℕ) (v : ValidSet n s) (e : i ≡ inde
       set-stored n s ys (insert x (items-at n s)) (getD s n 0 + 1) v
       (o ∙ ap (pad 0 (length (part 0 n s))) (ap (λ (j : ℕ). insert-at j x (items-at n s)) r ∙ sym w))
       (omega (arith, v .counted, ap length w, g)) f
-
-pub renewed : (n : ℕ) (s ys : List ℕ) (k most x : ℕ) → ValidSet n s → ys ≡ pad 0 (length (part 0 n s)) (renew most x (take (getD s n 0) (part 0 n s)))
-    → k ≡ length (renew most x (take (getD s n 0) (part 0 n s))) → k ≤ length (part 0 n s) → HoldsSet n (set (putMid 0 n s ys) n k) (renew most x (items-at n s))
-unfolding items-at
-renewed n s ys k most x v o q h = set-stored n s ys _ k v o q (omega (arith, part-long 0 n s (omega (arith, v .long))))
-
-pub renew-room-there : (n : ℕ) (s : List ℕ) (most : ℕ) → ValidSet n s → most ≤ n → most ≤ length (part 0 n s)
-renew-room-there n s most v h = omega (arith, part-long 0 n s (omega (arith, v .long)))
 
 -- ---- what the leaves ask
 
@@ -152,6 +144,24 @@ set-as n s xs ys h e = record { valid = h .valid; items = h .items ∙ e }
 -- one step after another: r comes by f of t's items, and t holds xs
 pub set-then : (n : ℕ) {r t xs : List ℕ} (f : List ℕ → List ℕ) → HoldsSet n r (f (items-at n t)) → HoldsSet n t xs → HoldsSet n r (f xs)
 set-then n {r} f h k = set-as n r _ _ h (ap f (k .items))
+
+-- t is s without x, and u is t with x at the end; v is t without its first item
+module _ (n : ℕ) (s t : List ℕ) (most x : ℕ) (h : HoldsSet n t (without x (items-at n s))) where
+  others : length (without x (items-at n s)) ≡ getD t n 0
+  others = sym (ap length (h .items)) ∙ h .valid .counted
+
+  pub renew-new : (u : List ℕ) → getD t n 0 < most → HoldsSet n u (items-at n t ++ (x ∷ [])) → HoldsSet n u (renew most x (items-at n s))
+  renew-new u f k =
+      set-as n u _ _ k (ap (λ (l : List ℕ). l ++ (x ∷ [])) (h .items) ∙ sym (renew-room most x (items-at n s) (omega (arith, others))))
+
+  pub renew-old : (u v : List ℕ) → 1 ≤ most → most ≤ getD t n 0 → HoldsSet n u (items-at n v ++ (x ∷ [])) → HoldsSet n v (shift-remove 0 (items-at n t)) → HoldsSet n u (renew most x (items-at n s))
+  renew-old u v o f k g =
+      set-as n u _ _ k
+      (ap (λ (l : List ℕ). l ++ (x ∷ [])) (g .items ∙ shift-first (items-at n t) ∙ ap (drop 1) (h .items)) ∙ sym (renew-full most x (items-at n s) o (omega (arith, others))))
+
+pub renew-place : (n : ℕ) (t v : List ℕ) (most : ℕ) → HoldsSet n v (shift-remove 0 (items-at n t)) → ValidSet n t → 1 ≤ most → most ≤ getD t n 0 → length (items-at n v) < n
+renew-place n t v most g w o f =
+    omega (arith, ap length (g .items ∙ shift-first (items-at n t)), length-drop 1 (items-at n t), w .counted, w .fits)
 
 -- what is known of the list is known of the set
 pub set-length : (n : ℕ) (s xs : List ℕ) → HoldsSet n s xs → length (items-at n s) ≡ length xs

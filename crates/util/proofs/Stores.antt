@@ -1,13 +1,13 @@
 -- The loops of a column that store: its end is cleared, items leave it, and it is shuffled.
 -- Assumes nothing.
 use Prim.Native.Nat.{ℕ, _+_, _-_, _≤_, _<_}
-use mathlib.Core.Path.{_≡_, refl, sym, ap, _∙_}
+use mathlib.Core.Path.{_≡_, refl, sym, ap, _∙_, subst}
 use mathlib.Core.Bool.{Bool, true, false}
 use mathlib.Core.List.{List, [], _∷_, _++_, append-nil}
 use native.Mathlib.Numerals.{add-one}
 use native.Mathlib.Omega.{arith}
-use lib.ListN.{length, take, drop, getD, set, length-set, length-take, List·getD-eq-default}
-use lib.Seq.{append-snoc, length-take-le, take-suc-set, take-set-lt, getD-take, getD-set-other}
+use lib.ListN.{length, take, drop, getD, set, length-set, length-take, take-append-drop, List·getD-eq-default}
+use lib.Seq.{append-snoc, length-take-le, take-suc-set, take-set-lt, drop-set-lt, getD-take, getD-set-other}
 use Rattle.lists.specs.Array.{pad}
 use Rattle.lists.specs.Lists.{mem, swap, without-all}
 use Rattle.lists.proofs.Array.{length-pad, getD-pad, set-pad}
@@ -111,6 +111,12 @@ module _ (skip s₀ : List ℕ) (n : ℕ) (s : List ℕ) (m i : ℕ) (v : Packin
 
 -- ---- a shuffle
 
+swap-front : (n : ℕ) (s : List ℕ) (i j : ℕ) → i < n → j < n → take n (swap i j s) ≡ swap i j (take n s)
+unfolding swap
+swap-front n s i j a b =
+    take-set-lt n (set s i (getD s j 0)) j (getD s i 0) b ∙ ap (λ (l : List ℕ). set l j (getD s i 0)) (take-set-lt n s i (getD s j 0) a)
+    ∙ (λ e. set (set (take n s) i (sym (getD-take n s j 0 b) e)) j (sym (getD-take n s i 0 a) e))
+
 pub record Mixing (ds : List ℕ) (at n : ℕ) (s₀ s : List ℕ) (i k : ℕ) : Type 0 where
   pub filled : Filled s₀ n
   pub long : length s ≡ length s₀
@@ -123,20 +129,20 @@ pub record Mixing (ds : List ℕ) (at n : ℕ) (s₀ s : List ℕ) (i k : ℕ) :
   pub same : shuffle (drop at ds) (take n s₀) ≡ shuffle-down i (drop k ds) (take n s)
 
 module _ (s : List ℕ) (ds : List ℕ) (at n : ℕ) (f : Filled s n) where
-  pub mixing-few : n < 2 → s ≡ pad 0 (length s) (shuffle (drop at ds) (take n s))
+  mixing-few : n < 2 → s ≡ pad 0 (length s) (shuffle (drop at ds) (take n s))
   unfolding shuffle shuffle-down
   mixing-few h =
       let z : 0 ≡ length (take n s) - 1 = omega (arith, filled-length s n f) in
       f .packed ∙ ap (λ (m : ℕ). pad 0 (length s) (shuffle-down m (drop at ds) (take n s))) z
 
-  pub mixing-none : n < 2 → at ≡ at + shuffle-draws (drop at ds) (take n s)
+  mixing-none : n < 2 → at ≡ at + shuffle-draws (drop at ds) (take n s)
   unfolding shuffle-draws draws-down
   mixing-none h =
       let z : 0 ≡ length (take n s) - 1 = omega (arith, filled-length s n f) in
       let e : draws-down (length (take n s) - 1) (drop at ds) ≡ 0 = ap (λ (m : ℕ). draws-down m (drop at ds)) (sym z) in
       omega (arith, e)
 
-  pub mixing-start : 2 ≤ n → n ≤ 32 → at ≤ length ds → Mixing ds at n s s (n - 1) at
+  mixing-start : 2 ≤ n → n ≤ 32 → at ≤ length ds → Mixing ds at n s s (n - 1) at
   unfolding shuffle shuffle-draws
   mixing-start h l m = record {
     filled = f;
@@ -151,22 +157,10 @@ module _ (s : List ℕ) (ds : List ℕ) (at n : ℕ) (f : Filled s n) where
   }
 
 module _ (ds : List ℕ) (at n : ℕ) (s₀ s : List ℕ) (i k : ℕ) (v : Mixing ds at n s₀ s i k) where
-  pub left-to-draw : k ≤ length ds + 32
+  left-to-draw : k ≤ length ds + 32
   left-to-draw = omega (arith, v .place, v .few, v .low)
 
-  pub drawn : (j : ℕ) → j < i + 1 → j < length s
-  drawn j h = omega (arith, v .low, v .room)
-
-  pub left-place : i < length s
-  left-place = omega (arith, v .low, v .room)
-
   module _ (j : ℕ) (b : j < n) where
-    exchanged : take n (swap i j s) ≡ swap i j (take n s)
-    unfolding swap
-    exchanged =
-        take-set-lt n (set s i (getD s j 0)) j (getD s i 0) b ∙ ap (λ (l : List ℕ). set l j (getD s i 0)) (take-set-lt n s i (getD s j 0) (v .low))
-        ∙ (λ a. set (set (take n s) i (sym (getD-take n s j 0 b) a)) j (sym (getD-take n s i 0 (v .low)) a))
-
     kept : swap i j s ≡ pad 0 (length s₀) (take n (swap i j s))
     unfolding swap
     kept =
@@ -176,7 +170,7 @@ module _ (ds : List ℕ) (at n : ℕ) (s₀ s : List ℕ) (i k : ℕ) (v : Mixin
         ∙ set-pad 0 (length s₀) (set (take n s) i (getD s j 0)) j (getD s i 0) (omega (arith, length-set (take n s) i (getD s j 0)))
         ∙ ap (pad 0 (length s₀)) (sym (take-set-lt n (set s i (getD s j 0)) j (getD s i 0) b ∙ ap (λ (t : List ℕ). set t j (getD s i 0)) (take-set-lt n s i (getD s j 0) (v .low))))
 
-  pub mixing-next : (t : List ℕ) (j m : ℕ) → t ≡ swap i j s → j ≡ pick (i + 1) (drop k ds) → j < i + 1 → m ≡ k + pick-draws (i + 1) (drop k ds) → 0 < i → Mixing ds at n s₀ t (i - 1) m
+  mixing-next : (t : List ℕ) (j m : ℕ) → t ≡ swap i j s → j ≡ pick (i + 1) (drop k ds) → j < i + 1 → m ≡ k + pick-draws (i + 1) (drop k ds) → 0 < i → Mixing ds at n s₀ t (i - 1) m
   mixing-next t j m e p q z h =
       let b : j < n = omega (arith, v .low) in
       let l : length t ≡ length s = ap length e ∙ length-swapped i j s in
@@ -190,30 +184,86 @@ module _ (ds : List ℕ) (at n : ℕ) (s₀ s : List ℕ) (i k : ℕ) (v : Mixin
         taken = omega (arith, v .taken, draws-step i ds k h, ap (λ (x : ℕ). draws-down (i - 1) (drop x ds)) z);
         packed = e ∙ kept j b ∙ ap (λ (u : List ℕ). pad 0 (length s₀) (take n u)) (sym e);
         same = v .same ∙ shuffle-step i ds k (take n s) h
-            ∙ (λ a. shuffle-down (i - 1) (drop (sym z a) ds) (swap i (sym p a) (take n s))) ∙ ap (shuffle-down (i - 1) (drop m ds)) (sym (exchanged j b) ∙ ap (take n) (sym e));
+            ∙ (λ a. shuffle-down (i - 1) (drop (sym z a) ds) (swap i (sym p a) (take n s))) ∙ ap (shuffle-down (i - 1) (drop m ds)) (sym (swap-front n s i j (v .low) b) ∙ ap (take n) (sym e));
       }
 
-  pub mixing-taken : i ≤ 0 → k ≡ at + shuffle-draws (drop at ds) (take n s₀)
+  mixing-taken : i ≤ 0 → k ≡ at + shuffle-draws (drop at ds) (take n s₀)
   unfolding draws-down
   mixing-taken h =
       let z : i ≡ 0 = omega arith in
       let e : draws-down i (drop k ds) ≡ 0 = ap (λ (m : ℕ). draws-down m (drop k ds)) z in
       omega (arith, v .taken, e)
 
-  pub mixing-end : i ≤ 0 → s ≡ pad 0 (length s₀) (shuffle (drop at ds) (take n s₀))
+  mixing-end : i ≤ 0 → s ≡ pad 0 (length s₀) (shuffle (drop at ds) (take n s₀))
   unfolding shuffle-down
   mixing-end h =
       let z : i ≡ 0 = omega arith in
       v .packed ∙ ap (pad 0 (length s₀)) (sym (v .same ∙ ap (λ (m : ℕ). shuffle-down m (drop k ds) (take n s)) z))
 
-pub mixed : (n : ℕ) (s ys ds : List ℕ) (at : ℕ) → ValidSet n s → ys ≡ pad 0 (length (part 0 n s)) (shuffle (drop at ds) (take (getD s n 0) (part 0 n s)))
+mixed : (n : ℕ) (s ys ds : List ℕ) (at : ℕ) → ValidSet n s → ys ≡ pad 0 (length (part 0 n s)) (shuffle (drop at ds) (take (getD s n 0) (part 0 n s)))
     → HoldsSet n (putMid 0 n s ys) (shuffle (drop at ds) (items-at n s))
 unfolding items-at
 mixed n s ys ds at v o = rearranged n s v ys (shuffle (drop at ds) (items-at n s)) o (length-shuffled (drop at ds) (items-at n s))
 
-pub few-mixed : (n : ℕ) (s : List ℕ) → ValidSet n s → n ≤ 32 → getD s n 0 ≤ 32
-few-mixed n s v h = omega (arith, v .fits)
-
-pub mixed-taken : (n : ℕ) (s ds : List ℕ) (at k : ℕ) → k ≡ at + shuffle-draws (drop at ds) (take (getD s n 0) (part 0 n s)) → k ≡ at + shuffle-draws (drop at ds) (items-at n s)
+mixed-taken : (n : ℕ) (s ds : List ℕ) (at k : ℕ) → k ≡ at + shuffle-draws (drop at ds) (take (getD s n 0) (part 0 n s)) → k ≡ at + shuffle-draws (drop at ds) (items-at n s)
 unfolding items-at
 mixed-taken n s ds at k e = e
+
+-- ---- a set's column is shuffled in its place
+
+-- s is s₀ but for the column, which is as the shuffle left it
+pub record Turning (ds : List ℕ) (at n : ℕ) (s₀ s : List ℕ) (i k : ℕ) : Type 0 where
+  pub valid : ValidSet n s₀
+  pub long : length s ≡ n + 1
+  pub column : Mixing ds at (getD s₀ n 0) (part 0 n s₀) (part 0 n s) i k
+  pub rest : drop n s ≡ drop n s₀
+
+put-back : (n : ℕ) (s₀ s : List ℕ) → drop n s ≡ drop n s₀ → putMid 0 n s₀ (part 0 n s) ≡ s
+unfolding part
+put-back n s₀ s e = ap (λ (l : List ℕ). take n s ++ l) (sym e) ∙ take-append-drop n s
+
+module _ (n : ℕ) (s ds : List ℕ) (at : ℕ) (v : ValidSet n s) where
+  pub turn-few : getD s n 0 < 2 → HoldsSet n s (shuffle (drop at ds) (items-at n s))
+  turn-few h =
+      subst (λ (t : List ℕ). HoldsSet n t (shuffle (drop at ds) (items-at n s))) (put-back n s s refl) (mixed n s (part 0 n s) ds at v (mixing-few (part 0 n s) ds at (getD s n 0) (v .filled) h))
+
+  pub turn-none : getD s n 0 < 2 → at ≡ at + shuffle-draws (drop at ds) (items-at n s)
+  turn-none h = mixed-taken n s ds at at (mixing-none (part 0 n s) ds at (getD s n 0) (v .filled) h)
+
+  pub turn-start : n ≤ 32 → at ≤ length ds → 2 ≤ getD s n 0 → Turning ds at n s s (getD s n 0 - 1) at
+  turn-start w l h =
+      record {
+        valid = v;
+        long = v .long;
+        column = mixing-start (part 0 n s) ds at (getD s n 0) (v .filled) h (omega (arith, v .fits)) l;
+        rest = refl;
+      }
+
+module _ (ds : List ℕ) (at n : ℕ) (s₀ s : List ℕ) (i k : ℕ) (v : Turning ds at n s₀ s i k) where
+  pub turn-left : k ≤ length ds + 32
+  turn-left = left-to-draw ds at _ _ _ i k (v .column)
+
+  pub turn-place : i < length s
+  turn-place = omega (arith, v .long, v .column .low, v .valid .fits)
+
+  pub turn-drawn : (j : ℕ) → j < i + 1 → j < length s
+  turn-drawn j h = omega (arith, turn-place)
+
+  pub turn-next : (j m : ℕ) → j ≡ pick (i + 1) (drop k ds) → j < i + 1 → m ≡ k + pick-draws (i + 1) (drop k ds) → 0 < i → Turning ds at n s₀ (set (set s i (getD s j 0)) j (getD s i 0)) (i - 1) m
+  unfolding part swap
+  turn-next j m p q z h =
+      let a : i < n = omega (arith, v .column .low, v .valid .fits) in
+      let b : j < n = omega arith in
+      record {
+        valid = v .valid;
+        long = length-set (set s i (getD s j 0)) j (getD s i 0) ∙ length-set s i (getD s j 0) ∙ v .long;
+        column = mixing-next ds at _ _ _ i k (v .column) _ j m (swap-front n s i j a b) p q z h;
+        rest = drop-set-lt n (set s i (getD s j 0)) j (getD s i 0) b ∙ drop-set-lt n s i (getD s j 0) a ∙ v .rest;
+      }
+
+  pub turn-taken : i ≤ 0 → k ≡ at + shuffle-draws (drop at ds) (items-at n s₀)
+  turn-taken h = mixed-taken n s₀ ds at k (mixing-taken ds at _ _ _ i k (v .column) h)
+
+  pub turn-end : i ≤ 0 → HoldsSet n s (shuffle (drop at ds) (items-at n s₀))
+  turn-end h =
+      subst (λ (t : List ℕ). HoldsSet n t (shuffle (drop at ds) (items-at n s₀))) (put-back n s₀ s (v .rest)) (mixed n s₀ (part 0 n s) ds at (v .valid) (mixing-end ds at _ _ _ i k (v .column) h))

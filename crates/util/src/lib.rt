@@ -5,7 +5,7 @@ ghost use mathlib.Core.List.{[], _∷_, _++_};
 ghost use Prim.Native.Nat.{_+_, _≤_, _<_};
 ghost use lib.ListN.{length, take, drop, getD};
 ghost use Rattle.lists.specs.Array.{pad};
-ghost use Rattle.lists.specs.Lists.{null, mem, index-of, rank, shift-remove, swap-remove, remove, insert-at, insert, without, without-all, renew, swap, distinct, rising, subset, disjoint};
+ghost use Rattle.lists.specs.Lists.{null, mem, index-of, rank, shift-remove, swap-remove, remove, insert-at, insert, without, without-all, renew, distinct, rising, subset, disjoint};
 ghost use Rattle.lists.specs.Tests.{every};
 ghost use Rattle.util.specs.Chances.{pick-draws, pick, shuffle, shuffle-draws};
 ghost use Rattle.scan.specs.Words.{unused};
@@ -104,23 +104,6 @@ fn without_in(s: &mut [u64], n: usize, x: PeerId) -> usize
     m
 }
 
-// x as the newest of at most `most`; the answer is how many there are.
-fn renew_in(s: &mut [u64], n: usize, most: usize, x: PeerId) -> usize
-    requires { ⌜ Filled (now s) n ⌝ }
-    requires { ⌜ (1 ≤ most) × (most ≤ length (now s)) ⌝ }
-    ensures { λ r. ⌜ now (s .exit) ≡ pad 0 (length (now (s .entry))) (renew most x (take n (now (s .entry)))) ⌝ }
-    ensures { λ r. ⌜ (r ≡ length (renew most x (take n (now (s .entry))))) × (r ≤ length (now (s .entry))) ⌝ }
-{
-    let m = without_in(s, n, x);
-    if m < most {
-        s[m] = x;
-        return m + 1;
-    }
-    take_out(s, m, 0);
-    s[m - 1] = x;
-    m
-}
-
 // Whether the places from n on are zero.
 pub fn zero_from(s: &[u64], n: usize) -> bool
     requires { ⌜ n ≤ length (now s) ⌝ }
@@ -169,17 +152,6 @@ pub fn without_all_in(s: &mut [u64], n: usize, skip: &[PeerId]) -> usize
     m
 }
 
-// The words at places i and j exchanged.
-fn exchange(s: &mut [u64], i: usize, j: usize)
-    requires { ⌜ (i < length (now s)) × (j < length (now s)) ⌝ }
-    ensures { λ _. ⌜ now (s .exit) ≡ swap i j (now (s .entry)) ⌝ }
-{
-    let x = s[i];
-    let y = s[j];
-    s[i] = y;
-    s[j] = x;
-}
-
 // One of n places, by the first draw from place `at` on that is below the largest multiple of n not above 2^32: the others are passed over. Where there is none, the place
 // is 0, and `next` is past the draws.
 pub fn pick_index(draws: &[u32], at: usize, n: usize) -> PickedIndex
@@ -207,28 +179,6 @@ pub fn pick_index(draws: &[u32], at: usize, n: usize) -> PickedIndex
         index: 0,
         next: past,
     }
-}
-
-// In the order that the draws from place `at` on decide; the answer is the place in the draws after them, past the end where there are too few.
-fn shuffle_in(s: &mut [u64], n: usize, draws: &[u32], at: usize) -> usize
-    requires { ⌜ Filled (now s) n ⌝ }
-    requires { ⌜ n ≤ working-places ⌝ }
-    requires { ⌜ at ≤ length (now draws) ⌝ }
-    ensures { λ _. ⌜ now (s .exit) ≡ pad 0 (length (now (s .entry))) (shuffle (drop at (now (draws .entry))) (take n (now (s .entry)))) ⌝ }
-    ensures { λ r. ⌜ r ≡ at + shuffle-draws (drop at (now (draws .entry))) (take n (now (s .entry))) ⌝ }
-{
-    if n < 2 {
-        return at;
-    }
-    let mut i = n - 1;
-    let mut k = at;
-    while 0 < i {
-        let p = pick_index(draws, k, i + 1);
-        exchange(s, i, p.index);
-        k = p.next;
-        i -= 1;
-    }
-    k
 }
 
 // The first n items as a working set, whatever t held.
@@ -431,9 +381,14 @@ pub fn renew(s: &mut [u64], cap: usize, most: usize, x: PeerId)
     requires { ⌜ (1 ≤ most) × (most ≤ cap) ⌝ }
     ensures { λ _. ⌜ HoldsSet cap (now (s .exit)) (renew most x (items-at cap (now (s .entry)))) ⌝ }
 {
+    without(s, cap, x);
     let n = s[cap] as usize;
-    let m = renew_in(&mut s[..cap], n, most, x);
-    s[cap] = m as u64;
+    if n < most {
+        push(s, cap, x);
+        return;
+    }
+    shift_remove_index(s, cap, 0);
+    push(s, cap, x);
 }
 
 // The first k items.
@@ -470,7 +425,23 @@ pub fn shuffle(s: &mut [u64], cap: usize, draws: &[u32], at: usize) -> usize
     ensures { λ r. ⌜ r ≡ at + shuffle-draws (drop at (now (draws .entry))) (items-at cap (now (s .entry))) ⌝ }
 {
     let n = s[cap] as usize;
-    shuffle_in(&mut s[..cap], n, draws, at)
+    if n < 2 {
+        return at;
+    }
+    let mut i = n - 1;
+    let mut k = at;
+    while 0 < i {
+        let p = pick_index(draws, k, i + 1);
+        // The words at places i and j are exchanged.
+        let j = p.index;
+        let x = s[i];
+        let y = s[j];
+        s[i] = y;
+        s[j] = x;
+        k = p.next;
+        i -= 1;
+    }
+    k
 }
 
 // The items of s, and whatever t held is gone.
