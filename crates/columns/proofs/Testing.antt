@@ -46,22 +46,6 @@ module _ (n : ℕ) (m : List ℕ) (l : length m ≡ n + n + (n + n) + 1) where
   read i h =
       sym (getD-rows i unread _ _ _ lows highs (omega (arith, lens)) ∙ (λ j. row (head-read n m i h j) (low-read n m i h j) (high-read n m i h j)))
 
-  pub rows-start : (k : ℕ) → k ≤ n → Rest (Every valid-entry) n (entries-at n m) k (every valid-entry (take k (entries-at n m))) 0 0
-  rows-start k h = every-first valid-entry unread n (entries-at n m) k h entries-long
-
-  module _ (k : ℕ) (whole : Bool) (i : ℕ) (v : Rest (Every valid-entry) n (entries-at n m) k whole i i) (half : ℕ) (z : half ≡ n + n) (b : Bool) (q : b ≡ valid-entry (row (getD m (n + i) 0) (getD m (half + i) 0) (getD m (half + n + i) 0))) (h : i < k) where
-    is : b ≡ valid-entry (getD (entries-at n m) i unread)
-    is = q ∙ (λ j. valid-entry (row (getD m (n + i) 0) (getD m (z j + i) 0) (getD m (z j + n + i) 0))) ∙ ap valid-entry (read i (omega (arith, v .top)))
-
-    pub rows-no : b ≡ false → false ≡ whole
-    rows-no e = every-stop valid-entry unread n (entries-at n m) k whole i v b is e h
-
-    pub rows-next : b ≡ true → Rest (Every valid-entry) n (entries-at n m) k whole (i + 1) (i + 1)
-    rows-next e = every-go valid-entry unread n (entries-at n m) k whole i v b is e h
-
-pub rows-end : (n : ℕ) (m : List ℕ) (k : ℕ) (whole : Bool) (i : ℕ) → Rest (Every valid-entry) n (entries-at n m) k whole i i → k ≤ i → true ≡ whole
-rows-end n m k whole i v h = every-end valid-entry unread n (entries-at n m) k whole i v h
-
 -- ---- the zeroes
 
 packed-is : (n k : ℕ) (s : List ℕ) → length s ≡ n → packed unused n k s ≡ every unused (drop k s)
@@ -86,15 +70,20 @@ module _ (n : ℕ) (s : List ℕ) (k : ℕ) (l : length s ≡ n + n) where
 
 -- ---- the test
 
+-- the zeroes were seen: the entries from i on are to be looked at, and then whether the peers rise
+pub record Rows (n : ℕ) (m : List ℕ) (half k i : ℕ) : Type 0 where
+  pub long : length m ≡ n + n + (n + n) + 1
+  pub doubled : half ≡ n + n
+  pub fits : k ≤ n
+  pub left : valid-data-words n m ≡ (every valid-entry (take k (entries-at n m)) && rising (take k (head-of n m)))
+  pub rest : Rest (Every valid-entry) n (entries-at n m) k (every valid-entry (take k (entries-at n m))) i i
+
 module _ (n : ℕ) (m : List ℕ) (l : length m ≡ n + n + (n + n) + 1) where
   pub words-inside : n + n ≡ length (part 0 (n + n) m)
   words-inside = sym (part-long 0 (n + n) m (omega arith))
 
   pub words-size : length (part 0 (n + n) m) ≡ n + n
   words-size = part-long 0 (n + n) m (omega arith)
-
-  pub words-count : count-of n m ≤ n → count-of n m ≤ length (part 0 (n + n) m)
-  words-count h = omega (arith, words-size)
 
   pub words-no : n < count-of n m → false ≡ valid-data-words n m
   unfolding valid-data-words
@@ -130,12 +119,47 @@ module _ (n : ℕ) (m : List ℕ) (l : length m ≡ n + n + (n + n) + 1) where
       pub words-second : b ≡ false → false ≡ valid-data-words n m
       words-second f = sym (words-is h ∙ rw (← p, e, ← second, f))
 
-      module _ (r : Bool) (o : r ≡ every valid-entry (take (count-of n m) (entries-at n m))) (f : b ≡ true) where
-        pub words-rows : r ≡ false → false ≡ valid-data-words n m
-        words-rows g = sym (words-is h ∙ rw (← p, e, ← second, f, ← o, g))
+      -- the entries are looked at from the first on
+      pub rows-start : b ≡ true → Rows n m (n + n) (count-of n m) 0
+      rows-start f =
+          record {
+            long = l;
+            doubled = refl;
+            fits = h;
+            left = words-is h ∙ rw (← p, e, ← second, f);
+            rest = every-first valid-entry unread n (entries-at n m) (count-of n m) h (entries-long n m l);
+          }
 
-        pub words-all : (t : Bool) → t ≡ rising (take (count-of n m) (head-of n m)) → r ≡ true → t ≡ valid-data-words n m
-        words-all t y g = y ∙ sym (words-is h ∙ rw (← p, e, ← second, f, ← o, g))
+module _ (n : ℕ) (m : List ℕ) (half k i : ℕ) (v : Rows n m half k i) where
+  pub rows-inside : half ≡ length (part 0 half m)
+  rows-inside = sym (part-long 0 half m (omega (arith, v .long, v .doubled)))
+
+  pub rows-count : k ≤ length (part 0 half m)
+  rows-count = omega (arith, rows-inside, v .doubled, v .fits)
+
+  pub rows-all : (t : Bool) → t ≡ rising (take k (part 0 half m)) → k ≤ i → t ≡ valid-data-words n m
+  unfolding head-of
+  rows-all t y h =
+      y ∙ ap (λ (j : ℕ). rising (take k (part 0 j m))) (v .doubled) ∙ sym (v .left ∙ rw (← every-end valid-entry unread n (entries-at n m) k _ i (v .rest) h))
+
+  module _ (b : Bool) (q : b ≡ valid-entry (row (getD m (n + i) 0) (getD m (half + i) 0) (getD m (half + n + i) 0))) (h : i < k) where
+    is : b ≡ valid-entry (getD (entries-at n m) i unread)
+    is =
+        q ∙ (λ j. valid-entry (row (getD m (n + i) 0) (getD m (v .doubled j + i) 0) (getD m (v .doubled j + n + i) 0)))
+        ∙ ap valid-entry (read n m (v .long) i (omega (arith, v .fits)))
+
+    pub rows-no : b ≡ false → false ≡ valid-data-words n m
+    rows-no e = sym (v .left ∙ rw (← every-stop valid-entry unread n (entries-at n m) k _ i (v .rest) b is e h))
+
+    pub rows-next : b ≡ true → Rows n m half k (i + 1)
+    rows-next e =
+        record {
+          long = v .long;
+          doubled = v .doubled;
+          fits = v .fits;
+          left = v .left;
+          rest = every-go valid-entry unread n (entries-at n m) k _ i (v .rest) b is e h;
+        }
 
 -- ---- what the test says
 

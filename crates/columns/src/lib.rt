@@ -10,14 +10,14 @@ ghost use lib.ListN.{length, take, drop};
 ghost use lib.Dec.{ltb};
 ghost use Rattle.lists.specs.Lists.{shift-remove, insert-at, subset};
 ghost use Rattle.lists.specs.Maps.{keys, has, lookup, cut, retain, put};
-ghost use Rattle.lists.specs.Tests.{every, packed};
+ghost use Rattle.lists.specs.Tests.{packed};
 ghost use Rattle.lists.specs.Bytes.{le};
 ghost use Rattle.peer.specs.Data.{bytes-of, holds};
 ghost use Rattle.peer.specs.Held.{data-in, ValidData, HoldsData};
 ghost use Rattle.peer.specs.Maps.{number-in, valid-entry};
 ghost use Rattle.scan.specs.Words.{unused};
 ghost use Rattle.util.specs.Section.{part, working-places, Filled, items-at, ValidSet, HoldsSet};
-ghost use Rattle.columns.specs.Columns.{active-places, known-places, numbers-at, ValidNumbers, HoldsNumbers, valid-numbers, Two, word-bytes, row, entries-at, data-map-at, ValidDataWords, HoldsDataWords, valid-data-words, words-end};
+ghost use Rattle.columns.specs.Columns.{active-places, known-places, numbers-at, ValidNumbers, HoldsNumbers, valid-numbers, Two, word-bytes, row, data-map-at, ValidDataWords, HoldsDataWords, valid-data-words, words-end};
 
 // ---- two columns of cap places
 
@@ -431,25 +431,7 @@ pub fn row_valid(l: u64, w: u64, x: u64) -> bool
     true
 }
 
-// Whether the first n entries are ones, of any words.
-fn rows_valid(m: &[u64], cap: usize, n: usize) -> bool
-    requires { ⌜ length (now m) ≡ cap + cap + (cap + cap) + 1 ⌝ }
-    requires { ⌜ n ≤ cap ⌝ }
-    ensures { λ r. ⌜ r ≡ every valid-entry (take n (entries-at cap (now (m .entry)))) ⌝ }
-{
-    let half = cap + cap;
-    let mut i: usize = 0;
-    while i < n {
-        if row_valid(m[cap + i], m[half + i], m[half + cap + i]) {
-            i += 1;
-        } else {
-            return false;
-        }
-    }
-    true
-}
-
-// Whether this is a map, of any words.
+// Whether this is a map, of any words: zeroes past the entries, each of which is one, and the peers rise.
 pub fn data_valid(m: &[u64], cap: usize) -> bool
     requires { ⌜ length (now m) ≡ cap + cap + (cap + cap) + 1 ⌝ }
     ensures { λ r. ⌜ r ≡ valid-data-words cap (now (m .entry)) ⌝ }
@@ -462,9 +444,15 @@ pub fn data_valid(m: &[u64], cap: usize) -> bool
     }
     if zero_two(&m[..half], cap, n) {
         if zero_two(&m[half..end], cap, n) {
-            if rows_valid(m, cap, n) {
-                return util::rises(&m[..half], n);
+            let mut i: usize = 0;
+            while i < n {
+                if row_valid(m[cap + i], m[half + i], m[half + cap + i]) {
+                    i += 1;
+                } else {
+                    return false;
+                }
             }
+            return util::rises(&m[..half], n);
         }
     }
     false

@@ -316,16 +316,6 @@ impl RefillLimit {
 
 // ---- draws
 
-// The draw at a place, 0 where there is none.
-fn draw_at(draws: &[u32], at: usize) -> u32
-    ensures { λ r. ⌜ r ≡ getD (now (draws .entry)) at 0 ⌝ }
-{
-    if at < draws.len() {
-        return draws[at];
-    }
-    0
-}
-
 // The work that has taken the draws before `next`; code 5 where there are not so many.
 fn reach(w: Work, draws: &[u32], next: usize) -> Work
     requires { ⌜ w .drawn ≤ length (now draws) ⌝ }
@@ -349,12 +339,15 @@ pub fn draw(w: Work, draws: &[u32]) -> Drawn
     ensures { λ r. ⌜ DrawsAny (draw 1) w (r .work) (now (draws .entry)) ⌝ }
     ensures { λ r. ⌜ r .value ≡ getD (now (draws .entry)) (w .drawn) 0 ⌝ }
 {
-    let value = draw_at(draws, w.drawn);
-    let a = reach(w, draws, w.drawn + 1);
-    Drawn {
-        work: a,
-        value: value,
+    let at = w.drawn;
+    let a = reach(w, draws, at + 1);
+    if at < draws.len() {
+        return Drawn {
+            work: a,
+            value: draws[at],
+        };
     }
+    Drawn { work: a, value: 0 }
 }
 
 // Takes the draws that decide one of n places, with those passed over; code 5 where none is kept.

@@ -1,10 +1,8 @@
 use Rattle.state.proofs.Any.{drew-one}
+use Rattle.state.proofs.Bridge.{getD-past}
 use borrow.Author.Needs.{needs}
 use Rattle.state.proofs.draw.Statement.{statement}
 use Rattle.state.proofs.draw.Tie as tie
-
-draw-at-requires : tie.Need-draw-at-requires
-draw-at-requires c κs = search needs
 
 add-reach : tie.Need-add-reach
 add-reach c = search needs
@@ -12,8 +10,18 @@ add-reach c = search needs
 reach-requires : tie.Need-reach-requires
 reach-requires c κs = search needs
 
+mul-t7 : tie.Need-mul-t7
+mul-t7 c = search needs
+
+shared-slice-read-t9 : tie.Need-shared-slice-read-t9
+shared-slice-read-t9 c = search needs
+
 returns : tie.Need-returns
 returns c = (search drew-one, search needs)
 
+returns-2 : tie.Need-returns-2
+returns-2 c = (search drew-one, search getD-past)
+
 pub draw-spec : {M : Type 1} → statement M
-draw-spec = tie.close (tie.spec draw-at-requires add-reach reach-requires returns)
+draw-spec =
+    tie.close (tie.spec add-reach reach-requires mul-t7 shared-slice-read-t9 returns returns-2)
