@@ -6,7 +6,7 @@ use mathlib.Core.Bool.{Bool, cond}
 use mathlib.Core.List.{List, [], _∷_, _++_, append-nil, append-assoc}
 use native.Mathlib.Omega.{arith}
 use lib.ListN.{length, take, drop, getD, drop-of-length-le}
-use lib.Seq.{take-all, length-take-le, drop-cons}
+use lib.Seq.{take-all, length-take-le, drop-cons, getD-take}
 use lib.Dec.{leb}
 use borrow.Author.Tests.{lt-ltb, le-ltb, leb-true, leb-false}
 use Rattle.lists.proofs.Choice.{split}
@@ -51,41 +51,39 @@ digit-low d h = ap (λ (b : Bool). cond b (48 + d) (87 + d)) (sym (lt-ltb d 10 h
 pub digit-high : (d : ℕ) → 10 ≤ d → 97 + (d - 10) ≡ glyph d
 digit-high d h = let e : 97 + (d - 10) ≡ 87 + d = omega (arith, h) in e ∙ ap (λ (b : Bool). cond b (48 + d) (87 + d)) (sym (le-ltb d 10 h))
 
--- i of the bytes s are written
-pub record Hexing (s : List ℕ) (t : Text) (out : List ℕ) (r : Text) (o : List ℕ) (i : ℕ) : Type 0 where
-  pub within : i ≤ length s
-  pub text : Writing (hex s) t out r o (hex (drop i s))
-
-pub hex-start : (s : List ℕ) (t : Text) (out : List ℕ) → Hexing s t out t out 0
-hex-start s t out = record { within = omega arith; text = writing-start (hex s) t out }
-
-module _ (s : List ℕ) (t : Text) (out : List ℕ) (r : Text) (o : List ℕ) (i : ℕ) (v : Hexing s t out r o i) where
-  two-digits : i < length s → hex (drop i s) ≡ (glyph (getD s i 0 / 16 % 16) ∷ glyph (getD s i 0 % 16) ∷ []) ++ hex (drop (i + 1) s)
-  unfolding hex
-  two-digits h = let e : suc i ≡ i + 1 = omega arith in ap hex (drop-cons s i 0 h ∙ ap (λ (j : ℕ). getD s i 0 ∷ drop j s) e)
-
-  pub hex-next : (y z : ℕ) (a : Text) (o₁ : List ℕ) (b : Text) (o₂ : List ℕ) → i < length s → y ≡ glyph (getD s i 0 / 16 % 16) → z ≡ glyph (getD s i 0 % 16)
-      → Puts (z ∷ []) a o₁ b o₂ → Puts (y ∷ []) r o a o₁ → length o₂ ≡ length o → Hexing s t out b o₂ (i + 1)
-  hex-next y z a o₁ b o₂ h e f l k q = record {
-    within = omega (arith, h);
-    text = writing-next (v .text) _ (hex (drop (i + 1) s)) (two-digits h ∙ (λ j. (sym e j ∷ sym f j ∷ []) ++ hex (drop (i + 1) s))) (then l k) q;
-  }
-
-  pub hex-end : length s ≤ i → Puts (hex s) t out r o
-  unfolding hex
-  hex-end h = writing-end (v .text) (ap hex (drop-of-length-le s h))
-
-pub counted-least : (n k : ℕ) (l : List ℕ) → k ≡ min n (length l) → k ≡ length (take k l)
-counted-least n k l e = sym (length-take-le k l (omega (arith, e)))
-
 -- the first n of the bytes, or all where there are fewer
-pub taken-least : (n k : ℕ) (l : List ℕ) → k ≡ min n (length l) → take k l ≡ take n l
+taken-least : (n k : ℕ) (l : List ℕ) → k ≡ min n (length l) → take k l ≡ take n l
 taken-least n k l e =
     split (leb n (length l)) (λ y. let h = leb-true n (length l) y in let q : k ≡ n = omega (arith, e, h) in ap (λ (j : ℕ). take j l) q)
     (λ f. let h = leb-false n (length l) f in let q : length l ≤ k = omega (arith, e, h) in let p : length l ≤ n = omega (arith, h) in take-all k l q ∙ sym (take-all n l p))
 
-pub front-put : (n k : ℕ) (l : List ℕ) (t r : Text) (out o : List ℕ) → k ≡ min n (length l) → Puts (hex (take k l)) t out r o → Puts (hex (take n l)) t out r o
-front-put n k l t r out o e p = named (ap hex (taken-least n k l e)) p
+-- i of the first k of the bytes s are written
+pub record Hexing (s : List ℕ) (k : ℕ) (t : Text) (out : List ℕ) (r : Text) (o : List ℕ) (i : ℕ) : Type 0 where
+  pub within : i ≤ k
+  pub inside : k ≤ length s
+  pub text : Writing (hex (take k s)) t out r o (hex (drop i (take k s)))
+
+pub hex-start : (s : List ℕ) (n k : ℕ) (t : Text) (out : List ℕ) → k ≡ min n (length s) → Hexing s k t out t out 0
+hex-start s n k t out e = record { within = omega arith; inside = omega (arith, e); text = writing-start (hex (take k s)) t out }
+
+module _ (s : List ℕ) (k : ℕ) (t : Text) (out : List ℕ) (r : Text) (o : List ℕ) (i : ℕ) (v : Hexing s k t out r o i) where
+  two-digits : i < k → hex (drop i (take k s)) ≡ (glyph (getD s i 0 / 16 % 16) ∷ glyph (getD s i 0 % 16) ∷ []) ++ hex (drop (i + 1) (take k s))
+  unfolding hex
+  two-digits h =
+      let e : suc i ≡ i + 1 = omega arith in
+      ap hex (drop-cons (take k s) i 0 (omega (arith, h, length-take-le k s (v .inside))) ∙ (λ j. getD-take k s i 0 h j ∷ drop (e j) (take k s)))
+
+  pub hex-next : (y z : ℕ) (a : Text) (o₁ : List ℕ) (b : Text) (o₂ : List ℕ) → i < k → y ≡ glyph (getD s i 0 / 16 % 16) → z ≡ glyph (getD s i 0 % 16)
+      → Puts (z ∷ []) a o₁ b o₂ → Puts (y ∷ []) r o a o₁ → length o₂ ≡ length o → Hexing s k t out b o₂ (i + 1)
+  hex-next y z a o₁ b o₂ h e f p₂ p₁ q = record {
+    within = omega (arith, h);
+    inside = v .inside;
+    text = writing-next (v .text) _ (hex (drop (i + 1) (take k s))) (two-digits h ∙ (λ j. (sym e j ∷ sym f j ∷ []) ++ hex (drop (i + 1) (take k s)))) (then p₂ p₁) q;
+  }
+
+  pub hex-end : (n : ℕ) → k ≤ i → k ≡ min n (length s) → Puts (hex (take n s)) t out r o
+  unfolding hex
+  hex-end n h e = named (ap hex (taken-least n k s e)) (writing-end (v .text) (ap hex (let q : length (take k s) ≤ i = omega (arith, h, length-take-le k s (v .inside)) in drop-of-length-le (take k s) q)))
 
 pub same-front : (n : ℕ) (b c : List ℕ) (t r : Text) (out o : List ℕ) → b ≡ c → Puts (hex (take n b)) t out r o → Puts (hex (take n c)) t out r o
 same-front n b c t r out o e p = named (ap (λ (x : List ℕ). hex (take n x)) e) p

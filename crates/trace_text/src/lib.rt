@@ -16,8 +16,8 @@ ghost use Rattle.state.specs.Unpack.{own-at};
 ghost use Rattle.run_text.specs.Text.{Puts};
 ghost use Rattle.run_text.specs.Numbers.{decimal};
 ghost use Rattle.trace_text.specs.Hex.{hex, hex-lines};
-ghost use Rattle.trace_text.specs.Items.{ascii, comma-before, item-text, list-field, number-field, numbered-text, held-text};
-ghost use Rattle.trace_text.specs.Event.{own-field, refill-field, views-text, open-text, kept-text, counts-text, state-line, trace-event};
+ghost use Rattle.trace_text.specs.Items.{ascii, item-text, list-field, number-field, numbered-text, held-text};
+ghost use Rattle.trace_text.specs.Event.{own-field, kept-text, trace-event};
 
 // ---- bytes in hex
 
@@ -27,20 +27,6 @@ fn hex_digit(x: u8) -> u8
 {
     let d = x % 16;
     if d < 10 { b'0' + d } else { b'a' + (d - 10) }
-}
-
-fn put_hex(out: &mut [u8], t: Text, s: &[u8]) -> Text
-    ensures { λ r. ⌜ Puts (hex (now (s .entry))) t (now (out .entry)) r (now (out .exit)) ⌝ }
-{
-    let mut r = t;
-    let mut i: usize = 0;
-    while i < s.len() {
-        let x = s[i];
-        r = run_text::put(out, r, hex_digit(x / 16));
-        r = run_text::put(out, r, hex_digit(x));
-        i += 1;
-    }
-    r
 }
 
 fn least(a: usize, b: usize) -> usize
@@ -54,7 +40,15 @@ fn put_front(out: &mut [u8], t: Text, bytes: &[u8], n: u64) -> Text
     ensures { λ r. ⌜ Puts (hex (take n (now (bytes .entry)))) t (now (out .entry)) r (now (out .exit)) ⌝ }
 {
     let k = least(n as usize, bytes.len());
-    put_hex(out, t, &bytes[..k])
+    let mut r = t;
+    let mut i: usize = 0;
+    while i < k {
+        let x = bytes[i];
+        r = run_text::put(out, r, hex_digit(x / 16));
+        r = run_text::put(out, r, hex_digit(x));
+        i += 1;
+    }
+    r
 }
 
 // The first n of the bytes in two words.
@@ -96,40 +90,15 @@ fn number_field(out: &mut [u8], t: Text, name: &[u8], n: u64) -> Text
     run_text::put_decimal(out, a, n)
 }
 
-// A comma before every item but the first.
-fn put_comma(out: &mut [u8], t: Text, i: usize) -> Text
-    ensures { λ r. ⌜ Puts (comma-before i) t (now (out .entry)) r (now (out .exit)) ⌝ }
-{
-    if i == 0 {
-        return t;
-    }
-    run_text::put(out, t, b',')
-}
-
-// The i-th item of a list of peers.
+// The i-th item of a list of peers; a comma before every item but the first.
 fn put_peer(out: &mut [u8], t: Text, i: usize, p: PeerId) -> Text
     ensures { λ r. ⌜ Puts (item-text decimal i p) t (now (out .entry)) r (now (out .exit)) ⌝ }
 {
-    let a = put_comma(out, t, i);
+    if i == 0 {
+        return run_text::put_decimal(out, t, p);
+    }
+    let a = run_text::put(out, t, b',');
     run_text::put_decimal(out, a, p)
-}
-
-// The i-th item of a list of peers with their numbers.
-fn put_numbered(out: &mut [u8], t: Text, i: usize, p: PeerId, n: u64) -> Text
-    ensures { λ r. ⌜ Puts (item-text numbered-text i (p, n)) t (now (out .entry)) r (now (out .exit)) ⌝ }
-{
-    let a = put_peer(out, t, i, p);
-    let b = run_text::put(out, a, b':');
-    run_text::put_decimal(out, b, n)
-}
-
-// The i-th item of a list of peers with their data: the first n of the bytes in two words.
-fn put_held(out: &mut [u8], t: Text, i: usize, p: PeerId, low: u64, high: u64, n: u64) -> Text
-    ensures { λ r. ⌜ Puts (item-text held-text i (p, take n (word-bytes low high))) t (now (out .entry)) r (now (out .exit)) ⌝ }
-{
-    let a = put_peer(out, t, i, p);
-    let b = run_text::put(out, a, b':');
-    put_data_hex(out, b, low, high, n)
 }
 
 // A field that is a list of peers, from its name and bracket on.
@@ -157,7 +126,9 @@ fn numbers_field(out: &mut [u8], t: Text, name: &[u8], m: &[u64], cap: usize) ->
     let mut r = run_text::put_bytes(out, t, name);
     let mut i: usize = 0;
     while i < n {
-        r = put_numbered(out, r, i, m[i], m[cap + i]);
+        r = put_peer(out, r, i, m[i]);
+        r = run_text::put(out, r, b':');
+        r = run_text::put_decimal(out, r, m[cap + i]);
         i += 1;
     }
     run_text::put(out, r, b']')
@@ -181,9 +152,11 @@ fn data_field(out: &mut [u8], t: Text, m: &[u64]) -> Text
     let mut r = run_text::put_bytes(out, t, b" data=[");
     let mut i: usize = 0;
     while i < n {
+        r = put_peer(out, r, i, m[i]);
+        r = run_text::put(out, r, b':');
         let low = m[DATA_LOW_WORDS + i];
         let high = m[DATA_HIGH_WORDS + i];
-        r = put_held(out, r, i, m[i], low, high, m[DATA_LENGTHS + i]);
+        r = put_data_hex(out, r, low, high, m[DATA_LENGTHS + i]);
         i += 1;
     }
     run_text::put(out, r, b']')
@@ -210,46 +183,7 @@ fn own_field(out: &mut [u8], t: Text, st: &[u64]) -> Text
     run_text::put(out, a, b'-')
 }
 
-fn refill_field(out: &mut [u8], t: Text, l: RefillLimit) -> Text
-    ensures { λ r. ⌜ Puts (refill-field l) t (now (out .entry)) r (now (out .exit)) ⌝ }
-{
-    let a = run_text::put_bytes(out, t, b" refill=");
-    match l {
-        RefillLimit::Automatic => run_text::put(out, a, b'A'),
-        RefillLimit::Requests(n) => {
-            let b = run_text::put(out, a, b'R');
-            run_text::put_decimal(out, b, n)
-        }
-        RefillLimit::Recovery => run_text::put(out, a, b'V'),
-    }
-}
-
-fn put_views(out: &mut [u8], t: Text, st: &[u64]) -> Text
-    requires { ⌜ length (now st) ≡ words ⌝ }
-    ensures { λ r. ⌜ Puts (views-text (now (st .entry))) t (now (out .entry)) r (now (out .exit)) ⌝ }
-{
-    let active = &st[Layout::ACTIVE..Layout::ACTIVE_END];
-    let passive = &st[Layout::PASSIVE..Layout::PASSIVE_END];
-    let bootstrap = &st[Layout::BOOTSTRAP..Layout::BOOTSTRAP_END];
-    let recent = &st[Layout::RECENT..Layout::RECENT_END];
-    let a = peers_field(out, t, b" active=[", active, Layout::FEW);
-    let b = peers_field(out, a, b" passive=[", passive, Layout::ALL);
-    let c = peers_field(out, b, b" bootstrap=[", bootstrap, Layout::FEW);
-    peers_field(out, c, b" recent=[", recent, Layout::FEW)
-}
-
-fn put_open(out: &mut [u8], t: Text, st: &[u64]) -> Text
-    requires { ⌜ length (now st) ≡ words ⌝ }
-    ensures { λ r. ⌜ Puts (open-text (now (st .entry))) t (now (out .entry)) r (now (out .exit)) ⌝ }
-{
-    let requests = &st[Layout::ASKED..Layout::ASKED_END];
-    let joins = &st[Layout::JOINS..Layout::JOINS_END];
-    let a = numbers_field(out, t, b" requests=[", requests, Layout::ALL);
-    let b = number_field(out, a, b" next_request=", st[Layout::NEXT_NEIGHBOR_REQUEST]);
-    let c = numbers_field(out, b, b" joins=[", joins, Layout::FEW);
-    number_field(out, c, b" next_join=", st[Layout::NEXT_JOIN])
-}
-
+// What is kept of other peers, and the limit on refills.
 fn put_kept(out: &mut [u8], t: Text, st: &[u64]) -> Text
     requires { ⌜ length (now st) ≡ words ⌝ }
     ensures { λ r. ⌜ Puts (kept-text (now (st .entry))) t (now (out .entry)) r (now (out .exit)) ⌝ }
@@ -261,30 +195,15 @@ fn put_kept(out: &mut [u8], t: Text, st: &[u64]) -> Text
     let a = data_field(out, t, data);
     let b = peers_field(out, a, b" alive=[", alive, Layout::ALL);
     let c = peers_field(out, b, b" refused=[", refused, Layout::ALL);
-    refill_field(out, c, refill)
-}
-
-// The timers, the interval and the pass counts, which end the line.
-fn put_counts(out: &mut [u8], t: Text, st: &[u64]) -> Text
-    requires { ⌜ length (now st) ≡ words ⌝ }
-    ensures { λ r. ⌜ Puts (counts-text (now (st .entry))) t (now (out .entry)) r (now (out .exit)) ⌝ }
-{
-    let a = number_field(out, t, b" timers=", st[Layout::TIMERS_SCHEDULED]);
-    let b = number_field(out, a, b" interval=", st[Layout::NEXT_SHUFFLE_INTERVAL]);
-    let c = number_field(out, b, b" alone=", st[Layout::PASSES_ALONE]);
-    let d = number_field(out, c, b" short=", st[Layout::PASSES_SHORT]);
-    run_text::put(out, d, b'\n')
-}
-
-fn put_state(out: &mut [u8], t: Text, st: &[u64]) -> Text
-    requires { ⌜ length (now st) ≡ words ⌝ }
-    ensures { λ r. ⌜ Puts (state-line (now (st .entry))) t (now (out .entry)) r (now (out .exit)) ⌝ }
-{
-    let a = own_field(out, t, st);
-    let b = put_views(out, a, st);
-    let c = put_open(out, b, st);
-    let d = put_kept(out, c, st);
-    put_counts(out, d, st)
+    let d = run_text::put_bytes(out, c, b" refill=");
+    match refill {
+        RefillLimit::Automatic => run_text::put(out, d, b'A'),
+        RefillLimit::Requests(n) => {
+            let e = run_text::put(out, d, b'R');
+            run_text::put_decimal(out, e, n)
+        }
+        RefillLimit::Recovery => run_text::put(out, d, b'V'),
+    }
 }
 
 // One event: its output records, its code with the draws used, and the state.
@@ -300,5 +219,29 @@ pub fn put_trace_event(
 {
     let a = put_record_lines(out, t, records);
     let b = run_text::put_end(out, a, code, draws as u64);
-    put_state(out, b, st)
+    let words: &[u64] = st;
+    let c = own_field(out, b, words);
+    let active = &words[Layout::ACTIVE..Layout::ACTIVE_END];
+    let passive = &words[Layout::PASSIVE..Layout::PASSIVE_END];
+    let bootstrap = &words[Layout::BOOTSTRAP..Layout::BOOTSTRAP_END];
+    let recent = &words[Layout::RECENT..Layout::RECENT_END];
+    let requests = &words[Layout::ASKED..Layout::ASKED_END];
+    let joins = &words[Layout::JOINS..Layout::JOINS_END];
+    // the views and the peers beside them
+    let d = peers_field(out, c, b" active=[", active, Layout::FEW);
+    let e = peers_field(out, d, b" passive=[", passive, Layout::ALL);
+    let f = peers_field(out, e, b" bootstrap=[", bootstrap, Layout::FEW);
+    let g = peers_field(out, f, b" recent=[", recent, Layout::FEW);
+    // the open requests and joins
+    let h = numbers_field(out, g, b" requests=[", requests, Layout::ALL);
+    let i = number_field(out, h, b" next_request=", st[Layout::NEXT_NEIGHBOR_REQUEST]);
+    let j = numbers_field(out, i, b" joins=[", joins, Layout::FEW);
+    let k = number_field(out, j, b" next_join=", st[Layout::NEXT_JOIN]);
+    let l = put_kept(out, k, words);
+    // the timers, the interval and the pass counts, which end the line
+    let m = number_field(out, l, b" timers=", st[Layout::TIMERS_SCHEDULED]);
+    let n = number_field(out, m, b" interval=", st[Layout::NEXT_SHUFFLE_INTERVAL]);
+    let o = number_field(out, n, b" alone=", st[Layout::PASSES_ALONE]);
+    let p = number_field(out, o, b" short=", st[Layout::PASSES_SHORT]);
+    run_text::put(out, p, b'\n')
 }

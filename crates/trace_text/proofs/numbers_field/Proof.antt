@@ -2,7 +2,7 @@
 use borrow.Author.Needs.{needs}
 use Prim.Native.Nat.{_-_}
 use Rattle.trace_text.proofs.Listing.{NumbersListed, numbers-start, numbers-next, numbers-end}
-use Rattle.trace_text.proofs.Laws.{list-put}
+use Rattle.trace_text.proofs.Laws.{numbered-put, list-put}
 use Rattle.trace_text.proofs.numbers_field.Statement.{statement}
 use Rattle.trace_text.proofs.numbers_field.Tie as tie
 
@@ -11,6 +11,16 @@ Inv-loop out₀ name m cap end n r₀ i₀ out r i = NumbersListed m cap r₀ ou
 
 abbrev μ-loop : tie.MeasureT-loop
 μ-loop out₀ name m cap end n r₀ i₀ out r i = n - i
+
+-- The ways back, from a place to an earlier one.
+abbrev put-decimal-to-put : tie.After-put-decimal Inv-loop μ-loop → tie.After-put Inv-loop μ-loop
+put-decimal-to-put c = c .before .before .before .before .before
+
+abbrev put-to-put-peer : tie.After-put Inv-loop μ-loop → tie.After-put-peer Inv-loop μ-loop
+put-to-put-peer c = c .before .before .before .before
+
+abbrev put-peer-to-at-loop : tie.After-put-peer Inv-loop μ-loop → tie.At-loop Inv-loop μ-loop
+put-peer-to-at-loop c = c .before .before .before .before
 
 add-end : tie.Need-add-end Inv-loop μ-loop
 add-end c = search needs
@@ -33,23 +43,29 @@ loop-holds c =
     let first = at-least .before .before .before .before .before in
     numbers-start _ _ _ _ _ (first .pre) (search needs) (at-least .least .ensures)
 
-mul-put-numbered : tie.Need-mul-put-numbered Inv-loop μ-loop
-mul-put-numbered c = search needs
+mul-put-peer : tie.Need-mul-put-peer Inv-loop μ-loop
+mul-put-peer c = search needs
 
-shared-slice-read-put-numbered : tie.Need-shared-slice-read-put-numbered Inv-loop μ-loop
-shared-slice-read-put-numbered c = search needs
+shared-slice-read-put-peer : tie.Need-shared-slice-read-put-peer Inv-loop μ-loop
+shared-slice-read-put-peer c = search needs
 
-add-put-numbered : tie.Need-add-put-numbered Inv-loop μ-loop
-add-put-numbered c = search needs
+put-peer-requires : tie.Need-put-peer-requires Inv-loop μ-loop
+put-peer-requires c κs = search needs
 
-mul-put-numbered-2 : tie.Need-mul-put-numbered-2 Inv-loop μ-loop
-mul-put-numbered-2 c = search needs
+put-requires : tie.Need-put-requires Inv-loop μ-loop
+put-requires c κs = search needs
 
-shared-slice-read-put-numbered-2 : tie.Need-shared-slice-read-put-numbered-2 Inv-loop μ-loop
-shared-slice-read-put-numbered-2 c = search needs
+add-put-decimal : tie.Need-add-put-decimal Inv-loop μ-loop
+add-put-decimal c = search needs
 
-put-numbered-requires : tie.Need-put-numbered-requires Inv-loop μ-loop
-put-numbered-requires c κs = search needs
+mul-put-decimal : tie.Need-mul-put-decimal Inv-loop μ-loop
+mul-put-decimal c = search needs
+
+shared-slice-read-put-decimal : tie.Need-shared-slice-read-put-decimal Inv-loop μ-loop
+shared-slice-read-put-decimal c = search needs
+
+put-decimal-requires : tie.Need-put-decimal-requires Inv-loop μ-loop
+put-decimal-requires c κs = search needs
 
 add-i : tie.Need-add-i Inv-loop μ-loop
 add-i c = search needs
@@ -58,20 +74,25 @@ loop-less : tie.Need-loop-less Inv-loop μ-loop
 loop-less c = search needs
 
 loop-again : tie.Need-loop-again Inv-loop μ-loop
-loop-again c = search (numbers-next, needs)
+loop-again c =
+    let at-decimal = c .before .before in
+    let at-put = put-decimal-to-put at-decimal in
+    let at-peer = put-to-put-peer at-put in
+    let at-loop = put-peer-to-at-loop at-peer in
+    numbers-next _ _ _ _ _ _ _ _ (at-loop .loop .inv) _ _ (search needs) (numbered-put _ _ _ _ _ _ _ _ _ _ _ (at-decimal .put-decimal .ensures) (at-put .put .ensures) (at-peer .put-peer .ensures)) (search needs)
 
-put-requires : tie.Need-put-requires Inv-loop μ-loop
-put-requires c κs = search needs
+put-requires-2 : tie.Need-put-requires-2 Inv-loop μ-loop
+put-requires-2 c κs = search needs
 
 same-length : tie.Need-same-length Inv-loop μ-loop
 same-length c = search needs
 
 returns : tie.Need-returns Inv-loop μ-loop
 returns c =
-    let at-put = c .before .before in
-    let at-loop = at-put .before .before .before in
+    let at-put2 = c .before .before in
+    let at-loop = at-put2 .before .before .before in
     let at-bytes = at-loop .before .before .before in
-    list-put _ _ _ _ _ _ _ _ _ _ _ (at-put .put .ensures) (numbers-end _ _ _ _ _ _ _ _ (at-loop .loop .inv) (search needs)) (at-bytes .put-bytes .ensures)
+    list-put _ _ _ _ _ _ _ _ _ _ _ (at-put2 .put2 .ensures) (numbers-end _ _ _ _ _ _ _ _ (at-loop .loop .inv) (search needs)) (at-bytes .put-bytes .ensures)
 
 pub numbers-field-spec : {M : Type 1} → statement M
 numbers-field-spec =
@@ -85,15 +106,17 @@ numbers-field-spec =
     least-requires
     put-bytes-requires
     loop-holds
-    mul-put-numbered
-    shared-slice-read-put-numbered
-    add-put-numbered
-    mul-put-numbered-2
-    shared-slice-read-put-numbered-2
-    put-numbered-requires
+    mul-put-peer
+    shared-slice-read-put-peer
+    put-peer-requires
+    put-requires
+    add-put-decimal
+    mul-put-decimal
+    shared-slice-read-put-decimal
+    put-decimal-requires
     add-i
     loop-less
     loop-again
-    put-requires
+    put-requires-2
     same-length
     returns)
