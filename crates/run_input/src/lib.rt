@@ -5,7 +5,7 @@ ghost use mathlib.Core.Path.{_≡_};
 ghost use mathlib.Core.Bool.{true};
 ghost use Prim.Native.Nat.{_-_, _≤_};
 ghost use lib.ListN.{length, drop};
-ghost use Rattle.run_input.specs.Input.{number, numbers, from-halves, config-of, event-length, are-events, places-ok, events-ok, input-of};
+ghost use Rattle.run_input.specs.Input.{number, numbers, from-halves, event-length, places-ok, events-ok, input-of};
 
 // The most bytes of an input.
 pub const MOST_BYTES: usize = 65536;
@@ -76,23 +76,6 @@ pub fn from_halves(low: u32, high: u32) -> u64
     low as u64 + record::FOUR_BYTES_END * high as u64
 }
 
-// The nine settings.
-fn config_of(b: &[u8]) -> Config
-    ensures { λ r. ⌜ r ≡ config-of (now (b .entry)) ⌝ }
-{
-    Config {
-        active_view_capacity: number(b, Head::FIRST_SETTING),
-        passive_view_capacity: number(b, Head::FIRST_SETTING + 1),
-        active_random_walk_length: number(b, Head::FIRST_SETTING + 2),
-        passive_random_walk_length: number(b, Head::FIRST_SETTING + 3),
-        shuffle_random_walk_length: number(b, Head::FIRST_SETTING + 4),
-        shuffle_active_view_count: number(b, Head::FIRST_SETTING + 5),
-        shuffle_passive_view_count: number(b, Head::FIRST_SETTING + 6),
-        shuffle_interval: number(b, Head::FIRST_SETTING + 7),
-        neighbor_request_timeout: number(b, Head::FIRST_SETTING + 8),
-    }
-}
-
 // How long the event at a place is by its whole length; 0 where that is less than a header's or runs over the end.
 pub fn event_length(b: &[u8], at: usize) -> usize
     ensures { λ r. ⌜ (r ≡ event-length (drop at (now (b .entry)))) × (r ≤ length (now (b .entry)) - at) ⌝ }
@@ -115,36 +98,6 @@ pub fn event_length(b: &[u8], at: usize) -> usize
     size
 }
 
-// Whether the bytes are exactly n events.
-fn are_events(b: &[u8], n: usize) -> bool
-    ensures { λ r. ⌜ r ≡ are-events n (now (b .entry)) ⌝ }
-{
-    let mut at: usize = 0;
-    let mut left = n;
-    while left > 0 {
-        let size = event_length(b, at);
-        if size == 0 {
-            return false;
-        }
-        at += size;
-        left -= 1;
-    }
-    at == b.len()
-}
-
-// Whether the events are said to stand right after the head, and the draws to end the input.
-fn places_ok(b: &[u8]) -> bool
-    ensures { λ r. ⌜ r ≡ places-ok (now (b .entry)) ⌝ }
-{
-    let n = b.len();
-    let start = number(b, Head::EVENT_OFFSET) as usize;
-    let at = number(b, Head::DRAW_OFFSET) as usize;
-    let draws = number(b, Head::DRAW_COUNT) as usize;
-    (Head::BYTES <= n)
-        & ((n <= MOST_BYTES)
-            & ((start == Head::BYTES) & ((Head::BYTES <= at) & (at + 4 * draws == n))))
-}
-
 // Whether the events exactly fill the place between the head and the draws.
 fn events_ok(b: &[u8]) -> bool
     requires { ⌜ places-ok (now b) ≡ true ⌝ }
@@ -152,24 +105,54 @@ fn events_ok(b: &[u8]) -> bool
 {
     let end = number(b, Head::DRAW_OFFSET) as usize;
     let n = number(b, Head::EVENT_COUNT) as usize;
-    are_events(&b[Head::BYTES..end], n)
+    let events = &b[Head::BYTES..end];
+    let mut at: usize = 0;
+    let mut left = n;
+    while left > 0 {
+        let size = event_length(events, at);
+        if size == 0 {
+            return false;
+        }
+        at += size;
+        left -= 1;
+    }
+    at == events.len()
 }
 
 // The whole input: its head, or that it is refused.
 pub fn read_input(b: &[u8]) -> Input
     ensures { λ r. ⌜ r ≡ input-of (now (b .entry)) ⌝ }
 {
-    if places_ok(b) {
+    // whether the events are said to stand right after the head, and the draws to end the input
+    let n = b.len();
+    let start = number(b, Head::EVENT_OFFSET) as usize;
+    let at = number(b, Head::DRAW_OFFSET) as usize;
+    let draws = number(b, Head::DRAW_COUNT) as usize;
+    let placed = (Head::BYTES <= n)
+        & ((n <= MOST_BYTES)
+            & ((start == Head::BYTES) & ((Head::BYTES <= at) & (at + 4 * draws == n))));
+    if placed {
         if events_ok(b) {
-            let config = config_of(b);
+            // the nine settings
+            let config = Config {
+                active_view_capacity: number(b, Head::FIRST_SETTING),
+                passive_view_capacity: number(b, Head::FIRST_SETTING + 1),
+                active_random_walk_length: number(b, Head::FIRST_SETTING + 2),
+                passive_random_walk_length: number(b, Head::FIRST_SETTING + 3),
+                shuffle_random_walk_length: number(b, Head::FIRST_SETTING + 4),
+                shuffle_active_view_count: number(b, Head::FIRST_SETTING + 5),
+                shuffle_passive_view_count: number(b, Head::FIRST_SETTING + 6),
+                shuffle_interval: number(b, Head::FIRST_SETTING + 7),
+                neighbor_request_timeout: number(b, Head::FIRST_SETTING + 8),
+            };
             let low = number(b, Head::SELF_LOW);
             let high = number(b, Head::SELF_HIGH);
             return Input::Whole(Head {
                 me: from_halves(low, high),
                 config: config,
                 events: number(b, Head::EVENT_COUNT) as usize,
-                draws_at: number(b, Head::DRAW_OFFSET) as usize,
-                draws: number(b, Head::DRAW_COUNT) as usize,
+                draws_at: at,
+                draws: draws,
             });
         }
     }
