@@ -1,16 +1,12 @@
 -- Document 01, "Random choices": "The working form is the draw list together with the place reached in it."
 -- Assumes nothing.
-use Prim.Native.Nat.{ℕ, _+_, _-_}
+use Prim.Native.Nat.{ℕ, _+_}
 use mathlib.Core.List.{List}
 use lib.ListN.{length}
 use lib.Dec.{ltb}
 use denote.Ref.{now}
 use Rattle.lists.specs.Lists.{choose}
 use Rattle.draws.specs.declared.Draws.{Draws}
-
--- how many draws are left from place `at` on
-unfoldable pub left : List ℕ → ℕ → ℕ
-left l at = length l - at
 
 -- the place n draws further on, or the end where that comes first
 unfoldable pub past : List ℕ → ℕ → ℕ → ℕ

@@ -2,29 +2,21 @@
 // and leaves the work to one that takes a plain slice and a number.
 ghost use mathlib.Core.Path.{_≡_};
 ghost use lib.ListN.{drop};
-ghost use Rattle.draws.specs.Place.{left, past, moved};
+ghost use Rattle.draws.specs.Place.{past, moved};
 
 pub struct Draws<'a> {
     pub list: &'a [u32],
     pub at: usize,
 }
 
-// How many draws are left.
-fn left_at(list: &[u32], at: usize) -> usize
-    ensures { λ r. ⌜ r ≡ left (now (list .entry)) at ⌝ }
-{
-    if at < list.len() {
-        return list.len() - at;
-    }
-    0
-}
-
 // The place n draws further on, never past the end.
 fn past(list: &[u32], at: usize, n: usize) -> usize
     ensures { λ r. ⌜ r ≡ past (now (list .entry)) at n ⌝ }
 {
-    if n < left_at(list, at) {
-        return at + n;
+    if at < list.len() {
+        if n < list.len() - at {
+            return at + n;
+        }
     }
     list.len()
 }

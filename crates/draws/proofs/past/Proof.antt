@@ -1,4 +1,4 @@
-use Prim.Native.Nat.{ℕ, _+_, _≤_, _<_}
+use Prim.Native.Nat.{ℕ, _+_, _-_, _≤_, _<_}
 use mathlib.Core.Path.{_≡_}
 use mathlib.Core.List.{List}
 use native.Mathlib.Omega.{arith}
@@ -6,23 +6,27 @@ use lib.ListN.{length}
 use borrow.Author.Needs.{needs}
 use borrow.Author.Tests.{lt-ltb, le-ltb}
 use Rattle.lists.specs.Lists.{choose}
-use Rattle.draws.specs.Place.{left, past}
+use Rattle.draws.specs.Place.{past}
 use Rattle.draws.proofs.past.Statement.{statement}
 use Rattle.draws.proofs.past.Tie as tie
 
-within : (l : List ℕ) (at n k : ℕ) → k ≡ left l at → n < k → at + n ≡ past l at n
-unfolding left past choose
-within l at n k e h = rw (lt-ltb (at + n) (length l) (omega arith))
+module _ (l : List ℕ) (at n : ℕ) where
+  within : n < length l - at → at + n ≡ past l at n
+  unfolding past choose
+  within h = rw (lt-ltb (at + n) (length l) (omega (arith, h)))
 
-end : (l : List ℕ) (at n k : ℕ) → k ≡ left l at → k ≤ n → length l ≡ past l at n
-unfolding left past choose
-end l at n k e h = rw (le-ltb (at + n) (length l) (omega arith))
+  end : length l - at ≤ n → length l ≡ past l at n
+  unfolding past choose
+  end h = rw (le-ltb (at + n) (length l) (omega (arith, h)))
 
-left-at-requires : tie.Need-left-at-requires
-left-at-requires c κs = search needs
+  beyond : length l ≤ at → length l ≡ past l at n
+  unfolding past choose
+  beyond h = rw (le-ltb (at + n) (length l) (omega (arith, h)))
+
+sub-if2 : tie.Need-sub-if2
+sub-if2 c = search needs
 
 add-result : tie.Need-add-result
-unfolding left
 add-result c = search needs
 
 returns : tie.Need-returns
@@ -31,5 +35,8 @@ returns c = search within
 returns-2 : tie.Need-returns-2
 returns-2 c = search end
 
+returns-3 : tie.Need-returns-3
+returns-3 c = search beyond
+
 pub past-spec : {M : Type 1} → statement M
-past-spec = tie.close (tie.spec left-at-requires add-result returns returns-2)
+past-spec = tie.close (tie.spec sub-if2 add-result returns returns-2 returns-3)
