@@ -13,6 +13,7 @@ use Rattle.io.specs.Counts.{Counts}
 use Rattle.lists.proofs.Choice.{choose-yes, choose-no}
 use Rattle.timing.specs.declared.Config.{Config}
 use Rattle.timing.specs.Timing.{in-range}
+use Rattle.protocol.specs.Station.{Station}
 use Rattle.protocol.specs.Rules.{short-data}
 use Rattle.protocol.specs.Handle as P
 use Rattle.rules.specs.Pack.{pack}
@@ -34,7 +35,7 @@ use Rattle.run_walk.proofs.Draws.{counted, first-draws, part-is}
 use Rattle.run_walk.proofs.Fresh.{made-bare}
 use Rattle.trace_replay.specs.declared.TraceStart.{TraceStart}
 use Rattle.trace_replay.specs.declared.Ended.{Ended}
-use Rattle.trace_replay.specs.Ending.{Counting, room-of, counting, words-after, laid-words, ended-at, made-end, input-end, ended-of}
+use Rattle.trace_replay.specs.Ending.{room-of, counting, words-after, laid-words, ended-at, made-end, input-end, ended-of}
 
 -- ---- the room
 
@@ -113,11 +114,11 @@ module _ (start : TraceStart) (head : Head) (b : List ℕ) (m : MadeState) (own 
   whole-refused r h k =
       k ∙ ((λ j. ended-at (made-code j) (made-words j)) ∙ sym (choose-no _ _ _ (ap (λ (x : ℕ). eqb x 0) (sym made-code) ∙ ne-eqb _ _ h)))
 
-  pub whole-run : (s last : State) (room : ℕ) → m .code ≡ 0 → Counting start (m .state) s → room ≡ room-of start → last .words ≡ laid-words room (s .words) head b
+  pub whole-run : (s last : State) (room : ℕ) → m .code ≡ 0 → ((g : Station) → m .state .words ≡ pack g → s .words ≡ pack (counting start g)) → room ≡ room-of start → last .words ≡ laid-words room (s .words) head b
       → _≡_ {A = Ended} (record { code = 0; state = last }) (made-end start (P.new (head .me) none (head .config)) head b)
   unfolding made-end
   whole-run s last room h c q k =
-      let first : s .words ≡ pack (counting start (P.new (head .me) none (head .config) .state)) = c .same _ made-words in
+      let first : s .words ≡ pack (counting start (P.new (head .me) none (head .config) .state)) = c _ made-words in
       ap (ended-at 0) (k ∙ (λ i. laid-words (q i) (first i) head b))
       ∙ sym (choose-yes _ _ _ (ap (λ (x : ℕ). eqb x 0) (sym made-code) ∙ eq-eqb _ _ h))
 

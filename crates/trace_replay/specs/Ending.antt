@@ -1,7 +1,6 @@
 -- Document 01, "The run program": how a history ends, from the room and the counters that it starts with.
 -- Assumes nothing.
 use Prim.Native.Nat.{ℕ, min}
-use mathlib.Core.Path.{_≡_}
 use mathlib.Core.List.{List, [], _∷_}
 use mathlib.Core.Option.{none}
 use lib.ListN.{drop}
@@ -12,7 +11,6 @@ use Rattle.protocol.specs.Station.{Station}
 use Rattle.protocol.specs.Setters.{set-passes-alone, set-passes-short, set-next-request, set-next-join}
 use Rattle.protocol.specs.Handle.{Made, new, zero-station}
 use Rattle.rules.specs.Pack.{pack}
-use Rattle.hyparview.specs.declared.State.{State}
 use Rattle.hyparview.specs.Room.{output-room}
 use Rattle.hyparview.specs.Handled.{handled}
 use Rattle.run_input.specs.declared.Head.{Head}
@@ -31,10 +29,6 @@ unfoldable pub counting : TraceStart → Station → Station
 counting start g =
     set-passes-short (start .«passes_short»)
     (set-passes-alone (start .«passes_alone») (set-next-join (start .«next_join») (set-next-request (start .«next_neighbor_request») g)))
-
--- the state t counts from a start, and is s otherwise
-pub record Counting (start : TraceStart) (s t : State) : Type 0 where
-  pub same : (g : Station) → s .words ≡ pack g → t .words ≡ pack (counting start g)
 
 -- the words after these events; "Draws go on where the last accepted event stopped."
 unfoldable pub words-after : ℕ → List ℕ → List (List ℕ) → List ℕ → List ℕ

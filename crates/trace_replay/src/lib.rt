@@ -7,17 +7,15 @@ use run_text::Text;
 use run_walk::Runner;
 use timing::Config;
 ghost use mathlib.Core.Path.{_≡_};
-ghost use mathlib.Core.Option.{none};
 ghost use lib.ListN.{length, drop};
 ghost use Prim.Native.Nat.{_≤_};
 ghost use Rattle.io.specs.Counts.{Counts};
-ghost use Rattle.protocol.specs.Handle.{new, zero-station};
+ghost use Rattle.protocol.specs.Handle.{zero-station};
 ghost use Rattle.rules.specs.Pack.{pack};
 ghost use Rattle.hyparview.specs.Room.{output-room};
-ghost use Rattle.run_input.specs.Input.{numbers, cut-events};
+ghost use Rattle.run_input.specs.Input.{numbers};
 ghost use Rattle.run_input.specs.Input.{Laid};
-ghost use Rattle.run_walk.specs.Place.{passed};
-ghost use Rattle.trace_replay.specs.Ending.{Counting, room-of, words-after, laid-words, made-end, ended-of};
+ghost use Rattle.trace_replay.specs.Ending.{room-of, laid-words, ended-of};
 
 // Space for the line of a refused history, and for the text of an event.
 const REFUSAL_SPACE: usize = 64;
@@ -52,18 +50,6 @@ impl TraceStart {
             passes_short: 0,
         }
     }
-}
-
-// The new station with these counters.
-fn with_counters(s: State, start: TraceStart) -> State
-    ensures { λ r. ⌜ Counting start s r ⌝ }
-{
-    let mut words = s.words;
-    words[state::Layout::NEXT_NEIGHBOR_REQUEST] = start.next_neighbor_request;
-    words[state::Layout::NEXT_JOIN] = start.next_join;
-    words[state::Layout::PASSES_ALONE] = start.passes_alone as u64;
-    words[state::Layout::PASSES_SHORT] = start.passes_short as u64;
-    State { words: words }
 }
 
 // The room for output, and no more than there is.
@@ -123,37 +109,6 @@ fn refused(code: u32, s: State) -> Ended
     }
 }
 
-// The event at the place reached, and its text.
-fn trace_step(p: Runner, b: &[u8], draws: &[u32], out: &mut [u8], text: &mut [u8]) -> Runner
-    ensures { λ r. ⌜ r ≡ passed (length (now (out .entry))) p (now (b .entry)) (now (draws .entry)) ⌝ }
-{
-    let a = run_walk::step(p, b, draws, out);
-    let q = a.runner;
-    let s = q.state;
-    let words = s.words;
-    let none = run_text::start();
-    let t = trace_text::put_trace_event(text, none, out, a.code, a.draws, &words);
-    say_trace(text, t);
-    q
-}
-
-// The events in order, and the state after them.
-fn events(s: State, b: &[u8], n: usize, draws: &[u32], out: &mut [u8], text: &mut [u8]) -> State
-    ensures { λ r. ⌜ r .words ≡ words-after (length (now (out .entry))) (s .words) (cut-events n (now (b .entry))) (now (draws .entry)) ⌝ }
-{
-    let mut p = Runner {
-        state: s,
-        at: 0,
-        used: 0,
-    };
-    let mut left = n;
-    while left > 0 {
-        p = trace_step(p, b, draws, out, text);
-        left -= 1;
-    }
-    p.state
-}
-
 // The events of an input, with the numbers that stand where its draws do.
 fn walk(s: State, b: &[u8], head: Head, drawn: &[u32], out: &mut [u8], text: &mut [u8]) -> State
     requires { ⌜ Laid (now b) head ⌝ }
@@ -163,7 +118,26 @@ fn walk(s: State, b: &[u8], head: Head, drawn: &[u32], out: &mut [u8], text: &mu
 {
     let at = head.draws_at;
     let n = head.draws;
-    events(s, &b[Head::BYTES..at], head.events, &drawn[..n], out, text)
+    let events = &b[Head::BYTES..at];
+    let draws = &drawn[..n];
+    let mut p = Runner {
+        state: s,
+        at: 0,
+        used: 0,
+    };
+    let mut left = head.events;
+    while left > 0 {
+        // the event at the place reached, and its text
+        let a = run_walk::step(p, events, draws, out);
+        p = a.runner;
+        let reached = p.state;
+        let words = reached.words;
+        let none = run_text::start();
+        let t = trace_text::put_trace_event(text, none, out, a.code, a.draws, &words);
+        say_trace(text, t);
+        left -= 1;
+    }
+    p.state
 }
 
 // The same, with the space: the longest input has fewer than 16,384 draws, and the longest text is under 32,768 bytes.
@@ -180,26 +154,6 @@ fn with_space(s: State, b: &[u8], head: Head, room: usize) -> State
     walk(s, b, head, &drawn, &mut out[..room], &mut text)
 }
 
-// An input that is not refused: the answer of `new`, or its events.
-fn whole(b: &[u8], head: Head, start: TraceStart) -> Ended
-    requires { ⌜ Laid (now b) head ⌝ }
-    ensures { λ r. ⌜ r ≡ made-end start (new (head .me) none (head .config)) head (now (b .entry)) ⌝ }
-{
-    let config = head.config;
-    let m = State::new(head.me, false, b"", config);
-    let fresh = m.state;
-    if m.code != 0 {
-        return refused(m.code, fresh);
-    }
-    let s = with_counters(fresh, start);
-    let room = room_of(start);
-    let last = with_space(s, b, head, room);
-    Ended {
-        code: 0,
-        state: last,
-    }
-}
-
 // A whole history on standard output, and how it ended.
 pub fn history(b: &[u8], start: TraceStart) -> Ended
     ensures { λ r. ⌜ r ≡ ended-of start (now (b .entry)) ⌝ }
@@ -210,6 +164,26 @@ pub fn history(b: &[u8], start: TraceStart) -> Ended
             let none = zeroes();
             refused(Refusal::MALFORMED, none)
         }
-        Input::Whole(head) => whole(b, head, start),
+        Input::Whole(head) => {
+            // the answer of `new`, or the events from the new station with these counters on
+            let config = head.config;
+            let m = State::new(head.me, false, b"", config);
+            let fresh = m.state;
+            if m.code != 0 {
+                return refused(m.code, fresh);
+            }
+            let mut words = fresh.words;
+            words[state::Layout::NEXT_NEIGHBOR_REQUEST] = start.next_neighbor_request;
+            words[state::Layout::NEXT_JOIN] = start.next_join;
+            words[state::Layout::PASSES_ALONE] = start.passes_alone as u64;
+            words[state::Layout::PASSES_SHORT] = start.passes_short as u64;
+            let s = State { words: words };
+            let room = room_of(start);
+            let last = with_space(s, b, head, room);
+            Ended {
+                code: 0,
+                state: last,
+            }
+        }
     }
 }

@@ -1,7 +1,16 @@
 use borrow.Author.Needs.{needs}
-use Rattle.trace_replay.proofs.Laws.{there, ends-refused, ends-whole}
+use Rattle.rules.specs.Pack.{pack, front}
+use Rattle.trace_replay.specs.Ending.{counting}
+use Rattle.trace_replay.proofs.Laws.{there, whole-refused, whole-run, ends-refused, ends-whole}
 use Rattle.trace_replay.proofs.history.Statement.{statement}
 use Rattle.trace_replay.proofs.history.Tie as tie
+
+-- The ways back, from a place to an earlier one.
+abbrev new-to-i : tie.After-new → tie.After-i
+new-to-i c = c .before .before .before .before
+
+abbrev i-to-read-input : tie.After-i → tie.After-read-input
+i-to-read-input c = c .before .before
 
 read-input-requires : tie.Need-read-input-requires
 read-input-requires c κs = search needs
@@ -18,14 +27,54 @@ refused-requires c κs = search needs
 enum-known-i : tie.Need-enum-known-i
 enum-known-i c = search needs
 
-whole-requires : tie.Need-whole-requires
-whole-requires c κs = search (there, needs)
+slice-aggregate-new : tie.Need-slice-aggregate-new
+slice-aggregate-new c = search needs
+
+new-requires : tie.Need-new-requires
+new-requires c κs = search needs
+
+refused-requires-2 : tie.Need-refused-requires-2
+refused-requires-2 c κs = search needs
 
 returns : tie.Need-returns
-returns c = search (ends-refused, needs)
+returns c = search (ends-whole, whole-refused)
+
+array-write-words : tie.Need-array-write-words
+array-write-words c = search needs
+
+array-write-words-2 : tie.Need-array-write-words-2
+array-write-words-2 c = search needs
+
+cast-words : tie.Need-cast-words
+cast-words c = search needs
+
+array-write-words-3 : tie.Need-array-write-words-3
+array-write-words-3 c = search needs
+
+cast-words-2 : tie.Need-cast-words-2
+cast-words-2 c = search needs
+
+array-write-words-4 : tie.Need-array-write-words-4
+array-write-words-4 c = search needs
+
+room-of-requires : tie.Need-room-of-requires
+room-of-requires c κs = search needs
+
+with-space-requires : tie.Need-with-space-requires
+with-space-requires c κs = search (there, needs)
 
 returns-2 : tie.Need-returns-2
-returns-2 c = search (ends-whole, needs)
+returns-2 c = search (ends-refused, needs)
+
+returns-3 : tie.Need-returns-3
+unfolding pack front counting
+returns-3 c =
+    let at-room = c .before in
+    let at-new = at-room .before .before .before .before .before .before .before in
+    let at-i = new-to-i at-new in
+    let at-read = i-to-read-input at-i in
+    ends-whole _ _ _ (at-read .read-input .ensures) _ _ (at-i .i .given .1)
+    (whole-run _ _ _ _ _ (at-new .new .ensures) _ _ _ (search needs) (λ g e. rw e) (at-room .room-of .ensures .0) (c .with-space .ensures))
 
 pub history-spec : {M : Type 1} → statement M
 history-spec =
@@ -36,6 +85,17 @@ history-spec =
     zeroes-requires
     refused-requires
     enum-known-i
-    whole-requires
+    slice-aggregate-new
+    new-requires
+    refused-requires-2
     returns
-    returns-2)
+    array-write-words
+    array-write-words-2
+    cast-words
+    array-write-words-3
+    cast-words-2
+    array-write-words-4
+    room-of-requires
+    with-space-requires
+    returns-2
+    returns-3)
