@@ -34,24 +34,13 @@ use Rattle.run_walk.proofs.Laws.{next-words, next-left, next-events}
 use Rattle.run_walk.proofs.Draws.{counted, first-draws, part-is}
 use Rattle.run_walk.proofs.Fresh.{made-bare}
 use Rattle.run_text.specs.Lines.{end-line, event-text}
-use Rattle.run_listing.specs.declared.Stepped.{Stepped}
 use Rattle.run_listing.specs.declared.Opened.{Opened}
 use Rattle.run_listing.specs.declared.Opened.the-variants.{Line, Events}
 use Rattle.run_listing.specs.declared.Shown.{Shown}
 use Rattle.run_listing.specs.declared.Shown.the-variants.{Bytes, TooShort}
 use Rattle.run_listing.specs.Run.{outcome-text, events-text, laid-text, made-text, input-text, run-text}
-use Rattle.run_listing.specs.Place.{Steps, fitting, Answers}
+use Rattle.run_listing.specs.Place.{fitting}
 use Rattle.run_listing.specs.Opened.{first-place, opened-head, opened-input, opened-run, opened-text, rest-text}
-
--- ---- one event
-
--- the walk's step, and the lines of its event
-pub stepped : (room : ℕ) (p : Runner) (events draws : List ℕ) (a : Ran) (recs : List ℕ) → Runs room p events draws a recs
-    → (i : ℕ) (t : Text) (out : List ℕ) (r : Text) (o : List ℕ) → Puts (event-text i (a .code) (a .draws) recs) t out r o
-    → Steps room p i events draws t out (record { runner = a .runner; text = r }) recs o
-unfolding outcome-text
-stepped room p events draws a recs h i t out r o k =
-    record { runner = h .runner; output = h .output; text = named (λ j. event-text i (h .code j) (h .draws j) (h .output j)) k }
 
 -- ---- the events in order
 
@@ -100,18 +89,20 @@ rest-end room p i n events draws h =
     ap (λ (x : ℕ). events-text room i (p .state .words) (cut-events x (drop (p .at) events)) (drop (p .used) draws)) z
 
 module _ (room : ℕ) (whole events draws : List ℕ) (n : ℕ) (t : Text) (out recs : List ℕ) (p : Runner) (r : Text) (o : List ℕ) (i : ℕ) (v : Running room whole events draws n t out recs p r o i) where
-  pub running-next : (q : Stepped) (o₂ recs₂ : List ℕ) → i < n → Steps (length recs) p i events draws r o q recs₂ o₂ → length o₂ ≡ length o → length recs₂ ≡ length recs
-      → Running room whole events draws n t out recs₂ (q .runner) (q .text) o₂ (i + 1)
-  running-next q o₂ recs₂ h lent e₁ e₂ =
-      let k : Steps room p i events draws r o q recs₂ o₂ = subst (λ (x : ℕ). Steps x p i events draws r o q recs₂ o₂) (v .records) lent in
+  -- the walk's step, and the lines of its event
+  pub running-next : (a : Ran) (s : Text) (o₂ recs₂ : List ℕ) → i < n → Runs (length recs) p events draws a recs₂ → Puts (event-text i (a .code) (a .draws) recs₂) r o s o₂
+      → length o₂ ≡ length o → length recs₂ ≡ length recs → Running room whole events draws n t out recs₂ (a .runner) s o₂ (i + 1)
+  unfolding outcome-text
+  running-next a s o₂ recs₂ h ran put e₁ e₂ =
+      let k : Runs room p events draws a recs₂ = subst (λ (x : ℕ). Runs x p events draws a recs₂) (v .records) ran in
       record {
         low = omega (arith, h);
         len = e₁ ∙ v .len;
         records = e₂ ∙ v .records;
         done = v .done ++ outcome-text i (met room p events draws);
-        so-far = then (k .text) (v .so-far);
+        so-far = then (named (λ j. event-text i (k .code j) (k .draws j) (k .output j)) put) (v .so-far);
         same = v .same
-            ∙ (ap (λ (x : List ℕ). v .done ++ x) (rest-step room p (q .runner) i n events draws h (k .runner))
+            ∙ (ap (λ (x : List ℕ). v .done ++ x) (rest-step room p (a .runner) i n events draws h (k .runner))
             ∙ sym (append-assoc (v .done) (outcome-text i (met room p events draws)) _));
       }
 
@@ -119,24 +110,6 @@ module _ (room : ℕ) (whole events draws : List ℕ) (n : ℕ) (t : Text) (out 
   running-end h = named (sym (v .same ∙ (ap (λ (x : List ℕ). v .done ++ x) (rest-end room p i n events draws h) ∙ append-nil (v .done)))) (v .so-far)
 
 -- ---- the whole
-
--- what is answered of a text, as far as it went
-pub shown-all : (t : Text) (n : ℕ) → t .full ≡ false → t .at ≡ n → Answers t (Bytes n)
-unfolding fitting
-shown-all t n f e = record {
-  answers = λ w out₀ out k.
-      let l : length w ≤ length out₀ = ltb-false (length out₀) (length w) (sym (k .over) ∙ f) in
-      let m : n ≡ length w = omega (arith, e, k .reached, l) in
-      ap Bytes m ∙ sym (choose-yes _ _ _ (le-leb (length w) (length out₀) l));
-}
-
-pub shown-part : (t : Text) → t .full ≡ true → Answers t TooShort
-unfolding fitting
-shown-part t f = record {
-  answers = λ w out₀ out k.
-      let l : length out₀ < length w = ltb-true (length out₀) (length w) (sym (k .over) ∙ f) in
-      sym (choose-no _ _ _ (lt-leb (length w) (length out₀) l));
-}
 
 bytes-is : (m n : ℕ) → _≡_ {A = Shown} (Bytes m) (Bytes n) → m ≡ n
 bytes-is m n e = cc
@@ -245,7 +218,18 @@ opened-laid b o head e h = laid b head (whole-input (input-of b) head (sym e ∙
 
 -- ---- the answer
 
-pub run-answer : (b out o : List ℕ) (t₀ t : Text) (r : Shown) → Begins t₀ → Puts (run-text b) t₀ out t o → Answers t r → (r ≡ fitting (length (run-text b)) (length out)) × (o ≡ overwrite out 0 (run-text b))
-run-answer b out o t₀ t r h k a =
-    let s = k .puts [] out (begun t₀ out h) in
-    (a .answers (run-text b) out o s, s .bytes)
+module _ (b out o : List ℕ) (t₀ t : Text) (h : Begins t₀) (k : Puts (run-text b) t₀ out t o) where
+  pub run-fits : t .full ≡ false → (Bytes (t .at) ≡ fitting (length (run-text b)) (length out)) × (o ≡ overwrite out 0 (run-text b))
+  unfolding fitting
+  run-fits f =
+      let s = k .puts [] out (begun t₀ out h) in
+      let l : length (run-text b) ≤ length out = ltb-false (length out) (length (run-text b)) (sym (s .over) ∙ f) in
+      let m : t .at ≡ length (run-text b) = omega (arith, s .reached, l) in
+      (ap Bytes m ∙ sym (choose-yes _ _ _ (le-leb (length (run-text b)) (length out) l)), s .bytes)
+
+  pub run-cut : t .full ≡ true → (TooShort ≡ fitting (length (run-text b)) (length out)) × (o ≡ overwrite out 0 (run-text b))
+  unfolding fitting
+  run-cut f =
+      let s = k .puts [] out (begun t₀ out h) in
+      let l : length out < length (run-text b) = ltb-true (length out) (length (run-text b)) (sym (s .over) ∙ f) in
+      (sym (choose-no _ _ _ (lt-leb (length (run-text b)) (length out) l)), s .bytes)

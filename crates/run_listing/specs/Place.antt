@@ -10,16 +10,10 @@ use Rattle.lists.specs.Lists.{choose}
 use Rattle.lists.specs.Bytes.{overwrite}
 use Rattle.record.specs.Format.{header-length}
 use Rattle.record.specs.Read.{header-of}
-use Rattle.run_text.specs.declared.Text.{Text}
-use Rattle.run_text.specs.Text.{Puts, Shows}
 use Rattle.run_text.specs.Lines.{record-line}
-use Rattle.run_walk.specs.declared.Runner.{Runner}
-use Rattle.run_walk.specs.Place.{met, passed}
-use Rattle.run_listing.specs.declared.Stepped.{Stepped}
 use Rattle.run_listing.specs.declared.Lined.{Lined}
 use Rattle.run_listing.specs.declared.Shown.{Shown}
 use Rattle.run_listing.specs.declared.Shown.the-variants.{Bytes, TooShort}
-use Rattle.run_listing.specs.Run.{outcome-text}
 
 -- bytes that suffice for the line that ends an event, and for the line of a record, with twenty digits for each number
 abbrev pub end-line-space : ℕ
@@ -27,12 +21,6 @@ end-line-space = 44
 
 abbrev pub record-line-space : ℕ
 record-line-space = 168
-
--- the place after the event at p, whose output is recs, and whose lines are written after the text t
-pub record Steps (room : ℕ) (p : Runner) (i : ℕ) (events draws : List ℕ) (t : Text) (out : List ℕ) (r : Stepped) (recs o : List ℕ) : Type 0 where
-  pub runner : r .runner ≡ passed room p events draws
-  pub output : recs ≡ met room p events draws .output
-  pub text : Puts (outcome-text i (met room p events draws)) t out (r .text) o
 
 -- the text w stands at the front of o, n bytes of it, and the bytes of out behind it
 pub record Fronts (w out : List ℕ) (n : ℕ) (o : List ℕ) : Type 0 where
@@ -56,7 +44,3 @@ pub record Lines (i : ℕ) (b out : List ℕ) (r : Lined) (o : List ℕ) : Type 
 -- what is answered of a text of n bytes where `room` bytes are lent
 unfoldable pub fitting : ℕ → ℕ → Shown
 fitting n room = choose (leb n room) (Bytes n) TooShort
-
--- r is the answer to the text that t and some bytes show
-pub record Answers (t : Text) (r : Shown) : Type 0 where
-  pub answers : (w out₀ out : List ℕ) → Shows w out₀ t out → r ≡ fitting (length w) (length out₀)

@@ -10,25 +10,18 @@ ghost use Prim.Native.Nat.{_≤_};
 ghost use lib.ListN.{length, drop};
 ghost use Rattle.io.specs.Counts.{Counts};
 ghost use Rattle.lists.specs.Bytes.{overwrite};
-ghost use Rattle.hyparview.specs.Room.{output-room};
-ghost use Rattle.run_input.specs.Input.{cut-events, numbers};
+ghost use Rattle.run_input.specs.Input.{numbers};
 ghost use Rattle.run_input.specs.Input.{Laid};
 ghost use Rattle.run_text.specs.Text.{Puts};
 ghost use Rattle.run_text.specs.Lines.{end-line};
-ghost use Rattle.run_listing.specs.Run.{events-text, laid-text, run-text};
-ghost use Rattle.run_listing.specs.Place.{end-line-space, record-line-space, Steps, Fronts, Lines, fitting, Answers};
-ghost use Rattle.run_listing.specs.Opened.{opened-run, opened-head, first-place};
+ghost use Rattle.run_listing.specs.Run.{laid-text, run-text};
+ghost use Rattle.run_listing.specs.Place.{end-line-space, record-line-space, Fronts, Lines, fitting};
+ghost use Rattle.run_listing.specs.Opened.{opened-run, first-place};
 
 // Bytes that suffice for the line that ends an event, and for the line of a record, with twenty digits for each number.
 pub const END_LINE: usize = 44;
 
 pub const RECORD_LINE: usize = 168;
-
-// The place after an event, and the text so far.
-struct Stepped {
-    runner: Runner,
-    text: Text,
-}
 
 // How many bytes the line of a record has, and how many the record takes; 0 and 0 where there is none.
 pub struct Lined {
@@ -48,55 +41,6 @@ pub enum Shown {
     TooShort,
 }
 
-// The event at the place reached, with the draws left and the output lent, and its lines.
-fn put_step(
-    p: Runner,
-    i: usize,
-    events: &[u8],
-    draws: &[u32],
-    records: &mut [u8],
-    out: &mut [u8],
-    t: Text,
-) -> Stepped
-    ensures { λ r. ⌜ Steps (length (now (records .entry))) p i (now (events .entry)) (now (draws .entry)) t (now (out .entry)) r (now (records .exit)) (now (out .exit)) ⌝ }
-{
-    let a = run_walk::step(p, events, draws, records);
-    let text = run_text::put_event(out, t, i as u64, a.code, a.draws as u64, records);
-    let next = a.runner;
-    Stepped {
-        runner: next,
-        text: text,
-    }
-}
-
-// The first n events, from the state on.
-fn put_events(
-    s: State,
-    n: usize,
-    events: &[u8],
-    draws: &[u32],
-    records: &mut [u8],
-    out: &mut [u8],
-    t: Text,
-) -> Text
-    ensures { λ r. ⌜ Puts (events-text (length (now (records .entry))) 0 (s .words) (cut-events n (now (events .entry))) (now (draws .entry))) t (now (out .entry)) r (now (out .exit)) ⌝ }
-{
-    let mut p = Runner {
-        state: s,
-        at: 0,
-        used: 0,
-    };
-    let mut r = t;
-    let mut i: usize = 0;
-    while i < n {
-        let q = put_step(p, i, events, draws, records, out, r);
-        i += 1;
-        p = q.runner;
-        r = q.text;
-    }
-    r
-}
-
 // The events of an input, with the numbers that stand where its draws do.
 fn put_walk(
     s: State,
@@ -114,39 +58,24 @@ fn put_walk(
 {
     let at = head.draws_at;
     let n = head.draws;
-    put_events(
-        s,
-        head.events,
-        &b[Head::BYTES..at],
-        &drawn[..n],
-        records,
-        out,
-        t,
-    )
-}
-
-// The same, with space for the draws and the output: the longest input has fewer than 16,384 draws.
-fn put_whole(s: State, b: &[u8], head: Head, out: &mut [u8], t: Text) -> Text
-    requires { ⌜ Laid (now b) head ⌝ }
-    ensures { λ r. ⌜ Puts (laid-text output-room (s .words) head (now (b .entry))) t (now (out .entry)) r (now (out .exit)) ⌝ }
-{
-    let mut drawn = [0u32; run_input::DRAWS_ROOM];
-    let mut records = [0u8; hyparview::OUTPUT];
-    let at = head.draws_at;
-    run_input::read_numbers(&b[at..], &mut drawn);
-    put_walk(s, b, head, &drawn, &mut records, out, t)
-}
-
-// An input that is not refused as a whole: settings out of range have one line only.
-fn open_head(head: Head) -> Opened
-    ensures { λ r. ⌜ r ≡ opened-head head ⌝ }
-{
-    let config = head.config;
-    let m = State::new(head.me, false, b"", config);
-    if m.code != 0 {
-        return Opened::Line(Refusal::SETTINGS);
+    let events = &b[Head::BYTES..at];
+    let draws = &drawn[..n];
+    let count = head.events;
+    let mut p = Runner {
+        state: s,
+        at: 0,
+        used: 0,
+    };
+    let mut r = t;
+    let mut i: usize = 0;
+    while i < count {
+        // the event at the place reached, and its lines
+        let a = run_walk::step(p, events, draws, records);
+        r = run_text::put_event(out, r, i as u64, a.code, a.draws as u64, records);
+        p = a.runner;
+        i += 1;
     }
-    Opened::Events(head)
+    r
 }
 
 // Every decision that is taken before the first event.
@@ -156,7 +85,15 @@ pub fn open(b: &[u8]) -> Opened
     let i = run_input::read_input(b);
     match i {
         Input::Refused => Opened::Line(Refusal::MALFORMED),
-        Input::Whole(head) => open_head(head),
+        Input::Whole(head) => {
+            // settings out of range have one line only
+            let config = head.config;
+            let m = State::new(head.me, false, b"", config);
+            if m.code != 0 {
+                return Opened::Line(Refusal::SETTINGS);
+            }
+            Opened::Events(head)
+        }
     }
 }
 
@@ -215,19 +152,14 @@ fn put_run(b: &[u8], out: &mut [u8], t: Text) -> Text
         Opened::Events(head) => {
             let p = begin(head);
             let s = p.state;
-            put_whole(s, b, head, out, t)
+            // the longest input has fewer than 16,384 draws
+            let mut drawn = [0u32; run_input::DRAWS_ROOM];
+            let mut records = [0u8; hyparview::OUTPUT];
+            let at = head.draws_at;
+            run_input::read_numbers(&b[at..], &mut drawn);
+            put_walk(s, b, head, &drawn, &mut records, out, t)
         }
     }
-}
-
-// How much text there is.
-fn shown_of(t: Text) -> Shown
-    ensures { λ r. ⌜ Answers t r ⌝ }
-{
-    if t.full {
-        return Shown::TooShort;
-    }
-    Shown::Bytes(t.at)
 }
 
 // The text of a run into lent bytes: as much of it as fits, and how long it is, or that it does not fit.
@@ -237,5 +169,8 @@ pub fn run(b: &[u8], out: &mut [u8]) -> Shown
 {
     let none = run_text::start();
     let t = put_run(b, out, none);
-    shown_of(t)
+    if t.full {
+        return Shown::TooShort;
+    }
+    Shown::Bytes(t.at)
 }

@@ -1,5 +1,5 @@
 use borrow.Author.Needs.{needs}
-use Rattle.run_listing.proofs.Laws.{open-refused, open-whole}
+use Rattle.run_listing.proofs.Laws.{open-unset, open-events, open-refused, open-whole}
 use Rattle.run_listing.proofs.open.Statement.{statement}
 use Rattle.run_listing.proofs.open.Tie as tie
 
@@ -12,16 +12,30 @@ enum-told c = search needs
 enum-known-i : tie.Need-enum-known-i
 enum-known-i c = search needs
 
-open-head-requires : tie.Need-open-head-requires
-open-head-requires c κs = search needs
+slice-aggregate-new : tie.Need-slice-aggregate-new
+slice-aggregate-new c = search needs
+
+new-requires : tie.Need-new-requires
+new-requires c κs = search needs
 
 returns : tie.Need-returns
-returns c = search (open-refused, needs)
+returns c = search (open-whole, open-unset, needs)
 
 returns-2 : tie.Need-returns-2
-returns-2 c = search (open-whole, needs)
+returns-2 c = search (open-refused, needs)
+
+returns-3 : tie.Need-returns-3
+returns-3 c = search (open-whole, open-events, needs)
 
 pub open-spec : {M : Type 1} → statement M
 open-spec =
     tie.close
-    (tie.spec read-input-requires enum-told enum-known-i open-head-requires returns returns-2)
+    (tie.spec
+    read-input-requires
+    enum-told
+    enum-known-i
+    slice-aggregate-new
+    new-requires
+    returns
+    returns-2
+    returns-3)

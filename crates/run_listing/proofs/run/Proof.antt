@@ -1,5 +1,5 @@
 use borrow.Author.Needs.{needs}
-use Rattle.run_listing.proofs.Laws.{run-answer}
+use Rattle.run_listing.proofs.Laws.{run-cut, run-fits}
 use Rattle.run_listing.proofs.run.Statement.{statement}
 use Rattle.run_listing.proofs.run.Tie as tie
 
@@ -9,14 +9,19 @@ start-requires c κs = search needs
 put-run-requires : tie.Need-put-run-requires
 put-run-requires c κs = search needs
 
-shown-of-requires : tie.Need-shown-of-requires
-shown-of-requires c κs = search needs
-
 same-length : tie.Need-same-length
 same-length c = search needs
 
 returns : tie.Need-returns
-returns c = run-answer _ _ _ _ _ _ (c .before .before .before .before .before .start .ensures) (c .before .before .before .put-run .ensures) (c .shown-of .ensures)
+returns c = run-cut _ _ _ _ _ (c .before .before .before .before .before .start .ensures) (c .before .before .before .put-run .ensures) (c .if1 .taken)
+
+same-length-2 : tie.Need-same-length-2
+same-length-2 c = search needs
+
+returns-2 : tie.Need-returns-2
+returns-2 c = run-fits _ _ _ _ _ (c .before .before .before .before .before .start .ensures) (c .before .before .before .put-run .ensures) (c .if1 .left)
 
 pub run-spec : {M : Type 1} → statement M
-run-spec = tie.close (tie.spec start-requires put-run-requires shown-of-requires same-length returns)
+run-spec =
+    tie.close
+    (tie.spec start-requires put-run-requires same-length returns same-length-2 returns-2)
