@@ -7,7 +7,7 @@ use mathlib.Core.List.{List, [], _∷_}
 use native.Mathlib.Omega.{arith}
 use lib.ListN.{length, getD}
 use lib.Dec.{eqb, ltb}
-use borrow.Author.Tests.{ltb-true, lt-ltb, eqb-true, eqb-false}
+use borrow.Author.Tests.{ltb-true, lt-ltb, le-ltb, eqb-true, eqb-false}
 use borrow.Rule.Slice.PartMut.{putMid}
 use Rattle.lists.specs.Lists.{is, count, mem, without, renew}
 use Rattle.lists.specs.Maps.{keys, cut, has}
@@ -37,26 +37,6 @@ use Rattle.step_events.specs.Free.{KnownJoins, FreeJoin, Joinable}
 
 -- ---- the bootstrap peers
 
-pub others-held : (xs t u : List ℕ) (p : ℕ) → HoldsSet 32 t (items-at 8 (bootstrap-part xs)) → HoldsSet 32 u (without p (items-at 32 t)) → HoldsSet 32 u (without p (unpack xs .bootstrap))
-unfolding unpack station-of
-others-held xs t u p h k = record { valid = k .valid; items = k .items ∙ ap (without p) (h .items) }
-
-module _ (xs others : List ℕ) (p : ℕ) (h : HoldsSet 32 others (without p (unpack xs .bootstrap))) where
-  pub too-many : (n : ℕ) → n ≡ length (items-at 32 others) → ltb 8 (n + 1) ≡ must-drop-oldest p (unpack xs)
-  unfolding must-drop-oldest
-  too-many n e = ap (λ (k : ℕ). ltb 8 (k + 1)) (e ∙ ap length (h .items))
-
-  pub oldest-there : must-drop-oldest p (unpack xs) ≡ true → 0 < length (items-at 32 others)
-  unfolding must-drop-oldest
-  oldest-there e = omega (arith, ltb-true 8 (length (without p (unpack xs .bootstrap)) + 1) e, ap length (h .items))
-
-  pub oldest-is : (r : ℕ) → r ≡ getD (items-at 32 others) 0 0 → r ≡ oldest p (unpack xs)
-  unfolding oldest
-  oldest-is r e = e ∙ ap (λ (l : List ℕ). getD l 0 0) (h .items)
-
-pub must-drop : (xs : List ℕ) (p : ℕ) (t : Bool) → t ≡ must-drop-oldest p (unpack xs) → t ≡ true → must-drop-oldest p (unpack xs) ≡ true
-must-drop xs p t e h = sym e ∙ h
-
 -- one change is another where they make the same of the station
 on-at : (f h : Station → Station) (g : Run) → f (g .station) ≡ h (g .station) → on f g ≡ on h g
 unfolding on
@@ -67,18 +47,27 @@ unfolding on
 on-same f g e =
     split (eqb (g .code) 0) (λ t. rw e (guard-open g _ (eqb-true _ _ t))) (λ t. guard-shut g _ (eqb-false _ _ t))
 
-module _ (w : Held) (p : ℕ) (t : Bool) (e : t ≡ must-drop-oldest p (unpack (w .state))) where
-  pub one-dropped : (r : Held) (x : ℕ) → t ≡ true → x ≡ oldest p (unpack (w .state)) → Changes (on (drop-join x)) w r → Changes (on (drop-oldest-join p)) w r
-  unfolding drop-oldest-join drop-join run
-  one-dropped r x h q k =
-      change-by _
-      (λ ds out. on-at (drop-oldest-join p) (drop-join x) (run w ds out) (ap (λ (m : List (ℕ × ℕ)). set-joins m (unpack (w .state))) (choose-yes _ _ _ (sym e ∙ h) ∙ ap (λ (y : ℕ). cut y (unpack (w .state) .joins)) (sym q))))
-      k
+-- the working set of those but p
+module _ (xs t others : List ℕ) (p n : ℕ) (s : HoldsSet 32 t (items-at 8 (bootstrap-part xs))) (k : HoldsSet 32 others (without p (items-at 32 t))) (e : n ≡ length (items-at 32 others)) where
+  others-are : items-at 32 others ≡ without p (unpack xs .bootstrap)
+  unfolding unpack station-of
+  others-are = k .items ∙ ap (without p) (s .items)
 
-  pub none-dropped : PackedState (w .state) → t ≡ false → Changes (on (drop-oldest-join p)) w w
+  too-many : must-drop-oldest p (unpack xs) ≡ ltb 8 (n + 1)
+  unfolding must-drop-oldest
+  too-many = sym (ap (λ (m : ℕ). ltb 8 (m + 1)) (e ∙ ap length others-are))
+
+  pub one-dropped : (w r : Work) (ys : List ℕ) (x : ℕ) → 8 < n + 1 → x ≡ getD (items-at 32 others) 0 0 → Changes (on (drop-join x)) (work-of w xs) (work-of r ys) → Changes (on (drop-oldest-join p)) (work-of w xs) (work-of r ys)
+  unfolding drop-oldest-join drop-join oldest run
+  one-dropped w r ys x h q c =
+      change-by _
+      (λ ds out. on-at (drop-oldest-join p) (drop-join x) (run (work-of w xs) ds out) (ap (λ (m : List (ℕ × ℕ)). set-joins m (unpack xs)) (choose-yes _ _ _ (too-many ∙ lt-ltb _ _ h) ∙ ap (λ (y : ℕ). cut y (unpack xs .joins)) (sym (q ∙ ap (λ (l : List ℕ). getD l 0 0) others-are)))))
+      c
+
+  pub none-dropped : (w : Work) → PackedState xs → n + 1 ≤ 8 → Changes (on (drop-oldest-join p)) (work-of w xs) (work-of w xs)
   unfolding drop-oldest-join run
-  none-dropped v h =
-      unchanged _ v (λ ds out. on-same (drop-oldest-join p) (run w ds out) (ap (λ (m : List (ℕ × ℕ)). set-joins m (unpack (w .state))) (choose-no _ _ _ (sym e ∙ h))))
+  none-dropped w v h =
+      unchanged _ v (λ ds out. on-same (drop-oldest-join p) (run (work-of w xs) ds out) (ap (λ (m : List (ℕ × ℕ)). set-joins m (unpack xs)) (choose-no _ _ _ (too-many ∙ le-ltb _ _ h))))
 
 -- p as the newest
 abbrev renewing : ℕ → Station → Station
@@ -106,6 +95,10 @@ module _ (xs : List ℕ) (p code : ℕ) (v : Joinable p code (unpack xs)) (z : c
   pub place-left : (has p (numbers-at 8 (joins-part xs)) || ltb (length (numbers-at 8 (joins-part xs))) 8) ≡ true
   unfolding unpack station-of
   place-left = v .free z
+
+pub number-counted : (xs : List ℕ) → ltb (next-join xs) top-counter ≡ join-counts (unpack xs)
+unfolding join-counts unpack station-of
+number-counted xs = refl
 
 module _ (w a : Work) (xs : List ℕ) (p : ℕ) (t : Bool) (v : PackedState xs) (e : t ≡ join-counts (unpack xs)) (k : ChangesAny (require 10 t) w a) where
   pub joinable : FreeJoin p (w .code) (unpack xs) → Joinable p (a .code) (unpack xs)
@@ -170,23 +163,20 @@ pub awaited : (w a r : Work) (xs ys out o : List ℕ) (p : ℕ) → Room (work-o
 unfolding await-join rec-in run unpack station-of
 awaited w a r xs ys out o p v k₂ k₁ = tell-then (await-join p) (λ ds. refl) (k₂ .any ys (k₁ .packed)) (telling v k₁)
 
-module _ (w : Held) (out : List ℕ) (p : ℕ) (t : Bool) where
-  pub joined-self : (r : Held) (o : List ℕ) → t ≡ is-me p (unpack (w .state)) → t ≡ true → Tells (join p) w r out o → Tells (join-other p) w r out o
-  unfolding join-other
-  joined-self r o e h k = tell-yes (is-me p) e _ h k
+module _ (w a : Held) (out : List ℕ) (p : ℕ) (t : Bool) (v : Room w out) (k : Changes (on (push-bootstrap p)) w a) (e : t ≡ in-active p (unpack (a .state))) where
+  pub not-new : t ≡ true → Tells (handle-join p) w a out out
+  unfolding handle-join join-new
+  not-new h = tell-then _ (λ ds. refl) (tell-yes (in-active p) e (join-other p) h (telling (telling v k .room) (unchanged (λ g. g) (k .packed) (λ ds o. refl)))) (telling v k)
 
-  pub joined-other : (a r : Held) (o₁ o₂ : List ℕ) → t ≡ is-me p (unpack (w .state)) → t ≡ false → Tells (await-join p) a r o₁ o₂ → Tells (join p) w a out o₁ → Tells (join-other p) w r out o₂
-  unfolding join-other
-  joined-other a r o₁ o₂ e h k₂ k₁ = tell-no (is-me p) e _ h (tell-then _ (λ ds. refl) k₂ k₁)
+  module _ (u : Bool) (i : t ≡ false) (f : u ≡ is-me p (unpack (a .state))) where
+    joined-new : (r : Held) (o : List ℕ) → Tells (join-other p) a r out o → Tells (handle-join p) w r out o
+    unfolding handle-join join-new
+    joined-new r o d = tell-then _ (λ ds. refl) (tell-no (in-active p) e (λ g. g) i d) (telling v k)
 
-  pub not-new : Room w out → t ≡ in-active p (unpack (w .state)) → t ≡ true → Tells (join-new p) w w out out
-  unfolding join-new
-  not-new v e h = tell-yes (in-active p) e _ h (telling v (unchanged (λ g. g) (v .packed) (λ ds o. refl)))
+    pub joined-self : (r : Held) (o : List ℕ) → u ≡ true → Tells (join p) a r out o → Tells (handle-join p) w r out o
+    unfolding join-other
+    joined-self r o h d = joined-new r o (tell-yes (is-me p) f _ h d)
 
-  pub joined-new : (r : Held) (o : List ℕ) → t ≡ in-active p (unpack (w .state)) → t ≡ false → Tells (join-other p) w r out o → Tells (join-new p) w r out o
-  unfolding join-new
-  joined-new r o e h k = tell-no (in-active p) e _ h k
-
-pub join-handled : (w a r : Held) (out o : List ℕ) (p : ℕ) → Room w out → Tells (join-new p) a r out o → Changes (on (push-bootstrap p)) w a → Tells (handle-join p) w r out o
-unfolding handle-join
-join-handled w a r out o p v k₂ k₁ = tell-then _ (λ ds. refl) k₂ (telling v k₁)
+    pub joined-other : (b r : Held) (o₁ o₂ : List ℕ) → u ≡ false → Tells (await-join p) b r o₁ o₂ → Tells (join p) a b out o₁ → Tells (handle-join p) w r out o₂
+    unfolding join-other
+    joined-other b r o₁ o₂ h d₂ d₁ = joined-new r o₂ (tell-no (is-me p) f _ h (tell-then _ (λ ds. refl) d₂ d₁))

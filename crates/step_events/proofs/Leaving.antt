@@ -10,11 +10,10 @@ use borrow.Rule.Slice.PartMut.{putMid}
 use Rattle.lists.specs.Lists.{remove}
 use Rattle.lists.proofs.Count.{length-remove}
 use Rattle.util.specs.Section.{items-at, HoldsSet}
-use Rattle.columns.specs.Columns.{HoldsNumbers}
-use Rattle.protocol.specs.Setters.{set-requests, set-passive, set-peer-data, set-alive, set-refused}
-use Rattle.protocol.specs.Station.{Station, in-active, is-requested}
+use Rattle.columns.specs.Columns.{HoldsNumbers, HoldsDataWords}
+use Rattle.protocol.specs.Station.{in-active, is-requested}
 use Rattle.protocol.specs.Run.{on}
-use Rattle.protocol.specs.Peers.{drop-mark, is-marked}
+use Rattle.protocol.specs.Peers.{drop-data, drop-mark, remove-passive, is-marked}
 use Rattle.protocol.specs.Sending.{send-disconnect}
 use Rattle.protocol.specs.Refill.{refill-active-from-passive}
 use Rattle.protocol.specs.Active.{remove-active}
@@ -28,7 +27,7 @@ use Rattle.state.specs.Unpack.{unpack, station-of, PackedState}
 use Rattle.state.specs.Work.{Held, work-of, run, Changes, Fine, Does}
 use Rattle.state.proofs.Access.{active-fits}
 use Rattle.state.proofs.Bridge.{on-twice, on-passed, on-done, change-then, change-yes, change-no, by, still, then, seq, seq-at, taken, left, holds-at, at-run}
-use Rattle.state.proofs.Fields.{put-requests}
+use Rattle.state.proofs.Fields.{put-passive, put-alive, put-refused, put-requests, put-peer-data}
 use Rattle.step_sending.proofs.Sets.{lent-items}
 use Rattle.step_active.specs.declared.Loss.the-variants.{ConnectionClosed}
 use Rattle.step_active.specs.Sane.{Calm, reason-in}
@@ -40,27 +39,9 @@ module _ (w r : Held) (p : ℕ) (t : Bool) (e : t ≡ is-marked p (unpack (w .st
   unfolding lose-passive
   saved h k = change-yes (is-marked p) e _ h k
 
-  pub lost : t ≡ false → Changes (on (drop-dead p)) w r → Changes (lose-passive p) w r
-  unfolding lose-passive
-  lost h k = change-no (is-marked p) e _ h k
-
-module _ (w a : Held) (ds out : List ℕ) (p : ℕ) (requested : Bool) (v : Fine w ds out) (k₁ : Changes (lose-passive p) w a) where
-  pub asked-again : (r : Held) (o : List ℕ) → requested ≡ true → Does r ds o (refill-active-from-passive (p ∷ []) (run a ds out)) → Does r ds o (lose-other p requested (run w ds out))
-  unfolding lose-other
-  asked-again r o h k₂ = taken _ _ h (seq (refill-active-from-passive (p ∷ [])) k₂ (then k₁ (still v)))
-
-  pub not-asked : requested ≡ false → Does a ds out (lose-other p requested (run w ds out))
-  unfolding lose-other
-  not-asked h = left _ _ h (then k₁ (still v))
-
-module _ (w r : Held) (ds out o : List ℕ) (p : ℕ) (requested t : Bool) (e : t ≡ in-active p (unpack (w .state))) where
-  pub neighbor-lost : t ≡ true → Does r ds o (remove-active p (reason-in ConnectionClosed) (run w ds out)) → Does r ds o (lose p requested (run w ds out))
-  unfolding lose reason-in
-  neighbor-lost h d = taken _ _ (holds-at w ds out (in-active p) e h) d
-
-  pub other-lost : t ≡ false → Does r ds o (lose-other p requested (run w ds out)) → Does r ds o (lose p requested (run w ds out))
-  unfolding lose
-  other-lost h d = left _ _ (holds-at w ds out (in-active p) e h) d
+  pub lost : (a : Held) → t ≡ false → Changes (on (drop-data p)) a r → Changes (on (remove-passive p)) w a → Changes (lose-passive p) w r
+  unfolding lose-passive drop-dead
+  lost a h k₂ k₁ = change-no (is-marked p) e _ h (change-then (on (drop-dead p)) (λ ds out. on-twice (remove-passive p) (drop-data p) (run w ds out)) k₂ k₁)
 
 module _ (w a : Held) (ds out : List ℕ) (p : ℕ) (k : Changes (on (drop-request p)) w a) where
   pub closed-calm : (m b d : ℕ) → Calm m b d (run w ds out) → Calm m b d (run a ds out)
@@ -74,9 +55,29 @@ module _ (w a : Held) (ds out : List ℕ) (p : ℕ) (k : Changes (on (drop-reque
     ok = subst (Ok (h .fixed) (busy (h .guest) (h .barred) [] 0 0) (h .messages + m) (h .bytes + b) (h .draws + d)) (sym (k .same ds out)) (ok-drop-request p (h .ok));
   }
 
-  pub closed : (r : Held) (o : List ℕ) (requested : Bool) → Fine w ds out → requested ≡ is-requested p (unpack (w .state)) → Does r ds o (lose p requested (run a ds out)) → Does r ds o (handle-connection-closed p (run w ds out))
+module _ (w a : Held) (ds out : List ℕ) (p : ℕ) (requested t : Bool) (v : Fine w ds out) (q : requested ≡ is-requested p (unpack (w .state))) (k : Changes (on (drop-request p)) w a) (e : t ≡ in-active p (unpack (a .state))) where
+  closed : (r : Held) (o : List ℕ) → Does r ds o (lose p requested (run a ds out)) → Does r ds o (handle-connection-closed p (run w ds out))
   unfolding handle-connection-closed
-  closed r o requested v e d = seq-at (lose p) (e ∙ at-run w ds out (is-requested p)) d (then k (still v))
+  closed r o d = seq-at (lose p) (q ∙ at-run w ds out (is-requested p)) d (then k (still v))
+
+  pub neighbor-lost : (r : Held) (o : List ℕ) → t ≡ true → Does r ds o (remove-active p (reason-in ConnectionClosed) (run a ds out)) → Does r ds o (handle-connection-closed p (run w ds out))
+  unfolding lose reason-in
+  neighbor-lost r o h d = closed r o (taken _ _ (holds-at a ds out (in-active p) e h) d)
+
+  other-lost : (r : Held) (o : List ℕ) → t ≡ false → Does r ds o (lose-other p requested (run a ds out)) → Does r ds o (handle-connection-closed p (run w ds out))
+  unfolding lose
+  other-lost r o h d = closed r o (left _ _ (holds-at a ds out (in-active p) e h) d)
+
+  passed : (b : Held) → Changes (lose-passive p) a b → Does b ds out (lose-passive p (run a ds out))
+  passed b k₂ = then k₂ (still (then k (still v) .fine))
+
+  pub asked-again : (b r : Held) (o : List ℕ) → t ≡ false → requested ≡ true → Changes (lose-passive p) a b → Does r ds o (refill-active-from-passive (p ∷ []) (run b ds out)) → Does r ds o (handle-connection-closed p (run w ds out))
+  unfolding lose-other
+  asked-again b r o h i k₂ d = other-lost r o h (taken _ _ i (seq (refill-active-from-passive (p ∷ [])) d (passed b k₂)))
+
+  pub not-asked : (b : Held) → t ≡ false → requested ≡ false → Changes (lose-passive p) a b → Does b ds out (handle-connection-closed p (run w ds out))
+  unfolding lose-other
+  not-asked b h i k₂ = other-lost b out h (left _ _ i (passed b k₂))
 
 -- ---- Quit
 
@@ -87,30 +88,21 @@ pub quitted : (w a r : Held) (ds out o : List ℕ) (p : ℕ) → Fine w ds out �
 unfolding quit-one
 quitted w a r ds out o p v k₂ k₁ = seq (send-disconnect p false) k₂ (then k₁ (still v))
 
-pub others-cleared : (w a r : Held) → Changes (on (λ s. set-passive [] (set-peer-data [] s))) a r → Changes (on (λ s. set-alive [] (set-refused [] s))) w a → Changes (on (λ s. set-passive [] (set-peer-data [] (set-alive [] (set-refused [] s))))) w r
-others-cleared w a r k₂ k₁ = change-then _ (λ ds out. on-twice (λ s. set-alive [] (set-refused [] s)) (λ s. set-passive [] (set-peer-data [] s)) (run w ds out)) k₂ k₁
-
--- all but the requests
-abbrev cleared : Station → Station
-cleared s = set-passive [] (set-peer-data [] (set-alive [] (set-refused [] s)))
-
-requests-cleared : (w a r : Held) → Changes (on (set-requests [])) a r → Changes (on cleared) w a → Changes (on clear-all) w r
-unfolding clear-all
-requests-cleared w a r k₂ k₁ = change-then (on clear-all) (λ ds out. on-twice cleared (set-requests []) (run w ds out)) k₂ k₁
-
-module _ (w a : Work) (xs ys : List ℕ) (k : Changes (on (λ s. set-passive [] (set-peer-data [] (set-alive [] (set-refused [] s))))) (work-of w xs) (work-of a ys)) where
-  pub clear-passed : (a .code ≡ 0 → ⊥) → Changes (on clear-all) (work-of w xs) (work-of a ys)
-  clear-passed h = requests-cleared _ _ _ (on-passed (work-of a ys) (k .packed) (set-requests []) h) k
-
-  pub clear-done : (zs : List ℕ) → a .code ≡ 0 → HoldsNumbers 32 zs [] → Changes (on clear-all) (work-of w xs) (work-of a (putMid 130 65 ys zs))
-  clear-done zs h s = requests-cleared _ _ _ (on-done (work-of a ys) (k .packed) (set-requests []) _ h (put-requests s)) k
-
 -- the neighbors are those of the working set
 quits-are : (v xs : List ℕ) (n : ℕ) → HoldsSet 32 v (items-at 8 (active-part xs)) → n ≡ length (items-at 32 v) → take n v ≡ unpack xs .active
 unfolding unpack station-of
 quits-are v xs n h e = lent-items v n (h .valid) e ∙ h .items
 
-pub quit-handled : (w a r : Work) (xs ys zs v ds out o : List ℕ) (n : ℕ) → HoldsSet 32 v (items-at 8 (active-part xs)) → n ≡ length (items-at 32 v) → Does (work-of a ys) ds o (quit-all (take n v) (run (work-of w xs) ds out))
-    → Changes (on clear-all) (work-of a ys) (work-of r zs) → Does (work-of r zs) ds o (handle-quit (run (work-of w xs) ds out))
-unfolding handle-quit run
-quit-handled w a r xs ys zs v ds out o n h e k₁ k₂ = then k₂ (by _ (ap (λ (l : List ℕ). quit-all l (run (work-of w xs) ds out)) (sym (quits-are v xs n h e))) k₁)
+module _ (w a : Work) (xs ys v ds out o : List ℕ) (n : ℕ) (d : Does (work-of a ys) ds o (quit-all (take n v) (run (work-of w xs) ds out))) (s : HoldsSet 32 v (items-at 8 (active-part xs))) (e : n ≡ length (items-at 32 v)) where
+  cleared : (r : Held) → Changes (on clear-all) (work-of a ys) r → Does r ds o (handle-quit (run (work-of w xs) ds out))
+  unfolding handle-quit run
+  cleared r k = then k (by _ (ap (λ (l : List ℕ). quit-all l (run (work-of w xs) ds out)) (sym (quits-are v xs n s e))) d)
+
+  pub quit-passed : (a .code ≡ 0 → ⊥) → Does (work-of a ys) ds o (handle-quit (run (work-of w xs) ds out))
+  quit-passed h = cleared (work-of a ys) (on-passed (work-of a ys) (d .fine .ready .packed) clear-all h)
+
+  pub quit-handled : (refused marks held passive asked : List ℕ) → a .code ≡ 0 → HoldsSet 32 refused [] → HoldsSet 32 marks [] → HoldsDataWords 80 held [] → HoldsSet 32 passive [] → HoldsNumbers 32 asked []
+      → Does (work-of a (putMid 130 65 (putMid 31 33 (putMid 230 321 (putMid 64 33 (putMid 97 33 ys refused) marks) held) passive) asked)) ds o (handle-quit (run (work-of w xs) ds out))
+  unfolding clear-all
+  quit-handled refused marks held passive asked z r m h p q =
+      cleared _ (on-done (work-of a ys) (d .fine .ready .packed) clear-all _ z (λ b. put-requests q (put-passive p (omega arith) (put-peer-data h (put-alive m (put-refused r b))))))

@@ -15,8 +15,11 @@ same-length c = search needs
 returns : tie.Need-returns
 returns c = search saved
 
-drop-dead-requires : tie.Need-drop-dead-requires
-drop-dead-requires c κs = search needs
+remove-passive-requires : tie.Need-remove-passive-requires
+remove-passive-requires c κs = search needs
+
+drop-data-requires : tie.Need-drop-data-requires
+drop-data-requires c κs = search needs
 
 same-length-2 : tie.Need-same-length-2
 same-length-2 c = search needs
@@ -32,6 +35,7 @@ lose-passive-spec =
     drop-mark-requires
     same-length
     returns
-    drop-dead-requires
+    remove-passive-requires
+    drop-data-requires
     same-length-2
     returns-2)
