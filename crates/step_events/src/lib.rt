@@ -13,7 +13,7 @@ ghost use lib.ListN.{length};
 ghost use Rattle.peer.specs.Held.{data-in, ValidData};
 ghost use Rattle.protocol.specs.Budgets.{leaving};
 ghost use Rattle.protocol.specs.Run.{on};
-ghost use Rattle.protocol.specs.Events.{drop-oldest-join, push-bootstrap, note-join, handle-join, lose-passive, handle-connection-closed, update-own-data, remove-neighbor, quit-all, handle-quit};
+ghost use Rattle.protocol.specs.Events.{drop-oldest-join, push-bootstrap, note-join, handle-join, lose-passive, handle-connection-closed, update-own-data, remove-neighbor, handle-quit};
 ghost use Rattle.state.specs.Layout.{words};
 ghost use Rattle.state.specs.Unpack.{unpack, PackedState};
 ghost use Rattle.state.specs.Work.{work-of, run, Changes, Room, Tells, Fine, Does};
@@ -182,23 +182,6 @@ fn remove_neighbor(w: Work, st: &mut [u64], p: PeerId) -> Work
     w
 }
 
-// These peers leave the active view, one after the other.
-fn quit_all(w: Work, st: &mut [u64], draws: &[u32], out: &mut [u8], ps: &[PeerId]) -> Work
-    requires { ⌜ length (now st) ≡ words ⌝ }
-    requires { ⌜ Fine (work-of w (now st)) (now draws) (now out) ⌝ }
-    ensures { λ r. ⌜ Does (work-of r (now (st .exit))) (now (draws .entry)) (now (out .exit)) (quit-all (now (ps .entry)) (run (work-of w (now (st .entry))) (now (draws .entry)) (now (out .entry)))) ⌝ }
-{
-    let mut r = w;
-    let mut i: usize = 0;
-    while i < ps.len() {
-        let p = ps[i];
-        i += 1;
-        let a = remove_neighbor(r, st, p);
-        r = step_sending::send_disconnect(a, st, draws, out, p, false);
-    }
-    r
-}
-
 // Quit: every neighbor gets a Disconnect, in the order of the active view.
 pub fn handle_quit(w: Work, st: &mut [u64], draws: &[u32], out: &mut [u8]) -> Work
     requires { ⌜ length (now st) ≡ words ⌝ }
@@ -208,15 +191,23 @@ pub fn handle_quit(w: Work, st: &mut [u64], draws: &[u32], out: &mut [u8]) -> Wo
     let mut v = [0u64; Layout::SET];
     util::copy_into(&st[Layout::ACTIVE..Layout::ACTIVE_END], Layout::FEW, &mut v);
     let n = util::count(&v, Layout::ALL);
-    let a = quit_all(w, st, draws, out, &v[..n]);
+    // each leaves the active view
+    let mut r = w;
+    let mut i: usize = 0;
+    while i < n {
+        let p = v[i];
+        i += 1;
+        let a = remove_neighbor(r, st, p);
+        r = step_sending::send_disconnect(a, st, draws, out, p, false);
+    }
     // nothing is held of other peers any more
-    if a.code != 0 {
-        return a;
+    if r.code != 0 {
+        return r;
     }
     util::clear(&mut st[Layout::REFUSED..Layout::REFUSED_END], Layout::ALL);
     util::clear(&mut st[Layout::MARKS..Layout::MARKS_END], Layout::ALL);
     columns::clear_data(&mut st[Layout::HELD..Layout::HELD_END], Layout::DATA_CAP);
     util::clear(&mut st[Layout::PASSIVE..Layout::PASSIVE_END], Layout::ALL);
     columns::clear_numbers(&mut st[Layout::ASKED..Layout::ASKED_END], Layout::ALL);
-    a
+    r
 }
