@@ -1,7 +1,5 @@
 use native.Mathlib.Omega.{arith}
 use Rattle.step_maintenance.proofs.Counted.{short-refused, short-left, short-counted}
-use native.Mathlib.Omega.{arith}
-use Rattle.step_maintenance.proofs.Counted.{short-refused, short-left, short-counted}
 use borrow.Author.Needs.{needs}
 use Rattle.step_maintenance.proofs.count_short.Statement.{statement}
 use Rattle.step_maintenance.proofs.count_short.Tie as tie
