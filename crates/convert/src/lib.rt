@@ -38,28 +38,14 @@ fn clear_bytes(out: &mut [u8])
     }
 }
 
-// x in k bytes, lowest first, from place `at` on.
-fn put_number(out: &mut [u8], at: usize, x: u64, k: usize)
-    requires { ⌜ at + k ≤ length (now out) ⌝ }
-    ensures { λ _. ⌜ now (out .exit) ≡ overwrite (now (out .entry)) at (le k x) ⌝ }
-{
-    let mut rest = x;
-    let mut i: usize = 0;
-    while i < k {
-        out[at + i] = (rest % 256) as u8;
-        rest = rest / 256;
-        i += 1;
-    }
-}
-
 // The header's fields behind its peers: they are as long in both forms.
 fn put_tail(out: &mut [u8], at: usize, h: Header)
     requires { ⌜ at + 12 ≤ length (now out) ⌝ }
     ensures { λ _. ⌜ now (out .exit) ≡ overwrite (now (out .entry)) at (tail-bytes h) ⌝ }
 {
-    put_number(out, at, h.ttl as u64, 2);
-    put_number(out, at + 2, h.size as u64, 2);
-    put_number(out, at + 4, h.number, 8);
+    writer::put_number(out, at, h.ttl as u64, 2);
+    writer::put_number(out, at + 2, h.size as u64, 2);
+    writer::put_number(out, at + 4, h.number, 8);
 }
 
 // The header, where a peer has w bytes.
@@ -70,8 +56,8 @@ fn write_header(out: &mut [u8], h: Header, w: usize)
 {
     let first = [h.kind, h.message, h.flags, h.nodes];
     writer::write_bytes(out, 0, &first);
-    put_number(out, 4, h.peer, w);
-    put_number(out, 4 + w, h.second, w);
+    writer::put_number(out, 4, h.peer, w);
+    writer::put_number(out, 4 + w, h.second, w);
     put_tail(out, 4 + 2 * w, h);
 }
 
@@ -81,8 +67,8 @@ fn put_entry(out: &mut [u8], at: usize, e: Entry, w: usize)
     requires { ⌜ at + node-length-by w ≤ length (now out) ⌝ }
     ensures { λ _. ⌜ now (out .exit) ≡ overwrite (now (out .entry)) at (entry-fields w e) ⌝ }
 {
-    put_number(out, at, e.id, w);
-    put_number(out, at + w, e.offset as u64, 2);
+    writer::put_number(out, at, e.id, w);
+    writer::put_number(out, at + w, e.offset as u64, 2);
     let last = [e.len, e.present];
     writer::write_bytes(out, at + (w + 2), &last);
 }

@@ -103,19 +103,19 @@ pub fn write_bytes(out: &mut [u8], at: usize, bs: &[u8])
 const SHORT: usize = 2;
 
 // Where an entry has the length of the data.
-const LENGTH_AT: usize = PEER + SHORT;
+const LENGTH_FROM: usize = PEER + SHORT;
 
 // The bytes of an entry after its peer.
 const AFTER_PEER: usize = NODE - PEER;
 
-// The n low bytes of x, the lowest first, from place `at` on.
-fn put_number(out: &mut [u8], at: usize, n: usize, x: u64)
-    requires { ⌜ at + n ≤ length (now out) ⌝ }
-    ensures { λ _. ⌜ now (out .exit) ≡ overwrite (now (out .entry)) at (le n x) ⌝ }
+// x in k bytes, lowest first, from place `at` on.
+pub fn put_number(out: &mut [u8], at: usize, x: u64, k: usize)
+    requires { ⌜ at + k ≤ length (now out) ⌝ }
+    ensures { λ _. ⌜ now (out .exit) ≡ overwrite (now (out .entry)) at (le k x) ⌝ }
 {
     let mut rest = x;
     let mut i: usize = 0;
-    while i < n {
+    while i < k {
         out[at + i] = (rest % 256) as u8;
         rest = rest / 256;
         i += 1;
@@ -123,20 +123,20 @@ fn put_number(out: &mut [u8], at: usize, n: usize, x: u64)
 }
 
 // A node entry, whose data stand at the place reached, from place `at` on.
-fn put_entry(out: &mut [u8], at: usize, p: PeerInfo, reached: usize)
+fn put_node(out: &mut [u8], at: usize, p: PeerInfo, reached: usize)
     requires { ⌜ ValidData (p .data) ⌝ }
     requires { ⌜ at + node-length ≤ length (now out) ⌝ }
     ensures { λ _. ⌜ now (out .exit) ≡ overwrite (now (out .entry)) at (entry (node-in p) reached) ⌝ }
 {
     let d = p.data;
-    put_number(out, at, PEER, p.id);
+    put_number(out, at, p.id, PEER);
     if d.present {
-        put_number(out, at + PEER, SHORT, reached as u64);
+        put_number(out, at + PEER, reached as u64, SHORT);
         let back = [d.len, 1];
-        write_bytes(out, at + LENGTH_AT, &back);
+        write_bytes(out, at + LENGTH_FROM, &back);
         return;
     }
-    put_number(out, at + PEER, AFTER_PEER, 0);
+    put_number(out, at + PEER, 0, AFTER_PEER);
 }
 
 // The entries of these nodes, from place `at` on.
@@ -151,7 +151,7 @@ fn put_entries(out: &mut [u8], at: usize, ns: Nodes)
     let mut i: usize = 0;
     while i < n {
         let p = items[i];
-        put_entry(out, at + NODE * i, p, reached);
+        put_node(out, at + NODE * i, p, reached);
         let d = p.data;
         reached += d.len as usize;
         i += 1;
@@ -190,18 +190,18 @@ fn left(len: usize, at: usize) -> usize
 }
 
 // Where a header's numbers stand in it.
-const PEER_AT: usize = 4;
+const PEER_FROM: usize = 4;
 
-const SECOND_AT: usize = PEER_AT + PEER;
+const SECOND_FROM: usize = PEER_FROM + PEER;
 
-const TTL_AT: usize = SECOND_AT + PEER;
+const TTL_FROM: usize = SECOND_FROM + PEER;
 
-const SIZE_AT: usize = TTL_AT + SHORT;
+const SIZE_FROM: usize = TTL_FROM + SHORT;
 
-const NUMBER_AT: usize = SIZE_AT + SHORT;
+const NUMBER_FROM: usize = SIZE_FROM + SHORT;
 
 // The bytes of a header's number.
-const NUMBER: usize = HEADER - NUMBER_AT;
+const NUMBER_BYTES: usize = HEADER - NUMBER_FROM;
 
 // The header of a record of so many nodes and so many bytes, from place `at` on.
 fn put_header(out: &mut [u8], at: usize, f: Fields, nodes: u8, size: u16)
@@ -210,11 +210,11 @@ fn put_header(out: &mut [u8], at: usize, f: Fields, nodes: u8, size: u16)
 {
     let front = [f.kind, f.message, f.flags, nodes];
     write_bytes(out, at, &front);
-    put_number(out, at + PEER_AT, PEER, f.peer);
-    put_number(out, at + SECOND_AT, PEER, f.second);
-    put_number(out, at + TTL_AT, SHORT, f.ttl as u64);
-    put_number(out, at + SIZE_AT, SHORT, size as u64);
-    put_number(out, at + NUMBER_AT, NUMBER, f.number);
+    put_number(out, at + PEER_FROM, f.peer, PEER);
+    put_number(out, at + SECOND_FROM, f.second, PEER);
+    put_number(out, at + TTL_FROM, f.ttl as u64, SHORT);
+    put_number(out, at + SIZE_FROM, size as u64, SHORT);
+    put_number(out, at + NUMBER_FROM, f.number, NUMBER_BYTES);
 }
 
 // The record from place `at` on; nothing is touched where it does not fit.
@@ -257,7 +257,7 @@ pub fn write_one(out: &mut [u8], at: usize, f: Fields, p: PeerInfo) -> Written
         return Written::Full;
     }
     put_header(out, at, f, 1, whole as u16);
-    put_entry(out, at + HEADER, p, fixed);
+    put_node(out, at + HEADER, p, fixed);
     let bytes = d.bytes;
     write_bytes(out, at + fixed, &bytes[..n]);
     Written::At(at + whole)

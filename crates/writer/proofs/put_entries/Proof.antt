@@ -71,14 +71,14 @@ mul-p c = search needs
 array-copy-out-p : tie.Need-array-copy-out-p Inv-loop μ-loop
 array-copy-out-p c = search needs
 
-mul-put-entry : tie.Need-mul-put-entry Inv-loop μ-loop
-mul-put-entry c = search needs
+mul-put-node : tie.Need-mul-put-node Inv-loop μ-loop
+mul-put-node c = search needs
 
-add-put-entry : tie.Need-add-put-entry Inv-loop μ-loop
-add-put-entry c = search needs
+add-put-node : tie.Need-add-put-node Inv-loop μ-loop
+add-put-node c = search needs
 
-put-entry-requires : tie.Need-put-entry-requires Inv-loop μ-loop
-put-entry-requires c κs = (search here, search needs)
+put-node-requires : tie.Need-put-node-requires Inv-loop μ-loop
+put-node-requires c κs = (search here, search needs)
 
 cast-reached : tie.Need-cast-reached Inv-loop μ-loop
 cast-reached c = search needs
@@ -112,9 +112,9 @@ put-entries-spec =
     loop-holds
     mul-p
     array-copy-out-p
-    mul-put-entry
-    add-put-entry
-    put-entry-requires
+    mul-put-node
+    add-put-node
+    put-node-requires
     cast-reached
     add-reached-2
     add-i

@@ -17,11 +17,11 @@ else1-to-start c = c .before .before .before .before .before
 abbrev put-header-to-else1 : tie.After-put-header → tie.Else1
 put-header-to-else1 c = c .before .before
 
-abbrev put-entry-to-put-header : tie.After-put-entry → tie.After-put-header
-put-entry-to-put-header c = c .before .before .before .before
+abbrev put-node-to-put-header : tie.After-put-node → tie.After-put-header
+put-node-to-put-header c = c .before .before .before .before
 
-abbrev write-bytes-to-put-entry : tie.After-write-bytes → tie.After-put-entry
-write-bytes-to-put-entry c = c .before .before .before .before .before .before
+abbrev write-bytes-to-put-node : tie.After-write-bytes → tie.After-put-node
+write-bytes-to-put-node c = c .before .before .before .before .before .before
 
 cast-n : tie.Need-cast-n
 cast-n c = search needs
@@ -44,11 +44,11 @@ cast-put-header c = search needs
 put-header-requires : tie.Need-put-header-requires
 put-header-requires c κs = search needs
 
-add-put-entry : tie.Need-add-put-entry
-add-put-entry c = search needs
+add-put-node : tie.Need-add-put-node
+add-put-node c = search needs
 
-put-entry-requires : tie.Need-put-entry-requires
-put-entry-requires c κs = search needs
+put-node-requires : tie.Need-put-node-requires
+put-node-requires c κs = search needs
 
 add-write-bytes : tie.Need-add-write-bytes
 add-write-bytes c = search needs
@@ -62,9 +62,9 @@ slice-aggregate-write-bytes c = search exact
 write-bytes-requires : tie.Need-write-bytes-requires
 write-bytes-requires c κs =
     let b = c .before .before .before .before .before in
-    let h = put-entry-to-put-header b in
+    let h = put-node-to-put-header b in
     let t = put-header-to-else1 h in
-    omega (arith, exact _ (valid-data (else1-to-start t)), t .before .left .ensures, t .if1 .left, h .put-header .kept .0, b .put-entry .kept .0)
+    omega (arith, exact _ (valid-data (else1-to-start t)), t .before .left .ensures, t .if1 .left, h .put-header .kept .0, b .put-node .kept .0)
 
 add-t10 : tie.Need-add-t10
 add-t10 c = search needs
@@ -75,11 +75,11 @@ same-length c = search needs
 returns-2 : tie.Need-returns-2
 returns-2 c =
     let d = c .before .before in
-    let e = write-bytes-to-put-entry d in
-    let h = put-entry-to-put-header e in
+    let e = write-bytes-to-put-node d in
+    let h = put-node-to-put-header e in
     let t = put-header-to-else1 h in
     done-one _ _ (valid-data (else1-to-start t)) _ _ _ (t .before .left .ensures) (t .if1 .left) _ _ _
-    (d .write-bytes .ensures) (e .put-entry .ensures) (h .put-header .ensures)
+    (d .write-bytes .ensures) (e .put-node .ensures) (h .put-header .ensures)
 
 pub write-one-spec : {M : Type 1} → statement M
 write-one-spec =
@@ -92,8 +92,8 @@ write-one-spec =
     returns
     cast-put-header
     put-header-requires
-    add-put-entry
-    put-entry-requires
+    add-put-node
+    put-node-requires
     add-write-bytes
     array-share-prefix-bytes
     slice-aggregate-write-bytes

@@ -1,7 +1,7 @@
 use Rattle.writer.proofs.Laws.{entry-put, absent-put}
 use borrow.Author.Needs.{needs}
-use Rattle.writer.proofs.put_entry.Statement.{statement}
-use Rattle.writer.proofs.put_entry.Tie as tie
+use Rattle.writer.proofs.put_node.Statement.{statement}
+use Rattle.writer.proofs.put_node.Tie as tie
 
 put-number-requires : tie.Need-put-number-requires
 put-number-requires c κs = search needs
@@ -39,8 +39,8 @@ same-length-2 c = search needs
 returns-2 : tie.Need-returns-2
 returns-2 c = search absent-put
 
-pub put-entry-spec : {M : Type 1} → statement M
-put-entry-spec =
+pub put-node-spec : {M : Type 1} → statement M
+put-node-spec =
     tie.close
     (tie.spec
     put-number-requires
