@@ -8,19 +8,16 @@ use mathlib.Core.Option.{none, some}
 use native.Mathlib.Omega.{arith}
 use lib.ListN.{length, set, length-append}
 use lib.Dec.{eqb}
-use borrow.Rule.Slice.PartMut.{putMid}
 use borrow.Author.Tests.{leb-false}
-use Rattle.lists.specs.Lists.{renew}
 use Rattle.lists.proofs.Choice.{by-choice}
-use Rattle.timing.specs.Timing.{max-recent-neighbors}
 use Rattle.peer.specs.declared.PeerData.{PeerData}
 use Rattle.peer.specs.Data.{Data, bytes-of}
 use Rattle.peer.specs.Held.{data-in, ValidData}
 use Rattle.peer.proofs.Data.{short-bytes}
-use Rattle.util.specs.Section.{items-at, HoldsSet}
+use Rattle.util.specs.Section.{items-at}
 use Rattle.writer.specs.Write.{rec-in}
 use Rattle.protocol.specs.Station.{Station, Refill, automatic, is-me, in-active, active-is-full}
-use Rattle.protocol.specs.Setters.{set-recent, set-refill}
+use Rattle.protocol.specs.Setters.{set-refill}
 use Rattle.protocol.specs.Run.{Run, guard, on, emit, notice}
 use Rattle.protocol.specs.Budgets.{single, freeing, arriving}
 use Rattle.protocol.specs.Peers.{insert-peer-info, drop-mark, remove-passive}
@@ -38,7 +35,7 @@ use Rattle.state.specs.Layout.{active-view-capacity, active-part}
 use Rattle.state.specs.Unpack.{unpack, station-of, settings-at, limit-at, refill-in, PackedState, Becomes}
 use Rattle.state.specs.Work.{work-of, run, Changes, Room, Tells, TellsAny, Fine, Does}
 use Rattle.state.proofs.Access.{of-capacity}
-use Rattle.state.proofs.Fields.{put-active, put-recent, put-passes-short}
+use Rattle.state.proofs.Fields.{put-passes-short}
 use Rattle.state.proofs.Bridge.{on-twice, on-passed, on-done, change-then, telling, tell-then, still, then-tell, seq, taken, left, holds-at}
 use Rattle.step_active.specs.Sane.{FreeActive, Calm}
 
@@ -77,27 +74,15 @@ module _ (w a b : Work) (xs ys zs : List ℕ) (p : ℕ) (k₂ : Changes (on (dro
   unfolding drop-mark remove-passive
   left-free h = still-free (drop-mark p) (λ s. refl) (λ s. refl) a b ys zs k₂ (still-free (remove-passive p) (λ s. refl) (λ s. refl) w a xs ys k₁ h)
 
-  move-row : (us : List ℕ) → Changes (on (λ s. remember-neighbor p (push-active p s))) (work-of b zs) (work-of b us) → Changes (on (move-in p)) (work-of w xs) (work-of b us)
+  pub moved-in : (d r : Work) (us vs : List ℕ) → Changes (on (remember-neighbor p)) (work-of d us) (work-of r vs) → Changes (on (push-active p)) (work-of b zs) (work-of d us) → Changes (on (move-in p)) (work-of w xs) (work-of r vs)
   unfolding move-in
-  move-row us k₃ =
-      change-then _ (λ ds out. on-twice (λ s. drop-mark p (remove-passive p s)) (λ s. remember-neighbor p (push-active p s)) (run (work-of w xs) ds out)) k₃
-      (change-then (on (λ s. drop-mark p (remove-passive p s))) (λ ds out. on-twice (remove-passive p) (drop-mark p) (run (work-of w xs) ds out)) k₂ k₁)
-
-  pub not-moved : (b .code ≡ 0 → ⊥) → Changes (on (move-in p)) (work-of w xs) (work-of b zs)
-  not-moved h = move-row zs (on-passed (work-of b zs) (k₂ .packed) (λ s. remember-neighbor p (push-active p s)) h)
-
-  pub moved-in : (us : List ℕ) → b .code ≡ 0 → Becomes us (remember-neighbor p (push-active p (unpack zs))) → Changes (on (move-in p)) (work-of w xs) (work-of b us)
-  moved-in us z h = move-row us (on-done (work-of b zs) (k₂ .packed) (λ s. remember-neighbor p (push-active p s)) us z (λ _. h))
-
-pub pushed : (xs ys : List ℕ) (code p : ℕ) → PackedState xs → code ≡ 0 → FreeActive code (unpack xs) → HoldsSet 8 ys (items-at 8 (active-part xs) ++ (p ∷ [])) → Becomes (putMid 22 9 xs ys) (push-active p (unpack xs))
-unfolding push-active unpack station-of
-pushed xs ys code p v z f h = put-active h (one-more xs code v z f p) (record { packed = v; same = refl })
-
--- the recent neighbors are those of before the push
-pub remembered : (xs ys : List ℕ) (s : Station) (p : ℕ) → Becomes xs s → HoldsSet 8 ys (renew max-recent-neighbors p (unpack xs .recent)) → Becomes (putMid 204 9 xs ys) (remember-neighbor p s)
-unfolding remember-neighbor
-remembered xs ys s p b h =
-    subst (λ (l : List ℕ). Becomes (putMid 204 9 xs ys) (set-recent (renew max-recent-neighbors p l) s)) (ap (λ (u : Station). u .recent) (b .same)) (put-recent h b)
+  moved-in d r us vs k₄ k₃ =
+      change-then _
+      (λ ds out. on-twice (λ s. push-active p (drop-mark p (remove-passive p s))) (remember-neighbor p) (run (work-of w xs) ds out)
+      ∙ ap (on (remember-neighbor p)) (on-twice (λ s. drop-mark p (remove-passive p s)) (push-active p) (run (work-of w xs) ds out)
+      ∙ ap (on (push-active p)) (on-twice (remove-passive p) (drop-mark p) (run (work-of w xs) ds out))))
+      k₄ (change-then (λ g. on (push-active p) (on (drop-mark p) (on (remove-passive p) g))) (λ ds out. refl) k₃
+      (change-then (λ g. on (drop-mark p) (on (remove-passive p) g)) (λ ds out. refl) k₂ k₁))
 
 pub gained : (xs ys : List ℕ) (old v l : RefillLimit) → Becomes ys (set-refill (refill-in v) (unpack xs)) → refill-in v ≡ unless-recovery (refill-in old) (refill-in l) → l ≡ Automatic → old ≡ limit-at xs
     → Becomes (set ys 15 0) (gain-neighbor (unpack xs))
