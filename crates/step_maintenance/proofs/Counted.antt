@@ -1,25 +1,28 @@
 -- Passes that are counted, and the peers that a pass looks at.
 -- Assumes nothing.
-use Prim.Native.Nat.{ℕ, _+_, _≤_}
-use mathlib.Core.Path.{_≡_, refl, ap, _∙_}
+use Prim.Native.Nat.{ℕ, _+_, _≤_, _<_}
+use mathlib.Core.Path.{_≡_, refl, sym, ap, _∙_}
 use mathlib.Core.List.{List, []}
 use native.Mathlib.Omega.{arith}
-use lib.ListN.{set}
+use lib.ListN.{length, getD, set}
+use lib.Seq.{take-all}
 use lib.Dec.{ltb}
 use borrow.Author.Tests.{ltb-true}
-use Rattle.lists.specs.Lists.{without-all}
+use borrow.Rule.Slice.PartMut.{putMid}
+use Rattle.lists.specs.Lists.{without-all, renew}
+use Rattle.lists.proofs.Rest.{Rest, rest-next, rest-end}
 use Rattle.util.specs.Section.{items-at, HoldsSet}
 use Rattle.writer.specs.Write.{rec-in}
-use Rattle.protocol.specs.Station.{top-passes}
-use Rattle.protocol.specs.Setters.{set-passes-alone}
+use Rattle.protocol.specs.Station.{Station, top-passes}
+use Rattle.protocol.specs.Setters.{set-passes-alone, set-recent}
 use Rattle.protocol.specs.Run.{on, emit, require}
-use Rattle.protocol.specs.Timers.{renew-all, other-recent, alone-counts, add-alone, count-alone, short-counts, add-short, count-short, schedule-maintenance}
+use Rattle.protocol.specs.Timers.{renew-all, remember-all, other-recent, alone-counts, add-alone, count-alone, short-counts, add-short, count-short, schedule-maintenance}
 use Rattle.state.specs.declared.Work.{Work}
-use Rattle.state.specs.Layout.{recent-part, bootstrap-part, passes-alone, passes-short}
-use Rattle.state.specs.Unpack.{unpack, station-of, PackedState}
+use Rattle.state.specs.Layout.{active-part, recent-part, bootstrap-part, passes-alone, passes-short}
+use Rattle.state.specs.Unpack.{unpack, station-of, long, PackedState, Becomes}
 use Rattle.state.specs.Work.{work-of, run, Changes, ChangesAny, TellsAny}
 use Rattle.state.proofs.Bridge.{on-passed, on-done, require-said, change-then, tell-by}
-use Rattle.state.proofs.Fields.{put-passes-alone, put-passes-short}
+use Rattle.state.proofs.Fields.{put-passes-alone, put-passes-short, put-recent}
 
 -- ---- passes
 
@@ -61,9 +64,60 @@ alone-reset w xs v z = on-done (work-of w xs) v (set-passes-alone 0) _ z (put-pa
 
 -- ---- peers
 
--- the neighbors of a working set, made the newest of the recent ones
-pub remembered : (neighbors recent v r : List ℕ) → HoldsSet 8 r (renew-all (items-at 32 v) recent) → HoldsSet 32 v neighbors → HoldsSet 8 r (renew-all neighbors recent)
-remembered neighbors recent v r k h = record { valid = k .valid; items = k .items ∙ ap (λ (l : List ℕ). renew-all l recent) (h .items) }
+-- the neighbors to come, made the newest of the recent ones in the words ys, are the answer for the words xs
+abbrev Then : List ℕ → List ℕ → List ℕ
+Then recent l = renew-all l recent
+
+pub record Renewing (code : ℕ) (xs : List ℕ) (n : ℕ) (ys : List ℕ) (i : ℕ) : Type 0 where
+  pub packed : PackedState xs
+  pub zero : code ≡ 0
+  pub became : Becomes ys (set-recent (items-at 8 (recent-part ys)) (unpack xs))
+  pub len : length ys ≡ length xs
+  pub count : n ≡ length (items-at 8 (active-part xs))
+  pub rest : Rest Then (length (items-at 8 (active-part xs))) (items-at 8 (active-part xs)) n (renew-all (items-at 8 (active-part xs)) (items-at 8 (recent-part xs))) (items-at 8 (recent-part ys)) i
+
+pub renew-start : (code : ℕ) (xs : List ℕ) (n : ℕ) → PackedState xs → code ≡ 0 → n ≡ length (items-at 8 (active-part xs)) → Renewing code xs n xs 0
+unfolding unpack station-of
+renew-start code xs n v z e = record {
+  packed = v;
+  zero = z;
+  became = record { packed = v; same = refl };
+  len = refl;
+  count = e;
+  rest = record { low = omega arith; top = omega (arith, e); long = refl; same = ap (λ (l : List ℕ). renew-all l (items-at 8 (recent-part xs))) (sym (take-all n (items-at 8 (active-part xs)) (omega (arith, e)))) };
+}
+
+module _ (code : ℕ) (xs : List ℕ) (n : ℕ) (ys : List ℕ) (i : ℕ) (v : Renewing code xs n ys i) where
+  active-kept : items-at 8 (active-part ys) ≡ items-at 8 (active-part xs)
+  unfolding unpack station-of
+  active-kept = ap (λ (s : Station). s .active) (v .became .same)
+
+  pub renew-packed : PackedState ys
+  renew-packed = v .became .packed
+
+  pub renew-below : i < n → i < length (items-at 8 (active-part ys))
+  renew-below h = omega (arith, v .count, ap length active-kept)
+
+  pub renew-next : (p : ℕ) (r : List ℕ) → i < n → p ≡ getD (items-at 8 (active-part ys)) i 0 → HoldsSet 8 r (renew 8 p (items-at 8 (recent-part ys))) → Renewing code xs n (putMid 204 9 ys r) (i + 1)
+  unfolding renew-all unpack station-of
+  renew-next p r h e k =
+      let b = put-recent k (v .became) in
+      let q : items-at 8 (recent-part (putMid 204 9 ys r)) ≡ renew 8 p (items-at 8 (recent-part ys)) = ap (λ (s : Station). s .recent) (b .same) in
+      record {
+        packed = v .packed;
+        zero = v .zero;
+        became = record { packed = b .packed; same = b .same ∙ ap (λ (l : List ℕ). set-recent l (unpack xs)) (sym q) };
+        len = long (b .packed) ∙ sym (long (v .packed));
+        count = v .count;
+        rest = rest-next 0 Then (v .rest) (items-at 8 (recent-part (putMid 204 9 ys r))) h
+            (λ l. ap (renew-all l) (sym (q ∙ ap (λ (x : ℕ). renew 8 x (items-at 8 (recent-part ys))) (e ∙ ap (λ (m : List ℕ). getD m i 0) active-kept))));
+      }
+
+  pub renew-end : (w : Work) → w .code ≡ code → n ≤ i → Changes (on remember-all) (work-of w xs) (work-of w ys)
+  unfolding remember-all renew-all unpack station-of
+  renew-end w z h =
+      on-done (work-of w xs) (v .packed) remember-all ys (z ∙ v .zero)
+      (λ b. record { packed = v .became .packed; same = v .became .same ∙ ap (λ (l : List ℕ). set-recent l (unpack xs)) (sym (rest-end 0 Then (v .rest) h)) })
 
 pub others-are : (xs v r : List ℕ) → HoldsSet 32 v (items-at 8 (recent-part xs)) → HoldsSet 32 r (without-all (items-at 8 (bootstrap-part xs)) (items-at 32 v)) → HoldsSet 32 r (other-recent (unpack xs))
 unfolding other-recent unpack station-of

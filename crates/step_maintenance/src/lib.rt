@@ -9,30 +9,14 @@ use writer::Fields;
 ghost use mathlib.Core.Path.{_≡_};
 ghost use Prim.Native.Nat.{_≤_};
 ghost use lib.ListN.{length};
-ghost use Rattle.util.specs.Section.{items-at, ValidSet, HoldsSet};
 ghost use Rattle.protocol.specs.Run.{on};
-ghost use Rattle.protocol.specs.Timers.{renew-all, remember-all, rejoin-bootstrap, pass-alone, count-short, not-alone, maintain};
+ghost use Rattle.protocol.specs.Timers.{remember-all, rejoin-bootstrap, pass-alone, count-short, not-alone, maintain};
 ghost use Rattle.protocol.specs.Timers.{schedule-maintenance, handle-maintenance-timer};
-ghost use Rattle.state.specs.Layout.{words, all-places, few-places};
+ghost use Rattle.state.specs.Layout.{words};
 ghost use Rattle.state.specs.Unpack.{PackedState};
 ghost use Rattle.state.specs.Work.{work-of, run, Changes, Room, Tells, TellsAny, Fine, Does};
 
-// The peers of a working set as the newest of the known ones, one after the other.
-fn renew_all(known: &mut [u64], v: &[u64])
-    requires { ⌜ ValidSet few-places (now known) ⌝ }
-    requires { ⌜ ValidSet all-places (now v) ⌝ }
-    ensures { λ _. ⌜ HoldsSet few-places (now (known .exit)) (renew-all (items-at all-places (now (v .entry))) (items-at few-places (now (known .entry)))) ⌝ }
-{
-    let n = util::count(v, Layout::ALL);
-    let mut i: usize = 0;
-    while i < n {
-        let p = util::get_index(v, Layout::ALL, i);
-        i += 1;
-        util::renew(known, Layout::FEW, Timing::MAX_RECENT_NEIGHBORS, p);
-    }
-}
-
-// The neighbors become the newest of the recent ones.
+// The neighbors become the newest of the recent ones, one after the other.
 fn remember_all(w: Work, st: &mut [u64]) -> Work
     requires { ⌜ length (now st) ≡ words ⌝ }
     requires { ⌜ PackedState (now st) ⌝ }
@@ -41,9 +25,18 @@ fn remember_all(w: Work, st: &mut [u64]) -> Work
     if w.code != 0 {
         return w;
     }
-    let mut v = [0u64; Layout::SET];
-    util::copy_into(&st[Layout::ACTIVE..Layout::ACTIVE_END], Layout::FEW, &mut v);
-    renew_all(&mut st[Layout::RECENT..Layout::RECENT_END], &v);
+    let n = util::count(&st[Layout::ACTIVE..Layout::ACTIVE_END], Layout::FEW);
+    let mut i: usize = 0;
+    while i < n {
+        let p = util::get_index(&st[Layout::ACTIVE..Layout::ACTIVE_END], Layout::FEW, i);
+        i += 1;
+        util::renew(
+            &mut st[Layout::RECENT..Layout::RECENT_END],
+            Layout::FEW,
+            Timing::MAX_RECENT_NEIGHBORS,
+            p,
+        );
+    }
     w
 }
 

@@ -1,70 +1,104 @@
-use Rattle.state.specs.Unpack.{unpack, station-of}
+-- The measure is what is left.
+use Prim.Native.Nat.{_-_}
+use native.Mathlib.Omega.{arith}
 use Rattle.util.specs.Section.{part}
 use Rattle.state.proofs.Access.{of-packed}
-use Rattle.state.proofs.Bridge.{on-passed, on-done}
-use Rattle.protocol.specs.Timers.{remember-all}
-use Rattle.state.proofs.Fields.{put-recent}
-use Rattle.step_maintenance.proofs.Counted.{remembered}
+use Rattle.state.proofs.Bridge.{on-passed}
+use Rattle.step_maintenance.proofs.Counted.{Renewing, renew-start, renew-packed, renew-below, renew-next, renew-end}
 use borrow.Author.Needs.{needs}
 use Rattle.step_maintenance.proofs.remember_all.Statement.{statement}
 use Rattle.step_maintenance.proofs.remember_all.Tie as tie
 
-returns : tie.Need-returns
+abbrev Inv-loop : tie.InvT-loop
+Inv-loop w st₀ n i₀ st i = Renewing (w .code) st₀ n st i
+
+abbrev μ-loop : tie.MeasureT-loop
+μ-loop w st₀ n i₀ st i = n - i
+
+returns : tie.Need-returns Inv-loop μ-loop
 returns c = search on-passed
 
-sub-copy-into : tie.Need-sub-copy-into
-sub-copy-into c = search needs
+sub-count : tie.Need-sub-count Inv-loop μ-loop
+sub-count c = search needs
 
-part-copy-into-start : tie.Need-part-copy-into-start
-part-copy-into-start c = search needs
+part-count-start : tie.Need-part-count-start Inv-loop μ-loop
+part-count-start c = search needs
 
-part-copy-into-end : tie.Need-part-copy-into-end
-part-copy-into-end c = search needs
+part-count-end : tie.Need-part-count-end Inv-loop μ-loop
+part-count-end c = search needs
 
-slice-aggregate-copy-into : tie.Need-slice-aggregate-copy-into
-slice-aggregate-copy-into c = search needs
-
-copy-into-requires : tie.Need-copy-into-requires
+count-requires : tie.Need-count-requires Inv-loop μ-loop
 unfolding part
-copy-into-requires c κs = (search (of-packed, needs), search needs)
+count-requires c κs = search (of-packed, needs)
 
-sub-renew-all : tie.Need-sub-renew-all
-sub-renew-all c = search needs
-
-part-renew-all-start : tie.Need-part-renew-all-start
-part-renew-all-start c = search needs
-
-part-renew-all-end : tie.Need-part-renew-all-end
-part-renew-all-end c = search needs
-
-slice-aggregate-renew-all : tie.Need-slice-aggregate-renew-all
-slice-aggregate-renew-all c = search needs
-
-renew-all-requires : tie.Need-renew-all-requires
+loop-holds : tie.Need-loop-holds Inv-loop μ-loop
 unfolding part
-renew-all-requires c κs = (search (of-packed, needs), c .before .before .before .copy-into .ensures .valid)
+loop-holds c = search (renew-start, needs)
 
-same-length : tie.Need-same-length
+sub-get-index : tie.Need-sub-get-index Inv-loop μ-loop
+sub-get-index c = search needs
+
+part-get-index-start : tie.Need-part-get-index-start Inv-loop μ-loop
+part-get-index-start c = search needs
+
+part-get-index-end : tie.Need-part-get-index-end Inv-loop μ-loop
+part-get-index-end c = search needs
+
+get-index-requires : tie.Need-get-index-requires Inv-loop μ-loop
+unfolding part
+get-index-requires c κs = (search (of-packed, renew-packed, needs), search renew-below)
+
+add-i : tie.Need-add-i Inv-loop μ-loop
+add-i c = search needs
+
+sub-renew : tie.Need-sub-renew Inv-loop μ-loop
+sub-renew c = search needs
+
+part-renew-start : tie.Need-part-renew-start Inv-loop μ-loop
+part-renew-start c = search needs
+
+part-renew-end : tie.Need-part-renew-end Inv-loop μ-loop
+part-renew-end c = search needs
+
+renew-requires : tie.Need-renew-requires Inv-loop μ-loop
+unfolding part
+renew-requires c κs = (search (of-packed, renew-packed, needs), (omega arith, omega arith))
+
+loop-less : tie.Need-loop-less Inv-loop μ-loop
+loop-less c = search needs
+
+loop-again : tie.Need-loop-again Inv-loop μ-loop
+unfolding part
+loop-again c = search renew-next
+
+same-length : tie.Need-same-length Inv-loop μ-loop
 same-length c = search needs
 
-returns-2 : tie.Need-returns-2
-unfolding remember-all unpack station-of part
-returns-2 c = on-done _ (search needs) _ _ (search needs) (put-recent (remembered _ _ _ _ (c .before .before .renew-all .ensures) (c .before .before .before .before .before .before .copy-into .ensures)))
+returns-2 : tie.Need-returns-2 Inv-loop μ-loop
+returns-2 c = search (renew-end, needs)
 
 pub remember-all-spec : {M : Type 1} → statement M
 remember-all-spec =
     tie.close
     (tie.spec
+    Inv-loop
+    μ-loop
     returns
-    sub-copy-into
-    part-copy-into-start
-    part-copy-into-end
-    slice-aggregate-copy-into
-    copy-into-requires
-    sub-renew-all
-    part-renew-all-start
-    part-renew-all-end
-    slice-aggregate-renew-all
-    renew-all-requires
+    sub-count
+    part-count-start
+    part-count-end
+    count-requires
+    loop-holds
+    sub-get-index
+    part-get-index-start
+    part-get-index-end
+    get-index-requires
+    add-i
+    sub-renew
+    part-renew-start
+    part-renew-end
+    renew-requires
+    loop-less
+    loop-again
     same-length
     returns-2)
