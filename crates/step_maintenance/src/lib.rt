@@ -68,8 +68,11 @@ fn pass_alone(w: Work, st: &mut [u64], draws: &[u32], out: &mut [u8]) -> Work
     ensures { λ r. ⌜ Does (work-of r (now (st .exit))) (now (draws .entry)) (now (out .exit)) (pass-alone (run (work-of w (now (st .entry))) (now (draws .entry)) (now (out .entry)))) ⌝ }
 {
     // code 10 where the pass cannot be counted
-    let t = st[Layout::PASSES_ALONE] < state::TOP_PASSES;
-    let a = state::require(w, Refusal::COUNTER, t);
+    let a = state::require(
+        w,
+        Refusal::COUNTER,
+        st[Layout::PASSES_ALONE] < state::TOP_PASSES,
+    );
     if a.code != 0 {
         return a;
     }
@@ -103,8 +106,11 @@ fn count_short(w: Work, st: &mut [u64]) -> Work
     requires { ⌜ PackedState (now st) ⌝ }
     ensures { λ r. ⌜ Changes count-short (work-of w (now (st .entry))) (work-of r (now (st .exit))) ⌝ }
 {
-    let t = st[Layout::PASSES_SHORT] < state::TOP_PASSES;
-    let a = state::require(w, Refusal::COUNTER, t);
+    let a = state::require(
+        w,
+        Refusal::COUNTER,
+        st[Layout::PASSES_SHORT] < state::TOP_PASSES,
+    );
     if a.code != 0 {
         return a;
     }
@@ -145,8 +151,7 @@ fn maintain(w: Work, st: &mut [u64], draws: &[u32], out: &mut [u8]) -> Work
     }
     if state::is_short(st) {
         // nothing is done while a recovery runs
-        let l = state::limit_of(st);
-        if l.is_recovery() {
+        if state::limit_of(st).is_recovery() {
             return a;
         }
         // the pass is counted, and the backoff says whether it refills

@@ -4,8 +4,8 @@ use borrow.Author.Needs.{needs}
 use Rattle.step_maintenance.proofs.count_short.Statement.{statement}
 use Rattle.step_maintenance.proofs.count_short.Tie as tie
 
-slice-read-t : tie.Need-slice-read-t
-slice-read-t c = search needs
+slice-read-require : tie.Need-slice-read-require
+slice-read-require c = search needs
 
 require-requires : tie.Need-require-requires
 require-requires c κs = search needs
@@ -32,7 +32,7 @@ pub count-short-spec : {M : Type 1} → statement M
 count-short-spec =
     tie.close
     (tie.spec
-    slice-read-t
+    slice-read-require
     require-requires
     returns
     slice-read-st

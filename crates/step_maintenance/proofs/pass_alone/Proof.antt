@@ -61,8 +61,8 @@ counted c = alone-counted _ _ _ (else1-to-start c .pre .1 .ready .packed) (c .be
 fine-counted : (c : tie.Else1) → Fine (work-of (c .before .before .require .result) (after c)) (else1-to-start c .args .draws .now) (else1-to-start c .args .out .now)
 fine-counted c = fine-after _ _ _ _ _ _ (fine (else1-to-start c)) (counted c)
 
-slice-read-t : tie.Need-slice-read-t
-slice-read-t c = search needs
+slice-read-require : tie.Need-slice-read-require
+slice-read-require c = search needs
 
 require-requires : tie.Need-require-requires
 require-requires c κs = search needs
@@ -227,7 +227,7 @@ pub pass-alone-spec : {M : Type 1} → statement M
 pass-alone-spec =
     tie.close
     (tie.spec
-    slice-read-t
+    slice-read-require
     require-requires
     returns
     slice-read-n
