@@ -39,6 +39,9 @@ rejoin-bootstrap-to-without-all c = c .before .before .before .before
 abbrev is-empty-to-rejoin-bootstrap : tie.After-is-empty → tie.After-rejoin-bootstrap
 is-empty-to-rejoin-bootstrap c = c .before .before .before .before
 
+abbrev get-index-to-choose : tie.After-get-index → tie.After-choose
+get-index-to-choose c = c .before .before
+
 abbrev choose-to-is-empty : tie.After-choose → tie.After-is-empty
 choose-to-is-empty c = c .before .before .before .before
 
@@ -197,7 +200,7 @@ unfolding part
 returns-3 c =
     let at-join = c .before .before in
     let at-get-index = at-join .before .before .before in
-    let at-choose = at-get-index .before .before in
+    let at-choose = get-index-to-choose at-get-index in
     let at-is-empty = choose-to-is-empty at-choose in
     let at-rejoin-bootstrap = is-empty-to-rejoin-bootstrap at-is-empty in
     let at-without-all = rejoin-bootstrap-to-without-all at-rejoin-bootstrap in

@@ -21,6 +21,9 @@ drop-request-to-is-number c = c .before .before .before
 abbrev drop-passive-to-drop-request : tie.After-drop-passive → tie.After-drop-request
 drop-passive-to-drop-request c = c .before .before .before .before
 
+abbrev refill-active-from-passive-to-drop-passive : tie.After-refill-active-from-passive → tie.After-drop-passive
+refill-active-from-passive-to-drop-passive c = c .before .before .before .before .before .before
+
 sub-get-number : tie.Need-sub-get-number
 sub-get-number c = search needs
 
@@ -65,7 +68,7 @@ returns : tie.Need-returns
 unfolding part
 returns c =
     let at-refill-active-from-passive = c .before .before .before .before in
-    let at-drop-passive = at-refill-active-from-passive .before .before .before .before .before .before in
+    let at-drop-passive = refill-active-from-passive-to-drop-passive at-refill-active-from-passive in
     let at-drop-request = drop-passive-to-drop-request at-drop-passive in
     let at-is-number = drop-request-to-is-number at-drop-request in
     let at-get-number = at-is-number .before in
