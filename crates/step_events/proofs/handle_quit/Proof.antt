@@ -71,6 +71,9 @@ copy-into-to-start c = c .before .before .before .before .before .before .before
 abbrev at-loop-to-copy-into : tie.At-loop Inv-loop μ-loop → tie.After-copy-into Inv-loop μ-loop
 at-loop-to-copy-into c = c .before .before .before .before
 
+abbrev remove-neighbor-to-in-loop : tie.After-remove-neighbor Inv-loop μ-loop → tie.In-loop Inv-loop μ-loop
+remove-neighbor-to-in-loop c = c .before .before
+
 abbrev clear-to-at-loop : tie.After-clear Inv-loop μ-loop → tie.At-loop Inv-loop μ-loop
 clear-to-at-loop c = c .before .before .before .before .before
 
@@ -128,7 +131,10 @@ loop-less : tie.Need-loop-less Inv-loop μ-loop
 loop-less c = search needs
 
 loop-again : tie.Need-loop-again Inv-loop μ-loop
-loop-again c = search next
+loop-again c =
+    let at-remove = c .before .before .before .before .before .before .before in
+    let inside = remove-neighbor-to-in-loop at-remove in
+    next _ _ _ _ _ _ _ _ _ _ _ _ _ _ (inside .before .loop .inv) (inside .loop-test .taken) (c .before .before .send-disconnect .ensures) (at-remove .remove-neighbor .ensures) (search needs) (search needs)
 
 same-length : tie.Need-same-length Inv-loop μ-loop
 same-length c = search needs
