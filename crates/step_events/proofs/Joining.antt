@@ -16,11 +16,12 @@ use Rattle.lists.proofs.Count.{is-self, is-split, mem-false}
 use Rattle.lists.proofs.Maps.{length-keys}
 use Rattle.util.specs.Section.{items-at, HoldsSet}
 use Rattle.columns.specs.Columns.{numbers-at}
+use Rattle.timing.specs.Timing.{join-retry-delay}
 use Rattle.record.specs.Format.{Rec}
 use Rattle.writer.specs.Write.{rec-in}
 use Rattle.protocol.specs.Setters.{set-joins, set-bootstrap}
 use Rattle.protocol.specs.Station.{Station, is-me, in-active, top-counter}
-use Rattle.protocol.specs.Run.{Run, guard, on, emit, require}
+use Rattle.protocol.specs.Run.{Run, guard, on, emit, require, timer}
 use Rattle.protocol.specs.Sending.{join-to, join}
 use Rattle.protocol.specs.Messages.{drop-join}
 use Rattle.protocol.specs.Events.{must-drop-oldest, oldest, drop-oldest-join, push-bootstrap, join-counts, note-join, open-join, await-join, join-other, join-new, handle-join}
@@ -30,10 +31,10 @@ use Rattle.state.specs.declared.Work.{Work}
 use Rattle.state.specs.Layout.{bootstrap-part, joins-part, next-join}
 use Rattle.state.specs.Unpack.{unpack, station-of, PackedState}
 use Rattle.state.specs.Work.{Held, work-of, run, Changes, ChangesAny, Room, Tells, TellsAny}
-use Rattle.state.proofs.Bridge.{guard-open, guard-shut, on-twice, on-passed, on-done, require-said, unchanged, change-by, change-then, telling, tell-then, tell-yes, tell-no}
+use Rattle.state.proofs.Bridge.{guard-open, guard-shut, on-twice, on-passed, on-done, emit-passed, require-said, unchanged, change-by, change-then, telling, tell-then, tell-yes, tell-no}
 use Rattle.state.proofs.Fields.{put-bootstrap}
 use Rattle.state.proofs.Refused.{required-code}
-use Rattle.step_events.specs.Free.{KnownJoins, FreeJoin, Joinable}
+use Rattle.step_events.specs.Free.{KnownJoins, FreeJoin}
 
 -- ---- the bootstrap peers
 
@@ -87,29 +88,27 @@ module _ (w a : Work) (xs ys : List ℕ) (p : ℕ) (k : Changes (on (drop-oldest
 
 -- ---- a place and a number
 
-module _ (xs : List ℕ) (p code : ℕ) (v : Joinable p code (unpack xs)) (z : code ≡ 0) where
-  pub number-left : next-join xs < top-counter
-  unfolding join-counts unpack station-of
-  number-left = ltb-true _ _ (v .counts z)
-
-  pub place-left : (has p (numbers-at 8 (joins-part xs)) || ltb (length (numbers-at 8 (joins-part xs))) 8) ≡ true
-  unfolding unpack station-of
-  place-left = v .free z
-
-pub number-counted : (xs : List ℕ) → ltb (next-join xs) top-counter ≡ join-counts (unpack xs)
+number-counted : (xs : List ℕ) → ltb (next-join xs) top-counter ≡ join-counts (unpack xs)
 unfolding join-counts unpack station-of
 number-counted xs = refl
 
-module _ (w a : Work) (xs : List ℕ) (p : ℕ) (t : Bool) (v : PackedState xs) (e : t ≡ join-counts (unpack xs)) (k : ChangesAny (require 10 t) w a) where
-  pub joinable : FreeJoin p (w .code) (unpack xs) → Joinable p (a .code) (unpack xs)
-  joinable h = record {
-    free = λ z. h .free (required-code 10 t (work-of w xs) (work-of a xs) (k .any xs v) z);
-    counts = λ z. sym e ∙ require-said (work-of w xs) (work-of a xs) 10 t (omega arith) (k .any xs v) z .1;
-  }
+module _ (w a : Work) (xs : List ℕ) (p : ℕ) (v : PackedState xs) (k : ChangesAny (require 10 (ltb (next-join xs) top-counter)) w a) where
+  pub number-left : a .code ≡ 0 → next-join xs < top-counter
+  number-left z = ltb-true _ _ (require-said (work-of w xs) (work-of a xs) 10 _ (omega arith) (k .any xs v) z .1)
+
+  pub place-left : FreeJoin p (w .code) (unpack xs) → a .code ≡ 0 → (has p (numbers-at 8 (joins-part xs)) || ltb (length (numbers-at 8 (joins-part xs))) 8) ≡ true
+  unfolding unpack station-of
+  place-left h z = h .free (required-code 10 _ (work-of w xs) (work-of a xs) (k .any xs v) z)
 
   pub join-opened : (r : Work) (ys : List ℕ) → Changes (on (note-join p)) (work-of a xs) (work-of r ys) → Changes (open-join p) (work-of w xs) (work-of r ys)
   unfolding open-join run
-  join-opened r ys k₂ = change-then _ (λ ds out. rw e) k₂ (k .any xs v)
+  join-opened r ys k₂ = change-then _ (λ ds out. ap (λ (b : Bool). on (note-join p) (require 10 b (run (work-of w xs) ds out))) (sym (number-counted xs))) k₂ (k .any xs v)
+
+  pub join-refused : (out : List ℕ) → Room (work-of w xs) out → (a .code ≡ 0 → ⊥) → Tells (await-join p) (work-of w xs) (work-of a xs) out out
+  unfolding await-join run
+  join-refused out r h =
+      let o = telling r (join-opened a xs (on-passed (work-of a xs) v (note-join p) h)) in
+      tell-then (await-join p) (λ ds. refl) (emit-passed a xs out (timer 4 p join-retry-delay (unpack xs .next-join)) (o .room) h) o
 
 -- there is a place for the join to a bootstrap peer
 placed : (p : ℕ) (js : List (ℕ × ℕ)) (boo : List ℕ) → ((x : ℕ) → count x (keys js) ≤ count x boo) → is p p ≤ count p boo → length boo ≤ 8 → (has p js || ltb (length js) 8) ≡ true

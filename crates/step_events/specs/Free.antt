@@ -9,7 +9,6 @@ use Rattle.lists.specs.Lists.{count}
 use Rattle.lists.specs.Maps.{keys, has}
 use Rattle.timing.specs.Timing.{max-bootstrap-peers}
 use Rattle.protocol.specs.Station.{Station}
-use Rattle.protocol.specs.Events.{join-counts}
 
 -- unless a code is set, each open join is to a bootstrap peer, none of which stands twice, and there are at most 8
 pub record KnownJoins (code : ℕ) (s : Station) : Type 0 where
@@ -20,8 +19,3 @@ pub record KnownJoins (code : ℕ) (s : Station) : Type 0 where
 -- unless a code is set, the join to p is open or there is a place for it
 pub record FreeJoin (p code : ℕ) (s : Station) : Type 0 where
   pub free : code ≡ 0 → (has p (s .joins) || ltb (length (s .joins)) max-bootstrap-peers) ≡ true
-
--- and the next number is not the last
-pub record Joinable (p code : ℕ) (s : Station) : Type 0 where
-  pub free : code ≡ 0 → (has p (s .joins) || ltb (length (s .joins)) max-bootstrap-peers) ≡ true
-  pub counts : code ≡ 0 → join-counts s ≡ true

@@ -13,12 +13,12 @@ ghost use lib.ListN.{length};
 ghost use Rattle.peer.specs.Held.{data-in, ValidData};
 ghost use Rattle.protocol.specs.Budgets.{leaving};
 ghost use Rattle.protocol.specs.Run.{on};
-ghost use Rattle.protocol.specs.Events.{drop-oldest-join, push-bootstrap, note-join, handle-join, lose-passive, handle-connection-closed, update-own-data, remove-neighbor, handle-quit};
+ghost use Rattle.protocol.specs.Events.{drop-oldest-join, push-bootstrap, handle-join, lose-passive, handle-connection-closed, update-own-data, remove-neighbor, handle-quit};
 ghost use Rattle.state.specs.Layout.{words};
 ghost use Rattle.state.specs.Unpack.{unpack, PackedState};
 ghost use Rattle.state.specs.Work.{work-of, run, Changes, Room, Tells, Fine, Does};
 ghost use Rattle.step_active.specs.Sane.{Calm};
-ghost use Rattle.step_events.specs.Free.{Joinable, KnownJoins};
+ghost use Rattle.step_events.specs.Free.{KnownJoins};
 
 // The bootstrap peer that leaves takes its open join with it.
 fn drop_oldest_join(w: Work, st: &mut [u64], p: PeerId) -> Work
@@ -61,27 +61,6 @@ fn push_bootstrap(w: Work, st: &mut [u64], p: PeerId) -> Work
     a
 }
 
-// The join to p is open under the next number.
-fn note_join(w: Work, st: &mut [u64], p: PeerId) -> Work
-    requires { ⌜ length (now st) ≡ words ⌝ }
-    requires { ⌜ PackedState (now st) ⌝ }
-    requires { ⌜ Joinable p (w .code) (unpack (now st)) ⌝ }
-    ensures { λ r. ⌜ Changes (on (note-join p)) (work-of w (now (st .entry))) (work-of r (now (st .exit))) ⌝ }
-{
-    if w.code != 0 {
-        return w;
-    }
-    let id = st[Layout::NEXT_JOIN];
-    columns::insert_number(
-        &mut st[Layout::JOINS..Layout::JOINS_END],
-        Layout::FEW,
-        p,
-        id,
-    );
-    st[Layout::NEXT_JOIN] = id + 1;
-    w
-}
-
 // A request to join the swarm through p.
 pub fn handle_join(w: Work, st: &mut [u64], out: &mut [u8], p: PeerId) -> Work
     requires { ⌜ length (now st) ≡ words ⌝ }
@@ -90,7 +69,6 @@ pub fn handle_join(w: Work, st: &mut [u64], out: &mut [u8], p: PeerId) -> Work
     ensures { λ r. ⌜ Tells (handle-join p) (work-of w (now (st .entry))) (work-of r (now (st .exit))) (now (out .entry)) (now (out .exit)) ⌝ }
 {
     let a = push_bootstrap(w, st, p);
-    // no Join to a neighbor
     if state::in_active(st, p) {
         return a;
     }
@@ -102,8 +80,16 @@ pub fn handle_join(w: Work, st: &mut [u64], out: &mut [u8], p: PeerId) -> Work
     // code 10 where no number is left for a join
     let id = st[Layout::NEXT_JOIN];
     let d = state::require(b, Refusal::COUNTER, id < state::TOP_COUNTER);
-    let e = note_join(d, st, p);
-    // the timer of its one retry
+    if d.code != 0 {
+        return d;
+    }
+    columns::insert_number(
+        &mut st[Layout::JOINS..Layout::JOINS_END],
+        Layout::FEW,
+        p,
+        id,
+    );
+    st[Layout::NEXT_JOIN] = id + 1;
     let f = Fields {
         kind: Kind::RETRY_JOIN,
         message: 0,
@@ -113,7 +99,7 @@ pub fn handle_join(w: Work, st: &mut [u64], out: &mut [u8], p: PeerId) -> Work
         ttl: 0,
         number: id,
     };
-    state::emit_bare(e, out, f)
+    state::emit_bare(d, out, f)
 }
 
 // The connection to p is lost: a mark saves a passive peer once.

@@ -1,4 +1,12 @@
-use Rattle.step_events.proofs.Joining.{room-kept, free-after-push, free-after-join, number-counted, joinable, not-new, joined-self, join-opened, awaited, joined-other}
+use native.Mathlib.Omega.{arith}
+use Rattle.util.specs.Section.{part}
+use Rattle.protocol.specs.Events.{note-join}
+use Rattle.state.specs.Unpack.{unpack, station-of, long}
+use mathlib.Core.Path.{sym, _∙_}
+use Rattle.state.proofs.Access.{of-packed}
+use Rattle.state.proofs.Bridge.{on-done}
+use Rattle.state.proofs.Fields.{put-joins, put-next-join}
+use Rattle.step_events.proofs.Joining.{room-kept, free-after-push, free-after-join, number-left, place-left, not-new, joined-self, join-opened, join-refused, awaited, joined-other}
 use borrow.Author.Needs.{needs}
 use Rattle.step_events.proofs.handle_join.Statement.{statement}
 use Rattle.step_events.proofs.handle_join.Tie as tie
@@ -16,8 +24,11 @@ join2-to-is-me c = c .before .before .before .before
 abbrev require-to-join2 : tie.After-require → tie.After-join2
 require-to-join2 c = c .before .before .before .before
 
+abbrev require-to-push : tie.After-require → tie.After-push-bootstrap
+require-to-push c = is-me-to-push (join2-to-is-me (require-to-join2 c))
+
 abbrev emit-to-require : tie.After-emit-bare → tie.After-require
-emit-to-require c = c .before .before .before .before .before .before
+emit-to-require c = c .before .before .before .before .before .before .before .before
 
 push-bootstrap-requires : tie.Need-push-bootstrap-requires
 push-bootstrap-requires c κs = search needs
@@ -67,32 +78,61 @@ slice-read-id c = search needs
 require-requires : tie.Need-require-requires
 require-requires c κs = search needs
 
-note-join-requires : tie.Need-note-join-requires
-note-join-requires c κs =
-    let at-require = c .before in
-    let at-join2 = require-to-join2 at-require in
-    let at-push = is-me-to-push (join2-to-is-me at-join2) in
-    let packed = at-join2 .join2 .ensures .room .packed in
-    let free = free-after-push _ _ _ _ _ (at-push .push-bootstrap .ensures) (push-to-start at-push .pre .1 .1) in
-    (search needs, (packed, joinable _ _ _ _ _ packed (number-counted _) (at-require .require .ensures) (free-after-join _ _ _ _ _ _ _ (at-join2 .join2 .ensures) free)))
-
-cast-t28 : tie.Need-cast-t28
-cast-t28 c = search needs
-
-emit-bare-requires : tie.Need-emit-bare-requires
-emit-bare-requires c κs = search needs
-
 same-length-4 : tie.Need-same-length-4
-same-length-4 c =
-    let at-emit = c .before .before in
-    let at-push = is-me-to-push (join2-to-is-me (require-to-join2 (emit-to-require at-emit))) in
-    search (needs, at-emit .before .before .before .before .note-join .kept, at-push .push-bootstrap .kept)
+same-length-4 c = search (needs, require-to-push (c .before .before) .push-bootstrap .kept)
 
 same-length-5 : tie.Need-same-length-5
 same-length-5 c = search needs
 
 returns-3 : tie.Need-returns-3
 returns-3 c =
+    let at-require = c .before .before in
+    let at-join2 = require-to-join2 at-require in
+    let at-if2 = at-join2 .before .before .before in
+    let at-is-me = join2-to-is-me at-join2 in
+    let at-if1 = at-is-me .before .before in
+    let at-push = is-me-to-push at-is-me in
+    let told = at-join2 .join2 .ensures in
+    joined-other _ _ _ _ _ (push-to-start at-push .pre .1 .0) (at-push .push-bootstrap .ensures) (at-if1 .before .in-active .ensures) _ (at-if1 .if1 .left) (at-is-me .is-me .ensures) _ _ _ _ (at-if2 .if2 .left) (join-refused _ _ _ _ (told .room .packed) (at-require .require .ensures) _ (told .room) (c .if3 .taken)) told
+
+sub-insert-number : tie.Need-sub-insert-number
+sub-insert-number c = search needs
+
+part-insert-number-start : tie.Need-part-insert-number-start
+part-insert-number-start c = search needs
+
+part-insert-number-end : tie.Need-part-insert-number-end
+part-insert-number-end c = search needs
+
+insert-number-requires : tie.Need-insert-number-requires
+unfolding part unpack station-of
+insert-number-requires c κs =
+    let at-require = c .before .before .before in
+    let at-push = require-to-push at-require in
+    let told = require-to-join2 at-require .join2 .ensures in
+    let packed = told .room .packed in
+    let free = free-after-push _ _ _ _ _ (at-push .push-bootstrap .ensures) (push-to-start at-push .pre .1 .1) in
+    (search (of-packed, needs, packed), place-left _ _ _ _ packed (at-require .require .ensures) (free-after-join _ _ _ _ _ _ _ told free) (c .before .if3 .left))
+
+add-st : tie.Need-add-st
+add-st c =
+    let at-require = c .before .before .before .before .before .before in
+    record { fits = omega (arith, number-left _ _ _ 0 (require-to-join2 at-require .join2 .ensures .room .packed) (at-require .require .ensures) (c .before .before .before .before .if3 .left)) }
+
+slice-write-st : tie.Need-slice-write-st
+slice-write-st c =
+    let at-push = require-to-push (c .before .before .before .before .before .before) in
+    search (needs, at-push .push-bootstrap .kept, push-to-start at-push .pre .0)
+
+cast-t27 : tie.Need-cast-t27
+cast-t27 c = search needs
+
+emit-bare-requires : tie.Need-emit-bare-requires
+emit-bare-requires c κs = search needs
+
+returns-4 : tie.Need-returns-4
+unfolding note-join unpack station-of part
+returns-4 c =
     let at-emit = c .before .before in
     let at-require = emit-to-require at-emit in
     let at-join2 = require-to-join2 at-require in
@@ -101,8 +141,14 @@ returns-3 c =
     let at-if1 = at-is-me .before .before in
     let at-push = is-me-to-push at-is-me in
     let told = at-join2 .join2 .ensures in
-    let opened = join-opened _ _ _ _ _ (told .room .packed) (number-counted _) (at-require .require .ensures) _ _ (at-emit .before .before .before .before .note-join .ensures) in
-    joined-other _ _ _ _ _ (push-to-start at-push .pre .1 .0) (at-push .push-bootstrap .ensures) (at-if1 .before .in-active .ensures) _ (at-if1 .if1 .left) (at-is-me .is-me .ensures) _ _ _ _ (at-if2 .if2 .left) (awaited _ _ _ _ _ _ _ _ (told .room) (at-emit .emit-bare .ensures) opened) told
+    let packed = told .room .packed in
+    joined-other _ _ _ _ _ (push-to-start at-push .pre .1 .0) (at-push .push-bootstrap .ensures) (at-if1 .before .in-active .ensures) _ (at-if1 .if1 .left) (at-is-me .is-me .ensures) _ _ _ _ (at-if2 .if2 .left) (awaited _ _ _ _ _ _ _ _ (told .room) (at-emit .emit-bare .ensures) (join-opened _ _ _ _ packed (at-require .require .ensures) _ _ (on-done _ packed _ _ (at-emit .before .before .before .before .before .before .if3 .left) (λ b. put-next-join _ (put-joins (at-emit .before .before .before .before .insert-number .ensures) b))))) told
+
+same-length-6 : tie.Need-same-length-6
+same-length-6 c = long (returns-4 c .room .packed) ∙ sym (push-to-start (require-to-push (emit-to-require (c .before .before))) .pre .0)
+
+same-length-7 : tie.Need-same-length-7
+same-length-7 c = search needs
 
 pub handle-join-spec : {M : Type 1} → statement M
 handle-join-spec =
@@ -120,9 +166,17 @@ handle-join-spec =
     join-requires-2
     slice-read-id
     require-requires
-    note-join-requires
-    cast-t28
-    emit-bare-requires
     same-length-4
     same-length-5
-    returns-3)
+    returns-3
+    sub-insert-number
+    part-insert-number-start
+    part-insert-number-end
+    insert-number-requires
+    add-st
+    slice-write-st
+    cast-t27
+    emit-bare-requires
+    same-length-6
+    same-length-7
+    returns-4)
