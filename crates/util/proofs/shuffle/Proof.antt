@@ -42,7 +42,7 @@ mul-y : tie.Need-mul-y Inv-loop μ-loop
 mul-y c = search needs
 
 slice-read-y : tie.Need-slice-read-y Inv-loop μ-loop
-slice-read-y c = search turn-drawn
+slice-read-y c = search (turn-drawn, needs)
 
 mul-s : tie.Need-mul-s Inv-loop μ-loop
 mul-s c = search needs
@@ -54,7 +54,7 @@ mul-s-2 : tie.Need-mul-s-2 Inv-loop μ-loop
 mul-s-2 c = search needs
 
 slice-write-s-2 : tie.Need-slice-write-s-2 Inv-loop μ-loop
-slice-write-s-2 c = simp length-set (search turn-drawn)
+slice-write-s-2 c = simp length-set (search (turn-drawn, needs))
 
 sub-i-2 : tie.Need-sub-i-2 Inv-loop μ-loop
 sub-i-2 c = search needs
