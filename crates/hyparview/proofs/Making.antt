@@ -1,6 +1,6 @@
 -- A new station in its words.
 -- Assumes nothing.
-use Prim.Native.Nat.{ℕ, _<_}
+use Prim.Native.Nat.{ℕ, min, _<_}
 use mathlib.Core.Path.{_≡_, refl, sym, ap, _∙_, subst}
 use mathlib.Core.Bool.{Bool, true, false, _&&_}
 use mathlib.Core.List.{List, [], _++_}
@@ -22,7 +22,7 @@ use Rattle.peer.specs.declared.MaybeData.{MaybeData}
 use Rattle.peer.specs.Data.{Data, bytes-of}
 use Rattle.peer.specs.Held.{data-in, ValidData, HoldsData, Takes, taken}
 use Rattle.timing.specs.declared.Config.{Config}
-use Rattle.timing.specs.Timing.{in-range}
+use Rattle.timing.specs.Timing.{initial-shuffle-interval, in-range}
 use Rattle.protocol.specs.Rules.{short-data}
 use Rattle.protocol.specs.Handle as handle
 use Rattle.protocol.specs.Handle.{new-station, zero-config, zero-station}
@@ -73,6 +73,11 @@ module _ (d : PeerData) (low high : ℕ) (v : ValidData d) (e : le 8 low ≡ tak
   own-stored xs = λ i. set (set (set (set xs 1 (sym own-present i)) 2 (sym own-len i)) 20 (sym own-low i)) 21 (sym own-high i)
 
 -- ---- a new station
+
+pub times-stored : (c : Config) (xs : List ℕ) (n : ℕ) → n ≡ min initial-shuffle-interval (c .«shuffle_interval»)
+    → set (set (set xs layout.shuffle-interval-at (c .«shuffle_interval»)) layout.neighbor-request-timeout-at (c .«neighbor_request_timeout»)) layout.next-shuffle-interval-at n ≡ with-times c xs
+unfolding with-times
+times-stored c xs n e = rw e
 
 stored-is : (me : ℕ) (d : Data) (c : Config) → with-times c (with-walks me c (with-views c (with-own d (pad 0 551 [])))) ≡ front (new-station me d c) ++ pad 0 529 []
 unfolding with-own with-views with-walks with-times front new-station kind-word requests-word pad

@@ -9,15 +9,14 @@ use state::Work;
 use timing::Config;
 use timing::Timing;
 ghost use mathlib.Core.Path.{_≡_};
-ghost use Prim.Native.Nat.{_≤_, min};
+ghost use Prim.Native.Nat.{_≤_};
 ghost use lib.ListN.{length, getD};
 ghost use Rattle.protocol.specs.Handle.{new, new-station};
 ghost use Rattle.state.specs.Layout.{words};
-ghost use Rattle.hyparview.specs.Made.{lent, pack-made, Own, with-own, with-views, with-walks, with-times, made};
+ghost use Rattle.hyparview.specs.Made.{lent, pack-made, Own, made};
 ghost use Rattle.hyparview.specs.Handled.{cleared, refused-words, handled};
 ghost use mathlib.Core.List.{[]};
 ghost use Rattle.lists.specs.Array.{pad};
-ghost use Rattle.timing.specs.Timing.{initial-shuffle-interval};
 ghost use Rattle.peer.specs.Held.{data-in, ValidData};
 ghost use Rattle.rules.specs.Pack.{pack};
 ghost use Rattle.hyparview.specs.Queries.{wants-connection-in, is-neighbor-in, neighbors-in, spare-addresses-in};
@@ -28,61 +27,6 @@ pub const OUTPUT: usize = 8192;
 // The draws that suffice for every event if they are below 2^32 - 32.
 pub const DRAWS: usize = 512;
 
-// The delay before the first shuffle, no longer than the setting.
-fn first_interval(config: Config) -> u32
-    ensures { λ r. ⌜ r ≡ min initial-shuffle-interval (config .«shuffle_interval») ⌝ }
-{
-    timing::shorter(Timing::INITIAL_SHUFFLE_INTERVAL, config.shuffle_interval)
-}
-
-// Own data in its words.
-fn fresh_own(st: &mut [u64], own: PeerData)
-    requires { ⌜ length (now st) ≡ words ⌝ }
-    requires { ⌜ ValidData own ⌝ }
-    ensures { λ _. ⌜ now (st .exit) ≡ with-own (data-in own) (now (st .entry)) ⌝ }
-{
-    let b = own.bytes;
-    let low = columns::word_at(b, 0);
-    let high = columns::word_at(b, columns::WORD);
-    st[Layout::OWN_PRESENT] = own.present as u64;
-    st[Layout::OWN_LEN] = own.len as u64;
-    st[Layout::OWN_LOW] = low;
-    st[Layout::OWN_HIGH] = high;
-}
-
-// The capacities of the views, and what a shuffle takes of them.
-fn fresh_views(st: &mut [u64], config: Config)
-    requires { ⌜ length (now st) ≡ words ⌝ }
-    ensures { λ _. ⌜ now (st .exit) ≡ with-views config (now (st .entry)) ⌝ }
-{
-    st[Layout::ACTIVE_VIEW_CAPACITY] = config.active_view_capacity as u64;
-    st[Layout::PASSIVE_VIEW_CAPACITY] = config.passive_view_capacity as u64;
-    st[Layout::SHUFFLE_ACTIVE_VIEW_COUNT] = config.shuffle_active_view_count as u64;
-    st[Layout::SHUFFLE_PASSIVE_VIEW_COUNT] = config.shuffle_passive_view_count as u64;
-}
-
-// The station itself and the walk lengths.
-fn fresh_walks(st: &mut [u64], me: PeerId, config: Config)
-    requires { ⌜ length (now st) ≡ words ⌝ }
-    ensures { λ _. ⌜ now (st .exit) ≡ with-walks me config (now (st .entry)) ⌝ }
-{
-    st[Layout::ME] = me;
-    st[Layout::ACTIVE_RANDOM_WALK_LENGTH] = config.active_random_walk_length as u64;
-    st[Layout::PASSIVE_RANDOM_WALK_LENGTH] = config.passive_random_walk_length as u64;
-    st[Layout::SHUFFLE_RANDOM_WALK_LENGTH] = config.shuffle_random_walk_length as u64;
-}
-
-// The interval, the timeout and the delay before the first shuffle.
-fn fresh_times(st: &mut [u64], config: Config)
-    requires { ⌜ length (now st) ≡ words ⌝ }
-    ensures { λ _. ⌜ now (st .exit) ≡ with-times config (now (st .entry)) ⌝ }
-{
-    let interval = first_interval(config);
-    st[Layout::SHUFFLE_INTERVAL] = config.shuffle_interval as u64;
-    st[Layout::NEIGHBOR_REQUEST_TIMEOUT] = config.neighbor_request_timeout as u64;
-    st[Layout::NEXT_SHUFFLE_INTERVAL] = interval as u64;
-}
-
 // The words of a station that has met no event, in words that are zero.
 fn fresh(st: &mut [u64], me: PeerId, own: PeerData, config: Config)
     requires { ⌜ length (now st) ≡ words ⌝ }
@@ -90,10 +34,29 @@ fn fresh(st: &mut [u64], me: PeerId, own: PeerData, config: Config)
     requires { ⌜ ValidData own ⌝ }
     ensures { λ _. ⌜ now (st .exit) ≡ pack (new-station me (data-in own) config) ⌝ }
 {
-    fresh_own(st, own);
-    fresh_views(st, config);
-    fresh_walks(st, me, config);
-    fresh_times(st, config);
+    // Own data in its words.
+    let b = own.bytes;
+    let low = columns::word_at(b, 0);
+    let high = columns::word_at(b, columns::WORD);
+    st[Layout::OWN_PRESENT] = own.present as u64;
+    st[Layout::OWN_LEN] = own.len as u64;
+    st[Layout::OWN_LOW] = low;
+    st[Layout::OWN_HIGH] = high;
+    // The capacities of the views, and what a shuffle takes of them.
+    st[Layout::ACTIVE_VIEW_CAPACITY] = config.active_view_capacity as u64;
+    st[Layout::PASSIVE_VIEW_CAPACITY] = config.passive_view_capacity as u64;
+    st[Layout::SHUFFLE_ACTIVE_VIEW_COUNT] = config.shuffle_active_view_count as u64;
+    st[Layout::SHUFFLE_PASSIVE_VIEW_COUNT] = config.shuffle_passive_view_count as u64;
+    // The station itself and the walk lengths.
+    st[Layout::ME] = me;
+    st[Layout::ACTIVE_RANDOM_WALK_LENGTH] = config.active_random_walk_length as u64;
+    st[Layout::PASSIVE_RANDOM_WALK_LENGTH] = config.passive_random_walk_length as u64;
+    st[Layout::SHUFFLE_RANDOM_WALK_LENGTH] = config.shuffle_random_walk_length as u64;
+    // The interval, the timeout and the delay before the first shuffle, which is no longer than the interval.
+    let interval = timing::shorter(Timing::INITIAL_SHUFFLE_INTERVAL, config.shuffle_interval);
+    st[Layout::SHUFFLE_INTERVAL] = config.shuffle_interval as u64;
+    st[Layout::NEIGHBOR_REQUEST_TIMEOUT] = config.neighbor_request_timeout as u64;
+    st[Layout::NEXT_SHUFFLE_INTERVAL] = interval as u64;
 }
 
 // The lent bytes as own data, or absent; not ok where there are more than 16.
