@@ -173,7 +173,7 @@ choose-requires c κs =
     let at-is-empty = c .before .before .before in
     let at-rejoin-bootstrap = is-empty-to-rejoin-bootstrap at-is-empty in
     let told = fine-told _ _ _ _ _ _ _ (fine-counted (rejoin-bootstrap-to-else1 at-rejoin-bootstrap)) (at-rejoin-bootstrap .rejoin-bootstrap .ensures) in
-    (told .ready .drawn, omega (arith, c .count .ensures .0, some-there _ _ (at-is-empty .is-empty .ensures) (c .before .before .if3 .left)))
+    (told .ready .drawn, some-there _ _ _ (c .count .ensures .0) (at-is-empty .is-empty .ensures) (c .before .before .if3 .left))
 
 slice-aggregate-get-index : tie.Need-slice-aggregate-get-index
 slice-aggregate-get-index c = search needs

@@ -79,7 +79,7 @@ count-requires : tie.Need-count-requires
 count-requires c κs = search needs
 
 choose-requires : tie.Need-choose-requires
-choose-requires c κs = (search needs, omega (arith, c .count .ensures .0, some-there _ _ (c .before .before .before .is-empty .ensures) (c .before .before .if1 .left)))
+choose-requires c κs = (search needs, some-there _ _ _ (c .count .ensures .0) (c .before .before .before .is-empty .ensures) (c .before .before .if1 .left))
 
 slice-aggregate-get-index : tie.Need-slice-aggregate-get-index
 slice-aggregate-get-index c = search needs
