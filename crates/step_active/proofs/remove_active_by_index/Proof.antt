@@ -1,3 +1,5 @@
+use mathlib.Core.Path.{_≡_}
+use lib.ListN.{getD}
 use Rattle.util.specs.Section.{part}
 use Rattle.state.specs.Unpack.{unpack, station-of}
 use Rattle.state.proofs.Access.{of-packed}
@@ -22,6 +24,11 @@ demote-to-drop-mark c = c .before .before .before .before .before
 
 abbrev match-keys2-to-drop-active : tie.At-match-keys2 → tie.After-drop-active
 match-keys2-to-drop-active c = c .before .before .before .before .before
+
+-- The neighbor that leaves, as it was read.
+leaver : (c : tie.After-drop-active) → c .before .before .before .get-index .result ≡ getD (unpack (drop-active-to-start c .args .st .now) .active) (drop-active-to-start c .args .i) 0
+unfolding part unpack station-of
+leaver c = c .before .before .before .get-index .ensures
 
 sub-get-index : tie.Need-sub-get-index
 sub-get-index c = search needs
@@ -64,7 +71,6 @@ same-length-2 : tie.Need-same-length-2
 same-length-2 c = search needs
 
 returns : tie.Need-returns
-unfolding part unpack station-of
 returns c =
     let at-demote = c .before .before .before .before in
     let at-drop-mark = demote-to-drop-mark at-demote in
@@ -75,7 +81,7 @@ returns c =
     let told = at-drop-active .drop-active .ensures in
     let given = drop-active-to-start at-drop-active .pre .1 .0 in
     let fine = fine-told _ _ _ _ _ _ _ given told in
-    by-index _ _ _ _ _ _ _ _ _ _ _ _ _ given (at-drop-active .before .before .before .get-index .ensures)
+    by-index _ _ _ _ _ _ _ _ _ _ _ _ _ given (leaver at-drop-active)
     (settled-closed _ _ _ _ _ _ _ (at-told .enum-told .given .1) (closed-marked _ _ _ _ _ _ fine (at-if1 .before .is-marked .ensures) _ _ _ _ _ (at-if1 .if1 .taken) (at-demote .demote .ensures) (at-drop-mark .drop-mark .ensures))) told
 
 forget-peer-requires : tie.Need-forget-peer-requires
@@ -85,12 +91,11 @@ enum-known-why : tie.Need-enum-known-why
 enum-known-why c = search needs
 
 demote-alive-requires : tie.Need-demote-alive-requires
-unfolding part unpack station-of
 demote-alive-requires c κs =
     let at-drop-active = match-keys2-to-drop-active (c .before .before .before .before .before) in
     let given = drop-active-to-start at-drop-active .pre .1 in
     let told = at-drop-active .drop-active .ensures in
-    (search needs, (fine-told _ _ _ _ _ _ _ (given .0) told, loose-known _ _ _ _ _ _ _ _ _ (given .1 .1) (given .1 .0) (at-drop-active .before .before .before .get-index .ensures) told))
+    (search needs, (fine-told _ _ _ _ _ _ _ (given .0) told, loose-known _ _ _ _ _ _ _ _ _ (given .1 .1) (given .1 .0) (leaver at-drop-active) told))
 
 same-length-3 : tie.Need-same-length-3
 same-length-3 c = search needs
@@ -99,7 +104,6 @@ same-length-4 : tie.Need-same-length-4
 same-length-4 c = search needs
 
 returns-2 : tie.Need-returns-2
-unfolding part unpack station-of
 returns-2 c =
     let at-demote-alive = c .before .before .before .before in
     let at-if2 = at-demote-alive .before .before .before in
@@ -108,7 +112,7 @@ returns-2 c =
     let told = at-drop-active .drop-active .ensures in
     let given = drop-active-to-start at-drop-active .pre .1 .0 in
     let fine = fine-told _ _ _ _ _ _ _ given told in
-    by-index _ _ _ _ _ _ _ _ _ _ _ _ _ given (at-drop-active .before .before .before .get-index .ensures)
+    by-index _ _ _ _ _ _ _ _ _ _ _ _ _ given (leaver at-drop-active)
     (settled-alive _ _ _ _ _ _ _ _ (at-if2 .before .before .why .given .1) (at-if2 .if2 .taken) (at-demote-alive .demote-alive .ensures)) told
 
 forget-peer-requires-2 : tie.Need-forget-peer-requires-2
@@ -121,7 +125,6 @@ same-length-6 : tie.Need-same-length-6
 same-length-6 c = search needs
 
 returns-3 : tie.Need-returns-3
-unfolding part unpack station-of
 returns-3 c =
     let at-if1 = c .before .before .before .before in
     let at-told = at-if1 .before .before .before in
@@ -130,7 +133,7 @@ returns-3 c =
     let told = at-drop-active .drop-active .ensures in
     let given = drop-active-to-start at-drop-active .pre .1 .0 in
     let fine = fine-told _ _ _ _ _ _ _ given told in
-    by-index _ _ _ _ _ _ _ _ _ _ _ _ _ given (at-drop-active .before .before .before .get-index .ensures)
+    by-index _ _ _ _ _ _ _ _ _ _ _ _ _ given (leaver at-drop-active)
     (settled-closed _ _ _ _ _ _ _ (at-told .enum-told .given .1) (closed-other _ _ _ _ _ _ fine (at-if1 .before .is-marked .ensures) _ _ (at-if1 .if1 .left) (c .before .before .forget-peer .ensures))) told
 
 same-length-7 : tie.Need-same-length-7
@@ -140,7 +143,6 @@ same-length-8 : tie.Need-same-length-8
 same-length-8 c = search needs
 
 returns-4 : tie.Need-returns-4
-unfolding part unpack station-of
 returns-4 c =
     let at-if2 = c .before .before .before .before in
     let at-match = at-if2 .before .before .before in
@@ -148,7 +150,7 @@ returns-4 c =
     let told = at-drop-active .drop-active .ensures in
     let given = drop-active-to-start at-drop-active .pre .1 .0 in
     let fine = fine-told _ _ _ _ _ _ _ given told in
-    by-index _ _ _ _ _ _ _ _ _ _ _ _ _ given (at-drop-active .before .before .before .get-index .ensures)
+    by-index _ _ _ _ _ _ _ _ _ _ _ _ _ given (leaver at-drop-active)
     (settled-gone _ _ _ _ _ _ _ _ _ fine (at-if2 .before .before .why .given .1) (at-if2 .if2 .left) (c .before .before .forget-peer2 .ensures)) told
 
 pub remove-active-by-index-spec : {M : Type 1} → statement M

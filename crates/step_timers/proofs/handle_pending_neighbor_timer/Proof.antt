@@ -1,3 +1,6 @@
+use mathlib.Core.Path.{_≡_}
+use Rattle.protocol.specs.Timers.{request-is}
+use Rattle.state.specs.Unpack.{unpack}
 use Rattle.state.specs.Work.{Fine, work-of}
 use Rattle.util.specs.Section.{part}
 use native.Mathlib.Omega.{arith}
@@ -23,6 +26,11 @@ drop-passive-to-drop-request c = c .before .before .before .before
 
 abbrev refill-active-from-passive-to-drop-passive : tie.After-refill-active-from-passive → tie.After-drop-passive
 refill-active-from-passive-to-drop-passive c = c .before .before .before .before .before .before
+
+-- Whether the request is still the open one, as the test says it.
+tested : (c : tie.After-is-number) → c .is-number .result ≡ request-is (get-number-to-start (c .before) .args .p) (get-number-to-start (c .before) .args .id) (unpack (get-number-to-start (c .before) .args .st .now))
+unfolding part
+tested c = request-said _ _ _ _ _ (c .is-number .ensures) (c .before .get-number .ensures)
 
 sub-get-number : tie.Need-sub-get-number
 sub-get-number c = search needs
@@ -65,26 +73,22 @@ same-length-2 : tie.Need-same-length-2
 same-length-2 c = search needs
 
 returns : tie.Need-returns
-unfolding part
 returns c =
     let at-refill-active-from-passive = c .before .before .before .before in
     let at-drop-passive = refill-active-from-passive-to-drop-passive at-refill-active-from-passive in
     let at-drop-request = drop-passive-to-drop-request at-drop-passive in
     let at-is-number = drop-request-to-is-number at-drop-request in
-    let at-get-number = at-is-number .before in
-    let start = get-number-to-start at-get-number in
-    late _ _ _ _ _ _ _ (request-said _ _ _ _ _ (at-is-number .is-number .ensures) (at-get-number .get-number .ensures)) _ _ _ (at-drop-request .before .before .if1 .taken)
+    let start = get-number-to-start (at-is-number .before) in
+    late _ _ _ _ _ _ _ (tested at-is-number) _ _ _ (at-drop-request .before .before .if1 .taken)
     (failed _ _ _ _ _ _ _ _ _ (fine start) (at-drop-passive .drop-passive .ensures) (at-drop-request .drop-request .ensures) _ _ _ (at-refill-active-from-passive .refill-active-from-passive .ensures))
 
 same-length-3 : tie.Need-same-length-3
 same-length-3 c = search needs
 
 returns-2 : tie.Need-returns-2
-unfolding part
 returns-2 c =
     let at-is-number = c .before in
-    let at-get-number = at-is-number .before in
-    not-late _ _ _ _ _ _ _ (request-said _ _ _ _ _ (at-is-number .is-number .ensures) (at-get-number .get-number .ensures)) (fine (get-number-to-start at-get-number)) (c .if1 .left)
+    not-late _ _ _ _ _ _ _ (tested at-is-number) (fine (get-number-to-start (at-is-number .before))) (c .if1 .left)
 
 pub handle-pending-neighbor-timer-spec : {M : Type 1} → statement M
 handle-pending-neighbor-timer-spec =
