@@ -431,7 +431,7 @@ pub fn row_valid(l: u64, w: u64, x: u64) -> bool
     true
 }
 
-// Whether this is a map, of any words: zeroes past the entries, each of which is one, and the peers rise.
+// Whether this is a map, of any words: each entry is well formed, past them are zeroes, and the peers rise.
 pub fn data_valid(m: &[u64], cap: usize) -> bool
     requires { ⌜ length (now m) ≡ cap + cap + (cap + cap) + 1 ⌝ }
     ensures { λ r. ⌜ r ≡ valid-data-words cap (now (m .entry)) ⌝ }

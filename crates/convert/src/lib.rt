@@ -9,7 +9,7 @@ ghost use Prim.Native.Nat.{_+_, _-_, _^_, _≤_, _<_};
 ghost use lib.ListN.{length, drop};
 ghost use lib.Dec.{ltb};
 ghost use Rattle.lists.specs.Array.{pad};
-ghost use Rattle.lists.specs.Bytes.{le, overwrite};
+ghost use Rattle.lists.specs.Bytes.{overwrite};
 ghost use Rattle.record.specs.Format.{IsForm, old-peer-length, peer-length, header-length-by, node-length-by, place-by, entries-by, size-by, encode-by};
 ghost use Rattle.record.specs.Read.{header-of-by, well-formed-by, nodes-of-by, rec-of-by};
 ghost use Rattle.convert.specs.Convert.{ids-fit, conversion-code, conversion, placed, outcome-of, tail-bytes, header-fields, entry-fields, moved-entry, resized};

@@ -324,6 +324,7 @@ fn header_ok(h: Header) -> bool
     let flags = select(neighbor, h.flags <= Flags::HIGH, other);
     let forward = is_message(Message::FORWARD_JOIN, h);
     let shuffle = is_message(Message::SHUFFLE, h);
+    // How many nodes the kind or message has: one, up to the most, or none.
     let one = is_message(Message::JOIN, h) | (forward | (neighbor | is_data(h)));
     let some = shuffle | is_message(Message::SHUFFLE_REPLY, h);
     let most = select(some, h.nodes <= MOST_NODES, h.nodes == 0);

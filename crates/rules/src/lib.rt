@@ -38,7 +38,7 @@ fn is_packed(st: &[u64]) -> bool
     requires { ⌜ length (now st) ≡ words ⌝ }
     ensures { λ r. ⌜ r ≡ packed-ok (now (st .entry)) ⌝ }
 {
-    // The words that stand for a bool or a limit are one. That every word has 64 bits is its type.
+    // A word that stands for a bool or a limit has one of its values. That every word has 64 bits is its type.
     (st[Layout::OWN_PRESENT] <= 1)
         & (st[Layout::TIMERS_SCHEDULED] <= 1)
         & (st[Layout::REFILL_KIND] <= RefillLimit::RECOVERY)
@@ -195,15 +195,15 @@ pub fn is_ok(st: &[u64]) -> bool
     }
     let me = st[Layout::ME];
     settings_rule(st)
-        // "every list free of repeats"; maps and sets are, where they rise
+        // "every list free of repeats"; maps and sets are, where they rise.
         & util::is_distinct(&st[Layout::ACTIVE..Layout::ACTIVE_END], Layout::FEW)
         & util::is_distinct(&st[Layout::PASSIVE..Layout::PASSIVE_END], Layout::ALL)
         & util::is_distinct(&st[Layout::BOOTSTRAP..Layout::BOOTSTRAP_END], Layout::FEW)
         & util::is_distinct(&st[Layout::RECENT..Layout::RECENT_END], Layout::FEW)
-        // "those for maps and sets in rising peer order"; a well formed map rises
+        // "those for maps and sets in rising peer order"; a well formed map rises.
         & util::is_rising(&st[Layout::MARKS..Layout::MARKS_END], Layout::ALL)
         & util::is_rising(&st[Layout::REFUSED..Layout::REFUSED_END], Layout::ALL)
-        // "views as in demand 3": within capacity
+        // "views as in demand 3": within capacity.
         & (st[Layout::ACTIVE_COUNT] <= st[Layout::ACTIVE_VIEW_CAPACITY])
         & (st[Layout::PASSIVE_COUNT] <= st[Layout::PASSIVE_VIEW_CAPACITY])
         & views_rule(st)
@@ -212,7 +212,7 @@ pub fn is_ok(st: &[u64]) -> bool
         & numbers_rule(st)
         // "no data held under self"
         & !columns::contains_data(&st[Layout::HELD..Layout::HELD_END], Layout::DATA_CAP, me)
-        // "`Requests` at most 3"; the requests are 0 in every other limit
+        // "`Requests` at most 3"; the requests are 0 in every other limit.
         & (st[Layout::REFILL_REQUESTS] <= Timing::MAX_REQUESTS_PER_REFILL as u64)
         // "next interval from 1 to the shuffle interval"
         & (1 <= st[Layout::NEXT_SHUFFLE_INTERVAL])

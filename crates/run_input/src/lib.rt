@@ -123,7 +123,7 @@ fn events_ok(b: &[u8]) -> bool
 pub fn read_input(b: &[u8]) -> Input
     ensures { λ r. ⌜ r ≡ input-of (now (b .entry)) ⌝ }
 {
-    // whether the events are said to stand right after the head, and the draws to end the input
+    // Whether the events are said to stand right after the head, and the draws to end the input.
     let n = b.len();
     let start = number(b, Head::EVENT_OFFSET) as usize;
     let at = number(b, Head::DRAW_OFFSET) as usize;
@@ -133,7 +133,7 @@ pub fn read_input(b: &[u8]) -> Input
             & ((start == Head::BYTES) & ((Head::BYTES <= at) & (at + 4 * draws == n))));
     if placed {
         if events_ok(b) {
-            // the nine settings
+            // The nine settings.
             let config = Config {
                 active_view_capacity: number(b, Head::FIRST_SETTING),
                 passive_view_capacity: number(b, Head::FIRST_SETTING + 1),

@@ -69,7 +69,7 @@ fn put_walk(
     let mut r = t;
     let mut i: usize = 0;
     while i < count {
-        // the event at the place reached, and its lines
+        // The event at the place reached, and its lines.
         let a = run_walk::step(p, events, draws, records);
         r = run_text::put_event(out, r, i as u64, a.code, a.draws as u64, records);
         p = a.runner;
@@ -86,7 +86,7 @@ pub fn open(b: &[u8]) -> Opened
     match i {
         Input::Refused => Opened::Line(Refusal::MALFORMED),
         Input::Whole(head) => {
-            // settings out of range have one line only
+            // Settings out of range have one line only.
             let config = head.config;
             let m = State::new(head.me, false, b"", config);
             if m.code != 0 {
@@ -152,7 +152,7 @@ fn put_run(b: &[u8], out: &mut [u8], t: Text) -> Text
         Opened::Events(head) => {
             let p = begin(head);
             let s = p.state;
-            // the longest input has fewer than 16,384 draws
+            // The longest input has fewer than 16,384 draws.
             let mut drawn = [0u32; run_input::DRAWS_ROOM];
             let mut records = [0u8; hyparview::OUTPUT];
             let at = head.draws_at;

@@ -87,7 +87,7 @@ pub fn subset(a: &[u64], b: &[u64]) -> bool
     ok
 }
 
-// The word at place h of three lists in a row; the compiler can pick the list without a jump.
+// The word at place h of three lists in a row.
 fn word_of_three(b: &[u64], c: &[u64], d: &[u64], h: usize) -> u64
     requires { ⌜ h < length (now b) + length (now c) + length (now d) ⌝ }
     ensures { λ r. ⌜ r ≡ getD (now (b .entry) ++ (now (c .entry) ++ now (d .entry))) h 0 ⌝ }

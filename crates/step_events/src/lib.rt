@@ -26,7 +26,7 @@ fn drop_oldest_join(w: Work, st: &mut [u64], p: PeerId) -> Work
     requires { ⌜ PackedState (now st) ⌝ }
     ensures { λ r. ⌜ Changes (on (drop-oldest-join p)) (work-of w (now (st .entry))) (work-of r (now (st .exit))) ⌝ }
 {
-    // the bootstrap peers but p, of which there may be one too many
+    // The bootstrap peers but p, of which there may be one too many.
     let mut others = [0u64; Layout::SET];
     util::copy_into(
         &st[Layout::BOOTSTRAP..Layout::BOOTSTRAP_END],
@@ -69,15 +69,16 @@ pub fn handle_join(w: Work, st: &mut [u64], out: &mut [u8], p: PeerId) -> Work
     ensures { λ r. ⌜ Tells (handle-join p) (work-of w (now (st .entry))) (work-of r (now (st .exit))) (now (out .entry)) (now (out .exit)) ⌝ }
 {
     let a = push_bootstrap(w, st, p);
+    // A neighbor needs no Join.
     if state::in_active(st, p) {
         return a;
     }
-    // the station itself gets one too, but no retry
+    // The station itself gets a Join too, but no retry.
     if state::is_me(st, p) {
         return step_sending::join(a, st, out, p);
     }
     let b = step_sending::join(a, st, out, p);
-    // code 10 where no number is left for a join
+    // Code 10 where no number is left for a join.
     let id = st[Layout::NEXT_JOIN];
     let d = state::require(b, Refusal::COUNTER, id < state::TOP_COUNTER);
     if d.code != 0 {
@@ -133,7 +134,7 @@ pub fn handle_connection_closed(
     if state::in_active(st, p) {
         return step_active::remove_active(a, st, draws, out, p, Loss::ConnectionClosed);
     }
-    // no neighbor; where it was asked, another one is
+    // No neighbor; where it was asked, another one is.
     let b = lose_passive(a, st, p);
     if requested {
         let skip = [p];
@@ -177,7 +178,7 @@ pub fn handle_quit(w: Work, st: &mut [u64], draws: &[u32], out: &mut [u8]) -> Wo
     let mut v = [0u64; Layout::SET];
     util::copy_into(&st[Layout::ACTIVE..Layout::ACTIVE_END], Layout::FEW, &mut v);
     let n = util::count(&v, Layout::ALL);
-    // each leaves the active view
+    // Each leaves the active view.
     let mut r = w;
     let mut i: usize = 0;
     while i < n {
@@ -186,7 +187,7 @@ pub fn handle_quit(w: Work, st: &mut [u64], draws: &[u32], out: &mut [u8]) -> Wo
         let a = remove_neighbor(r, st, p);
         r = step_sending::send_disconnect(a, st, draws, out, p, false);
     }
-    // nothing is held of other peers any more
+    // Nothing is held of other peers any more.
     if r.code != 0 {
         return r;
     }

@@ -67,7 +67,7 @@ fn pass_alone(w: Work, st: &mut [u64], draws: &[u32], out: &mut [u8]) -> Work
     requires { ⌜ Fine (work-of w (now st)) (now draws) (now out) ⌝ }
     ensures { λ r. ⌜ Does (work-of r (now (st .exit))) (now (draws .entry)) (now (out .exit)) (pass-alone (run (work-of w (now (st .entry))) (now (draws .entry)) (now (out .entry)))) ⌝ }
 {
-    // code 10 where the pass cannot be counted
+    // Code 10 where the pass cannot be counted.
     let a = state::require(
         w,
         Refusal::COUNTER,
@@ -79,7 +79,7 @@ fn pass_alone(w: Work, st: &mut [u64], draws: &[u32], out: &mut [u8]) -> Work
     let n = st[Layout::PASSES_ALONE] + 1;
     st[Layout::PASSES_ALONE] = n;
     if timing::backoff_due(n as u32) {
-        // the recent neighbors that are no bootstrap peers
+        // The recent neighbors that are no bootstrap peers.
         let mut v = [0u64; Layout::SET];
         util::copy_into(&st[Layout::RECENT..Layout::RECENT_END], Layout::FEW, &mut v);
         util::without_all(
@@ -89,7 +89,7 @@ fn pass_alone(w: Work, st: &mut [u64], draws: &[u32], out: &mut [u8]) -> Work
             Layout::FEW,
         );
         let b = rejoin_bootstrap(a, st, out);
-        // one of them, where there is one
+        // One of them, where there is one.
         if util::is_empty(&v, Layout::ALL) {
             return b;
         }
@@ -137,27 +137,27 @@ fn maintain(w: Work, st: &mut [u64], draws: &[u32], out: &mut [u8]) -> Work
     requires { ⌜ Fine (work-of w (now st)) (now draws) (now out) ⌝ }
     ensures { λ r. ⌜ Does (work-of r (now (st .exit))) (now (draws .entry)) (now (out .exit)) (maintain (run (work-of w (now (st .entry))) (now (draws .entry)) (now (out .entry)))) ⌝ }
 {
-    // both views are empty
+    // Both views are empty.
     if state::is_alone(st)
         & util::is_empty(&st[Layout::PASSIVE..Layout::PASSIVE_END], Layout::ALL)
     {
         return pass_alone(w, st, draws, out);
     }
     let a = not_alone(w, st);
-    // without neighbors, every pass begins a recovery
+    // Without neighbors, every pass begins a recovery.
     if state::is_alone(st) {
         let none = [0u64; 0];
         return step_refill::start_refill(a, st, draws, out, RefillLimit::Recovery, &none);
     }
     if state::is_short(st) {
-        // nothing is done while a recovery runs
+        // Nothing is done while a recovery runs.
         if state::limit_of(st).is_recovery() {
             return a;
         }
-        // the pass is counted, and the backoff says whether it refills
+        // The pass is counted, and the backoff says whether it refills.
         let b = count_short(a, st);
         if timing::backoff_due(st[Layout::PASSES_SHORT] as u32) {
-            // with a new limit, before which all refusals are forgotten
+            // With a new limit, before which all refusals are forgotten.
             let c = step_refill::clear_refused(b, st);
             let few = RefillLimit::few_requests();
             let none = [0u64; 0];

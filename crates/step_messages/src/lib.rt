@@ -103,7 +103,7 @@ pub fn on_forward_join(
     if state::is_requested(st, n.id) {
         return a;
     }
-    // It goes on to one of the other neighbors; that there is one is never-unreachable.
+    // It goes on to one of the other neighbors. There is one (`never-unreachable`): of none the definition picks 0.
     let mut v = [0u64; Layout::SET];
     other_active(st, from, &mut v);
     let k = util::count(&v, Layout::ALL);

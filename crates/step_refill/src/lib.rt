@@ -93,6 +93,7 @@ fn candidates(st: &[u64], skip: &[PeerId], t: &mut [u64])
         &mut asked,
     );
     util::without_all(t, Layout::ALL, &asked, Layout::ALL);
+    // Those that refused are asked again where there is no neighbor.
     if state::is_alone(st) {
         return;
     }
@@ -151,7 +152,7 @@ pub fn refill_active_from_passive(
     refill_limited(a, st, draws, out, skip)
 }
 
-// A refill with another limit.
+// A refill with another limit; a recovery that is under way keeps its own.
 pub fn start_refill(
     w: Work,
     st: &mut [u64],

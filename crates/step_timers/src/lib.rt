@@ -45,7 +45,7 @@ pub fn handle_pending_neighbor_timer(
 {
     let m = columns::get_number(&st[Layout::ASKED..Layout::ASKED_END], Layout::ALL, p);
     if is_number(id, m) {
-        // it got no answer: p is dropped and another peer is asked
+        // It got no answer: p is dropped and another peer is asked.
         let a = state::drop_request(w, st, p);
         let b = step_peers::drop_passive(a, st, p);
         let none = [0u64; 0];
@@ -77,7 +77,7 @@ pub fn schedule_shuffle(w: Work, st: &mut [u64], draws: &[u32], out: &mut [u8]) 
     if w.code != 0 {
         return w;
     }
-    // the interval doubles up to its setting
+    // The interval doubles up to its setting.
     let x = st[Layout::NEXT_SHUFFLE_INTERVAL] as u32;
     let next = timing::shorter(2 * x, st[Layout::SHUFFLE_INTERVAL] as u32);
     st[Layout::NEXT_SHUFFLE_INTERVAL] = next as u64;
@@ -158,7 +158,7 @@ fn shuffle_any(w: Work, st: &[u64], draws: &[u32], out: &mut [u8]) -> Work
         Layout::FEW,
         t.index,
     );
-    // some peers of each view, but not that one
+    // Some peers of each view, but not that one.
     let mut v = [0u64; Layout::SET];
     let a = some_peers(
         t.work,

@@ -127,7 +127,7 @@ fn walk(s: State, b: &[u8], head: Head, drawn: &[u32], out: &mut [u8], text: &mu
     };
     let mut left = head.events;
     while left > 0 {
-        // the event at the place reached, and its text
+        // The event at the place reached, and its text.
         let a = run_walk::step(p, events, draws, out);
         p = a.runner;
         let reached = p.state;
@@ -165,7 +165,7 @@ pub fn history(b: &[u8], start: TraceStart) -> Ended
             refused(Refusal::MALFORMED, none)
         }
         Input::Whole(head) => {
-            // the answer of `new`, or the events from the new station with these counters on
+            // The answer of `new`, or the events from the new station with these counters on.
             let config = head.config;
             let m = State::new(head.me, false, b"", config);
             let fresh = m.state;

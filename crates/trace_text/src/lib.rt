@@ -227,18 +227,18 @@ pub fn put_trace_event(
     let recent = &words[Layout::RECENT..Layout::RECENT_END];
     let requests = &words[Layout::ASKED..Layout::ASKED_END];
     let joins = &words[Layout::JOINS..Layout::JOINS_END];
-    // the views and the peers beside them
+    // The views and the peers beside them.
     let d = peers_field(out, c, b" active=[", active, Layout::FEW);
     let e = peers_field(out, d, b" passive=[", passive, Layout::ALL);
     let f = peers_field(out, e, b" bootstrap=[", bootstrap, Layout::FEW);
     let g = peers_field(out, f, b" recent=[", recent, Layout::FEW);
-    // the open requests and joins
+    // The open requests and joins.
     let h = numbers_field(out, g, b" requests=[", requests, Layout::ALL);
     let i = number_field(out, h, b" next_request=", st[Layout::NEXT_NEIGHBOR_REQUEST]);
     let j = numbers_field(out, i, b" joins=[", joins, Layout::FEW);
     let k = number_field(out, j, b" next_join=", st[Layout::NEXT_JOIN]);
     let l = put_kept(out, k, words);
-    // the timers, the interval and the pass counts, which end the line
+    // The timers, the interval and the pass counts, which end the line.
     let m = number_field(out, l, b" timers=", st[Layout::TIMERS_SCHEDULED]);
     let n = number_field(out, m, b" interval=", st[Layout::NEXT_SHUFFLE_INTERVAL]);
     let o = number_field(out, n, b" alone=", st[Layout::PASSES_ALONE]);

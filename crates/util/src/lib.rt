@@ -432,7 +432,7 @@ pub fn shuffle(s: &mut [u64], cap: usize, draws: &[u32], at: usize) -> usize
     let mut k = at;
     while 0 < i {
         let p = pick_index(draws, k, i + 1);
-        // The words at places i and j are exchanged.
+        // The words at places i and j, the one picked, are exchanged.
         let j = p.index;
         let x = s[i];
         let y = s[j];

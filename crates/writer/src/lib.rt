@@ -11,7 +11,7 @@ ghost use Prim.Native.Nat.{_+_, _*_, _-_, _≤_, _<_};
 ghost use lib.ListN.{length};
 ghost use Rattle.lists.specs.Bytes.{le, overwrite};
 ghost use Rattle.peer.specs.Held.{node-in, ValidData};
-ghost use Rattle.record.specs.Format.{most-nodes, peer-length, header-length, node-length, entry, entries, datas};
+ghost use Rattle.record.specs.Format.{most-nodes, header-length, node-length, entry, entries, datas};
 ghost use Rattle.writer.specs.Nodes.{nodes-in, ValidNodes, HoldsNodes};
 ghost use Rattle.writer.specs.Write.{rec-in, header-bytes, Wrote};
 
@@ -136,6 +136,7 @@ fn put_node(out: &mut [u8], at: usize, p: PeerInfo, reached: usize)
         write_bytes(out, at + LENGTH_FROM, &back);
         return;
     }
+    // Absent data: offset, length and mark are 0.
     put_number(out, at + PEER, 0, AFTER_PEER);
 }
 

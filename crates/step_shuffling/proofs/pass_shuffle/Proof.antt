@@ -1,5 +1,4 @@
 use Rattle.state.specs.Work.{Fine, work-of}
-use native.Mathlib.Omega.{arith}
 use Rattle.util.specs.Section.{part}
 use Rattle.state.proofs.Access.{of-packed}
 use Rattle.step_sending.proofs.Told.{room-drawn}
