@@ -1,4 +1,4 @@
-use Rattle.convert_stream.proofs.Parts.{counted}
+use Rattle.convert_stream.proofs.Parts.{counted, answered}
 use borrow.Author.Needs.{needs}
 use Rattle.convert_stream.proofs.pass.Statement.{statement}
 use Rattle.convert_stream.proofs.pass.Tie as tie
@@ -19,7 +19,7 @@ same-length : tie.Need-same-length
 same-length c = search needs
 
 returns : tie.Need-returns
-returns c = search needs
+returns c = (search needs, search answered)
 
 pub pass-spec : {M : Type 1} → statement M
 pass-spec = tie.close (tie.spec convert-by-requires slice-reshare-prefix-write-all slice-aggregate-write-all write-all-requires same-length returns)

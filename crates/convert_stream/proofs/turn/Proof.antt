@@ -30,10 +30,10 @@ pass-requires : tie.Need-pass-requires
 pass-requires c κs = search needs
 
 keep-requires : tie.Need-keep-requires
-keep-requires c κs = (below _ _ _ (c .before .before .before .pass .ensures) (search needs), search needs)
+keep-requires c κs = (below _ _ _ (c .before .before .before .pass .ensures .0) (search needs), search needs)
 
 sub-t17 : tie.Need-sub-t17
-sub-t17 c = below _ _ _ (slice-known5-to-pass c .pass .ensures) (search needs)
+sub-t17 c = below _ _ _ (slice-known5-to-pass c .pass .ensures .0) (search needs)
 
 same-length : tie.Need-same-length
 same-length c = search needs
@@ -45,7 +45,7 @@ returns : tie.Need-returns
 returns c =
     let at-pass = slice-known5-to-pass c in
     let at-fill = pass-to-fill at-pass in
-    rest _ _ _ _ (at-pass .pass .ensures) (search needs) (at-fill .fill .ensures)
+    rest _ _ _ _ (at-pass .pass .ensures .0) (search needs) (at-fill .fill .ensures)
 
 pub turn-spec : {M : Type 1} → statement M
 turn-spec = tie.close (tie.spec fill-requires slice-reshare-prefix-pass slice-aggregate-pass pass-requires keep-requires sub-t17 same-length same-length-2 returns)
