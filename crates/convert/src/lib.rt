@@ -2,6 +2,9 @@
 use record::Entry;
 use record::Header;
 use record::Refusal;
+use writer::NUMBER_BYTES;
+use writer::PEER_FROM;
+use writer::SHORT;
 ghost use mathlib.Core.Path.{_≡_};
 ghost use mathlib.Core.Bool.{true};
 ghost use mathlib.Core.List.{[]};
@@ -43,9 +46,9 @@ fn put_tail(out: &mut [u8], at: usize, h: Header)
     requires { ⌜ at + 12 ≤ length (now out) ⌝ }
     ensures { λ _. ⌜ now (out .exit) ≡ overwrite (now (out .entry)) at (tail-bytes h) ⌝ }
 {
-    writer::put_number(out, at, h.ttl as u64, 2);
-    writer::put_number(out, at + 2, h.size as u64, 2);
-    writer::put_number(out, at + 4, h.number, 8);
+    writer::put_number(out, at, h.ttl as u64, SHORT);
+    writer::put_number(out, at + SHORT, h.size as u64, SHORT);
+    writer::put_number(out, at + 2 * SHORT, h.number, NUMBER_BYTES);
 }
 
 // The header, where a peer has w bytes.
@@ -56,9 +59,9 @@ fn write_header(out: &mut [u8], h: Header, w: usize)
 {
     let first = [h.kind, h.message, h.flags, h.nodes];
     writer::write_bytes(out, 0, &first);
-    writer::put_number(out, 4, h.peer, w);
-    writer::put_number(out, 4 + w, h.second, w);
-    put_tail(out, 4 + 2 * w, h);
+    writer::put_number(out, PEER_FROM, h.peer, w);
+    writer::put_number(out, PEER_FROM + w, h.second, w);
+    put_tail(out, PEER_FROM + 2 * w, h);
 }
 
 // The node entry at a place.
@@ -68,9 +71,9 @@ fn put_entry(out: &mut [u8], at: usize, e: Entry, w: usize)
     ensures { λ _. ⌜ now (out .exit) ≡ overwrite (now (out .entry)) at (entry-fields w e) ⌝ }
 {
     writer::put_number(out, at, e.id, w);
-    writer::put_number(out, at + w, e.offset as u64, 2);
+    writer::put_number(out, at + w, e.offset as u64, SHORT);
     let last = [e.len, e.present];
-    writer::write_bytes(out, at + (w + 2), &last);
+    writer::write_bytes(out, at + (w + SHORT), &last);
 }
 
 // An entry whose data stand at the place reached, if it has any.

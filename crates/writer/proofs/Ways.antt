@@ -2,10 +2,12 @@
 -- Assumes nothing.
 use Prim.Native.Nat.{ℕ, _+_, _*_, _-_, _≤_, _<_}
 use mathlib.Core.Path.{_≡_, refl, sym, ap, _∙_}
+use mathlib.Core.Bool.{Bool, true, false}
 use mathlib.Core.List.{List, [], _∷_, _++_, append-nil}
 use native.Mathlib.Omega.{arith}
-use borrow.Author.Tests.{le-leb, lt-leb}
+use borrow.Author.Tests.{leb-true, le-leb, lt-leb}
 use lib.ListN.{length, take, length-map, length-append}
+use lib.Dec.{leb}
 use lib.Seq.{length-take-le}
 use Rattle.lists.specs.Lists.{choose}
 use Rattle.lists.specs.Bytes.{le, overwrite}
@@ -17,23 +19,16 @@ use Rattle.peer.proofs.Data.{bytes-in}
 use Rattle.record.specs.Format.{Rec, peer-length, header-length, node-length, entry, entries, entries-by, datas, size, size-by, header, header-by, encode, encode-by}
 use Rattle.record.proofs.Format.{length-entries, length-header}
 use Rattle.writer.specs.Nodes.{nodes-in, ValidNodes}
-use Rattle.writer.specs.Write.{rec-in, header-bytes, fits, written, reached, Wrote}
+use Rattle.writer.specs.Write.{rec-in, header-bytes, fits, written, reached, Wrote, Headed}
 use Rattle.writer.specs.declared.Nodes.{Nodes}
 use Rattle.writer.specs.declared.Fields.{Fields}
+use Rattle.writer.specs.declared.Written.{Written}
 use Rattle.writer.specs.declared.Written.the-variants.{At, Full}
 use Rattle.writer.proofs.Laws.{long-items, length-in}
 
 module _ (e : Rec) (at : ℕ) (out : List ℕ) where
-  full : length out < at + size e → Wrote e at out Full out
-  unfolding reached written fits choose
-  full h = record { answer = rw (lt-leb _ _ h); bytes = rw (lt-leb _ _ h) }
-
-  stored : (o : List ℕ) → at + size e ≤ length out → o ≡ overwrite out at (encode e) → Wrote e at out (At (at + size e)) o
-  unfolding reached written fits choose
-  stored o h q = record { answer = rw (le-leb _ _ h); bytes = q ∙ rw (le-leb _ _ h) }
-
   -- header, entries and data, stored one after the other
-  in-turn : (o₁ o₂ o₃ : List ℕ) (n : ℕ) → n ≡ length (e .nodes) → o₃ ≡ overwrite o₂ (at + header-length + node-length * n) (datas (e .nodes)) → o₂ ≡ overwrite o₁ (at + header-length) (entries (e .nodes) (header-length + node-length * n))
+  in-turn : (o₁ o₂ o₃ : List ℕ) (n : ℕ) → n ≡ length (e .nodes) → o₃ ≡ overwrite o₂ (at + (header-length + node-length * n)) (datas (e .nodes)) → o₂ ≡ overwrite o₁ (at + header-length) (entries (e .nodes) (header-length + node-length * n))
       → o₁ ≡ overwrite out at (header e) → o₃ ≡ overwrite out at (encode e)
   unfolding encode-by
   in-turn o₁ o₂ o₃ n k r q p =
@@ -61,18 +56,55 @@ header-put f n z at out o₁ o₂ o₃ o₄ o₅ o₆ e₆ e₅ e₄ e₃ e₂ e
     (omega (arith, length-le peer-length (f .peer))))
     refl
 
+-- ---- the header of a record that fits, or not
+
+module _ (f : Fields) (n z at : ℕ) (out : List ℕ) where
+  pub headed-past : header-length ≤ z → length out < at → Headed f n z at out Full out
+  unfolding choose
+  headed-past k h = let q : leb (at + z) (length out) ≡ false = lt-leb (at + z) (length out) (omega arith) in record { answer = rw q; bytes = rw q }
+
+  pub headed-full : at ≤ length out → length out - at < z → Headed f n z at out Full out
+  unfolding choose
+  headed-full k h = let q : leb (at + z) (length out) ≡ false = lt-leb (at + z) (length out) (omega arith) in record { answer = rw q; bytes = rw q }
+
+  pub headed : at ≤ length out → z ≤ length out - at → (o : List ℕ) → o ≡ overwrite out at (header-bytes f n z) → Headed f n z at out (At (at + z)) o
+  unfolding choose
+  headed k h o e = let q : leb (at + z) (length out) ≡ true = le-leb (at + z) (length out) (omega arith) in record { answer = rw q; bytes = e ∙ rw q }
+
+abbrev answered : Written → Bool
+answered (At x) = true
+answered Full = false
+
+fitted : (r : Written) (t : Bool) (x : ℕ) → r ≡ choose t (At x) Full → answered r ≡ t
+unfolding choose
+fitted r true x e = ap answered e
+fitted r false x e = ap answered e
+
 pub length-nodes : (s : Nodes) → ValidNodes s → length (nodes-in s) ≡ s .len
 unfolding nodes-in
 length-nodes s v = length-map (take (s .len) (s .items)) node-in ∙ length-take-le (s .len) (s .items) (omega (arith, v .fits, long-items s v))
 
--- a record of n nodes and z bytes
-module _ (f : Fields) (ns : List Node) (n z at : ℕ) (out : List ℕ) (p : n ≡ length ns) (k : z ≡ header-length + (node-length * n + length (datas ns))) where
+-- a record of n nodes and z bytes, whose header was answered with r
+module _ (f : Fields) (ns : List Node) (n z at : ℕ) (out : List ℕ) (r : Written) (o : List ℕ) (p : n ≡ length ns) (k : z ≡ header-length + (node-length * n + length (datas ns))) (a : Headed f n z at out r o) where
   size-is : size (rec-in f ns) ≡ z
   unfolding size-by rec-in
   size-is = omega (arith, k, p)
 
-  pub no-room : (r : ℕ) → r ≡ length out - at → r < z → Wrote (rec-in f ns) at out Full out
-  no-room r e h = full (rec-in f ns) at out (omega (arith, size-is))
+  answer-is : r ≡ reached (rec-in f ns) at out
+  unfolding reached fits
+  answer-is = rw size-is (a .answer)
+
+  test-is : (b : Bool) → answered r ≡ b → leb (at + z) (length out) ≡ b
+  test-is b e = sym (fitted r (leb (at + z) (length out)) (at + z) (a .answer)) ∙ e
+
+  pub no-room : r ≡ Full → Wrote (rec-in f ns) at out r o
+  unfolding written fits choose
+  no-room e =
+      let q : leb (at + z) (length out) ≡ false = test-is false (ap answered e) in
+      record { answer = answer-is; bytes = a .bytes ∙ rw (size-is, q) }
+
+  pub room : (x : ℕ) → r ≡ At x → at + z ≤ length out
+  room x e = leb-true _ _ (test-is true (ap answered e))
 
   header-is : header-bytes f n z ≡ header (rec-in f ns)
   unfolding header-bytes header-by rec-in size-by
@@ -80,30 +112,32 @@ module _ (f : Fields) (ns : List Node) (n z at : ℕ) (out : List ℕ) (p : n �
       let q : z ≡ header-length + (node-length * length ns + length (datas ns)) = omega (arith, k, p) in
       λ i. f .kind ∷ f .message ∷ f .flags ∷ p i ∷ (le peer-length (f .peer) ++ (le peer-length (f .second) ++ (le 2 (f .ttl) ++ (le 2 (q i) ++ le 8 (f .number)))))
 
-  pub done : (o₁ o₂ o₃ : List ℕ) (r : ℕ) → r ≡ length out - at → z ≤ r → o₃ ≡ overwrite o₂ (at + header-length + node-length * n) (datas ns)
-      → o₂ ≡ overwrite o₁ (at + header-length) (entries ns (header-length + node-length * n)) → o₁ ≡ overwrite out at (header-bytes f n z) → Wrote (rec-in f ns) at out (At (at + z)) o₃
-  unfolding rec-in
-  done o₁ o₂ o₃ r l h w q e =
-      rw (← size-is)
-      (stored (rec-in f ns) at out o₃ (omega (arith, size-is, k))
-      (in-turn (rec-in f ns) at out o₁ o₂ o₃ n p w q (e ∙ ap (overwrite out at) header-is)))
+  header-stored : leb (at + z) (length out) ≡ true → o ≡ overwrite out at (header (rec-in f ns))
+  unfolding choose
+  header-stored q = a .bytes ∙ rw q (ap (overwrite out at) header-is)
+
+  pub done : (x : ℕ) → r ≡ At x → (o₃ : List ℕ) → o₃ ≡ overwrite (overwrite o (at + header-length) (entries ns (header-length + node-length * n))) (at + (header-length + node-length * n)) (datas ns)
+      → Wrote (rec-in f ns) at out r o₃
+  unfolding written fits choose rec-in
+  done x e o₃ w =
+      let q : leb (at + z) (length out) ≡ true = test-is true (ap answered e) in
+      let s : o₃ ≡ overwrite out at (encode (rec-in f ns)) = in-turn (rec-in f ns) at out o _ o₃ n p w refl (header-stored q) in
+      record { answer = answer-is; bytes = s ∙ rw (size-is, q) }
 
 -- ---- the records of no node and of one
 
-module _ (f : Fields) (at : ℕ) (out : List ℕ) (r : ℕ) (l : r ≡ length out - at) where
-  pub no-room-bare : r < header-length → Wrote (rec-in f []) at out Full out
-  unfolding datas
-  no-room-bare h = no-room f [] 0 header-length at out refl refl r l h
-
-  pub done-bare : (o : List ℕ) → header-length ≤ r → o ≡ overwrite out at (header-bytes f 0 header-length) → Wrote (rec-in f []) at out (At (at + header-length)) o
-  unfolding datas entries-by overwrite
-  done-bare o h e = done f [] 0 header-length at out refl refl o o o r l h refl refl e
+pub done-bare : (f : Fields) (at : ℕ) (out : List ℕ) (r : Written) (o : List ℕ) → Headed f 0 header-length at out r o → Wrote (rec-in f []) at out r o
+unfolding datas entries-by overwrite
+done-bare f at out r o a = go r refl where
+  go : (s : Written) → r ≡ s → Wrote (rec-in f []) at out r o
+  go (At x) e = done f [] 0 header-length at out r o refl refl a x e o refl
+  go Full e = no-room f [] 0 header-length at out r o refl refl a e
 
 -- where the data of one node stand
 abbrev fixed : ℕ
 fixed = header-length + node-length
 
-module _ (f : Fields) (p : PeerInfo) (v : ValidData (p .data)) where
+module _ (f : Fields) (p : PeerInfo) (v : ValidData (p .data)) (at : ℕ) (out : List ℕ) (r : Written) (o : List ℕ) (a : Headed f 1 (fixed + p .data .len) at out r o) where
   abbrev one : List Node
   one = node-in p ∷ []
 
@@ -111,16 +145,15 @@ module _ (f : Fields) (p : PeerInfo) (v : ValidData (p .data)) where
   unfolding datas node-in
   size-one = omega (arith, length-append (bytes-of (data-in (p .data))) [], length-in (p .data) v)
 
-  pub no-room-one : (at : ℕ) (out : List ℕ) (r : ℕ) → r ≡ length out - at → r < fixed + p .data .len → Wrote (rec-in f one) at out Full out
-  no-room-one at out r l h = no-room f one 1 (fixed + p .data .len) at out refl size-one r l h
+  pub no-room-one : r ≡ Full → Wrote (rec-in f one) at out r o
+  no-room-one e = no-room f one 1 (fixed + p .data .len) at out r o refl size-one a e
 
-  pub done-one : (at : ℕ) (out : List ℕ) (r : ℕ) → r ≡ length out - at → fixed + p .data .len ≤ r → (o₁ o₂ o₃ : List ℕ) → o₃ ≡ overwrite o₂ (at + fixed) (take (p .data .len) (p .data .bytes))
-      → o₂ ≡ overwrite o₁ (at + header-length) (entry (node-in p) fixed) → o₁ ≡ overwrite out at (header-bytes f 1 (fixed + p .data .len))
-      → Wrote (rec-in f one) at out (At (at + (fixed + p .data .len))) o₃
+  pub room-one : (x : ℕ) → r ≡ At x → at + (fixed + p .data .len) ≤ length out
+  room-one x e = room f one 1 (fixed + p .data .len) at out r o refl size-one a x e
+
+  pub done-one : (x : ℕ) → r ≡ At x → (o₃ : List ℕ) → o₃ ≡ overwrite (overwrite o (at + (header-length + node-length * 0)) (entry (node-in p) fixed)) (at + fixed) (take (p .data .len) (p .data .bytes))
+      → Wrote (rec-in f one) at out r o₃
   unfolding datas entries-by node-in
-  done-one at out r l h o₁ o₂ o₃ s q e =
-      let m : at + header-length + node-length * 1 ≡ at + fixed = omega arith in
-      done f one 1 (fixed + p .data .len) at out refl size-one o₁ o₂ o₃ r l h
-      (s ∙ rw (m, bytes-in (p .data) v, append-nil (take (p .data .len) (p .data .bytes))))
-      (q ∙ ap (overwrite o₁ (at + header-length)) (sym (append-nil (entry (node-in p) fixed))))
-      e
+  done-one x e o₃ s =
+      done f one 1 (fixed + p .data .len) at out r o refl size-one a x e o₃
+      (s ∙ rw (bytes-in (p .data) v, append-nil (take (p .data .len) (p .data .bytes)), append-nil (entry (node-in p) fixed)))

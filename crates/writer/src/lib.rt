@@ -7,13 +7,36 @@ use record::NODE;
 use record::PEER;
 ghost use mathlib.Core.Path.{_≡_};
 ghost use mathlib.Core.List.{[], _∷_, _++_};
-ghost use Prim.Native.Nat.{_+_, _*_, _-_, _≤_, _<_};
-ghost use lib.ListN.{length};
+ghost use Prim.Native.Nat.{_+_, _*_, _≤_, _<_};
+ghost use lib.ListN.{length, take};
 ghost use Rattle.lists.specs.Bytes.{le, overwrite};
 ghost use Rattle.peer.specs.Held.{node-in, ValidData};
-ghost use Rattle.record.specs.Format.{most-nodes, header-length, node-length, entry, entries, datas};
+ghost use Rattle.record.specs.Format.{most-nodes, header-length, node-length, entry};
 ghost use Rattle.writer.specs.Nodes.{nodes-in, ValidNodes, HoldsNodes};
-ghost use Rattle.writer.specs.Write.{rec-in, header-bytes, Wrote};
+ghost use Rattle.writer.specs.Write.{rec-in, Wrote, Headed};
+
+// The bytes of a number of 16 bits: a ttl, a record's length, a data's offset.
+pub const SHORT: usize = 2;
+
+// Where a header's numbers stand in it; the first peer stands there in both forms.
+pub const PEER_FROM: usize = 4;
+
+const SECOND_FROM: usize = PEER_FROM + PEER;
+
+const TTL_FROM: usize = SECOND_FROM + PEER;
+
+const SIZE_FROM: usize = TTL_FROM + SHORT;
+
+const NUMBER_FROM: usize = SIZE_FROM + SHORT;
+
+// The bytes of a header's number.
+pub const NUMBER_BYTES: usize = HEADER - NUMBER_FROM;
+
+// Where an entry has the length of the data.
+const LENGTH_FROM: usize = PEER + SHORT;
+
+// The bytes of an entry after its peer.
+const AFTER_PEER: usize = NODE - PEER;
 
 // A record's fields but its nodes; their number and the whole length follow from the nodes.
 pub struct Fields {
@@ -67,24 +90,6 @@ impl Nodes {
         s.len = at + 1;
         s
     }
-
-    // The whole length of a record with these nodes: at most 928, which two bytes hold.
-    fn size(self) -> usize
-        requires { ⌜ ValidNodes self ⌝ }
-        ensures { λ r. ⌜ (r ≡ header-length + (node-length * self .len + length (datas (nodes-in self)))) × (r ≤ 928) ⌝ }
-    {
-        let n = self.len;
-        let items = self.items;
-        let mut total = HEADER + NODE * n;
-        let mut i: usize = 0;
-        while i < n {
-            let p = items[i];
-            let d = p.data;
-            total += d.len as usize;
-            i += 1;
-        }
-        total
-    }
 }
 
 // The bytes bs, from place `at` on.
@@ -98,15 +103,6 @@ pub fn write_bytes(out: &mut [u8], at: usize, bs: &[u8])
         i += 1;
     }
 }
-
-// The bytes of a number of 16 bits: a ttl, a record's length, a data's offset.
-const SHORT: usize = 2;
-
-// Where an entry has the length of the data.
-const LENGTH_FROM: usize = PEER + SHORT;
-
-// The bytes of an entry after its peer.
-const AFTER_PEER: usize = NODE - PEER;
 
 // x in k bytes, lowest first, from place `at` on.
 pub fn put_number(out: &mut [u8], at: usize, x: u64, k: usize)
@@ -122,93 +118,42 @@ pub fn put_number(out: &mut [u8], at: usize, x: u64, k: usize)
     }
 }
 
-// A node entry, whose data stand at the place reached, from place `at` on.
-fn put_node(out: &mut [u8], at: usize, p: PeerInfo, reached: usize)
+// The i-th node of the record at place `at`: its entry, and its data at the place that they have reached in the record.
+fn put_node(out: &mut [u8], at: usize, i: usize, p: PeerInfo, reached: usize)
     requires { ⌜ ValidData (p .data) ⌝ }
-    requires { ⌜ at + node-length ≤ length (now out) ⌝ }
-    ensures { λ _. ⌜ now (out .exit) ≡ overwrite (now (out .entry)) at (entry (node-in p) reached) ⌝ }
+    requires { ⌜ i < most-nodes ⌝ }
+    requires { ⌜ at + (header-length + node-length * i + node-length) ≤ length (now out) ⌝ }
+    requires { ⌜ at + reached + p .data .len ≤ length (now out) ⌝ }
+    ensures { λ _. ⌜ now (out .exit) ≡ overwrite (overwrite (now (out .entry)) (at + (header-length + node-length * i)) (entry (node-in p) reached)) (at + reached) (take (p .data .len) (p .data .bytes)) ⌝ }
 {
+    let place = at + (HEADER + NODE * i);
     let d = p.data;
-    put_number(out, at, p.id, PEER);
+    put_number(out, place, p.id, PEER);
     if d.present {
-        put_number(out, at + PEER, reached as u64, SHORT);
+        put_number(out, place + PEER, reached as u64, SHORT);
         let back = [d.len, 1];
-        write_bytes(out, at + LENGTH_FROM, &back);
+        write_bytes(out, place + LENGTH_FROM, &back);
+        let n = d.len as usize;
+        let bytes = d.bytes;
+        write_bytes(out, at + reached, &bytes[..n]);
         return;
     }
     // Absent data: offset, length and mark are 0.
-    put_number(out, at + PEER, 0, AFTER_PEER);
+    put_number(out, place + PEER, 0, AFTER_PEER);
 }
 
-// The entries of these nodes, from place `at` on.
-fn put_entries(out: &mut [u8], at: usize, ns: Nodes)
-    requires { ⌜ ValidNodes ns ⌝ }
-    requires { ⌜ at + node-length * ns .len ≤ length (now out) ⌝ }
-    ensures { λ _. ⌜ now (out .exit) ≡ overwrite (now (out .entry)) at (entries (nodes-in ns) (header-length + node-length * ns .len)) ⌝ }
+// The header of a record of so many nodes and so many bytes, from place `at` on, and the place after the record; nothing is touched where it does not fit.
+fn put_header(out: &mut [u8], at: usize, f: Fields, nodes: u8, size: u16) -> Written
+    requires { ⌜ header-length ≤ size ⌝ }
+    ensures { λ r. ⌜ Headed f nodes size at (now (out .entry)) r (now (out .exit)) ⌝ }
 {
-    let n = ns.len;
-    let items = ns.items;
-    let mut reached = HEADER + NODE * n;
-    let mut i: usize = 0;
-    while i < n {
-        let p = items[i];
-        put_node(out, at + NODE * i, p, reached);
-        let d = p.data;
-        reached += d.len as usize;
-        i += 1;
+    let whole = size as usize;
+    if out.len() < at {
+        return Written::Full;
     }
-}
-
-// The nodes' data, one after the other.
-fn put_data(out: &mut [u8], at: usize, ns: Nodes)
-    requires { ⌜ ValidNodes ns ⌝ }
-    requires { ⌜ at + length (datas (nodes-in ns)) ≤ length (now out) ⌝ }
-    ensures { λ _. ⌜ now (out .exit) ≡ overwrite (now (out .entry)) at (datas (nodes-in ns)) ⌝ }
-{
-    let n = ns.len;
-    let items = ns.items;
-    let mut k = at;
-    let mut i: usize = 0;
-    while i < n {
-        let p = items[i];
-        let d = p.data;
-        let m = d.len as usize;
-        let bytes = d.bytes;
-        write_bytes(out, k, &bytes[..m]);
-        k += m;
-        i += 1;
+    if out.len() - at < whole {
+        return Written::Full;
     }
-}
-
-// How many bytes are left from place `at` on: none where it is past the end.
-fn left(len: usize, at: usize) -> usize
-    ensures { λ r. ⌜ r ≡ len - at ⌝ }
-{
-    if len < at {
-        return 0;
-    }
-    len - at
-}
-
-// Where a header's numbers stand in it.
-const PEER_FROM: usize = 4;
-
-const SECOND_FROM: usize = PEER_FROM + PEER;
-
-const TTL_FROM: usize = SECOND_FROM + PEER;
-
-const SIZE_FROM: usize = TTL_FROM + SHORT;
-
-const NUMBER_FROM: usize = SIZE_FROM + SHORT;
-
-// The bytes of a header's number.
-const NUMBER_BYTES: usize = HEADER - NUMBER_FROM;
-
-// The header of a record of so many nodes and so many bytes, from place `at` on.
-fn put_header(out: &mut [u8], at: usize, f: Fields, nodes: u8, size: u16)
-    requires { ⌜ at + header-length ≤ length (now out) ⌝ }
-    ensures { λ _. ⌜ now (out .exit) ≡ overwrite (now (out .entry)) at (header-bytes f nodes size) ⌝ }
-{
     let front = [f.kind, f.message, f.flags, nodes];
     write_bytes(out, at, &front);
     put_number(out, at + PEER_FROM, f.peer, PEER);
@@ -216,6 +161,7 @@ fn put_header(out: &mut [u8], at: usize, f: Fields, nodes: u8, size: u16)
     put_number(out, at + TTL_FROM, f.ttl as u64, SHORT);
     put_number(out, at + SIZE_FROM, size as u64, SHORT);
     put_number(out, at + NUMBER_FROM, f.number, NUMBER_BYTES);
+    Written::At(at + whole)
 }
 
 // The record from place `at` on; nothing is touched where it does not fit.
@@ -224,25 +170,38 @@ pub fn write(out: &mut [u8], at: usize, f: Fields, ns: Nodes) -> Written
     ensures { λ r. ⌜ Wrote (rec-in f (nodes-in ns)) at (now (out .entry)) r (now (out .exit)) ⌝ }
 {
     let n = ns.len;
-    let size = ns.size();
-    if left(out.len(), at) < size {
-        return Written::Full;
+    let items = ns.items;
+    let fixed = HEADER + NODE * n;
+    // The whole length: at most 928, which two bytes hold.
+    let mut size = fixed;
+    let mut i: usize = 0;
+    while i < n {
+        let p = items[i];
+        let d = p.data;
+        size += d.len as usize;
+        i += 1;
     }
-    put_header(out, at, f, n as u8, size as u16);
-    put_entries(out, at + HEADER, ns);
-    put_data(out, at + HEADER + NODE * n, ns);
-    Written::At(at + size)
+    let a = put_header(out, at, f, n as u8, size as u16);
+    let Written::At(_) = a else {
+        return a;
+    };
+    let mut reached = fixed;
+    let mut k: usize = 0;
+    while k < n {
+        let p = items[k];
+        put_node(out, at, k, p, reached);
+        let d = p.data;
+        reached += d.len as usize;
+        k += 1;
+    }
+    a
 }
 
 // A record without nodes.
 pub fn write_bare(out: &mut [u8], at: usize, f: Fields) -> Written
     ensures { λ r. ⌜ Wrote (rec-in f []) at (now (out .entry)) r (now (out .exit)) ⌝ }
 {
-    if left(out.len(), at) < HEADER {
-        return Written::Full;
-    }
-    put_header(out, at, f, 0, HEADER as u16);
-    Written::At(at + HEADER)
+    put_header(out, at, f, 0, HEADER as u16)
 }
 
 // A record with one node.
@@ -251,15 +210,12 @@ pub fn write_one(out: &mut [u8], at: usize, f: Fields, p: PeerInfo) -> Written
     ensures { λ r. ⌜ Wrote (rec-in f (node-in p ∷ [])) at (now (out .entry)) r (now (out .exit)) ⌝ }
 {
     let d = p.data;
-    let n = d.len as usize;
     let fixed = HEADER + NODE;
-    let whole = fixed + n;
-    if left(out.len(), at) < whole {
-        return Written::Full;
-    }
-    put_header(out, at, f, 1, whole as u16);
-    put_node(out, at + HEADER, p, fixed);
-    let bytes = d.bytes;
-    write_bytes(out, at + fixed, &bytes[..n]);
-    Written::At(at + whole)
+    let whole = fixed + d.len as usize;
+    let a = put_header(out, at, f, 1, whole as u16);
+    let Written::At(_) = a else {
+        return a;
+    };
+    put_node(out, at, 0, p, fixed);
+    a
 }
