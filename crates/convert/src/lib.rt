@@ -41,6 +41,9 @@ fn clear_bytes(out: &mut [u8])
     }
 }
 
+// The bytes of a header's ttl and whole length together.
+const BOTH_SHORT: usize = 2 * SHORT;
+
 // The header's fields behind its peers: they are as long in both forms.
 fn put_tail(out: &mut [u8], at: usize, h: Header)
     requires { ⌜ at + 12 ≤ length (now out) ⌝ }
@@ -48,7 +51,7 @@ fn put_tail(out: &mut [u8], at: usize, h: Header)
 {
     writer::put_number(out, at, h.ttl as u64, SHORT);
     writer::put_number(out, at + SHORT, h.size as u64, SHORT);
-    writer::put_number(out, at + 2 * SHORT, h.number, NUMBER_BYTES);
+    writer::put_number(out, at + BOTH_SHORT, h.number, NUMBER_BYTES);
 }
 
 // The header, where a peer has w bytes.
