@@ -1,10 +1,11 @@
 // Document 02, S-8: a record of the old form made one of this form, and back, on lent bytes.
+use record::BOTH_SHORT;
 use record::Entry;
 use record::Header;
+use record::NUMBER_BYTES;
+use record::PEER_FROM;
 use record::Refusal;
-use writer::NUMBER_BYTES;
-use writer::PEER_FROM;
-use writer::SHORT;
+use record::SHORT;
 ghost use mathlib.Core.Path.{_≡_};
 ghost use mathlib.Core.Bool.{true};
 ghost use mathlib.Core.List.{[]};
@@ -40,9 +41,6 @@ fn clear_bytes(out: &mut [u8])
         i += 1;
     }
 }
-
-// The bytes of a header's ttl and whole length together.
-const BOTH_SHORT: usize = 2 * SHORT;
 
 // The header's fields behind its peers: they are as long in both forms.
 fn put_tail(out: &mut [u8], at: usize, h: Header)

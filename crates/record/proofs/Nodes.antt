@@ -7,7 +7,7 @@ use mathlib.Core.List.{List}
 use mathlib.Core.Option.{none, some}
 use native.Mathlib.Nat.{not-suc-le-zero, mul-le-mul-left}
 use native.Mathlib.Omega.{arith}
-use lib.ListN.{length, take, drop}
+use lib.ListN.{length}
 use lib.Seq.{slice, length-slice}
 use lib.Dec.{leb, eqb}
 use borrow.Author.Tests.{eq-eqb, ne-eqb, le-leb}
@@ -21,7 +21,7 @@ use Rattle.record.specs.Read.{header-of, header-of-by, entry-from, entry
 use Rattle.record.specs.Answers.{HoldsNode}
 use Rattle.record.specs.declared.Header.{Header}
 use Rattle.record.specs.declared.Entry.{Entry}
-use Rattle.record.proofs.Laws.{entries-reach, part-is}
+use Rattle.record.proofs.Laws.{entries-reach}
 use Rattle.record.proofs.Back.{Sound, sound, parts}
 
 -- the i-th entry of b: its bytes and its data stand within b, the data are those that it points at, at most 16 bytes
@@ -87,14 +87,14 @@ module _ (b : List ℕ) (e : Entry) (r : PeerData) where
   unfolding data-at
   absent-held z h = subst (λ (d : Data). HoldsData r d) (sym (choose-yes (eqb (e .present) 0) none (some (slice (e .offset) (e .offset + e .len) b)) (eq-eqb _ _ z))) h
 
-  pub present-held : (e .present ≡ 0 → ⊥) → e .offset + e .len ≤ length b → e .len ≤ 16 → HoldsData r (taken (take (e .offset + e .len - e .offset) (drop (e .offset) b))) → HoldsData r (data-at b e)
+  pub present-held : (x : List ℕ) → (e .present ≡ 0 → ⊥) → e .offset + e .len ≤ length b → e .len ≤ 16 → x ≡ slice (e .offset) (e .offset + e .len) b → HoldsData r (taken x) → HoldsData r (data-at b e)
   unfolding data-at taken
-  present-held z w f h =
+  present-held x z w f q h =
       let s : List ℕ = slice (e .offset) (e .offset + e .len) b in
       let l : length s ≡ e .len = length-slice (e .offset) (e .offset + e .len) b w ∙ (let k : e .offset + e .len - e .offset ≡ e .len = omega arith in k) in
       let t : choose (leb (length s) 16) (some s) none ≡ some s = choose-yes (leb (length s) 16) (some s) none (le-leb (length s) 16 (omega arith)) in
       let d : data-at b e ≡ some s = choose-no (eqb (e .present) 0) none (some s) (ne-eqb _ _ z) in
-      subst (λ (x : Data). HoldsData r x) (ap taken (part-is b (e .offset) (e .len)) ∙ t ∙ sym d) h
+      subst (λ (x : Data). HoldsData r x) (ap taken q ∙ t ∙ sym d) h
 
 pub node-held : (b : List ℕ) (i : ℕ) (e : Entry) (d : PeerData) → e ≡ entry-at b i → HoldsData d (data-at b e) → HoldsNode (record { id = e .id; «data» = d }) (node-at b i)
 unfolding node-at-by node-in

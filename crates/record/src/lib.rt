@@ -4,7 +4,7 @@ use peer::PeerId;
 use peer::PeerInfo;
 ghost use mathlib.Core.Path.{_≡_};
 ghost use mathlib.Core.Bool.{true};
-ghost use Prim.Native.Nat.{_+_, _*_, _≤_, _<_};
+ghost use Prim.Native.Nat.{_+_, _*_, _^_, _≤_, _<_};
 ghost use lib.ListN.{length};
 ghost use lib.Seq.{slice};
 ghost use Rattle.lists.specs.Lists.{choose};
@@ -20,6 +20,17 @@ pub const OLD_PEER: usize = 4;
 
 // The first number that has more than four bytes.
 pub const FOUR_BYTES_END: u64 = 4294967296;
+
+// The bytes of a number of 16 bits: a ttl, a record's length, a data's offset; and of a header's ttl and length together.
+pub const SHORT: usize = 2;
+
+pub const BOTH_SHORT: usize = 2 * SHORT;
+
+// The bytes of a header's number.
+pub const NUMBER_BYTES: usize = 8;
+
+// Where a header's first peer stands, in both forms.
+pub const PEER_FROM: usize = 4;
 
 // The bytes of a header and of a node entry.
 pub const HEADER: usize = 32;
@@ -162,52 +173,19 @@ fn fixed_size(kind: u8) -> u8
     0
 }
 
-// A byte as a wider number.
-pub fn wide(x: u8) -> u32
-    ensures { λ r. ⌜ (r ≡ x) × (r < 256) ⌝ }
+// The number that stands in k bytes from place `at` on, lowest first.
+pub fn read_number(b: &[u8], at: usize, k: usize) -> u64
+    requires { ⌜ k ≤ 8 ⌝ }
+    requires { ⌜ at + k ≤ length (now b) ⌝ }
+    ensures { λ r. ⌜ (r ≡ read-le k (now (b .entry)) at) × (r < 256 ^ k) ⌝ }
 {
-    x as u32
-}
-
-pub fn read_u16(b: &[u8], at: usize) -> u16
-    requires { ⌜ at + 2 ≤ length (now b) ⌝ }
-    ensures { λ r. ⌜ r ≡ read-le 2 (now (b .entry)) at ⌝ }
-{
-    let low = wide(b[at]);
-    let high = wide(b[at + 1]);
-    (low + 256 * high) as u16
-}
-
-pub fn read_u32(b: &[u8], at: usize) -> u32
-    requires { ⌜ at + 4 ≤ length (now b) ⌝ }
-    ensures { λ r. ⌜ r ≡ read-le 4 (now (b .entry)) at ⌝ }
-{
-    let b0 = wide(b[at]);
-    let b1 = wide(b[at + 1]);
-    let b2 = wide(b[at + 2]);
-    let b3 = wide(b[at + 3]);
-    b0 + 256 * (b1 + 256 * (b2 + 256 * b3))
-}
-
-pub fn read_u64(b: &[u8], at: usize) -> u64
-    requires { ⌜ at + 8 ≤ length (now b) ⌝ }
-    ensures { λ r. ⌜ r ≡ read-le 8 (now (b .entry)) at ⌝ }
-{
-    let low = read_u32(b, at) as u64;
-    let high = read_u32(b, at + 4) as u64;
-    low + FOUR_BYTES_END * high
-}
-
-// A peer's number, where it has w bytes.
-fn read_peer(b: &[u8], at: usize, w: usize) -> PeerId
-    requires { ⌜ IsForm w ⌝ }
-    requires { ⌜ at + w ≤ length (now b) ⌝ }
-    ensures { λ r. ⌜ r ≡ read-le w (now (b .entry)) at ⌝ }
-{
-    if w == OLD_PEER {
-        return read_u32(b, at) as u64;
+    let mut r: u64 = 0;
+    let mut i = k;
+    while 0 < i {
+        i -= 1;
+        r = b[at + i] as u64 + 256 * r;
     }
-    read_u64(b, at)
+    r
 }
 
 // The header's fields, as they stand, where a peer has w bytes.
@@ -216,16 +194,17 @@ pub fn read_header_by(b: &[u8], w: usize) -> Header
     requires { ⌜ header-length-by w ≤ length (now b) ⌝ }
     ensures { λ r. ⌜ r ≡ header-of-by w (now (b .entry)) ⌝ }
 {
+    let ttl_from = PEER_FROM + 2 * w;
     Header {
         kind: b[0],
         message: b[1],
         flags: b[2],
         nodes: b[3],
-        peer: read_peer(b, 4, w),
-        second: read_peer(b, 4 + w, w),
-        ttl: read_u16(b, 4 + 2 * w),
-        size: read_u16(b, 6 + 2 * w),
-        number: read_u64(b, 8 + 2 * w),
+        peer: read_number(b, PEER_FROM, w),
+        second: read_number(b, PEER_FROM + w, w),
+        ttl: read_number(b, ttl_from, SHORT) as u16,
+        size: read_number(b, ttl_from + SHORT, SHORT) as u16,
+        number: read_number(b, ttl_from + BOTH_SHORT, NUMBER_BYTES),
     }
 }
 
@@ -244,9 +223,9 @@ fn read_entry(b: &[u8], at: usize, w: usize) -> Entry
     ensures { λ r. ⌜ r ≡ entry-from w (now (b .entry)) at ⌝ }
 {
     Entry {
-        id: read_peer(b, at, w),
-        offset: read_u16(b, at + w),
-        len: b[at + (w + 2)],
+        id: read_number(b, at, w),
+        offset: read_number(b, at + w, SHORT) as u16,
+        len: b[at + (w + SHORT)],
         present: b[at + (w + 3)],
     }
 }
@@ -330,10 +309,10 @@ fn header_ok(h: Header) -> bool
     let most = select(some, h.nodes <= MOST_NODES, h.nodes == 0);
     let count = select(one, h.nodes == 1, most);
     // Peer is 0 in kinds 1, 2, 7, 8.
-    let none = (h.kind == Kind::DO_SHUFFLE)
+    let no_peer = (h.kind == Kind::DO_SHUFFLE)
         | ((h.kind == Kind::DO_MAINTENANCE)
             | ((h.kind == Kind::UPDATE_PEER_DATA) | (h.kind == Kind::QUIT)));
-    let peer = !none | (h.peer == 0);
+    let peer = !no_peer | (h.peer == 0);
     // Fields not named for a kind are 0.
     let second = (shuffle | is_timer(h)) | (h.second == 0);
     let ttl = (forward | shuffle) | (h.ttl == 0);
@@ -347,7 +326,7 @@ pub fn well_formed(b: &[u8], w: usize) -> bool
     requires { ⌜ IsForm w ⌝ }
     ensures { λ r. ⌜ r ≡ well-formed-by w (now (b .entry)) ⌝ }
 {
-    if b.len() < 16 + 2 * w {
+    if b.len() < place(0, w) {
         return false;
     }
     let h = read_header_by(b, w);
@@ -445,9 +424,7 @@ pub fn peer_info_at(b: &[u8], i: usize) -> PeerInfo
             data: PeerData::absent(),
         };
     }
-    let at = e.offset as usize;
-    let end = at + e.len as usize;
-    let m = PeerData::from_slice(&b[at..end]);
+    let m = PeerData::from_slice(node_data(b, e));
     let d = m.data;
     PeerInfo { id: e.id, data: d }
 }

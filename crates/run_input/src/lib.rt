@@ -53,7 +53,7 @@ pub fn number(b: &[u8], i: usize) -> u32
     ensures { λ r. ⌜ r ≡ number (now (b .entry)) i ⌝ }
 {
     if i < b.len() / 4 {
-        return record::read_u32(b, 4 * i);
+        return record::read_number(b, 4 * i, 4) as u32;
     }
     0
 }

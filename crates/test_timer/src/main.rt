@@ -55,13 +55,13 @@ fn show_insert(q: &mut [u64], b: &[u8])
 {
     let id = Id(0, 0, 0, 0);
     let item = Timer {
-        kind: record::read_u64(b, KIND),
-        peer: record::read_u64(b, PEER_AT),
-        number: record::read_u64(b, NUMBER),
+        kind: record::read_number(b, KIND, 8),
+        peer: record::read_number(b, PEER_AT, 8),
+        number: record::read_number(b, NUMBER, 8),
         id: id,
     };
-    let time = record::read_u64(b, TIME);
-    let delay = record::read_u64(b, DELAY);
+    let time = record::read_number(b, TIME, 8);
+    let delay = record::read_number(b, DELAY, 8);
     let code = timer_map::timer_map_insert(q, time, delay, item);
     let line = [INSERT, code as u64];
     show_line(&line);
@@ -110,10 +110,10 @@ fn show_event(q: &mut [u64], limit: u64) {
         p.code as u64,
         mark(p.found),
         p.time,
-        record::read_u64(out, 0),
-        record::read_u64(out, 8),
-        record::read_u64(out, 16),
-        record::read_u64(out, 24),
+        record::read_number(out, 0, 8),
+        record::read_number(out, 8, 8),
+        record::read_number(out, 16, 8),
+        record::read_number(out, 24, 8),
     ];
     show_line(&line);
 }
@@ -127,8 +127,8 @@ fn show_new(q: &mut [u64], what: u64) {
 fn call(q: &mut [u64], b: &[u8])
     requires { ⌜ length (now b) ≡ timer-call-bytes ⌝ }
 {
-    let what = record::read_u64(b, 0);
-    let time = record::read_u64(b, TIME);
+    let what = record::read_number(b, 0, 8);
+    let time = record::read_number(b, TIME, 8);
     if what == INSERT {
         show_insert(q, b);
         return;

@@ -4,7 +4,10 @@ use peer::PeerId;
 use peer::PeerInfo;
 use record::HEADER;
 use record::NODE;
+use record::NUMBER_BYTES;
 use record::PEER;
+use record::PEER_FROM;
+use record::SHORT;
 ghost use mathlib.Core.Path.{_≡_};
 ghost use mathlib.Core.List.{[], _∷_, _++_};
 ghost use Prim.Native.Nat.{_+_, _*_, _≤_, _<_};
@@ -15,12 +18,7 @@ ghost use Rattle.record.specs.Format.{most-nodes, header-length, node-length, e
 ghost use Rattle.writer.specs.Nodes.{nodes-in, ValidNodes, HoldsNodes};
 ghost use Rattle.writer.specs.Write.{rec-in, Wrote, Headed};
 
-// The bytes of a number of 16 bits: a ttl, a record's length, a data's offset.
-pub const SHORT: usize = 2;
-
-// Where a header's numbers stand in it; the first peer stands there in both forms.
-pub const PEER_FROM: usize = 4;
-
+// Where a header's numbers stand in it.
 const SECOND_FROM: usize = PEER_FROM + PEER;
 
 const TTL_FROM: usize = SECOND_FROM + PEER;
@@ -28,9 +26,6 @@ const TTL_FROM: usize = SECOND_FROM + PEER;
 const SIZE_FROM: usize = TTL_FROM + SHORT;
 
 const NUMBER_FROM: usize = SIZE_FROM + SHORT;
-
-// The bytes of a header's number.
-pub const NUMBER_BYTES: usize = HEADER - NUMBER_FROM;
 
 // Where an entry has the length of the data.
 const LENGTH_FROM: usize = PEER + SHORT;

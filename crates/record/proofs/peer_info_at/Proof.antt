@@ -22,33 +22,23 @@ returns c =
     let entry = entry-read _ _ _ (read .read-entry .ensures) in
     node-held _ _ _ _ entry (absent-held _ _ _ (c .before .if1 .taken) (c .absent .ensures))
 
-cast-at : tie.Need-cast-at
-cast-at c = search needs
-
-cast-end : tie.Need-cast-end
-cast-end c = search needs
-
-add-end : tie.Need-add-end
-add-end c = search needs
-
-sub-from-slice : tie.Need-sub-from-slice
-sub-from-slice c = search needs
-
-part-from-slice-start : tie.Need-part-from-slice-start
-part-from-slice-start c = search needs
-
-part-from-slice-end : tie.Need-part-from-slice-end
-part-from-slice-end c = search (needs, entry-within _ _ (c .before .before .before .before .before .before .pre .0) (c .before .before .before .before .before .before .pre .1) _ (entry-read _ _ _ (c .before .before .before .before .read-entry .ensures)))
+node-data-requires : tie.Need-node-data-requires
+node-data-requires c κs =
+    let read = c .before .before in
+    let asked = read .before .before .pre in
+    entry-within _ _ (asked .0) (asked .1) _ (entry-read _ _ _ (read .read-entry .ensures))
 
 from-slice-requires : tie.Need-from-slice-requires
 from-slice-requires c κs = search needs
 
 returns-2 : tie.Need-returns-2
 returns-2 c =
-    let read = c .before .before .before .before .before .before .before in
+    let at-data = c .before .before in
+    let read = at-data .before .before .before in
     let asked = read .before .before .pre in
     let entry = entry-read _ _ _ (read .read-entry .ensures) in
-    node-held _ _ _ _ entry (present-held _ _ _ (c .before .before .before .before .before .if1 .left) (entry-within _ _ (asked .0) (asked .1) _ entry) (entry-few _ _ (asked .0) (asked .1) _ entry) (c .before .from-slice .ensures .held))
+    node-held _ _ _ _ entry
+    (present-held _ _ _ _ (at-data .before .if1 .left) (entry-within _ _ (asked .0) (asked .1) _ entry) (entry-few _ _ (asked .0) (asked .1) _ entry) (at-data .node-data .ensures) (c .before .from-slice .ensures .held))
 
 pub peer-info-at-spec : {M : Type 1} → statement M
 peer-info-at-spec =
@@ -59,11 +49,6 @@ peer-info-at-spec =
     read-entry-requires
     absent-requires
     returns
-    cast-at
-    cast-end
-    add-end
-    sub-from-slice
-    part-from-slice-start
-    part-from-slice-end
+    node-data-requires
     from-slice-requires
     returns-2)

@@ -16,7 +16,7 @@ use Rattle.record.specs.Format.{header-length-by, node-length-by, place-
 use Rattle.record.specs.Read.{header-of-by, header-ok, is-message, is-data, entry-from, entry-at-by, entry-ok, entries-ok-by, well-formed-by}
 use Rattle.record.specs.declared.Header.{Header}
 use Rattle.record.specs.declared.Entry.{Entry}
-use Rattle.record.proofs.Laws.{twice-fits, header-fits, entries-short, entry-known}
+use Rattle.record.proofs.Laws.{entries-short, entry-known}
 use Rattle.record.proofs.well_formed.Statement.{statement}
 use Rattle.record.proofs.well_formed.Tie as tie
 
@@ -29,9 +29,16 @@ record Inv (w : ℕ) (b : List ℕ) (d u : Bool) (n at i : ℕ) : Type 0 where
   unnamed : u ≡ (is-message 0 (header-of-by w b) || (is-message 4 (header-of-by w b) || is-data (header-of-by w b)))
   same : (left : ℕ) → i + left ≡ n → well-formed-by w b ≡ entries-ok-by w (header-of-by w b) b i left at
 
-short : (w : ℕ) (b : List ℕ) → length b < header-length-by w → false ≡ well-formed-by w b
+-- the first entry stands right behind the header
+first-place : (w p : ℕ) → p ≡ place-by w 0 → p ≡ header-length-by w
+first-place w p e = e ∙ omega arith
+
+long : (w : ℕ) (b : List ℕ) (p : ℕ) → p ≡ place-by w 0 → p ≤ length b → header-length-by w ≤ length b
+long w b p e l = omega (arith, first-place w p e)
+
+short : (w : ℕ) (b : List ℕ) (p : ℕ) → p ≡ place-by w 0 → length b < p → false ≡ well-formed-by w b
 unfolding well-formed-by
-short w b l = rw (lt-leb _ _ l)
+short w b p e l = let h : length b < header-length-by w = omega (arith, first-place w p e) in rw (lt-leb _ _ h)
 
 -- where the last of three tests fails, what takes its place fails too
 instead : (r s t e : Bool) → (t ≡ false → e ≡ false) → (r && (s && t)) ≡ false → false ≡ (r && (s && e))
@@ -109,17 +116,14 @@ select-to-read-entry c = c .before .before .before .before .before .before .befo
 abbrev select-to-in-loop : tie.After-select Inv-loop μ-loop → tie.In-loop Inv-loop μ-loop
 select-to-in-loop c = select-to-read-entry c .before .before
 
-mul-if1 : tie.Need-mul-if1 Inv-loop μ-loop
-mul-if1 c = record { fits = twice-fits _ (search needs) }
-
-add-if1 : tie.Need-add-if1 Inv-loop μ-loop
-add-if1 c = record { fits = header-fits _ (search needs) }
+place-requires : tie.Need-place-requires Inv-loop μ-loop
+place-requires c κs = search needs
 
 returns : tie.Need-returns Inv-loop μ-loop
 returns c = search short
 
 read-header-by-requires : tie.Need-read-header-by-requires Inv-loop μ-loop
-read-header-by-requires c κs = search needs
+read-header-by-requires c κs = (search needs, search long)
 
 cast-size : tie.Need-cast-size Inv-loop μ-loop
 cast-size c = search needs
@@ -127,8 +131,8 @@ cast-size c = search needs
 cast-n : tie.Need-cast-n Inv-loop μ-loop
 cast-n c = search needs
 
-place-requires : tie.Need-place-requires Inv-loop μ-loop
-place-requires c κs = search needs
+place-requires-2 : tie.Need-place-requires-2 Inv-loop μ-loop
+place-requires-2 c κs = search needs
 
 header-ok-requires : tie.Need-header-ok-requires Inv-loop μ-loop
 header-ok-requires c κs = search needs
@@ -145,10 +149,11 @@ is-message-requires-2 c κs = search needs
 loop-holds : tie.Need-loop-holds Inv-loop μ-loop
 loop-holds c =
     let placed = c .before .before .before .before .before in
-    start _ _ _ _ _ (placed .before .before .before .before .if1 .left) (placed .before .before .before .read-header-by .ensures) (c .before .before .before .before .header-ok .ensures) (placed .place .ensures .0) _ _ _ (placed .place .ensures .1) (search needs) (c .before .before .is-data .ensures) (c .before .is-message .ensures) (c .is-message2 .ensures) (c .before .before .before .if2 .taken)
+    let tested = placed .before .before .before .before in
+    start _ _ _ _ _ (long _ (tested .before .before .before .args .b .now) _ (tested .before .place .ensures .0) (tested .if1 .left)) (placed .before .before .before .read-header-by .ensures) (c .before .before .before .before .header-ok .ensures) (placed .place2 .ensures .0) _ _ _ (placed .place2 .ensures .1) (search needs) (c .before .before .is-data .ensures) (c .before .is-message .ensures) (c .is-message2 .ensures) (c .before .before .before .if2 .taken)
 
-place-requires-2 : tie.Need-place-requires-2 Inv-loop μ-loop
-place-requires-2 c κs = search needs
+place-requires-3 : tie.Need-place-requires-3 Inv-loop μ-loop
+place-requires-3 c κs = search needs
 
 read-entry-requires : tie.Need-read-entry-requires Inv-loop μ-loop
 read-entry-requires c κs = (search needs, search entry-fits)
@@ -176,13 +181,13 @@ loop-again c =
     let tested = c .before in
     let chosen = tested .before .before .before in
     let read = select-to-read-entry chosen in
-    next _ _ _ _ _ _ _ (read .before .before .before .loop .inv) _ _ _ (read .before .place2 .ensures .0) (read .read-entry .ensures) (chosen .select .ensures) (read .before .before .loop-test .taken) (search needs) (tested .if3 .taken)
+    next _ _ _ _ _ _ _ (read .before .before .before .loop .inv) _ _ _ (read .before .place3 .ensures .0) (read .read-entry .ensures) (chosen .select .ensures) (read .before .before .loop-test .taken) (search needs) (tested .if3 .taken)
 
 returns-2 : tie.Need-returns-2 Inv-loop μ-loop
 returns-2 c =
     let chosen = c .before .before .before in
     let read = select-to-read-entry chosen in
-    bad _ _ _ _ _ _ _ (read .before .before .before .loop .inv) _ _ _ (read .before .place2 .ensures .0) (read .read-entry .ensures) (chosen .select .ensures) (read .before .before .loop-test .taken) (c .if3 .left)
+    bad _ _ _ _ _ _ _ (read .before .before .before .loop .inv) _ _ _ (read .before .place3 .ensures .0) (read .read-entry .ensures) (chosen .select .ensures) (read .before .before .loop-test .taken) (c .if3 .left)
 
 returns-3 : tie.Need-returns-3 Inv-loop μ-loop
 returns-3 c = search end
@@ -190,7 +195,8 @@ returns-3 c = search end
 returns-4 : tie.Need-returns-4 Inv-loop μ-loop
 returns-4 c =
     let placed = c .before .before in
-    unsound _ _ _ _ _ (placed .before .before .before .before .if1 .left) (placed .before .before .before .read-header-by .ensures) (c .before .header-ok .ensures) (placed .place .ensures .0) (c .if2 .left)
+    let tested = placed .before .before .before .before in
+    unsound _ _ _ _ _ (long _ (tested .before .before .before .args .b .now) _ (tested .before .place .ensures .0) (tested .if1 .left)) (placed .before .before .before .read-header-by .ensures) (c .before .header-ok .ensures) (placed .place2 .ensures .0) (c .if2 .left)
 
 pub well-formed-spec : {M : Type 1} → statement M
 well-formed-spec =
@@ -198,19 +204,18 @@ well-formed-spec =
     (tie.spec
     Inv-loop
     μ-loop
-    mul-if1
-    add-if1
+    place-requires
     returns
     read-header-by-requires
     cast-size
     cast-n
-    place-requires
+    place-requires-2
     header-ok-requires
     is-data-requires
     is-message-requires
     is-message-requires-2
     loop-holds
-    place-requires-2
+    place-requires-3
     read-entry-requires
     cast-offset
     select-requires

@@ -15,17 +15,20 @@ there b i r h e = e ∙ sym (number-read b i h)
 none : (b : List ℕ) (i : ℕ) → length b / 4 ≤ i → 0 ≡ number b i
 none b i h = sym (number-none b i h)
 
-mul-read-u32 : tie.Need-mul-read-u32
-mul-read-u32 c = search needs
+mul-read-number : tie.Need-mul-read-number
+mul-read-number c = search needs
 
-read-u32-requires : tie.Need-read-u32-requires
-read-u32-requires c κs = search needs
+read-number-requires : tie.Need-read-number-requires
+read-number-requires c κs = search needs
+
+cast-result : tie.Need-cast-result
+cast-result c = search needs
 
 returns : tie.Need-returns
-returns c = search there
+returns c = there _ _ _ (c .before .if1 .taken) (c .read-number .ensures .0)
 
 returns-2 : tie.Need-returns-2
 returns-2 c = search none
 
 pub number-spec : {M : Type 1} → statement M
-number-spec = tie.close (tie.spec mul-read-u32 read-u32-requires returns returns-2)
+number-spec = tie.close (tie.spec mul-read-number read-number-requires cast-result returns returns-2)

@@ -20,23 +20,17 @@ sub-left c = search needs
 returns : tie.Need-returns Inv-loop μ-loop
 returns c = search needs
 
-add-read-u16 : tie.Need-add-read-u16 Inv-loop μ-loop
-add-read-u16 c = search needs
+add-read-number : tie.Need-add-read-number Inv-loop μ-loop
+add-read-number c = search needs
 
-read-u16-requires : tie.Need-read-u16-requires Inv-loop μ-loop
-read-u16-requires c κs = search needs
+read-number-requires : tie.Need-read-number-requires Inv-loop μ-loop
+read-number-requires c κs = search needs
 
-cast-room : tie.Need-cast-room Inv-loop μ-loop
-cast-room c = search needs
+add-read-number-2 : tie.Need-add-read-number-2 Inv-loop μ-loop
+add-read-number-2 c = search needs
 
-add-read-u16-2 : tie.Need-add-read-u16-2 Inv-loop μ-loop
-add-read-u16-2 c = search needs
-
-read-u16-requires-2 : tie.Need-read-u16-requires-2 Inv-loop μ-loop
-read-u16-requires-2 c κs = search needs
-
-cast-size : tie.Need-cast-size Inv-loop μ-loop
-cast-size c = search needs
+read-number-requires-2 : tie.Need-read-number-requires-2 Inv-loop μ-loop
+read-number-requires-2 c κs = search needs
 
 returns-2 : tie.Need-returns-2 Inv-loop μ-loop
 returns-2 c = search needs
@@ -80,12 +74,10 @@ show-cases-spec =
     loop-holds
     sub-left
     returns
-    add-read-u16
-    read-u16-requires
-    cast-room
-    add-read-u16-2
-    read-u16-requires-2
-    cast-size
+    add-read-number
+    read-number-requires
+    add-read-number-2
+    read-number-requires-2
     returns-2
     add-start
     add-end

@@ -20,11 +20,8 @@ sub-left c = search needs
 returns : tie.Need-returns Inv-loop μ-loop
 returns c = search needs
 
-read-u16-requires : tie.Need-read-u16-requires Inv-loop μ-loop
-read-u16-requires c κs = search needs
-
-cast-size : tie.Need-cast-size Inv-loop μ-loop
-cast-size c = search needs
+read-number-requires : tie.Need-read-number-requires Inv-loop μ-loop
+read-number-requires c κs = search needs
 
 returns-2 : tie.Need-returns-2 Inv-loop μ-loop
 returns-2 c = search needs
@@ -65,8 +62,7 @@ show-records-spec =
     loop-holds
     sub-left
     returns
-    read-u16-requires
-    cast-size
+    read-number-requires
     returns-2
     add-start
     add-end

@@ -13,14 +13,14 @@ abbrev μ-loop : tie.MeasureT-loop
 loop-holds : tie.Need-loop-holds Inv-loop μ-loop
 loop-holds c = search needs
 
-read-u32-requires : tie.Need-read-u32-requires Inv-loop μ-loop
-read-u32-requires c κs = search needs
+read-number-requires : tie.Need-read-number-requires Inv-loop μ-loop
+read-number-requires c κs = search needs
 
-cast-size : tie.Need-cast-size Inv-loop μ-loop
-cast-size c = search needs
+read-number-requires-2 : tie.Need-read-number-requires-2 Inv-loop μ-loop
+read-number-requires-2 c κs = search needs
 
-read-u32-requires-2 : tie.Need-read-u32-requires-2 Inv-loop μ-loop
-read-u32-requires-2 c κs = search needs
+cast-code : tie.Need-cast-code Inv-loop μ-loop
+cast-code c = search needs
 
 sub-if1 : tie.Need-sub-if1 Inv-loop μ-loop
 sub-if1 c = search needs
@@ -80,9 +80,9 @@ show-tallies-spec =
     Inv-loop
     μ-loop
     loop-holds
-    read-u32-requires
-    cast-size
-    read-u32-requires-2
+    read-number-requires
+    read-number-requires-2
+    cast-code
     sub-if1
     cut-off-requires
     returns
