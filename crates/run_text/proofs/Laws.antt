@@ -1,9 +1,10 @@
 -- Laws of the lines of an event.
 -- Assumes nothing.
-use Prim.Native.Nat.{ℕ, _-_, _≤_, _<_}
+use Prim.Native.Nat.{ℕ, zero, suc, _+_, _-_, _≤_, _<_}
 use mathlib.Core.Path.{_≡_, refl, sym, ap, _∙_}
 use mathlib.Core.List.{List, [], _∷_, _++_, append-nil, append-assoc, map}
-use lib.ListN.{length, take, drop}
+use native.Mathlib.Omega.{arith}
+use lib.ListN.{length, take, drop, getD}
 use Rattle.record.specs.declared.Header.{Header}
 use Rattle.record.specs.Format.{header-length}
 use Rattle.record.specs.Read.{header-of}
@@ -12,16 +13,50 @@ use Rattle.record.proofs.Walk.{records-few, taken-none, taken-one, taken-next, 
 use Rattle.run_text.specs.declared.Text.{Text}
 use Rattle.run_text.specs.Text.{Puts}
 use Rattle.run_text.specs.Numbers.{field}
-use Rattle.run_text.proofs.Written.{nothing, then, named}
-use Rattle.run_text.specs.Lines.{four, record-line, end-line, record-lines, event-text}
+use Rattle.run_text.proofs.Written.{nothing, then, named, take-whole}
+use Rattle.run_text.specs.Lines.{space, newline, four, record-line, end-line, record-lines, event-text}
 
-pub four-put : (a b c d x : ℕ) (t t₁ t₂ t₃ r : Text) (o o₁ o₂ o₃ o₄ : List ℕ) → Puts (field d x) t₃ o₃ r o₄ → Puts (field c 32) t₂ o₂ t₃ o₃ → Puts (field b 32) t₁ o₁ t₂ o₂ → Puts (field a 32) t o t₁ o₁ → Puts (four a b c d x) t o r o₄
-unfolding four
-four-put a b c d x t t₁ t₂ t₃ r o o₁ o₂ o₃ o₄ k₄ k₃ k₂ k₁ = then (then (then k₄ k₃) k₂) k₁
+-- ---- the line of a record: numbers, each with a space behind it, and the last
 
-pub record-put : (i : ℕ) (h : Header) (t a r : Text) (o o₁ o₂ : List ℕ) → Puts (four (h .second) (h .ttl) (h .number) (h .nodes) 10) a o₁ r o₂ → Puts (four i (h .kind) (h .message) (h .peer) 32) t o a o₁ → Puts (record-line i h) t o r o₂
-unfolding record-line
-record-put i h t a r o o₁ o₂ k₂ k₁ = then k₂ k₁
+pub spaced : List ℕ → List ℕ
+spaced [] = []
+spaced (n ∷ ns) = field n space ++ spaced ns
+
+spaced-more : (ns : List ℕ) (k : ℕ) → k < length ns → spaced (take k ns) ++ field (getD ns k 0) space ≡ spaced (take (suc k) ns)
+unfolding spaced
+spaced-more [] k h = absurd (omega (arith, h))
+spaced-more (n ∷ ns) zero h = sym (append-nil (field n space))
+spaced-more (n ∷ ns) (suc k) h =
+    append-assoc (field n space) (spaced (take k ns)) (field (getD ns k 0) space) ∙ ap (λ (x : List ℕ). field n space ++ x) (spaced-more ns k (omega (arith, h)))
+
+-- k of the numbers ns are written
+pub record Spacing (ns : List ℕ) (t : Text) (out : List ℕ) (r : Text) (o : List ℕ) (k : ℕ) : Type 0 where
+  pub within : k ≤ length ns
+  pub len : length o ≡ length out
+  pub so-far : Puts (spaced (take k ns)) t out r o
+
+pub spacing-start : (ns : List ℕ) (t : Text) (out : List ℕ) → Spacing ns t out t out 0
+unfolding spaced
+spacing-start ns t out = record { within = omega arith; len = refl; so-far = nothing }
+
+pub spacing-next : (ns : List ℕ) (t : Text) (out : List ℕ) (a : Text) (o₁ : List ℕ) (k : ℕ) → Spacing ns t out a o₁ k → (r : Text) (o : List ℕ) → k < length ns → Puts (field (getD ns k 0) space) a o₁ r o → length o ≡ length o₁
+    → Spacing ns t out r o (k + 1)
+spacing-next ns t out a o₁ k v r o h p q = record {
+  within = omega (arith, h);
+  len = q ∙ v .len;
+  so-far = named (spaced-more ns k h ∙ (let e : suc k ≡ k + 1 = omega arith in ap (λ (j : ℕ). spaced (take j ns)) e)) (then p (v .so-far));
+}
+
+module _ (i : ℕ) (h : Header) where
+  abbrev pub numbers : List ℕ
+  numbers = i ∷ h .kind ∷ h .message ∷ h .peer ∷ h .second ∷ h .ttl ∷ h .number ∷ []
+
+  line-is : spaced numbers ++ field (h .nodes) newline ≡ record-line i h
+  unfolding spaced record-line four
+  line-is = simp append-assoc
+
+  pub record-put : (t a r : Text) (o o₁ o₂ : List ℕ) (k : ℕ) → 7 ≤ k → Puts (field (h .nodes) newline) a o₁ r o₂ → Spacing numbers t o a o₁ k → Puts (record-line i h) t o r o₂
+  record-put t a r o o₁ o₂ k l p v = named (ap (λ (x : List ℕ). spaced x ++ field (h .nodes) newline) (take-whole numbers k (omega arith)) ∙ line-is) (then p (v .so-far))
 
 pub end-put : (code n : ℕ) (t a b c r : Text) (o o₁ o₂ o₃ o₄ : List ℕ) → Puts (field n 10) c o₃ r o₄ → Puts (field code 32) b o₂ c o₃ → Puts (32 ∷ []) a o₁ b o₂ → Puts (61 ∷ []) t o a o₁ → Puts (end-line code n) t o r o₄
 unfolding end-line

@@ -75,7 +75,7 @@ take-next [] i h = absurd (omega (arith, h))
 take-next (x ∷ s) zero h = refl
 take-next (x ∷ s) (suc i) h = ap (λ (z : List ℕ). x ∷ z) (take-next s i (omega (arith, h)))
 
-take-whole : (s : List ℕ) (i : ℕ) → length s ≤ i → take i s ≡ s
+pub take-whole : (s : List ℕ) (i : ℕ) → length s ≤ i → take i s ≡ s
 take-whole [] zero h = refl
 take-whole [] (suc i) h = refl
 take-whole (x ∷ s) zero h = absurd (omega (arith, h))

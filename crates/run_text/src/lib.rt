@@ -4,7 +4,7 @@ ghost use mathlib.Core.List.{[], _∷_};
 ghost use Rattle.run_text.specs.Text.{Puts, Begins};
 ghost use Rattle.run_text.specs.Numbers.{decimal, field};
 ghost use Rattle.record.specs.Walk.{headers};
-ghost use Rattle.run_text.specs.Lines.{four, record-line, end-line, record-lines, event-text};
+ghost use Rattle.run_text.specs.Lines.{record-line, end-line, record-lines, event-text};
 
 // The place reached, and whether something did not fit: nothing is written after that.
 pub struct Text {
@@ -67,26 +67,21 @@ pub fn put_field(out: &mut [u8], t: Text, n: u64, after: u8) -> Text
 
 // ---- the lines of an event
 
-// Four numbers with spaces between them, and what follows the last.
-fn put_four(out: &mut [u8], t: Text, a: u64, b: u64, c: u64, d: u64, after: u8) -> Text
-    ensures { λ r. ⌜ Puts (four a b c d after) t (now (out .entry)) r (now (out .exit)) ⌝ }
-{
-    let t1 = put_field(out, t, a, b' ');
-    let t2 = put_field(out, t1, b, b' ');
-    let t3 = put_field(out, t2, c, b' ');
-    put_field(out, t3, d, after)
-}
-
-// The line of one output record.
+// The line of one output record: eight numbers, with spaces between them.
 pub fn put_record(out: &mut [u8], t: Text, i: u64, h: Header) -> Text
     ensures { λ r. ⌜ Puts (record-line i h) t (now (out .entry)) r (now (out .exit)) ⌝ }
 {
     let kind = h.kind as u64;
     let message = h.message as u64;
     let ttl = h.ttl as u64;
-    let nodes = h.nodes as u64;
-    let a = put_four(out, t, i, kind, message, h.peer, b' ');
-    put_four(out, a, h.second, ttl, h.number, nodes, b'\n')
+    let numbers = [i, kind, message, h.peer, h.second, ttl, h.number];
+    let mut r = t;
+    let mut k: usize = 0;
+    while k < numbers.len() {
+        r = put_field(out, r, numbers[k], b' ');
+        k += 1;
+    }
+    put_field(out, r, h.nodes as u64, b'\n')
 }
 
 // The line that ends an event.
