@@ -87,22 +87,6 @@ pub fn subset(a: &[u64], b: &[u64]) -> bool
     ok
 }
 
-// The word at place h of three lists in a row.
-fn word_of_three(b: &[u64], c: &[u64], d: &[u64], h: usize) -> u64
-    requires { ⌜ h < length (now b) + length (now c) + length (now d) ⌝ }
-    ensures { λ r. ⌜ r ≡ getD (now (b .entry) ++ (now (c .entry) ++ now (d .entry))) h 0 ⌝ }
-{
-    let n = b.len() + c.len();
-    if h < n {
-        let m = b.len();
-        if h < m {
-            return b[h];
-        }
-        return c[h - m];
-    }
-    d[h - n]
-}
-
 // Whether every word of a is in b, in c or in d: looked for as `subset` does, without a copy that has the three in a row.
 pub fn subset_of_three(a: &[u64], b: &[u64], c: &[u64], d: &[u64]) -> bool
     ensures { λ r. ⌜ r ≡ subset (now (a .entry)) (now (b .entry) ++ (now (c .entry) ++ now (d .entry))) ⌝ }
@@ -119,8 +103,19 @@ pub fn subset_of_three(a: &[u64], b: &[u64], c: &[u64], d: &[u64]) -> bool
         let k = (x % 256) as usize;
         let h = hinted(hints[k]);
         i += 1;
-        if h < b.len() + c.len() + d.len() {
-            if x == word_of_three(b, c, d, h) {
+        let m = b.len();
+        let n = m + c.len();
+        if h < n + d.len() {
+            // The word at place h of the three lists in a row.
+            let mut y = x;
+            if h < m {
+                y = b[h];
+            } else if h < n {
+                y = c[h - m];
+            } else {
+                y = d[h - n];
+            }
+            if x == y {
                 continue;
             }
         }

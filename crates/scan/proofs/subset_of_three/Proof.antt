@@ -2,9 +2,10 @@ use Prim.Native.Nat.{_-_}
 use lib.ListN.{length}
 use mathlib.Core.Path.{_≡_}
 use mathlib.Core.List.{_++_}
+use mathlib.Core.Logic.{⊎-elim}
 use Rattle.lists.specs.Lists.{subset}
 use Rattle.scan.proofs.Tests.{is-in}
-use Rattle.scan.proofs.Three.{at-hint-of-three, in-three}
+use Rattle.scan.proofs.Three.{of-first, of-second, of-third, at-hint-of-three, in-three}
 use Rattle.scan.proofs.Loops.{Left, Every, subset-start, every-seen, every-asked, every-end}
 use borrow.Author.Needs.{needs}
 use Rattle.scan.proofs.subset_of_three.Statement.{statement}
@@ -15,6 +16,13 @@ Inv-loop a b c d hints ok₀ i₀ ok i = (length hints ≡ 256) × Left (Every (
 
 abbrev μ-loop : tie.MeasureT-loop
 μ-loop a b c d hints ok₀ i₀ ok i = length a - i
+
+-- The ways back, from a place to an earlier one.
+abbrev at-loop-to-note-places : tie.At-loop Inv-loop μ-loop → tie.After-note-places Inv-loop μ-loop
+at-loop-to-note-places c = c .before .before .before .before .before .before .before .before
+
+abbrev note-places-to-start : tie.After-note-places Inv-loop μ-loop → tie.Start Inv-loop μ-loop
+note-places-to-start c = c .before .before .before .before .before .before
 
 add-note-places : tie.Need-add-note-places Inv-loop μ-loop
 add-note-places c = search needs
@@ -55,20 +63,49 @@ hinted-requires c κs = search needs
 add-i : tie.Need-add-i Inv-loop μ-loop
 add-i c = search needs
 
+add-n : tie.Need-add-n Inv-loop μ-loop
+add-n c = search needs
+
 add-if1 : tie.Need-add-if1 Inv-loop μ-loop
 add-if1 c = search needs
 
-add-if1-2 : tie.Need-add-if1-2 Inv-loop μ-loop
-add-if1-2 c = search needs
+mul-y : tie.Need-mul-y Inv-loop μ-loop
+mul-y c = search needs
 
-word-of-three-requires : tie.Need-word-of-three-requires Inv-loop μ-loop
-word-of-three-requires c κs = search needs
+shared-slice-read-y : tie.Need-shared-slice-read-y Inv-loop μ-loop
+shared-slice-read-y c = search needs
+
+mul-y-2 : tie.Need-mul-y-2 Inv-loop μ-loop
+mul-y-2 c = search needs
+
+shared-slice-read-y-2 : tie.Need-shared-slice-read-y-2 Inv-loop μ-loop
+shared-slice-read-y-2 c = search needs
+
+mul-y-3 : tie.Need-mul-y-3 Inv-loop μ-loop
+mul-y-3 c = search needs
+
+shared-slice-read-y-3 : tie.Need-shared-slice-read-y-3 Inv-loop μ-loop
+shared-slice-read-y-3 c = search needs
 
 loop-less : tie.Need-loop-less Inv-loop μ-loop
 loop-less c = search needs
 
 loop-again : tie.Need-loop-again Inv-loop μ-loop
-loop-again c = (search needs, search (every-seen, at-hint-of-three))
+loop-again c =
+    let joined = c .before in
+    let within = joined .before in
+    let test = within .before .before .before in
+    let args = note-places-to-start (at-loop-to-note-places (test .before)) .args in
+    let first = args .b .now in
+    let second = args .c .now in
+    let third = args .d .now in (
+      search needs,
+      every-seen _ _ _ _ _ (test .before .loop .inv .1)
+          (at-hint-of-three first second third _ _ _ (within .if1 .taken)
+          (⊎-elim (λ w. of-first first second third _ _ (w .0 .taken) (w .2))
+          (⊎-elim (λ w. of-second first second third _ _ (w .0 .left) (w .1 .taken) (w .3)) (λ w. of-third first second third _ _ (w .1 .left) (w .3))) (joined .if2 .came)) (c .if4 .taken))
+          (test .loop-test .taken),
+    )
 
 is-in-requires : tie.Need-is-in-requires Inv-loop μ-loop
 is-in-requires c κs = search needs
@@ -107,9 +144,14 @@ subset-of-three-spec =
     array-read-hinted
     hinted-requires
     add-i
+    add-n
     add-if1
-    add-if1-2
-    word-of-three-requires
+    mul-y
+    shared-slice-read-y
+    mul-y-2
+    shared-slice-read-y-2
+    mul-y-3
+    shared-slice-read-y-3
     loop-less
     loop-again
     is-in-requires
