@@ -1,5 +1,4 @@
 pub mod Loops
-pub mod Marked
 pub mod Hints
 pub mod Three
 pub mod Marks

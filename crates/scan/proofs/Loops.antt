@@ -6,8 +6,8 @@ use mathlib.Core.Bool.{Bool, true, false, cond, _&&_, _||_, and-true, and-assoc,
 use mathlib.Core.List.{List, [], _∷_}
 use native.Mathlib.Numerals.{add-one}
 use native.Mathlib.Omega.{arith}
-use lib.ListN.{length, take, drop, getD, length-drop, drop-of-length-le}
-use lib.Seq.{drop-cons, take-all}
+use lib.ListN.{length, drop, getD, length-drop, drop-of-length-le}
+use lib.Seq.{drop-cons}
 use lib.Dec.{eqb, ltb}
 use lib.Bits.{bitOr, or-zero-r, or-add-and, and-le-l}
 use borrow.Author.Tests.{eqb-true, eqb-false, ne-eqb}
@@ -70,8 +70,8 @@ zero-or a b =
 abbrev pub Bits : ℕ → List ℕ → Bool
 Bits bits l = eqb bits 0 && every unused l
 
-pub bits-start : (s : List ℕ) → Left Bits s (every unused s) 0 0
-bits-start s = left-start Bits s 0
+pub bits-start : (s : List ℕ) (n : ℕ) → n ≤ length s → Left Bits s (every unused (drop n s)) 0 n
+bits-start s n h = record { low = h; same = refl }
 
 module _ (s : List ℕ) (whole : Bool) (bits i : ℕ) (v : Left Bits s whole bits i) where
   pub bits-next : i < length s → Left Bits s whole (bitOr bits (getD s i 0)) (i + 1)
@@ -143,7 +143,3 @@ subset-start xs ys = rw (subset-every xs ys) (every-start (is-in ys) xs)
 
 pub disjoint-start : (xs ys : List ℕ) → Left (Every (not-in ys)) xs (disjoint xs ys) true 0
 disjoint-start xs ys = rw (disjoint-every xs ys) (every-start (not-in ys) xs)
-
--- the words from place i on, as the code lends them
-pub rest-lent : (s : List ℕ) (i : ℕ) → take (length s - i) (drop i s) ≡ drop i s
-rest-lent s i = take-all (length s - i) (drop i s) (omega (arith, length-drop i s))

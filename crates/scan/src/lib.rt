@@ -1,25 +1,9 @@
-// Tests of a whole list of 64-bit words that is lent. `no_bits`, `is_in` and `rising` look at every word, so that the compiler makes vector code. The loops that
-// go by a table at the low byte are no vector code: `disjoint` and `distinct` stop at the first word that fails, `subset` and `subset_of_three` look for each word first at the place noted.
+// Tests of a whole list of 64-bit words that is lent. `is_in` looks at every word, so that the compiler makes vector code. The loops that
+// go by a table at the low byte are no vector code: `disjoint` stops at the first word that fails, `subset` and `subset_of_three` look for each word first at the place noted.
 ghost use mathlib.Core.Path.{_≡_};
 ghost use mathlib.Core.List.{_++_};
-ghost use Prim.Native.Nat.{_+_, _<_};
-ghost use lib.ListN.{length, getD};
-ghost use Rattle.lists.specs.Lists.{mem, distinct, rising, subset, disjoint};
-ghost use Rattle.lists.specs.Tests.{every};
-ghost use Rattle.scan.specs.Words.{unused};
-
-// Whether every word is zero.
-pub fn no_bits(s: &[u64]) -> bool
-    ensures { λ r. ⌜ r ≡ every unused (now (s .entry)) ⌝ }
-{
-    let mut bits: u64 = 0;
-    let mut i: usize = 0;
-    while i < s.len() {
-        bits = bits | s[i];
-        i += 1;
-    }
-    bits == 0
-}
+ghost use lib.ListN.{length};
+ghost use Rattle.lists.specs.Lists.{mem, subset, disjoint};
 
 // Whether x is one of the words.
 pub fn is_in(s: &[u64], x: u64) -> bool
@@ -32,19 +16,6 @@ pub fn is_in(s: &[u64], x: u64) -> bool
         i += 1;
     }
     hit
-}
-
-// Whether each word is below the next.
-pub fn rising(s: &[u64]) -> bool
-    ensures { λ r. ⌜ r ≡ rising (now (s .entry)) ⌝ }
-{
-    let mut ok = true;
-    let mut i: usize = 1;
-    while i < s.len() {
-        ok = ok & (s[i - 1] < s[i]);
-        i += 1;
-    }
-    ok
 }
 
 // A noted byte as the place to look at first.
@@ -146,26 +117,6 @@ pub fn disjoint(a: &[u64], b: &[u64]) -> bool
             }
         }
         i += 1;
-    }
-    true
-}
-
-// Whether no word stands twice: only a word whose low byte a later one has too is looked for.
-pub fn distinct(s: &[u64]) -> bool
-    ensures { λ r. ⌜ r ≡ distinct (now (s .entry)) ⌝ }
-{
-    let mut seen = [false; 256];
-    let mut i = s.len();
-    while 0 < i {
-        let x = s[i - 1];
-        let k = (x % 256) as usize;
-        if seen[k] {
-            if is_in(&s[i..], x) {
-                return false;
-            }
-        }
-        seen[k] = true;
-        i -= 1;
     }
     true
 }

@@ -7,3 +7,4 @@ pub mod Sets
 pub mod Stores
 pub mod Copies
 pub mod Picks
+pub mod Marked

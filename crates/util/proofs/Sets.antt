@@ -93,6 +93,9 @@ lent n s v = sym (take-take (getD s n 0) n s (v .fits))
 pub lent-long : (n : ℕ) (s : List ℕ) → ValidSet n s → getD s n 0 ≡ length (take (getD s n 0) s)
 lent-long n s v = sym (ap length (lent n s v) ∙ v .counted)
 
+pub lent-fits : (n : ℕ) (s : List ℕ) → ValidSet n s → getD s n 0 ≤ length s
+lent-fits n s v = omega (arith, v .long, v .fits)
+
 -- ---- what the words are
 
 -- n places of xs, and then c

@@ -109,7 +109,14 @@ pub fn zero_from(s: &[u64], n: usize) -> bool
     requires { ⌜ n ≤ length (now s) ⌝ }
     ensures { λ r. ⌜ r ≡ every unused (drop n (now (s .entry))) ⌝ }
 {
-    scan::no_bits(&s[n..])
+    // Every word is looked at, so that the compiler makes vector code.
+    let mut bits: u64 = 0;
+    let mut i = n;
+    while i < s.len() {
+        bits = bits | s[i];
+        i += 1;
+    }
+    bits == 0
 }
 
 // Whether each of the first n items is below the next.
@@ -117,7 +124,14 @@ pub fn rises(s: &[u64], n: usize) -> bool
     requires { ⌜ n ≤ length (now s) ⌝ }
     ensures { λ r. ⌜ r ≡ rising (take n (now (s .entry))) ⌝ }
 {
-    scan::rising(&s[..n])
+    // Every word is looked at, so that the compiler makes vector code.
+    let mut ok = true;
+    let mut i: usize = 1;
+    while i < n {
+        ok = ok & (s[i - 1] < s[i]);
+        i += 1;
+    }
+    ok
 }
 
 // Zeroes from place k on.
@@ -254,13 +268,26 @@ pub fn contains(s: &[u64], cap: usize, x: PeerId) -> bool
     scan::is_in(&s[..n], x)
 }
 
-// Whether no item stands twice.
+// Whether no item stands twice: only an item whose low byte a later one has too is looked for.
 pub fn is_distinct(s: &[u64], cap: usize) -> bool
     requires { ⌜ ValidSet cap (now s) ⌝ }
     ensures { λ r. ⌜ r ≡ distinct (items-at cap (now (s .entry))) ⌝ }
 {
     let n = s[cap] as usize;
-    scan::distinct(&s[..n])
+    let mut seen = [false; 256];
+    let mut i = n;
+    while 0 < i {
+        let x = s[i - 1];
+        let k = (x % 256) as usize;
+        if seen[k] {
+            if scan::is_in(&s[i..n], x) {
+                return false;
+            }
+        }
+        seen[k] = true;
+        i -= 1;
+    }
+    true
 }
 
 // Whether each item is below the next.
@@ -269,7 +296,7 @@ pub fn is_rising(s: &[u64], cap: usize) -> bool
     ensures { λ r. ⌜ r ≡ rising (items-at cap (now (s .entry))) ⌝ }
 {
     let n = s[cap] as usize;
-    scan::rising(&s[..n])
+    rises(s, n)
 }
 
 // Whether every item of a is one of b.

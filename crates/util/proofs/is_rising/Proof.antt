@@ -1,4 +1,4 @@
-use Rattle.util.proofs.Sets.{lent-long, lent-rising}
+use Rattle.util.proofs.Sets.{lent-fits, lent-rising}
 use borrow.Author.Needs.{needs}
 use Rattle.util.proofs.is_rising.Statement.{statement}
 use Rattle.util.proofs.is_rising.Tie as tie
@@ -9,11 +9,8 @@ mul-n c = search needs
 shared-slice-read-n : tie.Need-shared-slice-read-n
 shared-slice-read-n c = search needs
 
-slice-aggregate-rising : tie.Need-slice-aggregate-rising
-slice-aggregate-rising c = search lent-long
-
-rising-requires : tie.Need-rising-requires
-rising-requires c κs = search needs
+rises-requires : tie.Need-rises-requires
+rises-requires c κs = search lent-fits
 
 returns : tie.Need-returns
 returns c = search lent-rising
@@ -24,6 +21,5 @@ is-rising-spec =
     (tie.spec
     mul-n
     shared-slice-read-n
-    slice-aggregate-rising
-    rising-requires
+    rises-requires
     returns)

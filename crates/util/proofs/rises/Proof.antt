@@ -1,28 +1,76 @@
-use lib.Seq.{length-take-le}
-use Prim.Native.Nat.{ℕ, _≤_}
-use mathlib.Core.Path.{_≡_, sym}
+use Prim.Native.Nat.{ℕ, _+_, _-_, _≤_, _<_}
+use mathlib.Core.Path.{_≡_, subst}
+use mathlib.Core.Bool.{Bool, true, _&&_}
 use mathlib.Core.List.{List}
-use lib.ListN.{length, take}
+use native.Mathlib.Omega.{arith}
+use lib.ListN.{length, take, getD}
+use lib.Seq.{getD-take, length-take-le}
+use lib.Dec.{ltb}
+use Rattle.lists.specs.Lists.{rising}
+use Rattle.scan.proofs.Loops.{Climb, climb-start, climb-next, climb-end}
 use borrow.Author.Needs.{needs}
 use Rattle.util.proofs.rises.Statement.{statement}
 use Rattle.util.proofs.rises.Tie as tie
 
-inside : (s : List ℕ) (n : ℕ) → n ≤ length s → n ≡ length (take n s)
-inside s n h = sym (length-take-le n s h)
+module _ (n : ℕ) (s : List ℕ) (ok : Bool) (i : ℕ) (v : Climb (take n s) ok i) (l : n ≤ length s) where
+  next : i < n → Climb (take n s) (ok && ltb (getD s (i - 1) 0) (getD s i 0)) (i + 1)
+  next h =
+      let a : getD (take n s) (i - 1) 0 ≡ getD s (i - 1) 0 = getD-take n s (i - 1) 0 (omega arith) in
+      let b : getD (take n s) i 0 ≡ getD s i 0 = getD-take n s i 0 h in
+      subst (λ (t : Bool). Climb (take n s) (ok && t) (i + 1)) (λ j. ltb (a j) (b j)) (climb-next (take n s) ok i v (omega (arith, length-take-le n s l)))
 
-slice-aggregate-rising : tie.Need-slice-aggregate-rising
-slice-aggregate-rising c = search inside
+  end : n ≤ i → ok ≡ rising (take n s)
+  end h = climb-end (take n s) ok i v (omega (arith, length-take-le n s l))
 
-rising-requires : tie.Need-rising-requires
-rising-requires c κs = search needs
+abbrev Inv-loop : tie.InvT-loop
+Inv-loop s n ok₀ i₀ ok i = (n ≤ length s) × Climb (take n s) ok i
 
-returns : tie.Need-returns
-returns c = search needs
+abbrev μ-loop : tie.MeasureT-loop
+μ-loop s n ok₀ i₀ ok i = n - i
+
+loop-holds : tie.Need-loop-holds Inv-loop μ-loop
+loop-holds c = (search needs, search climb-start)
+
+sub-ok : tie.Need-sub-ok Inv-loop μ-loop
+sub-ok c = search needs
+
+mul-ok : tie.Need-mul-ok Inv-loop μ-loop
+mul-ok c = search needs
+
+shared-slice-read-ok : tie.Need-shared-slice-read-ok Inv-loop μ-loop
+shared-slice-read-ok c = search needs
+
+mul-ok-2 : tie.Need-mul-ok-2 Inv-loop μ-loop
+mul-ok-2 c = search needs
+
+shared-slice-read-ok-2 : tie.Need-shared-slice-read-ok-2 Inv-loop μ-loop
+shared-slice-read-ok-2 c = search needs
+
+add-i : tie.Need-add-i Inv-loop μ-loop
+add-i c = search needs
+
+loop-less : tie.Need-loop-less Inv-loop μ-loop
+loop-less c = search needs
+
+loop-again : tie.Need-loop-again Inv-loop μ-loop
+loop-again c = (search needs, search next)
+
+returns : tie.Need-returns Inv-loop μ-loop
+returns c = search end
 
 pub rises-spec : {M : Type 1} → statement M
 rises-spec =
     tie.close
     (tie.spec
-    slice-aggregate-rising
-    rising-requires
+    Inv-loop
+    μ-loop
+    loop-holds
+    sub-ok
+    mul-ok
+    shared-slice-read-ok
+    mul-ok-2
+    shared-slice-read-ok-2
+    add-i
+    loop-less
+    loop-again
     returns)

@@ -1,43 +1,49 @@
-use Rattle.scan.proofs.Loops.{rest-lent}
-use lib.ListN.{length, take, drop}
-use Prim.Native.Nat.{ℕ, _-_}
-use mathlib.Core.Path.{_≡_, ap, _∙_}
-use mathlib.Core.Bool.{Bool}
-use mathlib.Core.List.{List}
+use Prim.Native.Nat.{_-_}
+use lib.ListN.{length, drop}
 use Rattle.lists.specs.Tests.{every}
 use Rattle.scan.specs.Words.{unused}
+use Rattle.scan.proofs.Loops.{Left, Bits, bits-start, bits-next, bits-end}
 use borrow.Author.Needs.{needs}
 use Rattle.util.proofs.zero_from.Statement.{statement}
 use Rattle.util.proofs.zero_from.Tie as tie
 
-from-there : (s : List ℕ) (n : ℕ) (b : Bool) → b ≡ every unused (take (length s - n) (drop n s)) → b ≡ every unused (drop n s)
-from-there s n b e = e ∙ ap (every unused) (rest-lent s n)
+abbrev Inv-loop : tie.InvT-loop
+Inv-loop s n bits₀ i₀ bits i = Left Bits s (every unused (drop n s)) bits i
 
-mul-no-bits : tie.Need-mul-no-bits
-mul-no-bits c = search needs
+abbrev μ-loop : tie.MeasureT-loop
+μ-loop s n bits₀ i₀ bits i = length s - i
 
-sub-no-bits : tie.Need-sub-no-bits
-sub-no-bits c = search needs
+loop-holds : tie.Need-loop-holds Inv-loop μ-loop
+loop-holds c = search bits-start
 
-part-no-bits-start : tie.Need-part-no-bits-start
-part-no-bits-start c = search needs
+mul-bits : tie.Need-mul-bits Inv-loop μ-loop
+mul-bits c = search needs
 
-part-no-bits-end : tie.Need-part-no-bits-end
-part-no-bits-end c = search needs
+shared-slice-read-bits : tie.Need-shared-slice-read-bits Inv-loop μ-loop
+shared-slice-read-bits c = search needs
 
-no-bits-requires : tie.Need-no-bits-requires
-no-bits-requires c κs = search needs
+add-i : tie.Need-add-i Inv-loop μ-loop
+add-i c = search needs
 
-returns : tie.Need-returns
-returns c = search from-there
+loop-less : tie.Need-loop-less Inv-loop μ-loop
+loop-less c = search needs
+
+loop-again : tie.Need-loop-again Inv-loop μ-loop
+loop-again c = search bits-next
+
+returns : tie.Need-returns Inv-loop μ-loop
+returns c = search bits-end
 
 pub zero-from-spec : {M : Type 1} → statement M
 zero-from-spec =
     tie.close
     (tie.spec
-    mul-no-bits
-    sub-no-bits
-    part-no-bits-start
-    part-no-bits-end
-    no-bits-requires
+    Inv-loop
+    μ-loop
+    loop-holds
+    mul-bits
+    shared-slice-read-bits
+    add-i
+    loop-less
+    loop-again
     returns)
