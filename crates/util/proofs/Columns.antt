@@ -2,16 +2,14 @@
 -- Assumes nothing.
 use Prim.Native.Nat.{ℕ, _+_, _-_, _≤_, _<_}
 use mathlib.Core.Path.{_≡_, refl, sym, ap, _∙_}
-use mathlib.Core.List.{List, [], _∷_}
+use mathlib.Core.List.{List}
 use native.Mathlib.Omega.{arith}
-use native.Mathlib.Nat.{zero-add, le-of-suc-le-suc, not-suc-le-zero}
+use native.Mathlib.Nat.{zero-add}
 use lib.ListN.{length, take, getD, set}
 use lib.Seq.{length-take-le}
-use lib.Dec.{eqb}
 use Rattle.lists.specs.Array.{pad}
-use Rattle.lists.specs.Lists.{index-of, shift-remove, insert-at, without}
-use Rattle.lists.proofs.Array.{length-pad, length-shift-remove}
-use Rattle.lists.proofs.Choice.{split}
+use Rattle.lists.specs.Lists.{shift-remove, insert-at}
+use Rattle.lists.proofs.Array.{length-pad}
 use Rattle.lists.proofs.Rest.{Rest}
 use Rattle.lists.proofs.Search.{First, Place}
 use Rattle.lists.proofs.Entries.{taken-is, Cutting, cutting-start, cutting-next, cutting-end, Putting, putting-start, putting-next, putting-end}
@@ -55,62 +53,3 @@ in-next s₀ n i x s carried k v h = putting-next 0 (length s₀) s₀ n i x s c
 
 pub in-end : (s₀ : List ℕ) (n i x : ℕ) (s : List ℕ) (carried k : ℕ) → Putting 0 (length s₀) s₀ n i x s carried k → n < k → s ≡ pad 0 (length s₀) (insert-at i x (take n s₀))
 in-end s₀ n i x s carried k v h = putting-end 0 (length s₀) s₀ n i x s carried k v h
-
--- ---- every x leaves
-
-without-absent : (x : ℕ) (xs : List ℕ) → length xs ≤ index-of x xs → without x xs ≡ xs
-unfolding without index-of
-without-absent x [] h = refl
-without-absent x (q ∷ xs) h =
-    split (eqb x q) (λ t. absurd (not-suc-le-zero (rw t at h)))
-    (λ t. rw t (ap (λ (l : List ℕ). q ∷ l) (without-absent x xs (le-of-suc-le-suc (rw t at h)))))
-
-without-first : (x : ℕ) (xs : List ℕ) → index-of x xs < length xs → without x (shift-remove (index-of x xs) xs) ≡ without x xs
-unfolding without index-of shift-remove
-without-first x [] h = refl
-without-first x (q ∷ xs) h =
-    split (eqb x q) (λ t. rw t)
-    (λ t. rw (t, t) (ap (λ (l : List ℕ). q ∷ l) (without-first x xs (le-of-suc-le-suc (rw t at h)))))
-
-pub record Dropping (s₀ : List ℕ) (n x : ℕ) (s : List ℕ) (m i : ℕ) : Type 0 where
-  pub filled : Filled s m
-  pub long : length s ≡ length s₀
-  pub room : m ≤ length s₀
-  pub few : m ≤ n
-  pub left : without x (take m s) ≡ without x (take n s₀)
-  pub place : i ≡ index-of x (take m s)
-  pub within : i ≤ m
-
-pub dropping-start : (s : List ℕ) (n x i : ℕ) → Filled s n → i ≡ index-of x (take n s) → i ≤ n → Dropping s n x s n i
-dropping-start s n x i f e h = record { filled = f; long = refl; room = f .fits; few = omega arith; left = refl; place = e; within = h }
-
-module _ (s₀ : List ℕ) (n x : ℕ) (s : List ℕ) (m i : ℕ) (v : Dropping s₀ n x s m i) where
-  out-taken : (t : List ℕ) → i < m → t ≡ pad 0 (length s) (shift-remove i (take m s)) → take (m - 1) t ≡ shift-remove i (take m s)
-  out-taken t h e =
-      let k = filled-length s m (v .filled) in
-      let l = length-shift-remove i (take m s) (omega (arith, k)) in
-      taken-is 0 (length s) (shift-remove i (take m s)) t (m - 1) e (omega (arith, k, l)) (omega (arith, v .filled .fits))
-
-  pub dropping-next : (t : List ℕ) (j : ℕ) → i < m → t ≡ pad 0 (length s) (shift-remove i (take m s)) → j ≡ index-of x (take (m - 1) t) → j ≤ m - 1 → Dropping s₀ n x t (m - 1) j
-  dropping-next t j h e q b =
-      let k = filled-length s m (v .filled) in
-      let l = length-shift-remove i (take m s) (omega (arith, k)) in
-      record {
-        filled = filled-of (length s) t (shift-remove i (take m s)) (m - 1) e (omega (arith, k, l)) (omega (arith, v .filled .fits));
-        long = ap length e ∙ length-pad 0 (length s) (shift-remove i (take m s)) ∙ v .long;
-        room = omega (arith, v .room);
-        few = omega (arith, v .few);
-        left = ap (without x) (out-taken t h e) ∙ ap (λ (a : ℕ). without x (shift-remove a (take m s))) (v .place)
-            ∙ without-first x (take m s) (omega (arith, k, v .place)) ∙ v .left;
-        place = q;
-        within = b;
-      }
-
-  nothing-left : m ≤ i → take m s ≡ without x (take n s₀)
-  nothing-left h = sym (without-absent x (take m s) (omega (arith, filled-length s m (v .filled), v .place))) ∙ v .left
-
-  pub dropping-end : m ≤ i → s ≡ pad 0 (length s₀) (without x (take n s₀))
-  dropping-end h = v .filled .packed ∙ (λ a. pad 0 (v .long a) (nothing-left h a))
-
-  pub dropping-count : m ≤ i → m ≡ length (without x (take n s₀))
-  dropping-count h = sym (filled-length s m (v .filled)) ∙ ap length (nothing-left h)

@@ -5,6 +5,7 @@ use mathlib.Core.Path.{_≡_, refl, sym, ap, _∙_, subst}
 use mathlib.Core.Bool.{Bool, true, false}
 use mathlib.Core.List.{List, [], _∷_, _++_}
 use native.Mathlib.Numerals.{add-one}
+use native.Mathlib.Nat.{le-of-suc-le-suc, not-suc-le-zero}
 use native.Mathlib.Omega.{arith}
 use lib.ListN.{length, take, drop, getD, set, length-set, length-append, length-drop, List·getD-append}
 use lib.Seq.{take-length, take-take, take-suc, getD-at, getD-append-add, getD-set-same, set-at, set-append-left, length-take-le}
@@ -15,7 +16,7 @@ use Rattle.lists.specs.Array.{pad}
 use Rattle.lists.specs.Lists.{null, index-of, rank, remove, shift-remove, swap-remove, insert-at, insert, without, without-all, renew, mem, distinct, rising, subset, disjoint}
 use Rattle.lists.specs.Tests.{every, packed}
 use Rattle.lists.proofs.Array.{length-pad, getD-pad, set-pad, push-pad, pop-pad, length-shift-remove, length-insert-at}
-use Rattle.lists.proofs.Choice.{and-left, and-right}
+use Rattle.lists.proofs.Choice.{split, and-left, and-right}
 use Rattle.lists.proofs.Entries.{taken-is}
 use Rattle.lists.proofs.Search.{index-mem, index-not-mem}
 use Rattle.lists.proofs.Sets.{insert-there, insert-new, shift-first, renew-room, renew-full}
@@ -48,27 +49,39 @@ set-stored n s ys xs k v e q h =
     (part-set-after 0 n n k (putMid 0 n s ys) (omega arith) ∙ part-put 0 n s ys (omega arith) m ∙ p)
     (getD-set-same (putMid 0 n s ys) n k 0 (omega arith) ∙ q) h
 
-module _ (n : ℕ) (s : List ℕ) (x i : ℕ) (v : ValidSet n s) (e : i ≡ index-of x (take (getD s n 0) (part 0 n s))) where
+-- the items as the code lends them
+pub lent : (n : ℕ) (s : List ℕ) → ValidSet n s → take (getD s n 0) s ≡ items-at n s
+unfolding items-at part
+lent n s v = sym (take-take (getD s n 0) n s (v .fits))
+
+pub lent-long : (n : ℕ) (s : List ℕ) → ValidSet n s → getD s n 0 ≡ length (take (getD s n 0) s)
+lent-long n s v = sym (ap length (lent n s v) ∙ v .counted)
+
+pub lent-fits : (n : ℕ) (s : List ℕ) → ValidSet n s → getD s n 0 ≤ length s
+lent-fits n s v = omega (arith, v .long, v .fits)
+
+module _ (n : ℕ) (s : List ℕ) (x i : ℕ) (v : ValidSet n s) (e : i ≡ index-of x (take (getD s n 0) s)) where
+  pub there : i ≡ index-of x (items-at n s)
+  there = e ∙ ap (index-of x) (lent n s v)
+
   pub insert-kept : i < getD s n 0 → HoldsSet n s (insert x (items-at n s))
-  unfolding items-at
-  insert-kept h = record { valid = v; items = sym (insert-there x (items-at n s) (index-mem x (items-at n s) (omega (arith, v .counted)))) }
+  insert-kept h = record { valid = v; items = sym (insert-there x (items-at n s) (index-mem x (items-at n s) (omega (arith, v .counted, there)))) }
 
   new : getD s n 0 ≤ i → insert x (items-at n s) ≡ insert-at (rank x (items-at n s)) x (items-at n s)
-  unfolding items-at
-  new h = insert-new x (items-at n s) (index-not-mem x (items-at n s) (omega (arith, v .counted)))
+  new h = insert-new x (items-at n s) (index-not-mem x (items-at n s) (omega (arith, v .counted, there)))
 
   pub insert-fits : getD s n 0 ≤ i → length (insert x (items-at n s)) ≤ n → getD s n 0 < length (part 0 n s)
   insert-fits h f =
       omega (arith, v .counted, ap length (new h), length-insert-at (rank x (items-at n s)) x (items-at n s), part-long 0 n s (omega (arith, v .long)))
 
-  pub inserted : (a : ℕ) (ys : List ℕ) → getD s n 0 ≤ i → a ≡ rank x (take (getD s n 0) (part 0 n s)) → length (insert x (items-at n s)) ≤ n → ys ≡ pad 0 (length (part 0 n s)) (insert-at a x (take (getD s n 0) (part 0 n s)))
+  pub inserted : (a : ℕ) (ys : List ℕ) → getD s n 0 ≤ i → a ≡ rank x (take (getD s n 0) s) → length (insert x (items-at n s)) ≤ n → ys ≡ pad 0 (length (part 0 n s)) (insert-at a x (take (getD s n 0) (part 0 n s)))
       → HoldsSet n (set (putMid 0 n s ys) n (getD s n 0 + 1)) (insert x (items-at n s))
   unfolding items-at
   inserted a ys h r f o =
       let w = new h in
       let g = length-insert-at (rank x (items-at n s)) x (items-at n s) in
       set-stored n s ys (insert x (items-at n s)) (getD s n 0 + 1) v
-      (o ∙ ap (pad 0 (length (part 0 n s))) (ap (λ (j : ℕ). insert-at j x (items-at n s)) r ∙ sym w))
+      (o ∙ ap (pad 0 (length (part 0 n s))) (ap (λ (j : ℕ). insert-at j x (items-at n s)) (r ∙ ap (rank x) (lent n s v)) ∙ sym w))
       (omega (arith, v .counted, ap length w, g)) f
 
 -- ---- what the leaves ask
@@ -84,17 +97,6 @@ set-column n s v = v .filled
 
 pub column-few : (n : ℕ) (s : List ℕ) (k : ℕ) → ValidSet n s → n ≤ k → length (part 0 n s) ≤ k
 column-few n s k v h = omega (arith, set-inside n s v)
-
--- the items as the code lends them
-pub lent : (n : ℕ) (s : List ℕ) → ValidSet n s → take (getD s n 0) s ≡ items-at n s
-unfolding items-at part
-lent n s v = sym (take-take (getD s n 0) n s (v .fits))
-
-pub lent-long : (n : ℕ) (s : List ℕ) → ValidSet n s → getD s n 0 ≡ length (take (getD s n 0) s)
-lent-long n s v = sym (ap length (lent n s v) ∙ v .counted)
-
-pub lent-fits : (n : ℕ) (s : List ℕ) → ValidSet n s → getD s n 0 ≤ length s
-lent-fits n s v = omega (arith, v .long, v .fits)
 
 -- ---- what the words are
 
@@ -148,23 +150,34 @@ set-as n s xs ys h e = record { valid = h .valid; items = h .items ∙ e }
 pub set-then : (n : ℕ) {r t xs : List ℕ} (f : List ℕ → List ℕ) → HoldsSet n r (f (items-at n t)) → HoldsSet n t xs → HoldsSet n r (f xs)
 set-then n {r} f h k = set-as n r _ _ h (ap f (k .items))
 
--- t is s without x, and u is t with x at the end; v is t without its first item
-module _ (n : ℕ) (s t : List ℕ) (most x : ℕ) (h : HoldsSet n t (without x (items-at n s))) where
+-- v has a place for x, and with it is what is left of s where x is the newest of at most `most`
+pub record Roomy (n : ℕ) (s : List ℕ) (most x : ℕ) (v : List ℕ) : Type 0 where
+  pub valid : ValidSet n v
+  pub room : length (items-at n v) < n
+  pub same : items-at n v ++ (x ∷ []) ≡ renew most x (items-at n s)
+
+-- t is s without x, and v is t or t without its first item
+module _ (n : ℕ) (s t : List ℕ) (most x : ℕ) (h : HoldsSet n t (without x (items-at n s))) (o : (1 ≤ most) × (most ≤ n)) where
   others : length (without x (items-at n s)) ≡ getD t n 0
   others = sym (ap length (h .items)) ∙ h .valid .counted
 
-  pub renew-new : (u : List ℕ) → getD t n 0 < most → HoldsSet n u (items-at n t ++ (x ∷ [])) → HoldsSet n u (renew most x (items-at n s))
-  renew-new u f k =
-      set-as n u _ _ k (ap (λ (l : List ℕ). l ++ (x ∷ [])) (h .items) ∙ sym (renew-room most x (items-at n s) (omega (arith, others))))
+  pub roomy-new : (v : List ℕ) → v ≡ t → getD t n 0 < most → Roomy n s most x v
+  roomy-new v e f =
+      subst (Roomy n s most x) (sym e)
+      record {
+        valid = h .valid;
+        room = omega (arith, o .1, h .valid .counted);
+        same = ap (λ (l : List ℕ). l ++ (x ∷ [])) (h .items) ∙ sym (renew-room most x (items-at n s) (omega (arith, others)));
+      }
 
-  pub renew-old : (u v : List ℕ) → 1 ≤ most → most ≤ getD t n 0 → HoldsSet n u (items-at n v ++ (x ∷ [])) → HoldsSet n v (shift-remove 0 (items-at n t)) → HoldsSet n u (renew most x (items-at n s))
-  renew-old u v o f k g =
-      set-as n u _ _ k
-      (ap (λ (l : List ℕ). l ++ (x ∷ [])) (g .items ∙ shift-first (items-at n t) ∙ ap (drop 1) (h .items)) ∙ sym (renew-full most x (items-at n s) o (omega (arith, others))))
-
-pub renew-place : (n : ℕ) (t v : List ℕ) (most : ℕ) → HoldsSet n v (shift-remove 0 (items-at n t)) → ValidSet n t → 1 ≤ most → most ≤ getD t n 0 → length (items-at n v) < n
-renew-place n t v most g w o f =
-    omega (arith, ap length (g .items ∙ shift-first (items-at n t)), length-drop 1 (items-at n t), w .counted, w .fits)
+  pub roomy-old : (v w : List ℕ) → v ≡ w → HoldsSet n w (shift-remove 0 (items-at n t)) → most ≤ getD t n 0 → Roomy n s most x v
+  roomy-old v w e g f =
+      subst (Roomy n s most x) (sym e)
+      record {
+        valid = g .valid;
+        room = omega (arith, o .0, ap length (g .items ∙ shift-first (items-at n t)), length-drop 1 (items-at n t), h .valid .counted, h .valid .fits);
+        same = ap (λ (l : List ℕ). l ++ (x ∷ [])) (g .items ∙ shift-first (items-at n t) ∙ ap (drop 1) (h .items)) ∙ sym (renew-full most x (items-at n s) (o .0) (omega (arith, others)));
+      }
 
 -- what is known of the list is known of the set
 pub set-length : (n : ℕ) (s xs : List ℕ) → HoldsSet n s xs → length (items-at n s) ≡ length xs
@@ -290,24 +303,20 @@ module _ (n : ℕ) (s : List ℕ) (v : ValidSet n s) where
       ∙ ap (λ (t : List ℕ). set t n (c - 1)) b ∙ framed-set n (take (c - 1) ws) (length xs) (c - 1) ∙ ap (framed n (take (c - 1) ws)) (sym l))
       (omega (arith, l, few-items))) q
 
-  module _ (x i : ℕ) (e : i ≡ index-of x (take (getD s n 0) (part 0 n s))) where
-    there : i ≡ index-of x (items-at n s)
-    unfolding items-at
-    there = e
-
+  module _ (x i : ℕ) (e : i ≡ index-of x (take (getD s n 0) s)) where
     pub remove-within : i < getD s n 0 → i < length (items-at n s)
     remove-within h = omega (arith, v .counted)
 
     pub remove-found : (t : List ℕ) → HoldsSet n t (swap-remove i (items-at n s)) → i < getD s n 0 → HoldsSet n t (remove x (items-at n s))
     unfolding remove
     remove-found t k h =
-        let m = index-mem x (items-at n s) (omega (arith, v .counted, there)) in
-        set-as n t _ _ k (rw m (ap (λ (j : ℕ). swap-remove j (items-at n s)) there))
+        let m = index-mem x (items-at n s) (omega (arith, v .counted, there n s x i v e)) in
+        set-as n t _ _ k (rw m (ap (λ (j : ℕ). swap-remove j (items-at n s)) (there n s x i v e)))
 
     pub remove-none : getD s n 0 ≤ i → HoldsSet n s (remove x (items-at n s))
     unfolding remove
     remove-none h =
-        let m = index-not-mem x (items-at n s) (omega (arith, v .counted, there)) in
+        let m = index-not-mem x (items-at n s) (omega (arith, v .counted, there n s x i v e)) in
         set-as n s _ _ (set-self n s v) (rw m)
 
   pub shifted : (i : ℕ) (ys : List ℕ) → i < length (items-at n s) → ys ≡ pad 0 (length (part 0 n s)) (shift-remove i (take (getD s n 0) (part 0 n s)))
@@ -316,11 +325,6 @@ module _ (n : ℕ) (s : List ℕ) (v : ValidSet n s) where
   shifted i ys h o =
       let l = length-shift-remove i (items-at n s) h in
       set-stored n s ys (shift-remove i (items-at n s)) (getD s n 0 - 1) v o (omega (arith, v .counted)) (omega (arith, v .counted, v .fits))
-
-  pub left-without : (x : ℕ) (ys : List ℕ) (k : ℕ) → ys ≡ pad 0 (length (part 0 n s)) (without x (take (getD s n 0) (part 0 n s)))
-      → k ≡ length (without x (take (getD s n 0) (part 0 n s))) → k ≤ getD s n 0 → HoldsSet n (set (putMid 0 n s ys) n k) (without x (items-at n s))
-  unfolding items-at
-  left-without x ys k o q h = set-stored n s ys _ k v o q (omega (arith, v .fits))
 
   skipped : (m : ℕ) (skip : List ℕ) → ValidSet m skip → without-all (take (getD skip m 0) skip) (take (getD s n 0) (part 0 n s)) ≡ without-all (items-at m skip) (items-at n s)
   unfolding items-at
@@ -351,3 +355,52 @@ module _ (n : ℕ) (s : List ℕ) (v : ValidSet n s) where
       ap (λ (j : ℕ). getD (ys ++ drop n s) j 0) (let k : n ≡ length ys + 0 = omega arith in k) ∙ getD-append-add ys (drop n s) 0 0 ∙ lib.Seq.getD-drop n s 0 0
       ∙ ap (λ (j : ℕ). getD s j 0) (let k : n + 0 ≡ n = omega arith in k) ∙ sym (v .counted) ∙ sym q in
       set-of n (putMid 0 n s ys) xs w (part-put 0 n s ys (omega arith) m ∙ p) c (omega (arith, few-items))
+
+-- ---- every x leaves
+
+without-absent : (x : ℕ) (xs : List ℕ) → length xs ≤ index-of x xs → without x xs ≡ xs
+unfolding without index-of
+without-absent x [] h = refl
+without-absent x (q ∷ xs) h =
+    split (eqb x q) (λ t. absurd (not-suc-le-zero (rw t at h)))
+    (λ t. rw t (ap (λ (l : List ℕ). q ∷ l) (without-absent x xs (le-of-suc-le-suc (rw t at h)))))
+
+without-first : (x : ℕ) (xs : List ℕ) → index-of x xs < length xs → without x (shift-remove (index-of x xs) xs) ≡ without x xs
+unfolding without index-of shift-remove
+without-first x [] h = refl
+without-first x (q ∷ xs) h =
+    split (eqb x q) (λ t. rw t)
+    (λ t. rw (t, t) (ap (λ (l : List ℕ). q ∷ l) (without-first x xs (le-of-suc-le-suc (rw t at h)))))
+
+-- k items are left, of which x is the i-th, and they and those of s₀ are one without x
+pub record Dropping (n : ℕ) (s₀ : List ℕ) (x : ℕ) (s : List ℕ) (k i : ℕ) : Type 0 where
+  pub valid : ValidSet n s
+  pub count : length (items-at n s) ≡ k
+  pub fits : k ≤ length s
+  pub left : without x (items-at n s) ≡ without x (items-at n s₀)
+  pub place : i ≡ index-of x (items-at n s)
+
+pub dropping-start : (n : ℕ) (s : List ℕ) (x i : ℕ) → ValidSet n s → i ≡ index-of x (take (getD s n 0) s) → Dropping n s x s (getD s n 0) i
+dropping-start n s x i v e = record { valid = v; count = v .counted; fits = lent-fits n s v; left = refl; place = there n s x i v e }
+
+module _ (n : ℕ) (s₀ : List ℕ) (x : ℕ) (s : List ℕ) (k i : ℕ) (v : Dropping n s₀ x s k i) where
+  module _ (t : List ℕ) (g : HoldsSet n t (shift-remove i (items-at n s))) (h : i < k) where
+    less : getD t n 0 ≡ k - 1
+    less = sym (g .valid .counted) ∙ ap length (g .items) ∙ (omega (arith, v .count, length-shift-remove i (items-at n s) (omega (arith, v .count))))
+
+    pub dropping-fits : k - 1 ≤ length t
+    dropping-fits = omega (arith, less, lent-fits n t (g .valid))
+
+    pub dropping-next : (j : ℕ) → j ≡ index-of x (take (k - 1) t) → Dropping n s₀ x t (k - 1) j
+    dropping-next j e =
+        record {
+          valid = g .valid;
+          count = g .valid .counted ∙ less;
+          fits = dropping-fits;
+          left = ap (without x) (g .items) ∙ ap (λ (a : ℕ). without x (shift-remove a (items-at n s))) (v .place)
+              ∙ without-first x (items-at n s) (omega (arith, v .count, v .place)) ∙ v .left;
+          place = there n t x j (g .valid) (e ∙ ap (λ (a : ℕ). index-of x (take a t)) (sym less));
+        }
+
+  pub dropping-end : k ≤ i → HoldsSet n s (without x (items-at n s₀))
+  dropping-end h = record { valid = v .valid; items = sym (without-absent x (items-at n s) (omega (arith, v .count, v .place))) ∙ v .left }

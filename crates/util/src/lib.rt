@@ -88,22 +88,6 @@ pub fn put_in(s: &mut [u64], n: usize, i: usize, x: u64)
     }
 }
 
-// Without x, wherever it stands; the answer is how many are left.
-fn without_in(s: &mut [u64], n: usize, x: PeerId) -> usize
-    requires { ⌜ Filled (now s) n ⌝ }
-    ensures { λ r. ⌜ now (s .exit) ≡ pad 0 (length (now (s .entry))) (without x (take n (now (s .entry)))) ⌝ }
-    ensures { λ r. ⌜ (r ≡ length (without x (take n (now (s .entry))))) × (r ≤ n) ⌝ }
-{
-    let mut m = n;
-    let mut i = find(s, m, x);
-    while i < m {
-        take_out(s, m, i);
-        m -= 1;
-        i = find(s, m, x);
-    }
-    m
-}
-
 // Whether the places from n on are zero.
 pub fn zero_from(s: &[u64], n: usize) -> bool
     requires { ⌜ n ≤ length (now s) ⌝ }
@@ -257,7 +241,7 @@ pub fn position(s: &[u64], cap: usize, x: PeerId) -> usize
     ensures { λ r. ⌜ (r ≡ index-of x (items-at cap (now (s .entry)))) × (r ≤ length (items-at cap (now (s .entry)))) ⌝ }
 {
     let n = s[cap] as usize;
-    find(&s[..cap], n, x)
+    find(s, n, x)
 }
 
 pub fn contains(s: &[u64], cap: usize, x: PeerId) -> bool
@@ -359,7 +343,7 @@ pub fn remove(s: &mut [u64], cap: usize, x: PeerId)
     ensures { λ _. ⌜ HoldsSet cap (now (s .exit)) (remove x (items-at cap (now (s .entry)))) ⌝ }
 {
     let n = s[cap] as usize;
-    let i = find(&s[..cap], n, x);
+    let i = find(s, n, x);
     if i < n {
         remove_index(s, cap, i);
     }
@@ -383,11 +367,11 @@ pub fn insert_sorted(s: &mut [u64], cap: usize, x: PeerId)
     ensures { λ _. ⌜ HoldsSet cap (now (s .exit)) (insert x (items-at cap (now (s .entry)))) ⌝ }
 {
     let n = s[cap] as usize;
-    let i = find(&s[..cap], n, x);
+    let i = find(s, n, x);
     if i < n {
         return;
     }
-    let at = rank_of(&s[..cap], n, x);
+    let at = rank_of(s, n, x);
     put_in(&mut s[..cap], n, at, x);
     s[cap] = (n + 1) as u64;
 }
@@ -397,9 +381,13 @@ pub fn without(s: &mut [u64], cap: usize, x: PeerId)
     requires { ⌜ ValidSet cap (now s) ⌝ }
     ensures { λ _. ⌜ HoldsSet cap (now (s .exit)) (without x (items-at cap (now (s .entry)))) ⌝ }
 {
-    let n = s[cap] as usize;
-    let m = without_in(&mut s[..cap], n, x);
-    s[cap] = m as u64;
+    let mut n = s[cap] as usize;
+    let mut i = find(s, n, x);
+    while i < n {
+        shift_remove_index(s, cap, i);
+        n -= 1;
+        i = find(s, n, x);
+    }
 }
 
 // x as the newest of at most `most`: the oldest leaves where there are too many.
@@ -410,11 +398,9 @@ pub fn renew(s: &mut [u64], cap: usize, most: usize, x: PeerId)
 {
     without(s, cap, x);
     let n = s[cap] as usize;
-    if n < most {
-        push(s, cap, x);
-        return;
+    if n >= most {
+        shift_remove_index(s, cap, 0);
     }
-    shift_remove_index(s, cap, 0);
     push(s, cap, x);
 }
 

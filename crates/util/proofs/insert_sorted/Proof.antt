@@ -1,5 +1,5 @@
 use Rattle.util.specs.Section.{part}
-use Rattle.util.proofs.Sets.{set-inside, set-count, set-column, insert-kept, insert-fits, inserted}
+use Rattle.util.proofs.Sets.{set-inside, set-column, lent-fits, insert-kept, insert-fits, inserted}
 use borrow.Author.Needs.{needs}
 use Rattle.util.proofs.insert_sorted.Statement.{statement}
 use Rattle.util.proofs.insert_sorted.Tie as tie
@@ -10,34 +10,17 @@ mul-n c = search needs
 slice-read-n : tie.Need-slice-read-n
 slice-read-n c = search needs
 
-slice-reshare-prefix-find : tie.Need-slice-reshare-prefix-find
-slice-reshare-prefix-find c = search needs
-
-slice-aggregate-find : tie.Need-slice-aggregate-find
-unfolding part
-slice-aggregate-find c = search set-inside
-
 find-requires : tie.Need-find-requires
-unfolding part
-find-requires c κs = search set-count
+find-requires c κs = search lent-fits
 
 same-length : tie.Need-same-length
 same-length c = search needs
 
 returns : tie.Need-returns
-unfolding part
 returns c = search insert-kept
 
-slice-reshare-prefix-rank-of : tie.Need-slice-reshare-prefix-rank-of
-slice-reshare-prefix-rank-of c = search needs
-
-slice-aggregate-rank-of : tie.Need-slice-aggregate-rank-of
-unfolding part
-slice-aggregate-rank-of c = search set-inside
-
 rank-of-requires : tie.Need-rank-of-requires
-unfolding part
-rank-of-requires c κs = search set-count
+rank-of-requires c κs = search lent-fits
 
 slice-relend-prefix-put-in : tie.Need-slice-relend-prefix-put-in
 slice-relend-prefix-put-in c = search needs
@@ -72,13 +55,9 @@ insert-sorted-spec =
     (tie.spec
     mul-n
     slice-read-n
-    slice-reshare-prefix-find
-    slice-aggregate-find
     find-requires
     same-length
     returns
-    slice-reshare-prefix-rank-of
-    slice-aggregate-rank-of
     rank-of-requires
     slice-relend-prefix-put-in
     slice-aggregate-put-in
