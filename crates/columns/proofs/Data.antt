@@ -194,9 +194,6 @@ module _ (n : ℕ) (m : List ℕ) (v : ValidDataWords n m) where
   pub store-3 : (i x y : ℕ) → i < count-of n m → n + n + n + i < length (set (set m (n + i) x) (n + n + i) y)
   store-3 i x y h = omega (arith, v .fits, v .long, length-set m (n + i) x, length-set (set m (n + i) x) (n + n + i) y)
 
-  pub data-count : count-of n m ≤ length (part 0 (n + n) m)
-  data-count = omega (arith, v .fits, data-size)
-
   -- and of the second, after the first was put back
   module _ (ys ks bs : List ℕ) (t : Two n ys ks bs) where
     tail-is : part (n + n) (n + n + (n + n) - (n + n)) (putMid 0 (n + n) m ys) ≡ tail-of n m
@@ -220,9 +217,9 @@ module _ (n : ℕ) (m : List ℕ) (v : ValidDataWords n m) where
     stored : (zs cs ds : List ℕ) (c : ℕ) → Two n zs cs ds → Stored (n + n) (set (putMid (n + n) (n + n + (n + n) - (n + n)) (putMid 0 (n + n) m ys) zs) (n + n + (n + n)) c) ys zs c
     stored zs cs ds c u = both-stored (n + n) m ys zs c (v .long) (t .long) (u .long)
 
-  module _ (p i : ℕ) (e : i ≡ index-of p (take (count-of n m) (head-of n m))) where
+  module _ (p i : ℕ) (e : i ≡ index-of p (take (count-of n m) m)) where
     pub data-at-key : i ≡ index-of p (keys (data-map-at n m))
-    data-at-key = e ∙ ap (index-of p) (sym (data-keys n m v))
+    data-at-key = e ∙ ap (index-of p) (peers-lent n m v)
 
     pub data-kept : count-of n m ≤ i → HoldsDataWords n m (cut p (data-map-at n m))
     data-kept h = record { valid = v; items = sym (cut-missing p (data-map-at n m) (omega (arith, v .counted, data-at-key))) }
@@ -245,7 +242,7 @@ module _ (n : ℕ) (m : List ℕ) (v : ValidDataWords n m) where
         (ap (pad no-data n) (shift-rows i _ _ _ (lows-like n m v) (highs-like n m v) ∙ ap (shift-remove i) (sym (taken-rows n m v)))) (omega arith))
 
     module _ (d : PeerData) (low high : ℕ) (w : ValidData d) (f : le 8 low ≡ take 8 (drop 0 (d .bytes))) (g : le 8 high ≡ take 8 (drop 8 (d .bytes))) where
-      pub data-inserted : (a : ℕ) (ys zs : List ℕ) → count-of n m ≤ i → (has p (data-map-at n m) || ltb (length (data-map-at n m)) n) ≡ true → a ≡ rank p (take (count-of n m) (head-of n m))
+      pub data-inserted : (a : ℕ) (ys zs : List ℕ) → count-of n m ≤ i → (has p (data-map-at n m) || ltb (length (data-map-at n m)) n) ≡ true → a ≡ rank p (take (count-of n m) m)
           → Two n ys (insert-at a p (take (count-of n m) (part 0 n (head-of n m)))) (insert-at a (d .len) (take (count-of n m) (part n n (head-of n m))))
           → Two n zs (insert-at a low (take (count-of n m) (part 0 n (part (n + n) (n + n + (n + n) - (n + n)) (putMid 0 (n + n) m ys))))) (insert-at a high (take (count-of n m) (part n n (part (n + n) (n + n + (n + n) - (n + n)) (putMid 0 (n + n) m ys)))))
           → HoldsDataWords n (set (putMid (n + n) (n + n + (n + n) - (n + n)) (putMid 0 (n + n) m ys) zs) (n + n + (n + n)) (count-of n m + 1)) (put p (bytes-of (data-in d)) (data-map-at n m))
@@ -257,7 +254,7 @@ module _ (n : ℕ) (m : List ℕ) (v : ValidDataWords n m) where
           λ y s o. omega (arith, filled-length s (count-of n m) o, length-insert-at a y (take (count-of n m) s)) in
           data-held n _ ys zs (count-of n m + 1) _ _ _ _ _ (stored ys _ _ x zs _ _ (count-of n m + 1) u) x u
           (z p _ (v .keyed)) (z (d .len) _ (v .lens)) (z low _ (v .lows)) (z high _ (v .highs)) (omega (arith, data-room h t))
-          (entries-insert no-data n entry-bytes ValidEntry _ _ _ _ (data-entries n m v) p (bytes-of (data-in d)) a (row (d .len) low high) _ _ (r ∙ ap (rank p) (sym (data-keys n m v)))
+          (entries-insert no-data n entry-bytes ValidEntry _ _ _ _ (data-entries n m v) p (bytes-of (data-in d)) a (row (d .len) low high) _ _ (r ∙ ap (rank p) (peers-lent n m v))
           (subst (λ (j : ℕ). count-of n m ≤ j) data-at-key h) (data-room h t) (row-valid d low high w k) (row-value d low high w k) refl
           (ap (pad no-data n) (insert-rows a (d .len) low high _ _ _ (lows-like n m v) (highs-like n m v) ∙ ap (insert-at a (row (d .len) low high)) (sym (taken-rows n m v)))))
 

@@ -2,7 +2,7 @@
 -- Assumes nothing.
 use Prim.Native.Nat.{ℕ, _+_, _-_, _≤_, _<_}
 use mathlib.Core.Path.{_≡_, refl, sym, ap, _∙_, subst}
-use mathlib.Core.Bool.{Bool, true, false, _||_, _&&_}
+use mathlib.Core.Bool.{Bool, true, false, _||_, _&&_, and-assoc}
 use mathlib.Core.List.{List}
 use mathlib.Core.Option.{some}
 use native.Mathlib.Omega.{arith}
@@ -25,7 +25,7 @@ use Rattle.peer.specs.declared.Number.the-variants.{Absent, Is}
 use Rattle.peer.proofs.Maps.{itself, Any, all-any, map-itself}
 use Rattle.scan.specs.Words.{unused}
 use Rattle.util.specs.Section.{part, Filled}
-use Rattle.util.proofs.Parts.{part-long, part-read, part-put, part-before, part-set-after, part-set-in, put-long, first-put-long, after-first}
+use Rattle.util.proofs.Parts.{part-long, part-read, part-put, part-before, part-set-after, part-set-in, part-past, put-long, first-put-long, after-first}
 use Rattle.columns.specs.Columns.{numbers-at, ValidNumbers, HoldsNumbers, valid-numbers}
 
 -- ---- a map of numbers
@@ -114,9 +114,9 @@ module _ (n : ℕ) (m : List ℕ) (v : ValidNumbers n m) where
   unfolding has
   number-has p r q = q ∙ ap (mem p) numbers-lent
 
-  module _ (p i : ℕ) (e : i ≡ index-of p (take (getD m (n + n) 0) (part 0 n m))) where
+  module _ (p i : ℕ) (e : i ≡ index-of p (take (getD m (n + n) 0) m)) where
     at-key : i ≡ index-of p (keys (numbers-at n m))
-    at-key = e ∙ ap (index-of p) (sym number-keys)
+    at-key = e ∙ ap (index-of p) numbers-lent
 
     pub cut-kept : getD m (n + n) 0 ≤ i → HoldsNumbers n m (cut p (numbers-at n m))
     cut-kept h = held-whole n m _ (v .long) (entries-cut-none 0 n itself Any _ _ _ _ (number-entries n m v) p i at-key h)
@@ -178,7 +178,7 @@ module _ (n : ℕ) (m : List ℕ) (v : ValidNumbers n m) where
       made : (c : ℕ) → Stored n (set (putMid n (n + n - n) (putMid 0 n m ys) zs) (n + n) c) ys zs c
       made c = both-stored n m ys zs c (v .long) first-long (ap length second-made ∙ length-pad 0 n (f (take (getD m (n + n) 0) (part n n m))))
 
-  module _ (p i : ℕ) (e : i ≡ index-of p (take (getD m (n + n) 0) (part 0 n m))) (ys zs : List ℕ) where
+  module _ (p i : ℕ) (e : i ≡ index-of p (take (getD m (n + n) 0) m)) (ys zs : List ℕ) where
     pub removed : i < getD m (n + n) 0 → ys ≡ pad 0 (length (part 0 n m)) (shift-remove i (take (getD m (n + n) 0) (part 0 n m)))
         → zs ≡ pad 0 (length (part n (n + n - n) (putMid 0 n m ys))) (shift-remove i (take (getD m (n + n) 0) (part n (n + n - n) (putMid 0 n m ys))))
         → HoldsNumbers n (set (putMid n (n + n - n) (putMid 0 n m ys) zs) (n + n) (getD m (n + n) 0 - 1)) (cut p (numbers-at n m))
@@ -186,13 +186,13 @@ module _ (n : ℕ) (m : List ℕ) (v : ValidNumbers n m) where
         number-held n _ ys zs (getD m (n + n) 0 - 1) _ (made ys _ o zs (shift-remove i) q (getD m (n + n) 0 - 1))
         (entries-cut 0 n itself Any _ _ _ _ (number-entries n m v) p i ys zs (getD m (n + n) 0 - 1) (at-key p i e) h (first-is ys _ o) (second-made ys _ o zs (shift-remove i) q) (omega arith))
 
-    pub number-inserted : (a x : ℕ) → getD m (n + n) 0 ≤ i → (has p (numbers-at n m) || ltb (length (numbers-at n m)) n) ≡ true → a ≡ rank p (take (getD m (n + n) 0) (part 0 n m))
+    pub number-inserted : (a x : ℕ) → getD m (n + n) 0 ≤ i → (has p (numbers-at n m) || ltb (length (numbers-at n m)) n) ≡ true → a ≡ rank p (take (getD m (n + n) 0) m)
         → ys ≡ pad 0 (length (part 0 n m)) (insert-at a p (take (getD m (n + n) 0) (part 0 n m)))
         → zs ≡ pad 0 (length (part n (n + n - n) (putMid 0 n m ys))) (insert-at a x (take (getD m (n + n) 0) (part n (n + n - n) (putMid 0 n m ys))))
         → HoldsNumbers n (set (putMid n (n + n - n) (putMid 0 n m ys) zs) (n + n) (getD m (n + n) 0 + 1)) (put p x (numbers-at n m))
     number-inserted a x h t r o q =
         number-held n _ ys zs (getD m (n + n) 0 + 1) _ (made ys _ o zs (insert-at a x) q (getD m (n + n) 0 + 1))
-        (entries-insert 0 n itself Any _ _ _ _ (number-entries n m v) p x a x ys zs (r ∙ ap (rank p) (sym number-keys)) (subst (λ (j : ℕ). getD m (n + n) 0 ≤ j) (at-key p i e) h) (number-room p i e h t) tt refl
+        (entries-insert 0 n itself Any _ _ _ _ (number-entries n m v) p x a x ys zs (r ∙ ap (rank p) numbers-lent) (subst (λ (j : ℕ). getD m (n + n) 0 ≤ j) (at-key p i e) h) (number-room p i e h t) tt refl
         (first-is ys _ o) (second-made ys _ o zs (insert-at a x) q))
 
 -- ---- what the leaves ask
@@ -209,21 +209,12 @@ numbers-long n m ys zs xs ws c o q v =
     let r : length zs ≡ n = ap length q ∙ length-pad 0 _ ws ∙ b in
     length-set (putMid n (n + n - n) (putMid 0 n m ys) zs) (n + n) c ∙ twice-long n m ys zs c (v .long) p r ∙ sym (v .long)
 
-pub number-count : (n : ℕ) (m : List ℕ) → ValidNumbers n m → getD m (n + n) 0 ≤ length (part 0 n m)
-number-count n m v = v .keyed .fits
-
 pub number-column : (n : ℕ) (m : List ℕ) → ValidNumbers n m → Filled (part 0 n m) (getD m (n + n) 0)
 number-column n m v = v .keyed
 
 -- ---- the test of a map of numbers
 
 module _ (n : ℕ) (m : List ℕ) (l : length m ≡ n + n + 1) where
-  pub test-inside : n ≡ length (part 0 n m)
-  test-inside = sym (part-long 0 n m (omega arith))
-
-  pub test-count : getD m (n + n) 0 ≤ n → getD m (n + n) 0 ≤ length (part 0 n m)
-  test-count h = omega (arith, part-long 0 n m (omega arith))
-
   pub test-no : n < getD m (n + n) 0 → false ≡ valid-numbers n m
   unfolding valid-numbers
   test-no h = rw (lt-leb _ _ h)
@@ -238,19 +229,13 @@ module _ (n : ℕ) (m : List ℕ) (l : length m ≡ n + n + 1) where
   unfolding valid-numbers packed
   test-is h = rw (le-leb _ _ h, eq-eqb _ _ (part-long 0 n m (omega arith)), eq-eqb _ _ (part-long n n m (omega arith)), test-keys h) refl
 
-  module _ (a : Bool) (p : a ≡ every unused (drop (getD m (n + n) 0) (part 0 n m))) (h : getD m (n + n) 0 ≤ n) where
-    pub test-first : a ≡ false → false ≡ valid-numbers n m
-    test-first e = sym (test-is h ∙ rw (← p, e))
-
-    module _ (b : Bool) (q : b ≡ every unused (drop (getD m (n + n) 0) (part n (n + n - n) m))) where
-      second-test : b ≡ every unused (drop (getD m (n + n) 0) (part n n m))
-      second-test = let d : n + n - n ≡ n = omega arith in q ∙ ap (λ (k : ℕ). every unused (drop (getD m (n + n) 0) (part n k m))) d
-
-      pub test-second : a ≡ true → b ≡ false → false ≡ valid-numbers n m
-      test-second e f = sym (test-is h ∙ rw (← p, e, ← second-test, f))
-
-      pub test-all : (r : Bool) → r ≡ rising (take (getD m (n + n) 0) (part 0 n m)) → a ≡ true → b ≡ true → r ≡ valid-numbers n m
-      test-all r o e f = o ∙ sym (test-is h ∙ rw (← p, e, ← second-test, f))
+  pub test-all : (a b r : Bool) → a ≡ every unused (drop (getD m (n + n) 0) (take n m)) → b ≡ every unused (drop (n + getD m (n + n) 0) (take (n + n) m)) → r ≡ rising (take (getD m (n + n) 0) m) → getD m (n + n) 0 ≤ n
+      → ((a && b) && r) ≡ valid-numbers n m
+  unfolding part
+  test-all a b r p q o h =
+      let y : b ≡ every unused (drop (getD m (n + n) 0) (part n n m)) = q ∙ ap (every unused) (part-past n n (getD m (n + n) 0) m (omega arith)) in
+      let z : r ≡ rising (take (getD m (n + n) 0) (part 0 n m)) = o ∙ ap rising (sym (take-take (getD m (n + n) 0) n m h)) in
+      (λ i. (p i && y i) && z i) ∙ and-assoc (every unused (drop (getD m (n + n) 0) (part 0 n m))) (every unused (drop (getD m (n + n) 0) (part n n m))) (rising (take (getD m (n + n) 0) (part 0 n m))) ∙ sym (test-is h)
 
   pub valid-numbers-true : valid-numbers n m ≡ true → ValidNumbers n m
   unfolding valid-numbers numbers-at

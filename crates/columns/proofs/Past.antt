@@ -1,19 +1,20 @@
 -- The test of an entry by its words: the bytes of a word past a place are zero where the word is small.
 -- Assumes nothing.
-use Prim.Native.Nat.{ℕ, zero, suc, _+_, _-_, _/_, _%_, _^_, _≤_, _<_}
+use Prim.Native.Nat.{ℕ, zero, suc, _+_, _*_, _-_, _/_, _%_, _^_, _≤_, _<_}
 use mathlib.Core.Path.{_≡_, refl, sym, ap, _∙_}
 use mathlib.Core.Bool.{Bool, true, false, _&&_, and-assoc}
 use mathlib.Core.List.{List, [], _∷_, _++_}
 use native.Mathlib.Nat.{div-lt-iff-lt-mul, pow-suc, not-suc-le-zero}
 use native.Mathlib.Omega.{arith}
-use lib.ListN.{length, drop, length-append, drop-of-length-le}
+use lib.ListN.{length, drop, getD, length-append, drop-of-length-le}
 use lib.Seq.{drop-append-le, drop-append-add}
-use lib.Dec.{eqb, ltb}
+use lib.Dec.{eqb, ltb, eqb→eq}
 use borrow.Author.Tests.{eqb-true, eqb-false, eq-eqb, ne-eqb, ltb-true, ltb-false, lt-ltb, le-ltb, le-leb, lt-leb}
 use Rattle.lists.specs.Bytes.{le}
 use Rattle.lists.specs.Tests.{every, packed}
 use Rattle.lists.proofs.Bytes.{length-le}
 use Rattle.lists.proofs.Choice.{split}
+use Rattle.lists.proofs.Table.{at}
 use Rattle.peer.specs.Held.{zero-byte}
 use Rattle.peer.specs.Maps.{valid-entry}
 use Rattle.columns.specs.Columns.{words-end, word-bytes, row}
@@ -60,6 +61,25 @@ past-word (suc k) (suc l) w p h =
     past-word k l (w / 256) (omega arith) (quotient k w h)
     ∙ same-test (w / 256) (256 ^ l) w (256 ^ suc l) (λ q. rw pow-suc (div-lt-iff-lt-mul {k = 256} {x = w} {y = 256 ^ l} (omega arith) .0 q)) (λ q. quotient l w q)
 
+-- ---- a power as the code shifts it, tested for each of the eight numbers by one computation
+
+powers : List ℕ
+powers = 1 ∷ 256 ∷ 65536 ∷ 16777216 ∷ 4294967296 ∷ 1099511627776 ∷ 281474976710656 ∷ 72057594037927936 ∷ []
+
+abbrev pub shifted : ℕ → ℕ
+shifted k = (1 * 2 ^ (8 * k)) % words-end
+
+is-power : ℕ → ℕ → Bool
+is-power k x = eqb x (256 ^ k)
+
+is-shifted : ℕ → ℕ → Bool
+is-shifted k x = eqb x (shifted k)
+
+power : (k : ℕ) → k < 8 → shifted k ≡ 256 ^ k
+unfolding powers is-power is-shifted
+power k h =
+    sym (eqb→eq (getD powers k 0) (shifted k) (at is-shifted powers tt k h)) ∙ eqb→eq (getD powers k 0) (256 ^ k) (at is-power powers tt k h)
+
 -- ---- the entry
 
 word-long : (w x : ℕ) → length (word-bytes w x) ≡ 16
@@ -75,19 +95,19 @@ module _ (l w x : ℕ) where
   unfolding valid-entry
   row-no h = rw (lt-leb _ _ h)
 
-  pub row-short : (p : ℕ) → p ≡ 256 ^ l → l < 8 → w < words-end → x < words-end → (ltb w p && eqb x 0) ≡ valid-entry (row l w x)
+  pub row-short : l < 8 → w < words-end → x < words-end → (ltb w (shifted l) && eqb x 0) ≡ valid-entry (row l w x)
   unfolding word-bytes
-  row-short p e h a b =
+  row-short h a b =
       sym (tested (omega arith) ∙ ap (every zero-byte) (drop-append-le l (le 8 w) (le 8 x) (omega (arith, length-le 8 w)))
       ∙ every-append (drop l (le 8 w)) (le 8 x) ∙ (λ i. past-word 8 l w (omega arith) a i && zero-word 8 x b i)
-      ∙ ap (λ (q : ℕ). ltb w q && eqb x 0) (sym e))
+      ∙ ap (λ (q : ℕ). ltb w q && eqb x 0) (sym (power l h)))
 
-  pub row-long : (p : ℕ) → p ≡ 256 ^ (l - 8) → 8 ≤ l → l < 16 → x < words-end → ltb x p ≡ valid-entry (row l w x)
+  pub row-long : 8 ≤ l → l < 16 → x < words-end → ltb x (shifted (l - 8)) ≡ valid-entry (row l w x)
   unfolding word-bytes
-  row-long p e g h b =
+  row-long g h b =
       let k : l ≡ length (le 8 w) + (l - 8) = omega (arith, length-le 8 w) in
       sym (tested (omega arith) ∙ ap (λ (j : ℕ). every zero-byte (drop j (le 8 w ++ le 8 x))) k ∙ ap (every zero-byte) (drop-append-add (le 8 w) (le 8 x) (l - 8))
-      ∙ past-word 8 (l - 8) x (omega arith) b ∙ ap (ltb x) (sym e))
+      ∙ past-word 8 (l - 8) x (omega arith) b ∙ ap (ltb x) (sym (power (l - 8) (omega arith))))
 
   pub row-full : 16 ≤ l → l ≤ 16 → true ≡ valid-entry (row l w x)
   unfolding every

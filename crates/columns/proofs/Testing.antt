@@ -2,7 +2,7 @@
 -- Assumes nothing.
 use Prim.Native.Nat.{ℕ, _+_, _-_, _≤_, _<_}
 use mathlib.Core.Path.{_≡_, refl, sym, ap, _∙_, subst}
-use mathlib.Core.Bool.{Bool, true, false, _&&_}
+use mathlib.Core.Bool.{Bool, true, false, _&&_, and-true, and-assoc, and-comm}
 use mathlib.Core.List.{List}
 use native.Mathlib.Omega.{arith}
 use lib.ListN.{length, take, drop, getD, length-map}
@@ -16,14 +16,14 @@ use Rattle.lists.proofs.Choice.{and-left, and-right}
 use Rattle.lists.proofs.Maps.{length-keys}
 use Rattle.lists.proofs.Zip.{keys-zip}
 use Rattle.lists.specs.Tests.{every, packed}
-use Rattle.lists.proofs.Rest.{Rest}
-use Rattle.lists.proofs.Tests.{Every, every-first, every-stop, every-go, every-end, every-true, true-every, both-true, rising-true, true-rising, packed-true, true-packed}
-use Rattle.peer.specs.Maps.{valid-entry, entry-bytes, ValidEntry}
+use Rattle.lists.proofs.Rest.{Rest, rest-next, rest-end}
+use Rattle.lists.proofs.Tests.{every-true, true-every, both-true, rising-true, true-rising, packed-true, true-packed}
+use Rattle.peer.specs.Maps.{DataEntry, valid-entry, entry-bytes, ValidEntry}
 use Rattle.scan.specs.Words.{unused}
 use Rattle.peer.proofs.Maps.{unread, valid-entry-true, true-valid-entry}
 use Rattle.util.specs.Section.{part, Filled}
 use Rattle.columns.specs.Columns.{row, head-of, tail-of, count-of, entries-at, data-map-at, ValidDataWords, valid-data-words}
-use Rattle.util.proofs.Parts.{part-long}
+use Rattle.util.proofs.Parts.{part-long, part-past, part-part}
 use Rattle.columns.proofs.Rows.{length-rows, getD-rows}
 use Rattle.columns.proofs.Data.{head-long, tail-long, keys-long, lens-long, lows-long, highs-long, head-read, low-read, high-read}
 
@@ -52,39 +52,33 @@ packed-is : (n k : ℕ) (s : List ℕ) → length s ≡ n → packed unused n k 
 unfolding packed
 packed-is n k s l = rw (eq-eqb _ _ l)
 
-module _ (n : ℕ) (s : List ℕ) (k : ℕ) (l : length s ≡ n + n) where
-  pub zero-count : k ≤ n → k ≤ length (part 0 n s)
-  zero-count h = omega (arith, part-long 0 n s (omega arith))
-
-  module _ (a : Bool) (p : a ≡ every unused (drop k (part 0 n s))) where
-    first-packed : packed unused n k (part 0 n s) ≡ a
-    first-packed = packed-is n k (part 0 n s) (part-long 0 n s (omega arith)) ∙ sym p
-
-    pub zero-no : a ≡ false → false ≡ (packed unused n k (part 0 n s) && packed unused n k (part n n s))
-    zero-no e = sym (rw (first-packed, e))
-
-    pub zero-both : (b : Bool) → b ≡ every unused (drop k (part n (n + n - n) s)) → a ≡ true → b ≡ (packed unused n k (part 0 n s) && packed unused n k (part n n s))
-    zero-both b q e =
-        let d : n + n - n ≡ n = omega arith in
-        sym (rw (first-packed, e) (packed-is n k (part n n s) (part-long n n s (omega arith)) ∙ sym (q ∙ ap (λ (j : ℕ). every unused (drop k (part n j s))) d)))
+-- the column of n places from place a on, past its first k
+column : (n k a from end : ℕ) (m s : List ℕ) (r : Bool) → s ≡ part a n m → from ≡ a + k → end ≡ a + n → a + n ≤ length m → r ≡ every unused (drop from (take end m)) → r ≡ packed unused n k s
+column n k a from end m s r e f g h q =
+    q ∙ (λ i. every unused (drop (f i) (take (g i) m))) ∙ ap (every unused) (part-past a n k m h ∙ ap (drop k) (sym e))
+    ∙ sym (packed-is n k s (ap length e ∙ part-long a n m h))
 
 -- ---- the test
 
--- the zeroes were seen: the entries from i on are to be looked at, and then whether the peers rise
-pub record Rows (n : ℕ) (m : List ℕ) (half k i : ℕ) : Type 0 where
+regroup : (a b c d e t : Bool) → ((a && b) && ((c && d) && (e && t))) ≡ (((((a && b) && c) && d) && t) && e)
+regroup false b c d e t = refl
+regroup true false c d e t = refl
+regroup true true false d e t = refl
+regroup true true true false e t = refl
+regroup true true true true e t = and-comm e t
+
+abbrev pub AndEntries : Bool → List DataEntry → Bool
+AndEntries ok l = ok && every valid-entry l
+
+-- the zeroes and the order of the peers were seen: the entries from i on are to be looked at
+pub record Rows (n : ℕ) (m : List ℕ) (half high k : ℕ) (ok : Bool) (i : ℕ) : Type 0 where
   pub long : length m ≡ n + n + (n + n) + 1
   pub doubled : half ≡ n + n
+  pub tripled : high ≡ n + n + n
   pub fits : k ≤ n
-  pub left : valid-data-words n m ≡ (every valid-entry (take k (entries-at n m)) && rising (take k (head-of n m)))
-  pub rest : Rest (Every valid-entry) n (entries-at n m) k (every valid-entry (take k (entries-at n m))) i i
+  pub rest : Rest AndEntries n (entries-at n m) k (valid-data-words n m) ok i
 
 module _ (n : ℕ) (m : List ℕ) (l : length m ≡ n + n + (n + n) + 1) where
-  pub words-inside : n + n ≡ length (part 0 (n + n) m)
-  words-inside = sym (part-long 0 (n + n) m (omega arith))
-
-  pub words-size : length (part 0 (n + n) m) ≡ n + n
-  words-size = part-long 0 (n + n) m (omega arith)
-
   pub words-no : n < count-of n m → false ≡ valid-data-words n m
   unfolding valid-data-words
   words-no h = rw (lt-leb _ _ h)
@@ -95,71 +89,56 @@ module _ (n : ℕ) (m : List ℕ) (l : length m ≡ n + n + (n + n) + 1) where
       keys-zip _ _ (length-take-le (count-of n m) (part 0 n (head-of n m)) (omega (arith, part-long 0 n (head-of n m) (omega (arith, head-long n m l))))
       ∙ sym (length-map (take (count-of n m) (entries-at n m)) entry-bytes ∙ length-take-le (count-of n m) (entries-at n m) (omega (arith, entries-long n m l))))
 
-  words-read : count-of n m ≤ n → keys (data-map-at n m) ≡ take (count-of n m) (head-of n m)
-  unfolding part
-  words-read h = words-keys h ∙ take-take (count-of n m) n (head-of n m) h
+  words-read : count-of n m ≤ n → keys (data-map-at n m) ≡ take (count-of n m) m
+  unfolding part head-of
+  words-read h = words-keys h ∙ take-take (count-of n m) n (head-of n m) h ∙ take-take (count-of n m) (n + n) m (omega arith)
 
   words-is : count-of n m ≤ n → valid-data-words n m ≡ ((packed unused n (count-of n m) (part 0 n (head-of n m)) && packed unused n (count-of n m) (part n n (head-of n m)))
       && ((packed unused n (count-of n m) (part 0 n (tail-of n m)) && packed unused n (count-of n m) (part n n (tail-of n m)))
-      && (every valid-entry (take (count-of n m) (entries-at n m)) && rising (take (count-of n m) (head-of n m)))))
+      && (every valid-entry (take (count-of n m) (entries-at n m)) && rising (take (count-of n m) m))))
   unfolding valid-data-words
   words-is h = rw (le-leb _ _ h, words-read h) refl
 
-  module _ (a : Bool) (p : a ≡ (packed unused n (count-of n m) (part 0 n (head-of n m)) && packed unused n (count-of n m) (part n n (head-of n m)))) (h : count-of n m ≤ n) where
-    pub words-first : a ≡ false → false ≡ valid-data-words n m
-    words-first e = sym (words-is h ∙ rw (← p, e))
+  -- the entries are looked at from the first on
+  pub rows-start : (a b c d t : Bool) → a ≡ every unused (drop (count-of n m) (take n m)) → b ≡ every unused (drop (n + count-of n m) (take (n + n) m)) → c ≡ every unused (drop (n + n + count-of n m) (take (n + n + n) m))
+      → d ≡ every unused (drop (n + n + n + count-of n m) (take (n + n + (n + n)) m)) → t ≡ rising (take (count-of n m) m) → count-of n m ≤ n → Rows n m (n + n) (n + n + n) (count-of n m) ((((a && b) && c) && d) && t) 0
+  unfolding head-of tail-of
+  rows-start a b c d t p q r s y h =
+      let k = count-of n m in
+      let p′ : a ≡ packed unused n (count-of n m) (part 0 n (head-of n m)) = column n k 0 k n m _ a (part-part 0 (n + n) 0 n m (omega arith) (omega arith)) (omega arith) (omega arith) (omega arith) p in
+      let q′ : b ≡ packed unused n (count-of n m) (part n n (head-of n m)) = column n k (0 + n) (n + k) (n + n) m _ b (part-part 0 (n + n) n n m (omega arith) (omega arith)) (omega arith) (omega arith) (omega arith) q in
+      let r′ : c ≡ packed unused n (count-of n m) (part 0 n (tail-of n m)) = column n k (n + n + 0) (n + n + k) (n + n + n) m _ c (part-part (n + n) (n + n) 0 n m (omega arith) (omega arith)) (omega arith) (omega arith) (omega arith) r in
+      let s′ : d ≡ packed unused n (count-of n m) (part n n (tail-of n m)) = column n k (n + n + n) (n + n + n + k) (n + n + (n + n)) m _ d (part-part (n + n) (n + n) n n m (omega arith) (omega arith)) (omega arith) (omega arith) (omega arith) s in
+      record {
+        long = l;
+        doubled = refl;
+        tripled = refl;
+        fits = h;
+        rest = record {
+          low = omega arith;
+          top = h;
+          long = entries-long n m l;
+          same = words-is h ∙ (λ i. (sym p′ i && sym q′ i) && ((sym r′ i && sym s′ i) && (every valid-entry (take (count-of n m) (entries-at n m)) && sym y i))) ∙ regroup a b c d _ t;
+        };
+      }
 
-    module _ (b : Bool) (q : b ≡ (packed unused n (count-of n m) (part 0 n (part (n + n) (n + n + (n + n) - (n + n)) m)) && packed unused n (count-of n m) (part n n (part (n + n) (n + n + (n + n) - (n + n)) m)))) (e : a ≡ true) where
-      second : b ≡ (packed unused n (count-of n m) (part 0 n (tail-of n m)) && packed unused n (count-of n m) (part n n (tail-of n m)))
-      unfolding tail-of
-      second =
-          let d : n + n + (n + n) - (n + n) ≡ n + n = omega arith in
-          q ∙ ap (λ (j : ℕ). packed unused n (count-of n m) (part 0 n (part (n + n) j m)) && packed unused n (count-of n m) (part n n (part (n + n) j m))) d
+module _ (n : ℕ) (m : List ℕ) (half high k : ℕ) (ok : Bool) (i : ℕ) (v : Rows n m half high k ok i) where
+  pub rows-next : (b : Bool) → b ≡ valid-entry (row (getD m (n + i) 0) (getD m (half + i) 0) (getD m (high + i) 0)) → i < k → Rows n m half high k (ok && b) (i + 1)
+  unfolding every
+  rows-next b q h =
+      let e : b ≡ valid-entry (getD (entries-at n m) i unread) =
+      q ∙ (λ j. valid-entry (row (getD m (n + i) 0) (getD m (v .doubled j + i) 0) (getD m (v .tripled j + i) 0))) ∙ ap valid-entry (read n m (v .long) i (omega (arith, v .fits))) in
+      record {
+        long = v .long;
+        doubled = v .doubled;
+        tripled = v .tripled;
+        fits = v .fits;
+        rest = rest-next unread AndEntries (v .rest) (ok && b) h (λ l. ap (λ (t : Bool). ok && (t && every valid-entry l)) (sym e) ∙ sym (and-assoc ok b (every valid-entry l)));
+      }
 
-      pub words-second : b ≡ false → false ≡ valid-data-words n m
-      words-second f = sym (words-is h ∙ rw (← p, e, ← second, f))
-
-      -- the entries are looked at from the first on
-      pub rows-start : b ≡ true → Rows n m (n + n) (count-of n m) 0
-      rows-start f =
-          record {
-            long = l;
-            doubled = refl;
-            fits = h;
-            left = words-is h ∙ rw (← p, e, ← second, f);
-            rest = every-first valid-entry unread n (entries-at n m) (count-of n m) h (entries-long n m l);
-          }
-
-module _ (n : ℕ) (m : List ℕ) (half k i : ℕ) (v : Rows n m half k i) where
-  pub rows-inside : half ≡ length (part 0 half m)
-  rows-inside = sym (part-long 0 half m (omega (arith, v .long, v .doubled)))
-
-  pub rows-count : k ≤ length (part 0 half m)
-  rows-count = omega (arith, rows-inside, v .doubled, v .fits)
-
-  pub rows-all : (t : Bool) → t ≡ rising (take k (part 0 half m)) → k ≤ i → t ≡ valid-data-words n m
-  unfolding head-of
-  rows-all t y h =
-      y ∙ ap (λ (j : ℕ). rising (take k (part 0 j m))) (v .doubled) ∙ sym (v .left ∙ rw (← every-end valid-entry unread n (entries-at n m) k _ i (v .rest) h))
-
-  module _ (b : Bool) (q : b ≡ valid-entry (row (getD m (n + i) 0) (getD m (half + i) 0) (getD m (half + n + i) 0))) (h : i < k) where
-    is : b ≡ valid-entry (getD (entries-at n m) i unread)
-    is =
-        q ∙ (λ j. valid-entry (row (getD m (n + i) 0) (getD m (v .doubled j + i) 0) (getD m (v .doubled j + n + i) 0)))
-        ∙ ap valid-entry (read n m (v .long) i (omega (arith, v .fits)))
-
-    pub rows-no : b ≡ false → false ≡ valid-data-words n m
-    rows-no e = sym (v .left ∙ rw (← every-stop valid-entry unread n (entries-at n m) k _ i (v .rest) b is e h))
-
-    pub rows-next : b ≡ true → Rows n m half k (i + 1)
-    rows-next e =
-        record {
-          long = v .long;
-          doubled = v .doubled;
-          fits = v .fits;
-          left = v .left;
-          rest = every-go valid-entry unread n (entries-at n m) k _ i (v .rest) b is e h;
-        }
+  pub rows-all : k ≤ i → ok ≡ valid-data-words n m
+  unfolding every
+  rows-all h = sym (rest-end unread AndEntries (v .rest) h ∙ and-true ok)
 
 -- ---- what the test says
 

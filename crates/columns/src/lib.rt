@@ -48,19 +48,6 @@ fn in_two(s: &mut [u64], cap: usize, n: usize, i: usize, x: u64, y: u64)
     util::put_in(&mut s[cap..end], n, i, y);
 }
 
-// Whether the places from n on of both columns are zero.
-fn zero_two(s: &[u64], cap: usize, n: usize) -> bool
-    requires { ⌜ length (now s) ≡ cap + cap ⌝ }
-    requires { ⌜ n ≤ cap ⌝ }
-    ensures { λ r. ⌜ r ≡ (packed unused cap n (part 0 cap (now (s .entry))) && packed unused cap n (part cap cap (now (s .entry)))) ⌝ }
-{
-    let end = cap + cap;
-    if util::zero_from(&s[..cap], n) {
-        return util::zero_from(&s[cap..end], n);
-    }
-    false
-}
-
 // ---- 16 bytes in two words
 
 // The bytes of a word.
@@ -71,12 +58,6 @@ const IN_ONE: u64 = WORD as u64;
 
 const IN_BOTH: u64 = PeerData::BYTES as u64;
 
-fn wide_word(x: u8) -> u64
-    ensures { λ r. ⌜ (r ≡ x) × (r < 256) ⌝ }
-{
-    x as u64
-}
-
 // The eight bytes from `at` on, lowest first.
 pub fn word_at(b: [u8; PeerData::BYTES], at: usize) -> u64
     requires { ⌜ at ≤ 8 ⌝ }
@@ -86,7 +67,7 @@ pub fn word_at(b: [u8; PeerData::BYTES], at: usize) -> u64
     let mut i: usize = WORD;
     while 0 < i {
         i -= 1;
-        r = wide_word(b[at + i]) + 256 * r;
+        r = b[at + i] as u64 + 256 * r;
     }
     r
 }
@@ -95,38 +76,18 @@ pub fn word_at(b: [u8; PeerData::BYTES], at: usize) -> u64
 pub fn bytes_of(w: u64, x: u64) -> [u8; PeerData::BYTES]
     ensures { λ r. ⌜ r ≡ word-bytes w x ⌝ }
 {
-    let w1 = w / 256;
-    let w2 = w1 / 256;
-    let w3 = w2 / 256;
-    let w4 = w3 / 256;
-    let w5 = w4 / 256;
-    let w6 = w5 / 256;
-    let w7 = w6 / 256;
-    let x1 = x / 256;
-    let x2 = x1 / 256;
-    let x3 = x2 / 256;
-    let x4 = x3 / 256;
-    let x5 = x4 / 256;
-    let x6 = x5 / 256;
-    let x7 = x6 / 256;
-    [
-        (w % 256) as u8,
-        (w1 % 256) as u8,
-        (w2 % 256) as u8,
-        (w3 % 256) as u8,
-        (w4 % 256) as u8,
-        (w5 % 256) as u8,
-        (w6 % 256) as u8,
-        (w7 % 256) as u8,
-        (x % 256) as u8,
-        (x1 % 256) as u8,
-        (x2 % 256) as u8,
-        (x3 % 256) as u8,
-        (x4 % 256) as u8,
-        (x5 % 256) as u8,
-        (x6 % 256) as u8,
-        (x7 % 256) as u8,
-    ]
+    let mut bytes = [0u8; PeerData::BYTES];
+    let mut low = w;
+    let mut high = x;
+    let mut i: usize = 0;
+    while i < WORD {
+        bytes[i] = (low % 256) as u8;
+        bytes[i + WORD] = (high % 256) as u8;
+        low = low / 256;
+        high = high / 256;
+        i += 1;
+    }
+    bytes
 }
 
 // ---- a map of numbers: the peers, their numbers, and then the count
@@ -154,7 +115,7 @@ pub fn get_number(m: &[u64], cap: usize, p: PeerId) -> Number
 {
     let end = cap + cap;
     let n = m[end] as usize;
-    let i = util::find(&m[..cap], n, p);
+    let i = util::find(m, n, p);
     if i < n {
         return Number::Is(m[cap + i]);
     }
@@ -167,7 +128,7 @@ pub fn remove_number(m: &mut [u64], cap: usize, p: PeerId)
 {
     let end = cap + cap;
     let n = m[end] as usize;
-    let i = util::find(&m[..cap], n, p);
+    let i = util::find(m, n, p);
     if i >= n {
         return;
     }
@@ -183,12 +144,12 @@ pub fn insert_number(m: &mut [u64], cap: usize, p: PeerId, x: u64)
 {
     let end = cap + cap;
     let n = m[end] as usize;
-    let i = util::find(&m[..cap], n, p);
+    let i = util::find(m, n, p);
     if i < n {
         m[cap + i] = x;
         return;
     }
-    let at = util::rank_of(&m[..cap], n, p);
+    let at = util::rank_of(m, n, p);
     util::put_in(&mut m[..cap], n, at, p);
     util::put_in(&mut m[cap..end], n, at, x);
     m[end] = (n + 1) as u64;
@@ -224,12 +185,7 @@ pub fn numbers_valid(m: &[u64], cap: usize) -> bool
     if n > cap {
         return false;
     }
-    if util::zero_from(&m[..cap], n) {
-        if util::zero_from(&m[cap..end], n) {
-            return util::rises(&m[..cap], n);
-        }
-    }
-    false
+    util::zero_from(m, n, cap) & util::zero_from(m, cap + n, end) & util::rises(m, n)
 }
 
 // ---- a map of data: the peers, the lengths, the low words, the high words, and then the count
@@ -260,7 +216,7 @@ pub fn get_data(m: &[u64], cap: usize, p: PeerId) -> PeerData
     let half = cap + cap;
     let end = half + half;
     let n = m[end] as usize;
-    let i = util::find(&m[..half], n, p);
+    let i = util::find(m, n, p);
     if i < n {
         let bytes = bytes_of(m[half + i], m[half + cap + i]);
         let len = m[cap + i] as u8;
@@ -282,20 +238,14 @@ pub fn holds_data(m: &[u64], cap: usize, p: PeerId, d: PeerData) -> bool
     let half = cap + cap;
     let end = half + half;
     let n = m[end] as usize;
-    let i = util::find(&m[..half], n, p);
+    let i = util::find(m, n, p);
     if i >= n {
-        return false;
-    }
-    if m[cap + i] != d.len as u64 {
         return false;
     }
     let b = d.bytes;
     let low = word_at(b, 0);
     let high = word_at(b, WORD);
-    if m[half + i] != low {
-        return false;
-    }
-    m[half + cap + i] == high
+    (m[cap + i] == d.len as u64) & (m[half + i] == low) & (m[half + cap + i] == high)
 }
 
 pub fn remove_data(m: &mut [u64], cap: usize, p: PeerId)
@@ -305,7 +255,7 @@ pub fn remove_data(m: &mut [u64], cap: usize, p: PeerId)
     let half = cap + cap;
     let end = half + half;
     let n = m[end] as usize;
-    let i = util::find(&m[..half], n, p);
+    let i = util::find(m, n, p);
     if i >= n {
         return;
     }
@@ -360,7 +310,9 @@ pub fn retain_data(m: &mut [u64], cap: usize, s: &[u64], scap: usize)
     requires { ⌜ ValidSet scap (now s) ⌝ }
     ensures { λ _. ⌜ HoldsDataWords cap (now (m .exit)) (retain (items-at scap (now (s .entry))) (data-map-at cap (now (m .entry)))) ⌝ }
 {
-    let mut n = count_data(m, cap);
+    let half = cap + cap;
+    let end = half + half;
+    let mut n = m[end] as usize;
     let mut i: usize = 0;
     while i < n {
         let p = m[i];
@@ -368,7 +320,7 @@ pub fn retain_data(m: &mut [u64], cap: usize, s: &[u64], scap: usize)
             i += 1;
         } else {
             remove_data(m, cap, p);
-            n = count_data(m, cap);
+            n = m[end] as usize;
         }
     }
 }
@@ -386,14 +338,14 @@ pub fn insert_data(m: &mut [u64], cap: usize, p: PeerId, d: PeerData)
     let b = d.bytes;
     let low = word_at(b, 0);
     let high = word_at(b, WORD);
-    let i = util::find(&m[..half], n, p);
+    let i = util::find(m, n, p);
     if i < n {
         m[cap + i] = d.len as u64;
         m[half + i] = low;
         m[half + cap + i] = high;
         return;
     }
-    let at = util::rank_of(&m[..half], n, p);
+    let at = util::rank_of(m, n, p);
     in_two(&mut m[..half], cap, n, at, p, d.len as u64);
     in_two(&mut m[half..end], cap, n, at, low, high);
     m[end] = (n + 1) as u64;
@@ -407,15 +359,7 @@ pub fn clear_data(m: &mut [u64], cap: usize)
     util::clear_from(m, 0);
 }
 
-// One more than the greatest number of k bytes.
-fn power(k: usize) -> u64
-    requires { ⌜ k < 8 ⌝ }
-    ensures { λ r. ⌜ r ≡ 256 ^ k ⌝ }
-{
-    1u64 << (8 * k)
-}
-
-// Whether this is an entry, of any words: the bytes past the length are zero.
+// Whether this is an entry, of any words: the bytes past the length are zero. A number of k bytes is below 2^(8 k).
 pub fn row_valid(l: u64, w: u64, x: u64) -> bool
     ensures { λ r. ⌜ r ≡ valid-entry (row l w x) ⌝ }
 {
@@ -423,10 +367,10 @@ pub fn row_valid(l: u64, w: u64, x: u64) -> bool
         return false;
     }
     if l < IN_ONE {
-        return (w < power(l as usize)) & (x == 0);
+        return (w < 1u64 << (8 * l)) & (x == 0);
     }
     if l < IN_BOTH {
-        return x < power(l as usize - WORD);
+        return x < 1u64 << (8 * (l - IN_ONE));
     }
     true
 }
@@ -442,18 +386,16 @@ pub fn data_valid(m: &[u64], cap: usize) -> bool
     if n > cap {
         return false;
     }
-    if zero_two(&m[..half], cap, n) {
-        if zero_two(&m[half..end], cap, n) {
-            let mut i: usize = 0;
-            while i < n {
-                if row_valid(m[cap + i], m[half + i], m[half + cap + i]) {
-                    i += 1;
-                } else {
-                    return false;
-                }
-            }
-            return util::rises(&m[..half], n);
-        }
+    let high = half + cap;
+    let mut ok = util::zero_from(m, n, cap)
+        & util::zero_from(m, cap + n, half)
+        & util::zero_from(m, half + n, high)
+        & util::zero_from(m, high + n, end)
+        & util::rises(m, n);
+    let mut i: usize = 0;
+    while i < n {
+        ok = ok & row_valid(m[cap + i], m[half + i], m[high + i]);
+        i += 1;
     }
-    false
+    ok
 }

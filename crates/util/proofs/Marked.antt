@@ -1,17 +1,18 @@
 -- The loop of `is_distinct`: none of the n words from place i on stands twice, and each has its mark. By the marks of scan.
 -- Assumes nothing.
-use Prim.Native.Nat.{ℕ, suc, _+_, _-_, _%_, _≤_, _<_}
+use Prim.Native.Nat.{ℕ, suc, _-_, _%_, _≤_, _<_}
 use mathlib.Core.Path.{_≡_, sym, ap, _∙_}
 use mathlib.Core.Bool.{Bool, true, false}
 use mathlib.Core.List.{List, [], _∷_}
 use native.Mathlib.Omega.{arith}
 use lib.ListN.{length, take, drop, getD, set, length-set, drop-of-length-le}
-use lib.Seq.{take-add, drop-at, slice-cons, length-take-le, getD-set-same}
+use lib.Seq.{slice-cons, length-take-le, getD-set-same}
 use Rattle.lists.specs.Lists.{mem, distinct}
 use Rattle.lists.specs.Tests.{every}
 use Rattle.lists.proofs.Choice.{split, clash}
 use Rattle.lists.proofs.Tests.{both-true}
 use Rattle.scan.proofs.Marks.{mark, unmarked, marks-kept, distinct-drop}
+use Rattle.util.proofs.Parts.{slice-lent}
 
 pub record Marking (n : ℕ) (s : List ℕ) (seen : List Bool) (i : ℕ) : Type 0 where
   pub low : i ≤ n
@@ -55,15 +56,8 @@ module _ (n : ℕ) (s : List ℕ) (seen : List Bool) (i : ℕ) (v : Marking n s 
 
   -- b says whether it is among the later ones, as the code lends them
   module _ (b : Bool) (e : b ≡ mem x (take (n - i) (drop i s))) where
-    lent : take (n - i) (drop i s) ≡ later
-    lent =
-        let k : i + (n - i) ≡ n = omega (arith, v .low) in
-        sym
-        (ap (λ (j : ℕ). drop i (take j s)) (sym k) ∙ ap (drop i) (take-add i (n - i) s)
-        ∙ drop-at (take i s) (take (n - i) (drop i s)) i (length-take-le i s (omega (arith, v .low, v .fits))))
-
     found : b ≡ mem x later
-    found = e ∙ ap (mem x) lent
+    found = e ∙ ap (mem x) (slice-lent i n s (v .low) (v .fits))
 
     pub mark-twice : b ≡ true → false ≡ distinct (take n s)
     unfolding distinct

@@ -5,7 +5,7 @@ use mathlib.Core.Path.{_≡_, sym, ap, _∙_}
 use mathlib.Core.List.{List, _++_}
 use native.Mathlib.Omega.{arith}
 use lib.ListN.{length, take, drop, getD, set, length-drop, take-append-drop}
-use lib.Seq.{take-at, drop-at, length-take-le, take-append-le, drop-append-le, drop-drop, drop-set-lt, drop-set-add, take-set-le, take-set-lt, getD-take, getD-drop}
+use lib.Seq.{take-at, drop-at, take-add, take-take, length-take-le, take-append-le, drop-append-le, drop-drop, drop-set-lt, drop-set-add, take-set-le, take-set-lt, getD-take, getD-drop}
 use borrow.Rule.Slice.PartMut.{putMid, drop-put, same-len-mid, mid-len}
 use Rattle.util.specs.Section.{part}
 
@@ -68,3 +68,25 @@ after-first n k xs ys h l = ap (take k) (drop-at ys (drop n xs) n l)
 pub part-set-before : (b k i v : ℕ) (xs : List ℕ) → i < b → part b k (set xs i v) ≡ part b k xs
 unfolding part
 part-set-before b k i v xs h = ap (take k) (drop-set-lt b xs i v h)
+
+-- the words from place b on of the first k, as the code lends them
+pub slice-lent : (b k : ℕ) (xs : List ℕ) → b ≤ k → k ≤ length xs → take (k - b) (drop b xs) ≡ drop b (take k xs)
+slice-lent b k xs h l =
+    let e : b + (k - b) ≡ k = omega arith in
+    sym
+    (ap (λ (j : ℕ). drop b (take j xs)) (sym e) ∙ ap (drop b) (take-add b (k - b) xs)
+    ∙ drop-at (take b xs) (take (k - b) (drop b xs)) b (length-take-le b xs (omega arith)))
+
+-- the words past the first j of a column
+pub part-past : (a k j : ℕ) (xs : List ℕ) → a + k ≤ length xs → drop (a + j) (take (a + k) xs) ≡ drop j (part a k xs)
+unfolding part
+part-past a k j xs h =
+    let e : a + k - a ≡ k = omega arith in
+    sym (drop-drop j a (take (a + k) xs)) ∙ ap (drop j) (sym (slice-lent a (a + k) xs (omega arith) h) ∙ ap (λ (i : ℕ). take i (drop a xs)) e)
+
+-- a column of a section
+pub part-part : (a k b j : ℕ) (xs : List ℕ) → b + j ≤ k → a + k ≤ length xs → part b j (part a k xs) ≡ part (a + b) j xs
+unfolding part
+part-part a k b j xs h l =
+    ap (take j) (sym (slice-lent b k (drop a xs) (omega arith) (omega (arith, length-drop a xs))) ∙ ap (take (k - b)) (drop-drop b a xs))
+    ∙ take-take j (k - b) (drop (a + b) xs) (omega arith)

@@ -88,15 +88,16 @@ pub fn put_in(s: &mut [u64], n: usize, i: usize, x: u64)
     }
 }
 
-// Whether the places from n on are zero.
-pub fn zero_from(s: &[u64], n: usize) -> bool
-    requires { ⌜ n ≤ length (now s) ⌝ }
-    ensures { λ r. ⌜ r ≡ every unused (drop n (now (s .entry))) ⌝ }
+// Whether the places from `from` on are zero, up to the place `end`.
+pub fn zero_from(s: &[u64], from: usize, end: usize) -> bool
+    requires { ⌜ from ≤ end ⌝ }
+    requires { ⌜ end ≤ length (now s) ⌝ }
+    ensures { λ r. ⌜ r ≡ every unused (drop from (take end (now (s .entry)))) ⌝ }
 {
     // Every word is looked at, so that the compiler makes vector code.
     let mut bits: u64 = 0;
-    let mut i = n;
-    while i < s.len() {
+    let mut i = from;
+    while i < end {
         bits = bits | s[i];
         i += 1;
     }
@@ -209,7 +210,7 @@ pub fn is_section(s: &[u64], cap: usize) -> bool
     if cap < n {
         return false;
     }
-    zero_from(&s[..cap], n)
+    zero_from(s, n, cap)
 }
 
 pub fn count(s: &[u64], cap: usize) -> usize

@@ -1,6 +1,4 @@
-use Rattle.util.specs.Section.{part}
-use Rattle.columns.specs.Columns.{head-of}
-use Rattle.columns.proofs.Data.{data-inside, data-count, len-byte, data-found, data-missing}
+use Rattle.columns.proofs.Data.{len-byte, data-found, data-missing}
 use borrow.Author.Needs.{needs}
 use Rattle.columns.proofs.get_data.Statement.{statement}
 use Rattle.columns.proofs.get_data.Tie as tie
@@ -17,13 +15,8 @@ mul-n c = search needs
 shared-slice-read-n : tie.Need-shared-slice-read-n
 shared-slice-read-n c = search needs
 
-slice-aggregate-find : tie.Need-slice-aggregate-find
-unfolding part
-slice-aggregate-find c = search data-inside
-
 find-requires : tie.Need-find-requires
-unfolding part
-find-requires c κs = search data-count
+find-requires c κs = search needs
 
 add-bytes-of : tie.Need-add-bytes-of
 add-bytes-of c = search needs
@@ -59,18 +52,15 @@ shared-slice-read-len : tie.Need-shared-slice-read-len
 shared-slice-read-len c = search needs
 
 cast-len : tie.Need-cast-len
-unfolding part head-of
 cast-len c = search len-byte
 
 returns : tie.Need-returns
-unfolding part head-of
 returns c = search data-found
 
 absent-requires : tie.Need-absent-requires
 absent-requires c κs = search needs
 
 returns-2 : tie.Need-returns-2
-unfolding part head-of
 returns-2 c = search data-missing
 
 pub get-data-spec : {M : Type 1} → statement M
@@ -81,7 +71,6 @@ get-data-spec =
     add-end
     mul-n
     shared-slice-read-n
-    slice-aggregate-find
     find-requires
     add-bytes-of
     mul-bytes-of

@@ -1,5 +1,5 @@
 use Rattle.util.specs.Section.{part}
-use Rattle.columns.proofs.Numbers.{number-inside, number-count, number-found, number-none}
+use Rattle.columns.proofs.Numbers.{number-found, number-none}
 use borrow.Author.Needs.{needs}
 use Rattle.columns.proofs.get_number.Statement.{statement}
 use Rattle.columns.proofs.get_number.Tie as tie
@@ -13,22 +13,17 @@ mul-n c = search needs
 shared-slice-read-n : tie.Need-shared-slice-read-n
 shared-slice-read-n c = search needs
 
-slice-aggregate-find : tie.Need-slice-aggregate-find
-unfolding part
-slice-aggregate-find c = search number-inside
-
 find-requires : tie.Need-find-requires
-unfolding part
-find-requires c κs = search number-count
+find-requires c κs = search needs
 
-add-t13 : tie.Need-add-t13
-add-t13 c = search needs
+add-t11 : tie.Need-add-t11
+add-t11 c = search needs
 
-mul-t14 : tie.Need-mul-t14
-mul-t14 c = search needs
+mul-t12 : tie.Need-mul-t12
+mul-t12 c = search needs
 
-shared-slice-read-t16 : tie.Need-shared-slice-read-t16
-shared-slice-read-t16 c = search needs
+shared-slice-read-t14 : tie.Need-shared-slice-read-t14
+shared-slice-read-t14 c = search needs
 
 returns : tie.Need-returns
 unfolding part
@@ -45,10 +40,9 @@ get-number-spec =
     add-end
     mul-n
     shared-slice-read-n
-    slice-aggregate-find
     find-requires
-    add-t13
-    mul-t14
-    shared-slice-read-t16
+    add-t11
+    mul-t12
+    shared-slice-read-t14
     returns
     returns-2)

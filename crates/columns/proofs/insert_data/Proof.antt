@@ -6,7 +6,7 @@ use lib.ListN.{length}
 use Rattle.lists.specs.Maps.{has}
 use Rattle.util.specs.Section.{part}
 use Rattle.columns.specs.Columns.{head-of, ValidDataWords, data-map-at}
-use Rattle.columns.proofs.Data.{data-inside, data-size, data-count, data-keyed, data-lens, store-2, store-3, data-room, tail-size, tail-lows, tail-highs, data-long, data-replaced, data-inserted}
+use Rattle.columns.proofs.Data.{data-inside, data-size, data-keyed, data-lens, store-2, store-3, data-room, tail-size, tail-lows, tail-highs, data-long, data-replaced, data-inserted}
 use borrow.Author.Needs.{needs}
 use Rattle.columns.proofs.insert_data.Statement.{statement}
 use Rattle.columns.proofs.insert_data.Tie as tie
@@ -58,16 +58,8 @@ word-at-requires c κs = search needs
 word-at-requires-2 : tie.Need-word-at-requires-2
 word-at-requires-2 c κs = search needs
 
-slice-reshare-prefix-find : tie.Need-slice-reshare-prefix-find
-slice-reshare-prefix-find c = search needs
-
-slice-aggregate-find : tie.Need-slice-aggregate-find
-unfolding part
-slice-aggregate-find c = search data-inside
-
 find-requires : tie.Need-find-requires
-unfolding part
-find-requires c κs = search data-count
+find-requires c κs = search needs
 
 cast-m : tie.Need-cast-m
 cast-m c = search needs
@@ -111,16 +103,8 @@ returns : tie.Need-returns
 unfolding part head-of
 returns c = search data-replaced
 
-slice-reshare-prefix-rank-of : tie.Need-slice-reshare-prefix-rank-of
-slice-reshare-prefix-rank-of c = search needs
-
-slice-aggregate-rank-of : tie.Need-slice-aggregate-rank-of
-unfolding part
-slice-aggregate-rank-of c = search data-inside
-
 rank-of-requires : tie.Need-rank-of-requires
-unfolding part
-rank-of-requires c κs = search data-count
+rank-of-requires c κs = search needs
 
 slice-relend-prefix-in-two : tie.Need-slice-relend-prefix-in-two
 slice-relend-prefix-in-two c = search needs
@@ -198,8 +182,6 @@ insert-data-spec =
     slice-read-n
     word-at-requires
     word-at-requires-2
-    slice-reshare-prefix-find
-    slice-aggregate-find
     find-requires
     cast-m
     add-m
@@ -214,8 +196,6 @@ insert-data-spec =
     slice-write-m-3
     same-length
     returns
-    slice-reshare-prefix-rank-of
-    slice-aggregate-rank-of
     rank-of-requires
     slice-relend-prefix-in-two
     slice-aggregate-in-two

@@ -1,6 +1,6 @@
 use Rattle.columns.specs.Columns.{ValidNumbers}
 use Rattle.util.specs.Section.{part}
-use Rattle.columns.proofs.Numbers.{number-inside, number-count, number-column, number-fits, number-room, numbers-long, second-filled, second-fits, number-replaced, number-inserted}
+use Rattle.columns.proofs.Numbers.{number-inside, number-column, number-fits, number-room, numbers-long, second-filled, second-fits, number-replaced, number-inserted}
 use borrow.Author.Needs.{needs}
 use Rattle.columns.proofs.insert_number.Statement.{statement}
 use Rattle.columns.proofs.insert_number.Tie as tie
@@ -22,16 +22,8 @@ mul-n c = search needs
 slice-read-n : tie.Need-slice-read-n
 slice-read-n c = search needs
 
-slice-reshare-prefix-find : tie.Need-slice-reshare-prefix-find
-slice-reshare-prefix-find c = search needs
-
-slice-aggregate-find : tie.Need-slice-aggregate-find
-unfolding part
-slice-aggregate-find c = search number-inside
-
 find-requires : tie.Need-find-requires
-unfolding part
-find-requires c κs = search number-count
+find-requires c κs = search needs
 
 add-m : tie.Need-add-m
 add-m c = search needs
@@ -46,19 +38,10 @@ same-length : tie.Need-same-length
 same-length c = search needs
 
 returns : tie.Need-returns
-unfolding part
 returns c = search number-replaced
 
-slice-reshare-prefix-rank-of : tie.Need-slice-reshare-prefix-rank-of
-slice-reshare-prefix-rank-of c = search needs
-
-slice-aggregate-rank-of : tie.Need-slice-aggregate-rank-of
-unfolding part
-slice-aggregate-rank-of c = search number-inside
-
 rank-of-requires : tie.Need-rank-of-requires
-unfolding part
-rank-of-requires c κs = search number-count
+rank-of-requires c κs = search needs
 
 slice-relend-prefix-put-in : tie.Need-slice-relend-prefix-put-in
 slice-relend-prefix-put-in c = search needs
@@ -115,16 +98,12 @@ insert-number-spec =
     add-end
     mul-n
     slice-read-n
-    slice-reshare-prefix-find
-    slice-aggregate-find
     find-requires
     add-m
     mul-m
     slice-write-m
     same-length
     returns
-    slice-reshare-prefix-rank-of
-    slice-aggregate-rank-of
     rank-of-requires
     slice-relend-prefix-put-in
     slice-aggregate-put-in

@@ -1,6 +1,6 @@
 use Rattle.util.specs.Section.{part}
 use Rattle.columns.specs.Columns.{head-of, ValidDataWords}
-use Rattle.columns.proofs.Data.{data-inside, data-size, data-count, data-keyed, data-lens, data-kept, tail-size, tail-lows, tail-highs, data-long, data-removed}
+use Rattle.columns.proofs.Data.{data-inside, data-size, data-keyed, data-lens, data-kept, tail-size, tail-lows, tail-highs, data-long, data-removed}
 use borrow.Author.Needs.{needs}
 use Rattle.columns.proofs.remove_data.Statement.{statement}
 use Rattle.columns.proofs.remove_data.Tie as tie
@@ -25,22 +25,13 @@ mul-n c = search needs
 slice-read-n : tie.Need-slice-read-n
 slice-read-n c = search needs
 
-slice-reshare-prefix-find : tie.Need-slice-reshare-prefix-find
-slice-reshare-prefix-find c = search needs
-
-slice-aggregate-find : tie.Need-slice-aggregate-find
-unfolding part
-slice-aggregate-find c = search data-inside
-
 find-requires : tie.Need-find-requires
-unfolding part
-find-requires c κs = search data-count
+find-requires c κs = search needs
 
 same-length : tie.Need-same-length
 same-length c = search needs
 
 returns : tie.Need-returns
-unfolding part head-of
 returns c = search data-kept
 
 slice-relend-prefix-out-two : tie.Need-slice-relend-prefix-out-two
@@ -102,8 +93,6 @@ remove-data-spec =
     add-end
     mul-n
     slice-read-n
-    slice-reshare-prefix-find
-    slice-aggregate-find
     find-requires
     same-length
     returns

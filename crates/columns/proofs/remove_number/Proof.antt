@@ -1,6 +1,6 @@
 use Rattle.columns.specs.Columns.{ValidNumbers}
 use Rattle.util.specs.Section.{part}
-use Rattle.columns.proofs.Numbers.{number-inside, number-count, number-column, numbers-long, second-filled, cut-kept, removed}
+use Rattle.columns.proofs.Numbers.{number-inside, number-column, numbers-long, second-filled, cut-kept, removed}
 use borrow.Author.Needs.{needs}
 use Rattle.columns.proofs.remove_number.Statement.{statement}
 use Rattle.columns.proofs.remove_number.Tie as tie
@@ -22,22 +22,13 @@ mul-n c = search needs
 slice-read-n : tie.Need-slice-read-n
 slice-read-n c = search needs
 
-slice-reshare-prefix-find : tie.Need-slice-reshare-prefix-find
-slice-reshare-prefix-find c = search needs
-
-slice-aggregate-find : tie.Need-slice-aggregate-find
-unfolding part
-slice-aggregate-find c = search number-inside
-
 find-requires : tie.Need-find-requires
-unfolding part
-find-requires c κs = search number-count
+find-requires c κs = search needs
 
 same-length : tie.Need-same-length
 same-length c = search needs
 
 returns : tie.Need-returns
-unfolding part
 returns c = search cut-kept
 
 slice-relend-prefix-take-out : tie.Need-slice-relend-prefix-take-out
@@ -95,8 +86,6 @@ remove-number-spec =
     add-end
     mul-n
     slice-read-n
-    slice-reshare-prefix-find
-    slice-aggregate-find
     find-requires
     same-length
     returns

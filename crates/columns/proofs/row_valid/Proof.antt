@@ -6,17 +6,20 @@ use Rattle.columns.proofs.row_valid.Tie as tie
 returns : tie.Need-returns
 returns c = search row-no
 
-power-requires : tie.Need-power-requires
-power-requires c κs = search needs
+mul-result : tie.Need-mul-result
+mul-result c = search needs
+
+shl-result : tie.Need-shl-result
+shl-result c = search needs
 
 returns-2 : tie.Need-returns-2
 returns-2 c = search row-short
 
-sub-power : tie.Need-sub-power
-sub-power c = search needs
+mul-result-2 : tie.Need-mul-result-2
+mul-result-2 c = search needs
 
-power-requires-2 : tie.Need-power-requires-2
-power-requires-2 c κs = search needs
+shl-result-2 : tie.Need-shl-result-2
+shl-result-2 c = search needs
 
 returns-3 : tie.Need-returns-3
 returns-3 c = search row-long
@@ -29,9 +32,10 @@ row-valid-spec =
     tie.close
     (tie.spec
     returns
-    power-requires
+    mul-result
+    shl-result
     returns-2
-    sub-power
-    power-requires-2
+    mul-result-2
+    shl-result-2
     returns-3
     returns-4)

@@ -5,6 +5,8 @@ use mathlib.Core.List.{List, _∷_}
 use native.Mathlib.Nat.{pow-suc, pow-le-pow-right}
 use native.Mathlib.Omega.{arith}
 use borrow.Author.Needs.{needs}
+use mir.Syntax.{w8}
+use mir.Val.{Fits}
 use lib.ListN.{length, getD, take, drop}
 use lib.Seq.{drop-cons}
 use Rattle.lists.specs.Bytes.{le}
@@ -17,12 +19,13 @@ record Inv (at : ℕ) (b : List ℕ) (r i : ℕ) : Type 0 where
   low : i ≤ 8
   at-most : at ≤ 8
   long : length b ≡ 16
+  each : (k : ℕ) → Fits w8 (getD b k 0)
   small : r < 256 ^ (8 - i)
   same : le (8 - i) r ≡ take (8 - i) (drop (at + i) b)
 
-start : (at : ℕ) (b : List ℕ) → at ≤ 8 → length b ≡ 16 → Inv at b 0 8
+start : (at : ℕ) (b : List ℕ) → at ≤ 8 → length b ≡ 16 → ((k : ℕ) → Fits w8 (getD b k 0)) → Inv at b 0 8
 unfolding le
-start at b h l = record { low = omega arith; at-most = h; long = l; small = omega arith; same = refl }
+start at b h l f = record { low = omega arith; at-most = h; long = l; each = f; small = omega arith; same = refl }
 
 module _ (at : ℕ) (b : List ℕ) (r i : ℕ) (v : Inv at b r i) where
   room : 0 < i → r < 72057594037927936
@@ -32,17 +35,23 @@ module _ (at : ℕ) (b : List ℕ) (r i : ℕ) (v : Inv at b r i) where
       let m : 256 ^ (8 - i) ≤ 256 ^ 7 = pow-le-pow-right p s in
       omega (arith, v .small, m)
 
-  next : (a : ℕ) → 0 < i → a ≡ getD b (at + (i - 1)) 0 → a < 256 → Inv at b (a + 256 * r) (i - 1)
-  next a h e s =
+  byte : 0 < i → getD b (at + (i - 1)) 0 < 256
+  byte h = v .each (at + (i - 1)) .fits
+
+  next : 0 < i → Inv at b (getD b (at + (i - 1)) 0 + 256 * r) (i - 1)
+  next h =
+      let a : ℕ = getD b (at + (i - 1)) 0 in
+      let s = byte h in
       let k : 8 - (i - 1) ≡ suc (8 - i) = omega (arith, v .low) in
       let p : suc (at + (i - 1)) ≡ at + i = omega arith in
-      let d : drop (at + (i - 1)) b ≡ a ∷ drop (at + i) b =
-      drop-cons b (at + (i - 1)) 0 (omega (arith, v .low, v .at-most, v .long)) ∙ λ j. sym e j ∷ drop (p j) b in
+      let d : drop (at + (i - 1)) b ≡ getD b (at + (i - 1)) 0 ∷ drop (at + i) b =
+      drop-cons b (at + (i - 1)) 0 (omega (arith, v .low, v .at-most, v .long)) ∙ ap (λ (j : ℕ). getD b (at + (i - 1)) 0 ∷ drop j b) p in
       record {
         low = omega (arith, v .low);
         at-most = v .at-most;
         long = v .long;
-        small = rw (k, pow-suc) (omega (arith, v .small));
+        each = v .each;
+        small = rw (k, pow-suc) (omega (arith, v .small, s));
         same = rw k (le-more (8 - i) a r s ∙ ap (λ (l : List ℕ). a ∷ l) (v .same) ∙ sym (ap (take (suc (8 - i))) d));
       }
 
@@ -64,20 +73,20 @@ loop-holds c = search (start, needs)
 sub-i : tie.Need-sub-i Inv-loop μ-loop
 sub-i c = search needs
 
-add-wide-word : tie.Need-add-wide-word Inv-loop μ-loop
-add-wide-word c = search needs
+add-r : tie.Need-add-r Inv-loop μ-loop
+add-r c = search needs
 
-array-read-wide-word : tie.Need-array-read-wide-word Inv-loop μ-loop
-array-read-wide-word c = search needs
+array-read-r : tie.Need-array-read-r Inv-loop μ-loop
+array-read-r c = search needs
 
-wide-word-requires : tie.Need-wide-word-requires Inv-loop μ-loop
-wide-word-requires c κs = search needs
+cast-r : tie.Need-cast-r Inv-loop μ-loop
+cast-r c = search needs
 
 mul-r : tie.Need-mul-r Inv-loop μ-loop
-mul-r c = omega (arith, room _ _ _ _ (c .before .before .loop .inv) (c .before .loop-test .taken))
+mul-r c = omega (arith, room _ _ _ _ (c .before .loop .inv) (c .loop-test .taken))
 
-add-r : tie.Need-add-r Inv-loop μ-loop
-add-r c = omega (arith, room _ _ _ _ (c .before .before .loop .inv) (c .before .loop-test .taken), c .wide-word .ensures .1)
+add-r-2 : tie.Need-add-r-2 Inv-loop μ-loop
+add-r-2 c = omega (arith, room _ _ _ _ (c .before .loop .inv) (c .loop-test .taken), byte _ _ _ _ (c .before .loop .inv) (c .loop-test .taken))
 
 loop-less : tie.Need-loop-less Inv-loop μ-loop
 loop-less c = search needs
@@ -96,11 +105,11 @@ word-at-spec =
     μ-loop
     loop-holds
     sub-i
-    add-wide-word
-    array-read-wide-word
-    wide-word-requires
-    mul-r
     add-r
+    array-read-r
+    cast-r
+    mul-r
+    add-r-2
     loop-less
     loop-again
     returns)

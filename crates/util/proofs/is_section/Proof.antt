@@ -1,5 +1,5 @@
 use Rattle.util.specs.Section.{part}
-use Rattle.util.proofs.Sets.{too-many, places-inside, places-count, few}
+use Rattle.util.proofs.Sets.{too-many, few}
 use borrow.Author.Needs.{needs}
 use Rattle.util.proofs.is_section.Statement.{statement}
 use Rattle.util.proofs.is_section.Tie as tie
@@ -13,13 +13,8 @@ shared-slice-read-n c = search needs
 returns : tie.Need-returns
 returns c = search too-many
 
-slice-aggregate-zero-from : tie.Need-slice-aggregate-zero-from
-unfolding part
-slice-aggregate-zero-from c = search places-inside
-
 zero-from-requires : tie.Need-zero-from-requires
-unfolding part
-zero-from-requires c κs = search places-count
+zero-from-requires c κs = (search needs, search needs)
 
 returns-2 : tie.Need-returns-2
 unfolding part
@@ -32,6 +27,5 @@ is-section-spec =
     mul-n
     shared-slice-read-n
     returns
-    slice-aggregate-zero-from
     zero-from-requires
     returns-2)
