@@ -3,7 +3,7 @@
 use Prim.Native.Nat.{ℕ, _+_, _-_, _≤_, _<_}
 use mathlib.Core.Path.{_≡_, refl, sym, ap, _∙_}
 use mathlib.Core.Bool.{Bool, true, false, not, _&&_, and-true, and-assoc}
-use mathlib.Core.List.{List, [], _∷_}
+use mathlib.Core.List.{List, [], _∷_, _++_}
 use native.Mathlib.Omega.{arith}
 use lib.ListN.{length, take, drop, getD}
 use lib.Seq.{take-take}
@@ -13,7 +13,7 @@ use Rattle.lists.specs.Lists.{mem, choose, distinct, rising, subset, disjoint}
 use Rattle.lists.specs.Maps.{keys, values, has}
 use Rattle.lists.specs.Tests.{All}
 use Rattle.lists.proofs.Choice.{split, or-true, and-right}
-use Rattle.lists.proofs.Tests.{both-true, true-rising, all-map}
+use Rattle.lists.proofs.Tests.{both-true, and-no, true-rising, all-map}
 use Rattle.lists.proofs.Entries.{entries-values}
 use Rattle.util.specs.Section.{part, items-at}
 use Rattle.util.proofs.Parts.{part-read}
@@ -28,13 +28,13 @@ use Rattle.peer.proofs.Data.{length-bytes}
 use Rattle.peer.proofs.Maps.{length-entry}
 use Rattle.protocol.specs.Rules.{all-short, short-data, limit-ok, settings-rule, repeats-rule, order-rule, capacity-rule, views-rule, alive-rule, few-rule, joins-rule, numbers-rule, self-rule, room-rule, data-rule, limit-rule, interval-rule, width-rule, held-rule, rules, station-ok}
 use Rattle.protocol.specs.Rules as R
-use Rattle.protocol.specs.Station.{Station, top-passes}
+use Rattle.protocol.specs.Station.{Station, top-passes, data-peers}
 use Rattle.state.specs.Layout as layout
 use Rattle.state.specs.Unpack.{settings-at, limit-at, limit-formed, refill-in, station-of, unpack}
 use Rattle.state.proofs.Memory.{two-limit}
 use Rattle.state.proofs.Access.{count-active, count-passive}
 use Rattle.rules.specs.Ok.{packed-ok, state-ok}
-use Rattle.rules.proofs.Shape.{ok-shape, ok-active, ok-passive, ok-bootstrap, ok-joins}
+use Rattle.rules.proofs.Shape.{ok-shape, ok-active, ok-passive, ok-alive, ok-bootstrap, ok-joins}
 use Rattle.rules.proofs.Under.{peers-lent}
 use Rattle.rules.proofs.Widths.{width-is}
 
@@ -68,12 +68,7 @@ repeats-is : (xs : List ℕ) (a b c d : Bool) → a ≡ distinct (items-at 8 (la
 unfolding repeats-rule unpack station-of
 repeats-is xs a b c d p q r s = λ i. p i && (q i && (r i && s i))
 
-pub views-is : (xs : List ℕ) (a b c : Bool) → a ≡ disjoint (items-at 8 (layout.active-part xs)) (items-at 32 (layout.passive-part xs)) → b ≡ mem (layout.me xs) (items-at 8 (layout.active-part xs)) → c ≡ mem (layout.me xs) (items-at 32 (layout.passive-part xs))
-    → (a && (not b && not c)) ≡ views-rule (unpack xs)
-unfolding views-rule unpack station-of
-views-is xs a b c p q r = λ i. p i && (not (q i) && not (r i))
-
--- ---- the joins, as the code lends them
+-- ---- the lists, as the code lends them
 
 -- a section's words in use, the count read where it stands
 count-lent : (a k n : ℕ) (xs : List ℕ) → n < k → getD (part a k xs) n 0 ≤ n → part a (a + getD xs (a + n) 0 - a) xs ≡ take (getD (part a k xs) n 0) (part a k xs)
@@ -92,6 +87,42 @@ module _ (xs : List ℕ) (e : packed-ok xs ≡ true) where
   pub few-active : getD xs 30 0 ≤ 8
   few-active = omega (arith, part-read 22 9 8 xs (omega arith), ok-active xs e .fits)
 
+  pub few-passive : getD xs 63 0 ≤ 32
+  few-passive = omega (arith, part-read 31 33 32 xs (omega arith), ok-passive xs e .fits)
+
+  pub few-marks : getD xs 96 0 ≤ 32
+  few-marks = omega (arith, part-read 64 33 32 xs (omega arith), ok-alive xs e .fits)
+
+  active-lent : part 22 (22 + getD xs 30 0 - 22) xs ≡ items-at 8 (layout.active-part xs)
+  active-lent = count-lent 22 9 8 xs (omega arith) (ok-active xs e .fits) ∙ lent 8 _ (ok-active xs e)
+
+  passive-lent : part 31 (31 + getD xs 63 0 - 31) xs ≡ items-at 32 (layout.passive-part xs)
+  passive-lent = count-lent 31 33 32 xs (omega arith) (ok-passive xs e .fits) ∙ lent 32 _ (ok-passive xs e)
+
+  marks-lent : part 64 (64 + getD xs 96 0 - 64) xs ≡ items-at 32 (layout.alive-part xs)
+  marks-lent = count-lent 64 33 32 xs (omega arith) (ok-alive xs e .fits) ∙ lent 32 _ (ok-alive xs e)
+
+  views-is : (a b c : Bool) → a ≡ disjoint (part 22 (22 + getD xs 30 0 - 22) xs) (part 31 (31 + getD xs 63 0 - 31) xs) → b ≡ mem (layout.me xs) (part 22 (22 + getD xs 30 0 - 22) xs) → c ≡ mem (layout.me xs) (part 31 (31 + getD xs 63 0 - 31) xs)
+      → ((a && not b) && not c) ≡ views-rule (unpack xs)
+  unfolding views-rule unpack station-of
+  views-is a b c p q r =
+      and-assoc a (not b) (not c)
+      ∙ (λ i. (p ∙ (λ j. disjoint (active-lent j) (passive-lent j))) i && (not ((q ∙ ap (mem (layout.me xs)) active-lent) i) && not ((r ∙ ap (mem (layout.me xs)) passive-lent) i)))
+
+  alive-is : (d : Bool) → d ≡ subset (part 64 (64 + getD xs 96 0 - 64) xs) (part 31 (31 + getD xs 63 0 - 31) xs) → d ≡ alive-rule (unpack xs)
+  unfolding alive-rule unpack station-of
+  alive-is d p = p ∙ (λ j. subset (marks-lent j) (passive-lent j))
+
+  held-is : (k : Bool) → k ≡ subset (keys (data-map-at 80 (layout.peer-data-part xs))) (items-at 8 (layout.active-part xs) ++ (items-at 32 (layout.passive-part xs) ++ keys (numbers-at 32 (layout.requests-part xs)))) → k ≡ held-rule (unpack xs)
+  unfolding held-rule unpack station-of data-peers
+  held-is k p = p
+
+  pub views-are : (a b c d k : Bool) → a ≡ disjoint (part 22 (22 + getD xs 30 0 - 22) xs) (part 31 (31 + getD xs 63 0 - 31) xs) → b ≡ mem (layout.me xs) (part 22 (22 + getD xs 30 0 - 22) xs) → c ≡ mem (layout.me xs) (part 31 (31 + getD xs 63 0 - 31) xs)
+      → d ≡ subset (part 64 (64 + getD xs 96 0 - 64) xs) (part 31 (31 + getD xs 63 0 - 31) xs) → k ≡ subset (keys (data-map-at 80 (layout.peer-data-part xs))) (items-at 8 (layout.active-part xs) ++ (items-at 32 (layout.passive-part xs) ++ keys (numbers-at 32 (layout.requests-part xs))))
+      → ((((a && not b) && not c) && d) && k) ≡ (views-rule (unpack xs) && (alive-rule (unpack xs) && held-rule (unpack xs)))
+  views-are a b c d k p q r s t =
+      and-assoc ((a && not b) && not c) d k ∙ (λ i. views-is a b c p q r i && (alive-is d s i && held-is k t i))
+
   joins-lent : part 213 (213 + getD xs 229 0 - 213) xs ≡ keys (numbers-at 8 (layout.joins-part xs))
   joins-lent = count-lent 213 17 16 xs (omega arith) (omega (arith, ok-joins xs e .fits)) ∙ peers-lent 8 _ (ok-joins xs e)
 
@@ -106,9 +137,8 @@ module _ (xs : List ℕ) (e : packed-ok xs ≡ true) where
   unfolding joins-rule unpack station-of has
   joins-are a b c p q r =
       let boot = count-lent 195 9 8 xs (omega arith) (ok-bootstrap xs e .fits) ∙ lent 8 _ (ok-bootstrap xs e) in
-      let active = count-lent 22 9 8 xs (omega arith) (ok-active xs e .fits) ∙ lent 8 _ (ok-active xs e) in
       and-assoc a b (not c)
-      ∙ (λ i. (p ∙ (λ j. subset (joins-lent j) (boot j))) i && ((q ∙ (λ j. disjoint (joins-lent j) (active j))) i && not ((r ∙ ap (mem (layout.me xs)) joins-lent) i)))
+      ∙ (λ i. (p ∙ (λ j. subset (joins-lent j) (boot j))) i && ((q ∙ (λ j. disjoint (joins-lent j) (active-lent j))) i && not ((r ∙ ap (mem (layout.me xs)) joins-lent) i)))
 
 -- ---- the limit
 
@@ -199,30 +229,42 @@ module _ (xs : List ℕ) where
     broken t = rw (← e, failed b t)
 
 -- three rules are left out where they hold
+-- three tests that stand behind the others
+behind : (v m r h : Bool) → (v && (m && (r && h))) ≡ (r && (v && (m && h)))
+behind true true r h = refl
+behind true false r h = sym (and-no r)
+behind false m r h = sym (and-no r)
+
 pub rules-left : (g : Station) → few-rule g ≡ true → room-rule g ≡ true → data-rule g ≡ true
     → station-ok g ≡ (settings-rule g && (repeats-rule g && (order-rule g && (capacity-rule g && (views-rule g && (alive-rule g && (joins-rule g && (numbers-rule g && (self-rule g && (limit-rule g && (interval-rule g && (width-rule g && held-rule g))))))))))))
 unfolding station-ok rules R.all-hold
 rules-left g f a b = rw (f, a, b, and-true (held-rule g))
 
-rules-are : (xs : List ℕ) → packed-ok xs ≡ true → (a b c d e f g h k l m n o : Bool) → a ≡ settings-rule (unpack xs) → b ≡ repeats-rule (unpack xs) → c ≡ order-rule (unpack xs) → d ≡ capacity-rule (unpack xs)
-    → e ≡ views-rule (unpack xs) → f ≡ alive-rule (unpack xs) → g ≡ joins-rule (unpack xs) → h ≡ numbers-rule (unpack xs) → k ≡ self-rule (unpack xs) → l ≡ limit-rule (unpack xs)
-    → m ≡ interval-rule (unpack xs) → n ≡ width-rule (unpack xs) → o ≡ held-rule (unpack xs)
-    → (a && (b && (c && (d && (e && (f && (g && (h && (k && (l && (m && (n && o)))))))))))) ≡ station-ok (unpack xs)
-rules-are xs t a b c d e f g h k l m n o p₁ p₂ p₃ p₄ p₅ p₆ p₇ p₈ p₉ p₁₀ p₁₁ p₁₂ p₁₃ =
-    (λ i. p₁ i && (p₂ i && (p₃ i && (p₄ i && (p₅ i && (p₆ i && (p₇ i && (p₈ i && (p₉ i && (p₁₀ i && (p₁₁ i && (p₁₂ i && p₁₃ i))))))))))))
-    ∙ sym (rules-left (unpack xs) (few-held xs t) (room-held xs t) (data-held xs t))
+-- the rules on the views come last
+rules-last : (g : Station) → (settings-rule g && (repeats-rule g && (order-rule g && (capacity-rule g && (views-rule g && (alive-rule g && (joins-rule g && (numbers-rule g && (self-rule g && (limit-rule g && (interval-rule g && (width-rule g && held-rule g))))))))))))
+    ≡ (settings-rule g && (repeats-rule g && (order-rule g && (capacity-rule g && ((joins-rule g && (numbers-rule g && (self-rule g && (limit-rule g && (interval-rule g && width-rule g))))) && (views-rule g && (alive-rule g && held-rule g)))))))
+rules-last g =
+    ap (λ (b : Bool). settings-rule g && (repeats-rule g && (order-rule g && (capacity-rule g && b))))
+    (ap (λ (b : Bool). views-rule g && (alive-rule g && b)) (sym (simp and-assoc)) ∙ behind (views-rule g) (alive-rule g) (joins-rule g && (numbers-rule g && (self-rule g && (limit-rule g && (interval-rule g && width-rule g))))) (held-rule g))
+
+rules-are : (xs : List ℕ) → packed-ok xs ≡ true → (a b c d g h k l m n v : Bool) → a ≡ settings-rule (unpack xs) → b ≡ repeats-rule (unpack xs) → c ≡ order-rule (unpack xs) → d ≡ capacity-rule (unpack xs)
+    → g ≡ joins-rule (unpack xs) → h ≡ numbers-rule (unpack xs) → k ≡ self-rule (unpack xs) → l ≡ limit-rule (unpack xs)
+    → m ≡ interval-rule (unpack xs) → n ≡ width-rule (unpack xs) → v ≡ (views-rule (unpack xs) && (alive-rule (unpack xs) && held-rule (unpack xs)))
+    → (a && (b && (c && (d && ((g && (h && (k && (l && (m && n))))) && v))))) ≡ station-ok (unpack xs)
+rules-are xs t a b c d g h k l m n v p₁ p₂ p₃ p₄ p₅ p₆ p₇ p₈ p₉ p₁₀ p₁₁ =
+    (λ i. p₁ i && (p₂ i && (p₃ i && (p₄ i && ((p₅ i && (p₆ i && (p₇ i && (p₈ i && (p₉ i && p₁₀ i))))) && p₁₁ i)))))
+    ∙ sym (rules-left (unpack xs) (few-held xs t) (room-held xs t) (data-held xs t) ∙ rules-last (unpack xs))
 
 -- the tests one after another, as the code has them
-pub tests-are : (xs : List ℕ) → packed-ok xs ≡ true → (s a p b r k f v m j n h o : Bool) → s ≡ settings-rule (unpack xs)
+pub tests-are : (xs : List ℕ) → packed-ok xs ≡ true → (s a p b r k f j n h v : Bool) → s ≡ settings-rule (unpack xs)
     → a ≡ distinct (items-at 8 (layout.active-part xs)) → p ≡ distinct (items-at 32 (layout.passive-part xs)) → b ≡ distinct (items-at 8 (layout.bootstrap-part xs)) → r ≡ distinct (items-at 8 (layout.recent-part xs))
-    → k ≡ rising (items-at 32 (layout.alive-part xs)) → f ≡ rising (items-at 32 (layout.refused-part xs))
-    → v ≡ views-rule (unpack xs) → m ≡ alive-rule (unpack xs) → j ≡ joins-rule (unpack xs) → n ≡ numbers-rule (unpack xs)
-    → h ≡ has (layout.me xs) (data-map-at 80 (layout.peer-data-part xs)) → o ≡ held-rule (unpack xs)
-    → (s && a && p && b && r && k && f && leb (getD xs 30 0) (layout.active-view-capacity xs) && leb (getD xs 63 0) (layout.passive-view-capacity xs) && v && m && j && n && not h
+    → k ≡ rising (items-at 32 (layout.alive-part xs)) → f ≡ rising (items-at 32 (layout.refused-part xs)) → j ≡ joins-rule (unpack xs) → n ≡ numbers-rule (unpack xs)
+    → h ≡ has (layout.me xs) (data-map-at 80 (layout.peer-data-part xs)) → v ≡ (views-rule (unpack xs) && (alive-rule (unpack xs) && held-rule (unpack xs)))
+    → (s && a && p && b && r && k && f && leb (getD xs 30 0) (layout.active-view-capacity xs) && leb (getD xs 63 0) (layout.passive-view-capacity xs) && j && n && not h
     && leb (layout.refill-requests xs) 3 && leb 1 (layout.next-shuffle-interval xs) && leb (layout.next-shuffle-interval xs) (layout.shuffle-interval xs)
-    && leb (layout.passes-alone xs) top-passes && leb (layout.passes-short xs) top-passes && o)
+    && leb (layout.passes-alone xs) top-passes && leb (layout.passes-short xs) top-passes && v)
     ≡ state-ok xs
 unfolding state-ok
-tests-are xs t s a p b r k f v m j n h o e₁ e₂ e₃ e₄ e₅ e₆ e₇ e₈ e₉ e₁₀ e₁₁ e₁₂ e₁₃ =
-    rw t (simp and-assoc (simp and-assoc at (rules-are xs t _ _ _ _ _ _ _ _ _ _ _ _ _ e₁ (repeats-is xs a p b r e₂ e₃ e₄ e₅) (order-is xs t k f e₆ e₇) (capacity-is xs t) e₈ e₉ e₁₀ e₁₁
-    (self-is xs h e₁₂) (limit-is xs t) (interval-is xs) (width-is xs t) e₁₃)))
+tests-are xs t s a p b r k f j n h v e₁ e₂ e₃ e₄ e₅ e₆ e₇ e₈ e₉ e₁₀ e₁₁ =
+    rw t (simp and-assoc (simp and-assoc at (rules-are xs t _ _ _ _ _ _ _ _ _ _ _ e₁ (repeats-is xs a p b r e₂ e₃ e₄ e₅) (order-is xs t k f e₆ e₇) (capacity-is xs t) e₈ e₉
+    (self-is xs h e₁₀) (limit-is xs t) (interval-is xs) (width-is xs t) e₁₁)))

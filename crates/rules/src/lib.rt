@@ -4,7 +4,7 @@ use state::RefillLimit;
 use timing::Config;
 use timing::Timing;
 ghost use mathlib.Core.Path.{_≡_};
-ghost use mathlib.Core.Bool.{true};
+ghost use mathlib.Core.Bool.{true, _&&_};
 ghost use lib.ListN.{length};
 ghost use Rattle.peer.specs.Maps.{numbers-under};
 ghost use Rattle.columns.specs.Columns.{numbers-at, ValidNumbers};
@@ -98,35 +98,29 @@ fn settings_rule(st: &[u64]) -> bool
         & (st[Layout::NEIGHBOR_REQUEST_TIMEOUT] <= TIME_TOP)
 }
 
-// "views as in demand 3": disjoint and without the station itself
+// "views as in demand 3": disjoint and without the station itself; and the rules that hold other lists against the views.
 fn views_rule(st: &[u64]) -> bool
     requires { ⌜ length (now st) ≡ words ⌝ }
     requires { ⌜ packed-ok (now st) ≡ true ⌝ }
-    ensures { λ r. ⌜ r ≡ views-rule (unpack (now (st .entry))) ⌝ }
+    ensures { λ r. ⌜ r ≡ (views-rule (unpack (now (st .entry))) && (alive-rule (unpack (now (st .entry))) && held-rule (unpack (now (st .entry))))) ⌝ }
 {
     let me = st[Layout::ME];
-    util::is_disjoint(
-        &st[Layout::ACTIVE..Layout::ACTIVE_END],
-        Layout::FEW,
-        &st[Layout::PASSIVE..Layout::PASSIVE_END],
-        Layout::ALL,
-    )
-        & (!util::contains(&st[Layout::ACTIVE..Layout::ACTIVE_END], Layout::FEW, me)
-            & !util::contains(&st[Layout::PASSIVE..Layout::PASSIVE_END], Layout::ALL, me))
-}
-
-// "alive marks passive"
-fn alive_rule(st: &[u64]) -> bool
-    requires { ⌜ length (now st) ≡ words ⌝ }
-    requires { ⌜ packed-ok (now st) ≡ true ⌝ }
-    ensures { λ r. ⌜ r ≡ alive-rule (unpack (now (st .entry))) ⌝ }
-{
-    util::is_subset(
-        &st[Layout::MARKS..Layout::MARKS_END],
-        Layout::ALL,
-        &st[Layout::PASSIVE..Layout::PASSIVE_END],
-        Layout::ALL,
-    )
+    let active = Layout::ACTIVE + st[Layout::ACTIVE_COUNT] as usize;
+    let passive = Layout::PASSIVE + st[Layout::PASSIVE_COUNT] as usize;
+    let marks = Layout::MARKS + st[Layout::MARKS_COUNT] as usize;
+    scan::disjoint(&st[Layout::ACTIVE..active], &st[Layout::PASSIVE..passive])
+        & !scan::is_in(&st[Layout::ACTIVE..active], me)
+        & !scan::is_in(&st[Layout::PASSIVE..passive], me)
+        // "alive marks passive"
+        & scan::subset(&st[Layout::MARKS..marks], &st[Layout::PASSIVE..passive])
+        // 02, S-5: no data is held of a peer in neither view and without an open request.
+        & columns::data_known(
+            &st[Layout::HELD..Layout::HELD_END],
+            Layout::DATA_CAP,
+            &st[Layout::ACTIVE..Layout::ACTIVE_END],
+            &st[Layout::PASSIVE..Layout::PASSIVE_END],
+            &st[Layout::ASKED..Layout::ASKED_END],
+        )
 }
 
 // "pending joins bootstrap, not active, not self"
@@ -167,21 +161,6 @@ fn numbers_rule(st: &[u64]) -> bool
         )
 }
 
-// 02, S-5: no data is held of a peer in neither view and without an open request.
-fn held_rule(st: &[u64]) -> bool
-    requires { ⌜ length (now st) ≡ words ⌝ }
-    requires { ⌜ packed-ok (now st) ≡ true ⌝ }
-    ensures { λ r. ⌜ r ≡ held-rule (unpack (now (st .entry))) ⌝ }
-{
-    columns::data_known(
-        &st[Layout::HELD..Layout::HELD_END],
-        Layout::DATA_CAP,
-        &st[Layout::ACTIVE..Layout::ACTIVE_END],
-        &st[Layout::PASSIVE..Layout::PASSIVE_END],
-        &st[Layout::ASKED..Layout::ASKED_END],
-    )
-}
-
 // Whether the words keep every station rule, unused places included; of any words, however many. That sets and maps have room, bootstrap and recent peers are few
 // and data are short is so of all well formed words.
 pub fn is_ok(st: &[u64]) -> bool
@@ -206,8 +185,6 @@ pub fn is_ok(st: &[u64]) -> bool
         // "views as in demand 3": within capacity.
         & (st[Layout::ACTIVE_COUNT] <= st[Layout::ACTIVE_VIEW_CAPACITY])
         & (st[Layout::PASSIVE_COUNT] <= st[Layout::PASSIVE_VIEW_CAPACITY])
-        & views_rule(st)
-        & alive_rule(st)
         & joins_rule(st)
         & numbers_rule(st)
         // "no data held under self"
@@ -220,5 +197,5 @@ pub fn is_ok(st: &[u64]) -> bool
         // "the two pass counts 32" bits. Peers and counters have 64 bits, and data is bytes, whatever the words are.
         & (st[Layout::PASSES_ALONE] <= state::TOP_PASSES)
         & (st[Layout::PASSES_SHORT] <= state::TOP_PASSES)
-        & held_rule(st)
+        & views_rule(st)
 }

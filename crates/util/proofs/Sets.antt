@@ -13,7 +13,7 @@ use lib.Dec.{eqb, leb}
 use borrow.Author.Tests.{lt-leb, le-leb, leb-true, eq-eqb, eqb-true}
 use borrow.Rule.Slice.PartMut.{putMid}
 use Rattle.lists.specs.Array.{pad}
-use Rattle.lists.specs.Lists.{null, index-of, rank, remove, shift-remove, swap-remove, insert-at, insert, without, without-all, renew, mem, distinct, rising, subset, disjoint}
+use Rattle.lists.specs.Lists.{null, index-of, rank, remove, shift-remove, swap-remove, insert-at, insert, without, without-all, renew, mem, distinct, rising}
 use Rattle.lists.specs.Tests.{every, packed}
 use Rattle.lists.proofs.Array.{length-pad, getD-pad, set-pad, push-pad, pop-pad, length-shift-remove, length-insert-at}
 use Rattle.lists.proofs.Choice.{split, and-left, and-right}
@@ -246,13 +246,6 @@ module _ (n : ℕ) (s : List ℕ) (v : ValidSet n s) where
 
   pub lent-rising : (r : Bool) → r ≡ rising (take (getD s n 0) s) → r ≡ rising (items-at n s)
   lent-rising r e = e ∙ ap rising (lent n s v)
-
-  module _ (m : ℕ) (t : List ℕ) (w : ValidSet m t) (r : Bool) where
-    pub lent-subset : r ≡ subset (take (getD s n 0) s) (take (getD t m 0) t) → r ≡ subset (items-at n s) (items-at m t)
-    lent-subset e = e ∙ (λ i. subset (lent n s v i) (lent m t w i))
-
-    pub lent-disjoint : r ≡ disjoint (take (getD s n 0) s) (take (getD t m 0) t) → r ≡ disjoint (items-at n s) (items-at m t)
-    lent-disjoint e = e ∙ (λ i. disjoint (lent n s v i) (lent m t w i))
 
 -- ---- the changes
 

@@ -5,7 +5,7 @@ ghost use mathlib.Core.List.{[], _∷_, _++_};
 ghost use Prim.Native.Nat.{_+_, _≤_, _<_};
 ghost use lib.ListN.{length, take, drop, getD};
 ghost use Rattle.lists.specs.Array.{pad};
-ghost use Rattle.lists.specs.Lists.{null, mem, index-of, rank, shift-remove, swap-remove, remove, insert-at, insert, without, without-all, renew, distinct, rising, subset, disjoint};
+ghost use Rattle.lists.specs.Lists.{null, mem, index-of, rank, shift-remove, swap-remove, remove, insert-at, insert, without, without-all, renew, distinct, rising};
 ghost use Rattle.lists.specs.Tests.{every};
 ghost use Rattle.util.specs.Chances.{pick-draws, pick, shuffle, shuffle-draws};
 ghost use Rattle.scan.specs.Words.{unused};
@@ -282,28 +282,6 @@ pub fn is_rising(s: &[u64], cap: usize) -> bool
 {
     let n = s[cap] as usize;
     rises(s, n)
-}
-
-// Whether every item of a is one of b.
-pub fn is_subset(a: &[u64], acap: usize, b: &[u64], bcap: usize) -> bool
-    requires { ⌜ ValidSet acap (now a) ⌝ }
-    requires { ⌜ ValidSet bcap (now b) ⌝ }
-    ensures { λ r. ⌜ r ≡ subset (items-at acap (now (a .entry))) (items-at bcap (now (b .entry))) ⌝ }
-{
-    let m = a[acap] as usize;
-    let n = b[bcap] as usize;
-    scan::subset(&a[..m], &b[..n])
-}
-
-// Whether no item of a is one of b.
-pub fn is_disjoint(a: &[u64], acap: usize, b: &[u64], bcap: usize) -> bool
-    requires { ⌜ ValidSet acap (now a) ⌝ }
-    requires { ⌜ ValidSet bcap (now b) ⌝ }
-    ensures { λ r. ⌜ r ≡ disjoint (items-at acap (now (a .entry))) (items-at bcap (now (b .entry))) ⌝ }
-{
-    let m = a[acap] as usize;
-    let n = b[bcap] as usize;
-    scan::disjoint(&a[..m], &b[..n])
 }
 
 // No items, whatever the words were.

@@ -22,14 +22,14 @@ rising-to-distinct c = c .before .before .before .before .before .before
 abbrev rising-to-formed : tie.After-is-rising → tie.Else2
 rising-to-formed c = distinct-to-formed (rising-to-distinct c)
 
-abbrev views-to-rising : tie.After-views-rule → tie.After-is-rising
-views-to-rising c = c .before .before .before .before .before .before .before
+abbrev joins-to-rising : tie.After-joins-rule → tie.After-is-rising
+joins-to-rising c = c .before .before .before .before .before .before .before
 
-abbrev views-to-formed : tie.After-views-rule → tie.Else2
-views-to-formed c = rising-to-formed (views-to-rising c)
+abbrev joins-to-formed : tie.After-joins-rule → tie.Else2
+joins-to-formed c = rising-to-formed (joins-to-rising c)
 
-abbrev data-to-views : tie.After-contains-data → tie.After-views-rule
-data-to-views c = c .before .before .before .before .before
+abbrev data-to-joins : tie.After-contains-data → tie.After-joins-rule
+data-to-joins c = c .before .before .before
 
 returns : tie.Need-returns
 returns c = search other-length
@@ -136,17 +136,11 @@ shared-slice-read-result-3 c = search needs
 shared-slice-read-result-4 : tie.Need-shared-slice-read-result-4
 shared-slice-read-result-4 c = search needs
 
-views-rule-requires : tie.Need-views-rule-requires
-views-rule-requires c κs = search (formed (rising-to-formed (c .before .before .before .before .before .before)), needs)
-
-alive-rule-requires : tie.Need-alive-rule-requires
-alive-rule-requires c κs = search (formed (views-to-formed c), needs)
-
 joins-rule-requires : tie.Need-joins-rule-requires
-joins-rule-requires c κs = search (formed (views-to-formed (c .before)), needs)
+joins-rule-requires c κs = search (formed (rising-to-formed (c .before .before .before .before .before .before)), needs)
 
 numbers-rule-requires : tie.Need-numbers-rule-requires
-numbers-rule-requires c κs = search (formed (views-to-formed (c .before .before)), needs)
+numbers-rule-requires c κs = search (formed (joins-to-formed c), needs)
 
 sub-contains-data : tie.Need-sub-contains-data
 sub-contains-data c = search needs
@@ -159,7 +153,7 @@ part-contains-data-end c = search needs
 
 contains-data-requires : tie.Need-contains-data-requires
 unfolding part
-contains-data-requires c κs = search (of-ok, formed (views-to-formed (c .before .before .before .before)), needs)
+contains-data-requires c κs = search (of-ok, formed (joins-to-formed (c .before .before)), needs)
 
 shared-slice-read-result-5 : tie.Need-shared-slice-read-result-5
 shared-slice-read-result-5 c = search needs
@@ -182,19 +176,19 @@ shared-slice-read-result-9 c = search needs
 shared-slice-read-result-10 : tie.Need-shared-slice-read-result-10
 shared-slice-read-result-10 c = search needs
 
-held-rule-requires : tie.Need-held-rule-requires
-held-rule-requires c κs = search (formed (views-to-formed (data-to-views (c .before .before .before .before .before .before))), needs)
+views-rule-requires : tie.Need-views-rule-requires
+views-rule-requires c κs = search (formed (joins-to-formed (data-to-joins (c .before .before .before .before .before .before))), needs)
 
 returns-3 : tie.Need-returns-3
 unfolding part
 returns-3 c =
     let held = c .before .before .before .before .before .before .before in
-    let views = data-to-views held in
-    let rising = views-to-rising views in
+    let joins = data-to-joins held in
+    let rising = joins-to-rising joins in
     let twice = rising-to-distinct rising in
-    tests-are _ (formed (distinct-to-formed twice)) _ _ _ _ _ _ _ _ _ _ _ _ _ (twice .before .before .before .before .settings-rule .ensures) (twice .before .before .is-distinct .ensures) (twice .is-distinct2 .ensures)
-    (rising .before .before .before .before .is-distinct3 .ensures) (rising .before .before .is-distinct4 .ensures) (rising .is-rising .ensures) (views .before .before .before .before .before .is-rising2 .ensures)
-    (views .views-rule .ensures) (held .before .before .before .before .alive-rule .ensures) (held .before .before .before .joins-rule .ensures) (held .before .before .numbers-rule .ensures) (held .contains-data .ensures) (c .held-rule .ensures)
+    tests-are _ (formed (distinct-to-formed twice)) _ _ _ _ _ _ _ _ _ _ _ (twice .before .before .before .before .settings-rule .ensures) (twice .before .before .is-distinct .ensures) (twice .is-distinct2 .ensures)
+    (rising .before .before .before .before .is-distinct3 .ensures) (rising .before .before .is-distinct4 .ensures) (rising .is-rising .ensures) (joins .before .before .before .before .before .is-rising2 .ensures)
+    (joins .joins-rule .ensures) (held .before .before .numbers-rule .ensures) (held .contains-data .ensures) (c .views-rule .ensures)
 
 pub is-ok-spec : {M : Type 1} → statement M
 is-ok-spec =
@@ -233,8 +227,6 @@ is-ok-spec =
     shared-slice-read-result-2
     shared-slice-read-result-3
     shared-slice-read-result-4
-    views-rule-requires
-    alive-rule-requires
     joins-rule-requires
     numbers-rule-requires
     sub-contains-data
@@ -248,5 +240,5 @@ is-ok-spec =
     shared-slice-read-result-8
     shared-slice-read-result-9
     shared-slice-read-result-10
-    held-rule-requires
+    views-rule-requires
     returns-3)
