@@ -82,8 +82,8 @@ module _ (n : ℕ) (m : List ℕ) (v : ValidDataWords n m) where
     items = refl;
   }
 
-  -- what `find` and `rank_of` read
-  pub peers-read : take (count-of n m) (head-of n m) ≡ take (count-of n m) (part 0 n (head-of n m))
+  -- the peers of the first half
+  peers-read : take (count-of n m) (head-of n m) ≡ take (count-of n m) (part 0 n (head-of n m))
   unfolding part
   peers-read = sym (take-take (count-of n m) n (head-of n m) (v .fits))
 

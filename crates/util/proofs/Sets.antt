@@ -89,9 +89,6 @@ module _ (n : ℕ) (s : List ℕ) (x i : ℕ) (v : ValidSet n s) (e : i ≡ inde
 pub set-inside : (n : ℕ) (s : List ℕ) → ValidSet n s → n ≡ length (part 0 n s)
 set-inside n s v = sym (part-long 0 n s (omega (arith, v .long)))
 
-pub set-count : (n : ℕ) (s : List ℕ) → ValidSet n s → getD s n 0 ≤ length (part 0 n s)
-set-count n s v = v .filled .fits
-
 pub set-column : (n : ℕ) (s : List ℕ) → ValidSet n s → Filled (part 0 n s) (getD s n 0)
 set-column n s v = v .filled
 
@@ -202,11 +199,8 @@ unfolding valid-set
 too-many n s h = rw (lt-leb _ _ h)
 
 module _ (n : ℕ) (s : List ℕ) (l : length s ≡ n + 1) where
-  pub places-inside : n ≡ length (part 0 n s)
+  places-inside : n ≡ length (part 0 n s)
   places-inside = sym (part-long 0 n s (omega arith))
-
-  pub places-count : getD s n 0 ≤ n → getD s n 0 ≤ length (part 0 n s)
-  places-count h = omega (arith, places-inside)
 
   pub few : (b : Bool) → getD s n 0 ≤ n → b ≡ every unused (drop (getD s n 0) (part 0 n s)) → b ≡ valid-set n s
   unfolding valid-set packed
