@@ -50,29 +50,27 @@ module _ (n : ℕ) (m : List ℕ) (v : ValidDataWords n m) where
   key-read i h = ap (λ (l : List ℕ). getD l i 0) (sym (peers-lent n m v)) ∙ getD-take (count-of n m) m i 0 h
 
 -- what is to be retained is the same, and the peers before i are among those whose data stays
-pub record Retaining (n : ℕ) (k : ℕ) (s m₀ m : List ℕ) (e c i : ℕ) : Type 0 where
-  pub place : e ≡ n + n + (n + n)
+pub record Retaining (n : ℕ) (k : ℕ) (s m₀ m : List ℕ) (c i : ℕ) : Type 0 where
   pub valid : ValidDataWords n m
   pub same : retain (items-at k s) (data-map-at n m) ≡ retain (items-at k s) (data-map-at n m₀)
   pub counted : c ≡ length (data-map-at n m)
   pub front : subset (take i (keys (data-map-at n m))) (items-at k s) ≡ true
   pub long : length m ≡ length m₀
 
-pub retaining-start : (n k : ℕ) (s m : List ℕ) → ValidDataWords n m → Retaining n k s m m (n + n + (n + n)) (count-of n m) 0
+pub retaining-start : (n k : ℕ) (s m : List ℕ) (c : ℕ) → ValidDataWords n m → c ≡ length (data-map-at n m) → Retaining n k s m m c 0
 unfolding subset
-retaining-start n k s m v = record { place = refl; valid = v; same = refl; counted = sym (v .counted); front = refl; long = refl }
+retaining-start n k s m c v q = record { valid = v; same = refl; counted = q; front = refl; long = refl }
 
-module _ (n k : ℕ) (s m₀ m : List ℕ) (e c i : ℕ) (r : Retaining n k s m₀ m e c i) (h : i < c) where
+module _ (n k : ℕ) (s m₀ m : List ℕ) (c i : ℕ) (r : Retaining n k s m₀ m c i) (h : i < c) where
   here : getD (keys (data-map-at n m)) i 0 ≡ getD m i 0
   here = key-read n m (r .valid) i (omega (arith, r .counted, r .valid .counted))
 
-  pub retaining-next : (b : Bool) → b ≡ mem (getD m i 0) (items-at k s) → b ≡ true → Retaining n k s m₀ m e c (i + 1)
-  retaining-next b q t = record {
-    place = r .place;
+  pub retaining-next : (b : Bool) → b ≡ mem (getD m i 0) (items-at k s) → b ≡ true → Retaining n k s m₀ m c (i + 1)
+  retaining-next b q e = record {
     valid = r .valid;
     same = r .same;
     counted = r .counted;
-    front = rw (add-one i) (next-among i (keys (data-map-at n m)) (items-at k s) (omega (arith, r .counted, length-keys (data-map-at n m))) (r .front) (ap (λ (x : ℕ). mem x (items-at k s)) here ∙ sym q ∙ t));
+    front = rw (add-one i) (next-among i (keys (data-map-at n m)) (items-at k s) (omega (arith, r .counted, length-keys (data-map-at n m))) (r .front) (ap (λ (x : ℕ). mem x (items-at k s)) here ∙ sym q ∙ e));
     long = r .long;
   }
 
@@ -82,33 +80,25 @@ module _ (n k : ℕ) (s m₀ m : List ℕ) (e c i : ℕ) (r : Retaining n k s m�
       let y : 1 ≤ count p (keys (data-map-at n m)) = subst (λ (x : ℕ). 1 ≤ count x (keys (data-map-at n m))) here (count-at (keys (data-map-at n m)) i (omega (arith, r .counted, length-keys (data-map-at n m)))) in
       omega (arith, length-without p (keys (data-map-at n m)), ap length (keys-cut p (data-map-at n m)), length-keys (cut p (data-map-at n m)), length-keys (data-map-at n m))
 
-  module _ (m₁ : List ℕ) (w : HoldsDataWords n m₁ (cut (getD m i 0) (data-map-at n m))) where
-    left : getD m₁ e 0 ≡ length (data-map-at n m₁)
-    left = ap (λ (j : ℕ). getD m₁ j 0) (r .place) ∙ sym (w .valid .counted)
+  pub retaining-less : (b : Bool) (m₁ : List ℕ) (d : ℕ) → b ≡ mem (getD m i 0) (items-at k s) → b ≡ false → HoldsDataWords n m₁ (cut (getD m i 0) (data-map-at n m)) → d ≡ length (data-map-at n m₁) → d - i < c - i
+  retaining-less b m₁ d q e w z = omega (arith, fewer, r .counted, ap length (w .items))
 
-    pub retaining-inside : e < length m₁
-    retaining-inside = omega (arith, r .place, w .valid .long)
-
-    pub retaining-less : getD m₁ e 0 - i < c - i
-    retaining-less = omega (arith, fewer, r .counted, ap length (w .items), left)
-
-  pub retaining-cut : (b : Bool) (m₁ : List ℕ) → b ≡ mem (getD m i 0) (items-at k s) → b ≡ false → HoldsDataWords n m₁ (cut (getD m i 0) (data-map-at n m)) → Retaining n k s m₀ m₁ e (getD m₁ e 0) i
-  retaining-cut b m₁ q t w =
+  pub retaining-cut : (b : Bool) (m₁ : List ℕ) (d : ℕ) → b ≡ mem (getD m i 0) (items-at k s) → b ≡ false → HoldsDataWords n m₁ (cut (getD m i 0) (data-map-at n m)) → d ≡ length (data-map-at n m₁) → Retaining n k s m₀ m₁ d i
+  retaining-cut b m₁ d q e w z =
       let p = getD m i 0 in
       let ps = items-at k s in
-      let f : mem p ps ≡ false = sym q ∙ t in
+      let f : mem p ps ≡ false = sym q ∙ e in
       let g : subset (take i (without p (keys (data-map-at n m)))) ps ≡ true = without-among i p (keys (data-map-at n m)) ps f (r .front) in
       record {
-        place = r .place;
         valid = w .valid;
         same = ap (retain ps) (w .items) ∙ retain-cut p ps (data-map-at n m) f ∙ r .same;
-        counted = left m₁ w;
+        counted = z;
         front = subst (λ (l : List ℕ). subset (take i l) ps ≡ true) (sym (ap keys (w .items) ∙ keys-cut p (data-map-at n m))) g;
         long = w .valid .long ∙ sym (r .valid .long) ∙ r .long;
       }
 
-pub retaining-end : (n k : ℕ) (s m₀ m : List ℕ) (e c i : ℕ) → Retaining n k s m₀ m e c i → c ≤ i → HoldsDataWords n m (retain (items-at k s) (data-map-at n m₀))
-retaining-end n k s m₀ m e c i r h =
+pub retaining-end : (n k : ℕ) (s m₀ m : List ℕ) (c i : ℕ) → Retaining n k s m₀ m c i → c ≤ i → HoldsDataWords n m (retain (items-at k s) (data-map-at n m₀))
+retaining-end n k s m₀ m c i r h =
     let ps = items-at k s in
     let all : take i (keys (data-map-at n m)) ≡ keys (data-map-at n m) = take-all i (keys (data-map-at n m)) (omega (arith, r .counted, length-keys (data-map-at n m))) in
     record { valid = r .valid; items = sym (retain-all ps (data-map-at n m) (subst (λ (l : List ℕ). subset l ps ≡ true) all (r .front))) ∙ r .same }

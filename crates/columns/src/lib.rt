@@ -308,9 +308,7 @@ pub fn retain_data(m: &mut [u64], cap: usize, s: &[u64], scap: usize)
     requires { ⌜ ValidSet scap (now s) ⌝ }
     ensures { λ _. ⌜ HoldsDataWords cap (now (m .exit)) (retain (items-at scap (now (s .entry))) (data-map-at cap (now (m .entry)))) ⌝ }
 {
-    let half = cap + cap;
-    let end = half + half;
-    let mut n = m[end] as usize;
+    let mut n = count_data(m, cap);
     let mut i: usize = 0;
     while i < n {
         let p = m[i];
@@ -318,7 +316,7 @@ pub fn retain_data(m: &mut [u64], cap: usize, s: &[u64], scap: usize)
             i += 1;
         } else {
             remove_data(m, cap, p);
-            n = m[end] as usize;
+            n = count_data(m, cap);
         }
     }
 }
