@@ -9,19 +9,21 @@ use native.Mathlib.Omega.{arith}
 use lib.ListN.{length, set, length-append}
 use lib.Dec.{eqb}
 use borrow.Author.Tests.{leb-false}
+use borrow.Rule.Slice.PartMut.{putMid}
+use Rattle.lists.specs.Lists.{renew}
 use Rattle.lists.proofs.Choice.{by-choice}
 use Rattle.peer.specs.declared.PeerData.{PeerData}
 use Rattle.peer.specs.Data.{Data, bytes-of}
 use Rattle.peer.specs.Held.{data-in, ValidData}
 use Rattle.peer.proofs.Data.{short-bytes}
-use Rattle.util.specs.Section.{items-at}
+use Rattle.util.specs.Section.{items-at, HoldsSet}
 use Rattle.writer.specs.Write.{rec-in}
-use Rattle.protocol.specs.Station.{Station, Refill, automatic, is-me, in-active, active-is-full}
+use Rattle.protocol.specs.Station.{Station, Refill, automatic, is-me, in-active, active-is-full, is-requested}
 use Rattle.protocol.specs.Setters.{set-refill}
-use Rattle.protocol.specs.Run.{Run, guard, on, emit, notice}
+use Rattle.protocol.specs.Run.{Run, guard, on, emit, require, notice}
 use Rattle.protocol.specs.Budgets.{single, freeing, arriving}
 use Rattle.protocol.specs.Peers.{insert-peer-info, drop-mark, remove-passive}
-use Rattle.protocol.specs.Sending.{reply-neighbor}
+use Rattle.protocol.specs.Sending.{count-request, open-request, tell-request, send-neighbor, reply-neighbor}
 use Rattle.protocol.specs.Refill.{unless-recovery}
 use Rattle.protocol.specs.Active.{push-active, remember-neighbor, move-in, gain-neighbor, enter-active, add-active-unchecked, free-random-slot-in-active-view, admit-full, admit-new, admit, add-active}
 use Rattle.protocol.proofs.Law.{Short}
@@ -31,12 +33,12 @@ use Rattle.protocol.proofs.Sends.{ok-insert-peer-info}
 use Rattle.state.specs.declared.Work.{Work}
 use Rattle.state.specs.declared.RefillLimit.{RefillLimit}
 use Rattle.state.specs.declared.RefillLimit.the-variants.{Automatic}
-use Rattle.state.specs.Layout.{active-view-capacity, active-part}
+use Rattle.state.specs.Layout.{active-view-capacity, active-part, recent-part}
 use Rattle.state.specs.Unpack.{unpack, station-of, settings-at, limit-at, refill-in, PackedState, Becomes}
 use Rattle.state.specs.Work.{work-of, run, Changes, Room, Tells, TellsAny, Fine, Does}
 use Rattle.state.proofs.Access.{of-capacity}
-use Rattle.state.proofs.Fields.{put-passes-short}
-use Rattle.state.proofs.Bridge.{on-twice, on-passed, on-done, change-then, telling, tell-then, still, then-tell, seq, taken, left, holds-at}
+use Rattle.state.proofs.Fields.{put-passes-short, put-active, put-recent}
+use Rattle.state.proofs.Bridge.{guard-shut, on-twice, on-passed, on-done, unchanged, change-then, telling, tell-then, still, then-tell, seq, taken, left, holds-at}
 use Rattle.step_active.specs.Sane.{FreeActive, Calm}
 
 -- ---- places
@@ -84,12 +86,33 @@ module _ (w a b : Work) (xs ys zs : List ℕ) (p : ℕ) (k₂ : Changes (on (dro
       k₄ (change-then (λ g. on (push-active p) (on (drop-mark p) (on (remove-passive p) g))) (λ ds out. refl) k₃
       (change-then (λ g. on (drop-mark p) (on (remove-passive p) g)) (λ ds out. refl) k₂ k₁))
 
+  pub not-moved : (b .code ≡ 0 → ⊥) → Changes (on (move-in p)) (work-of w xs) (work-of b zs)
+  not-moved h = moved-in b b zs zs (on-passed (work-of b zs) (k₂ .packed) (remember-neighbor p) h) (on-passed (work-of b zs) (k₂ .packed) (push-active p) h)
+
+module _ (w : Work) (xs : List ℕ) (p : ℕ) (v : PackedState xs) (z : w .code ≡ 0) (ys : List ℕ) where
+  pub pushed : FreeActive (w .code) (unpack xs) → HoldsSet 8 ys (items-at 8 (active-part xs) ++ (p ∷ [])) → Changes (on (push-active p)) (work-of w xs) (work-of w (putMid 22 9 xs ys))
+  unfolding push-active unpack station-of
+  pushed f h = on-done (work-of w xs) v _ _ z (put-active h (one-more xs (w .code) v z f p))
+
+  pub remembered : HoldsSet 8 ys (renew 8 p (items-at 8 (recent-part xs))) → Changes (on (remember-neighbor p)) (work-of w xs) (work-of w (putMid 204 9 xs ys))
+  unfolding remember-neighbor unpack station-of
+  remembered h = on-done (work-of w xs) v _ _ z (put-recent h)
+
 pub gained : (xs ys : List ℕ) (old v l : RefillLimit) → Becomes ys (set-refill (refill-in v) (unpack xs)) → refill-in v ≡ unless-recovery (refill-in old) (refill-in l) → l ≡ Automatic → old ≡ limit-at xs
     → Becomes (set ys 15 0) (gain-neighbor (unpack xs))
 unfolding gain-neighbor unpack station-of refill-in
 gained xs ys old v l h e a q =
     let z : refill-in v ≡ unless-recovery (refill-in (limit-at xs)) automatic = e ∙ (λ i. unless-recovery (refill-in (q i)) (refill-in (a i))) in
     put-passes-short 0 (omega arith) (subst (λ (y : Refill). Becomes ys (set-refill y (unpack xs))) z h)
+
+-- where a code is set, no answer is sent
+reply-shut : (reply : Bool) (p : ℕ) (high : Bool) (g : Run) → (g .code ≡ 0 → ⊥) → reply-neighbor reply p high g ≡ g
+unfolding reply-neighbor send-neighbor tell-request open-request count-request on emit require
+reply-shut reply p high g h =
+    by-choice (λ (x : Run). x ≡ g) reply
+    (λ t. by-choice (λ (x : Run). x ≡ g) (is-requested p (g .station)) (λ u. refl)
+    (λ u. rw (guard-shut g _ h) (rw (guard-shut g _ h) (rw (guard-shut g _ h) (rw (guard-shut g _ h) (guard-shut g _ h))))))
+    (λ t. refl)
 
 module _ (w a b : Work) (xs ys out o : List ℕ) (p : ℕ) (v : Room (work-of w xs) out)
     (k₂ : TellsAny (emit (rec-in (record { kind = 9; message = 0; flags = 0; peer = p; second = 0; ttl = 0; number = 0 }) [])) a b out o) (k₁ : Changes (on (move-in p)) (work-of w xs) (work-of a ys)) where
@@ -99,8 +122,11 @@ module _ (w a b : Work) (xs ys out o : List ℕ) (p : ℕ) (v : Room (work-of w 
       let t = k₂ .any ys (k₁ .packed) in
       tell-then _ (λ ds. refl) (telling (t .room) k₃) (tell-then (λ g. emit (notice 9 p) (on (move-in p) g)) (λ ds. refl) t (telling v k₁))
 
-  pub not-entered : (b .code ≡ 0 → ⊥) → Tells (enter-active p) (work-of w xs) (work-of b ys) out o
-  not-entered h = enter-row ys (on-passed (work-of b ys) (k₁ .packed) gain-neighbor h)
+  pub not-added : (high reply : Bool) → (b .code ≡ 0 → ⊥) → Tells (add-active-unchecked p high reply) (work-of w xs) (work-of b ys) out o
+  unfolding add-active-unchecked run
+  not-added high reply h =
+      let t = enter-row ys (on-passed (work-of b ys) (k₁ .packed) gain-neighbor h) in
+      tell-then _ (λ ds. refl) (telling (t .room) (unchanged (reply-neighbor reply p high) (k₁ .packed) (λ ds q. reply-shut reply p high (run (work-of b ys) ds q) h))) t
 
   pub entered : (zs : List ℕ) → b .code ≡ 0 → Becomes zs (gain-neighbor (unpack ys)) → Tells (enter-active p) (work-of w xs) (work-of b zs) out o
   entered zs z h = enter-row zs (on-done (work-of b ys) (k₁ .packed) gain-neighbor zs z (λ _. h))

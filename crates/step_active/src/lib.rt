@@ -14,7 +14,7 @@ ghost use Rattle.peer.specs.Held.{data-in, ValidData};
 ghost use Rattle.protocol.specs.Run.{on};
 ghost use Rattle.protocol.specs.Budgets.{adding, leaving, freeing, arriving};
 ghost use Rattle.protocol.specs.Active.{drop-active, demote, mark-alive, demote-alive, remove-active-by-index, remove-active, free-random-slot-in-active-view};
-ghost use Rattle.protocol.specs.Active.{push-active, remember-neighbor, move-in, enter-active, add-active-unchecked, add-active};
+ghost use Rattle.protocol.specs.Active.{move-in, add-active-unchecked, add-active};
 ghost use Rattle.state.specs.Layout.{words};
 ghost use Rattle.state.specs.Unpack.{unpack, PackedState};
 ghost use Rattle.state.specs.Work.{work-of, run, Changes, Room, Tells, Fine, Does};
@@ -170,37 +170,6 @@ fn free_random_slot_in_active_view(w: Work, st: &mut [u64], draws: &[u32], out: 
 
 // ---- peers that enter
 
-fn push_active(w: Work, st: &mut [u64], p: PeerId) -> Work
-    requires { ⌜ length (now st) ≡ words ⌝ }
-    requires { ⌜ PackedState (now st) ⌝ }
-    requires { ⌜ FreeActive (w .code) (unpack (now st)) ⌝ }
-    ensures { λ r. ⌜ Changes (on (push-active p)) (work-of w (now (st .entry))) (work-of r (now (st .exit))) ⌝ }
-{
-    if w.code != 0 {
-        return w;
-    }
-    util::push(&mut st[Layout::ACTIVE..Layout::ACTIVE_END], Layout::FEW, p);
-    w
-}
-
-// p is the newest of the recent neighbors.
-fn remember_neighbor(w: Work, st: &mut [u64], p: PeerId) -> Work
-    requires { ⌜ length (now st) ≡ words ⌝ }
-    requires { ⌜ PackedState (now st) ⌝ }
-    ensures { λ r. ⌜ Changes (on (remember-neighbor p)) (work-of w (now (st .entry))) (work-of r (now (st .exit))) ⌝ }
-{
-    if w.code != 0 {
-        return w;
-    }
-    util::renew(
-        &mut st[Layout::RECENT..Layout::RECENT_END],
-        Layout::FEW,
-        Timing::MAX_RECENT_NEIGHBORS,
-        p,
-    );
-    w
-}
-
 // p leaves the passive view, with its mark, enters the active one and is the newest of the recent neighbors.
 fn move_in(w: Work, st: &mut [u64], p: PeerId) -> Work
     requires { ⌜ length (now st) ≡ words ⌝ }
@@ -210,17 +179,33 @@ fn move_in(w: Work, st: &mut [u64], p: PeerId) -> Work
 {
     let a = step_peers::remove_passive(w, st, p);
     let b = step_peers::drop_mark(a, st, p);
-    let c = push_active(b, st, p);
-    remember_neighbor(c, st, p)
+    if b.code != 0 {
+        return b;
+    }
+    util::push(&mut st[Layout::ACTIVE..Layout::ACTIVE_END], Layout::FEW, p);
+    util::renew(
+        &mut st[Layout::RECENT..Layout::RECENT_END],
+        Layout::FEW,
+        Timing::MAX_RECENT_NEIGHBORS,
+        p,
+    );
+    b
 }
 
-// p enters the active view, with its notice.
-fn enter_active(w: Work, st: &mut [u64], out: &mut [u8], p: PeerId) -> Work
+fn add_active_unchecked(
+    w: Work,
+    st: &mut [u64],
+    out: &mut [u8],
+    p: PeerId,
+    high: bool,
+    reply: bool,
+) -> Work
     requires { ⌜ length (now st) ≡ words ⌝ }
     requires { ⌜ Room (work-of w (now st)) (now out) ⌝ }
     requires { ⌜ FreeActive (w .code) (unpack (now st)) ⌝ }
-    ensures { λ r. ⌜ Tells (enter-active p) (work-of w (now (st .entry))) (work-of r (now (st .exit))) (now (out .entry)) (now (out .exit)) ⌝ }
+    ensures { λ r. ⌜ Tells (add-active-unchecked p high reply) (work-of w (now (st .entry))) (work-of r (now (st .exit))) (now (out .entry)) (now (out .exit)) ⌝ }
 {
+    // p enters the active view, with its notice.
     let a = move_in(w, st, p);
     let f = Fields {
         kind: Kind::NEIGHBOR_UP,
@@ -240,24 +225,7 @@ fn enter_active(w: Work, st: &mut [u64], out: &mut [u8], p: PeerId) -> Work
     let limit = old.unless_recovery(RefillLimit::Automatic);
     state::keep_limit(st, limit);
     st[Layout::PASSES_SHORT] = 0;
-    b
-}
-
-fn add_active_unchecked(
-    w: Work,
-    st: &mut [u64],
-    out: &mut [u8],
-    p: PeerId,
-    high: bool,
-    reply: bool,
-) -> Work
-    requires { ⌜ length (now st) ≡ words ⌝ }
-    requires { ⌜ Room (work-of w (now st)) (now out) ⌝ }
-    requires { ⌜ FreeActive (w .code) (unpack (now st)) ⌝ }
-    ensures { λ r. ⌜ Tells (add-active-unchecked p high reply) (work-of w (now (st .entry))) (work-of r (now (st .exit))) (now (out .entry)) (now (out .exit)) ⌝ }
-{
-    let a = enter_active(w, st, out, p);
-    step_sending::reply_neighbor(a, st, out, reply, p, high)
+    step_sending::reply_neighbor(b, st, out, reply, p, high)
 }
 
 pub fn add_active(
