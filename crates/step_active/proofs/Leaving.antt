@@ -8,7 +8,7 @@ use mathlib.Core.Option.{Option}
 use native.Mathlib.Omega.{arith}
 use lib.ListN.{length, drop, getD}
 use borrow.Author.Tests.{eq-eqb}
-use Rattle.lists.specs.Lists.{null, count, index-of, insert, swap-remove}
+use Rattle.lists.specs.Lists.{choose, null, count, index-of, insert, swap-remove}
 use Rattle.lists.specs.Maps.{lookup}
 use Rattle.lists.proofs.Choice.{choose-yes, clash}
 use Rattle.lists.proofs.Count.{index-lt, length-swap}
@@ -71,6 +71,15 @@ pub demoted : (w a : Work) (m : Added) (xs ys zs ds out o : List ℕ) (p : ℕ) 
 unfolding demote run
 demoted w a m xs ys zs ds out o p d x v h k₂ k₁ = seq-at (add-passive p) (h .holds) (k₂ .does) (then k₁ (still v))
 
+module _ (w a : Work) (xs ys ds out o : List ℕ) (p : ℕ) (alive : Bool) (k : Does (work-of a ys) ds o (demote p (run (work-of w xs) ds out))) where
+  pub demoted-plain : alive ≡ false → Does (work-of a ys) ds o (choose alive (demote-alive p) (demote p) (run (work-of w xs) ds out))
+  unfolding choose
+  demoted-plain h = rw h k
+
+  pub demoted-alive : (r : Work) (zs : List ℕ) → alive ≡ true → Changes (on (mark-alive p)) (work-of a ys) (work-of r zs) → Does (work-of r zs) ds o (choose alive (demote-alive p) (demote p) (run (work-of w xs) ds out))
+  unfolding choose demote-alive
+  demoted-alive r zs h k₂ = rw h (then k₂ k)
+
 marked : (p : ℕ) (g : Run) → g .code ≡ 0 → on (mark-alive p) g ≡ with-station (mark-alive p (g .station)) g
 unfolding on guard
 marked p g z = choose-yes _ _ _ (eq-eqb _ _ z)
@@ -89,9 +98,9 @@ mark-free w a xs ys ds out o p l k =
     subst (λ (x : Run). FreeMark p (x .code) (x .station)) (sym (k .same)) (mark-fits p (demote p (run (work-of w xs) ds out)) (ok-demote-alive p (l .ok)))
 
 module _ (w : Work) (xs ds out : List ℕ) (p : ℕ) (t : Bool) (v : Fine (work-of w xs) ds out) (e : t ≡ is-marked p (unpack xs)) where
-  pub closed-marked : (a r : Work) (ys zs o : List ℕ) → t ≡ true → Does (work-of r zs) ds o (demote p (run (work-of a ys) ds out)) → Changes (on (drop-mark p)) (work-of w xs) (work-of a ys)
+  pub closed-marked : (a r : Work) (ys zs o : List ℕ) → t ≡ true → Does (work-of r zs) ds o (choose false (demote-alive p) (demote p) (run (work-of a ys) ds out)) → Changes (on (drop-mark p)) (work-of w xs) (work-of a ys)
       → Does (work-of r zs) ds o (settle-closed p (run (work-of w xs) ds out))
-  unfolding settle-closed
+  unfolding settle-closed choose
   closed-marked a r ys zs o h k₂ k₁ = taken _ _ (holds-at (work-of w xs) ds out (is-marked p) e h) (seq (demote p) k₂ (then k₁ (still v)))
 
   pub closed-other : (r : Work) (ys : List ℕ) → t ≡ false → Changes (forget-peer p) (work-of w xs) (work-of r ys) → Does (work-of r ys) ds out (settle-closed p (run (work-of w xs) ds out))
@@ -231,8 +240,8 @@ module _ (r : Work) (ys ds o : List ℕ) (g : Run) (why : Loss) (p : ℕ) where
   unfolding settle reason-in
   settled-closed e k = rw e k
 
-  pub settled-alive : (b : Bool) → why ≡ DisconnectReceived b → b ≡ true → Does (work-of r ys) ds o (demote-alive p g) → Does (work-of r ys) ds o (settle (reason-in why) p g)
-  unfolding settle reason-in
+  pub settled-alive : (b : Bool) → why ≡ DisconnectReceived b → b ≡ true → Does (work-of r ys) ds o (choose true (demote-alive p) (demote p) g) → Does (work-of r ys) ds o (settle (reason-in why) p g)
+  unfolding settle reason-in choose
   settled-alive b e f k = rw (e, f) k
 
   settled-by : (b : Bool) → why ≡ DisconnectReceived b → b ≡ false → Does (work-of r ys) ds o (forget-peer p g) → Does (work-of r ys) ds o (settle (reason-in why) p g)
@@ -243,12 +252,7 @@ pub settled-gone : (w r : Work) (xs ys ds out : List ℕ) (why : Loss) (p : ℕ)
     → Does (work-of r ys) ds out (settle (reason-in why) p (run (work-of w xs) ds out))
 settled-gone w r xs ys ds out why p b v e f k = settled-by r ys ds out (run (work-of w xs) ds out) why p b e f (then k (still v))
 
-pub settled-random : (w a r : Work) (xs ys zs ds out o₁ o : List ℕ) (p : ℕ) → Does (work-of r zs) ds o (demote-alive p (run (work-of a ys) ds o₁)) → Does (work-of a ys) ds o₁ (send-disconnect p true (run (work-of w xs) ds out))
+pub settled-random : (w a r : Work) (xs ys zs ds out o₁ o : List ℕ) (p : ℕ) → Does (work-of r zs) ds o (choose true (demote-alive p) (demote p) (run (work-of a ys) ds o₁)) → Does (work-of a ys) ds o₁ (send-disconnect p true (run (work-of w xs) ds out))
     → Does (work-of r zs) ds o (settle random p (run (work-of w xs) ds out))
-unfolding settle
+unfolding settle choose
 settled-random w a r xs ys zs ds out o₁ o p k₂ k₁ = seq (demote-alive p) k₂ k₁
-
-pub demoted-alive : (w a r : Work) (xs ys zs ds out o : List ℕ) (p : ℕ) → Changes (on (mark-alive p)) (work-of a ys) (work-of r zs) → Does (work-of a ys) ds o (demote p (run (work-of w xs) ds out))
-    → Does (work-of r zs) ds o (demote-alive p (run (work-of w xs) ds out))
-unfolding demote-alive
-demoted-alive w a r xs ys zs ds out o p k₂ k₁ = then k₂ k₁

@@ -8,8 +8,10 @@ use state::Work;
 use timing::Timing;
 use writer::Fields;
 ghost use mathlib.Core.Path.{_≡_};
+ghost use mathlib.Core.Bool.{true};
 ghost use Prim.Native.Nat.{_<_};
-ghost use lib.ListN.{length};
+ghost use lib.ListN.{length, getD};
+ghost use Rattle.lists.specs.Lists.{choose};
 ghost use Rattle.peer.specs.Held.{data-in, ValidData};
 ghost use Rattle.protocol.specs.Run.{on};
 ghost use Rattle.protocol.specs.Budgets.{adding, leaving, freeing, arriving};
@@ -28,17 +30,17 @@ pub enum Loss {
 
 // ---- peers that leave
 
-// The peer at place i leaves the active view, with its notice.
-fn drop_active(w: Work, st: &mut [u64], out: &mut [u8], i: usize) -> Work
+// p, the peer at place i, leaves the active view, with its notice.
+fn drop_active(w: Work, st: &mut [u64], out: &mut [u8], i: usize, p: PeerId) -> Work
     requires { ⌜ length (now st) ≡ words ⌝ }
     requires { ⌜ Room (work-of w (now st)) (now out) ⌝ }
     requires { ⌜ i < length (unpack (now st) .active) ⌝ }
+    requires { ⌜ p ≡ getD (unpack (now st) .active) i 0 ⌝ }
     ensures { λ r. ⌜ Tells (drop-active i) (work-of w (now (st .entry))) (work-of r (now (st .exit))) (now (out .entry)) (now (out .exit)) ⌝ }
 {
     if w.code != 0 {
         return w;
     }
-    let p = util::get_index(&st[Layout::ACTIVE..Layout::ACTIVE_END], Layout::FEW, i);
     util::remove_index(&mut st[Layout::ACTIVE..Layout::ACTIVE_END], Layout::FEW, i);
     let f = Fields {
         kind: Kind::NEIGHBOR_DOWN,
@@ -50,18 +52,6 @@ fn drop_active(w: Work, st: &mut [u64], out: &mut [u8], i: usize) -> Work
         number: 0,
     };
     state::emit_bare(w, out, f)
-}
-
-// p goes to the passive view with the data that is held of it.
-fn demote(w: Work, st: &mut [u64], draws: &[u32], out: &mut [u8], p: PeerId) -> Work
-    requires { ⌜ length (now st) ≡ words ⌝ }
-    requires { ⌜ Fine (work-of w (now st)) (now draws) (now out) ⌝ }
-    ensures { λ r. ⌜ Does (work-of r (now (st .exit))) (now (draws .entry)) (now (out .exit)) (demote p (run (work-of w (now (st .entry))) (now (draws .entry)) (now (out .entry)))) ⌝ }
-{
-    let d = columns::get_data(&st[Layout::HELD..Layout::HELD_END], Layout::DATA_CAP, p);
-    let a = step_peers::drop_data(w, st, p);
-    let t = step_peers::add_passive(a, st, draws, out, p, d);
-    t.work
 }
 
 pub fn mark_alive(w: Work, st: &mut [u64], p: PeerId) -> Work
@@ -77,15 +67,20 @@ pub fn mark_alive(w: Work, st: &mut [u64], p: PeerId) -> Work
     w
 }
 
-// p goes to the passive view with a mark.
-fn demote_alive(w: Work, st: &mut [u64], draws: &[u32], out: &mut [u8], p: PeerId) -> Work
+// p goes to the passive view with the data that is held of it, and with a mark where it stays alive.
+fn demote(w: Work, st: &mut [u64], draws: &[u32], out: &mut [u8], p: PeerId, alive: bool) -> Work
     requires { ⌜ length (now st) ≡ words ⌝ }
     requires { ⌜ Fine (work-of w (now st)) (now draws) (now out) ⌝ }
-    requires { ⌜ Loose p 0 adding 1 (run (work-of w (now st)) (now draws) (now out)) ⌝ }
-    ensures { λ r. ⌜ Does (work-of r (now (st .exit))) (now (draws .entry)) (now (out .exit)) (demote-alive p (run (work-of w (now (st .entry))) (now (draws .entry)) (now (out .entry)))) ⌝ }
+    requires { ⌜ (alive ≡ true → Loose p 0 adding 1 (run (work-of w (now st)) (now draws) (now out))) ⌝ }
+    ensures { λ r. ⌜ Does (work-of r (now (st .exit))) (now (draws .entry)) (now (out .exit)) (choose alive (demote-alive p) (demote p) (run (work-of w (now (st .entry))) (now (draws .entry)) (now (out .entry)))) ⌝ }
 {
-    let a = demote(w, st, draws, out, p);
-    mark_alive(a, st, p)
+    let d = columns::get_data(&st[Layout::HELD..Layout::HELD_END], Layout::DATA_CAP, p);
+    let a = step_peers::drop_data(w, st, p);
+    let t = step_peers::add_passive(a, st, draws, out, p, d);
+    if alive {
+        return mark_alive(t.work, st, p);
+    }
+    t.work
 }
 
 fn remove_active_by_index(
@@ -103,19 +98,19 @@ fn remove_active_by_index(
     ensures { λ r. ⌜ Does (work-of r (now (st .exit))) (now (draws .entry)) (now (out .exit)) (remove-active-by-index i (reason-in why) (run (work-of w (now (st .entry))) (now (draws .entry)) (now (out .entry)))) ⌝ }
 {
     let p = util::get_index(&st[Layout::ACTIVE..Layout::ACTIVE_END], Layout::FEW, i);
-    let a = drop_active(w, st, out, i);
+    let a = drop_active(w, st, out, i, p);
     match why {
         Loss::ConnectionClosed => {
             // An earlier mark keeps it as a passive peer.
             if step_peers::is_marked(st, p) {
                 let b = step_peers::drop_mark(a, st, p);
-                return demote(b, st, draws, out, p);
+                return demote(b, st, draws, out, p, false);
             }
             step_peers::forget_peer(a, st, p)
         }
         Loss::DisconnectReceived(alive) => {
             if alive {
-                return demote_alive(a, st, draws, out, p);
+                return demote(a, st, draws, out, p, true);
             }
             step_peers::forget_peer(a, st, p)
         }
@@ -162,10 +157,10 @@ fn free_random_slot_in_active_view(w: Work, st: &mut [u64], draws: &[u32], out: 
         Layout::FEW,
         t.index,
     );
-    let a = drop_active(t.work, st, out, t.index);
+    let a = drop_active(t.work, st, out, t.index, p);
     // p, which was picked to make room, is told and becomes a passive peer.
     let b = step_sending::send_disconnect(a, st, draws, out, p, true);
-    demote_alive(b, st, draws, out, p)
+    demote(b, st, draws, out, p, true)
 }
 
 // ---- peers that enter

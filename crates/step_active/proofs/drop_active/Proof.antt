@@ -11,23 +11,10 @@ use Rattle.step_active.proofs.drop_active.Tie as tie
 
 -- The ways back, from a place to an earlier one.
 abbrev remove-index-to-start : tie.After-remove-index → tie.Start
-remove-index-to-start c = c .before .before .before .before .before .before .before .before .before
+remove-index-to-start c = c .before .before .before .before .before .before
 
 returns : tie.Need-returns
 returns c = search not-dropped
-
-sub-get-index : tie.Need-sub-get-index
-sub-get-index c = search needs
-
-part-get-index-start : tie.Need-part-get-index-start
-part-get-index-start c = search needs
-
-part-get-index-end : tie.Need-part-get-index-end
-part-get-index-end c = search needs
-
-get-index-requires : tie.Need-get-index-requires
-unfolding part unpack station-of
-get-index-requires c κs = (search (of-packed, needs), search needs)
 
 sub-remove-index : tie.Need-sub-remove-index
 sub-remove-index c = search needs
@@ -55,8 +42,9 @@ returns-2 : tie.Need-returns-2
 unfolding swap-active part unpack station-of
 returns-2 c =
     let at-remove-index = c .before .before .before .before .before .before in
-    let room = remove-index-to-start at-remove-index .pre .1 .0 in
-    dropped _ _ _ _ _ _ _ _ _ room (at-remove-index .before .before .get-index .ensures) (c .before .before .emit-bare .ensures)
+    let given = remove-index-to-start at-remove-index .pre .1 in
+    let room = given .0 in
+    dropped _ _ _ _ _ _ _ _ _ room (given .1 .1) (c .before .before .emit-bare .ensures)
     (on-done _ (room .packed) _ _ (search needs) (put-active (at-remove-index .remove-index .ensures) (fewer-active _ _ (room .packed))))
 
 pub drop-active-spec : {M : Type 1} → statement M
@@ -64,10 +52,6 @@ drop-active-spec =
     tie.close
     (tie.spec
     returns
-    sub-get-index
-    part-get-index-start
-    part-get-index-end
-    get-index-requires
     sub-remove-index
     part-remove-index-start
     part-remove-index-end

@@ -61,7 +61,7 @@ get-index-requires c κs = (search (of-packed, needs), search still-below)
 
 drop-active-requires : tie.Need-drop-active-requires
 unfolding part unpack station-of
-drop-active-requires c κs = (search needs, (search room-drawn, search still-below))
+drop-active-requires c κs = (search needs, (search room-drawn, (search still-below, search needs)))
 
 send-disconnect-requires : tie.Need-send-disconnect-requires
 send-disconnect-requires c κs =
@@ -70,15 +70,15 @@ send-disconnect-requires c κs =
     let given = choose-to-start at-choose .pre in
     (search (needs, at-drop-active .drop-active .kept, given .0), fine-told _ _ _ _ _ _ _ (fine-drawn _ _ _ _ _ (given .1 .0) (at-choose .choose .ensures .0)) (at-drop-active .drop-active .ensures))
 
-demote-alive-requires : tie.Need-demote-alive-requires
+demote-requires : tie.Need-demote-requires
 unfolding part unpack station-of
-demote-alive-requires c κs =
+demote-requires c κs =
     let at-send-disconnect = c .before .before .before .before in
     let at-drop-active = send-disconnect-to-drop-active at-send-disconnect in
     let at-choose = drop-active-to-choose at-drop-active in
     let given = choose-to-start at-choose .pre in
     let loose = loose-picked _ _ _ _ _ _ _ _ _ _ _ (given .1 .0) (given .1 .1) (at-choose .before .count .ensures .0) (at-choose .choose .ensures .1 .1) (at-drop-active .before .before .before .get-index .ensures) (at-drop-active .drop-active .ensures) (at-choose .choose .ensures .0) in
-    (search (needs, at-drop-active .drop-active .kept, given .0), (search needs, sent-loose _ _ _ _ _ _ _ _ loose (at-send-disconnect .send-disconnect .ensures)))
+    (search (needs, at-drop-active .drop-active .kept, given .0), (search needs, λ _. sent-loose _ _ _ _ _ _ _ _ loose (at-send-disconnect .send-disconnect .ensures)))
 
 same-length-2 : tie.Need-same-length-2
 same-length-2 c = search needs
@@ -89,12 +89,12 @@ same-length-3 c = search needs
 returns-2 : tie.Need-returns-2
 unfolding part unpack station-of
 returns-2 c =
-    let at-demote-alive = c .before .before .before .before in
-    let at-send-disconnect = at-demote-alive .before .before .before .before .before in
+    let at-demote = c .before .before .before .before in
+    let at-send-disconnect = at-demote .before .before .before .before .before in
     let at-drop-active = send-disconnect-to-drop-active at-send-disconnect in
     let at-choose = drop-active-to-choose at-drop-active in
     let fine = choose-to-start at-choose .pre .1 .0 in
-    let gone = settled-random _ _ _ _ _ _ _ _ _ _ _ (at-demote-alive .demote-alive .ensures) (at-send-disconnect .send-disconnect .ensures) in
+    let gone = settled-random _ _ _ _ _ _ _ _ _ _ _ (at-demote .demote .ensures) (at-send-disconnect .send-disconnect .ensures) in
     let removed = by-index _ _ _ _ _ _ _ _ _ _ _ _ _ (fine-drawn _ _ _ _ _ fine (at-choose .choose .ensures .0)) (at-drop-active .before .before .before .get-index .ensures) gone (at-drop-active .drop-active .ensures) in
     let picked = picked-removed _ _ _ _ _ _ _ _ _ _ fine (at-choose .before .count .ensures .0) (at-choose .choose .ensures .1 .0) removed (at-choose .choose .ensures .0) in
     let at-if1 = choose-to-else1 at-choose in
@@ -118,7 +118,7 @@ free-random-slot-in-active-view-spec =
     get-index-requires
     drop-active-requires
     send-disconnect-requires
-    demote-alive-requires
+    demote-requires
     same-length-2
     same-length-3
     returns-2)

@@ -1,5 +1,7 @@
-use mathlib.Core.Path.{_≡_}
+use mathlib.Core.Path.{_≡_, refl}
+use mathlib.Core.Bool.{false}
 use lib.ListN.{getD}
+use Rattle.lists.proofs.Choice.{clash}
 use Rattle.util.specs.Section.{part}
 use Rattle.state.specs.Unpack.{unpack, station-of}
 use Rattle.state.proofs.Access.{of-packed}
@@ -25,10 +27,16 @@ demote-to-drop-mark c = c .before .before .before .before .before
 abbrev match-keys2-to-drop-active : tie.At-match-keys2 → tie.After-drop-active
 match-keys2-to-drop-active c = c .before .before .before .before .before
 
+abbrev drop-active-to-get-index : tie.After-drop-active → tie.After-get-index
+drop-active-to-get-index c = c .before .before .before
+
+abbrev get-index-to-start : tie.After-get-index → tie.Start
+get-index-to-start c = c .before .before .before .before .before .before
+
 -- The neighbor that leaves, as it was read.
-leaver : (c : tie.After-drop-active) → c .before .before .before .get-index .result ≡ getD (unpack (drop-active-to-start c .args .st .now) .active) (drop-active-to-start c .args .i) 0
+leaver : (c : tie.After-get-index) → c .get-index .result ≡ getD (unpack (get-index-to-start c .args .st .now) .active) (get-index-to-start c .args .i) 0
 unfolding part unpack station-of
-leaver c = c .before .before .before .get-index .ensures
+leaver c = c .get-index .ensures
 
 sub-get-index : tie.Need-sub-get-index
 sub-get-index c = search needs
@@ -44,7 +52,7 @@ unfolding part unpack station-of
 get-index-requires c κs = (search (of-packed, needs), search needs)
 
 drop-active-requires : tie.Need-drop-active-requires
-drop-active-requires c κs = search needs
+drop-active-requires c κs = (search needs, (search needs, (search needs, leaver (c .before .before))))
 
 enum-told : tie.Need-enum-told
 enum-told c = search needs
@@ -61,7 +69,7 @@ demote-requires c κs =
     let at-drop-active = match-keys1-to-drop-active (drop-mark-to-match-keys1 at-drop-mark) in
     let given = drop-active-to-start at-drop-active .pre in (
       search (needs, at-drop-mark .drop-mark .kept, at-drop-active .drop-active .kept, given .0),
-      fine-after _ _ _ _ _ _ (fine-told _ _ _ _ _ _ _ (given .1 .0) (at-drop-active .drop-active .ensures)) (at-drop-mark .drop-mark .ensures),
+      (fine-after _ _ _ _ _ _ (fine-told _ _ _ _ _ _ _ (given .1 .0) (at-drop-active .drop-active .ensures)) (at-drop-mark .drop-mark .ensures), λ h. clash false h refl),
     )
 
 same-length : tie.Need-same-length
@@ -81,7 +89,7 @@ returns c =
     let told = at-drop-active .drop-active .ensures in
     let given = drop-active-to-start at-drop-active .pre .1 .0 in
     let fine = fine-told _ _ _ _ _ _ _ given told in
-    by-index _ _ _ _ _ _ _ _ _ _ _ _ _ given (leaver at-drop-active)
+    by-index _ _ _ _ _ _ _ _ _ _ _ _ _ given (leaver (drop-active-to-get-index at-drop-active))
     (settled-closed _ _ _ _ _ _ _ (at-told .enum-told .given .1) (closed-marked _ _ _ _ _ _ fine (at-if1 .before .is-marked .ensures) _ _ _ _ _ (at-if1 .if1 .taken) (at-demote .demote .ensures) (at-drop-mark .drop-mark .ensures))) told
 
 forget-peer-requires : tie.Need-forget-peer-requires
@@ -90,12 +98,12 @@ forget-peer-requires c κs = search needs
 enum-known-why : tie.Need-enum-known-why
 enum-known-why c = search needs
 
-demote-alive-requires : tie.Need-demote-alive-requires
-demote-alive-requires c κs =
+demote-requires-2 : tie.Need-demote-requires-2
+demote-requires-2 c κs =
     let at-drop-active = match-keys2-to-drop-active (c .before .before .before .before .before) in
     let given = drop-active-to-start at-drop-active .pre .1 in
     let told = at-drop-active .drop-active .ensures in
-    (search needs, (fine-told _ _ _ _ _ _ _ (given .0) told, loose-known _ _ _ _ _ _ _ _ _ (given .1 .1) (given .1 .0) (leaver at-drop-active) told))
+    (search needs, (fine-told _ _ _ _ _ _ _ (given .0) told, λ _. loose-known _ _ _ _ _ _ _ _ _ (given .1 .1) (given .1 .0) (leaver (drop-active-to-get-index at-drop-active)) told))
 
 same-length-3 : tie.Need-same-length-3
 same-length-3 c = search needs
@@ -105,15 +113,15 @@ same-length-4 c = search needs
 
 returns-2 : tie.Need-returns-2
 returns-2 c =
-    let at-demote-alive = c .before .before .before .before in
-    let at-if2 = at-demote-alive .before .before .before in
+    let at-demote2 = c .before .before .before .before in
+    let at-if2 = at-demote2 .before .before .before in
     let at-match = at-if2 .before .before .before in
     let at-drop-active = match-keys2-to-drop-active at-match in
     let told = at-drop-active .drop-active .ensures in
     let given = drop-active-to-start at-drop-active .pre .1 .0 in
     let fine = fine-told _ _ _ _ _ _ _ given told in
-    by-index _ _ _ _ _ _ _ _ _ _ _ _ _ given (leaver at-drop-active)
-    (settled-alive _ _ _ _ _ _ _ _ (at-if2 .before .before .why .given .1) (at-if2 .if2 .taken) (at-demote-alive .demote-alive .ensures)) told
+    by-index _ _ _ _ _ _ _ _ _ _ _ _ _ given (leaver (drop-active-to-get-index at-drop-active))
+    (settled-alive _ _ _ _ _ _ _ _ (at-if2 .before .before .why .given .1) (at-if2 .if2 .taken) (at-demote2 .demote2 .ensures)) told
 
 forget-peer-requires-2 : tie.Need-forget-peer-requires-2
 forget-peer-requires-2 c κs = search needs
@@ -133,7 +141,7 @@ returns-3 c =
     let told = at-drop-active .drop-active .ensures in
     let given = drop-active-to-start at-drop-active .pre .1 .0 in
     let fine = fine-told _ _ _ _ _ _ _ given told in
-    by-index _ _ _ _ _ _ _ _ _ _ _ _ _ given (leaver at-drop-active)
+    by-index _ _ _ _ _ _ _ _ _ _ _ _ _ given (leaver (drop-active-to-get-index at-drop-active))
     (settled-closed _ _ _ _ _ _ _ (at-told .enum-told .given .1) (closed-other _ _ _ _ _ _ fine (at-if1 .before .is-marked .ensures) _ _ (at-if1 .if1 .left) (c .before .before .forget-peer .ensures))) told
 
 same-length-7 : tie.Need-same-length-7
@@ -150,7 +158,7 @@ returns-4 c =
     let told = at-drop-active .drop-active .ensures in
     let given = drop-active-to-start at-drop-active .pre .1 .0 in
     let fine = fine-told _ _ _ _ _ _ _ given told in
-    by-index _ _ _ _ _ _ _ _ _ _ _ _ _ given (leaver at-drop-active)
+    by-index _ _ _ _ _ _ _ _ _ _ _ _ _ given (leaver (drop-active-to-get-index at-drop-active))
     (settled-gone _ _ _ _ _ _ _ _ _ fine (at-if2 .before .before .why .given .1) (at-if2 .if2 .left) (c .before .before .forget-peer2 .ensures)) told
 
 pub remove-active-by-index-spec : {M : Type 1} → statement M
@@ -171,7 +179,7 @@ remove-active-by-index-spec =
     returns
     forget-peer-requires
     enum-known-why
-    demote-alive-requires
+    demote-requires-2
     same-length-3
     same-length-4
     returns-2
