@@ -175,7 +175,7 @@ def number_law(word, name, kind, value, asked, new, path):
 
 
 def own_law():
-    """The four words of own data, stored in the order of `keep_own`."""
+    """The four words of own data, stored in the order of `update_own_data`."""
     at = [NUMBERS.index(word) for word in ("own-present", "own-len", "own-low", "own-high")]
     stored, cut = "xs", "(cut-self xs (long (b .packed)))"
     for i, value in zip(at, ("p", "n", "low", "high")):

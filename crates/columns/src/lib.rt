@@ -153,14 +153,6 @@ pub fn insert_number(m: &mut [u64], cap: usize, p: PeerId, x: u64)
     m[end] = (n + 1) as u64;
 }
 
-// No numbers, whatever the words were.
-pub fn clear_numbers(m: &mut [u64], cap: usize)
-    requires { ⌜ length (now m) ≡ cap + cap + 1 ⌝ }
-    ensures { λ _. ⌜ HoldsNumbers cap (now (m .exit)) [] ⌝ }
-{
-    util::clear_from(m, 0);
-}
-
 // The peers that have a number, as a working set.
 pub fn keys_into(m: &[u64], cap: usize, t: &mut [u64])
     requires { ⌜ ValidNumbers cap (now m) ⌝ }
@@ -345,14 +337,6 @@ pub fn insert_data(m: &mut [u64], cap: usize, p: PeerId, d: PeerData)
     in_two(&mut m[..half], cap, n, at, p, d.len as u64);
     in_two(&mut m[half..end], cap, n, at, low, high);
     m[end] = (n + 1) as u64;
-}
-
-// No data, whatever the words were.
-pub fn clear_data(m: &mut [u64], cap: usize)
-    requires { ⌜ length (now m) ≡ cap + cap + (cap + cap) + 1 ⌝ }
-    ensures { λ _. ⌜ HoldsDataWords cap (now (m .exit)) [] ⌝ }
-{
-    util::clear_from(m, 0);
 }
 
 // Whether this is an entry, of any words: the bytes past the length are zero. A number of k bytes is below 2^(8 k).

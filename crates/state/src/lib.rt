@@ -12,12 +12,12 @@ ghost use mathlib.Core.List.{[], _∷_};
 ghost use Prim.Native.Nat.{_≤_, _<_};
 ghost use lib.ListN.{length, getD, drop};
 ghost use Rattle.util.specs.Chances.{pick, shuffle};
-ghost use Rattle.peer.specs.Held.{data-in, ValidData, node-in};
+ghost use Rattle.peer.specs.Held.{ValidData, node-in};
 ghost use Rattle.util.specs.Section.{items-at, ValidSet, HoldsSet};
 ghost use Rattle.writer.specs.Nodes.{ValidNodes, nodes-in};
 ghost use Rattle.writer.specs.Write.{rec-in};
 ghost use Rattle.protocol.specs.Run.{on, draw, draw-one-of, draw-shuffle, require, emit};
-ghost use Rattle.protocol.specs.Setters.{set-own-data, set-refill};
+ghost use Rattle.protocol.specs.Setters.{set-refill};
 ghost use Rattle.protocol.specs.Messages.{drop-join, drop-request, drop-pending};
 ghost use Rattle.protocol.specs.Station.{is-me, in-active, in-passive, in-view, is-alone, active-is-full, passive-is-full, is-short, is-last-hop};
 ghost use Rattle.protocol.specs.Station.{is-recovery, is-automatic, is-spent, is-requested};
@@ -190,21 +190,6 @@ pub fn own_data(st: &[u64]) -> PeerData
         len: len,
         bytes: bytes,
     }
-}
-
-pub fn keep_own(st: &mut [u64], d: PeerData)
-    requires { ⌜ length (now st) ≡ words ⌝ }
-    requires { ⌜ PackedState (now st) ⌝ }
-    requires { ⌜ ValidData d ⌝ }
-    ensures { λ _. ⌜ Becomes (now (st .exit)) (set-own-data (data-in d) (unpack (now (st .entry)))) ⌝ }
-{
-    let b = d.bytes;
-    let low = columns::word_at(b, 0);
-    let high = columns::word_at(b, columns::WORD);
-    st[Layout::OWN_PRESENT] = d.present as u64;
-    st[Layout::OWN_LEN] = d.len as u64;
-    st[Layout::OWN_LOW] = low;
-    st[Layout::OWN_HIGH] = high;
 }
 
 pub fn limit_of(st: &[u64]) -> RefillLimit

@@ -3,19 +3,21 @@
 use Prim.Native.Nat.{ℕ, _+_, _≤_, _<_}
 use mathlib.Core.Path.{_≡_, refl, sym, ap, _∙_, subst}
 use mathlib.Core.Bool.{Bool, true, false, _||_}
-use mathlib.Core.List.{List, [], _∷_}
+use mathlib.Core.List.{List, [], _∷_, _++_}
 use native.Mathlib.Omega.{arith}
-use lib.ListN.{length, getD}
+use lib.ListN.{length, take, drop, getD}
+use lib.Seq.{getD-take}
 use lib.Dec.{eqb, ltb}
 use borrow.Author.Tests.{ltb-true, lt-ltb, le-ltb, eqb-true, eqb-false}
 use borrow.Rule.Slice.PartMut.{putMid}
-use Rattle.lists.specs.Lists.{is, count, mem, without, renew}
+use Rattle.lists.specs.Lists.{choose, is, count, mem, without, renew}
 use Rattle.lists.specs.Maps.{keys, cut, has}
 use Rattle.lists.proofs.Choice.{split, by-choice, choose-yes, choose-no}
 use Rattle.lists.proofs.Count.{is-self, is-split, mem-false}
 use Rattle.lists.proofs.Maps.{length-keys}
-use Rattle.util.specs.Section.{items-at, HoldsSet}
-use Rattle.columns.specs.Columns.{numbers-at}
+use Rattle.util.specs.Section.{part, items-at, ValidSet, HoldsSet}
+use Rattle.util.proofs.Parts.{part-read, part-put}
+use Rattle.columns.specs.Columns.{numbers-at, ValidNumbers, HoldsNumbers}
 use Rattle.timing.specs.Timing.{join-retry-delay}
 use Rattle.record.specs.Format.{Rec}
 use Rattle.writer.specs.Write.{rec-in}
@@ -23,68 +25,101 @@ use Rattle.protocol.specs.Setters.{set-joins, set-bootstrap}
 use Rattle.protocol.specs.Station.{Station, is-me, in-active, top-counter}
 use Rattle.protocol.specs.Run.{Run, guard, on, emit, require, timer}
 use Rattle.protocol.specs.Sending.{join-to, join}
-use Rattle.protocol.specs.Messages.{drop-join}
 use Rattle.protocol.specs.Events.{must-drop-oldest, oldest, drop-oldest-join, push-bootstrap, join-counts, note-join, open-join, await-join, join-other, join-new, handle-join}
 use Rattle.lists.proofs.Members.{shorter, renewed}
 use Rattle.protocol.proofs.Requested.{fewer-joins}
 use Rattle.state.specs.declared.Work.{Work}
 use Rattle.state.specs.Layout.{bootstrap-part, joins-part, next-join}
-use Rattle.state.specs.Unpack.{unpack, station-of, PackedState}
+use Rattle.state.specs.Unpack.{unpack, station-of, long, PackedState, Becomes}
 use Rattle.state.specs.Work.{Held, work-of, run, Changes, ChangesAny, Room, Tells, TellsAny}
-use Rattle.state.proofs.Bridge.{guard-open, guard-shut, on-twice, on-passed, on-done, emit-passed, require-said, unchanged, change-by, change-then, telling, tell-then, tell-yes, tell-no}
-use Rattle.state.proofs.Fields.{put-bootstrap}
+use Rattle.state.proofs.Access.{of-bootstrap, of-joins}
+use Rattle.state.proofs.Bridge.{on-passed, on-done, emit-passed, require-said, unchanged, change-then, telling, tell-then, tell-yes, tell-no}
+use Rattle.state.proofs.Fields.{put-bootstrap, put-joins}
 use Rattle.state.proofs.Refused.{required-code}
 use Rattle.step_events.specs.Free.{KnownJoins, FreeJoin}
 
 -- ---- the bootstrap peers
 
--- one change is another where they make the same of the station
-on-at : (f h : Station → Station) (g : Run) → f (g .station) ≡ h (g .station) → on f g ≡ on h g
-unfolding on
-on-at f h g e = rw e
+without-twice : (p : ℕ) (l : List ℕ) → without p (without p l) ≡ without p l
+unfolding without
+without-twice p [] = refl
+without-twice p (q ∷ l) = split (eqb p q) (λ e. rw e (without-twice p l)) (λ e. rw e (rw e (ap (λ (m : List ℕ). q ∷ m) (without-twice p l))))
 
-on-same : (f : Station → Station) (g : Run) → f (g .station) ≡ g .station → on f g ≡ g
-unfolding on
-on-same f g e =
-    split (eqb (g .code) 0) (λ t. rw e (guard-open g _ (eqb-true _ _ t))) (λ t. guard-shut g _ (eqb-false _ _ t))
+renew-again : (n p : ℕ) (l : List ℕ) → renew n p (without p l) ≡ renew n p l
+unfolding renew
+renew-again n p l = ap (λ (m : List ℕ). choose (ltb n (length m + 1)) (drop 1 (m ++ (p ∷ []))) (m ++ (p ∷ []))) (without-twice p l)
 
--- the working set of those but p
-module _ (xs t others : List ℕ) (p n : ℕ) (s : HoldsSet 32 t (items-at 8 (bootstrap-part xs))) (k : HoldsSet 32 others (without p (items-at 32 t))) (e : n ≡ length (items-at 32 others)) where
-  others-are : items-at 32 others ≡ without p (unpack xs .bootstrap)
-  unfolding unpack station-of
-  others-are = k .items ∙ ap (without p) (s .items)
+-- the sections as they are lent
+module _ (xs ys : List ℕ) (p : ℕ) where
+  pub lent-without : HoldsSet 8 ys (without p (items-at 8 (take 9 (drop 195 xs)))) → HoldsSet 8 ys (without p (items-at 8 (bootstrap-part xs)))
+  unfolding part
+  lent-without h = h
 
-  too-many : must-drop-oldest p (unpack xs) ≡ ltb 8 (n + 1)
-  unfolding must-drop-oldest
-  too-many = sym (ap (λ (m : ℕ). ltb 8 (m + 1)) (e ∙ ap length others-are))
+  pub lent-renew : HoldsSet 8 ys (renew 8 p (items-at 8 (take 9 (drop 195 xs)))) → HoldsSet 8 ys (renew 8 p (items-at 8 (bootstrap-part xs)))
+  unfolding part
+  lent-renew h = h
 
-  pub one-dropped : (w r : Work) (ys : List ℕ) (x : ℕ) → 8 < n + 1 → x ≡ getD (items-at 32 others) 0 0 → Changes (on (drop-join x)) (work-of w xs) (work-of r ys) → Changes (on (drop-oldest-join p)) (work-of w xs) (work-of r ys)
-  unfolding drop-oldest-join drop-join oldest run
-  one-dropped w r ys x h q c =
-      change-by _
-      (λ ds out. on-at (drop-oldest-join p) (drop-join x) (run (work-of w xs) ds out) (ap (λ (m : List (ℕ × ℕ)). set-joins m (unpack xs)) (choose-yes _ _ _ (too-many ∙ lt-ltb _ _ h) ∙ ap (λ (y : ℕ). cut y (unpack xs .joins)) (sym (q ∙ ap (λ (l : List ℕ). getD l 0 0) others-are)))))
-      c
+  pub lent-cut : HoldsNumbers 8 ys (cut p (numbers-at 8 (take 17 (drop 213 xs)))) → HoldsNumbers 8 ys (cut p (numbers-at 8 (joins-part xs)))
+  unfolding part
+  lent-cut h = h
 
-  pub none-dropped : (w : Work) → PackedState xs → n + 1 ≤ 8 → Changes (on (drop-oldest-join p)) (work-of w xs) (work-of w xs)
-  unfolding drop-oldest-join run
-  none-dropped w v h =
-      unchanged _ v (λ ds out. on-same (drop-oldest-join p) (run (work-of w xs) ds out) (ap (λ (m : List (ℕ × ℕ)). set-joins m (unpack xs)) (choose-no _ _ _ (too-many ∙ le-ltb _ _ h))))
+-- p is taken out of the bootstrap peers, and stored as the newest
+module _ (xs ys : List ℕ) (p : ℕ) (v : PackedState xs) (s : HoldsSet 8 ys (without p (items-at 8 (bootstrap-part xs)))) where
+  stored : part 195 9 (putMid 195 9 xs ys) ≡ ys
+  stored = part-put 195 9 xs ys (omega (arith, long v)) (s .valid .long)
 
--- p as the newest
-abbrev renewing : ℕ → Station → Station
-renewing p s = set-bootstrap (renew 8 p (s .bootstrap)) s
+  read-stored : (i : ℕ) → i < 9 → getD (putMid 195 9 xs ys) (195 + i) 0 ≡ getD ys i 0
+  read-stored i h = sym (part-read 195 9 i (putMid 195 9 xs ys) h) ∙ ap (λ (l : List ℕ). getD l i 0) stored
 
-pushed : (w a r : Held) (p : ℕ) → Changes (on (renewing p)) a r → Changes (on (drop-oldest-join p)) w a → Changes (on (push-bootstrap p)) w r
-unfolding push-bootstrap drop-oldest-join
-pushed w a r p k₂ k₁ = change-then (on (push-bootstrap p)) (λ ds out. on-twice (drop-oldest-join p) (renewing p) (run w ds out)) k₂ k₁
+  -- the section without p, as it is lent next
+  pub others-lent : ValidSet 8 (take 9 (drop 195 (putMid 195 9 xs ys)))
+  unfolding part
+  others-lent = of-bootstrap _ (put-bootstrap s (record { packed = v; same = refl }) .packed)
 
-module _ (w a : Work) (xs ys : List ℕ) (p : ℕ) (k : Changes (on (drop-oldest-join p)) (work-of w xs) (work-of a ys)) where
-  pub push-passed : (a .code ≡ 0 → ⊥) → Changes (on (push-bootstrap p)) (work-of w xs) (work-of a ys)
-  push-passed h = pushed _ _ _ p (on-passed (work-of a ys) (k .packed) (renewing p) h) k
+  how-many : getD (putMid 195 9 xs ys) 203 0 ≡ length (without p (items-at 8 (bootstrap-part xs)))
+  how-many = read-stored 8 (omega arith) ∙ sym (s .valid .counted) ∙ ap length (s .items)
 
-  pub push-done : (zs : List ℕ) → a .code ≡ 0 → HoldsSet 8 zs (renew 8 p (items-at 8 (bootstrap-part ys))) → Changes (on (push-bootstrap p)) (work-of w xs) (work-of a (putMid 195 9 ys zs))
-  unfolding unpack station-of
-  push-done zs h s = pushed _ _ _ p (on-done (work-of a ys) (k .packed) (renewing p) _ h (put-bootstrap s)) k
+  first : 0 < length (without p (items-at 8 (bootstrap-part xs))) → getD (putMid 195 9 xs ys) 195 0 ≡ getD (without p (items-at 8 (bootstrap-part xs))) 0 0
+  unfolding items-at part
+  first h =
+      let c : 0 < getD ys 8 0 = omega (arith, h, s .valid .counted, ap length (s .items)) in
+      read-stored 0 (omega arith) ∙ sym (getD-take 8 ys 0 0 (omega arith)) ∙ sym (getD-take (getD ys 8 0) (take 8 ys) 0 0 c) ∙ ap (λ (l : List ℕ). getD l 0 0) (s .items)
+
+  few-left : getD (putMid 195 9 xs ys) 203 0 < 8 → ltb 8 (length (without p (items-at 8 (bootstrap-part xs))) + 1) ≡ false
+  few-left h = le-ltb 8 (length (without p (items-at 8 (bootstrap-part xs))) + 1) (omega (arith, how-many, h))
+
+  many-left : 8 ≤ getD (putMid 195 9 xs ys) 203 0 → ltb 8 (length (without p (items-at 8 (bootstrap-part xs))) + 1) ≡ true
+  many-left h = lt-ltb 8 (length (without p (items-at 8 (bootstrap-part xs))) + 1) (omega (arith, how-many, h))
+
+  module _ (zs : List ℕ) (t : HoldsSet 8 zs (renew 8 p (items-at 8 (bootstrap-part (putMid 195 9 xs ys))))) where
+    newest : HoldsSet 8 zs (renew 8 p (items-at 8 (bootstrap-part xs)))
+    unfolding part
+    newest = record { valid = t .valid; items = t .items ∙ (ap (λ (l : List ℕ). renew 8 p (items-at 8 l)) stored ∙ (ap (renew 8 p) (s .items) ∙ renew-again 8 p _)) }
+
+    renewed-words : Becomes (putMid 195 9 (putMid 195 9 xs ys) zs) (set-bootstrap (renew 8 p (items-at 8 (bootstrap-part xs))) (unpack xs))
+    renewed-words = put-bootstrap newest (put-bootstrap s (record { packed = v; same = refl }))
+
+    pub joins-lent : ValidNumbers 8 (take 17 (drop 213 (putMid 195 9 (putMid 195 9 xs ys) zs)))
+    unfolding part
+    joins-lent = of-joins _ (renewed-words .packed)
+
+    pub none-dropped : (w : Work) → w .code ≡ 0 → getD (putMid 195 9 xs ys) 203 0 < 8 → Changes (on (push-bootstrap p)) (work-of w xs) (work-of w (putMid 195 9 (putMid 195 9 xs ys) zs))
+    unfolding push-bootstrap drop-oldest-join must-drop-oldest unpack station-of
+    none-dropped w z h =
+        on-done (work-of w xs) v (push-bootstrap p) _ z
+        (λ b. subst (λ (m : List (ℕ × ℕ)). Becomes (putMid 195 9 (putMid 195 9 xs ys) zs) (set-bootstrap (renew 8 p (items-at 8 (bootstrap-part xs))) (set-joins m (unpack xs)))) (sym (choose-no _ _ _ (few-left h))) renewed-words)
+
+    pub one-dropped : (w : Work) (js : List ℕ) → w .code ≡ 0 → 8 ≤ getD (putMid 195 9 xs ys) 203 0
+        → HoldsNumbers 8 js (cut (getD (putMid 195 9 xs ys) 195 0) (numbers-at 8 (joins-part (putMid 195 9 (putMid 195 9 xs ys) zs))))
+        → Changes (on (push-bootstrap p)) (work-of w xs) (work-of w (putMid 213 17 (putMid 195 9 (putMid 195 9 xs ys) zs) js))
+    unfolding push-bootstrap drop-oldest-join must-drop-oldest oldest unpack station-of
+    one-dropped w js z h k =
+        let old : getD (putMid 195 9 xs ys) 195 0 ≡ getD (without p (items-at 8 (bootstrap-part xs))) 0 0 = first (omega (arith, how-many, h)) in
+        let same : numbers-at 8 (joins-part (putMid 195 9 (putMid 195 9 xs ys) zs)) ≡ unpack xs .joins = ap (λ (g : Station). g .joins) (renewed-words .same) in
+        on-done (work-of w xs) v (push-bootstrap p) _ z
+        (λ b. subst (λ (m : List (ℕ × ℕ)). Becomes (putMid 213 17 (putMid 195 9 (putMid 195 9 xs ys) zs) js) (set-bootstrap (renew 8 p (items-at 8 (bootstrap-part xs))) (set-joins m (unpack xs))))
+        ((λ i. cut (old i) (same i)) ∙ sym (choose-yes _ _ _ (many-left h)))
+        (put-joins k renewed-words))
 
 -- ---- a place and a number
 

@@ -1,20 +1,22 @@
 -- Lost connections, and Quit.
 -- Assumes nothing.
-use Prim.Native.Nat.{ℕ, _+_, _≤_}
-use mathlib.Core.Path.{_≡_, sym, ap, _∙_, subst}
+use Prim.Native.Nat.{ℕ, _+_}
+use mathlib.Core.Path.{_≡_, refl, sym, ap, _∙_, subst}
 use mathlib.Core.Bool.{Bool, true, false}
 use mathlib.Core.List.{List, [], _∷_}
 use native.Mathlib.Omega.{arith}
-use lib.ListN.{length, take}
+use lib.ListN.{length, take, drop}
+use lib.Dec.{ltb}
 use borrow.Rule.Slice.PartMut.{putMid}
+use Rattle.lists.specs.Array.{pad}
 use Rattle.lists.specs.Lists.{remove}
+use Rattle.lists.proofs.Choice.{by-choice}
 use Rattle.lists.proofs.Count.{length-remove}
-use Rattle.util.specs.Section.{items-at, HoldsSet}
-use Rattle.columns.specs.Columns.{HoldsNumbers, HoldsDataWords}
+use Rattle.util.specs.Section.{part, items-at, HoldsSet}
 use Rattle.protocol.specs.Station.{in-active, is-requested}
-use Rattle.protocol.specs.Run.{on}
+use Rattle.protocol.specs.Run.{Run, on, emit, draw, draw-shuffle, shuffled, message, flag}
 use Rattle.protocol.specs.Peers.{drop-data, drop-mark, remove-passive, is-marked}
-use Rattle.protocol.specs.Sending.{send-disconnect}
+use Rattle.protocol.specs.Sending.{send-nodes, fill-active, send-filled, reply-with, send-shuffle-reply, reply-length, send-disconnect}
 use Rattle.protocol.specs.Refill.{refill-active-from-passive}
 use Rattle.protocol.specs.Active.{remove-active}
 use Rattle.protocol.specs.Messages.{drop-request}
@@ -22,13 +24,14 @@ use Rattle.protocol.specs.Events.{drop-dead, lose-passive, lose-other, lose, ha
 use Rattle.protocol.proofs.Invariant.{busy, Ok}
 use Rattle.protocol.proofs.Received.{ok-drop-request}
 use Rattle.state.specs.declared.Work.{Work}
-use Rattle.state.specs.Layout.{active-part, active-view-capacity}
+use Rattle.state.specs.Layout.{active-part}
 use Rattle.state.specs.Unpack.{unpack, station-of, PackedState}
 use Rattle.state.specs.Work.{Held, work-of, run, Changes, Fine, Does}
 use Rattle.state.proofs.Access.{active-fits}
-use Rattle.state.proofs.Bridge.{on-twice, on-passed, on-done, change-then, change-yes, change-no, by, still, then, seq, seq-at, taken, left, holds-at, at-run}
-use Rattle.state.proofs.Fields.{put-passive, put-alive, put-refused, put-requests, put-peer-data}
+use Rattle.state.proofs.Bridge.{guard-shut, on-twice, on-passed, on-done, change-then, change-yes, change-no, by, still, then, seq, seq-at, taken, left, holds-at, at-run}
+use Rattle.state.proofs.Fields.{put-active}
 use Rattle.step_sending.proofs.Sets.{lent-items}
+use Rattle.step_events.proofs.Clearing.{wiped}
 use Rattle.step_active.specs.declared.Loss.the-variants.{ConnectionClosed}
 use Rattle.step_active.specs.Sane.{Calm, reason-in}
 
@@ -81,28 +84,48 @@ module _ (w a : Held) (ds out : List ℕ) (p : ℕ) (requested t : Bool) (v : Fi
 
 -- ---- Quit
 
-pub fewer-active : (xs : List ℕ) (p : ℕ) → PackedState xs → length (remove p (items-at 8 (active-part xs))) ≤ active-view-capacity xs
-fewer-active xs p v = omega (arith, length-remove p (items-at 8 (active-part xs)), active-fits xs v)
+-- a neighbor leaves the active view
+pub neighbor-removed : (w : Work) (xs ys : List ℕ) (p : ℕ) → PackedState xs → w .code ≡ 0 → HoldsSet 8 ys (remove p (items-at 8 (take 9 (drop 22 xs)))) → Changes (on (remove-neighbor p)) (work-of w xs) (work-of w (putMid 22 9 xs ys))
+unfolding remove-neighbor unpack station-of part
+neighbor-removed w xs ys p v z h =
+    on-done (work-of w xs) v _ _ z (put-active h (omega (arith, length-remove p (items-at 8 (active-part xs)), active-fits xs v)))
 
 pub quitted : (w a r : Held) (ds out o : List ℕ) (p : ℕ) → Fine w ds out → Does r ds o (send-disconnect p false (run a ds out)) → Changes (on (remove-neighbor p)) w a → Does r ds o (quit-one p (run w ds out))
 unfolding quit-one
 quitted w a r ds out o p v k₂ k₁ = seq (send-disconnect p false) k₂ (then k₁ (still v))
 
+-- where a code is set, the neighbors to come do not quit
+reply-shut : (to len : ℕ) (ps : List ℕ) (g : Run) → (g .code ≡ 0 → ⊥) → reply-with to len ps g ≡ g
+unfolding reply-with send-filled send-nodes draw-shuffle draw emit
+reply-shut to len ps g h =
+    by-choice (λ (x : Run). x ≡ g) (ltb (length ps) len)
+    (λ t. ap (send-nodes to (fill-active len ps g)) (guard-shut g _ h) ∙ guard-shut g _ h)
+    (λ t. guard-shut g _ h)
+
+quit-shut : (p : ℕ) (g : Run) → (g .code ≡ 0 → ⊥) → quit-one p g ≡ g
+unfolding quit-one send-disconnect send-shuffle-reply draw-shuffle draw on emit
+quit-shut p g h =
+    ap (send-disconnect p false) (guard-shut g _ h)
+    ∙ ap (emit (message 5 p (flag false) 0 0 [])) (ap (reply-with p (reply-length (g .station)) (take (reply-length (g .station)) (shuffled (g .station .passive) g))) (guard-shut g _ h) ∙ reply-shut p _ _ g h)
+    ∙ guard-shut g _ h
+
+pub quits-shut : (l : List ℕ) (g : Run) → (g .code ≡ 0 → ⊥) → quit-all l g ≡ g
+unfolding quit-all
+quits-shut [] g h = refl
+quits-shut (p ∷ l) g h = ap (quit-all l) (quit-shut p g h) ∙ quits-shut l g h
+
 -- the neighbors are those of the working set
-quits-are : (v xs : List ℕ) (n : ℕ) → HoldsSet 32 v (items-at 8 (active-part xs)) → n ≡ length (items-at 32 v) → take n v ≡ unpack xs .active
-unfolding unpack station-of
+quits-are : (v xs : List ℕ) (n : ℕ) → HoldsSet 32 v (items-at 8 (take 9 (drop 22 xs))) → n ≡ length (items-at 32 v) → take n v ≡ unpack xs .active
+unfolding unpack station-of part
 quits-are v xs n h e = lent-items v n (h .valid) e ∙ h .items
 
-module _ (w a : Work) (xs ys v ds out o : List ℕ) (n : ℕ) (d : Does (work-of a ys) ds o (quit-all (take n v) (run (work-of w xs) ds out))) (s : HoldsSet 32 v (items-at 8 (active-part xs))) (e : n ≡ length (items-at 32 v)) where
-  cleared : (r : Held) → Changes (on clear-all) (work-of a ys) r → Does r ds o (handle-quit (run (work-of w xs) ds out))
+module _ (w a : Work) (xs ys v ds out o : List ℕ) (n : ℕ) (d : Does (work-of a ys) ds o (quit-all (take n v) (run (work-of w xs) ds out))) (s : HoldsSet 32 v (items-at 8 (take 9 (drop 22 xs)))) (e : n ≡ length (items-at 32 v)) where
+  cleared-by : (r : Held) → Changes (on clear-all) (work-of a ys) r → Does r ds o (handle-quit (run (work-of w xs) ds out))
   unfolding handle-quit run
-  cleared r k = then k (by _ (ap (λ (l : List ℕ). quit-all l (run (work-of w xs) ds out)) (sym (quits-are v xs n s e))) d)
+  cleared-by r k = then k (by _ (ap (λ (l : List ℕ). quit-all l (run (work-of w xs) ds out)) (sym (quits-are v xs n s e))) d)
 
   pub quit-passed : (a .code ≡ 0 → ⊥) → Does (work-of a ys) ds o (handle-quit (run (work-of w xs) ds out))
-  quit-passed h = cleared (work-of a ys) (on-passed (work-of a ys) (d .fine .ready .packed) clear-all h)
+  quit-passed h = cleared-by (work-of a ys) (on-passed (work-of a ys) (d .fine .ready .packed) clear-all h)
 
-  pub quit-handled : (refused marks held passive asked : List ℕ) → a .code ≡ 0 → HoldsSet 32 refused [] → HoldsSet 32 marks [] → HoldsDataWords 80 held [] → HoldsSet 32 passive [] → HoldsNumbers 32 asked []
-      → Does (work-of a (putMid 130 65 (putMid 31 33 (putMid 230 321 (putMid 64 33 (putMid 97 33 ys refused) marks) held) passive) asked)) ds o (handle-quit (run (work-of w xs) ds out))
-  unfolding clear-all
-  quit-handled refused marks held passive asked z r m h p q =
-      cleared _ (on-done (work-of a ys) (d .fine .ready .packed) clear-all _ z (λ b. put-requests q (put-passive p (omega arith) (put-peer-data h (put-alive m (put-refused r b))))))
+  pub quit-handled : (t z : List ℕ) → a .code ≡ 0 → t ≡ pad 0 (length (take 164 (drop 31 ys))) [] → z ≡ pad 0 (length (putMid 31 164 ys t)) (take 230 (putMid 31 164 ys t)) → Does (work-of a z) ds o (handle-quit (run (work-of w xs) ds out))
+  quit-handled t z c p q = cleared-by (work-of a z) (on-done (work-of a ys) (d .fine .ready .packed) clear-all z c (λ _. wiped ys t z (d .fine .ready .packed) p q))

@@ -13,34 +13,12 @@ ghost use lib.ListN.{length};
 ghost use Rattle.peer.specs.Held.{data-in, ValidData};
 ghost use Rattle.protocol.specs.Budgets.{leaving};
 ghost use Rattle.protocol.specs.Run.{on};
-ghost use Rattle.protocol.specs.Events.{drop-oldest-join, push-bootstrap, handle-join, lose-passive, handle-connection-closed, update-own-data, remove-neighbor, handle-quit};
+ghost use Rattle.protocol.specs.Events.{push-bootstrap, handle-join, lose-passive, handle-connection-closed, update-own-data, handle-quit};
 ghost use Rattle.state.specs.Layout.{words};
 ghost use Rattle.state.specs.Unpack.{unpack, PackedState};
 ghost use Rattle.state.specs.Work.{work-of, run, Changes, Room, Tells, Fine, Does};
 ghost use Rattle.step_active.specs.Sane.{Calm};
 ghost use Rattle.step_events.specs.Free.{KnownJoins};
-
-// The bootstrap peer that leaves takes its open join with it.
-fn drop_oldest_join(w: Work, st: &mut [u64], p: PeerId) -> Work
-    requires { ⌜ length (now st) ≡ words ⌝ }
-    requires { ⌜ PackedState (now st) ⌝ }
-    ensures { λ r. ⌜ Changes (on (drop-oldest-join p)) (work-of w (now (st .entry))) (work-of r (now (st .exit))) ⌝ }
-{
-    // The bootstrap peers but p, of which there may be one too many.
-    let mut others = [0u64; Layout::SET];
-    util::copy_into(
-        &st[Layout::BOOTSTRAP..Layout::BOOTSTRAP_END],
-        Layout::FEW,
-        &mut others,
-    );
-    util::without(&mut others, Layout::ALL, p);
-    let n = util::count(&others, Layout::ALL);
-    if Timing::MAX_BOOTSTRAP_PEERS < n + 1 {
-        let old = util::get_index(&others, Layout::ALL, 0);
-        return state::drop_join(w, st, old);
-    }
-    w
-}
 
 // p is the newest bootstrap peer; a ninth evicts the oldest and its open join.
 fn push_bootstrap(w: Work, st: &mut [u64], p: PeerId) -> Work
@@ -48,17 +26,28 @@ fn push_bootstrap(w: Work, st: &mut [u64], p: PeerId) -> Work
     requires { ⌜ PackedState (now st) ⌝ }
     ensures { λ r. ⌜ Changes (on (push-bootstrap p)) (work-of w (now (st .entry))) (work-of r (now (st .exit))) ⌝ }
 {
-    let a = drop_oldest_join(w, st, p);
-    if a.code != 0 {
-        return a;
+    if w.code != 0 {
+        return w;
     }
+    // How many bootstrap peers there are but p, and the oldest of them.
+    util::without(
+        &mut st[Layout::BOOTSTRAP..Layout::BOOTSTRAP_END],
+        Layout::FEW,
+        p,
+    );
+    let n = st[Layout::BOOTSTRAP_COUNT];
+    let old = st[Layout::BOOTSTRAP];
     util::renew(
         &mut st[Layout::BOOTSTRAP..Layout::BOOTSTRAP_END],
         Layout::FEW,
         Timing::MAX_BOOTSTRAP_PEERS,
         p,
     );
-    a
+    if n < Timing::MAX_BOOTSTRAP_PEERS as u64 {
+        return w;
+    }
+    columns::remove_number(&mut st[Layout::JOINS..Layout::JOINS_END], Layout::FEW, old);
+    w
 }
 
 // A request to join the swarm through p.
@@ -74,10 +63,10 @@ pub fn handle_join(w: Work, st: &mut [u64], out: &mut [u8], p: PeerId) -> Work
         return a;
     }
     // The station itself gets a Join too, but no retry.
-    if state::is_me(st, p) {
-        return step_sending::join(a, st, out, p);
-    }
     let b = step_sending::join(a, st, out, p);
+    if state::is_me(st, p) {
+        return b;
+    }
     // Code 10 where no number is left for a join.
     let id = st[Layout::NEXT_JOIN];
     let d = state::require(b, Refusal::COUNTER, id < state::TOP_COUNTER);
@@ -153,19 +142,13 @@ pub fn update_own_data(w: Work, st: &mut [u64], d: PeerData) -> Work
     if w.code != 0 {
         return w;
     }
-    state::keep_own(st, d);
-    w
-}
-
-fn remove_neighbor(w: Work, st: &mut [u64], p: PeerId) -> Work
-    requires { ⌜ length (now st) ≡ words ⌝ }
-    requires { ⌜ PackedState (now st) ⌝ }
-    ensures { λ r. ⌜ Changes (on (remove-neighbor p)) (work-of w (now (st .entry))) (work-of r (now (st .exit))) ⌝ }
-{
-    if w.code != 0 {
-        return w;
-    }
-    util::remove(&mut st[Layout::ACTIVE..Layout::ACTIVE_END], Layout::FEW, p);
+    let b = d.bytes;
+    let low = columns::word_at(b, 0);
+    let high = columns::word_at(b, columns::WORD);
+    st[Layout::OWN_PRESENT] = d.present as u64;
+    st[Layout::OWN_LEN] = d.len as u64;
+    st[Layout::OWN_LOW] = low;
+    st[Layout::OWN_HIGH] = high;
     w
 }
 
@@ -178,23 +161,20 @@ pub fn handle_quit(w: Work, st: &mut [u64], draws: &[u32], out: &mut [u8]) -> Wo
     let mut v = [0u64; Layout::SET];
     util::copy_into(&st[Layout::ACTIVE..Layout::ACTIVE_END], Layout::FEW, &mut v);
     let n = util::count(&v, Layout::ALL);
-    // Each leaves the active view.
     let mut r = w;
     let mut i: usize = 0;
-    while i < n {
+    while (i < n) & (r.code == 0) {
         let p = v[i];
         i += 1;
-        let a = remove_neighbor(r, st, p);
-        r = step_sending::send_disconnect(a, st, draws, out, p, false);
+        // It leaves the active view.
+        util::remove(&mut st[Layout::ACTIVE..Layout::ACTIVE_END], Layout::FEW, p);
+        r = step_sending::send_disconnect(r, st, draws, out, p, false);
     }
-    // Nothing is held of other peers any more.
     if r.code != 0 {
         return r;
     }
-    util::clear(&mut st[Layout::REFUSED..Layout::REFUSED_END], Layout::ALL);
-    util::clear(&mut st[Layout::MARKS..Layout::MARKS_END], Layout::ALL);
-    columns::clear_data(&mut st[Layout::HELD..Layout::HELD_END], Layout::DATA_CAP);
-    util::clear(&mut st[Layout::PASSIVE..Layout::PASSIVE_END], Layout::ALL);
-    columns::clear_numbers(&mut st[Layout::ASKED..Layout::ASKED_END], Layout::ALL);
+    // Nothing is held of other peers any more: no passive view, marks, refusals and requests, and no data.
+    util::clear_from(&mut st[Layout::PASSIVE..Layout::ASKED_END], 0);
+    util::clear_from(st, Layout::HELD);
     r
 }

@@ -15,17 +15,14 @@ use Rattle.step_events.proofs.handle_join.Tie as tie
 abbrev push-to-start : tie.After-push-bootstrap → tie.Start
 push-to-start c = c .before .before .before .before
 
-abbrev is-me-to-push : tie.After-is-me → tie.After-push-bootstrap
-is-me-to-push c = c .before .before .before .before .before .before .before
+abbrev join-to-push : tie.After-join → tie.After-push-bootstrap
+join-to-push c = c .before .before .before .before .before .before .before .before
 
-abbrev join2-to-is-me : tie.After-join2 → tie.After-is-me
-join2-to-is-me c = c .before .before .before .before
-
-abbrev require-to-join2 : tie.After-require → tie.After-join2
-require-to-join2 c = c .before .before .before .before
+abbrev require-to-join : tie.After-require → tie.After-join
+require-to-join c = c .before .before .before .before .before .before .before
 
 abbrev require-to-push : tie.After-require → tie.After-push-bootstrap
-require-to-push c = is-me-to-push (join2-to-is-me (require-to-join2 c))
+require-to-push c = join-to-push (require-to-join c)
 
 abbrev emit-to-require : tie.After-emit-bare → tie.After-require
 emit-to-require c = c .before .before .before .before .before .before .before .before
@@ -44,13 +41,13 @@ returns c =
     let at-push = c .before .before .before .before .before in
     not-new _ _ _ _ _ (push-to-start at-push .pre .1 .0) (at-push .push-bootstrap .ensures) (c .before .in-active .ensures) (c .if1 .taken)
 
-is-me-requires : tie.Need-is-me-requires
-is-me-requires c κs = search needs
-
 join-requires : tie.Need-join-requires
 join-requires c κs =
-    let at-push = is-me-to-push (c .before .before .before) in
+    let at-push = c .before .before .before .before .before .before .before in
     (search needs, room-kept _ _ _ _ (at-push .push-bootstrap .ensures) (push-to-start at-push .pre .1 .0))
+
+is-me-requires : tie.Need-is-me-requires
+is-me-requires c κs = search needs
 
 same-length-2 : tie.Need-same-length-2
 same-length-2 c = search needs
@@ -60,17 +57,13 @@ same-length-3 c = search needs
 
 returns-2 : tie.Need-returns-2
 returns-2 c =
-    let at-join = c .before .before in
-    let at-if2 = at-join .before .before .before in
-    let at-is-me = at-if2 .before in
-    let at-if1 = at-is-me .before .before in
-    let at-push = is-me-to-push at-is-me in
-    joined-self _ _ _ _ _ (push-to-start at-push .pre .1 .0) (at-push .push-bootstrap .ensures) (at-if1 .before .in-active .ensures) _ (at-if1 .if1 .left) (at-is-me .is-me .ensures) _ _ (at-if2 .if2 .taken) (at-join .join .ensures)
-
-join-requires-2 : tie.Need-join-requires-2
-join-requires-2 c κs =
-    let at-push = is-me-to-push (c .before .before .before) in
-    (search needs, room-kept _ _ _ _ (at-push .push-bootstrap .ensures) (push-to-start at-push .pre .1 .0))
+    let at-is-me = c .before in
+    let at-join = c .before .before .before .before .before in
+    let at-if1 = at-join .before .before .before in
+    let at-push = join-to-push at-join in
+    let given = push-to-start at-push .pre .1 in
+    let told = at-join .join .ensures in
+    joined-self _ _ _ _ _ (given .0) (at-push .push-bootstrap .ensures) (at-if1 .before .in-active .ensures) _ (at-if1 .if1 .left) (at-is-me .is-me .ensures) _ _ (c .if2 .taken) told
 
 slice-read-id : tie.Need-slice-read-id
 slice-read-id c = search needs
@@ -87,13 +80,13 @@ same-length-5 c = search needs
 returns-3 : tie.Need-returns-3
 returns-3 c =
     let at-require = c .before .before in
-    let at-join2 = require-to-join2 at-require in
-    let at-if2 = at-join2 .before .before .before in
-    let at-is-me = join2-to-is-me at-join2 in
-    let at-if1 = at-is-me .before .before in
-    let at-push = is-me-to-push at-is-me in
-    let told = at-join2 .join2 .ensures in
-    joined-other _ _ _ _ _ (push-to-start at-push .pre .1 .0) (at-push .push-bootstrap .ensures) (at-if1 .before .in-active .ensures) _ (at-if1 .if1 .left) (at-is-me .is-me .ensures) _ _ _ _ (at-if2 .if2 .left) (join-refused _ _ _ _ (told .room .packed) (at-require .require .ensures) _ (told .room) (c .if3 .taken)) told
+    let at-if2 = at-require .before .before in
+    let at-join = require-to-join at-require in
+    let at-if1 = at-join .before .before .before in
+    let at-push = join-to-push at-join in
+    let given = push-to-start at-push .pre .1 in
+    let told = at-join .join .ensures in
+    joined-other _ _ _ _ _ (given .0) (at-push .push-bootstrap .ensures) (at-if1 .before .in-active .ensures) _ (at-if1 .if1 .left) (at-if2 .before .is-me .ensures) _ _ _ _ (at-if2 .if2 .left) (join-refused _ _ _ _ (told .room .packed) (at-require .require .ensures) _ (told .room) (c .if3 .taken)) told
 
 sub-insert-number : tie.Need-sub-insert-number
 sub-insert-number c = search needs
@@ -109,7 +102,7 @@ unfolding part unpack station-of
 insert-number-requires c κs =
     let at-require = c .before .before .before in
     let at-push = require-to-push at-require in
-    let told = require-to-join2 at-require .join2 .ensures in
+    let told = require-to-join at-require .join .ensures in
     let packed = told .room .packed in
     let free = free-after-push _ _ _ _ _ (at-push .push-bootstrap .ensures) (push-to-start at-push .pre .1 .1) in
     (search (of-packed, needs, packed), place-left _ _ _ _ packed (at-require .require .ensures) (free-after-join _ _ _ _ _ _ _ told free) (c .before .if3 .left))
@@ -117,38 +110,38 @@ insert-number-requires c κs =
 add-st : tie.Need-add-st
 add-st c =
     let at-require = c .before .before .before .before .before .before in
-    record { fits = omega (arith, number-left _ _ _ 0 (require-to-join2 at-require .join2 .ensures .room .packed) (at-require .require .ensures) (c .before .before .before .before .if3 .left)) }
+    record { fits = omega (arith, number-left _ _ _ 0 (require-to-join at-require .join .ensures .room .packed) (at-require .require .ensures) (c .before .before .before .before .if3 .left)) }
 
 slice-write-st : tie.Need-slice-write-st
 slice-write-st c =
     let at-push = require-to-push (c .before .before .before .before .before .before) in
     search (needs, at-push .push-bootstrap .kept, push-to-start at-push .pre .0)
 
-cast-t27 : tie.Need-cast-t27
-cast-t27 c = search needs
+cast-t23 : tie.Need-cast-t23
+cast-t23 c = search needs
 
 emit-bare-requires : tie.Need-emit-bare-requires
 emit-bare-requires c κs = search needs
+
+same-length-7 : tie.Need-same-length-7
+same-length-7 c = search needs
 
 returns-4 : tie.Need-returns-4
 unfolding note-join unpack station-of part
 returns-4 c =
     let at-emit = c .before .before in
     let at-require = emit-to-require at-emit in
-    let at-join2 = require-to-join2 at-require in
-    let at-if2 = at-join2 .before .before .before in
-    let at-is-me = join2-to-is-me at-join2 in
-    let at-if1 = at-is-me .before .before in
-    let at-push = is-me-to-push at-is-me in
-    let told = at-join2 .join2 .ensures in
+    let at-if2 = at-require .before .before in
+    let at-join = require-to-join at-require in
+    let at-if1 = at-join .before .before .before in
+    let at-push = join-to-push at-join in
+    let given = push-to-start at-push .pre .1 in
+    let told = at-join .join .ensures in
     let packed = told .room .packed in
-    joined-other _ _ _ _ _ (push-to-start at-push .pre .1 .0) (at-push .push-bootstrap .ensures) (at-if1 .before .in-active .ensures) _ (at-if1 .if1 .left) (at-is-me .is-me .ensures) _ _ _ _ (at-if2 .if2 .left) (awaited _ _ _ _ _ _ _ _ (told .room) (at-emit .emit-bare .ensures) (join-opened _ _ _ _ packed (at-require .require .ensures) _ _ (on-done _ packed _ _ (at-emit .before .before .before .before .before .before .if3 .left) (λ b. put-next-join _ (put-joins (at-emit .before .before .before .before .insert-number .ensures) b))))) told
+    joined-other _ _ _ _ _ (given .0) (at-push .push-bootstrap .ensures) (at-if1 .before .in-active .ensures) _ (at-if1 .if1 .left) (at-if2 .before .is-me .ensures) _ _ _ _ (at-if2 .if2 .left) (awaited _ _ _ _ _ _ _ _ (told .room) (at-emit .emit-bare .ensures) (join-opened _ _ _ _ packed (at-require .require .ensures) _ _ (on-done _ packed _ _ (at-emit .before .before .before .before .before .before .if3 .left) (λ b. put-next-join _ (put-joins (at-emit .before .before .before .before .insert-number .ensures) b))))) told
 
 same-length-6 : tie.Need-same-length-6
 same-length-6 c = long (returns-4 c .room .packed) ∙ sym (push-to-start (require-to-push (emit-to-require (c .before .before))) .pre .0)
-
-same-length-7 : tie.Need-same-length-7
-same-length-7 c = search needs
 
 pub handle-join-spec : {M : Type 1} → statement M
 handle-join-spec =
@@ -158,12 +151,11 @@ handle-join-spec =
     in-active-requires
     same-length
     returns
-    is-me-requires
     join-requires
+    is-me-requires
     same-length-2
     same-length-3
     returns-2
-    join-requires-2
     slice-read-id
     require-requires
     same-length-4
@@ -175,7 +167,7 @@ handle-join-spec =
     insert-number-requires
     add-st
     slice-write-st
-    cast-t27
+    cast-t23
     emit-bare-requires
     same-length-6
     same-length-7

@@ -1,10 +1,14 @@
 -- The neighbors to come, after what was done so far, quit as well in the answer. The measure is what is left.
 use Prim.Native.Nat.{ℕ, _+_, _-_, _≤_, _<_}
 use mathlib.Core.Path.{_≡_, refl, sym, ap, _∙_}
-use mathlib.Core.Bool.{false}
+use mathlib.Core.Bool.{Bool, true, false, _&&_}
 use mathlib.Core.List.{List}
 use native.Mathlib.Omega.{arith}
 use lib.ListN.{length, take, getD}
+use lib.Seq.{slice}
+use lib.Dec.{eqb, ltb}
+use borrow.Author.Tests.{ltb-true, ltb-false, eqb-true, eqb-false}
+use Rattle.lists.proofs.Choice.{split, clash, and-left, and-right}
 use Rattle.lists.proofs.Rest.{Rest, rest-next, rest-end}
 use Rattle.util.specs.Section.{part, items-at, HoldsSet}
 use Rattle.protocol.specs.Run.{Run, on}
@@ -12,11 +16,11 @@ use Rattle.protocol.specs.Sending.{send-disconnect}
 use Rattle.protocol.specs.Events.{remove-neighbor, quit-all}
 use Rattle.state.specs.declared.Work.{Work}
 use Rattle.state.specs.Layout.{words}
-use Rattle.state.specs.Unpack.{unpack, station-of, long}
+use Rattle.state.specs.Unpack.{long}
 use Rattle.state.specs.Work.{work-of, run, Changes, Fine, Does}
-use Rattle.state.proofs.Access.{of-packed}
+use Rattle.state.proofs.Access.{of-packed, of-active}
 use Rattle.step_refill.proofs.Asking.{fine-after}
-use Rattle.step_events.proofs.Leaving.{quitted, quit-passed, quit-handled}
+use Rattle.step_events.proofs.Leaving.{neighbor-removed, quitted, quits-shut, quit-passed, quit-handled}
 use borrow.Author.Needs.{needs}
 use Rattle.step_events.proofs.handle_quit.Statement.{statement}
 use Rattle.step_events.proofs.handle_quit.Tie as tie
@@ -55,6 +59,21 @@ end : (w : Work) (st₀ ds out₀ v : List ℕ) (n : ℕ) (st out : List ℕ) (r
 unfolding quit-all
 end w st₀ ds out₀ v n st out r i q h = record { fine = q .fine; same = sym (rest-end 0 Then (q .rest) h) }
 
+stopped : (w : Work) (st₀ ds out₀ v : List ℕ) (n : ℕ) (st out : List ℕ) (r : Work) (i : ℕ) → Quitting w st₀ ds out₀ v n st out r i → (r .code ≡ 0 → ⊥) → Does (work-of r st) ds out (quit-all (take n v) (run (work-of w st₀) ds out₀))
+unfolding run
+stopped w st₀ ds out₀ v n st out r i q h = record { fine = q .fine; same = sym (q .rest .same ∙ quits-shut (slice i n v) (run (work-of r st) ds out) h) }
+
+-- what the loop's test says
+and-rest : (a b : Bool) → a ≡ true → (a && b) ≡ false → b ≡ false
+and-rest true b h e = e
+and-rest false b h e = clash false h refl
+
+going : (i n code : ℕ) → (ltb i n && eqb code 0) ≡ true → (i < n) × (code ≡ 0)
+going i n code e = (ltb-true _ _ (and-left (ltb i n) (eqb code 0) e), eqb-true _ _ (and-right (ltb i n) (eqb code 0) e))
+
+gone : (i n code : ℕ) → code ≡ 0 → (ltb i n && eqb code 0) ≡ false → n ≤ i
+gone i n code z e = split (ltb i n) (λ t. absurd (eqb-false _ _ (and-rest (ltb i n) (eqb code 0) t e) z)) (λ t. ltb-false _ _ t)
+
 same : (a b : ℕ) → a ≡ words → b ≡ words → a ≡ b
 same a b p q = p ∙ sym q
 
@@ -65,26 +84,17 @@ abbrev μ-loop : tie.MeasureT-loop
 μ-loop st₀ draws out₀ v n r₀ i₀ st out r i = n - i
 
 -- The ways back, from a place to an earlier one.
+abbrev loop-to-copy-into : tie.At-loop Inv-loop μ-loop → tie.After-copy-into Inv-loop μ-loop
+loop-to-copy-into c = c .before .before .before .before
+
 abbrev copy-into-to-start : tie.After-copy-into Inv-loop μ-loop → tie.Start Inv-loop μ-loop
 copy-into-to-start c = c .before .before .before .before .before .before .before
 
-abbrev at-loop-to-copy-into : tie.At-loop Inv-loop μ-loop → tie.After-copy-into Inv-loop μ-loop
-at-loop-to-copy-into c = c .before .before .before .before
+abbrev remove-to-loop : tie.After-remove Inv-loop μ-loop → tie.At-loop Inv-loop μ-loop
+remove-to-loop c = c .before .before .before .before
 
-abbrev remove-neighbor-to-in-loop : tie.After-remove-neighbor Inv-loop μ-loop → tie.In-loop Inv-loop μ-loop
-remove-neighbor-to-in-loop c = c .before .before
-
-abbrev clear-to-at-loop : tie.After-clear Inv-loop μ-loop → tie.At-loop Inv-loop μ-loop
-clear-to-at-loop c = c .before .before .before .before .before
-
-abbrev clear-data-to-clear : tie.After-clear-data Inv-loop μ-loop → tie.After-clear Inv-loop μ-loop
-clear-data-to-clear c = c .before .before .before .before .before .before .before .before
-
-abbrev clear-numbers-to-clear-data : tie.After-clear-numbers Inv-loop μ-loop → tie.After-clear-data Inv-loop μ-loop
-clear-numbers-to-clear-data c = c .before .before .before .before .before .before .before .before
-
-abbrev at-loop-to-start : tie.At-loop Inv-loop μ-loop → tie.Start Inv-loop μ-loop
-at-loop-to-start c = copy-into-to-start (at-loop-to-copy-into c)
+abbrev clear-from-to-loop : tie.After-clear-from Inv-loop μ-loop → tie.At-loop Inv-loop μ-loop
+clear-from-to-loop c = c .before .before .before .before .before .before
 
 sub-copy-into : tie.Need-sub-copy-into Inv-loop μ-loop
 sub-copy-into c = search needs
@@ -121,20 +131,38 @@ array-read-p c = search needs
 add-i : tie.Need-add-i Inv-loop μ-loop
 add-i c = search needs
 
-remove-neighbor-requires : tie.Need-remove-neighbor-requires Inv-loop μ-loop
-remove-neighbor-requires c κs = search needs
+sub-remove : tie.Need-sub-remove Inv-loop μ-loop
+sub-remove c = search needs
+
+part-remove-start : tie.Need-part-remove-start Inv-loop μ-loop
+part-remove-start c = search needs
+
+part-remove-end : tie.Need-part-remove-end Inv-loop μ-loop
+part-remove-end c = search needs
+
+remove-requires : tie.Need-remove-requires Inv-loop μ-loop
+unfolding part
+remove-requires c κs = of-active _ (c .before .before .before .loop .inv .fine .ready .packed)
 
 send-disconnect-requires : tie.Need-send-disconnect-requires Inv-loop μ-loop
-send-disconnect-requires c κs = (search needs, fine-after _ _ _ _ _ _ (c .before .before .before .before .before .before .before .loop .inv .fine) (c .before .before .before .before .remove-neighbor .ensures))
+send-disconnect-requires c κs =
+    let at-remove = c .before .before .before .before in
+    let at-loop = remove-to-loop at-remove in
+    let fine = at-loop .loop .inv .fine in
+    let left = neighbor-removed _ _ _ _ (fine .ready .packed) (going (at-loop .loop .i) (at-loop .before .count .result) _ (at-remove .before .before .if1 .taken) .1) (at-remove .remove .ensures) in
+    (long (left .packed), fine-after _ _ _ _ _ _ fine left)
 
 loop-less : tie.Need-loop-less Inv-loop μ-loop
-loop-less c = search needs
+loop-less c =
+    let at-loop = c .before .before .before .before .before .before .before .before .before .before .before in
+    search (needs, going (at-loop .loop .i) (at-loop .before .count .result) (at-loop .loop .r .code) (c .before .before .before .before .before .before .before .before .before .if1 .taken) .0)
 
 loop-again : tie.Need-loop-again Inv-loop μ-loop
 loop-again c =
     let at-remove = c .before .before .before .before .before .before .before in
-    let inside = remove-neighbor-to-in-loop at-remove in
-    next _ _ _ _ _ _ _ _ _ _ _ _ _ _ (inside .before .loop .inv) (inside .loop-test .taken) (c .before .before .send-disconnect .ensures) (at-remove .remove-neighbor .ensures) (search needs) (search needs)
+    let inv = remove-to-loop at-remove .loop .inv in
+    let on = going _ _ _ (at-remove .before .before .if1 .taken) in
+    next _ _ _ _ _ _ _ _ _ _ _ _ _ _ inv (on .0) (c .before .before .send-disconnect .ensures) (neighbor-removed _ _ _ _ (inv .fine .ready .packed) (on .1) (at-remove .remove .ensures)) (search needs) (search needs)
 
 same-length : tie.Need-same-length Inv-loop μ-loop
 same-length c = search needs
@@ -143,89 +171,40 @@ same-length-2 : tie.Need-same-length-2 Inv-loop μ-loop
 same-length-2 c = search needs
 
 returns : tie.Need-returns Inv-loop μ-loop
-unfolding part unpack station-of
 returns c =
-    let at = c .before .before .before in
-    let at-count = at .before in
-    quit-passed _ _ _ _ _ _ _ _ (at-count .count .result) (end _ _ _ _ _ _ _ _ _ _ (at .loop .inv) (c .before .before .loop-test .left)) (at-loop-to-copy-into at .copy-into .ensures) (search (at-count .count .ensures)) (c .if1 .taken)
+    let at-loop = c .before .before .before .before in
+    let at-count = at-loop .before in
+    quit-passed _ _ _ _ _ _ _ _ (at-count .count .result) (stopped _ _ _ _ _ _ _ _ _ _ (at-loop .loop .inv) (c .if2 .taken)) (loop-to-copy-into at-loop .copy-into .ensures) (search (at-count .count .ensures)) (c .if2 .taken)
 
-sub-clear : tie.Need-sub-clear Inv-loop μ-loop
-sub-clear c = search needs
+sub-clear-from : tie.Need-sub-clear-from Inv-loop μ-loop
+sub-clear-from c = search needs
 
-part-clear-start : tie.Need-part-clear-start Inv-loop μ-loop
-part-clear-start c = search needs
+part-clear-from-start : tie.Need-part-clear-from-start Inv-loop μ-loop
+part-clear-from-start c = search needs
 
-part-clear-end : tie.Need-part-clear-end Inv-loop μ-loop
-part-clear-end c = search needs
+part-clear-from-end : tie.Need-part-clear-from-end Inv-loop μ-loop
+part-clear-from-end c = search needs
 
-clear-requires : tie.Need-clear-requires Inv-loop μ-loop
-clear-requires c κs = search needs
+clear-from-requires : tie.Need-clear-from-requires Inv-loop μ-loop
+clear-from-requires c κs = search needs
 
-sub-clear-2 : tie.Need-sub-clear-2 Inv-loop μ-loop
-sub-clear-2 c = search needs
-
-part-clear-start-2 : tie.Need-part-clear-start-2 Inv-loop μ-loop
-part-clear-start-2 c = search needs
-
-part-clear-end-2 : tie.Need-part-clear-end-2 Inv-loop μ-loop
-part-clear-end-2 c = search needs
-
-clear-requires-2 : tie.Need-clear-requires-2 Inv-loop μ-loop
-clear-requires-2 c κs = search needs
-
-sub-clear-data : tie.Need-sub-clear-data Inv-loop μ-loop
-sub-clear-data c = search needs
-
-part-clear-data-start : tie.Need-part-clear-data-start Inv-loop μ-loop
-part-clear-data-start c = search needs
-
-part-clear-data-end : tie.Need-part-clear-data-end Inv-loop μ-loop
-part-clear-data-end c = search needs
-
-clear-data-requires : tie.Need-clear-data-requires Inv-loop μ-loop
-clear-data-requires c κs = search needs
-
-sub-clear-3 : tie.Need-sub-clear-3 Inv-loop μ-loop
-sub-clear-3 c = search needs
-
-part-clear-start-3 : tie.Need-part-clear-start-3 Inv-loop μ-loop
-part-clear-start-3 c = search needs
-
-part-clear-end-3 : tie.Need-part-clear-end-3 Inv-loop μ-loop
-part-clear-end-3 c = search needs
-
-clear-requires-3 : tie.Need-clear-requires-3 Inv-loop μ-loop
-clear-requires-3 c κs = search needs
-
-sub-clear-numbers : tie.Need-sub-clear-numbers Inv-loop μ-loop
-sub-clear-numbers c = search needs
-
-part-clear-numbers-start : tie.Need-part-clear-numbers-start Inv-loop μ-loop
-part-clear-numbers-start c = search needs
-
-part-clear-numbers-end : tie.Need-part-clear-numbers-end Inv-loop μ-loop
-part-clear-numbers-end c = search needs
-
-clear-numbers-requires : tie.Need-clear-numbers-requires Inv-loop μ-loop
-clear-numbers-requires c κs = search needs
-
-returns-2 : tie.Need-returns-2 Inv-loop μ-loop
-unfolding part unpack station-of
-returns-2 c =
-    let at-numbers = c .before .before in
-    let at-data = clear-numbers-to-clear-data at-numbers in
-    let at-clear = clear-data-to-clear at-data in
-    let at = clear-to-at-loop at-clear in
-    let at-count = at .before in
-    quit-handled _ _ _ _ _ _ _ _ (at-count .count .result) (end _ _ _ _ _ _ _ _ _ _ (at .loop .inv) (at-clear .before .before .before .before .loop-test .left)) (at-loop-to-copy-into at .copy-into .ensures) (search (at-count .count .ensures)) _ _ _ _ _ (at-clear .before .before .if1 .left) (at-clear .clear .ensures) (at-data .before .before .before .before .clear2 .ensures) (at-data .clear-data .ensures) (at-numbers .before .before .before .before .clear3 .ensures) (at-numbers .clear-numbers .ensures)
-
-same-length-3 : tie.Need-same-length-3 Inv-loop μ-loop
-same-length-3 c =
-    let at = clear-to-at-loop (clear-data-to-clear (clear-numbers-to-clear-data (c .before .before))) in
-    same _ _ (long (returns-2 c .fine .ready .packed)) (at-loop-to-start at .pre .0)
+clear-from-requires-2 : tie.Need-clear-from-requires-2 Inv-loop μ-loop
+clear-from-requires-2 c κs = search needs
 
 same-length-4 : tie.Need-same-length-4 Inv-loop μ-loop
 same-length-4 c = search needs
+
+returns-2 : tie.Need-returns-2 Inv-loop μ-loop
+returns-2 c =
+    let at-clear-from = c .before .before .before .before .before .before in
+    let at-loop = clear-from-to-loop at-clear-from in
+    let at-count = at-loop .before in
+    let code = at-clear-from .before .before .if2 .left in
+    let done = end _ _ _ _ _ _ _ _ _ _ (at-loop .loop .inv) (gone _ _ _ code (at-clear-from .before .before .before .before .if1 .left)) in
+    quit-handled _ _ _ _ _ _ _ _ (at-count .count .result) done (loop-to-copy-into at-loop .copy-into .ensures) (search (at-count .count .ensures)) _ _ code (at-clear-from .clear-from .ensures) (c .before .before .clear-from2 .ensures)
+
+same-length-3 : tie.Need-same-length-3 Inv-loop μ-loop
+same-length-3 c = same _ _ (long (returns-2 c .fine .ready .packed)) (copy-into-to-start (loop-to-copy-into (clear-from-to-loop (c .before .before .before .before .before .before))) .pre .0)
 
 pub handle-quit-spec : {M : Type 1} → statement M
 handle-quit-spec =
@@ -244,33 +223,21 @@ handle-quit-spec =
     mul-p
     array-read-p
     add-i
-    remove-neighbor-requires
+    sub-remove
+    part-remove-start
+    part-remove-end
+    remove-requires
     send-disconnect-requires
     loop-less
     loop-again
     same-length
     same-length-2
     returns
-    sub-clear
-    part-clear-start
-    part-clear-end
-    clear-requires
-    sub-clear-2
-    part-clear-start-2
-    part-clear-end-2
-    clear-requires-2
-    sub-clear-data
-    part-clear-data-start
-    part-clear-data-end
-    clear-data-requires
-    sub-clear-3
-    part-clear-start-3
-    part-clear-end-3
-    clear-requires-3
-    sub-clear-numbers
-    part-clear-numbers-start
-    part-clear-numbers-end
-    clear-numbers-requires
+    sub-clear-from
+    part-clear-from-start
+    part-clear-from-end
+    clear-from-requires
+    clear-from-requires-2
     same-length-3
     same-length-4
     returns-2)
