@@ -1,4 +1,4 @@
--- The words after Quit: two runs of zeroes, which are seven empty sections.
+-- The words after Quit: two runs of zeroes, which are five empty sections.
 -- Assumes nothing.
 use Prim.Native.Nat.{ℕ, _+_, _≤_}
 use mathlib.Core.Path.{_≡_, refl, sym, ap, _∙_, subst}

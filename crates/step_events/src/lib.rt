@@ -50,7 +50,7 @@ fn push_bootstrap(w: Work, st: &mut [u64], p: PeerId) -> Work
     w
 }
 
-// A request to join the swarm through p.
+// A request to join the swarm through p; a neighbor needs no Join.
 pub fn handle_join(w: Work, st: &mut [u64], out: &mut [u8], p: PeerId) -> Work
     requires { ⌜ length (now st) ≡ words ⌝ }
     requires { ⌜ Room (work-of w (now st)) (now out) ⌝ }
@@ -58,7 +58,6 @@ pub fn handle_join(w: Work, st: &mut [u64], out: &mut [u8], p: PeerId) -> Work
     ensures { λ r. ⌜ Tells (handle-join p) (work-of w (now (st .entry))) (work-of r (now (st .exit))) (now (out .entry)) (now (out .exit)) ⌝ }
 {
     let a = push_bootstrap(w, st, p);
-    // A neighbor needs no Join.
     if state::in_active(st, p) {
         return a;
     }
