@@ -20,8 +20,8 @@ ghost use Rattle.protocol.specs.Run.{on, draw, draw-one-of, draw-shuffle, requi
 ghost use Rattle.protocol.specs.Setters.{set-refill};
 ghost use Rattle.protocol.specs.Messages.{drop-join, drop-request, drop-pending};
 ghost use Rattle.protocol.specs.Station.{is-me, in-active, in-passive, in-view, is-alone, active-is-full, passive-is-full, is-short, is-last-hop};
-ghost use Rattle.protocol.specs.Station.{is-recovery, is-automatic, is-spent, is-requested};
-ghost use Rattle.protocol.specs.Refill.{few-requests, unless-recovery, one-less};
+ghost use Rattle.protocol.specs.Station.{is-recovery, is-spent, is-requested};
+ghost use Rattle.protocol.specs.Refill.{few-requests, unless-recovery};
 ghost use Rattle.state.specs.Layout.{words, all-places};
 ghost use Rattle.state.specs.Unpack.{unpack, own-at, limit-at, refill-in, PackedState, Becomes};
 ghost use Rattle.state.specs.Work.{work-of, Changes, ChangesAny, DrawsAny, Reaches, TellsAny, after-record};
@@ -244,16 +244,6 @@ impl RefillLimit {
         }
     }
 
-    pub fn is_automatic(self) -> bool
-        ensures { λ r. ⌜ r ≡ is-automatic (refill-in self) ⌝ }
-    {
-        match self {
-            RefillLimit::Automatic => true,
-            RefillLimit::Requests(_) => false,
-            RefillLimit::Recovery => false,
-        }
-    }
-
     // Whether no request is left.
     pub fn is_spent(self) -> bool
         ensures { λ r. ⌜ r ≡ is-spent (refill-in self) ⌝ }
@@ -280,22 +270,6 @@ impl RefillLimit {
             return RefillLimit::Recovery;
         }
         new
-    }
-
-    // The limit after one more request.
-    pub fn one_less(self) -> RefillLimit
-        ensures { λ r. ⌜ refill-in r ≡ one-less (refill-in self) ⌝ }
-    {
-        match self {
-            RefillLimit::Automatic => RefillLimit::Automatic,
-            RefillLimit::Requests(n) => {
-                if n == 0 {
-                    return RefillLimit::Requests(0);
-                }
-                RefillLimit::Requests(n - 1)
-            }
-            RefillLimit::Recovery => RefillLimit::Recovery,
-        }
     }
 }
 

@@ -2,11 +2,11 @@
 -- Assumes nothing.
 use Prim.Native.Nat.{ℕ, _+_, _≤_, _<_}
 use mathlib.Core.Path.{_≡_, refl, sym, ap, _∙_}
-use mathlib.Core.Bool.{Bool, true, false, _||_}
+use mathlib.Core.Bool.{Bool, true, false, _&&_, _||_}
 use mathlib.Core.List.{List, [], _∷_, _++_}
 use native.Mathlib.Omega.{arith}
 use lib.ListN.{length, take, drop, getD, set}
-use lib.Dec.{leb}
+use lib.Dec.{leb, eqb}
 use borrow.Rule.Slice.PartMut.{putMid}
 use Rattle.lists.specs.Array.{pad}
 use Rattle.lists.specs.Lists.{choose, null, without-all}
@@ -17,15 +17,16 @@ use Rattle.util.specs.Chances.{pick}
 use Rattle.util.specs.Section.{part, items-at, ValidSet, HoldsSet}
 use Rattle.util.proofs.Sets.{set-as, set-then, set-stored}
 use Rattle.columns.specs.Columns.{numbers-at}
-use Rattle.protocol.specs.Station.{Station, Refill, is-alone, is-spent, asked-outside}
+use Rattle.protocol.specs.Station.{Station, Refill, is-alone, asked-outside}
 use Rattle.protocol.specs.Run.{Run, on, to-draw, one-of, draw-one-of, picked}
 use Rattle.protocol.specs.Sending.{send-neighbor}
 use Rattle.protocol.specs.Refill.{use-request, end-recovery, limit-short, skipped, candidates, ask-picked, ask-one, refill-limited, needs-none, refill-active-from-passive, begin-refill, start-refill}
 use Rattle.state.specs.declared.Work.{Work}
-use Rattle.state.specs.Layout.{active-view-capacity, active-part, requests-part}
-use Rattle.state.specs.declared.RefillLimit.{RefillLimit}
-use Rattle.state.specs.Unpack.{unpack, station-of, settings-at, limit-at, refill-in}
+use Rattle.state.specs.Layout.{active-view-capacity, refill-kind, refill-requests, active-part, requests-part}
+use Rattle.state.specs.Unpack.{unpack, station-of, settings-at, PackedState}
 use Rattle.state.specs.Work.{Held, work-of, run, Changes, DrawsAny, Tells, Fine, Does}
+use Rattle.state.proofs.Access.{of-active, count-active}
+use Rattle.state.proofs.Limits.{says-spent}
 use Rattle.state.proofs.Bridge.{by, still, then, then-tell, seq, taken, left, holds-at}
 use Rattle.state.proofs.Any.{then-draw-any}
 
@@ -122,13 +123,12 @@ module _ (skip from : List ℕ) (w : Work) (xs ds out : List ℕ) (t : Bool) (c 
 
 -- ---- whether one is asked at all
 
-pub none-needed : (xs t : List ℕ) (n asked : ℕ) (l : RefillLimit) (spent : Bool) → l ≡ limit-at xs → HoldsSet 32 t (asked-outside (unpack xs)) → asked ≡ length (items-at 32 t) → n ≡ length (items-at 8 (active-part xs))
-    → spent ≡ is-spent (refill-in l) → (leb (active-view-capacity xs) (n + asked) || spent) ≡ needs-none (unpack xs)
+pub none-needed : (xs t : List ℕ) → PackedState xs → HoldsSet 32 t (asked-outside (unpack xs)) → (leb (active-view-capacity xs) (getD xs 30 0 + getD t 32 0) || (eqb (refill-kind xs) 1 && eqb (refill-requests xs) 0)) ≡ needs-none (unpack xs)
 unfolding needs-none unpack station-of settings-at
-none-needed xs t n asked l spent e h q u b =
-    let c = q ∙ ap length (h .items) in
-    let d = b ∙ ap (λ (x : RefillLimit). is-spent (refill-in x)) e in
-    λ i. leb (active-view-capacity xs) (u i + c i) || d i
+none-needed xs t p h =
+    let n : getD xs 30 0 ≡ length (items-at 8 (active-part xs)) = sym (count-active xs (of-active xs p)) in
+    let asked : getD t 32 0 ≡ length (asked-outside (unpack xs)) = sym (h .valid .counted) ∙ ap length (h .items) in
+    λ i. leb (active-view-capacity xs) (n i + asked i) || says-spent xs i
 
 module _ (skip : List ℕ) (w : Work) (xs ds out : List ℕ) (t : Bool) (v : Fine (work-of w xs) ds out) (e : t ≡ needs-none (unpack xs)) where
   pub not-needed : t ≡ true → Does (work-of w xs) ds out (refill-active-from-passive skip (run (work-of w xs) ds out))

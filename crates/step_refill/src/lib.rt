@@ -3,30 +3,17 @@ use peer::PeerId;
 use state::Layout;
 use state::RefillLimit;
 use state::Work;
+use timing::Timing;
 ghost use mathlib.Core.Path.{_≡_};
 ghost use lib.ListN.{length};
 ghost use Rattle.util.specs.Section.{HoldsSet};
 ghost use Rattle.protocol.specs.Station.{asked-outside};
-ghost use Rattle.protocol.specs.Setters.{set-refill};
 ghost use Rattle.protocol.specs.Run.{on};
-ghost use Rattle.protocol.specs.Refill.{end-recovery, limit-short, candidates, refill-limited, refill-active-from-passive, start-refill};
+ghost use Rattle.protocol.specs.Refill.{end-recovery, candidates, refill-limited, refill-active-from-passive, start-refill};
 ghost use Rattle.protocol.specs.Active.{clear-refused};
 ghost use Rattle.state.specs.Layout.{words, all-places, set-words};
 ghost use Rattle.state.specs.Unpack.{unpack, refill-in, PackedState};
 ghost use Rattle.state.specs.Work.{work-of, run, Changes, Fine, Does};
-
-// Another limit on refills.
-fn set_refill(w: Work, st: &mut [u64], v: RefillLimit) -> Work
-    requires { ⌜ length (now st) ≡ words ⌝ }
-    requires { ⌜ PackedState (now st) ⌝ }
-    ensures { λ r. ⌜ Changes (on (set-refill (refill-in v))) (work-of w (now (st .entry))) (work-of r (now (st .exit))) ⌝ }
-{
-    if w.code != 0 {
-        return w;
-    }
-    state::keep_limit(st, v);
-    w
-}
 
 // The peers asked that are not neighbors, as a working set.
 fn asked_outside(st: &[u64], t: &mut [u64])
@@ -50,25 +37,12 @@ pub fn end_recovery(w: Work, st: &mut [u64]) -> Work
     requires { ⌜ PackedState (now st) ⌝ }
     ensures { λ r. ⌜ Changes (on end-recovery) (work-of w (now (st .entry))) (work-of r (now (st .exit))) ⌝ }
 {
-    let l = state::limit_of(st);
     let mut t = [0u64; Layout::SET];
     asked_outside(st, &mut t);
-    if l.is_recovery() & util::is_empty(&t, Layout::ALL) {
-        return set_refill(w, st, RefillLimit::Automatic);
-    }
-    w
-}
-
-// A refill for which no limit is set gets one at a short station with neighbors.
-fn limit_short(w: Work, st: &mut [u64]) -> Work
-    requires { ⌜ length (now st) ≡ words ⌝ }
-    requires { ⌜ PackedState (now st) ⌝ }
-    ensures { λ r. ⌜ Changes (on limit-short) (work-of w (now (st .entry))) (work-of r (now (st .exit))) ⌝ }
-{
-    let l = state::limit_of(st);
-    if l.is_automatic() & (!state::is_alone(st) & state::is_short(st)) {
-        let v = RefillLimit::few_requests();
-        return set_refill(w, st, v);
+    if (w.code == 0)
+        & ((st[Layout::REFILL_KIND] == RefillLimit::RECOVERY) & (t[Layout::ALL] == 0))
+    {
+        st[Layout::REFILL_KIND] = RefillLimit::AUTOMATIC;
     }
     w
 }
@@ -94,7 +68,7 @@ fn candidates(st: &[u64], skip: &[PeerId], t: &mut [u64])
     );
     util::without_all(t, Layout::ALL, &asked, Layout::ALL);
     // Those that refused are asked again where there is no neighbor.
-    if state::is_alone(st) {
+    if st[Layout::ACTIVE_COUNT] == 0 {
         return;
     }
     util::without_all(
@@ -113,18 +87,21 @@ fn refill_limited(w: Work, st: &mut [u64], draws: &[u32], out: &mut [u8], skip: 
 {
     let mut from = [0u64; Layout::SET];
     candidates(st, skip, &mut from);
-    if util::is_empty(&from, Layout::ALL) {
+    let n = from[Layout::ALL] as usize;
+    if n == 0 {
         return end_recovery(w, st);
     }
-    let high = state::is_alone(st);
-    let n = util::count(&from, Layout::ALL);
+    let high = st[Layout::ACTIVE_COUNT] == 0;
     let t = state::choose(w, draws, n);
-    let p = util::get_index(&from, Layout::ALL, t.index);
+    let i = t.index;
+    let p = from[i];
     let a = step_sending::send_neighbor(t.work, st, out, p, high);
-    // One request of the limit is used.
-    let old = state::limit_of(st);
-    let v = old.one_less();
-    set_refill(a, st, v)
+    // One request of the limit is used; where there is none, the word is 0.
+    let left = st[Layout::REFILL_REQUESTS];
+    if (a.code == 0) & (left != 0) {
+        st[Layout::REFILL_REQUESTS] = left - 1;
+    }
+    a
 }
 
 // One request to a passive peer that is not in `skip`, where the active view needs one.
@@ -140,16 +117,23 @@ pub fn refill_active_from_passive(
     ensures { λ r. ⌜ Does (work-of r (now (st .exit))) (now (draws .entry)) (now (out .exit)) (refill-active-from-passive (now (skip .entry)) (run (work-of w (now (st .entry))) (now (draws .entry)) (now (out .entry)))) ⌝ }
 {
     // None where neighbors and requests fill the active view, or the limit is spent.
-    let l = state::limit_of(st);
     let mut t = [0u64; Layout::SET];
     asked_outside(st, &mut t);
-    let asked = util::count(&t, Layout::ALL);
-    let n = util::count(&st[Layout::ACTIVE..Layout::ACTIVE_END], Layout::FEW);
-    if (st[Layout::ACTIVE_VIEW_CAPACITY] as usize <= n + asked) | l.is_spent() {
+    if (st[Layout::ACTIVE_VIEW_CAPACITY] <= st[Layout::ACTIVE_COUNT] + t[Layout::ALL])
+        | ((st[Layout::REFILL_KIND] == RefillLimit::REQUESTS_LEFT)
+            & (st[Layout::REFILL_REQUESTS] == 0))
+    {
         return w;
     }
-    let a = limit_short(w, st);
-    refill_limited(a, st, draws, out, skip)
+    // A refill for which no limit is set gets one at a short station with neighbors.
+    if (w.code == 0)
+        & ((st[Layout::REFILL_KIND] == RefillLimit::AUTOMATIC)
+            & ((st[Layout::ACTIVE_COUNT] != 0) & state::is_short(st)))
+    {
+        st[Layout::REFILL_KIND] = RefillLimit::REQUESTS_LEFT;
+        st[Layout::REFILL_REQUESTS] = Timing::MAX_REQUESTS_PER_REFILL as u64;
+    }
+    refill_limited(w, st, draws, out, skip)
 }
 
 // A refill with another limit; a recovery that is under way keeps its own.
@@ -165,10 +149,10 @@ pub fn start_refill(
     requires { ⌜ Fine (work-of w (now st)) (now draws) (now out) ⌝ }
     ensures { λ r. ⌜ Does (work-of r (now (st .exit))) (now (draws .entry)) (now (out .exit)) (start-refill (refill-in limit) (now (skip .entry)) (run (work-of w (now (st .entry))) (now (draws .entry)) (now (out .entry)))) ⌝ }
 {
-    let old = state::limit_of(st);
-    let v = old.unless_recovery(limit);
-    let a = set_refill(w, st, v);
-    refill_active_from_passive(a, st, draws, out, skip)
+    if (w.code == 0) & (st[Layout::REFILL_KIND] != RefillLimit::RECOVERY) {
+        state::keep_limit(st, limit);
+    }
+    refill_active_from_passive(w, st, draws, out, skip)
 }
 
 // Peers that refused may be asked again.

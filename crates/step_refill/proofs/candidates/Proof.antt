@@ -1,7 +1,9 @@
+use borrow.Author.Tests.{eq-eqb, ne-eqb}
 use Rattle.util.specs.Section.{part}
 use Rattle.util.proofs.Sets.{set-inside, set-column}
 use Rattle.state.specs.Unpack.{unpack, station-of}
 use Rattle.state.proofs.Access.{of-packed}
+use Rattle.state.proofs.Counts.{alone}
 use Rattle.step_refill.proofs.Asking.{left-list, left-of, left-by, candidates-alone, candidates-else}
 use borrow.Author.Needs.{needs}
 use Rattle.step_refill.proofs.candidates.Statement.{statement}
@@ -16,9 +18,6 @@ without-all-in-to-copy-into c = c .before .before .before .before .before
 
 abbrev without-all-to-keys-into : tie.After-without-all → tie.After-keys-into
 without-all-to-keys-into c = c .before .before .before .before
-
-abbrev is-alone-to-without-all : tie.After-is-alone → tie.After-without-all
-is-alone-to-without-all c = c .before .before .before
 
 abbrev copy-into-to-start : tie.After-copy-into → tie.Start
 copy-into-to-start c = c .before .before .before .before .before .before
@@ -81,8 +80,8 @@ without-all-requires c κs =
     let others = left-list _ _ _ _ (copied .valid) (at-without-all-in .without-all-in .ensures .0) (at-without-all-in .without-all-in .ensures .1 .0) (at-without-all-in .without-all-in .ensures .1 .1) in
     (others .valid, at-keys-into .keys-into .ensures .valid)
 
-is-alone-requires : tie.Need-is-alone-requires
-is-alone-requires c κs = search needs
+shared-slice-read-if1 : tie.Need-shared-slice-read-if1
+shared-slice-read-if1 c = search needs
 
 same-length : tie.Need-same-length
 same-length c = search needs
@@ -90,15 +89,16 @@ same-length c = search needs
 returns : tie.Need-returns
 unfolding unpack station-of part
 returns c =
-    let at-without-all = is-alone-to-without-all (c .before) in
+    let at-without-all = c .before .before .before .before in
     let at-keys-into = without-all-to-keys-into at-without-all in
     let at-without-all-in = keys-into-to-without-all-in at-keys-into in
     let at-copy-into = without-all-in-to-copy-into at-without-all-in in
     let copied = at-copy-into .copy-into .ensures in
-    let xs = copy-into-to-start at-copy-into .args .st .now in
+    let start = copy-into-to-start at-copy-into in
+    let xs = start .args .st .now in
     let others = left-list _ _ _ _ (copied .valid) (at-without-all-in .without-all-in .ensures .0) (at-without-all-in .without-all-in .ensures .1 .0) (at-without-all-in .without-all-in .ensures .1 .1) in
     let free = left-by _ _ _ _ (at-without-all .without-all .ensures) (at-keys-into .keys-into .ensures) in
-    candidates-alone xs _ _ _ _ (left-of _ _ _ _ others copied) free (c .before .is-alone .ensures) (c .if1 .taken)
+    candidates-alone xs _ _ _ _ (left-of _ _ _ _ others copied) free (alone xs (start .pre .1 .0)) (eq-eqb _ _ (c .if1 .taken))
 
 sub-without-all : tie.Need-sub-without-all
 sub-without-all c = search needs
@@ -119,16 +119,17 @@ same-length-2 c = search needs
 returns-2 : tie.Need-returns-2
 unfolding unpack station-of part
 returns-2 c =
-    let at-is-alone = c .before .before .before .before .before .before in
-    let at-without-all = is-alone-to-without-all at-is-alone in
+    let at-else1 = c .before .before .before .before .before in
+    let at-without-all = at-else1 .before .before .before .before in
     let at-keys-into = without-all-to-keys-into at-without-all in
     let at-without-all-in = keys-into-to-without-all-in at-keys-into in
     let at-copy-into = without-all-in-to-copy-into at-without-all-in in
     let copied = at-copy-into .copy-into .ensures in
-    let xs = copy-into-to-start at-copy-into .args .st .now in
+    let start = copy-into-to-start at-copy-into in
+    let xs = start .args .st .now in
     let others = left-list _ _ _ _ (copied .valid) (at-without-all-in .without-all-in .ensures .0) (at-without-all-in .without-all-in .ensures .1 .0) (at-without-all-in .without-all-in .ensures .1 .1) in
     let free = left-by _ _ _ _ (at-without-all .without-all .ensures) (at-keys-into .keys-into .ensures) in
-    candidates-else xs _ _ _ _ (left-of _ _ _ _ others copied) free (at-is-alone .is-alone .ensures) _ (c .before .before .before .before .before .if1 .left) (c .before .before .without-all2 .ensures)
+    candidates-else xs _ _ _ _ (left-of _ _ _ _ others copied) free (alone xs (start .pre .1 .0)) _ (ne-eqb _ _ (at-else1 .if1 .left)) (c .before .before .without-all2 .ensures)
 
 pub candidates-spec : {M : Type 1} → statement M
-candidates-spec = tie.close (tie.spec sub-copy-into part-copy-into-start part-copy-into-end copy-into-requires slice-read-n slice-relend-prefix-without-all-in slice-aggregate-without-all-in without-all-in-requires slice-write-t sub-keys-into part-keys-into-start part-keys-into-end slice-aggregate-keys-into keys-into-requires slice-aggregate-without-all without-all-requires is-alone-requires same-length returns sub-without-all part-without-all-start part-without-all-end without-all-requires-2 same-length-2 returns-2)
+candidates-spec = tie.close (tie.spec sub-copy-into part-copy-into-start part-copy-into-end copy-into-requires slice-read-n slice-relend-prefix-without-all-in slice-aggregate-without-all-in without-all-in-requires slice-write-t sub-keys-into part-keys-into-start part-keys-into-end slice-aggregate-keys-into keys-into-requires slice-aggregate-without-all without-all-requires shared-slice-read-if1 same-length returns sub-without-all part-without-all-start part-without-all-end without-all-requires-2 same-length-2 returns-2)

@@ -1,25 +1,44 @@
+use borrow.Author.Tests.{eq-eqb, ne-eqb}
+use mathlib.Core.Path.{sym}
+use native.Mathlib.Omega.{arith}
+use Prim.Native.Nat.{ℕ}
+use mathlib.Core.List.{List}
+use Rattle.protocol.specs.Refill.{use-request, refill-limited}
+use Rattle.protocol.specs.Run.{on}
+use Rattle.state.specs.Work.{work-of, run, Changes, Does}
+use Rattle.state.proofs.Counts.{alone}
+use Rattle.util.proofs.Sets.{empty-is-null, item-read}
 use Rattle.step_sending.proofs.Told.{room-drawn}
-use Rattle.step_refill.proofs.Limits.{used}
-use Rattle.step_refill.proofs.Asking.{some-there, one-picked, none-left, one-asked}
+use Rattle.step_refill.proofs.Limits.{some-left, used, not-used}
+use Rattle.step_refill.proofs.Asking.{one-picked, none-left, one-asked}
 use borrow.Author.Needs.{needs}
 use Rattle.step_refill.proofs.refill_limited.Statement.{statement}
 use Rattle.step_refill.proofs.refill_limited.Tie as tie
 
 -- The ways back, from a place to an earlier one.
-abbrev is-empty-to-candidates : tie.After-is-empty → tie.After-candidates
-is-empty-to-candidates c = c .before .before .before
-
 abbrev candidates-to-start : tie.After-candidates → tie.Start
 candidates-to-start c = c .before .before .before .before .before .before .before
 
-abbrev choose-to-is-empty : tie.After-choose → tie.After-is-empty
-choose-to-is-empty c = c .before .before .before .before .before .before
+abbrev choose-to-candidates : tie.After-choose → tie.After-candidates
+choose-to-candidates c = c .before .before .before .before
 
 abbrev send-neighbor-to-choose : tie.After-send-neighbor → tie.After-choose
-send-neighbor-to-choose c = c .before .before .before .before .before
+send-neighbor-to-choose c = c .before .before .before
 
-abbrev set-refill-to-send-neighbor : tie.After-set-refill → tie.After-send-neighbor
-set-refill-to-send-neighbor c = c .before .before .before .before .before .before .before .before .before
+abbrev start : tie.After-send-neighbor → tie.Start
+start c = candidates-to-start (choose-to-candidates (send-neighbor-to-choose c))
+
+-- One was asked, and then the limit changed.
+asked : (c : tie.After-send-neighbor) (zs : List ℕ) → Changes (on use-request) (work-of (c .send-neighbor .result) (c .send-neighbor .last .1 .0)) (work-of (c .send-neighbor .result) zs)
+    → Does (work-of (c .send-neighbor .result) zs) (start c .args .draws .now) (c .send-neighbor .last .1 .1 .0) (refill-limited (start c .args .skip .now) (run (work-of (start c .args .w) (start c .args .st .now)) (start c .args .draws .now) (start c .args .out .now)))
+asked c zs k =
+    let at-choose = send-neighbor-to-choose c in
+    let at-candidates = choose-to-candidates at-choose in
+    let given = candidates-to-start at-candidates .pre .1 in
+    let from = at-candidates .candidates .ensures in
+    let picked = one-picked _ _ _ _ _ _ _ _ _ _ _ _ _ _ _ given (alone _ (given .ready .packed)) (sym (from .valid .counted)) (at-choose .choose .ensures .1 .0)
+    (item-read _ _ _ (from .valid) (omega (arith, at-choose .choose .ensures .1 .1, from .valid .counted))) k (c .send-neighbor .ensures) (at-choose .choose .ensures .0) in
+    one-asked _ _ _ _ _ _ _ from (empty-is-null 32 _ (from .valid)) _ _ _ (ne-eqb _ _ (at-choose .before .before .if1 .left)) picked
 
 slice-aggregate-candidates : tie.Need-slice-aggregate-candidates
 slice-aggregate-candidates c = search needs
@@ -27,11 +46,8 @@ slice-aggregate-candidates c = search needs
 candidates-requires : tie.Need-candidates-requires
 candidates-requires c κs = search needs
 
-slice-aggregate-is-empty : tie.Need-slice-aggregate-is-empty
-slice-aggregate-is-empty c = search needs
-
-is-empty-requires : tie.Need-is-empty-requires
-is-empty-requires c κs = search needs
+array-read-n : tie.Need-array-read-n
+array-read-n c = search needs
 
 end-recovery-requires : tie.Need-end-recovery-requires
 end-recovery-requires c κs = search needs
@@ -41,47 +57,36 @@ same-length c = search needs
 
 returns : tie.Need-returns
 returns c =
-    let at-is-empty = c .before .before .before .before .before in
-    let at-candidates = is-empty-to-candidates at-is-empty in
-    none-left _ _ _ _ _ _ _ (at-candidates .candidates .ensures) (at-is-empty .is-empty .ensures) _ _ (candidates-to-start at-candidates .pre .1) (c .before .before .before .before .if1 .taken) (c .before .before .end-recovery .ensures)
+    let at-candidates = c .before .before .before .before .before .before in
+    let from = at-candidates .candidates .ensures in
+    none-left _ _ _ _ _ _ _ from (empty-is-null 32 _ (from .valid)) _ _ (candidates-to-start at-candidates .pre .1) (eq-eqb _ _ (c .before .before .before .before .if1 .taken)) (c .before .before .end-recovery .ensures)
 
-is-alone-requires : tie.Need-is-alone-requires
-is-alone-requires c κs = search needs
-
-slice-aggregate-count : tie.Need-slice-aggregate-count
-slice-aggregate-count c = search needs
-
-count-requires : tie.Need-count-requires
-count-requires c κs = search needs
+slice-read-high : tie.Need-slice-read-high
+slice-read-high c = search needs
 
 choose-requires : tie.Need-choose-requires
-choose-requires c κs = (search needs, search some-there)
+choose-requires c κs = search needs
 
-slice-aggregate-get-index : tie.Need-slice-aggregate-get-index
-slice-aggregate-get-index c = search needs
+mul-p : tie.Need-mul-p
+mul-p c = search needs
 
-get-index-requires : tie.Need-get-index-requires
-get-index-requires c κs = search needs
+array-read-p : tie.Need-array-read-p
+array-read-p c = search needs
 
 send-neighbor-requires : tie.Need-send-neighbor-requires
 send-neighbor-requires c κs =
-    let at-choose = c .before .before .before .before in
-    let given = candidates-to-start (is-empty-to-candidates (choose-to-is-empty at-choose)) .pre in
+    let at-choose = c .before .before in
+    let given = candidates-to-start (choose-to-candidates at-choose) .pre in
     (search (needs, given .0), room-drawn _ _ _ _ _ (given .1) (at-choose .choose .ensures .0))
 
-limit-of-requires : tie.Need-limit-of-requires
-limit-of-requires c κs =
-    let at-send-neighbor = c .before .before .before .before .before in
-    search (needs, at-send-neighbor .send-neighbor .kept, candidates-to-start (is-empty-to-candidates (choose-to-is-empty (send-neighbor-to-choose at-send-neighbor))) .pre .0)
+slice-read-left : tie.Need-slice-read-left
+slice-read-left c = search needs
 
-one-less-requires : tie.Need-one-less-requires
-one-less-requires c κs = search needs
+sub-st : tie.Need-sub-st
+sub-st c = some-left (c .before .before .before .before .before .before .before .send-neighbor .result .code) _ (c .if2 .taken)
 
-set-refill-requires : tie.Need-set-refill-requires
-set-refill-requires c κs =
-    let at-send-neighbor = c .before .before .before .before .before .before .before .before in
-    let given = candidates-to-start (is-empty-to-candidates (choose-to-is-empty (send-neighbor-to-choose at-send-neighbor))) .pre in
-    (search (needs, at-send-neighbor .send-neighbor .kept, given .0), at-send-neighbor .send-neighbor .ensures .room .packed)
+slice-write-st : tie.Need-slice-write-st
+slice-write-st c = search needs
 
 same-length-2 : tie.Need-same-length-2
 same-length-2 c = search needs
@@ -91,17 +96,41 @@ same-length-3 c = search needs
 
 returns-2 : tie.Need-returns-2
 returns-2 c =
-    let at-set-refill = c .before .before in
-    let at-one-less = at-set-refill .before .before in
-    let used-one = used _ _ _ _ _ _ (at-one-less .before .limit-of .ensures) (at-one-less .one-less .ensures) (at-set-refill .set-refill .ensures) in
-    let at-send-neighbor = set-refill-to-send-neighbor at-set-refill in
-    let at-choose = send-neighbor-to-choose at-send-neighbor in
-    let at-count = at-choose .before in
-    let at-is-empty = choose-to-is-empty at-choose in
-    let at-candidates = is-empty-to-candidates at-is-empty in
-    let picked = one-picked _ _ _ _ _ _ _ _ _ _ _ _ _ _ _ (candidates-to-start at-candidates .pre .1) (at-count .before .before .is-alone .ensures) (at-count .count .ensures .0) (at-choose .choose .ensures .1 .0)
-    (at-send-neighbor .before .before .before .get-index .ensures) used-one (at-send-neighbor .send-neighbor .ensures) (at-choose .choose .ensures .0) in
-    one-asked _ _ _ _ _ _ _ (at-candidates .candidates .ensures) (at-is-empty .is-empty .ensures) _ _ _ (at-choose .before .before .before .before .before .if1 .left) picked
+    let sent = c .before .before .before .before .before .before .before in
+    asked sent _ (used _ _ (sent .send-neighbor .ensures .room .packed) (c .if2 .taken))
+
+same-length-4 : tie.Need-same-length-4
+same-length-4 c = search needs
+
+same-length-5 : tie.Need-same-length-5
+same-length-5 c = search needs
+
+returns-3 : tie.Need-returns-3
+returns-3 c =
+    let sent = c .before .before .before .before .before .before .before in
+    asked sent _ (not-used _ _ (sent .send-neighbor .ensures .room .packed) (c .if2 .left))
 
 pub refill-limited-spec : {M : Type 1} → statement M
-refill-limited-spec = tie.close (tie.spec slice-aggregate-candidates candidates-requires slice-aggregate-is-empty is-empty-requires end-recovery-requires same-length returns is-alone-requires slice-aggregate-count count-requires choose-requires slice-aggregate-get-index get-index-requires send-neighbor-requires limit-of-requires one-less-requires set-refill-requires same-length-2 same-length-3 returns-2)
+refill-limited-spec =
+    tie.close
+    (tie.spec
+    slice-aggregate-candidates
+    candidates-requires
+    array-read-n
+    end-recovery-requires
+    same-length
+    returns
+    slice-read-high
+    choose-requires
+    mul-p
+    array-read-p
+    send-neighbor-requires
+    slice-read-left
+    sub-st
+    slice-write-st
+    same-length-2
+    same-length-3
+    returns-2
+    same-length-4
+    same-length-5
+    returns-3)
