@@ -1,9 +1,6 @@
 // Part 3 of document 01: a peer's data, and a peer with its data.
-ghost use mathlib.Core.Path.{_≡_};
 ghost use mathlib.Core.Option.{none};
-ghost use Rattle.lists.specs.Lists.{null};
-ghost use Rattle.peer.specs.Data.{bytes-of};
-ghost use Rattle.peer.specs.Held.{data-in, ValidData, HoldsData, Takes};
+ghost use Rattle.peer.specs.Held.{HoldsData, Takes};
 
 // A peer, by its number.
 pub type PeerId = u64;
@@ -67,14 +64,6 @@ impl PeerData {
                 bytes: b,
             },
         }
-    }
-
-    // Whether there are no bytes; so it is of absent data too.
-    pub fn is_empty(self) -> bool
-        requires { ⌜ ValidData self ⌝ }
-        ensures { λ r. ⌜ r ≡ null (bytes-of (data-in self)) ⌝ }
-    {
-        self.len == 0
     }
 }
 

@@ -19,7 +19,7 @@ ghost use Rattle.writer.specs.Write.{rec-in};
 ghost use Rattle.protocol.specs.Run.{on, draw, draw-one-of, draw-shuffle, require, emit};
 ghost use Rattle.protocol.specs.Setters.{set-refill};
 ghost use Rattle.protocol.specs.Messages.{drop-join, drop-request, drop-pending};
-ghost use Rattle.protocol.specs.Station.{is-me, in-active, in-passive, in-view, is-alone, active-is-full, passive-is-full, is-short, is-last-hop};
+ghost use Rattle.protocol.specs.Station.{is-me, in-active, in-passive, is-alone, active-is-full, is-short, is-last-hop};
 ghost use Rattle.protocol.specs.Station.{is-recovery, is-spent, is-requested};
 ghost use Rattle.protocol.specs.Refill.{few-requests, unless-recovery};
 ghost use Rattle.state.specs.Layout.{words, all-places};
@@ -433,14 +433,6 @@ pub fn in_passive(st: &[u64], p: PeerId) -> bool
     util::contains(&st[Layout::PASSIVE..Layout::PASSIVE_END], Layout::ALL, p)
 }
 
-pub fn in_view(st: &[u64], p: PeerId) -> bool
-    requires { ⌜ length (now st) ≡ words ⌝ }
-    requires { ⌜ PackedState (now st) ⌝ }
-    ensures { λ r. ⌜ r ≡ in-view p (unpack (now (st .entry))) ⌝ }
-{
-    in_active(st, p) | in_passive(st, p)
-}
-
 // Whether a request to p is open.
 pub fn is_requested(st: &[u64], p: PeerId) -> bool
     requires { ⌜ length (now st) ≡ words ⌝ }
@@ -465,14 +457,6 @@ pub fn active_is_full(st: &[u64]) -> bool
     ensures { λ r. ⌜ r ≡ active-is-full (unpack (now (st .entry))) ⌝ }
 {
     st[Layout::ACTIVE_VIEW_CAPACITY] <= st[Layout::ACTIVE_COUNT]
-}
-
-pub fn passive_is_full(st: &[u64]) -> bool
-    requires { ⌜ length (now st) ≡ words ⌝ }
-    requires { ⌜ PackedState (now st) ⌝ }
-    ensures { λ r. ⌜ r ≡ passive-is-full (unpack (now (st .entry))) ⌝ }
-{
-    st[Layout::PASSIVE_VIEW_CAPACITY] <= st[Layout::PASSIVE_COUNT]
 }
 
 // Too few neighbors: fewer than half of those that there is room for, rounded up.

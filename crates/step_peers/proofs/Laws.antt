@@ -2,50 +2,49 @@
 -- Assumes nothing.
 use Prim.Native.Nat.{ℕ, _≤_, _<_}
 use mathlib.Core.Path.{_≡_, refl, sym, ap, _∙_, subst}
-use mathlib.Core.Bool.{Bool, true, false, not, _&&_, _||_, or-true, or-false}
+use mathlib.Core.Bool.{Bool, true, false, not, _&&_, _||_}
 use mathlib.Core.List.{List, [], _∷_, _++_}
 use mathlib.Core.Option.{Option, none, some}
 use native.Mathlib.Omega.{arith}
 use lib.ListN.{length, take, drop, getD, length-append}
 use lib.Dec.{eqb, leb, ltb}
-use borrow.Author.Tests.{eqb-false, leb-false, lt-ltb, le-ltb}
+use borrow.Author.Tests.{eqb-false, leb-false, not-true, not-false, eq-eqb, ne-eqb}
 use Rattle.lists.specs.Lists.{null, remove, shift-remove}
 use Rattle.util.specs.Section.{items-at}
+use Rattle.util.proofs.Parts.{part-read}
+use Rattle.util.proofs.Sets.{empty-is-null}
 use Rattle.state.specs.Layout.{passive-part, peer-data-part, passive-view-capacity}
 use Rattle.columns.specs.Columns.{data-map-at}
 use Rattle.lists.specs.Maps.{lookup, has}
-use Rattle.lists.proofs.Choice.{by-choice, choose-yes, choose-no, and-right, and-false}
+use Rattle.lists.proofs.Choice.{by-choice, choose-yes, choose-no, split, and-right, and-false, or-left, or-right}
 use Rattle.lists.proofs.Count.{length-shift, length-remove}
 use Rattle.util.specs.Chances.{pick}
 use Rattle.util.proofs.Chances.{pick-below}
 use Rattle.peer.specs.declared.PeerData.{PeerData}
-use Rattle.peer.specs.Held.{data-in, node-in}
+use Rattle.peer.specs.Held.{data-in, node-in, ValidData}
+use Rattle.peer.proofs.Data.{bytes-in, length-bytes}
 use Rattle.writer.specs.Write.{rec-in}
 use Rattle.state.specs.declared.Work.{Work}
 use Rattle.protocol.specs.Run.{Run, guard, on, emit, to-draw, one-of, draw-one-of, require, picked, notice, node}
 use Rattle.state.specs.Work.{Held, work-of, ChangesAny, DrawsAny, TellsAny, run, Changes, Room, Tells, Fine}
-use Rattle.state.proofs.Bridge.{on-passed, on-twice, unchanged, change-then, change-no, telling, tell-by, tell-then, tell-yes, tell-no, still, by, then, then-draw, then-tell, seq, taken, left, require-said}
+use Rattle.state.proofs.Bridge.{on-passed, on-twice, unchanged, change-then, change-yes, change-no, telling, tell-by, tell-then, tell-yes, tell-no, still, by, then, then-draw, then-tell, seq, taken, left, require-said}
 use Rattle.peer.specs.Data.{Data, bytes-of, holds}
 use Rattle.timing.proofs.Ranges.{ranges}
 use Rattle.protocol.proofs.Keeping.{one-of-station, emit-station, emit-fine}
-use Rattle.protocol.specs.Station.{Station, is-me, in-view, passive-is-full}
+use Rattle.protocol.specs.Station.{Station, is-me, in-active, in-passive, in-view, passive-is-full}
 use Rattle.protocol.specs.Peers.{is-known, data-fits, store-data, keep-data, announce-data, insert-data, insert-peer-info, forget-peer, drop-traces, drop-mark, drop-data, shift-passive, push-passive, evict-at, must-evict, evicted, evict, tell-evicted, make-room, is-newcomer, enter-passive, evicted-for, add-passive, evicted-by}
 use Rattle.step_peers.specs.Answer.{named-in, Adds}
 use Rattle.step_peers.specs.declared.Evicted.the-variants.{Nobody, Peer}
 use Rattle.step_peers.specs.declared.Added.{Added}
 use Rattle.state.specs.Unpack.{unpack, station-of, settings-at, PackedState}
-use Rattle.state.proofs.Access.{of-settings, passive-fits}
-
-known : (s : List ℕ) (p : ℕ) (b : List ℕ) (x y : Bool) → x ≡ is-me p (unpack s) → y ≡ holds (lookup p (unpack s .peer-data)) b → (x || y) ≡ is-known p b (unpack s)
-unfolding is-known unpack station-of
-known s p b x y e f = rw (e, f)
+use Rattle.state.proofs.Access.{of-settings, of-passive, of-peer-data, passive-fits, count-passive}
+use Rattle.state.proofs.Counts.{passive-full}
 
 -- fewer passive peers are within capacity
 pub shrunk : (xs : List ℕ) (p : ℕ) → PackedState xs → length (remove p (items-at 32 (passive-part xs))) ≤ passive-view-capacity xs
 shrunk xs p v = omega (arith, length-remove p (items-at 32 (passive-part xs)), passive-fits xs v)
 
-pub shifted-fits : (xs : List ℕ) (i : ℕ) → PackedState xs → i < length (unpack xs .passive) → length (shift-remove i (items-at 32 (passive-part xs))) ≤ passive-view-capacity xs
-unfolding unpack station-of
+pub shifted-fits : (xs : List ℕ) (i : ℕ) → PackedState xs → i < length (items-at 32 (passive-part xs)) → length (shift-remove i (items-at 32 (passive-part xs))) ≤ passive-view-capacity xs
 shifted-fits xs i v h = omega (arith, length-shift (items-at 32 (passive-part xs)) i h, passive-fits xs v)
 
 -- ---- rows and branches
@@ -67,6 +66,20 @@ present-data d h = rw (choose-yes (d .present) (some (take (d .len) (d .bytes)))
 absent-data : (d : PeerData) → d .present ≡ false → data-in d ≡ none
 unfolding data-in
 absent-data d h = choose-no _ _ _ h
+
+-- with other names for the work and the output that are handed on
+pub told-as : {step : Run → Run} (w a b : Work) (xs out o u : List ℕ) → a ≡ b → o ≡ u → Tells step (work-of w xs) (work-of b xs) out u → Tells step (work-of w xs) (work-of a xs) out o
+told-as {step} w a b xs out o u e f k =
+    subst (λ (x : Work). Tells step (work-of w xs) (work-of x xs) out o) (sym e) (subst (λ (y : List ℕ). Tells step (work-of w xs) (work-of b xs) out y) (sym f) k)
+
+null-is : (b : List ℕ) (n : ℕ) → length b ≡ n → eqb n 0 ≡ null b
+unfolding null
+null-is [] n e = eq-eqb n 0 (sym e)
+null-is (x ∷ xs) n e = ne-eqb n 0 (λ q. omega arith)
+
+-- data of length 0 has no bytes, absent or not
+pub no-bytes : (d : PeerData) → ValidData d → eqb (d .len) 0 ≡ null (bytes-of (data-in d))
+no-bytes d v = null-is (take (d .len) (d .bytes)) (d .len) (length-bytes d v) ∙ ap null (sym (bytes-in d v))
 
 module _ (w : Held) (out : List ℕ) (p : ℕ) (d : PeerData) where
   pub not-announced : (t : Bool) → Room w out → t ≡ null (bytes-of (data-in d)) → t ≡ true → Tells (announce-data p (bytes-of (data-in d))) w w out out
@@ -96,13 +109,9 @@ unfolding null
 some-item [] e = let z : _≡_ {A = ℕ} 0 1 = cc in absurd (omega arith)
 some-item (x ∷ xs) e = omega arith
 
-was-not : (b : Bool) → not b ≡ true → b ≡ false
-was-not true e = sym e
-was-not false e = refl
-
--- a set to choose from is not empty
-pub some-choice : (l : List ℕ) (n : ℕ) (x y : Bool) → y ≡ null l → (x && not y) ≡ true → n ≡ length l → 0 < n
-some-choice l n x y f h e = omega (arith, e, some-item l (sym f ∙ was-not y (and-right x (not y) h)))
+-- the passive view is not empty where it is chosen from
+pub some-choice : (k n : ℕ) → (leb k n && not (eqb n 0)) ≡ true → 0 < n
+some-choice k n h = omega (arith, eqb-false n 0 (not-true (eqb n 0) (and-right (leb k n) (not (eqb n 0)) h)))
 
 -- a test that was passed found an entry for the data of p
 pub entry-free : (w a : Work) (xs : List ℕ) (p : ℕ) (t : Bool) → PackedState xs → t ≡ data-fits p (unpack xs) → ChangesAny (require 8 t) w a → a .code ≡ 0
@@ -110,47 +119,67 @@ pub entry-free : (w a : Work) (xs : List ℕ) (p : ℕ) (t : Bool) → PackedSta
 unfolding unpack station-of data-fits
 entry-free w a xs p t v e k z = sym e ∙ require-said (work-of w xs) (work-of a xs) 8 t (omega arith) (k .any xs v) z .1
 
--- a free entry, or one that the peer has
-pub roomy : (xs : List ℕ) (p n : ℕ) → n ≡ length (data-map-at 80 (peer-data-part xs)) → n < 80 → true ≡ data-fits p (unpack xs)
+-- an entry that the peer has, or a free one
+pub fits-known : (xs : List ℕ) (p : ℕ) (t : Bool) → PackedState xs → t ≡ has p (data-map-at 80 (peer-data-part xs)) → (t || ltb (getD xs 550 0) 80) ≡ data-fits p (unpack xs)
 unfolding data-fits unpack station-of
-roomy xs p n e h = rw (← e, lt-ltb n 80 h) (sym (or-true (has p (data-map-at 80 (peer-data-part xs)))))
-
-pub crowded : (xs : List ℕ) (p n : ℕ) (t : Bool) → n ≡ length (data-map-at 80 (peer-data-part xs)) → 80 ≤ n → t ≡ has p (data-map-at 80 (peer-data-part xs)) → t ≡ data-fits p (unpack xs)
-unfolding data-fits unpack station-of
-crowded xs p n t e h f = rw (← e, le-ltb n 80 h) (f ∙ sym (or-false (has p (data-map-at 80 (peer-data-part xs)))))
+fits-known xs p t v e =
+    let n : getD xs 550 0 ≡ length (data-map-at 80 (peer-data-part xs)) = sym (of-peer-data xs v .counted ∙ part-read 230 321 320 xs (omega arith)) in
+    λ i. e i || ltb (n i) 80
 
 module _ (w a r : Held) (out o : List ℕ) (p : ℕ) (b : List ℕ) (t : Bool) where
   inserted : t ≡ is-known p b (unpack (w .state)) → t ≡ false → Changes (keep-data p b) a r → Tells (announce-data p b) w a out o → Tells (insert-data p b) w r out o
   unfolding insert-data
   inserted e h k₂ k₁ = tell-no (is-known p b) e _ h (tell-then _ (λ ds. refl) (telling (k₁ .room) k₂) k₁)
 
-module _ (w : Work) (xs out : List ℕ) (p : ℕ) (d : PeerData) (x y : Bool) (h : d .present ≡ true) (e : x ≡ is-me p (unpack xs)) (f : y ≡ holds (lookup p (unpack xs .peer-data)) (bytes-of (data-in d))) where
-  pub info-known : Room (work-of w xs) out → (x || y) ≡ true → Tells (insert-peer-info p (data-in d)) (work-of w xs) (work-of w xs) out out
+-- what the test that nothing is stored said: whether there is data, and whether it is known
+pub is-given : (d : PeerData) (k : Bool) → (not (d .present) || k) ≡ false → d .present ≡ true
+is-given d k e = not-false (d .present) (or-left (not (d .present)) k e)
+
+module _ (w : Work) (xs out : List ℕ) (p : ℕ) (d : PeerData) (y : Bool) where
+  module _ (v : PackedState xs) (f : y ≡ holds (lookup p (unpack xs .peer-data)) (bytes-of (data-in d))) where
+    known-here : (eqb p (getD xs 0 0) || y) ≡ is-known p (bytes-of (data-in d)) (unpack xs)
+    unfolding is-known is-me unpack station-of
+    known-here = ap (λ (t : Bool). eqb p (getD xs 0 0) || t) f
+
+    pub info-stored : (a b : Work) (o : List ℕ) (t : Bool) → (not (d .present) || (eqb p (getD xs 0 0) || y)) ≡ false → Tells (announce-data p (bytes-of (data-in d))) (work-of w xs) (work-of a xs) out o
+        → t ≡ has p (data-map-at 80 (peer-data-part xs)) → ChangesAny (require 8 (t || ltb (getD xs 550 0) 80)) a b
+        → (ys : List ℕ) → Changes (on (store-data p (bytes-of (data-in d)))) (work-of b xs) (work-of b ys) → Tells (insert-peer-info p (data-in d)) (work-of w xs) (work-of b ys) out o
+    info-stored a b o t n k₁ q k₂ ys k₃ =
+        some-info (work-of w xs) out p d (work-of b ys) o (is-given d (eqb p (getD xs 0 0) || y) n)
+        (inserted _ _ _ _ _ _ _ (eqb p (getD xs 0 0) || y) known-here (or-right (not (d .present)) _ n) (keeps a b b xs ys p _ (t || ltb (getD xs 550 0) 80) v (fits-known xs p t v q) k₃ k₂) k₁)
+
+  pub info-passed : y ≡ holds (lookup p (unpack xs .peer-data)) (bytes-of (data-in d)) → Room (work-of w xs) out → (not (d .present) || (eqb p (getD xs 0 0) || y)) ≡ true → Tells (insert-peer-info p (data-in d)) (work-of w xs) (work-of w xs) out out
   unfolding insert-data
-  info-known v t =
-      some-info (work-of w xs) out p d (work-of w xs) out h
-      (tell-yes (is-known p (bytes-of (data-in d))) (known xs p (bytes-of (data-in d)) x y e f) _ t (telling v (unchanged (λ g. g) (v .packed) (λ ds o. refl))))
-
-  module _ (a b : Work) (o : List ℕ) (t : Bool) (n : (x || y) ≡ false) (k₁ : Tells (announce-data p (bytes-of (data-in d))) (work-of w xs) (work-of a xs) out o) (q : t ≡ data-fits p (unpack xs)) (k₂ : ChangesAny (require 8 t) a b) where
-    pub info-stored : (ys : List ℕ) → Changes (on (store-data p (bytes-of (data-in d)))) (work-of b xs) (work-of b ys) → Tells (insert-peer-info p (data-in d)) (work-of w xs) (work-of b ys) out o
-    info-stored ys k₃ =
-        some-info (work-of w xs) out p d (work-of b ys) o h
-        (inserted _ _ _ _ _ _ _ (x || y) (known xs p (bytes-of (data-in d)) x y e f) n (keeps a b b xs ys p _ t (k₁ .room .packed) q k₃ k₂) k₁)
-
-    pub info-refused : (b .code ≡ 0 → ⊥) → Tells (insert-peer-info p (data-in d)) (work-of w xs) (work-of b xs) out o
-    info-refused z = info-stored xs (on-passed (work-of b xs) (k₁ .room .packed) _ z)
+  info-passed f v t =
+      split (d .present)
+      (λ h. some-info (work-of w xs) out p d (work-of w xs) out h
+      (tell-yes (is-known p (bytes-of (data-in d))) (known-here (v .packed) f) _ (subst (λ (b : Bool). (not b || (eqb p (getD xs 0 0) || y)) ≡ true) h t) (telling v (unchanged (λ g. g) (v .packed) (λ ds o. refl)))))
+      (λ h. no-info (work-of w xs) out p d v h)
 
 -- ---- what is forgotten
 
-pub forgotten : (w a r : Held) (p : ℕ) (t : Bool) → t ≡ in-view p (unpack (w .state)) → t ≡ false → Changes (on (drop-mark p)) a r → Changes (on (drop-data p)) w a → Changes (forget-peer p) w r
-unfolding forget-peer drop-traces
-forgotten w a r p t e h k₂ k₁ = change-no (in-view p) e _ h (change-then _ (λ ds out. on-twice _ _ _) k₂ k₁)
+module _ (w : Held) (p : ℕ) (x y : Bool) (e : x ≡ in-active p (unpack (w .state))) (f : y ≡ in-passive p (unpack (w .state))) where
+  viewed : (x || y) ≡ in-view p (unpack (w .state))
+  unfolding in-view
+  viewed = λ i. e i || f i
+
+  pub remembered : PackedState (w .state) → (x || y) ≡ true → Changes (forget-peer p) w w
+  unfolding forget-peer
+  remembered v h = change-yes (in-view p) viewed _ h (unchanged _ v (λ ds out. refl))
+
+  pub forgotten : (a r : Held) → (x || y) ≡ false → Changes (on (drop-mark p)) a r → Changes (on (drop-data p)) w a → Changes (forget-peer p) w r
+  unfolding forget-peer drop-traces
+  forgotten a r h k₂ k₁ = change-no (in-view p) viewed _ h (change-then _ (λ ds out. on-twice _ _ _) k₂ k₁)
+
+pub newcomer : (xs : List ℕ) (p : ℕ) (x y : Bool) → x ≡ in-active p (unpack xs) → y ≡ in-passive p (unpack xs) → not (eqb p (getD xs 0 0) || (x || y)) ≡ is-newcomer p (unpack xs)
+unfolding is-newcomer in-view is-me unpack station-of
+newcomer xs p x y e f = λ i. not (eqb p (getD xs 0 0) || (e i || f i))
 
 -- ---- the passive view
 
--- the place chosen among the n passive peers, m by the definition, is one of theirs
-pub still-below : (m n i : ℕ) → n ≡ m → i < n → i < m
-still-below m n i e h = omega (arith, e, h)
+-- the place chosen is one of the passive peers'
+pub still-below : (xs : List ℕ) (i : ℕ) → PackedState xs → i < getD xs 63 0 → i < length (items-at 32 (passive-part xs))
+still-below xs i v h = omega (arith, count-passive xs (of-passive xs v), h)
 
 -- who leaves, and what the run comes to
 module _ (g : Run) (i p : ℕ) (e : must-evict (g .station) ≡ true) (f : i ≡ one-of (length (g .station .passive)) g) where
@@ -179,18 +208,25 @@ module _ (g : Run) (e : must-evict (g .station) ≡ false) where
   unfolding make-room tell-evicted
   room-stays = sym (λ j. tell-evicted (none-evicted j) (none-leaves j))
 
-must-known : (xs : List ℕ) (x y : Bool) → x ≡ passive-is-full (unpack xs) → y ≡ null (unpack xs .passive) → (x && not y) ≡ must-evict (unpack xs)
-unfolding must-evict
-must-known xs x y e f = λ i. e i && not (f i)
+must-known : (xs : List ℕ) → PackedState xs → (leb (passive-view-capacity xs) (getD xs 63 0) && not (eqb (getD xs 63 0) 0)) ≡ must-evict (unpack xs)
+unfolding must-evict unpack station-of
+must-known xs p =
+    let e = ap (λ (n : ℕ). eqb n 0) (sym (part-read 31 33 32 xs (omega arith))) ∙ empty-is-null 32 (passive-part xs) (of-passive xs p) in
+    λ i. passive-full xs p i && not (e i)
 
-module _ (w : Work) (xs ds out : List ℕ) (x y : Bool) (v : Fine (work-of w xs) ds out) (e : x ≡ passive-is-full (unpack xs)) (f : y ≡ null (unpack xs .passive)) where
-  pub made : (a b c r : Work) (ys zs o : List ℕ) (n i p : ℕ) → (x && not y) ≡ true → n ≡ length (unpack xs .passive) → i ≡ pick n (drop (w .drawn) ds) → p ≡ getD (unpack xs .passive) i 0
-      → TellsAny (emit (notice 12 p)) c r out o → Changes (forget-peer p) (work-of b ys) (work-of c zs) → Changes (on (shift-passive i)) (work-of a xs) (work-of b ys) → DrawsAny (draw-one-of n) w a ds
+passive-count : (xs : List ℕ) → PackedState xs → getD xs 63 0 ≡ length (unpack xs .passive)
+unfolding unpack station-of
+passive-count xs p = sym (count-passive xs (of-passive xs p))
+
+module _ (w : Work) (xs ds out : List ℕ) (v : Fine (work-of w xs) ds out) where
+  pub made : (a b c r : Work) (ys zs o : List ℕ) (i p : ℕ) → (leb (passive-view-capacity xs) (getD xs 63 0) && not (eqb (getD xs 63 0) 0)) ≡ true → i ≡ pick (getD xs 63 0) (drop (w .drawn) ds) → p ≡ getD (unpack xs .passive) i 0
+      → TellsAny (emit (notice 12 p)) c r out o → Changes (forget-peer p) (work-of b ys) (work-of c zs) → Changes (on (shift-passive i)) (work-of a xs) (work-of b ys) → DrawsAny (draw-one-of (getD xs 63 0)) w a ds
       → Adds (record { work = r; evicted = Peer p }) zs ds o (make-room (run (work-of w xs) ds out)) (evicted (run (work-of w xs) ds out))
   unfolding named-in run one-of to-draw
-  made a b c r ys zs o n i p h q u l k₄ k₃ k₂ k₁ =
+  made a b c r ys zs o i p h u l k₄ k₃ k₂ k₁ =
       let g = run (work-of w xs) ds out in
-      let t : must-evict (g .station) ≡ true = sym (must-known xs x y e f) ∙ h in
+      let q = passive-count xs (v .ready .packed) in
+      let t : must-evict (g .station) ≡ true = sym (must-known xs (v .ready .packed)) ∙ h in
       let j : i ≡ one-of (length (g .station .passive)) g = u ∙ ap (λ (m : ℕ). pick m (drop (w .drawn) ds)) q in
       let d : DrawsAny (draw-one-of (length (g .station .passive))) w a ds = subst (λ (m : ℕ). DrawsAny (draw-one-of m) w a ds) q k₁ in
       let k : Changes (evict-at i) (work-of a xs) (work-of c zs) = evicts (work-of a xs) (work-of b ys) (work-of c zs) i p l k₃ k₂ in
@@ -199,10 +235,10 @@ module _ (w : Work) (xs ds out : List ℕ) (x y : Bool) (v : Fine (work-of w xs)
         named = one-evicted g i p t j l;
       }
 
-  pub not-made : (x && not y) ≡ false → Adds (record { work = w; evicted = Nobody }) xs ds out (make-room (run (work-of w xs) ds out)) (evicted (run (work-of w xs) ds out))
+  pub not-made : (leb (passive-view-capacity xs) (getD xs 63 0) && not (eqb (getD xs 63 0) 0)) ≡ false → Adds (record { work = w; evicted = Nobody }) xs ds out (make-room (run (work-of w xs) ds out)) (evicted (run (work-of w xs) ds out))
   unfolding named-in run
   not-made h =
-      let t : must-evict (run (work-of w xs) ds out .station) ≡ false = sym (must-known xs x y e f) ∙ h in
+      let t : must-evict (run (work-of w xs) ds out .station) ≡ false = sym (must-known xs (v .ready .packed)) ∙ h in
       record { does = by _ (room-stays (run (work-of w xs) ds out) t) (still v); named = none-evicted (run (work-of w xs) ds out) t }
 
 -- unless a code is set, the passive view has a free place
@@ -240,7 +276,7 @@ evict-free g l m =
     by-choice (λ (x : Run). FreePassive (x .code) (x .station)) (must-evict (g .station))
     (λ e. let n = length (g .station .passive) in
     forget-free _ _ (shift-free _ (draw-one-of n g)
-    (rw (one-of-station n g) (pick-below n (to-draw g) (some-item (g .station .passive) (was-not _ (and-right (passive-is-full (g .station)) (not (null (g .station .passive))) e)))))
+    (rw (one-of-station n g) (pick-below n (to-draw g) (some-item (g .station .passive) (not-true _ (and-right (passive-is-full (g .station)) (not (null (g .station .passive))) e)))))
     (rw (one-of-station n g) l)))
     (λ e. record { free = λ z. not-full (g .station) e m })
 

@@ -8,15 +8,12 @@ use state::Layout;
 use state::Work;
 use writer::Fields;
 ghost use mathlib.Core.Path.{_≡_};
-ghost use mathlib.Core.Bool.{true};
-ghost use Prim.Native.Nat.{_<_};
 ghost use lib.ListN.{length};
 ghost use Rattle.protocol.specs.Run.{on};
-ghost use Rattle.peer.specs.Data.{bytes-of};
 ghost use Rattle.peer.specs.Held.{data-in, ValidData};
-ghost use Rattle.protocol.specs.Peers.{data-fits, is-newcomer, is-marked};
-ghost use Rattle.protocol.specs.Peers.{announce-data, insert-peer-info, forget-peer, evicted, make-room, add-passive, evicted-by, drop-passive};
-ghost use Rattle.protocol.specs.Peers.{drop-data, drop-mark, shift-passive, remove-passive};
+ghost use Rattle.protocol.specs.Peers.{is-newcomer, is-marked};
+ghost use Rattle.protocol.specs.Peers.{insert-peer-info, forget-peer, evicted, make-room, add-passive, evicted-by, drop-passive};
+ghost use Rattle.protocol.specs.Peers.{drop-data, drop-mark, remove-passive};
 ghost use Rattle.protocol.specs.Handle.{forget-declined};
 ghost use Rattle.state.specs.Layout.{words};
 ghost use Rattle.state.specs.Unpack.{unpack, PackedState};
@@ -35,27 +32,13 @@ pub struct Added {
     pub evicted: Evicted,
 }
 
-// Whether p has a data entry, or there is a free one.
-fn data_fits(st: &[u64], p: PeerId) -> bool
-    requires { ⌜ length (now st) ≡ words ⌝ }
-    requires { ⌜ PackedState (now st) ⌝ }
-    ensures { λ r. ⌜ r ≡ data-fits p (unpack (now (st .entry))) ⌝ }
-{
-    if columns::count_data(&st[Layout::HELD..Layout::HELD_END], Layout::DATA_CAP)
-        < Layout::DATA_CAP
-    {
-        return true;
-    }
-    columns::contains_data(&st[Layout::HELD..Layout::HELD_END], Layout::DATA_CAP, p)
-}
-
 // Whether p is neither the station itself nor in a view.
 pub fn is_newcomer(st: &[u64], p: PeerId) -> bool
     requires { ⌜ length (now st) ≡ words ⌝ }
     requires { ⌜ PackedState (now st) ⌝ }
     ensures { λ r. ⌜ r ≡ is-newcomer p (unpack (now (st .entry))) ⌝ }
 {
-    !(state::is_me(st, p) | state::in_view(st, p))
+    !((p == st[Layout::ME]) | (state::in_active(st, p) | state::in_passive(st, p)))
 }
 
 pub fn is_marked(st: &[u64], p: PeerId) -> bool
@@ -64,24 +47,6 @@ pub fn is_marked(st: &[u64], p: PeerId) -> bool
     ensures { λ r. ⌜ r ≡ is-marked p (unpack (now (st .entry))) ⌝ }
 {
     util::contains(&st[Layout::MARKS..Layout::MARKS_END], Layout::ALL, p)
-}
-
-// The peer at place i leaves the passive view; the order is kept.
-fn shift_passive(w: Work, st: &mut [u64], i: usize) -> Work
-    requires { ⌜ length (now st) ≡ words ⌝ }
-    requires { ⌜ PackedState (now st) ⌝ }
-    requires { ⌜ i < length (unpack (now st) .passive) ⌝ }
-    ensures { λ r. ⌜ Changes (on (shift-passive i)) (work-of w (now (st .entry))) (work-of r (now (st .exit))) ⌝ }
-{
-    if w.code != 0 {
-        return w;
-    }
-    util::shift_remove_index(
-        &mut st[Layout::PASSIVE..Layout::PASSIVE_END],
-        Layout::ALL,
-        i,
-    );
-    w
 }
 
 pub fn remove_passive(w: Work, st: &mut [u64], p: PeerId) -> Work
@@ -130,7 +95,7 @@ pub fn forget_peer(w: Work, st: &mut [u64], p: PeerId) -> Work
     requires { ⌜ PackedState (now st) ⌝ }
     ensures { λ r. ⌜ Changes (forget-peer p) (work-of w (now (st .entry))) (work-of r (now (st .exit))) ⌝ }
 {
-    if state::in_view(st, p) {
+    if state::in_active(st, p) | state::in_passive(st, p) {
         return w;
     }
     let a = drop_data(w, st, p);
@@ -147,59 +112,43 @@ pub fn drop_passive(w: Work, st: &mut [u64], p: PeerId) -> Work
     forget_peer(a, st, p)
 }
 
-// Announces data that is not empty.
-fn announce_data(w: Work, st: &[u64], out: &mut [u8], p: PeerId, d: PeerData) -> Work
-    requires { ⌜ length (now st) ≡ words ⌝ }
-    requires { ⌜ Room (work-of w (now st)) (now out) ⌝ }
-    requires { ⌜ ValidData d ⌝ }
-    requires { ⌜ d .present ≡ true ⌝ }
-    ensures { λ r. ⌜ Tells (announce-data p (bytes-of (data-in d))) (work-of w (now (st .entry))) (work-of r (now (st .entry))) (now (out .entry)) (now (out .exit)) ⌝ }
-{
-    if d.is_empty() {
-        return w;
-    }
-    let f = Fields {
-        kind: Kind::PEER_DATA,
-        message: 0,
-        flags: 0,
-        peer: p,
-        second: 0,
-        ttl: 0,
-        number: 0,
-    };
-    let n = PeerInfo { id: 0, data: d };
-    state::emit_one(w, out, f, n)
-}
-
 pub fn insert_peer_info(w: Work, st: &mut [u64], out: &mut [u8], p: PeerId, d: PeerData) -> Work
     requires { ⌜ length (now st) ≡ words ⌝ }
     requires { ⌜ Room (work-of w (now st)) (now out) ⌝ }
     requires { ⌜ ValidData d ⌝ }
     ensures { λ r. ⌜ Tells (insert-peer-info p (data-in d)) (work-of w (now (st .entry))) (work-of r (now (st .exit))) (now (out .entry)) (now (out .exit)) ⌝ }
 {
-    if d.present {
-        // The station's own data, and data that is held already, are not stored.
-        if state::is_me(st, p)
-            | columns::holds_data(&st[Layout::HELD..Layout::HELD_END], Layout::DATA_CAP, p, d)
-        {
-            return w;
-        }
-        let a = announce_data(w, st, out, p, d);
-        // Code 8 where an 81st entry would be needed.
-        let test = data_fits(st, p);
-        let b = state::require(a, Refusal::DATA, test);
-        if b.code != 0 {
-            return b;
-        }
-        columns::insert_data(
-            &mut st[Layout::HELD..Layout::HELD_END],
-            Layout::DATA_CAP,
-            p,
-            d,
-        );
-        return b;
+    // Absent data, the station's own, and data that is held already, are not stored.
+    if !d.present
+        | ((p == st[Layout::ME])
+            | columns::holds_data(&st[Layout::HELD..Layout::HELD_END], Layout::DATA_CAP, p, d))
+    {
+        return w;
     }
-    w
+    let mut a = w;
+    // Data that is not empty is announced.
+    if d.len != 0 {
+        let f = Fields {
+            kind: Kind::PEER_DATA,
+            message: 0,
+            flags: 0,
+            peer: p,
+            second: 0,
+            ttl: 0,
+            number: 0,
+        };
+        let n = PeerInfo { id: 0, data: d };
+        a = state::emit_one(w, out, f, n);
+    }
+    // Code 8 where an 81st entry would be needed.
+    let fits = columns::contains_data(&st[Layout::HELD..Layout::HELD_END], Layout::DATA_CAP, p)
+        | (st[Layout::HELD_COUNT] < Layout::DATA_CAP as u64);
+    let b = state::require(a, Refusal::DATA, fits);
+    if b.code == 0 {
+        let m = &mut st[Layout::HELD..Layout::HELD_END];
+        columns::insert_data(m, Layout::DATA_CAP, p, d);
+    }
+    b
 }
 
 // One peer leaves a full passive view, as the next draw kept decides, and its record follows.
@@ -208,14 +157,16 @@ fn make_room(w: Work, st: &mut [u64], draws: &[u32], out: &mut [u8]) -> Added
     requires { ⌜ Fine (work-of w (now st)) (now draws) (now out) ⌝ }
     ensures { λ r. ⌜ Adds r (now (st .exit)) (now (draws .entry)) (now (out .exit)) (make-room (run (work-of w (now (st .entry))) (now (draws .entry)) (now (out .entry)))) (evicted (run (work-of w (now (st .entry))) (now (draws .entry)) (now (out .entry)))) ⌝ }
 {
-    if state::passive_is_full(st)
-        & !util::is_empty(&st[Layout::PASSIVE..Layout::PASSIVE_END], Layout::ALL)
-    {
-        let n = util::count(&st[Layout::PASSIVE..Layout::PASSIVE_END], Layout::ALL);
-        let t = state::choose(w, draws, n);
+    let n = st[Layout::PASSIVE_COUNT];
+    if (st[Layout::PASSIVE_VIEW_CAPACITY] <= n) & (n != 0) {
+        let t = state::choose(w, draws, n as usize);
         let i = t.index;
         let p = util::get_index(&st[Layout::PASSIVE..Layout::PASSIVE_END], Layout::ALL, i);
-        let a = shift_passive(t.work, st, i);
+        let a = t.work;
+        if a.code == 0 {
+            let v = &mut st[Layout::PASSIVE..Layout::PASSIVE_END];
+            util::shift_remove_index(v, Layout::ALL, i);
+        }
         let b = forget_peer(a, st, p);
         // Document 02, S-2: the record of p, which the passive view evicted.
         let f = Fields {

@@ -1,29 +1,50 @@
+use mathlib.Core.Logic.{⊎-elim}
+use mathlib.Core.Path.{_≡_, ap, _∙_}
+use borrow.Author.Tests.{eq-eqb, ne-eqb}
+use lib.ListN.{length}
 use Rattle.util.specs.Section.{part}
+use Rattle.peer.specs.Data.{bytes-of}
+use Rattle.peer.specs.Held.{data-in}
+use Rattle.protocol.specs.Peers.{announce-data, store-data}
 use Rattle.state.specs.Unpack.{unpack, station-of}
+use Rattle.state.specs.Work.{work-of, Tells}
 use Rattle.state.proofs.Access.{of-packed}
-use Rattle.state.proofs.Bridge.{on-done}
+use Rattle.state.proofs.Bridge.{on-done, on-passed}
 use Rattle.state.proofs.Fields.{put-peer-data}
-use Rattle.protocol.specs.Peers.{store-data}
-use Rattle.step_peers.proofs.Laws.{entry-free, info-known, info-stored, info-refused, no-info}
+use Rattle.step_peers.proofs.Laws.{no-bytes, told-as, not-announced, announced, fits-known, entry-free, is-given, info-passed, info-stored}
 use borrow.Author.Needs.{needs}
 use Rattle.step_peers.proofs.insert_peer_info.Statement.{statement}
 use Rattle.step_peers.proofs.insert_peer_info.Tie as tie
 
 -- The ways back, from a place to an earlier one.
-abbrev require-to-announce-data : tie.After-require → tie.After-announce-data
-require-to-announce-data c = c .before .before .before .before .before
+abbrev else1-to-start : tie.Else1 → tie.Start
+else1-to-start c = c .before .before .before .before .before .before .before .before
 
-abbrev announce-data-to-else2 : tie.After-announce-data → tie.Else2
-announce-data-to-else2 c = c .before .before .before
+abbrev joined2-to-else1 : tie.Joined2 → tie.Else1
+joined2-to-else1 c = c .before .before
 
-abbrev is-me-to-start : tie.After-is-me → tie.Start
-is-me-to-start c = c .before .before .before .before .before
+abbrev start : tie.Joined2 → tie.Start
+start c = else1-to-start (joined2-to-else1 c)
 
-abbrev else2-to-is-me : tie.Else2 → tie.After-is-me
-else2-to-is-me c = c .before .before .before .before
+abbrev require-to-joined2 : tie.After-require → tie.Joined2
+require-to-joined2 c = c .before .before .before .before .before
 
-is-me-requires : tie.Need-is-me-requires
-is-me-requires c κs = search needs
+-- The data is told, or it is empty.
+told : (c : tie.Joined2) → Tells (announce-data (start c .args .p) (bytes-of (data-in (start c .args .d)))) (work-of (start c .args .w) (start c .args .st .now)) (work-of (c .if2 .a) (start c .args .st .now)) (start c .args .out .now) (c .if2 .out)
+told c =
+    let given = start c .pre .1 in
+    let empty = no-bytes (start c .args .d) (given .1) in
+    ⊎-elim
+    (λ t. told-as _ _ _ _ _ _ _ (t .6) (t .5) (announced _ _ _ _ _ _ _ _ (given .0) (is-given (start c .args .d) _ (joined2-to-else1 c .if1 .left)) empty (ne-eqb _ _ (t .0 .taken)) (t .2 .ensures)))
+    (λ t. told-as _ _ _ _ _ _ _ (t .2) (t .1) (not-announced _ _ _ _ _ (given .0) empty (eq-eqb _ _ (t .0 .left))))
+    (c .if2 .came)
+
+-- The output is as long as it was.
+as-long : (c : tie.Joined2) → length (c .if2 .out) ≡ length (start c .args .out .now)
+as-long c = ⊎-elim (λ t. ap length (t .5) ∙ t .2 .kept .1 .0) (λ t. ap length (t .1)) (c .if2 .came)
+
+slice-read-if1 : tie.Need-slice-read-if1
+slice-read-if1 c = search needs
 
 sub-holds-data : tie.Need-sub-holds-data
 sub-holds-data c = search needs
@@ -43,95 +64,106 @@ same-length c = search needs
 
 returns : tie.Need-returns
 unfolding part unpack station-of
-returns c = search info-known
+returns c = search info-passed
 
-announce-data-requires : tie.Need-announce-data-requires
-announce-data-requires c κs = search needs
+emit-one-requires : tie.Need-emit-one-requires
+emit-one-requires c κs = search needs
 
-data-fits-requires : tie.Need-data-fits-requires
-data-fits-requires c κs = search needs
+sub-contains-data : tie.Need-sub-contains-data
+sub-contains-data c = search needs
+
+part-contains-data-start : tie.Need-part-contains-data-start
+part-contains-data-start c = search needs
+
+part-contains-data-end : tie.Need-part-contains-data-end
+part-contains-data-end c = search needs
+
+contains-data-requires : tie.Need-contains-data-requires
+unfolding part
+contains-data-requires c κs = search (of-packed, needs)
+
+slice-read-fits : tie.Need-slice-read-fits
+slice-read-fits c = search needs
 
 require-requires : tie.Need-require-requires
 require-requires c κs = search needs
+
+sub-m : tie.Need-sub-m
+sub-m c = search needs
+
+part-m-start : tie.Need-part-m-start
+part-m-start c = search needs
+
+part-m-end : tie.Need-part-m-end
+part-m-end c = search needs
+
+insert-data-requires : tie.Need-insert-data-requires
+unfolding part unpack station-of
+insert-data-requires c κs =
+    let at-require = c .before .before .before in
+    let joined = require-to-joined2 at-require in
+    let given = start joined .pre .1 in
+    (search (of-packed, needs), (given .1, entry-free _ _ _ _ _ (given .0 .packed) (fits-known _ _ _ (given .0 .packed) (at-require .before .before .contains-data .ensures)) (at-require .require .ensures) (c .before .if3 .taken)))
 
 same-length-2 : tie.Need-same-length-2
 same-length-2 c = search needs
 
 same-length-3 : tie.Need-same-length-3
-same-length-3 c = search needs
+same-length-3 c = as-long (require-to-joined2 (c .before .before .before .before .before .before))
 
 returns-2 : tie.Need-returns-2
-unfolding part unpack station-of
+unfolding store-data part unpack station-of
 returns-2 c =
-    let at-require = c .before .before in
-    let at-announce = require-to-announce-data at-require in
-    let at-else2 = announce-data-to-else2 at-announce in
-    let at-is-me = else2-to-is-me at-else2 in
-    info-refused _ _ _ _ _ _ _ (at-is-me .before .before .if1 .taken) (at-is-me .is-me .ensures) (at-else2 .before .holds-data .ensures) _ _ _ _ (at-else2 .if2 .left) (at-announce .announce-data .ensures)
-    (at-require .before .data-fits .ensures) (at-require .require .ensures) (c .if3 .taken)
-
-sub-insert-data : tie.Need-sub-insert-data
-sub-insert-data c = search needs
-
-part-insert-data-start : tie.Need-part-insert-data-start
-part-insert-data-start c = search needs
-
-part-insert-data-end : tie.Need-part-insert-data-end
-part-insert-data-end c = search needs
-
-insert-data-requires : tie.Need-insert-data-requires
-unfolding part unpack station-of
-insert-data-requires c κs =
-    let at-else3 = c .before in
-    let at-require = at-else3 .before .before in
-    let at-announce = require-to-announce-data at-require in
-    let start = is-me-to-start (else2-to-is-me (announce-data-to-else2 at-announce)) in
-    (search (of-packed, needs), (start .pre .1 .1, entry-free _ _ _ _ _ (at-announce .announce-data .ensures .room .packed) (at-require .before .data-fits .ensures) (at-require .require .ensures) (at-else3 .if3 .left)))
+    let at-insert = c .before .before in
+    let at-then3 = at-insert .before .before in
+    let at-require = at-then3 .before .before in
+    let joined = require-to-joined2 at-require in
+    let packed = start joined .pre .1 .0 .packed in
+    let else1 = joined2-to-else1 joined in
+    info-stored _ _ _ _ _ _ packed (else1 .before .holds-data .ensures) _ _ _ _ (else1 .if1 .left) (told joined) (at-require .before .before .contains-data .ensures) (at-require .require .ensures) _
+    (on-done _ packed _ _ (at-then3 .if3 .taken) (put-peer-data (at-insert .insert-data .ensures)))
 
 same-length-4 : tie.Need-same-length-4
 same-length-4 c = search needs
 
 same-length-5 : tie.Need-same-length-5
-same-length-5 c = search needs
+same-length-5 c = as-long (require-to-joined2 (c .before .before))
 
 returns-3 : tie.Need-returns-3
-unfolding store-data unpack station-of part
+unfolding part unpack station-of
 returns-3 c =
-    let at-insert = c .before .before in
-    let at-else3 = at-insert .before .before in
-    let at-require = at-else3 .before .before in
-    let at-announce = require-to-announce-data at-require in
-    let at-else2 = announce-data-to-else2 at-announce in
-    let at-is-me = else2-to-is-me at-else2 in
-    info-stored _ _ _ _ _ _ _ (at-is-me .before .before .if1 .taken) (at-is-me .is-me .ensures) (at-else2 .before .holds-data .ensures) _ _ _ _ (at-else2 .if2 .left) (at-announce .announce-data .ensures)
-    (at-require .before .data-fits .ensures) (at-require .require .ensures) _
-    (on-done _ (at-announce .announce-data .ensures .room .packed) _ _ (at-else3 .if3 .left) (put-peer-data (at-insert .insert-data .ensures)))
-
-returns-4 : tie.Need-returns-4
-returns-4 c = search no-info
+    let at-require = c .before .before in
+    let joined = require-to-joined2 at-require in
+    let packed = start joined .pre .1 .0 .packed in
+    let else1 = joined2-to-else1 joined in
+    info-stored _ _ _ _ _ _ packed (else1 .before .holds-data .ensures) _ _ _ _ (else1 .if1 .left) (told joined) (at-require .before .before .contains-data .ensures) (at-require .require .ensures) _
+    (on-passed _ packed _ (c .if3 .left))
 
 pub insert-peer-info-spec : {M : Type 1} → statement M
 insert-peer-info-spec =
     tie.close
     (tie.spec
-    is-me-requires
+    slice-read-if1
     sub-holds-data
     part-holds-data-start
     part-holds-data-end
     holds-data-requires
     same-length
     returns
-    announce-data-requires
-    data-fits-requires
+    emit-one-requires
+    sub-contains-data
+    part-contains-data-start
+    part-contains-data-end
+    contains-data-requires
+    slice-read-fits
     require-requires
+    sub-m
+    part-m-start
+    part-m-end
+    insert-data-requires
     same-length-2
     same-length-3
     returns-2
-    sub-insert-data
-    part-insert-data-start
-    part-insert-data-end
-    insert-data-requires
     same-length-4
     same-length-5
-    returns-3
-    returns-4)
+    returns-3)

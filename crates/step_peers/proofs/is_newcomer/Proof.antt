@@ -1,17 +1,20 @@
-use Rattle.protocol.specs.Peers.{is-newcomer}
+use Rattle.step_peers.proofs.Laws.{newcomer}
 use borrow.Author.Needs.{needs}
 use Rattle.step_peers.proofs.is_newcomer.Statement.{statement}
 use Rattle.step_peers.proofs.is_newcomer.Tie as tie
 
-is-me-requires : tie.Need-is-me-requires
-is-me-requires c κs = search needs
+shared-slice-read-result : tie.Need-shared-slice-read-result
+shared-slice-read-result c = search needs
 
-in-view-requires : tie.Need-in-view-requires
-in-view-requires c κs = search needs
+in-active-requires : tie.Need-in-active-requires
+in-active-requires c κs = search needs
+
+in-passive-requires : tie.Need-in-passive-requires
+in-passive-requires c κs = search needs
 
 returns : tie.Need-returns
-unfolding is-newcomer
-returns c = cc
+returns c = search newcomer
 
 pub is-newcomer-spec : {M : Type 1} → statement M
-is-newcomer-spec = tie.close (tie.spec is-me-requires in-view-requires returns)
+is-newcomer-spec =
+    tie.close (tie.spec shared-slice-read-result in-active-requires in-passive-requires returns)

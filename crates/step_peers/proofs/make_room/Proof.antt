@@ -1,10 +1,17 @@
-use native.Mathlib.Omega.{arith}
+use mathlib.Core.Logic.{⊎-elim}
+use mathlib.Core.Path.{sym, subst, _∙_}
+use Prim.Native.Nat.{ℕ}
+use mathlib.Core.List.{List}
 use Rattle.writer.specs.Write.{rec-in}
 use Rattle.util.specs.Section.{part}
-use Rattle.state.specs.Unpack.{unpack, station-of}
-use Rattle.state.specs.Work.{Fine, work-of}
+use Rattle.protocol.specs.Run.{on}
+use Rattle.protocol.specs.Peers.{shift-passive}
+use Rattle.state.specs.Unpack.{unpack, station-of, long}
+use Rattle.state.specs.Work.{Fine, work-of, Changes}
 use Rattle.state.proofs.Access.{of-packed}
-use Rattle.step_peers.proofs.Laws.{some-choice, still-below, made, not-made}
+use Rattle.state.proofs.Bridge.{on-passed, on-done}
+use Rattle.state.proofs.Fields.{put-passive}
+use Rattle.step_peers.proofs.Laws.{shifted-fits, some-choice, still-below, made, not-made}
 use borrow.Author.Needs.{needs}
 use Rattle.step_peers.proofs.make_room.Statement.{statement}
 use Rattle.step_peers.proofs.make_room.Tie as tie
@@ -14,57 +21,43 @@ fine : (c : tie.Start) → Fine (work-of (c .args .w) (c .args .st .now)) (c .ar
 fine c = c .pre .1
 
 -- The ways back, from a place to an earlier one.
-abbrev passive-is-full-to-start : tie.After-passive-is-full → tie.Start
-passive-is-full-to-start c = c .before .before .before .before .before
+abbrev then1-to-start : tie.Then1 → tie.Start
+then1-to-start c = c .before .before .before .before .before .before
 
-abbrev is-empty-to-passive-is-full : tie.After-is-empty → tie.After-passive-is-full
-is-empty-to-passive-is-full c = c .before .before .before
+abbrev get-index-to-choose : tie.After-get-index → tie.After-choose
+get-index-to-choose c = c .before .before .before
 
-abbrev choose-to-then1 : tie.After-choose → tie.Then1
-choose-to-then1 c = c .before .before .before .before
+abbrev joined2-to-get-index : tie.Joined2 → tie.After-get-index
+joined2-to-get-index c = c .before .before .before
 
-abbrev shift-passive-to-choose : tie.After-shift-passive → tie.After-choose
-shift-passive-to-choose c = c .before .before .before .before .before
+abbrev forget-peer-to-joined2 : tie.After-forget-peer → tie.Joined2
+forget-peer-to-joined2 c = c .before .before
 
-abbrev forget-peer-to-shift-passive : tie.After-forget-peer → tie.After-shift-passive
-forget-peer-to-shift-passive c = c .before .before .before .before
+abbrev drew : tie.Joined2 → tie.After-choose
+drew c = get-index-to-choose (joined2-to-get-index c)
 
-passive-is-full-requires : tie.Need-passive-is-full-requires
-passive-is-full-requires c κs = search needs
+abbrev start : tie.Joined2 → tie.Start
+start c = then1-to-start (drew c .before)
 
-sub-is-empty : tie.Need-sub-is-empty
-sub-is-empty c = search needs
+-- The peer at the place chosen leaves the passive view.
+shifted : (c : tie.Joined2) → Changes (on (shift-passive (drew c .choose .result .index))) (work-of (drew c .choose .result .work) (start c .args .st .now)) (work-of (drew c .choose .result .work) (c .if2 .st))
+unfolding shift-passive unpack station-of part
+shifted c =
+    let packed = fine (start c) .ready .packed in
+    ⊎-elim
+    (λ t. subst (λ (ys : List ℕ). Changes (on (shift-passive (drew c .choose .result .index))) (work-of (drew c .choose .result .work) (start c .args .st .now)) (work-of (drew c .choose .result .work) ys)) (sym (t .5))
+    (on-done _ packed _ _ (t .0 .taken) (put-passive (t .2 .ensures) (shifted-fits _ _ packed (still-below _ _ packed (drew c .choose .ensures .1 .1))))))
+    (λ t. subst (λ (ys : List ℕ). Changes (on (shift-passive (drew c .choose .result .index))) (work-of (drew c .choose .result .work) (start c .args .st .now)) (work-of (drew c .choose .result .work) ys)) (sym (t .1)) (on-passed _ packed _ (t .0 .left)))
+    (c .if2 .came)
 
-part-is-empty-start : tie.Need-part-is-empty-start
-part-is-empty-start c = search needs
+slice-read-n : tie.Need-slice-read-n
+slice-read-n c = search needs
 
-part-is-empty-end : tie.Need-part-is-empty-end
-part-is-empty-end c = search needs
-
-is-empty-requires : tie.Need-is-empty-requires
-unfolding part
-is-empty-requires c κs = search (of-packed, needs)
-
-sub-count : tie.Need-sub-count
-sub-count c = search needs
-
-part-count-start : tie.Need-part-count-start
-part-count-start c = search needs
-
-part-count-end : tie.Need-part-count-end
-part-count-end c = search needs
-
-count-requires : tie.Need-count-requires
-unfolding part
-count-requires c κs = search (of-packed, needs)
+slice-read-if1 : tie.Need-slice-read-if1
+slice-read-if1 c = search needs
 
 choose-requires : tie.Need-choose-requires
-unfolding part unpack station-of
-choose-requires c κs = (
-  search needs,
-  let t = c .before .before .before in
-      some-choice _ _ (is-empty-to-passive-is-full (t .before) .passive-is-full .result) _ (t .before .is-empty .ensures) (t .if1 .taken) (c .count .ensures .0),
-)
+choose-requires c κs = (search needs, some-choice _ _ (c .if1 .taken))
 
 sub-get-index : tie.Need-sub-get-index
 sub-get-index c = search needs
@@ -76,26 +69,37 @@ part-get-index-end : tie.Need-part-get-index-end
 part-get-index-end c = search needs
 
 get-index-requires : tie.Need-get-index-requires
-unfolding part unpack station-of
-get-index-requires c κs = (search (of-packed, needs), still-below _ _ _ (c .before .before .before .count .ensures .0) (c .before .before .choose .ensures .1 .1))
+unfolding part
+get-index-requires c κs =
+    let at-choose = c .before .before in
+    (search (of-packed, needs), still-below _ _ (fine (then1-to-start (at-choose .before)) .ready .packed) (at-choose .choose .ensures .1 .1))
 
-shift-passive-requires : tie.Need-shift-passive-requires
-unfolding part unpack station-of
-shift-passive-requires c κs = (search needs, (search needs, still-below _ _ _ (c .before .before .before .before .before .count .ensures .0) (c .before .before .before .before .choose .ensures .1 .1)))
+sub-v : tie.Need-sub-v
+sub-v c = search needs
+
+part-v-start : tie.Need-part-v-start
+part-v-start c = search needs
+
+part-v-end : tie.Need-part-v-end
+part-v-end c = search needs
+
+shift-remove-index-requires : tie.Need-shift-remove-index-requires
+unfolding part
+shift-remove-index-requires c κs =
+    let at-choose = get-index-to-choose (c .before .before .before .before) in
+    (search (of-packed, needs), still-below _ _ (fine (then1-to-start (at-choose .before)) .ready .packed) (at-choose .choose .ensures .1 .1))
 
 forget-peer-requires : tie.Need-forget-peer-requires
-forget-peer-requires c κs = search needs
+forget-peer-requires c κs = let left = shifted (c .before) .packed in (long left, left)
 
 emit-bare-requires : tie.Need-emit-bare-requires
-emit-bare-requires c κs =
-    let gone = c .before .before .before in
-    let shifted = forget-peer-to-shift-passive gone in
-    let drew = shift-passive-to-choose shifted in
-    let empty = choose-to-then1 drew .before in
-    omega (arith, gone .forget-peer .ensures .written, shifted .shift-passive .ensures .written, drew .choose .ensures .0 .written, fine (passive-is-full-to-start (is-empty-to-passive-is-full empty)) .written)
+emit-bare-requires c κs = search needs
 
 same-length : tie.Need-same-length
-same-length c = search needs
+same-length c =
+    let at-forget = c .before .before .before .before .before .before in
+    let joined = forget-peer-to-joined2 at-forget in
+    at-forget .forget-peer .kept .1 .0 ∙ (long (shifted joined .packed) ∙ sym (start joined .pre .0))
 
 same-length-2 : tie.Need-same-length-2
 same-length-2 c = search needs
@@ -105,16 +109,9 @@ unfolding part unpack station-of rec-in
 returns c =
     let told = c .before .before in
     let gone = told .before .before .before .before in
-    let shifted = forget-peer-to-shift-passive gone in
-    let drew = shift-passive-to-choose shifted in
-    let t = choose-to-then1 drew in
-    let empty = t .before in
-    let full = is-empty-to-passive-is-full empty in
-    made _ _ _ _ _ _ (fine (passive-is-full-to-start full)) (full .passive-is-full .ensures) (empty .is-empty .ensures) _ _ _ _ _ _ _ _ _ _ (t .if1 .taken) (drew .before .count .ensures .0)
-    (drew .choose .ensures .1 .0) (shifted .before .before .get-index .ensures) (told .emit-bare .ensures) (gone .forget-peer .ensures) (shifted .shift-passive .ensures) (drew .choose .ensures .0)
-
-same-length-3 : tie.Need-same-length-3
-same-length-3 c = search needs
+    let joined = forget-peer-to-joined2 gone in
+    let chose = drew joined in
+    made _ _ _ _ (fine (start joined)) _ _ _ _ _ _ _ _ _ (chose .before .if1 .taken) (chose .choose .ensures .1 .0) (joined2-to-get-index joined .get-index .ensures) (told .emit-bare .ensures) (gone .forget-peer .ensures) (shifted joined) (chose .choose .ensures .0)
 
 returns-2 : tie.Need-returns-2
 unfolding part unpack station-of
@@ -124,25 +121,20 @@ pub make-room-spec : {M : Type 1} → statement M
 make-room-spec =
     tie.close
     (tie.spec
-    passive-is-full-requires
-    sub-is-empty
-    part-is-empty-start
-    part-is-empty-end
-    is-empty-requires
-    sub-count
-    part-count-start
-    part-count-end
-    count-requires
+    slice-read-n
+    slice-read-if1
     choose-requires
     sub-get-index
     part-get-index-start
     part-get-index-end
     get-index-requires
-    shift-passive-requires
+    sub-v
+    part-v-start
+    part-v-end
+    shift-remove-index-requires
     forget-peer-requires
     emit-bare-requires
     same-length
     same-length-2
     returns
-    same-length-3
     returns-2)
