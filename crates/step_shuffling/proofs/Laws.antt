@@ -5,6 +5,7 @@ use mathlib.Core.Path.{_≡_, sym, ap, _∙_}
 use mathlib.Core.Bool.{Bool, true, false, not, _&&_, _||_}
 use mathlib.Core.List.{List, [], _∷_}
 use native.Mathlib.Omega.{arith}
+use lib.Dec.{eqb}
 use lib.ListN.{length, drop, getD}
 use Rattle.lists.specs.Lists.{null, without-all}
 use Rattle.lists.specs.Array.{pad}
@@ -18,18 +19,19 @@ use Rattle.timing.specs.Timing.{next, expired}
 use Rattle.writer.specs.declared.Nodes.{Nodes}
 use Rattle.writer.specs.Nodes.{nodes-in, HoldsNodes}
 use Rattle.writer.specs.Write.{rec-in}
-use Rattle.protocol.specs.Station.{Station, is-requested, is-short, is-last-hop, is-spent}
+use Rattle.protocol.specs.Station.{Station, is-requested, is-short, is-last-hop}
 use Rattle.protocol.specs.Run.{emit, to-draw, one-of, draw-one-of, picked, message}
 use Rattle.protocol.specs.Peers.{add-nodes, any-new}
 use Rattle.protocol.specs.Sending.{send-shuffle-reply}
-use Rattle.protocol.specs.Refill.{few-requests, start-refill, refill-active-from-passive}
+use Rattle.protocol.specs.Refill.{start-refill, refill-active-from-passive}
 use Rattle.protocol.specs.Messages.{answers-shuffle, answer-shuffle, forward-shuffle, on-shuffle, stops-at-refusal, renews-limit, refill-with, after-reply, on-shuffle-reply}
 use Rattle.state.specs.declared.Work.{Work}
 use Rattle.state.specs.Work.{work-of, run, DrawsAny, TellsAny, Fine, Does}
-use Rattle.state.specs.Layout.{active-part}
-use Rattle.state.specs.declared.RefillLimit.{RefillLimit}
-use Rattle.state.specs.Unpack.{unpack, station-of, refill-in, limit-at}
+use Rattle.state.specs.Layout.{refill-kind, refill-requests, active-part}
+use Rattle.state.specs.declared.RefillLimit.the-variants.{Requests}
+use Rattle.state.specs.Unpack.{unpack, station-of, refill-in}
 use Rattle.state.proofs.Bridge.{by, still, seq-at, taken, left, holds-at, at-run}
+use Rattle.state.proofs.Limits.{says-spent}
 use Rattle.state.proofs.Any.{then-draw-any, then-tell-any}
 
 -- ---- the neighbors that a Shuffle may go on to
@@ -101,15 +103,15 @@ pub stops-known : (s : Station) (p : ℕ) (a b : Bool) → a ≡ is-requested p 
 unfolding stops-at-refusal
 stops-known s p a b x y = λ i. x i && not (y i)
 
-pub renews-known : (xs : List ℕ) (p : ℕ) (a new b : Bool) (l : RefillLimit) → a ≡ is-requested p (unpack xs) → b ≡ is-spent (refill-in l) → l ≡ limit-at xs → (not a && (new && b)) ≡ renews-limit p new (unpack xs)
-unfolding renews-limit unpack station-of
-renews-known xs p a new b l x y z = λ i. not (x i) && (new && (y ∙ ap (λ (m : RefillLimit). is-spent (refill-in m)) z) i)
+pub renews-known : (xs : List ℕ) (p : ℕ) (a new : Bool) → a ≡ is-requested p (unpack xs) → (not a && (new && (eqb (refill-kind xs) 1 && eqb (refill-requests xs) 0))) ≡ renews-limit p new (unpack xs)
+unfolding renews-limit
+renews-known xs p a new x = λ i. not (x i) && (new && says-spent xs i)
 
 module _ (w r : Work) (xs ys ds out o : List ℕ) (renewed : Bool) where
-  pub refilled-few : (l : RefillLimit) → renewed ≡ true → refill-in l ≡ few-requests → Does (work-of r ys) ds o (start-refill (refill-in l) [] (run (work-of w xs) ds out))
+  pub refilled-few : renewed ≡ true → Does (work-of r ys) ds o (start-refill (refill-in (Requests 3)) [] (run (work-of w xs) ds out))
       → Does (work-of r ys) ds o (refill-with renewed (run (work-of w xs) ds out))
-  unfolding refill-with
-  refilled-few l h q d = taken _ _ h (by _ (λ i. start-refill (sym q i) [] (run (work-of w xs) ds out)) d)
+  unfolding refill-with refill-in
+  refilled-few h d = taken _ _ h d
 
   pub refilled-same : renewed ≡ false → Does (work-of r ys) ds o (refill-active-from-passive [] (run (work-of w xs) ds out)) → Does (work-of r ys) ds o (refill-with renewed (run (work-of w xs) ds out))
   unfolding refill-with

@@ -5,6 +5,7 @@ use record::Message;
 use state::Layout;
 use state::RefillLimit;
 use state::Work;
+use timing::Timing;
 use timing::Ttl;
 use writer::Fields;
 use writer::Nodes;
@@ -157,11 +158,14 @@ pub fn on_shuffle_reply(
     if requested & !state::is_short(st) {
         return t.work;
     }
-    let l = state::limit_of(st);
     let none = [0u64; 0];
     // The limit on requests, which is spent, begins anew: the reply named a new peer and is not a refusal.
-    if !requested & (t.fresh & l.is_spent()) {
-        let few = RefillLimit::few_requests();
+    if !requested
+        & (t.fresh
+            & ((st[Layout::REFILL_KIND] == RefillLimit::REQUESTS_LEFT)
+                & (st[Layout::REFILL_REQUESTS] == 0)))
+    {
+        let few = RefillLimit::Requests(Timing::MAX_REQUESTS_PER_REFILL as u64);
         return step_refill::start_refill(t.work, st, draws, out, few, &none);
     }
     step_refill::refill_active_from_passive(t.work, st, draws, out, &none)

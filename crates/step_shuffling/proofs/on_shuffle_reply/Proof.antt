@@ -10,14 +10,14 @@ add-nodes-to-start c = c .before .before .before .before .before .before .before
 abbrev is-requested-to-add-nodes : tie.After-is-requested → tie.After-add-nodes
 is-requested-to-add-nodes c = c .before .before .before .before .before .before
 
-abbrev limit-of-to-is-requested : tie.After-limit-of → tie.After-is-requested
-limit-of-to-is-requested c = c .before .before .before .before .before
+abbrev else1-to-is-requested : tie.Else1 → tie.After-is-requested
+else1-to-is-requested c = c .before .before .before
 
-abbrev start-refill-to-limit-of : tie.After-start-refill → tie.After-limit-of
-start-refill-to-limit-of c = c .before .before .before .before .before .before .before .before
+abbrev then2-to-else1 : tie.Then2 → tie.Else1
+then2-to-else1 c = c .before .before .before .before
 
-abbrev refill-to-limit-of : tie.After-refill-active-from-passive → tie.After-limit-of
-refill-to-limit-of c = c .before .before .before .before .before .before .before
+abbrev else2-to-else1 : tie.Else2 → tie.Else1
+else2-to-else1 c = c .before .before .before .before
 
 add-nodes-requires : tie.Need-add-nodes-requires
 add-nodes-requires c κs = search needs
@@ -41,21 +41,21 @@ returns c =
     let stops = stops-known _ _ _ _ (at-is-requested .is-requested .ensures) (c .before .before .is-short .ensures) in
     reply-taken _ _ _ _ _ _ _ _ _ _ _ _ _ (at-add-nodes .add-nodes .ensures .1) (reply-stopped _ _ _ _ _ _ _ stops (at-add-nodes .add-nodes .ensures .0 .fine) (c .before .if1 .taken)) (at-add-nodes .add-nodes .ensures .0)
 
-limit-of-requires : tie.Need-limit-of-requires
-limit-of-requires c κs = search needs
+slice-read-if2 : tie.Need-slice-read-if2
+slice-read-if2 c = search needs
 
-is-spent-requires : tie.Need-is-spent-requires
-is-spent-requires c κs = search needs
+slice-read-if2-2 : tie.Need-slice-read-if2-2
+slice-read-if2-2 c = search needs
 
-few-requests-requires : tie.Need-few-requests-requires
-few-requests-requires c κs = search needs
+cast-t30 : tie.Need-cast-t30
+cast-t30 c = search needs
 
 slice-aggregate-start-refill : tie.Need-slice-aggregate-start-refill
 slice-aggregate-start-refill c = search needs
 
 start-refill-requires : tie.Need-start-refill-requires
 start-refill-requires c κs =
-    let at-add-nodes = is-requested-to-add-nodes (limit-of-to-is-requested (c .before .before .before .before .before .before .before)) in
+    let at-add-nodes = is-requested-to-add-nodes (else1-to-is-requested (then2-to-else1 (c .before .before .before))) in
     (search (needs, at-add-nodes .add-nodes .kept, add-nodes-to-start at-add-nodes .pre .0), at-add-nodes .add-nodes .ensures .0 .fine)
 
 same-length-3 : tie.Need-same-length-3
@@ -67,21 +67,21 @@ same-length-4 c = search needs
 returns-2 : tie.Need-returns-2
 returns-2 c =
     let at-start-refill = c .before .before .before .before in
-    let at-limit-of = start-refill-to-limit-of at-start-refill in
-    let at-is-requested = limit-of-to-is-requested at-limit-of in
+    let then2 = at-start-refill .before .before .before .before in
+    let else1 = then2-to-else1 then2 in
+    let at-is-requested = else1-to-is-requested else1 in
     let at-add-nodes = is-requested-to-add-nodes at-is-requested in
     let requested = at-is-requested .is-requested .ensures in
-    let stops = stops-known _ _ _ _ requested (at-limit-of .before .before .before .is-short .ensures) in
-    let renews = renews-known _ _ _ _ _ _ requested (at-start-refill .before .before .before .before .before .before .before .is-spent .ensures) (at-limit-of .limit-of .ensures) in
-    let refilled = refilled-few _ _ _ _ _ _ _ _ _ (at-start-refill .before .before .before .before .before .if2 .taken) (at-start-refill .before .before .before .before .few-requests .ensures) (at-start-refill .start-refill .ensures) in
-    reply-taken _ _ _ _ _ _ _ _ _ _ _ _ _ (at-add-nodes .add-nodes .ensures .1) (reply-refilled _ _ _ _ _ _ _ stops _ _ _ _ (at-limit-of .before .before .if1 .left) renews refilled) (at-add-nodes .add-nodes .ensures .0)
+    let stops = stops-known _ _ _ _ requested (else1 .before .is-short .ensures) in
+    let refilled = refilled-few _ _ _ _ _ _ _ _ (then2 .if2 .taken) (at-start-refill .start-refill .ensures) in
+    reply-taken _ _ _ _ _ _ _ _ _ _ _ _ _ (at-add-nodes .add-nodes .ensures .1) (reply-refilled _ _ _ _ _ _ _ stops _ _ _ _ (else1 .if1 .left) (renews-known _ _ _ _ requested) refilled) (at-add-nodes .add-nodes .ensures .0)
 
 slice-aggregate-refill-active-from-passive : tie.Need-slice-aggregate-refill-active-from-passive
 slice-aggregate-refill-active-from-passive c = search needs
 
 refill-active-from-passive-requires : tie.Need-refill-active-from-passive-requires
 refill-active-from-passive-requires c κs =
-    let at-add-nodes = is-requested-to-add-nodes (limit-of-to-is-requested (c .before .before .before .before .before .before)) in
+    let at-add-nodes = is-requested-to-add-nodes (else1-to-is-requested (else2-to-else1 (c .before .before .before))) in
     (search (needs, at-add-nodes .add-nodes .kept, add-nodes-to-start at-add-nodes .pre .0), at-add-nodes .add-nodes .ensures .0 .fine)
 
 same-length-5 : tie.Need-same-length-5
@@ -93,14 +93,14 @@ same-length-6 c = search needs
 returns-3 : tie.Need-returns-3
 returns-3 c =
     let at-refill = c .before .before .before .before in
-    let at-limit-of = refill-to-limit-of at-refill in
-    let at-is-requested = limit-of-to-is-requested at-limit-of in
+    let else2 = at-refill .before .before .before .before in
+    let else1 = else2-to-else1 else2 in
+    let at-is-requested = else1-to-is-requested else1 in
     let at-add-nodes = is-requested-to-add-nodes at-is-requested in
     let requested = at-is-requested .is-requested .ensures in
-    let stops = stops-known _ _ _ _ requested (at-limit-of .before .before .before .is-short .ensures) in
-    let renews = renews-known _ _ _ _ _ _ requested (at-refill .before .before .before .before .before .before .is-spent .ensures) (at-limit-of .limit-of .ensures) in
-    let refilled = refilled-same _ _ _ _ _ _ _ _ (at-refill .before .before .before .before .if2 .left) (at-refill .refill-active-from-passive .ensures) in
-    reply-taken _ _ _ _ _ _ _ _ _ _ _ _ _ (at-add-nodes .add-nodes .ensures .1) (reply-refilled _ _ _ _ _ _ _ stops _ _ _ _ (at-limit-of .before .before .if1 .left) renews refilled) (at-add-nodes .add-nodes .ensures .0)
+    let stops = stops-known _ _ _ _ requested (else1 .before .is-short .ensures) in
+    let refilled = refilled-same _ _ _ _ _ _ _ _ (else2 .if2 .left) (at-refill .refill-active-from-passive .ensures) in
+    reply-taken _ _ _ _ _ _ _ _ _ _ _ _ _ (at-add-nodes .add-nodes .ensures .1) (reply-refilled _ _ _ _ _ _ _ stops _ _ _ _ (else1 .if1 .left) (renews-known _ _ _ _ requested) refilled) (at-add-nodes .add-nodes .ensures .0)
 
 pub on-shuffle-reply-spec : {M : Type 1} → statement M
 on-shuffle-reply-spec =
@@ -112,9 +112,9 @@ on-shuffle-reply-spec =
     same-length
     same-length-2
     returns
-    limit-of-requires
-    is-spent-requires
-    few-requests-requires
+    slice-read-if2
+    slice-read-if2-2
+    cast-t30
     slice-aggregate-start-refill
     start-refill-requires
     same-length-3
