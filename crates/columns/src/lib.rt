@@ -90,14 +90,6 @@ pub fn bytes_of(w: u64, x: u64) -> [u8; PeerData::BYTES]
 
 // ---- a map of numbers: the peers, their numbers, and then the count
 
-pub fn count_numbers(m: &[u64], cap: usize) -> usize
-    requires { ⌜ ValidNumbers cap (now m) ⌝ }
-    ensures { λ r. ⌜ (r ≡ length (numbers-at cap (now (m .entry)))) × (r ≤ cap) ⌝ }
-{
-    let end = cap + cap;
-    m[end] as usize
-}
-
 pub fn contains_number(m: &[u64], cap: usize, p: PeerId) -> bool
     requires { ⌜ ValidNumbers cap (now m) ⌝ }
     ensures { λ r. ⌜ r ≡ has p (numbers-at cap (now (m .entry))) ⌝ }

@@ -1,22 +1,22 @@
 -- The shuffle reply, by the peers that the shuffled views leave in a working set.
 -- Assumes nothing.
 use Prim.Native.Nat.{ℕ, _-_, _≤_, _<_}
-use mathlib.Core.Path.{_≡_, sym, ap, _∙_}
+use mathlib.Core.Path.{_≡_, sym, ap, _∙_, subst}
 use mathlib.Core.List.{List, _++_}
 use lib.ListN.{length, take}
 use native.Mathlib.Omega.{arith}
 use lib.Dec.{ltb}
 use borrow.Author.Tests.{lt-ltb, le-ltb}
-use Rattle.util.specs.Section.{items-at, HoldsSet}
+use Rattle.util.specs.Section.{items-at, ValidSet, HoldsSet}
 use Rattle.protocol.specs.Run.{shuffled, to-draw, draw-shuffle}
 use Rattle.protocol.specs.Sending.{send-nodes, fill-active, send-filled, reply-with, send-shuffle-reply}
 use Rattle.state.specs.declared.Work.{Work}
 use Rattle.state.specs.Unpack.{unpack}
-use Rattle.state.specs.Work.{work-of, run, DrawsAny, Tells, Fine, Does}
+use Rattle.state.specs.Work.{work-of, run, DrawsAny, Room, Tells, Fine, Does}
 use Rattle.state.proofs.Bridge.{by, still, then-tell, seq, taken, left}
 use Rattle.state.proofs.Any.{then-draw-any}
 use Rattle.step_sending.proofs.Sets.{shuffled-by, shuffle-of, filled-up}
-use Rattle.step_sending.proofs.Told.{fine-drawn}
+use Rattle.step_sending.proofs.Told.{fine-drawn, room-drawn}
 
 module _ (to len : ℕ) (w a r : Work) (xs ds out o : List ℕ) (v : Fine (work-of w xs) ds out) where
   filled-done : (ps all : List ℕ) → DrawsAny (draw-shuffle (unpack xs .active)) w a ds
@@ -48,17 +48,30 @@ module _ (to len n : ℕ) (ps : List ℕ) (w r : Work) (xs ds out o : List ℕ) 
   unfolding reply-with
   reply-long v h k = left (ltb (length ps) len) (send-filled to len ps (run (work-of w xs) ds out)) (le-ltb (length ps) len (omega arith)) (then-tell k (still v))
 
+-- the reply with the peers of the working set v, sent after the work a, answers for the work w
+pub record ReadyReply (to len : ℕ) (w a : Work) (xs ds out v : List ℕ) : Type 0 where
+  pub valid : ValidSet 32 v
+  pub room : Room (work-of a xs) out
+  pub done : (r : Work) (o : List ℕ) → Tells (send-nodes to (items-at 32 v)) (work-of a xs) (work-of r xs) out o → Does (work-of r xs) ds o (send-shuffle-reply to len (run (work-of w xs) ds out))
+
+pub ready-as : (to len : ℕ) (w a b : Work) (xs ds out v all : List ℕ) → v ≡ all → a ≡ b → ReadyReply to len w b xs ds out all → ReadyReply to len w a xs ds out v
+ready-as to len w a b xs ds out v all e q k = subst (λ (l : List ℕ). ReadyReply to len w a xs ds out l) (sym e) (subst (λ (x : Work). ReadyReply to len w x xs ds out all) (sym q) k)
+
 -- the passive view copied, shuffled and cut to the n peers of v₂
 module _ (to len : ℕ) (w a : Work) (xs ds out v₁ v₂ : List ℕ) (n : ℕ) (v : Fine (work-of w xs) ds out) (q : HoldsSet 32 v₁ (unpack xs .passive)) (k : DrawsAny (draw-shuffle (items-at 32 v₁)) w a ds)
     (h : HoldsSet 32 v₂ (take len (shuffled-by w ds (items-at 32 v₁)))) (e : n ≡ length (items-at 32 v₂)) where
-  pub reply-filled : (b r : Work) (o m₀ m all : List ℕ) → n < len → HoldsSet 32 m₀ (unpack xs .active) → DrawsAny (draw-shuffle (items-at 32 m₀)) a b ds → HoldsSet 32 m (take (len - n) (shuffled-by a ds (items-at 32 m₀)))
-      → HoldsSet 32 all (items-at 32 v₂ ++ items-at 32 m) → Tells (send-nodes to (items-at 32 all)) (work-of b xs) (work-of r xs) out o
-      → Does (work-of r xs) ds o (send-shuffle-reply to len (run (work-of w xs) ds out))
-  reply-filled b r o m₀ m all l q₂ k₂ h₂ h₃ t =
+  pub ready-filled : (b : Work) (m₀ m all : List ℕ) → n < len → HoldsSet 32 m₀ (unpack xs .active) → DrawsAny (draw-shuffle (items-at 32 m₀)) a b ds → HoldsSet 32 m (take (len - n) (shuffled-by a ds (items-at 32 m₀)))
+      → HoldsSet 32 all (items-at 32 v₂ ++ items-at 32 m) → ReadyReply to len w b xs ds out all
+  ready-filled b m₀ m all l q₂ k₂ h₂ h₃ =
       let f = filled-up a b ds v₂ all m m₀ (unpack xs .active) len n k₂ h₃ h₂ q₂ e in
-      reply-done to len w a r xs ds out o v v₁ v₂ q k h
-      (reply-short to len n (items-at 32 v₂) a r xs ds out o e l (filled-done to len a b r xs ds out o (fine-drawn w a xs ds out v k) (items-at 32 v₂) all (f .0) (f .1) t))
+      let fine = fine-drawn w a xs ds out v k in
+      record {
+        valid = h₃ .valid;
+        room = room-drawn a b xs ds out fine k₂;
+        done = λ r o t. reply-done to len w a r xs ds out o v v₁ v₂ q k h (reply-short to len n (items-at 32 v₂) a r xs ds out o e l (filled-done to len a b r xs ds out o fine (items-at 32 v₂) all (f .0) (f .1) t));
+      }
 
-  pub reply-enough : (r : Work) (o : List ℕ) → len ≤ n → Tells (send-nodes to (items-at 32 v₂)) (work-of a xs) (work-of r xs) out o → Does (work-of r xs) ds o (send-shuffle-reply to len (run (work-of w xs) ds out))
-  reply-enough r o l t =
-      reply-done to len w a r xs ds out o v v₁ v₂ q k h (reply-long to len n (items-at 32 v₂) a r xs ds out o e (fine-drawn w a xs ds out v k) l t)
+  pub ready-enough : len ≤ n → ReadyReply to len w a xs ds out v₂
+  ready-enough l =
+      let fine = fine-drawn w a xs ds out v k in
+      record { valid = h .valid; room = room-drawn w a xs ds out v k; done = λ r o t. reply-done to len w a r xs ds out o v v₁ v₂ q k h (reply-long to len n (items-at 32 v₂) a r xs ds out o e fine l t) }

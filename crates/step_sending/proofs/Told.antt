@@ -5,13 +5,14 @@ use mathlib.Core.Path.{_≡_, refl, sym, ap, _∙_, subst}
 use mathlib.Core.Bool.{Bool, true, false, _||_, or-true}
 use mathlib.Core.List.{List, [], _∷_}
 use native.Mathlib.Omega.{arith}
-use lib.ListN.{length, take}
+use lib.ListN.{length, take, getD}
 use lib.Dec.{ltb}
 use borrow.Author.Tests.{ltb-true}
 use Rattle.lists.specs.Lists.{choose}
 use Rattle.lists.specs.Maps.{has}
 use Rattle.lists.proofs.Choice.{choose-yes, choose-no}
 use Rattle.util.specs.Section.{items-at, ValidSet}
+use Rattle.util.proofs.Parts.{part-read}
 use Rattle.columns.specs.Columns.{numbers-at}
 use Rattle.peer.specs.Held.{node-in, data-in}
 use Rattle.peer.specs.declared.PeerData.{PeerData}
@@ -27,7 +28,7 @@ use Rattle.state.specs.declared.Work.{Work}
 use Rattle.state.specs.Layout.{requests-part, shuffle-active-view-count, shuffle-passive-view-count, neighbor-request-timeout, next-neighbor-request}
 use Rattle.state.specs.Unpack.{unpack, station-of, settings-at, own-at, PackedState}
 use Rattle.state.specs.Work.{Held, work-of, run, Changes, ChangesAny, DrawsAny, Room, Tells, TellsAny, Fine, Does}
-use Rattle.state.proofs.Access.{of-settings}
+use Rattle.state.proofs.Access.{of-settings, of-requests}
 use Rattle.timing.proofs.Ranges.{ranges}
 use Rattle.state.proofs.Bridge.{on-passed, emit-passed, require-said, unchanged, change-by, change-then, telling, tell-by, tell-then, tell-yes, tell-no, by}
 use Rattle.state.proofs.Any.{then-tell-any}
@@ -107,6 +108,10 @@ module _ (p : ℕ) (high : Bool) (w : Held) (out : List ℕ) (v : Room w out) wh
   pub not-replied : (reply : Bool) → reply ≡ false → Tells (reply-neighbor reply p high) w w out out
   unfolding reply-neighbor
   not-replied reply h = telling v (unchanged _ (v .packed) (λ ds o. choose-no _ _ _ h))
+
+-- the count of the open requests, as it stands in the words
+pub requests-counted : (xs : List ℕ) → PackedState xs → getD xs 194 0 ≡ length (numbers-at 32 (requests-part xs))
+requests-counted xs v = sym (of-requests xs v .counted ∙ part-read 130 65 64 xs (omega arith))
 
 -- the two tests before a request is noted
 module _ (w a b : Work) (xs : List ℕ) (n : ℕ) (v : PackedState xs) (k₁ : ChangesAny (require 10 (ltb (next-neighbor-request xs) top-counter)) w a)

@@ -17,11 +17,14 @@ ghost use Rattle.util.specs.Chances.{shuffle};
 ghost use Rattle.util.specs.Section.{items-at, ValidSet, HoldsSet};
 ghost use Rattle.writer.specs.Nodes.{HoldsNodes};
 ghost use Rattle.protocol.specs.Run.{peer-infos, draw-shuffle};
-ghost use Rattle.protocol.specs.Sending.{join, send-nodes, send-shuffle-reply, send-disconnect, tell-request, send-neighbor, reply-neighbor};
+ghost use Rattle.protocol.specs.Sending.{join, send-shuffle-reply, send-disconnect, send-neighbor, reply-neighbor};
 ghost use Rattle.record.specs.Format.{most-nodes};
 ghost use Rattle.state.specs.Layout.{words, all-places};
 ghost use Rattle.state.specs.Unpack.{unpack, PackedState};
 ghost use Rattle.state.specs.Work.{work-of, run, DrawsAny, Room, Tells, Fine, Does};
+
+// The most requests that are open at once.
+const MOST_ASKED: u64 = Layout::ALL as u64;
 
 // The flag where it is set, else 0.
 fn flag_if(set: bool, flag: u8) -> u8
@@ -67,27 +70,6 @@ pub fn join(w: Work, st: &[u64], out: &mut [u8], p: PeerId) -> Work
     state::emit_one(w, out, f, PeerInfo { id: 0, data: d })
 }
 
-// ShuffleReply with the peers of a working set.
-fn send_set(w: Work, st: &[u64], out: &mut [u8], to: PeerId, v: &[u64]) -> Work
-    requires { ⌜ length (now st) ≡ words ⌝ }
-    requires { ⌜ Room (work-of w (now st)) (now out) ⌝ }
-    requires { ⌜ ValidSet all-places (now v) ⌝ }
-    ensures { λ r. ⌜ Tells (send-nodes to (items-at all-places (now (v .entry)))) (work-of w (now (st .entry))) (work-of r (now (st .entry))) (now (out .entry)) (now (out .exit)) ⌝ }
-{
-    let n = util::count(v, Layout::ALL);
-    let ns = peer_infos(st, &v[..n]);
-    let f = Fields {
-        kind: Kind::MESSAGE,
-        message: Message::SHUFFLE_REPLY,
-        flags: 0,
-        peer: to,
-        second: 0,
-        ttl: 0,
-        number: 0,
-    };
-    state::emit_nodes(w, out, f, ns)
-}
-
 // Shuffles a working set and cuts it to at most `most` peers.
 pub fn shuffle_and_cap(w: Work, draws: &[u32], most: usize, v: &mut [u64]) -> Work
     requires { ⌜ w .drawn ≤ length (now draws) ⌝ }
@@ -96,7 +78,13 @@ pub fn shuffle_and_cap(w: Work, draws: &[u32], most: usize, v: &mut [u64]) -> Wo
     ensures { λ r. ⌜ HoldsSet all-places (now (v .exit)) (take most (shuffle (drop (w .drawn) (now (draws .entry))) (items-at all-places (now (v .entry))))) ⌝ }
 {
     let r = state::shuffle_by_draws(w, draws, v);
-    util::truncate(v, Layout::ALL, most);
+    let n = v[Layout::ALL] as usize;
+    if n <= most {
+        return r;
+    }
+    // The first `most` of them stay.
+    util::clear_from(&mut v[..Layout::ALL], most);
+    v[Layout::ALL] = most as u64;
     r
 }
 
@@ -115,26 +103,29 @@ pub fn send_shuffle_reply(
     ensures { λ r. ⌜ Does (work-of r (now (st .entry))) (now (draws .entry)) (now (out .exit)) (send-shuffle-reply to len (run (work-of w (now (st .entry))) (now (draws .entry)) (now (out .entry)))) ⌝ }
 {
     let mut v = [0u64; Layout::SET];
-    util::copy_into(
-        &st[Layout::PASSIVE..Layout::PASSIVE_END],
-        Layout::ALL,
-        &mut v,
-    );
-    let a = shuffle_and_cap(w, draws, len, &mut v);
+    let passive = &st[Layout::PASSIVE..Layout::PASSIVE_END];
+    util::copy_into(passive, Layout::ALL, &mut v);
+    let mut a = shuffle_and_cap(w, draws, len, &mut v);
     let n = util::count(&v, Layout::ALL);
     if n < len {
         // Too few passive peers: the shuffled active view makes up the number.
         let mut more = [0u64; Layout::SET];
-        util::copy_into(
-            &st[Layout::ACTIVE..Layout::ACTIVE_END],
-            Layout::FEW,
-            &mut more,
-        );
-        let b = shuffle_and_cap(a, draws, len - n, &mut more);
+        let active = &st[Layout::ACTIVE..Layout::ACTIVE_END];
+        util::copy_into(active, Layout::FEW, &mut more);
+        a = shuffle_and_cap(a, draws, len - n, &mut more);
         util::append(&mut v, Layout::ALL, &more, Layout::ALL);
-        return send_set(b, st, out, to, &v);
     }
-    send_set(a, st, out, to, &v)
+    let named = util::count(&v, Layout::ALL);
+    let f = Fields {
+        kind: Kind::MESSAGE,
+        message: Message::SHUFFLE_REPLY,
+        flags: 0,
+        peer: to,
+        second: 0,
+        ttl: 0,
+        number: 0,
+    };
+    state::emit_nodes(a, out, f, peer_infos(st, &v[..named]))
 }
 
 // Disconnect, and before it a ShuffleReply.
@@ -167,39 +158,8 @@ pub fn send_disconnect(
     state::emit_bare(a, out, f)
 }
 
-// Neighbor, and the timer that ends the wait for its answer.
-fn tell_request(w: Work, st: &[u64], out: &mut [u8], p: PeerId, high: bool, id: u64) -> Work
-    requires { ⌜ length (now st) ≡ words ⌝ }
-    requires { ⌜ Room (work-of w (now st)) (now out) ⌝ }
-    ensures { λ r. ⌜ Tells (tell-request p high id) (work-of w (now (st .entry))) (work-of r (now (st .entry))) (now (out .entry)) (now (out .exit)) ⌝ }
-{
-    // Neighbor, with the station's own data.
-    let d = state::own_data(st);
-    let flags = flag_if(high, Flags::HIGH);
-    let f = Fields {
-        kind: Kind::MESSAGE,
-        message: Message::NEIGHBOR,
-        flags: flags,
-        peer: p,
-        second: 0,
-        ttl: 0,
-        number: 0,
-    };
-    let a = state::emit_one(w, out, f, PeerInfo { id: 0, data: d });
-    let timeout = st[Layout::NEIGHBOR_REQUEST_TIMEOUT];
-    let t = Fields {
-        kind: Kind::PENDING_NEIGHBOR_REQUEST,
-        message: 0,
-        flags: 0,
-        peer: p,
-        second: timeout,
-        ttl: 0,
-        number: id,
-    };
-    state::emit_bare(a, out, t)
-}
-
-// Neighbor to p, unless a request to it is open.
+// Neighbor to p with the station's own data, unless a request to it is open. Code 10 where no number is left for a request, code 6 where a 33rd open request is needed;
+// else the request is open under that number, and a timer ends the wait for its answer.
 pub fn send_neighbor(w: Work, st: &mut [u64], out: &mut [u8], p: PeerId, high: bool) -> Work
     requires { ⌜ length (now st) ≡ words ⌝ }
     requires { ⌜ Room (work-of w (now st)) (now out) ⌝ }
@@ -208,23 +168,36 @@ pub fn send_neighbor(w: Work, st: &mut [u64], out: &mut [u8], p: PeerId, high: b
     if state::is_requested(st, p) {
         return w;
     }
-    // Code 10 where no number is left for a request, code 6 where a 33rd open request is needed.
     let id = st[Layout::NEXT_NEIGHBOR_REQUEST];
     let a = state::require(w, Refusal::COUNTER, id < state::TOP_COUNTER);
-    let n = columns::count_numbers(&st[Layout::ASKED..Layout::ASKED_END], Layout::ALL);
-    let b = state::require(a, Refusal::REQUESTS, n < Layout::ALL);
+    let b = state::require(a, Refusal::REQUESTS, st[Layout::ASKED_COUNT] < MOST_ASKED);
     if b.code != 0 {
         return b;
     }
-    // The request to p is open under that number.
-    columns::insert_number(
-        &mut st[Layout::ASKED..Layout::ASKED_END],
-        Layout::ALL,
-        p,
-        id,
-    );
+    let asked = &mut st[Layout::ASKED..Layout::ASKED_END];
+    columns::insert_number(asked, Layout::ALL, p, id);
     st[Layout::NEXT_NEIGHBOR_REQUEST] = id + 1;
-    tell_request(b, st, out, p, high, id)
+    let f = Fields {
+        kind: Kind::MESSAGE,
+        message: Message::NEIGHBOR,
+        flags: flag_if(high, Flags::HIGH),
+        peer: p,
+        second: 0,
+        ttl: 0,
+        number: 0,
+    };
+    let d = state::own_data(st);
+    let c = state::emit_one(b, out, f, PeerInfo { id: 0, data: d });
+    let t = Fields {
+        kind: Kind::PENDING_NEIGHBOR_REQUEST,
+        message: 0,
+        flags: 0,
+        peer: p,
+        second: st[Layout::NEIGHBOR_REQUEST_TIMEOUT],
+        ttl: 0,
+        number: id,
+    };
+    state::emit_bare(c, out, t)
 }
 
 // Neighbor to p, where an answer is wanted.

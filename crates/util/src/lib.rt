@@ -383,19 +383,6 @@ pub fn renew(s: &mut [u64], cap: usize, most: usize, x: PeerId)
     push(s, cap, x);
 }
 
-// The first k items.
-pub fn truncate(s: &mut [u64], cap: usize, k: usize)
-    requires { ⌜ ValidSet cap (now s) ⌝ }
-    ensures { λ _. ⌜ HoldsSet cap (now (s .exit)) (take k (items-at cap (now (s .entry)))) ⌝ }
-{
-    let n = s[cap] as usize;
-    if n <= k {
-        return;
-    }
-    clear_from(&mut s[..cap], k);
-    s[cap] = k as u64;
-}
-
 // The items that are not in `skip`, in order.
 pub fn without_all(s: &mut [u64], cap: usize, skip: &[u64], scap: usize)
     requires { ⌜ ValidSet cap (now s) ⌝ }

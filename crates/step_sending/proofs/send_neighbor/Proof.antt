@@ -1,28 +1,62 @@
-use mathlib.Core.Path.{_∙_}
+use Prim.Native.Nat.{ℕ, _+_}
+use mathlib.Core.List.{List}
+use lib.ListN.{getD, set}
+use borrow.Rule.Slice.PartMut.{putMid}
 use native.Mathlib.Omega.{arith}
 use Rattle.util.specs.Section.{part}
+use Rattle.protocol.specs.Run.{on}
 use Rattle.protocol.specs.Sending.{note-request}
-use Rattle.state.specs.Unpack.{unpack, station-of}
+use Rattle.state.specs.Unpack.{unpack, station-of, long}
+use Rattle.state.specs.Work.{work-of, Changes, Room}
 use Rattle.state.proofs.Access.{of-packed}
 use Rattle.state.proofs.Bridge.{on-done}
 use Rattle.state.proofs.Fields.{put-requests, put-next-request}
-use Rattle.step_sending.proofs.Told.{asked, number-left, place-left, noted-room, neighbor-sent, neighbor-refused}
+use Rattle.step_sending.proofs.Told.{asked, requests-counted, number-left, place-left, noted-room, request-told, neighbor-sent, neighbor-refused}
 use borrow.Author.Needs.{needs}
 use Rattle.step_sending.proofs.send_neighbor.Statement.{statement}
 use Rattle.step_sending.proofs.send_neighbor.Tie as tie
 
 -- The ways back, from a place to an earlier one.
-abbrev is-requested-to-start : tie.After-is-requested → tie.Start
-is-requested-to-start c = c .before .before .before .before
+abbrev else1-to-start : tie.Else1 → tie.Start
+else1-to-start c = c .before .before .before .before .before
 
 abbrev require-to-else1 : tie.After-require → tie.Else1
 require-to-else1 c = c .before .before
 
 abbrev require2-to-require : tie.After-require2 → tie.After-require
-require2-to-require c = c .before .before .before .before
+require2-to-require c = c .before .before
 
-abbrev tell-request-to-insert-number : tie.After-tell-request → tie.After-insert-number
-tell-request-to-insert-number c = c .before .before .before .before .before
+abbrev else2-to-require2 : tie.Else2 → tie.After-require2
+else2-to-require2 c = c .before .before
+
+abbrev insert-number-to-else2 : tie.After-insert-number → tie.Else2
+insert-number-to-else2 c = c .before .before
+
+abbrev own-data-to-insert-number : tie.After-own-data → tie.After-insert-number
+own-data-to-insert-number c = c .before .before .before .before .before
+
+abbrev require2-to-start : tie.After-require2 → tie.Start
+require2-to-start c = else1-to-start (require-to-else1 (require2-to-require c))
+
+abbrev insert-number-to-start : tie.After-insert-number → tie.Start
+insert-number-to-start c = require2-to-start (else2-to-require2 (insert-number-to-else2 c))
+
+-- The words after the request was noted.
+abbrev after : tie.After-insert-number → List ℕ
+after c =
+    let xs = insert-number-to-start c .args .st .now in
+    set (putMid 130 65 xs (c .insert-number .last .0)) 18 (getD xs 18 0 + 1)
+
+request-noted : (c : tie.After-insert-number) → Changes (on (note-request (insert-number-to-start c .args .p))) (work-of (else2-to-require2 (insert-number-to-else2 c) .require2 .result) (insert-number-to-start c .args .st .now)) (work-of (else2-to-require2 (insert-number-to-else2 c) .require2 .result) (after c))
+unfolding note-request unpack station-of part
+request-noted c = on-done _ (insert-number-to-start c .pre .1 .packed) _ _ (insert-number-to-else2 c .if2 .left) (λ b. put-next-request _ (put-requests (c .insert-number .ensures) b))
+
+-- What the Neighbor is told with.
+room : (c : tie.After-insert-number) → Room (work-of (else2-to-require2 (insert-number-to-else2 c) .require2 .result) (after c)) (insert-number-to-start c .args .out .now)
+room c =
+    let start = insert-number-to-start c in
+    let at-require2 = else2-to-require2 (insert-number-to-else2 c) in
+    noted-room _ _ _ _ _ (start .pre .1 .packed) (require2-to-require at-require2 .require .ensures) (requests-counted _ (start .pre .1 .packed)) (at-require2 .require2 .ensures) _ _ (request-noted c) _ (start .pre .1)
 
 is-requested-requires : tie.Need-is-requested-requires
 is-requested-requires c κs = search needs
@@ -39,18 +73,8 @@ slice-read-id c = search needs
 require-requires : tie.Need-require-requires
 require-requires c κs = search needs
 
-sub-count-numbers : tie.Need-sub-count-numbers
-sub-count-numbers c = search needs
-
-part-count-numbers-start : tie.Need-part-count-numbers-start
-part-count-numbers-start c = search needs
-
-part-count-numbers-end : tie.Need-part-count-numbers-end
-part-count-numbers-end c = search needs
-
-count-numbers-requires : tie.Need-count-numbers-requires
-unfolding part
-count-numbers-requires c κs = search (of-packed, needs)
+slice-read-require : tie.Need-slice-read-require
+slice-read-require c = search needs
 
 require-requires-2 : tie.Need-require-requires-2
 require-requires-2 c κs = search needs
@@ -64,50 +88,55 @@ returns-2 c =
     let at-require2 = c .before .before in
     let at-require = require2-to-require at-require2 in
     let at-else1 = require-to-else1 at-require in
-    let start = is-requested-to-start (at-else1 .before) in
-    neighbor-refused _ _ _ _ _ (start .pre .1 .packed) (at-require .require .ensures) (at-require2 .before .count-numbers .ensures .0) (at-require2 .require2 .ensures) _ _ _ _ (start .pre .1) (at-else1 .before .is-requested .ensures) (at-else1 .if1 .left) (c .if2 .taken)
+    let start = else1-to-start at-else1 in
+    neighbor-refused _ _ _ _ _ (start .pre .1 .packed) (at-require .require .ensures) (requests-counted _ (start .pre .1 .packed)) (at-require2 .require2 .ensures) _ _ _ _ (start .pre .1) (at-else1 .before .is-requested .ensures) (at-else1 .if1 .left) (c .if2 .taken)
 
-sub-insert-number : tie.Need-sub-insert-number
-sub-insert-number c = search needs
+sub-asked : tie.Need-sub-asked
+sub-asked c = search needs
 
-part-insert-number-start : tie.Need-part-insert-number-start
-part-insert-number-start c = search needs
+part-asked-start : tie.Need-part-asked-start
+part-asked-start c = search needs
 
-part-insert-number-end : tie.Need-part-insert-number-end
-part-insert-number-end c = search needs
+part-asked-end : tie.Need-part-asked-end
+part-asked-end c = search needs
 
 insert-number-requires : tie.Need-insert-number-requires
 unfolding part
 insert-number-requires c κs =
-    let at-require2 = c .before .before .before in
-    let at-require = require2-to-require at-require2 in
-    let at-else1 = require-to-else1 at-require in
-    let start = is-requested-to-start (at-else1 .before) in
-    (search (of-packed, needs), place-left _ _ _ _ _ (start .pre .1 .packed) (at-require .require .ensures) (at-require2 .before .count-numbers .ensures .0) (at-require2 .require2 .ensures) (c .before .if2 .left) _)
+    let at-require2 = else2-to-require2 (c .before) in
+    let start = require2-to-start at-require2 in
+    (search (of-packed, needs), place-left _ _ _ _ _ (start .pre .1 .packed) (require2-to-require at-require2 .require .ensures) (requests-counted _ (start .pre .1 .packed)) (at-require2 .require2 .ensures) (c .before .if2 .left) _)
 
 add-st : tie.Need-add-st
 unfolding part
 add-st c =
-    let at-else2 = c .before .before .before .before in
-    let at-require2 = at-else2 .before .before in
-    let at-require = require2-to-require at-require2 in
-    let at-else1 = require-to-else1 at-require in
-    let start = is-requested-to-start (at-else1 .before) in
-    record { fits = omega (arith, number-left _ _ _ _ _ (start .pre .1 .packed) (at-require .require .ensures) (at-require2 .before .count-numbers .ensures .0) (at-require2 .require2 .ensures) (at-else2 .if2 .left)) }
+    let at-else2 = insert-number-to-else2 (c .before .before) in
+    let at-require2 = else2-to-require2 at-else2 in
+    let start = require2-to-start at-require2 in
+    record { fits = omega (arith, number-left _ _ _ _ _ (start .pre .1 .packed) (require2-to-require at-require2 .require .ensures) (requests-counted _ (start .pre .1 .packed)) (at-require2 .require2 .ensures) (at-else2 .if2 .left)) }
 
 slice-write-st : tie.Need-slice-write-st
 slice-write-st c = search needs
 
-tell-request-requires : tie.Need-tell-request-requires
-unfolding note-request unpack station-of part
-tell-request-requires c κs =
-    let at-insert = c .before .before .before .before in
-    let at-else2 = at-insert .before .before in
-    let at-require2 = at-else2 .before .before in
-    let at-require = require2-to-require at-require2 in
-    let at-else1 = require-to-else1 at-require in
-    let start = is-requested-to-start (at-else1 .before) in
-    (search (needs, c .before .before .before .st2 .given .1 ∙ start .pre .0), noted-room _ _ _ _ _ (start .pre .1 .packed) (at-require .require .ensures) (at-require2 .before .count-numbers .ensures .0) (at-require2 .require2 .ensures) _ _ (on-done _ (start .pre .1 .packed) _ _ (at-else2 .if2 .left) (λ b. put-next-request _ (put-requests (at-insert .insert-number .ensures) b))) _ (start .pre .1))
+flag-if-requires : tie.Need-flag-if-requires
+flag-if-requires c κs = search needs
+
+own-data-requires : tie.Need-own-data-requires
+own-data-requires c κs =
+    let at-insert-number = c .before .before .before .before in
+    (long (room at-insert-number .packed), room at-insert-number .packed)
+
+emit-one-requires : tie.Need-emit-one-requires
+emit-one-requires c κs =
+    let at-own-data = c .before in
+    let told = room (own-data-to-insert-number at-own-data) in
+    (told .written, search (of-packed, told .packed, at-own-data .own-data .ensures))
+
+slice-read-t18 : tie.Need-slice-read-t18
+slice-read-t18 c = omega (arith, long (room (own-data-to-insert-number (c .before .before .before .before .before)) .packed))
+
+emit-bare-requires : tie.Need-emit-bare-requires
+emit-bare-requires c κs = search needs
 
 same-length-3 : tie.Need-same-length-3
 same-length-3 c = search needs
@@ -116,17 +145,18 @@ same-length-4 : tie.Need-same-length-4
 same-length-4 c = search needs
 
 returns-3 : tie.Need-returns-3
-unfolding note-request unpack station-of part
 returns-3 c =
-    let at-told = c .before .before in
-    let at-insert = tell-request-to-insert-number at-told in
-    let at-else2 = at-insert .before .before in
-    let at-require2 = at-else2 .before .before in
+    let at-emit-bare = c .before .before in
+    let at-emit-one = at-emit-bare .before .before .before .before .before in
+    let at-own-data = at-emit-one .before .before in
+    let at-insert-number = own-data-to-insert-number at-own-data in
+    let at-require2 = else2-to-require2 (insert-number-to-else2 at-insert-number) in
     let at-require = require2-to-require at-require2 in
     let at-else1 = require-to-else1 at-require in
-    let start = is-requested-to-start (at-else1 .before) in
-    neighbor-sent _ _ _ _ _ (start .pre .1 .packed) (at-require .require .ensures) (at-require2 .before .count-numbers .ensures .0) (at-require2 .require2 .ensures) _ _ (on-done _ (start .pre .1 .packed) _ _ (at-else2 .if2 .left) (λ b. put-next-request _ (put-requests (at-insert .insert-number .ensures) b)))
-    _ _ _ _ _ (start .pre .1) (at-else1 .before .is-requested .ensures) (at-else1 .if1 .left) (at-told .tell-request .ensures)
+    let start = else1-to-start at-else1 in
+    neighbor-sent _ _ _ _ _ (start .pre .1 .packed) (at-require .require .ensures) (requests-counted _ (start .pre .1 .packed)) (at-require2 .require2 .ensures) _ _ (request-noted at-insert-number)
+    _ _ _ _ _ (start .pre .1) (at-else1 .before .is-requested .ensures) (at-else1 .if1 .left)
+    (request-told _ _ _ _ _ _ _ _ _ _ _ _ (room at-insert-number) (at-own-data .before .before .flag-if .ensures) (at-own-data .own-data .ensures) (at-emit-one .emit-one .ensures) (at-emit-bare .emit-bare .ensures))
 
 pub send-neighbor-spec : {M : Type 1} → statement M
 send-neighbor-spec =
@@ -137,20 +167,21 @@ send-neighbor-spec =
     returns
     slice-read-id
     require-requires
-    sub-count-numbers
-    part-count-numbers-start
-    part-count-numbers-end
-    count-numbers-requires
+    slice-read-require
     require-requires-2
     same-length-2
     returns-2
-    sub-insert-number
-    part-insert-number-start
-    part-insert-number-end
+    sub-asked
+    part-asked-start
+    part-asked-end
     insert-number-requires
     add-st
     slice-write-st
-    tell-request-requires
+    flag-if-requires
+    own-data-requires
+    emit-one-requires
+    slice-read-t18
+    emit-bare-requires
     same-length-3
     same-length-4
     returns-3)

@@ -1,9 +1,11 @@
+use mathlib.Core.Logic.{⊎-elim}
+use native.Mathlib.Omega.{arith}
 use Rattle.util.specs.Section.{part}
 use Rattle.state.specs.Unpack.{unpack, station-of}
 use Rattle.state.proofs.Access.{of-packed}
-use Rattle.step_sending.proofs.Sets.{fill-fits}
-use Rattle.step_sending.proofs.Replies.{reply-filled, reply-enough}
-use Rattle.step_sending.proofs.Told.{fine-drawn, room-drawn}
+use Rattle.step_sending.proofs.Sets.{fill-fits, lent-count, lent-few}
+use Rattle.step_sending.proofs.Replies.{ReadyReply, ready-as, ready-filled, ready-enough}
+use Rattle.step_sending.proofs.Told.{set-told}
 use borrow.Author.Needs.{needs}
 use Rattle.step_sending.proofs.send_shuffle_reply.Statement.{statement}
 use Rattle.step_sending.proofs.send_shuffle_reply.Tie as tie
@@ -12,26 +14,45 @@ use Rattle.step_sending.proofs.send_shuffle_reply.Tie as tie
 abbrev copy-into-to-start : tie.After-copy-into → tie.Start
 copy-into-to-start c = c .before .before .before .before .before .before
 
+abbrev shuffle-and-cap-to-copy-into : tie.After-shuffle-and-cap → tie.After-copy-into
+shuffle-and-cap-to-copy-into c = c .before .before .before
+
 abbrev count-to-shuffle-and-cap : tie.After-count → tie.After-shuffle-and-cap
 count-to-shuffle-and-cap c = c .before .before .before
 
-abbrev shuffle-and-cap-to-copy-into : tie.After-shuffle-and-cap → tie.After-copy-into
-shuffle-and-cap-to-copy-into c = c .before .before .before
+abbrev count-to-start : tie.After-count → tie.Start
+count-to-start c = copy-into-to-start (shuffle-and-cap-to-copy-into (count-to-shuffle-and-cap c))
 
 abbrev shuffle-and-cap2-to-then1 : tie.After-shuffle-and-cap2 → tie.Then1
 shuffle-and-cap2-to-then1 c = c .before .before .before .before .before .before
 
-abbrev append-to-shuffle-and-cap2 : tie.After-append → tie.After-shuffle-and-cap2
-append-to-shuffle-and-cap2 c = c .before .before .before .before
+abbrev count2-to-joined1 : tie.After-count2 → tie.Joined1
+count2-to-joined1 c = c .before .before
 
-sub-copy-into : tie.Need-sub-copy-into
-sub-copy-into c = search needs
+-- The peers that the reply names, from the passive view alone or from both.
+ready : (c : tie.Joined1) → ReadyReply (count-to-start (c .before) .args .to) (count-to-start (c .before) .args .len) (count-to-start (c .before) .args .w) (c .if1 .a) (count-to-start (c .before) .args .st .now) (count-to-start (c .before) .args .draws .now) (count-to-start (c .before) .args .out .now) (c .if1 .v)
+unfolding unpack station-of part
+ready c =
+    let at-count = c .before in
+    let at-cap = count-to-shuffle-and-cap at-count in
+    let at-copy = shuffle-and-cap-to-copy-into at-cap in
+    let start = copy-into-to-start at-copy in
+    ⊎-elim
+    (λ s. ready-as _ _ _ _ _ _ _ _ _ _ (s .12) (s .13)
+    (ready-filled _ _ _ _ _ _ _ _ _ _ (start .pre .1 .0) (at-copy .copy-into .ensures) (at-cap .shuffle-and-cap .ensures .0) (at-cap .shuffle-and-cap .ensures .1) (at-count .count .ensures .0)
+    _ _ _ _ (s .0 .taken) (s .3 .ensures) (s .6 .ensures .0) (s .6 .ensures .1) (s .10 .ensures)))
+    (λ s. ready-as _ _ _ _ _ _ _ _ _ _ (s .1) (s .2)
+    (ready-enough _ _ _ _ _ _ _ _ _ _ (start .pre .1 .0) (at-copy .copy-into .ensures) (at-cap .shuffle-and-cap .ensures .0) (at-cap .shuffle-and-cap .ensures .1) (at-count .count .ensures .0) (s .0 .left)))
+    (c .if1 .came)
 
-part-copy-into-start : tie.Need-part-copy-into-start
-part-copy-into-start c = search needs
+sub-passive : tie.Need-sub-passive
+sub-passive c = search needs
 
-part-copy-into-end : tie.Need-part-copy-into-end
-part-copy-into-end c = search needs
+part-passive-start : tie.Need-part-passive-start
+part-passive-start c = search needs
+
+part-passive-end : tie.Need-part-passive-end
+part-passive-end c = search needs
 
 slice-aggregate-copy-into : tie.Need-slice-aggregate-copy-into
 slice-aggregate-copy-into c = search needs
@@ -52,14 +73,14 @@ slice-aggregate-count c = search needs
 count-requires : tie.Need-count-requires
 count-requires c κs = search needs
 
-sub-copy-into-2 : tie.Need-sub-copy-into-2
-sub-copy-into-2 c = search needs
+sub-active : tie.Need-sub-active
+sub-active c = search needs
 
-part-copy-into-start-2 : tie.Need-part-copy-into-start-2
-part-copy-into-start-2 c = search needs
+part-active-start : tie.Need-part-active-start
+part-active-start c = search needs
 
-part-copy-into-end-2 : tie.Need-part-copy-into-end-2
-part-copy-into-end-2 c = search needs
+part-active-end : tie.Need-part-active-end
+part-active-end c = search needs
 
 slice-aggregate-copy-into-2 : tie.Need-slice-aggregate-copy-into-2
 slice-aggregate-copy-into-2 c = search needs
@@ -88,84 +109,60 @@ append-requires c κs =
     let at-cap2 = c .before .before .before in
     let at-then1 = shuffle-and-cap2-to-then1 at-cap2 in
     let at-count = at-then1 .before in
-    let at-cap = count-to-shuffle-and-cap at-count in
-    let at-copy = shuffle-and-cap-to-copy-into at-cap in
-    let start = copy-into-to-start at-copy in (
+    let at-cap = count-to-shuffle-and-cap at-count in (
       at-cap .shuffle-and-cap .ensures .1 .valid,
-      (at-cap2 .shuffle-and-cap2 .ensures .1 .valid, fill-fits _ _ _ _ _ (at-cap2 .shuffle-and-cap2 .ensures .1) (at-count .count .ensures .0) (at-then1 .if1 .taken) (start .pre .1 .1)),
+      (at-cap2 .shuffle-and-cap2 .ensures .1 .valid, fill-fits _ _ _ _ _ (at-cap2 .shuffle-and-cap2 .ensures .1) (at-count .count .ensures .0) (at-then1 .if1 .taken) (count-to-start at-count .pre .1 .1)),
     )
 
-slice-aggregate-send-set : tie.Need-slice-aggregate-send-set
-slice-aggregate-send-set c = search needs
+slice-aggregate-count-2 : tie.Need-slice-aggregate-count-2
+slice-aggregate-count-2 c = omega (arith, ready (c .before) .valid .long)
 
-send-set-requires : tie.Need-send-set-requires
-send-set-requires c κs =
-    let at-append = c .before .before .before in
-    let at-cap2 = append-to-shuffle-and-cap2 at-append in
-    let at-count = shuffle-and-cap2-to-then1 at-cap2 .before in
-    let at-cap = count-to-shuffle-and-cap at-count in
-    let at-copy = shuffle-and-cap-to-copy-into at-cap in
-    let start = copy-into-to-start at-copy in
-    (start .pre .0, (room-drawn _ _ _ _ _ (fine-drawn _ _ _ _ _ (start .pre .1 .0) (at-cap .shuffle-and-cap .ensures .0)) (at-cap2 .shuffle-and-cap2 .ensures .0), at-append .append .ensures .valid))
+count-requires-2 : tie.Need-count-requires-2
+count-requires-2 c κs = ready (c .before) .valid
+
+array-share-prefix-v : tie.Need-array-share-prefix-v
+array-share-prefix-v c = omega (arith, ready (count2-to-joined1 (c .before)) .valid .long, c .before .count2 .ensures .1)
+
+slice-aggregate-peer-infos : tie.Need-slice-aggregate-peer-infos
+slice-aggregate-peer-infos c = lent-count _ _ (ready (count2-to-joined1 (c .before .before)) .valid) (c .before .before .count2 .ensures .0)
+
+peer-infos-requires : tie.Need-peer-infos-requires
+peer-infos-requires c κs =
+    let at-count2 = c .before .before in
+    let at-joined1 = count2-to-joined1 at-count2 in
+    let start = count-to-start (at-joined1 .before) in
+    (start .pre .0, (start .pre .1 .0 .ready .packed, lent-few _ _ (ready at-joined1 .valid) (at-count2 .count2 .ensures .0)))
+
+emit-nodes-requires : tie.Need-emit-nodes-requires
+emit-nodes-requires c κs = (ready (count2-to-joined1 (c .before .before .before)) .room .written, search needs)
 
 same-length : tie.Need-same-length
 same-length c = search needs
 
 returns : tie.Need-returns
-unfolding unpack station-of part
 returns c =
-    let at-sent = c .before .before in
-    let at-append = at-sent .before .before .before .before in
-    let at-cap2 = append-to-shuffle-and-cap2 at-append in
-    let at-then1 = shuffle-and-cap2-to-then1 at-cap2 in
-    let at-count = at-then1 .before in
-    let at-cap = count-to-shuffle-and-cap at-count in
-    let at-copy = shuffle-and-cap-to-copy-into at-cap in
-    let start = copy-into-to-start at-copy in
-    reply-filled _ _ _ _ _ _ _ _ _ _ (start .pre .1 .0) (at-copy .copy-into .ensures) (at-cap .shuffle-and-cap .ensures .0) (at-cap .shuffle-and-cap .ensures .1) (at-count .count .ensures .0)
-    _ _ _ _ _ _ (at-then1 .if1 .taken) (at-cap2 .before .before .before .copy-into2 .ensures) (at-cap2 .shuffle-and-cap2 .ensures .0) (at-cap2 .shuffle-and-cap2 .ensures .1) (at-append .append .ensures) (at-sent .send-set .ensures)
-
-slice-aggregate-send-set-2 : tie.Need-slice-aggregate-send-set-2
-slice-aggregate-send-set-2 c = search needs
-
-send-set-requires-2 : tie.Need-send-set-requires-2
-send-set-requires-2 c κs =
-    let at-count = c .before .before .before in
-    let at-cap = count-to-shuffle-and-cap at-count in
-    let at-copy = shuffle-and-cap-to-copy-into at-cap in
-    let start = copy-into-to-start at-copy in
-    (start .pre .0, (room-drawn _ _ _ _ _ (start .pre .1 .0) (at-cap .shuffle-and-cap .ensures .0), at-cap .shuffle-and-cap .ensures .1 .valid))
-
-same-length-2 : tie.Need-same-length-2
-same-length-2 c = search needs
-
-returns-2 : tie.Need-returns-2
-unfolding unpack station-of part
-returns-2 c =
-    let at-sent = c .before .before in
-    let at-else1 = at-sent .before .before .before in
-    let at-count = at-else1 .before in
-    let at-cap = count-to-shuffle-and-cap at-count in
-    let at-copy = shuffle-and-cap-to-copy-into at-cap in
-    let start = copy-into-to-start at-copy in
-    reply-enough _ _ _ _ _ _ _ _ _ _ (start .pre .1 .0) (at-copy .copy-into .ensures) (at-cap .shuffle-and-cap .ensures .0) (at-cap .shuffle-and-cap .ensures .1) (at-count .count .ensures .0) _ _ (at-else1 .if1 .left) (at-sent .send-set2 .ensures)
+    let at-emit-nodes = c .before .before in
+    let at-peer-infos = at-emit-nodes .before in
+    let at-count2 = at-peer-infos .before .before .before in
+    let sent = ready (count2-to-joined1 at-count2) in
+    sent .done _ _ (set-told _ _ _ _ _ _ _ _ _ (sent .room) (sent .valid) (at-count2 .count2 .ensures .0) (at-peer-infos .peer-infos .ensures) (at-emit-nodes .emit-nodes .ensures))
 
 pub send-shuffle-reply-spec : {M : Type 1} → statement M
 send-shuffle-reply-spec =
     tie.close
     (tie.spec
-    sub-copy-into
-    part-copy-into-start
-    part-copy-into-end
+    sub-passive
+    part-passive-start
+    part-passive-end
     slice-aggregate-copy-into
     copy-into-requires
     slice-aggregate-shuffle-and-cap
     shuffle-and-cap-requires
     slice-aggregate-count
     count-requires
-    sub-copy-into-2
-    part-copy-into-start-2
-    part-copy-into-end-2
+    sub-active
+    part-active-start
+    part-active-end
     slice-aggregate-copy-into-2
     copy-into-requires-2
     sub-shuffle-and-cap
@@ -174,11 +171,11 @@ send-shuffle-reply-spec =
     slice-aggregate-append
     slice-aggregate-append-2
     append-requires
-    slice-aggregate-send-set
-    send-set-requires
+    slice-aggregate-count-2
+    count-requires-2
+    array-share-prefix-v
+    slice-aggregate-peer-infos
+    peer-infos-requires
+    emit-nodes-requires
     same-length
-    returns
-    slice-aggregate-send-set-2
-    send-set-requires-2
-    same-length-2
-    returns-2)
+    returns)
