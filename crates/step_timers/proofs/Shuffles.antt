@@ -2,19 +2,18 @@
 -- Assumes nothing.
 use Prim.Native.Nat.{ℕ, _+_, _*_, _≤_, _<_, min}
 use mathlib.Core.Path.{_≡_, refl, sym, ap, _∙_, subst}
-use mathlib.Core.Bool.{Bool, true, false}
+use mathlib.Core.Bool.{true, false}
 use mathlib.Core.List.{List, [], _∷_, _++_}
 use native.Mathlib.Omega.{arith}
 use lib.ListN.{length, take, drop, getD, set, length-append}
-use borrow.Author.Tests.{eqb-false}
-use Rattle.lists.specs.Lists.{without}
+use Rattle.lists.specs.Lists.{null, without}
 use Rattle.util.specs.Chances.{pick}
 use Rattle.timing.specs.Timing.{delay}
 use Rattle.timing.proofs.Ranges.{ranges}
 use Rattle.peer.specs.declared.PeerData.{PeerData}
 use Rattle.peer.specs.Data.{Node}
 use Rattle.util.specs.Section.{items-at, ValidSet, HoldsSet}
-use Rattle.util.proofs.Sets.{set-length, set-then, empty-is-null}
+use Rattle.util.proofs.Sets.{set-length, set-then}
 use Rattle.peer.specs.Held.{node-in}
 use Rattle.writer.specs.declared.Nodes.{Nodes}
 use Rattle.writer.specs.Nodes.{nodes-in, HoldsNodes}
@@ -29,9 +28,9 @@ use Rattle.state.specs.Layout as layout
 use Rattle.state.specs.Layout.{next-shuffle-interval, shuffle-interval, me, shuffle-random-walk-length, shuffle-active-view-count, shuffle-passive-view-count}
 use Rattle.state.specs.Unpack.{unpack, station-of, settings-at, own-at, PackedState, Becomes}
 use Rattle.state.specs.Work.{work-of, run, Changes, DrawsAny, Room, Tells, TellsAny, Fine, Does}
-use Rattle.state.proofs.Access.{of-settings, of-active}
+use Rattle.state.proofs.Access.{of-settings}
 use Rattle.state.proofs.Fields.{put-next-interval}
-use Rattle.state.proofs.Bridge.{guard-shut, on-done, by, tell-by, still, then, then-tell, seq, seq-at, taken, left, holds-at}
+use Rattle.state.proofs.Bridge.{guard-shut, on-done, by, tell-by, still, then, then-tell, seq, seq-at, taken, left}
 use Rattle.state.proofs.Any.{then-draw-any, then-tell-any}
 use Rattle.step_sending.proofs.Sets.{few-taken, lent-items, lent-count, shuffled-by, shuffle-of}
 
@@ -145,23 +144,27 @@ module _ (w a r : Work) (xs ds out o : List ℕ) (to : ℕ) (f : Fine (work-of w
 
 -- ---- to whom
 
-pub some-there : (xs : List ℕ) (n : ℕ) (t : Bool) → PackedState xs → n ≡ length (items-at 8 (layout.active-part xs)) → t ≡ is-alone (unpack xs) → t ≡ false → 0 < n
-unfolding is-alone unpack station-of
-some-there xs n t v c e h =
-    let s = of-active xs v in
-    omega (arith, c, s .counted, eqb-false (getD (layout.active-part xs) 8 0) 0 (empty-is-null 8 (layout.active-part xs) s ∙ (sym e ∙ h)))
+null-none : (l : List ℕ) → 0 ≡ length l → null l ≡ true
+unfolding null
+null-none [] e = refl
+null-none (x ∷ l) e = absurd (omega (arith, e))
 
-module _ (w : Work) (xs ds out : List ℕ) (t : Bool) (f : Fine (work-of w xs) ds out) (e : t ≡ is-alone (unpack xs)) where
-  pub none-asked : t ≡ true → Does (work-of w xs) ds out (shuffle-any (run (work-of w xs) ds out))
-  unfolding shuffle-any
-  none-asked h = taken _ _ (holds-at (work-of w xs) ds out is-alone e h) (still f)
+null-some : (l : List ℕ) → (0 ≡ length l → ⊥) → null l ≡ false
+unfolding null
+null-some [] h = absurd (h refl)
+null-some (x ∷ l) h = refl
 
-  module _ (n i p : ℕ) (c : n ≡ length (items-at 8 (layout.active-part xs))) (j : i ≡ pick n (drop (w .drawn) ds)) (q : p ≡ getD (items-at 8 (layout.active-part xs)) i 0) where
+module _ (w : Work) (xs ds out : List ℕ) (n : ℕ) (f : Fine (work-of w xs) ds out) (c : n ≡ length (items-at 8 (layout.active-part xs))) where
+  pub none-asked : n ≡ 0 → Does (work-of w xs) ds out (shuffle-any (run (work-of w xs) ds out))
+  unfolding shuffle-any is-alone run unpack station-of
+  none-asked z = taken _ _ (null-none (items-at 8 (layout.active-part xs)) (sym z ∙ c)) (still f)
+
+  module _ (i p : ℕ) (j : i ≡ pick n (drop (w .drawn) ds)) (q : p ≡ getD (items-at 8 (layout.active-part xs)) i 0) where
     picked-is : p ≡ picked (run (work-of w xs) ds out .station .active) (run (work-of w xs) ds out)
     unfolding picked one-of to-draw run unpack station-of
     picked-is = q ∙ ap (λ (k : ℕ). getD (items-at 8 (layout.active-part xs)) k 0) (j ∙ ap (λ (k : ℕ). pick k (drop (w .drawn) ds)) c)
 
-    pub one-asked : (a r : Work) (o : List ℕ) → t ≡ false → Does (work-of r xs) ds o (shuffle-with p (run (work-of a xs) ds out)) → DrawsAny (draw-one-of n) w a ds → Does (work-of r xs) ds o (shuffle-any (run (work-of w xs) ds out))
-    unfolding shuffle-any run unpack station-of
+    pub one-asked : (a r : Work) (o : List ℕ) → (n ≡ 0 → ⊥) → Does (work-of r xs) ds o (shuffle-with p (run (work-of a xs) ds out)) → DrawsAny (draw-one-of n) w a ds → Does (work-of r xs) ds o (shuffle-any (run (work-of w xs) ds out))
+    unfolding shuffle-any is-alone run unpack station-of
     one-asked a r o h k₂ k₁ =
-        left _ _ (holds-at (work-of w xs) ds out is-alone e h) (seq-at shuffle-with picked-is k₂ (then-draw-any (subst (λ (m : ℕ). DrawsAny (draw-one-of m) w a ds) c k₁) (still f)))
+        left _ _ (null-some (items-at 8 (layout.active-part xs)) (λ z. h (c ∙ sym z))) (seq-at shuffle-with picked-is k₂ (then-draw-any (subst (λ (m : ℕ). DrawsAny (draw-one-of m) w a ds) c k₁) (still f)))

@@ -8,17 +8,11 @@ use state::Layout;
 use state::Work;
 use writer::Fields;
 ghost use mathlib.Core.Path.{_≡_};
-ghost use Prim.Native.Nat.{_≤_, _<_};
-ghost use lib.ListN.{length, take, drop};
-ghost use Rattle.lists.specs.Lists.{without};
-ghost use Rattle.util.specs.Chances.{shuffle};
+ghost use lib.ListN.{length};
 ghost use Rattle.peer.specs.Maps.{number-in};
-ghost use Rattle.util.specs.Section.{items-at, ValidSet, HoldsSet};
-ghost use Rattle.protocol.specs.Run.{draw-shuffle};
-ghost use Rattle.protocol.specs.Timers.{is-number, handle-pending-neighbor-timer, retry-join, schedule-shuffle, send-shuffle, shuffle-any, handle-shuffle-timer};
-ghost use Rattle.record.specs.Format.{most-nodes};
-ghost use Rattle.state.specs.Layout.{words, all-places, set-words};
-ghost use Rattle.state.specs.Work.{work-of, run, DrawsAny, Room, Tells, Fine, Does};
+ghost use Rattle.protocol.specs.Timers.{is-number, handle-pending-neighbor-timer, retry-join, schedule-shuffle, shuffle-any, handle-shuffle-timer};
+ghost use Rattle.state.specs.Layout.{words};
+ghost use Rattle.state.specs.Work.{work-of, run, Room, Tells, Fine, Does};
 
 // Whether an answer names the number n.
 fn is_number(n: u64, m: Number) -> bool
@@ -94,93 +88,45 @@ pub fn schedule_shuffle(w: Work, st: &mut [u64], draws: &[u32], out: &mut [u8]) 
     state::emit_bare(d.work, out, f)
 }
 
-// Shuffle with the peers of a working set, and the station itself last.
-fn send_shuffle(w: Work, st: &[u64], out: &mut [u8], to: PeerId, v: &[u64]) -> Work
+// Shuffle to a neighbor, where there is one. It names some peers of each view, but not that one, as the next draws decide, and the station itself last.
+fn shuffle_any(w: Work, st: &[u64], draws: &[u32], out: &mut [u8]) -> Work
     requires { ⌜ length (now st) ≡ words ⌝ }
-    requires { ⌜ Room (work-of w (now st)) (now out) ⌝ }
-    requires { ⌜ ValidSet all-places (now v) ⌝ }
-    requires { ⌜ length (items-at all-places (now v)) < most-nodes ⌝ }
-    ensures { λ r. ⌜ Tells (send-shuffle to (items-at all-places (now (v .entry)))) (work-of w (now (st .entry))) (work-of r (now (st .entry))) (now (out .entry)) (now (out .exit)) ⌝ }
+    requires { ⌜ Fine (work-of w (now st)) (now draws) (now out) ⌝ }
+    ensures { λ r. ⌜ Does (work-of r (now (st .entry))) (now (draws .entry)) (now (out .exit)) (shuffle-any (run (work-of w (now (st .entry))) (now (draws .entry)) (now (out .entry)))) ⌝ }
 {
-    let n = util::count(v, Layout::ALL);
+    let active = &st[Layout::ACTIVE..Layout::ACTIVE_END];
+    let k = util::count(active, Layout::FEW);
+    if k == 0 {
+        return w;
+    }
+    let t = state::choose(w, draws, k);
+    let to = util::get_index(active, Layout::FEW, t.index);
+    let mut v = [0u64; Layout::SET];
+    util::copy_into(active, Layout::FEW, &mut v);
+    util::without(&mut v, Layout::ALL, to);
+    let few = st[Layout::SHUFFLE_ACTIVE_VIEW_COUNT] as usize;
+    let a = step_sending::shuffle_and_cap(t.work, draws, few, &mut v);
+    let passive = &st[Layout::PASSIVE..Layout::PASSIVE_END];
+    let mut more = [0u64; Layout::SET];
+    util::copy_into(passive, Layout::ALL, &mut more);
+    util::without(&mut more, Layout::ALL, to);
+    let many = st[Layout::SHUFFLE_PASSIVE_VIEW_COUNT] as usize;
+    let b = step_sending::shuffle_and_cap(a, draws, many, &mut more);
+    util::append(&mut v, Layout::ALL, &more, Layout::ALL);
+    let n = util::count(&v, Layout::ALL);
     let named = step_sending::peer_infos(st, &v[..n]);
     let me = st[Layout::ME];
-    let d = state::own_data(st);
-    let ns = named.push(PeerInfo { id: me, data: d });
-    let ttl = st[Layout::SHUFFLE_RANDOM_WALK_LENGTH] as u16;
+    let own = state::own_data(st);
     let f = Fields {
         kind: Kind::MESSAGE,
         message: Message::SHUFFLE,
         flags: 0,
         peer: to,
         second: me,
-        ttl: ttl,
+        ttl: st[Layout::SHUFFLE_RANDOM_WALK_LENGTH] as u16,
         number: 0,
     };
-    state::emit_nodes(w, out, f, ns)
-}
-
-// At most `most` peers of a view, but not `to`, go into the working set v, as the next draws decide.
-fn some_peers(
-    w: Work,
-    draws: &[u32],
-    view: &[u64],
-    cap: usize,
-    to: PeerId,
-    most: usize,
-    v: &mut [u64],
-) -> Work
-    requires { ⌜ w .drawn ≤ length (now draws) ⌝ }
-    requires { ⌜ ValidSet cap (now view) ⌝ }
-    requires { ⌜ cap ≤ all-places ⌝ }
-    requires { ⌜ length (now v) ≡ set-words ⌝ }
-    ensures { λ r. ⌜ DrawsAny (draw-shuffle (without to (items-at cap (now (view .entry))))) w r (now (draws .entry)) ⌝ }
-    ensures { λ r. ⌜ HoldsSet all-places (now (v .exit)) (take most (shuffle (drop (w .drawn) (now (draws .entry))) (without to (items-at cap (now (view .entry)))))) ⌝ }
-{
-    util::copy_into(view, cap, v);
-    util::without(v, Layout::ALL, to);
-    step_sending::shuffle_and_cap(w, draws, most, v)
-}
-
-// Shuffle to a neighbor, where there is one.
-fn shuffle_any(w: Work, st: &[u64], draws: &[u32], out: &mut [u8]) -> Work
-    requires { ⌜ length (now st) ≡ words ⌝ }
-    requires { ⌜ Fine (work-of w (now st)) (now draws) (now out) ⌝ }
-    ensures { λ r. ⌜ Does (work-of r (now (st .entry))) (now (draws .entry)) (now (out .exit)) (shuffle-any (run (work-of w (now (st .entry))) (now (draws .entry)) (now (out .entry)))) ⌝ }
-{
-    if state::is_alone(st) {
-        return w;
-    }
-    let n = util::count(&st[Layout::ACTIVE..Layout::ACTIVE_END], Layout::FEW);
-    let t = state::choose(w, draws, n);
-    let to = util::get_index(
-        &st[Layout::ACTIVE..Layout::ACTIVE_END],
-        Layout::FEW,
-        t.index,
-    );
-    // Some peers of each view, but not that one.
-    let mut v = [0u64; Layout::SET];
-    let a = some_peers(
-        t.work,
-        draws,
-        &st[Layout::ACTIVE..Layout::ACTIVE_END],
-        Layout::FEW,
-        to,
-        st[Layout::SHUFFLE_ACTIVE_VIEW_COUNT] as usize,
-        &mut v,
-    );
-    let mut more = [0u64; Layout::SET];
-    let b = some_peers(
-        a,
-        draws,
-        &st[Layout::PASSIVE..Layout::PASSIVE_END],
-        Layout::ALL,
-        to,
-        st[Layout::SHUFFLE_PASSIVE_VIEW_COUNT] as usize,
-        &mut more,
-    );
-    util::append(&mut v, Layout::ALL, &more, Layout::ALL);
-    send_shuffle(b, st, out, to, &v)
+    state::emit_nodes(b, out, f, named.push(PeerInfo { id: me, data: own }))
 }
 
 // The timer of the shuffle, which sets the next one.
