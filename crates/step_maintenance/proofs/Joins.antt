@@ -9,6 +9,7 @@ use lib.ListN.{length, drop, getD, set}
 use lib.Seq.{take-all, getD-set-same}
 use Rattle.lists.specs.Lists.{null}
 use Rattle.lists.proofs.Choice.{split, choose-yes, choose-no}
+use Rattle.lists.proofs.Members.{null-yes, null-no}
 use Rattle.lists.proofs.Rest.{Rest, rest-next, rest-end}
 use Rattle.util.specs.Chances.{pick}
 use Rattle.timing.specs.Timing.{backoff-due}
@@ -78,20 +79,26 @@ module _ (xs : List ℕ) (w : Work) (out₀ : List ℕ) (n : ℕ) (out : List �
 
 -- ---- one recent neighbor
 
-module _ (w : Work) (xs ds out v : List ℕ) (t : Bool) (f : Fine (work-of w xs) ds out) (e : t ≡ null (items-at 32 v)) where
-  pub no-recent : t ≡ true → Does (work-of w xs) ds out (rejoin-recent (items-at 32 v) (run (work-of w xs) ds out))
-  unfolding rejoin-recent
-  no-recent h = taken _ _ (sym e ∙ h) (still f)
+null-none : (l : List ℕ) → length l ≡ 0 → null l ≡ true
+null-none l e = split (null l) (λ t. t) (λ t. absurd (omega (arith, e, null-no l t)))
 
-  module _ (n i p : ℕ) (c : n ≡ length (items-at 32 v)) (j : i ≡ pick n (drop (w .drawn) ds)) (q : p ≡ getD (items-at 32 v) i 0) where
+null-some : (l : List ℕ) → (length l ≡ 0 → ⊥) → null l ≡ false
+null-some l h = split (null l) (λ t. absurd (h (null-yes l t))) (λ t. t)
+
+module _ (w : Work) (xs ds out v : List ℕ) (n : ℕ) (f : Fine (work-of w xs) ds out) (c : n ≡ length (items-at 32 v)) where
+  pub no-recent : n ≡ 0 → Does (work-of w xs) ds out (rejoin-recent (items-at 32 v) (run (work-of w xs) ds out))
+  unfolding rejoin-recent
+  no-recent z = taken _ _ (null-none (items-at 32 v) (sym c ∙ z)) (still f)
+
+  module _ (i p : ℕ) (j : i ≡ pick n (drop (w .drawn) ds)) (q : p ≡ getD (items-at 32 v) i 0) where
     picked-is : p ≡ picked (items-at 32 v) (run (work-of w xs) ds out)
     unfolding picked one-of to-draw run
     picked-is = q ∙ ap (λ (k : ℕ). getD (items-at 32 v) k 0) (j ∙ ap (λ (k : ℕ). pick k (drop (w .drawn) ds)) c)
 
-    pub one-recent : (a r : Work) (o : List ℕ) → t ≡ false → Tells (join p) (work-of a xs) (work-of r xs) out o → DrawsAny (draw-one-of n) w a ds → Does (work-of r xs) ds o (rejoin-recent (items-at 32 v) (run (work-of w xs) ds out))
+    pub one-recent : (a r : Work) (o : List ℕ) → (n ≡ 0 → ⊥) → Tells (join p) (work-of a xs) (work-of r xs) out o → DrawsAny (draw-one-of n) w a ds → Does (work-of r xs) ds o (rejoin-recent (items-at 32 v) (run (work-of w xs) ds out))
     unfolding rejoin-recent
     one-recent a r o h k₂ k₁ =
-        left _ _ (sym e ∙ h) (by _ (λ k. join (sym picked-is k) (draw-one-of (sym c k) (run (work-of w xs) ds out))) (then-tell k₂ (then-draw-any k₁ (still f))))
+        left _ _ (null-some (items-at 32 v) (λ z. h (c ∙ z))) (by _ (λ k. join (sym picked-is k) (draw-one-of (sym c k) (run (work-of w xs) ds out))) (then-tell k₂ (then-draw-any k₁ (still f))))
 
 -- ---- both
 

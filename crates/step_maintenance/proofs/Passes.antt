@@ -1,15 +1,21 @@
 -- The passes of a node that knows a peer.
 -- Assumes nothing.
 use Prim.Native.Nat.{ℕ}
-use mathlib.Core.Path.{_≡_, sym, ap, _∙_}
+use mathlib.Core.Path.{_≡_, refl, sym, ap, _∙_, subst}
 use mathlib.Core.Bool.{Bool, true, false, _&&_}
 use mathlib.Core.List.{List, []}
+use native.Mathlib.Omega.{arith}
+use lib.ListN.{getD}
+use lib.Dec.{eqb}
 use Rattle.lists.specs.Lists.{null}
+use Rattle.lists.proofs.Choice.{by-choice}
 use Rattle.timing.specs.Timing.{backoff-due}
 use Rattle.util.specs.Section.{items-at}
+use Rattle.util.proofs.Parts.{part-read}
+use Rattle.util.proofs.Sets.{empty-is-null}
 use Rattle.protocol.specs.Station.{Refill, is-alone, is-short, is-recovery}
 use Rattle.protocol.specs.Setters.{set-passes-alone}
-use Rattle.protocol.specs.Run.{on}
+use Rattle.protocol.specs.Run.{Run, guard, on}
 use Rattle.protocol.specs.Refill.{few-requests, end-recovery, start-refill}
 use Rattle.protocol.specs.Active.{clear-refused}
 use Rattle.protocol.specs.Timers.{count-short, refill-anew, refill-if-due, in-recovery, pass-short, pass-neighbors, pass-known, not-alone, knows-none, pass-alone, maintain}
@@ -17,7 +23,8 @@ use Rattle.state.specs.declared.RefillLimit.{RefillLimit}
 use Rattle.state.specs.declared.RefillLimit.the-variants.{Recovery}
 use Rattle.state.specs.declared.Work.{Work}
 use Rattle.state.specs.Layout.{passive-part, passes-short}
-use Rattle.state.specs.Unpack.{unpack, station-of, refill-in, limit-at}
+use Rattle.state.specs.Unpack.{unpack, station-of, refill-in, limit-at, PackedState}
+use Rattle.state.proofs.Access.{of-passive}
 use Rattle.state.specs.Work.{Held, work-of, run, Changes, Fine, Does}
 use Rattle.state.proofs.Bridge.{on-twice, change-then, still, then, seq, seq-at, taken, left, holds-at}
 
@@ -47,9 +54,13 @@ pub recovery-known : (xs : List ℕ) (l : RefillLimit) (t : Bool) → l ≡ limi
 unfolding in-recovery unpack station-of
 recovery-known xs l t e h = h ∙ ap (λ (x : RefillLimit). is-recovery (refill-in x)) e
 
-pub none-known : (xs : List ℕ) (a b : Bool) → a ≡ is-alone (unpack xs) → b ≡ null (items-at 32 (passive-part xs)) → (a && b) ≡ knows-none (unpack xs)
+-- the count of the passive view, as it stands in the words
+none-passive : (xs : List ℕ) → PackedState xs → eqb (getD xs 63 0) 0 ≡ null (items-at 32 (passive-part xs))
+none-passive xs v = ap (λ (n : ℕ). eqb n 0) (sym (part-read 31 33 32 xs (omega arith))) ∙ empty-is-null 32 (passive-part xs) (of-passive xs v)
+
+pub none-known : (xs : List ℕ) (a : Bool) → PackedState xs → a ≡ is-alone (unpack xs) → (a && eqb (getD xs 63 0) 0) ≡ knows-none (unpack xs)
 unfolding knows-none is-alone unpack station-of
-none-known xs a b x y = λ i. x i && y i
+none-known xs a v x = λ i. x i && none-passive xs v i
 
 -- ---- the branches of a pass
 
@@ -93,3 +104,16 @@ module _ (w : Work) (xs ds out : List ℕ) (t : Bool) (v : Fine (work-of w xs) d
 pub knows-some : (w a r : Held) → Changes (on end-recovery) a r → Changes (on (set-passes-alone 0)) w a → Changes (on not-alone) w r
 unfolding not-alone
 knows-some w a r k₂ k₁ = change-then {f = on (set-passes-alone 0)} {g = on end-recovery} (on not-alone) (λ ds out. on-twice (set-passes-alone 0) end-recovery (run w ds out)) k₂ k₁
+
+-- the same words
+pub words-as : (f : Run → Run) (w : Held) (a : Work) (xs ys : List ℕ) → ys ≡ xs → Changes f w (work-of a xs) → Changes f w (work-of a ys)
+words-as f w a xs ys e k = subst (λ (l : List ℕ). Changes f w (work-of a l)) (sym e) k
+
+-- a pass leaves the neighbors as they are before it asks anyone
+alone-as : (g : Run) → is-alone (on not-alone g .station) ≡ is-alone (g .station)
+unfolding on guard not-alone end-recovery is-alone
+alone-as g = by-choice (λ (x : Run). null (x .station .active) ≡ null (g .station .active)) (eqb (g .code) 0) (λ t. refl) (λ t. refl)
+
+pub alone-still : (w r : Work) (xs ys : List ℕ) (t : Bool) → Changes (on not-alone) (work-of w xs) (work-of r ys) → t ≡ is-alone (unpack xs) → t ≡ is-alone (unpack ys)
+unfolding run
+alone-still w r xs ys t k e = e ∙ sym (ap (λ (g : Run). is-alone (g .station)) (k .same [] []) ∙ alone-as (run (work-of w xs) [] []))

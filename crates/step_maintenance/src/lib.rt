@@ -9,57 +9,10 @@ use writer::Fields;
 ghost use mathlib.Core.Path.{_≡_};
 ghost use Prim.Native.Nat.{_≤_};
 ghost use lib.ListN.{length};
-ghost use Rattle.protocol.specs.Run.{on};
-ghost use Rattle.protocol.specs.Timers.{remember-all, rejoin-bootstrap, pass-alone, count-short, not-alone, maintain};
+ghost use Rattle.protocol.specs.Timers.{pass-alone, maintain};
 ghost use Rattle.protocol.specs.Timers.{schedule-maintenance, handle-maintenance-timer};
 ghost use Rattle.state.specs.Layout.{words};
-ghost use Rattle.state.specs.Unpack.{PackedState};
-ghost use Rattle.state.specs.Work.{work-of, run, Changes, Room, Tells, TellsAny, Fine, Does};
-
-// The neighbors become the newest of the recent ones, one after the other.
-fn remember_all(w: Work, st: &mut [u64]) -> Work
-    requires { ⌜ length (now st) ≡ words ⌝ }
-    requires { ⌜ PackedState (now st) ⌝ }
-    ensures { λ r. ⌜ Changes (on remember-all) (work-of w (now (st .entry))) (work-of r (now (st .exit))) ⌝ }
-{
-    if w.code != 0 {
-        return w;
-    }
-    let n = util::count(&st[Layout::ACTIVE..Layout::ACTIVE_END], Layout::FEW);
-    let mut i: usize = 0;
-    while i < n {
-        let p = util::get_index(&st[Layout::ACTIVE..Layout::ACTIVE_END], Layout::FEW, i);
-        i += 1;
-        util::renew(
-            &mut st[Layout::RECENT..Layout::RECENT_END],
-            Layout::FEW,
-            Timing::MAX_RECENT_NEIGHBORS,
-            p,
-        );
-    }
-    w
-}
-
-// Join to each bootstrap peer, in order.
-fn rejoin_bootstrap(w: Work, st: &[u64], out: &mut [u8]) -> Work
-    requires { ⌜ length (now st) ≡ words ⌝ }
-    requires { ⌜ Room (work-of w (now st)) (now out) ⌝ }
-    ensures { λ r. ⌜ Tells rejoin-bootstrap (work-of w (now (st .entry))) (work-of r (now (st .entry))) (now (out .entry)) (now (out .exit)) ⌝ }
-{
-    let n = util::count(&st[Layout::BOOTSTRAP..Layout::BOOTSTRAP_END], Layout::FEW);
-    let mut r = w;
-    let mut i: usize = 0;
-    while i < n {
-        let p = util::get_index(
-            &st[Layout::BOOTSTRAP..Layout::BOOTSTRAP_END],
-            Layout::FEW,
-            i,
-        );
-        i += 1;
-        r = step_sending::join(r, st, out, p);
-    }
-    r
-}
+ghost use Rattle.state.specs.Work.{work-of, run, TellsAny, Fine, Does};
 
 // A pass where both views are empty: it is counted, and the backoff says whether Joins go out, to the bootstrap peers and to one recent neighbor.
 fn pass_alone(w: Work, st: &mut [u64], draws: &[u32], out: &mut [u8]) -> Work
@@ -68,67 +21,38 @@ fn pass_alone(w: Work, st: &mut [u64], draws: &[u32], out: &mut [u8]) -> Work
     ensures { λ r. ⌜ Does (work-of r (now (st .exit))) (now (draws .entry)) (now (out .exit)) (pass-alone (run (work-of w (now (st .entry))) (now (draws .entry)) (now (out .entry)))) ⌝ }
 {
     // Code 10 where the pass cannot be counted.
-    let a = state::require(
-        w,
-        Refusal::COUNTER,
-        st[Layout::PASSES_ALONE] < state::TOP_PASSES,
-    );
+    let n = st[Layout::PASSES_ALONE];
+    let mut a = state::require(w, Refusal::COUNTER, n < state::TOP_PASSES);
     if a.code != 0 {
         return a;
     }
-    let n = st[Layout::PASSES_ALONE] + 1;
-    st[Layout::PASSES_ALONE] = n;
-    if timing::backoff_due(n as u32) {
+    let passes = n + 1;
+    st[Layout::PASSES_ALONE] = passes;
+    if timing::backoff_due(passes as u32) {
         // The recent neighbors that are no bootstrap peers.
         let mut v = [0u64; Layout::SET];
         util::copy_into(&st[Layout::RECENT..Layout::RECENT_END], Layout::FEW, &mut v);
-        util::without_all(
-            &mut v,
-            Layout::ALL,
-            &st[Layout::BOOTSTRAP..Layout::BOOTSTRAP_END],
-            Layout::FEW,
-        );
-        let b = rejoin_bootstrap(a, st, out);
-        // One of them, where there is one.
-        if util::is_empty(&v, Layout::ALL) {
-            return b;
+        let bootstrap = &st[Layout::BOOTSTRAP..Layout::BOOTSTRAP_END];
+        util::without_all(&mut v, Layout::ALL, bootstrap, Layout::FEW);
+        // Join to each bootstrap peer, in order.
+        let k = util::count(&st[Layout::BOOTSTRAP..Layout::BOOTSTRAP_END], Layout::FEW);
+        let mut i: usize = 0;
+        while i < k {
+            let bootstrap = &st[Layout::BOOTSTRAP..Layout::BOOTSTRAP_END];
+            let p = util::get_index(bootstrap, Layout::FEW, i);
+            i += 1;
+            a = step_sending::join(a, st, out, p);
         }
-        let c = state::choose(b, draws, util::count(&v, Layout::ALL));
+        // One of the others, where there is one.
+        let others = util::count(&v, Layout::ALL);
+        if others == 0 {
+            return a;
+        }
+        let c = state::choose(a, draws, others);
         let p = util::get_index(&v, Layout::ALL, c.index);
         return step_sending::join(c.work, st, out, p);
     }
     a
-}
-
-// One more pass; code 10 where it cannot be counted.
-fn count_short(w: Work, st: &mut [u64]) -> Work
-    requires { ⌜ length (now st) ≡ words ⌝ }
-    requires { ⌜ PackedState (now st) ⌝ }
-    ensures { λ r. ⌜ Changes count-short (work-of w (now (st .entry))) (work-of r (now (st .exit))) ⌝ }
-{
-    let a = state::require(
-        w,
-        Refusal::COUNTER,
-        st[Layout::PASSES_SHORT] < state::TOP_PASSES,
-    );
-    if a.code != 0 {
-        return a;
-    }
-    st[Layout::PASSES_SHORT] = st[Layout::PASSES_SHORT] + 1;
-    a
-}
-
-// A node that knows a peer is not alone: no pass alone is counted any more, and its recovery may be over.
-fn not_alone(w: Work, st: &mut [u64]) -> Work
-    requires { ⌜ length (now st) ≡ words ⌝ }
-    requires { ⌜ PackedState (now st) ⌝ }
-    ensures { λ r. ⌜ Changes (on not-alone) (work-of w (now (st .entry))) (work-of r (now (st .exit))) ⌝ }
-{
-    if w.code != 0 {
-        return w;
-    }
-    st[Layout::PASSES_ALONE] = 0;
-    step_refill::end_recovery(w, st)
 }
 
 // One pass of maintenance.
@@ -137,16 +61,19 @@ fn maintain(w: Work, st: &mut [u64], draws: &[u32], out: &mut [u8]) -> Work
     requires { ⌜ Fine (work-of w (now st)) (now draws) (now out) ⌝ }
     ensures { λ r. ⌜ Does (work-of r (now (st .exit))) (now (draws .entry)) (now (out .exit)) (maintain (run (work-of w (now (st .entry))) (now (draws .entry)) (now (out .entry)))) ⌝ }
 {
+    let alone = state::is_alone(st);
     // Both views are empty.
-    if state::is_alone(st)
-        & util::is_empty(&st[Layout::PASSIVE..Layout::PASSIVE_END], Layout::ALL)
-    {
+    if alone & (st[Layout::PASSIVE_COUNT] == 0) {
         return pass_alone(w, st, draws, out);
     }
-    let a = not_alone(w, st);
+    // A node that knows a peer is not alone: no pass alone is counted any more, and its recovery may be over.
+    if w.code == 0 {
+        st[Layout::PASSES_ALONE] = 0;
+    }
+    let a = step_refill::end_recovery(w, st);
+    let none = [0u64; 0];
     // Without neighbors, every pass begins a recovery.
-    if state::is_alone(st) {
-        let none = [0u64; 0];
+    if alone {
         return step_refill::start_refill(a, st, draws, out, RefillLimit::Recovery, &none);
     }
     if state::is_short(st) {
@@ -154,14 +81,15 @@ fn maintain(w: Work, st: &mut [u64], draws: &[u32], out: &mut [u8]) -> Work
         if state::limit_of(st).is_recovery() {
             return a;
         }
-        // The pass is counted, and the backoff says whether it refills.
-        let b = count_short(a, st);
+        // The pass is counted (code 10 where it cannot be), and the backoff says whether it refills, with a new limit, before which all refusals are forgotten.
+        let n = st[Layout::PASSES_SHORT];
+        let b = state::require(a, Refusal::COUNTER, n < state::TOP_PASSES);
+        if b.code == 0 {
+            st[Layout::PASSES_SHORT] = n + 1;
+        }
         if timing::backoff_due(st[Layout::PASSES_SHORT] as u32) {
-            // With a new limit, before which all refusals are forgotten.
             let c = step_refill::clear_refused(b, st);
-            let few = RefillLimit::few_requests();
-            let none = [0u64; 0];
-            return step_refill::start_refill(c, st, draws, out, few, &none);
+            return step_refill::start_refill(c, st, draws, out, RefillLimit::few_requests(), &none);
         }
         return b;
     }
@@ -191,7 +119,21 @@ pub fn handle_maintenance_timer(w: Work, st: &mut [u64], draws: &[u32], out: &mu
     requires { ⌜ Fine (work-of w (now st)) (now draws) (now out) ⌝ }
     ensures { λ r. ⌜ Does (work-of r (now (st .exit))) (now (draws .entry)) (now (out .exit)) (handle-maintenance-timer (run (work-of w (now (st .entry))) (now (draws .entry)) (now (out .entry)))) ⌝ }
 {
-    let a = remember_all(w, st);
-    let b = maintain(a, st, draws, out);
-    schedule_maintenance(b, out)
+    if w.code == 0 {
+        // The neighbors become the newest of the recent ones, one after the other.
+        let n = util::count(&st[Layout::ACTIVE..Layout::ACTIVE_END], Layout::FEW);
+        let mut i: usize = 0;
+        while i < n {
+            let p = util::get_index(&st[Layout::ACTIVE..Layout::ACTIVE_END], Layout::FEW, i);
+            i += 1;
+            util::renew(
+                &mut st[Layout::RECENT..Layout::RECENT_END],
+                Layout::FEW,
+                Timing::MAX_RECENT_NEIGHBORS,
+                p,
+            );
+        }
+    }
+    let a = maintain(w, st, draws, out);
+    schedule_maintenance(a, out)
 }

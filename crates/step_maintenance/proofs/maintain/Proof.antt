@@ -1,13 +1,21 @@
-use Rattle.state.specs.Work.{work-of, run, Fine, Does}
-use Rattle.state.specs.declared.Work.{Work}
 use Prim.Native.Nat.{ℕ}
+use mathlib.Core.Path.{_≡_}
 use mathlib.Core.List.{List}
-use Rattle.protocol.specs.Timers.{pass-known, maintain}
-use Rattle.util.specs.Section.{part}
+use mathlib.Core.Logic.{⊎-elim}
 use native.Mathlib.Omega.{arith}
-use Rattle.state.proofs.Access.{of-packed, of-short}
+use lib.ListN.{length}
+use Rattle.protocol.specs.Setters.{set-passes-alone}
+use Rattle.protocol.specs.Run.{on}
+use Rattle.protocol.specs.Timers.{count-short, pass-known, pass-neighbors, not-alone, maintain}
+use Rattle.state.specs.declared.Work.{Work}
+use Rattle.state.specs.Layout.{words}
+use Rattle.state.specs.Unpack.{long}
+use Rattle.state.specs.Work.{work-of, run, Changes, Fine, Does}
+use Rattle.state.proofs.Access.{of-short}
+use Rattle.state.proofs.Bridge.{on-passed}
 use Rattle.step_refill.proofs.Asking.{fine-after}
-use Rattle.step_maintenance.proofs.Passes.{refilled-anew, refill-due, refill-not-due, recovery-known, paused, passed-short, short-passed, enough-passed, recovers, neighbors-passed, none-known, maintained-alone, maintained}
+use Rattle.step_maintenance.proofs.Counted.{alone-reset, short-refused, short-left, short-counted}
+use Rattle.step_maintenance.proofs.Passes.{refilled-anew, refill-due, refill-not-due, recovery-known, paused, passed-short, short-passed, enough-passed, recovers, neighbors-passed, none-known, maintained-alone, maintained, knows-some, words-as, alone-still}
 use borrow.Author.Needs.{needs}
 use Rattle.step_maintenance.proofs.maintain.Statement.{statement}
 use Rattle.step_maintenance.proofs.maintain.Tie as tie
@@ -17,68 +25,85 @@ fine : (c : tie.Start) → Fine (work-of (c .args .w) (c .args .st .now)) (c .ar
 fine c = c .pre .1
 
 -- The ways back, from a place to an earlier one.
-abbrev is-alone-to-start : tie.After-is-alone → tie.Start
-is-alone-to-start c = c .before .before .before .before .before
+abbrev else1-to-start : tie.Else1 → tie.Start
+else1-to-start c = c .before .before .before .before .before .before .before
 
-abbrev is-empty-to-is-alone : tie.After-is-empty → tie.After-is-alone
-is-empty-to-is-alone c = c .before .before .before
+abbrev joined2-to-else1 : tie.Joined2 → tie.Else1
+joined2-to-else1 c = c .before .before
 
-abbrev not-alone-to-is-empty : tie.After-not-alone → tie.After-is-empty
-not-alone-to-is-empty c = c .before .before .before
+abbrev end-recovery-to-joined2 : tie.After-end-recovery → tie.Joined2
+end-recovery-to-joined2 c = c .before .before
 
-abbrev is-alone2-to-not-alone : tie.After-is-alone2 → tie.After-not-alone
-is-alone2-to-not-alone c = c .before .before .before .before
+abbrev else3-to-end-recovery : tie.Else3 → tie.After-end-recovery
+else3-to-end-recovery c = c .before .before .before
 
-abbrev is-short-to-is-alone2 : tie.After-is-short → tie.After-is-alone2
-is-short-to-is-alone2 c = c .before .before .before
+abbrev is-short-to-else3 : tie.After-is-short → tie.Else3
+is-short-to-else3 c = c .before .before
 
-abbrev is-recovery-to-is-short : tie.After-is-recovery → tie.After-is-short
-is-recovery-to-is-short c = c .before .before .before .before
+abbrev else5-to-is-short : tie.Else5 → tie.After-is-short
+else5-to-is-short c = c .before .before .before .before .before
 
-abbrev count-short-to-is-recovery : tie.After-count-short → tie.After-is-recovery
-count-short-to-is-recovery c = c .before .before .before
+abbrev require-to-else5 : tie.After-require → tie.Else5
+require-to-else5 c = c .before .before
 
-abbrev backoff-due-to-count-short : tie.After-backoff-due → tie.After-count-short
-backoff-due-to-count-short c = c .before .before .before .before
+abbrev joined6-to-require : tie.Joined6 → tie.After-require
+joined6-to-require c = c .before .before
+
+abbrev backoff-due-to-joined6 : tie.After-backoff-due → tie.Joined6
+backoff-due-to-joined6 c = c .before .before
 
 abbrev clear-refused-to-backoff-due : tie.After-clear-refused → tie.After-backoff-due
 clear-refused-to-backoff-due c = c .before .before .before
 
-abbrev start-refill-to-clear-refused : tie.After-start-refill2 → tie.After-clear-refused
-start-refill-to-clear-refused c = c .before .before .before .before .before .before .before
+abbrev start : tie.After-end-recovery → tie.Start
+start c = else1-to-start (joined2-to-else1 (end-recovery-to-joined2 c))
 
-abbrev start : tie.After-not-alone → tie.Start
-start c = is-alone-to-start (is-empty-to-is-alone (not-alone-to-is-empty c))
+abbrev else5-to-end-recovery : tie.Else5 → tie.After-end-recovery
+else5-to-end-recovery c = else3-to-end-recovery (is-short-to-else3 (else5-to-is-short c))
 
-abbrev short-to-not-alone : tie.After-is-recovery → tie.After-not-alone
-short-to-not-alone c = is-alone2-to-not-alone (is-short-to-is-alone2 (is-recovery-to-is-short c))
+abbrev joined6-to-end-recovery : tie.Joined6 → tie.After-end-recovery
+joined6-to-end-recovery c = else5-to-end-recovery (require-to-else5 (joined6-to-require c))
 
 -- A node that knows a peer.
-known : (c : tie.After-not-alone) → Fine (work-of (c .not-alone .result) (c .not-alone .last .1 .0)) (start c .args .draws .now) (start c .args .out .now)
-known c = fine-after _ _ _ _ _ _ (fine (start c)) (c .not-alone .ensures)
+reset : (c : tie.Joined2) → Changes (on (set-passes-alone 0)) (work-of (else1-to-start (joined2-to-else1 c) .args .w) (else1-to-start (joined2-to-else1 c) .args .st .now)) (work-of (else1-to-start (joined2-to-else1 c) .args .w) (c .if2 .st))
+reset c =
+    let packed = else1-to-start (joined2-to-else1 c) .pre .1 .ready .packed in
+    ⊎-elim (λ s. words-as _ _ _ _ _ (s .1) (alone-reset _ _ packed (s .0 .taken))) (λ s. words-as _ _ _ _ _ (s .1) (on-passed _ packed _ (s .0 .left))) (c .if2 .came)
 
-pass : (c : tie.After-not-alone) (r : Work) (ys o : List ℕ) → Does (work-of r ys) (start c .args .draws .now) o (pass-known (run (work-of (c .not-alone .result) (c .not-alone .last .1 .0)) (start c .args .draws .now) (start c .args .out .now)))
+knows : (c : tie.After-end-recovery) → Changes (on not-alone) (work-of (start c .args .w) (start c .args .st .now)) (work-of (c .end-recovery .result) (c .end-recovery .last .1 .0))
+knows c = knows-some _ _ _ (c .end-recovery .ensures) (reset (end-recovery-to-joined2 c))
+
+known : (c : tie.After-end-recovery) → Fine (work-of (c .end-recovery .result) (c .end-recovery .last .1 .0)) (start c .args .draws .now) (start c .args .out .now)
+known c = fine-after _ _ _ _ _ _ (fine (start c)) (knows c)
+
+known-long : (c : tie.After-end-recovery) → length (c .end-recovery .last .1 .0) ≡ words
+known-long c = long (known c .ready .packed)
+
+pass : (c : tie.After-end-recovery) (r : Work) (ys o : List ℕ) → Does (work-of r ys) (start c .args .draws .now) o (pass-known (run (work-of (c .end-recovery .result) (c .end-recovery .last .1 .0)) (start c .args .draws .now) (start c .args .out .now)))
     → Does (work-of r ys) (start c .args .draws .now) o (maintain (run (work-of (start c .args .w) (start c .args .st .now)) (start c .args .draws .now) (start c .args .out .now)))
-unfolding part
 pass c r ys o k =
-    let at-is-empty = not-alone-to-is-empty c in
-    maintained _ _ _ _ _ (fine (start c)) _ _ _ _ _ (none-known _ _ _ (is-empty-to-is-alone at-is-empty .is-alone .ensures) (at-is-empty .is-empty .ensures)) (c .before .before .if1 .left) k (c .not-alone .ensures)
+    let at-else1 = joined2-to-else1 (end-recovery-to-joined2 c) in
+    maintained _ _ _ _ _ (fine (start c)) _ _ _ _ _ (none-known _ _ (fine (start c) .ready .packed) (at-else1 .before .before .is-alone .ensures)) (at-else1 .if1 .left) k (knows c)
+
+neighbors : (c : tie.Else3) (r : Work) (ys o : List ℕ) → Does (work-of r ys) (start (else3-to-end-recovery c) .args .draws .now) o (pass-neighbors (run (work-of (else3-to-end-recovery c .end-recovery .result) (else3-to-end-recovery c .end-recovery .last .1 .0)) (start (else3-to-end-recovery c) .args .draws .now) (start (else3-to-end-recovery c) .args .out .now)))
+    → Does (work-of r ys) (start (else3-to-end-recovery c) .args .draws .now) o (maintain (run (work-of (start (else3-to-end-recovery c) .args .w) (start (else3-to-end-recovery c) .args .st .now)) (start (else3-to-end-recovery c) .args .draws .now) (start (else3-to-end-recovery c) .args .out .now)))
+neighbors c r ys o k =
+    let at-end = else3-to-end-recovery c in
+    let at-else1 = joined2-to-else1 (end-recovery-to-joined2 at-end) in
+    pass at-end _ _ _ (neighbors-passed _ _ _ _ _ (known at-end) _ _ _ (alone-still _ _ _ _ _ (knows at-end) (at-else1 .before .before .is-alone .ensures)) (c .if3 .left) k)
+
+-- The pass of a short node, counted where it can be.
+counted : (c : tie.Joined6) → Changes count-short (work-of (joined6-to-end-recovery c .end-recovery .result) (joined6-to-end-recovery c .end-recovery .last .1 .0)) (work-of (joined6-to-require c .require .result) (c .if6 .st))
+counted c =
+    let packed = known (joined6-to-end-recovery c) .ready .packed in
+    let tested = joined6-to-require c .require .ensures in
+    ⊎-elim (λ s. words-as _ _ _ _ _ (s .1) (short-counted _ _ _ packed tested (s .0 .taken))) (λ s. words-as _ _ _ _ _ (s .1) (short-refused _ _ _ packed tested (s .0 .left))) (c .if6 .came)
 
 is-alone-requires : tie.Need-is-alone-requires
 is-alone-requires c κs = search needs
 
-sub-is-empty : tie.Need-sub-is-empty
-sub-is-empty c = search needs
-
-part-is-empty-start : tie.Need-part-is-empty-start
-part-is-empty-start c = search needs
-
-part-is-empty-end : tie.Need-part-is-empty-end
-part-is-empty-end c = search needs
-
-is-empty-requires : tie.Need-is-empty-requires
-unfolding part
-is-empty-requires c κs = search (of-packed, needs)
+slice-read-if1 : tie.Need-slice-read-if1
+slice-read-if1 c = search needs
 
 pass-alone-requires : tie.Need-pass-alone-requires
 pass-alone-requires c κs = search needs
@@ -90,74 +115,94 @@ same-length-2 : tie.Need-same-length-2
 same-length-2 c = search needs
 
 returns : tie.Need-returns
-unfolding part
 returns c =
-    let at-is-empty = c .before .before .before .before .before .before .before .before in
-    let at-is-alone = is-empty-to-is-alone at-is-empty in
-    maintained-alone _ _ _ _ _ (fine (is-alone-to-start at-is-alone)) _ _ _ (none-known _ _ _ (at-is-alone .is-alone .ensures) (at-is-empty .is-empty .ensures)) (c .before .before .before .before .before .before .before .if1 .taken) (c .before .before .before .before .pass-alone .ensures)
+    let at-then1 = c .before .before .before .before .before .before .before in
+    let start = at-then1 .before .before .before .before .before .before .before in
+    maintained-alone _ _ _ _ _ (fine start) _ _ _ (none-known _ _ (fine start .ready .packed) (at-then1 .before .before .is-alone .ensures)) (at-then1 .if1 .taken) (c .before .before .before .before .pass-alone .ensures)
 
-not-alone-requires : tie.Need-not-alone-requires
-not-alone-requires c κs = search needs
+slice-write-st : tie.Need-slice-write-st
+slice-write-st c = search needs
 
-is-alone-requires-2 : tie.Need-is-alone-requires-2
-is-alone-requires-2 c κs = search needs
+end-recovery-requires : tie.Need-end-recovery-requires
+end-recovery-requires c κs = (long (reset (c .before) .packed), reset (c .before) .packed)
 
 slice-aggregate-start-refill : tie.Need-slice-aggregate-start-refill
 slice-aggregate-start-refill c = search needs
 
 start-refill-requires : tie.Need-start-refill-requires
-start-refill-requires c κs = (search needs, known (is-alone2-to-not-alone (c .before .before .before .before)))
+start-refill-requires c κs =
+    let at-end = c .before .before .before .before .before .before in
+    (known-long at-end, known at-end)
 
 same-length-3 : tie.Need-same-length-3
-same-length-3 c = search needs
+same-length-3 c =
+    let at-start-refill = c .before .before .before .before in
+    let at-end = at-start-refill .before .before .before .before .before .before .before in
+    omega (arith, at-start-refill .start-refill .kept .1 .0, known-long at-end, start at-end .pre .0)
 
 same-length-4 : tie.Need-same-length-4
 same-length-4 c = search needs
 
 returns-2 : tie.Need-returns-2
 returns-2 c =
-    let at-is-alone2 = c .before .before .before .before .before .before .before .before .before in
-    let at-not-alone = is-alone2-to-not-alone at-is-alone2 in
-    pass at-not-alone _ _ _ (recovers _ _ _ _ _ (known at-not-alone) _ _ _ (at-is-alone2 .is-alone2 .ensures) (c .before .before .before .before .before .before .before .before .if2 .taken) (c .before .before .before .before .start-refill .ensures))
+    let at-start-refill = c .before .before .before .before in
+    let at-then3 = at-start-refill .before .before .before .before in
+    let at-end = at-then3 .before .before .before in
+    let at-else1 = joined2-to-else1 (end-recovery-to-joined2 at-end) in
+    pass at-end _ _ _ (recovers _ _ _ _ _ (known at-end) _ _ _ (alone-still _ _ _ _ _ (knows at-end) (at-else1 .before .before .is-alone .ensures)) (at-then3 .if3 .taken) (at-start-refill .start-refill .ensures))
 
 is-short-requires : tie.Need-is-short-requires
-is-short-requires c κs = search needs
+is-short-requires c κs =
+    let at-end = else3-to-end-recovery (c .before) in
+    (known-long at-end, known at-end .ready .packed)
 
 limit-of-requires : tie.Need-limit-of-requires
-limit-of-requires c κs = search needs
+limit-of-requires c κs = known-long (else3-to-end-recovery (is-short-to-else3 (c .before .before)))
 
 is-recovery-requires : tie.Need-is-recovery-requires
 is-recovery-requires c κs = search needs
 
 same-length-5 : tie.Need-same-length-5
-same-length-5 c = search needs
+same-length-5 c =
+    let at-end = else3-to-end-recovery (is-short-to-else3 (c .before .before .before .before .before)) in
+    omega (arith, known-long at-end, start at-end .pre .0)
 
 returns-3 : tie.Need-returns-3
 returns-3 c =
     let at-is-recovery = c .before in
-    let at-is-short = is-recovery-to-is-short at-is-recovery in
-    let at-is-alone2 = is-short-to-is-alone2 at-is-short in
-    let at-not-alone = is-alone2-to-not-alone at-is-alone2 in
-    let given = known at-not-alone in
-    pass at-not-alone _ _ _
-    (neighbors-passed _ _ _ _ _ given _ _ _ (at-is-alone2 .is-alone2 .ensures) (at-is-short .before .before .if2 .left)
-    (short-passed _ _ _ _ _ given _ _ _ (at-is-short .is-short .ensures) (at-is-recovery .before .before .before .if3 .taken)
-    (paused _ _ _ _ _ given (recovery-known _ _ _ (at-is-recovery .before .limit-of .ensures) (at-is-recovery .is-recovery .ensures)) (c .if4 .taken))))
+    let at-is-short = at-is-recovery .before .before .before .before in
+    let given = known (else3-to-end-recovery (is-short-to-else3 at-is-short)) in
+    neighbors (is-short-to-else3 at-is-short) _ _ _
+    (short-passed _ _ _ _ _ given _ _ _ (at-is-short .is-short .ensures) (at-is-recovery .before .before .before .if4 .taken)
+    (paused _ _ _ _ _ given (recovery-known _ _ _ (at-is-recovery .before .limit-of .ensures) (at-is-recovery .is-recovery .ensures)) (c .if5 .taken)))
 
-count-short-requires : tie.Need-count-short-requires
-count-short-requires c κs = search needs
+slice-read-n : tie.Need-slice-read-n
+slice-read-n c = omega (arith, known-long (else5-to-end-recovery (c .before)))
+
+require-requires : tie.Need-require-requires
+require-requires c κs = search needs
+
+add-st : tie.Need-add-st
+add-st c =
+    let at-require = c .before .before in
+    record { fits = omega (arith, short-left _ _ _ (known (else5-to-end-recovery (require-to-else5 at-require)) .ready .packed) (at-require .require .ensures) (c .if6 .taken)) }
+
+slice-write-st-2 : tie.Need-slice-write-st-2
+slice-write-st-2 c = omega (arith, known-long (else5-to-end-recovery (require-to-else5 (c .before .before))))
 
 slice-read-backoff-due : tie.Need-slice-read-backoff-due
-slice-read-backoff-due c = search needs
+slice-read-backoff-due c = omega (arith, long (counted (c .before) .packed))
 
 cast-backoff-due : tie.Need-cast-backoff-due
-cast-backoff-due c = record { fits = omega (arith, of-short _ (c .before .before .before .count-short .ensures .packed)) }
+cast-backoff-due c = record { fits = omega (arith, of-short _ (counted (c .before) .packed)) }
 
 backoff-due-requires : tie.Need-backoff-due-requires
 backoff-due-requires c κs = search needs
 
 clear-refused-requires : tie.Need-clear-refused-requires
-clear-refused-requires c κs = search needs
+clear-refused-requires c κs =
+    let packed = counted (c .before .before .before .before) .packed in
+    (long packed, packed)
 
 few-requests-requires : tie.Need-few-requests-requires
 few-requests-requires c κs = search needs
@@ -168,19 +213,16 @@ slice-aggregate-start-refill-2 c = search needs
 start-refill-requires-2 : tie.Need-start-refill-requires-2
 start-refill-requires-2 c κs =
     let at-clear-refused = c .before .before .before .before .before .before in
-    let at-count-short = backoff-due-to-count-short (clear-refused-to-backoff-due at-clear-refused) in
-    let at-not-alone = short-to-not-alone (count-short-to-is-recovery at-count-short) in (
-      omega (arith, at-clear-refused .clear-refused .kept .1 .0, at-count-short .count-short .kept .1 .0, at-not-alone .not-alone .kept .1 .0, start at-not-alone .pre .0),
-      fine-after _ _ _ _ _ _ (fine-after _ _ _ _ _ _ (known at-not-alone) (at-count-short .count-short .ensures)) (at-clear-refused .clear-refused .ensures),
-    )
+    let at-joined6 = backoff-due-to-joined6 (clear-refused-to-backoff-due at-clear-refused) in
+    let cleared = fine-after _ _ _ _ _ _ (fine-after _ _ _ _ _ _ (known (joined6-to-end-recovery at-joined6)) (counted at-joined6)) (at-clear-refused .clear-refused .ensures) in
+    (long (cleared .ready .packed), cleared)
 
 same-length-6 : tie.Need-same-length-6
 same-length-6 c =
     let at-start-refill = c .before .before .before .before in
-    let at-clear-refused = start-refill-to-clear-refused at-start-refill in
-    let at-count-short = backoff-due-to-count-short (clear-refused-to-backoff-due at-clear-refused) in
-    let at-not-alone = short-to-not-alone (count-short-to-is-recovery at-count-short) in
-    omega (arith, at-start-refill .start-refill2 .kept .1 .0, at-clear-refused .clear-refused .kept .1 .0, at-count-short .count-short .kept .1 .0, at-not-alone .not-alone .kept .1 .0)
+    let at-clear-refused = at-start-refill .before .before .before .before .before .before .before in
+    let at-end = joined6-to-end-recovery (backoff-due-to-joined6 (clear-refused-to-backoff-due at-clear-refused)) in
+    omega (arith, at-start-refill .start-refill2 .kept .1 .0, long (at-clear-refused .clear-refused .ensures .packed), start at-end .pre .0)
 
 same-length-7 : tie.Need-same-length-7
 same-length-7 c = search needs
@@ -188,74 +230,69 @@ same-length-7 c = search needs
 returns-4 : tie.Need-returns-4
 returns-4 c =
     let at-start-refill = c .before .before .before .before in
-    let at-clear-refused = start-refill-to-clear-refused at-start-refill in
+    let at-clear-refused = at-start-refill .before .before .before .before .before .before .before in
     let at-backoff-due = clear-refused-to-backoff-due at-clear-refused in
-    let at-count-short = backoff-due-to-count-short at-backoff-due in
-    let at-is-recovery = count-short-to-is-recovery at-count-short in
-    let at-is-short = is-recovery-to-is-short at-is-recovery in
-    let at-is-alone2 = is-short-to-is-alone2 at-is-short in
-    let at-not-alone = is-alone2-to-not-alone at-is-alone2 in
-    let given = known at-not-alone in
-    let counted = fine-after _ _ _ _ _ _ given (at-count-short .count-short .ensures) in
-    pass at-not-alone _ _ _
-    (neighbors-passed _ _ _ _ _ given _ _ _ (at-is-alone2 .is-alone2 .ensures) (at-is-short .before .before .if2 .left)
-    (short-passed _ _ _ _ _ given _ _ _ (at-is-short .is-short .ensures) (at-is-recovery .before .before .before .if3 .taken)
-    (passed-short _ _ _ _ _ given _ _ _ _ _ (recovery-known _ _ _ (at-is-recovery .before .limit-of .ensures) (at-is-recovery .is-recovery .ensures)) (at-count-short .before .before .if4 .left)
-    (refill-due _ _ _ _ _ (at-backoff-due .backoff-due .ensures) _ _ _ (at-clear-refused .before .before .if5 .taken)
-    (refilled-anew _ _ _ _ _ _ _ _ _ _ counted (at-start-refill .before .before .before .before .few-requests .ensures) (at-start-refill .start-refill2 .ensures) (at-clear-refused .clear-refused .ensures)))
-    (at-count-short .count-short .ensures))))
+    let at-joined6 = backoff-due-to-joined6 at-backoff-due in
+    let at-else5 = require-to-else5 (joined6-to-require at-joined6) in
+    let at-is-recovery = at-else5 .before in
+    let at-is-short = else5-to-is-short at-else5 in
+    let given = known (else5-to-end-recovery at-else5) in
+    let tried = fine-after _ _ _ _ _ _ given (counted at-joined6) in
+    neighbors (is-short-to-else3 at-is-short) _ _ _
+    (short-passed _ _ _ _ _ given _ _ _ (at-is-short .is-short .ensures) (at-is-recovery .before .before .before .if4 .taken)
+    (passed-short _ _ _ _ _ given _ _ _ _ _ (recovery-known _ _ _ (at-is-recovery .before .limit-of .ensures) (at-is-recovery .is-recovery .ensures)) (at-else5 .if5 .left)
+    (refill-due _ _ _ _ _ (at-backoff-due .backoff-due .ensures) _ _ _ (at-clear-refused .before .before .if7 .taken)
+    (refilled-anew _ _ _ _ _ _ _ _ _ _ tried (at-start-refill .before .before .few-requests .ensures) (at-start-refill .start-refill2 .ensures) (at-clear-refused .clear-refused .ensures)))
+    (counted at-joined6)))
 
 same-length-8 : tie.Need-same-length-8
-same-length-8 c = search needs
+same-length-8 c =
+    let at-joined6 = backoff-due-to-joined6 (c .before) in
+    omega (arith, long (counted at-joined6 .packed), start (joined6-to-end-recovery at-joined6) .pre .0)
 
 returns-5 : tie.Need-returns-5
 returns-5 c =
     let at-backoff-due = c .before in
-    let at-count-short = backoff-due-to-count-short at-backoff-due in
-    let at-is-recovery = count-short-to-is-recovery at-count-short in
-    let at-is-short = is-recovery-to-is-short at-is-recovery in
-    let at-is-alone2 = is-short-to-is-alone2 at-is-short in
-    let at-not-alone = is-alone2-to-not-alone at-is-alone2 in
-    let given = known at-not-alone in
-    let counted = fine-after _ _ _ _ _ _ given (at-count-short .count-short .ensures) in
-    pass at-not-alone _ _ _
-    (neighbors-passed _ _ _ _ _ given _ _ _ (at-is-alone2 .is-alone2 .ensures) (at-is-short .before .before .if2 .left)
-    (short-passed _ _ _ _ _ given _ _ _ (at-is-short .is-short .ensures) (at-is-recovery .before .before .before .if3 .taken)
-    (passed-short _ _ _ _ _ given _ _ _ _ _ (recovery-known _ _ _ (at-is-recovery .before .limit-of .ensures) (at-is-recovery .is-recovery .ensures)) (at-count-short .before .before .if4 .left)
-    (refill-not-due _ _ _ _ _ (at-backoff-due .backoff-due .ensures) counted (c .if5 .left))
-    (at-count-short .count-short .ensures))))
+    let at-joined6 = backoff-due-to-joined6 at-backoff-due in
+    let at-else5 = require-to-else5 (joined6-to-require at-joined6) in
+    let at-is-recovery = at-else5 .before in
+    let at-is-short = else5-to-is-short at-else5 in
+    let given = known (else5-to-end-recovery at-else5) in
+    let tried = fine-after _ _ _ _ _ _ given (counted at-joined6) in
+    neighbors (is-short-to-else3 at-is-short) _ _ _
+    (short-passed _ _ _ _ _ given _ _ _ (at-is-short .is-short .ensures) (at-is-recovery .before .before .before .if4 .taken)
+    (passed-short _ _ _ _ _ given _ _ _ _ _ (recovery-known _ _ _ (at-is-recovery .before .limit-of .ensures) (at-is-recovery .is-recovery .ensures)) (at-else5 .if5 .left)
+    (refill-not-due _ _ _ _ _ (at-backoff-due .backoff-due .ensures) tried (c .if7 .left))
+    (counted at-joined6)))
 
 clear-refused-requires-2 : tie.Need-clear-refused-requires-2
-clear-refused-requires-2 c κs = search needs
+clear-refused-requires-2 c κs =
+    let at-end = else3-to-end-recovery (is-short-to-else3 (c .before .before)) in
+    (known-long at-end, known at-end .ready .packed)
 
 same-length-9 : tie.Need-same-length-9
-same-length-9 c = search needs
+same-length-9 c =
+    let at-end = else3-to-end-recovery (is-short-to-else3 (c .before .before .before .before .before)) in
+    omega (arith, long (c .before .before .clear-refused2 .ensures .packed), start at-end .pre .0)
 
 returns-6 : tie.Need-returns-6
 returns-6 c =
     let at-is-short = c .before .before .before .before .before in
-    let at-is-alone2 = is-short-to-is-alone2 at-is-short in
-    let at-not-alone = is-alone2-to-not-alone at-is-alone2 in
-    let given = known at-not-alone in
-    pass at-not-alone _ _ _
-    (neighbors-passed _ _ _ _ _ given _ _ _ (at-is-alone2 .is-alone2 .ensures) (at-is-short .before .before .if2 .left)
-    (enough-passed _ _ _ _ _ given _ _ (at-is-short .is-short .ensures) (c .before .before .before .before .if3 .left) (c .before .before .clear-refused2 .ensures)))
+    neighbors (is-short-to-else3 at-is-short) _ _ _
+    (enough-passed _ _ _ _ _ (known (else3-to-end-recovery (is-short-to-else3 at-is-short))) _ _ (at-is-short .is-short .ensures) (c .before .before .before .before .if4 .left) (c .before .before .clear-refused2 .ensures))
 
 pub maintain-spec : {M : Type 1} → statement M
 maintain-spec =
     tie.close
     (tie.spec
     is-alone-requires
-    sub-is-empty
-    part-is-empty-start
-    part-is-empty-end
-    is-empty-requires
+    slice-read-if1
     pass-alone-requires
     same-length
     same-length-2
     returns
-    not-alone-requires
-    is-alone-requires-2
+    slice-write-st
+    end-recovery-requires
     slice-aggregate-start-refill
     start-refill-requires
     same-length-3
@@ -266,7 +303,10 @@ maintain-spec =
     is-recovery-requires
     same-length-5
     returns-3
-    count-short-requires
+    slice-read-n
+    require-requires
+    add-st
+    slice-write-st-2
     slice-read-backoff-due
     cast-backoff-due
     backoff-due-requires
