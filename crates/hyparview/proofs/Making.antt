@@ -3,10 +3,10 @@
 use Prim.Native.Nat.{ℕ, min, _<_}
 use mathlib.Core.Path.{_≡_, refl, sym, ap, _∙_, subst}
 use mathlib.Core.Bool.{Bool, true, false, _&&_}
-use mathlib.Core.List.{List, [], _++_}
+use mathlib.Core.List.{List, [], _∷_, _++_}
 use mathlib.Core.Option.{none, some}
 use lib.Dec.{eqb, leb}
-use lib.ListN.{length, set, take, drop}
+use lib.ListN.{length, take, drop}
 use mir.Val.{boolByte}
 use borrow.Author.Tests.{eq-eqb, ne-eqb}
 use Rattle.lists.specs.Array.{pad}
@@ -30,7 +30,7 @@ use Rattle.state.specs.Layout as layout
 use Rattle.state.proofs.Memory.{byte-fits, byte-back}
 use Rattle.rules.specs.Pack.{present-word, kind-word, requests-word, front, pack}
 use Rattle.rules.proofs.Back.{present-back, len-back, low-back, high-back}
-use Rattle.hyparview.specs.Made.{lent, with-own, with-views, with-walks, with-times, pack-made, made, Own}
+use Rattle.hyparview.specs.Made.{lent, pack-made, made}
 
 -- ---- the sections of a new station are zeroes
 
@@ -68,46 +68,56 @@ module _ (d : PeerData) (low high : ℕ) (v : ValidData d) (e : le 8 low ≡ tak
   own-high : high-word (bytes-of (data-in d)) ≡ high
   own-high = ap (λ (x : PeerData). high-word (bytes-of (data-in x))) (sym same) ∙ high-back (boolByte (d .present)) (d .len) low high (byte-fits (d .present)) kept-valid s t
 
-  pub own-stored : (xs : List ℕ) → set (set (set (set xs 1 (boolByte (d .present))) 2 (d .len)) 20 low) 21 high ≡ with-own (data-in d) xs
-  unfolding with-own
-  own-stored xs = λ i. set (set (set (set xs 1 (sym own-present i)) 2 (sym own-len i)) 20 (sym own-low i)) 21 (sym own-high i)
+  -- the numbers of a new station, in the order of the layout
+  pub numbers-are : (me : ℕ) (c : Config) (n : ℕ) → n ≡ min initial-shuffle-interval (c .«shuffle_interval»)
+      → me ∷ boolByte (d .present) ∷ d .len ∷ c .«active_view_capacity» ∷ c .«passive_view_capacity» ∷ c .«active_random_walk_length» ∷ c .«passive_random_walk_length» ∷ c .«shuffle_random_walk_length»
+      ∷ c .«shuffle_active_view_count» ∷ c .«shuffle_passive_view_count» ∷ c .«shuffle_interval» ∷ c .«neighbor_request_timeout» ∷ 0 ∷ n ∷ 0 ∷ 0 ∷ 0 ∷ 0 ∷ 0 ∷ 0 ∷ low ∷ high ∷ [] ≡ front (new-station me (data-in d) c)
+  unfolding front new-station kind-word requests-word
+  numbers-are me c n e = λ i.
+      me ∷ sym own-present i ∷ sym own-len i ∷ c .«active_view_capacity» ∷ c .«passive_view_capacity» ∷ c .«active_random_walk_length» ∷ c .«passive_random_walk_length» ∷ c .«shuffle_random_walk_length»
+      ∷ c .«shuffle_active_view_count» ∷ c .«shuffle_passive_view_count» ∷ c .«shuffle_interval» ∷ c .«neighbor_request_timeout» ∷ 0 ∷ e i ∷ 0 ∷ 0 ∷ 0 ∷ 0 ∷ 0 ∷ 0 ∷ sym own-low i ∷ sym own-high i ∷ []
 
 -- ---- a new station
 
-pub times-stored : (c : Config) (xs : List ℕ) (n : ℕ) → n ≡ min initial-shuffle-interval (c .«shuffle_interval»)
-    → set (set (set xs layout.shuffle-interval-at (c .«shuffle_interval»)) layout.neighbor-request-timeout-at (c .«neighbor_request_timeout»)) layout.next-shuffle-interval-at n ≡ with-times c xs
-unfolding with-times
-times-stored c xs n e = rw e
+-- the numbers in their places, before zeroes
+pub placed : (me : ℕ) (d : Data) (c : Config) (ys ns zs : List ℕ) → ys ≡ pad 0 551 [] → ns ≡ front (new-station me d c) → zs ≡ ns → zs ++ drop 22 ys ≡ pack (new-station me d c)
+unfolding pack new-station pad
+placed me d c ys ns zs z p q = (λ i. (q ∙ p) i ++ drop 22 (z i)) ∙ ap (λ (l : List ℕ). front (new-station me d c) ++ l) none-packed
 
-stored-is : (me : ℕ) (d : Data) (c : Config) → with-times c (with-walks me c (with-views c (with-own d (pad 0 551 [])))) ≡ front (new-station me d c) ++ pad 0 529 []
-unfolding with-own with-views with-walks with-times front new-station kind-word requests-word pad
-stored-is me d c = refl
+-- the part of the words that the numbers stand in
+pub front-inside : (ys : List ℕ) → ys ≡ pad 0 551 [] → 22 ≡ length (take 22 ys)
+unfolding pad
+front-inside ys z = sym (ap (λ (l : List ℕ). length (take 22 l)) z)
 
-pub fresh-is : (xs : List ℕ) (me : ℕ) (d : PeerData) (c : Config) (us bs cs ds : List ℕ) → xs ≡ pad 0 551 [] → us ≡ with-own (data-in d) xs → bs ≡ with-views c us → cs ≡ with-walks me c bs → ds ≡ with-times c cs
-    → ds ≡ pack (new-station me (data-in d) c)
-unfolding pack new-station
-fresh-is xs me d c us bs cs ds z p q r s =
-    s ∙ ap (with-times c) (r ∙ ap (with-walks me c) (q ∙ ap (with-views c) (p ∙ ap (with-own (data-in d)) z)))
-    ∙ stored-is me (data-in d) c ∙ ap (λ (l : List ℕ). front (new-station me (data-in d) c) ++ l) none-packed
+pub front-long : (me : ℕ) (d : Data) (c : Config) (ns : List ℕ) → ns ≡ front (new-station me d c) → length ns ≡ 22
+unfolding front
+front-long me d c ns p = ap length p
 
 -- ---- own data that is lent
+
+-- r is the data d, or not ok where d is over 16 bytes
+pub record Own (r : MaybeData) (d : Data) : Type 0 where
+  pub ok : r .ok ≡ short-data d
+  pub valid : ValidData (r .data)
+  pub held : r .ok ≡ true → HoldsData (r .data) d
 
 taken-some : (b : List ℕ) → leb (length b) 16 ≡ true → taken b ≡ some b
 unfolding taken
 taken-some b e = choose-yes _ _ _ e
 
-pub own-taken : (r : MaybeData) (b : List ℕ) (p : Bool) → p ≡ true → Takes r b → Own r (lent p b)
+pub own-taken : (r q : MaybeData) (b : List ℕ) (p : Bool) → r ≡ q → p ≡ true → Takes q b → Own r (lent p b)
 unfolding lent choose short-data
-own-taken r b p e t = rw e
+own-taken r q b p s e t = subst (λ (m : MaybeData). Own m (lent p b)) (sym s)
+    (rw e
     (record {
       ok = t .ok;
       valid = t .held .valid;
       held = λ h. record { valid = t .held .valid; holds = t .held .holds ∙ taken-some b (sym (t .ok) ∙ h) };
-    })
+    }))
 
-pub own-absent : (x : PeerData) (b : List ℕ) (p : Bool) → p ≡ false → HoldsData x none → Own (record { ok = true; «data» = x }) (lent p b)
+pub own-absent : (r : MaybeData) (x : PeerData) (b : List ℕ) (p : Bool) → r ≡ record { ok = true; «data» = x } → p ≡ false → HoldsData x none → Own r (lent p b)
 unfolding lent choose short-data
-own-absent x b p e h = rw e (record { ok = refl; valid = h .valid; held = λ t. h })
+own-absent r x b p s e h = subst (λ (m : MaybeData). Own m (lent p b)) (sym s) (rw e (record { ok = refl; valid = h .valid; held = λ t. h }))
 
 -- ---- the answer
 

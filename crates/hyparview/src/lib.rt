@@ -13,12 +13,10 @@ ghost use Prim.Native.Nat.{_≤_};
 ghost use lib.ListN.{length, getD};
 ghost use Rattle.protocol.specs.Handle.{new, new-station};
 ghost use Rattle.state.specs.Layout.{words};
-ghost use Rattle.hyparview.specs.Made.{lent, pack-made, Own, made};
+ghost use Rattle.hyparview.specs.Made.{lent, pack-made, made};
 ghost use Rattle.hyparview.specs.Handled.{cleared, refused-words, handled};
-ghost use mathlib.Core.List.{[]};
-ghost use Rattle.lists.specs.Array.{pad};
 ghost use Rattle.peer.specs.Held.{data-in, ValidData};
-ghost use Rattle.rules.specs.Pack.{pack};
+ghost use Rattle.rules.specs.Pack.{front};
 ghost use Rattle.hyparview.specs.Queries.{wants-connection-in, is-neighbor-in, neighbors-in, spare-addresses-in};
 
 // The bytes of output that suffice for every event.
@@ -27,50 +25,40 @@ pub const OUTPUT: usize = 8192;
 // The draws that suffice for every event if they are below 2^32 - 32.
 pub const DRAWS: usize = 512;
 
-// The words of a station that has met no event, in words that are zero.
-fn fresh(st: &mut [u64], me: PeerId, own: PeerData, config: Config)
-    requires { ⌜ length (now st) ≡ words ⌝ }
-    requires { ⌜ now st ≡ pad 0 words [] ⌝ }
+// The numbers of a station that has met no event, in the order of `Layout`.
+fn first_numbers(me: PeerId, own: PeerData, config: Config) -> [u64; Layout::ACTIVE]
     requires { ⌜ ValidData own ⌝ }
-    ensures { λ _. ⌜ now (st .exit) ≡ pack (new-station me (data-in own) config) ⌝ }
+    ensures { λ r. ⌜ r ≡ front (new-station me (data-in own) config) ⌝ }
 {
-    // Own data in its words.
-    let b = own.bytes;
-    let low = columns::word_at(b, 0);
-    let high = columns::word_at(b, columns::WORD);
-    st[Layout::OWN_PRESENT] = own.present as u64;
-    st[Layout::OWN_LEN] = own.len as u64;
-    st[Layout::OWN_LOW] = low;
-    st[Layout::OWN_HIGH] = high;
-    // The capacities of the views, and what a shuffle takes of them.
-    st[Layout::ACTIVE_VIEW_CAPACITY] = config.active_view_capacity as u64;
-    st[Layout::PASSIVE_VIEW_CAPACITY] = config.passive_view_capacity as u64;
-    st[Layout::SHUFFLE_ACTIVE_VIEW_COUNT] = config.shuffle_active_view_count as u64;
-    st[Layout::SHUFFLE_PASSIVE_VIEW_COUNT] = config.shuffle_passive_view_count as u64;
-    // The station itself and the walk lengths.
-    st[Layout::ME] = me;
-    st[Layout::ACTIVE_RANDOM_WALK_LENGTH] = config.active_random_walk_length as u64;
-    st[Layout::PASSIVE_RANDOM_WALK_LENGTH] = config.passive_random_walk_length as u64;
-    st[Layout::SHUFFLE_RANDOM_WALK_LENGTH] = config.shuffle_random_walk_length as u64;
-    // The interval, the timeout and the delay before the first shuffle, which is no longer than the interval.
+    let bytes = own.bytes;
+    let low = columns::word_at(bytes, 0);
+    let high = columns::word_at(bytes, columns::WORD);
+    // The delay before the first shuffle is no longer than the interval.
     let interval = timing::shorter(Timing::INITIAL_SHUFFLE_INTERVAL, config.shuffle_interval);
-    st[Layout::SHUFFLE_INTERVAL] = config.shuffle_interval as u64;
-    st[Layout::NEIGHBOR_REQUEST_TIMEOUT] = config.neighbor_request_timeout as u64;
-    st[Layout::NEXT_SHUFFLE_INTERVAL] = interval as u64;
-}
-
-// The lent bytes as own data, or absent; not ok where there are more than 16.
-fn own_given(present: bool, own: &[u8]) -> MaybeData
-    ensures { λ r. ⌜ Own r (lent present (now (own .entry))) ⌝ }
-{
-    if present {
-        return PeerData::from_slice(own);
-    }
-    let none = PeerData::absent();
-    MaybeData {
-        ok: true,
-        data: none,
-    }
+    [
+        me,
+        own.present as u64,
+        own.len as u64,
+        config.active_view_capacity as u64,
+        config.passive_view_capacity as u64,
+        config.active_random_walk_length as u64,
+        config.passive_random_walk_length as u64,
+        config.shuffle_random_walk_length as u64,
+        config.shuffle_active_view_count as u64,
+        config.shuffle_passive_view_count as u64,
+        config.shuffle_interval as u64,
+        config.neighbor_request_timeout as u64,
+        0,
+        interval as u64,
+        0,
+        0,
+        0,
+        0,
+        0,
+        0,
+        low,
+        high,
+    ]
 }
 
 // State::new: self, own data lent as bytes or absent, and the settings. Code 1, and zeroes, where a setting is out of range or own data is over 16 bytes; code 2, and nothing touched, where the
@@ -82,11 +70,18 @@ pub fn new(st: &mut [u64], me: PeerId, present: bool, own: &[u8], config: Config
         return Refusal::STATE;
     }
     util::clear_from(st, 0);
-    let d = own_given(present, own);
-    let fits = config.in_range() & d.ok;
-    if fits {
+    let none = PeerData::absent();
+    let mut d = MaybeData {
+        ok: true,
+        data: none,
+    };
+    if present {
+        d = PeerData::from_slice(own);
+    }
+    if config.in_range() & d.ok {
         let data = d.data;
-        fresh(st, me, data, config);
+        let numbers = first_numbers(me, data, config);
+        copy_words(&numbers, &mut st[..Layout::ACTIVE]);
         return 0;
     }
     Refusal::SETTINGS
@@ -134,7 +129,6 @@ pub fn neighbor(st: &[u64], i: usize) -> PeerId
         if i < n {
             return util::get_index(&st[Layout::ACTIVE..Layout::ACTIVE_END], Layout::FEW, i);
         }
-        return 0;
     }
     0
 }
