@@ -1,6 +1,6 @@
 -- Which step an event is: the header that the code looks at is that of the record that the definition looks at.
 -- Assumes nothing.
-use Prim.Native.Nat.{ℕ, zero, suc, _%_, _≤_, _<_}
+use Prim.Native.Nat.{ℕ, zero, suc, _+_, _%_, _≤_, _<_}
 use mathlib.Core.Path.{_≡_, refl, sym, ap, _∙_}
 use mathlib.Core.Bool.{Bool, true, false, not, _||_}
 use mathlib.Core.List.{List}
@@ -26,16 +26,10 @@ use Rattle.protocol.specs.Handle.{first-node, first-data, is-high, says-alive, 
 use Rattle.protocol.proofs.Whole.{quit-dispatch}
 use Rattle.state.specs.Work.{Held, Does}
 use Rattle.state.proofs.Bridge.{by}
-use Rattle.step_dispatch.specs.Begun.{Headed, Single, timer-expired}
+use Rattle.step_dispatch.specs.Begun.{Headed}
 
 past-five : (m : ℕ) → suc (suc (suc (suc (suc (suc m))))) ≤ 5 → ⊥
 past-five m l = omega (arith, l)
-
-at-most : {x y : ℕ} → x ≡ y → y ≤ 4 → x ≤ 5
-at-most e l = omega (arith, e, l)
-
-not-five : {x y : ℕ} → x ≡ y → y ≤ 4 → x ≡ 5 → ⊥
-not-five e l z = omega (arith, e, l, z)
 
 only-four : (m : ℕ) → m ≤ 5 → (m ≡ 0 → ⊥) → (m ≡ 1 → ⊥) → (m ≡ 2 → ⊥) → (m ≡ 3 → ⊥) → (m ≡ 5 → ⊥) → m ≡ 4
 only-four zero l n₀ n₁ n₂ n₃ n₅ = absurd (n₀ refl)
@@ -45,6 +39,24 @@ only-four (suc (suc (suc zero))) l n₀ n₁ n₂ n₃ n₅ = absurd (n₃ refl)
 only-four (suc (suc (suc (suc zero)))) l n₀ n₁ n₂ n₃ n₅ = refl
 only-four (suc (suc (suc (suc (suc zero))))) l n₀ n₁ n₂ n₃ n₅ = absurd (n₅ refl)
 only-four (suc (suc (suc (suc (suc (suc m)))))) l n₀ n₁ n₂ n₃ n₅ = absurd (past-five m l)
+
+some : (k : ℕ) → (k ≡ 0 → ⊥) → 1 ≤ k
+some k m = omega (arith, m)
+
+above : (n k : ℕ) → n ≤ k → (k ≡ n → ⊥) → n + 1 ≤ k
+above n k l m = omega (arith, l, m)
+
+at-eight : (k : ℕ) → 8 ≤ k → k ≤ 8 → k ≡ 8
+at-eight k l m = omega (arith, l, m)
+
+only-eight : (k : ℕ) → (k ≡ 0 → ⊥) → (k ≡ 1 → ⊥) → (k ≡ 2 → ⊥) → (k ≡ 3 → ⊥) → (k ≡ 4 → ⊥) → (k ≡ 5 → ⊥) → (k ≡ 6 → ⊥) → (k ≡ 7 → ⊥) → k ≤ 8 → k ≡ 8
+only-eight k n₀ n₁ n₂ n₃ n₄ n₅ n₆ n₇ l = at-eight k (above 7 k (above 6 k (above 5 k (above 4 k (above 3 k (above 2 k (above 1 k (some k n₀) n₁) n₂) n₃) n₄) n₅) n₆) n₇) l
+
+-- b is Join, ForwardJoin or Neighbor, with its one node
+pub record Single (b : List ℕ) (h : Header) : Type 0 where
+  pub headed : Headed b h
+  pub one : R.header-of b .nodes ≡ 1
+  pub which : (h .message ≡ 0 → ⊥) → (h .message ≡ 1 → ⊥) → h .message ≡ 4
 
 -- ---- the fields of the record read
 
@@ -121,9 +133,6 @@ module _ (b : List ℕ) (h : Header) (v : Headed b h) where
         which = λ n₀ n₁. only-four (h .message) few n₀ n₁ n₂ n₃ n₅;
       }
 
-pub single-formed : (b : List ℕ) (h : Header) → Single b h → R.well-formed b ≡ true
-single-formed b h v = v .headed .formed
-
 pub single-some : (b : List ℕ) (h : Header) → Single b h → 0 < R.header-of b .nodes
 single-some b h v = omega (arith, v .one)
 
@@ -193,22 +202,21 @@ module _ (b : List ℕ) (h : Header) (v : Headed b h) (g : Run) (r : Held) (ds o
   unfolding dispatch choose
   kind-message q k = by _ (rw (by-kind 0 q)) k
 
-  timers-are : (h .kind ≡ 0 → ⊥) → h .kind ≤ 4 → dispatch (R.rec-of b) g ≡ timer-expired (R.rec-of b .kind) (R.rec-of b .peer) (R.rec-of b .number) g
-  unfolding dispatch timer-expired
-  timers-are n l =
-      choose-no _ _ _ (ne-eqb _ _ (λ z. n (sym (kind-of b h v) ∙ z)))
-      ∙ split (eqb (R.rec-of b .kind) 1) (λ z. choose-yes _ _ _ z ∙ sym (choose-yes _ _ _ z))
-      (λ z₁. choose-no _ _ _ z₁ ∙ (split (eqb (R.rec-of b .kind) 2) (λ z. choose-yes _ _ _ z ∙ sym (choose-yes _ _ _ z))
-      (λ z₂. choose-no _ _ _ z₂ ∙ (split (eqb (R.rec-of b .kind) 3) (λ z. choose-yes _ _ _ z ∙ sym (choose-yes _ _ _ z))
-      (λ z₃. choose-no _ _ _ z₃ ∙ (choose-yes _ _ _ (eq-eqb _ _ (four z₁ z₂ z₃)) ∙ sym (choose-no _ _ _ z₃))) ∙ sym (choose-no _ _ _ z₂))) ∙ sym (choose-no _ _ _ z₁)))
-    where
-      four : eqb (R.rec-of b .kind) 1 ≡ false → eqb (R.rec-of b .kind) 2 ≡ false → eqb (R.rec-of b .kind) 3 ≡ false → R.rec-of b .kind ≡ 4
-      four z₁ z₂ z₃ =
-          let e = kind-of b h v in
-          only-four (R.rec-of b .kind) (at-most e l) (λ z. n (sym e ∙ z)) (eqb-false (R.rec-of b .kind) 1 z₁) (eqb-false (R.rec-of b .kind) 2 z₂) (eqb-false (R.rec-of b .kind) 3 z₃) (not-five e l)
+  pub kind-shuffle : h .kind ≡ 1 → Does r ds o (handle-shuffle-timer g) → Does r ds o (dispatch (R.rec-of b) g)
+  unfolding dispatch choose
+  kind-shuffle q k = by _ (rw (by-kind 1 q)) k
 
-  pub kind-timer : (h .kind ≡ 0 → ⊥) → h .kind ≤ 4 → Does r ds o (timer-expired (h .kind) (h .peer) (h .number) g) → Does r ds o (dispatch (R.rec-of b) g)
-  kind-timer n l k = by _ (timers-are n l ∙ (λ i. timer-expired (kind-of b h v i) (peer-of b h v i) (number-of b h v i) g)) k
+  pub kind-maintenance : h .kind ≡ 2 → Does r ds o (handle-maintenance-timer g) → Does r ds o (dispatch (R.rec-of b) g)
+  unfolding dispatch choose
+  kind-maintenance q k = by _ (rw (by-kind 2 q)) k
+
+  pub kind-request : h .kind ≡ 3 → Does r ds o (handle-pending-neighbor-timer (h .peer) (h .number) g) → Does r ds o (dispatch (R.rec-of b) g)
+  unfolding dispatch choose
+  kind-request q k = by _ (rw (by-kind 3 q) (λ i. handle-pending-neighbor-timer (peer-of b h v i) (number-of b h v i) g)) k
+
+  pub kind-retry : h .kind ≡ 4 → Does r ds o (retry-join (h .peer) (h .number) g) → Does r ds o (dispatch (R.rec-of b) g)
+  unfolding dispatch choose
+  kind-retry q k = by _ (rw (by-kind 4 q) (λ i. retry-join (peer-of b h v i) (number-of b h v i) g)) k
 
   pub kind-closed : h .kind ≡ 5 → Does r ds o (handle-connection-closed (h .peer) g) → Does r ds o (dispatch (R.rec-of b) g)
   unfolding dispatch choose
@@ -224,26 +232,7 @@ module _ (b : List ℕ) (h : Header) (v : Headed b h) (g : Run) (r : Held) (ds o
       let e : first-node (R.nodes-of b 0 (R.header-of b .nodes)) ≡ node-in n = first-of b (R.header-of b .nodes) (omega (arith, one-node b h v q)) ∙ sym (x .holds) in
       by _ (rw (by-kind 7 q) (λ i. on (update-own-data (e i .data-of)) g)) k
 
-  pub kind-quit : 4 < h .kind → (h .kind ≡ 5 → ⊥) → (h .kind ≡ 6 → ⊥) → (h .kind ≡ 7 → ⊥) → h .kind ≤ 8 → Does r ds o (handle-quit g) → Does r ds o (dispatch (R.rec-of b) g)
-  kind-quit n₄ n₅ n₆ n₇ l k =
-      let e = kind-of b h v in
-      by _ (quit-dispatch (R.rec-of b) (eq-eqb (R.rec-of b .kind) 8 (omega (arith, e, n₄, n₅, n₆, n₇, l))) g) k
-
--- ---- one timer
-
-module _ (k p n : ℕ) (g : Run) (r : Held) (ds o : List ℕ) where
-  pub shuffle-timer : k ≡ 1 → Does r ds o (handle-shuffle-timer g) → Does r ds o (timer-expired k p n g)
-  unfolding timer-expired choose
-  shuffle-timer q d = by _ (rw q) d
-
-  pub maintenance-timer : k ≡ 2 → Does r ds o (handle-maintenance-timer g) → Does r ds o (timer-expired k p n g)
-  unfolding timer-expired choose
-  maintenance-timer q d = by _ (rw q) d
-
-  pub request-timer : k ≡ 3 → Does r ds o (handle-pending-neighbor-timer p n g) → Does r ds o (timer-expired k p n g)
-  unfolding timer-expired choose
-  request-timer q d = by _ (rw q) d
-
-  pub join-timer : (k ≡ 1 → ⊥) → (k ≡ 2 → ⊥) → (k ≡ 3 → ⊥) → Does r ds o (retry-join p n g) → Does r ds o (timer-expired k p n g)
-  unfolding timer-expired
-  join-timer n₁ n₂ n₃ d = by _ (choose-no _ _ _ (ne-eqb _ _ n₁) ∙ (choose-no _ _ _ (ne-eqb _ _ n₂) ∙ choose-no _ _ _ (ne-eqb _ _ n₃))) d
+  pub kind-quit : (h .kind ≡ 0 → ⊥) → (h .kind ≡ 1 → ⊥) → (h .kind ≡ 2 → ⊥) → (h .kind ≡ 3 → ⊥) → (h .kind ≡ 4 → ⊥) → (h .kind ≡ 5 → ⊥) → (h .kind ≡ 6 → ⊥) → (h .kind ≡ 7 → ⊥) → h .kind ≤ 8
+      → Does r ds o (handle-quit g) → Does r ds o (dispatch (R.rec-of b) g)
+  kind-quit n₀ n₁ n₂ n₃ n₄ n₅ n₆ n₇ l k =
+      by _ (quit-dispatch (R.rec-of b) (eq-eqb (R.rec-of b .kind) 8 (kind-of b h v ∙ only-eight (h .kind) n₀ n₁ n₂ n₃ n₄ n₅ n₆ n₇ l)) g) k

@@ -10,40 +10,11 @@ ghost use Prim.Native.Nat.{_≤_};
 ghost use lib.ListN.{length};
 ghost use Rattle.record.specs.Read.{rec-of};
 ghost use Rattle.protocol.specs.Budgets.{arriving};
-ghost use Rattle.protocol.specs.Run.{on};
-ghost use Rattle.protocol.specs.Handle.{note-scheduled, first-timers, handle-message, dispatch, steps};
+ghost use Rattle.protocol.specs.Handle.{handle-message, dispatch, steps};
 ghost use Rattle.state.specs.Layout.{words};
-ghost use Rattle.state.specs.Unpack.{PackedState};
-ghost use Rattle.state.specs.Work.{work-of, run, Changes, Fine, Does};
+ghost use Rattle.state.specs.Work.{work-of, run, Fine, Does};
 ghost use Rattle.step_messages.specs.Between.{Between};
-ghost use Rattle.step_dispatch.specs.Begun.{Headed, Single, Opens, timer-expired};
-
-// Join, ForwardJoin or Neighbor, which have one node.
-fn handle_single(
-    w: Work,
-    st: &mut [u64],
-    draws: &[u32],
-    out: &mut [u8],
-    b: &[u8],
-    h: Header,
-) -> Work
-    requires { ⌜ length (now st) ≡ words ⌝ }
-    requires { ⌜ Fine (work-of w (now st)) (now draws) (now out) ⌝ }
-    requires { ⌜ Single (now b) h ⌝ }
-    requires { ⌜ Between 0 arriving 40 (run (work-of w (now st)) (now draws) (now out)) ⌝ }
-    ensures { λ r. ⌜ Does (work-of r (now (st .exit))) (now (draws .entry)) (now (out .exit)) (handle-message (rec-of (now (b .entry))) (run (work-of w (now (st .entry))) (now (draws .entry)) (now (out .entry)))) ⌝ }
-{
-    let p = h.peer;
-    let n = record::peer_info_at(b, 0);
-    let d = n.data;
-    if h.message == Message::JOIN {
-        return step_messages::on_join(w, st, draws, out, p, d);
-    }
-    if h.message == Message::FORWARD_JOIN {
-        return step_messages::on_forward_join(w, st, draws, out, p, n, h.ttl);
-    }
-    step_messages::on_neighbor(w, st, draws, out, p, d, h.flags == Flags::HIGH)
-}
+ghost use Rattle.step_dispatch.specs.Begun.{Headed, Opens};
 
 // One of the six messages.
 fn handle_message(
@@ -70,37 +41,19 @@ fn handle_message(
         return step_shuffling::on_shuffle_reply(w, st, draws, out, p, b, n);
     }
     if h.message == Message::DISCONNECT {
-        return step_messages::on_disconnect(
-            w,
-            st,
-            draws,
-            out,
-            p,
-            h.flags % Flags::RESPOND == Flags::ALIVE,
-        );
+        let alive = h.flags % Flags::RESPOND == Flags::ALIVE;
+        return step_messages::on_disconnect(w, st, draws, out, p, alive);
     }
-    handle_single(w, st, draws, out, b, h)
-}
-
-// One of the four timers.
-fn handle_timer(w: Work, st: &mut [u64], draws: &[u32], out: &mut [u8], h: Header) -> Work
-    requires { ⌜ length (now st) ≡ words ⌝ }
-    requires { ⌜ Fine (work-of w (now st)) (now draws) (now out) ⌝ }
-    requires { ⌜ 1 ≤ h .kind ⌝ }
-    requires { ⌜ h .kind ≤ 4 ⌝ }
-    ensures { λ r. ⌜ Does (work-of r (now (st .exit))) (now (draws .entry)) (now (out .exit)) (timer-expired (h .kind) (h .peer) (h .number) (run (work-of w (now (st .entry))) (now (draws .entry)) (now (out .entry)))) ⌝ }
-{
-    let p = h.peer;
-    if h.kind == Kind::DO_SHUFFLE {
-        return step_timers::handle_shuffle_timer(w, st, draws, out);
+    // Join, ForwardJoin and Neighbor have one node.
+    let x = record::peer_info_at(b, 0);
+    let d = x.data;
+    if h.message == Message::JOIN {
+        return step_messages::on_join(w, st, draws, out, p, d);
     }
-    if h.kind == Kind::DO_MAINTENANCE {
-        return step_maintenance::handle_maintenance_timer(w, st, draws, out);
+    if h.message == Message::FORWARD_JOIN {
+        return step_messages::on_forward_join(w, st, draws, out, p, x, h.ttl);
     }
-    if h.kind == Kind::PENDING_NEIGHBOR_REQUEST {
-        return step_timers::handle_pending_neighbor_timer(w, st, draws, out, p, h.number);
-    }
-    step_timers::retry_join(w, st, out, p, h.number)
+    step_messages::on_neighbor(w, st, draws, out, p, d, h.flags == Flags::HIGH)
 }
 
 // What an event says is done, whichever kind it is.
@@ -112,18 +65,26 @@ fn dispatch(w: Work, st: &mut [u64], draws: &[u32], out: &mut [u8], b: &[u8], h:
     requires { ⌜ Opens (h .kind) (run (work-of w (now st)) (now draws) (now out)) ⌝ }
     ensures { λ r. ⌜ Does (work-of r (now (st .exit))) (now (draws .entry)) (now (out .exit)) (dispatch (rec-of (now (b .entry))) (run (work-of w (now (st .entry))) (now (draws .entry)) (now (out .entry)))) ⌝ }
 {
-    let p = h.peer;
     if h.kind == Kind::MESSAGE {
         return handle_message(w, st, draws, out, b, h);
     }
-    if h.kind <= Kind::RETRY_JOIN {
-        return handle_timer(w, st, draws, out, h);
+    if h.kind == Kind::DO_SHUFFLE {
+        return step_timers::handle_shuffle_timer(w, st, draws, out);
+    }
+    if h.kind == Kind::DO_MAINTENANCE {
+        return step_maintenance::handle_maintenance_timer(w, st, draws, out);
+    }
+    if h.kind == Kind::PENDING_NEIGHBOR_REQUEST {
+        return step_timers::handle_pending_neighbor_timer(w, st, draws, out, h.peer, h.number);
+    }
+    if h.kind == Kind::RETRY_JOIN {
+        return step_timers::retry_join(w, st, out, h.peer, h.number);
     }
     if h.kind == Kind::PEER_DISCONNECTED {
-        return step_events::handle_connection_closed(w, st, draws, out, p);
+        return step_events::handle_connection_closed(w, st, draws, out, h.peer);
     }
     if h.kind == Kind::REQUEST_JOIN {
-        return step_events::handle_join(w, st, out, p);
+        return step_events::handle_join(w, st, out, h.peer);
     }
     if h.kind == Kind::UPDATE_PEER_DATA {
         let n = record::peer_info_at(b, 0);
@@ -131,32 +92,6 @@ fn dispatch(w: Work, st: &mut [u64], draws: &[u32], out: &mut [u8], b: &[u8], h:
         return step_events::update_own_data(w, st, d);
     }
     step_events::handle_quit(w, st, draws, out)
-}
-
-fn note_scheduled(w: Work, st: &mut [u64]) -> Work
-    requires { ⌜ length (now st) ≡ words ⌝ }
-    requires { ⌜ PackedState (now st) ⌝ }
-    ensures { λ r. ⌜ Changes (on note-scheduled) (work-of w (now (st .entry))) (work-of r (now (st .exit))) ⌝ }
-{
-    if w.code != 0 {
-        return w;
-    }
-    st[Layout::TIMERS_SCHEDULED] = 1;
-    w
-}
-
-// The first accepted call starts both timers.
-fn first_timers(w: Work, st: &mut [u64], draws: &[u32], out: &mut [u8]) -> Work
-    requires { ⌜ length (now st) ≡ words ⌝ }
-    requires { ⌜ Fine (work-of w (now st)) (now draws) (now out) ⌝ }
-    ensures { λ r. ⌜ Does (work-of r (now (st .exit))) (now (draws .entry)) (now (out .exit)) (first-timers (run (work-of w (now (st .entry))) (now (draws .entry)) (now (out .entry)))) ⌝ }
-{
-    if st[Layout::TIMERS_SCHEDULED] == 1 {
-        return w;
-    }
-    let a = note_scheduled(w, st);
-    let b = step_timers::schedule_shuffle(a, st, draws, out);
-    step_maintenance::schedule_maintenance(b, out)
 }
 
 // The steps of one event.
@@ -168,7 +103,12 @@ pub fn steps(w: Work, st: &mut [u64], draws: &[u32], out: &mut [u8], b: &[u8], h
     requires { ⌜ Opens (h .kind) (run (work-of w (now st)) (now draws) (now out)) ⌝ }
     ensures { λ r. ⌜ Does (work-of r (now (st .exit))) (now (draws .entry)) (now (out .exit)) (steps (rec-of (now (b .entry))) (run (work-of w (now (st .entry))) (now (draws .entry)) (now (out .entry)))) ⌝ }
 {
-    let a = dispatch(w, st, draws, out, b, h);
-    let c = first_timers(a, st, draws, out);
-    step_peers::forget_declined(c, st)
+    let mut a = dispatch(w, st, draws, out, b, h);
+    // The first accepted call starts both timers.
+    if (a.code == 0) & (st[Layout::TIMERS_SCHEDULED] != 1) {
+        st[Layout::TIMERS_SCHEDULED] = 1;
+        a = step_timers::schedule_shuffle(a, st, draws, out);
+        a = step_maintenance::schedule_maintenance(a, out);
+    }
+    step_peers::forget_declined(a, st)
 }

@@ -8,7 +8,7 @@ use borrow.Author.Needs.{needs}
 use mathlib.Core.Path.{refl, _≡_}
 use native.Mathlib.Omega.{arith}
 use Rattle.step_dispatch.proofs.Laws.{between-less}
-use Rattle.step_dispatch.proofs.Arms.{single, count-is, arm-shuffle, arm-reply, arm-disconnect}
+use Rattle.step_dispatch.proofs.Arms.{Single, single, single-some, count-is, arm-shuffle, arm-reply, arm-disconnect, arm-join, arm-forward, arm-neighbor}
 use Rattle.step_dispatch.proofs.handle_message.Statement.{statement}
 use Rattle.step_dispatch.proofs.handle_message.Tie as tie
 
@@ -44,8 +44,18 @@ on-shuffle-reply-arg2-to-start c = then2-to-start (c .before .before)
 abbrev then3-to-start : tie.Then3 → tie.Start
 then3-to-start c = else1-to-start (c .before .before .before .before)
 
-abbrev struct-known5-to-start : tie.After-struct-known5 → tie.Start
-struct-known5-to-start c = then3-to-start (c .before .before .before)
+abbrev else3-to-start : tie.Else3 → tie.Start
+else3-to-start c = else1-to-start (c .before .before .before .before)
+
+abbrev then5-to-peer-info-at : tie.Then5 → tie.After-peer-info-at
+then5-to-peer-info-at c = c .before .before .before .before .before
+
+abbrev else4-to-peer-info-at : tie.Else4 → tie.After-peer-info-at
+else4-to-peer-info-at c = c .before .before .before
+
+-- what is no Shuffle, ShuffleReply or Disconnect has one node
+single-at : (c : tie.Else3) → Single (else3-to-start c .args .b .now) (else3-to-start c .args .h)
+single-at c = single _ _ (headed (else3-to-start c)) (is-message (else3-to-start c)) (c .before .before .before .before .if1 .left) (c .before .before .if2 .left) (c .if3 .left)
 
 cast-n : tie.Need-cast-n
 cast-n c = search needs
@@ -88,7 +98,7 @@ returns-2 c =
 
 on-disconnect-requires : tie.Need-on-disconnect-requires
 on-disconnect-requires c κs =
-    let start = struct-known5-to-start c in
+    let start = then3-to-start (c .before .before .before) in
     (long start, (fine start, between-less _ _ _ _ _ (omega arith) (omega arith) (between start)))
 
 same-length-5 : tie.Need-same-length-5
@@ -104,13 +114,14 @@ returns-3 c =
     let start = then3-to-start at-if3 in
     arm-disconnect _ _ (headed start) _ _ _ _ _ refl (at-if3 .if3 .taken) (at-on-disconnect .on-disconnect .ensures)
 
-handle-single-requires : tie.Need-handle-single-requires
-handle-single-requires c κs =
-    let at-if3 = c .before .before in
-    let at-if2 = at-if3 .before .before in
-    let at-if1 = at-if2 .before .before in
-    let start = else1-to-start at-if1 in
-    (long start, (fine start, (single _ _ (headed start) (is-message start) (at-if1 .if1 .left) (at-if2 .if2 .left) (at-if3 .if3 .left), between start)))
+peer-info-at-requires : tie.Need-peer-info-at-requires
+peer-info-at-requires c κs = (headed (else3-to-start c) .formed, single-some _ _ (single-at c))
+
+on-join-requires : tie.Need-on-join-requires
+on-join-requires c κs =
+    let at-peer-info-at = c .before .before .before .before .before in
+    let start = else3-to-start (at-peer-info-at .before) in
+    (long start, (fine start, (at-peer-info-at .peer-info-at .ensures .valid, between start)))
 
 same-length-7 : tie.Need-same-length-7
 same-length-7 c = search needs
@@ -119,7 +130,50 @@ same-length-8 : tie.Need-same-length-8
 same-length-8 c = search needs
 
 returns-4 : tie.Need-returns-4
-returns-4 c = c .before .before .before .before .handle-single .ensures
+returns-4 c =
+    let at-on-join = c .before .before .before .before in
+    let at-if4 = at-on-join .before .before .before in
+    let at-peer-info-at = at-if4 .before .before .before in
+    arm-join _ _ (single-at (at-peer-info-at .before)) _ _ _ _ _ (at-peer-info-at .peer-info-at .ensures) (at-if4 .if4 .taken) (at-on-join .on-join .ensures)
+
+on-forward-join-requires : tie.Need-on-forward-join-requires
+on-forward-join-requires c κs =
+    let at-peer-info-at = then5-to-peer-info-at (c .before .before) in
+    let start = else3-to-start (at-peer-info-at .before) in
+    (long start, (fine start, at-peer-info-at .peer-info-at .ensures .valid))
+
+same-length-9 : tie.Need-same-length-9
+same-length-9 c = search needs
+
+same-length-10 : tie.Need-same-length-10
+same-length-10 c = search needs
+
+returns-5 : tie.Need-returns-5
+returns-5 c =
+    let at-on-forward-join = c .before .before .before .before in
+    let at-if5 = at-on-forward-join .before .before .before in
+    let at-peer-info-at = then5-to-peer-info-at at-if5 in
+    arm-forward _ _ (single-at (at-peer-info-at .before)) _ _ _ _ _ (at-peer-info-at .peer-info-at .ensures) (at-if5 .if5 .taken) (at-on-forward-join .on-forward-join .ensures)
+
+on-neighbor-requires : tie.Need-on-neighbor-requires
+on-neighbor-requires c κs =
+    let at-peer-info-at = else4-to-peer-info-at (c .before .before .before .before .before) in
+    let start = else3-to-start (at-peer-info-at .before) in
+    (long start, (fine start, (at-peer-info-at .peer-info-at .ensures .valid, between start)))
+
+same-length-11 : tie.Need-same-length-11
+same-length-11 c = search needs
+
+same-length-12 : tie.Need-same-length-12
+same-length-12 c = search needs
+
+returns-6 : tie.Need-returns-6
+returns-6 c =
+    let at-on-neighbor = c .before .before .before .before in
+    let at-if5 = at-on-neighbor .before .before .before .before in
+    let at-if4 = at-if5 .before .before in
+    let at-peer-info-at = else4-to-peer-info-at at-if4 in
+    arm-neighbor _ _ (single-at (at-peer-info-at .before)) _ _ _ _ _ (at-peer-info-at .peer-info-at .ensures) (at-if4 .if4 .left) (at-if5 .if5 .left) _ refl (at-on-neighbor .on-neighbor .ensures)
 
 pub handle-message-spec : {M : Type 1} → statement M
 handle-message-spec =
@@ -138,7 +192,16 @@ handle-message-spec =
     same-length-5
     same-length-6
     returns-3
-    handle-single-requires
+    peer-info-at-requires
+    on-join-requires
     same-length-7
     same-length-8
-    returns-4)
+    returns-4
+    on-forward-join-requires
+    same-length-9
+    same-length-10
+    returns-5
+    on-neighbor-requires
+    same-length-11
+    same-length-12
+    returns-6)
