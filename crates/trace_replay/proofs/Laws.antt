@@ -2,25 +2,25 @@
 -- Assumes nothing.
 use Prim.Native.Nat.{ℕ, suc, _-_, _≤_, _<_}
 use mathlib.Core.Path.{_≡_, refl, sym, ap, _∙_}
-use mathlib.Core.Bool.{Bool, false, _&&_}
+use mathlib.Core.Bool.{Bool, true, false, _&&_}
 use mathlib.Core.List.{List}
 use mathlib.Core.Option.{none}
 use native.Mathlib.Omega.{arith}
-use lib.ListN.{length, take, drop}
-use lib.Dec.{eqb}
-use borrow.Author.Tests.{eq-eqb, ne-eqb}
+use lib.ListN.{length, take, drop, replicate}
+use lib.Dec.{leb, eqb}
+use borrow.Author.Tests.{leb-true, eq-eqb, ne-eqb}
 use Rattle.io.specs.Counts.{Counts}
-use Rattle.lists.proofs.Choice.{choose-yes, choose-no}
-use Rattle.timing.specs.declared.Config.{Config}
-use Rattle.timing.specs.Timing.{in-range}
+use Rattle.lists.proofs.Choice.{choose-yes, choose-no, and-left}
 use Rattle.protocol.specs.Station.{Station}
-use Rattle.protocol.specs.Rules.{short-data}
 use Rattle.protocol.specs.Handle as P
+use Rattle.lists.specs.Array.{pad}
+use Rattle.state.specs.Layout.{words}
 use Rattle.rules.specs.Pack.{pack}
 use Rattle.hyparview.specs.Made as packed
 use Rattle.hyparview.specs.Made.{lent, pack-made}
 use Rattle.hyparview.specs.declared.State.{State}
 use Rattle.hyparview.specs.declared.MadeState.{MadeState}
+use Rattle.hyparview.proofs.Making.{zero-words}
 use Rattle.hyparview.specs.Handled.{handled}
 use Rattle.hyparview.specs.Room.{output-room}
 use Rattle.run_input.specs.declared.Head.{Head}
@@ -31,7 +31,7 @@ use Rattle.run_input.proofs.Laws.{Laid, laid}
 use Rattle.run_walk.specs.declared.Runner.{Runner}
 use Rattle.run_walk.specs.Place.{passed}
 use Rattle.run_walk.proofs.Laws.{next-words, next-left, next-events}
-use Rattle.run_walk.proofs.Draws.{counted, first-draws, part-is}
+use Rattle.run_walk.proofs.Draws.{first-draws, part-is}
 use Rattle.run_walk.proofs.Fresh.{made-bare}
 use Rattle.trace_replay.specs.declared.TraceStart.{TraceStart}
 use Rattle.trace_replay.specs.declared.Ended.{Ended}
@@ -39,14 +39,14 @@ use Rattle.trace_replay.specs.Ending.{room-of, counting, words-after, la
 
 -- ---- the room
 
-module _ (start : TraceStart) where
-  pub room-given : start .room ≤ output-room → start .room ≡ room-of start
+module _ (start : TraceStart) (room : ℕ) where
+  pub room-given : start .room < output-room → room ≡ start .room → room ≡ room-of start
   unfolding room-of
-  room-given h = omega (arith, h)
+  room-given h e = omega (arith, h, e)
 
-  pub room-most : output-room < start .room → output-room ≡ room-of start
+  pub room-most : output-room ≤ start .room → room ≡ output-room → room ≡ room-of start
   unfolding room-of
-  room-most h = omega (arith, h)
+  room-most h e = omega (arith, h, e)
 
 -- ---- the events in order
 
@@ -89,16 +89,16 @@ pub walked : (room : ℕ) (xs ys : List ℕ) (head : Head) (b ns : List ℕ) →
 unfolding laid-words
 walked room xs ys head b ns h e k = k ∙ (λ j. words-after room xs (cut-events (head .events) (sym (part-is head-length (head .«draws_at») b) j)) (first-draws b ns head h e j))
 
--- a room that is a part of the output
-pub in-room : (room : ℕ) (xs ys : List ℕ) (head : Head) (b out : List ℕ) → room ≤ length out → ys ≡ laid-words (length (take room out)) xs head b → ys ≡ laid-words room xs head b
-in-room room xs ys head b out h k = k ∙ ap (λ (x : ℕ). laid-words x xs head b) (sym (counted room out h))
+-- a text that is written whole lies within its space
+pub fitting : (end space : ℕ) (t : Bool) → (leb end space && t) ≡ true → end ≤ space
+fitting end space t h = leb-true end space (and-left (leb end space) t h)
 
 -- ---- the whole
 
--- `new` with settings that are out of range
-pub unset : (c : Config) (m : MadeState) (own : List ℕ) → in-range c ≡ false → record { code = m .code; words = m .state .words } ≡ pack-made (P.new 0 (lent false own) c) → m .state .words ≡ pack P.zero-station
-unfolding P.new pack-made
-unset c m own h e = ap (λ (x : packed.MadeWords). x .words) e ∙ ap (λ (x : P.Made). pack (x .state)) (choose-no _ _ _ (ap (λ (t : Bool). t && short-data (lent false own)) h))
+-- an input that is refused has a state of zeroes
+no-state : replicate words 0 ≡ pack P.zero-station
+unfolding pad
+no-state = zero-words
 
 module _ (start : TraceStart) (head : Head) (b : List ℕ) (m : MadeState) (own : List ℕ) (e : record { code = m .code; words = m .state .words } ≡ pack-made (P.new (head .me) (lent false own) (head .config))) where
   made-code : m .code ≡ P.new (head .me) none (head .config) .code
@@ -109,10 +109,9 @@ module _ (start : TraceStart) (head : Head) (b : List ℕ) (m : MadeState) (own 
   unfolding pack-made
   made-words = ap (λ (x : packed.MadeWords). x .words) (made-bare (head .me) (head .config) _ own e)
 
-  pub whole-refused : (r : Ended) → (m .code ≡ 0 → ⊥) → r ≡ record { code = m .code; state = m .state } → r ≡ made-end start (P.new (head .me) none (head .config)) head b
+  pub whole-refused : (m .code ≡ 0 → ⊥) → _≡_ {A = Ended} (record { code = m .code; state = m .state }) (made-end start (P.new (head .me) none (head .config)) head b)
   unfolding made-end
-  whole-refused r h k =
-      k ∙ ((λ j. ended-at (made-code j) (made-words j)) ∙ sym (choose-no _ _ _ (ap (λ (x : ℕ). eqb x 0) (sym made-code) ∙ ne-eqb _ _ h)))
+  whole-refused h = (λ j. ended-at (made-code j) (made-words j)) ∙ sym (choose-no _ _ _ (ap (λ (x : ℕ). eqb x 0) (sym made-code) ∙ ne-eqb _ _ h))
 
   pub whole-run : (s last : State) (room : ℕ) → m .code ≡ 0 → ((g : Station) → m .state .words ≡ pack g → s .words ≡ pack (counting start g)) → room ≡ room-of start → last .words ≡ laid-words room (s .words) head b
       → _≡_ {A = Ended} (record { code = 0; state = last }) (made-end start (P.new (head .me) none (head .config)) head b)
@@ -123,9 +122,9 @@ module _ (start : TraceStart) (head : Head) (b : List ℕ) (m : MadeState) (own 
       ∙ sym (choose-yes _ _ _ (ap (λ (x : ℕ). eqb x 0) (sym made-code) ∙ eq-eqb _ _ h))
 
 module _ (start : TraceStart) (b : List ℕ) (x : Input) (e : x ≡ input-of b) where
-  pub ends-refused : (r : Ended) (s : State) → x ≡ Refused → s .words ≡ pack P.zero-station → r ≡ record { code = 3; state = s } → r ≡ ended-of start b
+  pub ends-refused : x ≡ Refused → ended-at 3 (replicate words 0) ≡ ended-of start b
   unfolding ended-of input-end
-  ends-refused r s h z k = k ∙ (ap (ended-at 3) z ∙ ap (λ (y : Input). input-end start y b) (sym h ∙ e))
+  ends-refused h = ap (ended-at 3) no-state ∙ ap (λ (y : Input). input-end start y b) (sym h ∙ e)
 
   pub ends-whole : (head : Head) (r : Ended) → x ≡ Whole head → r ≡ made-end start (P.new (head .me) none (head .config)) head b → r ≡ ended-of start b
   unfolding ended-of input-end

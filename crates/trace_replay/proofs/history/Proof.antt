@@ -1,7 +1,8 @@
+use mathlib.Core.Logic.{⊎-elim}
 use borrow.Author.Needs.{needs}
 use Rattle.rules.specs.Pack.{pack, front}
 use Rattle.trace_replay.specs.Ending.{counting}
-use Rattle.trace_replay.proofs.Laws.{there, whole-refused, whole-run, ends-refused, ends-whole}
+use Rattle.trace_replay.proofs.Laws.{room-given, room-most, there, whole-refused, whole-run, ends-refused, ends-whole}
 use Rattle.trace_replay.proofs.history.Statement.{statement}
 use Rattle.trace_replay.proofs.history.Tie as tie
 
@@ -18,11 +19,11 @@ read-input-requires c κs = search needs
 enum-told : tie.Need-enum-told
 enum-told c = search needs
 
-zeroes-requires : tie.Need-zeroes-requires
-zeroes-requires c κs = search needs
+slice-aggregate-write-all : tie.Need-slice-aggregate-write-all
+slice-aggregate-write-all c = search needs
 
-refused-requires : tie.Need-refused-requires
-refused-requires c κs = search needs
+write-all-requires : tie.Need-write-all-requires
+write-all-requires c κs = search needs
 
 enum-known-i : tie.Need-enum-known-i
 enum-known-i c = search needs
@@ -33,11 +34,18 @@ slice-aggregate-new c = search needs
 new-requires : tie.Need-new-requires
 new-requires c κs = search needs
 
-refused-requires-2 : tie.Need-refused-requires-2
-refused-requires-2 c κs = search needs
+slice-aggregate-write-all-2 : tie.Need-slice-aggregate-write-all-2
+slice-aggregate-write-all-2 c = search needs
+
+write-all-requires-2 : tie.Need-write-all-requires-2
+write-all-requires-2 c κs = search needs
 
 returns : tie.Need-returns
-returns c = search (ends-whole, whole-refused)
+returns c =
+    let at-new = c .before .before .before .before .before in
+    let at-i = new-to-i at-new in
+    let at-read = i-to-read-input at-i in
+    ends-whole _ _ _ (at-read .read-input .ensures) _ _ (at-i .i .given .1) (whole-refused _ _ _ _ _ (at-new .new .ensures) (search needs))
 
 array-write-words : tie.Need-array-write-words
 array-write-words c = search needs
@@ -57,11 +65,8 @@ cast-words-2 c = search needs
 array-write-words-4 : tie.Need-array-write-words-4
 array-write-words-4 c = search needs
 
-room-of-requires : tie.Need-room-of-requires
-room-of-requires c κs = search needs
-
-with-space-requires : tie.Need-with-space-requires
-with-space-requires c κs = search (there, needs)
+walk-requires : tie.Need-walk-requires
+walk-requires c κs = (search (there, needs), ⊎-elim (λ w. search needs) (λ w. search needs) (c .if2 .came))
 
 returns-2 : tie.Need-returns-2
 returns-2 c = search (ends-refused, needs)
@@ -70,11 +75,12 @@ returns-3 : tie.Need-returns-3
 unfolding pack front counting
 returns-3 c =
     let at-room = c .before in
-    let at-new = at-room .before .before .before .before .before .before .before in
+    let at-if = at-room .before .before .before .before .before in
+    let at-new = at-if .before .before .before in
     let at-i = new-to-i at-new in
     let at-read = i-to-read-input at-i in
     ends-whole _ _ _ (at-read .read-input .ensures) _ _ (at-i .i .given .1)
-    (whole-run _ _ _ _ _ (at-new .new .ensures) _ _ _ (search needs) (λ g e. rw e) (at-room .room-of .ensures .0) (c .with-space .ensures))
+    (whole-run _ _ _ _ _ (at-new .new .ensures) _ _ _ (search (needs, at-if .if1)) (λ g e. rw e) (⊎-elim (λ w. room-given _ _ (w .0 .taken) (w .1)) (λ w. room-most _ _ (w .0 .left) (w .1)) (at-room .if2 .came)) (c .walk .ensures))
 
 pub history-spec : {M : Type 1} → statement M
 history-spec =
@@ -82,12 +88,13 @@ history-spec =
     (tie.spec
     read-input-requires
     enum-told
-    zeroes-requires
-    refused-requires
+    slice-aggregate-write-all
+    write-all-requires
     enum-known-i
     slice-aggregate-new
     new-requires
-    refused-requires-2
+    slice-aggregate-write-all-2
+    write-all-requires-2
     returns
     array-write-words
     array-write-words-2
@@ -95,7 +102,6 @@ history-spec =
     array-write-words-3
     cast-words-2
     array-write-words-4
-    room-of-requires
-    with-space-requires
+    walk-requires
     returns-2
     returns-3)
