@@ -49,10 +49,6 @@ module _ (l : List ℕ) where
       let most : Bool = leb (whole-length l) (length l) in
       by-choice (λ (x : ℕ). x ≡ 0) (low && most) (λ e. absurd (h (leb-true _ _ (and-left low most e)) (leb-true _ _ (and-right low most e)))) (λ e. refl)
 
-  pub event-cut : header-length ≤ whole-length l → whole-length l ≤ length l → event-length l ≡ whole-length l
-  unfolding event-length
-  event-cut p q = choose-yes (leb header-length (whole-length l) && leb (whole-length l) (length l)) _ _ (rw (le-leb _ _ p, le-leb _ _ q))
-
 -- where there is no event at the front
 pub none-first : (k : ℕ) (l : List ℕ) → 0 < k → event-length l ≡ 0 → are-events k l ≡ false
 unfolding are-events

@@ -2,10 +2,9 @@
 use peer::PeerId;
 use timing::Config;
 ghost use mathlib.Core.Path.{_≡_};
-ghost use mathlib.Core.Bool.{true};
-ghost use Prim.Native.Nat.{_-_, _≤_};
-ghost use lib.ListN.{length, drop};
-ghost use Rattle.run_input.specs.Input.{number, numbers, from-halves, event-length, places-ok, events-ok, input-of};
+ghost use Prim.Native.Nat.{_≤_};
+ghost use lib.ListN.{length};
+ghost use Rattle.run_input.specs.Input.{number, numbers, from-halves, event-length, are-events, input-of};
 
 // The most bytes of an input.
 pub const MOST_BYTES: usize = 65536;
@@ -26,12 +25,28 @@ impl Head {
     // The bytes of a head, right after which the events stand.
     pub const BYTES: usize = 60;
 
-    // The places of its numbers, each of four bytes; the settings are nine.
+    // The places of its numbers, each of four bytes.
     const SELF_LOW: usize = 0;
 
     const SELF_HIGH: usize = 1;
 
-    const FIRST_SETTING: usize = 2;
+    const ACTIVE_VIEW_CAPACITY: usize = 2;
+
+    const PASSIVE_VIEW_CAPACITY: usize = 3;
+
+    const ACTIVE_RANDOM_WALK_LENGTH: usize = 4;
+
+    const PASSIVE_RANDOM_WALK_LENGTH: usize = 5;
+
+    const SHUFFLE_RANDOM_WALK_LENGTH: usize = 6;
+
+    const SHUFFLE_ACTIVE_VIEW_COUNT: usize = 7;
+
+    const SHUFFLE_PASSIVE_VIEW_COUNT: usize = 8;
+
+    const SHUFFLE_INTERVAL: usize = 9;
+
+    const NEIGHBOR_REQUEST_TIMEOUT: usize = 10;
 
     const EVENT_COUNT: usize = 11;
 
@@ -76,82 +91,71 @@ pub fn from_halves(low: u32, high: u32) -> u64
     low as u64 + record::FOUR_BYTES_END * high as u64
 }
 
-// How long the event at a place is by its whole length; 0 where that is less than a header's or runs over the end.
-pub fn event_length(b: &[u8], at: usize) -> usize
-    ensures { λ r. ⌜ (r ≡ event-length (drop at (now (b .entry)))) × (r ≤ length (now (b .entry)) - at) ⌝ }
+// How long the event at the front is by its whole length; 0 where that is less than a header's or runs over the end.
+pub fn event_length(b: &[u8]) -> usize
+    ensures { λ r. ⌜ (r ≡ event-length (now (b .entry))) × (r ≤ length (now (b .entry))) ⌝ }
 {
-    if b.len() < at {
-        return 0;
+    if record::HEADER <= b.len() {
+        let h = record::read_header(b);
+        let size = h.size as usize;
+        if (record::HEADER <= size) & (size <= b.len()) {
+            return size;
+        }
     }
-    let rest = &b[at..];
-    if rest.len() < record::HEADER {
-        return 0;
-    }
-    let h = record::read_header(rest);
-    let size = h.size as usize;
-    if size < record::HEADER {
-        return 0;
-    }
-    if rest.len() < size {
-        return 0;
-    }
-    size
+    0
 }
 
-// Whether the events exactly fill the place between the head and the draws.
-fn events_ok(b: &[u8]) -> bool
-    requires { ⌜ places-ok (now b) ≡ true ⌝ }
-    ensures { λ r. ⌜ r ≡ events-ok (now (b .entry)) ⌝ }
+// Whether these bytes are exactly so many events.
+fn are_events(events: &[u8], count: usize) -> bool
+    ensures { λ r. ⌜ r ≡ are-events count (now (events .entry)) ⌝ }
 {
-    let end = number(b, Head::DRAW_OFFSET) as usize;
-    let n = number(b, Head::EVENT_COUNT) as usize;
-    let events = &b[Head::BYTES..end];
-    let mut at: usize = 0;
-    let mut left = n;
+    let mut rest = events;
+    let mut left = count;
     while left > 0 {
-        let size = event_length(events, at);
+        let size = event_length(rest);
         if size == 0 {
             return false;
         }
-        at += size;
+        rest = &rest[size..];
         left -= 1;
     }
-    at == events.len()
+    rest.len() == 0
 }
 
 // The whole input: its head, or that it is refused.
 pub fn read_input(b: &[u8]) -> Input
     ensures { λ r. ⌜ r ≡ input-of (now (b .entry)) ⌝ }
 {
-    // Whether the events are said to stand right after the head, and the draws to end the input.
-    let n = b.len();
+    let size = b.len();
     let start = number(b, Head::EVENT_OFFSET) as usize;
-    let at = number(b, Head::DRAW_OFFSET) as usize;
+    let draws_at = number(b, Head::DRAW_OFFSET) as usize;
     let draws = number(b, Head::DRAW_COUNT) as usize;
-    let placed = (Head::BYTES <= n)
-        & ((n <= MOST_BYTES)
-            & ((start == Head::BYTES) & ((Head::BYTES <= at) & (at + 4 * draws == n))));
-    if placed {
-        if events_ok(b) {
-            // The nine settings.
+    // Whether the events are said to stand right after the head, and the draws to end the input.
+    if (Head::BYTES <= size)
+        & ((size <= MOST_BYTES)
+            & ((start == Head::BYTES)
+                & ((Head::BYTES <= draws_at) & (draws_at + 4 * draws == size))))
+    {
+        let events = number(b, Head::EVENT_COUNT) as usize;
+        if are_events(&b[Head::BYTES..draws_at], events) {
             let config = Config {
-                active_view_capacity: number(b, Head::FIRST_SETTING),
-                passive_view_capacity: number(b, Head::FIRST_SETTING + 1),
-                active_random_walk_length: number(b, Head::FIRST_SETTING + 2),
-                passive_random_walk_length: number(b, Head::FIRST_SETTING + 3),
-                shuffle_random_walk_length: number(b, Head::FIRST_SETTING + 4),
-                shuffle_active_view_count: number(b, Head::FIRST_SETTING + 5),
-                shuffle_passive_view_count: number(b, Head::FIRST_SETTING + 6),
-                shuffle_interval: number(b, Head::FIRST_SETTING + 7),
-                neighbor_request_timeout: number(b, Head::FIRST_SETTING + 8),
+                active_view_capacity: number(b, Head::ACTIVE_VIEW_CAPACITY),
+                passive_view_capacity: number(b, Head::PASSIVE_VIEW_CAPACITY),
+                active_random_walk_length: number(b, Head::ACTIVE_RANDOM_WALK_LENGTH),
+                passive_random_walk_length: number(b, Head::PASSIVE_RANDOM_WALK_LENGTH),
+                shuffle_random_walk_length: number(b, Head::SHUFFLE_RANDOM_WALK_LENGTH),
+                shuffle_active_view_count: number(b, Head::SHUFFLE_ACTIVE_VIEW_COUNT),
+                shuffle_passive_view_count: number(b, Head::SHUFFLE_PASSIVE_VIEW_COUNT),
+                shuffle_interval: number(b, Head::SHUFFLE_INTERVAL),
+                neighbor_request_timeout: number(b, Head::NEIGHBOR_REQUEST_TIMEOUT),
             };
-            let low = number(b, Head::SELF_LOW);
-            let high = number(b, Head::SELF_HIGH);
+            let low = number(b, Head::SELF_LOW) as u64;
+            let high = number(b, Head::SELF_HIGH) as u64;
             return Input::Whole(Head {
-                me: from_halves(low, high),
+                me: low + record::FOUR_BYTES_END * high,
                 config: config,
-                events: number(b, Head::EVENT_COUNT) as usize,
-                draws_at: at,
+                events: events,
+                draws_at: draws_at,
                 draws: draws,
             });
         }

@@ -1,10 +1,11 @@
 -- Laws of the place reached in a run.
 -- Assumes nothing.
-use Prim.Native.Nat.{ℕ, _+_}
+use Prim.Native.Nat.{ℕ, _+_, _-_, _≤_, _<_}
 use mathlib.Core.Path.{_≡_, sym, ap, _∙_}
 use mathlib.Core.List.{List}
-use lib.ListN.{take, drop}
-use lib.Seq.{drop-drop}
+use native.Mathlib.Omega.{arith}
+use lib.ListN.{length, take, drop, length-drop, drop-of-length-le}
+use lib.Seq.{take-all, drop-drop, drop-length}
 use Rattle.hyparview.specs.declared.HandledState.{HandledState}
 use Rattle.hyparview.specs.Handled.{Outcome, handled}
 use Rattle.run_input.specs.Input.{event-length}
@@ -12,6 +13,25 @@ use Rattle.draws.specs.Place.{past}
 use Rattle.draws.proofs.Laws.{past-rest}
 use Rattle.run_walk.specs.declared.Runner.{Runner}
 use Rattle.run_walk.specs.Place.{Runs, met, passed}
+
+-- the place that events are cut from: the one reached, and none past the end
+pub record From (events : List ℕ) (at from : ℕ) : Type 0 where
+  pub low : from ≤ length events
+  pub same : drop from events ≡ drop at events
+
+module _ (events : List ℕ) (at from : ℕ) where
+  pub from-within : at < length events → from ≡ at → From events at from
+  from-within h e = record { low = omega (arith, h, e); same = ap (λ (x : ℕ). drop x events) e }
+
+  pub from-past : length events ≤ at → from ≡ length events → From events at from
+  from-past h e = record { low = omega (arith, e); same = ap (λ (x : ℕ). drop x events) e ∙ (drop-length events ∙ sym (drop-of-length-le events h)) }
+
+  -- the rest as the code cuts it
+  pub rest-is : From events at from → take (length events - from) (drop from events) ≡ drop at events
+  rest-is f = take-all (length events - from) (drop from events) (omega (arith, length-drop from events)) ∙ f .same
+
+  pub size-left : (size : ℕ) → From events at from → size ≤ length (take (length events - from) (drop from events)) → size ≤ length events - at
+  size-left size f h = omega (arith, h, ap length (rest-is f), length-drop at events)
 
 module _ (room : ℕ) (p : Runner) (events draws : List ℕ) where
   -- the call with the event cut out by its length

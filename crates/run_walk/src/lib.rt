@@ -1,8 +1,6 @@
 // The walk over the events of an input (document 01, "The run program"): one event at a time, each with the draws that are left.
 use hyparview::State;
-ghost use mathlib.Core.Path.{_≡_};
-ghost use Prim.Native.Nat.{_-_, _≤_};
-ghost use lib.ListN.{length, take, drop};
+ghost use lib.ListN.{length};
 ghost use Rattle.run_walk.specs.Place.{Runs};
 
 // The place reached in a run: the state, and how far its events and its draws are.
@@ -19,18 +17,6 @@ pub struct Ran {
     pub draws: usize,
 }
 
-// The n bytes at a place, and none past the end.
-fn part(b: &[u8], at: usize, n: usize) -> &[u8]
-    requires { ⌜ n ≤ length (now b) - at ⌝ }
-    ensures { λ r. ⌜ now r ≡ take n (drop at (now (b .entry))) ⌝ }
-{
-    if at < b.len() {
-        let end = at + n;
-        return &b[at..end];
-    }
-    &b[..0]
-}
-
 // The event at the place reached, with the draws left and the output lent.
 pub fn step(p: Runner, events: &[u8], draws: &[u32], records: &mut [u8]) -> Ran
     ensures { λ r. ⌜ Runs (length (now (records .entry))) p (now (events .entry)) (now (draws .entry)) r (now (records .exit)) ⌝ }
@@ -38,8 +24,13 @@ pub fn step(p: Runner, events: &[u8], draws: &[u32], records: &mut [u8]) -> Ran
     let s = p.state;
     let at = p.at;
     let used = p.used;
-    let size = run_input::event_length(events, at);
-    let event = part(events, at, size);
+    // The events from the place on, and none past the end.
+    let end = events.len();
+    let from = if at < end { at } else { end };
+    let rest = &events[from..];
+    let size = run_input::event_length(rest);
+    let after = at + size;
+    let event = &rest[..size];
     let left = draws::rest_from(draws, used);
     let a = s.handle(event, left, records);
     let next = a.state;
@@ -47,7 +38,7 @@ pub fn step(p: Runner, events: &[u8], draws: &[u32], records: &mut [u8]) -> Ran
     Ran {
         runner: Runner {
             state: next,
-            at: at + size,
+            at: after,
             used: reached,
         },
         code: a.code,

@@ -1,42 +1,61 @@
-use Prim.Native.Nat.{ℕ, _+_, _*_}
+use Prim.Native.Nat.{ℕ, _+_, _*_, _-_, _≤_}
 use mathlib.Core.Path.{_≡_, sym, ap, _∙_}
 use mathlib.Core.Bool.{Bool, true, false, _&&_}
 use mathlib.Core.List.{List}
-use lib.ListN.{length}
+use native.Mathlib.Omega.{arith}
+use lib.ListN.{length, take, drop}
+use lib.Seq.{slice}
 use lib.Dec.{leb, eqb}
 use borrow.Author.Needs.{needs}
 use Rattle.lists.proofs.Choice.{choose-yes, choose-no}
 use Rattle.lists.proofs.Tests.{both-true, and-no}
+use Rattle.lists.proofs.Slices.{slice-part}
 use Rattle.timing.specs.declared.Config.{Config}
-use Rattle.run_input.specs.Input.{head-length, most-bytes, self-low, self-high, first-setting, event-count, event-offset, draw-count, draw-offset, number, from-halves, config-of, places-ok, events-ok, input-head, input-of}
+use Rattle.run_input.specs.Input.{head-length, most-bytes, self-low, self-high, first-setting, event-count, event-offset, draw-count, draw-offset, number, from-halves, config-of, are-events, places-ok, events-part, events-ok, input-head, input-of}
 use Rattle.run_input.specs.declared.Head.{Head}
 use Rattle.run_input.specs.declared.Input.the-variants.{Refused, Whole}
+use Rattle.run_input.proofs.Laws.{Places, places-true}
 use Rattle.run_input.proofs.read_input.Statement.{statement}
 use Rattle.run_input.proofs.read_input.Tie as tie
 
 -- the test of the places
 abbrev placed : List ℕ → ℕ → ℕ → ℕ → Bool
-placed b start at d = leb head-length (length b) && (leb (length b) most-bytes && (eqb start head-length && (leb head-length at && eqb (at + 4 * d) (length b))))
+placed b start end d = leb head-length (length b) && (leb (length b) most-bytes && (eqb start head-length && (leb head-length end && eqb (end + 4 * d) (length b))))
 
-module _ (b : List ℕ) (start at d : ℕ) (se : start ≡ number b event-offset) (ae : at ≡ number b draw-offset) (de : d ≡ number b draw-count) where
-  placed-is : placed b start at d ≡ places-ok b
+module _ (b : List ℕ) (start end d : ℕ) (se : start ≡ number b event-offset) (ee : end ≡ number b draw-offset) (de : d ≡ number b draw-count) where
+  placed-is : placed b start end d ≡ places-ok b
   unfolding places-ok
-  placed-is = λ i. placed b (se i) (ae i) (de i)
+  placed-is = λ i. placed b (se i) (ee i) (de i)
 
-  placed-ok : placed b start at d ≡ true → places-ok b ≡ true
-  placed-ok t = sym placed-is ∙ t
-
-  whole : (q : Bool) (h : Head) → q ≡ events-ok b → placed b start at d ≡ true → q ≡ true → h ≡ input-head b → Whole h ≡ input-of b
-  unfolding input-of
-  whole q h qe t u e = sym (choose-yes (places-ok b && events-ok b) (Whole (input-head b)) Refused (both-true _ _ (placed-ok t) (sym qe ∙ u)) ∙ ap Whole (sym e))
-
-  no-places : placed b start at d ≡ false → Refused ≡ input-of b
+  no-places : placed b start end d ≡ false → Refused ≡ input-of b
   unfolding input-of
   no-places f = sym (choose-no (places-ok b && events-ok b) (Whole (input-head b)) Refused (ap (λ (p : Bool). p && events-ok b) (sym placed-is ∙ f)))
 
-no-events : (b : List ℕ) (q : Bool) → q ≡ events-ok b → q ≡ false → Refused ≡ input-of b
-unfolding input-of
-no-events b q qe f = sym (choose-no (places-ok b && events-ok b) (Whole (input-head b)) Refused (rw (← qe, f) (and-no (places-ok b))))
+  module _ (t : placed b start end d ≡ true) where
+    at : Places b
+    at = places-true b (sym placed-is ∙ t)
+
+    from : head-length ≤ end
+    from = omega (arith, at .low, ee)
+
+    upto : end ≤ length b
+    upto = omega (arith, at .full, ee)
+
+    module _ (n : ℕ) (ne : n ≡ number b event-count) (q : Bool) (qe : q ≡ are-events n (take (end - head-length) (drop head-length b))) where
+      filled : q ≡ events-ok b
+      unfolding events-ok events-part
+      filled =
+          let k : head-length + (end - head-length) ≡ number b draw-offset = omega (arith, from, ee) in
+          qe ∙ (ap (λ (m : ℕ). are-events m (take (end - head-length) (drop head-length b))) ne
+          ∙ ap (are-events (number b event-count)) (slice-part head-length (end - head-length) b ∙ ap (λ (m : ℕ). slice head-length m b) k))
+
+      whole : (h : Head) → q ≡ true → h ≡ input-head b → Whole h ≡ input-of b
+      unfolding input-of
+      whole h u e = sym (choose-yes (places-ok b && events-ok b) (Whole (input-head b)) Refused (both-true _ _ (sym placed-is ∙ t) (sym filled ∙ u)) ∙ ap Whole (sym e))
+
+      no-events : q ≡ false → Refused ≡ input-of b
+      unfolding input-of
+      no-events f = sym (choose-no (places-ok b && events-ok b) (Whole (input-head b)) Refused (ap (λ (p : Bool). places-ok b && p) (sym filled ∙ f) ∙ and-no (places-ok b)))
 
 settings : (b : List ℕ) (x₀ x₁ x₂ x₃ x₄ x₅ x₆ x₇ x₈ : ℕ)
     → x₀ ≡ number b first-setting
@@ -54,13 +73,11 @@ unfolding config-of
 settings b x₀ x₁ x₂ x₃ x₄ x₅ x₆ x₇ x₈ e₀ e₁ e₂ e₃ e₄ e₅ e₆ e₇ e₈ =
     λ i. record { «active_view_capacity» = e₀ i; «passive_view_capacity» = e₁ i; «active_random_walk_length» = e₂ i; «passive_random_walk_length» = e₃ i; «shuffle_random_walk_length» = e₄ i; «shuffle_active_view_count» = e₅ i; «shuffle_passive_view_count» = e₆ i; «shuffle_interval» = e₇ i; «neighbor_request_timeout» = e₈ i }
 
-headed : (b : List ℕ) (low high me n at d : ℕ) (config : Config) → low ≡ number b self-low → high ≡ number b self-high → me ≡ from-halves low high
-    → config ≡ config-of b → n ≡ number b event-count → at ≡ number b draw-offset → d ≡ number b draw-count
-    → record { me = me; config = config; events = n; «draws_at» = at; draws = d } ≡ input-head b
+headed : (b : List ℕ) (low high n end d : ℕ) (config : Config) → low ≡ number b self-low → high ≡ number b self-high
+    → config ≡ config-of b → n ≡ number b event-count → end ≡ number b draw-offset → d ≡ number b draw-count
+    → record { me = from-halves low high; config = config; events = n; «draws_at» = end; draws = d } ≡ input-head b
 unfolding input-head
-headed b low high me n at d config l h e₀ e₁ e₂ e₃ e₄ =
-    let m : me ≡ from-halves (number b self-low) (number b self-high) = e₀ ∙ (λ i. from-halves (l i) (h i)) in
-    λ i. record { me = m i; config = e₁ i; events = e₂ i; «draws_at» = e₃ i; draws = e₄ i }
+headed b low high n end d config l h e₁ e₂ e₃ e₄ = λ i. record { me = from-halves (l i) (h i); config = e₁ i; events = e₂ i; «draws_at» = e₃ i; draws = e₄ i }
 
 number-requires : tie.Need-number-requires
 number-requires c κs = search needs
@@ -71,8 +88,8 @@ cast-start c = search needs
 number-requires-2 : tie.Need-number-requires-2
 number-requires-2 c κs = search needs
 
-cast-at : tie.Need-cast-at
-cast-at c = search needs
+cast-draws-at : tie.Need-cast-draws-at
+cast-draws-at c = search needs
 
 number-requires-3 : tie.Need-number-requires-3
 number-requires-3 c κs = search needs
@@ -80,63 +97,51 @@ number-requires-3 c κs = search needs
 cast-draws : tie.Need-cast-draws
 cast-draws c = search needs
 
-mul-placed : tie.Need-mul-placed
-mul-placed c = search needs
+mul-if1 : tie.Need-mul-if1
+mul-if1 c = search needs
 
-add-placed : tie.Need-add-placed
-add-placed c = search needs
-
-events-ok-requires : tie.Need-events-ok-requires
-events-ok-requires c κs =
-    placed-ok _ _ _ _ (c .before .before .before .number .ensures) (c .before .before .number2 .ensures) (c .before .number3 .ensures) (c .if1 .taken)
+add-if1 : tie.Need-add-if1
+add-if1 c = search needs
 
 number-requires-4 : tie.Need-number-requires-4
 number-requires-4 c κs = search needs
 
-add-number : tie.Need-add-number
-add-number c = search needs
+cast-events : tie.Need-cast-events
+cast-events c = search needs
+
+sub-are-events : tie.Need-sub-are-events
+sub-are-events c = search (from, needs)
+
+part-are-events-start : tie.Need-part-are-events-start
+part-are-events-start c = search (from, needs)
+
+part-are-events-end : tie.Need-part-are-events-end
+part-are-events-end c =
+    upto _ _ _ _ (c .before .before .before .before .number .ensures) (c .before .before .before .number2 .ensures) (c .before .before .number3 .ensures) (c .before .if1 .taken)
+
+are-events-requires : tie.Need-are-events-requires
+are-events-requires c κs = search needs
 
 number-requires-5 : tie.Need-number-requires-5
 number-requires-5 c κs = search needs
 
-add-number-2 : tie.Need-add-number-2
-add-number-2 c = search needs
-
 number-requires-6 : tie.Need-number-requires-6
 number-requires-6 c κs = search needs
-
-add-number-3 : tie.Need-add-number-3
-add-number-3 c = search needs
 
 number-requires-7 : tie.Need-number-requires-7
 number-requires-7 c κs = search needs
 
-add-number-4 : tie.Need-add-number-4
-add-number-4 c = search needs
-
 number-requires-8 : tie.Need-number-requires-8
 number-requires-8 c κs = search needs
-
-add-number-5 : tie.Need-add-number-5
-add-number-5 c = search needs
 
 number-requires-9 : tie.Need-number-requires-9
 number-requires-9 c κs = search needs
 
-add-number-6 : tie.Need-add-number-6
-add-number-6 c = search needs
-
 number-requires-10 : tie.Need-number-requires-10
 number-requires-10 c κs = search needs
 
-add-number-7 : tie.Need-add-number-7
-add-number-7 c = search needs
-
 number-requires-11 : tie.Need-number-requires-11
 number-requires-11 c κs = search needs
-
-add-number-8 : tie.Need-add-number-8
-add-number-8 c = search needs
 
 number-requires-12 : tie.Need-number-requires-12
 number-requires-12 c κs = search needs
@@ -147,14 +152,20 @@ number-requires-13 c κs = search needs
 number-requires-14 : tie.Need-number-requires-14
 number-requires-14 c κs = search needs
 
-from-halves-requires : tie.Need-from-halves-requires
-from-halves-requires c κs = search needs
+cast-low : tie.Need-cast-low
+cast-low c = search needs
 
 number-requires-15 : tie.Need-number-requires-15
 number-requires-15 c κs = search needs
 
-cast-t38 : tie.Need-cast-t38
-cast-t38 c = search needs
+cast-high : tie.Need-cast-high
+cast-high c = search needs
+
+mul-t37 : tie.Need-mul-t37
+mul-t37 c = search needs
+
+add-t38 : tie.Need-add-t38
+add-t38 c = search needs
 
 returns : tie.Need-returns
 returns c = search (whole, headed, settings)
@@ -172,34 +183,32 @@ read-input-spec =
     number-requires
     cast-start
     number-requires-2
-    cast-at
+    cast-draws-at
     number-requires-3
     cast-draws
-    mul-placed
-    add-placed
-    events-ok-requires
+    mul-if1
+    add-if1
     number-requires-4
-    add-number
+    cast-events
+    sub-are-events
+    part-are-events-start
+    part-are-events-end
+    are-events-requires
     number-requires-5
-    add-number-2
     number-requires-6
-    add-number-3
     number-requires-7
-    add-number-4
     number-requires-8
-    add-number-5
     number-requires-9
-    add-number-6
     number-requires-10
-    add-number-7
     number-requires-11
-    add-number-8
     number-requires-12
     number-requires-13
     number-requires-14
-    from-halves-requires
+    cast-low
     number-requires-15
-    cast-t38
+    cast-high
+    mul-t37
+    add-t38
     returns
     returns-2
     returns-3)
