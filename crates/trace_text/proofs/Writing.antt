@@ -1,14 +1,14 @@
 -- Loops that write a text piece by piece: bytes in hex, and the records of an output.
 -- Assumes nothing.
-use Prim.Native.Nat.{ℕ, suc, _+_, _-_, _/_, _%_, min, _≤_, _<_}
+use Prim.Native.Nat.{ℕ, suc, _+_, _*_, _-_, _/_, _%_, _≤_, _<_}
 use mathlib.Core.Path.{_≡_, refl, sym, ap, _∙_}
 use mathlib.Core.Bool.{Bool, cond}
 use mathlib.Core.List.{List, [], _∷_, _++_, append-nil, append-assoc}
 use native.Mathlib.Omega.{arith}
-use lib.ListN.{length, take, drop, getD, drop-of-length-le}
-use lib.Seq.{take-all, length-take-le, drop-cons, getD-take}
-use lib.Dec.{leb}
-use borrow.Author.Tests.{lt-ltb, le-ltb, leb-true, leb-false}
+use lib.ListN.{length, take, drop, getD, length-take, drop-of-length-le}
+use lib.Seq.{drop-cons, getD-take}
+use lib.Dec.{ltb}
+use borrow.Author.Tests.{ltb-true, ltb-false}
 use Rattle.lists.proofs.Choice.{split}
 use Rattle.io.specs.Digits.{glyph}
 use Rattle.record.specs.declared.Header.{Header}
@@ -45,48 +45,47 @@ module _ {whole : List ℕ} {t : Text} {out : List ℕ} {r : Text} {o rest : Lis
 
 -- ---- bytes in hex
 
-pub digit-low : (d : ℕ) → d < 10 → 48 + d ≡ glyph d
-digit-low d h = ap (λ (b : Bool). cond b (48 + d) (87 + d)) (sym (lt-ltb d 10 h))
+-- a digit past 9 stands 39 further on
+digit : (d : ℕ) → d < 16 → 48 + d + 39 * (d / 10) ≡ glyph d
+digit d h =
+    split (ltb d 10) (λ y. let l = ltb-true d 10 y in let e : 48 + d + 39 * (d / 10) ≡ 48 + d = omega (arith, l) in e ∙ ap (λ (b : Bool). cond b (48 + d) (87 + d)) (sym y))
+    (λ n. let l = ltb-false d 10 n in let e : 48 + d + 39 * (d / 10) ≡ 87 + d = omega (arith, l, h) in e ∙ ap (λ (b : Bool). cond b (48 + d) (87 + d)) (sym n))
 
-pub digit-high : (d : ℕ) → 10 ≤ d → 97 + (d - 10) ≡ glyph d
-digit-high d h = let e : 97 + (d - 10) ≡ 87 + d = omega (arith, h) in e ∙ ap (λ (b : Bool). cond b (48 + d) (87 + d)) (sym (le-ltb d 10 h))
+-- i of the first n of the bytes s are written
+pub record Hexing (s : List ℕ) (n : ℕ) (t : Text) (out : List ℕ) (r : Text) (o : List ℕ) (i : ℕ) : Type 0 where
+  pub within : i ≤ length s
+  pub text : Writing (hex (take n s)) t out r o (hex (drop i (take n s)))
 
--- the first n of the bytes, or all where there are fewer
-taken-least : (n k : ℕ) (l : List ℕ) → k ≡ min n (length l) → take k l ≡ take n l
-taken-least n k l e =
-    split (leb n (length l)) (λ y. let h = leb-true n (length l) y in let q : k ≡ n = omega (arith, e, h) in ap (λ (j : ℕ). take j l) q)
-    (λ f. let h = leb-false n (length l) f in let q : length l ≤ k = omega (arith, e, h) in let p : length l ≤ n = omega (arith, h) in take-all k l q ∙ sym (take-all n l p))
+pub hex-start : (s : List ℕ) (n : ℕ) (t : Text) (out : List ℕ) → Hexing s n t out t out 0
+hex-start s n t out = record { within = omega arith; text = writing-start (hex (take n s)) t out }
 
--- i of the first k of the bytes s are written
-pub record Hexing (s : List ℕ) (k : ℕ) (t : Text) (out : List ℕ) (r : Text) (o : List ℕ) (i : ℕ) : Type 0 where
-  pub within : i ≤ k
-  pub inside : k ≤ length s
-  pub text : Writing (hex (take k s)) t out r o (hex (drop i (take k s)))
-
-pub hex-start : (s : List ℕ) (n k : ℕ) (t : Text) (out : List ℕ) → k ≡ min n (length s) → Hexing s k t out t out 0
-hex-start s n k t out e = record { within = omega arith; inside = omega (arith, e); text = writing-start (hex (take k s)) t out }
-
-module _ (s : List ℕ) (k : ℕ) (t : Text) (out : List ℕ) (r : Text) (o : List ℕ) (i : ℕ) (v : Hexing s k t out r o i) where
-  two-digits : i < k → hex (drop i (take k s)) ≡ (glyph (getD s i 0 / 16 % 16) ∷ glyph (getD s i 0 % 16) ∷ []) ++ hex (drop (i + 1) (take k s))
+module _ (s : List ℕ) (n : ℕ) (t : Text) (out : List ℕ) (r : Text) (o : List ℕ) (i : ℕ) (v : Hexing s n t out r o i) where
+  two-digits : i < length s → i < n → hex (drop i (take n s)) ≡ (glyph (getD s i 0 / 16 % 16) ∷ glyph (getD s i 0 % 16) ∷ []) ++ hex (drop (i + 1) (take n s))
   unfolding hex
-  two-digits h =
+  two-digits h l =
       let e : suc i ≡ i + 1 = omega arith in
-      ap hex (drop-cons (take k s) i 0 (omega (arith, h, length-take-le k s (v .inside))) ∙ (λ j. getD-take k s i 0 h j ∷ drop (e j) (take k s)))
+      ap hex (drop-cons (take n s) i 0 (omega (arith, h, l, length-take n s)) ∙ (λ j. getD-take n s i 0 l j ∷ drop (e j) (take n s)))
 
-  pub hex-next : (y z : ℕ) (a : Text) (o₁ : List ℕ) (b : Text) (o₂ : List ℕ) → i < k → y ≡ glyph (getD s i 0 / 16 % 16) → z ≡ glyph (getD s i 0 % 16)
-      → Puts (z ∷ []) a o₁ b o₂ → Puts (y ∷ []) r o a o₁ → length o₂ ≡ length o → Hexing s k t out b o₂ (i + 1)
-  hex-next y z a o₁ b o₂ h e f p₂ p₁ q = record {
-    within = omega (arith, h);
-    inside = v .inside;
-    text = writing-next (v .text) _ (hex (drop (i + 1) (take k s))) (two-digits h ∙ (λ j. (sym e j ∷ sym f j ∷ []) ++ hex (drop (i + 1) (take k s)))) (then p₂ p₁) q;
-  }
+  pub hex-next : (y z : ℕ) (a : Text) (o₁ : List ℕ) (b : Text) (o₂ : List ℕ) → i < length s → i < n
+      → y ≡ 48 + getD s i 0 / 16 % 16 + 39 * (getD s i 0 / 16 % 16 / 10) → z ≡ 48 + getD s i 0 % 16 + 39 * (getD s i 0 % 16 / 10)
+      → Puts (z ∷ []) a o₁ b o₂ → Puts (y ∷ []) r o a o₁ → length o₂ ≡ length o → Hexing s n t out b o₂ (i + 1)
+  hex-next y z a o₁ b o₂ h l e f p₂ p₁ q =
+      let high : glyph (getD s i 0 / 16 % 16) ≡ y = sym (e ∙ digit (getD s i 0 / 16 % 16) (omega arith)) in
+      let low : glyph (getD s i 0 % 16) ≡ z = sym (f ∙ digit (getD s i 0 % 16) (omega arith)) in
+      record {
+        within = omega (arith, h);
+        text = writing-next (v .text) (y ∷ z ∷ []) (hex (drop (i + 1) (take n s))) (two-digits h l ∙ (λ j. (high j ∷ low j ∷ []) ++ hex (drop (i + 1) (take n s)))) (then p₂ p₁) q;
+      }
 
-  pub hex-end : (n : ℕ) → k ≤ i → k ≡ min n (length s) → Puts (hex (take n s)) t out r o
+  hex-over : length (take n s) ≤ i → Puts (hex (take n s)) t out r o
   unfolding hex
-  hex-end n h e = named (ap hex (taken-least n k s e)) (writing-end (v .text) (ap hex (let q : length (take k s) ≤ i = omega (arith, h, length-take-le k s (v .inside)) in drop-of-length-le (take k s) q)))
+  hex-over h = writing-end (v .text) (ap hex (drop-of-length-le (take n s) h))
 
-pub same-front : (n : ℕ) (b c : List ℕ) (t r : Text) (out o : List ℕ) → b ≡ c → Puts (hex (take n b)) t out r o → Puts (hex (take n c)) t out r o
-same-front n b c t r out o e p = named (ap (λ (x : List ℕ). hex (take n x)) e) p
+  pub hex-enough : n ≤ i → Puts (hex (take n s)) t out r o
+  hex-enough h = hex-over (omega (arith, h, length-take n s))
+
+  pub hex-end : length s ≤ i → Puts (hex (take n s)) t out r o
+  hex-end h = hex-over (omega (arith, h, length-take n s))
 
 -- ---- the records of an output
 

@@ -1,3 +1,4 @@
 pub mod Hex
 pub mod Items
+pub mod Fields
 pub mod Event
