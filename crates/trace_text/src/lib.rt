@@ -11,7 +11,7 @@ ghost use Rattle.state.specs.Unpack.{own-at, limit-at};
 ghost use Rattle.run_text.specs.Text.{Puts};
 ghost use Rattle.trace_text.specs.Hex.{hex, hex-lines};
 ghost use Rattle.trace_text.specs.Fields.{InWords, field-at};
-ghost use Rattle.trace_text.specs.Event.{own-field, refill-field, state-line, trace-event};
+ghost use Rattle.trace_text.specs.Event.{own-field, refill-field, trace-event};
 
 // ---- bytes in hex
 
@@ -167,37 +167,6 @@ fn put_limit(out: &mut [u8], t: Text, st: &[u64]) -> Text
     run_text::put(out, t, b'V')
 }
 
-// The line of a state.
-fn put_state(out: &mut [u8], t: Text, st: &[u64]) -> Text
-    requires { ⌜ length (now st) ≡ words ⌝ }
-    ensures { λ r. ⌜ Puts (state-line (now (st .entry))) t (now (out .entry)) r (now (out .exit)) ⌝ }
-{
-    let mut r = t;
-    let mut i: usize = 0;
-    let mut k: usize = 0;
-    while i < STATE_LINE.len() {
-        let x = STATE_LINE[i];
-        i += 1;
-        match x {
-            b'O' => r = put_own(out, r, st),
-            b'L' => r = put_limit(out, r, st),
-            b'0'..=b'4' => {
-                r = put_items(
-                    out,
-                    r,
-                    st,
-                    (x - b'0') as usize,
-                    FIELD_PLACES[k],
-                    FIELD_ROOMS[k],
-                );
-                k += 1;
-            }
-            _ => r = run_text::put(out, r, x),
-        }
-    }
-    r
-}
-
 // One event: its output records, its code with the draws used, and the state.
 pub fn put_trace_event(
     out: &mut [u8],
@@ -211,5 +180,29 @@ pub fn put_trace_event(
 {
     let mut r = put_record_lines(out, t, records);
     r = run_text::put_end(out, r, code, draws as u64);
-    put_state(out, r, st)
+    // The line of the state.
+    let words: &[u64] = st;
+    let mut i: usize = 0;
+    let mut k: usize = 0;
+    while i < STATE_LINE.len() {
+        let x = STATE_LINE[i];
+        i += 1;
+        match x {
+            b'O' => r = put_own(out, r, words),
+            b'L' => r = put_limit(out, r, words),
+            b'0'..=b'4' => {
+                r = put_items(
+                    out,
+                    r,
+                    words,
+                    (x - b'0') as usize,
+                    FIELD_PLACES[k],
+                    FIELD_ROOMS[k],
+                );
+                k += 1;
+            }
+            _ => r = run_text::put(out, r, x),
+        }
+    }
+    r
 }
