@@ -20,7 +20,7 @@ ghost use Rattle.protocol.specs.Run.{on, draw, draw-one-of, draw-shuffle, requi
 ghost use Rattle.protocol.specs.Setters.{set-refill};
 ghost use Rattle.protocol.specs.Messages.{drop-join, drop-request, drop-pending};
 ghost use Rattle.protocol.specs.Station.{is-me, in-active, in-passive, is-alone, active-is-full, is-short, is-last-hop};
-ghost use Rattle.protocol.specs.Station.{is-recovery, is-spent, is-requested};
+ghost use Rattle.protocol.specs.Station.{is-recovery, is-requested};
 ghost use Rattle.protocol.specs.Refill.{few-requests, unless-recovery};
 ghost use Rattle.state.specs.Layout.{words, all-places};
 ghost use Rattle.state.specs.Unpack.{unpack, own-at, limit-at, refill-in, PackedState, Becomes};
@@ -241,17 +241,6 @@ impl RefillLimit {
             RefillLimit::Automatic => false,
             RefillLimit::Requests(_) => false,
             RefillLimit::Recovery => true,
-        }
-    }
-
-    // Whether no request is left.
-    pub fn is_spent(self) -> bool
-        ensures { λ r. ⌜ r ≡ is-spent (refill-in self) ⌝ }
-    {
-        match self {
-            RefillLimit::Automatic => false,
-            RefillLimit::Requests(n) => n == 0,
-            RefillLimit::Recovery => false,
         }
     }
 
