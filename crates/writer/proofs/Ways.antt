@@ -19,7 +19,7 @@ use Rattle.peer.proofs.Data.{bytes-in}
 use Rattle.record.specs.Format.{Rec, peer-length, header-length, node-length, entry, entries, entries-by, datas, size, size-by, header, header-by, encode, encode-by}
 use Rattle.record.proofs.Format.{length-entries, length-header}
 use Rattle.writer.specs.Nodes.{nodes-in, ValidNodes}
-use Rattle.writer.specs.Write.{rec-in, header-bytes, fits, written, reached, Wrote, Headed}
+use Rattle.writer.specs.Write.{rec-in, header-bytes, fits, written, reached, Wrote, HeaderPut}
 use Rattle.writer.specs.declared.Nodes.{Nodes}
 use Rattle.writer.specs.declared.Fields.{Fields}
 use Rattle.writer.specs.declared.Written.{Written}
@@ -59,15 +59,15 @@ header-put f n z at out o₁ o₂ o₃ o₄ o₅ o₆ e₆ e₅ e₄ e₃ e₂ e
 -- ---- the header of a record that fits, or not
 
 module _ (f : Fields) (n z at : ℕ) (out : List ℕ) where
-  pub headed-past : header-length ≤ z → length out < at → Headed f n z at out Full out
+  pub headed-past : header-length ≤ z → length out < at → HeaderPut f n z at out Full out
   unfolding choose
   headed-past k h = let q : leb (at + z) (length out) ≡ false = lt-leb (at + z) (length out) (omega arith) in record { answer = rw q; bytes = rw q }
 
-  pub headed-full : at ≤ length out → length out - at < z → Headed f n z at out Full out
+  pub headed-full : at ≤ length out → length out - at < z → HeaderPut f n z at out Full out
   unfolding choose
   headed-full k h = let q : leb (at + z) (length out) ≡ false = lt-leb (at + z) (length out) (omega arith) in record { answer = rw q; bytes = rw q }
 
-  pub headed : at ≤ length out → z ≤ length out - at → (o : List ℕ) → o ≡ overwrite out at (header-bytes f n z) → Headed f n z at out (At (at + z)) o
+  pub headed : at ≤ length out → z ≤ length out - at → (o : List ℕ) → o ≡ overwrite out at (header-bytes f n z) → HeaderPut f n z at out (At (at + z)) o
   unfolding choose
   headed k h o e = let q : leb (at + z) (length out) ≡ true = le-leb (at + z) (length out) (omega arith) in record { answer = rw q; bytes = e ∙ rw q }
 
@@ -85,7 +85,7 @@ unfolding nodes-in
 length-nodes s v = length-map (take (s .len) (s .items)) node-in ∙ length-take-le (s .len) (s .items) (omega (arith, v .fits, long-items s v))
 
 -- a record of n nodes and z bytes, whose header was answered with r
-module _ (f : Fields) (ns : List Node) (n z at : ℕ) (out : List ℕ) (r : Written) (o : List ℕ) (p : n ≡ length ns) (k : z ≡ header-length + (node-length * n + length (datas ns))) (a : Headed f n z at out r o) where
+module _ (f : Fields) (ns : List Node) (n z at : ℕ) (out : List ℕ) (r : Written) (o : List ℕ) (p : n ≡ length ns) (k : z ≡ header-length + (node-length * n + length (datas ns))) (a : HeaderPut f n z at out r o) where
   size-is : size (rec-in f ns) ≡ z
   unfolding size-by rec-in
   size-is = omega (arith, k, p)
@@ -126,7 +126,7 @@ module _ (f : Fields) (ns : List Node) (n z at : ℕ) (out : List ℕ) (r : Writ
 
 -- ---- the records of no node and of one
 
-pub done-bare : (f : Fields) (at : ℕ) (out : List ℕ) (r : Written) (o : List ℕ) → Headed f 0 header-length at out r o → Wrote (rec-in f []) at out r o
+pub done-bare : (f : Fields) (at : ℕ) (out : List ℕ) (r : Written) (o : List ℕ) → HeaderPut f 0 header-length at out r o → Wrote (rec-in f []) at out r o
 unfolding datas entries-by overwrite
 done-bare f at out r o a = go r refl where
   go : (s : Written) → r ≡ s → Wrote (rec-in f []) at out r o
@@ -137,7 +137,7 @@ done-bare f at out r o a = go r refl where
 abbrev fixed : ℕ
 fixed = header-length + node-length
 
-module _ (f : Fields) (p : PeerInfo) (v : ValidData (p .data)) (at : ℕ) (out : List ℕ) (r : Written) (o : List ℕ) (a : Headed f 1 (fixed + p .data .len) at out r o) where
+module _ (f : Fields) (p : PeerInfo) (v : ValidData (p .data)) (at : ℕ) (out : List ℕ) (r : Written) (o : List ℕ) (a : HeaderPut f 1 (fixed + p .data .len) at out r o) where
   abbrev one : List Node
   one = node-in p ∷ []
 

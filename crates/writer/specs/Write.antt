@@ -51,6 +51,6 @@ pub record Wrote (e : Rec) (at : ℕ) (out : List ℕ) (r : Written) (after : Li
   pub bytes : after ≡ written e at out
 
 -- what the header of a record of n nodes and z bytes is answered with, and what became of the bytes `out`: the whole record has to fit
-pub record Headed (f : Fields) (n z at : ℕ) (out : List ℕ) (r : Written) (after : List ℕ) : Type 0 where
+pub record HeaderPut (f : Fields) (n z at : ℕ) (out : List ℕ) (r : Written) (after : List ℕ) : Type 0 where
   pub answer : r ≡ choose (leb (at + z) (length out)) (At (at + z)) Full
   pub bytes : after ≡ choose (leb (at + z) (length out)) (overwrite out at (header-bytes f n z)) out

@@ -16,7 +16,7 @@ ghost use Rattle.lists.specs.Bytes.{le, overwrite};
 ghost use Rattle.peer.specs.Held.{node-in, ValidData};
 ghost use Rattle.record.specs.Format.{most-nodes, header-length, node-length, entry};
 ghost use Rattle.writer.specs.Nodes.{nodes-in, ValidNodes, HoldsNodes};
-ghost use Rattle.writer.specs.Write.{rec-in, Wrote, Headed};
+ghost use Rattle.writer.specs.Write.{rec-in, Wrote, HeaderPut};
 
 // Where a header's numbers stand in it.
 const SECOND_FROM: usize = PEER_FROM + PEER;
@@ -140,7 +140,7 @@ fn put_node(out: &mut [u8], at: usize, i: usize, p: PeerInfo, reached: usize)
 // The header of a record of so many nodes and so many bytes, from place `at` on, and the place after the record; nothing is touched where it does not fit.
 fn put_header(out: &mut [u8], at: usize, f: Fields, nodes: u8, size: u16) -> Written
     requires { ⌜ header-length ≤ size ⌝ }
-    ensures { λ r. ⌜ Headed f nodes size at (now (out .entry)) r (now (out .exit)) ⌝ }
+    ensures { λ r. ⌜ HeaderPut f nodes size at (now (out .entry)) r (now (out .exit)) ⌝ }
 {
     let whole = size as usize;
     if out.len() < at {
