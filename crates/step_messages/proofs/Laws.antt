@@ -8,9 +8,9 @@ use mathlib.Core.Option.{Option}
 use native.Mathlib.Omega.{arith}
 use lib.ListN.{length, take, drop, getD}
 use lib.Dec.{eqb, ltb}
-use borrow.Author.Tests.{eq-eqb, ne-eqb}
+use borrow.Author.Tests.{eq-eqb, ne-eqb, eqb-true, eqb-false}
 use Rattle.lists.specs.Lists.{mem, without, insert}
-use Rattle.lists.proofs.Choice.{by-choice, choose-yes, choose-no}
+use Rattle.lists.proofs.Choice.{split, by-choice, choose-yes, choose-no, and-left, and-right, clash}
 use Rattle.util.specs.Chances.{pick}
 use Rattle.peer.specs.Data.{Node}
 use Rattle.peer.specs.Held.{data-in, node-in}
@@ -39,7 +39,7 @@ use Rattle.state.specs.Work.{Held, work-of, run, Changes, ChangesAny, DrawsAny,
 use Rattle.state.proofs.Access.{of-refused, of-settings}
 use Rattle.state.proofs.Any.{drew-none-of, then-draw-any, then-tell-any}
 use Rattle.step_sending.proofs.Sets.{lent-items}
-use Rattle.state.proofs.Bridge.{unchanged, change-by, change-then, change-yes, change-no, tell-then, require-said, by, still, then, then-tell, seq, taken, left, holds-at}
+use Rattle.state.proofs.Bridge.{on-passed, unchanged, change-by, change-then, change-yes, change-no, tell-then, require-said, by, still, then, then-tell, seq, taken, left, holds-at}
 use Rattle.step_active.specs.Sane.{FreeMark}
 
 -- ---- joins that are forwarded
@@ -147,13 +147,27 @@ neighbor-refused w a r ds out o p k₂ k₁ = then k₂ k₁
 -- ---- disconnects
 
 module _ (w : Held) (p : ℕ) (alive : Bool) where
-  pub recent-kept : PackedState (w .state) → alive ≡ true → Changes (forget-recent p alive) w w
-  unfolding forget-recent
-  recent-kept v h = unchanged (forget-recent p alive) v (λ ds out. choose-yes _ _ _ h)
-
-  pub recent-dropped : (r : Held) → alive ≡ false → Changes (on (drop-recent p)) w r → Changes (forget-recent p alive) w r
+  recent-dropped : (r : Held) → alive ≡ false → Changes (on (drop-recent p)) w r → Changes (forget-recent p alive) w r
   unfolding forget-recent
   recent-dropped r h k = change-by _ (λ ds out. choose-no _ _ _ h) k
+
+  -- what the test said: p went away for good, and the run goes on
+  pub recent-code : (not alive && eqb (w .code) 0) ≡ true → w .code ≡ 0
+  recent-code h = eqb-true _ _ (and-right (not alive) _ h)
+
+  pub recent-gone : (r : Held) → (not alive && eqb (w .code) 0) ≡ true → Changes (on (drop-recent p)) w r → Changes (forget-recent p alive) w r
+  recent-gone r h k = recent-dropped r (split alive (λ t. clash (not alive) (and-left (not alive) _ h) (ap not t)) (λ t. t)) k
+
+  pub recent-kept : PackedState (w .state) → (not alive && eqb (w .code) 0) ≡ false → Changes (forget-recent p alive) w w
+  unfolding forget-recent
+  recent-kept v h =
+      split alive
+      (λ t. unchanged (forget-recent p alive) v (λ ds out. choose-yes _ _ _ t))
+      (λ t. recent-dropped w t (on-passed w v (drop-recent p) (eqb-false _ _ (sym (ap (λ (b : Bool). not b && eqb (w .code) 0) t) ∙ h))))
+
+-- the same words
+pub words-as : (f : Run → Run) (w : Held) (a : Work) (xs ys : List ℕ) → ys ≡ xs → Changes f w (work-of a xs) → Changes f w (work-of a ys)
+words-as f w a xs ys e k = subst (λ (l : List ℕ). Changes f w (work-of a l)) (sym e) k
 
 pub fits-known : (xs : List ℕ) (p n : ℕ) (a : Bool) → n ≡ length (items-at 32 (refused-part xs)) → a ≡ mem p (items-at 32 (refused-part xs)) → (a || ltb n 32) ≡ refused-fits p (unpack xs)
 unfolding refused-fits unpack station-of

@@ -20,7 +20,7 @@ ghost use Rattle.protocol.specs.Budgets.{leaving, arriving};
 ghost use Rattle.protocol.specs.Run.{emit};
 ghost use Rattle.protocol.specs.Messages.{forward-join-to, learn-joiner, on-forward-join};
 ghost use Rattle.protocol.specs.Messages.{on-join, on-neighbor};
-ghost use Rattle.protocol.specs.Messages.{forget-recent, note-refusal};
+ghost use Rattle.protocol.specs.Messages.{note-refusal};
 ghost use Rattle.protocol.specs.Messages.{on-disconnect};
 ghost use Rattle.state.specs.Layout.{words, all-places, set-words};
 ghost use Rattle.state.specs.Unpack.{unpack, PackedState};
@@ -96,12 +96,12 @@ pub fn on_forward_join(
     let t = Ttl(ttl);
     if state::in_active(st, n.id) | (t.expired() | state::is_last_hop(st)) {
         // The walk ends here. Neighbor to the one who joins; it enters the active view once it answers.
-        let a = step_peers::insert_peer_info(w, st, out, n.id, n.data);
-        return step_sending::send_neighbor(a, st, out, n.id, true);
+        let told = step_peers::insert_peer_info(w, st, out, n.id, n.data);
+        return step_sending::send_neighbor(told, st, out, n.id, true);
     }
-    let a = learn_joiner(w, st, draws, out, n, ttl);
+    let learned = learn_joiner(w, st, draws, out, n, ttl);
     if state::is_requested(st, n.id) {
-        return a;
+        return learned;
     }
     // It goes on to one of the other neighbors. There is one (`never-unreachable`): of none the definition picks 0.
     let mut v = [0u64; Layout::SET];
@@ -109,30 +109,14 @@ pub fn on_forward_join(
     let k = util::count(&v, Layout::ALL);
     let left = t.next();
     if k == 0 {
-        return forward_join_to(a, out, n, left.0, 0);
+        return forward_join_to(learned, out, n, left.0, 0);
     }
-    let c = state::choose(a, draws, k);
-    let q = util::get_index(&v, Layout::ALL, c.index);
-    forward_join_to(c.work, out, n, left.0, q)
+    let chosen = state::choose(learned, draws, k);
+    let q = util::get_index(&v, Layout::ALL, chosen.index);
+    forward_join_to(chosen.work, out, n, left.0, q)
 }
 
 // ---- Disconnect
-
-// Whoever went away for good cannot let the station in again, so it is not kept for a rejoin.
-fn forget_recent(w: Work, st: &mut [u64], p: PeerId, alive: bool) -> Work
-    requires { ⌜ length (now st) ≡ words ⌝ }
-    requires { ⌜ PackedState (now st) ⌝ }
-    ensures { λ r. ⌜ Changes (forget-recent p alive) (work-of w (now (st .entry))) (work-of r (now (st .exit))) ⌝ }
-{
-    if alive {
-        return w;
-    }
-    if w.code != 0 {
-        return w;
-    }
-    util::without(&mut st[Layout::RECENT..Layout::RECENT_END], Layout::FEW, p);
-    w
-}
 
 // p refused a request, where one was open; code 7 where a 33rd refused peer would be needed.
 fn note_refusal(w: Work, st: &mut [u64], p: PeerId, requested: bool) -> Work
@@ -172,27 +156,30 @@ pub fn on_disconnect(
     ensures { λ r. ⌜ Does (work-of r (now (st .exit))) (now (draws .entry)) (now (out .exit)) (on-disconnect p alive (run (work-of w (now (st .entry))) (now (draws .entry)) (now (out .entry)))) ⌝ }
 {
     let requested = state::is_requested(st, p);
-    // Neither a join nor a request to p is open, and it is no recent neighbor unless it is alive.
-    let a = state::drop_join(w, st, p);
-    let b = forget_recent(a, st, p, alive);
-    let e = state::drop_request(b, st, p);
+    // Neither a join nor a request to p is open; and whoever went away for good cannot let the station in again, so it is not kept for a rejoin.
+    let closed = state::drop_join(w, st, p);
+    if !alive & (closed.code == 0) {
+        util::without(&mut st[Layout::RECENT..Layout::RECENT_END], Layout::FEW, p);
+    }
+    let ended = state::drop_request(closed, st, p);
     if state::in_active(st, p) {
-        return step_active::remove_active(e, st, draws, out, p, Loss::DisconnectReceived(alive));
+        let loss = Loss::DisconnectReceived(alive);
+        return step_active::remove_active(ended, st, draws, out, p, loss);
     }
     if alive {
-        let f = note_refusal(e, st, p, requested);
+        let noted = note_refusal(ended, st, p, requested);
         // A passive peer that disconnected alive is marked.
         if state::in_passive(st, p) {
-            return step_active::mark_alive(f, st, p);
+            return step_active::mark_alive(noted, st, p);
         }
-        return f;
+        return noted;
     }
     // p left the topic, so it is no longer asked; another is asked in its place where a request to it was open.
-    let f = step_peers::drop_passive(e, st, p);
+    let dropped = step_peers::drop_passive(ended, st, p);
     if requested {
-        return step_refill::refill_active_from_passive(f, st, draws, out, &[p]);
+        return step_refill::refill_active_from_passive(dropped, st, draws, out, &[p]);
     }
-    f
+    dropped
 }
 
 // ---- Join and Neighbor
