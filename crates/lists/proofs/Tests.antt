@@ -106,9 +106,6 @@ abbrev pub Every : {A : Type 0} → (A → Bool) → ℕ → List A → Bool
 Every t i l = every t l
 
 module _ {A : Type 0} (t : A → Bool) (d : A) (N : ℕ) where
-  pub every-first : (l : List A) (n : ℕ) → n ≤ N → length l ≡ N → Rest (Every t) N l n (every t (take n l)) 0 0
-  every-first l n h e = record { low = omega arith; top = h; long = e; same = refl }
-
   pub every-from : (l : List A) (k : ℕ) → k ≤ N → length l ≡ N → Rest (Every t) N l N (every t (drop k l)) k k
   every-from l k h e = record { low = h; top = omega arith; long = e; same = ap (λ (m : List A). every t (drop k m)) (sym (take-all N l (omega arith))) }
 
@@ -120,13 +117,6 @@ module _ {A : Type 0} (t : A → Bool) (d : A) (N : ℕ) where
     pub every-next : i < n → t (getD l i d) ≡ true → Rest (Every t) N l n whole (i + 1) (i + 1)
     unfolding every
     every-next h e = rest-next d (Every t) v (i + 1) h (λ r. rw e)
-
-    -- the same, where the test is a call's answer
-    pub every-stop : (b : Bool) → b ≡ t (getD l i d) → b ≡ false → i < n → false ≡ whole
-    every-stop b q e h = every-no h (sym q ∙ e)
-
-    pub every-go : (b : Bool) → b ≡ t (getD l i d) → b ≡ true → i < n → Rest (Every t) N l n whole (i + 1) (i + 1)
-    every-go b q e h = every-next h (sym q ∙ e)
 
     pub every-end : n ≤ i → true ≡ whole
     unfolding every
