@@ -4,7 +4,7 @@ use peer::PeerData;
 use peer::PeerId;
 ghost use mathlib.Core.Path.{_≡_};
 ghost use mathlib.Core.Bool.{true, _||_};
-ghost use mathlib.Core.List.{[], _++_};
+ghost use mathlib.Core.List.{_++_};
 ghost use Prim.Native.Nat.{_+_, _≤_, _<_};
 ghost use lib.ListN.{length, take, drop};
 ghost use lib.Dec.{ltb};
@@ -172,7 +172,7 @@ pub fn numbers_valid(m: &[u64], cap: usize) -> bool
 
 // ---- a map of data: the peers, the lengths, the low words, the high words, and then the count
 
-pub fn count_data(m: &[u64], cap: usize) -> usize
+fn count_data(m: &[u64], cap: usize) -> usize
     requires { ⌜ ValidDataWords cap (now m) ⌝ }
     ensures { λ r. ⌜ (r ≡ length (data-map-at cap (now (m .entry)))) × (r ≤ cap) ⌝ }
 {

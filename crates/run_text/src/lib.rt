@@ -35,7 +35,7 @@ pub fn put(out: &mut [u8], t: Text, x: u8) -> Text
 }
 
 // These bytes, in order.
-pub fn put_bytes(out: &mut [u8], t: Text, s: &[u8]) -> Text
+fn put_bytes(out: &mut [u8], t: Text, s: &[u8]) -> Text
     ensures { λ r. ⌜ Puts (now (s .entry)) t (now (out .entry)) r (now (out .exit)) ⌝ }
 {
     let mut r = t;
