@@ -26,6 +26,9 @@ pub const SHORT: usize = 2;
 
 pub const BOTH_SHORT: usize = 2 * SHORT;
 
+// The bytes of a number of 32 bits: in the input of the run program, and in those of the tests.
+pub const U32_BYTES: usize = 4;
+
 // The bytes of a header's number.
 pub const NUMBER_BYTES: usize = 8;
 
@@ -226,7 +229,7 @@ fn read_entry(b: &[u8], at: usize, w: usize) -> Entry
         id: read_number(b, at, w),
         offset: read_number(b, at + w, SHORT) as u16,
         len: b[at + (w + SHORT)],
-        present: b[at + (w + 3)],
+        present: b[at + (w + SHORT + 1)],
     }
 }
 

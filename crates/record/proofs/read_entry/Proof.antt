@@ -1,6 +1,7 @@
 use Prim.Native.Nat.{ℕ, _+_}
 use mathlib.Core.Path.{_≡_}
 use mathlib.Core.List.{List}
+use native.Mathlib.Omega.{arith}
 use lib.ListN.{getD}
 use Rattle.lists.specs.Bytes.{read-le}
 use Rattle.record.specs.Read.{entry-from}
@@ -10,9 +11,11 @@ use Rattle.record.proofs.read_entry.Statement.{statement}
 use Rattle.record.proofs.read_entry.Tie as tie
 
 read : (w : ℕ) (b : List ℕ) (at id offset : ℕ) → id ≡ read-le w b at → offset ≡ read-le 2 b (at + w)
-    → record { id = id; offset = offset; len = getD b (at + (w + 2)) 0; present = getD b (at + (w + 3)) 0 } ≡ entry-from w b at
+    → record { id = id; offset = offset; len = getD b (at + (w + 2)) 0; present = getD b (at + (w + 2 + 1)) 0 } ≡ entry-from w b at
 unfolding entry-from
-read w b at id offset p q = rw (p, q)
+read w b at id offset p q =
+    let e : w + 2 + 1 ≡ w + 3 = omega arith in
+    λ i. record { id = p i; offset = q i; len = getD b (at + (w + 2)) 0; present = getD b (at + e i) 0 }
 
 read-number-requires : tie.Need-read-number-requires
 read-number-requires c κs = (form-most _ (search needs), search needs)
@@ -41,8 +44,11 @@ add-t12 c = search needs
 add-t13 : tie.Need-add-t13
 add-t13 c = search needs
 
-shared-slice-read-t15 : tie.Need-shared-slice-read-t15
-shared-slice-read-t15 c = search needs
+add-t14 : tie.Need-add-t14
+add-t14 c = search needs
+
+shared-slice-read-t16 : tie.Need-shared-slice-read-t16
+shared-slice-read-t16 c = search needs
 
 returns : tie.Need-returns
 returns c = read _ _ _ _ _ (c .before .before .before .read-number .ensures .0) (c .before .before .read-number2 .ensures .0)
@@ -60,5 +66,6 @@ read-entry-spec =
     shared-slice-read-t11
     add-t12
     add-t13
-    shared-slice-read-t15
+    add-t14
+    shared-slice-read-t16
     returns)
