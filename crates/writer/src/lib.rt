@@ -113,7 +113,7 @@ pub fn put_number(out: &mut [u8], at: usize, x: u64, k: usize)
     }
 }
 
-// The i-th node of the record at place `at`: its entry, and its data at the place that they have reached in the record.
+// The i-th node of the record at place `at`: its entry, and its data at the place `reached` of the record.
 fn put_node(out: &mut [u8], at: usize, i: usize, p: PeerInfo, reached: usize)
     requires { ⌜ ValidData (p .data) ⌝ }
     requires { ⌜ i < most-nodes ⌝ }
