@@ -20,8 +20,8 @@ fn show_cases(s: &[u8]) {
         if left < 5 {
             return;
         }
-        let room = record::read_number(s, at + 1, 2) as usize;
-        let size = record::read_number(s, at + 3, 2) as usize;
+        let room = record::read_number(s, at + 1, record::SHORT) as usize;
+        let size = record::read_number(s, at + 3, record::SHORT) as usize;
         if left - 5 < size {
             return;
         }
@@ -85,7 +85,7 @@ fn cleared(s: &[u8]) -> bool {
 fn show_hex(s: &[u8]) {
     let mut i: usize = 0;
     while i < s.len() {
-        io::print_hex(1, record::read_number(s, i, 1), 2);
+        io::print_hex(1, s[i] as u64, 2);
         i += 1;
     }
     io::write_all(1, b"\n");

@@ -18,7 +18,7 @@ fn show_records(s: &[u8]) {
         if left < 2 {
             return;
         }
-        let size = record::read_number(s, at, 2) as usize;
+        let size = record::read_number(s, at, record::SHORT) as usize;
         if left - 2 < size {
             return;
         }
@@ -81,7 +81,7 @@ fn show_nodes(b: &[u8], h: Header)
 fn show_data(s: &[u8]) {
     let mut i: usize = 0;
     while i < s.len() {
-        word(record::read_number(s, i, 1));
+        word(s[i] as u64);
         i += 1;
     }
 }

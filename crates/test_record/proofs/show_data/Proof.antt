@@ -1,5 +1,6 @@
 -- The measure is what is left.
 use Prim.Native.Nat.{_≤_, _-_}
+use native.Mathlib.Omega.{arith}
 use lib.ListN.{length}
 use borrow.Author.Needs.{needs}
 use Rattle.test_record.proofs.show_data.Statement.{statement}
@@ -14,8 +15,11 @@ abbrev μ-loop : tie.MeasureT-loop
 loop-holds : tie.Need-loop-holds Inv-loop μ-loop
 loop-holds c = search needs
 
-read-number-requires : tie.Need-read-number-requires Inv-loop μ-loop
-read-number-requires c κs = search needs
+shared-slice-read-word : tie.Need-shared-slice-read-word Inv-loop μ-loop
+shared-slice-read-word c = search needs
+
+cast-word : tie.Need-cast-word Inv-loop μ-loop
+cast-word c = omega (arith, c .shared-slice-known2 .given (c .before .before .loop .i))
 
 word-requires : tie.Need-word-requires Inv-loop μ-loop
 word-requires c κs = search needs
@@ -39,7 +43,8 @@ show-data-spec =
     Inv-loop
     μ-loop
     loop-holds
-    read-number-requires
+    shared-slice-read-word
+    cast-word
     word-requires
     add-i
     loop-less
