@@ -10,7 +10,7 @@ ghost use Rattle.run_input.specs.Input.{number, numbers, from-halves, ev
 pub const MOST_BYTES: usize = 65536;
 
 // The draws of four bytes that would fill one, more than any has.
-pub const DRAWS_ROOM: usize = MOST_BYTES / 4;
+pub const DRAWS_ROOM: usize = MOST_BYTES / record::U32_BYTES;
 
 // What the head of an input says: self, the settings, how many events there are, the place where they end and the draws begin, and how many draws there are.
 pub struct Head {
@@ -67,8 +67,8 @@ pub enum Input {
 pub fn number(b: &[u8], i: usize) -> u32
     ensures { λ r. ⌜ r ≡ number (now (b .entry)) i ⌝ }
 {
-    if i < b.len() / 4 {
-        return record::read_number(b, 4 * i, 4) as u32;
+    if i < b.len() / record::U32_BYTES {
+        return record::read_number(b, record::U32_BYTES * i, record::U32_BYTES) as u32;
     }
     0
 }
@@ -134,7 +134,7 @@ pub fn read_input(b: &[u8]) -> Input
     if (Head::BYTES <= size)
         & ((size <= MOST_BYTES)
             & ((start == Head::BYTES)
-                & ((Head::BYTES <= draws_at) & (draws_at + 4 * draws == size))))
+                & ((Head::BYTES <= draws_at) & (draws_at + record::U32_BYTES * draws == size))))
     {
         let events = number(b, Head::EVENT_COUNT) as usize;
         if are_events(&b[Head::BYTES..draws_at], events) {
@@ -149,10 +149,10 @@ pub fn read_input(b: &[u8]) -> Input
                 shuffle_interval: number(b, Head::SHUFFLE_INTERVAL),
                 neighbor_request_timeout: number(b, Head::NEIGHBOR_REQUEST_TIMEOUT),
             };
-            let low = number(b, Head::SELF_LOW) as u64;
-            let high = number(b, Head::SELF_HIGH) as u64;
+            let low = number(b, Head::SELF_LOW);
+            let high = number(b, Head::SELF_HIGH);
             return Input::Whole(Head {
-                me: low + record::FOUR_BYTES_END * high,
+                me: from_halves(low, high),
                 config: config,
                 events: events,
                 draws_at: draws_at,

@@ -73,11 +73,13 @@ unfolding config-of
 settings b x₀ x₁ x₂ x₃ x₄ x₅ x₆ x₇ x₈ e₀ e₁ e₂ e₃ e₄ e₅ e₆ e₇ e₈ =
     λ i. record { «active_view_capacity» = e₀ i; «passive_view_capacity» = e₁ i; «active_random_walk_length» = e₂ i; «passive_random_walk_length» = e₃ i; «shuffle_random_walk_length» = e₄ i; «shuffle_active_view_count» = e₅ i; «shuffle_passive_view_count» = e₆ i; «shuffle_interval» = e₇ i; «neighbor_request_timeout» = e₈ i }
 
-headed : (b : List ℕ) (low high n end d : ℕ) (config : Config) → low ≡ number b self-low → high ≡ number b self-high
+headed : (b : List ℕ) (low high me n end d : ℕ) (config : Config) → low ≡ number b self-low → high ≡ number b self-high → me ≡ from-halves low high
     → config ≡ config-of b → n ≡ number b event-count → end ≡ number b draw-offset → d ≡ number b draw-count
-    → record { me = from-halves low high; config = config; events = n; «draws_at» = end; draws = d } ≡ input-head b
+    → record { me = me; config = config; events = n; «draws_at» = end; draws = d } ≡ input-head b
 unfolding input-head
-headed b low high n end d config l h e₁ e₂ e₃ e₄ = λ i. record { me = from-halves (l i) (h i); config = e₁ i; events = e₂ i; «draws_at» = e₃ i; draws = e₄ i }
+headed b low high me n end d config l h m e₁ e₂ e₃ e₄ =
+    let own : me ≡ from-halves (number b self-low) (number b self-high) = m ∙ (λ i. from-halves (l i) (h i)) in
+    λ i. record { me = own i; config = e₁ i; events = e₂ i; «draws_at» = e₃ i; draws = e₄ i }
 
 number-requires : tie.Need-number-requires
 number-requires c κs = search needs
@@ -152,20 +154,11 @@ number-requires-13 c κs = search needs
 number-requires-14 : tie.Need-number-requires-14
 number-requires-14 c κs = search needs
 
-cast-low : tie.Need-cast-low
-cast-low c = search needs
-
 number-requires-15 : tie.Need-number-requires-15
 number-requires-15 c κs = search needs
 
-cast-high : tie.Need-cast-high
-cast-high c = search needs
-
-mul-t37 : tie.Need-mul-t37
-mul-t37 c = search needs
-
-add-t38 : tie.Need-add-t38
-add-t38 c = search needs
+from-halves-requires : tie.Need-from-halves-requires
+from-halves-requires c κs = search needs
 
 returns : tie.Need-returns
 returns c = search (whole, headed, settings)
@@ -204,11 +197,8 @@ read-input-spec =
     number-requires-12
     number-requires-13
     number-requires-14
-    cast-low
     number-requires-15
-    cast-high
-    mul-t37
-    add-t38
+    from-halves-requires
     returns
     returns-2
     returns-3)
