@@ -49,8 +49,8 @@ fn show_tallies(s: &[u8]) {
     };
     let mut rest = s;
     while HEAD <= rest.len() {
-        let size = record::read_number(rest, 0, 4) as usize;
-        let code = record::read_number(rest, CODE, 4) as u32;
+        let size = record::read_number(rest, 0, record::U32_BYTES) as usize;
+        let code = record::read_number(rest, CODE, record::U32_BYTES) as u32;
         if rest.len() - HEAD < size {
             cut_off();
             return;
