@@ -55,13 +55,13 @@ fn show_insert(q: &mut [u64], b: &[u8])
 {
     let id = Id(0, 0, 0, 0);
     let item = Timer {
-        kind: record::read_number(b, KIND, 8),
-        peer: record::read_number(b, PEER_AT, 8),
-        number: record::read_number(b, NUMBER, 8),
+        kind: record::read_number(b, KIND, record::NUMBER_BYTES),
+        peer: record::read_number(b, PEER_AT, record::NUMBER_BYTES),
+        number: record::read_number(b, NUMBER, record::NUMBER_BYTES),
         id: id,
     };
-    let time = record::read_number(b, TIME, 8);
-    let delay = record::read_number(b, DELAY, 8);
+    let time = record::read_number(b, TIME, record::NUMBER_BYTES);
+    let delay = record::read_number(b, DELAY, record::NUMBER_BYTES);
     let code = timer_map::timer_map_insert(q, time, delay, item);
     let line = [INSERT, code as u64];
     show_line(&line);
@@ -110,10 +110,10 @@ fn show_event(q: &mut [u64], limit: u64) {
         p.code as u64,
         mark(p.found),
         p.time,
-        record::read_number(out, 0, 8),
-        record::read_number(out, 8, 8),
-        record::read_number(out, 16, 8),
-        record::read_number(out, 24, 8),
+        record::read_number(out, 0, record::NUMBER_BYTES),
+        record::read_number(out, 8, record::NUMBER_BYTES),
+        record::read_number(out, 16, record::NUMBER_BYTES),
+        record::read_number(out, 24, record::NUMBER_BYTES),
     ];
     show_line(&line);
 }
@@ -127,8 +127,8 @@ fn show_new(q: &mut [u64], what: u64) {
 fn call(q: &mut [u64], b: &[u8])
     requires { ⌜ length (now b) ≡ timer-call-bytes ⌝ }
 {
-    let what = record::read_number(b, 0, 8);
-    let time = record::read_number(b, TIME, 8);
+    let what = record::read_number(b, 0, record::NUMBER_BYTES);
+    let time = record::read_number(b, TIME, record::NUMBER_BYTES);
     if what == INSERT {
         show_insert(q, b);
         return;
