@@ -17,14 +17,14 @@ fn next_history(bytes: &mut [u8]) -> bool {
     if bytes.len() < size {
         return false;
     }
-    let request_low = run_input::number(head, 2) as u64;
-    let request_high = run_input::number(head, 3) as u64;
-    let join_low = run_input::number(head, 4) as u64;
-    let join_high = run_input::number(head, 5) as u64;
+    let request_low = run_input::number(head, 2);
+    let request_high = run_input::number(head, 3);
+    let join_low = run_input::number(head, 4);
+    let join_high = run_input::number(head, 5);
     let start = TraceStart {
         room: run_input::number(head, 1) as usize,
-        next_neighbor_request: request_low + record::FOUR_BYTES_END * request_high,
-        next_join: join_low + record::FOUR_BYTES_END * join_high,
+        next_neighbor_request: run_input::from_halves(request_low, request_high),
+        next_join: run_input::from_halves(join_low, join_high),
         passes_alone: run_input::number(head, 6),
         passes_short: run_input::number(head, 7),
     };

@@ -24,26 +24,14 @@ returns-2 c = search needs
 number-requires-2 : tie.Need-number-requires-2
 number-requires-2 c κs = search needs
 
-cast-request-low : tie.Need-cast-request-low
-cast-request-low c = search needs
-
 number-requires-3 : tie.Need-number-requires-3
 number-requires-3 c κs = search needs
-
-cast-request-high : tie.Need-cast-request-high
-cast-request-high c = search needs
 
 number-requires-4 : tie.Need-number-requires-4
 number-requires-4 c κs = search needs
 
-cast-join-low : tie.Need-cast-join-low
-cast-join-low c = search needs
-
 number-requires-5 : tie.Need-number-requires-5
 number-requires-5 c κs = search needs
-
-cast-join-high : tie.Need-cast-join-high
-cast-join-high c = search needs
 
 number-requires-6 : tie.Need-number-requires-6
 number-requires-6 c κs = search needs
@@ -51,17 +39,11 @@ number-requires-6 c κs = search needs
 cast-t17 : tie.Need-cast-t17
 cast-t17 c = search needs
 
-mul-t32 : tie.Need-mul-t32
-mul-t32 c = search needs
+from-halves-requires : tie.Need-from-halves-requires
+from-halves-requires c κs = search needs
 
-add-t33 : tie.Need-add-t33
-add-t33 c = search needs
-
-mul-t34 : tie.Need-mul-t34
-mul-t34 c = search needs
-
-add-t35 : tie.Need-add-t35
-add-t35 c = search needs
+from-halves-requires-2 : tie.Need-from-halves-requires-2
+from-halves-requires-2 c κs = search needs
 
 number-requires-7 : tie.Need-number-requires-7
 number-requires-7 c κs = search needs
@@ -110,19 +92,13 @@ next-history-spec =
     cast-size
     returns-2
     number-requires-2
-    cast-request-low
     number-requires-3
-    cast-request-high
     number-requires-4
-    cast-join-low
     number-requires-5
-    cast-join-high
     number-requires-6
     cast-t17
-    mul-t32
-    add-t33
-    mul-t34
-    add-t35
+    from-halves-requires
+    from-halves-requires-2
     number-requires-7
     number-requires-8
     slice-relend-prefix-input
