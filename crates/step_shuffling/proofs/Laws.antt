@@ -19,16 +19,16 @@ use Rattle.timing.specs.Timing.{next, expired}
 use Rattle.writer.specs.declared.Nodes.{Nodes}
 use Rattle.writer.specs.Nodes.{nodes-in, HoldsNodes}
 use Rattle.writer.specs.Write.{rec-in}
-use Rattle.protocol.specs.Station.{Station, is-requested, is-short, is-last-hop}
+use Rattle.protocol.specs.Station.{Station, Refill, is-requested, is-short, is-last-hop}
 use Rattle.protocol.specs.Run.{emit, to-draw, one-of, draw-one-of, picked, message}
 use Rattle.protocol.specs.Peers.{add-nodes, any-new}
 use Rattle.protocol.specs.Sending.{send-shuffle-reply}
-use Rattle.protocol.specs.Refill.{start-refill, refill-active-from-passive}
+use Rattle.protocol.specs.Refill.{few-requests, start-refill, refill-active-from-passive}
 use Rattle.protocol.specs.Messages.{answers-shuffle, answer-shuffle, forward-shuffle, on-shuffle, stops-at-refusal, renews-limit, refill-with, after-reply, on-shuffle-reply}
 use Rattle.state.specs.declared.Work.{Work}
 use Rattle.state.specs.Work.{work-of, run, DrawsAny, TellsAny, Fine, Does}
 use Rattle.state.specs.Layout.{refill-kind, refill-requests, active-part}
-use Rattle.state.specs.declared.RefillLimit.the-variants.{Requests}
+use Rattle.state.specs.declared.RefillLimit.{RefillLimit}
 use Rattle.state.specs.Unpack.{unpack, station-of, refill-in}
 use Rattle.state.proofs.Bridge.{by, still, seq-at, taken, left, holds-at, at-run}
 use Rattle.state.proofs.Limits.{says-spent}
@@ -108,10 +108,10 @@ unfolding renews-limit
 renews-known xs p a new x = λ i. not (x i) && (new && says-spent xs i)
 
 module _ (w r : Work) (xs ys ds out o : List ℕ) (renewed : Bool) where
-  pub refilled-few : renewed ≡ true → Does (work-of r ys) ds o (start-refill (refill-in (Requests 3)) [] (run (work-of w xs) ds out))
+  pub refilled-few : (limit : RefillLimit) → renewed ≡ true → refill-in limit ≡ few-requests → Does (work-of r ys) ds o (start-refill (refill-in limit) [] (run (work-of w xs) ds out))
       → Does (work-of r ys) ds o (refill-with renewed (run (work-of w xs) ds out))
-  unfolding refill-with refill-in
-  refilled-few h d = taken _ _ h d
+  unfolding refill-with
+  refilled-few limit h e d = taken _ _ h (by _ (ap (λ (l : Refill). start-refill l [] (run (work-of w xs) ds out)) (sym e)) d)
 
   pub refilled-same : renewed ≡ false → Does (work-of r ys) ds o (refill-active-from-passive [] (run (work-of w xs) ds out)) → Does (work-of r ys) ds o (refill-with renewed (run (work-of w xs) ds out))
   unfolding refill-with

@@ -5,7 +5,6 @@ use record::Message;
 use state::Layout;
 use state::RefillLimit;
 use state::Work;
-use timing::Timing;
 use timing::Ttl;
 use writer::Fields;
 use writer::Nodes;
@@ -165,7 +164,7 @@ pub fn on_shuffle_reply(
             & ((st[Layout::REFILL_KIND] == RefillLimit::REQUESTS_LEFT)
                 & (st[Layout::REFILL_REQUESTS] == 0)))
     {
-        let few = RefillLimit::Requests(Timing::MAX_REQUESTS_PER_REFILL as u64);
+        let few = RefillLimit::few_requests();
         return step_refill::start_refill(t.work, st, draws, out, few, &none);
     }
     step_refill::refill_active_from_passive(t.work, st, draws, out, &none)

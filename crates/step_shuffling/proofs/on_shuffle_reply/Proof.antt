@@ -47,15 +47,15 @@ slice-read-if2 c = search needs
 slice-read-if2-2 : tie.Need-slice-read-if2-2
 slice-read-if2-2 c = search needs
 
-cast-t30 : tie.Need-cast-t30
-cast-t30 c = search needs
+few-requests-requires : tie.Need-few-requests-requires
+few-requests-requires c κs = search needs
 
 slice-aggregate-start-refill : tie.Need-slice-aggregate-start-refill
 slice-aggregate-start-refill c = search needs
 
 start-refill-requires : tie.Need-start-refill-requires
 start-refill-requires c κs =
-    let at-add-nodes = is-requested-to-add-nodes (else1-to-is-requested (then2-to-else1 (c .before .before .before))) in
+    let at-add-nodes = is-requested-to-add-nodes (else1-to-is-requested (then2-to-else1 (c .before .before .before .before))) in
     (search (needs, at-add-nodes .add-nodes .kept, add-nodes-to-start at-add-nodes .pre .0), at-add-nodes .add-nodes .ensures .0 .fine)
 
 same-length-3 : tie.Need-same-length-3
@@ -67,13 +67,13 @@ same-length-4 c = search needs
 returns-2 : tie.Need-returns-2
 returns-2 c =
     let at-start-refill = c .before .before .before .before in
-    let then2 = at-start-refill .before .before .before .before in
+    let then2 = at-start-refill .before .before .before .before .before in
     let else1 = then2-to-else1 then2 in
     let at-is-requested = else1-to-is-requested else1 in
     let at-add-nodes = is-requested-to-add-nodes at-is-requested in
     let requested = at-is-requested .is-requested .ensures in
     let stops = stops-known _ _ _ _ requested (else1 .before .is-short .ensures) in
-    let refilled = refilled-few _ _ _ _ _ _ _ _ (then2 .if2 .taken) (at-start-refill .start-refill .ensures) in
+    let refilled = refilled-few _ _ _ _ _ _ _ _ _ (then2 .if2 .taken) (at-start-refill .before .before .before .before .few-requests .ensures) (at-start-refill .start-refill .ensures) in
     reply-taken _ _ _ _ _ _ _ _ _ _ _ _ _ (at-add-nodes .add-nodes .ensures .1) (reply-refilled _ _ _ _ _ _ _ stops _ _ _ _ (else1 .if1 .left) (renews-known _ _ _ _ requested) refilled) (at-add-nodes .add-nodes .ensures .0)
 
 slice-aggregate-refill-active-from-passive : tie.Need-slice-aggregate-refill-active-from-passive
@@ -114,7 +114,7 @@ on-shuffle-reply-spec =
     returns
     slice-read-if2
     slice-read-if2-2
-    cast-t30
+    few-requests-requires
     slice-aggregate-start-refill
     start-refill-requires
     same-length-3
