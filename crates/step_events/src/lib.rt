@@ -29,7 +29,7 @@ fn push_bootstrap(w: Work, st: &mut [u64], p: PeerId) -> Work
     if w.code != 0 {
         return w;
     }
-    // How many bootstrap peers there are but p, and the oldest of them.
+    // p is taken out: how many are left, and the oldest of them.
     util::without(
         &mut st[Layout::BOOTSTRAP..Layout::BOOTSTRAP_END],
         Layout::FEW,
@@ -43,6 +43,7 @@ fn push_bootstrap(w: Work, st: &mut [u64], p: PeerId) -> Work
         Timing::MAX_BOOTSTRAP_PEERS,
         p,
     );
+    // A ninth: the oldest has left, and its open join goes with it.
     if n < Timing::MAX_BOOTSTRAP_PEERS as u64 {
         return w;
     }
@@ -173,6 +174,7 @@ pub fn handle_quit(w: Work, st: &mut [u64], draws: &[u32], out: &mut [u8]) -> Wo
         return r;
     }
     // Nothing is held of other peers any more: no passive view, marks, refusals and requests, and no data.
+    // Both runs of zeroes rest on the order of `Layout`: those four stand side by side, and the data held stands last.
     util::clear_from(&mut st[Layout::PASSIVE..Layout::ASKED_END], 0);
     util::clear_from(st, Layout::HELD);
     r
