@@ -29,27 +29,27 @@ fn pass_alone(w: Work, st: &mut [u64], draws: &[u32], out: &mut [u8]) -> Work
     let passes = n + 1;
     st[Layout::PASSES_ALONE] = passes;
     if timing::backoff_due(passes as u32) {
-        // The recent neighbors that are no bootstrap peers.
-        let mut v = [0u64; Layout::SET];
-        util::copy_into(&st[Layout::RECENT..Layout::RECENT_END], Layout::FEW, &mut v);
-        let bootstrap = &st[Layout::BOOTSTRAP..Layout::BOOTSTRAP_END];
-        util::without_all(&mut v, Layout::ALL, bootstrap, Layout::FEW);
+        // The recent neighbors that are no bootstrap peers: one of them, where there is one, gets a Join last.
+        let mut recent = [0u64; Layout::SET];
+        let shared = &*st;
+        let neighbors = &shared[Layout::RECENT..Layout::RECENT_END];
+        util::copy_into(neighbors, Layout::FEW, &mut recent);
+        let bootstrap = &shared[Layout::BOOTSTRAP..Layout::BOOTSTRAP_END];
+        util::without_all(&mut recent, Layout::ALL, bootstrap, Layout::FEW);
         // Join to each bootstrap peer, in order.
-        let k = util::count(&st[Layout::BOOTSTRAP..Layout::BOOTSTRAP_END], Layout::FEW);
+        let k = util::count(bootstrap, Layout::FEW);
         let mut i: usize = 0;
         while i < k {
-            let bootstrap = &st[Layout::BOOTSTRAP..Layout::BOOTSTRAP_END];
             let p = util::get_index(bootstrap, Layout::FEW, i);
             i += 1;
-            a = step_sending::join(a, st, out, p);
+            a = step_sending::join(a, shared, out, p);
         }
-        // One of the others, where there is one.
-        let others = util::count(&v, Layout::ALL);
+        let others = util::count(&recent, Layout::ALL);
         if others == 0 {
             return a;
         }
         let c = state::choose(a, draws, others);
-        let p = util::get_index(&v, Layout::ALL, c.index);
+        let p = util::get_index(&recent, Layout::ALL, c.index);
         return step_sending::join(c.work, st, out, p);
     }
     a

@@ -17,10 +17,10 @@ use Rattle.step_maintenance.proofs.pass_alone.Statement.{statement}
 use Rattle.step_maintenance.proofs.pass_alone.Tie as tie
 
 abbrev Inv-loop : tie.InvT-loop
-Inv-loop st draws out₀ n a₀ passes v k i₀ out a i = Joining st a₀ out₀ k out a i
+Inv-loop draws out₀ n a₀ passes recent shared bootstrap k i₀ out a i = Joining shared a₀ out₀ k out a i
 
 abbrev μ-loop : tie.MeasureT-loop
-μ-loop st draws out₀ n a₀ passes v k i₀ out a i = k - i
+μ-loop draws out₀ n a₀ passes recent shared bootstrap k i₀ out a i = k - i
 
 -- What pass_alone was given.
 fine : (c : tie.Start Inv-loop μ-loop) → Fine (work-of (c .args .w) (c .args .st .now)) (c .args .draws .now) (c .args .out .now)
@@ -37,10 +37,10 @@ abbrev copy-into-to-backoff-due : tie.After-copy-into Inv-loop μ-loop → tie.A
 copy-into-to-backoff-due c = c .before .before .before .before .before
 
 abbrev without-all-to-copy-into : tie.After-without-all Inv-loop μ-loop → tie.After-copy-into Inv-loop μ-loop
-without-all-to-copy-into c = c .before .before .before .before .before
+without-all-to-copy-into c = c .before .before .before .before
 
 abbrev count-to-without-all : tie.After-count Inv-loop μ-loop → tie.After-without-all Inv-loop μ-loop
-count-to-without-all c = c .before .before .before .before
+count-to-without-all c = c .before .before
 
 abbrev count-to-else1 : tie.After-count Inv-loop μ-loop → tie.Else1 Inv-loop μ-loop
 count-to-else1 c = backoff-due-to-else1 (copy-into-to-backoff-due (without-all-to-copy-into (count-to-without-all c)))
@@ -94,14 +94,14 @@ cast-backoff-due c = record { fits = omega (arith, alone-left _ _ _ (else1-to-st
 backoff-due-requires : tie.Need-backoff-due-requires Inv-loop μ-loop
 backoff-due-requires c κs = search needs
 
-sub-copy-into : tie.Need-sub-copy-into Inv-loop μ-loop
-sub-copy-into c = search needs
+sub-neighbors : tie.Need-sub-neighbors Inv-loop μ-loop
+sub-neighbors c = search needs
 
-part-copy-into-start : tie.Need-part-copy-into-start Inv-loop μ-loop
-part-copy-into-start c = search needs
+part-neighbors-start : tie.Need-part-neighbors-start Inv-loop μ-loop
+part-neighbors-start c = search needs
 
-part-copy-into-end : tie.Need-part-copy-into-end Inv-loop μ-loop
-part-copy-into-end c = omega (arith, long (backoff-due-to-else1 (c .before .before)))
+part-neighbors-end : tie.Need-part-neighbors-end Inv-loop μ-loop
+part-neighbors-end c = omega (arith, long (backoff-due-to-else1 (c .before .before)))
 
 slice-aggregate-copy-into : tie.Need-slice-aggregate-copy-into Inv-loop μ-loop
 slice-aggregate-copy-into c = search needs
@@ -117,7 +117,7 @@ part-bootstrap-start : tie.Need-part-bootstrap-start Inv-loop μ-loop
 part-bootstrap-start c = search needs
 
 part-bootstrap-end : tie.Need-part-bootstrap-end Inv-loop μ-loop
-part-bootstrap-end c = omega (arith, long (backoff-due-to-else1 (copy-into-to-backoff-due (c .before .before))))
+part-bootstrap-end c = omega (arith, long (backoff-due-to-else1 (copy-into-to-backoff-due (c .before))))
 
 slice-aggregate-without-all : tie.Need-slice-aggregate-without-all Inv-loop μ-loop
 slice-aggregate-without-all c = search needs
@@ -125,47 +125,29 @@ slice-aggregate-without-all c = search needs
 without-all-requires : tie.Need-without-all-requires Inv-loop μ-loop
 unfolding part
 without-all-requires c κs =
-    let at-copy-into = c .before .before .before .before in
+    let at-copy-into = c .before .before .before in
     (at-copy-into .copy-into .ensures .valid, of-bootstrap _ (fine-counted (backoff-due-to-else1 (copy-into-to-backoff-due at-copy-into)) .ready .packed))
-
-sub-count : tie.Need-sub-count Inv-loop μ-loop
-sub-count c = search needs
-
-part-count-start : tie.Need-part-count-start Inv-loop μ-loop
-part-count-start c = search needs
-
-part-count-end : tie.Need-part-count-end Inv-loop μ-loop
-part-count-end c = omega (arith, long (backoff-due-to-else1 (copy-into-to-backoff-due (without-all-to-copy-into (c .before .before)))))
 
 count-requires : tie.Need-count-requires Inv-loop μ-loop
 unfolding part
-count-requires c κs = of-bootstrap _ (fine-counted (backoff-due-to-else1 (copy-into-to-backoff-due (without-all-to-copy-into (c .before .before .before)))) .ready .packed)
+count-requires c κs = of-bootstrap _ (fine-counted (backoff-due-to-else1 (copy-into-to-backoff-due (without-all-to-copy-into (c .before)))) .ready .packed)
 
 loop-holds : tie.Need-loop-holds Inv-loop μ-loop
 unfolding part
 loop-holds c = joins-start _ _ _ _ (room-of _ _ _ (fine-counted (count-to-else1 c))) (c .count .ensures .0)
 
-sub-bootstrap-2 : tie.Need-sub-bootstrap-2 Inv-loop μ-loop
-sub-bootstrap-2 c = search needs
-
-part-bootstrap-start-2 : tie.Need-part-bootstrap-start-2 Inv-loop μ-loop
-part-bootstrap-start-2 c = search needs
-
-part-bootstrap-end-2 : tie.Need-part-bootstrap-end-2 Inv-loop μ-loop
-part-bootstrap-end-2 c = omega (arith, long (count-to-else1 (c .before .before .before)))
-
 get-index-requires : tie.Need-get-index-requires Inv-loop μ-loop
 unfolding part
 get-index-requires c κs =
-    let at-loop = c .before .before .before in
-    (of-bootstrap _ (at-loop .loop .inv .room .packed), joins-below _ _ _ _ _ _ _ (at-loop .loop .inv) (c .before .before .loop-test .taken))
+    let at-loop = c .before in
+    (of-bootstrap _ (at-loop .loop .inv .room .packed), joins-below _ _ _ _ _ _ _ (at-loop .loop .inv) (c .loop-test .taken))
 
 add-i : tie.Need-add-i Inv-loop μ-loop
 add-i c = search needs
 
 join-requires : tie.Need-join-requires Inv-loop μ-loop
 join-requires c κs =
-    let at-loop = c .before .before .before .before .before .before in
+    let at-loop = c .before .before .before in
     (long (count-to-else1 (at-loop .before)), at-loop .loop .inv .room)
 
 loop-less : tie.Need-loop-less Inv-loop μ-loop
@@ -270,9 +252,9 @@ pass-alone-spec =
     slice-write-st
     cast-backoff-due
     backoff-due-requires
-    sub-copy-into
-    part-copy-into-start
-    part-copy-into-end
+    sub-neighbors
+    part-neighbors-start
+    part-neighbors-end
     slice-aggregate-copy-into
     copy-into-requires
     sub-bootstrap
@@ -280,14 +262,8 @@ pass-alone-spec =
     part-bootstrap-end
     slice-aggregate-without-all
     without-all-requires
-    sub-count
-    part-count-start
-    part-count-end
     count-requires
     loop-holds
-    sub-bootstrap-2
-    part-bootstrap-start-2
-    part-bootstrap-end-2
     get-index-requires
     add-i
     join-requires
