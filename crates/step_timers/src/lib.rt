@@ -95,26 +95,26 @@ fn shuffle_any(w: Work, st: &[u64], draws: &[u32], out: &mut [u8]) -> Work
     ensures { λ r. ⌜ Does (work-of r (now (st .entry))) (now (draws .entry)) (now (out .exit)) (shuffle-any (run (work-of w (now (st .entry))) (now (draws .entry)) (now (out .entry)))) ⌝ }
 {
     let active = &st[Layout::ACTIVE..Layout::ACTIVE_END];
-    let k = util::count(active, Layout::FEW);
-    if k == 0 {
+    let neighbors = util::count(active, Layout::FEW);
+    if neighbors == 0 {
         return w;
     }
-    let t = state::choose(w, draws, k);
-    let to = util::get_index(active, Layout::FEW, t.index);
-    let mut v = [0u64; Layout::SET];
-    util::copy_into(active, Layout::FEW, &mut v);
-    util::without(&mut v, Layout::ALL, to);
+    let chosen = state::choose(w, draws, neighbors);
+    let to = util::get_index(active, Layout::FEW, chosen.index);
+    let mut named_peers = [0u64; Layout::SET];
+    util::copy_into(active, Layout::FEW, &mut named_peers);
+    util::without(&mut named_peers, Layout::ALL, to);
     let few = st[Layout::SHUFFLE_ACTIVE_VIEW_COUNT] as usize;
-    let a = step_sending::shuffle_and_cap(t.work, draws, few, &mut v);
+    let a = step_sending::shuffle_and_cap(chosen.work, draws, few, &mut named_peers);
     let passive = &st[Layout::PASSIVE..Layout::PASSIVE_END];
     let mut more = [0u64; Layout::SET];
     util::copy_into(passive, Layout::ALL, &mut more);
     util::without(&mut more, Layout::ALL, to);
     let many = st[Layout::SHUFFLE_PASSIVE_VIEW_COUNT] as usize;
     let b = step_sending::shuffle_and_cap(a, draws, many, &mut more);
-    util::append(&mut v, Layout::ALL, &more, Layout::ALL);
-    let n = util::count(&v, Layout::ALL);
-    let named = step_sending::peer_infos(st, &v[..n]);
+    util::append(&mut named_peers, Layout::ALL, &more, Layout::ALL);
+    let n = util::count(&named_peers, Layout::ALL);
+    let named = step_sending::peer_infos(st, &named_peers[..n]);
     let me = st[Layout::ME];
     let own = state::own_data(st);
     let f = Fields {

@@ -190,8 +190,8 @@ slice-aggregate-count c = search needs
 count-requires-2 : tie.Need-count-requires-2
 count-requires-2 c κs = search needs
 
-array-share-prefix-v : tie.Need-array-share-prefix-v
-array-share-prefix-v c = search needs
+array-share-prefix-named-peers : tie.Need-array-share-prefix-named-peers
+array-share-prefix-named-peers c = search needs
 
 slice-aggregate-peer-infos : tie.Need-slice-aggregate-peer-infos
 slice-aggregate-peer-infos c =
@@ -289,7 +289,7 @@ shuffle-any-spec =
     append-requires
     slice-aggregate-count
     count-requires-2
-    array-share-prefix-v
+    array-share-prefix-named-peers
     slice-aggregate-peer-infos
     peer-infos-requires
     shared-slice-read-me
