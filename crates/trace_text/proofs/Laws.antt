@@ -3,7 +3,7 @@
 use Prim.Native.Nat.{ℕ}
 use mathlib.Core.Path.{_≡_, sym, ap, _∙_}
 use mathlib.Core.List.{List, [], _∷_}
-use lib.ListN.{take, drop}
+use lib.ListN.{length, take, drop}
 use borrow.Author.Tests.{eq-eqb, ne-eqb}
 use Rattle.lists.proofs.Choice.{choose-yes, choose-no}
 use Rattle.peer.specs.Held.{data-in}
@@ -24,29 +24,29 @@ use Rattle.trace_text.specs.Event.{own-field, refill-field, state-line, 
 -- ---- own data and the limit on refills
 
 module _ (xs : List ℕ) (t : Text) (o : List ℕ) where
-  pub own-none : (r : Text) (p : List ℕ) → (layout.own-present xs ≡ 1 → ⊥) → Puts (45 ∷ []) t o r p → Puts (drop 9 (own-field (data-in (own-at xs)))) t o r p
+  pub own-none : (r : Text) (p : List ℕ) → (layout.own-present xs ≡ 1 → ⊥) → Puts (45 ∷ []) t o r p → Puts (drop (length (ascii "state me=")) (own-field (data-in (own-at xs)))) t o r p
   unfolding own-field data-in own-at ascii
-  own-none r p h k = named (ap (λ (d : _). drop 9 (own-field d)) (sym (choose-no _ _ _ (ne-eqb (layout.own-present xs) 1 h)))) k
+  own-none r p h k = named (ap (λ (d : _). drop (length (ascii "state me=")) (own-field d)) (sym (choose-no _ _ _ (ne-eqb (layout.own-present xs) 1 h)))) k
 
   pub own-some : (a r : Text) (b o₁ p : List ℕ) → layout.own-present xs ≡ 1 → b ≡ word-bytes (layout.own-low xs) (layout.own-high xs) → Puts (hex (take (layout.own-len xs) b)) a o₁ r p
-      → Puts (120 ∷ []) t o a o₁ → Puts (drop 9 (own-field (data-in (own-at xs)))) t o r p
+      → Puts (120 ∷ []) t o a o₁ → Puts (drop (length (ascii "state me=")) (own-field (data-in (own-at xs)))) t o r p
   unfolding own-field data-in own-at ascii
   own-some a r b o₁ p h e k₂ k₁ =
-      named (ap (λ (c : List ℕ). 120 ∷ hex (take (layout.own-len xs) c)) e ∙ ap (λ (d : _). drop 9 (own-field d)) (sym (choose-yes _ _ _ (eq-eqb (layout.own-present xs) 1 h)))) (then k₂ k₁)
+      named (ap (λ (c : List ℕ). 120 ∷ hex (take (layout.own-len xs) c)) e ∙ ap (λ (d : _). drop (length (ascii "state me=")) (own-field d)) (sym (choose-yes _ _ _ (eq-eqb (layout.own-present xs) 1 h)))) (then k₂ k₁)
 
-  pub limit-automatic : (r : Text) (p : List ℕ) → layout.refill-kind xs ≡ 0 → Puts (65 ∷ []) t o r p → Puts (drop 8 (refill-field (limit-at xs))) t o r p
+  pub limit-automatic : (r : Text) (p : List ℕ) → layout.refill-kind xs ≡ 0 → Puts (65 ∷ []) t o r p → Puts (drop (length (ascii " refill=")) (refill-field (limit-at xs))) t o r p
   unfolding refill-field limit-at ascii
-  limit-automatic r p h k = named (ap (λ (l : RefillLimit). drop 8 (refill-field l)) (sym (choose-yes _ _ _ (eq-eqb (layout.refill-kind xs) 0 h)))) k
+  limit-automatic r p h k = named (ap (λ (l : RefillLimit). drop (length (ascii " refill=")) (refill-field l)) (sym (choose-yes _ _ _ (eq-eqb (layout.refill-kind xs) 0 h)))) k
 
   pub limit-requests : (a r : Text) (o₁ p : List ℕ) → (layout.refill-kind xs ≡ 0 → ⊥) → layout.refill-kind xs ≡ 1 → Puts (decimal (layout.refill-requests xs)) a o₁ r p → Puts (82 ∷ []) t o a o₁
-      → Puts (drop 8 (refill-field (limit-at xs))) t o r p
+      → Puts (drop (length (ascii " refill=")) (refill-field (limit-at xs))) t o r p
   unfolding refill-field limit-at ascii
   limit-requests a r o₁ p z h k₂ k₁ =
-      named (ap (λ (l : RefillLimit). drop 8 (refill-field l)) (sym (choose-no _ _ _ (ne-eqb (layout.refill-kind xs) 0 z) ∙ choose-yes _ _ _ (eq-eqb (layout.refill-kind xs) 1 h)))) (then k₂ k₁)
+      named (ap (λ (l : RefillLimit). drop (length (ascii " refill=")) (refill-field l)) (sym (choose-no _ _ _ (ne-eqb (layout.refill-kind xs) 0 z) ∙ choose-yes _ _ _ (eq-eqb (layout.refill-kind xs) 1 h)))) (then k₂ k₁)
 
-  pub limit-recovery : (r : Text) (p : List ℕ) → (layout.refill-kind xs ≡ 0 → ⊥) → (layout.refill-kind xs ≡ 1 → ⊥) → Puts (86 ∷ []) t o r p → Puts (drop 8 (refill-field (limit-at xs))) t o r p
+  pub limit-recovery : (r : Text) (p : List ℕ) → (layout.refill-kind xs ≡ 0 → ⊥) → (layout.refill-kind xs ≡ 1 → ⊥) → Puts (86 ∷ []) t o r p → Puts (drop (length (ascii " refill=")) (refill-field (limit-at xs))) t o r p
   unfolding refill-field limit-at ascii
-  limit-recovery r p z h k = named (ap (λ (l : RefillLimit). drop 8 (refill-field l)) (sym (choose-no _ _ _ (ne-eqb (layout.refill-kind xs) 0 z) ∙ choose-no _ _ _ (ne-eqb (layout.refill-kind xs) 1 h)))) k
+  limit-recovery r p z h k = named (ap (λ (l : RefillLimit). drop (length (ascii " refill=")) (refill-field l)) (sym (choose-no _ _ _ (ne-eqb (layout.refill-kind xs) 0 z) ∙ choose-no _ _ _ (ne-eqb (layout.refill-kind xs) 1 h)))) k
 
 -- ---- the event
 

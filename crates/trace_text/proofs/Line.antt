@@ -47,8 +47,8 @@ digit x = ltb 47 x && ltb x 53
 -- what is written for a byte of the line, where the next field is the k-th
 unfoldable pub byte-text : ℕ → ℕ → List ℕ → List ℕ
 byte-text x k xs =
-    choose (eqb x 79) (drop 9 (own-field (data-in (own-at xs))))
-    (choose (eqb x 76) (drop 8 (refill-field (limit-at xs))) (choose (digit x) (field-at (x - 48) (getD places k 0) (getD rooms k 0) xs) (x ∷ [])))
+    choose (eqb x 79) (drop (length (ascii "state me=")) (own-field (data-in (own-at xs))))
+    (choose (eqb x 76) (drop (length (ascii " refill=")) (refill-field (limit-at xs))) (choose (digit x) (field-at (x - 48) (getD places k 0) (getD rooms k 0) xs) (x ∷ [])))
 
 -- which field is the next after it
 unfoldable pub after : ℕ → ℕ → ℕ
@@ -73,12 +73,12 @@ unfolding items-text item-text
 mapped f i [] = refl
 mapped f i (y ∷ ys) = ap (λ (z : List ℕ). (comma-before i ++ f y) ++ z) (mapped f (suc i) ys)
 
-own-whole : (d : Data) → ascii "state me=" ++ drop 9 (own-field d) ≡ own-field d
+own-whole : (d : Data) → ascii "state me=" ++ drop (length (ascii "state me=")) (own-field d) ≡ own-field d
 unfolding own-field ascii
 own-whole none = refl
 own-whole (some b) = refl
 
-limit-whole : (l : RefillLimit) → ascii " refill=" ++ drop 8 (refill-field l) ≡ refill-field l
+limit-whole : (l : RefillLimit) → ascii " refill=" ++ drop (length (ascii " refill=")) (refill-field l) ≡ refill-field l
 unfolding refill-field ascii
 limit-whole Automatic = refl
 limit-whole (Requests n) = refl
@@ -121,7 +121,7 @@ module _ (xs : List ℕ) (name p : List ℕ) (k a n : ℕ) (plain : (q : List �
 module _ (xs : List ℕ) (p : List ℕ) where
   own-line : line-text (ascii "state me=O" ++ p) 0 xs ≡ own-field (data-in (own-at xs)) ++ line-text p 0 xs
   unfolding line-text byte-text after digit choose ascii
-  own-line = sym (append-assoc (ascii "state me=") (drop 9 (own-field (data-in (own-at xs)))) _) ∙ ap (λ (z : List ℕ). z ++ line-text p 0 xs) (own-whole (data-in (own-at xs)))
+  own-line = sym (append-assoc (ascii "state me=") (drop (length (ascii "state me=")) (own-field (data-in (own-at xs)))) _) ∙ ap (λ (z : List ℕ). z ++ line-text p 0 xs) (own-whole (data-in (own-at xs)))
 
   views-line : line-text (ascii " active=[1] passive=[1] bootstrap=[1] recent=[1]" ++ p) 0 xs ≡ views-text xs ++ line-text p 4 xs
   unfolding line-text byte-text after digit choose ascii places rooms views-text
@@ -165,7 +165,7 @@ module _ (xs : List ℕ) (p : List ℕ) where
       (peers-line xs (ascii " alive=[") (ascii " refused=[1] refill=L" ++ p) 9 64 32 (λ q. refl) refl refl
       ∙ ap (λ (z : List ℕ). alive ++ z)
       (peers-line xs (ascii " refused=[") (ascii " refill=L" ++ p) 10 97 32 (λ q. refl) refl refl
-      ∙ ap (λ (z : List ℕ). refused ++ z) (sym (append-assoc (ascii " refill=") (drop 8 (refill-field (limit-at xs))) (line-text p 11 xs)) ∙ ap (λ (z : List ℕ). z ++ line-text p 11 xs) (limit-whole (limit-at xs)))))
+      ∙ ap (λ (z : List ℕ). refused ++ z) (sym (append-assoc (ascii " refill=") (drop (length (ascii " refill=")) (refill-field (limit-at xs))) (line-text p 11 xs)) ∙ ap (λ (z : List ℕ). z ++ line-text p 11 xs) (limit-whole (limit-at xs)))))
       ∙ sym (four held alive refused refill (line-text p 11 xs)))
 
 counts-line : (xs : List ℕ) → line-text (ascii " timers=0 interval=0 alone=0 short=0\n") 11 xs ≡ counts-text xs
@@ -259,11 +259,11 @@ module _ (xs : List ℕ) (t : Text) (out : List ℕ) (r : Text) (o : List ℕ) (
     same-field n = choose-no _ _ _ n
 
     module _ (s : Text) (p : List ℕ) where
-      pub own-next : getD line i 0 ≡ 79 → Puts (drop 9 (own-field (data-in (own-at xs)))) r o s p → length p ≡ length o → Lining xs t out s p (i + 1) k
+      pub own-next : getD line i 0 ≡ 79 → Puts (drop (length (ascii "state me=")) (own-field (data-in (own-at xs)))) r o s p → length p ≡ length o → Lining xs t out s p (i + 1) k
       unfolding byte-text
       own-next e u q = next s p _ k (same-field (digit-over (getD line i 0) (omega (arith, e)))) (choose-yes _ _ _ (eq-eqb (getD line i 0) 79 e)) u q
 
-      pub limit-next : getD line i 0 ≡ 76 → Puts (drop 8 (refill-field (limit-at xs))) r o s p → length p ≡ length o → Lining xs t out s p (i + 1) k
+      pub limit-next : getD line i 0 ≡ 76 → Puts (drop (length (ascii " refill=")) (refill-field (limit-at xs))) r o s p → length p ≡ length o → Lining xs t out s p (i + 1) k
       unfolding byte-text
       limit-next e u q =
           next s p _ k (same-field (digit-over (getD line i 0) (omega (arith, e))))

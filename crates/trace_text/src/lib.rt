@@ -10,12 +10,16 @@ ghost use Rattle.state.specs.Layout.{words};
 ghost use Rattle.state.specs.Unpack.{own-at, limit-at};
 ghost use Rattle.run_text.specs.Text.{Puts};
 ghost use Rattle.trace_text.specs.Hex.{hex, hex-lines};
+ghost use Rattle.trace_text.specs.Items.{ascii};
 ghost use Rattle.trace_text.specs.Fields.{InWords, field-at};
 ghost use Rattle.trace_text.specs.Event.{own-field, refill-field, trace-event};
 
 // ---- bytes in hex
 
-// The first n of the bytes. A digit past 9 is a letter, which stands 39 further on.
+// How much further on the letters stand, which are the digits past 9.
+const LETTERS: u8 = b'a' - b'0' - 10;
+
+// The first n of the bytes.
 fn put_front(out: &mut [u8], t: Text, bytes: &[u8], n: u64) -> Text
     ensures { λ r. ⌜ Puts (hex (take n (now (bytes .entry)))) t (now (out .entry)) r (now (out .exit)) ⌝ }
 {
@@ -28,8 +32,8 @@ fn put_front(out: &mut [u8], t: Text, bytes: &[u8], n: u64) -> Text
         let high = bytes[i] / 16 % 16;
         let low = bytes[i] % 16;
         i += 1;
-        r = run_text::put(out, r, b'0' + high + 39 * (high / 10));
-        r = run_text::put(out, r, b'0' + low + 39 * (low / 10));
+        r = run_text::put(out, r, b'0' + high + LETTERS * (high / 10));
+        r = run_text::put(out, r, b'0' + low + LETTERS * (low / 10));
     }
     r
 }
@@ -101,7 +105,7 @@ const FIELD_ROOMS: [usize; 15] = [
     1,
 ];
 
-// The items of a field, of as many as its count says and it has room for. The count stands behind the columns; a number is one item and has none.
+// The items of a field, as many as its count says and there is room for. The count stands behind the columns; a number is one item and has none.
 fn put_items(out: &mut [u8], t: Text, st: &[u64], columns: usize, at: usize, room: usize) -> Text
     requires { ⌜ InWords columns at room (length (now st)) ⌝ }
     ensures { λ r. ⌜ Puts (field-at columns at room (now (st .entry))) t (now (out .entry)) r (now (out .exit)) ⌝ }
@@ -141,7 +145,7 @@ fn put_items(out: &mut [u8], t: Text, st: &[u64], columns: usize, at: usize, roo
 // The station's own data, without the name of the field.
 fn put_own(out: &mut [u8], t: Text, st: &[u64]) -> Text
     requires { ⌜ length (now st) ≡ words ⌝ }
-    ensures { λ r. ⌜ Puts (drop 9 (own-field (data-in (own-at (now (st .entry)))))) t (now (out .entry)) r (now (out .exit)) ⌝ }
+    ensures { λ r. ⌜ Puts (drop (length (ascii "state me=")) (own-field (data-in (own-at (now (st .entry)))))) t (now (out .entry)) r (now (out .exit)) ⌝ }
 {
     if st[Layout::OWN_PRESENT] == 1 {
         let r = run_text::put(out, t, b'x');
@@ -154,7 +158,7 @@ fn put_own(out: &mut [u8], t: Text, st: &[u64]) -> Text
 // The limit on refills, without the name of the field.
 fn put_limit(out: &mut [u8], t: Text, st: &[u64]) -> Text
     requires { ⌜ length (now st) ≡ words ⌝ }
-    ensures { λ r. ⌜ Puts (drop 8 (refill-field (limit-at (now (st .entry))))) t (now (out .entry)) r (now (out .exit)) ⌝ }
+    ensures { λ r. ⌜ Puts (drop (length (ascii " refill=")) (refill-field (limit-at (now (st .entry))))) t (now (out .entry)) r (now (out .exit)) ⌝ }
 {
     let kind = st[Layout::REFILL_KIND];
     if kind == RefillLimit::AUTOMATIC {
@@ -183,7 +187,7 @@ pub fn put_trace_event(
     // The line of the state.
     let words: &[u64] = st;
     let mut i: usize = 0;
-    let mut k: usize = 0;
+    let mut field: usize = 0;
     while i < STATE_LINE.len() {
         let x = STATE_LINE[i];
         i += 1;
@@ -196,10 +200,10 @@ pub fn put_trace_event(
                     r,
                     words,
                     (x - b'0') as usize,
-                    FIELD_PLACES[k],
-                    FIELD_ROOMS[k],
+                    FIELD_PLACES[field],
+                    FIELD_ROOMS[field],
                 );
-                k += 1;
+                field += 1;
             }
             _ => r = run_text::put(out, r, x),
         }

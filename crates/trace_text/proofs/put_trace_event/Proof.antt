@@ -9,17 +9,17 @@ use Rattle.trace_text.proofs.put_trace_event.Statement.{statement}
 use Rattle.trace_text.proofs.put_trace_event.Tie as tie
 
 abbrev Inv-loop : tie.InvT-loop
-Inv-loop out₀ records code draws st r₀ words i₀ k₀ out r i k = Lining words r₀ out₀ r out i k
+Inv-loop out₀ records code draws st r₀ words i₀ field₀ out r i field = Lining words r₀ out₀ r out i field
 
 abbrev μ-loop : tie.MeasureT-loop
-μ-loop out₀ records code draws st r₀ words i₀ k₀ out r i k = 185 - i
+μ-loop out₀ records code draws st r₀ words i₀ field₀ out r i field = 185 - i
 
 -- The way back, from a place to an earlier one.
 abbrev then2-to-loop : tie.Then2 Inv-loop μ-loop → tie.At-loop Inv-loop μ-loop
 then2-to-loop c = c .before .before .before .before
 
 -- There is a field where its byte is met.
-there : (c : tie.Then2 Inv-loop μ-loop) → then2-to-loop c .loop .k < 15
+there : (c : tie.Then2 Inv-loop μ-loop) → then2-to-loop c .loop .field < 15
 unfolding line ascii
 there at-field = field-there _ _ _ _ _ _ _ (then2-to-loop at-field .loop .inv) (at-field .before .before .before .loop-test .taken) (at-field .before .if1 .left) (at-field .if2 .taken)
 
@@ -79,8 +79,8 @@ put-items-requires c κs =
     let at-field = c .before in
     field-in _ _ _ _ _ _ _ (then2-to-loop at-field .loop .inv) (at-field .before .before .before .loop-test .taken) (at-field .before .if1 .left) (at-field .if2 .taken)
 
-add-k : tie.Need-add-k Inv-loop μ-loop
-add-k c = search (needs, there (c .before .before .before .before))
+add-field : tie.Need-add-field Inv-loop μ-loop
+add-field c = search (needs, there (c .before .before .before .before))
 
 loop-less-3 : tie.Need-loop-less-3 Inv-loop μ-loop
 loop-less-3 c = search needs
@@ -134,7 +134,7 @@ put-trace-event-spec =
     mul-put-items-2
     array-read-put-items-2
     put-items-requires
-    add-k
+    add-field
     loop-less-3
     loop-again-3
     put-requires
