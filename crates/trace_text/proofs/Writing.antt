@@ -66,11 +66,12 @@ module _ (s : List ℕ) (n : ℕ) (t : Text) (out : List ℕ) (r : Text) (o : Li
       let e : suc i ≡ i + 1 = omega arith in
       ap hex (drop-cons (take n s) i 0 (omega (arith, h, l, length-take n s)) ∙ (λ j. getD-take n s i 0 l j ∷ drop (e j) (take n s)))
 
-  pub hex-next : (y z : ℕ) (a : Text) (o₁ : List ℕ) (b : Text) (o₂ : List ℕ) → i < length s → i < n
-      → y ≡ 48 + getD s i 0 / 16 % 16 + 39 * (getD s i 0 / 16 % 16 / 10) → z ≡ 48 + getD s i 0 % 16 + 39 * (getD s i 0 % 16 / 10)
+  pub hex-next : (y z : ℕ) (a : Text) (o₁ : List ℕ) (b : Text) (o₂ : List ℕ) → i < length s → i < n → getD s i 0 < 256
+      → y ≡ 48 + getD s i 0 / 16 + 39 * (getD s i 0 / 16 / 10) → z ≡ 48 + getD s i 0 % 16 + 39 * (getD s i 0 % 16 / 10)
       → Puts (z ∷ []) a o₁ b o₂ → Puts (y ∷ []) r o a o₁ → length o₂ ≡ length o → Hexing s n t out b o₂ (i + 1)
-  hex-next y z a o₁ b o₂ h l e f p₂ p₁ q =
-      let high : glyph (getD s i 0 / 16 % 16) ≡ y = sym (e ∙ digit (getD s i 0 / 16 % 16) (omega arith)) in
+  hex-next y z a o₁ b o₂ h l m e f p₂ p₁ q =
+      let w : getD s i 0 / 16 ≡ getD s i 0 / 16 % 16 = omega (arith, m) in
+      let high : glyph (getD s i 0 / 16 % 16) ≡ y = sym (e ∙ (digit (getD s i 0 / 16) (omega (arith, m)) ∙ ap glyph w)) in
       let low : glyph (getD s i 0 % 16) ≡ z = sym (f ∙ digit (getD s i 0 % 16) (omega arith)) in
       record {
         within = omega (arith, h);

@@ -29,7 +29,7 @@ fn put_front(out: &mut [u8], t: Text, bytes: &[u8], n: u64) -> Text
         if n <= i as u64 {
             return r;
         }
-        let high = bytes[i] / 16 % 16;
+        let high = bytes[i] / 16;
         let low = bytes[i] % 16;
         i += 1;
         r = run_text::put(out, r, b'0' + high + LETTERS * (high / 10));

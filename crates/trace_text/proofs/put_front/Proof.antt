@@ -2,6 +2,7 @@
 use borrow.Author.Needs.{needs}
 use Prim.Native.Nat.{_-_}
 use mathlib.Core.Path.{refl}
+use native.Mathlib.Omega.{arith}
 use lib.ListN.{length}
 use Rattle.trace_text.proofs.Writing.{Hexing, hex-start, hex-next, hex-enough, hex-end}
 use Rattle.trace_text.proofs.put_front.Statement.{statement}
@@ -14,8 +15,8 @@ abbrev μ-loop : tie.MeasureT-loop
 μ-loop out₀ bytes n r₀ i₀ out r i = length bytes - i
 
 -- The way back, from a place to an earlier one.
-abbrev put-to-loop : tie.After-put Inv-loop μ-loop → tie.At-loop Inv-loop μ-loop
-put-to-loop c = c .before .before .before .before .before .before
+abbrev put-arg-to-loop : tie.After-put-arg Inv-loop μ-loop → tie.At-loop Inv-loop μ-loop
+put-arg-to-loop c = c .before .before .before .before .before
 
 loop-holds : tie.Need-loop-holds Inv-loop μ-loop
 loop-holds c = search (hex-start, needs)
@@ -36,13 +37,13 @@ add-i : tie.Need-add-i Inv-loop μ-loop
 add-i c = search needs
 
 add-put : tie.Need-add-put Inv-loop μ-loop
-add-put c = search needs
+add-put c = omega (arith, c .before .shared-slice-known3 .given (put-arg-to-loop c .loop .i))
 
 mul-put : tie.Need-mul-put Inv-loop μ-loop
-mul-put c = search needs
+mul-put c = omega (arith, c .before .shared-slice-known3 .given (put-arg-to-loop c .loop .i))
 
 add-put-2 : tie.Need-add-put-2 Inv-loop μ-loop
-add-put-2 c = search needs
+add-put-2 c = omega (arith, c .before .shared-slice-known3 .given (put-arg-to-loop c .loop .i))
 
 put-requires : tie.Need-put-requires Inv-loop μ-loop
 put-requires c κs = search needs
@@ -66,8 +67,8 @@ loop-again : tie.Need-loop-again Inv-loop μ-loop
 loop-again c =
     let at-put2 = c .before .before in
     let at-put = at-put2 .before .before .before .before in
-    let at-loop = put-to-loop at-put in
-    hex-next _ _ _ _ _ _ _ (at-loop .loop .inv) _ _ _ _ _ _ (search needs) (search needs) refl refl (at-put2 .put2 .ensures) (at-put .put .ensures) (search needs)
+    let at-loop = put-arg-to-loop (at-put .before) in
+    hex-next _ _ _ _ _ _ _ (at-loop .loop .inv) _ _ _ _ _ _ (search needs) (search needs) (at-put .before .before .shared-slice-known3 .given (at-loop .loop .i) .fits) refl refl (at-put2 .put2 .ensures) (at-put .put .ensures) (search needs)
 
 same-length-2 : tie.Need-same-length-2 Inv-loop μ-loop
 same-length-2 c = search needs
