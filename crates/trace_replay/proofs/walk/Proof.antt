@@ -1,4 +1,5 @@
 -- The state that the events to come lead to is the last. The measure is how many they are.
+use Prim.Native.Nat.{_<_}
 use borrow.Author.Needs.{needs}
 use mathlib.Core.Path.{_≡_, refl, sym}
 use lib.ListN.{length}
@@ -31,6 +32,13 @@ drawn3-to-read c = c .before .before .before
 
 abbrev read-to-start : tie.After-read-numbers Inv-loop μ-loop → tie.Start Inv-loop μ-loop
 read-to-start c = c .before .before .before .before
+
+-- After an event the room is as before, and the event was one of those left.
+room-kept : (s : tie.After-step Inv-loop μ-loop) → read-to-start (drawn3-to-read (at-loop-to-drawn3 (step-to-at-loop s))) .args .room ≡ length (s .step .last .1 .1 .1 .0)
+room-kept s = search (needs, step-to-at-loop s .loop .inv .0)
+
+some-left : (s : tie.After-step Inv-loop μ-loop) → 0 < step-to-at-loop s .loop .left
+some-left s = search (needs, s .before .before .loop-test)
 
 sub-read-numbers : tie.Need-sub-read-numbers Inv-loop μ-loop
 sub-read-numbers c = search needs
@@ -99,7 +107,7 @@ loop-again : tie.Need-loop-again Inv-loop μ-loop
 loop-again c =
     let at-step = put-to-step (c .before .before .before .before .before .before) in
     let at-loop = step-to-at-loop at-step in
-    (search (needs, at-loop .loop .inv .0), walking-next _ _ _ _ _ _ (at-loop .loop .inv .1) _ _ (search (needs, at-step .before .before .loop-test)) (sym (at-loop .loop .inv .0)) (at-step .step .ensures .runner))
+    (room-kept at-step, walking-next _ _ _ _ _ _ (at-loop .loop .inv .1) _ _ (some-left at-step) (sym (at-loop .loop .inv .0)) (at-step .step .ensures .runner))
 
 slice-aggregate-write-all-2 : tie.Need-slice-aggregate-write-all-2 Inv-loop μ-loop
 slice-aggregate-write-all-2 c = search needs
@@ -114,7 +122,7 @@ loop-again-2 : tie.Need-loop-again-2 Inv-loop μ-loop
 loop-again-2 c =
     let at-step = put-to-step (c .before .before .before .before .before .before) in
     let at-loop = step-to-at-loop at-step in
-    (search (needs, at-loop .loop .inv .0), walking-next _ _ _ _ _ _ (at-loop .loop .inv .1) _ _ (search (needs, at-step .before .before .loop-test)) (sym (at-loop .loop .inv .0)) (at-step .step .ensures .runner))
+    (room-kept at-step, walking-next _ _ _ _ _ _ (at-loop .loop .inv .1) _ _ (some-left at-step) (sym (at-loop .loop .inv .0)) (at-step .step .ensures .runner))
 
 returns : tie.Need-returns Inv-loop μ-loop
 returns c =
