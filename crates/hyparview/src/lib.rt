@@ -25,7 +25,7 @@ pub const OUTPUT: usize = 8192;
 // The draws that suffice for every event if they are below 2^32 - 32.
 pub const DRAWS: usize = 512;
 
-// The numbers of a station that has met no event, in the order of `Layout`.
+// The numbers of a station that has met no event, in the order of `Layout`, where the active view follows them.
 fn first_numbers(me: PeerId, own: PeerData, config: Config) -> [u64; Layout::ACTIVE]
     requires { ⌜ ValidData own ⌝ }
     ensures { λ r. ⌜ r ≡ front (new-station me (data-in own) config) ⌝ }
@@ -48,8 +48,10 @@ fn first_numbers(me: PeerId, own: PeerData, config: Config) -> [u64; Layout::ACT
         config.shuffle_passive_view_count as u64,
         config.shuffle_interval as u64,
         config.neighbor_request_timeout as u64,
+        // No timers are scheduled.
         0,
         interval as u64,
+        // The passes alone and short, the automatic limit on refills in two words, the next request and the next join.
         0,
         0,
         0,

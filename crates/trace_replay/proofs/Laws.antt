@@ -6,7 +6,7 @@ use mathlib.Core.Bool.{Bool, true, false, _&&_}
 use mathlib.Core.List.{List}
 use mathlib.Core.Option.{none}
 use native.Mathlib.Omega.{arith}
-use lib.ListN.{length, take, drop, replicate}
+use lib.ListN.{length, take, drop, set, replicate}
 use lib.Dec.{leb, eqb}
 use borrow.Author.Tests.{leb-true, eq-eqb, ne-eqb}
 use Rattle.io.specs.Counts.{Counts}
@@ -14,8 +14,8 @@ use Rattle.lists.proofs.Choice.{choose-yes, choose-no, and-left}
 use Rattle.protocol.specs.Station.{Station}
 use Rattle.protocol.specs.Handle as P
 use Rattle.lists.specs.Array.{pad}
-use Rattle.state.specs.Layout.{words}
-use Rattle.rules.specs.Pack.{pack}
+use Rattle.state.specs.Layout.{words, next-neighbor-request-at, next-join-at, passes-alone-at, passes-short-at}
+use Rattle.rules.specs.Pack.{pack, front}
 use Rattle.hyparview.specs.Made as packed
 use Rattle.hyparview.specs.Made.{lent, pack-made}
 use Rattle.hyparview.specs.declared.State.{State}
@@ -120,6 +120,12 @@ module _ (start : TraceStart) (head : Head) (b : List ℕ) (m : MadeState) (own 
       let first : s .words ≡ pack (counting start (P.new (head .me) none (head .config) .state)) = c _ made-words in
       ap (ended-at 0) (k ∙ (λ i. laid-words (q i) (first i) head b))
       ∙ sym (choose-yes _ _ _ (ap (λ (x : ℕ). eqb x 0) (sym made-code) ∙ eq-eqb _ _ h))
+
+-- A station's words with the counters of the start stored in them.
+pub counters-stored : (start : TraceStart) (g : Station) (xs : List ℕ) → xs ≡ pack g
+    → set (set (set (set xs next-neighbor-request-at (start .«next_neighbor_request»)) next-join-at (start .«next_join»)) passes-alone-at (start .«passes_alone»)) passes-short-at (start .«passes_short») ≡ pack (counting start g)
+unfolding pack front counting
+counters-stored start g xs e = rw e
 
 module _ (start : TraceStart) (b : List ℕ) (x : Input) (e : x ≡ input-of b) where
   pub ends-refused : x ≡ Refused → ended-at 3 (replicate words 0) ≡ ended-of start b

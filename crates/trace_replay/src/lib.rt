@@ -84,8 +84,8 @@ fn walk(s: State, b: &[u8], head: Head, room: usize) -> State
     p.state
 }
 
-// A whole history on standard output, and how it ended. An input that is refused gets document 01's line and a state of zeroes; else there is the answer of `new`, which without own data refuses only
-// settings out of range, or the events from the new station with these counters on, in the room that is asked for and no more than there is.
+// A whole history on standard output, and how it ended. An input that is refused gets document 01's line, with Refusal::MALFORMED, and a state of zeroes; else there is the answer of `new`, which
+// without own data refuses only settings out of range, with Refusal::SETTINGS, or the events from the new station with these counters on, in the room that is asked for and no more than there is.
 pub fn history(b: &[u8], start: TraceStart) -> Ended
     ensures { λ r. ⌜ r ≡ ended-of start (now (b .entry)) ⌝ }
 {

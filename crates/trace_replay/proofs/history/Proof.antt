@@ -1,8 +1,6 @@
 use mathlib.Core.Logic.{⊎-elim}
 use borrow.Author.Needs.{needs}
-use Rattle.rules.specs.Pack.{pack, front}
-use Rattle.trace_replay.specs.Ending.{counting}
-use Rattle.trace_replay.proofs.Laws.{room-given, room-most, there, whole-refused, whole-run, ends-refused, ends-whole}
+use Rattle.trace_replay.proofs.Laws.{room-given, room-most, counters-stored, there, whole-refused, whole-run, ends-refused, ends-whole}
 use Rattle.trace_replay.proofs.history.Statement.{statement}
 use Rattle.trace_replay.proofs.history.Tie as tie
 
@@ -72,7 +70,6 @@ returns-2 : tie.Need-returns-2
 returns-2 c = search (ends-refused, needs)
 
 returns-3 : tie.Need-returns-3
-unfolding pack front counting
 returns-3 c =
     let at-room = c .before in
     let at-if = at-room .before .before .before .before .before in
@@ -80,7 +77,7 @@ returns-3 c =
     let at-i = new-to-i at-new in
     let at-read = i-to-read-input at-i in
     ends-whole _ _ _ (at-read .read-input .ensures) _ _ (at-i .i .given .1)
-    (whole-run _ _ _ _ _ (at-new .new .ensures) _ _ _ (search (needs, at-if .if1)) (λ g e. rw e) (⊎-elim (λ w. room-given _ _ (w .0 .taken) (w .1)) (λ w. room-most _ _ (w .0 .left) (w .1)) (at-room .if2 .came)) (c .walk .ensures))
+    (whole-run _ _ _ _ _ (at-new .new .ensures) _ _ _ (search (needs, at-if .if1)) (λ g e. counters-stored _ g _ e) (⊎-elim (λ w. room-given _ _ (w .0 .taken) (w .1)) (λ w. room-most _ _ (w .0 .left) (w .1)) (at-room .if2 .came)) (c .walk .ensures))
 
 pub history-spec : {M : Type 1} → statement M
 history-spec =
