@@ -40,17 +40,14 @@ only-four (suc (suc (suc (suc zero)))) l n₀ n₁ n₂ n₃ n₅ = refl
 only-four (suc (suc (suc (suc (suc zero))))) l n₀ n₁ n₂ n₃ n₅ = absurd (n₅ refl)
 only-four (suc (suc (suc (suc (suc (suc m)))))) l n₀ n₁ n₂ n₃ n₅ = absurd (past-five m l)
 
-some : (k : ℕ) → (k ≡ 0 → ⊥) → 1 ≤ k
-some k m = omega (arith, m)
-
 above : (n k : ℕ) → n ≤ k → (k ≡ n → ⊥) → n + 1 ≤ k
 above n k l m = omega (arith, l, m)
 
 at-eight : (k : ℕ) → 8 ≤ k → k ≤ 8 → k ≡ 8
 at-eight k l m = omega (arith, l, m)
 
-only-eight : (k : ℕ) → (k ≡ 0 → ⊥) → (k ≡ 1 → ⊥) → (k ≡ 2 → ⊥) → (k ≡ 3 → ⊥) → (k ≡ 4 → ⊥) → (k ≡ 5 → ⊥) → (k ≡ 6 → ⊥) → (k ≡ 7 → ⊥) → k ≤ 8 → k ≡ 8
-only-eight k n₀ n₁ n₂ n₃ n₄ n₅ n₆ n₇ l = at-eight k (above 7 k (above 6 k (above 5 k (above 4 k (above 3 k (above 2 k (above 1 k (some k n₀) n₁) n₂) n₃) n₄) n₅) n₆) n₇) l
+only-eight : (k : ℕ) → 4 < k → (k ≡ 5 → ⊥) → (k ≡ 6 → ⊥) → (k ≡ 7 → ⊥) → k ≤ 8 → k ≡ 8
+only-eight k n₄ n₅ n₆ n₇ l = at-eight k (above 7 k (above 6 k (above 5 k n₄ n₅) n₆) n₇) l
 
 -- b is Join, ForwardJoin or Neighbor, with its one node
 pub record Single (b : List ℕ) (h : Header) : Type 0 where
@@ -214,9 +211,9 @@ module _ (b : List ℕ) (h : Header) (v : Headed b h) (g : Run) (r : Held) (ds o
   unfolding dispatch choose
   kind-request q k = by _ (rw (by-kind 3 q) (λ i. handle-pending-neighbor-timer (peer-of b h v i) (number-of b h v i) g)) k
 
-  pub kind-retry : h .kind ≡ 4 → Does r ds o (retry-join (h .peer) (h .number) g) → Does r ds o (dispatch (R.rec-of b) g)
+  pub kind-retry : (h .kind ≡ 0 → ⊥) → h .kind ≤ 4 → (h .kind ≡ 1 → ⊥) → (h .kind ≡ 2 → ⊥) → (h .kind ≡ 3 → ⊥) → Does r ds o (retry-join (h .peer) (h .number) g) → Does r ds o (dispatch (R.rec-of b) g)
   unfolding dispatch choose
-  kind-retry q k = by _ (rw (by-kind 4 q) (λ i. retry-join (peer-of b h v i) (number-of b h v i) g)) k
+  kind-retry n₀ l n₁ n₂ n₃ k = by _ (rw (by-kind 4 (only-four (h .kind) (omega (arith, l)) n₀ n₁ n₂ n₃ (λ e. omega (arith, l, e)))) (λ i. retry-join (peer-of b h v i) (number-of b h v i) g)) k
 
   pub kind-closed : h .kind ≡ 5 → Does r ds o (handle-connection-closed (h .peer) g) → Does r ds o (dispatch (R.rec-of b) g)
   unfolding dispatch choose
@@ -232,7 +229,7 @@ module _ (b : List ℕ) (h : Header) (v : Headed b h) (g : Run) (r : Held) (ds o
       let e : first-node (R.nodes-of b 0 (R.header-of b .nodes)) ≡ node-in n = first-of b (R.header-of b .nodes) (omega (arith, one-node b h v q)) ∙ sym (x .holds) in
       by _ (rw (by-kind 7 q) (λ i. on (update-own-data (e i .data-of)) g)) k
 
-  pub kind-quit : (h .kind ≡ 0 → ⊥) → (h .kind ≡ 1 → ⊥) → (h .kind ≡ 2 → ⊥) → (h .kind ≡ 3 → ⊥) → (h .kind ≡ 4 → ⊥) → (h .kind ≡ 5 → ⊥) → (h .kind ≡ 6 → ⊥) → (h .kind ≡ 7 → ⊥) → h .kind ≤ 8
+  pub kind-quit : 4 < h .kind → (h .kind ≡ 5 → ⊥) → (h .kind ≡ 6 → ⊥) → (h .kind ≡ 7 → ⊥) → h .kind ≤ 8
       → Does r ds o (handle-quit g) → Does r ds o (dispatch (R.rec-of b) g)
-  kind-quit n₀ n₁ n₂ n₃ n₄ n₅ n₆ n₇ l k =
-      by _ (quit-dispatch (R.rec-of b) (eq-eqb (R.rec-of b .kind) 8 (kind-of b h v ∙ only-eight (h .kind) n₀ n₁ n₂ n₃ n₄ n₅ n₆ n₇ l)) g) k
+  kind-quit n₄ n₅ n₆ n₇ l k =
+      by _ (quit-dispatch (R.rec-of b) (eq-eqb (R.rec-of b .kind) 8 (kind-of b h v ∙ only-eight (h .kind) n₄ n₅ n₆ n₇ l)) g) k

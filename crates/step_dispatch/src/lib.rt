@@ -68,16 +68,17 @@ fn dispatch(w: Work, st: &mut [u64], draws: &[u32], out: &mut [u8], b: &[u8], h:
     if h.kind == Kind::MESSAGE {
         return handle_message(w, st, draws, out, b, h);
     }
-    if h.kind == Kind::DO_SHUFFLE {
-        return step_timers::handle_shuffle_timer(w, st, draws, out);
-    }
-    if h.kind == Kind::DO_MAINTENANCE {
-        return step_maintenance::handle_maintenance_timer(w, st, draws, out);
-    }
-    if h.kind == Kind::PENDING_NEIGHBOR_REQUEST {
-        return step_timers::handle_pending_neighbor_timer(w, st, draws, out, h.peer, h.number);
-    }
-    if h.kind == Kind::RETRY_JOIN {
+    if h.kind <= Kind::RETRY_JOIN {
+        // The timers.
+        if h.kind == Kind::DO_SHUFFLE {
+            return step_timers::handle_shuffle_timer(w, st, draws, out);
+        }
+        if h.kind == Kind::DO_MAINTENANCE {
+            return step_maintenance::handle_maintenance_timer(w, st, draws, out);
+        }
+        if h.kind == Kind::PENDING_NEIGHBOR_REQUEST {
+            return step_timers::handle_pending_neighbor_timer(w, st, draws, out, h.peer, h.number);
+        }
         return step_timers::retry_join(w, st, out, h.peer, h.number);
     }
     if h.kind == Kind::PEER_DISCONNECTED {

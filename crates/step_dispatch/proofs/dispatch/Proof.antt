@@ -37,35 +37,32 @@ else1-to-start c = c .before .before .before .before .before .before
 abbrev then1-to-start : tie.Then1 → tie.Start
 then1-to-start c = c .before .before .before .before .before .before
 
-abbrev else4-to-start : tie.Else4 → tie.Start
-else4-to-start c = else1-to-start (c .before .before .before .before .before .before)
-
-abbrev else7-to-start : tie.Else7 → tie.Start
-else7-to-start c = else4-to-start (c .before .before .before .before .before .before)
-
 abbrev then2-to-start : tie.Then2 → tie.Start
 then2-to-start c = else1-to-start (c .before .before)
 
 abbrev then3-to-start : tie.Then3 → tie.Start
-then3-to-start c = else1-to-start (c .before .before .before .before)
+then3-to-start c = then2-to-start (c .before .before)
 
 abbrev then4-to-start : tie.Then4 → tie.Start
-then4-to-start c = else1-to-start (c .before .before .before .before .before .before)
+then4-to-start c = then2-to-start (c .before .before .before .before)
 
 abbrev then5-to-start : tie.Then5 → tie.Start
-then5-to-start c = else4-to-start (c .before .before)
+then5-to-start c = then2-to-start (c .before .before .before .before .before .before)
+
+abbrev else5-to-then2 : tie.Else5 → tie.Then2
+else5-to-then2 c = c .before .before .before .before .before .before
 
 abbrev then6-to-start : tie.Then6 → tie.Start
-then6-to-start c = else4-to-start (c .before .before .before .before)
+then6-to-start c = else1-to-start (c .before .before .before .before)
 
 abbrev then7-to-start : tie.Then7 → tie.Start
-then7-to-start c = else4-to-start (c .before .before .before .before .before .before)
+then7-to-start c = else1-to-start (c .before .before .before .before .before .before)
 
 abbrev then8-to-start : tie.Then8 → tie.Start
-then8-to-start c = else7-to-start (c .before .before)
+then8-to-start c = else1-to-start (c .before .before .before .before .before .before .before .before)
 
-abbrev else8-to-else4 : tie.Else8 → tie.Else4
-else8-to-else4 c = c .before .before .before .before .before .before .before .before
+abbrev else8-to-else2 : tie.Else8 → tie.Else2
+else8-to-else2 c = c .before .before .before .before .before .before
 
 handle-message-requires : tie.Need-handle-message-requires
 handle-message-requires c κs =
@@ -88,7 +85,7 @@ returns c =
 
 handle-shuffle-timer-requires : tie.Need-handle-shuffle-timer-requires
 handle-shuffle-timer-requires c κs =
-    let start = then2-to-start (c .before .before) in
+    let start = then3-to-start (c .before .before) in
     (long start, fine start)
 
 same-length-3 : tie.Need-same-length-3
@@ -100,13 +97,13 @@ same-length-4 c = search needs
 returns-2 : tie.Need-returns-2
 returns-2 c =
     let at-handle-shuffle-timer = c .before .before .before .before in
-    let at-if2 = at-handle-shuffle-timer .before .before .before in
-    let start = then2-to-start at-if2 in
-    kind-shuffle _ _ (headed start) _ _ _ _ (at-if2 .if2 .taken) (at-handle-shuffle-timer .handle-shuffle-timer .ensures)
+    let at-if3 = at-handle-shuffle-timer .before .before .before in
+    let start = then3-to-start at-if3 in
+    kind-shuffle _ _ (headed start) _ _ _ _ (at-if3 .if3 .taken) (at-handle-shuffle-timer .handle-shuffle-timer .ensures)
 
 handle-maintenance-timer-requires : tie.Need-handle-maintenance-timer-requires
 handle-maintenance-timer-requires c κs =
-    let start = then3-to-start (c .before .before) in
+    let start = then4-to-start (c .before .before) in
     (long start, fine start)
 
 same-length-5 : tie.Need-same-length-5
@@ -118,13 +115,13 @@ same-length-6 c = search needs
 returns-3 : tie.Need-returns-3
 returns-3 c =
     let at-handle-maintenance-timer = c .before .before .before .before in
-    let at-if3 = at-handle-maintenance-timer .before .before .before in
-    let start = then3-to-start at-if3 in
-    kind-maintenance _ _ (headed start) _ _ _ _ (at-if3 .if3 .taken) (at-handle-maintenance-timer .handle-maintenance-timer .ensures)
+    let at-if4 = at-handle-maintenance-timer .before .before .before in
+    let start = then4-to-start at-if4 in
+    kind-maintenance _ _ (headed start) _ _ _ _ (at-if4 .if4 .taken) (at-handle-maintenance-timer .handle-maintenance-timer .ensures)
 
 handle-pending-neighbor-timer-requires : tie.Need-handle-pending-neighbor-timer-requires
 handle-pending-neighbor-timer-requires c κs =
-    let start = then4-to-start (c .before .before) in
+    let start = then5-to-start (c .before .before) in
     (long start, fine start)
 
 same-length-7 : tie.Need-same-length-7
@@ -136,13 +133,13 @@ same-length-8 c = search needs
 returns-4 : tie.Need-returns-4
 returns-4 c =
     let at-handle-pending-neighbor-timer = c .before .before .before .before in
-    let at-if4 = at-handle-pending-neighbor-timer .before .before .before in
-    let start = then4-to-start at-if4 in
-    kind-request _ _ (headed start) _ _ _ _ (at-if4 .if4 .taken) (at-handle-pending-neighbor-timer .handle-pending-neighbor-timer .ensures)
+    let at-if5 = at-handle-pending-neighbor-timer .before .before .before in
+    let start = then5-to-start at-if5 in
+    kind-request _ _ (headed start) _ _ _ _ (at-if5 .if5 .taken) (at-handle-pending-neighbor-timer .handle-pending-neighbor-timer .ensures)
 
 retry-join-requires : tie.Need-retry-join-requires
 retry-join-requires c κs =
-    let start = then5-to-start (c .before .before) in
+    let start = then2-to-start (else5-to-then2 (c .before .before)) in
     (long start, room-of _ _ _ (fine start))
 
 same-length-9 : tie.Need-same-length-9
@@ -155,8 +152,12 @@ returns-5 : tie.Need-returns-5
 returns-5 c =
     let at-retry-join = c .before .before .before .before in
     let at-if5 = at-retry-join .before .before .before in
-    let start = then5-to-start at-if5 in
-    kind-retry _ _ (headed start) _ _ _ _ (at-if5 .if5 .taken) (then-tell (at-retry-join .retry-join .ensures) (still (fine start)))
+    let at-if4 = at-if5 .before .before in
+    let at-if3 = at-if4 .before .before in
+    let at-if2 = at-if3 .before .before in
+    let start = then2-to-start at-if2 in
+    kind-retry _ _ (headed start) _ _ _ _ (at-if2 .before .before .if1 .left) (at-if2 .if2 .taken) (at-if3 .if3 .left) (at-if4 .if4 .left) (at-if5 .if5 .left)
+    (then-tell (at-retry-join .retry-join .ensures) (still (fine start)))
 
 handle-connection-closed-requires : tie.Need-handle-connection-closed-requires
 handle-connection-closed-requires c κs =
@@ -220,7 +221,7 @@ returns-8 c =
 
 handle-quit-requires : tie.Need-handle-quit-requires
 handle-quit-requires c κs =
-    let start = else4-to-start (else8-to-else4 (c .before .before)) in
+    let start = else1-to-start (else8-to-else2 (c .before .before) .before .before) in
     (long start, fine start)
 
 same-length-16 : tie.Need-same-length-16
@@ -235,13 +236,9 @@ returns-9 c =
     let at-if8 = at-handle-quit .before .before .before in
     let at-if7 = at-if8 .before .before in
     let at-if6 = at-if7 .before .before in
-    let at-if5 = at-if6 .before .before in
-    let at-if4 = else8-to-else4 at-if8 in
-    let at-if3 = at-if4 .before .before in
-    let at-if2 = at-if3 .before .before in
-    let at-if1 = at-if2 .before .before in
-    let start = else1-to-start at-if1 in
-    kind-quit _ _ (headed start) _ _ _ _ (at-if1 .if1 .left) (at-if2 .if2 .left) (at-if3 .if3 .left) (at-if4 .if4 .left) (at-if5 .if5 .left) (at-if6 .if6 .left) (at-if7 .if7 .left) (at-if8 .if8 .left) (low start)
+    let at-if2 = else8-to-else2 at-if8 in
+    let start = else1-to-start (at-if2 .before .before) in
+    kind-quit _ _ (headed start) _ _ _ _ (at-if2 .if2 .left) (at-if6 .if6 .left) (at-if7 .if7 .left) (at-if8 .if8 .left) (low start)
     (at-handle-quit .handle-quit .ensures)
 
 pub dispatch-spec : {M : Type 1} → statement M
