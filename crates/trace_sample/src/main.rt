@@ -5,48 +5,55 @@ use trace_replay::TraceStart;
 // The bytes of a history's head.
 const HISTORY_HEAD: usize = 32;
 
-// The next history of standard input; false where there is none that is whole, or a longer one than any input.
-fn next_history(bytes: &mut [u8]) -> bool {
-    let mut space = [0u8; HISTORY_HEAD];
-    let head: &mut [u8] = &mut space;
+fn start_of(head: &[u8]) -> TraceStart {
+    TraceStart {
+        room: run_input::number(head, 1) as usize,
+        next_neighbor_request: run_input::from_halves(
+            run_input::number(head, 2),
+            run_input::number(head, 3),
+        ),
+        next_join: run_input::from_halves(run_input::number(head, 4), run_input::number(head, 5)),
+        passes_alone: run_input::number(head, 6),
+        passes_short: run_input::number(head, 7),
+    }
+}
+
+// One history, whose input is as long as the lent bytes; false where standard input has not so many.
+fn show_history(bytes: &mut [u8], start: TraceStart) -> bool {
+    let n = io::read_full(0, bytes);
+    if n < bytes.len() {
+        return false;
+    }
+    trace_replay::history(bytes, start);
+    io::write_all(1, b"\n");
+    true
+}
+
+// The next history of standard input; false where there is none, or a longer one than any input.
+fn next_history(head: &mut [u8], bytes: &mut [u8]) -> bool {
     let n = io::read_full(0, head);
     if n < head.len() {
         return false;
     }
+    let start = start_of(head);
     let size = run_input::number(head, 0) as usize;
     if bytes.len() < size {
         return false;
     }
-    let request_low = run_input::number(head, 2);
-    let request_high = run_input::number(head, 3);
-    let join_low = run_input::number(head, 4);
-    let join_high = run_input::number(head, 5);
-    let start = TraceStart {
-        room: run_input::number(head, 1) as usize,
-        next_neighbor_request: run_input::from_halves(request_low, request_high),
-        next_join: run_input::from_halves(join_low, join_high),
-        passes_alone: run_input::number(head, 6),
-        passes_short: run_input::number(head, 7),
-    };
-    let input = &mut bytes[..size];
-    let got = io::read_full(0, input);
-    if got < size {
-        return false;
-    }
-    trace_replay::history(input, start);
-    io::write_all(1, b"\n");
-    true
+    show_history(&mut bytes[..size], start)
 }
 
 // More histories than any sample has: a program ends.
 const MOST_HISTORIES: usize = 1000000;
 
 fn main() {
+    let mut space = [0u8; HISTORY_HEAD];
+    let head: &mut [u8] = &mut space;
     let mut buffer = [0u8; run_input::MOST_BYTES + 1];
     let bytes: &mut [u8] = &mut buffer;
     let mut left = MOST_HISTORIES;
     while left > 0 {
-        if next_history(bytes) {
+        if next_history(head, bytes) {
             left -= 1;
         } else {
             return;

@@ -24,6 +24,9 @@ events-to-read-numbers c = c .before .before
 abbrev read-numbers-to-o2 : tie.After-read-numbers Inv-loop μ-loop → tie.After-o2 Inv-loop μ-loop
 read-numbers-to-o2 c = c .before .before .before .before
 
+abbrev loop-to-begin : tie.At-loop Inv-loop μ-loop → tie.After-begin Inv-loop μ-loop
+loop-to-begin c = c .before
+
 -- The number of events is a word.
 few-events : (c : tie.After-known-told2 Inv-loop μ-loop) → c .before .o2 .given .0 .0 .events < 2 ^ 64
 few-events c = search needs
@@ -106,7 +109,7 @@ say-end-requires-2 c κs = search needs
 
 add-i : tie.Need-add-i Inv-loop μ-loop
 add-i c =
-    let at-begin = c .before .before .before .before .before .before .before .before .before .before in
+    let at-begin = loop-to-begin (c .before .before .before .before .before .before .before .before .before) in
     let at-read = events-to-read-numbers (at-begin .before .before .before) in
     search (needs, few-events (at-read .before .before .before))
 

@@ -154,8 +154,9 @@ send-disconnect-requires c κs =
 
 loop-less : tie.Need-loop-less Inv-loop μ-loop
 loop-less c =
-    let at-loop = c .before .before .before .before .before .before .before .before .before .before .before in
-    search (needs, going (at-loop .loop .i) (at-loop .before .count .result) (at-loop .loop .r .code) (c .before .before .before .before .before .before .before .before .before .if1 .taken) .0)
+    let at-remove = c .before .before .before .before .before .before .before in
+    let at-loop = remove-to-loop at-remove in
+    search (needs, going (at-loop .loop .i) (at-loop .before .count .result) (at-loop .loop .r .code) (at-remove .before .before .if1 .taken) .0)
 
 loop-again : tie.Need-loop-again Inv-loop μ-loop
 loop-again c =

@@ -5,10 +5,13 @@ use Rattle.trace_sample.proofs.main.Statement.{statement}
 use Rattle.trace_sample.proofs.main.Tie as tie
 
 abbrev Inv-loop : tie.InvT-loop
-Inv-loop bytes₀ left₀ bytes left = left ≤ left₀
+Inv-loop head₀ bytes₀ left₀ head bytes left = left ≤ left₀
 
 abbrev μ-loop : tie.MeasureT-loop
-μ-loop bytes₀ left₀ bytes left = left
+μ-loop head₀ bytes₀ left₀ head bytes left = left
+
+slice-aggregate-head : tie.Need-slice-aggregate-head Inv-loop μ-loop
+slice-aggregate-head c = search needs
 
 slice-aggregate-bytes : tie.Need-slice-aggregate-bytes Inv-loop μ-loop
 slice-aggregate-bytes c = search needs
@@ -40,6 +43,7 @@ main-spec =
     (tie.spec
     Inv-loop
     μ-loop
+    slice-aggregate-head
     slice-aggregate-bytes
     loop-holds
     next-history-requires
