@@ -24,7 +24,7 @@ texts-at columns at room xs =
 unfoldable pub field-at : ℕ → ℕ → ℕ → List ℕ → List ℕ
 field-at columns at room xs = items-text (λ (x : List ℕ). x) 0 (texts-at columns at room xs)
 
--- there are such fields, and this one with its count stands in n words
+-- the columns are 0, 1, 2 or 4, and the field, with its count where it has columns, stands in n words
 pub record InWords (columns at room n : ℕ) : Type 0 where
   pub inside : at + columns * room < n
   pub first : at + room ≤ n
