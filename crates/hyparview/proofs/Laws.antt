@@ -11,7 +11,7 @@ use Rattle.peer.specs.Data.{Data}
 use Rattle.timing.specs.declared.Config.{Config}
 use Rattle.protocol.specs.Handle.{new}
 use Rattle.hyparview.specs.Made.{MadeWords, made, pack-made}
-use Rattle.state.specs.declared.Work.{Work}
+use Rattle.work.specs.declared.Work.{Work}
 use Rattle.state.specs.Layout as layout
 use Rattle.hyparview.specs.declared.Done.{Done}
 use Rattle.hyparview.specs.Handled.{cleared, refused-words, ended}

@@ -5,7 +5,7 @@ use peer::PeerId;
 use record::Event;
 use record::Refusal;
 use state::Layout;
-use state::Work;
+use work::Work;
 use timing::Config;
 use timing::Timing;
 ghost use mathlib.Core.Path.{_≡_};

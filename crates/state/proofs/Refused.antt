@@ -8,12 +8,12 @@ use lib.Dec.{eqb}
 use borrow.Author.Tests.{eqb-true, eqb-false}
 use Rattle.lists.proofs.Choice.{split}
 use Rattle.protocol.specs.Run.{Run, require}
-use Rattle.state.specs.Work.{Held, run, Changes}
+use Rattle.state.specs.Work.{Held, run, run-of, Changes}
 use Rattle.state.proofs.Bridge.{guard-shut}
 
 -- a test was made only where the run went on
 pub required-code : (k : ℕ) (b : Bool) (w a : Held) → Changes (require k b) w a → a .code ≡ 0 → w .code ≡ 0
-unfolding run require
+unfolding run-of require
 required-code k b w a v z =
     split (eqb (w .code) 0) (λ t. eqb-true _ _ t)
     (λ t. sym (ap (λ (x : Run). x .code) (v .same [] [] ∙ guard-shut (run w [] []) _ (eqb-false _ _ t))) ∙ z)

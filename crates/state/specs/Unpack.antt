@@ -14,6 +14,7 @@ use Rattle.peer.specs.Held.{data-in, ValidData}
 use Rattle.timing.specs.declared.Config.{Config}
 use Rattle.timing.specs.Timing.{longest-time, in-range}
 use Rattle.protocol.specs.Station.{Station, Refill, automatic, requests-left, recovery, top-passes}
+use Rattle.work.specs.Work as work
 use Rattle.state.specs.declared.RefillLimit.{RefillLimit}
 use Rattle.state.specs.declared.RefillLimit.the-variants.{Automatic, Requests, Recovery}
 use Rattle.state.specs.Layout as layout
@@ -115,7 +116,10 @@ opened (shut l p) = p
 pub long : {xs : List ℕ} → PackedState xs → length xs ≡ words
 long (shut l p) = l
 
+-- how the words stand for a station
+abbrev pub station-form : work.Form Station
+station-form = record { unpack = unpack; Packed = PackedState }
+
 -- the words are packed, and stand for the station g
-pub record Becomes (xs : List ℕ) (g : Station) : Type 0 where
-  pub packed : PackedState xs
-  pub same : unpack xs ≡ g
+abbrev pub Becomes : List ℕ → Station → Type 0
+Becomes = work.Becomes station-form

@@ -1,30 +1,19 @@
 // The state of a station as one lent list of words, and the work that the steps of one event hand on.
 use peer::PeerData;
 use peer::PeerId;
-use peer::PeerInfo;
-use record::Refusal;
 use timing::Timing;
-use writer::Fields;
-use writer::Nodes;
-use writer::Written;
+use work::Work;
 ghost use mathlib.Core.Path.{_≡_};
-ghost use mathlib.Core.List.{[], _∷_};
-ghost use Prim.Native.Nat.{_≤_, _<_};
-ghost use lib.ListN.{length, getD, drop};
-ghost use Rattle.util.specs.Chances.{pick, shuffle};
-ghost use Rattle.peer.specs.Held.{ValidData, node-in};
-ghost use Rattle.util.specs.Section.{items-at, ValidSet, HoldsSet};
-ghost use Rattle.writer.specs.Nodes.{ValidNodes, nodes-in};
-ghost use Rattle.writer.specs.Write.{rec-in};
-ghost use Rattle.protocol.specs.Run.{on, draw, draw-one-of, draw-shuffle, require, emit};
+ghost use lib.ListN.{length};
+ghost use Rattle.protocol.specs.Run.{on};
 ghost use Rattle.protocol.specs.Setters.{set-refill};
 ghost use Rattle.protocol.specs.Messages.{drop-join, drop-request, drop-pending};
 ghost use Rattle.protocol.specs.Station.{is-me, in-active, in-passive, is-alone, active-is-full, is-short, is-last-hop};
 ghost use Rattle.protocol.specs.Station.{is-recovery, is-requested};
 ghost use Rattle.protocol.specs.Refill.{few-requests, unless-recovery};
-ghost use Rattle.state.specs.Layout.{words, all-places};
+ghost use Rattle.state.specs.Layout.{words};
 ghost use Rattle.state.specs.Unpack.{unpack, own-at, limit-at, refill-in, PackedState, Becomes};
-ghost use Rattle.state.specs.Work.{work-of, Changes, ChangesAny, DrawsAny, Reaches, TellsAny, after-record};
+ghost use Rattle.state.specs.Work.{work-of, Changes};
 
 // The layout of the state: the place of each number, and where each section begins and ends. A set is its places and then their count; a map has more columns of as many places before the
 // count. Every name is a whole constant, since a sum in the body of a function would be one more thing to prove.
@@ -157,25 +146,6 @@ pub enum RefillLimit {
     Recovery,
 }
 
-// The draws used and the bytes written so far, and a code that is 0 while all is well.
-pub struct Work {
-    pub drawn: usize,
-    pub written: usize,
-    pub code: u32,
-}
-
-// The next draw, and the work that has taken it.
-pub struct Drawn {
-    pub work: Work,
-    pub value: u32,
-}
-
-// The place that a draw decided, and the work that has taken it.
-pub struct Chosen {
-    pub work: Work,
-    pub index: usize,
-}
-
 // ---- own data and the limit on refills
 
 pub fn own_data(st: &[u64]) -> PeerData
@@ -260,141 +230,6 @@ impl RefillLimit {
         }
         new
     }
-}
-
-// ---- draws
-
-// The work that has taken the draws before `next`; code 5 where there are not so many.
-fn reach(w: Work, draws: &[u32], next: usize) -> Work
-    requires { ⌜ w .drawn ≤ length (now draws) ⌝ }
-    ensures { λ r. ⌜ Reaches next w r (now (draws .entry)) ⌝ }
-{
-    if w.code != 0 {
-        return w;
-    }
-    let mut r = w;
-    if draws.len() < next {
-        r.code = Refusal::DRAWS;
-        return r;
-    }
-    r.drawn = next;
-    r
-}
-
-// Takes the next draw, which a delay never passes over; code 5 where there is none, and then the value is 0.
-pub fn draw(w: Work, draws: &[u32]) -> Drawn
-    requires { ⌜ w .drawn ≤ length (now draws) ⌝ }
-    ensures { λ r. ⌜ DrawsAny (draw 1) w (r .work) (now (draws .entry)) ⌝ }
-    ensures { λ r. ⌜ r .value ≡ getD (now (draws .entry)) (w .drawn) 0 ⌝ }
-{
-    let at = w.drawn;
-    let a = reach(w, draws, at + 1);
-    if at < draws.len() {
-        return Drawn {
-            work: a,
-            value: draws[at],
-        };
-    }
-    Drawn { work: a, value: 0 }
-}
-
-// Takes the draws that decide one of n places, with those passed over; code 5 where none is kept.
-pub fn choose(w: Work, draws: &[u32], n: usize) -> Chosen
-    requires { ⌜ w .drawn ≤ length (now draws) ⌝ }
-    requires { ⌜ 0 < n ⌝ }
-    ensures { λ r. ⌜ DrawsAny (draw-one-of n) w (r .work) (now (draws .entry)) ⌝ }
-    ensures { λ r. ⌜ (r .index ≡ pick n (drop (w .drawn) (now (draws .entry)))) × (r .index < n) ⌝ }
-{
-    let p = util::pick_index(draws, w.drawn, n);
-    let i = p.index;
-    let a = reach(w, draws, p.next);
-    Chosen { work: a, index: i }
-}
-
-// Shuffles a working set of 32 places where it lies, and takes the draws of that; code 5 where there are not so many.
-pub fn shuffle_by_draws(w: Work, draws: &[u32], v: &mut [u64]) -> Work
-    requires { ⌜ w .drawn ≤ length (now draws) ⌝ }
-    requires { ⌜ ValidSet all-places (now v) ⌝ }
-    ensures { λ r. ⌜ DrawsAny (draw-shuffle (items-at all-places (now (v .entry)))) w r (now (draws .entry)) ⌝ }
-    ensures { λ _. ⌜ HoldsSet all-places (now (v .exit)) (shuffle (drop (w .drawn) (now (draws .entry))) (items-at all-places (now (v .entry)))) ⌝ }
-{
-    let next = util::shuffle(v, Layout::ALL, draws, w.drawn);
-    reach(w, draws, next)
-}
-
-// ---- refusals and records
-
-// A refusal with this code, unless the test holds.
-pub fn require(w: Work, code: u32, test: bool) -> Work
-    ensures { λ r. ⌜ ChangesAny (require code test) w r ⌝ }
-{
-    if w.code != 0 {
-        return w;
-    }
-    if test {
-        return w;
-    }
-    let mut r = w;
-    r.code = code;
-    r
-}
-
-// The work after a record was written, or was found not to fit.
-fn after_record(w: Work, a: Written) -> Work
-    ensures { λ r. ⌜ r ≡ after-record a w ⌝ }
-{
-    let mut r = w;
-    match a {
-        Written::At(n) => {
-            r.written = n;
-            r
-        }
-        Written::Full => {
-            r.code = Refusal::OUTPUT;
-            r
-        }
-    }
-}
-
-// A record without nodes into the output; code 9 where it does not fit.
-pub fn emit_bare(w: Work, out: &mut [u8], f: Fields) -> Work
-    requires { ⌜ w .written ≤ length (now out) ⌝ }
-    ensures { λ r. ⌜ TellsAny (emit (rec-in f [])) w r (now (out .entry)) (now (out .exit)) ⌝ }
-{
-    if w.code != 0 {
-        return w;
-    }
-    let at = w.written;
-    let a = writer::write_bare(out, at, f);
-    after_record(w, a)
-}
-
-// A record with one node.
-pub fn emit_one(w: Work, out: &mut [u8], f: Fields, p: PeerInfo) -> Work
-    requires { ⌜ w .written ≤ length (now out) ⌝ }
-    requires { ⌜ ValidData (p .data) ⌝ }
-    ensures { λ r. ⌜ TellsAny (emit (rec-in f (node-in p ∷ []))) w r (now (out .entry)) (now (out .exit)) ⌝ }
-{
-    if w.code != 0 {
-        return w;
-    }
-    let at = w.written;
-    let a = writer::write_one(out, at, f, p);
-    after_record(w, a)
-}
-
-// A record with these nodes.
-pub fn emit_nodes(w: Work, out: &mut [u8], f: Fields, ns: Nodes) -> Work
-    requires { ⌜ w .written ≤ length (now out) ⌝ }
-    requires { ⌜ ValidNodes ns ⌝ }
-    ensures { λ r. ⌜ TellsAny (emit (rec-in f (nodes-in ns))) w r (now (out .entry)) (now (out .exit)) ⌝ }
-{
-    if w.code != 0 {
-        return w;
-    }
-    let at = w.written;
-    let a = writer::write(out, at, f, ns);
-    after_record(w, a)
 }
 
 // ---- what several steps ask of the state

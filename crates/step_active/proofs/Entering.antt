@@ -30,14 +30,15 @@ use Rattle.protocol.proofs.Law.{Short}
 use Rattle.protocol.proofs.Invariant.{busy, Ok}
 use Rattle.protocol.proofs.Keeping.{ease}
 use Rattle.protocol.proofs.Sends.{ok-insert-peer-info}
-use Rattle.state.specs.declared.Work.{Work}
+use Rattle.work.specs.declared.Work.{Work}
 use Rattle.state.specs.declared.RefillLimit.{RefillLimit}
 use Rattle.state.specs.declared.RefillLimit.the-variants.{Automatic}
 use Rattle.state.specs.Layout.{active-view-capacity, active-part, recent-part}
 use Rattle.state.specs.Unpack.{unpack, station-of, settings-at, limit-at, refill-in, PackedState, Becomes}
-use Rattle.state.specs.Work.{work-of, run, Changes, Room, Tells, TellsAny, Fine, Does}
+use Rattle.state.specs.Work.{work-of, run, run-of, Changes, Room, Tells, TellsAny, Fine, Does}
 use Rattle.state.proofs.Access.{of-capacity}
 use Rattle.state.proofs.Fields.{put-passes-short, put-active, put-recent}
+use Rattle.state.proofs.Any.{told-at}
 use Rattle.state.proofs.Bridge.{guard-shut, on-twice, on-passed, on-done, unchanged, change-then, telling, tell-then, still, then-tell, seq, taken, left, holds-at}
 use Rattle.step_active.specs.Sane.{FreeActive, Calm}
 
@@ -66,7 +67,7 @@ kept-free f a c g h =
 
 still-free : (f : Station → Station) → ((s : Station) → f s .active ≡ s .active) → ((s : Station) → f s .config ≡ s .config) → (w a : Work) (xs ys : List ℕ)
     → Changes (on f) (work-of w xs) (work-of a ys) → FreeActive (w .code) (unpack xs) → FreeActive (a .code) (unpack ys)
-unfolding run
+unfolding run-of
 still-free f m n w a xs ys k h = subst (λ (x : Run). FreeActive (x .code) (x .station)) (sym (k .same [] [])) (kept-free f m n (run (work-of w xs) [] []) h)
 
 -- ---- rows
@@ -119,11 +120,11 @@ module _ (w a b : Work) (xs ys out o : List ℕ) (p : ℕ) (v : Room (work-of w 
   enter-row : (zs : List ℕ) → Changes (on gain-neighbor) (work-of b ys) (work-of b zs) → Tells (enter-active p) (work-of w xs) (work-of b zs) out o
   unfolding enter-active rec-in
   enter-row zs k₃ =
-      let t = k₂ .any ys (k₁ .packed) in
+      let t = told-at ys (k₁ .packed) _ k₂ in
       tell-then _ (λ ds. refl) (telling (t .room) k₃) (tell-then (λ g. emit (notice 9 p) (on (move-in p) g)) (λ ds. refl) t (telling v k₁))
 
   pub not-added : (high reply : Bool) → (b .code ≡ 0 → ⊥) → Tells (add-active-unchecked p high reply) (work-of w xs) (work-of b ys) out o
-  unfolding add-active-unchecked run
+  unfolding add-active-unchecked run-of
   not-added high reply h =
       let t = enter-row ys (on-passed (work-of b ys) (k₁ .packed) gain-neighbor h) in
       tell-then _ (λ ds. refl) (telling (t .room) (unchanged (reply-neighbor reply p high) (k₁ .packed) (λ ds q. reply-shut reply p high (run (work-of b ys) ds q) h))) t

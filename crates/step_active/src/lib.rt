@@ -4,7 +4,7 @@ use peer::PeerId;
 use record::Kind;
 use state::Layout;
 use state::RefillLimit;
-use state::Work;
+use work::Work;
 use timing::Timing;
 use writer::Fields;
 ghost use mathlib.Core.Path.{_≡_};
@@ -19,7 +19,7 @@ ghost use Rattle.protocol.specs.Active.{drop-active, demote, mark-alive, demote
 ghost use Rattle.protocol.specs.Active.{move-in, add-active-unchecked, add-active};
 ghost use Rattle.state.specs.Layout.{words};
 ghost use Rattle.state.specs.Unpack.{unpack, PackedState};
-ghost use Rattle.state.specs.Work.{work-of, run, Changes, Room, Tells, Fine, Does};
+ghost use Rattle.state.specs.Work.{work-of, run, Changes, Room, Tells, Given, Makes};
 ghost use Rattle.step_active.specs.Sane.{reason-in, FreeActive, FreeMark, Calm, Loose};
 
 // Why a neighbor is gone that knows it already: the Rust's `RemovalReason` but for the random one.
@@ -51,7 +51,7 @@ fn drop_active(w: Work, st: &mut [u64], out: &mut [u8], i: usize, p: PeerId) -> 
         ttl: 0,
         number: 0,
     };
-    state::emit_bare(w, out, f)
+    work::emit_bare(w, out, f)
 }
 
 pub fn mark_alive(w: Work, st: &mut [u64], p: PeerId) -> Work
@@ -70,9 +70,9 @@ pub fn mark_alive(w: Work, st: &mut [u64], p: PeerId) -> Work
 // p goes to the passive view with the data that is held of it, and with a mark where it stays alive.
 fn demote(w: Work, st: &mut [u64], draws: &[u32], out: &mut [u8], p: PeerId, alive: bool) -> Work
     requires { ⌜ length (now st) ≡ words ⌝ }
-    requires { ⌜ Fine (work-of w (now st)) (now draws) (now out) ⌝ }
+    requires { ⌜ Given w st draws out ⌝ }
     requires { ⌜ (alive ≡ true → Loose p 0 adding 1 (run (work-of w (now st)) (now draws) (now out))) ⌝ }
-    ensures { λ r. ⌜ Does (work-of r (now (st .exit))) (now (draws .entry)) (now (out .exit)) (choose alive (demote-alive p) (demote p) (run (work-of w (now (st .entry))) (now (draws .entry)) (now (out .entry)))) ⌝ }
+    ensures { λ r. ⌜ Makes (choose alive (demote-alive p) (demote p)) w r st draws out ⌝ }
 {
     let d = columns::get_data(&st[Layout::HELD..Layout::HELD_END], Layout::DATA_CAP, p);
     let a = step_peers::drop_data(w, st, p);
@@ -92,10 +92,10 @@ fn remove_active_by_index(
     why: Loss,
 ) -> Work
     requires { ⌜ length (now st) ≡ words ⌝ }
-    requires { ⌜ Fine (work-of w (now st)) (now draws) (now out) ⌝ }
+    requires { ⌜ Given w st draws out ⌝ }
     requires { ⌜ i < length (unpack (now st) .active) ⌝ }
     requires { ⌜ Calm 0 leaving 1 (run (work-of w (now st)) (now draws) (now out)) ⌝ }
-    ensures { λ r. ⌜ Does (work-of r (now (st .exit))) (now (draws .entry)) (now (out .exit)) (remove-active-by-index i (reason-in why) (run (work-of w (now (st .entry))) (now (draws .entry)) (now (out .entry)))) ⌝ }
+    ensures { λ r. ⌜ Makes (remove-active-by-index i (reason-in why)) w r st draws out ⌝ }
 {
     let p = util::get_index(&st[Layout::ACTIVE..Layout::ACTIVE_END], Layout::FEW, i);
     let a = drop_active(w, st, out, i, p);
@@ -126,9 +126,9 @@ pub fn remove_active(
     why: Loss,
 ) -> Work
     requires { ⌜ length (now st) ≡ words ⌝ }
-    requires { ⌜ Fine (work-of w (now st)) (now draws) (now out) ⌝ }
+    requires { ⌜ Given w st draws out ⌝ }
     requires { ⌜ Calm 0 leaving 1 (run (work-of w (now st)) (now draws) (now out)) ⌝ }
-    ensures { λ r. ⌜ Does (work-of r (now (st .exit))) (now (draws .entry)) (now (out .exit)) (remove-active p (reason-in why) (run (work-of w (now (st .entry))) (now (draws .entry)) (now (out .entry)))) ⌝ }
+    ensures { λ r. ⌜ Makes (remove-active p (reason-in why)) w r st draws out ⌝ }
 {
     if state::in_active(st, p) {
         let i = util::position(&st[Layout::ACTIVE..Layout::ACTIVE_END], Layout::FEW, p);
@@ -143,15 +143,15 @@ pub fn remove_active(
 
 fn free_random_slot_in_active_view(w: Work, st: &mut [u64], draws: &[u32], out: &mut [u8]) -> Work
     requires { ⌜ length (now st) ≡ words ⌝ }
-    requires { ⌜ Fine (work-of w (now st)) (now draws) (now out) ⌝ }
+    requires { ⌜ Given w st draws out ⌝ }
     requires { ⌜ Calm 0 freeing 40 (run (work-of w (now st)) (now draws) (now out)) ⌝ }
-    ensures { λ r. ⌜ Does (work-of r (now (st .exit))) (now (draws .entry)) (now (out .exit)) (free-random-slot-in-active-view (run (work-of w (now (st .entry))) (now (draws .entry)) (now (out .entry)))) ⌝ }
+    ensures { λ r. ⌜ Makes free-random-slot-in-active-view w r st draws out ⌝ }
 {
     if state::is_alone(st) {
         return w;
     }
     let n = util::count(&st[Layout::ACTIVE..Layout::ACTIVE_END], Layout::FEW);
-    let t = state::choose(w, draws, n);
+    let t = work::choose(w, draws, n);
     let p = util::get_index(
         &st[Layout::ACTIVE..Layout::ACTIVE_END],
         Layout::FEW,
@@ -211,7 +211,7 @@ fn add_active_unchecked(
         ttl: 0,
         number: 0,
     };
-    let b = state::emit_bare(a, out, f);
+    let b = work::emit_bare(a, out, f);
     if b.code != 0 {
         return b;
     }
@@ -234,10 +234,10 @@ pub fn add_active(
     reply: bool,
 ) -> Work
     requires { ⌜ length (now st) ≡ words ⌝ }
-    requires { ⌜ Fine (work-of w (now st)) (now draws) (now out) ⌝ }
+    requires { ⌜ Given w st draws out ⌝ }
     requires { ⌜ ValidData d ⌝ }
     requires { ⌜ Calm 0 arriving 40 (run (work-of w (now st)) (now draws) (now out)) ⌝ }
-    ensures { λ r. ⌜ Does (work-of r (now (st .exit))) (now (draws .entry)) (now (out .exit)) (add-active p (data-in d) high reply (run (work-of w (now (st .entry))) (now (draws .entry)) (now (out .entry)))) ⌝ }
+    ensures { λ r. ⌜ Makes (add-active p (data-in d) high reply) w r st draws out ⌝ }
 {
     if state::is_me(st, p) {
         return w;

@@ -4,7 +4,7 @@ use record::Header;
 use record::Kind;
 use record::Message;
 use state::Layout;
-use state::Work;
+use work::Work;
 ghost use mathlib.Core.Path.{_≡_};
 ghost use Prim.Native.Nat.{_≤_};
 ghost use lib.ListN.{length};

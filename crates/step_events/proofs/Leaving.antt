@@ -23,10 +23,10 @@ use Rattle.protocol.specs.Messages.{drop-request}
 use Rattle.protocol.specs.Events.{drop-dead, lose-passive, lose-other, lose, handle-connection-closed, remove-neighbor, quit-one, quit-all, clear-all, handle-quit}
 use Rattle.protocol.proofs.Invariant.{busy, Ok}
 use Rattle.protocol.proofs.Received.{ok-drop-request}
-use Rattle.state.specs.declared.Work.{Work}
+use Rattle.work.specs.declared.Work.{Work}
 use Rattle.state.specs.Layout.{active-part}
 use Rattle.state.specs.Unpack.{unpack, station-of, PackedState}
-use Rattle.state.specs.Work.{Held, work-of, run, Changes, Fine, Does}
+use Rattle.state.specs.Work.{Held, work-of, run, run-of, Changes, Fine, Does}
 use Rattle.state.proofs.Access.{active-fits}
 use Rattle.state.proofs.Bridge.{guard-shut, on-twice, on-passed, on-done, change-then, change-yes, change-no, by, still, then, seq, seq-at, taken, left, holds-at, at-run}
 use Rattle.state.proofs.Fields.{put-active}
@@ -121,7 +121,7 @@ quits-are v xs n h e = lent-items v n (h .valid) e ∙ h .items
 
 module _ (w a : Work) (xs ys v ds out o : List ℕ) (n : ℕ) (d : Does (work-of a ys) ds o (quit-all (take n v) (run (work-of w xs) ds out))) (s : HoldsSet 32 v (items-at 8 (take 9 (drop 22 xs)))) (e : n ≡ length (items-at 32 v)) where
   cleared-by : (r : Held) → Changes (on clear-all) (work-of a ys) r → Does r ds o (handle-quit (run (work-of w xs) ds out))
-  unfolding handle-quit run
+  unfolding handle-quit run-of
   cleared-by r k = then k (by _ (ap (λ (l : List ℕ). quit-all l (run (work-of w xs) ds out)) (sym (quits-are v xs n s e))) d)
 
   pub quit-passed : (a .code ≡ 0 → ⊥) → Does (work-of a ys) ds o (handle-quit (run (work-of w xs) ds out))

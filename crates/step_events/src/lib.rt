@@ -4,7 +4,7 @@ use peer::PeerId;
 use record::Kind;
 use record::Refusal;
 use state::Layout;
-use state::Work;
+use work::Work;
 use step_active::Loss;
 use timing::Timing;
 use writer::Fields;
@@ -69,7 +69,7 @@ pub fn handle_join(w: Work, st: &mut [u64], out: &mut [u8], p: PeerId) -> Work
     }
     // Code 10 where no number is left for a join.
     let id = st[Layout::NEXT_JOIN];
-    let d = state::require(b, Refusal::COUNTER, id < state::TOP_COUNTER);
+    let d = work::require(b, Refusal::COUNTER, id < state::TOP_COUNTER);
     if d.code != 0 {
         return d;
     }
@@ -89,7 +89,7 @@ pub fn handle_join(w: Work, st: &mut [u64], out: &mut [u8], p: PeerId) -> Work
         ttl: 0,
         number: id,
     };
-    state::emit_bare(d, out, f)
+    work::emit_bare(d, out, f)
 }
 
 // The connection to p is lost: a mark saves a passive peer once.

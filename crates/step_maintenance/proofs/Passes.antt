@@ -21,11 +21,11 @@ use Rattle.protocol.specs.Active.{clear-refused}
 use Rattle.protocol.specs.Timers.{count-short, refill-anew, refill-if-due, in-recovery, pass-short, pass-neighbors, pass-known, not-alone, knows-none, pass-alone, maintain}
 use Rattle.state.specs.declared.RefillLimit.{RefillLimit}
 use Rattle.state.specs.declared.RefillLimit.the-variants.{Recovery}
-use Rattle.state.specs.declared.Work.{Work}
+use Rattle.work.specs.declared.Work.{Work}
 use Rattle.state.specs.Layout.{passive-part, passes-short}
 use Rattle.state.specs.Unpack.{unpack, station-of, refill-in, limit-at, PackedState}
 use Rattle.state.proofs.Access.{of-passive}
-use Rattle.state.specs.Work.{Held, work-of, run, Changes, Fine, Does}
+use Rattle.state.specs.Work.{Held, work-of, run, run-of, Changes, Fine, Does}
 use Rattle.state.proofs.Bridge.{on-twice, change-then, still, then, seq, seq-at, taken, left, holds-at}
 
 -- ---- refills
@@ -37,7 +37,7 @@ refilled-anew w a r xs ys zs ds out o limit v e k₂ k₁ = seq-at (λ (l : Refi
 
 module _ (w : Work) (xs ds out : List ℕ) (t : Bool) (e : t ≡ backoff-due (passes-short xs)) where
   due : {b : Bool} → t ≡ b → backoff-due (run (work-of w xs) ds out .station .passes-short) ≡ b
-  unfolding run unpack station-of
+  unfolding run-of unpack station-of
   due h = sym e ∙ h
 
   pub refill-due : (r : Work) (ys o : List ℕ) → t ≡ true → Does (work-of r ys) ds o (refill-anew (run (work-of w xs) ds out)) → Does (work-of r ys) ds o (refill-if-due (run (work-of w xs) ds out))
@@ -115,5 +115,5 @@ unfolding on guard not-alone end-recovery is-alone
 alone-as g = by-choice (λ (x : Run). null (x .station .active) ≡ null (g .station .active)) (eqb (g .code) 0) (λ t. refl) (λ t. refl)
 
 pub alone-still : (w r : Work) (xs ys : List ℕ) (t : Bool) → Changes (on not-alone) (work-of w xs) (work-of r ys) → t ≡ is-alone (unpack xs) → t ≡ is-alone (unpack ys)
-unfolding run
+unfolding run-of
 alone-still w r xs ys t k e = e ∙ sym (ap (λ (g : Run). is-alone (g .station)) (k .same [] []) ∙ alone-as (run (work-of w xs) [] []))

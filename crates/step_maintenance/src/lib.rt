@@ -3,14 +3,16 @@ use record::Kind;
 use record::Refusal;
 use state::Layout;
 use state::RefillLimit;
-use state::Work;
+use work::Work;
 use timing::Timing;
 use writer::Fields;
 ghost use mathlib.Core.Path.{_≡_};
 ghost use Prim.Native.Nat.{_≤_};
 ghost use lib.ListN.{length};
+ghost use Rattle.timing.specs.Timing.{maintenance-interval};
+ghost use Rattle.protocol.specs.Run.{emit, timer};
 ghost use Rattle.protocol.specs.Timers.{pass-alone, maintain};
-ghost use Rattle.protocol.specs.Timers.{schedule-maintenance, handle-maintenance-timer};
+ghost use Rattle.protocol.specs.Timers.{handle-maintenance-timer};
 ghost use Rattle.state.specs.Layout.{words};
 ghost use Rattle.state.specs.Work.{work-of, run, TellsAny, Fine, Does};
 
@@ -22,7 +24,7 @@ fn pass_alone(w: Work, st: &mut [u64], draws: &[u32], out: &mut [u8]) -> Work
 {
     // Code 10 where the pass cannot be counted.
     let n = st[Layout::PASSES_ALONE];
-    let mut a = state::require(w, Refusal::COUNTER, n < state::TOP_PASSES);
+    let mut a = work::require(w, Refusal::COUNTER, n < state::TOP_PASSES);
     if a.code != 0 {
         return a;
     }
@@ -48,7 +50,7 @@ fn pass_alone(w: Work, st: &mut [u64], draws: &[u32], out: &mut [u8]) -> Work
         if others == 0 {
             return a;
         }
-        let c = state::choose(a, draws, others);
+        let c = work::choose(a, draws, others);
         let p = util::get_index(&recent, Layout::ALL, c.index);
         return step_sending::join(c.work, st, out, p);
     }
@@ -83,7 +85,7 @@ fn maintain(w: Work, st: &mut [u64], draws: &[u32], out: &mut [u8]) -> Work
         }
         // The pass is counted (code 10 where it cannot be), and the backoff says whether it refills, with a new limit, before which all refusals are forgotten.
         let n = st[Layout::PASSES_SHORT];
-        let b = state::require(a, Refusal::COUNTER, n < state::TOP_PASSES);
+        let b = work::require(a, Refusal::COUNTER, n < state::TOP_PASSES);
         if b.code == 0 {
             st[Layout::PASSES_SHORT] = n + 1;
         }
@@ -99,7 +101,7 @@ fn maintain(w: Work, st: &mut [u64], draws: &[u32], out: &mut [u8]) -> Work
 // The next pass of maintenance.
 pub fn schedule_maintenance(w: Work, out: &mut [u8]) -> Work
     requires { ⌜ w .written ≤ length (now out) ⌝ }
-    ensures { λ r. ⌜ TellsAny schedule-maintenance w r (now (out .entry)) (now (out .exit)) ⌝ }
+    ensures { λ r. ⌜ TellsAny (emit (timer 2 0 maintenance-interval 0)) w r (now (out .entry)) (now (out .exit)) ⌝ }
 {
     let f = Fields {
         kind: Kind::DO_MAINTENANCE,
@@ -110,7 +112,7 @@ pub fn schedule_maintenance(w: Work, out: &mut [u8]) -> Work
         ttl: 0,
         number: 0,
     };
-    state::emit_bare(w, out, f)
+    work::emit_bare(w, out, f)
 }
 
 // The timer of the maintenance, which sets the next one.

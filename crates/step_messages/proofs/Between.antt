@@ -17,9 +17,9 @@ use Rattle.lists.proofs.Members.{shorter}
 use Rattle.protocol.proofs.Invariant.{Fixed, busy, calm, Ok}
 use Rattle.protocol.proofs.Entering.{unbar}
 use Rattle.protocol.proofs.Received.{ok-drop-join, ok-drop-request, ok-drop-pending, ok-forget-recent}
-use Rattle.state.specs.declared.Work.{Work}
+use Rattle.work.specs.declared.Work.{Work}
 use Rattle.state.specs.Unpack.{unpack}
-use Rattle.state.specs.Work.{Held, work-of, run, Changes, Fine, Does}
+use Rattle.state.specs.Work.{Held, work-of, run, run-of, Changes, Fine, Does}
 use Rattle.state.proofs.Bridge.{change-then, still, then, seq, seq-at, taken, left, holds-at, at-run}
 use Rattle.step_active.specs.declared.Loss.the-variants.{DisconnectReceived}
 use Rattle.step_active.specs.Sane.{Calm, reason-in}
@@ -43,7 +43,7 @@ mark-fits q m b d p g k = record {
 }
 
 pub between-mark : (m b d p : ℕ) (w : Work) (xs ds out : List ℕ) → Between m b d (run (work-of w xs) ds out) → FreePassiveMark p (w .code) (unpack xs)
-unfolding run
+unfolding run-of
 between-mark m b d p w xs ds out k = mark-fits (k .fixed) (k .messages + m) (k .bytes + b) (k .draws + d) p (run (work-of w xs) ds out) (k .ok)
 
 -- ---- joins and neighbors

@@ -6,7 +6,7 @@ use record::Kind;
 use record::Message;
 use record::Refusal;
 use state::Layout;
-use state::Work;
+use work::Work;
 use step_active::Loss;
 use timing::Ttl;
 use writer::Fields;
@@ -76,7 +76,7 @@ fn forward_join_to(w: Work, out: &mut [u8], n: PeerInfo, ttl: u16, q: PeerId) ->
         ttl: ttl,
         number: 0,
     };
-    state::emit_one(w, out, f, n)
+    work::emit_one(w, out, f, n)
 }
 
 pub fn on_forward_join(
@@ -111,7 +111,7 @@ pub fn on_forward_join(
     if k == 0 {
         return forward_join_to(learned, out, n, left.0, 0);
     }
-    let chosen = state::choose(learned, draws, k);
+    let chosen = work::choose(learned, draws, k);
     let q = util::get_index(&v, Layout::ALL, chosen.index);
     forward_join_to(chosen.work, out, n, left.0, q)
 }
@@ -128,7 +128,7 @@ fn note_refusal(w: Work, st: &mut [u64], p: PeerId, requested: bool) -> Work
         let n = util::count(&st[Layout::REFUSED..Layout::REFUSED_END], Layout::ALL);
         let fits = util::contains(&st[Layout::REFUSED..Layout::REFUSED_END], Layout::ALL, p)
             | (n < Layout::ALL);
-        let a = state::require(w, Refusal::REFUSED_PEERS, fits);
+        let a = work::require(w, Refusal::REFUSED_PEERS, fits);
         if a.code != 0 {
             return a;
         }

@@ -5,7 +5,7 @@ use peer::PeerInfo;
 use record::Kind;
 use record::Refusal;
 use state::Layout;
-use state::Work;
+use work::Work;
 use writer::Fields;
 ghost use mathlib.Core.Path.{_≡_};
 ghost use lib.ListN.{length};
@@ -138,12 +138,12 @@ pub fn insert_peer_info(w: Work, st: &mut [u64], out: &mut [u8], p: PeerId, d: P
             number: 0,
         };
         let n = PeerInfo { id: 0, data: d };
-        a = state::emit_one(w, out, f, n);
+        a = work::emit_one(w, out, f, n);
     }
     // Code 8 where an 81st entry would be needed.
     let fits = columns::contains_data(&st[Layout::HELD..Layout::HELD_END], Layout::DATA_CAP, p)
         | (st[Layout::HELD_COUNT] < Layout::DATA_CAP as u64);
-    let b = state::require(a, Refusal::DATA, fits);
+    let b = work::require(a, Refusal::DATA, fits);
     if b.code == 0 {
         let m = &mut st[Layout::HELD..Layout::HELD_END];
         columns::insert_data(m, Layout::DATA_CAP, p, d);
@@ -159,7 +159,7 @@ fn make_room(w: Work, st: &mut [u64], draws: &[u32], out: &mut [u8]) -> Added
 {
     let n = st[Layout::PASSIVE_COUNT];
     if (st[Layout::PASSIVE_VIEW_CAPACITY] <= n) & (n != 0) {
-        let t = state::choose(w, draws, n as usize);
+        let t = work::choose(w, draws, n as usize);
         let i = t.index;
         let p = util::get_index(&st[Layout::PASSIVE..Layout::PASSIVE_END], Layout::ALL, i);
         let a = t.work;
@@ -179,7 +179,7 @@ fn make_room(w: Work, st: &mut [u64], draws: &[u32], out: &mut [u8]) -> Added
             number: 0,
         };
         return Added {
-            work: state::emit_bare(b, out, f),
+            work: work::emit_bare(b, out, f),
             evicted: Evicted::Peer(p),
         };
     }

@@ -18,10 +18,10 @@ use Rattle.protocol.specs.Run.{Run, guard, on, with-station}
 use Rattle.protocol.specs.Refill.{few-requests, unless-recovery, one-less, use-request, end-recovery, needs-limit, limit-short, begin-refill}
 use Rattle.state.specs.declared.RefillLimit.{RefillLimit}
 use Rattle.state.specs.declared.RefillLimit.the-variants.{Requests}
-use Rattle.state.specs.declared.Work.{Work}
+use Rattle.work.specs.declared.Work.{Work}
 use Rattle.state.specs.Layout.{refill-kind, refill-requests}
 use Rattle.state.specs.Unpack.{unpack, refill-in, PackedState, Becomes}
-use Rattle.state.specs.Work.{Held, work-of, run, Changes}
+use Rattle.state.specs.Work.{Held, work-of, run, run-of, Changes}
 use Rattle.state.proofs.Bridge.{guard-shut, guard-open, unchanged, on-passed, on-done}
 use Rattle.state.proofs.Counts.{alone}
 use Rattle.state.proofs.Limits.{says-automatic, says-recovery, lifted, kept-requests, one-used, none-used, recovery-kept}
@@ -35,7 +35,7 @@ on-still f g e =
 
 -- what sets the limit anew, where the limit stays as it is
 kept : (f : Station → Station) (limit : Station → Refill) → ((s : Station) → f s ≡ set-refill (limit s) s) → (w : Held) → PackedState (w .state) → limit (unpack (w .state)) ≡ unpack (w .state) .refill → Changes (on f) w w
-unfolding run
+unfolding run-of
 kept f limit d w v e =
     unchanged (on f) v
     (λ ds out. on-still f (run w ds out) (d (unpack (w .state)) ∙ ap (λ (x : Refill). set-refill x (unpack (w .state))) e))

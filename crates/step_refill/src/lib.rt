@@ -2,7 +2,7 @@
 use peer::PeerId;
 use state::Layout;
 use state::RefillLimit;
-use state::Work;
+use work::Work;
 use timing::Timing;
 ghost use mathlib.Core.Path.{_≡_};
 ghost use lib.ListN.{length};
@@ -92,7 +92,7 @@ fn refill_limited(w: Work, st: &mut [u64], draws: &[u32], out: &mut [u8], skip: 
         return end_recovery(w, st);
     }
     let high = st[Layout::ACTIVE_COUNT] == 0;
-    let t = state::choose(w, draws, n);
+    let t = work::choose(w, draws, n);
     let i = t.index;
     let p = from[i];
     let a = step_sending::send_neighbor(t.work, st, out, p, high);

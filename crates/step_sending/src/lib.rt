@@ -6,7 +6,7 @@ use record::Kind;
 use record::Message;
 use record::Refusal;
 use state::Layout;
-use state::Work;
+use work::Work;
 use writer::Fields;
 use writer::Nodes;
 ghost use mathlib.Core.Path.{_≡_};
@@ -21,7 +21,7 @@ ghost use Rattle.protocol.specs.Sending.{join, send-shuffle-reply, send-disconn
 ghost use Rattle.record.specs.Format.{most-nodes};
 ghost use Rattle.state.specs.Layout.{words, all-places};
 ghost use Rattle.state.specs.Unpack.{unpack, PackedState};
-ghost use Rattle.state.specs.Work.{work-of, run, DrawsAny, Room, Tells, Fine, Does};
+ghost use Rattle.state.specs.Work.{work-of, DrawsAny, Room, Tells, Given, Makes};
 
 // The most requests that are open at once.
 const MOST_ASKED: u64 = Layout::ALL as u64;
@@ -67,7 +67,7 @@ pub fn join(w: Work, st: &[u64], out: &mut [u8], p: PeerId) -> Work
         ttl: 0,
         number: 0,
     };
-    state::emit_one(w, out, f, PeerInfo { id: 0, data: d })
+    work::emit_one(w, out, f, PeerInfo { id: 0, data: d })
 }
 
 // Shuffles a working set and cuts it to at most `most` peers.
@@ -77,7 +77,7 @@ pub fn shuffle_and_cap(w: Work, draws: &[u32], most: usize, v: &mut [u64]) -> Wo
     ensures { λ r. ⌜ DrawsAny (draw-shuffle (items-at all-places (now (v .entry)))) w r (now (draws .entry)) ⌝ }
     ensures { λ r. ⌜ HoldsSet all-places (now (v .exit)) (take most (shuffle (drop (w .drawn) (now (draws .entry))) (items-at all-places (now (v .entry))))) ⌝ }
 {
-    let r = state::shuffle_by_draws(w, draws, v);
+    let r = work::shuffle_by_draws(w, draws, v);
     let n = v[Layout::ALL] as usize;
     if n <= most {
         return r;
@@ -98,9 +98,9 @@ pub fn send_shuffle_reply(
     len: usize,
 ) -> Work
     requires { ⌜ length (now st) ≡ words ⌝ }
-    requires { ⌜ Fine (work-of w (now st)) (now draws) (now out) ⌝ }
+    requires { ⌜ Given w st draws out ⌝ }
     requires { ⌜ len ≤ most-nodes ⌝ }
-    ensures { λ r. ⌜ Does (work-of r (now (st .entry))) (now (draws .entry)) (now (out .exit)) (send-shuffle-reply to len (run (work-of w (now (st .entry))) (now (draws .entry)) (now (out .entry)))) ⌝ }
+    ensures { λ r. ⌜ Makes (send-shuffle-reply to len) w r st draws out ⌝ }
 {
     let mut v = [0u64; Layout::SET];
     let passive = &st[Layout::PASSIVE..Layout::PASSIVE_END];
@@ -125,7 +125,7 @@ pub fn send_shuffle_reply(
         ttl: 0,
         number: 0,
     };
-    state::emit_nodes(a, out, f, peer_infos(st, &v[..named]))
+    work::emit_nodes(a, out, f, peer_infos(st, &v[..named]))
 }
 
 // Disconnect, and before it a ShuffleReply.
@@ -138,8 +138,8 @@ pub fn send_disconnect(
     alive: bool,
 ) -> Work
     requires { ⌜ length (now st) ≡ words ⌝ }
-    requires { ⌜ Fine (work-of w (now st)) (now draws) (now out) ⌝ }
-    ensures { λ r. ⌜ Does (work-of r (now (st .entry))) (now (draws .entry)) (now (out .exit)) (send-disconnect p alive (run (work-of w (now (st .entry))) (now (draws .entry)) (now (out .entry)))) ⌝ }
+    requires { ⌜ Given w st draws out ⌝ }
+    ensures { λ r. ⌜ Makes (send-disconnect p alive) w r st draws out ⌝ }
 {
     // How many peers the ShuffleReply names.
     let n = st[Layout::SHUFFLE_ACTIVE_VIEW_COUNT] as usize;
@@ -155,7 +155,7 @@ pub fn send_disconnect(
         ttl: 0,
         number: 0,
     };
-    state::emit_bare(a, out, f)
+    work::emit_bare(a, out, f)
 }
 
 // Neighbor to p with the station's own data, unless a request to it is open. Code 10 where no number is left for a request, code 6 where a 33rd open request is needed;
@@ -169,8 +169,8 @@ pub fn send_neighbor(w: Work, st: &mut [u64], out: &mut [u8], p: PeerId, high: b
         return w;
     }
     let id = st[Layout::NEXT_NEIGHBOR_REQUEST];
-    let a = state::require(w, Refusal::COUNTER, id < state::TOP_COUNTER);
-    let b = state::require(a, Refusal::REQUESTS, st[Layout::ASKED_COUNT] < MOST_ASKED);
+    let a = work::require(w, Refusal::COUNTER, id < state::TOP_COUNTER);
+    let b = work::require(a, Refusal::REQUESTS, st[Layout::ASKED_COUNT] < MOST_ASKED);
     if b.code != 0 {
         return b;
     }
@@ -187,7 +187,7 @@ pub fn send_neighbor(w: Work, st: &mut [u64], out: &mut [u8], p: PeerId, high: b
         number: 0,
     };
     let d = state::own_data(st);
-    let c = state::emit_one(b, out, f, PeerInfo { id: 0, data: d });
+    let c = work::emit_one(b, out, f, PeerInfo { id: 0, data: d });
     let t = Fields {
         kind: Kind::PENDING_NEIGHBOR_REQUEST,
         message: 0,
@@ -197,7 +197,7 @@ pub fn send_neighbor(w: Work, st: &mut [u64], out: &mut [u8], p: PeerId, high: b
         ttl: 0,
         number: id,
     };
-    state::emit_bare(c, out, t)
+    work::emit_bare(c, out, t)
 }
 
 // Neighbor to p, where an answer is wanted.

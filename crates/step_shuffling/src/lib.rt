@@ -4,7 +4,7 @@ use record::Kind;
 use record::Message;
 use state::Layout;
 use state::RefillLimit;
-use state::Work;
+use work::Work;
 use timing::Ttl;
 use writer::Fields;
 use writer::Nodes;
@@ -93,7 +93,7 @@ fn pass_shuffle(
     if util::is_empty(&v, Layout::ALL) {
         return w;
     }
-    let t = state::choose(w, draws, util::count(&v, Layout::ALL));
+    let t = work::choose(w, draws, util::count(&v, Layout::ALL));
     let q = util::get_index(&v, Layout::ALL, t.index);
     let hops = Ttl(ttl);
     let left = hops.next();
@@ -106,7 +106,7 @@ fn pass_shuffle(
         ttl: left.0,
         number: 0,
     };
-    state::emit_nodes(t.work, out, f, event_nodes(b, n))
+    work::emit_nodes(t.work, out, f, event_nodes(b, n))
 }
 
 // Shuffle ends here and is answered, or goes on.

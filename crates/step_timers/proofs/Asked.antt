@@ -16,7 +16,7 @@ use Rattle.protocol.specs.Sending.{join}
 use Rattle.protocol.specs.Refill.{refill-active-from-passive}
 use Rattle.protocol.specs.Messages.{drop-join, drop-request}
 use Rattle.protocol.specs.Timers.{is-number, request-is, request-failed, handle-pending-neighbor-timer, join-is, retry-join}
-use Rattle.state.specs.declared.Work.{Work}
+use Rattle.work.specs.declared.Work.{Work}
 use Rattle.state.specs.Layout.{requests-part, joins-part}
 use Rattle.state.specs.Unpack.{unpack, station-of}
 use Rattle.state.specs.Work.{work-of, run, Changes, Room, Tells, Fine, Does}

@@ -5,7 +5,7 @@ use peer::PeerInfo;
 use record::Kind;
 use record::Message;
 use state::Layout;
-use state::Work;
+use work::Work;
 use writer::Fields;
 ghost use mathlib.Core.Path.{_≡_};
 ghost use lib.ListN.{length};
@@ -75,7 +75,7 @@ pub fn schedule_shuffle(w: Work, st: &mut [u64], draws: &[u32], out: &mut [u8]) 
     let x = st[Layout::NEXT_SHUFFLE_INTERVAL] as u32;
     let next = timing::shorter(2 * x, st[Layout::SHUFFLE_INTERVAL] as u32);
     st[Layout::NEXT_SHUFFLE_INTERVAL] = next as u64;
-    let d = state::draw(w, draws);
+    let d = work::draw(w, draws);
     let f = Fields {
         kind: Kind::DO_SHUFFLE,
         message: 0,
@@ -85,7 +85,7 @@ pub fn schedule_shuffle(w: Work, st: &mut [u64], draws: &[u32], out: &mut [u8]) 
         ttl: 0,
         number: 0,
     };
-    state::emit_bare(d.work, out, f)
+    work::emit_bare(d.work, out, f)
 }
 
 // Shuffle to a neighbor, where there is one. It names some peers of each view, but not that one, as the next draws decide, and the station itself last.
@@ -99,7 +99,7 @@ fn shuffle_any(w: Work, st: &[u64], draws: &[u32], out: &mut [u8]) -> Work
     if neighbors == 0 {
         return w;
     }
-    let chosen = state::choose(w, draws, neighbors);
+    let chosen = work::choose(w, draws, neighbors);
     let to = util::get_index(active, Layout::FEW, chosen.index);
     let mut named_peers = [0u64; Layout::SET];
     util::copy_into(active, Layout::FEW, &mut named_peers);
@@ -126,7 +126,7 @@ fn shuffle_any(w: Work, st: &[u64], draws: &[u32], out: &mut [u8]) -> Work
         ttl: st[Layout::SHUFFLE_RANDOM_WALK_LENGTH] as u16,
         number: 0,
     };
-    state::emit_nodes(b, out, f, named.push(PeerInfo { id: me, data: own }))
+    work::emit_nodes(b, out, f, named.push(PeerInfo { id: me, data: own }))
 }
 
 // The timer of the shuffle, which sets the next one.

@@ -14,10 +14,10 @@ use Rattle.util.specs.Section.{part, items-at, HoldsSet}
 use Rattle.protocol.specs.Run.{Run, on}
 use Rattle.protocol.specs.Sending.{send-disconnect}
 use Rattle.protocol.specs.Events.{remove-neighbor, quit-all}
-use Rattle.state.specs.declared.Work.{Work}
+use Rattle.work.specs.declared.Work.{Work}
 use Rattle.state.specs.Layout.{words}
 use Rattle.state.specs.Unpack.{long}
-use Rattle.state.specs.Work.{work-of, run, Changes, Fine, Does}
+use Rattle.state.specs.Work.{work-of, run, run-of, Changes, Fine, Does}
 use Rattle.state.proofs.Access.{of-packed, of-active}
 use Rattle.step_refill.proofs.Asking.{fine-after}
 use Rattle.step_events.proofs.Leaving.{neighbor-removed, quitted, quits-shut, quit-passed, quit-handled}
@@ -60,7 +60,7 @@ unfolding quit-all
 end w st₀ ds out₀ v n st out r i q h = record { fine = q .fine; same = sym (rest-end 0 Then (q .rest) h) }
 
 stopped : (w : Work) (st₀ ds out₀ v : List ℕ) (n : ℕ) (st out : List ℕ) (r : Work) (i : ℕ) → Quitting w st₀ ds out₀ v n st out r i → (r .code ≡ 0 → ⊥) → Does (work-of r st) ds out (quit-all (take n v) (run (work-of w st₀) ds out₀))
-unfolding run
+unfolding run-of
 stopped w st₀ ds out₀ v n st out r i q h = record { fine = q .fine; same = sym (q .rest .same ∙ quits-shut (slice i n v) (run (work-of r st) ds out) h) }
 
 -- what the loop's test says

@@ -5,7 +5,7 @@ use mathlib.Core.Logic.{⊎-elim}
 use native.Mathlib.Omega.{arith}
 use Rattle.util.specs.Section.{part}
 use Rattle.protocol.specs.Run.{on}
-use Rattle.protocol.specs.Timers.{remember-all, maintain, handle-maintenance-timer}
+use Rattle.protocol.specs.Timers.{remember-all, maintain, handle-maintenance-timer, schedule-maintenance}
 use Rattle.state.specs.Unpack.{long}
 use Rattle.state.specs.Work.{work-of, Changes, Fine}
 use Rattle.state.proofs.Access.{of-packed}
@@ -113,12 +113,12 @@ same-length-2 : tie.Need-same-length-2 Inv-loop μ-loop
 same-length-2 c = search needs
 
 returns : tie.Need-returns Inv-loop μ-loop
-unfolding handle-maintenance-timer
+unfolding handle-maintenance-timer schedule-maintenance
 returns c =
     let at-schedule-maintenance = c .before .before in
     let at-maintain = at-schedule-maintenance .before .before .before .before .before .before in
     let at-joined1 = maintain-to-joined1 at-maintain in
-    then-tell-any (at-schedule-maintenance .schedule-maintenance .ensures) (seq maintain (at-maintain .maintain .ensures) (then (remembered at-joined1) (still (fine (joined1-to-start at-joined1)))))
+    then-tell-any _ (at-schedule-maintenance .schedule-maintenance .ensures) (seq maintain (at-maintain .maintain .ensures) (then (remembered at-joined1) (still (fine (joined1-to-start at-joined1)))))
 
 pub handle-maintenance-timer-spec : {M : Type 1} → statement M
 handle-maintenance-timer-spec =

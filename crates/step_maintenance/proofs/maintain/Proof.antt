@@ -7,7 +7,7 @@ use lib.ListN.{length}
 use Rattle.protocol.specs.Setters.{set-passes-alone}
 use Rattle.protocol.specs.Run.{on}
 use Rattle.protocol.specs.Timers.{count-short, pass-known, pass-neighbors, not-alone, maintain}
-use Rattle.state.specs.declared.Work.{Work}
+use Rattle.work.specs.declared.Work.{Work}
 use Rattle.state.specs.Layout.{words}
 use Rattle.state.specs.Unpack.{long}
 use Rattle.state.specs.Work.{work-of, run, Changes, Fine, Does}

@@ -13,7 +13,7 @@ use Rattle.record.specs.Read.{node-at, nodes-of}
 use Rattle.record.specs.Answers.{HoldsNode}
 use Rattle.protocol.specs.Run.{Run}
 use Rattle.protocol.specs.Peers.{is-newcomer, add-passive, add-nodes, any-new}
-use Rattle.state.specs.declared.Work.{Work}
+use Rattle.work.specs.declared.Work.{Work}
 use Rattle.state.specs.Unpack.{unpack}
 use Rattle.state.specs.Work.{work-of, run, Fine, Does}
 use Rattle.state.proofs.Bridge.{at-run}

@@ -1,12 +1,12 @@
 use borrow.Author.Needs.{needs}
-use Rattle.state.proofs.after_record.Statement.{statement}
-use Rattle.state.proofs.after_record.Tie as tie
+use Rattle.work.proofs.after_record.Statement.{statement}
+use Rattle.work.proofs.after_record.Tie as tie
 use Prim.Native.Nat.{ℕ}
 use mathlib.Core.Path.{_≡_}
 use Rattle.writer.specs.declared.Written.{Written}
 use Rattle.writer.specs.declared.Written.the-variants.{At, Full}
-use Rattle.state.specs.declared.Work.{Work}
-use Rattle.state.specs.Work.{after-record}
+use Rattle.work.specs.declared.Work.{Work}
+use Rattle.work.specs.Work.{after-record}
 
 reached : (w : Work) (a : Written) (n : ℕ) → a ≡ At n → record { drawn = w .drawn; written = n; code = w .code } ≡ after-record a w
 unfolding after-record

@@ -1,6 +1,6 @@
-use Rattle.state.proofs.Any.{required-passed, required-held, required-refused}
-use Rattle.state.proofs.require.Statement.{statement}
-use Rattle.state.proofs.require.Tie as tie
+use Rattle.work.proofs.Any.{required-passed, required-held, required-refused}
+use Rattle.work.proofs.require.Statement.{statement}
+use Rattle.work.proofs.require.Tie as tie
 
 returns : tie.Need-returns
 returns c = search required-passed

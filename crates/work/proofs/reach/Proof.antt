@@ -1,6 +1,6 @@
-use Rattle.state.proofs.Any.{reach-passed, reach-short, reach-next}
-use Rattle.state.proofs.reach.Statement.{statement}
-use Rattle.state.proofs.reach.Tie as tie
+use Rattle.work.proofs.Any.{reach-passed, reach-short, reach-next}
+use Rattle.work.proofs.reach.Statement.{statement}
+use Rattle.work.proofs.reach.Tie as tie
 
 returns : tie.Need-returns
 returns c = search reach-passed

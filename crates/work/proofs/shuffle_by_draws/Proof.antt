@@ -1,7 +1,7 @@
-use Rattle.state.proofs.Any.{drew-shuffle}
+use Rattle.work.proofs.Any.{drew-shuffle}
 use borrow.Author.Needs.{needs}
-use Rattle.state.proofs.shuffle_by_draws.Statement.{statement}
-use Rattle.state.proofs.shuffle_by_draws.Tie as tie
+use Rattle.work.proofs.shuffle_by_draws.Statement.{statement}
+use Rattle.work.proofs.shuffle_by_draws.Tie as tie
 
 shuffle-requires : tie.Need-shuffle-requires
 shuffle-requires c κs = search needs

@@ -1,8 +1,8 @@
-use Rattle.state.proofs.Any.{drew-one}
-use Rattle.state.proofs.Bridge.{getD-past}
+use Rattle.work.proofs.Any.{drew-one}
+use Rattle.work.proofs.Bridge.{getD-past}
 use borrow.Author.Needs.{needs}
-use Rattle.state.proofs.draw.Statement.{statement}
-use Rattle.state.proofs.draw.Tie as tie
+use Rattle.work.proofs.draw.Statement.{statement}
+use Rattle.work.proofs.draw.Tie as tie
 
 add-reach : tie.Need-add-reach
 add-reach c = search needs

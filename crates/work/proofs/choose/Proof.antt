@@ -1,7 +1,7 @@
-use Rattle.state.proofs.Any.{drew-one-of}
+use Rattle.work.proofs.Any.{drew-one-of}
 use borrow.Author.Needs.{needs}
-use Rattle.state.proofs.choose.Statement.{statement}
-use Rattle.state.proofs.choose.Tie as tie
+use Rattle.work.proofs.choose.Statement.{statement}
+use Rattle.work.proofs.choose.Tie as tie
 
 pick-index-requires : tie.Need-pick-index-requires
 pick-index-requires c κs = search needs
