@@ -10,16 +10,16 @@ import sys
 STATES = [
     (
         "Station",
-        "crates/protocol/specs/Station.antt",
-        "crates/protocol/specs/Setters.antt",
+        "crates/spec_hyparview/specs/Station.antt",
+        "crates/spec_hyparview/specs/Setters.antt",
         ["me", "config"],
         """-- The station with one field changed, for each field but `me` and `config`, which stay as `new` was given them.
 -- Assumes nothing.
 use Prim.Native.Nat.{ℕ}
 use mathlib.Core.Bool.{Bool}
 use mathlib.Core.List.{List}
-use Rattle.peer.specs.Data.{Data}
-use Rattle.protocol.specs.Station.{Refill, Station}
+use Rattle.base_peer.specs.Data.{Data}
+use Rattle.spec_hyparview.specs.Station.{Refill, Station}
 """,
     ),
 ]

@@ -8,36 +8,36 @@ use mathlib.Core.Option.{Option}
 use native.Mathlib.Omega.{arith}
 use lib.ListN.{length, drop, getD}
 use borrow.Author.Tests.{eq-eqb}
-use Rattle.lists.specs.Lists.{choose, null, count, index-of, insert, swap-remove}
-use Rattle.lists.specs.Maps.{lookup}
-use Rattle.lists.proofs.Choice.{choose-yes, clash}
-use Rattle.lists.proofs.Count.{index-lt, length-swap}
-use Rattle.util.specs.Chances.{pick}
-use Rattle.peer.specs.declared.PeerData.{PeerData}
-use Rattle.peer.specs.Held.{data-in, HoldsData}
-use Rattle.util.specs.Section.{items-at}
-use Rattle.writer.specs.Write.{rec-in}
-use Rattle.protocol.specs.Station.{recovery, in-active, is-alone}
-use Rattle.protocol.specs.Sending.{send-disconnect}
-use Rattle.protocol.specs.Refill.{start-refill}
-use Rattle.protocol.specs.Run.{Run, with-station, guard, on, emit, notice, to-draw, one-of, draw-one-of}
-use Rattle.protocol.specs.Budgets.{bare, adding, disconnecting, leaving, freeing}
-use Rattle.protocol.specs.Peers.{drop-data, drop-mark, forget-peer, add-passive, is-marked}
-use Rattle.protocol.specs.Active.{Reason, random, swap-active, drop-active, demote, mark-alive, demote-alive, settle-closed, settle, clear-refused, remove-active-by-index, refill-after, remove-active, remove-picked, free-random-slot-in-active-view}
-use Rattle.lists.proofs.Members.{shorter}
-use Rattle.protocol.proofs.Invariant.{Fixed, busy, Ok}
-use Rattle.protocol.proofs.Keeping.{ease, ok-one-of}
-use Rattle.protocol.proofs.Sends.{ok-send-disconnect}
-use Rattle.protocol.proofs.Leaving.{ok-demote-alive, ok-drop-active, ok-free-slot}
+use Rattle.base_lists.specs.Lists.{choose, null, count, index-of, insert, swap-remove}
+use Rattle.base_lists.specs.Maps.{lookup}
+use Rattle.base_lists.proofs.Choice.{choose-yes, clash}
+use Rattle.base_lists.proofs.Count.{index-lt, length-swap}
+use Rattle.base_util.specs.Chances.{pick}
+use Rattle.base_peer.specs.declared.PeerData.{PeerData}
+use Rattle.base_peer.specs.Held.{data-in, HoldsData}
+use Rattle.base_util.specs.Section.{items-at}
+use Rattle.record_writer.specs.Write.{rec-in}
+use Rattle.spec_hyparview.specs.Station.{recovery, in-active, is-alone}
+use Rattle.spec_hyparview.specs.Sending.{send-disconnect}
+use Rattle.spec_hyparview.specs.Refill.{start-refill}
+use Rattle.spec_hyparview.specs.Run.{Run, with-station, guard, on, emit, notice, to-draw, one-of, draw-one-of}
+use Rattle.spec_hyparview.specs.Budgets.{bare, adding, disconnecting, leaving, freeing}
+use Rattle.spec_hyparview.specs.Peers.{drop-data, drop-mark, forget-peer, add-passive, is-marked}
+use Rattle.spec_hyparview.specs.Active.{Reason, random, swap-active, drop-active, demote, mark-alive, demote-alive, settle-closed, settle, clear-refused, remove-active-by-index, refill-after, remove-active, remove-picked, free-random-slot-in-active-view}
+use Rattle.base_lists.proofs.Members.{shorter}
+use Rattle.spec_hyparview.proofs.Invariant.{Fixed, busy, Ok}
+use Rattle.spec_hyparview.proofs.Keeping.{ease, ok-one-of}
+use Rattle.spec_hyparview.proofs.Sends.{ok-send-disconnect}
+use Rattle.spec_hyparview.proofs.Leaving.{ok-demote-alive, ok-drop-active, ok-free-slot}
 use Rattle.work.specs.declared.Work.{Work}
-use Rattle.state.specs.declared.RefillLimit.{RefillLimit}
-use Rattle.state.specs.declared.RefillLimit.the-variants.{Recovery}
-use Rattle.state.specs.Layout.{active-view-capacity, active-part, alive-part}
-use Rattle.state.specs.Unpack.{station-form, unpack, station-of, refill-in, PackedState}
-use Rattle.state.specs.Work.{work-of, run, run-of, Changes, DrawsAny, Room, Tells, TellsAny, Fine, Does}
-use Rattle.state.proofs.Access.{active-fits}
-use Rattle.state.proofs.Bridge.{on-passed, emit-passed, telling, tell-then, still, by, then, then-tell, seq, seq-at, taken, left, holds-at}
-use Rattle.state.proofs.Any.{one-of-at, then-one-of, told-at}
+use Rattle.hyparview_state.specs.declared.RefillLimit.{RefillLimit}
+use Rattle.hyparview_state.specs.declared.RefillLimit.the-variants.{Recovery}
+use Rattle.hyparview_state.specs.Layout.{active-view-capacity, active-part, alive-part}
+use Rattle.hyparview_state.specs.Unpack.{station-form, unpack, station-of, refill-in, PackedState}
+use Rattle.hyparview_state.specs.Work.{work-of, run, run-of, Changes, DrawsAny, Room, Tells, TellsAny, Fine, Does}
+use Rattle.hyparview_state.proofs.Access.{active-fits}
+use Rattle.hyparview_state.proofs.Bridge.{on-passed, emit-passed, telling, tell-then, still, by, then, then-tell, seq, seq-at, taken, left, holds-at}
+use Rattle.hyparview_state.proofs.Any.{one-of-at, then-one-of, told-at}
 use Rattle.step_peers.specs.declared.Added.{Added}
 use Rattle.step_peers.specs.Answer.{Adds}
 use Rattle.step_active.specs.declared.Loss.{Loss}

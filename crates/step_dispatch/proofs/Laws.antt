@@ -2,26 +2,26 @@
 -- Assumes nothing.
 use Prim.Native.Nat.{ℕ, _≤_}
 use Rattle.step_dispatch.specs.Begun.{Opens}
-use Rattle.protocol.proofs.Keeping.{ease}
-use Rattle.protocol.specs.Budgets.{arriving}
-use Rattle.protocol.specs.Handle.{note-scheduled, first-timers, dispatch, forget-declined, steps}
-use Rattle.timing.specs.Timing.{maintenance-interval}
-use Rattle.protocol.specs.Run.{Run, on, emit, timer}
-use Rattle.protocol.specs.Timers.{schedule-shuffle, schedule-maintenance}
+use Rattle.spec_hyparview.proofs.Keeping.{ease}
+use Rattle.spec_hyparview.specs.Budgets.{arriving}
+use Rattle.spec_hyparview.specs.Handle.{note-scheduled, first-timers, dispatch, forget-declined, steps}
+use Rattle.base_timing.specs.Timing.{maintenance-interval}
+use Rattle.spec_hyparview.specs.Run.{Run, on, emit, timer}
+use Rattle.spec_hyparview.specs.Timers.{schedule-shuffle, schedule-maintenance}
 use Rattle.record.specs.Format.{Rec}
-use Rattle.state.proofs.Any.{then-tell-any}
-use Rattle.state.proofs.Bridge.{on-passed, on-done, emit-passed, still, taken, left, then, then-tell, seq}
-use Rattle.state.proofs.Fields.{put-scheduled}
-use Rattle.state.specs.Layout as layout
-use Rattle.state.specs.Unpack.{station-of, unpack}
-use Rattle.state.specs.Work.{Held, work-of, run, run-of, Changes, Fine, Does, TellsAny}
+use Rattle.hyparview_state.proofs.Any.{then-tell-any}
+use Rattle.hyparview_state.proofs.Bridge.{on-passed, on-done, emit-passed, still, taken, left, then, then-tell, seq}
+use Rattle.hyparview_state.proofs.Fields.{put-scheduled}
+use Rattle.hyparview_state.specs.Layout as layout
+use Rattle.hyparview_state.specs.Unpack.{station-of, unpack}
+use Rattle.hyparview_state.specs.Work.{Held, work-of, run, run-of, Changes, Fine, Does, TellsAny}
 use Rattle.work.specs.declared.Work.{Work}
 use Rattle.step_events.specs.Free.{KnownJoins}
 use Rattle.step_messages.specs.Between.{Between}
-use Rattle.lists.proofs.Choice.{split, and-left, and-right, and-false}
+use Rattle.base_lists.proofs.Choice.{split, and-left, and-right, and-false}
 use Rattle.step_sending.proofs.Told.{room-of}
 use Rattle.step_timers.proofs.Shuffles.{not-scheduled}
-use Rattle.util.specs.Section.{part}
+use Rattle.base_util.specs.Section.{part}
 use borrow.Author.Tests.{eqb-true, eqb-false}
 use lib.Dec.{eqb}
 use lib.ListN.{length, set, length-set}

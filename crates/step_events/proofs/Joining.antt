@@ -10,33 +10,33 @@ use lib.Seq.{getD-take}
 use lib.Dec.{eqb, ltb}
 use borrow.Author.Tests.{ltb-true, lt-ltb, le-ltb, eqb-true, eqb-false}
 use borrow.Rule.Slice.PartMut.{putMid}
-use Rattle.lists.specs.Lists.{choose, is, count, mem, without, renew}
-use Rattle.lists.specs.Maps.{keys, cut, has}
-use Rattle.lists.proofs.Choice.{split, by-choice, choose-yes, choose-no}
-use Rattle.lists.proofs.Count.{is-self, is-split, mem-false}
-use Rattle.lists.proofs.Maps.{length-keys}
-use Rattle.util.specs.Section.{part, items-at, ValidSet, HoldsSet}
-use Rattle.util.proofs.Parts.{part-read, part-put}
-use Rattle.columns.specs.Columns.{numbers-at, ValidNumbers, HoldsNumbers}
-use Rattle.timing.specs.Timing.{join-retry-delay}
+use Rattle.base_lists.specs.Lists.{choose, is, count, mem, without, renew}
+use Rattle.base_lists.specs.Maps.{keys, cut, has}
+use Rattle.base_lists.proofs.Choice.{split, by-choice, choose-yes, choose-no}
+use Rattle.base_lists.proofs.Count.{is-self, is-split, mem-false}
+use Rattle.base_lists.proofs.Maps.{length-keys}
+use Rattle.base_util.specs.Section.{part, items-at, ValidSet, HoldsSet}
+use Rattle.base_util.proofs.Parts.{part-read, part-put}
+use Rattle.base_columns.specs.Columns.{numbers-at, ValidNumbers, HoldsNumbers}
+use Rattle.base_timing.specs.Timing.{join-retry-delay}
 use Rattle.record.specs.Format.{Rec}
-use Rattle.writer.specs.Write.{rec-in}
-use Rattle.protocol.specs.Setters.{set-joins, set-bootstrap}
-use Rattle.protocol.specs.Station.{Station, is-me, in-active, top-counter}
-use Rattle.protocol.specs.Run.{Run, guard, on, emit, require, timer}
-use Rattle.protocol.specs.Sending.{join-to, join}
-use Rattle.protocol.specs.Events.{must-drop-oldest, oldest, drop-oldest-join, push-bootstrap, join-counts, note-join, open-join, await-join, join-other, join-new, handle-join}
-use Rattle.lists.proofs.Members.{shorter, renewed}
-use Rattle.protocol.proofs.Requested.{fewer-joins}
+use Rattle.record_writer.specs.Write.{rec-in}
+use Rattle.spec_hyparview.specs.Setters.{set-joins, set-bootstrap}
+use Rattle.spec_hyparview.specs.Station.{Station, is-me, in-active, top-counter}
+use Rattle.spec_hyparview.specs.Run.{Run, guard, on, emit, require, timer}
+use Rattle.spec_hyparview.specs.Sending.{join-to, join}
+use Rattle.spec_hyparview.specs.Events.{must-drop-oldest, oldest, drop-oldest-join, push-bootstrap, join-counts, note-join, open-join, await-join, join-other, join-new, handle-join}
+use Rattle.base_lists.proofs.Members.{shorter, renewed}
+use Rattle.spec_hyparview.proofs.Requested.{fewer-joins}
 use Rattle.work.specs.declared.Work.{Work}
-use Rattle.state.specs.Layout.{bootstrap-part, joins-part, next-join}
-use Rattle.state.specs.Unpack.{unpack, station-of, long, PackedState, Becomes}
-use Rattle.state.specs.Work.{Held, work-of, run, run-of, Changes, ChangesAny, Room, Tells, TellsAny}
-use Rattle.state.proofs.Access.{of-bootstrap, of-joins}
-use Rattle.state.proofs.Any.{required-at, told-at}
-use Rattle.state.proofs.Bridge.{on-passed, on-done, emit-passed, require-said, unchanged, change-then, telling, tell-then, tell-yes, tell-no}
-use Rattle.state.proofs.Fields.{put-bootstrap, put-joins}
-use Rattle.state.proofs.Refused.{required-code}
+use Rattle.hyparview_state.specs.Layout.{bootstrap-part, joins-part, next-join}
+use Rattle.hyparview_state.specs.Unpack.{unpack, station-of, long, PackedState, Becomes}
+use Rattle.hyparview_state.specs.Work.{Held, work-of, run, run-of, Changes, ChangesAny, Room, Tells, TellsAny}
+use Rattle.hyparview_state.proofs.Access.{of-bootstrap, of-joins}
+use Rattle.hyparview_state.proofs.Any.{required-at, told-at}
+use Rattle.hyparview_state.proofs.Bridge.{on-passed, on-done, emit-passed, require-said, unchanged, change-then, telling, tell-then, tell-yes, tell-no}
+use Rattle.hyparview_state.proofs.Fields.{put-bootstrap, put-joins}
+use Rattle.hyparview_state.proofs.Refused.{required-code}
 use Rattle.step_events.specs.Free.{KnownJoins, FreeJoin}
 
 -- ---- the bootstrap peers

@@ -9,22 +9,22 @@ use lib.Seq.{take-all}
 use lib.Dec.{ltb}
 use borrow.Author.Tests.{ltb-true}
 use borrow.Rule.Slice.PartMut.{putMid}
-use Rattle.lists.specs.Lists.{without-all, renew}
-use Rattle.lists.proofs.Rest.{Rest, rest-next, rest-end}
-use Rattle.util.specs.Section.{items-at, HoldsSet}
-use Rattle.writer.specs.Write.{rec-in}
-use Rattle.protocol.specs.Station.{Station, top-passes}
-use Rattle.protocol.specs.Setters.{set-passes-alone, set-recent}
-use Rattle.timing.specs.Timing.{maintenance-interval}
-use Rattle.protocol.specs.Run.{on, emit, require, timer}
-use Rattle.protocol.specs.Timers.{renew-all, remember-all, other-recent, alone-counts, add-alone, count-alone, short-counts, add-short, count-short}
+use Rattle.base_lists.specs.Lists.{without-all, renew}
+use Rattle.base_lists.proofs.Rest.{Rest, rest-next, rest-end}
+use Rattle.base_util.specs.Section.{items-at, HoldsSet}
+use Rattle.record_writer.specs.Write.{rec-in}
+use Rattle.spec_hyparview.specs.Station.{Station, top-passes}
+use Rattle.spec_hyparview.specs.Setters.{set-passes-alone, set-recent}
+use Rattle.base_timing.specs.Timing.{maintenance-interval}
+use Rattle.spec_hyparview.specs.Run.{on, emit, require, timer}
+use Rattle.spec_hyparview.specs.Timers.{renew-all, remember-all, other-recent, alone-counts, add-alone, count-alone, short-counts, add-short, count-short}
 use Rattle.work.specs.declared.Work.{Work}
-use Rattle.state.specs.Layout.{active-part, recent-part, bootstrap-part, passes-alone, passes-short}
-use Rattle.state.specs.Unpack.{unpack, station-of, long, PackedState, Becomes}
-use Rattle.state.specs.Work.{work-of, run, run-of, Changes, ChangesAny, TellsAny}
-use Rattle.state.proofs.Any.{required-at}
-use Rattle.state.proofs.Bridge.{on-passed, on-done, require-said, change-then}
-use Rattle.state.proofs.Fields.{put-passes-alone, put-passes-short, put-recent}
+use Rattle.hyparview_state.specs.Layout.{active-part, recent-part, bootstrap-part, passes-alone, passes-short}
+use Rattle.hyparview_state.specs.Unpack.{unpack, station-of, long, PackedState, Becomes}
+use Rattle.hyparview_state.specs.Work.{work-of, run, run-of, Changes, ChangesAny, TellsAny}
+use Rattle.hyparview_state.proofs.Any.{required-at}
+use Rattle.hyparview_state.proofs.Bridge.{on-passed, on-done, require-said, change-then}
+use Rattle.hyparview_state.proofs.Fields.{put-passes-alone, put-passes-short, put-recent}
 
 -- ---- passes
 

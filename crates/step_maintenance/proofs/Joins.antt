@@ -7,24 +7,24 @@ use mathlib.Core.List.{List, [], _∷_}
 use native.Mathlib.Omega.{arith}
 use lib.ListN.{length, drop, getD, set}
 use lib.Seq.{take-all, getD-set-same}
-use Rattle.lists.specs.Lists.{null}
-use Rattle.lists.proofs.Choice.{split, choose-yes, choose-no}
-use Rattle.lists.proofs.Members.{null-yes, null-no}
-use Rattle.lists.proofs.Rest.{Rest, rest-next, rest-end}
-use Rattle.util.specs.Chances.{pick}
-use Rattle.timing.specs.Timing.{backoff-due}
-use Rattle.peer.specs.Data.{Data}
-use Rattle.util.specs.Section.{items-at, HoldsSet}
+use Rattle.base_lists.specs.Lists.{null}
+use Rattle.base_lists.proofs.Choice.{split, choose-yes, choose-no}
+use Rattle.base_lists.proofs.Members.{null-yes, null-no}
+use Rattle.base_lists.proofs.Rest.{Rest, rest-next, rest-end}
+use Rattle.base_util.specs.Chances.{pick}
+use Rattle.base_timing.specs.Timing.{backoff-due}
+use Rattle.base_peer.specs.Data.{Data}
+use Rattle.base_util.specs.Section.{items-at, HoldsSet}
 use Rattle.record.specs.Format.{Rec}
-use Rattle.protocol.specs.Run.{Run, emit, emit-all, draw, to-draw, one-of, draw-one-of, picked}
-use Rattle.protocol.specs.Sending.{join-to, join}
-use Rattle.protocol.specs.Timers.{other-recent, rejoin-recent, rejoin-bootstrap, rejoin, count-alone, rejoin-if-due, pass-alone}
+use Rattle.spec_hyparview.specs.Run.{Run, emit, emit-all, draw, to-draw, one-of, draw-one-of, picked}
+use Rattle.spec_hyparview.specs.Sending.{join-to, join}
+use Rattle.spec_hyparview.specs.Timers.{other-recent, rejoin-recent, rejoin-bootstrap, rejoin, count-alone, rejoin-if-due, pass-alone}
 use Rattle.work.specs.declared.Work.{Work}
-use Rattle.state.specs.Layout.{words, bootstrap-part, passes-alone}
-use Rattle.state.specs.Unpack.{unpack, station-of}
-use Rattle.state.specs.Work.{work-of, run, run-of, Changes, DrawsAny, Room, Tells, Fine, Does}
-use Rattle.state.proofs.Bridge.{guard-shut, by, still, then, then-tell, seq, seq-at, taken, left}
-use Rattle.state.proofs.Any.{then-one-of}
+use Rattle.hyparview_state.specs.Layout.{words, bootstrap-part, passes-alone}
+use Rattle.hyparview_state.specs.Unpack.{unpack, station-of}
+use Rattle.hyparview_state.specs.Work.{work-of, run, run-of, Changes, DrawsAny, Room, Tells, Fine, Does}
+use Rattle.hyparview_state.proofs.Bridge.{guard-shut, by, still, then, then-tell, seq, seq-at, taken, left}
+use Rattle.hyparview_state.proofs.Any.{then-one-of}
 
 -- ---- the bootstrap peers: the Joins to those to come, after what was done so far, are the answer
 

@@ -9,38 +9,38 @@ use native.Mathlib.Omega.{arith}
 use lib.ListN.{length, take, drop, getD}
 use lib.Dec.{eqb, ltb}
 use borrow.Author.Tests.{eq-eqb, ne-eqb, eqb-true, eqb-false}
-use Rattle.lists.specs.Lists.{mem, without, insert}
-use Rattle.lists.proofs.Choice.{split, by-choice, choose-yes, choose-no, and-left, and-right, clash}
-use Rattle.util.specs.Chances.{pick}
-use Rattle.peer.specs.Data.{Node}
-use Rattle.peer.specs.Held.{data-in, node-in}
-use Rattle.peer.specs.declared.PeerData.{PeerData}
-use Rattle.util.specs.Section.{items-at, HoldsSet}
-use Rattle.peer.specs.declared.PeerInfo.{PeerInfo}
-use Rattle.timing.specs.Timing.{next, expired}
-use Rattle.timing.proofs.Ranges.{ranges}
-use Rattle.writer.specs.Write.{rec-in}
-use Rattle.protocol.specs.Station.{Station, is-me, is-requested, in-passive, in-active, active-is-full, is-last-hop}
-use Rattle.protocol.specs.Run.{Run, guard, on, emit, to-draw, one-of, draw-one-of, require, picked, node, emit-all}
-use Rattle.protocol.specs.Peers.{insert-peer-info, forget-peer, add-passive, drop-passive}
-use Rattle.protocol.specs.Sending.{send-neighbor, send-disconnect}
-use Rattle.protocol.specs.Refill.{refill-active-from-passive}
-use Rattle.protocol.specs.Active.{mark-alive, accepts}
-use Rattle.protocol.specs.Messages.{forward-join-to, ends-here, ask-joiner, learn-joiner, forward-join-on, walk-on, on-forward-join}
-use Rattle.protocol.specs.Messages.{forward-joins, refuse-neighbor}
-use Rattle.protocol.specs.Messages.{drop-recent, forget-recent, refused-fits, add-refused, note-refused, note-refusal, mark-passive, left-topic, disconnect-other}
-use Rattle.lists.proofs.Members.{length-insert}
+use Rattle.base_lists.specs.Lists.{mem, without, insert}
+use Rattle.base_lists.proofs.Choice.{split, by-choice, choose-yes, choose-no, and-left, and-right, clash}
+use Rattle.base_util.specs.Chances.{pick}
+use Rattle.base_peer.specs.Data.{Node}
+use Rattle.base_peer.specs.Held.{data-in, node-in}
+use Rattle.base_peer.specs.declared.PeerData.{PeerData}
+use Rattle.base_util.specs.Section.{items-at, HoldsSet}
+use Rattle.base_peer.specs.declared.PeerInfo.{PeerInfo}
+use Rattle.base_timing.specs.Timing.{next, expired}
+use Rattle.base_timing.proofs.Ranges.{ranges}
+use Rattle.record_writer.specs.Write.{rec-in}
+use Rattle.spec_hyparview.specs.Station.{Station, is-me, is-requested, in-passive, in-active, active-is-full, is-last-hop}
+use Rattle.spec_hyparview.specs.Run.{Run, guard, on, emit, to-draw, one-of, draw-one-of, require, picked, node, emit-all}
+use Rattle.spec_hyparview.specs.Peers.{insert-peer-info, forget-peer, add-passive, drop-passive}
+use Rattle.spec_hyparview.specs.Sending.{send-neighbor, send-disconnect}
+use Rattle.spec_hyparview.specs.Refill.{refill-active-from-passive}
+use Rattle.spec_hyparview.specs.Active.{mark-alive, accepts}
+use Rattle.spec_hyparview.specs.Messages.{forward-join-to, ends-here, ask-joiner, learn-joiner, forward-join-on, walk-on, on-forward-join}
+use Rattle.spec_hyparview.specs.Messages.{forward-joins, refuse-neighbor}
+use Rattle.spec_hyparview.specs.Messages.{drop-recent, forget-recent, refused-fits, add-refused, note-refused, note-refusal, mark-passive, left-topic, disconnect-other}
+use Rattle.base_lists.proofs.Members.{length-insert}
 use Rattle.work.specs.declared.Work.{Work}
 use Rattle.step_peers.specs.declared.Added.{Added}
 use Rattle.step_peers.specs.Answer.{Adds}
-use Rattle.state.specs.Layout.{active-part, refused-part, active-random-walk-length, passive-random-walk-length}
-use Rattle.state.specs.Unpack.{unpack, station-of, settings-at, PackedState}
-use Rattle.state.specs.Work.{Held, work-of, run, run-of, Changes, ChangesAny, DrawsAny, Tells, TellsAny, Fine, Does}
-use Rattle.state.proofs.Access.{of-refused, of-settings}
-use Rattle.state.proofs.Any.{required-at, then-one-of, then-tell-any}
+use Rattle.hyparview_state.specs.Layout.{active-part, refused-part, active-random-walk-length, passive-random-walk-length}
+use Rattle.hyparview_state.specs.Unpack.{unpack, station-of, settings-at, PackedState}
+use Rattle.hyparview_state.specs.Work.{Held, work-of, run, run-of, Changes, ChangesAny, DrawsAny, Tells, TellsAny, Fine, Does}
+use Rattle.hyparview_state.proofs.Access.{of-refused, of-settings}
+use Rattle.hyparview_state.proofs.Any.{required-at, then-one-of, then-tell-any}
 use Rattle.work.proofs.Any.{drew-none-of}
 use Rattle.step_sending.proofs.Sets.{lent-items}
-use Rattle.state.proofs.Bridge.{on-passed, unchanged, change-by, change-then, change-yes, change-no, tell-then, require-said, by, still, then, then-tell, seq, taken, left, holds-at}
+use Rattle.hyparview_state.proofs.Bridge.{on-passed, unchanged, change-by, change-then, change-yes, change-no, tell-then, require-said, by, still, then, then-tell, seq, taken, left, holds-at}
 use Rattle.step_active.specs.Sane.{FreeMark}
 
 -- ---- joins that are forwarded

@@ -9,37 +9,37 @@ use native.Mathlib.Omega.{arith}
 use lib.ListN.{length, take, drop, getD, length-append}
 use lib.Dec.{eqb, leb, ltb}
 use borrow.Author.Tests.{eqb-false, leb-false, not-true, not-false, eq-eqb, ne-eqb}
-use Rattle.lists.specs.Lists.{null, remove, shift-remove}
-use Rattle.util.specs.Section.{items-at}
-use Rattle.util.proofs.Parts.{part-read}
-use Rattle.util.proofs.Sets.{empty-is-null}
-use Rattle.state.specs.Layout.{passive-part, peer-data-part, passive-view-capacity}
-use Rattle.columns.specs.Columns.{data-map-at}
-use Rattle.lists.specs.Maps.{lookup, has}
-use Rattle.lists.proofs.Choice.{by-choice, choose-yes, choose-no, split, and-right, and-false, or-left, or-right}
-use Rattle.lists.proofs.Count.{length-shift, length-remove}
-use Rattle.util.specs.Chances.{pick}
-use Rattle.util.proofs.Chances.{pick-below}
-use Rattle.peer.specs.declared.PeerData.{PeerData}
-use Rattle.peer.specs.Held.{data-in, node-in, ValidData}
-use Rattle.peer.proofs.Data.{bytes-in, length-bytes}
-use Rattle.writer.specs.Write.{rec-in}
+use Rattle.base_lists.specs.Lists.{null, remove, shift-remove}
+use Rattle.base_util.specs.Section.{items-at}
+use Rattle.base_util.proofs.Parts.{part-read}
+use Rattle.base_util.proofs.Sets.{empty-is-null}
+use Rattle.hyparview_state.specs.Layout.{passive-part, peer-data-part, passive-view-capacity}
+use Rattle.base_columns.specs.Columns.{data-map-at}
+use Rattle.base_lists.specs.Maps.{lookup, has}
+use Rattle.base_lists.proofs.Choice.{by-choice, choose-yes, choose-no, split, and-right, and-false, or-left, or-right}
+use Rattle.base_lists.proofs.Count.{length-shift, length-remove}
+use Rattle.base_util.specs.Chances.{pick}
+use Rattle.base_util.proofs.Chances.{pick-below}
+use Rattle.base_peer.specs.declared.PeerData.{PeerData}
+use Rattle.base_peer.specs.Held.{data-in, node-in, ValidData}
+use Rattle.base_peer.proofs.Data.{bytes-in, length-bytes}
+use Rattle.record_writer.specs.Write.{rec-in}
 use Rattle.work.specs.declared.Work.{Work}
-use Rattle.protocol.specs.Run.{Run, guard, on, emit, to-draw, one-of, draw-one-of, require, picked, notice, node}
-use Rattle.state.specs.Work.{Held, work-of, ChangesAny, DrawsAny, TellsAny, run, run-of, Changes, Room, Tells, Fine}
-use Rattle.state.proofs.Any.{one-of-at, required-at, told-at}
-use Rattle.state.proofs.Bridge.{on-passed, on-twice, unchanged, change-then, change-yes, change-no, telling, tell-by, tell-then, tell-yes, tell-no, still, by, then, then-draw, then-tell, seq, taken, left, require-said}
-use Rattle.peer.specs.Data.{Data, bytes-of, holds}
-use Rattle.timing.proofs.Ranges.{ranges}
-use Rattle.protocol.proofs.Keeping.{one-of-station, emit-station, emit-fine}
-use Rattle.protocol.specs.Station.{Station, is-me, in-active, in-passive, in-view, passive-is-full}
-use Rattle.protocol.specs.Peers.{is-known, data-fits, store-data, keep-data, announce-data, insert-data, insert-peer-info, forget-peer, drop-traces, drop-mark, drop-data, shift-passive, push-passive, evict-at, must-evict, evicted, evict, tell-evicted, make-room, is-newcomer, enter-passive, evicted-for, add-passive, evicted-by}
+use Rattle.spec_hyparview.specs.Run.{Run, guard, on, emit, to-draw, one-of, draw-one-of, require, picked, notice, node}
+use Rattle.hyparview_state.specs.Work.{Held, work-of, ChangesAny, DrawsAny, TellsAny, run, run-of, Changes, Room, Tells, Fine}
+use Rattle.hyparview_state.proofs.Any.{one-of-at, required-at, told-at}
+use Rattle.hyparview_state.proofs.Bridge.{on-passed, on-twice, unchanged, change-then, change-yes, change-no, telling, tell-by, tell-then, tell-yes, tell-no, still, by, then, then-draw, then-tell, seq, taken, left, require-said}
+use Rattle.base_peer.specs.Data.{Data, bytes-of, holds}
+use Rattle.base_timing.proofs.Ranges.{ranges}
+use Rattle.spec_hyparview.proofs.Keeping.{one-of-station, emit-station, emit-fine}
+use Rattle.spec_hyparview.specs.Station.{Station, is-me, in-active, in-passive, in-view, passive-is-full}
+use Rattle.spec_hyparview.specs.Peers.{is-known, data-fits, store-data, keep-data, announce-data, insert-data, insert-peer-info, forget-peer, drop-traces, drop-mark, drop-data, shift-passive, push-passive, evict-at, must-evict, evicted, evict, tell-evicted, make-room, is-newcomer, enter-passive, evicted-for, add-passive, evicted-by}
 use Rattle.step_peers.specs.Answer.{named-in, Adds}
 use Rattle.step_peers.specs.declared.Evicted.the-variants.{Nobody, Peer}
 use Rattle.step_peers.specs.declared.Added.{Added}
-use Rattle.state.specs.Unpack.{unpack, station-of, settings-at, PackedState}
-use Rattle.state.proofs.Access.{of-settings, of-passive, of-peer-data, passive-fits, count-passive}
-use Rattle.state.proofs.Counts.{passive-full}
+use Rattle.hyparview_state.specs.Unpack.{unpack, station-of, settings-at, PackedState}
+use Rattle.hyparview_state.proofs.Access.{of-settings, of-passive, of-peer-data, passive-fits, count-passive}
+use Rattle.hyparview_state.proofs.Counts.{passive-full}
 
 -- fewer passive peers are within capacity
 pub shrunk : (xs : List ℕ) (p : ℕ) → PackedState xs → length (remove p (items-at 32 (passive-part xs))) ≤ passive-view-capacity xs

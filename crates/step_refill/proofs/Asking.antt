@@ -8,27 +8,27 @@ use native.Mathlib.Omega.{arith}
 use lib.ListN.{length, take, drop, getD, set}
 use lib.Dec.{leb, eqb}
 use borrow.Rule.Slice.PartMut.{putMid}
-use Rattle.lists.specs.Array.{pad}
-use Rattle.lists.specs.Lists.{choose, null, without-all}
-use Rattle.lists.specs.Maps.{keys}
-use Rattle.lists.proofs.Choice.{choose-yes, choose-no, clash}
-use Rattle.lists.proofs.Skips.{without-none, without-append}
-use Rattle.util.specs.Chances.{pick}
-use Rattle.util.specs.Section.{part, items-at, ValidSet, HoldsSet}
-use Rattle.util.proofs.Sets.{set-as, set-then, set-stored}
-use Rattle.columns.specs.Columns.{numbers-at}
-use Rattle.protocol.specs.Station.{Station, Refill, is-alone, asked-outside}
-use Rattle.protocol.specs.Run.{Run, on, to-draw, one-of, draw-one-of, picked}
-use Rattle.protocol.specs.Sending.{send-neighbor}
-use Rattle.protocol.specs.Refill.{use-request, end-recovery, limit-short, skipped, candidates, ask-picked, ask-one, refill-limited, needs-none, refill-active-from-passive, begin-refill, start-refill}
+use Rattle.base_lists.specs.Array.{pad}
+use Rattle.base_lists.specs.Lists.{choose, null, without-all}
+use Rattle.base_lists.specs.Maps.{keys}
+use Rattle.base_lists.proofs.Choice.{choose-yes, choose-no, clash}
+use Rattle.base_lists.proofs.Skips.{without-none, without-append}
+use Rattle.base_util.specs.Chances.{pick}
+use Rattle.base_util.specs.Section.{part, items-at, ValidSet, HoldsSet}
+use Rattle.base_util.proofs.Sets.{set-as, set-then, set-stored}
+use Rattle.base_columns.specs.Columns.{numbers-at}
+use Rattle.spec_hyparview.specs.Station.{Station, Refill, is-alone, asked-outside}
+use Rattle.spec_hyparview.specs.Run.{Run, on, to-draw, one-of, draw-one-of, picked}
+use Rattle.spec_hyparview.specs.Sending.{send-neighbor}
+use Rattle.spec_hyparview.specs.Refill.{use-request, end-recovery, limit-short, skipped, candidates, ask-picked, ask-one, refill-limited, needs-none, refill-active-from-passive, begin-refill, start-refill}
 use Rattle.work.specs.declared.Work.{Work}
-use Rattle.state.specs.Layout.{active-view-capacity, refill-kind, refill-requests, active-part, requests-part}
-use Rattle.state.specs.Unpack.{unpack, station-of, settings-at, PackedState}
-use Rattle.state.specs.Work.{Held, work-of, run, run-of, Changes, DrawsAny, Tells, Fine, Does}
-use Rattle.state.proofs.Access.{of-active, count-active}
-use Rattle.state.proofs.Limits.{says-spent}
-use Rattle.state.proofs.Bridge.{by, still, then, then-tell, seq, taken, left, holds-at}
-use Rattle.state.proofs.Any.{then-one-of}
+use Rattle.hyparview_state.specs.Layout.{active-view-capacity, refill-kind, refill-requests, active-part, requests-part}
+use Rattle.hyparview_state.specs.Unpack.{unpack, station-of, settings-at, PackedState}
+use Rattle.hyparview_state.specs.Work.{Held, work-of, run, run-of, Changes, DrawsAny, Tells, Fine, Does}
+use Rattle.hyparview_state.proofs.Access.{of-active, count-active}
+use Rattle.hyparview_state.proofs.Limits.{says-spent}
+use Rattle.hyparview_state.proofs.Bridge.{by, still, then, then-tell, seq, taken, left, holds-at}
+use Rattle.hyparview_state.proofs.Any.{then-one-of}
 
 -- ---- working sets
 

@@ -7,14 +7,14 @@ use lib.ListN.{length, take}
 use native.Mathlib.Omega.{arith}
 use lib.Dec.{ltb}
 use borrow.Author.Tests.{lt-ltb, le-ltb}
-use Rattle.util.specs.Section.{items-at, ValidSet, HoldsSet}
-use Rattle.protocol.specs.Run.{shuffled, to-draw, draw-shuffle}
-use Rattle.protocol.specs.Sending.{send-nodes, fill-active, send-filled, reply-with, send-shuffle-reply}
+use Rattle.base_util.specs.Section.{items-at, ValidSet, HoldsSet}
+use Rattle.spec_hyparview.specs.Run.{shuffled, to-draw, draw-shuffle}
+use Rattle.spec_hyparview.specs.Sending.{send-nodes, fill-active, send-filled, reply-with, send-shuffle-reply}
 use Rattle.work.specs.declared.Work.{Work}
-use Rattle.state.specs.Unpack.{unpack}
-use Rattle.state.specs.Work.{work-of, run, run-of, DrawsAny, Room, Tells, Fine, Does}
-use Rattle.state.proofs.Bridge.{by, still, then-tell, seq, taken, left}
-use Rattle.state.proofs.Any.{then-shuffle}
+use Rattle.hyparview_state.specs.Unpack.{unpack}
+use Rattle.hyparview_state.specs.Work.{work-of, run, run-of, DrawsAny, Room, Tells, Fine, Does}
+use Rattle.hyparview_state.proofs.Bridge.{by, still, then-tell, seq, taken, left}
+use Rattle.hyparview_state.proofs.Any.{then-shuffle}
 use Rattle.step_sending.proofs.Sets.{shuffled-by, shuffle-of, filled-up}
 use Rattle.step_sending.proofs.Told.{fine-drawn, room-drawn}
 

@@ -5,12 +5,12 @@ use mathlib.Core.Path.{_≡_, sym, ap, _∙_, subst}
 use mathlib.Core.List.{List, [], _∷_, _++_}
 use native.Mathlib.Omega.{arith}
 use lib.ListN.{length, take, drop}
-use Rattle.util.specs.Chances.{shuffle}
-use Rattle.util.specs.Section.{items-at, ValidSet, HoldsSet}
-use Rattle.util.proofs.Sets.{lent, set-length, set-then}
-use Rattle.protocol.specs.Run.{draw-shuffle}
+use Rattle.base_util.specs.Chances.{shuffle}
+use Rattle.base_util.specs.Section.{items-at, ValidSet, HoldsSet}
+use Rattle.base_util.proofs.Sets.{lent, set-length, set-then}
+use Rattle.spec_hyparview.specs.Run.{draw-shuffle}
 use Rattle.work.specs.declared.Work.{Work}
-use Rattle.state.specs.Work.{DrawsAny}
+use Rattle.hyparview_state.specs.Work.{DrawsAny}
 
 pub few-taken : {A : Type 0} (k : ℕ) (xs : List A) → length (take k xs) ≤ k
 few-taken zero xs = omega arith

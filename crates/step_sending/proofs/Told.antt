@@ -8,31 +8,31 @@ use native.Mathlib.Omega.{arith}
 use lib.ListN.{length, take, getD}
 use lib.Dec.{ltb}
 use borrow.Author.Tests.{ltb-true}
-use Rattle.lists.specs.Lists.{choose}
-use Rattle.lists.specs.Maps.{has}
-use Rattle.lists.proofs.Choice.{choose-yes, choose-no}
-use Rattle.util.specs.Section.{items-at, ValidSet}
-use Rattle.util.proofs.Parts.{part-read}
-use Rattle.columns.specs.Columns.{numbers-at}
-use Rattle.peer.specs.Held.{node-in, data-in}
-use Rattle.peer.specs.declared.PeerData.{PeerData}
-use Rattle.peer.specs.Data.{Node}
-use Rattle.writer.specs.declared.Fields.{Fields}
-use Rattle.writer.specs.declared.Nodes.{Nodes}
-use Rattle.writer.specs.Nodes.{nodes-in, HoldsNodes}
-use Rattle.writer.specs.Write.{rec-in}
-use Rattle.protocol.specs.Station.{is-requested, top-counter}
-use Rattle.protocol.specs.Run.{Run, on, emit, require, node, message, flag, peer-infos}
-use Rattle.protocol.specs.Sending.{join-to, join, send-nodes, send-shuffle-reply, reply-length, send-disconnect, request-counts, request-fits, note-request, count-request, open-request, neighbor-to, tell-request, send-neighbor, reply-neighbor}
+use Rattle.base_lists.specs.Lists.{choose}
+use Rattle.base_lists.specs.Maps.{has}
+use Rattle.base_lists.proofs.Choice.{choose-yes, choose-no}
+use Rattle.base_util.specs.Section.{items-at, ValidSet}
+use Rattle.base_util.proofs.Parts.{part-read}
+use Rattle.base_columns.specs.Columns.{numbers-at}
+use Rattle.base_peer.specs.Held.{node-in, data-in}
+use Rattle.base_peer.specs.declared.PeerData.{PeerData}
+use Rattle.base_peer.specs.Data.{Node}
+use Rattle.record_writer.specs.declared.Fields.{Fields}
+use Rattle.record_writer.specs.declared.Nodes.{Nodes}
+use Rattle.record_writer.specs.Nodes.{nodes-in, HoldsNodes}
+use Rattle.record_writer.specs.Write.{rec-in}
+use Rattle.spec_hyparview.specs.Station.{is-requested, top-counter}
+use Rattle.spec_hyparview.specs.Run.{Run, on, emit, require, node, message, flag, peer-infos}
+use Rattle.spec_hyparview.specs.Sending.{join-to, join, send-nodes, send-shuffle-reply, reply-length, send-disconnect, request-counts, request-fits, note-request, count-request, open-request, neighbor-to, tell-request, send-neighbor, reply-neighbor}
 use Rattle.work.specs.declared.Work.{Work}
-use Rattle.state.specs.Layout.{requests-part, shuffle-active-view-count, shuffle-passive-view-count, neighbor-request-timeout, next-neighbor-request}
-use Rattle.state.specs.Unpack.{unpack, station-of, settings-at, own-at, PackedState}
-use Rattle.state.specs.Work.{Held, work-of, run, run-of, Stateless, Changes, ChangesAny, DrawsAny, Room, Tells, TellsAny, Fine, Does}
-use Rattle.state.proofs.Access.{of-settings, of-requests}
-use Rattle.timing.proofs.Ranges.{ranges}
-use Rattle.state.proofs.Bridge.{on-passed, emit-passed, require-said, unchanged, change-by, change-then, telling, tell-by, tell-then, tell-yes, tell-no, by}
-use Rattle.state.proofs.Any.{required-at, then-tell-any, told-at}
-use Rattle.state.proofs.Refused.{required-code}
+use Rattle.hyparview_state.specs.Layout.{requests-part, shuffle-active-view-count, shuffle-passive-view-count, neighbor-request-timeout, next-neighbor-request}
+use Rattle.hyparview_state.specs.Unpack.{unpack, station-of, settings-at, own-at, PackedState}
+use Rattle.hyparview_state.specs.Work.{Held, work-of, run, run-of, Stateless, Changes, ChangesAny, DrawsAny, Room, Tells, TellsAny, Fine, Does}
+use Rattle.hyparview_state.proofs.Access.{of-settings, of-requests}
+use Rattle.base_timing.proofs.Ranges.{ranges}
+use Rattle.hyparview_state.proofs.Bridge.{on-passed, emit-passed, require-said, unchanged, change-by, change-then, telling, tell-by, tell-then, tell-yes, tell-no, by}
+use Rattle.hyparview_state.proofs.Any.{required-at, then-tell-any, told-at}
+use Rattle.hyparview_state.proofs.Refused.{required-code}
 use Rattle.step_sending.proofs.Sets.{lent-items}
 
 -- what a step is lent, after another

@@ -1,27 +1,27 @@
 // What the station sends: Join, Neighbor, ShuffleReply and Disconnect (the definition's `Sending`).
-use peer::PeerId;
-use peer::PeerInfo;
+use base_peer::PeerId;
+use base_peer::PeerInfo;
+use hyparview_state::Layout;
 use record::Flags;
 use record::Kind;
 use record::Message;
 use record::Refusal;
-use state::Layout;
+use record_writer::Fields;
+use record_writer::Nodes;
 use work::Work;
-use writer::Fields;
-use writer::Nodes;
 ghost use mathlib.Core.Path.{_≡_};
 ghost use Prim.Native.Nat.{_≤_};
 ghost use lib.ListN.{length, take, drop};
-ghost use Rattle.lists.specs.Lists.{choose};
-ghost use Rattle.util.specs.Chances.{shuffle};
-ghost use Rattle.util.specs.Section.{items-at, ValidSet, HoldsSet};
-ghost use Rattle.writer.specs.Nodes.{HoldsNodes};
-ghost use Rattle.protocol.specs.Run.{peer-infos, draw-shuffle};
-ghost use Rattle.protocol.specs.Sending.{join, send-shuffle-reply, send-disconnect, send-neighbor, reply-neighbor};
+ghost use Rattle.base_lists.specs.Lists.{choose};
+ghost use Rattle.base_util.specs.Chances.{shuffle};
+ghost use Rattle.base_util.specs.Section.{items-at, ValidSet, HoldsSet};
+ghost use Rattle.record_writer.specs.Nodes.{HoldsNodes};
+ghost use Rattle.spec_hyparview.specs.Run.{peer-infos, draw-shuffle};
+ghost use Rattle.spec_hyparview.specs.Sending.{join, send-shuffle-reply, send-disconnect, send-neighbor, reply-neighbor};
 ghost use Rattle.record.specs.Format.{most-nodes};
-ghost use Rattle.state.specs.Layout.{words, all-places};
-ghost use Rattle.state.specs.Unpack.{unpack, PackedState};
-ghost use Rattle.state.specs.Work.{work-of, DrawsAny, Room, Tells, Given, Makes};
+ghost use Rattle.hyparview_state.specs.Layout.{words, all-places};
+ghost use Rattle.hyparview_state.specs.Unpack.{unpack, PackedState};
+ghost use Rattle.hyparview_state.specs.Work.{work-of, DrawsAny, Room, Tells, Given, Makes};
 
 // The most requests that are open at once.
 const MOST_ASKED: u64 = Layout::ALL as u64;
@@ -45,7 +45,7 @@ pub fn peer_infos(st: &[u64], ids: &[PeerId]) -> Nodes
     while i < ids.len() {
         let p = ids[i];
         i += 1;
-        let d = columns::get_data(&st[Layout::HELD..Layout::HELD_END], Layout::DATA_CAP, p);
+        let d = base_columns::get_data(&st[Layout::HELD..Layout::HELD_END], Layout::DATA_CAP, p);
         t = t.push(PeerInfo { id: p, data: d });
     }
     t
@@ -57,7 +57,7 @@ pub fn join(w: Work, st: &[u64], out: &mut [u8], p: PeerId) -> Work
     requires { ⌜ Room (work-of w (now st)) (now out) ⌝ }
     ensures { λ r. ⌜ Tells (join p) (work-of w (now (st .entry))) (work-of r (now (st .entry))) (now (out .entry)) (now (out .exit)) ⌝ }
 {
-    let d = state::own_data(st);
+    let d = hyparview_state::own_data(st);
     let f = Fields {
         kind: Kind::MESSAGE,
         message: Message::JOIN,
@@ -83,7 +83,7 @@ pub fn shuffle_and_cap(w: Work, draws: &[u32], most: usize, v: &mut [u64]) -> Wo
         return r;
     }
     // The first `most` of them stay.
-    util::clear_from(&mut v[..Layout::ALL], most);
+    base_util::clear_from(&mut v[..Layout::ALL], most);
     v[Layout::ALL] = most as u64;
     r
 }
@@ -104,18 +104,18 @@ pub fn send_shuffle_reply(
 {
     let mut v = [0u64; Layout::SET];
     let passive = &st[Layout::PASSIVE..Layout::PASSIVE_END];
-    util::copy_into(passive, Layout::ALL, &mut v);
+    base_util::copy_into(passive, Layout::ALL, &mut v);
     let mut a = shuffle_and_cap(w, draws, len, &mut v);
-    let n = util::count(&v, Layout::ALL);
+    let n = base_util::count(&v, Layout::ALL);
     if n < len {
         // Too few passive peers: the shuffled active view makes up the number.
         let mut more = [0u64; Layout::SET];
         let active = &st[Layout::ACTIVE..Layout::ACTIVE_END];
-        util::copy_into(active, Layout::FEW, &mut more);
+        base_util::copy_into(active, Layout::FEW, &mut more);
         a = shuffle_and_cap(a, draws, len - n, &mut more);
-        util::append(&mut v, Layout::ALL, &more, Layout::ALL);
+        base_util::append(&mut v, Layout::ALL, &more, Layout::ALL);
     }
-    let named = util::count(&v, Layout::ALL);
+    let named = base_util::count(&v, Layout::ALL);
     let f = Fields {
         kind: Kind::MESSAGE,
         message: Message::SHUFFLE_REPLY,
@@ -165,17 +165,17 @@ pub fn send_neighbor(w: Work, st: &mut [u64], out: &mut [u8], p: PeerId, high: b
     requires { ⌜ Room (work-of w (now st)) (now out) ⌝ }
     ensures { λ r. ⌜ Tells (send-neighbor p high) (work-of w (now (st .entry))) (work-of r (now (st .exit))) (now (out .entry)) (now (out .exit)) ⌝ }
 {
-    if state::is_requested(st, p) {
+    if hyparview_state::is_requested(st, p) {
         return w;
     }
     let id = st[Layout::NEXT_NEIGHBOR_REQUEST];
-    let a = work::require(w, Refusal::COUNTER, id < state::TOP_COUNTER);
+    let a = work::require(w, Refusal::COUNTER, id < hyparview_state::TOP_COUNTER);
     let b = work::require(a, Refusal::REQUESTS, st[Layout::ASKED_COUNT] < MOST_ASKED);
     if b.code != 0 {
         return b;
     }
     let asked = &mut st[Layout::ASKED..Layout::ASKED_END];
-    columns::insert_number(asked, Layout::ALL, p, id);
+    base_columns::insert_number(asked, Layout::ALL, p, id);
     st[Layout::NEXT_NEIGHBOR_REQUEST] = id + 1;
     let f = Fields {
         kind: Kind::MESSAGE,
@@ -186,7 +186,7 @@ pub fn send_neighbor(w: Work, st: &mut [u64], out: &mut [u8], p: PeerId, high: b
         ttl: 0,
         number: 0,
     };
-    let d = state::own_data(st);
+    let d = hyparview_state::own_data(st);
     let c = work::emit_one(b, out, f, PeerInfo { id: 0, data: d });
     let t = Fields {
         kind: Kind::PENDING_NEIGHBOR_REQUEST,

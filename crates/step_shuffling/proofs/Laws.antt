@@ -7,32 +7,32 @@ use mathlib.Core.List.{List, [], _∷_}
 use native.Mathlib.Omega.{arith}
 use lib.Dec.{eqb}
 use lib.ListN.{length, drop, getD}
-use Rattle.lists.specs.Lists.{null, without-all}
-use Rattle.lists.specs.Array.{pad}
-use Rattle.util.specs.Section.{items-at, ValidSet, HoldsSet, section}
-use Rattle.util.proofs.Sets.{section-holds}
-use Rattle.util.specs.Chances.{pick}
-use Rattle.peer.specs.Data.{Node}
+use Rattle.base_lists.specs.Lists.{null, without-all}
+use Rattle.base_lists.specs.Array.{pad}
+use Rattle.base_util.specs.Section.{items-at, ValidSet, HoldsSet, section}
+use Rattle.base_util.proofs.Sets.{section-holds}
+use Rattle.base_util.specs.Chances.{pick}
+use Rattle.base_peer.specs.Data.{Node}
 use Rattle.record.specs.Read.{nodes-of}
 use Rattle.record.proofs.Nodes.{length-nodes-of}
-use Rattle.timing.specs.Timing.{next, expired}
-use Rattle.writer.specs.declared.Nodes.{Nodes}
-use Rattle.writer.specs.Nodes.{nodes-in, HoldsNodes}
-use Rattle.writer.specs.Write.{rec-in}
-use Rattle.protocol.specs.Station.{Station, Refill, is-requested, is-short, is-last-hop}
-use Rattle.protocol.specs.Run.{emit, to-draw, one-of, draw-one-of, picked, message}
-use Rattle.protocol.specs.Peers.{add-nodes, any-new}
-use Rattle.protocol.specs.Sending.{send-shuffle-reply}
-use Rattle.protocol.specs.Refill.{few-requests, start-refill, refill-active-from-passive}
-use Rattle.protocol.specs.Messages.{answers-shuffle, answer-shuffle, forward-shuffle, on-shuffle, stops-at-refusal, renews-limit, refill-with, after-reply, on-shuffle-reply}
+use Rattle.base_timing.specs.Timing.{next, expired}
+use Rattle.record_writer.specs.declared.Nodes.{Nodes}
+use Rattle.record_writer.specs.Nodes.{nodes-in, HoldsNodes}
+use Rattle.record_writer.specs.Write.{rec-in}
+use Rattle.spec_hyparview.specs.Station.{Station, Refill, is-requested, is-short, is-last-hop}
+use Rattle.spec_hyparview.specs.Run.{emit, to-draw, one-of, draw-one-of, picked, message}
+use Rattle.spec_hyparview.specs.Peers.{add-nodes, any-new}
+use Rattle.spec_hyparview.specs.Sending.{send-shuffle-reply}
+use Rattle.spec_hyparview.specs.Refill.{few-requests, start-refill, refill-active-from-passive}
+use Rattle.spec_hyparview.specs.Messages.{answers-shuffle, answer-shuffle, forward-shuffle, on-shuffle, stops-at-refusal, renews-limit, refill-with, after-reply, on-shuffle-reply}
 use Rattle.work.specs.declared.Work.{Work}
-use Rattle.state.specs.Work.{work-of, run, run-of, DrawsAny, TellsAny, Fine, Does}
-use Rattle.state.specs.Layout.{refill-kind, refill-requests, active-part}
-use Rattle.state.specs.declared.RefillLimit.{RefillLimit}
-use Rattle.state.specs.Unpack.{unpack, station-of, refill-in}
-use Rattle.state.proofs.Bridge.{by, still, seq-at, taken, left, holds-at, at-run}
-use Rattle.state.proofs.Limits.{says-spent}
-use Rattle.state.proofs.Any.{then-one-of, then-tell-any}
+use Rattle.hyparview_state.specs.Work.{work-of, run, run-of, DrawsAny, TellsAny, Fine, Does}
+use Rattle.hyparview_state.specs.Layout.{refill-kind, refill-requests, active-part}
+use Rattle.hyparview_state.specs.declared.RefillLimit.{RefillLimit}
+use Rattle.hyparview_state.specs.Unpack.{unpack, station-of, refill-in}
+use Rattle.hyparview_state.proofs.Bridge.{by, still, seq-at, taken, left, holds-at, at-run}
+use Rattle.hyparview_state.proofs.Limits.{says-spent}
+use Rattle.hyparview_state.proofs.Any.{then-one-of, then-tell-any}
 
 -- ---- the neighbors that a Shuffle may go on to
 

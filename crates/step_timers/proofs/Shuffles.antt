@@ -6,32 +6,32 @@ use mathlib.Core.Bool.{true, false}
 use mathlib.Core.List.{List, [], _∷_, _++_}
 use native.Mathlib.Omega.{arith}
 use lib.ListN.{length, take, drop, getD, set, length-append}
-use Rattle.lists.specs.Lists.{null, without}
-use Rattle.util.specs.Chances.{pick}
-use Rattle.timing.specs.Timing.{delay}
-use Rattle.timing.proofs.Ranges.{ranges}
-use Rattle.peer.specs.declared.PeerData.{PeerData}
-use Rattle.peer.specs.Data.{Node}
-use Rattle.util.specs.Section.{items-at, ValidSet, HoldsSet}
-use Rattle.util.proofs.Sets.{set-length, set-then}
-use Rattle.peer.specs.Held.{node-in}
-use Rattle.writer.specs.declared.Nodes.{Nodes}
-use Rattle.writer.specs.Nodes.{nodes-in, HoldsNodes}
-use Rattle.writer.specs.Write.{rec-in}
-use Rattle.writer.proofs.Ways.{length-nodes}
-use Rattle.protocol.specs.Station.{Station, is-alone}
-use Rattle.protocol.specs.Setters.{set-next-interval}
-use Rattle.protocol.specs.Run.{Run, on, emit, draw, drawn, to-draw, one-of, draw-one-of, picked, shuffled, draw-shuffle, message, timer, peer-infos}
-use Rattle.protocol.specs.Timers.{double-interval, schedule-shuffle, shuffle-nodes, send-shuffle, active-sample, passive-sample, shuffle-passive, shuffle-with, shuffle-any}
+use Rattle.base_lists.specs.Lists.{null, without}
+use Rattle.base_util.specs.Chances.{pick}
+use Rattle.base_timing.specs.Timing.{delay}
+use Rattle.base_timing.proofs.Ranges.{ranges}
+use Rattle.base_peer.specs.declared.PeerData.{PeerData}
+use Rattle.base_peer.specs.Data.{Node}
+use Rattle.base_util.specs.Section.{items-at, ValidSet, HoldsSet}
+use Rattle.base_util.proofs.Sets.{set-length, set-then}
+use Rattle.base_peer.specs.Held.{node-in}
+use Rattle.record_writer.specs.declared.Nodes.{Nodes}
+use Rattle.record_writer.specs.Nodes.{nodes-in, HoldsNodes}
+use Rattle.record_writer.specs.Write.{rec-in}
+use Rattle.record_writer.proofs.Ways.{length-nodes}
+use Rattle.spec_hyparview.specs.Station.{Station, is-alone}
+use Rattle.spec_hyparview.specs.Setters.{set-next-interval}
+use Rattle.spec_hyparview.specs.Run.{Run, on, emit, draw, drawn, to-draw, one-of, draw-one-of, picked, shuffled, draw-shuffle, message, timer, peer-infos}
+use Rattle.spec_hyparview.specs.Timers.{double-interval, schedule-shuffle, shuffle-nodes, send-shuffle, active-sample, passive-sample, shuffle-passive, shuffle-with, shuffle-any}
 use Rattle.work.specs.declared.Work.{Work}
-use Rattle.state.specs.Layout as layout
-use Rattle.state.specs.Layout.{next-shuffle-interval, shuffle-interval, me, shuffle-random-walk-length, shuffle-active-view-count, shuffle-passive-view-count}
-use Rattle.state.specs.Unpack.{unpack, station-of, settings-at, own-at, PackedState, Becomes}
-use Rattle.state.specs.Work.{work-of, run, run-of, Changes, DrawsAny, Room, Tells, TellsAny, Fine, Does}
-use Rattle.state.proofs.Access.{of-settings}
-use Rattle.state.proofs.Fields.{put-next-interval}
-use Rattle.state.proofs.Bridge.{guard-shut, on-done, by, tell-by, still, then, then-tell, seq, seq-at, taken, left}
-use Rattle.state.proofs.Any.{then-drawn, then-one-of, then-shuffle, then-tell-any, told-at}
+use Rattle.hyparview_state.specs.Layout as layout
+use Rattle.hyparview_state.specs.Layout.{next-shuffle-interval, shuffle-interval, me, shuffle-random-walk-length, shuffle-active-view-count, shuffle-passive-view-count}
+use Rattle.hyparview_state.specs.Unpack.{unpack, station-of, settings-at, own-at, PackedState, Becomes}
+use Rattle.hyparview_state.specs.Work.{work-of, run, run-of, Changes, DrawsAny, Room, Tells, TellsAny, Fine, Does}
+use Rattle.hyparview_state.proofs.Access.{of-settings}
+use Rattle.hyparview_state.proofs.Fields.{put-next-interval}
+use Rattle.hyparview_state.proofs.Bridge.{guard-shut, on-done, by, tell-by, still, then, then-tell, seq, seq-at, taken, left}
+use Rattle.hyparview_state.proofs.Any.{then-drawn, then-one-of, then-shuffle, then-tell-any, told-at}
 use Rattle.step_sending.proofs.Sets.{few-taken, lent-items, lent-count, shuffled-by, shuffle-of}
 
 -- ---- the interval

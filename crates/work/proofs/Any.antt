@@ -8,17 +8,17 @@ use native.Mathlib.Omega.{arith}
 use borrow.Author.Tests.{eqb-true, eqb-false, leb-true}
 use lib.Dec.{eqb, leb}
 use lib.ListN.{length, drop}
-use Rattle.lists.specs.Lists.{choose}
-use Rattle.lists.proofs.Bytes.{length-overwrite}
-use Rattle.lists.proofs.Choice.{split, by-choice, choose-yes, choose-no}
-use Rattle.util.specs.Chances.{pick-draws, shuffle-draws}
+use Rattle.base_lists.specs.Lists.{choose}
+use Rattle.base_lists.proofs.Bytes.{length-overwrite}
+use Rattle.base_lists.proofs.Choice.{split, by-choice, choose-yes, choose-no}
+use Rattle.base_util.specs.Chances.{pick-draws, shuffle-draws}
 use Rattle.record.specs.Format.{Rec, size, encode}
-use Rattle.writer.specs.declared.Written.{Written}
-use Rattle.writer.specs.declared.Written.the-variants.{At, Full}
-use Rattle.writer.specs.Write.{fits, reached, written, Wrote}
+use Rattle.record_writer.specs.declared.Written.{Written}
+use Rattle.record_writer.specs.declared.Written.the-variants.{At, Full}
+use Rattle.record_writer.specs.Write.{fits, reached, written, Wrote}
 use Rattle.work.specs.Run.{Run, guard, emit, draw, to-draw, draw-one-of, draw-shuffle, require}
 use Rattle.work.specs.declared.Work.{Work}
-use Rattle.work.specs.Work.{Form, work-of, run-of, bare, Changes, DrawsFrom, Tells, Does, ChangesAny, DrawsAny, Reaches, TellsAny, after-record}
+use Rattle.work.specs.Work.{Form, work-of, run-of, no-state, Changes, DrawsFrom, Tells, Does, ChangesAny, DrawsAny, Reaches, TellsAny, after-record}
 use Rattle.work.proofs.Bridge.{require-passed, require-held, require-refused, draw-passed, draw-short, draw-done, emit-passed, emit-done, then-draw, then-tell}
 
 module _ (w : Work) (k : ℕ) (t : Bool) where

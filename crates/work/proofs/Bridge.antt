@@ -9,16 +9,16 @@ use lib.ListN.{length, getD}
 use lib.Dec.{eqb}
 use lib.Seq.{length-take-le}
 use borrow.Author.Tests.{eq-eqb, ne-eqb, eqb-true, eqb-false, le-leb, lt-leb, leb-true}
-use Rattle.lists.specs.Lists.{choose}
-use Rattle.lists.specs.Bytes.{overwrite}
-use Rattle.lists.proofs.Choice.{split, by-choice, choose-yes, choose-no}
-use Rattle.lists.proofs.Bytes.{length-overwrite}
-use Rattle.lists.proofs.Stored.{take-stored}
+use Rattle.base_lists.specs.Lists.{choose}
+use Rattle.base_lists.specs.Bytes.{overwrite}
+use Rattle.base_lists.proofs.Choice.{split, by-choice, choose-yes, choose-no}
+use Rattle.base_lists.proofs.Bytes.{length-overwrite}
+use Rattle.base_lists.proofs.Stored.{take-stored}
 use Rattle.record.specs.Format.{Rec, size, encode}
 use Rattle.record.proofs.Format.{length-encode}
-use Rattle.writer.specs.declared.Written.{Written}
-use Rattle.writer.specs.declared.Written.the-variants.{At, Full}
-use Rattle.writer.specs.Write.{fits, reached, written, Wrote}
+use Rattle.record_writer.specs.declared.Written.{Written}
+use Rattle.record_writer.specs.declared.Written.the-variants.{At, Full}
+use Rattle.record_writer.specs.Write.{fits, reached, written, Wrote}
 use Rattle.work.specs.Run.{Run, guard, on, emit, draw, require}
 use Rattle.work.specs.declared.Work.{Work}
 use Rattle.work.specs.Work.{Form, Becomes, Held, work-of, run-of, Changes, Ready, DrawsFrom, Room, Tells, Fine, Does, after-record}

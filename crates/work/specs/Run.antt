@@ -7,9 +7,9 @@ use mathlib.Core.List.{List, [], _∷_, _++_}
 use mathlib.Core.Option.{some}
 use lib.ListN.{length, getD, drop}
 use lib.Dec.{leb, eqb}
-use Rattle.lists.specs.Lists.{choose}
-use Rattle.util.specs.Chances.{pick-draws, pick, shuffle, shuffle-draws}
-use Rattle.peer.specs.Data.{Data, Node}
+use Rattle.base_lists.specs.Lists.{choose}
+use Rattle.base_util.specs.Chances.{pick-draws, pick, shuffle, shuffle-draws}
+use Rattle.base_peer.specs.Data.{Data, Node}
 use Rattle.record.specs.Format.{Rec, size, encode}
 
 pub record Run (S : Type 0) : Type 0 where

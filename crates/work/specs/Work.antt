@@ -6,8 +6,8 @@ use mathlib.Core.List.{List, []}
 use lib.ListN.{length, take}
 use denote.Ref.{RefT}
 use denote.Triple.Both.{Both}
-use Rattle.writer.specs.declared.Written.{Written}
-use Rattle.writer.specs.declared.Written.the-variants.{At, Full}
+use Rattle.record_writer.specs.declared.Written.{Written}
+use Rattle.record_writer.specs.declared.Written.the-variants.{At, Full}
 use Rattle.work.specs.declared.Work.{Work}
 use Rattle.work.specs.Run.{Run, draw}
 
@@ -105,8 +105,8 @@ abbrev pub stateless : Form Unit
 stateless = record { unpack = λ _. tt; Packed = λ _. Unit }
 
 -- the run of w with no state
-abbrev pub bare : Work → List ℕ → List ℕ → Run Unit
-bare w ds out = run-of stateless (work-of w []) ds out
+abbrev pub no-state : Work → List ℕ → List ℕ → Run Unit
+no-state w ds out = run-of stateless (work-of w []) ds out
 
 -- a step of runs with no state
 abbrev pub Stateless : Type 0
@@ -115,12 +115,12 @@ Stateless = Run Unit → Run Unit
 pub record ChangesAny (step : Stateless) (w r : Work) : Type 0 where
   pub drawn : r .drawn ≡ w .drawn
   pub written : r .written ≡ w .written
-  pub same : (ds out : List ℕ) → bare r ds out ≡ step (bare w ds out)
+  pub same : (ds out : List ℕ) → no-state r ds out ≡ step (no-state w ds out)
 
 pub record DrawsAny (step : Stateless) (w r : Work) (ds : List ℕ) : Type 0 where
   pub drawn : r .drawn ≤ length ds
   pub written : r .written ≡ w .written
-  pub same : (out : List ℕ) → bare r ds out ≡ step (bare w ds out)
+  pub same : (out : List ℕ) → no-state r ds out ≡ step (no-state w ds out)
 
 -- the draws before `next` are taken, however their number is said
 pub record Reaches (next : ℕ) (w r : Work) (ds : List ℕ) : Type 0 where
@@ -129,7 +129,7 @@ pub record Reaches (next : ℕ) (w r : Work) (ds : List ℕ) : Type 0 where
 pub record TellsAny (step : Stateless) (w r : Work) (out o : List ℕ) : Type 0 where
   pub drawn : r .drawn ≡ w .drawn
   pub written : r .written ≤ length o
-  pub same : (ds : List ℕ) → bare r ds o ≡ step (bare w ds out)
+  pub same : (ds : List ℕ) → no-state r ds o ≡ step (no-state w ds out)
 
 -- the work after a record: the place reached, or code 9
 unfoldable pub after-record : Written → Work → Work

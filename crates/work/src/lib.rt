@@ -1,18 +1,18 @@
 // The work that the steps of one event hand on, whatever the state is: draws, refusals and records.
-use peer::PeerInfo;
+use base_peer::PeerInfo;
 use record::Refusal;
-use writer::Fields;
-use writer::Nodes;
-use writer::Written;
+use record_writer::Fields;
+use record_writer::Nodes;
+use record_writer::Written;
 ghost use mathlib.Core.Path.{_≡_};
 ghost use mathlib.Core.List.{[], _∷_};
 ghost use Prim.Native.Nat.{_≤_, _<_};
 ghost use lib.ListN.{length, getD, drop};
-ghost use Rattle.util.specs.Chances.{pick, shuffle};
-ghost use Rattle.peer.specs.Held.{ValidData, node-in};
-ghost use Rattle.util.specs.Section.{items-at, working-places, ValidSet, HoldsSet};
-ghost use Rattle.writer.specs.Nodes.{ValidNodes, nodes-in};
-ghost use Rattle.writer.specs.Write.{rec-in};
+ghost use Rattle.base_util.specs.Chances.{pick, shuffle};
+ghost use Rattle.base_peer.specs.Held.{ValidData, node-in};
+ghost use Rattle.base_util.specs.Section.{items-at, working-places, ValidSet, HoldsSet};
+ghost use Rattle.record_writer.specs.Nodes.{ValidNodes, nodes-in};
+ghost use Rattle.record_writer.specs.Write.{rec-in};
 ghost use Rattle.work.specs.Run.{draw, draw-one-of, draw-shuffle, require, emit};
 ghost use Rattle.work.specs.Work.{ChangesAny, DrawsAny, Reaches, TellsAny, after-record};
 
@@ -78,7 +78,7 @@ pub fn choose(w: Work, draws: &[u32], n: usize) -> Chosen
     ensures { λ r. ⌜ DrawsAny (draw-one-of n) w (r .work) (now (draws .entry)) ⌝ }
     ensures { λ r. ⌜ (r .index ≡ pick n (drop (w .drawn) (now (draws .entry)))) × (r .index < n) ⌝ }
 {
-    let p = util::pick_index(draws, w.drawn, n);
+    let p = base_util::pick_index(draws, w.drawn, n);
     let i = p.index;
     let a = reach(w, draws, p.next);
     Chosen { work: a, index: i }
@@ -91,7 +91,7 @@ pub fn shuffle_by_draws(w: Work, draws: &[u32], v: &mut [u64]) -> Work
     ensures { λ r. ⌜ DrawsAny (draw-shuffle (items-at working-places (now (v .entry)))) w r (now (draws .entry)) ⌝ }
     ensures { λ _. ⌜ HoldsSet working-places (now (v .exit)) (shuffle (drop (w .drawn) (now (draws .entry))) (items-at working-places (now (v .entry)))) ⌝ }
 {
-    let next = util::shuffle(v, util::PLACES, draws, w.drawn);
+    let next = base_util::shuffle(v, base_util::PLACES, draws, w.drawn);
     reach(w, draws, next)
 }
 
@@ -138,7 +138,7 @@ pub fn emit_bare(w: Work, out: &mut [u8], f: Fields) -> Work
         return w;
     }
     let at = w.written;
-    let a = writer::write_bare(out, at, f);
+    let a = record_writer::write_bare(out, at, f);
     after_record(w, a)
 }
 
@@ -152,7 +152,7 @@ pub fn emit_one(w: Work, out: &mut [u8], f: Fields, p: PeerInfo) -> Work
         return w;
     }
     let at = w.written;
-    let a = writer::write_one(out, at, f, p);
+    let a = record_writer::write_one(out, at, f, p);
     after_record(w, a)
 }
 
@@ -166,6 +166,6 @@ pub fn emit_nodes(w: Work, out: &mut [u8], f: Fields, ns: Nodes) -> Work
         return w;
     }
     let at = w.written;
-    let a = writer::write(out, at, f, ns);
+    let a = record_writer::write(out, at, f, ns);
     after_record(w, a)
 }

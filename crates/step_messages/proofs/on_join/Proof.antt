@@ -4,15 +4,15 @@ use mathlib.Core.Path.{_≡_, refl, sym, ap, _∙_}
 use mathlib.Core.List.{List}
 use native.Mathlib.Omega.{arith}
 use lib.ListN.{length, take, getD}
-use Rattle.lists.proofs.Rest.{Rest, rest-next, rest-end}
-use Rattle.peer.specs.Held.{node-in}
+use Rattle.base_lists.proofs.Rest.{Rest, rest-next, rest-end}
+use Rattle.base_peer.specs.Held.{node-in}
 use Rattle.record.specs.Format.{Rec}
-use Rattle.protocol.specs.Run.{Run, emit, emit-all}
-use Rattle.protocol.specs.Messages.{forward-join-to}
+use Rattle.spec_hyparview.specs.Run.{Run, emit, emit-all}
+use Rattle.spec_hyparview.specs.Messages.{forward-join-to}
 use Rattle.work.specs.declared.Work.{Work}
-use Rattle.state.specs.Work.{work-of, run, TellsAny, Fine, Does}
-use Rattle.state.proofs.Bridge.{still}
-use Rattle.state.proofs.Any.{then-tell-any}
+use Rattle.hyparview_state.specs.Work.{work-of, run, TellsAny, Fine, Does}
+use Rattle.hyparview_state.proofs.Bridge.{still}
+use Rattle.hyparview_state.proofs.Any.{then-tell-any}
 use Rattle.step_refill.proofs.Asking.{fine-after}
 use Rattle.step_messages.proofs.Laws.{walk-fits, joins-forwarded}
 use Rattle.step_messages.proofs.Between.{pending-calm, joined}

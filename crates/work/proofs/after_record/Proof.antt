@@ -3,8 +3,8 @@ use Rattle.work.proofs.after_record.Statement.{statement}
 use Rattle.work.proofs.after_record.Tie as tie
 use Prim.Native.Nat.{ℕ}
 use mathlib.Core.Path.{_≡_}
-use Rattle.writer.specs.declared.Written.{Written}
-use Rattle.writer.specs.declared.Written.the-variants.{At, Full}
+use Rattle.record_writer.specs.declared.Written.{Written}
+use Rattle.record_writer.specs.declared.Written.the-variants.{At, Full}
 use Rattle.work.specs.declared.Work.{Work}
 use Rattle.work.specs.Work.{after-record}
 
