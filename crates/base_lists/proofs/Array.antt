@@ -1,7 +1,7 @@
 -- Laws of arrays of fixed length, and of an item taken out or put in.
 -- Assumes nothing.
 use Prim.Native.Nat.{ℕ, zero, suc, _≤_, _<_, zero-le}
-use mathlib.Core.Path.{_≡_, refl, ap}
+use mathlib.Core.Path.{_≡_, refl, ap, subst, _∙_}
 use mathlib.Core.List.{List, [], _∷_, _++_}
 use native.Mathlib.Nat.{le-of-suc-le-suc, not-suc-le-zero}
 use native.Mathlib.Omega.{arith}
@@ -31,6 +31,15 @@ module _ {A : Type 0} (z : A) where
   getD-pad (suc n) (x ∷ xs) zero h = refl
   getD-pad (suc n) (x ∷ xs) (suc i) h = getD-pad n xs i (le-of-suc-le-suc h)
 
+  -- a list that is cut or filled up to n places has its own items before them
+  pub getD-filled : (n : ℕ) (xs : List A) (i : ℕ) → i < n → getD (pad z n xs) i z ≡ getD xs i z
+  unfolding pad
+  getD-filled zero xs i h = absurd (not-suc-le-zero h)
+  getD-filled (suc n) [] zero h = refl
+  getD-filled (suc n) [] (suc i) h = getD-filled n [] i (le-of-suc-le-suc h)
+  getD-filled (suc n) (x ∷ xs) zero h = refl
+  getD-filled (suc n) (x ∷ xs) (suc i) h = getD-filled n xs i (le-of-suc-le-suc h)
+
   -- a store within the items
   pub set-pad : (n : ℕ) (xs : List A) (i : ℕ) (v : A) → i < length xs → set (pad z n xs) i v ≡ pad z n (set xs i v)
   unfolding pad
@@ -54,6 +63,25 @@ module _ {A : Type 0} (z : A) where
   pop-pad (suc n) zero (x ∷ []) h = refl
   pop-pad (suc n) zero (x ∷ y ∷ ys) h = absurd (omega (arith, h))
   pop-pad (suc n) (suc k) (x ∷ xs) h = ap (λ (l : List A). x ∷ l) (pop-pad n k xs (omega (arith, h)))
+
+  -- n items from place i on, each by its place
+  unfoldable pub spell : ℕ → ℕ → List A → List A
+  spell zero i xs = []
+  spell (suc n) i xs = getD xs i z ∷ spell n (suc i) xs
+
+  spell-after : (n i : ℕ) (x : A) (xs : List A) → spell n (suc i) (x ∷ xs) ≡ spell n i xs
+  unfolding spell
+  spell-after zero i x xs = refl
+  spell-after (suc n) i x xs = ap (λ (l : List A). getD xs i z ∷ l) (spell-after n (suc i) x xs)
+
+  -- a list of known length, item by item: so that an array computes
+  pub spelled : (n : ℕ) (xs : List A) → length xs ≡ n → spell n 0 xs ≡ xs
+  unfolding spell
+  spelled n xs e = subst (λ (k : ℕ). spell k 0 xs ≡ xs) e (whole xs)
+    where
+      whole : (l : List A) → spell (length l) 0 l ≡ l
+      whole [] = refl
+      whole (x ∷ l) = ap (λ (t : List A). x ∷ t) (spell-after (length l) 0 x l ∙ whole l)
 
   pub getD-shift-remove-below : (i k : ℕ) (xs : List A) → k < i → getD (shift-remove i xs) k z ≡ getD xs k z
   unfolding shift-remove

@@ -3,7 +3,7 @@
 use Prim.Native.Nat.{ℕ, zero, suc, _+_, _*_, _/_, _%_, _^_, _≤_, _<_}
 use mathlib.Core.Path.{_≡_, refl, sym, ap, _∙_}
 use mathlib.Core.List.{List, [], _∷_, _++_, append-assoc}
-use native.Mathlib.Nat.{add-zero, add-suc, mod-add-div, div-lt-iff-lt-mul, pow-suc}
+use native.Mathlib.Nat.{add-zero, add-suc, suc-add, mod-add-div, div-lt-iff-lt-mul, pow-suc}
 use native.Mathlib.Omega.{arith}
 use lib.ListN.{length, getD, length-append}
 use lib.Seq.{slice, slice-empty, slice-cons, getD-append-add}
@@ -13,6 +13,26 @@ use Rattle.base_lists.proofs.Slices.{slice-append}
 -- every element is a byte
 abbrev pub Bytes : List ℕ → Type 0
 Bytes l = (k : ℕ) → getD l k 0 < 256
+
+pub bytes-append : (xs ys : List ℕ) → Bytes xs → Bytes ys → Bytes (xs ++ ys)
+bytes-append [] ys p q k = q k
+bytes-append (x ∷ xs) ys p q zero = p 0
+bytes-append (x ∷ xs) ys p q (suc k) = bytes-append xs ys (λ j. p (suc j)) q k
+
+pub bytes-le : (n x : ℕ) → Bytes (le n x)
+unfolding le
+bytes-le zero x k = omega arith
+bytes-le (suc n) x zero = omega arith
+bytes-le (suc n) x (suc k) = bytes-le n (x / 256) k
+
+-- a number that is read where two lists have the same bytes
+pub read-same : (k : ℕ) (l m : List ℕ) (i j : ℕ) → ((n : ℕ) → n < k → getD l (i + n) 0 ≡ getD m (j + n) 0) → read-le k l i ≡ read-le k m j
+unfolding read-le
+read-same zero l m i j h = refl
+read-same (suc k) l m i j h =
+    let first : getD l i 0 ≡ getD m j 0 = simp add-zero at (h 0 (omega arith)) in
+    let rest : read-le k l (suc i) ≡ read-le k m (suc j) = read-same k l m (suc i) (suc j) (λ n p. simp (suc-add, ← add-suc) (h (suc n) (omega arith))) in
+    rw (first, rest)
 
 -- a number that stands after xs
 pub read-after : (k : ℕ) (xs l : List ℕ) (j i : ℕ) → j ≡ length xs + i → read-le k (xs ++ l) j ≡ read-le k l i

@@ -2,7 +2,7 @@
 -- Assumes nothing.
 use Prim.Native.Nat.{ℕ, suc, _+_, _≤_, _<_}
 use mathlib.Core.Path.{_≡_, refl, sym, ap, _∙_}
-use mathlib.Core.Bool.{true, false}
+use mathlib.Core.Bool.{Bool, true, false}
 use mathlib.Core.List.{List, [], _∷_, _++_}
 use native.Mathlib.Nat.{not-suc-le-zero}
 use native.Mathlib.Omega.{arith}
@@ -63,3 +63,16 @@ pub same-refl : (xs : List ℕ) → same xs xs ≡ true
 unfolding same
 same-refl [] = refl
 same-refl (x ∷ xs) = rw (eq-eqb x x refl) (same-refl xs)
+
+-- two tests of equal lists agree where each equation gives the other
+pub same-alike : (xs ys us vs : List ℕ) → (xs ≡ ys → us ≡ vs) → (us ≡ vs → xs ≡ ys) → same xs ys ≡ same us vs
+same-alike xs ys us vs f g = go (same xs ys) (same us vs) refl refl
+  where
+    go : (s t : Bool) → same xs ys ≡ s → same us vs ≡ t → s ≡ t
+    go true true p q = refl
+    go false false p q = refl
+    go true false p q = sym (rw (f (same-true xs ys p)) (same-refl vs)) ∙ q
+    go false true p q = sym p ∙ rw (g (same-true us vs q)) (same-refl ys)
+
+pub same-no : (xs ys : List ℕ) → (xs ≡ ys → ⊥) → same xs ys ≡ false
+same-no xs ys h = split (same xs ys) (λ e. absurd (h (same-true xs ys e))) (λ e. e)
