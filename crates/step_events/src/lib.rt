@@ -79,14 +79,8 @@ pub fn handle_join(w: Work, st: &mut [u64], out: &mut [u8], p: PeerId) -> Work
         id,
     );
     st[Layout::NEXT_JOIN] = id + 1;
-    work::schedule(
-        d,
-        out,
-        Kind::RETRY_JOIN,
-        p,
-        Timing::JOIN_RETRY_DELAY as u64,
-        id,
-    )
+    let delay = Timing::JOIN_RETRY_DELAY as u64;
+    work::schedule(d, out, Kind::RETRY_JOIN, p, delay, id)
 }
 
 // The connection to p is lost: a mark saves a passive peer once.

@@ -123,5 +123,3 @@ module _ (code : ℕ) (xs : List ℕ) (n : ℕ) (ys : List ℕ) (i : ℕ) (v : R
 pub others-are : (xs v r : List ℕ) → HoldsSet 32 v (items-at 8 (recent-part xs)) → HoldsSet 32 r (without-all (items-at 8 (bootstrap-part xs)) (items-at 32 v)) → HoldsSet 32 r (other-recent (unpack xs))
 unfolding other-recent unpack station-of
 others-are xs v r h k = record { valid = k .valid; items = k .items ∙ ap (without-all (items-at 8 (bootstrap-part xs))) (h .items) }
-
--- ---- the timer

@@ -102,14 +102,8 @@ pub fn schedule_maintenance(w: Work, out: &mut [u8]) -> Work
     requires { ⌜ w .written ≤ length (now out) ⌝ }
     ensures { λ r. ⌜ Emits (emit (timer 2 0 maintenance-interval 0)) w r out ⌝ }
 {
-    work::schedule(
-        w,
-        out,
-        Kind::DO_MAINTENANCE,
-        0,
-        Timing::MAINTENANCE_INTERVAL as u64,
-        0,
-    )
+    let delay = Timing::MAINTENANCE_INTERVAL as u64;
+    work::schedule(w, out, Kind::DO_MAINTENANCE, 0, delay, 0)
 }
 
 // The timer of the maintenance, which sets the next one.

@@ -32,7 +32,7 @@ fn add_nodes(w: Work, st: &mut [u64], draws: &[u32], out: &mut [u8], b: &[u8], n
     requires { ⌜ Given w st draws out ⌝ }
     requires { ⌜ well-formed (now b) ≡ true ⌝ }
     requires { ⌜ n ≡ header-of (now b) .nodes ⌝ }
-    ensures { λ r. ⌜ Makes (add-nodes (nodes-of (now (b .entry)) 0 n)) w r .work st draws out ⌝ }
+    ensures { λ r. ⌜ Makes (add-nodes (nodes-of (now (b .entry)) 0 n)) w (r .work) st draws out ⌝ }
     ensures { λ r. ⌜ r .fresh ≡ any-new (nodes-of (now (b .entry)) 0 n) (run-met w st draws out) ⌝ }
 {
     let mut a = w;

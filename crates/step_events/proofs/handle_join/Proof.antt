@@ -117,8 +117,8 @@ slice-write-st c =
     let at-push = require-to-push (c .before .before .before .before .before .before) in
     search (needs, at-push .push-bootstrap .kept, push-to-start at-push .pre .0)
 
-cast-t23 : tie.Need-cast-t23
-cast-t23 c = search needs
+cast-delay : tie.Need-cast-delay
+cast-delay c = search needs
 
 schedule-requires : tie.Need-schedule-requires
 schedule-requires c κs = search needs
@@ -167,7 +167,7 @@ handle-join-spec =
     insert-number-requires
     add-st
     slice-write-st
-    cast-t23
+    cast-delay
     schedule-requires
     same-length-6
     same-length-7

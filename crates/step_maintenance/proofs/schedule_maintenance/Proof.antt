@@ -2,8 +2,8 @@ use borrow.Author.Needs.{needs}
 use Rattle.step_maintenance.proofs.schedule_maintenance.Statement.{statement}
 use Rattle.step_maintenance.proofs.schedule_maintenance.Tie as tie
 
-cast-t4 : tie.Need-cast-t4
-cast-t4 c = search needs
+cast-delay : tie.Need-cast-delay
+cast-delay c = search needs
 
 schedule-requires : tie.Need-schedule-requires
 schedule-requires c κs = search needs
@@ -15,4 +15,4 @@ returns : tie.Need-returns
 returns c = c .before .before .schedule .ensures
 
 pub schedule-maintenance-spec : {M : Type 1} → statement M
-schedule-maintenance-spec = tie.close (tie.spec cast-t4 schedule-requires same-length returns)
+schedule-maintenance-spec = tie.close (tie.spec cast-delay schedule-requires same-length returns)
