@@ -5,7 +5,7 @@ use mathlib.Core.List.{List}
 use Rattle.spec_hyparview.specs.Run.{Run}
 use Rattle.work.specs.declared.Work.{Work}
 use Rattle.work.specs.Work as work
-pub use Rattle.work.specs.Work.{Held, work-of, Slice, Lent, Stateless, ChangesAny, DrawsAny, TellsAny}
+pub use Rattle.work.specs.Work.{Held, work-of, Slice, Lent, Stateless, ChangesAny, DrawsAny, TellsAny, Emits}
 unfoldable pub use Rattle.work.specs.Work.{run-of}
 use Rattle.hyparview_state.specs.Unpack.{station-form}
 
@@ -33,8 +33,31 @@ Fine = work.Fine station-form
 abbrev pub Does : Held → List ℕ → List ℕ → Run → Type 0
 Does = work.Does station-form
 
+-- ---- as a contract says it, of the parameters themselves
+
+abbrev pub GivenDraws : Work → Slice → Slice → Type 0
+GivenDraws = work.GivenDraws station-form
+
+abbrev pub GivenRoom : Work → Slice → Slice → Type 0
+GivenRoom = work.GivenRoom station-form
+
 abbrev pub Given : Work → Slice → Slice → Slice → Type 0
 Given = work.Given station-form
+
+abbrev pub Meets : (Run → Type 0) → Work → Slice → Slice → Slice → Type 0
+Meets = work.Meets station-form
+
+abbrev pub run-met : Work → Lent → Lent → Lent → Run
+run-met = work.run-met station-form
+
+abbrev pub Alters : (Run → Run) → Work → Work → Lent → Type 0
+Alters = work.Alters station-form
+
+abbrev pub Takes : (Run → Run) → Work → Work → Lent → Lent → Type 0
+Takes = work.Takes station-form
+
+abbrev pub Says : (Run → Run) → Work → Work → Lent → Lent → Type 0
+Says = work.Says station-form
 
 abbrev pub Makes : (Run → Run) → Work → Work → Lent → Lent → Lent → Type 0
 Makes = work.Makes station-form

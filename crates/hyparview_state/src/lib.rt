@@ -13,7 +13,7 @@ ghost use Rattle.spec_hyparview.specs.Station.{is-recovery, is-requested};
 ghost use Rattle.spec_hyparview.specs.Refill.{few-requests, unless-recovery};
 ghost use Rattle.hyparview_state.specs.Layout.{words};
 ghost use Rattle.hyparview_state.specs.Unpack.{unpack, own-at, limit-at, refill-in, PackedState, Becomes};
-ghost use Rattle.hyparview_state.specs.Work.{work-of, Changes};
+ghost use Rattle.hyparview_state.specs.Work.{Alters};
 
 // The layout of the state: the place of each number, and where each section begins and ends. A set is its places and then their count; a map has more columns of as many places before the
 // count. Every name is a whole constant, since a sum in the body of a function would be one more thing to prove.
@@ -307,7 +307,7 @@ pub fn is_last_hop(st: &[u64]) -> bool
 pub fn drop_join(w: Work, st: &mut [u64], p: PeerId) -> Work
     requires { ⌜ length (now st) ≡ words ⌝ }
     requires { ⌜ PackedState (now st) ⌝ }
-    ensures { λ r. ⌜ Changes (on (drop-join p)) (work-of w (now (st .entry))) (work-of r (now (st .exit))) ⌝ }
+    ensures { λ r. ⌜ Alters (on (drop-join p)) w r st ⌝ }
 {
     if w.code != 0 {
         return w;
@@ -320,7 +320,7 @@ pub fn drop_join(w: Work, st: &mut [u64], p: PeerId) -> Work
 pub fn drop_request(w: Work, st: &mut [u64], p: PeerId) -> Work
     requires { ⌜ length (now st) ≡ words ⌝ }
     requires { ⌜ PackedState (now st) ⌝ }
-    ensures { λ r. ⌜ Changes (on (drop-request p)) (work-of w (now (st .entry))) (work-of r (now (st .exit))) ⌝ }
+    ensures { λ r. ⌜ Alters (on (drop-request p)) w r st ⌝ }
 {
     if w.code != 0 {
         return w;
@@ -333,7 +333,7 @@ pub fn drop_request(w: Work, st: &mut [u64], p: PeerId) -> Work
 pub fn drop_pending(w: Work, st: &mut [u64], p: PeerId) -> Work
     requires { ⌜ length (now st) ≡ words ⌝ }
     requires { ⌜ PackedState (now st) ⌝ }
-    ensures { λ r. ⌜ Changes (drop-pending p) (work-of w (now (st .entry))) (work-of r (now (st .exit))) ⌝ }
+    ensures { λ r. ⌜ Alters (drop-pending p) w r st ⌝ }
 {
     let a = drop_join(w, st, p);
     drop_request(a, st, p)

@@ -5,7 +5,7 @@ use mathlib.Core.List.{List, [], _∷_}
 use Rattle.base_lists.specs.Maps.{lookup}
 use Rattle.base_peer.specs.Data.{Node}
 use Rattle.work.specs.Run as work
-pub use Rattle.work.specs.Run.{with-station, with-used, with-out, with-code, node, message, timer, notice, data-notice}
+pub use Rattle.work.specs.Run.{with-station, with-used, with-out, with-code, node, message, timer, notice, node-notice, data-notice}
 unfoldable pub use Rattle.work.specs.Run.{guard, on, emit, draw, require, drawn, to-draw, one-of, draw-one-of, picked, shuffled, draw-shuffle, emit-all, flag}
 use Rattle.spec_hyparview.specs.Station.{Station}
 

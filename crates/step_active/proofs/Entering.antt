@@ -17,7 +17,6 @@ use Rattle.base_peer.specs.Data.{Data, bytes-of}
 use Rattle.base_peer.specs.Held.{data-in, ValidData}
 use Rattle.base_peer.proofs.Data.{short-bytes}
 use Rattle.base_util.specs.Section.{items-at, HoldsSet}
-use Rattle.record_writer.specs.Write.{rec-in}
 use Rattle.spec_hyparview.specs.Station.{Station, Refill, automatic, is-me, in-active, active-is-full, is-requested}
 use Rattle.spec_hyparview.specs.Setters.{set-refill}
 use Rattle.spec_hyparview.specs.Run.{Run, guard, on, emit, require, notice}
@@ -116,9 +115,9 @@ reply-shut reply p high g h =
     (λ t. refl)
 
 module _ (w a b : Work) (xs ys out o : List ℕ) (p : ℕ) (v : Room (work-of w xs) out)
-    (k₂ : TellsAny (emit (rec-in (record { kind = 9; message = 0; flags = 0; peer = p; second = 0; ttl = 0; number = 0 }) [])) a b out o) (k₁ : Changes (on (move-in p)) (work-of w xs) (work-of a ys)) where
+    (k₂ : TellsAny (emit (notice 9 p)) a b out o) (k₁ : Changes (on (move-in p)) (work-of w xs) (work-of a ys)) where
   enter-row : (zs : List ℕ) → Changes (on gain-neighbor) (work-of b ys) (work-of b zs) → Tells (enter-active p) (work-of w xs) (work-of b zs) out o
-  unfolding enter-active rec-in
+  unfolding enter-active
   enter-row zs k₃ =
       let t = told-at ys (k₁ .packed) _ k₂ in
       tell-then _ (λ ds. refl) (telling (t .room) k₃) (tell-then (λ g. emit (notice 9 p) (on (move-in p) g)) (λ ds. refl) t (telling v k₁))

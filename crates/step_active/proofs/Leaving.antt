@@ -16,7 +16,6 @@ use Rattle.base_util.specs.Chances.{pick}
 use Rattle.base_peer.specs.declared.PeerData.{PeerData}
 use Rattle.base_peer.specs.Held.{data-in, HoldsData}
 use Rattle.base_util.specs.Section.{items-at}
-use Rattle.record_writer.specs.Write.{rec-in}
 use Rattle.spec_hyparview.specs.Station.{recovery, in-active, is-alone}
 use Rattle.spec_hyparview.specs.Sending.{send-disconnect}
 use Rattle.spec_hyparview.specs.Refill.{start-refill}
@@ -61,9 +60,9 @@ not-dropped w xs out i v h =
     tell-then _ (λ ds. refl) (emit-passed w xs out (notice 10 (getD (unpack xs .active) i 0)) v h) (telling v (on-passed (work-of w xs) (v .packed) (swap-active i) h))
 
 pub dropped : (w a r : Work) (xs ys out o : List ℕ) (i p : ℕ) → Room (work-of w xs) out → p ≡ getD (unpack xs .active) i 0
-    → TellsAny (emit (rec-in (record { kind = 10; message = 0; flags = 0; peer = p; second = 0; ttl = 0; number = 0 }) [])) a r out o → Changes (on (swap-active i)) (work-of w xs) (work-of a ys)
+    → TellsAny (emit (notice 10 p)) a r out o → Changes (on (swap-active i)) (work-of w xs) (work-of a ys)
     → Tells (drop-active i) (work-of w xs) (work-of r ys) out o
-unfolding drop-active run-of rec-in
+unfolding drop-active run-of
 dropped w a r xs ys out o i p v e k₂ k₁ = tell-then _ (λ ds. rw e) (told-at ys (k₁ .packed) _ k₂) (telling v k₁)
 
 pub demoted : (w a : Work) (m : Added) (xs ys zs ds out o : List ℕ) (p : ℕ) (d : PeerData) (x : Option ℕ) → Fine (work-of w xs) ds out → HoldsData d (lookup p (unpack xs .peer-data))

@@ -5,7 +5,6 @@ use base_timing::Timing;
 use hyparview_state::Layout;
 use hyparview_state::RefillLimit;
 use record::Kind;
-use record_writer::Fields;
 use work::Work;
 ghost use mathlib.Core.Path.{_≡_};
 ghost use mathlib.Core.Bool.{true};
@@ -19,7 +18,7 @@ ghost use Rattle.spec_hyparview.specs.Active.{drop-active, demote, mark-alive, 
 ghost use Rattle.spec_hyparview.specs.Active.{move-in, add-active-unchecked, add-active};
 ghost use Rattle.hyparview_state.specs.Layout.{words};
 ghost use Rattle.hyparview_state.specs.Unpack.{unpack, PackedState};
-ghost use Rattle.hyparview_state.specs.Work.{work-of, run, Changes, Room, Tells, Given, Makes};
+ghost use Rattle.hyparview_state.specs.Work.{GivenRoom, Given, Meets, Alters, Says, Makes};
 ghost use Rattle.step_active.specs.Sane.{reason-in, FreeActive, FreeMark, Calm, Loose};
 
 // Why a neighbor is gone that knows it already: the Rust's `RemovalReason` but for the random one.
@@ -33,32 +32,23 @@ pub enum Loss {
 // p, the peer at place i, leaves the active view, with its notice.
 fn drop_active(w: Work, st: &mut [u64], out: &mut [u8], i: usize, p: PeerId) -> Work
     requires { ⌜ length (now st) ≡ words ⌝ }
-    requires { ⌜ Room (work-of w (now st)) (now out) ⌝ }
+    requires { ⌜ GivenRoom w st out ⌝ }
     requires { ⌜ i < length (unpack (now st) .active) ⌝ }
     requires { ⌜ p ≡ getD (unpack (now st) .active) i 0 ⌝ }
-    ensures { λ r. ⌜ Tells (drop-active i) (work-of w (now (st .entry))) (work-of r (now (st .exit))) (now (out .entry)) (now (out .exit)) ⌝ }
+    ensures { λ r. ⌜ Says (drop-active i) w r st out ⌝ }
 {
     if w.code != 0 {
         return w;
     }
     base_util::remove_index(&mut st[Layout::ACTIVE..Layout::ACTIVE_END], Layout::FEW, i);
-    let f = Fields {
-        kind: Kind::NEIGHBOR_DOWN,
-        message: 0,
-        flags: 0,
-        peer: p,
-        second: 0,
-        ttl: 0,
-        number: 0,
-    };
-    work::emit_bare(w, out, f)
+    work::notify(w, out, Kind::NEIGHBOR_DOWN, p)
 }
 
 pub fn mark_alive(w: Work, st: &mut [u64], p: PeerId) -> Work
     requires { ⌜ length (now st) ≡ words ⌝ }
     requires { ⌜ PackedState (now st) ⌝ }
     requires { ⌜ FreeMark p (w .code) (unpack (now st)) ⌝ }
-    ensures { λ r. ⌜ Changes (on (mark-alive p)) (work-of w (now (st .entry))) (work-of r (now (st .exit))) ⌝ }
+    ensures { λ r. ⌜ Alters (on (mark-alive p)) w r st ⌝ }
 {
     if w.code != 0 {
         return w;
@@ -71,7 +61,7 @@ pub fn mark_alive(w: Work, st: &mut [u64], p: PeerId) -> Work
 fn demote(w: Work, st: &mut [u64], draws: &[u32], out: &mut [u8], p: PeerId, alive: bool) -> Work
     requires { ⌜ length (now st) ≡ words ⌝ }
     requires { ⌜ Given w st draws out ⌝ }
-    requires { ⌜ (alive ≡ true → Loose p 0 adding 1 (run (work-of w (now st)) (now draws) (now out))) ⌝ }
+    requires { ⌜ (alive ≡ true → Meets (Loose p 0 adding 1) w st draws out) ⌝ }
     ensures { λ r. ⌜ Makes (choose alive (demote-alive p) (demote p)) w r st draws out ⌝ }
 {
     let d = base_columns::get_data(&st[Layout::HELD..Layout::HELD_END], Layout::DATA_CAP, p);
@@ -94,7 +84,7 @@ fn remove_active_by_index(
     requires { ⌜ length (now st) ≡ words ⌝ }
     requires { ⌜ Given w st draws out ⌝ }
     requires { ⌜ i < length (unpack (now st) .active) ⌝ }
-    requires { ⌜ Calm 0 leaving 1 (run (work-of w (now st)) (now draws) (now out)) ⌝ }
+    requires { ⌜ Meets (Calm 0 leaving 1) w st draws out ⌝ }
     ensures { λ r. ⌜ Makes (remove-active-by-index i (reason-in why)) w r st draws out ⌝ }
 {
     let p = base_util::get_index(&st[Layout::ACTIVE..Layout::ACTIVE_END], Layout::FEW, i);
@@ -127,7 +117,7 @@ pub fn remove_active(
 ) -> Work
     requires { ⌜ length (now st) ≡ words ⌝ }
     requires { ⌜ Given w st draws out ⌝ }
-    requires { ⌜ Calm 0 leaving 1 (run (work-of w (now st)) (now draws) (now out)) ⌝ }
+    requires { ⌜ Meets (Calm 0 leaving 1) w st draws out ⌝ }
     ensures { λ r. ⌜ Makes (remove-active p (reason-in why)) w r st draws out ⌝ }
 {
     if hyparview_state::in_active(st, p) {
@@ -144,7 +134,7 @@ pub fn remove_active(
 fn free_random_slot_in_active_view(w: Work, st: &mut [u64], draws: &[u32], out: &mut [u8]) -> Work
     requires { ⌜ length (now st) ≡ words ⌝ }
     requires { ⌜ Given w st draws out ⌝ }
-    requires { ⌜ Calm 0 freeing 40 (run (work-of w (now st)) (now draws) (now out)) ⌝ }
+    requires { ⌜ Meets (Calm 0 freeing 40) w st draws out ⌝ }
     ensures { λ r. ⌜ Makes free-random-slot-in-active-view w r st draws out ⌝ }
 {
     if hyparview_state::is_alone(st) {
@@ -170,7 +160,7 @@ fn move_in(w: Work, st: &mut [u64], p: PeerId) -> Work
     requires { ⌜ length (now st) ≡ words ⌝ }
     requires { ⌜ PackedState (now st) ⌝ }
     requires { ⌜ FreeActive (w .code) (unpack (now st)) ⌝ }
-    ensures { λ r. ⌜ Changes (on (move-in p)) (work-of w (now (st .entry))) (work-of r (now (st .exit))) ⌝ }
+    ensures { λ r. ⌜ Alters (on (move-in p)) w r st ⌝ }
 {
     let a = step_peers::remove_passive(w, st, p);
     let b = step_peers::drop_mark(a, st, p);
@@ -196,22 +186,13 @@ fn add_active_unchecked(
     reply: bool,
 ) -> Work
     requires { ⌜ length (now st) ≡ words ⌝ }
-    requires { ⌜ Room (work-of w (now st)) (now out) ⌝ }
+    requires { ⌜ GivenRoom w st out ⌝ }
     requires { ⌜ FreeActive (w .code) (unpack (now st)) ⌝ }
-    ensures { λ r. ⌜ Tells (add-active-unchecked p high reply) (work-of w (now (st .entry))) (work-of r (now (st .exit))) (now (out .entry)) (now (out .exit)) ⌝ }
+    ensures { λ r. ⌜ Says (add-active-unchecked p high reply) w r st out ⌝ }
 {
     // p enters the active view, with its notice.
     let a = move_in(w, st, p);
-    let f = Fields {
-        kind: Kind::NEIGHBOR_UP,
-        message: 0,
-        flags: 0,
-        peer: p,
-        second: 0,
-        ttl: 0,
-        number: 0,
-    };
-    let b = work::emit_bare(a, out, f);
+    let b = work::notify(a, out, Kind::NEIGHBOR_UP, p);
     if b.code != 0 {
         return b;
     }
@@ -236,7 +217,7 @@ pub fn add_active(
     requires { ⌜ length (now st) ≡ words ⌝ }
     requires { ⌜ Given w st draws out ⌝ }
     requires { ⌜ ValidData d ⌝ }
-    requires { ⌜ Calm 0 arriving 40 (run (work-of w (now st)) (now draws) (now out)) ⌝ }
+    requires { ⌜ Meets (Calm 0 arriving 40) w st draws out ⌝ }
     ensures { λ r. ⌜ Makes (add-active p (data-in d) high reply) w r st draws out ⌝ }
 {
     if hyparview_state::is_me(st, p) {

@@ -12,7 +12,7 @@ ghost use Rattle.record.specs.Read.{rec-of};
 ghost use Rattle.spec_hyparview.specs.Budgets.{arriving};
 ghost use Rattle.spec_hyparview.specs.Handle.{handle-message, dispatch, steps};
 ghost use Rattle.hyparview_state.specs.Layout.{words};
-ghost use Rattle.hyparview_state.specs.Work.{work-of, run, Fine, Does};
+ghost use Rattle.hyparview_state.specs.Work.{Given, Meets, Makes};
 ghost use Rattle.step_messages.specs.Between.{Between};
 ghost use Rattle.step_dispatch.specs.Begun.{Headed, Opens};
 
@@ -26,11 +26,11 @@ fn handle_message(
     h: Header,
 ) -> Work
     requires { ⌜ length (now st) ≡ words ⌝ }
-    requires { ⌜ Fine (work-of w (now st)) (now draws) (now out) ⌝ }
+    requires { ⌜ Given w st draws out ⌝ }
     requires { ⌜ Headed (now b) h ⌝ }
     requires { ⌜ h .kind ≡ 0 ⌝ }
-    requires { ⌜ Between 0 arriving 40 (run (work-of w (now st)) (now draws) (now out)) ⌝ }
-    ensures { λ r. ⌜ Does (work-of r (now (st .exit))) (now (draws .entry)) (now (out .exit)) (handle-message (rec-of (now (b .entry))) (run (work-of w (now (st .entry))) (now (draws .entry)) (now (out .entry)))) ⌝ }
+    requires { ⌜ Meets (Between 0 arriving 40) w st draws out ⌝ }
+    ensures { λ r. ⌜ Makes (handle-message (rec-of (now (b .entry)))) w r st draws out ⌝ }
 {
     let p = h.peer;
     let n = h.nodes as usize;
@@ -59,11 +59,11 @@ fn handle_message(
 // What an event says is done, whichever kind it is.
 fn dispatch(w: Work, st: &mut [u64], draws: &[u32], out: &mut [u8], b: &[u8], h: Header) -> Work
     requires { ⌜ length (now st) ≡ words ⌝ }
-    requires { ⌜ Fine (work-of w (now st)) (now draws) (now out) ⌝ }
+    requires { ⌜ Given w st draws out ⌝ }
     requires { ⌜ Headed (now b) h ⌝ }
     requires { ⌜ h .kind ≤ 8 ⌝ }
-    requires { ⌜ Opens (h .kind) (run (work-of w (now st)) (now draws) (now out)) ⌝ }
-    ensures { λ r. ⌜ Does (work-of r (now (st .exit))) (now (draws .entry)) (now (out .exit)) (dispatch (rec-of (now (b .entry))) (run (work-of w (now (st .entry))) (now (draws .entry)) (now (out .entry)))) ⌝ }
+    requires { ⌜ Meets (Opens (h .kind)) w st draws out ⌝ }
+    ensures { λ r. ⌜ Makes (dispatch (rec-of (now (b .entry)))) w r st draws out ⌝ }
 {
     if h.kind == Kind::MESSAGE {
         return handle_message(w, st, draws, out, b, h);
@@ -98,11 +98,11 @@ fn dispatch(w: Work, st: &mut [u64], draws: &[u32], out: &mut [u8], b: &[u8], h:
 // The steps of one event.
 pub fn steps(w: Work, st: &mut [u64], draws: &[u32], out: &mut [u8], b: &[u8], h: Header) -> Work
     requires { ⌜ length (now st) ≡ words ⌝ }
-    requires { ⌜ Fine (work-of w (now st)) (now draws) (now out) ⌝ }
+    requires { ⌜ Given w st draws out ⌝ }
     requires { ⌜ Headed (now b) h ⌝ }
     requires { ⌜ h .kind ≤ 8 ⌝ }
-    requires { ⌜ Opens (h .kind) (run (work-of w (now st)) (now draws) (now out)) ⌝ }
-    ensures { λ r. ⌜ Does (work-of r (now (st .exit))) (now (draws .entry)) (now (out .exit)) (steps (rec-of (now (b .entry))) (run (work-of w (now (st .entry))) (now (draws .entry)) (now (out .entry)))) ⌝ }
+    requires { ⌜ Meets (Opens (h .kind)) w st draws out ⌝ }
+    ensures { λ r. ⌜ Makes (steps (rec-of (now (b .entry)))) w r st draws out ⌝ }
 {
     let mut a = dispatch(w, st, draws, out, b, h);
     // The first accepted call starts both timers.

@@ -20,7 +20,6 @@ use Rattle.base_util.proofs.Parts.{part-read, part-put}
 use Rattle.base_columns.specs.Columns.{numbers-at, ValidNumbers, HoldsNumbers}
 use Rattle.base_timing.specs.Timing.{join-retry-delay}
 use Rattle.record.specs.Format.{Rec}
-use Rattle.record_writer.specs.Write.{rec-in}
 use Rattle.spec_hyparview.specs.Setters.{set-joins, set-bootstrap}
 use Rattle.spec_hyparview.specs.Station.{Station, is-me, in-active, top-counter}
 use Rattle.spec_hyparview.specs.Run.{Run, guard, on, emit, require, timer}
@@ -193,9 +192,9 @@ pub room-kept : (f : Run → Run) (w a : Held) (out : List ℕ) → Changes f w 
 room-kept f w a out k v = telling v k .room
 
 pub awaited : (w a r : Work) (xs ys out o : List ℕ) (p : ℕ) → Room (work-of w xs) out
-    → TellsAny (emit (rec-in (record { kind = 4; message = 0; flags = 0; peer = p; second = 10000; ttl = 0; number = next-join xs }) [])) a r out o → Changes (open-join p) (work-of w xs) (work-of a ys)
+    → TellsAny (emit (timer 4 p 10000 (next-join xs))) a r out o → Changes (open-join p) (work-of w xs) (work-of a ys)
     → Tells (await-join p) (work-of w xs) (work-of r ys) out o
-unfolding await-join rec-in run-of unpack station-of
+unfolding await-join run-of unpack station-of
 awaited w a r xs ys out o p v k₂ k₁ = tell-then (await-join p) (λ ds. refl) (told-at ys (k₁ .packed) _ k₂) (telling v k₁)
 
 module _ (w a : Held) (out : List ℕ) (p : ℕ) (t : Bool) (v : Room w out) (k : Changes (on (push-bootstrap p)) w a) (e : t ≡ in-active p (unpack (a .state))) where

@@ -5,7 +5,6 @@ use base_timing::Timing;
 use hyparview_state::Layout;
 use record::Kind;
 use record::Refusal;
-use record_writer::Fields;
 use step_active::Loss;
 use work::Work;
 ghost use mathlib.Core.Path.{_≡_};
@@ -16,7 +15,7 @@ ghost use Rattle.spec_hyparview.specs.Run.{on};
 ghost use Rattle.spec_hyparview.specs.Events.{push-bootstrap, handle-join, lose-passive, handle-connection-closed, update-own-data, handle-quit};
 ghost use Rattle.hyparview_state.specs.Layout.{words};
 ghost use Rattle.hyparview_state.specs.Unpack.{unpack, PackedState};
-ghost use Rattle.hyparview_state.specs.Work.{work-of, run, Changes, Room, Tells, Fine, Does};
+ghost use Rattle.hyparview_state.specs.Work.{GivenRoom, Given, Meets, Alters, Says, Makes};
 ghost use Rattle.step_active.specs.Sane.{Calm};
 ghost use Rattle.step_events.specs.Free.{KnownJoins};
 
@@ -24,7 +23,7 @@ ghost use Rattle.step_events.specs.Free.{KnownJoins};
 fn push_bootstrap(w: Work, st: &mut [u64], p: PeerId) -> Work
     requires { ⌜ length (now st) ≡ words ⌝ }
     requires { ⌜ PackedState (now st) ⌝ }
-    ensures { λ r. ⌜ Changes (on (push-bootstrap p)) (work-of w (now (st .entry))) (work-of r (now (st .exit))) ⌝ }
+    ensures { λ r. ⌜ Alters (on (push-bootstrap p)) w r st ⌝ }
 {
     if w.code != 0 {
         return w;
@@ -54,9 +53,9 @@ fn push_bootstrap(w: Work, st: &mut [u64], p: PeerId) -> Work
 // A request to join the swarm through p; a neighbor needs no Join.
 pub fn handle_join(w: Work, st: &mut [u64], out: &mut [u8], p: PeerId) -> Work
     requires { ⌜ length (now st) ≡ words ⌝ }
-    requires { ⌜ Room (work-of w (now st)) (now out) ⌝ }
+    requires { ⌜ GivenRoom w st out ⌝ }
     requires { ⌜ KnownJoins (w .code) (unpack (now st)) ⌝ }
-    ensures { λ r. ⌜ Tells (handle-join p) (work-of w (now (st .entry))) (work-of r (now (st .exit))) (now (out .entry)) (now (out .exit)) ⌝ }
+    ensures { λ r. ⌜ Says (handle-join p) w r st out ⌝ }
 {
     let a = push_bootstrap(w, st, p);
     if hyparview_state::in_active(st, p) {
@@ -80,23 +79,15 @@ pub fn handle_join(w: Work, st: &mut [u64], out: &mut [u8], p: PeerId) -> Work
         id,
     );
     st[Layout::NEXT_JOIN] = id + 1;
-    let f = Fields {
-        kind: Kind::RETRY_JOIN,
-        message: 0,
-        flags: 0,
-        peer: p,
-        second: Timing::JOIN_RETRY_DELAY as u64,
-        ttl: 0,
-        number: id,
-    };
-    work::emit_bare(d, out, f)
+    let delay = Timing::JOIN_RETRY_DELAY as u64;
+    work::schedule(d, out, Kind::RETRY_JOIN, p, delay, id)
 }
 
 // The connection to p is lost: a mark saves a passive peer once.
 fn lose_passive(w: Work, st: &mut [u64], p: PeerId) -> Work
     requires { ⌜ length (now st) ≡ words ⌝ }
     requires { ⌜ PackedState (now st) ⌝ }
-    ensures { λ r. ⌜ Changes (lose-passive p) (work-of w (now (st .entry))) (work-of r (now (st .exit))) ⌝ }
+    ensures { λ r. ⌜ Alters (lose-passive p) w r st ⌝ }
 {
     if step_peers::is_marked(st, p) {
         return step_peers::drop_mark(w, st, p);
@@ -114,9 +105,9 @@ pub fn handle_connection_closed(
     p: PeerId,
 ) -> Work
     requires { ⌜ length (now st) ≡ words ⌝ }
-    requires { ⌜ Fine (work-of w (now st)) (now draws) (now out) ⌝ }
-    requires { ⌜ Calm 0 leaving 1 (run (work-of w (now st)) (now draws) (now out)) ⌝ }
-    ensures { λ r. ⌜ Does (work-of r (now (st .exit))) (now (draws .entry)) (now (out .exit)) (handle-connection-closed p (run (work-of w (now (st .entry))) (now (draws .entry)) (now (out .entry)))) ⌝ }
+    requires { ⌜ Given w st draws out ⌝ }
+    requires { ⌜ Meets (Calm 0 leaving 1) w st draws out ⌝ }
+    ensures { λ r. ⌜ Makes (handle-connection-closed p) w r st draws out ⌝ }
 {
     let requested = hyparview_state::is_requested(st, p);
     let a = hyparview_state::drop_request(w, st, p);
@@ -137,7 +128,7 @@ pub fn update_own_data(w: Work, st: &mut [u64], d: PeerData) -> Work
     requires { ⌜ length (now st) ≡ words ⌝ }
     requires { ⌜ PackedState (now st) ⌝ }
     requires { ⌜ ValidData d ⌝ }
-    ensures { λ r. ⌜ Changes (on (update-own-data (data-in d))) (work-of w (now (st .entry))) (work-of r (now (st .exit))) ⌝ }
+    ensures { λ r. ⌜ Alters (on (update-own-data (data-in d))) w r st ⌝ }
 {
     if w.code != 0 {
         return w;
@@ -155,8 +146,8 @@ pub fn update_own_data(w: Work, st: &mut [u64], d: PeerData) -> Work
 // Quit: every neighbor gets a Disconnect, in the order of the active view.
 pub fn handle_quit(w: Work, st: &mut [u64], draws: &[u32], out: &mut [u8]) -> Work
     requires { ⌜ length (now st) ≡ words ⌝ }
-    requires { ⌜ Fine (work-of w (now st)) (now draws) (now out) ⌝ }
-    ensures { λ r. ⌜ Does (work-of r (now (st .exit))) (now (draws .entry)) (now (out .exit)) (handle-quit (run (work-of w (now (st .entry))) (now (draws .entry)) (now (out .entry)))) ⌝ }
+    requires { ⌜ Given w st draws out ⌝ }
+    ensures { λ r. ⌜ Makes handle-quit w r st draws out ⌝ }
 {
     let mut v = [0u64; Layout::SET];
     base_util::copy_into(&st[Layout::ACTIVE..Layout::ACTIVE_END], Layout::FEW, &mut v);

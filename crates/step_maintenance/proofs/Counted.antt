@@ -12,7 +12,6 @@ use borrow.Rule.Slice.PartMut.{putMid}
 use Rattle.base_lists.specs.Lists.{without-all, renew}
 use Rattle.base_lists.proofs.Rest.{Rest, rest-next, rest-end}
 use Rattle.base_util.specs.Section.{items-at, HoldsSet}
-use Rattle.record_writer.specs.Write.{rec-in}
 use Rattle.spec_hyparview.specs.Station.{Station, top-passes}
 use Rattle.spec_hyparview.specs.Setters.{set-passes-alone, set-recent}
 use Rattle.base_timing.specs.Timing.{maintenance-interval}
@@ -124,9 +123,3 @@ module _ (code : ℕ) (xs : List ℕ) (n : ℕ) (ys : List ℕ) (i : ℕ) (v : R
 pub others-are : (xs v r : List ℕ) → HoldsSet 32 v (items-at 8 (recent-part xs)) → HoldsSet 32 r (without-all (items-at 8 (bootstrap-part xs)) (items-at 32 v)) → HoldsSet 32 r (other-recent (unpack xs))
 unfolding other-recent unpack station-of
 others-are xs v r h k = record { valid = k .valid; items = k .items ∙ ap (without-all (items-at 8 (bootstrap-part xs))) (h .items) }
-
--- ---- the timer
-
-pub maintenance-told : (w r : Work) (out o : List ℕ) → TellsAny (emit (rec-in (record { kind = 2; message = 0; flags = 0; peer = 0; second = 5000; ttl = 0; number = 0 }) [])) w r out o → TellsAny (emit (timer 2 0 maintenance-interval 0)) w r out o
-unfolding rec-in
-maintenance-told w r out o k = record { drawn = k .drawn; written = k .written; same = k .same }

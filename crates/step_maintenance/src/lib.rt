@@ -4,7 +4,6 @@ use hyparview_state::Layout;
 use hyparview_state::RefillLimit;
 use record::Kind;
 use record::Refusal;
-use record_writer::Fields;
 use work::Work;
 ghost use mathlib.Core.Path.{_≡_};
 ghost use Prim.Native.Nat.{_≤_};
@@ -14,13 +13,13 @@ ghost use Rattle.spec_hyparview.specs.Run.{emit, timer};
 ghost use Rattle.spec_hyparview.specs.Timers.{pass-alone, maintain};
 ghost use Rattle.spec_hyparview.specs.Timers.{handle-maintenance-timer};
 ghost use Rattle.hyparview_state.specs.Layout.{words};
-ghost use Rattle.hyparview_state.specs.Work.{work-of, run, TellsAny, Fine, Does};
+ghost use Rattle.hyparview_state.specs.Work.{Given, Makes, Emits};
 
 // A pass where both views are empty: it is counted, and the backoff says whether Joins go out, to the bootstrap peers and to one recent neighbor.
 fn pass_alone(w: Work, st: &mut [u64], draws: &[u32], out: &mut [u8]) -> Work
     requires { ⌜ length (now st) ≡ words ⌝ }
-    requires { ⌜ Fine (work-of w (now st)) (now draws) (now out) ⌝ }
-    ensures { λ r. ⌜ Does (work-of r (now (st .exit))) (now (draws .entry)) (now (out .exit)) (pass-alone (run (work-of w (now (st .entry))) (now (draws .entry)) (now (out .entry)))) ⌝ }
+    requires { ⌜ Given w st draws out ⌝ }
+    ensures { λ r. ⌜ Makes pass-alone w r st draws out ⌝ }
 {
     // Code 10 where the pass cannot be counted.
     let n = st[Layout::PASSES_ALONE];
@@ -60,8 +59,8 @@ fn pass_alone(w: Work, st: &mut [u64], draws: &[u32], out: &mut [u8]) -> Work
 // One pass of maintenance.
 fn maintain(w: Work, st: &mut [u64], draws: &[u32], out: &mut [u8]) -> Work
     requires { ⌜ length (now st) ≡ words ⌝ }
-    requires { ⌜ Fine (work-of w (now st)) (now draws) (now out) ⌝ }
-    ensures { λ r. ⌜ Does (work-of r (now (st .exit))) (now (draws .entry)) (now (out .exit)) (maintain (run (work-of w (now (st .entry))) (now (draws .entry)) (now (out .entry)))) ⌝ }
+    requires { ⌜ Given w st draws out ⌝ }
+    ensures { λ r. ⌜ Makes maintain w r st draws out ⌝ }
 {
     let alone = hyparview_state::is_alone(st);
     // Both views are empty.
@@ -101,25 +100,17 @@ fn maintain(w: Work, st: &mut [u64], draws: &[u32], out: &mut [u8]) -> Work
 // The next pass of maintenance.
 pub fn schedule_maintenance(w: Work, out: &mut [u8]) -> Work
     requires { ⌜ w .written ≤ length (now out) ⌝ }
-    ensures { λ r. ⌜ TellsAny (emit (timer 2 0 maintenance-interval 0)) w r (now (out .entry)) (now (out .exit)) ⌝ }
+    ensures { λ r. ⌜ Emits (emit (timer 2 0 maintenance-interval 0)) w r out ⌝ }
 {
-    let f = Fields {
-        kind: Kind::DO_MAINTENANCE,
-        message: 0,
-        flags: 0,
-        peer: 0,
-        second: Timing::MAINTENANCE_INTERVAL as u64,
-        ttl: 0,
-        number: 0,
-    };
-    work::emit_bare(w, out, f)
+    let delay = Timing::MAINTENANCE_INTERVAL as u64;
+    work::schedule(w, out, Kind::DO_MAINTENANCE, 0, delay, 0)
 }
 
 // The timer of the maintenance, which sets the next one.
 pub fn handle_maintenance_timer(w: Work, st: &mut [u64], draws: &[u32], out: &mut [u8]) -> Work
     requires { ⌜ length (now st) ≡ words ⌝ }
-    requires { ⌜ Fine (work-of w (now st)) (now draws) (now out) ⌝ }
-    ensures { λ r. ⌜ Does (work-of r (now (st .exit))) (now (draws .entry)) (now (out .exit)) (handle-maintenance-timer (run (work-of w (now (st .entry))) (now (draws .entry)) (now (out .entry)))) ⌝ }
+    requires { ⌜ Given w st draws out ⌝ }
+    ensures { λ r. ⌜ Makes handle-maintenance-timer w r st draws out ⌝ }
 {
     if w.code == 0 {
         // The neighbors become the newest of the recent ones, one after the other.

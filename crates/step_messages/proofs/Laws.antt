@@ -19,9 +19,8 @@ use Rattle.base_util.specs.Section.{items-at, HoldsSet}
 use Rattle.base_peer.specs.declared.PeerInfo.{PeerInfo}
 use Rattle.base_timing.specs.Timing.{next, expired}
 use Rattle.base_timing.proofs.Ranges.{ranges}
-use Rattle.record_writer.specs.Write.{rec-in}
 use Rattle.spec_hyparview.specs.Station.{Station, is-me, is-requested, in-passive, in-active, active-is-full, is-last-hop}
-use Rattle.spec_hyparview.specs.Run.{Run, guard, on, emit, to-draw, one-of, draw-one-of, require, picked, node, emit-all}
+use Rattle.spec_hyparview.specs.Run.{Run, guard, on, emit, to-draw, one-of, draw-one-of, require, picked, node, emit-all, message}
 use Rattle.spec_hyparview.specs.Peers.{insert-peer-info, forget-peer, add-passive, drop-passive}
 use Rattle.spec_hyparview.specs.Sending.{send-neighbor, send-disconnect}
 use Rattle.spec_hyparview.specs.Refill.{refill-active-from-passive}
@@ -50,8 +49,8 @@ unfolding unpack station-of
 others-held xs t u p h k = record { valid = k .valid; items = k .items ∙ ap (without p) (h .items) }
 
 pub join-forwarded : (w r : Work) (out o : List ℕ) (n : Node) (ttl q : ℕ)
-    → TellsAny (emit (rec-in (record { kind = 0; message = 1; flags = 0; peer = q; second = 0; ttl = ttl; number = 0 }) (n ∷ []))) w r out o → TellsAny (emit (forward-join-to n ttl q)) w r out o
-unfolding forward-join-to rec-in
+    → TellsAny (emit (message 1 q 0 0 ttl (n ∷ []))) w r out o → TellsAny (emit (forward-join-to n ttl q)) w r out o
+unfolding forward-join-to
 join-forwarded w r out o n ttl q k = k
 
 pub joiner-asked : (w a r : Held) (out o₁ o : List ℕ) (n : PeerInfo) → Tells (send-neighbor (n .id) true) a r o₁ o → Tells (insert-peer-info (n .id) (data-in (n .data))) w a out o₁ → Tells (ask-joiner (node-in n)) w r out o

@@ -4,10 +4,8 @@ use base_peer::PeerId;
 use base_peer::PeerInfo;
 use base_timing::Ttl;
 use hyparview_state::Layout;
-use record::Kind;
 use record::Message;
 use record::Refusal;
-use record_writer::Fields;
 use step_active::Loss;
 use work::Work;
 ghost use mathlib.Core.Path.{_≡_};
@@ -24,7 +22,7 @@ ghost use Rattle.spec_hyparview.specs.Messages.{note-refusal};
 ghost use Rattle.spec_hyparview.specs.Messages.{on-disconnect};
 ghost use Rattle.hyparview_state.specs.Layout.{words, all-places, set-words};
 ghost use Rattle.hyparview_state.specs.Unpack.{unpack, PackedState};
-ghost use Rattle.hyparview_state.specs.Work.{work-of, run, Changes, TellsAny, Fine, Does};
+ghost use Rattle.hyparview_state.specs.Work.{Given, Meets, Alters, Makes, Emits};
 ghost use Rattle.step_messages.specs.Between.{Between};
 
 // The neighbors but p, as a working set.
@@ -50,9 +48,9 @@ fn learn_joiner(
     ttl: u16,
 ) -> Work
     requires { ⌜ length (now st) ≡ words ⌝ }
-    requires { ⌜ Fine (work-of w (now st)) (now draws) (now out) ⌝ }
+    requires { ⌜ Given w st draws out ⌝ }
     requires { ⌜ ValidData (n .data) ⌝ }
-    ensures { λ r. ⌜ Does (work-of r (now (st .exit))) (now (draws .entry)) (now (out .exit)) (learn-joiner (node-in n) ttl (run (work-of w (now (st .entry))) (now (draws .entry)) (now (out .entry)))) ⌝ }
+    ensures { λ r. ⌜ Makes (learn-joiner (node-in n) ttl) w r st draws out ⌝ }
 {
     if ttl as u64 == st[Layout::PASSIVE_RANDOM_WALK_LENGTH] {
         let t = step_peers::add_passive(w, st, draws, out, n.id, n.data);
@@ -65,18 +63,9 @@ fn learn_joiner(
 fn forward_join_to(w: Work, out: &mut [u8], n: PeerInfo, ttl: u16, q: PeerId) -> Work
     requires { ⌜ w .written ≤ length (now out) ⌝ }
     requires { ⌜ ValidData (n .data) ⌝ }
-    ensures { λ r. ⌜ TellsAny (emit (forward-join-to (node-in n) ttl q)) w r (now (out .entry)) (now (out .exit)) ⌝ }
+    ensures { λ r. ⌜ Emits (emit (forward-join-to (node-in n) ttl q)) w r out ⌝ }
 {
-    let f = Fields {
-        kind: Kind::MESSAGE,
-        message: Message::FORWARD_JOIN,
-        flags: 0,
-        peer: q,
-        second: 0,
-        ttl: ttl,
-        number: 0,
-    };
-    work::emit_one(w, out, f, n)
+    work::send_node(w, out, Message::FORWARD_JOIN, q, 0, ttl, n)
 }
 
 pub fn on_forward_join(
@@ -89,9 +78,9 @@ pub fn on_forward_join(
     ttl: u16,
 ) -> Work
     requires { ⌜ length (now st) ≡ words ⌝ }
-    requires { ⌜ Fine (work-of w (now st)) (now draws) (now out) ⌝ }
+    requires { ⌜ Given w st draws out ⌝ }
     requires { ⌜ ValidData (n .data) ⌝ }
-    ensures { λ r. ⌜ Does (work-of r (now (st .exit))) (now (draws .entry)) (now (out .exit)) (on-forward-join from (node-in n) ttl (run (work-of w (now (st .entry))) (now (draws .entry)) (now (out .entry)))) ⌝ }
+    ensures { λ r. ⌜ Makes (on-forward-join from (node-in n) ttl) w r st draws out ⌝ }
 {
     let t = Ttl(ttl);
     if hyparview_state::in_active(st, n.id) | (t.expired() | hyparview_state::is_last_hop(st)) {
@@ -122,7 +111,7 @@ pub fn on_forward_join(
 fn note_refusal(w: Work, st: &mut [u64], p: PeerId, requested: bool) -> Work
     requires { ⌜ length (now st) ≡ words ⌝ }
     requires { ⌜ PackedState (now st) ⌝ }
-    ensures { λ r. ⌜ Changes (note-refusal p requested) (work-of w (now (st .entry))) (work-of r (now (st .exit))) ⌝ }
+    ensures { λ r. ⌜ Alters (note-refusal p requested) w r st ⌝ }
 {
     if requested {
         let n = base_util::count(&st[Layout::REFUSED..Layout::REFUSED_END], Layout::ALL);
@@ -151,9 +140,9 @@ pub fn on_disconnect(
     alive: bool,
 ) -> Work
     requires { ⌜ length (now st) ≡ words ⌝ }
-    requires { ⌜ Fine (work-of w (now st)) (now draws) (now out) ⌝ }
-    requires { ⌜ Between 0 leaving 1 (run (work-of w (now st)) (now draws) (now out)) ⌝ }
-    ensures { λ r. ⌜ Does (work-of r (now (st .exit))) (now (draws .entry)) (now (out .exit)) (on-disconnect p alive (run (work-of w (now (st .entry))) (now (draws .entry)) (now (out .entry)))) ⌝ }
+    requires { ⌜ Given w st draws out ⌝ }
+    requires { ⌜ Meets (Between 0 leaving 1) w st draws out ⌝ }
+    ensures { λ r. ⌜ Makes (on-disconnect p alive) w r st draws out ⌝ }
 {
     let requested = hyparview_state::is_requested(st, p);
     // Neither a join nor a request to p is open; and whoever went away for good cannot let the station in again, so it is not kept for a rejoin.
@@ -193,10 +182,10 @@ pub fn on_join(
     d: PeerData,
 ) -> Work
     requires { ⌜ length (now st) ≡ words ⌝ }
-    requires { ⌜ Fine (work-of w (now st)) (now draws) (now out) ⌝ }
+    requires { ⌜ Given w st draws out ⌝ }
     requires { ⌜ ValidData d ⌝ }
-    requires { ⌜ Between 0 arriving 40 (run (work-of w (now st)) (now draws) (now out)) ⌝ }
-    ensures { λ r. ⌜ Does (work-of r (now (st .exit))) (now (draws .entry)) (now (out .exit)) (on-join p (data-in d) (run (work-of w (now (st .entry))) (now (draws .entry)) (now (out .entry)))) ⌝ }
+    requires { ⌜ Meets (Between 0 arriving 40) w st draws out ⌝ }
+    ensures { λ r. ⌜ Makes (on-join p (data-in d)) w r st draws out ⌝ }
 {
     let a = hyparview_state::drop_pending(w, st, p);
     let mut b = step_active::add_active(a, st, draws, out, p, d, true, true);
@@ -225,10 +214,10 @@ pub fn on_neighbor(
     high: bool,
 ) -> Work
     requires { ⌜ length (now st) ≡ words ⌝ }
-    requires { ⌜ Fine (work-of w (now st)) (now draws) (now out) ⌝ }
+    requires { ⌜ Given w st draws out ⌝ }
     requires { ⌜ ValidData d ⌝ }
-    requires { ⌜ Between 0 arriving 40 (run (work-of w (now st)) (now draws) (now out)) ⌝ }
-    ensures { λ r. ⌜ Does (work-of r (now (st .exit))) (now (draws .entry)) (now (out .exit)) (on-neighbor p (data-in d) high (run (work-of w (now (st .entry))) (now (draws .entry)) (now (out .entry)))) ⌝ }
+    requires { ⌜ Meets (Between 0 arriving 40) w st draws out ⌝ }
+    ensures { λ r. ⌜ Makes (on-neighbor p (data-in d) high) w r st draws out ⌝ }
 {
     let requested = hyparview_state::is_requested(st, p);
     let a = hyparview_state::drop_pending(w, st, p);

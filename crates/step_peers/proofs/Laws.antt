@@ -23,9 +23,8 @@ use Rattle.base_util.proofs.Chances.{pick-below}
 use Rattle.base_peer.specs.declared.PeerData.{PeerData}
 use Rattle.base_peer.specs.Held.{data-in, node-in, ValidData}
 use Rattle.base_peer.proofs.Data.{bytes-in, length-bytes}
-use Rattle.record_writer.specs.Write.{rec-in}
 use Rattle.work.specs.declared.Work.{Work}
-use Rattle.spec_hyparview.specs.Run.{Run, guard, on, emit, to-draw, one-of, draw-one-of, require, picked, notice, node}
+use Rattle.spec_hyparview.specs.Run.{Run, guard, on, emit, to-draw, one-of, draw-one-of, require, picked, notice, node, node-notice}
 use Rattle.hyparview_state.specs.Work.{Held, work-of, ChangesAny, DrawsAny, TellsAny, run, run-of, Changes, Room, Tells, Fine}
 use Rattle.hyparview_state.proofs.Any.{one-of-at, required-at, told-at}
 use Rattle.hyparview_state.proofs.Bridge.{on-passed, on-twice, unchanged, change-then, change-yes, change-no, telling, tell-by, tell-then, tell-yes, tell-no, still, by, then, then-draw, then-tell, seq, taken, left, require-said}
@@ -88,9 +87,9 @@ module _ (w : Held) (out : List ℕ) (p : ℕ) (d : PeerData) where
   not-announced t v e h = tell-by _ (λ ds. choose-yes _ _ _ (sym e ∙ h)) (telling v (unchanged (λ g. g) (v .packed) (λ ds o. refl)))
 
 pub announced : (w r : Work) (xs out o : List ℕ) (p : ℕ) (d : PeerData) (t : Bool) → Room (work-of w xs) out → d .present ≡ true → t ≡ null (bytes-of (data-in d)) → t ≡ false
-    → TellsAny (emit (rec-in (record { kind = 11; message = 0; flags = 0; peer = p; second = 0; ttl = 0; number = 0 }) (node-in (record { id = 0; «data» = d }) ∷ []))) w r out o
+    → TellsAny (emit (node-notice 11 p (node-in (record { id = 0; «data» = d })))) w r out o
     → Tells (announce-data p (bytes-of (data-in d))) (work-of w xs) (work-of r xs) out o
-unfolding announce-data rec-in node-in
+unfolding announce-data node-in
 announced w r xs out o p d t v y e h k =
     tell-by _ (λ ds. choose-no _ _ _ (sym e ∙ h) ∙ ap (λ (x : Data). emit (record { kind = 11; message = 0; flags = 0; peer = p; second = 0; ttl = 0; number = 0; nodes = node 0 x ∷ [] }) (run (work-of w xs) ds out)) (sym (present-data d y))) (told-at xs (v .packed) _ k)
 

@@ -5,7 +5,6 @@ use base_peer::PeerInfo;
 use hyparview_state::Layout;
 use record::Kind;
 use record::Refusal;
-use record_writer::Fields;
 use work::Work;
 ghost use mathlib.Core.Path.{_≡_};
 ghost use lib.ListN.{length};
@@ -17,8 +16,8 @@ ghost use Rattle.spec_hyparview.specs.Peers.{drop-data, drop-mark, remove-passi
 ghost use Rattle.spec_hyparview.specs.Handle.{forget-declined};
 ghost use Rattle.hyparview_state.specs.Layout.{words};
 ghost use Rattle.hyparview_state.specs.Unpack.{unpack, PackedState};
-ghost use Rattle.hyparview_state.specs.Work.{work-of, Changes, Room, Tells, Fine, run};
-ghost use Rattle.step_peers.specs.Answer.{Adds};
+ghost use Rattle.hyparview_state.specs.Work.{GivenRoom, Given, Alters, Says};
+ghost use Rattle.step_peers.specs.Answer.{Evicts};
 
 // Who left the passive view before another entered it, if anyone (document 02, S-2).
 pub enum Evicted {
@@ -53,7 +52,7 @@ pub fn is_marked(st: &[u64], p: PeerId) -> bool
 pub fn remove_passive(w: Work, st: &mut [u64], p: PeerId) -> Work
     requires { ⌜ length (now st) ≡ words ⌝ }
     requires { ⌜ PackedState (now st) ⌝ }
-    ensures { λ r. ⌜ Changes (on (remove-passive p)) (work-of w (now (st .entry))) (work-of r (now (st .exit))) ⌝ }
+    ensures { λ r. ⌜ Alters (on (remove-passive p)) w r st ⌝ }
 {
     if w.code != 0 {
         return w;
@@ -69,7 +68,7 @@ pub fn remove_passive(w: Work, st: &mut [u64], p: PeerId) -> Work
 pub fn drop_data(w: Work, st: &mut [u64], p: PeerId) -> Work
     requires { ⌜ length (now st) ≡ words ⌝ }
     requires { ⌜ PackedState (now st) ⌝ }
-    ensures { λ r. ⌜ Changes (on (drop-data p)) (work-of w (now (st .entry))) (work-of r (now (st .exit))) ⌝ }
+    ensures { λ r. ⌜ Alters (on (drop-data p)) w r st ⌝ }
 {
     if w.code != 0 {
         return w;
@@ -81,7 +80,7 @@ pub fn drop_data(w: Work, st: &mut [u64], p: PeerId) -> Work
 pub fn drop_mark(w: Work, st: &mut [u64], p: PeerId) -> Work
     requires { ⌜ length (now st) ≡ words ⌝ }
     requires { ⌜ PackedState (now st) ⌝ }
-    ensures { λ r. ⌜ Changes (on (drop-mark p)) (work-of w (now (st .entry))) (work-of r (now (st .exit))) ⌝ }
+    ensures { λ r. ⌜ Alters (on (drop-mark p)) w r st ⌝ }
 {
     if w.code != 0 {
         return w;
@@ -94,7 +93,7 @@ pub fn drop_mark(w: Work, st: &mut [u64], p: PeerId) -> Work
 pub fn forget_peer(w: Work, st: &mut [u64], p: PeerId) -> Work
     requires { ⌜ length (now st) ≡ words ⌝ }
     requires { ⌜ PackedState (now st) ⌝ }
-    ensures { λ r. ⌜ Changes (forget-peer p) (work-of w (now (st .entry))) (work-of r (now (st .exit))) ⌝ }
+    ensures { λ r. ⌜ Alters (forget-peer p) w r st ⌝ }
 {
     if hyparview_state::in_active(st, p) | hyparview_state::in_passive(st, p) {
         return w;
@@ -107,7 +106,7 @@ pub fn forget_peer(w: Work, st: &mut [u64], p: PeerId) -> Work
 pub fn drop_passive(w: Work, st: &mut [u64], p: PeerId) -> Work
     requires { ⌜ length (now st) ≡ words ⌝ }
     requires { ⌜ PackedState (now st) ⌝ }
-    ensures { λ r. ⌜ Changes (drop-passive p) (work-of w (now (st .entry))) (work-of r (now (st .exit))) ⌝ }
+    ensures { λ r. ⌜ Alters (drop-passive p) w r st ⌝ }
 {
     let a = remove_passive(w, st, p);
     forget_peer(a, st, p)
@@ -115,9 +114,9 @@ pub fn drop_passive(w: Work, st: &mut [u64], p: PeerId) -> Work
 
 pub fn insert_peer_info(w: Work, st: &mut [u64], out: &mut [u8], p: PeerId, d: PeerData) -> Work
     requires { ⌜ length (now st) ≡ words ⌝ }
-    requires { ⌜ Room (work-of w (now st)) (now out) ⌝ }
+    requires { ⌜ GivenRoom w st out ⌝ }
     requires { ⌜ ValidData d ⌝ }
-    ensures { λ r. ⌜ Tells (insert-peer-info p (data-in d)) (work-of w (now (st .entry))) (work-of r (now (st .exit))) (now (out .entry)) (now (out .exit)) ⌝ }
+    ensures { λ r. ⌜ Says (insert-peer-info p (data-in d)) w r st out ⌝ }
 {
     // Absent data, the station's own, and data that is held already, are not stored.
     if !d.present
@@ -129,17 +128,7 @@ pub fn insert_peer_info(w: Work, st: &mut [u64], out: &mut [u8], p: PeerId, d: P
     let mut a = w;
     // Data that is not empty is announced.
     if d.len != 0 {
-        let f = Fields {
-            kind: Kind::PEER_DATA,
-            message: 0,
-            flags: 0,
-            peer: p,
-            second: 0,
-            ttl: 0,
-            number: 0,
-        };
-        let n = PeerInfo { id: 0, data: d };
-        a = work::emit_one(w, out, f, n);
+        a = work::notify_node(w, out, Kind::PEER_DATA, p, PeerInfo { id: 0, data: d });
     }
     // Code 8 where an 81st entry would be needed.
     let fits = base_columns::contains_data(&st[Layout::HELD..Layout::HELD_END], Layout::DATA_CAP, p)
@@ -155,8 +144,8 @@ pub fn insert_peer_info(w: Work, st: &mut [u64], out: &mut [u8], p: PeerId, d: P
 // One peer leaves a full passive view, as the next draw kept decides, and its record follows.
 fn make_room(w: Work, st: &mut [u64], draws: &[u32], out: &mut [u8]) -> Added
     requires { ⌜ length (now st) ≡ words ⌝ }
-    requires { ⌜ Fine (work-of w (now st)) (now draws) (now out) ⌝ }
-    ensures { λ r. ⌜ Adds r (now (st .exit)) (now (draws .entry)) (now (out .exit)) (make-room (run (work-of w (now (st .entry))) (now (draws .entry)) (now (out .entry)))) (evicted (run (work-of w (now (st .entry))) (now (draws .entry)) (now (out .entry)))) ⌝ }
+    requires { ⌜ Given w st draws out ⌝ }
+    ensures { λ r. ⌜ Evicts make-room evicted w r st draws out ⌝ }
 {
     let n = st[Layout::PASSIVE_COUNT];
     if (st[Layout::PASSIVE_VIEW_CAPACITY] <= n) & (n != 0) {
@@ -170,17 +159,8 @@ fn make_room(w: Work, st: &mut [u64], draws: &[u32], out: &mut [u8]) -> Added
         }
         let b = forget_peer(a, st, p);
         // Document 02, S-2: the record of p, which the passive view evicted.
-        let f = Fields {
-            kind: Kind::EVICTED,
-            message: 0,
-            flags: 0,
-            peer: p,
-            second: 0,
-            ttl: 0,
-            number: 0,
-        };
         return Added {
-            work: work::emit_bare(b, out, f),
+            work: work::notify(b, out, Kind::EVICTED, p),
             evicted: Evicted::Peer(p),
         };
     }
@@ -199,9 +179,9 @@ pub fn add_passive(
     d: PeerData,
 ) -> Added
     requires { ⌜ length (now st) ≡ words ⌝ }
-    requires { ⌜ Fine (work-of w (now st)) (now draws) (now out) ⌝ }
+    requires { ⌜ Given w st draws out ⌝ }
     requires { ⌜ ValidData d ⌝ }
-    ensures { λ r. ⌜ Adds r (now (st .exit)) (now (draws .entry)) (now (out .exit)) (add-passive p (data-in d) (run (work-of w (now (st .entry))) (now (draws .entry)) (now (out .entry)))) (evicted-by p (data-in d) (run (work-of w (now (st .entry))) (now (draws .entry)) (now (out .entry)))) ⌝ }
+    ensures { λ r. ⌜ Evicts (add-passive p (data-in d)) (evicted-by p (data-in d)) w r st draws out ⌝ }
 {
     let a = insert_peer_info(w, st, out, p, d);
     // p enters the passive view, unless it is in a view or the station itself.
@@ -227,7 +207,7 @@ pub fn add_passive(
 pub fn forget_declined(w: Work, st: &mut [u64]) -> Work
     requires { ⌜ length (now st) ≡ words ⌝ }
     requires { ⌜ PackedState (now st) ⌝ }
-    ensures { λ r. ⌜ Changes (on forget-declined) (work-of w (now (st .entry))) (work-of r (now (st .exit))) ⌝ }
+    ensures { λ r. ⌜ Alters (on forget-declined) w r st ⌝ }
 {
     if w.code != 0 {
         return w;

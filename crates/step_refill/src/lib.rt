@@ -13,7 +13,7 @@ ghost use Rattle.spec_hyparview.specs.Refill.{end-recovery, candidates, refill-
 ghost use Rattle.spec_hyparview.specs.Active.{clear-refused};
 ghost use Rattle.hyparview_state.specs.Layout.{words, all-places, set-words};
 ghost use Rattle.hyparview_state.specs.Unpack.{unpack, refill-in, PackedState};
-ghost use Rattle.hyparview_state.specs.Work.{work-of, run, Changes, Fine, Does};
+ghost use Rattle.hyparview_state.specs.Work.{Given, Alters, Makes};
 
 // The peers asked that are not neighbors, as a working set.
 fn asked_outside(st: &[u64], t: &mut [u64])
@@ -35,7 +35,7 @@ fn asked_outside(st: &[u64], t: &mut [u64])
 pub fn end_recovery(w: Work, st: &mut [u64]) -> Work
     requires { ⌜ length (now st) ≡ words ⌝ }
     requires { ⌜ PackedState (now st) ⌝ }
-    ensures { λ r. ⌜ Changes (on end-recovery) (work-of w (now (st .entry))) (work-of r (now (st .exit))) ⌝ }
+    ensures { λ r. ⌜ Alters (on end-recovery) w r st ⌝ }
 {
     let mut t = [0u64; Layout::SET];
     asked_outside(st, &mut t);
@@ -82,8 +82,8 @@ fn candidates(st: &[u64], skip: &[PeerId], t: &mut [u64])
 // Neighbor to one of the candidates, with high priority exactly where the active view is empty, or the end of a recovery where there is none.
 fn refill_limited(w: Work, st: &mut [u64], draws: &[u32], out: &mut [u8], skip: &[PeerId]) -> Work
     requires { ⌜ length (now st) ≡ words ⌝ }
-    requires { ⌜ Fine (work-of w (now st)) (now draws) (now out) ⌝ }
-    ensures { λ r. ⌜ Does (work-of r (now (st .exit))) (now (draws .entry)) (now (out .exit)) (refill-limited (now (skip .entry)) (run (work-of w (now (st .entry))) (now (draws .entry)) (now (out .entry)))) ⌝ }
+    requires { ⌜ Given w st draws out ⌝ }
+    ensures { λ r. ⌜ Makes (refill-limited (now (skip .entry))) w r st draws out ⌝ }
 {
     let mut from = [0u64; Layout::SET];
     candidates(st, skip, &mut from);
@@ -113,8 +113,8 @@ pub fn refill_active_from_passive(
     skip: &[PeerId],
 ) -> Work
     requires { ⌜ length (now st) ≡ words ⌝ }
-    requires { ⌜ Fine (work-of w (now st)) (now draws) (now out) ⌝ }
-    ensures { λ r. ⌜ Does (work-of r (now (st .exit))) (now (draws .entry)) (now (out .exit)) (refill-active-from-passive (now (skip .entry)) (run (work-of w (now (st .entry))) (now (draws .entry)) (now (out .entry)))) ⌝ }
+    requires { ⌜ Given w st draws out ⌝ }
+    ensures { λ r. ⌜ Makes (refill-active-from-passive (now (skip .entry))) w r st draws out ⌝ }
 {
     // None where neighbors and requests fill the active view, or the limit is spent.
     let mut t = [0u64; Layout::SET];
@@ -146,8 +146,8 @@ pub fn start_refill(
     skip: &[PeerId],
 ) -> Work
     requires { ⌜ length (now st) ≡ words ⌝ }
-    requires { ⌜ Fine (work-of w (now st)) (now draws) (now out) ⌝ }
-    ensures { λ r. ⌜ Does (work-of r (now (st .exit))) (now (draws .entry)) (now (out .exit)) (start-refill (refill-in limit) (now (skip .entry)) (run (work-of w (now (st .entry))) (now (draws .entry)) (now (out .entry)))) ⌝ }
+    requires { ⌜ Given w st draws out ⌝ }
+    ensures { λ r. ⌜ Makes (start-refill (refill-in limit) (now (skip .entry))) w r st draws out ⌝ }
 {
     if (w.code == 0) & (st[Layout::REFILL_KIND] != RefillLimit::RECOVERY) {
         hyparview_state::keep_limit(st, limit);
@@ -159,7 +159,7 @@ pub fn start_refill(
 pub fn clear_refused(w: Work, st: &mut [u64]) -> Work
     requires { ⌜ length (now st) ≡ words ⌝ }
     requires { ⌜ PackedState (now st) ⌝ }
-    ensures { λ r. ⌜ Changes (on clear-refused) (work-of w (now (st .entry))) (work-of r (now (st .exit))) ⌝ }
+    ensures { λ r. ⌜ Alters (on clear-refused) w r st ⌝ }
 {
     if w.code != 0 {
         return w;

@@ -20,9 +20,8 @@ use Rattle.base_peer.specs.Data.{Node}
 use Rattle.record_writer.specs.declared.Fields.{Fields}
 use Rattle.record_writer.specs.declared.Nodes.{Nodes}
 use Rattle.record_writer.specs.Nodes.{nodes-in, HoldsNodes}
-use Rattle.record_writer.specs.Write.{rec-in}
 use Rattle.spec_hyparview.specs.Station.{is-requested, top-counter}
-use Rattle.spec_hyparview.specs.Run.{Run, on, emit, require, node, message, flag, peer-infos}
+use Rattle.spec_hyparview.specs.Run.{Run, on, emit, require, node, message, flag, peer-infos, timer}
 use Rattle.spec_hyparview.specs.Sending.{join-to, join, send-nodes, send-shuffle-reply, reply-length, send-disconnect, request-counts, request-fits, note-request, count-request, open-request, neighbor-to, tell-request, send-neighbor, reply-neighbor}
 use Rattle.work.specs.declared.Work.{Work}
 use Rattle.hyparview_state.specs.Layout.{requests-part, shuffle-active-view-count, shuffle-passive-view-count, neighbor-request-timeout, next-neighbor-request}
@@ -48,43 +47,39 @@ room-drawn w a xs ds out v k = room-of (work-of a xs) ds out (fine-drawn w a xs 
 
 -- ---- records
 
--- message m with this flag, to p
-abbrev sent : ℕ → ℕ → ℕ → Fields
-sent m f p = record { kind = 0; message = m; flags = f; peer = p; second = 0; ttl = 0; number = 0 }
-
 module _ (w r : Work) (xs out o : List ℕ) where
-  pub join-told : (p : ℕ) (d : PeerData) → Room (work-of w xs) out → d ≡ own-at xs → TellsAny (emit (rec-in (sent 0 0 p) (node-in (record { id = 0; «data» = d }) ∷ []))) w r out o
+  pub join-told : (p : ℕ) (d : PeerData) → Room (work-of w xs) out → d ≡ own-at xs → TellsAny (emit (message 0 p 0 0 0 (node-in (record { id = 0; «data» = d }) ∷ []))) w r out o
       → Tells (join p) (work-of w xs) (work-of r xs) out o
-  unfolding join join-to rec-in node-in run-of unpack station-of
+  unfolding join join-to node-in run-of unpack station-of
   join-told p d v e k = tell-by _ (λ ds. ap (λ (x : PeerData). emit (message 0 p 0 0 0 (node 0 (data-in x) ∷ [])) (run (work-of w xs) ds out)) (sym e)) (told-at xs (v .packed) _ k)
 
-  nodes-told : (to : ℕ) (ps : List ℕ) (ns : Nodes) → Room (work-of w xs) out → HoldsNodes ns (peer-infos (unpack xs) ps) → TellsAny (emit (rec-in (sent 3 0 to) (nodes-in ns))) w r out o
+  nodes-told : (to : ℕ) (ps : List ℕ) (ns : Nodes) → Room (work-of w xs) out → HoldsNodes ns (peer-infos (unpack xs) ps) → TellsAny (emit (message 3 to 0 0 0 (nodes-in ns))) w r out o
       → Tells (send-nodes to ps) (work-of w xs) (work-of r xs) out o
-  unfolding send-nodes rec-in run-of
+  unfolding send-nodes run-of
   nodes-told to ps ns v h k = tell-by _ (λ ds. ap (λ (x : List Node). emit (message 3 to 0 0 0 x) (run (work-of w xs) ds out)) (sym (h .holds))) (told-at xs (v .packed) _ k)
 
-  pub set-told : (v : List ℕ) (n to : ℕ) (ns : Nodes) → Room (work-of w xs) out → ValidSet 32 v → n ≡ length (items-at 32 v) → HoldsNodes ns (peer-infos (unpack xs) (take n v)) → TellsAny (emit (rec-in (sent 3 0 to) (nodes-in ns))) w r out o
+  pub set-told : (v : List ℕ) (n to : ℕ) (ns : Nodes) → Room (work-of w xs) out → ValidSet 32 v → n ≡ length (items-at 32 v) → HoldsNodes ns (peer-infos (unpack xs) (take n v)) → TellsAny (emit (message 3 to 0 0 0 (nodes-in ns))) w r out o
       → Tells (send-nodes to (items-at 32 v)) (work-of w xs) (work-of r xs) out o
   set-told v n to ns q s e h k = subst (λ (l : List ℕ). Tells (send-nodes to l) (work-of w xs) (work-of r xs) out o) (lent-items v n s e) (nodes-told to (take n v) ns q h k)
 
   neighbor-told : (p : ℕ) (high : Bool) (f : ℕ) (d : PeerData) → Room (work-of w xs) out → f ≡ choose high 1 0 → d ≡ own-at xs
-      → TellsAny (emit (rec-in (sent 4 f p) (node-in (record { id = 0; «data» = d }) ∷ []))) w r out o
+      → TellsAny (emit (message 4 p f 0 0 (node-in (record { id = 0; «data» = d }) ∷ []))) w r out o
       → Tells (emit (neighbor-to (unpack xs .own-data) high p)) (work-of w xs) (work-of r xs) out o
-  unfolding neighbor-to flag rec-in node-in unpack station-of
+  unfolding neighbor-to flag node-in unpack station-of
   neighbor-told p high f d v e q k = tell-by _ (λ ds i. emit (message 4 p (sym e i) 0 0 (node 0 (data-in (sym q i)) ∷ [])) (run (work-of w xs) ds out)) (told-at xs (v .packed) _ k)
 
   pub disconnected : (a : Work) (o₁ ds : List ℕ) (p : ℕ) (alive : Bool) (f : ℕ) → f ≡ choose alive 1 0
-      → TellsAny (emit (rec-in (sent 5 f p) [])) a r o₁ o → Does (work-of a xs) ds o₁ (send-shuffle-reply p (shuffle-active-view-count xs + shuffle-passive-view-count xs) (run (work-of w xs) ds out))
+      → TellsAny (emit (message 5 p f 0 0 [])) a r o₁ o → Does (work-of a xs) ds o₁ (send-shuffle-reply p (shuffle-active-view-count xs + shuffle-passive-view-count xs) (run (work-of w xs) ds out))
       → Does (work-of r xs) ds o (send-disconnect p alive (run (work-of w xs) ds out))
-  unfolding send-disconnect reply-length flag rec-in run-of unpack station-of settings-at
+  unfolding send-disconnect reply-length flag run-of unpack station-of settings-at
   disconnected a o₁ ds p alive f q k d =
       by _ (λ i. emit (message 5 p (sym q i) 0 0 []) (send-shuffle-reply p (shuffle-active-view-count xs + shuffle-passive-view-count xs) (run (work-of w xs) ds out))) (then-tell-any _ k d)
 
 pub request-told : (w a r : Work) (xs out o₁ o : List ℕ) (p : ℕ) (high : Bool) (id f : ℕ) (d : PeerData) → Room (work-of w xs) out → f ≡ choose high 1 0 → d ≡ own-at xs
-    → TellsAny (emit (rec-in (sent 4 f p) (node-in (record { id = 0; «data» = d }) ∷ []))) w a out o₁
-    → TellsAny (emit (rec-in (record { kind = 3; message = 0; flags = 0; peer = p; second = neighbor-request-timeout xs; ttl = 0; number = id }) [])) a r o₁ o
+    → TellsAny (emit (message 4 p f 0 0 (node-in (record { id = 0; «data» = d }) ∷ []))) w a out o₁
+    → TellsAny (emit (timer 3 p (neighbor-request-timeout xs) id)) a r o₁ o
     → Tells (tell-request p high id) (work-of w xs) (work-of r xs) out o
-unfolding tell-request rec-in run-of unpack station-of settings-at
+unfolding tell-request run-of unpack station-of settings-at
 request-told w a r xs out o₁ o p high id f d v e q k₁ k₂ =
     let k = neighbor-told w a xs out o₁ p high f d v e q k₁ in
     tell-then _ (λ ds. refl) (told-at xs (k .room .packed) _ k₂) k

@@ -6,7 +6,6 @@ use record::Flags;
 use record::Kind;
 use record::Message;
 use record::Refusal;
-use record_writer::Fields;
 use record_writer::Nodes;
 use work::Work;
 ghost use mathlib.Core.Path.{_≡_};
@@ -21,7 +20,7 @@ ghost use Rattle.spec_hyparview.specs.Sending.{join, send-shuffle-reply, send-d
 ghost use Rattle.record.specs.Format.{most-nodes};
 ghost use Rattle.hyparview_state.specs.Layout.{words, all-places};
 ghost use Rattle.hyparview_state.specs.Unpack.{unpack, PackedState};
-ghost use Rattle.hyparview_state.specs.Work.{work-of, DrawsAny, Room, Tells, Given, Makes};
+ghost use Rattle.hyparview_state.specs.Work.{GivenRoom, Given, Says, Makes, DrawsAny};
 
 // The most requests that are open at once.
 const MOST_ASKED: u64 = Layout::ALL as u64;
@@ -54,20 +53,11 @@ pub fn peer_infos(st: &[u64], ids: &[PeerId]) -> Nodes
 // Join, with the station's own data.
 pub fn join(w: Work, st: &[u64], out: &mut [u8], p: PeerId) -> Work
     requires { ⌜ length (now st) ≡ words ⌝ }
-    requires { ⌜ Room (work-of w (now st)) (now out) ⌝ }
-    ensures { λ r. ⌜ Tells (join p) (work-of w (now (st .entry))) (work-of r (now (st .entry))) (now (out .entry)) (now (out .exit)) ⌝ }
+    requires { ⌜ GivenRoom w st out ⌝ }
+    ensures { λ r. ⌜ Says (join p) w r st out ⌝ }
 {
     let d = hyparview_state::own_data(st);
-    let f = Fields {
-        kind: Kind::MESSAGE,
-        message: Message::JOIN,
-        flags: 0,
-        peer: p,
-        second: 0,
-        ttl: 0,
-        number: 0,
-    };
-    work::emit_one(w, out, f, PeerInfo { id: 0, data: d })
+    work::send_node(w, out, Message::JOIN, p, 0, 0, PeerInfo { id: 0, data: d })
 }
 
 // Shuffles a working set and cuts it to at most `most` peers.
@@ -116,16 +106,15 @@ pub fn send_shuffle_reply(
         base_util::append(&mut v, Layout::ALL, &more, Layout::ALL);
     }
     let named = base_util::count(&v, Layout::ALL);
-    let f = Fields {
-        kind: Kind::MESSAGE,
-        message: Message::SHUFFLE_REPLY,
-        flags: 0,
-        peer: to,
-        second: 0,
-        ttl: 0,
-        number: 0,
-    };
-    work::emit_nodes(a, out, f, peer_infos(st, &v[..named]))
+    work::send_nodes(
+        a,
+        out,
+        Message::SHUFFLE_REPLY,
+        to,
+        0,
+        0,
+        peer_infos(st, &v[..named]),
+    )
 }
 
 // Disconnect, and before it a ShuffleReply.
@@ -146,24 +135,15 @@ pub fn send_disconnect(
     let len = n + st[Layout::SHUFFLE_PASSIVE_VIEW_COUNT] as usize;
     let a = send_shuffle_reply(w, st, draws, out, p, len);
     let flags = flag_if(alive, Flags::ALIVE);
-    let f = Fields {
-        kind: Kind::MESSAGE,
-        message: Message::DISCONNECT,
-        flags: flags,
-        peer: p,
-        second: 0,
-        ttl: 0,
-        number: 0,
-    };
-    work::emit_bare(a, out, f)
+    work::send(a, out, Message::DISCONNECT, p, flags)
 }
 
 // Neighbor to p with the station's own data, unless a request to it is open. Code 10 where no number is left for a request, code 6 where a 33rd open request is needed;
 // else the request is open under that number, and a timer ends the wait for its answer.
 pub fn send_neighbor(w: Work, st: &mut [u64], out: &mut [u8], p: PeerId, high: bool) -> Work
     requires { ⌜ length (now st) ≡ words ⌝ }
-    requires { ⌜ Room (work-of w (now st)) (now out) ⌝ }
-    ensures { λ r. ⌜ Tells (send-neighbor p high) (work-of w (now (st .entry))) (work-of r (now (st .exit))) (now (out .entry)) (now (out .exit)) ⌝ }
+    requires { ⌜ GivenRoom w st out ⌝ }
+    ensures { λ r. ⌜ Says (send-neighbor p high) w r st out ⌝ }
 {
     if hyparview_state::is_requested(st, p) {
         return w;
@@ -177,27 +157,19 @@ pub fn send_neighbor(w: Work, st: &mut [u64], out: &mut [u8], p: PeerId, high: b
     let asked = &mut st[Layout::ASKED..Layout::ASKED_END];
     base_columns::insert_number(asked, Layout::ALL, p, id);
     st[Layout::NEXT_NEIGHBOR_REQUEST] = id + 1;
-    let f = Fields {
-        kind: Kind::MESSAGE,
-        message: Message::NEIGHBOR,
-        flags: flag_if(high, Flags::HIGH),
-        peer: p,
-        second: 0,
-        ttl: 0,
-        number: 0,
-    };
+    let flags = flag_if(high, Flags::HIGH);
     let d = hyparview_state::own_data(st);
-    let c = work::emit_one(b, out, f, PeerInfo { id: 0, data: d });
-    let t = Fields {
-        kind: Kind::PENDING_NEIGHBOR_REQUEST,
-        message: 0,
-        flags: 0,
-        peer: p,
-        second: st[Layout::NEIGHBOR_REQUEST_TIMEOUT],
-        ttl: 0,
-        number: id,
-    };
-    work::emit_bare(c, out, t)
+    let c = work::send_node(
+        b,
+        out,
+        Message::NEIGHBOR,
+        p,
+        flags,
+        0,
+        PeerInfo { id: 0, data: d },
+    );
+    let timeout = st[Layout::NEIGHBOR_REQUEST_TIMEOUT];
+    work::schedule(c, out, Kind::PENDING_NEIGHBOR_REQUEST, p, timeout, id)
 }
 
 // Neighbor to p, where an answer is wanted.
@@ -210,8 +182,8 @@ pub fn reply_neighbor(
     high: bool,
 ) -> Work
     requires { ⌜ length (now st) ≡ words ⌝ }
-    requires { ⌜ Room (work-of w (now st)) (now out) ⌝ }
-    ensures { λ r. ⌜ Tells (reply-neighbor reply p high) (work-of w (now (st .entry))) (work-of r (now (st .exit))) (now (out .entry)) (now (out .exit)) ⌝ }
+    requires { ⌜ GivenRoom w st out ⌝ }
+    ensures { λ r. ⌜ Says (reply-neighbor reply p high) w r st out ⌝ }
 {
     if reply {
         return send_neighbor(w, st, out, p, high);

@@ -18,7 +18,6 @@ use Rattle.record.proofs.Nodes.{length-nodes-of}
 use Rattle.base_timing.specs.Timing.{next, expired}
 use Rattle.record_writer.specs.declared.Nodes.{Nodes}
 use Rattle.record_writer.specs.Nodes.{nodes-in, HoldsNodes}
-use Rattle.record_writer.specs.Write.{rec-in}
 use Rattle.spec_hyparview.specs.Station.{Station, Refill, is-requested, is-short, is-last-hop}
 use Rattle.spec_hyparview.specs.Run.{emit, to-draw, one-of, draw-one-of, picked, message}
 use Rattle.spec_hyparview.specs.Peers.{add-nodes, any-new}
@@ -60,12 +59,11 @@ module _ (w : Work) (xs ds out others : List ℕ) (ns : List Node) (origin ttl :
     picked-is = p ∙ ap (λ (k : ℕ). getD others k 0) (j ∙ ap (λ (k : ℕ). pick k (drop (w .drawn) ds)) c)
 
     shuffle-is : emit (message 2 (picked others (run (work-of w xs) ds out)) 0 origin (next ttl) ns) (draw-one-of (length others) (run (work-of w xs) ds out))
-        ≡ emit (rec-in (record { kind = 0; message = 2; flags = 0; peer = q; second = origin; ttl = u; number = 0 }) (nodes-in x)) (draw-one-of n (run (work-of w xs) ds out))
-    unfolding rec-in
+        ≡ emit (message 2 q 0 origin u (nodes-in x)) (draw-one-of n (run (work-of w xs) ds out))
     shuffle-is = λ k. emit (message 2 (sym picked-is k) 0 origin (sym y k) (sym (z .holds) k)) (draw-one-of (sym c k) (run (work-of w xs) ds out))
 
     pub shuffle-on : (a r : Work) (o : List ℕ) → t ≡ false
-        → TellsAny (emit (rec-in (record { kind = 0; message = 2; flags = 0; peer = q; second = origin; ttl = u; number = 0 }) (nodes-in x))) a r out o
+        → TellsAny (emit (message 2 q 0 origin u (nodes-in x))) a r out o
         → DrawsAny (draw-one-of n) w a ds
         → Does (work-of r xs) ds o (forward-shuffle others origin ns ttl (run (work-of w xs) ds out))
     unfolding forward-shuffle

@@ -3,9 +3,7 @@ use base_peer::PeerId;
 use base_timing::Ttl;
 use hyparview_state::Layout;
 use hyparview_state::RefillLimit;
-use record::Kind;
 use record::Message;
-use record_writer::Fields;
 use record_writer::Nodes;
 use work::Work;
 ghost use mathlib.Core.Path.{_≡_};
@@ -20,7 +18,7 @@ ghost use Rattle.spec_hyparview.specs.Messages.{forward-shuffle, on-shuffle};
 ghost use Rattle.spec_hyparview.specs.Messages.{on-shuffle-reply};
 ghost use Rattle.hyparview_state.specs.Layout.{words};
 ghost use Rattle.hyparview_state.specs.Unpack.{unpack};
-ghost use Rattle.hyparview_state.specs.Work.{work-of, run, Fine, Does};
+ghost use Rattle.hyparview_state.specs.Work.{Given, run-met, Makes};
 
 // The work after an event's nodes were learned, and whether one of them was new.
 struct Learned {
@@ -31,11 +29,11 @@ struct Learned {
 // The n nodes of the event b go to the passive view.
 fn add_nodes(w: Work, st: &mut [u64], draws: &[u32], out: &mut [u8], b: &[u8], n: usize) -> Learned
     requires { ⌜ length (now st) ≡ words ⌝ }
-    requires { ⌜ Fine (work-of w (now st)) (now draws) (now out) ⌝ }
+    requires { ⌜ Given w st draws out ⌝ }
     requires { ⌜ well-formed (now b) ≡ true ⌝ }
     requires { ⌜ n ≡ header-of (now b) .nodes ⌝ }
-    ensures { λ r. ⌜ Does (work-of (r .work) (now (st .exit))) (now (draws .entry)) (now (out .exit)) (add-nodes (nodes-of (now (b .entry)) 0 n) (run (work-of w (now (st .entry))) (now (draws .entry)) (now (out .entry)))) ⌝ }
-    ensures { λ r. ⌜ r .fresh ≡ any-new (nodes-of (now (b .entry)) 0 n) (run (work-of w (now (st .entry))) (now (draws .entry)) (now (out .entry))) ⌝ }
+    ensures { λ r. ⌜ Makes (add-nodes (nodes-of (now (b .entry)) 0 n)) w (r .work) st draws out ⌝ }
+    ensures { λ r. ⌜ r .fresh ≡ any-new (nodes-of (now (b .entry)) 0 n) (run-met w st draws out) ⌝ }
 {
     let mut a = w;
     let mut fresh = false;
@@ -81,10 +79,10 @@ fn pass_shuffle(
     ttl: u16,
 ) -> Work
     requires { ⌜ length (now st) ≡ words ⌝ }
-    requires { ⌜ Fine (work-of w (now st)) (now draws) (now out) ⌝ }
+    requires { ⌜ Given w st draws out ⌝ }
     requires { ⌜ well-formed (now b) ≡ true ⌝ }
     requires { ⌜ n ≡ header-of (now b) .nodes ⌝ }
-    ensures { λ r. ⌜ Does (work-of r (now (st .entry))) (now (draws .entry)) (now (out .exit)) (forward-shuffle (without-all (origin ∷ from ∷ []) (unpack (now (st .entry)) .active)) origin (nodes-of (now (b .entry)) 0 n) ttl (run (work-of w (now (st .entry))) (now (draws .entry)) (now (out .entry)))) ⌝ }
+    ensures { λ r. ⌜ Makes (forward-shuffle (without-all (origin ∷ from ∷ []) (unpack (now (st .entry)) .active)) origin (nodes-of (now (b .entry)) 0 n) ttl) w r st draws out ⌝ }
 {
     let mut v = [0u64; Layout::SET];
     base_util::copy_into(&st[Layout::ACTIVE..Layout::ACTIVE_END], Layout::FEW, &mut v);
@@ -97,16 +95,15 @@ fn pass_shuffle(
     let q = base_util::get_index(&v, Layout::ALL, t.index);
     let hops = Ttl(ttl);
     let left = hops.next();
-    let f = Fields {
-        kind: Kind::MESSAGE,
-        message: Message::SHUFFLE,
-        flags: 0,
-        peer: q,
-        second: origin,
-        ttl: left.0,
-        number: 0,
-    };
-    work::emit_nodes(t.work, out, f, event_nodes(b, n))
+    work::send_nodes(
+        t.work,
+        out,
+        Message::SHUFFLE,
+        q,
+        origin,
+        left.0,
+        event_nodes(b, n),
+    )
 }
 
 // Shuffle ends here and is answered, or goes on.
@@ -122,10 +119,10 @@ pub fn on_shuffle(
     ttl: u16,
 ) -> Work
     requires { ⌜ length (now st) ≡ words ⌝ }
-    requires { ⌜ Fine (work-of w (now st)) (now draws) (now out) ⌝ }
+    requires { ⌜ Given w st draws out ⌝ }
     requires { ⌜ well-formed (now b) ≡ true ⌝ }
     requires { ⌜ n ≡ header-of (now b) .nodes ⌝ }
-    ensures { λ r. ⌜ Does (work-of r (now (st .exit))) (now (draws .entry)) (now (out .exit)) (on-shuffle from origin (nodes-of (now (b .entry)) 0 n) ttl (run (work-of w (now (st .entry))) (now (draws .entry)) (now (out .entry)))) ⌝ }
+    ensures { λ r. ⌜ Makes (on-shuffle from origin (nodes-of (now (b .entry)) 0 n) ttl) w r st draws out ⌝ }
 {
     let hops = Ttl(ttl);
     if hops.expired() | hyparview_state::is_last_hop(st) {
@@ -146,10 +143,10 @@ pub fn on_shuffle_reply(
     n: usize,
 ) -> Work
     requires { ⌜ length (now st) ≡ words ⌝ }
-    requires { ⌜ Fine (work-of w (now st)) (now draws) (now out) ⌝ }
+    requires { ⌜ Given w st draws out ⌝ }
     requires { ⌜ well-formed (now b) ≡ true ⌝ }
     requires { ⌜ n ≡ header-of (now b) .nodes ⌝ }
-    ensures { λ r. ⌜ Does (work-of r (now (st .exit))) (now (draws .entry)) (now (out .exit)) (on-shuffle-reply from (nodes-of (now (b .entry)) 0 n) (run (work-of w (now (st .entry))) (now (draws .entry)) (now (out .entry)))) ⌝ }
+    ensures { λ r. ⌜ Makes (on-shuffle-reply from (nodes-of (now (b .entry)) 0 n)) w r st draws out ⌝ }
 {
     let t = add_nodes(w, st, draws, out, b, n);
     let requested = hyparview_state::is_requested(st, from);

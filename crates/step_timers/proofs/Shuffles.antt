@@ -17,7 +17,6 @@ use Rattle.base_util.proofs.Sets.{set-length, set-then}
 use Rattle.base_peer.specs.Held.{node-in}
 use Rattle.record_writer.specs.declared.Nodes.{Nodes}
 use Rattle.record_writer.specs.Nodes.{nodes-in, HoldsNodes}
-use Rattle.record_writer.specs.Write.{rec-in}
 use Rattle.record_writer.proofs.Ways.{length-nodes}
 use Rattle.spec_hyparview.specs.Station.{Station, is-alone}
 use Rattle.spec_hyparview.specs.Setters.{set-next-interval}
@@ -60,12 +59,12 @@ not-scheduled w xs ds out v h = by _ (schedule-rests _ h) (still v)
 
 scheduled-is : (w : Work) (xs ds out : List ℕ) (x d : ℕ) → x ≡ delay (next-shuffle-interval xs) d → d ≡ getD ds (w .drawn) 0
     → schedule-shuffle (run (work-of w xs) ds out)
-    ≡ emit (rec-in (record { kind = 1; message = 0; flags = 0; peer = 0; second = x; ttl = 0; number = 0 }) []) (draw 1 (on double-interval (run (work-of w xs) ds out)))
-unfolding schedule-shuffle rec-in run-of unpack station-of drawn
+    ≡ emit (timer 1 0 x 0) (draw 1 (on double-interval (run (work-of w xs) ds out)))
+unfolding schedule-shuffle run-of unpack station-of drawn
 scheduled-is w xs ds out x d e q = ap (λ (n : ℕ). emit (timer 1 0 n 0) (draw 1 (on double-interval (run (work-of w xs) ds out)))) (ap (delay (next-shuffle-interval xs)) (sym q) ∙ sym e)
 
 pub scheduled : (w a b r : Work) (xs ys ds out o : List ℕ) (x d : ℕ) → Fine (work-of w xs) ds out → x ≡ delay (next-shuffle-interval xs) d → d ≡ getD ds (a .drawn) 0
-    → TellsAny (emit (rec-in (record { kind = 1; message = 0; flags = 0; peer = 0; second = x; ttl = 0; number = 0 }) [])) b r out o
+    → TellsAny (emit (timer 1 0 x 0)) b r out o
     → DrawsAny (draw 1) a b ds → Changes (on double-interval) (work-of w xs) (work-of a ys) → Does (work-of r ys) ds o (schedule-shuffle (run (work-of w xs) ds out))
 scheduled w a b r xs ys ds out o x d v e q k₃ k₂ k₁ =
     by _ (scheduled-is w xs ds out x d e (q ∙ ap (λ (n : ℕ). getD ds n 0) (k₁ .drawn))) (then-tell-any _ k₃ (then-drawn _ k₂ (then k₁ (still v))))
@@ -86,12 +85,12 @@ walk-fits xs v = ranges (settings-at xs) (of-settings xs v) .shuffle-walk .most
 
 pub shuffle-told : (w r : Work) (xs out o v : List ℕ) (n to : ℕ) (named ns : Nodes) (d : PeerData) → Room (work-of w xs) out → ValidSet 32 v → n ≡ length (items-at 32 v) → d ≡ own-at xs
     → HoldsNodes named (peer-infos (unpack xs) (take n v)) → HoldsNodes ns (nodes-in named ++ (node-in (record { id = me xs; «data» = d }) ∷ []))
-    → TellsAny (emit (rec-in (record { kind = 0; message = 2; flags = 0; peer = to; second = me xs; ttl = shuffle-random-walk-length xs; number = 0 }) (nodes-in ns))) w r out o
+    → TellsAny (emit (message 2 to 0 (me xs) (shuffle-random-walk-length xs) (nodes-in ns))) w r out o
     → Tells (send-shuffle to (items-at 32 v)) (work-of w xs) (work-of r xs) out o
-unfolding send-shuffle shuffle-nodes rec-in node-in run-of unpack station-of settings-at
+unfolding send-shuffle shuffle-nodes node-in run-of unpack station-of settings-at
 shuffle-told w r xs out o v n to named ns d f s c q h e k =
     let names : nodes-in named ≡ peer-infos (unpack xs) (items-at 32 v) = h .holds ∙ ap (peer-infos (unpack xs)) (lent-items v n s c) in
-    tell-by {g = emit (rec-in (record { kind = 0; message = 2; flags = 0; peer = to; second = me xs; ttl = shuffle-random-walk-length xs; number = 0 }) (nodes-in ns))} (send-shuffle to (items-at 32 v))
+    tell-by {g = emit (message 2 to 0 (me xs) (shuffle-random-walk-length xs) (nodes-in ns))} (send-shuffle to (items-at 32 v))
     (λ ds. ap (λ (x : List Node). emit (message 2 to 0 (me xs) (shuffle-random-walk-length xs) x) (run (work-of w xs) ds out)) (sym (e .holds ∙ (λ i. names i ++ (node-in (record { id = me xs; «data» = q i }) ∷ [])))))
     (told-at xs (f .packed) _ k)
 

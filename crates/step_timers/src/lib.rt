@@ -5,14 +5,13 @@ use base_peer::PeerInfo;
 use hyparview_state::Layout;
 use record::Kind;
 use record::Message;
-use record_writer::Fields;
 use work::Work;
 ghost use mathlib.Core.Path.{_≡_};
 ghost use lib.ListN.{length};
 ghost use Rattle.base_peer.specs.Maps.{number-in};
 ghost use Rattle.spec_hyparview.specs.Timers.{is-number, handle-pending-neighbor-timer, retry-join, schedule-shuffle, shuffle-any, handle-shuffle-timer};
 ghost use Rattle.hyparview_state.specs.Layout.{words};
-ghost use Rattle.hyparview_state.specs.Work.{work-of, run, Room, Tells, Fine, Does};
+ghost use Rattle.hyparview_state.specs.Work.{GivenRoom, Given, Says, Makes};
 
 // Whether an answer names the number n.
 fn is_number(n: u64, m: Number) -> bool
@@ -34,8 +33,8 @@ pub fn handle_pending_neighbor_timer(
     id: u64,
 ) -> Work
     requires { ⌜ length (now st) ≡ words ⌝ }
-    requires { ⌜ Fine (work-of w (now st)) (now draws) (now out) ⌝ }
-    ensures { λ r. ⌜ Does (work-of r (now (st .exit))) (now (draws .entry)) (now (out .exit)) (handle-pending-neighbor-timer p id (run (work-of w (now (st .entry))) (now (draws .entry)) (now (out .entry)))) ⌝ }
+    requires { ⌜ Given w st draws out ⌝ }
+    ensures { λ r. ⌜ Makes (handle-pending-neighbor-timer p id) w r st draws out ⌝ }
 {
     let m = base_columns::get_number(&st[Layout::ASKED..Layout::ASKED_END], Layout::ALL, p);
     if is_number(id, m) {
@@ -51,8 +50,8 @@ pub fn handle_pending_neighbor_timer(
 // The timer of a join: one more Join, where that join is still open.
 pub fn retry_join(w: Work, st: &mut [u64], out: &mut [u8], p: PeerId, id: u64) -> Work
     requires { ⌜ length (now st) ≡ words ⌝ }
-    requires { ⌜ Room (work-of w (now st)) (now out) ⌝ }
-    ensures { λ r. ⌜ Tells (retry-join p id) (work-of w (now (st .entry))) (work-of r (now (st .exit))) (now (out .entry)) (now (out .exit)) ⌝ }
+    requires { ⌜ GivenRoom w st out ⌝ }
+    ensures { λ r. ⌜ Says (retry-join p id) w r st out ⌝ }
 {
     let m = base_columns::get_number(&st[Layout::JOINS..Layout::JOINS_END], Layout::FEW, p);
     if is_number(id, m) {
@@ -65,8 +64,8 @@ pub fn retry_join(w: Work, st: &mut [u64], out: &mut [u8], p: PeerId, id: u64) -
 // The next shuffle, after a delay of the interval before it doubles.
 pub fn schedule_shuffle(w: Work, st: &mut [u64], draws: &[u32], out: &mut [u8]) -> Work
     requires { ⌜ length (now st) ≡ words ⌝ }
-    requires { ⌜ Fine (work-of w (now st)) (now draws) (now out) ⌝ }
-    ensures { λ r. ⌜ Does (work-of r (now (st .exit))) (now (draws .entry)) (now (out .exit)) (schedule-shuffle (run (work-of w (now (st .entry))) (now (draws .entry)) (now (out .entry)))) ⌝ }
+    requires { ⌜ Given w st draws out ⌝ }
+    ensures { λ r. ⌜ Makes schedule-shuffle w r st draws out ⌝ }
 {
     if w.code != 0 {
         return w;
@@ -76,23 +75,15 @@ pub fn schedule_shuffle(w: Work, st: &mut [u64], draws: &[u32], out: &mut [u8]) 
     let next = base_timing::shorter(2 * x, st[Layout::SHUFFLE_INTERVAL] as u32);
     st[Layout::NEXT_SHUFFLE_INTERVAL] = next as u64;
     let d = work::draw(w, draws);
-    let f = Fields {
-        kind: Kind::DO_SHUFFLE,
-        message: 0,
-        flags: 0,
-        peer: 0,
-        second: base_timing::delay(x, d.value) as u64,
-        ttl: 0,
-        number: 0,
-    };
-    work::emit_bare(d.work, out, f)
+    let delay = base_timing::delay(x, d.value) as u64;
+    work::schedule(d.work, out, Kind::DO_SHUFFLE, 0, delay, 0)
 }
 
 // Shuffle to a neighbor, where there is one. It names some peers of each view, but not that one, as the next draws decide, and the station itself last.
 fn shuffle_any(w: Work, st: &[u64], draws: &[u32], out: &mut [u8]) -> Work
     requires { ⌜ length (now st) ≡ words ⌝ }
-    requires { ⌜ Fine (work-of w (now st)) (now draws) (now out) ⌝ }
-    ensures { λ r. ⌜ Does (work-of r (now (st .entry))) (now (draws .entry)) (now (out .exit)) (shuffle-any (run (work-of w (now (st .entry))) (now (draws .entry)) (now (out .entry)))) ⌝ }
+    requires { ⌜ Given w st draws out ⌝ }
+    ensures { λ r. ⌜ Makes shuffle-any w r st draws out ⌝ }
 {
     let active = &st[Layout::ACTIVE..Layout::ACTIVE_END];
     let neighbors = base_util::count(active, Layout::FEW);
@@ -117,23 +108,23 @@ fn shuffle_any(w: Work, st: &[u64], draws: &[u32], out: &mut [u8]) -> Work
     let named = step_sending::peer_infos(st, &named_peers[..n]);
     let me = st[Layout::ME];
     let own = hyparview_state::own_data(st);
-    let f = Fields {
-        kind: Kind::MESSAGE,
-        message: Message::SHUFFLE,
-        flags: 0,
-        peer: to,
-        second: me,
-        ttl: st[Layout::SHUFFLE_RANDOM_WALK_LENGTH] as u16,
-        number: 0,
-    };
-    work::emit_nodes(b, out, f, named.push(PeerInfo { id: me, data: own }))
+    let ttl = st[Layout::SHUFFLE_RANDOM_WALK_LENGTH] as u16;
+    work::send_nodes(
+        b,
+        out,
+        Message::SHUFFLE,
+        to,
+        me,
+        ttl,
+        named.push(PeerInfo { id: me, data: own }),
+    )
 }
 
 // The timer of the shuffle, which sets the next one.
 pub fn handle_shuffle_timer(w: Work, st: &mut [u64], draws: &[u32], out: &mut [u8]) -> Work
     requires { ⌜ length (now st) ≡ words ⌝ }
-    requires { ⌜ Fine (work-of w (now st)) (now draws) (now out) ⌝ }
-    ensures { λ r. ⌜ Does (work-of r (now (st .exit))) (now (draws .entry)) (now (out .exit)) (handle-shuffle-timer (run (work-of w (now (st .entry))) (now (draws .entry)) (now (out .entry)))) ⌝ }
+    requires { ⌜ Given w st draws out ⌝ }
+    ensures { λ r. ⌜ Makes handle-shuffle-timer w r st draws out ⌝ }
 {
     let a = shuffle_any(w, st, draws, out);
     schedule_shuffle(a, st, draws, out)

@@ -100,11 +100,15 @@ timer k p delay n = record { kind = k; message = 0; flags = 0; peer = p; second 
 
 -- io.emit: NeighborUp (9) or NeighborDown (10); by document 02, S-2, the peer that the passive view evicted (12)
 abbrev pub notice : ℕ → ℕ → Rec
-notice k p = record { kind = k; message = 0; flags = 0; peer = p; second = 0; ttl = 0; number = 0; nodes = [] }
+notice k p = timer k p 0 0
+
+-- a notice with a node
+abbrev pub node-notice : ℕ → ℕ → Node → Rec
+node-notice k p n = record { kind = k; message = 0; flags = 0; peer = p; second = 0; ttl = 0; number = 0; nodes = n ∷ [] }
 
 -- io.peer_data
 abbrev pub data-notice : ℕ → List ℕ → Rec
-data-notice p b = record { kind = 11; message = 0; flags = 0; peer = p; second = 0; ttl = 0; number = 0; nodes = node 0 (some b) ∷ [] }
+data-notice p b = node-notice 11 p (node 0 (some b))
 
 -- a flag as a number
 unfoldable pub flag : Bool → ℕ

@@ -90,13 +90,36 @@ Slice = RefT (List ℕ)
 abbrev pub Lent : Type 0
 Lent = Both Slice Slice
 
--- what a step that is lent words, draws and output may count on
+-- what a step may count on that is lent words and draws; words and output; words, draws and output
+abbrev pub GivenDraws : {S : Type 0} → Form S → Work → Slice → Slice → Type 0
+GivenDraws F w st ds = Ready F (work-of w (st .now)) (ds .now)
+
+abbrev pub GivenRoom : {S : Type 0} → Form S → Work → Slice → Slice → Type 0
+GivenRoom F w st out = Room F (work-of w (st .now)) (out .now)
+
 abbrev pub Given : {S : Type 0} → Form S → Work → Slice → Slice → Slice → Type 0
 Given F w st ds out = Fine F (work-of w (st .now)) (ds .now) (out .now)
 
--- it makes r of w, and of what it was lent what the definition's step makes
+-- what else holds of the run that it meets
+abbrev pub Meets : {S : Type 0} → Form S → (Run S → Type 0) → Work → Slice → Slice → Slice → Type 0
+Meets F P w st ds out = P (run-of F (work-of w (st .now)) (ds .now) (out .now))
+
+-- the run that a step met
+abbrev pub run-met : {S : Type 0} → Form S → Work → Lent → Lent → Lent → Run S
+run-met F w st ds out = run-of F (work-of w (st .entry .now)) (ds .entry .now) (out .entry .now)
+
+-- it makes r of w, and of what it was lent what the definition's step makes: lent the words; and draws; and output; and both
+abbrev pub Alters : {S : Type 0} → Form S → (Run S → Run S) → Work → Work → Lent → Type 0
+Alters F step w r st = Changes F step (work-of w (st .entry .now)) (work-of r (st .exit .now))
+
+abbrev pub Takes : {S : Type 0} → Form S → (Run S → Run S) → Work → Work → Lent → Lent → Type 0
+Takes F step w r st ds = DrawsFrom F step (work-of w (st .entry .now)) (work-of r (st .exit .now)) (ds .entry .now)
+
+abbrev pub Says : {S : Type 0} → Form S → (Run S → Run S) → Work → Work → Lent → Lent → Type 0
+Says F step w r st out = Tells F step (work-of w (st .entry .now)) (work-of r (st .exit .now)) (out .entry .now) (out .exit .now)
+
 abbrev pub Makes : {S : Type 0} → Form S → (Run S → Run S) → Work → Work → Lent → Lent → Lent → Type 0
-Makes F step w r st ds out = Does F (work-of r (st .exit .now)) (ds .entry .now) (out .exit .now) (step (run-of F (work-of w (st .entry .now)) (ds .entry .now) (out .entry .now)))
+Makes F step w r st ds out = Does F (work-of r (st .exit .now)) (ds .entry .now) (out .exit .now) (step (run-met F w st ds out))
 
 -- ---- a step that is not lent the words: what it does to the run that has no state; the laws of proofs/Any take it to any state
 
@@ -130,6 +153,10 @@ pub record TellsAny (step : Stateless) (w r : Work) (out o : List ℕ) : Type 0 
   pub drawn : r .drawn ≡ w .drawn
   pub written : r .written ≤ length o
   pub same : (ds : List ℕ) → no-state r ds o ≡ step (no-state w ds out)
+
+-- the same of the parameters themselves
+abbrev pub Emits : Stateless → Work → Work → Lent → Type 0
+Emits step w r out = TellsAny step w r (out .entry .now) (out .exit .now)
 
 -- the work after a record: the place reached, or code 9
 unfoldable pub after-record : Written → Work → Work

@@ -1,5 +1,7 @@
 // The work that the steps of one event hand on, whatever the state is: draws, refusals and records.
+use base_peer::PeerId;
 use base_peer::PeerInfo;
+use record::Kind;
 use record::Refusal;
 use record_writer::Fields;
 use record_writer::Nodes;
@@ -13,8 +15,8 @@ ghost use Rattle.base_peer.specs.Held.{ValidData, node-in};
 ghost use Rattle.base_util.specs.Section.{items-at, working-places, ValidSet, HoldsSet};
 ghost use Rattle.record_writer.specs.Nodes.{ValidNodes, nodes-in};
 ghost use Rattle.record_writer.specs.Write.{rec-in};
-ghost use Rattle.work.specs.Run.{draw, draw-one-of, draw-shuffle, require, emit};
-ghost use Rattle.work.specs.Work.{ChangesAny, DrawsAny, Reaches, TellsAny, after-record};
+ghost use Rattle.work.specs.Run.{draw, draw-one-of, draw-shuffle, require, emit, message, timer, notice, node-notice};
+ghost use Rattle.work.specs.Work.{ChangesAny, DrawsAny, Reaches, Emits, after-record};
 
 // The draws used and the bytes written so far, and a code that is 0 while all is well.
 pub struct Work {
@@ -130,9 +132,9 @@ fn after_record(w: Work, a: Written) -> Work
 }
 
 // A record without nodes into the output; code 9 where it does not fit.
-pub fn emit_bare(w: Work, out: &mut [u8], f: Fields) -> Work
+fn emit_bare(w: Work, out: &mut [u8], f: Fields) -> Work
     requires { ⌜ w .written ≤ length (now out) ⌝ }
-    ensures { λ r. ⌜ TellsAny (emit (rec-in f [])) w r (now (out .entry)) (now (out .exit)) ⌝ }
+    ensures { λ r. ⌜ Emits (emit (rec-in f [])) w r out ⌝ }
 {
     if w.code != 0 {
         return w;
@@ -143,10 +145,10 @@ pub fn emit_bare(w: Work, out: &mut [u8], f: Fields) -> Work
 }
 
 // A record with one node.
-pub fn emit_one(w: Work, out: &mut [u8], f: Fields, p: PeerInfo) -> Work
+fn emit_one(w: Work, out: &mut [u8], f: Fields, p: PeerInfo) -> Work
     requires { ⌜ w .written ≤ length (now out) ⌝ }
     requires { ⌜ ValidData (p .data) ⌝ }
-    ensures { λ r. ⌜ TellsAny (emit (rec-in f (node-in p ∷ []))) w r (now (out .entry)) (now (out .exit)) ⌝ }
+    ensures { λ r. ⌜ Emits (emit (rec-in f (node-in p ∷ []))) w r out ⌝ }
 {
     if w.code != 0 {
         return w;
@@ -157,10 +159,10 @@ pub fn emit_one(w: Work, out: &mut [u8], f: Fields, p: PeerInfo) -> Work
 }
 
 // A record with these nodes.
-pub fn emit_nodes(w: Work, out: &mut [u8], f: Fields, ns: Nodes) -> Work
+fn emit_nodes(w: Work, out: &mut [u8], f: Fields, ns: Nodes) -> Work
     requires { ⌜ w .written ≤ length (now out) ⌝ }
     requires { ⌜ ValidNodes ns ⌝ }
-    ensures { λ r. ⌜ TellsAny (emit (rec-in f (nodes-in ns))) w r (now (out .entry)) (now (out .exit)) ⌝ }
+    ensures { λ r. ⌜ Emits (emit (rec-in f (nodes-in ns))) w r out ⌝ }
 {
     if w.code != 0 {
         return w;
@@ -168,4 +170,116 @@ pub fn emit_nodes(w: Work, out: &mut [u8], f: Fields, ns: Nodes) -> Work
     let at = w.written;
     let a = record_writer::write(out, at, f, ns);
     after_record(w, a)
+}
+
+// `io.schedule`: a timer of this kind about a peer, after so many milliseconds, with its number.
+pub fn schedule(w: Work, out: &mut [u8], kind: u8, p: PeerId, delay: u64, number: u64) -> Work
+    requires { ⌜ w .written ≤ length (now out) ⌝ }
+    ensures { λ r. ⌜ Emits (emit (timer kind p delay number)) w r out ⌝ }
+{
+    let f = Fields {
+        kind: kind,
+        message: 0,
+        flags: 0,
+        peer: p,
+        second: delay,
+        ttl: 0,
+        number: number,
+    };
+    emit_bare(w, out, f)
+}
+
+// `io.emit`: a notice of this kind about a peer.
+pub fn notify(w: Work, out: &mut [u8], kind: u8, p: PeerId) -> Work
+    requires { ⌜ w .written ≤ length (now out) ⌝ }
+    ensures { λ r. ⌜ Emits (emit (notice kind p)) w r out ⌝ }
+{
+    schedule(w, out, kind, p, 0, 0)
+}
+
+// `io.emit`: a notice with a node.
+pub fn notify_node(w: Work, out: &mut [u8], kind: u8, p: PeerId, n: PeerInfo) -> Work
+    requires { ⌜ w .written ≤ length (now out) ⌝ }
+    requires { ⌜ ValidData (n .data) ⌝ }
+    ensures { λ r. ⌜ Emits (emit (node-notice kind p (node-in n))) w r out ⌝ }
+{
+    let f = Fields {
+        kind: kind,
+        message: 0,
+        flags: 0,
+        peer: p,
+        second: 0,
+        ttl: 0,
+        number: 0,
+    };
+    emit_one(w, out, f, n)
+}
+
+// `io.send`: a message without nodes.
+pub fn send(w: Work, out: &mut [u8], m: u8, to: PeerId, flags: u8) -> Work
+    requires { ⌜ w .written ≤ length (now out) ⌝ }
+    ensures { λ r. ⌜ Emits (emit (message m to flags 0 0 [])) w r out ⌝ }
+{
+    let f = Fields {
+        kind: Kind::MESSAGE,
+        message: m,
+        flags: flags,
+        peer: to,
+        second: 0,
+        ttl: 0,
+        number: 0,
+    };
+    emit_bare(w, out, f)
+}
+
+// `io.send`: a message with one node.
+pub fn send_node(
+    w: Work,
+    out: &mut [u8],
+    m: u8,
+    to: PeerId,
+    flags: u8,
+    ttl: u16,
+    n: PeerInfo,
+) -> Work
+    requires { ⌜ w .written ≤ length (now out) ⌝ }
+    requires { ⌜ ValidData (n .data) ⌝ }
+    ensures { λ r. ⌜ Emits (emit (message m to flags 0 ttl (node-in n ∷ []))) w r out ⌝ }
+{
+    let f = Fields {
+        kind: Kind::MESSAGE,
+        message: m,
+        flags: flags,
+        peer: to,
+        second: 0,
+        ttl: ttl,
+        number: 0,
+    };
+    emit_one(w, out, f, n)
+}
+
+// `io.send`: a message with these nodes, and the station that they come from where it tells one.
+pub fn send_nodes(
+    w: Work,
+    out: &mut [u8],
+    m: u8,
+    to: PeerId,
+    origin: PeerId,
+    ttl: u16,
+    ns: Nodes,
+) -> Work
+    requires { ⌜ w .written ≤ length (now out) ⌝ }
+    requires { ⌜ ValidNodes ns ⌝ }
+    ensures { λ r. ⌜ Emits (emit (message m to 0 origin ttl (nodes-in ns))) w r out ⌝ }
+{
+    let f = Fields {
+        kind: Kind::MESSAGE,
+        message: m,
+        flags: 0,
+        peer: to,
+        second: origin,
+        ttl: ttl,
+        number: 0,
+    };
+    emit_nodes(w, out, f, ns)
 }

@@ -6,17 +6,17 @@ use Rattle.step_active.proofs.add_active_unchecked.Statement.{statement
 use Rattle.step_active.proofs.add_active_unchecked.Tie as tie
 
 -- The ways back, from a place to an earlier one.
-abbrev keep-limit-to-emit-bare : tie.After-keep-limit → tie.After-emit-bare
-keep-limit-to-emit-bare c = c .before .before .before .before .before .before .before .before .before
+abbrev keep-limit-to-notify : tie.After-keep-limit → tie.After-notify
+keep-limit-to-notify c = c .before .before .before .before .before .before .before .before .before
 
-abbrev emit-bare-to-start : tie.After-emit-bare → tie.Start
-emit-bare-to-start c = c .before .before .before .before .before .before .before .before
+abbrev notify-to-start : tie.After-notify → tie.Start
+notify-to-start c = c .before .before .before .before .before .before .before .before
 
 move-in-requires : tie.Need-move-in-requires
 move-in-requires c κs = search needs
 
-emit-bare-requires : tie.Need-emit-bare-requires
-emit-bare-requires c κs = search needs
+notify-requires : tie.Need-notify-requires
+notify-requires c κs = search needs
 
 same-length : tie.Need-same-length
 same-length c = search needs
@@ -44,11 +44,11 @@ reply-neighbor-requires c κs =
     let at-keep-limit = c .before .before .before .before in
     let at-unless-recovery = at-keep-limit .before .before in
     let at-limit-of = at-unless-recovery .before in
-    let at-emit-bare = keep-limit-to-emit-bare at-keep-limit in
-    let at-move-in = at-emit-bare .before .before .before .before in
-    let start = emit-bare-to-start at-emit-bare in
+    let at-notify = keep-limit-to-notify at-keep-limit in
+    let at-move-in = at-notify .before .before .before .before in
+    let start = notify-to-start at-notify in
     let gain = gained _ _ _ _ _ (at-keep-limit .keep-limit .ensures) (at-unless-recovery .unless-recovery .ensures) (search needs) (at-limit-of .limit-of .ensures) in
-    let enter = entered _ _ _ _ _ _ _ _ (start .pre .1 .0) (at-emit-bare .emit-bare .ensures) (at-move-in .move-in .ensures) _ (at-limit-of .before .before .if1 .left) gain in
+    let enter = entered _ _ _ _ _ _ _ _ (start .pre .1 .0) (at-notify .notify .ensures) (at-move-in .move-in .ensures) _ (at-limit-of .before .before .if1 .left) gain in
     (long (enter .room .packed), enter .room)
 
 same-length-4 : tie.Need-same-length-4
@@ -60,24 +60,24 @@ returns-2 c =
     let at-keep-limit = at-reply .before .before .before .before .before in
     let at-unless-recovery = at-keep-limit .before .before in
     let at-limit-of = at-unless-recovery .before in
-    let at-emit-bare = keep-limit-to-emit-bare at-keep-limit in
-    let at-move-in = at-emit-bare .before .before .before .before in
-    let start = emit-bare-to-start at-emit-bare in
+    let at-notify = keep-limit-to-notify at-keep-limit in
+    let at-move-in = at-notify .before .before .before .before in
+    let start = notify-to-start at-notify in
     let gain = gained _ _ _ _ _ (at-keep-limit .keep-limit .ensures) (at-unless-recovery .unless-recovery .ensures) (search needs) (at-limit-of .limit-of .ensures) in
-    let enter = entered _ _ _ _ _ _ _ _ (start .pre .1 .0) (at-emit-bare .emit-bare .ensures) (at-move-in .move-in .ensures) _ (at-limit-of .before .before .if1 .left) gain in
+    let enter = entered _ _ _ _ _ _ _ _ (start .pre .1 .0) (at-notify .notify .ensures) (at-move-in .move-in .ensures) _ (at-limit-of .before .before .if1 .left) gain in
     added-unchecked _ _ _ _ _ _ _ _ _ _ _ _ (at-reply .reply-neighbor .ensures) enter
 
 same-length-3 : tie.Need-same-length-3
 same-length-3 c =
     let at-keep-limit = c .before .before .before .before .before .before .before .before .before in
-    long (returns-2 c .room .packed) ∙ sym (emit-bare-to-start (keep-limit-to-emit-bare at-keep-limit) .pre .0)
+    long (returns-2 c .room .packed) ∙ sym (notify-to-start (keep-limit-to-notify at-keep-limit) .pre .0)
 
 pub add-active-unchecked-spec : {M : Type 1} → statement M
 add-active-unchecked-spec =
     tie.close
     (tie.spec
     move-in-requires
-    emit-bare-requires
+    notify-requires
     same-length
     same-length-2
     returns

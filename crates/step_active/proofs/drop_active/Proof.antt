@@ -29,8 +29,8 @@ remove-index-requires : tie.Need-remove-index-requires
 unfolding part unpack station-of
 remove-index-requires c κs = (search (of-packed, needs), search needs)
 
-emit-bare-requires : tie.Need-emit-bare-requires
-emit-bare-requires c κs = search needs
+notify-requires : tie.Need-notify-requires
+notify-requires c κs = search needs
 
 same-length : tie.Need-same-length
 same-length c = search needs
@@ -44,7 +44,7 @@ returns-2 c =
     let at-remove-index = c .before .before .before .before .before .before in
     let given = remove-index-to-start at-remove-index .pre .1 in
     let room = given .0 in
-    dropped _ _ _ _ _ _ _ _ _ room (given .1 .1) (c .before .before .emit-bare .ensures)
+    dropped _ _ _ _ _ _ _ _ _ room (given .1 .1) (c .before .before .notify .ensures)
     (on-done _ (room .packed) _ _ (search needs) (put-active (at-remove-index .remove-index .ensures) (fewer-active _ _ (room .packed))))
 
 pub drop-active-spec : {M : Type 1} → statement M
@@ -56,7 +56,7 @@ drop-active-spec =
     part-remove-index-start
     part-remove-index-end
     remove-index-requires
-    emit-bare-requires
+    notify-requires
     same-length
     same-length-2
     returns-2)

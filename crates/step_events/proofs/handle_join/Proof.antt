@@ -24,8 +24,8 @@ require-to-join c = c .before .before .before .before .before .before .before
 abbrev require-to-push : tie.After-require → tie.After-push-bootstrap
 require-to-push c = join-to-push (require-to-join c)
 
-abbrev emit-to-require : tie.After-emit-bare → tie.After-require
-emit-to-require c = c .before .before .before .before .before .before .before .before
+abbrev schedule-to-require : tie.After-schedule → tie.After-require
+schedule-to-require c = c .before .before .before .before .before .before .before .before
 
 push-bootstrap-requires : tie.Need-push-bootstrap-requires
 push-bootstrap-requires c κs = search needs
@@ -117,11 +117,11 @@ slice-write-st c =
     let at-push = require-to-push (c .before .before .before .before .before .before) in
     search (needs, at-push .push-bootstrap .kept, push-to-start at-push .pre .0)
 
-cast-t23 : tie.Need-cast-t23
-cast-t23 c = search needs
+cast-delay : tie.Need-cast-delay
+cast-delay c = search needs
 
-emit-bare-requires : tie.Need-emit-bare-requires
-emit-bare-requires c κs = search needs
+schedule-requires : tie.Need-schedule-requires
+schedule-requires c κs = search needs
 
 same-length-7 : tie.Need-same-length-7
 same-length-7 c = search needs
@@ -130,7 +130,7 @@ returns-4 : tie.Need-returns-4
 unfolding note-join unpack station-of part
 returns-4 c =
     let at-emit = c .before .before in
-    let at-require = emit-to-require at-emit in
+    let at-require = schedule-to-require at-emit in
     let at-if2 = at-require .before .before in
     let at-join = require-to-join at-require in
     let at-if1 = at-join .before .before .before in
@@ -138,10 +138,10 @@ returns-4 c =
     let given = push-to-start at-push .pre .1 in
     let told = at-join .join .ensures in
     let packed = told .room .packed in
-    joined-other _ _ _ _ _ (given .0) (at-push .push-bootstrap .ensures) (at-if1 .before .in-active .ensures) _ (at-if1 .if1 .left) (at-if2 .before .is-me .ensures) _ _ _ _ (at-if2 .if2 .left) (awaited _ _ _ _ _ _ _ _ (told .room) (at-emit .emit-bare .ensures) (join-opened _ _ _ _ packed (at-require .require .ensures) _ _ (on-done _ packed _ _ (at-emit .before .before .before .before .before .before .if3 .left) (λ b. put-next-join _ (put-joins (at-emit .before .before .before .before .insert-number .ensures) b))))) told
+    joined-other _ _ _ _ _ (given .0) (at-push .push-bootstrap .ensures) (at-if1 .before .in-active .ensures) _ (at-if1 .if1 .left) (at-if2 .before .is-me .ensures) _ _ _ _ (at-if2 .if2 .left) (awaited _ _ _ _ _ _ _ _ (told .room) (at-emit .schedule .ensures) (join-opened _ _ _ _ packed (at-require .require .ensures) _ _ (on-done _ packed _ _ (at-emit .before .before .before .before .before .before .if3 .left) (λ b. put-next-join _ (put-joins (at-emit .before .before .before .before .insert-number .ensures) b))))) told
 
 same-length-6 : tie.Need-same-length-6
-same-length-6 c = long (returns-4 c .room .packed) ∙ sym (push-to-start (require-to-push (emit-to-require (c .before .before))) .pre .0)
+same-length-6 c = long (returns-4 c .room .packed) ∙ sym (push-to-start (require-to-push (schedule-to-require (c .before .before))) .pre .0)
 
 pub handle-join-spec : {M : Type 1} → statement M
 handle-join-spec =
@@ -167,8 +167,8 @@ handle-join-spec =
     insert-number-requires
     add-st
     slice-write-st
-    cast-t23
-    emit-bare-requires
+    cast-delay
+    schedule-requires
     same-length-6
     same-length-7
     returns-4)

@@ -3,8 +3,8 @@ use borrow.Author.Needs.{needs}
 use Rattle.step_messages.proofs.forward_join_to.Statement.{statement}
 use Rattle.step_messages.proofs.forward_join_to.Tie as tie
 
-emit-one-requires : tie.Need-emit-one-requires
-emit-one-requires c κs = search needs
+send-node-requires : tie.Need-send-node-requires
+send-node-requires c κs = search needs
 
 same-length : tie.Need-same-length
 same-length c = search needs
@@ -13,4 +13,4 @@ returns : tie.Need-returns
 returns c = search join-forwarded
 
 pub forward-join-to-spec : {M : Type 1} → statement M
-forward-join-to-spec = tie.close (tie.spec emit-one-requires same-length returns)
+forward-join-to-spec = tie.close (tie.spec send-node-requires same-length returns)

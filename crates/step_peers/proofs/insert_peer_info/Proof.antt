@@ -66,8 +66,8 @@ returns : tie.Need-returns
 unfolding part unpack station-of
 returns c = search info-passed
 
-emit-one-requires : tie.Need-emit-one-requires
-emit-one-requires c κs = search needs
+notify-node-requires : tie.Need-notify-node-requires
+notify-node-requires c κs = search needs
 
 sub-contains-data : tie.Need-sub-contains-data
 sub-contains-data c = search needs
@@ -150,7 +150,7 @@ insert-peer-info-spec =
     holds-data-requires
     same-length
     returns
-    emit-one-requires
+    notify-node-requires
     sub-contains-data
     part-contains-data-start
     part-contains-data-end

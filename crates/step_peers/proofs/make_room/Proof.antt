@@ -2,7 +2,6 @@ use mathlib.Core.Logic.{⊎-elim}
 use mathlib.Core.Path.{sym, subst, _∙_}
 use Prim.Native.Nat.{ℕ}
 use mathlib.Core.List.{List}
-use Rattle.record_writer.specs.Write.{rec-in}
 use Rattle.base_util.specs.Section.{part}
 use Rattle.spec_hyparview.specs.Run.{on}
 use Rattle.spec_hyparview.specs.Peers.{shift-passive}
@@ -92,8 +91,8 @@ shift-remove-index-requires c κs =
 forget-peer-requires : tie.Need-forget-peer-requires
 forget-peer-requires c κs = let left = shifted (c .before) .packed in (long left, left)
 
-emit-bare-requires : tie.Need-emit-bare-requires
-emit-bare-requires c κs = search needs
+notify-requires : tie.Need-notify-requires
+notify-requires c κs = search needs
 
 same-length : tie.Need-same-length
 same-length c =
@@ -105,13 +104,13 @@ same-length-2 : tie.Need-same-length-2
 same-length-2 c = search needs
 
 returns : tie.Need-returns
-unfolding part unpack station-of rec-in
+unfolding part unpack station-of
 returns c =
     let told = c .before .before in
     let gone = told .before .before .before .before in
     let joined = forget-peer-to-joined2 gone in
     let chose = drew joined in
-    made _ _ _ _ (fine (start joined)) _ _ _ _ _ _ _ _ _ (chose .before .if1 .taken) (chose .choose .ensures .1 .0) (joined2-to-get-index joined .get-index .ensures) (told .emit-bare .ensures) (gone .forget-peer .ensures) (shifted joined) (chose .choose .ensures .0)
+    made _ _ _ _ (fine (start joined)) _ _ _ _ _ _ _ _ _ (chose .before .if1 .taken) (chose .choose .ensures .1 .0) (joined2-to-get-index joined .get-index .ensures) (told .notify .ensures) (gone .forget-peer .ensures) (shifted joined) (chose .choose .ensures .0)
 
 returns-2 : tie.Need-returns-2
 unfolding part unpack station-of
@@ -133,7 +132,7 @@ make-room-spec =
     part-v-end
     shift-remove-index-requires
     forget-peer-requires
-    emit-bare-requires
+    notify-requires
     same-length
     same-length-2
     returns

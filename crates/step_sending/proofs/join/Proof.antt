@@ -7,8 +7,8 @@ use Rattle.step_sending.proofs.join.Tie as tie
 own-data-requires : tie.Need-own-data-requires
 own-data-requires c κs = search needs
 
-emit-one-requires : tie.Need-emit-one-requires
-emit-one-requires c κs = (search needs, search (of-packed, needs))
+send-node-requires : tie.Need-send-node-requires
+send-node-requires c κs = (search needs, search (of-packed, needs))
 
 same-length : tie.Need-same-length
 same-length c = search needs
@@ -17,4 +17,4 @@ returns : tie.Need-returns
 returns c = search join-told
 
 pub join-spec : {M : Type 1} → statement M
-join-spec = tie.close (tie.spec own-data-requires emit-one-requires same-length returns)
+join-spec = tie.close (tie.spec own-data-requires send-node-requires same-length returns)

@@ -19,8 +19,8 @@ send-shuffle-reply-requires c κs = (search needs, (search needs, few-named _ (c
 flag-if-requires : tie.Need-flag-if-requires
 flag-if-requires c κs = search needs
 
-emit-bare-requires : tie.Need-emit-bare-requires
-emit-bare-requires c κs = search needs
+send-requires : tie.Need-send-requires
+send-requires c κs = search needs
 
 same-length : tie.Need-same-length
 same-length c = search needs
@@ -37,6 +37,6 @@ send-disconnect-spec =
     add-len
     send-shuffle-reply-requires
     flag-if-requires
-    emit-bare-requires
+    send-requires
     same-length
     returns)

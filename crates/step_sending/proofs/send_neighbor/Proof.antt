@@ -126,17 +126,17 @@ own-data-requires c κs =
     let at-insert-number = c .before .before .before .before in
     (long (room at-insert-number .packed), room at-insert-number .packed)
 
-emit-one-requires : tie.Need-emit-one-requires
-emit-one-requires c κs =
+send-node-requires : tie.Need-send-node-requires
+send-node-requires c κs =
     let at-own-data = c .before in
     let told = room (own-data-to-insert-number at-own-data) in
     (told .written, search (of-packed, told .packed, at-own-data .own-data .ensures))
 
-slice-read-t18 : tie.Need-slice-read-t18
-slice-read-t18 c = omega (arith, long (room (own-data-to-insert-number (c .before .before .before .before .before)) .packed))
+slice-read-timeout : tie.Need-slice-read-timeout
+slice-read-timeout c = omega (arith, long (room (own-data-to-insert-number (c .before .before .before .before .before)) .packed))
 
-emit-bare-requires : tie.Need-emit-bare-requires
-emit-bare-requires c κs = search needs
+schedule-requires : tie.Need-schedule-requires
+schedule-requires c κs = search needs
 
 same-length-3 : tie.Need-same-length-3
 same-length-3 c = search needs
@@ -146,9 +146,9 @@ same-length-4 c = search needs
 
 returns-3 : tie.Need-returns-3
 returns-3 c =
-    let at-emit-bare = c .before .before in
-    let at-emit-one = at-emit-bare .before .before .before .before .before in
-    let at-own-data = at-emit-one .before .before in
+    let at-schedule = c .before .before in
+    let at-send-node = at-schedule .before .before .before .before .before in
+    let at-own-data = at-send-node .before .before in
     let at-insert-number = own-data-to-insert-number at-own-data in
     let at-require2 = else2-to-require2 (insert-number-to-else2 at-insert-number) in
     let at-require = require2-to-require at-require2 in
@@ -156,7 +156,7 @@ returns-3 c =
     let start = else1-to-start at-else1 in
     neighbor-sent _ _ _ _ _ (start .pre .1 .packed) (at-require .require .ensures) (requests-counted _ (start .pre .1 .packed)) (at-require2 .require2 .ensures) _ _ (request-noted at-insert-number)
     _ _ _ _ _ (start .pre .1) (at-else1 .before .is-requested .ensures) (at-else1 .if1 .left)
-    (request-told _ _ _ _ _ _ _ _ _ _ _ _ (room at-insert-number) (at-own-data .before .before .flag-if .ensures) (at-own-data .own-data .ensures) (at-emit-one .emit-one .ensures) (at-emit-bare .emit-bare .ensures))
+    (request-told _ _ _ _ _ _ _ _ _ _ _ _ (room at-insert-number) (at-own-data .before .before .flag-if .ensures) (at-own-data .own-data .ensures) (at-send-node .send-node .ensures) (at-schedule .schedule .ensures))
 
 pub send-neighbor-spec : {M : Type 1} → statement M
 send-neighbor-spec =
@@ -179,9 +179,9 @@ send-neighbor-spec =
     slice-write-st
     flag-if-requires
     own-data-requires
-    emit-one-requires
-    slice-read-t18
-    emit-bare-requires
+    send-node-requires
+    slice-read-timeout
+    schedule-requires
     same-length-3
     same-length-4
     returns-3)

@@ -133,19 +133,19 @@ peer-infos-requires c κs =
     let start = count-to-start (at-joined1 .before) in
     (start .pre .0, (start .pre .1 .0 .ready .packed, lent-few _ _ (ready at-joined1 .valid) (at-count2 .count2 .ensures .0)))
 
-emit-nodes-requires : tie.Need-emit-nodes-requires
-emit-nodes-requires c κs = (ready (count2-to-joined1 (c .before .before .before)) .room .written, search needs)
+send-nodes-requires : tie.Need-send-nodes-requires
+send-nodes-requires c κs = (ready (count2-to-joined1 (c .before .before .before)) .room .written, search needs)
 
 same-length : tie.Need-same-length
 same-length c = search needs
 
 returns : tie.Need-returns
 returns c =
-    let at-emit-nodes = c .before .before in
-    let at-peer-infos = at-emit-nodes .before in
+    let at-send-nodes = c .before .before in
+    let at-peer-infos = at-send-nodes .before in
     let at-count2 = at-peer-infos .before .before .before in
     let sent = ready (count2-to-joined1 at-count2) in
-    sent .done _ _ (set-told _ _ _ _ _ _ _ _ _ (sent .room) (sent .valid) (at-count2 .count2 .ensures .0) (at-peer-infos .peer-infos .ensures) (at-emit-nodes .emit-nodes .ensures))
+    sent .done _ _ (set-told _ _ _ _ _ _ _ _ _ (sent .room) (sent .valid) (at-count2 .count2 .ensures .0) (at-peer-infos .peer-infos .ensures) (at-send-nodes .send-nodes .ensures))
 
 pub send-shuffle-reply-spec : {M : Type 1} → statement M
 send-shuffle-reply-spec =
@@ -176,6 +176,6 @@ send-shuffle-reply-spec =
     array-share-prefix-v
     slice-aggregate-peer-infos
     peer-infos-requires
-    emit-nodes-requires
+    send-nodes-requires
     same-length
     returns)

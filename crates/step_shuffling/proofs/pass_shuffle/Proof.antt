@@ -28,8 +28,8 @@ is-empty-to-start c = copy-into-to-start (without-all-to-copy-into (is-empty-to-
 abbrev choose-to-is-empty : tie.After-choose → tie.After-is-empty
 choose-to-is-empty c = c .before .before .before .before
 
-abbrev emit-nodes-to-choose : tie.After-emit-nodes → tie.After-choose
-emit-nodes-to-choose c = c .before .before .before .before .before .before
+abbrev send-nodes-to-choose : tie.After-send-nodes → tie.After-choose
+send-nodes-to-choose c = c .before .before .before .before .before .before
 
 sub-copy-into : tie.Need-sub-copy-into
 sub-copy-into c = search needs
@@ -92,8 +92,8 @@ next-requires c κs = search needs
 event-nodes-requires : tie.Need-event-nodes-requires
 event-nodes-requires c κs = is-empty-to-start (choose-to-is-empty (c .before .before .before .before)) .pre .1 .1
 
-emit-nodes-requires : tie.Need-emit-nodes-requires
-emit-nodes-requires c κs =
+send-nodes-requires : tie.Need-send-nodes-requires
+send-nodes-requires c κs =
     let at-choose = c .before .before .before .before .before in
     let start = is-empty-to-start (choose-to-is-empty at-choose) in
     (room-drawn _ _ _ _ _ (fine start) (at-choose .choose .ensures .0) .written, c .event-nodes .ensures .valid)
@@ -104,14 +104,14 @@ same-length c = search needs
 returns-2 : tie.Need-returns-2
 unfolding part
 returns-2 c =
-    let at-emit-nodes = c .before .before in
-    let at-choose = emit-nodes-to-choose at-emit-nodes in
+    let at-send-nodes = c .before .before in
+    let at-choose = send-nodes-to-choose at-send-nodes in
     let at-is-empty = choose-to-is-empty at-choose in
     let at-without-all = is-empty-to-without-all at-is-empty in
     let at-copy-into = without-all-to-copy-into at-without-all in
     let others = others-are _ _ _ _ _ (at-copy-into .copy-into .ensures) (at-without-all .without-all .ensures) in
     passed-on _ _ _ _ _ _ _ _ _ _ _ others
-    (shuffle-on _ _ _ _ _ _ _ _ _ (fine (copy-into-to-start at-copy-into)) (at-is-empty .is-empty .ensures) _ _ _ _ _ (at-choose .before .count .ensures .0) (at-choose .choose .ensures .1 .0) (at-emit-nodes .before .before .before .before .get-index .ensures) (at-emit-nodes .before .before .before .next .ensures) (at-emit-nodes .before .event-nodes .ensures) _ _ _ (at-choose .before .before .before .if1 .left) (at-emit-nodes .emit-nodes .ensures) (at-choose .choose .ensures .0))
+    (shuffle-on _ _ _ _ _ _ _ _ _ (fine (copy-into-to-start at-copy-into)) (at-is-empty .is-empty .ensures) _ _ _ _ _ (at-choose .before .count .ensures .0) (at-choose .choose .ensures .1 .0) (at-send-nodes .before .before .before .before .get-index .ensures) (at-send-nodes .before .before .before .next .ensures) (at-send-nodes .before .event-nodes .ensures) _ _ _ (at-choose .before .before .before .if1 .left) (at-send-nodes .send-nodes .ensures) (at-choose .choose .ensures .0))
 
 pub pass-shuffle-spec : {M : Type 1} → statement M
 pass-shuffle-spec =
@@ -135,6 +135,6 @@ pass-shuffle-spec =
     get-index-requires
     next-requires
     event-nodes-requires
-    emit-nodes-requires
+    send-nodes-requires
     same-length
     returns-2)

@@ -50,11 +50,11 @@ draw-requires c κs = search needs
 delay-requires : tie.Need-delay-requires
 delay-requires c κs = of-interval _ (fine (else1-to-start (shorter-to-else1 (c .before))) .ready .packed)
 
-cast-t11 : tie.Need-cast-t11
-cast-t11 c = search needs
+cast-delay : tie.Need-cast-delay
+cast-delay c = search needs
 
-emit-bare-requires : tie.Need-emit-bare-requires
-emit-bare-requires c κs = search needs
+schedule-requires : tie.Need-schedule-requires
+schedule-requires c κs = search needs
 
 same-length : tie.Need-same-length
 same-length c = search needs
@@ -64,13 +64,13 @@ same-length-2 c = search needs
 
 returns-2 : tie.Need-returns-2
 returns-2 c =
-    let at-emit-bare = c .before .before in
-    let at-delay = at-emit-bare .before .before in
+    let at-schedule = c .before .before in
+    let at-delay = at-schedule .before .before in
     let at-draw = at-delay .before in
     let at-shorter = at-draw .before in
     let at-else1 = shorter-to-else1 at-shorter in
     let given = fine (else1-to-start at-else1) in
-    scheduled _ _ _ _ _ _ _ _ _ _ _ given (at-delay .delay .ensures) (at-draw .draw .ensures .1) (at-emit-bare .emit-bare .ensures) (at-draw .draw .ensures .0) (doubled _ _ _ (given .ready .packed) (at-else1 .if1 .left) (at-shorter .shorter .ensures))
+    scheduled _ _ _ _ _ _ _ _ _ _ _ given (at-delay .delay .ensures) (at-draw .draw .ensures .1) (at-schedule .schedule .ensures) (at-draw .draw .ensures .0) (doubled _ _ _ (given .ready .packed) (at-else1 .if1 .left) (at-shorter .shorter .ensures))
 
 pub schedule-shuffle-spec : {M : Type 1} → statement M
 schedule-shuffle-spec =
@@ -87,8 +87,8 @@ schedule-shuffle-spec =
     slice-write-st
     draw-requires
     delay-requires
-    cast-t11
-    emit-bare-requires
+    cast-delay
+    schedule-requires
     same-length
     same-length-2
     returns-2)

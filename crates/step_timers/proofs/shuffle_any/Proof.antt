@@ -213,11 +213,11 @@ own-data-requires c κs =
     let start = cap-to-start (cap2-to-cap (append-to-cap2 (count2-to-append (c .before .before .before)))) in
     (start .pre .0, fine start .ready .packed)
 
-shared-slice-read-t31 : tie.Need-shared-slice-read-t31
-shared-slice-read-t31 c = omega (arith, own-data-to-start (c .before) .pre .0)
+shared-slice-read-ttl : tie.Need-shared-slice-read-ttl
+shared-slice-read-ttl c = omega (arith, own-data-to-start (c .before) .pre .0)
 
-cast-t53 : tie.Need-cast-t53
-cast-t53 c = record { fits = omega (arith, walk-fits _ (fine (own-data-to-start (c .before)) .ready .packed)) }
+cast-ttl : tie.Need-cast-ttl
+cast-ttl c = record { fits = omega (arith, walk-fits _ (fine (own-data-to-start (c .before)) .ready .packed)) }
 
 push-requires : tie.Need-push-requires
 push-requires c κs =
@@ -231,8 +231,8 @@ push-requires c κs =
     let few = all-fit _ packed _ _ _ _ (passive-named at-cap2) (few-active _ packed _ _ (active-named at-cap)) (at-append .append .ensures) in
     (named .valid, (place-named _ _ _ _ (at-append .append .ensures .valid) (at-count2 .count2 .ensures .0) few named, of-own _ packed _ (at-own-data .own-data .ensures)))
 
-emit-nodes-requires : tie.Need-emit-nodes-requires
-emit-nodes-requires c κs = (told (append-to-cap2 (count2-to-append (own-data-to-count2 (c .before .before .before)))) .written, search needs)
+send-nodes-requires : tie.Need-send-nodes-requires
+send-nodes-requires c κs = (told (append-to-cap2 (count2-to-append (own-data-to-count2 (c .before .before .before)))) .written, search needs)
 
 same-length : tie.Need-same-length
 same-length c = search needs
@@ -240,8 +240,8 @@ same-length c = search needs
 returns-2 : tie.Need-returns-2
 unfolding part
 returns-2 c =
-    let at-emit-nodes = c .before .before in
-    let at-push = at-emit-nodes .before in
+    let at-send-nodes = c .before .before in
+    let at-push = at-send-nodes .before in
     let at-own-data = at-push .before .before .before in
     let at-count2 = own-data-to-count2 at-own-data in
     let at-append = count2-to-append at-count2 in
@@ -253,7 +253,7 @@ returns-2 c =
     one-asked _ _ _ _ _ (fine (count-to-start at-count)) (at-count .count .ensures .0) _ _ (at-choose .choose .ensures .1 .0) (at-get-index .get-index .ensures) _ _ _ (at-choose .before .if1 .left)
     (with-done _ _ _ _ _ _ _ _ (chosen at-get-index) _ (active-drawn at-cap) (active-named at-cap)
     (passive-done _ _ _ _ _ _ _ _ (asked at-cap) _ _ _ (passive-drawn at-cap2) (passive-named at-cap2) (at-append .append .ensures)
-    (shuffle-told _ _ _ _ _ _ _ _ _ _ _ (room-of _ _ _ (told at-cap2)) (at-append .append .ensures .valid) (at-count2 .count2 .ensures .0) (at-own-data .own-data .ensures) (at-own-data .before .before .peer-infos .ensures) (at-push .push .ensures) (at-emit-nodes .emit-nodes .ensures))))
+    (shuffle-told _ _ _ _ _ _ _ _ _ _ _ (room-of _ _ _ (told at-cap2)) (at-append .append .ensures .valid) (at-count2 .count2 .ensures .0) (at-own-data .own-data .ensures) (at-own-data .before .before .peer-infos .ensures) (at-push .push .ensures) (at-send-nodes .send-nodes .ensures))))
     (at-choose .choose .ensures .0)
 
 pub shuffle-any-spec : {M : Type 1} → statement M
@@ -294,9 +294,9 @@ shuffle-any-spec =
     peer-infos-requires
     shared-slice-read-me
     own-data-requires
-    shared-slice-read-t31
-    cast-t53
+    shared-slice-read-ttl
+    cast-ttl
     push-requires
-    emit-nodes-requires
+    send-nodes-requires
     same-length
     returns-2)
