@@ -122,7 +122,7 @@ fn no_header() -> Header
     }
 }
 
-// The one reader for kinds 0 to 12.
+// The one reader for all kinds.
 #[no_mangle]
 pub extern "C" fn hyparview_read(b: &[u8]) -> HeaderReading
     ensures { λ r. ⌜ r ≡ reading (now (b .entry)) ⌝ }

@@ -7,10 +7,11 @@ use mathlib.Core.List.{List}
 use native.Mathlib.Omega.{arith}
 use lib.ListN.{length, getD}
 use lib.Seq.{length-take-le}
-use lib.Dec.{eqb, leb, ltb}
-use borrow.Author.Tests.{ne-eqb, leb-true, ltb-false}
+use lib.Dec.{eqb, ltb}
+use borrow.Author.Tests.{ne-eqb, ltb-false}
 use Rattle.base_lists.proofs.Choice.{by-choice, choose-yes, choose-no, split, and-left, and-right, and-false, clash}
 use Rattle.base_columns.specs.Columns.{words-end}
+use Rattle.record.specs.Kinds.{is-event-kind}
 use Rattle.record.specs.declared.Header.{Header}
 use Rattle.record.specs.declared.Event.{Event}
 use Rattle.record.specs.declared.Event.the-variants.{Refused, Record}
@@ -55,7 +56,7 @@ pub opens : (xs b : List ℕ) (h : Header) (ds out : List ℕ) → state-ok xs �
 unfolding R.rec-of-by
 opens xs b h ds out ok v narrow =
     let e = v .headed .head in
-    let w = readable b (v .headed .formed) (subst (λ (x : Header). x .kind ≤ 8) e (v .low)) (subst (λ (x : Header). x .nodes ≤ 32) e (v .few)) (subst (λ (x : Header). x .peer < peers-end) e narrow) in
+    let w = readable b (v .headed .formed) (subst (λ (x : Header). is-event-kind (x .kind) ≡ true) e (v .known)) (subst (λ (x : Header). x .nodes ≤ 32) e (v .few)) (subst (λ (x : Header). x .peer < peers-end) e narrow) in
     record {
       between = λ n. let k = ready (unpack xs) (ok-state xs ok .rules) ds (length out) (R.rec-of b) w (ne-eqb _ _ (λ z. n (ap (λ (x : Header). x .kind) e ∙ z))) in
           record {
@@ -157,7 +158,7 @@ read-of b h reads =
     (λ y. by-choice X (R.well-formed b && R.is-event (R.header-of b))
     (λ f q. let e : R.header-of b ≡ h = ap (header-in h) q in record {
       headed = record { formed = and-left _ _ f; head = sym e };
-      low = subst (λ (w : Header). w .kind ≤ 8) e (leb-true _ 8 (and-left (leb (R.header-of b .kind) 8) _ (and-right (R.well-formed b) _ f)));
+      known = subst (λ (w : Header). is-event-kind (w .kind) ≡ true) e (and-left (is-event-kind (R.header-of b .kind)) _ (and-right (R.well-formed b) _ f));
       few = subst (λ (w : Header). w .nodes ≤ 32) e (let n = ltb-false 32 (R.header-of b .nodes) y in omega (arith, n));
       reads = reads;
     })

@@ -12,6 +12,7 @@ use lib.Dec.{eqb, leb, ltb}
 use Rattle.base_lists.specs.Lists.{choose}
 use Rattle.base_lists.proofs.Slices.{slice-part}
 use Rattle.base_lists.proofs.Choice.{choose-yes, choose-no, split, clash, and-left}
+use Rattle.record.specs.Kinds.{is-event-kind}
 use Rattle.record.specs.Format.{IsForm, most-nodes, peer-length, old-peer-length, header-length, header-length-by, node-length-by}
 use Rattle.record.specs.Read.{fixed-size, header-of, is-message, is-timer, is-data, kind-ok, flags-ok, count-ok, peer-ok, fields-ok, header-ok, data-ok, entry-at-by, entry-ok, entries-ok-by, well-formed, well-formed-by, rec-of, is-event, Reading, refused, event, read-event}
 use Rattle.record.specs.Answers.{answer, answer-to, event-answer, event-in, EventIs}
@@ -175,13 +176,13 @@ module _ (b : List ℕ) where
     unfolding event-answer answer-to read-event choose
     event-crowded h = event-is (Events.Refused 4) (rw (le-ltb _ _ l, lt-ltb _ _ h))
 
-    module _ (few : getD b 3 0 ≤ 32) (h : Header) (w t : Bool) (p : w ≡ well-formed b) (q : h ≡ header-of b) (r : t ≡ is-timer h) where
+    module _ (few : getD b 3 0 ≤ 32) (h : Header) (w t k : Bool) (p : w ≡ well-formed b) (q : h ≡ header-of b) (r : t ≡ is-timer h) (z : k ≡ is-event-kind (h .kind)) where
       abbrev tested : Bool
-      tested = w && (leb (h .kind) 8 && (not t || eqb (h .second) 0))
+      tested = w && (k && (not t || eqb (h .second) 0))
 
       test : tested ≡ (well-formed b && is-event (header-of b))
       unfolding is-event
-      test = rw (p, r, not-or (is-timer h) (eqb (h .second) 0), q)
+      test = rw (p, r, z, not-or (is-timer h) (eqb (h .second) 0), q)
 
       pub event-record : tested ≡ true → EventIs b (Events.Record h)
       unfolding event-answer answer-to read-event choose

@@ -1,4 +1,5 @@
 pub mod Format
+pub mod ByKind
 pub mod Laws
 pub mod Sizes
 pub mod Forth

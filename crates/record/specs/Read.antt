@@ -10,13 +10,19 @@ use lib.Dec.{leb, ltb, eqb}
 use Rattle.base_lists.specs.Lists.{choose}
 use Rattle.base_lists.specs.Bytes.{read-le}
 use Rattle.base_peer.specs.Data.{Data, Node}
+use Rattle.record.specs.Kinds.{Message, DoShuffle, DoMaintenance, PendingNeighborRequest, RetryJoin, UpdatePeerData, Quit, PeerData, kind-byte, output-byte, is-event-kind, is-kind}
 use Rattle.record.specs.Format.{Rec, most-nodes, peer-length, header-length, header-length-by, node-length, place-by}
 use Rattle.record.specs.declared.Header.{Header}
 use Rattle.record.specs.declared.Entry.{Entry}
 
--- Part 3 and S-8, "fixed sizes": 44 for kinds 7 and 11, 32 for the other kinds from 0 to 12 (12 by document 02, S-2), 0 for every other byte
+-- UpdatePeerData and peer data, whose one node has data
+abbrev pub is-data-kind : ℕ → Bool
+is-data-kind k = eqb k (kind-byte UpdatePeerData) || eqb k (output-byte PeerData)
+
+-- Part 3 and S-8, "fixed sizes": 44 for kinds 7 and 11, 32 for the other kinds, 0 for every other byte
 unfoldable pub fixed-size : ℕ → ℕ
-fixed-size k = choose (eqb k 7 || eqb k 11) (header-length + node-length) (choose (leb k 12) header-length 0)
+unfolding is-kind
+fixed-size k = choose (is-data-kind k) (header-length + node-length) (choose (is-kind k) header-length 0)
 
 -- the header's fields, as they stand
 unfoldable pub header-of-by : ℕ → List ℕ → Header
@@ -45,21 +51,20 @@ entry-from w b at = record {
 unfoldable pub entry-at-by : ℕ → List ℕ → ℕ → Entry
 entry-at-by w b i = entry-from w b (place-by w i)
 
--- message m of kind 0
+-- message m
 unfoldable pub is-message : ℕ → Header → Bool
-is-message m h = eqb (h .kind) 0 && eqb (h .message) m
+is-message m h = eqb (h .kind) (kind-byte Message) && eqb (h .message) m
 
 -- DoShuffle, DoMaintenance, PendingNeighborRequest, RetryJoin
 unfoldable pub is-timer : Header → Bool
-is-timer h = leb 1 (h .kind) && leb (h .kind) 4
+is-timer h = leb (kind-byte DoShuffle) (h .kind) && leb (h .kind) (kind-byte RetryJoin)
 
--- UpdatePeerData and peer data, whose one node has data
 unfoldable pub is-data : Header → Bool
-is-data h = eqb (h .kind) 7 || eqb (h .kind) 11
+is-data h = is-data-kind (h .kind)
 
 -- "Byte 0", "Byte 1": a known kind, the same in both forms, and a message only in kind 0
 unfoldable pub kind-ok : Header → Bool
-kind-ok h = not (eqb (fixed-size (h .kind)) 0) && choose (eqb (h .kind) 0) (leb (h .message) 5) (eqb (h .message) 0)
+kind-ok h = not (eqb (fixed-size (h .kind)) 0) && choose (eqb (h .kind) (kind-byte Message)) (leb (h .message) 5) (eqb (h .message) 0)
 
 -- "Byte 2": Neighbor has one flag, Disconnect two
 unfoldable pub flags-ok : Header → Bool
@@ -73,14 +78,16 @@ count-ok h =
 
 -- "Peer is 0 in kinds 1, 2, 7, 8"
 unfoldable pub peer-ok : Header → Bool
-peer-ok h = choose (eqb (h .kind) 1 || (eqb (h .kind) 2 || (eqb (h .kind) 7 || eqb (h .kind) 8))) (eqb (h .peer) 0) true
+peer-ok h =
+    choose (eqb (h .kind) (kind-byte DoShuffle) || (eqb (h .kind) (kind-byte DoMaintenance) || (eqb (h .kind) (kind-byte UpdatePeerData) || eqb (h .kind) (kind-byte Quit))))
+    (eqb (h .peer) 0) true
 
 -- "Fields not named for a kind are 0": origin and delay, ttl, number
 unfoldable pub fields-ok : Header → Bool
 fields-ok h =
     choose (is-message 2 h || is-timer h) true (eqb (h .second) 0)
     && (choose (is-message 1 h || is-message 2 h) true (eqb (h .ttl) 0)
-    && choose (eqb (h .kind) 3 || eqb (h .kind) 4) true (eqb (h .number) 0))
+    && choose (eqb (h .kind) (kind-byte PendingNeighborRequest) || eqb (h .kind) (kind-byte RetryJoin)) true (eqb (h .number) 0))
 
 -- what the header alone must meet
 unfoldable pub header-ok : Header → Bool
@@ -141,7 +148,7 @@ rec-of-by w b = record {
   nodes = nodes-of-by w b 0 (header-of-by w b .nodes);
 }
 
--- The one reader for kinds 0 to 12
+-- The one reader for all kinds
 unfoldable pub decode-by : ℕ → List ℕ → Option Rec
 decode-by w b = choose (well-formed-by w b) (some (rec-of-by w b)) none
 
@@ -173,7 +180,8 @@ decode = decode-by peer-length
 
 -- "as an event, kinds 9 to 11 and a timer's nonzero delay are malformed", and kind 12 by S-2
 unfoldable pub is-event : Header → Bool
-is-event h = leb (h .kind) 8 && choose (is-timer h) (eqb (h .second) 0) true
+unfolding is-event-kind
+is-event h = is-event-kind (h .kind) && choose (is-timer h) (eqb (h .second) 0) true
 
 -- an event, or its refusal
 pub data Reading : Type 0 where

@@ -9,6 +9,7 @@ ghost use lib.ListN.{length};
 ghost use lib.Seq.{slice};
 ghost use Rattle.base_lists.specs.Lists.{choose};
 ghost use Rattle.base_lists.specs.Bytes.{read-le};
+ghost use Rattle.record.specs.Kinds.{is-event-kind, is-output-kind};
 ghost use Rattle.record.specs.Format.{IsForm, header-length, header-length-by, node-length, node-length-by, place-by};
 ghost use Rattle.record.specs.Read.{fixed-size, header-of, header-of-by, entry-from, entry-at, entry-at-by, is-message, is-timer, is-data, header-ok, well-formed, well-formed-by, node-at};
 ghost use Rattle.record.specs.Answers.{answer, EventIs, HoldsNode};
@@ -162,15 +163,28 @@ impl Refusal {
     pub const NO_OTHER_FORM: u32 = 19;
 }
 
-// The fixed size of a record by its kind byte; 0 where no kind has that number. By comparisons, since a match over the kinds is
-// compiled to a table in read-only memory.
+// The kinds of events, and those that stand in outputs alone. By comparisons, since a match over the kinds is compiled to a table in
+// read-only memory.
+fn is_event_kind(kind: u8) -> bool
+    ensures { λ r. ⌜ r ≡ is-event-kind kind ⌝ }
+{
+    kind <= Kind::QUIT
+}
+
+fn is_output_kind(kind: u8) -> bool
+    ensures { λ r. ⌜ r ≡ is-output-kind kind ⌝ }
+{
+    (Kind::NEIGHBOR_UP <= kind) & (kind <= Kind::EVICTED)
+}
+
+// The fixed size of a record by its kind byte; 0 where no kind has that number.
 fn fixed_size(kind: u8) -> u8
     ensures { λ r. ⌜ r ≡ fixed-size kind ⌝ }
 {
     if (kind == Kind::UPDATE_PEER_DATA) | (kind == Kind::PEER_DATA) {
         return WITH_NODE;
     }
-    if kind <= Kind::EVICTED {
+    if is_event_kind(kind) | is_output_kind(kind) {
         return BARE;
     }
     0
@@ -369,7 +383,7 @@ pub enum Answer {
     Malformed,
 }
 
-// The one reader for kinds 0 to 12.
+// The one reader for all kinds.
 pub fn read(b: &[u8]) -> Answer
     ensures { λ r. ⌜ r ≡ answer (now (b .entry)) ⌝ }
 {
@@ -396,8 +410,8 @@ pub fn read_event(b: &[u8]) -> Event
         return Event::Refused(Refusal::NODES);
     }
     let h = read_header(b);
-    // Kinds 9 to 12 and a timer's nonzero delay are malformed as events.
-    let event = (h.kind <= Kind::QUIT) & (!is_timer(h) | (h.second == 0));
+    // The kinds of outputs and a timer's nonzero delay are malformed as events.
+    let event = is_event_kind(h.kind) & (!is_timer(h) | (h.second == 0));
     if well_formed(b, PEER) & event {
         return Event::Record(h);
     }

@@ -5,12 +5,13 @@ use mathlib.Core.Path.{_≡_, refl, sym, ap, subst, _∙_}
 use mathlib.Core.Bool.{Bool, true, _&&_}
 use mathlib.Core.List.{List, [], _∷_, _++_}
 use lib.ListN.{drop}
-use lib.Dec.{leb, eqb}
+use lib.Dec.{eqb}
 use Rattle.base_lists.specs.Lists.{choose}
 use Rattle.base_lists.proofs.Choice.{choose-yes, and-left, and-right}
 use Rattle.base_timing.specs.Timing.{in-range}
 use Rattle.base_timing.specs.declared.Config.{Config}
 use Rattle.base_peer.specs.Data.{Data}
+use Rattle.record.specs.Kinds.{is-event-kind}
 use Rattle.record.specs.Walk.{kind-in, headers}
 use Rattle.spec_hyparview.specs.Station.{Station}
 use Rattle.spec_hyparview.specs.Rules.{station-ok, short-data}
@@ -47,7 +48,7 @@ module _ {G S : Type 0} {m : Machine G S} {pack : Station → S} {station : S �
         let t = rules-of g ranges h in
         let rest : start-of m vs (state-of m (v .call) (pack g)) ≡ start-of definition vs (result-of (v .call) g .state) =
         ap (start-of m vs) (k .state (v .call) g t) ∙ start-follows vs (fine-answer ranges (v .call) h .kept) in
-        (λ i. choose (leb (kind-in (v .call .event)) 8 && eqb (k .code (v .call) g t i) 0) (v .at) (rest i))
+        (λ i. choose (is-event-kind (kind-in (v .call .event)) && eqb (k .code (v .call) g t i) 0) (v .at) (rest i))
 
     on-time-follows : (vs : List Brought) {l : Ledger} {g : Station} → Kept c me l g → (waiting : List ℕ) → on-time m vs (pack g) waiting ≡ on-time definition vs g waiting
     unfolding on-time fires

@@ -6,10 +6,13 @@ use mathlib.Core.List.{List, [], _∷_, _++_, append-assoc, append-nil}
 use mathlib.Core.Option.{Option, none, some}
 use Prim.Native.Nat.{ℕ}
 use lib.Dec.{eqb}
+use borrow.Author.Tests.{eqb-false}
 use Rattle.base_lists.specs.Lists.{choose}
 use Rattle.base_lists.proofs.Choice.{by-choice, choose-no}
 use Rattle.base_timing.specs.declared.Config.{Config}
 use Rattle.base_peer.specs.Data.{Data, Node}
+use Rattle.record.specs.Kinds.{EventKind, Message, DoShuffle, DoMaintenance, PendingNeighborRequest, RetryJoin, PeerDisconnected, RequestJoin, UpdatePeerData, Quit, kind-byte}
+use Rattle.record.proofs.ByKind.{by-kind}
 use Rattle.record.specs.Format.{Rec, encode}
 use Rattle.spec_hyparview.specs.Station.{Station, Refill}
 use Rattle.spec_hyparview.specs.Run as R
@@ -360,9 +363,20 @@ unfolding T.shuffle-any T.shuffle-with T.shuffle-passive T.send-shuffle R.draw-s
 shuffle-any r = either _ (same r) (then (chooses _ r) (then (draws _ _) (then (draws _ _) (emits _ refl _))))
 
 -- every event but a shuffle timer
-pub dispatch : (e : Rec) → eqb (e .kind) 1 ≡ false → (r : Run) → Quiet r (H.dispatch e r)
-unfolding H.dispatch E.update-own-data
-dispatch e k r =
-    either _ (handle-message e r) (rw (choose-no (eqb (e .kind) 1) (T.handle-shuffle-timer r) _ k)
-    (either _ (maintenance-timer r) (either _ (neighbor-timer _ _ r) (either _ (retry-join _ _ r) (either _ (connection-closed _ r)
-    (either _ (handle-join _ r) (either _ (changes _ (λ s. refl) r) (handle-quit r))))))))
+by-each : (e : Rec) (k : EventKind) → (kind-byte k ≡ kind-byte DoShuffle → ⊥) → (r : Run) → Quiet r (H.handle-kind (some k) e r)
+unfolding H.handle-kind E.update-own-data
+by-each e Message n r = handle-message e r
+by-each e DoShuffle n r = absurd (n refl)
+by-each e DoMaintenance n r = maintenance-timer r
+by-each e PendingNeighborRequest n r = neighbor-timer _ _ r
+by-each e RetryJoin n r = retry-join _ _ r
+by-each e PeerDisconnected n r = connection-closed _ r
+by-each e RequestJoin n r = handle-join _ r
+by-each e UpdatePeerData n r = changes _ (λ s. refl) r
+by-each e Quit n r = handle-quit r
+
+pub dispatch : (e : Rec) → eqb (e .kind) (kind-byte DoShuffle) ≡ false → (r : Run) → Quiet r (H.dispatch e r)
+unfolding H.dispatch
+dispatch e n r =
+    by-kind (λ (o : Option EventKind). Quiet r (H.handle-kind o e r)) (e .kind) (λ _. same r)
+    (λ k z. by-each e k (λ y. eqb-false (e .kind) _ n (z ∙ y)) r)

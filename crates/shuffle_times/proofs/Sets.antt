@@ -12,6 +12,7 @@ use Rattle.base_lists.specs.Lists.{choose}
 use Rattle.base_lists.proofs.Choice.{by-choice, choose-yes, choose-no, and-left, and-right}
 use Rattle.base_timing.specs.Timing.{delay}
 use Rattle.base_timing.specs.declared.Config.{Config}
+use Rattle.record.specs.Kinds.{DoShuffle, kind-byte}
 use Rattle.record.specs.Format.{Rec}
 use Rattle.spec_hyparview.specs.Station.{Station, draws-end}
 use Rattle.spec_hyparview.specs.Run.{Run, guard, on, emit, draw, drawn, timer}
@@ -135,9 +136,9 @@ new-timers w e =
       mark = ap (λ (p : Bool × (ℕ × Config)). p .0) (k .same-clock) ∙ (ap (λ (s : Station). s .scheduled) (schedule-station n (k .fine)) ∙ ap (λ (s : Station). s .scheduled) (on-station H.note-scheduled w (timers-fine w (subst (λ (u : Run). u .code ≡ 0) (sym (timers-new w e)) z))));
     })
 
-shuffle-dispatch : (e : Rec) → eqb (e .kind) 1 ≡ true → (r : Run) → H.dispatch e r ≡ T.handle-shuffle-timer r
+shuffle-dispatch : (e : Rec) → eqb (e .kind) (kind-byte DoShuffle) ≡ true → (r : Run) → H.dispatch e r ≡ T.handle-shuffle-timer r
 unfolding H.dispatch choose
-shuffle-dispatch e f r = rw (eqb-true (e .kind) 1 f)
+shuffle-dispatch e f r = rw (eqb-true (e .kind) (kind-byte DoShuffle) f)
 
 -- the last step of an event is quiet
 declined : (w : Run) → Quiet w (on H.forget-declined w)
@@ -149,7 +150,7 @@ starts-before h k = record { sets = sets-before (h .sets) k; mark = ap (λ (p : 
 
 module _ (e : Rec) (s : Station) (ds : List ℕ) (room : ℕ) where
   -- no timer
-  pub plain : eqb (e .kind) 1 ≡ false → s .scheduled ≡ true → steps e (start s ds room) .code ≡ 0 → Still (start s ds room) (steps e (start s ds room))
+  pub plain : eqb (e .kind) (kind-byte DoShuffle) ≡ false → s .scheduled ≡ true → steps e (start s ds room) .code ≡ 0 → Still (start s ds room) (steps e (start s ds room))
   unfolding steps
   plain k m z =
       let w = H.dispatch e (start s ds room) in
@@ -158,7 +159,7 @@ module _ (e : Rec) (s : Station) (ds : List ℕ) (room : ℕ) where
       then (record { so = λ y. g }) (declined (H.first-timers w)) .so z
 
   -- the first event
-  pub first : eqb (e .kind) 1 ≡ false → s .scheduled ≡ false → steps e (start s ds room) .code ≡ 0 → Starts [] ds (s .next-interval) (s .config .«shuffle_interval») (steps e (start s ds room))
+  pub first : eqb (e .kind) (kind-byte DoShuffle) ≡ false → s .scheduled ≡ false → steps e (start s ds room) .code ≡ 0 → Starts [] ds (s .next-interval) (s .config .«shuffle_interval») (steps e (start s ds room))
   unfolding steps
   first k m z =
       let w = H.dispatch e (start s ds room) in
@@ -168,7 +169,7 @@ module _ (e : Rec) (s : Station) (ds : List ℕ) (room : ℕ) where
       starts-before (record { sets = sets-after h (t .sets); mark = t .mark }) q
 
   -- a shuffle timer
-  pub fired : eqb (e .kind) 1 ≡ true → s .scheduled ≡ true → steps e (start s ds room) .code ≡ 0 → Starts [] ds (s .next-interval) (s .config .«shuffle_interval») (steps e (start s ds room))
+  pub fired : eqb (e .kind) (kind-byte DoShuffle) ≡ true → s .scheduled ≡ true → steps e (start s ds room) .code ≡ 0 → Starts [] ds (s .next-interval) (s .config .«shuffle_interval») (steps e (start s ds room))
   unfolding steps T.handle-shuffle-timer T.double-interval
   fired k m =
       rw (shuffle-dispatch e k (start s ds room)) (λ z.

@@ -6,13 +6,14 @@ use mathlib.Core.List.{List, [], _∷_, _++_}
 use Prim.Native.Nat.{ℕ, _+_, _-_, _≤_, _<_}
 use native.Mathlib.Omega.{arith}
 use lib.ListN.{length, getD, replicate}
-use lib.Dec.{leb, ltb, eqb}
-use borrow.Author.Tests.{eqb-true, lt-ltb, le-leb}
+use lib.Dec.{ltb, eqb}
+use borrow.Author.Tests.{eqb-true, lt-ltb}
 use Rattle.base_lists.specs.Lists.{choose}
 use Rattle.base_lists.proofs.Choice.{by-choice, split, choose-yes, choose-no, and-left, and-right, clash}
 use Rattle.base_timing.specs.Timing.{in-range, delay}
 use Rattle.base_timing.specs.declared.Config.{Config}
 use Rattle.base_peer.specs.Data.{Data}
+use Rattle.record.specs.Kinds.{is-event-kind}
 use Rattle.record.specs.Format.{Rec}
 use Rattle.record.specs.Read.{Reading, read-event, rec-of, rec-of-by, header-of-by}
 use Rattle.record.specs.Walk.{kind-in, headers}
@@ -59,7 +60,7 @@ record Called (t : ℕ) (b : List ℕ) (s : Station) (a : Result) : Type 0 where
   refused : eqb (a .code) 0 ≡ false → (set-of t a ≡ []) × (clock (a .state) ≡ clock s)
   quiet : eqb (a .code) 0 ≡ true → eqb (kind-in b) 1 ≡ false → s .scheduled ≡ true → (set-of t a ≡ []) × (clock (a .state) ≡ clock s)
   sets : eqb (a .code) 0 ≡ true → eqb (kind-in b) 1 ≡ s .scheduled → New t s a
-  known : eqb (a .code) 0 ≡ true → leb (kind-in b) 8 ≡ true
+  known : eqb (a .code) 0 ≡ true → is-event-kind (kind-in b) ≡ true
 
 called-refusal : (t : ℕ) (b : List ℕ) (s : Station) (n room : ℕ) → (n ≡ 0 → ⊥) → Called t b s (refusal n s room)
 unfolding refusal after
@@ -114,7 +115,7 @@ module _ {c : Config} {me : ℕ} {l : Ledger} {s : Station} (ranges : in-range c
         refused = λ f. clash true refl f;
         quiet = λ _ i m. quietly r small (plain e s ds room i m fine);
         sets = λ _ i. on-or-off (s .scheduled) refl i;
-        known = λ _. le-leb (getD b 0 0) 8 (w .low);
+        known = λ _. w .known;
       })
       (λ z. called-refusal t b s (r .code) (r .room) (λ f. clash _ (ap (λ (n : ℕ). eqb n 0) f) z))
     where
@@ -210,7 +211,7 @@ module _ {c : Config} {me : ℕ} (ranges : in-range c ≡ true) where
       let kind = eqb (kind-in (v .call .event)) 1 in
       let set = set-of (v .at) a in
       let top = c .«shuffle_interval» in
-      let low = leb (kind-in (v .call .event)) 8 in
+      let low = is-event-kind (kind-in (v .call .event)) in
       let start = choose (low && eqb (a .code) 0) (v .at) (start-of definition vs (a .state)) in
       split (kind && eqb (a .code) 0)
       (λ f. let y = sym (choose-yes (kind && eqb (a .code) 0) _ _ f) ∙ o in clash false y refl)

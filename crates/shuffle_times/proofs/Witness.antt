@@ -6,7 +6,7 @@ use mathlib.Core.List.{List, [], _∷_, _++_}
 use Prim.Native.Nat.{ℕ, _+_, _*_, _-_, _≤_, _<_}
 use native.Mathlib.Omega.{arith}
 use lib.ListN.{length, replicate}
-use lib.Dec.{leb, ltb, eqb}
+use lib.Dec.{ltb, eqb}
 use borrow.Author.Tests.{eq-eqb, lt-ltb, ltb-true, le-leb}
 use Rattle.base_lists.specs.Lists.{choose, null}
 use Rattle.base_lists.specs.Maps.{retain}
@@ -15,6 +15,7 @@ use Rattle.base_lists.proofs.Choice.{choose-yes, choose-no, and-left, and-right
 use Rattle.base_timing.specs.Timing.{in-range, delay, maintenance-interval}
 use Rattle.base_timing.specs.declared.Config.{Config}
 use Rattle.base_peer.specs.Data.{Data}
+use Rattle.record.specs.Kinds.{is-event-kind}
 use Rattle.record.specs.Format.{Rec, header-length, size-by, datas, header-by, entries-by, encode, encode-by}
 use Rattle.record.specs.Read as Rd
 use Rattle.record.specs.Read.{event, read-event}
@@ -78,8 +79,8 @@ quit-kind : (t x : ℕ) (u : x < draws-end) → eqb (kind-in (quit-at t x u .cal
 unfolding quit-at quit-call kind-in encode-by header-by
 quit-kind t x u = refl
 
-quit-counts : (t x : ℕ) (u : x < draws-end) → leb (kind-in (quit-at t x u .call .event)) 8 ≡ true
-unfolding quit-at quit-call kind-in encode-by header-by
+quit-counts : (t x : ℕ) (u : x < draws-end) → is-event-kind (kind-in (quit-at t x u .call .event)) ≡ true
+unfolding quit-at quit-call kind-in encode-by header-by is-event-kind choose
 quit-counts t x u = refl
 
 shuffle-kind : (t x : ℕ) (u : x < draws-end) → eqb (kind-in (shuffle-at t x u .call .event)) 1 ≡ true

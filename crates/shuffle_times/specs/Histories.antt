@@ -7,6 +7,7 @@ use mathlib.Core.Path.{_≡_}
 use lib.ListN.{drop}
 use lib.Dec.{leb, eqb}
 use Rattle.base_lists.specs.Lists.{choose}
+use Rattle.record.specs.Kinds.{DoShuffle, kind-byte, is-event-kind}
 use Rattle.record.specs.Walk.{kind-in, headers}
 use Rattle.record.specs.declared.Header.{Header}
 use Rattle.spec_hyparview.specs.Station.{draws-end}
@@ -22,7 +23,7 @@ pub record Brought : Type 0 where
 -- the delays of the DoShuffle timers among an output's records
 unfoldable pub shuffle-delays : List Header → List ℕ
 shuffle-delays [] = []
-shuffle-delays (h ∷ hs) = choose (eqb (h .kind) 1) (h .second ∷ shuffle-delays hs) (shuffle-delays hs)
+shuffle-delays (h ∷ hs) = choose (eqb (h .kind) (kind-byte DoShuffle)) (h .second ∷ shuffle-delays hs) (shuffle-delays hs)
 
 -- so long after t
 unfoldable pub after : ℕ → List ℕ → List ℕ
@@ -38,9 +39,9 @@ unfoldable pub shuffles-due : {G S : Type 0} → Machine G S → List Brought �
 shuffles-due m [] s = []
 shuffles-due m (v ∷ vs) s = set-by m v s ++ shuffles-due m vs (state-of m (v .call) s)
 
--- an accepted event of kinds 0 to 8
+-- an accepted event, of whatever kind
 unfoldable pub counts : {G S : Type 0} → Machine G S → Brought → S → Bool
-counts m v s = leb (kind-in (v .call .event)) 8 && eqb (code-of m (v .call) s) 0
+counts m v s = is-event-kind (kind-in (v .call .event)) && eqb (code-of m (v .call) s) 0
 
 -- "a start, the time of a station's first event of kinds 0 to 8"
 unfoldable pub start-of : {G S : Type 0} → Machine G S → List Brought → S → ℕ
@@ -49,7 +50,7 @@ start-of m (v ∷ vs) s = choose (counts m v s) (v .at) (start-of m vs (state-of
 
 -- an accepted shuffle timer
 unfoldable pub fires : {G S : Type 0} → Machine G S → Brought → S → Bool
-fires m v s = eqb (kind-in (v .call .event)) 1 && eqb (code-of m (v .call) s) 0
+fires m v s = eqb (kind-in (v .call .event)) (kind-byte DoShuffle) && eqb (code-of m (v .call) s) 0
 
 unfoldable pub is-first : ℕ → List ℕ → Bool
 is-first t [] = false

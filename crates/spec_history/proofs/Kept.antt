@@ -1,11 +1,11 @@
 -- Demand 3, for every list of calls to a new station.
 -- Assumes nothing.
 use mathlib.Core.Path.{_≡_, refl, sym, ap, subst, _∙_}
-use mathlib.Core.Bool.{Bool, true, false, _&&_}
+use mathlib.Core.Bool.{true, false, _&&_}
 use mathlib.Core.List.{List, [], _∷_}
 use Prim.Native.Nat.{ℕ, _+_, _-_, _≤_}
 use native.Mathlib.Omega.{arith}
-use lib.ListN.{length, getD}
+use lib.ListN.{length}
 use lib.Dec.{eqb}
 use borrow.Author.Tests.{eqb-true, eqb-false, ne-eqb}
 use Rattle.base_lists.specs.Lists.{choose, is, count, mem, subset, Rising}
@@ -33,32 +33,16 @@ use Rattle.spec_hyparview.proofs.Whole.{Pays, Covered, covered-steps, Between, 
 use Rattle.spec_hyparview.proofs.Tested.{ranges-of, data-true, own-held, distinct-yes, rules-of}
 use Rattle.spec_hyparview.proofs.Written.{formed-event}
 use Rattle.spec_hyparview.proofs.Uncrowded.{never-eight}
-use Rattle.spec_history.specs.Ledger.{Ledger, empty-ledger, message-number, number-of, open-event, feed}
+use Rattle.spec_history.specs.Ledger.{Ledger, empty-ledger, number-of, open-event, feed}
 use Rattle.spec_history.specs.Calls.{Call, NewGiven, result-of, answered, state-after, codes, ledger-after, definition}
 use Rattle.spec_history.specs.Demand.{Views, Booked, Demand3, Demand3-holds}
 use Rattle.spec_history.specs.Refusals.{Never-eight-after}
 use Rattle.spec_history.proofs.Heard.{booked, heard}
 
--- the numbers of demand 3 are enough for their events
-at-least : (n : ℕ) (test : Bool) {x y : ℕ} → (test ≡ true → n ≤ x) → (test ≡ false → n ≤ y) → n ≤ choose test x y
-at-least n test f g = by-choice (λ (w : ℕ). n ≤ w) test f g
-
-two-kinds : {C : Type 0} (x i j : ℕ) → (i ≡ j → ⊥) → eqb x i ≡ true → eqb x j ≡ true → C
-two-kinds x i j n a b = absurd (n (sym (eqb-true x i a) ∙ eqb-true x j b))
-
+-- the number of demand 3 is enough for its event
 pub pays : (a : ℕ) (b : List ℕ) → Pays a (number-of a b) (rec-of b)
-unfolding number-of message-number kind-in message-in rec-of-by header-of-by
-pays a b =
-    let k = getD b 0 0 in
-    let m = getD b 1 0 in
-    record {
-      for-join = λ z i. at-least _ (eqb k 0) (λ _. at-least _ (eqb m 0) (λ _. omega arith) (λ f. clash (eqb m 0) i f)) (λ f. clash (eqb k 0) z f);
-      for-neighbor = λ z i. at-least _ (eqb k 0) (λ _. at-least _ (eqb m 0) (λ f. two-kinds m 0 4 (λ w. omega arith) f i) (λ _. at-least _ (eqb m 4) (λ _. omega arith) (λ f. clash (eqb m 4) i f))) (λ f. clash (eqb k 0) z f);
-      for-message = λ z. at-least _ (eqb k 0) (λ _. at-least _ (eqb m 0) (λ _. omega arith) (λ _. at-least _ (eqb m 4) (λ _. omega arith) (λ _. omega arith))) (λ f. clash (eqb k 0) z f);
-      for-maintenance = λ z. at-least _ (eqb k 0) (λ f. two-kinds k 0 2 (λ w. omega arith) f z) (λ _. at-least _ (eqb k 2) (λ _. omega arith) (λ f. clash (eqb k 2) z f));
-      for-other = λ i j. at-least _ (eqb k 0) (λ _. at-least _ (eqb m 0) (λ _. omega arith) (λ _. at-least _ (eqb m 4) (λ _. omega arith) (λ _. omega arith)))
-          (λ _. at-least _ (eqb k 2) (λ _. omega arith) (λ _. at-least _ (eqb k 7) (λ f. clash (eqb k 7) f i) (λ _. at-least _ (eqb k 8) (λ f. clash (eqb k 8) f j) (λ _. omega arith))));
-    }
+unfolding number-of kind-in message-in rec-of-by header-of-by
+pays a b = omega arith
 
 -- what holds after each call: of the state that it hands back and of the ledger
 abbrev pub Kept : Config → ℕ → Ledger → Station → Type 0

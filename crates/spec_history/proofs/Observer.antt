@@ -15,6 +15,7 @@ use Rattle.base_lists.proofs.Count.{count-shift, count-snoc}
 use Rattle.base_util.proofs.Chances.{pick-below}
 use Rattle.base_timing.specs.Timing.{default}
 use Rattle.base_peer.specs.Data.{Data}
+use Rattle.record.specs.Kinds.{is-output-kind}
 use Rattle.record.specs.Format.{encode}
 use Rattle.record.specs.Walk.{records-in, records-from}
 use Rattle.spec_hyparview.specs.Station.{Station, is-me, in-active, in-passive, in-view, passive-is-full}
@@ -58,11 +59,11 @@ asked-3 = refl
 
 -- there are no notices and no data
 heard-2 : hears definition (asking 0) first ≡ (two-peers, []) ∷ (expired, []) ∷ []
-unfolding followed asking shown hears cut-records records-in records-from
+unfolding followed asking shown is-output-kind hears cut-records records-in records-from
 heard-2 = refl
 
 heard-3 : hears definition (asking 1) first ≡ (two-peers, []) ∷ (expired, []) ∷ []
-unfolding followed asking shown hears cut-records records-in records-from
+unfolding followed asking shown is-output-kind hears cut-records records-in records-from
 heard-3 = refl
 
 pub observer-cannot-tell : Observer-can-tell → ⊥

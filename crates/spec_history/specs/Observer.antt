@@ -3,10 +3,10 @@
 use Prim.Native.Nat.{ℕ, _+_}
 use mathlib.Core.List.{List, [], _∷_}
 use mathlib.Core.Path.{_≡_}
-use lib.Dec.{leb}
 use Rattle.base_lists.specs.Lists.{choose, is, count}
 use Rattle.base_timing.specs.declared.Config.{Config}
 use Rattle.base_peer.specs.Data.{Data}
+use Rattle.record.specs.Kinds.{is-output-kind}
 use Rattle.record.specs.Walk.{kind-in}
 use Rattle.spec_hyparview.specs.Run.{Run}
 use Rattle.spec_hyparview.specs.Peers.{is-newcomer, add-passive}
@@ -15,10 +15,10 @@ use Rattle.spec_hyparview.specs.Handle.{new}
 use Rattle.spec_history.specs.Calls.{Call, Machine, state-of, output-of, state-after, definition}
 use Rattle.spec_history.specs.Outputs.{cut-records}
 
--- of an output's records those of kinds 9 to 12
+-- of an output's records those that stand in outputs alone
 unfoldable pub shown : List (List ℕ) → List (List ℕ)
 shown [] = []
-shown (b ∷ bs) = choose (leb 9 (kind-in b)) (b ∷ shown bs) (shown bs)
+shown (b ∷ bs) = choose (is-output-kind (kind-in b)) (b ∷ shown bs) (shown bs)
 
 -- of each call its event, and these records of its output
 unfoldable pub hears : {G S : Type 0} → Machine G S → List Call → S → List (List ℕ × List (List ℕ))

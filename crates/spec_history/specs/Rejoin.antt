@@ -8,6 +8,7 @@ use lib.ListN.{length}
 use lib.Dec.{eqb}
 use Rattle.base_lists.specs.Lists.{choose}
 use Rattle.base_peer.specs.Data.{Data}
+use Rattle.record.specs.Kinds.{DoMaintenance, kind-byte}
 use Rattle.record.specs.Format.{encode}
 use Rattle.record.specs.Walk.{kind-in}
 use Rattle.spec_hyparview.specs.Station.{Station}
@@ -21,7 +22,7 @@ pub record Tick : Type 0 where
   pub output : List ℕ
 
 unfoldable pub is-tick : {G S : Type 0} → Machine G S → Call → S → Bool
-is-tick m v s = eqb (kind-in (v .event)) 2 && eqb (code-of m v s) 0
+is-tick m v s = eqb (kind-in (v .event)) (kind-byte DoMaintenance) && eqb (code-of m v s) 0
 
 -- the accepted maintenance timers among the calls to a machine, in order; each state of it stands for a station
 unfoldable pub ticks : {G S : Type 0} → Machine G S → (S → Station) → List Call → S → List Tick

@@ -10,6 +10,7 @@ use lib.Dec.{eqb}
 use Rattle.base_lists.specs.Maps.{keys}
 use Rattle.base_lists.proofs.Count.{count-append}
 use Rattle.base_lists.proofs.Maps.{length-keys}
+use Rattle.record.specs.Kinds.{Quit, kind-byte}
 use Rattle.record.specs.Format.{Rec}
 use Rattle.spec_hyparview.specs.Station.{Station}
 use Rattle.spec_hyparview.specs.Run.{Run}
@@ -57,10 +58,10 @@ module _ (s : Station) (ok : station-ok s ≡ true) (ds : List ℕ) (room : ℕ)
   abbrev pub begun : Fixed
   begun = at-start (s .config) (s .me) (s .active) 0 (2 * length (s .active) + (s .config .«active_view_capacity» + 9)) (s .passes-alone) ds room e
 
-  pub ready : eqb (e .kind) 8 ≡ false → Ok begun calm (s .config .«active_view_capacity» + 9) 8192 512 (start s ds room)
+  pub ready : eqb (e .kind) (kind-byte Quit) ≡ false → Ok begun calm (s .config .«active_view_capacity» + 9) 8192 512 (start s ds room)
   ready f = start-plain _ ds room e w (pays-all _ e) (between-of s ok) f
 
-  pub ready-quit : eqb (e .kind) 8 ≡ true → Ok begun (quitting (s .active)) 0 8192 512 (start s ds room)
+  pub ready-quit : eqb (e .kind) (kind-byte Quit) ≡ true → Ok begun (quitting (s .active)) 0 8192 512 (start s ds room)
   ready-quit f = start-quit _ ds room e w (pays-all _ e) (between-of s ok) f
 
   pub finished : Ok begun calm 0 0 0 (steps e (start s ds room))

@@ -3,6 +3,7 @@
 use mathlib.Core.Path.{_≡_, refl, subst, _∙_}
 use mathlib.Core.Bool.{true}
 use mathlib.Core.List.{List, [], _∷_, _++_}
+use mathlib.Core.Option.{Option, none, some}
 use Prim.Native.Nat.{ℕ, zero, suc, _+_, _-_, _≤_, _<_}
 use native.Mathlib.Omega.{arith}
 use lib.ListN.{length, drop, replicate}
@@ -11,7 +12,10 @@ use lib.Dec.{eqb, ltb}
 use borrow.Author.Tests.{eqb-true}
 use Rattle.base_lists.proofs.Choice.{by-choice, choose-yes, and-left, and-right}
 use Rattle.base_util.specs.Chances.{sure-end, sure}
+use Rattle.record.specs.Kinds.{EventKind, Message, DoShuffle, DoMaintenance, PendingNeighborRequest, RetryJoin, PeerDisconnected, RequestJoin, UpdatePeerData, Quit}
 use Rattle.record.specs.Format.{Rec}
+use Rattle.record.proofs.ByKind.{by-kind}
+use Rattle.spec_hyparview.specs.Numbers.{message-number, kind-number}
 use Rattle.record.specs.Read.{Reading, read-event}
 use Rattle.spec_hyparview.specs.Station.{Station}
 use Rattle.spec_hyparview.specs.Rules.{all-under, station-ok}
@@ -58,8 +62,25 @@ rest-zero out room l =
     omega-sum : (n : ℕ) → n ≤ 8192 → n + (8192 - n) ≡ 8192
     omega-sum n l = omega arith
 
+few-messages : (a m : ℕ) (k : EventKind) → kind-number a m (some k) ≤ a + 9
+unfolding kind-number message-number
+few-messages a m Message =
+    by-choice (λ (w : ℕ). w ≤ a + 9) (eqb m 0) (λ _. omega arith) (λ _. by-choice (λ (w : ℕ). w ≤ a + 9) (eqb m 4) (λ _. omega arith) (λ _. omega arith))
+few-messages a m DoShuffle = omega arith
+few-messages a m DoMaintenance = omega arith
+few-messages a m PendingNeighborRequest = omega arith
+few-messages a m RetryJoin = omega arith
+few-messages a m PeerDisconnected = omega arith
+few-messages a m RequestJoin = omega arith
+few-messages a m UpdatePeerData = omega arith
+few-messages a m Quit = omega arith
+
+no-message : (a m : ℕ) → kind-number a m none ≤ a + 9
+unfolding kind-number
+no-message a m = omega arith
+
 pub pays-all : (a : ℕ) (e : Rec) → Pays a (a + 9) e
-pays-all a e = record { for-join = λ _ _. omega arith; for-neighbor = λ _ _. omega arith; for-message = λ _. omega arith; for-maintenance = λ _. omega arith; for-other = λ _ _. omega arith }
+pays-all a e = by-kind (λ (o : Option EventKind). kind-number a (e .message) o ≤ a + 9) (e .kind) (λ _. no-message a (e .message)) (λ k _. few-messages a (e .message) k)
 
 enough-refusal : (ds : List ℕ) (c room : ℕ) (s : Station) → (c ≡ 5 → sure ds < 512) → (c ≡ 9 → room < 8192) → c ≤ 10 → Enough ds room (refusal c s room)
 unfolding refusal zeros

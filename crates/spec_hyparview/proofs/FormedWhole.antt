@@ -1,21 +1,23 @@
 -- One whole event in form keeps `Formed`, and names whom it evicts.
 -- Assumes nothing.
-use mathlib.Core.Path.{sym, subst}
+use mathlib.Core.Path.{_≡_, refl, sym, _∙_, subst}
 use mathlib.Core.List.{List, [], _∷_}
-use Prim.Native.Nat.{ℕ, _≤_, _<_}
+use mathlib.Core.Option.{Option, some}
+use Prim.Native.Nat.{ℕ, _≤_}
 use native.Mathlib.Omega.{arith}
 use lib.ListN.{length}
-use lib.Dec.{eqb}
-use borrow.Author.Tests.{eqb-true, ne-eqb}
-use Rattle.base_lists.specs.Lists.{choose}
-use Rattle.base_lists.proofs.Choice.{by-choice, choose-no}
+use borrow.Author.Tests.{eq-eqb, ne-eqb}
+use Rattle.base_lists.proofs.Choice.{choose-yes, choose-no}
 use Rattle.base_lists.specs.Tests.{All}
 use Rattle.base_lists.proofs.Maps.{all-retain}
 use Rattle.base_peer.specs.Data.{Node, bytes-of}
+use Rattle.record.specs.Kinds.{EventKind, Message, DoShuffle, DoMaintenance, PendingNeighborRequest, RetryJoin, PeerDisconnected, RequestJoin, UpdatePeerData, Quit, kind-byte}
 use Rattle.record.specs.Format.{Rec}
+use Rattle.record.proofs.ByKind.{by-kind}
 use Rattle.record.specs.InForm.{InForm, header-in}
 use Rattle.spec_hyparview.specs.Station.{Station, data-peers}
 use Rattle.spec_hyparview.specs.Run.{Run}
+use Rattle.spec_hyparview.specs.Events.{handle-connection-closed}
 use Rattle.spec_hyparview.specs.Handle as H
 use Rattle.spec_hyparview.specs.Evictions.{by-message, evictions}
 use Rattle.spec_hyparview.proofs.Narrow.{no-peer, no-data, HeldData, Named, form-nodes, Peer, Narrow, at, change, change-held}
@@ -28,13 +30,6 @@ first-named : (ns : List Node) → All Named ns → Named (H.first-node ns)
 unfolding H.first-node All bytes-of
 first-named [] a = record { id = no-peer; held = no-data }
 first-named (n ∷ ns) a = a .0
-
--- an event of a kind below 5 is no closed connection
-other : (c k : ℕ) → c < 5 → {ds : List ℕ} (fs : List ℕ) {x y : Run} → Formed ds [] x → Formed ds (choose (eqb k 5) fs []) y → Formed ds (choose (eqb k 5) fs []) (choose (eqb k c) x y)
-other c k h {ds} fs {x} g j =
-    by-choice (Formed ds (choose (eqb k 5) fs [])) (eqb k c)
-    (λ e. subst (λ (l : List ℕ). Formed ds l x) (sym (choose-no (eqb k 5) fs [] (ne-eqb k 5 (λ z. omega (arith, eqb-true k c e))))) g)
-    (λ e. j)
 
 declined-narrow : (s : Station) → Narrow s → Narrow (H.forget-declined s)
 unfolding H.forget-declined
@@ -58,17 +53,31 @@ module _ (e : Rec) (f : InForm e) (few : length (e .nodes) ≤ 32) where
       (either-way _ (formed-on-shuffle-reply _ _ nodes-named k)
       (either-way _ (formed-on-neighbor _ _ _ (f .peer) data-held k) (formed-on-disconnect _ _ (f .peer) k)))))
 
-  formed-dispatch : {ds : List ℕ} {r : Run} → Formed ds [] r → Formed ds (evictions e r) (H.dispatch e r)
-  unfolding H.dispatch evictions
-  formed-dispatch k =
-      either-way _ (formed-message k)
-      (other 1 (e .kind) (omega arith) _ (formed-shuffle-timer k)
-      (other 2 (e .kind) (omega arith) _ (formed-maintenance-timer k)
-      (other 3 (e .kind) (omega arith) _ (formed-neighbor-timer _ _ k)
-      (other 4 (e .kind) (omega arith) _ (formed-retry-join _ _ (f .peer) k)
-      (either-way _ (formed-closed _ k)
-      (either _ (formed-handle-join _ (f .peer) k)
-      (either _ (formed-update _ data-held k) (formed-quit k))))))))
+  module _ {ds : List ℕ} {r : Run} (k : Formed ds [] r) where
+    -- a kind that evicts nobody
+    quiet : (j : ℕ) → e .kind ≡ j → (j ≡ kind-byte Message → ⊥) → (j ≡ kind-byte PeerDisconnected → ⊥) → {x : Run} → Formed ds [] x → Formed ds (evictions e r) x
+    unfolding evictions
+    quiet j z n₀ n₅ {x} =
+        subst (λ (l : List ℕ). Formed ds l x) (sym (choose-no _ _ _ (ne-eqb (e .kind) _ (λ y. n₀ (sym z ∙ y))) ∙ choose-no _ _ _ (ne-eqb (e .kind) _ (λ y. n₅ (sym z ∙ y)))))
+
+    formed-kind : (j : EventKind) → e .kind ≡ kind-byte j → Formed ds (evictions e r) (H.handle-kind (some j) e r)
+    unfolding H.handle-kind evictions
+    formed-kind Message z = subst (λ (l : List ℕ). Formed ds l (H.handle-message e r)) (sym (choose-yes _ _ _ (eq-eqb _ _ z))) (formed-message k)
+    formed-kind DoShuffle z = quiet _ z (λ y. omega arith) (λ y. omega arith) (formed-shuffle-timer k)
+    formed-kind DoMaintenance z = quiet _ z (λ y. omega arith) (λ y. omega arith) (formed-maintenance-timer k)
+    formed-kind PendingNeighborRequest z = quiet _ z (λ y. omega arith) (λ y. omega arith) (formed-neighbor-timer _ _ k)
+    formed-kind RetryJoin z = quiet _ z (λ y. omega arith) (λ y. omega arith) (formed-retry-join _ _ (f .peer) k)
+    formed-kind PeerDisconnected z =
+        subst (λ (l : List ℕ). Formed ds l (handle-connection-closed (e .peer) r)) (sym (choose-no _ _ _ (ne-eqb (e .kind) 0 (λ y. omega (arith, z, y))) ∙ choose-yes _ _ _ (eq-eqb _ _ z))) (formed-closed _ k)
+    formed-kind RequestJoin z = quiet _ z (λ y. omega arith) (λ y. omega arith) (formed-handle-join _ (f .peer) k)
+    formed-kind UpdatePeerData z = quiet _ z (λ y. omega arith) (λ y. omega arith) (formed-update _ data-held k)
+    formed-kind Quit z = quiet _ z (λ y. omega arith) (λ y. omega arith) (formed-quit k)
+
+    formed-dispatch : Formed ds (evictions e r) (H.dispatch e r)
+    unfolding H.dispatch
+    formed-dispatch =
+        by-kind (λ (o : Option EventKind). Formed ds (evictions e r) (H.handle-kind o e r)) (e .kind)
+        (λ n. quiet (e .kind) refl (n Message) (n PeerDisconnected) k) formed-kind
 
   pub formed-steps : {ds : List ℕ} {r : Run} → Formed ds [] r → Formed ds (evictions e r) (H.steps e r)
   unfolding H.steps H.first-timers H.note-scheduled

@@ -3,7 +3,7 @@
 use mathlib.Core.Path.{_≡_, refl, sym, ap, _∙_}
 use mathlib.Core.Bool.{Bool, true, false, not, _&&_, _||_}
 use mathlib.Core.List.{List, [], _∷_, _++_}
-use mathlib.Core.Option.{none, some}
+use mathlib.Core.Option.{Option, none, some}
 use Prim.Native.Nat.{ℕ, _-_, _≤_}
 use native.Mathlib.Omega.{arith}
 use lib.ListN.{length, take, drop, getD}
@@ -15,6 +15,8 @@ use Rattle.base_lists.proofs.Choice.{choose-yes, choose-no, split}
 use Rattle.base_lists.proofs.Count.{length-without, length-without-all}
 use Rattle.base_timing.specs.Timing.{join-retry-delay, maintenance-interval, next, backoff-due, delay}
 use Rattle.base_peer.specs.Data.{Data, Node}
+use Rattle.record.specs.Kinds.{EventKind, Message, DoShuffle, DoMaintenance, PendingNeighborRequest, RetryJoin, PeerDisconnected, RequestJoin, UpdatePeerData, Quit}
+use Rattle.record.proofs.ByKind.{by-kind}
 use Rattle.record.specs.Format.{Rec, size-by}
 use Rattle.base_util.specs.Chances.{pick-draws, pick, shuffle, shuffle-draws}
 use Rattle.spec_hyparview.specs.Station.{Station, Refill, recovery, is-me, in-active, in-passive, in-view, is-requested, is-alone, active-is-full, passive-is-full, is-short}
@@ -502,17 +504,21 @@ plays-message e =
     (either (eqb (e .message) 4) (plays-on-neighbor (e .peer) (H.first-data e) (H.is-high e))
     (plays-on-disconnect (e .peer) (H.says-alive e))))))
 
+plays-kind : (e : Rec) (k : EventKind) → Plays (H.handle-kind (some k) e)
+unfolding H.handle-kind
+plays-kind e Message = plays-message e
+plays-kind e DoShuffle = plays-shuffle-timer
+plays-kind e DoMaintenance = plays-maintenance-timer
+plays-kind e PendingNeighborRequest = plays-neighbor-timer (e .peer) (e .number)
+plays-kind e RetryJoin = plays-retry-join (e .peer) (e .number)
+plays-kind e PeerDisconnected = plays-closed (e .peer)
+plays-kind e RequestJoin = plays-handle-join (e .peer)
+plays-kind e UpdatePeerData = changes (E.update-own-data (H.first-data e))
+plays-kind e Quit = plays-quit
+
 plays-dispatch : (e : Rec) → Plays (H.dispatch e)
 unfolding H.dispatch
-plays-dispatch e =
-    either (eqb (e .kind) 0) (plays-message e)
-    (either (eqb (e .kind) 1) plays-shuffle-timer
-    (either (eqb (e .kind) 2) plays-maintenance-timer
-    (either (eqb (e .kind) 3) (plays-neighbor-timer (e .peer) (e .number))
-    (either (eqb (e .kind) 4) (plays-retry-join (e .peer) (e .number))
-    (either (eqb (e .kind) 5) (plays-closed (e .peer))
-    (either (eqb (e .kind) 6) (plays-handle-join (e .peer))
-    (either (eqb (e .kind) 7) (changes (E.update-own-data (H.first-data e))) plays-quit)))))))
+plays-dispatch e = by-kind (λ (o : Option EventKind). Plays (H.handle-kind o e)) (e .kind) (λ _. idle) (λ k _. plays-kind e k)
 
 plays-first-timers : Plays H.first-timers
 unfolding H.first-timers

@@ -1,4 +1,4 @@
--- What the reader promises of an event: data of at most 16 bytes, at most 32 nodes, a peer of 64 bits.
+-- What the reader promises of an event: a kind of event, data of at most 16 bytes, at most 32 nodes, a peer of 64 bits.
 -- Assumes nothing.
 use mathlib.Core.Path.{_≡_, sym, _∙_}
 use mathlib.Core.Bool.{true, _&&_}
@@ -12,6 +12,7 @@ use borrow.Author.Tests.{leb-true, ltb-true, ltb-false}
 use Rattle.base_lists.specs.Bytes.{read-le}
 use Rattle.base_lists.proofs.Numbers.{read-below}
 use Rattle.base_lists.proofs.Choice.{by-choice, choose-no, and-left, and-right}
+use Rattle.record.specs.Kinds.{is-event-kind}
 use Rattle.record.specs.Format.{Rec, peer-length, header-length, node-length}
 use Rattle.record.specs.InForm.{InForm}
 use Rattle.record.proofs.Back.{in-form-back}
@@ -25,7 +26,7 @@ use Rattle.spec_hyparview.specs.Rules.{all-under}
 use Rattle.spec_hyparview.proofs.Law.{Short, ShortNodes}
 
 pub record Readable (e : Rec) : Type 0 where
-  pub low : e .kind ≤ 8
+  pub known : is-event-kind (e .kind) ≡ true
   pub narrow : e .peer < peers-end
   pub shorts : ShortNodes (e .nodes)
   pub few : length (e .nodes) ≤ 32
@@ -61,10 +62,10 @@ short-nodes h b i (suc n) at e = (
 )
 
 -- a record of an event's kinds keeps them; its peer's width is that of the bytes, or of the type that it was read into
-pub readable : (b : List ℕ) → Rd.well-formed b ≡ true → header-of b .kind ≤ 8 → header-of b .nodes ≤ 32 → header-of b .peer < peers-end → Readable (rec-of b)
+pub readable : (b : List ℕ) → Rd.well-formed b ≡ true → is-event-kind (header-of b .kind) ≡ true → header-of b .nodes ≤ 32 → header-of b .peer < peers-end → Readable (rec-of b)
 unfolding rec-of-by Rd.well-formed-by
-readable b w low few narrow = record {
-  low = low;
+readable b w known few narrow = record {
+  known = known;
   narrow = narrow;
   shorts = short-nodes (header-of b) b 0 (header-of b .nodes) (header-length + node-length * header-of b .nodes)
       (and-right (eqb (header-of b .size) (length b)) _ (and-right (Rd.header-ok (header-of b)) _ (and-right (leb header-length (length b)) _ w)));
@@ -79,7 +80,7 @@ by-form b bytes X f g =
     (λ e. by-choice X (ltb 32 (getD b 3 0)) (λ i. f 4 (omega arith) (omega arith))
     (λ i. by-choice X (Rd.well-formed b && Rd.is-event (header-of b))
     (λ w. let y = and-left (Rd.well-formed b) _ w in
-    g (readable b y (leb-true (getD b 0 0) 8 (and-left (leb (getD b 0 0) 8) _ (and-right (Rd.well-formed b) _ w))) (let n = ltb-false 32 (getD b 3 0) i in omega (arith, n)) (narrow-peer b bytes))
+    g (readable b y (and-left (is-event-kind (getD b 0 0)) _ (and-right (Rd.well-formed b) _ w)) (let n = ltb-false 32 (getD b 3 0) i in omega (arith, n)) (narrow-peer b bytes))
     (in-form-back peer-length b (λ k. byte-at b k bytes) y))
     (λ w. f 3 (omega arith) (omega arith))))
 

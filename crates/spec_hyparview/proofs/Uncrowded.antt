@@ -17,6 +17,8 @@ use Rattle.base_lists.proofs.Count.{is-self, is-split, count-append, count-snoc
 use Rattle.base_lists.proofs.Maps.{length-keys}
 use Rattle.base_util.proofs.Chances.{pick-below}
 use Rattle.base_peer.specs.Data.{Data, Node}
+use Rattle.record.specs.Kinds.{EventKind, Message, DoShuffle, DoMaintenance, PendingNeighborRequest, RetryJoin, PeerDisconnected, RequestJoin, UpdatePeerData, Quit}
+use Rattle.record.proofs.ByKind.{by-kind}
 use Rattle.record.specs.Format.{Rec}
 use Rattle.record.specs.Read.{Reading, read-event}
 use Rattle.spec_hyparview.specs.Station.{Station, is-me, in-view, passive-is-full, data-peers}
@@ -242,19 +244,24 @@ module _ (e : Rec) (w : Readable e) {r : Run} (h : Fine [] 0 r) where
       (Fit.fit-either _ (Fit.fit-either _ j (Fit.fit-either _ (Fit.fit-start-refill _ _ j) (Fit.fit-refill _ j)))
       (Fit.fit-either _ (Fit.fit-on-neighbor _ _ _ (Fit.fit-less (omega arith) i)) (Fit.fit-on-disconnect _ _ (Fit.fit-less (omega arith) i))))))
 
+  fit-none : Fits 0 r
+  fit-none = Fit.fit-less (omega arith) (fine-fits h)
+
+  fit-kind : (k : EventKind) → Fits 0 (H.handle-kind (some k) e r)
+  unfolding H.handle-kind
+  fit-kind Message = fit-message
+  fit-kind DoShuffle = Fit.fit-shuffle-timer fit-none
+  fit-kind DoMaintenance = Fit.fit-maintenance-timer fit-none
+  fit-kind PendingNeighborRequest = Fit.fit-neighbor-timer _ _ fit-none
+  fit-kind RetryJoin = Fit.fit-retry-join _ _ fit-none
+  fit-kind PeerDisconnected = Fit.fit-closed _ (Fit.fit-less (omega arith) (fine-fits h))
+  fit-kind RequestJoin = Fit.fit-handle-join _ fit-none
+  fit-kind UpdatePeerData = Fit.fit-update _ fit-none
+  fit-kind Quit = Fit.fit-quit fit-none
+
   fit-dispatch : Fits 0 (H.dispatch e r)
   unfolding H.dispatch
-  fit-dispatch =
-      let i : Fits 1 r = Fit.fit-less (omega arith) (fine-fits h) in
-      let j : Fits 0 r = Fit.fit-less (omega arith) i in
-      Fit.fit-either _ fit-message
-      (Fit.fit-either _ (Fit.fit-shuffle-timer j)
-      (Fit.fit-either _ (Fit.fit-maintenance-timer j)
-      (Fit.fit-either _ (Fit.fit-neighbor-timer _ _ j)
-      (Fit.fit-either _ (Fit.fit-retry-join _ _ j)
-      (Fit.fit-either _ (Fit.fit-closed _ i)
-      (Fit.fit-either _ (Fit.fit-handle-join _ j)
-      (Fit.fit-either _ (Fit.fit-update _ j) (Fit.fit-quit j))))))))
+  fit-dispatch = by-kind (λ (o : Option EventKind). Fits 0 (H.handle-kind o e r)) (e .kind) (λ _. fit-none) (λ k _. fit-kind k)
 
   fit-steps : Fits 0 (steps e r)
   unfolding steps

@@ -1,23 +1,27 @@
 -- One whole event keeps the invariant: from a station that has it, `steps` leads to one that has it, within what the event may spend.
 -- Assumes nothing.
-use mathlib.Core.Path.{_≡_, refl, sym, ap, _∙_}
+use mathlib.Core.Path.{_≡_, refl, ap}
 use mathlib.Core.Bool.{true, false, not}
 use mathlib.Core.List.{List, [], _∷_}
-use Prim.Native.Nat.{ℕ, suc, _+_, _*_, _≤_}
+use mathlib.Core.Option.{Option, some}
+use Prim.Native.Nat.{ℕ, _+_, _*_, _≤_}
 use native.Mathlib.Omega.{arith}
 use lib.Dec.{eqb}
-use borrow.Author.Tests.{eqb-true, eqb-false, ne-eqb}
+use borrow.Author.Tests.{eq-eqb, eqb-true, eqb-false}
 use Rattle.base_lists.specs.Lists.{choose, count, subset}
 use Rattle.base_lists.specs.Maps.{keys}
-use Rattle.base_lists.proofs.Choice.{by-choice, split}
+use Rattle.base_lists.proofs.Choice.{by-choice, choose-yes, choose-no, split, clash}
 use Rattle.base_lists.proofs.Maps.{subset-retain}
 use Rattle.base_timing.specs.declared.Config.{Config}
 use Rattle.base_peer.specs.Data.{Node}
 use Rattle.base_util.specs.Chances.{sure}
+use Rattle.record.specs.Kinds.{EventKind, Message, DoShuffle, DoMaintenance, PendingNeighborRequest, RetryJoin, PeerDisconnected, RequestJoin, UpdatePeerData, Quit, kind-byte, event-kind}
 use Rattle.record.specs.Format.{Rec}
+use Rattle.record.proofs.ByKind.{by-kind}
 use Rattle.spec_hyparview.specs.Station.{Station, data-peers}
 use Rattle.spec_hyparview.specs.Run.{Run, guard, on}
 use Rattle.spec_hyparview.specs.Budgets.{bare, crowd, adding}
+use Rattle.spec_hyparview.specs.Numbers.{message-number, kind-number}
 use Rattle.spec_hyparview.specs.Events.{handle-quit}
 use Rattle.spec_hyparview.specs.Handle as H
 use Rattle.spec_hyparview.specs.Handle.{start, steps, dispatch}
@@ -33,12 +37,8 @@ use Rattle.spec_hyparview.proofs.Requested.{ok-handle-join, ok-closed, 
 use Rattle.spec_hyparview.proofs.Reading.{Readable}
 
 -- n messages are enough for the event e at active capacity a: demand 3's numbers
-pub record Pays (a n : ℕ) (e : Rec) : Type 0 where
-  pub for-join : eqb (e .kind) 0 ≡ true → eqb (e .message) 0 ≡ true → a + 2 ≤ n
-  pub for-neighbor : eqb (e .kind) 0 ≡ true → eqb (e .message) 4 ≡ true → 3 ≤ n
-  pub for-message : eqb (e .kind) 0 ≡ true → 1 ≤ n
-  pub for-maintenance : eqb (e .kind) 2 ≡ true → 9 ≤ n
-  pub for-other : eqb (e .kind) 7 ≡ false → eqb (e .kind) 8 ≡ false → 1 ≤ n
+abbrev pub Pays : ℕ → ℕ → Rec → Type 0
+Pays a n e = kind-number a (e .message) (event-kind (e .kind)) ≤ n
 
 short-first : (ns : List Node) → ShortNodes ns → Short (H.first-node ns .data-of)
 unfolding ShortNodes H.first-node Short
@@ -49,46 +49,51 @@ pub short : (e : Rec) → Readable e → Short (H.first-data e)
 unfolding H.first-data
 short e w = short-first (e .nodes) (w .shorts)
 
-away : (x i j : ℕ) → eqb x i ≡ true → (i ≡ j → ⊥) → eqb x j ≡ false
-away x i j t ne = ne-eqb x j (λ z. ne (sym (eqb-true x i t) ∙ z))
+some-message : (a m : ℕ) → 1 ≤ message-number a m
+unfolding message-number
+some-message a m = by-choice (λ (w : ℕ). 1 ≤ w) (eqb m 0) (λ _. omega arith) (λ _. by-choice (λ (w : ℕ). 1 ≤ w) (eqb m 4) (λ _. omega arith) (λ _. omega arith))
 
-module _ {q : Fixed} {n b d : ℕ} (e : Rec) (w : Readable e) (some : 1 ≤ q .config-of .«active_view_capacity») (p : Pays (q .config-of .«active_view_capacity») n e) (free : eqb (e .kind) 2 ≡ true → q .alone-kept ≡ false) where
-  pub ok-handle-message : {r : Run} → eqb (e .kind) 0 ≡ true → Ok q calm n (b + (crowd + 32 * adding)) (d + 70) r → Ok q calm 0 b d (H.handle-message e r)
-  unfolding H.handle-message
-  ok-handle-message z k =
-      let one : 1 ≤ n = p .for-message z in
-      ok-if (eqb (e .message) 0) (λ i. ok-on-join _ (w .narrow) _ (short e w) some (let l = p .for-join z i in ease (omega arith) (omega arith) (omega arith) k))
-      (λ _. ok-either _ (ok-on-forward-join _ _ _ (short-first (e .nodes) (w .shorts)) (ease (omega arith) (omega arith) (omega arith) k))
+abbrev capacity : Fixed → ℕ
+capacity q = q .config-of .«active_view_capacity»
+
+module _ {q : Fixed} {n b d : ℕ} (e : Rec) (w : Readable e) (some-slot : 1 ≤ capacity q) (free : eqb (e .kind) (kind-byte DoMaintenance) ≡ true → q .alone-kept ≡ false) where
+  pub ok-handle-message : {r : Run} → message-number (capacity q) (e .message) ≤ n → Ok q calm n (b + (crowd + 32 * adding)) (d + 70) r → Ok q calm 0 b d (H.handle-message e r)
+  unfolding H.handle-message message-number
+  ok-handle-message p k =
+      let one : 1 ≤ n = omega (arith, p, some-message (capacity q) (e .message)) in
+      ok-if (eqb (e .message) 0)
+      (λ i. let l : capacity q + 2 ≤ n = omega (arith, p, choose-yes {A = ℕ} (eqb (e .message) 0) (capacity q + 2) (choose (eqb (e .message) 4) 3 1) i) in
+      ok-on-join _ (w .narrow) _ (short e w) some-slot (ease (omega arith) (omega arith) (omega arith) k))
+      (λ z. ok-either _ (ok-on-forward-join _ _ _ (short-first (e .nodes) (w .shorts)) (ease (omega arith) (omega arith) (omega arith) k))
       (ok-either _ (ok-on-shuffle _ _ _ _ (w .shorts) (w .few) (ease (omega arith) (omega arith) (omega arith) k))
       (ok-either _ (ok-on-shuffle-reply _ _ (w .shorts) (w .few) (ease (omega arith) (omega arith) (omega arith) k))
-      (ok-if (eqb (e .message) 4) (λ i. ok-on-neighbor _ (w .narrow) _ (short e w) _ (let l = p .for-neighbor z i in ease (omega arith) (omega arith) (omega arith) k))
+      (ok-if (eqb (e .message) 4)
+      (λ i. let l : 3 ≤ n = omega (arith, p, choose-no {A = ℕ} (eqb (e .message) 0) (capacity q + 2) (choose (eqb (e .message) 4) 3 1) z, choose-yes {A = ℕ} (eqb (e .message) 4) 3 1 i) in
+      ok-on-neighbor _ (w .narrow) _ (short e w) _ (ease (omega arith) (omega arith) (omega arith) k))
       (λ _. ok-on-disconnect _ _ (ease (omega arith) (omega arith) (omega arith) k))))))
 
-  pub ok-dispatch : {r : Run} → eqb (e .kind) 8 ≡ false → Ok q calm n (b + (crowd + 32 * adding)) (d + 70) r → Ok q calm 0 b d (dispatch e r)
-  unfolding dispatch
-  ok-dispatch {r} k8 k =
-      let other : (i : ℕ) → eqb (e .kind) i ≡ true → (i ≡ 7 → ⊥) → 1 ≤ n = (λ i t ne. p .for-other (away (e .kind) i 7 t ne) k8) in
-      ok-if (eqb (e .kind) 0) (λ i. ok-handle-message i k)
-      (λ k0. ok-if (eqb (e .kind) 1) (λ i. let l = other 1 i (λ z. omega arith) in ok-shuffle-timer (ease (omega arith) (omega arith) (omega arith) k))
-      (λ k1. ok-if (eqb (e .kind) 2) (λ i. let l = p .for-maintenance i in ok-maintenance-timer (free i) (ease (omega arith) (omega arith) (omega arith) k))
-      (λ k2. ok-if (eqb (e .kind) 3) (λ i. let l = other 3 i (λ z. omega arith) in ok-neighbor-timer _ _ (ease (omega arith) (omega arith) (omega arith) k))
-      (λ k3. ok-if (eqb (e .kind) 4) (λ i. let l = other 4 i (λ z. omega arith) in ok-retry-join _ _ (ease (omega arith) (omega arith) (omega arith) k))
-      (λ k4. ok-if (eqb (e .kind) 5) (λ i. let l = other 5 i (λ z. omega arith) in ok-closed _ (ease (omega arith) (omega arith) (omega arith) k))
-      (λ k5. ok-if (eqb (e .kind) 6) (λ i. let l = other 6 i (λ z. omega arith) in ok-handle-join _ (w .narrow) (ease (omega arith) (omega arith) (omega arith) k))
-      (λ k6. ok-if (eqb (e .kind) 7) (λ i. ok-update _ (short e w) (ease (omega arith) (omega arith) (omega arith) k))
-      (λ k7. absurd (none-left k0 k1 k2 k3 k4 k5 k6 k7)))))))))
-    where
-      more : (i : ℕ) → eqb (e .kind) i ≡ false → i ≤ e .kind → suc i ≤ e .kind
-      more i f l = let ne : e .kind ≡ i → ⊥ = eqb-false (e .kind) i f in omega (arith, ne)
+  module _ {r : Run} (no-quit : eqb (e .kind) (kind-byte Quit) ≡ false) (k : Ok q calm n (b + (crowd + 32 * adding)) (d + 70) r) where
+    ok-kind : (j : EventKind) → e .kind ≡ kind-byte j → kind-number (capacity q) (e .message) (some j) ≤ n → Ok q calm 0 b d (H.handle-kind (some j) e r)
+    unfolding H.handle-kind kind-number
+    ok-kind Message z l = ok-handle-message l k
+    ok-kind DoShuffle z l = ok-shuffle-timer (ease l (omega arith) (omega arith) k)
+    ok-kind DoMaintenance z l = ok-maintenance-timer (free (eq-eqb _ _ z)) (ease l (omega arith) (omega arith) k)
+    ok-kind PendingNeighborRequest z l = ok-neighbor-timer _ _ (ease l (omega arith) (omega arith) k)
+    ok-kind RetryJoin z l = ok-retry-join _ _ (ease l (omega arith) (omega arith) k)
+    ok-kind PeerDisconnected z l = ok-closed _ (ease l (omega arith) (omega arith) k)
+    ok-kind RequestJoin z l = ok-handle-join _ (w .narrow) (ease l (omega arith) (omega arith) k)
+    ok-kind UpdatePeerData z l = ok-update _ (short e w) (ease (omega arith) (omega arith) (omega arith) k)
+    ok-kind Quit z l = clash _ (eq-eqb _ _ z) no-quit
 
-      none-left : eqb (e .kind) 0 ≡ false → eqb (e .kind) 1 ≡ false → eqb (e .kind) 2 ≡ false → eqb (e .kind) 3 ≡ false → eqb (e .kind) 4 ≡ false → eqb (e .kind) 5 ≡ false → eqb (e .kind) 6 ≡ false → eqb (e .kind) 7 ≡ false → ⊥
-      none-left k0 k1 k2 k3 k4 k5 k6 k7 =
-          let l : 9 ≤ e .kind = more 8 k8 (more 7 k7 (more 6 k6 (more 5 k5 (more 4 k4 (more 3 k3 (more 2 k2 (more 1 k1 (more 0 k0 (omega arith))))))))) in
-          omega (arith, l, w .low)
+    pub ok-dispatch : Pays (capacity q) n e → Ok q calm 0 b d (dispatch e r)
+    unfolding dispatch
+    ok-dispatch p =
+        by-kind (λ (o : Option EventKind). kind-number (capacity q) (e .message) o ≤ n → Ok q calm 0 b d (H.handle-kind o e r)) (e .kind)
+        (λ _ _. ease (omega arith) (omega arith) (omega arith) k) ok-kind p
 
-pub quit-dispatch : (e : Rec) → eqb (e .kind) 8 ≡ true → (r : Run) → dispatch e r ≡ handle-quit r
+pub quit-dispatch : (e : Rec) → eqb (e .kind) (kind-byte Quit) ≡ true → (r : Run) → dispatch e r ≡ handle-quit r
 unfolding dispatch choose
-quit-dispatch e f r = rw (eqb-true (e .kind) 8 f)
+quit-dispatch e f r = rw (eqb-true (e .kind) (kind-byte Quit) f)
 
 pub ok-first-timers : {q : Fixed} {t : Terms} {m b d : ℕ} {r : Run} → Ok q t m (b + 2 * bare) (d + 1) r → Ok q t m b d (H.first-timers r)
 unfolding H.first-timers H.note-scheduled
@@ -132,19 +137,19 @@ pub record Between (c : Config) (me : ℕ) (up : List ℕ) (sent allowed : ℕ) 
 -- an event e starts: n more messages are allowed, and a Quit starts with none up
 abbrev pub at-start : Config → ℕ → List ℕ → ℕ → ℕ → ℕ → List ℕ → ℕ → Rec → Fixed
 at-start c me up sent allowed alone draws room e = record {
-  up-of = choose (eqb (e .kind) 8) [] up;
+  up-of = choose (eqb (e .kind) (kind-byte Quit)) [] up;
   sent-of = sent;
   allowed = allowed;
   config-of = c;
   self-of = me;
   alone-of = alone;
-  alone-kept = not (eqb (e .kind) 2);
+  alone-kept = not (eqb (e .kind) (kind-byte DoMaintenance));
   draws-lent = draws;
   room-lent = room;
 }
 
 module _ {c : Config} {me : ℕ} {up : List ℕ} {sent allowed : ℕ} {s : Station} (n : ℕ) (ds : List ℕ) (room : ℕ) (e : Rec) (w : Readable e) (p : Pays (c .«active_view_capacity») n e) (h : Between c me up sent allowed s) where
-  pub start-plain : eqb (e .kind) 8 ≡ false → Ok (at-start c me up sent (allowed + n) (s .passes-alone) ds room e) calm n 8192 512 (start s ds room)
+  pub start-plain : eqb (e .kind) (kind-byte Quit) ≡ false → Ok (at-start c me up sent (allowed + n) (s .passes-alone) ds room e) calm n 8192 512 (start s ds room)
   unfolding up-after sent-after spell choose sure
   start-plain f = record {
     good = λ z. record {
@@ -164,7 +169,7 @@ module _ {c : Config} {me : ℕ} {up : List ℕ} {sent allowed : ℕ} {s : Stati
     codes = record { lent = refl; within = omega arith; space = refl; five = λ z. absurd (omega arith); roomy = λ z. absurd (omega arith); nine = λ z. absurd (omega arith); low = λ z. absurd (omega arith); high = omega arith };
   }
 
-  pub start-quit : eqb (e .kind) 8 ≡ true → Ok (at-start c me up sent (allowed + n) (s .passes-alone) ds room e) (quitting (s .active)) 0 8192 512 (start s ds room)
+  pub start-quit : eqb (e .kind) (kind-byte Quit) ≡ true → Ok (at-start c me up sent (allowed + n) (s .passes-alone) ds room e) (quitting (s .active)) 0 8192 512 (start s ds room)
   unfolding up-after sent-after spell choose count sure
   start-quit f = record {
     good = λ z. record {
@@ -190,7 +195,7 @@ module _ {c : Config} {me : ℕ} {up : List ℕ} {sent allowed : ℕ} {s : Stati
   pub ok-steps : Ok (at-start c me up sent (allowed + n) (s .passes-alone) ds room e) calm 0 0 0 (steps e (start s ds room))
   unfolding steps
   ok-steps =
-      ok-forget-declined (ok-first-timers (split (eqb (e .kind) 8)
+      ok-forget-declined (ok-first-timers (split (eqb (e .kind) (kind-byte Quit))
       (λ f. rw (quit-dispatch e f (start s ds room))
       (ok-handle-quit (omega (arith, h .core .seats .slots-left, h .core .still .ranges .few-slots)) (ease (omega arith) (omega arith) (omega arith) (start-quit f))))
-      (λ f. ok-dispatch e w some-slot p (λ z. rw z) f (ease (omega arith) (omega arith) (omega arith) (start-plain f)))))
+      (λ f. ok-dispatch e w some-slot (λ z. rw z) f (ease (omega arith) (omega arith) (omega arith) (start-plain f)) p)))

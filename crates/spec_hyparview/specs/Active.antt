@@ -8,6 +8,7 @@ use Rattle.base_lists.specs.Lists.{choose, index-of, swap-remove, insert, renew
 use Rattle.base_lists.specs.Maps.{lookup}
 use Rattle.base_timing.specs.Timing.{max-recent-neighbors}
 use Rattle.base_peer.specs.Data.{Data}
+use Rattle.record.specs.Kinds.{NeighborUp, NeighborDown, output-byte}
 use Rattle.spec_hyparview.specs.Station.{Station, automatic, recovery, is-me, in-active, is-alone, active-is-full}
 use Rattle.spec_hyparview.specs.Setters.{set-active, set-passes-short, set-recent, set-alive, set-refused, set-refill}
 use Rattle.spec_hyparview.specs.Run.{Run, on, emit, one-of, draw-one-of, notice}
@@ -28,7 +29,7 @@ unfoldable pub swap-active : ℕ → Station → Station
 swap-active i s = set-active (swap-remove i (s .active)) s
 
 unfoldable pub drop-active : ℕ → Run → Run
-drop-active i r = emit (notice 10 (getD (r .station .active) i 0)) (on (swap-active i) r)
+drop-active i r = emit (notice (output-byte NeighborDown) (getD (r .station .active) i 0)) (on (swap-active i) r)
 
 -- into the passive view; the data is taken out and put in again, so it is announced again
 unfoldable pub demote : ℕ → Run → Run
@@ -92,7 +93,7 @@ unfoldable pub gain-neighbor : Station → Station
 gain-neighbor s = set-passes-short 0 (set-refill (unless-recovery (s .refill) automatic) s)
 
 unfoldable pub enter-active : ℕ → Run → Run
-enter-active p r = on gain-neighbor (emit (notice 9 p) (on (move-in p) r))
+enter-active p r = on gain-neighbor (emit (notice (output-byte NeighborUp) p) (on (move-in p) r))
 
 -- add_active_unchecked
 unfoldable pub add-active-unchecked : ℕ → Bool → Bool → Run → Run

@@ -9,6 +9,7 @@ use Rattle.base_lists.specs.Lists.{choose, remove, without, renew}
 use Rattle.base_lists.specs.Maps.{cut, put}
 use Rattle.base_timing.specs.Timing.{max-bootstrap-peers, join-retry-delay}
 use Rattle.base_peer.specs.Data.{Data}
+use Rattle.record.specs.Kinds.{RetryJoin, kind-byte}
 use Rattle.spec_hyparview.specs.Station.{Station, is-me, in-active, is-requested, top-counter}
 use Rattle.spec_hyparview.specs.Setters.{set-own-data, set-active, set-passive, set-bootstrap, set-requests, set-joins, set-next-join, set-peer-data, set-alive, set-refused}
 use Rattle.spec_hyparview.specs.Run.{Run, on, emit, require, timer}
@@ -47,7 +48,7 @@ open-join p r = on (note-join p) (require 10 (join-counts (r .station)) r)
 
 -- a Join may be lost without a sign, so it is sent once more after a while, whatever neighbours there are by then
 unfoldable pub await-join : ℕ → Run → Run
-await-join p r = emit (timer 4 p join-retry-delay (r .station .next-join)) (open-join p r)
+await-join p r = emit (timer (kind-byte RetryJoin) p join-retry-delay (r .station .next-join)) (open-join p r)
 
 -- the station itself gets a Join, but no retry
 unfoldable pub join-other : ℕ → Run → Run

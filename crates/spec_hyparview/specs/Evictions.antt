@@ -10,6 +10,7 @@ use lib.Dec.{eqb}
 use Rattle.base_lists.specs.Lists.{choose, index-of}
 use Rattle.base_lists.specs.Maps.{lookup}
 use Rattle.base_peer.specs.Data.{Data, Node}
+use Rattle.record.specs.Kinds.{Message, PeerDisconnected, Evicted, kind-byte, output-byte}
 use Rattle.record.specs.Format.{Rec}
 use Rattle.record.specs.Read.{rec-of}
 use Rattle.spec_hyparview.specs.Station.{Station, draws-end, is-me, in-active, is-alone, active-is-full}
@@ -98,13 +99,13 @@ by-message e r =
 -- an event's evictions, in order: only a message and a closed connection have any
 unfoldable pub evictions : Rec → Run → List ℕ
 evictions e r =
-    choose (eqb (e .kind) 0) (by-message e r)
-    (choose (eqb (e .kind) 5) (by-removing (e .peer) connection-closed (on (drop-request (e .peer)) r)) [])
+    choose (eqb (e .kind) (kind-byte Message)) (by-message e r)
+    (choose (eqb (e .kind) (kind-byte PeerDisconnected)) (by-removing (e .peer) connection-closed (on (drop-request (e .peer)) r)) [])
 
 -- the peers that records of kind 12 name
 unfoldable pub named : List Rec → List ℕ
 named [] = []
-named (e ∷ es) = choose (eqb (e .kind) 12) (e .peer ∷ named es) (named es)
+named (e ∷ es) = choose (eqb (e .kind) (output-byte Evicted)) (e .peer ∷ named es) (named es)
 
 -- an output whose records of kind 12 name these peers, in this order
 pub record Names (ps out : List ℕ) : Type 0 where

@@ -3,7 +3,7 @@
 use Prim.Native.Nat.{ℕ, _-_, _%_, min}
 use mathlib.Core.Bool.{Bool, true, false, _&&_}
 use mathlib.Core.List.{List, [], _∷_, _++_}
-use mathlib.Core.Option.{none}
+use mathlib.Core.Option.{Option, none, some}
 use lib.ListN.{length, replicate}
 use lib.Dec.{eqb}
 use Rattle.base_lists.specs.Lists.{choose}
@@ -11,6 +11,7 @@ use Rattle.base_lists.specs.Maps.{retain}
 use Rattle.base_timing.specs.Timing.{in-range, initial-shuffle-interval}
 use Rattle.base_timing.specs.declared.Config.{Config}
 use Rattle.base_peer.specs.Data.{Data, Node}
+use Rattle.record.specs.Kinds.{EventKind, Message, DoShuffle, DoMaintenance, PendingNeighborRequest, RetryJoin, PeerDisconnected, RequestJoin, UpdatePeerData, Quit, event-kind}
 use Rattle.record.specs.Format.{Rec}
 use Rattle.record.specs.Read.{Reading, refused, event, read-event}
 use Rattle.spec_hyparview.specs.Station.{Station, automatic, data-peers}
@@ -98,18 +99,22 @@ handle-message e r =
     (choose (eqb (e .message) 4) (on-neighbor (e .peer) (first-data e) (is-high e) r)
     (on-disconnect (e .peer) (says-alive e) r)))))
 
--- the `match` of State::handle
+-- the `match` of State::handle; the reader takes no event of another kind
+unfoldable pub handle-kind : Option EventKind → Rec → Run → Run
+handle-kind none e r = r
+handle-kind (some Message) e r = handle-message e r
+handle-kind (some DoShuffle) e r = handle-shuffle-timer r
+handle-kind (some DoMaintenance) e r = handle-maintenance-timer r
+handle-kind (some PendingNeighborRequest) e r = handle-pending-neighbor-timer (e .peer) (e .number) r
+handle-kind (some RetryJoin) e r = retry-join (e .peer) (e .number) r
+handle-kind (some PeerDisconnected) e r = handle-connection-closed (e .peer) r
+handle-kind (some RequestJoin) e r = handle-join (e .peer) r
+handle-kind (some UpdatePeerData) e r = on (update-own-data (first-data e)) r
+handle-kind (some Quit) e r = handle-quit r
+
 unfoldable pub dispatch : Rec → Run → Run
-dispatch e r =
-    choose (eqb (e .kind) 0) (handle-message e r)
-    (choose (eqb (e .kind) 1) (handle-shuffle-timer r)
-    (choose (eqb (e .kind) 2) (handle-maintenance-timer r)
-    (choose (eqb (e .kind) 3) (handle-pending-neighbor-timer (e .peer) (e .number) r)
-    (choose (eqb (e .kind) 4) (retry-join (e .peer) (e .number) r)
-    (choose (eqb (e .kind) 5) (handle-connection-closed (e .peer) r)
-    (choose (eqb (e .kind) 6) (handle-join (e .peer) r)
-    (choose (eqb (e .kind) 7) (on (update-own-data (first-data e)) r)
-    (handle-quit r))))))))
+unfolding event-kind handle-kind
+dispatch e r = handle-kind (event-kind (e .kind)) e r
 
 unfoldable pub note-scheduled : Station → Station
 note-scheduled s = set-scheduled true s

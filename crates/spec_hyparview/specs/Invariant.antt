@@ -13,6 +13,7 @@ use Rattle.base_timing.specs.declared.Config.{Config}
 use Rattle.base_timing.specs.Timing.{most-active, most-passive, longest-walk, most-shuffle-active, most-shuffle-passive, longest-time}
 use Rattle.base_util.specs.Chances.{sure}
 use Rattle.base_peer.specs.Data.{Data}
+use Rattle.record.specs.Kinds.{Message, NeighborUp, NeighborDown, kind-byte, output-byte}
 use Rattle.record.specs.Format.{Rec, size, encode}
 use Rattle.spec_hyparview.specs.Station.{Station, Refill, automatic, requests-left, recovery, top-counter, top-passes, peers-end}
 use Rattle.spec_hyparview.specs.Run.{Run}
@@ -92,7 +93,7 @@ spell (e ∷ es) = spell es ++ encode e
 
 -- the peers that are up after the record e
 unfoldable pub note : Rec → List ℕ → List ℕ
-note e u = choose (eqb (e .kind) 9) (push-new (e .peer) u) (choose (eqb (e .kind) 10) (without (e .peer) u) u)
+note e u = choose (eqb (e .kind) (output-byte NeighborUp)) (push-new (e .peer) u) (choose (eqb (e .kind) (output-byte NeighborDown)) (without (e .peer) u) u)
 
 unfoldable pub up-after : List Rec → List ℕ → List ℕ
 up-after [] u = u
@@ -101,12 +102,12 @@ up-after (e ∷ es) u = note e (up-after es u)
 -- the messages sent, n before the records
 unfoldable pub sent-after : List Rec → ℕ → ℕ
 sent-after [] n = n
-sent-after (e ∷ es) n = choose (eqb (e .kind) 0) (sent-after es n + 1) (sent-after es n)
+sent-after (e ∷ es) n = choose (eqb (e .kind) (kind-byte Message)) (sent-after es n + 1) (sent-after es n)
 
 -- a record whose bytes say what it is: its length fits two bytes, and a notice's peer eight
 pub record Sound (e : Rec) : Type 0 where
   pub small : size e < 65536
-  pub narrow : 9 ≤ e .kind → e .kind ≤ 10 → e .peer < peers-end
+  pub narrow : output-byte NeighborUp ≤ e .kind → e .kind ≤ output-byte NeighborDown → e .peer < peers-end
 
 pub data AllSound : List Rec → Type 0 where
   no-more : AllSound []

@@ -2,6 +2,7 @@ pub mod Station
 pub mod Setters
 pub mod Run
 pub mod Budgets
+pub mod Numbers
 pub mod Peers
 pub mod Sending
 pub mod Refill

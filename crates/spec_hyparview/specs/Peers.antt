@@ -9,6 +9,7 @@ use lib.Dec.{ltb}
 use Rattle.base_lists.specs.Lists.{choose, null, mem, shift-remove, remove, without}
 use Rattle.base_lists.specs.Maps.{has, lookup, cut, put}
 use Rattle.base_peer.specs.Data.{Data, Node, holds}
+use Rattle.record.specs.Kinds.{Evicted, output-byte}
 use Rattle.spec_hyparview.specs.Station.{Station, is-me, in-view, passive-is-full, max-peer-data}
 use Rattle.spec_hyparview.specs.Setters.{set-passive, set-peer-data, set-alive}
 use Rattle.spec_hyparview.specs.Run.{Run, on, emit, require, one-of, draw-one-of, picked, notice, data-notice}
@@ -81,7 +82,7 @@ evict r = choose (must-evict (r .station)) (evict-at (one-of (length (r .station
 -- S-2: "an output record of kind 12 .. carries that peer"
 unfoldable pub tell-evicted : Option ℕ → Run → Run
 tell-evicted none r = r
-tell-evicted (some p) r = emit (notice 12 p) r
+tell-evicted (some p) r = emit (notice (output-byte Evicted) p) r
 
 -- "stands right after the eviction"
 unfoldable pub make-room : Run → Run

@@ -8,6 +8,7 @@ use lib.Dec.{ltb}
 use Rattle.base_lists.specs.Lists.{choose}
 use Rattle.base_lists.specs.Maps.{put}
 use Rattle.base_peer.specs.Data.{Data}
+use Rattle.record.specs.Kinds.{PendingNeighborRequest, kind-byte}
 use Rattle.record.specs.Format.{Rec}
 use Rattle.spec_hyparview.specs.Station.{Station, is-requested, max-requests, top-counter}
 use Rattle.spec_hyparview.specs.Setters.{set-requests, set-next-request}
@@ -73,7 +74,7 @@ neighbor-to d high p = message 4 p (flag high) 0 0 (node 0 d ∷ [])
 
 unfoldable pub tell-request : ℕ → Bool → ℕ → Run → Run
 tell-request p high id r =
-    emit (timer 3 p (r .station .config .«neighbor_request_timeout») id) (emit (neighbor-to (r .station .own-data) high p) r)
+    emit (timer (kind-byte PendingNeighborRequest) p (r .station .config .«neighbor_request_timeout») id) (emit (neighbor-to (r .station .own-data) high p) r)
 
 -- send_neighbor: nothing is sent while a Neighbor to p is open; codes 10, 6, 9 in this order. A Neighbor is a request as well as the answer to one, and
 -- which of the two one received is, is told by whether one to its sender is open (`on-neighbor`). So an answer is noted as open too, though nobody will

@@ -10,6 +10,7 @@ use Rattle.base_lists.specs.Lists.{choose, null, without, without-all, renew}
 use Rattle.base_lists.specs.Maps.{lookup}
 use Rattle.base_timing.specs.Timing.{max-recent-neighbors, maintenance-interval, backoff-due, delay}
 use Rattle.base_peer.specs.Data.{Node}
+use Rattle.record.specs.Kinds.{DoShuffle, DoMaintenance, kind-byte}
 use Rattle.spec_hyparview.specs.Station.{Station, recovery, is-alone, is-short, is-recovery, top-passes}
 use Rattle.spec_hyparview.specs.Setters.{set-next-interval, set-passes-alone, set-passes-short, set-recent}
 use Rattle.spec_hyparview.specs.Run.{Run, on, emit, draw, require, drawn, draw-one-of, picked, shuffled, draw-shuffle, emit-all, node, message, timer, peer-infos}
@@ -50,7 +51,7 @@ double-interval s = set-next-interval (min (2 * s .next-interval) (s .config .«
 
 -- the delay is of the interval before it was doubled
 unfoldable pub schedule-shuffle : Run → Run
-schedule-shuffle r = emit (timer 1 0 (delay (r .station .next-interval) (drawn r)) 0) (draw 1 (on double-interval r))
+schedule-shuffle r = emit (timer (kind-byte DoShuffle) 0 (delay (r .station .next-interval) (drawn r)) 0) (draw 1 (on double-interval r))
 
 -- handle_shuffle_timer
 
@@ -165,7 +166,7 @@ unfoldable pub maintain : Run → Run
 maintain r = choose (knows-none (r .station)) (pass-alone r) (pass-known (on not-alone r))
 
 unfoldable pub schedule-maintenance : Run → Run
-schedule-maintenance r = emit (timer 2 0 maintenance-interval 0) r
+schedule-maintenance r = emit (timer (kind-byte DoMaintenance) 0 maintenance-interval 0) r
 
 -- handle_maintenance_timer
 unfoldable pub handle-maintenance-timer : Run → Run

@@ -1,9 +1,10 @@
 -- Which step an event is: the header that the code looks at is that of the record that the definition looks at.
 -- Assumes nothing.
-use Prim.Native.Nat.{ℕ, zero, suc, _+_, _%_, _≤_, _<_}
+use Prim.Native.Nat.{ℕ, zero, suc, _%_, _≤_, _<_}
 use mathlib.Core.Path.{_≡_, refl, sym, ap, _∙_}
 use mathlib.Core.Bool.{Bool, true, false, not, _||_}
 use mathlib.Core.List.{List}
+use mathlib.Core.Option.{Option}
 use native.Mathlib.Omega.{arith}
 use native.Mathlib.Nat.{not-suc-le-zero}
 use lib.ListN.{length}
@@ -14,6 +15,8 @@ use Rattle.base_lists.proofs.Choice.{choose-yes, choose-no, split, and-left, an
 use Rattle.base_peer.specs.declared.PeerInfo.{PeerInfo}
 use Rattle.base_peer.specs.Data.{Node}
 use Rattle.base_peer.specs.Held.{data-in, node-in}
+use Rattle.record.specs.Kinds.{EventKind, Message, DoShuffle, DoMaintenance, PendingNeighborRequest, RetryJoin, PeerDisconnected, RequestJoin, UpdatePeerData, Quit, kind-byte}
+use Rattle.record.proofs.ByKind.{by-kind}
 use Rattle.record.specs.declared.Header.{Header}
 use Rattle.record.specs.Format.{header-length}
 use Rattle.record.specs.Read as R
@@ -22,8 +25,7 @@ use Rattle.spec_hyparview.specs.Run.{Run, on}
 use Rattle.spec_hyparview.specs.Messages.{on-join, on-forward-join, on-shuffle, on-shuffle-reply, on-neighbor, on-disconnect}
 use Rattle.spec_hyparview.specs.Timers.{handle-shuffle-timer, handle-maintenance-timer, handle-pending-neighbor-timer, retry-join}
 use Rattle.spec_hyparview.specs.Events.{handle-connection-closed, handle-join, update-own-data, handle-quit}
-use Rattle.spec_hyparview.specs.Handle.{first-node, first-data, is-high, says-alive, handle-message, dispatch}
-use Rattle.spec_hyparview.proofs.Whole.{quit-dispatch}
+use Rattle.spec_hyparview.specs.Handle.{first-node, first-data, is-high, says-alive, handle-message, handle-kind, dispatch}
 use Rattle.hyparview_state.specs.Work.{Held, Does}
 use Rattle.hyparview_state.proofs.Bridge.{by}
 use Rattle.step_dispatch.specs.Begun.{Headed}
@@ -39,15 +41,6 @@ only-four (suc (suc (suc zero))) l n₀ n₁ n₂ n₃ n₅ = absurd (n₃ refl)
 only-four (suc (suc (suc (suc zero)))) l n₀ n₁ n₂ n₃ n₅ = refl
 only-four (suc (suc (suc (suc (suc zero))))) l n₀ n₁ n₂ n₃ n₅ = absurd (n₅ refl)
 only-four (suc (suc (suc (suc (suc (suc m)))))) l n₀ n₁ n₂ n₃ n₅ = absurd (past-five m l)
-
-above : (n k : ℕ) → n ≤ k → (k ≡ n → ⊥) → n + 1 ≤ k
-above n k l m = omega (arith, l, m)
-
-at-eight : (k : ℕ) → 8 ≤ k → k ≤ 8 → k ≡ 8
-at-eight k l m = omega (arith, l, m)
-
-only-eight : (k : ℕ) → 4 < k → (k ≡ 5 → ⊥) → (k ≡ 6 → ⊥) → (k ≡ 7 → ⊥) → k ≤ 8 → k ≡ 8
-only-eight k n₄ n₅ n₆ n₇ l = at-eight k (above 7 k (above 6 k (above 5 k n₄ n₅) n₆) n₇) l
 
 -- b is Join, ForwardJoin or Neighbor, with its one node
 pub record Single (b : List ℕ) (h : Header) : Type 0 where
@@ -189,47 +182,65 @@ module _ (b : List ℕ) (h : Header) (u : Single b h) (g : Run) (r : Held) (ds o
       ∙ (choose-no _ _ _ (no-message b h v 3 (λ z. omega (arith, z, q))) ∙ (choose-yes _ _ _ (is-message b h v 4 q)
       ∙ (λ i. on-neighbor (peer-of b h v i) (data-is i) ((ap (λ (y : ℕ). eqb y 1) (flags-of b h v) ∙ sym e) i) g)))))) k
 
--- ---- the nine kinds
+-- ---- the kinds
 
 module _ (b : List ℕ) (h : Header) (v : Headed b h) (g : Run) (r : Held) (ds o : List ℕ) where
-  by-kind : (k : ℕ) → h .kind ≡ k → R.rec-of b .kind ≡ k
-  by-kind k q = kind-of b h v ∙ q
+  same-kind : (k : EventKind) → h .kind ≡ kind-byte k → R.rec-of b .kind ≡ kind-byte k
+  same-kind k q = kind-of b h v ∙ q
 
-  pub kind-message : h .kind ≡ 0 → Does r ds o (handle-message (R.rec-of b) g) → Does r ds o (dispatch (R.rec-of b) g)
+  pub kind-message : h .kind ≡ kind-byte Message → Does r ds o (handle-message (R.rec-of b) g) → Does r ds o (dispatch (R.rec-of b) g)
   unfolding dispatch choose
-  kind-message q k = by _ (rw (by-kind 0 q)) k
+  kind-message q k = by _ (rw (same-kind Message q)) k
 
-  pub kind-shuffle : h .kind ≡ 1 → Does r ds o (handle-shuffle-timer g) → Does r ds o (dispatch (R.rec-of b) g)
+  pub kind-shuffle : h .kind ≡ kind-byte DoShuffle → Does r ds o (handle-shuffle-timer g) → Does r ds o (dispatch (R.rec-of b) g)
   unfolding dispatch choose
-  kind-shuffle q k = by _ (rw (by-kind 1 q)) k
+  kind-shuffle q k = by _ (rw (same-kind DoShuffle q)) k
 
-  pub kind-maintenance : h .kind ≡ 2 → Does r ds o (handle-maintenance-timer g) → Does r ds o (dispatch (R.rec-of b) g)
+  pub kind-maintenance : h .kind ≡ kind-byte DoMaintenance → Does r ds o (handle-maintenance-timer g) → Does r ds o (dispatch (R.rec-of b) g)
   unfolding dispatch choose
-  kind-maintenance q k = by _ (rw (by-kind 2 q)) k
+  kind-maintenance q k = by _ (rw (same-kind DoMaintenance q)) k
 
-  pub kind-request : h .kind ≡ 3 → Does r ds o (handle-pending-neighbor-timer (h .peer) (h .number) g) → Does r ds o (dispatch (R.rec-of b) g)
+  pub kind-request : h .kind ≡ kind-byte PendingNeighborRequest → Does r ds o (handle-pending-neighbor-timer (h .peer) (h .number) g) → Does r ds o (dispatch (R.rec-of b) g)
   unfolding dispatch choose
-  kind-request q k = by _ (rw (by-kind 3 q) (λ i. handle-pending-neighbor-timer (peer-of b h v i) (number-of b h v i) g)) k
+  kind-request q k = by _ (rw (same-kind PendingNeighborRequest q) (λ i. handle-pending-neighbor-timer (peer-of b h v i) (number-of b h v i) g)) k
 
-  pub kind-retry : (h .kind ≡ 0 → ⊥) → h .kind ≤ 4 → (h .kind ≡ 1 → ⊥) → (h .kind ≡ 2 → ⊥) → (h .kind ≡ 3 → ⊥) → Does r ds o (retry-join (h .peer) (h .number) g) → Does r ds o (dispatch (R.rec-of b) g)
+  pub kind-retry : (h .kind ≡ kind-byte Message → ⊥) → h .kind ≤ kind-byte RetryJoin → (h .kind ≡ kind-byte DoShuffle → ⊥) → (h .kind ≡ kind-byte DoMaintenance → ⊥) → (h .kind ≡ kind-byte PendingNeighborRequest → ⊥) → Does r ds o (retry-join (h .peer) (h .number) g) → Does r ds o (dispatch (R.rec-of b) g)
   unfolding dispatch choose
-  kind-retry n₀ l n₁ n₂ n₃ k = by _ (rw (by-kind 4 (only-four (h .kind) (omega (arith, l)) n₀ n₁ n₂ n₃ (λ e. omega (arith, l, e)))) (λ i. retry-join (peer-of b h v i) (number-of b h v i) g)) k
+  kind-retry n₀ l n₁ n₂ n₃ k = by _ (rw (same-kind RetryJoin (only-four (h .kind) (omega (arith, l)) n₀ n₁ n₂ n₃ (λ e. omega (arith, l, e)))) (λ i. retry-join (peer-of b h v i) (number-of b h v i) g)) k
 
-  pub kind-closed : h .kind ≡ 5 → Does r ds o (handle-connection-closed (h .peer) g) → Does r ds o (dispatch (R.rec-of b) g)
+  pub kind-closed : h .kind ≡ kind-byte PeerDisconnected → Does r ds o (handle-connection-closed (h .peer) g) → Does r ds o (dispatch (R.rec-of b) g)
   unfolding dispatch choose
-  kind-closed q k = by _ (rw (by-kind 5 q) (λ i. handle-connection-closed (peer-of b h v i) g)) k
+  kind-closed q k = by _ (rw (same-kind PeerDisconnected q) (λ i. handle-connection-closed (peer-of b h v i) g)) k
 
-  pub kind-join : h .kind ≡ 6 → Does r ds o (handle-join (h .peer) g) → Does r ds o (dispatch (R.rec-of b) g)
+  pub kind-join : h .kind ≡ kind-byte RequestJoin → Does r ds o (handle-join (h .peer) g) → Does r ds o (dispatch (R.rec-of b) g)
   unfolding dispatch choose
-  kind-join q k = by _ (rw (by-kind 6 q) (λ i. handle-join (peer-of b h v i) g)) k
+  kind-join q k = by _ (rw (same-kind RequestJoin q) (λ i. handle-join (peer-of b h v i) g)) k
 
-  pub kind-data : (n : PeerInfo) → HoldsNode n (R.node-at b 0) → h .kind ≡ 7 → Does r ds o (on (update-own-data (data-in (n .data))) g) → Does r ds o (dispatch (R.rec-of b) g)
+  pub kind-data : (n : PeerInfo) → HoldsNode n (R.node-at b 0) → h .kind ≡ kind-byte UpdatePeerData → Does r ds o (on (update-own-data (data-in (n .data))) g) → Does r ds o (dispatch (R.rec-of b) g)
   unfolding dispatch choose R.rec-of-by first-data node-in
   kind-data n x q k =
       let e : first-node (R.nodes-of b 0 (R.header-of b .nodes)) ≡ node-in n = first-of b (R.header-of b .nodes) (omega (arith, one-node b h v q)) ∙ sym (x .holds) in
-      by _ (rw (by-kind 7 q) (λ i. on (update-own-data (e i .data-of)) g)) k
+      by _ (rw (same-kind UpdatePeerData q) (λ i. on (update-own-data (e i .data-of)) g)) k
 
-  pub kind-quit : 4 < h .kind → (h .kind ≡ 5 → ⊥) → (h .kind ≡ 6 → ⊥) → (h .kind ≡ 7 → ⊥) → h .kind ≤ 8
-      → Does r ds o (handle-quit g) → Does r ds o (dispatch (R.rec-of b) g)
-  kind-quit n₄ n₅ n₆ n₇ l k =
-      by _ (quit-dispatch (R.rec-of b) (eq-eqb (R.rec-of b .kind) 8 (kind-of b h v ∙ only-eight (h .kind) n₄ n₅ n₆ n₇ l)) g) k
+  pub kind-quit : h .kind ≡ kind-byte Quit → Does r ds o (handle-quit g) → Does r ds o (dispatch (R.rec-of b) g)
+  unfolding dispatch choose
+  kind-quit q k = by _ (rw (same-kind Quit q)) k
+
+  -- past the timers and none of these
+  no-kind : kind-byte RetryJoin < h .kind → (h .kind ≡ kind-byte PeerDisconnected → ⊥) → (h .kind ≡ kind-byte RequestJoin → ⊥) → (h .kind ≡ kind-byte UpdatePeerData → ⊥) → (h .kind ≡ kind-byte Quit → ⊥)
+      → (k : EventKind) → h .kind ≡ kind-byte k → ⊥
+  no-kind l n₅ n₆ n₇ n₈ Message z = omega (arith, l, z)
+  no-kind l n₅ n₆ n₇ n₈ DoShuffle z = omega (arith, l, z)
+  no-kind l n₅ n₆ n₇ n₈ DoMaintenance z = omega (arith, l, z)
+  no-kind l n₅ n₆ n₇ n₈ PendingNeighborRequest z = omega (arith, l, z)
+  no-kind l n₅ n₆ n₇ n₈ RetryJoin z = omega (arith, l, z)
+  no-kind l n₅ n₆ n₇ n₈ PeerDisconnected z = n₅ z
+  no-kind l n₅ n₆ n₇ n₈ RequestJoin z = n₆ z
+  no-kind l n₅ n₆ n₇ n₈ UpdatePeerData z = n₇ z
+  no-kind l n₅ n₆ n₇ n₈ Quit z = n₈ z
+
+  pub kind-none : kind-byte RetryJoin < h .kind → (h .kind ≡ kind-byte PeerDisconnected → ⊥) → (h .kind ≡ kind-byte RequestJoin → ⊥) → (h .kind ≡ kind-byte UpdatePeerData → ⊥) → (h .kind ≡ kind-byte Quit → ⊥)
+      → Does r ds o g → Does r ds o (dispatch (R.rec-of b) g)
+  unfolding dispatch
+  kind-none l n₅ n₆ n₇ n₈ k =
+      by-kind (λ (x : Option EventKind). Does r ds o (handle-kind x (R.rec-of b) g)) (R.rec-of b .kind) (λ _. k) (λ j z. absurd (no-kind l n₅ n₆ n₇ n₈ j (sym (kind-of b h v) ∙ z)))

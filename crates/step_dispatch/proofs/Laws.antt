@@ -1,6 +1,7 @@
 -- Laws of what an event starts from, of its first timers and of the steps in a row.
 -- Assumes nothing.
 use Prim.Native.Nat.{ℕ, _≤_}
+use Rattle.record.specs.Kinds.{Quit, kind-byte}
 use Rattle.step_dispatch.specs.Begun.{Opens}
 use Rattle.spec_hyparview.proofs.Keeping.{ease}
 use Rattle.spec_hyparview.specs.Budgets.{arriving}
@@ -41,10 +42,10 @@ is-yes false z = sym z
 pub between-less : (b c d e : ℕ) (g : Run) → c ≤ b → e ≤ d → Between 0 b d g → Between 0 c e g
 between-less b c d e g l m k = record { fixed = k .fixed; messages = k .messages; bytes = k .bytes; draws = k .draws; ok = ease (omega arith) (omega arith) (omega arith) (k .ok) }
 
-pub opens-between : (x : ℕ) (g : Run) (k : ℕ) → x ≡ k → (k ≡ 8 → ⊥) → Opens x g → Between 0 arriving 40 g
+pub opens-between : (x : ℕ) (g : Run) (k : ℕ) → x ≡ k → (k ≡ kind-byte Quit → ⊥) → Opens x g → Between 0 arriving 40 g
 opens-between x g k e n o = o .between (λ z. n (sym e ∙ z))
 
-pub opens-join : (x : ℕ) (w : Work) (xs ds out : List ℕ) (k : ℕ) → x ≡ k → (k ≡ 8 → ⊥) → Opens x (run (work-of w xs) ds out) → KnownJoins (w .code) (unpack xs)
+pub opens-join : (x : ℕ) (w : Work) (xs ds out : List ℕ) (k : ℕ) → x ≡ k → (k ≡ kind-byte Quit → ⊥) → Opens x (run (work-of w xs) ds out) → KnownJoins (w .code) (unpack xs)
 unfolding run-of
 opens-join x w xs ds out k e n o =
     let b = opens-between x (run (work-of w xs) ds out) k e n o in

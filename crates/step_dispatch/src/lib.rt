@@ -6,7 +6,6 @@ use record::Kind;
 use record::Message;
 use work::Work;
 ghost use mathlib.Core.Path.{_≡_};
-ghost use Prim.Native.Nat.{_≤_};
 ghost use lib.ListN.{length};
 ghost use Rattle.record.specs.Read.{rec-of};
 ghost use Rattle.spec_hyparview.specs.Budgets.{arriving};
@@ -14,7 +13,7 @@ ghost use Rattle.spec_hyparview.specs.Handle.{handle-message, dispatch, steps};
 ghost use Rattle.hyparview_state.specs.Layout.{words};
 ghost use Rattle.hyparview_state.specs.Work.{Given, Meets, Makes};
 ghost use Rattle.step_messages.specs.Between.{Between};
-ghost use Rattle.step_dispatch.specs.Begun.{Headed, Opens};
+ghost use Rattle.step_dispatch.specs.Begun.{Headed, IsMessage, Opens};
 
 // One of the six messages.
 fn handle_message(
@@ -28,7 +27,7 @@ fn handle_message(
     requires { ⌜ length (now st) ≡ words ⌝ }
     requires { ⌜ Given w st draws out ⌝ }
     requires { ⌜ Headed (now b) h ⌝ }
-    requires { ⌜ h .kind ≡ 0 ⌝ }
+    requires { ⌜ IsMessage h ⌝ }
     requires { ⌜ Meets (Between 0 arriving 40) w st draws out ⌝ }
     ensures { λ r. ⌜ Makes (handle-message (rec-of (now (b .entry)))) w r st draws out ⌝ }
 {
@@ -61,7 +60,6 @@ fn dispatch(w: Work, st: &mut [u64], draws: &[u32], out: &mut [u8], b: &[u8], h:
     requires { ⌜ length (now st) ≡ words ⌝ }
     requires { ⌜ Given w st draws out ⌝ }
     requires { ⌜ Headed (now b) h ⌝ }
-    requires { ⌜ h .kind ≤ 8 ⌝ }
     requires { ⌜ Meets (Opens (h .kind)) w st draws out ⌝ }
     ensures { λ r. ⌜ Makes (dispatch (rec-of (now (b .entry)))) w r st draws out ⌝ }
 {
@@ -92,7 +90,11 @@ fn dispatch(w: Work, st: &mut [u64], draws: &[u32], out: &mut [u8], b: &[u8], h:
         let d = n.data;
         return step_events::update_own_data(w, st, d);
     }
-    step_events::handle_quit(w, st, draws, out)
+    if h.kind == Kind::QUIT {
+        return step_events::handle_quit(w, st, draws, out);
+    }
+    // No event has another kind.
+    w
 }
 
 // The steps of one event.
@@ -100,7 +102,6 @@ pub fn steps(w: Work, st: &mut [u64], draws: &[u32], out: &mut [u8], b: &[u8], h
     requires { ⌜ length (now st) ≡ words ⌝ }
     requires { ⌜ Given w st draws out ⌝ }
     requires { ⌜ Headed (now b) h ⌝ }
-    requires { ⌜ h .kind ≤ 8 ⌝ }
     requires { ⌜ Meets (Opens (h .kind)) w st draws out ⌝ }
     ensures { λ r. ⌜ Makes (steps (rec-of (now (b .entry)))) w r st draws out ⌝ }
 {

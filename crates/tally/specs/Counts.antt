@@ -6,6 +6,7 @@ use mathlib.Core.List.{List}
 use lib.ListN.{getD}
 use lib.Dec.{ltb, eqb}
 use Rattle.base_lists.specs.Lists.{choose}
+use Rattle.record.specs.Kinds.{Message, kind-byte}
 use Rattle.record.specs.Walk.{kind-in, message-in, records-in, walk}
 use Rattle.tally.specs.declared.Tally.{Tally}
 
@@ -30,7 +31,7 @@ raise-one m t = record {
 
 -- a record of kind k with m in byte 1
 unfoldable pub enter : ℕ → ℕ → Tally → Tally
-enter k m t = choose (eqb k 0) (raise-one m t) t
+enter k m t = choose (eqb k (kind-byte Message)) (raise-one m t) t
 
 -- the records of an output, taken in order
 unfoldable pub raise-records : List ℕ → Tally → Tally

@@ -6,6 +6,7 @@ use mathlib.Core.List.{List}
 use lib.Dec.{ltb, eqb}
 use Rattle.base_lists.specs.Lists.{choose}
 use Rattle.base_lists.specs.Tests.{every}
+use Rattle.record.specs.Kinds.{Message, kind-byte}
 use Rattle.record.specs.Walk.{kind-in, message-in, records-in}
 use Rattle.tally.specs.declared.Tally.{Tally}
 
@@ -15,7 +16,7 @@ total t = t .join + t .«forward_join» + t .shuffle + t .«shuffle_reply» + t 
 
 -- whether a record that is a message has one of the six values in byte 1
 unfoldable pub has-count : List ℕ → Bool
-has-count b = choose (eqb (kind-in b) 0) (ltb (message-in b) 6) true
+has-count b = choose (eqb (kind-in b) (kind-byte Message)) (ltb (message-in b) 6) true
 
 -- whether every message in an output has one of the six values in byte 1
 unfoldable pub all-have : List ℕ → Bool

@@ -10,6 +10,7 @@ use lib.Dec.{leb, eqb}
 use Rattle.base_lists.specs.Lists.{choose}
 use Rattle.base_util.specs.Chances.{pick-draws, pick, shuffle, shuffle-draws}
 use Rattle.base_peer.specs.Data.{Data, Node}
+use Rattle.record.specs.Kinds.{Message, PeerData, kind-byte, output-byte}
 use Rattle.record.specs.Format.{Rec, size, encode}
 
 pub record Run (S : Type 0) : Type 0 where
@@ -92,13 +93,13 @@ node p d = record { id = p; data-of = d }
 
 -- io.send: message m with its flags, origin, ttl and nodes
 abbrev pub message : ℕ → ℕ → ℕ → ℕ → ℕ → List Node → Rec
-message m to f o t ns = record { kind = 0; message = m; flags = f; peer = to; second = o; ttl = t; number = 0; nodes = ns }
+message m to f o t ns = record { kind = kind-byte Message; message = m; flags = f; peer = to; second = o; ttl = t; number = 0; nodes = ns }
 
--- io.schedule: timer k (1 DoShuffle, 2 DoMaintenance, 3 PendingNeighborRequest, 4 RetryJoin) after so many milliseconds
+-- io.schedule: timer k, one of the four, after so many milliseconds
 abbrev pub timer : ℕ → ℕ → ℕ → ℕ → Rec
 timer k p delay n = record { kind = k; message = 0; flags = 0; peer = p; second = delay; ttl = 0; number = n; nodes = [] }
 
--- io.emit: NeighborUp (9) or NeighborDown (10); by document 02, S-2, the peer that the passive view evicted (12)
+-- io.emit: NeighborUp or NeighborDown; by document 02, S-2, the peer that the passive view evicted
 abbrev pub notice : ℕ → ℕ → Rec
 notice k p = timer k p 0 0
 
@@ -108,7 +109,7 @@ node-notice k p n = record { kind = k; message = 0; flags = 0; peer = p; second 
 
 -- io.peer_data
 abbrev pub data-notice : ℕ → List ℕ → Rec
-data-notice p b = node-notice 11 p (node 0 (some b))
+data-notice p b = node-notice (output-byte PeerData) p (node 0 (some b))
 
 -- a flag as a number
 unfoldable pub flag : Bool → ℕ

@@ -106,7 +106,7 @@ steps-requires : tie.Need-steps-requires
 steps-requires c κs =
     let told = copy-words-to-known-told2 (steps-arg2-to-copy-words c) in
     let v = read-as told in
-    (long told, (starts _ _ _ (ok told), (v .headed, (v .low, opens _ _ _ _ _ (ok told) v (narrow told)))))
+    (long told, (starts _ _ _ (ok told), (v .headed, opens _ _ _ _ _ (ok told) v (narrow told))))
 
 slice-aggregate-copy-words-2 : tie.Need-slice-aggregate-copy-words-2
 slice-aggregate-copy-words-2 c = search needs

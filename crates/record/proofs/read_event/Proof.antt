@@ -15,6 +15,9 @@ returns-2 c = event-crowded _ (search needs) (search needs)
 read-header-requires : tie.Need-read-header-requires
 read-header-requires c κs = search needs
 
+is-event-kind-requires : tie.Need-is-event-kind-requires
+is-event-kind-requires c κs = search needs
+
 is-timer-requires : tie.Need-is-timer-requires
 is-timer-requires c κs = search needs
 
@@ -35,6 +38,7 @@ read-event-spec =
     shared-slice-read-if2
     returns-2
     read-header-requires
+    is-event-kind-requires
     is-timer-requires
     well-formed-requires
     returns-3

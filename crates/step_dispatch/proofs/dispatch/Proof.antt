@@ -1,6 +1,5 @@
 use Rattle.step_dispatch.specs.Begun.{Headed, Opens}
 use Rattle.hyparview_state.specs.Work.{work-of, run, Fine}
-use Prim.Native.Nat.{_≤_}
 use Rattle.hyparview_state.specs.Layout.{words}
 use lib.ListN.{length}
 use mathlib.Core.Path.{_≡_}
@@ -9,7 +8,7 @@ use native.Mathlib.Omega.{arith}
 use Rattle.hyparview_state.proofs.Bridge.{still, then, then-tell}
 use Rattle.step_messages.proofs.Between.{between-calm}
 use Rattle.step_sending.proofs.Told.{room-of}
-use Rattle.step_dispatch.proofs.Arms.{one-node, kind-message, kind-shuffle, kind-maintenance, kind-request, kind-retry, kind-closed, kind-join, kind-data, kind-quit}
+use Rattle.step_dispatch.proofs.Arms.{one-node, kind-message, kind-shuffle, kind-maintenance, kind-request, kind-retry, kind-closed, kind-join, kind-data, kind-quit, kind-none}
 use Rattle.step_dispatch.proofs.Laws.{between-less, opens-between, opens-join}
 use Rattle.step_dispatch.proofs.dispatch.Statement.{statement}
 use Rattle.step_dispatch.proofs.dispatch.Tie as tie
@@ -24,11 +23,8 @@ fine c = c .pre .1 .0
 headed : (c : tie.Start) → Headed (c .args .b .now) (c .args .h)
 headed c = c .pre .1 .1 .0
 
-low : (c : tie.Start) → c .args .h .kind ≤ 8
-low c = c .pre .1 .1 .1 .0
-
 opens : (c : tie.Start) → Opens (c .args .h .kind) (run (work-of (c .args .w) (c .args .st .now)) (c .args .draws .now) (c .args .out .now))
-opens c = c .pre .1 .1 .1 .1
+opens c = c .pre .1 .1 .1
 
 -- The ways back, from a place to an earlier one.
 abbrev else1-to-start : tie.Else1 → tie.Start
@@ -61,8 +57,11 @@ then7-to-start c = else1-to-start (c .before .before .before .before .before .be
 abbrev then8-to-start : tie.Then8 → tie.Start
 then8-to-start c = else1-to-start (c .before .before .before .before .before .before .before .before)
 
-abbrev else8-to-else2 : tie.Else8 → tie.Else2
-else8-to-else2 c = c .before .before .before .before .before .before
+abbrev then9-to-start : tie.Then9 → tie.Start
+then9-to-start c = else1-to-start (c .before .before .before .before .before .before .before .before .before .before)
+
+abbrev else9-to-else2 : tie.Else9 → tie.Else2
+else9-to-else2 c = c .before .before .before .before .before .before .before .before
 
 handle-message-requires : tie.Need-handle-message-requires
 handle-message-requires c κs =
@@ -221,7 +220,7 @@ returns-8 c =
 
 handle-quit-requires : tie.Need-handle-quit-requires
 handle-quit-requires c κs =
-    let start = else1-to-start (else8-to-else2 (c .before .before) .before .before) in
+    let start = then9-to-start (c .before .before) in
     (long start, fine start)
 
 same-length-16 : tie.Need-same-length-16
@@ -233,13 +232,18 @@ same-length-17 c = search needs
 returns-9 : tie.Need-returns-9
 returns-9 c =
     let at-handle-quit = c .before .before .before .before in
-    let at-if8 = at-handle-quit .before .before .before in
+    let at-if9 = at-handle-quit .before .before .before in
+    let start = then9-to-start at-if9 in
+    kind-quit _ _ (headed start) _ _ _ _ (at-if9 .if9 .taken) (at-handle-quit .handle-quit .ensures)
+
+returns-10 : tie.Need-returns-10
+returns-10 c =
+    let at-if8 = c .before .before in
     let at-if7 = at-if8 .before .before in
     let at-if6 = at-if7 .before .before in
-    let at-if2 = else8-to-else2 at-if8 in
+    let at-if2 = else9-to-else2 c in
     let start = else1-to-start (at-if2 .before .before) in
-    kind-quit _ _ (headed start) _ _ _ _ (at-if2 .if2 .left) (at-if6 .if6 .left) (at-if7 .if7 .left) (at-if8 .if8 .left) (low start)
-    (at-handle-quit .handle-quit .ensures)
+    kind-none _ _ (headed start) _ _ _ _ (at-if2 .if2 .left) (at-if6 .if6 .left) (at-if7 .if7 .left) (at-if8 .if8 .left) (c .if9 .left) (still (fine start))
 
 pub dispatch-spec : {M : Type 1} → statement M
 dispatch-spec =
@@ -280,4 +284,5 @@ dispatch-spec =
     handle-quit-requires
     same-length-16
     same-length-17
-    returns-9)
+    returns-9
+    returns-10)
