@@ -13,8 +13,8 @@ struct hyparview_shuffle_range {
     uint64_t latest;
 };
 
-/* The earliest and the latest due time of the k-th shuffle of a station whose first event of kinds 0 to 8 comes from
- * `earliest` to `latest`, in ms, if each shuffle timer fires when due. Both ends are 0, and only then, where `earliest` is above
+/* The earliest and the latest due time of the k-th shuffle of a station whose first accepted event of kinds 0 to 8 comes from
+ * `earliest` to `latest`, in ms, if each timer fires when due. Both ends are 0, and only then, where `earliest` is above
  * `latest`, `latest` is above 2^63, k is not from 1 to 1,000, or a setting is out of range. */
 struct hyparview_shuffle_range hyparview_shuffle_times(uint64_t earliest, uint64_t latest, struct hyparview_config config,
                                                        uint32_t k);

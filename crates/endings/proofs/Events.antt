@@ -1,8 +1,8 @@
 -- The events as they are written, and the state after one.
 -- Assumes nothing.
-use Prim.Native.Nat.{ℕ, suc, _+_, _-_, _≤_, _<_}
+use Prim.Native.Nat.{ℕ, zero, suc, _+_, _-_, _≤_, _<_}
 use mathlib.Core.Path.{_≡_, refl, sym, ap, subst, _∙_}
-use mathlib.Core.Bool.{true, false}
+use mathlib.Core.Bool.{Bool, true, false}
 use mathlib.Core.List.{List, [], _∷_, _++_}
 use mathlib.Core.Option.{none}
 use native.Mathlib.Omega.{arith}
@@ -12,7 +12,7 @@ use lib.Dec.{ltb, leb}
 use borrow.Author.Tests.{ltb-true, ltb-false, leb-true}
 use Rattle.base_lists.specs.Bytes.{overwrite}
 use Rattle.base_lists.specs.Tests.{every}
-use Rattle.base_lists.proofs.Choice.{split, choose-yes}
+use Rattle.base_lists.proofs.Choice.{split, choose-yes, and-left, and-right}
 use Rattle.base_lists.proofs.Stored.{take-stored}
 use Rattle.base_timing.specs.Timing.{default}
 use Rattle.base_timing.specs.declared.Config.{Config}
@@ -31,7 +31,7 @@ use Rattle.hyparview.specs.declared.HandledState.{HandledState}
 use Rattle.hyparview.specs.Made.{MadeWords, lent, pack-made}
 use Rattle.hyparview.specs.Handled.{Outcome, handled}
 use Rattle.spec_demand.specs.Program.{program-outcome, made-state}
-use Rattle.endings.specs.Events.{no-data-node, event, of-peer, maintenance, quit, events, event-at, tiny, draws, output, passes-at}
+use Rattle.endings.specs.Events.{no-data-node, event, of-peer, maintenance, quit, events, event-at, tiny, draws, output}
 use Rattle.endings.specs.Steps.{first-state, played}
 
 -- ---- the writers
@@ -127,6 +127,13 @@ begins d m e w = ap (λ (x : MadeWords). record { words = x .words }) (w ∙ ap 
 abbrev longest : ℕ
 longest = header-length + node-length
 
+-- what every item of a list passes, and what stands for one past its end, the item at any place passes
+passes-at : (t : Rec → Bool) (d : Rec) → t d ≡ true → (es : List Rec) → every t es ≡ true → (i : ℕ) → t (getD es i d) ≡ true
+unfolding every
+passes-at t d e [] h i = e
+passes-at t d e (x ∷ xs) h zero = and-left (t x) _ h
+passes-at t d e (x ∷ xs) h (suc i) = passes-at t d e xs (and-right (t x) _ h) i
+
 small : (i : ℕ) → leb (0 + size (event-at i)) longest ≡ true
 unfolding event-at events of-peer size-by datas bytes-of every
 small i = passes-at (λ e. leb (0 + size e) longest) quit refl events refl i
@@ -158,7 +165,7 @@ module _ (i : ℕ) (out : List ℕ) (long : length out ≡ longest) (w : Written
       let k : 0 + length (encode (event-at i)) ≡ n = omega (arith, whole, reaches n e) in
       rw (← k, stored) (take-stored out 0 (encode (event-at i)) (omega (arith, whole, leb-true (0 + size (event-at i)) (length out) fitting)))
 
-pub plays : (i : ℕ) (s : State) (b : List ℕ) (n : ℕ) (a : HandledState) (o : List ℕ) → take n b ≡ encode (event-at i) → record { code = a .code; draws = a .draws; words = a .state .words; output = o } ≡ handled (s .words) (take n b) (replicate 512 0) (length {A = ℕ} (replicate 8192 0)) → a .state ≡ played i s
+pub plays : (i : ℕ) (s : State) (b : List ℕ) (n : ℕ) (a : HandledState) (o : List ℕ) → take n b ≡ encode (event-at i) → record { code = a .code; draws = a .draws; words = a .state .words; output = o } ≡ handled (s .words) (take n b) (replicate 512 0) (length {A = ℕ} (replicate 8192 0)) → a .state ≡ played (encode (event-at i)) s
 unfolding played program-outcome draws output
 plays i s b n a o e q = ap (λ (x : Outcome). record { words = x .words }) (q ∙ ap (λ (l : List ℕ). handled (s .words) l (replicate 512 0) (length {A = ℕ} (replicate 8192 0))) e)
 

@@ -1,3 +1,4 @@
+pub mod Different
 pub mod Events
 pub mod Counts
 pub mod States

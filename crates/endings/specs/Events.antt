@@ -1,22 +1,17 @@
 -- Document 02, S-13: the sixteen events in the order of the request, and the station that they are brought to.
 -- Assumes nothing.
-use Prim.Native.Nat.{ℕ, zero, suc}
-use mathlib.Core.Path.{_≡_, refl}
-use mathlib.Core.Bool.{Bool, true}
-use mathlib.Core.List.{List, [], _∷_, _++_}
+use Prim.Native.Nat.{ℕ}
+use mathlib.Core.List.{List, [], _∷_, _++_, map}
 use mathlib.Core.Option.{none}
 use lib.ListN.{getD, replicate}
-use Rattle.base_lists.specs.Bytes.{le}
-use Rattle.base_lists.specs.Tests.{every}
-use Rattle.base_lists.proofs.Choice.{and-left, and-right}
 use Rattle.base_timing.specs.Timing.{default}
 use Rattle.base_timing.specs.declared.Config.{Config}
-use Rattle.base_peer.specs.Data.{Node, bytes-of}
-use Rattle.record.specs.Format.{Rec, present, offset, entry-by, entries-by, datas, size-by, header-by, encode, encode-by}
+use Rattle.base_peer.specs.Data.{Node}
+use Rattle.record.specs.Format.{Rec, encode}
+use Rattle.spec_stories.specs.Histories.{Event, History}
 use Rattle.spec_hyparview.specs.Station.{Station}
-use Rattle.spec_hyparview.specs.Rules.{all-under}
 use Rattle.spec_hyparview.specs.Handle.{new}
-use Rattle.spec_history.specs.Calls.{Call}
+use Rattle.spec_history.specs.Calls.{Machine}
 
 -- "no data": the one node of Join and Neighbor
 abbrev pub no-data-node : List Node
@@ -46,6 +41,10 @@ events = of-peer 2 ++ (of-peer 3 ++ (maintenance ∷ quit ∷ []))
 unfoldable pub event-at : ℕ → Rec
 event-at i = getD events i quit
 
+-- the sixteen as the bytes of their records
+unfoldable pub event-records : List Event
+event-records = map encode events
+
 -- "both capacities 1, other settings default"
 unfoldable pub tiny : Config
 tiny = record {
@@ -71,18 +70,7 @@ draws = replicate 512 0
 unfoldable pub output : List ℕ
 output = replicate 8192 0
 
--- what every item of a list passes, and what stands for one past its end, the item at any place passes
-pub passes-at : (t : Rec → Bool) (d : Rec) → t d ≡ true → (es : List Rec) → every t es ≡ true → (i : ℕ) → t (getD es i d) ≡ true
-unfolding every
-passes-at t d e [] h i = e
-passes-at t d e (x ∷ xs) h zero = and-left (t x) _ h
-passes-at t d e (x ∷ xs) h (suc i) = passes-at t d e xs (and-right (t x) _ h) i
-
--- an event is bytes, as a call asks
-pub are-bytes : (i : ℕ) → all-under 256 (encode (event-at i)) ≡ true
-unfolding event-at events of-peer encode-by header-by entries-by entry-by datas size-by bytes-of offset present le all-under every
-are-bytes i = passes-at (λ e. all-under 256 (encode e)) quit refl events refl i
-
--- the call that brings the event at a place, so that a history is brought by `map event-call`
-abbrev pub event-call : ℕ → Call
-event-call i = record { event = encode (event-at i); are-bytes = are-bytes i; draws = draws; output = output }
+-- the state after a history, of the definition or of the program: each event is one `handle`
+unfoldable pub after : {G S : Type 0} → Machine G S → History → S → S
+after m [] s = s
+after m (e ∷ h) s = after m h (m .state e draws output s)

@@ -10,16 +10,16 @@ use record::Message;
 use record_writer::Fields;
 use record_writer::Written;
 ghost use mathlib.Core.Path.{_≡_};
-ghost use mathlib.Core.List.{[], _∷_};
+ghost use mathlib.Core.List.{[]};
 ghost use Prim.Native.Nat.{_+_, _≤_, _<_};
 ghost use lib.ListN.{length, getD, take};
 ghost use Rattle.base_lists.specs.Lists.{choose};
 ghost use Rattle.spec_stories.specs.Histories.{of-length};
 ghost use Rattle.record.specs.Format.{header-length, node-length, encode};
 ghost use Rattle.record_writer.specs.Write.{Wrote};
-ghost use Rattle.endings.specs.Events.{no-data-node, event, of-peer, quit, event-at};
-ghost use Rattle.endings.specs.Ends.{events-of-peer, events-in-all, count-ends, all-ends};
-ghost use Rattle.endings.specs.Steps.{first-state, played, sizes-in, plus, CountRoom};
+ghost use Rattle.endings.specs.Events.{no-data-node, event, of-peer, quit, event-at, event-records};
+ghost use Rattle.endings.specs.Ends.{events-of-peer, events-in-all, digest-end, next-number, all-ends};
+ghost use Rattle.endings.specs.Steps.{first-state, played, sizes-in, one-more, counted-on, CountRoom};
 
 // How many events are of one peer, of both peers, and there are with maintenance and Quit.
 const EVENTS_OF_PEER: usize = 7;
@@ -33,12 +33,22 @@ const LONGEST_HISTORY: usize = 4;
 
 const HISTORY_LENGTHS: usize = LONGEST_HISTORY + 1;
 
+// A history's number: the places of its events, from 1 on, as the digits of a number in base 17, so that histories of at most four events have numbers below 17^4.
+const NUMBER_BASE: u64 = 17;
+
+const NUMBERS: u64 = 83521;
+
+// What a digest is taken modulo: the prime 2^44 - 17, so that a product with NUMBERS fits.
+const DIGEST_END: u64 = 17592186044399;
+
 // How many histories end so: with no peer in a view, with one in the passive view alone, in the active view alone, in both.
+// The digest is made of their numbers in turn: it tells which histories were counted, and in which order.
 pub struct Ends {
     pub neither: u32,
     pub passive: u32,
     pub active: u32,
     pub both: u32,
+    pub digest: u64,
 }
 
 // An event of a peer without nodes.
@@ -145,7 +155,7 @@ fn event_bytes(out: &mut [u8], i: usize) -> usize
 // The state after the event at place i, with draws of 0.
 fn play(s: State, i: usize) -> State
     requires { ⌜ i < events-in-all ⌝ }
-    ensures { λ r. ⌜ r ≡ played i s ⌝ }
+    ensures { λ r. ⌜ r ≡ played (encode (event-at i)) s ⌝ }
 {
     let mut event = [0u8; record::HEADER + record::NODE];
     let draws = [0u32; hyparview::DRAWS];
@@ -161,10 +171,19 @@ fn one_if(test: bool) -> u32
     if test { 1 } else { 0 }
 }
 
-// One more history, which ended in s.
-fn count_end(s: State, c: Ends) -> Ends
+// The number of a history that goes on with the event at place i.
+fn next_number(number: u64, i: usize) -> u64
+    requires { ⌜ (number < digest-end) × (i < events-in-all) ⌝ }
+    ensures { λ r. ⌜ (r ≡ next-number number i) × (r < digest-end) ⌝ }
+{
+    (number * NUMBER_BASE + (i as u64) + 1) % DIGEST_END
+}
+
+// One more history, which has this number and ended in s.
+fn count_end(s: State, number: u64, c: Ends) -> Ends
     requires { ⌜ CountRoom c 1 ⌝ }
-    ensures { λ r. ⌜ r ≡ plus c (count-ends (sizes-in s) ([] ∷ [])) ⌝ }
+    requires { ⌜ number < digest-end ⌝ }
+    ensures { λ r. ⌜ r ≡ one-more (sizes-in s []) number c ⌝ }
 {
     let words = s.words;
     let active = hyparview::neighbor_count(&words);
@@ -174,22 +193,25 @@ fn count_end(s: State, c: Ends) -> Ends
         passive: c.passive + one_if((active == 0) & (passive == 1)),
         active: c.active + one_if((active == 1) & (passive == 0)),
         both: c.both + one_if((active == 1) & (passive == 1)),
+        digest: (c.digest * NUMBERS + number) % DIGEST_END,
     }
 }
 
-// Every history that goes on from s with `left` more events, by the order of events.
-fn extend(s: State, left: usize, c: Ends) -> Ends
-    requires { ⌜ CountRoom c (length (of-length events-in-all left)) ⌝ }
-    ensures { λ r. ⌜ r ≡ plus c (count-ends (sizes-in s) (of-length events-in-all left)) ⌝ }
+// Every history that goes on with `left` more events from s, after one with this number, by the order of events.
+fn extend(s: State, number: u64, left: usize, c: Ends) -> Ends
+    requires { ⌜ CountRoom c (length (of-length event-records left)) ⌝ }
+    requires { ⌜ number < digest-end ⌝ }
+    ensures { λ r. ⌜ r ≡ counted-on s number c (of-length event-records left) ⌝ }
 {
     if left == 0 {
-        return count_end(s, c);
+        return count_end(s, number, c);
     }
     let mut sum = c;
     let mut i: usize = 0;
     while i < EVENTS_IN_ALL {
         let next = play(s, i);
-        sum = extend(next, left - 1, sum);
+        let longer = next_number(number, i);
+        sum = extend(next, longer, left - 1, sum);
         i += 1;
     }
     sum
@@ -205,10 +227,11 @@ pub fn count_ends() -> Ends
         passive: 0,
         active: 0,
         both: 0,
+        digest: 0,
     };
     let mut n: usize = 0;
     while n < HISTORY_LENGTHS {
-        sum = extend(s, n, sum);
+        sum = extend(s, 0, n, sum);
         n += 1;
     }
     sum

@@ -16,7 +16,7 @@ use Rattle.spec_hyparview.specs.Rules.{all-under, short-data}
 use Rattle.spec_hyparview.specs.Handle.{Made, new, new-station}
 use Rattle.spec_history.specs.Calls.{NewGiven, definition}
 use Rattle.spec_history.proofs.Kept.{kept-new, accepted-new}
-use Rattle.shuffle_times.specs.Times.{lowest-draw, highest-draw, first-interval, dues, due, due-by, has-times, shuffle-times}
+use Rattle.shuffle_times.specs.Times.{lowest-draw, highest-draw, most-shuffles, first-interval, dues, due, due-by, has-times, shuffle-times}
 use Rattle.shuffle_times.specs.declared.ShuffleTimes.{ShuffleTimes}
 use Rattle.shuffle_times.specs.Histories.{Brought, on-time, shuffles-due, start-of}
 use Rattle.shuffle_times.specs.Claims.{Within, Reached, Timed, Shuffles-timed, Zero-is-empty}
@@ -69,10 +69,10 @@ module _ (me : ℕ) (d : Data) (c : Config) (given : NewGiven me d) (ranges : in
       record { not-before = omega (arith, p, q, earliest-is earliest latest k c e); not-after = omega (arith, r, q, latest-is earliest latest k c e) }
 
   -- from a start and draws to a history
-  reached-by : (earliest latest k t : ℕ) → 1 ≤ k → (start : ℕ) (ds : List ℕ) → earliest ≤ start → start ≤ latest → all-under draws-end ds ≡ true → length ds ≡ k → due setting (first-interval setting) start ds ≡ t → Reached definition earliest latest k t station
-  reached-by earliest latest k t some start [] from to u l e = absurd (omega arith)
-  reached-by earliest latest k t some start (x ∷ ds) from to u l e =
-      let w = history me d c ranges (kept-new me d c given ranges short) start x ds u in
+  reached-by : (earliest latest k t : ℕ) → 1 ≤ k → k ≤ most-shuffles → (start : ℕ) (ds : List ℕ) → earliest ≤ start → start ≤ latest → all-under draws-end ds ≡ true → length ds ≡ k → due setting (first-interval setting) start ds ≡ t → Reached definition earliest latest k t station
+  reached-by earliest latest k t some most start [] from to u l e = absurd (omega arith)
+  reached-by earliest latest k t some most start (x ∷ ds) from to u l e =
+      let w = history me d c ranges (kept-new me d c given ranges short) start x ds u (omega arith) in
       let many : length (shuffles-due definition (w .calls) station) ≡ k = ap length (w .same) ∙ (length-dues setting (first-interval setting) start (x ∷ ds) ∙ l) in
       let all : take k (x ∷ ds) ≡ x ∷ ds = take-all k (x ∷ ds) (omega arith) in
       record {
@@ -92,7 +92,7 @@ module _ (me : ℕ) (d : Data) (c : Config) (given : NewGiven me d) (ranges : in
   every-one-reached earliest latest k e t l m =
       let a = asked earliest latest c k e in
       let f = found k setting (first-interval setting) earliest latest t (a .top) (first-ok setting (a .top)) (a .ordered) (omega (arith, earliest-is earliest latest k c e)) (omega (arith, latest-is earliest latest k c e)) in
-      reached-by earliest latest k t (a .some) (f .start) (f .draws) (f .from) (f .to) (f .are-draws) (f .many) (f .is)
+      reached-by earliest latest k t (a .some) (a .few) (f .start) (f .draws) (f .from) (f .to) (f .are-draws) (f .many) (f .is)
 
   timed : Timed definition c station
   timed = record { due-times-tied = due-times-tied me d c given ranges short; nothing-outside = nothing-outside; every-one-reached = every-one-reached }

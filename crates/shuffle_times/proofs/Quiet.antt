@@ -29,7 +29,7 @@ use Rattle.spec_hyparview.proofs.Keeping.{Plain, six, seven, eight, ten, draw-s
 use Rattle.spec_hyparview.proofs.Entering.{on-same}
 use Rattle.spec_history.proofs.Ticks.{emit-out, draw-out, on-out}
 use Rattle.spec_hyparview.specs.Written.{encode-all}
-use Rattle.shuffle_times.proofs.Told.{shuffles, encode-all-append, shuffles-append}
+use Rattle.shuffle_times.proofs.Told.{timers-of, shuffles, encode-all-append, shuffles-append}
 
 -- the output grew by records whose shuffle timers have these delays
 pub record Adds (delays x y : List ℕ) : Type 0 where
@@ -38,7 +38,7 @@ pub record Adds (delays x y : List ℕ) : Type 0 where
   pub timers : shuffles records ≡ delays
 
 pub adds-none : (x : List ℕ) → Adds [] x x
-unfolding encode-all shuffles
+unfolding encode-all timers-of
 adds-none x = record { records = []; is = sym (append-nil x); timers = refl }
 
 pub adds-more : {a b x y z : List ℕ} → Adds a x y → Adds b y z → Adds (a ++ b) x z
@@ -99,7 +99,7 @@ unfolding encode-all
 adds-one e r z = record { records = e ∷ []; is = emit-out e r z ∙ ap (λ (w : List ℕ). r .out ++ w) (sym (append-nil (encode e))); timers = refl }
 
 pub emits : (e : Rec) → eqb (e .kind) 1 ≡ false → (r : Run) → Quiet r (emit e r)
-unfolding shuffles
+unfolding timers-of
 emits e k r = record {
   so = λ z. record {
     fine = emit-fine e r z;

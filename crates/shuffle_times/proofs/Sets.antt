@@ -24,7 +24,7 @@ use Rattle.spec_hyparview.proofs.Keeping.{draw-station, draw-fine, emit-station
 use Rattle.spec_hyparview.proofs.Entering.{on-same}
 use Rattle.spec_history.proofs.Ticks.{draw-out, on-out}
 use Rattle.shuffle_times.specs.Times.{next-interval}
-use Rattle.shuffle_times.proofs.Told.{shuffles}
+use Rattle.shuffle_times.proofs.Told.{timers-of, shuffles}
 use Rattle.shuffle_times.proofs.Quiet.{Adds, adds-more, Still, Quiet, then, changes, adds-one, on-lent, schedule-maintenance, shuffle-any, dispatch}
 
 -- the run w wrote one shuffle timer after the output x, with the interval i and one of the draws ds, and doubled the interval up to top
@@ -55,7 +55,7 @@ module _ (r : Run) where
   schedule-station z = emit-station _ _ ∙ (draw-station 1 _ ∙ on-station T.double-interval r (schedule-fine z))
 
   schedule-adds : (T.schedule-shuffle r) .code ≡ 0 → Adds (delay (r .station .next-interval) (drawn r) ∷ []) (r .out) ((T.schedule-shuffle r) .out)
-  unfolding T.schedule-shuffle shuffles choose
+  unfolding T.schedule-shuffle timers-of choose
   schedule-adds z =
       let e = timer 1 0 (delay (r .station .next-interval) (drawn r)) 0 in
       let b = draw 1 (on T.double-interval r) in

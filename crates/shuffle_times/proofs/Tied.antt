@@ -30,22 +30,22 @@ use Rattle.spec_history.specs.Calls.{NewGiven, result-of, answered, definition}
 use Rattle.spec_history.proofs.Kept.{Kept, pays, fine-answer, kept-new}
 use Rattle.spec_hyparview.specs.Written.{encode-all}
 use Rattle.shuffle_times.specs.Times.{highest-draw, first-interval, next-interval, dues}
-use Rattle.shuffle_times.specs.Histories.{Brought, shuffle-delays, after, set-by, shuffles-due, counts, start-of, fires, is-first, on-time}
+use Rattle.shuffle_times.specs.Histories.{Brought, timer-delays, after, set-by, shuffles-due, counts, start-of, fires, is-first, on-time}
 use Rattle.shuffle_times.specs.Claims.{Tied}
 use Rattle.shuffle_times.proofs.Delays.{Interval, delay-few, delay-rises}
 use Rattle.shuffle_times.proofs.Asked.{top-of}
-use Rattle.shuffle_times.proofs.Told.{shuffles, told, none-told}
+use Rattle.shuffle_times.proofs.Told.{timers-of, shuffles, told, none-told}
 use Rattle.shuffle_times.proofs.Quiet.{clock, Still}
 use Rattle.shuffle_times.proofs.Sets.{Starts, plain, first, fired}
 
 -- the due times that an answer at time t asks for
 abbrev set-of : ℕ → Result → List ℕ
-set-of t a = after t (shuffle-delays (headers (a .output)))
+set-of t a = after t (timer-delays 1 (headers (a .output)))
 
-pub out-told : (es : List Rec) (out : List ℕ) (zeros : ℕ) (l : List ℕ) → out ≡ encode-all es → shuffles es ≡ l → length out ≤ 8192 → all-under draws-end l ≡ true → shuffle-delays (headers (out ++ replicate zeros 0)) ≡ l
-out-told es out zeros l e f h u =
+pub out-told : (n : ℕ) (es : List Rec) (out : List ℕ) (zeros : ℕ) (l : List ℕ) → out ≡ encode-all es → timers-of n es ≡ l → length out ≤ 8192 → all-under draws-end l ≡ true → timer-delays n (headers (out ++ replicate zeros 0)) ≡ l
+out-told n es out zeros l e f h u =
     let s : length (encode-all es) < 65536 = omega (arith, ap length e) in
-    rw e (told es zeros s (subst (λ (x : List ℕ). all-under draws-end x ≡ true) (sym f) u) ∙ f)
+    rw e (told n es zeros s (subst (λ (x : List ℕ). all-under draws-end x ≡ true) (sym f) u) ∙ f)
 
 -- one shuffle timer is set
 record New (t : ℕ) (s : Station) (a : Result) : Type 0 where
@@ -65,7 +65,7 @@ record Called (t : ℕ) (b : List ℕ) (s : Station) (a : Result) : Type 0 where
 called-refusal : (t : ℕ) (b : List ℕ) (s : Station) (n room : ℕ) → (n ≡ 0 → ⊥) → Called t b s (refusal n s room)
 unfolding refusal after
 called-refusal t b s n room ne = record {
-  refused = λ e. (ap (after t) (none-told room), refl);
+  refused = λ e. (ap (after t) (none-told 1 room), refl);
   quiet = λ e. absurd (ne (eqb-true n 0 e));
   sets = λ e. absurd (ne (eqb-true n 0 e));
   known = λ e. absurd (ne (eqb-true n 0 e));
@@ -91,14 +91,14 @@ module _ {c : Config} {me : ℕ} {l : Ledger} {s : Station} (ranges : in-range c
       record {
         draw-of = g .draw-of;
         low = d;
-        set = ap (after t) (out-told (g .adds .records) (r .out) (r .room - length (r .out)) _ (g .adds .is) (g .adds .timers) small (delay-under (s .next-interval) (g .draw-of) (interval-of ranges h) d));
+        set = ap (after t) (out-told 1 (g .adds .records) (r .out) (r .room - length (r .out)) _ (g .adds .is) (g .adds .timers) small (delay-under (s .next-interval) (g .draw-of) (interval-of ranges h) d));
         pace = g .pace;
         mark = k .mark;
       }
 
   quietly : (r : Run) → length (r .out) ≤ 8192 → Still (start s ds room) r → (set-of t (accepted r) ≡ []) × (clock (accepted r .state) ≡ clock s)
   unfolding accepted after all-under
-  quietly r small k = (ap (after t) (out-told (k .adds .records) (r .out) (r .room - length (r .out)) [] (k .adds .is) (k .adds .timers) small refl), k .same-clock)
+  quietly r small k = (ap (after t) (out-told 1 (k .adds .records) (r .out) (r .room - length (r .out)) [] (k .adds .is) (k .adds .timers) small refl), k .same-clock)
 
   called-event : Readable (rec-of b) → Called t b s (finish s (steps (rec-of b) (start s ds room)))
   unfolding finish accepted kind-in rec-of-by header-of-by

@@ -1,4 +1,4 @@
--- What a reader of an output finds are the shuffle timers of the records written.
+-- What a reader of an output finds are the timers of the records written.
 -- Assumes nothing.
 use mathlib.Core.Path.{_≡_, refl, sym, ap, _∙_}
 use mathlib.Core.Bool.{Bool, true, false}
@@ -19,12 +19,15 @@ use Rattle.record.proofs.Walk.{records-written, records-zeros}
 use Rattle.spec_hyparview.specs.Station.{draws-end}
 use Rattle.spec_hyparview.specs.Rules.{all-under}
 use Rattle.spec_hyparview.specs.Written.{encode-all}
-use Rattle.shuffle_times.specs.Histories.{shuffle-delays}
+use Rattle.shuffle_times.specs.Histories.{timer-delays}
 
--- the delays of the shuffle timers among them
-unfoldable pub shuffles : List Rec → List ℕ
-shuffles [] = []
-shuffles (e ∷ es) = choose (eqb (e .kind) 1) (e .second ∷ shuffles es) (shuffles es)
+-- the delays of the timers of kind k among them
+unfoldable pub timers-of : ℕ → List Rec → List ℕ
+timers-of k [] = []
+timers-of k (e ∷ es) = choose (eqb (e .kind) k) (e .second ∷ timers-of k es) (timers-of k es)
+
+abbrev pub shuffles : List Rec → List ℕ
+shuffles es = timers-of 1 es
 
 pub encode-all-append : (a b : List Rec) → encode-all (a ++ b) ≡ encode-all a ++ encode-all b
 unfolding encode-all
@@ -32,7 +35,7 @@ encode-all-append [] b = refl
 encode-all-append (e ∷ es) b = rw (encode-all-append es b) (sym (append-assoc (encode e) (encode-all es) (encode-all b)))
 
 pub shuffles-append : (a b : List Rec) → shuffles (a ++ b) ≡ shuffles a ++ shuffles b
-unfolding shuffles
+unfolding timers-of
 shuffles-append [] b = refl
 shuffles-append (e ∷ es) b = rw (shuffles-append es b) (either (eqb (e .kind) 1))
   where
@@ -51,9 +54,9 @@ module _ (e : Rec) (rest : List ℕ) where
   kind-is = refl
 
 -- the delays of a refused call: none
-pub none-told : (zeros : ℕ) → shuffle-delays (headers (replicate zeros 0)) ≡ []
-unfolding shuffle-delays headers
-none-told zeros = rw (records-zeros zeros)
+pub none-told : (k zeros : ℕ) → timer-delays k (headers (replicate zeros 0)) ≡ []
+unfolding timer-delays headers
+none-told k zeros = rw (records-zeros zeros)
 
 first-second : (t : Bool) (x : ℕ) (xs : List ℕ) → all-under draws-end (choose t (x ∷ xs) xs) ≡ true → (t ≡ true → x < draws-end) × (all-under draws-end xs ≡ true)
 unfolding choose all-under
@@ -66,13 +69,13 @@ same-first true x y xs h = ap (λ (z : ℕ). z ∷ xs) (h refl)
 same-first false x y xs h = refl
 
 -- what is read in records followed by zeroes
-pub told : (es : List Rec) (zeros : ℕ) → length (encode-all es) < 65536 → all-under draws-end (shuffles es) ≡ true → shuffle-delays (headers (encode-all es ++ replicate zeros 0)) ≡ shuffles es
-unfolding encode-all shuffles shuffle-delays headers
-told [] zeros l u = none-told zeros
-told (e ∷ es) zeros l u =
+pub told : (n : ℕ) (es : List Rec) (zeros : ℕ) → length (encode-all es) < 65536 → all-under draws-end (timers-of n es) ≡ true → timer-delays n (headers (encode-all es ++ replicate zeros 0)) ≡ timers-of n es
+unfolding encode-all timers-of timer-delays headers
+told n [] zeros l u = none-told n zeros
+told n (e ∷ es) zeros l u =
     let rest : List ℕ = encode-all es ++ replicate zeros 0 in
-    let k = first-second (eqb (e .kind) 1) (e .second) (shuffles es) u in
+    let k = first-second (eqb (e .kind) n) (e .second) (timers-of n es) u in
     let s : size e < 65536 = omega (arith, length-append (encode e) (encode-all es), length-encode e) in
-    let i : shuffle-delays (headers rest) ≡ shuffles es = told es zeros (omega (arith, length-append (encode e) (encode-all es))) (k .1) in
+    let i : timer-delays n (headers rest) ≡ timers-of n es = told n es zeros (omega (arith, length-append (encode e) (encode-all es))) (k .1) in
     rw (append-assoc (encode e) (encode-all es) (replicate zeros 0), records-written e rest s, i, kind-is e rest)
-    (same-first (eqb (e .kind) 1) _ _ (shuffles es) (λ t. second-is e rest (k .0 t)))
+    (same-first (eqb (e .kind) n) _ _ (timers-of n es) (λ t. second-is e rest (k .0 t)))

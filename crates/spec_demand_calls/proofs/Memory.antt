@@ -6,9 +6,10 @@ use mathlib.Core.Bool.{not, _&&_}
 use mathlib.Core.List.{List, [], _∷_, _++_}
 use native.Mathlib.Omega.{arith}
 use lib.ListN.{drop}
-use lib.Dec.{eqb}
+use lib.Dec.{leb, eqb}
 use borrow.Author.Tests.{ne-eqb}
 use Rattle.base_lists.specs.Lists.{choose, mem}
+use Rattle.base_lists.specs.Tests.{every}
 use Rattle.base_lists.proofs.Choice.{choose-no}
 use Rattle.base_timing.specs.declared.Config.{Config}
 use Rattle.spec_history.specs.Ledger.{Ledger, empty-ledger, feed}
@@ -20,7 +21,7 @@ use Rattle.tally.specs.declared.Tally.{Tally}
 use Rattle.tally.specs.Counts.{top}
 use Rattle.tally.specs.Sum.{total}
 use Rattle.tally.specs.History.{no-messages, tally-after}
-use Rattle.shuffle_times.specs.Histories.{Brought, set-by, shuffles-due, counts, start-of, fires, is-first, on-time}
+use Rattle.shuffle_times.specs.Histories.{Brought, set-by, shuffles-due, counts, start-of, fires, is-first, on-time, punctual, every-timer-fires, timer-kinds}
 use Rattle.shuffle_times.proofs.Carried.{timed-carried}
 use Rattle.hyparview_state.specs.Unpack.{unpack}
 use Rattle.hyparview_rules.specs.Ok.{state-ok}
@@ -60,7 +61,7 @@ ticks-follow (v ∷ vs) x =
 shuffles-follow : (vs : List Brought) (x : LentMemory) → shuffles-due c-calls vs x ≡ shuffles-due program vs (x .words)
 unfolding shuffles-due set-by memory-outcome D.program-outcome called tallied
 shuffles-follow [] x = refl
-shuffles-follow (v ∷ vs) x = ap (λ (ts : List ℕ). set-by c-calls v x ++ ts) (shuffles-follow vs (state-of c-calls (v .call) x))
+shuffles-follow (v ∷ vs) x = ap (λ (ts : List ℕ). set-by 1 c-calls v x ++ ts) (shuffles-follow vs (state-of c-calls (v .call) x))
 
 start-follows : (vs : List Brought) (x : LentMemory) → start-of c-calls vs x ≡ start-of program vs (x .words)
 unfolding start-of counts memory-outcome D.program-outcome called tallied
@@ -72,7 +73,18 @@ unfolding on-time fires set-by memory-outcome D.program-outcome called tallied
 on-time-follows [] x waiting = refl
 on-time-follows (v ∷ vs) x waiting =
     let rest = on-time-follows vs (state-of c-calls (v .call) x) in
-    (λ i. choose (fires c-calls v x) (is-first (v .at) waiting && rest (drop 1 waiting ++ set-by c-calls v x) i) (rest (waiting ++ set-by c-calls v x) i))
+    (λ i. choose (fires 1 c-calls v x) (is-first (v .at) waiting && rest (drop 1 waiting ++ set-by 1 c-calls v x) i) (rest (waiting ++ set-by 1 c-calls v x) i))
+
+punctual-follows : (n : ℕ) (vs : List Brought) (x : LentMemory) (waiting : List ℕ) → punctual n c-calls vs x waiting ≡ punctual n program vs (x .words) waiting
+unfolding punctual fires set-by memory-outcome D.program-outcome called tallied
+punctual-follows n [] x waiting = refl
+punctual-follows n (v ∷ vs) x waiting =
+    let rest = punctual-follows n vs (state-of c-calls (v .call) x) in
+    (λ i. every (leb (v .at)) waiting && choose (fires n c-calls v x) (is-first (v .at) waiting && rest (drop 1 waiting ++ set-by n c-calls v x) i) (rest (waiting ++ set-by n c-calls v x) i))
+
+every-follows : (vs : List Brought) (x : LentMemory) → every-timer-fires c-calls vs x ≡ every-timer-fires program vs (x .words)
+unfolding every-timer-fires
+every-follows vs x = λ i. every (λ n. punctual-follows n vs x [] i) timer-kinds
 
 -- what the program is lent by it
 abbrev lent-by : M.MemoryLending → D.Lending
@@ -119,7 +131,7 @@ pub shuffles-timed : M.Shuffles-timed
 unfolding memory-made begun with-tally D.program-made
 shuffles-timed me g c t z =
     let start = c-calls .new-state me g c in
-    timed-carried (λ vs. shuffles-follow vs start) (λ vs. start-follows vs start) (λ vs. on-time-follows vs start []) c (P.shuffles-timed me (lent-by g) c t z)
+    timed-carried (λ vs. shuffles-follow vs start) (λ vs. start-follows vs start) (λ vs. on-time-follows vs start []) (λ vs. every-follows vs start) c (P.shuffles-timed me (lent-by g) c t z)
 
 -- One call: the tally stands beside the answer, and changes neither code nor draws.
 pub enough-lent : M.Enough-lent

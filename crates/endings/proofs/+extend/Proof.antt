@@ -8,13 +8,14 @@ use borrow.Fn.PlainCycle.{Measures, is, falls, and}
 use Rattle.endings.proofs.extend.Reads as extend
 use Rattle.endings.proofs.extend.Kinds as extend-kinds
 use Rattle.endings.proofs.+extend.Lts-extend as extend-lts
-use Rattle.endings.proofs.count_end.Reads as count-reads
+use Rattle.endings.proofs.count_end.Reads as count-end-reads
+use Rattle.endings.proofs.next_number.Reads as next-number-reads
 use Rattle.endings.proofs.play.Reads as play-reads
 use Rattle.endings.proofs.+extend.{statement}
 use Rattle.endings.proofs.+extend.Tie.{close}
 
 abbrev μ-extend : Measures 0 extend-kinds.ps ℕ
-μ-extend κs a = a .1 .0
+μ-extend κs a = a .1 .1 .0
 
 abbrev extend-at : ℕ → In 0 extend-kinds.ps
 extend-at t = and 0 extend-kinds.ps (is 0 extend-kinds.ps μ-extend t) extend.Pre
@@ -23,106 +24,138 @@ abbrev extend-below : ℕ → In 0 extend-kinds.ps
 extend-below t = and 0 extend-kinds.ps (falls 0 extend-kinds.ps _<_ μ-extend t) extend.Pre
 
 abbrev extend-Inv-loop : extend-lts.InvT-loop
-extend-Inv-loop s left sum₀ i₀ sum i = Extending s left sum₀ sum i
+extend-Inv-loop s number left sum₀ i₀ sum i = Extending s number left sum₀ sum i
 
 abbrev extend-μ-loop : extend-lts.MeasureT-loop
-extend-μ-loop s left sum₀ i₀ sum i = 16 - i
+extend-μ-loop s number left sum₀ i₀ sum i = 16 - i
 
 extend-count-end-requires : (t : ℕ) → extend-lts.Need-count-end-requires (
-  count-reads.Asked,
-  count-reads.Learnt,
+  count-end-reads.Asked,
+  count-end-reads.Learnt,
   play-reads.Asked,
   play-reads.Learnt,
+  next-number-reads.Asked,
+  next-number-reads.Learnt,
   extend-below t,
   extend.Post,
 ) (extend-at t) extend.Post extend-Inv-loop extend-μ-loop
-extend-count-end-requires t c κs = search spent-room
+extend-count-end-requires t c κs = (search spent-room, search needs)
 
 extend-returns : (t : ℕ) → extend-lts.Need-returns (
-  count-reads.Asked,
-  count-reads.Learnt,
+  count-end-reads.Asked,
+  count-end-reads.Learnt,
   play-reads.Asked,
   play-reads.Learnt,
+  next-number-reads.Asked,
+  next-number-reads.Learnt,
   extend-below t,
   extend.Post,
 ) (extend-at t) extend.Post extend-Inv-loop extend-μ-loop
 extend-returns t c = search spent
 
 extend-loop-holds : (t : ℕ) → extend-lts.Need-loop-holds (
-  count-reads.Asked,
-  count-reads.Learnt,
+  count-end-reads.Asked,
+  count-end-reads.Learnt,
   play-reads.Asked,
   play-reads.Learnt,
+  next-number-reads.Asked,
+  next-number-reads.Learnt,
   extend-below t,
   extend.Post,
 ) (extend-at t) extend.Post extend-Inv-loop extend-μ-loop
 extend-loop-holds t c = search extending-start
 
 extend-play-requires : (t : ℕ) → extend-lts.Need-play-requires (
-  count-reads.Asked,
-  count-reads.Learnt,
+  count-end-reads.Asked,
+  count-end-reads.Learnt,
   play-reads.Asked,
   play-reads.Learnt,
+  next-number-reads.Asked,
+  next-number-reads.Learnt,
   extend-below t,
   extend.Post,
 ) (extend-at t) extend.Post extend-Inv-loop extend-μ-loop
 extend-play-requires t c κs = search needs
 
-extend-sub-extend : (t : ℕ) → extend-lts.Need-sub-extend (
-  count-reads.Asked,
-  count-reads.Learnt,
+extend-next-number-requires : (t : ℕ) → extend-lts.Need-next-number-requires (
+  count-end-reads.Asked,
+  count-end-reads.Learnt,
   play-reads.Asked,
   play-reads.Learnt,
+  next-number-reads.Asked,
+  next-number-reads.Learnt,
+  extend-below t,
+  extend.Post,
+) (extend-at t) extend.Post extend-Inv-loop extend-μ-loop
+extend-next-number-requires t c κs = search needs
+
+extend-sub-extend : (t : ℕ) → extend-lts.Need-sub-extend (
+  count-end-reads.Asked,
+  count-end-reads.Learnt,
+  play-reads.Asked,
+  play-reads.Learnt,
+  next-number-reads.Asked,
+  next-number-reads.Learnt,
   extend-below t,
   extend.Post,
 ) (extend-at t) extend.Post extend-Inv-loop extend-μ-loop
 extend-sub-extend t c = search needs
 
 extend-extend-requires : (t : ℕ) → extend-lts.Need-extend-requires (
-  count-reads.Asked,
-  count-reads.Learnt,
+  count-end-reads.Asked,
+  count-end-reads.Learnt,
   play-reads.Asked,
   play-reads.Learnt,
+  next-number-reads.Asked,
+  next-number-reads.Learnt,
   extend-below t,
   extend.Post,
 ) (extend-at t) extend.Post extend-Inv-loop extend-μ-loop
-extend-extend-requires t c κs = (search deeper, search (extending-room, needs))
+extend-extend-requires t c κs = (search deeper, (search (extending-room, needs), search needs))
 
 extend-add-i : (t : ℕ) → extend-lts.Need-add-i (
-  count-reads.Asked,
-  count-reads.Learnt,
+  count-end-reads.Asked,
+  count-end-reads.Learnt,
   play-reads.Asked,
   play-reads.Learnt,
+  next-number-reads.Asked,
+  next-number-reads.Learnt,
   extend-below t,
   extend.Post,
 ) (extend-at t) extend.Post extend-Inv-loop extend-μ-loop
 extend-add-i t c = search needs
 
 extend-loop-less : (t : ℕ) → extend-lts.Need-loop-less (
-  count-reads.Asked,
-  count-reads.Learnt,
+  count-end-reads.Asked,
+  count-end-reads.Learnt,
   play-reads.Asked,
   play-reads.Learnt,
+  next-number-reads.Asked,
+  next-number-reads.Learnt,
   extend-below t,
   extend.Post,
 ) (extend-at t) extend.Post extend-Inv-loop extend-μ-loop
 extend-loop-less t c = search needs
 
 extend-loop-again : (t : ℕ) → extend-lts.Need-loop-again (
-  count-reads.Asked,
-  count-reads.Learnt,
+  count-end-reads.Asked,
+  count-end-reads.Learnt,
   play-reads.Asked,
   play-reads.Learnt,
+  next-number-reads.Asked,
+  next-number-reads.Learnt,
   extend-below t,
   extend.Post,
 ) (extend-at t) extend.Post extend-Inv-loop extend-μ-loop
 extend-loop-again t c = search (extending-next, needs)
 
 extend-returns-2 : (t : ℕ) → extend-lts.Need-returns-2 (
-  count-reads.Asked,
-  count-reads.Learnt,
+  count-end-reads.Asked,
+  count-end-reads.Learnt,
   play-reads.Asked,
   play-reads.Learnt,
+  next-number-reads.Asked,
+  next-number-reads.Learnt,
   extend-below t,
   extend.Post,
 ) (extend-at t) extend.Post extend-Inv-loop extend-μ-loop
@@ -130,10 +163,12 @@ extend-returns-2 t c = search extending-end
 
 pub +extend-spec : {M : Type 1} → statement M
 +extend-spec = close μ-extend λ t. extend-lts.spec (
-  count-reads.Asked,
-  count-reads.Learnt,
+  count-end-reads.Asked,
+  count-end-reads.Learnt,
   play-reads.Asked,
   play-reads.Learnt,
+  next-number-reads.Asked,
+  next-number-reads.Learnt,
   extend-below t,
   extend.Post,
 )
@@ -145,6 +180,7 @@ pub +extend-spec : {M : Type 1} → statement M
     (extend-returns t)
     (extend-loop-holds t)
     (extend-play-requires t)
+    (extend-next-number-requires t)
     (extend-sub-extend t)
     (extend-extend-requires t)
     (extend-add-i t)

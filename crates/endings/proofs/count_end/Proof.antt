@@ -18,26 +18,32 @@ spare-addresses-requires c κs = search needs
 one-if-requires : tie.Need-one-if-requires
 one-if-requires c κs = search needs
 
-add-t14 : tie.Need-add-t14
-add-t14 c = search needs
+add-t15 : tie.Need-add-t15
+add-t15 c = search needs
 
 one-if-requires-2 : tie.Need-one-if-requires-2
 one-if-requires-2 c κs = search needs
 
-add-t19 : tie.Need-add-t19
-add-t19 c = search needs
+add-t20 : tie.Need-add-t20
+add-t20 c = search needs
 
 one-if-requires-3 : tie.Need-one-if-requires-3
 one-if-requires-3 c κs = search needs
 
-add-t24 : tie.Need-add-t24
-add-t24 c = search needs
+add-t25 : tie.Need-add-t25
+add-t25 c = search needs
 
 one-if-requires-4 : tie.Need-one-if-requires-4
 one-if-requires-4 c κs = search needs
 
-add-t29 : tie.Need-add-t29
-add-t29 c = search needs
+add-t30 : tie.Need-add-t30
+add-t30 c = search needs
+
+mul-t31 : tie.Need-mul-t31
+mul-t31 c = search needs
+
+add-t32 : tie.Need-add-t32
+add-t32 c = search needs
 
 returns : tie.Need-returns
 returns c = search counted
@@ -51,11 +57,13 @@ count-end-spec =
     slice-aggregate-spare-addresses
     spare-addresses-requires
     one-if-requires
-    add-t14
+    add-t15
     one-if-requires-2
-    add-t19
+    add-t20
     one-if-requires-3
-    add-t24
+    add-t25
     one-if-requires-4
-    add-t29
+    add-t30
+    mul-t31
+    add-t32
     returns)

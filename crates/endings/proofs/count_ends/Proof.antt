@@ -18,7 +18,7 @@ loop-holds : tie.Need-loop-holds Inv-loop μ-loop
 loop-holds c = search counting-start
 
 extend-requires : tie.Need-extend-requires Inv-loop μ-loop
-extend-requires c κs = search counting-room
+extend-requires c κs = (search counting-room, search needs)
 
 add-n : tie.Need-add-n Inv-loop μ-loop
 add-n c = search needs
