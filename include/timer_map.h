@@ -3,7 +3,7 @@
  * (`rt staticlib timer_events`). They link beside libcontroller.a.
  *
  * The caller owns all memory: a queue is TIMER_MAP_WORDS words. Whatever the words are, each call answers: words that break
- * the queue's own rules, and any other number of words, are refused with code 2. A refusal changes nothing.
+ * the queue's own rules, and any other number of words, are refused with code 2. A refusal changes no word.
  *
  * What a caller owes: every pointer is to as many elements as the length beside it says, aligned, and not null, also where
  * the length is 0; what `q` and `out` point at is passed by no other argument. crates/timer_map/src/lib.rt and
@@ -29,7 +29,8 @@ extern "C" {
 #define TIMER_MAP_ROWS 1
 #define TIMER_MAP_ROW 8
 
-/* The kinds of a timer: DoShuffle, DoMaintenance, PendingNeighborRequest, RetryJoin. None has an id. */
+/* The kinds of a timer: DoShuffle, DoMaintenance, PendingNeighborRequest, RetryJoin. None has an id, and the first two have
+ * neither peer nor number. */
 #define TIMER_MAP_FIRST_KIND 1
 #define TIMER_MAP_LAST_KIND 4
 
@@ -39,12 +40,12 @@ extern "C" {
 /* The codes. */
 #define TIMER_MAP_DONE 0
 #define TIMER_MAP_BROKEN 2     /* the queue breaks its own rules, or has another number of words */
-#define TIMER_MAP_MALFORMED 3  /* what is to be put in is no timer; or an entry that no event record can say */
+#define TIMER_MAP_MALFORMED 3  /* what is to be put in is no timer, which an event record can say */
 #define TIMER_MAP_NO_ROOM 9    /* the event does not fit into the lent bytes */
 #define TIMER_MAP_FULL 11      /* 64 timers are held */
 #define TIMER_MAP_TOO_LATE 12  /* the due time passes 2^64 - 1 */
 
-/* What a timer is; the id is zero for kinds 1 to 4. */
+/* What a timer is; the id is zero for kinds 1 to 4, peer and number for kinds 1 and 2. */
 struct timer_map_timer {
     uint64_t kind;
     uint64_t peer;
@@ -75,7 +76,7 @@ struct timer_map_len {
     uint64_t count;
 };
 
-/* Where `found` is false, the time is 0. */
+/* Where `found` is false, the time is 0, and so is every byte that was lent for the event. */
 struct timer_map_popped_event {
     uint32_t code;
     bool found;
@@ -99,13 +100,13 @@ struct timer_map_first timer_map_first(const uint64_t *q, size_t q_len);
 struct timer_map_len timer_map_len(const uint64_t *q, size_t q_len);
 
 /* Puts in every timer record of an output of hyparview_handle, in order, each by its delay from this time: all of them and
- * 0, or none and 2 or the first refusal (3, 12, 11). Records are taken by their whole length until that is 0. */
+ * 0, or none and 2 or the first refusal (3, never for the output of an accepted call, 12, 11). Records are taken by their
+ * whole length until that is 0. */
 uint32_t timer_map_insert_records(uint64_t *q, size_t q_len, uint64_t time, const uint8_t *output, size_t output_len);
 
 /* As timer_map_pop_before, and the entry's event, which hyparview_handle reads, stands in the first TIMER_MAP_EVENT_BYTES of
- * `out`; its due time is handed back. Code 0, also where none is due; 2; 3, where the entry is none that an event record can
- * say (never for one put in by timer_map_insert_records): it stays first until timer_map_pop_before takes it out; 9, where
- * `out` is too short. */
+ * `out`; its due time is handed back. Code 0, also where none is due; 2; 9, where `out` is too short. Where none is handed
+ * out, every byte of `out` becomes 0: no earlier event is left there. */
 struct timer_map_popped_event timer_map_pop_event(uint64_t *q, size_t q_len, uint64_t limit, uint8_t *out, size_t out_len);
 
 #ifdef __cplusplus

@@ -1,6 +1,7 @@
 /* A station over a simulated clock, with no timers of the caller's own: what hyparview_handle starts goes into the queue of
  * timer_map.h, and what is due there comes out as the next event. It runs two minutes and stops with 1 where something is
- * refused, comes out before its time or out of order, or where maintenance is not done each 5,000 ms. */
+ * refused, comes out before its time or out of order, is left in the lent bytes, or where maintenance is not done each
+ * 5,000 ms. */
 #include "hyparview.h"
 #include "timer_map.h"
 
@@ -48,13 +49,17 @@ static void handle(const uint8_t *event, size_t len)
 /* Every timer that is due now. */
 static void fire(void)
 {
+    static const uint8_t no_event[TIMER_MAP_EVENT_BYTES];
     uint8_t event[TIMER_MAP_EVENT_BYTES];
     for (;;) {
         struct timer_map_popped_event p = timer_map_pop_event(queue, TIMER_MAP_WORDS, clock_ms, event, sizeof event);
         if (p.code != 0)
             stop("the queue refuses", p.code);
-        if (!p.found)
+        if (!p.found) {
+            if (memcmp(event, no_event, sizeof event) != 0)
+                stop("bytes are left where no event is due", event[0]);
             return;
+        }
         if (p.time != clock_ms)
             stop("a timer comes out at another time than its own", event[0]);
         fired[event[0]]++;

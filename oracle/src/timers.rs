@@ -32,19 +32,21 @@ struct Item {
     number: u64,
 }
 
-/// The event record of a timer, as four words; none where a record cannot say it.
-fn event(item: &Item) -> Option<[u64; 4]> {
+/// Whether an event record can say the timer: kinds 1 and 2 have neither peer nor number.
+fn is_timer(item: &Item) -> bool {
     let bare = item.peer == 0 && item.number == 0;
-    if item.kind <= 2 && !bare {
-        return None;
-    }
+    (1..=4).contains(&item.kind) && (item.kind > 2 || bare)
+}
+
+/// The event record of a timer, as four words.
+fn event(item: &Item) -> [u64; 4] {
     let record: Record = Record {
         number: item.number,
         ..Record::of(item.kind as u8, item.peer)
     };
     let bytes = record.write();
     let word = |at: usize| u64::from_le_bytes(bytes[at..at + 8].try_into().expect("8 bytes"));
-    Some([word(0), word(8), word(16), word(24)])
+    [word(0), word(8), word(16), word(24)]
 }
 
 /// The Rust's queue, its times as milliseconds after one instant, and how many it holds.
@@ -73,7 +75,7 @@ impl Queue {
     }
 
     fn insert(&mut self, time: u64, delay: u64, item: Item) -> u64 {
-        if !(1..=4).contains(&item.kind) {
+        if !is_timer(&item) {
             return MALFORMED;
         }
         let Some(due) = time.checked_add(delay) else {
@@ -96,20 +98,6 @@ impl Queue {
     fn first(&self) -> Option<u64> {
         self.map.first().map(|at| self.millis(*at))
     }
-
-    /// What comes out next at this limit. The Rust cannot be asked without taking it out, so it is
-    /// taken out and the rest with it, and all is put in again in the order that it came out.
-    fn peek(&mut self, limit: u64) -> Option<(u64, Item)> {
-        let mut all = Vec::new();
-        while let Some(entry) = self.pop(u64::MAX) {
-            all.push(entry);
-        }
-        for (time, item) in &all {
-            self.held += 1;
-            self.map.insert(self.instant(*time), *item);
-        }
-        all.first().copied().filter(|(time, _)| *time <= limit)
-    }
 }
 
 /// The lines of a list of calls.
@@ -129,12 +117,11 @@ pub fn answers(calls: &[Call]) -> String {
                 None => vec![0; 3],
             },
             LEN => vec![0, queue.held as u64],
-            EVENT => match queue.peek(time).map(|(due, i)| (due, event(&i))) {
-                Some((due, Some([a, b, c, d]))) => {
-                    queue.pop(time);
+            EVENT => match queue.pop(time) {
+                Some((due, i)) => {
+                    let [a, b, c, d] = event(&i);
                     vec![0, 1, due, a, b, c, d]
                 }
-                Some((_, None)) => vec![MALFORMED, 0, 0, 0, 0, 0, 0],
                 None => vec![0; 7],
             },
             _ => {

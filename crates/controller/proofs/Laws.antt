@@ -1,4 +1,4 @@
--- Laws of the calls: one for each way through `hyparview_new`, and that a refused call leaves the words and the tally as they were.
+-- Laws of the calls: one for each way through `begun`, and that a refused call leaves the words and the tally as they were.
 -- Assumes nothing.
 use Prim.Native.Nat.{ℕ}
 use mathlib.Core.Path.{_≡_, ap, _∙_}

@@ -5,16 +5,22 @@ use hyparview::Done;
 use record::Entry;
 use record::Header;
 use record::Refusal;
-use tally::COUNTS;
+use tally::Tally;
 ghost use mathlib.Core.Path.{_≡_};
 ghost use mathlib.Core.Bool.{not};
 ghost use lib.ListN.{length, getD};
 ghost use lib.Dec.{eqb};
-ghost use Rattle.tally.specs.Counts.{counts-in};
+ghost use Rattle.tally.specs.History.{no-messages};
 ghost use Rattle.hyparview.specs.Made.{lent};
 ghost use Rattle.hyparview.specs.Queries.{wants-connection-in, is-neighbor-in, neighbors-in, spare-addresses-in};
 ghost use Rattle.controller.specs.Calls.{begun, called};
 ghost use Rattle.controller.specs.Reader.{no-header, reading, no-entry, node-reading};
+
+// The code of `new`, and the tally after it.
+pub struct Start {
+    pub code: u32,
+    pub tally: Tally,
+}
 
 // A record's header, or not ok and zeroes.
 #[repr(C)]
@@ -34,36 +40,63 @@ pub struct NodeReading {
 #[no_mangle]
 pub extern "C" fn hyparview_handle(
     st: &mut [u64],
-    t: &mut [u64; COUNTS],
+    t: &mut Tally,
     event: &[u8],
     draws: &[u32],
     out: &mut [u8],
 ) -> Done
-    ensures { λ r. ⌜ record { code = r .code; draws = r .draws; words = now (st .exit); tally = counts-in (now (t .exit)); output = now (out .exit) } ≡ called (now (st .entry)) (counts-in (now (t .entry))) (now (event .entry)) (now (draws .entry)) (length (now (out .entry))) ⌝ }
+    ensures { λ r. ⌜ record { code = r .code; draws = r .draws; words = now (st .exit); tally = now (t .exit); output = now (out .exit) } ≡ called (now (st .entry)) (now (t .entry)) (now (event .entry)) (now (draws .entry)) (length (now (out .entry))) ⌝ }
 {
     let r = hyparview::handle(st, event, draws, out);
-    tally::raise_words(t, r.code, out);
+    tally::raise(t, r.code, out);
     r
 }
 
+fn no_messages() -> Tally
+    ensures { λ r. ⌜ r ≡ no-messages ⌝ }
+{
+    Tally {
+        join: 0,
+        forward_join: 0,
+        shuffle: 0,
+        shuffle_reply: 0,
+        neighbor: 0,
+        disconnect: 0,
+    }
+}
+
+// A new station in the lent words, its tally by value; own data is absent where `present` is 0.
+fn begun(st: &mut [u64], t: Tally, me: PeerId, present: u8, own: &[u8], config: Config) -> Start
+    ensures { λ r. ⌜ record { code = r .code; words = now (st .exit); tally = r .tally } ≡ begun (now (st .entry)) t me (lent (not (eqb present 0)) (now (own .entry))) config ⌝ }
+{
+    let code = hyparview::new(st, me, present != 0, own, config);
+    if code == Refusal::STATE {
+        return Start {
+            code: code,
+            tally: t,
+        };
+    }
+    Start {
+        code: code,
+        tally: no_messages(),
+    }
+}
+
 // The lent words become a new station's and the tally zeroes; words of zeroes where `new` refuses, and all as it was where the words are too few or too many.
-// Own data is absent where `present` is 0.
 #[no_mangle]
 pub extern "C" fn hyparview_new(
     st: &mut [u64],
-    t: &mut [u64; COUNTS],
+    t: &mut Tally,
     me: PeerId,
     present: u8,
     own: &[u8],
     config: Config,
 ) -> u32
-    ensures { λ r. ⌜ record { code = r; words = now (st .exit); tally = counts-in (now (t .exit)) } ≡ begun (now (st .entry)) (counts-in (now (t .entry))) me (lent (not (eqb present 0)) (now (own .entry))) config ⌝ }
+    ensures { λ r. ⌜ record { code = r; words = now (st .exit); tally = now (t .exit) } ≡ begun (now (st .entry)) (now (t .entry)) me (lent (not (eqb present 0)) (now (own .entry))) config ⌝ }
 {
-    let code = hyparview::new(st, me, present != 0, own, config);
-    if code != Refusal::STATE {
-        *t = [0; COUNTS];
-    }
-    code
+    let r = begun(st, *t, me, present, own, config);
+    *t = r.tally;
+    r.code
 }
 
 // Whether a connection to the peer is wanted.

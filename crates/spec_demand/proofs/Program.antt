@@ -32,6 +32,7 @@ use Rattle.spec_history.proofs.Packing.{demand-packed, eight-packed, rejoin-pac
 use Rattle.tally.proofs.History.{counts-all}
 use Rattle.shuffle_times.specs.Claims.{Timed}
 use Rattle.shuffle_times.proofs.Packed.{timed-packed}
+use Rattle.timer_events.proofs.Accepted as accepted
 use Rattle.hyparview_state.specs.Layout.{words}
 use Rattle.hyparview_state.specs.Unpack.{unpack}
 use Rattle.hyparview_rules.specs.Pack.{pack}
@@ -108,6 +109,10 @@ every-message-counted me g c t z vs n = counts-all program _ vs _ (outputs-read-
 pub shuffles-timed : D.Shuffles-timed
 shuffles-timed me g c t z =
     from-new (λ (s : List ℕ). Timed program c s) me g c z (λ e. timed-packed packs me (program .own g) c t e)
+
+-- Their timers are taken by the timer queue.
+pub timers-taken : D.Timers-taken
+timers-taken me g c t z vs n = accepted.timers-taken program vs _ (outputs-read-back me g c t z vs n)
 
 -- A refused `new` hands back zeroes.
 zeroes : replicate words 0 ≡ pad {A = ℕ} 0 words []
@@ -208,6 +213,7 @@ by-value-holds =
       read-back = outputs;
       counted = λ me g c t z vs n. counts-all value-program _ vs _ (outputs me g c t z vs n);
       timed = λ me g c t z. timed-packed value-packs me (value-program .own g) c t z;
+      timers = λ me g c t z vs n. accepted.timers-taken value-program vs _ (outputs me g c t z vs n);
       never-eight = λ me g c t z vs. eight-packed value-packs me (value-program .own g) c t z vs;
       goes-on = λ me g c t z vs. never-unreachable (state-after value-program vs (value-program .new-state me g c) .words) (demand me g c t z vs .rules-hold);
     }

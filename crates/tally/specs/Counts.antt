@@ -3,7 +3,6 @@
 use Prim.Native.Nat.{ℕ, _+_}
 use mathlib.Core.Bool.{Bool}
 use mathlib.Core.List.{List}
-use lib.ListN.{getD}
 use lib.Dec.{ltb, eqb}
 use Rattle.base_lists.specs.Lists.{choose}
 use Rattle.record.specs.Kinds.{Message, kind-byte}
@@ -40,7 +39,3 @@ raise-records out t = walk (λ b. enter (kind-in b) (message-in b)) (records-in 
 -- "raised once an event is accepted; .. a refusal changes none"
 unfoldable pub raised : ℕ → List ℕ → Tally → Tally
 raised code out t = choose (eqb code 0) (raise-records out t) t
-
--- the counts that stand in six words, one for each value of byte 1
-unfoldable pub counts-in : List ℕ → Tally
-counts-in xs = record { join = getD xs 0 0; «forward_join» = getD xs 1 0; shuffle = getD xs 2 0; «shuffle_reply» = getD xs 3 0; neighbor = getD xs 4 0; disconnect = getD xs 5 0 }

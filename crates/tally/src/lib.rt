@@ -4,7 +4,7 @@ use record::Header;
 use record::Kind;
 use record::Message;
 ghost use mathlib.Core.Path.{_≡_};
-ghost use Rattle.tally.specs.Counts.{counted, raise-one, enter, raised, counts-in};
+ghost use Rattle.tally.specs.Counts.{counted, raise-one, enter, raised};
 
 // One count for each value of byte 1.
 #[repr(C)]
@@ -16,9 +16,6 @@ pub struct Tally {
     pub neighbor: u64,
     pub disconnect: u64,
 }
-
-// How many values byte 1 of a message has.
-pub const COUNTS: usize = 6;
 
 // The last value of a count.
 const TOP: u64 = 18446744073709551615;
@@ -89,27 +86,4 @@ pub fn raise(t: &mut Tally, code: u32, out: &[u8])
     ensures { λ _. ⌜ now (t .exit) ≡ raised code (now (out .entry)) (now (t .entry)) ⌝ }
 {
     *t = raised(*t, code, out);
-}
-
-// The same in six lent words, one for each value of byte 1, as C's struct has them.
-pub fn raise_words(c: &mut [u64; COUNTS], code: u32, out: &[u8])
-    ensures { λ _. ⌜ counts-in (now (c .exit)) ≡ raised code (now (out .entry)) (counts-in (now (c .entry))) ⌝ }
-{
-    let t = Tally {
-        join: c[Message::JOIN as usize],
-        forward_join: c[Message::FORWARD_JOIN as usize],
-        shuffle: c[Message::SHUFFLE as usize],
-        shuffle_reply: c[Message::SHUFFLE_REPLY as usize],
-        neighbor: c[Message::NEIGHBOR as usize],
-        disconnect: c[Message::DISCONNECT as usize],
-    };
-    let r = raised(t, code, out);
-    *c = [
-        r.join,
-        r.forward_join,
-        r.shuffle,
-        r.shuffle_reply,
-        r.neighbor,
-        r.disconnect,
-    ];
 }

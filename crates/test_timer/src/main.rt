@@ -100,9 +100,12 @@ fn show_len(q: &[u64]) {
     show_line(&line);
 }
 
-// The event's bytes as four words; the bytes are zero before.
+// No byte of what is lent for an event is 0 before, so that one shows that is not cleared.
+const BEFORE: u8 = 255;
+
+// The event's bytes as four words.
 fn show_event(q: &mut [u64], limit: u64) {
-    let mut space = [0u8; record::HEADER];
+    let mut space = [BEFORE; record::HEADER];
     let out: &mut [u8] = &mut space;
     let p = timer_events::timer_map_pop_event(q, limit, out);
     let line = [

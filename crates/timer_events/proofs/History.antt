@@ -6,7 +6,7 @@ use mathlib.Core.Bool.{Bool, true, false, not, _&&_}
 use mathlib.Core.List.{List, [], _∷_, _++_, append-assoc, append-nil}
 use mathlib.Core.Option.{Option, none, some}
 use native.Mathlib.Omega.{arith}
-use lib.ListN.{length, getD}
+use lib.ListN.{length, getD, replicate}
 use lib.Dec.{leb, eqb}
 use borrow.Author.Tests.{eq-eqb, ne-eqb, leb-true, leb-false}
 use Rattle.base_lists.specs.Lists.{choose, null, mem, index-of, shift-remove}
@@ -25,16 +25,16 @@ use Rattle.timer_map.specs.declared.Len.{Len}
 use Rattle.timer_map.proofs.Pack.{entries-pack}
 use Rattle.timer_map.proofs.Order.{first-place, first-earliest, first-oldest, soonest-below}
 use Rattle.timer_map.proofs.Ways.{due-some, popped-none, popped-one, null-not}
-use Rattle.timer_map.proofs.Kept.{Good, good-none, good-ok, good-insert, good-remove, Inserts, refused, done, inserts}
+use Rattle.timer_map.proofs.Kept.{Good, good-none, good-ok, good-insert, good-remove, due-ok, Inserts, refused, done, inserts}
 use Rattle.timer_events.specs.declared.ScheduleTimer.{ScheduleTimer}
 use Rattle.timer_events.specs.declared.PoppedEvent.{PoppedEvent}
 use Rattle.timer_events.specs.Records.{timers-in, insert-all, all-or-none, records-inserted}
 use Rattle.timer_events.specs.Records as R
-use Rattle.timer_events.specs.Events.{has-event, event-rec, Taken, untaken, event-popped, event-taken}
+use Rattle.timer_events.specs.Events.{event-rec, Taken, untaken, event-popped, event-taken}
 use Rattle.timer_events.specs.History.{QueueCall, insert, insert-records, pop-before, pop-event, first, count, Reply, code, popped, event, next, held, QueueOutcome, queue-answered, reply-code, entries-from, asked, time-out, cut-at, booked, queue-after, reply-codes, book-after, Right}
 use Rattle.timer_events.specs.Claims.{EventRight, TakesOut, Queue-holds}
 use Rattle.timer_events.proofs.Inserting.{good-all}
-use Rattle.timer_events.proofs.Taking.{none-event, no-event, no-room, an-event}
+use Rattle.timer_events.proofs.Taking.{none-event, no-room, an-event}
 
 -- ---- the definitions at packed words
 
@@ -258,42 +258,43 @@ event-found : (limit : ℕ) (out bytes : List ℕ) (es : List TimerMapEntry) →
 unfolding reply-code time-out asked choose
 event-found limit out bytes es = gone (pop-event limit out) (event (pop-one (first-entry es)) bytes) es (first-entry es .time) refl refl refl
 
-event-nothing : (limit : ℕ) (out : List ℕ) (es : List TimerMapEntry) → es ≡ booked (pop-event limit out) (event (no-pop 0) out) es
+abbrev blank : List ℕ → List ℕ
+blank out = replicate (length out) 0
+
+event-nothing : (limit : ℕ) (out : List ℕ) (es : List TimerMapEntry) → es ≡ booked (pop-event limit out) (event (no-pop 0) (blank out)) es
 unfolding reply-code time-out asked choose
-event-nothing limit out es = same (pop-event limit out) (event (no-pop 0) out) es refl refl refl
+event-nothing limit out es = same (pop-event limit out) (event (no-pop 0) (blank out)) es refl refl refl
 
 event-kept : (limit : ℕ) (out : List ℕ) (es : List TimerMapEntry) → Good es → (c : ℕ) → (c ≡ 0 → ⊥) → (c ≡ 2 → ⊥) → event-popped limit es out ≡ untaken c (pack-queue es) out → Step (pop-event limit out) es
 event-kept limit out es g c n m e = record {
-  reply = event (no-pop c) out;
+  reply = event (no-pop c) (blank out);
   after = es;
   is = event-way limit out es g (untaken c (pack-queue es) out) e;
-  book = kept (pop-event limit out) (event (no-pop c) out) es (λ z. n (sym (event-code (no-pop c) out) ∙ z));
+  book = kept (pop-event limit out) (event (no-pop c) (blank out)) es (λ z. n (sym (event-code (no-pop c) (blank out)) ∙ z));
   good = g;
-  not-two = λ z. m (sym (event-code (no-pop c) out) ∙ z);
+  not-two = λ z. m (sym (event-code (no-pop c) (blank out)) ∙ z);
 }
 
 step-event : (limit : ℕ) (out : List ℕ) (es : List TimerMapEntry) → Good es → Step (pop-event limit out) es
 step-event limit out es g =
     split (is-due limit es)
-    (λ d. split (has-event (first-entry es))
-    (λ h. split (fits (event-rec (first-entry es)) 0 (length out))
+    (λ d. split (fits (event-rec (first-entry es)) 0 (length out))
     (λ f. record {
       reply = event (pop-one (first-entry es)) (written (event-rec (first-entry es)) 0 out);
       after = shift-remove (soonest es) es;
-      is = event-way limit out es g _ (an-event limit es out d h f);
+      is = event-way limit out es g _ (an-event limit es out d f);
       book = place limit es d ∙ event-found limit out (written (event-rec (first-entry es)) 0 out) es;
       good = smaller limit es g d;
       not-two = λ z. omega (arith, sym (event-code (pop-one (first-entry es)) (written (event-rec (first-entry es)) 0 out)) ∙ z);
     })
-    (λ f. event-kept limit out es g 9 (λ z. omega (arith, z)) (λ z. omega (arith, z)) (no-room limit es out d h f)))
-    (λ h. event-kept limit out es g 3 (λ z. omega (arith, z)) (λ z. omega (arith, z)) (no-event limit es out d h)))
+    (λ f. event-kept limit out es g 9 (λ z. omega (arith, z)) (λ z. omega (arith, z)) (no-room limit es out d f)))
     (λ d. record {
-      reply = event (no-pop 0) out;
+      reply = event (no-pop 0) (blank out);
       after = es;
       is = event-way limit out es g (untaken 0 (pack-queue es) out) (none-event limit es out d);
       book = event-nothing limit out es;
       good = g;
-      not-two = λ z. omega (arith, sym (event-code (no-pop 0) out) ∙ z);
+      not-two = λ z. omega (arith, sym (event-code (no-pop 0) (blank out)) ∙ z);
     })
 
 first-code : (es : List TimerMapEntry) → first-of es .code ≡ 0
@@ -383,22 +384,29 @@ none-good es g limit a e f =
     (λ d. clash (a .found) (ap (λ (y : Popped). y .found) (q ∙ ap (λ (w : PoppedWords). w .answer) (popped-one limit es d))) f)
     (λ d. later limit es d)
 
-event-good : (es : List TimerMapEntry) → Good es → (limit : ℕ) (out : List ℕ) (a : PoppedEvent) (bytes : List ℕ) → queue-answered (pop-event limit out) (pack-queue es) .reply ≡ event a bytes → a .found ≡ true → EventRight limit es out a bytes
-event-good es g limit out a bytes e f =
-    split (is-due limit es)
-    (λ d. split (has-event (first-entry es))
-    (λ h. split (fits (event-rec (first-entry es)) 0 (length out))
-    (λ k. let q = told _ (an-event limit es out d h k) in
-    record { entry = first-entry es; right = right limit es d; time = ap (λ (y : PoppedEvent). y .time) (q .0); has = h; bytes-are = q .1 })
-    (λ k. silent _ refl (no-room limit es out d h k)))
-    (λ h. silent _ refl (no-event limit es out d h)))
-    (λ d. silent _ refl (none-event limit es out d))
-  where
-    told : (w : Taken) → event-popped limit es out ≡ w → (a ≡ w .answer) × (bytes ≡ w .output)
-    told w k = event-is a (w .answer) bytes (w .output) (sym e ∙ ap (λ (o : QueueOutcome). o .reply) (event-way limit out es g w k))
+module _ (es : List TimerMapEntry) (g : Good es) (limit : ℕ) (out : List ℕ) (a : PoppedEvent) (bytes : List ℕ) (e : queue-answered (pop-event limit out) (pack-queue es) .reply ≡ event a bytes) where
+  told : (w : Taken) → event-popped limit es out ≡ w → (a ≡ w .answer) × (bytes ≡ w .output)
+  told w k = event-is a (w .answer) bytes (w .output) (sym e ∙ ap (λ (o : QueueOutcome). o .reply) (event-way limit out es g w k))
 
-    silent : (w : Taken) → w .answer .found ≡ false → event-popped limit es out ≡ w → EventRight limit es out a bytes
-    silent w n k = clash (a .found) f (ap (λ (y : PoppedEvent). y .found) (told w k .0) ∙ n)
+  event-good : a .found ≡ true → EventRight limit es out a bytes
+  event-good f =
+      split (is-due limit es)
+      (λ d. split (fits (event-rec (first-entry es)) 0 (length out))
+      (λ k. let q = told _ (an-event limit es out d k) in
+      record { entry = first-entry es; right = right limit es d; time = ap (λ (y : PoppedEvent). y .time) (q .0); ok = due-ok limit es (g .timers) d; bytes-are = q .1 })
+      (λ k. silent _ refl (no-room limit es out d k)))
+      (λ d. silent _ refl (none-event limit es out d))
+    where
+      silent : (w : Taken) → w .answer .found ≡ false → event-popped limit es out ≡ w → EventRight limit es out a bytes
+      silent w n k = clash (a .found) f (ap (λ (y : PoppedEvent). y .found) (told w k .0) ∙ n)
+
+  blank-good : a .found ≡ false → bytes ≡ blank out
+  blank-good f =
+      split (is-due limit es)
+      (λ d. split (fits (event-rec (first-entry es)) 0 (length out))
+      (λ k. clash (a .found) (ap (λ (y : PoppedEvent). y .found) (told _ (an-event limit es out d k) .0)) f)
+      (λ k. told _ (no-room limit es out d k) .1))
+      (λ d. told _ (none-event limit es out d) .1)
 
 not-mem : (c : ℕ) (cs : List ℕ) → (c ≡ 2 → ⊥) → mem 2 cs ≡ false → mem 2 (c ∷ cs) ≡ false
 unfolding mem
@@ -414,7 +422,7 @@ new-empty ws c l e =
 -- ---- lists of calls
 
 takes : (es : List TimerMapEntry) → Good es → TakesOut (pack-queue es) es
-takes es g = record { popped-right = popped-good es g; none-due = none-good es g; event-right = event-good es g }
+takes es g = record { popped-right = popped-good es g; none-due = none-good es g; event-right = event-good es g; none-left = blank-good es g }
 
 record After (ws : List ℕ) (vs : List QueueCall) (es : List TimerMapEntry) : Type 0 where
   held-words : queue-after vs ws ≡ pack-queue (book-after vs ws es)

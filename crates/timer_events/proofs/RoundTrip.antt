@@ -24,10 +24,11 @@ use Rattle.record.proofs.Forth.{header-read, well-formed-encode, rec-of-encode}
 use Rattle.record.proofs.Format.{length-encode}
 use Rattle.spec_hyparview.specs.Station.{peers-end}
 use Rattle.spec_hyparview.specs.Rules.{all-under}
+use Rattle.timer_map.specs.Entries.{timer-ok}
 use Rattle.timer_map.specs.declared.TimerMapEntry.{TimerMapEntry}
 use Rattle.timer_events.specs.declared.ScheduleTimer.{ScheduleTimer}
 use Rattle.timer_events.specs.Records.{started, started-by, schedule-of}
-use Rattle.timer_events.specs.Events.{has-event, event-rec}
+use Rattle.timer_events.specs.Events.{event-rec}
 use Rattle.timer_events.specs.Claims.{without-delay, ComesBack, Event-comes-back}
 use Rattle.timer_events.proofs.Events.{Says, says, said}
 
@@ -37,12 +38,12 @@ abbrev head : ℕ → ℕ → ℕ → ℕ → ℕ → ℕ → ℕ → ℕ → �
 head k m f n p s t z u = record { kind = k; message = m; flags = f; nodes = n; peer = p; second = s; ttl = t; size = z; number = u }
 
 -- what a timer's header leaves at zero
-record Plain (h : Header) : Type 0 where
-  message : h .message ≡ 0
-  flags : h .flags ≡ 0
-  nodes : h .nodes ≡ 0
-  ttl : h .ttl ≡ 0
-  bare : h .kind ≤ 2 → (h .peer ≡ 0) × (h .number ≡ 0)
+pub record Plain (h : Header) : Type 0 where
+  pub message : h .message ≡ 0
+  pub flags : h .flags ≡ 0
+  pub nodes : h .nodes ≡ 0
+  pub ttl : h .ttl ≡ 0
+  pub bare : h .kind ≤ 2 → (h .peer ≡ 0) × (h .number ≡ 0)
 
 plain-1 : (m f n p s t z u : ℕ) → header-ok (head 1 m f n p s t z u) ≡ true → Plain (head 1 m f n p s t z u)
 unfolding header-ok kind-ok flags-ok count-ok peer-ok fields-ok is-message is-timer is-data fixed-size choose
@@ -111,7 +112,7 @@ by-kind P (suc (suc (suc zero))) l h a b c d = c
 by-kind P (suc (suc (suc (suc zero)))) l h a b c d = d
 by-kind P (suc (suc (suc (suc (suc k))))) l h a b c d = absurd (omega arith)
 
-plain : (h : Header) → 1 ≤ h .kind → h .kind ≤ 4 → header-ok h ≡ true → Plain h
+pub plain : (h : Header) → 1 ≤ h .kind → h .kind ≤ 4 → header-ok h ≡ true → Plain h
 plain h l k e =
     by-kind (λ (j : ℕ). header-ok (head j (h .message) (h .flags) (h .nodes) (h .peer) (h .second) (h .ttl) (h .size) (h .number)) ≡ true
     → Plain (head j (h .message) (h .flags) (h .nodes) (h .peer) (h .second) (h .ttl) (h .size) (h .number)))
@@ -184,7 +185,7 @@ unfolding header-of-by
 nodes-field b = refl
 
 -- the event's bytes read back as the event
-pub reads-back : (e : TimerMapEntry) → has-event e ≡ true → e .item .peer < peers-end → e .item .number < 2 ^ 64 → read-event (encode (event-rec e)) ≡ event (event-rec e)
+pub reads-back : (e : TimerMapEntry) → timer-ok (e .item) ≡ true → e .item .peer < peers-end → e .item .number < 2 ^ 64 → read-event (encode (event-rec e)) ≡ event (event-rec e)
 unfolding read-event
 reads-back e h p n =
     let f : InForm (event-rec e) = in-form e (says e h) p n in
@@ -252,7 +253,7 @@ event-comes-back b u w t time =
     let k : h .kind ≤ 4 = timer-high b t in
     let p : Plain h = plain h l k (parts peer-length b w .heads) in
     let e : TimerMapEntry = record { time = time; item = started h .item } in
-    let y : has-event e ≡ true = said e (record { low = l; high = k; bare = p .bare }) in
+    let y : timer-ok (e .item) ≡ true = said e (record { low = l; high = k; bare = p .bare }) refl in
     let s : event-rec e ≡ without-delay (rec-of b) = same-record b time p in
     subst (λ (x : ScheduleTimer). ComesBack b (record { time = time; item = x .item })) (sym (read-whole b w))
-    (record { has = y; is = s; reads = reads-back e y (peer-below b q) (number-below b q) ∙ ap event s })
+    (record { ok = y; is = s; reads = reads-back e y (peer-below b q) (number-below b q) ∙ ap event s })

@@ -3,30 +3,31 @@
 use Prim.Native.Nat.{ℕ, _<_}
 use mathlib.Core.Path.{_≡_}
 use mathlib.Core.Bool.{true, false}
-use mathlib.Core.List.{List, []}
-use lib.ListN.{length, getD}
+use mathlib.Core.List.{List, [], _∷_}
+use lib.ListN.{length, getD, replicate}
 use Rattle.base_lists.specs.Lists.{mem}
 use Rattle.record.specs.Format.{Rec, encode}
 use Rattle.record.specs.Read as R
 use Rattle.record.specs.Read.{header-of, is-timer, well-formed, rec-of, read-event}
 use Rattle.spec_hyparview.specs.Rules.{all-under}
+use Rattle.spec_history.specs.Calls.{Call, narrow-draws, Machine, After-new, code-of, state-of, output-of}
 use Rattle.record_writer.specs.Write.{written}
-use Rattle.timer_map.specs.Entries.{no-queue-entry}
+use Rattle.timer_map.specs.Entries.{timer-ok, no-queue-entry}
 use Rattle.timer_map.specs.Words.{pack-queue}
 use Rattle.timer_map.specs.Calls.{renewed}
 use Rattle.timer_map.specs.declared.TimerMapEntry.{TimerMapEntry}
-use Rattle.timer_events.specs.History.{QueueCall, pop-before, pop-event, popped, event, queue-answered, queue-after, reply-codes, book-after, Right}
+use Rattle.timer_events.specs.History.{QueueCall, insert-records, pop-before, pop-event, popped, event, queue-answered, queue-after, reply-code, reply-codes, book-after, Right}
 use Rattle.timer_map.specs.declared.Popped.{Popped}
 use Rattle.timer_events.specs.declared.PoppedEvent.{PoppedEvent}
 use Rattle.timer_events.specs.Records.{schedule-of}
-use Rattle.timer_events.specs.Events.{has-event, event-rec}
+use Rattle.timer_events.specs.Events.{event-rec}
 
 -- what was taken out as an event: the entry, its due time, and its event's bytes
 pub record EventRight (limit : ℕ) (es : List TimerMapEntry) (out : List ℕ) (a : PoppedEvent) (bytes : List ℕ) : Type 0 where
   pub entry : TimerMapEntry
   pub right : Right limit es entry
   pub time : a .time ≡ entry .time
-  pub has : has-event entry ≡ true
+  pub ok : timer-ok (entry .item) ≡ true
   pub bytes-are : bytes ≡ written (event-rec entry) 0 out
 
 -- the next call of a queue at the words ws, which holds the entries es
@@ -35,7 +36,10 @@ pub record TakesOut (ws : List ℕ) (es : List TimerMapEntry) : Type 0 where
   pub popped-right : (limit : ℕ) (a : Popped) → queue-answered (pop-before limit) ws .reply ≡ popped a → a .found ≡ true → Right limit es (a .entry)
   -- where nothing is, none is due
   pub none-due : (limit : ℕ) (a : Popped) → queue-answered (pop-before limit) ws .reply ≡ popped a → a .found ≡ false → (k : ℕ) → k < length es → limit < getD es k no-queue-entry .time
+  -- as an event
   pub event-right : (limit : ℕ) (out : List ℕ) (a : PoppedEvent) (bytes : List ℕ) → queue-answered (pop-event limit out) ws .reply ≡ event a bytes → a .found ≡ true → EventRight limit es out a bytes
+  -- and where none is handed out, none is left in the lent bytes
+  pub none-left : (limit : ℕ) (out : List ℕ) (a : PoppedEvent) (bytes : List ℕ) → queue-answered (pop-event limit out) ws .reply ≡ event a bytes → a .found ≡ false → bytes ≡ replicate (length out) 0
 
 -- the queue after the calls vs, from the words ws that `new` left
 pub record Holds (ws : List ℕ) (vs : List QueueCall) : Type 0 where
@@ -64,7 +68,7 @@ without-delay r = record {
 
 -- what comes out as an event is the record that went in, without its delay, and it reads back as that event: b is the record, and e an entry of the timer that it starts
 pub record ComesBack (b : List ℕ) (e : TimerMapEntry) : Type 0 where
-  pub has : has-event e ≡ true
+  pub ok : timer-ok (e .item) ≡ true
   pub is : event-rec e ≡ without-delay (rec-of b)
   pub reads : read-event (encode (event-rec e)) ≡ R.event (without-delay (rec-of b))
 
@@ -72,3 +76,20 @@ abbrev pub Event-comes-back : Type 0
 Event-comes-back =
     (b : List ℕ) → all-under 256 b ≡ true → well-formed b ≡ true → is-timer (header-of b) ≡ true
     → (time : ℕ) → ComesBack b (record { time = time; item = schedule-of (length b) b .item })
+
+-- no entry is one that an event record cannot say: taking out an event is never answered 3, whatever the words are, and so no entry stays first for it
+abbrev pub Events-never-malformed : Type 0
+Events-never-malformed = (limit : ℕ) (out ws : List ℕ) → reply-code (queue-answered (pop-event limit out) ws .reply) ≡ 3 → ⊥
+
+-- at any time and words the timers of what this call wrote are not answered 3
+abbrev pub NotMalformed : List ℕ → Type 0
+NotMalformed out = (time : ℕ) (ws : List ℕ) → reply-code (queue-answered (insert-records time out) ws .reply) ≡ 3 → ⊥
+
+-- of every accepted one of the calls to a machine
+unfoldable pub TimersTaken : {G S : Type 0} → Machine G S → List Call → S → Type 0
+TimersTaken m [] s = Unit {0}
+TimersTaken m (v ∷ vs) s = (code-of m v s ≡ 0 → NotMalformed (output-of m v s)) × TimersTaken m vs (state-of m v s)
+
+-- of every list of calls to a new station; draws have 32 bits by their type
+abbrev pub Timers-taken-of : {G S : Type 0} → Machine G S → Type 0
+Timers-taken-of m = After-new m (λ me c s. (vs : List Call) → narrow-draws vs ≡ true → TimersTaken m vs s)

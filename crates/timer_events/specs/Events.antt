@@ -1,10 +1,9 @@
 -- Document 02, S-1: a due timer taken out as the event record that `handle` reads.
 -- Assumes nothing.
 use Prim.Native.Nat.{ℕ}
-use mathlib.Core.Bool.{Bool, true, false, _&&_, _||_}
+use mathlib.Core.Bool.{true, false}
 use mathlib.Core.List.{List, []}
-use lib.ListN.{length}
-use lib.Dec.{ltb, leb, eqb}
+use lib.ListN.{length, replicate}
 use Rattle.base_lists.specs.Lists.{choose, shift-remove}
 use Rattle.record.specs.Format.{Rec}
 use Rattle.record_writer.specs.Write.{fits, written}
@@ -13,14 +12,7 @@ use Rattle.timer_map.specs.Words.{entries-of, queue-ok, pack-queue}
 use Rattle.timer_map.specs.declared.TimerMapEntry.{TimerMapEntry}
 use Rattle.timer_events.specs.declared.PoppedEvent.{PoppedEvent}
 
--- whether an event record can say the entry: kinds 1 to 4, of which 1 and 2 have neither peer nor number
-unfoldable pub has-event : TimerMapEntry → Bool
-has-event e =
-    leb 1 (e .item .kind)
-    && (leb (e .item .kind) 4
-    && (ltb 2 (e .item .kind) || (eqb (e .item .peer) 0 && eqb (e .item .number) 0)))
-
--- the event: the timer's record, without its delay
+-- the event of a timer (`timer-ok`): its record, without its delay
 unfoldable pub event-rec : TimerMapEntry → Rec
 event-rec e = record { kind = e .item .kind; message = 0; flags = 0; peer = e .item .peer; second = 0; ttl = 0; number = e .item .number; nodes = [] }
 
@@ -34,19 +26,17 @@ pub record Taken : Type 0 where
 abbrev pub without-event : ℕ → PoppedEvent
 without-event code = record { code = code; found = false; time = 0 }
 
--- and then nothing changes
+-- and then no word changes, and the lent bytes are zero: no earlier event is left in them
 abbrev pub untaken : ℕ → List ℕ → List ℕ → Taken
-untaken code ws out = record { answer = without-event code; words = ws; output = out }
+untaken code ws out = record { answer = without-event code; words = ws; output = replicate (length out) 0 }
 
--- the first due entry goes, and its event is written: 3 where it has none, then 9 where it does not fit
+-- the first due entry goes, and its event is written: 9 where it does not fit
 unfoldable pub event-popped : ℕ → List TimerMapEntry → List ℕ → Taken
 event-popped limit es out =
     choose (is-due limit es)
-    (choose (has-event (first-entry es))
     (choose (fits (event-rec (first-entry es)) 0 (length out))
     (record { answer = record { code = 0; found = true; time = first-entry es .time }; words = pack-queue (shift-remove (soonest es) es); output = written (event-rec (first-entry es)) 0 out })
     (untaken 9 (pack-queue es) out))
-    (untaken 3 (pack-queue es) out))
     (untaken 0 (pack-queue es) out)
 
 -- of any words

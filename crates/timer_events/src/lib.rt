@@ -10,19 +10,14 @@ use timer_map::TimerMapEntry;
 ghost use mathlib.Core.Path.{_≡_};
 ghost use mathlib.Core.Bool.{true};
 ghost use mathlib.Core.List.{[]};
+ghost use lib.ListN.{length, replicate};
 ghost use Rattle.record.specs.Read.{header-of};
 ghost use Rattle.record_writer.specs.Write.{rec-in};
+ghost use Rattle.timer_map.specs.Entries.{timer-ok};
 ghost use Rattle.timer_map.specs.Words.{entries-of, SoundQueue};
 ghost use Rattle.timer_map.specs.Calls.{packed-put};
 ghost use Rattle.timer_events.specs.Records.{no-start, started, schedule-of, timer-of, timers-in, insert-all, insert-records, records-inserted};
-ghost use Rattle.timer_events.specs.Events.{has-event, event-rec, without-event, event-popped, event-taken};
-
-// The kinds of a timer in the queue; those up to the second have neither peer nor number.
-const FIRST_TIMER: u64 = Kind::DO_SHUFFLE as u64;
-
-const LAST_BARE_TIMER: u64 = Kind::DO_MAINTENANCE as u64;
-
-const LAST_TIMER: u64 = Kind::RETRY_JOIN as u64;
+ghost use Rattle.timer_events.specs.Events.{event-rec, without-event, event-popped, event-taken};
 
 // A timer to be put in, and its delay.
 pub struct ScheduleTimer {
@@ -150,18 +145,9 @@ pub extern "C" fn timer_map_insert_records(q: &mut [u64], time: u64, out: &[u8])
     Refusal::STATE
 }
 
-// Whether an entry is what an event record can say.
-fn has_event(e: TimerMapEntry) -> bool
-    ensures { λ r. ⌜ r ≡ has-event e ⌝ }
-{
-    let x = e.item;
-    let bare = (x.peer == 0) & (x.number == 0);
-    (FIRST_TIMER <= x.kind) & ((x.kind <= LAST_TIMER) & ((LAST_BARE_TIMER < x.kind) | bare))
-}
-
-// The fields of that record.
+// The fields of an entry's event.
 fn fields(e: TimerMapEntry) -> Fields
-    requires { ⌜ has-event e ≡ true ⌝ }
+    requires { ⌜ timer-ok (e .item) ≡ true ⌝ }
     ensures { λ r. ⌜ rec-in r [] ≡ event-rec e ⌝ }
 {
     let x = e.item;
@@ -176,10 +162,15 @@ fn fields(e: TimerMapEntry) -> Fields
     }
 }
 
-// Without an event: none is due, or the code of a refusal.
-fn no_event(code: u32) -> PoppedEvent
-    ensures { λ r. ⌜ r ≡ without-event code ⌝ }
+// Without an event: none is due, or the code of a refusal. The lent bytes become zero, so that a caller that overlooks it delivers no earlier event again.
+fn no_event(out: &mut [u8], code: u32) -> PoppedEvent
+    ensures { λ r. ⌜ (r ≡ without-event code) × (now (out .exit) ≡ replicate (length (now (out .entry))) 0) ⌝ }
 {
+    let mut i: usize = 0;
+    while i < out.len() {
+        out[i] = 0;
+        i += 1;
+    }
     PoppedEvent {
         code: code,
         found: false,
@@ -196,30 +187,26 @@ fn pop_event_ok(q: &mut [u64], limit: u64, out: &mut [u8]) -> PoppedEvent
     if d.found {
         let e = d.entry;
         let i = d.place;
-        if has_event(e) {
-            let f = fields(e);
-            let w = record_writer::write_bare(out, 0, f);
-            match w {
-                record_writer::Written::At(_) => {
-                    timer_map::remove_entry(q, i);
-                    return PoppedEvent {
-                        code: 0,
-                        found: true,
-                        time: e.time,
-                    };
-                }
-                record_writer::Written::Full => {
-                    return no_event(Refusal::OUTPUT);
-                }
+        let f = fields(e);
+        let w = record_writer::write_bare(out, 0, f);
+        match w {
+            record_writer::Written::At(_) => {
+                timer_map::remove_entry(q, i);
+                return PoppedEvent {
+                    code: 0,
+                    found: true,
+                    time: e.time,
+                };
+            }
+            record_writer::Written::Full => {
+                return no_event(out, Refusal::OUTPUT);
             }
         }
-        return no_event(Refusal::MALFORMED);
     }
-    no_event(0)
+    no_event(out, 0)
 }
 
-// TimerMap::pop_before, with the entry written as the 32 bytes of its event. Code 2; 3, where the entry is none that an event record can say;
-// 9, where the bytes do not fit: then nothing changes.
+// TimerMap::pop_before, with the entry written as the 32 bytes of its event. Code 2; 9, where the bytes do not fit: then no word changes. Without an event the lent bytes become zero.
 #[no_mangle]
 pub extern "C" fn timer_map_pop_event(q: &mut [u64], limit: u64, out: &mut [u8]) -> PoppedEvent
     ensures { λ r. ⌜ record { answer = r; words = now (q .exit); output = now (out .exit) } ≡ event-taken limit (now (q .entry)) (now (out .entry)) ⌝ }
@@ -227,5 +214,5 @@ pub extern "C" fn timer_map_pop_event(q: &mut [u64], limit: u64, out: &mut [u8])
     if timer_map::queue_ok(q) {
         return pop_event_ok(q, limit, out);
     }
-    no_event(Refusal::STATE)
+    no_event(out, Refusal::STATE)
 }

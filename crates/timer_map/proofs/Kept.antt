@@ -12,13 +12,15 @@ use Rattle.base_lists.specs.Lists.{shift-remove}
 use Rattle.base_lists.specs.Tests.{every}
 use Rattle.base_lists.proofs.Array.{length-shift-remove}
 use Rattle.base_lists.proofs.Choice.{by-choice, split, and-left, and-right}
-use Rattle.base_lists.proofs.Tests.{both-true}
-use Rattle.timer_map.specs.Entries.{Put, timer-ok, queue-entry-ok, insert-refusal, insert-timer}
+use Rattle.base_lists.proofs.Tests.{both-true, every-true}
+use Rattle.base_lists.proofs.Entries.{all-getD}
+use Rattle.timer_map.specs.Entries.{Put, timer-ok, queue-entry-ok, insert-refusal, insert-timer, soonest, first-entry, is-due, no-queue-entry}
 use Rattle.timer_map.specs.Words.{entries-of, queue-ok, pack-queue, SoundQueue}
 use Rattle.timer_map.specs.declared.Timer.{Timer}
 use Rattle.timer_map.specs.declared.TimerMapEntry.{TimerMapEntry}
 use Rattle.timer_map.proofs.Pack.{sound, ok-pack}
-use Rattle.timer_map.proofs.Ways.{accepted, insert-malformed, insert-refused, insert-done}
+use Rattle.timer_map.proofs.Order.{soonest-below}
+use Rattle.timer_map.proofs.Ways.{accepted, insert-malformed, insert-refused, insert-done, due-some}
 
 -- the entries of a queue that keeps its rules
 pub record Good (es : List TimerMapEntry) : Type 0 where
@@ -58,11 +60,20 @@ pub data Inserts (time delay : ℕ) (x : Timer) (es : List TimerMapEntry) : Type
   refused : (c : ℕ) → (c ≡ 0 → ⊥) → (c ≡ 2 → ⊥) → insert-timer time delay x es ≡ record { code = c; entries = es } → Inserts time delay x es
   done : timer-ok x ≡ true → length es < 64 → insert-timer time delay x es ≡ record { code = 0; entries = es ++ (record { time = time + delay; item = x } ∷ []) } → Inserts time delay x es
 
+-- a timer is put in, or is refused by 12 or 11
+module _ (P : ℕ → Type 0) (late : P 12) (full : P 11) (done-so : P 0) where
+  refusals : (time delay n : ℕ) → P (insert-refusal time delay n)
+  unfolding insert-refusal
+  refusals time delay n = by-choice P _ (λ _. late) (λ _. by-choice P _ (λ _. full) (λ _. done-so))
+
+  pub timer-codes : (time delay : ℕ) (x : Timer) (es : List TimerMapEntry) → timer-ok x ≡ true → P (insert-timer time delay x es .code)
+  timer-codes time delay x es t =
+      split (eqb (insert-refusal time delay (length es)) 0)
+      (λ u. subst (λ (p : Put). P (p .code)) (sym (insert-done time delay x es t (eqb-true (insert-refusal time delay (length es)) 0 u))) done-so)
+      (λ u. subst (λ (p : Put). P (p .code)) (sym (insert-refused time delay x es t (eqb-false (insert-refusal time delay (length es)) 0 u))) (refusals time delay (length es)))
+
 not-two : (time delay n : ℕ) → insert-refusal time delay n ≡ 2 → ⊥
-unfolding insert-refusal
-not-two time delay n =
-    by-choice (λ (c : ℕ). c ≡ 2 → ⊥) _ (λ t e. omega (arith, e))
-    (λ t. by-choice (λ (c : ℕ). c ≡ 2 → ⊥) _ (λ u e. omega (arith, e)) (λ u e. omega (arith, e)))
+not-two time delay n = refusals (λ (c : ℕ). c ≡ 2 → ⊥) (λ e. omega (arith, e)) (λ e. omega (arith, e)) (λ e. omega (arith, e)) time delay n
 
 pub inserts : (time delay : ℕ) (x : Timer) (es : List TimerMapEntry) → Inserts time delay x es
 inserts time delay x es =
@@ -85,6 +96,12 @@ good-insert time delay x es g = go (inserts time delay x es)
           few = omega (arith, length-append es (y ∷ []));
           timers = every-append es (y ∷ []) ∙ both-true (every queue-entry-ok es) _ (g .timers) (one-ok y t);
         })
+
+-- what is due is a timer
+pub due-ok : (limit : ℕ) (es : List TimerMapEntry) → every queue-entry-ok es ≡ true → is-due limit es ≡ true → timer-ok (first-entry es .item) ≡ true
+unfolding first-entry queue-entry-ok
+due-ok limit es g d =
+    all-getD (λ (e : TimerMapEntry). timer-ok (e .item) ≡ true) es (soonest es) no-queue-entry (every-true queue-entry-ok (λ (e : TimerMapEntry). timer-ok (e .item) ≡ true) (λ e t. t) es g) (soonest-below es (due-some limit es d))
 
 pub good-remove : (i : ℕ) (es : List TimerMapEntry) → i < length es → Good es → Good (shift-remove i es)
 good-remove i es h g = record { few = omega (arith, length-shift-remove i es h, g .few); timers = every-remove i es (g .timers) }

@@ -1,7 +1,7 @@
 -- Document 02, S-1: util.rs's `TimerMap` as the list of its entries in the order put in, and what putting in and taking out do to that list.
 -- Assumes nothing.
 use Prim.Native.Nat.{ℕ, _+_}
-use mathlib.Core.Bool.{Bool, not, _&&_}
+use mathlib.Core.Bool.{Bool, not, _&&_, _||_}
 use mathlib.Core.List.{List, [], _∷_, _++_}
 use lib.ListN.{length, getD}
 use lib.Dec.{ltb, leb, eqb}
@@ -22,9 +22,13 @@ latest = 18446744073709551615
 abbrev pub no-id : Id → Bool
 no-id x = eqb (x .0) 0 && (eqb (x .1) 0 && (eqb (x .2) 0 && eqb (x .3) 0))
 
--- a kind that a timer can have, and an id of zero where the kind has none: kinds 1 to 4, which have none. S-7's kinds are added here alone.
+-- kinds 1 and 2, DoShuffle and DoMaintenance, have neither peer nor number, as in their records
+abbrev pub bare-ok : Timer → Bool
+bare-ok x = ltb 2 (x .kind) || (eqb (x .peer) 0 && eqb (x .number) 0)
+
+-- what an event record can say: a kind that a timer can have, the fields of that kind and no others, and an id of zero where the kind has none: kinds 1 to 4, which have none. S-7's kinds are added here alone.
 unfoldable pub timer-ok : Timer → Bool
-timer-ok x = leb 1 (x .kind) && (leb (x .kind) 4 && no-id (x .id))
+timer-ok x = leb 1 (x .kind) && (leb (x .kind) 4 && (bare-ok x && no-id (x .id)))
 
 unfoldable pub queue-entry-ok : TimerMapEntry → Bool
 queue-entry-ok e = timer-ok (e .item)

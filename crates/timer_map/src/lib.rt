@@ -27,8 +27,10 @@ const CAPACITY: u64 = 64;
 // The latest due time.
 const LATEST: u64 = 18446744073709551615;
 
-// The kinds that a timer can have; none of them has an id. What S-7 adds is added to `timer_ok` alone.
+// The kinds that a timer can have; none of them has an id, and those up to the second have neither peer nor number. What S-7 adds is added to `timer_ok` alone.
 const FIRST_KIND: u64 = 1;
+
+const LAST_BARE_KIND: u64 = 2;
 
 const LAST_KIND: u64 = 4;
 
@@ -91,13 +93,14 @@ pub struct Len {
     pub count: u64,
 }
 
-// Whether a timer can be so.
+// Whether a timer can be so: then an event record can say it.
 fn timer_ok(x: Timer) -> bool
     ensures { λ r. ⌜ r ≡ timer-ok x ⌝ }
 {
     let id = x.id;
     let no_id = (id.0 == 0) & ((id.1 == 0) & ((id.2 == 0) & (id.3 == 0)));
-    (FIRST_KIND <= x.kind) & ((x.kind <= LAST_KIND) & no_id)
+    let bare_ok = (LAST_BARE_KIND < x.kind) | ((x.peer == 0) & (x.number == 0));
+    (FIRST_KIND <= x.kind) & ((x.kind <= LAST_KIND) & (bare_ok & no_id))
 }
 
 // The entry whose row stands at place `at`.

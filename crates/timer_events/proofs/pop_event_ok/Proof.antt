@@ -1,18 +1,14 @@
 use borrow.Author.Needs.{needs}
 use Rattle.timer_map.proofs.Ways.{place-below}
-use Rattle.timer_events.proofs.Taking.{asked}
-use Rattle.timer_events.proofs.Taking.{took-none, took-malformed, took-full, took-event}
+use Rattle.timer_events.proofs.Taking.{entry-ok, took-none, took-full, took-event}
 use Rattle.timer_events.proofs.pop_event_ok.Statement.{statement}
 use Rattle.timer_events.proofs.pop_event_ok.Tie as tie
 
 find-due-requires : tie.Need-find-due-requires
 find-due-requires c κs = search needs
 
-has-event-requires : tie.Need-has-event-requires
-has-event-requires c κs = search needs
-
 fields-requires : tie.Need-fields-requires
-fields-requires c κs = search asked
+fields-requires c κs = search entry-ok
 
 write-bare-requires : tie.Need-write-bare-requires
 write-bare-requires c κs = search needs
@@ -53,24 +49,17 @@ no-event-requires-2 c κs = search needs
 same-length-5 : tie.Need-same-length-5
 same-length-5 c = search needs
 
-returns-3 : tie.Need-returns-3
-returns-3 c = search took-malformed
-
-no-event-requires-3 : tie.Need-no-event-requires-3
-no-event-requires-3 c κs = search needs
-
 same-length-6 : tie.Need-same-length-6
 same-length-6 c = search needs
 
-returns-4 : tie.Need-returns-4
-returns-4 c = search took-none
+returns-3 : tie.Need-returns-3
+returns-3 c = search took-none
 
 pub pop-event-ok-spec : {M : Type 1} → statement M
 pop-event-ok-spec =
     tie.close
     (tie.spec
     find-due-requires
-    has-event-requires
     fields-requires
     write-bare-requires
     enum-told
@@ -85,7 +74,5 @@ pop-event-ok-spec =
     returns-2
     no-event-requires-2
     same-length-5
-    returns-3
-    no-event-requires-3
     same-length-6
-    returns-4)
+    returns-3)

@@ -25,6 +25,9 @@ no-event-requires c κs = search needs
 same-length-3 : tie.Need-same-length-3
 same-length-3 c = search needs
 
+same-length-4 : tie.Need-same-length-4
+same-length-4 c = search needs
+
 returns-2 : tie.Need-returns-2
 returns-2 c = search event-broken
 
@@ -39,4 +42,5 @@ timer-map-pop-event-spec =
     returns
     no-event-requires
     same-length-3
+    same-length-4
     returns-2)
