@@ -43,7 +43,9 @@ extern "C" {
 
 /* ---- Sizes */
 
-#define HYPARVIEW_WORDS 551   /* the words of a state: uint64_t state[HYPARVIEW_WORDS], 4,408 bytes */
+/* The words of a state, by tools/layout.py */
+#define HYPARVIEW_WORDS 551 /* uint64_t state[HYPARVIEW_WORDS], 4,408 bytes */
+/* end */
 #define HYPARVIEW_OUTPUT 8192 /* bytes of output that suffice for every event, which is proved */
 #define HYPARVIEW_DRAWS 512   /* draws that suffice for every event if they are below 2^32 - 32, which is proved */
 #define HYPARVIEW_STACK 16384 /* bytes of stack that suffice for a call */
@@ -251,17 +253,17 @@ struct hyparview_tally {
  *
  * A number is one word. A list of peers is its places and then its count, from NAME up to NAME_END, where the first of
  * NAME_PLACES stands at NAME and the count at NAME_COUNT. Lists with more columns have as many places again for each,
- * before the count: column k of place i is at NAME + k * NAME_PLACES + i. ASKED and JOINS have a number in column 1;
- * HELD has the length of the data in column 1 and its bytes in columns 2 and 3, 8 in a word, the first lowest. Places past
+ * before the count: column k of place i is at NAME + k * NAME_PLACES + i. REQUESTS and JOINS have a number in column 1;
+ * PEER_DATA has the length of the data in column 1 and its bytes in columns 2 and 3, 8 in a word, the first lowest. Places past
  * a count are 0, and so are bytes past a length.
  *
  * OWN_PRESENT is 1 where the station has own data, of OWN_LEN bytes in OWN_LOW and OWN_HIGH. REFILL_KIND is 0 where refills
  * are automatic, 1 where REFILL_REQUESTS are left (0 to 3), 2 in recovery. ACTIVE are the neighbours, PASSIVE the spare
- * addresses, MARKS those of them that said they stay alive, REFUSED the peers that refused a request, ASKED the open
+ * addresses, ALIVE those of them that said they stay alive, REFUSED the peers that refused a request, REQUESTS the open
  * requests, BOOTSTRAP the peers last asked to join through, RECENT the last neighbours, JOINS the joins to be sent once
- * more, HELD what is known of other peers. docs/FORMAT.md has the rules of each. */
+ * more, PEER_DATA what is known of other peers. docs/FORMAT.md has the rules of each. */
 
-/* From here to the line with "end" by tools/layout.py. */
+/* The places, by tools/layout.py */
 #define HYPARVIEW_WORD_ME 0
 #define HYPARVIEW_WORD_OWN_PRESENT 1
 #define HYPARVIEW_WORD_OWN_LEN 2
@@ -292,18 +294,18 @@ struct hyparview_tally {
 #define HYPARVIEW_WORD_PASSIVE_PLACES 32
 #define HYPARVIEW_WORD_PASSIVE_COUNT 63
 #define HYPARVIEW_WORD_PASSIVE_END 64
-#define HYPARVIEW_WORD_MARKS 64
-#define HYPARVIEW_WORD_MARKS_PLACES 32
-#define HYPARVIEW_WORD_MARKS_COUNT 96
-#define HYPARVIEW_WORD_MARKS_END 97
+#define HYPARVIEW_WORD_ALIVE 64
+#define HYPARVIEW_WORD_ALIVE_PLACES 32
+#define HYPARVIEW_WORD_ALIVE_COUNT 96
+#define HYPARVIEW_WORD_ALIVE_END 97
 #define HYPARVIEW_WORD_REFUSED 97
 #define HYPARVIEW_WORD_REFUSED_PLACES 32
 #define HYPARVIEW_WORD_REFUSED_COUNT 129
 #define HYPARVIEW_WORD_REFUSED_END 130
-#define HYPARVIEW_WORD_ASKED 130
-#define HYPARVIEW_WORD_ASKED_PLACES 32
-#define HYPARVIEW_WORD_ASKED_COUNT 194
-#define HYPARVIEW_WORD_ASKED_END 195
+#define HYPARVIEW_WORD_REQUESTS 130
+#define HYPARVIEW_WORD_REQUESTS_PLACES 32
+#define HYPARVIEW_WORD_REQUESTS_COUNT 194
+#define HYPARVIEW_WORD_REQUESTS_END 195
 #define HYPARVIEW_WORD_BOOTSTRAP 195
 #define HYPARVIEW_WORD_BOOTSTRAP_PLACES 8
 #define HYPARVIEW_WORD_BOOTSTRAP_COUNT 203
@@ -316,10 +318,11 @@ struct hyparview_tally {
 #define HYPARVIEW_WORD_JOINS_PLACES 8
 #define HYPARVIEW_WORD_JOINS_COUNT 229
 #define HYPARVIEW_WORD_JOINS_END 230
-#define HYPARVIEW_WORD_HELD 230
-#define HYPARVIEW_WORD_HELD_PLACES 80
-#define HYPARVIEW_WORD_HELD_COUNT 550
-#define HYPARVIEW_WORD_HELD_END 551
+#define HYPARVIEW_WORD_PEER_DATA 230
+#define HYPARVIEW_WORD_PEER_DATA_PLACES 80
+#define HYPARVIEW_WORD_PEER_DATA_COUNT 550
+#define HYPARVIEW_WORD_PEER_DATA_END 551
+HYPARVIEW_ASSERT(HYPARVIEW_WORDS == HYPARVIEW_WORD_PEER_DATA_END, "the words");
 /* end */
 
 /* ---- Functions
@@ -397,7 +400,6 @@ HYPARVIEW_ASSERT(sizeof(struct hyparview_reading) == 48 && offsetof(struct hypar
                  "hyparview_reading");
 HYPARVIEW_ASSERT(sizeof(struct hyparview_node_reading) == 24 && offsetof(struct hyparview_node_reading, node) == 8,
                  "hyparview_node_reading");
-HYPARVIEW_ASSERT(HYPARVIEW_WORDS == HYPARVIEW_WORD_HELD_END, "the words");
 HYPARVIEW_ASSERT(HYPARVIEW_RECORD == HYPARVIEW_HEADER + HYPARVIEW_NODES * (HYPARVIEW_NODE + HYPARVIEW_DATA), "a record");
 #undef HYPARVIEW_ASSERT
 

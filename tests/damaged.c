@@ -66,7 +66,7 @@ static bool has(uint64_t peer, size_t at, size_t count)
 static bool peer_agrees(size_t lent, uint64_t peer, bool station)
 {
     bool neighbor = station && has(peer, HYPARVIEW_WORD_ACTIVE, HYPARVIEW_WORD_ACTIVE_COUNT);
-    bool awaited = station && (has(peer, HYPARVIEW_WORD_ASKED, HYPARVIEW_WORD_ASKED_COUNT) ||
+    bool awaited = station && (has(peer, HYPARVIEW_WORD_REQUESTS, HYPARVIEW_WORD_REQUESTS_COUNT) ||
                                has(peer, HYPARVIEW_WORD_JOINS, HYPARVIEW_WORD_JOINS_COUNT));
     return hyparview_is_neighbor(words, lent, peer) == neighbor &&
            hyparview_wants_connection(words, lent, peer) == (neighbor || awaited);
@@ -84,7 +84,7 @@ static bool queries_agree(size_t lent, bool station)
     for (size_t i = 0; i < HYPARVIEW_WORD_ACTIVE_PLACES; i++)
         same = same && peer_agrees(lent, words[HYPARVIEW_WORD_ACTIVE + i], station) &&
                peer_agrees(lent, words[HYPARVIEW_WORD_PASSIVE + i], station) &&
-               peer_agrees(lent, words[HYPARVIEW_WORD_ASKED + i], station) &&
+               peer_agrees(lent, words[HYPARVIEW_WORD_REQUESTS + i], station) &&
                peer_agrees(lent, words[HYPARVIEW_WORD_JOINS + i], station);
     same = same && peer_agrees(lent, words[HYPARVIEW_WORD_ME], station);
     return same && memcmp(before, words, sizeof words) == 0;

@@ -119,12 +119,12 @@ static void put_state(void)
     put_set(" passive=[", SECTION(PASSIVE));
     put_set(" bootstrap=[", SECTION(BOOTSTRAP));
     put_set(" recent=[", SECTION(RECENT));
-    put_numbers(" requests=[", SECTION(ASKED));
+    put_numbers(" requests=[", SECTION(REQUESTS));
     put_field(" next_request=", state[HYPARVIEW_WORD_NEXT_NEIGHBOR_REQUEST]);
     put_numbers(" joins=[", SECTION(JOINS));
     put_field(" next_join=", state[HYPARVIEW_WORD_NEXT_JOIN]);
-    put_map(" data=[", SECTION(HELD));
-    put_set(" alive=[", SECTION(MARKS));
+    put_map(" data=[", SECTION(PEER_DATA));
+    put_set(" alive=[", SECTION(ALIVE));
     put_set(" refused=[", SECTION(REFUSED));
     uint64_t refill = state[HYPARVIEW_WORD_REFILL_KIND];
     put(refill == 0 ? " refill=A" : refill == 1 ? " refill=R" : " refill=V");
@@ -196,7 +196,7 @@ static void agree(const uint64_t *sent)
                 hyparview_neighbor(state, HYPARVIEW_WORDS, n) == 0 &&
                 hyparview_spare_addresses(state, HYPARVIEW_WORDS) == state[HYPARVIEW_WORD_PASSIVE_COUNT] &&
                 all(hyparview_is_neighbor, SECTION(ACTIVE)) && all(hyparview_wants_connection, SECTION(ACTIVE)) &&
-                all(hyparview_wants_connection, SECTION(ASKED)) && all(hyparview_wants_connection, SECTION(JOINS));
+                all(hyparview_wants_connection, SECTION(REQUESTS)) && all(hyparview_wants_connection, SECTION(JOINS));
     for (size_t i = 0; i < n; i++)
         same = same && hyparview_neighbor(state, HYPARVIEW_WORDS, i) == state[HYPARVIEW_WORD_ACTIVE + i];
     for (size_t i = 0; i < state[HYPARVIEW_WORD_PASSIVE_COUNT]; i++)

@@ -12,20 +12,18 @@ use std::process::exit;
 /// A section of the words, by its HYPARVIEW_WORD_ constants: the first place, how many there are, and the count.
 struct Section(usize, usize, usize);
 
+// The places, by tools/layout.py
 const ACTIVE: Section = Section(22, 8, 30);
 const PASSIVE: Section = Section(31, 32, 63);
-const MARKS: Section = Section(64, 32, 96);
+const ALIVE: Section = Section(64, 32, 96);
 const REFUSED: Section = Section(97, 32, 129);
-const ASKED: Section = Section(130, 32, 194);
+const REQUESTS: Section = Section(130, 32, 194);
 const BOOTSTRAP: Section = Section(195, 8, 203);
 const RECENT: Section = Section(204, 8, 212);
 const JOINS: Section = Section(213, 8, 229);
-const HELD: Section = Section(230, 80, 550);
-
+const PEER_DATA: Section = Section(230, 80, 550);
 const OWN_PRESENT: usize = 1;
 const OWN_LEN: usize = 2;
-const OWN_LOW: usize = 20;
-const OWN_HIGH: usize = 21;
 const TIMERS_SCHEDULED: usize = 12;
 const NEXT_SHUFFLE_INTERVAL: usize = 13;
 const PASSES_ALONE: usize = 14;
@@ -34,6 +32,9 @@ const REFILL_KIND: usize = 16;
 const REFILL_REQUESTS: usize = 17;
 const NEXT_NEIGHBOR_REQUEST: usize = 18;
 const NEXT_JOIN: usize = 19;
+const OWN_LOW: usize = 20;
+const OWN_HIGH: usize = 21;
+// end
 
 impl Section {
     /// A column of the places in use.
@@ -111,12 +112,12 @@ fn state(w: &[u64]) -> String {
         set(w, PASSIVE),
         set(w, BOOTSTRAP),
         set(w, RECENT),
-        numbers(w, ASKED),
+        numbers(w, REQUESTS),
         w[NEXT_NEIGHBOR_REQUEST],
         numbers(w, JOINS),
         w[NEXT_JOIN],
-        map(w, HELD),
-        set(w, MARKS),
+        map(w, PEER_DATA),
+        set(w, ALIVE),
         set(w, REFUSED),
     );
     format!(
@@ -137,7 +138,7 @@ fn agrees(s: &Station, t: &Tally) -> bool {
         && s.spare_addresses() == PASSIVE.peers(w).len()
         && ACTIVE.peers(w).iter().all(|p| s.is_neighbor(*p))
         && PASSIVE.peers(w).iter().all(|p| !s.is_neighbor(*p))
-        && ASKED.peers(w).iter().all(|p| s.wants_connection(*p))
+        && REQUESTS.peers(w).iter().all(|p| s.wants_connection(*p))
         && JOINS.peers(w).iter().all(|p| s.wants_connection(*p))
 }
 

@@ -4,7 +4,9 @@
 
 use std::mem::{offset_of, size_of};
 
+// The words of a state, by tools/layout.py
 pub const WORDS: usize = 551;
+// end
 pub const OUTPUT: usize = 8192;
 pub const DRAWS: usize = 512;
 pub const HEADER: usize = 32;

@@ -12,7 +12,9 @@ use crate::{
     text::Start,
 };
 
+// The words of a state, by tools/layout.py
 pub const WORDS: usize = 551;
+// end
 
 /// The words of a state, in the order of the layout; `None` where a list has more than its places.
 pub fn words(me: Peer, settings: &Settings, parts: &Parts) -> Option<Vec<u64>> {
@@ -36,6 +38,7 @@ pub fn words(me: Peer, settings: &Settings, parts: &Parts) -> Option<Vec<u64>> {
         low,
         high,
     ]);
+    // The sections, by tools/layout.py
     words.extend(section(8, &set(&parts.active))?);
     words.extend(section(32, &set(&parts.passive))?);
     words.extend(section(32, &set(&parts.alive))?);
@@ -45,6 +48,7 @@ pub fn words(me: Peer, settings: &Settings, parts: &Parts) -> Option<Vec<u64>> {
     words.extend(section(8, &set(&parts.recent))?);
     words.extend(section(8, &map(&parts.joins))?);
     words.extend(section(80, &data(&parts.data)?)?);
+    // end
     assert_eq!(words.len(), WORDS);
     Some(words)
 }

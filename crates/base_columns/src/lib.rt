@@ -246,12 +246,10 @@ pub fn remove_data(m: &mut [u64], cap: usize, p: PeerId)
     m[end] = (n - 1) as u64;
 }
 
-// The places of the active view, of the passive view and of the requests, and of the peers of all three together.
+// The places of the active view, and of the peers of both views and of the requests together.
 pub const ACTIVE_PLACES: usize = 8;
 
-pub const PASSIVE_PLACES: usize = base_util::PLACES;
-
-pub const KNOWN: usize = ACTIVE_PLACES + 2 * PASSIVE_PLACES;
+pub const KNOWN: usize = ACTIVE_PLACES + 2 * base_util::WORKING_PLACES;
 
 // The peers of both views and of the requests, whose data may be held, as a working set.
 pub fn data_peers(active: &[u64], passive: &[u64], requests: &[u64], v: &mut [u64])
@@ -261,12 +259,12 @@ pub fn data_peers(active: &[u64], passive: &[u64], requests: &[u64], v: &mut [u6
     requires { ⌜ length (now v) ≡ known-places + 1 ⌝ }
     ensures { λ _. ⌜ HoldsSet known-places (now (v .exit)) (items-at active-places (now (active .entry)) ++ (items-at working-places (now (passive .entry)) ++ keys (numbers-at working-places (now (requests .entry))))) ⌝ }
 {
-    let mut asked = [0u64; PASSIVE_PLACES + 1];
-    keys_into(requests, PASSIVE_PLACES, &mut asked);
+    let mut asked = [0u64; base_util::WORKING_WORDS];
+    keys_into(requests, base_util::WORKING_PLACES, &mut asked);
     base_util::clear(v, KNOWN);
     base_util::append(v, KNOWN, active, ACTIVE_PLACES);
-    base_util::append(v, KNOWN, passive, PASSIVE_PLACES);
-    base_util::append(v, KNOWN, &asked, PASSIVE_PLACES);
+    base_util::append(v, KNOWN, passive, base_util::WORKING_PLACES);
+    base_util::append(v, KNOWN, &asked, base_util::WORKING_PLACES);
 }
 
 // Whether every peer of the map is in a view or has an open request; nothing is copied for it.
@@ -281,8 +279,8 @@ pub fn data_known(m: &[u64], cap: usize, active: &[u64], passive: &[u64], reques
     let end = half + half;
     let n = m[end] as usize;
     let i = active[ACTIVE_PLACES] as usize;
-    let j = passive[PASSIVE_PLACES] as usize;
-    let k = requests[2 * PASSIVE_PLACES] as usize;
+    let j = passive[base_util::WORKING_PLACES] as usize;
+    let k = requests[2 * base_util::WORKING_PLACES] as usize;
     base_scan::subset_of_three(&m[..n], &active[..i], &passive[..j], &requests[..k])
 }
 

@@ -14,6 +14,10 @@ use Rattle.base_scan.specs.Words.{unused}
 abbrev pub working-places : ℕ
 working-places = 32
 
+-- the words of a working set: its places and its count
+abbrev pub working-words : ℕ
+working-words = working-places + 1
+
 -- k words from place a on
 unfoldable pub part : ℕ → ℕ → List ℕ → List ℕ
 part a k xs = take k (drop a xs)

@@ -12,7 +12,10 @@ ghost use Rattle.base_scan.specs.Words.{unused};
 ghost use Rattle.base_util.specs.Section.{working-places, Filled, items-at, ValidSet, HoldsSet, valid-set};
 
 // How many places a working set has: as many as the largest set.
-pub const PLACES: usize = 32;
+pub const WORKING_PLACES: usize = 32;
+
+// The words of a working set: its places and its count.
+pub const WORKING_WORDS: usize = WORKING_PLACES + 1;
 
 // How many draws there are: 2^32, since a draw has 32 bits.
 const ALL_DRAWS: usize = 4294967296;
@@ -192,11 +195,11 @@ pub fn copy_column(s: &[u64], n: usize, t: &mut [u64])
         t[i] = s[i];
         i += 1;
     }
-    while i < PLACES {
+    while i < WORKING_PLACES {
         t[i] = 0;
         i += 1;
     }
-    t[PLACES] = n as u64;
+    t[WORKING_PLACES] = n as u64;
 }
 
 // ---- a set: the places, and then the count

@@ -7,10 +7,10 @@ use native.Mathlib.Omega.{arith}
 use lib.ListN.{length, getD, set}
 use borrow.Rule.Slice.PartMut.{putMid}
 use Rattle.base_util.specs.Section.{part}
-use Rattle.base_util.proofs.Parts.{part-put, part-before, part-after, part-set-before}
+use Rattle.base_util.proofs.Parts.{part-put, part-before, part-after, part-set-before, put-long}
 use Rattle.base_words.specs.Parts.{parts, begin, end}
 
-begin-after : (a : ℕ) (ns : List ℕ) (i : ℕ) → a ≤ begin a ns i
+pub begin-after : (a : ℕ) (ns : List ℕ) (i : ℕ) → a ≤ begin a ns i
 unfolding begin
 begin-after a [] i = omega arith
 begin-after a (n ∷ ns) zero = omega arith
@@ -26,6 +26,18 @@ unfolding begin end
 begin-end a [] i = omega arith
 begin-end a (n ∷ ns) zero = omega (arith, end-after (a + n) ns)
 begin-end a (n ∷ ns) (suc i) = begin-end (a + n) ns i
+
+-- a section ends no later than the last
+pub begin-within : (a : ℕ) (ns : List ℕ) (i : ℕ) → i < length ns → begin a ns i + getD ns i 0 ≤ end a ns
+unfolding begin end
+begin-within a [] i h = absurd (omega (arith, h))
+begin-within a (n ∷ ns) zero h = end-after (a + n) ns
+begin-within a (n ∷ ns) (suc i) h = begin-within (a + n) ns i (omega (arith, h))
+
+pub put-same : (a k : ℕ) (xs zs : List ℕ) → a + k ≤ length xs → length zs ≡ k → length (putMid a k xs zs) ≡ length xs
+put-same a k xs zs l e =
+    let d : (a + k) - a ≡ k = omega arith in
+    subst (λ (j : ℕ). length (putMid a j xs zs) ≡ length xs) d (put-long a (a + k) xs zs (omega arith) l (e ∙ sym d))
 
 part-later : (b m a k : ℕ) (xs zs : List ℕ) → a + k ≤ b → a + k ≤ length xs → length zs ≡ k → part b m (putMid a k xs zs) ≡ part b m xs
 part-later b m a k xs zs h l e =
@@ -51,12 +63,3 @@ pub set-parts : (a : ℕ) (ns : List ℕ) (i v : ℕ) (xs : List ℕ) → i < a 
 unfolding parts
 set-parts a [] i v xs h = refl
 set-parts a (n ∷ ns) i v xs h = λ j. part-set-before a n i v xs h j ∷ set-parts (a + n) ns i v xs (omega (arith, h)) j
-
--- worked: the station's layout, the passive view put back; the nine sections by computing, with no law of its own
-abbrev station-sizes : List ℕ
-station-sizes = 9 ∷ 33 ∷ 33 ∷ 33 ∷ 65 ∷ 9 ∷ 9 ∷ 17 ∷ 321 ∷ []
-
-pub passive-put : (xs zs : List ℕ) → length xs ≡ 551 → length zs ≡ 33
-    → parts 22 station-sizes (putMid 31 33 xs zs) ≡ part 22 9 xs ∷ zs ∷ part 64 33 xs ∷ part 97 33 xs ∷ part 130 65 xs ∷ part 195 9 xs ∷ part 204 9 xs ∷ part 213 17 xs ∷ part 230 321 xs ∷ []
-unfolding parts begin end
-passive-put xs zs l e = put-parts 22 station-sizes 1 xs zs (omega arith) (omega (arith, l)) e

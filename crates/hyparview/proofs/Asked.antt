@@ -23,11 +23,11 @@ asked-yes t x y h e = rw h e
 asked-no : (t y : Bool) → t ≡ false → false ≡ (t && y)
 asked-no t y h = rw h
 
-pub past-last : (xs : List ℕ) (n i : ℕ) → n ≡ length (items-at 8 (layout.active-part xs)) → n ≤ i → 0 ≡ getD (unpack xs .active) i 0
+pub past-last : (xs : List ℕ) (n i : ℕ) → n ≡ length (items-at layout.active-places (layout.active-part xs)) → n ≤ i → 0 ≡ getD (unpack xs .active) i 0
 unfolding unpack station-of
-past-last xs n i e h = sym (List·getD-eq-default (items-at 8 (layout.active-part xs)) 0 (subst (λ (k : ℕ). k ≤ i) e h))
+past-last xs n i e h = sym (List·getD-eq-default (items-at layout.active-places (layout.active-part xs)) 0 (subst (λ (k : ℕ). k ≤ i) e h))
 
-pub wanted-is : (xs : List ℕ) (p : ℕ) (a q j : Bool) → a ≡ in-active p (unpack xs) → q ≡ is-requested p (unpack xs) → j ≡ has p (numbers-at 8 (layout.joins-part xs))
+pub wanted-is : (xs : List ℕ) (p : ℕ) (a q j : Bool) → a ≡ in-active p (unpack xs) → q ≡ is-requested p (unpack xs) → j ≡ has p (numbers-at layout.joins-places (layout.joins-part xs))
     → (a || (q || j)) ≡ wants-connection p (unpack xs)
 unfolding wants-connection is-requested has unpack station-of
 wanted-is xs p a q j x y z = λ i. x i || (y i || z i)
@@ -67,7 +67,7 @@ module _ (xs : List ℕ) (b : Bool) (e : b ≡ state-ok xs) where
   unfolding neighbors-in
   nobody h = sym (choose-no (state-ok xs) _ _ (sym e ∙ h))
 
-  pub counted : (n : ℕ) → b ≡ true → n ≡ length (items-at 8 (layout.active-part xs)) → n ≡ length (neighbors-in xs)
+  pub counted : (n : ℕ) → b ≡ true → n ≡ length (items-at layout.active-places (layout.active-part xs)) → n ≡ length (neighbors-in xs)
   unfolding unpack station-of
   counted n h q = q ∙ ap length (there h)
 
@@ -80,7 +80,7 @@ module _ (xs : List ℕ) (b : Bool) (e : b ≡ state-ok xs) where
   pub named-none : (i : ℕ) → b ≡ false → 0 ≡ getD (neighbors-in xs) i 0
   named-none i h = ap (λ (l : List ℕ). getD l i 0) (nobody h)
 
-  pub spares : (n : ℕ) → b ≡ true → n ≡ length (items-at 32 (layout.passive-part xs)) → n ≡ spare-addresses-in xs
+  pub spares : (n : ℕ) → b ≡ true → n ≡ length (items-at layout.passive-places (layout.passive-part xs)) → n ≡ spare-addresses-in xs
   unfolding spare-addresses-in spare-addresses unpack station-of
   spares n h q = q ∙ sym (choose-yes (state-ok xs) _ _ (sym e ∙ h))
 

@@ -1,6 +1,6 @@
 -- A new station in its words.
 -- Assumes nothing.
-use Prim.Native.Nat.{ℕ, min, _<_}
+use Prim.Native.Nat.{ℕ, min, _<_, _-_}
 use mathlib.Core.Path.{_≡_, refl, sym, ap, _∙_, subst}
 use mathlib.Core.Bool.{Bool, true, false, _&&_}
 use mathlib.Core.List.{List, [], _∷_, _++_}
@@ -32,15 +32,24 @@ use Rattle.hyparview_rules.specs.Pack.{present-word, kind-word, requests-word, 
 use Rattle.hyparview_rules.proofs.Back.{present-back, len-back, low-back, high-back}
 use Rattle.hyparview.specs.Made.{lent, pack-made, made}
 
--- ---- the sections of a new station are zeroes
-
-none-packed : pad {A = ℕ} 0 529 [] ≡ section 8 [] ++ (section 32 [] ++ (section 32 [] ++ (section 32 []
-    ++ (numbers-section 32 [] ++ (section 8 [] ++ (section 8 [] ++ (numbers-section 8 [] ++ data-section 80 [])))))))
+-- the sections of a new station are zeroes, by tools/layout.py
+none-packed : pad {A = ℕ} 0 (layout.words - layout.numbers-end) [] ≡
+    section layout.active-places []
+    ++ (section layout.passive-places []
+    ++ (section layout.alive-places []
+    ++ (section layout.refused-places []
+    ++ (numbers-section layout.requests-places []
+    ++ (section layout.bootstrap-places []
+    ++ (section layout.recent-places []
+    ++ (numbers-section layout.joins-places []
+    ++ data-section layout.peer-data-places [])))))))
 unfolding section numbers-section data-section pad keys values
 none-packed = refl
 
+-- end
+
 -- the state of zeroes is a list of zeroes
-pub zero-words : pad 0 551 [] ≡ pack zero-station
+pub zero-words : pad 0 layout.words [] ≡ pack zero-station
 unfolding pack front zero-station new-station zero-config present-word kind-word requests-word bytes-of low-word high-word read-le section numbers-section data-section pad keys values
 zero-words = refl
 
@@ -80,16 +89,16 @@ module _ (d : PeerData) (low high : ℕ) (v : ValidData d) (e : le 8 low ≡ tak
 -- ---- a new station
 
 -- the numbers in their places, before zeroes
-pub placed : (me : ℕ) (d : Data) (c : Config) (ys ns zs : List ℕ) → ys ≡ pad 0 551 [] → ns ≡ front (new-station me d c) → zs ≡ ns → zs ++ drop 22 ys ≡ pack (new-station me d c)
+pub placed : (me : ℕ) (d : Data) (c : Config) (ys ns zs : List ℕ) → ys ≡ pad 0 layout.words [] → ns ≡ front (new-station me d c) → zs ≡ ns → zs ++ drop layout.numbers-end ys ≡ pack (new-station me d c)
 unfolding pack new-station pad
-placed me d c ys ns zs z p q = (λ i. (q ∙ p) i ++ drop 22 (z i)) ∙ ap (λ (l : List ℕ). front (new-station me d c) ++ l) none-packed
+placed me d c ys ns zs z p q = (λ i. (q ∙ p) i ++ drop layout.numbers-end (z i)) ∙ ap (λ (l : List ℕ). front (new-station me d c) ++ l) none-packed
 
 -- the part of the words that the numbers stand in
-pub front-inside : (ys : List ℕ) → ys ≡ pad 0 551 [] → 22 ≡ length (take 22 ys)
+pub front-inside : (ys : List ℕ) → ys ≡ pad 0 layout.words [] → layout.numbers-end ≡ length (take layout.numbers-end ys)
 unfolding pad
-front-inside ys z = sym (ap (λ (l : List ℕ). length (take 22 l)) z)
+front-inside ys z = sym (ap (λ (l : List ℕ). length (take layout.numbers-end l)) z)
 
-pub front-long : (me : ℕ) (d : Data) (c : Config) (ns : List ℕ) → ns ≡ front (new-station me d c) → length ns ≡ 22
+pub front-long : (me : ℕ) (d : Data) (c : Config) (ns : List ℕ) → ns ≡ front (new-station me d c) → length ns ≡ layout.numbers-end
 unfolding front
 front-long me d c ns p = ap length p
 
@@ -126,7 +135,7 @@ unfolding made
 other-length xs me d c n = sym (choose-no _ _ _ (ne-eqb (length xs) layout.words n))
 
 -- the words are cleared before all else
-pub cleared : (xs ys : List ℕ) → length xs ≡ layout.words → ys ≡ pad 0 (length xs) (take 0 xs) → ys ≡ pad 0 551 []
+pub cleared : (xs ys : List ℕ) → length xs ≡ layout.words → ys ≡ pad 0 (length xs) (take 0 xs) → ys ≡ pad 0 layout.words []
 cleared xs ys l e = e ∙ ap (λ (n : ℕ). pad {A = ℕ} 0 n []) l
 
 module _ (xs : List ℕ) (me : ℕ) (d : Data) (c : Config) (m : MaybeData) (b : Bool) (l : length xs ≡ layout.words) (e : b ≡ in-range c) (o : Own m d) where

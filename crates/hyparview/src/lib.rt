@@ -26,7 +26,7 @@ pub const OUTPUT: usize = 8192;
 pub const DRAWS: usize = 512;
 
 // The numbers of a station that has met no event, in the order of `Layout`, where the active view follows them.
-fn first_numbers(me: PeerId, own: PeerData, config: Config) -> [u64; Layout::ACTIVE]
+fn first_numbers(me: PeerId, own: PeerData, config: Config) -> [u64; Layout::NUMBERS_END]
     requires { ⌜ ValidData own ⌝ }
     ensures { λ r. ⌜ r ≡ front (new-station me (data-in own) config) ⌝ }
 {
@@ -83,7 +83,7 @@ pub fn new(st: &mut [u64], me: PeerId, present: bool, own: &[u8], config: Config
     if config.in_range() & d.ok {
         let data = d.data;
         let numbers = first_numbers(me, data, config);
-        copy_words(&numbers, &mut st[..Layout::ACTIVE]);
+        copy_words(&numbers, &mut st[..Layout::NUMBERS_END]);
         return 0;
     }
     Refusal::SETTINGS
@@ -100,7 +100,7 @@ pub fn wants_connection(st: &[u64], p: PeerId) -> bool
             | (hyparview_state::is_requested(st, p)
                 | base_columns::contains_number(
                     &st[Layout::JOINS..Layout::JOINS_END],
-                    Layout::FEW,
+                    Layout::JOINS_PLACES,
                     p,
                 ));
     }
@@ -121,7 +121,10 @@ pub fn neighbor_count(st: &[u64]) -> usize
     ensures { λ r. ⌜ r ≡ length (neighbors-in (now (st .entry))) ⌝ }
 {
     if hyparview_rules::is_ok(st) {
-        return base_util::count(&st[Layout::ACTIVE..Layout::ACTIVE_END], Layout::FEW);
+        return base_util::count(
+            &st[Layout::ACTIVE..Layout::ACTIVE_END],
+            Layout::ACTIVE_PLACES,
+        );
     }
     0
 }
@@ -131,9 +134,16 @@ pub fn neighbor(st: &[u64], i: usize) -> PeerId
     ensures { λ r. ⌜ r ≡ getD (neighbors-in (now (st .entry))) i 0 ⌝ }
 {
     if hyparview_rules::is_ok(st) {
-        let n = base_util::count(&st[Layout::ACTIVE..Layout::ACTIVE_END], Layout::FEW);
+        let n = base_util::count(
+            &st[Layout::ACTIVE..Layout::ACTIVE_END],
+            Layout::ACTIVE_PLACES,
+        );
         if i < n {
-            return base_util::get_index(&st[Layout::ACTIVE..Layout::ACTIVE_END], Layout::FEW, i);
+            return base_util::get_index(
+                &st[Layout::ACTIVE..Layout::ACTIVE_END],
+                Layout::ACTIVE_PLACES,
+                i,
+            );
         }
     }
     0
@@ -144,7 +154,10 @@ pub fn spare_addresses(st: &[u64]) -> usize
     ensures { λ r. ⌜ r ≡ spare-addresses-in (now (st .entry)) ⌝ }
 {
     if hyparview_rules::is_ok(st) {
-        return base_util::count(&st[Layout::PASSIVE..Layout::PASSIVE_END], Layout::ALL);
+        return base_util::count(
+            &st[Layout::PASSIVE..Layout::PASSIVE_END],
+            Layout::PASSIVE_PLACES,
+        );
     }
     0
 }

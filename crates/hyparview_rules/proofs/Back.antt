@@ -31,6 +31,7 @@ use Rattle.hyparview_rules.specs.Ok.{packed-ok}
 use Rattle.hyparview_rules.proofs.Under.{under-of}
 use Rattle.hyparview_rules.proofs.Widths.{under-at}
 use Rattle.hyparview_rules.proofs.Shape.{Shape, ok-shape, packed-shape}
+use Rattle.hyparview_rules.proofs.Parts.{rejoined-active}
 
 -- ---- own data
 
@@ -99,45 +100,44 @@ module _ (xs : List ℕ) (v : Shape xs) where
   small : (i : ℕ) → getD xs i 0 < words-end
   small i = under-at words-end xs (omega arith) (v .wide) i
 
-  front-back : front (unpack xs) ≡ take 22 xs
+  front-back : front (unpack xs) ≡ take layout.numbers-end xs
   unfolding front unpack station-of own-at settings-at limit-at slots
   front-back =
       let p = layout.own-present xs in
       let l = layout.own-len xs in
       let w = layout.own-low xs in
       let x = layout.own-high xs in
-      (λ i. getD xs 0 0 ∷ present-back p l w x (v .present) (v .own-data) (small 20) (small 21) i ∷ len-back p l w x (v .present) (v .own-data) (small 20) (small 21) i
-      ∷ getD xs 3 0 ∷ getD xs 4 0 ∷ getD xs 5 0 ∷ getD xs 6 0 ∷ getD xs 7 0 ∷ getD xs 8 0 ∷ getD xs 9 0 ∷ getD xs 10 0 ∷ getD xs 11 0
-      ∷ timers-back (getD xs 12 0) (v .timers) i ∷ getD xs 13 0 ∷ getD xs 14 0 ∷ getD xs 15 0 ∷ kind-back (getD xs 16 0) (getD xs 17 0) (v .limit) i ∷ requests-back (getD xs 16 0) (getD xs 17 0) (v .limit) i
-      ∷ getD xs 18 0 ∷ getD xs 19 0 ∷ low-back p l w x (v .present) (v .own-data) (small 20) (small 21) i ∷ high-back p l w x (v .present) (v .own-data) (small 20) (small 21) i ∷ [])
-      ∙ slots-are 22 0 xs (omega (arith, v .size))
+      (λ i. layout.me xs ∷ present-back p l w x (v .present) (v .own-data) (small layout.own-low-at) (small layout.own-high-at) i ∷ len-back p l w x (v .present) (v .own-data) (small layout.own-low-at) (small layout.own-high-at) i
+      ∷ layout.active-view-capacity xs ∷ layout.passive-view-capacity xs ∷ layout.active-random-walk-length xs ∷ layout.passive-random-walk-length xs ∷ layout.shuffle-random-walk-length xs ∷ layout.shuffle-active-view-count xs ∷ layout.shuffle-passive-view-count xs ∷ layout.shuffle-interval xs ∷ layout.neighbor-request-timeout xs
+      ∷ timers-back (layout.timers-scheduled xs) (v .timers) i ∷ layout.next-shuffle-interval xs ∷ layout.passes-alone xs ∷ layout.passes-short xs ∷ kind-back (layout.refill-kind xs) (layout.refill-requests xs) (v .limit) i ∷ requests-back (layout.refill-kind xs) (layout.refill-requests xs) (v .limit) i
+      ∷ layout.next-neighbor-request xs ∷ layout.next-join xs ∷ low-back p l w x (v .present) (v .own-data) (small layout.own-low-at) (small layout.own-high-at) i ∷ high-back p l w x (v .present) (v .own-data) (small layout.own-low-at) (small layout.own-high-at) i ∷ [])
+      ∙ slots-are layout.numbers-end 0 xs (omega (arith, v .size))
 
 -- ---- the sections
-
-joined : (a k : ℕ) (xs : List ℕ) → part a k xs ++ drop (a + k) xs ≡ drop a xs
-unfolding part
-joined a k xs = ap (λ (l : List ℕ). take k (drop a xs) ++ l) (sym (drop-drop k a xs)) ∙ take-append-drop k (drop a xs)
 
 small-part : (a k : ℕ) (xs : List ℕ) → Small xs → Small (part a k xs)
 unfolding part
 small-part a k xs f i = rw (slice-part a k xs) (slice-each (λ x. x < words-end) 0 a (a + k) xs (omega arith) f i)
 
+-- the numbers and the sections, packed again, by tools/layout.py
 pub shape-back : (xs : List ℕ) → Shape xs → pack (unpack xs) ≡ xs
-unfolding pack unpack station-of part
+unfolding pack unpack station-of
 shape-back xs v =
-    let d : part 230 321 xs ≡ drop 230 xs = take-all 321 (drop 230 xs) (omega (arith, length-drop 230 xs, v .size)) in
-    (λ i. front-back xs v i ++ (sym (set-words 8 _ (v .active)) i ++ (sym (set-words 32 _ (v .passive)) i ++ (sym (set-words 32 _ (v .alive)) i ++ (sym (set-words 32 _ (v .refused)) i
-    ++ (sym (numbers-words 32 _ (v .requests)) i ++ (sym (set-words 8 _ (v .bootstrap)) i ++ (sym (set-words 8 _ (v .recent)) i ++ (sym (numbers-words 8 _ (v .joins)) i
-    ++ (sym (data-words 80 _ (v .peer-data) (small-part 230 321 xs (small xs v))) ∙ d) i)))))))))
-    ∙ ap (λ (l : List ℕ). take 22 xs ++ (part 22 9 xs ++ (part 31 33 xs ++ (part 64 33 xs ++ (part 97 33 xs ++ (part 130 65 xs ++ (part 195 9 xs ++ (part 204 9 xs ++ l)))))))) (joined 213 17 xs)
-    ∙ ap (λ (l : List ℕ). take 22 xs ++ (part 22 9 xs ++ (part 31 33 xs ++ (part 64 33 xs ++ (part 97 33 xs ++ (part 130 65 xs ++ (part 195 9 xs ++ l))))))) (joined 204 9 xs)
-    ∙ ap (λ (l : List ℕ). take 22 xs ++ (part 22 9 xs ++ (part 31 33 xs ++ (part 64 33 xs ++ (part 97 33 xs ++ (part 130 65 xs ++ l)))))) (joined 195 9 xs)
-    ∙ ap (λ (l : List ℕ). take 22 xs ++ (part 22 9 xs ++ (part 31 33 xs ++ (part 64 33 xs ++ (part 97 33 xs ++ l))))) (joined 130 65 xs)
-    ∙ ap (λ (l : List ℕ). take 22 xs ++ (part 22 9 xs ++ (part 31 33 xs ++ (part 64 33 xs ++ l)))) (joined 97 33 xs)
-    ∙ ap (λ (l : List ℕ). take 22 xs ++ (part 22 9 xs ++ (part 31 33 xs ++ l))) (joined 64 33 xs)
-    ∙ ap (λ (l : List ℕ). take 22 xs ++ (part 22 9 xs ++ l)) (joined 31 33 xs)
-    ∙ ap (λ (l : List ℕ). take 22 xs ++ l) (joined 22 9 xs)
-    ∙ take-append-drop 22 xs
+    (λ i.
+    front-back xs v i
+    ++ (sym (set-words layout.active-places _ (v .sections .active)) i
+    ++ (sym (set-words layout.passive-places _ (v .sections .passive)) i
+    ++ (sym (set-words layout.alive-places _ (v .sections .alive)) i
+    ++ (sym (set-words layout.refused-places _ (v .sections .refused)) i
+    ++ (sym (numbers-words layout.requests-places _ (v .sections .requests)) i
+    ++ (sym (set-words layout.bootstrap-places _ (v .sections .bootstrap)) i
+    ++ (sym (set-words layout.recent-places _ (v .sections .recent)) i
+    ++ (sym (numbers-words layout.joins-places _ (v .sections .joins)) i
+    ++ sym (data-words layout.peer-data-places _ (v .sections .peer-data) (small-part layout.peer-data-at layout.peer-data-size xs (small xs v))) i)))))))))
+    ∙ ap (λ (l : List ℕ). take layout.numbers-end xs ++ l) (rejoined-active xs (v .size))
+    ∙ take-append-drop layout.numbers-end xs
+
+-- end
 
 -- of words that pass the test
 pub ok-back : (xs : List ℕ) → packed-ok xs ≡ true → pack (unpack xs) ≡ xs

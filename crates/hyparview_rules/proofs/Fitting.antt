@@ -32,7 +32,8 @@ use Rattle.spec_hyparview.specs.Station.{Station, Refill, automatic, requests-l
 use Rattle.spec_hyparview.specs.Rules.{short-data, all-short, all-under, lists-under, peer-lists, limit-ok, settings-rule, order-rule, capacity-rule, alive-rule, few-rule, joins-rule, numbers-rule, room-rule, data-rule, limit-rule, interval-rule, rules, station-ok}
 use Rattle.spec_hyparview.specs.Rules as R
 use Rattle.spec_hyparview.specs.Handle.{new-station, zero-config, zero-station}
-use Rattle.hyparview_state.specs.Layout.{Sections}
+use Rattle.hyparview_state.specs.Layout as layout
+use Rattle.hyparview_state.specs.Layout.{Sections, sections, WellFormed}
 use Rattle.hyparview_state.specs.Unpack.{own-at, settings-at, limit-at, limit-formed, refill-in, station-of, unpack}
 use Rattle.hyparview_state.proofs.Memory.{bit-fits, bool-back, two-limit}
 use Rattle.hyparview_rules.specs.Pack.{present-word, kind-word, requests-word, front, pack}
@@ -72,20 +73,22 @@ no-more (x ∷ xs) ys r h =
 pub record Fits (g : Station) : Type 0 where
   pub own-data : short-data (g .own-data) ≡ true
   pub own-bytes : all-under bytes-end (bytes-of (g .own-data)) ≡ true
-  pub active : length (g .active) ≤ 8
-  pub passive : length (g .passive) ≤ 32
-  pub bootstrap : length (g .bootstrap) ≤ 8
-  pub recent : length (g .recent) ≤ 8
-  pub requests : length (g .requests) ≤ 32
+  -- room in every section, and maps that rise, by tools/layout.py
+  pub active : length (g .active) ≤ layout.active-places
+  pub passive : length (g .passive) ≤ layout.passive-places
+  pub alive : length (g .alive) ≤ layout.alive-places
+  pub refused : length (g .refused) ≤ layout.refused-places
+  pub requests : length (g .requests) ≤ layout.requests-places
   pub requests-rise : Rising (keys (g .requests))
-  pub joins : length (g .joins) ≤ 8
+  pub bootstrap : length (g .bootstrap) ≤ layout.bootstrap-places
+  pub recent : length (g .recent) ≤ layout.recent-places
+  pub joins : length (g .joins) ≤ layout.joins-places
   pub joins-rise : Rising (keys (g .joins))
-  pub peer-data : length (g .peer-data) ≤ 80
+  pub peer-data : length (g .peer-data) ≤ layout.peer-data-places
   pub peer-data-rise : Rising (keys (g .peer-data))
-  pub short : all-short (g .peer-data) ≡ true
-  pub bytes : lists-under bytes-end (values (g .peer-data)) ≡ true
-  pub alive : length (g .alive) ≤ 32
-  pub refused : length (g .refused) ≤ 32
+  pub peer-data-short : all-short (g .peer-data) ≡ true
+  pub peer-data-bytes : lists-under bytes-end (values (g .peer-data)) ≡ true
+  -- end
 
 pub kept-fits : (g : Station) → Kept g → Fits g
 unfolding settings-rule capacity-rule order-rule alive-rule few-rule joins-rule room-rule data-rule lists-under
@@ -118,8 +121,8 @@ kept-fits g k =
       joins-rise = joins-rise;
       peer-data = leb-true _ _ (and-right turned _ room);
       peer-data-rise = rising-true _ (and-left (rising (keys (g .peer-data))) _ o₂);
-      short = and-left (all-short (g .peer-data)) _ (k .lengths);
-      bytes = and-right (all-under bytes-end (bytes-of (g .own-data))) _ held;
+      peer-data-short = and-left (all-short (g .peer-data)) _ (k .lengths);
+      peer-data-bytes = and-right (all-under bytes-end (bytes-of (g .own-data))) _ held;
       alive = omega (arith, alive, passive, most .passive .most);
       refused = leb-true _ _ (and-left turned _ room);
     }
@@ -165,31 +168,76 @@ unfolding present-word
 present-fits none = omega arith
 present-fits (some b) = omega arith
 
+-- the sections come out again, and are well formed, by tools/layout.py
+module _ (g : Station) (v : Fits g) where
+  active-out : items-at layout.active-places (layout.active-part (pack g)) ≡ g .active
+  active-out = ap (λ (t : Sections). items-at layout.active-places (t .active)) (packed-sections g) ∙ section-holds layout.active-places (g .active) (v .active) .items
+
+  passive-out : items-at layout.passive-places (layout.passive-part (pack g)) ≡ g .passive
+  passive-out = ap (λ (t : Sections). items-at layout.passive-places (t .passive)) (packed-sections g) ∙ section-holds layout.passive-places (g .passive) (v .passive) .items
+
+  alive-out : items-at layout.alive-places (layout.alive-part (pack g)) ≡ g .alive
+  alive-out = ap (λ (t : Sections). items-at layout.alive-places (t .alive)) (packed-sections g) ∙ section-holds layout.alive-places (g .alive) (v .alive) .items
+
+  refused-out : items-at layout.refused-places (layout.refused-part (pack g)) ≡ g .refused
+  refused-out = ap (λ (t : Sections). items-at layout.refused-places (t .refused)) (packed-sections g) ∙ section-holds layout.refused-places (g .refused) (v .refused) .items
+
+  requests-out : numbers-at layout.requests-places (layout.requests-part (pack g)) ≡ g .requests
+  requests-out = ap (λ (t : Sections). numbers-at layout.requests-places (t .requests)) (packed-sections g) ∙ numbers-hold layout.requests-places (g .requests) (v .requests) (v .requests-rise) .items
+
+  bootstrap-out : items-at layout.bootstrap-places (layout.bootstrap-part (pack g)) ≡ g .bootstrap
+  bootstrap-out = ap (λ (t : Sections). items-at layout.bootstrap-places (t .bootstrap)) (packed-sections g) ∙ section-holds layout.bootstrap-places (g .bootstrap) (v .bootstrap) .items
+
+  recent-out : items-at layout.recent-places (layout.recent-part (pack g)) ≡ g .recent
+  recent-out = ap (λ (t : Sections). items-at layout.recent-places (t .recent)) (packed-sections g) ∙ section-holds layout.recent-places (g .recent) (v .recent) .items
+
+  joins-out : numbers-at layout.joins-places (layout.joins-part (pack g)) ≡ g .joins
+  joins-out = ap (λ (t : Sections). numbers-at layout.joins-places (t .joins)) (packed-sections g) ∙ numbers-hold layout.joins-places (g .joins) (v .joins) (v .joins-rise) .items
+
+  peer-data-out : data-map-at layout.peer-data-places (layout.peer-data-part (pack g)) ≡ g .peer-data
+  peer-data-out = ap (λ (t : Sections). data-map-at layout.peer-data-places (t .peer-data)) (packed-sections g) ∙ data-hold layout.peer-data-places (g .peer-data) (v .peer-data) (v .peer-data-rise) (v .peer-data-short) (v .peer-data-bytes) .items
+
+  sections-formed : WellFormed (sections (pack g))
+  sections-formed = subst WellFormed (sym (packed-sections g)) (record {
+    active = section-holds layout.active-places (g .active) (v .active) .valid;
+    passive = section-holds layout.passive-places (g .passive) (v .passive) .valid;
+    alive = section-holds layout.alive-places (g .alive) (v .alive) .valid;
+    refused = section-holds layout.refused-places (g .refused) (v .refused) .valid;
+    requests = numbers-hold layout.requests-places (g .requests) (v .requests) (v .requests-rise) .valid;
+    bootstrap = section-holds layout.bootstrap-places (g .bootstrap) (v .bootstrap) .valid;
+    recent = section-holds layout.recent-places (g .recent) (v .recent) .valid;
+    joins = numbers-hold layout.joins-places (g .joins) (v .joins) (v .joins-rise) .valid;
+    peer-data = data-hold layout.peer-data-places (g .peer-data) (v .peer-data) (v .peer-data-rise) (v .peer-data-short) (v .peer-data-bytes) .valid;
+  })
+
+-- end
+
+-- a station comes out of the words that it is packed into, by tools/layout.py
 pub unpack-pack : (g : Station) → Fits g → unpack (pack g) ≡ g
 unfolding unpack station-of pack front own-at settings-at limit-at
-unpack-pack g v =
-    let s = packed-sections g in
-    λ i. record {
-      me = g .me;
-      own-data = (ap data-in (own-words (g .own-data) (v .own-data) (v .own-bytes)) ∙ own-padded (g .own-data) (v .own-data)) i;
-      active = (ap (λ (t : Sections). items-at 8 (t .active)) s ∙ section-holds 8 (g .active) (v .active) .items) i;
-      passive = (ap (λ (t : Sections). items-at 32 (t .passive)) s ∙ section-holds 32 (g .passive) (v .passive) .items) i;
-      config = g .config;
-      scheduled = bool-back (g .scheduled) i;
-      next-interval = g .next-interval;
-      bootstrap = (ap (λ (t : Sections). items-at 8 (t .bootstrap)) s ∙ section-holds 8 (g .bootstrap) (v .bootstrap) .items) i;
-      passes-alone = g .passes-alone;
-      passes-short = g .passes-short;
-      recent = (ap (λ (t : Sections). items-at 8 (t .recent)) s ∙ section-holds 8 (g .recent) (v .recent) .items) i;
-      requests = (ap (λ (t : Sections). numbers-at 32 (t .requests)) s ∙ numbers-hold 32 (g .requests) (v .requests) (v .requests-rise) .items) i;
-      next-request = g .next-request;
-      joins = (ap (λ (t : Sections). numbers-at 8 (t .joins)) s ∙ numbers-hold 8 (g .joins) (v .joins) (v .joins-rise) .items) i;
-      next-join = g .next-join;
-      peer-data = (ap (λ (t : Sections). data-map-at 80 (t .peer-data)) s ∙ data-hold 80 (g .peer-data) (v .peer-data) (v .peer-data-rise) (v .short) (v .bytes) .items) i;
-      alive = (ap (λ (t : Sections). items-at 32 (t .alive)) s ∙ section-holds 32 (g .alive) (v .alive) .items) i;
-      refused = (ap (λ (t : Sections). items-at 32 (t .refused)) s ∙ section-holds 32 (g .refused) (v .refused) .items) i;
-      refill = limit-out (g .refill) i;
-    }
+unpack-pack g v = λ i. record {
+  me = g .me;
+  own-data = (ap data-in (own-words (g .own-data) (v .own-data) (v .own-bytes)) ∙ own-padded (g .own-data) (v .own-data)) i;
+  active = active-out g v i;
+  passive = passive-out g v i;
+  config = g .config;
+  scheduled = bool-back (g .scheduled) i;
+  next-interval = g .next-interval;
+  bootstrap = bootstrap-out g v i;
+  passes-alone = g .passes-alone;
+  passes-short = g .passes-short;
+  recent = recent-out g v i;
+  requests = requests-out g v i;
+  next-request = g .next-request;
+  joins = joins-out g v i;
+  next-join = g .next-join;
+  peer-data = peer-data-out g v i;
+  alive = alive-out g v i;
+  refused = refused-out g v i;
+  refill = limit-out (g .refill) i;
+}
+
+-- end
 
 -- ---- every word has 64 bits
 
@@ -260,7 +308,7 @@ requests-fit automatic e = omega arith
 requests-fit (requests-left n) e = leb-true n 3 e
 requests-fit recovery e = omega arith
 
--- the peers, list by list
+-- the peers, list by list, by tools/layout.py
 record Narrow (g : Station) : Type 0 where
   me : g .me < peers-end
   active : all-under peers-end (g .active) ≡ true
@@ -278,27 +326,29 @@ unfolding lists-under all-under
 narrow g e =
     let u : List ℕ → Bool = all-under peers-end in
     let m = ltb (g .me) peers-end in
-    let e₁ = and-right (m && true) _ e in
-    let e₂ = and-right (u (g .active)) _ e₁ in
-    let e₃ = and-right (u (g .passive)) _ e₂ in
-    let e₄ = and-right (u (g .bootstrap)) _ e₃ in
-    let e₅ = and-right (u (g .recent)) _ e₄ in
-    let e₆ = and-right (u (keys (g .requests))) _ e₅ in
-    let e₇ = and-right (u (keys (g .joins))) _ e₆ in
-    let e₈ = and-right (u (keys (g .peer-data))) _ e₇ in
-    let e₉ = and-right (u (g .alive)) _ e₈ in
+    let e0 = and-right (m && true) _ e in
+    let e1 = and-right (u (g .active)) _ e0 in
+    let e2 = and-right (u (g .passive)) _ e1 in
+    let e3 = and-right (u (g .bootstrap)) _ e2 in
+    let e4 = and-right (u (g .recent)) _ e3 in
+    let e5 = and-right (u (keys (g .requests))) _ e4 in
+    let e6 = and-right (u (keys (g .joins))) _ e5 in
+    let e7 = and-right (u (keys (g .peer-data))) _ e6 in
+    let e8 = and-right (u (g .alive)) _ e7 in
     record {
       me = ltb-true (g .me) peers-end (and-left m true (and-left (m && true) _ e));
-      active = and-left (u (g .active)) _ e₁;
-      passive = and-left (u (g .passive)) _ e₂;
-      bootstrap = and-left (u (g .bootstrap)) _ e₃;
-      recent = and-left (u (g .recent)) _ e₄;
-      requests = and-left (u (keys (g .requests))) _ e₅;
-      joins = and-left (u (keys (g .joins))) _ e₆;
-      peer-data = and-left (u (keys (g .peer-data))) _ e₇;
-      alive = and-left (u (g .alive)) _ e₈;
-      refused = and-left (u (g .refused)) _ e₉;
+      active = and-left (u (g .active)) _ e0;
+      passive = and-left (u (g .passive)) _ e1;
+      bootstrap = and-left (u (g .bootstrap)) _ e2;
+      recent = and-left (u (g .recent)) _ e3;
+      requests = and-left (u (keys (g .requests))) _ e4;
+      joins = and-left (u (keys (g .joins))) _ e5;
+      peer-data = and-left (u (keys (g .peer-data))) _ e6;
+      alive = and-left (u (g .alive)) _ e7;
+      refused = and-left (u (g .refused)) _ e8;
     }
+
+-- end
 
 module _ (g : Station) (k : Kept g) (v : Fits g) where
   front-fine : Fine (front g)
@@ -317,26 +367,36 @@ module _ (g : Station) (k : Kept g) (v : Fits g) where
       (more _ _ (omega (arith, w .short)) (more _ _ (omega (arith, kind-fits (g .refill))) (more _ _ (omega (arith, requests-fit (g .refill) (k .limit))) (more _ _ (omega (arith, w .next-request))
       (more _ _ (omega (arith, w .next-join)) (more _ _ (low-under b s (v .own-bytes)) (more _ _ (high-under b s (v .own-bytes)) no-words)))))))))))))))))))))
 
+  requests-under : numbers-under (g .next-request) (g .requests) ≡ true
+  unfolding numbers-rule
+  requests-under = and-left (numbers-under (g .next-request) (g .requests)) _ (k .numbers)
+
+  joins-under : numbers-under (g .next-join) (g .joins) ≡ true
+  unfolding numbers-rule
+  joins-under = and-right (numbers-under (g .next-request) (g .requests)) _ (k .numbers)
+
+  -- every word of it has 64 bits, by tools/layout.py
   pack-fine : Fine (pack g)
-  unfolding pack numbers-rule
+  unfolding pack
   pack-fine =
       let w = wide-of g (k .width) in
       let n = narrow g (w .peers) in
       both-fine _ _ front-fine
-      (both-fine _ _ (set-fine 8 (g .active) (omega arith) (v .active) (n .active))
-      (both-fine _ _ (set-fine 32 (g .passive) (omega arith) (v .passive) (n .passive))
-      (both-fine _ _ (set-fine 32 (g .alive) (omega arith) (v .alive) (n .alive))
-      (both-fine _ _ (set-fine 32 (g .refused) (omega arith) (v .refused) (n .refused))
-      (both-fine _ _ (numbers-fine 32 (g .next-request) (g .requests) (omega arith) (v .requests) (n .requests) (omega (arith, w .next-request)) (and-left (numbers-under (g .next-request) (g .requests)) _ (k .numbers)))
-      (both-fine _ _ (set-fine 8 (g .bootstrap) (omega arith) (v .bootstrap) (n .bootstrap))
-      (both-fine _ _ (set-fine 8 (g .recent) (omega arith) (v .recent) (n .recent))
-      (both-fine _ _ (numbers-fine 8 (g .next-join) (g .joins) (omega arith) (v .joins) (n .joins) (omega (arith, w .next-join)) (and-right (numbers-under (g .next-request) (g .requests)) _ (k .numbers)))
-      (data-fine (g .peer-data) (v .peer-data) (n .peer-data) (v .short) (v .bytes))))))))))
+      (both-fine _ _ (set-fine layout.active-places (g .active) (omega arith) (v .active) (n .active))
+      (both-fine _ _ (set-fine layout.passive-places (g .passive) (omega arith) (v .passive) (n .passive))
+      (both-fine _ _ (set-fine layout.alive-places (g .alive) (omega arith) (v .alive) (n .alive))
+      (both-fine _ _ (set-fine layout.refused-places (g .refused) (omega arith) (v .refused) (n .refused))
+      (both-fine _ _ (numbers-fine layout.requests-places (g .next-request) (g .requests) (omega arith) (v .requests) (n .requests) (omega (arith, w .next-request)) requests-under)
+      (both-fine _ _ (set-fine layout.bootstrap-places (g .bootstrap) (omega arith) (v .bootstrap) (n .bootstrap))
+      (both-fine _ _ (set-fine layout.recent-places (g .recent) (omega arith) (v .recent) (n .recent))
+      (both-fine _ _ (numbers-fine layout.joins-places (g .next-join) (g .joins) (omega arith) (v .joins) (n .joins) (omega (arith, w .next-join)) joins-under)
+      (data-fine (g .peer-data) (v .peer-data) (n .peer-data) (v .peer-data-short) (v .peer-data-bytes))))))))))
+
+  -- end
 
   pub kept-shape : Shape (pack g)
   unfolding pack front own-at
   kept-shape =
-      let s = sym (packed-sections g) in
       record {
         size = packed-long g;
         wide = pack-fine;
@@ -344,15 +404,7 @@ module _ (g : Station) (k : Kept g) (v : Fits g) where
         timers = bit-fits (g .scheduled);
         limit = limit-fine (g .refill);
         own-data = subst ValidData (sym (own-words (g .own-data) (v .own-data) (v .own-bytes))) (own-fine (g .own-data) (v .own-data));
-        active = subst (λ (t : Sections). ValidSet 8 (t .active)) s (section-holds 8 (g .active) (v .active) .valid);
-        passive = subst (λ (t : Sections). ValidSet 32 (t .passive)) s (section-holds 32 (g .passive) (v .passive) .valid);
-        alive = subst (λ (t : Sections). ValidSet 32 (t .alive)) s (section-holds 32 (g .alive) (v .alive) .valid);
-        refused = subst (λ (t : Sections). ValidSet 32 (t .refused)) s (section-holds 32 (g .refused) (v .refused) .valid);
-        requests = subst (λ (t : Sections). ValidNumbers 32 (t .requests)) s (numbers-hold 32 (g .requests) (v .requests) (v .requests-rise) .valid);
-        bootstrap = subst (λ (t : Sections). ValidSet 8 (t .bootstrap)) s (section-holds 8 (g .bootstrap) (v .bootstrap) .valid);
-        recent = subst (λ (t : Sections). ValidSet 8 (t .recent)) s (section-holds 8 (g .recent) (v .recent) .valid);
-        joins = subst (λ (t : Sections). ValidNumbers 8 (t .joins)) s (numbers-hold 8 (g .joins) (v .joins) (v .joins-rise) .valid);
-        peer-data = subst (λ (t : Sections). ValidDataWords 80 (t .peer-data)) s (data-hold 80 (g .peer-data) (v .peer-data) (v .peer-data-rise) (v .short) (v .bytes) .valid);
+        sections = sections-formed g v;
       }
 
 -- unpacking undoes packing, and the packed station passes the test
@@ -376,20 +428,22 @@ unfolding zero-station new-station short-data bytes-of all-under Rising keys all
 zero-fits = record {
   own-data = refl;
   own-bytes = refl;
+  -- no section has an item, by tools/layout.py
   active = omega arith;
   passive = omega arith;
-  bootstrap = omega arith;
-  recent = omega arith;
+  alive = omega arith;
+  refused = omega arith;
   requests = omega arith;
   requests-rise = tt;
+  bootstrap = omega arith;
+  recent = omega arith;
   joins = omega arith;
   joins-rise = tt;
   peer-data = omega arith;
   peer-data-rise = tt;
-  short = refl;
-  bytes = refl;
-  alive = omega arith;
-  refused = omega arith;
+  peer-data-short = refl;
+  peer-data-bytes = refl;
+  -- end
 }
 
 pub zero-refused : state-ok (pack zero-station) ≡ false

@@ -52,19 +52,19 @@ settings-are xs = simp (and-assoc, leb·zero)
 
 module _ (xs : List ℕ) (e : packed-ok xs ≡ true) where
   -- the maps rise
-  order-is : (a b : Bool) → a ≡ rising (items-at 32 (layout.alive-part xs)) → b ≡ rising (items-at 32 (layout.refused-part xs)) → (a && b) ≡ order-rule (unpack xs)
+  order-is : (a b : Bool) → a ≡ rising (items-at layout.alive-places (layout.alive-part xs)) → b ≡ rising (items-at layout.refused-places (layout.refused-part xs)) → (a && b) ≡ order-rule (unpack xs)
   unfolding order-rule unpack station-of
   order-is a b p q =
       let v = ok-shape xs e in
       (λ i. p i && q i)
-      ∙ sym (rw (true-rising _ (v .requests .rises), true-rising _ (v .joins .rises), true-rising _ (v .peer-data .rises)) refl)
+      ∙ sym (rw (true-rising _ (v .sections .requests .rises), true-rising _ (v .sections .joins .rises), true-rising _ (v .sections .peer-data .rises)) refl)
 
-  capacity-is : (leb (getD xs 30 0) (layout.active-view-capacity xs) && leb (getD xs 63 0) (layout.passive-view-capacity xs)) ≡ capacity-rule (unpack xs)
+  capacity-is : (leb (getD xs layout.active-count 0) (layout.active-view-capacity xs) && leb (getD xs layout.passive-count 0) (layout.passive-view-capacity xs)) ≡ capacity-rule (unpack xs)
   unfolding capacity-rule unpack station-of settings-at
   capacity-is = sym (rw (count-active xs (ok-active xs e), count-passive xs (ok-passive xs e)) refl)
 
-repeats-is : (xs : List ℕ) (a b c d : Bool) → a ≡ distinct (items-at 8 (layout.active-part xs)) → b ≡ distinct (items-at 32 (layout.passive-part xs)) → c ≡ distinct (items-at 8 (layout.bootstrap-part xs))
-    → d ≡ distinct (items-at 8 (layout.recent-part xs)) → (a && (b && (c && d))) ≡ repeats-rule (unpack xs)
+repeats-is : (xs : List ℕ) (a b c d : Bool) → a ≡ distinct (items-at layout.active-places (layout.active-part xs)) → b ≡ distinct (items-at layout.passive-places (layout.passive-part xs)) → c ≡ distinct (items-at layout.bootstrap-places (layout.bootstrap-part xs))
+    → d ≡ distinct (items-at layout.recent-places (layout.recent-part xs)) → (a && (b && (c && d))) ≡ repeats-rule (unpack xs)
 unfolding repeats-rule unpack station-of
 repeats-is xs a b c d p q r s = λ i. p i && (q i && (r i && s i))
 
@@ -78,65 +78,65 @@ count-lent a k n xs h f =
     ap (λ (j : ℕ). take j (drop a xs)) z ∙ sym (take-take (getD (part a k xs) n 0) k (drop a xs) (omega arith))
 
 module _ (xs : List ℕ) (e : packed-ok xs ≡ true) where
-  pub few-joins : getD xs 229 0 ≤ 8
-  few-joins = omega (arith, part-read 213 17 16 xs (omega arith), ok-joins xs e .fits)
+  pub few-joins : getD xs layout.joins-count 0 ≤ 8
+  few-joins = omega (arith, part-read layout.joins-at layout.joins-size (layout.joins-places + layout.joins-places) xs (omega arith), ok-joins xs e .fits)
 
-  pub few-bootstrap : getD xs 203 0 ≤ 8
-  few-bootstrap = omega (arith, part-read 195 9 8 xs (omega arith), ok-bootstrap xs e .fits)
+  pub few-bootstrap : getD xs layout.bootstrap-count 0 ≤ 8
+  few-bootstrap = omega (arith, part-read layout.bootstrap-at layout.bootstrap-size layout.bootstrap-places xs (omega arith), ok-bootstrap xs e .fits)
 
-  pub few-active : getD xs 30 0 ≤ 8
-  few-active = omega (arith, part-read 22 9 8 xs (omega arith), ok-active xs e .fits)
+  pub few-active : getD xs layout.active-count 0 ≤ 8
+  few-active = omega (arith, part-read layout.active-at layout.active-size layout.active-places xs (omega arith), ok-active xs e .fits)
 
-  pub few-passive : getD xs 63 0 ≤ 32
-  few-passive = omega (arith, part-read 31 33 32 xs (omega arith), ok-passive xs e .fits)
+  pub few-passive : getD xs layout.passive-count 0 ≤ 32
+  few-passive = omega (arith, part-read layout.passive-at layout.passive-size layout.passive-places xs (omega arith), ok-passive xs e .fits)
 
-  pub few-marks : getD xs 96 0 ≤ 32
-  few-marks = omega (arith, part-read 64 33 32 xs (omega arith), ok-alive xs e .fits)
+  pub few-alive : getD xs layout.alive-count 0 ≤ 32
+  few-alive = omega (arith, part-read layout.alive-at layout.alive-size layout.alive-places xs (omega arith), ok-alive xs e .fits)
 
-  active-lent : part 22 (22 + getD xs 30 0 - 22) xs ≡ items-at 8 (layout.active-part xs)
-  active-lent = count-lent 22 9 8 xs (omega arith) (ok-active xs e .fits) ∙ lent 8 _ (ok-active xs e)
+  active-lent : part layout.active-at (layout.active-at + getD xs layout.active-count 0 - layout.active-at) xs ≡ items-at layout.active-places (layout.active-part xs)
+  active-lent = count-lent layout.active-at layout.active-size layout.active-places xs (omega arith) (ok-active xs e .fits) ∙ lent 8 _ (ok-active xs e)
 
-  passive-lent : part 31 (31 + getD xs 63 0 - 31) xs ≡ items-at 32 (layout.passive-part xs)
-  passive-lent = count-lent 31 33 32 xs (omega arith) (ok-passive xs e .fits) ∙ lent 32 _ (ok-passive xs e)
+  passive-lent : part layout.passive-at (layout.passive-at + getD xs layout.passive-count 0 - layout.passive-at) xs ≡ items-at layout.passive-places (layout.passive-part xs)
+  passive-lent = count-lent layout.passive-at layout.passive-size layout.passive-places xs (omega arith) (ok-passive xs e .fits) ∙ lent 32 _ (ok-passive xs e)
 
-  marks-lent : part 64 (64 + getD xs 96 0 - 64) xs ≡ items-at 32 (layout.alive-part xs)
-  marks-lent = count-lent 64 33 32 xs (omega arith) (ok-alive xs e .fits) ∙ lent 32 _ (ok-alive xs e)
+  alive-lent : part layout.alive-at (layout.alive-at + getD xs layout.alive-count 0 - layout.alive-at) xs ≡ items-at layout.alive-places (layout.alive-part xs)
+  alive-lent = count-lent layout.alive-at layout.alive-size layout.alive-places xs (omega arith) (ok-alive xs e .fits) ∙ lent 32 _ (ok-alive xs e)
 
-  views-is : (a b c : Bool) → a ≡ disjoint (part 22 (22 + getD xs 30 0 - 22) xs) (part 31 (31 + getD xs 63 0 - 31) xs) → b ≡ mem (layout.me xs) (part 22 (22 + getD xs 30 0 - 22) xs) → c ≡ mem (layout.me xs) (part 31 (31 + getD xs 63 0 - 31) xs)
+  views-is : (a b c : Bool) → a ≡ disjoint (part layout.active-at (layout.active-at + getD xs layout.active-count 0 - layout.active-at) xs) (part layout.passive-at (layout.passive-at + getD xs layout.passive-count 0 - layout.passive-at) xs) → b ≡ mem (layout.me xs) (part layout.active-at (layout.active-at + getD xs layout.active-count 0 - layout.active-at) xs) → c ≡ mem (layout.me xs) (part layout.passive-at (layout.passive-at + getD xs layout.passive-count 0 - layout.passive-at) xs)
       → ((a && not b) && not c) ≡ views-rule (unpack xs)
   unfolding views-rule unpack station-of
   views-is a b c p q r =
       and-assoc a (not b) (not c)
       ∙ (λ i. (p ∙ (λ j. disjoint (active-lent j) (passive-lent j))) i && (not ((q ∙ ap (mem (layout.me xs)) active-lent) i) && not ((r ∙ ap (mem (layout.me xs)) passive-lent) i)))
 
-  alive-is : (d : Bool) → d ≡ subset (part 64 (64 + getD xs 96 0 - 64) xs) (part 31 (31 + getD xs 63 0 - 31) xs) → d ≡ alive-rule (unpack xs)
+  alive-is : (d : Bool) → d ≡ subset (part layout.alive-at (layout.alive-at + getD xs layout.alive-count 0 - layout.alive-at) xs) (part layout.passive-at (layout.passive-at + getD xs layout.passive-count 0 - layout.passive-at) xs) → d ≡ alive-rule (unpack xs)
   unfolding alive-rule unpack station-of
-  alive-is d p = p ∙ (λ j. subset (marks-lent j) (passive-lent j))
+  alive-is d p = p ∙ (λ j. subset (alive-lent j) (passive-lent j))
 
-  held-is : (k : Bool) → k ≡ subset (keys (data-map-at 80 (layout.peer-data-part xs))) (items-at 8 (layout.active-part xs) ++ (items-at 32 (layout.passive-part xs) ++ keys (numbers-at 32 (layout.requests-part xs)))) → k ≡ held-rule (unpack xs)
+  held-is : (k : Bool) → k ≡ subset (keys (data-map-at layout.peer-data-places (layout.peer-data-part xs))) (items-at layout.active-places (layout.active-part xs) ++ (items-at layout.passive-places (layout.passive-part xs) ++ keys (numbers-at layout.requests-places (layout.requests-part xs)))) → k ≡ held-rule (unpack xs)
   unfolding held-rule unpack station-of data-peers
   held-is k p = p
 
-  pub views-are : (a b c d k : Bool) → a ≡ disjoint (part 22 (22 + getD xs 30 0 - 22) xs) (part 31 (31 + getD xs 63 0 - 31) xs) → b ≡ mem (layout.me xs) (part 22 (22 + getD xs 30 0 - 22) xs) → c ≡ mem (layout.me xs) (part 31 (31 + getD xs 63 0 - 31) xs)
-      → d ≡ subset (part 64 (64 + getD xs 96 0 - 64) xs) (part 31 (31 + getD xs 63 0 - 31) xs) → k ≡ subset (keys (data-map-at 80 (layout.peer-data-part xs))) (items-at 8 (layout.active-part xs) ++ (items-at 32 (layout.passive-part xs) ++ keys (numbers-at 32 (layout.requests-part xs))))
+  pub views-are : (a b c d k : Bool) → a ≡ disjoint (part layout.active-at (layout.active-at + getD xs layout.active-count 0 - layout.active-at) xs) (part layout.passive-at (layout.passive-at + getD xs layout.passive-count 0 - layout.passive-at) xs) → b ≡ mem (layout.me xs) (part layout.active-at (layout.active-at + getD xs layout.active-count 0 - layout.active-at) xs) → c ≡ mem (layout.me xs) (part layout.passive-at (layout.passive-at + getD xs layout.passive-count 0 - layout.passive-at) xs)
+      → d ≡ subset (part layout.alive-at (layout.alive-at + getD xs layout.alive-count 0 - layout.alive-at) xs) (part layout.passive-at (layout.passive-at + getD xs layout.passive-count 0 - layout.passive-at) xs) → k ≡ subset (keys (data-map-at layout.peer-data-places (layout.peer-data-part xs))) (items-at layout.active-places (layout.active-part xs) ++ (items-at layout.passive-places (layout.passive-part xs) ++ keys (numbers-at layout.requests-places (layout.requests-part xs))))
       → ((((a && not b) && not c) && d) && k) ≡ (views-rule (unpack xs) && (alive-rule (unpack xs) && held-rule (unpack xs)))
   views-are a b c d k p q r s t =
       and-assoc ((a && not b) && not c) d k ∙ (λ i. views-is a b c p q r i && (alive-is d s i && held-is k t i))
 
-  joins-lent : part 213 (213 + getD xs 229 0 - 213) xs ≡ keys (numbers-at 8 (layout.joins-part xs))
-  joins-lent = count-lent 213 17 16 xs (omega arith) (omega (arith, ok-joins xs e .fits)) ∙ peers-lent 8 _ (ok-joins xs e)
+  joins-lent : part layout.joins-at (layout.joins-at + getD xs layout.joins-count 0 - layout.joins-at) xs ≡ keys (numbers-at layout.joins-places (layout.joins-part xs))
+  joins-lent = count-lent layout.joins-at layout.joins-size (layout.joins-places + layout.joins-places) xs (omega arith) (omega (arith, ok-joins xs e .fits)) ∙ peers-lent 8 _ (ok-joins xs e)
 
-  pub none-joined : getD xs 229 0 ≡ 0 → true ≡ joins-rule (unpack xs)
+  pub none-joined : getD xs layout.joins-count 0 ≡ 0 → true ≡ joins-rule (unpack xs)
   unfolding joins-rule unpack station-of part subset disjoint has mem
   none-joined z =
-      let n : 0 ≡ 213 + getD xs 229 0 - 213 = omega arith in
-      ap (λ (l : List ℕ). subset l (items-at 8 (layout.bootstrap-part xs)) && (disjoint l (items-at 8 (layout.active-part xs)) && not (mem (layout.me xs) l))) (ap (λ (j : ℕ). take j (drop 213 xs)) n ∙ joins-lent)
+      let n : 0 ≡ layout.joins-at + getD xs layout.joins-count 0 - layout.joins-at = omega arith in
+      ap (λ (l : List ℕ). subset l (items-at layout.bootstrap-places (layout.bootstrap-part xs)) && (disjoint l (items-at layout.active-places (layout.active-part xs)) && not (mem (layout.me xs) l))) (ap (λ (j : ℕ). take j (drop layout.joins-at xs)) n ∙ joins-lent)
 
-  pub joins-are : (a b c : Bool) → a ≡ subset (part 213 (213 + getD xs 229 0 - 213) xs) (part 195 (195 + getD xs 203 0 - 195) xs) → b ≡ disjoint (part 213 (213 + getD xs 229 0 - 213) xs) (part 22 (22 + getD xs 30 0 - 22) xs)
-      → c ≡ mem (layout.me xs) (part 213 (213 + getD xs 229 0 - 213) xs) → (a && b && not c) ≡ joins-rule (unpack xs)
+  pub joins-are : (a b c : Bool) → a ≡ subset (part layout.joins-at (layout.joins-at + getD xs layout.joins-count 0 - layout.joins-at) xs) (part layout.bootstrap-at (layout.bootstrap-at + getD xs layout.bootstrap-count 0 - layout.bootstrap-at) xs) → b ≡ disjoint (part layout.joins-at (layout.joins-at + getD xs layout.joins-count 0 - layout.joins-at) xs) (part layout.active-at (layout.active-at + getD xs layout.active-count 0 - layout.active-at) xs)
+      → c ≡ mem (layout.me xs) (part layout.joins-at (layout.joins-at + getD xs layout.joins-count 0 - layout.joins-at) xs) → (a && b && not c) ≡ joins-rule (unpack xs)
   unfolding joins-rule unpack station-of has
   joins-are a b c p q r =
-      let boot = count-lent 195 9 8 xs (omega arith) (ok-bootstrap xs e .fits) ∙ lent 8 _ (ok-bootstrap xs e) in
+      let boot = count-lent layout.bootstrap-at layout.bootstrap-size layout.bootstrap-places xs (omega arith) (ok-bootstrap xs e .fits) ∙ lent 8 _ (ok-bootstrap xs e) in
       and-assoc a b (not c)
       ∙ (λ i. (p ∙ (λ j. subset (joins-lent j) (boot j))) i && ((q ∙ (λ j. disjoint (joins-lent j) (active-lent j))) i && not ((r ∙ ap (mem (layout.me xs)) joins-lent) i)))
 
@@ -161,7 +161,7 @@ interval-is : (xs : List ℕ) → (leb 1 (layout.next-shuffle-interval xs) && le
 unfolding interval-rule unpack station-of settings-at within
 interval-is xs = refl
 
-self-is : (xs : List ℕ) (b : Bool) → b ≡ has (layout.me xs) (data-map-at 80 (layout.peer-data-part xs)) → not b ≡ self-rule (unpack xs)
+self-is : (xs : List ℕ) (b : Bool) → b ≡ has (layout.me xs) (data-map-at layout.peer-data-places (layout.peer-data-part xs)) → not b ≡ self-rule (unpack xs)
 unfolding self-rule unpack station-of
 self-is xs b p = λ i. not (p i)
 
@@ -173,16 +173,16 @@ module _ (xs : List ℕ) (e : packed-ok xs ≡ true) where
   unfolding room-rule unpack station-of
   room-held =
       let v = ok-shape xs e in
-      both-true _ _ (le-leb (length (numbers-at 32 (layout.requests-part xs))) 32 (omega (arith, v .requests .counted, v .requests .fits)))
-      (both-true _ _ (le-leb (length (items-at 32 (layout.refused-part xs))) 32 (omega (arith, v .refused .counted, v .refused .fits)))
-      (le-leb (length (data-map-at 80 (layout.peer-data-part xs))) 80 (omega (arith, v .peer-data .counted, v .peer-data .fits))))
+      both-true _ _ (le-leb (length (numbers-at layout.requests-places (layout.requests-part xs))) 32 (omega (arith, v .sections .requests .counted, v .sections .requests .fits)))
+      (both-true _ _ (le-leb (length (items-at layout.refused-places (layout.refused-part xs))) 32 (omega (arith, v .sections .refused .counted, v .sections .refused .fits)))
+      (le-leb (length (data-map-at layout.peer-data-places (layout.peer-data-part xs))) 80 (omega (arith, v .sections .peer-data .counted, v .sections .peer-data .fits))))
 
   pub few-held : few-rule (unpack xs) ≡ true
   unfolding few-rule unpack station-of
   few-held =
       let v = ok-shape xs e in
-      both-true _ _ (le-leb (length (items-at 8 (layout.bootstrap-part xs))) 8 (omega (arith, v .bootstrap .counted, v .bootstrap .fits)))
-      (le-leb (length (items-at 8 (layout.recent-part xs))) 8 (omega (arith, v .recent .counted, v .recent .fits)))
+      both-true _ _ (le-leb (length (items-at layout.bootstrap-places (layout.bootstrap-part xs))) 8 (omega (arith, v .sections .bootstrap .counted, v .sections .bootstrap .fits)))
+      (le-leb (length (items-at layout.recent-places (layout.recent-part xs))) 8 (omega (arith, v .sections .recent .counted, v .sections .recent .fits)))
 
 values-short : (m : List (ℕ × List ℕ)) → All (λ (b : List ℕ). length b ≤ 16) (values m) → all-short m ≡ true
 unfolding all-short All values
@@ -202,7 +202,7 @@ own-short d v =
 -- data have at most 16 bytes
 pub data-held : (xs : List ℕ) → packed-ok xs ≡ true → data-rule (unpack xs) ≡ true
 unfolding data-rule unpack station-of
-data-held xs e = both-true _ _ (values-short _ (data-short _ (ok-shape xs e .peer-data))) (own-short _ (ok-shape xs e .own-data))
+data-held xs e = both-true _ _ (values-short _ (data-short _ (ok-shape xs e .sections .peer-data))) (own-short _ (ok-shape xs e .own-data))
 
 -- ---- the rules together
 
@@ -257,10 +257,10 @@ rules-are xs t a b c d g h k l m n v p₁ p₂ p₃ p₄ p₅ p₆ p₇ p₈ p�
 
 -- the tests one after another, as the code has them
 pub tests-are : (xs : List ℕ) → packed-ok xs ≡ true → (s a p b r k f j n h v : Bool) → s ≡ settings-rule (unpack xs)
-    → a ≡ distinct (items-at 8 (layout.active-part xs)) → p ≡ distinct (items-at 32 (layout.passive-part xs)) → b ≡ distinct (items-at 8 (layout.bootstrap-part xs)) → r ≡ distinct (items-at 8 (layout.recent-part xs))
-    → k ≡ rising (items-at 32 (layout.alive-part xs)) → f ≡ rising (items-at 32 (layout.refused-part xs)) → j ≡ joins-rule (unpack xs) → n ≡ numbers-rule (unpack xs)
-    → h ≡ has (layout.me xs) (data-map-at 80 (layout.peer-data-part xs)) → v ≡ (views-rule (unpack xs) && (alive-rule (unpack xs) && held-rule (unpack xs)))
-    → (s && a && p && b && r && k && f && leb (getD xs 30 0) (layout.active-view-capacity xs) && leb (getD xs 63 0) (layout.passive-view-capacity xs) && j && n && not h
+    → a ≡ distinct (items-at layout.active-places (layout.active-part xs)) → p ≡ distinct (items-at layout.passive-places (layout.passive-part xs)) → b ≡ distinct (items-at layout.bootstrap-places (layout.bootstrap-part xs)) → r ≡ distinct (items-at layout.recent-places (layout.recent-part xs))
+    → k ≡ rising (items-at layout.alive-places (layout.alive-part xs)) → f ≡ rising (items-at layout.refused-places (layout.refused-part xs)) → j ≡ joins-rule (unpack xs) → n ≡ numbers-rule (unpack xs)
+    → h ≡ has (layout.me xs) (data-map-at layout.peer-data-places (layout.peer-data-part xs)) → v ≡ (views-rule (unpack xs) && (alive-rule (unpack xs) && held-rule (unpack xs)))
+    → (s && a && p && b && r && k && f && leb (getD xs layout.active-count 0) (layout.active-view-capacity xs) && leb (getD xs layout.passive-count 0) (layout.passive-view-capacity xs) && j && n && not h
     && leb (layout.refill-requests xs) 3 && leb 1 (layout.next-shuffle-interval xs) && leb (layout.next-shuffle-interval xs) (layout.shuffle-interval xs)
     && leb (layout.passes-alone xs) top-passes && leb (layout.passes-short xs) top-passes && v)
     ≡ state-ok xs

@@ -104,7 +104,7 @@ module _ (xs : List ℕ) (v : Shape xs) where
   shape-packed r =
       let top = ranges (settings-at xs) (r .settings) .interval .most in
       let last = leb-true (layout.next-shuffle-interval xs) (layout.shuffle-interval xs) (and-right (leb 1 (layout.next-shuffle-interval xs)) _ (r .interval)) in
-      let fits = leb (length (items-at 8 (layout.active-part xs))) (layout.active-view-capacity xs) in
+      let fits = leb (length (items-at layout.active-places (layout.active-part xs))) (layout.active-view-capacity xs) in
       let w = wide-of (unpack xs) (r .width) in
       shut (v .size)
       (record {
@@ -116,15 +116,7 @@ module _ (xs : List ℕ) (v : Shape xs) where
         own-data = v .own-data;
         settings = r .settings;
         short-interval = omega (arith, top, last);
-        active = v .active;
-        passive = v .passive;
-        alive = v .alive;
-        refused = v .refused;
-        requests = v .requests;
-        bootstrap = v .bootstrap;
-        recent = v .recent;
-        joins = v .joins;
-        peer-data = v .peer-data;
+        sections = v .sections;
         active-fits = leb-true _ _ (and-left fits _ (r .capacity));
         passive-fits = leb-true _ _ (and-right fits _ (r .capacity));
       })

@@ -90,24 +90,29 @@ own-is xs b e =
 
 -- ---- all parts of a state
 
-sections-are : (xs : List ℕ) (a p k f q b r j d : Bool) → a ≡ valid-set 8 (layout.active-part xs) → p ≡ valid-set 32 (layout.passive-part xs) → k ≡ valid-set 32 (layout.alive-part xs)
-    → f ≡ valid-set 32 (layout.refused-part xs) → q ≡ valid-numbers 32 (layout.requests-part xs) → b ≡ valid-set 8 (layout.bootstrap-part xs) → r ≡ valid-set 8 (layout.recent-part xs)
-    → j ≡ valid-numbers 8 (layout.joins-part xs) → d ≡ valid-data-words 80 (layout.peer-data-part xs)
-    → (a && (p && (k && (f && (q && (b && (r && (j && d)))))))) ≡ sections-ok xs
+-- the tests of the sections one after another, as the code has them, by tools/layout.py
+pub sections-are : (xs : List ℕ) (b0 b1 b2 b3 b4 b5 b6 b7 b8 : Bool)
+    → b0 ≡ valid-set layout.active-places (layout.active-part xs)
+    → b1 ≡ valid-set layout.passive-places (layout.passive-part xs)
+    → b2 ≡ valid-set layout.alive-places (layout.alive-part xs)
+    → b3 ≡ valid-set layout.refused-places (layout.refused-part xs)
+    → b4 ≡ valid-numbers layout.requests-places (layout.requests-part xs)
+    → b5 ≡ valid-set layout.bootstrap-places (layout.bootstrap-part xs)
+    → b6 ≡ valid-set layout.recent-places (layout.recent-part xs)
+    → b7 ≡ valid-numbers layout.joins-places (layout.joins-part xs)
+    → b8 ≡ valid-data-words layout.peer-data-places (layout.peer-data-part xs)
+    → (b0 && b1 && b2 && b3 && b4 && b5 && b6 && b7 && b8) ≡ sections-ok xs
 unfolding sections-ok
-sections-are xs a p k f q b r j d e₁ e₂ e₃ e₄ e₅ e₆ e₇ e₈ e₉ =
-    λ i. e₁ i && (e₂ i && (e₃ i && (e₄ i && (e₅ i && (e₆ i && (e₇ i && (e₈ i && e₉ i)))))))
+sections-are xs b0 b1 b2 b3 b4 b5 b6 b7 b8 e0 e1 e2 e3 e4 e5 e6 e7 e8 = simp and-assoc (λ i. e0 i && (e1 i && (e2 i && (e3 i && (e4 i && (e5 i && (e6 i && (e7 i && (e8 i)))))))))
 
--- the tests one after another, as the code has them
-pub packed-is : (xs : List ℕ) → ((i : ℕ) → getD xs i 0 < words-end) → length xs ≡ layout.words → (o a p k f q b r j d : Bool) → o ≡ valid-entry (row (layout.own-len xs) (layout.own-low xs) (layout.own-high xs))
-    → a ≡ valid-set 8 (layout.active-part xs) → p ≡ valid-set 32 (layout.passive-part xs) → k ≡ valid-set 32 (layout.alive-part xs) → f ≡ valid-set 32 (layout.refused-part xs)
-    → q ≡ valid-numbers 32 (layout.requests-part xs) → b ≡ valid-set 8 (layout.bootstrap-part xs) → r ≡ valid-set 8 (layout.recent-part xs) → j ≡ valid-numbers 8 (layout.joins-part xs)
-    → d ≡ valid-data-words 80 (layout.peer-data-part xs)
+-- end
+
+-- the tests of the numbers, of own data and of the sections, as the code has them
+pub packed-is : (xs : List ℕ) → ((i : ℕ) → getD xs i 0 < words-end) → length xs ≡ layout.words → (o s : Bool) → o ≡ valid-entry (row (layout.own-len xs) (layout.own-low xs) (layout.own-high xs)) → s ≡ sections-ok xs
     → (leb (layout.own-present xs) 1 && leb (layout.timers-scheduled xs) 1 && leb (layout.refill-kind xs) 2 && (eqb (layout.refill-kind xs) 1 || eqb (layout.refill-requests xs) 0)
-    && o && (eqb (layout.own-present xs) 1 || eqb (layout.own-len xs) 0) && a && p && k && f && q && b && r && j && d)
+    && o && (eqb (layout.own-present xs) 1 || eqb (layout.own-len xs) 0) && s)
     ≡ packed-ok xs
 unfolding packed-ok
-packed-is xs w l o a p k f q b r j d e₀ e₁ e₂ e₃ e₄ e₅ e₆ e₇ e₈ e₉ =
-    let s = sections-are xs a p k f q b r j d e₁ e₂ e₃ e₄ e₅ e₆ e₇ e₈ e₉ in
+packed-is xs w l o s e f =
     let z : packed-ok xs ≡ (formed xs && (valid-data (own-at xs) && sections-ok xs)) = rw (eq-eqb (length xs) layout.words l) in
-    simp and-assoc (simp and-assoc at ((λ i. formed-is xs w i && (own-is xs o e₀ i && s i)) ∙ sym z))
+    simp and-assoc (simp and-assoc at ((λ i. formed-is xs w i && (own-is xs o e i && f i)) ∙ sym z))

@@ -88,15 +88,19 @@ unfolding lists-under all-under unpack station-of
 peers-under xs v =
     let e : all-under words-end xs ≡ true = v .wide in
     let within : (a k : ℕ) → all-under words-end (part a k xs) ≡ true = λ a k. part-under words-end a k xs e in
-    both-true _ _ (both-true _ _ (lt-ltb (layout.me xs) peers-end (under-at words-end xs (omega arith) e 0)) refl)
-    (both-true _ _ (set-under words-end 8 (layout.active-part xs) (within _ _))
-    (both-true _ _ (set-under words-end 32 (layout.passive-part xs) (within _ _))
-    (both-true _ _ (set-under words-end 8 (layout.bootstrap-part xs) (within _ _))
-    (both-true _ _ (set-under words-end 8 (layout.recent-part xs) (within _ _))
-    (both-true _ _ (numbers-under words-end 32 (layout.requests-part xs) (v .requests) (within _ _))
-    (both-true _ _ (numbers-under words-end 8 (layout.joins-part xs) (v .joins) (within _ _))
-    (both-true _ _ (data-under words-end 80 (layout.peer-data-part xs) (v .peer-data) (within _ _))
-    (both-true _ _ (set-under words-end 32 (layout.alive-part xs) (within _ _)) (both-true _ _ (set-under words-end 32 (layout.refused-part xs) (within _ _)) refl)))))))))
+    both-true _ _ (both-true _ _ (lt-ltb (layout.me xs) peers-end (under-at words-end xs (omega arith) e layout.me-at)) refl)
+    -- list by list, by tools/layout.py
+    (both-true _ _ (set-under words-end layout.active-places (layout.active-part xs) (within _ _))
+    (both-true _ _ (set-under words-end layout.passive-places (layout.passive-part xs) (within _ _))
+    (both-true _ _ (set-under words-end layout.bootstrap-places (layout.bootstrap-part xs) (within _ _))
+    (both-true _ _ (set-under words-end layout.recent-places (layout.recent-part xs) (within _ _))
+    (both-true _ _ (numbers-under words-end layout.requests-places (layout.requests-part xs) (v .sections .requests) (within _ _))
+    (both-true _ _ (numbers-under words-end layout.joins-places (layout.joins-part xs) (v .sections .joins) (within _ _))
+    (both-true _ _ (data-under words-end layout.peer-data-places (layout.peer-data-part xs) (v .sections .peer-data) (within _ _))
+    (both-true _ _ (set-under words-end layout.alive-places (layout.alive-part xs) (within _ _))
+    (both-true _ _ (set-under words-end layout.refused-places (layout.refused-part xs) (within _ _))
+    refl)))))))))
+    -- end
 
 -- ---- data is bytes
 
@@ -127,7 +131,7 @@ held-under m v = ap (lists-under bytes-end) (entries-values no-data 80 entry-byt
 
 bytes-under : (xs : List ℕ) → Shape xs → lists-under bytes-end (data-lists (unpack xs)) ≡ true
 unfolding lists-under unpack station-of
-bytes-under xs v = both-true _ _ (own-under xs) (held-under _ (v .peer-data))
+bytes-under xs v = both-true _ _ (own-under xs) (held-under _ (v .sections .peer-data))
 
 -- ---- the rule
 
@@ -136,6 +140,6 @@ unfolding width-rule unpack station-of
 width-is xs e =
     let v = ok-shape xs e in
     let z : Bool = leb (layout.passes-alone xs) top-passes && leb (layout.passes-short xs) top-passes in
-    let nr : leb (layout.next-neighbor-request xs) top-counter ≡ true = le-leb (layout.next-neighbor-request xs) top-counter (omega (arith, under-at words-end xs (omega arith) (v .wide) 18)) in
-    let nj : leb (layout.next-join xs) top-counter ≡ true = le-leb (layout.next-join xs) top-counter (omega (arith, under-at words-end xs (omega arith) (v .wide) 19)) in
+    let nr : leb (layout.next-neighbor-request xs) top-counter ≡ true = le-leb (layout.next-neighbor-request xs) top-counter (omega (arith, under-at words-end xs (omega arith) (v .wide) layout.next-neighbor-request-at)) in
+    let nj : leb (layout.next-join xs) top-counter ≡ true = le-leb (layout.next-join xs) top-counter (omega (arith, under-at words-end xs (omega arith) (v .wide) layout.next-join-at)) in
     λ i. sym (peers-under xs v) i && (sym (bytes-under xs v) i && (sym nr i && (sym nj i && z)))

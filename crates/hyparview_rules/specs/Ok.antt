@@ -10,7 +10,6 @@ use Rattle.base_columns.specs.Columns.{words-end, valid-numbers, valid-data-wor
 use Rattle.base_peer.specs.Held.{valid-data}
 use Rattle.spec_hyparview.specs.Rules.{all-under, station-ok}
 use Rattle.hyparview_state.specs.Layout as layout
-use Rattle.hyparview_state.specs.Layout.{few-places, all-places, data-places}
 use Rattle.hyparview_state.specs.Unpack.{own-at, limit-formed, unpack}
 
 -- every word has 64 bits, and those that stand for a bool or a limit are one
@@ -20,17 +19,20 @@ formed xs =
     && (leb (layout.own-present xs) 1
     && (leb (layout.timers-scheduled xs) 1 && limit-formed (layout.refill-kind xs) (layout.refill-requests xs)))
 
--- every set and map is well formed, its count within its places, and zeroes past it
+-- every set and map is well formed, its count within its places, and zeroes past it, by tools/layout.py
 unfoldable pub sections-ok : List ℕ → Bool
 sections-ok xs =
-    valid-set few-places (layout.active-part xs)
-    && (valid-set all-places (layout.passive-part xs)
-    && (valid-set all-places (layout.alive-part xs)
-    && (valid-set all-places (layout.refused-part xs)
-    && (valid-numbers all-places (layout.requests-part xs)
-    && (valid-set few-places (layout.bootstrap-part xs)
-    && (valid-set few-places (layout.recent-part xs)
-    && (valid-numbers few-places (layout.joins-part xs) && valid-data-words data-places (layout.peer-data-part xs))))))))
+    valid-set layout.active-places (layout.active-part xs)
+    && (valid-set layout.passive-places (layout.passive-part xs)
+    && (valid-set layout.alive-places (layout.alive-part xs)
+    && (valid-set layout.refused-places (layout.refused-part xs)
+    && (valid-numbers layout.requests-places (layout.requests-part xs)
+    && (valid-set layout.bootstrap-places (layout.bootstrap-part xs)
+    && (valid-set layout.recent-places (layout.recent-part xs)
+    && (valid-numbers layout.joins-places (layout.joins-part xs)
+    && valid-data-words layout.peer-data-places (layout.peer-data-part xs))))))))
+
+-- end
 
 -- "unused places zero": as many words as a state has, and each part well formed
 unfoldable pub packed-ok : List ℕ → Bool

@@ -11,7 +11,7 @@ ghost use Rattle.base_columns.specs.Columns.{numbers-at, ValidNumbers};
 ghost use Rattle.spec_hyparview.specs.Rules.{settings-rule, views-rule, alive-rule, joins-rule, numbers-rule, held-rule};
 ghost use Rattle.hyparview_state.specs.Layout.{words};
 ghost use Rattle.hyparview_state.specs.Unpack.{unpack};
-ghost use Rattle.hyparview_rules.specs.Ok.{packed-ok, state-ok};
+ghost use Rattle.hyparview_rules.specs.Ok.{sections-ok, packed-ok, state-ok};
 
 // ---- a test of the numbers of a map
 
@@ -33,6 +33,44 @@ fn numbers_under(m: &[u64], cap: usize, end: u64) -> bool
 
 // ---- whether words are a state's at all
 
+// Whether every set and map is well formed, by tools/layout.py
+fn sections_valid(st: &[u64]) -> bool
+    requires { ⌜ length (now st) ≡ words ⌝ }
+    ensures { λ r. ⌜ r ≡ sections-ok (now (st .entry)) ⌝ }
+{
+    base_util::is_section(
+        &st[Layout::ACTIVE..Layout::ACTIVE_END],
+        Layout::ACTIVE_PLACES,
+    )
+        & base_util::is_section(
+            &st[Layout::PASSIVE..Layout::PASSIVE_END],
+            Layout::PASSIVE_PLACES,
+        )
+        & base_util::is_section(&st[Layout::ALIVE..Layout::ALIVE_END], Layout::ALIVE_PLACES)
+        & base_util::is_section(
+            &st[Layout::REFUSED..Layout::REFUSED_END],
+            Layout::REFUSED_PLACES,
+        )
+        & base_columns::numbers_valid(
+            &st[Layout::REQUESTS..Layout::REQUESTS_END],
+            Layout::REQUESTS_PLACES,
+        )
+        & base_util::is_section(
+            &st[Layout::BOOTSTRAP..Layout::BOOTSTRAP_END],
+            Layout::BOOTSTRAP_PLACES,
+        )
+        & base_util::is_section(
+            &st[Layout::RECENT..Layout::RECENT_END],
+            Layout::RECENT_PLACES,
+        )
+        & base_columns::numbers_valid(&st[Layout::JOINS..Layout::JOINS_END], Layout::JOINS_PLACES)
+        & base_columns::data_valid(
+            &st[Layout::PEER_DATA..Layout::PEER_DATA_END],
+            Layout::PEER_DATA_PLACES,
+        )
+}
+// end
+
 // Whether every part is well formed, with zeroes in the unused places; of any words.
 fn is_packed(st: &[u64]) -> bool
     requires { ⌜ length (now st) ≡ words ⌝ }
@@ -51,16 +89,7 @@ fn is_packed(st: &[u64]) -> bool
             st[Layout::OWN_HIGH],
         )
         & ((st[Layout::OWN_PRESENT] == 1) | (st[Layout::OWN_LEN] == 0))
-        // Every set and map is well formed.
-        & base_util::is_section(&st[Layout::ACTIVE..Layout::ACTIVE_END], Layout::FEW)
-        & base_util::is_section(&st[Layout::PASSIVE..Layout::PASSIVE_END], Layout::ALL)
-        & base_util::is_section(&st[Layout::MARKS..Layout::MARKS_END], Layout::ALL)
-        & base_util::is_section(&st[Layout::REFUSED..Layout::REFUSED_END], Layout::ALL)
-        & base_columns::numbers_valid(&st[Layout::ASKED..Layout::ASKED_END], Layout::ALL)
-        & base_util::is_section(&st[Layout::BOOTSTRAP..Layout::BOOTSTRAP_END], Layout::FEW)
-        & base_util::is_section(&st[Layout::RECENT..Layout::RECENT_END], Layout::FEW)
-        & base_columns::numbers_valid(&st[Layout::JOINS..Layout::JOINS_END], Layout::FEW)
-        & base_columns::data_valid(&st[Layout::HELD..Layout::HELD_END], Layout::DATA_CAP)
+        & sections_valid(st)
 }
 
 // ---- the station rules
@@ -107,19 +136,19 @@ fn views_rule(st: &[u64]) -> bool
     let me = st[Layout::ME];
     let active = Layout::ACTIVE + st[Layout::ACTIVE_COUNT] as usize;
     let passive = Layout::PASSIVE + st[Layout::PASSIVE_COUNT] as usize;
-    let marks = Layout::MARKS + st[Layout::MARKS_COUNT] as usize;
+    let alive = Layout::ALIVE + st[Layout::ALIVE_COUNT] as usize;
     base_scan::disjoint(&st[Layout::ACTIVE..active], &st[Layout::PASSIVE..passive])
         & !base_scan::is_in(&st[Layout::ACTIVE..active], me)
         & !base_scan::is_in(&st[Layout::PASSIVE..passive], me)
         // "alive marks passive"
-        & base_scan::subset(&st[Layout::MARKS..marks], &st[Layout::PASSIVE..passive])
+        & base_scan::subset(&st[Layout::ALIVE..alive], &st[Layout::PASSIVE..passive])
         // 02, S-5: no data is held of a peer in neither view and without an open request.
         & base_columns::data_known(
-            &st[Layout::HELD..Layout::HELD_END],
-            Layout::DATA_CAP,
+            &st[Layout::PEER_DATA..Layout::PEER_DATA_END],
+            Layout::PEER_DATA_PLACES,
             &st[Layout::ACTIVE..Layout::ACTIVE_END],
             &st[Layout::PASSIVE..Layout::PASSIVE_END],
-            &st[Layout::ASKED..Layout::ASKED_END],
+            &st[Layout::REQUESTS..Layout::REQUESTS_END],
         )
 }
 
@@ -150,13 +179,13 @@ fn numbers_rule(st: &[u64]) -> bool
     let next_request = st[Layout::NEXT_NEIGHBOR_REQUEST];
     let next_join = st[Layout::NEXT_JOIN];
     numbers_under(
-        &st[Layout::ASKED..Layout::ASKED_END],
-        Layout::ALL,
+        &st[Layout::REQUESTS..Layout::REQUESTS_END],
+        Layout::REQUESTS_PLACES,
         next_request,
     )
         & numbers_under(
             &st[Layout::JOINS..Layout::JOINS_END],
-            Layout::FEW,
+            Layout::JOINS_PLACES,
             next_join,
         )
 }
@@ -175,20 +204,39 @@ pub fn is_ok(st: &[u64]) -> bool
     let me = st[Layout::ME];
     settings_rule(st)
         // "every list free of repeats"; maps and sets are, where they rise.
-        & base_util::is_distinct(&st[Layout::ACTIVE..Layout::ACTIVE_END], Layout::FEW)
-        & base_util::is_distinct(&st[Layout::PASSIVE..Layout::PASSIVE_END], Layout::ALL)
-        & base_util::is_distinct(&st[Layout::BOOTSTRAP..Layout::BOOTSTRAP_END], Layout::FEW)
-        & base_util::is_distinct(&st[Layout::RECENT..Layout::RECENT_END], Layout::FEW)
+        & base_util::is_distinct(
+            &st[Layout::ACTIVE..Layout::ACTIVE_END],
+            Layout::ACTIVE_PLACES,
+        )
+        & base_util::is_distinct(
+            &st[Layout::PASSIVE..Layout::PASSIVE_END],
+            Layout::PASSIVE_PLACES,
+        )
+        & base_util::is_distinct(
+            &st[Layout::BOOTSTRAP..Layout::BOOTSTRAP_END],
+            Layout::BOOTSTRAP_PLACES,
+        )
+        & base_util::is_distinct(
+            &st[Layout::RECENT..Layout::RECENT_END],
+            Layout::RECENT_PLACES,
+        )
         // "those for maps and sets in rising peer order"; a well formed map rises.
-        & base_util::is_rising(&st[Layout::MARKS..Layout::MARKS_END], Layout::ALL)
-        & base_util::is_rising(&st[Layout::REFUSED..Layout::REFUSED_END], Layout::ALL)
+        & base_util::is_rising(&st[Layout::ALIVE..Layout::ALIVE_END], Layout::ALIVE_PLACES)
+        & base_util::is_rising(
+            &st[Layout::REFUSED..Layout::REFUSED_END],
+            Layout::REFUSED_PLACES,
+        )
         // "views as in demand 3": within capacity.
         & (st[Layout::ACTIVE_COUNT] <= st[Layout::ACTIVE_VIEW_CAPACITY])
         & (st[Layout::PASSIVE_COUNT] <= st[Layout::PASSIVE_VIEW_CAPACITY])
         & joins_rule(st)
         & numbers_rule(st)
         // "no data held under self"
-        & !base_columns::contains_data(&st[Layout::HELD..Layout::HELD_END], Layout::DATA_CAP, me)
+        & !base_columns::contains_data(
+            &st[Layout::PEER_DATA..Layout::PEER_DATA_END],
+            Layout::PEER_DATA_PLACES,
+            me,
+        )
         // "`Requests` at most 3"; the requests are 0 in every other limit.
         & (st[Layout::REFILL_REQUESTS] <= Timing::MAX_REQUESTS_PER_REFILL as u64)
         // "next interval from 1 to the shuffle interval"

@@ -38,37 +38,10 @@ module _ (xs : List ℕ) (p : PackedState xs) where
   pub of-short : layout.passes-short xs ≤ top-passes
   of-short = opened p .short
 
-  pub of-active : ValidSet 8 (layout.active-part xs)
-  of-active = opened p .active
-
-  pub of-passive : ValidSet 32 (layout.passive-part xs)
-  of-passive = opened p .passive
-
-  pub of-alive : ValidSet 32 (layout.alive-part xs)
-  of-alive = opened p .alive
-
-  pub of-refused : ValidSet 32 (layout.refused-part xs)
-  of-refused = opened p .refused
-
-  pub of-requests : ValidNumbers 32 (layout.requests-part xs)
-  of-requests = opened p .requests
-
-  pub of-bootstrap : ValidSet 8 (layout.bootstrap-part xs)
-  of-bootstrap = opened p .bootstrap
-
-  pub of-recent : ValidSet 8 (layout.recent-part xs)
-  of-recent = opened p .recent
-
-  pub of-joins : ValidNumbers 8 (layout.joins-part xs)
-  of-joins = opened p .joins
-
-  pub of-peer-data : ValidDataWords 80 (layout.peer-data-part xs)
-  of-peer-data = opened p .peer-data
-
-  pub active-fits : length (items-at 8 (layout.active-part xs)) ≤ layout.active-view-capacity xs
+  pub active-fits : length (items-at layout.active-places (layout.active-part xs)) ≤ layout.active-view-capacity xs
   active-fits = opened p .active-fits
 
-  pub passive-fits : length (items-at 32 (layout.passive-part xs)) ≤ layout.passive-view-capacity xs
+  pub passive-fits : length (items-at layout.passive-places (layout.passive-part xs)) ≤ layout.passive-view-capacity xs
   passive-fits = opened p .passive-fits
 
   pub of-own-len : layout.own-len xs < 256
@@ -79,13 +52,45 @@ module _ (xs : List ℕ) (p : PackedState xs) where
   unfolding in-range settings-at within
   of-capacity = leb-true _ _ (and-right (leb 1 (layout.active-view-capacity xs)) _ (and-left (leb 1 (layout.active-view-capacity xs) && leb (layout.active-view-capacity xs) 8) _ (opened p .settings)))
 
-pub ruleset of-packed =
-    (of-own-data, of-own, of-own-len, of-settings, of-interval, of-alone, of-short, of-active, of-passive, of-alive, of-refused, of-requests, of-bootstrap, of-recent, of-joins, of-peer-data, active-fits, passive-fits)
+-- the sections, by tools/layout.py
+module _ (xs : List ℕ) (p : PackedState xs) where
+  pub of-active : ValidSet layout.active-places (layout.active-part xs)
+  of-active = opened p .sections .active
+
+  pub of-passive : ValidSet layout.passive-places (layout.passive-part xs)
+  of-passive = opened p .sections .passive
+
+  pub of-alive : ValidSet layout.alive-places (layout.alive-part xs)
+  of-alive = opened p .sections .alive
+
+  pub of-refused : ValidSet layout.refused-places (layout.refused-part xs)
+  of-refused = opened p .sections .refused
+
+  pub of-requests : ValidNumbers layout.requests-places (layout.requests-part xs)
+  of-requests = opened p .sections .requests
+
+  pub of-bootstrap : ValidSet layout.bootstrap-places (layout.bootstrap-part xs)
+  of-bootstrap = opened p .sections .bootstrap
+
+  pub of-recent : ValidSet layout.recent-places (layout.recent-part xs)
+  of-recent = opened p .sections .recent
+
+  pub of-joins : ValidNumbers layout.joins-places (layout.joins-part xs)
+  of-joins = opened p .sections .joins
+
+  pub of-peer-data : ValidDataWords layout.peer-data-places (layout.peer-data-part xs)
+  of-peer-data = opened p .sections .peer-data
+
+pub ruleset of-sections = (of-active, of-passive, of-alive, of-refused, of-requests, of-bootstrap, of-recent, of-joins, of-peer-data)
+
+-- end
+
+pub ruleset of-packed = (of-own-data, of-own, of-own-len, of-settings, of-interval, of-alone, of-short, of-sections, active-fits, passive-fits)
 
 -- ---- the counts of the views, as they are read
 
-pub count-active : (xs : List ℕ) → ValidSet 8 (layout.active-part xs) → length (items-at 8 (layout.active-part xs)) ≡ getD xs 30 0
-count-active xs v = v .counted ∙ part-read 22 9 8 xs (omega arith)
+pub count-active : (xs : List ℕ) → ValidSet layout.active-places (layout.active-part xs) → length (items-at layout.active-places (layout.active-part xs)) ≡ getD xs layout.active-count 0
+count-active xs v = v .counted ∙ part-read layout.active-at layout.active-size layout.active-places xs (omega arith)
 
-pub count-passive : (xs : List ℕ) → ValidSet 32 (layout.passive-part xs) → length (items-at 32 (layout.passive-part xs)) ≡ getD xs 63 0
-count-passive xs v = v .counted ∙ part-read 31 33 32 xs (omega arith)
+pub count-passive : (xs : List ℕ) → ValidSet layout.passive-places (layout.passive-part xs) → length (items-at layout.passive-places (layout.passive-part xs)) ≡ getD xs layout.passive-count 0
+count-passive xs v = v .counted ∙ part-read layout.passive-at layout.passive-size layout.passive-places xs (omega arith)

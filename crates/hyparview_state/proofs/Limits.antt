@@ -22,7 +22,7 @@ use Rattle.spec_hyparview.specs.Setters.{set-own-data, set-refill}
 use Rattle.spec_hyparview.specs.Refill.{unless-recovery, one-less}
 use Rattle.hyparview_state.specs.declared.RefillLimit.{RefillLimit}
 use Rattle.hyparview_state.specs.declared.RefillLimit.the-variants.{Automatic, Requests, Recovery}
-use Rattle.hyparview_state.specs.Layout.{refill-kind, refill-requests}
+use Rattle.hyparview_state.specs.Layout.{refill-kind, refill-requests, own-high-at, own-len-at, own-low-at, own-present-at, refill-kind-at, refill-requests-at}
 use Rattle.hyparview_state.specs.Unpack.{unpack, station-of, limit-at, limit-formed, refill-in, PackedState, opened, Becomes}
 use Rattle.hyparview_state.proofs.Memory.{two-limit, byte-fits, byte-back}
 use Rattle.hyparview_state.proofs.Fields.{put-own-data, put-refill}
@@ -31,15 +31,15 @@ as-they-are : (xs : List ℕ) → PackedState xs → Becomes xs (unpack xs)
 as-they-are xs p = record { packed = p; same = refl }
 
 module _ (xs : List ℕ) (l : RefillLimit) (p : PackedState xs) where
-  pub kept-automatic : l ≡ Automatic → Becomes (set (set xs 16 0) 17 0) (set-refill (refill-in l) (unpack xs))
+  pub kept-automatic : l ≡ Automatic → Becomes (set (set xs refill-kind-at 0) refill-requests-at 0) (set-refill (refill-in l) (unpack xs))
   unfolding choose limit-formed
   kept-automatic e = rw e (put-refill 0 0 Automatic refl refl (as-they-are xs p))
 
-  pub kept-requests : (n : ℕ) → l ≡ Requests n → Becomes (set (set xs 16 1) 17 n) (set-refill (refill-in l) (unpack xs))
+  pub kept-requests : (n : ℕ) → l ≡ Requests n → Becomes (set (set xs refill-kind-at 1) refill-requests-at n) (set-refill (refill-in l) (unpack xs))
   unfolding choose limit-formed
   kept-requests n e = rw e (put-refill 1 n (Requests n) refl refl (as-they-are xs p))
 
-  pub kept-recovery : l ≡ Recovery → Becomes (set (set xs 16 2) 17 0) (set-refill (refill-in l) (unpack xs))
+  pub kept-recovery : l ≡ Recovery → Becomes (set (set xs refill-kind-at 2) refill-requests-at 0) (set-refill (refill-in l) (unpack xs))
   unfolding choose limit-formed
   kept-recovery e = rw e (put-refill 2 0 Recovery refl refl (as-they-are xs p))
 
@@ -94,26 +94,26 @@ module _ (xs : List ℕ) where
       (λ e. absurd (h (eqb-true _ _ e))) (λ e. eqb-true _ _ e)
 
   -- a limit is lifted that has no requests: only its kind is stored
-  pub lifted : PackedState xs → (refill-kind xs ≡ 1 → ⊥) → Becomes (set xs 16 0) (set-refill automatic (unpack xs))
+  pub lifted : PackedState xs → (refill-kind xs ≡ 1 → ⊥) → Becomes (set xs refill-kind-at 0) (set-refill automatic (unpack xs))
   unfolding choose limit-formed refill-in
   lifted p h =
-      let e : getD (set xs 16 0) 17 0 ≡ 0 = getD-set-other xs 16 17 0 0 (λ q. omega (arith, q)) ∙ no-requests p h in
-      let s : set (set xs 16 0) 17 0 ≡ set xs 16 0 = ap (set (set xs 16 0) 17) (sym e) ∙ set-getD (set xs 16 0) 17 0 in
+      let e : getD (set xs refill-kind-at 0) refill-requests-at 0 ≡ 0 = getD-set-other xs refill-kind-at refill-requests-at 0 0 (λ q. omega (arith, q)) ∙ no-requests p h in
+      let s : set (set xs refill-kind-at 0) refill-requests-at 0 ≡ set xs refill-kind-at 0 = ap (set (set xs refill-kind-at 0) refill-requests-at) (sym e) ∙ set-getD (set xs refill-kind-at 0) refill-requests-at 0 in
       subst (λ (ys : List ℕ). Becomes ys (set-refill automatic (unpack xs))) s (put-refill 0 0 Automatic refl refl (as-they-are xs p))
 
   -- another number of requests is left: only the number is stored
-  pub left-over : (n : ℕ) → PackedState xs → refill-kind xs ≡ 1 → Becomes (set xs 17 n) (set-refill (requests-left n) (unpack xs))
+  pub left-over : (n : ℕ) → PackedState xs → refill-kind xs ≡ 1 → Becomes (set xs refill-requests-at n) (set-refill (requests-left n) (unpack xs))
   unfolding choose limit-formed refill-in
   left-over n p h =
-      let s : set xs 16 1 ≡ xs = ap (set xs 16) (sym h) ∙ set-getD xs 16 0 in
-      subst (λ (ys : List ℕ). Becomes (set ys 17 n) (set-refill (requests-left n) (unpack xs))) s (put-refill 1 n (Requests n) refl refl (as-they-are xs p))
+      let s : set xs refill-kind-at 1 ≡ xs = ap (set xs refill-kind-at) (sym h) ∙ set-getD xs refill-kind-at 0 in
+      subst (λ (ys : List ℕ). Becomes (set ys refill-requests-at n) (set-refill (requests-left n) (unpack xs))) s (put-refill 1 n (Requests n) refl refl (as-they-are xs p))
 
   -- one request is used, of those that are left
-  pub one-used : PackedState xs → (refill-requests xs ≡ 0 → ⊥) → Becomes (set xs 17 (refill-requests xs - 1)) (set-refill (one-less (unpack xs .refill)) (unpack xs))
+  pub one-used : PackedState xs → (refill-requests xs ≡ 0 → ⊥) → Becomes (set xs refill-requests-at (refill-requests xs - 1)) (set-refill (one-less (unpack xs .refill)) (unpack xs))
   unfolding unpack station-of limit-at
   one-used p h =
       let k : refill-kind xs ≡ 1 = split (eqb (refill-kind xs) 1) (λ e. eqb-true _ _ e) (λ e. absurd (h (no-requests p (eqb-false _ _ e)))) in
-      subst (λ (x : Refill). Becomes (set xs 17 (refill-requests xs - 1)) (set-refill x (unpack xs))) (sym (words-less (refill-kind xs) (refill-requests xs) k)) (left-over (refill-requests xs - 1) p k)
+      subst (λ (x : Refill). Becomes (set xs refill-requests-at (refill-requests xs - 1)) (set-refill x (unpack xs))) (sym (words-less (refill-kind xs) (refill-requests xs) k)) (left-over (refill-requests xs - 1) p k)
 
   pub none-used : refill-requests xs ≡ 0 → one-less (unpack xs .refill) ≡ unpack xs .refill
   unfolding unpack station-of limit-at
@@ -137,7 +137,7 @@ module _ (old new : RefillLimit) (t : Bool) (e : t ≡ is-recovery (refill-in ol
   no-recovery h = sym (choose-no (is-recovery (refill-in old)) recovery (refill-in new) (sym e ∙ h))
 
 pub kept-own : (xs : List ℕ) (d : PeerData) (low high : ℕ) → PackedState xs → ValidData d → le 8 low ≡ take 8 (drop 0 (d .bytes)) → le 8 high ≡ take 8 (drop 8 (d .bytes))
-    → Becomes (set (set (set (set xs 1 (boolByte (d .present))) 2 (d .len)) 20 low) 21 high) (set-own-data (data-in d) (unpack xs))
+    → Becomes (set (set (set (set xs own-present-at (boolByte (d .present))) own-len-at (d .len)) own-low-at low) own-high-at high) (set-own-data (data-in d) (unpack xs))
 kept-own xs d low high p v e f =
     let q : record { present = eqb (boolByte (d .present)) 1; len = d .len; bytes = word-bytes low high } ≡ d =
     λ i. record { present = byte-back (d .present) i; len = d .len; bytes = bytes-back d low high v e f i } in

@@ -1,28 +1,18 @@
 -- Where each number and each section of the state's words stands. Written by tools/layout.py.
 -- Assumes nothing.
-use Prim.Native.Nat.{ℕ, _+_, _*_}
+use Prim.Native.Nat.{ℕ}
 use mathlib.Core.List.{List}
 use lib.ListN.{getD}
-use Rattle.base_util.specs.Section.{part, working-places}
-use Rattle.base_columns.specs.Columns.{active-places}
+use Rattle.base_util.specs.Section.{part, ValidSet}
+use Rattle.base_columns.specs.Columns.{ValidNumbers, ValidDataWords}
+pub use Rattle.base_columns.specs.Columns.{active-places}
 
--- the words of a state
+-- the words of a state, and where its numbers end and its sections begin
 abbrev pub words : ℕ
 words = 551
 
--- the places of a small section, of a large one and of the data map, and the words of a large set with its count
-
-abbrev pub few-places : ℕ
-few-places = active-places
-
-abbrev pub all-places : ℕ
-all-places = working-places
-
-abbrev pub data-places : ℕ
-data-places = 80
-
-abbrev pub set-words : ℕ
-set-words = all-places + 1
+abbrev pub numbers-end : ℕ
+numbers-end = 22
 
 -- ---- the numbers, and where each stands
 
@@ -158,34 +148,139 @@ own-high-at = 21
 abbrev pub own-high : List ℕ → ℕ
 own-high xs = getD xs own-high-at 0
 
--- ---- the sections
+-- ---- the sections: where each begins, its places, where its count stands, and its words
+
+abbrev pub active-at : ℕ
+active-at = 22
+
+abbrev pub active-count : ℕ
+active-count = 30
+
+abbrev pub active-size : ℕ
+active-size = 9
 
 abbrev pub active-part : List ℕ → List ℕ
-active-part xs = part 22 (few-places + 1) xs
+active-part xs = part active-at active-size xs
+
+abbrev pub passive-at : ℕ
+passive-at = 31
+
+abbrev pub passive-places : ℕ
+passive-places = 32
+
+abbrev pub passive-count : ℕ
+passive-count = 63
+
+abbrev pub passive-size : ℕ
+passive-size = 33
 
 abbrev pub passive-part : List ℕ → List ℕ
-passive-part xs = part 31 set-words xs
+passive-part xs = part passive-at passive-size xs
+
+abbrev pub alive-at : ℕ
+alive-at = 64
+
+abbrev pub alive-places : ℕ
+alive-places = 32
+
+abbrev pub alive-count : ℕ
+alive-count = 96
+
+abbrev pub alive-size : ℕ
+alive-size = 33
 
 abbrev pub alive-part : List ℕ → List ℕ
-alive-part xs = part 64 set-words xs
+alive-part xs = part alive-at alive-size xs
+
+abbrev pub refused-at : ℕ
+refused-at = 97
+
+abbrev pub refused-places : ℕ
+refused-places = 32
+
+abbrev pub refused-count : ℕ
+refused-count = 129
+
+abbrev pub refused-size : ℕ
+refused-size = 33
 
 abbrev pub refused-part : List ℕ → List ℕ
-refused-part xs = part 97 set-words xs
+refused-part xs = part refused-at refused-size xs
+
+abbrev pub requests-at : ℕ
+requests-at = 130
+
+abbrev pub requests-places : ℕ
+requests-places = 32
+
+abbrev pub requests-count : ℕ
+requests-count = 194
+
+abbrev pub requests-size : ℕ
+requests-size = 65
 
 abbrev pub requests-part : List ℕ → List ℕ
-requests-part xs = part 130 (2 * all-places + 1) xs
+requests-part xs = part requests-at requests-size xs
+
+abbrev pub bootstrap-at : ℕ
+bootstrap-at = 195
+
+abbrev pub bootstrap-places : ℕ
+bootstrap-places = 8
+
+abbrev pub bootstrap-count : ℕ
+bootstrap-count = 203
+
+abbrev pub bootstrap-size : ℕ
+bootstrap-size = 9
 
 abbrev pub bootstrap-part : List ℕ → List ℕ
-bootstrap-part xs = part 195 (few-places + 1) xs
+bootstrap-part xs = part bootstrap-at bootstrap-size xs
+
+abbrev pub recent-at : ℕ
+recent-at = 204
+
+abbrev pub recent-places : ℕ
+recent-places = 8
+
+abbrev pub recent-count : ℕ
+recent-count = 212
+
+abbrev pub recent-size : ℕ
+recent-size = 9
 
 abbrev pub recent-part : List ℕ → List ℕ
-recent-part xs = part 204 (few-places + 1) xs
+recent-part xs = part recent-at recent-size xs
+
+abbrev pub joins-at : ℕ
+joins-at = 213
+
+abbrev pub joins-places : ℕ
+joins-places = 8
+
+abbrev pub joins-count : ℕ
+joins-count = 229
+
+abbrev pub joins-size : ℕ
+joins-size = 17
 
 abbrev pub joins-part : List ℕ → List ℕ
-joins-part xs = part 213 (2 * few-places + 1) xs
+joins-part xs = part joins-at joins-size xs
+
+abbrev pub peer-data-at : ℕ
+peer-data-at = 230
+
+abbrev pub peer-data-places : ℕ
+peer-data-places = 80
+
+abbrev pub peer-data-count : ℕ
+peer-data-count = 550
+
+abbrev pub peer-data-size : ℕ
+peer-data-size = 321
 
 abbrev pub peer-data-part : List ℕ → List ℕ
-peer-data-part xs = part 230 (4 * data-places + 1) xs
+peer-data-part xs = part peer-data-at peer-data-size xs
 
 pub record Sections : Type 0 where
   pub active : List ℕ
@@ -200,3 +295,15 @@ pub record Sections : Type 0 where
 
 abbrev pub sections : List ℕ → Sections
 sections xs = record { active = active-part xs; passive = passive-part xs; alive = alive-part xs; refused = refused-part xs; requests = requests-part xs; bootstrap = bootstrap-part xs; recent = recent-part xs; joins = joins-part xs; peer-data = peer-data-part xs }
+
+-- every section is well formed
+pub record WellFormed (s : Sections) : Type 0 where
+  pub active : ValidSet active-places (s .active)
+  pub passive : ValidSet passive-places (s .passive)
+  pub alive : ValidSet alive-places (s .alive)
+  pub refused : ValidSet refused-places (s .refused)
+  pub requests : ValidNumbers requests-places (s .requests)
+  pub bootstrap : ValidSet bootstrap-places (s .bootstrap)
+  pub recent : ValidSet recent-places (s .recent)
+  pub joins : ValidNumbers joins-places (s .joins)
+  pub peer-data : ValidDataWords peer-data-places (s .peer-data)

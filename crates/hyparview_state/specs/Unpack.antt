@@ -7,8 +7,8 @@ use mathlib.Core.List.{List}
 use lib.ListN.{length}
 use lib.Dec.{leb, eqb}
 use Rattle.base_lists.specs.Lists.{choose}
-use Rattle.base_util.specs.Section.{items-at, ValidSet}
-use Rattle.base_columns.specs.Columns.{numbers-at, ValidNumbers, word-bytes, data-map-at, ValidDataWords}
+use Rattle.base_util.specs.Section.{items-at}
+use Rattle.base_columns.specs.Columns.{numbers-at, word-bytes, data-map-at}
 use Rattle.base_peer.specs.declared.PeerData.{PeerData}
 use Rattle.base_peer.specs.Held.{data-in, ValidData}
 use Rattle.base_timing.specs.declared.Config.{Config}
@@ -18,13 +18,14 @@ use Rattle.work.specs.Work as work
 use Rattle.hyparview_state.specs.declared.RefillLimit.{RefillLimit}
 use Rattle.hyparview_state.specs.declared.RefillLimit.the-variants.{Automatic, Requests, Recovery}
 use Rattle.hyparview_state.specs.Layout as layout
-use Rattle.hyparview_state.specs.Layout.{words, few-places, all-places, data-places, Sections, sections}
+use Rattle.hyparview_state.specs.Layout.{words, Sections, sections, WellFormed}
 
 -- ---- own data, the settings and the limit on refills, of the numbers n
 
 unfoldable pub own-at : List ℕ → PeerData
 own-at n = record { present = eqb (layout.own-present n) 1; len = layout.own-len n; bytes = word-bytes (layout.own-low n) (layout.own-high n) }
 
+-- the settings, by tools/layout.py
 unfoldable pub settings-at : List ℕ → Config
 settings-at n = record {
   «active_view_capacity» = layout.active-view-capacity n;
@@ -37,6 +38,8 @@ settings-at n = record {
   «shuffle_interval» = layout.shuffle-interval n;
   «neighbor_request_timeout» = layout.neighbor-request-timeout n;
 }
+
+-- end
 
 -- kind 0 is Automatic, 1 is Requests, 2 is Recovery
 unfoldable pub limit-at : List ℕ → RefillLimit
@@ -53,29 +56,31 @@ refill-in Recovery = recovery
 
 -- ---- the station
 
--- the station of the numbers n and the sections s
+-- the station of the numbers n and the sections s, by tools/layout.py
 unfoldable pub station-of : List ℕ → Sections → Station
 station-of n s = record {
   me = layout.me n;
   own-data = data-in (own-at n);
-  active = items-at few-places (s .active);
-  passive = items-at all-places (s .passive);
+  active = items-at layout.active-places (s .active);
+  passive = items-at layout.passive-places (s .passive);
   config = settings-at n;
   scheduled = eqb (layout.timers-scheduled n) 1;
   next-interval = layout.next-shuffle-interval n;
-  bootstrap = items-at few-places (s .bootstrap);
+  bootstrap = items-at layout.bootstrap-places (s .bootstrap);
   passes-alone = layout.passes-alone n;
   passes-short = layout.passes-short n;
-  recent = items-at few-places (s .recent);
-  requests = numbers-at all-places (s .requests);
+  recent = items-at layout.recent-places (s .recent);
+  requests = numbers-at layout.requests-places (s .requests);
   next-request = layout.next-neighbor-request n;
-  joins = numbers-at few-places (s .joins);
+  joins = numbers-at layout.joins-places (s .joins);
   next-join = layout.next-join n;
-  peer-data = data-map-at data-places (s .peer-data);
-  alive = items-at all-places (s .alive);
-  refused = items-at all-places (s .refused);
+  peer-data = data-map-at layout.peer-data-places (s .peer-data);
+  alive = items-at layout.alive-places (s .alive);
+  refused = items-at layout.refused-places (s .refused);
   refill = refill-in (limit-at n);
 }
+
+-- end
 
 -- the station that the words stand for
 unfoldable pub unpack : List ℕ → Station
@@ -94,17 +99,9 @@ pub record Packed (n : List ℕ) (s : Sections) : Type 0 where
   pub own-data : ValidData (own-at n)
   pub settings : in-range (settings-at n) ≡ true
   pub short-interval : layout.next-shuffle-interval n ≤ longest-time
-  pub active : ValidSet few-places (s .active)
-  pub passive : ValidSet all-places (s .passive)
-  pub alive : ValidSet all-places (s .alive)
-  pub refused : ValidSet all-places (s .refused)
-  pub requests : ValidNumbers all-places (s .requests)
-  pub bootstrap : ValidSet few-places (s .bootstrap)
-  pub recent : ValidSet few-places (s .recent)
-  pub joins : ValidNumbers few-places (s .joins)
-  pub peer-data : ValidDataWords data-places (s .peer-data)
-  pub active-fits : length (items-at few-places (s .active)) ≤ layout.active-view-capacity n
-  pub passive-fits : length (items-at all-places (s .passive)) ≤ layout.passive-view-capacity n
+  pub sections : WellFormed s
+  pub active-fits : length (items-at layout.active-places (s .active)) ≤ layout.active-view-capacity n
+  pub passive-fits : length (items-at layout.passive-places (s .passive)) ≤ layout.passive-view-capacity n
 
 -- a data type, so that a search does not go into it
 pub data PackedState (xs : List ℕ) : Type 0 where

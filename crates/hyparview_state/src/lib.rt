@@ -20,6 +20,7 @@ ghost use Rattle.hyparview_state.specs.Work.{Alters};
 pub struct Layout {}
 
 impl Layout {
+    // The places, by tools/layout.py
     pub const ME: usize = 0;
 
     // Own data: 1 present, 0 absent; the bytes stand in two words, `OWN_LOW` and `OWN_HIGH`.
@@ -67,71 +68,84 @@ impl Layout {
 
     pub const OWN_HIGH: usize = 21;
 
-    // The places of a section: few for the active view, bootstrap peers, recent neighbors and joins, and all for the other sets and the requests.
-    pub const FEW: usize = base_columns::ACTIVE_PLACES;
-
-    pub const ALL: usize = base_columns::PASSIVE_PLACES;
-
-    // The words of a set of all places, with its count.
-    pub const SET: usize = Layout::ALL + 1;
-
-    pub const DATA_CAP: usize = 80;
-
+    // The sections: where each begins, its places, where its count stands and where it ends.
     pub const ACTIVE: usize = 22;
 
-    pub const ACTIVE_COUNT: usize = Layout::ACTIVE + Layout::FEW;
+    pub const ACTIVE_PLACES: usize = base_columns::ACTIVE_PLACES;
 
-    pub const ACTIVE_END: usize = Layout::ACTIVE_COUNT + 1;
+    pub const ACTIVE_COUNT: usize = 30;
 
-    pub const PASSIVE: usize = Layout::ACTIVE_END;
+    pub const ACTIVE_END: usize = 31;
 
-    pub const PASSIVE_COUNT: usize = Layout::PASSIVE + Layout::ALL;
+    pub const PASSIVE: usize = 31;
 
-    pub const PASSIVE_END: usize = Layout::PASSIVE_COUNT + 1;
+    pub const PASSIVE_PLACES: usize = 32;
 
-    pub const MARKS: usize = Layout::PASSIVE_END;
+    pub const PASSIVE_COUNT: usize = 63;
 
-    pub const MARKS_COUNT: usize = Layout::MARKS + Layout::ALL;
+    pub const PASSIVE_END: usize = 64;
 
-    pub const MARKS_END: usize = Layout::MARKS_COUNT + 1;
+    pub const ALIVE: usize = 64;
 
-    pub const REFUSED: usize = Layout::MARKS_END;
+    pub const ALIVE_PLACES: usize = 32;
 
-    pub const REFUSED_COUNT: usize = Layout::REFUSED + Layout::ALL;
+    pub const ALIVE_COUNT: usize = 96;
 
-    pub const REFUSED_END: usize = Layout::REFUSED_COUNT + 1;
+    pub const ALIVE_END: usize = 97;
 
-    pub const ASKED: usize = Layout::REFUSED_END;
+    pub const REFUSED: usize = 97;
 
-    pub const ASKED_COUNT: usize = Layout::ASKED + 2 * Layout::ALL;
+    pub const REFUSED_PLACES: usize = 32;
 
-    pub const ASKED_END: usize = Layout::ASKED_COUNT + 1;
+    pub const REFUSED_COUNT: usize = 129;
 
-    pub const BOOTSTRAP: usize = Layout::ASKED_END;
+    pub const REFUSED_END: usize = 130;
 
-    pub const BOOTSTRAP_COUNT: usize = Layout::BOOTSTRAP + Layout::FEW;
+    pub const REQUESTS: usize = 130;
 
-    pub const BOOTSTRAP_END: usize = Layout::BOOTSTRAP_COUNT + 1;
+    pub const REQUESTS_PLACES: usize = 32;
 
-    pub const RECENT: usize = Layout::BOOTSTRAP_END;
+    pub const REQUESTS_COUNT: usize = 194;
 
-    pub const RECENT_COUNT: usize = Layout::RECENT + Layout::FEW;
+    pub const REQUESTS_END: usize = 195;
 
-    pub const RECENT_END: usize = Layout::RECENT_COUNT + 1;
+    pub const BOOTSTRAP: usize = 195;
 
-    pub const JOINS: usize = Layout::RECENT_END;
+    pub const BOOTSTRAP_PLACES: usize = 8;
 
-    pub const JOINS_COUNT: usize = Layout::JOINS + 2 * Layout::FEW;
+    pub const BOOTSTRAP_COUNT: usize = 203;
 
-    pub const JOINS_END: usize = Layout::JOINS_COUNT + 1;
+    pub const BOOTSTRAP_END: usize = 204;
 
-    pub const HELD: usize = Layout::JOINS_END;
+    pub const RECENT: usize = 204;
 
-    pub const HELD_COUNT: usize = Layout::HELD + 4 * Layout::DATA_CAP;
+    pub const RECENT_PLACES: usize = 8;
 
-    pub const HELD_END: usize = Layout::HELD_COUNT + 1;
+    pub const RECENT_COUNT: usize = 212;
 
-    pub const LENGTH: usize = Layout::HELD_END;
+    pub const RECENT_END: usize = 213;
+
+    pub const JOINS: usize = 213;
+
+    pub const JOINS_PLACES: usize = 8;
+
+    pub const JOINS_COUNT: usize = 229;
+
+    pub const JOINS_END: usize = 230;
+
+    pub const PEER_DATA: usize = 230;
+
+    pub const PEER_DATA_PLACES: usize = 80;
+
+    pub const PEER_DATA_COUNT: usize = 550;
+
+    pub const PEER_DATA_END: usize = 551;
+
+    // The words of a state, and where its numbers end.
+    pub const LENGTH: usize = 551;
+
+    pub const NUMBERS_END: usize = 22;
+    // end
 }
 
 // The last number of a request or a join (the Rust's `u64::MAX`), and the most passes that are counted (`u32::MAX`).
@@ -246,7 +260,11 @@ pub fn in_active(st: &[u64], p: PeerId) -> bool
     requires { ⌜ PackedState (now st) ⌝ }
     ensures { λ r. ⌜ r ≡ in-active p (unpack (now (st .entry))) ⌝ }
 {
-    base_util::contains(&st[Layout::ACTIVE..Layout::ACTIVE_END], Layout::FEW, p)
+    base_util::contains(
+        &st[Layout::ACTIVE..Layout::ACTIVE_END],
+        Layout::ACTIVE_PLACES,
+        p,
+    )
 }
 
 pub fn in_passive(st: &[u64], p: PeerId) -> bool
@@ -254,7 +272,11 @@ pub fn in_passive(st: &[u64], p: PeerId) -> bool
     requires { ⌜ PackedState (now st) ⌝ }
     ensures { λ r. ⌜ r ≡ in-passive p (unpack (now (st .entry))) ⌝ }
 {
-    base_util::contains(&st[Layout::PASSIVE..Layout::PASSIVE_END], Layout::ALL, p)
+    base_util::contains(
+        &st[Layout::PASSIVE..Layout::PASSIVE_END],
+        Layout::PASSIVE_PLACES,
+        p,
+    )
 }
 
 // Whether a request to p is open.
@@ -263,7 +285,11 @@ pub fn is_requested(st: &[u64], p: PeerId) -> bool
     requires { ⌜ PackedState (now st) ⌝ }
     ensures { λ r. ⌜ r ≡ is-requested p (unpack (now (st .entry))) ⌝ }
 {
-    base_columns::contains_number(&st[Layout::ASKED..Layout::ASKED_END], Layout::ALL, p)
+    base_columns::contains_number(
+        &st[Layout::REQUESTS..Layout::REQUESTS_END],
+        Layout::REQUESTS_PLACES,
+        p,
+    )
 }
 
 // Whether there is no neighbor.
@@ -312,7 +338,11 @@ pub fn drop_join(w: Work, st: &mut [u64], p: PeerId) -> Work
     if w.code != 0 {
         return w;
     }
-    base_columns::remove_number(&mut st[Layout::JOINS..Layout::JOINS_END], Layout::FEW, p);
+    base_columns::remove_number(
+        &mut st[Layout::JOINS..Layout::JOINS_END],
+        Layout::JOINS_PLACES,
+        p,
+    );
     w
 }
 
@@ -325,7 +355,11 @@ pub fn drop_request(w: Work, st: &mut [u64], p: PeerId) -> Work
     if w.code != 0 {
         return w;
     }
-    base_columns::remove_number(&mut st[Layout::ASKED..Layout::ASKED_END], Layout::ALL, p);
+    base_columns::remove_number(
+        &mut st[Layout::REQUESTS..Layout::REQUESTS_END],
+        Layout::REQUESTS_PLACES,
+        p,
+    );
     w
 }
 

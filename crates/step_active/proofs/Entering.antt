@@ -32,7 +32,7 @@ use Rattle.spec_hyparview.proofs.Sends.{ok-insert-peer-info}
 use Rattle.work.specs.declared.Work.{Work}
 use Rattle.hyparview_state.specs.declared.RefillLimit.{RefillLimit}
 use Rattle.hyparview_state.specs.declared.RefillLimit.the-variants.{Automatic}
-use Rattle.hyparview_state.specs.Layout.{active-view-capacity, active-part, recent-part}
+use Rattle.hyparview_state.specs.Layout.{active-view-capacity, active-part, recent-part, active-at, active-places, active-size, recent-at, recent-places, recent-size, passes-short-at}
 use Rattle.hyparview_state.specs.Unpack.{unpack, station-of, settings-at, limit-at, refill-in, PackedState, Becomes}
 use Rattle.hyparview_state.specs.Work.{work-of, run, run-of, Changes, Room, Tells, TellsAny, Fine, Does}
 use Rattle.hyparview_state.proofs.Access.{of-capacity}
@@ -44,13 +44,13 @@ use Rattle.step_active.specs.Sane.{FreeActive, Calm}
 -- ---- places
 
 module _ (xs : List ℕ) (code : ℕ) (v : PackedState xs) (z : code ≡ 0) (h : FreeActive code (unpack xs)) where
-  pub place-active : length (items-at 8 (active-part xs)) < 8
+  pub place-active : length (items-at active-places (active-part xs)) < 8
   unfolding unpack station-of settings-at
   place-active = omega (arith, h .free z, of-capacity xs v)
 
-  pub one-more : (p : ℕ) → length (items-at 8 (active-part xs) ++ (p ∷ [])) ≤ active-view-capacity xs
+  pub one-more : (p : ℕ) → length (items-at active-places (active-part xs) ++ (p ∷ [])) ≤ active-view-capacity xs
   unfolding unpack station-of settings-at
-  one-more p = omega (arith, h .free z, length-append (items-at 8 (active-part xs)) (p ∷ []))
+  one-more p = omega (arith, h .free z, length-append (items-at active-places (active-part xs)) (p ∷ []))
 
 pub open-slot : (xs : List ℕ) (code : ℕ) (t : Bool) → t ≡ active-is-full (unpack xs) → t ≡ false → FreeActive code (unpack xs)
 unfolding active-is-full
@@ -90,16 +90,16 @@ module _ (w a b : Work) (xs ys zs : List ℕ) (p : ℕ) (k₂ : Changes (on (dro
   not-moved h = moved-in b b zs zs (on-passed (work-of b zs) (k₂ .packed) (remember-neighbor p) h) (on-passed (work-of b zs) (k₂ .packed) (push-active p) h)
 
 module _ (w : Work) (xs : List ℕ) (p : ℕ) (v : PackedState xs) (z : w .code ≡ 0) (ys : List ℕ) where
-  pub pushed : FreeActive (w .code) (unpack xs) → HoldsSet 8 ys (items-at 8 (active-part xs) ++ (p ∷ [])) → Changes (on (push-active p)) (work-of w xs) (work-of w (putMid 22 9 xs ys))
+  pub pushed : FreeActive (w .code) (unpack xs) → HoldsSet 8 ys (items-at active-places (active-part xs) ++ (p ∷ [])) → Changes (on (push-active p)) (work-of w xs) (work-of w (putMid active-at active-size xs ys))
   unfolding push-active unpack station-of
   pushed f h = on-done (work-of w xs) v _ _ z (put-active h (one-more xs (w .code) v z f p))
 
-  pub remembered : HoldsSet 8 ys (renew 8 p (items-at 8 (recent-part xs))) → Changes (on (remember-neighbor p)) (work-of w xs) (work-of w (putMid 204 9 xs ys))
+  pub remembered : HoldsSet 8 ys (renew 8 p (items-at recent-places (recent-part xs))) → Changes (on (remember-neighbor p)) (work-of w xs) (work-of w (putMid recent-at recent-size xs ys))
   unfolding remember-neighbor unpack station-of
   remembered h = on-done (work-of w xs) v _ _ z (put-recent h)
 
 pub gained : (xs ys : List ℕ) (old v l : RefillLimit) → Becomes ys (set-refill (refill-in v) (unpack xs)) → refill-in v ≡ unless-recovery (refill-in old) (refill-in l) → l ≡ Automatic → old ≡ limit-at xs
-    → Becomes (set ys 15 0) (gain-neighbor (unpack xs))
+    → Becomes (set ys passes-short-at 0) (gain-neighbor (unpack xs))
 unfolding gain-neighbor unpack station-of refill-in
 gained xs ys old v l h e a q =
     let z : refill-in v ≡ unless-recovery (refill-in (limit-at xs)) automatic = e ∙ (λ i. unless-recovery (refill-in (q i)) (refill-in (a i))) in

@@ -31,7 +31,7 @@ use Rattle.spec_hyparview.proofs.Leaving.{ok-demote-alive, ok-drop-active, ok-f
 use Rattle.work.specs.declared.Work.{Work}
 use Rattle.hyparview_state.specs.declared.RefillLimit.{RefillLimit}
 use Rattle.hyparview_state.specs.declared.RefillLimit.the-variants.{Recovery}
-use Rattle.hyparview_state.specs.Layout.{active-view-capacity, active-part, alive-part}
+use Rattle.hyparview_state.specs.Layout.{active-view-capacity, active-part, alive-part, active-places, alive-places}
 use Rattle.hyparview_state.specs.Unpack.{station-form, unpack, station-of, refill-in, PackedState}
 use Rattle.hyparview_state.specs.Work.{work-of, run, run-of, Changes, DrawsAny, Room, Tells, TellsAny, Fine, Does}
 use Rattle.hyparview_state.proofs.Access.{active-fits}
@@ -45,10 +45,10 @@ use Rattle.step_active.specs.Sane.{reason-in, FreeActive, FreeMark, Calm
 
 -- ---- places
 
-pub fewer-active : (xs : List ℕ) (i : ℕ) → PackedState xs → length (swap-remove i (items-at 8 (active-part xs))) ≤ active-view-capacity xs
-fewer-active xs i v = omega (arith, length-swap (items-at 8 (active-part xs)) i, active-fits xs v)
+pub fewer-active : (xs : List ℕ) (i : ℕ) → PackedState xs → length (swap-remove i (items-at active-places (active-part xs))) ≤ active-view-capacity xs
+fewer-active xs i v = omega (arith, length-swap (items-at active-places (active-part xs)) i, active-fits xs v)
 
-pub mark-place : (xs : List ℕ) (code p : ℕ) → code ≡ 0 → FreeMark p code (unpack xs) → length (insert p (items-at 32 (alive-part xs))) ≤ 32
+pub mark-place : (xs : List ℕ) (code p : ℕ) → code ≡ 0 → FreeMark p code (unpack xs) → length (insert p (items-at alive-places (alive-part xs))) ≤ 32
 unfolding unpack station-of
 mark-place xs code p z h = h .free z
 

@@ -9,7 +9,7 @@ use Rattle.spec_hyparview.specs.Station.{Station}
 use Rattle.spec_hyparview.specs.Run.{Run}
 use Rattle.spec_hyparview.specs.Active.{Reason, connection-closed, disconnect-received}
 use Rattle.spec_hyparview.specs.Invariant.{Fixed, busy, Ok}
-use Rattle.hyparview_state.specs.Layout.{all-places}
+use Rattle.hyparview_state.specs.Layout.{alive-places}
 use Rattle.step_active.specs.declared.Loss.{Loss}
 use Rattle.step_active.specs.declared.Loss.the-variants.{ConnectionClosed, DisconnectReceived}
 
@@ -24,7 +24,7 @@ pub record FreeActive (code : ℕ) (s : Station) : Type 0 where
 
 -- unless a code is set, there is a place for the mark of p
 pub record FreeMark (p code : ℕ) (s : Station) : Type 0 where
-  pub free : code ≡ 0 → length (insert p (s .alive)) ≤ all-places
+  pub free : code ≡ 0 → length (insert p (s .alive)) ≤ alive-places
 
 -- nothing is half done, and m messages, b bytes and d draws may be spent
 pub record Calm (m b d : ℕ) (g : Run) : Type 0 where

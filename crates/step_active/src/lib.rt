@@ -40,7 +40,11 @@ fn drop_active(w: Work, st: &mut [u64], out: &mut [u8], i: usize, p: PeerId) -> 
     if w.code != 0 {
         return w;
     }
-    base_util::remove_index(&mut st[Layout::ACTIVE..Layout::ACTIVE_END], Layout::FEW, i);
+    base_util::remove_index(
+        &mut st[Layout::ACTIVE..Layout::ACTIVE_END],
+        Layout::ACTIVE_PLACES,
+        i,
+    );
     work::notify(w, out, Kind::NEIGHBOR_DOWN, p)
 }
 
@@ -53,7 +57,11 @@ pub fn mark_alive(w: Work, st: &mut [u64], p: PeerId) -> Work
     if w.code != 0 {
         return w;
     }
-    base_util::insert_sorted(&mut st[Layout::MARKS..Layout::MARKS_END], Layout::ALL, p);
+    base_util::insert_sorted(
+        &mut st[Layout::ALIVE..Layout::ALIVE_END],
+        Layout::ALIVE_PLACES,
+        p,
+    );
     w
 }
 
@@ -64,7 +72,11 @@ fn demote(w: Work, st: &mut [u64], draws: &[u32], out: &mut [u8], p: PeerId, ali
     requires { ⌜ (alive ≡ true → Meets (Loose p 0 adding 1) w st draws out) ⌝ }
     ensures { λ r. ⌜ Makes (choose alive (demote-alive p) (demote p)) w r st draws out ⌝ }
 {
-    let d = base_columns::get_data(&st[Layout::HELD..Layout::HELD_END], Layout::DATA_CAP, p);
+    let d = base_columns::get_data(
+        &st[Layout::PEER_DATA..Layout::PEER_DATA_END],
+        Layout::PEER_DATA_PLACES,
+        p,
+    );
     let a = step_peers::drop_data(w, st, p);
     let t = step_peers::add_passive(a, st, draws, out, p, d);
     if alive {
@@ -87,7 +99,11 @@ fn remove_active_by_index(
     requires { ⌜ Meets (Calm 0 leaving 1) w st draws out ⌝ }
     ensures { λ r. ⌜ Makes (remove-active-by-index i (reason-in why)) w r st draws out ⌝ }
 {
-    let p = base_util::get_index(&st[Layout::ACTIVE..Layout::ACTIVE_END], Layout::FEW, i);
+    let p = base_util::get_index(
+        &st[Layout::ACTIVE..Layout::ACTIVE_END],
+        Layout::ACTIVE_PLACES,
+        i,
+    );
     let a = drop_active(w, st, out, i, p);
     match why {
         Loss::ConnectionClosed => {
@@ -121,7 +137,11 @@ pub fn remove_active(
     ensures { λ r. ⌜ Makes (remove-active p (reason-in why)) w r st draws out ⌝ }
 {
     if hyparview_state::in_active(st, p) {
-        let i = base_util::position(&st[Layout::ACTIVE..Layout::ACTIVE_END], Layout::FEW, p);
+        let i = base_util::position(
+            &st[Layout::ACTIVE..Layout::ACTIVE_END],
+            Layout::ACTIVE_PLACES,
+            p,
+        );
         let a = remove_active_by_index(w, st, draws, out, i, why);
         // Peers that refused may have room now, and the neighbor p is missing.
         let b = step_refill::clear_refused(a, st);
@@ -140,11 +160,14 @@ fn free_random_slot_in_active_view(w: Work, st: &mut [u64], draws: &[u32], out: 
     if hyparview_state::is_alone(st) {
         return w;
     }
-    let n = base_util::count(&st[Layout::ACTIVE..Layout::ACTIVE_END], Layout::FEW);
+    let n = base_util::count(
+        &st[Layout::ACTIVE..Layout::ACTIVE_END],
+        Layout::ACTIVE_PLACES,
+    );
     let t = work::choose(w, draws, n);
     let p = base_util::get_index(
         &st[Layout::ACTIVE..Layout::ACTIVE_END],
-        Layout::FEW,
+        Layout::ACTIVE_PLACES,
         t.index,
     );
     let a = drop_active(t.work, st, out, t.index, p);
@@ -167,10 +190,14 @@ fn move_in(w: Work, st: &mut [u64], p: PeerId) -> Work
     if b.code != 0 {
         return b;
     }
-    base_util::push(&mut st[Layout::ACTIVE..Layout::ACTIVE_END], Layout::FEW, p);
+    base_util::push(
+        &mut st[Layout::ACTIVE..Layout::ACTIVE_END],
+        Layout::ACTIVE_PLACES,
+        p,
+    );
     base_util::renew(
         &mut st[Layout::RECENT..Layout::RECENT_END],
-        Layout::FEW,
+        Layout::RECENT_PLACES,
         Timing::MAX_RECENT_NEIGHBORS,
         p,
     );

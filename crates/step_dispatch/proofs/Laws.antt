@@ -67,11 +67,11 @@ module _ (w : Work) (xs ds out : List ℕ) (v : Fine (work-of w xs) ds out) wher
       split (run (work-of w xs) ds out .station .scheduled) (λ t. taken _ _ t (still v))
       (λ t. left _ _ t (seq schedule-maintenance (maintenance-rests h) (seq schedule-shuffle (not-scheduled w xs ds out v h) (then (on-passed (work-of w xs) (v .ready .packed) note-scheduled h) (still v)))))
 
-  pub noted : w .code ≡ 0 → Changes (on note-scheduled) (work-of w xs) (work-of w (set xs 12 1))
+  pub noted : w .code ≡ 0 → Changes (on note-scheduled) (work-of w xs) (work-of w (set xs layout.timers-scheduled-at 1))
   unfolding note-scheduled unpack station-of part
   noted h = on-done (work-of w xs) (v .ready .packed) _ _ h (put-scheduled true)
 
-  timers-start : (b r : Work) (zs o o₂ : List ℕ) → eqb (layout.timers-scheduled xs) 1 ≡ false → w .code ≡ 0 → TellsAny (emit (timer 2 0 maintenance-interval 0)) b r o o₂ → Does (work-of b zs) ds o (schedule-shuffle (run (work-of w (set xs 12 1)) ds out))
+  timers-start : (b r : Work) (zs o o₂ : List ℕ) → eqb (layout.timers-scheduled xs) 1 ≡ false → w .code ≡ 0 → TellsAny (emit (timer 2 0 maintenance-interval 0)) b r o o₂ → Does (work-of b zs) ds o (schedule-shuffle (run (work-of w (set xs layout.timers-scheduled-at 1)) ds out))
       → Does (work-of r zs) ds o₂ (first-timers (run (work-of w xs) ds out))
   unfolding first-timers run-of unpack station-of schedule-maintenance
   timers-start b r zs o o₂ h z k₃ k₂ = left _ _ h (then-tell-any _ k₃ (seq schedule-shuffle k₂ (then (noted z) (still v))))
@@ -92,12 +92,12 @@ module _ (w : Work) (xs ds out : List ℕ) (v : Fine (work-of w xs) ds out) (l :
         does = and-false (eqb (w .code) 0) _ t (λ z. timers-rest w xs ds out v (eqb-false _ _ z)) (λ z. timers-run w xs ds out v (is-yes _ z));
       })))
 
-  pub timed-start : (b r : Work) (ys o₁ o₂ : List ℕ) → zs ≡ ys → o ≡ o₂ → a ≡ r → (eqb (w .code) 0 && not (eqb (layout.timers-scheduled xs) 1)) ≡ true → length ys ≡ length (set xs 12 1) → length o₁ ≡ length out → length o₂ ≡ length o₁
-      → TellsAny (emit (timer 2 0 maintenance-interval 0)) b r o₁ o₂ → Does (work-of b ys) ds o₁ (schedule-shuffle (run (work-of w (set xs 12 1)) ds out)) → Timed w xs ds out a zs o
+  pub timed-start : (b r : Work) (ys o₁ o₂ : List ℕ) → zs ≡ ys → o ≡ o₂ → a ≡ r → (eqb (w .code) 0 && not (eqb (layout.timers-scheduled xs) 1)) ≡ true → length ys ≡ length (set xs layout.timers-scheduled-at 1) → length o₁ ≡ length out → length o₂ ≡ length o₁
+      → TellsAny (emit (timer 2 0 maintenance-interval 0)) b r o₁ o₂ → Does (work-of b ys) ds o₁ (schedule-shuffle (run (work-of w (set xs layout.timers-scheduled-at 1)) ds out)) → Timed w xs ds out a zs o
   timed-start b r ys o₁ o₂ p q s t m n n₂ k₂ k₁ =
       subst (λ (x : Work). Timed w xs ds out x zs o) (sym s) (subst (λ (x : List ℕ). Timed w xs ds out r x o) (sym p) (subst (λ (x : List ℕ). Timed w xs ds out r ys x) (sym q)
       (record {
-        long = m ∙ (length-set xs 12 1 ∙ l);
+        long = m ∙ (length-set xs timers-scheduled-at 1 ∙ l);
         room = n₂ ∙ n;
         does = timers-start w xs ds out v b r ys o₁ o₂ (is-no _ (and-right (eqb (w .code) 0) _ t)) (eqb-true _ _ (and-left _ _ t)) k₂ k₁;
       })))

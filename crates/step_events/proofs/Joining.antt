@@ -28,7 +28,7 @@ use Rattle.spec_hyparview.specs.Events.{must-drop-oldest, oldest, drop-oldest-j
 use Rattle.base_lists.proofs.Members.{shorter, renewed}
 use Rattle.spec_hyparview.proofs.Requested.{fewer-joins}
 use Rattle.work.specs.declared.Work.{Work}
-use Rattle.hyparview_state.specs.Layout.{bootstrap-part, joins-part, next-join}
+use Rattle.hyparview_state.specs.Layout.{bootstrap-part, joins-part, next-join, bootstrap-at, bootstrap-count, bootstrap-places, bootstrap-size, joins-at, joins-places, joins-size}
 use Rattle.hyparview_state.specs.Unpack.{unpack, station-of, long, PackedState, Becomes}
 use Rattle.hyparview_state.specs.Work.{Held, work-of, run, run-of, Changes, ChangesAny, Room, Tells, TellsAny}
 use Rattle.hyparview_state.proofs.Access.{of-bootstrap, of-joins}
@@ -51,73 +51,73 @@ renew-again n p l = ap (λ (m : List ℕ). choose (ltb n (length m + 1)) (drop 1
 
 -- the sections as they are lent
 module _ (xs ys : List ℕ) (p : ℕ) where
-  pub lent-without : HoldsSet 8 ys (without p (items-at 8 (take 9 (drop 195 xs)))) → HoldsSet 8 ys (without p (items-at 8 (bootstrap-part xs)))
+  pub lent-without : HoldsSet 8 ys (without p (items-at bootstrap-places (take bootstrap-size (drop bootstrap-at xs)))) → HoldsSet 8 ys (without p (items-at bootstrap-places (bootstrap-part xs)))
   unfolding part
   lent-without h = h
 
-  pub lent-renew : HoldsSet 8 ys (renew 8 p (items-at 8 (take 9 (drop 195 xs)))) → HoldsSet 8 ys (renew 8 p (items-at 8 (bootstrap-part xs)))
+  pub lent-renew : HoldsSet 8 ys (renew 8 p (items-at bootstrap-places (take bootstrap-size (drop bootstrap-at xs)))) → HoldsSet 8 ys (renew 8 p (items-at bootstrap-places (bootstrap-part xs)))
   unfolding part
   lent-renew h = h
 
-  pub lent-cut : HoldsNumbers 8 ys (cut p (numbers-at 8 (take 17 (drop 213 xs)))) → HoldsNumbers 8 ys (cut p (numbers-at 8 (joins-part xs)))
+  pub lent-cut : HoldsNumbers 8 ys (cut p (numbers-at joins-places (take joins-size (drop joins-at xs)))) → HoldsNumbers 8 ys (cut p (numbers-at joins-places (joins-part xs)))
   unfolding part
   lent-cut h = h
 
 -- p is taken out of the bootstrap peers, and stored as the newest
-module _ (xs ys : List ℕ) (p : ℕ) (v : PackedState xs) (s : HoldsSet 8 ys (without p (items-at 8 (bootstrap-part xs)))) where
-  stored : part 195 9 (putMid 195 9 xs ys) ≡ ys
-  stored = part-put 195 9 xs ys (omega (arith, long v)) (s .valid .long)
+module _ (xs ys : List ℕ) (p : ℕ) (v : PackedState xs) (s : HoldsSet 8 ys (without p (items-at bootstrap-places (bootstrap-part xs)))) where
+  stored : part bootstrap-at bootstrap-size (putMid bootstrap-at bootstrap-size xs ys) ≡ ys
+  stored = part-put bootstrap-at bootstrap-size xs ys (omega (arith, long v)) (s .valid .long)
 
-  read-stored : (i : ℕ) → i < 9 → getD (putMid 195 9 xs ys) (195 + i) 0 ≡ getD ys i 0
-  read-stored i h = sym (part-read 195 9 i (putMid 195 9 xs ys) h) ∙ ap (λ (l : List ℕ). getD l i 0) stored
+  read-stored : (i : ℕ) → i < bootstrap-size → getD (putMid bootstrap-at bootstrap-size xs ys) (bootstrap-at + i) 0 ≡ getD ys i 0
+  read-stored i h = sym (part-read bootstrap-at bootstrap-size i (putMid bootstrap-at bootstrap-size xs ys) h) ∙ ap (λ (l : List ℕ). getD l i 0) stored
 
   -- the section without p, as it is lent next
-  pub others-lent : ValidSet 8 (take 9 (drop 195 (putMid 195 9 xs ys)))
+  pub others-lent : ValidSet bootstrap-places (take bootstrap-size (drop bootstrap-at (putMid bootstrap-at bootstrap-size xs ys)))
   unfolding part
   others-lent = of-bootstrap _ (put-bootstrap s (record { packed = v; same = refl }) .packed)
 
-  how-many : getD (putMid 195 9 xs ys) 203 0 ≡ length (without p (items-at 8 (bootstrap-part xs)))
+  how-many : getD (putMid bootstrap-at bootstrap-size xs ys) bootstrap-count 0 ≡ length (without p (items-at bootstrap-places (bootstrap-part xs)))
   how-many = read-stored 8 (omega arith) ∙ sym (s .valid .counted) ∙ ap length (s .items)
 
-  first : 0 < length (without p (items-at 8 (bootstrap-part xs))) → getD (putMid 195 9 xs ys) 195 0 ≡ getD (without p (items-at 8 (bootstrap-part xs))) 0 0
+  first : 0 < length (without p (items-at bootstrap-places (bootstrap-part xs))) → getD (putMid bootstrap-at bootstrap-size xs ys) bootstrap-at 0 ≡ getD (without p (items-at bootstrap-places (bootstrap-part xs))) 0 0
   unfolding items-at part
   first h =
       let c : 0 < getD ys 8 0 = omega (arith, h, s .valid .counted, ap length (s .items)) in
       read-stored 0 (omega arith) ∙ sym (getD-take 8 ys 0 0 (omega arith)) ∙ sym (getD-take (getD ys 8 0) (take 8 ys) 0 0 c) ∙ ap (λ (l : List ℕ). getD l 0 0) (s .items)
 
-  few-left : getD (putMid 195 9 xs ys) 203 0 < 8 → ltb 8 (length (without p (items-at 8 (bootstrap-part xs))) + 1) ≡ false
-  few-left h = le-ltb 8 (length (without p (items-at 8 (bootstrap-part xs))) + 1) (omega (arith, how-many, h))
+  few-left : getD (putMid bootstrap-at bootstrap-size xs ys) bootstrap-count 0 < 8 → ltb 8 (length (without p (items-at bootstrap-places (bootstrap-part xs))) + 1) ≡ false
+  few-left h = le-ltb 8 (length (without p (items-at bootstrap-places (bootstrap-part xs))) + 1) (omega (arith, how-many, h))
 
-  many-left : 8 ≤ getD (putMid 195 9 xs ys) 203 0 → ltb 8 (length (without p (items-at 8 (bootstrap-part xs))) + 1) ≡ true
-  many-left h = lt-ltb 8 (length (without p (items-at 8 (bootstrap-part xs))) + 1) (omega (arith, how-many, h))
+  many-left : 8 ≤ getD (putMid bootstrap-at bootstrap-size xs ys) bootstrap-count 0 → ltb 8 (length (without p (items-at bootstrap-places (bootstrap-part xs))) + 1) ≡ true
+  many-left h = lt-ltb 8 (length (without p (items-at bootstrap-places (bootstrap-part xs))) + 1) (omega (arith, how-many, h))
 
-  module _ (zs : List ℕ) (t : HoldsSet 8 zs (renew 8 p (items-at 8 (bootstrap-part (putMid 195 9 xs ys))))) where
-    newest : HoldsSet 8 zs (renew 8 p (items-at 8 (bootstrap-part xs)))
+  module _ (zs : List ℕ) (t : HoldsSet 8 zs (renew 8 p (items-at bootstrap-places (bootstrap-part (putMid bootstrap-at bootstrap-size xs ys))))) where
+    newest : HoldsSet 8 zs (renew 8 p (items-at bootstrap-places (bootstrap-part xs)))
     unfolding part
     newest = record { valid = t .valid; items = t .items ∙ (ap (λ (l : List ℕ). renew 8 p (items-at 8 l)) stored ∙ (ap (renew 8 p) (s .items) ∙ renew-again 8 p _)) }
 
-    renewed-words : Becomes (putMid 195 9 (putMid 195 9 xs ys) zs) (set-bootstrap (renew 8 p (items-at 8 (bootstrap-part xs))) (unpack xs))
+    renewed-words : Becomes (putMid bootstrap-at bootstrap-size (putMid bootstrap-at bootstrap-size xs ys) zs) (set-bootstrap (renew 8 p (items-at bootstrap-places (bootstrap-part xs))) (unpack xs))
     renewed-words = put-bootstrap newest (put-bootstrap s (record { packed = v; same = refl }))
 
-    pub joins-lent : ValidNumbers 8 (take 17 (drop 213 (putMid 195 9 (putMid 195 9 xs ys) zs)))
+    pub joins-lent : ValidNumbers joins-places (take joins-size (drop joins-at (putMid bootstrap-at bootstrap-size (putMid bootstrap-at bootstrap-size xs ys) zs)))
     unfolding part
     joins-lent = of-joins _ (renewed-words .packed)
 
-    pub none-dropped : (w : Work) → w .code ≡ 0 → getD (putMid 195 9 xs ys) 203 0 < 8 → Changes (on (push-bootstrap p)) (work-of w xs) (work-of w (putMid 195 9 (putMid 195 9 xs ys) zs))
+    pub none-dropped : (w : Work) → w .code ≡ 0 → getD (putMid bootstrap-at bootstrap-size xs ys) bootstrap-count 0 < 8 → Changes (on (push-bootstrap p)) (work-of w xs) (work-of w (putMid bootstrap-at bootstrap-size (putMid bootstrap-at bootstrap-size xs ys) zs))
     unfolding push-bootstrap drop-oldest-join must-drop-oldest unpack station-of
     none-dropped w z h =
         on-done (work-of w xs) v (push-bootstrap p) _ z
-        (λ b. subst (λ (m : List (ℕ × ℕ)). Becomes (putMid 195 9 (putMid 195 9 xs ys) zs) (set-bootstrap (renew 8 p (items-at 8 (bootstrap-part xs))) (set-joins m (unpack xs)))) (sym (choose-no _ _ _ (few-left h))) renewed-words)
+        (λ b. subst (λ (m : List (ℕ × ℕ)). Becomes (putMid bootstrap-at bootstrap-size (putMid bootstrap-at bootstrap-size xs ys) zs) (set-bootstrap (renew 8 p (items-at bootstrap-places (bootstrap-part xs))) (set-joins m (unpack xs)))) (sym (choose-no _ _ _ (few-left h))) renewed-words)
 
-    pub one-dropped : (w : Work) (js : List ℕ) → w .code ≡ 0 → 8 ≤ getD (putMid 195 9 xs ys) 203 0
-        → HoldsNumbers 8 js (cut (getD (putMid 195 9 xs ys) 195 0) (numbers-at 8 (joins-part (putMid 195 9 (putMid 195 9 xs ys) zs))))
-        → Changes (on (push-bootstrap p)) (work-of w xs) (work-of w (putMid 213 17 (putMid 195 9 (putMid 195 9 xs ys) zs) js))
+    pub one-dropped : (w : Work) (js : List ℕ) → w .code ≡ 0 → 8 ≤ getD (putMid bootstrap-at bootstrap-size xs ys) bootstrap-count 0
+        → HoldsNumbers 8 js (cut (getD (putMid bootstrap-at bootstrap-size xs ys) bootstrap-at 0) (numbers-at joins-places (joins-part (putMid bootstrap-at bootstrap-size (putMid bootstrap-at bootstrap-size xs ys) zs))))
+        → Changes (on (push-bootstrap p)) (work-of w xs) (work-of w (putMid joins-at joins-size (putMid bootstrap-at bootstrap-size (putMid bootstrap-at bootstrap-size xs ys) zs) js))
     unfolding push-bootstrap drop-oldest-join must-drop-oldest oldest unpack station-of
     one-dropped w js z h k =
-        let old : getD (putMid 195 9 xs ys) 195 0 ≡ getD (without p (items-at 8 (bootstrap-part xs))) 0 0 = first (omega (arith, how-many, h)) in
-        let same : numbers-at 8 (joins-part (putMid 195 9 (putMid 195 9 xs ys) zs)) ≡ unpack xs .joins = ap (λ (g : Station). g .joins) (renewed-words .same) in
+        let old : getD (putMid bootstrap-at bootstrap-size xs ys) bootstrap-at 0 ≡ getD (without p (items-at bootstrap-places (bootstrap-part xs))) 0 0 = first (omega (arith, how-many, h)) in
+        let same : numbers-at joins-places (joins-part (putMid bootstrap-at bootstrap-size (putMid bootstrap-at bootstrap-size xs ys) zs)) ≡ unpack xs .joins = ap (λ (g : Station). g .joins) (renewed-words .same) in
         on-done (work-of w xs) v (push-bootstrap p) _ z
-        (λ b. subst (λ (m : List (ℕ × ℕ)). Becomes (putMid 213 17 (putMid 195 9 (putMid 195 9 xs ys) zs) js) (set-bootstrap (renew 8 p (items-at 8 (bootstrap-part xs))) (set-joins m (unpack xs))))
+        (λ b. subst (λ (m : List (ℕ × ℕ)). Becomes (putMid joins-at joins-size (putMid bootstrap-at bootstrap-size (putMid bootstrap-at bootstrap-size xs ys) zs) js) (set-bootstrap (renew 8 p (items-at bootstrap-places (bootstrap-part xs))) (set-joins m (unpack xs))))
         ((λ i. cut (old i) (same i)) ∙ sym (choose-yes _ _ _ (many-left h)))
         (put-joins k renewed-words))
 
@@ -131,7 +131,7 @@ module _ (w a : Work) (xs : List ℕ) (p : ℕ) (v : PackedState xs) (k : Change
   pub number-left : a .code ≡ 0 → next-join xs < top-counter
   number-left z = ltb-true _ _ (require-said (work-of w xs) (work-of a xs) 10 _ (omega arith) (required-at xs v _ _ k) z .1)
 
-  pub place-left : FreeJoin p (w .code) (unpack xs) → a .code ≡ 0 → (has p (numbers-at 8 (joins-part xs)) || ltb (length (numbers-at 8 (joins-part xs))) 8) ≡ true
+  pub place-left : FreeJoin p (w .code) (unpack xs) → a .code ≡ 0 → (has p (numbers-at joins-places (joins-part xs)) || ltb (length (numbers-at joins-places (joins-part xs))) 8) ≡ true
   unfolding unpack station-of
   place-left h z = h .free (required-code 10 _ (work-of w xs) (work-of a xs) (required-at xs v _ _ k) z)
 

@@ -8,7 +8,6 @@ use native.Mathlib.Omega.{arith}
 use lib.ListN.{length, take, drop}
 use lib.Dec.{ltb}
 use borrow.Rule.Slice.PartMut.{putMid}
-use Rattle.base_lists.specs.Array.{pad}
 use Rattle.base_lists.specs.Lists.{remove}
 use Rattle.base_lists.proofs.Choice.{by-choice}
 use Rattle.base_lists.proofs.Count.{length-remove}
@@ -24,14 +23,13 @@ use Rattle.spec_hyparview.specs.Events.{drop-dead, lose-passive, lose-other, lo
 use Rattle.spec_hyparview.proofs.Invariant.{busy, Ok}
 use Rattle.spec_hyparview.proofs.Received.{ok-drop-request}
 use Rattle.work.specs.declared.Work.{Work}
-use Rattle.hyparview_state.specs.Layout.{active-part}
-use Rattle.hyparview_state.specs.Unpack.{unpack, station-of, PackedState}
+use Rattle.hyparview_state.specs.Layout.{active-part, active-at, active-places, active-size}
+use Rattle.hyparview_state.specs.Unpack.{unpack, station-of, PackedState, Becomes}
 use Rattle.hyparview_state.specs.Work.{Held, work-of, run, run-of, Changes, Fine, Does}
 use Rattle.hyparview_state.proofs.Access.{active-fits}
 use Rattle.hyparview_state.proofs.Bridge.{guard-shut, on-twice, on-passed, on-done, change-then, change-yes, change-no, by, still, then, seq, seq-at, taken, left, holds-at, at-run}
 use Rattle.hyparview_state.proofs.Fields.{put-active}
 use Rattle.step_sending.proofs.Sets.{lent-items}
-use Rattle.step_events.proofs.Clearing.{wiped}
 use Rattle.step_active.specs.declared.Loss.the-variants.{ConnectionClosed}
 use Rattle.step_active.specs.Sane.{Calm, reason-in}
 
@@ -85,10 +83,10 @@ module _ (w a : Held) (ds out : List ℕ) (p : ℕ) (requested t : Bool) (v : Fi
 -- ---- Quit
 
 -- a neighbor leaves the active view
-pub neighbor-removed : (w : Work) (xs ys : List ℕ) (p : ℕ) → PackedState xs → w .code ≡ 0 → HoldsSet 8 ys (remove p (items-at 8 (take 9 (drop 22 xs)))) → Changes (on (remove-neighbor p)) (work-of w xs) (work-of w (putMid 22 9 xs ys))
+pub neighbor-removed : (w : Work) (xs ys : List ℕ) (p : ℕ) → PackedState xs → w .code ≡ 0 → HoldsSet 8 ys (remove p (items-at active-places (take active-size (drop active-at xs)))) → Changes (on (remove-neighbor p)) (work-of w xs) (work-of w (putMid active-at active-size xs ys))
 unfolding remove-neighbor unpack station-of part
 neighbor-removed w xs ys p v z h =
-    on-done (work-of w xs) v _ _ z (put-active h (omega (arith, length-remove p (items-at 8 (active-part xs)), active-fits xs v)))
+    on-done (work-of w xs) v _ _ z (put-active h (omega (arith, length-remove p (items-at active-places (active-part xs)), active-fits xs v)))
 
 pub quitted : (w a r : Held) (ds out o : List ℕ) (p : ℕ) → Fine w ds out → Does r ds o (send-disconnect p false (run a ds out)) → Changes (on (remove-neighbor p)) w a → Does r ds o (quit-one p (run w ds out))
 unfolding quit-one
@@ -115,11 +113,11 @@ quits-shut [] g h = refl
 quits-shut (p ∷ l) g h = ap (quit-all l) (quit-shut p g h) ∙ quits-shut l g h
 
 -- the neighbors are those of the working set
-quits-are : (v xs : List ℕ) (n : ℕ) → HoldsSet 32 v (items-at 8 (take 9 (drop 22 xs))) → n ≡ length (items-at 32 v) → take n v ≡ unpack xs .active
+quits-are : (v xs : List ℕ) (n : ℕ) → HoldsSet 32 v (items-at active-places (take active-size (drop active-at xs))) → n ≡ length (items-at 32 v) → take n v ≡ unpack xs .active
 unfolding unpack station-of part
 quits-are v xs n h e = lent-items v n (h .valid) e ∙ h .items
 
-module _ (w a : Work) (xs ys v ds out o : List ℕ) (n : ℕ) (d : Does (work-of a ys) ds o (quit-all (take n v) (run (work-of w xs) ds out))) (s : HoldsSet 32 v (items-at 8 (take 9 (drop 22 xs)))) (e : n ≡ length (items-at 32 v)) where
+module _ (w a : Work) (xs ys v ds out o : List ℕ) (n : ℕ) (d : Does (work-of a ys) ds o (quit-all (take n v) (run (work-of w xs) ds out))) (s : HoldsSet 32 v (items-at active-places (take active-size (drop active-at xs)))) (e : n ≡ length (items-at 32 v)) where
   cleared-by : (r : Held) → Changes (on clear-all) (work-of a ys) r → Does r ds o (handle-quit (run (work-of w xs) ds out))
   unfolding handle-quit run-of
   cleared-by r k = then k (by _ (ap (λ (l : List ℕ). quit-all l (run (work-of w xs) ds out)) (sym (quits-are v xs n s e))) d)
@@ -127,5 +125,5 @@ module _ (w a : Work) (xs ys v ds out o : List ℕ) (n : ℕ) (d : Does (work-of
   pub quit-passed : (a .code ≡ 0 → ⊥) → Does (work-of a ys) ds o (handle-quit (run (work-of w xs) ds out))
   quit-passed h = cleared-by (work-of a ys) (on-passed (work-of a ys) (d .fine .ready .packed) clear-all h)
 
-  pub quit-handled : (t z : List ℕ) → a .code ≡ 0 → t ≡ pad 0 (length (take 164 (drop 31 ys))) [] → z ≡ pad 0 (length (putMid 31 164 ys t)) (take 230 (putMid 31 164 ys t)) → Does (work-of a z) ds o (handle-quit (run (work-of w xs) ds out))
-  quit-handled t z c p q = cleared-by (work-of a z) (on-done (work-of a ys) (d .fine .ready .packed) clear-all z c (λ _. wiped ys t z (d .fine .ready .packed) p q))
+  pub quit-handled : (z : List ℕ) → a .code ≡ 0 → Becomes z (clear-all (unpack ys)) → Does (work-of a z) ds o (handle-quit (run (work-of w xs) ds out))
+  quit-handled z c b = cleared-by (work-of a z) (on-done (work-of a ys) (d .fine .ready .packed) clear-all z c (λ _. b))

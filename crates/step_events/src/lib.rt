@@ -12,9 +12,9 @@ ghost use lib.ListN.{length};
 ghost use Rattle.base_peer.specs.Held.{data-in, ValidData};
 ghost use Rattle.spec_hyparview.specs.Budgets.{leaving};
 ghost use Rattle.spec_hyparview.specs.Run.{on};
-ghost use Rattle.spec_hyparview.specs.Events.{push-bootstrap, handle-join, lose-passive, handle-connection-closed, update-own-data, handle-quit};
+ghost use Rattle.spec_hyparview.specs.Events.{push-bootstrap, handle-join, lose-passive, handle-connection-closed, update-own-data, clear-all, handle-quit};
 ghost use Rattle.hyparview_state.specs.Layout.{words};
-ghost use Rattle.hyparview_state.specs.Unpack.{unpack, PackedState};
+ghost use Rattle.hyparview_state.specs.Unpack.{unpack, PackedState, Becomes};
 ghost use Rattle.hyparview_state.specs.Work.{GivenRoom, Given, Meets, Alters, Says, Makes};
 ghost use Rattle.step_active.specs.Sane.{Calm};
 ghost use Rattle.step_events.specs.Free.{KnownJoins};
@@ -31,14 +31,14 @@ fn push_bootstrap(w: Work, st: &mut [u64], p: PeerId) -> Work
     // p is taken out: how many are left, and the oldest of them.
     base_util::without(
         &mut st[Layout::BOOTSTRAP..Layout::BOOTSTRAP_END],
-        Layout::FEW,
+        Layout::BOOTSTRAP_PLACES,
         p,
     );
     let n = st[Layout::BOOTSTRAP_COUNT];
     let old = st[Layout::BOOTSTRAP];
     base_util::renew(
         &mut st[Layout::BOOTSTRAP..Layout::BOOTSTRAP_END],
-        Layout::FEW,
+        Layout::BOOTSTRAP_PLACES,
         Timing::MAX_BOOTSTRAP_PEERS,
         p,
     );
@@ -46,7 +46,11 @@ fn push_bootstrap(w: Work, st: &mut [u64], p: PeerId) -> Work
     if n < Timing::MAX_BOOTSTRAP_PEERS as u64 {
         return w;
     }
-    base_columns::remove_number(&mut st[Layout::JOINS..Layout::JOINS_END], Layout::FEW, old);
+    base_columns::remove_number(
+        &mut st[Layout::JOINS..Layout::JOINS_END],
+        Layout::JOINS_PLACES,
+        old,
+    );
     w
 }
 
@@ -74,7 +78,7 @@ pub fn handle_join(w: Work, st: &mut [u64], out: &mut [u8], p: PeerId) -> Work
     }
     base_columns::insert_number(
         &mut st[Layout::JOINS..Layout::JOINS_END],
-        Layout::FEW,
+        Layout::JOINS_PLACES,
         p,
         id,
     );
@@ -143,30 +147,57 @@ pub fn update_own_data(w: Work, st: &mut [u64], d: PeerData) -> Work
     w
 }
 
+// Nothing is held of other peers any more: no refusals, marks, data, passive view and requests.
+fn clear_all(st: &mut [u64])
+    requires { ⌜ length (now st) ≡ words ⌝ }
+    requires { ⌜ PackedState (now st) ⌝ }
+    ensures { λ _. ⌜ Becomes (now (st .exit)) (clear-all (unpack (now (st .entry)))) ⌝ }
+{
+    base_util::clear(
+        &mut st[Layout::REFUSED..Layout::REFUSED_END],
+        Layout::REFUSED_PLACES,
+    );
+    base_util::clear(
+        &mut st[Layout::ALIVE..Layout::ALIVE_END],
+        Layout::ALIVE_PLACES,
+    );
+    base_util::clear_from(&mut st[Layout::PEER_DATA..Layout::PEER_DATA_END], 0);
+    base_util::clear(
+        &mut st[Layout::PASSIVE..Layout::PASSIVE_END],
+        Layout::PASSIVE_PLACES,
+    );
+    base_util::clear_from(&mut st[Layout::REQUESTS..Layout::REQUESTS_END], 0);
+}
+
 // Quit: every neighbor gets a Disconnect, in the order of the active view.
 pub fn handle_quit(w: Work, st: &mut [u64], draws: &[u32], out: &mut [u8]) -> Work
     requires { ⌜ length (now st) ≡ words ⌝ }
     requires { ⌜ Given w st draws out ⌝ }
     ensures { λ r. ⌜ Makes handle-quit w r st draws out ⌝ }
 {
-    let mut v = [0u64; Layout::SET];
-    base_util::copy_into(&st[Layout::ACTIVE..Layout::ACTIVE_END], Layout::FEW, &mut v);
-    let n = base_util::count(&v, Layout::ALL);
+    let mut v = [0u64; base_util::WORKING_WORDS];
+    base_util::copy_into(
+        &st[Layout::ACTIVE..Layout::ACTIVE_END],
+        Layout::ACTIVE_PLACES,
+        &mut v,
+    );
+    let n = base_util::count(&v, base_util::WORKING_PLACES);
     let mut r = w;
     let mut i: usize = 0;
     while (i < n) & (r.code == 0) {
         let p = v[i];
         i += 1;
         // It leaves the active view.
-        base_util::remove(&mut st[Layout::ACTIVE..Layout::ACTIVE_END], Layout::FEW, p);
+        base_util::remove(
+            &mut st[Layout::ACTIVE..Layout::ACTIVE_END],
+            Layout::ACTIVE_PLACES,
+            p,
+        );
         r = step_sending::send_disconnect(r, st, draws, out, p, false);
     }
     if r.code != 0 {
         return r;
     }
-    // Nothing is held of other peers any more: no passive view, marks, refusals and requests, and no data.
-    // Both runs of zeroes rest on the order of `Layout`: those four stand side by side, and the data held stands last.
-    base_util::clear_from(&mut st[Layout::PASSIVE..Layout::ASKED_END], 0);
-    base_util::clear_from(st, Layout::HELD);
+    clear_all(st);
     r
 }

@@ -20,7 +20,7 @@ use Rattle.spec_hyparview.specs.Run.{Run, emit, emit-all, draw, to-draw, one-of
 use Rattle.spec_hyparview.specs.Sending.{join-to, join}
 use Rattle.spec_hyparview.specs.Timers.{other-recent, rejoin-recent, rejoin-bootstrap, rejoin, count-alone, rejoin-if-due, pass-alone}
 use Rattle.work.specs.declared.Work.{Work}
-use Rattle.hyparview_state.specs.Layout.{words, bootstrap-part, passes-alone}
+use Rattle.hyparview_state.specs.Layout.{words, bootstrap-part, passes-alone, bootstrap-places, passes-alone-at}
 use Rattle.hyparview_state.specs.Unpack.{unpack, station-of}
 use Rattle.hyparview_state.specs.Work.{work-of, run, run-of, Changes, DrawsAny, Room, Tells, Fine, Does}
 use Rattle.hyparview_state.proofs.Bridge.{guard-shut, by, still, then, then-tell, seq, seq-at, taken, left}
@@ -35,12 +35,12 @@ pub record Joining (xs : List ℕ) (w : Work) (out₀ : List ℕ) (n : ℕ) (out
   pub room : Room (work-of r xs) out
   pub drawn : r .drawn ≡ w .drawn
   pub len : length out ≡ length out₀
-  pub count : n ≡ length (items-at 8 (bootstrap-part xs))
+  pub count : n ≡ length (items-at bootstrap-places (bootstrap-part xs))
   pub rest : (ds : List ℕ)
-      → Rest (Then (unpack xs .own-data)) (length (items-at 8 (bootstrap-part xs))) (items-at 8 (bootstrap-part xs)) n
-      (emit-all (join-to (unpack xs .own-data)) (items-at 8 (bootstrap-part xs)) (run (work-of w xs) ds out₀)) (run (work-of r xs) ds out) i
+      → Rest (Then (unpack xs .own-data)) (length (items-at bootstrap-places (bootstrap-part xs))) (items-at bootstrap-places (bootstrap-part xs)) n
+      (emit-all (join-to (unpack xs .own-data)) (items-at bootstrap-places (bootstrap-part xs)) (run (work-of w xs) ds out₀)) (run (work-of r xs) ds out) i
 
-pub joins-start : (xs : List ℕ) (w : Work) (out : List ℕ) (n : ℕ) → Room (work-of w xs) out → n ≡ length (items-at 8 (bootstrap-part xs)) → Joining xs w out n out w 0
+pub joins-start : (xs : List ℕ) (w : Work) (out : List ℕ) (n : ℕ) → Room (work-of w xs) out → n ≡ length (items-at bootstrap-places (bootstrap-part xs)) → Joining xs w out n out w 0
 joins-start xs w out n v e = record {
   room = v;
   drawn = refl;
@@ -50,7 +50,7 @@ joins-start xs w out n v e = record {
     low = omega arith;
     top = omega (arith, e);
     long = refl;
-    same = ap (λ (l : List ℕ). emit-all (join-to (unpack xs .own-data)) l (run (work-of w xs) ds out)) (sym (take-all n (items-at 8 (bootstrap-part xs)) (omega (arith, e))));
+    same = ap (λ (l : List ℕ). emit-all (join-to (unpack xs .own-data)) l (run (work-of w xs) ds out)) (sym (take-all n (items-at bootstrap-places (bootstrap-part xs)) (omega (arith, e))));
   };
 }
 
@@ -60,10 +60,10 @@ unfolding join run-of
 join-is-told r xs ds out p q e = ap (λ (x : ℕ). emit (join-to (unpack xs .own-data) x) (run (work-of r xs) ds out)) e
 
 module _ (xs : List ℕ) (w : Work) (out₀ : List ℕ) (n : ℕ) (out : List ℕ) (r : Work) (i : ℕ) (v : Joining xs w out₀ n out r i) where
-  pub joins-below : i < n → i < length (items-at 8 (bootstrap-part xs))
+  pub joins-below : i < n → i < length (items-at bootstrap-places (bootstrap-part xs))
   joins-below h = omega (arith, v .count)
 
-  pub joins-next : (p : ℕ) (a : Work) (o : List ℕ) → i < n → p ≡ getD (items-at 8 (bootstrap-part xs)) i 0 → Tells (join p) (work-of r xs) (work-of a xs) out o → length o ≡ length out → Joining xs w out₀ n o a (i + 1)
+  pub joins-next : (p : ℕ) (a : Work) (o : List ℕ) → i < n → p ≡ getD (items-at bootstrap-places (bootstrap-part xs)) i 0 → Tells (join p) (work-of r xs) (work-of a xs) out o → length o ≡ length out → Joining xs w out₀ n o a (i + 1)
   unfolding emit-all
   joins-next p a o h e k q = record {
     room = k .room;
@@ -155,8 +155,8 @@ alone-stopped w a xs ds out v h k = let d = then k (still v) in seq rejoin-if-du
 -- ---- a pass that is counted
 
 -- the number that was written is the number of passes
-pub due-counted : (xs : List ℕ) (n : ℕ) (t : Bool) → length xs ≡ words → t ≡ backoff-due n → t ≡ backoff-due (passes-alone (set xs 14 n))
-due-counted xs n t l e = e ∙ ap backoff-due (sym (getD-set-same xs 14 n 0 (omega (arith, l))))
+pub due-counted : (xs : List ℕ) (n : ℕ) (t : Bool) → length xs ≡ words → t ≡ backoff-due n → t ≡ backoff-due (passes-alone (set xs passes-alone-at n))
+due-counted xs n t l e = e ∙ ap backoff-due (sym (getD-set-same xs passes-alone-at n 0 (omega (arith, l))))
 
 pub passed-alone : (w a r : Work) (xs ys ds out o : List ℕ) → Fine (work-of w xs) ds out → Does (work-of r ys) ds o (rejoin-if-due (run (work-of a ys) ds out)) → Changes count-alone (work-of w xs) (work-of a ys)
     → Does (work-of r ys) ds o (pass-alone (run (work-of w xs) ds out))

@@ -22,7 +22,7 @@ use Rattle.spec_hyparview.specs.Timers.{count-short, refill-anew, refill-if-due
 use Rattle.hyparview_state.specs.declared.RefillLimit.{RefillLimit}
 use Rattle.hyparview_state.specs.declared.RefillLimit.the-variants.{Recovery}
 use Rattle.work.specs.declared.Work.{Work}
-use Rattle.hyparview_state.specs.Layout.{passive-part, passes-short}
+use Rattle.hyparview_state.specs.Layout.{passive-part, passes-short, passive-at, passive-count, passive-places, passive-size}
 use Rattle.hyparview_state.specs.Unpack.{unpack, station-of, refill-in, limit-at, PackedState}
 use Rattle.hyparview_state.proofs.Access.{of-passive}
 use Rattle.hyparview_state.specs.Work.{Held, work-of, run, run-of, Changes, Fine, Does}
@@ -55,10 +55,10 @@ unfolding in-recovery unpack station-of
 recovery-known xs l t e h = h ∙ ap (λ (x : RefillLimit). is-recovery (refill-in x)) e
 
 -- the count of the passive view, as it stands in the words
-none-passive : (xs : List ℕ) → PackedState xs → eqb (getD xs 63 0) 0 ≡ null (items-at 32 (passive-part xs))
-none-passive xs v = ap (λ (n : ℕ). eqb n 0) (sym (part-read 31 33 32 xs (omega arith))) ∙ empty-is-null 32 (passive-part xs) (of-passive xs v)
+none-passive : (xs : List ℕ) → PackedState xs → eqb (getD xs passive-count 0) 0 ≡ null (items-at passive-places (passive-part xs))
+none-passive xs v = ap (λ (n : ℕ). eqb n 0) (sym (part-read passive-at passive-size passive-places xs (omega arith))) ∙ empty-is-null passive-places (passive-part xs) (of-passive xs v)
 
-pub none-known : (xs : List ℕ) (a : Bool) → PackedState xs → a ≡ is-alone (unpack xs) → (a && eqb (getD xs 63 0) 0) ≡ knows-none (unpack xs)
+pub none-known : (xs : List ℕ) (a : Bool) → PackedState xs → a ≡ is-alone (unpack xs) → (a && eqb (getD xs passive-count 0) 0) ≡ knows-none (unpack xs)
 unfolding knows-none is-alone unpack station-of
 none-known xs a v x = λ i. x i && none-passive xs v i
 

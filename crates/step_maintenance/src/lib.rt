@@ -31,26 +31,31 @@ fn pass_alone(w: Work, st: &mut [u64], draws: &[u32], out: &mut [u8]) -> Work
     st[Layout::PASSES_ALONE] = passes;
     if base_timing::backoff_due(passes as u32) {
         // The recent neighbors that are no bootstrap peers: one of them, where there is one, gets a Join last.
-        let mut recent = [0u64; Layout::SET];
+        let mut recent = [0u64; base_util::WORKING_WORDS];
         let shared = &*st;
         let neighbors = &shared[Layout::RECENT..Layout::RECENT_END];
-        base_util::copy_into(neighbors, Layout::FEW, &mut recent);
+        base_util::copy_into(neighbors, Layout::RECENT_PLACES, &mut recent);
         let bootstrap = &shared[Layout::BOOTSTRAP..Layout::BOOTSTRAP_END];
-        base_util::without_all(&mut recent, Layout::ALL, bootstrap, Layout::FEW);
+        base_util::without_all(
+            &mut recent,
+            base_util::WORKING_PLACES,
+            bootstrap,
+            Layout::BOOTSTRAP_PLACES,
+        );
         // Join to each bootstrap peer, in order.
-        let k = base_util::count(bootstrap, Layout::FEW);
+        let k = base_util::count(bootstrap, Layout::BOOTSTRAP_PLACES);
         let mut i: usize = 0;
         while i < k {
-            let p = base_util::get_index(bootstrap, Layout::FEW, i);
+            let p = base_util::get_index(bootstrap, Layout::BOOTSTRAP_PLACES, i);
             i += 1;
             a = step_sending::join(a, shared, out, p);
         }
-        let others = base_util::count(&recent, Layout::ALL);
+        let others = base_util::count(&recent, base_util::WORKING_PLACES);
         if others == 0 {
             return a;
         }
         let c = work::choose(a, draws, others);
-        let p = base_util::get_index(&recent, Layout::ALL, c.index);
+        let p = base_util::get_index(&recent, base_util::WORKING_PLACES, c.index);
         return step_sending::join(c.work, st, out, p);
     }
     a
@@ -114,14 +119,21 @@ pub fn handle_maintenance_timer(w: Work, st: &mut [u64], draws: &[u32], out: &mu
 {
     if w.code == 0 {
         // The neighbors become the newest of the recent ones, one after the other.
-        let n = base_util::count(&st[Layout::ACTIVE..Layout::ACTIVE_END], Layout::FEW);
+        let n = base_util::count(
+            &st[Layout::ACTIVE..Layout::ACTIVE_END],
+            Layout::ACTIVE_PLACES,
+        );
         let mut i: usize = 0;
         while i < n {
-            let p = base_util::get_index(&st[Layout::ACTIVE..Layout::ACTIVE_END], Layout::FEW, i);
+            let p = base_util::get_index(
+                &st[Layout::ACTIVE..Layout::ACTIVE_END],
+                Layout::ACTIVE_PLACES,
+                i,
+            );
             i += 1;
             base_util::renew(
                 &mut st[Layout::RECENT..Layout::RECENT_END],
-                Layout::FEW,
+                Layout::RECENT_PLACES,
                 Timing::MAX_RECENT_NEIGHBORS,
                 p,
             );

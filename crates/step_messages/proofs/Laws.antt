@@ -32,7 +32,7 @@ use Rattle.base_lists.proofs.Members.{length-insert}
 use Rattle.work.specs.declared.Work.{Work}
 use Rattle.step_peers.specs.declared.Added.{Added}
 use Rattle.step_peers.specs.Answer.{Adds}
-use Rattle.hyparview_state.specs.Layout.{active-part, refused-part, active-random-walk-length, passive-random-walk-length}
+use Rattle.hyparview_state.specs.Layout.{active-part, refused-part, active-random-walk-length, passive-random-walk-length, active-places, refused-places}
 use Rattle.hyparview_state.specs.Unpack.{unpack, station-of, settings-at, PackedState}
 use Rattle.hyparview_state.specs.Work.{Held, work-of, run, run-of, Changes, ChangesAny, DrawsAny, Tells, TellsAny, Fine, Does}
 use Rattle.hyparview_state.proofs.Access.{of-refused, of-settings}
@@ -44,7 +44,7 @@ use Rattle.step_active.specs.Sane.{FreeMark}
 
 -- ---- joins that are forwarded
 
-pub others-held : (xs t u : List ℕ) (p : ℕ) → HoldsSet 32 t (items-at 8 (active-part xs)) → HoldsSet 32 u (without p (items-at 32 t)) → HoldsSet 32 u (without p (unpack xs .active))
+pub others-held : (xs t u : List ℕ) (p : ℕ) → HoldsSet 32 t (items-at active-places (active-part xs)) → HoldsSet 32 u (without p (items-at 32 t)) → HoldsSet 32 u (without p (unpack xs .active))
 unfolding unpack station-of
 others-held xs t u p h k = record { valid = k .valid; items = k .items ∙ ap (without p) (h .items) }
 
@@ -169,16 +169,16 @@ module _ (w : Held) (p : ℕ) (alive : Bool) where
 pub words-as : (f : Run → Run) (w : Held) (a : Work) (xs ys : List ℕ) → ys ≡ xs → Changes f w (work-of a xs) → Changes f w (work-of a ys)
 words-as f w a xs ys e k = subst (λ (l : List ℕ). Changes f w (work-of a l)) (sym e) k
 
-pub fits-known : (xs : List ℕ) (p n : ℕ) (a : Bool) → n ≡ length (items-at 32 (refused-part xs)) → a ≡ mem p (items-at 32 (refused-part xs)) → (a || ltb n 32) ≡ refused-fits p (unpack xs)
+pub fits-known : (xs : List ℕ) (p n : ℕ) (a : Bool) → n ≡ length (items-at refused-places (refused-part xs)) → a ≡ mem p (items-at refused-places (refused-part xs)) → (a || ltb n 32) ≡ refused-fits p (unpack xs)
 unfolding refused-fits unpack station-of
 fits-known xs p n a x y = λ i. y i || ltb (x i) 32
 
-pub refused-place : (w a : Work) (xs : List ℕ) (p : ℕ) (t : Bool) → PackedState xs → t ≡ refused-fits p (unpack xs) → ChangesAny (require 7 t) w a → a .code ≡ 0 → length (insert p (items-at 32 (refused-part xs))) ≤ 32
+pub refused-place : (w a : Work) (xs : List ℕ) (p : ℕ) (t : Bool) → PackedState xs → t ≡ refused-fits p (unpack xs) → ChangesAny (require 7 t) w a → a .code ≡ 0 → length (insert p (items-at refused-places (refused-part xs))) ≤ 32
 unfolding unpack station-of refused-fits
 refused-place w a xs p t v e k z =
     let f = of-refused xs v in
     let h = sym e ∙ require-said (work-of w xs) (work-of a xs) 7 t (omega arith) (required-at xs v _ _ k) z .1 in
-    length-insert p 32 (items-at 32 (refused-part xs)) h (omega (arith, f .fits, f .counted))
+    length-insert p 32 (items-at refused-places (refused-part xs)) h (omega (arith, f .fits, f .counted))
 
 pub refusal-noted : (w a r : Work) (xs ys : List ℕ) (p : ℕ) (t : Bool) → PackedState xs → t ≡ refused-fits p (unpack xs) → Changes (on (add-refused p)) (work-of a xs) (work-of r ys) → ChangesAny (require 7 t) w a
     → Changes (note-refused p) (work-of w xs) (work-of r ys)

@@ -13,14 +13,14 @@ ghost use Prim.Native.Nat.{_≤_};
 ghost use lib.ListN.{length};
 ghost use Rattle.base_lists.specs.Lists.{without};
 ghost use Rattle.base_peer.specs.Held.{ValidData, data-in, node-in};
-ghost use Rattle.base_util.specs.Section.{HoldsSet};
+ghost use Rattle.base_util.specs.Section.{working-places, working-words, HoldsSet};
 ghost use Rattle.spec_hyparview.specs.Budgets.{leaving, arriving};
 ghost use Rattle.spec_hyparview.specs.Run.{emit};
 ghost use Rattle.spec_hyparview.specs.Messages.{forward-join-to, learn-joiner, on-forward-join};
 ghost use Rattle.spec_hyparview.specs.Messages.{on-join, on-neighbor};
 ghost use Rattle.spec_hyparview.specs.Messages.{note-refusal};
 ghost use Rattle.spec_hyparview.specs.Messages.{on-disconnect};
-ghost use Rattle.hyparview_state.specs.Layout.{words, all-places, set-words};
+ghost use Rattle.hyparview_state.specs.Layout.{words};
 ghost use Rattle.hyparview_state.specs.Unpack.{unpack, PackedState};
 ghost use Rattle.hyparview_state.specs.Work.{Given, Meets, Alters, Makes, Emits};
 ghost use Rattle.step_messages.specs.Between.{Between};
@@ -29,11 +29,15 @@ ghost use Rattle.step_messages.specs.Between.{Between};
 fn other_active(st: &[u64], p: PeerId, t: &mut [u64])
     requires { ⌜ length (now st) ≡ words ⌝ }
     requires { ⌜ PackedState (now st) ⌝ }
-    requires { ⌜ length (now t) ≡ set-words ⌝ }
-    ensures { λ _. ⌜ HoldsSet all-places (now (t .exit)) (without p (unpack (now (st .entry)) .active)) ⌝ }
+    requires { ⌜ length (now t) ≡ working-words ⌝ }
+    ensures { λ _. ⌜ HoldsSet working-places (now (t .exit)) (without p (unpack (now (st .entry)) .active)) ⌝ }
 {
-    base_util::copy_into(&st[Layout::ACTIVE..Layout::ACTIVE_END], Layout::FEW, t);
-    base_util::without(t, Layout::ALL, p);
+    base_util::copy_into(
+        &st[Layout::ACTIVE..Layout::ACTIVE_END],
+        Layout::ACTIVE_PLACES,
+        t,
+    );
+    base_util::without(t, base_util::WORKING_PLACES, p);
 }
 
 // ---- ForwardJoin
@@ -93,15 +97,15 @@ pub fn on_forward_join(
         return learned;
     }
     // It goes on to one of the other neighbors. There is one (`never-unreachable`): of none the definition picks 0.
-    let mut v = [0u64; Layout::SET];
+    let mut v = [0u64; base_util::WORKING_WORDS];
     other_active(st, from, &mut v);
-    let k = base_util::count(&v, Layout::ALL);
+    let k = base_util::count(&v, base_util::WORKING_PLACES);
     let left = t.next();
     if k == 0 {
         return forward_join_to(learned, out, n, left.0, 0);
     }
     let chosen = work::choose(learned, draws, k);
-    let q = base_util::get_index(&v, Layout::ALL, chosen.index);
+    let q = base_util::get_index(&v, base_util::WORKING_PLACES, chosen.index);
     forward_join_to(chosen.work, out, n, left.0, q)
 }
 
@@ -114,16 +118,23 @@ fn note_refusal(w: Work, st: &mut [u64], p: PeerId, requested: bool) -> Work
     ensures { λ r. ⌜ Alters (note-refusal p requested) w r st ⌝ }
 {
     if requested {
-        let n = base_util::count(&st[Layout::REFUSED..Layout::REFUSED_END], Layout::ALL);
-        let fits = base_util::contains(&st[Layout::REFUSED..Layout::REFUSED_END], Layout::ALL, p)
-            | (n < Layout::ALL);
+        let n = base_util::count(
+            &st[Layout::REFUSED..Layout::REFUSED_END],
+            Layout::REFUSED_PLACES,
+        );
+        let fits = base_util::contains(
+            &st[Layout::REFUSED..Layout::REFUSED_END],
+            Layout::REFUSED_PLACES,
+            p,
+        )
+            | (n < Layout::REFUSED_PLACES);
         let a = work::require(w, Refusal::REFUSED_PEERS, fits);
         if a.code != 0 {
             return a;
         }
         base_util::insert_sorted(
             &mut st[Layout::REFUSED..Layout::REFUSED_END],
-            Layout::ALL,
+            Layout::REFUSED_PLACES,
             p,
         );
         return a;
@@ -148,7 +159,11 @@ pub fn on_disconnect(
     // Neither a join nor a request to p is open; and whoever went away for good cannot let the station in again, so it is not kept for a rejoin.
     let closed = hyparview_state::drop_join(w, st, p);
     if !alive & (closed.code == 0) {
-        base_util::without(&mut st[Layout::RECENT..Layout::RECENT_END], Layout::FEW, p);
+        base_util::without(
+            &mut st[Layout::RECENT..Layout::RECENT_END],
+            Layout::RECENT_PLACES,
+            p,
+        );
     }
     let ended = hyparview_state::drop_request(closed, st, p);
     if hyparview_state::in_active(st, p) {
@@ -190,9 +205,9 @@ pub fn on_join(
     let a = hyparview_state::drop_pending(w, st, p);
     let mut b = step_active::add_active(a, st, draws, out, p, d, true, true);
     // ForwardJoin to all neighbors but the one who joins.
-    let mut v = [0u64; Layout::SET];
+    let mut v = [0u64; base_util::WORKING_WORDS];
     other_active(st, p, &mut v);
-    let k = base_util::count(&v, Layout::ALL);
+    let k = base_util::count(&v, base_util::WORKING_PLACES);
     let ttl = st[Layout::ACTIVE_RANDOM_WALK_LENGTH] as u16;
     let n = PeerInfo { id: p, data: d };
     let mut i: usize = 0;

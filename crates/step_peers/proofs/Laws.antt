@@ -1,6 +1,6 @@
 -- Laws of the steps on peers that several proofs cite.
 -- Assumes nothing.
-use Prim.Native.Nat.{ℕ, _≤_, _<_}
+use Prim.Native.Nat.{ℕ, _+_, _≤_, _<_}
 use mathlib.Core.Path.{_≡_, refl, sym, ap, _∙_, subst}
 use mathlib.Core.Bool.{Bool, true, false, not, _&&_, _||_}
 use mathlib.Core.List.{List, [], _∷_, _++_}
@@ -13,7 +13,7 @@ use Rattle.base_lists.specs.Lists.{null, remove, shift-remove}
 use Rattle.base_util.specs.Section.{items-at}
 use Rattle.base_util.proofs.Parts.{part-read}
 use Rattle.base_util.proofs.Sets.{empty-is-null}
-use Rattle.hyparview_state.specs.Layout.{passive-part, peer-data-part, passive-view-capacity}
+use Rattle.hyparview_state.specs.Layout.{me, passive-part, peer-data-part, passive-view-capacity, passive-at, passive-count, passive-places, passive-size, peer-data-at, peer-data-count, peer-data-places, peer-data-size}
 use Rattle.base_columns.specs.Columns.{data-map-at}
 use Rattle.base_lists.specs.Maps.{lookup, has}
 use Rattle.base_lists.proofs.Choice.{by-choice, choose-yes, choose-no, split, and-right, and-false, or-left, or-right}
@@ -41,11 +41,11 @@ use Rattle.hyparview_state.proofs.Access.{of-settings, of-passive, of-peer-data
 use Rattle.hyparview_state.proofs.Counts.{passive-full}
 
 -- fewer passive peers are within capacity
-pub shrunk : (xs : List ℕ) (p : ℕ) → PackedState xs → length (remove p (items-at 32 (passive-part xs))) ≤ passive-view-capacity xs
-shrunk xs p v = omega (arith, length-remove p (items-at 32 (passive-part xs)), passive-fits xs v)
+pub shrunk : (xs : List ℕ) (p : ℕ) → PackedState xs → length (remove p (items-at passive-places (passive-part xs))) ≤ passive-view-capacity xs
+shrunk xs p v = omega (arith, length-remove p (items-at passive-places (passive-part xs)), passive-fits xs v)
 
-pub shifted-fits : (xs : List ℕ) (i : ℕ) → PackedState xs → i < length (items-at 32 (passive-part xs)) → length (shift-remove i (items-at 32 (passive-part xs))) ≤ passive-view-capacity xs
-shifted-fits xs i v h = omega (arith, length-shift (items-at 32 (passive-part xs)) i h, passive-fits xs v)
+pub shifted-fits : (xs : List ℕ) (i : ℕ) → PackedState xs → i < length (items-at passive-places (passive-part xs)) → length (shift-remove i (items-at passive-places (passive-part xs))) ≤ passive-view-capacity xs
+shifted-fits xs i v h = omega (arith, length-shift (items-at passive-places (passive-part xs)) i h, passive-fits xs v)
 
 -- ---- rows and branches
 
@@ -115,15 +115,15 @@ some-choice k n h = omega (arith, eqb-false n 0 (not-true (eqb n 0) (and-right (
 
 -- a test that was passed found an entry for the data of p
 pub entry-free : (w a : Work) (xs : List ℕ) (p : ℕ) (t : Bool) → PackedState xs → t ≡ data-fits p (unpack xs) → ChangesAny (require 8 t) w a → a .code ≡ 0
-    → (has p (data-map-at 80 (peer-data-part xs)) || ltb (length (data-map-at 80 (peer-data-part xs))) 80) ≡ true
+    → (has p (data-map-at peer-data-places (peer-data-part xs)) || ltb (length (data-map-at peer-data-places (peer-data-part xs))) 80) ≡ true
 unfolding unpack station-of data-fits
 entry-free w a xs p t v e k z = sym e ∙ require-said (work-of w xs) (work-of a xs) 8 t (omega arith) (required-at xs v _ _ k) z .1
 
 -- an entry that the peer has, or a free one
-pub fits-known : (xs : List ℕ) (p : ℕ) (t : Bool) → PackedState xs → t ≡ has p (data-map-at 80 (peer-data-part xs)) → (t || ltb (getD xs 550 0) 80) ≡ data-fits p (unpack xs)
+pub fits-known : (xs : List ℕ) (p : ℕ) (t : Bool) → PackedState xs → t ≡ has p (data-map-at peer-data-places (peer-data-part xs)) → (t || ltb (getD xs peer-data-count 0) 80) ≡ data-fits p (unpack xs)
 unfolding data-fits unpack station-of
 fits-known xs p t v e =
-    let n : getD xs 550 0 ≡ length (data-map-at 80 (peer-data-part xs)) = sym (of-peer-data xs v .counted ∙ part-read 230 321 320 xs (omega arith)) in
+    let n : getD xs peer-data-count 0 ≡ length (data-map-at peer-data-places (peer-data-part xs)) = sym (of-peer-data xs v .counted ∙ part-read peer-data-at peer-data-size (peer-data-places + peer-data-places + (peer-data-places + peer-data-places)) xs (omega arith)) in
     λ i. e i || ltb (n i) 80
 
 module _ (w a r : Held) (out o : List ℕ) (p : ℕ) (b : List ℕ) (t : Bool) where
@@ -137,23 +137,23 @@ is-given d k e = not-false (d .present) (or-left (not (d .present)) k e)
 
 module _ (w : Work) (xs out : List ℕ) (p : ℕ) (d : PeerData) (y : Bool) where
   module _ (v : PackedState xs) (f : y ≡ holds (lookup p (unpack xs .peer-data)) (bytes-of (data-in d))) where
-    known-here : (eqb p (getD xs 0 0) || y) ≡ is-known p (bytes-of (data-in d)) (unpack xs)
+    known-here : (eqb p (me xs) || y) ≡ is-known p (bytes-of (data-in d)) (unpack xs)
     unfolding is-known is-me unpack station-of
-    known-here = ap (λ (t : Bool). eqb p (getD xs 0 0) || t) f
+    known-here = ap (λ (t : Bool). eqb p (me xs) || t) f
 
-    pub info-stored : (a b : Work) (o : List ℕ) (t : Bool) → (not (d .present) || (eqb p (getD xs 0 0) || y)) ≡ false → Tells (announce-data p (bytes-of (data-in d))) (work-of w xs) (work-of a xs) out o
-        → t ≡ has p (data-map-at 80 (peer-data-part xs)) → ChangesAny (require 8 (t || ltb (getD xs 550 0) 80)) a b
+    pub info-stored : (a b : Work) (o : List ℕ) (t : Bool) → (not (d .present) || (eqb p (me xs) || y)) ≡ false → Tells (announce-data p (bytes-of (data-in d))) (work-of w xs) (work-of a xs) out o
+        → t ≡ has p (data-map-at peer-data-places (peer-data-part xs)) → ChangesAny (require 8 (t || ltb (getD xs peer-data-count 0) 80)) a b
         → (ys : List ℕ) → Changes (on (store-data p (bytes-of (data-in d)))) (work-of b xs) (work-of b ys) → Tells (insert-peer-info p (data-in d)) (work-of w xs) (work-of b ys) out o
     info-stored a b o t n k₁ q k₂ ys k₃ =
-        some-info (work-of w xs) out p d (work-of b ys) o (is-given d (eqb p (getD xs 0 0) || y) n)
-        (inserted _ _ _ _ _ _ _ (eqb p (getD xs 0 0) || y) known-here (or-right (not (d .present)) _ n) (keeps a b b xs ys p _ (t || ltb (getD xs 550 0) 80) v (fits-known xs p t v q) k₃ k₂) k₁)
+        some-info (work-of w xs) out p d (work-of b ys) o (is-given d (eqb p (me xs) || y) n)
+        (inserted _ _ _ _ _ _ _ (eqb p (me xs) || y) known-here (or-right (not (d .present)) _ n) (keeps a b b xs ys p _ (t || ltb (getD xs peer-data-count 0) 80) v (fits-known xs p t v q) k₃ k₂) k₁)
 
-  pub info-passed : y ≡ holds (lookup p (unpack xs .peer-data)) (bytes-of (data-in d)) → Room (work-of w xs) out → (not (d .present) || (eqb p (getD xs 0 0) || y)) ≡ true → Tells (insert-peer-info p (data-in d)) (work-of w xs) (work-of w xs) out out
+  pub info-passed : y ≡ holds (lookup p (unpack xs .peer-data)) (bytes-of (data-in d)) → Room (work-of w xs) out → (not (d .present) || (eqb p (me xs) || y)) ≡ true → Tells (insert-peer-info p (data-in d)) (work-of w xs) (work-of w xs) out out
   unfolding insert-data
   info-passed f v t =
       split (d .present)
       (λ h. some-info (work-of w xs) out p d (work-of w xs) out h
-      (tell-yes (is-known p (bytes-of (data-in d))) (known-here (v .packed) f) _ (subst (λ (b : Bool). (not b || (eqb p (getD xs 0 0) || y)) ≡ true) h t) (telling v (unchanged (λ g. g) (v .packed) (λ ds o. refl)))))
+      (tell-yes (is-known p (bytes-of (data-in d))) (known-here (v .packed) f) _ (subst (λ (b : Bool). (not b || (eqb p (me xs) || y)) ≡ true) h t) (telling v (unchanged (λ g. g) (v .packed) (λ ds o. refl)))))
       (λ h. no-info (work-of w xs) out p d v h)
 
 -- ---- what is forgotten
@@ -171,14 +171,14 @@ module _ (w : Held) (p : ℕ) (x y : Bool) (e : x ≡ in-active p (unpack (w .st
   unfolding forget-peer drop-traces
   forgotten a r h k₂ k₁ = change-no (in-view p) viewed _ h (change-then _ (λ ds out. on-twice _ _ _) k₂ k₁)
 
-pub newcomer : (xs : List ℕ) (p : ℕ) (x y : Bool) → x ≡ in-active p (unpack xs) → y ≡ in-passive p (unpack xs) → not (eqb p (getD xs 0 0) || (x || y)) ≡ is-newcomer p (unpack xs)
+pub newcomer : (xs : List ℕ) (p : ℕ) (x y : Bool) → x ≡ in-active p (unpack xs) → y ≡ in-passive p (unpack xs) → not (eqb p (me xs) || (x || y)) ≡ is-newcomer p (unpack xs)
 unfolding is-newcomer in-view is-me unpack station-of
-newcomer xs p x y e f = λ i. not (eqb p (getD xs 0 0) || (e i || f i))
+newcomer xs p x y e f = λ i. not (eqb p (me xs) || (e i || f i))
 
 -- ---- the passive view
 
 -- the place chosen is one of the passive peers'
-pub still-below : (xs : List ℕ) (i : ℕ) → PackedState xs → i < getD xs 63 0 → i < length (items-at 32 (passive-part xs))
+pub still-below : (xs : List ℕ) (i : ℕ) → PackedState xs → i < getD xs passive-count 0 → i < length (items-at passive-places (passive-part xs))
 still-below xs i v h = omega (arith, count-passive xs (of-passive xs v), h)
 
 -- who leaves, and what the run comes to
@@ -208,24 +208,24 @@ module _ (g : Run) (e : must-evict (g .station) ≡ false) where
   unfolding make-room tell-evicted
   room-stays = sym (λ j. tell-evicted (none-evicted j) (none-leaves j))
 
-must-known : (xs : List ℕ) → PackedState xs → (leb (passive-view-capacity xs) (getD xs 63 0) && not (eqb (getD xs 63 0) 0)) ≡ must-evict (unpack xs)
+must-known : (xs : List ℕ) → PackedState xs → (leb (passive-view-capacity xs) (getD xs passive-count 0) && not (eqb (getD xs passive-count 0) 0)) ≡ must-evict (unpack xs)
 unfolding must-evict unpack station-of
 must-known xs p =
-    let e = ap (λ (n : ℕ). eqb n 0) (sym (part-read 31 33 32 xs (omega arith))) ∙ empty-is-null 32 (passive-part xs) (of-passive xs p) in
+    let e = ap (λ (n : ℕ). eqb n 0) (sym (part-read passive-at passive-size passive-places xs (omega arith))) ∙ empty-is-null passive-places (passive-part xs) (of-passive xs p) in
     λ i. passive-full xs p i && not (e i)
 
-passive-count : (xs : List ℕ) → PackedState xs → getD xs 63 0 ≡ length (unpack xs .passive)
+passive-counted : (xs : List ℕ) → PackedState xs → getD xs passive-count 0 ≡ length (unpack xs .passive)
 unfolding unpack station-of
-passive-count xs p = sym (count-passive xs (of-passive xs p))
+passive-counted xs p = sym (count-passive xs (of-passive xs p))
 
 module _ (w : Work) (xs ds out : List ℕ) (v : Fine (work-of w xs) ds out) where
-  pub made : (a b c r : Work) (ys zs o : List ℕ) (i p : ℕ) → (leb (passive-view-capacity xs) (getD xs 63 0) && not (eqb (getD xs 63 0) 0)) ≡ true → i ≡ pick (getD xs 63 0) (drop (w .drawn) ds) → p ≡ getD (unpack xs .passive) i 0
-      → TellsAny (emit (notice 12 p)) c r out o → Changes (forget-peer p) (work-of b ys) (work-of c zs) → Changes (on (shift-passive i)) (work-of a xs) (work-of b ys) → DrawsAny (draw-one-of (getD xs 63 0)) w a ds
+  pub made : (a b c r : Work) (ys zs o : List ℕ) (i p : ℕ) → (leb (passive-view-capacity xs) (getD xs passive-count 0) && not (eqb (getD xs passive-count 0) 0)) ≡ true → i ≡ pick (getD xs passive-count 0) (drop (w .drawn) ds) → p ≡ getD (unpack xs .passive) i 0
+      → TellsAny (emit (notice 12 p)) c r out o → Changes (forget-peer p) (work-of b ys) (work-of c zs) → Changes (on (shift-passive i)) (work-of a xs) (work-of b ys) → DrawsAny (draw-one-of (getD xs passive-count 0)) w a ds
       → Adds (record { work = r; evicted = Peer p }) zs ds o (make-room (run (work-of w xs) ds out)) (evicted (run (work-of w xs) ds out))
   unfolding named-in run-of one-of to-draw
   made a b c r ys zs o i p h u l k₄ k₃ k₂ k₁ =
       let g = run (work-of w xs) ds out in
-      let q = passive-count xs (v .ready .packed) in
+      let q = passive-counted xs (v .ready .packed) in
       let t : must-evict (g .station) ≡ true = sym (must-known xs (v .ready .packed)) ∙ h in
       let j : i ≡ one-of (length (g .station .passive)) g = u ∙ ap (λ (m : ℕ). pick m (drop (w .drawn) ds)) q in
       let d : DrawsAny (draw-one-of (length (g .station .passive))) w a ds = subst (λ (m : ℕ). DrawsAny (draw-one-of m) w a ds) q k₁ in
@@ -235,7 +235,7 @@ module _ (w : Work) (xs ds out : List ℕ) (v : Fine (work-of w xs) ds out) wher
         named = one-evicted g i p t j l;
       }
 
-  pub not-made : (leb (passive-view-capacity xs) (getD xs 63 0) && not (eqb (getD xs 63 0) 0)) ≡ false → Adds (record { work = w; evicted = Nobody }) xs ds out (make-room (run (work-of w xs) ds out)) (evicted (run (work-of w xs) ds out))
+  pub not-made : (leb (passive-view-capacity xs) (getD xs passive-count 0) && not (eqb (getD xs passive-count 0) 0)) ≡ false → Adds (record { work = w; evicted = Nobody }) xs ds out (make-room (run (work-of w xs) ds out)) (evicted (run (work-of w xs) ds out))
   unfolding named-in run-of
   not-made h =
       let t : must-evict (run (work-of w xs) ds out .station) ≡ false = sym (must-known xs (v .ready .packed)) ∙ h in
@@ -302,13 +302,13 @@ module _ (w : Work) (m : Added) (xs ys ds out o : List ℕ) (x : Option ℕ) (v 
       (made-free (run (work-of w xs) ds out) (passive-fits xs (v .ready .packed)) (ranges (settings-at xs) (of-settings xs (v .ready .packed)) .passive .least))
 
   -- the free place is one in the view's section, and is enough for one more
-  pub place-passive : length (items-at 32 (passive-part ys)) < 32
+  pub place-passive : length (items-at passive-places (passive-part ys)) < 32
   unfolding unpack station-of settings-at
   place-passive = omega (arith, room-made .free z, ranges (settings-at ys) (of-settings ys (k .does .fine .ready .packed)) .passive .most)
 
-  pub one-more : (p : ℕ) → length (items-at 32 (passive-part ys) ++ (p ∷ [])) ≤ passive-view-capacity ys
+  pub one-more : (p : ℕ) → length (items-at passive-places (passive-part ys) ++ (p ∷ [])) ≤ passive-view-capacity ys
   unfolding unpack station-of settings-at
-  one-more p = omega (arith, room-made .free z, length-append (items-at 32 (passive-part ys)) (p ∷ []))
+  one-more p = omega (arith, room-made .free z, length-append (items-at passive-places (passive-part ys)) (p ∷ []))
 
 module _ (w a : Work) (xs ys ds out o : List ℕ) (p : ℕ) (d : Data) (t : Bool) (v : Fine (work-of w xs) ds out) (k₁ : Tells (insert-peer-info p d) (work-of w xs) (work-of a ys) out o) (e : t ≡ is-newcomer p (unpack ys)) where
   added : (m : Added) (zs o₂ : List ℕ) → Adds m zs ds o₂ (enter-passive p (run (work-of a ys) ds o)) (evicted-for p (run (work-of a ys) ds o))

@@ -46,7 +46,11 @@ pub fn is_marked(st: &[u64], p: PeerId) -> bool
     requires { ⌜ PackedState (now st) ⌝ }
     ensures { λ r. ⌜ r ≡ is-marked p (unpack (now (st .entry))) ⌝ }
 {
-    base_util::contains(&st[Layout::MARKS..Layout::MARKS_END], Layout::ALL, p)
+    base_util::contains(
+        &st[Layout::ALIVE..Layout::ALIVE_END],
+        Layout::ALIVE_PLACES,
+        p,
+    )
 }
 
 pub fn remove_passive(w: Work, st: &mut [u64], p: PeerId) -> Work
@@ -59,7 +63,7 @@ pub fn remove_passive(w: Work, st: &mut [u64], p: PeerId) -> Work
     }
     base_util::remove(
         &mut st[Layout::PASSIVE..Layout::PASSIVE_END],
-        Layout::ALL,
+        Layout::PASSIVE_PLACES,
         p,
     );
     w
@@ -73,7 +77,11 @@ pub fn drop_data(w: Work, st: &mut [u64], p: PeerId) -> Work
     if w.code != 0 {
         return w;
     }
-    base_columns::remove_data(&mut st[Layout::HELD..Layout::HELD_END], Layout::DATA_CAP, p);
+    base_columns::remove_data(
+        &mut st[Layout::PEER_DATA..Layout::PEER_DATA_END],
+        Layout::PEER_DATA_PLACES,
+        p,
+    );
     w
 }
 
@@ -85,7 +93,11 @@ pub fn drop_mark(w: Work, st: &mut [u64], p: PeerId) -> Work
     if w.code != 0 {
         return w;
     }
-    base_util::without(&mut st[Layout::MARKS..Layout::MARKS_END], Layout::ALL, p);
+    base_util::without(
+        &mut st[Layout::ALIVE..Layout::ALIVE_END],
+        Layout::ALIVE_PLACES,
+        p,
+    );
     w
 }
 
@@ -121,7 +133,12 @@ pub fn insert_peer_info(w: Work, st: &mut [u64], out: &mut [u8], p: PeerId, d: P
     // Absent data, the station's own, and data that is held already, are not stored.
     if !d.present
         | ((p == st[Layout::ME])
-            | base_columns::holds_data(&st[Layout::HELD..Layout::HELD_END], Layout::DATA_CAP, p, d))
+            | base_columns::holds_data(
+                &st[Layout::PEER_DATA..Layout::PEER_DATA_END],
+                Layout::PEER_DATA_PLACES,
+                p,
+                d,
+            ))
     {
         return w;
     }
@@ -131,12 +148,16 @@ pub fn insert_peer_info(w: Work, st: &mut [u64], out: &mut [u8], p: PeerId, d: P
         a = work::notify_node(w, out, Kind::PEER_DATA, p, PeerInfo { id: 0, data: d });
     }
     // Code 8 where an 81st entry would be needed.
-    let fits = base_columns::contains_data(&st[Layout::HELD..Layout::HELD_END], Layout::DATA_CAP, p)
-        | (st[Layout::HELD_COUNT] < Layout::DATA_CAP as u64);
+    let fits = base_columns::contains_data(
+        &st[Layout::PEER_DATA..Layout::PEER_DATA_END],
+        Layout::PEER_DATA_PLACES,
+        p,
+    )
+        | (st[Layout::PEER_DATA_COUNT] < Layout::PEER_DATA_PLACES as u64);
     let b = work::require(a, Refusal::DATA, fits);
     if b.code == 0 {
-        let m = &mut st[Layout::HELD..Layout::HELD_END];
-        base_columns::insert_data(m, Layout::DATA_CAP, p, d);
+        let m = &mut st[Layout::PEER_DATA..Layout::PEER_DATA_END];
+        base_columns::insert_data(m, Layout::PEER_DATA_PLACES, p, d);
     }
     b
 }
@@ -151,11 +172,15 @@ fn make_room(w: Work, st: &mut [u64], draws: &[u32], out: &mut [u8]) -> Added
     if (st[Layout::PASSIVE_VIEW_CAPACITY] <= n) & (n != 0) {
         let t = work::choose(w, draws, n as usize);
         let i = t.index;
-        let p = base_util::get_index(&st[Layout::PASSIVE..Layout::PASSIVE_END], Layout::ALL, i);
+        let p = base_util::get_index(
+            &st[Layout::PASSIVE..Layout::PASSIVE_END],
+            Layout::PASSIVE_PLACES,
+            i,
+        );
         let a = t.work;
         if a.code == 0 {
             let v = &mut st[Layout::PASSIVE..Layout::PASSIVE_END];
-            base_util::shift_remove_index(v, Layout::ALL, i);
+            base_util::shift_remove_index(v, Layout::PASSIVE_PLACES, i);
         }
         let b = forget_peer(a, st, p);
         // Document 02, S-2: the record of p, which the passive view evicted.
@@ -192,7 +217,7 @@ pub fn add_passive(
         }
         base_util::push(
             &mut st[Layout::PASSIVE..Layout::PASSIVE_END],
-            Layout::ALL,
+            Layout::PASSIVE_PLACES,
             p,
         );
         return t;
@@ -213,11 +238,11 @@ pub fn forget_declined(w: Work, st: &mut [u64]) -> Work
         return w;
     }
     if base_columns::data_known(
-        &st[Layout::HELD..Layout::HELD_END],
-        Layout::DATA_CAP,
+        &st[Layout::PEER_DATA..Layout::PEER_DATA_END],
+        Layout::PEER_DATA_PLACES,
         &st[Layout::ACTIVE..Layout::ACTIVE_END],
         &st[Layout::PASSIVE..Layout::PASSIVE_END],
-        &st[Layout::ASKED..Layout::ASKED_END],
+        &st[Layout::REQUESTS..Layout::REQUESTS_END],
     ) {
         return w;
     }
@@ -225,12 +250,12 @@ pub fn forget_declined(w: Work, st: &mut [u64]) -> Work
     base_columns::data_peers(
         &st[Layout::ACTIVE..Layout::ACTIVE_END],
         &st[Layout::PASSIVE..Layout::PASSIVE_END],
-        &st[Layout::ASKED..Layout::ASKED_END],
+        &st[Layout::REQUESTS..Layout::REQUESTS_END],
         &mut v,
     );
     base_columns::retain_data(
-        &mut st[Layout::HELD..Layout::HELD_END],
-        Layout::DATA_CAP,
+        &mut st[Layout::PEER_DATA..Layout::PEER_DATA_END],
+        Layout::PEER_DATA_PLACES,
         &v,
         base_columns::KNOWN,
     );

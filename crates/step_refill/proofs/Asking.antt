@@ -22,7 +22,7 @@ use Rattle.spec_hyparview.specs.Run.{Run, on, to-draw, one-of, draw-one-of, pic
 use Rattle.spec_hyparview.specs.Sending.{send-neighbor}
 use Rattle.spec_hyparview.specs.Refill.{use-request, end-recovery, limit-short, skipped, candidates, ask-picked, ask-one, refill-limited, needs-none, refill-active-from-passive, begin-refill, start-refill}
 use Rattle.work.specs.declared.Work.{Work}
-use Rattle.hyparview_state.specs.Layout.{active-view-capacity, refill-kind, refill-requests, active-part, requests-part}
+use Rattle.hyparview_state.specs.Layout.{active-view-capacity, refill-kind, refill-requests, active-part, requests-part, active-count, active-places, requests-places}
 use Rattle.hyparview_state.specs.Unpack.{unpack, station-of, settings-at, PackedState}
 use Rattle.hyparview_state.specs.Work.{Held, work-of, run, run-of, Changes, DrawsAny, Tells, Fine, Does}
 use Rattle.hyparview_state.proofs.Access.{of-active, count-active}
@@ -44,10 +44,10 @@ left-of skip t r l h k = set-then 32 (without-all skip) h k
 pub left-by : (a t r l : List ℕ) → HoldsSet 32 r (without-all (items-at 32 a) (items-at 32 t)) → HoldsSet 32 a l → HoldsSet 32 r (without-all l (items-at 32 t))
 left-by a t r l h k = set-as 32 r _ _ h (ap (λ (x : List ℕ). without-all x (items-at 32 t)) (k .items))
 
-pub outside-held : (xs asked r : List ℕ) → HoldsSet 32 asked (keys (numbers-at 32 (requests-part xs))) → HoldsSet 32 r (without-all (items-at 8 (active-part xs)) (items-at 32 asked))
+pub outside-held : (xs asked r : List ℕ) → HoldsSet 32 asked (keys (numbers-at requests-places (requests-part xs))) → HoldsSet 32 r (without-all (items-at active-places (active-part xs)) (items-at 32 asked))
     → HoldsSet 32 r (asked-outside (unpack xs))
 unfolding asked-outside unpack station-of
-outside-held xs asked r k h = set-then 32 (without-all (items-at 8 (active-part xs))) h k
+outside-held xs asked r k h = set-then 32 (without-all (items-at active-places (active-part xs))) h k
 
 -- ---- candidates
 
@@ -123,10 +123,10 @@ module _ (skip from : List ℕ) (w : Work) (xs ds out : List ℕ) (t : Bool) (c 
 
 -- ---- whether one is asked at all
 
-pub none-needed : (xs t : List ℕ) → PackedState xs → HoldsSet 32 t (asked-outside (unpack xs)) → (leb (active-view-capacity xs) (getD xs 30 0 + getD t 32 0) || (eqb (refill-kind xs) 1 && eqb (refill-requests xs) 0)) ≡ needs-none (unpack xs)
+pub none-needed : (xs t : List ℕ) → PackedState xs → HoldsSet 32 t (asked-outside (unpack xs)) → (leb (active-view-capacity xs) (getD xs active-count 0 + getD t 32 0) || (eqb (refill-kind xs) 1 && eqb (refill-requests xs) 0)) ≡ needs-none (unpack xs)
 unfolding needs-none unpack station-of settings-at
 none-needed xs t p h =
-    let n : getD xs 30 0 ≡ length (items-at 8 (active-part xs)) = sym (count-active xs (of-active xs p)) in
+    let n : getD xs active-count 0 ≡ length (items-at active-places (active-part xs)) = sym (count-active xs (of-active xs p)) in
     let asked : getD t 32 0 ≡ length (asked-outside (unpack xs)) = sym (h .valid .counted) ∙ ap length (h .items) in
     λ i. leb (active-view-capacity xs) (n i + asked i) || says-spent xs i
 

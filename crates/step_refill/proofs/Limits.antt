@@ -19,7 +19,7 @@ use Rattle.spec_hyparview.specs.Refill.{few-requests, unless-recovery, one-less
 use Rattle.hyparview_state.specs.declared.RefillLimit.{RefillLimit}
 use Rattle.hyparview_state.specs.declared.RefillLimit.the-variants.{Requests}
 use Rattle.work.specs.declared.Work.{Work}
-use Rattle.hyparview_state.specs.Layout.{refill-kind, refill-requests}
+use Rattle.hyparview_state.specs.Layout.{refill-kind, refill-requests, active-count, refill-kind-at, refill-requests-at}
 use Rattle.hyparview_state.specs.Unpack.{unpack, refill-in, PackedState, Becomes}
 use Rattle.hyparview_state.specs.Work.{Held, work-of, run, run-of, Changes}
 use Rattle.hyparview_state.proofs.Bridge.{guard-shut, guard-open, unchanged, on-passed, on-done}
@@ -56,12 +56,12 @@ module _ (w : Work) (xs : List ℕ) (v : PackedState xs) where
     unfolding recovery-is-over
     over-known = let e = empty-is-null 32 t (h .valid) ∙ ap null (h .items) in λ i. says-recovery xs v i && e i
 
-    pub ended : (eqb (w .code) 0 && (eqb (refill-kind xs) 2 && eqb (getD t 32 0) 0)) ≡ true → Changes (on end-recovery) (work-of w xs) (work-of w (set xs 16 0))
+    pub ended : (eqb (w .code) 0 && (eqb (refill-kind xs) 2 && eqb (getD t 32 0) 0)) ≡ true → Changes (on end-recovery) (work-of w xs) (work-of w (set xs refill-kind-at 0))
     unfolding end-recovery
     ended q =
         let o = and-right (eqb (w .code) 0) _ q in
         let k : refill-kind xs ≡ 2 = eqb-true _ _ (and-left (eqb (refill-kind xs) 2) _ o) in
-        changed end-recovery automatic (set xs 16 0)
+        changed end-recovery automatic (set xs refill-kind-at 0)
         (ap (λ (x : Refill). set-refill x (unpack xs)) (choose-yes (recovery-is-over (unpack xs)) automatic (unpack xs .refill) (sym over-known ∙ o)))
         (eqb-true _ _ (and-left (eqb (w .code) 0) _ q)) (lifted xs v (λ e. omega (arith, k, e)))
 
@@ -75,19 +75,19 @@ module _ (w : Work) (xs : List ℕ) (v : PackedState xs) where
   -- ---- a limit for a short station
 
   module _ (s : Bool) (h : s ≡ is-short (unpack xs)) where
-    limit-known : (eqb (refill-kind xs) 0 && (not (eqb (getD xs 30 0) 0) && s)) ≡ needs-limit (unpack xs)
+    limit-known : (eqb (refill-kind xs) 0 && (not (eqb (getD xs active-count 0) 0) && s)) ≡ needs-limit (unpack xs)
     unfolding needs-limit
     limit-known = λ i. says-automatic xs i && (not (alone xs v i) && h i)
 
-    pub limited : (eqb (w .code) 0 && (eqb (refill-kind xs) 0 && (not (eqb (getD xs 30 0) 0) && s))) ≡ true → Changes (on limit-short) (work-of w xs) (work-of w (set (set xs 16 1) 17 3))
+    pub limited : (eqb (w .code) 0 && (eqb (refill-kind xs) 0 && (not (eqb (getD xs active-count 0) 0) && s))) ≡ true → Changes (on limit-short) (work-of w xs) (work-of w (set (set xs refill-kind-at 1) refill-requests-at 3))
     unfolding limit-short refill-in
     limited q =
         let o = and-right (eqb (w .code) 0) _ q in
-        changed limit-short few-requests (set (set xs 16 1) 17 3)
+        changed limit-short few-requests (set (set xs refill-kind-at 1) refill-requests-at 3)
         (ap (λ (x : Refill). set-refill x (unpack xs)) (choose-yes (needs-limit (unpack xs)) few-requests (unpack xs .refill) (sym limit-known ∙ o)))
         (eqb-true _ _ (and-left (eqb (w .code) 0) _ q)) (kept-requests xs (Requests 3) v 3 refl)
 
-    pub not-limited : (eqb (w .code) 0 && (eqb (refill-kind xs) 0 && (not (eqb (getD xs 30 0) 0) && s))) ≡ false → Changes (on limit-short) (work-of w xs) (work-of w xs)
+    pub not-limited : (eqb (w .code) 0 && (eqb (refill-kind xs) 0 && (not (eqb (getD xs active-count 0) 0) && s))) ≡ false → Changes (on limit-short) (work-of w xs) (work-of w xs)
     unfolding limit-short
     not-limited q =
         and-false (eqb (w .code) 0) _ q (λ e. on-passed (work-of w xs) v limit-short (eqb-false _ _ e))
@@ -96,10 +96,10 @@ module _ (w : Work) (xs : List ℕ) (v : PackedState xs) where
 
   -- ---- a request that is used
 
-  pub used : (eqb (w .code) 0 && not (eqb (refill-requests xs) 0)) ≡ true → Changes (on use-request) (work-of w xs) (work-of w (set xs 17 (refill-requests xs - 1)))
+  pub used : (eqb (w .code) 0 && not (eqb (refill-requests xs) 0)) ≡ true → Changes (on use-request) (work-of w xs) (work-of w (set xs refill-requests-at (refill-requests xs - 1)))
   unfolding use-request
   used q =
-      changed use-request (one-less (unpack xs .refill)) (set xs 17 (refill-requests xs - 1)) refl (eqb-true _ _ (and-left (eqb (w .code) 0) _ q))
+      changed use-request (one-less (unpack xs .refill)) (set xs refill-requests-at (refill-requests xs - 1)) refl (eqb-true _ _ (and-left (eqb (w .code) 0) _ q))
       (one-used xs v (eqb-false _ _ (not-true (eqb (refill-requests xs) 0) (and-right (eqb (w .code) 0) _ q))))
 
   pub not-used : (eqb (w .code) 0 && not (eqb (refill-requests xs) 0)) ≡ false → Changes (on use-request) (work-of w xs) (work-of w xs)

@@ -6,12 +6,12 @@ use hyparview_state::RefillLimit;
 use work::Work;
 ghost use mathlib.Core.Path.{_≡_};
 ghost use lib.ListN.{length};
-ghost use Rattle.base_util.specs.Section.{HoldsSet};
+ghost use Rattle.base_util.specs.Section.{working-places, working-words, HoldsSet};
 ghost use Rattle.spec_hyparview.specs.Station.{asked-outside};
 ghost use Rattle.spec_hyparview.specs.Run.{on};
 ghost use Rattle.spec_hyparview.specs.Refill.{end-recovery, candidates, refill-limited, refill-active-from-passive, start-refill};
 ghost use Rattle.spec_hyparview.specs.Active.{clear-refused};
-ghost use Rattle.hyparview_state.specs.Layout.{words, all-places, set-words};
+ghost use Rattle.hyparview_state.specs.Layout.{words};
 ghost use Rattle.hyparview_state.specs.Unpack.{unpack, refill-in, PackedState};
 ghost use Rattle.hyparview_state.specs.Work.{Given, Alters, Makes};
 
@@ -19,15 +19,19 @@ ghost use Rattle.hyparview_state.specs.Work.{Given, Alters, Makes};
 fn asked_outside(st: &[u64], t: &mut [u64])
     requires { ⌜ length (now st) ≡ words ⌝ }
     requires { ⌜ PackedState (now st) ⌝ }
-    requires { ⌜ length (now t) ≡ set-words ⌝ }
-    ensures { λ _. ⌜ HoldsSet all-places (now (t .exit)) (asked-outside (unpack (now (st .entry)))) ⌝ }
+    requires { ⌜ length (now t) ≡ working-words ⌝ }
+    ensures { λ _. ⌜ HoldsSet working-places (now (t .exit)) (asked-outside (unpack (now (st .entry)))) ⌝ }
 {
-    base_columns::keys_into(&st[Layout::ASKED..Layout::ASKED_END], Layout::ALL, t);
+    base_columns::keys_into(
+        &st[Layout::REQUESTS..Layout::REQUESTS_END],
+        Layout::REQUESTS_PLACES,
+        t,
+    );
     base_util::without_all(
         t,
-        Layout::ALL,
+        base_util::WORKING_PLACES,
         &st[Layout::ACTIVE..Layout::ACTIVE_END],
-        Layout::FEW,
+        Layout::ACTIVE_PLACES,
     );
 }
 
@@ -37,10 +41,10 @@ pub fn end_recovery(w: Work, st: &mut [u64]) -> Work
     requires { ⌜ PackedState (now st) ⌝ }
     ensures { λ r. ⌜ Alters (on end-recovery) w r st ⌝ }
 {
-    let mut t = [0u64; Layout::SET];
+    let mut t = [0u64; base_util::WORKING_WORDS];
     asked_outside(st, &mut t);
     if (w.code == 0)
-        & ((st[Layout::REFILL_KIND] == RefillLimit::RECOVERY) & (t[Layout::ALL] == 0))
+        & ((st[Layout::REFILL_KIND] == RefillLimit::RECOVERY) & (t[base_util::WORKING_PLACES] == 0))
     {
         st[Layout::REFILL_KIND] = RefillLimit::AUTOMATIC;
     }
@@ -51,31 +55,40 @@ pub fn end_recovery(w: Work, st: &mut [u64]) -> Work
 fn candidates(st: &[u64], skip: &[PeerId], t: &mut [u64])
     requires { ⌜ length (now st) ≡ words ⌝ }
     requires { ⌜ PackedState (now st) ⌝ }
-    requires { ⌜ length (now t) ≡ set-words ⌝ }
-    ensures { λ _. ⌜ HoldsSet all-places (now (t .exit)) (candidates (now (skip .entry)) (unpack (now (st .entry)))) ⌝ }
+    requires { ⌜ length (now t) ≡ working-words ⌝ }
+    ensures { λ _. ⌜ HoldsSet working-places (now (t .exit)) (candidates (now (skip .entry)) (unpack (now (st .entry)))) ⌝ }
 {
     // Not those in `skip`.
-    base_util::copy_into(&st[Layout::PASSIVE..Layout::PASSIVE_END], Layout::ALL, t);
-    let n = t[Layout::ALL] as usize;
-    let m = base_util::without_all_in(&mut t[..Layout::ALL], n, skip);
-    t[Layout::ALL] = m as u64;
+    base_util::copy_into(
+        &st[Layout::PASSIVE..Layout::PASSIVE_END],
+        Layout::PASSIVE_PLACES,
+        t,
+    );
+    let n = t[base_util::WORKING_PLACES] as usize;
+    let m = base_util::without_all_in(&mut t[..base_util::WORKING_PLACES], n, skip);
+    t[base_util::WORKING_PLACES] = m as u64;
     // Nor those that a request is open to.
-    let mut asked = [0u64; Layout::SET];
+    let mut asked = [0u64; base_util::WORKING_WORDS];
     base_columns::keys_into(
-        &st[Layout::ASKED..Layout::ASKED_END],
-        Layout::ALL,
+        &st[Layout::REQUESTS..Layout::REQUESTS_END],
+        Layout::REQUESTS_PLACES,
         &mut asked,
     );
-    base_util::without_all(t, Layout::ALL, &asked, Layout::ALL);
+    base_util::without_all(
+        t,
+        base_util::WORKING_PLACES,
+        &asked,
+        base_util::WORKING_PLACES,
+    );
     // Those that refused are asked again where there is no neighbor.
     if st[Layout::ACTIVE_COUNT] == 0 {
         return;
     }
     base_util::without_all(
         t,
-        Layout::ALL,
+        base_util::WORKING_PLACES,
         &st[Layout::REFUSED..Layout::REFUSED_END],
-        Layout::ALL,
+        Layout::REFUSED_PLACES,
     );
 }
 
@@ -85,9 +98,9 @@ fn refill_limited(w: Work, st: &mut [u64], draws: &[u32], out: &mut [u8], skip: 
     requires { ⌜ Given w st draws out ⌝ }
     ensures { λ r. ⌜ Makes (refill-limited (now (skip .entry))) w r st draws out ⌝ }
 {
-    let mut from = [0u64; Layout::SET];
+    let mut from = [0u64; base_util::WORKING_WORDS];
     candidates(st, skip, &mut from);
-    let n = from[Layout::ALL] as usize;
+    let n = from[base_util::WORKING_PLACES] as usize;
     if n == 0 {
         return end_recovery(w, st);
     }
@@ -117,9 +130,9 @@ pub fn refill_active_from_passive(
     ensures { λ r. ⌜ Makes (refill-active-from-passive (now (skip .entry))) w r st draws out ⌝ }
 {
     // None where neighbors and requests fill the active view, or the limit is spent.
-    let mut t = [0u64; Layout::SET];
+    let mut t = [0u64; base_util::WORKING_WORDS];
     asked_outside(st, &mut t);
-    if (st[Layout::ACTIVE_VIEW_CAPACITY] <= st[Layout::ACTIVE_COUNT] + t[Layout::ALL])
+    if (st[Layout::ACTIVE_VIEW_CAPACITY] <= st[Layout::ACTIVE_COUNT] + t[base_util::WORKING_PLACES])
         | ((st[Layout::REFILL_KIND] == RefillLimit::REQUESTS_LEFT)
             & (st[Layout::REFILL_REQUESTS] == 0))
     {
@@ -164,6 +177,9 @@ pub fn clear_refused(w: Work, st: &mut [u64]) -> Work
     if w.code != 0 {
         return w;
     }
-    base_util::clear(&mut st[Layout::REFUSED..Layout::REFUSED_END], Layout::ALL);
+    base_util::clear(
+        &mut st[Layout::REFUSED..Layout::REFUSED_END],
+        Layout::REFUSED_PLACES,
+    );
     w
 }

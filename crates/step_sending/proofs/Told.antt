@@ -24,7 +24,7 @@ use Rattle.spec_hyparview.specs.Station.{is-requested, top-counter}
 use Rattle.spec_hyparview.specs.Run.{Run, on, emit, require, node, message, flag, peer-infos, timer}
 use Rattle.spec_hyparview.specs.Sending.{join-to, join, send-nodes, send-shuffle-reply, reply-length, send-disconnect, request-counts, request-fits, note-request, count-request, open-request, neighbor-to, tell-request, send-neighbor, reply-neighbor}
 use Rattle.work.specs.declared.Work.{Work}
-use Rattle.hyparview_state.specs.Layout.{requests-part, shuffle-active-view-count, shuffle-passive-view-count, neighbor-request-timeout, next-neighbor-request}
+use Rattle.hyparview_state.specs.Layout.{requests-part, shuffle-active-view-count, shuffle-passive-view-count, neighbor-request-timeout, next-neighbor-request, requests-at, requests-count, requests-places, requests-size}
 use Rattle.hyparview_state.specs.Unpack.{unpack, station-of, settings-at, own-at, PackedState}
 use Rattle.hyparview_state.specs.Work.{Held, work-of, run, run-of, Stateless, Changes, ChangesAny, DrawsAny, Room, Tells, TellsAny, Fine, Does}
 use Rattle.hyparview_state.proofs.Access.{of-settings, of-requests}
@@ -105,19 +105,19 @@ module _ (p : ℕ) (high : Bool) (w : Held) (out : List ℕ) (v : Room w out) wh
   not-replied reply h = telling v (unchanged _ (v .packed) (λ ds o. choose-no _ _ _ h))
 
 -- the count of the open requests, as it stands in the words
-pub requests-counted : (xs : List ℕ) → PackedState xs → getD xs 194 0 ≡ length (numbers-at 32 (requests-part xs))
-requests-counted xs v = sym (of-requests xs v .counted ∙ part-read 130 65 64 xs (omega arith))
+pub requests-counted : (xs : List ℕ) → PackedState xs → getD xs requests-count 0 ≡ length (numbers-at requests-places (requests-part xs))
+requests-counted xs v = sym (of-requests xs v .counted ∙ part-read requests-at requests-size (requests-places + requests-places) xs (omega arith))
 
 -- the two tests before a request is noted
 module _ (w a b : Work) (xs : List ℕ) (n : ℕ) (v : PackedState xs) (k₁ : ChangesAny (require 10 (ltb (next-neighbor-request xs) top-counter)) w a)
-    (e : n ≡ length (numbers-at 32 (requests-part xs))) (k₂ : ChangesAny (require 6 (ltb n 32)) a b) where
+    (e : n ≡ length (numbers-at requests-places (requests-part xs))) (k₂ : ChangesAny (require 6 (ltb n 32)) a b) where
   pub number-left : b .code ≡ 0 → next-neighbor-request xs < top-counter
   number-left z = ltb-true _ _ (require-said (work-of w xs) (work-of a xs) 10 _ (omega arith) (required-at xs v _ _ k₁) (required-code 6 (ltb n 32) (work-of a xs) (work-of b xs) (required-at xs v _ _ k₂) z) .1)
 
-  pub place-left : b .code ≡ 0 → (p : ℕ) → (has p (numbers-at 32 (requests-part xs)) || ltb (length (numbers-at 32 (requests-part xs))) 32) ≡ true
+  pub place-left : b .code ≡ 0 → (p : ℕ) → (has p (numbers-at requests-places (requests-part xs)) || ltb (length (numbers-at requests-places (requests-part xs))) 32) ≡ true
   place-left z p =
-      let fits : ltb (length (numbers-at 32 (requests-part xs))) 32 ≡ true = ap (λ (m : ℕ). ltb m 32) (sym e) ∙ require-said (work-of a xs) (work-of b xs) 6 (ltb n 32) (omega arith) (required-at xs v _ _ k₂) z .1 in
-      rw fits (or-true (has p (numbers-at 32 (requests-part xs))))
+      let fits : ltb (length (numbers-at requests-places (requests-part xs))) 32 ≡ true = ap (λ (m : ℕ). ltb m 32) (sym e) ∙ require-said (work-of a xs) (work-of b xs) 6 (ltb n 32) (omega arith) (required-at xs v _ _ k₂) z .1 in
+      rw fits (or-true (has p (numbers-at requests-places (requests-part xs))))
 
   counted : Changes count-request (work-of w xs) (work-of a xs)
   unfolding count-request request-counts run-of unpack station-of

@@ -13,17 +13,17 @@ ghost use Prim.Native.Nat.{_≤_};
 ghost use lib.ListN.{length, take, drop};
 ghost use Rattle.base_lists.specs.Lists.{choose};
 ghost use Rattle.base_util.specs.Chances.{shuffle};
-ghost use Rattle.base_util.specs.Section.{items-at, ValidSet, HoldsSet};
+ghost use Rattle.base_util.specs.Section.{working-places, items-at, ValidSet, HoldsSet};
 ghost use Rattle.record_writer.specs.Nodes.{HoldsNodes};
 ghost use Rattle.spec_hyparview.specs.Run.{peer-infos, draw-shuffle};
 ghost use Rattle.spec_hyparview.specs.Sending.{join, send-shuffle-reply, send-disconnect, send-neighbor, reply-neighbor};
 ghost use Rattle.record.specs.Format.{most-nodes};
-ghost use Rattle.hyparview_state.specs.Layout.{words, all-places};
+ghost use Rattle.hyparview_state.specs.Layout.{words};
 ghost use Rattle.hyparview_state.specs.Unpack.{unpack, PackedState};
 ghost use Rattle.hyparview_state.specs.Work.{GivenRoom, Given, Says, Makes, DrawsAny};
 
 // The most requests that are open at once.
-const MOST_ASKED: u64 = Layout::ALL as u64;
+const MOST_REQUESTS: u64 = Layout::REQUESTS_PLACES as u64;
 
 // The flag where it is set, else 0.
 fn flag_if(set: bool, flag: u8) -> u8
@@ -44,7 +44,11 @@ pub fn peer_infos(st: &[u64], ids: &[PeerId]) -> Nodes
     while i < ids.len() {
         let p = ids[i];
         i += 1;
-        let d = base_columns::get_data(&st[Layout::HELD..Layout::HELD_END], Layout::DATA_CAP, p);
+        let d = base_columns::get_data(
+            &st[Layout::PEER_DATA..Layout::PEER_DATA_END],
+            Layout::PEER_DATA_PLACES,
+            p,
+        );
         t = t.push(PeerInfo { id: p, data: d });
     }
     t
@@ -63,18 +67,18 @@ pub fn join(w: Work, st: &[u64], out: &mut [u8], p: PeerId) -> Work
 // Shuffles a working set and cuts it to at most `most` peers.
 pub fn shuffle_and_cap(w: Work, draws: &[u32], most: usize, v: &mut [u64]) -> Work
     requires { ⌜ w .drawn ≤ length (now draws) ⌝ }
-    requires { ⌜ ValidSet all-places (now v) ⌝ }
-    ensures { λ r. ⌜ DrawsAny (draw-shuffle (items-at all-places (now (v .entry)))) w r (now (draws .entry)) ⌝ }
-    ensures { λ r. ⌜ HoldsSet all-places (now (v .exit)) (take most (shuffle (drop (w .drawn) (now (draws .entry))) (items-at all-places (now (v .entry))))) ⌝ }
+    requires { ⌜ ValidSet working-places (now v) ⌝ }
+    ensures { λ r. ⌜ DrawsAny (draw-shuffle (items-at working-places (now (v .entry)))) w r (now (draws .entry)) ⌝ }
+    ensures { λ r. ⌜ HoldsSet working-places (now (v .exit)) (take most (shuffle (drop (w .drawn) (now (draws .entry))) (items-at working-places (now (v .entry))))) ⌝ }
 {
     let r = work::shuffle_by_draws(w, draws, v);
-    let n = v[Layout::ALL] as usize;
+    let n = v[base_util::WORKING_PLACES] as usize;
     if n <= most {
         return r;
     }
     // The first `most` of them stay.
-    base_util::clear_from(&mut v[..Layout::ALL], most);
-    v[Layout::ALL] = most as u64;
+    base_util::clear_from(&mut v[..base_util::WORKING_PLACES], most);
+    v[base_util::WORKING_PLACES] = most as u64;
     r
 }
 
@@ -92,20 +96,25 @@ pub fn send_shuffle_reply(
     requires { ⌜ len ≤ most-nodes ⌝ }
     ensures { λ r. ⌜ Makes (send-shuffle-reply to len) w r st draws out ⌝ }
 {
-    let mut v = [0u64; Layout::SET];
+    let mut v = [0u64; base_util::WORKING_WORDS];
     let passive = &st[Layout::PASSIVE..Layout::PASSIVE_END];
-    base_util::copy_into(passive, Layout::ALL, &mut v);
+    base_util::copy_into(passive, Layout::PASSIVE_PLACES, &mut v);
     let mut a = shuffle_and_cap(w, draws, len, &mut v);
-    let n = base_util::count(&v, Layout::ALL);
+    let n = base_util::count(&v, base_util::WORKING_PLACES);
     if n < len {
         // Too few passive peers: the shuffled active view makes up the number.
-        let mut more = [0u64; Layout::SET];
+        let mut more = [0u64; base_util::WORKING_WORDS];
         let active = &st[Layout::ACTIVE..Layout::ACTIVE_END];
-        base_util::copy_into(active, Layout::FEW, &mut more);
+        base_util::copy_into(active, Layout::ACTIVE_PLACES, &mut more);
         a = shuffle_and_cap(a, draws, len - n, &mut more);
-        base_util::append(&mut v, Layout::ALL, &more, Layout::ALL);
+        base_util::append(
+            &mut v,
+            base_util::WORKING_PLACES,
+            &more,
+            base_util::WORKING_PLACES,
+        );
     }
-    let named = base_util::count(&v, Layout::ALL);
+    let named = base_util::count(&v, base_util::WORKING_PLACES);
     work::send_nodes(
         a,
         out,
@@ -150,12 +159,16 @@ pub fn send_neighbor(w: Work, st: &mut [u64], out: &mut [u8], p: PeerId, high: b
     }
     let id = st[Layout::NEXT_NEIGHBOR_REQUEST];
     let a = work::require(w, Refusal::COUNTER, id < hyparview_state::TOP_COUNTER);
-    let b = work::require(a, Refusal::REQUESTS, st[Layout::ASKED_COUNT] < MOST_ASKED);
+    let b = work::require(
+        a,
+        Refusal::REQUESTS,
+        st[Layout::REQUESTS_COUNT] < MOST_REQUESTS,
+    );
     if b.code != 0 {
         return b;
     }
-    let asked = &mut st[Layout::ASKED..Layout::ASKED_END];
-    base_columns::insert_number(asked, Layout::ALL, p, id);
+    let asked = &mut st[Layout::REQUESTS..Layout::REQUESTS_END];
+    base_columns::insert_number(asked, Layout::REQUESTS_PLACES, p, id);
     st[Layout::NEXT_NEIGHBOR_REQUEST] = id + 1;
     let flags = flag_if(high, Flags::HIGH);
     let d = hyparview_state::own_data(st);

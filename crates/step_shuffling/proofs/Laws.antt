@@ -26,7 +26,7 @@ use Rattle.spec_hyparview.specs.Refill.{few-requests, start-refill, refill-acti
 use Rattle.spec_hyparview.specs.Messages.{answers-shuffle, answer-shuffle, forward-shuffle, on-shuffle, stops-at-refusal, renews-limit, refill-with, after-reply, on-shuffle-reply}
 use Rattle.work.specs.declared.Work.{Work}
 use Rattle.hyparview_state.specs.Work.{work-of, run, run-of, DrawsAny, TellsAny, Fine, Does}
-use Rattle.hyparview_state.specs.Layout.{refill-kind, refill-requests, active-part}
+use Rattle.hyparview_state.specs.Layout.{refill-kind, refill-requests, active-part, active-places}
 use Rattle.hyparview_state.specs.declared.RefillLimit.{RefillLimit}
 use Rattle.hyparview_state.specs.Unpack.{unpack, station-of, refill-in}
 use Rattle.hyparview_state.proofs.Bridge.{by, still, seq-at, taken, left, holds-at, at-run}
@@ -43,7 +43,7 @@ pair p q = section-holds 2 (p ∷ q ∷ []) (omega arith)
 pub pair-valid : (p q : ℕ) → ValidSet 2 (p ∷ q ∷ 2 ∷ [])
 pair-valid p q = pair p q .valid
 
-pub others-are : (xs v r : List ℕ) (p q : ℕ) → HoldsSet 32 v (items-at 8 (active-part xs)) → HoldsSet 32 r (without-all (items-at 2 (p ∷ q ∷ 2 ∷ [])) (items-at 32 v))
+pub others-are : (xs v r : List ℕ) (p q : ℕ) → HoldsSet 32 v (items-at active-places (active-part xs)) → HoldsSet 32 r (without-all (items-at 2 (p ∷ q ∷ 2 ∷ [])) (items-at 32 v))
     → HoldsSet 32 r (without-all (p ∷ q ∷ []) (unpack xs .active))
 unfolding unpack station-of
 others-are xs v r p q h k = record { valid = k .valid; items = k .items ∙ (λ i. without-all (pair p q .items i) (h .items i)) }

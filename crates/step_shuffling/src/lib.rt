@@ -84,15 +84,19 @@ fn pass_shuffle(
     requires { ⌜ n ≡ header-of (now b) .nodes ⌝ }
     ensures { λ r. ⌜ Makes (forward-shuffle (without-all (origin ∷ from ∷ []) (unpack (now (st .entry)) .active)) origin (nodes-of (now (b .entry)) 0 n) ttl) w r st draws out ⌝ }
 {
-    let mut v = [0u64; Layout::SET];
-    base_util::copy_into(&st[Layout::ACTIVE..Layout::ACTIVE_END], Layout::FEW, &mut v);
+    let mut v = [0u64; base_util::WORKING_WORDS];
+    base_util::copy_into(
+        &st[Layout::ACTIVE..Layout::ACTIVE_END],
+        Layout::ACTIVE_PLACES,
+        &mut v,
+    );
     // A set of two places, which are both in use.
-    base_util::without_all(&mut v, Layout::ALL, &[origin, from, 2], 2);
-    if base_util::is_empty(&v, Layout::ALL) {
+    base_util::without_all(&mut v, base_util::WORKING_PLACES, &[origin, from, 2], 2);
+    if base_util::is_empty(&v, base_util::WORKING_PLACES) {
         return w;
     }
-    let t = work::choose(w, draws, base_util::count(&v, Layout::ALL));
-    let q = base_util::get_index(&v, Layout::ALL, t.index);
+    let t = work::choose(w, draws, base_util::count(&v, base_util::WORKING_PLACES));
+    let q = base_util::get_index(&v, base_util::WORKING_PLACES, t.index);
     let hops = Ttl(ttl);
     let left = hops.next();
     work::send_nodes(

@@ -17,7 +17,7 @@ use Rattle.spec_hyparview.specs.Refill.{refill-active-from-passive}
 use Rattle.spec_hyparview.specs.Messages.{drop-join, drop-request}
 use Rattle.spec_hyparview.specs.Timers.{is-number, request-is, request-failed, handle-pending-neighbor-timer, join-is, retry-join}
 use Rattle.work.specs.declared.Work.{Work}
-use Rattle.hyparview_state.specs.Layout.{requests-part, joins-part}
+use Rattle.hyparview_state.specs.Layout.{requests-part, joins-part, joins-places, requests-places}
 use Rattle.hyparview_state.specs.Unpack.{unpack, station-of}
 use Rattle.hyparview_state.specs.Work.{work-of, run, Changes, Room, Tells, Fine, Does}
 use Rattle.hyparview_state.proofs.Bridge.{unchanged, telling, tell-then, tell-yes, tell-no, still, then, seq, taken, left, holds-at}
@@ -31,11 +31,11 @@ unfolding is-number number-in
 same-number n k m e = rw e
 
 module _ (xs : List ℕ) (p id : ℕ) (m : Number) (t : Bool) (e : t ≡ is-number id (number-in m)) where
-  pub request-said : number-in m ≡ lookup p (numbers-at 32 (requests-part xs)) → t ≡ request-is p id (unpack xs)
+  pub request-said : number-in m ≡ lookup p (numbers-at requests-places (requests-part xs)) → t ≡ request-is p id (unpack xs)
   unfolding request-is unpack station-of
   request-said h = e ∙ ap (is-number id) h
 
-  pub join-said : number-in m ≡ lookup p (numbers-at 8 (joins-part xs)) → t ≡ join-is p id (unpack xs)
+  pub join-said : number-in m ≡ lookup p (numbers-at joins-places (joins-part xs)) → t ≡ join-is p id (unpack xs)
   unfolding join-is unpack station-of
   join-said h = e ∙ ap (is-number id) h
 

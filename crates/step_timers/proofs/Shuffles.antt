@@ -39,11 +39,11 @@ pub setting-fits : (xs : List ℕ) → PackedState xs → shuffle-interval xs �
 unfolding settings-at
 setting-fits xs v = ranges (settings-at xs) (of-settings xs v) .interval .most
 
-put-doubled : (xs : List ℕ) (n : ℕ) → n ≡ min (2 * next-shuffle-interval xs) (shuffle-interval xs) → Becomes xs (unpack xs) → Becomes (set xs 13 n) (double-interval (unpack xs))
+put-doubled : (xs : List ℕ) (n : ℕ) → n ≡ min (2 * next-shuffle-interval xs) (shuffle-interval xs) → Becomes xs (unpack xs) → Becomes (set xs layout.next-shuffle-interval-at n) (double-interval (unpack xs))
 unfolding double-interval unpack station-of settings-at
-put-doubled xs n e b = subst (λ (m : ℕ). Becomes (set xs 13 n) (set-next-interval m (unpack xs))) e (put-next-interval n (omega (arith, e, setting-fits xs (b .packed))) b)
+put-doubled xs n e b = subst (λ (m : ℕ). Becomes (set xs layout.next-shuffle-interval-at n) (set-next-interval m (unpack xs))) e (put-next-interval n (omega (arith, e, setting-fits xs (b .packed))) b)
 
-pub doubled : (w : Work) (xs : List ℕ) (n : ℕ) → PackedState xs → w .code ≡ 0 → n ≡ min (2 * next-shuffle-interval xs) (shuffle-interval xs) → Changes (on double-interval) (work-of w xs) (work-of w (set xs 13 n))
+pub doubled : (w : Work) (xs : List ℕ) (n : ℕ) → PackedState xs → w .code ≡ 0 → n ≡ min (2 * next-shuffle-interval xs) (shuffle-interval xs) → Changes (on double-interval) (work-of w xs) (work-of w (set xs layout.next-shuffle-interval-at n))
 doubled w xs n v z e = on-done (work-of w xs) v double-interval _ z (put-doubled xs n e)
 
 -- where a code is set, no timer is set
@@ -122,23 +122,23 @@ module _ (xs : List ℕ) (f : PackedState xs) (l m : List ℕ) where
   all-fit v all k h e = omega (arith, few-passive k, set-length 32 all _ e, length-append (items-at 32 v) (items-at 32 m))
 
 module _ (w a r : Work) (xs ds out o : List ℕ) (to : ℕ) (f : Fine (work-of w xs) ds out) where
-  pub passive-done : (v m all : List ℕ) → DrawsAny (draw-shuffle (without to (items-at 32 (layout.passive-part xs)))) w a ds
-      → HoldsSet 32 m (take (shuffle-passive-view-count xs) (shuffled-by w ds (without to (items-at 32 (layout.passive-part xs)))))
+  pub passive-done : (v m all : List ℕ) → DrawsAny (draw-shuffle (without to (items-at layout.passive-places (layout.passive-part xs)))) w a ds
+      → HoldsSet 32 m (take (shuffle-passive-view-count xs) (shuffled-by w ds (without to (items-at layout.passive-places (layout.passive-part xs)))))
       → HoldsSet 32 all (items-at 32 v ++ items-at 32 m) → Tells (send-shuffle to (items-at 32 all)) (work-of a xs) (work-of r xs) out o
       → Does (work-of r xs) ds o (shuffle-passive to (items-at 32 v) (run (work-of w xs) ds out))
   unfolding shuffle-passive passive-sample shuffled to-draw run-of unpack station-of settings-at
   passive-done v m all k h e t =
       by _
-      (ap (λ (l : List ℕ). send-shuffle to l (draw-shuffle (without to (items-at 32 (layout.passive-part xs))) (run (work-of w xs) ds out)))
+      (ap (λ (l : List ℕ). send-shuffle to l (draw-shuffle (without to (items-at layout.passive-places (layout.passive-part xs))) (run (work-of w xs) ds out)))
       (sym (e .items ∙ ap (λ (l : List ℕ). items-at 32 v ++ l) (h .items))))
       (then-tell t (then-shuffle _ k (still f)))
 
-  pub with-done : (v : List ℕ) → DrawsAny (draw-shuffle (without to (items-at 8 (layout.active-part xs)))) w a ds
-      → HoldsSet 32 v (take (shuffle-active-view-count xs) (shuffled-by w ds (without to (items-at 8 (layout.active-part xs)))))
+  pub with-done : (v : List ℕ) → DrawsAny (draw-shuffle (without to (items-at layout.active-places (layout.active-part xs)))) w a ds
+      → HoldsSet 32 v (take (shuffle-active-view-count xs) (shuffled-by w ds (without to (items-at layout.active-places (layout.active-part xs)))))
       → Does (work-of r xs) ds o (shuffle-passive to (items-at 32 v) (run (work-of a xs) ds out)) → Does (work-of r xs) ds o (shuffle-with to (run (work-of w xs) ds out))
   unfolding shuffle-with active-sample shuffled to-draw run-of unpack station-of settings-at
   with-done v k h d =
-      by _ (ap (λ (l : List ℕ). shuffle-passive to l (draw-shuffle (without to (items-at 8 (layout.active-part xs))) (run (work-of w xs) ds out))) (sym (h .items)))
+      by _ (ap (λ (l : List ℕ). shuffle-passive to l (draw-shuffle (without to (items-at layout.active-places (layout.active-part xs))) (run (work-of w xs) ds out))) (sym (h .items)))
       (seq (shuffle-passive to (items-at 32 v)) d (then-shuffle _ k (still f)))
 
 -- ---- to whom
@@ -153,17 +153,17 @@ unfolding null
 null-some [] h = absurd (h refl)
 null-some (x ∷ l) h = refl
 
-module _ (w : Work) (xs ds out : List ℕ) (n : ℕ) (f : Fine (work-of w xs) ds out) (c : n ≡ length (items-at 8 (layout.active-part xs))) where
+module _ (w : Work) (xs ds out : List ℕ) (n : ℕ) (f : Fine (work-of w xs) ds out) (c : n ≡ length (items-at layout.active-places (layout.active-part xs))) where
   pub none-asked : n ≡ 0 → Does (work-of w xs) ds out (shuffle-any (run (work-of w xs) ds out))
   unfolding shuffle-any is-alone run-of unpack station-of
-  none-asked z = taken _ _ (null-none (items-at 8 (layout.active-part xs)) (sym z ∙ c)) (still f)
+  none-asked z = taken _ _ (null-none (items-at layout.active-places (layout.active-part xs)) (sym z ∙ c)) (still f)
 
-  module _ (i p : ℕ) (j : i ≡ pick n (drop (w .drawn) ds)) (q : p ≡ getD (items-at 8 (layout.active-part xs)) i 0) where
+  module _ (i p : ℕ) (j : i ≡ pick n (drop (w .drawn) ds)) (q : p ≡ getD (items-at layout.active-places (layout.active-part xs)) i 0) where
     picked-is : p ≡ picked (run (work-of w xs) ds out .station .active) (run (work-of w xs) ds out)
     unfolding picked one-of to-draw run-of unpack station-of
-    picked-is = q ∙ ap (λ (k : ℕ). getD (items-at 8 (layout.active-part xs)) k 0) (j ∙ ap (λ (k : ℕ). pick k (drop (w .drawn) ds)) c)
+    picked-is = q ∙ ap (λ (k : ℕ). getD (items-at layout.active-places (layout.active-part xs)) k 0) (j ∙ ap (λ (k : ℕ). pick k (drop (w .drawn) ds)) c)
 
     pub one-asked : (a r : Work) (o : List ℕ) → (n ≡ 0 → ⊥) → Does (work-of r xs) ds o (shuffle-with p (run (work-of a xs) ds out)) → DrawsAny (draw-one-of n) w a ds → Does (work-of r xs) ds o (shuffle-any (run (work-of w xs) ds out))
     unfolding shuffle-any is-alone run-of unpack station-of
     one-asked a r o h k₂ k₁ =
-        left _ _ (null-some (items-at 8 (layout.active-part xs)) (λ z. h (c ∙ sym z))) (seq-at shuffle-with picked-is k₂ (then-one-of _ (subst (λ (m : ℕ). DrawsAny (draw-one-of m) w a ds) c k₁) (still f)))
+        left _ _ (null-some (items-at layout.active-places (layout.active-part xs)) (λ z. h (c ∙ sym z))) (seq-at shuffle-with picked-is k₂ (then-one-of _ (subst (λ (m : ℕ). DrawsAny (draw-one-of m) w a ds) c k₁) (still f)))

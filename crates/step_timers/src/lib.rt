@@ -36,7 +36,11 @@ pub fn handle_pending_neighbor_timer(
     requires { ⌜ Given w st draws out ⌝ }
     ensures { λ r. ⌜ Makes (handle-pending-neighbor-timer p id) w r st draws out ⌝ }
 {
-    let m = base_columns::get_number(&st[Layout::ASKED..Layout::ASKED_END], Layout::ALL, p);
+    let m = base_columns::get_number(
+        &st[Layout::REQUESTS..Layout::REQUESTS_END],
+        Layout::REQUESTS_PLACES,
+        p,
+    );
     if is_number(id, m) {
         // It got no answer: p is dropped and another peer is asked.
         let a = hyparview_state::drop_request(w, st, p);
@@ -53,7 +57,11 @@ pub fn retry_join(w: Work, st: &mut [u64], out: &mut [u8], p: PeerId, id: u64) -
     requires { ⌜ GivenRoom w st out ⌝ }
     ensures { λ r. ⌜ Says (retry-join p id) w r st out ⌝ }
 {
-    let m = base_columns::get_number(&st[Layout::JOINS..Layout::JOINS_END], Layout::FEW, p);
+    let m = base_columns::get_number(
+        &st[Layout::JOINS..Layout::JOINS_END],
+        Layout::JOINS_PLACES,
+        p,
+    );
     if is_number(id, m) {
         let a = hyparview_state::drop_join(w, st, p);
         return step_sending::join(a, st, out, p);
@@ -86,25 +94,30 @@ fn shuffle_any(w: Work, st: &[u64], draws: &[u32], out: &mut [u8]) -> Work
     ensures { λ r. ⌜ Makes shuffle-any w r st draws out ⌝ }
 {
     let active = &st[Layout::ACTIVE..Layout::ACTIVE_END];
-    let neighbors = base_util::count(active, Layout::FEW);
+    let neighbors = base_util::count(active, Layout::ACTIVE_PLACES);
     if neighbors == 0 {
         return w;
     }
     let chosen = work::choose(w, draws, neighbors);
-    let to = base_util::get_index(active, Layout::FEW, chosen.index);
-    let mut named_peers = [0u64; Layout::SET];
-    base_util::copy_into(active, Layout::FEW, &mut named_peers);
-    base_util::without(&mut named_peers, Layout::ALL, to);
+    let to = base_util::get_index(active, Layout::ACTIVE_PLACES, chosen.index);
+    let mut named_peers = [0u64; base_util::WORKING_WORDS];
+    base_util::copy_into(active, Layout::ACTIVE_PLACES, &mut named_peers);
+    base_util::without(&mut named_peers, base_util::WORKING_PLACES, to);
     let few = st[Layout::SHUFFLE_ACTIVE_VIEW_COUNT] as usize;
     let a = step_sending::shuffle_and_cap(chosen.work, draws, few, &mut named_peers);
     let passive = &st[Layout::PASSIVE..Layout::PASSIVE_END];
-    let mut more = [0u64; Layout::SET];
-    base_util::copy_into(passive, Layout::ALL, &mut more);
-    base_util::without(&mut more, Layout::ALL, to);
+    let mut more = [0u64; base_util::WORKING_WORDS];
+    base_util::copy_into(passive, Layout::PASSIVE_PLACES, &mut more);
+    base_util::without(&mut more, base_util::WORKING_PLACES, to);
     let many = st[Layout::SHUFFLE_PASSIVE_VIEW_COUNT] as usize;
     let b = step_sending::shuffle_and_cap(a, draws, many, &mut more);
-    base_util::append(&mut named_peers, Layout::ALL, &more, Layout::ALL);
-    let n = base_util::count(&named_peers, Layout::ALL);
+    base_util::append(
+        &mut named_peers,
+        base_util::WORKING_PLACES,
+        &more,
+        base_util::WORKING_PLACES,
+    );
+    let n = base_util::count(&named_peers, base_util::WORKING_PLACES);
     let named = step_sending::peer_infos(st, &named_peers[..n]);
     let me = st[Layout::ME];
     let own = hyparview_state::own_data(st);

@@ -19,6 +19,7 @@ use Rattle.base_util.specs.Section.{part, items-at}
 use Rattle.base_columns.specs.Columns.{numbers-at, data-map-at}
 use Rattle.hyparview_state.specs.declared.RefillLimit.{RefillLimit}
 use Rattle.hyparview_state.specs.declared.RefillLimit.the-variants.{Automatic, Requests, Recovery}
+use Rattle.hyparview_state.specs.Layout as layout
 use Rattle.hyparview_state.specs.Layout.{words}
 use Rattle.hyparview_state.specs.Unpack.{own-at, limit-at}
 use Rattle.run_text.specs.declared.Text.{Text}
@@ -26,19 +27,26 @@ use Rattle.run_text.specs.Text.{Puts}
 use Rattle.run_text.specs.Numbers.{decimal}
 use Rattle.trace_text.specs.Items.{ascii, comma-before, item-text, items-text, list-field, number-field, numbered-text, held-text}
 use Rattle.trace_text.specs.Fields.{texts-at, field-at, InWords}
-use Rattle.trace_text.specs.Event.{own-field, refill-field, views-text, open-text, kept-text, counts-text, state-line}
+use Rattle.trace_text.specs.Event.{own-field, refill-field, fields-text, state-line}
 use Rattle.trace_text.proofs.Writing.{Writing, writing-start, writing-next, writing-end}
 
--- ---- the constants of the code, and what they say
-
+-- the constants of the code, by tools/layout.py
 unfoldable pub line : List ℕ
 line = ascii "state me=O active=[1] passive=[1] bootstrap=[1] recent=[1] requests=[2] next_request=0 joins=[2] next_join=0 data=[4] alive=[1] refused=[1] refill=L timers=0 interval=0 alone=0 short=0\n"
 
+abbrev pub line-size : ℕ
+line-size = 185
+
+abbrev pub fields : ℕ
+fields = 15
+
 unfoldable pub places : List ℕ
-places = 22 ∷ 31 ∷ 195 ∷ 204 ∷ 130 ∷ 18 ∷ 213 ∷ 19 ∷ 230 ∷ 64 ∷ 97 ∷ 12 ∷ 13 ∷ 14 ∷ 15 ∷ []
+places = layout.active-at ∷ layout.passive-at ∷ layout.bootstrap-at ∷ layout.recent-at ∷ layout.requests-at ∷ layout.next-neighbor-request-at ∷ layout.joins-at ∷ layout.next-join-at ∷ layout.peer-data-at ∷ layout.alive-at ∷ layout.refused-at ∷ layout.timers-scheduled-at ∷ layout.next-shuffle-interval-at ∷ layout.passes-alone-at ∷ layout.passes-short-at ∷ []
 
 unfoldable pub rooms : List ℕ
-rooms = 8 ∷ 32 ∷ 8 ∷ 8 ∷ 32 ∷ 1 ∷ 8 ∷ 1 ∷ 80 ∷ 32 ∷ 32 ∷ 1 ∷ 1 ∷ 1 ∷ 1 ∷ []
+rooms = layout.active-places ∷ layout.passive-places ∷ layout.bootstrap-places ∷ layout.recent-places ∷ layout.requests-places ∷ 1 ∷ layout.joins-places ∷ 1 ∷ layout.peer-data-places ∷ layout.alive-places ∷ layout.refused-places ∷ 1 ∷ 1 ∷ 1 ∷ 1 ∷ []
+
+-- end
 
 -- a byte that stands for a field
 unfoldable pub digit : ℕ → Bool
@@ -60,7 +68,7 @@ line-text (x ∷ p) k xs = byte-text x k xs ++ line-text p (after x k) xs
 
 -- the k-th field has a row, and stands in the words; there are such columns
 unfoldable pub row-fits : ℕ → ℕ → Bool
-row-fits c k = (eqb c 4 || ltb c 3) && (ltb k 15 && (ltb (getD places k 0 + c * getD rooms k 0) words && (leb (getD places k 0 + getD rooms k 0) words && leb 1 (getD rooms k 0))))
+row-fits c k = (eqb c 4 || ltb c 3) && (ltb k fields && (ltb (getD places k 0 + c * getD rooms k 0) words && (leb (getD places k 0 + getD rooms k 0) words && leb 1 (getD rooms k 0))))
 
 unfoldable pub line-fits : List ℕ → ℕ → Bool
 line-fits [] k = true
@@ -83,9 +91,6 @@ unfolding refill-field ascii
 limit-whole Automatic = refl
 limit-whole (Requests n) = refl
 limit-whole Recovery = refl
-
-four : (a b c d r : List ℕ) → (a ++ (b ++ (c ++ d))) ++ r ≡ a ++ (b ++ (c ++ (d ++ r)))
-four a b c d r = append-assoc a _ r ∙ ap (λ (z : List ℕ). a ++ z) (append-assoc b _ r ∙ ap (λ (z : List ℕ). b ++ z) (append-assoc c d r))
 
 module _ (xs : List ℕ) (name p : List ℕ) (k a n : ℕ) (plain : (q : List ℕ) → line-text (name ++ q) k xs ≡ name ++ line-text q k xs) (e : getD places k 0 ≡ a) (f : getD rooms k 0 ≡ n) where
   listed : {A : Type 0} (c : ℕ) (g : A → List ℕ) (ys : List A)
@@ -123,71 +128,140 @@ module _ (xs : List ℕ) (p : List ℕ) where
   unfolding line-text byte-text after digit choose ascii
   own-line = sym (append-assoc (ascii "state me=") (drop (length (ascii "state me=")) (own-field (data-in (own-at xs)))) _) ∙ ap (λ (z : List ℕ). z ++ line-text p 0 xs) (own-whole (data-in (own-at xs)))
 
-  views-line : line-text (ascii " active=[1] passive=[1] bootstrap=[1] recent=[1]" ++ p) 0 xs ≡ views-text xs ++ line-text p 4 xs
-  unfolding line-text byte-text after digit choose ascii places rooms views-text
-  views-line =
-      let active = list-field (ascii " active=[") decimal (items-at 8 (part 22 9 xs)) in
-      let passive = list-field (ascii " passive=[") decimal (items-at 32 (part 31 33 xs)) in
-      let bootstrap = list-field (ascii " bootstrap=[") decimal (items-at 8 (part 195 9 xs)) in
-      let recent = list-field (ascii " recent=[") decimal (items-at 8 (part 204 9 xs)) in
-      peers-line xs (ascii " active=[") (ascii " passive=[1] bootstrap=[1] recent=[1]" ++ p) 0 22 8 (λ q. refl) refl refl
-      ∙ (ap (λ (z : List ℕ). active ++ z)
-      (peers-line xs (ascii " passive=[") (ascii " bootstrap=[1] recent=[1]" ++ p) 1 31 32 (λ q. refl) refl refl
-      ∙ ap (λ (z : List ℕ). passive ++ z)
-      (peers-line xs (ascii " bootstrap=[") (ascii " recent=[1]" ++ p) 2 195 8 (λ q. refl) refl refl
-      ∙ ap (λ (z : List ℕ). bootstrap ++ z) (peers-line xs (ascii " recent=[") p 3 204 8 (λ q. refl) refl refl)))
-      ∙ sym (four active passive bootstrap recent (line-text p 4 xs)))
+  limit-line : (k : ℕ) → line-text (ascii " refill=L" ++ p) k xs ≡ refill-field (limit-at xs) ++ line-text p k xs
+  unfolding line-text byte-text after digit choose ascii
+  limit-line k = sym (append-assoc (ascii " refill=") (drop (length (ascii " refill=")) (refill-field (limit-at xs))) (line-text p k xs)) ∙ ap (λ (z : List ℕ). z ++ line-text p k xs) (limit-whole (limit-at xs))
 
-  open-line : line-text (ascii " requests=[2] next_request=0 joins=[2] next_join=0" ++ p) 4 xs ≡ open-text xs ++ line-text p 8 xs
-  unfolding line-text byte-text after digit choose ascii places rooms open-text
-  open-line =
-      let requests = list-field (ascii " requests=[") numbered-text (numbers-at 32 (part 130 65 xs)) in
-      let next-request = number-field (ascii " next_request=") (getD xs 18 0) in
-      let joins = list-field (ascii " joins=[") numbered-text (numbers-at 8 (part 213 17 xs)) in
-      let next-join = number-field (ascii " next_join=") (getD xs 19 0) in
-      numbers-line xs (ascii " requests=[") (ascii " next_request=0 joins=[2] next_join=0" ++ p) 4 130 32 (λ q. refl) refl refl
-      ∙ (ap (λ (z : List ℕ). requests ++ z)
-      (number-line xs (ascii " next_request=") (ascii " joins=[2] next_join=0" ++ p) 5 18 1 (λ q. refl) refl refl
-      ∙ ap (λ (z : List ℕ). next-request ++ z)
-      (numbers-line xs (ascii " joins=[") (ascii " next_join=0" ++ p) 6 213 8 (λ q. refl) refl refl
-      ∙ ap (λ (z : List ℕ). joins ++ z) (number-line xs (ascii " next_join=") p 7 19 1 (λ q. refl) refl refl)))
-      ∙ sym (four requests next-request joins next-join (line-text p 8 xs)))
+-- from each field on, by tools/layout.py
+module _ (xs : List ℕ) where
+  abbrev end-text : List ℕ
+  end-text = ascii "\n"
 
-  kept-line : line-text (ascii " data=[4] alive=[1] refused=[1] refill=L" ++ p) 8 xs ≡ kept-text xs ++ line-text p 11 xs
-  unfolding line-text byte-text after digit choose ascii places rooms kept-text
-  kept-line =
-      let held = list-field (ascii " data=[") held-text (data-map-at 80 (part 230 321 xs)) in
-      let alive = list-field (ascii " alive=[") decimal (items-at 32 (part 64 33 xs)) in
-      let refused = list-field (ascii " refused=[") decimal (items-at 32 (part 97 33 xs)) in
-      let refill = refill-field (limit-at xs) in
-      data-line xs (ascii " data=[") (ascii " alive=[1] refused=[1] refill=L" ++ p) 8 230 80 (λ q. refl) refl refl
-      ∙ (ap (λ (z : List ℕ). held ++ z)
-      (peers-line xs (ascii " alive=[") (ascii " refused=[1] refill=L" ++ p) 9 64 32 (λ q. refl) refl refl
-      ∙ ap (λ (z : List ℕ). alive ++ z)
-      (peers-line xs (ascii " refused=[") (ascii " refill=L" ++ p) 10 97 32 (λ q. refl) refl refl
-      ∙ ap (λ (z : List ℕ). refused ++ z) (sym (append-assoc (ascii " refill=") (drop (length (ascii " refill=")) (refill-field (limit-at xs))) (line-text p 11 xs)) ∙ ap (λ (z : List ℕ). z ++ line-text p 11 xs) (limit-whole (limit-at xs)))))
-      ∙ sym (four held alive refused refill (line-text p 11 xs)))
+  abbrev short-text : List ℕ
+  short-text = number-field (ascii " short=") (layout.passes-short xs) ++ end-text
 
-counts-line : (xs : List ℕ) → line-text (ascii " timers=0 interval=0 alone=0 short=0\n") 11 xs ≡ counts-text xs
-unfolding line-text byte-text after digit choose ascii places rooms counts-text
-counts-line xs =
-    let timers = number-field (ascii " timers=") (getD xs 12 0) in
-    let interval = number-field (ascii " interval=") (getD xs 13 0) in
-    let alone = number-field (ascii " alone=") (getD xs 14 0) in
-    number-line xs (ascii " timers=") (ascii " interval=0 alone=0 short=0\n") 11 12 1 (λ q. refl) refl refl
-    ∙ ap (λ (z : List ℕ). timers ++ z)
-    (number-line xs (ascii " interval=") (ascii " alone=0 short=0\n") 12 13 1 (λ q. refl) refl refl
-    ∙ ap (λ (z : List ℕ). interval ++ z)
-    (number-line xs (ascii " alone=") (ascii " short=0\n") 13 14 1 (λ q. refl) refl refl
-    ∙ ap (λ (z : List ℕ). alone ++ z) (number-line xs (ascii " short=") (ascii "\n") 14 15 1 (λ q. refl) refl refl)))
+  abbrev alone-text : List ℕ
+  alone-text = number-field (ascii " alone=") (layout.passes-alone xs) ++ short-text
+
+  abbrev interval-text : List ℕ
+  interval-text = number-field (ascii " interval=") (layout.next-shuffle-interval xs) ++ alone-text
+
+  abbrev timers-text : List ℕ
+  timers-text = number-field (ascii " timers=") (layout.timers-scheduled xs) ++ interval-text
+
+  abbrev refill-text : List ℕ
+  refill-text = refill-field (limit-at xs) ++ timers-text
+
+  abbrev refused-text : List ℕ
+  refused-text = list-field (ascii " refused=[") decimal (items-at layout.refused-places (layout.refused-part xs)) ++ refill-text
+
+  abbrev alive-text : List ℕ
+  alive-text = list-field (ascii " alive=[") decimal (items-at layout.alive-places (layout.alive-part xs)) ++ refused-text
+
+  abbrev data-text : List ℕ
+  data-text = list-field (ascii " data=[") held-text (data-map-at layout.peer-data-places (layout.peer-data-part xs)) ++ alive-text
+
+  abbrev next-join-text : List ℕ
+  next-join-text = number-field (ascii " next_join=") (layout.next-join xs) ++ data-text
+
+  abbrev joins-text : List ℕ
+  joins-text = list-field (ascii " joins=[") numbered-text (numbers-at layout.joins-places (layout.joins-part xs)) ++ next-join-text
+
+  abbrev next-request-text : List ℕ
+  next-request-text = number-field (ascii " next_request=") (layout.next-neighbor-request xs) ++ joins-text
+
+  abbrev requests-text : List ℕ
+  requests-text = list-field (ascii " requests=[") numbered-text (numbers-at layout.requests-places (layout.requests-part xs)) ++ next-request-text
+
+  abbrev recent-text : List ℕ
+  recent-text = list-field (ascii " recent=[") decimal (items-at layout.recent-places (layout.recent-part xs)) ++ requests-text
+
+  abbrev bootstrap-text : List ℕ
+  bootstrap-text = list-field (ascii " bootstrap=[") decimal (items-at layout.bootstrap-places (layout.bootstrap-part xs)) ++ recent-text
+
+  abbrev passive-text : List ℕ
+  passive-text = list-field (ascii " passive=[") decimal (items-at layout.passive-places (layout.passive-part xs)) ++ bootstrap-text
+
+  abbrev active-text : List ℕ
+  active-text = list-field (ascii " active=[") decimal (items-at layout.active-places (layout.active-part xs)) ++ passive-text
+
+  from-end : line-text (ascii "\n") 15 xs ≡ end-text
+  unfolding line-text byte-text after digit choose ascii
+  from-end = refl
+
+  from-short : line-text (ascii " short=0\n") 14 xs ≡ short-text
+  unfolding line-text byte-text after digit choose ascii places rooms
+  from-short = number-line xs (ascii " short=") (ascii "\n") 14 layout.passes-short-at 1 (λ q. refl) refl refl ∙ ap (λ (z : List ℕ). number-field (ascii " short=") (layout.passes-short xs) ++ z) from-end
+
+  from-alone : line-text (ascii " alone=0 short=0\n") 13 xs ≡ alone-text
+  unfolding line-text byte-text after digit choose ascii places rooms
+  from-alone = number-line xs (ascii " alone=") (ascii " short=0\n") 13 layout.passes-alone-at 1 (λ q. refl) refl refl ∙ ap (λ (z : List ℕ). number-field (ascii " alone=") (layout.passes-alone xs) ++ z) from-short
+
+  from-interval : line-text (ascii " interval=0 alone=0 short=0\n") 12 xs ≡ interval-text
+  unfolding line-text byte-text after digit choose ascii places rooms
+  from-interval = number-line xs (ascii " interval=") (ascii " alone=0 short=0\n") 12 layout.next-shuffle-interval-at 1 (λ q. refl) refl refl ∙ ap (λ (z : List ℕ). number-field (ascii " interval=") (layout.next-shuffle-interval xs) ++ z) from-alone
+
+  from-timers : line-text (ascii " timers=0 interval=0 alone=0 short=0\n") 11 xs ≡ timers-text
+  unfolding line-text byte-text after digit choose ascii places rooms
+  from-timers = number-line xs (ascii " timers=") (ascii " interval=0 alone=0 short=0\n") 11 layout.timers-scheduled-at 1 (λ q. refl) refl refl ∙ ap (λ (z : List ℕ). number-field (ascii " timers=") (layout.timers-scheduled xs) ++ z) from-interval
+
+  from-refill : line-text (ascii " refill=L timers=0 interval=0 alone=0 short=0\n") 11 xs ≡ refill-text
+  unfolding line-text byte-text after digit choose ascii places rooms
+  from-refill = limit-line xs (ascii " timers=0 interval=0 alone=0 short=0\n") 11 ∙ ap (λ (z : List ℕ). refill-field (limit-at xs) ++ z) from-timers
+
+  from-refused : line-text (ascii " refused=[1] refill=L timers=0 interval=0 alone=0 short=0\n") 10 xs ≡ refused-text
+  unfolding line-text byte-text after digit choose ascii places rooms
+  from-refused = peers-line xs (ascii " refused=[") (ascii " refill=L timers=0 interval=0 alone=0 short=0\n") 10 layout.refused-at layout.refused-places (λ q. refl) refl refl ∙ ap (λ (z : List ℕ). list-field (ascii " refused=[") decimal (items-at layout.refused-places (layout.refused-part xs)) ++ z) from-refill
+
+  from-alive : line-text (ascii " alive=[1] refused=[1] refill=L timers=0 interval=0 alone=0 short=0\n") 9 xs ≡ alive-text
+  unfolding line-text byte-text after digit choose ascii places rooms
+  from-alive = peers-line xs (ascii " alive=[") (ascii " refused=[1] refill=L timers=0 interval=0 alone=0 short=0\n") 9 layout.alive-at layout.alive-places (λ q. refl) refl refl ∙ ap (λ (z : List ℕ). list-field (ascii " alive=[") decimal (items-at layout.alive-places (layout.alive-part xs)) ++ z) from-refused
+
+  from-data : line-text (ascii " data=[4] alive=[1] refused=[1] refill=L timers=0 interval=0 alone=0 short=0\n") 8 xs ≡ data-text
+  unfolding line-text byte-text after digit choose ascii places rooms
+  from-data = data-line xs (ascii " data=[") (ascii " alive=[1] refused=[1] refill=L timers=0 interval=0 alone=0 short=0\n") 8 layout.peer-data-at layout.peer-data-places (λ q. refl) refl refl ∙ ap (λ (z : List ℕ). list-field (ascii " data=[") held-text (data-map-at layout.peer-data-places (layout.peer-data-part xs)) ++ z) from-alive
+
+  from-next-join : line-text (ascii " next_join=0 data=[4] alive=[1] refused=[1] refill=L timers=0 interval=0 alone=0 short=0\n") 7 xs ≡ next-join-text
+  unfolding line-text byte-text after digit choose ascii places rooms
+  from-next-join = number-line xs (ascii " next_join=") (ascii " data=[4] alive=[1] refused=[1] refill=L timers=0 interval=0 alone=0 short=0\n") 7 layout.next-join-at 1 (λ q. refl) refl refl ∙ ap (λ (z : List ℕ). number-field (ascii " next_join=") (layout.next-join xs) ++ z) from-data
+
+  from-joins : line-text (ascii " joins=[2] next_join=0 data=[4] alive=[1] refused=[1] refill=L timers=0 interval=0 alone=0 short=0\n") 6 xs ≡ joins-text
+  unfolding line-text byte-text after digit choose ascii places rooms
+  from-joins = numbers-line xs (ascii " joins=[") (ascii " next_join=0 data=[4] alive=[1] refused=[1] refill=L timers=0 interval=0 alone=0 short=0\n") 6 layout.joins-at layout.joins-places (λ q. refl) refl refl ∙ ap (λ (z : List ℕ). list-field (ascii " joins=[") numbered-text (numbers-at layout.joins-places (layout.joins-part xs)) ++ z) from-next-join
+
+  from-next-request : line-text (ascii " next_request=0 joins=[2] next_join=0 data=[4] alive=[1] refused=[1] refill=L timers=0 interval=0 alone=0 short=0\n") 5 xs ≡ next-request-text
+  unfolding line-text byte-text after digit choose ascii places rooms
+  from-next-request = number-line xs (ascii " next_request=") (ascii " joins=[2] next_join=0 data=[4] alive=[1] refused=[1] refill=L timers=0 interval=0 alone=0 short=0\n") 5 layout.next-neighbor-request-at 1 (λ q. refl) refl refl ∙ ap (λ (z : List ℕ). number-field (ascii " next_request=") (layout.next-neighbor-request xs) ++ z) from-joins
+
+  from-requests : line-text (ascii " requests=[2] next_request=0 joins=[2] next_join=0 data=[4] alive=[1] refused=[1] refill=L timers=0 interval=0 alone=0 short=0\n") 4 xs ≡ requests-text
+  unfolding line-text byte-text after digit choose ascii places rooms
+  from-requests = numbers-line xs (ascii " requests=[") (ascii " next_request=0 joins=[2] next_join=0 data=[4] alive=[1] refused=[1] refill=L timers=0 interval=0 alone=0 short=0\n") 4 layout.requests-at layout.requests-places (λ q. refl) refl refl ∙ ap (λ (z : List ℕ). list-field (ascii " requests=[") numbered-text (numbers-at layout.requests-places (layout.requests-part xs)) ++ z) from-next-request
+
+  from-recent : line-text (ascii " recent=[1] requests=[2] next_request=0 joins=[2] next_join=0 data=[4] alive=[1] refused=[1] refill=L timers=0 interval=0 alone=0 short=0\n") 3 xs ≡ recent-text
+  unfolding line-text byte-text after digit choose ascii places rooms
+  from-recent = peers-line xs (ascii " recent=[") (ascii " requests=[2] next_request=0 joins=[2] next_join=0 data=[4] alive=[1] refused=[1] refill=L timers=0 interval=0 alone=0 short=0\n") 3 layout.recent-at layout.recent-places (λ q. refl) refl refl ∙ ap (λ (z : List ℕ). list-field (ascii " recent=[") decimal (items-at layout.recent-places (layout.recent-part xs)) ++ z) from-requests
+
+  from-bootstrap : line-text (ascii " bootstrap=[1] recent=[1] requests=[2] next_request=0 joins=[2] next_join=0 data=[4] alive=[1] refused=[1] refill=L timers=0 interval=0 alone=0 short=0\n") 2 xs ≡ bootstrap-text
+  unfolding line-text byte-text after digit choose ascii places rooms
+  from-bootstrap = peers-line xs (ascii " bootstrap=[") (ascii " recent=[1] requests=[2] next_request=0 joins=[2] next_join=0 data=[4] alive=[1] refused=[1] refill=L timers=0 interval=0 alone=0 short=0\n") 2 layout.bootstrap-at layout.bootstrap-places (λ q. refl) refl refl ∙ ap (λ (z : List ℕ). list-field (ascii " bootstrap=[") decimal (items-at layout.bootstrap-places (layout.bootstrap-part xs)) ++ z) from-recent
+
+  from-passive : line-text (ascii " passive=[1] bootstrap=[1] recent=[1] requests=[2] next_request=0 joins=[2] next_join=0 data=[4] alive=[1] refused=[1] refill=L timers=0 interval=0 alone=0 short=0\n") 1 xs ≡ passive-text
+  unfolding line-text byte-text after digit choose ascii places rooms
+  from-passive = peers-line xs (ascii " passive=[") (ascii " bootstrap=[1] recent=[1] requests=[2] next_request=0 joins=[2] next_join=0 data=[4] alive=[1] refused=[1] refill=L timers=0 interval=0 alone=0 short=0\n") 1 layout.passive-at layout.passive-places (λ q. refl) refl refl ∙ ap (λ (z : List ℕ). list-field (ascii " passive=[") decimal (items-at layout.passive-places (layout.passive-part xs)) ++ z) from-bootstrap
+
+  from-active : line-text (ascii " active=[1] passive=[1] bootstrap=[1] recent=[1] requests=[2] next_request=0 joins=[2] next_join=0 data=[4] alive=[1] refused=[1] refill=L timers=0 interval=0 alone=0 short=0\n") 0 xs ≡ active-text
+  unfolding line-text byte-text after digit choose ascii places rooms
+  from-active = peers-line xs (ascii " active=[") (ascii " passive=[1] bootstrap=[1] recent=[1] requests=[2] next_request=0 joins=[2] next_join=0 data=[4] alive=[1] refused=[1] refill=L timers=0 interval=0 alone=0 short=0\n") 0 layout.active-at layout.active-places (λ q. refl) refl refl ∙ ap (λ (z : List ℕ). list-field (ascii " active=[") decimal (items-at layout.active-places (layout.active-part xs)) ++ z) from-passive
+
+  fields-line : line-text (ascii " active=[1] passive=[1] bootstrap=[1] recent=[1] requests=[2] next_request=0 joins=[2] next_join=0 data=[4] alive=[1] refused=[1] refill=L timers=0 interval=0 alone=0 short=0\n") 0 xs ≡ fields-text xs
+  unfolding fields-text
+  fields-line = from-active
+
+-- end
 
 pub line-is : (xs : List ℕ) → line-text line 0 xs ≡ state-line xs
 unfolding line ascii state-line
-line-is xs =
-    own-line xs _
-    ∙ ap (λ (z : List ℕ). own-field (data-in (own-at xs)) ++ z)
-    (views-line xs _
-    ∙ ap (λ (z : List ℕ). views-text xs ++ z) (open-line xs _ ∙ ap (λ (z : List ℕ). open-text xs ++ z) (kept-line xs _ ∙ ap (λ (z : List ℕ). kept-text xs ++ z) (counts-line xs))))
+line-is xs = own-line xs _ ∙ ap (λ (z : List ℕ). own-field (data-in (own-at xs)) ++ z) (fields-line xs)
 
 -- ---- the loop
 
@@ -214,7 +288,7 @@ columns-form c e =
 
 -- i bytes of the line are passed, and k fields
 pub record Lining (xs : List ℕ) (t : Text) (out : List ℕ) (r : Text) (o : List ℕ) (i k : ℕ) : Type 0 where
-  pub within : i ≤ 185
+  pub within : i ≤ line-size
   pub long : length xs ≡ words
   pub fits : line-fits (drop i line) k ≡ true
   pub text : Writing (line-text line 0 xs) t out r o (line-text (drop i line) k xs)
@@ -224,19 +298,19 @@ pub line-start : (xs : List ℕ) (t : Text) (out : List ℕ) → length xs ≡ w
 unfolding line line-fits row-fits after digit choose places rooms ascii
 line-start xs t out l = record { within = omega arith; long = l; fits = refl; text = writing-start (line-text line 0 xs) t out; len = refl }
 
-line-long : length line ≡ 185
+line-long : length line ≡ line-size
 unfolding line ascii
 line-long = refl
 
 module _ (xs : List ℕ) (t : Text) (out : List ℕ) (r : Text) (o : List ℕ) (i k : ℕ) (v : Lining xs t out r o i k) where
-  here : i < 185 → drop i line ≡ getD line i 0 ∷ drop (i + 1) line
+  here : i < line-size → drop i line ≡ getD line i 0 ∷ drop (i + 1) line
   here h = let e : suc i ≡ i + 1 = omega arith in drop-cons line i 0 (omega (arith, h, line-long)) ∙ ap (λ (j : ℕ). getD line i 0 ∷ drop j line) e
 
-  pub line-end : 185 ≤ i → Puts (state-line xs) t out r o
+  pub line-end : line-size ≤ i → Puts (state-line xs) t out r o
   unfolding line-text
   line-end h = subst (λ (z : List ℕ). Puts z t out r o) (line-is xs) (writing-end (v .text) (let q : length line ≤ i = omega (arith, h, line-long) in ap (λ (z : List ℕ). line-text z k xs) (drop-of-length-le line q)))
 
-  module _ (h : i < 185) where
+  module _ (h : i < line-size) where
     fits-here : line-fits (getD line i 0 ∷ drop (i + 1) line) k ≡ true
     fits-here = ap (λ (z : List ℕ). line-fits z k) (sym (here h)) ∙ v .fits
 
@@ -287,19 +361,19 @@ module _ (xs : List ℕ) (t : Text) (out : List ℕ) (r : Text) (o : List ℕ) (
       unfolding line-fits
       fits-row = sym (choose-yes _ _ _ (digit-yes (getD line i 0) l m)) ∙ and-left (choose (digit (getD line i 0)) (row-fits (getD line i 0 - 48) k) true) _ fits-here
 
-      row-there : (ltb k 15 && (ltb (getD places k 0 + (getD line i 0 - 48) * getD rooms k 0) words && (leb (getD places k 0 + getD rooms k 0) words && leb 1 (getD rooms k 0)))) ≡ true
+      row-there : (ltb k fields && (ltb (getD places k 0 + (getD line i 0 - 48) * getD rooms k 0) words && (leb (getD places k 0 + getD rooms k 0) words && leb 1 (getD rooms k 0)))) ≡ true
       unfolding row-fits
       row-there = and-right (eqb (getD line i 0 - 48) 4 || ltb (getD line i 0 - 48) 3) _ fits-row
 
-      pub field-there : k < 15
-      field-there = ltb-true k 15 (and-left (ltb k 15) _ row-there)
+      pub field-there : k < fields
+      field-there = ltb-true k fields (and-left (ltb k fields) _ row-there)
 
       pub field-in : InWords (getD line i 0 - 48) (getD places k 0) (getD rooms k 0) (length xs)
       unfolding row-fits
       field-in =
           let a = ltb (getD places k 0 + (getD line i 0 - 48) * getD rooms k 0) words in
           let b = leb (getD places k 0 + getD rooms k 0) words in
-          let q = and-right (ltb k 15) (a && (b && leb 1 (getD rooms k 0))) row-there in
+          let q = and-right (ltb k fields) (a && (b && leb 1 (getD rooms k 0))) row-there in
           let w = and-right a (b && leb 1 (getD rooms k 0)) q in
           subst (λ (n : ℕ). InWords (getD line i 0 - 48) (getD places k 0) (getD rooms k 0) n) (sym (v .long)) (record {
             inside = ltb-true _ _ (and-left a (b && leb 1 (getD rooms k 0)) q);

@@ -11,7 +11,6 @@ use Rattle.base_columns.specs.Columns.{numbers-at, data-map-at}
 use Rattle.hyparview_state.specs.declared.RefillLimit.{RefillLimit}
 use Rattle.hyparview_state.specs.declared.RefillLimit.the-variants.{Automatic, Requests, Recovery}
 use Rattle.hyparview_state.specs.Layout as layout
-use Rattle.hyparview_state.specs.Layout.{few-places, all-places, data-places}
 use Rattle.hyparview_state.specs.Unpack.{own-at, limit-at}
 use Rattle.run_text.specs.Numbers.{decimal}
 use Rattle.run_text.specs.Lines.{end-line}
@@ -29,41 +28,32 @@ refill-field Automatic = ascii " refill=" ++ ascii "A"
 refill-field (Requests n) = ascii " refill=" ++ (ascii "R" ++ decimal n)
 refill-field Recovery = ascii " refill=" ++ ascii "V"
 
--- the views and the peers beside them, of the words xs; of each list no more than it has places
-unfoldable pub views-text : List ℕ → List ℕ
-views-text xs =
-    list-field (ascii " active=[") decimal (items-at few-places (layout.active-part xs))
-    ++ (list-field (ascii " passive=[") decimal (items-at all-places (layout.passive-part xs))
-    ++ (list-field (ascii " bootstrap=[") decimal (items-at few-places (layout.bootstrap-part xs))
-    ++ list-field (ascii " recent=[") decimal (items-at few-places (layout.recent-part xs))))
-
--- the open requests and joins
-unfoldable pub open-text : List ℕ → List ℕ
-open-text xs =
-    list-field (ascii " requests=[") numbered-text (numbers-at all-places (layout.requests-part xs))
+-- the fields of the words xs; of each list no more than it has places, by tools/layout.py
+unfoldable pub fields-text : List ℕ → List ℕ
+fields-text xs =
+    list-field (ascii " active=[") decimal (items-at layout.active-places (layout.active-part xs))
+    ++ (list-field (ascii " passive=[") decimal (items-at layout.passive-places (layout.passive-part xs))
+    ++ (list-field (ascii " bootstrap=[") decimal (items-at layout.bootstrap-places (layout.bootstrap-part xs))
+    ++ (list-field (ascii " recent=[") decimal (items-at layout.recent-places (layout.recent-part xs))
+    ++ (list-field (ascii " requests=[") numbered-text (numbers-at layout.requests-places (layout.requests-part xs))
     ++ (number-field (ascii " next_request=") (layout.next-neighbor-request xs)
-    ++ (list-field (ascii " joins=[") numbered-text (numbers-at few-places (layout.joins-part xs))
-    ++ number-field (ascii " next_join=") (layout.next-join xs)))
-
--- what is kept of other peers, and the limit on refills
-unfoldable pub kept-text : List ℕ → List ℕ
-kept-text xs =
-    list-field (ascii " data=[") held-text (data-map-at data-places (layout.peer-data-part xs))
-    ++ (list-field (ascii " alive=[") decimal (items-at all-places (layout.alive-part xs))
-    ++ (list-field (ascii " refused=[") decimal (items-at all-places (layout.refused-part xs))
-    ++ refill-field (limit-at xs)))
-
--- the timers, the interval and the pass counts, which end the line
-unfoldable pub counts-text : List ℕ → List ℕ
-counts-text xs =
-    number-field (ascii " timers=") (layout.timers-scheduled xs)
+    ++ (list-field (ascii " joins=[") numbered-text (numbers-at layout.joins-places (layout.joins-part xs))
+    ++ (number-field (ascii " next_join=") (layout.next-join xs)
+    ++ (list-field (ascii " data=[") held-text (data-map-at layout.peer-data-places (layout.peer-data-part xs))
+    ++ (list-field (ascii " alive=[") decimal (items-at layout.alive-places (layout.alive-part xs))
+    ++ (list-field (ascii " refused=[") decimal (items-at layout.refused-places (layout.refused-part xs))
+    ++ (refill-field (limit-at xs)
+    ++ (number-field (ascii " timers=") (layout.timers-scheduled xs)
     ++ (number-field (ascii " interval=") (layout.next-shuffle-interval xs)
     ++ (number-field (ascii " alone=") (layout.passes-alone xs)
-    ++ (number-field (ascii " short=") (layout.passes-short xs) ++ ascii "\n")))
+    ++ (number-field (ascii " short=") (layout.passes-short xs)
+    ++ ascii "\n")))))))))))))))
+
+-- end
 
 -- the line of a state, of its words
 unfoldable pub state-line : List ℕ → List ℕ
-state-line xs = own-field (data-in (own-at xs)) ++ (views-text xs ++ (open-text xs ++ (kept-text xs ++ counts-text xs)))
+state-line xs = own-field (data-in (own-at xs)) ++ fields-text xs
 
 -- an event: its output, its code, the draws used, and the words of the state
 unfoldable pub trace-event : List ℕ → ℕ → ℕ → List ℕ → List ℕ

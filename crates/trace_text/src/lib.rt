@@ -64,6 +64,7 @@ fn put_record_lines(out: &mut [u8], t: Text, records: &[u8]) -> Text
 
 // The line as it is printed, but for what stands in place of some bytes: `O` the station's own data, `L` the limit on refills, a digit the next of the fields below. The digit is how many
 // columns the field has: 0 a number, 1 a list of peers, 2 peers with their numbers, 4 peers with their data.
+// The line and its fields, by tools/layout.py
 const STATE_LINE: [u8; 185] =
     *b"state me=O active=[1] passive=[1] bootstrap=[1] recent=[1] requests=[2] next_request=0 joins=[2] next_join=0 data=[4] alive=[1] refused=[1] refill=L timers=0 interval=0 alone=0 short=0\n";
 
@@ -73,12 +74,12 @@ const FIELD_PLACES: [usize; 15] = [
     Layout::PASSIVE,
     Layout::BOOTSTRAP,
     Layout::RECENT,
-    Layout::ASKED,
+    Layout::REQUESTS,
     Layout::NEXT_NEIGHBOR_REQUEST,
     Layout::JOINS,
     Layout::NEXT_JOIN,
-    Layout::HELD,
-    Layout::MARKS,
+    Layout::PEER_DATA,
+    Layout::ALIVE,
     Layout::REFUSED,
     Layout::TIMERS_SCHEDULED,
     Layout::NEXT_SHUFFLE_INTERVAL,
@@ -88,22 +89,23 @@ const FIELD_PLACES: [usize; 15] = [
 
 // How many items each has room for.
 const FIELD_ROOMS: [usize; 15] = [
-    Layout::FEW,
-    Layout::ALL,
-    Layout::FEW,
-    Layout::FEW,
-    Layout::ALL,
+    Layout::ACTIVE_PLACES,
+    Layout::PASSIVE_PLACES,
+    Layout::BOOTSTRAP_PLACES,
+    Layout::RECENT_PLACES,
+    Layout::REQUESTS_PLACES,
     1,
-    Layout::FEW,
+    Layout::JOINS_PLACES,
     1,
-    Layout::DATA_CAP,
-    Layout::ALL,
-    Layout::ALL,
+    Layout::PEER_DATA_PLACES,
+    Layout::ALIVE_PLACES,
+    Layout::REFUSED_PLACES,
     1,
     1,
     1,
     1,
 ];
+// end
 
 // The items of a field, as many as its count says and there is room for. The count stands behind the columns; a number is one item and has none.
 fn put_items(out: &mut [u8], t: Text, st: &[u64], columns: usize, at: usize, room: usize) -> Text

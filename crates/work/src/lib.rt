@@ -93,7 +93,7 @@ pub fn shuffle_by_draws(w: Work, draws: &[u32], v: &mut [u64]) -> Work
     ensures { λ r. ⌜ DrawsAny (draw-shuffle (items-at working-places (now (v .entry)))) w r (now (draws .entry)) ⌝ }
     ensures { λ _. ⌜ HoldsSet working-places (now (v .exit)) (shuffle (drop (w .drawn) (now (draws .entry))) (items-at working-places (now (v .entry)))) ⌝ }
 {
-    let next = base_util::shuffle(v, base_util::PLACES, draws, w.drawn);
+    let next = base_util::shuffle(v, base_util::WORKING_PLACES, draws, w.drawn);
     reach(w, draws, next)
 }
 

@@ -1,6 +1,6 @@
 use Rattle.base_util.specs.Section.{part}
 use Rattle.hyparview_rules.proofs.Shape.{ok-active, ok-passive, ok-requests, ok-peer-data}
-use Rattle.hyparview_rules.proofs.Held.{few-active, few-passive, few-marks, views-are}
+use Rattle.hyparview_rules.proofs.Held.{few-active, few-passive, few-alive, views-are}
 use borrow.Author.Needs.{needs}
 use Rattle.hyparview_rules.proofs.views_rule.Statement.{statement}
 use Rattle.hyparview_rules.proofs.views_rule.Tie as tie
@@ -27,11 +27,11 @@ shared-slice-read-passive c = search needs
 add-passive : tie.Need-add-passive
 add-passive c = let few = few-passive _ (c .before .before .before .before .pre .1) in search needs
 
-shared-slice-read-marks : tie.Need-shared-slice-read-marks
-shared-slice-read-marks c = search needs
+shared-slice-read-alive : tie.Need-shared-slice-read-alive
+shared-slice-read-alive c = search needs
 
-add-marks : tie.Need-add-marks
-add-marks c = let few = few-marks _ (c .before .before .before .before .before .pre .1) in search needs
+add-alive : tie.Need-add-alive
+add-alive c = let few = few-alive _ (c .before .before .before .before .before .pre .1) in search needs
 
 sub-disjoint : tie.Need-sub-disjoint
 sub-disjoint c = search needs
@@ -87,7 +87,7 @@ part-subset-start c = search needs
 part-subset-end : tie.Need-part-subset-end
 part-subset-end c =
     let packed = disjoint-to-start (c .before .before .before .before) .pre .1 in
-    let few = few-marks _ packed in
+    let few = few-alive _ packed in
     let others = few-passive _ packed in
     search needs
 
@@ -161,8 +161,8 @@ views-rule-spec =
     add-active
     shared-slice-read-passive
     add-passive
-    shared-slice-read-marks
-    add-marks
+    shared-slice-read-alive
+    add-alive
     sub-disjoint
     part-disjoint-start
     part-disjoint-end

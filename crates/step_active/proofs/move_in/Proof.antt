@@ -3,7 +3,7 @@ use mathlib.Core.List.{[], _∷_, _++_}
 use borrow.Rule.Slice.PartMut.{putMid}
 use Rattle.base_lists.specs.Lists.{renew}
 use Rattle.base_util.specs.Section.{part, items-at, HoldsSet}
-use Rattle.hyparview_state.specs.Layout.{active-part, recent-part}
+use Rattle.hyparview_state.specs.Layout.{active-part, recent-part, active-at, active-places, active-size, recent-places}
 use Rattle.hyparview_state.proofs.Access.{of-packed, of-recent}
 use Rattle.step_active.proofs.Entering.{place-active, left-free, not-moved, pushed, remembered, moved-in}
 use borrow.Author.Needs.{needs}
@@ -24,14 +24,14 @@ abbrev push-to-start : tie.After-push → tie.Start
 push-to-start c = remove-passive-to-start (drop-mark-to-remove-passive (push-to-drop-mark c))
 
 -- What the two calls made of the sections.
-active-after : (c : tie.After-push) → HoldsSet 8 (c .push .last .0) (items-at 8 (active-part (push-to-drop-mark c .drop-mark .last .1 .0)) ++ (push-to-start c .args .p ∷ []))
+active-after : (c : tie.After-push) → HoldsSet 8 (c .push .last .0) (items-at active-places (active-part (push-to-drop-mark c .drop-mark .last .1 .0)) ++ (push-to-start c .args .p ∷ []))
 unfolding part
 active-after c = c .push .ensures
 
 abbrev renew-to-push : tie.After-renew → tie.After-push
 renew-to-push c = c .before .before .before .before
 
-recent-after : (c : tie.After-renew) → HoldsSet 8 (c .renew .last .0) (renew 8 (push-to-start (renew-to-push c) .args .p) (items-at 8 (recent-part (putMid 22 9 (push-to-drop-mark (renew-to-push c) .drop-mark .last .1 .0) (renew-to-push c .push .last .0)))))
+recent-after : (c : tie.After-renew) → HoldsSet 8 (c .renew .last .0) (renew 8 (push-to-start (renew-to-push c) .args .p) (items-at recent-places (recent-part (putMid active-at active-size (push-to-drop-mark (renew-to-push c) .drop-mark .last .1 .0) (renew-to-push c .push .last .0)))))
 unfolding part
 recent-after c = c .renew .ensures
 

@@ -10,7 +10,7 @@ use lib.Dec.{eqb, ltb}
 use borrow.Author.Tests.{ltb-true, ltb-false, eqb-true, eqb-false}
 use Rattle.base_lists.proofs.Choice.{split, clash, and-left, and-right}
 use Rattle.base_lists.proofs.Rest.{Rest, rest-next, rest-end}
-use Rattle.base_util.specs.Section.{part, items-at, HoldsSet}
+use Rattle.base_util.specs.Section.{part, working-words, items-at, HoldsSet}
 use Rattle.spec_hyparview.specs.Run.{Run, on}
 use Rattle.spec_hyparview.specs.Sending.{send-disconnect}
 use Rattle.spec_hyparview.specs.Events.{remove-neighbor, quit-all}
@@ -32,7 +32,7 @@ record Quitting (w : Work) (st₀ ds out₀ v : List ℕ) (n : ℕ) (st out : Li
   fine : Fine (work-of r st) ds out
   wide : length st ≡ words
   len : length out ≡ length out₀
-  rest : Rest Then 33 v n (quit-all (take n v) (run (work-of w st₀) ds out₀)) (run (work-of r st) ds out) i
+  rest : Rest Then working-words v n (quit-all (take n v) (run (work-of w st₀) ds out₀)) (run (work-of r st) ds out) i
 
 start : (w : Work) (st ds out v xs : List ℕ) (n : ℕ) → HoldsSet 32 v xs → n ≡ length (items-at 32 v) → Fine (work-of w st) ds out → length st ≡ words → Quitting w st ds out v n st out w 0
 start w st ds out v xs n h e f l = record {
@@ -93,8 +93,8 @@ copy-into-to-start c = c .before .before .before .before .before .before .before
 abbrev remove-to-loop : tie.After-remove Inv-loop μ-loop → tie.At-loop Inv-loop μ-loop
 remove-to-loop c = c .before .before .before .before
 
-abbrev clear-from-to-loop : tie.After-clear-from Inv-loop μ-loop → tie.At-loop Inv-loop μ-loop
-clear-from-to-loop c = c .before .before .before .before .before .before
+abbrev clear-all-to-loop : tie.After-clear-all Inv-loop μ-loop → tie.At-loop Inv-loop μ-loop
+clear-all-to-loop c = c .before .before .before .before .before .before
 
 sub-copy-into : tie.Need-sub-copy-into Inv-loop μ-loop
 sub-copy-into c = search needs
@@ -177,35 +177,23 @@ returns c =
     let at-count = at-loop .before in
     quit-passed _ _ _ _ _ _ _ _ (at-count .count .result) (stopped _ _ _ _ _ _ _ _ _ _ (at-loop .loop .inv) (c .if2 .taken)) (loop-to-copy-into at-loop .copy-into .ensures) (search (at-count .count .ensures)) (c .if2 .taken)
 
-sub-clear-from : tie.Need-sub-clear-from Inv-loop μ-loop
-sub-clear-from c = search needs
-
-part-clear-from-start : tie.Need-part-clear-from-start Inv-loop μ-loop
-part-clear-from-start c = search needs
-
-part-clear-from-end : tie.Need-part-clear-from-end Inv-loop μ-loop
-part-clear-from-end c = search needs
-
-clear-from-requires : tie.Need-clear-from-requires Inv-loop μ-loop
-clear-from-requires c κs = search needs
-
-clear-from-requires-2 : tie.Need-clear-from-requires-2 Inv-loop μ-loop
-clear-from-requires-2 c κs = search needs
-
-same-length-4 : tie.Need-same-length-4 Inv-loop μ-loop
-same-length-4 c = search needs
+clear-all-requires : tie.Need-clear-all-requires Inv-loop μ-loop
+clear-all-requires c κs = let inv = c .before .before .before .before .before .loop .inv in (inv .wide, inv .fine .ready .packed)
 
 returns-2 : tie.Need-returns-2 Inv-loop μ-loop
 returns-2 c =
-    let at-clear-from = c .before .before .before .before .before .before in
-    let at-loop = clear-from-to-loop at-clear-from in
+    let at-clear-all = c .before .before in
+    let at-loop = clear-all-to-loop at-clear-all in
     let at-count = at-loop .before in
-    let code = at-clear-from .before .before .if2 .left in
-    let done = end _ _ _ _ _ _ _ _ _ _ (at-loop .loop .inv) (gone _ _ _ code (at-clear-from .before .before .before .before .if1 .left)) in
-    quit-handled _ _ _ _ _ _ _ _ (at-count .count .result) done (loop-to-copy-into at-loop .copy-into .ensures) (search (at-count .count .ensures)) _ _ code (at-clear-from .clear-from .ensures) (c .before .before .clear-from2 .ensures)
+    let code = at-clear-all .before .before .if2 .left in
+    let done = end _ _ _ _ _ _ _ _ _ _ (at-loop .loop .inv) (gone _ _ _ code (at-clear-all .before .before .before .before .if1 .left)) in
+    quit-handled _ _ _ _ _ _ _ _ (at-count .count .result) done (loop-to-copy-into at-loop .copy-into .ensures) (search (at-count .count .ensures)) _ code (at-clear-all .clear-all .ensures)
 
 same-length-3 : tie.Need-same-length-3 Inv-loop μ-loop
-same-length-3 c = same _ _ (long (returns-2 c .fine .ready .packed)) (copy-into-to-start (loop-to-copy-into (clear-from-to-loop (c .before .before .before .before .before .before))) .pre .0)
+same-length-3 c = same _ _ (long (returns-2 c .fine .ready .packed)) (copy-into-to-start (loop-to-copy-into (clear-all-to-loop (c .before .before))) .pre .0)
+
+same-length-4 : tie.Need-same-length-4 Inv-loop μ-loop
+same-length-4 c = search needs
 
 pub handle-quit-spec : {M : Type 1} → statement M
 handle-quit-spec =
@@ -234,11 +222,7 @@ handle-quit-spec =
     same-length
     same-length-2
     returns
-    sub-clear-from
-    part-clear-from-start
-    part-clear-from-end
-    clear-from-requires
-    clear-from-requires-2
+    clear-all-requires
     same-length-3
     same-length-4
     returns-2)

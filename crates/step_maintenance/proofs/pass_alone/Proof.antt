@@ -5,7 +5,7 @@ use native.Mathlib.Omega.{arith}
 use lib.ListN.{length, getD, set, length-set}
 use Rattle.base_util.specs.Section.{part}
 use Rattle.spec_hyparview.specs.Timers.{rejoin-bootstrap, count-alone}
-use Rattle.hyparview_state.specs.Layout.{words}
+use Rattle.hyparview_state.specs.Layout.{words, passes-alone-at}
 use Rattle.hyparview_state.specs.Work.{work-of, Changes, Tells, Fine}
 use Rattle.hyparview_state.proofs.Access.{of-bootstrap, of-recent}
 use Rattle.step_sending.proofs.Told.{room-of, room-drawn}
@@ -53,7 +53,7 @@ count2-to-loop c = c .before .before
 
 -- The words with the pass counted.
 abbrev after : tie.Else1 Inv-loop μ-loop → List ℕ
-after c = set (else1-to-start c .args .st .now) 14 (getD (else1-to-start c .args .st .now) 14 0 + 1)
+after c = set (else1-to-start c .args .st .now) passes-alone-at (getD (else1-to-start c .args .st .now) passes-alone-at 0 + 1)
 
 long : (c : tie.Else1 Inv-loop μ-loop) → length (after c) ≡ words
 long c = simp length-set (else1-to-start c .pre .0)

@@ -6,6 +6,7 @@ use native.Mathlib.Omega.{arith}
 use lib.ListN.{length, take, getD}
 use Rattle.base_lists.proofs.Rest.{Rest, rest-next, rest-end}
 use Rattle.base_peer.specs.Held.{node-in}
+use Rattle.base_util.specs.Section.{working-places, working-words}
 use Rattle.record.specs.Format.{Rec}
 use Rattle.spec_hyparview.specs.Run.{Run, emit, emit-all}
 use Rattle.spec_hyparview.specs.Messages.{forward-join-to}
@@ -26,9 +27,9 @@ Then f g l = emit-all f l g
 record Telling (f : ℕ → Rec) (xs ds out₀ ps : List ℕ) (k : ℕ) (w : Work) (out : List ℕ) (r : Work) (i : ℕ) : Type 0 where
   fine : Fine (work-of r xs) ds out
   len : length out ≡ length out₀
-  rest : Rest (Then f) 33 ps k (emit-all f (take k ps) (run (work-of w xs) ds out₀)) (run (work-of r xs) ds out) i
+  rest : Rest (Then f) working-words ps k (emit-all f (take k ps) (run (work-of w xs) ds out₀)) (run (work-of r xs) ds out) i
 
-begin : (f : ℕ → Rec) (xs ds out ps : List ℕ) (k : ℕ) (w : Work) → Fine (work-of w xs) ds out → length ps ≡ 33 → k ≤ 32 → Telling f xs ds out ps k w out w 0
+begin : (f : ℕ → Rec) (xs ds out ps : List ℕ) (k : ℕ) (w : Work) → Fine (work-of w xs) ds out → length ps ≡ working-words → k ≤ working-places → Telling f xs ds out ps k w out w 0
 begin f xs ds out ps k w v l e = record { fine = v; len = refl; rest = record { low = omega arith; top = omega arith; long = l; same = refl } }
 
 module _ (f : ℕ → Rec) (xs ds out₀ ps : List ℕ) (k : ℕ) (w : Work) (out : List ℕ) (a : Work) (i : ℕ) (v : Telling f xs ds out₀ ps k w out a i) where

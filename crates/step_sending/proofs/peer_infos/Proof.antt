@@ -16,7 +16,7 @@ use Rattle.spec_hyparview.specs.Station.{Station}
 use Rattle.spec_hyparview.specs.Run.{node, peer-info, peer-infos}
 use Rattle.base_util.specs.Section.{part}
 use Rattle.base_columns.specs.Columns.{data-map-at}
-use Rattle.hyparview_state.specs.Layout.{peer-data-part}
+use Rattle.hyparview_state.specs.Layout.{peer-data-part, peer-data-places}
 use Rattle.hyparview_state.specs.Unpack.{unpack, station-of}
 use Rattle.hyparview_state.proofs.Access.{of-packed}
 use borrow.Author.Needs.{needs}
@@ -46,7 +46,7 @@ start s items t h f = record {
   };
 }
 
-next : (xs items : List ℕ) (t : Nodes) (i : ℕ) (d : PeerData) (r : Nodes) → Naming (unpack xs) items t i → i < length items → HoldsData d (lookup (getD items i 0) (data-map-at 80 (peer-data-part xs)))
+next : (xs items : List ℕ) (t : Nodes) (i : ℕ) (d : PeerData) (r : Nodes) → Naming (unpack xs) items t i → i < length items → HoldsData d (lookup (getD items i 0) (data-map-at peer-data-places (peer-data-part xs)))
     → HoldsNodes r (nodes-in t ++ (node-in (record { id = getD items i 0; «data» = d }) ∷ [])) → Naming (unpack xs) items r (i + 1)
 unfolding peer-infos peer-info node-in unpack station-of
 next xs items t i d r v h e k = record {

@@ -15,6 +15,7 @@ use Rattle.step_sending.proofs.Told.{asked, requests-counted, number-le
 use borrow.Author.Needs.{needs}
 use Rattle.step_sending.proofs.send_neighbor.Statement.{statement}
 use Rattle.step_sending.proofs.send_neighbor.Tie as tie
+use Rattle.hyparview_state.specs.Layout.{requests-at, requests-size, next-neighbor-request-at}
 
 -- The ways back, from a place to an earlier one.
 abbrev else1-to-start : tie.Else1 → tie.Start
@@ -45,7 +46,7 @@ insert-number-to-start c = require2-to-start (else2-to-require2 (insert-number-t
 abbrev after : tie.After-insert-number → List ℕ
 after c =
     let xs = insert-number-to-start c .args .st .now in
-    set (putMid 130 65 xs (c .insert-number .last .0)) 18 (getD xs 18 0 + 1)
+    set (putMid requests-at requests-size xs (c .insert-number .last .0)) next-neighbor-request-at (getD xs next-neighbor-request-at 0 + 1)
 
 request-noted : (c : tie.After-insert-number) → Changes (on (note-request (insert-number-to-start c .args .p))) (work-of (else2-to-require2 (insert-number-to-else2 c) .require2 .result) (insert-number-to-start c .args .st .now)) (work-of (else2-to-require2 (insert-number-to-else2 c) .require2 .result) (after c))
 unfolding note-request unpack station-of part

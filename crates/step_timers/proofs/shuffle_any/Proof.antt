@@ -3,7 +3,7 @@ use lib.ListN.{take}
 use Rattle.base_lists.specs.Lists.{without}
 use Rattle.base_util.specs.Section.{part, items-at, HoldsSet}
 use Rattle.spec_hyparview.specs.Run.{draw-shuffle}
-use Rattle.hyparview_state.specs.Layout.{active-part, passive-part, shuffle-active-view-count, shuffle-passive-view-count}
+use Rattle.hyparview_state.specs.Layout.{active-part, passive-part, shuffle-active-view-count, shuffle-passive-view-count, active-places, passive-places}
 use Rattle.hyparview_state.specs.Work.{work-of, DrawsAny, Fine}
 use Rattle.hyparview_state.proofs.Access.{of-packed, of-own, of-active, of-passive}
 use Rattle.step_sending.proofs.Sets.{shuffled-by, lent-count, lent-few}
@@ -64,13 +64,13 @@ own-data-to-start c = cap-to-start (cap2-to-cap (append-to-cap2 (count2-to-appen
 chosen : (c : tie.After-get-index) → Fine (work-of (c .before .choose .result .work) (get-index-to-start c .args .st .now)) (get-index-to-start c .args .draws .now) (get-index-to-start c .args .out .now)
 chosen c = fine-drawn _ _ _ _ _ (fine (get-index-to-start c)) (c .before .choose .ensures .0)
 
-active-drawn : (c : tie.After-shuffle-and-cap) → DrawsAny (draw-shuffle (without (cap-to-get-index c .get-index .result) (items-at 8 (active-part (cap-to-start c .args .st .now))))) (cap-to-get-index c .before .choose .result .work) (c .shuffle-and-cap .result) (cap-to-start c .args .draws .now)
+active-drawn : (c : tie.After-shuffle-and-cap) → DrawsAny (draw-shuffle (without (cap-to-get-index c .get-index .result) (items-at active-places (active-part (cap-to-start c .args .st .now))))) (cap-to-get-index c .before .choose .result .work) (c .shuffle-and-cap .result) (cap-to-start c .args .draws .now)
 unfolding part
 active-drawn c =
     let at-without = cap-to-without c in
     peers-drawn _ _ _ _ _ _ _ (without-to-copy-into at-without .copy-into .ensures) (at-without .without .ensures) (c .shuffle-and-cap .ensures .0)
 
-active-named : (c : tie.After-shuffle-and-cap) → HoldsSet 32 (c .shuffle-and-cap .last .1 .1 .1 .0) (take (shuffle-active-view-count (cap-to-start c .args .st .now)) (shuffled-by (cap-to-get-index c .before .choose .result .work) (cap-to-start c .args .draws .now) (without (cap-to-get-index c .get-index .result) (items-at 8 (active-part (cap-to-start c .args .st .now))))))
+active-named : (c : tie.After-shuffle-and-cap) → HoldsSet 32 (c .shuffle-and-cap .last .1 .1 .1 .0) (take (shuffle-active-view-count (cap-to-start c .args .st .now)) (shuffled-by (cap-to-get-index c .before .choose .result .work) (cap-to-start c .args .draws .now) (without (cap-to-get-index c .get-index .result) (items-at active-places (active-part (cap-to-start c .args .st .now))))))
 unfolding part
 active-named c =
     let at-without = cap-to-without c in
@@ -79,13 +79,13 @@ active-named c =
 asked : (c : tie.After-shuffle-and-cap) → Fine (work-of (c .shuffle-and-cap .result) (cap-to-start c .args .st .now)) (cap-to-start c .args .draws .now) (cap-to-start c .args .out .now)
 asked c = fine-drawn _ _ _ _ _ (chosen (cap-to-get-index c)) (active-drawn c)
 
-passive-drawn : (c : tie.After-shuffle-and-cap2) → DrawsAny (draw-shuffle (without (cap-to-get-index (cap2-to-cap c) .get-index .result) (items-at 32 (passive-part (cap-to-start (cap2-to-cap c) .args .st .now))))) (cap2-to-cap c .shuffle-and-cap .result) (c .shuffle-and-cap2 .result) (cap-to-start (cap2-to-cap c) .args .draws .now)
+passive-drawn : (c : tie.After-shuffle-and-cap2) → DrawsAny (draw-shuffle (without (cap-to-get-index (cap2-to-cap c) .get-index .result) (items-at passive-places (passive-part (cap-to-start (cap2-to-cap c) .args .st .now))))) (cap2-to-cap c .shuffle-and-cap .result) (c .shuffle-and-cap2 .result) (cap-to-start (cap2-to-cap c) .args .draws .now)
 unfolding part
 passive-drawn c =
     let at-without2 = cap2-to-without2 c in
     peers-drawn _ _ _ _ _ _ _ (without2-to-copy-into2 at-without2 .copy-into2 .ensures) (at-without2 .without2 .ensures) (c .shuffle-and-cap2 .ensures .0)
 
-passive-named : (c : tie.After-shuffle-and-cap2) → HoldsSet 32 (c .shuffle-and-cap2 .last .1 .1 .1 .0) (take (shuffle-passive-view-count (cap-to-start (cap2-to-cap c) .args .st .now)) (shuffled-by (cap2-to-cap c .shuffle-and-cap .result) (cap-to-start (cap2-to-cap c) .args .draws .now) (without (cap-to-get-index (cap2-to-cap c) .get-index .result) (items-at 32 (passive-part (cap-to-start (cap2-to-cap c) .args .st .now))))))
+passive-named : (c : tie.After-shuffle-and-cap2) → HoldsSet 32 (c .shuffle-and-cap2 .last .1 .1 .1 .0) (take (shuffle-passive-view-count (cap-to-start (cap2-to-cap c) .args .st .now)) (shuffled-by (cap2-to-cap c .shuffle-and-cap .result) (cap-to-start (cap2-to-cap c) .args .draws .now) (without (cap-to-get-index (cap2-to-cap c) .get-index .result) (items-at passive-places (passive-part (cap-to-start (cap2-to-cap c) .args .st .now))))))
 unfolding part
 passive-named c =
     let at-without2 = cap2-to-without2 c in

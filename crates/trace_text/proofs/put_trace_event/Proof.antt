@@ -3,7 +3,7 @@ use borrow.Author.Needs.{needs}
 use Prim.Native.Nat.{_-_, _<_}
 use mathlib.Core.Logic.{⊎-elim}
 use Rattle.trace_text.specs.Items.{ascii}
-use Rattle.trace_text.proofs.Line.{line, places, rooms, Lining, line-start, own-next, limit-next, under-next, over-next, field-there, field-in, field-next, line-end}
+use Rattle.trace_text.proofs.Line.{line, places, rooms, Lining, line-start, own-next, limit-next, under-next, over-next, field-there, field-in, field-next, line-end, fields, line-size}
 use Rattle.trace_text.proofs.Laws.{event-put}
 use Rattle.trace_text.proofs.put_trace_event.Statement.{statement}
 use Rattle.trace_text.proofs.put_trace_event.Tie as tie
@@ -12,14 +12,14 @@ abbrev Inv-loop : tie.InvT-loop
 Inv-loop out₀ records code draws st r₀ words i₀ field₀ out r i field = Lining words r₀ out₀ r out i field
 
 abbrev μ-loop : tie.MeasureT-loop
-μ-loop out₀ records code draws st r₀ words i₀ field₀ out r i field = 185 - i
+μ-loop out₀ records code draws st r₀ words i₀ field₀ out r i field = line-size - i
 
 -- The way back, from a place to an earlier one.
 abbrev then2-to-loop : tie.Then2 Inv-loop μ-loop → tie.At-loop Inv-loop μ-loop
 then2-to-loop c = c .before .before .before .before
 
 -- There is a field where its byte is met.
-there : (c : tie.Then2 Inv-loop μ-loop) → then2-to-loop c .loop .field < 15
+there : (c : tie.Then2 Inv-loop μ-loop) → then2-to-loop c .loop .field < fields
 unfolding line ascii
 there at-field = field-there _ _ _ _ _ _ _ (then2-to-loop at-field .loop .inv) (at-field .before .before .before .loop-test .taken) (at-field .before .if1 .left) (at-field .if2 .taken)
 
