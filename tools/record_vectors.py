@@ -200,4 +200,4 @@ def main():
     tool.made(files(), sys.argv[1])
 
 
-main()
+tool.main(main)
