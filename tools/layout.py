@@ -1,9 +1,9 @@
 #!/usr/bin/env python3
-"""crates/state/specs/Layout.antt, crates/state/proofs/Fields.antt and the places of the words in include/hyparview.h, from the table of the layout.
+"""crates/hyparview_state/specs/Layout.antt, crates/hyparview_state/proofs/Fields.antt and the places of the words in include/hyparview.h, from the table of the layout.
 
 usage: tools/layout.py make | check
 
-A number or a section that is added or moved is one line here; `Layout` in crates/state/src/lib.rt is held to the same places.
+A number or a section that is added or moved is one line here; `Layout` in crates/hyparview_state/src/lib.rt is held to the same places.
 """
 import re
 import sys
@@ -85,8 +85,8 @@ LAYOUT_HEAD = """-- Where each number and each section of the state's words stan
 use Prim.Native.Nat.{ℕ, _+_, _*_}
 use mathlib.Core.List.{List}
 use lib.ListN.{getD}
-use Rattle.util.specs.Section.{part, working-places}
-use Rattle.columns.specs.Columns.{active-places}
+use Rattle.base_util.specs.Section.{part, working-places}
+use Rattle.base_columns.specs.Columns.{active-places}
 """
 
 FIELDS_HEAD = """-- The words with one number or one section stored anew stand for the station with that field changed: one law for each. Written by tools/layout.py.
@@ -99,20 +99,20 @@ use native.Mathlib.Omega.{arith}
 use lib.Dec.{eqb}
 use lib.ListN.{length, set}
 use borrow.Rule.Slice.PartMut.{putMid}
-use Rattle.util.specs.Section.{HoldsSet}
-use Rattle.util.proofs.Parts.{part-put, part-before, part-after, put-long}
-use Rattle.columns.specs.Columns.{HoldsNumbers, word-bytes, HoldsDataWords}
-use Rattle.peer.specs.Data.{Data}
-use Rattle.peer.specs.Held.{HoldsData}
-use Rattle.timing.specs.Timing.{longest-time}
-use Rattle.protocol.specs.Station.{Station, top-passes}
-use Rattle.protocol.specs.Setters as setters
-use Rattle.state.specs.declared.RefillLimit.{RefillLimit}
-use Rattle.state.specs.Layout as layout
-use Rattle.state.specs.Layout.{words, Sections}
-use Rattle.state.specs.Unpack.{unpack, station-of, own-at, limit-at, settings-at, limit-formed, refill-in, opened, long, Becomes}
-use Rattle.state.proofs.Memory.{bit-fits, bool-back, two-limit}
-use Rattle.state.proofs.Cuts.{Cut, cut-self, cut-set, front-kept, becomes}
+use Rattle.base_util.specs.Section.{HoldsSet}
+use Rattle.base_util.proofs.Parts.{part-put, part-before, part-after, put-long}
+use Rattle.base_columns.specs.Columns.{HoldsNumbers, word-bytes, HoldsDataWords}
+use Rattle.base_peer.specs.Data.{Data}
+use Rattle.base_peer.specs.Held.{HoldsData}
+use Rattle.base_timing.specs.Timing.{longest-time}
+use Rattle.spec_hyparview.specs.Station.{Station, top-passes}
+use Rattle.spec_hyparview.specs.Setters as setters
+use Rattle.hyparview_state.specs.declared.RefillLimit.{RefillLimit}
+use Rattle.hyparview_state.specs.Layout as layout
+use Rattle.hyparview_state.specs.Layout.{words, Sections}
+use Rattle.hyparview_state.specs.Unpack.{unpack, station-of, own-at, limit-at, settings-at, limit-formed, refill-in, opened, long, Becomes}
+use Rattle.hyparview_state.proofs.Memory.{bit-fits, bool-back, two-limit}
+use Rattle.hyparview_state.proofs.Cuts.{Cut, cut-self, cut-set, front-kept, becomes}
 """
 
 
@@ -267,24 +267,24 @@ def header(text):
 def hold_code(text):
     """`Layout` in the code has the same names, places and length."""
     shared, found = {}, {}
-    for crate, names in (("util", shared), ("columns", shared), ("state", found)):
-        code = text if crate == "state" else tool.read(tool.ROOT / f"crates/{crate}/src/lib.rt")
+    for crate, names in (("base_util", shared), ("base_columns", shared), ("hyparview_state", found)):
+        code = text if crate == "hyparview_state" else tool.read(tool.ROOT / f"crates/{crate}/src/lib.rt")
         for name, value in re.findall(r"pub const (\w+): usize = ([^;]+);", code):
             names[name] = eval(re.sub(r"\w+::", "", value), shared, found)
     due = {name: at for name, at in constants() if not name.endswith("_PLACES")} | {"LENGTH": length(), "SET": max(size for _, kind, _, _, size in places() if kind == "set")}
     wrong = [name for name, at in due.items() if found.get(name) != at]
     wrong += [name for name in found if name not in due and name not in ("FEW", "ALL", "DATA_CAP")]
     if wrong:
-        tool.fail(f"crates/state/src/lib.rt: Layout differs from the table: {' '.join(wrong)}")
+        tool.fail(f"crates/hyparview_state/src/lib.rt: Layout differs from the table: {' '.join(wrong)}")
 
 
 def main():
     if sys.argv[1:] not in (["make"], ["check"]):
         tool.usage(__doc__)
-    hold_code(tool.read(tool.ROOT / "crates/state/src/lib.rt"))
+    hold_code(tool.read(tool.ROOT / "crates/hyparview_state/src/lib.rt"))
     made = {
-        "crates/state/specs/Layout.antt": layout(),
-        "crates/state/proofs/Fields.antt": fields(),
+        "crates/hyparview_state/specs/Layout.antt": layout(),
+        "crates/hyparview_state/proofs/Fields.antt": fields(),
         "include/hyparview.h": header(tool.read(tool.ROOT / "include/hyparview.h")),
     }
     tool.made({name: text.encode() for name, text in made.items()}, sys.argv[1])

@@ -1,10 +1,10 @@
 #!/usr/bin/env python3
 """When the k-th shuffle is due (document 02, S-11), calculated in exact integers from document 01's delay rule alone.
 
-usage: tools/shuffle_times.py make      writes crates/shuffles/stdin and stdout: questions, and both ends of each; and the
+usage: tools/shuffle_times.py make      writes crates/run_shuffles/stdin and stdout: questions, and both ends of each; and the
                                         README's picture of the first five, docs/shuffles.svg
        tools/shuffle_times.py check     fails where they are not what make would write
-       tools/shuffle_times.py oracle    holds target/bin/shuffles against the Rust, run as a station (oracle/README.md)
+       tools/shuffle_times.py oracle    holds target/bin/run_shuffles against the Rust, run as a station (oracle/README.md)
 """
 import itertools
 import random
@@ -15,7 +15,7 @@ import records
 import timeline
 import tool
 
-PROGRAM = tool.ROOT / "target" / "bin" / "shuffles"
+PROGRAM = tool.ROOT / "target" / "bin" / "run_shuffles"
 
 # The settings in their order, with their defaults and ranges (document 01, "Settings and station rules").
 DEFAULTS = (5, 30, 6, 3, 6, 3, 4, 60000, 3000)
@@ -86,8 +86,8 @@ def files():
     shown = [ends(*SHOWN_START, DEFAULTS, k) for k in range(1, SHOWN + 1)]
     return {
         "docs/shuffles.svg": timeline.drawn(SHOWN_START, shown).encode("ascii"),
-        "crates/shuffles/stdin": b"".join(map(packed, asked)),
-        "crates/shuffles/stdout": "".join(map(line, asked)).encode("ascii"),
+        "crates/run_shuffles/stdin": b"".join(map(packed, asked)),
+        "crates/run_shuffles/stdout": "".join(map(line, asked)).encode("ascii"),
     }
 
 

@@ -14,7 +14,7 @@ fn stored(file: &str) -> String {
 fn the_stored_counts_are_the_rusts() {
     let lengths = stories::by_length().expect("no event is refused");
     assert_eq!(lengths.iter().flatten().sum::<u32>(), 69_905);
-    assert_eq!(stories::all(&lengths), stored("../crates/stories/stdout"));
+    assert_eq!(stories::all(&lengths), stored("../crates/run_stories/stdout"));
     assert_eq!(stories::in_turn(&lengths), stored("sample/stories.txt"));
 }
 

@@ -10,7 +10,7 @@ import tool
 from . import equations
 
 ROOT = pathlib.Path(__file__).resolve().parent.parent.parent
-CRATE = "protocol"
+CRATE = "spec_hyparview"
 ERROR = re.compile(r"\.antt\S* error: ")
 REFUSED = re.compile(r"/Equations\.antt:\d+:\d+: error: `h(\d+)(new|zeroes|[ef]\d+)`")
 

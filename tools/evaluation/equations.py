@@ -20,11 +20,11 @@ use mathlib.Core.List.{List, [], _∷_}
 use mathlib.Core.Option.{none, some}
 use lib.ListN.{replicate, drop}
 use lib.Count.{ones, onesIn}
-use Rattle.timing.specs.declared.Config.{Config}
-use Rattle.protocol.specs.Station.{Station, automatic, requests-left, recovery}
-use Rattle.protocol.specs.Setters.{set-next-request, set-next-join, set-passes-alone, set-passes-short}
-use Rattle.protocol.specs.Handle.{Result, Made, zero-station, new}
-use Rattle.protocol.specs.Traced.{traced}
+use Rattle.base_timing.specs.declared.Config.{Config}
+use Rattle.spec_hyparview.specs.Station.{Station, automatic, requests-left, recovery}
+use Rattle.spec_hyparview.specs.Setters.{set-next-request, set-next-join, set-passes-alone, set-passes-short}
+use Rattle.spec_hyparview.specs.Handle.{Result, Made, zero-station, new}
+use Rattle.spec_hyparview.specs.Traced.{traced}
 """
 
 

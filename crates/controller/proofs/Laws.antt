@@ -4,10 +4,10 @@ use Prim.Native.Nat.{ℕ}
 use mathlib.Core.Path.{_≡_, ap, _∙_}
 use mathlib.Core.List.{List}
 use borrow.Author.Tests.{eq-eqb, ne-eqb}
-use Rattle.lists.specs.Lists.{choose}
-use Rattle.lists.proofs.Choice.{choose-no}
-use Rattle.timing.specs.declared.Config.{Config}
-use Rattle.peer.specs.Data.{Data}
+use Rattle.base_lists.specs.Lists.{choose}
+use Rattle.base_lists.proofs.Choice.{choose-no}
+use Rattle.base_timing.specs.declared.Config.{Config}
+use Rattle.base_peer.specs.Data.{Data}
 use Rattle.tally.specs.declared.Tally.{Tally}
 use Rattle.tally.specs.Counts.{raised}
 use Rattle.tally.specs.History.{no-messages}

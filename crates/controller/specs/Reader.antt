@@ -4,7 +4,7 @@ use Prim.Native.Nat.{ℕ}
 use mathlib.Core.Bool.{true, false, _&&_}
 use mathlib.Core.List.{List}
 use lib.Dec.{ltb}
-use Rattle.lists.specs.Lists.{choose}
+use Rattle.base_lists.specs.Lists.{choose}
 use Rattle.record.specs.declared.Header.{Header}
 use Rattle.record.specs.Read.{well-formed, header-of, entry-at}
 use Rattle.controller.specs.declared.HeaderReading.{HeaderReading}

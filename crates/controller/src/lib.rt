@@ -1,11 +1,11 @@
 // The library for a controller: what C or Rust calls, over memory that the caller owns.
+use base_peer::PeerId;
+use base_timing::Config;
 use hyparview::Done;
-use peer::PeerId;
 use record::Entry;
 use record::Header;
 use record::Refusal;
 use tally::COUNTS;
-use timing::Config;
 ghost use mathlib.Core.Path.{_≡_};
 ghost use mathlib.Core.Bool.{not};
 ghost use lib.ListN.{length, getD};

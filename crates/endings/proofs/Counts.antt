@@ -8,11 +8,11 @@ use native.Mathlib.Nat.{pos-of-ne-zero}
 use native.Mathlib.Omega.{arith}
 use lib.ListN.{length, length-append, length-map}
 use lib.Dec.{eqb}
-use Rattle.lists.specs.Lists.{choose}
-use Rattle.lists.proofs.Choice.{by-choice}
-use Rattle.histories.specs.Histories.{places, each, of-length, up-to}
-use Rattle.histories.proofs.Once.{how-many as histories-in-all}
-use Rattle.history.specs.Calls.{state-after}
+use Rattle.base_lists.specs.Lists.{choose}
+use Rattle.base_lists.proofs.Choice.{by-choice}
+use Rattle.spec_stories.specs.Histories.{places, each, of-length, up-to}
+use Rattle.spec_stories.proofs.Once.{how-many as histories-in-all}
+use Rattle.spec_history.specs.Calls.{state-after}
 use Rattle.hyparview.specs.Queries.{neighbors-in, spare-addresses-in}
 use Rattle.hyparview.specs.declared.State.{State}
 use Rattle.endings.specs.declared.Ends.{Ends}

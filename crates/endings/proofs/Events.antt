@@ -10,27 +10,27 @@ use lib.ListN.{length, getD, take, replicate, List·getD-append}
 use lib.Seq.{getD-append-add, length-take-le}
 use lib.Dec.{ltb, leb}
 use borrow.Author.Tests.{ltb-true, ltb-false, leb-true}
-use Rattle.lists.specs.Bytes.{overwrite}
-use Rattle.lists.specs.Tests.{every}
-use Rattle.lists.proofs.Choice.{split, choose-yes}
-use Rattle.lists.proofs.Stored.{take-stored}
-use Rattle.timing.specs.Timing.{default}
-use Rattle.timing.specs.declared.Config.{Config}
-use Rattle.peer.specs.Data.{Data, bytes-of}
-use Rattle.peer.specs.Held.{HoldsData, node-in}
-use Rattle.peer.specs.declared.PeerData.{PeerData}
+use Rattle.base_lists.specs.Bytes.{overwrite}
+use Rattle.base_lists.specs.Tests.{every}
+use Rattle.base_lists.proofs.Choice.{split, choose-yes}
+use Rattle.base_lists.proofs.Stored.{take-stored}
+use Rattle.base_timing.specs.Timing.{default}
+use Rattle.base_timing.specs.declared.Config.{Config}
+use Rattle.base_peer.specs.Data.{Data, bytes-of}
+use Rattle.base_peer.specs.Held.{HoldsData, node-in}
+use Rattle.base_peer.specs.declared.PeerData.{PeerData}
 use Rattle.record.specs.Format.{header-length, node-length, Rec, datas, size, size-by, encode}
 use Rattle.record.proofs.Format.{length-encode}
-use Rattle.writer.specs.Write.{rec-in, fits, written, reached, Wrote}
-use Rattle.writer.specs.declared.Written.{Written}
-use Rattle.writer.specs.declared.Written.the-variants.{At, Full}
-use Rattle.protocol.specs.Handle.{new}
+use Rattle.record_writer.specs.Write.{rec-in, fits, written, reached, Wrote}
+use Rattle.record_writer.specs.declared.Written.{Written}
+use Rattle.record_writer.specs.declared.Written.the-variants.{At, Full}
+use Rattle.spec_hyparview.specs.Handle.{new}
 use Rattle.hyparview.specs.declared.State.{State}
 use Rattle.hyparview.specs.declared.MadeState.{MadeState}
 use Rattle.hyparview.specs.declared.HandledState.{HandledState}
 use Rattle.hyparview.specs.Made.{MadeWords, lent, pack-made}
 use Rattle.hyparview.specs.Handled.{Outcome, handled}
-use Rattle.demand.specs.Program.{program-outcome, made-state}
+use Rattle.spec_demand.specs.Program.{program-outcome, made-state}
 use Rattle.endings.specs.Events.{no-data-node, event, of-peer, maintenance, quit, events, event-at, tiny, draws, output, passes-at}
 use Rattle.endings.specs.Steps.{first-state, played}
 

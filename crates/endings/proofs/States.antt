@@ -8,25 +8,25 @@ use mathlib.Core.Option.{none}
 use native.Mathlib.Omega.{arith}
 use lib.ListN.{length}
 use lib.Dec.{eqb}
-use Rattle.lists.specs.Lists.{choose}
-use Rattle.lists.proofs.Choice.{choose-yes}
-use Rattle.histories.specs.Histories.{up-to}
-use Rattle.histories.proofs.Once.{how-many as histories-in-all}
-use Rattle.timing.specs.Timing.{default, within, in-range}
-use Rattle.peer.specs.Data.{bytes-of}
-use Rattle.protocol.specs.Station.{Station}
-use Rattle.protocol.specs.Rules.{all-under, short-data, station-ok}
-use Rattle.protocol.specs.Handle.{new}
-use Rattle.history.specs.Calls.{Given, state-after, definition}
-use Rattle.history.specs.Demand.{Demand3}
-use Rattle.history.proofs.Kept.{demand-3}
-use Rattle.rules.specs.Pack.{pack}
-use Rattle.rules.proofs.Fitting.{ok-unpacked, pack-ok}
+use Rattle.base_lists.specs.Lists.{choose}
+use Rattle.base_lists.proofs.Choice.{choose-yes}
+use Rattle.spec_stories.specs.Histories.{up-to}
+use Rattle.spec_stories.proofs.Once.{how-many as histories-in-all}
+use Rattle.base_timing.specs.Timing.{default, within, in-range}
+use Rattle.base_peer.specs.Data.{bytes-of}
+use Rattle.spec_hyparview.specs.Station.{Station}
+use Rattle.spec_hyparview.specs.Rules.{all-under, short-data, station-ok}
+use Rattle.spec_hyparview.specs.Handle.{new}
+use Rattle.spec_history.specs.Calls.{NewGiven, state-after, definition}
+use Rattle.spec_history.specs.Demand.{Demand3}
+use Rattle.spec_history.proofs.Kept.{demand-3}
+use Rattle.hyparview_rules.specs.Pack.{pack}
+use Rattle.hyparview_rules.proofs.Fitting.{ok-unpacked, pack-ok}
 use Rattle.hyparview.specs.Made.{lent, pack-made}
 use Rattle.hyparview.specs.Queries.{neighbors-in, spare-addresses, spare-addresses-in}
 use Rattle.hyparview.specs.declared.State.{State}
-use Rattle.demand.specs.Program.{made-state, value-program}
-use Rattle.demand.proofs.Program.{states-same}
+use Rattle.spec_demand.specs.Program.{made-state, value-program}
+use Rattle.spec_demand.proofs.Program.{states-same}
 use Rattle.endings.specs.declared.Ends.{Ends}
 use Rattle.endings.specs.Events.{tiny, first, event-call}
 use Rattle.endings.specs.Ends.{Sizes, how-many, count-ends, sizes-after, all-histories, all-ends, total-ends}
@@ -45,7 +45,7 @@ unfolding made-state pack-made lent choose
 value-taken = taken
 
 -- the number of the station has 64 bits, and it has no data
-narrow : Given 1 none
+narrow : NewGiven 1 none
 unfolding all-under bytes-of
 narrow = record { narrow = omega arith; are-bytes = refl }
 

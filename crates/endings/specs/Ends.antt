@@ -5,10 +5,10 @@ use mathlib.Core.Bool.{_&&_}
 use mathlib.Core.List.{List, [], _∷_, map}
 use lib.ListN.{length}
 use lib.Dec.{eqb}
-use Rattle.lists.specs.Lists.{choose}
-use Rattle.histories.specs.Histories.{up-to}
-use Rattle.protocol.specs.Station.{Station}
-use Rattle.history.specs.Calls.{definition, state-after}
+use Rattle.base_lists.specs.Lists.{choose}
+use Rattle.spec_stories.specs.Histories.{up-to}
+use Rattle.spec_hyparview.specs.Station.{Station}
+use Rattle.spec_history.specs.Calls.{definition, state-after}
 use Rattle.endings.specs.declared.Ends.{Ends}
 use Rattle.endings.specs.Events.{first, event-call}
 

@@ -6,17 +6,17 @@ use mathlib.Core.Bool.{Bool, true}
 use mathlib.Core.List.{List, [], _∷_, _++_}
 use mathlib.Core.Option.{none}
 use lib.ListN.{getD, replicate}
-use Rattle.lists.specs.Bytes.{le}
-use Rattle.lists.specs.Tests.{every}
-use Rattle.lists.proofs.Choice.{and-left, and-right}
-use Rattle.timing.specs.Timing.{default}
-use Rattle.timing.specs.declared.Config.{Config}
-use Rattle.peer.specs.Data.{Node, bytes-of}
+use Rattle.base_lists.specs.Bytes.{le}
+use Rattle.base_lists.specs.Tests.{every}
+use Rattle.base_lists.proofs.Choice.{and-left, and-right}
+use Rattle.base_timing.specs.Timing.{default}
+use Rattle.base_timing.specs.declared.Config.{Config}
+use Rattle.base_peer.specs.Data.{Node, bytes-of}
 use Rattle.record.specs.Format.{Rec, present, offset, entry-by, entries-by, datas, size-by, header-by, encode, encode-by}
-use Rattle.protocol.specs.Station.{Station}
-use Rattle.protocol.specs.Rules.{all-under}
-use Rattle.protocol.specs.Handle.{new}
-use Rattle.history.specs.Calls.{Call}
+use Rattle.spec_hyparview.specs.Station.{Station}
+use Rattle.spec_hyparview.specs.Rules.{all-under}
+use Rattle.spec_hyparview.specs.Handle.{new}
+use Rattle.spec_history.specs.Calls.{Call}
 
 -- "no data": the one node of Join and Neighbor
 abbrev pub no-data-node : List Node

@@ -4,10 +4,10 @@ use Prim.Native.Nat.{ℕ, _+_, _≤_}
 use mathlib.Core.List.{[], map}
 use mathlib.Core.Bool.{false}
 use lib.ListN.{length}
-use Rattle.history.specs.Calls.{state-of, state-after}
+use Rattle.spec_history.specs.Calls.{state-of, state-after}
 use Rattle.hyparview.specs.Queries.{neighbors-in, spare-addresses-in}
 use Rattle.hyparview.specs.declared.State.{State}
-use Rattle.demand.specs.Program.{value-program}
+use Rattle.spec_demand.specs.Program.{value-program}
 use Rattle.endings.specs.declared.Ends.{Ends}
 use Rattle.endings.specs.Events.{tiny, event-call}
 use Rattle.endings.specs.Ends.{Sizes}

@@ -1,22 +1,22 @@
 // Document 02, S-13: every history of at most four of sixteen events, and how many of them end with each size of the two views.
+use base_peer::PeerData;
+use base_peer::PeerId;
+use base_peer::PeerInfo;
+use base_timing::Timing;
 use hyparview::State;
-use peer::PeerData;
-use peer::PeerId;
-use peer::PeerInfo;
 use record::Flags;
 use record::Kind;
 use record::Message;
-use timing::Timing;
-use writer::Fields;
-use writer::Written;
+use record_writer::Fields;
+use record_writer::Written;
 ghost use mathlib.Core.Path.{_≡_};
 ghost use mathlib.Core.List.{[], _∷_};
 ghost use Prim.Native.Nat.{_+_, _≤_, _<_};
 ghost use lib.ListN.{length, getD, take};
-ghost use Rattle.lists.specs.Lists.{choose};
-ghost use Rattle.histories.specs.Histories.{of-length};
+ghost use Rattle.base_lists.specs.Lists.{choose};
+ghost use Rattle.spec_stories.specs.Histories.{of-length};
 ghost use Rattle.record.specs.Format.{header-length, node-length, encode};
-ghost use Rattle.writer.specs.Write.{Wrote};
+ghost use Rattle.record_writer.specs.Write.{Wrote};
 ghost use Rattle.endings.specs.Events.{no-data-node, event, of-peer, quit, event-at};
 ghost use Rattle.endings.specs.Ends.{events-of-peer, events-in-all, count-ends, all-ends};
 ghost use Rattle.endings.specs.Steps.{first-state, played, sizes-in, plus, CountRoom};
@@ -54,7 +54,7 @@ fn put_bare(out: &mut [u8], kind: u8, message: u8, flags: u8, p: PeerId) -> Writ
         ttl: 0,
         number: 0,
     };
-    writer::write_bare(out, 0, f)
+    record_writer::write_bare(out, 0, f)
 }
 
 // A message of a peer with one node, without data.
@@ -72,7 +72,7 @@ fn put_one(out: &mut [u8], message: u8, flags: u8, p: PeerId) -> Written
     };
     let none = PeerData::absent();
     let n = PeerInfo { id: 0, data: none };
-    writer::write_one(out, 0, f, n)
+    record_writer::write_one(out, 0, f, n)
 }
 
 // The seven events of a peer, in the order of the request.

@@ -6,15 +6,15 @@ use mathlib.Core.Bool.{Bool, true, false, _&&_, _||_}
 use mathlib.Core.List.{List, []}
 use native.Mathlib.Omega.{arith}
 use lib.ListN.{length, getD, List·getD-eq-default}
-use Rattle.lists.specs.Maps.{has}
-use Rattle.lists.proofs.Choice.{choose-yes, choose-no}
-use Rattle.util.specs.Section.{items-at}
-use Rattle.columns.specs.Columns.{numbers-at}
-use Rattle.protocol.specs.Station.{in-active, is-requested}
-use Rattle.state.specs.Layout as layout
-use Rattle.state.specs.Unpack.{station-of, unpack, PackedState, long}
-use Rattle.rules.specs.Ok.{state-ok}
-use Rattle.rules.proofs.Packed.{ok-state}
+use Rattle.base_lists.specs.Maps.{has}
+use Rattle.base_lists.proofs.Choice.{choose-yes, choose-no}
+use Rattle.base_util.specs.Section.{items-at}
+use Rattle.base_columns.specs.Columns.{numbers-at}
+use Rattle.spec_hyparview.specs.Station.{in-active, is-requested}
+use Rattle.hyparview_state.specs.Layout as layout
+use Rattle.hyparview_state.specs.Unpack.{station-of, unpack, PackedState, long}
+use Rattle.hyparview_rules.specs.Ok.{state-ok}
+use Rattle.hyparview_rules.proofs.Packed.{ok-state}
 use Rattle.hyparview.specs.Queries.{wants-connection, wants-connection-in, is-neighbor, is-neighbor-in, neighbors-in, spare-addresses, spare-addresses-in}
 
 asked-yes : (t x y : Bool) → t ≡ true → x ≡ y → x ≡ (t && y)

@@ -4,15 +4,15 @@ use Prim.Native.Nat.{ℕ}
 use mathlib.Core.Path.{_≡_, refl, ap, _∙_}
 use mathlib.Core.List.{List}
 use lib.Dec.{eqb}
-use Rattle.lists.proofs.Choice.{split, choose-yes, choose-no}
+use Rattle.base_lists.proofs.Choice.{split, choose-yes, choose-no}
 use Rattle.record.specs.Read as R
-use Rattle.protocol.specs.Station.{Station}
-use Rattle.protocol.specs.Rules.{station-ok}
-use Rattle.protocol.specs.Handle as P
-use Rattle.state.specs.Unpack.{unpack}
-use Rattle.rules.specs.Pack.{pack}
-use Rattle.rules.specs.Ok.{packed-ok}
-use Rattle.rules.proofs.Back.{ok-back}
+use Rattle.spec_hyparview.specs.Station.{Station}
+use Rattle.spec_hyparview.specs.Rules.{station-ok}
+use Rattle.spec_hyparview.specs.Handle as P
+use Rattle.hyparview_state.specs.Unpack.{unpack}
+use Rattle.hyparview_rules.specs.Pack.{pack}
+use Rattle.hyparview_rules.specs.Ok.{packed-ok}
+use Rattle.hyparview_rules.proofs.Back.{ok-back}
 use Rattle.hyparview.specs.Handled.{Outcome, packed-answer, refused-words, handled}
 
 abbrev code-of : P.Result → ℕ

@@ -6,13 +6,13 @@ use mathlib.Core.List.{List}
 use native.Mathlib.Omega.{arith}
 use lib.ListN.{length, replicate}
 use borrow.Author.Tests.{eq-eqb, ne-eqb}
-use Rattle.lists.proofs.Choice.{choose-yes, choose-no}
-use Rattle.peer.specs.Data.{Data}
-use Rattle.timing.specs.declared.Config.{Config}
-use Rattle.protocol.specs.Handle.{new}
+use Rattle.base_lists.proofs.Choice.{choose-yes, choose-no}
+use Rattle.base_peer.specs.Data.{Data}
+use Rattle.base_timing.specs.declared.Config.{Config}
+use Rattle.spec_hyparview.specs.Handle.{new}
 use Rattle.hyparview.specs.Made.{MadeWords, made, pack-made}
-use Rattle.state.specs.declared.Work.{Work}
-use Rattle.state.specs.Layout as layout
+use Rattle.work.specs.declared.Work.{Work}
+use Rattle.hyparview_state.specs.Layout as layout
 use Rattle.hyparview.specs.declared.Done.{Done}
 use Rattle.hyparview.specs.Handled.{cleared, refused-words, ended}
 

@@ -9,27 +9,27 @@ use lib.Dec.{eqb, leb}
 use lib.ListN.{length, take, drop}
 use mir.Val.{boolByte}
 use borrow.Author.Tests.{eq-eqb, ne-eqb}
-use Rattle.lists.specs.Array.{pad}
-use Rattle.lists.specs.Bytes.{le, read-le}
-use Rattle.lists.specs.Lists.{choose}
-use Rattle.lists.specs.Maps.{keys, values}
-use Rattle.lists.proofs.Choice.{choose-yes, choose-no, and-right}
-use Rattle.util.specs.Section.{section}
-use Rattle.columns.specs.Columns.{words-end, word-bytes, numbers-section, low-word, high-word, data-section}
-use Rattle.columns.proofs.Data.{bytes-back}
-use Rattle.peer.specs.declared.PeerData.{PeerData}
-use Rattle.peer.specs.declared.MaybeData.{MaybeData}
-use Rattle.peer.specs.Data.{Data, bytes-of}
-use Rattle.peer.specs.Held.{data-in, ValidData, HoldsData, Takes, taken}
-use Rattle.timing.specs.declared.Config.{Config}
-use Rattle.timing.specs.Timing.{initial-shuffle-interval, in-range}
-use Rattle.protocol.specs.Rules.{short-data}
-use Rattle.protocol.specs.Handle as handle
-use Rattle.protocol.specs.Handle.{new-station, zero-config, zero-station}
-use Rattle.state.specs.Layout as layout
-use Rattle.state.proofs.Memory.{byte-fits, byte-back}
-use Rattle.rules.specs.Pack.{present-word, kind-word, requests-word, front, pack}
-use Rattle.rules.proofs.Back.{present-back, len-back, low-back, high-back}
+use Rattle.base_lists.specs.Array.{pad}
+use Rattle.base_lists.specs.Bytes.{le, read-le}
+use Rattle.base_lists.specs.Lists.{choose}
+use Rattle.base_lists.specs.Maps.{keys, values}
+use Rattle.base_lists.proofs.Choice.{choose-yes, choose-no, and-right}
+use Rattle.base_util.specs.Section.{section}
+use Rattle.base_columns.specs.Columns.{words-end, word-bytes, numbers-section, low-word, high-word, data-section}
+use Rattle.base_columns.proofs.Data.{bytes-back}
+use Rattle.base_peer.specs.declared.PeerData.{PeerData}
+use Rattle.base_peer.specs.declared.MaybeData.{MaybeData}
+use Rattle.base_peer.specs.Data.{Data, bytes-of}
+use Rattle.base_peer.specs.Held.{data-in, ValidData, HoldsData, Takes, taken}
+use Rattle.base_timing.specs.declared.Config.{Config}
+use Rattle.base_timing.specs.Timing.{initial-shuffle-interval, in-range}
+use Rattle.spec_hyparview.specs.Rules.{short-data}
+use Rattle.spec_hyparview.specs.Handle as handle
+use Rattle.spec_hyparview.specs.Handle.{new-station, zero-config, zero-station}
+use Rattle.hyparview_state.specs.Layout as layout
+use Rattle.hyparview_state.proofs.Memory.{byte-fits, byte-back}
+use Rattle.hyparview_rules.specs.Pack.{present-word, kind-word, requests-word, front, pack}
+use Rattle.hyparview_rules.proofs.Back.{present-back, len-back, low-back, high-back}
 use Rattle.hyparview.specs.Made.{lent, pack-made, made}
 
 -- ---- the sections of a new station are zeroes

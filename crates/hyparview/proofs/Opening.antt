@@ -9,30 +9,30 @@ use lib.ListN.{length, getD}
 use lib.Seq.{length-take-le}
 use lib.Dec.{eqb, leb, ltb}
 use borrow.Author.Tests.{ne-eqb, leb-true, ltb-false}
-use Rattle.lists.proofs.Choice.{by-choice, choose-yes, choose-no, split, and-left, and-right, and-false, clash}
-use Rattle.columns.specs.Columns.{words-end}
+use Rattle.base_lists.proofs.Choice.{by-choice, choose-yes, choose-no, split, and-left, and-right, and-false, clash}
+use Rattle.base_columns.specs.Columns.{words-end}
 use Rattle.record.specs.declared.Header.{Header}
 use Rattle.record.specs.declared.Event.{Event}
 use Rattle.record.specs.declared.Event.the-variants.{Refused, Record}
 use Rattle.record.specs.Read as R
 use Rattle.record.specs.Answers.{EventIs, answer-to, event-answer, event-in}
-use Rattle.protocol.specs.Budgets.{arriving}
-use Rattle.protocol.specs.Station.{peers-end}
-use Rattle.protocol.specs.Run.{Run}
-use Rattle.protocol.specs.Rules.{station-ok}
-use Rattle.protocol.specs.Handle as P
-use Rattle.protocol.specs.Handle.{start, steps, handle-reading}
-use Rattle.protocol.proofs.Invariant.{calm, Ok}
-use Rattle.protocol.proofs.Keeping.{ease}
-use Rattle.protocol.proofs.Reading.{readable}
-use Rattle.protocol.proofs.Bounds.{begun, ready}
-use Rattle.state.specs.declared.Work.{Work}
-use Rattle.state.specs.Layout as layout
-use Rattle.state.specs.Unpack.{unpack, long}
-use Rattle.state.specs.Work.{Held, work-of, run, Fine, Does}
-use Rattle.rules.specs.Ok.{packed-ok, state-ok}
-use Rattle.rules.proofs.Back.{ok-back, packed-back}
-use Rattle.rules.proofs.Packed.{ok-state}
+use Rattle.spec_hyparview.specs.Budgets.{arriving}
+use Rattle.spec_hyparview.specs.Station.{peers-end}
+use Rattle.spec_hyparview.specs.Run.{Run}
+use Rattle.spec_hyparview.specs.Rules.{station-ok}
+use Rattle.spec_hyparview.specs.Handle as P
+use Rattle.spec_hyparview.specs.Handle.{start, steps, handle-reading}
+use Rattle.spec_hyparview.proofs.Invariant.{calm, Ok}
+use Rattle.spec_hyparview.proofs.Keeping.{ease}
+use Rattle.spec_hyparview.proofs.Reading.{readable}
+use Rattle.spec_hyparview.proofs.Bounds.{begun, ready}
+use Rattle.work.specs.declared.Work.{Work}
+use Rattle.hyparview_state.specs.Layout as layout
+use Rattle.hyparview_state.specs.Unpack.{unpack, long}
+use Rattle.hyparview_state.specs.Work.{Held, work-of, run, run-of, Fine, Does}
+use Rattle.hyparview_rules.specs.Ok.{packed-ok, state-ok}
+use Rattle.hyparview_rules.proofs.Back.{ok-back, packed-back}
+use Rattle.hyparview_rules.proofs.Packed.{ok-state}
 use Rattle.hyparview.specs.Taken.{ReadAs}
 use Rattle.hyparview.specs.Handled.{Outcome, cleared, refused-words, ended, packed-answer, handled}
 use Rattle.step_dispatch.specs.Begun.{Opens}
@@ -48,7 +48,7 @@ module _ (xs ds out : List ℕ) (ok : state-ok xs ≡ true) where
   starts = record { ready = record { packed = ok-state xs ok .packed; drawn = omega arith }; written = omega arith }
 
   start-is : run (at-start xs) ds out ≡ start (unpack xs) ds (length out)
-  unfolding run
+  unfolding run-of
   start-is = refl
 
 pub opens : (xs b : List ℕ) (h : Header) (ds out : List ℕ) → state-ok xs ≡ true → ReadAs b h → h .peer < peers-end → Opens (h .kind) (run (at-start xs) ds out)
@@ -71,7 +71,7 @@ opens xs b h ds out ok v narrow =
 
 -- words that a step hands back, which have 64 bits
 accepted-is : (a : Held) (ds o : List ℕ) → Fine a ds o → ((i : ℕ) → getD (a .state) i 0 < words-end) → record { code = 0; draws = a .drawn; words = a .state; output = cleared (a .written) o } ≡ packed-answer (P.accepted (run a ds o))
-unfolding packed-answer P.accepted cleared run
+unfolding packed-answer P.accepted cleared run-of
 accepted-is a ds o v small = rw (packed-back (a .state) (v .ready .packed) small, length-take-le (a .written) o (v .written))
 
 module _ (xs : List ℕ) (ok : packed-ok xs ≡ true) where
@@ -80,7 +80,7 @@ module _ (xs : List ℕ) (ok : packed-ok xs ≡ true) where
   refusal-is c room = rw (ok-back xs ok)
 
   ended-is : (a : Work) (ys ds o : List ℕ) → Fine (work-of a ys) ds o → ((i : ℕ) → getD ys i 0 < words-end) → ended xs a ys o ≡ packed-answer (P.finish (unpack xs) (run (work-of a ys) ds o))
-  unfolding ended P.finish run
+  unfolding ended P.finish run-of
   ended-is a ys ds o v small =
       split (eqb (a .code) 0)
       (λ z. choose-yes _ _ _ z ∙ (accepted-is (work-of a ys) ds o v small ∙ ap packed-answer (sym (choose-yes _ _ _ z))))

@@ -4,12 +4,12 @@ use Prim.Native.Nat.{ℕ, _-_}
 use mathlib.Core.List.{List, _++_}
 use lib.ListN.{length, take, replicate}
 use lib.Dec.{eqb}
-use Rattle.lists.specs.Lists.{choose}
-use Rattle.protocol.specs.Handle as P
-use Rattle.state.specs.declared.Work.{Work}
-use Rattle.state.specs.Unpack.{unpack}
-use Rattle.rules.specs.Pack.{pack}
-use Rattle.rules.specs.Ok.{packed-ok}
+use Rattle.base_lists.specs.Lists.{choose}
+use Rattle.spec_hyparview.specs.Handle as P
+use Rattle.work.specs.declared.Work.{Work}
+use Rattle.hyparview_state.specs.Unpack.{unpack}
+use Rattle.hyparview_rules.specs.Pack.{pack}
+use Rattle.hyparview_rules.specs.Ok.{packed-ok}
 
 -- what a call hands back, and the words and the output as it leaves them
 pub record Outcome : Type 0 where

@@ -6,12 +6,12 @@ use mathlib.Core.List.{List}
 use mathlib.Core.Option.{none, some}
 use lib.ListN.{length}
 use lib.Dec.{eqb}
-use Rattle.lists.specs.Lists.{choose}
-use Rattle.peer.specs.Data.{Data}
-use Rattle.timing.specs.declared.Config.{Config}
-use Rattle.protocol.specs.Handle as handle
-use Rattle.state.specs.Layout.{words}
-use Rattle.rules.specs.Pack.{pack}
+use Rattle.base_lists.specs.Lists.{choose}
+use Rattle.base_peer.specs.Data.{Data}
+use Rattle.base_timing.specs.declared.Config.{Config}
+use Rattle.spec_hyparview.specs.Handle as handle
+use Rattle.hyparview_state.specs.Layout.{words}
+use Rattle.hyparview_rules.specs.Pack.{pack}
 
 -- own data as it is lent: the bytes, or absent; empty is not absent
 unfoldable pub lent : Bool → List ℕ → Data

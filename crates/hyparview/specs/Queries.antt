@@ -4,11 +4,11 @@ use Prim.Native.Nat.{ℕ}
 use mathlib.Core.Bool.{Bool, _&&_, _||_}
 use mathlib.Core.List.{List, []}
 use lib.ListN.{length}
-use Rattle.lists.specs.Lists.{choose}
-use Rattle.lists.specs.Maps.{has}
-use Rattle.protocol.specs.Station.{Station, in-active}
-use Rattle.state.specs.Unpack.{unpack}
-use Rattle.rules.specs.Ok.{state-ok}
+use Rattle.base_lists.specs.Lists.{choose}
+use Rattle.base_lists.specs.Maps.{has}
+use Rattle.spec_hyparview.specs.Station.{Station, in-active}
+use Rattle.hyparview_state.specs.Unpack.{unpack}
+use Rattle.hyparview_rules.specs.Ok.{state-ok}
 
 -- State::wants_connection: a neighbour, or a peer whose reply to a Neighbor or a Join is awaited
 unfoldable pub wants-connection : ℕ → Station → Bool

@@ -1,22 +1,22 @@
 // `handle`: one event, whatever it is, to the whole result or one numbered refusal, over the words of a state.
-use peer::MaybeData;
-use peer::PeerData;
-use peer::PeerId;
+use base_peer::MaybeData;
+use base_peer::PeerData;
+use base_peer::PeerId;
+use base_timing::Config;
+use base_timing::Timing;
+use hyparview_state::Layout;
 use record::Event;
 use record::Refusal;
-use state::Layout;
-use state::Work;
-use timing::Config;
-use timing::Timing;
+use work::Work;
 ghost use mathlib.Core.Path.{_≡_};
 ghost use Prim.Native.Nat.{_≤_};
 ghost use lib.ListN.{length, getD};
-ghost use Rattle.protocol.specs.Handle.{new, new-station};
-ghost use Rattle.state.specs.Layout.{words};
+ghost use Rattle.spec_hyparview.specs.Handle.{new, new-station};
+ghost use Rattle.hyparview_state.specs.Layout.{words};
 ghost use Rattle.hyparview.specs.Made.{lent, pack-made, made};
 ghost use Rattle.hyparview.specs.Handled.{cleared, refused-words, handled};
-ghost use Rattle.peer.specs.Held.{data-in, ValidData};
-ghost use Rattle.rules.specs.Pack.{front};
+ghost use Rattle.base_peer.specs.Held.{data-in, ValidData};
+ghost use Rattle.hyparview_rules.specs.Pack.{front};
 ghost use Rattle.hyparview.specs.Queries.{wants-connection-in, is-neighbor-in, neighbors-in, spare-addresses-in};
 
 // The bytes of output that suffice for every event.
@@ -31,10 +31,10 @@ fn first_numbers(me: PeerId, own: PeerData, config: Config) -> [u64; Layout::ACT
     ensures { λ r. ⌜ r ≡ front (new-station me (data-in own) config) ⌝ }
 {
     let bytes = own.bytes;
-    let low = columns::word_at(bytes, 0);
-    let high = columns::word_at(bytes, columns::WORD);
+    let low = base_columns::word_at(bytes, 0);
+    let high = base_columns::word_at(bytes, base_columns::WORD);
     // The delay before the first shuffle is no longer than the interval.
-    let interval = timing::shorter(Timing::INITIAL_SHUFFLE_INTERVAL, config.shuffle_interval);
+    let interval = base_timing::shorter(Timing::INITIAL_SHUFFLE_INTERVAL, config.shuffle_interval);
     [
         me,
         own.present as u64,
@@ -71,7 +71,7 @@ pub fn new(st: &mut [u64], me: PeerId, present: bool, own: &[u8], config: Config
     if st.len() != Layout::LENGTH {
         return Refusal::STATE;
     }
-    util::clear_from(st, 0);
+    base_util::clear_from(st, 0);
     let none = PeerData::absent();
     let mut d = MaybeData {
         ok: true,
@@ -95,10 +95,14 @@ pub fn new(st: &mut [u64], me: PeerId, present: bool, own: &[u8], config: Config
 pub fn wants_connection(st: &[u64], p: PeerId) -> bool
     ensures { λ r. ⌜ r ≡ wants-connection-in p (now (st .entry)) ⌝ }
 {
-    if rules::is_ok(st) {
-        return state::in_active(st, p)
-            | (state::is_requested(st, p)
-                | columns::contains_number(&st[Layout::JOINS..Layout::JOINS_END], Layout::FEW, p));
+    if hyparview_rules::is_ok(st) {
+        return hyparview_state::in_active(st, p)
+            | (hyparview_state::is_requested(st, p)
+                | base_columns::contains_number(
+                    &st[Layout::JOINS..Layout::JOINS_END],
+                    Layout::FEW,
+                    p,
+                ));
     }
     false
 }
@@ -106,8 +110,8 @@ pub fn wants_connection(st: &[u64], p: PeerId) -> bool
 pub fn is_neighbor(st: &[u64], p: PeerId) -> bool
     ensures { λ r. ⌜ r ≡ is-neighbor-in p (now (st .entry)) ⌝ }
 {
-    if rules::is_ok(st) {
-        return state::in_active(st, p);
+    if hyparview_rules::is_ok(st) {
+        return hyparview_state::in_active(st, p);
     }
     false
 }
@@ -116,8 +120,8 @@ pub fn is_neighbor(st: &[u64], p: PeerId) -> bool
 pub fn neighbor_count(st: &[u64]) -> usize
     ensures { λ r. ⌜ r ≡ length (neighbors-in (now (st .entry))) ⌝ }
 {
-    if rules::is_ok(st) {
-        return util::count(&st[Layout::ACTIVE..Layout::ACTIVE_END], Layout::FEW);
+    if hyparview_rules::is_ok(st) {
+        return base_util::count(&st[Layout::ACTIVE..Layout::ACTIVE_END], Layout::FEW);
     }
     0
 }
@@ -126,10 +130,10 @@ pub fn neighbor_count(st: &[u64]) -> usize
 pub fn neighbor(st: &[u64], i: usize) -> PeerId
     ensures { λ r. ⌜ r ≡ getD (neighbors-in (now (st .entry))) i 0 ⌝ }
 {
-    if rules::is_ok(st) {
-        let n = util::count(&st[Layout::ACTIVE..Layout::ACTIVE_END], Layout::FEW);
+    if hyparview_rules::is_ok(st) {
+        let n = base_util::count(&st[Layout::ACTIVE..Layout::ACTIVE_END], Layout::FEW);
         if i < n {
-            return util::get_index(&st[Layout::ACTIVE..Layout::ACTIVE_END], Layout::FEW, i);
+            return base_util::get_index(&st[Layout::ACTIVE..Layout::ACTIVE_END], Layout::FEW, i);
         }
     }
     0
@@ -139,8 +143,8 @@ pub fn neighbor(st: &[u64], i: usize) -> PeerId
 pub fn spare_addresses(st: &[u64]) -> usize
     ensures { λ r. ⌜ r ≡ spare-addresses-in (now (st .entry)) ⌝ }
 {
-    if rules::is_ok(st) {
-        return util::count(&st[Layout::PASSIVE..Layout::PASSIVE_END], Layout::ALL);
+    if hyparview_rules::is_ok(st) {
+        return base_util::count(&st[Layout::PASSIVE..Layout::PASSIVE_END], Layout::ALL);
     }
     0
 }
@@ -193,7 +197,7 @@ fn refuse(st: &[u64], out: &mut [u8], code: u32) -> Done
 pub fn handle(st: &mut [u64], b: &[u8], draws: &[u32], out: &mut [u8]) -> Done
     ensures { λ r. ⌜ record { code = r .code; draws = r .draws; words = now (st .exit); output = now (out .exit) } ≡ handled (now (st .entry)) (now (b .entry)) (now (draws .entry)) (length (now (out .entry))) ⌝ }
 {
-    if !rules::is_ok(st) {
+    if !hyparview_rules::is_ok(st) {
         return refuse(st, out, Refusal::STATE);
     }
     let e = record::read_event(b);

@@ -10,12 +10,12 @@ use borrow.Author.Tests.{eqb-true, leb-true}
 use lib.ListN.{length, getD, length-append}
 use lib.Seq.{slice, slice-empty, slice-cons, length-slice}
 use lib.Dec.{leb, eqb}
-use Rattle.lists.specs.Lists.{choose}
-use Rattle.lists.specs.Bytes.{le, read-le}
-use Rattle.lists.proofs.Choice.{choose-yes, choose-no, split, and-left, and-right}
-use Rattle.lists.proofs.Slices.{slice-append, slice-whole, slice-each}
-use Rattle.lists.proofs.Numbers.{Bytes, read-below, le-read, le-read-then}
-use Rattle.peer.specs.Data.{Data, Node, bytes-of}
+use Rattle.base_lists.specs.Lists.{choose}
+use Rattle.base_lists.specs.Bytes.{le, read-le}
+use Rattle.base_lists.proofs.Choice.{choose-yes, choose-no, split, and-left, and-right}
+use Rattle.base_lists.proofs.Slices.{slice-append, slice-whole, slice-each}
+use Rattle.base_lists.proofs.Numbers.{Bytes, read-below, le-read, le-read-then}
+use Rattle.base_peer.specs.Data.{Data, Node, bytes-of}
 use Rattle.record.specs.Format.{Rec, header-length-by, node-length-by, place-by, present, offset, entry-by, entries-by, datas, size-by, header-by, encode-by}
 use Rattle.record.specs.Read.{header-of-by, entry-from, entry-at-by, header-ok, data-ok, id-ok, present-ok, entry-ok, entries-ok-by, well-formed-by, data-at, node-at-by, nodes-of-by, rec-of-by, decode-by}
 use Rattle.record.specs.InForm.{header-in-by, NodeInForm, NodesInFormBy, InFormBy}

@@ -5,9 +5,9 @@ use mathlib.Core.Path.{_≡_}
 use mathlib.Core.List.{List, [], _∷_, _++_}
 use native.Mathlib.Omega.{arith}
 use lib.ListN.{length, length-append}
-use Rattle.lists.specs.Bytes.{le}
-use Rattle.lists.proofs.Bytes.{length-le}
-use Rattle.peer.specs.Data.{Node, bytes-of}
+use Rattle.base_lists.specs.Bytes.{le}
+use Rattle.base_lists.proofs.Bytes.{length-le}
+use Rattle.base_peer.specs.Data.{Node, bytes-of}
 use Rattle.record.specs.Format.{Rec, peer-length, header-length-by, node-length-by, offset, present, entry-by, entries-by, datas, size, size-by, header-by, encode, encode-by}
 
 module _ (w : ℕ) where

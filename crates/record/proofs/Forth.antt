@@ -10,13 +10,13 @@ use native.Mathlib.Omega.{arith}
 use borrow.Author.Tests.{eq-eqb, le-leb, leb-true, eqb-true}
 use lib.ListN.{length, length-append}
 use lib.Dec.{leb, eqb}
-use Rattle.lists.specs.Lists.{choose}
-use Rattle.lists.specs.Bytes.{le}
-use Rattle.lists.proofs.Choice.{choose-yes, and-left, and-right}
-use Rattle.lists.proofs.Slices.{slice-mid}
-use Rattle.lists.proofs.Bytes.{length-le}
-use Rattle.lists.proofs.Numbers.{From, past, byte-from, number-from}
-use Rattle.peer.specs.Data.{Data, Node, bytes-of}
+use Rattle.base_lists.specs.Lists.{choose}
+use Rattle.base_lists.specs.Bytes.{le}
+use Rattle.base_lists.proofs.Choice.{choose-yes, and-left, and-right}
+use Rattle.base_lists.proofs.Slices.{slice-mid}
+use Rattle.base_lists.proofs.Bytes.{length-le}
+use Rattle.base_lists.proofs.Numbers.{From, past, byte-from, number-from}
+use Rattle.base_peer.specs.Data.{Data, Node, bytes-of}
 use Rattle.record.specs.Format.{Rec, peer-length, header-length-by, node-length-by, place-by, present, offset, entry-by, entries-by, datas, size, size-by, header-by, encode, encode-by}
 use Rattle.record.specs.Read.{header-of, header-of-by, entry-from, entry-at-by, is-message, is-data, kind-ok, flags-ok, count-ok, peer-ok, fields-ok, header-ok, data-ok, entry-ok, entries-ok-by, well-formed, well-formed-by, data-at, node-at-by, nodes-of-by, rec-of, rec-of-by, decode-by}
 use Rattle.record.specs.InForm.{header-in, header-in-by, NodesInFormBy, InForm, InFormBy}

@@ -9,9 +9,9 @@ use borrow.Author.Tests.{ne-eqb, eqb-true, eqb-false, lt-ltb, le-ltb, leb-true, 
 use lib.ListN.{length, getD, take, drop}
 use lib.Seq.{slice}
 use lib.Dec.{eqb, leb, ltb}
-use Rattle.lists.specs.Lists.{choose}
-use Rattle.lists.proofs.Slices.{slice-part}
-use Rattle.lists.proofs.Choice.{choose-yes, choose-no, split, clash, and-left}
+use Rattle.base_lists.specs.Lists.{choose}
+use Rattle.base_lists.proofs.Slices.{slice-part}
+use Rattle.base_lists.proofs.Choice.{choose-yes, choose-no, split, clash, and-left}
 use Rattle.record.specs.Format.{IsForm, most-nodes, peer-length, old-peer-length, header-length, header-length-by, node-length-by}
 use Rattle.record.specs.Read.{fixed-size, header-of, is-message, is-timer, is-data, kind-ok, flags-ok, count-ok, peer-ok, fields-ok, header-ok, data-ok, entry-at-by, entry-ok, entries-ok-by, well-formed, well-formed-by, rec-of, is-event, Reading, refused, event, read-event}
 use Rattle.record.specs.Answers.{answer, answer-to, event-answer, event-in, EventIs}

@@ -11,11 +11,11 @@ use lib.ListN.{length}
 use lib.Seq.{slice, length-slice}
 use lib.Dec.{leb, eqb}
 use borrow.Author.Tests.{eq-eqb, ne-eqb, le-leb}
-use Rattle.lists.specs.Lists.{choose}
-use Rattle.lists.proofs.Choice.{choose-yes, choose-no, and-left, and-right}
-use Rattle.peer.specs.Data.{Data, bytes-of}
-use Rattle.peer.specs.Held.{HoldsData, taken, node-in}
-use Rattle.peer.specs.declared.PeerData.{PeerData}
+use Rattle.base_lists.specs.Lists.{choose}
+use Rattle.base_lists.proofs.Choice.{choose-yes, choose-no, and-left, and-right}
+use Rattle.base_peer.specs.Data.{Data, bytes-of}
+use Rattle.base_peer.specs.Held.{HoldsData, taken, node-in}
+use Rattle.base_peer.specs.declared.PeerData.{PeerData}
 use Rattle.record.specs.Format.{peer-length, header-length, node-length, node-length-by, place-by, present}
 use Rattle.record.specs.Read.{header-of, header-of-by, entry-from, entry-at, entry-at-by, data-ok, id-ok, present-ok, entry-ok, entries-ok-by, well-formed, well-formed-by, data-at, node-at, node-at-by, nodes-of, nodes-of-by}
 use Rattle.record.specs.Answers.{HoldsNode}

@@ -6,7 +6,7 @@ use mathlib.Core.Bool.{true}
 use mathlib.Core.List.{List}
 use mathlib.Core.Option.{some}
 use native.Mathlib.Omega.{arith}
-use Rattle.lists.proofs.Numbers.{Bytes}
+use Rattle.base_lists.proofs.Numbers.{Bytes}
 use Rattle.record.specs.Format.{Rec, peer-length, encode, encode-by}
 use Rattle.record.specs.Read.{well-formed-by, decode, decode-by}
 use Rattle.record.specs.InForm.{InForm, InFormBy}

@@ -8,8 +8,8 @@ use lib.ListN.{length, getD, take, drop, replicate, length-append, length-drop}
 use lib.Seq.{take-all, drop-at}
 use lib.Dec.{ltb, eqb}
 use borrow.Author.Tests.{lt-ltb, le-ltb, ltb-true, ltb-false, eqb-true, eqb-false, eq-eqb, ne-eqb}
-use Rattle.lists.specs.Bytes.{le, read-le}
-use Rattle.lists.proofs.Choice.{by-choice, split, choose-yes, choose-no}
+use Rattle.base_lists.specs.Bytes.{le, read-le}
+use Rattle.base_lists.proofs.Choice.{by-choice, split, choose-yes, choose-no}
 use Rattle.record.specs.Format.{Rec, header-length, size, size-by, header-by, encode, encode-by}
 use Rattle.record.specs.Read.{header-of, header-of-by}
 use Rattle.record.specs.Walk.{whole-length, records-from, records-in}

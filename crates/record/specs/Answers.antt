@@ -4,10 +4,10 @@ use Prim.Native.Nat.{ℕ}
 use mathlib.Core.Path.{_≡_}
 use mathlib.Core.Bool.{true}
 use mathlib.Core.List.{List}
-use Rattle.lists.specs.Lists.{choose}
-use Rattle.peer.specs.Data.{Node}
-use Rattle.peer.specs.Held.{ValidData, node-in}
-use Rattle.peer.specs.declared.PeerInfo.{PeerInfo}
+use Rattle.base_lists.specs.Lists.{choose}
+use Rattle.base_peer.specs.Data.{Node}
+use Rattle.base_peer.specs.Held.{ValidData, node-in}
+use Rattle.base_peer.specs.declared.PeerInfo.{PeerInfo}
 use Rattle.record.specs.Read.{header-of, well-formed, rec-of, Reading, refused, event, read-event}
 use Rattle.record.specs.declared.Header.{Header}
 use Rattle.record.specs.declared.Answer.{Answer}

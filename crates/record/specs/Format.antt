@@ -6,8 +6,8 @@ use mathlib.Core.Path.{_≡_}
 use mathlib.Core.List.{List, [], _∷_, _++_}
 use mathlib.Core.Option.{none, some}
 use lib.ListN.{length}
-use Rattle.lists.specs.Bytes.{le}
-use Rattle.peer.specs.Data.{Data, Node, bytes-of}
+use Rattle.base_lists.specs.Bytes.{le}
+use Rattle.base_peer.specs.Data.{Data, Node, bytes-of}
 
 -- the bytes of a peer's number, in this form and in the old one
 abbrev pub peer-length : ℕ

@@ -5,7 +5,7 @@ use mathlib.Core.Path.{_≡_}
 use mathlib.Core.Bool.{true}
 use mathlib.Core.List.{List, [], _∷_}
 use lib.ListN.{length, getD}
-use Rattle.peer.specs.Data.{Node, bytes-of}
+use Rattle.base_peer.specs.Data.{Node, bytes-of}
 use Rattle.record.specs.Format.{Rec, peer-length, present, size-by}
 use Rattle.record.specs.Read.{header-ok, id-ok, present-ok}
 use Rattle.record.specs.declared.Header.{Header}

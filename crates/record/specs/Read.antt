@@ -7,9 +7,9 @@ use mathlib.Core.Option.{Option, none, some}
 use lib.ListN.{length, getD}
 use lib.Seq.{slice}
 use lib.Dec.{leb, ltb, eqb}
-use Rattle.lists.specs.Lists.{choose}
-use Rattle.lists.specs.Bytes.{read-le}
-use Rattle.peer.specs.Data.{Data, Node}
+use Rattle.base_lists.specs.Lists.{choose}
+use Rattle.base_lists.specs.Bytes.{read-le}
+use Rattle.base_peer.specs.Data.{Data, Node}
 use Rattle.record.specs.Format.{Rec, most-nodes, peer-length, header-length, header-length-by, node-length, place-by}
 use Rattle.record.specs.declared.Header.{Header}
 use Rattle.record.specs.declared.Entry.{Entry}

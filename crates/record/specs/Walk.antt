@@ -4,8 +4,8 @@ use Prim.Native.Nat.{ℕ, zero, suc}
 use mathlib.Core.List.{List, [], _∷_, map}
 use lib.ListN.{length, getD, drop}
 use lib.Dec.{ltb, eqb}
-use Rattle.lists.specs.Lists.{choose}
-use Rattle.lists.specs.Bytes.{read-le}
+use Rattle.base_lists.specs.Lists.{choose}
+use Rattle.base_lists.specs.Bytes.{read-le}
 use Rattle.record.specs.Format.{header-length, peer-length}
 use Rattle.record.specs.Read.{header-of}
 use Rattle.record.specs.declared.Header.{Header}

@@ -1,14 +1,14 @@
 // Part 3 of document 01: the records, their fixed sizes, and one reader.
-use peer::PeerData;
-use peer::PeerId;
-use peer::PeerInfo;
+use base_peer::PeerData;
+use base_peer::PeerId;
+use base_peer::PeerInfo;
 ghost use mathlib.Core.Path.{_≡_};
 ghost use mathlib.Core.Bool.{true};
 ghost use Prim.Native.Nat.{_+_, _*_, _^_, _≤_, _<_};
 ghost use lib.ListN.{length};
 ghost use lib.Seq.{slice};
-ghost use Rattle.lists.specs.Lists.{choose};
-ghost use Rattle.lists.specs.Bytes.{read-le};
+ghost use Rattle.base_lists.specs.Lists.{choose};
+ghost use Rattle.base_lists.specs.Bytes.{read-le};
 ghost use Rattle.record.specs.Format.{IsForm, header-length, header-length-by, node-length, node-length-by, place-by};
 ghost use Rattle.record.specs.Read.{fixed-size, header-of, header-of-by, entry-from, entry-at, entry-at-by, is-message, is-timer, is-data, header-ok, well-formed, well-formed-by, node-at};
 ghost use Rattle.record.specs.Answers.{answer, EventIs, HoldsNode};

@@ -9,10 +9,10 @@ use native.Mathlib.Omega.{arith}
 use lib.ListN.{length, getD, drop}
 use lib.Dec.{leb, eqb}
 use borrow.Author.Tests.{leb-true, le-leb, lt-leb, eqb-true, eq-eqb, ne-eqb}
-use Rattle.lists.specs.Bytes.{read-le}
+use Rattle.base_lists.specs.Bytes.{read-le}
 use Rattle.record.specs.Format.{header-length}
 use Rattle.record.specs.Walk.{whole-length}
-use Rattle.lists.proofs.Choice.{by-choice, split, choose-yes, choose-no, and-left, and-right}
+use Rattle.base_lists.proofs.Choice.{by-choice, split, choose-yes, choose-no, and-left, and-right}
 use Rattle.run_input.specs.Input.{head-length, most-bytes, event-offset, draw-count, draw-offset, number, numbers, event-length, are-events, places-ok, events-part, events-ok, input-head, input-of}
 pub use Rattle.run_input.specs.Input.{Laid}
 use Rattle.run_input.specs.declared.Head.{Head}

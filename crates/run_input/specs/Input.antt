@@ -8,11 +8,11 @@ use mathlib.Core.List.{List, [], _∷_}
 use lib.ListN.{length, take, drop}
 use lib.Seq.{slice}
 use lib.Dec.{leb, eqb}
-use Rattle.lists.specs.Lists.{choose, null}
-use Rattle.lists.specs.Bytes.{read-le}
+use Rattle.base_lists.specs.Lists.{choose, null}
+use Rattle.base_lists.specs.Bytes.{read-le}
 use Rattle.record.specs.Format.{header-length, four-bytes-end}
 use Rattle.record.specs.Walk.{whole-length}
-use Rattle.timing.specs.declared.Config.{Config}
+use Rattle.base_timing.specs.declared.Config.{Config}
 use Rattle.run_input.specs.declared.Head.{Head}
 use Rattle.run_input.specs.declared.Input.{Input}
 use Rattle.run_input.specs.declared.Input.the-variants.{Refused, Whole}

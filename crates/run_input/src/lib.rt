@@ -1,6 +1,6 @@
 // The run program's input (document 01, "The run program"): its check as a whole, its settings, and the cutting of its events and draws.
-use peer::PeerId;
-use timing::Config;
+use base_peer::PeerId;
+use base_timing::Config;
 ghost use mathlib.Core.Path.{_≡_};
 ghost use Prim.Native.Nat.{_≤_};
 ghost use lib.ListN.{length};

@@ -10,14 +10,14 @@ use lib.ListN.{length, take, drop}
 use Rattle.io.specs.Counts.{Counts}
 use lib.Dec.{leb, eqb}
 use borrow.Author.Tests.{le-leb, lt-leb, leb-true, ltb-true, ltb-false, eq-eqb, ne-eqb}
-use Rattle.lists.proofs.Choice.{split, choose-yes, choose-no}
+use Rattle.base_lists.proofs.Choice.{split, choose-yes, choose-no}
 use Rattle.hyparview.specs.declared.State.{State}
 use Rattle.hyparview.specs.Handled.{handled}
 use Rattle.run_text.specs.declared.Text.{Text}
 use Rattle.run_text.specs.Text.{Puts, Begins}
 use Rattle.run_text.proofs.Written.{begun, nothing, then, named}
-use Rattle.lists.specs.Bytes.{overwrite}
-use Rattle.protocol.specs.Handle.{new}
+use Rattle.base_lists.specs.Bytes.{overwrite}
+use Rattle.spec_hyparview.specs.Handle.{new}
 use Rattle.hyparview.specs.declared.MadeState.{MadeState}
 use Rattle.hyparview.specs.Made as packed
 use Rattle.hyparview.specs.Made.{lent, pack-made}

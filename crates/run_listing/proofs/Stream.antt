@@ -8,9 +8,9 @@ use lib.ListN.{length, drop, length-append}
 use lib.Seq.{slice}
 use lib.Dec.{ltb}
 use borrow.Author.Tests.{lt-ltb, le-ltb, ltb-true, ltb-false, eq-eqb, ne-eqb}
-use Rattle.lists.specs.Bytes.{overwrite}
-use Rattle.lists.proofs.Bytes.{length-overwrite}
-use Rattle.lists.proofs.Choice.{by-choice, split, choose-yes, choose-no}
+use Rattle.base_lists.specs.Bytes.{overwrite}
+use Rattle.base_lists.proofs.Bytes.{length-overwrite}
+use Rattle.base_lists.proofs.Choice.{by-choice, split, choose-yes, choose-no}
 use Rattle.record.specs.declared.Header.{Header}
 use Rattle.record.specs.Format.{header-length}
 use Rattle.record.specs.Read.{header-of}

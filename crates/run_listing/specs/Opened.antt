@@ -5,8 +5,8 @@ use mathlib.Core.List.{List}
 use mathlib.Core.Option.{none}
 use lib.ListN.{drop}
 use lib.Dec.{eqb}
-use Rattle.lists.specs.Lists.{choose}
-use Rattle.protocol.specs.Handle.{new}
+use Rattle.base_lists.specs.Lists.{choose}
+use Rattle.spec_hyparview.specs.Handle.{new}
 use Rattle.hyparview.specs.Room.{output-room}
 use Rattle.hyparview.specs.Made.{pack-made}
 use Rattle.run_input.specs.declared.Head.{Head}

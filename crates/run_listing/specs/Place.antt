@@ -6,8 +6,8 @@ use mathlib.Core.List.{List, []}
 use lib.ListN.{length}
 use lib.Dec.{leb, ltb, eqb}
 use Rattle.io.specs.Counts.{Counts}
-use Rattle.lists.specs.Lists.{choose}
-use Rattle.lists.specs.Bytes.{overwrite}
+use Rattle.base_lists.specs.Lists.{choose}
+use Rattle.base_lists.specs.Bytes.{overwrite}
 use Rattle.record.specs.Format.{header-length}
 use Rattle.record.specs.Read.{header-of}
 use Rattle.run_text.specs.Lines.{record-line}

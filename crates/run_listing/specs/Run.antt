@@ -6,8 +6,8 @@ use mathlib.Core.Option.{none}
 use lib.ListN.{drop}
 use lib.Seq.{slice}
 use lib.Dec.{eqb}
-use Rattle.lists.specs.Lists.{choose}
-use Rattle.protocol.specs.Handle.{new}
+use Rattle.base_lists.specs.Lists.{choose}
+use Rattle.spec_hyparview.specs.Handle.{new}
 use Rattle.hyparview.specs.Room.{output-room}
 use Rattle.hyparview.specs.Made.{MadeWords, pack-made}
 use Rattle.hyparview.specs.Handled.{Outcome, handled}

@@ -9,7 +9,7 @@ ghost use mathlib.Core.Path.{_≡_};
 ghost use Prim.Native.Nat.{_≤_};
 ghost use lib.ListN.{length, drop};
 ghost use Rattle.io.specs.Counts.{Counts};
-ghost use Rattle.lists.specs.Bytes.{overwrite};
+ghost use Rattle.base_lists.specs.Bytes.{overwrite};
 ghost use Rattle.run_input.specs.Input.{numbers};
 ghost use Rattle.run_input.specs.Input.{Laid};
 ghost use Rattle.run_text.specs.Text.{Puts};

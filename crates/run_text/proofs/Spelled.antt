@@ -8,7 +8,7 @@ use native.Mathlib.Omega.{arith}
 use lib.ListN.{take}
 use lib.Dec.{leb}
 use borrow.Author.Tests.{lt-ltb, le-ltb, leb-true, leb-false}
-use Rattle.lists.proofs.Choice.{choose-yes, choose-no, split}
+use Rattle.base_lists.proofs.Choice.{choose-yes, choose-no, split}
 use Rattle.io.specs.Digits.{glyph, digits, Fewest}
 use Rattle.run_text.specs.declared.Text.{Text}
 use Rattle.run_text.specs.Text.{Puts}

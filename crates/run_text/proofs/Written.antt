@@ -7,8 +7,8 @@ use mathlib.Core.List.{List, [], _∷_, _++_, append-nil, append-assoc}
 use native.Mathlib.Omega.{arith}
 use lib.ListN.{length, take, getD, set, length-append}
 use borrow.Author.Tests.{lt-ltb, le-ltb}
-use Rattle.lists.specs.Bytes.{overwrite}
-use Rattle.lists.proofs.Bytes.{overwrite-append, length-overwrite}
+use Rattle.base_lists.specs.Bytes.{overwrite}
+use Rattle.base_lists.proofs.Bytes.{overwrite-append, length-overwrite}
 use Rattle.run_text.specs.declared.Text.{Text}
 use Rattle.run_text.specs.Text.{Shows, Puts, Begins}
 

@@ -3,7 +3,7 @@
 use Prim.Native.Nat.{ℕ, zero, suc, _/_, _%_}
 use mathlib.Core.List.{List, [], _∷_, _++_}
 use lib.Dec.{ltb}
-use Rattle.lists.specs.Lists.{choose}
+use Rattle.base_lists.specs.Lists.{choose}
 use Rattle.io.specs.Digits.{glyph}
 
 -- the decimal digits of n, of which it has at most k

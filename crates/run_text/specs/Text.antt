@@ -6,7 +6,7 @@ use mathlib.Core.Bool.{false}
 use mathlib.Core.List.{List, _++_}
 use lib.ListN.{length}
 use lib.Dec.{ltb}
-use Rattle.lists.specs.Bytes.{overwrite}
+use Rattle.base_lists.specs.Bytes.{overwrite}
 use Rattle.run_text.specs.declared.Text.{Text}
 
 -- t and out are what the text w leaves of bytes that were out₀: what fits of w, then the old bytes

@@ -5,10 +5,10 @@ use mathlib.Core.Path.{_≡_, refl, ap, _∙_}
 use mathlib.Core.Bool.{false}
 use mathlib.Core.List.{List}
 use mathlib.Core.Option.{none}
-use Rattle.lists.specs.Lists.{choose}
-use Rattle.timing.specs.declared.Config.{Config}
-use Rattle.peer.specs.Data.{Data}
-use Rattle.protocol.specs.Handle.{new}
+use Rattle.base_lists.specs.Lists.{choose}
+use Rattle.base_timing.specs.declared.Config.{Config}
+use Rattle.base_peer.specs.Data.{Data}
+use Rattle.spec_hyparview.specs.Handle.{new}
 use Rattle.hyparview.specs.Made.{MadeWords, lent, pack-made}
 
 no-data : (own : List ℕ) → lent false own ≡ none

@@ -9,8 +9,8 @@ use lib.Seq.{take-all, drop-drop, drop-length}
 use Rattle.hyparview.specs.declared.HandledState.{HandledState}
 use Rattle.hyparview.specs.Handled.{Outcome, handled}
 use Rattle.run_input.specs.Input.{event-length}
-use Rattle.draws.specs.Place.{past}
-use Rattle.draws.proofs.Laws.{past-rest}
+use Rattle.base_draws.specs.Place.{past}
+use Rattle.base_draws.proofs.Laws.{past-rest}
 use Rattle.run_walk.specs.declared.Runner.{Runner}
 use Rattle.run_walk.specs.Place.{Runs, met, passed}
 

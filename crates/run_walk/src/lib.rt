@@ -31,10 +31,10 @@ pub fn step(p: Runner, events: &[u8], draws: &[u32], records: &mut [u8]) -> Ran
     let size = run_input::event_length(rest);
     let after = at + size;
     let event = &rest[..size];
-    let left = draws::rest_from(draws, used);
+    let left = base_draws::rest_from(draws, used);
     let a = s.handle(event, left, records);
     let next = a.state;
-    let reached = draws::place_after(draws, used, a.draws);
+    let reached = base_draws::place_after(draws, used, a.draws);
     Ran {
         runner: Runner {
             state: next,

@@ -5,10 +5,10 @@ use mathlib.Core.Bool.{true}
 use Prim.Native.Nat.{ℕ, _≤_}
 use lib.Dec.{leb}
 use borrow.Author.Tests.{leb-true}
-use Rattle.lists.proofs.Choice.{and-left, and-right, choose-yes}
-use Rattle.timing.specs.Timing.{in-range}
-use Rattle.timing.specs.declared.Config.{Config}
-use Rattle.timing.proofs.Ranges.{ranges}
+use Rattle.base_lists.proofs.Choice.{and-left, and-right, choose-yes}
+use Rattle.base_timing.specs.Timing.{in-range}
+use Rattle.base_timing.specs.declared.Config.{Config}
+use Rattle.base_timing.proofs.Ranges.{ranges}
 use Rattle.shuffle_times.specs.Times.{lowest-draw, highest-draw, latest-start, most-shuffles, due-by, has-times, shuffle-times}
 use Rattle.shuffle_times.proofs.Delays.{Interval}
 

@@ -4,8 +4,8 @@ use Prim.Native.Nat.{ℕ, _-_, _≤_}
 use mathlib.Core.Path.{_≡_, sym, ap, subst, _∙_}
 use mathlib.Core.List.{List, []}
 use lib.ListN.{length, getD}
-use Rattle.timing.specs.declared.Config.{Config}
-use Rattle.history.specs.Calls.{Machine}
+use Rattle.base_timing.specs.declared.Config.{Config}
+use Rattle.spec_history.specs.Calls.{Machine}
 use Rattle.shuffle_times.specs.Times.{first-interval, dues, shuffle-times}
 use Rattle.shuffle_times.specs.Histories.{Brought, shuffles-due, start-of, on-time}
 use Rattle.shuffle_times.specs.Claims.{Timed}

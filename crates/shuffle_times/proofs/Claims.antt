@@ -7,15 +7,15 @@ use Prim.Native.Nat.{ℕ, suc, _-_, _≤_}
 use native.Mathlib.Omega.{arith}
 use lib.ListN.{length, getD, take, replicate, length-take}
 use lib.Seq.{take-all}
-use Rattle.lists.proofs.Choice.{and-left, and-right, choose-yes}
-use Rattle.timing.specs.Timing.{in-range}
-use Rattle.timing.specs.declared.Config.{Config}
-use Rattle.peer.specs.Data.{Data}
-use Rattle.protocol.specs.Station.{Station, draws-end}
-use Rattle.protocol.specs.Rules.{all-under, short-data}
-use Rattle.protocol.specs.Handle.{Made, new, new-station}
-use Rattle.history.specs.Calls.{Given, definition}
-use Rattle.history.proofs.Kept.{kept-new, accepted-new}
+use Rattle.base_lists.proofs.Choice.{and-left, and-right, choose-yes}
+use Rattle.base_timing.specs.Timing.{in-range}
+use Rattle.base_timing.specs.declared.Config.{Config}
+use Rattle.base_peer.specs.Data.{Data}
+use Rattle.spec_hyparview.specs.Station.{Station, draws-end}
+use Rattle.spec_hyparview.specs.Rules.{all-under, short-data}
+use Rattle.spec_hyparview.specs.Handle.{Made, new, new-station}
+use Rattle.spec_history.specs.Calls.{NewGiven, definition}
+use Rattle.spec_history.proofs.Kept.{kept-new, accepted-new}
 use Rattle.shuffle_times.specs.Times.{lowest-draw, highest-draw, first-interval, dues, due, due-by, has-times, shuffle-times}
 use Rattle.shuffle_times.specs.declared.ShuffleTimes.{ShuffleTimes}
 use Rattle.shuffle_times.specs.Histories.{Brought, on-time, shuffles-due, start-of}
@@ -45,7 +45,7 @@ kth top i t k ds xs e some many =
     let q : suc (k - 1) ≡ k = omega arith in
     ap (λ (l : List ℕ). getD l (k - 1) 0) e ∙ (dues-at top i t ds (k - 1) (omega arith) ∙ ap (λ (n : ℕ). due top i t (take n ds)) q)
 
-module _ (me : ℕ) (d : Data) (c : Config) (given : Given me d) (ranges : in-range c ≡ true) (short : short-data d ≡ true) where
+module _ (me : ℕ) (d : Data) (c : Config) (given : NewGiven me d) (ranges : in-range c ≡ true) (short : short-data d ≡ true) where
   abbrev station : Station
   station = new-station me d c
 

@@ -9,12 +9,12 @@ use native.Mathlib.Omega.{arith}
 use lib.ListN.{length, getD, take, replicate}
 use lib.Dec.{leb, ltb}
 use borrow.Author.Tests.{leb-true, leb-false, ltb-true, lt-ltb}
-use Rattle.lists.proofs.Choice.{split, and-left, and-right}
-use Rattle.timing.specs.Timing.{delay}
-use Rattle.timing.proofs.Ranges.{Within}
-use Rattle.protocol.specs.Station.{draws-end}
-use Rattle.protocol.specs.Rules.{all-under}
-use Rattle.lists.proofs.Members.{both}
+use Rattle.base_lists.proofs.Choice.{split, and-left, and-right}
+use Rattle.base_timing.specs.Timing.{delay}
+use Rattle.base_timing.proofs.Ranges.{Within}
+use Rattle.spec_hyparview.specs.Station.{draws-end}
+use Rattle.spec_hyparview.specs.Rules.{all-under}
+use Rattle.base_lists.proofs.Members.{both}
 use Rattle.shuffle_times.specs.Times.{lowest-draw, highest-draw, first-interval, next-interval, dues, due}
 
 -- an interval that a station can have, or its setting

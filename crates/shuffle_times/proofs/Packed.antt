@@ -6,20 +6,20 @@ use mathlib.Core.Bool.{Bool, true, _&&_}
 use mathlib.Core.List.{List, [], _∷_, _++_}
 use lib.ListN.{drop}
 use lib.Dec.{leb, eqb}
-use Rattle.lists.specs.Lists.{choose}
-use Rattle.lists.proofs.Choice.{choose-yes, and-left, and-right}
-use Rattle.timing.specs.Timing.{in-range}
-use Rattle.timing.specs.declared.Config.{Config}
-use Rattle.peer.specs.Data.{Data}
+use Rattle.base_lists.specs.Lists.{choose}
+use Rattle.base_lists.proofs.Choice.{choose-yes, and-left, and-right}
+use Rattle.base_timing.specs.Timing.{in-range}
+use Rattle.base_timing.specs.declared.Config.{Config}
+use Rattle.base_peer.specs.Data.{Data}
 use Rattle.record.specs.Walk.{kind-in, headers}
-use Rattle.protocol.specs.Station.{Station}
-use Rattle.protocol.specs.Rules.{station-ok, short-data}
-use Rattle.protocol.specs.Handle.{Made, new, new-station}
-use Rattle.protocol.proofs.Tested.{rules-of}
-use Rattle.history.specs.Ledger.{Ledger}
-use Rattle.history.specs.Calls.{Given, Machine, state-of, result-of, definition}
-use Rattle.history.specs.Packing.{Packs}
-use Rattle.history.proofs.Kept.{Kept, fine-answer, kept-new, accepted-new}
+use Rattle.spec_hyparview.specs.Station.{Station}
+use Rattle.spec_hyparview.specs.Rules.{station-ok, short-data}
+use Rattle.spec_hyparview.specs.Handle.{Made, new, new-station}
+use Rattle.spec_hyparview.proofs.Tested.{rules-of}
+use Rattle.spec_history.specs.Ledger.{Ledger}
+use Rattle.spec_history.specs.Calls.{NewGiven, Machine, state-of, result-of, definition}
+use Rattle.spec_history.specs.Packing.{Packs}
+use Rattle.spec_history.proofs.Kept.{Kept, fine-answer, kept-new, accepted-new}
 use Rattle.shuffle_times.specs.Histories.{Brought, shuffle-delays, after, set-by, shuffles-due, counts, start-of, fires, is-first, on-time}
 use Rattle.shuffle_times.specs.Claims.{Timed}
 use Rattle.shuffle_times.proofs.Carried.{timed-carried}
@@ -64,7 +64,7 @@ module _ {G S : Type 0} {m : Machine G S} {pack : Station → S} {station : S �
     packed h = timed-carried (λ vs. shuffles-follow vs h) (λ vs. start-follows vs h) (λ vs. on-time-follows vs h []) c
 
   -- from a new station that was packed
-  pub timed-packed : (me : ℕ) (d : Data) (c : Config) → Given me d → new me d c .code ≡ 0 → Timed m c (pack (new me d c .state))
+  pub timed-packed : (me : ℕ) (d : Data) (c : Config) → NewGiven me d → new me d c .code ≡ 0 → Timed m c (pack (new me d c .state))
   unfolding new
   timed-packed me d c given z =
       let t = accepted-new me d c z in

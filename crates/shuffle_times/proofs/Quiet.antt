@@ -6,26 +6,26 @@ use mathlib.Core.List.{List, [], _∷_, _++_, append-assoc, append-nil}
 use mathlib.Core.Option.{Option, none, some}
 use Prim.Native.Nat.{ℕ}
 use lib.Dec.{eqb}
-use Rattle.lists.specs.Lists.{choose}
-use Rattle.lists.proofs.Choice.{by-choice, choose-no}
-use Rattle.timing.specs.declared.Config.{Config}
-use Rattle.peer.specs.Data.{Data, Node}
+use Rattle.base_lists.specs.Lists.{choose}
+use Rattle.base_lists.proofs.Choice.{by-choice, choose-no}
+use Rattle.base_timing.specs.declared.Config.{Config}
+use Rattle.base_peer.specs.Data.{Data, Node}
 use Rattle.record.specs.Format.{Rec, encode}
-use Rattle.protocol.specs.Station.{Station, Refill}
-use Rattle.protocol.specs.Run as R
-use Rattle.protocol.specs.Run.{Run, guard, on, emit, draw, require, emit-all}
-use Rattle.protocol.specs.Peers as P
-use Rattle.protocol.specs.Sending as S
-use Rattle.protocol.specs.Refill as F
-use Rattle.protocol.specs.Active as A
-use Rattle.protocol.specs.Messages as M
-use Rattle.protocol.specs.Events as E
-use Rattle.protocol.specs.Timers as T
-use Rattle.protocol.specs.Handle as H
-use Rattle.protocol.proofs.Keeping.{Plain, six, seven, eight, ten, draw-station, draw-fine, emit-station, emit-fine, on-code, require-fine}
-use Rattle.protocol.proofs.Entering.{on-same}
-use Rattle.history.proofs.Ticks.{emit-out, draw-out, on-out}
-use Rattle.protocol.specs.Written.{encode-all}
+use Rattle.spec_hyparview.specs.Station.{Station, Refill}
+use Rattle.spec_hyparview.specs.Run as R
+use Rattle.spec_hyparview.specs.Run.{Run, guard, on, emit, draw, require, emit-all}
+use Rattle.spec_hyparview.specs.Peers as P
+use Rattle.spec_hyparview.specs.Sending as S
+use Rattle.spec_hyparview.specs.Refill as F
+use Rattle.spec_hyparview.specs.Active as A
+use Rattle.spec_hyparview.specs.Messages as M
+use Rattle.spec_hyparview.specs.Events as E
+use Rattle.spec_hyparview.specs.Timers as T
+use Rattle.spec_hyparview.specs.Handle as H
+use Rattle.spec_hyparview.proofs.Keeping.{Plain, six, seven, eight, ten, draw-station, draw-fine, emit-station, emit-fine, on-code, require-fine}
+use Rattle.spec_hyparview.proofs.Entering.{on-same}
+use Rattle.spec_history.proofs.Ticks.{emit-out, draw-out, on-out}
+use Rattle.spec_hyparview.specs.Written.{encode-all}
 use Rattle.shuffle_times.proofs.Told.{shuffles, encode-all-append, shuffles-append}
 
 -- the output grew by records whose shuffle timers have these delays

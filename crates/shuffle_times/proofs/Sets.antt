@@ -8,20 +8,20 @@ use native.Mathlib.Omega.{arith}
 use lib.ListN.{getD}
 use lib.Dec.{ltb, eqb}
 use borrow.Author.Tests.{eqb-true, eq-eqb, ltb-true}
-use Rattle.lists.specs.Lists.{choose}
-use Rattle.lists.proofs.Choice.{by-choice, choose-yes, choose-no, and-left, and-right}
-use Rattle.timing.specs.Timing.{delay}
-use Rattle.timing.specs.declared.Config.{Config}
+use Rattle.base_lists.specs.Lists.{choose}
+use Rattle.base_lists.proofs.Choice.{by-choice, choose-yes, choose-no, and-left, and-right}
+use Rattle.base_timing.specs.Timing.{delay}
+use Rattle.base_timing.specs.declared.Config.{Config}
 use Rattle.record.specs.Format.{Rec}
-use Rattle.protocol.specs.Station.{Station, draws-end}
-use Rattle.protocol.specs.Run.{Run, guard, on, emit, draw, drawn, timer}
-use Rattle.protocol.specs.Rules.{all-under}
-use Rattle.protocol.specs.Timers as T
-use Rattle.protocol.specs.Handle as H
-use Rattle.protocol.specs.Handle.{start, steps}
-use Rattle.protocol.proofs.Keeping.{draw-station, draw-fine, emit-station, emit-fine, on-code}
-use Rattle.protocol.proofs.Entering.{on-same}
-use Rattle.history.proofs.Ticks.{draw-out, on-out}
+use Rattle.spec_hyparview.specs.Station.{Station, draws-end}
+use Rattle.spec_hyparview.specs.Run.{Run, guard, on, emit, draw, drawn, timer}
+use Rattle.spec_hyparview.specs.Rules.{all-under}
+use Rattle.spec_hyparview.specs.Timers as T
+use Rattle.spec_hyparview.specs.Handle as H
+use Rattle.spec_hyparview.specs.Handle.{start, steps}
+use Rattle.spec_hyparview.proofs.Keeping.{draw-station, draw-fine, emit-station, emit-fine, on-code}
+use Rattle.spec_hyparview.proofs.Entering.{on-same}
+use Rattle.spec_history.proofs.Ticks.{draw-out, on-out}
 use Rattle.shuffle_times.specs.Times.{next-interval}
 use Rattle.shuffle_times.proofs.Told.{shuffles}
 use Rattle.shuffle_times.proofs.Quiet.{Adds, adds-more, Still, Quiet, then, changes, adds-one, on-lent, schedule-maintenance, shuffle-any, dispatch}

@@ -8,26 +8,26 @@ use native.Mathlib.Omega.{arith}
 use lib.ListN.{length, getD, replicate}
 use lib.Dec.{leb, ltb, eqb}
 use borrow.Author.Tests.{eqb-true, lt-ltb, le-leb}
-use Rattle.lists.specs.Lists.{choose}
-use Rattle.lists.proofs.Choice.{by-choice, split, choose-yes, choose-no, and-left, and-right, clash}
-use Rattle.timing.specs.Timing.{in-range, delay}
-use Rattle.timing.specs.declared.Config.{Config}
-use Rattle.peer.specs.Data.{Data}
+use Rattle.base_lists.specs.Lists.{choose}
+use Rattle.base_lists.proofs.Choice.{by-choice, split, choose-yes, choose-no, and-left, and-right, clash}
+use Rattle.base_timing.specs.Timing.{in-range, delay}
+use Rattle.base_timing.specs.declared.Config.{Config}
+use Rattle.base_peer.specs.Data.{Data}
 use Rattle.record.specs.Format.{Rec}
 use Rattle.record.specs.Read.{Reading, read-event, rec-of, rec-of-by, header-of-by}
 use Rattle.record.specs.Walk.{kind-in, headers}
-use Rattle.protocol.specs.Station.{Station, draws-end}
-use Rattle.protocol.specs.Run.{Run}
-use Rattle.protocol.specs.Rules.{all-under, station-ok, short-data}
-use Rattle.protocol.specs.Handle.{Result, new-station, start, steps, refusal, accepted, finish, handle-reading, handle}
-use Rattle.lists.proofs.Members.{both}
-use Rattle.protocol.proofs.Reading.{Readable, by-reading}
-use Rattle.protocol.proofs.Whole.{ok-steps}
-use Rattle.protocol.proofs.Tested.{rules-of}
-use Rattle.history.specs.Ledger.{Ledger, number-of}
-use Rattle.history.specs.Calls.{Given, result-of, answered, definition}
-use Rattle.history.proofs.Kept.{Kept, pays, fine-answer, kept-new}
-use Rattle.protocol.specs.Written.{encode-all}
+use Rattle.spec_hyparview.specs.Station.{Station, draws-end}
+use Rattle.spec_hyparview.specs.Run.{Run}
+use Rattle.spec_hyparview.specs.Rules.{all-under, station-ok, short-data}
+use Rattle.spec_hyparview.specs.Handle.{Result, new-station, start, steps, refusal, accepted, finish, handle-reading, handle}
+use Rattle.base_lists.proofs.Members.{both}
+use Rattle.spec_hyparview.proofs.Reading.{Readable, by-reading}
+use Rattle.spec_hyparview.proofs.Whole.{ok-steps}
+use Rattle.spec_hyparview.proofs.Tested.{rules-of}
+use Rattle.spec_history.specs.Ledger.{Ledger, number-of}
+use Rattle.spec_history.specs.Calls.{NewGiven, result-of, answered, definition}
+use Rattle.spec_history.proofs.Kept.{Kept, pays, fine-answer, kept-new}
+use Rattle.spec_hyparview.specs.Written.{encode-all}
 use Rattle.shuffle_times.specs.Times.{highest-draw, first-interval, next-interval, dues}
 use Rattle.shuffle_times.specs.Histories.{Brought, shuffle-delays, after, set-by, shuffles-due, counts, start-of, fires, is-first, on-time}
 use Rattle.shuffle_times.specs.Claims.{Tied}
@@ -229,7 +229,7 @@ module _ {c : Config} {me : ℕ} (ranges : in-range c ≡ true) where
       (tied-off vs more (ap mark-in (q .1) ∙ m) (subst (λ (x : List ℕ). on-time definition vs (a .state) x ≡ true) (q .0) y)))))
 
 -- The station's shuffle timers are due when the definition says, with draws of its own.
-pub due-times-tied : (me : ℕ) (d : Data) (c : Config) → Given me d → in-range c ≡ true → short-data d ≡ true → (vs : List Brought) → on-time definition vs (new-station me d c) [] ≡ true → Tied definition c (new-station me d c) vs
+pub due-times-tied : (me : ℕ) (d : Data) (c : Config) → NewGiven me d → in-range c ≡ true → short-data d ≡ true → (vs : List Brought) → on-time definition vs (new-station me d c) [] ≡ true → Tied definition c (new-station me d c) vs
 unfolding new-station first-interval
 due-times-tied me d c given r sd vs o =
     let w = tied-off r vs (kept-new me d c given r sd) refl o in

@@ -8,17 +8,17 @@ use native.Mathlib.Omega.{arith}
 use lib.ListN.{length, replicate, length-append}
 use lib.Dec.{ltb, eqb}
 use borrow.Author.Tests.{ltb-true}
-use Rattle.lists.specs.Lists.{choose}
-use Rattle.lists.specs.Bytes.{le, read-le}
-use Rattle.lists.proofs.Choice.{choose-yes, choose-no, and-left, and-right}
+use Rattle.base_lists.specs.Lists.{choose}
+use Rattle.base_lists.specs.Bytes.{le, read-le}
+use Rattle.base_lists.proofs.Choice.{choose-yes, choose-no, and-left, and-right}
 use Rattle.record.specs.Format.{Rec, size, header-by, encode, encode-by}
 use Rattle.record.specs.Read.{header-of, header-of-by}
 use Rattle.record.specs.Walk.{headers}
 use Rattle.record.proofs.Format.{length-encode}
 use Rattle.record.proofs.Walk.{records-written, records-zeros}
-use Rattle.protocol.specs.Station.{draws-end}
-use Rattle.protocol.specs.Rules.{all-under}
-use Rattle.protocol.specs.Written.{encode-all}
+use Rattle.spec_hyparview.specs.Station.{draws-end}
+use Rattle.spec_hyparview.specs.Rules.{all-under}
+use Rattle.spec_hyparview.specs.Written.{encode-all}
 use Rattle.shuffle_times.specs.Histories.{shuffle-delays}
 
 -- the delays of the shuffle timers among them

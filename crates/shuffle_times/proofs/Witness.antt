@@ -8,31 +8,31 @@ use native.Mathlib.Omega.{arith}
 use lib.ListN.{length, replicate}
 use lib.Dec.{leb, ltb, eqb}
 use borrow.Author.Tests.{eq-eqb, lt-ltb, ltb-true, le-leb}
-use Rattle.lists.specs.Lists.{choose, null}
-use Rattle.lists.specs.Maps.{retain}
-use Rattle.lists.specs.Bytes.{le, read-le}
-use Rattle.lists.proofs.Choice.{choose-yes, choose-no, and-left, and-right}
-use Rattle.timing.specs.Timing.{in-range, delay, maintenance-interval}
-use Rattle.timing.specs.declared.Config.{Config}
-use Rattle.peer.specs.Data.{Data}
+use Rattle.base_lists.specs.Lists.{choose, null}
+use Rattle.base_lists.specs.Maps.{retain}
+use Rattle.base_lists.specs.Bytes.{le, read-le}
+use Rattle.base_lists.proofs.Choice.{choose-yes, choose-no, and-left, and-right}
+use Rattle.base_timing.specs.Timing.{in-range, delay, maintenance-interval}
+use Rattle.base_timing.specs.declared.Config.{Config}
+use Rattle.base_peer.specs.Data.{Data}
 use Rattle.record.specs.Format.{Rec, header-length, size-by, datas, header-by, entries-by, encode, encode-by}
 use Rattle.record.specs.Read as Rd
 use Rattle.record.specs.Read.{event, read-event}
 use Rattle.record.specs.Walk.{kind-in, headers}
-use Rattle.protocol.specs.Station.{Station, is-alone, draws-end}
-use Rattle.protocol.specs.Setters.{set-scheduled, set-next-interval}
-use Rattle.protocol.specs.Run.{Run, guard, on, emit, draw, drawn, timer, notice}
-use Rattle.protocol.specs.Rules.{all-under, station-ok}
-use Rattle.protocol.specs.Events as E
-use Rattle.protocol.specs.Timers as T
-use Rattle.protocol.specs.Handle as H
-use Rattle.protocol.specs.Handle.{Result, new-station, start, steps, accepted, finish, handle-reading, handle}
-use Rattle.lists.proofs.Members.{both}
-use Rattle.protocol.proofs.Tested.{rules-of}
-use Rattle.history.specs.Ledger.{Ledger}
-use Rattle.history.specs.Calls.{Call, result-of, answered, definition}
-use Rattle.history.proofs.Kept.{Kept, fine-answer}
-use Rattle.protocol.specs.Written.{encode-all}
+use Rattle.spec_hyparview.specs.Station.{Station, is-alone, draws-end}
+use Rattle.spec_hyparview.specs.Setters.{set-scheduled, set-next-interval}
+use Rattle.spec_hyparview.specs.Run.{Run, guard, on, emit, draw, drawn, timer, notice}
+use Rattle.spec_hyparview.specs.Rules.{all-under, station-ok}
+use Rattle.spec_hyparview.specs.Events as E
+use Rattle.spec_hyparview.specs.Timers as T
+use Rattle.spec_hyparview.specs.Handle as H
+use Rattle.spec_hyparview.specs.Handle.{Result, new-station, start, steps, accepted, finish, handle-reading, handle}
+use Rattle.base_lists.proofs.Members.{both}
+use Rattle.spec_hyparview.proofs.Tested.{rules-of}
+use Rattle.spec_history.specs.Ledger.{Ledger}
+use Rattle.spec_history.specs.Calls.{Call, result-of, answered, definition}
+use Rattle.spec_history.proofs.Kept.{Kept, fine-answer}
+use Rattle.spec_hyparview.specs.Written.{encode-all}
 use Rattle.shuffle_times.specs.Times.{first-interval, next-interval, dues}
 use Rattle.shuffle_times.specs.Histories.{Brought, shuffle-delays, after, set-by, shuffles-due, counts, start-of, fires, is-first, on-time, in-time-order}
 use Rattle.shuffle_times.proofs.Delays.{first-ok}

@@ -5,10 +5,10 @@ use mathlib.Core.Bool.{true}
 use mathlib.Core.List.{List, []}
 use mathlib.Core.Path.{_≡_}
 use lib.ListN.{length, getD}
-use Rattle.timing.specs.declared.Config.{Config}
-use Rattle.protocol.specs.Station.{draws-end}
-use Rattle.protocol.specs.Rules.{all-under}
-use Rattle.history.specs.Calls.{Machine, After-new, definition}
+use Rattle.base_timing.specs.declared.Config.{Config}
+use Rattle.spec_hyparview.specs.Station.{draws-end}
+use Rattle.spec_hyparview.specs.Rules.{all-under}
+use Rattle.spec_history.specs.Calls.{Machine, After-new, definition}
 use Rattle.shuffle_times.specs.Times.{first-interval, dues, has-times, shuffle-times}
 use Rattle.shuffle_times.specs.Histories.{Brought, shuffles-due, start-of, on-time, in-time-order}
 

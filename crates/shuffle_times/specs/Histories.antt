@@ -6,12 +6,12 @@ use mathlib.Core.List.{List, [], _∷_, _++_}
 use mathlib.Core.Path.{_≡_}
 use lib.ListN.{drop}
 use lib.Dec.{leb, eqb}
-use Rattle.lists.specs.Lists.{choose}
+use Rattle.base_lists.specs.Lists.{choose}
 use Rattle.record.specs.Walk.{kind-in, headers}
 use Rattle.record.specs.declared.Header.{Header}
-use Rattle.protocol.specs.Station.{draws-end}
-use Rattle.protocol.specs.Rules.{all-under}
-use Rattle.history.specs.Calls.{Call, Machine, code-of, state-of, output-of}
+use Rattle.spec_hyparview.specs.Station.{draws-end}
+use Rattle.spec_hyparview.specs.Rules.{all-under}
+use Rattle.spec_history.specs.Calls.{Call, Machine, code-of, state-of, output-of}
 
 -- a call at a time, in milliseconds, with draws of 32 bits
 pub record Brought : Type 0 where

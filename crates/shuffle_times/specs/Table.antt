@@ -2,8 +2,8 @@
 -- Assumes nothing.
 use Prim.Native.Nat.{ℕ}
 use mathlib.Core.Path.{_≡_, refl}
-use Rattle.lists.specs.Lists.{choose}
-use Rattle.timing.specs.Timing.{default, within, in-range, delay}
+use Rattle.base_lists.specs.Lists.{choose}
+use Rattle.base_timing.specs.Timing.{default, within, in-range, delay}
 use Rattle.shuffle_times.specs.declared.ShuffleTimes.{ShuffleTimes}
 use Rattle.shuffle_times.specs.Times.{first-interval, next-interval, due, due-by, has-times, shuffle-times}
 

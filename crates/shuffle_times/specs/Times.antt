@@ -5,9 +5,9 @@ use mathlib.Core.Bool.{Bool, _&&_}
 use mathlib.Core.List.{List, [], _∷_}
 use lib.ListN.{replicate}
 use lib.Dec.{leb}
-use Rattle.lists.specs.Lists.{choose}
-use Rattle.timing.specs.Timing.{in-range, initial-shuffle-interval, delay}
-use Rattle.timing.specs.declared.Config.{Config}
+use Rattle.base_lists.specs.Lists.{choose}
+use Rattle.base_timing.specs.Timing.{in-range, initial-shuffle-interval, delay}
+use Rattle.base_timing.specs.declared.Config.{Config}
 use Rattle.shuffle_times.specs.declared.ShuffleTimes.{ShuffleTimes}
 
 -- "a number k from 1 to 1,000"

@@ -1,10 +1,10 @@
 // Document 02, S-11: when the k-th shuffle is due, at the earliest and at the latest, where the start is known to a range.
-use timing::Config;
-use timing::Timing;
+use base_timing::Config;
+use base_timing::Timing;
 ghost use mathlib.Core.Path.{_≡_};
 ghost use Prim.Native.Nat.{_≤_};
 ghost use lib.ListN.{replicate};
-ghost use Rattle.timing.specs.Timing.{longest-time, delay};
+ghost use Rattle.base_timing.specs.Timing.{longest-time, delay};
 ghost use Rattle.shuffle_times.specs.Times.{lowest-draw, highest-draw, latest-start, most-shuffles, first-interval, next-interval, due, has-times, shuffle-times};
 
 // Both ends, in milliseconds; both 0 where there is no such time.
@@ -26,7 +26,7 @@ impl ShuffleTimes {
 fn initial_interval(top: u32) -> u32
     ensures { λ r. ⌜ r ≡ first-interval top ⌝ }
 {
-    timing::shorter(Timing::INITIAL_SHUFFLE_INTERVAL, top)
+    base_timing::shorter(Timing::INITIAL_SHUFFLE_INTERVAL, top)
 }
 
 // The interval doubles up to the setting.
@@ -34,7 +34,7 @@ fn next_interval(top: u32, interval: u32) -> u32
     requires { ⌜ interval ≤ longest-time ⌝ }
     ensures { λ r. ⌜ r ≡ next-interval top interval ⌝ }
 {
-    timing::shorter(2 * interval, top)
+    base_timing::shorter(2 * interval, top)
 }
 
 // Three quarters of the interval: the delay of the lowest draw.

@@ -10,35 +10,36 @@ use lib.ListN.{length, set, length-append}
 use lib.Dec.{eqb}
 use borrow.Author.Tests.{leb-false}
 use borrow.Rule.Slice.PartMut.{putMid}
-use Rattle.lists.specs.Lists.{renew}
-use Rattle.lists.proofs.Choice.{by-choice}
-use Rattle.peer.specs.declared.PeerData.{PeerData}
-use Rattle.peer.specs.Data.{Data, bytes-of}
-use Rattle.peer.specs.Held.{data-in, ValidData}
-use Rattle.peer.proofs.Data.{short-bytes}
-use Rattle.util.specs.Section.{items-at, HoldsSet}
-use Rattle.writer.specs.Write.{rec-in}
-use Rattle.protocol.specs.Station.{Station, Refill, automatic, is-me, in-active, active-is-full, is-requested}
-use Rattle.protocol.specs.Setters.{set-refill}
-use Rattle.protocol.specs.Run.{Run, guard, on, emit, require, notice}
-use Rattle.protocol.specs.Budgets.{single, freeing, arriving}
-use Rattle.protocol.specs.Peers.{insert-peer-info, drop-mark, remove-passive}
-use Rattle.protocol.specs.Sending.{count-request, open-request, tell-request, send-neighbor, reply-neighbor}
-use Rattle.protocol.specs.Refill.{unless-recovery}
-use Rattle.protocol.specs.Active.{push-active, remember-neighbor, move-in, gain-neighbor, enter-active, add-active-unchecked, free-random-slot-in-active-view, admit-full, admit-new, admit, add-active}
-use Rattle.protocol.proofs.Law.{Short}
-use Rattle.protocol.proofs.Invariant.{busy, Ok}
-use Rattle.protocol.proofs.Keeping.{ease}
-use Rattle.protocol.proofs.Sends.{ok-insert-peer-info}
-use Rattle.state.specs.declared.Work.{Work}
-use Rattle.state.specs.declared.RefillLimit.{RefillLimit}
-use Rattle.state.specs.declared.RefillLimit.the-variants.{Automatic}
-use Rattle.state.specs.Layout.{active-view-capacity, active-part, recent-part}
-use Rattle.state.specs.Unpack.{unpack, station-of, settings-at, limit-at, refill-in, PackedState, Becomes}
-use Rattle.state.specs.Work.{work-of, run, Changes, Room, Tells, TellsAny, Fine, Does}
-use Rattle.state.proofs.Access.{of-capacity}
-use Rattle.state.proofs.Fields.{put-passes-short, put-active, put-recent}
-use Rattle.state.proofs.Bridge.{guard-shut, on-twice, on-passed, on-done, unchanged, change-then, telling, tell-then, still, then-tell, seq, taken, left, holds-at}
+use Rattle.base_lists.specs.Lists.{renew}
+use Rattle.base_lists.proofs.Choice.{by-choice}
+use Rattle.base_peer.specs.declared.PeerData.{PeerData}
+use Rattle.base_peer.specs.Data.{Data, bytes-of}
+use Rattle.base_peer.specs.Held.{data-in, ValidData}
+use Rattle.base_peer.proofs.Data.{short-bytes}
+use Rattle.base_util.specs.Section.{items-at, HoldsSet}
+use Rattle.record_writer.specs.Write.{rec-in}
+use Rattle.spec_hyparview.specs.Station.{Station, Refill, automatic, is-me, in-active, active-is-full, is-requested}
+use Rattle.spec_hyparview.specs.Setters.{set-refill}
+use Rattle.spec_hyparview.specs.Run.{Run, guard, on, emit, require, notice}
+use Rattle.spec_hyparview.specs.Budgets.{single, freeing, arriving}
+use Rattle.spec_hyparview.specs.Peers.{insert-peer-info, drop-mark, remove-passive}
+use Rattle.spec_hyparview.specs.Sending.{count-request, open-request, tell-request, send-neighbor, reply-neighbor}
+use Rattle.spec_hyparview.specs.Refill.{unless-recovery}
+use Rattle.spec_hyparview.specs.Active.{push-active, remember-neighbor, move-in, gain-neighbor, enter-active, add-active-unchecked, free-random-slot-in-active-view, admit-full, admit-new, admit, add-active}
+use Rattle.spec_hyparview.proofs.Law.{Short}
+use Rattle.spec_hyparview.proofs.Invariant.{busy, Ok}
+use Rattle.spec_hyparview.proofs.Keeping.{ease}
+use Rattle.spec_hyparview.proofs.Sends.{ok-insert-peer-info}
+use Rattle.work.specs.declared.Work.{Work}
+use Rattle.hyparview_state.specs.declared.RefillLimit.{RefillLimit}
+use Rattle.hyparview_state.specs.declared.RefillLimit.the-variants.{Automatic}
+use Rattle.hyparview_state.specs.Layout.{active-view-capacity, active-part, recent-part}
+use Rattle.hyparview_state.specs.Unpack.{unpack, station-of, settings-at, limit-at, refill-in, PackedState, Becomes}
+use Rattle.hyparview_state.specs.Work.{work-of, run, run-of, Changes, Room, Tells, TellsAny, Fine, Does}
+use Rattle.hyparview_state.proofs.Access.{of-capacity}
+use Rattle.hyparview_state.proofs.Fields.{put-passes-short, put-active, put-recent}
+use Rattle.hyparview_state.proofs.Any.{told-at}
+use Rattle.hyparview_state.proofs.Bridge.{guard-shut, on-twice, on-passed, on-done, unchanged, change-then, telling, tell-then, still, then-tell, seq, taken, left, holds-at}
 use Rattle.step_active.specs.Sane.{FreeActive, Calm}
 
 -- ---- places
@@ -66,7 +67,7 @@ kept-free f a c g h =
 
 still-free : (f : Station → Station) → ((s : Station) → f s .active ≡ s .active) → ((s : Station) → f s .config ≡ s .config) → (w a : Work) (xs ys : List ℕ)
     → Changes (on f) (work-of w xs) (work-of a ys) → FreeActive (w .code) (unpack xs) → FreeActive (a .code) (unpack ys)
-unfolding run
+unfolding run-of
 still-free f m n w a xs ys k h = subst (λ (x : Run). FreeActive (x .code) (x .station)) (sym (k .same [] [])) (kept-free f m n (run (work-of w xs) [] []) h)
 
 -- ---- rows
@@ -119,11 +120,11 @@ module _ (w a b : Work) (xs ys out o : List ℕ) (p : ℕ) (v : Room (work-of w 
   enter-row : (zs : List ℕ) → Changes (on gain-neighbor) (work-of b ys) (work-of b zs) → Tells (enter-active p) (work-of w xs) (work-of b zs) out o
   unfolding enter-active rec-in
   enter-row zs k₃ =
-      let t = k₂ .any ys (k₁ .packed) in
+      let t = told-at ys (k₁ .packed) _ k₂ in
       tell-then _ (λ ds. refl) (telling (t .room) k₃) (tell-then (λ g. emit (notice 9 p) (on (move-in p) g)) (λ ds. refl) t (telling v k₁))
 
   pub not-added : (high reply : Bool) → (b .code ≡ 0 → ⊥) → Tells (add-active-unchecked p high reply) (work-of w xs) (work-of b ys) out o
-  unfolding add-active-unchecked run
+  unfolding add-active-unchecked run-of
   not-added high reply h =
       let t = enter-row ys (on-passed (work-of b ys) (k₁ .packed) gain-neighbor h) in
       tell-then _ (λ ds. refl) (telling (t .room) (unchanged (reply-neighbor reply p high) (k₁ .packed) (λ ds q. reply-shut reply p high (run (work-of b ys) ds q) h))) t

@@ -8,36 +8,36 @@ use mathlib.Core.Option.{Option}
 use native.Mathlib.Omega.{arith}
 use lib.ListN.{length, drop, getD}
 use borrow.Author.Tests.{eq-eqb}
-use Rattle.lists.specs.Lists.{choose, null, count, index-of, insert, swap-remove}
-use Rattle.lists.specs.Maps.{lookup}
-use Rattle.lists.proofs.Choice.{choose-yes, clash}
-use Rattle.lists.proofs.Count.{index-lt, length-swap}
-use Rattle.util.specs.Chances.{pick}
-use Rattle.peer.specs.declared.PeerData.{PeerData}
-use Rattle.peer.specs.Held.{data-in, HoldsData}
-use Rattle.util.specs.Section.{items-at}
-use Rattle.writer.specs.Write.{rec-in}
-use Rattle.protocol.specs.Station.{recovery, in-active, is-alone}
-use Rattle.protocol.specs.Sending.{send-disconnect}
-use Rattle.protocol.specs.Refill.{start-refill}
-use Rattle.protocol.specs.Run.{Run, with-station, guard, on, emit, notice, to-draw, one-of, draw-one-of}
-use Rattle.protocol.specs.Budgets.{bare, adding, disconnecting, leaving, freeing}
-use Rattle.protocol.specs.Peers.{drop-data, drop-mark, forget-peer, add-passive, is-marked}
-use Rattle.protocol.specs.Active.{Reason, random, swap-active, drop-active, demote, mark-alive, demote-alive, settle-closed, settle, clear-refused, remove-active-by-index, refill-after, remove-active, remove-picked, free-random-slot-in-active-view}
-use Rattle.lists.proofs.Members.{shorter}
-use Rattle.protocol.proofs.Invariant.{Fixed, busy, Ok}
-use Rattle.protocol.proofs.Keeping.{ease, ok-one-of}
-use Rattle.protocol.proofs.Sends.{ok-send-disconnect}
-use Rattle.protocol.proofs.Leaving.{ok-demote-alive, ok-drop-active, ok-free-slot}
-use Rattle.state.specs.declared.Work.{Work}
-use Rattle.state.specs.declared.RefillLimit.{RefillLimit}
-use Rattle.state.specs.declared.RefillLimit.the-variants.{Recovery}
-use Rattle.state.specs.Layout.{active-view-capacity, active-part, alive-part}
-use Rattle.state.specs.Unpack.{unpack, station-of, refill-in, PackedState}
-use Rattle.state.specs.Work.{work-of, run, Changes, DrawsAny, Room, Tells, TellsAny, Fine, Does}
-use Rattle.state.proofs.Access.{active-fits}
-use Rattle.state.proofs.Bridge.{on-passed, emit-passed, telling, tell-then, still, by, then, then-tell, seq, seq-at, taken, left, holds-at}
-use Rattle.state.proofs.Any.{then-draw-any}
+use Rattle.base_lists.specs.Lists.{choose, null, count, index-of, insert, swap-remove}
+use Rattle.base_lists.specs.Maps.{lookup}
+use Rattle.base_lists.proofs.Choice.{choose-yes, clash}
+use Rattle.base_lists.proofs.Count.{index-lt, length-swap}
+use Rattle.base_util.specs.Chances.{pick}
+use Rattle.base_peer.specs.declared.PeerData.{PeerData}
+use Rattle.base_peer.specs.Held.{data-in, HoldsData}
+use Rattle.base_util.specs.Section.{items-at}
+use Rattle.record_writer.specs.Write.{rec-in}
+use Rattle.spec_hyparview.specs.Station.{recovery, in-active, is-alone}
+use Rattle.spec_hyparview.specs.Sending.{send-disconnect}
+use Rattle.spec_hyparview.specs.Refill.{start-refill}
+use Rattle.spec_hyparview.specs.Run.{Run, with-station, guard, on, emit, notice, to-draw, one-of, draw-one-of}
+use Rattle.spec_hyparview.specs.Budgets.{bare, adding, disconnecting, leaving, freeing}
+use Rattle.spec_hyparview.specs.Peers.{drop-data, drop-mark, forget-peer, add-passive, is-marked}
+use Rattle.spec_hyparview.specs.Active.{Reason, random, swap-active, drop-active, demote, mark-alive, demote-alive, settle-closed, settle, clear-refused, remove-active-by-index, refill-after, remove-active, remove-picked, free-random-slot-in-active-view}
+use Rattle.base_lists.proofs.Members.{shorter}
+use Rattle.spec_hyparview.proofs.Invariant.{Fixed, busy, Ok}
+use Rattle.spec_hyparview.proofs.Keeping.{ease, ok-one-of}
+use Rattle.spec_hyparview.proofs.Sends.{ok-send-disconnect}
+use Rattle.spec_hyparview.proofs.Leaving.{ok-demote-alive, ok-drop-active, ok-free-slot}
+use Rattle.work.specs.declared.Work.{Work}
+use Rattle.hyparview_state.specs.declared.RefillLimit.{RefillLimit}
+use Rattle.hyparview_state.specs.declared.RefillLimit.the-variants.{Recovery}
+use Rattle.hyparview_state.specs.Layout.{active-view-capacity, active-part, alive-part}
+use Rattle.hyparview_state.specs.Unpack.{station-form, unpack, station-of, refill-in, PackedState}
+use Rattle.hyparview_state.specs.Work.{work-of, run, run-of, Changes, DrawsAny, Room, Tells, TellsAny, Fine, Does}
+use Rattle.hyparview_state.proofs.Access.{active-fits}
+use Rattle.hyparview_state.proofs.Bridge.{on-passed, emit-passed, telling, tell-then, still, by, then, then-tell, seq, seq-at, taken, left, holds-at}
+use Rattle.hyparview_state.proofs.Any.{one-of-at, then-one-of, told-at}
 use Rattle.step_peers.specs.declared.Added.{Added}
 use Rattle.step_peers.specs.Answer.{Adds}
 use Rattle.step_active.specs.declared.Loss.{Loss}
@@ -56,19 +56,19 @@ mark-place xs code p z h = h .free z
 -- ---- leaving
 
 pub not-dropped : (w : Work) (xs out : List ℕ) (i : ℕ) → Room (work-of w xs) out → (w .code ≡ 0 → ⊥) → Tells (drop-active i) (work-of w xs) (work-of w xs) out out
-unfolding drop-active run
+unfolding drop-active run-of
 not-dropped w xs out i v h =
     tell-then _ (λ ds. refl) (emit-passed w xs out (notice 10 (getD (unpack xs .active) i 0)) v h) (telling v (on-passed (work-of w xs) (v .packed) (swap-active i) h))
 
 pub dropped : (w a r : Work) (xs ys out o : List ℕ) (i p : ℕ) → Room (work-of w xs) out → p ≡ getD (unpack xs .active) i 0
     → TellsAny (emit (rec-in (record { kind = 10; message = 0; flags = 0; peer = p; second = 0; ttl = 0; number = 0 }) [])) a r out o → Changes (on (swap-active i)) (work-of w xs) (work-of a ys)
     → Tells (drop-active i) (work-of w xs) (work-of r ys) out o
-unfolding drop-active run rec-in
-dropped w a r xs ys out o i p v e k₂ k₁ = tell-then _ (λ ds. rw e) (k₂ .any ys (k₁ .packed)) (telling v k₁)
+unfolding drop-active run-of rec-in
+dropped w a r xs ys out o i p v e k₂ k₁ = tell-then _ (λ ds. rw e) (told-at ys (k₁ .packed) _ k₂) (telling v k₁)
 
 pub demoted : (w a : Work) (m : Added) (xs ys zs ds out o : List ℕ) (p : ℕ) (d : PeerData) (x : Option ℕ) → Fine (work-of w xs) ds out → HoldsData d (lookup p (unpack xs .peer-data))
     → Adds m zs ds o (add-passive p (data-in d) (run (work-of a ys) ds out)) x → Changes (on (drop-data p)) (work-of w xs) (work-of a ys) → Does (work-of (m .work) zs) ds o (demote p (run (work-of w xs) ds out))
-unfolding demote run
+unfolding demote run-of
 demoted w a m xs ys zs ds out o p d x v h k₂ k₁ = seq-at (add-passive p) (h .holds) (k₂ .does) (then k₁ (still v))
 
 module _ (w a : Work) (xs ys ds out o : List ℕ) (p : ℕ) (alive : Bool) (k : Does (work-of a ys) ds o (demote p (run (work-of w xs) ds out))) where
@@ -93,7 +93,7 @@ mark-fits {q} {g} {ba} {sl} {m} {b} {d} p x k = record {
 }
 
 pub mark-free : (w a : Work) (xs ys ds out o : List ℕ) (p : ℕ) → Loose p 0 adding 1 (run (work-of w xs) ds out) → Does (work-of a ys) ds o (demote p (run (work-of w xs) ds out)) → FreeMark p (a .code) (unpack ys)
-unfolding demote-alive run
+unfolding demote-alive run-of
 mark-free w a xs ys ds out o p l k =
     subst (λ (x : Run). FreeMark p (x .code) (x .station)) (sym (k .same)) (mark-fits p (demote p (run (work-of w xs) ds out)) (ok-demote-alive p (l .ok)))
 
@@ -112,7 +112,7 @@ module _ (w : Work) (xs ds out : List ℕ) (p : ℕ) (t : Bool) (v : Fine (work-
 -- p is out of the active view: what may be spent, but for the notice's bytes
 loose-after : (w a : Work) (xs ys ds out o : List ℕ) (i p m B d n b : ℕ) → n ≤ m + 2 → b + bare ≤ B → Calm m B d (run (work-of w xs) ds out) → i < length (unpack xs .active) → p ≡ getD (unpack xs .active) i 0
     → Tells (drop-active i) (work-of w xs) (work-of a ys) out o → Loose p n b d (run (work-of a ys) ds o)
-unfolding run
+unfolding run-of
 loose-after w a xs ys ds out o i p m B d n b l h c j e k =
     let q = c .fixed in
     let g = c .guest in
@@ -151,7 +151,7 @@ sent-loose w a xs ys ds out o p c k = record {
 }
 
 calm-drawn : (w a : Work) (xs ds out : List ℕ) (n : ℕ) → n ≡ length (unpack xs .active) → Fine (work-of w xs) ds out → Calm 0 freeing 40 (run (work-of w xs) ds out) → DrawsAny (draw-one-of n) w a ds → Calm 0 freeing 39 (run (work-of a xs) ds out)
-unfolding run
+unfolding run-of
 calm-drawn w a xs ds out n e v c k = record {
   fixed = c .fixed;
   guest = c .guest;
@@ -160,7 +160,7 @@ calm-drawn w a xs ds out n e v c k = record {
   bytes = c .bytes;
   draws = c .draws;
   ok =
-      subst (Ok (c .fixed) (busy (c .guest) (c .barred) [] 0 0) (c .messages + 0) (c .bytes + freeing) (c .draws + 39)) (sym (k .any xs (v .ready .packed) .same out))
+      subst (Ok (c .fixed) (busy (c .guest) (c .barred) [] 0 0) (c .messages + 0) (c .bytes + freeing) (c .draws + 39)) (sym (one-of-at {F = station-form} xs (v .ready .packed) _ k .same out))
       (ok-one-of n (λ o g l. omega (arith, g .seats .slots-left, g .still .ranges .few-slots)) (ease (omega arith) (omega arith) (omega arith) (c .ok)));
 }
 
@@ -170,7 +170,7 @@ loose-picked w a b xs ys ds out o n i p v c q j e k₂ k₁ =
     loose-after a b xs ys ds out o i p 0 freeing 39 2 (disconnecting + adding) (omega arith) (omega arith) (calm-drawn w a xs ds out n q v c k₁) (omega (arith, q, j)) e k₂
 
 pub slot-free : (w a : Work) (xs ys ds out o : List ℕ) → Calm 0 freeing 40 (run (work-of w xs) ds out) → Does (work-of a ys) ds o (free-random-slot-in-active-view (run (work-of w xs) ds out)) → FreeActive (a .code) (unpack ys)
-unfolding run
+unfolding run-of
 slot-free w a xs ys ds out o c k =
     subst (λ (x : Run). FreeActive (x .code) (x .station)) (sym (k .same))
     (record { free = λ z. let h = ok-free-slot (c .ok) .good z .core in omega (arith, h .seats .slots-left) })
@@ -179,7 +179,7 @@ slot-free w a xs ys ds out o c k =
 
 pub by-index : (w a r : Work) (xs ys zs ds out o o₂ : List ℕ) (i p : ℕ) (why : Reason) → Fine (work-of w xs) ds out → p ≡ getD (unpack xs .active) i 0
     → Does (work-of r zs) ds o₂ (settle why p (run (work-of a ys) ds o)) → Tells (drop-active i) (work-of w xs) (work-of a ys) out o → Does (work-of r zs) ds o₂ (remove-active-by-index i why (run (work-of w xs) ds out))
-unfolding remove-active-by-index run
+unfolding remove-active-by-index run-of
 by-index w a r xs ys zs ds out o o₂ i p why v e k₂ k₁ = seq-at (settle why) e k₂ (then-tell k₁ (still v))
 
 pub fine-told : {step : Run → Run} (w a : Work) (xs ys ds out o : List ℕ) → Fine (work-of w xs) ds out → Tells step (work-of w xs) (work-of a ys) out o → Fine (work-of a ys) ds o
@@ -198,7 +198,7 @@ place-of xs p i t e h q = rw q (index-lt p (unpack xs .active) (sym e ∙ h))
 module _ (w : Work) (xs ds out : List ℕ) (p : ℕ) (why : Reason) (t : Bool) (v : Fine (work-of w xs) ds out) (e : t ≡ in-active p (unpack xs)) where
   pub removed : (a r : Work) (ys zs o o₂ : List ℕ) (i : ℕ) → t ≡ true → i ≡ index-of p (unpack xs .active) → Does (work-of r zs) ds o₂ (refill-after p (run (work-of a ys) ds o)) → Does (work-of a ys) ds o (remove-active-by-index i why (run (work-of w xs) ds out))
       → Does (work-of r zs) ds o₂ (remove-active p why (run (work-of w xs) ds out))
-  unfolding remove-active run
+  unfolding remove-active run-of
   removed a r ys zs o o₂ i h q k₂ k₁ =
       taken _ _ (sym e ∙ h) (seq (refill-after p) k₂ (by _ (ap (λ (n : ℕ). remove-active-by-index n why (run (work-of w xs) ds out)) (sym q)) k₁))
 
@@ -208,10 +208,10 @@ module _ (w : Work) (xs ds out : List ℕ) (p : ℕ) (why : Reason) (t : Bool) (
 
 pub picked-removed : (w a r : Work) (xs ys ds out o : List ℕ) (n i : ℕ) → Fine (work-of w xs) ds out → n ≡ length (unpack xs .active) → i ≡ pick n (drop (w .drawn) ds)
     → Does (work-of r ys) ds o (remove-active-by-index i random (run (work-of a xs) ds out)) → DrawsAny (draw-one-of n) w a ds → Does (work-of r ys) ds o (remove-picked (run (work-of w xs) ds out))
-unfolding remove-picked run one-of to-draw
+unfolding remove-picked run-of one-of to-draw
 picked-removed w a r xs ys ds out o n i v q u k₂ k₁ =
     by _ (λ j. remove-active-by-index (sym (u ∙ ap (λ (m : ℕ). pick m (drop (w .drawn) ds)) q) j) random (draw-one-of (sym q j) (run (work-of w xs) ds out)))
-    (seq (remove-active-by-index i random) k₂ (then-draw-any k₁ (still v)))
+    (seq (remove-active-by-index i random) k₂ (then-one-of _ k₁ (still v)))
 
 some-item : (l : List ℕ) → null l ≡ false → 0 < length l
 unfolding null

@@ -4,12 +4,12 @@ use Prim.Native.Nat.{ℕ, _+_, _≤_, _<_}
 use mathlib.Core.Path.{_≡_}
 use mathlib.Core.List.{List, [], _∷_}
 use lib.ListN.{length}
-use Rattle.lists.specs.Lists.{insert}
-use Rattle.protocol.specs.Station.{Station}
-use Rattle.protocol.specs.Run.{Run}
-use Rattle.protocol.specs.Active.{Reason, connection-closed, disconnect-received}
-use Rattle.protocol.specs.Invariant.{Fixed, busy, Ok}
-use Rattle.state.specs.Layout.{all-places}
+use Rattle.base_lists.specs.Lists.{insert}
+use Rattle.spec_hyparview.specs.Station.{Station}
+use Rattle.spec_hyparview.specs.Run.{Run}
+use Rattle.spec_hyparview.specs.Active.{Reason, connection-closed, disconnect-received}
+use Rattle.spec_hyparview.specs.Invariant.{Fixed, busy, Ok}
+use Rattle.hyparview_state.specs.Layout.{all-places}
 use Rattle.step_active.specs.declared.Loss.{Loss}
 use Rattle.step_active.specs.declared.Loss.the-variants.{ConnectionClosed, DisconnectReceived}
 

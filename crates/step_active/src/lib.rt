@@ -1,25 +1,25 @@
 // The active view: peers that leave it and peers that enter it (the definition's `Active`).
-use peer::PeerData;
-use peer::PeerId;
+use base_peer::PeerData;
+use base_peer::PeerId;
+use base_timing::Timing;
+use hyparview_state::Layout;
+use hyparview_state::RefillLimit;
 use record::Kind;
-use state::Layout;
-use state::RefillLimit;
-use state::Work;
-use timing::Timing;
-use writer::Fields;
+use record_writer::Fields;
+use work::Work;
 ghost use mathlib.Core.Path.{_≡_};
 ghost use mathlib.Core.Bool.{true};
 ghost use Prim.Native.Nat.{_<_};
 ghost use lib.ListN.{length, getD};
-ghost use Rattle.lists.specs.Lists.{choose};
-ghost use Rattle.peer.specs.Held.{data-in, ValidData};
-ghost use Rattle.protocol.specs.Run.{on};
-ghost use Rattle.protocol.specs.Budgets.{adding, leaving, freeing, arriving};
-ghost use Rattle.protocol.specs.Active.{drop-active, demote, mark-alive, demote-alive, remove-active-by-index, remove-active, free-random-slot-in-active-view};
-ghost use Rattle.protocol.specs.Active.{move-in, add-active-unchecked, add-active};
-ghost use Rattle.state.specs.Layout.{words};
-ghost use Rattle.state.specs.Unpack.{unpack, PackedState};
-ghost use Rattle.state.specs.Work.{work-of, run, Changes, Room, Tells, Fine, Does};
+ghost use Rattle.base_lists.specs.Lists.{choose};
+ghost use Rattle.base_peer.specs.Held.{data-in, ValidData};
+ghost use Rattle.spec_hyparview.specs.Run.{on};
+ghost use Rattle.spec_hyparview.specs.Budgets.{adding, leaving, freeing, arriving};
+ghost use Rattle.spec_hyparview.specs.Active.{drop-active, demote, mark-alive, demote-alive, remove-active-by-index, remove-active, free-random-slot-in-active-view};
+ghost use Rattle.spec_hyparview.specs.Active.{move-in, add-active-unchecked, add-active};
+ghost use Rattle.hyparview_state.specs.Layout.{words};
+ghost use Rattle.hyparview_state.specs.Unpack.{unpack, PackedState};
+ghost use Rattle.hyparview_state.specs.Work.{work-of, run, Changes, Room, Tells, Given, Makes};
 ghost use Rattle.step_active.specs.Sane.{reason-in, FreeActive, FreeMark, Calm, Loose};
 
 // Why a neighbor is gone that knows it already: the Rust's `RemovalReason` but for the random one.
@@ -41,7 +41,7 @@ fn drop_active(w: Work, st: &mut [u64], out: &mut [u8], i: usize, p: PeerId) -> 
     if w.code != 0 {
         return w;
     }
-    util::remove_index(&mut st[Layout::ACTIVE..Layout::ACTIVE_END], Layout::FEW, i);
+    base_util::remove_index(&mut st[Layout::ACTIVE..Layout::ACTIVE_END], Layout::FEW, i);
     let f = Fields {
         kind: Kind::NEIGHBOR_DOWN,
         message: 0,
@@ -51,7 +51,7 @@ fn drop_active(w: Work, st: &mut [u64], out: &mut [u8], i: usize, p: PeerId) -> 
         ttl: 0,
         number: 0,
     };
-    state::emit_bare(w, out, f)
+    work::emit_bare(w, out, f)
 }
 
 pub fn mark_alive(w: Work, st: &mut [u64], p: PeerId) -> Work
@@ -63,18 +63,18 @@ pub fn mark_alive(w: Work, st: &mut [u64], p: PeerId) -> Work
     if w.code != 0 {
         return w;
     }
-    util::insert_sorted(&mut st[Layout::MARKS..Layout::MARKS_END], Layout::ALL, p);
+    base_util::insert_sorted(&mut st[Layout::MARKS..Layout::MARKS_END], Layout::ALL, p);
     w
 }
 
 // p goes to the passive view with the data that is held of it, and with a mark where it stays alive.
 fn demote(w: Work, st: &mut [u64], draws: &[u32], out: &mut [u8], p: PeerId, alive: bool) -> Work
     requires { ⌜ length (now st) ≡ words ⌝ }
-    requires { ⌜ Fine (work-of w (now st)) (now draws) (now out) ⌝ }
+    requires { ⌜ Given w st draws out ⌝ }
     requires { ⌜ (alive ≡ true → Loose p 0 adding 1 (run (work-of w (now st)) (now draws) (now out))) ⌝ }
-    ensures { λ r. ⌜ Does (work-of r (now (st .exit))) (now (draws .entry)) (now (out .exit)) (choose alive (demote-alive p) (demote p) (run (work-of w (now (st .entry))) (now (draws .entry)) (now (out .entry)))) ⌝ }
+    ensures { λ r. ⌜ Makes (choose alive (demote-alive p) (demote p)) w r st draws out ⌝ }
 {
-    let d = columns::get_data(&st[Layout::HELD..Layout::HELD_END], Layout::DATA_CAP, p);
+    let d = base_columns::get_data(&st[Layout::HELD..Layout::HELD_END], Layout::DATA_CAP, p);
     let a = step_peers::drop_data(w, st, p);
     let t = step_peers::add_passive(a, st, draws, out, p, d);
     if alive {
@@ -92,12 +92,12 @@ fn remove_active_by_index(
     why: Loss,
 ) -> Work
     requires { ⌜ length (now st) ≡ words ⌝ }
-    requires { ⌜ Fine (work-of w (now st)) (now draws) (now out) ⌝ }
+    requires { ⌜ Given w st draws out ⌝ }
     requires { ⌜ i < length (unpack (now st) .active) ⌝ }
     requires { ⌜ Calm 0 leaving 1 (run (work-of w (now st)) (now draws) (now out)) ⌝ }
-    ensures { λ r. ⌜ Does (work-of r (now (st .exit))) (now (draws .entry)) (now (out .exit)) (remove-active-by-index i (reason-in why) (run (work-of w (now (st .entry))) (now (draws .entry)) (now (out .entry)))) ⌝ }
+    ensures { λ r. ⌜ Makes (remove-active-by-index i (reason-in why)) w r st draws out ⌝ }
 {
-    let p = util::get_index(&st[Layout::ACTIVE..Layout::ACTIVE_END], Layout::FEW, i);
+    let p = base_util::get_index(&st[Layout::ACTIVE..Layout::ACTIVE_END], Layout::FEW, i);
     let a = drop_active(w, st, out, i, p);
     match why {
         Loss::ConnectionClosed => {
@@ -126,12 +126,12 @@ pub fn remove_active(
     why: Loss,
 ) -> Work
     requires { ⌜ length (now st) ≡ words ⌝ }
-    requires { ⌜ Fine (work-of w (now st)) (now draws) (now out) ⌝ }
+    requires { ⌜ Given w st draws out ⌝ }
     requires { ⌜ Calm 0 leaving 1 (run (work-of w (now st)) (now draws) (now out)) ⌝ }
-    ensures { λ r. ⌜ Does (work-of r (now (st .exit))) (now (draws .entry)) (now (out .exit)) (remove-active p (reason-in why) (run (work-of w (now (st .entry))) (now (draws .entry)) (now (out .entry)))) ⌝ }
+    ensures { λ r. ⌜ Makes (remove-active p (reason-in why)) w r st draws out ⌝ }
 {
-    if state::in_active(st, p) {
-        let i = util::position(&st[Layout::ACTIVE..Layout::ACTIVE_END], Layout::FEW, p);
+    if hyparview_state::in_active(st, p) {
+        let i = base_util::position(&st[Layout::ACTIVE..Layout::ACTIVE_END], Layout::FEW, p);
         let a = remove_active_by_index(w, st, draws, out, i, why);
         // Peers that refused may have room now, and the neighbor p is missing.
         let b = step_refill::clear_refused(a, st);
@@ -143,16 +143,16 @@ pub fn remove_active(
 
 fn free_random_slot_in_active_view(w: Work, st: &mut [u64], draws: &[u32], out: &mut [u8]) -> Work
     requires { ⌜ length (now st) ≡ words ⌝ }
-    requires { ⌜ Fine (work-of w (now st)) (now draws) (now out) ⌝ }
+    requires { ⌜ Given w st draws out ⌝ }
     requires { ⌜ Calm 0 freeing 40 (run (work-of w (now st)) (now draws) (now out)) ⌝ }
-    ensures { λ r. ⌜ Does (work-of r (now (st .exit))) (now (draws .entry)) (now (out .exit)) (free-random-slot-in-active-view (run (work-of w (now (st .entry))) (now (draws .entry)) (now (out .entry)))) ⌝ }
+    ensures { λ r. ⌜ Makes free-random-slot-in-active-view w r st draws out ⌝ }
 {
-    if state::is_alone(st) {
+    if hyparview_state::is_alone(st) {
         return w;
     }
-    let n = util::count(&st[Layout::ACTIVE..Layout::ACTIVE_END], Layout::FEW);
-    let t = state::choose(w, draws, n);
-    let p = util::get_index(
+    let n = base_util::count(&st[Layout::ACTIVE..Layout::ACTIVE_END], Layout::FEW);
+    let t = work::choose(w, draws, n);
+    let p = base_util::get_index(
         &st[Layout::ACTIVE..Layout::ACTIVE_END],
         Layout::FEW,
         t.index,
@@ -177,8 +177,8 @@ fn move_in(w: Work, st: &mut [u64], p: PeerId) -> Work
     if b.code != 0 {
         return b;
     }
-    util::push(&mut st[Layout::ACTIVE..Layout::ACTIVE_END], Layout::FEW, p);
-    util::renew(
+    base_util::push(&mut st[Layout::ACTIVE..Layout::ACTIVE_END], Layout::FEW, p);
+    base_util::renew(
         &mut st[Layout::RECENT..Layout::RECENT_END],
         Layout::FEW,
         Timing::MAX_RECENT_NEIGHBORS,
@@ -211,14 +211,14 @@ fn add_active_unchecked(
         ttl: 0,
         number: 0,
     };
-    let b = state::emit_bare(a, out, f);
+    let b = work::emit_bare(a, out, f);
     if b.code != 0 {
         return b;
     }
     // A recovery goes on, any other limit is lifted, and the short passes are counted anew.
-    let old = state::limit_of(st);
+    let old = hyparview_state::limit_of(st);
     let limit = old.unless_recovery(RefillLimit::Automatic);
-    state::keep_limit(st, limit);
+    hyparview_state::keep_limit(st, limit);
     st[Layout::PASSES_SHORT] = 0;
     step_sending::reply_neighbor(b, st, out, reply, p, high)
 }
@@ -234,20 +234,20 @@ pub fn add_active(
     reply: bool,
 ) -> Work
     requires { ⌜ length (now st) ≡ words ⌝ }
-    requires { ⌜ Fine (work-of w (now st)) (now draws) (now out) ⌝ }
+    requires { ⌜ Given w st draws out ⌝ }
     requires { ⌜ ValidData d ⌝ }
     requires { ⌜ Calm 0 arriving 40 (run (work-of w (now st)) (now draws) (now out)) ⌝ }
-    ensures { λ r. ⌜ Does (work-of r (now (st .exit))) (now (draws .entry)) (now (out .exit)) (add-active p (data-in d) high reply (run (work-of w (now (st .entry))) (now (draws .entry)) (now (out .entry)))) ⌝ }
+    ensures { λ r. ⌜ Makes (add-active p (data-in d) high reply) w r st draws out ⌝ }
 {
-    if state::is_me(st, p) {
+    if hyparview_state::is_me(st, p) {
         return w;
     }
     let a = step_peers::insert_peer_info(w, st, out, p, d);
-    if state::in_active(st, p) {
+    if hyparview_state::in_active(st, p) {
         return step_sending::reply_neighbor(a, st, out, reply, p, high);
     }
     // At a full view a peer of high priority takes the place of a random neighbor.
-    if state::active_is_full(st) {
+    if hyparview_state::active_is_full(st) {
         if high {
             let b = free_random_slot_in_active_view(a, st, draws, out);
             return add_active_unchecked(b, st, out, p, high, reply);

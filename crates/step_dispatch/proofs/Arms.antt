@@ -9,23 +9,23 @@ use native.Mathlib.Nat.{not-suc-le-zero}
 use lib.ListN.{length}
 use lib.Dec.{eqb, leb}
 use borrow.Author.Tests.{eq-eqb, ne-eqb, eqb-true, eqb-false, leb-true}
-use Rattle.lists.specs.Lists.{choose}
-use Rattle.lists.proofs.Choice.{choose-yes, choose-no, split, and-left, and-right}
-use Rattle.peer.specs.declared.PeerInfo.{PeerInfo}
-use Rattle.peer.specs.Data.{Node}
-use Rattle.peer.specs.Held.{data-in, node-in}
+use Rattle.base_lists.specs.Lists.{choose}
+use Rattle.base_lists.proofs.Choice.{choose-yes, choose-no, split, and-left, and-right}
+use Rattle.base_peer.specs.declared.PeerInfo.{PeerInfo}
+use Rattle.base_peer.specs.Data.{Node}
+use Rattle.base_peer.specs.Held.{data-in, node-in}
 use Rattle.record.specs.declared.Header.{Header}
 use Rattle.record.specs.Format.{header-length}
 use Rattle.record.specs.Read as R
 use Rattle.record.specs.Answers.{HoldsNode}
-use Rattle.protocol.specs.Run.{Run, on}
-use Rattle.protocol.specs.Messages.{on-join, on-forward-join, on-shuffle, on-shuffle-reply, on-neighbor, on-disconnect}
-use Rattle.protocol.specs.Timers.{handle-shuffle-timer, handle-maintenance-timer, handle-pending-neighbor-timer, retry-join}
-use Rattle.protocol.specs.Events.{handle-connection-closed, handle-join, update-own-data, handle-quit}
-use Rattle.protocol.specs.Handle.{first-node, first-data, is-high, says-alive, handle-message, dispatch}
-use Rattle.protocol.proofs.Whole.{quit-dispatch}
-use Rattle.state.specs.Work.{Held, Does}
-use Rattle.state.proofs.Bridge.{by}
+use Rattle.spec_hyparview.specs.Run.{Run, on}
+use Rattle.spec_hyparview.specs.Messages.{on-join, on-forward-join, on-shuffle, on-shuffle-reply, on-neighbor, on-disconnect}
+use Rattle.spec_hyparview.specs.Timers.{handle-shuffle-timer, handle-maintenance-timer, handle-pending-neighbor-timer, retry-join}
+use Rattle.spec_hyparview.specs.Events.{handle-connection-closed, handle-join, update-own-data, handle-quit}
+use Rattle.spec_hyparview.specs.Handle.{first-node, first-data, is-high, says-alive, handle-message, dispatch}
+use Rattle.spec_hyparview.proofs.Whole.{quit-dispatch}
+use Rattle.hyparview_state.specs.Work.{Held, Does}
+use Rattle.hyparview_state.proofs.Bridge.{by}
 use Rattle.step_dispatch.specs.Begun.{Headed}
 
 past-five : (m : ℕ) → suc (suc (suc (suc (suc (suc m))))) ≤ 5 → ⊥

@@ -2,25 +2,26 @@
 -- Assumes nothing.
 use Prim.Native.Nat.{ℕ, _≤_}
 use Rattle.step_dispatch.specs.Begun.{Opens}
-use Rattle.protocol.proofs.Keeping.{ease}
-use Rattle.protocol.specs.Budgets.{arriving}
-use Rattle.protocol.specs.Handle.{note-scheduled, first-timers, dispatch, forget-declined, steps}
-use Rattle.protocol.specs.Run.{Run, on}
-use Rattle.protocol.specs.Timers.{schedule-shuffle, schedule-maintenance}
+use Rattle.spec_hyparview.proofs.Keeping.{ease}
+use Rattle.spec_hyparview.specs.Budgets.{arriving}
+use Rattle.spec_hyparview.specs.Handle.{note-scheduled, first-timers, dispatch, forget-declined, steps}
+use Rattle.base_timing.specs.Timing.{maintenance-interval}
+use Rattle.spec_hyparview.specs.Run.{Run, on, emit, timer}
+use Rattle.spec_hyparview.specs.Timers.{schedule-shuffle, schedule-maintenance}
 use Rattle.record.specs.Format.{Rec}
-use Rattle.state.proofs.Any.{then-tell-any}
-use Rattle.state.proofs.Bridge.{on-passed, on-done, emit-passed, still, taken, left, then, then-tell, seq}
-use Rattle.state.proofs.Fields.{put-scheduled}
-use Rattle.state.specs.Layout as layout
-use Rattle.state.specs.Unpack.{station-of, unpack}
-use Rattle.state.specs.Work.{Held, work-of, run, Changes, Fine, Does, TellsAny}
-use Rattle.state.specs.declared.Work.{Work}
+use Rattle.hyparview_state.proofs.Any.{then-tell-any}
+use Rattle.hyparview_state.proofs.Bridge.{on-passed, on-done, emit-passed, still, taken, left, then, then-tell, seq}
+use Rattle.hyparview_state.proofs.Fields.{put-scheduled}
+use Rattle.hyparview_state.specs.Layout as layout
+use Rattle.hyparview_state.specs.Unpack.{station-of, unpack}
+use Rattle.hyparview_state.specs.Work.{Held, work-of, run, run-of, Changes, Fine, Does, TellsAny}
+use Rattle.work.specs.declared.Work.{Work}
 use Rattle.step_events.specs.Free.{KnownJoins}
 use Rattle.step_messages.specs.Between.{Between}
-use Rattle.lists.proofs.Choice.{split, and-left, and-right, and-false}
+use Rattle.base_lists.proofs.Choice.{split, and-left, and-right, and-false}
 use Rattle.step_sending.proofs.Told.{room-of}
 use Rattle.step_timers.proofs.Shuffles.{not-scheduled}
-use Rattle.util.specs.Section.{part}
+use Rattle.base_util.specs.Section.{part}
 use borrow.Author.Tests.{eqb-true, eqb-false}
 use lib.Dec.{eqb}
 use lib.ListN.{length, set, length-set}
@@ -44,14 +45,14 @@ pub opens-between : (x : ℕ) (g : Run) (k : ℕ) → x ≡ k → (k ≡ 8 → �
 opens-between x g k e n o = o .between (λ z. n (sym e ∙ z))
 
 pub opens-join : (x : ℕ) (w : Work) (xs ds out : List ℕ) (k : ℕ) → x ≡ k → (k ≡ 8 → ⊥) → Opens x (run (work-of w xs) ds out) → KnownJoins (w .code) (unpack xs)
-unfolding run
+unfolding run-of
 opens-join x w xs ds out k e n o =
     let b = opens-between x (run (work-of w xs) ds out) k e n o in
     record { known = λ z. b .ok .good z .core .waits .known; once = λ z. b .ok .good z .core .waits .boots; few = λ z. b .ok .good z .core .waits .few }
 
 module _ (w : Work) (xs ds out : List ℕ) (v : Fine (work-of w xs) ds out) where
   timers-run : eqb (layout.timers-scheduled xs) 1 ≡ true → Does (work-of w xs) ds out (first-timers (run (work-of w xs) ds out))
-  unfolding first-timers run unpack station-of
+  unfolding first-timers run-of unpack station-of
   timers-run h = taken _ _ h (still v)
 
   maintenance-rests : (w .code ≡ 0 → ⊥) → Does (work-of w xs) ds out (schedule-maintenance (run (work-of w xs) ds out))
@@ -69,10 +70,10 @@ module _ (w : Work) (xs ds out : List ℕ) (v : Fine (work-of w xs) ds out) wher
   unfolding note-scheduled unpack station-of part
   noted h = on-done (work-of w xs) (v .ready .packed) _ _ h (put-scheduled true)
 
-  timers-start : (b r : Work) (zs o o₂ : List ℕ) → eqb (layout.timers-scheduled xs) 1 ≡ false → w .code ≡ 0 → TellsAny schedule-maintenance b r o o₂ → Does (work-of b zs) ds o (schedule-shuffle (run (work-of w (set xs 12 1)) ds out))
+  timers-start : (b r : Work) (zs o o₂ : List ℕ) → eqb (layout.timers-scheduled xs) 1 ≡ false → w .code ≡ 0 → TellsAny (emit (timer 2 0 maintenance-interval 0)) b r o o₂ → Does (work-of b zs) ds o (schedule-shuffle (run (work-of w (set xs 12 1)) ds out))
       → Does (work-of r zs) ds o₂ (first-timers (run (work-of w xs) ds out))
-  unfolding first-timers run unpack station-of
-  timers-start b r zs o o₂ h z k₃ k₂ = left _ _ h (then-tell-any k₃ (seq schedule-shuffle k₂ (then (noted z) (still v))))
+  unfolding first-timers run-of unpack station-of schedule-maintenance
+  timers-start b r zs o o₂ h z k₃ k₂ = left _ _ h (then-tell-any _ k₃ (seq schedule-shuffle k₂ (then (noted z) (still v))))
 
 -- the work a with the words zs and the output o is what the first timers make of the work w with xs and out
 pub record Timed (w : Work) (xs ds out : List ℕ) (a : Work) (zs o : List ℕ) : Type 0 where
@@ -91,7 +92,7 @@ module _ (w : Work) (xs ds out : List ℕ) (v : Fine (work-of w xs) ds out) (l :
       })))
 
   pub timed-start : (b r : Work) (ys o₁ o₂ : List ℕ) → zs ≡ ys → o ≡ o₂ → a ≡ r → (eqb (w .code) 0 && not (eqb (layout.timers-scheduled xs) 1)) ≡ true → length ys ≡ length (set xs 12 1) → length o₁ ≡ length out → length o₂ ≡ length o₁
-      → TellsAny schedule-maintenance b r o₁ o₂ → Does (work-of b ys) ds o₁ (schedule-shuffle (run (work-of w (set xs 12 1)) ds out)) → Timed w xs ds out a zs o
+      → TellsAny (emit (timer 2 0 maintenance-interval 0)) b r o₁ o₂ → Does (work-of b ys) ds o₁ (schedule-shuffle (run (work-of w (set xs 12 1)) ds out)) → Timed w xs ds out a zs o
   timed-start b r ys o₁ o₂ p q s t m n n₂ k₂ k₁ =
       subst (λ (x : Work). Timed w xs ds out x zs o) (sym s) (subst (λ (x : List ℕ). Timed w xs ds out r x o) (sym p) (subst (λ (x : List ℕ). Timed w xs ds out r ys x) (sym q)
       (record {

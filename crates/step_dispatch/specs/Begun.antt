@@ -6,8 +6,8 @@ use mathlib.Core.Bool.{true}
 use mathlib.Core.List.{List}
 use Rattle.record.specs.declared.Header.{Header}
 use Rattle.record.specs.Read.{well-formed, header-of}
-use Rattle.protocol.specs.Budgets.{arriving}
-use Rattle.protocol.specs.Run.{Run}
+use Rattle.spec_hyparview.specs.Budgets.{arriving}
+use Rattle.spec_hyparview.specs.Run.{Run}
 use Rattle.step_messages.specs.Between.{Between}
 
 -- b is a record, and h its header

@@ -1,18 +1,18 @@
 // The steps of one event: which step it is, by its kind and message, and what every event ends with.
+use hyparview_state::Layout;
 use record::Flags;
 use record::Header;
 use record::Kind;
 use record::Message;
-use state::Layout;
-use state::Work;
+use work::Work;
 ghost use mathlib.Core.Path.{_≡_};
 ghost use Prim.Native.Nat.{_≤_};
 ghost use lib.ListN.{length};
 ghost use Rattle.record.specs.Read.{rec-of};
-ghost use Rattle.protocol.specs.Budgets.{arriving};
-ghost use Rattle.protocol.specs.Handle.{handle-message, dispatch, steps};
-ghost use Rattle.state.specs.Layout.{words};
-ghost use Rattle.state.specs.Work.{work-of, run, Fine, Does};
+ghost use Rattle.spec_hyparview.specs.Budgets.{arriving};
+ghost use Rattle.spec_hyparview.specs.Handle.{handle-message, dispatch, steps};
+ghost use Rattle.hyparview_state.specs.Layout.{words};
+ghost use Rattle.hyparview_state.specs.Work.{work-of, run, Fine, Does};
 ghost use Rattle.step_messages.specs.Between.{Between};
 ghost use Rattle.step_dispatch.specs.Begun.{Headed, Opens};
 

@@ -8,17 +8,17 @@ use native.Mathlib.Omega.{arith}
 use lib.ListN.{length, take, drop, length-append}
 use lib.Seq.{take-at, drop-at, drop-drop, drop-length, length-take-le}
 use borrow.Rule.Slice.PartMut.{putMid}
-use Rattle.lists.specs.Array.{pad}
-use Rattle.lists.proofs.Array.{length-pad}
-use Rattle.util.specs.Section.{part, HoldsSet}
-use Rattle.columns.specs.Columns.{HoldsNumbers, HoldsDataWords}
-use Rattle.util.proofs.Parts.{part-long, put-long}
-use Rattle.util.proofs.Sets.{cleared}
-use Rattle.columns.proofs.Sections.{numbers-cleared, data-cleared}
-use Rattle.protocol.specs.Events.{clear-all}
-use Rattle.state.specs.Layout.{words}
-use Rattle.state.specs.Unpack.{unpack, long, PackedState, Becomes}
-use Rattle.state.proofs.Fields.{put-passive, put-alive, put-refused, put-requests, put-peer-data}
+use Rattle.base_lists.specs.Array.{pad}
+use Rattle.base_lists.proofs.Array.{length-pad}
+use Rattle.base_util.specs.Section.{part, HoldsSet}
+use Rattle.base_columns.specs.Columns.{HoldsNumbers, HoldsDataWords}
+use Rattle.base_util.proofs.Parts.{part-long, put-long}
+use Rattle.base_util.proofs.Sets.{cleared}
+use Rattle.base_columns.proofs.Sections.{numbers-cleared, data-cleared}
+use Rattle.spec_hyparview.specs.Events.{clear-all}
+use Rattle.hyparview_state.specs.Layout.{words}
+use Rattle.hyparview_state.specs.Unpack.{unpack, long, PackedState, Becomes}
+use Rattle.hyparview_state.proofs.Fields.{put-passive, put-alive, put-refused, put-requests, put-peer-data}
 
 abbrev zeroes : ℕ → List ℕ
 zeroes n = pad 0 n []

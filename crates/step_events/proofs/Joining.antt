@@ -10,32 +10,33 @@ use lib.Seq.{getD-take}
 use lib.Dec.{eqb, ltb}
 use borrow.Author.Tests.{ltb-true, lt-ltb, le-ltb, eqb-true, eqb-false}
 use borrow.Rule.Slice.PartMut.{putMid}
-use Rattle.lists.specs.Lists.{choose, is, count, mem, without, renew}
-use Rattle.lists.specs.Maps.{keys, cut, has}
-use Rattle.lists.proofs.Choice.{split, by-choice, choose-yes, choose-no}
-use Rattle.lists.proofs.Count.{is-self, is-split, mem-false}
-use Rattle.lists.proofs.Maps.{length-keys}
-use Rattle.util.specs.Section.{part, items-at, ValidSet, HoldsSet}
-use Rattle.util.proofs.Parts.{part-read, part-put}
-use Rattle.columns.specs.Columns.{numbers-at, ValidNumbers, HoldsNumbers}
-use Rattle.timing.specs.Timing.{join-retry-delay}
+use Rattle.base_lists.specs.Lists.{choose, is, count, mem, without, renew}
+use Rattle.base_lists.specs.Maps.{keys, cut, has}
+use Rattle.base_lists.proofs.Choice.{split, by-choice, choose-yes, choose-no}
+use Rattle.base_lists.proofs.Count.{is-self, is-split, mem-false}
+use Rattle.base_lists.proofs.Maps.{length-keys}
+use Rattle.base_util.specs.Section.{part, items-at, ValidSet, HoldsSet}
+use Rattle.base_util.proofs.Parts.{part-read, part-put}
+use Rattle.base_columns.specs.Columns.{numbers-at, ValidNumbers, HoldsNumbers}
+use Rattle.base_timing.specs.Timing.{join-retry-delay}
 use Rattle.record.specs.Format.{Rec}
-use Rattle.writer.specs.Write.{rec-in}
-use Rattle.protocol.specs.Setters.{set-joins, set-bootstrap}
-use Rattle.protocol.specs.Station.{Station, is-me, in-active, top-counter}
-use Rattle.protocol.specs.Run.{Run, guard, on, emit, require, timer}
-use Rattle.protocol.specs.Sending.{join-to, join}
-use Rattle.protocol.specs.Events.{must-drop-oldest, oldest, drop-oldest-join, push-bootstrap, join-counts, note-join, open-join, await-join, join-other, join-new, handle-join}
-use Rattle.lists.proofs.Members.{shorter, renewed}
-use Rattle.protocol.proofs.Requested.{fewer-joins}
-use Rattle.state.specs.declared.Work.{Work}
-use Rattle.state.specs.Layout.{bootstrap-part, joins-part, next-join}
-use Rattle.state.specs.Unpack.{unpack, station-of, long, PackedState, Becomes}
-use Rattle.state.specs.Work.{Held, work-of, run, Changes, ChangesAny, Room, Tells, TellsAny}
-use Rattle.state.proofs.Access.{of-bootstrap, of-joins}
-use Rattle.state.proofs.Bridge.{on-passed, on-done, emit-passed, require-said, unchanged, change-then, telling, tell-then, tell-yes, tell-no}
-use Rattle.state.proofs.Fields.{put-bootstrap, put-joins}
-use Rattle.state.proofs.Refused.{required-code}
+use Rattle.record_writer.specs.Write.{rec-in}
+use Rattle.spec_hyparview.specs.Setters.{set-joins, set-bootstrap}
+use Rattle.spec_hyparview.specs.Station.{Station, is-me, in-active, top-counter}
+use Rattle.spec_hyparview.specs.Run.{Run, guard, on, emit, require, timer}
+use Rattle.spec_hyparview.specs.Sending.{join-to, join}
+use Rattle.spec_hyparview.specs.Events.{must-drop-oldest, oldest, drop-oldest-join, push-bootstrap, join-counts, note-join, open-join, await-join, join-other, join-new, handle-join}
+use Rattle.base_lists.proofs.Members.{shorter, renewed}
+use Rattle.spec_hyparview.proofs.Requested.{fewer-joins}
+use Rattle.work.specs.declared.Work.{Work}
+use Rattle.hyparview_state.specs.Layout.{bootstrap-part, joins-part, next-join}
+use Rattle.hyparview_state.specs.Unpack.{unpack, station-of, long, PackedState, Becomes}
+use Rattle.hyparview_state.specs.Work.{Held, work-of, run, run-of, Changes, ChangesAny, Room, Tells, TellsAny}
+use Rattle.hyparview_state.proofs.Access.{of-bootstrap, of-joins}
+use Rattle.hyparview_state.proofs.Any.{required-at, told-at}
+use Rattle.hyparview_state.proofs.Bridge.{on-passed, on-done, emit-passed, require-said, unchanged, change-then, telling, tell-then, tell-yes, tell-no}
+use Rattle.hyparview_state.proofs.Fields.{put-bootstrap, put-joins}
+use Rattle.hyparview_state.proofs.Refused.{required-code}
 use Rattle.step_events.specs.Free.{KnownJoins, FreeJoin}
 
 -- ---- the bootstrap peers
@@ -129,18 +130,18 @@ number-counted xs = refl
 
 module _ (w a : Work) (xs : List ℕ) (p : ℕ) (v : PackedState xs) (k : ChangesAny (require 10 (ltb (next-join xs) top-counter)) w a) where
   pub number-left : a .code ≡ 0 → next-join xs < top-counter
-  number-left z = ltb-true _ _ (require-said (work-of w xs) (work-of a xs) 10 _ (omega arith) (k .any xs v) z .1)
+  number-left z = ltb-true _ _ (require-said (work-of w xs) (work-of a xs) 10 _ (omega arith) (required-at xs v _ _ k) z .1)
 
   pub place-left : FreeJoin p (w .code) (unpack xs) → a .code ≡ 0 → (has p (numbers-at 8 (joins-part xs)) || ltb (length (numbers-at 8 (joins-part xs))) 8) ≡ true
   unfolding unpack station-of
-  place-left h z = h .free (required-code 10 _ (work-of w xs) (work-of a xs) (k .any xs v) z)
+  place-left h z = h .free (required-code 10 _ (work-of w xs) (work-of a xs) (required-at xs v _ _ k) z)
 
   pub join-opened : (r : Work) (ys : List ℕ) → Changes (on (note-join p)) (work-of a xs) (work-of r ys) → Changes (open-join p) (work-of w xs) (work-of r ys)
-  unfolding open-join run
-  join-opened r ys k₂ = change-then _ (λ ds out. ap (λ (b : Bool). on (note-join p) (require 10 b (run (work-of w xs) ds out))) (sym (number-counted xs))) k₂ (k .any xs v)
+  unfolding open-join run-of
+  join-opened r ys k₂ = change-then _ (λ ds out. ap (λ (b : Bool). on (note-join p) (require 10 b (run (work-of w xs) ds out))) (sym (number-counted xs))) k₂ (required-at xs v _ _ k)
 
   pub join-refused : (out : List ℕ) → Room (work-of w xs) out → (a .code ≡ 0 → ⊥) → Tells (await-join p) (work-of w xs) (work-of a xs) out out
-  unfolding await-join run
+  unfolding await-join run-of
   join-refused out r h =
       let o = telling r (join-opened a xs (on-passed (work-of a xs) v (note-join p) h)) in
       tell-then (await-join p) (λ ds. refl) (emit-passed a xs out (timer 4 p join-retry-delay (unpack xs .next-join)) (o .room) h) o
@@ -178,12 +179,12 @@ emit-free p e g h =
     (λ f. h)
 
 pub free-after-join : (w a : Work) (xs ys out o : List ℕ) (p : ℕ) → Tells (join p) (work-of w xs) (work-of a ys) out o → FreeJoin p (w .code) (unpack xs) → FreeJoin p (a .code) (unpack ys)
-unfolding join run
+unfolding join run-of
 free-after-join w a xs ys out o p k h =
     subst (λ (x : Run). FreeJoin p (x .code) (x .station)) (sym (k .same [])) (emit-free p (join-to (unpack xs .own-data) p) (run (work-of w xs) [] out) h)
 
 pub free-after-push : (w a : Work) (xs ys : List ℕ) (p : ℕ) → Changes (on (push-bootstrap p)) (work-of w xs) (work-of a ys) → KnownJoins (w .code) (unpack xs) → FreeJoin p (a .code) (unpack ys)
-unfolding run
+unfolding run-of
 free-after-push w a xs ys p k h = subst (λ (x : Run). FreeJoin p (x .code) (x .station)) (sym (k .same [] [])) (push-free p (run (work-of w xs) [] []) h)
 
 -- ---- the steps
@@ -194,8 +195,8 @@ room-kept f w a out k v = telling v k .room
 pub awaited : (w a r : Work) (xs ys out o : List ℕ) (p : ℕ) → Room (work-of w xs) out
     → TellsAny (emit (rec-in (record { kind = 4; message = 0; flags = 0; peer = p; second = 10000; ttl = 0; number = next-join xs }) [])) a r out o → Changes (open-join p) (work-of w xs) (work-of a ys)
     → Tells (await-join p) (work-of w xs) (work-of r ys) out o
-unfolding await-join rec-in run unpack station-of
-awaited w a r xs ys out o p v k₂ k₁ = tell-then (await-join p) (λ ds. refl) (k₂ .any ys (k₁ .packed)) (telling v k₁)
+unfolding await-join rec-in run-of unpack station-of
+awaited w a r xs ys out o p v k₂ k₁ = tell-then (await-join p) (λ ds. refl) (told-at ys (k₁ .packed) _ k₂) (telling v k₁)
 
 module _ (w a : Held) (out : List ℕ) (p : ℕ) (t : Bool) (v : Room w out) (k : Changes (on (push-bootstrap p)) w a) (e : t ≡ in-active p (unpack (a .state))) where
   pub not-new : t ≡ true → Tells (handle-join p) w a out out

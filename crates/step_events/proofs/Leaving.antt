@@ -8,28 +8,28 @@ use native.Mathlib.Omega.{arith}
 use lib.ListN.{length, take, drop}
 use lib.Dec.{ltb}
 use borrow.Rule.Slice.PartMut.{putMid}
-use Rattle.lists.specs.Array.{pad}
-use Rattle.lists.specs.Lists.{remove}
-use Rattle.lists.proofs.Choice.{by-choice}
-use Rattle.lists.proofs.Count.{length-remove}
-use Rattle.util.specs.Section.{part, items-at, HoldsSet}
-use Rattle.protocol.specs.Station.{in-active, is-requested}
-use Rattle.protocol.specs.Run.{Run, on, emit, draw, draw-shuffle, shuffled, message, flag}
-use Rattle.protocol.specs.Peers.{drop-data, drop-mark, remove-passive, is-marked}
-use Rattle.protocol.specs.Sending.{send-nodes, fill-active, send-filled, reply-with, send-shuffle-reply, reply-length, send-disconnect}
-use Rattle.protocol.specs.Refill.{refill-active-from-passive}
-use Rattle.protocol.specs.Active.{remove-active}
-use Rattle.protocol.specs.Messages.{drop-request}
-use Rattle.protocol.specs.Events.{drop-dead, lose-passive, lose-other, lose, handle-connection-closed, remove-neighbor, quit-one, quit-all, clear-all, handle-quit}
-use Rattle.protocol.proofs.Invariant.{busy, Ok}
-use Rattle.protocol.proofs.Received.{ok-drop-request}
-use Rattle.state.specs.declared.Work.{Work}
-use Rattle.state.specs.Layout.{active-part}
-use Rattle.state.specs.Unpack.{unpack, station-of, PackedState}
-use Rattle.state.specs.Work.{Held, work-of, run, Changes, Fine, Does}
-use Rattle.state.proofs.Access.{active-fits}
-use Rattle.state.proofs.Bridge.{guard-shut, on-twice, on-passed, on-done, change-then, change-yes, change-no, by, still, then, seq, seq-at, taken, left, holds-at, at-run}
-use Rattle.state.proofs.Fields.{put-active}
+use Rattle.base_lists.specs.Array.{pad}
+use Rattle.base_lists.specs.Lists.{remove}
+use Rattle.base_lists.proofs.Choice.{by-choice}
+use Rattle.base_lists.proofs.Count.{length-remove}
+use Rattle.base_util.specs.Section.{part, items-at, HoldsSet}
+use Rattle.spec_hyparview.specs.Station.{in-active, is-requested}
+use Rattle.spec_hyparview.specs.Run.{Run, on, emit, draw, draw-shuffle, shuffled, message, flag}
+use Rattle.spec_hyparview.specs.Peers.{drop-data, drop-mark, remove-passive, is-marked}
+use Rattle.spec_hyparview.specs.Sending.{send-nodes, fill-active, send-filled, reply-with, send-shuffle-reply, reply-length, send-disconnect}
+use Rattle.spec_hyparview.specs.Refill.{refill-active-from-passive}
+use Rattle.spec_hyparview.specs.Active.{remove-active}
+use Rattle.spec_hyparview.specs.Messages.{drop-request}
+use Rattle.spec_hyparview.specs.Events.{drop-dead, lose-passive, lose-other, lose, handle-connection-closed, remove-neighbor, quit-one, quit-all, clear-all, handle-quit}
+use Rattle.spec_hyparview.proofs.Invariant.{busy, Ok}
+use Rattle.spec_hyparview.proofs.Received.{ok-drop-request}
+use Rattle.work.specs.declared.Work.{Work}
+use Rattle.hyparview_state.specs.Layout.{active-part}
+use Rattle.hyparview_state.specs.Unpack.{unpack, station-of, PackedState}
+use Rattle.hyparview_state.specs.Work.{Held, work-of, run, run-of, Changes, Fine, Does}
+use Rattle.hyparview_state.proofs.Access.{active-fits}
+use Rattle.hyparview_state.proofs.Bridge.{guard-shut, on-twice, on-passed, on-done, change-then, change-yes, change-no, by, still, then, seq, seq-at, taken, left, holds-at, at-run}
+use Rattle.hyparview_state.proofs.Fields.{put-active}
 use Rattle.step_sending.proofs.Sets.{lent-items}
 use Rattle.step_events.proofs.Clearing.{wiped}
 use Rattle.step_active.specs.declared.Loss.the-variants.{ConnectionClosed}
@@ -121,7 +121,7 @@ quits-are v xs n h e = lent-items v n (h .valid) e ∙ h .items
 
 module _ (w a : Work) (xs ys v ds out o : List ℕ) (n : ℕ) (d : Does (work-of a ys) ds o (quit-all (take n v) (run (work-of w xs) ds out))) (s : HoldsSet 32 v (items-at 8 (take 9 (drop 22 xs)))) (e : n ≡ length (items-at 32 v)) where
   cleared-by : (r : Held) → Changes (on clear-all) (work-of a ys) r → Does r ds o (handle-quit (run (work-of w xs) ds out))
-  unfolding handle-quit run
+  unfolding handle-quit run-of
   cleared-by r k = then k (by _ (ap (λ (l : List ℕ). quit-all l (run (work-of w xs) ds out)) (sym (quits-are v xs n s e))) d)
 
   pub quit-passed : (a .code ≡ 0 → ⊥) → Does (work-of a ys) ds o (handle-quit (run (work-of w xs) ds out))

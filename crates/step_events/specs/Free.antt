@@ -5,10 +5,10 @@ use mathlib.Core.Path.{_≡_}
 use mathlib.Core.Bool.{true, _||_}
 use lib.ListN.{length}
 use lib.Dec.{ltb}
-use Rattle.lists.specs.Lists.{count}
-use Rattle.lists.specs.Maps.{keys, has}
-use Rattle.timing.specs.Timing.{max-bootstrap-peers}
-use Rattle.protocol.specs.Station.{Station}
+use Rattle.base_lists.specs.Lists.{count}
+use Rattle.base_lists.specs.Maps.{keys, has}
+use Rattle.base_timing.specs.Timing.{max-bootstrap-peers}
+use Rattle.spec_hyparview.specs.Station.{Station}
 
 -- unless a code is set, each open join is to a bootstrap peer, none of which stands twice, and there are at most 8
 pub record KnownJoins (code : ℕ) (s : Station) : Type 0 where

@@ -1,22 +1,22 @@
 // What comes from the station's own side: a request to join, new data of its own, a closed connection, and Quit (the definition's `Events`).
-use peer::PeerData;
-use peer::PeerId;
+use base_peer::PeerData;
+use base_peer::PeerId;
+use base_timing::Timing;
+use hyparview_state::Layout;
 use record::Kind;
 use record::Refusal;
-use state::Layout;
-use state::Work;
+use record_writer::Fields;
 use step_active::Loss;
-use timing::Timing;
-use writer::Fields;
+use work::Work;
 ghost use mathlib.Core.Path.{_≡_};
 ghost use lib.ListN.{length};
-ghost use Rattle.peer.specs.Held.{data-in, ValidData};
-ghost use Rattle.protocol.specs.Budgets.{leaving};
-ghost use Rattle.protocol.specs.Run.{on};
-ghost use Rattle.protocol.specs.Events.{push-bootstrap, handle-join, lose-passive, handle-connection-closed, update-own-data, handle-quit};
-ghost use Rattle.state.specs.Layout.{words};
-ghost use Rattle.state.specs.Unpack.{unpack, PackedState};
-ghost use Rattle.state.specs.Work.{work-of, run, Changes, Room, Tells, Fine, Does};
+ghost use Rattle.base_peer.specs.Held.{data-in, ValidData};
+ghost use Rattle.spec_hyparview.specs.Budgets.{leaving};
+ghost use Rattle.spec_hyparview.specs.Run.{on};
+ghost use Rattle.spec_hyparview.specs.Events.{push-bootstrap, handle-join, lose-passive, handle-connection-closed, update-own-data, handle-quit};
+ghost use Rattle.hyparview_state.specs.Layout.{words};
+ghost use Rattle.hyparview_state.specs.Unpack.{unpack, PackedState};
+ghost use Rattle.hyparview_state.specs.Work.{work-of, run, Changes, Room, Tells, Fine, Does};
 ghost use Rattle.step_active.specs.Sane.{Calm};
 ghost use Rattle.step_events.specs.Free.{KnownJoins};
 
@@ -30,14 +30,14 @@ fn push_bootstrap(w: Work, st: &mut [u64], p: PeerId) -> Work
         return w;
     }
     // p is taken out: how many are left, and the oldest of them.
-    util::without(
+    base_util::without(
         &mut st[Layout::BOOTSTRAP..Layout::BOOTSTRAP_END],
         Layout::FEW,
         p,
     );
     let n = st[Layout::BOOTSTRAP_COUNT];
     let old = st[Layout::BOOTSTRAP];
-    util::renew(
+    base_util::renew(
         &mut st[Layout::BOOTSTRAP..Layout::BOOTSTRAP_END],
         Layout::FEW,
         Timing::MAX_BOOTSTRAP_PEERS,
@@ -47,7 +47,7 @@ fn push_bootstrap(w: Work, st: &mut [u64], p: PeerId) -> Work
     if n < Timing::MAX_BOOTSTRAP_PEERS as u64 {
         return w;
     }
-    columns::remove_number(&mut st[Layout::JOINS..Layout::JOINS_END], Layout::FEW, old);
+    base_columns::remove_number(&mut st[Layout::JOINS..Layout::JOINS_END], Layout::FEW, old);
     w
 }
 
@@ -59,21 +59,21 @@ pub fn handle_join(w: Work, st: &mut [u64], out: &mut [u8], p: PeerId) -> Work
     ensures { λ r. ⌜ Tells (handle-join p) (work-of w (now (st .entry))) (work-of r (now (st .exit))) (now (out .entry)) (now (out .exit)) ⌝ }
 {
     let a = push_bootstrap(w, st, p);
-    if state::in_active(st, p) {
+    if hyparview_state::in_active(st, p) {
         return a;
     }
     // The station itself gets a Join too, but no retry.
     let b = step_sending::join(a, st, out, p);
-    if state::is_me(st, p) {
+    if hyparview_state::is_me(st, p) {
         return b;
     }
     // Code 10 where no number is left for a join.
     let id = st[Layout::NEXT_JOIN];
-    let d = state::require(b, Refusal::COUNTER, id < state::TOP_COUNTER);
+    let d = work::require(b, Refusal::COUNTER, id < hyparview_state::TOP_COUNTER);
     if d.code != 0 {
         return d;
     }
-    columns::insert_number(
+    base_columns::insert_number(
         &mut st[Layout::JOINS..Layout::JOINS_END],
         Layout::FEW,
         p,
@@ -89,7 +89,7 @@ pub fn handle_join(w: Work, st: &mut [u64], out: &mut [u8], p: PeerId) -> Work
         ttl: 0,
         number: id,
     };
-    state::emit_bare(d, out, f)
+    work::emit_bare(d, out, f)
 }
 
 // The connection to p is lost: a mark saves a passive peer once.
@@ -118,9 +118,9 @@ pub fn handle_connection_closed(
     requires { ⌜ Calm 0 leaving 1 (run (work-of w (now st)) (now draws) (now out)) ⌝ }
     ensures { λ r. ⌜ Does (work-of r (now (st .exit))) (now (draws .entry)) (now (out .exit)) (handle-connection-closed p (run (work-of w (now (st .entry))) (now (draws .entry)) (now (out .entry)))) ⌝ }
 {
-    let requested = state::is_requested(st, p);
-    let a = state::drop_request(w, st, p);
-    if state::in_active(st, p) {
+    let requested = hyparview_state::is_requested(st, p);
+    let a = hyparview_state::drop_request(w, st, p);
+    if hyparview_state::in_active(st, p) {
         return step_active::remove_active(a, st, draws, out, p, Loss::ConnectionClosed);
     }
     // No neighbor; where it was asked, another one is.
@@ -143,8 +143,8 @@ pub fn update_own_data(w: Work, st: &mut [u64], d: PeerData) -> Work
         return w;
     }
     let b = d.bytes;
-    let low = columns::word_at(b, 0);
-    let high = columns::word_at(b, columns::WORD);
+    let low = base_columns::word_at(b, 0);
+    let high = base_columns::word_at(b, base_columns::WORD);
     st[Layout::OWN_PRESENT] = d.present as u64;
     st[Layout::OWN_LEN] = d.len as u64;
     st[Layout::OWN_LOW] = low;
@@ -159,15 +159,15 @@ pub fn handle_quit(w: Work, st: &mut [u64], draws: &[u32], out: &mut [u8]) -> Wo
     ensures { λ r. ⌜ Does (work-of r (now (st .exit))) (now (draws .entry)) (now (out .exit)) (handle-quit (run (work-of w (now (st .entry))) (now (draws .entry)) (now (out .entry)))) ⌝ }
 {
     let mut v = [0u64; Layout::SET];
-    util::copy_into(&st[Layout::ACTIVE..Layout::ACTIVE_END], Layout::FEW, &mut v);
-    let n = util::count(&v, Layout::ALL);
+    base_util::copy_into(&st[Layout::ACTIVE..Layout::ACTIVE_END], Layout::FEW, &mut v);
+    let n = base_util::count(&v, Layout::ALL);
     let mut r = w;
     let mut i: usize = 0;
     while (i < n) & (r.code == 0) {
         let p = v[i];
         i += 1;
         // It leaves the active view.
-        util::remove(&mut st[Layout::ACTIVE..Layout::ACTIVE_END], Layout::FEW, p);
+        base_util::remove(&mut st[Layout::ACTIVE..Layout::ACTIVE_END], Layout::FEW, p);
         r = step_sending::send_disconnect(r, st, draws, out, p, false);
     }
     if r.code != 0 {
@@ -175,7 +175,7 @@ pub fn handle_quit(w: Work, st: &mut [u64], draws: &[u32], out: &mut [u8]) -> Wo
     }
     // Nothing is held of other peers any more: no passive view, marks, refusals and requests, and no data.
     // Both runs of zeroes rest on the order of `Layout`: those four stand side by side, and the data held stands last.
-    util::clear_from(&mut st[Layout::PASSIVE..Layout::ASKED_END], 0);
-    util::clear_from(st, Layout::HELD);
+    base_util::clear_from(&mut st[Layout::PASSIVE..Layout::ASKED_END], 0);
+    base_util::clear_from(st, Layout::HELD);
     r
 }

@@ -9,34 +9,36 @@ use lib.Seq.{take-all}
 use lib.Dec.{ltb}
 use borrow.Author.Tests.{ltb-true}
 use borrow.Rule.Slice.PartMut.{putMid}
-use Rattle.lists.specs.Lists.{without-all, renew}
-use Rattle.lists.proofs.Rest.{Rest, rest-next, rest-end}
-use Rattle.util.specs.Section.{items-at, HoldsSet}
-use Rattle.writer.specs.Write.{rec-in}
-use Rattle.protocol.specs.Station.{Station, top-passes}
-use Rattle.protocol.specs.Setters.{set-passes-alone, set-recent}
-use Rattle.protocol.specs.Run.{on, emit, require}
-use Rattle.protocol.specs.Timers.{renew-all, remember-all, other-recent, alone-counts, add-alone, count-alone, short-counts, add-short, count-short, schedule-maintenance}
-use Rattle.state.specs.declared.Work.{Work}
-use Rattle.state.specs.Layout.{active-part, recent-part, bootstrap-part, passes-alone, passes-short}
-use Rattle.state.specs.Unpack.{unpack, station-of, long, PackedState, Becomes}
-use Rattle.state.specs.Work.{work-of, run, Changes, ChangesAny, TellsAny}
-use Rattle.state.proofs.Bridge.{on-passed, on-done, require-said, change-then, tell-by}
-use Rattle.state.proofs.Fields.{put-passes-alone, put-passes-short, put-recent}
+use Rattle.base_lists.specs.Lists.{without-all, renew}
+use Rattle.base_lists.proofs.Rest.{Rest, rest-next, rest-end}
+use Rattle.base_util.specs.Section.{items-at, HoldsSet}
+use Rattle.record_writer.specs.Write.{rec-in}
+use Rattle.spec_hyparview.specs.Station.{Station, top-passes}
+use Rattle.spec_hyparview.specs.Setters.{set-passes-alone, set-recent}
+use Rattle.base_timing.specs.Timing.{maintenance-interval}
+use Rattle.spec_hyparview.specs.Run.{on, emit, require, timer}
+use Rattle.spec_hyparview.specs.Timers.{renew-all, remember-all, other-recent, alone-counts, add-alone, count-alone, short-counts, add-short, count-short}
+use Rattle.work.specs.declared.Work.{Work}
+use Rattle.hyparview_state.specs.Layout.{active-part, recent-part, bootstrap-part, passes-alone, passes-short}
+use Rattle.hyparview_state.specs.Unpack.{unpack, station-of, long, PackedState, Becomes}
+use Rattle.hyparview_state.specs.Work.{work-of, run, run-of, Changes, ChangesAny, TellsAny}
+use Rattle.hyparview_state.proofs.Any.{required-at}
+use Rattle.hyparview_state.proofs.Bridge.{on-passed, on-done, require-said, change-then}
+use Rattle.hyparview_state.proofs.Fields.{put-passes-alone, put-passes-short, put-recent}
 
 -- ---- passes
 
 module _ (w a : Work) (xs : List ℕ) (v : PackedState xs) where
   module _ (k : ChangesAny (require 10 (ltb (passes-alone xs) top-passes)) w a) where
     alone-then : (ys : List ℕ) → Changes (on add-alone) (work-of a xs) (work-of a ys) → Changes count-alone (work-of w xs) (work-of a ys)
-    unfolding count-alone alone-counts run unpack station-of
-    alone-then ys m = change-then count-alone (λ ds out. refl) m (k .any xs v)
+    unfolding count-alone alone-counts run-of unpack station-of
+    alone-then ys m = change-then count-alone (λ ds out. refl) m (required-at xs v _ _ k)
 
     pub alone-refused : (a .code ≡ 0 → ⊥) → Changes count-alone (work-of w xs) (work-of a xs)
     alone-refused h = alone-then xs (on-passed (work-of a xs) v add-alone h)
 
     pub alone-left : a .code ≡ 0 → passes-alone xs + 1 ≤ top-passes
-    alone-left z = let h = ltb-true (passes-alone xs) top-passes (require-said (work-of w xs) (work-of a xs) 10 _ (omega arith) (k .any xs v) z .1) in omega arith
+    alone-left z = let h = ltb-true (passes-alone xs) top-passes (require-said (work-of w xs) (work-of a xs) 10 _ (omega arith) (required-at xs v _ _ k) z .1) in omega arith
 
     pub alone-counted : a .code ≡ 0 → Changes count-alone (work-of w xs) (work-of a (set xs 14 (passes-alone xs + 1)))
     unfolding add-alone unpack station-of
@@ -44,14 +46,14 @@ module _ (w a : Work) (xs : List ℕ) (v : PackedState xs) where
 
   module _ (k : ChangesAny (require 10 (ltb (passes-short xs) top-passes)) w a) where
     short-then : (ys : List ℕ) → Changes (on add-short) (work-of a xs) (work-of a ys) → Changes count-short (work-of w xs) (work-of a ys)
-    unfolding count-short short-counts run unpack station-of
-    short-then ys m = change-then count-short (λ ds out. refl) m (k .any xs v)
+    unfolding count-short short-counts run-of unpack station-of
+    short-then ys m = change-then count-short (λ ds out. refl) m (required-at xs v _ _ k)
 
     pub short-refused : (a .code ≡ 0 → ⊥) → Changes count-short (work-of w xs) (work-of a xs)
     short-refused h = short-then xs (on-passed (work-of a xs) v add-short h)
 
     pub short-left : a .code ≡ 0 → passes-short xs + 1 ≤ top-passes
-    short-left z = let h = ltb-true (passes-short xs) top-passes (require-said (work-of w xs) (work-of a xs) 10 _ (omega arith) (k .any xs v) z .1) in omega arith
+    short-left z = let h = ltb-true (passes-short xs) top-passes (require-said (work-of w xs) (work-of a xs) 10 _ (omega arith) (required-at xs v _ _ k) z .1) in omega arith
 
     pub short-counted : a .code ≡ 0 → Changes count-short (work-of w xs) (work-of a (set xs 15 (passes-short xs + 1)))
     unfolding add-short unpack station-of
@@ -125,6 +127,6 @@ others-are xs v r h k = record { valid = k .valid; items = k .items ∙ ap (with
 
 -- ---- the timer
 
-pub maintenance-told : (w r : Work) (out o : List ℕ) → TellsAny (emit (rec-in (record { kind = 2; message = 0; flags = 0; peer = 0; second = 5000; ttl = 0; number = 0 }) [])) w r out o → TellsAny schedule-maintenance w r out o
-unfolding schedule-maintenance rec-in
-maintenance-told w r out o k = record { drawn = k .drawn; written = k .written; any = λ xs v. tell-by {g = emit (rec-in (record { kind = 2; message = 0; flags = 0; peer = 0; second = 5000; ttl = 0; number = 0 }) [])} schedule-maintenance (λ ds. refl) (k .any xs v) }
+pub maintenance-told : (w r : Work) (out o : List ℕ) → TellsAny (emit (rec-in (record { kind = 2; message = 0; flags = 0; peer = 0; second = 5000; ttl = 0; number = 0 }) [])) w r out o → TellsAny (emit (timer 2 0 maintenance-interval 0)) w r out o
+unfolding rec-in
+maintenance-told w r out o k = record { drawn = k .drawn; written = k .written; same = k .same }

@@ -7,24 +7,24 @@ use mathlib.Core.List.{List, [], _∷_}
 use native.Mathlib.Omega.{arith}
 use lib.ListN.{length, drop, getD, set}
 use lib.Seq.{take-all, getD-set-same}
-use Rattle.lists.specs.Lists.{null}
-use Rattle.lists.proofs.Choice.{split, choose-yes, choose-no}
-use Rattle.lists.proofs.Members.{null-yes, null-no}
-use Rattle.lists.proofs.Rest.{Rest, rest-next, rest-end}
-use Rattle.util.specs.Chances.{pick}
-use Rattle.timing.specs.Timing.{backoff-due}
-use Rattle.peer.specs.Data.{Data}
-use Rattle.util.specs.Section.{items-at, HoldsSet}
+use Rattle.base_lists.specs.Lists.{null}
+use Rattle.base_lists.proofs.Choice.{split, choose-yes, choose-no}
+use Rattle.base_lists.proofs.Members.{null-yes, null-no}
+use Rattle.base_lists.proofs.Rest.{Rest, rest-next, rest-end}
+use Rattle.base_util.specs.Chances.{pick}
+use Rattle.base_timing.specs.Timing.{backoff-due}
+use Rattle.base_peer.specs.Data.{Data}
+use Rattle.base_util.specs.Section.{items-at, HoldsSet}
 use Rattle.record.specs.Format.{Rec}
-use Rattle.protocol.specs.Run.{Run, emit, emit-all, draw, to-draw, one-of, draw-one-of, picked}
-use Rattle.protocol.specs.Sending.{join-to, join}
-use Rattle.protocol.specs.Timers.{other-recent, rejoin-recent, rejoin-bootstrap, rejoin, count-alone, rejoin-if-due, pass-alone}
-use Rattle.state.specs.declared.Work.{Work}
-use Rattle.state.specs.Layout.{words, bootstrap-part, passes-alone}
-use Rattle.state.specs.Unpack.{unpack, station-of}
-use Rattle.state.specs.Work.{work-of, run, Changes, DrawsAny, Room, Tells, Fine, Does}
-use Rattle.state.proofs.Bridge.{guard-shut, by, still, then, then-tell, seq, seq-at, taken, left}
-use Rattle.state.proofs.Any.{then-draw-any}
+use Rattle.spec_hyparview.specs.Run.{Run, emit, emit-all, draw, to-draw, one-of, draw-one-of, picked}
+use Rattle.spec_hyparview.specs.Sending.{join-to, join}
+use Rattle.spec_hyparview.specs.Timers.{other-recent, rejoin-recent, rejoin-bootstrap, rejoin, count-alone, rejoin-if-due, pass-alone}
+use Rattle.work.specs.declared.Work.{Work}
+use Rattle.hyparview_state.specs.Layout.{words, bootstrap-part, passes-alone}
+use Rattle.hyparview_state.specs.Unpack.{unpack, station-of}
+use Rattle.hyparview_state.specs.Work.{work-of, run, run-of, Changes, DrawsAny, Room, Tells, Fine, Does}
+use Rattle.hyparview_state.proofs.Bridge.{guard-shut, by, still, then, then-tell, seq, seq-at, taken, left}
+use Rattle.hyparview_state.proofs.Any.{then-one-of}
 
 -- ---- the bootstrap peers: the Joins to those to come, after what was done so far, are the answer
 
@@ -56,7 +56,7 @@ joins-start xs w out n v e = record {
 
 -- a Join is the record that carries the station's own data
 join-is-told : (r : Work) (xs ds out : List ℕ) (p q : ℕ) → p ≡ q → join p (run (work-of r xs) ds out) ≡ emit (join-to (unpack xs .own-data) q) (run (work-of r xs) ds out)
-unfolding join run
+unfolding join run-of
 join-is-told r xs ds out p q e = ap (λ (x : ℕ). emit (join-to (unpack xs .own-data) x) (run (work-of r xs) ds out)) e
 
 module _ (xs : List ℕ) (w : Work) (out₀ : List ℕ) (n : ℕ) (out : List ℕ) (r : Work) (i : ℕ) (v : Joining xs w out₀ n out r i) where
@@ -74,7 +74,7 @@ module _ (xs : List ℕ) (w : Work) (out₀ : List ℕ) (n : ℕ) (out : List �
   }
 
   pub joins-end : n ≤ i → Tells rejoin-bootstrap (work-of w xs) (work-of r xs) out₀ out
-  unfolding rejoin-bootstrap emit-all run unpack station-of
+  unfolding rejoin-bootstrap emit-all run-of unpack station-of
   joins-end h = record { room = v .room; drawn = v .drawn; same = λ ds. sym (rest-end 0 (Then (unpack xs .own-data)) (v .rest ds) h) }
 
 -- ---- one recent neighbor
@@ -92,13 +92,13 @@ module _ (w : Work) (xs ds out v : List ℕ) (n : ℕ) (f : Fine (work-of w xs) 
 
   module _ (i p : ℕ) (j : i ≡ pick n (drop (w .drawn) ds)) (q : p ≡ getD (items-at 32 v) i 0) where
     picked-is : p ≡ picked (items-at 32 v) (run (work-of w xs) ds out)
-    unfolding picked one-of to-draw run
+    unfolding picked one-of to-draw run-of
     picked-is = q ∙ ap (λ (k : ℕ). getD (items-at 32 v) k 0) (j ∙ ap (λ (k : ℕ). pick k (drop (w .drawn) ds)) c)
 
     pub one-recent : (a r : Work) (o : List ℕ) → (n ≡ 0 → ⊥) → Tells (join p) (work-of a xs) (work-of r xs) out o → DrawsAny (draw-one-of n) w a ds → Does (work-of r xs) ds o (rejoin-recent (items-at 32 v) (run (work-of w xs) ds out))
     unfolding rejoin-recent
     one-recent a r o h k₂ k₁ =
-        left _ _ (null-some (items-at 32 v) (λ z. h (c ∙ z))) (by _ (λ k. join (sym picked-is k) (draw-one-of (sym c k) (run (work-of w xs) ds out))) (then-tell k₂ (then-draw-any k₁ (still f))))
+        left _ _ (null-some (items-at 32 v) (λ z. h (c ∙ z))) (by _ (λ k. join (sym picked-is k) (draw-one-of (sym c k) (run (work-of w xs) ds out))) (then-tell k₂ (then-one-of _ k₁ (still f))))
 
 -- ---- both
 
@@ -107,12 +107,12 @@ fine-told w a xs ys ds out o v k = then-tell k (still v) .fine
 
 pub rejoined : (w a r : Work) (xs ds out o₁ o₂ v : List ℕ) → Fine (work-of w xs) ds out → HoldsSet 32 v (other-recent (unpack xs))
     → Does (work-of r xs) ds o₂ (rejoin-recent (items-at 32 v) (run (work-of a xs) ds o₁)) → Tells rejoin-bootstrap (work-of w xs) (work-of a xs) out o₁ → Does (work-of r xs) ds o₂ (rejoin (run (work-of w xs) ds out))
-unfolding rejoin run
+unfolding rejoin run-of
 rejoined w a r xs ds out o₁ o₂ v f h k₂ k₁ = seq-at rejoin-recent (h .items) k₂ (then-tell k₁ (still f))
 
 module _ (w : Work) (xs ds out : List ℕ) (t : Bool) (e : t ≡ backoff-due (passes-alone xs)) where
   due : {b : Bool} → t ≡ b → backoff-due (run (work-of w xs) ds out .station .passes-alone) ≡ b
-  unfolding run unpack station-of
+  unfolding run-of unpack station-of
   due h = sym e ∙ h
 
   pub rejoin-due : (r : Work) (o : List ℕ) → t ≡ true → Does (work-of r xs) ds o (rejoin (run (work-of w xs) ds out)) → Does (work-of r xs) ds o (rejoin-if-due (run (work-of w xs) ds out))
@@ -145,7 +145,7 @@ rejoin-rests g h =
     (λ t. choose-no _ _ _ t)
 
 stopped : (w : Work) (xs ds out : List ℕ) → (w .code ≡ 0 → ⊥) → rejoin-if-due (run (work-of w xs) ds out) ≡ run (work-of w xs) ds out
-unfolding run
+unfolding run-of
 stopped w xs ds out h = rejoin-rests _ h
 
 pub alone-stopped : (w a : Work) (xs ds out : List ℕ) → Fine (work-of w xs) ds out → (a .code ≡ 0 → ⊥) → Changes count-alone (work-of w xs) (work-of a xs) → Does (work-of a xs) ds out (pass-alone (run (work-of w xs) ds out))

@@ -7,26 +7,26 @@ use mathlib.Core.List.{List, []}
 use native.Mathlib.Omega.{arith}
 use lib.ListN.{getD}
 use lib.Dec.{eqb}
-use Rattle.lists.specs.Lists.{null}
-use Rattle.lists.proofs.Choice.{by-choice}
-use Rattle.timing.specs.Timing.{backoff-due}
-use Rattle.util.specs.Section.{items-at}
-use Rattle.util.proofs.Parts.{part-read}
-use Rattle.util.proofs.Sets.{empty-is-null}
-use Rattle.protocol.specs.Station.{Refill, is-alone, is-short, is-recovery}
-use Rattle.protocol.specs.Setters.{set-passes-alone}
-use Rattle.protocol.specs.Run.{Run, guard, on}
-use Rattle.protocol.specs.Refill.{few-requests, end-recovery, start-refill}
-use Rattle.protocol.specs.Active.{clear-refused}
-use Rattle.protocol.specs.Timers.{count-short, refill-anew, refill-if-due, in-recovery, pass-short, pass-neighbors, pass-known, not-alone, knows-none, pass-alone, maintain}
-use Rattle.state.specs.declared.RefillLimit.{RefillLimit}
-use Rattle.state.specs.declared.RefillLimit.the-variants.{Recovery}
-use Rattle.state.specs.declared.Work.{Work}
-use Rattle.state.specs.Layout.{passive-part, passes-short}
-use Rattle.state.specs.Unpack.{unpack, station-of, refill-in, limit-at, PackedState}
-use Rattle.state.proofs.Access.{of-passive}
-use Rattle.state.specs.Work.{Held, work-of, run, Changes, Fine, Does}
-use Rattle.state.proofs.Bridge.{on-twice, change-then, still, then, seq, seq-at, taken, left, holds-at}
+use Rattle.base_lists.specs.Lists.{null}
+use Rattle.base_lists.proofs.Choice.{by-choice}
+use Rattle.base_timing.specs.Timing.{backoff-due}
+use Rattle.base_util.specs.Section.{items-at}
+use Rattle.base_util.proofs.Parts.{part-read}
+use Rattle.base_util.proofs.Sets.{empty-is-null}
+use Rattle.spec_hyparview.specs.Station.{Refill, is-alone, is-short, is-recovery}
+use Rattle.spec_hyparview.specs.Setters.{set-passes-alone}
+use Rattle.spec_hyparview.specs.Run.{Run, guard, on}
+use Rattle.spec_hyparview.specs.Refill.{few-requests, end-recovery, start-refill}
+use Rattle.spec_hyparview.specs.Active.{clear-refused}
+use Rattle.spec_hyparview.specs.Timers.{count-short, refill-anew, refill-if-due, in-recovery, pass-short, pass-neighbors, pass-known, not-alone, knows-none, pass-alone, maintain}
+use Rattle.hyparview_state.specs.declared.RefillLimit.{RefillLimit}
+use Rattle.hyparview_state.specs.declared.RefillLimit.the-variants.{Recovery}
+use Rattle.work.specs.declared.Work.{Work}
+use Rattle.hyparview_state.specs.Layout.{passive-part, passes-short}
+use Rattle.hyparview_state.specs.Unpack.{unpack, station-of, refill-in, limit-at, PackedState}
+use Rattle.hyparview_state.proofs.Access.{of-passive}
+use Rattle.hyparview_state.specs.Work.{Held, work-of, run, run-of, Changes, Fine, Does}
+use Rattle.hyparview_state.proofs.Bridge.{on-twice, change-then, still, then, seq, seq-at, taken, left, holds-at}
 
 -- ---- refills
 
@@ -37,7 +37,7 @@ refilled-anew w a r xs ys zs ds out o limit v e k₂ k₁ = seq-at (λ (l : Refi
 
 module _ (w : Work) (xs ds out : List ℕ) (t : Bool) (e : t ≡ backoff-due (passes-short xs)) where
   due : {b : Bool} → t ≡ b → backoff-due (run (work-of w xs) ds out .station .passes-short) ≡ b
-  unfolding run unpack station-of
+  unfolding run-of unpack station-of
   due h = sym e ∙ h
 
   pub refill-due : (r : Work) (ys o : List ℕ) → t ≡ true → Does (work-of r ys) ds o (refill-anew (run (work-of w xs) ds out)) → Does (work-of r ys) ds o (refill-if-due (run (work-of w xs) ds out))
@@ -115,5 +115,5 @@ unfolding on guard not-alone end-recovery is-alone
 alone-as g = by-choice (λ (x : Run). null (x .station .active) ≡ null (g .station .active)) (eqb (g .code) 0) (λ t. refl) (λ t. refl)
 
 pub alone-still : (w r : Work) (xs ys : List ℕ) (t : Bool) → Changes (on not-alone) (work-of w xs) (work-of r ys) → t ≡ is-alone (unpack xs) → t ≡ is-alone (unpack ys)
-unfolding run
+unfolding run-of
 alone-still w r xs ys t k e = e ∙ sym (ap (λ (g : Run). is-alone (g .station)) (k .same [] []) ∙ alone-as (run (work-of w xs) [] []))

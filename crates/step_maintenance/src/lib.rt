@@ -1,18 +1,20 @@
 // The maintenance and its timer (the definition's `Timers`).
+use base_timing::Timing;
+use hyparview_state::Layout;
+use hyparview_state::RefillLimit;
 use record::Kind;
 use record::Refusal;
-use state::Layout;
-use state::RefillLimit;
-use state::Work;
-use timing::Timing;
-use writer::Fields;
+use record_writer::Fields;
+use work::Work;
 ghost use mathlib.Core.Path.{_≡_};
 ghost use Prim.Native.Nat.{_≤_};
 ghost use lib.ListN.{length};
-ghost use Rattle.protocol.specs.Timers.{pass-alone, maintain};
-ghost use Rattle.protocol.specs.Timers.{schedule-maintenance, handle-maintenance-timer};
-ghost use Rattle.state.specs.Layout.{words};
-ghost use Rattle.state.specs.Work.{work-of, run, TellsAny, Fine, Does};
+ghost use Rattle.base_timing.specs.Timing.{maintenance-interval};
+ghost use Rattle.spec_hyparview.specs.Run.{emit, timer};
+ghost use Rattle.spec_hyparview.specs.Timers.{pass-alone, maintain};
+ghost use Rattle.spec_hyparview.specs.Timers.{handle-maintenance-timer};
+ghost use Rattle.hyparview_state.specs.Layout.{words};
+ghost use Rattle.hyparview_state.specs.Work.{work-of, run, TellsAny, Fine, Does};
 
 // A pass where both views are empty: it is counted, and the backoff says whether Joins go out, to the bootstrap peers and to one recent neighbor.
 fn pass_alone(w: Work, st: &mut [u64], draws: &[u32], out: &mut [u8]) -> Work
@@ -22,34 +24,34 @@ fn pass_alone(w: Work, st: &mut [u64], draws: &[u32], out: &mut [u8]) -> Work
 {
     // Code 10 where the pass cannot be counted.
     let n = st[Layout::PASSES_ALONE];
-    let mut a = state::require(w, Refusal::COUNTER, n < state::TOP_PASSES);
+    let mut a = work::require(w, Refusal::COUNTER, n < hyparview_state::TOP_PASSES);
     if a.code != 0 {
         return a;
     }
     let passes = n + 1;
     st[Layout::PASSES_ALONE] = passes;
-    if timing::backoff_due(passes as u32) {
+    if base_timing::backoff_due(passes as u32) {
         // The recent neighbors that are no bootstrap peers: one of them, where there is one, gets a Join last.
         let mut recent = [0u64; Layout::SET];
         let shared = &*st;
         let neighbors = &shared[Layout::RECENT..Layout::RECENT_END];
-        util::copy_into(neighbors, Layout::FEW, &mut recent);
+        base_util::copy_into(neighbors, Layout::FEW, &mut recent);
         let bootstrap = &shared[Layout::BOOTSTRAP..Layout::BOOTSTRAP_END];
-        util::without_all(&mut recent, Layout::ALL, bootstrap, Layout::FEW);
+        base_util::without_all(&mut recent, Layout::ALL, bootstrap, Layout::FEW);
         // Join to each bootstrap peer, in order.
-        let k = util::count(bootstrap, Layout::FEW);
+        let k = base_util::count(bootstrap, Layout::FEW);
         let mut i: usize = 0;
         while i < k {
-            let p = util::get_index(bootstrap, Layout::FEW, i);
+            let p = base_util::get_index(bootstrap, Layout::FEW, i);
             i += 1;
             a = step_sending::join(a, shared, out, p);
         }
-        let others = util::count(&recent, Layout::ALL);
+        let others = base_util::count(&recent, Layout::ALL);
         if others == 0 {
             return a;
         }
-        let c = state::choose(a, draws, others);
-        let p = util::get_index(&recent, Layout::ALL, c.index);
+        let c = work::choose(a, draws, others);
+        let p = base_util::get_index(&recent, Layout::ALL, c.index);
         return step_sending::join(c.work, st, out, p);
     }
     a
@@ -61,7 +63,7 @@ fn maintain(w: Work, st: &mut [u64], draws: &[u32], out: &mut [u8]) -> Work
     requires { ⌜ Fine (work-of w (now st)) (now draws) (now out) ⌝ }
     ensures { λ r. ⌜ Does (work-of r (now (st .exit))) (now (draws .entry)) (now (out .exit)) (maintain (run (work-of w (now (st .entry))) (now (draws .entry)) (now (out .entry)))) ⌝ }
 {
-    let alone = state::is_alone(st);
+    let alone = hyparview_state::is_alone(st);
     // Both views are empty.
     if alone & (st[Layout::PASSIVE_COUNT] == 0) {
         return pass_alone(w, st, draws, out);
@@ -76,18 +78,18 @@ fn maintain(w: Work, st: &mut [u64], draws: &[u32], out: &mut [u8]) -> Work
     if alone {
         return step_refill::start_refill(a, st, draws, out, RefillLimit::Recovery, &none);
     }
-    if state::is_short(st) {
+    if hyparview_state::is_short(st) {
         // Nothing is done while a recovery runs.
-        if state::limit_of(st).is_recovery() {
+        if hyparview_state::limit_of(st).is_recovery() {
             return a;
         }
         // The pass is counted (code 10 where it cannot be), and the backoff says whether it refills, with a new limit, before which all refusals are forgotten.
         let n = st[Layout::PASSES_SHORT];
-        let b = state::require(a, Refusal::COUNTER, n < state::TOP_PASSES);
+        let b = work::require(a, Refusal::COUNTER, n < hyparview_state::TOP_PASSES);
         if b.code == 0 {
             st[Layout::PASSES_SHORT] = n + 1;
         }
-        if timing::backoff_due(st[Layout::PASSES_SHORT] as u32) {
+        if base_timing::backoff_due(st[Layout::PASSES_SHORT] as u32) {
             let c = step_refill::clear_refused(b, st);
             return step_refill::start_refill(c, st, draws, out, RefillLimit::few_requests(), &none);
         }
@@ -99,7 +101,7 @@ fn maintain(w: Work, st: &mut [u64], draws: &[u32], out: &mut [u8]) -> Work
 // The next pass of maintenance.
 pub fn schedule_maintenance(w: Work, out: &mut [u8]) -> Work
     requires { ⌜ w .written ≤ length (now out) ⌝ }
-    ensures { λ r. ⌜ TellsAny schedule-maintenance w r (now (out .entry)) (now (out .exit)) ⌝ }
+    ensures { λ r. ⌜ TellsAny (emit (timer 2 0 maintenance-interval 0)) w r (now (out .entry)) (now (out .exit)) ⌝ }
 {
     let f = Fields {
         kind: Kind::DO_MAINTENANCE,
@@ -110,7 +112,7 @@ pub fn schedule_maintenance(w: Work, out: &mut [u8]) -> Work
         ttl: 0,
         number: 0,
     };
-    state::emit_bare(w, out, f)
+    work::emit_bare(w, out, f)
 }
 
 // The timer of the maintenance, which sets the next one.
@@ -121,12 +123,12 @@ pub fn handle_maintenance_timer(w: Work, st: &mut [u64], draws: &[u32], out: &mu
 {
     if w.code == 0 {
         // The neighbors become the newest of the recent ones, one after the other.
-        let n = util::count(&st[Layout::ACTIVE..Layout::ACTIVE_END], Layout::FEW);
+        let n = base_util::count(&st[Layout::ACTIVE..Layout::ACTIVE_END], Layout::FEW);
         let mut i: usize = 0;
         while i < n {
-            let p = util::get_index(&st[Layout::ACTIVE..Layout::ACTIVE_END], Layout::FEW, i);
+            let p = base_util::get_index(&st[Layout::ACTIVE..Layout::ACTIVE_END], Layout::FEW, i);
             i += 1;
-            util::renew(
+            base_util::renew(
                 &mut st[Layout::RECENT..Layout::RECENT_END],
                 Layout::FEW,
                 Timing::MAX_RECENT_NEIGHBORS,

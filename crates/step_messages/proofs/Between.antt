@@ -5,22 +5,22 @@ use mathlib.Core.Path.{_≡_, refl, sym, ap, _∙_, subst}
 use mathlib.Core.Bool.{Bool, true, false, not}
 use mathlib.Core.List.{List, [], _∷_}
 use native.Mathlib.Omega.{arith}
-use Rattle.lists.specs.Lists.{count, insert}
-use Rattle.lists.proofs.Count.{mem-true, count-insert}
-use Rattle.peer.specs.Data.{Data}
-use Rattle.protocol.specs.Station.{in-active, in-passive, is-requested}
-use Rattle.protocol.specs.Run.{Run, on}
-use Rattle.protocol.specs.Active.{remove-active, add-active, accepts}
-use Rattle.protocol.specs.Messages.{drop-pending, forward-joins, on-join, refuse-neighbor, answer-neighbor, on-neighbor}
-use Rattle.protocol.specs.Messages.{drop-join, drop-request, forget-recent, disconnect-other, disconnected, on-disconnect}
-use Rattle.lists.proofs.Members.{shorter}
-use Rattle.protocol.proofs.Invariant.{Fixed, busy, calm, Ok}
-use Rattle.protocol.proofs.Entering.{unbar}
-use Rattle.protocol.proofs.Received.{ok-drop-join, ok-drop-request, ok-drop-pending, ok-forget-recent}
-use Rattle.state.specs.declared.Work.{Work}
-use Rattle.state.specs.Unpack.{unpack}
-use Rattle.state.specs.Work.{Held, work-of, run, Changes, Fine, Does}
-use Rattle.state.proofs.Bridge.{change-then, still, then, seq, seq-at, taken, left, holds-at, at-run}
+use Rattle.base_lists.specs.Lists.{count, insert}
+use Rattle.base_lists.proofs.Count.{mem-true, count-insert}
+use Rattle.base_peer.specs.Data.{Data}
+use Rattle.spec_hyparview.specs.Station.{in-active, in-passive, is-requested}
+use Rattle.spec_hyparview.specs.Run.{Run, on}
+use Rattle.spec_hyparview.specs.Active.{remove-active, add-active, accepts}
+use Rattle.spec_hyparview.specs.Messages.{drop-pending, forward-joins, on-join, refuse-neighbor, answer-neighbor, on-neighbor}
+use Rattle.spec_hyparview.specs.Messages.{drop-join, drop-request, forget-recent, disconnect-other, disconnected, on-disconnect}
+use Rattle.base_lists.proofs.Members.{shorter}
+use Rattle.spec_hyparview.proofs.Invariant.{Fixed, busy, calm, Ok}
+use Rattle.spec_hyparview.proofs.Entering.{unbar}
+use Rattle.spec_hyparview.proofs.Received.{ok-drop-join, ok-drop-request, ok-drop-pending, ok-forget-recent}
+use Rattle.work.specs.declared.Work.{Work}
+use Rattle.hyparview_state.specs.Unpack.{unpack}
+use Rattle.hyparview_state.specs.Work.{Held, work-of, run, run-of, Changes, Fine, Does}
+use Rattle.hyparview_state.proofs.Bridge.{change-then, still, then, seq, seq-at, taken, left, holds-at, at-run}
 use Rattle.step_active.specs.declared.Loss.the-variants.{DisconnectReceived}
 use Rattle.step_active.specs.Sane.{Calm, reason-in}
 use Rattle.step_messages.specs.Between.{Between}
@@ -43,7 +43,7 @@ mark-fits q m b d p g k = record {
 }
 
 pub between-mark : (m b d p : ℕ) (w : Work) (xs ds out : List ℕ) → Between m b d (run (work-of w xs) ds out) → FreePassiveMark p (w .code) (unpack xs)
-unfolding run
+unfolding run-of
 between-mark m b d p w xs ds out k = mark-fits (k .fixed) (k .messages + m) (k .bytes + b) (k .draws + d) p (run (work-of w xs) ds out) (k .ok)
 
 -- ---- joins and neighbors

@@ -9,37 +9,38 @@ use native.Mathlib.Omega.{arith}
 use lib.ListN.{length, take, drop, getD}
 use lib.Dec.{eqb, ltb}
 use borrow.Author.Tests.{eq-eqb, ne-eqb, eqb-true, eqb-false}
-use Rattle.lists.specs.Lists.{mem, without, insert}
-use Rattle.lists.proofs.Choice.{split, by-choice, choose-yes, choose-no, and-left, and-right, clash}
-use Rattle.util.specs.Chances.{pick}
-use Rattle.peer.specs.Data.{Node}
-use Rattle.peer.specs.Held.{data-in, node-in}
-use Rattle.peer.specs.declared.PeerData.{PeerData}
-use Rattle.util.specs.Section.{items-at, HoldsSet}
-use Rattle.peer.specs.declared.PeerInfo.{PeerInfo}
-use Rattle.timing.specs.Timing.{next, expired}
-use Rattle.timing.proofs.Ranges.{ranges}
-use Rattle.writer.specs.Write.{rec-in}
-use Rattle.protocol.specs.Station.{Station, is-me, is-requested, in-passive, in-active, active-is-full, is-last-hop}
-use Rattle.protocol.specs.Run.{Run, guard, on, emit, to-draw, one-of, draw-one-of, require, picked, node, emit-all}
-use Rattle.protocol.specs.Peers.{insert-peer-info, forget-peer, add-passive, drop-passive}
-use Rattle.protocol.specs.Sending.{send-neighbor, send-disconnect}
-use Rattle.protocol.specs.Refill.{refill-active-from-passive}
-use Rattle.protocol.specs.Active.{mark-alive, accepts}
-use Rattle.protocol.specs.Messages.{forward-join-to, ends-here, ask-joiner, learn-joiner, forward-join-on, walk-on, on-forward-join}
-use Rattle.protocol.specs.Messages.{forward-joins, refuse-neighbor}
-use Rattle.protocol.specs.Messages.{drop-recent, forget-recent, refused-fits, add-refused, note-refused, note-refusal, mark-passive, left-topic, disconnect-other}
-use Rattle.lists.proofs.Members.{length-insert}
-use Rattle.state.specs.declared.Work.{Work}
+use Rattle.base_lists.specs.Lists.{mem, without, insert}
+use Rattle.base_lists.proofs.Choice.{split, by-choice, choose-yes, choose-no, and-left, and-right, clash}
+use Rattle.base_util.specs.Chances.{pick}
+use Rattle.base_peer.specs.Data.{Node}
+use Rattle.base_peer.specs.Held.{data-in, node-in}
+use Rattle.base_peer.specs.declared.PeerData.{PeerData}
+use Rattle.base_util.specs.Section.{items-at, HoldsSet}
+use Rattle.base_peer.specs.declared.PeerInfo.{PeerInfo}
+use Rattle.base_timing.specs.Timing.{next, expired}
+use Rattle.base_timing.proofs.Ranges.{ranges}
+use Rattle.record_writer.specs.Write.{rec-in}
+use Rattle.spec_hyparview.specs.Station.{Station, is-me, is-requested, in-passive, in-active, active-is-full, is-last-hop}
+use Rattle.spec_hyparview.specs.Run.{Run, guard, on, emit, to-draw, one-of, draw-one-of, require, picked, node, emit-all}
+use Rattle.spec_hyparview.specs.Peers.{insert-peer-info, forget-peer, add-passive, drop-passive}
+use Rattle.spec_hyparview.specs.Sending.{send-neighbor, send-disconnect}
+use Rattle.spec_hyparview.specs.Refill.{refill-active-from-passive}
+use Rattle.spec_hyparview.specs.Active.{mark-alive, accepts}
+use Rattle.spec_hyparview.specs.Messages.{forward-join-to, ends-here, ask-joiner, learn-joiner, forward-join-on, walk-on, on-forward-join}
+use Rattle.spec_hyparview.specs.Messages.{forward-joins, refuse-neighbor}
+use Rattle.spec_hyparview.specs.Messages.{drop-recent, forget-recent, refused-fits, add-refused, note-refused, note-refusal, mark-passive, left-topic, disconnect-other}
+use Rattle.base_lists.proofs.Members.{length-insert}
+use Rattle.work.specs.declared.Work.{Work}
 use Rattle.step_peers.specs.declared.Added.{Added}
 use Rattle.step_peers.specs.Answer.{Adds}
-use Rattle.state.specs.Layout.{active-part, refused-part, active-random-walk-length, passive-random-walk-length}
-use Rattle.state.specs.Unpack.{unpack, station-of, settings-at, PackedState}
-use Rattle.state.specs.Work.{Held, work-of, run, Changes, ChangesAny, DrawsAny, Tells, TellsAny, Fine, Does}
-use Rattle.state.proofs.Access.{of-refused, of-settings}
-use Rattle.state.proofs.Any.{drew-none-of, then-draw-any, then-tell-any}
+use Rattle.hyparview_state.specs.Layout.{active-part, refused-part, active-random-walk-length, passive-random-walk-length}
+use Rattle.hyparview_state.specs.Unpack.{unpack, station-of, settings-at, PackedState}
+use Rattle.hyparview_state.specs.Work.{Held, work-of, run, run-of, Changes, ChangesAny, DrawsAny, Tells, TellsAny, Fine, Does}
+use Rattle.hyparview_state.proofs.Access.{of-refused, of-settings}
+use Rattle.hyparview_state.proofs.Any.{required-at, then-one-of, then-tell-any}
+use Rattle.work.proofs.Any.{drew-none-of}
 use Rattle.step_sending.proofs.Sets.{lent-items}
-use Rattle.state.proofs.Bridge.{on-passed, unchanged, change-by, change-then, change-yes, change-no, tell-then, require-said, by, still, then, then-tell, seq, taken, left, holds-at}
+use Rattle.hyparview_state.proofs.Bridge.{on-passed, unchanged, change-by, change-then, change-yes, change-no, tell-then, require-said, by, still, then, then-tell, seq, taken, left, holds-at}
 use Rattle.step_active.specs.Sane.{FreeMark}
 
 -- ---- joins that are forwarded
@@ -59,7 +60,7 @@ joiner-asked w a r out o₁ o n k₂ k₁ = tell-then _ (λ ds. refl) k₂ k₁
 
 module _ (w : Work) (xs ds out : List ℕ) (n : PeerInfo) (ttl : ℕ) where
   walk-is : run (work-of w xs) ds out .station .config .«passive_random_walk_length» ≡ passive-random-walk-length xs
-  unfolding run unpack station-of settings-at
+  unfolding run-of unpack station-of settings-at
   walk-is = refl
 
   pub joiner-learned : (m : Added) (ys o : List ℕ) (x : Option ℕ) → ttl ≡ passive-random-walk-length xs → Adds m ys ds o (add-passive (n .id) (data-in (n .data)) (run (work-of w xs) ds out)) x
@@ -79,12 +80,12 @@ none-picked (p ∷ ps) ds k e h = absurd (omega (arith, e, h))
 module _ (w : Work) (xs ds out ps : List ℕ) (n : Node) (ttl k u : ℕ) (v : Fine (work-of w xs) ds out) (c : k ≡ length ps) (y : u ≡ next ttl) where
   join-on-is : (q : ℕ) → q ≡ getD ps (pick (length ps) (drop (w .drawn) ds)) 0
       → forward-join-on ps n ttl (run (work-of w xs) ds out) ≡ emit (forward-join-to n u q) (draw-one-of (length ps) (run (work-of w xs) ds out))
-  unfolding forward-join-on picked one-of to-draw run
+  unfolding forward-join-on picked one-of to-draw run-of
   join-on-is q p = λ i. emit (forward-join-to n (sym y i) (sym p i)) (draw-one-of (length ps) (run (work-of w xs) ds out))
 
   join-on : (a r : Work) (o : List ℕ) (q : ℕ) → q ≡ getD ps (pick (length ps) (drop (w .drawn) ds)) 0 → TellsAny (emit (forward-join-to n u q)) a r out o → DrawsAny (draw-one-of (length ps)) w a ds
       → Does (work-of r xs) ds o (forward-join-on ps n ttl (run (work-of w xs) ds out))
-  join-on a r o q p k₂ k₁ = by _ (join-on-is q p) (then-tell-any k₂ (then-draw-any k₁ (still v)))
+  join-on a r o q p k₂ k₁ = by _ (join-on-is q p) (then-tell-any _ k₂ (then-one-of _ k₁ (still v)))
 
   pub join-on-none : (r : Work) (o : List ℕ) → k ≡ 0 → TellsAny (emit (forward-join-to n u 0)) w r out o → Does (work-of r xs) ds o (forward-join-on ps n ttl (run (work-of w xs) ds out))
   join-on-none r o h d = join-on w r o 0 (none-picked ps (drop (w .drawn) ds) k c h) d (drew-none-of w w ds (length ps) (v .ready .drawn) (omega (arith, c, h)))
@@ -100,7 +101,7 @@ module _ (w : Work) (xs ds out : List ℕ) (from : ℕ) (n : PeerInfo) (ttl : �
 
   module _ (v : List ℕ) (p : HoldsSet 32 v (without from (unpack xs .active))) where
     rest-are : without from (run (work-of w xs) ds out .station .active) ≡ items-at 32 v
-    unfolding run
+    unfolding run-of
     rest-are = sym (p .items)
 
     pub walked-on : (r : Held) (o : List ℕ) → t ≡ false → Does r ds o (forward-join-on (items-at 32 v) (node-in n) ttl (run (work-of w xs) ds out)) → Does r ds o (walk-on from (node-in n) ttl (run (work-of w xs) ds out))
@@ -132,7 +133,7 @@ module _ (w r : Work) (xs ds out o : List ℕ) (p : ℕ) (d : PeerData) where
   pub joins-forwarded : (v : List ℕ) (k : ℕ) → HoldsSet 32 v (without p (unpack xs .active)) → k ≡ length (items-at 32 v)
       → Does (work-of r xs) ds o (emit-all (forward-join-to (node-in (record { id = p; «data» = d })) (active-random-walk-length xs)) (take k v) (run (work-of w xs) ds out))
       → Does (work-of r xs) ds o (forward-joins p (data-in d) (run (work-of w xs) ds out))
-  unfolding forward-joins node-in run unpack station-of settings-at
+  unfolding forward-joins node-in run-of unpack station-of settings-at
   joins-forwarded v k h e t =
       by _ (ap (λ (l : List ℕ). emit-all (forward-join-to (node p (data-in d)) (active-random-walk-length xs)) l (run (work-of w xs) ds out)) (sym (lent-items v k (h .valid) e ∙ h .items))) t
 
@@ -177,13 +178,13 @@ pub refused-place : (w a : Work) (xs : List ℕ) (p : ℕ) (t : Bool) → Packed
 unfolding unpack station-of refused-fits
 refused-place w a xs p t v e k z =
     let f = of-refused xs v in
-    let h = sym e ∙ require-said (work-of w xs) (work-of a xs) 7 t (omega arith) (k .any xs v) z .1 in
+    let h = sym e ∙ require-said (work-of w xs) (work-of a xs) 7 t (omega arith) (required-at xs v _ _ k) z .1 in
     length-insert p 32 (items-at 32 (refused-part xs)) h (omega (arith, f .fits, f .counted))
 
 pub refusal-noted : (w a r : Work) (xs ys : List ℕ) (p : ℕ) (t : Bool) → PackedState xs → t ≡ refused-fits p (unpack xs) → Changes (on (add-refused p)) (work-of a xs) (work-of r ys) → ChangesAny (require 7 t) w a
     → Changes (note-refused p) (work-of w xs) (work-of r ys)
-unfolding note-refused run
-refusal-noted w a r xs ys p t v e k₂ k₁ = change-then _ (λ ds out. rw e) k₂ (k₁ .any xs v)
+unfolding note-refused run-of
+refusal-noted w a r xs ys p t v e k₂ k₁ = change-then _ (λ ds out. rw e) k₂ (required-at xs v _ _ k₁)
 
 module _ (w : Held) (p : ℕ) (requested : Bool) where
   pub refusal-there : (r : Held) → requested ≡ true → Changes (note-refused p) w r → Changes (note-refusal p requested) w r
@@ -239,7 +240,7 @@ noted-mark p requested g h =
         (λ e. m)
 
 pub still-markable : (w a : Work) (xs ys : List ℕ) (p : ℕ) (requested : Bool) → FreePassiveMark p (w .code) (unpack xs) → Changes (note-refusal p requested) (work-of w xs) (work-of a ys) → FreePassiveMark p (a .code) (unpack ys)
-unfolding run
+unfolding run-of
 still-markable w a xs ys p requested h k = subst (Markable p) (sym (k .same [] [])) (noted-mark p requested (run (work-of w xs) [] []) h)
 
 pub other-alive : (w a r : Held) (ds out : List ℕ) (p : ℕ) (alive requested : Bool) → Fine w ds out → alive ≡ true → Changes (mark-passive p) a r → Changes (note-refusal p requested) w a → Does r ds out (disconnect-other p alive requested (run w ds out))

@@ -1,30 +1,30 @@
 // The messages received but for the two of a shuffle (the definition's `Messages`).
-use peer::PeerData;
-use peer::PeerId;
-use peer::PeerInfo;
+use base_peer::PeerData;
+use base_peer::PeerId;
+use base_peer::PeerInfo;
+use base_timing::Ttl;
+use hyparview_state::Layout;
 use record::Kind;
 use record::Message;
 use record::Refusal;
-use state::Layout;
-use state::Work;
+use record_writer::Fields;
 use step_active::Loss;
-use timing::Ttl;
-use writer::Fields;
+use work::Work;
 ghost use mathlib.Core.Path.{_≡_};
 ghost use Prim.Native.Nat.{_≤_};
 ghost use lib.ListN.{length};
-ghost use Rattle.lists.specs.Lists.{without};
-ghost use Rattle.peer.specs.Held.{ValidData, data-in, node-in};
-ghost use Rattle.util.specs.Section.{HoldsSet};
-ghost use Rattle.protocol.specs.Budgets.{leaving, arriving};
-ghost use Rattle.protocol.specs.Run.{emit};
-ghost use Rattle.protocol.specs.Messages.{forward-join-to, learn-joiner, on-forward-join};
-ghost use Rattle.protocol.specs.Messages.{on-join, on-neighbor};
-ghost use Rattle.protocol.specs.Messages.{note-refusal};
-ghost use Rattle.protocol.specs.Messages.{on-disconnect};
-ghost use Rattle.state.specs.Layout.{words, all-places, set-words};
-ghost use Rattle.state.specs.Unpack.{unpack, PackedState};
-ghost use Rattle.state.specs.Work.{work-of, run, Changes, TellsAny, Fine, Does};
+ghost use Rattle.base_lists.specs.Lists.{without};
+ghost use Rattle.base_peer.specs.Held.{ValidData, data-in, node-in};
+ghost use Rattle.base_util.specs.Section.{HoldsSet};
+ghost use Rattle.spec_hyparview.specs.Budgets.{leaving, arriving};
+ghost use Rattle.spec_hyparview.specs.Run.{emit};
+ghost use Rattle.spec_hyparview.specs.Messages.{forward-join-to, learn-joiner, on-forward-join};
+ghost use Rattle.spec_hyparview.specs.Messages.{on-join, on-neighbor};
+ghost use Rattle.spec_hyparview.specs.Messages.{note-refusal};
+ghost use Rattle.spec_hyparview.specs.Messages.{on-disconnect};
+ghost use Rattle.hyparview_state.specs.Layout.{words, all-places, set-words};
+ghost use Rattle.hyparview_state.specs.Unpack.{unpack, PackedState};
+ghost use Rattle.hyparview_state.specs.Work.{work-of, run, Changes, TellsAny, Fine, Does};
 ghost use Rattle.step_messages.specs.Between.{Between};
 
 // The neighbors but p, as a working set.
@@ -34,8 +34,8 @@ fn other_active(st: &[u64], p: PeerId, t: &mut [u64])
     requires { ⌜ length (now t) ≡ set-words ⌝ }
     ensures { λ _. ⌜ HoldsSet all-places (now (t .exit)) (without p (unpack (now (st .entry)) .active)) ⌝ }
 {
-    util::copy_into(&st[Layout::ACTIVE..Layout::ACTIVE_END], Layout::FEW, t);
-    util::without(t, Layout::ALL, p);
+    base_util::copy_into(&st[Layout::ACTIVE..Layout::ACTIVE_END], Layout::FEW, t);
+    base_util::without(t, Layout::ALL, p);
 }
 
 // ---- ForwardJoin
@@ -76,7 +76,7 @@ fn forward_join_to(w: Work, out: &mut [u8], n: PeerInfo, ttl: u16, q: PeerId) ->
         ttl: ttl,
         number: 0,
     };
-    state::emit_one(w, out, f, n)
+    work::emit_one(w, out, f, n)
 }
 
 pub fn on_forward_join(
@@ -94,25 +94,25 @@ pub fn on_forward_join(
     ensures { λ r. ⌜ Does (work-of r (now (st .exit))) (now (draws .entry)) (now (out .exit)) (on-forward-join from (node-in n) ttl (run (work-of w (now (st .entry))) (now (draws .entry)) (now (out .entry)))) ⌝ }
 {
     let t = Ttl(ttl);
-    if state::in_active(st, n.id) | (t.expired() | state::is_last_hop(st)) {
+    if hyparview_state::in_active(st, n.id) | (t.expired() | hyparview_state::is_last_hop(st)) {
         // The walk ends here. Neighbor to the one who joins; it enters the active view once it answers.
         let told = step_peers::insert_peer_info(w, st, out, n.id, n.data);
         return step_sending::send_neighbor(told, st, out, n.id, true);
     }
     let learned = learn_joiner(w, st, draws, out, n, ttl);
-    if state::is_requested(st, n.id) {
+    if hyparview_state::is_requested(st, n.id) {
         return learned;
     }
     // It goes on to one of the other neighbors. There is one (`never-unreachable`): of none the definition picks 0.
     let mut v = [0u64; Layout::SET];
     other_active(st, from, &mut v);
-    let k = util::count(&v, Layout::ALL);
+    let k = base_util::count(&v, Layout::ALL);
     let left = t.next();
     if k == 0 {
         return forward_join_to(learned, out, n, left.0, 0);
     }
-    let chosen = state::choose(learned, draws, k);
-    let q = util::get_index(&v, Layout::ALL, chosen.index);
+    let chosen = work::choose(learned, draws, k);
+    let q = base_util::get_index(&v, Layout::ALL, chosen.index);
     forward_join_to(chosen.work, out, n, left.0, q)
 }
 
@@ -125,14 +125,14 @@ fn note_refusal(w: Work, st: &mut [u64], p: PeerId, requested: bool) -> Work
     ensures { λ r. ⌜ Changes (note-refusal p requested) (work-of w (now (st .entry))) (work-of r (now (st .exit))) ⌝ }
 {
     if requested {
-        let n = util::count(&st[Layout::REFUSED..Layout::REFUSED_END], Layout::ALL);
-        let fits = util::contains(&st[Layout::REFUSED..Layout::REFUSED_END], Layout::ALL, p)
+        let n = base_util::count(&st[Layout::REFUSED..Layout::REFUSED_END], Layout::ALL);
+        let fits = base_util::contains(&st[Layout::REFUSED..Layout::REFUSED_END], Layout::ALL, p)
             | (n < Layout::ALL);
-        let a = state::require(w, Refusal::REFUSED_PEERS, fits);
+        let a = work::require(w, Refusal::REFUSED_PEERS, fits);
         if a.code != 0 {
             return a;
         }
-        util::insert_sorted(
+        base_util::insert_sorted(
             &mut st[Layout::REFUSED..Layout::REFUSED_END],
             Layout::ALL,
             p,
@@ -155,21 +155,21 @@ pub fn on_disconnect(
     requires { ⌜ Between 0 leaving 1 (run (work-of w (now st)) (now draws) (now out)) ⌝ }
     ensures { λ r. ⌜ Does (work-of r (now (st .exit))) (now (draws .entry)) (now (out .exit)) (on-disconnect p alive (run (work-of w (now (st .entry))) (now (draws .entry)) (now (out .entry)))) ⌝ }
 {
-    let requested = state::is_requested(st, p);
+    let requested = hyparview_state::is_requested(st, p);
     // Neither a join nor a request to p is open; and whoever went away for good cannot let the station in again, so it is not kept for a rejoin.
-    let closed = state::drop_join(w, st, p);
+    let closed = hyparview_state::drop_join(w, st, p);
     if !alive & (closed.code == 0) {
-        util::without(&mut st[Layout::RECENT..Layout::RECENT_END], Layout::FEW, p);
+        base_util::without(&mut st[Layout::RECENT..Layout::RECENT_END], Layout::FEW, p);
     }
-    let ended = state::drop_request(closed, st, p);
-    if state::in_active(st, p) {
+    let ended = hyparview_state::drop_request(closed, st, p);
+    if hyparview_state::in_active(st, p) {
         let loss = Loss::DisconnectReceived(alive);
         return step_active::remove_active(ended, st, draws, out, p, loss);
     }
     if alive {
         let noted = note_refusal(ended, st, p, requested);
         // A passive peer that disconnected alive is marked.
-        if state::in_passive(st, p) {
+        if hyparview_state::in_passive(st, p) {
             return step_active::mark_alive(noted, st, p);
         }
         return noted;
@@ -198,12 +198,12 @@ pub fn on_join(
     requires { ⌜ Between 0 arriving 40 (run (work-of w (now st)) (now draws) (now out)) ⌝ }
     ensures { λ r. ⌜ Does (work-of r (now (st .exit))) (now (draws .entry)) (now (out .exit)) (on-join p (data-in d) (run (work-of w (now (st .entry))) (now (draws .entry)) (now (out .entry)))) ⌝ }
 {
-    let a = state::drop_pending(w, st, p);
+    let a = hyparview_state::drop_pending(w, st, p);
     let mut b = step_active::add_active(a, st, draws, out, p, d, true, true);
     // ForwardJoin to all neighbors but the one who joins.
     let mut v = [0u64; Layout::SET];
     other_active(st, p, &mut v);
-    let k = util::count(&v, Layout::ALL);
+    let k = base_util::count(&v, Layout::ALL);
     let ttl = st[Layout::ACTIVE_RANDOM_WALK_LENGTH] as u16;
     let n = PeerInfo { id: p, data: d };
     let mut i: usize = 0;
@@ -230,11 +230,11 @@ pub fn on_neighbor(
     requires { ⌜ Between 0 arriving 40 (run (work-of w (now st)) (now draws) (now out)) ⌝ }
     ensures { λ r. ⌜ Does (work-of r (now (st .exit))) (now (draws .entry)) (now (out .exit)) (on-neighbor p (data-in d) high (run (work-of w (now (st .entry))) (now (draws .entry)) (now (out .entry)))) ⌝ }
 {
-    let requested = state::is_requested(st, p);
-    let a = state::drop_pending(w, st, p);
+    let requested = hyparview_state::is_requested(st, p);
+    let a = hyparview_state::drop_pending(w, st, p);
     // Whether p is in the active view after it was to enter it.
-    let accepted = !state::is_me(st, p)
-        & (state::in_active(st, p) | (high | !state::active_is_full(st)));
+    let accepted = !hyparview_state::is_me(st, p)
+        & (hyparview_state::in_active(st, p) | (high | !hyparview_state::active_is_full(st)));
     let b = step_active::add_active(a, st, draws, out, p, d, high, !requested);
     if accepted {
         return b;

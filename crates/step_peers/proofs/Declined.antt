@@ -1,15 +1,15 @@
 -- Laws of the last step of an event: what it forgets, and where it forgets nothing.
 -- Assumes nothing.
 use Prim.Native.Nat.{ℕ}
-use Rattle.columns.specs.Columns.{HoldsDataWords}
-use Rattle.lists.specs.Lists.{subset}
-use Rattle.lists.specs.Maps.{keys, retain}
-use Rattle.lists.proofs.Maps.{retain-all}
-use Rattle.protocol.specs.Handle.{forget-declined}
-use Rattle.protocol.specs.Setters.{set-peer-data}
-use Rattle.protocol.specs.Station.{data-peers}
-use Rattle.state.specs.Unpack.{unpack, Becomes}
-use Rattle.util.specs.Section.{items-at, HoldsSet}
+use Rattle.base_columns.specs.Columns.{HoldsDataWords}
+use Rattle.base_lists.specs.Lists.{subset}
+use Rattle.base_lists.specs.Maps.{keys, retain}
+use Rattle.base_lists.proofs.Maps.{retain-all}
+use Rattle.spec_hyparview.specs.Handle.{forget-declined}
+use Rattle.spec_hyparview.specs.Setters.{set-peer-data}
+use Rattle.spec_hyparview.specs.Station.{data-peers}
+use Rattle.hyparview_state.specs.Unpack.{unpack, Becomes}
+use Rattle.base_util.specs.Section.{items-at, HoldsSet}
 use mathlib.Core.List.{List}
 use mathlib.Core.Path.{_≡_, sym, ap, _∙_, subst}
 use mathlib.Core.Bool.{Bool, true}

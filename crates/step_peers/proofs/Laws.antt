@@ -9,36 +9,37 @@ use native.Mathlib.Omega.{arith}
 use lib.ListN.{length, take, drop, getD, length-append}
 use lib.Dec.{eqb, leb, ltb}
 use borrow.Author.Tests.{eqb-false, leb-false, not-true, not-false, eq-eqb, ne-eqb}
-use Rattle.lists.specs.Lists.{null, remove, shift-remove}
-use Rattle.util.specs.Section.{items-at}
-use Rattle.util.proofs.Parts.{part-read}
-use Rattle.util.proofs.Sets.{empty-is-null}
-use Rattle.state.specs.Layout.{passive-part, peer-data-part, passive-view-capacity}
-use Rattle.columns.specs.Columns.{data-map-at}
-use Rattle.lists.specs.Maps.{lookup, has}
-use Rattle.lists.proofs.Choice.{by-choice, choose-yes, choose-no, split, and-right, and-false, or-left, or-right}
-use Rattle.lists.proofs.Count.{length-shift, length-remove}
-use Rattle.util.specs.Chances.{pick}
-use Rattle.util.proofs.Chances.{pick-below}
-use Rattle.peer.specs.declared.PeerData.{PeerData}
-use Rattle.peer.specs.Held.{data-in, node-in, ValidData}
-use Rattle.peer.proofs.Data.{bytes-in, length-bytes}
-use Rattle.writer.specs.Write.{rec-in}
-use Rattle.state.specs.declared.Work.{Work}
-use Rattle.protocol.specs.Run.{Run, guard, on, emit, to-draw, one-of, draw-one-of, require, picked, notice, node}
-use Rattle.state.specs.Work.{Held, work-of, ChangesAny, DrawsAny, TellsAny, run, Changes, Room, Tells, Fine}
-use Rattle.state.proofs.Bridge.{on-passed, on-twice, unchanged, change-then, change-yes, change-no, telling, tell-by, tell-then, tell-yes, tell-no, still, by, then, then-draw, then-tell, seq, taken, left, require-said}
-use Rattle.peer.specs.Data.{Data, bytes-of, holds}
-use Rattle.timing.proofs.Ranges.{ranges}
-use Rattle.protocol.proofs.Keeping.{one-of-station, emit-station, emit-fine}
-use Rattle.protocol.specs.Station.{Station, is-me, in-active, in-passive, in-view, passive-is-full}
-use Rattle.protocol.specs.Peers.{is-known, data-fits, store-data, keep-data, announce-data, insert-data, insert-peer-info, forget-peer, drop-traces, drop-mark, drop-data, shift-passive, push-passive, evict-at, must-evict, evicted, evict, tell-evicted, make-room, is-newcomer, enter-passive, evicted-for, add-passive, evicted-by}
+use Rattle.base_lists.specs.Lists.{null, remove, shift-remove}
+use Rattle.base_util.specs.Section.{items-at}
+use Rattle.base_util.proofs.Parts.{part-read}
+use Rattle.base_util.proofs.Sets.{empty-is-null}
+use Rattle.hyparview_state.specs.Layout.{passive-part, peer-data-part, passive-view-capacity}
+use Rattle.base_columns.specs.Columns.{data-map-at}
+use Rattle.base_lists.specs.Maps.{lookup, has}
+use Rattle.base_lists.proofs.Choice.{by-choice, choose-yes, choose-no, split, and-right, and-false, or-left, or-right}
+use Rattle.base_lists.proofs.Count.{length-shift, length-remove}
+use Rattle.base_util.specs.Chances.{pick}
+use Rattle.base_util.proofs.Chances.{pick-below}
+use Rattle.base_peer.specs.declared.PeerData.{PeerData}
+use Rattle.base_peer.specs.Held.{data-in, node-in, ValidData}
+use Rattle.base_peer.proofs.Data.{bytes-in, length-bytes}
+use Rattle.record_writer.specs.Write.{rec-in}
+use Rattle.work.specs.declared.Work.{Work}
+use Rattle.spec_hyparview.specs.Run.{Run, guard, on, emit, to-draw, one-of, draw-one-of, require, picked, notice, node}
+use Rattle.hyparview_state.specs.Work.{Held, work-of, ChangesAny, DrawsAny, TellsAny, run, run-of, Changes, Room, Tells, Fine}
+use Rattle.hyparview_state.proofs.Any.{one-of-at, required-at, told-at}
+use Rattle.hyparview_state.proofs.Bridge.{on-passed, on-twice, unchanged, change-then, change-yes, change-no, telling, tell-by, tell-then, tell-yes, tell-no, still, by, then, then-draw, then-tell, seq, taken, left, require-said}
+use Rattle.base_peer.specs.Data.{Data, bytes-of, holds}
+use Rattle.base_timing.proofs.Ranges.{ranges}
+use Rattle.spec_hyparview.proofs.Keeping.{one-of-station, emit-station, emit-fine}
+use Rattle.spec_hyparview.specs.Station.{Station, is-me, in-active, in-passive, in-view, passive-is-full}
+use Rattle.spec_hyparview.specs.Peers.{is-known, data-fits, store-data, keep-data, announce-data, insert-data, insert-peer-info, forget-peer, drop-traces, drop-mark, drop-data, shift-passive, push-passive, evict-at, must-evict, evicted, evict, tell-evicted, make-room, is-newcomer, enter-passive, evicted-for, add-passive, evicted-by}
 use Rattle.step_peers.specs.Answer.{named-in, Adds}
 use Rattle.step_peers.specs.declared.Evicted.the-variants.{Nobody, Peer}
 use Rattle.step_peers.specs.declared.Added.{Added}
-use Rattle.state.specs.Unpack.{unpack, station-of, settings-at, PackedState}
-use Rattle.state.proofs.Access.{of-settings, of-passive, of-peer-data, passive-fits, count-passive}
-use Rattle.state.proofs.Counts.{passive-full}
+use Rattle.hyparview_state.specs.Unpack.{unpack, station-of, settings-at, PackedState}
+use Rattle.hyparview_state.proofs.Access.{of-settings, of-passive, of-peer-data, passive-fits, count-passive}
+use Rattle.hyparview_state.proofs.Counts.{passive-full}
 
 -- fewer passive peers are within capacity
 pub shrunk : (xs : List ℕ) (p : ℕ) → PackedState xs → length (remove p (items-at 32 (passive-part xs))) ≤ passive-view-capacity xs
@@ -50,11 +51,11 @@ shifted-fits xs i v h = omega (arith, length-shift (items-at 32 (passive-part xs
 -- ---- rows and branches
 
 keeps : (w a r : Work) (xs ys : List ℕ) (p : ℕ) (b : List ℕ) (t : Bool) → PackedState xs → t ≡ data-fits p (unpack xs) → Changes (on (store-data p b)) (work-of a xs) (work-of r ys) → ChangesAny (require 8 t) w a → Changes (keep-data p b) (work-of w xs) (work-of r ys)
-unfolding keep-data run
-keeps w a r xs ys p b t v e k₂ k₁ = change-then _ (λ ds out. rw e) k₂ (k₁ .any xs v)
+unfolding keep-data run-of
+keeps w a r xs ys p b t v e k₂ k₁ = change-then _ (λ ds out. rw e) k₂ (required-at xs v _ _ k₁)
 
 evicts : (w a r : Held) (i p : ℕ) → p ≡ getD (unpack (w .state) .passive) i 0 → Changes (forget-peer p) a r → Changes (on (shift-passive i)) w a → Changes (evict-at i) w r
-unfolding evict-at run unpack station-of
+unfolding evict-at run-of unpack station-of
 evicts w a r i p e k₂ k₁ = change-then _ (λ ds out. rw e) k₂ k₁
 
 -- ---- peer data
@@ -91,7 +92,7 @@ pub announced : (w r : Work) (xs out o : List ℕ) (p : ℕ) (d : PeerData) (t :
     → Tells (announce-data p (bytes-of (data-in d))) (work-of w xs) (work-of r xs) out o
 unfolding announce-data rec-in node-in
 announced w r xs out o p d t v y e h k =
-    tell-by _ (λ ds. choose-no _ _ _ (sym e ∙ h) ∙ ap (λ (x : Data). emit (record { kind = 11; message = 0; flags = 0; peer = p; second = 0; ttl = 0; number = 0; nodes = node 0 x ∷ [] }) (run (work-of w xs) ds out)) (sym (present-data d y))) (k .any xs (v .packed))
+    tell-by _ (λ ds. choose-no _ _ _ (sym e ∙ h) ∙ ap (λ (x : Data). emit (record { kind = 11; message = 0; flags = 0; peer = p; second = 0; ttl = 0; number = 0; nodes = node 0 x ∷ [] }) (run (work-of w xs) ds out)) (sym (present-data d y))) (told-at xs (v .packed) _ k)
 
 module _ (w : Held) (out : List ℕ) (p : ℕ) (d : PeerData) where
   some-info : (r : Held) (o : List ℕ) → d .present ≡ true → Tells (insert-data p (bytes-of (data-in d))) w r out o → Tells (insert-peer-info p (data-in d)) w r out o
@@ -117,7 +118,7 @@ some-choice k n h = omega (arith, eqb-false n 0 (not-true (eqb n 0) (and-right (
 pub entry-free : (w a : Work) (xs : List ℕ) (p : ℕ) (t : Bool) → PackedState xs → t ≡ data-fits p (unpack xs) → ChangesAny (require 8 t) w a → a .code ≡ 0
     → (has p (data-map-at 80 (peer-data-part xs)) || ltb (length (data-map-at 80 (peer-data-part xs))) 80) ≡ true
 unfolding unpack station-of data-fits
-entry-free w a xs p t v e k z = sym e ∙ require-said (work-of w xs) (work-of a xs) 8 t (omega arith) (k .any xs v) z .1
+entry-free w a xs p t v e k z = sym e ∙ require-said (work-of w xs) (work-of a xs) 8 t (omega arith) (required-at xs v _ _ k) z .1
 
 -- an entry that the peer has, or a free one
 pub fits-known : (xs : List ℕ) (p : ℕ) (t : Bool) → PackedState xs → t ≡ has p (data-map-at 80 (peer-data-part xs)) → (t || ltb (getD xs 550 0) 80) ≡ data-fits p (unpack xs)
@@ -222,7 +223,7 @@ module _ (w : Work) (xs ds out : List ℕ) (v : Fine (work-of w xs) ds out) wher
   pub made : (a b c r : Work) (ys zs o : List ℕ) (i p : ℕ) → (leb (passive-view-capacity xs) (getD xs 63 0) && not (eqb (getD xs 63 0) 0)) ≡ true → i ≡ pick (getD xs 63 0) (drop (w .drawn) ds) → p ≡ getD (unpack xs .passive) i 0
       → TellsAny (emit (notice 12 p)) c r out o → Changes (forget-peer p) (work-of b ys) (work-of c zs) → Changes (on (shift-passive i)) (work-of a xs) (work-of b ys) → DrawsAny (draw-one-of (getD xs 63 0)) w a ds
       → Adds (record { work = r; evicted = Peer p }) zs ds o (make-room (run (work-of w xs) ds out)) (evicted (run (work-of w xs) ds out))
-  unfolding named-in run one-of to-draw
+  unfolding named-in run-of one-of to-draw
   made a b c r ys zs o i p h u l k₄ k₃ k₂ k₁ =
       let g = run (work-of w xs) ds out in
       let q = passive-count xs (v .ready .packed) in
@@ -231,12 +232,12 @@ module _ (w : Work) (xs ds out : List ℕ) (v : Fine (work-of w xs) ds out) wher
       let d : DrawsAny (draw-one-of (length (g .station .passive))) w a ds = subst (λ (m : ℕ). DrawsAny (draw-one-of m) w a ds) q k₁ in
       let k : Changes (evict-at i) (work-of a xs) (work-of c zs) = evicts (work-of a xs) (work-of b ys) (work-of c zs) i p l k₃ k₂ in
       record {
-        does = by _ (room-evicts g i p t j l) (then-tell (k₄ .any zs (k .packed)) (then k (then-draw (d .any xs (v .ready .packed)) (still v))));
+        does = by _ (room-evicts g i p t j l) (then-tell (told-at zs (k .packed) _ k₄) (then k (then-draw (one-of-at xs (v .ready .packed) _ d) (still v))));
         named = one-evicted g i p t j l;
       }
 
   pub not-made : (leb (passive-view-capacity xs) (getD xs 63 0) && not (eqb (getD xs 63 0) 0)) ≡ false → Adds (record { work = w; evicted = Nobody }) xs ds out (make-room (run (work-of w xs) ds out)) (evicted (run (work-of w xs) ds out))
-  unfolding named-in run
+  unfolding named-in run-of
   not-made h =
       let t : must-evict (run (work-of w xs) ds out .station) ≡ false = sym (must-known xs (v .ready .packed)) ∙ h in
       record { does = by _ (room-stays (run (work-of w xs) ds out) t) (still v); named = none-evicted (run (work-of w xs) ds out) t }
@@ -296,7 +297,7 @@ after-info w a xs ys ds out o v k = then-tell k (still v) .fine
 
 module _ (w : Work) (m : Added) (xs ys ds out o : List ℕ) (x : Option ℕ) (v : Fine (work-of w xs) ds out) (k : Adds m ys ds o (make-room (run (work-of w xs) ds out)) x) (z : m .work .code ≡ 0) where
   room-made : FreePassive (m .work .code) (unpack ys)
-  unfolding run unpack station-of settings-at
+  unfolding run-of unpack station-of settings-at
   room-made =
       subst (λ (g : Run). FreePassive (g .code) (g .station)) (sym (k .does .same))
       (made-free (run (work-of w xs) ds out) (passive-fits xs (v .ready .packed)) (ranges (settings-at xs) (of-settings xs (v .ready .packed)) .passive .least))
@@ -317,13 +318,13 @@ module _ (w a : Work) (xs ys ds out o : List ℕ) (p : ℕ) (d : Data) (t : Bool
   added m zs o₂ k₂ = record { does = seq (enter-passive p) (k₂ .does) (then-tell k₁ (still v)); named = k₂ .named ∙ ap (evicted-for p) (k₁ .same ds) }
 
   pub not-entered : t ≡ false → Adds (record { work = a; evicted = Nobody }) ys ds o (add-passive p d (run (work-of w xs) ds out)) (evicted-by p d (run (work-of w xs) ds out))
-  unfolding enter-passive evicted-for named-in run
+  unfolding enter-passive evicted-for named-in run-of
   not-entered h =
       added _ ys o (record { does = left _ _ (sym e ∙ h) (still (after-info w a xs ys ds out o v k₁)); named = sym (choose-no _ _ _ (sym e ∙ h)) })
 
   module _ (m : Added) (zs o₂ : List ℕ) (h : t ≡ true) (k₂ : Adds m zs ds o₂ (make-room (run (work-of a ys) ds o)) (evicted (run (work-of a ys) ds o))) where
     pub entered : (us : List ℕ) → Changes (on (push-passive p)) (work-of (m .work) zs) (work-of (m .work) us) → Adds m us ds o₂ (add-passive p d (run (work-of w xs) ds out)) (evicted-by p d (run (work-of w xs) ds out))
-    unfolding enter-passive evicted-for run
+    unfolding enter-passive evicted-for run-of
     entered us k₃ = added m us o₂ (record { does = taken _ _ (sym e ∙ h) (then k₃ (k₂ .does)); named = k₂ .named ∙ sym (choose-yes _ _ _ (sym e ∙ h)) })
 
     pub refused : (m .work .code ≡ 0 → ⊥) → Adds m zs ds o₂ (add-passive p d (run (work-of w xs) ds out)) (evicted-by p d (run (work-of w xs) ds out))

@@ -4,8 +4,8 @@ use Prim.Native.Nat.{ℕ}
 use mathlib.Core.Path.{_≡_}
 use mathlib.Core.List.{List}
 use mathlib.Core.Option.{Option, none, some}
-use Rattle.protocol.specs.Run.{Run}
-use Rattle.state.specs.Work.{work-of, Does}
+use Rattle.spec_hyparview.specs.Run.{Run}
+use Rattle.hyparview_state.specs.Work.{work-of, Does}
 use Rattle.step_peers.specs.declared.Evicted.{Evicted}
 use Rattle.step_peers.specs.declared.Evicted.the-variants.{Nobody, Peer}
 use Rattle.step_peers.specs.declared.Added.{Added}

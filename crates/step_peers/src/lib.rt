@@ -1,23 +1,23 @@
 // What the station holds of other peers: their data, and the passive view (the definition's `Peers`, and `forget-declined` of its `Handle`).
-use peer::PeerData;
-use peer::PeerId;
-use peer::PeerInfo;
+use base_peer::PeerData;
+use base_peer::PeerId;
+use base_peer::PeerInfo;
+use hyparview_state::Layout;
 use record::Kind;
 use record::Refusal;
-use state::Layout;
-use state::Work;
-use writer::Fields;
+use record_writer::Fields;
+use work::Work;
 ghost use mathlib.Core.Path.{_≡_};
 ghost use lib.ListN.{length};
-ghost use Rattle.protocol.specs.Run.{on};
-ghost use Rattle.peer.specs.Held.{data-in, ValidData};
-ghost use Rattle.protocol.specs.Peers.{is-newcomer, is-marked};
-ghost use Rattle.protocol.specs.Peers.{insert-peer-info, forget-peer, evicted, make-room, add-passive, evicted-by, drop-passive};
-ghost use Rattle.protocol.specs.Peers.{drop-data, drop-mark, remove-passive};
-ghost use Rattle.protocol.specs.Handle.{forget-declined};
-ghost use Rattle.state.specs.Layout.{words};
-ghost use Rattle.state.specs.Unpack.{unpack, PackedState};
-ghost use Rattle.state.specs.Work.{work-of, Changes, Room, Tells, Fine, run};
+ghost use Rattle.spec_hyparview.specs.Run.{on};
+ghost use Rattle.base_peer.specs.Held.{data-in, ValidData};
+ghost use Rattle.spec_hyparview.specs.Peers.{is-newcomer, is-marked};
+ghost use Rattle.spec_hyparview.specs.Peers.{insert-peer-info, forget-peer, evicted, make-room, add-passive, evicted-by, drop-passive};
+ghost use Rattle.spec_hyparview.specs.Peers.{drop-data, drop-mark, remove-passive};
+ghost use Rattle.spec_hyparview.specs.Handle.{forget-declined};
+ghost use Rattle.hyparview_state.specs.Layout.{words};
+ghost use Rattle.hyparview_state.specs.Unpack.{unpack, PackedState};
+ghost use Rattle.hyparview_state.specs.Work.{work-of, Changes, Room, Tells, Fine, run};
 ghost use Rattle.step_peers.specs.Answer.{Adds};
 
 // Who left the passive view before another entered it, if anyone (document 02, S-2).
@@ -38,7 +38,8 @@ pub fn is_newcomer(st: &[u64], p: PeerId) -> bool
     requires { ⌜ PackedState (now st) ⌝ }
     ensures { λ r. ⌜ r ≡ is-newcomer p (unpack (now (st .entry))) ⌝ }
 {
-    !((p == st[Layout::ME]) | (state::in_active(st, p) | state::in_passive(st, p)))
+    !((p == st[Layout::ME])
+        | (hyparview_state::in_active(st, p) | hyparview_state::in_passive(st, p)))
 }
 
 pub fn is_marked(st: &[u64], p: PeerId) -> bool
@@ -46,7 +47,7 @@ pub fn is_marked(st: &[u64], p: PeerId) -> bool
     requires { ⌜ PackedState (now st) ⌝ }
     ensures { λ r. ⌜ r ≡ is-marked p (unpack (now (st .entry))) ⌝ }
 {
-    util::contains(&st[Layout::MARKS..Layout::MARKS_END], Layout::ALL, p)
+    base_util::contains(&st[Layout::MARKS..Layout::MARKS_END], Layout::ALL, p)
 }
 
 pub fn remove_passive(w: Work, st: &mut [u64], p: PeerId) -> Work
@@ -57,7 +58,7 @@ pub fn remove_passive(w: Work, st: &mut [u64], p: PeerId) -> Work
     if w.code != 0 {
         return w;
     }
-    util::remove(
+    base_util::remove(
         &mut st[Layout::PASSIVE..Layout::PASSIVE_END],
         Layout::ALL,
         p,
@@ -73,7 +74,7 @@ pub fn drop_data(w: Work, st: &mut [u64], p: PeerId) -> Work
     if w.code != 0 {
         return w;
     }
-    columns::remove_data(&mut st[Layout::HELD..Layout::HELD_END], Layout::DATA_CAP, p);
+    base_columns::remove_data(&mut st[Layout::HELD..Layout::HELD_END], Layout::DATA_CAP, p);
     w
 }
 
@@ -85,7 +86,7 @@ pub fn drop_mark(w: Work, st: &mut [u64], p: PeerId) -> Work
     if w.code != 0 {
         return w;
     }
-    util::without(&mut st[Layout::MARKS..Layout::MARKS_END], Layout::ALL, p);
+    base_util::without(&mut st[Layout::MARKS..Layout::MARKS_END], Layout::ALL, p);
     w
 }
 
@@ -95,7 +96,7 @@ pub fn forget_peer(w: Work, st: &mut [u64], p: PeerId) -> Work
     requires { ⌜ PackedState (now st) ⌝ }
     ensures { λ r. ⌜ Changes (forget-peer p) (work-of w (now (st .entry))) (work-of r (now (st .exit))) ⌝ }
 {
-    if state::in_active(st, p) | state::in_passive(st, p) {
+    if hyparview_state::in_active(st, p) | hyparview_state::in_passive(st, p) {
         return w;
     }
     let a = drop_data(w, st, p);
@@ -121,7 +122,7 @@ pub fn insert_peer_info(w: Work, st: &mut [u64], out: &mut [u8], p: PeerId, d: P
     // Absent data, the station's own, and data that is held already, are not stored.
     if !d.present
         | ((p == st[Layout::ME])
-            | columns::holds_data(&st[Layout::HELD..Layout::HELD_END], Layout::DATA_CAP, p, d))
+            | base_columns::holds_data(&st[Layout::HELD..Layout::HELD_END], Layout::DATA_CAP, p, d))
     {
         return w;
     }
@@ -138,15 +139,15 @@ pub fn insert_peer_info(w: Work, st: &mut [u64], out: &mut [u8], p: PeerId, d: P
             number: 0,
         };
         let n = PeerInfo { id: 0, data: d };
-        a = state::emit_one(w, out, f, n);
+        a = work::emit_one(w, out, f, n);
     }
     // Code 8 where an 81st entry would be needed.
-    let fits = columns::contains_data(&st[Layout::HELD..Layout::HELD_END], Layout::DATA_CAP, p)
+    let fits = base_columns::contains_data(&st[Layout::HELD..Layout::HELD_END], Layout::DATA_CAP, p)
         | (st[Layout::HELD_COUNT] < Layout::DATA_CAP as u64);
-    let b = state::require(a, Refusal::DATA, fits);
+    let b = work::require(a, Refusal::DATA, fits);
     if b.code == 0 {
         let m = &mut st[Layout::HELD..Layout::HELD_END];
-        columns::insert_data(m, Layout::DATA_CAP, p, d);
+        base_columns::insert_data(m, Layout::DATA_CAP, p, d);
     }
     b
 }
@@ -159,13 +160,13 @@ fn make_room(w: Work, st: &mut [u64], draws: &[u32], out: &mut [u8]) -> Added
 {
     let n = st[Layout::PASSIVE_COUNT];
     if (st[Layout::PASSIVE_VIEW_CAPACITY] <= n) & (n != 0) {
-        let t = state::choose(w, draws, n as usize);
+        let t = work::choose(w, draws, n as usize);
         let i = t.index;
-        let p = util::get_index(&st[Layout::PASSIVE..Layout::PASSIVE_END], Layout::ALL, i);
+        let p = base_util::get_index(&st[Layout::PASSIVE..Layout::PASSIVE_END], Layout::ALL, i);
         let a = t.work;
         if a.code == 0 {
             let v = &mut st[Layout::PASSIVE..Layout::PASSIVE_END];
-            util::shift_remove_index(v, Layout::ALL, i);
+            base_util::shift_remove_index(v, Layout::ALL, i);
         }
         let b = forget_peer(a, st, p);
         // Document 02, S-2: the record of p, which the passive view evicted.
@@ -179,7 +180,7 @@ fn make_room(w: Work, st: &mut [u64], draws: &[u32], out: &mut [u8]) -> Added
             number: 0,
         };
         return Added {
-            work: state::emit_bare(b, out, f),
+            work: work::emit_bare(b, out, f),
             evicted: Evicted::Peer(p),
         };
     }
@@ -209,7 +210,7 @@ pub fn add_passive(
         if t.work.code != 0 {
             return t;
         }
-        util::push(
+        base_util::push(
             &mut st[Layout::PASSIVE..Layout::PASSIVE_END],
             Layout::ALL,
             p,
@@ -231,7 +232,7 @@ pub fn forget_declined(w: Work, st: &mut [u64]) -> Work
     if w.code != 0 {
         return w;
     }
-    if columns::data_known(
+    if base_columns::data_known(
         &st[Layout::HELD..Layout::HELD_END],
         Layout::DATA_CAP,
         &st[Layout::ACTIVE..Layout::ACTIVE_END],
@@ -240,18 +241,18 @@ pub fn forget_declined(w: Work, st: &mut [u64]) -> Work
     ) {
         return w;
     }
-    let mut v = [0u64; columns::KNOWN + 1];
-    columns::data_peers(
+    let mut v = [0u64; base_columns::KNOWN + 1];
+    base_columns::data_peers(
         &st[Layout::ACTIVE..Layout::ACTIVE_END],
         &st[Layout::PASSIVE..Layout::PASSIVE_END],
         &st[Layout::ASKED..Layout::ASKED_END],
         &mut v,
     );
-    columns::retain_data(
+    base_columns::retain_data(
         &mut st[Layout::HELD..Layout::HELD_END],
         Layout::DATA_CAP,
         &v,
-        columns::KNOWN,
+        base_columns::KNOWN,
     );
     w
 }

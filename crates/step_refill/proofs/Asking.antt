@@ -8,27 +8,27 @@ use native.Mathlib.Omega.{arith}
 use lib.ListN.{length, take, drop, getD, set}
 use lib.Dec.{leb, eqb}
 use borrow.Rule.Slice.PartMut.{putMid}
-use Rattle.lists.specs.Array.{pad}
-use Rattle.lists.specs.Lists.{choose, null, without-all}
-use Rattle.lists.specs.Maps.{keys}
-use Rattle.lists.proofs.Choice.{choose-yes, choose-no, clash}
-use Rattle.lists.proofs.Skips.{without-none, without-append}
-use Rattle.util.specs.Chances.{pick}
-use Rattle.util.specs.Section.{part, items-at, ValidSet, HoldsSet}
-use Rattle.util.proofs.Sets.{set-as, set-then, set-stored}
-use Rattle.columns.specs.Columns.{numbers-at}
-use Rattle.protocol.specs.Station.{Station, Refill, is-alone, asked-outside}
-use Rattle.protocol.specs.Run.{Run, on, to-draw, one-of, draw-one-of, picked}
-use Rattle.protocol.specs.Sending.{send-neighbor}
-use Rattle.protocol.specs.Refill.{use-request, end-recovery, limit-short, skipped, candidates, ask-picked, ask-one, refill-limited, needs-none, refill-active-from-passive, begin-refill, start-refill}
-use Rattle.state.specs.declared.Work.{Work}
-use Rattle.state.specs.Layout.{active-view-capacity, refill-kind, refill-requests, active-part, requests-part}
-use Rattle.state.specs.Unpack.{unpack, station-of, settings-at, PackedState}
-use Rattle.state.specs.Work.{Held, work-of, run, Changes, DrawsAny, Tells, Fine, Does}
-use Rattle.state.proofs.Access.{of-active, count-active}
-use Rattle.state.proofs.Limits.{says-spent}
-use Rattle.state.proofs.Bridge.{by, still, then, then-tell, seq, taken, left, holds-at}
-use Rattle.state.proofs.Any.{then-draw-any}
+use Rattle.base_lists.specs.Array.{pad}
+use Rattle.base_lists.specs.Lists.{choose, null, without-all}
+use Rattle.base_lists.specs.Maps.{keys}
+use Rattle.base_lists.proofs.Choice.{choose-yes, choose-no, clash}
+use Rattle.base_lists.proofs.Skips.{without-none, without-append}
+use Rattle.base_util.specs.Chances.{pick}
+use Rattle.base_util.specs.Section.{part, items-at, ValidSet, HoldsSet}
+use Rattle.base_util.proofs.Sets.{set-as, set-then, set-stored}
+use Rattle.base_columns.specs.Columns.{numbers-at}
+use Rattle.spec_hyparview.specs.Station.{Station, Refill, is-alone, asked-outside}
+use Rattle.spec_hyparview.specs.Run.{Run, on, to-draw, one-of, draw-one-of, picked}
+use Rattle.spec_hyparview.specs.Sending.{send-neighbor}
+use Rattle.spec_hyparview.specs.Refill.{use-request, end-recovery, limit-short, skipped, candidates, ask-picked, ask-one, refill-limited, needs-none, refill-active-from-passive, begin-refill, start-refill}
+use Rattle.work.specs.declared.Work.{Work}
+use Rattle.hyparview_state.specs.Layout.{active-view-capacity, refill-kind, refill-requests, active-part, requests-part}
+use Rattle.hyparview_state.specs.Unpack.{unpack, station-of, settings-at, PackedState}
+use Rattle.hyparview_state.specs.Work.{Held, work-of, run, run-of, Changes, DrawsAny, Tells, Fine, Does}
+use Rattle.hyparview_state.proofs.Access.{of-active, count-active}
+use Rattle.hyparview_state.proofs.Limits.{says-spent}
+use Rattle.hyparview_state.proofs.Bridge.{by, still, then, then-tell, seq, taken, left, holds-at}
+use Rattle.hyparview_state.proofs.Any.{then-one-of}
 
 -- ---- working sets
 
@@ -102,15 +102,15 @@ some-there from n t q e h = omega (arith, some-item (items-at 32 from) (sym e �
 pub one-picked : (w a b r : Work) (xs ys zs ds out o from : List ℕ) (n i p : ℕ) (high : Bool) → Fine (work-of w xs) ds out → high ≡ is-alone (unpack xs) → n ≡ length (items-at 32 from) → i ≡ pick n (drop (w .drawn) ds)
     → p ≡ getD (items-at 32 from) i 0 → Changes (on use-request) (work-of b ys) (work-of r zs) → Tells (send-neighbor p high) (work-of a xs) (work-of b ys) out o → DrawsAny (draw-one-of n) w a ds
     → Does (work-of r zs) ds o (ask-picked (items-at 32 from) (run (work-of w xs) ds out))
-unfolding ask-picked picked one-of to-draw run
+unfolding ask-picked picked one-of to-draw run-of
 one-picked w a b r xs ys zs ds out o from n i p high v q c u e k₃ k₂ k₁ =
     let at = e ∙ ap (λ (k : ℕ). getD (items-at 32 from) k 0) (u ∙ ap (λ (k : ℕ). pick k (drop (w .drawn) ds)) c) in
     by _ (λ j. on use-request (send-neighbor (sym at j) (sym q j) (draw-one-of (sym c j) (run (work-of w xs) ds out))))
-    (then k₃ (then-tell k₂ (then-draw-any k₁ (still v))))
+    (then k₃ (then-tell k₂ (then-one-of _ k₁ (still v))))
 
 module _ (skip from : List ℕ) (w : Work) (xs ds out : List ℕ) (t : Bool) (c : HoldsSet 32 from (candidates skip (unpack xs))) (e : t ≡ null (items-at 32 from)) where
   limited-done : (r : Held) (o : List ℕ) → Does r ds o (ask-one (items-at 32 from) (run (work-of w xs) ds out)) → Does r ds o (refill-limited skip (run (work-of w xs) ds out))
-  unfolding refill-limited run
+  unfolding refill-limited run-of
   limited-done r o d = by (refill-limited skip (run (work-of w xs) ds out)) (ap (λ (l : List ℕ). ask-one l (run (work-of w xs) ds out)) (sym (c .items))) d
 
   pub none-left : (r : Work) (ys : List ℕ) → Fine (work-of w xs) ds out → t ≡ true → Changes (on end-recovery) (work-of w xs) (work-of r ys) → Does (work-of r ys) ds out (refill-limited skip (run (work-of w xs) ds out))

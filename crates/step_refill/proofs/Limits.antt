@@ -8,23 +8,23 @@ use native.Mathlib.Omega.{arith}
 use lib.Dec.{eqb}
 use lib.ListN.{getD, set}
 use borrow.Author.Tests.{eqb-true, eqb-false, not-true, not-false}
-use Rattle.lists.specs.Lists.{choose, null}
-use Rattle.lists.proofs.Choice.{split, choose-yes, choose-no, and-left, and-right, and-false}
-use Rattle.util.specs.Section.{HoldsSet}
-use Rattle.util.proofs.Sets.{empty-is-null}
-use Rattle.protocol.specs.Station.{Station, Refill, automatic, recovery, is-short, is-recovery, asked-outside, recovery-is-over}
-use Rattle.protocol.specs.Setters.{set-refill}
-use Rattle.protocol.specs.Run.{Run, guard, on, with-station}
-use Rattle.protocol.specs.Refill.{few-requests, unless-recovery, one-less, use-request, end-recovery, needs-limit, limit-short, begin-refill}
-use Rattle.state.specs.declared.RefillLimit.{RefillLimit}
-use Rattle.state.specs.declared.RefillLimit.the-variants.{Requests}
-use Rattle.state.specs.declared.Work.{Work}
-use Rattle.state.specs.Layout.{refill-kind, refill-requests}
-use Rattle.state.specs.Unpack.{unpack, refill-in, PackedState, Becomes}
-use Rattle.state.specs.Work.{Held, work-of, run, Changes}
-use Rattle.state.proofs.Bridge.{guard-shut, guard-open, unchanged, on-passed, on-done}
-use Rattle.state.proofs.Counts.{alone}
-use Rattle.state.proofs.Limits.{says-automatic, says-recovery, lifted, kept-requests, one-used, none-used, recovery-kept}
+use Rattle.base_lists.specs.Lists.{choose, null}
+use Rattle.base_lists.proofs.Choice.{split, choose-yes, choose-no, and-left, and-right, and-false}
+use Rattle.base_util.specs.Section.{HoldsSet}
+use Rattle.base_util.proofs.Sets.{empty-is-null}
+use Rattle.spec_hyparview.specs.Station.{Station, Refill, automatic, recovery, is-short, is-recovery, asked-outside, recovery-is-over}
+use Rattle.spec_hyparview.specs.Setters.{set-refill}
+use Rattle.spec_hyparview.specs.Run.{Run, guard, on, with-station}
+use Rattle.spec_hyparview.specs.Refill.{few-requests, unless-recovery, one-less, use-request, end-recovery, needs-limit, limit-short, begin-refill}
+use Rattle.hyparview_state.specs.declared.RefillLimit.{RefillLimit}
+use Rattle.hyparview_state.specs.declared.RefillLimit.the-variants.{Requests}
+use Rattle.work.specs.declared.Work.{Work}
+use Rattle.hyparview_state.specs.Layout.{refill-kind, refill-requests}
+use Rattle.hyparview_state.specs.Unpack.{unpack, refill-in, PackedState, Becomes}
+use Rattle.hyparview_state.specs.Work.{Held, work-of, run, run-of, Changes}
+use Rattle.hyparview_state.proofs.Bridge.{guard-shut, guard-open, unchanged, on-passed, on-done}
+use Rattle.hyparview_state.proofs.Counts.{alone}
+use Rattle.hyparview_state.proofs.Limits.{says-automatic, says-recovery, lifted, kept-requests, one-used, none-used, recovery-kept}
 
 -- a change that leaves it as it is
 on-still : (f : Station → Station) (g : Run) → f (g .station) ≡ g .station → on f g ≡ g
@@ -35,7 +35,7 @@ on-still f g e =
 
 -- what sets the limit anew, where the limit stays as it is
 kept : (f : Station → Station) (limit : Station → Refill) → ((s : Station) → f s ≡ set-refill (limit s) s) → (w : Held) → PackedState (w .state) → limit (unpack (w .state)) ≡ unpack (w .state) .refill → Changes (on f) w w
-unfolding run
+unfolding run-of
 kept f limit d w v e =
     unchanged (on f) v
     (λ ds out. on-still f (run w ds out) (d (unpack (w .state)) ∙ ap (λ (x : Refill). set-refill x (unpack (w .state))) e))

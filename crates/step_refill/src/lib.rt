@@ -1,19 +1,19 @@
 // How the active view is refilled from the passive view (the definition's `Refill`).
-use peer::PeerId;
-use state::Layout;
-use state::RefillLimit;
-use state::Work;
-use timing::Timing;
+use base_peer::PeerId;
+use base_timing::Timing;
+use hyparview_state::Layout;
+use hyparview_state::RefillLimit;
+use work::Work;
 ghost use mathlib.Core.Path.{_≡_};
 ghost use lib.ListN.{length};
-ghost use Rattle.util.specs.Section.{HoldsSet};
-ghost use Rattle.protocol.specs.Station.{asked-outside};
-ghost use Rattle.protocol.specs.Run.{on};
-ghost use Rattle.protocol.specs.Refill.{end-recovery, candidates, refill-limited, refill-active-from-passive, start-refill};
-ghost use Rattle.protocol.specs.Active.{clear-refused};
-ghost use Rattle.state.specs.Layout.{words, all-places, set-words};
-ghost use Rattle.state.specs.Unpack.{unpack, refill-in, PackedState};
-ghost use Rattle.state.specs.Work.{work-of, run, Changes, Fine, Does};
+ghost use Rattle.base_util.specs.Section.{HoldsSet};
+ghost use Rattle.spec_hyparview.specs.Station.{asked-outside};
+ghost use Rattle.spec_hyparview.specs.Run.{on};
+ghost use Rattle.spec_hyparview.specs.Refill.{end-recovery, candidates, refill-limited, refill-active-from-passive, start-refill};
+ghost use Rattle.spec_hyparview.specs.Active.{clear-refused};
+ghost use Rattle.hyparview_state.specs.Layout.{words, all-places, set-words};
+ghost use Rattle.hyparview_state.specs.Unpack.{unpack, refill-in, PackedState};
+ghost use Rattle.hyparview_state.specs.Work.{work-of, run, Changes, Fine, Does};
 
 // The peers asked that are not neighbors, as a working set.
 fn asked_outside(st: &[u64], t: &mut [u64])
@@ -22,8 +22,8 @@ fn asked_outside(st: &[u64], t: &mut [u64])
     requires { ⌜ length (now t) ≡ set-words ⌝ }
     ensures { λ _. ⌜ HoldsSet all-places (now (t .exit)) (asked-outside (unpack (now (st .entry)))) ⌝ }
 {
-    columns::keys_into(&st[Layout::ASKED..Layout::ASKED_END], Layout::ALL, t);
-    util::without_all(
+    base_columns::keys_into(&st[Layout::ASKED..Layout::ASKED_END], Layout::ALL, t);
+    base_util::without_all(
         t,
         Layout::ALL,
         &st[Layout::ACTIVE..Layout::ACTIVE_END],
@@ -55,23 +55,23 @@ fn candidates(st: &[u64], skip: &[PeerId], t: &mut [u64])
     ensures { λ _. ⌜ HoldsSet all-places (now (t .exit)) (candidates (now (skip .entry)) (unpack (now (st .entry)))) ⌝ }
 {
     // Not those in `skip`.
-    util::copy_into(&st[Layout::PASSIVE..Layout::PASSIVE_END], Layout::ALL, t);
+    base_util::copy_into(&st[Layout::PASSIVE..Layout::PASSIVE_END], Layout::ALL, t);
     let n = t[Layout::ALL] as usize;
-    let m = util::without_all_in(&mut t[..Layout::ALL], n, skip);
+    let m = base_util::without_all_in(&mut t[..Layout::ALL], n, skip);
     t[Layout::ALL] = m as u64;
     // Nor those that a request is open to.
     let mut asked = [0u64; Layout::SET];
-    columns::keys_into(
+    base_columns::keys_into(
         &st[Layout::ASKED..Layout::ASKED_END],
         Layout::ALL,
         &mut asked,
     );
-    util::without_all(t, Layout::ALL, &asked, Layout::ALL);
+    base_util::without_all(t, Layout::ALL, &asked, Layout::ALL);
     // Those that refused are asked again where there is no neighbor.
     if st[Layout::ACTIVE_COUNT] == 0 {
         return;
     }
-    util::without_all(
+    base_util::without_all(
         t,
         Layout::ALL,
         &st[Layout::REFUSED..Layout::REFUSED_END],
@@ -92,7 +92,7 @@ fn refill_limited(w: Work, st: &mut [u64], draws: &[u32], out: &mut [u8], skip: 
         return end_recovery(w, st);
     }
     let high = st[Layout::ACTIVE_COUNT] == 0;
-    let t = state::choose(w, draws, n);
+    let t = work::choose(w, draws, n);
     let i = t.index;
     let p = from[i];
     let a = step_sending::send_neighbor(t.work, st, out, p, high);
@@ -128,7 +128,7 @@ pub fn refill_active_from_passive(
     // A refill for which no limit is set gets one at a short station with neighbors.
     if (w.code == 0)
         & ((st[Layout::REFILL_KIND] == RefillLimit::AUTOMATIC)
-            & ((st[Layout::ACTIVE_COUNT] != 0) & state::is_short(st)))
+            & ((st[Layout::ACTIVE_COUNT] != 0) & hyparview_state::is_short(st)))
     {
         st[Layout::REFILL_KIND] = RefillLimit::REQUESTS_LEFT;
         st[Layout::REFILL_REQUESTS] = Timing::MAX_REQUESTS_PER_REFILL as u64;
@@ -150,7 +150,7 @@ pub fn start_refill(
     ensures { λ r. ⌜ Does (work-of r (now (st .exit))) (now (draws .entry)) (now (out .exit)) (start-refill (refill-in limit) (now (skip .entry)) (run (work-of w (now (st .entry))) (now (draws .entry)) (now (out .entry)))) ⌝ }
 {
     if (w.code == 0) & (st[Layout::REFILL_KIND] != RefillLimit::RECOVERY) {
-        state::keep_limit(st, limit);
+        hyparview_state::keep_limit(st, limit);
     }
     refill_active_from_passive(w, st, draws, out, skip)
 }
@@ -164,6 +164,6 @@ pub fn clear_refused(w: Work, st: &mut [u64]) -> Work
     if w.code != 0 {
         return w;
     }
-    util::clear(&mut st[Layout::REFUSED..Layout::REFUSED_END], Layout::ALL);
+    base_util::clear(&mut st[Layout::REFUSED..Layout::REFUSED_END], Layout::ALL);
     w
 }

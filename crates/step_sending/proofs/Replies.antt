@@ -7,14 +7,14 @@ use lib.ListN.{length, take}
 use native.Mathlib.Omega.{arith}
 use lib.Dec.{ltb}
 use borrow.Author.Tests.{lt-ltb, le-ltb}
-use Rattle.util.specs.Section.{items-at, ValidSet, HoldsSet}
-use Rattle.protocol.specs.Run.{shuffled, to-draw, draw-shuffle}
-use Rattle.protocol.specs.Sending.{send-nodes, fill-active, send-filled, reply-with, send-shuffle-reply}
-use Rattle.state.specs.declared.Work.{Work}
-use Rattle.state.specs.Unpack.{unpack}
-use Rattle.state.specs.Work.{work-of, run, DrawsAny, Room, Tells, Fine, Does}
-use Rattle.state.proofs.Bridge.{by, still, then-tell, seq, taken, left}
-use Rattle.state.proofs.Any.{then-draw-any}
+use Rattle.base_util.specs.Section.{items-at, ValidSet, HoldsSet}
+use Rattle.spec_hyparview.specs.Run.{shuffled, to-draw, draw-shuffle}
+use Rattle.spec_hyparview.specs.Sending.{send-nodes, fill-active, send-filled, reply-with, send-shuffle-reply}
+use Rattle.work.specs.declared.Work.{Work}
+use Rattle.hyparview_state.specs.Unpack.{unpack}
+use Rattle.hyparview_state.specs.Work.{work-of, run, run-of, DrawsAny, Room, Tells, Fine, Does}
+use Rattle.hyparview_state.proofs.Bridge.{by, still, then-tell, seq, taken, left}
+use Rattle.hyparview_state.proofs.Any.{then-shuffle}
 use Rattle.step_sending.proofs.Sets.{shuffled-by, shuffle-of, filled-up}
 use Rattle.step_sending.proofs.Told.{fine-drawn, room-drawn}
 
@@ -23,21 +23,21 @@ module _ (to len : ℕ) (w a r : Work) (xs ds out o : List ℕ) (v : Fine (work-
       → HoldsSet 32 all (ps ++ take (len - length ps) (shuffled-by w ds (unpack xs .active)))
       → Tells (send-nodes to (items-at 32 all)) (work-of a xs) (work-of r xs) out o
       → Does (work-of r xs) ds o (send-filled to len ps (run (work-of w xs) ds out))
-  unfolding send-filled fill-active shuffled to-draw run
+  unfolding send-filled fill-active shuffled to-draw run-of
   filled-done ps all k h t =
       by _ (ap (λ (l : List ℕ). send-nodes to l (draw-shuffle (unpack xs .active) (run (work-of w xs) ds out))) (sym (h .items)))
-      (then-tell t (then-draw-any k (still v)))
+      (then-tell t (then-shuffle _ k (still v)))
 
   reply-done : (v₁ v₂ : List ℕ) → HoldsSet 32 v₁ (unpack xs .passive) → DrawsAny (draw-shuffle (items-at 32 v₁)) w a ds
       → HoldsSet 32 v₂ (take len (shuffled-by w ds (items-at 32 v₁)))
       → Does (work-of r xs) ds o (reply-with to len (items-at 32 v₂) (run (work-of a xs) ds out))
       → Does (work-of r xs) ds o (send-shuffle-reply to len (run (work-of w xs) ds out))
-  unfolding send-shuffle-reply shuffled to-draw run
+  unfolding send-shuffle-reply shuffled to-draw run-of
   reply-done v₁ v₂ q k h d =
       let k₁ = shuffle-of w a ds v₁ (unpack xs .passive) k q in
       by _
       (ap (λ (l : List ℕ). reply-with to len l (draw-shuffle (unpack xs .passive) (run (work-of w xs) ds out))) (sym (h .items ∙ ap (λ (l : List ℕ). take len (shuffled-by w ds l)) (q .items))))
-      (seq (reply-with to len (items-at 32 v₂)) d (then-draw-any k₁ (still v)))
+      (seq (reply-with to len (items-at 32 v₂)) d (then-shuffle _ k₁ (still v)))
 
 module _ (to len n : ℕ) (ps : List ℕ) (w r : Work) (xs ds out o : List ℕ) (e : n ≡ length ps) where
   reply-short : n < len → Does (work-of r xs) ds o (send-filled to len ps (run (work-of w xs) ds out)) → Does (work-of r xs) ds o (reply-with to len ps (run (work-of w xs) ds out))

@@ -5,12 +5,12 @@ use mathlib.Core.Path.{_≡_, sym, ap, _∙_, subst}
 use mathlib.Core.List.{List, [], _∷_, _++_}
 use native.Mathlib.Omega.{arith}
 use lib.ListN.{length, take, drop}
-use Rattle.util.specs.Chances.{shuffle}
-use Rattle.util.specs.Section.{items-at, ValidSet, HoldsSet}
-use Rattle.util.proofs.Sets.{lent, set-length, set-then}
-use Rattle.protocol.specs.Run.{draw-shuffle}
-use Rattle.state.specs.declared.Work.{Work}
-use Rattle.state.specs.Work.{DrawsAny}
+use Rattle.base_util.specs.Chances.{shuffle}
+use Rattle.base_util.specs.Section.{items-at, ValidSet, HoldsSet}
+use Rattle.base_util.proofs.Sets.{lent, set-length, set-then}
+use Rattle.spec_hyparview.specs.Run.{draw-shuffle}
+use Rattle.work.specs.declared.Work.{Work}
+use Rattle.hyparview_state.specs.Work.{DrawsAny}
 
 pub few-taken : {A : Type 0} (k : ℕ) (xs : List A) → length (take k xs) ≤ k
 few-taken zero xs = omega arith
@@ -35,7 +35,7 @@ pub fill-fits : (v m xs : List ℕ) (len n : ℕ) → HoldsSet 32 m (take (len -
     → length (items-at 32 v) + length (items-at 32 m) ≤ 32
 fill-fits v m xs len n h e f g = omega (arith, set-length 32 m (take (len - n) xs) h, few-taken (len - n) xs)
 
--- the items l after `state::shuffle_by_draws`
+-- the items l after `work::shuffle_by_draws`
 abbrev pub shuffled-by : Work → List ℕ → List ℕ → List ℕ
 shuffled-by w ds l = shuffle (drop (w .drawn) ds) l
 

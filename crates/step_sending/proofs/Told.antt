@@ -8,31 +8,31 @@ use native.Mathlib.Omega.{arith}
 use lib.ListN.{length, take, getD}
 use lib.Dec.{ltb}
 use borrow.Author.Tests.{ltb-true}
-use Rattle.lists.specs.Lists.{choose}
-use Rattle.lists.specs.Maps.{has}
-use Rattle.lists.proofs.Choice.{choose-yes, choose-no}
-use Rattle.util.specs.Section.{items-at, ValidSet}
-use Rattle.util.proofs.Parts.{part-read}
-use Rattle.columns.specs.Columns.{numbers-at}
-use Rattle.peer.specs.Held.{node-in, data-in}
-use Rattle.peer.specs.declared.PeerData.{PeerData}
-use Rattle.peer.specs.Data.{Node}
-use Rattle.writer.specs.declared.Fields.{Fields}
-use Rattle.writer.specs.declared.Nodes.{Nodes}
-use Rattle.writer.specs.Nodes.{nodes-in, HoldsNodes}
-use Rattle.writer.specs.Write.{rec-in}
-use Rattle.protocol.specs.Station.{is-requested, top-counter}
-use Rattle.protocol.specs.Run.{Run, on, emit, require, node, message, flag, peer-infos}
-use Rattle.protocol.specs.Sending.{join-to, join, send-nodes, send-shuffle-reply, reply-length, send-disconnect, request-counts, request-fits, note-request, count-request, open-request, neighbor-to, tell-request, send-neighbor, reply-neighbor}
-use Rattle.state.specs.declared.Work.{Work}
-use Rattle.state.specs.Layout.{requests-part, shuffle-active-view-count, shuffle-passive-view-count, neighbor-request-timeout, next-neighbor-request}
-use Rattle.state.specs.Unpack.{unpack, station-of, settings-at, own-at, PackedState}
-use Rattle.state.specs.Work.{Held, work-of, run, Changes, ChangesAny, DrawsAny, Room, Tells, TellsAny, Fine, Does}
-use Rattle.state.proofs.Access.{of-settings, of-requests}
-use Rattle.timing.proofs.Ranges.{ranges}
-use Rattle.state.proofs.Bridge.{on-passed, emit-passed, require-said, unchanged, change-by, change-then, telling, tell-by, tell-then, tell-yes, tell-no, by}
-use Rattle.state.proofs.Any.{then-tell-any}
-use Rattle.state.proofs.Refused.{required-code}
+use Rattle.base_lists.specs.Lists.{choose}
+use Rattle.base_lists.specs.Maps.{has}
+use Rattle.base_lists.proofs.Choice.{choose-yes, choose-no}
+use Rattle.base_util.specs.Section.{items-at, ValidSet}
+use Rattle.base_util.proofs.Parts.{part-read}
+use Rattle.base_columns.specs.Columns.{numbers-at}
+use Rattle.base_peer.specs.Held.{node-in, data-in}
+use Rattle.base_peer.specs.declared.PeerData.{PeerData}
+use Rattle.base_peer.specs.Data.{Node}
+use Rattle.record_writer.specs.declared.Fields.{Fields}
+use Rattle.record_writer.specs.declared.Nodes.{Nodes}
+use Rattle.record_writer.specs.Nodes.{nodes-in, HoldsNodes}
+use Rattle.record_writer.specs.Write.{rec-in}
+use Rattle.spec_hyparview.specs.Station.{is-requested, top-counter}
+use Rattle.spec_hyparview.specs.Run.{Run, on, emit, require, node, message, flag, peer-infos}
+use Rattle.spec_hyparview.specs.Sending.{join-to, join, send-nodes, send-shuffle-reply, reply-length, send-disconnect, request-counts, request-fits, note-request, count-request, open-request, neighbor-to, tell-request, send-neighbor, reply-neighbor}
+use Rattle.work.specs.declared.Work.{Work}
+use Rattle.hyparview_state.specs.Layout.{requests-part, shuffle-active-view-count, shuffle-passive-view-count, neighbor-request-timeout, next-neighbor-request}
+use Rattle.hyparview_state.specs.Unpack.{unpack, station-of, settings-at, own-at, PackedState}
+use Rattle.hyparview_state.specs.Work.{Held, work-of, run, run-of, Stateless, Changes, ChangesAny, DrawsAny, Room, Tells, TellsAny, Fine, Does}
+use Rattle.hyparview_state.proofs.Access.{of-settings, of-requests}
+use Rattle.base_timing.proofs.Ranges.{ranges}
+use Rattle.hyparview_state.proofs.Bridge.{on-passed, emit-passed, require-said, unchanged, change-by, change-then, telling, tell-by, tell-then, tell-yes, tell-no, by}
+use Rattle.hyparview_state.proofs.Any.{required-at, then-tell-any, told-at}
+use Rattle.hyparview_state.proofs.Refused.{required-code}
 use Rattle.step_sending.proofs.Sets.{lent-items}
 
 -- what a step is lent, after another
@@ -40,10 +40,10 @@ use Rattle.step_sending.proofs.Sets.{lent-items}
 pub room-of : (w : Held) (ds out : List ℕ) → Fine w ds out → Room w out
 room-of w ds out v = record { packed = v .ready .packed; written = v .written }
 
-pub fine-drawn : {step : Run → Run} (w a : Work) (xs ds out : List ℕ) → Fine (work-of w xs) ds out → DrawsAny step w a ds → Fine (work-of a xs) ds out
-fine-drawn w a xs ds out v k = record { ready = k .any xs (v .ready .packed) .ready; written = rw (k .written) (v .written) }
+pub fine-drawn : {step : Stateless} (w a : Work) (xs ds out : List ℕ) → Fine (work-of w xs) ds out → DrawsAny step w a ds → Fine (work-of a xs) ds out
+fine-drawn w a xs ds out v k = record { ready = record { packed = v .ready .packed; drawn = k .drawn }; written = rw (k .written) (v .written) }
 
-pub room-drawn : {step : Run → Run} (w a : Work) (xs ds out : List ℕ) → Fine (work-of w xs) ds out → DrawsAny step w a ds → Room (work-of a xs) out
+pub room-drawn : {step : Stateless} (w a : Work) (xs ds out : List ℕ) → Fine (work-of w xs) ds out → DrawsAny step w a ds → Room (work-of a xs) out
 room-drawn w a xs ds out v k = room-of (work-of a xs) ds out (fine-drawn w a xs ds out v k)
 
 -- ---- records
@@ -55,13 +55,13 @@ sent m f p = record { kind = 0; message = m; flags = f; peer = p; second = 0; tt
 module _ (w r : Work) (xs out o : List ℕ) where
   pub join-told : (p : ℕ) (d : PeerData) → Room (work-of w xs) out → d ≡ own-at xs → TellsAny (emit (rec-in (sent 0 0 p) (node-in (record { id = 0; «data» = d }) ∷ []))) w r out o
       → Tells (join p) (work-of w xs) (work-of r xs) out o
-  unfolding join join-to rec-in node-in run unpack station-of
-  join-told p d v e k = tell-by _ (λ ds. ap (λ (x : PeerData). emit (message 0 p 0 0 0 (node 0 (data-in x) ∷ [])) (run (work-of w xs) ds out)) (sym e)) (k .any xs (v .packed))
+  unfolding join join-to rec-in node-in run-of unpack station-of
+  join-told p d v e k = tell-by _ (λ ds. ap (λ (x : PeerData). emit (message 0 p 0 0 0 (node 0 (data-in x) ∷ [])) (run (work-of w xs) ds out)) (sym e)) (told-at xs (v .packed) _ k)
 
   nodes-told : (to : ℕ) (ps : List ℕ) (ns : Nodes) → Room (work-of w xs) out → HoldsNodes ns (peer-infos (unpack xs) ps) → TellsAny (emit (rec-in (sent 3 0 to) (nodes-in ns))) w r out o
       → Tells (send-nodes to ps) (work-of w xs) (work-of r xs) out o
-  unfolding send-nodes rec-in run
-  nodes-told to ps ns v h k = tell-by _ (λ ds. ap (λ (x : List Node). emit (message 3 to 0 0 0 x) (run (work-of w xs) ds out)) (sym (h .holds))) (k .any xs (v .packed))
+  unfolding send-nodes rec-in run-of
+  nodes-told to ps ns v h k = tell-by _ (λ ds. ap (λ (x : List Node). emit (message 3 to 0 0 0 x) (run (work-of w xs) ds out)) (sym (h .holds))) (told-at xs (v .packed) _ k)
 
   pub set-told : (v : List ℕ) (n to : ℕ) (ns : Nodes) → Room (work-of w xs) out → ValidSet 32 v → n ≡ length (items-at 32 v) → HoldsNodes ns (peer-infos (unpack xs) (take n v)) → TellsAny (emit (rec-in (sent 3 0 to) (nodes-in ns))) w r out o
       → Tells (send-nodes to (items-at 32 v)) (work-of w xs) (work-of r xs) out o
@@ -71,23 +71,23 @@ module _ (w r : Work) (xs out o : List ℕ) where
       → TellsAny (emit (rec-in (sent 4 f p) (node-in (record { id = 0; «data» = d }) ∷ []))) w r out o
       → Tells (emit (neighbor-to (unpack xs .own-data) high p)) (work-of w xs) (work-of r xs) out o
   unfolding neighbor-to flag rec-in node-in unpack station-of
-  neighbor-told p high f d v e q k = tell-by _ (λ ds i. emit (message 4 p (sym e i) 0 0 (node 0 (data-in (sym q i)) ∷ [])) (run (work-of w xs) ds out)) (k .any xs (v .packed))
+  neighbor-told p high f d v e q k = tell-by _ (λ ds i. emit (message 4 p (sym e i) 0 0 (node 0 (data-in (sym q i)) ∷ [])) (run (work-of w xs) ds out)) (told-at xs (v .packed) _ k)
 
   pub disconnected : (a : Work) (o₁ ds : List ℕ) (p : ℕ) (alive : Bool) (f : ℕ) → f ≡ choose alive 1 0
       → TellsAny (emit (rec-in (sent 5 f p) [])) a r o₁ o → Does (work-of a xs) ds o₁ (send-shuffle-reply p (shuffle-active-view-count xs + shuffle-passive-view-count xs) (run (work-of w xs) ds out))
       → Does (work-of r xs) ds o (send-disconnect p alive (run (work-of w xs) ds out))
-  unfolding send-disconnect reply-length flag rec-in run unpack station-of settings-at
+  unfolding send-disconnect reply-length flag rec-in run-of unpack station-of settings-at
   disconnected a o₁ ds p alive f q k d =
-      by _ (λ i. emit (message 5 p (sym q i) 0 0 []) (send-shuffle-reply p (shuffle-active-view-count xs + shuffle-passive-view-count xs) (run (work-of w xs) ds out))) (then-tell-any k d)
+      by _ (λ i. emit (message 5 p (sym q i) 0 0 []) (send-shuffle-reply p (shuffle-active-view-count xs + shuffle-passive-view-count xs) (run (work-of w xs) ds out))) (then-tell-any _ k d)
 
 pub request-told : (w a r : Work) (xs out o₁ o : List ℕ) (p : ℕ) (high : Bool) (id f : ℕ) (d : PeerData) → Room (work-of w xs) out → f ≡ choose high 1 0 → d ≡ own-at xs
     → TellsAny (emit (rec-in (sent 4 f p) (node-in (record { id = 0; «data» = d }) ∷ []))) w a out o₁
     → TellsAny (emit (rec-in (record { kind = 3; message = 0; flags = 0; peer = p; second = neighbor-request-timeout xs; ttl = 0; number = id }) [])) a r o₁ o
     → Tells (tell-request p high id) (work-of w xs) (work-of r xs) out o
-unfolding tell-request rec-in run unpack station-of settings-at
+unfolding tell-request rec-in run-of unpack station-of settings-at
 request-told w a r xs out o₁ o p high id f d v e q k₁ k₂ =
     let k = neighbor-told w a xs out o₁ p high f d v e q k₁ in
-    tell-then _ (λ ds. refl) (k₂ .any xs (k .room .packed)) k
+    tell-then _ (λ ds. refl) (told-at xs (k .room .packed) _ k₂) k
 
 -- how many peers a Disconnect's ShuffleReply names
 pub few-named : (xs : List ℕ) → PackedState xs → shuffle-active-view-count xs + shuffle-passive-view-count xs ≤ 32
@@ -117,21 +117,21 @@ requests-counted xs v = sym (of-requests xs v .counted ∙ part-read 130 65 64 x
 module _ (w a b : Work) (xs : List ℕ) (n : ℕ) (v : PackedState xs) (k₁ : ChangesAny (require 10 (ltb (next-neighbor-request xs) top-counter)) w a)
     (e : n ≡ length (numbers-at 32 (requests-part xs))) (k₂ : ChangesAny (require 6 (ltb n 32)) a b) where
   pub number-left : b .code ≡ 0 → next-neighbor-request xs < top-counter
-  number-left z = ltb-true _ _ (require-said (work-of w xs) (work-of a xs) 10 _ (omega arith) (k₁ .any xs v) (required-code 6 (ltb n 32) (work-of a xs) (work-of b xs) (k₂ .any xs v) z) .1)
+  number-left z = ltb-true _ _ (require-said (work-of w xs) (work-of a xs) 10 _ (omega arith) (required-at xs v _ _ k₁) (required-code 6 (ltb n 32) (work-of a xs) (work-of b xs) (required-at xs v _ _ k₂) z) .1)
 
   pub place-left : b .code ≡ 0 → (p : ℕ) → (has p (numbers-at 32 (requests-part xs)) || ltb (length (numbers-at 32 (requests-part xs))) 32) ≡ true
   place-left z p =
-      let fits : ltb (length (numbers-at 32 (requests-part xs))) 32 ≡ true = ap (λ (m : ℕ). ltb m 32) (sym e) ∙ require-said (work-of a xs) (work-of b xs) 6 (ltb n 32) (omega arith) (k₂ .any xs v) z .1 in
+      let fits : ltb (length (numbers-at 32 (requests-part xs))) 32 ≡ true = ap (λ (m : ℕ). ltb m 32) (sym e) ∙ require-said (work-of a xs) (work-of b xs) 6 (ltb n 32) (omega arith) (required-at xs v _ _ k₂) z .1 in
       rw fits (or-true (has p (numbers-at 32 (requests-part xs))))
 
   counted : Changes count-request (work-of w xs) (work-of a xs)
-  unfolding count-request request-counts run unpack station-of
-  counted = change-by _ (λ ds out. refl) (k₁ .any xs v)
+  unfolding count-request request-counts run-of unpack station-of
+  counted = change-by _ (λ ds out. refl) (required-at xs v _ _ k₁)
 
   module _ (p : ℕ) (ys : List ℕ) (k₃ : Changes (on (note-request p)) (work-of b xs) (work-of b ys)) where
     opened : Changes (open-request p) (work-of a xs) (work-of b ys)
-    unfolding open-request request-fits run unpack station-of
-    opened = change-then _ (λ ds out. ap (λ (m : ℕ). on (note-request p) (require 6 (ltb m 32) (run (work-of a xs) ds out))) (sym e)) k₃ (k₂ .any xs v)
+    unfolding open-request request-fits run-of unpack station-of
+    opened = change-then _ (λ ds out. ap (λ (m : ℕ). on (note-request p) (require 6 (ltb m 32) (run (work-of a xs) ds out))) (sym e)) k₃ (required-at xs v _ _ k₂)
 
     noted : (out : List ℕ) → Room (work-of w xs) out → Tells (λ g. open-request p (count-request g)) (work-of w xs) (work-of b ys) out out
     noted out q = telling q (change-then _ (λ ds o. refl) opened counted)
@@ -141,12 +141,12 @@ module _ (w a b : Work) (xs : List ℕ) (n : ℕ) (v : PackedState xs) (k₁ : C
 
     pub neighbor-sent : (high t : Bool) (r : Work) (out o : List ℕ) → Room (work-of w xs) out → t ≡ is-requested p (unpack xs) → t ≡ false → Tells (tell-request p high (next-neighbor-request xs)) (work-of b ys) (work-of r ys) out o
         → Tells (send-neighbor p high) (work-of w xs) (work-of r ys) out o
-    unfolding send-neighbor run unpack station-of
+    unfolding send-neighbor run-of unpack station-of
     neighbor-sent high t r out o q i h k = tell-no (is-requested p) i _ h (tell-then _ (λ ds. refl) k (noted out q))
 
   -- a refused run is left alone
   pub neighbor-refused : (p : ℕ) (high t : Bool) (out : List ℕ) → Room (work-of w xs) out → t ≡ is-requested p (unpack xs) → t ≡ false → (b .code ≡ 0 → ⊥) → Tells (send-neighbor p high) (work-of w xs) (work-of b xs) out out
-  unfolding tell-request run
+  unfolding tell-request run-of
   neighbor-refused p high t out q i h z =
       let k₃ = on-passed (work-of b xs) v (note-request p) z in
       let room = noted-room p xs k₃ out q in

@@ -1,27 +1,27 @@
 // What the station sends: Join, Neighbor, ShuffleReply and Disconnect (the definition's `Sending`).
-use peer::PeerId;
-use peer::PeerInfo;
+use base_peer::PeerId;
+use base_peer::PeerInfo;
+use hyparview_state::Layout;
 use record::Flags;
 use record::Kind;
 use record::Message;
 use record::Refusal;
-use state::Layout;
-use state::Work;
-use writer::Fields;
-use writer::Nodes;
+use record_writer::Fields;
+use record_writer::Nodes;
+use work::Work;
 ghost use mathlib.Core.Path.{_≡_};
 ghost use Prim.Native.Nat.{_≤_};
 ghost use lib.ListN.{length, take, drop};
-ghost use Rattle.lists.specs.Lists.{choose};
-ghost use Rattle.util.specs.Chances.{shuffle};
-ghost use Rattle.util.specs.Section.{items-at, ValidSet, HoldsSet};
-ghost use Rattle.writer.specs.Nodes.{HoldsNodes};
-ghost use Rattle.protocol.specs.Run.{peer-infos, draw-shuffle};
-ghost use Rattle.protocol.specs.Sending.{join, send-shuffle-reply, send-disconnect, send-neighbor, reply-neighbor};
+ghost use Rattle.base_lists.specs.Lists.{choose};
+ghost use Rattle.base_util.specs.Chances.{shuffle};
+ghost use Rattle.base_util.specs.Section.{items-at, ValidSet, HoldsSet};
+ghost use Rattle.record_writer.specs.Nodes.{HoldsNodes};
+ghost use Rattle.spec_hyparview.specs.Run.{peer-infos, draw-shuffle};
+ghost use Rattle.spec_hyparview.specs.Sending.{join, send-shuffle-reply, send-disconnect, send-neighbor, reply-neighbor};
 ghost use Rattle.record.specs.Format.{most-nodes};
-ghost use Rattle.state.specs.Layout.{words, all-places};
-ghost use Rattle.state.specs.Unpack.{unpack, PackedState};
-ghost use Rattle.state.specs.Work.{work-of, run, DrawsAny, Room, Tells, Fine, Does};
+ghost use Rattle.hyparview_state.specs.Layout.{words, all-places};
+ghost use Rattle.hyparview_state.specs.Unpack.{unpack, PackedState};
+ghost use Rattle.hyparview_state.specs.Work.{work-of, DrawsAny, Room, Tells, Given, Makes};
 
 // The most requests that are open at once.
 const MOST_ASKED: u64 = Layout::ALL as u64;
@@ -45,7 +45,7 @@ pub fn peer_infos(st: &[u64], ids: &[PeerId]) -> Nodes
     while i < ids.len() {
         let p = ids[i];
         i += 1;
-        let d = columns::get_data(&st[Layout::HELD..Layout::HELD_END], Layout::DATA_CAP, p);
+        let d = base_columns::get_data(&st[Layout::HELD..Layout::HELD_END], Layout::DATA_CAP, p);
         t = t.push(PeerInfo { id: p, data: d });
     }
     t
@@ -57,7 +57,7 @@ pub fn join(w: Work, st: &[u64], out: &mut [u8], p: PeerId) -> Work
     requires { ⌜ Room (work-of w (now st)) (now out) ⌝ }
     ensures { λ r. ⌜ Tells (join p) (work-of w (now (st .entry))) (work-of r (now (st .entry))) (now (out .entry)) (now (out .exit)) ⌝ }
 {
-    let d = state::own_data(st);
+    let d = hyparview_state::own_data(st);
     let f = Fields {
         kind: Kind::MESSAGE,
         message: Message::JOIN,
@@ -67,7 +67,7 @@ pub fn join(w: Work, st: &[u64], out: &mut [u8], p: PeerId) -> Work
         ttl: 0,
         number: 0,
     };
-    state::emit_one(w, out, f, PeerInfo { id: 0, data: d })
+    work::emit_one(w, out, f, PeerInfo { id: 0, data: d })
 }
 
 // Shuffles a working set and cuts it to at most `most` peers.
@@ -77,13 +77,13 @@ pub fn shuffle_and_cap(w: Work, draws: &[u32], most: usize, v: &mut [u64]) -> Wo
     ensures { λ r. ⌜ DrawsAny (draw-shuffle (items-at all-places (now (v .entry)))) w r (now (draws .entry)) ⌝ }
     ensures { λ r. ⌜ HoldsSet all-places (now (v .exit)) (take most (shuffle (drop (w .drawn) (now (draws .entry))) (items-at all-places (now (v .entry))))) ⌝ }
 {
-    let r = state::shuffle_by_draws(w, draws, v);
+    let r = work::shuffle_by_draws(w, draws, v);
     let n = v[Layout::ALL] as usize;
     if n <= most {
         return r;
     }
     // The first `most` of them stay.
-    util::clear_from(&mut v[..Layout::ALL], most);
+    base_util::clear_from(&mut v[..Layout::ALL], most);
     v[Layout::ALL] = most as u64;
     r
 }
@@ -98,24 +98,24 @@ pub fn send_shuffle_reply(
     len: usize,
 ) -> Work
     requires { ⌜ length (now st) ≡ words ⌝ }
-    requires { ⌜ Fine (work-of w (now st)) (now draws) (now out) ⌝ }
+    requires { ⌜ Given w st draws out ⌝ }
     requires { ⌜ len ≤ most-nodes ⌝ }
-    ensures { λ r. ⌜ Does (work-of r (now (st .entry))) (now (draws .entry)) (now (out .exit)) (send-shuffle-reply to len (run (work-of w (now (st .entry))) (now (draws .entry)) (now (out .entry)))) ⌝ }
+    ensures { λ r. ⌜ Makes (send-shuffle-reply to len) w r st draws out ⌝ }
 {
     let mut v = [0u64; Layout::SET];
     let passive = &st[Layout::PASSIVE..Layout::PASSIVE_END];
-    util::copy_into(passive, Layout::ALL, &mut v);
+    base_util::copy_into(passive, Layout::ALL, &mut v);
     let mut a = shuffle_and_cap(w, draws, len, &mut v);
-    let n = util::count(&v, Layout::ALL);
+    let n = base_util::count(&v, Layout::ALL);
     if n < len {
         // Too few passive peers: the shuffled active view makes up the number.
         let mut more = [0u64; Layout::SET];
         let active = &st[Layout::ACTIVE..Layout::ACTIVE_END];
-        util::copy_into(active, Layout::FEW, &mut more);
+        base_util::copy_into(active, Layout::FEW, &mut more);
         a = shuffle_and_cap(a, draws, len - n, &mut more);
-        util::append(&mut v, Layout::ALL, &more, Layout::ALL);
+        base_util::append(&mut v, Layout::ALL, &more, Layout::ALL);
     }
-    let named = util::count(&v, Layout::ALL);
+    let named = base_util::count(&v, Layout::ALL);
     let f = Fields {
         kind: Kind::MESSAGE,
         message: Message::SHUFFLE_REPLY,
@@ -125,7 +125,7 @@ pub fn send_shuffle_reply(
         ttl: 0,
         number: 0,
     };
-    state::emit_nodes(a, out, f, peer_infos(st, &v[..named]))
+    work::emit_nodes(a, out, f, peer_infos(st, &v[..named]))
 }
 
 // Disconnect, and before it a ShuffleReply.
@@ -138,8 +138,8 @@ pub fn send_disconnect(
     alive: bool,
 ) -> Work
     requires { ⌜ length (now st) ≡ words ⌝ }
-    requires { ⌜ Fine (work-of w (now st)) (now draws) (now out) ⌝ }
-    ensures { λ r. ⌜ Does (work-of r (now (st .entry))) (now (draws .entry)) (now (out .exit)) (send-disconnect p alive (run (work-of w (now (st .entry))) (now (draws .entry)) (now (out .entry)))) ⌝ }
+    requires { ⌜ Given w st draws out ⌝ }
+    ensures { λ r. ⌜ Makes (send-disconnect p alive) w r st draws out ⌝ }
 {
     // How many peers the ShuffleReply names.
     let n = st[Layout::SHUFFLE_ACTIVE_VIEW_COUNT] as usize;
@@ -155,7 +155,7 @@ pub fn send_disconnect(
         ttl: 0,
         number: 0,
     };
-    state::emit_bare(a, out, f)
+    work::emit_bare(a, out, f)
 }
 
 // Neighbor to p with the station's own data, unless a request to it is open. Code 10 where no number is left for a request, code 6 where a 33rd open request is needed;
@@ -165,17 +165,17 @@ pub fn send_neighbor(w: Work, st: &mut [u64], out: &mut [u8], p: PeerId, high: b
     requires { ⌜ Room (work-of w (now st)) (now out) ⌝ }
     ensures { λ r. ⌜ Tells (send-neighbor p high) (work-of w (now (st .entry))) (work-of r (now (st .exit))) (now (out .entry)) (now (out .exit)) ⌝ }
 {
-    if state::is_requested(st, p) {
+    if hyparview_state::is_requested(st, p) {
         return w;
     }
     let id = st[Layout::NEXT_NEIGHBOR_REQUEST];
-    let a = state::require(w, Refusal::COUNTER, id < state::TOP_COUNTER);
-    let b = state::require(a, Refusal::REQUESTS, st[Layout::ASKED_COUNT] < MOST_ASKED);
+    let a = work::require(w, Refusal::COUNTER, id < hyparview_state::TOP_COUNTER);
+    let b = work::require(a, Refusal::REQUESTS, st[Layout::ASKED_COUNT] < MOST_ASKED);
     if b.code != 0 {
         return b;
     }
     let asked = &mut st[Layout::ASKED..Layout::ASKED_END];
-    columns::insert_number(asked, Layout::ALL, p, id);
+    base_columns::insert_number(asked, Layout::ALL, p, id);
     st[Layout::NEXT_NEIGHBOR_REQUEST] = id + 1;
     let f = Fields {
         kind: Kind::MESSAGE,
@@ -186,8 +186,8 @@ pub fn send_neighbor(w: Work, st: &mut [u64], out: &mut [u8], p: PeerId, high: b
         ttl: 0,
         number: 0,
     };
-    let d = state::own_data(st);
-    let c = state::emit_one(b, out, f, PeerInfo { id: 0, data: d });
+    let d = hyparview_state::own_data(st);
+    let c = work::emit_one(b, out, f, PeerInfo { id: 0, data: d });
     let t = Fields {
         kind: Kind::PENDING_NEIGHBOR_REQUEST,
         message: 0,
@@ -197,7 +197,7 @@ pub fn send_neighbor(w: Work, st: &mut [u64], out: &mut [u8], p: PeerId, high: b
         ttl: 0,
         number: id,
     };
-    state::emit_bare(c, out, t)
+    work::emit_bare(c, out, t)
 }
 
 // Neighbor to p, where an answer is wanted.

@@ -7,32 +7,32 @@ use mathlib.Core.List.{List, [], _∷_}
 use native.Mathlib.Omega.{arith}
 use lib.Dec.{eqb}
 use lib.ListN.{length, drop, getD}
-use Rattle.lists.specs.Lists.{null, without-all}
-use Rattle.lists.specs.Array.{pad}
-use Rattle.util.specs.Section.{items-at, ValidSet, HoldsSet, section}
-use Rattle.util.proofs.Sets.{section-holds}
-use Rattle.util.specs.Chances.{pick}
-use Rattle.peer.specs.Data.{Node}
+use Rattle.base_lists.specs.Lists.{null, without-all}
+use Rattle.base_lists.specs.Array.{pad}
+use Rattle.base_util.specs.Section.{items-at, ValidSet, HoldsSet, section}
+use Rattle.base_util.proofs.Sets.{section-holds}
+use Rattle.base_util.specs.Chances.{pick}
+use Rattle.base_peer.specs.Data.{Node}
 use Rattle.record.specs.Read.{nodes-of}
 use Rattle.record.proofs.Nodes.{length-nodes-of}
-use Rattle.timing.specs.Timing.{next, expired}
-use Rattle.writer.specs.declared.Nodes.{Nodes}
-use Rattle.writer.specs.Nodes.{nodes-in, HoldsNodes}
-use Rattle.writer.specs.Write.{rec-in}
-use Rattle.protocol.specs.Station.{Station, Refill, is-requested, is-short, is-last-hop}
-use Rattle.protocol.specs.Run.{emit, to-draw, one-of, draw-one-of, picked, message}
-use Rattle.protocol.specs.Peers.{add-nodes, any-new}
-use Rattle.protocol.specs.Sending.{send-shuffle-reply}
-use Rattle.protocol.specs.Refill.{few-requests, start-refill, refill-active-from-passive}
-use Rattle.protocol.specs.Messages.{answers-shuffle, answer-shuffle, forward-shuffle, on-shuffle, stops-at-refusal, renews-limit, refill-with, after-reply, on-shuffle-reply}
-use Rattle.state.specs.declared.Work.{Work}
-use Rattle.state.specs.Work.{work-of, run, DrawsAny, TellsAny, Fine, Does}
-use Rattle.state.specs.Layout.{refill-kind, refill-requests, active-part}
-use Rattle.state.specs.declared.RefillLimit.{RefillLimit}
-use Rattle.state.specs.Unpack.{unpack, station-of, refill-in}
-use Rattle.state.proofs.Bridge.{by, still, seq-at, taken, left, holds-at, at-run}
-use Rattle.state.proofs.Limits.{says-spent}
-use Rattle.state.proofs.Any.{then-draw-any, then-tell-any}
+use Rattle.base_timing.specs.Timing.{next, expired}
+use Rattle.record_writer.specs.declared.Nodes.{Nodes}
+use Rattle.record_writer.specs.Nodes.{nodes-in, HoldsNodes}
+use Rattle.record_writer.specs.Write.{rec-in}
+use Rattle.spec_hyparview.specs.Station.{Station, Refill, is-requested, is-short, is-last-hop}
+use Rattle.spec_hyparview.specs.Run.{emit, to-draw, one-of, draw-one-of, picked, message}
+use Rattle.spec_hyparview.specs.Peers.{add-nodes, any-new}
+use Rattle.spec_hyparview.specs.Sending.{send-shuffle-reply}
+use Rattle.spec_hyparview.specs.Refill.{few-requests, start-refill, refill-active-from-passive}
+use Rattle.spec_hyparview.specs.Messages.{answers-shuffle, answer-shuffle, forward-shuffle, on-shuffle, stops-at-refusal, renews-limit, refill-with, after-reply, on-shuffle-reply}
+use Rattle.work.specs.declared.Work.{Work}
+use Rattle.hyparview_state.specs.Work.{work-of, run, run-of, DrawsAny, TellsAny, Fine, Does}
+use Rattle.hyparview_state.specs.Layout.{refill-kind, refill-requests, active-part}
+use Rattle.hyparview_state.specs.declared.RefillLimit.{RefillLimit}
+use Rattle.hyparview_state.specs.Unpack.{unpack, station-of, refill-in}
+use Rattle.hyparview_state.proofs.Bridge.{by, still, seq-at, taken, left, holds-at, at-run}
+use Rattle.hyparview_state.proofs.Limits.{says-spent}
+use Rattle.hyparview_state.proofs.Any.{then-one-of, then-tell-any}
 
 -- ---- the neighbors that a Shuffle may go on to
 
@@ -56,7 +56,7 @@ module _ (w : Work) (xs ds out others : List ℕ) (ns : List Node) (origin ttl :
 
   module _ (q u n i : ℕ) (x : Nodes) (c : n ≡ length others) (j : i ≡ pick n (drop (w .drawn) ds)) (p : q ≡ getD others i 0) (y : u ≡ next ttl) (z : HoldsNodes x ns) where
     picked-is : q ≡ picked others (run (work-of w xs) ds out)
-    unfolding picked one-of to-draw run
+    unfolding picked one-of to-draw run-of
     picked-is = p ∙ ap (λ (k : ℕ). getD others k 0) (j ∙ ap (λ (k : ℕ). pick k (drop (w .drawn) ds)) c)
 
     shuffle-is : emit (message 2 (picked others (run (work-of w xs) ds out)) 0 origin (next ttl) ns) (draw-one-of (length others) (run (work-of w xs) ds out))
@@ -69,7 +69,7 @@ module _ (w : Work) (xs ds out others : List ℕ) (ns : List Node) (origin ttl :
         → DrawsAny (draw-one-of n) w a ds
         → Does (work-of r xs) ds o (forward-shuffle others origin ns ttl (run (work-of w xs) ds out))
     unfolding forward-shuffle
-    shuffle-on a r o h k₂ k₁ = left _ _ (sym e ∙ h) (by _ shuffle-is (then-tell-any k₂ (then-draw-any k₁ (still v))))
+    shuffle-on a r o h k₂ k₁ = left _ _ (sym e ∙ h) (by _ shuffle-is (then-tell-any _ k₂ (then-one-of _ k₁ (still v))))
 
 pub passed-on : (w r : Work) (xs ds out o others : List ℕ) (ns : List Node) (origin from ttl : ℕ) → HoldsSet 32 others (without-all (origin ∷ from ∷ []) (unpack xs .active))
     → Does (work-of r xs) ds o (forward-shuffle (items-at 32 others) origin ns ttl (run (work-of w xs) ds out))
@@ -94,7 +94,7 @@ module _ (w r : Work) (xs ys ds out o : List ℕ) (from origin : ℕ) (ns : List
 
   pub shuffle-forwarded : t ≡ false → Does (work-of r ys) ds o (forward-shuffle (without-all (origin ∷ from ∷ []) (unpack xs .active)) origin ns ttl (run (work-of w xs) ds out))
       → Does (work-of r ys) ds o (on-shuffle from origin ns ttl (run (work-of w xs) ds out))
-  unfolding on-shuffle run
+  unfolding on-shuffle run-of
   shuffle-forwarded h d = left _ _ (holds-at (work-of w xs) ds out (answers-shuffle ttl) e h) d
 
 -- ---- replies to shuffles

@@ -7,8 +7,8 @@ use mathlib.Core.List.{List, [], _∷_}
 use native.Mathlib.Omega.{arith}
 use lib.Dec.{leb, eqb}
 use borrow.Author.Tests.{eqb-true, leb-true}
-use Rattle.lists.specs.Lists.{choose}
-use Rattle.lists.proofs.Choice.{and-left, and-right}
+use Rattle.base_lists.specs.Lists.{choose}
+use Rattle.base_lists.proofs.Choice.{and-left, and-right}
 use Rattle.record.specs.declared.Header.{Header}
 use Rattle.record.specs.Format.{peer-length}
 use Rattle.record.specs.Read.{header-of, is-message, is-data, kind-ok, flags-ok, count-ok, peer-ok, fields-ok, header-ok, well-formed, node-at, nodes-of, nodes-of-by}

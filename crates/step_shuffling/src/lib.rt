@@ -1,26 +1,26 @@
 // The two messages of a shuffle (the definition's `Messages`).
-use peer::PeerId;
+use base_peer::PeerId;
+use base_timing::Ttl;
+use hyparview_state::Layout;
+use hyparview_state::RefillLimit;
 use record::Kind;
 use record::Message;
-use state::Layout;
-use state::RefillLimit;
-use state::Work;
-use timing::Ttl;
-use writer::Fields;
-use writer::Nodes;
+use record_writer::Fields;
+use record_writer::Nodes;
+use work::Work;
 ghost use mathlib.Core.Path.{_≡_};
 ghost use mathlib.Core.Bool.{true};
 ghost use mathlib.Core.List.{[], _∷_};
 ghost use lib.ListN.{length};
-ghost use Rattle.lists.specs.Lists.{without-all};
+ghost use Rattle.base_lists.specs.Lists.{without-all};
 ghost use Rattle.record.specs.Read.{well-formed, header-of, nodes-of};
-ghost use Rattle.writer.specs.Nodes.{HoldsNodes};
-ghost use Rattle.protocol.specs.Peers.{add-nodes, any-new};
-ghost use Rattle.protocol.specs.Messages.{forward-shuffle, on-shuffle};
-ghost use Rattle.protocol.specs.Messages.{on-shuffle-reply};
-ghost use Rattle.state.specs.Layout.{words};
-ghost use Rattle.state.specs.Unpack.{unpack};
-ghost use Rattle.state.specs.Work.{work-of, run, Fine, Does};
+ghost use Rattle.record_writer.specs.Nodes.{HoldsNodes};
+ghost use Rattle.spec_hyparview.specs.Peers.{add-nodes, any-new};
+ghost use Rattle.spec_hyparview.specs.Messages.{forward-shuffle, on-shuffle};
+ghost use Rattle.spec_hyparview.specs.Messages.{on-shuffle-reply};
+ghost use Rattle.hyparview_state.specs.Layout.{words};
+ghost use Rattle.hyparview_state.specs.Unpack.{unpack};
+ghost use Rattle.hyparview_state.specs.Work.{work-of, run, Fine, Does};
 
 // The work after an event's nodes were learned, and whether one of them was new.
 struct Learned {
@@ -87,14 +87,14 @@ fn pass_shuffle(
     ensures { λ r. ⌜ Does (work-of r (now (st .entry))) (now (draws .entry)) (now (out .exit)) (forward-shuffle (without-all (origin ∷ from ∷ []) (unpack (now (st .entry)) .active)) origin (nodes-of (now (b .entry)) 0 n) ttl (run (work-of w (now (st .entry))) (now (draws .entry)) (now (out .entry)))) ⌝ }
 {
     let mut v = [0u64; Layout::SET];
-    util::copy_into(&st[Layout::ACTIVE..Layout::ACTIVE_END], Layout::FEW, &mut v);
+    base_util::copy_into(&st[Layout::ACTIVE..Layout::ACTIVE_END], Layout::FEW, &mut v);
     // A set of two places, which are both in use.
-    util::without_all(&mut v, Layout::ALL, &[origin, from, 2], 2);
-    if util::is_empty(&v, Layout::ALL) {
+    base_util::without_all(&mut v, Layout::ALL, &[origin, from, 2], 2);
+    if base_util::is_empty(&v, Layout::ALL) {
         return w;
     }
-    let t = state::choose(w, draws, util::count(&v, Layout::ALL));
-    let q = util::get_index(&v, Layout::ALL, t.index);
+    let t = work::choose(w, draws, base_util::count(&v, Layout::ALL));
+    let q = base_util::get_index(&v, Layout::ALL, t.index);
     let hops = Ttl(ttl);
     let left = hops.next();
     let f = Fields {
@@ -106,7 +106,7 @@ fn pass_shuffle(
         ttl: left.0,
         number: 0,
     };
-    state::emit_nodes(t.work, out, f, event_nodes(b, n))
+    work::emit_nodes(t.work, out, f, event_nodes(b, n))
 }
 
 // Shuffle ends here and is answered, or goes on.
@@ -128,7 +128,7 @@ pub fn on_shuffle(
     ensures { λ r. ⌜ Does (work-of r (now (st .exit))) (now (draws .entry)) (now (out .exit)) (on-shuffle from origin (nodes-of (now (b .entry)) 0 n) ttl (run (work-of w (now (st .entry))) (now (draws .entry)) (now (out .entry)))) ⌝ }
 {
     let hops = Ttl(ttl);
-    if hops.expired() | state::is_last_hop(st) {
+    if hops.expired() | hyparview_state::is_last_hop(st) {
         // The nodes are learned, and as many others go to the Shuffle's origin.
         let t = add_nodes(w, st, draws, out, b, n);
         return step_sending::send_shuffle_reply(t.work, st, draws, out, origin, n);
@@ -152,9 +152,9 @@ pub fn on_shuffle_reply(
     ensures { λ r. ⌜ Does (work-of r (now (st .exit))) (now (draws .entry)) (now (out .exit)) (on-shuffle-reply from (nodes-of (now (b .entry)) 0 n) (run (work-of w (now (st .entry))) (now (draws .entry)) (now (out .entry)))) ⌝ }
 {
     let t = add_nodes(w, st, draws, out, b, n);
-    let requested = state::is_requested(st, from);
+    let requested = hyparview_state::is_requested(st, from);
     // A refusal after which no other peer is asked, since the node is not short.
-    if requested & !state::is_short(st) {
+    if requested & !hyparview_state::is_short(st) {
         return t.work;
     }
     let none = [0u64; 0];

@@ -5,22 +5,22 @@ use mathlib.Core.Path.{_≡_, refl, ap, _∙_}
 use mathlib.Core.Bool.{Bool, true, false}
 use mathlib.Core.List.{List, []}
 use lib.Dec.{eqb}
-use Rattle.lists.specs.Maps.{lookup}
-use Rattle.columns.specs.Columns.{numbers-at}
-use Rattle.peer.specs.declared.Number.{Number}
-use Rattle.peer.specs.declared.Number.the-variants.{Absent, Is}
-use Rattle.peer.specs.Maps.{number-in}
-use Rattle.protocol.specs.Run.{Run, on}
-use Rattle.protocol.specs.Peers.{drop-passive}
-use Rattle.protocol.specs.Sending.{join}
-use Rattle.protocol.specs.Refill.{refill-active-from-passive}
-use Rattle.protocol.specs.Messages.{drop-join, drop-request}
-use Rattle.protocol.specs.Timers.{is-number, request-is, request-failed, handle-pending-neighbor-timer, join-is, retry-join}
-use Rattle.state.specs.declared.Work.{Work}
-use Rattle.state.specs.Layout.{requests-part, joins-part}
-use Rattle.state.specs.Unpack.{unpack, station-of}
-use Rattle.state.specs.Work.{work-of, run, Changes, Room, Tells, Fine, Does}
-use Rattle.state.proofs.Bridge.{unchanged, telling, tell-then, tell-yes, tell-no, still, then, seq, taken, left, holds-at}
+use Rattle.base_lists.specs.Maps.{lookup}
+use Rattle.base_columns.specs.Columns.{numbers-at}
+use Rattle.base_peer.specs.declared.Number.{Number}
+use Rattle.base_peer.specs.declared.Number.the-variants.{Absent, Is}
+use Rattle.base_peer.specs.Maps.{number-in}
+use Rattle.spec_hyparview.specs.Run.{Run, on}
+use Rattle.spec_hyparview.specs.Peers.{drop-passive}
+use Rattle.spec_hyparview.specs.Sending.{join}
+use Rattle.spec_hyparview.specs.Refill.{refill-active-from-passive}
+use Rattle.spec_hyparview.specs.Messages.{drop-join, drop-request}
+use Rattle.spec_hyparview.specs.Timers.{is-number, request-is, request-failed, handle-pending-neighbor-timer, join-is, retry-join}
+use Rattle.work.specs.declared.Work.{Work}
+use Rattle.hyparview_state.specs.Layout.{requests-part, joins-part}
+use Rattle.hyparview_state.specs.Unpack.{unpack, station-of}
+use Rattle.hyparview_state.specs.Work.{work-of, run, Changes, Room, Tells, Fine, Does}
+use Rattle.hyparview_state.proofs.Bridge.{unchanged, telling, tell-then, tell-yes, tell-no, still, then, seq, taken, left, holds-at}
 
 pub no-number : (n : ℕ) (m : Number) → m ≡ Absent → false ≡ is-number n (number-in m)
 unfolding is-number number-in

@@ -6,32 +6,32 @@ use mathlib.Core.Bool.{true, false}
 use mathlib.Core.List.{List, [], _∷_, _++_}
 use native.Mathlib.Omega.{arith}
 use lib.ListN.{length, take, drop, getD, set, length-append}
-use Rattle.lists.specs.Lists.{null, without}
-use Rattle.util.specs.Chances.{pick}
-use Rattle.timing.specs.Timing.{delay}
-use Rattle.timing.proofs.Ranges.{ranges}
-use Rattle.peer.specs.declared.PeerData.{PeerData}
-use Rattle.peer.specs.Data.{Node}
-use Rattle.util.specs.Section.{items-at, ValidSet, HoldsSet}
-use Rattle.util.proofs.Sets.{set-length, set-then}
-use Rattle.peer.specs.Held.{node-in}
-use Rattle.writer.specs.declared.Nodes.{Nodes}
-use Rattle.writer.specs.Nodes.{nodes-in, HoldsNodes}
-use Rattle.writer.specs.Write.{rec-in}
-use Rattle.writer.proofs.Ways.{length-nodes}
-use Rattle.protocol.specs.Station.{Station, is-alone}
-use Rattle.protocol.specs.Setters.{set-next-interval}
-use Rattle.protocol.specs.Run.{Run, on, emit, draw, drawn, to-draw, one-of, draw-one-of, picked, shuffled, draw-shuffle, message, timer, peer-infos}
-use Rattle.protocol.specs.Timers.{double-interval, schedule-shuffle, shuffle-nodes, send-shuffle, active-sample, passive-sample, shuffle-passive, shuffle-with, shuffle-any}
-use Rattle.state.specs.declared.Work.{Work}
-use Rattle.state.specs.Layout as layout
-use Rattle.state.specs.Layout.{next-shuffle-interval, shuffle-interval, me, shuffle-random-walk-length, shuffle-active-view-count, shuffle-passive-view-count}
-use Rattle.state.specs.Unpack.{unpack, station-of, settings-at, own-at, PackedState, Becomes}
-use Rattle.state.specs.Work.{work-of, run, Changes, DrawsAny, Room, Tells, TellsAny, Fine, Does}
-use Rattle.state.proofs.Access.{of-settings}
-use Rattle.state.proofs.Fields.{put-next-interval}
-use Rattle.state.proofs.Bridge.{guard-shut, on-done, by, tell-by, still, then, then-tell, seq, seq-at, taken, left}
-use Rattle.state.proofs.Any.{then-draw-any, then-tell-any}
+use Rattle.base_lists.specs.Lists.{null, without}
+use Rattle.base_util.specs.Chances.{pick}
+use Rattle.base_timing.specs.Timing.{delay}
+use Rattle.base_timing.proofs.Ranges.{ranges}
+use Rattle.base_peer.specs.declared.PeerData.{PeerData}
+use Rattle.base_peer.specs.Data.{Node}
+use Rattle.base_util.specs.Section.{items-at, ValidSet, HoldsSet}
+use Rattle.base_util.proofs.Sets.{set-length, set-then}
+use Rattle.base_peer.specs.Held.{node-in}
+use Rattle.record_writer.specs.declared.Nodes.{Nodes}
+use Rattle.record_writer.specs.Nodes.{nodes-in, HoldsNodes}
+use Rattle.record_writer.specs.Write.{rec-in}
+use Rattle.record_writer.proofs.Ways.{length-nodes}
+use Rattle.spec_hyparview.specs.Station.{Station, is-alone}
+use Rattle.spec_hyparview.specs.Setters.{set-next-interval}
+use Rattle.spec_hyparview.specs.Run.{Run, on, emit, draw, drawn, to-draw, one-of, draw-one-of, picked, shuffled, draw-shuffle, message, timer, peer-infos}
+use Rattle.spec_hyparview.specs.Timers.{double-interval, schedule-shuffle, shuffle-nodes, send-shuffle, active-sample, passive-sample, shuffle-passive, shuffle-with, shuffle-any}
+use Rattle.work.specs.declared.Work.{Work}
+use Rattle.hyparview_state.specs.Layout as layout
+use Rattle.hyparview_state.specs.Layout.{next-shuffle-interval, shuffle-interval, me, shuffle-random-walk-length, shuffle-active-view-count, shuffle-passive-view-count}
+use Rattle.hyparview_state.specs.Unpack.{unpack, station-of, settings-at, own-at, PackedState, Becomes}
+use Rattle.hyparview_state.specs.Work.{work-of, run, run-of, Changes, DrawsAny, Room, Tells, TellsAny, Fine, Does}
+use Rattle.hyparview_state.proofs.Access.{of-settings}
+use Rattle.hyparview_state.proofs.Fields.{put-next-interval}
+use Rattle.hyparview_state.proofs.Bridge.{guard-shut, on-done, by, tell-by, still, then, then-tell, seq, seq-at, taken, left}
+use Rattle.hyparview_state.proofs.Any.{then-drawn, then-one-of, then-shuffle, then-tell-any, told-at}
 use Rattle.step_sending.proofs.Sets.{few-taken, lent-items, lent-count, shuffled-by, shuffle-of}
 
 -- ---- the interval
@@ -55,20 +55,20 @@ schedule-rests g h =
     ap (λ (x : Run). emit e (draw 1 x)) (guard-shut g _ h) ∙ (ap (emit e) (guard-shut g _ h) ∙ guard-shut g _ h)
 
 pub not-scheduled : (w : Work) (xs ds out : List ℕ) → Fine (work-of w xs) ds out → (w .code ≡ 0 → ⊥) → Does (work-of w xs) ds out (schedule-shuffle (run (work-of w xs) ds out))
-unfolding run
+unfolding run-of
 not-scheduled w xs ds out v h = by _ (schedule-rests _ h) (still v)
 
 scheduled-is : (w : Work) (xs ds out : List ℕ) (x d : ℕ) → x ≡ delay (next-shuffle-interval xs) d → d ≡ getD ds (w .drawn) 0
     → schedule-shuffle (run (work-of w xs) ds out)
     ≡ emit (rec-in (record { kind = 1; message = 0; flags = 0; peer = 0; second = x; ttl = 0; number = 0 }) []) (draw 1 (on double-interval (run (work-of w xs) ds out)))
-unfolding schedule-shuffle rec-in run unpack station-of drawn
+unfolding schedule-shuffle rec-in run-of unpack station-of drawn
 scheduled-is w xs ds out x d e q = ap (λ (n : ℕ). emit (timer 1 0 n 0) (draw 1 (on double-interval (run (work-of w xs) ds out)))) (ap (delay (next-shuffle-interval xs)) (sym q) ∙ sym e)
 
 pub scheduled : (w a b r : Work) (xs ys ds out o : List ℕ) (x d : ℕ) → Fine (work-of w xs) ds out → x ≡ delay (next-shuffle-interval xs) d → d ≡ getD ds (a .drawn) 0
     → TellsAny (emit (rec-in (record { kind = 1; message = 0; flags = 0; peer = 0; second = x; ttl = 0; number = 0 }) [])) b r out o
     → DrawsAny (draw 1) a b ds → Changes (on double-interval) (work-of w xs) (work-of a ys) → Does (work-of r ys) ds o (schedule-shuffle (run (work-of w xs) ds out))
 scheduled w a b r xs ys ds out o x d v e q k₃ k₂ k₁ =
-    by _ (scheduled-is w xs ds out x d e (q ∙ ap (λ (n : ℕ). getD ds n 0) (k₁ .drawn))) (then-tell-any k₃ (then-draw-any k₂ (then k₁ (still v))))
+    by _ (scheduled-is w xs ds out x d e (q ∙ ap (λ (n : ℕ). getD ds n 0) (k₁ .drawn))) (then-tell-any _ k₃ (then-drawn _ k₂ (then k₁ (still v))))
 
 -- ---- the message
 
@@ -88,12 +88,12 @@ pub shuffle-told : (w r : Work) (xs out o v : List ℕ) (n to : ℕ) (named ns :
     → HoldsNodes named (peer-infos (unpack xs) (take n v)) → HoldsNodes ns (nodes-in named ++ (node-in (record { id = me xs; «data» = d }) ∷ []))
     → TellsAny (emit (rec-in (record { kind = 0; message = 2; flags = 0; peer = to; second = me xs; ttl = shuffle-random-walk-length xs; number = 0 }) (nodes-in ns))) w r out o
     → Tells (send-shuffle to (items-at 32 v)) (work-of w xs) (work-of r xs) out o
-unfolding send-shuffle shuffle-nodes rec-in node-in run unpack station-of settings-at
+unfolding send-shuffle shuffle-nodes rec-in node-in run-of unpack station-of settings-at
 shuffle-told w r xs out o v n to named ns d f s c q h e k =
     let names : nodes-in named ≡ peer-infos (unpack xs) (items-at 32 v) = h .holds ∙ ap (peer-infos (unpack xs)) (lent-items v n s c) in
     tell-by {g = emit (rec-in (record { kind = 0; message = 2; flags = 0; peer = to; second = me xs; ttl = shuffle-random-walk-length xs; number = 0 }) (nodes-in ns))} (send-shuffle to (items-at 32 v))
     (λ ds. ap (λ (x : List Node). emit (message 2 to 0 (me xs) (shuffle-random-walk-length xs) x) (run (work-of w xs) ds out)) (sym (e .holds ∙ (λ i. names i ++ (node-in (record { id = me xs; «data» = q i }) ∷ [])))))
-    (k .any xs (f .packed))
+    (told-at xs (f .packed) _ k)
 
 -- ---- the peers that it names
 
@@ -127,20 +127,20 @@ module _ (w a r : Work) (xs ds out o : List ℕ) (to : ℕ) (f : Fine (work-of w
       → HoldsSet 32 m (take (shuffle-passive-view-count xs) (shuffled-by w ds (without to (items-at 32 (layout.passive-part xs)))))
       → HoldsSet 32 all (items-at 32 v ++ items-at 32 m) → Tells (send-shuffle to (items-at 32 all)) (work-of a xs) (work-of r xs) out o
       → Does (work-of r xs) ds o (shuffle-passive to (items-at 32 v) (run (work-of w xs) ds out))
-  unfolding shuffle-passive passive-sample shuffled to-draw run unpack station-of settings-at
+  unfolding shuffle-passive passive-sample shuffled to-draw run-of unpack station-of settings-at
   passive-done v m all k h e t =
       by _
       (ap (λ (l : List ℕ). send-shuffle to l (draw-shuffle (without to (items-at 32 (layout.passive-part xs))) (run (work-of w xs) ds out)))
       (sym (e .items ∙ ap (λ (l : List ℕ). items-at 32 v ++ l) (h .items))))
-      (then-tell t (then-draw-any k (still f)))
+      (then-tell t (then-shuffle _ k (still f)))
 
   pub with-done : (v : List ℕ) → DrawsAny (draw-shuffle (without to (items-at 8 (layout.active-part xs)))) w a ds
       → HoldsSet 32 v (take (shuffle-active-view-count xs) (shuffled-by w ds (without to (items-at 8 (layout.active-part xs)))))
       → Does (work-of r xs) ds o (shuffle-passive to (items-at 32 v) (run (work-of a xs) ds out)) → Does (work-of r xs) ds o (shuffle-with to (run (work-of w xs) ds out))
-  unfolding shuffle-with active-sample shuffled to-draw run unpack station-of settings-at
+  unfolding shuffle-with active-sample shuffled to-draw run-of unpack station-of settings-at
   with-done v k h d =
       by _ (ap (λ (l : List ℕ). shuffle-passive to l (draw-shuffle (without to (items-at 8 (layout.active-part xs))) (run (work-of w xs) ds out))) (sym (h .items)))
-      (seq (shuffle-passive to (items-at 32 v)) d (then-draw-any k (still f)))
+      (seq (shuffle-passive to (items-at 32 v)) d (then-shuffle _ k (still f)))
 
 -- ---- to whom
 
@@ -156,15 +156,15 @@ null-some (x ∷ l) h = refl
 
 module _ (w : Work) (xs ds out : List ℕ) (n : ℕ) (f : Fine (work-of w xs) ds out) (c : n ≡ length (items-at 8 (layout.active-part xs))) where
   pub none-asked : n ≡ 0 → Does (work-of w xs) ds out (shuffle-any (run (work-of w xs) ds out))
-  unfolding shuffle-any is-alone run unpack station-of
+  unfolding shuffle-any is-alone run-of unpack station-of
   none-asked z = taken _ _ (null-none (items-at 8 (layout.active-part xs)) (sym z ∙ c)) (still f)
 
   module _ (i p : ℕ) (j : i ≡ pick n (drop (w .drawn) ds)) (q : p ≡ getD (items-at 8 (layout.active-part xs)) i 0) where
     picked-is : p ≡ picked (run (work-of w xs) ds out .station .active) (run (work-of w xs) ds out)
-    unfolding picked one-of to-draw run unpack station-of
+    unfolding picked one-of to-draw run-of unpack station-of
     picked-is = q ∙ ap (λ (k : ℕ). getD (items-at 8 (layout.active-part xs)) k 0) (j ∙ ap (λ (k : ℕ). pick k (drop (w .drawn) ds)) c)
 
     pub one-asked : (a r : Work) (o : List ℕ) → (n ≡ 0 → ⊥) → Does (work-of r xs) ds o (shuffle-with p (run (work-of a xs) ds out)) → DrawsAny (draw-one-of n) w a ds → Does (work-of r xs) ds o (shuffle-any (run (work-of w xs) ds out))
-    unfolding shuffle-any is-alone run unpack station-of
+    unfolding shuffle-any is-alone run-of unpack station-of
     one-asked a r o h k₂ k₁ =
-        left _ _ (null-some (items-at 8 (layout.active-part xs)) (λ z. h (c ∙ sym z))) (seq-at shuffle-with picked-is k₂ (then-draw-any (subst (λ (m : ℕ). DrawsAny (draw-one-of m) w a ds) c k₁) (still f)))
+        left _ _ (null-some (items-at 8 (layout.active-part xs)) (λ z. h (c ∙ sym z))) (seq-at shuffle-with picked-is k₂ (then-one-of _ (subst (λ (m : ℕ). DrawsAny (draw-one-of m) w a ds) c k₁) (still f)))

@@ -8,20 +8,20 @@ use native.Mathlib.Omega.{arith}
 use lib.ListN.{replicate}
 use lib.Dec.{leb, eqb}
 use borrow.Author.Tests.{leb-true, lt-ltb}
-use Rattle.lists.specs.Lists.{choose}
-use Rattle.lists.specs.Tests.{every, All}
-use Rattle.lists.proofs.Choice.{split, and-left, and-right}
+use Rattle.base_lists.specs.Lists.{choose}
+use Rattle.base_lists.specs.Tests.{every, All}
+use Rattle.base_lists.proofs.Choice.{split, and-left, and-right}
 use Rattle.record.specs.Format.{Rec, header-by, encode, encode-by}
 use Rattle.record.specs.Read as Rd
 use Rattle.record.specs.InForm.{InForm, header-in-by}
 use Rattle.record.specs.Walk.{kind-in, message-in}
 use Rattle.record.proofs.Walk.{records-written, records-zeros}
-use Rattle.protocol.specs.Written.{encode-all}
-use Rattle.lists.proofs.Members.{both}
-use Rattle.history.specs.Ledger.{Ledger, empty-ledger, feed}
-use Rattle.history.specs.Calls.{Call, Machine, code-of, state-of, output-of, ledger-after}
-use Rattle.history.specs.Outputs.{ReadsBack, OutputsRead}
-use Rattle.history.proofs.Outputs.{form-small, outputs-read-back}
+use Rattle.spec_hyparview.specs.Written.{encode-all}
+use Rattle.base_lists.proofs.Members.{both}
+use Rattle.spec_history.specs.Ledger.{Ledger, empty-ledger, feed}
+use Rattle.spec_history.specs.Calls.{Call, Machine, code-of, state-of, output-of, ledger-after}
+use Rattle.spec_history.specs.Outputs.{ReadsBack, OutputsRead}
+use Rattle.spec_history.proofs.Outputs.{form-small, outputs-read-back}
 use Rattle.tally.specs.declared.Tally.{Tally}
 use Rattle.tally.specs.Counts.{top, raised}
 use Rattle.tally.specs.Sum.{total, has-count, all-have}

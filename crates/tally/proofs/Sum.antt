@@ -7,12 +7,12 @@ use mathlib.Core.List.{List, [], _∷_}
 use native.Mathlib.Omega.{arith}
 use lib.Dec.{eqb}
 use borrow.Author.Tests.{eqb-true, lt-ltb, ltb-true}
-use Rattle.lists.specs.Lists.{choose}
-use Rattle.lists.specs.Tests.{every}
-use Rattle.lists.proofs.Choice.{by-choice, split, and-left, and-right}
+use Rattle.base_lists.specs.Lists.{choose}
+use Rattle.base_lists.specs.Tests.{every}
+use Rattle.base_lists.proofs.Choice.{by-choice, split, and-left, and-right}
 use Rattle.record.specs.Walk.{kind-in, message-in, peer-in, records-in, walk}
-use Rattle.history.specs.Ledger.{Ledger, count-message, note-up, note-down, read-records, open-event, feed}
-use Rattle.history.specs.Ledger.{note-record as book}
+use Rattle.spec_history.specs.Ledger.{Ledger, count-message, note-up, note-down, read-records, open-event, feed}
+use Rattle.spec_history.specs.Ledger.{note-record as book}
 use Rattle.tally.specs.declared.Tally.{Tally}
 use Rattle.tally.specs.Counts.{top, counted, raise-one, enter, raise-records, raised}
 use Rattle.tally.specs.Sum.{total, has-count, all-have}

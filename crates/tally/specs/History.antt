@@ -4,8 +4,8 @@ use Prim.Native.Nat.{ℕ, _≤_}
 use mathlib.Core.Bool.{true}
 use mathlib.Core.List.{List, [], _∷_}
 use mathlib.Core.Path.{_≡_}
-use Rattle.history.specs.Ledger.{empty-ledger}
-use Rattle.history.specs.Calls.{Call, narrow-draws, Machine, After-new, code-of, state-of, output-of, ledger-after, definition}
+use Rattle.spec_history.specs.Ledger.{empty-ledger}
+use Rattle.spec_history.specs.Calls.{Call, narrow-draws, Machine, After-new, code-of, state-of, output-of, ledger-after, definition}
 use Rattle.tally.specs.declared.Tally.{Tally}
 use Rattle.tally.specs.Counts.{top, raised}
 use Rattle.tally.specs.Sum.{total}

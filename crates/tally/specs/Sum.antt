@@ -4,8 +4,8 @@ use Prim.Native.Nat.{ℕ, _+_}
 use mathlib.Core.Bool.{Bool, true}
 use mathlib.Core.List.{List}
 use lib.Dec.{ltb, eqb}
-use Rattle.lists.specs.Lists.{choose}
-use Rattle.lists.specs.Tests.{every}
+use Rattle.base_lists.specs.Lists.{choose}
+use Rattle.base_lists.specs.Tests.{every}
 use Rattle.record.specs.Walk.{kind-in, message-in, records-in}
 use Rattle.tally.specs.declared.Tally.{Tally}
 

@@ -1,5 +1,5 @@
 // Reads cases of the conversion (tools/convert) and writes for each the converted record in hex, where the code is 0, and a line with the code.
-use convert::Converted;
+use record_convert::Converted;
 ghost use Prim.Native.Nat.{_≤_};
 ghost use lib.ListN.{length};
 
@@ -50,9 +50,9 @@ fn convert_to(form: u8, b: &[u8], out: &mut [u8]) -> Converted
     ensures { λ r. ⌜ r .written ≤ length (now (out .entry)) ⌝ }
 {
     if form == 0 {
-        return convert::old_to_new(b, out);
+        return record_convert::old_to_new(b, out);
     }
-    convert::new_to_old(b, out)
+    record_convert::new_to_old(b, out)
 }
 
 fn show_result(r: Converted, out: &[u8])

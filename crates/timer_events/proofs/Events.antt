@@ -8,8 +8,8 @@ use lib.Dec.{ltb, leb, eqb}
 use mir.Val.{Fits}
 use mir.Syntax.{w8}
 use borrow.Author.Tests.{eqb-true, eq-eqb, leb-true, le-leb, ltb-true, ltb-false}
-use Rattle.lists.proofs.Choice.{or-true, and-left, and-right}
-use Rattle.lists.proofs.Tests.{both-true}
+use Rattle.base_lists.proofs.Choice.{or-true, and-left, and-right}
+use Rattle.base_lists.proofs.Tests.{both-true}
 use Rattle.timer_map.specs.declared.TimerMapEntry.{TimerMapEntry}
 use Rattle.timer_events.specs.Events.{has-event}
 

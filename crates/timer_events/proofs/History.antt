@@ -9,9 +9,9 @@ use native.Mathlib.Omega.{arith}
 use lib.ListN.{length, getD}
 use lib.Dec.{leb, eqb}
 use borrow.Author.Tests.{eq-eqb, ne-eqb, leb-true, leb-false}
-use Rattle.lists.specs.Lists.{choose, null, mem, index-of, shift-remove}
-use Rattle.lists.proofs.Choice.{split, clash, and-right, choose-yes, choose-no}
-use Rattle.writer.specs.Write.{fits, written}
+use Rattle.base_lists.specs.Lists.{choose, null, mem, index-of, shift-remove}
+use Rattle.base_lists.proofs.Choice.{split, clash, and-right, choose-yes, choose-no}
+use Rattle.record_writer.specs.Write.{fits, written}
 use Rattle.timer_map.specs.Entries as E
 use Rattle.timer_map.specs.Entries.{Put, due-times, soonest, first-entry, is-due, no-queue-entry}
 use Rattle.timer_map.specs.Words.{pack-queue}

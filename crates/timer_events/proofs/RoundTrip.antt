@@ -9,10 +9,10 @@ use lib.ListN.{length, getD}
 use lib.Seq.{take-length}
 use lib.Dec.{ltb, leb, eqb}
 use borrow.Author.Tests.{eqb-true, leb-true, leb-false, ltb-true, le-ltb}
-use Rattle.lists.specs.Lists.{choose}
-use Rattle.lists.proofs.Choice.{split, and-left, and-right, choose-yes, choose-no}
-use Rattle.lists.proofs.Numbers.{Bytes}
-use Rattle.lists.proofs.Tests.{both-true}
+use Rattle.base_lists.specs.Lists.{choose}
+use Rattle.base_lists.proofs.Choice.{split, and-left, and-right, choose-yes, choose-no}
+use Rattle.base_lists.proofs.Numbers.{Bytes}
+use Rattle.base_lists.proofs.Tests.{both-true}
 use Rattle.record.specs.Format.{peer-length, header-length, size, size-by, datas, encode}
 use Rattle.record.specs.Read.{fixed-size, header-of, header-of-by, is-message, is-timer, is-data, kind-ok, flags-ok, count-ok, peer-ok, fields-ok, header-ok, well-formed, rec-of, rec-of-by, nodes-of, nodes-of-by, is-event, event, read-event}
 use Rattle.record.specs.InForm.{InForm, NodesInFormBy, header-in, header-in-by}
@@ -22,8 +22,8 @@ use Rattle.record.specs.declared.Answer.the-variants as Answers
 use Rattle.record.proofs.Back.{in-form-back, parts}
 use Rattle.record.proofs.Forth.{header-read, well-formed-encode, rec-of-encode}
 use Rattle.record.proofs.Format.{length-encode}
-use Rattle.protocol.specs.Station.{peers-end}
-use Rattle.protocol.specs.Rules.{all-under}
+use Rattle.spec_hyparview.specs.Station.{peers-end}
+use Rattle.spec_hyparview.specs.Rules.{all-under}
 use Rattle.timer_map.specs.declared.TimerMapEntry.{TimerMapEntry}
 use Rattle.timer_events.specs.declared.ScheduleTimer.{ScheduleTimer}
 use Rattle.timer_events.specs.Records.{started, started-by, schedule-of}

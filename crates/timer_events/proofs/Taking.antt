@@ -6,13 +6,13 @@ use mathlib.Core.Bool.{Bool, true, false}
 use mathlib.Core.List.{List, []}
 use native.Mathlib.Omega.{arith}
 use lib.ListN.{length}
-use Rattle.lists.specs.Lists.{shift-remove}
-use Rattle.lists.proofs.Choice.{split, choose-yes, choose-no}
+use Rattle.base_lists.specs.Lists.{shift-remove}
+use Rattle.base_lists.proofs.Choice.{split, choose-yes, choose-no}
 use Rattle.record.specs.Format.{Rec, size}
-use Rattle.writer.specs.Write.{rec-in, fits, written, reached, Wrote}
-use Rattle.writer.specs.declared.Fields.{Fields}
-use Rattle.writer.specs.declared.Written.{Written}
-use Rattle.writer.specs.declared.Written.the-variants.{At, Full}
+use Rattle.record_writer.specs.Write.{rec-in, fits, written, reached, Wrote}
+use Rattle.record_writer.specs.declared.Fields.{Fields}
+use Rattle.record_writer.specs.declared.Written.{Written}
+use Rattle.record_writer.specs.declared.Written.the-variants.{At, Full}
 use Rattle.timer_map.specs.Entries.{soonest, first-entry, is-due}
 use Rattle.timer_map.specs.Words.{entries-of, queue-ok, pack-queue, SoundQueue}
 use Rattle.timer_map.specs.Calls.{due-in}

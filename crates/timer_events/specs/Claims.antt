@@ -5,12 +5,12 @@ use mathlib.Core.Path.{_≡_}
 use mathlib.Core.Bool.{true, false}
 use mathlib.Core.List.{List, []}
 use lib.ListN.{length, getD}
-use Rattle.lists.specs.Lists.{mem}
+use Rattle.base_lists.specs.Lists.{mem}
 use Rattle.record.specs.Format.{Rec, encode}
 use Rattle.record.specs.Read as R
 use Rattle.record.specs.Read.{header-of, is-timer, well-formed, rec-of, read-event}
-use Rattle.protocol.specs.Rules.{all-under}
-use Rattle.writer.specs.Write.{written}
+use Rattle.spec_hyparview.specs.Rules.{all-under}
+use Rattle.record_writer.specs.Write.{written}
 use Rattle.timer_map.specs.Entries.{no-queue-entry}
 use Rattle.timer_map.specs.Words.{pack-queue}
 use Rattle.timer_map.specs.Calls.{renewed}

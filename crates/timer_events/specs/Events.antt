@@ -5,9 +5,9 @@ use mathlib.Core.Bool.{Bool, true, false, _&&_, _||_}
 use mathlib.Core.List.{List, []}
 use lib.ListN.{length}
 use lib.Dec.{ltb, leb, eqb}
-use Rattle.lists.specs.Lists.{choose, shift-remove}
+use Rattle.base_lists.specs.Lists.{choose, shift-remove}
 use Rattle.record.specs.Format.{Rec}
-use Rattle.writer.specs.Write.{fits, written}
+use Rattle.record_writer.specs.Write.{fits, written}
 use Rattle.timer_map.specs.Entries.{soonest, first-entry, is-due}
 use Rattle.timer_map.specs.Words.{entries-of, queue-ok, pack-queue}
 use Rattle.timer_map.specs.declared.TimerMapEntry.{TimerMapEntry}

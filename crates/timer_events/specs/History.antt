@@ -6,7 +6,7 @@ use mathlib.Core.List.{List, [], _∷_, _++_}
 use mathlib.Core.Option.{Option, none, some}
 use lib.ListN.{length, getD}
 use lib.Dec.{eqb}
-use Rattle.lists.specs.Lists.{choose, index-of, shift-remove}
+use Rattle.base_lists.specs.Lists.{choose, index-of, shift-remove}
 use Rattle.timer_map.specs.Entries.{due-times, no-queue-entry}
 use Rattle.timer_map.specs.Calls.{inserted, taken-out, first-in, count-in}
 use Rattle.timer_map.specs.declared.Timer.{Timer}

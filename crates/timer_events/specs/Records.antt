@@ -4,7 +4,7 @@ use Prim.Native.Nat.{ℕ}
 use mathlib.Core.List.{List, [], _∷_, flatMap}
 use lib.ListN.{length, take}
 use lib.Dec.{ltb, eqb}
-use Rattle.lists.specs.Lists.{choose}
+use Rattle.base_lists.specs.Lists.{choose}
 use Rattle.record.specs.Read.{header-of, is-timer}
 use Rattle.record.specs.Walk.{whole-length, records-in}
 use Rattle.record.specs.Answers.{answer}

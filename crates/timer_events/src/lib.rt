@@ -3,15 +3,15 @@ use record::HEADER;
 use record::Header;
 use record::Kind;
 use record::Refusal;
+use record_writer::Fields;
 use timer_map::Id;
 use timer_map::Timer;
 use timer_map::TimerMapEntry;
-use writer::Fields;
 ghost use mathlib.Core.Path.{_≡_};
 ghost use mathlib.Core.Bool.{true};
 ghost use mathlib.Core.List.{[]};
 ghost use Rattle.record.specs.Read.{header-of};
-ghost use Rattle.writer.specs.Write.{rec-in};
+ghost use Rattle.record_writer.specs.Write.{rec-in};
 ghost use Rattle.timer_map.specs.Words.{entries-of, SoundQueue};
 ghost use Rattle.timer_map.specs.Calls.{packed-put};
 ghost use Rattle.timer_events.specs.Records.{no-start, started, schedule-of, timer-of, timers-in, insert-all, insert-records, records-inserted};
@@ -198,9 +198,9 @@ fn pop_event_ok(q: &mut [u64], limit: u64, out: &mut [u8]) -> PoppedEvent
         let i = d.place;
         if has_event(e) {
             let f = fields(e);
-            let w = writer::write_bare(out, 0, f);
+            let w = record_writer::write_bare(out, 0, f);
             match w {
-                writer::Written::At(_) => {
+                record_writer::Written::At(_) => {
                     timer_map::remove_entry(q, i);
                     return PoppedEvent {
                         code: 0,
@@ -208,7 +208,7 @@ fn pop_event_ok(q: &mut [u64], limit: u64, out: &mut [u8]) -> PoppedEvent
                         time: e.time,
                     };
                 }
-                writer::Written::Full => {
+                record_writer::Written::Full => {
                     return no_event(Refusal::OUTPUT);
                 }
             }

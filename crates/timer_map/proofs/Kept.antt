@@ -8,11 +8,11 @@ use native.Mathlib.Omega.{arith}
 use lib.ListN.{length, length-append}
 use lib.Dec.{eqb}
 use borrow.Author.Tests.{eqb-true, eqb-false}
-use Rattle.lists.specs.Lists.{shift-remove}
-use Rattle.lists.specs.Tests.{every}
-use Rattle.lists.proofs.Array.{length-shift-remove}
-use Rattle.lists.proofs.Choice.{by-choice, split, and-left, and-right}
-use Rattle.lists.proofs.Tests.{both-true}
+use Rattle.base_lists.specs.Lists.{shift-remove}
+use Rattle.base_lists.specs.Tests.{every}
+use Rattle.base_lists.proofs.Array.{length-shift-remove}
+use Rattle.base_lists.proofs.Choice.{by-choice, split, and-left, and-right}
+use Rattle.base_lists.proofs.Tests.{both-true}
 use Rattle.timer_map.specs.Entries.{Put, timer-ok, queue-entry-ok, insert-refusal, insert-timer}
 use Rattle.timer_map.specs.Words.{entries-of, queue-ok, pack-queue, SoundQueue}
 use Rattle.timer_map.specs.declared.Timer.{Timer}

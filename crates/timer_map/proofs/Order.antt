@@ -8,8 +8,8 @@ use native.Mathlib.Omega.{arith}
 use lib.ListN.{length, getD}
 use lib.Dec.{ltb, eqb}
 use borrow.Author.Tests.{ltb-true, ltb-false, le-ltb, eq-eqb, ne-eqb, eqb-true, eqb-false}
-use Rattle.lists.specs.Lists.{choose, index-of}
-use Rattle.lists.proofs.Choice.{split, choose-yes, choose-no}
+use Rattle.base_lists.specs.Lists.{choose, index-of}
+use Rattle.base_lists.proofs.Choice.{split, choose-yes, choose-no}
 use Rattle.timer_map.specs.Entries.{due-times, least, smallest, soonest, first-entry, no-queue-entry}
 use Rattle.timer_map.specs.Words.{queue-entry-at, queue-entries-at}
 use Rattle.timer_map.specs.declared.TimerMapEntry.{TimerMapEntry}

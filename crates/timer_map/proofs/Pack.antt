@@ -10,12 +10,12 @@ use lib.ListN.{length, take, drop, getD, set, replicate, length-append, length-d
 use lib.Seq.{take-at, drop-at, split-at, length-take-le, take-add, drop-drop, drop-cons, getD-drop, getD-append-add}
 use lib.Dec.{eqb, leb}
 use borrow.Author.Tests.{eqb-true, eq-eqb, leb-true, le-leb}
-use Rattle.lists.specs.Lists.{shift-remove}
-use Rattle.lists.specs.Bytes.{overwrite}
-use Rattle.lists.specs.Tests.{every}
-use Rattle.lists.proofs.Bytes.{overwrite-is}
-use Rattle.lists.proofs.Choice.{and-left, and-right}
-use Rattle.lists.proofs.Tests.{both-true}
+use Rattle.base_lists.specs.Lists.{shift-remove}
+use Rattle.base_lists.specs.Bytes.{overwrite}
+use Rattle.base_lists.specs.Tests.{every}
+use Rattle.base_lists.proofs.Bytes.{overwrite-is}
+use Rattle.base_lists.proofs.Choice.{and-left, and-right}
+use Rattle.base_lists.proofs.Tests.{both-true}
 use Rattle.timer_map.specs.Entries.{queue-entry-ok, no-queue-entry}
 use Rattle.timer_map.specs.Words.{queue-row, queue-rows, pack-queue, queue-entry-at, queue-entries-at, entries-of, queue-count, unused-word, queue-ok, SoundQueue}
 use Rattle.timer_map.specs.declared.TimerMapEntry.{TimerMapEntry}

@@ -7,8 +7,8 @@ use native.Mathlib.Numerals.{add-one}
 use native.Mathlib.Omega.{arith}
 use lib.ListN.{length, take, drop, getD, set, replicate, length-set, length-drop, take-append-drop, replicate-append-replicate}
 use lib.Seq.{take-suc, take-suc-set, take-all, take-length, length-take-le, drop-set-lt, getD-drop}
-use Rattle.lists.specs.Bytes.{overwrite}
-use Rattle.lists.proofs.Bytes.{overwrite-append}
+use Rattle.base_lists.specs.Bytes.{overwrite}
+use Rattle.base_lists.proofs.Bytes.{overwrite-append}
 
 -- ---- the first i of the words ws are stored from place `at` on
 

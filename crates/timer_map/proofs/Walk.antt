@@ -6,7 +6,7 @@ use mathlib.Core.Bool.{Bool, true, _&&_, and-true, and-assoc}
 use mathlib.Core.List.{List, [], _∷_}
 use native.Mathlib.Omega.{arith}
 use lib.ListN.{length}
-use Rattle.lists.specs.Tests.{every}
+use Rattle.base_lists.specs.Tests.{every}
 use Rattle.timer_map.specs.Entries.{timer-ok, queue-entry-ok}
 use Rattle.timer_map.specs.Words.{queue-entry-at, queue-entries-at}
 use Rattle.timer_map.specs.declared.TimerMapEntry.{TimerMapEntry}

@@ -10,9 +10,9 @@ use lib.Dec.{ltb, leb}
 use mir.Val.{Fits}
 use mir.Syntax.{w64}
 use borrow.Author.Tests.{eq-eqb, ne-eqb, ltb-true, ltb-false, lt-ltb, le-ltb, leb-false, le-leb, lt-leb}
-use Rattle.lists.specs.Lists.{null, shift-remove}
-use Rattle.lists.specs.Tests.{every}
-use Rattle.lists.proofs.Choice.{split, clash, choose-yes, choose-no}
+use Rattle.base_lists.specs.Lists.{null, shift-remove}
+use Rattle.base_lists.specs.Tests.{every}
+use Rattle.base_lists.proofs.Choice.{split, clash, choose-yes, choose-no}
 use Rattle.timer_map.specs.Entries.{latest, queue-entry-ok, timer-ok, insert-refusal, insert-timer, soonest, first-entry, is-due, popped-entries, no-queue-entry}
 use Rattle.timer_map.specs.Words.{queue-count, queue-entry-at, queue-entries-at, entries-of, unused-word, queue-ok, queue-rows, pack-queue, SoundQueue}
 use Rattle.timer_map.specs.Calls.{PutWords, packed-put, inserted, PoppedWords, refused-pop, no-due, due-in, popped, popped-words, taken-out, first-of, first-in, count-in, renewed}

@@ -5,7 +5,7 @@ use mathlib.Core.Bool.{true, false}
 use mathlib.Core.List.{List, []}
 use lib.ListN.{length}
 use lib.Dec.{eqb}
-use Rattle.lists.specs.Lists.{choose, null}
+use Rattle.base_lists.specs.Lists.{choose, null}
 use Rattle.timer_map.specs.Entries.{Put, insert-timer, is-due, soonest, first-entry, no-queue-entry, popped-entries}
 use Rattle.timer_map.specs.Words.{queue-words, entries-of, queue-ok, pack-queue}
 use Rattle.timer_map.specs.declared.Timer.{Timer}

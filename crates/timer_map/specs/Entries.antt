@@ -5,7 +5,7 @@ use mathlib.Core.Bool.{Bool, not, _&&_}
 use mathlib.Core.List.{List, [], _∷_, _++_}
 use lib.ListN.{length, getD}
 use lib.Dec.{ltb, leb, eqb}
-use Rattle.lists.specs.Lists.{choose, null, index-of, shift-remove}
+use Rattle.base_lists.specs.Lists.{choose, null, index-of, shift-remove}
 use Rattle.timer_map.specs.declared.Id.{Id}
 use Rattle.timer_map.specs.declared.Timer.{Timer}
 use Rattle.timer_map.specs.declared.TimerMapEntry.{TimerMapEntry}

@@ -6,7 +6,7 @@ use mathlib.Core.Bool.{Bool, true, _&&_}
 use mathlib.Core.List.{List, [], _∷_, _++_}
 use lib.ListN.{length, drop, getD, replicate}
 use lib.Dec.{leb, eqb}
-use Rattle.lists.specs.Tests.{every}
+use Rattle.base_lists.specs.Tests.{every}
 use Rattle.timer_map.specs.Entries.{capacity, queue-entry-ok}
 use Rattle.timer_map.specs.declared.TimerMapEntry.{TimerMapEntry}
 

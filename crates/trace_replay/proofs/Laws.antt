@@ -10,12 +10,12 @@ use lib.ListN.{length, take, drop, set, replicate}
 use lib.Dec.{leb, eqb}
 use borrow.Author.Tests.{leb-true, eq-eqb, ne-eqb}
 use Rattle.io.specs.Counts.{Counts}
-use Rattle.lists.proofs.Choice.{choose-yes, choose-no, and-left}
-use Rattle.protocol.specs.Station.{Station}
-use Rattle.protocol.specs.Handle as P
-use Rattle.lists.specs.Array.{pad}
-use Rattle.state.specs.Layout.{words, next-neighbor-request-at, next-join-at, passes-alone-at, passes-short-at}
-use Rattle.rules.specs.Pack.{pack, front}
+use Rattle.base_lists.proofs.Choice.{choose-yes, choose-no, and-left}
+use Rattle.spec_hyparview.specs.Station.{Station}
+use Rattle.spec_hyparview.specs.Handle as P
+use Rattle.base_lists.specs.Array.{pad}
+use Rattle.hyparview_state.specs.Layout.{words, next-neighbor-request-at, next-join-at, passes-alone-at, passes-short-at}
+use Rattle.hyparview_rules.specs.Pack.{pack, front}
 use Rattle.hyparview.specs.Made as packed
 use Rattle.hyparview.specs.Made.{lent, pack-made}
 use Rattle.hyparview.specs.declared.State.{State}

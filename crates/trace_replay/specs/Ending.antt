@@ -6,11 +6,11 @@ use mathlib.Core.Option.{none}
 use lib.ListN.{drop}
 use lib.Seq.{slice}
 use lib.Dec.{eqb}
-use Rattle.lists.specs.Lists.{choose}
-use Rattle.protocol.specs.Station.{Station}
-use Rattle.protocol.specs.Setters.{set-passes-alone, set-passes-short, set-next-request, set-next-join}
-use Rattle.protocol.specs.Handle.{Made, new, zero-station}
-use Rattle.rules.specs.Pack.{pack}
+use Rattle.base_lists.specs.Lists.{choose}
+use Rattle.spec_hyparview.specs.Station.{Station}
+use Rattle.spec_hyparview.specs.Setters.{set-passes-alone, set-passes-short, set-next-request, set-next-join}
+use Rattle.spec_hyparview.specs.Handle.{Made, new, zero-station}
+use Rattle.hyparview_rules.specs.Pack.{pack}
 use Rattle.hyparview.specs.Room.{output-room}
 use Rattle.hyparview.specs.Handled.{handled}
 use Rattle.run_input.specs.declared.Head.{Head}

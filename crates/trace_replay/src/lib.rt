@@ -96,7 +96,7 @@ pub fn history(b: &[u8], start: TraceStart) -> Ended
             Ended {
                 code: Refusal::MALFORMED,
                 state: State {
-                    words: [0u64; state::Layout::LENGTH],
+                    words: [0u64; hyparview_state::Layout::LENGTH],
                 },
             }
         }
@@ -112,10 +112,10 @@ pub fn history(b: &[u8], start: TraceStart) -> Ended
                 };
             }
             let mut words = fresh.words;
-            words[state::Layout::NEXT_NEIGHBOR_REQUEST] = start.next_neighbor_request;
-            words[state::Layout::NEXT_JOIN] = start.next_join;
-            words[state::Layout::PASSES_ALONE] = start.passes_alone as u64;
-            words[state::Layout::PASSES_SHORT] = start.passes_short as u64;
+            words[hyparview_state::Layout::NEXT_NEIGHBOR_REQUEST] = start.next_neighbor_request;
+            words[hyparview_state::Layout::NEXT_JOIN] = start.next_join;
+            words[hyparview_state::Layout::PASSES_ALONE] = start.passes_alone as u64;
+            words[hyparview_state::Layout::PASSES_SHORT] = start.passes_short as u64;
             let most = hyparview::OUTPUT;
             let room = if start.room < most { start.room } else { most };
             Ended {

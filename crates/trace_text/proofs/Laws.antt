@@ -5,13 +5,13 @@ use mathlib.Core.Path.{_≡_, sym, ap, _∙_}
 use mathlib.Core.List.{List, [], _∷_}
 use lib.ListN.{length, take, drop}
 use borrow.Author.Tests.{eq-eqb, ne-eqb}
-use Rattle.lists.proofs.Choice.{choose-yes, choose-no}
-use Rattle.peer.specs.Held.{data-in}
-use Rattle.columns.specs.Columns.{word-bytes}
+use Rattle.base_lists.proofs.Choice.{choose-yes, choose-no}
+use Rattle.base_peer.specs.Held.{data-in}
+use Rattle.base_columns.specs.Columns.{word-bytes}
 use Rattle.record.specs.Walk.{records-in}
-use Rattle.state.specs.declared.RefillLimit.{RefillLimit}
-use Rattle.state.specs.Layout as layout
-use Rattle.state.specs.Unpack.{own-at, limit-at}
+use Rattle.hyparview_state.specs.declared.RefillLimit.{RefillLimit}
+use Rattle.hyparview_state.specs.Layout as layout
+use Rattle.hyparview_state.specs.Unpack.{own-at, limit-at}
 use Rattle.run_text.specs.declared.Text.{Text}
 use Rattle.run_text.specs.Text.{Puts}
 use Rattle.run_text.specs.Numbers.{decimal}

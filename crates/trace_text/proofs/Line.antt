@@ -11,16 +11,16 @@ use lib.ListN.{length, drop, getD, drop-of-length-le}
 use lib.Seq.{drop-cons}
 use lib.Dec.{eqb, ltb, leb}
 use borrow.Author.Tests.{eq-eqb, ne-eqb, eqb-true, eqb-false, lt-ltb, le-ltb, ltb-true, leb-true}
-use Rattle.lists.specs.Lists.{choose}
-use Rattle.lists.proofs.Choice.{choose-yes, choose-no, split, and-left, and-right}
-use Rattle.peer.specs.Data.{Data}
-use Rattle.peer.specs.Held.{data-in}
-use Rattle.util.specs.Section.{part, items-at}
-use Rattle.columns.specs.Columns.{numbers-at, data-map-at}
-use Rattle.state.specs.declared.RefillLimit.{RefillLimit}
-use Rattle.state.specs.declared.RefillLimit.the-variants.{Automatic, Requests, Recovery}
-use Rattle.state.specs.Layout.{words}
-use Rattle.state.specs.Unpack.{own-at, limit-at}
+use Rattle.base_lists.specs.Lists.{choose}
+use Rattle.base_lists.proofs.Choice.{choose-yes, choose-no, split, and-left, and-right}
+use Rattle.base_peer.specs.Data.{Data}
+use Rattle.base_peer.specs.Held.{data-in}
+use Rattle.base_util.specs.Section.{part, items-at}
+use Rattle.base_columns.specs.Columns.{numbers-at, data-map-at}
+use Rattle.hyparview_state.specs.declared.RefillLimit.{RefillLimit}
+use Rattle.hyparview_state.specs.declared.RefillLimit.the-variants.{Automatic, Requests, Recovery}
+use Rattle.hyparview_state.specs.Layout.{words}
+use Rattle.hyparview_state.specs.Unpack.{own-at, limit-at}
 use Rattle.run_text.specs.declared.Text.{Text}
 use Rattle.run_text.specs.Text.{Puts}
 use Rattle.run_text.specs.Numbers.{decimal}

@@ -8,15 +8,15 @@ use native.Mathlib.Omega.{arith}
 use lib.ListN.{length, take, drop, getD, length-take, length-map, drop-of-length-le}
 use lib.Seq.{drop-cons, getD-take}
 use borrow.Author.Tests.{eq-eqb, ne-eqb}
-use Rattle.lists.specs.Maps.{zip}
-use Rattle.lists.proofs.Choice.{choose-yes, choose-no}
-use Rattle.lists.proofs.Entries.{getD-mapped}
-use Rattle.peer.specs.Maps.{no-data, entry-bytes}
-use Rattle.util.specs.Section.{part, items-at}
-use Rattle.util.proofs.Parts.{part-long, part-read}
-use Rattle.columns.specs.Columns.{numbers-at, word-bytes, row, head-of, tail-of, count-of, entries-at, data-map-at}
-use Rattle.columns.proofs.Data.{head-long, tail-long, head-read, low-read, high-read}
-use Rattle.columns.proofs.Rows.{length-rows, getD-rows}
+use Rattle.base_lists.specs.Maps.{zip}
+use Rattle.base_lists.proofs.Choice.{choose-yes, choose-no}
+use Rattle.base_lists.proofs.Entries.{getD-mapped}
+use Rattle.base_peer.specs.Maps.{no-data, entry-bytes}
+use Rattle.base_util.specs.Section.{part, items-at}
+use Rattle.base_util.proofs.Parts.{part-long, part-read}
+use Rattle.base_columns.specs.Columns.{numbers-at, word-bytes, row, head-of, tail-of, count-of, entries-at, data-map-at}
+use Rattle.base_columns.proofs.Data.{head-long, tail-long, head-read, low-read, high-read}
+use Rattle.base_columns.proofs.Rows.{length-rows, getD-rows}
 use Rattle.run_text.specs.declared.Text.{Text}
 use Rattle.run_text.specs.Text.{Puts}
 use Rattle.run_text.specs.Numbers.{decimal}

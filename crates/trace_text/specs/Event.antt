@@ -3,16 +3,16 @@
 use Prim.Native.Nat.{ℕ}
 use mathlib.Core.List.{List, _++_}
 use mathlib.Core.Option.{none, some}
-use Rattle.peer.specs.Data.{Data}
-use Rattle.peer.specs.Held.{data-in}
+use Rattle.base_peer.specs.Data.{Data}
+use Rattle.base_peer.specs.Held.{data-in}
 use Rattle.record.specs.Walk.{records-in}
-use Rattle.util.specs.Section.{items-at}
-use Rattle.columns.specs.Columns.{numbers-at, data-map-at}
-use Rattle.state.specs.declared.RefillLimit.{RefillLimit}
-use Rattle.state.specs.declared.RefillLimit.the-variants.{Automatic, Requests, Recovery}
-use Rattle.state.specs.Layout as layout
-use Rattle.state.specs.Layout.{few-places, all-places, data-places}
-use Rattle.state.specs.Unpack.{own-at, limit-at}
+use Rattle.base_util.specs.Section.{items-at}
+use Rattle.base_columns.specs.Columns.{numbers-at, data-map-at}
+use Rattle.hyparview_state.specs.declared.RefillLimit.{RefillLimit}
+use Rattle.hyparview_state.specs.declared.RefillLimit.the-variants.{Automatic, Requests, Recovery}
+use Rattle.hyparview_state.specs.Layout as layout
+use Rattle.hyparview_state.specs.Layout.{few-places, all-places, data-places}
+use Rattle.hyparview_state.specs.Unpack.{own-at, limit-at}
 use Rattle.run_text.specs.Numbers.{decimal}
 use Rattle.run_text.specs.Lines.{end-line}
 use Rattle.trace_text.specs.Hex.{hex, hex-lines}

@@ -6,9 +6,9 @@ use mathlib.Core.List.{List, [], _∷_, map}
 use mathlib.Core.Logic.{_⊎_}
 use lib.ListN.{getD}
 use lib.Dec.{eqb}
-use Rattle.lists.specs.Lists.{choose}
-use Rattle.util.specs.Section.{part, items-at}
-use Rattle.columns.specs.Columns.{numbers-at, data-map-at}
+use Rattle.base_lists.specs.Lists.{choose}
+use Rattle.base_util.specs.Section.{part, items-at}
+use Rattle.base_columns.specs.Columns.{numbers-at, data-map-at}
 use Rattle.run_text.specs.Numbers.{decimal}
 use Rattle.trace_text.specs.Items.{items-text, numbered-text, held-text}
 

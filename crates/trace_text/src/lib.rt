@@ -1,13 +1,13 @@
 // The text of one event, into lent bytes: each output record in hex, the code with the draws used, and the state that the call handed back.
+use hyparview_state::Layout;
+use hyparview_state::RefillLimit;
 use run_text::Text;
-use state::Layout;
-use state::RefillLimit;
 ghost use mathlib.Core.Path.{_≡_};
 ghost use lib.ListN.{length, take, drop};
 ghost use Rattle.record.specs.Walk.{records-in};
-ghost use Rattle.peer.specs.Held.{data-in};
-ghost use Rattle.state.specs.Layout.{words};
-ghost use Rattle.state.specs.Unpack.{own-at, limit-at};
+ghost use Rattle.base_peer.specs.Held.{data-in};
+ghost use Rattle.hyparview_state.specs.Layout.{words};
+ghost use Rattle.hyparview_state.specs.Unpack.{own-at, limit-at};
 ghost use Rattle.run_text.specs.Text.{Puts};
 ghost use Rattle.trace_text.specs.Hex.{hex, hex-lines};
 ghost use Rattle.trace_text.specs.Items.{ascii};
@@ -134,7 +134,7 @@ fn put_items(out: &mut [u8], t: Text, st: &[u64], columns: usize, at: usize, roo
                 r = run_text::put_decimal(out, r, value);
             } else {
                 // The value is how many bytes there are, in two more words.
-                let bytes = columns::bytes_of(st[place + 2 * room], st[place + 3 * room]);
+                let bytes = base_columns::bytes_of(st[place + 2 * room], st[place + 3 * room]);
                 r = put_front(out, r, &bytes, value);
             }
         }
@@ -149,7 +149,7 @@ fn put_own(out: &mut [u8], t: Text, st: &[u64]) -> Text
 {
     if st[Layout::OWN_PRESENT] == 1 {
         let r = run_text::put(out, t, b'x');
-        let bytes = columns::bytes_of(st[Layout::OWN_LOW], st[Layout::OWN_HIGH]);
+        let bytes = base_columns::bytes_of(st[Layout::OWN_LOW], st[Layout::OWN_HIGH]);
         return put_front(out, r, &bytes, st[Layout::OWN_LEN]);
     }
     run_text::put(out, t, b'-')

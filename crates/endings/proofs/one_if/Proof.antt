@@ -1,4 +1,4 @@
-use Rattle.lists.specs.Lists.{choose}
+use Rattle.base_lists.specs.Lists.{choose}
 use native.Mathlib.Omega.{arith}
 use Rattle.endings.proofs.one_if.Statement.{statement}
 use Rattle.endings.proofs.one_if.Tie as tie

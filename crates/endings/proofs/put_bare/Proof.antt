@@ -1,5 +1,5 @@
 use borrow.Author.Needs.{needs}
-use Rattle.writer.specs.Write.{rec-in}
+use Rattle.record_writer.specs.Write.{rec-in}
 use Rattle.endings.proofs.put_bare.Statement.{statement}
 use Rattle.endings.proofs.put_bare.Tie as tie
 

@@ -4,9 +4,9 @@ use mathlib.Core.Bool.{true}
 use native.Mathlib.Omega.{arith}
 use lib.ListN.{length}
 use Rattle.record.specs.declared.Header.{Header}
-use Rattle.protocol.specs.Station.{peers-end}
-use Rattle.state.specs.Layout.{words}
-use Rattle.rules.specs.Ok.{state-ok}
+use Rattle.spec_hyparview.specs.Station.{peers-end}
+use Rattle.hyparview_state.specs.Layout.{words}
+use Rattle.hyparview_rules.specs.Ok.{state-ok}
 use Rattle.hyparview.specs.Taken.{ReadAs}
 use Rattle.hyparview.proofs.Laws.{ended-refused, ended-accepted}
 use Rattle.hyparview.proofs.Opening.{starts, opens, event-handled, recorded, handled-broken, handled-unread}

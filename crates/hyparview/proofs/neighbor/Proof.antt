@@ -1,7 +1,7 @@
 use Rattle.hyparview.proofs.Asked.{ok-packed, ok-room, past-last, named, named-none}
-use Rattle.util.specs.Section.{part}
-use Rattle.state.proofs.Access.{of-packed}
-use Rattle.state.specs.Unpack.{unpack, station-of}
+use Rattle.base_util.specs.Section.{part}
+use Rattle.hyparview_state.proofs.Access.{of-packed}
+use Rattle.hyparview_state.specs.Unpack.{unpack, station-of}
 use borrow.Author.Needs.{needs}
 use Rattle.hyparview.proofs.neighbor.Statement.{statement}
 use Rattle.hyparview.proofs.neighbor.Tie as tie

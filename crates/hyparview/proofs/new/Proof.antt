@@ -3,8 +3,8 @@ use mathlib.Core.Path.{_≡_, _∙_}
 use mathlib.Core.List.{[]}
 use mathlib.Core.Logic.{⊎-elim}
 use lib.ListN.{length}
-use Rattle.lists.specs.Array.{pad}
-use Rattle.state.specs.Layout.{words}
+use Rattle.base_lists.specs.Array.{pad}
+use Rattle.hyparview_state.specs.Layout.{words}
 use Rattle.hyparview.specs.Made.{lent}
 use Rattle.hyparview.proofs.Making.{Own, own-taken, own-absent, placed, front-inside, front-long, other-length, cleared, accepted, turned-down}
 use borrow.Author.Needs.{needs}

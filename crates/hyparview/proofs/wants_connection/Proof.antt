@@ -1,6 +1,6 @@
 use Rattle.hyparview.proofs.Asked.{ok-packed, ok-long, ok-room, wanted-is, wanted, wanted-not}
-use Rattle.util.specs.Section.{part}
-use Rattle.state.proofs.Access.{of-packed}
+use Rattle.base_util.specs.Section.{part}
+use Rattle.hyparview_state.proofs.Access.{of-packed}
 use borrow.Author.Needs.{needs}
 use Rattle.hyparview.proofs.wants_connection.Statement.{statement}
 use Rattle.hyparview.proofs.wants_connection.Tie as tie

@@ -3,7 +3,7 @@ use mathlib.Core.Path.{_≡_}
 use mathlib.Core.List.{List}
 use native.Mathlib.Omega.{arith}
 use lib.ListN.{getD}
-use Rattle.lists.specs.Bytes.{read-le}
+use Rattle.base_lists.specs.Bytes.{read-le}
 use Rattle.record.specs.Read.{entry-from}
 use Rattle.record.proofs.Laws.{form-most}
 use borrow.Author.Needs.{needs}

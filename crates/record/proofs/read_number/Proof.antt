@@ -6,7 +6,7 @@ use native.Mathlib.Nat.{pow-suc, pow-le-pow-right}
 use native.Mathlib.Omega.{arith}
 use borrow.Author.Needs.{needs}
 use lib.ListN.{length, getD}
-use Rattle.lists.specs.Bytes.{read-le}
+use Rattle.base_lists.specs.Bytes.{read-le}
 use Rattle.record.proofs.read_number.Statement.{statement}
 use Rattle.record.proofs.read_number.Tie as tie
 

@@ -1,4 +1,4 @@
-use Rattle.lists.specs.Lists.{choose}
+use Rattle.base_lists.specs.Lists.{choose}
 use Rattle.record.proofs.select.Statement.{statement}
 use Rattle.record.proofs.select.Tie as tie
 

@@ -10,8 +10,8 @@ use borrow.Author.Tests.{le-leb, lt-leb, leb-true, leb-false}
 use borrow.Author.Needs.{needs}
 use lib.ListN.{length}
 use lib.Dec.{eqb, leb}
-use Rattle.lists.specs.Lists.{choose}
-use Rattle.lists.proofs.Choice.{and-left, and-right}
+use Rattle.base_lists.specs.Lists.{choose}
+use Rattle.base_lists.proofs.Choice.{and-left, and-right}
 use Rattle.record.specs.Format.{header-length-by, node-length-by, place-by}
 use Rattle.record.specs.Read.{header-of-by, header-ok, is-message, is-data, entry-from, entry-at-by, entry-ok, entries-ok-by, well-formed-by}
 use Rattle.record.specs.declared.Header.{Header}

@@ -9,7 +9,7 @@ use lib.Seq.{take-all}
 use lib.Dec.{eqb}
 use borrow.Author.Needs.{needs}
 use borrow.Author.Tests.{eq-eqb, ne-eqb}
-use Rattle.lists.specs.Lists.{null}
+use Rattle.base_lists.specs.Lists.{null}
 use Rattle.run_input.specs.Input.{event-length, are-events}
 use Rattle.run_input.proofs.Laws.{none-first, one-first}
 use Rattle.run_input.proofs.are_events.Statement.{statement}

@@ -6,7 +6,7 @@ use native.Mathlib.Omega.{arith}
 use lib.ListN.{length}
 use lib.Dec.{leb}
 use borrow.Author.Tests.{leb-true}
-use Rattle.lists.proofs.Choice.{choose-yes, choose-no, and-right}
+use Rattle.base_lists.proofs.Choice.{choose-yes, choose-no, and-right}
 use Rattle.record.specs.declared.Header.{Header}
 use Rattle.record.specs.Format.{header-length}
 use Rattle.record.specs.Read.{header-of, header-of-by}

@@ -2,7 +2,7 @@ use Prim.Native.Nat.{ℕ, _*_, _/_, _≤_, _<_}
 use mathlib.Core.Path.{_≡_, sym, _∙_}
 use mathlib.Core.List.{List}
 use lib.ListN.{length}
-use Rattle.lists.specs.Bytes.{read-le}
+use Rattle.base_lists.specs.Bytes.{read-le}
 use Rattle.run_input.specs.Input.{number}
 use Rattle.run_input.proofs.Laws.{number-read, number-none}
 use borrow.Author.Needs.{needs}

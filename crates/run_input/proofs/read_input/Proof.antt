@@ -7,10 +7,10 @@ use lib.ListN.{length, take, drop}
 use lib.Seq.{slice}
 use lib.Dec.{leb, eqb}
 use borrow.Author.Needs.{needs}
-use Rattle.lists.proofs.Choice.{choose-yes, choose-no}
-use Rattle.lists.proofs.Tests.{both-true, and-no}
-use Rattle.lists.proofs.Slices.{slice-part}
-use Rattle.timing.specs.declared.Config.{Config}
+use Rattle.base_lists.proofs.Choice.{choose-yes, choose-no}
+use Rattle.base_lists.proofs.Tests.{both-true, and-no}
+use Rattle.base_lists.proofs.Slices.{slice-part}
+use Rattle.base_timing.specs.declared.Config.{Config}
 use Rattle.run_input.specs.Input.{head-length, most-bytes, self-low, self-high, first-setting, event-count, event-offset, draw-count, draw-offset, number, from-halves, config-of, are-events, places-ok, events-part, events-ok, input-head, input-of}
 use Rattle.run_input.specs.declared.Head.{Head}
 use Rattle.run_input.specs.declared.Input.the-variants.{Refused, Whole}

@@ -6,7 +6,7 @@ use native.Mathlib.Nat.{zero-add}
 use native.Mathlib.Omega.{arith}
 use lib.ListN.{length, getD, set}
 use lib.Seq.{ext-getD}
-use Rattle.lists.proofs.Front.{Front, front-start, front-step}
+use Rattle.base_lists.proofs.Front.{Front, front-start, front-step}
 use Rattle.run_input.specs.Input.{number, numbers}
 use Rattle.run_input.proofs.Laws.{numbers-at, length-numbers}
 use borrow.Author.Needs.{needs}

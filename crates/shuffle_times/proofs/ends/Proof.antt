@@ -5,7 +5,7 @@ use borrow.Author.Needs.{needs}
 use mir.Val.{Fits}
 use mir.Syntax.{w64}
 use lib.ListN.{replicate}
-use Rattle.timing.specs.Timing.{delay}
+use Rattle.base_timing.specs.Timing.{delay}
 use Rattle.shuffle_times.specs.declared.ShuffleTimes.{ShuffleTimes}
 use Rattle.shuffle_times.specs.Times.{lowest-draw, highest-draw, latest-start, most-shuffles, first-interval, next-interval, due}
 use Rattle.shuffle_times.proofs.Delays.{Interval, first-ok, next-ok, delay-few, delay-rises}

@@ -4,8 +4,8 @@ use Prim.Native.Nat.{ℕ, _≤_}
 use native.Mathlib.Omega.{arith}
 use borrow.Author.Needs.{needs}
 use lib.ListN.{replicate}
-use Rattle.lists.proofs.Choice.{choose-no}
-use Rattle.timing.specs.declared.Config.{Config}
+use Rattle.base_lists.proofs.Choice.{choose-no}
+use Rattle.base_timing.specs.declared.Config.{Config}
 use Rattle.shuffle_times.specs.declared.ShuffleTimes.{ShuffleTimes}
 use Rattle.shuffle_times.specs.Times.{lowest-draw, highest-draw, latest-start, most-shuffles, first-interval, due, due-by, has-times, shuffle-times}
 use Rattle.shuffle_times.proofs.Asked.{Asked, asked, times-are}

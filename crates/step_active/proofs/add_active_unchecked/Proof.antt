@@ -1,5 +1,5 @@
 use mathlib.Core.Path.{sym, _∙_}
-use Rattle.state.specs.Unpack.{long}
+use Rattle.hyparview_state.specs.Unpack.{long}
 use Rattle.step_active.proofs.Entering.{gained, not-added, entered, added-unchecked}
 use borrow.Author.Needs.{needs}
 use Rattle.step_active.proofs.add_active_unchecked.Statement.{statement}

@@ -1,8 +1,8 @@
-use Rattle.lists.specs.Maps.{lookup}
-use Rattle.util.specs.Section.{part}
-use Rattle.peer.specs.Held.{HoldsData}
-use Rattle.state.specs.Unpack.{unpack, station-of, long}
-use Rattle.state.proofs.Access.{of-packed}
+use Rattle.base_lists.specs.Maps.{lookup}
+use Rattle.base_util.specs.Section.{part}
+use Rattle.base_peer.specs.Held.{HoldsData}
+use Rattle.hyparview_state.specs.Unpack.{unpack, station-of, long}
+use Rattle.hyparview_state.proofs.Access.{of-packed}
 use Rattle.step_refill.proofs.Asking.{fine-after}
 use Rattle.step_active.proofs.Leaving.{demoted, demoted-plain, demoted-alive, mark-free}
 use borrow.Author.Needs.{needs}

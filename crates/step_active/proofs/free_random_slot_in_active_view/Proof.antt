@@ -1,6 +1,6 @@
-use Rattle.util.specs.Section.{part}
-use Rattle.state.specs.Unpack.{unpack, station-of}
-use Rattle.state.proofs.Access.{of-packed}
+use Rattle.base_util.specs.Section.{part}
+use Rattle.hyparview_state.specs.Unpack.{unpack, station-of}
+use Rattle.hyparview_state.proofs.Access.{of-packed}
 use Rattle.step_sending.proofs.Told.{fine-drawn, room-drawn}
 use Rattle.step_active.proofs.Leaving.{fine-told, loose-picked, sent-loose, settled-random, by-index, picked-removed, some-choice, still-below, no-slot, one-slot}
 use borrow.Author.Needs.{needs}

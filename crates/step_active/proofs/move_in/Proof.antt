@@ -1,10 +1,10 @@
 use native.Mathlib.Omega.{arith}
 use mathlib.Core.List.{[], _∷_, _++_}
 use borrow.Rule.Slice.PartMut.{putMid}
-use Rattle.lists.specs.Lists.{renew}
-use Rattle.util.specs.Section.{part, items-at, HoldsSet}
-use Rattle.state.specs.Layout.{active-part, recent-part}
-use Rattle.state.proofs.Access.{of-packed, of-recent}
+use Rattle.base_lists.specs.Lists.{renew}
+use Rattle.base_util.specs.Section.{part, items-at, HoldsSet}
+use Rattle.hyparview_state.specs.Layout.{active-part, recent-part}
+use Rattle.hyparview_state.proofs.Access.{of-packed, of-recent}
 use Rattle.step_active.proofs.Entering.{place-active, left-free, not-moved, pushed, remembered, moved-in}
 use borrow.Author.Needs.{needs}
 use Rattle.step_active.proofs.move_in.Statement.{statement}

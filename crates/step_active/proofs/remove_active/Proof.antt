@@ -1,6 +1,6 @@
-use Rattle.util.specs.Section.{part}
-use Rattle.state.specs.Unpack.{unpack, station-of}
-use Rattle.state.proofs.Access.{of-packed}
+use Rattle.base_util.specs.Section.{part}
+use Rattle.hyparview_state.specs.Unpack.{unpack, station-of}
+use Rattle.hyparview_state.proofs.Access.{of-packed}
 use Rattle.step_refill.proofs.Asking.{fine-after}
 use Rattle.step_active.proofs.Leaving.{refilled, place-of, removed, not-removed}
 use borrow.Author.Needs.{needs}

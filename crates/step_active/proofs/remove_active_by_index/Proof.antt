@@ -1,10 +1,10 @@
 use mathlib.Core.Path.{_≡_, refl}
 use mathlib.Core.Bool.{false}
 use lib.ListN.{getD}
-use Rattle.lists.proofs.Choice.{clash}
-use Rattle.util.specs.Section.{part}
-use Rattle.state.specs.Unpack.{unpack, station-of}
-use Rattle.state.proofs.Access.{of-packed}
+use Rattle.base_lists.proofs.Choice.{clash}
+use Rattle.base_util.specs.Section.{part}
+use Rattle.hyparview_state.specs.Unpack.{unpack, station-of}
+use Rattle.hyparview_state.proofs.Access.{of-packed}
 use Rattle.step_active.proofs.Leaving.{fine-told, loose-known, by-index, closed-marked, closed-other, settled-closed, settled-alive, settled-gone}
 use Rattle.step_refill.proofs.Asking.{fine-after}
 use borrow.Author.Needs.{needs}

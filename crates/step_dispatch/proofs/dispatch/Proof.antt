@@ -1,12 +1,12 @@
 use Rattle.step_dispatch.specs.Begun.{Headed, Opens}
-use Rattle.state.specs.Work.{work-of, run, Fine}
+use Rattle.hyparview_state.specs.Work.{work-of, run, Fine}
 use Prim.Native.Nat.{_≤_}
-use Rattle.state.specs.Layout.{words}
+use Rattle.hyparview_state.specs.Layout.{words}
 use lib.ListN.{length}
 use mathlib.Core.Path.{_≡_}
 use borrow.Author.Needs.{needs}
 use native.Mathlib.Omega.{arith}
-use Rattle.state.proofs.Bridge.{still, then, then-tell}
+use Rattle.hyparview_state.proofs.Bridge.{still, then, then-tell}
 use Rattle.step_messages.proofs.Between.{between-calm}
 use Rattle.step_sending.proofs.Told.{room-of}
 use Rattle.step_dispatch.proofs.Arms.{one-node, kind-message, kind-shuffle, kind-maintenance, kind-request, kind-retry, kind-closed, kind-join, kind-data, kind-quit}

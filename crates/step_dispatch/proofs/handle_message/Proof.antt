@@ -1,8 +1,8 @@
 use Rattle.step_dispatch.specs.Begun.{Headed}
 use Rattle.step_messages.specs.Between.{Between}
-use Rattle.protocol.specs.Budgets.{arriving}
-use Rattle.state.specs.Work.{work-of, run, Fine}
-use Rattle.state.specs.Layout.{words}
+use Rattle.spec_hyparview.specs.Budgets.{arriving}
+use Rattle.hyparview_state.specs.Work.{work-of, run, Fine}
+use Rattle.hyparview_state.specs.Layout.{words}
 use lib.ListN.{length}
 use borrow.Author.Needs.{needs}
 use mathlib.Core.Path.{refl, _≡_}

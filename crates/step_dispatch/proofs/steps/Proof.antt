@@ -4,8 +4,8 @@ use mathlib.Core.Path.{_≡_, _∙_}
 use native.Mathlib.Omega.{arith}
 use lib.ListN.{length, length-set}
 use borrow.Author.Tests.{eqb-true}
-use Rattle.lists.proofs.Choice.{and-left}
-use Rattle.state.specs.Layout.{words}
+use Rattle.base_lists.proofs.Choice.{and-left}
+use Rattle.hyparview_state.specs.Layout.{words}
 use Rattle.step_refill.proofs.Asking.{fine-after}
 use Rattle.step_dispatch.proofs.Laws.{noted, Timed, timed-rest, timed-start, stepped}
 use borrow.Author.Needs.{needs}

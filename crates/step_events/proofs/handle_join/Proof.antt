@@ -1,11 +1,11 @@
 use native.Mathlib.Omega.{arith}
-use Rattle.util.specs.Section.{part}
-use Rattle.protocol.specs.Events.{note-join}
-use Rattle.state.specs.Unpack.{unpack, station-of, long}
+use Rattle.base_util.specs.Section.{part}
+use Rattle.spec_hyparview.specs.Events.{note-join}
+use Rattle.hyparview_state.specs.Unpack.{unpack, station-of, long}
 use mathlib.Core.Path.{sym, _∙_}
-use Rattle.state.proofs.Access.{of-packed}
-use Rattle.state.proofs.Bridge.{on-done}
-use Rattle.state.proofs.Fields.{put-joins, put-next-join}
+use Rattle.hyparview_state.proofs.Access.{of-packed}
+use Rattle.hyparview_state.proofs.Bridge.{on-done}
+use Rattle.hyparview_state.proofs.Fields.{put-joins, put-next-join}
 use Rattle.step_events.proofs.Joining.{room-kept, free-after-push, free-after-join, number-left, place-left, not-new, joined-self, join-opened, join-refused, awaited, joined-other}
 use borrow.Author.Needs.{needs}
 use Rattle.step_events.proofs.handle_join.Statement.{statement}

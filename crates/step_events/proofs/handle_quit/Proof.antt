@@ -8,17 +8,17 @@ use lib.ListN.{length, take, getD}
 use lib.Seq.{slice}
 use lib.Dec.{eqb, ltb}
 use borrow.Author.Tests.{ltb-true, ltb-false, eqb-true, eqb-false}
-use Rattle.lists.proofs.Choice.{split, clash, and-left, and-right}
-use Rattle.lists.proofs.Rest.{Rest, rest-next, rest-end}
-use Rattle.util.specs.Section.{part, items-at, HoldsSet}
-use Rattle.protocol.specs.Run.{Run, on}
-use Rattle.protocol.specs.Sending.{send-disconnect}
-use Rattle.protocol.specs.Events.{remove-neighbor, quit-all}
-use Rattle.state.specs.declared.Work.{Work}
-use Rattle.state.specs.Layout.{words}
-use Rattle.state.specs.Unpack.{long}
-use Rattle.state.specs.Work.{work-of, run, Changes, Fine, Does}
-use Rattle.state.proofs.Access.{of-packed, of-active}
+use Rattle.base_lists.proofs.Choice.{split, clash, and-left, and-right}
+use Rattle.base_lists.proofs.Rest.{Rest, rest-next, rest-end}
+use Rattle.base_util.specs.Section.{part, items-at, HoldsSet}
+use Rattle.spec_hyparview.specs.Run.{Run, on}
+use Rattle.spec_hyparview.specs.Sending.{send-disconnect}
+use Rattle.spec_hyparview.specs.Events.{remove-neighbor, quit-all}
+use Rattle.work.specs.declared.Work.{Work}
+use Rattle.hyparview_state.specs.Layout.{words}
+use Rattle.hyparview_state.specs.Unpack.{long}
+use Rattle.hyparview_state.specs.Work.{work-of, run, run-of, Changes, Fine, Does}
+use Rattle.hyparview_state.proofs.Access.{of-packed, of-active}
 use Rattle.step_refill.proofs.Asking.{fine-after}
 use Rattle.step_events.proofs.Leaving.{neighbor-removed, quitted, quits-shut, quit-passed, quit-handled}
 use borrow.Author.Needs.{needs}
@@ -60,7 +60,7 @@ unfolding quit-all
 end w st₀ ds out₀ v n st out r i q h = record { fine = q .fine; same = sym (rest-end 0 Then (q .rest) h) }
 
 stopped : (w : Work) (st₀ ds out₀ v : List ℕ) (n : ℕ) (st out : List ℕ) (r : Work) (i : ℕ) → Quitting w st₀ ds out₀ v n st out r i → (r .code ≡ 0 → ⊥) → Does (work-of r st) ds out (quit-all (take n v) (run (work-of w st₀) ds out₀))
-unfolding run
+unfolding run-of
 stopped w st₀ ds out₀ v n st out r i q h = record { fine = q .fine; same = sym (q .rest .same ∙ quits-shut (slice i n v) (run (work-of r st) ds out) h) }
 
 -- what the loop's test says

@@ -1,7 +1,7 @@
 use native.Mathlib.Omega.{arith}
-use Rattle.util.specs.Section.{part}
-use Rattle.state.proofs.Access.{of-packed}
-use Rattle.state.proofs.Bridge.{on-passed}
+use Rattle.base_util.specs.Section.{part}
+use Rattle.hyparview_state.proofs.Access.{of-packed}
+use Rattle.hyparview_state.proofs.Bridge.{on-passed}
 use Rattle.step_events.proofs.Joining.{lent-without, lent-renew, lent-cut, others-lent, joins-lent, none-dropped, one-dropped}
 use borrow.Author.Needs.{needs}
 use Rattle.step_events.proofs.push_bootstrap.Statement.{statement}

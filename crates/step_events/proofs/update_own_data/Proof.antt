@@ -1,6 +1,6 @@
-use Rattle.protocol.specs.Events.{update-own-data}
-use Rattle.state.proofs.Bridge.{on-passed, on-done}
-use Rattle.state.proofs.Limits.{kept-own}
+use Rattle.spec_hyparview.specs.Events.{update-own-data}
+use Rattle.hyparview_state.proofs.Bridge.{on-passed, on-done}
+use Rattle.hyparview_state.proofs.Limits.{kept-own}
 use borrow.Author.Needs.{needs}
 use Rattle.step_events.proofs.update_own_data.Statement.{statement}
 use Rattle.step_events.proofs.update_own_data.Tie as tie

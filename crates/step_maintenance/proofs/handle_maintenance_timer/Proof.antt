@@ -3,14 +3,14 @@ use Prim.Native.Nat.{_-_}
 use mathlib.Core.Path.{refl}
 use mathlib.Core.Logic.{⊎-elim}
 use native.Mathlib.Omega.{arith}
-use Rattle.util.specs.Section.{part}
-use Rattle.protocol.specs.Run.{on}
-use Rattle.protocol.specs.Timers.{remember-all, maintain, handle-maintenance-timer}
-use Rattle.state.specs.Unpack.{long}
-use Rattle.state.specs.Work.{work-of, Changes, Fine}
-use Rattle.state.proofs.Access.{of-packed}
-use Rattle.state.proofs.Bridge.{on-passed, still, then, seq}
-use Rattle.state.proofs.Any.{then-tell-any}
+use Rattle.base_util.specs.Section.{part}
+use Rattle.spec_hyparview.specs.Run.{on}
+use Rattle.spec_hyparview.specs.Timers.{remember-all, maintain, handle-maintenance-timer, schedule-maintenance}
+use Rattle.hyparview_state.specs.Unpack.{long}
+use Rattle.hyparview_state.specs.Work.{work-of, Changes, Fine}
+use Rattle.hyparview_state.proofs.Access.{of-packed}
+use Rattle.hyparview_state.proofs.Bridge.{on-passed, still, then, seq}
+use Rattle.hyparview_state.proofs.Any.{then-tell-any}
 use Rattle.step_refill.proofs.Asking.{fine-after}
 use Rattle.step_maintenance.proofs.Counted.{Renewing, renew-start, renew-packed, renew-below, renew-next, renew-end}
 use Rattle.step_maintenance.proofs.Passes.{words-as}
@@ -113,12 +113,12 @@ same-length-2 : tie.Need-same-length-2 Inv-loop μ-loop
 same-length-2 c = search needs
 
 returns : tie.Need-returns Inv-loop μ-loop
-unfolding handle-maintenance-timer
+unfolding handle-maintenance-timer schedule-maintenance
 returns c =
     let at-schedule-maintenance = c .before .before in
     let at-maintain = at-schedule-maintenance .before .before .before .before .before .before in
     let at-joined1 = maintain-to-joined1 at-maintain in
-    then-tell-any (at-schedule-maintenance .schedule-maintenance .ensures) (seq maintain (at-maintain .maintain .ensures) (then (remembered at-joined1) (still (fine (joined1-to-start at-joined1)))))
+    then-tell-any _ (at-schedule-maintenance .schedule-maintenance .ensures) (seq maintain (at-maintain .maintain .ensures) (then (remembered at-joined1) (still (fine (joined1-to-start at-joined1)))))
 
 pub handle-maintenance-timer-spec : {M : Type 1} → statement M
 handle-maintenance-timer-spec =

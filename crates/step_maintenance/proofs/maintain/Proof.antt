@@ -4,15 +4,15 @@ use mathlib.Core.List.{List}
 use mathlib.Core.Logic.{⊎-elim}
 use native.Mathlib.Omega.{arith}
 use lib.ListN.{length}
-use Rattle.protocol.specs.Setters.{set-passes-alone}
-use Rattle.protocol.specs.Run.{on}
-use Rattle.protocol.specs.Timers.{count-short, pass-known, pass-neighbors, not-alone, maintain}
-use Rattle.state.specs.declared.Work.{Work}
-use Rattle.state.specs.Layout.{words}
-use Rattle.state.specs.Unpack.{long}
-use Rattle.state.specs.Work.{work-of, run, Changes, Fine, Does}
-use Rattle.state.proofs.Access.{of-short}
-use Rattle.state.proofs.Bridge.{on-passed}
+use Rattle.spec_hyparview.specs.Setters.{set-passes-alone}
+use Rattle.spec_hyparview.specs.Run.{on}
+use Rattle.spec_hyparview.specs.Timers.{count-short, pass-known, pass-neighbors, not-alone, maintain}
+use Rattle.work.specs.declared.Work.{Work}
+use Rattle.hyparview_state.specs.Layout.{words}
+use Rattle.hyparview_state.specs.Unpack.{long}
+use Rattle.hyparview_state.specs.Work.{work-of, run, Changes, Fine, Does}
+use Rattle.hyparview_state.proofs.Access.{of-short}
+use Rattle.hyparview_state.proofs.Bridge.{on-passed}
 use Rattle.step_refill.proofs.Asking.{fine-after}
 use Rattle.step_maintenance.proofs.Counted.{alone-reset, short-refused, short-left, short-counted}
 use Rattle.step_maintenance.proofs.Passes.{refilled-anew, refill-due, refill-not-due, recovery-known, paused, passed-short, short-passed, enough-passed, recovers, neighbors-passed, none-known, maintained-alone, maintained, knows-some, words-as, alone-still}

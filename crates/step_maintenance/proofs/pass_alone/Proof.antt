@@ -3,11 +3,11 @@ use mathlib.Core.Path.{_≡_}
 use mathlib.Core.List.{List}
 use native.Mathlib.Omega.{arith}
 use lib.ListN.{length, getD, set, length-set}
-use Rattle.util.specs.Section.{part}
-use Rattle.protocol.specs.Timers.{rejoin-bootstrap, count-alone}
-use Rattle.state.specs.Layout.{words}
-use Rattle.state.specs.Work.{work-of, Changes, Tells, Fine}
-use Rattle.state.proofs.Access.{of-bootstrap, of-recent}
+use Rattle.base_util.specs.Section.{part}
+use Rattle.spec_hyparview.specs.Timers.{rejoin-bootstrap, count-alone}
+use Rattle.hyparview_state.specs.Layout.{words}
+use Rattle.hyparview_state.specs.Work.{work-of, Changes, Tells, Fine}
+use Rattle.hyparview_state.proofs.Access.{of-bootstrap, of-recent}
 use Rattle.step_sending.proofs.Told.{room-of, room-drawn}
 use Rattle.step_refill.proofs.Asking.{fine-after}
 use Rattle.step_maintenance.proofs.Counted.{alone-refused, alone-left, alone-counted, others-are}

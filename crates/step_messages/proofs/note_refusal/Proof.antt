@@ -1,9 +1,9 @@
-use Rattle.util.specs.Section.{part}
-use Rattle.state.specs.Unpack.{unpack, station-of}
-use Rattle.state.proofs.Access.{of-packed}
-use Rattle.state.proofs.Bridge.{on-passed, on-done}
-use Rattle.protocol.specs.Messages.{add-refused}
-use Rattle.state.proofs.Fields.{put-refused}
+use Rattle.base_util.specs.Section.{part}
+use Rattle.hyparview_state.specs.Unpack.{unpack, station-of}
+use Rattle.hyparview_state.proofs.Access.{of-packed}
+use Rattle.hyparview_state.proofs.Bridge.{on-passed, on-done}
+use Rattle.spec_hyparview.specs.Messages.{add-refused}
+use Rattle.hyparview_state.proofs.Fields.{put-refused}
 use Rattle.step_messages.proofs.Laws.{fits-known, refused-place, refusal-noted, refusal-there, refusal-none}
 use borrow.Author.Needs.{needs}
 use Rattle.step_messages.proofs.note_refusal.Statement.{statement}

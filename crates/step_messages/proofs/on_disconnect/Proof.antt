@@ -1,15 +1,15 @@
 use mathlib.Core.Logic.{⊎-elim}
 use native.Mathlib.Omega.{arith}
-use Rattle.util.specs.Section.{part}
-use Rattle.protocol.specs.Run.{on}
-use Rattle.protocol.specs.Budgets.{leaving}
-use Rattle.protocol.specs.Messages.{drop-join, drop-request, drop-recent, forget-recent}
+use Rattle.base_util.specs.Section.{part}
+use Rattle.spec_hyparview.specs.Run.{on}
+use Rattle.spec_hyparview.specs.Budgets.{leaving}
+use Rattle.spec_hyparview.specs.Messages.{drop-join, drop-request, drop-recent, forget-recent}
 use Rattle.step_messages.specs.Between.{Between}
-use Rattle.state.specs.Unpack.{unpack, station-of, long}
-use Rattle.state.specs.Work.{work-of, run, Changes, Fine}
-use Rattle.state.proofs.Access.{of-packed}
-use Rattle.state.proofs.Bridge.{on-done}
-use Rattle.state.proofs.Fields.{put-recent}
+use Rattle.hyparview_state.specs.Unpack.{unpack, station-of, long}
+use Rattle.hyparview_state.specs.Work.{work-of, run, Changes, Fine}
+use Rattle.hyparview_state.proofs.Access.{of-packed}
+use Rattle.hyparview_state.proofs.Bridge.{on-done}
+use Rattle.hyparview_state.proofs.Fields.{put-recent}
 use Rattle.step_refill.proofs.Asking.{fine-after}
 use Rattle.step_messages.proofs.Laws.{words-as, recent-code, recent-gone, recent-kept, mark-place, passive-marked, passive-unmarked, topic-refilled, topic-left, still-markable, other-alive, other-left}
 use Rattle.step_messages.proofs.Between.{between-calm, between-mark, neighbor-lost, other-lost, open-forgotten, ended-between, disconnect-done}

@@ -4,15 +4,15 @@ use mathlib.Core.Path.{_≡_, refl, sym, ap, _∙_}
 use mathlib.Core.List.{List}
 use native.Mathlib.Omega.{arith}
 use lib.ListN.{length, take, getD}
-use Rattle.lists.proofs.Rest.{Rest, rest-next, rest-end}
-use Rattle.peer.specs.Held.{node-in}
+use Rattle.base_lists.proofs.Rest.{Rest, rest-next, rest-end}
+use Rattle.base_peer.specs.Held.{node-in}
 use Rattle.record.specs.Format.{Rec}
-use Rattle.protocol.specs.Run.{Run, emit, emit-all}
-use Rattle.protocol.specs.Messages.{forward-join-to}
-use Rattle.state.specs.declared.Work.{Work}
-use Rattle.state.specs.Work.{work-of, run, TellsAny, Fine, Does}
-use Rattle.state.proofs.Bridge.{still}
-use Rattle.state.proofs.Any.{then-tell-any}
+use Rattle.spec_hyparview.specs.Run.{Run, emit, emit-all}
+use Rattle.spec_hyparview.specs.Messages.{forward-join-to}
+use Rattle.work.specs.declared.Work.{Work}
+use Rattle.hyparview_state.specs.Work.{work-of, run, TellsAny, Fine, Does}
+use Rattle.hyparview_state.proofs.Bridge.{still}
+use Rattle.hyparview_state.proofs.Any.{then-tell-any}
 use Rattle.step_refill.proofs.Asking.{fine-after}
 use Rattle.step_messages.proofs.Laws.{walk-fits, joins-forwarded}
 use Rattle.step_messages.proofs.Between.{pending-calm, joined}
@@ -35,7 +35,7 @@ module _ (f : ℕ → Rec) (xs ds out₀ ps : List ℕ) (k : ℕ) (w : Work) (ou
   more : (r : Work) (o : List ℕ) → i < k → TellsAny (emit (f (getD ps i 0))) a r out o → length o ≡ length out → Telling f xs ds out₀ ps k w o r (i + 1)
   unfolding emit-all
   more r o h t q =
-      let d = then-tell-any t (still (v .fine)) in
+      let d = then-tell-any _ t (still (v .fine)) in
       record { fine = d .fine; len = q ∙ v .len; rest = rest-next 0 (Then f) (v .rest) (run (work-of r xs) ds o) h (λ l. ap (emit-all f l) (sym (d .same))) }
 
   end : k ≤ i → Does (work-of a xs) ds out (emit-all f (take k ps) (run (work-of w xs) ds out₀))

@@ -1,4 +1,4 @@
-use Rattle.state.specs.Work.{Fine, work-of}
+use Rattle.hyparview_state.specs.Work.{Fine, work-of}
 use Rattle.step_refill.proofs.Asking.{fine-after}
 use Rattle.step_messages.proofs.Laws.{accept-known, neighbor-refused}
 use Rattle.step_messages.proofs.Between.{pending-calm, neighbor-taken, neighbor-turned, neighbor-answered}

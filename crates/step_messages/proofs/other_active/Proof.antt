@@ -1,6 +1,6 @@
-use Rattle.util.specs.Section.{part}
-use Rattle.state.specs.Unpack.{unpack, station-of}
-use Rattle.state.proofs.Access.{of-packed}
+use Rattle.base_util.specs.Section.{part}
+use Rattle.hyparview_state.specs.Unpack.{unpack, station-of}
+use Rattle.hyparview_state.proofs.Access.{of-packed}
 use Rattle.step_messages.proofs.Laws.{others-held}
 use borrow.Author.Needs.{needs}
 use Rattle.step_messages.proofs.other_active.Statement.{statement}

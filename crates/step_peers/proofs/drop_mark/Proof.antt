@@ -1,9 +1,9 @@
-use Rattle.util.specs.Section.{part}
-use Rattle.state.specs.Unpack.{unpack, station-of}
-use Rattle.state.proofs.Access.{of-packed}
-use Rattle.state.proofs.Bridge.{on-passed, on-done}
-use Rattle.protocol.specs.Peers.{drop-mark}
-use Rattle.state.proofs.Fields.{put-alive}
+use Rattle.base_util.specs.Section.{part}
+use Rattle.hyparview_state.specs.Unpack.{unpack, station-of}
+use Rattle.hyparview_state.proofs.Access.{of-packed}
+use Rattle.hyparview_state.proofs.Bridge.{on-passed, on-done}
+use Rattle.spec_hyparview.specs.Peers.{drop-mark}
+use Rattle.hyparview_state.proofs.Fields.{put-alive}
 use borrow.Author.Needs.{needs}
 use Rattle.step_peers.proofs.drop_mark.Statement.{statement}
 use Rattle.step_peers.proofs.drop_mark.Tie as tie

@@ -1,6 +1,6 @@
 use mathlib.Core.Path.{refl}
-use Rattle.state.proofs.Bridge.{change-then}
-use Rattle.protocol.specs.Peers.{drop-passive}
+use Rattle.hyparview_state.proofs.Bridge.{change-then}
+use Rattle.spec_hyparview.specs.Peers.{drop-passive}
 use borrow.Author.Needs.{needs}
 use Rattle.step_peers.proofs.drop_passive.Statement.{statement}
 use Rattle.step_peers.proofs.drop_passive.Tie as tie

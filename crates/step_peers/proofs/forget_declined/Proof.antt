@@ -1,10 +1,10 @@
-use Rattle.util.specs.Section.{part}
-use Rattle.protocol.specs.Station.{data-peers}
-use Rattle.protocol.specs.Handle.{forget-declined}
-use Rattle.state.specs.Unpack.{unpack, station-of, PackedState}
-use Rattle.state.proofs.Access.{of-packed, of-active, of-passive, of-requests, of-peer-data}
-use Rattle.state.proofs.Bridge.{on-passed, on-done}
-use Rattle.state.proofs.Fields.{put-peer-data}
+use Rattle.base_util.specs.Section.{part}
+use Rattle.spec_hyparview.specs.Station.{data-peers}
+use Rattle.spec_hyparview.specs.Handle.{forget-declined}
+use Rattle.hyparview_state.specs.Unpack.{unpack, station-of, PackedState}
+use Rattle.hyparview_state.proofs.Access.{of-packed, of-active, of-passive, of-requests, of-peer-data}
+use Rattle.hyparview_state.proofs.Bridge.{on-passed, on-done}
+use Rattle.hyparview_state.proofs.Fields.{put-peer-data}
 use borrow.Author.Needs.{needs}
 use Rattle.step_peers.proofs.Declined.{none-declined, retained}
 use Rattle.step_peers.proofs.forget_declined.Statement.{statement}

@@ -2,15 +2,15 @@ use mathlib.Core.Logic.{⊎-elim}
 use mathlib.Core.Path.{_≡_, ap, _∙_}
 use borrow.Author.Tests.{eq-eqb, ne-eqb}
 use lib.ListN.{length}
-use Rattle.util.specs.Section.{part}
-use Rattle.peer.specs.Data.{bytes-of}
-use Rattle.peer.specs.Held.{data-in}
-use Rattle.protocol.specs.Peers.{announce-data, store-data}
-use Rattle.state.specs.Unpack.{unpack, station-of}
-use Rattle.state.specs.Work.{work-of, Tells}
-use Rattle.state.proofs.Access.{of-packed}
-use Rattle.state.proofs.Bridge.{on-done, on-passed}
-use Rattle.state.proofs.Fields.{put-peer-data}
+use Rattle.base_util.specs.Section.{part}
+use Rattle.base_peer.specs.Data.{bytes-of}
+use Rattle.base_peer.specs.Held.{data-in}
+use Rattle.spec_hyparview.specs.Peers.{announce-data, store-data}
+use Rattle.hyparview_state.specs.Unpack.{unpack, station-of}
+use Rattle.hyparview_state.specs.Work.{work-of, Tells}
+use Rattle.hyparview_state.proofs.Access.{of-packed}
+use Rattle.hyparview_state.proofs.Bridge.{on-done, on-passed}
+use Rattle.hyparview_state.proofs.Fields.{put-peer-data}
 use Rattle.step_peers.proofs.Laws.{no-bytes, told-as, not-announced, announced, fits-known, entry-free, is-given, info-passed, info-stored}
 use borrow.Author.Needs.{needs}
 use Rattle.step_peers.proofs.insert_peer_info.Statement.{statement}

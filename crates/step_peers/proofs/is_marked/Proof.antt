@@ -1,7 +1,7 @@
-use Rattle.util.specs.Section.{part}
-use Rattle.state.specs.Unpack.{unpack, station-of}
-use Rattle.state.proofs.Access.{of-packed}
-use Rattle.protocol.specs.Peers.{is-marked}
+use Rattle.base_util.specs.Section.{part}
+use Rattle.hyparview_state.specs.Unpack.{unpack, station-of}
+use Rattle.hyparview_state.proofs.Access.{of-packed}
+use Rattle.spec_hyparview.specs.Peers.{is-marked}
 use borrow.Author.Needs.{needs}
 use Rattle.step_peers.proofs.is_marked.Statement.{statement}
 use Rattle.step_peers.proofs.is_marked.Tie as tie

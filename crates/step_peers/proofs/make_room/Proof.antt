@@ -2,15 +2,15 @@ use mathlib.Core.Logic.{⊎-elim}
 use mathlib.Core.Path.{sym, subst, _∙_}
 use Prim.Native.Nat.{ℕ}
 use mathlib.Core.List.{List}
-use Rattle.writer.specs.Write.{rec-in}
-use Rattle.util.specs.Section.{part}
-use Rattle.protocol.specs.Run.{on}
-use Rattle.protocol.specs.Peers.{shift-passive}
-use Rattle.state.specs.Unpack.{unpack, station-of, long}
-use Rattle.state.specs.Work.{Fine, work-of, Changes}
-use Rattle.state.proofs.Access.{of-packed}
-use Rattle.state.proofs.Bridge.{on-passed, on-done}
-use Rattle.state.proofs.Fields.{put-passive}
+use Rattle.record_writer.specs.Write.{rec-in}
+use Rattle.base_util.specs.Section.{part}
+use Rattle.spec_hyparview.specs.Run.{on}
+use Rattle.spec_hyparview.specs.Peers.{shift-passive}
+use Rattle.hyparview_state.specs.Unpack.{unpack, station-of, long}
+use Rattle.hyparview_state.specs.Work.{Fine, work-of, Changes}
+use Rattle.hyparview_state.proofs.Access.{of-packed}
+use Rattle.hyparview_state.proofs.Bridge.{on-passed, on-done}
+use Rattle.hyparview_state.proofs.Fields.{put-passive}
 use Rattle.step_peers.proofs.Laws.{shifted-fits, some-choice, still-below, made, not-made}
 use borrow.Author.Needs.{needs}
 use Rattle.step_peers.proofs.make_room.Statement.{statement}

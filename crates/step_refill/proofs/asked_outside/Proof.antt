@@ -1,5 +1,5 @@
-use Rattle.util.specs.Section.{part}
-use Rattle.state.proofs.Access.{of-packed}
+use Rattle.base_util.specs.Section.{part}
+use Rattle.hyparview_state.proofs.Access.{of-packed}
 use Rattle.step_refill.proofs.Asking.{outside-held}
 use borrow.Author.Needs.{needs}
 use Rattle.step_refill.proofs.asked_outside.Statement.{statement}

@@ -1,9 +1,9 @@
 use borrow.Author.Tests.{eq-eqb, ne-eqb}
-use Rattle.util.specs.Section.{part}
-use Rattle.util.proofs.Sets.{set-inside, set-column}
-use Rattle.state.specs.Unpack.{unpack, station-of}
-use Rattle.state.proofs.Access.{of-packed}
-use Rattle.state.proofs.Counts.{alone}
+use Rattle.base_util.specs.Section.{part}
+use Rattle.base_util.proofs.Sets.{set-inside, set-column}
+use Rattle.hyparview_state.specs.Unpack.{unpack, station-of}
+use Rattle.hyparview_state.proofs.Access.{of-packed}
+use Rattle.hyparview_state.proofs.Counts.{alone}
 use Rattle.step_refill.proofs.Asking.{left-list, left-of, left-by, candidates-alone, candidates-else}
 use borrow.Author.Needs.{needs}
 use Rattle.step_refill.proofs.candidates.Statement.{statement}

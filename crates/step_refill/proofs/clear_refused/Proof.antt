@@ -1,8 +1,8 @@
-use Rattle.util.specs.Section.{part}
-use Rattle.protocol.specs.Active.{clear-refused}
-use Rattle.state.specs.Unpack.{unpack, station-of}
-use Rattle.state.proofs.Bridge.{on-passed, on-done}
-use Rattle.state.proofs.Fields.{put-refused}
+use Rattle.base_util.specs.Section.{part}
+use Rattle.spec_hyparview.specs.Active.{clear-refused}
+use Rattle.hyparview_state.specs.Unpack.{unpack, station-of}
+use Rattle.hyparview_state.proofs.Bridge.{on-passed, on-done}
+use Rattle.hyparview_state.proofs.Fields.{put-refused}
 use borrow.Author.Needs.{needs}
 use Rattle.step_refill.proofs.clear_refused.Statement.{statement}
 use Rattle.step_refill.proofs.clear_refused.Tie as tie

@@ -4,12 +4,12 @@ use mathlib.Core.Path.{sym, subst, _∙_}
 use mathlib.Core.Logic.{⊎-elim}
 use native.Mathlib.Omega.{arith}
 use lib.ListN.{length-set}
-use Rattle.util.specs.Section.{part}
-use Rattle.protocol.specs.Run.{on}
-use Rattle.protocol.specs.Refill.{limit-short}
-use Rattle.state.specs.Unpack.{long}
-use Rattle.state.specs.Work.{work-of, Changes}
-use Rattle.state.proofs.Access.{of-active, count-active}
+use Rattle.base_util.specs.Section.{part}
+use Rattle.spec_hyparview.specs.Run.{on}
+use Rattle.spec_hyparview.specs.Refill.{limit-short}
+use Rattle.hyparview_state.specs.Unpack.{long}
+use Rattle.hyparview_state.specs.Work.{work-of, Changes}
+use Rattle.hyparview_state.proofs.Access.{of-active, count-active}
 use Rattle.step_refill.proofs.Limits.{limited, not-limited}
 use Rattle.step_refill.proofs.Asking.{fine-after, none-needed, not-needed, needed}
 use borrow.Author.Needs.{needs}

@@ -3,11 +3,11 @@ use mathlib.Core.Path.{sym}
 use native.Mathlib.Omega.{arith}
 use Prim.Native.Nat.{ℕ}
 use mathlib.Core.List.{List}
-use Rattle.protocol.specs.Refill.{use-request, refill-limited}
-use Rattle.protocol.specs.Run.{on}
-use Rattle.state.specs.Work.{work-of, run, Changes, Does}
-use Rattle.state.proofs.Counts.{alone}
-use Rattle.util.proofs.Sets.{empty-is-null, item-read}
+use Rattle.spec_hyparview.specs.Refill.{use-request, refill-limited}
+use Rattle.spec_hyparview.specs.Run.{on}
+use Rattle.hyparview_state.specs.Work.{work-of, run, Changes, Does}
+use Rattle.hyparview_state.proofs.Counts.{alone}
+use Rattle.base_util.proofs.Sets.{empty-is-null, item-read}
 use Rattle.step_sending.proofs.Told.{room-drawn}
 use Rattle.step_refill.proofs.Limits.{some-left, used, not-used}
 use Rattle.step_refill.proofs.Asking.{one-picked, none-left, one-asked}

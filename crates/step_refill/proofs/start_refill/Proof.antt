@@ -2,10 +2,10 @@ use Prim.Native.Nat.{ℕ}
 use mathlib.Core.List.{List}
 use mathlib.Core.Path.{sym, subst, _∙_}
 use mathlib.Core.Logic.{⊎-elim}
-use Rattle.protocol.specs.Run.{on}
-use Rattle.protocol.specs.Refill.{begin-refill}
-use Rattle.state.specs.Unpack.{refill-in, long}
-use Rattle.state.specs.Work.{work-of, Changes}
+use Rattle.spec_hyparview.specs.Run.{on}
+use Rattle.spec_hyparview.specs.Refill.{begin-refill}
+use Rattle.hyparview_state.specs.Unpack.{refill-in, long}
+use Rattle.hyparview_state.specs.Work.{work-of, Changes}
 use Rattle.step_refill.proofs.Limits.{begun, not-begun}
 use Rattle.step_refill.proofs.Asking.{fine-after, refill-started}
 use borrow.Author.Needs.{needs}

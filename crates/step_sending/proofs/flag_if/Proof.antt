@@ -1,4 +1,4 @@
-use Rattle.lists.specs.Lists.{choose}
+use Rattle.base_lists.specs.Lists.{choose}
 use Rattle.step_sending.proofs.flag_if.Statement.{statement}
 use Rattle.step_sending.proofs.flag_if.Tie as tie
 

@@ -1,4 +1,4 @@
-use Rattle.state.proofs.Access.{of-packed}
+use Rattle.hyparview_state.proofs.Access.{of-packed}
 use Rattle.step_sending.proofs.Told.{join-told}
 use borrow.Author.Needs.{needs}
 use Rattle.step_sending.proofs.join.Statement.{statement}

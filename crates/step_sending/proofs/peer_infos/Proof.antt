@@ -4,21 +4,21 @@ use mathlib.Core.List.{List, [], _∷_, _++_, append-nil}
 use native.Mathlib.Omega.{arith}
 use lib.ListN.{length, take, getD, length-append}
 use lib.Seq.{append-snoc, take-length}
-use Rattle.lists.specs.Maps.{lookup}
-use Rattle.lists.proofs.Rest.{Rest, rest-next, rest-end}
-use Rattle.peer.specs.Data.{Node}
-use Rattle.peer.specs.Held.{node-in, HoldsData}
-use Rattle.peer.specs.declared.PeerData.{PeerData}
-use Rattle.writer.specs.declared.Nodes.{Nodes}
-use Rattle.writer.specs.Nodes.{nodes-in, ValidNodes, HoldsNodes}
-use Rattle.writer.proofs.Ways.{length-nodes}
-use Rattle.protocol.specs.Station.{Station}
-use Rattle.protocol.specs.Run.{node, peer-info, peer-infos}
-use Rattle.util.specs.Section.{part}
-use Rattle.columns.specs.Columns.{data-map-at}
-use Rattle.state.specs.Layout.{peer-data-part}
-use Rattle.state.specs.Unpack.{unpack, station-of}
-use Rattle.state.proofs.Access.{of-packed}
+use Rattle.base_lists.specs.Maps.{lookup}
+use Rattle.base_lists.proofs.Rest.{Rest, rest-next, rest-end}
+use Rattle.base_peer.specs.Data.{Node}
+use Rattle.base_peer.specs.Held.{node-in, HoldsData}
+use Rattle.base_peer.specs.declared.PeerData.{PeerData}
+use Rattle.record_writer.specs.declared.Nodes.{Nodes}
+use Rattle.record_writer.specs.Nodes.{nodes-in, ValidNodes, HoldsNodes}
+use Rattle.record_writer.proofs.Ways.{length-nodes}
+use Rattle.spec_hyparview.specs.Station.{Station}
+use Rattle.spec_hyparview.specs.Run.{node, peer-info, peer-infos}
+use Rattle.base_util.specs.Section.{part}
+use Rattle.base_columns.specs.Columns.{data-map-at}
+use Rattle.hyparview_state.specs.Layout.{peer-data-part}
+use Rattle.hyparview_state.specs.Unpack.{unpack, station-of}
+use Rattle.hyparview_state.proofs.Access.{of-packed}
 use borrow.Author.Needs.{needs}
 use Rattle.step_sending.proofs.peer_infos.Statement.{statement}
 use Rattle.step_sending.proofs.peer_infos.Tie as tie

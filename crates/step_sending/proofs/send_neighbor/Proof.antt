@@ -3,14 +3,14 @@ use mathlib.Core.List.{List}
 use lib.ListN.{getD, set}
 use borrow.Rule.Slice.PartMut.{putMid}
 use native.Mathlib.Omega.{arith}
-use Rattle.util.specs.Section.{part}
-use Rattle.protocol.specs.Run.{on}
-use Rattle.protocol.specs.Sending.{note-request}
-use Rattle.state.specs.Unpack.{unpack, station-of, long}
-use Rattle.state.specs.Work.{work-of, Changes, Room}
-use Rattle.state.proofs.Access.{of-packed}
-use Rattle.state.proofs.Bridge.{on-done}
-use Rattle.state.proofs.Fields.{put-requests, put-next-request}
+use Rattle.base_util.specs.Section.{part}
+use Rattle.spec_hyparview.specs.Run.{on}
+use Rattle.spec_hyparview.specs.Sending.{note-request}
+use Rattle.hyparview_state.specs.Unpack.{unpack, station-of, long}
+use Rattle.hyparview_state.specs.Work.{work-of, Changes, Room}
+use Rattle.hyparview_state.proofs.Access.{of-packed}
+use Rattle.hyparview_state.proofs.Bridge.{on-done}
+use Rattle.hyparview_state.proofs.Fields.{put-requests, put-next-request}
 use Rattle.step_sending.proofs.Told.{asked, requests-counted, number-left, place-left, noted-room, request-told, neighbor-sent, neighbor-refused}
 use borrow.Author.Needs.{needs}
 use Rattle.step_sending.proofs.send_neighbor.Statement.{statement}

@@ -1,8 +1,8 @@
 use mathlib.Core.Logic.{⊎-elim}
 use native.Mathlib.Omega.{arith}
-use Rattle.util.specs.Section.{part}
-use Rattle.state.specs.Unpack.{unpack, station-of}
-use Rattle.state.proofs.Access.{of-packed}
+use Rattle.base_util.specs.Section.{part}
+use Rattle.hyparview_state.specs.Unpack.{unpack, station-of}
+use Rattle.hyparview_state.proofs.Access.{of-packed}
 use Rattle.step_sending.proofs.Sets.{fill-fits, lent-count, lent-few}
 use Rattle.step_sending.proofs.Replies.{ReadyReply, ready-as, ready-filled, ready-enough}
 use Rattle.step_sending.proofs.Told.{set-told}

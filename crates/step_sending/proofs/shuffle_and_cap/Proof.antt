@@ -1,5 +1,5 @@
-use Rattle.util.specs.Section.{part}
-use Rattle.util.proofs.Sets.{set-inside, cut-short, short-enough}
+use Rattle.base_util.specs.Section.{part}
+use Rattle.base_util.proofs.Sets.{set-inside, cut-short, short-enough}
 use Rattle.step_sending.proofs.Sets.{capped}
 use borrow.Author.Needs.{needs}
 use Rattle.step_sending.proofs.shuffle_and_cap.Statement.{statement}

@@ -6,17 +6,17 @@ use mathlib.Core.List.{List, _∷_}
 use mathlib.Core.Option.{Option}
 use native.Mathlib.Omega.{arith}
 use lib.ListN.{length}
-use Rattle.peer.specs.Data.{Node}
-use Rattle.peer.specs.Held.{data-in, node-in}
-use Rattle.peer.specs.declared.PeerInfo.{PeerInfo}
+use Rattle.base_peer.specs.Data.{Node}
+use Rattle.base_peer.specs.Held.{data-in, node-in}
+use Rattle.base_peer.specs.declared.PeerInfo.{PeerInfo}
 use Rattle.record.specs.Read.{node-at, nodes-of}
 use Rattle.record.specs.Answers.{HoldsNode}
-use Rattle.protocol.specs.Run.{Run}
-use Rattle.protocol.specs.Peers.{is-newcomer, add-passive, add-nodes, any-new}
-use Rattle.state.specs.declared.Work.{Work}
-use Rattle.state.specs.Unpack.{unpack}
-use Rattle.state.specs.Work.{work-of, run, Fine, Does}
-use Rattle.state.proofs.Bridge.{at-run}
+use Rattle.spec_hyparview.specs.Run.{Run}
+use Rattle.spec_hyparview.specs.Peers.{is-newcomer, add-passive, add-nodes, any-new}
+use Rattle.work.specs.declared.Work.{Work}
+use Rattle.hyparview_state.specs.Unpack.{unpack}
+use Rattle.hyparview_state.specs.Work.{work-of, run, Fine, Does}
+use Rattle.hyparview_state.proofs.Bridge.{at-run}
 use Rattle.step_peers.specs.declared.Added.{Added}
 use Rattle.step_peers.specs.Answer.{Adds}
 use Rattle.step_shuffling.proofs.Nodes.{nodes-from, nodes-start, nodes-end, or-more}

@@ -6,14 +6,14 @@ use mathlib.Core.List.{List, [], _∷_, _++_, append-nil}
 use native.Mathlib.Omega.{arith}
 use lib.ListN.{length, length-append}
 use lib.Seq.{append-snoc}
-use Rattle.peer.specs.Data.{Node}
-use Rattle.peer.specs.Held.{node-in}
-use Rattle.peer.specs.declared.PeerInfo.{PeerInfo}
+use Rattle.base_peer.specs.Data.{Node}
+use Rattle.base_peer.specs.Held.{node-in}
+use Rattle.base_peer.specs.declared.PeerInfo.{PeerInfo}
 use Rattle.record.specs.Read.{header-of, well-formed, node-at, nodes-of}
 use Rattle.record.specs.Answers.{HoldsNode}
-use Rattle.writer.specs.declared.Nodes.{Nodes}
-use Rattle.writer.specs.Nodes.{nodes-in, ValidNodes, HoldsNodes}
-use Rattle.writer.proofs.Ways.{length-nodes}
+use Rattle.record_writer.specs.declared.Nodes.{Nodes}
+use Rattle.record_writer.specs.Nodes.{nodes-in, ValidNodes, HoldsNodes}
+use Rattle.record_writer.proofs.Ways.{length-nodes}
 use Rattle.step_shuffling.proofs.Nodes.{nodes-from, nodes-start, nodes-end, few-nodes}
 use borrow.Author.Needs.{needs}
 use Rattle.step_shuffling.proofs.event_nodes.Statement.{statement}

@@ -1,6 +1,6 @@
-use Rattle.state.specs.Work.{Fine, work-of}
-use Rattle.util.specs.Section.{part}
-use Rattle.state.proofs.Access.{of-packed}
+use Rattle.hyparview_state.specs.Work.{Fine, work-of}
+use Rattle.base_util.specs.Section.{part}
+use Rattle.hyparview_state.proofs.Access.{of-packed}
 use Rattle.step_sending.proofs.Told.{room-drawn}
 use Rattle.step_refill.proofs.Asking.{some-there}
 use Rattle.step_shuffling.proofs.Laws.{pair-valid, others-are, shuffle-kept, shuffle-on, passed-on}

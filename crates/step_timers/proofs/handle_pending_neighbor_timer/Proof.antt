@@ -1,10 +1,10 @@
 use mathlib.Core.Path.{_≡_}
-use Rattle.protocol.specs.Timers.{request-is}
-use Rattle.state.specs.Unpack.{unpack}
-use Rattle.state.specs.Work.{Fine, work-of}
-use Rattle.util.specs.Section.{part}
+use Rattle.spec_hyparview.specs.Timers.{request-is}
+use Rattle.hyparview_state.specs.Unpack.{unpack}
+use Rattle.hyparview_state.specs.Work.{Fine, work-of}
+use Rattle.base_util.specs.Section.{part}
 use native.Mathlib.Omega.{arith}
-use Rattle.state.proofs.Access.{of-packed}
+use Rattle.hyparview_state.proofs.Access.{of-packed}
 use Rattle.step_timers.proofs.Asked.{request-said, dropped-fine, failed, late, not-late}
 use borrow.Author.Needs.{needs}
 use Rattle.step_timers.proofs.handle_pending_neighbor_timer.Statement.{statement}

@@ -1,5 +1,5 @@
-use Rattle.protocol.specs.Timers.{schedule-shuffle, handle-shuffle-timer}
-use Rattle.state.proofs.Bridge.{seq}
+use Rattle.spec_hyparview.specs.Timers.{schedule-shuffle, handle-shuffle-timer}
+use Rattle.hyparview_state.proofs.Bridge.{seq}
 use borrow.Author.Needs.{needs}
 use Rattle.step_timers.proofs.handle_shuffle_timer.Statement.{statement}
 use Rattle.step_timers.proofs.handle_shuffle_timer.Tie as tie

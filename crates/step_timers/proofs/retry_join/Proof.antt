@@ -1,7 +1,7 @@
-use Rattle.state.specs.Work.{Room, work-of}
-use Rattle.util.specs.Section.{part}
+use Rattle.hyparview_state.specs.Work.{Room, work-of}
+use Rattle.base_util.specs.Section.{part}
 use native.Mathlib.Omega.{arith}
-use Rattle.state.proofs.Access.{of-packed}
+use Rattle.hyparview_state.proofs.Access.{of-packed}
 use Rattle.step_timers.proofs.Asked.{join-said, room-changed, retried, not-retried}
 use borrow.Author.Needs.{needs}
 use Rattle.step_timers.proofs.retry_join.Statement.{statement}

@@ -1,6 +1,6 @@
-use Rattle.state.specs.Work.{Fine, work-of}
+use Rattle.hyparview_state.specs.Work.{Fine, work-of}
 use native.Mathlib.Omega.{arith}
-use Rattle.state.proofs.Access.{of-interval}
+use Rattle.hyparview_state.proofs.Access.{of-interval}
 use Rattle.step_timers.proofs.Shuffles.{setting-fits, doubled, not-scheduled, scheduled}
 use borrow.Author.Needs.{needs}
 use Rattle.step_timers.proofs.schedule_shuffle.Statement.{statement}

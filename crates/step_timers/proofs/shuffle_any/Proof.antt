@@ -1,11 +1,11 @@
 use native.Mathlib.Omega.{arith}
 use lib.ListN.{take}
-use Rattle.lists.specs.Lists.{without}
-use Rattle.util.specs.Section.{part, items-at, HoldsSet}
-use Rattle.protocol.specs.Run.{draw-shuffle}
-use Rattle.state.specs.Layout.{active-part, passive-part, shuffle-active-view-count, shuffle-passive-view-count}
-use Rattle.state.specs.Work.{work-of, DrawsAny, Fine}
-use Rattle.state.proofs.Access.{of-packed, of-own, of-active, of-passive}
+use Rattle.base_lists.specs.Lists.{without}
+use Rattle.base_util.specs.Section.{part, items-at, HoldsSet}
+use Rattle.spec_hyparview.specs.Run.{draw-shuffle}
+use Rattle.hyparview_state.specs.Layout.{active-part, passive-part, shuffle-active-view-count, shuffle-passive-view-count}
+use Rattle.hyparview_state.specs.Work.{work-of, DrawsAny, Fine}
+use Rattle.hyparview_state.proofs.Access.{of-packed, of-own, of-active, of-passive}
 use Rattle.step_sending.proofs.Sets.{shuffled-by, lent-count, lent-few}
 use Rattle.step_sending.proofs.Told.{fine-drawn, room-of}
 use Rattle.step_timers.proofs.Shuffles.{place-named, walk-fits, shuffle-told, peers-drawn, peers-are, few-active, both-fit, all-fit, passive-done, with-done, none-asked, one-asked}

@@ -3,9 +3,9 @@ use Prim.Native.Nat.{ℕ, _≤_}
 use mathlib.Core.Path.{_≡_, ap}
 use mathlib.Core.List.{List}
 use native.Mathlib.Omega.{arith}
-use Rattle.convert.specs.Convert.{Conversion, outcome, conversion, outcome-of}
-use Rattle.convert.specs.declared.Converted.{Converted}
-use Rattle.convert.proofs.Laws.{converted-fits}
+use Rattle.record_convert.specs.Convert.{Conversion, outcome, conversion, outcome-of}
+use Rattle.record_convert.specs.declared.Converted.{Converted}
+use Rattle.record_convert.proofs.Laws.{converted-fits}
 use borrow.Author.Needs.{needs}
 use Rattle.test_convert.proofs.convert_to.Statement.{statement}
 use Rattle.test_convert.proofs.convert_to.Tie as tie

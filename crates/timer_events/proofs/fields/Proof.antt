@@ -1,5 +1,5 @@
 use mathlib.Core.Path.{refl}
-use Rattle.writer.specs.Write.{rec-in}
+use Rattle.record_writer.specs.Write.{rec-in}
 use Rattle.timer_events.specs.Events.{event-rec}
 use Rattle.timer_events.proofs.Events.{kind-fits}
 use Rattle.timer_events.proofs.fields.Statement.{statement}

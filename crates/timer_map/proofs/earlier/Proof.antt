@@ -1,7 +1,7 @@
 use mathlib.Core.Path.{sym}
 use borrow.Author.Tests.{lt-ltb, le-ltb}
 use borrow.Author.Needs.{needs}
-use Rattle.lists.proofs.Choice.{choose-yes, choose-no}
+use Rattle.base_lists.proofs.Choice.{choose-yes, choose-no}
 use Rattle.timer_map.proofs.earlier.Statement.{statement}
 use Rattle.timer_map.proofs.earlier.Tie as tie
 

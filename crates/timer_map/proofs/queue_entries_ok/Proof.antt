@@ -1,6 +1,6 @@
 use Prim.Native.Nat.{_-_}
 use borrow.Author.Needs.{needs}
-use Rattle.lists.specs.Tests.{every}
+use Rattle.base_lists.specs.Tests.{every}
 use Rattle.timer_map.specs.Entries.{queue-entry-ok}
 use Rattle.timer_map.specs.Words.{queue-entries-at}
 use Rattle.timer_map.proofs.Walk.{Walk, Timers, timers-start, timers-next, timers-end}

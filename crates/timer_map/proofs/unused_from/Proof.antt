@@ -1,9 +1,9 @@
 use Prim.Native.Nat.{_-_}
 use borrow.Author.Needs.{needs}
 use lib.ListN.{length, drop}
-use Rattle.lists.specs.Tests.{every}
-use Rattle.lists.proofs.Rest.{Rest}
-use Rattle.lists.proofs.Tests.{So-far, so-far-from, so-far-next, so-far-end}
+use Rattle.base_lists.specs.Tests.{every}
+use Rattle.base_lists.proofs.Rest.{Rest}
+use Rattle.base_lists.proofs.Tests.{So-far, so-far-from, so-far-next, so-far-end}
 use Rattle.timer_map.specs.Words.{unused-word}
 use Rattle.timer_map.proofs.unused_from.Statement.{statement}
 use Rattle.timer_map.proofs.unused_from.Tie as tie

@@ -1,0 +1,27 @@
+use Rattle.base_columns.proofs.Numbers.{numbers-counted, number-has}
+use borrow.Author.Needs.{needs}
+use Rattle.base_columns.proofs.contains_number.Statement.{statement}
+use Rattle.base_columns.proofs.contains_number.Tie as tie
+
+add-end : tie.Need-add-end
+add-end c = search needs
+
+mul-n : tie.Need-mul-n
+mul-n c = search needs
+
+shared-slice-read-n : tie.Need-shared-slice-read-n
+shared-slice-read-n c = search needs
+
+slice-aggregate-is-in : tie.Need-slice-aggregate-is-in
+slice-aggregate-is-in c = search numbers-counted
+
+is-in-requires : tie.Need-is-in-requires
+is-in-requires c κs = search needs
+
+returns : tie.Need-returns
+returns c = search number-has
+
+pub contains-number-spec : {M : Type 1} → statement M
+contains-number-spec =
+    tie.close
+    (tie.spec add-end mul-n shared-slice-read-n slice-aggregate-is-in is-in-requires returns)

@@ -1,0 +1,85 @@
+-- Each place comes from equally many of the draws kept: by arithmetic over blocks of n draws.
+-- Assumes nothing.
+use Prim.Native.Nat.{ℕ, zero, suc, _+_, _-_, _*_, _/_, _%_, _≤_, _<_}
+use mathlib.Core.Path.{_≡_, refl, sym, ap, subst}
+use mathlib.Core.Bool.{Bool, true, false}
+use native.Mathlib.Nat.{not-suc-le-zero, add-zero, add-suc, suc-mul, zero-mul, add-mul, div-add-mod'}
+use native.Mathlib.Omega.{arith}
+use lib.Arith.{digits-mod}
+use lib.Dec.{eqb}
+use borrow.Author.Tests.{eqb-true, eqb-false, ne-eqb, lt-ltb, le-ltb}
+use Rattle.base_lists.specs.Lists.{choose}
+use Rattle.base_lists.proofs.Choice.{by-choice, choose-no}
+use Rattle.base_util.specs.Chances.{all-draws, kept-end, is-kept}
+use Rattle.base_util.specs.Equal.{sum-below, count-below, decides, EqualChances}
+
+pub sum-same : (f g : ℕ → ℕ) (k : ℕ) → ((d : ℕ) → d < k → f d ≡ g d) → sum-below f k ≡ sum-below g k
+unfolding sum-below
+sum-same f g zero e = refl
+sum-same f g (suc k) e = omega (arith, e k (omega arith), sum-same f g k (λ d h. e d (omega arith)))
+
+pub sum-nothing : (f : ℕ → ℕ) (k : ℕ) → ((d : ℕ) → d < k → f d ≡ 0) → sum-below f k ≡ 0
+unfolding sum-below
+sum-nothing f zero e = refl
+sum-nothing f (suc k) e = omega (arith, e k (omega arith), sum-nothing f k (λ d h. e d (omega arith)))
+
+sum-split : (f : ℕ → ℕ) (k m : ℕ) → sum-below f (k + m) ≡ sum-below f k + sum-below (λ d. f (k + d)) m
+unfolding sum-below
+sum-split f k zero = rw (add-zero k) (omega arith)
+sum-split f k (suc m) = rw (add-suc k m) (omega (arith, sum-split f k m))
+
+times : (b : Bool) (w : ℕ) → choose b w 0 ≡ choose b 1 0 * w
+unfolding choose
+times true w = omega arith
+times false w = omega arith
+
+-- one summand for each draw that passes the test
+pub sum-chosen : (t : ℕ → Bool) (w k : ℕ) → sum-below (λ d. choose (t d) w 0) k ≡ count-below t k * w
+unfolding count-below sum-below
+sum-chosen t w zero = sym (zero-mul w)
+sum-chosen t w (suc k) =
+    rw (add-mul (choose (t k) 1 0) (sum-below (λ d. choose (t d) 1 0) k) w)
+    (omega (arith, sum-chosen t w k, times (t k) w))
+
+-- of the numbers below k one is i
+one-is : (i k : ℕ) → i < k → sum-below (λ d. choose (eqb d i) 1 0) k ≡ 1
+unfolding sum-below
+one-is i zero h = absurd (not-suc-le-zero h)
+one-is i (suc k) h =
+    by-choice (λ (c : ℕ). c + sum-below (λ d. choose (eqb d i) 1 0) k ≡ 1) (eqb k i)
+    (λ e. omega (arith, sum-nothing (λ d. choose (eqb d i) 1 0) k (λ d l. choose-no _ 1 0 (ne-eqb d i (λ q. omega (arith, eqb-true k i e))))))
+    (λ e. omega (arith, one-is i k (let n = eqb-false k i e in omega arith)))
+
+-- q blocks of n numbers have q numbers with the remainder i
+blocks : (n i q : ℕ) → i < n → sum-below (λ d. choose (eqb (d % n) i) 1 0) (q * n) ≡ q
+unfolding sum-below
+blocks n i zero h = rw (zero-mul n)
+blocks n i (suc q) h =
+    rw (suc-mul q n)
+    (omega (
+      arith,
+      sum-split (λ d. choose (eqb (d % n) i) 1 0) (q * n) n,
+      blocks n i q h,
+      sum-same (λ d. choose (eqb ((q * n + d) % n) i) 1 0) (λ d. choose (eqb d i) 1 0) n (λ d l. rw (digits-mod q {m = n} {r = d} l)),
+      one-is i n h,
+    ))
+
+-- the same of N numbers of which those past the last whole block do not count
+even : (N n i : ℕ) (t : ℕ → Bool) → i < n → ((d : ℕ) → d < N - N % n → t d ≡ eqb (d % n) i) → ((d : ℕ) → N - N % n ≤ d → t d ≡ false) → count-below t N ≡ N / n
+unfolding count-below
+even N n i t h low high =
+    let e : N / n * n + N % n ≡ N = div-add-mod' N n in
+    let s : sum-below (λ d. choose (t d) 1 0) (N / n * n + N % n) ≡ N / n =
+    omega (
+      arith,
+      sum-split (λ d. choose (t d) 1 0) (N / n * n) (N % n),
+      sum-same (λ d. choose (t d) 1 0) (λ d. choose (eqb (d % n) i) 1 0) (N / n * n) (λ d l. ap (λ (b : Bool). choose b 1 0) (low d (omega arith))),
+      blocks n i (N / n) h,
+      sum-nothing (λ d. choose (t (N / n * n + d)) 1 0) (N % n) (λ d l. choose-no _ 1 0 (high (N / n * n + d) (omega arith))),
+    ) in
+    subst (λ (k : ℕ). sum-below (λ d. choose (t d) 1 0) k ≡ N / n) e s
+
+pub equal-chances : EqualChances
+unfolding decides is-kept kept-end
+equal-chances n i h =
+    even all-draws n i (decides n i) h (λ d l. rw (lt-ltb d (all-draws - all-draws % n) l)) (λ d l. rw (le-ltb d (all-draws - all-draws % n) l))

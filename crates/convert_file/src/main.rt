@@ -1,4 +1,0 @@
-// Document 02, S-8: standard input is a file of old records, standard output gets them in today's form.
-fn main() {
-    convert_stream::convert_input(false);
-}

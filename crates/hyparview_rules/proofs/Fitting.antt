@@ -1,0 +1,398 @@
+-- A station that keeps the rules is packed into words that pass the test, and comes out of them again.
+-- Assumes nothing.
+use Prim.Native.Nat.{ℕ, _≤_, _<_, zero-le}
+use mathlib.Core.Path.{_≡_, refl, sym, ap, _∙_, subst}
+use mathlib.Core.Bool.{Bool, true, false, _&&_}
+use mathlib.Core.List.{List, [], _∷_, _++_, map}
+use mathlib.Core.Option.{none, some}
+use native.Mathlib.Omega.{arith}
+use lib.ListN.{length}
+use lib.Dec.{eqb, leb, ltb}
+use borrow.Author.Tests.{leb-true, eqb-true, ne-eqb, lt-ltb, ltb-true}
+use Rattle.base_lists.specs.Array.{pad}
+use Rattle.base_lists.specs.Lists.{mem, choose, without, Above, Rising, rising, subset}
+use Rattle.base_lists.specs.Maps.{keys, values}
+use Rattle.base_lists.proofs.Array.{take-pad}
+use Rattle.base_lists.proofs.Choice.{split, and-left, and-right}
+use Rattle.base_lists.proofs.Count.{mem-true, length-without}
+use Rattle.base_lists.proofs.Maps.{length-keys}
+use Rattle.base_lists.proofs.Tests.{both-true, and-no, rising-true}
+use Rattle.base_lists.proofs.Zip.{length-values}
+use Rattle.base_util.specs.Section.{items-at, ValidSet, section}
+use Rattle.base_util.proofs.Sets.{section-holds}
+use Rattle.base_columns.specs.Columns.{words-end, word-bytes, numbers-at, ValidNumbers, numbers-section, low-word, high-word, data-map-at, ValidDataWords, data-section}
+use Rattle.base_peer.specs.declared.PeerData.{PeerData}
+use Rattle.base_peer.specs.Data.{Data, bytes-of}
+use Rattle.base_peer.specs.Held.{data-in, ValidData}
+use Rattle.base_peer.specs.Maps.{numbers-under}
+use Rattle.base_peer.proofs.Data.{holds-some}
+use Rattle.base_timing.specs.Timing.{within, in-range}
+use Rattle.base_timing.proofs.Ranges.{ranges}
+use Rattle.spec_hyparview.specs.Station.{Station, Refill, automatic, requests-left, recovery, peers-end, bytes-end}
+use Rattle.spec_hyparview.specs.Rules.{short-data, all-short, all-under, lists-under, peer-lists, limit-ok, settings-rule, order-rule, capacity-rule, alive-rule, few-rule, joins-rule, numbers-rule, room-rule, data-rule, limit-rule, interval-rule, rules, station-ok}
+use Rattle.spec_hyparview.specs.Rules as R
+use Rattle.spec_hyparview.specs.Handle.{new-station, zero-config, zero-station}
+use Rattle.hyparview_state.specs.Layout.{Sections}
+use Rattle.hyparview_state.specs.Unpack.{own-at, settings-at, limit-at, limit-formed, refill-in, station-of, unpack}
+use Rattle.hyparview_state.proofs.Memory.{bit-fits, bool-back, two-limit}
+use Rattle.hyparview_rules.specs.Pack.{present-word, kind-word, requests-word, front, pack}
+use Rattle.hyparview_rules.specs.Ok.{packed-ok, state-ok}
+use Rattle.hyparview_rules.proofs.Under.{numbers-are}
+use Rattle.hyparview_rules.proofs.Shape.{Shape, shape-ok}
+use Rattle.hyparview_rules.proofs.Widths.{under-append, under-pad, under-section}
+use Rattle.hyparview_rules.proofs.Packed.{Kept, ok-kept, wide-of}
+use Rattle.hyparview_rules.proofs.Maps.{words-back, low-under, high-under, lengths, low-words, high-words, numbers-hold, data-hold}
+use Rattle.hyparview_rules.proofs.Parts.{packed-sections, packed-long}
+
+-- ---- a list that rises and is part of another is no longer
+
+mem-without-other : (y x : ℕ) (ys : List ℕ) → (y ≡ x → ⊥) → mem y (without x ys) ≡ mem y ys
+unfolding mem without
+mem-without-other y x [] n = refl
+mem-without-other y x (q ∷ ys) n =
+    split (eqb x q) (λ e. rw (e, ne-eqb y q (λ p. n (p ∙ sym (eqb-true x q e)))) (mem-without-other y x ys n)) (λ e. rw (e, mem-without-other y x ys n))
+
+subset-without : (x : ℕ) (xs ys : List ℕ) → Above x xs → subset xs ys ≡ true → subset xs (without x ys) ≡ true
+unfolding Above subset
+subset-without x [] ys a h = refl
+subset-without x (p ∷ xs) ys a h =
+    both-true (mem p (without x ys)) _ (mem-without-other p x ys (λ e. omega (arith, a .0, e)) ∙ and-left (mem p ys) _ h)
+    (subset-without x xs ys (a .1) (and-right (mem p ys) _ h))
+
+no-more : (xs ys : List ℕ) → Rising xs → subset xs ys ≡ true → length xs ≤ length ys
+unfolding Rising subset
+no-more [] ys r h = zero-le
+no-more (x ∷ xs) ys r h =
+    omega
+    (arith, no-more xs (without x ys) (r .1) (subset-without x xs ys (r .0) (and-right (mem x ys) _ h)), length-without x ys, mem-true x ys (and-left (mem x ys) _ h))
+
+-- ---- what a station that keeps the rules has room for
+
+-- g has room in the sections, and its maps rise
+pub record Fits (g : Station) : Type 0 where
+  pub own-data : short-data (g .own-data) ≡ true
+  pub own-bytes : all-under bytes-end (bytes-of (g .own-data)) ≡ true
+  pub active : length (g .active) ≤ 8
+  pub passive : length (g .passive) ≤ 32
+  pub bootstrap : length (g .bootstrap) ≤ 8
+  pub recent : length (g .recent) ≤ 8
+  pub requests : length (g .requests) ≤ 32
+  pub requests-rise : Rising (keys (g .requests))
+  pub joins : length (g .joins) ≤ 8
+  pub joins-rise : Rising (keys (g .joins))
+  pub peer-data : length (g .peer-data) ≤ 80
+  pub peer-data-rise : Rising (keys (g .peer-data))
+  pub short : all-short (g .peer-data) ≡ true
+  pub bytes : lists-under bytes-end (values (g .peer-data)) ≡ true
+  pub alive : length (g .alive) ≤ 32
+  pub refused : length (g .refused) ≤ 32
+
+pub kept-fits : (g : Station) → Kept g → Fits g
+unfolding settings-rule capacity-rule order-rule alive-rule few-rule joins-rule room-rule data-rule lists-under
+kept-fits g k =
+    let o₁ = and-right (rising (keys (g .requests))) _ (k .order) in
+    let o₂ = and-right (rising (keys (g .joins))) _ o₁ in
+    let o₃ = and-right (rising (keys (g .peer-data))) _ o₂ in
+    let joins-rise = rising-true _ (and-left (rising (keys (g .joins))) _ o₁) in
+    let most = ranges (g .config) (k .settings) in
+    let few = leb (length (g .bootstrap)) 8 in
+    let asked = leb (length (g .requests)) 32 in
+    let turned = leb (length (g .refused)) 32 in
+    let room = and-right asked _ (k .room) in
+    let held = wide-of g (k .width) .bytes in
+    let active : length (g .active) ≤ g .config .«active_view_capacity» = leb-true _ _ (and-left (leb (length (g .active)) (g .config .«active_view_capacity»)) _ (k .capacity)) in
+    let passive : length (g .passive) ≤ g .config .«passive_view_capacity» = leb-true _ _ (and-right (leb (length (g .active)) (g .config .«active_view_capacity»)) _ (k .capacity)) in
+    let bootstrap : length (g .bootstrap) ≤ 8 = leb-true _ _ (and-left few _ (k .few)) in
+    let alive : length (g .alive) ≤ length (g .passive) = no-more (g .alive) (g .passive) (rising-true _ (and-left (rising (g .alive)) _ o₃)) (k .alive) in
+    let joins : length (keys (g .joins)) ≤ length (g .bootstrap) = no-more (keys (g .joins)) (g .bootstrap) joins-rise (and-left (subset (keys (g .joins)) (g .bootstrap)) _ (k .joins)) in
+    record {
+      own-data = and-right (all-short (g .peer-data)) _ (k .lengths);
+      own-bytes = and-left (all-under bytes-end (bytes-of (g .own-data))) _ held;
+      active = omega (arith, active, most .active .most);
+      passive = omega (arith, passive, most .passive .most);
+      bootstrap = bootstrap;
+      recent = leb-true _ _ (and-right few _ (k .few));
+      requests = leb-true _ _ (and-left asked _ (k .room));
+      requests-rise = rising-true _ (and-left (rising (keys (g .requests))) _ (k .order));
+      joins = omega (arith, joins, bootstrap, length-keys (g .joins));
+      joins-rise = joins-rise;
+      peer-data = leb-true _ _ (and-right turned _ room);
+      peer-data-rise = rising-true _ (and-left (rising (keys (g .peer-data))) _ o₂);
+      short = and-left (all-short (g .peer-data)) _ (k .lengths);
+      bytes = and-right (all-under bytes-end (bytes-of (g .own-data))) _ held;
+      alive = omega (arith, alive, passive, most .passive .most);
+      refused = leb-true _ _ (and-left turned _ room);
+    }
+
+-- ---- own data, the limit and the sections come out again
+
+abbrev own-packed : Data → PeerData
+own-packed d = record { present = eqb (present-word d) 1; len = length (bytes-of d); bytes = word-bytes (low-word (bytes-of d)) (high-word (bytes-of d)) }
+
+short-bytes : (d : Data) → short-data d ≡ true → length (bytes-of d) ≤ 16
+unfolding short-data bytes-of
+short-bytes none e = omega arith
+short-bytes (some b) e = leb-true (length b) 16 e
+
+module _ (d : Data) (e : short-data d ≡ true) (u : all-under bytes-end (bytes-of d) ≡ true) where
+  own-words : own-packed d ≡ record { present = eqb (present-word d) 1; len = length (bytes-of d); bytes = pad 0 16 (bytes-of d) }
+  own-words = λ i. record { present = eqb (present-word d) 1; len = length (bytes-of d); bytes = words-back (bytes-of d) (short-bytes d e) u i }
+
+own-padded : (d : Data) → short-data d ≡ true → data-in (record { present = eqb (present-word d) 1; len = length (bytes-of d); bytes = pad 0 16 (bytes-of d) }) ≡ d
+unfolding data-in present-word bytes-of short-data choose
+own-padded none e = refl
+own-padded (some b) e = ap some (take-pad 0 16 b (leb-true (length b) 16 e))
+
+own-fine : (d : Data) → short-data d ≡ true → ValidData (record { present = eqb (present-word d) 1; len = length (bytes-of d); bytes = pad 0 16 (bytes-of d) })
+unfolding present-word bytes-of short-data pad
+own-fine none e = record { fits = omega arith; packed = refl; absent = λ t. refl }
+own-fine (some b) e = holds-some b (pad 0 16 b) (length b) refl refl (leb-true (length b) 16 e) .valid
+
+limit-out : (r : Refill) → refill-in (two-limit (kind-word r) (requests-word r)) ≡ r
+unfolding refill-in kind-word requests-word choose
+limit-out automatic = refl
+limit-out (requests-left n) = refl
+limit-out recovery = refl
+
+limit-fine : (r : Refill) → limit-formed (kind-word r) (requests-word r) ≡ true
+unfolding limit-formed kind-word requests-word
+limit-fine automatic = refl
+limit-fine (requests-left n) = refl
+limit-fine recovery = refl
+
+present-fits : (d : Data) → present-word d ≤ 1
+unfolding present-word
+present-fits none = omega arith
+present-fits (some b) = omega arith
+
+pub unpack-pack : (g : Station) → Fits g → unpack (pack g) ≡ g
+unfolding unpack station-of pack front own-at settings-at limit-at
+unpack-pack g v =
+    let s = packed-sections g in
+    λ i. record {
+      me = g .me;
+      own-data = (ap data-in (own-words (g .own-data) (v .own-data) (v .own-bytes)) ∙ own-padded (g .own-data) (v .own-data)) i;
+      active = (ap (λ (t : Sections). items-at 8 (t .active)) s ∙ section-holds 8 (g .active) (v .active) .items) i;
+      passive = (ap (λ (t : Sections). items-at 32 (t .passive)) s ∙ section-holds 32 (g .passive) (v .passive) .items) i;
+      config = g .config;
+      scheduled = bool-back (g .scheduled) i;
+      next-interval = g .next-interval;
+      bootstrap = (ap (λ (t : Sections). items-at 8 (t .bootstrap)) s ∙ section-holds 8 (g .bootstrap) (v .bootstrap) .items) i;
+      passes-alone = g .passes-alone;
+      passes-short = g .passes-short;
+      recent = (ap (λ (t : Sections). items-at 8 (t .recent)) s ∙ section-holds 8 (g .recent) (v .recent) .items) i;
+      requests = (ap (λ (t : Sections). numbers-at 32 (t .requests)) s ∙ numbers-hold 32 (g .requests) (v .requests) (v .requests-rise) .items) i;
+      next-request = g .next-request;
+      joins = (ap (λ (t : Sections). numbers-at 8 (t .joins)) s ∙ numbers-hold 8 (g .joins) (v .joins) (v .joins-rise) .items) i;
+      next-join = g .next-join;
+      peer-data = (ap (λ (t : Sections). data-map-at 80 (t .peer-data)) s ∙ data-hold 80 (g .peer-data) (v .peer-data) (v .peer-data-rise) (v .short) (v .bytes) .items) i;
+      alive = (ap (λ (t : Sections). items-at 32 (t .alive)) s ∙ section-holds 32 (g .alive) (v .alive) .items) i;
+      refused = (ap (λ (t : Sections). items-at 32 (t .refused)) s ∙ section-holds 32 (g .refused) (v .refused) .items) i;
+      refill = limit-out (g .refill) i;
+    }
+
+-- ---- every word has 64 bits
+
+abbrev Fine : List ℕ → Type 0
+Fine l = all-under words-end l ≡ true
+
+more : (x : ℕ) (l : List ℕ) → x < words-end → Fine l → Fine (x ∷ l)
+unfolding all-under
+more x l h e = both-true (ltb x words-end) _ (lt-ltb x words-end h) e
+
+no-words : Fine []
+unfolding all-under
+no-words = refl
+
+both-fine : (a b : List ℕ) → Fine a → Fine b → Fine (a ++ b)
+both-fine a b p q = under-append words-end a b ∙ both-true _ _ p q
+
+peers-fine : (l : List ℕ) → all-under peers-end l ≡ true → Fine l
+unfolding all-under
+peers-fine [] e = refl
+peers-fine (x ∷ l) e = more x l (omega (arith, ltb-true x peers-end (and-left (ltb x peers-end) _ e))) (peers-fine l (and-right (ltb x peers-end) _ e))
+
+below-fine : (n : ℕ) (l : List ℕ) → n < words-end → all-under n l ≡ true → Fine l
+unfolding all-under
+below-fine n [] h e = refl
+below-fine n (x ∷ l) h e = more x l (omega (arith, ltb-true x n (and-left (ltb x n) _ e))) (below-fine n l h (and-right (ltb x n) _ e))
+
+set-fine : (n : ℕ) (l : List ℕ) → n < words-end → length l ≤ n → all-under peers-end l ≡ true → Fine (section n l)
+set-fine n l h f e = under-section words-end n l h f ∙ peers-fine l e
+
+column-fine : (n : ℕ) (l : List ℕ) → length l ≤ n → Fine l → Fine (pad 0 n l)
+column-fine n l f e = under-pad words-end n l (omega arith) f ∙ e
+
+numbers-fine : (n k : ℕ) (l : List (ℕ × ℕ)) → n < words-end → length l ≤ n → all-under peers-end (keys l) ≡ true → k < words-end → numbers-under k l ≡ true → Fine (numbers-section n l)
+unfolding numbers-section
+numbers-fine n k l h f e w u =
+    both-fine _ _ (both-fine _ _ (column-fine n (keys l) (omega (arith, length-keys l)) (peers-fine (keys l) e))
+    (column-fine n (values l) (omega (arith, length-values l)) (below-fine k (values l) w (sym (numbers-are k l) ∙ u))))
+    (more (length l) [] (omega arith) no-words)
+
+module _ (f : List ℕ → ℕ) (h : (b : List ℕ) → length b ≤ 16 → all-under bytes-end b ≡ true → f b < words-end) where
+  mapped-fine : (l : List (ℕ × List ℕ)) → all-short l ≡ true → lists-under bytes-end (values l) ≡ true → Fine (map f (values l))
+  unfolding values all-short lists-under
+  mapped-fine [] s e = no-words
+  mapped-fine (x ∷ l) s e =
+      more (f (x .1)) (map f (values l)) (h (x .1) (leb-true _ _ (and-left (leb (length (x .1)) 16) _ s)) (and-left (all-under bytes-end (x .1)) _ e))
+      (mapped-fine l (and-right (leb (length (x .1)) 16) _ s) (and-right (all-under bytes-end (x .1)) _ e))
+
+data-fine : (l : List (ℕ × List ℕ)) → length l ≤ 80 → all-under peers-end (keys l) ≡ true → all-short l ≡ true → lists-under bytes-end (values l) ≡ true → Fine (data-section 80 l)
+unfolding data-section
+data-fine l f e s u =
+    let p : (k : List ℕ → ℕ) → length (map k (values l)) ≤ 80 = λ k. omega (arith, lib.ListN.length-map (values l) k, length-values l) in
+    both-fine _ _ (both-fine _ _ (both-fine _ _ (both-fine _ _ (column-fine 80 (keys l) (omega (arith, length-keys l)) (peers-fine (keys l) e))
+    (column-fine 80 (lengths l) (p length) (mapped-fine length (λ b h t. omega (arith, h)) l s u)))
+    (column-fine 80 (low-words l) (p low-word) (mapped-fine low-word low-under l s u)))
+    (column-fine 80 (high-words l) (p high-word) (mapped-fine high-word high-under l s u)))
+    (more (length l) [] (omega arith) no-words)
+
+kind-fits : (r : Refill) → kind-word r ≤ 2
+unfolding kind-word
+kind-fits automatic = omega arith
+kind-fits (requests-left n) = omega arith
+kind-fits recovery = omega arith
+
+requests-fit : (r : Refill) → limit-ok r ≡ true → requests-word r ≤ 3
+unfolding requests-word limit-ok
+requests-fit automatic e = omega arith
+requests-fit (requests-left n) e = leb-true n 3 e
+requests-fit recovery e = omega arith
+
+-- the peers, list by list
+record Narrow (g : Station) : Type 0 where
+  me : g .me < peers-end
+  active : all-under peers-end (g .active) ≡ true
+  passive : all-under peers-end (g .passive) ≡ true
+  bootstrap : all-under peers-end (g .bootstrap) ≡ true
+  recent : all-under peers-end (g .recent) ≡ true
+  requests : all-under peers-end (keys (g .requests)) ≡ true
+  joins : all-under peers-end (keys (g .joins)) ≡ true
+  peer-data : all-under peers-end (keys (g .peer-data)) ≡ true
+  alive : all-under peers-end (g .alive) ≡ true
+  refused : all-under peers-end (g .refused) ≡ true
+
+narrow : (g : Station) → lists-under peers-end (peer-lists g) ≡ true → Narrow g
+unfolding lists-under all-under
+narrow g e =
+    let u : List ℕ → Bool = all-under peers-end in
+    let m = ltb (g .me) peers-end in
+    let e₁ = and-right (m && true) _ e in
+    let e₂ = and-right (u (g .active)) _ e₁ in
+    let e₃ = and-right (u (g .passive)) _ e₂ in
+    let e₄ = and-right (u (g .bootstrap)) _ e₃ in
+    let e₅ = and-right (u (g .recent)) _ e₄ in
+    let e₆ = and-right (u (keys (g .requests))) _ e₅ in
+    let e₇ = and-right (u (keys (g .joins))) _ e₆ in
+    let e₈ = and-right (u (keys (g .peer-data))) _ e₇ in
+    let e₉ = and-right (u (g .alive)) _ e₈ in
+    record {
+      me = ltb-true (g .me) peers-end (and-left m true (and-left (m && true) _ e));
+      active = and-left (u (g .active)) _ e₁;
+      passive = and-left (u (g .passive)) _ e₂;
+      bootstrap = and-left (u (g .bootstrap)) _ e₃;
+      recent = and-left (u (g .recent)) _ e₄;
+      requests = and-left (u (keys (g .requests))) _ e₅;
+      joins = and-left (u (keys (g .joins))) _ e₆;
+      peer-data = and-left (u (keys (g .peer-data))) _ e₇;
+      alive = and-left (u (g .alive)) _ e₈;
+      refused = and-left (u (g .refused)) _ e₉;
+    }
+
+module _ (g : Station) (k : Kept g) (v : Fits g) where
+  front-fine : Fine (front g)
+  unfolding front settings-rule interval-rule within limit-rule
+  front-fine =
+      let c = ranges (g .config) (k .settings) in
+      let w = wide-of g (k .width) in
+      let n = narrow g (w .peers) in
+      let b = bytes-of (g .own-data) in
+      let s = short-bytes (g .own-data) (v .own-data) in
+      let last = leb-true (g .next-interval) (g .config .«shuffle_interval») (and-right (leb 1 (g .next-interval)) _ (k .interval)) in
+      more _ _ (omega (arith, n .me)) (more _ _ (omega (arith, present-fits (g .own-data))) (more _ _ (omega (arith, s))
+      (more _ _ (omega (arith, c .active .most)) (more _ _ (omega (arith, c .passive .most)) (more _ _ (omega (arith, c .active-walk .most)) (more _ _ (omega (arith, c .passive-walk .most))
+      (more _ _ (omega (arith, c .shuffle-walk .most)) (more _ _ (omega (arith, c .shuffle-active .most)) (more _ _ (omega (arith, c .shuffle-passive .most)) (more _ _ (omega (arith, c .interval .most))
+      (more _ _ (omega (arith, c .timeout .most)) (more _ _ (omega (arith, bit-fits (g .scheduled))) (more _ _ (omega (arith, c .interval .most, last)) (more _ _ (omega (arith, w .alone))
+      (more _ _ (omega (arith, w .short)) (more _ _ (omega (arith, kind-fits (g .refill))) (more _ _ (omega (arith, requests-fit (g .refill) (k .limit))) (more _ _ (omega (arith, w .next-request))
+      (more _ _ (omega (arith, w .next-join)) (more _ _ (low-under b s (v .own-bytes)) (more _ _ (high-under b s (v .own-bytes)) no-words)))))))))))))))))))))
+
+  pack-fine : Fine (pack g)
+  unfolding pack numbers-rule
+  pack-fine =
+      let w = wide-of g (k .width) in
+      let n = narrow g (w .peers) in
+      both-fine _ _ front-fine
+      (both-fine _ _ (set-fine 8 (g .active) (omega arith) (v .active) (n .active))
+      (both-fine _ _ (set-fine 32 (g .passive) (omega arith) (v .passive) (n .passive))
+      (both-fine _ _ (set-fine 32 (g .alive) (omega arith) (v .alive) (n .alive))
+      (both-fine _ _ (set-fine 32 (g .refused) (omega arith) (v .refused) (n .refused))
+      (both-fine _ _ (numbers-fine 32 (g .next-request) (g .requests) (omega arith) (v .requests) (n .requests) (omega (arith, w .next-request)) (and-left (numbers-under (g .next-request) (g .requests)) _ (k .numbers)))
+      (both-fine _ _ (set-fine 8 (g .bootstrap) (omega arith) (v .bootstrap) (n .bootstrap))
+      (both-fine _ _ (set-fine 8 (g .recent) (omega arith) (v .recent) (n .recent))
+      (both-fine _ _ (numbers-fine 8 (g .next-join) (g .joins) (omega arith) (v .joins) (n .joins) (omega (arith, w .next-join)) (and-right (numbers-under (g .next-request) (g .requests)) _ (k .numbers)))
+      (data-fine (g .peer-data) (v .peer-data) (n .peer-data) (v .short) (v .bytes))))))))))
+
+  pub kept-shape : Shape (pack g)
+  unfolding pack front own-at
+  kept-shape =
+      let s = sym (packed-sections g) in
+      record {
+        size = packed-long g;
+        wide = pack-fine;
+        present = present-fits (g .own-data);
+        timers = bit-fits (g .scheduled);
+        limit = limit-fine (g .refill);
+        own-data = subst ValidData (sym (own-words (g .own-data) (v .own-data) (v .own-bytes))) (own-fine (g .own-data) (v .own-data));
+        active = subst (λ (t : Sections). ValidSet 8 (t .active)) s (section-holds 8 (g .active) (v .active) .valid);
+        passive = subst (λ (t : Sections). ValidSet 32 (t .passive)) s (section-holds 32 (g .passive) (v .passive) .valid);
+        alive = subst (λ (t : Sections). ValidSet 32 (t .alive)) s (section-holds 32 (g .alive) (v .alive) .valid);
+        refused = subst (λ (t : Sections). ValidSet 32 (t .refused)) s (section-holds 32 (g .refused) (v .refused) .valid);
+        requests = subst (λ (t : Sections). ValidNumbers 32 (t .requests)) s (numbers-hold 32 (g .requests) (v .requests) (v .requests-rise) .valid);
+        bootstrap = subst (λ (t : Sections). ValidSet 8 (t .bootstrap)) s (section-holds 8 (g .bootstrap) (v .bootstrap) .valid);
+        recent = subst (λ (t : Sections). ValidSet 8 (t .recent)) s (section-holds 8 (g .recent) (v .recent) .valid);
+        joins = subst (λ (t : Sections). ValidNumbers 8 (t .joins)) s (numbers-hold 8 (g .joins) (v .joins) (v .joins-rise) .valid);
+        peer-data = subst (λ (t : Sections). ValidDataWords 80 (t .peer-data)) s (data-hold 80 (g .peer-data) (v .peer-data) (v .peer-data-rise) (v .short) (v .bytes) .valid);
+      }
+
+-- unpacking undoes packing, and the packed station passes the test
+pub ok-unpacked : (g : Station) → station-ok g ≡ true → unpack (pack g) ≡ g
+ok-unpacked g e = unpack-pack g (kept-fits g (ok-kept g e))
+
+pub pack-ok : (g : Station) → station-ok g ≡ true → state-ok (pack g) ≡ true
+unfolding state-ok
+pack-ok g e =
+    let k = ok-kept g e in
+    both-true (packed-ok (pack g)) _ (shape-ok (pack g) (kept-shape g k (kept-fits g k))) (ap station-ok (ok-unpacked g e) ∙ e)
+
+-- ---- "a state of zeroes, which later calls meet with code 2"
+
+zero-rules : station-ok zero-station ≡ false
+unfolding station-ok rules R.all-hold settings-rule zero-station new-station zero-config in-range within
+zero-rules = refl
+
+zero-fits : Fits zero-station
+unfolding zero-station new-station short-data bytes-of all-under Rising keys all-short lists-under values
+zero-fits = record {
+  own-data = refl;
+  own-bytes = refl;
+  active = omega arith;
+  passive = omega arith;
+  bootstrap = omega arith;
+  recent = omega arith;
+  requests = omega arith;
+  requests-rise = tt;
+  joins = omega arith;
+  joins-rise = tt;
+  peer-data = omega arith;
+  peer-data-rise = tt;
+  short = refl;
+  bytes = refl;
+  alive = omega arith;
+  refused = omega arith;
+}
+
+pub zero-refused : state-ok (pack zero-station) ≡ false
+unfolding state-ok
+zero-refused =
+    ap (λ (b : Bool). packed-ok (pack zero-station) && b) (ap station-ok (unpack-pack zero-station zero-fits) ∙ zero-rules) ∙ and-no (packed-ok (pack zero-station))

@@ -1,0 +1,270 @@
+-- How the code's tests are the rules of the definition, and which rules hold of all well formed words.
+-- Assumes nothing.
+use Prim.Native.Nat.{ℕ, _+_, _-_, _≤_, _<_}
+use mathlib.Core.Path.{_≡_, refl, sym, ap, _∙_}
+use mathlib.Core.Bool.{Bool, true, false, not, _&&_, and-true, and-assoc}
+use mathlib.Core.List.{List, [], _∷_, _++_}
+use native.Mathlib.Omega.{arith}
+use lib.ListN.{length, take, drop, getD}
+use lib.Seq.{take-take}
+use lib.Dec.{leb, leb·zero, eqb}
+use borrow.Author.Tests.{le-leb, eqb-true, eqb-false, ne-eqb}
+use Rattle.base_lists.specs.Lists.{mem, choose, distinct, rising, subset, disjoint}
+use Rattle.base_lists.specs.Maps.{keys, values, has}
+use Rattle.base_lists.specs.Tests.{All}
+use Rattle.base_lists.proofs.Choice.{split, or-true, and-right}
+use Rattle.base_lists.proofs.Tests.{both-true, and-no, true-rising, all-map}
+use Rattle.base_lists.proofs.Entries.{entries-values}
+use Rattle.base_util.specs.Section.{part, items-at}
+use Rattle.base_util.proofs.Parts.{part-read}
+use Rattle.base_util.proofs.Sets.{lent}
+use Rattle.base_columns.specs.Columns.{numbers-at, data-map-at, entries-at, count-of, ValidDataWords}
+use Rattle.base_columns.proofs.Data.{data-entries}
+use Rattle.base_timing.specs.Timing.{within, in-range, most-active, most-passive, longest-walk, most-shuffle-active, most-shuffle-passive, longest-time}
+use Rattle.base_peer.specs.declared.PeerData.{PeerData}
+use Rattle.base_peer.specs.Held.{data-in, ValidData}
+use Rattle.base_peer.specs.Maps.{no-data, entry-bytes, ValidEntry}
+use Rattle.base_peer.proofs.Data.{length-bytes}
+use Rattle.base_peer.proofs.Maps.{length-entry}
+use Rattle.spec_hyparview.specs.Rules.{all-short, short-data, limit-ok, settings-rule, repeats-rule, order-rule, capacity-rule, views-rule, alive-rule, few-rule, joins-rule, numbers-rule, self-rule, room-rule, data-rule, limit-rule, interval-rule, width-rule, held-rule, rules, station-ok}
+use Rattle.spec_hyparview.specs.Rules as R
+use Rattle.spec_hyparview.specs.Station.{Station, top-passes, data-peers}
+use Rattle.hyparview_state.specs.Layout as layout
+use Rattle.hyparview_state.specs.Unpack.{settings-at, limit-at, limit-formed, refill-in, station-of, unpack}
+use Rattle.hyparview_state.proofs.Memory.{two-limit}
+use Rattle.hyparview_state.proofs.Access.{count-active, count-passive}
+use Rattle.hyparview_rules.specs.Ok.{packed-ok, state-ok}
+use Rattle.hyparview_rules.proofs.Shape.{ok-shape, ok-active, ok-passive, ok-alive, ok-bootstrap, ok-joins}
+use Rattle.hyparview_rules.proofs.Under.{peers-lent}
+use Rattle.hyparview_rules.proofs.Widths.{width-is}
+
+-- ---- a rule's tests
+
+-- of numbers that may be 0 the code tests the top alone
+pub settings-are : (xs : List ℕ)
+    → (leb 1 (layout.active-view-capacity xs) && leb (layout.active-view-capacity xs) most-active && leb 1 (layout.passive-view-capacity xs) && leb (layout.passive-view-capacity xs) most-passive
+    && leb (layout.active-random-walk-length xs) longest-walk && leb (layout.passive-random-walk-length xs) longest-walk && leb (layout.shuffle-random-walk-length xs) longest-walk
+    && leb (layout.shuffle-active-view-count xs) most-shuffle-active && leb (layout.shuffle-passive-view-count xs) most-shuffle-passive
+    && leb 1 (layout.shuffle-interval xs) && leb (layout.shuffle-interval xs) longest-time && leb 1 (layout.neighbor-request-timeout xs) && leb (layout.neighbor-request-timeout xs) longest-time)
+    ≡ settings-rule (unpack xs)
+unfolding settings-rule unpack station-of settings-at in-range within
+settings-are xs = simp (and-assoc, leb·zero)
+
+module _ (xs : List ℕ) (e : packed-ok xs ≡ true) where
+  -- the maps rise
+  order-is : (a b : Bool) → a ≡ rising (items-at 32 (layout.alive-part xs)) → b ≡ rising (items-at 32 (layout.refused-part xs)) → (a && b) ≡ order-rule (unpack xs)
+  unfolding order-rule unpack station-of
+  order-is a b p q =
+      let v = ok-shape xs e in
+      (λ i. p i && q i)
+      ∙ sym (rw (true-rising _ (v .requests .rises), true-rising _ (v .joins .rises), true-rising _ (v .peer-data .rises)) refl)
+
+  capacity-is : (leb (getD xs 30 0) (layout.active-view-capacity xs) && leb (getD xs 63 0) (layout.passive-view-capacity xs)) ≡ capacity-rule (unpack xs)
+  unfolding capacity-rule unpack station-of settings-at
+  capacity-is = sym (rw (count-active xs (ok-active xs e), count-passive xs (ok-passive xs e)) refl)
+
+repeats-is : (xs : List ℕ) (a b c d : Bool) → a ≡ distinct (items-at 8 (layout.active-part xs)) → b ≡ distinct (items-at 32 (layout.passive-part xs)) → c ≡ distinct (items-at 8 (layout.bootstrap-part xs))
+    → d ≡ distinct (items-at 8 (layout.recent-part xs)) → (a && (b && (c && d))) ≡ repeats-rule (unpack xs)
+unfolding repeats-rule unpack station-of
+repeats-is xs a b c d p q r s = λ i. p i && (q i && (r i && s i))
+
+-- ---- the lists, as the code lends them
+
+-- a section's words in use, the count read where it stands
+count-lent : (a k n : ℕ) (xs : List ℕ) → n < k → getD (part a k xs) n 0 ≤ n → part a (a + getD xs (a + n) 0 - a) xs ≡ take (getD (part a k xs) n 0) (part a k xs)
+unfolding part
+count-lent a k n xs h f =
+    let z : a + getD xs (a + n) 0 - a ≡ getD (part a k xs) n 0 = omega (arith, part-read a k n xs h) in
+    ap (λ (j : ℕ). take j (drop a xs)) z ∙ sym (take-take (getD (part a k xs) n 0) k (drop a xs) (omega arith))
+
+module _ (xs : List ℕ) (e : packed-ok xs ≡ true) where
+  pub few-joins : getD xs 229 0 ≤ 8
+  few-joins = omega (arith, part-read 213 17 16 xs (omega arith), ok-joins xs e .fits)
+
+  pub few-bootstrap : getD xs 203 0 ≤ 8
+  few-bootstrap = omega (arith, part-read 195 9 8 xs (omega arith), ok-bootstrap xs e .fits)
+
+  pub few-active : getD xs 30 0 ≤ 8
+  few-active = omega (arith, part-read 22 9 8 xs (omega arith), ok-active xs e .fits)
+
+  pub few-passive : getD xs 63 0 ≤ 32
+  few-passive = omega (arith, part-read 31 33 32 xs (omega arith), ok-passive xs e .fits)
+
+  pub few-marks : getD xs 96 0 ≤ 32
+  few-marks = omega (arith, part-read 64 33 32 xs (omega arith), ok-alive xs e .fits)
+
+  active-lent : part 22 (22 + getD xs 30 0 - 22) xs ≡ items-at 8 (layout.active-part xs)
+  active-lent = count-lent 22 9 8 xs (omega arith) (ok-active xs e .fits) ∙ lent 8 _ (ok-active xs e)
+
+  passive-lent : part 31 (31 + getD xs 63 0 - 31) xs ≡ items-at 32 (layout.passive-part xs)
+  passive-lent = count-lent 31 33 32 xs (omega arith) (ok-passive xs e .fits) ∙ lent 32 _ (ok-passive xs e)
+
+  marks-lent : part 64 (64 + getD xs 96 0 - 64) xs ≡ items-at 32 (layout.alive-part xs)
+  marks-lent = count-lent 64 33 32 xs (omega arith) (ok-alive xs e .fits) ∙ lent 32 _ (ok-alive xs e)
+
+  views-is : (a b c : Bool) → a ≡ disjoint (part 22 (22 + getD xs 30 0 - 22) xs) (part 31 (31 + getD xs 63 0 - 31) xs) → b ≡ mem (layout.me xs) (part 22 (22 + getD xs 30 0 - 22) xs) → c ≡ mem (layout.me xs) (part 31 (31 + getD xs 63 0 - 31) xs)
+      → ((a && not b) && not c) ≡ views-rule (unpack xs)
+  unfolding views-rule unpack station-of
+  views-is a b c p q r =
+      and-assoc a (not b) (not c)
+      ∙ (λ i. (p ∙ (λ j. disjoint (active-lent j) (passive-lent j))) i && (not ((q ∙ ap (mem (layout.me xs)) active-lent) i) && not ((r ∙ ap (mem (layout.me xs)) passive-lent) i)))
+
+  alive-is : (d : Bool) → d ≡ subset (part 64 (64 + getD xs 96 0 - 64) xs) (part 31 (31 + getD xs 63 0 - 31) xs) → d ≡ alive-rule (unpack xs)
+  unfolding alive-rule unpack station-of
+  alive-is d p = p ∙ (λ j. subset (marks-lent j) (passive-lent j))
+
+  held-is : (k : Bool) → k ≡ subset (keys (data-map-at 80 (layout.peer-data-part xs))) (items-at 8 (layout.active-part xs) ++ (items-at 32 (layout.passive-part xs) ++ keys (numbers-at 32 (layout.requests-part xs)))) → k ≡ held-rule (unpack xs)
+  unfolding held-rule unpack station-of data-peers
+  held-is k p = p
+
+  pub views-are : (a b c d k : Bool) → a ≡ disjoint (part 22 (22 + getD xs 30 0 - 22) xs) (part 31 (31 + getD xs 63 0 - 31) xs) → b ≡ mem (layout.me xs) (part 22 (22 + getD xs 30 0 - 22) xs) → c ≡ mem (layout.me xs) (part 31 (31 + getD xs 63 0 - 31) xs)
+      → d ≡ subset (part 64 (64 + getD xs 96 0 - 64) xs) (part 31 (31 + getD xs 63 0 - 31) xs) → k ≡ subset (keys (data-map-at 80 (layout.peer-data-part xs))) (items-at 8 (layout.active-part xs) ++ (items-at 32 (layout.passive-part xs) ++ keys (numbers-at 32 (layout.requests-part xs))))
+      → ((((a && not b) && not c) && d) && k) ≡ (views-rule (unpack xs) && (alive-rule (unpack xs) && held-rule (unpack xs)))
+  views-are a b c d k p q r s t =
+      and-assoc ((a && not b) && not c) d k ∙ (λ i. views-is a b c p q r i && (alive-is d s i && held-is k t i))
+
+  joins-lent : part 213 (213 + getD xs 229 0 - 213) xs ≡ keys (numbers-at 8 (layout.joins-part xs))
+  joins-lent = count-lent 213 17 16 xs (omega arith) (omega (arith, ok-joins xs e .fits)) ∙ peers-lent 8 _ (ok-joins xs e)
+
+  pub none-joined : getD xs 229 0 ≡ 0 → true ≡ joins-rule (unpack xs)
+  unfolding joins-rule unpack station-of part subset disjoint has mem
+  none-joined z =
+      let n : 0 ≡ 213 + getD xs 229 0 - 213 = omega arith in
+      ap (λ (l : List ℕ). subset l (items-at 8 (layout.bootstrap-part xs)) && (disjoint l (items-at 8 (layout.active-part xs)) && not (mem (layout.me xs) l))) (ap (λ (j : ℕ). take j (drop 213 xs)) n ∙ joins-lent)
+
+  pub joins-are : (a b c : Bool) → a ≡ subset (part 213 (213 + getD xs 229 0 - 213) xs) (part 195 (195 + getD xs 203 0 - 195) xs) → b ≡ disjoint (part 213 (213 + getD xs 229 0 - 213) xs) (part 22 (22 + getD xs 30 0 - 22) xs)
+      → c ≡ mem (layout.me xs) (part 213 (213 + getD xs 229 0 - 213) xs) → (a && b && not c) ≡ joins-rule (unpack xs)
+  unfolding joins-rule unpack station-of has
+  joins-are a b c p q r =
+      let boot = count-lent 195 9 8 xs (omega arith) (ok-bootstrap xs e .fits) ∙ lent 8 _ (ok-bootstrap xs e) in
+      and-assoc a b (not c)
+      ∙ (λ i. (p ∙ (λ j. subset (joins-lent j) (boot j))) i && ((q ∙ (λ j. disjoint (joins-lent j) (active-lent j))) i && not ((r ∙ ap (mem (layout.me xs)) joins-lent) i)))
+
+-- ---- the limit
+
+module _ (k n : ℕ) (f : limit-formed k n ≡ true) where
+  none-left : (eqb k 1 ≡ true → ⊥) → leb n 3 ≡ true
+  unfolding limit-formed
+  none-left other = or-true (eqb k 1) (eqb n 0) (and-right (leb k 2) _ f) (λ o. absurd (other o)) (λ z. le-leb n 3 (omega (arith, eqb-true n 0 z)))
+
+  limited : leb n 3 ≡ limit-ok (refill-in (two-limit k n))
+  unfolding limit-ok refill-in choose
+  limited =
+      split (eqb k 0) (λ z. rw z (none-left (λ o. omega (arith, eqb-true k 0 z, eqb-true k 1 o))))
+      (λ z. rw z (split (eqb k 1) (λ o. rw o) (λ o. rw o (none-left (λ t. omega (arith, eqb-true k 1 t, eqb-false k 1 o))))))
+
+limit-is : (xs : List ℕ) → packed-ok xs ≡ true → leb (layout.refill-requests xs) 3 ≡ limit-rule (unpack xs)
+unfolding limit-rule unpack station-of limit-at
+limit-is xs e = limited (layout.refill-kind xs) (layout.refill-requests xs) (ok-shape xs e .limit)
+
+interval-is : (xs : List ℕ) → (leb 1 (layout.next-shuffle-interval xs) && leb (layout.next-shuffle-interval xs) (layout.shuffle-interval xs)) ≡ interval-rule (unpack xs)
+unfolding interval-rule unpack station-of settings-at within
+interval-is xs = refl
+
+self-is : (xs : List ℕ) (b : Bool) → b ≡ has (layout.me xs) (data-map-at 80 (layout.peer-data-part xs)) → not b ≡ self-rule (unpack xs)
+unfolding self-rule unpack station-of
+self-is xs b p = λ i. not (p i)
+
+-- ---- what well formed words keep anyway
+
+module _ (xs : List ℕ) (e : packed-ok xs ≡ true) where
+  -- no more entries than places
+  pub room-held : room-rule (unpack xs) ≡ true
+  unfolding room-rule unpack station-of
+  room-held =
+      let v = ok-shape xs e in
+      both-true _ _ (le-leb (length (numbers-at 32 (layout.requests-part xs))) 32 (omega (arith, v .requests .counted, v .requests .fits)))
+      (both-true _ _ (le-leb (length (items-at 32 (layout.refused-part xs))) 32 (omega (arith, v .refused .counted, v .refused .fits)))
+      (le-leb (length (data-map-at 80 (layout.peer-data-part xs))) 80 (omega (arith, v .peer-data .counted, v .peer-data .fits))))
+
+  pub few-held : few-rule (unpack xs) ≡ true
+  unfolding few-rule unpack station-of
+  few-held =
+      let v = ok-shape xs e in
+      both-true _ _ (le-leb (length (items-at 8 (layout.bootstrap-part xs))) 8 (omega (arith, v .bootstrap .counted, v .bootstrap .fits)))
+      (le-leb (length (items-at 8 (layout.recent-part xs))) 8 (omega (arith, v .recent .counted, v .recent .fits)))
+
+values-short : (m : List (ℕ × List ℕ)) → All (λ (b : List ℕ). length b ≤ 16) (values m) → all-short m ≡ true
+unfolding all-short All values
+values-short [] a = refl
+values-short (x ∷ m) a = both-true (leb (length (x .1)) 16) _ (le-leb (length (x .1)) 16 (a .0)) (values-short m (a .1))
+
+data-short : (m : List ℕ) → ValidDataWords 80 m → All (λ (b : List ℕ). length b ≤ 16) (values (data-map-at 80 m))
+data-short m v =
+    rw (entries-values no-data 80 entry-bytes ValidEntry _ _ _ _ (data-entries 80 m v))
+    (all-map ValidEntry (λ (b : List ℕ). length b ≤ 16) entry-bytes (λ x h. omega (arith, length-entry x h, h .fits)) (take (count-of 80 m) (entries-at 80 m)) (v .each))
+
+own-short : (d : PeerData) → ValidData d → short-data (data-in d) ≡ true
+unfolding short-data data-in choose
+own-short d v =
+    split (d .present) (λ t. rw t (le-leb (length (take (d .len) (d .bytes))) 16 (omega (arith, length-bytes d v, v .fits)))) (λ t. rw t)
+
+-- data have at most 16 bytes
+pub data-held : (xs : List ℕ) → packed-ok xs ≡ true → data-rule (unpack xs) ≡ true
+unfolding data-rule unpack station-of
+data-held xs e = both-true _ _ (values-short _ (data-short _ (ok-shape xs e .peer-data))) (own-short _ (ok-shape xs e .own-data))
+
+-- ---- the rules together
+
+passed : (b : Bool) → not b ≡ false → b ≡ true
+passed true e = refl
+passed false e = sym e
+
+failed : (b : Bool) → not b ≡ true → b ≡ false
+failed true e = sym e
+failed false e = refl
+
+-- words of another length are no state, and those that are not well formed neither
+module _ (xs : List ℕ) where
+  pub other-length : (length xs ≡ layout.words → ⊥) → false ≡ state-ok xs
+  unfolding state-ok packed-ok
+  other-length n = rw (ne-eqb (length xs) layout.words n)
+
+  module _ (b : Bool) (e : b ≡ packed-ok xs) where
+    pub well-formed : not b ≡ false → packed-ok xs ≡ true
+    well-formed t = sym e ∙ passed b t
+
+    pub broken : not b ≡ true → false ≡ state-ok xs
+    unfolding state-ok
+    broken t = rw (← e, failed b t)
+
+-- three rules are left out where they hold
+-- three tests that stand behind the others
+behind : (v m r h : Bool) → (v && (m && (r && h))) ≡ (r && (v && (m && h)))
+behind true true r h = refl
+behind true false r h = sym (and-no r)
+behind false m r h = sym (and-no r)
+
+pub rules-left : (g : Station) → few-rule g ≡ true → room-rule g ≡ true → data-rule g ≡ true
+    → station-ok g ≡ (settings-rule g && (repeats-rule g && (order-rule g && (capacity-rule g && (views-rule g && (alive-rule g && (joins-rule g && (numbers-rule g && (self-rule g && (limit-rule g && (interval-rule g && (width-rule g && held-rule g))))))))))))
+unfolding station-ok rules R.all-hold
+rules-left g f a b = rw (f, a, b, and-true (held-rule g))
+
+-- the rules on the views come last
+rules-last : (g : Station) → (settings-rule g && (repeats-rule g && (order-rule g && (capacity-rule g && (views-rule g && (alive-rule g && (joins-rule g && (numbers-rule g && (self-rule g && (limit-rule g && (interval-rule g && (width-rule g && held-rule g))))))))))))
+    ≡ (settings-rule g && (repeats-rule g && (order-rule g && (capacity-rule g && ((joins-rule g && (numbers-rule g && (self-rule g && (limit-rule g && (interval-rule g && width-rule g))))) && (views-rule g && (alive-rule g && held-rule g)))))))
+rules-last g =
+    ap (λ (b : Bool). settings-rule g && (repeats-rule g && (order-rule g && (capacity-rule g && b))))
+    (ap (λ (b : Bool). views-rule g && (alive-rule g && b)) (sym (simp and-assoc)) ∙ behind (views-rule g) (alive-rule g) (joins-rule g && (numbers-rule g && (self-rule g && (limit-rule g && (interval-rule g && width-rule g))))) (held-rule g))
+
+rules-are : (xs : List ℕ) → packed-ok xs ≡ true → (a b c d g h k l m n v : Bool) → a ≡ settings-rule (unpack xs) → b ≡ repeats-rule (unpack xs) → c ≡ order-rule (unpack xs) → d ≡ capacity-rule (unpack xs)
+    → g ≡ joins-rule (unpack xs) → h ≡ numbers-rule (unpack xs) → k ≡ self-rule (unpack xs) → l ≡ limit-rule (unpack xs)
+    → m ≡ interval-rule (unpack xs) → n ≡ width-rule (unpack xs) → v ≡ (views-rule (unpack xs) && (alive-rule (unpack xs) && held-rule (unpack xs)))
+    → (a && (b && (c && (d && ((g && (h && (k && (l && (m && n))))) && v))))) ≡ station-ok (unpack xs)
+rules-are xs t a b c d g h k l m n v p₁ p₂ p₃ p₄ p₅ p₆ p₇ p₈ p₉ p₁₀ p₁₁ =
+    (λ i. p₁ i && (p₂ i && (p₃ i && (p₄ i && ((p₅ i && (p₆ i && (p₇ i && (p₈ i && (p₉ i && p₁₀ i))))) && p₁₁ i)))))
+    ∙ sym (rules-left (unpack xs) (few-held xs t) (room-held xs t) (data-held xs t) ∙ rules-last (unpack xs))
+
+-- the tests one after another, as the code has them
+pub tests-are : (xs : List ℕ) → packed-ok xs ≡ true → (s a p b r k f j n h v : Bool) → s ≡ settings-rule (unpack xs)
+    → a ≡ distinct (items-at 8 (layout.active-part xs)) → p ≡ distinct (items-at 32 (layout.passive-part xs)) → b ≡ distinct (items-at 8 (layout.bootstrap-part xs)) → r ≡ distinct (items-at 8 (layout.recent-part xs))
+    → k ≡ rising (items-at 32 (layout.alive-part xs)) → f ≡ rising (items-at 32 (layout.refused-part xs)) → j ≡ joins-rule (unpack xs) → n ≡ numbers-rule (unpack xs)
+    → h ≡ has (layout.me xs) (data-map-at 80 (layout.peer-data-part xs)) → v ≡ (views-rule (unpack xs) && (alive-rule (unpack xs) && held-rule (unpack xs)))
+    → (s && a && p && b && r && k && f && leb (getD xs 30 0) (layout.active-view-capacity xs) && leb (getD xs 63 0) (layout.passive-view-capacity xs) && j && n && not h
+    && leb (layout.refill-requests xs) 3 && leb 1 (layout.next-shuffle-interval xs) && leb (layout.next-shuffle-interval xs) (layout.shuffle-interval xs)
+    && leb (layout.passes-alone xs) top-passes && leb (layout.passes-short xs) top-passes && v)
+    ≡ state-ok xs
+unfolding state-ok
+tests-are xs t s a p b r k f j n h v e₁ e₂ e₃ e₄ e₅ e₆ e₇ e₈ e₉ e₁₀ e₁₁ =
+    rw t (simp and-assoc (simp and-assoc at (rules-are xs t _ _ _ _ _ _ _ _ _ _ _ e₁ (repeats-is xs a p b r e₂ e₃ e₄ e₅) (order-is xs t k f e₆ e₇) (capacity-is xs t) e₈ e₉
+    (self-is xs h e₁₀) (limit-is xs t) (interval-is xs) (width-is xs t) e₁₁)))

@@ -1,0 +1,44 @@
+use Rattle.base_util.specs.Section.{part}
+use Rattle.spec_hyparview.specs.Messages.{drop-request}
+use Rattle.hyparview_state.specs.Unpack.{unpack, station-of}
+use Rattle.hyparview_state.proofs.Access.{of-packed}
+use Rattle.hyparview_state.proofs.Bridge.{on-passed, on-done}
+use Rattle.hyparview_state.proofs.Fields.{put-requests}
+use borrow.Author.Needs.{needs}
+use Rattle.hyparview_state.proofs.drop_request.Statement.{statement}
+use Rattle.hyparview_state.proofs.drop_request.Tie as tie
+
+returns : tie.Need-returns
+returns c = search on-passed
+
+sub-remove-number : tie.Need-sub-remove-number
+sub-remove-number c = search needs
+
+part-remove-number-start : tie.Need-part-remove-number-start
+part-remove-number-start c = search needs
+
+part-remove-number-end : tie.Need-part-remove-number-end
+part-remove-number-end c = search needs
+
+remove-number-requires : tie.Need-remove-number-requires
+unfolding part
+remove-number-requires c κs = search (of-packed, needs)
+
+same-length : tie.Need-same-length
+same-length c = search needs
+
+returns-2 : tie.Need-returns-2
+unfolding drop-request unpack station-of part
+returns-2 c = on-done _ (search needs) _ _ (search needs) (put-requests (c .before .before .remove-number .ensures))
+
+pub drop-request-spec : {M : Type 1} → statement M
+drop-request-spec =
+    tie.close
+    (tie.spec
+    returns
+    sub-remove-number
+    part-remove-number-start
+    part-remove-number-end
+    remove-number-requires
+    same-length
+    returns-2)

@@ -1,0 +1,79 @@
+-- How many draws must be lent: 253 do not suffice.
+-- Assumes nothing.
+use Prim.Native.Nat.{ℕ}
+use mathlib.Core.Path.{_≡_, refl, ap, _∙_}
+use mathlib.Core.Bool.{true, false}
+use mathlib.Core.List.{[], _∷_}
+use mathlib.Core.Option.{none}
+use lib.ListN.{replicate}
+use Rattle.base_timing.specs.declared.Config.{Config}
+use Rattle.record.specs.Format.{encode}
+use Rattle.spec_hyparview.specs.Station.{Station, automatic}
+use Rattle.spec_hyparview.specs.Rules.{station-ok}
+use Rattle.spec_hyparview.specs.Run.{notice}
+use Rattle.spec_hyparview.specs.Traced.{traced}
+use Rattle.spec_history.specs.Calls.{Call, result-of, answered, code-of}
+use Rattle.hyparview_rules.specs.Pack.{pack}
+use Rattle.hyparview.specs.Handled.{Outcome, packed-answer}
+use Rattle.spec_demand.specs.Program.{program}
+use Rattle.spec_demand.proofs.Program.{answers-packed}
+
+-- replies of 31 peers, where 30 are passive
+unfoldable pub largest : Config
+largest = record {
+  «active_view_capacity» = 8;
+  «passive_view_capacity» = 32;
+  «active_random_walk_length» = 6;
+  «passive_random_walk_length» = 3;
+  «shuffle_random_walk_length» = 6;
+  «shuffle_active_view_count» = 8;
+  «shuffle_passive_view_count» = 23;
+  «shuffle_interval» = 60000;
+  «neighbor_request_timeout» = 3000;
+}
+
+-- eight neighbours, thirty passive peers, and no timer scheduled yet: each of the eight replies shuffles both views, and the first timer takes a draw
+unfoldable pub full : Station
+full = record {
+  me = 1;
+  own-data = none;
+  active = 2 ∷ 3 ∷ 4 ∷ 5 ∷ 6 ∷ 7 ∷ 8 ∷ 9 ∷ [];
+  passive = 10 ∷ 11 ∷ 12 ∷ 13 ∷ 14 ∷ 15 ∷ 16 ∷ 17 ∷ 18 ∷ 19 ∷ 20 ∷ 21 ∷ 22 ∷ 23 ∷ 24 ∷ 25 ∷ 26 ∷ 27 ∷ 28 ∷ 29 ∷ 30 ∷ 31 ∷ 32 ∷ 33 ∷ 34 ∷ 35 ∷ 36 ∷ 37 ∷ 38 ∷ 39 ∷ [];
+  config = largest;
+  scheduled = false;
+  next-interval = 1000;
+  bootstrap = [];
+  passes-alone = 0;
+  passes-short = 0;
+  recent = [];
+  requests = [];
+  next-request = 0;
+  joins = [];
+  next-join = 0;
+  peer-data = [];
+  alive = [];
+  refused = [];
+  refill = automatic;
+}
+
+-- a Quit with so many draws
+unfoldable pub quits : ℕ → Call
+unfolding traced
+quits n = record { event = encode (notice 8 0); are-bytes = refl; draws = replicate n 0; output = replicate 8192 0 }
+
+pub full-is-fine : station-ok full ≡ true
+unfolding traced full largest
+full-is-fine = refl
+
+pub takes-254 : result-of (quits 254) full .used ≡ 254
+unfolding traced full largest quits answered
+takes-254 = refl
+
+five : result-of (quits 253) full .code ≡ 5
+unfolding traced full largest quits answered
+five = refl
+
+-- of the program: with 253 draws and 8,192 bytes, at words that keep the rules, the answer is 5
+pub too-few : code-of program (quits 253) (pack full) ≡ 5
+unfolding packed-answer
+too-few = ap (λ (o : Outcome). o .code) (answers-packed (quits 253) full full-is-fine) ∙ five

@@ -1,0 +1,106 @@
+-- What comes from the station's own side: a request to join, a closed connection, and Quit.
+-- Assumes nothing.
+use Prim.Native.Nat.{ℕ, _+_}
+use mathlib.Core.Bool.{Bool, false}
+use mathlib.Core.List.{List, [], _∷_}
+use lib.ListN.{length, getD}
+use lib.Dec.{ltb}
+use Rattle.base_lists.specs.Lists.{choose, remove, without, renew}
+use Rattle.base_lists.specs.Maps.{cut, put}
+use Rattle.base_timing.specs.Timing.{max-bootstrap-peers, join-retry-delay}
+use Rattle.base_peer.specs.Data.{Data}
+use Rattle.spec_hyparview.specs.Station.{Station, is-me, in-active, is-requested, top-counter}
+use Rattle.spec_hyparview.specs.Setters.{set-own-data, set-active, set-passive, set-bootstrap, set-requests, set-joins, set-next-join, set-peer-data, set-alive, set-refused}
+use Rattle.spec_hyparview.specs.Run.{Run, on, emit, require, timer}
+use Rattle.spec_hyparview.specs.Peers.{drop-data, drop-mark, remove-passive, is-marked}
+use Rattle.spec_hyparview.specs.Sending.{join, send-disconnect}
+use Rattle.spec_hyparview.specs.Refill.{refill-active-from-passive}
+use Rattle.spec_hyparview.specs.Active.{connection-closed, remove-active}
+use Rattle.spec_hyparview.specs.Messages.{drop-request}
+
+-- handle_join
+
+-- p would be one too many
+unfoldable pub must-drop-oldest : ℕ → Station → Bool
+must-drop-oldest p s = ltb max-bootstrap-peers (length (without p (s .bootstrap)) + 1)
+
+-- the oldest bootstrap peer but p
+unfoldable pub oldest : ℕ → Station → ℕ
+oldest p s = getD (without p (s .bootstrap)) 0 0
+
+-- "A ninth bootstrap peer evicts the oldest and its pending join."
+unfoldable pub drop-oldest-join : ℕ → Station → Station
+drop-oldest-join p s = set-joins (choose (must-drop-oldest p s) (cut (oldest p s) (s .joins)) (s .joins)) s
+
+unfoldable pub push-bootstrap : ℕ → Station → Station
+push-bootstrap p s = set-bootstrap (renew max-bootstrap-peers p (s .bootstrap)) (drop-oldest-join p s)
+
+-- code 10 for joins
+unfoldable pub join-counts : Station → Bool
+join-counts s = ltb (s .next-join) top-counter
+
+unfoldable pub note-join : ℕ → Station → Station
+note-join p s = set-joins (put p (s .next-join) (s .joins)) (set-next-join (s .next-join + 1) s)
+
+unfoldable pub open-join : ℕ → Run → Run
+open-join p r = on (note-join p) (require 10 (join-counts (r .station)) r)
+
+-- a Join may be lost without a sign, so it is sent once more after a while, whatever neighbours there are by then
+unfoldable pub await-join : ℕ → Run → Run
+await-join p r = emit (timer 4 p join-retry-delay (r .station .next-join)) (open-join p r)
+
+-- the station itself gets a Join, but no retry
+unfoldable pub join-other : ℕ → Run → Run
+join-other p r = choose (is-me p (r .station)) (join p r) (await-join p (join p r))
+
+unfoldable pub join-new : ℕ → Run → Run
+join-new p r = choose (in-active p (r .station)) r (join-other p r)
+
+-- handle_join
+unfoldable pub handle-join : ℕ → Run → Run
+handle-join p r = join-new p (on (push-bootstrap p) r)
+
+-- handle_connection_closed
+
+unfoldable pub drop-dead : ℕ → Station → Station
+drop-dead p s = drop-data p (remove-passive p s)
+
+-- a mark saves a passive peer once
+unfoldable pub lose-passive : ℕ → Run → Run
+lose-passive p r = choose (is-marked p (r .station)) (on (drop-mark p) r) (on (drop-dead p) r)
+
+-- an open request to p has failed, and its timer is not waited for
+unfoldable pub lose-other : ℕ → Bool → Run → Run
+lose-other p requested r =
+    choose requested (refill-active-from-passive (p ∷ []) (lose-passive p r)) (lose-passive p r)
+
+unfoldable pub lose : ℕ → Bool → Run → Run
+lose p requested r =
+    choose (in-active p (r .station)) (remove-active p connection-closed r) (lose-other p requested r)
+
+-- handle_connection_closed
+unfoldable pub handle-connection-closed : ℕ → Run → Run
+handle-connection-closed p r = lose p (is-requested p (r .station)) (on (drop-request p) r)
+
+-- UpdatePeerData
+unfoldable pub update-own-data : Data → Station → Station
+update-own-data d s = set-own-data d s
+
+-- handle_quit
+
+unfoldable pub remove-neighbor : ℕ → Station → Station
+remove-neighbor p s = set-active (remove p (s .active)) s
+
+unfoldable pub quit-one : ℕ → Run → Run
+quit-one p r = send-disconnect p false (on (remove-neighbor p) r)
+
+unfoldable pub quit-all : List ℕ → Run → Run
+quit-all [] r = r
+quit-all (p ∷ ps) r = quit-all ps (quit-one p r)
+
+unfoldable pub clear-all : Station → Station
+clear-all s = set-requests [] (set-passive [] (set-peer-data [] (set-alive [] (set-refused [] s))))
+
+-- handle_quit: over a copy of the active view, in its old order
+unfoldable pub handle-quit : Run → Run
+handle-quit r = on clear-all (quit-all (r .station .active) r)

@@ -1,0 +1,16 @@
+use Rattle.work.proofs.Any.{drew-one-of}
+use borrow.Author.Needs.{needs}
+use Rattle.work.proofs.choose.Statement.{statement}
+use Rattle.work.proofs.choose.Tie as tie
+
+pick-index-requires : tie.Need-pick-index-requires
+pick-index-requires c κs = search needs
+
+reach-requires : tie.Need-reach-requires
+reach-requires c κs = search needs
+
+returns : tie.Need-returns
+returns c = (search drew-one-of, (search needs, search needs))
+
+pub choose-spec : {M : Type 1} → statement M
+choose-spec = tie.close (tie.spec pick-index-requires reach-requires returns)
