@@ -16,10 +16,12 @@
  * for example: hyparview_handle changes them where they lie, and an event refused with 5 to 10 puts them back.
  *
  * STACK. A call needs at most HYPARVIEW_STACK bytes: tools/stack reads off the machine code how many of them each function
- * takes on its deepest path, and there is no recursion. What the C library's three functions take is not counted.
+ * takes on its deepest path, and there is no recursion. What the C library's three functions take is not counted, nor what
+ * an interrupt takes that runs on the same stack. The code is made for the System V ABI of x86-64: it may hold values in the
+ * red zone, the 128 bytes below the stack pointer. An interrupt must leave these alone: give it a stack of its own.
  *
  * WHAT A CALLER OWES. Each pointer is aligned and points to as many elements as the length beside it says; where that is 0
- * it may be NULL, since nothing is read or written there (tests/calls.c makes every such call). `tally` is never NULL. What
+ * it may be NULL, since nothing is read or written there. tests/calls.c makes every such call. `tally` is never NULL. What
  * `state`, `tally` and `out` point to overlaps nothing else of the same call. Nothing else is asked: whatever the words and
  * bytes hold, each call answers.
  *
@@ -41,6 +43,11 @@ extern "C" {
 #define HYPARVIEW_ASSERT(test, name) _Static_assert(test, name)
 #endif
 
+/* ---- The version: raised where records, words, codes or functions become others. A station that is linked apart from this
+ * header compares it with what hyparview_version answers. */
+
+#define HYPARVIEW_VERSION 1
+
 /* ---- Sizes */
 
 /* The words of a state, by tools/layout.py */
@@ -48,7 +55,7 @@ extern "C" {
 /* end */
 #define HYPARVIEW_OUTPUT 8192 /* bytes of output that suffice for every event, which is proved */
 #define HYPARVIEW_DRAWS 512   /* draws that suffice for every event if they are below 2^32 - 32, which is proved */
-#define HYPARVIEW_STACK 16384 /* bytes of stack that suffice for a call */
+#define HYPARVIEW_STACK 16384 /* bytes of stack that suffice for a call, the red zone included, interrupts not */
 
 /* ---- Refusals
  *
@@ -248,6 +255,24 @@ struct hyparview_tally {
     uint64_t disconnect;
 };
 
+/* How much an accepted event adds to the allowance of a station with this active_view_capacity; of the event's record two
+ * bytes are looked at. A refused event adds 0.
+ *
+ * After any events, the messages sent so far, which are the sum of the tally, and twice the neighbours now held are together
+ * at most the sum of what the events added, which is proved. */
+static inline uint32_t hyparview_allowance(const uint8_t *event, uint32_t active_view_capacity)
+{
+    if (event[0] == HYPARVIEW_KIND_MESSAGE && event[1] == HYPARVIEW_MESSAGE_JOIN)
+        return active_view_capacity + 2;
+    if (event[0] == HYPARVIEW_KIND_MESSAGE && event[1] == HYPARVIEW_MESSAGE_NEIGHBOR)
+        return 3;
+    if (event[0] == HYPARVIEW_KIND_DO_MAINTENANCE)
+        return 9;
+    if (event[0] == HYPARVIEW_KIND_UPDATE_PEER_DATA || event[0] == HYPARVIEW_KIND_QUIT)
+        return 0;
+    return 1;
+}
+
 /* ---- The words of a state, for those who look into them: a supervisor, a test. To run a station, the functions below are
  * enough.
  *
@@ -329,6 +354,9 @@ HYPARVIEW_ASSERT(HYPARVIEW_WORDS == HYPARVIEW_WORD_PEER_DATA_END, "the words");
  *
  * `words` is the length of `state`; for any other than HYPARVIEW_WORDS the answer is HYPARVIEW_CODE_STATE, or that of no
  * station. */
+
+/* The version of the library: HYPARVIEW_VERSION of the header that it goes with. */
+uint32_t hyparview_version(void);
 
 /* What an event hands back: the code, and how many draws are used, from the first on. */
 struct hyparview_done {

@@ -5,9 +5,9 @@
  * The caller owns all memory: a queue is TIMER_MAP_WORDS words. Whatever the words are, each call answers: words that break
  * the queue's own rules, and any other number of words, are refused with code 2. A refusal changes no word.
  *
- * What a caller owes: every pointer is to as many elements as the length beside it says, aligned, and not null, also where
- * the length is 0; what `q` and `out` point at is passed by no other argument. crates/timer_map/src/lib.rt and
- * crates/timer_events/src/lib.rt have the contracts. */
+ * What a caller owes. Each pointer is aligned and points to as many elements as the length beside it says; where that is 0
+ * it may be NULL, since nothing is read or written there. tests/timers.c makes every such call. What `q` and `out` point to
+ * overlaps nothing else of the same call. crates/timer_map/src/lib.rt and crates/timer_events/src/lib.rt have the contracts. */
 #ifndef TIMER_MAP_H
 #define TIMER_MAP_H
 
@@ -17,6 +17,9 @@
 
 #ifdef __cplusplus
 extern "C" {
+#define TIMER_MAP_ASSERT(test, name) static_assert(test, name)
+#else
+#define TIMER_MAP_ASSERT(test, name) _Static_assert(test, name)
 #endif
 
 /* The words of a queue, and how many timers it holds at most. */
@@ -108,6 +111,25 @@ uint32_t timer_map_insert_records(uint64_t *q, size_t q_len, uint64_t time, cons
  * `out`; its due time is handed back. Code 0, also where none is due; 2; 9, where `out` is too short. Where none is handed
  * out, every byte of `out` becomes 0: no earlier event is left there. */
 struct timer_map_popped_event timer_map_pop_event(uint64_t *q, size_t q_len, uint64_t limit, uint8_t *out, size_t out_len);
+
+/* ---- What the library was compiled with */
+
+TIMER_MAP_ASSERT(sizeof(size_t) == 8 && sizeof(void *) == 8, "a 64-bit machine");
+TIMER_MAP_ASSERT(sizeof(bool) == 1, "bool");
+TIMER_MAP_ASSERT(sizeof(struct timer_map_timer) == 56, "timer_map_timer");
+TIMER_MAP_ASSERT(sizeof(struct timer_map_entry) == 64 && offsetof(struct timer_map_entry, item) == 8, "timer_map_entry");
+TIMER_MAP_ASSERT(sizeof(struct timer_map_popped) == 72 && offsetof(struct timer_map_popped, found) == 4 &&
+                     offsetof(struct timer_map_popped, entry) == 8,
+                 "timer_map_popped");
+TIMER_MAP_ASSERT(sizeof(struct timer_map_first) == 16 && offsetof(struct timer_map_first, found) == 4 &&
+                     offsetof(struct timer_map_first, time) == 8,
+                 "timer_map_first");
+TIMER_MAP_ASSERT(sizeof(struct timer_map_len) == 16 && offsetof(struct timer_map_len, count) == 8, "timer_map_len");
+TIMER_MAP_ASSERT(sizeof(struct timer_map_popped_event) == 16 && offsetof(struct timer_map_popped_event, found) == 4 &&
+                     offsetof(struct timer_map_popped_event, time) == 8,
+                 "timer_map_popped_event");
+TIMER_MAP_ASSERT(TIMER_MAP_WORDS == TIMER_MAP_ROWS + TIMER_MAP_ROW * TIMER_MAP_CAPACITY, "the words");
+#undef TIMER_MAP_ASSERT
 
 #ifdef __cplusplus
 }

@@ -271,6 +271,20 @@ static void numbers(void)
     CHECK(!hyparview_is_neighbor(lent.state, HYPARVIEW_WORDS, me) && !hyparview_is_neighbor(lent.state, HYPARVIEW_WORDS, 0));
 }
 
+/* ---- the version and the allowance */
+
+static void allowances(void)
+{
+    /* kind, message and what they add at capacity 5, by the mission's demand 3 */
+    static const uint8_t due[][3] = {{0, 0, 7}, {0, 1, 1}, {0, 2, 1}, {0, 3, 1}, {0, 4, 3}, {0, 5, 1}, {1, 0, 1},
+                                     {2, 0, 9}, {3, 0, 1}, {4, 0, 1}, {5, 0, 1}, {6, 0, 1}, {7, 0, 0}, {8, 0, 0}};
+    CHECK(hyparview_version() == HYPARVIEW_VERSION);
+    for (size_t i = 0; i < sizeof due / sizeof due[0]; i++)
+        CHECK(hyparview_allowance(due[i], 5) == due[i][2]);
+    for (uint32_t capacity = 1; capacity <= 8; capacity++)
+        CHECK(hyparview_allowance(due[0], capacity) == capacity + 2);
+}
+
 /* ---- NULL with length 0 */
 
 static void nulls(void)
@@ -309,7 +323,8 @@ int main(int argc, char **argv)
     lengths();
     shortness();
     numbers();
+    allowances();
     nulls();
-    printf("calls: %ld checks: new with own data, settings, lengths, 64-bit numbers, NULL, short outputs\n", checks);
+    printf("calls: %ld checks: new with own data, settings, lengths, 64-bit numbers, the allowance, NULL, short outputs\n", checks);
     return 0;
 }

@@ -1,6 +1,8 @@
 /* Stored histories of the Rust (oracle/sample) over the exported functions: their records, codes, draws and states are met
  * byte for byte, or the program stops with 1 at the first difference. Every kind of output record is to be met, and every
- * code but 2, which is damaged.c's, and 8, which no call is answered (02, S-5). Each file is run with tallies that start at 0, and with tallies one below their top, where they are to stay.
+ * code but 2, which is damaged.c's, and 8, which no call is answered (02, S-5). Each file is run with tallies that start at 0,
+ * of which messages and twice the neighbours are never above the allowance and somewhere all of it, and with tallies one
+ * below their top, where they are to stay.
  *
  * usage: histories FILE...   (the form of the files: oracle/sample/README.md) */
 #include "hyparview.h"
@@ -24,6 +26,7 @@ static size_t used;
 static uint64_t first_count;
 static long kinds[HYPARVIEW_KIND_EVICTED + 1], messages[HYPARVIEW_MESSAGE_DISCONNECT + 1];
 static long codes[HYPARVIEW_CODE_COUNTER + 1];
+static long used_up;
 
 static int next_line(void)
 {
@@ -256,6 +259,16 @@ static uint32_t begin(const char *counters)
     return code;
 }
 
+/* Messages sent so far and twice the neighbours are at most the allowance (demand 3); it is used up where they are as much. */
+static void within(uint64_t allowance)
+{
+    uint64_t spent = tally.join + tally.forward_join + tally.shuffle + tally.shuffle_reply + tally.neighbor +
+                     tally.disconnect + 2 * hyparview_neighbor_count(state, HYPARVIEW_WORDS);
+    if (spent > allowance)
+        stop("the allowance is passed");
+    used_up += spent == allowance;
+}
+
 /* The line that ends an event's records. */
 static void meet_code(uint32_t code, size_t draws_used)
 {
@@ -280,6 +293,7 @@ static long run_history(size_t n, size_t room, const char *counters)
         stop("a new station has a tally of messages");
     memcpy(&tally, sent, sizeof tally);
     size_t left = DRAW_COUNT, at = HEAD;
+    uint64_t allowance = 0;
     for (size_t i = 0; i < left; i++)
         draws[i] = word(DRAW_OFFSET + 4 * i);
     const uint32_t *draw = draws;
@@ -293,6 +307,10 @@ static long run_history(size_t n, size_t room, const char *counters)
         put_state();
         meet();
         agree(sent);
+        if (done.code == HYPARVIEW_ACCEPTED)
+            allowance += hyparview_allowance(input + at, SETTING(0));
+        if (first_count == 0)
+            within(allowance);
         draw += done.draws;
         left -= done.draws;
         at += size;
@@ -367,6 +385,7 @@ int main(int argc, char **argv)
     for (size_t i = 0; i <= HYPARVIEW_CODE_COUNTER; i++)
         if (i != HYPARVIEW_CODE_STATE && i != HYPARVIEW_CODE_DATA)
             met("code", i, codes[i]);
+    met("allowance used up by more events than", 0, used_up);
     printf("histories: %ld events, every kind of record, every code but 2 and 8, same as stored\n", events);
     return 0;
 }

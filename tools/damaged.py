@@ -30,16 +30,13 @@ After the last item the program ends the line. Standard output has thus a line f
 of its cases. Every valid state meets the event of no bytes with 3, for 2 comes first in 01's order.
 """
 import struct
-import subprocess
 import sys
 from collections import Counter
 from pathlib import Path
 
 import tool
 
-ROOT = Path(__file__).resolve().parent.parent
-STORED = ROOT / "oracle" / "sample" / "words.txt"
-ORACLE = ROOT / "oracle" / "target" / "release" / "oracle"
+STORED = tool.ROOT / "oracle" / "sample" / "words.txt"
 
 # The layout: single words, then sections of columns with a count after them.
 # The places, by tools/layout.py
@@ -731,7 +728,7 @@ def boundary(state, nears):
             found = broken(changed.words)
             if found != ([rule] if rule else []):
                 named = rule.__name__ if rule else "no rule"
-                raise SystemExit(f"{near.__name__}: meant {named}, breaks {[one.__name__ for one in found]}")
+                tool.fail(f"{near.__name__}: meant {named}, breaks {[one.__name__ for one in found]}")
             yield rule, changed.words
 
 
@@ -848,7 +845,7 @@ def stored():
                 place, value = pair.split(":")
                 words[int(place)] = int(value)
         except (ValueError, IndexError):
-            raise SystemExit(f"{STORED.name}: no state: {line[:40]}")
+            tool.fail(f"{STORED.name}: no state: {tool.shown(line)}")
         yield words
 
 
@@ -870,7 +867,7 @@ def made():
         answers.append(answer(WORDS, w))
     missing = [rule.__name__ for rule in RULES if not alone[rule]]
     if missing:
-        raise SystemExit(f"no case breaks alone: {' '.join(missing)}")
+        tool.fail(f"no case breaks alone: {' '.join(missing)}")
     return b"".join(given), "".join(line + "\n" for line in answers), alone
 
 
@@ -878,8 +875,14 @@ def read(given):
     """The items of standard input: (lent, patches)."""
     at = 0
     while at < len(given):
-        lent, count = struct.unpack_from("<HH", given, at)
-        yield lent, [struct.unpack_from("<HQ", given, at + 4 + 10 * i) for i in range(count)]
+        try:
+            lent, count = struct.unpack_from("<HH", given, at)
+            changes = [struct.unpack_from("<HQ", given, at + 4 + 10 * i) for i in range(count)]
+        except struct.error:
+            tool.fail(f"stdin ends within the item at byte {at}")
+        if any(place >= ROOM for place, _ in changes):
+            tool.fail(f"stdin has no item at byte {at}: a place is not below {ROOM}")
+        yield lent, changes
         at += 4 + 10 * count
 
 
@@ -897,23 +900,24 @@ def place_name(place):
             return f"{name}, column {at // places}, place {at % places}"
         if at == places * columns:
             return f"{name}, count"
+    return "past the state"
 
 
 def show(folder, line, column):
-    number, cases_seen, base = 0, 0, []
+    number, cases_seen, base = 0, 0, [0] * ROOM
     for lent, changes in read((folder / "stdin").read_bytes()):
         if lent == BASE:
             number, cases_seen = number + 1, 0
-            base = State([0] * WORDS).put(*[part for patch in changes for part in patch]).words
+            base = State([0] * ROOM).put(*[part for patch in changes for part in patch]).words
             continue
         cases_seen += 1
         if (number, cases_seen) == (line, column):
             words = State(base).put(*[part for patch in changes for part in patch]).words
-            print(f"{lent} words; breaks: {' '.join(rule.__name__ for rule in broken(words)) or 'no rule'}")
+            print(f"{lent} words; breaks: {' '.join(rule.__name__ for rule in broken(words[:WORDS])) or 'no rule'}")
             for place, value in changes:
                 print(f"{place_name(place)} ({place}): {base[place]} -> {value}")
             return
-    raise SystemExit(f"no case {column} in line {line}")
+    tool.fail(f"no case {column} in line {line}")
 
 
 # --- choosing the states -----------------------------------------------------------------------------------------------
@@ -923,11 +927,7 @@ CHOSEN_SEEDS, CHOSEN_EVENTS = 6, 200
 
 def oracle_states():
     """The Rust's states over generated histories, with the name of the history and the place in it."""
-    command = [ORACLE, "words", "--histories", str(CHOSEN_SEEDS), "--events", str(CHOSEN_EVENTS)]
-    try:
-        text = subprocess.run(command, capture_output=True, text=True, check=True).stdout
-    except (OSError, subprocess.CalledProcessError):
-        raise SystemExit("the oracle does not run: tools/differential builds it")
+    text = tool.oracle("words", "--histories", CHOSEN_SEEDS, "--events", CHOSEN_EVENTS).decode()
     name, index = "", 0
     for line in text.splitlines():
         if line.startswith("history "):
@@ -968,7 +968,7 @@ def choose():
     for name, w in oracle_states():
         found = [rule.__name__ for rule in broken(w)]
         if len(w) != WORDS or found:
-            raise SystemExit(f"{name}: a state of the Rust breaks {' '.join(found)}")
+            tool.fail(f"{name}: a state of the Rust breaks {' '.join(found)}")
         states[name] = (w, set(features(w)))
     needed = set().union(*(has for _, has in states.values()))
     total, chosen = len(needed), []
@@ -989,6 +989,8 @@ def main():
     if mode == ["states"] and not rest:
         choose()
     elif mode == ["make"] and len(rest) == 1:
+        if not Path(rest[0]).is_dir():
+            tool.fail(f"{rest[0]}: no such folder")
         given, answers, alone = made()
         (Path(rest[0]) / "stdin").write_bytes(given)
         (Path(rest[0]) / "stdout").write_text(answers)
@@ -999,14 +1001,11 @@ def main():
     elif mode == ["check"] and len(rest) == 1:
         given, answers, _ = made()
         if [(Path(rest[0]) / name).read_bytes() for name in ("stdin", "stdout")] != [given, answers.encode()]:
-            raise SystemExit(f"{rest[0]}: not what make would write")
-    elif mode == ["show"] and len(rest) == 3 and rest[1].isdigit() and rest[2].isdigit():
+            tool.fail(f"{rest[0]}: not what make would write")
+    elif mode == ["show"] and len(rest) == 3 and all(map(tool.is_number, rest[1:])):
         show(Path(rest[0]), int(rest[1]), int(rest[2]))
     else:
         tool.usage(__doc__)
 
 
-try:
-    main()
-except OSError as error:
-    tool.fail(f"{error.filename}: {tool.reason(error)}")
+tool.main(main)

@@ -872,4 +872,4 @@ def main():
     tool.made({name: text.encode() for name, text in made.items()}, sys.argv[1])
 
 
-main()
+tool.main(main)

@@ -5,7 +5,8 @@ usage: tools/record_vectors.py make | check
 
 The files are crates/test_record/stdin (each record with two bytes for its length in front) and crates/test_record/stdout,
 which tests/records.c is held to as well; tests/own.txt, the records of a new station with own data, for tests/calls.c; and
-tests/station.in with tests/station.out, what the station of examples/ is run on and must print.
+tests/station.in with tests/station.out, what the station of examples/ is run on and must print; tests/refused.in with
+tests/refused.out, the same where tests/refusing.c has calls refused.
 """
 import struct
 import sys
@@ -136,9 +137,12 @@ def own_rows():
         yield f"{present} x{own.hex()} {0 if fits else 1} x{(join + timers).hex() if fits else ''}\n"
 
 
-def first_draw():
-    """The first random number of the station in examples/."""
-    return (1664525 + 1013904223) % 2 ** 32
+def drawn(n):
+    """The n-th random number of the station in examples/, from 1 on."""
+    last = 1
+    for _ in range(n):
+        last = (last * 1664525 + 1013904223) % 2**32
+    return last
 
 
 def station():
@@ -147,7 +151,7 @@ def station():
     yield make(6, peer=7), 0, [
         f"send message 0 to 7: {HEADER + NODE} bytes",
         "start timer 4 for 7, number 0, in 10000 ms",
-        f"start timer 1 for 0, number 0, in {delay(1000, first_draw())} ms",
+        f"start timer 1 for 0, number 0, in {delay(1000, drawn(1))} ms",
         "start timer 2 for 0, number 0, in 5000 ms",
     ]
     yield make(0, 4, flags=1, peer=7, nodes=[(0, b"at 7")]), 0, [
@@ -168,12 +172,31 @@ def station():
     yield make(8)[: HEADER - 1], 3, []
 
 
-def station_files():
+def refused():
+    """Events of which calls are refused as tests/refusing.c says: the first for want of draws, of which 512 are drawn anew; a shuffle timer
+    for want of output, which is brought again; and that three times for want of draws."""
+    shuffle, again = make(1), "start timer 1 for 0, number 0, in 1000 ms"
+    yield make(6, peer=7), 0, [
+        f"send message 0 to 7: {HEADER + NODE} bytes",
+        "start timer 4 for 7, number 0, in 10000 ms",
+        f"start timer 1 for 0, number 0, in {delay(1000, drawn(513))} ms",
+        "start timer 2 for 0, number 0, in 5000 ms",
+    ]
+    yield shuffle, 9, [again]
+    yield shuffle, 0, [f"start timer 1 for 0, number 0, in {delay(2000, drawn(1025))} ms"]
+    yield shuffle, 5, [again]
+    # by the first of the third 512 drawn anew
+    yield shuffle, 0, [f"start timer 1 for 0, number 0, in {delay(4000, drawn(1026 + 2 * 512 + 1))} ms"]
+
+
+def station_files(name, events, neighbours):
+    """What a station is run on, and what it must print."""
     lines = []
-    for event, answered, told in station():
+    for event, answered, told in events:
         lines += [f"event of {len(event)} bytes: code {answered}", *told]
-    lines.append("1 neighbours, 0 spare addresses")
-    return b"".join(event for event, _, _ in station()), "".join(one + "\n" for one in lines).encode()
+    lines.append(f"{neighbours} neighbours, 0 spare addresses")
+    given = b"".join(event for event, _, _ in events)
+    return {f"tests/{name}.in": given, f"tests/{name}.out": "".join(one + "\n" for one in lines).encode()}
 
 
 def files():
@@ -184,13 +207,12 @@ def files():
     records += special()
     stored = b"".join(struct.pack("<H", len(b)) + b for b in records)
     assert len(stored) <= 65536, len(stored)
-    events, printed = station_files()
     return {
         "crates/test_record/stdin": stored,
         "crates/test_record/stdout": "".join(line(b) for b in records).encode(),
         "tests/own.txt": "".join(own_rows()).encode(),
-        "tests/station.in": events,
-        "tests/station.out": printed,
+        **station_files("station", list(station()), 1),
+        **station_files("refused", list(refused()), 0),
     }
 
 
@@ -200,4 +222,4 @@ def main():
     tool.made(files(), sys.argv[1])
 
 
-main()
+tool.main(main)

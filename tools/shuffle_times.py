@@ -149,4 +149,4 @@ def main():
         tool.usage(__doc__)
 
 
-main()
+tool.main(main)

@@ -1,5 +1,6 @@
-"""What the tools have in common: help on standard output, and one clear line where something is missing."""
+"""What the tools have in common: help on standard output, and one clear line on standard error where something is wrong."""
 import argparse
+import os
 import subprocess
 import sys
 from pathlib import Path
@@ -10,7 +11,29 @@ ORACLE = ROOT / "oracle" / "target" / "release" / "oracle"
 
 def fail(text):
     """Ends the tool with one line and status 1."""
-    sys.exit(f"{Path(sys.argv[0]).name}: {text}")
+    sys.exit(f"{Path(sys.argv[0]).name}: {' '.join(str(text).splitlines())}")
+
+
+def main(entry):
+    """Runs a tool: what the system refuses it, and text that is none, is one line too."""
+    try:
+        try:
+            status = entry()
+        finally:
+            print(end="", flush=True)
+    except (OSError, UnicodeError) as wrong:
+        silence()
+        closed = isinstance(wrong, BrokenPipeError)
+        fail("standard output was closed before the end" if closed else f"{named(wrong)}: {reason(wrong)}")
+    except KeyboardInterrupt:
+        silence()
+        fail("interrupted")
+    sys.exit(status)
+
+
+def silence():
+    """What is not written yet is never written: Python tries again at its end."""
+    os.dup2(os.open(os.devnull, os.O_WRONLY), 1)
 
 
 def misused(what):
@@ -38,27 +61,50 @@ class Words(argparse.ArgumentParser):
 
 
 def reason(wrong):
+    if isinstance(wrong, UnicodeError):
+        return "no text in UTF-8"
     return (wrong.strerror or str(wrong)).lower() if isinstance(wrong, OSError) else str(wrong)
 
 
-def read(path):
-    """A file's text."""
+def named(wrong):
+    """What an error of the system is about."""
+    return getattr(wrong, "filename", None) or ("input" if isinstance(wrong, UnicodeError) else "output")
+
+
+def read(path=None):
+    """A file's text, or that of standard input."""
     try:
-        return Path(path).read_text(encoding="utf-8")
-    except (OSError, UnicodeDecodeError) as wrong:
-        fail(f"{path}: {reason(wrong)}")
+        if path is not None:
+            return Path(path).read_text(encoding="utf-8")
+        sys.stdin.reconfigure(encoding="utf-8", errors="strict")
+        return sys.stdin.read()
+    except (OSError, UnicodeError) as wrong:
+        fail(f"{path if path is not None else 'standard input'}: {reason(wrong)}")
+
+
+def is_number(word):
+    """Whether a word is a whole number of at most 20 digits, as every number of 64 bits is."""
+    return word.isascii() and word.isdigit() and len(word) <= 20
+
+
+def shown(text):
+    """The beginning of a foreign line, printable."""
+    return ascii(text if len(text) <= 60 else text[:60] + "..")
 
 
 def run(command, **given):
-    """What a program writes to standard output, as bytes."""
+    """What a program writes to standard output, as bytes. What it says on standard error stands behind the line where it fails."""
     try:
-        done = subprocess.run(command, stdout=subprocess.PIPE, **given)
+        done = subprocess.run(command, stdout=subprocess.PIPE, **{"stderr": subprocess.PIPE, **given})
     except OSError as wrong:
         built = Path(command[0])
         hint = f"; run `rt check {built.name}` first" if built.parts[-3:-1] == ("target", "bin") else ""
         fail(f"{command[0]}: {reason(wrong)}{hint}")
+    said = (done.stderr or b"").decode(errors="replace").strip()
     if done.returncode != 0:
-        fail(f"{command[0]} ended with status {done.returncode}")
+        fail(f"{command[0]} ended with status {done.returncode}" + (f": {' / '.join(said.splitlines())}" if said else ""))
+    if said:
+        print(said, file=sys.stderr)
     return done.stdout
 
 
@@ -66,7 +112,7 @@ def papers():
     """The folder of the Rust, or the line that says why there is none."""
     done = subprocess.run([ROOT / "tools" / "papers"], capture_output=True, text=True)
     if done.returncode != 0:
-        fail(done.stderr.strip())
+        fail(done.stderr.strip().removeprefix("papers: "))
     return done.stdout.strip()
 
 
@@ -88,8 +134,8 @@ def options(words, names):
 def number(found, name, usual):
     """The whole number of an option, or the usual one."""
     text = found.get(name, str(usual))
-    if not (text.isascii() and text.isdigit()):
-        fail(f"{name} takes a whole number, not {text}")
+    if not is_number(text):
+        fail(f"{name} takes a whole number, not {shown(text)}")
     return int(text)
 
 
@@ -97,7 +143,8 @@ def differs(name, expected, written):
     """Ends the tool with the first line where a text is another than the one expected."""
     pairs = zip(expected.split("\n") + ["(end)"], written.split("\n") + ["(end)"])
     left, right = next(pair for pair in pairs if pair[0] != pair[1])
-    sys.exit(f"{name} differs\nexpected: {left}\nwritten:  {right}")
+    print(f"expected: {left}\nwritten:  {right}")
+    fail(f"{name} differs")
 
 
 def made(files, mode):
@@ -113,11 +160,15 @@ def made(files, mode):
 
 def sample(text, files, compare, names):
     """A sample's tool, whose help is the text: `make` or `check` of its files, or `compare` with options of these names, `--` and a command."""
-    mode, rest = sys.argv[1:2], sys.argv[2:]
-    if mode in (["make"], ["check"]) and not rest:
-        made(files(), mode[0])
-    elif mode == ["compare"] and "--" in rest[:-1]:
-        split = rest.index("--")
-        compare(options(rest[:split], names), rest[split + 1 :])
-    else:
-        usage(text)
+
+    def entry():
+        mode, rest = sys.argv[1:2], sys.argv[2:]
+        if mode in (["make"], ["check"]) and not rest:
+            made(files(), mode[0])
+        elif mode == ["compare"] and "--" in rest[:-1]:
+            split = rest.index("--")
+            compare(options(rest[:split], names), rest[split + 1 :])
+        else:
+            usage(text)
+
+    main(entry)

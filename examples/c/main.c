@@ -1,6 +1,6 @@
 /* A station to copy: it waits for an event, hands it to the library, and does what the records that come back say.
  *
- * The five functions above `handle` are a controller's own. Here they read the events from standard input, record after
+ * The five functions up to `tell` are a controller's own. Here they read the events from standard input, record after
  * record, and print. A timer's record is to be kept and handed to `handle` when it is due, with `second` 0; a message's is
  * to be sent, and its receiver hands it to its own `handle` with the sender as `peer`. */
 #include "hyparview.h"
@@ -8,6 +8,9 @@
 #include <inttypes.h>
 #include <stdio.h>
 #include <stdlib.h>
+
+#define TRIES 3    /* with new draws, before an event counts as refused for want of them */
+#define AGAIN 1000 /* ms until a timer that was refused is brought again */
 
 static uint64_t state[HYPARVIEW_WORDS];
 static struct hyparview_tally tally;
@@ -45,14 +48,30 @@ static void tell(const struct hyparview_header *h)
     printf("tell kind %u of %" PRIu64 "\n", h->kind, h->peer);
 }
 
-/* One event, and all that it brings about. */
-static void handle(size_t len)
+/* The library's answer. Where the draws did not suffice the event did not happen, and others may. */
+static uint32_t answer(size_t len)
 {
-    struct hyparview_done done =
-        hyparview_handle(state, HYPARVIEW_WORDS, &tally, event, len, draws, HYPARVIEW_DRAWS, out, sizeof out);
-    printf("event of %zu bytes: code %u\n", len, done.code);
-    if (done.code == HYPARVIEW_CODE_STATE)
-        exit(1); /* the memory is damaged: begin anew with hyparview_new */
+    struct hyparview_done done = {HYPARVIEW_CODE_DRAWS, 0};
+    for (int i = 0; i < TRIES && done.code == HYPARVIEW_CODE_DRAWS; i++) {
+        done = hyparview_handle(state, HYPARVIEW_WORDS, &tally, event, len, draws, HYPARVIEW_DRAWS, out, sizeof out);
+        draw(done.code == HYPARVIEW_CODE_DRAWS ? HYPARVIEW_DRAWS : done.draws);
+    }
+    return done.code;
+}
+
+/* A refused event. A message counts as lost; a timer comes again, since only its event starts it anew. */
+static void refused(size_t len)
+{
+    struct hyparview_reading r = hyparview_read(event, len);
+    if (r.ok && r.header.kind >= HYPARVIEW_FIRST_TIMER && r.header.kind <= HYPARVIEW_LAST_TIMER) {
+        r.header.second = AGAIN;
+        start_timer(&r.header);
+    }
+}
+
+/* What an accepted event brings about. */
+static void do_records(void)
+{
     for (size_t at = 0; at + HYPARVIEW_HEADER <= sizeof out;) {
         size_t size = hyparview_record_size(out + at);
         struct hyparview_reading r = hyparview_read(out + at, size);
@@ -66,13 +85,27 @@ static void handle(size_t len)
             tell(&r.header);
         at += size;
     }
-    draw(done.draws);
+}
+
+/* One event. */
+static void handle(size_t len)
+{
+    uint32_t code = answer(len);
+    printf("event of %zu bytes: code %u\n", len, code);
+    if (code == HYPARVIEW_CODE_STATE)
+        exit(1); /* the memory is damaged: begin anew with hyparview_new */
+    if (code == HYPARVIEW_ACCEPTED)
+        do_records();
+    else
+        refused(len);
 }
 
 int main(void)
 {
     const struct hyparview_config config = HYPARVIEW_DEFAULTS;
     size_t len;
+    if (hyparview_version() != HYPARVIEW_VERSION)
+        return 1; /* the library is another than this header's */
     if (hyparview_new(state, HYPARVIEW_WORDS, &tally, 1, 0, NULL, 0, config) != HYPARVIEW_ACCEPTED)
         return 1;
     draw(HYPARVIEW_DRAWS);

@@ -6,9 +6,9 @@
 #include <stdio.h>
 #include <stdlib.h>
 
-#define LAST_START (UINT64_C(1) << 63)
+#define LAST_START SHUFFLE_TIMES_LATEST_START
 
-static const struct hyparview_config settings = {5, 30, 6, 3, 6, 3, 4, 60000, 3000};
+static const struct hyparview_config settings = HYPARVIEW_DEFAULTS;
 
 static void expect(uint64_t from, uint64_t to, struct hyparview_config config, uint32_t k, uint64_t earliest, uint64_t latest)
 {
@@ -34,7 +34,7 @@ int main(void)
     expect(1, 0, settings, 3, 0, 0);
     expect(0, LAST_START + 1, settings, 3, 0, 0);
     expect(0, 0, settings, 0, 0, 0);
-    expect(0, 0, settings, 1001, 0, 0);
+    expect(0, 0, settings, SHUFFLE_TIMES_MOST + 1, 0, 0);
     expect(0, 0, no_interval, 3, 0, 0);
     struct hyparview_shuffle_range r = hyparview_shuffle_times(0, 5000, settings, 3);
     printf("shuffles: from a start of 0 to 5000 ms the third is due from %" PRIu64 " to %" PRIu64 " ms\n", r.earliest, r.latest);

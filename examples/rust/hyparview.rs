@@ -4,6 +4,7 @@
 
 use std::mem::{offset_of, size_of};
 
+pub const VERSION: u32 = 1;
 // The words of a state, by tools/layout.py
 pub const WORDS: usize = 551;
 // end
@@ -15,7 +16,9 @@ pub const RECORD: usize = 928;
 pub const ACCEPTED: u32 = 0;
 pub const CODE_STATE: u32 = 2;
 pub const CODE_EVENT: u32 = 3;
+pub const CODE_DRAWS: u32 = 5;
 pub const KIND_MESSAGE: u8 = 0;
+pub const FIRST_TIMER: u8 = 1;
 pub const LAST_TIMER: u8 = 4;
 
 #[repr(C)]
@@ -105,6 +108,7 @@ const _: () = {
 
 #[link(name = "controller", kind = "static")]
 extern "C" {
+    fn hyparview_version() -> u32;
     fn hyparview_new(
         state: *mut u64,
         words: usize,
@@ -133,6 +137,12 @@ extern "C" {
     fn hyparview_spare_addresses(state: *const u64, words: usize) -> usize;
     fn hyparview_read(record: *const u8, len: usize) -> HeaderReading;
     fn hyparview_node(record: *const u8, len: usize, i: usize) -> NodeReading;
+}
+
+/// The version of the library, which is to be VERSION.
+pub fn version() -> u32 {
+    // SAFETY: it takes nothing.
+    unsafe { hyparview_version() }
 }
 
 /// A station's words and its tally.

@@ -5,10 +5,15 @@
 mod hyparview;
 
 use hyparview::{
-    read, records, size, Header, Station, CODE_STATE, DEFAULTS, DRAWS, HEADER, KIND_MESSAGE,
-    LAST_TIMER, OUTPUT, RECORD,
+    read, records, size, version, Header, Station, ACCEPTED, CODE_DRAWS, CODE_STATE, DEFAULTS,
+    DRAWS, FIRST_TIMER, HEADER, KIND_MESSAGE, LAST_TIMER, OUTPUT, RECORD, VERSION,
 };
 use std::io::Read;
+
+/// With new draws, before an event counts as refused for want of them.
+const TRIES: u32 = 3;
+/// Milliseconds until a timer that was refused is brought again.
+const AGAIN: u64 = 1000;
 
 /// The next event: a message, an expired timer, a closed connection, a wish of the application. Empty at the end.
 fn wait_for_event() -> Vec<u8> {
@@ -31,11 +36,16 @@ fn wait_for_event() -> Vec<u8> {
     event
 }
 
-/// Any random numbers; better ones than these where a controller has them.
-fn draw(draws: &mut [u32], last: &mut u32) {
-    for d in draws {
-        *last = last.wrapping_mul(1664525).wrapping_add(1013904223);
-        *d = *last;
+/// The draws of a call, and the last number drawn.
+struct Draws([u32; DRAWS], u32);
+
+impl Draws {
+    /// The first n anew. Any random numbers; better ones than these where a controller has them.
+    fn draw(&mut self, n: usize) {
+        for d in &mut self.0[..n] {
+            self.1 = self.1.wrapping_mul(1664525).wrapping_add(1013904223);
+            *d = self.1;
+        }
     }
 }
 
@@ -59,16 +69,33 @@ fn tell(h: &Header) {
     println!("tell kind {} of {}", h.kind, h.peer);
 }
 
-/// One event, and all that it brings about. Returns how many draws it used.
-fn handle(station: &mut Station, event: &[u8], draws: &[u32]) -> usize {
-    let mut out = [0; OUTPUT];
-    let done = station.handle(event, draws, &mut out);
-    println!("event of {} bytes: code {}", event.len(), done.code);
-    assert!(
-        done.code != CODE_STATE,
-        "the memory is damaged: begin anew with Station::new"
-    );
-    for record in records(&out) {
+/// The library's answer. Where the draws did not suffice the event did not happen, and others may.
+fn answer(station: &mut Station, event: &[u8], draws: &mut Draws, out: &mut [u8]) -> u32 {
+    for _ in 0..TRIES {
+        let done = station.handle(event, &draws.0, out);
+        if done.code != CODE_DRAWS {
+            draws.draw(done.draws);
+            return done.code;
+        }
+        draws.draw(DRAWS);
+    }
+    CODE_DRAWS
+}
+
+/// A refused event. A message counts as lost; a timer comes again, since only its event starts it anew.
+fn refused(event: &[u8]) {
+    match read(event) {
+        Some(mut h) if (FIRST_TIMER..=LAST_TIMER).contains(&h.kind) => {
+            h.second = AGAIN;
+            start_timer(&h);
+        }
+        _ => {}
+    }
+}
+
+/// What an accepted event brings about.
+fn do_records(out: &[u8]) {
+    for record in records(out) {
         let h = read(record).expect("each record is well-formed");
         match h.kind {
             KIND_MESSAGE => send_message(&h, record),
@@ -76,20 +103,34 @@ fn handle(station: &mut Station, event: &[u8], draws: &[u32]) -> usize {
             _ => tell(&h),
         }
     }
-    done.draws
+}
+
+/// One event.
+fn handle(station: &mut Station, event: &[u8], draws: &mut Draws) {
+    let mut out = [0; OUTPUT];
+    let code = answer(station, event, draws, &mut out);
+    println!("event of {} bytes: code {}", event.len(), code);
+    match code {
+        ACCEPTED => do_records(&out),
+        CODE_STATE => panic!("the memory is damaged: begin anew with Station::new"),
+        _ => refused(event),
+    }
 }
 
 fn main() {
+    assert!(
+        version() == VERSION,
+        "the library is another than this header's"
+    );
     let mut station = Station::new(1, None, DEFAULTS).expect("the settings are in range");
-    let (mut draws, mut last) = ([0; DRAWS], 1);
-    draw(&mut draws, &mut last);
+    let mut draws = Draws([0; DRAWS], 1);
+    draws.draw(DRAWS);
     loop {
         let event = wait_for_event();
         if event.is_empty() {
             break;
         }
-        let used = handle(&mut station, &event, &draws);
-        draw(&mut draws[..used], &mut last);
+        handle(&mut station, &event, &mut draws);
     }
     println!(
         "{} neighbours, {} spare addresses",

@@ -5,6 +5,8 @@ import re
 import shutil
 import subprocess
 
+import tool
+
 from . import equations
 
 ROOT = pathlib.Path(__file__).resolve().parent.parent.parent
@@ -41,7 +43,7 @@ class Checker:
     def __init__(self, folder):
         self.folder = pathlib.Path(folder).resolve()
         if ROOT == self.folder or ROOT in self.folder.parents:
-            raise SystemExit("the folder must stand outside the repository")
+            tool.fail("--folder must stand outside the repository")
         crates = needed(CRATE, (ROOT / "crates.txt").read_text().splitlines())
         for name in crates:
             for part in ("src", "specs") if name == CRATE else ("src", "specs", "proofs"):

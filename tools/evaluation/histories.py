@@ -1,8 +1,8 @@
 """Histories: the run program's input, and the answers of the Rust to it in the trace form."""
 import dataclasses
-import subprocess
 
 import records
+import tool
 
 ROOM = 8192
 COUNTERS = (0, 0, 0, 0)
@@ -42,10 +42,13 @@ def read_input(name, data, room=ROOM, counters=COUNTERS):
 
 
 def read_counters(text):
-    return tuple(map(int, text.split(",")))
+    counters = tuple(map(int, text.split(",")))
+    if len(counters) != len(COUNTERS):
+        raise ValueError(text)
+    return counters
 
 
-def read_stored(text):
+def read_stored(text, where):
     """Each history of a text in the oracle's stored form, None for one whose input is malformed."""
     for block in text.split("\n\n"):
         head = {}
@@ -55,8 +58,12 @@ def read_stored(text):
                 break
             head[word] = rest
         if head:
-            counters = read_counters(head["counters"]) if "counters" in head else COUNTERS
-            yield read_input(head["history"], bytes.fromhex(head["input"]), int(head.get("room", ROOM)), counters)
+            try:
+                counters = read_counters(head["counters"]) if "counters" in head else COUNTERS
+                history = read_input(head["history"], bytes.fromhex(head["input"]), int(head.get("room", ROOM)), counters)
+            except (KeyError, ValueError):
+                tool.fail(f"{where}: no stored history: {tool.shown(block)}")
+            yield history
 
 
 class Oracle:
@@ -66,11 +73,13 @@ class Oracle:
         self.program = program
 
     def run(self, words, data=b""):
-        run = subprocess.run([self.program, *words], input=data, stdout=subprocess.PIPE, check=True)
-        return run.stdout.decode()
+        return tool.run([self.program, *words], input=data).decode(errors="replace")
 
     def generate(self, words):
-        return read_stored(self.run(["generate", *words]))
+        found = list(read_stored(self.run(["generate", *words]), self.program))
+        if not found:
+            tool.fail(f"{self.program} makes no history of {' '.join(words)}")
+        return found
 
     def answers(self, history):
         """An answer for each event, or None where `new` is answered by code 1."""
@@ -78,15 +87,19 @@ class Oracle:
         text = self.run(["trace", "--room", str(history.room), "--counters", counters], history.input())
         if text == "= 1 0\n":
             return None
-        answers, output, end = [], "", None
+        answers, output, end = [], "", ()
         for line in text.splitlines():
-            if line.startswith("= "):
-                end = map(int, line[2:].split())
-            elif line.startswith("state "):
-                state = dict(word.split("=", 1) for word in line.split()[1:])
-                answers.append(Answer(*end, bytes.fromhex(output), state))
-                output = ""
-            else:
-                output += line
-        assert len(answers) == len(history.events), text
+            try:
+                if line.startswith("= "):
+                    end = map(int, line[2:].split())
+                elif line.startswith("state "):
+                    state = dict(word.split("=", 1) for word in line.split()[1:])
+                    answers.append(Answer(*end, bytes.fromhex(output), state))
+                    output = ""
+                else:
+                    output += line
+            except (TypeError, ValueError):
+                tool.fail(f"{self.program} does not answer in the trace form: {tool.shown(line)}")
+        if len(answers) != len(history.events):
+            tool.fail(f"{self.program} answers {len(answers)} of {len(history.events)} events")
         return answers

@@ -3,6 +3,8 @@ import collections
 import dataclasses
 import time
 
+import tool
+
 from . import equations, shrink
 from .checker import Failure
 
@@ -20,17 +22,24 @@ class Change:
 def read(path):
     """Blocks `FILE`, `- old`, `+ new` and `@ history` or `= reason`, with an empty line between; # starts a remark."""
     signs = {"-": "old", "+": "new", "@": "history", "=": "reason"}
-    for block in path.read_text(encoding="utf-8").split("\n\n"):
+    for block in tool.read(path).split("\n\n"):
         lines = [line for line in block.splitlines() if line and not line.startswith("#")]
         if lines:
-            yield Change(lines[0], **{signs[line[0]]: line[2:] for line in lines[1:]})
+            try:
+                change = Change(lines[0], **{signs[line[0]]: line[2:] for line in lines[1:]})
+            except (KeyError, TypeError):
+                tool.fail(f"{path}: no change of the definition: {tool.shown(block)}")
+            yield change
 
 
 def named(words, oracle):
     """The history of MIX SEED EVENTS [ROOM]."""
-    mix, seed, events, *room = words.split()
-    (history,) = oracle.generate(["--mix", mix, "--seed", seed, "--events", events])
-    return dataclasses.replace(history, room=int(room[0])) if room else history
+    try:
+        mix, seed, events, *room = words.split()
+        (history,) = oracle.generate(["--mix", mix, "--seed", seed, "--events", events])
+        return dataclasses.replace(history, room=int(room[0])) if room else history
+    except ValueError:
+        tool.fail(f"no history is named by '{words}': MIX SEED EVENTS [ROOM]")
 
 
 def noticed(change, oracle, checker):
@@ -50,7 +59,7 @@ def tried(change, oracle, checker):
     if change.reason:
         return "explained", change.reason
     target = checker.definition / change.file
-    whole = target.read_text(encoding="utf-8")
+    whole = tool.read(target)
     if whole.count(change.old) != 1:
         return "no definition", f"{whole.count(change.old)} times in {change.file}: {change.old}"
     target.write_text(whole.replace(change.old, change.new), encoding="utf-8")

@@ -12,6 +12,10 @@ use Rattle.tally.specs.History.{no-messages}
 use Rattle.hyparview.specs.Made.{MadeWords, made}
 use Rattle.hyparview.specs.Handled.{Outcome, handled}
 
+-- the header that the library goes with
+abbrev pub version : ℕ
+version = 1
+
 -- what `hyparview_new` hands back, and the words and the tally as it leaves them
 pub record Begun : Type 0 where
   pub code : ℕ

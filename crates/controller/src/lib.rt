@@ -13,7 +13,7 @@ ghost use lib.Dec.{eqb};
 ghost use Rattle.tally.specs.History.{no-messages};
 ghost use Rattle.hyparview.specs.Made.{lent};
 ghost use Rattle.hyparview.specs.Queries.{wants-connection-in, is-neighbor-in, neighbors-in, spare-addresses-in};
-ghost use Rattle.controller.specs.Calls.{begun, called};
+ghost use Rattle.controller.specs.Calls.{version, begun, called};
 ghost use Rattle.controller.specs.Reader.{no-header, reading, no-entry, node-reading};
 
 // The code of `new`, and the tally after it.
@@ -34,6 +34,17 @@ pub struct HeaderReading {
 pub struct NodeReading {
     pub ok: bool,
     pub node: Entry,
+}
+
+// Raised where records, words, codes or functions become other than a caller's header says.
+pub const VERSION: u32 = 1;
+
+// Which header the library goes with.
+#[no_mangle]
+pub extern "C" fn hyparview_version() -> u32
+    ensures { λ r. ⌜ r ≡ version ⌝ }
+{
+    VERSION
 }
 
 // One event: the whole result, or one numbered refusal that leaves every word and count as it was.
