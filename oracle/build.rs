@@ -132,7 +132,12 @@ fn broadcast() -> Vec<Substitution> {
              self.eager_push_peers.insert(peer);",
             1,
         ),
-        all(file, "&sender, &grafted, io", "&sender, limits::skipped(&grafted), io", 1),
+        all(
+            file,
+            "&sender, &grafted, io",
+            "&sender, limits::skipped(&grafted), io",
+            1,
+        ),
         all(file, "#[cfg(test)]", CHECKED, 2),
     ]
 }
@@ -141,7 +146,12 @@ fn broadcast() -> Vec<Substitution> {
 fn joined() -> Vec<Substitution> {
     let file = "topic.rs";
     vec![
-        all(file, "NeighborDown(PI),", "NeighborDown(PI), Evicted(PI),", 1),
+        all(
+            file,
+            "NeighborDown(PI),",
+            "NeighborDown(PI), Evicted(PI),",
+            1,
+        ),
         one(file, "#[cfg(test)]", CHECKED, 3, 3),
         one(file, "#[cfg(test)]", CHECKED, 2, 2),
     ]
@@ -272,7 +282,9 @@ fn main() {
     build.copy("topic.rs", &changes, "");
     for (name, own) in CHILDREN {
         build.copy(name, &changes, &child(&here, own));
-        build.say(format!("{name}: one line added at the end, the module {own}"));
+        build.say(format!(
+            "{name}: one line added at the end, the module {own}"
+        ));
     }
     let proto = build.read("src/proto.rs");
     build.write("proto.rs", &(MODULES.to_owned() + &end_of(&proto)));
@@ -291,7 +303,8 @@ const CHILDREN: [(&str, &str); 3] = [
 ];
 
 /// The modules of proto.rs that are built.
-const MODULES: &str = "pub mod hyparview;\nmod peer;\npub mod plumtree;\npub mod topic;\npub mod util;\n";
+const MODULES: &str =
+    "pub mod hyparview;\nmod peer;\npub mod plumtree;\npub mod topic;\npub mod util;\n";
 
 /// A child module sees the private fields, which a comparison of whole states needs.
 fn child(here: &Path, own: &str) -> String {

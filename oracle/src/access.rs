@@ -63,8 +63,7 @@ impl<RG: Rng + Clone> State<Peer, RG> {
             .set_limit(limit(MOST_REQUESTS, refusal::REQUESTS));
         self.refused
             .set_limit(limit(MOST_REFUSED, refusal::REFUSED));
-        self.peer_data
-            .set_limit(limit(MOST_ENTRIES, refusal::DATA));
+        self.peer_data.set_limit(limit(MOST_ENTRIES, refusal::DATA));
         self
     }
 

@@ -1,5 +1,7 @@
 //! What a history is run on: a file of the Rust.
 
+#[cfg(feature = "tools")]
+use crate::generate::{self, mix, History};
 use crate::{
     gossip,
     text::{self, Form, Start},
@@ -16,7 +18,7 @@ pub enum Machine {
     Topic,
 }
 
-/// The machines of the broadcast half, each by the name of its file.
+/// The machines, each by the name of its file.
 const NAMED: [(&str, Machine); 3] = [
     ("hyparview", Machine::Hyparview),
     ("plumtree", Machine::Plumtree),
@@ -43,5 +45,39 @@ impl Machine {
             Machine::Hyparview => text::run(input, start, form),
             _ => gossip::text::run(self, input, start, form),
         }
+    }
+
+    /// The names of its mixes.
+    #[cfg(feature = "tools")]
+    pub fn mixes(self) -> Vec<&'static str> {
+        match self {
+            Machine::Hyparview => mix::MIXES.iter().map(|mix| mix.name).collect(),
+            _ => gossip::generate::mix::MIXES
+                .iter()
+                .map(|mix| mix.name)
+                .collect(),
+        }
+    }
+
+    /// The history of a mix and a seed with at most so many events; `None` where no mix has this name.
+    #[cfg(feature = "tools")]
+    pub fn history(self, mix: &str, seed: u64, length: usize) -> Option<History> {
+        match self {
+            Machine::Hyparview => Some(generate::history(mix::named(mix)?, seed, length)),
+            _ => {
+                let mix = gossip::generate::mix::named(mix)?;
+                Some(gossip::generate::history(self, mix, seed, length))
+            }
+        }
+    }
+
+    /// The name of a history: its mix, with its machine in front but for the membership half, seed and most events.
+    pub fn name(self, mix: &str, seed: u64, length: usize) -> String {
+        let front = match self {
+            Machine::Hyparview => "",
+            Machine::Plumtree => "plumtree:",
+            Machine::Topic => "topic:",
+        };
+        format!("{front}{mix} {seed} {length}")
     }
 }

@@ -94,7 +94,11 @@ impl State<Peer> {
             queued: self.queued(),
             timers: rising(self.graft_timer_scheduled.iter().map(id_of)),
             grafted: self.grafts(),
-            unannounced: self.missing_messages.values().filter(|list| list.is_empty()).count(),
+            unannounced: self
+                .missing_messages
+                .values()
+                .filter(|list| list.is_empty())
+                .count(),
         }
     }
 

@@ -4,7 +4,9 @@ use std::{cmp::Ordering, fmt};
 
 use crate::{
     limits::BODY,
-    record::{header_of, length_of, Peer, Record, Writer, HEADER, MALFORMED, MOST_NODES, NODE_COUNT},
+    record::{
+        header_of, length_of, Peer, Record, Writer, HEADER, MALFORMED, MOST_NODES, NODE_COUNT,
+    },
 };
 
 pub const ID: usize = 32;
@@ -199,8 +201,9 @@ impl Said {
             kind::BROADCAST if fields.ttl == 0 => {
                 Scope::read(&fields).map(|scope| Said::Broadcast(scope, rest.to_vec()))
             }
-            kind::RECEIVED => Scope::read(&fields)
-                .map(|scope| Said::Received(fields.peer, scope, rest.to_vec())),
+            kind::RECEIVED => {
+                Scope::read(&fields).map(|scope| Said::Received(fields.peer, scope, rest.to_vec()))
+            }
             _ => None,
         }
     }
@@ -226,7 +229,10 @@ impl Message {
             }
             Message::IHave(entries) => {
                 let entry = |(id, round): &(Id, u16)| [&id.0[..], &round.to_le_bytes()].concat();
-                (of(message::IHAVE, 0, 0), entries.iter().flat_map(entry).collect())
+                (
+                    of(message::IHAVE, 0, 0),
+                    entries.iter().flat_map(entry).collect(),
+                )
             }
         }
     }
@@ -248,9 +254,9 @@ impl Message {
                 };
                 Some(Message::Graft(id, fields.ttl))
             }
-            message::IHAVE if bare && rest.len() % ENTRY == 0 => {
-                Some(Message::IHave(rest.chunks_exact(ENTRY).map(entry).collect()))
-            }
+            message::IHAVE if bare && rest.len() % ENTRY == 0 => Some(Message::IHave(
+                rest.chunks_exact(ENTRY).map(entry).collect(),
+            )),
             _ => None,
         }
     }

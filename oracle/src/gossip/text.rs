@@ -29,7 +29,9 @@ pub fn run(machine: Machine, input: &[u8], start: Start, form: Form) -> String {
 }
 
 fn state_lines(station: &Station) -> String {
-    let swarm = station.swarm().map_or(String::new(), |parts| state_line(&parts));
+    let swarm = station
+        .swarm()
+        .map_or(String::new(), |parts| state_line(&parts));
     swarm + &gossip_line(&station.gossip())
 }
 
@@ -40,10 +42,34 @@ pub fn gossip_line(parts: &Parts) -> String {
         ("dispatch", u8::from(parts.dispatch).to_string()),
         ("eager", list(&parts.eager)),
         ("lazy", list(&parts.lazy)),
-        ("received", list(parts.received.iter().map(|(id, time)| format!("{id}:{time}")))),
+        (
+            "received",
+            list(
+                parts
+                    .received
+                    .iter()
+                    .map(|(id, time)| format!("{id}:{time}")),
+            ),
+        ),
         ("cache", list(parts.cache.iter().map(cached))),
-        ("announced", list(parts.announced.iter().map(|(id, peer, round)| format!("{id}:{peer}:{round}")))),
-        ("queued", list(parts.queued.iter().map(|(peer, id, round)| format!("{peer}:{id}:{round}")))),
+        (
+            "announced",
+            list(
+                parts
+                    .announced
+                    .iter()
+                    .map(|(id, peer, round)| format!("{id}:{peer}:{round}")),
+            ),
+        ),
+        (
+            "queued",
+            list(
+                parts
+                    .queued
+                    .iter()
+                    .map(|(peer, id, round)| format!("{peer}:{id}:{round}")),
+            ),
+        ),
         ("timers", list(&parts.timers)),
         ("grafted", list(parts.grafted.iter().map(grafted))),
     ];
@@ -52,12 +78,23 @@ pub fn gossip_line(parts: &Parts) -> String {
 }
 
 fn cached(cached: &Cached) -> String {
-    let Cached { id, time, round, body } = cached;
+    let Cached {
+        id,
+        time,
+        round,
+        body,
+    } = cached;
     format!("{id}:{time}:{round}:{}", hex(body))
 }
 
 fn grafted(grafted: &Grafted) -> String {
-    let Grafted { id, time, peers, first, kept } = grafted;
+    let Grafted {
+        id,
+        time,
+        peers,
+        first,
+        kept,
+    } = grafted;
     let asked = |(peer, round): &(Peer, u16)| format!("{peer}/{round}");
     let peers: Vec<_> = peers.iter().map(asked).collect();
     let first = first.as_ref().map_or("-".into(), asked);
