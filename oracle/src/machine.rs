@@ -52,20 +52,22 @@ impl Machine {
     pub fn mixes(self) -> Vec<&'static str> {
         match self {
             Machine::Hyparview => mix::MIXES.iter().map(|mix| mix.name).collect(),
-            _ => gossip::generate::mix::MIXES
-                .iter()
+            _ => gossip::generate::mix::of(self)
                 .map(|mix| mix.name)
                 .collect(),
         }
     }
 
-    /// The history of a mix and a seed with at most so many events; `None` where no mix has this name.
+    /// The history of a mix and a seed with at most so many events, or a written one, which has neither;
+    /// `None` where no mix has this name.
     #[cfg(feature = "tools")]
     pub fn history(self, mix: &str, seed: u64, length: usize) -> Option<History> {
-        match self {
-            Machine::Hyparview => Some(generate::history(mix::named(mix)?, seed, length)),
+        let written = gossip::cases::named(mix).filter(|_| self == Machine::Plumtree);
+        match (self, written) {
+            (Machine::Hyparview, _) => Some(generate::history(mix::named(mix)?, seed, length)),
+            (_, Some(case)) => (seed == 0 && length == 0).then(|| case.history()),
             _ => {
-                let mix = gossip::generate::mix::named(mix)?;
+                let mix = gossip::generate::mix::named(self, mix)?;
                 Some(gossip::generate::history(self, mix, seed, length))
             }
         }

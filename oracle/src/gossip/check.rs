@@ -7,7 +7,7 @@ use std::{
 
 use super::{
     claims::{self, Step},
-    generate::{self, mix::MIXES},
+    generate::{self, mix},
     record::{Id, Message, Said, Scope},
     station::{Notice, Station},
 };
@@ -249,7 +249,7 @@ pub fn run(machine: Machine, seed: u64, events: u64, length: usize, skips: bool)
     let mut seeds = seed..;
     while report.events < events {
         let seed = seeds.next().expect("seeds without end");
-        for mix in MIXES {
+        for mix in mix::of(machine) {
             let history = generate::history(machine, mix, seed, length);
             if let Some(input) = Input::read(&history.input) {
                 report.history(input, history.start);

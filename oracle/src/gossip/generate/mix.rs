@@ -1,6 +1,6 @@
 //! The mixes: what kind of histories the generator makes for the broadcast half.
 
-use crate::generate::mix::Numbers;
+use crate::{generate::mix::Numbers, machine::Machine};
 
 /// One way to make an event. In a joined history the first three are events of the membership half.
 #[derive(Clone, Copy, Debug, PartialEq, Eq)]
@@ -301,10 +301,27 @@ pub const MIXES: &[Mix] = &[
     within(Room::Tight, mix("tight", TIGHT, Bodies::Few(24))),
     Mix {
         numbers: Numbers::Wide,
+        swarm: (30, "wide"),
         ..mix("wide", EVEN, Bodies::Few(30))
     },
 ];
 
-pub fn named(name: &str) -> Option<&'static Mix> {
-    MIXES.iter().find(|mix| mix.name == name)
+/// Of joined histories alone: the membership half runs out of draws, or asks more peers than it may.
+pub const JOINED: &[Mix] = &[
+    among((2, 2), (60, "short"), mix("short", EVEN, Bodies::Few(30))),
+    among(
+        (2, 2),
+        (80, "asking"),
+        mix("requests", EVEN, Bodies::Few(30)),
+    ),
+];
+
+/// The mixes of a machine of the broadcast half.
+pub fn of(machine: Machine) -> impl Iterator<Item = &'static Mix> {
+    let joined = (machine == Machine::Topic).then_some(JOINED);
+    MIXES.iter().chain(joined.into_iter().flatten())
+}
+
+pub fn named(machine: Machine, name: &str) -> Option<&'static Mix> {
+    of(machine).find(|mix| mix.name == name)
 }
