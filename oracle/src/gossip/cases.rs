@@ -23,7 +23,16 @@ pub struct Case {
 pub const CASES: &[Case] = &[
     case("order_to_grafted", order_to_grafted),
     case("first_smallest_round", first_smallest_round),
+    case("asked_over_as_many_hops", asked_over_as_many_hops),
+    case("asked_peer_first", asked_peer_first),
+    case("asked_again", asked_again),
+    case("broadcast_of_missing", broadcast_of_missing),
     case("faster_peer_kept", faster_peer_kept),
+    case("late_over_more_hops", late_over_more_hops),
+    case("late_after_asked", late_after_asked),
+    case("late_from_lazy", late_from_lazy),
+    case("late_after_lazy", late_after_lazy),
+    case("first_again", first_again),
     case("neighbors_each_time", neighbors_each_time),
     case("last_round", last_round),
     case("long_body", long_body),
@@ -170,6 +179,110 @@ fn faster_peer_kept() -> Vec<Vec<u8>> {
     ]
 }
 
+/// Peer 2 announces a message over 10 hops and is asked; then 3 announces it over one, far fewer.
+fn asked_then_announced() -> Vec<Vec<u8>> {
+    let id = Id::of(b"a");
+    vec![
+        up(2),
+        up(3),
+        up(4),
+        prune(3),
+        ihave(2, &[(id, 10)]),
+        send_graft(id),
+        ihave(3, &[(id, 1)]),
+    ]
+}
+
+/// The copy of one that was not asked comes over as many hops as the graft's will: the tree stays.
+fn asked_over_as_many_hops() -> Vec<Vec<u8>> {
+    let mut events = asked_then_announced();
+    events.push(gossip(4, Scope::Swarm(10), b"a"));
+    events
+}
+
+/// The copy of the peer that was asked comes first: the tree is optimized.
+fn asked_peer_first() -> Vec<Vec<u8>> {
+    let mut events = asked_then_announced();
+    events.push(gossip(2, Scope::Swarm(10), b"a"));
+    events
+}
+
+/// A peer that announces a message again after it was asked is asked again, and its least round is kept.
+fn asked_again() -> Vec<Vec<u8>> {
+    let id = Id::of(b"a");
+    let rounds = [5, 3, 9].into_iter();
+    let asked = rounds.flat_map(|round| [ihave(2, &[(id, round)]), send_graft(id)]);
+    [up(2)].into_iter().chain(asked).collect()
+}
+
+/// A broadcast leaves the announcement of its own body, and its timer then asks for nothing.
+fn broadcast_of_missing() -> Vec<Vec<u8>> {
+    let id = Id::of(b"a");
+    vec![
+        up(2),
+        ihave(2, &[(id, 1)]),
+        broadcast(0, b"a"),
+        send_graft(id),
+        gossip(2, Scope::Swarm(1), b"a"),
+    ]
+}
+
+/// Peer 2 is asked, the copy of 3 comes first over 2 hops; what stands between it and the copy of 2 over so many.
+fn late(between: Vec<Vec<u8>>, round: u16) -> Vec<Vec<u8>> {
+    let id = Id::of(b"a");
+    let mut events = vec![
+        up(2),
+        up(3),
+        ihave(2, &[(id, 1)]),
+        send_graft(id),
+        gossip(3, Scope::Swarm(2), b"a"),
+    ];
+    events.extend(between);
+    events.push(gossip(2, Scope::Swarm(round), b"a"));
+    events
+}
+
+fn late_over_more_hops() -> Vec<Vec<u8>> {
+    late(Vec::new(), 3)
+}
+
+fn late_from_lazy() -> Vec<Vec<u8>> {
+    late(vec![prune(2)], 2)
+}
+
+fn late_after_lazy() -> Vec<Vec<u8>> {
+    late(vec![prune(3)], 2)
+}
+
+/// Both were asked: neither is kept for the other.
+fn late_after_asked() -> Vec<Vec<u8>> {
+    let id = Id::of(b"a");
+    vec![
+        up(2),
+        up(3),
+        ihave(2, &[(id, 1)]),
+        ihave(3, &[(id, 1)]),
+        send_graft(id),
+        send_graft(id),
+        gossip(3, Scope::Swarm(2), b"a"),
+        gossip(2, Scope::Swarm(2), b"a"),
+    ]
+}
+
+/// Times may fall: an id is forgotten while its graft is not, and the order comes anew.
+fn first_again() -> Vec<Vec<u8>> {
+    let id = Id::of(b"a");
+    vec![
+        up(2),
+        up(3),
+        ihave(2, &[(id, 1)]),
+        Said::SendGraft(id).event(100_000),
+        gossip(3, Scope::Swarm(2), b"a"),
+        evict(95_000),
+        gossip(2, Scope::Swarm(1), b"a"),
+    ]
+}
+
 fn neighbors_each_time() -> Vec<Vec<u8>> {
     vec![
         up(2),
@@ -250,11 +363,12 @@ fn timers_full() -> Vec<Vec<u8>> {
     ]
 }
 
-/// One body again and again: each time an announcement for each of eight lazy peers.
+/// One body again and again: each time an announcement for each of five lazy peers, by which the list is full in the fewest events.
 fn queue_full() -> Vec<Vec<u8>> {
-    let peers = 2..PEERS as Peer + 2;
+    const LAZY: usize = 5;
+    let peers = 2..LAZY as Peer + 2;
     let mut events: Vec<_> = peers.clone().map(up).chain(peers.map(prune)).collect();
-    events.extend((0..=LIST / PEERS).map(|_| broadcast(0, b"a")));
+    events.extend((0..=LIST / LAZY).map(|_| broadcast(0, b"a")));
     events.extend([Said::DispatchLazyPush.event(0), broadcast(0, b"a")]);
     events
 }
