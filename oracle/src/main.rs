@@ -12,7 +12,7 @@ use std::{
 };
 
 use oracle::{
-    check, compare, gossip,
+    check, compare, gossip, limits,
     machine::Machine,
     passing,
     stored::{self, Stored},
@@ -22,7 +22,7 @@ use oracle::{
 };
 
 const USAGE: &str = "\
-oracle station|trace [--machine NAME] [--room BYTES] [--counters REQUEST,JOIN,ALONE,SHORT]   input on stdin
+oracle station|trace [--machine NAME] [--room BYTES] [--counters REQUEST,JOIN,ALONE,SHORT] [--grafted skipped]   input on stdin
 oracle generate [--machine NAME] [--seed N] [--histories N] [--events N] [--mix NAME]        stored form
 oracle words [--seed N] [--histories N] [--events N] [--mix NAME]           states as words
 oracle make                          names (MIX SEED EVENTS) on stdin, stored form
@@ -175,6 +175,17 @@ impl Options {
         Machine::named(name).ok_or_else(|| misuse("--machine takes hyparview, plumtree or topic"))
     }
 
+    /// Whether plumtree.rs runs as it is, and leaves out the peers grafted for an order.
+    fn skips(&self) -> Result<bool, Failure> {
+        match self.0.get("grafted").map(String::as_str) {
+            None => Ok(false),
+            Some("skipped") if self.machine()? != Machine::Hyparview => Ok(true),
+            Some(_) => Err(misuse(
+                "--grafted takes skipped, for the machines plumtree and topic",
+            )),
+        }
+    }
+
     /// The mix asked for; one that is none is an error, and not a run of no history.
     fn mix(&self) -> Result<Option<&str>, Failure> {
         let Some(name) = self.0.get("mix") else {
@@ -208,8 +219,9 @@ fn bytes(mode: &str, bytes: &[u8]) -> Answer {
 }
 
 fn run(arguments: &[String], form: Form) -> Answer {
-    let options = Options::read(arguments, &["machine", "room", "counters"])?;
+    let options = Options::read(arguments, &["machine", "room", "counters", "grafted"])?;
     let machine = options.machine()?;
+    limits::skip_grafted(options.skips()?);
     let mut start = Start::default();
     start.room = options.get("room", start.room)?;
     if let Some(counters) = options.0.get("counters") {
@@ -228,13 +240,8 @@ fn checked(arguments: &[String]) -> Answer {
     let options = Options::read(arguments, &names)?;
     let (seed, events) = (options.get("seed", 1)?, options.count("events", 1_000_000)?);
     let length = options.count("length", 200)?;
-    let skips = match options.0.get("grafted").map(String::as_str) {
-        None => false,
-        Some("skipped") => true,
-        Some(_) => return Err(misuse("--grafted takes skipped")),
-    };
+    let skips = options.skips()?;
     let text = match options.machine()? {
-        Machine::Hyparview if skips => return Err(misuse("--grafted is none of hyparview's")),
         Machine::Hyparview => check::run(seed, events, length),
         machine => gossip::check::run(machine, seed, events, length, skips),
     };
