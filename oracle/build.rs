@@ -30,37 +30,131 @@ struct Substitution {
     lines: usize,
 }
 
-/// The collections get limits (codes 6, 7, 8), `handle` gets 02's line (S-5), an eviction is
-/// told (S-2), which a run may leave out, and the Rust's own check of its
-/// state runs under a feature of this crate; nothing else of the Rust is changed. A mutant comes
-/// first, so that it counts the lines of the Rust itself.
-fn substitutions() -> Vec<Substitution> {
-    let mutant = env::var(MUTANT_VARIABLE).map(|mutant| read_mutant(&mutant));
-    let change = |from: &str, to: &str, place, lines| Substitution {
-        file: "hyparview.rs".into(),
+/// The Rust's own check of its state runs under this feature of the crate.
+const CHECKED: &str = "#[cfg(feature = \"invariants\")]";
+
+/// A change of every line that holds `from`, so many of them.
+fn all(file: &str, from: &str, to: &str, lines: usize) -> Substitution {
+    Substitution {
+        file: file.into(),
         from: from.into(),
         to: to.into(),
-        place,
+        place: None,
         lines,
-    };
-    let checked = "#[cfg(feature = \"invariants\")]";
-    let own = [
-        change(
+    }
+}
+
+/// A change of the `place`th of the lines that hold `from`.
+fn one(file: &str, from: &str, to: &str, place: usize, lines: usize) -> Substitution {
+    Substitution {
+        place: Some(place),
+        ..all(file, from, to, lines)
+    }
+}
+
+/// Nothing else of the Rust is changed. A mutant comes first, so that it counts the lines of the
+/// Rust itself.
+fn substitutions() -> Vec<Substitution> {
+    let mutant = env::var(MUTANT_VARIABLE).map(|mutant| read_mutant(&mutant));
+    let own = [membership(), broadcast(), joined()].into_iter().flatten();
+    mutant.into_iter().chain(own).collect()
+}
+
+/// The collections get limits (codes 6, 7, 8), `handle` gets 02's line (S-5), and an eviction is
+/// told (S-2), which a run may leave out.
+fn membership() -> Vec<Substitution> {
+    let file = "hyparview.rs";
+    vec![
+        all(
+            file,
             "use std::collections::{hash_map,",
             "use crate::collections::{hash_map,",
-            None,
             1,
         ),
-        change(
+        all(
+            file,
             "self.forget_peer(&evicted);",
             "self.forget_peer(&evicted); io.emit(Event::Evicted(evicted));",
-            None,
             1,
         ),
-        change("#[cfg(test)]", &format!("{FORGET} {checked}"), Some(2), 3),
-        change("#[cfg(test)]", checked, Some(2), 2),
-    ];
-    mutant.into_iter().chain(own).collect()
+        one(file, "#[cfg(test)]", &format!("{FORGET} {CHECKED}"), 2, 3),
+        one(file, "#[cfg(test)]", CHECKED, 2, 2),
+    ]
+}
+
+/// 02, S-7: the lists get limits (code 15), and an order goes to the peers grafted for it too,
+/// unless a run asks for the file as it is.
+fn broadcast() -> Vec<Substitution> {
+    let file = "plumtree.rs";
+    vec![
+        all(
+            file,
+            "HashMap, HashSet, VecDeque},",
+            "HashMap, VecDeque},",
+            1,
+        ),
+        all(
+            file,
+            "util::{idbytes_impls, TimeBoundCache},",
+            "util::idbytes_impls,",
+            1,
+        ),
+        all(
+            file,
+            "use bytes::Bytes;",
+            "use bytes::Bytes; use crate::limits::{self, HashSet, TimeBoundCache};",
+            1,
+        ),
+        all(
+            file,
+            "let announcers = self.missing_messages.entry(ihave.id)",
+            "let announced = self.missing_messages.values().map(VecDeque::len).sum(); \
+             let announcers = self.missing_messages.entry(ihave.id)",
+            1,
+        ),
+        all(
+            file,
+            "announcers.push_back(",
+            "limits::require(announced, limits::LIST); announcers.push_back(",
+            1,
+        ),
+        all(
+            file,
+            "self.lazy_push_queue.entry(*peer).or_default().push(",
+            "limits::require(self.lazy_push_queue.values().map(Vec::len).sum(), limits::LIST); \
+             self.lazy_push_queue.entry(*peer).or_default().push(",
+            1,
+        ),
+        all(
+            file,
+            "self.eager_push_peers.insert(peer);",
+            "limits::require_peer(&self.eager_push_peers, &self.lazy_push_peers, &peer); \
+             self.eager_push_peers.insert(peer);",
+            1,
+        ),
+        all(
+            file,
+            "&sender, &grafted, io",
+            "&sender, limits::skipped(&grafted), io",
+            1,
+        ),
+        all(file, "#[cfg(test)]", CHECKED, 2),
+    ]
+}
+
+/// topic.rs names the event of an eviction (02, S-2).
+fn joined() -> Vec<Substitution> {
+    let file = "topic.rs";
+    vec![
+        all(
+            file,
+            "NeighborDown(PI),",
+            "NeighborDown(PI), Evicted(PI),",
+            1,
+        ),
+        one(file, "#[cfg(test)]", CHECKED, 3, 3),
+        one(file, "#[cfg(test)]", CHECKED, 2, 2),
+    ]
 }
 
 fn read_mutant(text: &str) -> Substitution {
@@ -97,14 +191,17 @@ fn substitute(text: &str, change: &Substitution) -> String {
     lines.map(|line| line + "\n").collect()
 }
 
-/// The end of proto.rs, from the line before `struct PeerInfo` on.
-fn peer_info(proto: &str) -> String {
+/// The first line of proto.rs that is taken: its two constants and `PeerInfo` stand from there on.
+const TAKEN_FROM: &str = "pub const DEFAULT_MAX_MESSAGE_SIZE: usize";
+
+/// The end of proto.rs.
+fn end_of(proto: &str) -> String {
     let lines: Vec<_> = proto.lines().collect();
     let found: Vec<_> = (0..lines.len())
-        .filter(|i| lines[*i].starts_with("struct PeerInfo<"))
+        .filter(|i| lines[*i].starts_with(TAKEN_FROM))
         .collect();
-    assert_eq!(found.len(), 1, "proto.rs: lines that start PeerInfo");
-    lines[found[0] - 1..].join("\n") + "\n"
+    assert_eq!(found.len(), 1, "proto.rs: lines with {TAKEN_FROM:?}");
+    lines[found[0]..].join("\n") + "\n"
 }
 
 /// FNV-1a, to tell in a report which text was built.
@@ -181,23 +278,37 @@ fn main() {
         report: String::new(),
     };
     let changes = substitutions();
-    build.copy("util.rs", &changes, "");
     build.copy("peer.rs", &changes, "");
-    build.copy("hyparview.rs", &changes, &access(&here));
+    build.copy("topic.rs", &changes, "");
+    for (name, own) in CHILDREN {
+        build.copy(name, &changes, &child(&here, own));
+        build.say(format!(
+            "{name}: one line added at the end, the module {own}"
+        ));
+    }
     let proto = build.read("src/proto.rs");
-    let modules = "pub mod hyparview;\nmod peer;\nmod util;\n";
-    build.write("proto.rs", &(modules.to_owned() + &peer_info(&proto)));
-    build.say("hyparview.rs: one line added at the end, the module access.rs".into());
-    build.say("proto.rs: only PeerInfo, from the line before it to the end".into());
+    build.write("proto.rs", &(MODULES.to_owned() + &end_of(&proto)));
+    build.say(format!("proto.rs: only from {TAKEN_FROM:?} to the end"));
     for line in build.report.lines() {
         println!("cargo:warning={line}");
     }
     build.write("substitutions.txt", &build.report);
 }
 
+/// The Rust's files, each with the module of ours that is put at its end.
+const CHILDREN: [(&str, &str); 3] = [
+    ("util.rs", "util_access.rs"),
+    ("hyparview.rs", "access.rs"),
+    ("plumtree.rs", "plumtree_access.rs"),
+];
+
+/// The modules of proto.rs that are built.
+const MODULES: &str =
+    "pub mod hyparview;\nmod peer;\npub mod plumtree;\npub mod topic;\npub mod util;\n";
+
 /// A child module sees the private fields, which a comparison of whole states needs.
-fn access(here: &Path) -> String {
-    let path = here.join("src/access.rs");
+fn child(here: &Path, own: &str) -> String {
+    let path = here.join("src").join(own);
     println!("cargo:rerun-if-changed={}", path.display());
     format!("\n#[path = {path:?}]\npub mod access;\n")
 }

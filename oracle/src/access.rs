@@ -5,7 +5,7 @@ use std::iter;
 
 use crate::{
     collections::Limit,
-    record::{kind, message, tells_evicted, NodeParts, Peer, Record, View, Writer},
+    record::{kind, message, NodeParts, Peer, Record, View, Writer},
 };
 
 #[cfg(feature = "tools")]
@@ -54,18 +54,17 @@ pub enum Refill {
 impl<RG: Rng + Clone> State<Peer, RG> {
     /// The Rust's `State::new` with 01's limits on its maps and sets.
     pub fn limited(me: Peer, me_data: Option<&[u8]>, config: Config, rng: RG) -> Self {
-        let mut state = Self::new(me, me_data.map(PeerData::new), config, rng);
+        Self::new(me, me_data.map(PeerData::new), config, rng).with_limits()
+    }
+
+    pub fn with_limits(mut self) -> Self {
         let limit = |most, code| Limit { most, code };
-        state
-            .pending_neighbor_requests
+        self.pending_neighbor_requests
             .set_limit(limit(MOST_REQUESTS, refusal::REQUESTS));
-        state
-            .refused
+        self.refused
             .set_limit(limit(MOST_REFUSED, refusal::REFUSED));
-        state
-            .peer_data
-            .set_limit(limit(MOST_ENTRIES, refusal::DATA));
-        state
+        self.peer_data.set_limit(limit(MOST_ENTRIES, refusal::DATA));
+        self
     }
 
     pub fn set_counters(&mut self, counters: Counters) {
@@ -247,10 +246,11 @@ fn received(view: &View, fields: &Record<()>) -> Message<Peer> {
     }
 }
 
-impl IO<Peer> for Writer<'_> {
-    fn send(&mut self, peer: Peer, sent: Message<Peer>) {
+impl Writer<'_> {
+    /// A message of the membership half.
+    pub fn put_message(&mut self, peer: Peer, sent: &Message<Peer>) {
         let nameless = |data| iter::once((0, bytes_of(data)));
-        match &sent {
+        match sent {
             Message::Join(data) => self.put(Record::message(message::JOIN, peer, nameless(data))),
             Message::ForwardJoin(join) => self.put(Record {
                 ttl: join.ttl.0,
@@ -281,17 +281,8 @@ impl IO<Peer> for Writer<'_> {
         }
     }
 
-    fn emit(&mut self, event: Event<Peer>) {
-        let (kind, peer) = match event {
-            Event::NeighborUp(peer) => (kind::NEIGHBOR_UP, peer),
-            Event::NeighborDown(peer) => (kind::NEIGHBOR_DOWN, peer),
-            Event::Evicted(_) if !tells_evicted() => return,
-            Event::Evicted(peer) => (kind::EVICTED, peer),
-        };
-        self.put(Record::<iter::Empty<_>>::of(kind, peer));
-    }
-
-    fn schedule(&mut self, delay: Duration, timer: Timer<Peer>) {
+    /// A timer of the membership half.
+    pub fn put_timer(&mut self, delay: Duration, timer: Timer<Peer>) {
         let (kind, peer, number) = match timer {
             Timer::DoShuffle => (kind::DO_SHUFFLE, 0, 0),
             Timer::DoMaintenance => (kind::DO_MAINTENANCE, 0, 0),
@@ -303,11 +294,6 @@ impl IO<Peer> for Writer<'_> {
             number,
             ..Record::<iter::Empty<_>>::of(kind, peer)
         });
-    }
-
-    fn peer_data(&mut self, peer: Peer, data: PeerData) {
-        let nodes = iter::once((0, Some(data.as_bytes())));
-        self.put(Record::<()>::of(kind::PEER_DATA, peer).with_nodes(nodes));
     }
 }
 

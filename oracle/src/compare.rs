@@ -2,26 +2,19 @@
 
 use std::{
     io::Write,
+    ops::Range,
     process::{self, Command, Stdio},
 };
 
 use crate::{
-    generate::{
-        self,
-        mix::{Mix, Twist, MIXES},
-    },
     input::Input,
+    machine::Machine,
     record, shrink,
     text::{self, Form, Start},
 };
 
-/// Whether a mix needs nothing but an input: room and counters are not part of the format.
-fn fits_format(mix: &Mix) -> bool {
-    !matches!(mix.twist, Twist::SmallRoom | Twist::HighCounters)
-}
-
-fn oracle(input: &[u8]) -> String {
-    text::run(input, Start::default(), Form::Trace)
+fn oracle(machine: Machine, input: &[u8]) -> String {
+    machine.run(input, Start::default(), Form::Trace)
 }
 
 /// Without the lines of kind 12, where the oracle writes none.
@@ -75,13 +68,13 @@ fn first_difference(left: &str, right: &str) -> String {
 }
 
 /// The smallest history found that shows the difference, with both answers.
-fn report(name: &str, input: &[u8], command: &[String]) -> String {
-    let differs = |bytes: &[u8]| oracle(bytes) != other(command, bytes);
+fn report(machine: Machine, name: &str, input: &[u8], command: &[String]) -> String {
+    let differs = |bytes: &[u8]| oracle(machine, bytes) != other(command, bytes);
     let small = match Input::read(input) {
         Some(whole) => shrink::smallest(&whole, |less| differs(&less.write())).write(),
         None => input.to_vec(),
     };
-    let (left, right) = (oracle(&small), other(command, &small));
+    let (left, right) = (oracle(machine, &small), other(command, &small));
     format!(
         "history {name} differs; smallest input:\n{}\n{}\
          oracle prints:\n{left}other prints:\n{right}",
@@ -90,26 +83,36 @@ fn report(name: &str, input: &[u8], command: &[String]) -> String {
     )
 }
 
-/// Compares `histories` histories of each mix from `seed` on; `Err` holds the first difference.
-/// Lines of kind 12 are left out (02, S-2), unless `evicted` asks for them too.
-pub fn run(
-    seed: u64,
-    histories: u64,
-    length: usize,
-    only: Option<&str>,
-    evicted: bool,
-    command: &[String],
-) -> Result<String, String> {
-    record::tell_evicted(evicted);
+/// What is compared: so many histories of each mix from a seed on, or of one mix.
+pub struct Compared<'a> {
+    pub machine: Machine,
+    pub seeds: Range<u64>,
+    pub length: usize,
+    pub only: Option<&'a str>,
+    /// Whether lines of kind 12 are compared too (02, S-2).
+    pub evicted: bool,
+}
+
+/// `Err` holds the first difference. Room and counters are not part of the input, so that histories that have their own are left out.
+pub fn run(what: &Compared, command: &[String]) -> Result<String, String> {
+    record::tell_evicted(what.evicted);
+    let machine = what.machine;
     let (mut events, mut compared) = (0, 0);
-    let chosen = |mix: &&Mix| fits_format(mix) && only.is_none_or(|name| name == mix.name);
-    for seed in seed..seed + histories {
-        for mix in MIXES.iter().filter(chosen) {
-            let input = generate::history(mix, seed, length).input;
-            let expected = oracle(&input);
-            if expected != other(command, &input) {
-                let name = format!("{} {seed} {length}", mix.name);
-                return Err(report(&name, &input, command));
+    let mixes = machine.mixes();
+    let chosen: Vec<_> = mixes
+        .iter()
+        .filter(|mix| what.only.is_none_or(|name| name == **mix))
+        .collect();
+    for seed in what.seeds.clone() {
+        for mix in &chosen {
+            let history = machine.history(mix, seed, what.length).expect("a mix");
+            if history.start != Start::default() {
+                continue;
+            }
+            let expected = oracle(machine, &history.input);
+            if expected != other(command, &history.input) {
+                let name = machine.name(mix, seed, what.length);
+                return Err(report(machine, &name, &history.input, command));
             }
             events += expected
                 .lines()

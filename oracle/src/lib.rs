@@ -1,6 +1,7 @@
-//! The Rust's HyParView as oracle: its `State::handle` behind 01's records, refusals and texts.
+//! The Rust's HyParView and Plumtree as oracle: their `State::handle` behind the records, refusals and
+//! texts of 01 and 02.
 
-// The Rust's own text, which build.rs copied: modules hyparview, peer, util, and PeerInfo.
+// The Rust's own text, which build.rs copied: modules hyparview, peer, plumtree, topic, util, and PeerInfo.
 #[allow(
     dead_code,
     unused_imports,
@@ -15,7 +16,14 @@ mod proto {
         peer::{PeerData, PeerIdentity},
         util::TimerMap,
     };
-    use crate::topic;
+
+    /// Stand-in for state.rs: the one name of it that topic.rs asks for.
+    mod state {
+        pub enum MessageKind {
+            Data,
+            Control,
+        }
+    }
 
     include!(concat!(env!("OUT_DIR"), "/proto.rs"));
 }
@@ -27,9 +35,13 @@ mod collections;
 pub mod compare;
 #[cfg(feature = "tools")]
 pub mod generate;
+pub mod gossip;
 pub mod input;
 #[cfg(feature = "tools")]
 pub mod ledger;
+pub mod limits;
+pub mod machine;
+mod output;
 #[cfg(feature = "tools")]
 pub mod passing;
 pub mod record;
@@ -48,11 +60,10 @@ pub mod text;
 pub mod timers;
 #[cfg(feature = "tools")]
 pub mod timing;
-pub mod topic;
 #[cfg(feature = "tools")]
 pub mod words;
 
-pub use proto::{hyparview, PeerData};
+pub use proto::{hyparview, plumtree, topic, PeerData};
 
 /// What the build read and changed.
 pub const SUBSTITUTIONS: &str = include_str!(concat!(env!("OUT_DIR"), "/substitutions.txt"));

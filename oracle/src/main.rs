@@ -12,31 +12,32 @@ use std::{
 };
 
 use oracle::{
-    check, compare,
-    generate::mix::{self, MIXES},
+    check, compare, gossip, limits,
+    machine::Machine,
     passing,
     stored::{self, Stored},
     stories, tallies,
-    text::{self, Form, Start},
+    text::{Form, Start},
     timers, timing, words, SUBSTITUTIONS,
 };
 
 const USAGE: &str = "\
-oracle station|trace [--room BYTES] [--counters REQUEST,JOIN,ALONE,SHORT]   input on stdin
-oracle generate [--seed N] [--histories N] [--events N] [--mix NAME]        stored form
+oracle station|trace [--machine NAME] [--room BYTES] [--counters REQUEST,JOIN,ALONE,SHORT] [--grafted skipped]   input on stdin
+oracle generate [--machine NAME] [--seed N] [--histories N] [--events N] [--mix NAME]        stored form
 oracle words [--seed N] [--histories N] [--events N] [--mix NAME]           states as words
 oracle make                          names (MIX SEED EVENTS) on stdin, stored form
 oracle replay FILE...                stored histories that do not hold now; - is stdin
 oracle passing FILE...               how often picks and shuffles pass over draws, by their size
-oracle check [--seed N] [--events N] [--length N]
+oracle check [--machine NAME] [--seed N] [--events N] [--length N] [--grafted skipped]
 oracle time [--seed N] [--histories N] [--events N] [--rounds N]
-oracle compare [--seed N] [--histories N] [--events N] [--mix NAME] [--evicted true] -- COMMAND
+oracle compare [--machine NAME] [--seed N] [--histories N] [--events N] [--mix NAME] [--evicted true] -- COMMAND
 oracle timer-calls [--seed N] [--calls N]    calls of a timer queue, six 64-bit words each
 oracle timers                        the Rust's answers to such calls on stdin
 oracle stories [lengths]             where all histories of at most four of 02's sixteen events end
 oracle tally-cases                   outputs with the codes of their events, as test_tally reads them
 oracle tally-counts                  the messages sent up to each of them, as it must print them
 oracle substitutions
+A machine is hyparview, which is taken where none is named, plumtree or topic.
 ";
 
 /// Why the program ends with status 1.
@@ -78,8 +79,8 @@ fn answer(arguments: &[String]) -> Answer {
         "substitutions" => Ok(SUBSTITUTIONS.into()),
         "station" => run(rest, Form::Station),
         "trace" => run(rest, Form::Trace),
-        "generate" => generate(rest, Stored::write),
-        "words" => generate(rest, |stored| {
+        "generate" => generate(rest, &HISTORIES, Stored::write),
+        "words" => generate(rest, &HISTORIES[1..], |stored| {
             format!(
                 "history {}\n{}",
                 stored.name,
@@ -89,19 +90,7 @@ fn answer(arguments: &[String]) -> Answer {
         "make" => make(),
         "replay" => stored::replay(&texts(mode, rest)?).map_err(Failure::Report),
         "passing" => passing::run(&texts(mode, rest)?).map_err(Failure::Report),
-        "check" => {
-            let options = Options::read(rest, &["seed", "events", "length"])?;
-            let text = check::run(
-                options.get("seed", 1)?,
-                options.count("events", 1_000_000)?,
-                options.count("length", 200)?,
-            );
-            if text.ends_with("\n0 claims fail\n") {
-                Ok(text)
-            } else {
-                Err(Failure::Report(text))
-            }
-        }
+        "check" => checked(rest),
         "time" => {
             let options = Options::read(rest, &["seed", "histories", "events", "rounds"])?;
             let seeds = options.seeds(5)?;
@@ -179,16 +168,34 @@ impl Options {
             .ok_or_else(|| misuse("--seed and --histories together are past 2^64"))
     }
 
+    fn machine(&self) -> Result<Machine, Failure> {
+        let Some(name) = self.0.get("machine") else {
+            return Ok(Machine::default());
+        };
+        Machine::named(name).ok_or_else(|| misuse("--machine takes hyparview, plumtree or topic"))
+    }
+
+    /// Whether plumtree.rs runs as it is, and leaves out the peers grafted for an order.
+    fn skips(&self) -> Result<bool, Failure> {
+        match self.0.get("grafted").map(String::as_str) {
+            None => Ok(false),
+            Some("skipped") if self.machine()? != Machine::Hyparview => Ok(true),
+            Some(_) => Err(misuse(
+                "--grafted takes skipped, for the machines plumtree and topic",
+            )),
+        }
+    }
+
     /// The mix asked for; one that is none is an error, and not a run of no history.
     fn mix(&self) -> Result<Option<&str>, Failure> {
         let Some(name) = self.0.get("mix") else {
             return Ok(None);
         };
-        if mix::named(name).is_none() {
-            let names: Vec<_> = MIXES.iter().map(|mix| mix.name).collect();
+        let mixes = self.machine()?.mixes();
+        if !mixes.contains(&name.as_str()) {
             return Err(misuse(format!(
                 "no mix is {name}; there are {}",
-                names.join(" ")
+                mixes.join(" ")
             )));
         }
         Ok(Some(name))
@@ -212,14 +219,37 @@ fn bytes(mode: &str, bytes: &[u8]) -> Answer {
 }
 
 fn run(arguments: &[String], form: Form) -> Answer {
-    let options = Options::read(arguments, &["room", "counters"])?;
+    let options = Options::read(arguments, &["machine", "room", "counters", "grafted"])?;
+    let machine = options.machine()?;
+    limits::skip_grafted(options.skips()?);
     let mut start = Start::default();
     start.room = options.get("room", start.room)?;
     if let Some(counters) = options.0.get("counters") {
         let four = "--counters takes four numbers, separated by commas";
         start.counters = Some(stored::read_counters(counters).ok_or_else(|| misuse(four))?);
     }
-    Ok(text::run(&read_input(), start, form))
+    if machine != Machine::Hyparview && start.counters.is_some() {
+        return Err(misuse("--counters are those of hyparview alone"));
+    }
+    Ok(machine.run(&read_input(), start, form))
+}
+
+/// Demand 3 on the membership half, or S-7's claims on the broadcast half, alone or joined.
+fn checked(arguments: &[String]) -> Answer {
+    let names = ["machine", "seed", "events", "length", "grafted"];
+    let options = Options::read(arguments, &names)?;
+    let (seed, events) = (options.get("seed", 1)?, options.count("events", 1_000_000)?);
+    let length = options.count("length", 200)?;
+    let skips = options.skips()?;
+    let text = match options.machine()? {
+        Machine::Hyparview => check::run(seed, events, length),
+        machine => gossip::check::run(machine, seed, events, length, skips),
+    };
+    if text.ends_with("\n0 claims fail\n") {
+        Ok(text)
+    } else {
+        Err(Failure::Report(text))
+    }
 }
 
 fn all_stories(arguments: &[String]) -> Answer {
@@ -231,24 +261,22 @@ fn all_stories(arguments: &[String]) -> Answer {
     }
 }
 
-/// The options of what makes histories.
-const HISTORIES: [&str; 4] = ["seed", "histories", "events", "mix"];
+/// The options of what makes histories; words are those of hyparview alone.
+const HISTORIES: [&str; 5] = ["machine", "seed", "histories", "events", "mix"];
 
 /// The options of `compare`.
-const COMPARED: [&str; 5] = ["seed", "histories", "events", "mix", "evicted"];
+const COMPARED: [&str; 6] = ["machine", "seed", "histories", "events", "mix", "evicted"];
 
 /// The histories that the options name, each written by `write`.
-fn generate(arguments: &[String], write: impl Fn(&Stored) -> String) -> Answer {
-    let options = Options::read(arguments, &HISTORIES)?;
+fn generate(arguments: &[String], names: &[&str], write: impl Fn(&Stored) -> String) -> Answer {
+    let options = Options::read(arguments, names)?;
     let events: usize = options.get("events", 20)?;
-    let only = options.mix()?;
+    let (machine, only) = (options.machine()?, options.mix()?);
     let mut text = String::new();
     for seed in options.seeds(1)? {
-        for mix in MIXES
-            .iter()
-            .filter(|mix| only.is_none_or(|name| name == mix.name))
-        {
-            text += &write(&made(&format!("{} {seed} {events}", mix.name))?);
+        let mixes = machine.mixes().into_iter();
+        for mix in mixes.filter(|mix| only.is_none_or(|name| name == *mix)) {
+            text += &write(&made(&machine.name(mix, seed, events))?);
         }
     }
     Ok(text)
@@ -288,14 +316,12 @@ fn compare(arguments: &[String]) -> Answer {
         return Err(misuse("compare: no command after --"));
     };
     let options = Options::read(&arguments[..split], &COMPARED)?;
-    let seeds = options.seeds(10)?;
-    compare::run(
-        seeds.start,
-        seeds.end - seeds.start,
-        options.get("events", 200)?,
-        options.mix()?,
-        options.get("evicted", false)?,
-        command,
-    )
-    .map_err(Failure::Report)
+    let what = compare::Compared {
+        machine: options.machine()?,
+        seeds: options.seeds(10)?,
+        length: options.get("events", 200)?,
+        only: options.mix()?,
+        evicted: options.get("evicted", false)?,
+    };
+    compare::run(&what, command).map_err(Failure::Report)
 }

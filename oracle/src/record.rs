@@ -167,9 +167,25 @@ impl<'a> Writer<'a> {
             count += 1;
             size += NODE + data.map_or(0, <[u8]>::len);
         }
+        let rest = self.put_header(&record, count, size);
+        put_nodes(rest, count, record.nodes);
+        if record.kind == kind::MESSAGE {
+            self.sent[usize::from(record.message)] += 1;
+        }
+    }
+
+    /// A record without nodes, and the bytes that stand after its header.
+    pub fn put_tail(&mut self, record: Record<()>, tail: &[u8]) {
+        let rest = self.put_header(&record, 0, HEADER + tail.len());
+        rest.copy_from_slice(tail);
+    }
+
+    /// The header of a record of so many nodes and bytes; what is left of them is to be filled.
+    fn put_header<N>(&mut self, record: &Record<N>, count: usize, size: usize) -> &mut [u8] {
         let Some(bytes) = self.out[self.written..].get_mut(..size) else {
             refusal::refuse(refusal::ROOM)
         };
+        self.written += size;
         let (head, rest) = bytes.split_at_mut(HEADER);
         head[..4].copy_from_slice(&[record.kind, record.message, record.flags, count as u8]);
         head[4..12].copy_from_slice(&record.peer.to_le_bytes());
@@ -177,11 +193,7 @@ impl<'a> Writer<'a> {
         head[20..22].copy_from_slice(&record.ttl.to_le_bytes());
         head[22..24].copy_from_slice(&(size as u16).to_le_bytes());
         head[24..32].copy_from_slice(&record.number.to_le_bytes());
-        put_nodes(rest, count, record.nodes);
-        self.written += size;
-        if record.kind == kind::MESSAGE {
-            self.sent[usize::from(record.message)] += 1;
-        }
+        rest
     }
 }
 
@@ -299,7 +311,7 @@ impl Record<()> {
     }
 
     /// Whether every field that is not named for the kind is 0, and every named one in range.
-    fn fit(&self) -> bool {
+    pub fn fit(&self) -> bool {
         let named_peer = !matches!(
             self.kind,
             kind::DO_SHUFFLE | kind::DO_MAINTENANCE | kind::UPDATE_PEER_DATA | kind::QUIT

@@ -119,7 +119,7 @@ impl Station {
     }
 }
 
-fn config(settings: &Settings) -> Option<Config> {
+pub fn config(settings: &Settings) -> Option<Config> {
     let fits = |(value, (least, most)): (&u32, (u32, u32))| (least..=most).contains(value);
     if !settings.iter().zip(RANGES).all(fits) {
         return None;

@@ -1,7 +1,7 @@
 //! Stored histories: a text with a few head lines, the input in hex, the trace, and an empty line.
 //!
 //! ```text
-//! history MIX SEED EVENTS
+//! history MIX SEED EVENTS             the mix with its machine in front but for the membership half: plumtree:even
 //! room BYTES                          only where it is not 8192
 //! counters REQUEST,JOIN,ALONE,SHORT   only where they are not a new station's
 //! input HEX
@@ -10,10 +10,9 @@
 
 use std::panic::{self, AssertUnwindSafe};
 
-#[cfg(feature = "tools")]
-use crate::generate::{self, mix};
 use crate::{
     hyparview::access::Counters,
+    machine::Machine,
     text::{self, Form, Start},
 };
 
@@ -34,11 +33,11 @@ impl Stored {
         let [mix, seed, events] = words[..] else {
             return None;
         };
-        let mix = mix::named(mix)?;
-        let history = generate::history(mix, seed.parse().ok()?, events.parse().ok()?);
+        let (machine, mix) = Machine::of(mix)?;
+        let history = machine.history(mix, seed.parse().ok()?, events.parse().ok()?)?;
         Some(Self {
             name: name.into(),
-            trace: text::run(&history.input, history.start, Form::Trace),
+            trace: machine.run(&history.input, history.start, Form::Trace),
             start: history.start,
             input: history.input,
         })
@@ -78,12 +77,14 @@ impl Stored {
             }
         }
         stored.trace = lines.map(|line| line.to_owned() + "\n").collect();
+        Machine::of(&stored.name)?;
         Some(stored)
     }
 
     /// Whether a run now prints the stored trace; a panic of the Rust counts as another answer.
     pub fn holds(&self) -> bool {
-        let run = || text::run(&self.input, self.start, Form::Trace);
+        let machine = Machine::of(&self.name).map_or(Machine::Hyparview, |(machine, _)| machine);
+        let run = || machine.run(&self.input, self.start, Form::Trace);
         panic::catch_unwind(AssertUnwindSafe(run)).is_ok_and(|trace| trace == self.trace)
     }
 }

@@ -55,7 +55,7 @@ pub fn run(input: &[u8], start: Start, form: Form) -> String {
     text
 }
 
-fn station_lines(index: usize, answer: &Answer) -> String {
+pub fn station_lines(index: usize, answer: &Answer) -> String {
     let mut text = String::new();
     for record in record::cut(&answer.out) {
         let fields = record::header_of(record);
@@ -76,15 +76,20 @@ fn end_line(answer: &Answer) -> String {
 }
 
 pub fn trace_lines(answer: &Answer, parts: &Parts) -> String {
+    answer_lines(answer) + &state_line(parts)
+}
+
+/// The records, the code and the draws.
+pub fn answer_lines(answer: &Answer) -> String {
     let mut text = String::new();
     for record in record::cut(&answer.out) {
         text += &hex(record);
         text += "\n";
     }
-    text + &end_line(answer) + &state_line(parts)
+    text + &end_line(answer)
 }
 
-fn state_line(parts: &Parts) -> String {
+pub fn state_line(parts: &Parts) -> String {
     let refill = match parts.refill {
         Refill::Automatic => "A".into(),
         Refill::Requests(left) => format!("R{left}"),
@@ -123,7 +128,7 @@ fn state_line(parts: &Parts) -> String {
     format!("state{}\n", fields.concat())
 }
 
-fn list<T: ToString>(items: impl IntoIterator<Item = T>) -> String {
+pub fn list<T: ToString>(items: impl IntoIterator<Item = T>) -> String {
     let items: Vec<_> = items.into_iter().map(|item| item.to_string()).collect();
     format!("[{}]", items.join(","))
 }

@@ -3,10 +3,9 @@
 //! A call is six 64-bit words: what, time or limit, delay, kind, peer, number. The Rust's queue has no
 //! limits; 02's answers 3, 12 and 11 are given here, before it is asked.
 
-use std::{
-    fmt::Write,
-    time::{Duration, Instant},
-};
+use std::fmt::Write;
+
+use n0_future::time::Instant;
 
 use crate::{proto::TimerMap, record::Record};
 
@@ -49,29 +48,22 @@ fn event(item: &Item) -> [u64; 4] {
     [word(0), word(8), word(16), word(24)]
 }
 
-/// The Rust's queue, its times as milliseconds after one instant, and how many it holds.
+/// The Rust's queue, and how many it holds.
 struct Queue {
-    zero: Instant,
     map: TimerMap<Item>,
     held: usize,
+}
+
+fn millis(at: Instant) -> u64 {
+    u64::try_from(at.as_millis()).expect("a due time of 64 bits")
 }
 
 impl Queue {
     fn new() -> Self {
         Self {
-            zero: Instant::now(),
             map: TimerMap::default(),
             held: 0,
         }
-    }
-
-    fn instant(&self, millis: u64) -> Instant {
-        self.zero + Duration::from_millis(millis)
-    }
-
-    fn millis(&self, at: Instant) -> u64 {
-        let since = at.duration_since(self.zero).as_millis();
-        u64::try_from(since).expect("a due time of 64 bits")
     }
 
     fn insert(&mut self, time: u64, delay: u64, item: Item) -> u64 {
@@ -85,18 +77,18 @@ impl Queue {
             return FULL;
         }
         self.held += 1;
-        self.map.insert(self.instant(due), item);
+        self.map.insert(Instant::from_millis(due), item);
         0
     }
 
     fn pop(&mut self, limit: u64) -> Option<(u64, Item)> {
-        let (at, item) = self.map.pop_before(self.instant(limit))?;
+        let (at, item) = self.map.pop_before(Instant::from_millis(limit))?;
         self.held -= 1;
-        Some((self.millis(at), item))
+        Some((millis(at), item))
     }
 
     fn first(&self) -> Option<u64> {
-        self.map.first().map(|at| self.millis(*at))
+        self.map.first().copied().map(millis)
     }
 }
 

@@ -12,12 +12,12 @@ use rand::Draws;
 use crate::{
     check::label,
     generate::{self, mix::MIXES},
-    hyparview::{access, InEvent, Message, State, Timer},
+    hyparview::{access, InEvent, State},
     input::Input,
     record::{Peer, View},
     station::Station,
     text::Start,
-    topic::{Event, IO},
+    topic::{Event, Message, Timer, IO},
     PeerData,
 };
 
@@ -25,16 +25,17 @@ use crate::{
 pub struct Silent;
 
 impl IO<Peer> for Silent {
-    fn send(&mut self, peer: Peer, message: Message<Peer>) {
-        black_box((peer, message));
+    fn send(&mut self, peer: Peer, message: impl Into<Message<Peer>>) -> Option<Message<Peer>> {
+        black_box((peer, message.into()));
+        None
     }
 
     fn emit(&mut self, event: Event<Peer>) {
         black_box(event);
     }
 
-    fn schedule(&mut self, delay: n0_future::time::Duration, timer: Timer<Peer>) {
-        black_box((delay, timer));
+    fn schedule(&mut self, delay: n0_future::time::Duration, timer: impl Into<Timer<Peer>>) {
+        black_box((delay, timer.into()));
     }
 
     fn peer_data(&mut self, peer: Peer, data: PeerData) {

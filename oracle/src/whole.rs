@@ -4,7 +4,10 @@
 use rand::Draws;
 
 use super::*;
-use crate::{record::{Peer, MOST_DATA}, station::RANGES};
+use crate::{
+    record::{Peer, MOST_DATA},
+    station::RANGES,
+};
 
 /// 01's code 2: the state breaks a station rule.
 pub const RULE: u8 = 2;

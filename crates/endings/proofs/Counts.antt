@@ -18,7 +18,7 @@ use Rattle.spec_stories.proofs.Order.{place-at}
 use Rattle.hyparview.specs.Queries.{neighbors-in, spare-addresses-in}
 use Rattle.hyparview.specs.declared.State.{State}
 use Rattle.endings.specs.declared.Ends.{Ends}
-use Rattle.endings.specs.Events.{quit, events, event-at, event-records, after}
+use Rattle.endings.specs.Events.{quit, events, event-at, event-records, after-history}
 use Rattle.endings.specs.Ends.{Sizes, how-many, digest-end, next-number, number-from, next-digest, digest-from, count-ends}
 use Rattle.endings.specs.Steps.{first-state, played, sizes-in, one-more, counted-on, CountRoom}
 use Rattle.endings.proofs.Different.{sixteen, all-differ}
@@ -31,7 +31,7 @@ ends-are a b n p v t d = λ i. record { neither = n i; passive = p i; active = v
 pub counted : (s : State) (k : ℕ) (c : Ends) (a p n₀ n₁ n₂ n₃ : ℕ) → a ≡ length (neighbors-in (s .words)) → p ≡ spare-addresses-in (s .words)
     → n₀ ≡ choose (eqb a 0 && eqb p 0) 1 0 → n₁ ≡ choose (eqb a 0 && eqb p 1) 1 0 → n₂ ≡ choose (eqb a 1 && eqb p 0) 1 0 → n₃ ≡ choose (eqb a 1 && eqb p 1) 1 0
     → record { neither = c .neither + n₀; passive = c .passive + n₁; active = c .active + n₂; both = c .both + n₃; digest = (c .digest * 83521 + k) % digest-end } ≡ one-more (sizes-in s []) k c
-unfolding one-more sizes-in after next-digest
+unfolding one-more sizes-in after-history next-digest
 counted s k c a p n₀ n₁ n₂ n₃ ea ep e₀ e₁ e₂ e₃ =
     let z = sizes-in s [] in
     let count : (x y n : ℕ) → n ≡ choose (eqb a x && eqb p y) 1 0 → n ≡ choose (eqb (z .0) x && eqb (z .1) y) 1 0 = λ x y n e. e ∙ (λ i. choose (eqb (ea i) x && eqb (ep i) y) 1 0) in
@@ -48,7 +48,7 @@ counted-append s k c (h ∷ xs) ys = counted-append s k (one-more (sizes-in s h)
 -- a history that begins with e goes on from the state after it
 counted-behind : (s : State) (k : ℕ) (e : Event) (c : Ends) (hs : List History)
     → counted-on s k c (map (λ h. e ∷ h) hs) ≡ counted-on (played e s) (next-number k (place-of e event-records)) c hs
-unfolding counted-on sizes-in after played number-from
+unfolding counted-on sizes-in after-history played number-from
 counted-behind s k e c [] = refl
 counted-behind s k e c (h ∷ hs) = counted-behind s k e (one-more (sizes-in (played e s) h) (number-from (next-number k (place-of e event-records)) h) c) hs
 

@@ -32,7 +32,7 @@ use Rattle.hyparview.specs.declared.State.{State}
 use Rattle.spec_demand.specs.Program.{made-state, value-program}
 use Rattle.spec_demand.proofs.Program.{states-same}
 use Rattle.endings.specs.declared.Ends.{Ends}
-use Rattle.endings.specs.Events.{of-peer, events, event-records, tiny, first, draws, output, after}
+use Rattle.endings.specs.Events.{of-peer, events, event-records, tiny, first, draws, output, after-history}
 use Rattle.endings.specs.Ends.{Sizes, how-many, digest-from, count-ends, sizes-after, all-histories, all-ends, total-ends}
 use Rattle.endings.specs.Steps.{first-state, sizes-in}
 use Rattle.endings.proofs.Different.{sixteen}
@@ -64,8 +64,8 @@ unfolding All
 calls [] b = []
 calls (e ∷ h) b = record { event = e; are-bytes = b .0; draws = draws; output = output } ∷ calls h (b .1)
 
-by-calls : {G S : Type 0} (m : Machine G S) (h : History) (b : All Bytes h) (s : S) → after m h s ≡ state-after m (calls h b) s
-unfolding after state-after calls All
+by-calls : {G S : Type 0} (m : Machine G S) (h : History) (b : All Bytes h) (s : S) → after-history m h s ≡ state-after m (calls h b) s
+unfolding after-history state-after calls All
 by-calls m [] b s = refl
 by-calls m (e ∷ h) b s = by-calls m h (b .1) (m .state e draws output s)
 
@@ -76,7 +76,7 @@ all-bytes = (refl, (refl, (refl, (refl, (refl, (refl, (refl, (refl, (refl, (refl
 
 -- the definition's state after a history
 abbrev ended : History → Station
-ended h = after definition h first
+ended h = after-history definition h first
 
 module _ (h : History) (b : All Bytes h) where
   -- demand 3 of a history
@@ -87,7 +87,7 @@ module _ (h : History) (b : All Bytes h) where
   rules : station-ok (ended h) ≡ true
   rules = subst (λ (s : Station). station-ok s ≡ true) (sym (by-calls definition h b first)) (holds .rules-hold)
 
-  packed-after : after value-program h first-state ≡ record { words = pack (ended h) }
+  packed-after : after-history value-program h first-state ≡ record { words = pack (ended h) }
   unfolding first first-state lent choose
   packed-after =
       by-calls value-program h b first-state

@@ -10,7 +10,7 @@ use Rattle.spec_stories.specs.Histories.{History, up-to, place-of}
 use Rattle.spec_hyparview.specs.Station.{Station}
 use Rattle.spec_history.specs.Calls.{definition}
 use Rattle.endings.specs.declared.Ends.{Ends}
-use Rattle.endings.specs.Events.{first, event-records, after}
+use Rattle.endings.specs.Events.{first, event-records, after-history}
 
 -- how many events are of one peer, how many there are, and the most of a history
 abbrev pub events-of-peer : ℕ
@@ -58,7 +58,7 @@ count-ends z hs = record { neither = how-many z 0 0 hs; passive = how-many z 0 1
 -- the definition's sizes, from the station g on
 unfoldable pub sizes-after : Station → Sizes
 sizes-after g h =
-    let s = after definition h g in
+    let s = after-history definition h g in
     (length (s .active), length (s .passive))
 
 -- all histories of at most four of the sixteen events

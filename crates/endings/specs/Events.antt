@@ -71,6 +71,6 @@ unfoldable pub output : List ℕ
 output = replicate 8192 0
 
 -- the state after a history, of the definition or of the program: each event is one `handle`
-unfoldable pub after : {G S : Type 0} → Machine G S → History → S → S
-after m [] s = s
-after m (e ∷ h) s = after m h (m .state e draws output s)
+unfoldable pub after-history : {G S : Type 0} → Machine G S → History → S → S
+after-history m [] s = s
+after-history m (e ∷ h) s = after-history m h (m .state e draws output s)

@@ -11,7 +11,7 @@ use Rattle.hyparview.specs.Queries.{neighbors-in, spare-addresses-in}
 use Rattle.hyparview.specs.declared.State.{State}
 use Rattle.spec_demand.specs.Program.{value-program}
 use Rattle.endings.specs.declared.Ends.{Ends}
-use Rattle.endings.specs.Events.{tiny, draws, output, after}
+use Rattle.endings.specs.Events.{tiny, draws, output, after-history}
 use Rattle.endings.specs.Ends.{Sizes, digest-end, next-digest, number-from}
 
 -- what the program's `new` hands back
@@ -25,7 +25,7 @@ played e s = value-program .state e draws output s
 -- the sizes of both views after a history of the program, from the state s on
 unfoldable pub sizes-in : State → Sizes
 sizes-in s h =
-    let e = after value-program h s in
+    let e = after-history value-program h s in
     (length (neighbors-in (e .words)), spare-addresses-in (e .words))
 
 -- one more history, which has the number k and ended with these sizes

@@ -35,9 +35,6 @@ Does = work.Does station-form
 
 -- ---- as a contract says it, of the parameters themselves
 
-abbrev pub GivenDraws : Work → Slice → Slice → Type 0
-GivenDraws = work.GivenDraws station-form
-
 abbrev pub GivenRoom : Work → Slice → Slice → Type 0
 GivenRoom = work.GivenRoom station-form
 
@@ -52,9 +49,6 @@ run-met = work.run-met station-form
 
 abbrev pub Alters : (Run → Run) → Work → Work → Lent → Type 0
 Alters = work.Alters station-form
-
-abbrev pub Takes : (Run → Run) → Work → Work → Lent → Lent → Type 0
-Takes = work.Takes station-form
 
 abbrev pub Says : (Run → Run) → Work → Work → Lent → Lent → Type 0
 Says = work.Says station-form

@@ -90,10 +90,7 @@ Slice = RefT (List ℕ)
 abbrev pub Lent : Type 0
 Lent = Both Slice Slice
 
--- what a step may count on that is lent words and draws; words and output; words, draws and output
-abbrev pub GivenDraws : {S : Type 0} → Form S → Work → Slice → Slice → Type 0
-GivenDraws F w st ds = Ready F (work-of w (st .now)) (ds .now)
-
+-- what a step may count on that is lent words and output; words, draws and output
 abbrev pub GivenRoom : {S : Type 0} → Form S → Work → Slice → Slice → Type 0
 GivenRoom F w st out = Room F (work-of w (st .now)) (out .now)
 
@@ -108,12 +105,9 @@ Meets F P w st ds out = P (run-of F (work-of w (st .now)) (ds .now) (out .now))
 abbrev pub run-met : {S : Type 0} → Form S → Work → Lent → Lent → Lent → Run S
 run-met F w st ds out = run-of F (work-of w (st .entry .now)) (ds .entry .now) (out .entry .now)
 
--- it makes r of w, and of what it was lent what the definition's step makes: lent the words; and draws; and output; and both
+-- it makes r of w, and of what it was lent what the definition's step makes: lent the words; and output; and draws
 abbrev pub Alters : {S : Type 0} → Form S → (Run S → Run S) → Work → Work → Lent → Type 0
 Alters F step w r st = Changes F step (work-of w (st .entry .now)) (work-of r (st .exit .now))
-
-abbrev pub Takes : {S : Type 0} → Form S → (Run S → Run S) → Work → Work → Lent → Lent → Type 0
-Takes F step w r st ds = DrawsFrom F step (work-of w (st .entry .now)) (work-of r (st .exit .now)) (ds .entry .now)
 
 abbrev pub Says : {S : Type 0} → Form S → (Run S → Run S) → Work → Work → Lent → Lent → Type 0
 Says F step w r st out = Tells F step (work-of w (st .entry .now)) (work-of r (st .exit .now)) (out .entry .now) (out .exit .now)

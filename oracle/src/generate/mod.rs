@@ -1,10 +1,10 @@
 //! Histories from a seed: a station runs beside the generator and lends it its state.
 
-mod damage;
+pub(crate) mod damage;
 mod events;
 pub mod mix;
-mod setup;
-mod source;
+pub(crate) mod setup;
+pub(crate) mod source;
 
 use rand::Draws;
 
@@ -37,14 +37,12 @@ pub fn history(mix: &Mix, seed: u64, length: usize) -> History {
         generator.fill();
     }
     while generator.events.len() < length && generator.has_space() {
-        let act = generator.source.weighted(mix.acts);
-        let event = generator.event(act);
-        generator.handle(event);
+        generator.step(generator.start.room);
     }
     generator.finish()
 }
 
-struct Generator<'a> {
+pub(crate) struct Generator<'a> {
     mix: &'a Mix,
     source: Source,
     me: Peer,
@@ -63,7 +61,7 @@ struct Generator<'a> {
 }
 
 impl<'a> Generator<'a> {
-    fn new(mix: &'a Mix, seed: u64) -> Self {
+    pub(crate) fn new(mix: &'a Mix, seed: u64) -> Self {
         let mut source = Source::new(seed);
         let peers = setup::peers(&mut source, mix.numbers, mix.peers);
         let me = source.one_of(&peers);
@@ -90,14 +88,42 @@ impl<'a> Generator<'a> {
         }
     }
 
-    fn has_space(&self) -> bool {
+    pub(crate) fn me(&self) -> Peer {
+        self.me
+    }
+
+    pub(crate) fn peers(&self) -> &[Peer] {
+        &self.peers
+    }
+
+    pub(crate) fn settings(&self) -> Settings {
+        self.settings
+    }
+
+    pub(crate) fn draws(&self) -> &[u32] {
+        &self.draws
+    }
+
+    pub(crate) fn has_space(&self) -> bool {
         let drawn = self.station.place() + MOST_DRAWN;
         let short = self.mix.twist == Twist::ShortDraws;
         self.event_bytes < MOST_EVENT_BYTES && (short || drawn <= self.draws.len())
     }
 
+    /// Makes the next event and handles it with so much room.
+    pub(crate) fn step(&mut self, room: usize) -> Vec<u8> {
+        let act = self.source.weighted(self.mix.acts);
+        let event = self.event(act);
+        self.handle_within(event.clone(), room);
+        event
+    }
+
     fn handle(&mut self, event: Vec<u8>) {
-        let answer = self.station.handle(&event, self.start.room);
+        self.handle_within(event, self.start.room);
+    }
+
+    fn handle_within(&mut self, event: Vec<u8>, room: usize) {
+        let answer = self.station.handle(&event, room);
         for output in record::cut(&answer.out) {
             let fields = record::header_of(output);
             if matches!(

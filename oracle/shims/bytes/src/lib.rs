@@ -2,8 +2,14 @@
 
 use std::{ops::Deref, sync::Arc};
 
-#[derive(Clone, Debug, Default, PartialEq, Eq)]
+#[derive(Clone, Debug, Default, PartialEq, Eq, PartialOrd, Ord)]
 pub struct Bytes(Arc<[u8]>);
+
+impl Bytes {
+    pub fn new() -> Self {
+        Self::default()
+    }
+}
 
 impl Deref for Bytes {
     type Target = [u8];

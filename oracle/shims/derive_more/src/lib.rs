@@ -1,34 +1,67 @@
-//! Stand-in for `derive_more`: `Deref` to the one field, `Debug` as the type's name.
-//!
-//! `From` and `Sub` add nothing, as no code here uses them.
+//! Stand-in for `derive_more`: `Deref` to the one field, `Debug` as the type's name, `From` of the one
+//! field of a struct or of each variant, `Add` and `Sub` of the one field; and postcard's `MaxSize`,
+//! the sum over the fields.
 
-use proc_macro::{Delimiter, TokenStream, TokenTree};
+mod item;
+
+use proc_macro::TokenStream;
+
+use item::{Body, Item};
 
 #[proc_macro_derive(From)]
-pub fn from(_item: TokenStream) -> TokenStream {
-    TokenStream::new()
+pub fn from(item: TokenStream) -> TokenStream {
+    let item = Item::read(item);
+    let sources = match &item.body {
+        Body::Fields(fields) => vec![(one(fields), "Self".to_owned())],
+        Body::Variants(variants) => variants
+            .iter()
+            .filter(|(_, fields)| fields.len() == 1)
+            .map(|(name, fields)| (one(fields), format!("Self::{name}")))
+            .collect(),
+    };
+    let implement = |(source, make): (String, String)| {
+        let body = format!("fn from(value: {source}) -> Self {{ {make}(value) }}");
+        item.implement(&format!("::std::convert::From<{source}>"), &body)
+    };
+    sources.into_iter().map(implement).collect()
+}
+
+#[proc_macro_derive(Add)]
+pub fn add(item: TokenStream) -> TokenStream {
+    operator(item, "Add", "add", "+")
 }
 
 #[proc_macro_derive(Sub)]
-pub fn sub(_item: TokenStream) -> TokenStream {
-    TokenStream::new()
+pub fn sub(item: TokenStream) -> TokenStream {
+    operator(item, "Sub", "sub", "-")
+}
+
+/// An operator of a struct of one unnamed field.
+fn operator(item: TokenStream, of: &str, name: &str, sign: &str) -> TokenStream {
+    let body = format!(
+        "type Output = Self; \
+         fn {name}(self, other: Self) -> Self {{ Self(self.0 {sign} other.0) }}"
+    );
+    Item::read(item).implement(&format!("::std::ops::{of}"), &body)
 }
 
 #[proc_macro_derive(Deref)]
 pub fn deref(item: TokenStream) -> TokenStream {
-    let item = Struct::read(item);
-    let (field, target) = item.fields.split_once(':').expect("one named field");
-    let target = target.trim_end_matches([',', ' ']);
+    let item = Item::read(item);
+    let Body::Fields(fields) = &item.body else {
+        panic!("Deref of a struct")
+    };
+    let (name, target) = &fields[0];
     let body = format!(
         "type Target = {target}; fn deref(&self) -> &Self::Target {{ &self.{} }}",
-        field.trim()
+        name.as_deref().unwrap_or("0")
     );
     item.implement("::std::ops::Deref", &body)
 }
 
 #[proc_macro_derive(Debug, attributes(debug))]
 pub fn debug(item: TokenStream) -> TokenStream {
-    let item = Struct::read(item);
+    let item = Item::read(item);
     let body = format!(
         "fn fmt(&self, f: &mut ::std::fmt::Formatter) -> ::std::fmt::Result {{ \
             f.write_str({:?}) }}",
@@ -37,68 +70,23 @@ pub fn debug(item: TokenStream) -> TokenStream {
     item.implement("::std::fmt::Debug", &body)
 }
 
-struct Struct {
-    name: String,
-    parameters: Vec<String>,
-    fields: String,
+#[proc_macro_derive(MaxSize)]
+pub fn max_size(item: TokenStream) -> TokenStream {
+    let of = "::postcard::experimental::max_size::MaxSize";
+    let item = Item::read(item);
+    let Body::Fields(fields) = &item.body else {
+        panic!("MaxSize of a struct")
+    };
+    let sizes = fields
+        .iter()
+        .map(|(_, target)| format!("<{target} as {of}>::POSTCARD_MAX_SIZE"));
+    let sizes: Vec<_> = sizes.collect();
+    let body = format!("const POSTCARD_MAX_SIZE: usize = {};", sizes.join(" + "));
+    item.implement(of, &body)
 }
 
-impl Struct {
-    fn read(item: TokenStream) -> Self {
-        let mut tokens = item.into_iter().map(Token::from);
-        while tokens.next() != Some(Token::Word("struct".into())) {}
-        let Some(Token::Word(name)) = tokens.next() else {
-            panic!("a struct has a name")
-        };
-        let mut parameters = Vec::new();
-        let mut fields = String::new();
-        let mut expects_parameter = true;
-        for token in tokens {
-            match token {
-                Token::Word(word) if expects_parameter => {
-                    parameters.push(word);
-                    expects_parameter = false;
-                }
-                Token::Comma => expects_parameter = true,
-                Token::Fields(text) => fields = text,
-                Token::Word(_) | Token::Other => {}
-            }
-        }
-        Self {
-            name,
-            parameters,
-            fields,
-        }
-    }
-
-    fn implement(&self, of: &str, body: &str) -> TokenStream {
-        let parameters = self.parameters.join(", ");
-        format!(
-            "impl<{parameters}> {of} for {}<{parameters}> {{ {body} }}",
-            self.name
-        )
-        .parse()
-        .expect("an impl")
-    }
-}
-
-#[derive(PartialEq)]
-enum Token {
-    Word(String),
-    Comma,
-    Fields(String),
-    Other,
-}
-
-impl From<TokenTree> for Token {
-    fn from(tree: TokenTree) -> Self {
-        match tree {
-            TokenTree::Ident(word) => Token::Word(word.to_string()),
-            TokenTree::Punct(mark) if mark.as_char() == ',' => Token::Comma,
-            TokenTree::Group(group) if group.delimiter() == Delimiter::Brace => {
-                Token::Fields(group.stream().to_string())
-            }
-            _ => Token::Other,
-        }
-    }
+/// The type of the only field.
+fn one(fields: &[item::Field]) -> String {
+    assert_eq!(fields.len(), 1, "one field");
+    fields[0].1.clone()
 }

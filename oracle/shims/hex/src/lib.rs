@@ -1,4 +1,4 @@
-//! Stand-in for `hex`: only the error type that util.rs names; no identifier is parsed here.
+//! Stand-in for `hex`: what util.rs names. Ids are shown in logs alone, and none is parsed here.
 
 #[derive(Clone, Debug, PartialEq)]
 pub struct FromHexError;
@@ -10,3 +10,11 @@ impl std::fmt::Display for FromHexError {
 }
 
 impl std::error::Error for FromHexError {}
+
+pub fn encode(bytes: &[u8]) -> String {
+    bytes.iter().map(|byte| format!("{byte:02x}")).collect()
+}
+
+pub fn decode_to_slice(_text: &str, _bytes: &mut [u8]) -> Result<(), FromHexError> {
+    Err(FromHexError)
+}

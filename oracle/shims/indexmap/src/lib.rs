@@ -1,6 +1,10 @@
-//! Stand-in for `indexmap`: a set that keeps the order that indexmap documents.
+//! Stand-in for `indexmap`: a set and a map that keep the order that indexmap documents.
 //!
 //! A vector searched from the front serves, as no set of the station passes 32 items.
+
+mod map;
+
+pub use map::IndexMap;
 
 #[derive(Clone, Debug)]
 pub struct IndexSet<T> {

@@ -1,9 +1,34 @@
 //! Stand-in for `n0_future`: time in whole milliseconds.
 
 pub mod time {
-    use std::ops::Mul;
+    use std::ops::{Add, Mul};
 
-    pub use std::time::Instant;
+    /// A time on a clock of 64 bits. The sum of one and a delay is kept whole, so that none passes the top.
+    #[derive(Clone, Copy, Debug, PartialEq, Eq, PartialOrd, Ord)]
+    pub struct Instant {
+        millis: u128,
+    }
+
+    impl Instant {
+        pub const fn from_millis(millis: u64) -> Self {
+            Self {
+                millis: millis as u128,
+            }
+        }
+
+        pub const fn as_millis(&self) -> u128 {
+            self.millis
+        }
+    }
+
+    impl Add<Duration> for Instant {
+        type Output = Self;
+        fn add(self, delay: Duration) -> Self {
+            Self {
+                millis: self.millis + u128::from(delay.millis),
+            }
+        }
+    }
 
     #[derive(Clone, Copy, Debug, PartialEq, Eq, PartialOrd, Ord)]
     pub struct Duration {

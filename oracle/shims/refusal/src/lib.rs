@@ -20,6 +20,8 @@ pub const DATA: u8 = 8;
 pub const ROOM: u8 = 9;
 /// 01's code 10: a counter must pass its largest value.
 pub const COUNTER: u8 = 10;
+/// 02's code 15 (S-7): a body over 256 bytes, or a full list.
+pub const FULL: u8 = 15;
 
 struct Refusal(u8);
 

@@ -4,3 +4,8 @@
 macro_rules! debug {
     ($($log:tt)*) => {};
 }
+
+#[macro_export]
+macro_rules! warn {
+    ($($log:tt)*) => {};
+}
