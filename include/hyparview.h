@@ -15,7 +15,7 @@
  * own may be called at the same time; the same station may not, nor may its words be read during a call, by an interrupt
  * for example: hyparview_handle changes them where they lie, and an event refused with 5 to 10 puts them back.
  *
- * STACK. A call needs at most HYPARVIEW_STACK bytes: tools/stack reads off the machine code how many of them each function
+ * STACK. A call needs at most HYPARVIEW_STACK bytes: tools/gate/stack reads off the machine code how many of them each function
  * takes on its deepest path, and there is no recursion. What the C library's three functions take is not counted, nor what
  * an interrupt takes that runs on the same stack. The code is made for the System V ABI of x86-64: it may hold values in the
  * red zone, the 128 bytes below the stack pointer. An interrupt must leave these alone: give it a stack of its own.
@@ -50,7 +50,7 @@ extern "C" {
 
 /* ---- Sizes */
 
-/* The words of a state, by tools/layout.py */
+/* The words of a state, by tools/make/layout.py */
 #define HYPARVIEW_WORDS 551 /* uint64_t state[HYPARVIEW_WORDS], 4,408 bytes */
 /* end */
 #define HYPARVIEW_OUTPUT 8192 /* bytes of output that suffice for every event, which is proved */
@@ -288,7 +288,7 @@ static inline uint32_t hyparview_allowance(const uint8_t *event, uint32_t active
  * requests, BOOTSTRAP the peers last asked to join through, RECENT the last neighbours, JOINS the joins to be sent once
  * more, PEER_DATA what is known of other peers. docs/FORMAT.md has the rules of each. */
 
-/* The places, by tools/layout.py */
+/* The places, by tools/make/layout.py */
 #define HYPARVIEW_WORD_ME 0
 #define HYPARVIEW_WORD_OWN_PRESENT 1
 #define HYPARVIEW_WORD_OWN_LEN 2

@@ -2,7 +2,7 @@
  * lengths that are none, numbers that agree in a half, NULL with length 0, outputs and draws that are too short, and that nothing else is written. It
  * stops with 1 at the first fault.
  *
- * usage: calls FILE    rows of four words by tools/record_vectors.py: whether own data is present, its bytes after an x, the
+ * usage: calls FILE    rows of four words by tools/make/record_vectors.py: whether own data is present, its bytes after an x, the
  *                      code of hyparview_new, and after an x the output of RequestJoin 7 at self 1 with a draw of 0 */
 #include "hyparview.h"
 

@@ -1,4 +1,4 @@
-/* Damaged states over the exported functions. tools/damaged.py makes what this reads from standard input, says which
+/* Damaged states over the exported functions. tools/gate/damaged.py makes what this reads from standard input, says which
  * answer is due to each case and describes the form; the program writes a character for each case, and a line for each
  * base. It stops with 1 where the input has no case, or is cut off.
  *

@@ -12,7 +12,7 @@ use std::process::exit;
 /// A section of the words, by its HYPARVIEW_WORD_ constants: the first place, how many there are, and the count.
 struct Section(usize, usize, usize);
 
-// The places, by tools/layout.py
+// The places, by tools/make/layout.py
 const ACTIVE: Section = Section(22, 8, 30);
 const PASSIVE: Section = Section(31, 32, 63);
 const ALIVE: Section = Section(64, 32, 96);

@@ -1,5 +1,5 @@
 /* Records, sound and damaged, over the exported reader: each from standard input, with two bytes for its length in front,
- * prints the line that tools/record_vectors.py says (crates/test_record/stdin, crates/test_record/stdout). The code is that
+ * prints the line that tools/make/record_vectors.py says (crates/test_record/stdin, crates/test_record/stdout). The code is that
  * of the record as the first event of a station. It stops with 1 where there is no record. */
 #include "hyparview.h"
 

@@ -1,5 +1,5 @@
 /* Between examples/c/main.c, which is built with refusing_handle in place of hyparview_handle, and the library: some calls
- * are lent too little, so that the library refuses them. tests/refused.in and tests/refused.out, by tools/record_vectors.py,
+ * are lent too little, so that the library refuses them. tests/refused.in and tests/refused.out, by tools/make/record_vectors.py,
  * say what the station does then. */
 #include "hyparview.h"
 

@@ -1,6 +1,6 @@
 /* The stored calls of the Rust's TimerMap over the exported queue: each call of crates/test_timer/stdin, of six 64-bit numbers
  * (what, time or limit, delay, kind, peer, number), prints the line that crates/test_timer/stdout has for it, which is the
- * Rust's answer (tools/timers). Before them every function is called with NULL at length 0. It stops with 1 where there is
+ * Rust's answer (tools/make/timers). Before them every function is called with NULL at length 0. It stops with 1 where there is
  * no call, or where an answer to NULL is another. */
 #include "timer_map.h"
 

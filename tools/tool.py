@@ -110,7 +110,7 @@ def run(command, **given):
 
 def papers():
     """The folder of the Rust, or the line that says why there is none."""
-    done = subprocess.run([ROOT / "tools" / "papers"], capture_output=True, text=True)
+    done = subprocess.run([ROOT / "tools/study/papers"], capture_output=True, text=True)
     if done.returncode != 0:
         fail(done.stderr.strip().removeprefix("papers: "))
     return done.stdout.strip()
@@ -119,7 +119,7 @@ def papers():
 def oracle(*words, **given):
     """What the oracle writes."""
     if not ORACLE.exists():
-        fail("the oracle is not built: run tools/differential first")
+        fail("the oracle is not built: run tools/study/differential first")
     return run([ORACLE, *map(str, words)], **given)
 
 

@@ -5,7 +5,7 @@
 use std::mem::{offset_of, size_of};
 
 pub const VERSION: u32 = 1;
-// The words of a state, by tools/layout.py
+// The words of a state, by tools/make/layout.py
 pub const WORDS: usize = 551;
 // end
 pub const OUTPUT: usize = 8192;

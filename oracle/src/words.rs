@@ -12,7 +12,7 @@ use crate::{
     text::Start,
 };
 
-// The words of a state, by tools/layout.py
+// The words of a state, by tools/make/layout.py
 pub const WORDS: usize = 551;
 // end
 
@@ -38,7 +38,7 @@ pub fn words(me: Peer, settings: &Settings, parts: &Parts) -> Option<Vec<u64>> {
         low,
         high,
     ]);
-    // The sections, by tools/layout.py
+    // The sections, by tools/make/layout.py
     words.extend(section(8, &set(&parts.active))?);
     words.extend(section(32, &set(&parts.passive))?);
     words.extend(section(32, &set(&parts.alive))?);

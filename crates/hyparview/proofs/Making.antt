@@ -32,7 +32,7 @@ use Rattle.hyparview_rules.specs.Pack.{present-word, kind-word, requests-word, 
 use Rattle.hyparview_rules.proofs.Back.{present-back, len-back, low-back, high-back}
 use Rattle.hyparview.specs.Made.{lent, pack-made, made}
 
--- the sections of a new station are zeroes, by tools/layout.py
+-- the sections of a new station are zeroes, by tools/make/layout.py
 none-packed : pad {A = ℕ} 0 (layout.words - layout.numbers-end) [] ≡
     section layout.active-places []
     ++ (section layout.passive-places []

@@ -119,7 +119,7 @@ small-part : (a k : ℕ) (xs : List ℕ) → Small xs → Small (part a k xs)
 unfolding part
 small-part a k xs f i = rw (slice-part a k xs) (slice-each (λ x. x < words-end) 0 a (a + k) xs (omega arith) f i)
 
--- the numbers and the sections, packed again, by tools/layout.py
+-- the numbers and the sections, packed again, by tools/make/layout.py
 pub shape-back : (xs : List ℕ) → Shape xs → pack (unpack xs) ≡ xs
 unfolding pack unpack station-of
 shape-back xs v =

@@ -73,7 +73,7 @@ no-more (x ∷ xs) ys r h =
 pub record Fits (g : Station) : Type 0 where
   pub own-data : short-data (g .own-data) ≡ true
   pub own-bytes : all-under bytes-end (bytes-of (g .own-data)) ≡ true
-  -- room in every section, and maps that rise, by tools/layout.py
+  -- room in every section, and maps that rise, by tools/make/layout.py
   pub active : length (g .active) ≤ layout.active-places
   pub passive : length (g .passive) ≤ layout.passive-places
   pub alive : length (g .alive) ≤ layout.alive-places
@@ -168,7 +168,7 @@ unfolding present-word
 present-fits none = omega arith
 present-fits (some b) = omega arith
 
--- the sections come out again, and are well formed, by tools/layout.py
+-- the sections come out again, and are well formed, by tools/make/layout.py
 module _ (g : Station) (v : Fits g) where
   active-out : items-at layout.active-places (layout.active-part (pack g)) ≡ g .active
   active-out = ap (λ (t : Sections). items-at layout.active-places (t .active)) (packed-sections g) ∙ section-holds layout.active-places (g .active) (v .active) .items
@@ -212,7 +212,7 @@ module _ (g : Station) (v : Fits g) where
 
 -- end
 
--- a station comes out of the words that it is packed into, by tools/layout.py
+-- a station comes out of the words that it is packed into, by tools/make/layout.py
 pub unpack-pack : (g : Station) → Fits g → unpack (pack g) ≡ g
 unfolding unpack station-of pack front own-at settings-at limit-at
 unpack-pack g v = λ i. record {
@@ -308,7 +308,7 @@ requests-fit automatic e = omega arith
 requests-fit (requests-left n) e = leb-true n 3 e
 requests-fit recovery e = omega arith
 
--- the peers, list by list, by tools/layout.py
+-- the peers, list by list, by tools/make/layout.py
 record Narrow (g : Station) : Type 0 where
   me : g .me < peers-end
   active : all-under peers-end (g .active) ≡ true
@@ -375,7 +375,7 @@ module _ (g : Station) (k : Kept g) (v : Fits g) where
   unfolding numbers-rule
   joins-under = and-right (numbers-under (g .next-request) (g .requests)) _ (k .numbers)
 
-  -- every word of it has 64 bits, by tools/layout.py
+  -- every word of it has 64 bits, by tools/make/layout.py
   pack-fine : Fine (pack g)
   unfolding pack
   pack-fine =
@@ -428,7 +428,7 @@ unfolding zero-station new-station short-data bytes-of all-under Rising keys all
 zero-fits = record {
   own-data = refl;
   own-bytes = refl;
-  -- no section has an item, by tools/layout.py
+  -- no section has an item, by tools/make/layout.py
   active = omega arith;
   passive = omega arith;
   alive = omega arith;

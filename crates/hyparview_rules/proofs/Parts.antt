@@ -1,4 +1,4 @@
--- The numbers and the sections of the words that a station is packed into, and words put together of their sections. Written by tools/layout.py.
+-- The numbers and the sections of the words that a station is packed into, and words put together of their sections. Written by tools/make/layout.py.
 -- Assumes nothing.
 use Prim.Native.Nat.{ℕ, _+_}
 use mathlib.Core.Path.{_≡_, refl, sym, ap, _∙_}

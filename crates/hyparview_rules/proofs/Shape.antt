@@ -34,7 +34,7 @@ pub record Shape (xs : List ℕ) : Type 0 where
   pub own-data : ValidData (own-at xs)
   pub sections : WellFormed (sections xs)
 
--- the test of the sections, both ways, by tools/layout.py
+-- the test of the sections, both ways, by tools/make/layout.py
 formed-true : (xs : List ℕ) → length xs ≡ layout.words → sections-ok xs ≡ true → WellFormed (sections xs)
 unfolding sections-ok
 formed-true xs l e0 =
@@ -112,7 +112,7 @@ packed-shape xs p w =
       sections = v .sections;
     }
 
--- for `search (of-ok, needs)`, by tools/layout.py
+-- for `search (of-ok, needs)`, by tools/make/layout.py
 module _ (xs : List ℕ) (e : packed-ok xs ≡ true) where
   pub ok-active : ValidSet layout.active-places (layout.active-part xs)
   ok-active = ok-shape xs e .sections .active

@@ -90,7 +90,7 @@ own-is xs b e =
 
 -- ---- all parts of a state
 
--- the tests of the sections one after another, as the code has them, by tools/layout.py
+-- the tests of the sections one after another, as the code has them, by tools/make/layout.py
 pub sections-are : (xs : List ℕ) (b0 b1 b2 b3 b4 b5 b6 b7 b8 : Bool)
     → b0 ≡ valid-set layout.active-places (layout.active-part xs)
     → b1 ≡ valid-set layout.passive-places (layout.passive-part xs)

@@ -89,7 +89,7 @@ peers-under xs v =
     let e : all-under words-end xs ≡ true = v .wide in
     let within : (a k : ℕ) → all-under words-end (part a k xs) ≡ true = λ a k. part-under words-end a k xs e in
     both-true _ _ (both-true _ _ (lt-ltb (layout.me xs) peers-end (under-at words-end xs (omega arith) e layout.me-at)) refl)
-    -- list by list, by tools/layout.py
+    -- list by list, by tools/make/layout.py
     (both-true _ _ (set-under words-end layout.active-places (layout.active-part xs) (within _ _))
     (both-true _ _ (set-under words-end layout.passive-places (layout.passive-part xs) (within _ _))
     (both-true _ _ (set-under words-end layout.bootstrap-places (layout.bootstrap-part xs) (within _ _))

@@ -19,7 +19,7 @@ formed xs =
     && (leb (layout.own-present xs) 1
     && (leb (layout.timers-scheduled xs) 1 && limit-formed (layout.refill-kind xs) (layout.refill-requests xs)))
 
--- every set and map is well formed, its count within its places, and zeroes past it, by tools/layout.py
+-- every set and map is well formed, its count within its places, and zeroes past it, by tools/make/layout.py
 unfoldable pub sections-ok : List ℕ → Bool
 sections-ok xs =
     valid-set layout.active-places (layout.active-part xs)

@@ -27,7 +27,7 @@ requests-word automatic = 0
 requests-word (requests-left n) = n
 requests-word recovery = 0
 
--- the numbers before the sections, by tools/layout.py
+-- the numbers before the sections, by tools/make/layout.py
 unfoldable pub front : Station → List ℕ
 front g =
     g .me
@@ -56,7 +56,7 @@ front g =
 
 -- end
 
--- the words that stand for g, by tools/layout.py
+-- the words that stand for g, by tools/make/layout.py
 unfoldable pub pack : Station → List ℕ
 pack g =
     front g

@@ -33,7 +33,7 @@ fn numbers_under(m: &[u64], cap: usize, end: u64) -> bool
 
 // ---- whether words are a state's at all
 
-// Whether every set and map is well formed, by tools/layout.py
+// Whether every set and map is well formed, by tools/make/layout.py
 fn sections_valid(st: &[u64]) -> bool
     requires { ⌜ length (now st) ≡ words ⌝ }
     ensures { λ r. ⌜ r ≡ sections-ok (now (st .entry)) ⌝ }

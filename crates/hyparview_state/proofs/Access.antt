@@ -52,7 +52,7 @@ module _ (xs : List ℕ) (p : PackedState xs) where
   unfolding in-range settings-at within
   of-capacity = leb-true _ _ (and-right (leb 1 (layout.active-view-capacity xs)) _ (and-left (leb 1 (layout.active-view-capacity xs) && leb (layout.active-view-capacity xs) 8) _ (opened p .settings)))
 
--- the sections, by tools/layout.py
+-- the sections, by tools/make/layout.py
 module _ (xs : List ℕ) (p : PackedState xs) where
   pub of-active : ValidSet layout.active-places (layout.active-part xs)
   of-active = opened p .sections .active

@@ -38,7 +38,7 @@ numbers-are xs l = slots-are layout.numbers-end 0 layout.numbers-end xs refl (om
 
 -- ---- a store
 
--- the sections as a list, by tools/layout.py
+-- the sections as a list, by tools/make/layout.py
 abbrev pub sizes : List ℕ
 sizes = layout.active-size ∷ layout.passive-size ∷ layout.alive-size ∷ layout.refused-size ∷ layout.requests-size ∷ layout.bootstrap-size ∷ layout.recent-size ∷ layout.joins-size ∷ layout.peer-data-size ∷ []
 

@@ -1,4 +1,4 @@
--- The words with one number or one section stored anew stand for the station with that field changed: one law for each. Written by tools/layout.py.
+-- The words with one number or one section stored anew stand for the station with that field changed: one law for each. Written by tools/make/layout.py.
 -- Assumes nothing.
 use Prim.Native.Nat.{ℕ, _≤_}
 use mathlib.Core.Path.{_≡_}

@@ -1,4 +1,4 @@
--- Where each number and each section of the state's words stands. Written by tools/layout.py.
+-- Where each number and each section of the state's words stands. Written by tools/make/layout.py.
 -- Assumes nothing.
 use Prim.Native.Nat.{ℕ}
 use mathlib.Core.List.{List}

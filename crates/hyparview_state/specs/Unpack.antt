@@ -25,7 +25,7 @@ use Rattle.hyparview_state.specs.Layout.{words, Sections, sections, Well
 unfoldable pub own-at : List ℕ → PeerData
 own-at n = record { present = eqb (layout.own-present n) 1; len = layout.own-len n; bytes = word-bytes (layout.own-low n) (layout.own-high n) }
 
--- the settings, by tools/layout.py
+-- the settings, by tools/make/layout.py
 unfoldable pub settings-at : List ℕ → Config
 settings-at n = record {
   «active_view_capacity» = layout.active-view-capacity n;
@@ -56,7 +56,7 @@ refill-in Recovery = recovery
 
 -- ---- the station
 
--- the station of the numbers n and the sections s, by tools/layout.py
+-- the station of the numbers n and the sections s, by tools/make/layout.py
 unfoldable pub station-of : List ℕ → Sections → Station
 station-of n s = record {
   me = layout.me n;

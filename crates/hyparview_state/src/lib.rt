@@ -20,7 +20,7 @@ ghost use Rattle.hyparview_state.specs.Work.{Alters};
 pub struct Layout {}
 
 impl Layout {
-    // The places, by tools/layout.py
+    // The places, by tools/make/layout.py
     pub const ME: usize = 0;
 
     // Own data: 1 present, 0 absent; the bytes stand in two words, `OWN_LOW` and `OWN_HIGH`.

@@ -5,7 +5,7 @@ use mathlib.Core.Path.{_≡_, refl, sym, ap, subst, _∙_}
 use mathlib.Core.Bool.{Bool, true, _&&_}
 use mathlib.Core.List.{List, [], _∷_, _++_}
 use lib.ListN.{drop}
-use lib.Dec.{eqb}
+use lib.Dec.{leb, eqb}
 use Rattle.base_lists.specs.Lists.{choose}
 use Rattle.base_lists.specs.Tests.{every}
 use Rattle.base_lists.proofs.Choice.{choose-yes, and-left, and-right}

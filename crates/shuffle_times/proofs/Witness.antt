@@ -410,7 +410,7 @@ module _ (me : ℕ) (d : Data) (c : Config) where
           calls = v ∷ w .calls;
           fire = both _ _ one (both _ _ two (both _ _ three (both _ _ four refl)));
           ordered = both _ _ (le-leb 0 t (omega arith)) (w .ordered t (omega arith) (omega arith));
-          starts = choose-yes (counts definition v s) t _ (both _ _ (ap (λ (n : ℕ). leb n 8) eight) (eq-eqb _ 0 (k .code)));
+          starts = choose-yes (counts definition v s) t _ (both _ _ (quit-counts t x low) (eq-eqb _ 0 (k .code)));
           same = ap (λ (l : List ℕ). l ++ shuffles-due definition (w .calls) (result-of (v .call) s .state)) (k .sets 1)
               ∙ ap (λ (l : List ℕ). p ∷ l) (ap (shuffles-due definition (w .calls)) (k .state) ∙ w .same);
         }

@@ -1,4 +1,4 @@
--- The station with one field changed, for each field but `me` and `config`, which stay as `new` was given them. Written by tools/layout.py.
+-- The station with one field changed, for each field but `me` and `config`, which stay as `new` was given them. Written by tools/make/layout.py.
 -- Assumes nothing.
 use Prim.Native.Nat.{ℕ}
 use mathlib.Core.Bool.{Bool}

@@ -14,6 +14,7 @@ use Rattle.hyparview_state.proofs.Any.{then-tell-any}
 use Rattle.hyparview_state.proofs.Bridge.{on-passed, on-done, emit-passed, still, taken, left, then, then-tell, seq}
 use Rattle.hyparview_state.proofs.Fields.{put-scheduled}
 use Rattle.hyparview_state.specs.Layout as layout
+use Rattle.hyparview_state.specs.Layout.{timers-scheduled-at}
 use Rattle.hyparview_state.specs.Unpack.{station-of, unpack}
 use Rattle.hyparview_state.specs.Work.{Held, work-of, run, run-of, Changes, Fine, Does, TellsAny}
 use Rattle.work.specs.declared.Work.{Work}

@@ -1,4 +1,4 @@
-// Reads cases of the conversion (tools/convert) and writes for each the converted record in hex, where the code is 0, and a line with the code.
+// Reads cases of the conversion (tools/make/convert) and writes for each the converted record in hex, where the code is 0, and a line with the code.
 use record_convert::Converted;
 ghost use Prim.Native.Nat.{_≤_};
 ghost use lib.ListN.{length};

@@ -30,7 +30,7 @@ use Rattle.trace_text.specs.Fields.{texts-at, field-at, InWords}
 use Rattle.trace_text.specs.Event.{own-field, refill-field, fields-text, state-line}
 use Rattle.trace_text.proofs.Writing.{Writing, writing-start, writing-next, writing-end}
 
--- the constants of the code, by tools/layout.py
+-- the constants of the code, by tools/make/layout.py
 unfoldable pub line : List ℕ
 line = ascii "state me=O active=[1] passive=[1] bootstrap=[1] recent=[1] requests=[2] next_request=0 joins=[2] next_join=0 data=[4] alive=[1] refused=[1] refill=L timers=0 interval=0 alone=0 short=0\n"
 
@@ -132,7 +132,7 @@ module _ (xs : List ℕ) (p : List ℕ) where
   unfolding line-text byte-text after digit choose ascii
   limit-line k = sym (append-assoc (ascii " refill=") (drop (length (ascii " refill=")) (refill-field (limit-at xs))) (line-text p k xs)) ∙ ap (λ (z : List ℕ). z ++ line-text p k xs) (limit-whole (limit-at xs))
 
--- from each field on, by tools/layout.py
+-- from each field on, by tools/make/layout.py
 module _ (xs : List ℕ) where
   abbrev end-text : List ℕ
   end-text = ascii "\n"

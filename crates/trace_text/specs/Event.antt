@@ -28,7 +28,7 @@ refill-field Automatic = ascii " refill=" ++ ascii "A"
 refill-field (Requests n) = ascii " refill=" ++ (ascii "R" ++ decimal n)
 refill-field Recovery = ascii " refill=" ++ ascii "V"
 
--- the fields of the words xs; of each list no more than it has places, by tools/layout.py
+-- the fields of the words xs; of each list no more than it has places, by tools/make/layout.py
 unfoldable pub fields-text : List ℕ → List ℕ
 fields-text xs =
     list-field (ascii " active=[") decimal (items-at layout.active-places (layout.active-part xs))

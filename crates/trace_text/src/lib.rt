@@ -64,7 +64,7 @@ fn put_record_lines(out: &mut [u8], t: Text, records: &[u8]) -> Text
 
 // The line as it is printed, but for what stands in place of some bytes: `O` the station's own data, `L` the limit on refills, a digit the next of the fields below. The digit is how many
 // columns the field has: 0 a number, 1 a list of peers, 2 peers with their numbers, 4 peers with their data.
-// The line and its fields, by tools/layout.py
+// The line and its fields, by tools/make/layout.py
 const STATE_LINE: [u8; 185] =
     *b"state me=O active=[1] passive=[1] bootstrap=[1] recent=[1] requests=[2] next_request=0 joins=[2] next_join=0 data=[4] alive=[1] refused=[1] refill=L timers=0 interval=0 alone=0 short=0\n";
 

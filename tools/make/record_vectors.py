@@ -1,7 +1,7 @@
 #!/usr/bin/env python3
 """Records, sound and damaged, and what a reader must answer to each, by tools/records.py, which is written from the documents alone.
 
-usage: tools/record_vectors.py make | check
+usage: tools/make/record_vectors.py make | check
 
 The files are crates/test_record/stdin (each record with two bytes for its length in front) and crates/test_record/stdout,
 which tests/records.c is held to as well; tests/own.txt, the records of a new station with own data, for tests/calls.c; and
@@ -10,6 +10,9 @@ tests/refused.out, the same where tests/refusing.c has calls refused.
 """
 import struct
 import sys
+from pathlib import Path
+
+sys.path.insert(0, str(Path(__file__).resolve().parents[1]))
 
 import tool
 from records import NEW, event_code, make, read

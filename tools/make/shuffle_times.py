@@ -1,15 +1,18 @@
 #!/usr/bin/env python3
 """When the k-th shuffle is due (document 02, S-11), calculated in exact integers from document 01's delay rule alone.
 
-usage: tools/shuffle_times.py make      writes crates/run_shuffles/stdin and stdout: questions, and both ends of each; and the
+usage: tools/make/shuffle_times.py make      writes crates/run_shuffles/stdin and stdout: questions, and both ends of each; and the
                                         README's picture of the first five, docs/shuffles.svg
-       tools/shuffle_times.py check     fails where they are not what make would write
-       tools/shuffle_times.py oracle    holds target/bin/run_shuffles against the Rust, run as a station (oracle/README.md)
+       tools/make/shuffle_times.py check     fails where they are not what make would write
+       tools/make/shuffle_times.py oracle    holds target/bin/run_shuffles against the Rust, run as a station (oracle/README.md)
 """
 import itertools
 import random
 import struct
 import sys
+from pathlib import Path
+
+sys.path.insert(0, str(Path(__file__).resolve().parents[1]))
 
 import records
 import timeline

@@ -1,10 +1,10 @@
 #!/usr/bin/env python3
 """Damaged states: which of them break a station rule of document 01, or that of 02's S-5?
 
-usage: tools/damaged.py make FOLDER                 writes FOLDER/stdin and FOLDER/stdout
-       tools/damaged.py check FOLDER                fails where they are not what make would write
-       tools/damaged.py show FOLDER LINE COLUMN     the case behind a character of stdout, both from 1
-       tools/damaged.py states                      chooses oracle/sample/words.txt anew (tools/differential builds the oracle)
+usage: tools/gate/damaged.py make FOLDER                 writes FOLDER/stdin and FOLDER/stdout
+       tools/gate/damaged.py check FOLDER                fails where they are not what make would write
+       tools/gate/damaged.py show FOLDER LINE COLUMN     the case behind a character of stdout, both from 1
+       tools/gate/damaged.py states                      chooses oracle/sample/words.txt anew (tools/study/differential builds the oracle)
 
 The station rules stand below as one function each, written from document 01, "Settings and station rules", and from 02,
 S-5, over the 551 words of a state. The states of oracle/sample/words.txt are the Rust's own. From each of them `make` builds states that
@@ -34,12 +34,14 @@ import sys
 from collections import Counter
 from pathlib import Path
 
+sys.path.insert(0, str(Path(__file__).resolve().parents[1]))
+
 import tool
 
 STORED = tool.ROOT / "oracle" / "sample" / "words.txt"
 
 # The layout: single words, then sections of columns with a count after them.
-# The places, by tools/layout.py
+# The places, by tools/make/layout.py
 WORDS = 551
 ME = 0
 OWN_PRESENT = 1

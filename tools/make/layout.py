@@ -1,13 +1,16 @@
 #!/usr/bin/env python3
 """What only enumerates the fields of a state, from the one table of them below.
 
-usage: tools/layout.py make | check
+usage: tools/make/layout.py make | check
 
 A number or a section that is added or moved is one line here. Some files are this tool's from the first line to the last; in others it writes what stands
 between a line that names it and the next line "end".
 """
 import re
 import sys
+from pathlib import Path
+
+sys.path.insert(0, str(Path(__file__).resolve().parents[1]))
 
 import tool
 
@@ -101,7 +104,7 @@ STORED = [
 # the fields of `Packed`, in their order
 PACKED = ["present", "timers", "limit", "alone", "short", "own-data", "settings", "short-interval", "sections"] + [f"{view}-fits" for view in CAPACITY]
 
-LAYOUT_HEAD = """-- Where each number and each section of the state's words stands. Written by tools/layout.py.
+LAYOUT_HEAD = """-- Where each number and each section of the state's words stands. Written by tools/make/layout.py.
 -- Assumes nothing.
 use Prim.Native.Nat.{ℕ}
 use mathlib.Core.List.{List}
@@ -110,7 +113,7 @@ use Rattle.base_util.specs.Section.{part, ValidSet}
 use Rattle.base_columns.specs.Columns.{ValidNumbers, ValidDataWords}
 """
 
-FIELDS_HEAD = """-- The words with one number or one section stored anew stand for the station with that field changed: one law for each. Written by tools/layout.py.
+FIELDS_HEAD = """-- The words with one number or one section stored anew stand for the station with that field changed: one law for each. Written by tools/make/layout.py.
 -- Assumes nothing.
 use Prim.Native.Nat.{ℕ, _≤_}
 use mathlib.Core.Path.{_≡_}
@@ -269,7 +272,7 @@ def between(path, mark, *blocks):
     text = tool.read(tool.ROOT / path)
     opening, closing = mark
     for name, lines in blocks:
-        begin = f"{opening} {name}, by tools/layout.py{closing}\n"
+        begin = f"{opening} {name}, by tools/make/layout.py{closing}\n"
         head, found, rest = text.partition(begin)
         end = f"{head[head.rfind(chr(10)) + 1 :]}{opening} end{closing}\n"
         if not found or begin in rest or end not in rest:
@@ -468,7 +471,7 @@ def sections_valid_proof():
     return "\n".join(out + [f"    {need}" for need in needs] + ["    returns)"]) + "\n"
 
 
-PARTS_HEAD = """-- The numbers and the sections of the words that a station is packed into, and words put together of their sections. Written by tools/layout.py.
+PARTS_HEAD = """-- The numbers and the sections of the words that a station is packed into, and words put together of their sections. Written by tools/make/layout.py.
 -- Assumes nothing.
 use Prim.Native.Nat.{ℕ, _+_}
 use mathlib.Core.Path.{_≡_, refl, sym, ap, _∙_}
@@ -660,7 +663,7 @@ STATION = "crates/spec_hyparview/specs/Station.antt"
 # the fields that no step changes
 KEPT = ["me", "config"]
 
-SETTERS_HEAD = """-- The station with one field changed, for each field but `me` and `config`, which stay as `new` was given them. Written by tools/layout.py.
+SETTERS_HEAD = """-- The station with one field changed, for each field but `me` and `config`, which stay as `new` was given them. Written by tools/make/layout.py.
 -- Assumes nothing.
 use Prim.Native.Nat.{ℕ}
 use mathlib.Core.Bool.{Bool}
@@ -807,7 +810,7 @@ def short(name):
 
 def histories():
     """What tests/histories.rs names of the layout, since Rust allows no constant that nothing names."""
-    outside = re.sub(r"// The places, by tools/layout.py\n.*?// end\n", "", tool.read(tool.ROOT / HISTORIES), flags=re.S)
+    outside = re.sub(r"// The places, by tools/make/layout.py\n.*?// end\n", "", tool.read(tool.ROOT / HISTORIES), flags=re.S)
     named = set(re.findall(r"\b[A-Z][A-Z_]*\b", outside))
     lines = []
     for name, _, cap, at, size in places():
@@ -866,7 +869,7 @@ def main():
     made[trace + "specs/Event.antt"] = between(trace + "specs/Event.antt", SPEC, ("the fields of the words xs; of each list no more than it has places", trace_spec()))
     made[trace + "proofs/Line.antt"] = between(trace + "proofs/Line.antt", SPEC, ("the constants of the code", trace_constants()), ("from each field on", trace_laws()))
     made[HISTORIES] = between(HISTORIES, CODE, (where, histories()))
-    made["tools/damaged.py"] = between("tools/damaged.py", PYTHON, (where, damaged()))
+    made["tools/gate/damaged.py"] = between("tools/gate/damaged.py", PYTHON, (where, damaged()))
     made["oracle/src/words.rs"] = between("oracle/src/words.rs", CODE, ("The words of a state", [f"pub const WORDS: usize = {length()};"]), ("The sections", oracle_sections()))
     made["examples/rust/hyparview.rs"] = between("examples/rust/hyparview.rs", CODE, ("The words of a state", [f"pub const WORDS: usize = {length()};"]))
     tool.made({name: text.encode() for name, text in made.items()}, sys.argv[1])
