@@ -1,3 +1,4 @@
+-- By the contract of `reach` one draw on, and by cases on whether there is one: past the end the value is 0 in both.
 use Rattle.work.proofs.Any.{drew-one}
 use Rattle.work.proofs.Bridge.{getD-past}
 use borrow.Author.Needs.{needs}
