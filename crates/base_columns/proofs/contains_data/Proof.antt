@@ -1,3 +1,4 @@
+-- The count says how many keys are lent, and membership among those words is `has` of the map, by `data-has`.
 use Rattle.base_columns.proofs.Data.{data-counted, data-has}
 use borrow.Author.Needs.{needs}
 use Rattle.base_columns.proofs.contains_data.Statement.{statement}

@@ -1,3 +1,4 @@
+-- The count says how many keys are lent, and membership among those words is `has` of the map, by `number-has`.
 use Rattle.base_columns.proofs.Numbers.{numbers-counted, number-has}
 use borrow.Author.Needs.{needs}
 use Rattle.base_columns.proofs.contains_number.Statement.{statement}

@@ -1,3 +1,4 @@
+-- Each list is lent up to its count, and by `known-lent` those words are the map's keys and the peers of the three sections.
 use Rattle.base_util.proofs.Sets.{lent-long}
 use Rattle.base_columns.proofs.Numbers.{numbers-counted}
 use Rattle.base_columns.proofs.Data.{data-counted}

@@ -1,3 +1,4 @@
+-- Three appends to a cleared set: before each one the places left suffice by the counts, and the items join in that order.
 use Rattle.base_columns.proofs.Kept.{room-active, room-passive, room-asked, peers-known}
 use borrow.Author.Needs.{needs}
 use Rattle.base_columns.proofs.data_peers.Statement.{statement}

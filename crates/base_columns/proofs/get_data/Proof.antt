@@ -1,3 +1,4 @@
+-- By cases on whether `find` met the key: the row at its place gives the bytes, and its length fits a byte; otherwise absent.
 use Rattle.base_columns.proofs.Data.{len-byte, data-found, data-missing}
 use borrow.Author.Needs.{needs}
 use Rattle.base_columns.proofs.get_data.Statement.{statement}

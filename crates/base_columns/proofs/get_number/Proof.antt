@@ -1,3 +1,4 @@
+-- By cases on whether `find` met the key: the number stands at its place in the second column; otherwise the map has none.
 use Rattle.base_util.specs.Section.{part}
 use Rattle.base_columns.proofs.Numbers.{number-found, number-none}
 use borrow.Author.Needs.{needs}

@@ -1,3 +1,4 @@
+-- Without the key nothing is held; with it, equal length and equal words mean equal bytes, since words and bytes determine each other.
 use Rattle.base_peer.specs.Held.{ValidData}
 use Prim.Native.Nat.{_+_}
 use native.Mathlib.Omega.{arith}

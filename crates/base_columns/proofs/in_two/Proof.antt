@@ -1,3 +1,4 @@
+-- The first column is changed alone, so the second is still filled; together the two results are `Two`, by `two-in`.
 use Rattle.base_util.specs.Section.{part}
 use Rattle.base_columns.proofs.Two.{two-inside, two-room, two-filled, two-fits, two-in}
 use borrow.Author.Needs.{needs}

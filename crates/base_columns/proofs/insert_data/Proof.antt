@@ -1,3 +1,4 @@
+-- By cases: a key that is there has its row replaced; a new one enters all four columns at its rank, and the count grows.
 use Rattle.base_peer.specs.Held.{ValidData}
 use mathlib.Core.Path.{_≡_}
 use mathlib.Core.Bool.{true, _||_}

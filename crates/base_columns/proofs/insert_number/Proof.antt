@@ -1,3 +1,4 @@
+-- By cases: a key that is there has its number replaced; a new one enters both columns at its rank, and the count grows.
 use Rattle.base_columns.specs.Columns.{ValidNumbers}
 use Rattle.base_util.specs.Section.{part}
 use Rattle.base_columns.proofs.Numbers.{number-inside, number-column, number-fits, number-room, numbers-long, second-filled, second-fits, number-replaced, number-inserted}

@@ -1,3 +1,4 @@
+-- The first column is filled up to the count and fits a working set, so its copy is the set of the map's keys.
 use Rattle.base_util.specs.Section.{part}
 use Rattle.base_columns.proofs.Numbers.{number-inside, number-column}
 use Rattle.base_columns.proofs.Sections.{keys-few, keys-copied}

@@ -1,3 +1,4 @@
+-- Too large a count fails the test; otherwise the two runs of zeroes and the rising keys are the definition's own tests.
 use Rattle.base_columns.proofs.Numbers.{test-no, test-all}
 use borrow.Author.Needs.{needs}
 use Rattle.base_columns.proofs.numbers_valid.Statement.{statement}

@@ -1,3 +1,4 @@
+-- The first column is changed alone, so the second is still filled; together the two results are `Two`, by `two-out`.
 use Rattle.base_util.specs.Section.{part}
 use Rattle.base_columns.proofs.Two.{two-inside, two-filled, two-out}
 use borrow.Author.Needs.{needs}

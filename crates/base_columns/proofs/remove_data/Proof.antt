@@ -1,3 +1,4 @@
+-- By cases: without the key nothing changes; otherwise its place leaves all four columns, two by two, and the count falls.
 use Rattle.base_util.specs.Section.{part}
 use Rattle.base_columns.specs.Columns.{head-of, ValidDataWords}
 use Rattle.base_columns.proofs.Data.{data-inside, data-size, data-keyed, data-lens, data-kept, tail-size, tail-lows, tail-highs, data-long, data-removed}

@@ -1,3 +1,4 @@
+-- By cases: without the key nothing changes; otherwise its place leaves both columns, and the count falls.
 use Rattle.base_columns.specs.Columns.{ValidNumbers}
 use Rattle.base_util.specs.Section.{part}
 use Rattle.base_columns.proofs.Numbers.{number-inside, number-column, numbers-long, second-filled, cut-kept, removed}

@@ -1,3 +1,4 @@
+-- By cases on the length: too long, within the first word, within the second or full; a small word has zero bytes past its place.
 use Rattle.base_columns.proofs.Past.{row-no, row-short, row-long, row-full}
 use borrow.Author.Needs.{needs}
 use Rattle.base_columns.proofs.row_valid.Statement.{statement}

@@ -1,3 +1,4 @@
+-- By cases on whether the place and the one n further on are within the list: arithmetic decides the definition's choice.
 use Prim.Native.Nat.{ℕ, _+_, _-_, _≤_, _<_}
 use mathlib.Core.Path.{_≡_}
 use mathlib.Core.List.{List}

@@ -1,3 +1,4 @@
+-- From a place within the list on, all that follows is taken; from one past it on, nothing is left.
 use Prim.Native.Nat.{ℕ, _-_, _≤_}
 use mathlib.Core.Path.{_≡_, sym, _∙_}
 use mathlib.Core.List.{List}

@@ -1,3 +1,4 @@
+-- First the words of b from j on have their marks, then none of a's first i words is in b; the measures are j and what is left of a.
 use Prim.Native.Nat.{_-_}
 use lib.ListN.{length}
 use mathlib.Core.Logic.{⊎-elim}

@@ -1,3 +1,4 @@
+-- The answer for the words still to come, or a hit so far, is `mem x s`; the measure is how many words are left.
 use Prim.Native.Nat.{_-_}
 use lib.ListN.{length}
 use Rattle.base_lists.specs.Lists.{mem}

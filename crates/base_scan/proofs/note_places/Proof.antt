@@ -1,3 +1,4 @@
+-- Only the table's length is kept, since hints may be wrong; the measure is how many words are left.
 use Prim.Native.Nat.{_-_, _≤_}
 use mathlib.Core.Path.{_≡_}
 use lib.ListN.{length}

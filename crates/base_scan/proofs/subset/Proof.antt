@@ -1,3 +1,4 @@
+-- What `ok` says with the words still to come is `subset a b`; a hint that meets the word needs no search. The measure is what is left.
 use Prim.Native.Nat.{_-_}
 use lib.ListN.{length}
 use mathlib.Core.Path.{_≡_}

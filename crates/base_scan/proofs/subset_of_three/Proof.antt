@@ -1,3 +1,4 @@
+-- As for `subset`, over the three lists in a row: a hinted word is in the list that its place falls into, by cases.
 use Prim.Native.Nat.{_-_}
 use lib.ListN.{length}
 use mathlib.Core.Path.{_≡_}

@@ -1,3 +1,4 @@
+-- By cases on the bound of 12 passes: the definition chooses the powers of two below it and the multiples of it from there on.
 use Prim.Native.Nat.{ℕ, _%_, _<_, _≤_}
 use mathlib.Core.Path.{_≡_, sym}
 use borrow.Author.Tests.{lt-ltb, le-ltb}

@@ -1,3 +1,4 @@
+-- The product at the longest interval and the largest draw bounds all others, so nothing overflows; the rest is the definition.
 use Prim.Native.Nat.{ℕ, _+_, _*_, _≤_, _<_, _^_}
 use mathlib.Core.Path.{refl}
 use native.Mathlib.Nat.{mul-le-mul}

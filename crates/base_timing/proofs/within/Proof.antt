@@ -1,3 +1,4 @@
+-- Both comparisons are the definition, by computation.
 use mathlib.Core.Path.{refl}
 use Rattle.base_timing.specs.Timing.{within}
 use Rattle.base_timing.proofs.within.Statement.{statement}

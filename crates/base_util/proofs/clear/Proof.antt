@@ -1,3 +1,4 @@
+-- By the contract of `clear_from` from place 0: every word is zero, the count too, which is the set of no items.
 use Rattle.base_util.proofs.Sets.{cleared}
 use borrow.Author.Needs.{needs}
 use Rattle.base_util.proofs.clear.Statement.{statement}

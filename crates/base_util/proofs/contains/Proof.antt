@@ -1,3 +1,4 @@
+-- The count says how many words are lent, and they are the set's items, by `lent-mem`.
 use Rattle.base_util.proofs.Sets.{lent-long, lent-mem}
 use borrow.Author.Needs.{needs}
 use Rattle.base_util.proofs.contains.Statement.{statement}

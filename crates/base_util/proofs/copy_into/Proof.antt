@@ -1,3 +1,4 @@
+-- The places of a valid set are a filled column that fits a working set, so the contract of `copy_column` says the rest.
 use Rattle.base_util.specs.Section.{part}
 use Rattle.base_util.proofs.Sets.{set-inside, set-column, column-few}
 use Rattle.base_util.proofs.Copies.{copied}

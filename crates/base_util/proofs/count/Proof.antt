@@ -1,3 +1,4 @@
+-- A valid set's count is the length of its items and at most the places: both are what validity says.
 use borrow.Author.Needs.{needs}
 use Rattle.base_util.proofs.count.Statement.{statement}
 use Rattle.base_util.proofs.count.Tie as tie

@@ -1,3 +1,4 @@
+-- A place below the count is one of the items, so the word there is the item.
 use Rattle.base_util.proofs.Sets.{item-read}
 use borrow.Author.Needs.{needs}
 use Rattle.base_util.proofs.get_index.Statement.{statement}

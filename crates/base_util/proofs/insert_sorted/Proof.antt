@@ -1,3 +1,4 @@
+-- By cases: an item that is there changes nothing; a new one is put in at its rank, for which `insert-fits` finds room.
 use Rattle.base_util.specs.Section.{part}
 use Rattle.base_util.proofs.Sets.{set-inside, set-column, lent-fits, insert-kept, insert-fits, inserted}
 use borrow.Author.Needs.{needs}

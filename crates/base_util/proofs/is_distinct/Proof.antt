@@ -1,3 +1,4 @@
+-- The items from place i on are distinct and marked: an item without a mark is new, one with it is looked for. The measure is i.
 use mathlib.Core.Logic.{⊎-elim}
 use Rattle.base_util.proofs.Sets.{lent-fits, lent-distinct}
 use Rattle.base_util.proofs.Marked.{Marking, mark-start, mark-new, mark-twice, mark-once, mark-end}

@@ -1,3 +1,4 @@
+-- The count is 0 exactly where the set has no items.
 use Rattle.base_util.proofs.Sets.{empty-is-null}
 use borrow.Author.Needs.{needs}
 use Rattle.base_util.proofs.is_empty.Statement.{statement}

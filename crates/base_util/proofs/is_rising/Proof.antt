@@ -1,3 +1,4 @@
+-- The first words, as many as the count says, are the set's items, and `rises` decides whether they rise.
 use Rattle.base_util.proofs.Sets.{lent-fits, lent-rising}
 use borrow.Author.Needs.{needs}
 use Rattle.base_util.proofs.is_rising.Statement.{statement}

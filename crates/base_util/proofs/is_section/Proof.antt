@@ -1,3 +1,4 @@
+-- By cases: a count above the places is no set, and otherwise the places past the count must be zero.
 use Rattle.base_util.specs.Section.{part}
 use Rattle.base_util.proofs.Sets.{too-many, few}
 use borrow.Author.Needs.{needs}

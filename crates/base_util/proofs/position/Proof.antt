@@ -1,3 +1,4 @@
+-- The first words, as many as the count says, are the set's items, and `find` says the place among them.
 use Rattle.base_util.proofs.Sets.{lent-fits, there}
 use borrow.Author.Needs.{needs}
 use Rattle.base_util.proofs.position.Statement.{statement}

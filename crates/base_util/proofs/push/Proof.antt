@@ -1,3 +1,4 @@
+-- x is stored at the first unused place and the count grows, which puts x at the end of the items, by `pushed`.
 use lib.ListN.{length-set}
 use Rattle.base_util.proofs.Sets.{pushed}
 use borrow.Author.Needs.{needs}

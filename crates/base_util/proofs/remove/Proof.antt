@@ -1,3 +1,4 @@
+-- By cases on whether `find` met x: its place is removed, or nothing changes; either is the definition's `remove`.
 use Rattle.base_util.proofs.Sets.{lent-fits, remove-within, remove-found, remove-none}
 use borrow.Author.Needs.{needs}
 use Rattle.base_util.proofs.remove.Statement.{statement}

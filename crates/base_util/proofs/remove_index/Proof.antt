@@ -1,3 +1,4 @@
+-- The last item goes into the gap, zero into its place, and the count falls: by `last-in-gap` that is `swap-remove`.
 use lib.ListN.{length-set}
 use Rattle.base_util.proofs.Sets.{last-in-gap}
 use borrow.Author.Needs.{needs}

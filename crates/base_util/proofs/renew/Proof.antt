@@ -1,3 +1,4 @@
+-- After `without`, by cases on whether the set is full: either way there is room for x and the items are those that `renew` keeps.
 use mathlib.Core.Logic.{⊎-elim}
 use Rattle.base_util.proofs.Sets.{Roomy, roomy-new, roomy-old, set-as}
 use borrow.Author.Needs.{needs}

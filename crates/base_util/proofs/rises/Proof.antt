@@ -1,3 +1,4 @@
+-- While i climbs, `ok` says whether the first i items rise; the measure is how many items are left.
 use Prim.Native.Nat.{ℕ, _+_, _-_, _≤_, _<_}
 use mathlib.Core.Path.{_≡_, subst}
 use mathlib.Core.Bool.{Bool, _&&_}

@@ -1,3 +1,4 @@
+-- The places are a filled column from which `take_out` takes the item, and the count falls: by `shifted` that is `shift-remove`.
 use Rattle.base_util.specs.Section.{part}
 use Rattle.base_util.proofs.Sets.{set-inside, set-column, shifted}
 use borrow.Author.Needs.{needs}

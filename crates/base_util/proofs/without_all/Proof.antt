@@ -1,3 +1,4 @@
+-- The places and what is skipped are lent as columns, and the new count is how many items `without_all_in` left.
 use Rattle.base_util.specs.Section.{part}
 use Rattle.base_util.proofs.Sets.{set-inside, set-column, lent-long, left-without-all}
 use borrow.Author.Needs.{needs}

@@ -1,3 +1,4 @@
+-- The bits so far, with the words still to come, say whether all are zero; the measure is how many words are left.
 use Prim.Native.Nat.{ℕ, _+_, _-_, _≤_, _<_}
 use mathlib.Core.Path.{_≡_, subst}
 use mathlib.Core.Bool.{Bool}

@@ -1,3 +1,4 @@
+-- By cases on the kind: one whose node has data, another known kind, or none, each as the definition chooses.
 use Prim.Native.Nat.{ℕ}
 use mathlib.Core.Path.{_≡_}
 use mathlib.Core.Bool.{Bool, true, false, _||_}

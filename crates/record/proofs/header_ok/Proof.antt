@@ -1,3 +1,4 @@
+-- The definition's tests of kind, flags, nodes, peer and other fields, each known from the calls' answers, and then joined.
 use Rattle.record.proofs.Laws.{kind-known, flags-known, count-known, peer-known, fields-known, header-known}
 use borrow.Author.Needs.{needs}
 use Rattle.record.proofs.header_ok.Statement.{statement}

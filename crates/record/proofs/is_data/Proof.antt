@@ -1,3 +1,4 @@
+-- Both comparisons with a kind's byte are the definition, by computation.
 use mathlib.Core.Path.{refl}
 use Rattle.record.specs.Read.{is-data}
 use Rattle.record.proofs.is_data.Statement.{statement}

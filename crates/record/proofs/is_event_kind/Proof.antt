@@ -1,3 +1,4 @@
+-- One comparison is the same as the list of kinds, by a test of every byte.
 use borrow.Author.Needs.{needs}
 use Rattle.record.proofs.ByKind.{events-compared}
 use Rattle.record.proofs.is_event_kind.Statement.{statement}

@@ -1,3 +1,4 @@
+-- Two comparisons are the same as the list of kinds, by a test of every byte.
 use borrow.Author.Needs.{needs}
 use Rattle.record.proofs.ByKind.{outputs-compared}
 use Rattle.record.proofs.is_output_kind.Statement.{statement}

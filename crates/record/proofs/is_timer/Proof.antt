@@ -1,3 +1,4 @@
+-- Both comparisons are the definition, by computation.
 use mathlib.Core.Path.{refl}
 use Rattle.record.specs.Read.{is-timer}
 use Rattle.record.proofs.is_timer.Statement.{statement}

@@ -1,3 +1,4 @@
+-- The contract of `read_entry` at the place of the i-th entry, where a peer has 8 bytes.
 use Rattle.record.specs.Read.{entry-at-by}
 use Rattle.record.proofs.Laws.{new-form}
 use borrow.Author.Needs.{needs}

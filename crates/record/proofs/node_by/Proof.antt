@@ -1,3 +1,4 @@
+-- The place that `place` answered is the definition's, so the entry read there is the i-th.
 use Prim.Native.Nat.{ℕ}
 use mathlib.Core.Path.{_≡_, ap, _∙_}
 use mathlib.Core.List.{List}

@@ -1,3 +1,4 @@
+-- What is lent from the offset to the offset and the length is that slice of the record, by `part-is`.
 use Rattle.record.proofs.Laws.{part-is}
 use borrow.Author.Needs.{needs}
 use Rattle.record.proofs.node_data.Statement.{statement}

@@ -1,3 +1,4 @@
+-- A well-formed record has room for its entries and their data; by cases on the mark, the data is absent or the bytes lent.
 use Rattle.record.proofs.Laws.{new-form}
 use Rattle.record.proofs.Nodes.{entry-read, entry-room, entry-within, entry-few, absent-held, present-held, node-held}
 use borrow.Author.Needs.{needs}

@@ -1,3 +1,4 @@
+-- At most 255 entries of at most 12 bytes bound every product and sum, so nothing overflows.
 use Prim.Native.Nat.{ℕ, _*_, _^_, _≤_, _<_}
 use mathlib.Core.Path.{refl}
 use native.Mathlib.Nat.{mul-le-mul}

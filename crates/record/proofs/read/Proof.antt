@@ -1,3 +1,4 @@
+-- By cases on the test: a record that is well formed is long enough for its header; any other bytes are malformed.
 use Prim.Native.Nat.{ℕ, _≤_}
 use mathlib.Core.Path.{_≡_, sym, _∙_}
 use mathlib.Core.Bool.{Bool, true}

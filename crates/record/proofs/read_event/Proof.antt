@@ -1,3 +1,4 @@
+-- By cases in the order of the refusals: too short, too many nodes, an event's record, or malformed.
 use Rattle.record.proofs.Laws.{event-short, event-crowded, event-record, event-refused}
 use borrow.Author.Needs.{needs}
 use Rattle.record.proofs.read_event.Statement.{statement}

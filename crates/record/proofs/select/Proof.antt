@@ -1,3 +1,4 @@
+-- By cases on the test, each of which computes.
 use Rattle.base_lists.specs.Lists.{choose}
 use Rattle.record.proofs.select.Statement.{statement}
 use Rattle.record.proofs.select.Tie as tie

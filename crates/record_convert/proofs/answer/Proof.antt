@@ -1,3 +1,4 @@
+-- By cases in the order of the refusals: too short, too many nodes, well formed, and otherwise malformed.
 use Prim.Native.Nat.{ℕ}
 use mathlib.Core.Path.{_≡_, sym, _∙_}
 use mathlib.Core.Bool.{Bool, true}

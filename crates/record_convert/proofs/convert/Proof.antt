@@ -1,3 +1,4 @@
+-- Onto an output that was cleared, what `place_record` writes is the definition's `conversion`, by `placed-zeroes`.
 use Rattle.record_convert.proofs.Laws.{placed-zeroes}
 use borrow.Author.Needs.{needs}
 use Rattle.record_convert.proofs.convert.Statement.{statement}

@@ -1,3 +1,4 @@
+-- By cases: too short for a header, cut off before its length, or whole, each as `first-record` chooses.
 use Prim.Native.Nat.{ℕ, _<_, _≤_}
 use mathlib.Core.Path.{_≡_, sym, ap, _∙_}
 use mathlib.Core.List.{List}

@@ -1,3 +1,4 @@
+-- By cases on the form: four bytes hold what is below their end, and eight hold any 64-bit number.
 use Prim.Native.Nat.{ℕ, _^_, _<_}
 use mathlib.Core.Path.{_≡_, sym}
 use mathlib.Core.Bool.{true}

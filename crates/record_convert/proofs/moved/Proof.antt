@@ -1,3 +1,4 @@
+-- By cases on the mark: absent data has offset 0, and data that is there has the place reached.
 use Prim.Native.Nat.{ℕ}
 use mathlib.Core.Path.{_≡_}
 use borrow.Author.Tests.{eq-eqb, ne-eqb}

@@ -1,3 +1,4 @@
+-- By cases: ids and length fit or not, and then the room; a well-formed record's length bounds all that is computed.
 use native.Mathlib.Omega.{arith}
 use Rattle.record.proofs.Laws.{well-formed-long}
 use Rattle.record_convert.proofs.Laws.{reach, short, full, done, none-such}

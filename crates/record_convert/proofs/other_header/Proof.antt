@@ -1,3 +1,4 @@
+-- The header read is the record's, and the length computed from it is that of the other form, by `size-is`.
 use Prim.Native.Nat.{ℕ, _+_, _-_, _<_}
 use mathlib.Core.Path.{_≡_, _∙_}
 use mathlib.Core.Bool.{true}

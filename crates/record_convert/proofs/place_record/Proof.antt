@@ -1,3 +1,4 @@
+-- By cases on the answer: 0 means the record is well formed and its other form fits; otherwise nothing is written.
 use Prim.Native.Nat.{ℕ, _≤_, _<_}
 use mathlib.Core.Path.{_≡_, sym, ap, _∙_}
 use mathlib.Core.Bool.{true}

@@ -1,3 +1,4 @@
+-- Three writes, each from where the one before it ended, are one write of the fields behind the peers.
 use Prim.Native.Nat.{ℕ, _+_}
 use mathlib.Core.Path.{_≡_}
 use mathlib.Core.List.{List}

@@ -1,3 +1,4 @@
+-- What is lent from the place of the data on is the rest of the record, and it is written at the other form's place.
 use Prim.Native.Nat.{ℕ, _-_}
 use mathlib.Core.Path.{_≡_, ap, _∙_}
 use mathlib.Core.List.{List}

@@ -1,3 +1,4 @@
+-- Header, entries and data, each written where the one before it ended, are the record's encoding; its length bounds all three.
 use Prim.Native.Nat.{ℕ, _+_, _-_, _≤_}
 use mathlib.Core.Path.{_≡_, refl, ap, _∙_}
 use mathlib.Core.Bool.{true}

@@ -1,3 +1,4 @@
+-- Four writes, each from where the one before it ended, are one write of the header's fields.
 use Prim.Native.Nat.{ℕ, _+_, _*_}
 use mathlib.Core.Path.{_≡_}
 use mathlib.Core.List.{List, [], _∷_}

@@ -1,3 +1,4 @@
+-- By cases on the way: each is the contract of the conversion that is called.
 use Rattle.record_stream.proofs.Parts.{went-back, went-on}
 use borrow.Author.Needs.{needs}
 use Rattle.record_stream.proofs.convert_by.Statement.{statement}

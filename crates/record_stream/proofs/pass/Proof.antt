@@ -1,3 +1,4 @@
+-- The answers are those of the conversion, and as many bytes are written out as it says, which the output has.
 use Rattle.record_stream.proofs.Parts.{counted, answered}
 use borrow.Author.Needs.{needs}
 use Rattle.record_stream.proofs.pass.Statement.{statement}

@@ -1,3 +1,4 @@
+-- What was taken lies within the bytes that were filled, so what is left fits the buffer, by arithmetic.
 use Prim.Native.Nat.{ℕ, _-_, _≤_}
 use mathlib.Core.List.{List}
 use native.Mathlib.Omega.{arith}

@@ -1,3 +1,4 @@
+-- By cases on the room: too little leaves all as it was, enough lets every field be written, one behind the other.
 use Prim.Native.Nat.{_+_, _≤_}
 use native.Mathlib.Omega.{arith}
 use denote.Ref.{now}

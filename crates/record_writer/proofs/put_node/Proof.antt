@@ -1,3 +1,4 @@
+-- By cases on the mark: with data, offset, length and bytes are written and fit by the contract; without, zeroes.
 use native.Mathlib.Omega.{arith}
 use Rattle.record_writer.proofs.Laws.{length-places, exact, node-put, node-absent}
 use borrow.Author.Needs.{needs}

@@ -1,3 +1,4 @@
+-- The first loop sums the data's lengths, the second writes nodes up to k into the room found. The measures are the nodes left.
 use Prim.Native.Nat.{ℕ, suc, _+_, _*_, _-_, _≤_, _<_}
 use mathlib.Core.Path.{_≡_, refl, sym, _∙_}
 use mathlib.Core.List.{List}

@@ -1,3 +1,4 @@
+-- The contract of `put_header` with no nodes and a length of the header alone is that of the whole record.
 use Rattle.record_writer.proofs.Ways.{done-bare}
 use borrow.Author.Needs.{needs}
 use Rattle.record_writer.proofs.write_bare.Statement.{statement}

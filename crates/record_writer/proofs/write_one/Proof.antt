@@ -1,3 +1,4 @@
+-- By cases on the header: without room all is as it was, with room the one node and its data fit behind it.
 use native.Mathlib.Omega.{arith}
 use Rattle.record_writer.proofs.Ways.{no-room-one, room-one, done-one}
 use borrow.Author.Needs.{needs}

@@ -1,3 +1,4 @@
+-- By cases: too short for a header, or the length read is within the bytes or not, as the definition chooses.
 use Prim.Native.Nat.{ℕ, _≤_, _<_}
 use mathlib.Core.Path.{_≡_, sym, ap, _∙_}
 use mathlib.Core.Bool.{Bool, true, false, _&&_}

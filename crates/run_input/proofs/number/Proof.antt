@@ -1,3 +1,4 @@
+-- By cases on whether the bytes have an i-th number: it is read there, and otherwise it is 0.
 use Prim.Native.Nat.{ℕ, _*_, _/_, _≤_, _<_}
 use mathlib.Core.Path.{_≡_, sym, _∙_}
 use mathlib.Core.List.{List}

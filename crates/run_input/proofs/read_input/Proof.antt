@@ -1,3 +1,4 @@
+-- By cases on the test of the places, which bounds the events' part, and on that of the events; the head has the numbers read.
 use Prim.Native.Nat.{ℕ, _+_, _*_, _-_, _≤_}
 use mathlib.Core.Path.{_≡_, sym, ap, _∙_}
 use mathlib.Core.Bool.{Bool, true, false, _&&_}

@@ -1,3 +1,4 @@
+-- By the contract of `State::new` and with both places at 0, by `begins-at`.
 use borrow.Author.Needs.{needs}
 use Rattle.run_listing.proofs.Laws.{begins-at}
 use Rattle.run_listing.proofs.begin.Statement.{statement}

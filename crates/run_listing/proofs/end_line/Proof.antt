@@ -1,3 +1,4 @@
+-- A line written from place 0 into enough space stands whole at the front, and the place reached is its length.
 use borrow.Author.Needs.{needs}
 use Rattle.run_listing.proofs.Stream.{end-fronts}
 use Rattle.run_listing.proofs.end_line.Statement.{statement}

@@ -1,3 +1,4 @@
+-- By cases: the input is refused, its settings are refused, or it has events, each as the definition chooses.
 use borrow.Author.Needs.{needs}
 use Rattle.run_listing.proofs.Laws.{open-unset, open-events, open-refused, open-whole}
 use Rattle.run_listing.proofs.open.Statement.{statement}

@@ -1,3 +1,4 @@
+-- By cases on what `open` decided: one line, or the events; a head that it handed on is laid within the input.
 use borrow.Author.Needs.{needs}
 use mathlib.Core.Path.{refl}
 use Rattle.run_walk.proofs.Draws.{numbers-read}

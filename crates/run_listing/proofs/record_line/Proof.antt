@@ -1,3 +1,4 @@
+-- By cases: fewer bytes than a header, a length of 0, or a line, which has the space that it needs.
 use borrow.Author.Needs.{needs}
 use Rattle.run_listing.proofs.Stream.{lines-few-bytes, lines-none, lines-one}
 use Rattle.run_listing.proofs.record_line.Statement.{statement}

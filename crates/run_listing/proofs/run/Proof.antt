@@ -1,3 +1,4 @@
+-- By cases on whether the text was cut: from place 0 on, `full` says exactly whether it is longer than the lent bytes.
 use borrow.Author.Needs.{needs}
 use Rattle.run_listing.proofs.Laws.{run-cut, run-fits}
 use Rattle.run_listing.proofs.run.Statement.{statement}

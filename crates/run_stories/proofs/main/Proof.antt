@@ -1,3 +1,4 @@
+-- The count that `tell` answered is within the space, so that the part lent has that length.
 use borrow.Author.Needs.{needs}
 use Rattle.run_stories.proofs.Laws.{cut-length}
 use Rattle.run_stories.proofs.main.Statement.{statement}

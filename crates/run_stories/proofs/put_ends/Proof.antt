@@ -1,3 +1,4 @@
+-- Four lines put one after the other are the whole text, by `ends-put`.
 use borrow.Author.Needs.{needs}
 use Rattle.run_stories.proofs.Laws.{ends-put}
 use Rattle.run_stories.proofs.put_ends.Statement.{statement}

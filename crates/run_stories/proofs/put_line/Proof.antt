@@ -1,3 +1,4 @@
+-- Three fields put one after the other are the line, by `line-put`.
 use borrow.Author.Needs.{needs}
 use Rattle.run_stories.proofs.Laws.{line-put}
 use Rattle.run_stories.proofs.put_line.Statement.{statement}

@@ -1,3 +1,4 @@
+-- From place 0 on, the place reached is the text's length or where the lent bytes end.
 use borrow.Author.Needs.{needs}
 use Rattle.run_stories.proofs.Laws.{told, told-inside, bytes-told}
 use Rattle.run_stories.proofs.tell.Statement.{statement}

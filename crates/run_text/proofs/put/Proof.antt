@@ -1,3 +1,4 @@
+-- By cases on the room: the byte is stored and the place moves on, or nothing is written and the text is full.
 use borrow.Author.Needs.{needs}
 use Rattle.run_text.proofs.Written.{put-fits, put-past}
 use Rattle.run_text.proofs.put.Statement.{statement}

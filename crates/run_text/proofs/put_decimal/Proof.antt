@@ -1,3 +1,4 @@
+-- The digits that `decimal` made are the number's, and `put_bytes` puts them, by `put-digits`.
 use native.Mathlib.Omega.{arith}
 use borrow.Author.Needs.{needs}
 use Rattle.run_text.proofs.Spelled.{put-digits}

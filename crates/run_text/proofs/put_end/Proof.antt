@@ -1,3 +1,4 @@
+-- Two bytes and two fields put one after the other are the line, by `end-put`.
 use borrow.Author.Needs.{needs}
 use Rattle.run_text.proofs.Laws.{end-put}
 use Rattle.run_text.proofs.put_end.Statement.{statement}

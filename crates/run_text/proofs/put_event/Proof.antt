@@ -1,3 +1,4 @@
+-- The records' lines and then the line that ends them are the event's text, by `event-put`.
 use borrow.Author.Needs.{needs}
 use Rattle.run_text.proofs.Laws.{event-put}
 use Rattle.run_text.proofs.put_event.Statement.{statement}

@@ -1,3 +1,4 @@
+-- The digits and then one byte are the field, by `put-after`.
 use borrow.Author.Needs.{needs}
 use Rattle.run_text.proofs.Spelled.{put-after}
 use Rattle.run_text.proofs.put_field.Statement.{statement}

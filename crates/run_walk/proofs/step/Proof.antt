@@ -1,3 +1,4 @@
+-- By cases on the place, the events are cut there or at their end; the rest are the called functions' contracts, put together by `ran`.
 use mathlib.Core.Path.{ap, _∙_}
 use mathlib.Core.Logic.{⊎-elim}
 use lib.ListN.{take}

@@ -1,3 +1,4 @@
+-- The room asked for lies within the space, so the part lent has exactly that length.
 use mathlib.Core.Path.{sym}
 use lib.Seq.{length-take-le}
 use borrow.Author.Needs.{needs}

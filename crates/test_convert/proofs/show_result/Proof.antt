@@ -1,3 +1,4 @@
+-- What was written lies within the output, so the part lent has exactly that length.
 use mathlib.Core.Path.{sym}
 use lib.Seq.{length-take-le}
 use borrow.Author.Needs.{needs}

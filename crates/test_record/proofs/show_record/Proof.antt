@@ -1,3 +1,4 @@
+-- An answer with a header was read of a well-formed record, which is what `show_nodes` requires.
 use Prim.Native.Nat.{ℕ}
 use mathlib.Core.Path.{_≡_, sym, _∙_}
 use mathlib.Core.List.{List}

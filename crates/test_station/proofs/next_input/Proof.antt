@@ -1,3 +1,4 @@
+-- The size was found to be within the lent bytes, so the part lent has exactly that length.
 use borrow.Author.Needs.{needs}
 use Rattle.run_walk.proofs.Draws.{counted}
 use Rattle.test_station.proofs.next_input.Statement.{statement}

@@ -1,3 +1,4 @@
+-- A text that fits has no more bytes than were lent, so the part lent has exactly its length.
 use borrow.Author.Needs.{needs}
 use Rattle.run_listing.proofs.Laws.{shown-within, shown-counted}
 use Rattle.test_station.proofs.show_listing.Statement.{statement}

@@ -1,3 +1,4 @@
+-- The lent bytes stay as many as a call has; the measure is how many more calls may come.
 use Prim.Native.Nat.{_≤_}
 use mathlib.Core.Path.{_≡_}
 use borrow.Author.Needs.{needs}

@@ -1,3 +1,4 @@
+-- The place stays within the words; the measure is how many are left.
 use Prim.Native.Nat.{_≤_, _-_}
 use borrow.Author.Needs.{needs}
 use lib.ListN.{length}

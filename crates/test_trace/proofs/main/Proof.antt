@@ -1,3 +1,4 @@
+-- The loop keeps only that the counter never grows: each turn that goes on takes one off.
 use borrow.Author.Needs.{needs}
 -- The measure is how many more histories may come.
 use Prim.Native.Nat.{_≤_}

@@ -1,3 +1,4 @@
+-- The size was found to be within the lent bytes, so the part lent has exactly that length.
 use Rattle.run_walk.proofs.Draws.{counted}
 use borrow.Author.Needs.{needs}
 use Rattle.test_trace.proofs.next_history.Statement.{statement}

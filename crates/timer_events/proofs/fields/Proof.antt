@@ -1,3 +1,4 @@
+-- A timer that passes the test has a kind that fits a byte, and then the fields are the event's, by computation.
 use mathlib.Core.Path.{refl}
 use Rattle.record_writer.specs.Write.{rec-in}
 use Rattle.timer_events.specs.Events.{event-rec}

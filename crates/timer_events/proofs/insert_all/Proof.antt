@@ -1,3 +1,4 @@
+-- Putting the timers of `rest` into the queue so far ends as the whole does; the measure is the length of `rest`.
 use borrow.Author.Needs.{needs}
 use lib.ListN.{length}
 use Rattle.timer_map.specs.Words.{entries-of}

@@ -1,3 +1,4 @@
+-- By cases on the kind: a timer's record is put in by the contracts called, any other leaves the queue as it was.
 use borrow.Author.Needs.{needs}
 use Rattle.timer_events.proofs.Inserting.{put-timer, put-other}
 use Rattle.timer_events.proofs.insert_record.Statement.{statement}

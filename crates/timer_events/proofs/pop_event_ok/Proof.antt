@@ -1,3 +1,4 @@
+-- By cases: none due, no room for the event, or written and removed; a sound queue's entries pass the test that `fields` needs.
 use borrow.Author.Needs.{needs}
 use Rattle.timer_map.proofs.Ways.{place-below}
 use Rattle.timer_events.proofs.Taking.{entry-ok, took-none, took-full, took-event}

@@ -1,3 +1,4 @@
+-- The queue only grew at its end, so a refusal that truncates it to the first count leaves the entries it had.
 use borrow.Author.Needs.{needs}
 use Rattle.timer_events.proofs.Inserting.{all-sound, all-more, none-put, all-put}
 use Rattle.timer_events.proofs.records_ok.Statement.{statement}

@@ -1,3 +1,4 @@
+-- By cases: fewer bytes than that, a record, or none, each as the definition chooses.
 use borrow.Author.Needs.{needs}
 use Rattle.timer_events.proofs.Inserting.{short-start, read-start, no-record, part-long}
 use Rattle.timer_events.proofs.schedule_of.Statement.{statement}

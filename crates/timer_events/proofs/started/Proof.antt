@@ -1,3 +1,4 @@
+-- Each field is the definition's, by computation.
 use mathlib.Core.Path.{refl}
 use borrow.Author.Needs.{needs}
 use Rattle.timer_events.proofs.started.Statement.{statement}

@@ -1,3 +1,4 @@
+-- By cases on the test: a queue that passes is sound, so `records_ok` answers; any other is broken and stays as it was.
 use borrow.Author.Needs.{needs}
 use Rattle.timer_map.proofs.Ways.{sound-asked}
 use Rattle.timer_events.proofs.Inserting.{records-asked, records-broken}

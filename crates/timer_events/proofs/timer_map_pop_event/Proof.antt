@@ -1,3 +1,4 @@
+-- By cases on the test: a queue that passes is sound, so `pop_event_ok` answers; for any other there is no event.
 use borrow.Author.Needs.{needs}
 use Rattle.timer_map.proofs.Ways.{sound-asked}
 use Rattle.timer_events.proofs.Taking.{event-asked, event-broken}

@@ -1,3 +1,4 @@
+-- Up to place i stand the words before `from` and then zeroes; the measure is how many words are left.
 use Prim.Native.Nat.{_-_}
 use borrow.Author.Needs.{needs}
 use lib.ListN.{length}

@@ -1,3 +1,4 @@
+-- By cases on the comparison, which is the definition's choice.
 use mathlib.Core.Path.{sym}
 use borrow.Author.Tests.{lt-ltb, le-ltb}
 use borrow.Author.Needs.{needs}

@@ -1,3 +1,4 @@
+-- Each field is read where the definition reads it, by computation.
 use mathlib.Core.Path.{refl}
 use borrow.Author.Needs.{needs}
 use Rattle.timer_map.specs.Words.{queue-entry-at}

@@ -1,3 +1,4 @@
+-- By cases: no entries, the soonest is later than the limit, or it is due, as `due-in` chooses.
 use borrow.Author.Needs.{needs}
 use Rattle.timer_map.proofs.Ways.{due-empty, due-later, due-found}
 use Rattle.timer_map.proofs.find_due.Statement.{statement}

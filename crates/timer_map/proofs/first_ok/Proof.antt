@@ -1,3 +1,4 @@
+-- By cases: no entries, or the time in the row of the soonest.
 use borrow.Author.Needs.{needs}
 use Rattle.timer_map.proofs.Ways.{first-none, first-some}
 use Rattle.timer_map.proofs.first_ok.Statement.{statement}

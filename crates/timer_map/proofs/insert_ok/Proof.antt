@@ -1,3 +1,4 @@
+-- By cases: no timer, refused, or put in; where nothing is refused, the due time fits a word and there is a free row.
 use borrow.Author.Needs.{needs}
 use Rattle.timer_map.proofs.Ways.{put-refused, put-done, put-malformed, due-fits, room-left}
 use Rattle.timer_map.proofs.insert_ok.Statement.{statement}

@@ -1,3 +1,4 @@
+-- The contract of `no_entry`; the rest computes.
 use borrow.Author.Needs.{needs}
 use Rattle.timer_map.proofs.no_pop.Statement.{statement}
 use Rattle.timer_map.proofs.no_pop.Tie as tie

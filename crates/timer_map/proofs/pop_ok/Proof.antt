@@ -1,3 +1,4 @@
+-- By cases on what `find_due` found: its place is below the count, so that entry is removed; otherwise nothing changes.
 use borrow.Author.Needs.{needs}
 use Rattle.timer_map.proofs.Ways.{place-below, pop-taken, pop-none}
 use Rattle.timer_map.proofs.pop_ok.Statement.{statement}

@@ -1,3 +1,4 @@
+-- A row stored behind the last and a greater count pack the entries with one more at the end, by `push-law`.
 use borrow.Author.Needs.{needs}
 use Rattle.timer_map.proofs.Pack.{push-law, row-length}
 use Rattle.timer_map.proofs.push_entry.Statement.{statement}

@@ -1,3 +1,4 @@
+-- The first i words are stored from `at` on, and the others are as they were; the measure is how many are left.
 use Prim.Native.Nat.{_-_}
 use borrow.Author.Needs.{needs}
 use lib.ListN.{length}

@@ -1,3 +1,4 @@
+-- What `ok` says with the rows still to come is the test of all rows; the measure is how many rows are left.
 use Prim.Native.Nat.{_-_}
 use borrow.Author.Needs.{needs}
 use Rattle.base_lists.specs.Tests.{every}

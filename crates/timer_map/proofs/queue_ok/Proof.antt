@@ -1,3 +1,4 @@
+-- By cases: wrong length, too large a count, or the rows and the unused words decide.
 use borrow.Author.Needs.{needs}
 use Rattle.timer_map.proofs.Ways.{wrong-length, overfull, judged}
 use Rattle.timer_map.proofs.queue_ok.Statement.{statement}

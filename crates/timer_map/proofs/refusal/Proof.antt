@@ -1,3 +1,4 @@
+-- By cases in the order of the refusals: too late, full, or none; that the difference tests the sum is arithmetic.
 use native.Mathlib.Omega.{arith}
 use borrow.Author.Needs.{needs}
 use Rattle.timer_map.proofs.Ways.{too-late, too-many, may}

@@ -1,3 +1,4 @@
+-- Rows moved down, the last cleared and a smaller count pack the entries without the i-th, by `remove-law`.
 use Rattle.timer_map.specs.Words.{SoundQueue, queue-count}
 use Prim.Native.Nat.{_<_}
 use mathlib.Core.Path.{_≡_, _∙_}

@@ -1,3 +1,4 @@
+-- The words are those of the definition, by computation.
 use mathlib.Core.Path.{refl}
 use Rattle.timer_map.specs.Words.{queue-row}
 use Rattle.timer_map.proofs.row.Statement.{statement}

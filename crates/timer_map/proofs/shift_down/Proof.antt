@@ -1,3 +1,4 @@
+-- The words from `at` to place k are those one row on, the others as they were; the measure is how many are left to move.
 use Prim.Native.Nat.{_-_}
 use borrow.Author.Needs.{needs}
 use Rattle.timer_map.proofs.Stores.{Shifting, shift-start, shift-next, shift-end}

@@ -1,3 +1,4 @@
+-- Seeking on from the best so far through the rows still to come finds the soonest; the measure is how many rows are left.
 use Prim.Native.Nat.{_-_}
 use borrow.Author.Needs.{needs}
 use Rattle.timer_map.specs.Entries.{soonest}

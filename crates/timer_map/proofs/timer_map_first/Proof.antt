@@ -1,3 +1,4 @@
+-- By cases on the test: a queue that passes is sound, so `first_ok` answers; any other is broken.
 use borrow.Author.Needs.{needs}
 use Rattle.timer_map.proofs.Ways.{sound-asked, first-asked, first-broken}
 use Rattle.timer_map.proofs.timer_map_first.Statement.{statement}

@@ -1,3 +1,4 @@
+-- By cases on the test: a queue that passes is long enough to have a count; any other is broken.
 use borrow.Author.Needs.{needs}
 use Rattle.timer_map.proofs.Ways.{lent, len-asked, len-broken}
 use Rattle.timer_map.proofs.timer_map_len.Statement.{statement}

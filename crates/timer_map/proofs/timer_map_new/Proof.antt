@@ -1,3 +1,4 @@
+-- By cases on the length: the wrong one is refused, and with the right one zeroes are the empty queue.
 use borrow.Author.Needs.{needs}
 use Rattle.timer_map.proofs.Ways.{new-broken, new-done}
 use Rattle.timer_map.proofs.timer_map_new.Statement.{statement}

@@ -1,3 +1,4 @@
+-- By cases on the test: a queue that passes is sound, so `pop_ok` answers; any other is broken and stays as it was.
 use borrow.Author.Needs.{needs}
 use Rattle.timer_map.proofs.Ways.{sound-asked, pop-asked, pop-broken}
 use Rattle.timer_map.proofs.timer_map_pop_before.Statement.{statement}

@@ -1,3 +1,4 @@
+-- The comparisons are the definition's, in its order, by computation.
 use mathlib.Core.Path.{refl}
 use Rattle.timer_map.specs.Entries.{timer-ok}
 use Rattle.timer_map.proofs.timer_ok.Statement.{statement}

@@ -1,3 +1,4 @@
+-- Zeroes behind the first n rows and the count n pack the first n entries, by `truncate-law`.
 use borrow.Author.Needs.{needs}
 use Rattle.timer_map.proofs.Pack.{truncate-law}
 use Rattle.timer_map.proofs.truncate_entries.Statement.{statement}

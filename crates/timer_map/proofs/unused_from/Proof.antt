@@ -1,3 +1,4 @@
+-- What `ok` says with the words still to come is the test of all words; the measure is how many are left.
 use Prim.Native.Nat.{_-_}
 use borrow.Author.Needs.{needs}
 use lib.ListN.{length, drop}

@@ -1,3 +1,4 @@
+-- By cases: the input is refused, its settings are, or the events run from the counters stored, in the smaller of both rooms.
 use mathlib.Core.Logic.{⊎-elim}
 use borrow.Author.Needs.{needs}
 use Rattle.trace_replay.proofs.Laws.{room-given, room-most, counters-stored, there, whole-refused, whole-run, ends-refused, ends-whole}

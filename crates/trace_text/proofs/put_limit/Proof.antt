@@ -1,3 +1,4 @@
+-- By cases on the kind of the limit, each of which has its own letter.
 use borrow.Author.Needs.{needs}
 use Rattle.trace_text.specs.Items.{ascii}
 use Rattle.trace_text.proofs.Laws.{limit-automatic, limit-requests, limit-recovery}

@@ -1,3 +1,4 @@
+-- By cases on the mark: data that is there is shown in hex, absent data as a dash.
 use borrow.Author.Needs.{needs}
 use Rattle.trace_text.specs.Items.{ascii}
 use Rattle.trace_text.proofs.Laws.{own-none, own-some}

@@ -1,3 +1,4 @@
+-- By cases on what the writer answered: the place reached, or the code of a full output.
 use borrow.Author.Needs.{needs}
 use Rattle.work.proofs.after_record.Statement.{statement}
 use Rattle.work.proofs.after_record.Tie as tie

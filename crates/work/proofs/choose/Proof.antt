@@ -1,3 +1,4 @@
+-- By the contracts of `pick_index` and `reach`: the draws up to the one that decided are taken, by `drew-one-of`.
 use Rattle.work.proofs.Any.{drew-one-of}
 use borrow.Author.Needs.{needs}
 use Rattle.work.proofs.choose.Statement.{statement}

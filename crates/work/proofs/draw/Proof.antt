@@ -1,3 +1,4 @@
+-- By the contract of `reach` one draw on; by cases on whether there is one, since `getD` past the end is 0.
 use Rattle.work.proofs.Any.{drew-one}
 use Rattle.work.proofs.Bridge.{getD-past}
 use borrow.Author.Needs.{needs}

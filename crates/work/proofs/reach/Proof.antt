@@ -1,3 +1,4 @@
+-- By cases: work that was refused passes on unchanged, too few draws refuse it, and otherwise the place is taken.
 use Rattle.work.proofs.Any.{reach-passed, reach-short, reach-next}
 use Rattle.work.proofs.reach.Statement.{statement}
 use Rattle.work.proofs.reach.Tie as tie

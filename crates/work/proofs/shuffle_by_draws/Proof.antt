@@ -1,3 +1,4 @@
+-- By the contracts of `shuffle` and `reach`: the draws that the shuffle used are taken, by `drew-shuffle`.
 use Rattle.work.proofs.Any.{drew-shuffle}
 use borrow.Author.Needs.{needs}
 use Rattle.work.proofs.shuffle_by_draws.Statement.{statement}

@@ -1,3 +1,4 @@
+-- Every condition of valid data holds of length 0 and zero bytes by computation.
 use mathlib.Core.Path.{refl}
 use Prim.Native.Nat.{zero-le}
 use Rattle.base_lists.specs.Lists.{choose}

@@ -1,3 +1,4 @@
+-- The nine answers of `within`, joined in the definition's order.
 use borrow.Author.Needs.{needs}
 use Rattle.base_timing.specs.Timing.{in-range}
 use Rattle.base_timing.proofs.Config.in_range.Statement.{statement}

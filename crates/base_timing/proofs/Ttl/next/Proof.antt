@@ -1,3 +1,4 @@
+-- By cases on 0: there it stays, and elsewhere one less is the definition.
 use mathlib.Core.Path.{refl}
 use borrow.Author.Needs.{needs}
 use Rattle.base_timing.specs.Timing.{next}

@@ -1,3 +1,4 @@
+-- With length 0 there is no node of which anything must hold; the rest computes.
 use mathlib.Core.Path.{refl}
 use Rattle.record_writer.specs.Nodes.{nodes-in}
 use Rattle.base_lists.specs.Array.{pad}

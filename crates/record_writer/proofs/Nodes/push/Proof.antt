@@ -1,3 +1,4 @@
+-- The node is stored at the first unused place and the length grows, which puts it at the end, by `pushed`.
 use Rattle.record_writer.proofs.Laws.{pushed}
 use borrow.Author.Needs.{needs}
 use Rattle.record_writer.proofs.Nodes.push.Statement.{statement}
