@@ -656,6 +656,31 @@ def peers_under():
     return lines + ["    refl" + ")" * len(lines)]
 
 
+# ---- the invariant of a station: a law for each part that changes
+
+INVARIANT = "crates/spec_hyparview/specs/Invariant.antt"
+
+
+def laws():
+    """Of the record `Law`, whose parameters are the parts of a station: one law for each field, that another value of its parts keeps the others."""
+    found = re.search(r"pub record Law ((?:\([^()]*(?:\([^()]*\)[^()]*)*\) )+): Type 0 where\n((?:  .*\n)+)", tool.read(tool.ROOT / INVARIANT))
+    if not found:
+        tool.fail(f"{INVARIANT}: no record Law")
+    groups = re.findall(r"\(([^:()]+) : ((?:[^()]|\([^()]*\))*)\)", found.group(1))
+    kinds = {name: kind for names, kind in groups for name in names.split()}
+    fields = re.findall(r"^  pub (\S+)-ok : (.*)$", found.group(2), re.M)
+    given = " ".join(f"{{{names} : {kind}}}" for names, kind in groups)
+    lines = [f"module _ {given}", f"    (h : Law {' '.join(kinds)}) where"]
+    for field, fact in fields:
+        changed = [word for word in fact.split()[1:] if word not in ("me", "top")]
+        new = dict(zip(changed, "vn"))
+        values = " ".join(f"{{{letter} : {kinds[word]}}}" for word, letter in new.items())
+        asked = " ".join(new.get(word, word) for word in fact.split())
+        lines += [f"  pub law-{field} : {values} → {asked} → Law {' '.join(new.get(word, word) for word in kinds)}", f"  law-{field} x = record {{"]
+        lines += [f"    {other}-ok = {'x' if other == field else f'h .{other}-ok'};" for other, _ in fields] + ["  }", ""]
+    return lines[:-1]
+
+
 # ---- the setters
 
 STATION = "crates/spec_hyparview/specs/Station.antt"
@@ -836,6 +861,7 @@ def main():
     state, rules, spec, where = "crates/hyparview_state/", "crates/hyparview_rules/", "crates/spec_hyparview/", "The places"
     made = {
         spec + "specs/Setters.antt": setters(),
+        spec + "proofs/Law.antt": between(spec + "proofs/Law.antt", SPEC, ("one part changed", laws())),
         state + "src/lib.rt": between(state + "src/lib.rt", CODE, (where, code())),
         state + "specs/Layout.antt": layout(),
         state + "specs/Unpack.antt": between(state + "specs/Unpack.antt", SPEC, ("the settings", settings()), ("the station of the numbers n and the sections s", station_of())),

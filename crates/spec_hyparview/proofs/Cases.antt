@@ -10,8 +10,8 @@ use Rattle.base_timing.specs.Timing.{default}
 use Rattle.base_timing.specs.declared.Config.{Config}
 use Rattle.base_peer.specs.Data.{Data}
 use Rattle.record.specs.Format.{encode}
-use Rattle.spec_hyparview.specs.Station.{Station, automatic}
-use Rattle.spec_hyparview.specs.Setters.{set-active, set-passive, set-requests, set-next-request, set-next-join, set-peer-data, set-refused, set-scheduled}
+use Rattle.spec_hyparview.specs.Station.{Station}
+use Rattle.spec_hyparview.specs.Setters.{set-active, set-passive, set-scheduled, set-next-interval, set-bootstrap, set-recent, set-requests, set-next-request, set-joins, set-next-join, set-peer-data, set-refused}
 use Rattle.spec_hyparview.specs.Run.{node, message, notice, data-notice}
 use Rattle.spec_hyparview.specs.Peers.{insert-peer-info}
 use Rattle.spec_hyparview.specs.Handle.{new, new-station, zero-station, start, handle}
@@ -42,27 +42,7 @@ listed =
 
 -- and the state that the call hands back
 unfoldable pub joining : Station
-joining = record {
-  me = 1;
-  own-data = none;
-  active = [];
-  passive = [];
-  config = default;
-  scheduled = true;
-  next-interval = 2000;
-  bootstrap = 7 ∷ [];
-  passes-alone = 0;
-  passes-short = 0;
-  recent = [];
-  requests = [];
-  next-request = 0;
-  joins = (7, 0) ∷ [];
-  next-join = 1;
-  peer-data = [];
-  alive = [];
-  refused = [];
-  refill = automatic;
-}
+joining = set-scheduled true (set-next-interval 2000 (set-bootstrap (7 ∷ []) (set-joins ((7, 0) ∷ []) (set-next-join 1 fresh))))
 
 -- the listing, in a room that it fills
 pub listing : handle fresh request-join-7 (0 ∷ []) 140 ≡ record { code = 0; state = joining; used = 1; output = listed }
@@ -84,27 +64,7 @@ welcomed =
     ∷ 0 ∷ 0 ∷ 32 ∷ 0 ∷ 0 ∷ 0 ∷ 0 ∷ 0 ∷ 0 ∷ 0 ∷ 0 ∷ 0 ∷ []
 
 unfoldable pub joined : Station
-joined = record {
-  me = 1;
-  own-data = none;
-  active = 7 ∷ [];
-  passive = [];
-  config = default;
-  scheduled = true;
-  next-interval = 2000;
-  bootstrap = 7 ∷ [];
-  passes-alone = 0;
-  passes-short = 0;
-  recent = 7 ∷ [];
-  requests = (7, 0) ∷ [];
-  next-request = 1;
-  joins = [];
-  next-join = 1;
-  peer-data = [];
-  alive = [];
-  refused = [];
-  refill = automatic;
-}
+joined = set-active (7 ∷ []) (set-recent (7 ∷ []) (set-requests ((7, 0) ∷ []) (set-next-request 1 (set-joins [] joining))))
 
 -- the next event: 7 becomes a neighbour and is answered, and zeroes follow the records
 pub second : handle joining neighbor-7 [] 112 ≡ record { code = 0; state = joined; used = 0; output = welcomed ++ (0 ∷ 0 ∷ 0 ∷ 0 ∷ []) }
