@@ -277,7 +277,8 @@ def between(path, mark, *blocks):
         end = f"{head[head.rfind(chr(10)) + 1 :]}{opening} end{closing}\n"
         if not found or begin in rest or end not in rest:
             tool.fail(f"{path}: no lines between which this tool writes: {begin.strip()}")
-        gap = "\n" if mark == SPEC and " : " in lines[0] and not lines[0].startswith("  pub") or lines[0].startswith(("unfoldable", "module", "abbrev")) else ""
+        defines = mark == SPEC and (lines[0].startswith("module") or " : " in lines[0] and not lines[0].startswith("  pub"))
+        gap = "\n" if defines else ""
         text = head + begin + "".join(f"{line}\n" for line in lines) + gap + rest[rest.index(end) :]
     return text
 
@@ -356,7 +357,7 @@ def cuts():
 
 # ---- the rules: the test of the words and the words of a station
 
-# the laws of each kind of section: the test says that it is well formed, and the other way; the words of a list hold it; as many words as the list needs; the words of what they hold
+# the laws of each kind of section: the test says that it is well formed, and the other way; its words are those of the list that they hold
 TRUE = {"set": "valid-set-true", "numbers": "valid-numbers-true", "data": "valid-words-true"}
 TRUE_BACK = {"set": "true-valid-set", "numbers": "true-valid-numbers", "data": "true-valid-words"}
 BACK = {"set": "set-words", "numbers": "numbers-words", "data": "data-words"}
