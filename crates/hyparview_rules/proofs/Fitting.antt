@@ -18,9 +18,9 @@ use Rattle.base_lists.proofs.Count.{mem-true, length-without}
 use Rattle.base_lists.proofs.Maps.{length-keys}
 use Rattle.base_lists.proofs.Tests.{both-true, and-no, rising-true}
 use Rattle.base_lists.proofs.Zip.{length-values}
-use Rattle.base_util.specs.Section.{items-at, ValidSet, section}
+use Rattle.base_util.specs.Section.{items-at, section}
 use Rattle.base_util.proofs.Sets.{section-holds}
-use Rattle.base_columns.specs.Columns.{words-end, word-bytes, numbers-at, ValidNumbers, numbers-section, low-word, high-word, data-map-at, ValidDataWords, data-section}
+use Rattle.base_columns.specs.Columns.{words-end, word-bytes, numbers-at, numbers-section, low-word, high-word, data-map-at, data-section}
 use Rattle.base_peer.specs.declared.PeerData.{PeerData}
 use Rattle.base_peer.specs.Data.{Data, bytes-of}
 use Rattle.base_peer.specs.Held.{data-in, ValidData}

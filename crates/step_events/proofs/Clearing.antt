@@ -1,13 +1,13 @@
 -- The words after Quit: five sections emptied one after another, as the definition names them.
 -- Assumes nothing.
-use Prim.Native.Nat.{ℕ, _≤_}
+use Prim.Native.Nat.{ℕ}
 use mathlib.Core.Path.{_≡_, refl}
 use mathlib.Core.List.{List, []}
 use native.Mathlib.Omega.{arith}
-use lib.ListN.{length, take, drop}
+use lib.ListN.{length}
 use borrow.Rule.Slice.PartMut.{putMid}
 use Rattle.base_lists.specs.Array.{pad}
-use Rattle.base_util.specs.Section.{part, HoldsSet}
+use Rattle.base_util.specs.Section.{HoldsSet}
 use Rattle.base_util.proofs.Parts.{part-long}
 use Rattle.base_columns.specs.Columns.{HoldsNumbers, HoldsDataWords}
 use Rattle.base_columns.proofs.Sections.{numbers-cleared, data-cleared}
