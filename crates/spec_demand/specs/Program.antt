@@ -77,7 +77,7 @@ Every-message-counted = Counts-of program
 abbrev pub Shuffles-timed : Type 0
 Shuffles-timed = Timed-of program
 
--- S-1 of document 02: the timers of an accepted output are never answered 3 by its timer queue
+-- S-1 of document 02: the timers of an accepted output are never answered 3 by its timer queue, whatever the words are
 abbrev pub Timers-taken : Type 0
 Timers-taken = Timers-taken-of program
 

@@ -23,7 +23,6 @@ use Rattle.tally.specs.Sum.{total}
 use Rattle.tally.specs.History.{no-messages, tally-after}
 use Rattle.shuffle_times.specs.Histories.{Brought, set-by, shuffles-due, counts, start-of, fires, is-first, on-time, punctual, every-timer-fires, timer-kinds}
 use Rattle.shuffle_times.proofs.Carried.{timed-carried}
-use Rattle.timer_events.proofs.Accepted as accepted
 use Rattle.hyparview_state.specs.Unpack.{unpack}
 use Rattle.hyparview_rules.specs.Ok.{state-ok}
 use Rattle.controller.specs.Calls.{with-tally, begun, tallied, called}
@@ -134,9 +133,6 @@ shuffles-timed me g c t z =
     let start = c-calls .new-state me g c in
     timed-carried (λ vs. shuffles-follow vs start) (λ vs. start-follows vs start) (λ vs. on-time-follows vs start []) (λ vs. every-follows vs start) c (P.shuffles-timed me (lent-by g) c t z)
 
-pub timers-taken : M.Timers-taken
-timers-taken me g c t z vs n = accepted.timers-taken c-calls vs _ (outputs-read-back me g c t z vs n)
-
 -- One call: the tally stands beside the answer, and changes neither code nor draws.
 pub enough-lent : M.Enough-lent
 unfolding memory-outcome D.program-outcome called tallied
@@ -147,6 +143,10 @@ enough-lent x ok v =
 pub never-one : M.Never-one
 unfolding memory-outcome D.program-outcome called tallied
 never-one x v e = P.never-one (x .words) v e
+
+pub timers-taken : M.Timers-taken
+unfolding memory-outcome D.program-outcome called tallied
+timers-taken x v n z = P.timers-taken (x .words) v n z
 
 pub never-eight : M.Never-eight
 unfolding memory-outcome D.program-outcome called tallied

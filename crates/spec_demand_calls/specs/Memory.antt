@@ -94,7 +94,7 @@ Every-message-counted =
 abbrev pub Shuffles-timed : Type 0
 Shuffles-timed = Timed-of c-calls
 
--- S-1 of document 02: the timers of an accepted output are never answered 3 by `timer_map_insert_records`, whatever the queue's words are
+-- S-1 of document 02: the timers of an accepted output are never answered 3 by `timer_map_insert_records`, whatever the words, the tally and the queue's words are
 abbrev pub Timers-taken : Type 0
 Timers-taken = Timers-taken-of c-calls
 

@@ -22,8 +22,6 @@ use Rattle.record.proofs.Format.{length-encode}
 use Rattle.record.proofs.Forth.{header-read, well-formed-encode}
 use Rattle.record.proofs.Walk.{whole-is, records-written, records-zeros}
 use Rattle.spec_hyparview.specs.Written.{encode-all, WrittenOut}
-use Rattle.spec_history.specs.Calls.{Call, Machine, state-of}
-use Rattle.spec_history.specs.Outputs.{OutputsRead}
 use Rattle.spec_history.proofs.Outputs.{form-small}
 use Rattle.timer_map.specs.Entries.{Put, timer-ok, insert-timer}
 use Rattle.timer_map.specs.Words.{entries-of, queue-ok}
@@ -34,7 +32,7 @@ use Rattle.timer_events.specs.declared.ScheduleTimer.{ScheduleTimer}
 use Rattle.timer_events.specs.Records.{started, started-by, schedule-of, timer-of, timers-in, insert-all, all-or-none, insert-records, records-inserted}
 use Rattle.timer_events.specs.Events.{Taken, event-popped, event-taken}
 use Rattle.timer_events.specs.History.{queue-answered, reply-code}
-use Rattle.timer_events.specs.Claims.{Events-never-malformed, NotMalformed, TimersTaken}
+use Rattle.timer_events.specs.Claims.{Events-never-malformed, NotMalformed}
 use Rattle.timer_events.proofs.Events.{said}
 use Rattle.timer_events.proofs.RoundTrip.{Plain, plain}
 
@@ -126,12 +124,6 @@ written-taken out w time ws =
     by-choice (λ (p : PutWords). Other (p .code)) (queue-ok ws)
     (λ t. records-in-queue time out (entries-of ws) (subst (λ (l : List ℕ). All Ok (timers-in l)) (sym (w .bytes)) (all-timers (w .records) (w .zeros) (w .in-form))))
     (λ t z. omega (arith, z))
-
--- Of any machine whose outputs are read back.
-pub timers-taken : {G S : Type 0} (m : Machine G S) (vs : List Call) (s : S) → OutputsRead m vs s → TimersTaken m vs s
-unfolding OutputsRead TimersTaken
-timers-taken m [] s o = tt
-timers-taken m (v ∷ vs) s o = ((λ z. written-taken _ (o .0 z .written)), timers-taken m vs (state-of m v s) (o .1))
 
 -- ---- taking events out
 

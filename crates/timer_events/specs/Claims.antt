@@ -3,14 +3,15 @@
 use Prim.Native.Nat.{ℕ, _<_}
 use mathlib.Core.Path.{_≡_}
 use mathlib.Core.Bool.{true, false}
-use mathlib.Core.List.{List, [], _∷_}
+use mathlib.Core.List.{List, []}
 use lib.ListN.{length, getD, replicate}
 use Rattle.base_lists.specs.Lists.{mem}
 use Rattle.record.specs.Format.{Rec, encode}
 use Rattle.record.specs.Read as R
 use Rattle.record.specs.Read.{header-of, is-timer, well-formed, rec-of, read-event}
+use Rattle.spec_hyparview.specs.Station.{draws-end}
 use Rattle.spec_hyparview.specs.Rules.{all-under}
-use Rattle.spec_history.specs.Calls.{Call, narrow-draws, Machine, After-new, code-of, state-of, output-of}
+use Rattle.spec_history.specs.Calls.{Call, Machine, code-of, output-of}
 use Rattle.record_writer.specs.Write.{written}
 use Rattle.timer_map.specs.Entries.{timer-ok, no-queue-entry}
 use Rattle.timer_map.specs.Words.{pack-queue}
@@ -81,15 +82,10 @@ Event-comes-back =
 abbrev pub Events-never-malformed : Type 0
 Events-never-malformed = (limit : ℕ) (out ws : List ℕ) → reply-code (queue-answered (pop-event limit out) ws .reply) ≡ 3 → ⊥
 
--- at any time and words the timers of what this call wrote are not answered 3
+-- at any time and words the timers of this output are not answered 3
 abbrev pub NotMalformed : List ℕ → Type 0
 NotMalformed out = (time : ℕ) (ws : List ℕ) → reply-code (queue-answered (insert-records time out) ws .reply) ≡ 3 → ⊥
 
--- of every accepted one of the calls to a machine
-unfoldable pub TimersTaken : {G S : Type 0} → Machine G S → List Call → S → Type 0
-TimersTaken m [] s = Unit {0}
-TimersTaken m (v ∷ vs) s = (code-of m v s ≡ 0 → NotMalformed (output-of m v s)) × TimersTaken m vs (state-of m v s)
-
--- of every list of calls to a new station; draws have 32 bits by their type
+-- of every accepted call to a machine, whatever its state is; draws have 32 bits by their type
 abbrev pub Timers-taken-of : {G S : Type 0} → Machine G S → Type 0
-Timers-taken-of m = After-new m (λ me c s. (vs : List Call) → narrow-draws vs ≡ true → TimersTaken m vs s)
+Timers-taken-of {S = S} m = (s : S) (v : Call) → all-under draws-end (v .draws) ≡ true → code-of m v s ≡ 0 → NotMalformed (output-of m v s)
