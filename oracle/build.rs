@@ -86,6 +86,24 @@ fn membership() -> Vec<Substitution> {
 /// unless a run asks for the file as it is.
 fn broadcast() -> Vec<Substitution> {
     let file = "plumtree.rs";
+    let changed = [
+        all(
+            file,
+            "&sender, &grafted, io",
+            "&sender, limits::skipped(&grafted), io",
+            1,
+        ),
+        all(file, "#[cfg(test)]", CHECKED, 2),
+    ];
+    [imports(file), limits(file)]
+        .into_iter()
+        .flatten()
+        .chain(changed)
+        .collect()
+}
+
+/// The set and the caches of plumtree.rs that have limits.
+fn imports(file: &str) -> Vec<Substitution> {
     vec![
         all(
             file,
@@ -105,40 +123,29 @@ fn broadcast() -> Vec<Substitution> {
             "use bytes::Bytes; use crate::limits::{self, HashSet, TimeBoundCache};",
             1,
         ),
-        all(
-            file,
+    ]
+}
+
+/// Announcements in all, and peers in both sets together, are counted where one is added.
+fn limits(file: &str) -> Vec<Substitution> {
+    let before = |from: &str, test: &str| all(file, from, &format!("{test} {from}"), 1);
+    vec![
+        before(
             "let announcers = self.missing_messages.entry(ihave.id)",
-            "let announced = self.missing_messages.values().map(VecDeque::len).sum(); \
-             let announcers = self.missing_messages.entry(ihave.id)",
-            1,
+            "let announced = self.missing_messages.values().map(VecDeque::len).sum();",
         ),
-        all(
-            file,
+        before(
             "announcers.push_back(",
-            "limits::require(announced, limits::LIST); announcers.push_back(",
-            1,
+            "limits::require(announced, limits::LIST);",
         ),
-        all(
-            file,
+        before(
             "self.lazy_push_queue.entry(*peer).or_default().push(",
-            "limits::require(self.lazy_push_queue.values().map(Vec::len).sum(), limits::LIST); \
-             self.lazy_push_queue.entry(*peer).or_default().push(",
-            1,
+            "limits::require(self.lazy_push_queue.values().map(Vec::len).sum(), limits::LIST);",
         ),
-        all(
-            file,
+        before(
             "self.eager_push_peers.insert(peer);",
-            "limits::require_peer(&self.eager_push_peers, &self.lazy_push_peers, &peer); \
-             self.eager_push_peers.insert(peer);",
-            1,
+            "limits::require_peer(&self.eager_push_peers, &self.lazy_push_peers, &peer);",
         ),
-        all(
-            file,
-            "&sender, &grafted, io",
-            "&sender, limits::skipped(&grafted), io",
-            1,
-        ),
-        all(file, "#[cfg(test)]", CHECKED, 2),
     ]
 }
 

@@ -196,48 +196,49 @@ fn the_state_line() {
 /// A change of a state, and the rule that it breaks.
 type Damage = (fn(&mut Parts), &'static str);
 
+const DAMAGES: [Damage; 10] = [
+    (|parts| parts.lazy.push(2), "no peer both eager and lazy"),
+    (
+        |parts| parts.queued.push((9, Id([0; 32]), 0)),
+        "queued announcements are for peers",
+    ),
+    (
+        |parts| parts.unannounced = 1,
+        "a missing message has an announcer",
+    ),
+    (|parts| parts.timers = vec![Id([0; 32]); 65], "64 entries"),
+    (|parts| parts.lazy = (10..18).collect(), "eight peers"),
+    (
+        |parts| parts.cache[0].body = vec![0; 257],
+        "bodies of 256 bytes",
+    ),
+    (
+        |parts| parts.announced.push((Id([0; 32]), 9, 0)),
+        "announcers are peers",
+    ),
+    (
+        |parts| parts.grafted[0].peers.push((9, 0)),
+        "grafted peers are peers",
+    ),
+    (
+        |parts| parts.received[0].1 += 1,
+        "cached ids are received, at one time",
+    ),
+    (
+        |parts| {
+            parts.queued.push((2, Id([0; 32]), 0));
+            parts.dispatch = false;
+        },
+        "a queue only while its timer runs",
+    ),
+];
+
 #[test]
 fn each_damaged_state_breaks_its_rule() {
     let (_, station) = case("faster_peer_kept");
     let whole = station.gossip();
     assert_eq!(failing(&claims::rules(&whole)), [""; 0]);
-    let damages: [Damage; 10] = [
-        (|parts| parts.lazy.push(2), "no peer both eager and lazy"),
-        (
-            |parts| parts.queued.push((9, Id([0; 32]), 0)),
-            "queued announcements are for peers",
-        ),
-        (
-            |parts| parts.unannounced = 1,
-            "a missing message has an announcer",
-        ),
-        (|parts| parts.timers = vec![Id([0; 32]); 65], "64 entries"),
-        (|parts| parts.lazy = (10..18).collect(), "eight peers"),
-        (
-            |parts| parts.cache[0].body = vec![0; 257],
-            "bodies of 256 bytes",
-        ),
-        (
-            |parts| parts.announced.push((Id([0; 32]), 9, 0)),
-            "announcers are peers",
-        ),
-        (
-            |parts| parts.grafted[0].peers.push((9, 0)),
-            "grafted peers are peers",
-        ),
-        (
-            |parts| parts.received[0].1 += 1,
-            "cached ids are received, at one time",
-        ),
-        (
-            |parts| {
-                parts.queued.push((2, Id([0; 32]), 0));
-                parts.dispatch = false;
-            },
-            "a queue only while its timer runs",
-        ),
-    ];
-    for (damage, rule) in damages {
+    for (damage, rule) in DAMAGES {
         let mut parts = whole.clone();
         damage(&mut parts);
         assert!(failing(&claims::rules(&parts)).contains(&rule), "{rule}");

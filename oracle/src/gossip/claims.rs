@@ -25,19 +25,27 @@ pub struct Step<'a> {
     pub after: &'a Parts,
 }
 
-/// The station rules of a state: S-7's three, its limits, and four more that hold of every state met.
-pub fn rules(parts: &Parts) -> [Claim; 10] {
-    let lengths = [
-        parts.received.len(),
-        parts.cache.len(),
-        parts.announced.len(),
-        parts.queued.len(),
-        parts.timers.len(),
-        parts.grafted.len(),
+/// The station rules of a state, and two facts more that hold of every state met.
+pub fn rules(parts: &Parts) -> Vec<Claim> {
+    let received = |id: &Id, time: u64| parts.received.contains(&(*id, time));
+    let mut cached = parts.cache.iter();
+    let met = [
+        (
+            "cached ids are received, at one time",
+            cached.all(|cached| received(&cached.id, cached.time)),
+        ),
+        (
+            "a queue only while its timer runs",
+            parts.queued.is_empty() || parts.dispatch,
+        ),
     ];
+    [&peer_rules(parts)[..], &limits(parts), &met].concat()
+}
+
+/// S-7's three, and that who announced a message or was asked for one is a peer.
+fn peer_rules(parts: &Parts) -> [Claim; 5] {
     let is_peer = |peer: &Peer| parts.is_peer(*peer);
     let mut asked = parts.grafted.iter().flat_map(|grafted| &grafted.peers);
-    let received = |id: &Id, time: u64| parts.received.contains(&(*id, time));
     [
         (
             "no peer both eager and lazy",
@@ -49,15 +57,6 @@ pub fn rules(parts: &Parts) -> [Claim; 10] {
         ),
         ("a missing message has an announcer", parts.unannounced == 0),
         (
-            "64 entries",
-            lengths.into_iter().all(|length| length <= LIST),
-        ),
-        ("eight peers", parts.eager.len() + parts.lazy.len() <= PEERS),
-        (
-            "bodies of 256 bytes",
-            parts.cache.iter().all(|cached| cached.body.len() <= BODY),
-        ),
-        (
             "announcers are peers",
             parts.announced.iter().all(|(_, peer, _)| is_peer(peer)),
         ),
@@ -65,16 +64,25 @@ pub fn rules(parts: &Parts) -> [Claim; 10] {
             "grafted peers are peers",
             asked.all(|(peer, _)| is_peer(peer)),
         ),
+    ]
+}
+
+fn limits(parts: &Parts) -> [Claim; 3] {
+    let lengths = [
+        parts.received.len(),
+        parts.cache.len(),
+        parts.announced.len(),
+        parts.queued.len(),
+        parts.timers.len(),
+        parts.grafted.len(),
+    ];
+    let mut lengths = lengths.into_iter();
+    [
+        ("64 entries", lengths.all(|length| length <= LIST)),
+        ("eight peers", parts.eager.len() + parts.lazy.len() <= PEERS),
         (
-            "cached ids are received, at one time",
-            parts
-                .cache
-                .iter()
-                .all(|cached| received(&cached.id, cached.time)),
-        ),
-        (
-            "a queue only while its timer runs",
-            parts.queued.is_empty() || parts.dispatch,
+            "bodies of 256 bytes",
+            parts.cache.iter().all(|cached| cached.body.len() <= BODY),
         ),
     ]
 }
