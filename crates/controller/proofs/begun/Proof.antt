@@ -1,3 +1,4 @@
+-- By cases of `new`'s code: where it refuses the number of words the tally stays, and with any other code it is zeroes.
 use Rattle.controller.proofs.Laws.{begun-kept, begun-zeroes}
 use borrow.Author.Needs.{needs}
 use Rattle.controller.proofs.begun.Statement.{statement}

@@ -1,3 +1,4 @@
+-- By cases of what `read` answers: a place below the record's count is its node, one past it and malformed bytes have none.
 use Rattle.controller.proofs.Reader.{node-room, node-there, node-past, node-nothing}
 use borrow.Author.Needs.{needs}
 use Rattle.controller.proofs.hyparview_node.Statement.{statement}

@@ -1,3 +1,4 @@
+-- By cases of what `read` answers: a record's header as it was read, or zeroes where the bytes are malformed.
 use Rattle.controller.proofs.Reader.{read-record, read-nothing}
 use borrow.Author.Needs.{needs}
 use Rattle.controller.proofs.hyparview_read.Statement.{statement}

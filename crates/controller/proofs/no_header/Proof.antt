@@ -1,3 +1,4 @@
+-- The header of zeroes is the definition's, unfolded.
 use mathlib.Core.Path.{refl}
 use Rattle.controller.specs.Reader.{no-header}
 use Rattle.controller.proofs.no_header.Statement.{statement}

@@ -1,3 +1,4 @@
+-- The tally of zeroes is the definition's, unfolded.
 use mathlib.Core.Path.{refl}
 use Rattle.tally.specs.History.{no-messages}
 use Rattle.controller.proofs.no_messages.Statement.{statement}

@@ -1,3 +1,4 @@
+-- The answer of zeroes is the definition's, unfolded.
 use mathlib.Core.Path.{refl}
 use Rattle.controller.specs.Reader.{no-entry}
 use Rattle.controller.proofs.no_node.Statement.{statement}

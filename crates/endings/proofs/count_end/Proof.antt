@@ -1,3 +1,4 @@
+-- The sizes are those of the two queries, each count is one more where its sizes are met, and the room left keeps every sum within its word.
 use borrow.Author.Needs.{needs}
 use Rattle.endings.proofs.Counts.{counted}
 use Rattle.endings.proofs.count_end.Statement.{statement}

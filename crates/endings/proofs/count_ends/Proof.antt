@@ -1,3 +1,4 @@
+-- The sum is the fold over all histories shorter than n, and each turn adds those of length n. The measure is the lengths left.
 use borrow.Author.Needs.{needs}
 use Prim.Native.Nat.{_-_}
 use Rattle.endings.proofs.Counts.{Counting, counting-start, counting-room, counting-next}

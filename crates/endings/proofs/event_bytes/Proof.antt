@@ -1,3 +1,4 @@
+-- Every event has a node at most, so the writer finds room: the bytes written are the record's, and the case of no room is impossible.
 use borrow.Author.Needs.{needs}
 use Rattle.endings.proofs.Events.{few-bytes, the-bytes, full-never}
 use Rattle.endings.proofs.event_bytes.Statement.{statement}

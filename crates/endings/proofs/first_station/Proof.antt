@@ -1,3 +1,4 @@
+-- The settings made are the definition's own, so `new` by value gives its first state.
 use borrow.Author.Needs.{needs}
 use Rattle.endings.proofs.Events.{begins}
 use Rattle.endings.proofs.first_station.Statement.{statement}

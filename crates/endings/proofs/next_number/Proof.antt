@@ -1,3 +1,4 @@
+-- The number is the definition's, unfolded; a remainder is below its divisor, and the sum before it fits.
 use borrow.Author.Needs.{needs}
 use mathlib.Core.Path.{refl}
 use native.Mathlib.Omega.{arith}

@@ -1,3 +1,4 @@
+-- By cases of the test: 1 or 0, and neither is above 1.
 use Rattle.base_lists.specs.Lists.{choose}
 use native.Mathlib.Omega.{arith}
 use Rattle.endings.proofs.one_if.Statement.{statement}

@@ -1,3 +1,4 @@
+-- The bytes cut off at the event's length are its record, so `handle` by value is the definition's step with draws of 0.
 use borrow.Author.Needs.{needs}
 use Rattle.endings.proofs.Events.{plays, cut-length}
 use Rattle.endings.proofs.play.Statement.{statement}

@@ -1,3 +1,4 @@
+-- What `write_bare` writes of these fields is the record without nodes, unfolded.
 use borrow.Author.Needs.{needs}
 use Rattle.record_writer.specs.Write.{rec-in}
 use Rattle.endings.proofs.put_bare.Statement.{statement}

@@ -1,3 +1,4 @@
+-- By cases of the place: the first seven are of peer 2, the next seven of peer 3, then maintenance and Quit.
 use borrow.Author.Needs.{needs}
 use Rattle.endings.proofs.Events.{of-two, of-three, at-14, at-15}
 use Rattle.endings.proofs.put_event_at.Statement.{statement}

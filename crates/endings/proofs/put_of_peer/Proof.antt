@@ -1,3 +1,4 @@
+-- By cases of the place, one law for each of the seven events of a peer.
 use borrow.Author.Needs.{needs}
 use Rattle.endings.proofs.Events.{at-0, at-1, at-2, at-3, at-4, at-5, at-6}
 use Rattle.endings.proofs.put_of_peer.Statement.{statement}

@@ -1,3 +1,4 @@
+-- Absent data is a node's without data, so what `write_one` writes is the record of that one node.
 use borrow.Author.Needs.{needs}
 use Rattle.endings.proofs.Events.{wrote-one}
 use Rattle.endings.proofs.put_one.Statement.{statement}

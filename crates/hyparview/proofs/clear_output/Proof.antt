@@ -1,3 +1,4 @@
+-- The first i bytes are the old ones up to `from` and zeroes after them. The measure is what is left.
 use Prim.Native.Nat.{_-_}
 use lib.ListN.{length}
 use Rattle.hyparview.proofs.Copies.{Clearing, clear-start, clear-next, clear-end}

@@ -1,3 +1,4 @@
+-- The first i words of both lists are the same. The measure is what is left.
 use Prim.Native.Nat.{_-_}
 use lib.ListN.{length}
 use Rattle.hyparview.proofs.Copies.{Copying, copy-start, copy-next, copy-end}

@@ -1,3 +1,4 @@
+-- Valid own data is its two words, and the interval the shorter of two, so the list is the front of a new station, in the layout's order.
 use Rattle.hyparview.proofs.Making.{numbers-are}
 use borrow.Author.Needs.{needs}
 use Rattle.hyparview.proofs.first_numbers.Statement.{statement}

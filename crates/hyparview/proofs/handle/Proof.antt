@@ -1,3 +1,4 @@
+-- By cases: broken words, an unread event, a step refused, whose words are put back from the copy, and one accepted, whose output ends in zeroes.
 use Prim.Native.Nat.{_<_}
 use mathlib.Core.Path.{_≡_, ap}
 use mathlib.Core.Bool.{true}

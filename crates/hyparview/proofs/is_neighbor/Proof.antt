@@ -1,3 +1,4 @@
+-- By cases: words that keep the rules are packed, so `in_active` answers; by any others nobody is a neighbor.
 use Rattle.hyparview.proofs.Asked.{ok-packed, ok-long, met, met-not}
 use borrow.Author.Needs.{needs}
 use Rattle.hyparview.proofs.is_neighbor.Statement.{statement}

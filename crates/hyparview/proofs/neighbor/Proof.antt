@@ -1,3 +1,4 @@
+-- By cases: words that keep the rules are packed, so a place below the count is read; one past it, and any other words, give 0.
 use Rattle.hyparview.proofs.Asked.{ok-packed, ok-room, past-last, named, named-none}
 use Rattle.base_util.specs.Section.{part}
 use Rattle.hyparview_state.proofs.Access.{of-packed}

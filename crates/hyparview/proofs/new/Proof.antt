@@ -1,3 +1,4 @@
+-- By cases: another length touches nothing; else the words are zeroed, and the numbers go in front only where settings and own data are in range.
 use Prim.Native.Nat.{ℕ}
 use mathlib.Core.Path.{_≡_, _∙_}
 use mathlib.Core.List.{[]}

@@ -1,3 +1,4 @@
+-- Clearing the output from 0 on leaves zeroes only, which is the refusal's output.
 use borrow.Author.Needs.{needs}
 use Rattle.hyparview.proofs.Laws.{all-zero}
 use Rattle.hyparview.proofs.refuse.Statement.{statement}

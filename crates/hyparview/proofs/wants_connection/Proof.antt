@@ -1,3 +1,4 @@
+-- By cases: words that keep the rules are packed, so the three lists answer; by any others no connection is wanted.
 use Rattle.hyparview.proofs.Asked.{ok-packed, ok-long, ok-room, wanted-is, wanted, wanted-not}
 use Rattle.base_util.specs.Section.{part}
 use Rattle.hyparview_state.proofs.Access.{of-packed}

@@ -1,3 +1,4 @@
+-- By cases: another length and words that are not packed break a rule; of packed words each test is its rule, and all of them are the definition's.
 use mathlib.Core.Path.{_≡_}
 use mathlib.Core.Bool.{true}
 use Rattle.base_util.specs.Section.{part}

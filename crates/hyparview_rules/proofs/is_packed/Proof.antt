@@ -1,3 +1,4 @@
+-- The tests of words, own data and sections are together the definition's, whose test of the length holds by the condition.
 use native.Mathlib.Omega.{arith}
 use Rattle.hyparview_rules.proofs.Under.{packed-is}
 use borrow.Author.Needs.{needs}

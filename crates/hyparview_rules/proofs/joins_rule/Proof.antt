@@ -1,3 +1,4 @@
+-- Counts of packed words are within their places, so the parts lent are the lists; with no join open the rule holds of itself.
 use Rattle.base_util.specs.Section.{part}
 use Rattle.hyparview_rules.proofs.Held.{few-joins, few-bootstrap, few-active, none-joined, joins-are}
 use borrow.Author.Needs.{needs}

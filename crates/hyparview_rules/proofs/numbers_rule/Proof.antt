@@ -1,3 +1,4 @@
+-- Packed words have well formed maps, so both tests of the numbers are the definition's, unfolded.
 use Rattle.hyparview_rules.proofs.Shape.{of-ok}
 use Rattle.base_util.specs.Section.{part}
 use Rattle.hyparview_state.specs.Unpack.{unpack, station-of}

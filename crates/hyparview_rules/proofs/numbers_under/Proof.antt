@@ -1,3 +1,4 @@
+-- What was found so far, and the test of the numbers left, is the whole answer. The measure is the numbers left.
 use Prim.Native.Nat.{_-_}
 use lib.ListN.{length}
 use Rattle.base_lists.proofs.Rest.{Rest}

@@ -1,3 +1,4 @@
+-- Each test of a word is that of its setting, and all of them are the definition's range.
 use Rattle.hyparview_rules.proofs.Held.{settings-are}
 use borrow.Author.Needs.{needs}
 use Rattle.hyparview_rules.proofs.settings_rule.Statement.{statement}

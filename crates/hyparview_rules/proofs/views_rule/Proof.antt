@@ -1,3 +1,4 @@
+-- Counts of packed words are within their places, so the parts lent are the lists, and the five tests are the three rules.
 use Rattle.base_util.specs.Section.{part}
 use Rattle.hyparview_rules.proofs.Shape.{ok-active, ok-passive, ok-requests, ok-peer-data}
 use Rattle.hyparview_rules.proofs.Held.{few-active, few-passive, few-alive, views-are}

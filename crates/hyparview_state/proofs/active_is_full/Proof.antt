@@ -1,3 +1,4 @@
+-- The section's count is the active view's length, so the test of the two words is the definition's.
 use Rattle.hyparview_state.proofs.Counts.{active-full}
 use borrow.Author.Needs.{needs}
 use Rattle.hyparview_state.proofs.active_is_full.Statement.{statement}

@@ -1,3 +1,4 @@
+-- The two steps, one after the other, are the definition's sequence.
 use mathlib.Core.Path.{refl}
 use Rattle.spec_hyparview.specs.Messages.{drop-pending}
 use Rattle.hyparview_state.proofs.Bridge.{change-then}

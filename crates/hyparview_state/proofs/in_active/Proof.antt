@@ -1,3 +1,4 @@
+-- Packed words have a well formed section, and the view is read from it, so `contains` answers for the view.
 use Rattle.base_util.specs.Section.{part}
 use Rattle.spec_hyparview.specs.Station.{in-active}
 use Rattle.hyparview_state.specs.Unpack.{unpack, station-of}

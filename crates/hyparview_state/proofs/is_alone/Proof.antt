@@ -1,3 +1,4 @@
+-- The section's count is the active view's length, so it is 0 just where the view is empty.
 use Rattle.hyparview_state.proofs.Counts.{alone}
 use borrow.Author.Needs.{needs}
 use Rattle.hyparview_state.proofs.is_alone.Statement.{statement}

@@ -1,3 +1,4 @@
+-- The section's count is the active view's length, so the test of the word is the definition's.
 use Rattle.hyparview_state.proofs.Counts.{last-hop}
 use borrow.Author.Needs.{needs}
 use Rattle.hyparview_state.proofs.is_last_hop.Statement.{statement}

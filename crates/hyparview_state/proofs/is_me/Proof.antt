@@ -1,3 +1,4 @@
+-- The station's own number is the first word, unfolded.
 use mathlib.Core.Path.{refl}
 use Rattle.spec_hyparview.specs.Station.{is-me}
 use Rattle.hyparview_state.specs.Unpack.{unpack, station-of}

@@ -1,3 +1,4 @@
+-- Packed words have a well formed section, and the requests are read from it, so `contains_number` answers for the map.
 use Rattle.base_lists.specs.Maps.{has}
 use Rattle.spec_hyparview.specs.Station.{is-requested}
 use Rattle.hyparview_state.specs.Unpack.{unpack, station-of}

@@ -1,3 +1,4 @@
+-- The section's count is the active view's length, and a capacity of packed words is at most 8, so the sum fits.
 use native.Mathlib.Omega.{arith}
 use Rattle.hyparview_state.proofs.Counts.{short}
 use Rattle.hyparview_state.proofs.Access.{of-capacity}

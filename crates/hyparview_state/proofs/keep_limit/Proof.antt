@@ -1,3 +1,4 @@
+-- By cases of the three limits: the two words written are read back as that limit, and all else stays.
 use Rattle.hyparview_state.proofs.Limits.{kept-automatic, kept-requests, kept-recovery}
 use borrow.Author.Needs.{needs}
 use Rattle.hyparview_state.proofs.keep_limit.Statement.{statement}

@@ -1,3 +1,4 @@
+-- By cases of the word of the kind: the two words are read as one of the three limits.
 use Rattle.hyparview_state.proofs.Memory.{limit-automatic, limit-requests, limit-recovery}
 use borrow.Author.Needs.{needs}
 use Rattle.hyparview_state.proofs.limit_of.Statement.{statement}

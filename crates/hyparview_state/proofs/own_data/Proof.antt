@@ -1,3 +1,4 @@
+-- Packed words have a length of own data that fits a byte, so its cast loses nothing and the record is the definition's.
 use Rattle.hyparview_state.specs.Unpack.{own-at}
 use Rattle.hyparview_state.proofs.Access.{of-packed}
 use borrow.Author.Needs.{needs}

@@ -1,3 +1,4 @@
+-- Each end so far, with the shuffles to come, leads to the end wanted, and its sum still fits. The measure is the shuffles left.
 use Prim.Native.Nat.{ℕ, zero, suc, _+_, _-_, _*_, _≤_, _<_}
 use mathlib.Core.Path.{_≡_, refl, sym, _∙_}
 use native.Mathlib.Omega.{arith}

@@ -1,3 +1,4 @@
+-- The settings' test is `in_range`'s, and the rest is the definition's, unfolded.
 use Rattle.shuffle_times.specs.Times.{has-times}
 use borrow.Author.Needs.{needs}
 use Rattle.shuffle_times.proofs.has_times.Statement.{statement}

@@ -1,3 +1,4 @@
+-- By cases of the test: arguments in range are what `ends` asks and its ends are those wanted; any others give 0 twice.
 use mathlib.Core.Path.{_≡_, sym, _∙_}
 use mathlib.Core.Bool.{Bool, true, false}
 use Prim.Native.Nat.{ℕ, _≤_}

@@ -1,3 +1,4 @@
+-- The contract follows from that of `shorter`: the first interval is the lesser of the two.
 use Rattle.shuffle_times.specs.Times.{first-interval}
 use borrow.Author.Needs.{needs}
 use Rattle.shuffle_times.proofs.initial_interval.Statement.{statement}

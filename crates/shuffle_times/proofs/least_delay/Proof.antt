@@ -1,3 +1,4 @@
+-- The delay of the lowest draw is three quarters of the interval, by arithmetic.
 use Rattle.shuffle_times.proofs.Delays as D
 use mathlib.Core.Path.{sym}
 use borrow.Author.Needs.{needs}

@@ -1,3 +1,4 @@
+-- The delay of the highest draw is five quarters of the interval, rounded up, less one, by arithmetic within the interval's range.
 use Rattle.shuffle_times.proofs.Delays as D
 use mathlib.Core.Path.{sym}
 use native.Mathlib.Omega.{arith}

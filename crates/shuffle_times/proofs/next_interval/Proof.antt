@@ -1,3 +1,4 @@
+-- The contract follows from that of `shorter`; an interval in range doubles without overflow.
 use Rattle.shuffle_times.specs.Times.{next-interval}
 use borrow.Author.Needs.{needs}
 use Rattle.shuffle_times.proofs.next_interval.Statement.{statement}

@@ -1,3 +1,4 @@
+-- By cases: the station itself, a neighbor, a full view with high or low priority, a free place; the data told before keeps the work calm.
 use Rattle.step_sending.proofs.Told.{room-of}
 use Rattle.step_active.proofs.Leaving.{slot-free, fine-told}
 use Rattle.step_active.proofs.Entering.{open-slot, full-high, full-low, new-full, new-open, admit-known, admit-other, add-me, add-other, informed}

@@ -1,3 +1,4 @@
+-- Work that stopped at the notice adds nothing more; else entry, limit and count become one change, after which the reply is told.
 use mathlib.Core.Path.{sym, _∙_}
 use Rattle.hyparview_state.specs.Unpack.{long}
 use Rattle.step_active.proofs.Entering.{gained, not-added, entered, added-unchecked}

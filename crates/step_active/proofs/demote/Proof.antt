@@ -1,3 +1,4 @@
+-- The data read is what is held of p; it goes with p into the passive view, and a p that stays alive finds a free place for its mark.
 use Rattle.base_lists.specs.Maps.{lookup}
 use Rattle.base_util.specs.Section.{part}
 use Rattle.base_peer.specs.Held.{HoldsData}

@@ -1,3 +1,4 @@
+-- Work with a code drops nothing; else the view loses one peer, still fits its capacity, and the notice follows.
 use Rattle.base_util.specs.Section.{part}
 use Rattle.spec_hyparview.specs.Active.{swap-active}
 use Rattle.hyparview_state.specs.Unpack.{unpack, station-of}

@@ -1,3 +1,4 @@
+-- Without neighbors nothing is done; else the place drawn is below the count, so its peer leaves, is told, and has room for its mark.
 use Rattle.base_util.specs.Section.{part}
 use Rattle.hyparview_state.specs.Unpack.{unpack, station-of}
 use Rattle.hyparview_state.proofs.Access.{of-packed}

@@ -1,3 +1,4 @@
+-- Work with a code changes nothing; else there is a free place, and the marks with p in order are put into the station.
 use Rattle.base_util.specs.Section.{part}
 use Rattle.spec_hyparview.specs.Active.{mark-alive}
 use Rattle.hyparview_state.specs.Unpack.{unpack, station-of}

@@ -1,3 +1,4 @@
+-- Two removals leave the active view as free as it was, so that with code 0 the push and the renewal find well formed sections and a place.
 use native.Mathlib.Omega.{arith}
 use mathlib.Core.List.{[], _∷_, _++_}
 use borrow.Rule.Slice.PartMut.{putMid}

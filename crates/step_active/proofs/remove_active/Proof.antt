@@ -1,3 +1,4 @@
+-- By cases: a neighbor has a place, leaves by it, and the refill starts from fine work; any other peer changes nothing.
 use Rattle.base_util.specs.Section.{part}
 use Rattle.hyparview_state.specs.Unpack.{unpack, station-of}
 use Rattle.hyparview_state.proofs.Access.{of-packed}

@@ -1,3 +1,4 @@
+-- By cases of the loss and of the mark or the flag: the peer at the place becomes passive or is forgotten, after the same first step.
 use mathlib.Core.Path.{_≡_, refl}
 use mathlib.Core.Bool.{false}
 use lib.ListN.{getD}

@@ -1,3 +1,4 @@
+-- By cases of the kind, one law for each; what an event opens with gives each step what it asks.
 use Rattle.step_dispatch.specs.Begun.{Headed, Opens}
 use Rattle.hyparview_state.specs.Work.{work-of, run, Fine}
 use Rattle.hyparview_state.specs.Layout.{words}

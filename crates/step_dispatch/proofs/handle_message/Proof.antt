@@ -1,3 +1,4 @@
+-- By cases of the message, one law for each; what is no shuffle, reply or Disconnect has one node, which is read once.
 use Rattle.step_dispatch.specs.Begun.{Headed}
 use Rattle.step_messages.specs.Between.{Between}
 use Rattle.spec_hyparview.specs.Budgets.{arriving}

@@ -1,3 +1,4 @@
+-- The first timers are started, or are not due; from either the work goes on, and the data of declined peers is forgotten last.
 use Prim.Native.Nat.{ℕ}
 use mathlib.Core.Logic.{⊎-elim}
 use mathlib.Core.Path.{_≡_, _∙_}

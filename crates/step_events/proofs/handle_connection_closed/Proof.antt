@@ -1,3 +1,4 @@
+-- By cases: a neighbor is lost; any other peer loses its mark or its passive place, and where it was asked a refill follows.
 use Rattle.step_refill.proofs.Asking.{fine-after}
 use Rattle.step_events.proofs.Leaving.{closed-calm, neighbor-lost, asked-again, not-asked}
 use borrow.Author.Needs.{needs}

@@ -1,3 +1,4 @@
+-- By cases: a neighbor, the station itself, no number left, and a join noted, for which a place is free after the push.
 use native.Mathlib.Omega.{arith}
 use Rattle.base_util.specs.Section.{part}
 use Rattle.spec_hyparview.specs.Events.{note-join}

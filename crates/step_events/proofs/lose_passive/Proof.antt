@@ -1,3 +1,4 @@
+-- By cases of the mark: a marked peer loses the mark alone, any other its place and its data.
 use Rattle.step_events.proofs.Leaving.{saved, lost}
 use borrow.Author.Needs.{needs}
 use Rattle.step_events.proofs.lose_passive.Statement.{statement}

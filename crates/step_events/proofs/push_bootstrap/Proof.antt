@@ -1,3 +1,4 @@
+-- Work with a code changes nothing; else the list is renewed, and where it had eight others the open join of the oldest goes.
 use native.Mathlib.Omega.{arith}
 use Rattle.base_util.specs.Section.{part}
 use Rattle.hyparview_state.proofs.Access.{of-packed}

@@ -1,3 +1,4 @@
+-- Work with a code changes nothing; else the four words written are read back as the data given, since it is valid.
 use Rattle.spec_hyparview.specs.Events.{update-own-data}
 use Rattle.hyparview_state.proofs.Bridge.{on-passed, on-done}
 use Rattle.hyparview_state.proofs.Limits.{kept-own}

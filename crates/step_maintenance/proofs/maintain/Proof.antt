@@ -1,3 +1,4 @@
+-- By cases: nobody known, alone, short in a recovery, short with a refill due or not, and enough; a count, refused or not, is one change.
 use Prim.Native.Nat.{ℕ}
 use mathlib.Core.Path.{_≡_}
 use mathlib.Core.List.{List}

@@ -1,3 +1,4 @@
+-- The Joins told and those to the peers left are all that are wanted; the measure is the peers left. Cases: count, backoff, a recent peer.
 use Prim.Native.Nat.{ℕ, _+_, _-_}
 use mathlib.Core.Path.{_≡_}
 use mathlib.Core.List.{List}

@@ -1,3 +1,4 @@
+-- The contract is that of `schedule` with the maintenance's interval.
 use borrow.Author.Needs.{needs}
 use Rattle.step_maintenance.proofs.schedule_maintenance.Statement.{statement}
 use Rattle.step_maintenance.proofs.schedule_maintenance.Tie as tie

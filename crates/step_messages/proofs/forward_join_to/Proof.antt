@@ -1,3 +1,4 @@
+-- The record that `send_node` emits is the definition's ForwardJoin.
 use Rattle.step_messages.proofs.Laws.{join-forwarded}
 use borrow.Author.Needs.{needs}
 use Rattle.step_messages.proofs.forward_join_to.Statement.{statement}

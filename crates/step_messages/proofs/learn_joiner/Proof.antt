@@ -1,3 +1,4 @@
+-- By cases of the walk's length: the joiner is added to the passive view, or the work stays as it is.
 use Rattle.step_messages.proofs.Laws.{joiner-learned, joiner-unlearned}
 use borrow.Author.Needs.{needs}
 use Rattle.step_messages.proofs.learn_joiner.Statement.{statement}

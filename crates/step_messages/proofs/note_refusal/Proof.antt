@@ -1,3 +1,4 @@
+-- By cases: no request was open, no room for a 33rd peer (code 7), or the peer goes into the refused ones in order.
 use Rattle.base_util.specs.Section.{part}
 use Rattle.hyparview_state.specs.Unpack.{unpack, station-of}
 use Rattle.hyparview_state.proofs.Access.{of-packed}

@@ -1,3 +1,4 @@
+-- Join, recent place and request of p go as one change; then by cases a neighbor, a live peer in the passive view or not, and one gone for good.
 use mathlib.Core.Logic.{⊎-elim}
 use native.Mathlib.Omega.{arith}
 use Rattle.base_util.specs.Section.{part}

@@ -1,3 +1,4 @@
+-- By cases: the walk ends here, its joiner was asked already, or it goes on to one of the others, or to 0 where there is none.
 use Rattle.step_sending.proofs.Told.{room-drawn}
 use Rattle.step_messages.proofs.Laws.{end-known, joiner-asked, walk-ended, walk-stopped, walk-goes-on, walked-on, join-on-none, join-on-one}
 use borrow.Author.Needs.{needs}

@@ -1,3 +1,4 @@
+-- The test of acceptance asks the station before the entry, as the definition does; by its cases p stays, or is told and forgotten.
 use Rattle.hyparview_state.specs.Work.{Fine, work-of}
 use Rattle.step_refill.proofs.Asking.{fine-after}
 use Rattle.step_messages.proofs.Laws.{accept-known, neighbor-refused}

@@ -1,3 +1,4 @@
+-- The copy holds the view's items, and without p it holds the definition's list.
 use Rattle.base_util.specs.Section.{part}
 use Rattle.hyparview_state.specs.Unpack.{unpack, station-of}
 use Rattle.hyparview_state.proofs.Access.{of-packed}

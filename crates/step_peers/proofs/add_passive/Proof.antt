@@ -1,3 +1,4 @@
+-- By cases: no newcomer, work refused while room was made, and a newcomer for whom the room made leaves a place.
 use Rattle.base_util.specs.Section.{part}
 use Rattle.hyparview_state.specs.Unpack.{unpack, station-of}
 use Rattle.hyparview_state.proofs.Access.{of-packed}

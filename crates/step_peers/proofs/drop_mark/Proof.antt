@@ -1,3 +1,4 @@
+-- Work with a code changes nothing; else the mark leaves its section, which puts the shorter set into the station.
 use Rattle.base_util.specs.Section.{part}
 use Rattle.hyparview_state.specs.Unpack.{unpack, station-of}
 use Rattle.hyparview_state.proofs.Access.{of-packed}

@@ -1,3 +1,4 @@
+-- By cases: work with a code, no data declined, so nothing goes, and else the data kept is that of the peers known.
 use Rattle.base_util.specs.Section.{part}
 use Rattle.spec_hyparview.specs.Station.{data-peers}
 use Rattle.spec_hyparview.specs.Handle.{forget-declined}

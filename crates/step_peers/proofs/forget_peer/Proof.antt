@@ -1,3 +1,4 @@
+-- By cases: a peer in a view is remembered, and of any other the data and the mark go.
 use Rattle.step_peers.proofs.Laws.{remembered, forgotten}
 use borrow.Author.Needs.{needs}
 use Rattle.step_peers.proofs.forget_peer.Statement.{statement}

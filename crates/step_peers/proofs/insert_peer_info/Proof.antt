@@ -1,3 +1,4 @@
+-- By cases: data not to be stored, no room for an 81st entry (code 8), and data stored, told before unless it is empty.
 use mathlib.Core.Logic.{⊎-elim}
 use mathlib.Core.Path.{_≡_, ap, _∙_}
 use borrow.Author.Tests.{eq-eqb, ne-eqb}

@@ -1,3 +1,4 @@
+-- Packed words have a well formed section, and the marks are read from it, so `contains` answers for them.
 use Rattle.base_util.specs.Section.{part}
 use Rattle.hyparview_state.specs.Unpack.{unpack, station-of}
 use Rattle.hyparview_state.proofs.Access.{of-packed}

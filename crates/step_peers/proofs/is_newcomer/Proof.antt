@@ -1,3 +1,4 @@
+-- The three tests are those of the definition, by the contracts of the two that are called.
 use Rattle.step_peers.proofs.Laws.{newcomer}
 use borrow.Author.Needs.{needs}
 use Rattle.step_peers.proofs.is_newcomer.Statement.{statement}

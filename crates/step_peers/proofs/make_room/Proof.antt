@@ -1,3 +1,4 @@
+-- By cases: a view with room stays; of a full one the peer at the place drawn leaves where the work goes on, and its record follows.
 use mathlib.Core.Logic.{⊎-elim}
 use mathlib.Core.Path.{sym, subst, _∙_}
 use Prim.Native.Nat.{ℕ}

@@ -1,3 +1,4 @@
+-- Work with a code changes nothing; else the view loses p, and being no longer than before still fits its capacity.
 use Rattle.base_util.specs.Section.{part}
 use Rattle.hyparview_state.specs.Unpack.{unpack, station-of}
 use Rattle.hyparview_state.proofs.Access.{of-packed}

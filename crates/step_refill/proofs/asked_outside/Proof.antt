@@ -1,3 +1,4 @@
+-- The keys of the requests, less the neighbors, are the definition's list.
 use Rattle.base_util.specs.Section.{part}
 use Rattle.hyparview_state.proofs.Access.{of-packed}
 use Rattle.step_refill.proofs.Asking.{outside-held}

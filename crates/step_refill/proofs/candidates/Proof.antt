@@ -1,3 +1,4 @@
+-- Each call takes one more list out of the copy of the passive view; by cases of having a neighbor the refused peers go too, or stay in.
 use borrow.Author.Tests.{eq-eqb, ne-eqb}
 use Rattle.base_util.specs.Section.{part}
 use Rattle.base_util.proofs.Sets.{set-inside, set-column}

@@ -1,3 +1,4 @@
+-- Work with a code changes nothing; else the empty section puts an empty set of refusals into the station.
 use Rattle.base_util.specs.Section.{part}
 use Rattle.spec_hyparview.specs.Active.{clear-refused}
 use Rattle.hyparview_state.specs.Unpack.{unpack, station-of}

@@ -1,3 +1,4 @@
+-- By cases of the test: the recovery is over, or a code, another limit or a request in flight leaves all as it was.
 use Rattle.step_refill.proofs.Limits.{ended, not-ended}
 use borrow.Author.Needs.{needs}
 use Rattle.step_refill.proofs.end_recovery.Statement.{statement}

@@ -1,3 +1,4 @@
+-- By cases: no request is needed, or one is made, after a short station's limit is set or left, which is one change either way.
 use Prim.Native.Nat.{ℕ}
 use mathlib.Core.List.{List}
 use mathlib.Core.Path.{sym, subst, _∙_}

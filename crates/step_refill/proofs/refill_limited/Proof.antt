@@ -1,3 +1,4 @@
+-- By cases: with no candidate a recovery may end; else one drawn is asked, and one request of the limit is used where any is left.
 use borrow.Author.Tests.{eq-eqb, ne-eqb}
 use mathlib.Core.Path.{sym}
 use native.Mathlib.Omega.{arith}

@@ -1,3 +1,4 @@
+-- The limit is set, or kept by a code or a recovery: one change either way, after which the refill's contract is the rest.
 use Prim.Native.Nat.{ℕ}
 use mathlib.Core.List.{List}
 use mathlib.Core.Path.{sym, subst, _∙_}

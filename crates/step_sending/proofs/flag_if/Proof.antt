@@ -1,3 +1,4 @@
+-- By cases of the bool, unfolded.
 use Rattle.base_lists.specs.Lists.{choose}
 use Rattle.step_sending.proofs.flag_if.Statement.{statement}
 use Rattle.step_sending.proofs.flag_if.Tie as tie

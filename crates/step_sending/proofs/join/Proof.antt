@@ -1,3 +1,4 @@
+-- Own data of packed words is valid, so the record that `send_node` emits is the definition's Join.
 use Rattle.hyparview_state.proofs.Access.{of-packed}
 use Rattle.step_sending.proofs.Told.{join-told}
 use borrow.Author.Needs.{needs}

@@ -1,3 +1,4 @@
+-- The loop keeps the nodes of the first i peers, each with the data looked up of it, and ends where no peer is left.
 use Prim.Native.Nat.{ℕ, _+_, _-_, _≤_, _<_}
 use mathlib.Core.Path.{_≡_, refl, sym, ap, _∙_}
 use mathlib.Core.List.{List, [], _∷_, _++_, append-nil}

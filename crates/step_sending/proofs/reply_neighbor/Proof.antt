@@ -1,3 +1,4 @@
+-- By cases of whether an answer is wanted: a Neighbor is sent, or the work stays as it is.
 use Rattle.step_sending.proofs.Told.{replied, not-replied}
 use borrow.Author.Needs.{needs}
 use Rattle.step_sending.proofs.reply_neighbor.Statement.{statement}

@@ -1,3 +1,4 @@
+-- The two counts of the settings sum to no more peers than a record names; the ShuffleReply is told first, the Disconnect after it.
 use native.Mathlib.Omega.{arith}
 use Rattle.step_sending.proofs.Told.{few-named, disconnected}
 use borrow.Author.Needs.{needs}

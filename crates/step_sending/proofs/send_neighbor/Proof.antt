@@ -1,3 +1,4 @@
+-- By cases: a request is open, no number or place is left (codes 10 and 6), or the request is noted, and then told with its timer.
 use Prim.Native.Nat.{ℕ, _+_}
 use mathlib.Core.List.{List}
 use lib.ListN.{getD, set}

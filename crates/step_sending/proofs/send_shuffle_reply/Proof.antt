@@ -1,3 +1,4 @@
+-- By cases: the passive peers are enough, or active ones make up the number; either way one set is ready, whose peers are told.
 use mathlib.Core.Logic.{⊎-elim}
 use native.Mathlib.Omega.{arith}
 use Rattle.base_util.specs.Section.{part}

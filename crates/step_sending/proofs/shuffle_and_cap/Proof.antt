@@ -1,3 +1,4 @@
+-- By cases: the shuffled set is short enough, or clearing it from `most` on leaves its first `most` peers.
 use Rattle.base_util.specs.Section.{part}
 use Rattle.base_util.proofs.Sets.{set-inside, cut-short, short-enough}
 use Rattle.step_sending.proofs.Sets.{capped}

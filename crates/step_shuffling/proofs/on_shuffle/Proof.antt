@@ -1,3 +1,4 @@
+-- By cases of the walk: it ends here, so that the nodes are learned and as many sent back, or the Shuffle is passed on.
 use Rattle.step_shuffling.proofs.Nodes.{few-nodes}
 use Rattle.step_shuffling.proofs.Laws.{answers-known, answered, shuffle-answered, shuffle-forwarded}
 use borrow.Author.Needs.{needs}

@@ -1,3 +1,4 @@
+-- The nodes are learned; then by cases nobody is asked, the spent limit begins anew, or the refill goes on with the limit it has.
 use Rattle.step_shuffling.proofs.Laws.{stops-known, renews-known, refilled-few, refilled-same, reply-stopped, reply-refilled, reply-taken}
 use borrow.Author.Needs.{needs}
 use Rattle.step_shuffling.proofs.on_shuffle_reply.Statement.{statement}

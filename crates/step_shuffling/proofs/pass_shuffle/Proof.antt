@@ -1,3 +1,4 @@
+-- The copy without the two peers is the definition's list of others; by cases it is empty, or one drawn from it is sent the nodes.
 use Rattle.hyparview_state.specs.Work.{Fine, work-of}
 use Rattle.base_util.specs.Section.{part}
 use Rattle.hyparview_state.proofs.Access.{of-packed}

@@ -1,3 +1,4 @@
+-- By cases of the number: the timer of the open request drops its peer and refills, and any other does nothing.
 use mathlib.Core.Path.{_≡_}
 use Rattle.spec_hyparview.specs.Timers.{request-is}
 use Rattle.hyparview_state.specs.Unpack.{unpack}

@@ -1,3 +1,4 @@
+-- The two steps, one after the other, are the definition's sequence.
 use Rattle.spec_hyparview.specs.Timers.{schedule-shuffle, handle-shuffle-timer}
 use Rattle.hyparview_state.proofs.Bridge.{seq}
 use borrow.Author.Needs.{needs}

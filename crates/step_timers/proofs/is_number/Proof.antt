@@ -1,3 +1,4 @@
+-- By cases of the answer: an absent number is not n, and one that is there is compared with n.
 use Rattle.step_timers.proofs.Asked.{no-number, same-number}
 use borrow.Author.Needs.{needs}
 use Rattle.step_timers.proofs.is_number.Statement.{statement}

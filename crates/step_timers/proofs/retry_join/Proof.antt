@@ -1,3 +1,4 @@
+-- By cases of the number: the open join is dropped and one more Join told, and any other timer does nothing.
 use Rattle.hyparview_state.specs.Work.{Room, work-of}
 use Rattle.base_util.specs.Section.{part}
 use native.Mathlib.Omega.{arith}

@@ -1,3 +1,4 @@
+-- Work with a code schedules nothing; else an interval in range doubles without overflow, and one draw gives the delay.
 use Rattle.hyparview_state.specs.Work.{Fine, work-of}
 use native.Mathlib.Omega.{arith}
 use Rattle.hyparview_state.proofs.Access.{of-interval}

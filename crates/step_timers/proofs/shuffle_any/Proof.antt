@@ -1,3 +1,4 @@
+-- By cases: no neighbor, or one drawn; then both views without it are shuffled and cut by the next draws, and all named fit one record.
 use native.Mathlib.Omega.{arith}
 use lib.ListN.{take}
 use Rattle.base_lists.specs.Lists.{without}

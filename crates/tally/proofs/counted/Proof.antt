@@ -1,3 +1,4 @@
+-- By cases: another kind, a count with room, and a count at its last value, which stays.
 use Prim.Native.Nat.{ℕ, _+_, _≤_, _<_}
 use mathlib.Core.Path.{_≡_}
 use mathlib.Core.Bool.{Bool, true, false}

@@ -1,3 +1,4 @@
+-- By cases of the record's kind: a message is counted, and any other record leaves the tally as it was.
 use Prim.Native.Nat.{ℕ}
 use mathlib.Core.Path.{_≡_}
 use borrow.Author.Needs.{needs}

@@ -1,3 +1,4 @@
+-- Each of the six counts is what `counted` gives, and together they are the definition's record.
 use borrow.Author.Needs.{needs}
 use Rattle.tally.specs.Counts.{raise-one}
 use Rattle.tally.proofs.raise_one.Statement.{statement}

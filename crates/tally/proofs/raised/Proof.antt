@@ -1,3 +1,4 @@
+-- The tally so far, raised by the records in what is left of the output, is the whole result. The measure is what is left.
 use borrow.Author.Needs.{needs}
 use lib.ListN.{length}
 use Rattle.tally.specs.Counts.{raised}

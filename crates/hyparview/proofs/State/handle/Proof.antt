@@ -1,3 +1,4 @@
+-- By value it is `handle` over a copy of the words: its contract is the one wanted.
 use borrow.Author.Needs.{needs}
 use Rattle.hyparview.proofs.State.handle.Statement.{statement}
 use Rattle.hyparview.proofs.State.handle.Tie as tie

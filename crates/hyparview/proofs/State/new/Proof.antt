@@ -1,3 +1,4 @@
+-- By value it is `new` over zeroes of the right length, so the refusal for another length cannot be.
 use borrow.Author.Needs.{needs}
 use Rattle.hyparview.proofs.Laws.{made-whole}
 use Rattle.hyparview.proofs.State.new.Statement.{statement}

@@ -1,3 +1,4 @@
+-- The limit that is made is the definition's, unfolded.
 use mathlib.Core.Path.{refl}
 use Rattle.hyparview_state.specs.Unpack.{refill-in}
 use borrow.Author.Needs.{needs}

@@ -1,3 +1,4 @@
+-- By cases of the three limits, each by unfolding.
 use mathlib.Core.Path.{_≡_}
 use borrow.Author.Needs.{needs}
 use Rattle.hyparview_state.proofs.RefillLimit.is_recovery.Statement.{statement}

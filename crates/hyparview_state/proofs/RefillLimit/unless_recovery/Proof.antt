@@ -1,3 +1,4 @@
+-- By cases: a recovery stays one, and any other limit gives way to the new one.
 use Rattle.hyparview_state.proofs.Limits.{in-recovery, no-recovery}
 use borrow.Author.Needs.{needs}
 use Rattle.hyparview_state.proofs.RefillLimit.unless_recovery.Statement.{statement}
