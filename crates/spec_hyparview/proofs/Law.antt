@@ -7,7 +7,7 @@ use Rattle.spec_hyparview.specs.Station.{Refill}
 unfoldable pub use Rattle.spec_hyparview.specs.Invariant.{Short, Small}
 pub use Rattle.spec_hyparview.specs.Invariant.{InOrder, Numbered, Requests, HeldData, Refused, Recent, Pace, Passes, Law, Lawful}
 
--- one part changed, by tools/layout.py
+-- one part changed, by tools/make/layout.py
 module _ {me top : ℕ} {own : Data} {req : List (ℕ × ℕ)} {nreq : ℕ} {joi : List (ℕ × ℕ)} {njoi : ℕ} {dat : List (ℕ × List ℕ)} {ali ref : List ℕ} {fill : Refill} {rec : List ℕ} {int alone short : ℕ}
     (h : Law me top own req nreq joi njoi dat ali ref fill rec int alone short) where
   pub law-requests : {v : List (ℕ × ℕ)} {n : ℕ} → Requests v n → Law me top own v n joi njoi dat ali ref fill rec int alone short
