@@ -443,7 +443,7 @@ def sections_valid():
 def sections_valid_proof():
     """One call after another: the needs of each, the way from a call to the one before, and what the calls said."""
     out = [
-        "-- What each call says of its section, put together. Written by tools/layout.py.",
+        "-- What each call says of its section, put together. Written by tools/make/layout.py.",
         "use Rattle.base_util.specs.Section.{part}",
         "use Rattle.hyparview_rules.proofs.Under.{sections-are}",
         "use borrow.Author.Needs.{needs}",

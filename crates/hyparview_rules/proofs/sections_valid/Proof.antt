@@ -1,4 +1,4 @@
--- What each call says of its section, put together. Written by tools/layout.py.
+-- What each call says of its section, put together. Written by tools/make/layout.py.
 use Rattle.base_util.specs.Section.{part}
 use Rattle.hyparview_rules.proofs.Under.{sections-are}
 use borrow.Author.Needs.{needs}
