@@ -1,17 +1,22 @@
--- Each place comes from equally many of the draws kept: by arithmetic over blocks of n draws.
+-- Each place is picked from equally many of the draws kept, whatever is passed over before: by arithmetic over blocks of n draws.
 -- Assumes nothing.
 use Prim.Native.Nat.{ℕ, zero, suc, _+_, _-_, _*_, _/_, _%_, _≤_, _<_}
 use mathlib.Core.Path.{_≡_, refl, sym, ap, subst}
-use mathlib.Core.Bool.{Bool, true, false}
+use mathlib.Core.Bool.{Bool, true, false, not}
+use mathlib.Core.List.{List, [], _∷_, _++_}
 use native.Mathlib.Nat.{not-suc-le-zero, add-zero, add-suc, suc-mul, zero-mul, add-mul, div-add-mod'}
 use native.Mathlib.Omega.{arith}
 use lib.Arith.{digits-mod}
 use lib.Dec.{eqb}
+use lib.ListN.{length}
+use lib.Seq.{getD-append-add}
 use borrow.Author.Tests.{eqb-true, eqb-false, ne-eqb, lt-ltb, le-ltb}
 use Rattle.base_lists.specs.Lists.{choose}
-use Rattle.base_lists.proofs.Choice.{by-choice, choose-no}
-use Rattle.base_util.specs.Chances.{all-draws, kept-end, is-kept}
-use Rattle.base_util.specs.Equal.{sum-below, count-below, decides, EqualChances}
+use Rattle.base_lists.specs.Tests.{every}
+use Rattle.base_lists.proofs.Choice.{by-choice, choose-no, and-left, and-right, clash}
+use Rattle.base_util.specs.Chances.{all-draws, kept-end, is-kept, passed-over, pick}
+use Rattle.base_util.specs.Equal.{sum-below, count-below, none-kept, decides, EqualChances, PassedCount}
+use Rattle.base_util.proofs.Chances.{pick-some}
 
 pub sum-same : (f g : ℕ → ℕ) (k : ℕ) → ((d : ℕ) → d < k → f d ≡ g d) → sum-below f k ≡ sum-below g k
 unfolding sum-below
@@ -79,7 +84,35 @@ even N n i t h low high =
     ) in
     subst (λ (k : ℕ). sum-below (λ d. choose (t d) 1 0) k ≡ N / n) e s
 
+-- ---- picks
+
+-- draws that are not kept are passed over
+over-length : (n : ℕ) (over ds : List ℕ) → none-kept n over ≡ true → passed-over n (over ++ ds) ≡ length over + passed-over n ds
+unfolding none-kept every passed-over
+over-length n [] ds e = omega arith
+over-length n (d ∷ over) ds e =
+    by-choice (λ (k : ℕ). k ≡ suc (length over) + passed-over n ds) (is-kept n d)
+    (λ t. absurd (clash (not (is-kept n d)) (and-left (not (is-kept n d)) _ e) (rw t)))
+    (λ t. omega (arith, over-length n over ds (and-right (not (is-kept n d)) _ e)))
+
+pub passed-count : PassedCount
+unfolding pick
+passed-count n h over ds e =
+    let k = over-length n over ds e in
+    record {
+      same-place = rw (k, getD-append-add over ds (passed-over n ds) 0);
+      counted = omega (arith, k, pick-some n (over ++ ds) h, pick-some n ds h);
+    }
+
+-- a kept draw decides by its remainder
+pub kept-first : (n d : ℕ) (more : List ℕ) → is-kept n d ≡ true → pick n (d ∷ more) ≡ d % n
+unfolding pick passed-over choose
+kept-first n d more e = rw e
+
 pub equal-chances : EqualChances
 unfolding decides is-kept kept-end
-equal-chances n i h =
-    even all-draws n i (decides n i) h (λ d l. rw (lt-ltb d (all-draws - all-draws % n) l)) (λ d l. rw (le-ltb d (all-draws - all-draws % n) l))
+equal-chances n i h over more e =
+    even all-draws n i (decides n i over more) h
+    (λ d l. let k : is-kept n d ≡ true = lt-ltb d (all-draws - all-draws % n) l in
+    rw (k, passed-count n (omega arith) over (d ∷ more) e .same-place, kept-first n d more k))
+    (λ d l. rw (le-ltb d (all-draws - all-draws % n) l))

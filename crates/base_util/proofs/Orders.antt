@@ -11,14 +11,15 @@ use lib.Seq.{getD-set-same, getD-set-other, ext-getD}
 use lib.Dec.{eqb, ltb}
 use borrow.Author.Tests.{eqb-true, eqb-false, eq-eqb, ne-eqb, ltb-true, ltb-false}
 use Rattle.base_lists.specs.Lists.{choose, is, count, mem, index-of, swap, same}
+use Rattle.base_lists.specs.Tests.{every}
 use Rattle.base_lists.proofs.Choice.{split}
 use Rattle.base_lists.proofs.Count.{is-self, is-not, mem-false, count-set, count-at, index-lt, index-at}
 use Rattle.base_lists.proofs.Sets.{same-true, same-refl}
 use Rattle.base_lists.proofs.Tests.{and-no}
 use Rattle.base_util.specs.Chances.{all-draws, is-kept, passed-over, pick-draws, pick, shuffle-down, shuffle}
-use Rattle.base_util.specs.Equal.{decides, Places, exchanged, places-by, ByPlaces, DifferentOrders, keeps, count-lists, ways, EqualOrders}
+use Rattle.base_util.specs.Equal.{none-kept, decides, Places, exchanged, places-by, ByPlaces, DifferentOrders, keeps, count-lists, ways, EqualOrders}
 use Rattle.base_util.proofs.Chances.{pick-below, length-swapped}
-use Rattle.base_util.proofs.Equal.{sum-same, sum-nothing, sum-chosen, equal-chances}
+use Rattle.base_util.proofs.Equal.{sum-same, sum-nothing, sum-chosen, kept-first, equal-chances}
 
 -- ---- an exchange
 
@@ -164,17 +165,17 @@ module _ (i : ℕ) (xs ys : List ℕ) where
         (λ e. let q : p ≡ j = eqb-true p j e in rw (q, eq-eqb j j refl) rest)
         (λ e. rw e (ap (count-lists i) (λ a ds. other p l e ds a) ∙ count-none i))
 
-    each : (d : ℕ) → count-lists i (λ ds. keeps (suc i) (d ∷ ds) && same (shuffle-down (suc i) (d ∷ ds) xs) ys) ≡ choose (decides (i + 2) j d) w 0
+    each : (d : ℕ) → count-lists i (λ ds. keeps (suc i) (d ∷ ds) && same (shuffle-down (suc i) (d ∷ ds) xs) ys) ≡ choose (decides (i + 2) j [] [] d) w 0
     unfolding decides choose
     each d =
         ap (count-lists i) (λ a ds. by-first d ds a)
-        ∙ split (is-kept (i + 2) d) (λ e. rw e (by-place (d % (i + 2)) (mod-lt d {m = i + 2} (omega arith)))) (λ e. rw e (count-none i))
+        ∙ split (is-kept (i + 2) d) (λ e. rw (kept-first (i + 2) d [] e, e) (by-place (d % (i + 2)) (mod-lt d {m = i + 2} (omega arith)))) (λ e. rw e (count-none i))
 
     all-first : count-lists (suc i) (λ ds. keeps (suc i) ds && same (shuffle-down (suc i) ds xs) ys) ≡ all-draws / (i + 2) * w
-    unfolding count-lists
+    unfolding count-lists none-kept every
     all-first =
-        sum-same _ (λ d. choose (decides (i + 2) j d) w 0) all-draws (λ d q. each d) ∙ sum-chosen (decides (i + 2) j) w all-draws
-        ∙ ap (λ (n : ℕ). n * w) (equal-chances (i + 2) j low)
+        sum-same _ (λ d. choose (decides (i + 2) j [] [] d) w 0) all-draws (λ d q. each d) ∙ sum-chosen (decides (i + 2) j [] []) w all-draws
+        ∙ ap (λ (n : ℕ). n * w) (equal-chances (i + 2) j low [] [] refl)
 
 orders : (i : ℕ) (xs ys : List ℕ) → i ≤ length xs - 1 → Distinct xs → length ys ≡ length xs → ((x : ℕ) → count x ys ≡ count x xs)
     → ((k : ℕ) → i < k → k < length xs → getD xs k 0 ≡ getD ys k 0) → count-lists i (λ ds. keeps i ds && same (shuffle-down i ds xs) ys) ≡ ways i

@@ -2,11 +2,12 @@
 -- Assumes nothing.
 use Prim.Native.Nat.{ℕ, zero, suc, _+_, _-_, _*_, _/_, _%_, _≤_, _<_}
 use mathlib.Core.Path.{_≡_}
-use mathlib.Core.Bool.{Bool, true, false, _&&_}
-use mathlib.Core.List.{List, [], _∷_}
+use mathlib.Core.Bool.{Bool, true, false, not, _&&_}
+use mathlib.Core.List.{List, [], _∷_, _++_}
 use lib.ListN.{length, drop}
 use lib.Dec.{eqb}
 use Rattle.base_lists.specs.Lists.{choose, count, swap, same}
+use Rattle.base_lists.specs.Tests.{every}
 use Rattle.base_util.specs.Chances.{all-draws, is-kept, pick-draws, pick, shuffle}
 
 -- f 0 and so on to f (k - 1) together
@@ -18,13 +19,25 @@ sum-below f (suc k) = f k + sum-below f k
 unfoldable pub count-below : (ℕ → Bool) → ℕ → ℕ
 count-below t k = sum-below (λ d. choose (t d) 1 0) k
 
--- the draw d is kept for n items and decides place i
-unfoldable pub decides : ℕ → ℕ → ℕ → Bool
-decides n i d = is-kept n d && eqb (d % n) i
+-- none of the draws is kept for n items
+unfoldable pub none-kept : ℕ → List ℕ → Bool
+none-kept n ds = every (λ d. not (is-kept n d)) ds
 
--- of the draws kept for n items, floor(2^32 / n) decide each place; for every n, and past 2^32 that is none
+-- the draw d is kept for n items, and where it stands after the draws `over` and before the draws `more` the pick is place i
+unfoldable pub decides : ℕ → ℕ → List ℕ → List ℕ → ℕ → Bool
+decides n i over more d = is-kept n d && eqb (pick n (over ++ (d ∷ more))) i
+
+-- of the draws kept for n items, a pick of place i comes from floor(2^32 / n), whatever is passed over before and lent after; for every n, and past 2^32 that is none
 abbrev pub EqualChances : Type 0
-EqualChances = (n i : ℕ) → i < n → count-below (decides n i) all-draws ≡ all-draws / n
+EqualChances = (n i : ℕ) → i < n → (over more : List ℕ) → none-kept n over ≡ true → count-below (decides n i over more) all-draws ≡ all-draws / n
+
+-- draws passed over before others change nothing of a pick but how many draws it uses: they count as used
+pub record PassedOver (n : ℕ) (over ds : List ℕ) : Type 0 where
+  pub same-place : pick n (over ++ ds) ≡ pick n ds
+  pub counted : pick-draws n (over ++ ds) ≡ length over + pick-draws n ds
+
+abbrev pub PassedCount : Type 0
+PassedCount = (n : ℕ) → 0 < n → (over ds : List ℕ) → none-kept n over ≡ true → PassedOver n over ds
 
 -- the places chosen in a shuffle: one of i + 1, then one of i, to one of 2
 unfoldable pub Places : ℕ → List ℕ → Type 0
