@@ -1,4 +1,4 @@
--- How many draws must be lent: 253 do not suffice.
+-- How many draws must be lent: 253 do not suffice, nor do 512 that are passed over.
 -- Assumes nothing.
 use Prim.Native.Nat.{ℕ}
 use mathlib.Core.Path.{_≡_, refl, ap, _∙_}
@@ -56,24 +56,33 @@ full = record {
   refill = automatic;
 }
 
--- a Quit with so many draws
-unfoldable pub quits : ℕ → Call
+-- a Quit with n draws, each of them d
+unfoldable pub quits : ℕ → ℕ → Call
 unfolding traced
-quits n = record { event = encode (notice 8 0); are-bytes = refl; draws = replicate n 0; output = replicate 8192 0 }
+quits n d = record { event = encode (notice 8 0); are-bytes = refl; draws = replicate n d; output = replicate 8192 0 }
 
 pub full-is-fine : station-ok full ≡ true
 unfolding traced full largest
 full-is-fine = refl
 
-pub takes-254 : result-of (quits 254) full .used ≡ 254
+pub takes-254 : result-of (quits 254 0) full .used ≡ 254
 unfolding traced full largest quits answered
 takes-254 = refl
 
-five : result-of (quits 253) full .code ≡ 5
+five : result-of (quits 253 0) full .code ≡ 5
 unfolding traced full largest quits answered
 five = refl
 
 -- of the program: with 253 draws and 8,192 bytes, at words that keep the rules, the answer is 5
-pub too-few : code-of program (quits 253) (pack full) ≡ 5
+pub too-few : code-of program (quits 253 0) (pack full) ≡ 5
 unfolding packed-answer
-too-few = ap (λ (o : Outcome). o .code) (answers-packed (quits 253) full full-is-fine) ∙ five
+too-few = ap (λ (o : Outcome). o .code) (answers-packed (quits 253 0) full full-is-fine) ∙ five
+
+-- 02, S-6: "A list of 512 can now be short": the choice of one of 30 peers passes over a draw of 2^32 - 1
+five-of-512 : result-of (quits 512 4294967295) full .code ≡ 5
+unfolding traced full largest quits answered
+five-of-512 = refl
+
+pub short-of-512 : code-of program (quits 512 4294967295) (pack full) ≡ 5
+unfolding packed-answer
+short-of-512 = ap (λ (o : Outcome). o .code) (answers-packed (quits 512 4294967295) full full-is-fine) ∙ five-of-512

@@ -5,7 +5,7 @@ use mathlib.Core.Path.{_≡_, refl, sym, ap, subst, _∙_}
 use mathlib.Core.Bool.{Bool, true, false, _&&_}
 use mathlib.Core.List.{List, []}
 use native.Mathlib.Omega.{arith}
-use lib.ListN.{length, replicate}
+use lib.ListN.{length, take, replicate}
 use lib.Dec.{eqb}
 use Rattle.base_lists.specs.Array.{pad}
 use Rattle.base_lists.specs.Lists.{mem}
@@ -14,13 +14,14 @@ use Rattle.base_timing.specs.declared.Config.{Config}
 use Rattle.base_timing.specs.Timing.{in-range}
 use Rattle.spec_hyparview.specs.Station.{Station}
 use Rattle.spec_hyparview.specs.Rules.{short-data, station-ok}
-use Rattle.spec_hyparview.specs.Handle as definition
+use Rattle.spec_hyparview.specs.Handle as Handle
 use Rattle.record.specs.Read.{Reading, read-event, rec-of}
 use Rattle.spec_hyparview.proofs.Reading.{by-reading}
 use Rattle.spec_hyparview.proofs.Written.{writes-records}
 use Rattle.spec_hyparview.proofs.Bounds.{finished}
+use Rattle.spec_hyparview.specs.Kept.{FewerKept}
 use Rattle.spec_hyparview.proofs.Enough.{enough}
-use Rattle.spec_hyparview.proofs.Decided.{fewer-as, fewer-kept}
+use Rattle.spec_hyparview.proofs.Decided.{fewer-as, fewer-kept, most-kept}
 use Rattle.spec_hyparview.proofs.Uncrowded as crowded
 use Rattle.spec_hyparview.proofs.Unreachable as unreachable
 use Rattle.spec_history.specs.Calls.{Call, NewGiven, result-of, answered, state-after, codes}
@@ -77,14 +78,14 @@ packs = record {
 -- ---- a new station
 
 -- with any other code than 2 the words lent were as many as a state has, and hold what the definition's `new` answers
-whole : (xs : List ℕ) (me : ℕ) (present : Bool) (own : List ℕ) (c : Config) → (program-made xs me present own c .code ≡ 2 → ⊥) → program-made xs me present own c ≡ pack-made (definition.new me (lent present own) c)
+whole : (xs : List ℕ) (me : ℕ) (present : Bool) (own : List ℕ) (c : Config) → (program-made xs me present own c .code ≡ 2 → ⊥) → program-made xs me present own c ≡ pack-made (Handle.new me (lent present own) c)
 unfolding program-made lending.made
 whole xs me present own c h =
     split (eqb (length xs) words) (λ y. choose-yes _ _ _ y) (λ n. absurd (h (ap (λ (m : MadeWords). m .code) (choose-no _ _ _ n))))
 
 -- a claim on what `new` answered with code 0 is one on the definition's answer, packed
 from-new : (X : List ℕ → Type 0) (me : ℕ) (g : D.Lending) (c : Config) → program .new-code me g c ≡ 0
-    → (definition.new me (program .own g) c .code ≡ 0 → X (pack (definition.new me (program .own g) c .state))) → X (program .new-state me g c)
+    → (Handle.new me (program .own g) c .code ≡ 0 → X (pack (Handle.new me (program .own g) c .state))) → X (program .new-state me g c)
 unfolding pack-made
 from-new X me g c z h =
     let e = whole (g .words) me (g .present) (g .own) c (λ two. omega (arith, two, z)) in
@@ -118,29 +119,43 @@ unfolding pad
 zeroes = refl
 
 pub refused-zeroes : D.Refused-zeroes
-unfolding pack-made definition.new
+unfolding pack-made Handle.new
 refused-zeroes me g c one =
     let d = program .own g in
     let e = whole (g .words) me (g .present) (g .own) c (λ two. omega (arith, two, one)) in
     split (in-range c && short-data d)
-    (λ y. let zero : 0 ≡ 1 = sym (ap (λ (m : definition.Made). m .code) (choose-yes (in-range c && short-data d) _ _ y)) ∙ (sym (ap (λ (m : MadeWords). m .code) e) ∙ one) in absurd (omega (arith, zero)))
-    (λ n. ap (λ (m : MadeWords). m .words) e ∙ (ap (λ (m : definition.Made). pack (m .state)) (choose-no (in-range c && short-data d) _ _ n) ∙ (sym zero-words ∙ sym zeroes)))
+    (λ y. let zero : 0 ≡ 1 = sym (ap (λ (m : Handle.Made). m .code) (choose-yes (in-range c && short-data d) _ _ y)) ∙ (sym (ap (λ (m : MadeWords). m .code) e) ∙ one) in absurd (omega (arith, zero)))
+    (λ n. ap (λ (m : MadeWords). m .words) e ∙ (ap (λ (m : Handle.Made). pack (m .state)) (choose-no (in-range c && short-data d) _ _ n) ∙ (sym zero-words ∙ sym zeroes)))
 
 -- ---- one call
 
--- A draw is missed only where fewer than 512 were kept, and 512 draws below 2^32 - 32 and 8,192 bytes suffice, whatever the event and the words that keep the rules.
+module _ (xs : List ℕ) (ok : state-ok xs ≡ true) (v : Call) where
+  -- whatever draws are lent
+  lent-with : (l : List ℕ) → program-outcome (v .event) l (v .output) xs ≡ packed-answer (Handle.handle (unpack xs) (v .event) l (length (v .output)))
+  unfolding answered
+  lent-with l = answers xs ok (record { event = v .event; are-bytes = v .are-bytes; draws = l; output = v .output })
+
+  -- which draws are kept is the program's as it is the definition's
+  kept-as : (n : ℕ) (ds : List ℕ)
+      → FewerKept n (λ l. Handle.handle (unpack xs) (v .event) l (length (v .output)) .code) (λ l. Handle.handle (unpack xs) (v .event) l (length (v .output)) .used) (λ l. Handle.handle (unpack xs) (v .event) l (length (v .output)) .state) ds
+      → FewerKept n (λ l. program-outcome (v .event) l (v .output) xs .code) (λ l. program-outcome (v .event) l (v .output) xs .draws) (λ l. unpack (program-outcome (v .event) l (v .output) xs .words)) ds
+  unfolding packed-answer
+  kept-as n ds k =
+      fewer-as (λ (g : Station). unpack (pack g)) (λ l. ap (λ (x : Outcome). x .code) (lent-with l)) (λ l. ap (λ (x : Outcome). x .draws) (lent-with l)) (λ l. ap (λ (x : Outcome). unpack (x .words)) (lent-with l)) k
+
+-- A draw is missed only where fewer than 512 were kept, an accepted call keeps at most 512 of those it uses, and 512 draws below 2^32 - 32 and 8,192 bytes suffice, whatever the event and the words that keep the rules.
 pub enough-lent : D.Enough-lent
 unfolding answered packed-answer
 enough-lent xs ok v =
-    let lent-with : (l : List ℕ) → program-outcome (v .event) l (v .output) xs ≡ packed-answer (definition.handle (unpack xs) (v .event) l (length (v .output))) =
-    (λ l. answers xs ok (record { event = v .event; are-bytes = v .are-bytes; draws = l; output = v .output })) in
-    let e = lent-with (v .draws) in
+    let room = length (v .output) in
+    let e = lent-with xs ok v (v .draws) in
     let code = ap (λ (x : Outcome). x .code) e in
     let draws = ap (λ (x : Outcome). x .draws) e in
-    let k = enough (unpack xs) (rules-kept xs ok) (v .draws) (length (v .output)) (v .event) (v .are-bytes) in
+    let k = enough (unpack xs) (rules-kept xs ok) (v .draws) room (v .event) (v .are-bytes) in
     record {
-      five = λ f. fewer-as (λ (g : Station). unpack (pack g)) (λ l. ap (λ (x : Outcome). x .code) (lent-with l)) (λ l. ap (λ (x : Outcome). x .draws) (lent-with l)) (λ l. ap (λ (x : Outcome). unpack (x .words)) (lent-with l))
-          (fewer-kept (unpack xs) (rules-kept xs ok) (v .event) (v .are-bytes) (v .draws) (length (v .output)) (sym code ∙ f));
+      five = λ f. kept-as xs ok v 512 (v .draws) (fewer-kept (unpack xs) (rules-kept xs ok) (v .event) (v .are-bytes) (v .draws) room (sym code ∙ f));
+      kept-used = λ z. subst (λ (n : ℕ). FewerKept 513 (λ l. program-outcome (v .event) l (v .output) xs .code) (λ l. program-outcome (v .event) l (v .output) xs .draws) (λ l. unpack (program-outcome (v .event) l (v .output) xs .words)) (take n (v .draws)))
+          (sym draws) (kept-as xs ok v 513 (take (Handle.handle (unpack xs) (v .event) (v .draws) room .used) (v .draws)) (most-kept (unpack xs) (rules-kept xs ok) (v .event) (v .are-bytes) (v .draws) room (sym code ∙ z)));
       no-five = λ h a f. k .no-five h a (sym code ∙ f);
       no-nine = λ h f. k .no-nine h (sym code ∙ f);
       draws-used = draws;
@@ -149,14 +164,14 @@ enough-lent xs ok v =
 
 -- a code of `handle` at a station that keeps the rules is 0, 3, 4, or from 5 to 10
 not-one : (g : Station) → station-ok g ≡ true → (v : Call) → result-of v g .code ≡ 1 → ⊥
-unfolding answered definition.handle definition.handle-reading definition.finish definition.accepted definition.refusal
+unfolding answered Handle.handle Handle.handle-reading Handle.finish Handle.accepted Handle.refusal
 not-one g ok v =
     let room = length (v .output) in
-    rw (choose-yes (station-ok g) (definition.handle-reading (read-event (v .event)) g (v .draws) room) (definition.refusal 2 g room) ok)
-    (by-reading (v .event) (v .are-bytes) (λ (x : Reading). definition.handle-reading x g (v .draws) room .code ≡ 1 → ⊥) (λ c l h e. omega (arith, l, e))
-    (λ w. let r = definition.steps (rec-of (v .event)) (definition.start g (v .draws) room) in
+    rw (choose-yes (station-ok g) (Handle.handle-reading (read-event (v .event)) g (v .draws) room) (Handle.refusal 2 g room) ok)
+    (by-reading (v .event) (v .are-bytes) (λ (x : Reading). Handle.handle-reading x g (v .draws) room .code ≡ 1 → ⊥) (λ c l h e. omega (arith, l, e))
+    (λ w. let r = Handle.steps (rec-of (v .event)) (Handle.start g (v .draws) room) in
     let k = finished g ok (v .draws) room (rec-of (v .event)) w in
-    by-choice (λ (a : definition.Result). a .code ≡ 1 → ⊥) (eqb (r .code) 0) (λ z e. omega (arith, e)) (λ z e. let five = k .codes .low (omega (arith, e)) in omega (arith, five, e))))
+    by-choice (λ (a : Handle.Result). a .code ≡ 1 → ⊥) (eqb (r .code) 0) (λ z e. omega (arith, e)) (λ z e. let five = k .codes .low (omega (arith, e)) in omega (arith, five, e))))
 
 pub never-one : D.Never-one
 unfolding program-outcome packed-answer Handled.refused-words
@@ -206,7 +221,7 @@ value-packs = record {
 
 -- The state after a list of calls is the definition's, packed.
 pub states-same : (me : ℕ) (g : Bool × List ℕ) (c : Config) → NewGiven me (value-program .own g) → value-program .new-code me g c ≡ 0
-    → (vs : List Call) → state-after value-program vs (value-program .new-state me g c) ≡ record { words = pack (state-after calls.definition vs (definition.new me (value-program .own g) c .state)) }
+    → (vs : List Call) → state-after value-program vs (value-program .new-state me g c) ≡ record { words = pack (state-after calls.definition vs (Handle.new me (value-program .own g) c .state)) }
 unfolding made-state pack-made
 states-same me g c t z vs = states-packed value-packs me (value-program .own g) c t z vs
 

@@ -5,7 +5,7 @@ use Prim.Native.Nat.{ℕ, _≤_}
 use mathlib.Core.Path.{_≡_}
 use mathlib.Core.Bool.{Bool, true, false}
 use mathlib.Core.List.{List}
-use lib.ListN.{length, replicate}
+use lib.ListN.{length, take, replicate}
 use Rattle.base_lists.specs.Lists.{null, without}
 use Rattle.base_timing.specs.declared.Config.{Config}
 use Rattle.base_util.specs.Chances.{sure-end}
@@ -14,7 +14,7 @@ use Rattle.spec_hyparview.specs.Station.{Station}
 use Rattle.spec_hyparview.specs.Messages.{ends-here, learn-joiner}
 use Rattle.spec_hyparview.specs.Rules.{all-under}
 use Rattle.spec_hyparview.specs.Kept.{FewerKept}
-use Rattle.spec_hyparview.specs.Handle as definition
+use Rattle.spec_hyparview.specs.Handle as Handle
 use Rattle.spec_history.specs.Calls.{Call, Machine, After-new, code-of, state-after}
 use Rattle.spec_history.specs.Demand.{Demand3-of}
 use Rattle.spec_history.specs.Outputs.{Outputs-of}
@@ -85,11 +85,14 @@ Timers-taken = Timers-taken-of program
 pub record Suffices {G S : Type 0} (m : Machine G S) (station : S → Station) (s : S) (v : Call) : Type 0 where
   -- "8,192 output bytes and 512 draws always suffice"; by 02, S-6, 512 draws that are kept: code 5 is answered only where fewer than 512 of those lent were kept
   pub five : code-of m v s ≡ 5 → FewerKept 512 (λ ds. m .code (v .event) ds (v .output) s) (λ ds. m .used (v .event) ds (v .output) s) (λ ds. station (m .state (v .event) ds (v .output) s)) (v .draws)
+  -- and an accepted call keeps at most 512, fewer than 513, of the draws that it uses
+  pub kept-used : code-of m v s ≡ 0
+      → FewerKept 513 (λ ds. m .code (v .event) ds (v .output) s) (λ ds. m .used (v .event) ds (v .output) s) (λ ds. station (m .state (v .event) ds (v .output) s)) (take (m .used (v .event) (v .draws) (v .output) s) (v .draws))
   -- and so 512 draws below 2^32 - 32 suffice, which every choice keeps
   pub no-five : 512 ≤ length (v .draws) → all-under sure-end (v .draws) ≡ true → code-of m v s ≡ 5 → ⊥
   pub no-nine : 8192 ≤ length (v .output) → code-of m v s ≡ 9 → ⊥
   -- "The count in the result equals the draws the definition consumes"; by S-6 those lent bound it, and no longer 512
-  pub draws-used : m .used (v .event) (v .draws) (v .output) s ≡ definition.handle (station s) (v .event) (v .draws) (length (v .output)) .used
+  pub draws-used : m .used (v .event) (v .draws) (v .output) s ≡ Handle.handle (station s) (v .event) (v .draws) (length (v .output)) .used
   pub few-draws : m .used (v .event) (v .draws) (v .output) s ≤ length (v .draws)
 
 -- of words that keep the rules
@@ -111,7 +114,7 @@ Never-eight-after = Never-eight-of program
 abbrev pub Goes-on : Station → Type 0
 Goes-on s =
     (ds : List ℕ) (room from : ℕ) (n : Node) (ttl : ℕ) → ends-here (n .id) ttl s ≡ false
-    → null (without from ((learn-joiner n ttl (definition.start s ds room)) .station .active)) ≡ false
+    → null (without from ((learn-joiner n ttl (Handle.start s ds room)) .station .active)) ≡ false
 
 -- of words that keep the rules
 abbrev pub Never-unreachable : Type 0
@@ -134,7 +137,7 @@ Refused-zeroes = (me : ℕ) (g : Lending) (c : Config) → program .new-code me 
 -- what `State::new` hands back
 unfoldable pub made-state : ℕ → Bool → List ℕ → Config → by-value.MadeState
 made-state me present own c =
-    let m = pack-made (definition.new me (lent present own) c) in
+    let m = pack-made (Handle.new me (lent present own) c) in
     record { code = m .code; state = record { words = m .words } }
 
 abbrev pub value-program : Machine (Bool × List ℕ) State

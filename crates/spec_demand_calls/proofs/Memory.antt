@@ -138,7 +138,7 @@ pub enough-lent : M.Enough-lent
 unfolding memory-outcome D.program-outcome called tallied
 enough-lent x ok v =
     let k = P.enough-lent (x .words) ok v in
-    record { five = k .five; no-five = k .no-five; no-nine = k .no-nine; draws-used = k .draws-used; few-draws = k .few-draws }
+    record { five = k .five; kept-used = k .kept-used; no-five = k .no-five; no-nine = k .no-nine; draws-used = k .draws-used; few-draws = k .few-draws }
 
 pub never-one : M.Never-one
 unfolding memory-outcome D.program-outcome called tallied

@@ -18,7 +18,7 @@ use Rattle.spec_hyparview.specs.Station.{Station}
 use Rattle.spec_hyparview.specs.Invariant.{Roomy}
 use Rattle.spec_hyparview.specs.Run.{Run, with-used, with-out, with-code, guard, on, emit, draw, require}
 use Rattle.spec_hyparview.proofs.Among.{all-append}
-use Rattle.spec_hyparview.proofs.Readers.{Which, whole, kept, small, Sure, Parts, part, joined, part-joined, no-parts, part-none, Reading, took, wants}
+use Rattle.spec_hyparview.proofs.Readers.{Which, whole, kept, small, Sure, Parts, part, joined, part-both, part-joined, no-parts, part-none, Reading, took, wants}
 use Rattle.spec_hyparview.proofs.Readers as R
 
 -- two runs that differ in draws, and in what the records written hold
@@ -64,7 +64,7 @@ code-of p e = ap (λ (m : Run). m .code) p ∙ e
 pub data Follows (f : Run → Run) (r : Run) (ds : List ℕ) : Type 0 where
   goes : (p : Parts) (t : List ℕ) → ds ≡ p .whole-of ++ t → (f r .code ≡ 5 → ⊥)
       → ((i : Which) (w : Run) (u : List ℕ) → Like r w → At w (part i p ++ u) → Like (f r) (f w) × At (f w) u) → Follows f r ds
-  ends : (p : Parts) → ds ≡ p .whole-of → ((w : Run) → Like r w → At w (p .small-of) → f w .code ≡ 5)
+  ends : (p : Parts) → ds ≡ p .whole-of → ((i : Which) (w : Run) → Like r w → At w (part i p) → f w .code ≡ 5)
       → ((u : List ℕ) (w z : Run) → Like r w → Like r z → At w (p .whole-of ++ u) → At z (p .kept-of ++ u) → Alike (f w) (f z)) → Follows f r ds
   crowded : (js : List ℕ) → All Sure js → ((w : Run) → Like r w → At w js → (f w .code ≡ 5) × (Roomy (f w .station) → ⊥)) → Follows f r ds
 
@@ -85,7 +85,7 @@ even-any k r w a =
 same-follows : {f g : Run → Run} (r : Run) (ds : List ℕ) → ((w : Run) → Like r w → g w ≡ f w) → Follows f r ds → Follows g r ds
 same-follows {f} {g} r ds q (goes p t e n k) =
     goes p t e (λ c. n (code-of (sym (q r (like-self r))) c)) (λ i w u l a. let x = k i w u l a in (like-of (q r (like-self r)) (q w l) (x .0), at-of (q w l) (x .1)))
-same-follows {f} {g} r ds q (ends p e k h) = ends p e (λ w l a. code-of (q w l) (k w l a)) (λ u w z l m a b. alike-of (q w l) (q z m) (h u w z l m a b))
+same-follows {f} {g} r ds q (ends p e k h) = ends p e (λ i w l a. code-of (q w l) (k i w l a)) (λ u w z l m a b. alike-of (q w l) (q z m) (h u w z l m a b))
 same-follows {f} {g} r ds q (crowded js s k) =
     crowded js s (λ w l a. let x = k w l a in (code-of (q w l) (x .0), subst (λ (m : Run). Roomy (m .station) → ⊥) (sym (q w l)) (x .1)))
 
@@ -132,7 +132,7 @@ module _ {F g : Run → Run} (f : Run → Run) (r : Run) (ds : List ℕ) (p : Pa
       let x = h i (f w) u (s .like) (s .at) in (like-of (b .same) (s .same) (x .0), at-of (s .same) (x .1)))
   extend (ends q e2 h m) =
       ends (joined p q) (e ∙ ap (λ (l : List ℕ). p .whole-of ++ l) e2)
-      (λ w l a. let s = k small w (q .small-of) l a in code-of (s .same) (h (f w) (s .like) (s .at)))
+      (λ i w l a. let s = k i w (part i q) l (subst (At w) (part-both i p q) a) in code-of (s .same) (h i (f w) (s .like) (s .at)))
       (λ u w z l y a c.
       let s = k whole w (q .whole-of ++ u) l (subst (At w) (append-assoc (p .whole-of) (q .whole-of) u) a) in
       let v = k kept z (q .kept-of ++ u) y (subst (At z) (append-assoc (p .kept-of) (q .kept-of) u) c) in
@@ -156,7 +156,7 @@ module _ {f g : Run → Run} (k : Plays f) (h : Plays g) where
       let step : (i : Which) (w : Run) (u : List ℕ) → Like r w → At w (part i p ++ u) → Step (λ x. g (f x)) g f r w u = (λ i w u l b. let x = m i w u l b in record { same = refl; like = x .0; at = x .1 }) in
       chain f r ds p t e step (step whole r t (like-self r) (subst (At r) e a)) h n
   then-follows r ds a (ends p e m n) =
-      ends p e (λ w l b. let c = m w l b in code-of (h .strict (f w) (λ z. five-not (f w) c z)) c) (λ u w z l y b c. even-any h (f w) (f z) (n u w z l y b c))
+      ends p e (λ i w l b. let c = m i w l b in code-of (h .strict (f w) (λ z. five-not (f w) c z)) c) (λ u w z l y b c. even-any h (f w) (f z) (n u w z l y b c))
   then-follows r ds a (crowded js s m) =
       crowded js s (λ w l b. let x = m w l b in let y = h .strict (f w) (λ z. five-not (f w) (x .0) z) in (code-of y (x .0), subst (λ (v : Run). Roomy (v .station) → ⊥) (sym y) (x .1)))
 
@@ -257,7 +257,7 @@ module _ {f : Run → Run} (k : Plays f) (e : Run → Rec) (q : (r w : Run) → 
   tell-follows r ds (goes p t c n m) =
       goes p t c (λ y. n (emit-five (e r) (f r) y)) (λ i w u l a. let x = m i w u l a in (like-emit (e r) (e w) (q r w (l .station)) (f r) (f w) (x .0), at-emit (e w) (f w) u (x .1)))
   tell-follows r ds (ends p c m n) =
-      ends p c (λ w l a. let y = m w l a in code-of (emit-rests (e w) (f w) (five-not (f w) y)) y)
+      ends p c (λ i w l a. let y = m i w l a in code-of (emit-rests (e w) (f w) (five-not (f w) y)) y)
       (λ u w z l y a b. alike-emit w z (y .station ∙ sym (l .station)) (n u w z l y a b))
     where
       alike-emit : (w z : Run) → z .station ≡ w .station → Alike (f w) (f z) → Alike (emit (e w) (f w)) (emit (e z) (f z))
@@ -361,9 +361,9 @@ module _ {A : Type 0} (m : Station → List ℕ → ℕ) (v : Station → List �
   read-follows r ds z b (wants p n a e f h o) =
       let s = r .station in
       ends p e
-      (λ w l c. let y : w .code ≡ 0 = l .code ∙ z in
-      let c′ = subst (At w) (sym (append-nil (p .small-of))) c in
-      code-of (met-as s w (p .small-of ++ []) (length (p .small-of) + n []) (a []) (l .station) c′ (f small []) (h small []) ∙ refused s (a []) w (length (p .small-of) + n []) (p .small-of) y c (omega (arith, o []))) refl)
+      (λ i w l c. let y : w .code ≡ 0 = l .code ∙ z in
+      let c′ = subst (At w) (sym (append-nil (part i p))) c in
+      code-of (met-as s w (part i p ++ []) (length (part i p) + n []) (a []) (l .station) c′ (f i []) (h i []) ∙ refused s (a []) w (length (part i p) + n []) (part i p) y c (omega (arith, o []))) refl)
       (λ u w x l j c d.
       alike-of (met-as s w (p .whole-of ++ u) (length (p .whole-of) + n u) (a u) (l .station) c (f whole u) (h whole u)) (met-as s x (p .kept-of ++ u) (length (p .kept-of) + n u) (a u) (j .station) d (f kept u) (h kept u))
       (even-any (k s (a u)) _ _

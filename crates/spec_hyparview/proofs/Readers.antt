@@ -55,6 +55,12 @@ joined p q = record {
   sure = all-append Sure (p .small-of) (q .small-of) (p .sure) (q .sure);
 }
 
+pub part-both : (i : Which) (p q : Parts) → part i (joined p q) ≡ part i p ++ part i q
+unfolding part joined
+part-both whole p q = refl
+part-both kept p q = refl
+part-both small p q = refl
+
 pub part-joined : (i : Which) (p q : Parts) (u : List ℕ) → part i (joined p q) ++ u ≡ part i p ++ (part i q ++ u)
 unfolding part joined
 part-joined whole p q u = append-assoc (p .whole-of) (q .whole-of) u
