@@ -17,7 +17,6 @@ use Rattle.spec_hyparview.specs.Rules.{short-data, station-ok}
 use Rattle.spec_hyparview.specs.Handle as Handle
 use Rattle.record.specs.Read.{Reading, read-event, rec-of}
 use Rattle.spec_hyparview.proofs.Reading.{by-reading}
-use Rattle.spec_hyparview.proofs.Written.{writes-records}
 use Rattle.spec_hyparview.proofs.Bounds.{finished}
 use Rattle.spec_hyparview.specs.Kept.{FewerKept}
 use Rattle.spec_hyparview.proofs.Enough.{enough}
@@ -34,8 +33,6 @@ use Rattle.spec_history.proofs.Packing.{demand-packed, eight-packed, rejoin-pac
 use Rattle.tally.proofs.History.{counts-all}
 use Rattle.shuffle_times.specs.Claims.{Timed}
 use Rattle.shuffle_times.proofs.Packed.{timed-packed}
-use Rattle.timer_events.specs.Claims.{NotMalformed}
-use Rattle.timer_events.proofs.Accepted.{written-taken}
 use Rattle.hyparview_state.specs.Layout.{words}
 use Rattle.hyparview_state.specs.Unpack.{unpack}
 use Rattle.hyparview_rules.specs.Pack.{pack}
@@ -180,16 +177,6 @@ never-one xs v e =
     (λ ok. not-one (unpack xs) (rules-kept xs ok) v (sym (ap (λ (x : Outcome). x .code) (answers xs ok v)) ∙ e))
     (λ broken. let two : 2 ≡ 1 = ap (λ (x : Outcome). x .code) (handled-two xs (v .event) (v .draws) (length (v .output)) broken) ∙ e in omega (arith, two))
 
--- The timers of an accepted output are taken by the timer queue.
-pub timers-taken : D.Timers-taken
-unfolding program-outcome answered packed-answer Handled.refused-words
-timers-taken xs v n z =
-    split (state-ok xs)
-    (λ ok. let e = answers xs ok v in
-    subst NotMalformed (sym (ap (λ (x : Outcome). x .output) e))
-    (written-taken _ (writes-records (unpack xs) (rules-kept xs ok) (v .event) (v .are-bytes) (v .draws) n (length (v .output)) (sym (ap (λ (x : Outcome). x .code) e) ∙ z))))
-    (λ broken. let two : 2 ≡ 0 = ap (λ (x : Outcome). x .code) (handled-two xs (v .event) (v .draws) (length (v .output)) broken) ∙ z in absurd (omega (arith, two)))
-
 -- No call is answered 8.
 pub never-eight : D.Never-eight
 unfolding answered packed-answer
@@ -236,7 +223,6 @@ by-value-holds =
       read-back = outputs;
       counted = λ me g c t z vs n. counts-all value-program _ vs _ (outputs me g c t z vs n);
       timed = λ me g c t z. timed-packed value-packs me (value-program .own g) c t z;
-      timers = λ s v n z. timers-taken (s .words) v n z;
       never-eight = λ me g c t z vs. eight-packed value-packs me (value-program .own g) c t z vs;
       goes-on = λ me g c t z vs. never-unreachable (state-after value-program vs (value-program .new-state me g c) .words) (demand me g c t z vs .rules-hold);
     }

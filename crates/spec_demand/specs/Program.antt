@@ -22,7 +22,6 @@ use Rattle.spec_history.specs.Refusals.{Never-eight-of}
 use Rattle.spec_history.specs.Rejoin.{Rejoin-of}
 use Rattle.tally.specs.History.{Counts-of}
 use Rattle.shuffle_times.specs.Claims.{Timed-of}
-use Rattle.timer_events.specs.Claims.{Timers-taken-of}
 use Rattle.hyparview_state.specs.Layout.{words}
 use Rattle.hyparview_state.specs.Unpack.{unpack}
 use Rattle.hyparview_rules.specs.Ok.{state-ok}
@@ -76,10 +75,6 @@ Every-message-counted = Counts-of program
 -- S-11 of document 02: when its shuffles are due
 abbrev pub Shuffles-timed : Type 0
 Shuffles-timed = Timed-of program
-
--- S-1 of document 02: the timers of an accepted output are never answered 3 by its timer queue, whatever the words are
-abbrev pub Timers-taken : Type 0
-Timers-taken = Timers-taken-of program
 
 -- of one call to a machine, at a state that stands for a station
 pub record Suffices {G S : Type 0} (m : Machine G S) (station : S → Station) (s : S) (v : Call) : Type 0 where
@@ -164,6 +159,5 @@ pub record By-value-holds : Type 0 where
   pub read-back : Outputs-of value-program
   pub counted : Counts-of value-program
   pub timed : Timed-of value-program
-  pub timers : Timers-taken-of value-program
   pub never-eight : Never-eight-of value-program
   pub goes-on : Goes-on-of value-program unpack-state
