@@ -1,3 +1,4 @@
 pub mod Program
 pub mod Draws
 pub mod Tied
+pub mod Timers

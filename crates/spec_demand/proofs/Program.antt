@@ -51,11 +51,11 @@ ok-both : (xs : List ℕ) → state-ok xs ≡ true → (packed-ok xs && station-
 unfolding state-ok
 ok-both xs ok = ok
 
-rules-kept : (xs : List ℕ) → state-ok xs ≡ true → station-ok (unpack xs) ≡ true
+pub rules-kept : (xs : List ℕ) → state-ok xs ≡ true → station-ok (unpack xs) ≡ true
 rules-kept xs ok = and-right (packed-ok xs) (station-ok (unpack xs)) (ok-both xs ok)
 
 -- at words that keep the rules the program answers what the definition does, packed
-answers : (xs : List ℕ) → state-ok xs ≡ true → (v : Call) → program-outcome (v .event) (v .draws) (v .output) xs ≡ packed-answer (result-of v (unpack xs))
+pub answers : (xs : List ℕ) → state-ok xs ≡ true → (v : Call) → program-outcome (v .event) (v .draws) (v .output) xs ≡ packed-answer (result-of v (unpack xs))
 unfolding program-outcome handled answered
 answers xs ok v = choose-yes _ _ _ (and-left (packed-ok xs) _ (ok-both xs ok))
 

@@ -144,10 +144,6 @@ pub never-one : M.Never-one
 unfolding memory-outcome D.program-outcome called tallied
 never-one x v e = P.never-one (x .words) v e
 
-pub timers-taken : M.Timers-taken
-unfolding memory-outcome D.program-outcome called tallied
-timers-taken x v n z = P.timers-taken (x .words) v n z
-
 pub never-eight : M.Never-eight
 unfolding memory-outcome D.program-outcome called tallied
 never-eight x ok v e = P.never-eight (x .words) ok v e

@@ -20,7 +20,6 @@ use Rattle.tally.specs.Counts.{top}
 use Rattle.tally.specs.Sum.{total}
 use Rattle.tally.specs.History.{no-messages}
 use Rattle.shuffle_times.specs.Claims.{Timed-of}
-use Rattle.timer_events.specs.Claims.{Timers-taken-of}
 use Rattle.hyparview_state.specs.Layout.{words}
 use Rattle.hyparview_state.specs.Unpack.{unpack}
 use Rattle.hyparview_rules.specs.Ok.{state-ok}
@@ -93,10 +92,6 @@ Every-message-counted =
 -- S-11 of document 02: when its shuffles are due
 abbrev pub Shuffles-timed : Type 0
 Shuffles-timed = Timed-of c-calls
-
--- S-1 of document 02: the timers of an accepted output are never answered 3 by `timer_map_insert_records`, whatever the words, the tally and the queue's words are
-abbrev pub Timers-taken : Type 0
-Timers-taken = Timers-taken-of c-calls
 
 -- "8,192 output bytes and 512 draws always suffice", by 02, S-6, draws that are kept: of one call at words that keep the rules, whatever the tally is
 abbrev pub Enough-lent : Type 0
