@@ -15,7 +15,7 @@ expired t = eqb t 0
 unfoldable pub next : ℕ → ℕ
 next t = t - 1
 
--- The Rust's constants; times in milliseconds.
+-- The Rust's constants; times in milliseconds. Why each number is so, the code says at its constants.
 abbrev pub initial-shuffle-interval : ℕ
 initial-shuffle-interval = 1000
 
@@ -37,7 +37,7 @@ max-bootstrap-peers = 8
 abbrev pub max-recent-neighbors : ℕ
 max-recent-neighbors = 8
 
--- Config::default
+-- Config::default: the paper's settings (its page 9), but for the two times, which it does not name
 unfoldable pub default : Config
 default = record {
   «active_view_capacity» = 5;
@@ -87,10 +87,10 @@ in-range c =
     && (within 1 longest-time (c .«shuffle_interval»)
     && within 1 longest-time (c .«neighbor_request_timeout»))))))))
 
--- backoff_due: below 12 exactly one bit of n is set, from 12 on 12 divides n
+-- backoff_due: below 12 exactly one bit of n is set, from 12 on 12 divides n; so what fails is tried soon, and later once a minute
 unfoldable pub backoff-due : ℕ → Bool
 backoff-due n = choose (ltb n max-backoff-passes) (eqb (ones n) 1) (eqb (n % max-backoff-passes) 0)
 
--- "Delay": the jittered interval for the draw d
+-- "Delay": the jittered interval for the draw d, from three quarters of it to just under five, in whole numbers
 unfoldable pub delay : ℕ → ℕ → ℕ
 delay interval d = interval * (3 * 2 ^ 31 + d) / 2 ^ 33

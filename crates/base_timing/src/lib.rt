@@ -7,7 +7,7 @@ ghost use Rattle.base_timing.specs.Timing.{longest-time, expired, next, 
 pub struct Ttl(pub u16);
 
 impl Ttl {
-    // Whether the walk ends here.
+    // Whether the walk ends here: a message that has taken its last hop is not forwarded.
     pub fn expired(self) -> bool
         ensures { λ r. ⌜ r ≡ expired (self .0) ⌝ }
     {
@@ -40,7 +40,8 @@ pub struct Config {
 }
 
 impl Config {
-    // The top of each range: of the capacities, the walk lengths, what a shuffle takes of either view, and the times (an hour).
+    // The top of each range (document 01): of the capacities, the walk lengths, what a shuffle takes of either view, and the times (an hour).
+    // The two parts of a shuffle, 8 and 23, and the station itself are the 32 nodes that one record holds.
     pub const MOST_ACTIVE: u32 = 8;
 
     pub const MOST_PASSIVE: u32 = 32;
@@ -94,28 +95,29 @@ fn within(low: u32, high: u32, x: u32) -> bool
 pub struct Timing {}
 
 impl Timing {
-    // The first shuffle comes after so long, each later one after twice the last wait, up to the setting.
+    // Short, as a join leaves a small and one-sided passive view, which the first shuffles fill; each wait is twice the last, up to the setting.
     pub const INITIAL_SHUFFLE_INTERVAL: u32 = 1000;
 
-    // From one maintenance pass to the next.
+    // From one maintenance pass to the next: the paper has none, and Partisan makes the same test every 5 s.
     pub const MAINTENANCE_INTERVAL: u32 = 5000;
 
-    // How long a requested Join waits before it is sent once more.
+    // How long a requested Join waits before it is sent once more: the peer must have had time to be dialled and to answer, even by a relay.
     pub const JOIN_RETRY_DELAY: u32 = 10000;
 
-    // From this pass on every so many passes count, before it the powers of two.
+    // Passes 1, 2, 4 and 8 count, and then every twelfth: first after 5 s, later once a minute.
     pub const MAX_BACKOFF_PASSES: u32 = 12;
 
-    // How many peers a short station asks before it waits for the next pass or shuffle.
+    // How many a short station asks in one refill: a refusal leads to the next at once, so among full peers all would be dialled every time.
     pub const MAX_REQUESTS_PER_REFILL: u32 = 3;
 
-    // Most contacts that are remembered for a rejoin.
+    // Most contacts that are remembered for a rejoin, the latest ones: a station left alone tries them all.
     pub const MAX_BOOTSTRAP_PEERS: usize = 8;
 
-    // Most former neighbors that are remembered for a rejoin.
+    // Most former neighbors that are remembered for a rejoin, where the contacts may be gone.
     pub const MAX_RECENT_NEIGHBORS: usize = 8;
 
-    // The Rust's default settings.
+    // The Rust's default settings: counts and walks are the paper's (its page 9). The shuffle interval is a guess of the Rust's;
+    // the timeout is a dial and an answer on a slow network, and no longer, since a dead peer holds a place of the refill until then.
     pub fn default_settings() -> Config
         ensures { λ r. ⌜ r ≡ default ⌝ }
     {
@@ -133,7 +135,7 @@ impl Timing {
     }
 }
 
-// The shorter of two intervals.
+// An interval that starts at a second or doubles is no longer than the setting.
 pub fn shorter(a: u32, b: u32) -> u32
     ensures { λ r. ⌜ r ≡ min a b ⌝ }
 {
@@ -143,7 +145,7 @@ pub fn shorter(a: u32, b: u32) -> u32
     b
 }
 
-// Whether something is done at the nth pass in a row that wants it.
+// Whether something is done at the nth pass in a row that wants it: soon at first, then seldom, as what failed is likely to fail again.
 pub fn backoff_due(n: u32) -> bool
     ensures { λ r. ⌜ r ≡ backoff-due n ⌝ }
 {
@@ -154,7 +156,8 @@ pub fn backoff_due(n: u32) -> bool
     }
 }
 
-// The jittered delay of an interval for the draw d: from three quarters of it to just under five quarters.
+// The jittered delay of an interval for the draw d: from three quarters of it to just under five quarters, so that stations drift apart;
+// the two numbers are 3 * 2^31 and 2^33, as no float is used (document 01).
 pub fn delay(interval: u32, d: u32) -> u32
     requires { ⌜ interval ≤ longest-time ⌝ }
     ensures { λ r. ⌜ r ≡ delay interval d ⌝ }

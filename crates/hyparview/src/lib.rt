@@ -19,10 +19,10 @@ ghost use Rattle.base_peer.specs.Held.{data-in, ValidData};
 ghost use Rattle.hyparview_rules.specs.Pack.{front};
 ghost use Rattle.hyparview.specs.Queries.{wants-connection-in, is-neighbor-in, neighbors-in, spare-addresses-in};
 
-// The bytes of output that suffice for every event.
+// The bytes of output that suffice for every event (document 01).
 pub const OUTPUT: usize = 8192;
 
-// The draws that suffice for every event if they are below 2^32 - 32.
+// The draws that suffice for every event (document 01) if they are below 2^32 - 32, where none is passed over (02, S-6).
 pub const DRAWS: usize = 512;
 
 // The numbers of a station that has met no event, in the order of `Layout`, where the active view follows them.
@@ -63,8 +63,8 @@ fn first_numbers(me: PeerId, own: PeerData, config: Config) -> [u64; Layout::NUM
     ]
 }
 
-// State::new: self, own data lent as bytes or absent, and the settings. Code 1, and zeroes, where a setting is out of range or own data is over 16 bytes; code 2, and nothing touched, where the
-// words are too few or too many.
+// State::new: self, own data lent as bytes or absent, and the settings. Code 1, and zeroes, where a setting is out of range or own data is
+// over 16 bytes; code 2, and nothing touched, where the words are too few or too many.
 pub fn new(st: &mut [u64], me: PeerId, present: bool, own: &[u8], config: Config) -> u32
     ensures { λ r. ⌜ record { code = r; words = now (st .exit) } ≡ made (now (st .entry)) me (lent present (now (own .entry))) config ⌝ }
 {
@@ -91,7 +91,8 @@ pub fn new(st: &mut [u64], me: PeerId, present: bool, own: &[u8], config: Config
 
 // ---- what a supervisor asks
 
-// Whether a connection to the peer is wanted: it is a neighbor, or its reply to a Neighbor or a Join is awaited. Not by words that break a station rule.
+// Whether a connection to the peer is wanted: it is a neighbor, or its reply to a Neighbor or a Join is awaited, which a close would lose.
+// Not by words that break a station rule.
 pub fn wants_connection(st: &[u64], p: PeerId) -> bool
     ensures { λ r. ⌜ r ≡ wants-connection-in p (now (st .entry)) ⌝ }
 {
@@ -107,6 +108,7 @@ pub fn wants_connection(st: &[u64], p: PeerId) -> bool
     false
 }
 
+// No peer is one by words that break a station rule, as `handle` refuses them.
 pub fn is_neighbor(st: &[u64], p: PeerId) -> bool
     ensures { λ r. ⌜ r ≡ is-neighbor-in p (now (st .entry)) ⌝ }
 {
@@ -149,7 +151,7 @@ pub fn neighbor(st: &[u64], i: usize) -> PeerId
     0
 }
 
-// How many spare addresses there are.
+// How many spare addresses there are, that is passive peers, to fall back on when neighbors fail.
 pub fn spare_addresses(st: &[u64]) -> usize
     ensures { λ r. ⌜ r ≡ spare-addresses-in (now (st .entry)) ⌝ }
 {

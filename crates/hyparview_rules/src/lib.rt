@@ -15,7 +15,7 @@ ghost use Rattle.hyparview_rules.specs.Ok.{sections-ok, packed-ok, state
 
 // ---- a test of the numbers of a map
 
-// Whether every number of the map is below `end`.
+// Whether every number of the map is below `end`: one that is not would be given out again, and an old timer taken for a new one.
 fn numbers_under(m: &[u64], cap: usize, end: u64) -> bool
     requires { ⌜ ValidNumbers cap (now m) ⌝ }
     ensures { λ r. ⌜ r ≡ numbers-under end (numbers-at cap (now (m .entry))) ⌝ }
@@ -71,7 +71,7 @@ fn sections_valid(st: &[u64]) -> bool
 }
 // end
 
-// Whether every part is well formed, with zeroes in the unused places; of any words.
+// Whether every part is well formed, with zeroes in the unused places, so that a station has one form in words; of any words.
 fn is_packed(st: &[u64]) -> bool
     requires { ⌜ length (now st) ≡ words ⌝ }
     ensures { λ r. ⌜ r ≡ packed-ok (now (st .entry)) ⌝ }
@@ -190,8 +190,8 @@ fn numbers_rule(st: &[u64]) -> bool
         )
 }
 
-// Whether the words keep every station rule, unused places included; of any words, however many. That sets and maps have room, bootstrap and recent peers are few
-// and data are short is so of all well formed words.
+// Whether the words keep every station rule, unused places included; of any words, however many. That sets and maps have room, bootstrap
+// and recent peers are few and data are short is so of all well formed words.
 pub fn is_ok(st: &[u64]) -> bool
     ensures { λ r. ⌜ r ≡ state-ok (now (st .entry)) ⌝ }
 {

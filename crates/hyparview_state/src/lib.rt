@@ -15,8 +15,9 @@ ghost use Rattle.hyparview_state.specs.Layout.{words};
 ghost use Rattle.hyparview_state.specs.Unpack.{unpack, own-at, limit-at, refill-in, PackedState, Becomes};
 ghost use Rattle.hyparview_state.specs.Work.{Alters};
 
-// The layout of the state: the place of each number, and where each section begins and ends. A set is its places and then their count; a map has more columns of as many places before the
-// count. Every name is a whole constant, since a sum in the body of a function would be one more thing to prove.
+// The layout of the state: the place of each number, and where each section begins and ends. A set is its places and then their count;
+// a map has more columns of as many places before the count. Every name is a whole constant, since a sum in the body of a function would
+// be one more thing to prove.
 pub struct Layout {}
 
 impl Layout {
@@ -148,7 +149,7 @@ impl Layout {
     // end
 }
 
-// The last number of a request or a join (the Rust's `u64::MAX`), and the most passes that are counted (`u32::MAX`).
+// The last number of a request or a join (the Rust's `u64::MAX`), and the most passes that are counted (`u32::MAX`): past them is code 10.
 pub const TOP_COUNTER: u64 = 18446744073709551615;
 
 pub const TOP_PASSES: u64 = 4294967295;
@@ -162,6 +163,7 @@ pub enum RefillLimit {
 
 // ---- own data and the limit on refills
 
+// Own data as Join, Neighbor and Shuffle carry it.
 pub fn own_data(st: &[u64]) -> PeerData
     requires { ⌜ length (now st) ≡ words ⌝ }
     requires { ⌜ PackedState (now st) ⌝ }
@@ -176,6 +178,7 @@ pub fn own_data(st: &[u64]) -> PeerData
     }
 }
 
+// The limit out of its two words, as a case to be matched.
 pub fn limit_of(st: &[u64]) -> RefillLimit
     requires { ⌜ length (now st) ≡ words ⌝ }
     ensures { λ r. ⌜ r ≡ limit-at (now (st .entry)) ⌝ }
@@ -189,6 +192,7 @@ pub fn limit_of(st: &[u64]) -> RefillLimit
     RefillLimit::Recovery
 }
 
+// The word of the requests is 0 but in its own case, so that one limit has one form in words.
 pub fn keep_limit(st: &mut [u64], l: RefillLimit)
     requires { ⌜ length (now st) ≡ words ⌝ }
     requires { ⌜ PackedState (now st) ⌝ }
@@ -218,6 +222,7 @@ impl RefillLimit {
 
     pub const RECOVERY: u64 = 2;
 
+    // Steps test for this case alone: no limit replaces it, and no short pass counts while it runs.
     pub fn is_recovery(self) -> bool
         ensures { λ r. ⌜ r ≡ is-recovery (refill-in self) ⌝ }
     {
@@ -228,14 +233,14 @@ impl RefillLimit {
         }
     }
 
-    // A limit of `MAX_REQUESTS_PER_REFILL`.
+    // A limit of `MAX_REQUESTS_PER_REFILL`, for a short station, which has probably full peers to ask.
     pub fn few_requests() -> RefillLimit
         ensures { λ r. ⌜ refill-in r ≡ few-requests ⌝ }
     {
         RefillLimit::Requests(Timing::MAX_REQUESTS_PER_REFILL as u64)
     }
 
-    // No limit changes a recovery that runs.
+    // No limit changes a recovery that runs, since it has to ask until somebody accepts.
     pub fn unless_recovery(self, new: RefillLimit) -> RefillLimit
         ensures { λ r. ⌜ refill-in r ≡ unless-recovery (refill-in self) (refill-in new) ⌝ }
     {
@@ -248,6 +253,7 @@ impl RefillLimit {
 
 // ---- what several steps ask of the state
 
+// The station is no peer of its own: it is in no view, and no data is held under it.
 pub fn is_me(st: &[u64], p: PeerId) -> bool
     requires { ⌜ length (now st) ≡ words ⌝ }
     ensures { λ r. ⌜ r ≡ is-me p (unpack (now (st .entry))) ⌝ }
@@ -255,6 +261,7 @@ pub fn is_me(st: &[u64], p: PeerId) -> bool
     p == st[Layout::ME]
 }
 
+// Whether p is a neighbor, that is, connected.
 pub fn in_active(st: &[u64], p: PeerId) -> bool
     requires { ⌜ length (now st) ≡ words ⌝ }
     requires { ⌜ PackedState (now st) ⌝ }
@@ -267,6 +274,7 @@ pub fn in_active(st: &[u64], p: PeerId) -> bool
     )
 }
 
+// Whether p is a spare peer, known but not connected.
 pub fn in_passive(st: &[u64], p: PeerId) -> bool
     requires { ⌜ length (now st) ≡ words ⌝ }
     requires { ⌜ PackedState (now st) ⌝ }
@@ -279,7 +287,7 @@ pub fn in_passive(st: &[u64], p: PeerId) -> bool
     )
 }
 
-// Whether a request to p is open.
+// Whether a request to p is open: a Neighbor from p is then its answer, and a ShuffleReply from p comes before a refusal.
 pub fn is_requested(st: &[u64], p: PeerId) -> bool
     requires { ⌜ length (now st) ≡ words ⌝ }
     requires { ⌜ PackedState (now st) ⌝ }
@@ -292,7 +300,7 @@ pub fn is_requested(st: &[u64], p: PeerId) -> bool
     )
 }
 
-// Whether there is no neighbor.
+// Whether there is no neighbor: requests then have high priority, and no shuffle can be sent.
 pub fn is_alone(st: &[u64]) -> bool
     requires { ⌜ length (now st) ≡ words ⌝ }
     requires { ⌜ PackedState (now st) ⌝ }
@@ -301,6 +309,7 @@ pub fn is_alone(st: &[u64]) -> bool
     st[Layout::ACTIVE_COUNT] == 0
 }
 
+// A full view refuses low priority, and gives up a neighbor for high priority.
 pub fn active_is_full(st: &[u64]) -> bool
     requires { ⌜ length (now st) ≡ words ⌝ }
     requires { ⌜ PackedState (now st) ⌝ }
@@ -309,7 +318,7 @@ pub fn active_is_full(st: &[u64]) -> bool
     st[Layout::ACTIVE_VIEW_CAPACITY] <= st[Layout::ACTIVE_COUNT]
 }
 
-// Too few neighbors: fewer than half of those that there is room for, rounded up.
+// Fewer neighbors than half the capacity, rounded up: one place free is usual, since whoever could fill it is mostly full itself.
 pub fn is_short(st: &[u64]) -> bool
     requires { ⌜ length (now st) ≡ words ⌝ }
     requires { ⌜ PackedState (now st) ⌝ }
@@ -318,7 +327,7 @@ pub fn is_short(st: &[u64]) -> bool
     st[Layout::ACTIVE_COUNT] < (st[Layout::ACTIVE_VIEW_CAPACITY] + 1) / 2
 }
 
-// Whether a walk ends here for want of neighbors.
+// Whether a walk ends here for want of neighbors: the one that there is may have sent it.
 pub fn is_last_hop(st: &[u64]) -> bool
     requires { ⌜ length (now st) ≡ words ⌝ }
     requires { ⌜ PackedState (now st) ⌝ }
@@ -329,7 +338,7 @@ pub fn is_last_hop(st: &[u64]) -> bool
 
 // ---- the open requests and the open joins of a peer
 
-// The join to p is open no more.
+// p was heard from, or its retry is sent now, so that no further Join goes to it.
 pub fn drop_join(w: Work, st: &mut [u64], p: PeerId) -> Work
     requires { ⌜ length (now st) ≡ words ⌝ }
     requires { ⌜ PackedState (now st) ⌝ }
@@ -346,7 +355,7 @@ pub fn drop_join(w: Work, st: &mut [u64], p: PeerId) -> Work
     w
 }
 
-// The request to p is open no more.
+// The request to p was answered, has failed or is void, and its timer is to do nothing any more.
 pub fn drop_request(w: Work, st: &mut [u64], p: PeerId) -> Work
     requires { ⌜ length (now st) ≡ words ⌝ }
     requires { ⌜ PackedState (now st) ⌝ }
@@ -363,7 +372,8 @@ pub fn drop_request(w: Work, st: &mut [u64], p: PeerId) -> Work
     w
 }
 
-// Neither a join nor a request to p is open.
+// p joins or answers. Where it joins it knows nothing of an open request, which would keep its Join from being answered
+// (spec_hyparview/Messages `drop-pending`).
 pub fn drop_pending(w: Work, st: &mut [u64], p: PeerId) -> Work
     requires { ⌜ length (now st) ≡ words ⌝ }
     requires { ⌜ PackedState (now st) ⌝ }

@@ -16,7 +16,7 @@ use Rattle.spec_hyparview.specs.Peers.{insert-peer-info, drop-data, drop
 use Rattle.spec_hyparview.specs.Sending.{send-disconnect, reply-neighbor}
 use Rattle.spec_hyparview.specs.Refill.{unless-recovery, start-refill}
 
--- RemovalReason
+-- RemovalReason: the connection broke, a Disconnect came, alive or not, or room is made for a peer of high priority
 pub data Reason : Type 0 where
   connection-closed : Reason
   disconnect-received : Bool → Reason
@@ -35,6 +35,7 @@ drop-active i r = emit (notice (output-byte NeighborDown) (getD (r .station .act
 unfoldable pub demote : ℕ → Run → Run
 demote p r = add-passive p (lookup p (r .station .peer-data)) (on (drop-data p) r)
 
+-- the next close of its connection does not cost p its place in the passive view
 unfoldable pub mark-alive : ℕ → Station → Station
 mark-alive p s = set-alive (insert p (s .alive)) s
 
@@ -46,6 +47,7 @@ demote-alive p r = on (mark-alive p) (demote p r)
 unfoldable pub settle-closed : ℕ → Run → Run
 settle-closed p r = choose (is-marked p (r .station)) (demote p (on (drop-mark p) r)) (forget-peer p r)
 
+-- a neighbour picked at random is the only one that does not know yet, so it alone is sent a Disconnect
 unfoldable pub settle : Reason → ℕ → Run → Run
 settle connection-closed p r = settle-closed p r
 settle (disconnect-received true) p r = demote-alive p r
@@ -77,7 +79,7 @@ free-random-slot-in-active-view r = choose (is-alone (r .station)) r (remove-pic
 
 -- add_active_unchecked
 
--- remember_neighbor
+-- remember_neighbor: whom a station with empty views asks to let it in again, should its bootstrap peers be gone
 unfoldable pub remember-neighbor : ℕ → Station → Station
 remember-neighbor p s = set-recent (renew max-recent-neighbors p (s .recent)) s
 
@@ -109,6 +111,7 @@ unfoldable pub admit-new : ℕ → Bool → Bool → Run → Run
 admit-new p high reply r =
     choose (active-is-full (r .station)) (admit-full p high reply r) (add-active-unchecked p high reply r)
 
+-- a neighbour that asks again is answered again
 unfoldable pub admit : ℕ → Bool → Bool → Run → Run
 admit p high reply r = choose (in-active p (r .station)) (reply-neighbor reply p high r) (admit-new p high reply r)
 

@@ -33,6 +33,7 @@ oldest p s = getD (without p (s .bootstrap)) 0 0
 unfoldable pub drop-oldest-join : ℕ → Station → Station
 drop-oldest-join p s = set-joins (choose (must-drop-oldest p s) (cut (oldest p s) (s .joins)) (s .joins)) s
 
+-- the latest contacts, oldest first: a station with empty views joins through each of them again
 unfoldable pub push-bootstrap : ℕ → Station → Station
 push-bootstrap p s = set-bootstrap (renew max-bootstrap-peers p (s .bootstrap)) (drop-oldest-join p s)
 
@@ -40,6 +41,7 @@ push-bootstrap p s = set-bootstrap (renew max-bootstrap-peers p (s .bootstrap)) 
 unfoldable pub join-counts : Station → Bool
 join-counts s = ltb (s .next-join) top-counter
 
+-- the number tells the retry of this Join from that of an earlier one to p
 unfoldable pub note-join : ℕ → Station → Station
 note-join p s = set-joins (put p (s .next-join) (s .joins)) (set-next-join (s .next-join + 1) s)
 
@@ -54,6 +56,7 @@ await-join p r = emit (timer (kind-byte RetryJoin) p join-retry-delay (r .statio
 unfoldable pub join-other : ℕ → Run → Run
 join-other p r = choose (is-me p (r .station)) (join p r) (await-join p (join p r))
 
+-- a neighbour is not sent a Join: it would tell all its neighbours of it, and views would change for nothing
 unfoldable pub join-new : ℕ → Run → Run
 join-new p r = choose (in-active p (r .station)) r (join-other p r)
 
@@ -66,11 +69,11 @@ handle-join p r = join-new p (on (push-bootstrap p) r)
 unfoldable pub drop-dead : ℕ → Station → Station
 drop-dead p s = drop-data p (remove-passive p s)
 
--- a mark saves a passive peer once
+-- a mark saves a passive peer once: this may be the close that follows its alive Disconnect
 unfoldable pub lose-passive : ℕ → Run → Run
 lose-passive p r = choose (is-marked p (r .station)) (on (drop-mark p) r) (on (drop-dead p) r)
 
--- an open request to p has failed, and its timer is not waited for
+-- an open request to p has failed with its dial, and its timer is not waited for
 unfoldable pub lose-other : ℕ → Bool → Run → Run
 lose-other p requested r =
     choose requested (refill-active-from-passive (p ∷ []) (lose-passive p r)) (lose-passive p r)
@@ -92,6 +95,7 @@ update-own-data d s = set-own-data d s
 unfoldable pub remove-neighbor : ℕ → Station → Station
 remove-neighbor p s = set-active (remove p (s .active)) s
 
+-- not alive: whoever is told forgets the station, which can let nobody in any more
 unfoldable pub quit-one : ℕ → Run → Run
 quit-one p r = send-disconnect p false (on (remove-neighbor p) r)
 
@@ -102,6 +106,6 @@ quit-all (p ∷ ps) r = quit-all ps (quit-one p r)
 unfoldable pub clear-all : Station → Station
 clear-all s = set-requests [] (set-passive [] (set-peer-data [] (set-alive [] (set-refused [] s))))
 
--- handle_quit: over a copy of the active view, in its old order
+-- handle_quit: over a copy of the active view, in its old order; without NeighborDown, as the station's own user asked for it
 unfoldable pub handle-quit : Run → Run
 handle-quit r = on clear-all (quit-all (r .station .active) r)

@@ -22,7 +22,7 @@ use Rattle.spec_hyparview.specs.Events.{handle-join, handle-connection-c
 use Rattle.spec_hyparview.specs.Timers.{handle-shuffle-timer, handle-maintenance-timer, handle-pending-neighbor-timer, retry-join, schedule-shuffle, schedule-maintenance}
 use Rattle.spec_hyparview.specs.Rules.{short-data, station-ok}
 
--- State::new
+-- State::new; the first shuffle waits no longer than the setting
 unfoldable pub new-station : ℕ → Data → Config → Station
 new-station me d c = record {
   me = me;
@@ -85,7 +85,7 @@ first-data e = first-node (e .nodes) .data-of
 unfoldable pub is-high : Rec → Bool
 is-high e = eqb (e .flags) 1
 
--- "Disconnect bit 0 alive"
+-- "Disconnect bit 0 alive"; the other bit is the Rust's `_respond`, kept on the wire though nothing reads it
 unfoldable pub says-alive : Rec → Bool
 says-alive e = eqb (e .flags % 2) 1
 
@@ -119,7 +119,7 @@ dispatch e r = handle-kind (event-kind (e .kind)) e r
 unfoldable pub note-scheduled : Station → Station
 note-scheduled s = set-scheduled true s
 
--- the first accepted event starts the two timers that then start themselves again
+-- the first accepted event starts the two timers that then start themselves again, as `new` has no records to ask for them
 unfoldable pub first-timers : Run → Run
 first-timers r =
     choose (r .station .scheduled) r (schedule-maintenance (schedule-shuffle (on note-scheduled r)))

@@ -18,7 +18,7 @@ use Rattle.spec_hyparview.specs.Sending.{send-neighbor, send-shuffle-rep
 use Rattle.spec_hyparview.specs.Refill.{few-requests, refill-active-from-passive, start-refill}
 use Rattle.spec_hyparview.specs.Active.{disconnect-received, mark-alive, remove-active, add-active, accepts}
 
--- pending_joins.remove
+-- pending_joins.remove: p was heard from, so the Join to it needs no retry
 unfoldable pub drop-join : ℕ → Station → Station
 drop-join p s = set-joins (cut p (s .joins)) s
 
@@ -26,8 +26,9 @@ drop-join p s = set-joins (cut p (s .joins)) s
 unfoldable pub drop-request : ℕ → Station → Station
 drop-request p s = set-requests (cut p (s .requests)) s
 
--- on_join and on_neighbor start with both. In on_join the open request goes because its peer has started anew and knows nothing of it: it will not be answered, and
--- as long as it stands `send-neighbor` is silent, so that the Join would stay without an answer.
+-- on_join and on_neighbor start with both. In on_join the open request goes because its peer, mostly after a restart, knows nothing of it:
+-- it will not be answered, and as long as it stands `send-neighbor` is silent, so that the Join would stay without an answer. Where request
+-- and Join crossed on the way, p gets one Neighbor too many, and takes it for an answer to its own.
 unfoldable pub drop-pending : ℕ → Run → Run
 drop-pending p r = on (drop-request p) (on (drop-join p) r)
 
@@ -36,17 +37,18 @@ drop-pending p r = on (drop-request p) (on (drop-join p) r)
 unfoldable pub forward-join-to : Node → ℕ → ℕ → Rec
 forward-join-to n ttl q = message 1 q 0 0 ttl (n ∷ [])
 
--- each neighbour but p hears of p
+-- each neighbour but p hears of p; the walks begin with the paper's ARWL
 unfoldable pub forward-joins : ℕ → Data → Run → Run
 forward-joins p d r =
     emit-all (forward-join-to (node p d) (r .station .config .«active_random_walk_length»)) (without p (r .station .active)) r
 
--- on_join
+-- on_join: as in the paper p enters the active view even if a random neighbour has to leave it
 unfoldable pub on-join : ℕ → Data → Run → Run
 on-join p d r = forward-joins p d (add-active p d true true (drop-pending p r))
 
 -- on_forward_join
 
+-- a neighbour's tie is renewed; else the walk is used up, or one neighbour or none is left, and it cannot go on
 unfoldable pub ends-here : ℕ → ℕ → Station → Bool
 ends-here p ttl s = in-active p s || (expired ttl || is-last-hop s)
 
@@ -54,7 +56,7 @@ ends-here p ttl s = in-active p s || (expired ttl || is-last-hop s)
 unfoldable pub ask-joiner : Node → Run → Run
 ask-joiner n r = send-neighbor (n .id) true (insert-peer-info (n .id) (n .data-of) r)
 
--- at one point of its walk a joiner becomes a passive peer
+-- at one point of its walk, the paper's PRWL, a joiner becomes a passive peer
 unfoldable pub learn-joiner : Node → ℕ → Run → Run
 learn-joiner n ttl r =
     choose (eqb ttl (r .station .config .«passive_random_walk_length»)) (add-passive (n .id) (n .data-of) r) r
@@ -63,6 +65,7 @@ learn-joiner n ttl r =
 unfoldable pub forward-join-on : List ℕ → Node → ℕ → Run → Run
 forward-join-on others n ttl r = emit (forward-join-to n (next ttl) (picked others r)) (draw-one-of (length others) r)
 
+-- who is asked already counts as taken in, and is not passed on
 unfoldable pub walk-on : ℕ → Node → ℕ → Run → Run
 walk-on from n ttl r =
     choose (is-requested (n .id) (r .station)) r (forward-join-on (without from (r .station .active)) n ttl r)
@@ -74,9 +77,11 @@ on-forward-join from n ttl r =
 
 -- on_shuffle
 
+-- the time to live is tested before it is decreased, so that a Shuffle goes one hop further than in the paper
 unfoldable pub answers-shuffle : ℕ → Station → Bool
 answers-shuffle ttl s = expired ttl || is-last-hop s
 
+-- as many peers go back as came
 unfoldable pub answer-shuffle : ℕ → List Node → Run → Run
 answer-shuffle origin ns r = send-shuffle-reply origin (length ns) (add-nodes ns r)
 
@@ -84,7 +89,7 @@ unfoldable pub forward-shuffle : List ℕ → ℕ → List Node → ℕ → Run 
 forward-shuffle others origin ns ttl r =
     choose (null others) r (emit (message 2 (picked others r) 0 origin (next ttl) ns) (draw-one-of (length others) r))
 
--- on_shuffle
+-- on_shuffle; not forwarded to the origin either, which would shuffle with itself
 unfoldable pub on-shuffle : ℕ → ℕ → List Node → ℕ → Run → Run
 on-shuffle from origin ns ttl r =
     choose (answers-shuffle ttl (r .station)) (answer-shuffle origin ns r)
@@ -92,7 +97,7 @@ on-shuffle from origin ns ttl r =
 
 -- on_shuffle_reply
 
--- where its sender was asked, a reply announces a refusal: only a short station then asks another
+-- where its sender was asked, a reply announces a refusal (`send-disconnect`): only a short station then asks another
 unfoldable pub stops-at-refusal : ℕ → Station → Bool
 stops-at-refusal from s = is-requested from s && not (is-short s)
 
@@ -103,6 +108,8 @@ renews-limit from new s = not (is-requested from s) && (new && is-spent (s .refi
 unfoldable pub refill-with : Bool → Run → Run
 refill-with renewed r = choose renewed (start-refill few-requests [] r) (refill-active-from-passive [] r)
 
+-- a reply to the station's own shuffle lets it ask where it has a free place; one that is not short begins to ask only then, and when it
+-- lost a neighbour
 unfoldable pub after-reply : ℕ → Bool → Run → Run
 after-reply from new r =
     choose (stops-at-refusal from (r .station)) r (refill-with (renews-limit from new (r .station)) r)
@@ -117,6 +124,7 @@ on-shuffle-reply from ns r = after-reply from (any-new ns r) (add-nodes ns r)
 unfoldable pub refuse-neighbor : ℕ → Run → Run
 refuse-neighbor p r = forget-peer p (send-disconnect p true r)
 
+-- as in the paper high priority is always accepted, and low priority where a place is free
 unfoldable pub answer-neighbor : ℕ → Data → Bool → Bool → Run → Run
 answer-neighbor p d high reply r =
     choose (accepts p high (r .station)) (add-active p d high reply r) (refuse-neighbor p (add-active p d high reply r))
@@ -138,6 +146,7 @@ forget-recent p alive r = choose alive r (on (drop-recent p) r)
 unfoldable pub refused-fits : ℕ → Station → Bool
 refused-fits p s = mem p (s .refused) || ltb (length (s .refused)) max-refused
 
+-- its active view was full, so low priority skips it for now (Refill `skipped`)
 unfoldable pub add-refused : ℕ → Station → Station
 add-refused p s = set-refused (insert p (s .refused)) s
 
@@ -147,10 +156,11 @@ note-refused p r = on (add-refused p) (require 7 (refused-fits p (r .station)) r
 unfoldable pub note-refusal : ℕ → Bool → Run → Run
 note-refusal p requested r = choose requested (note-refused p r) r
 
+-- it stays on the topic: the close of its connection is not to cost it its place
 unfoldable pub mark-passive : ℕ → Run → Run
 mark-passive p r = choose (in-passive p (r .station)) (on (mark-alive p) r) r
 
--- out of the passive view; where it was asked, another is
+-- it left the topic or was never on it: out of the passive view; where it was asked, another is
 unfoldable pub left-topic : ℕ → Bool → Run → Run
 left-topic p requested r =
     choose requested (refill-active-from-passive (p ∷ []) (drop-passive p r)) (drop-passive p r)

@@ -50,10 +50,12 @@ drop-data p s = set-peer-data (cut p (s .peer-data)) s
 unfoldable pub drop-mark : ℕ → Station → Station
 drop-mark p s = set-alive (without p (s .alive)) s
 
+-- data and a mark tell of a peer in a view, so that each way out of a view must take them too
 unfoldable pub drop-traces : ℕ → Station → Station
 drop-traces p s = drop-mark p (drop-data p s)
 
--- forget_peer; a caller may not know whether the peer has entered a view meanwhile, so that is asked here
+-- forget_peer; a caller may not know whether the peer has entered a view meanwhile, so that is asked here: the timer of a request may
+-- expire when its peer has become a neighbour by another message
 unfoldable pub forget-peer : ℕ → Run → Run
 forget-peer p r = choose (in-view p (r .station)) r (on (drop-traces p) r)
 
@@ -76,6 +78,7 @@ must-evict s = passive-is-full s && not (null (s .passive))
 unfoldable pub evicted : Run → Option ℕ
 evicted r = choose (must-evict (r .station)) (some (picked (r .station .passive) r)) none
 
+-- any passive peer, at random: those that were sent to the other side, which the paper removes first, are not remembered
 unfoldable pub evict : Run → Run
 evict r = choose (must-evict (r .station)) (evict-at (one-of (length (r .station .passive)) r) (draw-one-of (length (r .station .passive)) r)) r
 
@@ -95,7 +98,7 @@ is-newcomer p s = not (is-me p s || in-view p s)
 unfoldable pub enter-passive : ℕ → Run → Run
 enter-passive p r = choose (is-newcomer p (r .station)) (on (push-passive p) (make-room r)) r
 
--- add_passive; what the Rust answers is `is-newcomer`, which the data do not change
+-- add_passive: one more peer to fall back on when neighbours fail; what the Rust answers is `is-newcomer`, which the data do not change
 unfoldable pub add-passive : ℕ → Data → Run → Run
 add-passive p d r = enter-passive p (insert-peer-info p d r)
 
@@ -124,6 +127,6 @@ remove-passive p s = set-passive (remove p (s .passive)) s
 unfoldable pub drop-passive : ℕ → Run → Run
 drop-passive p r = forget-peer p (on (remove-passive p) r)
 
--- alive_disconnect_peers.remove
+-- alive_disconnect_peers.remove; p said that it stays alive, so that the close of its connection, which follows, is no failure
 unfoldable pub is-marked : ℕ → Station → Bool
 is-marked p s = mem p (s .alive)

@@ -27,7 +27,7 @@ join p r = emit (join-to (r .station .own-data) p) r
 unfoldable pub send-nodes : ℕ → List ℕ → Run → Run
 send-nodes to ps r = emit (message 3 to 0 0 0 (peer-infos (r .station) ps)) r
 
--- where passive peers are too few, neighbours make up the number
+-- where passive peers are too few, as at a young station, neighbours make up the number
 unfoldable pub fill-active : ℕ → List ℕ → Run → List ℕ
 fill-active len ps r = ps ++ take (len - length ps) (shuffled (r .station .active) r)
 
@@ -45,7 +45,7 @@ send-shuffle-reply to len r =
 unfoldable pub reply-length : Station → ℕ
 reply-length s = s .config .«shuffle_active_view_count» + s .config .«shuffle_passive_view_count»
 
--- send_disconnect; the addresses go first, so that the other one is not left with nobody to ask
+-- send_disconnect; the addresses go first, so that the other one is not left with nobody to ask, above all one that has just joined
 unfoldable pub send-disconnect : ℕ → Bool → Run → Run
 send-disconnect p alive r =
     emit (message 5 p (flag alive) 0 0 []) (send-shuffle-reply p (reply-length (r .station)) r)
@@ -60,6 +60,7 @@ request-counts s = ltb (s .next-request) top-counter
 unfoldable pub request-fits : Station → Bool
 request-fits s = ltb (length (s .requests)) max-requests
 
+-- the number tells the timer of this Neighbor from that of an earlier one to p
 unfoldable pub note-request : ℕ → Station → Station
 note-request p s = set-requests (put p (s .next-request) (s .requests)) (set-next-request (s .next-request + 1) s)
 
@@ -72,14 +73,15 @@ open-request p r = on (note-request p) (require 6 (request-fits (r .station)) r)
 unfoldable pub neighbor-to : Data → Bool → ℕ → Rec
 neighbor-to d high p = message 4 p (flag high) 0 0 (node 0 d ∷ [])
 
+-- the timer runs from now on, so it has to cover the dial too; where the dial fails it is not waited for (Events `lose-other`)
 unfoldable pub tell-request : ℕ → Bool → ℕ → Run → Run
 tell-request p high id r =
     emit (timer (kind-byte PendingNeighborRequest) p (r .station .config .«neighbor_request_timeout») id) (emit (neighbor-to (r .station .own-data) high p) r)
 
--- send_neighbor: nothing is sent while a Neighbor to p is open; codes 10, 6, 9 in this order. A Neighbor is a request as well as the answer to one, and
--- which of the two one received is, is told by whether one to its sender is open (`on-neighbor`). So an answer is noted as open too, though nobody will
--- answer it: of two stations that asked each other twice, each then takes the second Neighbor for an answer, and they do not answer each other for ever.
--- The note of an answer ends with its timer alone.
+-- send_neighbor: nothing is sent while a Neighbor to p is open; codes 10, 6, 9 in this order. A Neighbor is a request as well as the answer
+-- to one, and which of the two one received is, is told by whether one to its sender is open (`on-neighbor`). So an answer is noted as open
+-- too, though nobody will answer it: of two stations that asked each other twice, each then takes the second Neighbor for an answer, and
+-- they do not answer each other for ever. The note of an answer ends with its timer alone.
 unfoldable pub send-neighbor : ℕ → Bool → Run → Run
 send-neighbor p high r =
     choose (is-requested p (r .station)) r

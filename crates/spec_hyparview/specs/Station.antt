@@ -33,10 +33,11 @@ pub record Station : Type 0 where
   pub config : Config
   -- timers_scheduled
   pub scheduled : Bool
-  -- next_shuffle_interval, in milliseconds
+  -- next_shuffle_interval, in milliseconds: it doubles up to the setting (Timers `double-interval`)
   pub next-interval : ℕ
-  -- bootstrap_peers, oldest first
+  -- bootstrap_peers, oldest first: with the recent neighbours all that a station with empty views has left to ask
   pub bootstrap : List ℕ
+  -- maintenance passes that the backoff counts: one after another with no peer known, and those while short since a neighbour was gained
   pub passes-alone : ℕ
   pub passes-short : ℕ
   -- recent_neighbors, the one seen last at the end; a peer that failed stays, since a station that lost its own network sees all of them fail
@@ -44,12 +45,14 @@ pub record Station : Type 0 where
   -- pending_neighbor_requests, with their numbers, and next_neighbor_request
   pub requests : List (ℕ × ℕ)
   pub next-request : ℕ
-  -- pending_joins, with their numbers
+  -- pending_joins, with their numbers: each waits for its one retry
   pub joins : List (ℕ × ℕ)
   pub next-join : ℕ
+  -- what came with other peers, such as addresses, to be passed on with them
   pub peer-data : List (ℕ × List ℕ)
-  -- alive_disconnect_peers
+  -- alive_disconnect_peers: passive peers whose connection is expected to close though they are alive
   pub alive : List ℕ
+  -- passive peers that were full when asked; forgotten when a neighbour leaves, when a pass refills and when the station is not short
   pub refused : List ℕ
   pub refill : Refill
 
@@ -111,7 +114,7 @@ active-is-full s = leb (s .config .«active_view_capacity») (length (s .active)
 unfoldable pub passive-is-full : Station → Bool
 passive-is-full s = leb (s .config .«passive_view_capacity») (length (s .passive))
 
--- is_short: "below half the capacity rounded up"
+-- is_short: "below half the capacity rounded up"; one place free is usual, since whoever could fill it is mostly full itself
 unfoldable pub is-short : Station → Bool
 is-short s = ltb (length (s .active)) ((s .config .«active_view_capacity» + 1) / 2)
 
@@ -135,7 +138,7 @@ is-spent automatic = false
 is-spent (requests-left n) = eqb n 0
 is-spent recovery = false
 
--- the peers asked that are not neighbours: pending_outside
+-- the peers asked that are not neighbours: pending_outside; what is open to a neighbour is an answer, and counts once
 unfoldable pub asked-outside : Station → List ℕ
 asked-outside s = without-all (s .active) (keys (s .requests))
 

@@ -20,6 +20,7 @@ use Rattle.spec_hyparview.specs.Refill.{few-requests, end-recovery, refi
 use Rattle.spec_hyparview.specs.Active.{clear-refused}
 use Rattle.spec_hyparview.specs.Messages.{drop-join, drop-request}
 
+-- whether a timer is that of what is open now
 unfoldable pub is-number : ℕ → Option ℕ → Bool
 is-number n none = false
 is-number n (some m) = eqb n m
@@ -29,6 +30,8 @@ is-number n (some m) = eqb n m
 unfoldable pub request-is : ℕ → ℕ → Station → Bool
 request-is p id s = is-number id (lookup p (s .requests))
 
+-- a request: p is taken as failed, and another is asked. An answer, which nobody answers: p is a neighbour and keeps its data, only the
+-- note goes, and another is asked only where the active view has room
 unfoldable pub request-failed : ℕ → Run → Run
 request-failed p r = refill-active-from-passive [] (drop-passive p (on (drop-request p) r))
 
@@ -45,17 +48,19 @@ retry-join p id r = choose (join-is p id (r .station)) (join p (on (drop-join p)
 
 -- schedule_shuffle
 
--- the next interval is twice as long, and at most the setting
+-- the next interval is twice as long, and at most the setting: a join brings few passive peers, those that its walks met, so the first
+-- shuffles come close together to fill the view; the paper's period is fixed
 unfoldable pub double-interval : Station → Station
 double-interval s = set-next-interval (min (2 * s .next-interval) (s .config .«shuffle_interval»)) s
 
--- the delay is of the interval before it was doubled
+-- the delay is of the interval before it was doubled; it varies by a quarter, or stations that started together would go on shuffling all
+-- at once
 unfoldable pub schedule-shuffle : Run → Run
 schedule-shuffle r = emit (timer (kind-byte DoShuffle) 0 (delay (r .station .next-interval) (drawn r)) 0) (draw 1 (on double-interval r))
 
 -- handle_shuffle_timer
 
--- the nodes chosen, and the station itself last
+-- the nodes chosen, and the station itself last, so that others learn of it
 unfoldable pub shuffle-nodes : List ℕ → Station → List Node
 shuffle-nodes ps s = peer-infos s ps ++ (node (s .me) (s .own-data) ∷ [])
 
@@ -63,7 +68,7 @@ unfoldable pub send-shuffle : ℕ → List ℕ → Run → Run
 send-shuffle to ps r =
     emit (message 2 to 0 (r .station .me) (r .station .config .«shuffle_random_walk_length») (shuffle-nodes ps (r .station))) r
 
--- shuffled_without_and_capped, of each view
+-- shuffled_without_and_capped, of each view; not the neighbour that it is sent to, which knows itself
 unfoldable pub active-sample : ℕ → Run → List ℕ
 active-sample to r = take (r .station .config .«shuffle_active_view_count») (shuffled (without to (r .station .active)) r)
 
@@ -94,7 +99,7 @@ renew-all (p ∷ ps) xs = renew-all ps (renew max-recent-neighbors p xs)
 unfoldable pub remember-all : Station → Station
 remember-all s = set-recent (renew-all (s .active) (s .recent)) s
 
--- the recent neighbours that are no bootstrap peers
+-- the recent neighbours that are no bootstrap peers, which get a Join anyway
 unfoldable pub other-recent : Station → List ℕ
 other-recent s = without-all (s .bootstrap) (s .recent)
 
@@ -120,7 +125,8 @@ count-alone r = on add-alone (require 10 (alone-counts (r .station)) r)
 unfoldable pub rejoin-if-due : Run → Run
 rejoin-if-due r = choose (backoff-due (r .station .passes-alone)) (rejoin r) r
 
--- with both views empty nothing but a Join brings peers: to the bootstrap peers and, as they may all be gone, to one recent neighbour
+-- with both views empty nothing but a Join brings peers, as a shuffle needs a neighbour: to the bootstrap peers and, as they may all be
+-- gone, to one recent neighbour
 unfoldable pub pass-alone : Run → Run
 pass-alone r = rejoin-if-due (count-alone r)
 
@@ -134,13 +140,15 @@ add-short s = set-passes-short (s .passes-short + 1) s
 unfoldable pub count-short : Run → Run
 count-short r = on add-short (require 10 (short-counts (r .station)) r)
 
+-- who refused may have room by now, and is asked again
 unfoldable pub refill-anew : Run → Run
 refill-anew r = start-refill few-requests [] (on clear-refused r)
 
+-- its passive peers are probably full, so it tries them less and less often
 unfoldable pub refill-if-due : Run → Run
 refill-if-due r = choose (backoff-due (r .station .passes-short)) (refill-anew r) r
 
--- the passes of a short station are not counted while it recovers
+-- the passes of a short station are not counted while it recovers, as it then asks without a limit
 unfoldable pub in-recovery : Station → Bool
 in-recovery s = is-recovery (s .refill)
 
@@ -150,7 +158,8 @@ pass-short r = choose (in-recovery (r .station)) r (refill-if-due (count-short r
 unfoldable pub pass-neighbors : Run → Run
 pass-neighbors r = choose (is-short (r .station)) (pass-short r) (on clear-refused r)
 
--- a station with passive peers alone recovers at every pass; one with neighbours is filled up only when short, and at passes further and further apart
+-- a station with passive peers alone recovers at every pass, as nobody refuses its high priority; one with neighbours is filled up only
+-- when short, and at passes further and further apart
 unfoldable pub pass-known : Run → Run
 pass-known r = choose (is-alone (r .station)) (start-refill recovery [] r) (pass-neighbors r)
 
@@ -162,6 +171,7 @@ not-alone s = end-recovery (set-passes-alone 0 s)
 unfoldable pub knows-none : Station → Bool
 knows-none s = null (s .active) && null (s .passive)
 
+-- nothing of this is in the paper: a station whose views are empty cannot shuffle, and would stay alone
 unfoldable pub maintain : Run → Run
 maintain r = choose (knows-none (r .station)) (pass-alone r) (pass-known (on not-alone r))
 

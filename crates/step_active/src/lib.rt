@@ -29,7 +29,7 @@ pub enum Loss {
 
 // ---- peers that leave
 
-// p, the peer at place i, leaves the active view, with its notice.
+// p, the peer at place i, leaves with its notice, so that a listener's neighbors are always those of the view.
 fn drop_active(w: Work, st: &mut [u64], out: &mut [u8], i: usize, p: PeerId) -> Work
     requires { ⌜ length (now st) ≡ words ⌝ }
     requires { ⌜ GivenRoom w st out ⌝ }
@@ -48,6 +48,7 @@ fn drop_active(w: Work, st: &mut [u64], out: &mut [u8], i: usize, p: PeerId) -> 
     work::notify(w, out, Kind::NEIGHBOR_DOWN, p)
 }
 
+// p disconnected but stays alive: the mark keeps it as a passive peer when its connection is closed next.
 pub fn mark_alive(w: Work, st: &mut [u64], p: PeerId) -> Work
     requires { ⌜ length (now st) ≡ words ⌝ }
     requires { ⌜ PackedState (now st) ⌝ }
@@ -65,7 +66,8 @@ pub fn mark_alive(w: Work, st: &mut [u64], p: PeerId) -> Work
     w
 }
 
-// p goes to the passive view with the data that is held of it, and with a mark where it stays alive.
+// A neighbor that goes but stays on the topic is a spare peer, with a mark where `alive`; its data is taken out and put in again,
+// so it is told again, as in the Rust.
 fn demote(w: Work, st: &mut [u64], draws: &[u32], out: &mut [u8], p: PeerId, alive: bool) -> Work
     requires { ⌜ length (now st) ≡ words ⌝ }
     requires { ⌜ Given w st draws out ⌝ }
@@ -85,6 +87,7 @@ fn demote(w: Work, st: &mut [u64], draws: &[u32], out: &mut [u8], p: PeerId, ali
     t.work
 }
 
+// A neighbor that failed or left the topic is forgotten; one that only dropped the link stays as a passive peer.
 fn remove_active_by_index(
     w: Work,
     st: &mut [u64],
@@ -123,6 +126,7 @@ fn remove_active_by_index(
     }
 }
 
+// A lost neighbor starts a recovery, which asks until somebody accepts: others may have lost the same one and have room.
 pub fn remove_active(
     w: Work,
     st: &mut [u64],
@@ -151,6 +155,7 @@ pub fn remove_active(
     w
 }
 
+// High priority is never refused (the paper), so a random neighbor makes room; it is told, and stays as a passive peer.
 fn free_random_slot_in_active_view(w: Work, st: &mut [u64], draws: &[u32], out: &mut [u8]) -> Work
     requires { ⌜ length (now st) ≡ words ⌝ }
     requires { ⌜ Given w st draws out ⌝ }
@@ -178,7 +183,7 @@ fn free_random_slot_in_active_view(w: Work, st: &mut [u64], draws: &[u32], out: 
 
 // ---- peers that enter
 
-// p leaves the passive view, with its mark, enters the active one and is the newest of the recent neighbors.
+// p leaves the passive view, with its mark, as no peer is in both; it is noted as recent for the day when both views are empty.
 fn move_in(w: Work, st: &mut [u64], p: PeerId) -> Work
     requires { ⌜ length (now st) ≡ words ⌝ }
     requires { ⌜ PackedState (now st) ⌝ }
@@ -204,6 +209,7 @@ fn move_in(w: Work, st: &mut [u64], p: PeerId) -> Work
     b
 }
 
+// A gained neighbor ends the limit and the count of short passes, but not a recovery: one may not make up for all that were lost.
 fn add_active_unchecked(
     w: Work,
     st: &mut [u64],
@@ -231,6 +237,7 @@ fn add_active_unchecked(
     step_sending::reply_neighbor(b, st, out, reply, p, high)
 }
 
+// A full view makes room for high priority, whose sender may have nobody else, and refuses low priority.
 pub fn add_active(
     w: Work,
     st: &mut [u64],

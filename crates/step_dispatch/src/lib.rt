@@ -15,7 +15,7 @@ ghost use Rattle.hyparview_state.specs.Work.{Given, Meets, Makes};
 ghost use Rattle.step_messages.specs.Between.{Between};
 ghost use Rattle.step_dispatch.specs.Begun.{Headed, IsMessage, Opens};
 
-// One of the six messages.
+// One of the six messages; of a Disconnect's flags `_respond` is obsolete, kept on the wire alone, and says nothing.
 fn handle_message(
     w: Work,
     st: &mut [u64],
@@ -55,7 +55,7 @@ fn handle_message(
     step_messages::on_neighbor(w, st, draws, out, p, d, h.flags == Flags::HIGH)
 }
 
-// What an event says is done, whichever kind it is.
+// The `match` of the Rust's `handle` (spec_hyparview/Handle `handle-kind`).
 fn dispatch(w: Work, st: &mut [u64], draws: &[u32], out: &mut [u8], b: &[u8], h: Header) -> Work
     requires { ⌜ length (now st) ≡ words ⌝ }
     requires { ⌜ Given w st draws out ⌝ }
@@ -97,7 +97,7 @@ fn dispatch(w: Work, st: &mut [u64], draws: &[u32], out: &mut [u8], b: &[u8], h:
     w
 }
 
-// The steps of one event.
+// The timers start with the first event, since `new` writes no records; S-5's forgetting comes last, when the views and requests are settled.
 pub fn steps(w: Work, st: &mut [u64], draws: &[u32], out: &mut [u8], b: &[u8], h: Header) -> Work
     requires { ⌜ length (now st) ≡ words ⌝ }
     requires { ⌜ Given w st draws out ⌝ }

@@ -19,7 +19,7 @@ ghost use Rattle.hyparview_state.specs.Work.{GivenRoom, Given, Meets, Alters, S
 ghost use Rattle.step_active.specs.Sane.{Calm};
 ghost use Rattle.step_events.specs.Free.{KnownJoins};
 
-// p is the newest bootstrap peer; a ninth evicts the oldest and its open join.
+// The latest contacts are kept for a rejoin; a ninth evicts the oldest and its open join, since joins are open to these alone.
 fn push_bootstrap(w: Work, st: &mut [u64], p: PeerId) -> Work
     requires { ⌜ length (now st) ≡ words ⌝ }
     requires { ⌜ PackedState (now st) ⌝ }
@@ -54,7 +54,8 @@ fn push_bootstrap(w: Work, st: &mut [u64], p: PeerId) -> Work
     w
 }
 
-// A request to join the swarm through p; a neighbor needs no Join.
+// A neighbor gets no Join: it would tell all its neighbors, and views would change for nothing.
+// A Join may be lost without a sign, so it is sent once more later (spec_hyparview/Events `await-join`).
 pub fn handle_join(w: Work, st: &mut [u64], out: &mut [u8], p: PeerId) -> Work
     requires { ⌜ length (now st) ≡ words ⌝ }
     requires { ⌜ GivenRoom w st out ⌝ }
@@ -87,7 +88,7 @@ pub fn handle_join(w: Work, st: &mut [u64], out: &mut [u8], p: PeerId) -> Work
     work::schedule(d, out, Kind::RETRY_JOIN, p, delay, id)
 }
 
-// The connection to p is lost: a mark saves a passive peer once.
+// A mark saves a passive peer once: this may be the close that its alive Disconnect announced.
 fn lose_passive(w: Work, st: &mut [u64], p: PeerId) -> Work
     requires { ⌜ length (now st) ≡ words ⌝ }
     requires { ⌜ PackedState (now st) ⌝ }
@@ -100,7 +101,7 @@ fn lose_passive(w: Work, st: &mut [u64], p: PeerId) -> Work
     step_peers::drop_data(a, st, p)
 }
 
-// The connection to p was closed; a request to it failed with it.
+// No answer to an open request can come any more, so another peer is asked at once, without waiting for the request's timer.
 pub fn handle_connection_closed(
     w: Work,
     st: &mut [u64],
@@ -127,7 +128,7 @@ pub fn handle_connection_closed(
     b
 }
 
-// The station has other data of its own.
+// Nothing is sent now: others hear of it by the next Join, Neighbor or Shuffle.
 pub fn update_own_data(w: Work, st: &mut [u64], d: PeerData) -> Work
     requires { ⌜ length (now st) ≡ words ⌝ }
     requires { ⌜ PackedState (now st) ⌝ }
@@ -147,7 +148,7 @@ pub fn update_own_data(w: Work, st: &mut [u64], d: PeerData) -> Work
     w
 }
 
-// Nothing is held of other peers any more: no refusals, marks, data, passive view and requests.
+// Nothing is held of other peers any more; contacts, recent neighbors, open joins and counts stay, as in the Rust.
 fn clear_all(st: &mut [u64])
     requires { ⌜ length (now st) ≡ words ⌝ }
     requires { ⌜ PackedState (now st) ⌝ }
@@ -169,7 +170,7 @@ fn clear_all(st: &mut [u64])
     base_util::clear_from(&mut st[Layout::REQUESTS..Layout::REQUESTS_END], 0);
 }
 
-// Quit: every neighbor gets a Disconnect, in the order of the active view.
+// Each neighbor is told that the station leaves for good, so that it forgets it; no NeighborDown, since the user asked for it.
 pub fn handle_quit(w: Work, st: &mut [u64], draws: &[u32], out: &mut [u8]) -> Work
     requires { ⌜ length (now st) ≡ words ⌝ }
     requires { ⌜ Given w st draws out ⌝ }

@@ -15,7 +15,8 @@ ghost use Rattle.spec_hyparview.specs.Timers.{handle-maintenance-timer};
 ghost use Rattle.hyparview_state.specs.Layout.{words};
 ghost use Rattle.hyparview_state.specs.Work.{Given, Makes, Emits};
 
-// A pass where both views are empty: it is counted, and the backoff says whether Joins go out, to the bootstrap peers and to one recent neighbor.
+// Both views are empty: no shuffle can fill them, so Joins go out, at passes further and further apart, to the bootstrap peers
+// and, as these may not be there any more, to one recent neighbor.
 fn pass_alone(w: Work, st: &mut [u64], draws: &[u32], out: &mut [u8]) -> Work
     requires { ⌜ length (now st) ≡ words ⌝ }
     requires { ⌜ Given w st draws out ⌝ }
@@ -61,7 +62,8 @@ fn pass_alone(w: Work, st: &mut [u64], draws: &[u32], out: &mut [u8]) -> Work
     a
 }
 
-// One pass of maintenance.
+// Alone it rejoins, without neighbors it recovers, and short it asks a few; why each so often, the definition says
+// (spec_hyparview/Timers `pass-alone`, `pass-known`).
 fn maintain(w: Work, st: &mut [u64], draws: &[u32], out: &mut [u8]) -> Work
     requires { ⌜ length (now st) ≡ words ⌝ }
     requires { ⌜ Given w st draws out ⌝ }
@@ -87,7 +89,8 @@ fn maintain(w: Work, st: &mut [u64], draws: &[u32], out: &mut [u8]) -> Work
         if hyparview_state::limit_of(st).is_recovery() {
             return a;
         }
-        // The pass is counted (code 10 where it cannot be), and the backoff says whether it refills, with a new limit, before which all refusals are forgotten.
+        // The pass is counted (code 10 where it cannot be), and the backoff says whether it refills, with a new limit; who refused may have
+        // room by then.
         let n = st[Layout::PASSES_SHORT];
         let b = work::require(a, Refusal::COUNTER, n < hyparview_state::TOP_PASSES);
         if b.code == 0 {
@@ -102,7 +105,7 @@ fn maintain(w: Work, st: &mut [u64], draws: &[u32], out: &mut [u8]) -> Work
     step_refill::clear_refused(a, st)
 }
 
-// The next pass of maintenance.
+// The interval is fixed: the backoff counts passes, and so measures time.
 pub fn schedule_maintenance(w: Work, out: &mut [u8]) -> Work
     requires { ⌜ w .written ≤ length (now out) ⌝ }
     ensures { λ r. ⌜ Emits (emit (timer 2 0 maintenance-interval 0)) w r out ⌝ }
@@ -111,7 +114,7 @@ pub fn schedule_maintenance(w: Work, out: &mut [u8]) -> Work
     work::schedule(w, out, Kind::DO_MAINTENANCE, 0, delay, 0)
 }
 
-// The timer of the maintenance, which sets the next one.
+// Who is still a neighbor becomes the newest of the recent ones, or others who come and go would push it out.
 pub fn handle_maintenance_timer(w: Work, st: &mut [u64], draws: &[u32], out: &mut [u8]) -> Work
     requires { ⌜ length (now st) ≡ words ⌝ }
     requires { ⌜ Given w st draws out ⌝ }

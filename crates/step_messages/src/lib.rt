@@ -25,7 +25,7 @@ ghost use Rattle.hyparview_state.specs.Unpack.{unpack, PackedState};
 ghost use Rattle.hyparview_state.specs.Work.{Given, Meets, Alters, Makes, Emits};
 ghost use Rattle.step_messages.specs.Between.{Between};
 
-// The neighbors but p, as a working set.
+// The neighbors but p, as a working set: a walk does not turn back to its sender, and who joins need not hear of itself.
 fn other_active(st: &[u64], p: PeerId, t: &mut [u64])
     requires { ⌜ length (now st) ≡ words ⌝ }
     requires { ⌜ PackedState (now st) ⌝ }
@@ -42,7 +42,7 @@ fn other_active(st: &[u64], p: PeerId, t: &mut [u64])
 
 // ---- ForwardJoin
 
-// Where the walk has the passive length left, the one who joins goes to the passive view.
+// Where the walk has the passive length left (the paper's PRWL), the one who joins goes to the passive view.
 fn learn_joiner(
     w: Work,
     st: &mut [u64],
@@ -63,7 +63,7 @@ fn learn_joiner(
     w
 }
 
-// ForwardJoin to q.
+// The data is that of the message, also where other data of the peer is held.
 fn forward_join_to(w: Work, out: &mut [u8], n: PeerInfo, ttl: u16, q: PeerId) -> Work
     requires { ⌜ w .written ≤ length (now out) ⌝ }
     requires { ⌜ ValidData (n .data) ⌝ }
@@ -72,6 +72,7 @@ fn forward_join_to(w: Work, out: &mut [u8], n: PeerInfo, ttl: u16, q: PeerId) ->
     work::send_node(w, out, Message::FORWARD_JOIN, q, 0, ttl, n)
 }
 
+// Where the walk ends, the one who joins is asked and enters when it answers: a peer out of reach takes no place.
 pub fn on_forward_join(
     w: Work,
     st: &mut [u64],
@@ -111,7 +112,7 @@ pub fn on_forward_join(
 
 // ---- Disconnect
 
-// p refused a request, where one was open; code 7 where a 33rd refused peer would be needed.
+// p refused a request, where one was open, so that low priority skips it from now on; code 7 where a 33rd would be needed.
 fn note_refusal(w: Work, st: &mut [u64], p: PeerId, requested: bool) -> Work
     requires { ⌜ length (now st) ≡ words ⌝ }
     requires { ⌜ PackedState (now st) ⌝ }
@@ -142,6 +143,7 @@ fn note_refusal(w: Work, st: &mut [u64], p: PeerId, requested: bool) -> Work
     w
 }
 
+// Alive says that only the link goes, so its sender stays a spare peer; else it is not on the topic, and is asked no more.
 pub fn on_disconnect(
     w: Work,
     st: &mut [u64],
@@ -188,6 +190,8 @@ pub fn on_disconnect(
 
 // ---- Join and Neighbor
 
+// Who joins may know nobody else: it enters even if a random neighbor must go, and ForwardJoins make it known further off (the paper).
+// Why an open request to it is dropped first, the definition says (spec_hyparview/Messages `drop-pending`).
 pub fn on_join(
     w: Work,
     st: &mut [u64],
@@ -218,7 +222,7 @@ pub fn on_join(
     b
 }
 
-// Neighbor from a peer with an open request is its reply, and is not answered.
+// Neighbor from a peer with an open request is its reply, and is not answered (spec_hyparview/Sending `send-neighbor` says why).
 pub fn on_neighbor(
     w: Work,
     st: &mut [u64],

@@ -31,7 +31,7 @@ pub struct Added {
     pub evicted: Evicted,
 }
 
-// Whether p is neither the station itself nor in a view.
+// Whether p is neither the station itself nor in a view: no peer is in both views, and a station is in none of its own.
 pub fn is_newcomer(st: &[u64], p: PeerId) -> bool
     requires { ⌜ length (now st) ≡ words ⌝ }
     requires { ⌜ PackedState (now st) ⌝ }
@@ -41,6 +41,7 @@ pub fn is_newcomer(st: &[u64], p: PeerId) -> bool
         | (hyparview_state::in_active(st, p) | hyparview_state::in_passive(st, p)))
 }
 
+// A mark stands for an alive Disconnect, after which the close of the connection is no failure (spec_hyparview/Peers `is-marked`).
 pub fn is_marked(st: &[u64], p: PeerId) -> bool
     requires { ⌜ length (now st) ≡ words ⌝ }
     requires { ⌜ PackedState (now st) ⌝ }
@@ -53,6 +54,7 @@ pub fn is_marked(st: &[u64], p: PeerId) -> bool
     )
 }
 
+// The data stays: a peer that becomes a neighbor takes it along, and a caller that loses the peer drops it itself.
 pub fn remove_passive(w: Work, st: &mut [u64], p: PeerId) -> Work
     requires { ⌜ length (now st) ≡ words ⌝ }
     requires { ⌜ PackedState (now st) ⌝ }
@@ -69,6 +71,7 @@ pub fn remove_passive(w: Work, st: &mut [u64], p: PeerId) -> Work
     w
 }
 
+// Data is of peers in a view or asked: each way out drops it, else entries of strangers would fill the 80 places.
 pub fn drop_data(w: Work, st: &mut [u64], p: PeerId) -> Work
     requires { ⌜ length (now st) ≡ words ⌝ }
     requires { ⌜ PackedState (now st) ⌝ }
@@ -85,6 +88,7 @@ pub fn drop_data(w: Work, st: &mut [u64], p: PeerId) -> Work
     w
 }
 
+// A mark is of a passive peer: it ends where the peer leaves the passive view, or where a closed connection has used it.
 pub fn drop_mark(w: Work, st: &mut [u64], p: PeerId) -> Work
     requires { ⌜ length (now st) ≡ words ⌝ }
     requires { ⌜ PackedState (now st) ⌝ }
@@ -101,7 +105,7 @@ pub fn drop_mark(w: Work, st: &mut [u64], p: PeerId) -> Work
     w
 }
 
-// What is held of a peer goes with its last place in a view.
+// What is held of a peer goes with its last place in a view; why that is asked here, the definition says (spec_hyparview/Peers `forget-peer`).
 pub fn forget_peer(w: Work, st: &mut [u64], p: PeerId) -> Work
     requires { ⌜ length (now st) ≡ words ⌝ }
     requires { ⌜ PackedState (now st) ⌝ }
@@ -114,7 +118,7 @@ pub fn forget_peer(w: Work, st: &mut [u64], p: PeerId) -> Work
     drop_mark(a, st, p)
 }
 
-// p leaves the passive view, where it is in it, and is forgotten.
+// For a peer that left the topic or did not answer in time: it would be asked in vain again.
 pub fn drop_passive(w: Work, st: &mut [u64], p: PeerId) -> Work
     requires { ⌜ length (now st) ≡ words ⌝ }
     requires { ⌜ PackedState (now st) ⌝ }
@@ -124,6 +128,7 @@ pub fn drop_passive(w: Work, st: &mut [u64], p: PeerId) -> Work
     forget_peer(a, st, p)
 }
 
+// What comes with a peer, such as its address, is kept so that it can be passed on, and told to the supervisor where it is news.
 pub fn insert_peer_info(w: Work, st: &mut [u64], out: &mut [u8], p: PeerId, d: PeerData) -> Work
     requires { ⌜ length (now st) ≡ words ⌝ }
     requires { ⌜ GivenRoom w st out ⌝ }
@@ -162,7 +167,8 @@ pub fn insert_peer_info(w: Work, st: &mut [u64], out: &mut [u8], p: PeerId, d: P
     b
 }
 
-// One peer leaves a full passive view, as the next draw kept decides, and its record follows.
+// A full passive view gives up a random peer: those sent in a shuffle, which the paper gives up first, are not remembered.
+// Its record follows (document 02, S-2).
 fn make_room(w: Work, st: &mut [u64], draws: &[u32], out: &mut [u8]) -> Added
     requires { ⌜ length (now st) ≡ words ⌝ }
     requires { ⌜ Given w st draws out ⌝ }
@@ -195,6 +201,7 @@ fn make_room(w: Work, st: &mut [u64], draws: &[u32], out: &mut [u8]) -> Added
     }
 }
 
+// Passive peers are spare ones, known but not connected. Data comes first, since that of a known peer may be newer.
 pub fn add_passive(
     w: Work,
     st: &mut [u64],

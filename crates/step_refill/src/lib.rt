@@ -15,7 +15,7 @@ ghost use Rattle.hyparview_state.specs.Layout.{words};
 ghost use Rattle.hyparview_state.specs.Unpack.{unpack, refill-in, PackedState};
 ghost use Rattle.hyparview_state.specs.Work.{Given, Alters, Makes};
 
-// The peers asked that are not neighbors, as a working set.
+// The peers asked that are not neighbors: a Neighbor open to a neighbor is an answer, and that peer counts once, in the active view.
 fn asked_outside(st: &[u64], t: &mut [u64])
     requires { ⌜ length (now st) ≡ words ⌝ }
     requires { ⌜ PackedState (now st) ⌝ }
@@ -35,7 +35,7 @@ fn asked_outside(st: &[u64], t: &mut [u64])
     );
 }
 
-// A recovery that has no request in flight is over: it lasts until the replies to its requests arrive.
+// A recovery that has no request in flight is over: until then an answer may still bring new peers to ask.
 pub fn end_recovery(w: Work, st: &mut [u64]) -> Work
     requires { ⌜ length (now st) ≡ words ⌝ }
     requires { ⌜ PackedState (now st) ⌝ }
@@ -51,7 +51,8 @@ pub fn end_recovery(w: Work, st: &mut [u64]) -> Work
     w
 }
 
-// The passive peers that may be asked, as a working set: refused ones are skipped, but not with high priority.
+// The passive peers to ask, as a working set, without who refused, else the same full ones would be asked again and again;
+// at high priority nobody refuses.
 fn candidates(st: &[u64], skip: &[PeerId], t: &mut [u64])
     requires { ⌜ length (now st) ≡ words ⌝ }
     requires { ⌜ PackedState (now st) ⌝ }
@@ -92,7 +93,8 @@ fn candidates(st: &[u64], skip: &[PeerId], t: &mut [u64])
     );
 }
 
-// Neighbor to one of the candidates, with high priority exactly where the active view is empty, or the end of a recovery where there is none.
+// One passive peer is asked at a time, with high priority, which nobody may refuse, only where there is no neighbor at all;
+// where none is left to ask, a recovery may be over.
 fn refill_limited(w: Work, st: &mut [u64], draws: &[u32], out: &mut [u8], skip: &[PeerId]) -> Work
     requires { ⌜ length (now st) ≡ words ⌝ }
     requires { ⌜ Given w st draws out ⌝ }
@@ -117,7 +119,7 @@ fn refill_limited(w: Work, st: &mut [u64], draws: &[u32], out: &mut [u8], skip: 
     a
 }
 
-// One request to a passive peer that is not in `skip`, where the active view needs one.
+// A place left by a neighbor goes to a random passive peer, as in the paper; `skip` has the one just lost, which is not asked.
 pub fn refill_active_from_passive(
     w: Work,
     st: &mut [u64],
@@ -149,7 +151,7 @@ pub fn refill_active_from_passive(
     refill_limited(w, st, draws, out, skip)
 }
 
-// A refill with another limit; a recovery that is under way keeps its own.
+// A recovery that is under way keeps its freedom to ask until somebody accepts (spec_hyparview/Station `Refill`).
 pub fn start_refill(
     w: Work,
     st: &mut [u64],
@@ -168,7 +170,7 @@ pub fn start_refill(
     refill_active_from_passive(w, st, draws, out, skip)
 }
 
-// Peers that refused may be asked again.
+// Who refused was full then, and may have room by now.
 pub fn clear_refused(w: Work, st: &mut [u64]) -> Work
     requires { ⌜ length (now st) ≡ words ⌝ }
     requires { ⌜ PackedState (now st) ⌝ }

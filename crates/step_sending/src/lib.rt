@@ -22,17 +22,17 @@ ghost use Rattle.hyparview_state.specs.Layout.{words};
 ghost use Rattle.hyparview_state.specs.Unpack.{unpack, PackedState};
 ghost use Rattle.hyparview_state.specs.Work.{GivenRoom, Given, Says, Makes, DrawsAny};
 
-// The most requests that are open at once.
+// The most requests that are open at once (document 01, code 6), since a state has fixed room.
 const MOST_REQUESTS: u64 = Layout::REQUESTS_PLACES as u64;
 
-// The flag where it is set, else 0.
+// Neighbor and Disconnect each set one flag or none.
 fn flag_if(set: bool, flag: u8) -> u8
     ensures { λ r. ⌜ r ≡ choose set flag 0 ⌝ }
 {
     if set { flag } else { 0 }
 }
 
-// Peers with the data that is held of them, in order.
+// Peers with the data that is held of them, in order, so that who learns of a peer can reach it.
 pub fn peer_infos(st: &[u64], ids: &[PeerId]) -> Nodes
     requires { ⌜ length (now st) ≡ words ⌝ }
     requires { ⌜ PackedState (now st) ⌝ }
@@ -54,7 +54,7 @@ pub fn peer_infos(st: &[u64], ids: &[PeerId]) -> Nodes
     t
 }
 
-// Join, with the station's own data.
+// Join has the station's own data, which the ForwardJoins that it sets off take further.
 pub fn join(w: Work, st: &[u64], out: &mut [u8], p: PeerId) -> Work
     requires { ⌜ length (now st) ≡ words ⌝ }
     requires { ⌜ GivenRoom w st out ⌝ }
@@ -64,7 +64,7 @@ pub fn join(w: Work, st: &[u64], out: &mut [u8], p: PeerId) -> Work
     work::send_node(w, out, Message::JOIN, p, 0, 0, PeerInfo { id: 0, data: d })
 }
 
-// Shuffles a working set and cuts it to at most `most` peers.
+// A working set, shuffled whole and then cut to `most`, as in the Rust: each peer has the same chance, and as many draws are used.
 pub fn shuffle_and_cap(w: Work, draws: &[u32], most: usize, v: &mut [u64]) -> Work
     requires { ⌜ w .drawn ≤ length (now draws) ⌝ }
     requires { ⌜ ValidSet working-places (now v) ⌝ }
@@ -82,7 +82,7 @@ pub fn shuffle_and_cap(w: Work, draws: &[u32], most: usize, v: &mut [u64]) -> Wo
     r
 }
 
-// ShuffleReply with `len` peers of the passive view, which is shuffled whole before it is cut.
+// ShuffleReply with `len` peers: passive ones, and since a young station has few of them, neighbors to make up the number.
 pub fn send_shuffle_reply(
     w: Work,
     st: &[u64],
@@ -126,7 +126,7 @@ pub fn send_shuffle_reply(
     )
 }
 
-// Disconnect, and before it a ShuffleReply.
+// The ShuffleReply before a Disconnect leaves the other one with peers to ask: it may have joined just now and know nobody else.
 pub fn send_disconnect(
     w: Work,
     st: &[u64],
@@ -147,8 +147,8 @@ pub fn send_disconnect(
     work::send(a, out, Message::DISCONNECT, p, flags)
 }
 
-// Neighbor to p with the station's own data, unless a request to it is open. Code 10 where no number is left for a request, code 6 where a 33rd open request is needed;
-// else the request is open under that number, and a timer ends the wait for its answer.
+// Nothing while a Neighbor to p is open, else two stations could answer each other for ever (spec_hyparview/Sending `send-neighbor`).
+// Code 10 where no number is left for it, code 6 where a 33rd would be open; its timer ends the wait for an answer.
 pub fn send_neighbor(w: Work, st: &mut [u64], out: &mut [u8], p: PeerId, high: bool) -> Work
     requires { ⌜ length (now st) ≡ words ⌝ }
     requires { ⌜ GivenRoom w st out ⌝ }
@@ -185,7 +185,7 @@ pub fn send_neighbor(w: Work, st: &mut [u64], out: &mut [u8], p: PeerId, high: b
     work::schedule(c, out, Kind::PENDING_NEIGHBOR_REQUEST, p, timeout, id)
 }
 
-// Neighbor to p, where an answer is wanted.
+// A Neighbor answers a Neighbor; an answer is not answered again, and then `reply` is false.
 pub fn reply_neighbor(
     w: Work,
     st: &mut [u64],

@@ -26,7 +26,7 @@ struct Learned {
     fresh: bool,
 }
 
-// The n nodes of the event b go to the passive view.
+// The n nodes of the event b become passive peers: shuffles keep that view a fresh sample of the swarm, for when neighbors fail.
 fn add_nodes(w: Work, st: &mut [u64], draws: &[u32], out: &mut [u8], b: &[u8], n: usize) -> Learned
     requires { ⌜ length (now st) ≡ words ⌝ }
     requires { ⌜ Given w st draws out ⌝ }
@@ -51,7 +51,7 @@ fn add_nodes(w: Work, st: &mut [u64], draws: &[u32], out: &mut [u8], b: &[u8], n
     }
 }
 
-// The n nodes of the event b, to be written again.
+// The n nodes of the event b, to be written again: on its walk a Shuffle keeps the nodes of its origin.
 fn event_nodes(b: &[u8], n: usize) -> Nodes
     requires { ⌜ well-formed (now b) ≡ true ⌝ }
     requires { ⌜ n ≡ header-of (now b) .nodes ⌝ }
@@ -66,7 +66,7 @@ fn event_nodes(b: &[u8], n: usize) -> Nodes
     t
 }
 
-// Shuffle goes on to a neighbor other than its origin and its sender, where there is one.
+// Not back to the sender, nor to the origin, which would shuffle with itself; where nobody else is left the Shuffle ends unanswered.
 fn pass_shuffle(
     w: Work,
     st: &[u64],
@@ -110,7 +110,7 @@ fn pass_shuffle(
     )
 }
 
-// Shuffle ends here and is answered, or goes on.
+// A walk ends where its hops are used up, or where too few neighbors are left to go on; there it is answered.
 pub fn on_shuffle(
     w: Work,
     st: &mut [u64],
@@ -137,6 +137,8 @@ pub fn on_shuffle(
     pass_shuffle(w, st, draws, out, from, origin, b, n, ttl)
 }
 
+// New peers let a station with a free place ask one; what comes before a refusal does so only where it is short
+// (spec_hyparview/Messages `stops-at-refusal`, `renews-limit`).
 pub fn on_shuffle_reply(
     w: Work,
     st: &mut [u64],

@@ -13,7 +13,7 @@ ghost use Rattle.spec_hyparview.specs.Timers.{is-number, handle-pending-neighbo
 ghost use Rattle.hyparview_state.specs.Layout.{words};
 ghost use Rattle.hyparview_state.specs.Work.{GivenRoom, Given, Says, Makes};
 
-// Whether an answer names the number n.
+// By its number a timer is told from that of an earlier request or join to the same peer.
 fn is_number(n: u64, m: Number) -> bool
     ensures { λ r. ⌜ r ≡ is-number n (number-in m) ⌝ }
 {
@@ -23,7 +23,8 @@ fn is_number(n: u64, m: Number) -> bool
     }
 }
 
-// The timer of a request; one whose number is not that of the open request does nothing.
+// A peer that did not answer in time is taken as failed; a timer of another number was set for an earlier Neighbor, and is void.
+// What it means for an answer, which nobody answers, stands at the definition (spec_hyparview/Timers `request-failed`).
 pub fn handle_pending_neighbor_timer(
     w: Work,
     st: &mut [u64],
@@ -51,7 +52,7 @@ pub fn handle_pending_neighbor_timer(
     w
 }
 
-// The timer of a join: one more Join, where that join is still open.
+// The timer of a join: one more Join where nothing was heard from p, as the first may have been lost without a sign.
 pub fn retry_join(w: Work, st: &mut [u64], out: &mut [u8], p: PeerId, id: u64) -> Work
     requires { ⌜ length (now st) ≡ words ⌝ }
     requires { ⌜ GivenRoom w st out ⌝ }
@@ -69,7 +70,8 @@ pub fn retry_join(w: Work, st: &mut [u64], out: &mut [u8], p: PeerId, id: u64) -
     w
 }
 
-// The next shuffle, after a delay of the interval before it doubles.
+// The wait doubles since the first shuffles must fill a young passive view; it is jittered, else stations that started together
+// would go on shuffling all at once (spec_hyparview/Timers `schedule-shuffle`).
 pub fn schedule_shuffle(w: Work, st: &mut [u64], draws: &[u32], out: &mut [u8]) -> Work
     requires { ⌜ length (now st) ≡ words ⌝ }
     requires { ⌜ Given w st draws out ⌝ }
@@ -87,7 +89,7 @@ pub fn schedule_shuffle(w: Work, st: &mut [u64], draws: &[u32], out: &mut [u8]) 
     work::schedule(d.work, out, Kind::DO_SHUFFLE, 0, delay, 0)
 }
 
-// Shuffle to a neighbor, where there is one. It names some peers of each view, but not that one, as the next draws decide, and the station itself last.
+// Shuffle names some peers of each view, but not its receiver, which knows itself, and the station last, so that others learn of it.
 fn shuffle_any(w: Work, st: &[u64], draws: &[u32], out: &mut [u8]) -> Work
     requires { ⌜ length (now st) ≡ words ⌝ }
     requires { ⌜ Given w st draws out ⌝ }
@@ -133,7 +135,7 @@ fn shuffle_any(w: Work, st: &[u64], draws: &[u32], out: &mut [u8]) -> Work
     )
 }
 
-// The timer of the shuffle, which sets the next one.
+// The next shuffle is set even where there is nobody to shuffle with, or the station would never shuffle again.
 pub fn handle_shuffle_timer(w: Work, st: &mut [u64], draws: &[u32], out: &mut [u8]) -> Work
     requires { ⌜ length (now st) ≡ words ⌝ }
     requires { ⌜ Given w st draws out ⌝ }
