@@ -169,7 +169,7 @@ fn free_random_slot_in_active_view(w: Work, st: &mut [u64], draws: &[u32], out: 
         &st[Layout::ACTIVE..Layout::ACTIVE_END],
         Layout::ACTIVE_PLACES,
     );
-    let t = work::choose(w, draws, n);
+    let t = work::draw_one_of(w, draws, n);
     let p = base_util::get_index(
         &st[Layout::ACTIVE..Layout::ACTIVE_END],
         Layout::ACTIVE_PLACES,

@@ -55,7 +55,7 @@ fn pass_alone(w: Work, st: &mut [u64], draws: &[u32], out: &mut [u8]) -> Work
         if others == 0 {
             return a;
         }
-        let c = work::choose(a, draws, others);
+        let c = work::draw_one_of(a, draws, others);
         let p = base_util::get_index(&recent, base_util::WORKING_PLACES, c.index);
         return step_sending::join(c.work, st, out, p);
     }

@@ -105,7 +105,7 @@ pub fn on_forward_join(
     if k == 0 {
         return forward_join_to(learned, out, n, left.0, 0);
     }
-    let chosen = work::choose(learned, draws, k);
+    let chosen = work::draw_one_of(learned, draws, k);
     let q = base_util::get_index(&v, base_util::WORKING_PLACES, chosen.index);
     forward_join_to(chosen.work, out, n, left.0, q)
 }

@@ -176,7 +176,7 @@ fn make_room(w: Work, st: &mut [u64], draws: &[u32], out: &mut [u8]) -> Added
 {
     let n = st[Layout::PASSIVE_COUNT];
     if (st[Layout::PASSIVE_VIEW_CAPACITY] <= n) & (n != 0) {
-        let t = work::choose(w, draws, n as usize);
+        let t = work::draw_one_of(w, draws, n as usize);
         let i = t.index;
         let p = base_util::get_index(
             &st[Layout::PASSIVE..Layout::PASSIVE_END],

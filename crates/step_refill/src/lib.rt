@@ -107,7 +107,7 @@ fn refill_limited(w: Work, st: &mut [u64], draws: &[u32], out: &mut [u8], skip: 
         return end_recovery(w, st);
     }
     let high = st[Layout::ACTIVE_COUNT] == 0;
-    let t = work::choose(w, draws, n);
+    let t = work::draw_one_of(w, draws, n);
     let i = t.index;
     let p = from[i];
     let a = step_sending::send_neighbor(t.work, st, out, p, high);

@@ -95,7 +95,7 @@ fn pass_shuffle(
     if base_util::is_empty(&v, base_util::WORKING_PLACES) {
         return w;
     }
-    let t = work::choose(w, draws, base_util::count(&v, base_util::WORKING_PLACES));
+    let t = work::draw_one_of(w, draws, base_util::count(&v, base_util::WORKING_PLACES));
     let q = base_util::get_index(&v, base_util::WORKING_PLACES, t.index);
     let hops = Ttl(ttl);
     let left = hops.next();

@@ -100,7 +100,7 @@ fn shuffle_any(w: Work, st: &[u64], draws: &[u32], out: &mut [u8]) -> Work
     if neighbors == 0 {
         return w;
     }
-    let chosen = work::choose(w, draws, neighbors);
+    let chosen = work::draw_one_of(w, draws, neighbors);
     let to = base_util::get_index(active, Layout::ACTIVE_PLACES, chosen.index);
     let mut named_peers = [0u64; base_util::WORKING_WORDS];
     base_util::copy_into(active, Layout::ACTIVE_PLACES, &mut named_peers);

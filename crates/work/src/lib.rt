@@ -74,7 +74,7 @@ pub fn draw(w: Work, draws: &[u32]) -> Drawn
 }
 
 // Takes the draws that decide one of n places, with those passed over; code 5 where none is kept.
-pub fn choose(w: Work, draws: &[u32], n: usize) -> Chosen
+pub fn draw_one_of(w: Work, draws: &[u32], n: usize) -> Chosen
     requires { ⌜ w .drawn ≤ length (now draws) ⌝ }
     requires { ⌜ 0 < n ⌝ }
     ensures { λ r. ⌜ DrawsAny (draw-one-of n) w (r .work) (now (draws .entry)) ⌝ }

@@ -9,14 +9,14 @@ use Rattle.step_active.proofs.free_random_slot_in_active_view.Statement
 use Rattle.step_active.proofs.free_random_slot_in_active_view.Tie as tie
 
 -- The ways back, from a place to an earlier one.
-abbrev choose-to-else1 : tie.After-choose → tie.Else1
-choose-to-else1 c = c .before .before .before .before
+abbrev draw-one-of-to-else1 : tie.After-draw-one-of → tie.Else1
+draw-one-of-to-else1 c = c .before .before .before .before
 
-abbrev choose-to-start : tie.After-choose → tie.Start
-choose-to-start c = choose-to-else1 c .before .before .before .before .before .before
+abbrev draw-one-of-to-start : tie.After-draw-one-of → tie.Start
+draw-one-of-to-start c = draw-one-of-to-else1 c .before .before .before .before .before .before
 
-abbrev drop-active-to-choose : tie.After-drop-active → tie.After-choose
-drop-active-to-choose c = c .before .before .before .before .before .before
+abbrev drop-active-to-draw-one-of : tie.After-drop-active → tie.After-draw-one-of
+drop-active-to-draw-one-of c = c .before .before .before .before .before .before
 
 abbrev send-disconnect-to-drop-active : tie.After-send-disconnect → tie.After-drop-active
 send-disconnect-to-drop-active c = c .before .before .before .before .before .before .before
@@ -43,9 +43,9 @@ count-requires : tie.Need-count-requires
 unfolding part
 count-requires c κs = search (of-packed, needs)
 
-choose-requires : tie.Need-choose-requires
+draw-one-of-requires : tie.Need-draw-one-of-requires
 unfolding part unpack station-of
-choose-requires c κs = (search needs, search some-choice)
+draw-one-of-requires c κs = (search needs, search some-choice)
 
 sub-get-index : tie.Need-sub-get-index
 sub-get-index c = search needs
@@ -67,18 +67,18 @@ drop-active-requires c κs = (search needs, (search room-drawn, (search still-be
 send-disconnect-requires : tie.Need-send-disconnect-requires
 send-disconnect-requires c κs =
     let at-drop-active = c .before .before .before .before .before .before in
-    let at-choose = drop-active-to-choose at-drop-active in
-    let given = choose-to-start at-choose .pre in
-    (search (needs, at-drop-active .drop-active .kept, given .0), fine-told _ _ _ _ _ _ _ (fine-drawn _ _ _ _ _ (given .1 .0) (at-choose .choose .ensures .0)) (at-drop-active .drop-active .ensures))
+    let at-draw-one-of = drop-active-to-draw-one-of at-drop-active in
+    let given = draw-one-of-to-start at-draw-one-of .pre in
+    (search (needs, at-drop-active .drop-active .kept, given .0), fine-told _ _ _ _ _ _ _ (fine-drawn _ _ _ _ _ (given .1 .0) (at-draw-one-of .draw-one-of .ensures .0)) (at-drop-active .drop-active .ensures))
 
 demote-requires : tie.Need-demote-requires
 unfolding part unpack station-of
 demote-requires c κs =
     let at-send-disconnect = c .before .before .before .before in
     let at-drop-active = send-disconnect-to-drop-active at-send-disconnect in
-    let at-choose = drop-active-to-choose at-drop-active in
-    let given = choose-to-start at-choose .pre in
-    let loose = loose-picked _ _ _ _ _ _ _ _ _ _ _ (given .1 .0) (given .1 .1) (at-choose .before .count .ensures .0) (at-choose .choose .ensures .1 .1) (at-drop-active .before .before .before .get-index .ensures) (at-drop-active .drop-active .ensures) (at-choose .choose .ensures .0) in
+    let at-draw-one-of = drop-active-to-draw-one-of at-drop-active in
+    let given = draw-one-of-to-start at-draw-one-of .pre in
+    let loose = loose-picked _ _ _ _ _ _ _ _ _ _ _ (given .1 .0) (given .1 .1) (at-draw-one-of .before .count .ensures .0) (at-draw-one-of .draw-one-of .ensures .1 .1) (at-drop-active .before .before .before .get-index .ensures) (at-drop-active .drop-active .ensures) (at-draw-one-of .draw-one-of .ensures .0) in
     (search (needs, at-drop-active .drop-active .kept, given .0), (search needs, λ _. sent-loose _ _ _ _ _ _ _ _ loose (at-send-disconnect .send-disconnect .ensures)))
 
 same-length-2 : tie.Need-same-length-2
@@ -93,12 +93,12 @@ returns-2 c =
     let at-demote = c .before .before .before .before in
     let at-send-disconnect = at-demote .before .before .before .before .before in
     let at-drop-active = send-disconnect-to-drop-active at-send-disconnect in
-    let at-choose = drop-active-to-choose at-drop-active in
-    let fine = choose-to-start at-choose .pre .1 .0 in
+    let at-draw-one-of = drop-active-to-draw-one-of at-drop-active in
+    let fine = draw-one-of-to-start at-draw-one-of .pre .1 .0 in
     let gone = settled-random _ _ _ _ _ _ _ _ _ _ _ (at-demote .demote .ensures) (at-send-disconnect .send-disconnect .ensures) in
-    let removed = by-index _ _ _ _ _ _ _ _ _ _ _ _ _ (fine-drawn _ _ _ _ _ fine (at-choose .choose .ensures .0)) (at-drop-active .before .before .before .get-index .ensures) gone (at-drop-active .drop-active .ensures) in
-    let picked = picked-removed _ _ _ _ _ _ _ _ _ _ fine (at-choose .before .count .ensures .0) (at-choose .choose .ensures .1 .0) removed (at-choose .choose .ensures .0) in
-    let at-if1 = choose-to-else1 at-choose in
+    let removed = by-index _ _ _ _ _ _ _ _ _ _ _ _ _ (fine-drawn _ _ _ _ _ fine (at-draw-one-of .draw-one-of .ensures .0)) (at-drop-active .before .before .before .get-index .ensures) gone (at-drop-active .drop-active .ensures) in
+    let picked = picked-removed _ _ _ _ _ _ _ _ _ _ fine (at-draw-one-of .before .count .ensures .0) (at-draw-one-of .draw-one-of .ensures .1 .0) removed (at-draw-one-of .draw-one-of .ensures .0) in
+    let at-if1 = draw-one-of-to-else1 at-draw-one-of in
     one-slot _ _ _ _ _ (at-if1 .before .is-alone .ensures) _ _ _ (at-if1 .if1 .left) picked
 
 pub free-random-slot-in-active-view-spec : {M : Type 1} → statement M
@@ -112,7 +112,7 @@ free-random-slot-in-active-view-spec =
     part-count-start
     part-count-end
     count-requires
-    choose-requires
+    draw-one-of-requires
     sub-get-index
     part-get-index-start
     part-get-index-end

@@ -186,23 +186,23 @@ returns-2 c =
     (no-recent _ _ _ _ _ _ (fine-joined at-loop) (at-count2 .count2 .ensures .0) (c .if3 .taken)) (joined at-loop)))
     (counted at-else1)
 
-choose-requires : tie.Need-choose-requires Inv-loop μ-loop
-choose-requires c κs = (fine-joined (count2-to-loop (c .before)) .ready .drawn, omega (arith, c .if3 .left))
+draw-one-of-requires : tie.Need-draw-one-of-requires Inv-loop μ-loop
+draw-one-of-requires c κs = (fine-joined (count2-to-loop (c .before)) .ready .drawn, omega (arith, c .if3 .left))
 
 slice-aggregate-get-index : tie.Need-slice-aggregate-get-index Inv-loop μ-loop
 slice-aggregate-get-index c = search needs
 
 get-index-requires-2 : tie.Need-get-index-requires-2 Inv-loop μ-loop
 get-index-requires-2 c κs =
-    let at-choose = c .before in
-    let at-count2 = at-choose .before .before in
-    (count-to-without-all (loop-to-count (count2-to-loop at-count2)) .without-all .ensures .valid, omega (arith, at-choose .choose .ensures .1 .1, at-count2 .count2 .ensures .0))
+    let at-draw-one-of = c .before in
+    let at-count2 = at-draw-one-of .before .before in
+    (count-to-without-all (loop-to-count (count2-to-loop at-count2)) .without-all .ensures .valid, omega (arith, at-draw-one-of .draw-one-of .ensures .1 .1, at-count2 .count2 .ensures .0))
 
 join-requires-2 : tie.Need-join-requires-2 Inv-loop μ-loop
 join-requires-2 c κs =
-    let at-choose = c .before .before .before .before in
-    let at-loop = count2-to-loop (at-choose .before .before) in
-    (long (count-to-else1 (loop-to-count at-loop)), room-drawn _ _ _ _ _ (fine-joined at-loop) (at-choose .choose .ensures .0))
+    let at-draw-one-of = c .before .before .before .before in
+    let at-loop = count2-to-loop (at-draw-one-of .before .before) in
+    (long (count-to-else1 (loop-to-count at-loop)), room-drawn _ _ _ _ _ (fine-joined at-loop) (at-draw-one-of .draw-one-of .ensures .0))
 
 same-length-3 : tie.Need-same-length-3 Inv-loop μ-loop
 same-length-3 c = search needs
@@ -215,8 +215,8 @@ unfolding part
 returns-3 c =
     let at-join2 = c .before .before in
     let at-get-index2 = at-join2 .before .before .before in
-    let at-choose = at-get-index2 .before .before in
-    let at-count2 = at-choose .before .before in
+    let at-draw-one-of = at-get-index2 .before .before in
+    let at-count2 = at-draw-one-of .before .before in
     let at-loop = count2-to-loop at-count2 in
     let at-without-all = count-to-without-all (loop-to-count at-loop) in
     let at-copy-into = without-all-to-copy-into at-without-all in
@@ -226,7 +226,7 @@ returns-3 c =
     passed-alone _ _ _ _ _ _ _ _ (fine start)
     (rejoin-due _ _ _ _ _ (due-counted (start .args .st .now) _ _ (start .pre .0) (at-backoff-due .backoff-due .ensures)) _ _ (at-copy-into .before .before .before .before .if2 .taken)
     (rejoined _ _ _ _ _ _ _ _ _ (fine-counted at-else1) (others-are _ _ _ (at-copy-into .copy-into .ensures) (at-without-all .without-all .ensures))
-    (one-recent _ _ _ _ _ _ (fine-joined at-loop) (at-count2 .count2 .ensures .0) _ _ (at-choose .choose .ensures .1 .0) (at-get-index2 .get-index2 .ensures) _ _ _ (at-choose .before .if3 .left) (at-join2 .join2 .ensures) (at-choose .choose .ensures .0))
+    (one-recent _ _ _ _ _ _ (fine-joined at-loop) (at-count2 .count2 .ensures .0) _ _ (at-draw-one-of .draw-one-of .ensures .1 .0) (at-get-index2 .get-index2 .ensures) _ _ _ (at-draw-one-of .before .if3 .left) (at-join2 .join2 .ensures) (at-draw-one-of .draw-one-of .ensures .0))
     (joined at-loop)))
     (counted at-else1)
 
@@ -275,7 +275,7 @@ pass-alone-spec =
     same-length
     same-length-2
     returns-2
-    choose-requires
+    draw-one-of-requires
     slice-aggregate-get-index
     get-index-requires-2
     join-requires-2

@@ -6,8 +6,8 @@ use Rattle.step_messages.proofs.on_forward_join.Statement.{statement}
 use Rattle.step_messages.proofs.on_forward_join.Tie as tie
 
 -- The ways back, from a place to an earlier one.
-abbrev choose-to-next : tie.After-choose → tie.After-next
-choose-to-next c = c .before .before
+abbrev draw-one-of-to-next : tie.After-draw-one-of → tie.After-next
+draw-one-of-to-next c = c .before .before
 
 abbrev next-to-if2 : tie.After-next → tie.Else2
 next-to-if2 c = c .before .before .before .before .before .before .before
@@ -100,8 +100,8 @@ returns-3 c =
     in
     walk-goes-on _ _ _ _ _ _ _ _ _ ended _ _ (at-if1 .if1 .left) walked (at-learn-joiner .learn-joiner .ensures)
 
-choose-requires : tie.Need-choose-requires
-choose-requires c κs = search needs
+draw-one-of-requires : tie.Need-draw-one-of-requires
+draw-one-of-requires c κs = search needs
 
 slice-aggregate-get-index : tie.Need-slice-aggregate-get-index
 slice-aggregate-get-index c = search needs
@@ -111,32 +111,32 @@ get-index-requires c κs = search needs
 
 forward-join-to-requires-2 : tie.Need-forward-join-to-requires-2
 forward-join-to-requires-2 c κs =
-    let at-choose = c .before .before .before in
-    let at-learn-joiner = if2-to-learn-joiner (next-to-if2 (choose-to-next at-choose)) in
+    let at-draw-one-of = c .before .before .before in
+    let at-learn-joiner = if2-to-learn-joiner (next-to-if2 (draw-one-of-to-next at-draw-one-of)) in
     let at-start = in-active-to-start (learn-joiner-to-in-active at-learn-joiner) in
-    (room-drawn _ _ _ _ _ (at-learn-joiner .learn-joiner .ensures .fine) (at-choose .choose .ensures .0) .written, at-start .pre .1 .1)
+    (room-drawn _ _ _ _ _ (at-learn-joiner .learn-joiner .ensures .fine) (at-draw-one-of .draw-one-of .ensures .0) .written, at-start .pre .1 .1)
 
 same-length-7 : tie.Need-same-length-7
 same-length-7 c =
-    let at-next = choose-to-next (c .before .before .before .before .before .before) in
+    let at-next = draw-one-of-to-next (c .before .before .before .before .before .before) in
     search (needs, if2-to-learn-joiner (next-to-if2 at-next) .learn-joiner .kept)
 
 same-length-8 : tie.Need-same-length-8
 same-length-8 c =
-    let at-next = choose-to-next (c .before .before .before .before .before .before) in
+    let at-next = draw-one-of-to-next (c .before .before .before .before .before .before) in
     search (needs, if2-to-learn-joiner (next-to-if2 at-next) .learn-joiner .kept)
 
 returns-4 : tie.Need-returns-4
 returns-4 c =
-    let at-choose = c .before .before .before .before .before .before in
-    let at-next = choose-to-next at-choose in
+    let at-draw-one-of = c .before .before .before .before .before .before in
+    let at-next = draw-one-of-to-next at-draw-one-of in
     let at-if2 = next-to-if2 at-next in
     let at-learn-joiner = if2-to-learn-joiner at-if2 in
     let at-if1 = at-learn-joiner .before .before .before in
     let ended = end-known _ _ _ _ _ _ (learn-joiner-to-in-active at-learn-joiner .in-active .ensures) (at-if1 .before .before .before .expired .ensures) (at-if1 .before .is-last-hop .ensures) in
     let walked =
     walked-on _ _ _ _ _ _ _ _ (at-if2 .before .is-requested .ensures) _ (at-next .before .before .before .before .other-active .ensures) _ _ (at-if2 .if2 .left)
-    (join-on-one _ _ _ _ _ _ _ _ _ (at-learn-joiner .learn-joiner .ensures .fine) (at-next .before .count .ensures .0) (at-next .next .ensures) _ _ _ _ _ (at-choose .choose .ensures .1 .0) (c .before .before .before .before .get-index .ensures) (c .before .before .forward-join-to2 .ensures) (at-choose .choose .ensures .0))
+    (join-on-one _ _ _ _ _ _ _ _ _ (at-learn-joiner .learn-joiner .ensures .fine) (at-next .before .count .ensures .0) (at-next .next .ensures) _ _ _ _ _ (at-draw-one-of .draw-one-of .ensures .1 .0) (c .before .before .before .before .get-index .ensures) (c .before .before .forward-join-to2 .ensures) (at-draw-one-of .draw-one-of .ensures .0))
     in
     walk-goes-on _ _ _ _ _ _ _ _ _ ended _ _ (at-if1 .if1 .left) walked (at-learn-joiner .learn-joiner .ensures)
 
@@ -166,7 +166,7 @@ on-forward-join-spec =
     same-length-5
     same-length-6
     returns-3
-    choose-requires
+    draw-one-of-requires
     slice-aggregate-get-index
     get-index-requires
     forward-join-to-requires-2

@@ -24,8 +24,8 @@ fine c = c .pre .1
 abbrev then1-to-start : tie.Then1 → tie.Start
 then1-to-start c = c .before .before .before .before .before .before
 
-abbrev get-index-to-choose : tie.After-get-index → tie.After-choose
-get-index-to-choose c = c .before .before .before
+abbrev get-index-to-draw-one-of : tie.After-get-index → tie.After-draw-one-of
+get-index-to-draw-one-of c = c .before .before .before
 
 abbrev joined2-to-get-index : tie.Joined2 → tie.After-get-index
 joined2-to-get-index c = c .before .before .before
@@ -33,21 +33,21 @@ joined2-to-get-index c = c .before .before .before
 abbrev forget-peer-to-joined2 : tie.After-forget-peer → tie.Joined2
 forget-peer-to-joined2 c = c .before .before
 
-abbrev drew : tie.Joined2 → tie.After-choose
-drew c = get-index-to-choose (joined2-to-get-index c)
+abbrev drew : tie.Joined2 → tie.After-draw-one-of
+drew c = get-index-to-draw-one-of (joined2-to-get-index c)
 
 abbrev start : tie.Joined2 → tie.Start
 start c = then1-to-start (drew c .before)
 
 -- The peer at the place chosen leaves the passive view.
-shifted : (c : tie.Joined2) → Changes (on (shift-passive (drew c .choose .result .index))) (work-of (drew c .choose .result .work) (start c .args .st .now)) (work-of (drew c .choose .result .work) (c .if2 .st))
+shifted : (c : tie.Joined2) → Changes (on (shift-passive (drew c .draw-one-of .result .index))) (work-of (drew c .draw-one-of .result .work) (start c .args .st .now)) (work-of (drew c .draw-one-of .result .work) (c .if2 .st))
 unfolding shift-passive unpack station-of part
 shifted c =
     let packed = fine (start c) .ready .packed in
     ⊎-elim
-    (λ t. subst (λ (ys : List ℕ). Changes (on (shift-passive (drew c .choose .result .index))) (work-of (drew c .choose .result .work) (start c .args .st .now)) (work-of (drew c .choose .result .work) ys)) (sym (t .5))
-    (on-done _ packed _ _ (t .0 .taken) (put-passive (t .2 .ensures) (shifted-fits _ _ packed (still-below _ _ packed (drew c .choose .ensures .1 .1))))))
-    (λ t. subst (λ (ys : List ℕ). Changes (on (shift-passive (drew c .choose .result .index))) (work-of (drew c .choose .result .work) (start c .args .st .now)) (work-of (drew c .choose .result .work) ys)) (sym (t .1)) (on-passed _ packed _ (t .0 .left)))
+    (λ t. subst (λ (ys : List ℕ). Changes (on (shift-passive (drew c .draw-one-of .result .index))) (work-of (drew c .draw-one-of .result .work) (start c .args .st .now)) (work-of (drew c .draw-one-of .result .work) ys)) (sym (t .5))
+    (on-done _ packed _ _ (t .0 .taken) (put-passive (t .2 .ensures) (shifted-fits _ _ packed (still-below _ _ packed (drew c .draw-one-of .ensures .1 .1))))))
+    (λ t. subst (λ (ys : List ℕ). Changes (on (shift-passive (drew c .draw-one-of .result .index))) (work-of (drew c .draw-one-of .result .work) (start c .args .st .now)) (work-of (drew c .draw-one-of .result .work) ys)) (sym (t .1)) (on-passed _ packed _ (t .0 .left)))
     (c .if2 .came)
 
 slice-read-n : tie.Need-slice-read-n
@@ -56,8 +56,8 @@ slice-read-n c = search needs
 slice-read-if1 : tie.Need-slice-read-if1
 slice-read-if1 c = search needs
 
-choose-requires : tie.Need-choose-requires
-choose-requires c κs = (search needs, some-choice _ _ (c .if1 .taken))
+draw-one-of-requires : tie.Need-draw-one-of-requires
+draw-one-of-requires c κs = (search needs, some-choice _ _ (c .if1 .taken))
 
 sub-get-index : tie.Need-sub-get-index
 sub-get-index c = search needs
@@ -71,8 +71,8 @@ part-get-index-end c = search needs
 get-index-requires : tie.Need-get-index-requires
 unfolding part
 get-index-requires c κs =
-    let at-choose = c .before .before in
-    (search (of-packed, needs), still-below _ _ (fine (then1-to-start (at-choose .before)) .ready .packed) (at-choose .choose .ensures .1 .1))
+    let at-draw-one-of = c .before .before in
+    (search (of-packed, needs), still-below _ _ (fine (then1-to-start (at-draw-one-of .before)) .ready .packed) (at-draw-one-of .draw-one-of .ensures .1 .1))
 
 sub-v : tie.Need-sub-v
 sub-v c = search needs
@@ -86,8 +86,8 @@ part-v-end c = search needs
 shift-remove-index-requires : tie.Need-shift-remove-index-requires
 unfolding part
 shift-remove-index-requires c κs =
-    let at-choose = get-index-to-choose (c .before .before .before .before) in
-    (search (of-packed, needs), still-below _ _ (fine (then1-to-start (at-choose .before)) .ready .packed) (at-choose .choose .ensures .1 .1))
+    let at-draw-one-of = get-index-to-draw-one-of (c .before .before .before .before) in
+    (search (of-packed, needs), still-below _ _ (fine (then1-to-start (at-draw-one-of .before)) .ready .packed) (at-draw-one-of .draw-one-of .ensures .1 .1))
 
 forget-peer-requires : tie.Need-forget-peer-requires
 forget-peer-requires c κs = let left = shifted (c .before) .packed in (long left, left)
@@ -111,7 +111,7 @@ returns c =
     let gone = told .before .before .before .before in
     let joined = forget-peer-to-joined2 gone in
     let chose = drew joined in
-    made _ _ _ _ (fine (start joined)) _ _ _ _ _ _ _ _ _ (chose .before .if1 .taken) (chose .choose .ensures .1 .0) (joined2-to-get-index joined .get-index .ensures) (told .notify .ensures) (gone .forget-peer .ensures) (shifted joined) (chose .choose .ensures .0)
+    made _ _ _ _ (fine (start joined)) _ _ _ _ _ _ _ _ _ (chose .before .if1 .taken) (chose .draw-one-of .ensures .1 .0) (joined2-to-get-index joined .get-index .ensures) (told .notify .ensures) (gone .forget-peer .ensures) (shifted joined) (chose .draw-one-of .ensures .0)
 
 returns-2 : tie.Need-returns-2
 unfolding part unpack station-of
@@ -123,7 +123,7 @@ make-room-spec =
     (tie.spec
     slice-read-n
     slice-read-if1
-    choose-requires
+    draw-one-of-requires
     sub-get-index
     part-get-index-start
     part-get-index-end

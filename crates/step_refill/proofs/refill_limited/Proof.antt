@@ -20,26 +20,26 @@ use Rattle.step_refill.proofs.refill_limited.Tie as tie
 abbrev candidates-to-start : tie.After-candidates → tie.Start
 candidates-to-start c = c .before .before .before .before .before .before .before
 
-abbrev choose-to-candidates : tie.After-choose → tie.After-candidates
-choose-to-candidates c = c .before .before .before .before
+abbrev draw-one-of-to-candidates : tie.After-draw-one-of → tie.After-candidates
+draw-one-of-to-candidates c = c .before .before .before .before
 
-abbrev send-neighbor-to-choose : tie.After-send-neighbor → tie.After-choose
-send-neighbor-to-choose c = c .before .before .before
+abbrev send-neighbor-to-draw-one-of : tie.After-send-neighbor → tie.After-draw-one-of
+send-neighbor-to-draw-one-of c = c .before .before .before
 
 abbrev start : tie.After-send-neighbor → tie.Start
-start c = candidates-to-start (choose-to-candidates (send-neighbor-to-choose c))
+start c = candidates-to-start (draw-one-of-to-candidates (send-neighbor-to-draw-one-of c))
 
 -- One was asked, and then the limit changed.
 asked : (c : tie.After-send-neighbor) (zs : List ℕ) → Changes (on use-request) (work-of (c .send-neighbor .result) (c .send-neighbor .last .1 .0)) (work-of (c .send-neighbor .result) zs)
     → Does (work-of (c .send-neighbor .result) zs) (start c .args .draws .now) (c .send-neighbor .last .1 .1 .0) (refill-limited (start c .args .skip .now) (run (work-of (start c .args .w) (start c .args .st .now)) (start c .args .draws .now) (start c .args .out .now)))
 asked c zs k =
-    let at-choose = send-neighbor-to-choose c in
-    let at-candidates = choose-to-candidates at-choose in
+    let at-draw-one-of = send-neighbor-to-draw-one-of c in
+    let at-candidates = draw-one-of-to-candidates at-draw-one-of in
     let given = candidates-to-start at-candidates .pre .1 in
     let from = at-candidates .candidates .ensures in
-    let picked = one-picked _ _ _ _ _ _ _ _ _ _ _ _ _ _ _ given (alone _ (given .ready .packed)) (sym (from .valid .counted)) (at-choose .choose .ensures .1 .0)
-    (item-read _ _ _ (from .valid) (omega (arith, at-choose .choose .ensures .1 .1, from .valid .counted))) k (c .send-neighbor .ensures) (at-choose .choose .ensures .0) in
-    one-asked _ _ _ _ _ _ _ from (empty-is-null 32 _ (from .valid)) _ _ _ (ne-eqb _ _ (at-choose .before .before .if1 .left)) picked
+    let picked = one-picked _ _ _ _ _ _ _ _ _ _ _ _ _ _ _ given (alone _ (given .ready .packed)) (sym (from .valid .counted)) (at-draw-one-of .draw-one-of .ensures .1 .0)
+    (item-read _ _ _ (from .valid) (omega (arith, at-draw-one-of .draw-one-of .ensures .1 .1, from .valid .counted))) k (c .send-neighbor .ensures) (at-draw-one-of .draw-one-of .ensures .0) in
+    one-asked _ _ _ _ _ _ _ from (empty-is-null 32 _ (from .valid)) _ _ _ (ne-eqb _ _ (at-draw-one-of .before .before .if1 .left)) picked
 
 slice-aggregate-candidates : tie.Need-slice-aggregate-candidates
 slice-aggregate-candidates c = search needs
@@ -65,8 +65,8 @@ returns c =
 slice-read-high : tie.Need-slice-read-high
 slice-read-high c = search needs
 
-choose-requires : tie.Need-choose-requires
-choose-requires c κs = search needs
+draw-one-of-requires : tie.Need-draw-one-of-requires
+draw-one-of-requires c κs = search needs
 
 mul-p : tie.Need-mul-p
 mul-p c = search needs
@@ -76,9 +76,9 @@ array-read-p c = search needs
 
 send-neighbor-requires : tie.Need-send-neighbor-requires
 send-neighbor-requires c κs =
-    let at-choose = c .before .before in
-    let given = candidates-to-start (choose-to-candidates at-choose) .pre in
-    (search (needs, given .0), room-drawn _ _ _ _ _ (given .1) (at-choose .choose .ensures .0))
+    let at-draw-one-of = c .before .before in
+    let given = candidates-to-start (draw-one-of-to-candidates at-draw-one-of) .pre in
+    (search (needs, given .0), room-drawn _ _ _ _ _ (given .1) (at-draw-one-of .draw-one-of .ensures .0))
 
 slice-read-left : tie.Need-slice-read-left
 slice-read-left c = search needs
@@ -122,7 +122,7 @@ refill-limited-spec =
     same-length
     returns
     slice-read-high
-    choose-requires
+    draw-one-of-requires
     mul-p
     array-read-p
     send-neighbor-requires

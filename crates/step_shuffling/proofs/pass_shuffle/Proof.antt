@@ -26,11 +26,11 @@ is-empty-to-without-all c = c .before .before .before
 abbrev is-empty-to-start : tie.After-is-empty → tie.Start
 is-empty-to-start c = copy-into-to-start (without-all-to-copy-into (is-empty-to-without-all c))
 
-abbrev choose-to-is-empty : tie.After-choose → tie.After-is-empty
-choose-to-is-empty c = c .before .before .before .before
+abbrev draw-one-of-to-is-empty : tie.After-draw-one-of → tie.After-is-empty
+draw-one-of-to-is-empty c = c .before .before .before .before
 
-abbrev send-nodes-to-choose : tie.After-send-nodes → tie.After-choose
-send-nodes-to-choose c = c .before .before .before .before .before .before
+abbrev send-nodes-to-draw-one-of : tie.After-send-nodes → tie.After-draw-one-of
+send-nodes-to-draw-one-of c = c .before .before .before .before .before .before
 
 sub-copy-into : tie.Need-sub-copy-into
 sub-copy-into c = search needs
@@ -78,8 +78,8 @@ slice-aggregate-count c = search needs
 count-requires : tie.Need-count-requires
 count-requires c κs = search needs
 
-choose-requires : tie.Need-choose-requires
-choose-requires c κs = (search needs, some-there _ _ _ (c .count .ensures .0) (c .before .before .before .is-empty .ensures) (c .before .before .if1 .left))
+draw-one-of-requires : tie.Need-draw-one-of-requires
+draw-one-of-requires c κs = (search needs, some-there _ _ _ (c .count .ensures .0) (c .before .before .before .is-empty .ensures) (c .before .before .if1 .left))
 
 slice-aggregate-get-index : tie.Need-slice-aggregate-get-index
 slice-aggregate-get-index c = search needs
@@ -91,13 +91,13 @@ next-requires : tie.Need-next-requires
 next-requires c κs = search needs
 
 event-nodes-requires : tie.Need-event-nodes-requires
-event-nodes-requires c κs = is-empty-to-start (choose-to-is-empty (c .before .before .before .before)) .pre .1 .1
+event-nodes-requires c κs = is-empty-to-start (draw-one-of-to-is-empty (c .before .before .before .before)) .pre .1 .1
 
 send-nodes-requires : tie.Need-send-nodes-requires
 send-nodes-requires c κs =
-    let at-choose = c .before .before .before .before .before in
-    let start = is-empty-to-start (choose-to-is-empty at-choose) in
-    (room-drawn _ _ _ _ _ (fine start) (at-choose .choose .ensures .0) .written, c .event-nodes .ensures .valid)
+    let at-draw-one-of = c .before .before .before .before .before in
+    let start = is-empty-to-start (draw-one-of-to-is-empty at-draw-one-of) in
+    (room-drawn _ _ _ _ _ (fine start) (at-draw-one-of .draw-one-of .ensures .0) .written, c .event-nodes .ensures .valid)
 
 same-length : tie.Need-same-length
 same-length c = search needs
@@ -106,13 +106,13 @@ returns-2 : tie.Need-returns-2
 unfolding part
 returns-2 c =
     let at-send-nodes = c .before .before in
-    let at-choose = send-nodes-to-choose at-send-nodes in
-    let at-is-empty = choose-to-is-empty at-choose in
+    let at-draw-one-of = send-nodes-to-draw-one-of at-send-nodes in
+    let at-is-empty = draw-one-of-to-is-empty at-draw-one-of in
     let at-without-all = is-empty-to-without-all at-is-empty in
     let at-copy-into = without-all-to-copy-into at-without-all in
     let others = others-are _ _ _ _ _ (at-copy-into .copy-into .ensures) (at-without-all .without-all .ensures) in
     passed-on _ _ _ _ _ _ _ _ _ _ _ others
-    (shuffle-on _ _ _ _ _ _ _ _ _ (fine (copy-into-to-start at-copy-into)) (at-is-empty .is-empty .ensures) _ _ _ _ _ (at-choose .before .count .ensures .0) (at-choose .choose .ensures .1 .0) (at-send-nodes .before .before .before .before .get-index .ensures) (at-send-nodes .before .before .before .next .ensures) (at-send-nodes .before .event-nodes .ensures) _ _ _ (at-choose .before .before .before .if1 .left) (at-send-nodes .send-nodes .ensures) (at-choose .choose .ensures .0))
+    (shuffle-on _ _ _ _ _ _ _ _ _ (fine (copy-into-to-start at-copy-into)) (at-is-empty .is-empty .ensures) _ _ _ _ _ (at-draw-one-of .before .count .ensures .0) (at-draw-one-of .draw-one-of .ensures .1 .0) (at-send-nodes .before .before .before .before .get-index .ensures) (at-send-nodes .before .before .before .next .ensures) (at-send-nodes .before .event-nodes .ensures) _ _ _ (at-draw-one-of .before .before .before .if1 .left) (at-send-nodes .send-nodes .ensures) (at-draw-one-of .draw-one-of .ensures .0))
 
 pub pass-shuffle-spec : {M : Type 1} → statement M
 pass-shuffle-spec =
@@ -131,7 +131,7 @@ pass-shuffle-spec =
     returns
     slice-aggregate-count
     count-requires
-    choose-requires
+    draw-one-of-requires
     slice-aggregate-get-index
     get-index-requires
     next-requires

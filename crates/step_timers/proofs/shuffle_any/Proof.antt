@@ -62,20 +62,20 @@ abbrev own-data-to-start : tie.After-own-data → tie.Start
 own-data-to-start c = cap-to-start (cap2-to-cap (append-to-cap2 (count2-to-append (own-data-to-count2 c))))
 
 -- The neighbor that is asked, and the peers of each view that are named.
-chosen : (c : tie.After-get-index) → Fine (work-of (c .before .choose .result .work) (get-index-to-start c .args .st .now)) (get-index-to-start c .args .draws .now) (get-index-to-start c .args .out .now)
-chosen c = fine-drawn _ _ _ _ _ (fine (get-index-to-start c)) (c .before .choose .ensures .0)
+chosen : (c : tie.After-get-index) → Fine (work-of (c .before .draw-one-of .result .work) (get-index-to-start c .args .st .now)) (get-index-to-start c .args .draws .now) (get-index-to-start c .args .out .now)
+chosen c = fine-drawn _ _ _ _ _ (fine (get-index-to-start c)) (c .before .draw-one-of .ensures .0)
 
-active-drawn : (c : tie.After-shuffle-and-cap) → DrawsAny (draw-shuffle (without (cap-to-get-index c .get-index .result) (items-at active-places (active-part (cap-to-start c .args .st .now))))) (cap-to-get-index c .before .choose .result .work) (c .shuffle-and-cap .result) (cap-to-start c .args .draws .now)
+active-drawn : (c : tie.After-shuffle-and-cap) → DrawsAny (draw-shuffle (without (cap-to-get-index c .get-index .result) (items-at active-places (active-part (cap-to-start c .args .st .now))))) (cap-to-get-index c .before .draw-one-of .result .work) (c .shuffle-and-cap .result) (cap-to-start c .args .draws .now)
 unfolding part
 active-drawn c =
     let at-without = cap-to-without c in
     peers-drawn _ _ _ _ _ _ _ (without-to-copy-into at-without .copy-into .ensures) (at-without .without .ensures) (c .shuffle-and-cap .ensures .0)
 
-active-named : (c : tie.After-shuffle-and-cap) → HoldsSet 32 (c .shuffle-and-cap .last .1 .1 .1 .0) (take (shuffle-active-view-count (cap-to-start c .args .st .now)) (shuffled-by (cap-to-get-index c .before .choose .result .work) (cap-to-start c .args .draws .now) (without (cap-to-get-index c .get-index .result) (items-at active-places (active-part (cap-to-start c .args .st .now))))))
+active-named : (c : tie.After-shuffle-and-cap) → HoldsSet 32 (c .shuffle-and-cap .last .1 .1 .1 .0) (take (shuffle-active-view-count (cap-to-start c .args .st .now)) (shuffled-by (cap-to-get-index c .before .draw-one-of .result .work) (cap-to-start c .args .draws .now) (without (cap-to-get-index c .get-index .result) (items-at active-places (active-part (cap-to-start c .args .st .now))))))
 unfolding part
 active-named c =
     let at-without = cap-to-without c in
-    peers-are (cap-to-get-index c .before .choose .result .work) (c .shuffle-and-cap .result) (cap-to-start c .args .draws .now) _ _ _ _ (without-to-copy-into at-without .copy-into .ensures) (at-without .without .ensures) _ (shuffle-active-view-count (cap-to-start c .args .st .now)) (c .shuffle-and-cap .ensures .1)
+    peers-are (cap-to-get-index c .before .draw-one-of .result .work) (c .shuffle-and-cap .result) (cap-to-start c .args .draws .now) _ _ _ _ (without-to-copy-into at-without .copy-into .ensures) (at-without .without .ensures) _ (shuffle-active-view-count (cap-to-start c .args .st .now)) (c .shuffle-and-cap .ensures .1)
 
 asked : (c : tie.After-shuffle-and-cap) → Fine (work-of (c .shuffle-and-cap .result) (cap-to-start c .args .st .now)) (cap-to-start c .args .draws .now) (cap-to-start c .args .out .now)
 asked c = fine-drawn _ _ _ _ _ (chosen (cap-to-get-index c)) (active-drawn c)
@@ -112,8 +112,8 @@ returns : tie.Need-returns
 unfolding part
 returns c = search none-asked
 
-choose-requires : tie.Need-choose-requires
-choose-requires c κs = search needs
+draw-one-of-requires : tie.Need-draw-one-of-requires
+draw-one-of-requires c κs = search needs
 
 get-index-requires : tie.Need-get-index-requires
 unfolding part
@@ -249,13 +249,13 @@ returns-2 c =
     let at-cap2 = append-to-cap2 at-append in
     let at-cap = cap2-to-cap at-cap2 in
     let at-get-index = cap-to-get-index at-cap in
-    let at-choose = at-get-index .before in
-    let at-count = at-choose .before .before in
-    one-asked _ _ _ _ _ (fine (count-to-start at-count)) (at-count .count .ensures .0) _ _ (at-choose .choose .ensures .1 .0) (at-get-index .get-index .ensures) _ _ _ (at-choose .before .if1 .left)
+    let at-draw-one-of = at-get-index .before in
+    let at-count = at-draw-one-of .before .before in
+    one-asked _ _ _ _ _ (fine (count-to-start at-count)) (at-count .count .ensures .0) _ _ (at-draw-one-of .draw-one-of .ensures .1 .0) (at-get-index .get-index .ensures) _ _ _ (at-draw-one-of .before .if1 .left)
     (with-done _ _ _ _ _ _ _ _ (chosen at-get-index) _ (active-drawn at-cap) (active-named at-cap)
     (passive-done _ _ _ _ _ _ _ _ (asked at-cap) _ _ _ (passive-drawn at-cap2) (passive-named at-cap2) (at-append .append .ensures)
     (shuffle-told _ _ _ _ _ _ _ _ _ _ _ (room-of _ _ _ (told at-cap2)) (at-append .append .ensures .valid) (at-count2 .count2 .ensures .0) (at-own-data .own-data .ensures) (at-own-data .before .before .peer-infos .ensures) (at-push .push .ensures) (at-send-nodes .send-nodes .ensures))))
-    (at-choose .choose .ensures .0)
+    (at-draw-one-of .draw-one-of .ensures .0)
 
 pub shuffle-any-spec : {M : Type 1} → statement M
 shuffle-any-spec =
@@ -266,7 +266,7 @@ shuffle-any-spec =
     part-active-end
     count-requires
     returns
-    choose-requires
+    draw-one-of-requires
     get-index-requires
     slice-aggregate-copy-into
     copy-into-requires
