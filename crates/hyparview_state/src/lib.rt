@@ -1,4 +1,4 @@
-// The state of a station as one lent list of words, and the work that the steps of one event hand on.
+// The state of a station as one lent list of words: its layout, the queries, and the open requests and joins of a peer.
 use base_peer::PeerData;
 use base_peer::PeerId;
 use base_timing::Timing;

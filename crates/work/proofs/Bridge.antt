@@ -203,7 +203,7 @@ module _ {S : Type 0} {F : Form S} where
   pub still : {w : Held} {ds out : List ℕ} → Fine F w ds out → Does F w ds out (run-of F w ds out)
   still v = record { fine = v; same = refl }
 
-  -- with another name for the run-of F that is reached
+  -- with another name for the run that is reached
   pub by : {r : Held} {ds o : List ℕ} {x : Run S} (y : Run S) → y ≡ x → Does F r ds o x → Does F r ds o y
   by y e d = record { fine = d .fine; same = d .same ∙ sym e }
 
