@@ -2,3 +2,4 @@ pub mod Program
 pub mod Draws
 pub mod Tied
 pub mod Timers
+pub mod Refusal

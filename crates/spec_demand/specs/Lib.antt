@@ -1,2 +1,3 @@
 pub mod Program
 pub mod Timers
+pub mod Refusal

@@ -1,2 +1,3 @@
 pub mod Memory
 pub mod Timers
+pub mod Refusal
