@@ -1,3 +1,4 @@
 pub mod Program
 pub mod Timers
 pub mod Refusal
+pub mod Evictions

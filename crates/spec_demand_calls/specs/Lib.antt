@@ -1,3 +1,4 @@
 pub mod Memory
 pub mod Timers
 pub mod Refusal
+pub mod Evictions

@@ -52,13 +52,15 @@ unfolding All
 decode-all [] a = refl
 decode-all (e ∷ es) a = λ i. written-reads-back e (a .0) i ∷ decode-all es (a .1) i
 
--- what is written reads back
+-- what is written reads back: the parts of the output, and the records in them
+parts-of : (out : List ℕ) (w : WrittenOut out) → cut-records out ≡ map encode (w .records)
+parts-of out w = subst (λ (x : List ℕ). cut-records x ≡ map encode (w .records)) (sym (w .bytes)) (cut-all (w .records) (w .zeros) (w .in-form))
+
+pub read-back : (out : List ℕ) (w : WrittenOut out) → map decode (cut-records out) ≡ map some (w .records)
+read-back out w = ap (map decode) (parts-of out w) ∙ decode-all (w .records) (w .in-form)
+
 pub reads : (out : List ℕ) → WrittenOut out → ReadsBack out
-reads out w =
-    let es = w .records in
-    let parts : cut-records out ≡ map encode es =
-    subst (λ (x : List ℕ). cut-records x ≡ map encode es) (sym (w .bytes)) (cut-all es (w .zeros) (w .in-form)) in
-    record { written = w; parts = parts; read = ap (map decode) parts ∙ decode-all es (w .in-form) }
+reads out w = record { written = w; parts = parts-of out w; read = read-back out w }
 
 module _ {c : Config} {me : ℕ} (ranges : in-range c ≡ true) where
   pub outputs-read : (vs : List Call) {l : Ledger} {s : Station} → narrow-draws vs ≡ true → Kept c me l s → OutputsRead definition vs s
