@@ -9,8 +9,10 @@ import tool
 
 from . import equations
 
-ROOT = pathlib.Path(__file__).resolve().parent.parent.parent
+ROOT = tool.ROOT
 CRATE = "spec_hyparview"
+# The crates that the definition stands in, each with the modules that are left as they speak of code.
+DEFINITION = {CRATE: [], "work": ["Work"]}
 ERROR = re.compile(r"\.antt\S* error: ")
 REFUSED = re.compile(r"/Equations\.antt:\d+:\d+: error: `h(\d+)(new|zeroes|[ef]\d+)`")
 
@@ -38,7 +40,7 @@ def needed(crate, lines):
 
 
 class Checker:
-    """A copy of the definition; its proofs are left, as nothing here rests on them."""
+    """A copy of the definition; its code and proofs are left, as nothing here rests on them."""
 
     def __init__(self, folder):
         self.folder = pathlib.Path(folder).resolve()
@@ -46,17 +48,43 @@ class Checker:
             tool.fail("--folder must stand outside the repository")
         crates = needed(CRATE, (ROOT / "crates.txt").read_text().splitlines())
         for name in crates:
-            for part in ("src", "specs") if name == CRATE else ("src", "specs", "proofs"):
-                source = ROOT / "crates" / name / part
-                target = self.folder / "crates" / name / part
-                shutil.rmtree(target, ignore_errors=True)
-                if source.is_dir():
-                    shutil.copytree(source, target)
-        lines = [f"{name}: {' '.join(deps)}\n" for name, deps in crates.items()]
+            source, target = ROOT / "crates" / name, self.folder / "crates" / name
+            shutil.rmtree(target, ignore_errors=True)
+            for part in ("specs",) if name in DEFINITION else ("src", "specs", "proofs"):
+                if (source / part).is_dir():
+                    shutil.copytree(source / part, target / part)
+            if name not in DEFINITION:
+                self.keep(name)
+        lines = [" ".join([f"{name}:", *deps]) + "\n" for name, deps in crates.items()]
         (self.folder / "crates.txt").write_text("".join(lines))
+        for name, left in DEFINITION.items():
+            self.leave(self.folder / "crates" / name, left)
         self.definition = self.folder / "crates" / CRATE / "specs"
         with (self.definition / "Lib.antt").open("a") as modules:
             modules.write("pub mod Equations\n")
+
+    def keep(self, name):
+        """Copies a crate as the repository's last check left it; `rt` takes it only where its files are the same."""
+        left, kept = ROOT / "target", self.folder / "target"
+        library, stamp = f"rlib/{name}.rlib", f"stamp/{name}"
+        if (left / library).is_dir() and (left / stamp).is_file() and not (kept / library).exists():
+            shutil.copytree(left / library, kept / library)
+            (kept / "stamp").mkdir(exist_ok=True)
+            shutil.copyfile(left / stamp, kept / stamp)
+
+    def leave(self, crate, modules):
+        """The copy of a crate without code and without these modules."""
+        (crate / "src").mkdir()
+        (crate / "src/lib.rt").write_text("// No code.\n")
+        lib = crate / "specs/Lib.antt"
+        for module in modules:
+            (crate / "specs" / f"{module}.antt").unlink()
+            lib.write_text(lib.read_text().replace(f"pub mod {module}\n", ""))
+
+    def files(self, name):
+        """The copies of a file of the definition: of the station first, then of what it stands on."""
+        found = [self.folder / "crates" / crate / "specs" / name for crate in DEFINITION]
+        return [path for path in found if path.is_file()]
 
     def evaluate(self, text):
         """The refused equations of a module, as pairs of the history's number and the rest of the name."""

@@ -11,6 +11,8 @@ from .checker import Failure
 
 @dataclasses.dataclass(frozen=True)
 class Change:
+    # the line of the list that it begins at
+    line: int
     file: str
     old: str
     new: str
@@ -22,14 +24,35 @@ class Change:
 def read(path):
     """Blocks `FILE`, `- old`, `+ new` and `@ history` or `= reason`, with an empty line between; # starts a remark."""
     signs = {"-": "old", "+": "new", "@": "history", "=": "reason"}
+    at = 1
     for block in tool.read(path).split("\n\n"):
-        lines = [line for line in block.splitlines() if line and not line.startswith("#")]
+        lines = [(at + n, line) for n, line in enumerate(block.split("\n")) if line and not line.startswith("#")]
+        at += block.count("\n") + 2
         if lines:
+            (begin, file), *rest = lines
             try:
-                change = Change(lines[0], **{signs[line[0]]: line[2:] for line in lines[1:]})
+                change = Change(begin, file, **{signs[line[0]]: line[2:] for _, line in rest})
             except (KeyError, TypeError):
-                tool.fail(f"{path}: no change of the definition: {tool.shown(block)}")
+                tool.fail(f"{path}:{begin}: no change of the definition: {tool.shown(block)}")
             yield change
+
+
+def target(change, checker):
+    """The file that a change fits, which has its old text once; None where there is no such file."""
+    counts = [(path, tool.read(path).count(change.old)) for path in checker.files(change.file)]
+    found = [path for path, count in counts for _ in range(count)]
+    return found[0] if len(found) == 1 else None
+
+
+def fitting(path, checker):
+    """The changes of a list, each of which must fit the definition once."""
+    changes = list(read(path))
+    wrong = [change for change in changes if target(change, checker) is None]
+    for change in wrong:
+        print(f"{path}:{change.line}: not once in {change.file}: {change.old}")
+    if wrong:
+        tool.fail(f"{path}: {len(wrong)} of {len(changes)} changes do not fit the definition")
+    return changes
 
 
 def named(words, oracle):
@@ -58,19 +81,17 @@ def tried(change, oracle, checker):
     """The verdict on a change, which is undone again."""
     if change.reason:
         return "explained", change.reason
-    target = checker.definition / change.file
-    whole = tool.read(target)
-    if whole.count(change.old) != 1:
-        return "no definition", f"{whole.count(change.old)} times in {change.file}: {change.old}"
-    target.write_text(whole.replace(change.old, change.new), encoding="utf-8")
+    path = target(change, checker)
+    whole = tool.read(path)
+    path.write_text(whole.replace(change.old, change.new), encoding="utf-8")
     verdict = noticed(change, oracle, checker)
-    target.write_text(whole, encoding="utf-8")
+    path.write_text(whole, encoding="utf-8")
     return verdict
 
 
 def run(path, oracle, checker):
     counts = collections.Counter()
-    for number, change in enumerate(read(path), 1):
+    for number, change in enumerate(fitting(path, checker), 1):
         began = time.monotonic()
         verdict, remark = tried(change, oracle, checker)
         counts[verdict] += 1
