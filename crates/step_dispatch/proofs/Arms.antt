@@ -1,6 +1,6 @@
 -- Which step an event is: the header that the code looks at is that of the record that the definition looks at.
 -- Assumes nothing.
-use Prim.Native.Nat.{ℕ, zero, suc, _%_, _≤_, _<_}
+use Prim.Native.Nat.{ℕ, zero, suc, _+_, _%_, _≤_, _<_}
 use mathlib.Core.Path.{_≡_, refl, sym, ap, _∙_}
 use mathlib.Core.Bool.{Bool, true, false, not, _||_}
 use mathlib.Core.List.{List}
@@ -41,6 +41,13 @@ only-four (suc (suc (suc zero))) l n₀ n₁ n₂ n₃ n₅ = absurd (n₃ refl)
 only-four (suc (suc (suc (suc zero)))) l n₀ n₁ n₂ n₃ n₅ = refl
 only-four (suc (suc (suc (suc (suc zero))))) l n₀ n₁ n₂ n₃ n₅ = absurd (n₅ refl)
 only-four (suc (suc (suc (suc (suc (suc m)))))) l n₀ n₁ n₂ n₃ n₅ = absurd (past-five m l)
+
+above : (n k : ℕ) → n ≤ k → (k ≡ n → ⊥) → n + 1 ≤ k
+above n k l m = omega (arith, l, m)
+
+-- past the timers and up to Quit there are three other kinds
+only-quit : (k : ℕ) → kind-byte RetryJoin < k → (k ≡ kind-byte PeerDisconnected → ⊥) → (k ≡ kind-byte RequestJoin → ⊥) → (k ≡ kind-byte UpdatePeerData → ⊥) → k ≤ kind-byte Quit → k ≡ kind-byte Quit
+only-quit k n₄ n₅ n₆ n₇ l = let m = above 7 k (above 6 k (above 5 k n₄ n₅) n₆) n₇ in omega (arith, m, l)
 
 -- b is Join, ForwardJoin or Neighbor, with its one node
 pub record Single (b : List ℕ) (h : Header) : Type 0 where
@@ -222,9 +229,10 @@ module _ (b : List ℕ) (h : Header) (v : Headed b h) (g : Run) (r : Held) (ds o
       let e : first-node (R.nodes-of b 0 (R.header-of b .nodes)) ≡ node-in n = first-of b (R.header-of b .nodes) (omega (arith, one-node b h v q)) ∙ sym (x .holds) in
       by _ (rw (same-kind UpdatePeerData q) (λ i. on (update-own-data (e i .data-of)) g)) k
 
-  pub kind-quit : h .kind ≡ kind-byte Quit → Does r ds o (handle-quit g) → Does r ds o (dispatch (R.rec-of b) g)
+  pub kind-quit : kind-byte RetryJoin < h .kind → (h .kind ≡ kind-byte PeerDisconnected → ⊥) → (h .kind ≡ kind-byte RequestJoin → ⊥) → (h .kind ≡ kind-byte UpdatePeerData → ⊥) → h .kind ≤ kind-byte Quit
+      → Does r ds o (handle-quit g) → Does r ds o (dispatch (R.rec-of b) g)
   unfolding dispatch choose
-  kind-quit q k = by _ (rw (same-kind Quit q)) k
+  kind-quit l n₅ n₆ n₇ m k = by _ (rw (same-kind Quit (only-quit (h .kind) l n₅ n₆ n₇ m))) k
 
   -- past the timers and none of these
   no-kind : kind-byte RetryJoin < h .kind → (h .kind ≡ kind-byte PeerDisconnected → ⊥) → (h .kind ≡ kind-byte RequestJoin → ⊥) → (h .kind ≡ kind-byte UpdatePeerData → ⊥) → (h .kind ≡ kind-byte Quit → ⊥)

@@ -234,8 +234,12 @@ returns-9 : tie.Need-returns-9
 returns-9 c =
     let at-handle-quit = c .before .before .before .before in
     let at-if9 = at-handle-quit .before .before .before in
+    let at-if8 = at-if9 .before .before in
+    let at-if7 = at-if8 .before .before in
+    let at-if6 = at-if7 .before .before in
+    let at-if2 = at-if6 .before .before in
     let start = then9-to-start at-if9 in
-    kind-quit _ _ (headed start) _ _ _ _ (at-if9 .if9 .taken) (at-handle-quit .handle-quit .ensures)
+    kind-quit _ _ (headed start) _ _ _ _ (at-if2 .if2 .left) (at-if6 .if6 .left) (at-if7 .if7 .left) (at-if8 .if8 .left) (at-if9 .if9 .taken) (at-handle-quit .handle-quit .ensures)
 
 returns-10 : tie.Need-returns-10
 returns-10 c =
@@ -244,7 +248,7 @@ returns-10 c =
     let at-if6 = at-if7 .before .before in
     let at-if2 = else9-to-else2 c in
     let start = else1-to-start (at-if2 .before .before) in
-    kind-none _ _ (headed start) _ _ _ _ (at-if2 .if2 .left) (at-if6 .if6 .left) (at-if7 .if7 .left) (at-if8 .if8 .left) (c .if9 .left) (still (fine start))
+    kind-none _ _ (headed start) _ _ _ _ (at-if2 .if2 .left) (at-if6 .if6 .left) (at-if7 .if7 .left) (at-if8 .if8 .left) (λ z. omega (arith, z, c .if9 .left)) (still (fine start))
 
 pub dispatch-spec : {M : Type 1} → statement M
 dispatch-spec =
