@@ -286,14 +286,14 @@ module _ (f : List ℕ → ℕ) (h : (b : List ℕ) → length b ≤ 16 → all-
       more (f (x .1)) (map f (values l)) (h (x .1) (leb-true _ _ (and-left (leb (length (x .1)) 16) _ s)) (and-left (all-under bytes-end (x .1)) _ e))
       (mapped-fine l (and-right (leb (length (x .1)) 16) _ s) (and-right (all-under bytes-end (x .1)) _ e))
 
-data-fine : (l : List (ℕ × List ℕ)) → length l ≤ 80 → all-under peers-end (keys l) ≡ true → all-short l ≡ true → lists-under bytes-end (values l) ≡ true → Fine (data-section 80 l)
+data-fine : (l : List (ℕ × List ℕ)) → length l ≤ layout.peer-data-places → all-under peers-end (keys l) ≡ true → all-short l ≡ true → lists-under bytes-end (values l) ≡ true → Fine (data-section layout.peer-data-places l)
 unfolding data-section
 data-fine l f e s u =
-    let p : (k : List ℕ → ℕ) → length (map k (values l)) ≤ 80 = λ k. omega (arith, lib.ListN.length-map (values l) k, length-values l) in
-    both-fine _ _ (both-fine _ _ (both-fine _ _ (both-fine _ _ (column-fine 80 (keys l) (omega (arith, length-keys l)) (peers-fine (keys l) e))
-    (column-fine 80 (lengths l) (p length) (mapped-fine length (λ b h t. omega (arith, h)) l s u)))
-    (column-fine 80 (low-words l) (p low-word) (mapped-fine low-word low-under l s u)))
-    (column-fine 80 (high-words l) (p high-word) (mapped-fine high-word high-under l s u)))
+    let p : (k : List ℕ → ℕ) → length (map k (values l)) ≤ layout.peer-data-places = λ k. omega (arith, lib.ListN.length-map (values l) k, length-values l) in
+    both-fine _ _ (both-fine _ _ (both-fine _ _ (both-fine _ _ (column-fine layout.peer-data-places (keys l) (omega (arith, length-keys l)) (peers-fine (keys l) e))
+    (column-fine layout.peer-data-places (lengths l) (p length) (mapped-fine length (λ b h t. omega (arith, h)) l s u)))
+    (column-fine layout.peer-data-places (low-words l) (p low-word) (mapped-fine low-word low-under l s u)))
+    (column-fine layout.peer-data-places (high-words l) (p high-word) (mapped-fine high-word high-under l s u)))
     (more (length l) [] (omega arith) no-words)
 
 kind-fits : (r : Refill) → kind-word r ≤ 2

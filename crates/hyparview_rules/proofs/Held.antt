@@ -78,29 +78,29 @@ count-lent a k n xs h f =
     ap (λ (j : ℕ). take j (drop a xs)) z ∙ sym (take-take (getD (part a k xs) n 0) k (drop a xs) (omega arith))
 
 module _ (xs : List ℕ) (e : packed-ok xs ≡ true) where
-  pub few-joins : getD xs layout.joins-count 0 ≤ 8
+  pub few-joins : getD xs layout.joins-count 0 ≤ layout.joins-places
   few-joins = omega (arith, part-read layout.joins-at layout.joins-size (layout.joins-places + layout.joins-places) xs (omega arith), ok-joins xs e .fits)
 
-  pub few-bootstrap : getD xs layout.bootstrap-count 0 ≤ 8
+  pub few-bootstrap : getD xs layout.bootstrap-count 0 ≤ layout.bootstrap-places
   few-bootstrap = omega (arith, part-read layout.bootstrap-at layout.bootstrap-size layout.bootstrap-places xs (omega arith), ok-bootstrap xs e .fits)
 
-  pub few-active : getD xs layout.active-count 0 ≤ 8
+  pub few-active : getD xs layout.active-count 0 ≤ layout.active-places
   few-active = omega (arith, part-read layout.active-at layout.active-size layout.active-places xs (omega arith), ok-active xs e .fits)
 
-  pub few-passive : getD xs layout.passive-count 0 ≤ 32
+  pub few-passive : getD xs layout.passive-count 0 ≤ layout.passive-places
   few-passive = omega (arith, part-read layout.passive-at layout.passive-size layout.passive-places xs (omega arith), ok-passive xs e .fits)
 
-  pub few-alive : getD xs layout.alive-count 0 ≤ 32
+  pub few-alive : getD xs layout.alive-count 0 ≤ layout.alive-places
   few-alive = omega (arith, part-read layout.alive-at layout.alive-size layout.alive-places xs (omega arith), ok-alive xs e .fits)
 
   active-lent : part layout.active-at (layout.active-at + getD xs layout.active-count 0 - layout.active-at) xs ≡ items-at layout.active-places (layout.active-part xs)
-  active-lent = count-lent layout.active-at layout.active-size layout.active-places xs (omega arith) (ok-active xs e .fits) ∙ lent 8 _ (ok-active xs e)
+  active-lent = count-lent layout.active-at layout.active-size layout.active-places xs (omega arith) (ok-active xs e .fits) ∙ lent layout.active-places _ (ok-active xs e)
 
   passive-lent : part layout.passive-at (layout.passive-at + getD xs layout.passive-count 0 - layout.passive-at) xs ≡ items-at layout.passive-places (layout.passive-part xs)
-  passive-lent = count-lent layout.passive-at layout.passive-size layout.passive-places xs (omega arith) (ok-passive xs e .fits) ∙ lent 32 _ (ok-passive xs e)
+  passive-lent = count-lent layout.passive-at layout.passive-size layout.passive-places xs (omega arith) (ok-passive xs e .fits) ∙ lent layout.passive-places _ (ok-passive xs e)
 
   alive-lent : part layout.alive-at (layout.alive-at + getD xs layout.alive-count 0 - layout.alive-at) xs ≡ items-at layout.alive-places (layout.alive-part xs)
-  alive-lent = count-lent layout.alive-at layout.alive-size layout.alive-places xs (omega arith) (ok-alive xs e .fits) ∙ lent 32 _ (ok-alive xs e)
+  alive-lent = count-lent layout.alive-at layout.alive-size layout.alive-places xs (omega arith) (ok-alive xs e .fits) ∙ lent layout.alive-places _ (ok-alive xs e)
 
   views-is : (a b c : Bool) → a ≡ disjoint (part layout.active-at (layout.active-at + getD xs layout.active-count 0 - layout.active-at) xs) (part layout.passive-at (layout.passive-at + getD xs layout.passive-count 0 - layout.passive-at) xs) → b ≡ mem (layout.me xs) (part layout.active-at (layout.active-at + getD xs layout.active-count 0 - layout.active-at) xs) → c ≡ mem (layout.me xs) (part layout.passive-at (layout.passive-at + getD xs layout.passive-count 0 - layout.passive-at) xs)
       → ((a && not b) && not c) ≡ views-rule (unpack xs)
@@ -124,7 +124,7 @@ module _ (xs : List ℕ) (e : packed-ok xs ≡ true) where
       and-assoc ((a && not b) && not c) d k ∙ (λ i. views-is a b c p q r i && (alive-is d s i && held-is k t i))
 
   joins-lent : part layout.joins-at (layout.joins-at + getD xs layout.joins-count 0 - layout.joins-at) xs ≡ keys (numbers-at layout.joins-places (layout.joins-part xs))
-  joins-lent = count-lent layout.joins-at layout.joins-size (layout.joins-places + layout.joins-places) xs (omega arith) (omega (arith, ok-joins xs e .fits)) ∙ peers-lent 8 _ (ok-joins xs e)
+  joins-lent = count-lent layout.joins-at layout.joins-size (layout.joins-places + layout.joins-places) xs (omega arith) (omega (arith, ok-joins xs e .fits)) ∙ peers-lent layout.joins-places _ (ok-joins xs e)
 
   pub none-joined : getD xs layout.joins-count 0 ≡ 0 → true ≡ joins-rule (unpack xs)
   unfolding joins-rule unpack station-of part subset disjoint has mem
@@ -136,7 +136,7 @@ module _ (xs : List ℕ) (e : packed-ok xs ≡ true) where
       → c ≡ mem (layout.me xs) (part layout.joins-at (layout.joins-at + getD xs layout.joins-count 0 - layout.joins-at) xs) → (a && b && not c) ≡ joins-rule (unpack xs)
   unfolding joins-rule unpack station-of has
   joins-are a b c p q r =
-      let boot = count-lent layout.bootstrap-at layout.bootstrap-size layout.bootstrap-places xs (omega arith) (ok-bootstrap xs e .fits) ∙ lent 8 _ (ok-bootstrap xs e) in
+      let boot = count-lent layout.bootstrap-at layout.bootstrap-size layout.bootstrap-places xs (omega arith) (ok-bootstrap xs e .fits) ∙ lent layout.bootstrap-places _ (ok-bootstrap xs e) in
       and-assoc a b (not c)
       ∙ (λ i. (p ∙ (λ j. subset (joins-lent j) (boot j))) i && ((q ∙ (λ j. disjoint (joins-lent j) (active-lent j))) i && not ((r ∙ ap (mem (layout.me xs)) joins-lent) i)))
 
@@ -173,26 +173,26 @@ module _ (xs : List ℕ) (e : packed-ok xs ≡ true) where
   unfolding room-rule unpack station-of
   room-held =
       let v = ok-shape xs e in
-      both-true _ _ (le-leb (length (numbers-at layout.requests-places (layout.requests-part xs))) 32 (omega (arith, v .sections .requests .counted, v .sections .requests .fits)))
-      (both-true _ _ (le-leb (length (items-at layout.refused-places (layout.refused-part xs))) 32 (omega (arith, v .sections .refused .counted, v .sections .refused .fits)))
-      (le-leb (length (data-map-at layout.peer-data-places (layout.peer-data-part xs))) 80 (omega (arith, v .sections .peer-data .counted, v .sections .peer-data .fits))))
+      both-true _ _ (le-leb (length (numbers-at layout.requests-places (layout.requests-part xs))) layout.requests-places (omega (arith, v .sections .requests .counted, v .sections .requests .fits)))
+      (both-true _ _ (le-leb (length (items-at layout.refused-places (layout.refused-part xs))) layout.refused-places (omega (arith, v .sections .refused .counted, v .sections .refused .fits)))
+      (le-leb (length (data-map-at layout.peer-data-places (layout.peer-data-part xs))) layout.peer-data-places (omega (arith, v .sections .peer-data .counted, v .sections .peer-data .fits))))
 
   pub few-held : few-rule (unpack xs) ≡ true
   unfolding few-rule unpack station-of
   few-held =
       let v = ok-shape xs e in
-      both-true _ _ (le-leb (length (items-at layout.bootstrap-places (layout.bootstrap-part xs))) 8 (omega (arith, v .sections .bootstrap .counted, v .sections .bootstrap .fits)))
-      (le-leb (length (items-at layout.recent-places (layout.recent-part xs))) 8 (omega (arith, v .sections .recent .counted, v .sections .recent .fits)))
+      both-true _ _ (le-leb (length (items-at layout.bootstrap-places (layout.bootstrap-part xs))) layout.bootstrap-places (omega (arith, v .sections .bootstrap .counted, v .sections .bootstrap .fits)))
+      (le-leb (length (items-at layout.recent-places (layout.recent-part xs))) layout.recent-places (omega (arith, v .sections .recent .counted, v .sections .recent .fits)))
 
 values-short : (m : List (ℕ × List ℕ)) → All (λ (b : List ℕ). length b ≤ 16) (values m) → all-short m ≡ true
 unfolding all-short All values
 values-short [] a = refl
 values-short (x ∷ m) a = both-true (leb (length (x .1)) 16) _ (le-leb (length (x .1)) 16 (a .0)) (values-short m (a .1))
 
-data-short : (m : List ℕ) → ValidDataWords 80 m → All (λ (b : List ℕ). length b ≤ 16) (values (data-map-at 80 m))
+data-short : (m : List ℕ) → ValidDataWords layout.peer-data-places m → All (λ (b : List ℕ). length b ≤ 16) (values (data-map-at layout.peer-data-places m))
 data-short m v =
-    rw (entries-values no-data 80 entry-bytes ValidEntry _ _ _ _ (data-entries 80 m v))
-    (all-map ValidEntry (λ (b : List ℕ). length b ≤ 16) entry-bytes (λ x h. omega (arith, length-entry x h, h .fits)) (take (count-of 80 m) (entries-at 80 m)) (v .each))
+    rw (entries-values no-data layout.peer-data-places entry-bytes ValidEntry _ _ _ _ (data-entries layout.peer-data-places m v))
+    (all-map ValidEntry (λ (b : List ℕ). length b ≤ 16) entry-bytes (λ x h. omega (arith, length-entry x h, h .fits)) (take (count-of layout.peer-data-places m) (entries-at layout.peer-data-places m)) (v .each))
 
 own-short : (d : PeerData) → ValidData d → short-data (data-in d) ≡ true
 unfolding short-data data-in choose

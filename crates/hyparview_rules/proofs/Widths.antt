@@ -125,9 +125,9 @@ own-under : (xs : List ℕ) → all-under bytes-end (bytes-of (data-in (own-at x
 unfolding data-in own-at bytes-of all-under
 own-under xs = by-choice (λ (d : Data). all-under bytes-end (bytes-of d) ≡ true) _ (λ t. word-under (layout.own-len xs) (layout.own-low xs) (layout.own-high xs)) (λ t. refl)
 
-held-under : (m : List ℕ) → ValidDataWords 80 m → lists-under bytes-end (values (data-map-at 80 m)) ≡ true
+held-under : (m : List ℕ) → ValidDataWords layout.peer-data-places m → lists-under bytes-end (values (data-map-at layout.peer-data-places m)) ≡ true
 unfolding entries-at
-held-under m v = ap (lists-under bytes-end) (entries-values no-data 80 entry-bytes ValidEntry _ _ _ _ (data-entries 80 m v)) ∙ rows-under (count-of 80 m) _ _ _
+held-under m v = ap (lists-under bytes-end) (entries-values no-data layout.peer-data-places entry-bytes ValidEntry _ _ _ _ (data-entries layout.peer-data-places m v)) ∙ rows-under (count-of layout.peer-data-places m) _ _ _
 
 bytes-under : (xs : List ℕ) → Shape xs → lists-under bytes-end (data-lists (unpack xs)) ≡ true
 unfolding lists-under unpack station-of

@@ -110,15 +110,15 @@ module _ (b : List ℕ) (h : Header) (v : Headed b h) where
       ap (λ (x : Header). x .nodes) (sym (v .head))
       ∙ eqb-true _ _ (sym (choose-yes _ _ _ t) ∙ and-left _ _ (and-right (R.flags-ok h) _ (and-right (R.kind-ok h) _ header-fine)))
 
-  pub one-node : h .kind ≡ 7 → R.header-of b .nodes ≡ 1
+  pub one-node : h .kind ≡ kind-byte UpdatePeerData → R.header-of b .nodes ≡ 1
   unfolding R.is-message R.is-data
   one-node q = one-is (rw q)
 
-  few-messages : h .kind ≡ 0 → h .message ≤ 5
+  few-messages : h .kind ≡ kind-byte Message → h .message ≤ 5
   unfolding R.header-ok R.kind-ok
   few-messages q = leb-true _ _ (sym (choose-yes _ _ _ (eq-eqb _ _ q)) ∙ and-right (not (eqb (R.fixed-size (h .kind)) 0)) _ (and-left _ _ header-fine))
 
-  pub single : h .kind ≡ 0 → (h .message ≡ 2 → ⊥) → (h .message ≡ 3 → ⊥) → (h .message ≡ 5 → ⊥) → Single b h
+  pub single : h .kind ≡ kind-byte Message → (h .message ≡ 2 → ⊥) → (h .message ≡ 3 → ⊥) → (h .message ≡ 5 → ⊥) → Single b h
   unfolding R.is-message R.is-data
   single q n₂ n₃ n₅ =
       let few = few-messages q in

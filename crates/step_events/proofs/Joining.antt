@@ -18,7 +18,7 @@ use Rattle.base_lists.proofs.Maps.{length-keys}
 use Rattle.base_util.specs.Section.{part, items-at, ValidSet, HoldsSet}
 use Rattle.base_util.proofs.Parts.{part-read, part-put}
 use Rattle.base_columns.specs.Columns.{numbers-at, ValidNumbers, HoldsNumbers}
-use Rattle.base_timing.specs.Timing.{join-retry-delay}
+use Rattle.base_timing.specs.Timing.{join-retry-delay, max-bootstrap-peers}
 use Rattle.record.specs.Format.{Rec}
 use Rattle.spec_hyparview.specs.Setters.{set-joins, set-bootstrap}
 use Rattle.spec_hyparview.specs.Station.{Station, is-me, in-active, top-counter}
@@ -51,20 +51,20 @@ renew-again n p l = ap (λ (m : List ℕ). choose (ltb n (length m + 1)) (drop 1
 
 -- the sections as they are lent
 module _ (xs ys : List ℕ) (p : ℕ) where
-  pub lent-without : HoldsSet 8 ys (without p (items-at bootstrap-places (take bootstrap-size (drop bootstrap-at xs)))) → HoldsSet 8 ys (without p (items-at bootstrap-places (bootstrap-part xs)))
+  pub lent-without : HoldsSet bootstrap-places ys (without p (items-at bootstrap-places (take bootstrap-size (drop bootstrap-at xs)))) → HoldsSet bootstrap-places ys (without p (items-at bootstrap-places (bootstrap-part xs)))
   unfolding part
   lent-without h = h
 
-  pub lent-renew : HoldsSet 8 ys (renew 8 p (items-at bootstrap-places (take bootstrap-size (drop bootstrap-at xs)))) → HoldsSet 8 ys (renew 8 p (items-at bootstrap-places (bootstrap-part xs)))
+  pub lent-renew : HoldsSet bootstrap-places ys (renew max-bootstrap-peers p (items-at bootstrap-places (take bootstrap-size (drop bootstrap-at xs)))) → HoldsSet bootstrap-places ys (renew max-bootstrap-peers p (items-at bootstrap-places (bootstrap-part xs)))
   unfolding part
   lent-renew h = h
 
-  pub lent-cut : HoldsNumbers 8 ys (cut p (numbers-at joins-places (take joins-size (drop joins-at xs)))) → HoldsNumbers 8 ys (cut p (numbers-at joins-places (joins-part xs)))
+  pub lent-cut : HoldsNumbers joins-places ys (cut p (numbers-at joins-places (take joins-size (drop joins-at xs)))) → HoldsNumbers joins-places ys (cut p (numbers-at joins-places (joins-part xs)))
   unfolding part
   lent-cut h = h
 
 -- p is taken out of the bootstrap peers, and stored as the newest
-module _ (xs ys : List ℕ) (p : ℕ) (v : PackedState xs) (s : HoldsSet 8 ys (without p (items-at bootstrap-places (bootstrap-part xs)))) where
+module _ (xs ys : List ℕ) (p : ℕ) (v : PackedState xs) (s : HoldsSet bootstrap-places ys (without p (items-at bootstrap-places (bootstrap-part xs)))) where
   stored : part bootstrap-at bootstrap-size (putMid bootstrap-at bootstrap-size xs ys) ≡ ys
   stored = part-put bootstrap-at bootstrap-size xs ys (omega (arith, long v)) (s .valid .long)
 
@@ -77,47 +77,47 @@ module _ (xs ys : List ℕ) (p : ℕ) (v : PackedState xs) (s : HoldsSet 8 ys (w
   others-lent = of-bootstrap _ (put-bootstrap s (record { packed = v; same = refl }) .packed)
 
   how-many : getD (putMid bootstrap-at bootstrap-size xs ys) bootstrap-count 0 ≡ length (without p (items-at bootstrap-places (bootstrap-part xs)))
-  how-many = read-stored 8 (omega arith) ∙ sym (s .valid .counted) ∙ ap length (s .items)
+  how-many = read-stored bootstrap-places (omega arith) ∙ sym (s .valid .counted) ∙ ap length (s .items)
 
   first : 0 < length (without p (items-at bootstrap-places (bootstrap-part xs))) → getD (putMid bootstrap-at bootstrap-size xs ys) bootstrap-at 0 ≡ getD (without p (items-at bootstrap-places (bootstrap-part xs))) 0 0
   unfolding items-at part
   first h =
-      let c : 0 < getD ys 8 0 = omega (arith, h, s .valid .counted, ap length (s .items)) in
-      read-stored 0 (omega arith) ∙ sym (getD-take 8 ys 0 0 (omega arith)) ∙ sym (getD-take (getD ys 8 0) (take 8 ys) 0 0 c) ∙ ap (λ (l : List ℕ). getD l 0 0) (s .items)
+      let c : 0 < getD ys bootstrap-places 0 = omega (arith, h, s .valid .counted, ap length (s .items)) in
+      read-stored 0 (omega arith) ∙ sym (getD-take bootstrap-places ys 0 0 (omega arith)) ∙ sym (getD-take (getD ys bootstrap-places 0) (take bootstrap-places ys) 0 0 c) ∙ ap (λ (l : List ℕ). getD l 0 0) (s .items)
 
-  few-left : getD (putMid bootstrap-at bootstrap-size xs ys) bootstrap-count 0 < 8 → ltb 8 (length (without p (items-at bootstrap-places (bootstrap-part xs))) + 1) ≡ false
-  few-left h = le-ltb 8 (length (without p (items-at bootstrap-places (bootstrap-part xs))) + 1) (omega (arith, how-many, h))
+  few-left : getD (putMid bootstrap-at bootstrap-size xs ys) bootstrap-count 0 < bootstrap-places → ltb max-bootstrap-peers (length (without p (items-at bootstrap-places (bootstrap-part xs))) + 1) ≡ false
+  few-left h = le-ltb max-bootstrap-peers (length (without p (items-at bootstrap-places (bootstrap-part xs))) + 1) (omega (arith, how-many, h))
 
-  many-left : 8 ≤ getD (putMid bootstrap-at bootstrap-size xs ys) bootstrap-count 0 → ltb 8 (length (without p (items-at bootstrap-places (bootstrap-part xs))) + 1) ≡ true
-  many-left h = lt-ltb 8 (length (without p (items-at bootstrap-places (bootstrap-part xs))) + 1) (omega (arith, how-many, h))
+  many-left : bootstrap-places ≤ getD (putMid bootstrap-at bootstrap-size xs ys) bootstrap-count 0 → ltb max-bootstrap-peers (length (without p (items-at bootstrap-places (bootstrap-part xs))) + 1) ≡ true
+  many-left h = lt-ltb max-bootstrap-peers (length (without p (items-at bootstrap-places (bootstrap-part xs))) + 1) (omega (arith, how-many, h))
 
-  module _ (zs : List ℕ) (t : HoldsSet 8 zs (renew 8 p (items-at bootstrap-places (bootstrap-part (putMid bootstrap-at bootstrap-size xs ys))))) where
-    newest : HoldsSet 8 zs (renew 8 p (items-at bootstrap-places (bootstrap-part xs)))
+  module _ (zs : List ℕ) (t : HoldsSet bootstrap-places zs (renew max-bootstrap-peers p (items-at bootstrap-places (bootstrap-part (putMid bootstrap-at bootstrap-size xs ys))))) where
+    newest : HoldsSet bootstrap-places zs (renew max-bootstrap-peers p (items-at bootstrap-places (bootstrap-part xs)))
     unfolding part
-    newest = record { valid = t .valid; items = t .items ∙ (ap (λ (l : List ℕ). renew 8 p (items-at 8 l)) stored ∙ (ap (renew 8 p) (s .items) ∙ renew-again 8 p _)) }
+    newest = record { valid = t .valid; items = t .items ∙ (ap (λ (l : List ℕ). renew max-bootstrap-peers p (items-at bootstrap-places l)) stored ∙ (ap (renew max-bootstrap-peers p) (s .items) ∙ renew-again max-bootstrap-peers p _)) }
 
-    renewed-words : Becomes (putMid bootstrap-at bootstrap-size (putMid bootstrap-at bootstrap-size xs ys) zs) (set-bootstrap (renew 8 p (items-at bootstrap-places (bootstrap-part xs))) (unpack xs))
+    renewed-words : Becomes (putMid bootstrap-at bootstrap-size (putMid bootstrap-at bootstrap-size xs ys) zs) (set-bootstrap (renew max-bootstrap-peers p (items-at bootstrap-places (bootstrap-part xs))) (unpack xs))
     renewed-words = put-bootstrap newest (put-bootstrap s (record { packed = v; same = refl }))
 
     pub joins-lent : ValidNumbers joins-places (take joins-size (drop joins-at (putMid bootstrap-at bootstrap-size (putMid bootstrap-at bootstrap-size xs ys) zs)))
     unfolding part
     joins-lent = of-joins _ (renewed-words .packed)
 
-    pub none-dropped : (w : Work) → w .code ≡ 0 → getD (putMid bootstrap-at bootstrap-size xs ys) bootstrap-count 0 < 8 → Changes (on (push-bootstrap p)) (work-of w xs) (work-of w (putMid bootstrap-at bootstrap-size (putMid bootstrap-at bootstrap-size xs ys) zs))
+    pub none-dropped : (w : Work) → w .code ≡ 0 → getD (putMid bootstrap-at bootstrap-size xs ys) bootstrap-count 0 < bootstrap-places → Changes (on (push-bootstrap p)) (work-of w xs) (work-of w (putMid bootstrap-at bootstrap-size (putMid bootstrap-at bootstrap-size xs ys) zs))
     unfolding push-bootstrap drop-oldest-join must-drop-oldest unpack station-of
     none-dropped w z h =
         on-done (work-of w xs) v (push-bootstrap p) _ z
-        (λ b. subst (λ (m : List (ℕ × ℕ)). Becomes (putMid bootstrap-at bootstrap-size (putMid bootstrap-at bootstrap-size xs ys) zs) (set-bootstrap (renew 8 p (items-at bootstrap-places (bootstrap-part xs))) (set-joins m (unpack xs)))) (sym (choose-no _ _ _ (few-left h))) renewed-words)
+        (λ b. subst (λ (m : List (ℕ × ℕ)). Becomes (putMid bootstrap-at bootstrap-size (putMid bootstrap-at bootstrap-size xs ys) zs) (set-bootstrap (renew max-bootstrap-peers p (items-at bootstrap-places (bootstrap-part xs))) (set-joins m (unpack xs)))) (sym (choose-no _ _ _ (few-left h))) renewed-words)
 
-    pub one-dropped : (w : Work) (js : List ℕ) → w .code ≡ 0 → 8 ≤ getD (putMid bootstrap-at bootstrap-size xs ys) bootstrap-count 0
-        → HoldsNumbers 8 js (cut (getD (putMid bootstrap-at bootstrap-size xs ys) bootstrap-at 0) (numbers-at joins-places (joins-part (putMid bootstrap-at bootstrap-size (putMid bootstrap-at bootstrap-size xs ys) zs))))
+    pub one-dropped : (w : Work) (js : List ℕ) → w .code ≡ 0 → bootstrap-places ≤ getD (putMid bootstrap-at bootstrap-size xs ys) bootstrap-count 0
+        → HoldsNumbers joins-places js (cut (getD (putMid bootstrap-at bootstrap-size xs ys) bootstrap-at 0) (numbers-at joins-places (joins-part (putMid bootstrap-at bootstrap-size (putMid bootstrap-at bootstrap-size xs ys) zs))))
         → Changes (on (push-bootstrap p)) (work-of w xs) (work-of w (putMid joins-at joins-size (putMid bootstrap-at bootstrap-size (putMid bootstrap-at bootstrap-size xs ys) zs) js))
     unfolding push-bootstrap drop-oldest-join must-drop-oldest oldest unpack station-of
     one-dropped w js z h k =
         let old : getD (putMid bootstrap-at bootstrap-size xs ys) bootstrap-at 0 ≡ getD (without p (items-at bootstrap-places (bootstrap-part xs))) 0 0 = first (omega (arith, how-many, h)) in
         let same : numbers-at joins-places (joins-part (putMid bootstrap-at bootstrap-size (putMid bootstrap-at bootstrap-size xs ys) zs)) ≡ unpack xs .joins = ap (λ (g : Station). g .joins) (renewed-words .same) in
         on-done (work-of w xs) v (push-bootstrap p) _ z
-        (λ b. subst (λ (m : List (ℕ × ℕ)). Becomes (putMid joins-at joins-size (putMid bootstrap-at bootstrap-size (putMid bootstrap-at bootstrap-size xs ys) zs) js) (set-bootstrap (renew 8 p (items-at bootstrap-places (bootstrap-part xs))) (set-joins m (unpack xs))))
+        (λ b. subst (λ (m : List (ℕ × ℕ)). Becomes (putMid joins-at joins-size (putMid bootstrap-at bootstrap-size (putMid bootstrap-at bootstrap-size xs ys) zs) js) (set-bootstrap (renew max-bootstrap-peers p (items-at bootstrap-places (bootstrap-part xs))) (set-joins m (unpack xs))))
         ((λ i. cut (old i) (same i)) ∙ sym (choose-yes _ _ _ (many-left h)))
         (put-joins k renewed-words))
 
@@ -131,7 +131,7 @@ module _ (w a : Work) (xs : List ℕ) (p : ℕ) (v : PackedState xs) (k : Change
   pub number-left : a .code ≡ 0 → next-join xs < top-counter
   number-left z = ltb-true _ _ (require-said (work-of w xs) (work-of a xs) 10 _ (omega arith) (required-at xs v _ _ k) z .1)
 
-  pub place-left : FreeJoin p (w .code) (unpack xs) → a .code ≡ 0 → (has p (numbers-at joins-places (joins-part xs)) || ltb (length (numbers-at joins-places (joins-part xs))) 8) ≡ true
+  pub place-left : FreeJoin p (w .code) (unpack xs) → a .code ≡ 0 → (has p (numbers-at joins-places (joins-part xs)) || ltb (length (numbers-at joins-places (joins-part xs))) joins-places) ≡ true
   unfolding unpack station-of
   place-left h z = h .free (required-code 10 _ (work-of w xs) (work-of a xs) (required-at xs v _ _ k) z)
 
@@ -146,14 +146,14 @@ module _ (w a : Work) (xs : List ℕ) (p : ℕ) (v : PackedState xs) (k : Change
       tell-then (await-join p) (λ ds. refl) (emit-passed a xs out (timer 4 p join-retry-delay (unpack xs .next-join)) (o .room) h) o
 
 -- there is a place for the join to a bootstrap peer
-placed : (p : ℕ) (js : List (ℕ × ℕ)) (boo : List ℕ) → ((x : ℕ) → count x (keys js) ≤ count x boo) → is p p ≤ count p boo → length boo ≤ 8 → (has p js || ltb (length js) 8) ≡ true
+placed : (p : ℕ) (js : List (ℕ × ℕ)) (boo : List ℕ) → ((x : ℕ) → count x (keys js) ≤ count x boo) → is p p ≤ count p boo → length boo ≤ max-bootstrap-peers → (has p js || ltb (length js) joins-places) ≡ true
 unfolding has count
 placed p js boo h n l =
     split (mem p (keys js)) (λ e. rw e)
     (λ e.
     let f : length (p ∷ keys js) ≤ length boo =
     shorter (p ∷ keys js) boo (λ x. is-split (λ y. count y (p ∷ keys js) ≤ count y boo) x p (omega (arith, mem-false p (keys js) e, n, is-self p)) (λ z. omega (arith, h x, z))) in
-    rw (e, lt-ltb (length js) 8 (omega (arith, f, length-keys js, l))))
+    rw (e, lt-ltb (length js) joins-places (omega (arith, f, length-keys js, l))))
 
 push-free : (p : ℕ) (g : Run) → KnownJoins (g .code) (g .station) → FreeJoin p (on (push-bootstrap p) g .code) (on (push-bootstrap p) g .station)
 unfolding on guard push-bootstrap drop-oldest-join must-drop-oldest oldest
@@ -162,9 +162,9 @@ push-free p g h =
     (λ f. record {
       free = λ z.
           let boo = g .station .bootstrap in
-          let w = renewed 8 p boo (omega arith) (h .few z) (h .once z) in
-          placed p _ (renew 8 p boo)
-          (λ x. omega (arith, h .known z x, fewer-joins (ltb 8 (length (without p boo) + 1)) (getD (without p boo) 0 0) (g .station .joins) x (omega (arith, h .known z x, h .once z x)), w .stays x))
+          let w = renewed max-bootstrap-peers p boo (omega arith) (h .few z) (h .once z) in
+          placed p _ (renew max-bootstrap-peers p boo)
+          (λ x. omega (arith, h .known z x, fewer-joins (ltb max-bootstrap-peers (length (without p boo) + 1)) (getD (without p boo) 0 0) (g .station .joins) x (omega (arith, h .known z x, h .once z x)), w .stays x))
           (w .has-new p) (w .few);
     })
     (λ f. record { free = λ z. absurd (eqb-false _ _ f z) })
@@ -192,7 +192,7 @@ pub room-kept : (f : Run → Run) (w a : Held) (out : List ℕ) → Changes f w 
 room-kept f w a out k v = telling v k .room
 
 pub awaited : (w a r : Work) (xs ys out o : List ℕ) (p : ℕ) → Room (work-of w xs) out
-    → TellsAny (emit (timer 4 p 10000 (next-join xs))) a r out o → Changes (open-join p) (work-of w xs) (work-of a ys)
+    → TellsAny (emit (timer 4 p join-retry-delay (next-join xs))) a r out o → Changes (open-join p) (work-of w xs) (work-of a ys)
     → Tells (await-join p) (work-of w xs) (work-of r ys) out o
 unfolding await-join run-of unpack station-of
 awaited w a r xs ys out o p v k₂ k₁ = tell-then (await-join p) (λ ds. refl) (told-at ys (k₁ .packed) _ k₂) (telling v k₁)

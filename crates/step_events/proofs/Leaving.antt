@@ -11,7 +11,7 @@ use borrow.Rule.Slice.PartMut.{putMid}
 use Rattle.base_lists.specs.Lists.{remove}
 use Rattle.base_lists.proofs.Choice.{by-choice}
 use Rattle.base_lists.proofs.Count.{length-remove}
-use Rattle.base_util.specs.Section.{part, items-at, HoldsSet}
+use Rattle.base_util.specs.Section.{part, items-at, HoldsSet, working-places}
 use Rattle.spec_hyparview.specs.Station.{in-active, is-requested}
 use Rattle.spec_hyparview.specs.Run.{Run, on, emit, draw, draw-shuffle, shuffled, message, flag}
 use Rattle.spec_hyparview.specs.Peers.{drop-data, drop-mark, remove-passive, is-marked}
@@ -83,7 +83,7 @@ module _ (w a : Held) (ds out : List ℕ) (p : ℕ) (requested t : Bool) (v : Fi
 -- ---- Quit
 
 -- a neighbor leaves the active view
-pub neighbor-removed : (w : Work) (xs ys : List ℕ) (p : ℕ) → PackedState xs → w .code ≡ 0 → HoldsSet 8 ys (remove p (items-at active-places (take active-size (drop active-at xs)))) → Changes (on (remove-neighbor p)) (work-of w xs) (work-of w (putMid active-at active-size xs ys))
+pub neighbor-removed : (w : Work) (xs ys : List ℕ) (p : ℕ) → PackedState xs → w .code ≡ 0 → HoldsSet active-places ys (remove p (items-at active-places (take active-size (drop active-at xs)))) → Changes (on (remove-neighbor p)) (work-of w xs) (work-of w (putMid active-at active-size xs ys))
 unfolding remove-neighbor unpack station-of part
 neighbor-removed w xs ys p v z h =
     on-done (work-of w xs) v _ _ z (put-active h (omega (arith, length-remove p (items-at active-places (active-part xs)), active-fits xs v)))
@@ -113,11 +113,11 @@ quits-shut [] g h = refl
 quits-shut (p ∷ l) g h = ap (quit-all l) (quit-shut p g h) ∙ quits-shut l g h
 
 -- the neighbors are those of the working set
-quits-are : (v xs : List ℕ) (n : ℕ) → HoldsSet 32 v (items-at active-places (take active-size (drop active-at xs))) → n ≡ length (items-at 32 v) → take n v ≡ unpack xs .active
+quits-are : (v xs : List ℕ) (n : ℕ) → HoldsSet working-places v (items-at active-places (take active-size (drop active-at xs))) → n ≡ length (items-at working-places v) → take n v ≡ unpack xs .active
 unfolding unpack station-of part
 quits-are v xs n h e = lent-items v n (h .valid) e ∙ h .items
 
-module _ (w a : Work) (xs ys v ds out o : List ℕ) (n : ℕ) (d : Does (work-of a ys) ds o (quit-all (take n v) (run (work-of w xs) ds out))) (s : HoldsSet 32 v (items-at active-places (take active-size (drop active-at xs)))) (e : n ≡ length (items-at 32 v)) where
+module _ (w a : Work) (xs ys v ds out o : List ℕ) (n : ℕ) (d : Does (work-of a ys) ds o (quit-all (take n v) (run (work-of w xs) ds out))) (s : HoldsSet working-places v (items-at active-places (take active-size (drop active-at xs)))) (e : n ≡ length (items-at working-places v)) where
   cleared-by : (r : Held) → Changes (on clear-all) (work-of a ys) r → Does r ds o (handle-quit (run (work-of w xs) ds out))
   unfolding handle-quit run-of
   cleared-by r k = then k (by _ (ap (λ (l : List ℕ). quit-all l (run (work-of w xs) ds out)) (sym (quits-are v xs n s e))) d)

@@ -11,10 +11,10 @@ use borrow.Author.Tests.{ltb-true}
 use borrow.Rule.Slice.PartMut.{putMid}
 use Rattle.base_lists.specs.Lists.{without-all, renew}
 use Rattle.base_lists.proofs.Rest.{Rest, rest-next, rest-end}
-use Rattle.base_util.specs.Section.{items-at, HoldsSet}
+use Rattle.base_util.specs.Section.{items-at, HoldsSet, working-places}
 use Rattle.spec_hyparview.specs.Station.{Station, top-passes}
 use Rattle.spec_hyparview.specs.Setters.{set-passes-alone, set-recent}
-use Rattle.base_timing.specs.Timing.{maintenance-interval}
+use Rattle.base_timing.specs.Timing.{maintenance-interval, max-recent-neighbors}
 use Rattle.spec_hyparview.specs.Run.{on, emit, require, timer}
 use Rattle.spec_hyparview.specs.Timers.{renew-all, remember-all, other-recent, alone-counts, add-alone, count-alone, short-counts, add-short, count-short}
 use Rattle.work.specs.declared.Work.{Work}
@@ -99,11 +99,11 @@ module _ (code : ℕ) (xs : List ℕ) (n : ℕ) (ys : List ℕ) (i : ℕ) (v : R
   pub renew-below : i < n → i < length (items-at active-places (active-part ys))
   renew-below h = omega (arith, v .count, ap length active-kept)
 
-  pub renew-next : (p : ℕ) (r : List ℕ) → i < n → p ≡ getD (items-at active-places (active-part ys)) i 0 → HoldsSet 8 r (renew 8 p (items-at recent-places (recent-part ys))) → Renewing code xs n (putMid recent-at recent-size ys r) (i + 1)
+  pub renew-next : (p : ℕ) (r : List ℕ) → i < n → p ≡ getD (items-at active-places (active-part ys)) i 0 → HoldsSet recent-places r (renew max-recent-neighbors p (items-at recent-places (recent-part ys))) → Renewing code xs n (putMid recent-at recent-size ys r) (i + 1)
   unfolding renew-all unpack station-of
   renew-next p r h e k =
       let b = put-recent k (v .became) in
-      let q : items-at recent-places (recent-part (putMid recent-at recent-size ys r)) ≡ renew 8 p (items-at recent-places (recent-part ys)) = ap (λ (s : Station). s .recent) (b .same) in
+      let q : items-at recent-places (recent-part (putMid recent-at recent-size ys r)) ≡ renew max-recent-neighbors p (items-at recent-places (recent-part ys)) = ap (λ (s : Station). s .recent) (b .same) in
       record {
         packed = v .packed;
         zero = v .zero;
@@ -111,7 +111,7 @@ module _ (code : ℕ) (xs : List ℕ) (n : ℕ) (ys : List ℕ) (i : ℕ) (v : R
         len = long (b .packed) ∙ sym (long (v .packed));
         count = v .count;
         rest = rest-next 0 Then (v .rest) (items-at recent-places (recent-part (putMid recent-at recent-size ys r))) h
-            (λ l. ap (renew-all l) (sym (q ∙ ap (λ (x : ℕ). renew 8 x (items-at recent-places (recent-part ys))) (e ∙ ap (λ (m : List ℕ). getD m i 0) active-kept))));
+            (λ l. ap (renew-all l) (sym (q ∙ ap (λ (x : ℕ). renew max-recent-neighbors x (items-at recent-places (recent-part ys))) (e ∙ ap (λ (m : List ℕ). getD m i 0) active-kept))));
       }
 
   pub renew-end : (w : Work) → w .code ≡ code → n ≤ i → Changes (on remember-all) (work-of w xs) (work-of w ys)
@@ -120,6 +120,6 @@ module _ (code : ℕ) (xs : List ℕ) (n : ℕ) (ys : List ℕ) (i : ℕ) (v : R
       on-done (work-of w xs) (v .packed) remember-all ys (z ∙ v .zero)
       (λ b. record { packed = v .became .packed; same = v .became .same ∙ ap (λ (l : List ℕ). set-recent l (unpack xs)) (sym (rest-end 0 Then (v .rest) h)) })
 
-pub others-are : (xs v r : List ℕ) → HoldsSet 32 v (items-at recent-places (recent-part xs)) → HoldsSet 32 r (without-all (items-at bootstrap-places (bootstrap-part xs)) (items-at 32 v)) → HoldsSet 32 r (other-recent (unpack xs))
+pub others-are : (xs v r : List ℕ) → HoldsSet working-places v (items-at recent-places (recent-part xs)) → HoldsSet working-places r (without-all (items-at bootstrap-places (bootstrap-part xs)) (items-at working-places v)) → HoldsSet working-places r (other-recent (unpack xs))
 unfolding other-recent unpack station-of
 others-are xs v r h k = record { valid = k .valid; items = k .items ∙ ap (without-all (items-at bootstrap-places (bootstrap-part xs))) (h .items) }

@@ -14,7 +14,7 @@ use Rattle.base_lists.proofs.Rest.{Rest, rest-next, rest-end}
 use Rattle.base_util.specs.Chances.{pick}
 use Rattle.base_timing.specs.Timing.{backoff-due}
 use Rattle.base_peer.specs.Data.{Data}
-use Rattle.base_util.specs.Section.{items-at, HoldsSet}
+use Rattle.base_util.specs.Section.{items-at, HoldsSet, working-places}
 use Rattle.record.specs.Format.{Rec}
 use Rattle.spec_hyparview.specs.Run.{Run, emit, emit-all, draw, to-draw, one-of, draw-one-of, picked}
 use Rattle.spec_hyparview.specs.Sending.{join-to, join}
@@ -85,28 +85,28 @@ null-none l e = split (null l) (λ t. t) (λ t. absurd (omega (arith, e, null-no
 null-some : (l : List ℕ) → (length l ≡ 0 → ⊥) → null l ≡ false
 null-some l h = split (null l) (λ t. absurd (h (null-yes l t))) (λ t. t)
 
-module _ (w : Work) (xs ds out v : List ℕ) (n : ℕ) (f : Fine (work-of w xs) ds out) (c : n ≡ length (items-at 32 v)) where
-  pub no-recent : n ≡ 0 → Does (work-of w xs) ds out (rejoin-recent (items-at 32 v) (run (work-of w xs) ds out))
+module _ (w : Work) (xs ds out v : List ℕ) (n : ℕ) (f : Fine (work-of w xs) ds out) (c : n ≡ length (items-at working-places v)) where
+  pub no-recent : n ≡ 0 → Does (work-of w xs) ds out (rejoin-recent (items-at working-places v) (run (work-of w xs) ds out))
   unfolding rejoin-recent
-  no-recent z = taken _ _ (null-none (items-at 32 v) (sym c ∙ z)) (still f)
+  no-recent z = taken _ _ (null-none (items-at working-places v) (sym c ∙ z)) (still f)
 
-  module _ (i p : ℕ) (j : i ≡ pick n (drop (w .drawn) ds)) (q : p ≡ getD (items-at 32 v) i 0) where
-    picked-is : p ≡ picked (items-at 32 v) (run (work-of w xs) ds out)
+  module _ (i p : ℕ) (j : i ≡ pick n (drop (w .drawn) ds)) (q : p ≡ getD (items-at working-places v) i 0) where
+    picked-is : p ≡ picked (items-at working-places v) (run (work-of w xs) ds out)
     unfolding picked one-of to-draw run-of
-    picked-is = q ∙ ap (λ (k : ℕ). getD (items-at 32 v) k 0) (j ∙ ap (λ (k : ℕ). pick k (drop (w .drawn) ds)) c)
+    picked-is = q ∙ ap (λ (k : ℕ). getD (items-at working-places v) k 0) (j ∙ ap (λ (k : ℕ). pick k (drop (w .drawn) ds)) c)
 
-    pub one-recent : (a r : Work) (o : List ℕ) → (n ≡ 0 → ⊥) → Tells (join p) (work-of a xs) (work-of r xs) out o → DrawsAny (draw-one-of n) w a ds → Does (work-of r xs) ds o (rejoin-recent (items-at 32 v) (run (work-of w xs) ds out))
+    pub one-recent : (a r : Work) (o : List ℕ) → (n ≡ 0 → ⊥) → Tells (join p) (work-of a xs) (work-of r xs) out o → DrawsAny (draw-one-of n) w a ds → Does (work-of r xs) ds o (rejoin-recent (items-at working-places v) (run (work-of w xs) ds out))
     unfolding rejoin-recent
     one-recent a r o h k₂ k₁ =
-        left _ _ (null-some (items-at 32 v) (λ z. h (c ∙ z))) (by _ (λ k. join (sym picked-is k) (draw-one-of (sym c k) (run (work-of w xs) ds out))) (then-tell k₂ (then-one-of _ k₁ (still f))))
+        left _ _ (null-some (items-at working-places v) (λ z. h (c ∙ z))) (by _ (λ k. join (sym picked-is k) (draw-one-of (sym c k) (run (work-of w xs) ds out))) (then-tell k₂ (then-one-of _ k₁ (still f))))
 
 -- ---- both
 
 pub fine-told : {step : Run → Run} (w a : Work) (xs ys ds out o : List ℕ) → Fine (work-of w xs) ds out → Tells step (work-of w xs) (work-of a ys) out o → Fine (work-of a ys) ds o
 fine-told w a xs ys ds out o v k = then-tell k (still v) .fine
 
-pub rejoined : (w a r : Work) (xs ds out o₁ o₂ v : List ℕ) → Fine (work-of w xs) ds out → HoldsSet 32 v (other-recent (unpack xs))
-    → Does (work-of r xs) ds o₂ (rejoin-recent (items-at 32 v) (run (work-of a xs) ds o₁)) → Tells rejoin-bootstrap (work-of w xs) (work-of a xs) out o₁ → Does (work-of r xs) ds o₂ (rejoin (run (work-of w xs) ds out))
+pub rejoined : (w a r : Work) (xs ds out o₁ o₂ v : List ℕ) → Fine (work-of w xs) ds out → HoldsSet working-places v (other-recent (unpack xs))
+    → Does (work-of r xs) ds o₂ (rejoin-recent (items-at working-places v) (run (work-of a xs) ds o₁)) → Tells rejoin-bootstrap (work-of w xs) (work-of a xs) out o₁ → Does (work-of r xs) ds o₂ (rejoin (run (work-of w xs) ds out))
 unfolding rejoin run-of
 rejoined w a r xs ds out o₁ o₂ v f h k₂ k₁ = seq-at rejoin-recent (h .items) k₂ (then-tell k₁ (still f))
 

@@ -15,7 +15,7 @@ use Rattle.base_util.specs.Chances.{pick}
 use Rattle.base_peer.specs.Data.{Node}
 use Rattle.base_peer.specs.Held.{data-in, node-in}
 use Rattle.base_peer.specs.declared.PeerData.{PeerData}
-use Rattle.base_util.specs.Section.{items-at, HoldsSet}
+use Rattle.base_util.specs.Section.{items-at, HoldsSet, working-places}
 use Rattle.base_peer.specs.declared.PeerInfo.{PeerInfo}
 use Rattle.base_timing.specs.Timing.{next, expired}
 use Rattle.base_timing.proofs.Ranges.{ranges}
@@ -32,7 +32,7 @@ use Rattle.base_lists.proofs.Members.{length-insert}
 use Rattle.work.specs.declared.Work.{Work}
 use Rattle.step_peers.specs.declared.Added.{Added}
 use Rattle.step_peers.specs.Answer.{Adds}
-use Rattle.hyparview_state.specs.Layout.{active-part, refused-part, active-random-walk-length, passive-random-walk-length, active-places, refused-places}
+use Rattle.hyparview_state.specs.Layout.{active-part, refused-part, active-random-walk-length, passive-random-walk-length, active-places, alive-places, refused-places}
 use Rattle.hyparview_state.specs.Unpack.{unpack, station-of, settings-at, PackedState}
 use Rattle.hyparview_state.specs.Work.{Held, work-of, run, run-of, Changes, ChangesAny, DrawsAny, Tells, TellsAny, Fine, Does}
 use Rattle.hyparview_state.proofs.Access.{of-refused, of-settings}
@@ -44,7 +44,7 @@ use Rattle.step_active.specs.Sane.{FreeMark}
 
 -- ---- joins that are forwarded
 
-pub others-held : (xs t u : List ℕ) (p : ℕ) → HoldsSet 32 t (items-at active-places (active-part xs)) → HoldsSet 32 u (without p (items-at 32 t)) → HoldsSet 32 u (without p (unpack xs .active))
+pub others-held : (xs t u : List ℕ) (p : ℕ) → HoldsSet working-places t (items-at active-places (active-part xs)) → HoldsSet working-places u (without p (items-at working-places t)) → HoldsSet working-places u (without p (unpack xs .active))
 unfolding unpack station-of
 others-held xs t u p h k = record { valid = k .valid; items = k .items ∙ ap (without p) (h .items) }
 
@@ -98,12 +98,12 @@ module _ (w : Work) (xs ds out : List ℕ) (from : ℕ) (n : PeerInfo) (ttl : �
   unfolding walk-on node-in
   walk-stopped v h = taken _ _ (holds-at (work-of w xs) ds out (is-requested (n .id)) e h) (still v)
 
-  module _ (v : List ℕ) (p : HoldsSet 32 v (without from (unpack xs .active))) where
-    rest-are : without from (run (work-of w xs) ds out .station .active) ≡ items-at 32 v
+  module _ (v : List ℕ) (p : HoldsSet working-places v (without from (unpack xs .active))) where
+    rest-are : without from (run (work-of w xs) ds out .station .active) ≡ items-at working-places v
     unfolding run-of
     rest-are = sym (p .items)
 
-    pub walked-on : (r : Held) (o : List ℕ) → t ≡ false → Does r ds o (forward-join-on (items-at 32 v) (node-in n) ttl (run (work-of w xs) ds out)) → Does r ds o (walk-on from (node-in n) ttl (run (work-of w xs) ds out))
+    pub walked-on : (r : Held) (o : List ℕ) → t ≡ false → Does r ds o (forward-join-on (items-at working-places v) (node-in n) ttl (run (work-of w xs) ds out)) → Does r ds o (walk-on from (node-in n) ttl (run (work-of w xs) ds out))
     unfolding walk-on node-in
     walked-on r o h d =
         left _ _ (holds-at (work-of w xs) ds out (is-requested (n .id)) e h) (by _ (ap (λ (l : List ℕ). forward-join-on l (node-in n) ttl (run (work-of w xs) ds out)) rest-are) d)
@@ -129,7 +129,7 @@ unfolding settings-at
 walk-fits xs v = omega (arith, ranges (settings-at xs) (of-settings xs v) .active-walk .most)
 
 module _ (w r : Work) (xs ds out o : List ℕ) (p : ℕ) (d : PeerData) where
-  pub joins-forwarded : (v : List ℕ) (k : ℕ) → HoldsSet 32 v (without p (unpack xs .active)) → k ≡ length (items-at 32 v)
+  pub joins-forwarded : (v : List ℕ) (k : ℕ) → HoldsSet working-places v (without p (unpack xs .active)) → k ≡ length (items-at working-places v)
       → Does (work-of r xs) ds o (emit-all (forward-join-to (node-in (record { id = p; «data» = d })) (active-random-walk-length xs)) (take k v) (run (work-of w xs) ds out))
       → Does (work-of r xs) ds o (forward-joins p (data-in d) (run (work-of w xs) ds out))
   unfolding forward-joins node-in run-of unpack station-of settings-at
@@ -169,16 +169,16 @@ module _ (w : Held) (p : ℕ) (alive : Bool) where
 pub words-as : (f : Run → Run) (w : Held) (a : Work) (xs ys : List ℕ) → ys ≡ xs → Changes f w (work-of a xs) → Changes f w (work-of a ys)
 words-as f w a xs ys e k = subst (λ (l : List ℕ). Changes f w (work-of a l)) (sym e) k
 
-pub fits-known : (xs : List ℕ) (p n : ℕ) (a : Bool) → n ≡ length (items-at refused-places (refused-part xs)) → a ≡ mem p (items-at refused-places (refused-part xs)) → (a || ltb n 32) ≡ refused-fits p (unpack xs)
+pub fits-known : (xs : List ℕ) (p n : ℕ) (a : Bool) → n ≡ length (items-at refused-places (refused-part xs)) → a ≡ mem p (items-at refused-places (refused-part xs)) → (a || ltb n refused-places) ≡ refused-fits p (unpack xs)
 unfolding refused-fits unpack station-of
-fits-known xs p n a x y = λ i. y i || ltb (x i) 32
+fits-known xs p n a x y = λ i. y i || ltb (x i) refused-places
 
-pub refused-place : (w a : Work) (xs : List ℕ) (p : ℕ) (t : Bool) → PackedState xs → t ≡ refused-fits p (unpack xs) → ChangesAny (require 7 t) w a → a .code ≡ 0 → length (insert p (items-at refused-places (refused-part xs))) ≤ 32
+pub refused-place : (w a : Work) (xs : List ℕ) (p : ℕ) (t : Bool) → PackedState xs → t ≡ refused-fits p (unpack xs) → ChangesAny (require 7 t) w a → a .code ≡ 0 → length (insert p (items-at refused-places (refused-part xs))) ≤ refused-places
 unfolding unpack station-of refused-fits
 refused-place w a xs p t v e k z =
     let f = of-refused xs v in
     let h = sym e ∙ require-said (work-of w xs) (work-of a xs) 7 t (omega arith) (required-at xs v _ _ k) z .1 in
-    length-insert p 32 (items-at refused-places (refused-part xs)) h (omega (arith, f .fits, f .counted))
+    length-insert p refused-places (items-at refused-places (refused-part xs)) h (omega (arith, f .fits, f .counted))
 
 pub refusal-noted : (w a r : Work) (xs ys : List ℕ) (p : ℕ) (t : Bool) → PackedState xs → t ≡ refused-fits p (unpack xs) → Changes (on (add-refused p)) (work-of a xs) (work-of r ys) → ChangesAny (require 7 t) w a
     → Changes (note-refused p) (work-of w xs) (work-of r ys)
@@ -196,7 +196,7 @@ module _ (w : Held) (p : ℕ) (requested : Bool) where
 
 -- unless a code is set, there is a place for the mark of p where p is a passive peer
 pub record FreePassiveMark (p code : ℕ) (s : Station) : Type 0 where
-  pub free : code ≡ 0 → in-passive p s ≡ true → length (insert p (s .alive)) ≤ 32
+  pub free : code ≡ 0 → in-passive p s ≡ true → length (insert p (s .alive)) ≤ alive-places
 
 pub mark-place : (xs : List ℕ) (p code : ℕ) (t : Bool) → t ≡ in-passive p (unpack xs) → t ≡ true → FreePassiveMark p code (unpack xs) → FreeMark p code (unpack xs)
 mark-place xs p code t e h f = record { free = λ z. f .free z (sym e ∙ h) }

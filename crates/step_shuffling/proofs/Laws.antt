@@ -9,7 +9,7 @@ use lib.Dec.{eqb}
 use lib.ListN.{length, drop, getD}
 use Rattle.base_lists.specs.Lists.{null, without-all}
 use Rattle.base_lists.specs.Array.{pad}
-use Rattle.base_util.specs.Section.{items-at, ValidSet, HoldsSet, section}
+use Rattle.base_util.specs.Section.{items-at, ValidSet, HoldsSet, section, working-places}
 use Rattle.base_util.proofs.Sets.{section-holds}
 use Rattle.base_util.specs.Chances.{pick}
 use Rattle.base_peer.specs.Data.{Node}
@@ -43,8 +43,8 @@ pair p q = section-holds 2 (p ∷ q ∷ []) (omega arith)
 pub pair-valid : (p q : ℕ) → ValidSet 2 (p ∷ q ∷ 2 ∷ [])
 pair-valid p q = pair p q .valid
 
-pub others-are : (xs v r : List ℕ) (p q : ℕ) → HoldsSet 32 v (items-at active-places (active-part xs)) → HoldsSet 32 r (without-all (items-at 2 (p ∷ q ∷ 2 ∷ [])) (items-at 32 v))
-    → HoldsSet 32 r (without-all (p ∷ q ∷ []) (unpack xs .active))
+pub others-are : (xs v r : List ℕ) (p q : ℕ) → HoldsSet working-places v (items-at active-places (active-part xs)) → HoldsSet working-places r (without-all (items-at 2 (p ∷ q ∷ 2 ∷ [])) (items-at working-places v))
+    → HoldsSet working-places r (without-all (p ∷ q ∷ []) (unpack xs .active))
 unfolding unpack station-of
 others-are xs v r p q h k = record { valid = k .valid; items = k .items ∙ (λ i. without-all (pair p q .items i) (h .items i)) }
 
@@ -69,8 +69,8 @@ module _ (w : Work) (xs ds out others : List ℕ) (ns : List Node) (origin ttl :
     unfolding forward-shuffle
     shuffle-on a r o h k₂ k₁ = left _ _ (sym e ∙ h) (by _ shuffle-is (then-tell-any _ k₂ (then-one-of _ k₁ (still v))))
 
-pub passed-on : (w r : Work) (xs ds out o others : List ℕ) (ns : List Node) (origin from ttl : ℕ) → HoldsSet 32 others (without-all (origin ∷ from ∷ []) (unpack xs .active))
-    → Does (work-of r xs) ds o (forward-shuffle (items-at 32 others) origin ns ttl (run (work-of w xs) ds out))
+pub passed-on : (w r : Work) (xs ds out o others : List ℕ) (ns : List Node) (origin from ttl : ℕ) → HoldsSet working-places others (without-all (origin ∷ from ∷ []) (unpack xs .active))
+    → Does (work-of r xs) ds o (forward-shuffle (items-at working-places others) origin ns ttl (run (work-of w xs) ds out))
     → Does (work-of r xs) ds o (forward-shuffle (without-all (origin ∷ from ∷ []) (unpack xs .active)) origin ns ttl (run (work-of w xs) ds out))
 passed-on w r xs ds out o others ns origin from ttl h d = by _ (ap (λ (l : List ℕ). forward-shuffle l origin ns ttl (run (work-of w xs) ds out)) (sym (h .items))) d
 

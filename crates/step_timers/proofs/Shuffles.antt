@@ -12,7 +12,7 @@ use Rattle.base_timing.specs.Timing.{delay}
 use Rattle.base_timing.proofs.Ranges.{ranges}
 use Rattle.base_peer.specs.declared.PeerData.{PeerData}
 use Rattle.base_peer.specs.Data.{Node}
-use Rattle.base_util.specs.Section.{items-at, ValidSet, HoldsSet}
+use Rattle.base_util.specs.Section.{items-at, ValidSet, HoldsSet, working-places}
 use Rattle.base_util.proofs.Sets.{set-length, set-then}
 use Rattle.base_peer.specs.Held.{node-in}
 use Rattle.record_writer.specs.declared.Nodes.{Nodes}
@@ -76,70 +76,70 @@ unfolding peer-infos
 length-infos s [] = refl
 length-infos s (p ∷ ps) = omega (arith, length-infos s ps)
 
-pub place-named : (xs v : List ℕ) (n : ℕ) (ns : Nodes) → ValidSet 32 v → n ≡ length (items-at 32 v) → length (items-at 32 v) < 32 → HoldsNodes ns (peer-infos (unpack xs) (take n v)) → ns .len < 32
+pub place-named : (xs v : List ℕ) (n : ℕ) (ns : Nodes) → ValidSet working-places v → n ≡ length (items-at working-places v) → length (items-at working-places v) < 32 → HoldsNodes ns (peer-infos (unpack xs) (take n v)) → ns .len < 32
 place-named xs v n ns s e f h = omega (arith, length-nodes ns (h .valid), ap length (h .holds), length-infos (unpack xs) (take n v), lent-count v n s e)
 
 pub walk-fits : (xs : List ℕ) → PackedState xs → shuffle-random-walk-length xs ≤ 65535
 unfolding settings-at
 walk-fits xs v = ranges (settings-at xs) (of-settings xs v) .shuffle-walk .most
 
-pub shuffle-told : (w r : Work) (xs out o v : List ℕ) (n to : ℕ) (named ns : Nodes) (d : PeerData) → Room (work-of w xs) out → ValidSet 32 v → n ≡ length (items-at 32 v) → d ≡ own-at xs
+pub shuffle-told : (w r : Work) (xs out o v : List ℕ) (n to : ℕ) (named ns : Nodes) (d : PeerData) → Room (work-of w xs) out → ValidSet working-places v → n ≡ length (items-at working-places v) → d ≡ own-at xs
     → HoldsNodes named (peer-infos (unpack xs) (take n v)) → HoldsNodes ns (nodes-in named ++ (node-in (record { id = me xs; «data» = d }) ∷ []))
     → TellsAny (emit (message 2 to 0 (me xs) (shuffle-random-walk-length xs) (nodes-in ns))) w r out o
-    → Tells (send-shuffle to (items-at 32 v)) (work-of w xs) (work-of r xs) out o
+    → Tells (send-shuffle to (items-at working-places v)) (work-of w xs) (work-of r xs) out o
 unfolding send-shuffle shuffle-nodes node-in run-of unpack station-of settings-at
 shuffle-told w r xs out o v n to named ns d f s c q h e k =
-    let names : nodes-in named ≡ peer-infos (unpack xs) (items-at 32 v) = h .holds ∙ ap (peer-infos (unpack xs)) (lent-items v n s c) in
-    tell-by {g = emit (message 2 to 0 (me xs) (shuffle-random-walk-length xs) (nodes-in ns))} (send-shuffle to (items-at 32 v))
+    let names : nodes-in named ≡ peer-infos (unpack xs) (items-at working-places v) = h .holds ∙ ap (peer-infos (unpack xs)) (lent-items v n s c) in
+    tell-by {g = emit (message 2 to 0 (me xs) (shuffle-random-walk-length xs) (nodes-in ns))} (send-shuffle to (items-at working-places v))
     (λ ds. ap (λ (x : List Node). emit (message 2 to 0 (me xs) (shuffle-random-walk-length xs) x) (run (work-of w xs) ds out)) (sym (e .holds ∙ (λ i. names i ++ (node-in (record { id = me xs; «data» = q i }) ∷ [])))))
     (told-at xs (f .packed) _ k)
 
 -- ---- the peers that it names
 
-module _ (w r : Work) (ds v₁ v₂ xs : List ℕ) (to : ℕ) (h₁ : HoldsSet 32 v₁ xs) (h₂ : HoldsSet 32 v₂ (without to (items-at 32 v₁))) where
-  others-are : HoldsSet 32 v₂ (without to xs)
-  others-are = set-then 32 (without to) h₂ h₁
+module _ (w r : Work) (ds v₁ v₂ xs : List ℕ) (to : ℕ) (h₁ : HoldsSet working-places v₁ xs) (h₂ : HoldsSet working-places v₂ (without to (items-at working-places v₁))) where
+  others-are : HoldsSet working-places v₂ (without to xs)
+  others-are = set-then working-places (without to) h₂ h₁
 
-  pub peers-drawn : DrawsAny (draw-shuffle (items-at 32 v₂)) w r ds → DrawsAny (draw-shuffle (without to xs)) w r ds
+  pub peers-drawn : DrawsAny (draw-shuffle (items-at working-places v₂)) w r ds → DrawsAny (draw-shuffle (without to xs)) w r ds
   peers-drawn d = shuffle-of w r ds v₂ (without to xs) d others-are
 
-  pub peers-are : (v₃ : List ℕ) (most : ℕ) → HoldsSet 32 v₃ (take most (shuffled-by w ds (items-at 32 v₂))) → HoldsSet 32 v₃ (take most (shuffled-by w ds (without to xs)))
+  pub peers-are : (v₃ : List ℕ) (most : ℕ) → HoldsSet working-places v₃ (take most (shuffled-by w ds (items-at working-places v₂))) → HoldsSet working-places v₃ (take most (shuffled-by w ds (without to xs)))
   peers-are v₃ most k = record { valid = k .valid; items = k .items ∙ ap (λ (l : List ℕ). take most (shuffled-by w ds l)) (others-are .items) }
 
 module _ (xs : List ℕ) (f : PackedState xs) (l m : List ℕ) where
-  pub few-active : HoldsSet 32 m (take (shuffle-active-view-count xs) l) → length (items-at 32 m) ≤ 8
+  pub few-active : HoldsSet working-places m (take (shuffle-active-view-count xs) l) → length (items-at working-places m) ≤ 8
   unfolding settings-at
-  few-active k = omega (arith, set-length 32 m _ k, few-taken (shuffle-active-view-count xs) l, ranges (settings-at xs) (of-settings xs f) .shuffle-active .most)
+  few-active k = omega (arith, set-length working-places m _ k, few-taken (shuffle-active-view-count xs) l, ranges (settings-at xs) (of-settings xs f) .shuffle-active .most)
 
-  few-passive : HoldsSet 32 m (take (shuffle-passive-view-count xs) l) → length (items-at 32 m) ≤ 23
+  few-passive : HoldsSet working-places m (take (shuffle-passive-view-count xs) l) → length (items-at working-places m) ≤ 23
   unfolding settings-at
-  few-passive k = omega (arith, set-length 32 m _ k, few-taken (shuffle-passive-view-count xs) l, ranges (settings-at xs) (of-settings xs f) .shuffle-passive .most)
+  few-passive k = omega (arith, set-length working-places m _ k, few-taken (shuffle-passive-view-count xs) l, ranges (settings-at xs) (of-settings xs f) .shuffle-passive .most)
 
-  pub both-fit : (v : List ℕ) → HoldsSet 32 m (take (shuffle-passive-view-count xs) l) → length (items-at 32 v) ≤ 8 → length (items-at 32 v) + length (items-at 32 m) ≤ 32
+  pub both-fit : (v : List ℕ) → HoldsSet working-places m (take (shuffle-passive-view-count xs) l) → length (items-at working-places v) ≤ 8 → length (items-at working-places v) + length (items-at working-places m) ≤ working-places
   both-fit v k h = omega (arith, few-passive k)
 
-  pub all-fit : (v all : List ℕ) → HoldsSet 32 m (take (shuffle-passive-view-count xs) l) → length (items-at 32 v) ≤ 8 → HoldsSet 32 all (items-at 32 v ++ items-at 32 m) → length (items-at 32 all) < 32
-  all-fit v all k h e = omega (arith, few-passive k, set-length 32 all _ e, length-append (items-at 32 v) (items-at 32 m))
+  pub all-fit : (v all : List ℕ) → HoldsSet working-places m (take (shuffle-passive-view-count xs) l) → length (items-at working-places v) ≤ 8 → HoldsSet working-places all (items-at working-places v ++ items-at working-places m) → length (items-at working-places all) < 32
+  all-fit v all k h e = omega (arith, few-passive k, set-length working-places all _ e, length-append (items-at working-places v) (items-at working-places m))
 
 module _ (w a r : Work) (xs ds out o : List ℕ) (to : ℕ) (f : Fine (work-of w xs) ds out) where
   pub passive-done : (v m all : List ℕ) → DrawsAny (draw-shuffle (without to (items-at layout.passive-places (layout.passive-part xs)))) w a ds
-      → HoldsSet 32 m (take (shuffle-passive-view-count xs) (shuffled-by w ds (without to (items-at layout.passive-places (layout.passive-part xs)))))
-      → HoldsSet 32 all (items-at 32 v ++ items-at 32 m) → Tells (send-shuffle to (items-at 32 all)) (work-of a xs) (work-of r xs) out o
-      → Does (work-of r xs) ds o (shuffle-passive to (items-at 32 v) (run (work-of w xs) ds out))
+      → HoldsSet working-places m (take (shuffle-passive-view-count xs) (shuffled-by w ds (without to (items-at layout.passive-places (layout.passive-part xs)))))
+      → HoldsSet working-places all (items-at working-places v ++ items-at working-places m) → Tells (send-shuffle to (items-at working-places all)) (work-of a xs) (work-of r xs) out o
+      → Does (work-of r xs) ds o (shuffle-passive to (items-at working-places v) (run (work-of w xs) ds out))
   unfolding shuffle-passive passive-sample shuffled to-draw run-of unpack station-of settings-at
   passive-done v m all k h e t =
       by _
       (ap (λ (l : List ℕ). send-shuffle to l (draw-shuffle (without to (items-at layout.passive-places (layout.passive-part xs))) (run (work-of w xs) ds out)))
-      (sym (e .items ∙ ap (λ (l : List ℕ). items-at 32 v ++ l) (h .items))))
+      (sym (e .items ∙ ap (λ (l : List ℕ). items-at working-places v ++ l) (h .items))))
       (then-tell t (then-shuffle _ k (still f)))
 
   pub with-done : (v : List ℕ) → DrawsAny (draw-shuffle (without to (items-at layout.active-places (layout.active-part xs)))) w a ds
-      → HoldsSet 32 v (take (shuffle-active-view-count xs) (shuffled-by w ds (without to (items-at layout.active-places (layout.active-part xs)))))
-      → Does (work-of r xs) ds o (shuffle-passive to (items-at 32 v) (run (work-of a xs) ds out)) → Does (work-of r xs) ds o (shuffle-with to (run (work-of w xs) ds out))
+      → HoldsSet working-places v (take (shuffle-active-view-count xs) (shuffled-by w ds (without to (items-at layout.active-places (layout.active-part xs)))))
+      → Does (work-of r xs) ds o (shuffle-passive to (items-at working-places v) (run (work-of a xs) ds out)) → Does (work-of r xs) ds o (shuffle-with to (run (work-of w xs) ds out))
   unfolding shuffle-with active-sample shuffled to-draw run-of unpack station-of settings-at
   with-done v k h d =
       by _ (ap (λ (l : List ℕ). shuffle-passive to l (draw-shuffle (without to (items-at layout.active-places (layout.active-part xs))) (run (work-of w xs) ds out))) (sym (h .items)))
-      (seq (shuffle-passive to (items-at 32 v)) d (then-shuffle _ k (still f)))
+      (seq (shuffle-passive to (items-at working-places v)) d (then-shuffle _ k (still f)))
 
 -- ---- to whom
 
