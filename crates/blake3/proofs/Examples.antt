@@ -1,5 +1,5 @@
 -- The definition at known answers, computed by the checker: the hashes of the bytes 0, 1, 2, .. of five lengths.
--- Those of 0, 1, 64 and 65 bytes are of BLAKE3's official test vectors, that of 256 bytes, the longest body, was printed by b3sum 1.2.0.
+-- BLAKE3's own program b3sum 1.2.0 prints them so; 256 bytes are the longest body.
 -- Assumes nothing.
 use Prim.Native.Nat.{ℕ, zero, suc, _+_, _*_, _%_}
 use mathlib.Core.Path.{_≡_, refl}
@@ -8,12 +8,12 @@ use Rattle.base_lists.specs.Array.{pad}
 use Rattle.base_lists.specs.Bytes.{le, read-le}
 use Rattle.blake3.specs.Blake3.{iv, rotate, half, g, columns, diagonals, round, rounds, initial, compress, message-words, block-words, blocks, chunk, bytes-of-words, hash}
 
--- n bytes of the test vectors' input from place i on, which counts to 250 again and again
+-- n bytes of the input from place i on, which counts to 250 again and again
 input : ℕ → ℕ → List ℕ
 input i zero = []
 input i (suc n) = i % 251 ∷ input (suc i) n
 
--- bytes as the test vectors print them: one number, highest byte first
+-- bytes as b3sum prints them: one number, highest byte first
 printed : ℕ → List ℕ → ℕ
 printed n [] = n
 printed n (b ∷ bs) = printed (256 * n + b) bs

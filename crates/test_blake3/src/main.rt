@@ -1,6 +1,5 @@
 // Writes the hash of the bytes 0, 1, .., 250, 0, 1, .. for each of the lengths: a line with the length and the 32 bytes, and a mark where `is_hash` takes the hash of no bytes for it.
-// What it must write is not ours: the lengths but 256 are those of BLAKE3's official test vectors (test_vectors.json) that are one chunk, and the bytes are the first 32 of
-// `hash` there; those of 256 bytes, the longest body, were printed by b3sum 1.2.0.
+// What it must write is not ours: BLAKE3's own program b3sum 1.2.0 prints the same 32 bytes for each; 256 is the longest body, and 1,024 bytes are one chunk.
 const CASES: usize = 18;
 
 const LENGTHS: [usize; CASES] = [

@@ -103,8 +103,8 @@ fn mix(v: &mut [u32; 16], [a, b, c, d]: [usize; 4], x: u32, y: u32) {
 mod tests {
     use super::*;
 
-    /// BLAKE3's official test vectors of one chunk: the hash of so many of the bytes 0, 1, .., 250, 0, 1, ..
-    const OFFICIAL: [(usize, &str); 17] = [
+    /// What b3sum 1.2.0 prints: the hash of so many of the bytes 0, 1, .., 250, 0, 1, ..
+    const PRINTED: [(usize, &str); 17] = [
         (
             0,
             "af1349b9f5f9a1a6a0404dea36dcc9499bcb25c9adc112b7cc9a93cae41f3262",
@@ -180,8 +180,8 @@ mod tests {
     }
 
     #[test]
-    fn official_vectors() {
-        for (len, expected) in OFFICIAL {
+    fn as_b3sum_prints() {
+        for (len, expected) in PRINTED {
             let input: Vec<u8> = (0..len).map(|place| (place % 251) as u8).collect();
             assert_eq!(hex(hash(&input)), expected, "{len} bytes");
         }
