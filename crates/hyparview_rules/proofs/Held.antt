@@ -20,7 +20,7 @@ use Rattle.base_util.proofs.Parts.{part-read}
 use Rattle.base_util.proofs.Sets.{lent}
 use Rattle.base_columns.specs.Columns.{numbers-at, data-map-at, entries-at, count-of, ValidDataWords}
 use Rattle.base_columns.proofs.Data.{data-entries}
-use Rattle.base_timing.specs.Timing.{within, in-range, most-active, most-passive, longest-walk, most-shuffle-active, most-shuffle-passive, longest-time}
+use Rattle.base_timing.specs.Timing.{within, in-range, most-active, most-passive, longest-walk, most-shuffle-active, most-shuffle-passive, longest-time, max-requests-per-refill}
 use Rattle.base_peer.specs.declared.PeerData.{PeerData}
 use Rattle.base_peer.specs.Held.{data-in, ValidData}
 use Rattle.base_peer.specs.Maps.{no-data, entry-bytes, ValidEntry}
@@ -28,12 +28,12 @@ use Rattle.base_peer.proofs.Data.{length-bytes}
 use Rattle.base_peer.proofs.Maps.{length-entry}
 use Rattle.spec_hyparview.specs.Rules.{all-short, short-data, limit-ok, settings-rule, repeats-rule, order-rule, capacity-rule, views-rule, alive-rule, few-rule, joins-rule, numbers-rule, self-rule, room-rule, data-rule, limit-rule, interval-rule, width-rule, held-rule, rules, station-ok}
 use Rattle.spec_hyparview.specs.Rules as R
-use Rattle.spec_hyparview.specs.Station.{Station, top-passes, data-peers}
+use Rattle.spec_hyparview.specs.Station.{Station, max-data-length, top-passes, data-peers}
 use Rattle.hyparview_state.specs.Layout as layout
 use Rattle.hyparview_state.specs.Unpack.{settings-at, limit-at, limit-formed, refill-in, station-of, unpack}
 use Rattle.hyparview_state.proofs.Memory.{two-limit}
 use Rattle.hyparview_state.proofs.Access.{count-active, count-passive}
-use Rattle.hyparview_rules.specs.Ok.{packed-ok, state-ok}
+use Rattle.hyparview_rules.specs.Ok.{packed-ok, view-rules, state-ok}
 use Rattle.hyparview_rules.proofs.Shape.{ok-shape, ok-active, ok-passive, ok-alive, ok-bootstrap, ok-joins}
 use Rattle.hyparview_rules.proofs.Under.{peers-lent}
 use Rattle.hyparview_rules.proofs.Widths.{width-is}
@@ -52,7 +52,7 @@ settings-are xs = simp (and-assoc, leb·zero)
 
 module _ (xs : List ℕ) (e : packed-ok xs ≡ true) where
   -- the maps rise
-  order-is : (a b : Bool) → a ≡ rising (items-at layout.alive-places (layout.alive-part xs)) → b ≡ rising (items-at layout.refused-places (layout.refused-part xs)) → (a && b) ≡ order-rule (unpack xs)
+  pub order-is : (a b : Bool) → a ≡ rising (items-at layout.alive-places (layout.alive-part xs)) → b ≡ rising (items-at layout.refused-places (layout.refused-part xs)) → (a && b) ≡ order-rule (unpack xs)
   unfolding order-rule unpack station-of
   order-is a b p q =
       let v = ok-shape xs e in
@@ -63,10 +63,10 @@ module _ (xs : List ℕ) (e : packed-ok xs ≡ true) where
   unfolding capacity-rule unpack station-of settings-at
   capacity-is = sym (rw (count-active xs (ok-active xs e), count-passive xs (ok-passive xs e)) refl)
 
-repeats-is : (xs : List ℕ) (a b c d : Bool) → a ≡ distinct (items-at layout.active-places (layout.active-part xs)) → b ≡ distinct (items-at layout.passive-places (layout.passive-part xs)) → c ≡ distinct (items-at layout.bootstrap-places (layout.bootstrap-part xs))
-    → d ≡ distinct (items-at layout.recent-places (layout.recent-part xs)) → (a && (b && (c && d))) ≡ repeats-rule (unpack xs)
+pub repeats-is : (xs : List ℕ) (a b c d : Bool) → a ≡ distinct (items-at layout.active-places (layout.active-part xs)) → b ≡ distinct (items-at layout.passive-places (layout.passive-part xs)) → c ≡ distinct (items-at layout.bootstrap-places (layout.bootstrap-part xs))
+    → d ≡ distinct (items-at layout.recent-places (layout.recent-part xs)) → (a && b && c && d) ≡ repeats-rule (unpack xs)
 unfolding repeats-rule unpack station-of
-repeats-is xs a b c d p q r s = λ i. p i && (q i && (r i && s i))
+repeats-is xs a b c d p q r s = let e : (a && b && c && d) ≡ (a && (b && (c && d))) = simp and-assoc in e ∙ (λ i. p i && (q i && (r i && s i)))
 
 -- ---- the lists, as the code lends them
 
@@ -119,7 +119,7 @@ module _ (xs : List ℕ) (e : packed-ok xs ≡ true) where
 
   pub views-are : (a b c d k : Bool) → a ≡ disjoint (part layout.active-at (layout.active-at + getD xs layout.active-count 0 - layout.active-at) xs) (part layout.passive-at (layout.passive-at + getD xs layout.passive-count 0 - layout.passive-at) xs) → b ≡ mem (layout.me xs) (part layout.active-at (layout.active-at + getD xs layout.active-count 0 - layout.active-at) xs) → c ≡ mem (layout.me xs) (part layout.passive-at (layout.passive-at + getD xs layout.passive-count 0 - layout.passive-at) xs)
       → d ≡ subset (part layout.alive-at (layout.alive-at + getD xs layout.alive-count 0 - layout.alive-at) xs) (part layout.passive-at (layout.passive-at + getD xs layout.passive-count 0 - layout.passive-at) xs) → k ≡ subset (keys (data-map-at layout.peer-data-places (layout.peer-data-part xs))) (items-at layout.active-places (layout.active-part xs) ++ (items-at layout.passive-places (layout.passive-part xs) ++ keys (numbers-at layout.requests-places (layout.requests-part xs))))
-      → ((((a && not b) && not c) && d) && k) ≡ (views-rule (unpack xs) && (alive-rule (unpack xs) && held-rule (unpack xs)))
+      → ((((a && not b) && not c) && d) && k) ≡ view-rules (unpack xs)
   views-are a b c d k p q r s t =
       and-assoc ((a && not b) && not c) d k ∙ (λ i. views-is a b c p q r i && (alive-is d s i && held-is k t i))
 
@@ -143,17 +143,17 @@ module _ (xs : List ℕ) (e : packed-ok xs ≡ true) where
 -- ---- the limit
 
 module _ (k n : ℕ) (f : limit-formed k n ≡ true) where
-  none-left : (eqb k 1 ≡ true → ⊥) → leb n 3 ≡ true
+  none-left : (eqb k 1 ≡ true → ⊥) → leb n max-requests-per-refill ≡ true
   unfolding limit-formed
-  none-left other = or-true (eqb k 1) (eqb n 0) (and-right (leb k 2) _ f) (λ o. absurd (other o)) (λ z. le-leb n 3 (omega (arith, eqb-true n 0 z)))
+  none-left other = or-true (eqb k 1) (eqb n 0) (and-right (leb k 2) _ f) (λ o. absurd (other o)) (λ z. le-leb n max-requests-per-refill (omega (arith, eqb-true n 0 z)))
 
-  limited : leb n 3 ≡ limit-ok (refill-in (two-limit k n))
+  limited : leb n max-requests-per-refill ≡ limit-ok (refill-in (two-limit k n))
   unfolding limit-ok refill-in choose
   limited =
       split (eqb k 0) (λ z. rw z (none-left (λ o. omega (arith, eqb-true k 0 z, eqb-true k 1 o))))
       (λ z. rw z (split (eqb k 1) (λ o. rw o) (λ o. rw o (none-left (λ t. omega (arith, eqb-true k 1 t, eqb-false k 1 o))))))
 
-limit-is : (xs : List ℕ) → packed-ok xs ≡ true → leb (layout.refill-requests xs) 3 ≡ limit-rule (unpack xs)
+limit-is : (xs : List ℕ) → packed-ok xs ≡ true → leb (layout.refill-requests xs) max-requests-per-refill ≡ limit-rule (unpack xs)
 unfolding limit-rule unpack station-of limit-at
 limit-is xs e = limited (layout.refill-kind xs) (layout.refill-requests xs) (ok-shape xs e .limit)
 
@@ -184,20 +184,20 @@ module _ (xs : List ℕ) (e : packed-ok xs ≡ true) where
       both-true _ _ (le-leb (length (items-at layout.bootstrap-places (layout.bootstrap-part xs))) layout.bootstrap-places (omega (arith, v .sections .bootstrap .counted, v .sections .bootstrap .fits)))
       (le-leb (length (items-at layout.recent-places (layout.recent-part xs))) layout.recent-places (omega (arith, v .sections .recent .counted, v .sections .recent .fits)))
 
-values-short : (m : List (ℕ × List ℕ)) → All (λ (b : List ℕ). length b ≤ 16) (values m) → all-short m ≡ true
+values-short : (m : List (ℕ × List ℕ)) → All (λ (b : List ℕ). length b ≤ max-data-length) (values m) → all-short m ≡ true
 unfolding all-short All values
 values-short [] a = refl
-values-short (x ∷ m) a = both-true (leb (length (x .1)) 16) _ (le-leb (length (x .1)) 16 (a .0)) (values-short m (a .1))
+values-short (x ∷ m) a = both-true (leb (length (x .1)) max-data-length) _ (le-leb (length (x .1)) max-data-length (a .0)) (values-short m (a .1))
 
-data-short : (m : List ℕ) → ValidDataWords layout.peer-data-places m → All (λ (b : List ℕ). length b ≤ 16) (values (data-map-at layout.peer-data-places m))
+data-short : (m : List ℕ) → ValidDataWords layout.peer-data-places m → All (λ (b : List ℕ). length b ≤ max-data-length) (values (data-map-at layout.peer-data-places m))
 data-short m v =
     rw (entries-values no-data layout.peer-data-places entry-bytes ValidEntry _ _ _ _ (data-entries layout.peer-data-places m v))
-    (all-map ValidEntry (λ (b : List ℕ). length b ≤ 16) entry-bytes (λ x h. omega (arith, length-entry x h, h .fits)) (take (count-of layout.peer-data-places m) (entries-at layout.peer-data-places m)) (v .each))
+    (all-map ValidEntry (λ (b : List ℕ). length b ≤ max-data-length) entry-bytes (λ x h. omega (arith, length-entry x h, h .fits)) (take (count-of layout.peer-data-places m) (entries-at layout.peer-data-places m)) (v .each))
 
 own-short : (d : PeerData) → ValidData d → short-data (data-in d) ≡ true
 unfolding short-data data-in choose
 own-short d v =
-    split (d .present) (λ t. rw t (le-leb (length (take (d .len) (d .bytes))) 16 (omega (arith, length-bytes d v, v .fits)))) (λ t. rw t)
+    split (d .present) (λ t. rw t (le-leb (length (take (d .len) (d .bytes))) max-data-length (omega (arith, length-bytes d v, v .fits)))) (λ t. rw t)
 
 -- data have at most 16 bytes
 pub data-held : (xs : List ℕ) → packed-ok xs ≡ true → data-rule (unpack xs) ≡ true
@@ -228,13 +228,13 @@ module _ (xs : List ℕ) where
     unfolding state-ok
     broken t = rw (← e, failed b t)
 
--- three rules are left out where they hold
 -- three tests that stand behind the others
 behind : (v m r h : Bool) → (v && (m && (r && h))) ≡ (r && (v && (m && h)))
 behind true true r h = refl
 behind true false r h = sym (and-no r)
 behind false m r h = sym (and-no r)
 
+-- three rules are left out where they hold
 pub rules-left : (g : Station) → few-rule g ≡ true → room-rule g ≡ true → data-rule g ≡ true
     → station-ok g ≡ (settings-rule g && (repeats-rule g && (order-rule g && (capacity-rule g && (views-rule g && (alive-rule g && (joins-rule g && (numbers-rule g && (self-rule g && (limit-rule g && (interval-rule g && (width-rule g && held-rule g))))))))))))
 unfolding station-ok rules R.all-hold
@@ -249,22 +249,19 @@ rules-last g =
 
 rules-are : (xs : List ℕ) → packed-ok xs ≡ true → (a b c d g h k l m n v : Bool) → a ≡ settings-rule (unpack xs) → b ≡ repeats-rule (unpack xs) → c ≡ order-rule (unpack xs) → d ≡ capacity-rule (unpack xs)
     → g ≡ joins-rule (unpack xs) → h ≡ numbers-rule (unpack xs) → k ≡ self-rule (unpack xs) → l ≡ limit-rule (unpack xs)
-    → m ≡ interval-rule (unpack xs) → n ≡ width-rule (unpack xs) → v ≡ (views-rule (unpack xs) && (alive-rule (unpack xs) && held-rule (unpack xs)))
+    → m ≡ interval-rule (unpack xs) → n ≡ width-rule (unpack xs) → v ≡ view-rules (unpack xs)
     → (a && (b && (c && (d && ((g && (h && (k && (l && (m && n))))) && v))))) ≡ station-ok (unpack xs)
 rules-are xs t a b c d g h k l m n v p₁ p₂ p₃ p₄ p₅ p₆ p₇ p₈ p₉ p₁₀ p₁₁ =
     (λ i. p₁ i && (p₂ i && (p₃ i && (p₄ i && ((p₅ i && (p₆ i && (p₇ i && (p₈ i && (p₉ i && p₁₀ i))))) && p₁₁ i)))))
     ∙ sym (rules-left (unpack xs) (few-held xs t) (room-held xs t) (data-held xs t) ∙ rules-last (unpack xs))
 
 -- the tests one after another, as the code has them
-pub tests-are : (xs : List ℕ) → packed-ok xs ≡ true → (s a p b r k f j n h v : Bool) → s ≡ settings-rule (unpack xs)
-    → a ≡ distinct (items-at layout.active-places (layout.active-part xs)) → p ≡ distinct (items-at layout.passive-places (layout.passive-part xs)) → b ≡ distinct (items-at layout.bootstrap-places (layout.bootstrap-part xs)) → r ≡ distinct (items-at layout.recent-places (layout.recent-part xs))
-    → k ≡ rising (items-at layout.alive-places (layout.alive-part xs)) → f ≡ rising (items-at layout.refused-places (layout.refused-part xs)) → j ≡ joins-rule (unpack xs) → n ≡ numbers-rule (unpack xs)
-    → h ≡ has (layout.me xs) (data-map-at layout.peer-data-places (layout.peer-data-part xs)) → v ≡ (views-rule (unpack xs) && (alive-rule (unpack xs) && held-rule (unpack xs)))
-    → (s && a && p && b && r && k && f && leb (getD xs layout.active-count 0) (layout.active-view-capacity xs) && leb (getD xs layout.passive-count 0) (layout.passive-view-capacity xs) && j && n && not h
-    && leb (layout.refill-requests xs) 3 && leb 1 (layout.next-shuffle-interval xs) && leb (layout.next-shuffle-interval xs) (layout.shuffle-interval xs)
+pub tests-are : (xs : List ℕ) → packed-ok xs ≡ true → (s r o j n h v : Bool) → s ≡ settings-rule (unpack xs) → r ≡ repeats-rule (unpack xs) → o ≡ order-rule (unpack xs)
+    → j ≡ joins-rule (unpack xs) → n ≡ numbers-rule (unpack xs) → h ≡ has (layout.me xs) (data-map-at layout.peer-data-places (layout.peer-data-part xs)) → v ≡ view-rules (unpack xs)
+    → (s && r && o && leb (getD xs layout.active-count 0) (layout.active-view-capacity xs) && leb (getD xs layout.passive-count 0) (layout.passive-view-capacity xs) && j && n && not h
+    && leb (layout.refill-requests xs) max-requests-per-refill && leb 1 (layout.next-shuffle-interval xs) && leb (layout.next-shuffle-interval xs) (layout.shuffle-interval xs)
     && leb (layout.passes-alone xs) top-passes && leb (layout.passes-short xs) top-passes && v)
     ≡ state-ok xs
 unfolding state-ok
-tests-are xs t s a p b r k f j n h v e₁ e₂ e₃ e₄ e₅ e₆ e₇ e₈ e₉ e₁₀ e₁₁ =
-    rw t (simp and-assoc (simp and-assoc at (rules-are xs t _ _ _ _ _ _ _ _ _ _ _ e₁ (repeats-is xs a p b r e₂ e₃ e₄ e₅) (order-is xs t k f e₆ e₇) (capacity-is xs t) e₈ e₉
-    (self-is xs h e₁₀) (limit-is xs t) (interval-is xs) (width-is xs t) e₁₁)))
+tests-are xs t s r o j n h v e₁ e₂ e₃ e₄ e₅ e₆ e₇ =
+    rw t (simp and-assoc (simp and-assoc at (rules-are xs t _ _ _ _ _ _ _ _ _ _ _ e₁ e₂ e₃ (capacity-is xs t) e₄ e₅ (self-is xs h e₆) (limit-is xs t) (interval-is xs) (width-is xs t) e₇)))

@@ -8,7 +8,8 @@ use lib.Dec.{leb, eqb}
 use Rattle.base_util.specs.Section.{valid-set}
 use Rattle.base_columns.specs.Columns.{words-end, valid-numbers, valid-data-words}
 use Rattle.base_peer.specs.Held.{valid-data}
-use Rattle.spec_hyparview.specs.Rules.{all-under, station-ok}
+use Rattle.spec_hyparview.specs.Station.{Station}
+use Rattle.spec_hyparview.specs.Rules.{all-under, views-rule, alive-rule, held-rule, station-ok}
 use Rattle.hyparview_state.specs.Layout as layout
 use Rattle.hyparview_state.specs.Unpack.{own-at, limit-formed, unpack}
 
@@ -37,6 +38,10 @@ sections-ok xs =
 -- "unused places zero": as many words as a state has, and each part well formed
 unfoldable pub packed-ok : List ℕ → Bool
 packed-ok xs = eqb (length xs) layout.words && (formed xs && (valid-data (own-at xs) && sections-ok xs))
+
+-- the rules that hold the views against each other, and other lists against the views
+abbrev pub view-rules : Station → Bool
+view-rules g = views-rule g && (alive-rule g && held-rule g)
 
 -- every station rule, unused places included
 unfoldable pub state-ok : List ℕ → Bool

@@ -4,14 +4,14 @@ use base_timing::Timing;
 use hyparview_state::Layout;
 use hyparview_state::RefillLimit;
 ghost use mathlib.Core.Path.{_≡_};
-ghost use mathlib.Core.Bool.{true, _&&_};
+ghost use mathlib.Core.Bool.{true};
 ghost use lib.ListN.{length};
 ghost use Rattle.base_peer.specs.Maps.{numbers-under};
 ghost use Rattle.base_columns.specs.Columns.{numbers-at, ValidNumbers};
-ghost use Rattle.spec_hyparview.specs.Rules.{settings-rule, views-rule, alive-rule, joins-rule, numbers-rule, held-rule};
+ghost use Rattle.spec_hyparview.specs.Rules.{settings-rule, repeats-rule, order-rule, joins-rule, numbers-rule};
 ghost use Rattle.hyparview_state.specs.Layout.{words};
 ghost use Rattle.hyparview_state.specs.Unpack.{unpack};
-ghost use Rattle.hyparview_rules.specs.Ok.{sections-ok, packed-ok, state-ok};
+ghost use Rattle.hyparview_rules.specs.Ok.{sections-ok, packed-ok, view-rules, state-ok};
 
 // ---- a test of the numbers of a map
 
@@ -127,11 +127,48 @@ fn settings_rule(st: &[u64]) -> bool
         & (st[Layout::NEIGHBOR_REQUEST_TIMEOUT] <= TIME_TOP)
 }
 
+// "every list free of repeats"; maps and sets are, where they rise.
+fn repeats_rule(st: &[u64]) -> bool
+    requires { ⌜ length (now st) ≡ words ⌝ }
+    requires { ⌜ packed-ok (now st) ≡ true ⌝ }
+    ensures { λ r. ⌜ r ≡ repeats-rule (unpack (now (st .entry))) ⌝ }
+{
+    base_util::is_distinct(
+        &st[Layout::ACTIVE..Layout::ACTIVE_END],
+        Layout::ACTIVE_PLACES,
+    )
+        & base_util::is_distinct(
+            &st[Layout::PASSIVE..Layout::PASSIVE_END],
+            Layout::PASSIVE_PLACES,
+        )
+        & base_util::is_distinct(
+            &st[Layout::BOOTSTRAP..Layout::BOOTSTRAP_END],
+            Layout::BOOTSTRAP_PLACES,
+        )
+        & base_util::is_distinct(
+            &st[Layout::RECENT..Layout::RECENT_END],
+            Layout::RECENT_PLACES,
+        )
+}
+
+// "those for maps and sets in rising peer order"; a well formed map rises.
+fn order_rule(st: &[u64]) -> bool
+    requires { ⌜ length (now st) ≡ words ⌝ }
+    requires { ⌜ packed-ok (now st) ≡ true ⌝ }
+    ensures { λ r. ⌜ r ≡ order-rule (unpack (now (st .entry))) ⌝ }
+{
+    base_util::is_rising(&st[Layout::ALIVE..Layout::ALIVE_END], Layout::ALIVE_PLACES)
+        & base_util::is_rising(
+            &st[Layout::REFUSED..Layout::REFUSED_END],
+            Layout::REFUSED_PLACES,
+        )
+}
+
 // "views as in demand 3": disjoint and without the station itself; and the rules that hold other lists against the views.
 fn views_rule(st: &[u64]) -> bool
     requires { ⌜ length (now st) ≡ words ⌝ }
     requires { ⌜ packed-ok (now st) ≡ true ⌝ }
-    ensures { λ r. ⌜ r ≡ (views-rule (unpack (now (st .entry))) && (alive-rule (unpack (now (st .entry))) && held-rule (unpack (now (st .entry))))) ⌝ }
+    ensures { λ r. ⌜ r ≡ view-rules (unpack (now (st .entry))) ⌝ }
 {
     let me = st[Layout::ME];
     let active = Layout::ACTIVE + st[Layout::ACTIVE_COUNT] as usize;
@@ -203,29 +240,8 @@ pub fn is_ok(st: &[u64]) -> bool
     }
     let me = st[Layout::ME];
     settings_rule(st)
-        // "every list free of repeats"; maps and sets are, where they rise.
-        & base_util::is_distinct(
-            &st[Layout::ACTIVE..Layout::ACTIVE_END],
-            Layout::ACTIVE_PLACES,
-        )
-        & base_util::is_distinct(
-            &st[Layout::PASSIVE..Layout::PASSIVE_END],
-            Layout::PASSIVE_PLACES,
-        )
-        & base_util::is_distinct(
-            &st[Layout::BOOTSTRAP..Layout::BOOTSTRAP_END],
-            Layout::BOOTSTRAP_PLACES,
-        )
-        & base_util::is_distinct(
-            &st[Layout::RECENT..Layout::RECENT_END],
-            Layout::RECENT_PLACES,
-        )
-        // "those for maps and sets in rising peer order"; a well formed map rises.
-        & base_util::is_rising(&st[Layout::ALIVE..Layout::ALIVE_END], Layout::ALIVE_PLACES)
-        & base_util::is_rising(
-            &st[Layout::REFUSED..Layout::REFUSED_END],
-            Layout::REFUSED_PLACES,
-        )
+        & repeats_rule(st)
+        & order_rule(st)
         // "views as in demand 3": within capacity.
         & (st[Layout::ACTIVE_COUNT] <= st[Layout::ACTIVE_VIEW_CAPACITY])
         & (st[Layout::PASSIVE_COUNT] <= st[Layout::PASSIVE_VIEW_CAPACITY])
