@@ -11,9 +11,10 @@ use Rattle.base_lists.specs.Lists.{Rising, rising}
 use Rattle.base_lists.specs.Maps.{keys, values, zip}
 use Rattle.base_lists.specs.Tests.{All, every, packed}
 use Rattle.base_lists.specs.Bytes.{le, read-le}
+use Rattle.base_lists.specs.Lent.{Lent}
 use Rattle.base_peer.specs.Maps.{DataEntry, entry-bytes, ValidEntry, valid-entry}
 use Rattle.base_scan.specs.Words.{unused}
-use Rattle.base_util.specs.Section.{part, working-places, Filled}
+use Rattle.base_util.specs.Section.{part, working-places, Filled, items-at}
 
 -- the places of the active view, and of the peers of both views and of the requests together
 abbrev pub active-places : ℕ
@@ -64,9 +65,13 @@ pub record Two (n : ℕ) (r xs ys : List ℕ) : Type 0 where
 abbrev pub words-end : ℕ
 words-end = 18446744073709551616
 
+-- the bytes of a word
+abbrev pub word-length : ℕ
+word-length = 8
+
 -- 16 bytes in two words
 unfoldable pub word-bytes : ℕ → ℕ → List ℕ
-word-bytes w x = le 8 w ++ le 8 x
+word-bytes w x = le word-length w ++ le word-length x
 
 abbrev pub row : ℕ → ℕ → ℕ → DataEntry
 row l w x = record { len = l; bytes = word-bytes w x }
@@ -121,12 +126,32 @@ valid-data-words n m =
 
 -- the words of at most 16 bytes
 unfoldable pub low-word : List ℕ → ℕ
-low-word b = read-le 8 (pad 0 16 b) 0
+low-word b = read-le word-length (pad 0 16 b) 0
 
 unfoldable pub high-word : List ℕ → ℕ
-high-word b = read-le 8 (pad 0 16 b) 8
+high-word b = read-le word-length (pad 0 16 b) word-length
 
 -- the words of the map l
 unfoldable pub data-section : ℕ → List (ℕ × List ℕ) → List ℕ
 data-section n l =
     pad 0 n (keys l) ++ pad 0 n (map length (values l)) ++ pad 0 n (map low-word (values l)) ++ pad 0 n (map high-word (values l)) ++ (length l ∷ [])
+
+-- ---- as a contract says it, of the parameters themselves
+
+-- the first k places of two columns of n become f and g of their words, and zeroes follow
+abbrev pub ChangesTwo : ℕ → ℕ → (List ℕ → List ℕ) → (List ℕ → List ℕ) → Lent → Type 0
+ChangesTwo n k f g s =
+    Two n (s .exit .now) (f (take k (part 0 n (s .entry .now)))) (g (take k (part n n (s .entry .now))))
+
+-- the map becomes f of itself: of numbers, and of data
+abbrev pub ChangesNumbers : ℕ → (List (ℕ × ℕ) → List (ℕ × ℕ)) → Lent → Type 0
+ChangesNumbers n f m = HoldsNumbers n (m .exit .now) (f (numbers-at n (m .entry .now)))
+
+abbrev pub ChangesData : ℕ → (List (ℕ × List ℕ) → List (ℕ × List ℕ)) → Lent → Type 0
+ChangesData n f m = HoldsDataWords n (m .exit .now) (f (data-map-at n (m .entry .now)))
+
+-- the peers of both views and of the requests, whose data may be held
+abbrev pub known-peers : Lent → Lent → Lent → List ℕ
+known-peers active passive requests =
+    items-at active-places (active .entry .now)
+    ++ (items-at working-places (passive .entry .now) ++ keys (numbers-at working-places (requests .entry .now)))

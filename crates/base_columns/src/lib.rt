@@ -4,7 +4,6 @@ use base_peer::PeerData;
 use base_peer::PeerId;
 ghost use mathlib.Core.Path.{_≡_};
 ghost use mathlib.Core.Bool.{true, _||_};
-ghost use mathlib.Core.List.{_++_};
 ghost use Prim.Native.Nat.{_+_, _≤_, _<_};
 ghost use lib.ListN.{length, take, drop};
 ghost use lib.Dec.{ltb};
@@ -14,8 +13,11 @@ ghost use Rattle.base_lists.specs.Bytes.{le};
 ghost use Rattle.base_peer.specs.Data.{bytes-of, holds};
 ghost use Rattle.base_peer.specs.Held.{data-in, ValidData, HoldsData};
 ghost use Rattle.base_peer.specs.Maps.{number-in, valid-entry};
-ghost use Rattle.base_util.specs.Section.{part, working-places, Filled, items-at, ValidSet, HoldsSet};
-ghost use Rattle.base_columns.specs.Columns.{active-places, known-places, numbers-at, ValidNumbers, HoldsNumbers, valid-numbers, Two, word-bytes, row, data-map-at, ValidDataWords, HoldsDataWords, valid-data-words, words-end};
+ghost use Rattle.base_util.specs.Section.{part, working-places, Filled, items-at, ValidSet, HoldsSet, BecomesSet};
+ghost use Rattle.base_columns.specs.Columns.{active-places, known-places, known-peers};
+ghost use Rattle.base_columns.specs.Columns.{numbers-at, ValidNumbers, valid-numbers, ChangesNumbers, ChangesTwo};
+ghost use Rattle.base_columns.specs.Columns.{words-end, word-length, word-bytes, row, data-map-at, ValidDataWords};
+ghost use Rattle.base_columns.specs.Columns.{valid-data-words, ChangesData};
 
 // ---- two columns of cap places
 
@@ -25,7 +27,7 @@ fn out_two(s: &mut [u64], cap: usize, n: usize, i: usize)
     requires { ⌜ Filled (part 0 cap (now s)) n ⌝ }
     requires { ⌜ Filled (part cap cap (now s)) n ⌝ }
     requires { ⌜ i < n ⌝ }
-    ensures { λ _. ⌜ Two cap (now (s .exit)) (shift-remove i (take n (part 0 cap (now (s .entry))))) (shift-remove i (take n (part cap cap (now (s .entry))))) ⌝ }
+    ensures { λ _. ⌜ ChangesTwo cap n (shift-remove i) (shift-remove i) s ⌝ }
 {
     let end = cap + cap;
     base_util::take_out(&mut s[..cap], n, i);
@@ -39,7 +41,7 @@ fn in_two(s: &mut [u64], cap: usize, n: usize, i: usize, x: u64, y: u64)
     requires { ⌜ Filled (part cap cap (now s)) n ⌝ }
     requires { ⌜ n < cap ⌝ }
     requires { ⌜ i ≤ n ⌝ }
-    ensures { λ _. ⌜ Two cap (now (s .exit)) (insert-at i x (take n (part 0 cap (now (s .entry))))) (insert-at i y (take n (part cap cap (now (s .entry))))) ⌝ }
+    ensures { λ _. ⌜ ChangesTwo cap n (insert-at i x) (insert-at i y) s ⌝ }
 {
     let end = cap + cap;
     base_util::put_in(&mut s[..cap], n, i, x);
@@ -58,8 +60,8 @@ const IN_BOTH: u64 = PeerData::BYTES as u64;
 
 // The eight bytes from `at` on, lowest first.
 pub fn word_at(b: [u8; PeerData::BYTES], at: usize) -> u64
-    requires { ⌜ at ≤ 8 ⌝ }
-    ensures { λ r. ⌜ (le 8 r ≡ take 8 (drop at b)) × (r < words-end) ⌝ }
+    requires { ⌜ at ≤ word-length ⌝ }
+    ensures { λ r. ⌜ (le word-length r ≡ take word-length (drop at b)) × (r < words-end) ⌝ }
 {
     let mut r: u64 = 0;
     let mut i: usize = WORD;
@@ -114,7 +116,7 @@ pub fn get_number(m: &[u64], cap: usize, p: PeerId) -> Number
 
 pub fn remove_number(m: &mut [u64], cap: usize, p: PeerId)
     requires { ⌜ ValidNumbers cap (now m) ⌝ }
-    ensures { λ _. ⌜ HoldsNumbers cap (now (m .exit)) (cut p (numbers-at cap (now (m .entry)))) ⌝ }
+    ensures { λ _. ⌜ ChangesNumbers cap (cut p) m ⌝ }
 {
     let end = cap + cap;
     let n = m[end] as usize;
@@ -130,7 +132,7 @@ pub fn remove_number(m: &mut [u64], cap: usize, p: PeerId)
 pub fn insert_number(m: &mut [u64], cap: usize, p: PeerId, x: u64)
     requires { ⌜ ValidNumbers cap (now m) ⌝ }
     requires { ⌜ (has p (numbers-at cap (now m)) || ltb (length (numbers-at cap (now m))) cap) ≡ true ⌝ }
-    ensures { λ _. ⌜ HoldsNumbers cap (now (m .exit)) (put p x (numbers-at cap (now (m .entry)))) ⌝ }
+    ensures { λ _. ⌜ ChangesNumbers cap (put p x) m ⌝ }
 {
     let end = cap + cap;
     let n = m[end] as usize;
@@ -150,7 +152,7 @@ pub fn keys_into(m: &[u64], cap: usize, t: &mut [u64])
     requires { ⌜ ValidNumbers cap (now m) ⌝ }
     requires { ⌜ cap ≤ working-places ⌝ }
     requires { ⌜ length (now t) ≡ working-places + 1 ⌝ }
-    ensures { λ _. ⌜ HoldsSet working-places (now (t .exit)) (keys (numbers-at cap (now (m .entry)))) ⌝ }
+    ensures { λ _. ⌜ BecomesSet t (keys (numbers-at cap (now (m .entry)))) ⌝ }
 {
     let end = cap + cap;
     let n = m[end] as usize;
@@ -232,7 +234,7 @@ pub fn holds_data(m: &[u64], cap: usize, p: PeerId, d: PeerData) -> bool
 
 pub fn remove_data(m: &mut [u64], cap: usize, p: PeerId)
     requires { ⌜ ValidDataWords cap (now m) ⌝ }
-    ensures { λ _. ⌜ HoldsDataWords cap (now (m .exit)) (cut p (data-map-at cap (now (m .entry)))) ⌝ }
+    ensures { λ _. ⌜ ChangesData cap (cut p) m ⌝ }
 {
     let half = cap + cap;
     let end = half + half;
@@ -257,7 +259,7 @@ pub fn data_peers(active: &[u64], passive: &[u64], requests: &[u64], v: &mut [u6
     requires { ⌜ ValidSet working-places (now passive) ⌝ }
     requires { ⌜ ValidNumbers working-places (now requests) ⌝ }
     requires { ⌜ length (now v) ≡ known-places + 1 ⌝ }
-    ensures { λ _. ⌜ HoldsSet known-places (now (v .exit)) (items-at active-places (now (active .entry)) ++ (items-at working-places (now (passive .entry)) ++ keys (numbers-at working-places (now (requests .entry))))) ⌝ }
+    ensures { λ _. ⌜ HoldsSet known-places (now (v .exit)) (known-peers active passive requests) ⌝ }
 {
     let mut asked = [0u64; base_util::WORKING_WORDS];
     keys_into(requests, base_util::WORKING_PLACES, &mut asked);
@@ -273,7 +275,7 @@ pub fn data_known(m: &[u64], cap: usize, active: &[u64], passive: &[u64], reques
     requires { ⌜ ValidSet active-places (now active) ⌝ }
     requires { ⌜ ValidSet working-places (now passive) ⌝ }
     requires { ⌜ ValidNumbers working-places (now requests) ⌝ }
-    ensures { λ r. ⌜ r ≡ subset (keys (data-map-at cap (now (m .entry)))) (items-at active-places (now (active .entry)) ++ (items-at working-places (now (passive .entry)) ++ keys (numbers-at working-places (now (requests .entry))))) ⌝ }
+    ensures { λ r. ⌜ r ≡ subset (keys (data-map-at cap (now (m .entry)))) (known-peers active passive requests) ⌝ }
 {
     let half = cap + cap;
     let end = half + half;
@@ -288,7 +290,7 @@ pub fn data_known(m: &[u64], cap: usize, active: &[u64], passive: &[u64], reques
 pub fn retain_data(m: &mut [u64], cap: usize, s: &[u64], scap: usize)
     requires { ⌜ ValidDataWords cap (now m) ⌝ }
     requires { ⌜ ValidSet scap (now s) ⌝ }
-    ensures { λ _. ⌜ HoldsDataWords cap (now (m .exit)) (retain (items-at scap (now (s .entry))) (data-map-at cap (now (m .entry)))) ⌝ }
+    ensures { λ _. ⌜ ChangesData cap (retain (items-at scap (now (s .entry)))) m ⌝ }
 {
     let mut n = count_data(m, cap);
     let mut i: usize = 0;
@@ -308,7 +310,7 @@ pub fn insert_data(m: &mut [u64], cap: usize, p: PeerId, d: PeerData)
     requires { ⌜ ValidDataWords cap (now m) ⌝ }
     requires { ⌜ ValidData d ⌝ }
     requires { ⌜ (has p (data-map-at cap (now m)) || ltb (length (data-map-at cap (now m))) cap) ≡ true ⌝ }
-    ensures { λ _. ⌜ HoldsDataWords cap (now (m .exit)) (put p (bytes-of (data-in d)) (data-map-at cap (now (m .entry)))) ⌝ }
+    ensures { λ _. ⌜ ChangesData cap (put p (bytes-of (data-in d))) m ⌝ }
 {
     let half = cap + cap;
     let end = half + half;

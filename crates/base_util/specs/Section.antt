@@ -8,6 +8,7 @@ use lib.ListN.{length, take, drop, getD}
 use lib.Dec.{leb}
 use Rattle.base_lists.specs.Array.{pad}
 use Rattle.base_lists.specs.Tests.{packed}
+use Rattle.base_lists.specs.Lent.{Lent}
 use Rattle.base_scan.specs.Words.{unused}
 
 -- the places of a working set, and of the largest set
@@ -50,3 +51,17 @@ valid-set n s = leb (getD s n 0) n && packed unused n (getD s n 0) (part 0 n s)
 -- the words of the set of xs
 unfoldable pub section : ℕ → List ℕ → List ℕ
 section n xs = pad 0 n xs ++ (length xs ∷ [])
+
+-- ---- as a contract says it, of the parameters themselves
+
+-- the first n places of a column become f of their words, and zeroes follow
+abbrev pub ChangesColumn : ℕ → (List ℕ → List ℕ) → Lent → Type 0
+ChangesColumn n f s = s .exit .now ≡ pad 0 (length (s .entry .now)) (f (take n (s .entry .now)))
+
+-- the set becomes f of its items
+abbrev pub ChangesSet : ℕ → (List ℕ → List ℕ) → Lent → Type 0
+ChangesSet n f s = HoldsSet n (s .exit .now) (f (items-at n (s .entry .now)))
+
+-- the working set becomes xs
+abbrev pub BecomesSet : Lent → List ℕ → Type 0
+BecomesSet t xs = HoldsSet working-places (t .exit .now) xs

@@ -10,6 +10,7 @@ ghost use Rattle.base_lists.specs.Tests.{every};
 ghost use Rattle.base_util.specs.Chances.{pick-draws, pick, shuffle, shuffle-draws};
 ghost use Rattle.base_scan.specs.Words.{unused};
 ghost use Rattle.base_util.specs.Section.{working-places, Filled, items-at, ValidSet, HoldsSet, valid-set};
+ghost use Rattle.base_util.specs.Section.{ChangesColumn, ChangesSet, BecomesSet};
 
 // How many places a working set has: as many as the largest set.
 pub const WORKING_PLACES: usize = 32;
@@ -62,7 +63,7 @@ pub fn rank_of(s: &[u64], n: usize, x: PeerId) -> usize
 pub fn take_out(s: &mut [u64], n: usize, i: usize)
     requires { ⌜ Filled (now s) n ⌝ }
     requires { ⌜ i < n ⌝ }
-    ensures { λ _. ⌜ now (s .exit) ≡ pad 0 (length (now (s .entry))) (shift-remove i (take n (now (s .entry)))) ⌝ }
+    ensures { λ _. ⌜ ChangesColumn n (shift-remove i) s ⌝ }
 {
     let last = n - 1;
     let mut k = i;
@@ -79,7 +80,7 @@ pub fn put_in(s: &mut [u64], n: usize, i: usize, x: u64)
     requires { ⌜ Filled (now s) n ⌝ }
     requires { ⌜ n < length (now s) ⌝ }
     requires { ⌜ i ≤ n ⌝ }
-    ensures { λ _. ⌜ now (s .exit) ≡ pad 0 (length (now (s .entry))) (insert-at i x (take n (now (s .entry)))) ⌝ }
+    ensures { λ _. ⌜ ChangesColumn n (insert-at i x) s ⌝ }
 {
     let mut carried = x;
     let mut k = i;
@@ -136,7 +137,7 @@ pub fn clear_from(s: &mut [u64], k: usize)
 // The items that are not in `skip`, in order; the answer is how many there are.
 pub fn without_all_in(s: &mut [u64], n: usize, skip: &[PeerId]) -> usize
     requires { ⌜ Filled (now s) n ⌝ }
-    ensures { λ r. ⌜ now (s .exit) ≡ pad 0 (length (now (s .entry))) (without-all (now (skip .entry)) (take n (now (s .entry)))) ⌝ }
+    ensures { λ r. ⌜ ChangesColumn n (without-all (now (skip .entry))) s ⌝ }
     ensures { λ r. ⌜ (r ≡ length (without-all (now (skip .entry)) (take n (now (s .entry))))) × (r ≤ n) ⌝ }
 {
     let mut m: usize = 0;
@@ -188,7 +189,7 @@ pub fn copy_column(s: &[u64], n: usize, t: &mut [u64])
     requires { ⌜ Filled (now s) n ⌝ }
     requires { ⌜ length (now s) ≤ working-places ⌝ }
     requires { ⌜ length (now t) ≡ working-places + 1 ⌝ }
-    ensures { λ _. ⌜ HoldsSet working-places (now (t .exit)) (take n (now (s .entry))) ⌝ }
+    ensures { λ _. ⌜ BecomesSet t (take n (now (s .entry))) ⌝ }
 {
     let mut i: usize = 0;
     while i < s.len() {
@@ -299,7 +300,7 @@ pub fn clear(s: &mut [u64], cap: usize)
 pub fn push(s: &mut [u64], cap: usize, x: PeerId)
     requires { ⌜ ValidSet cap (now s) ⌝ }
     requires { ⌜ length (items-at cap (now s)) < cap ⌝ }
-    ensures { λ _. ⌜ HoldsSet cap (now (s .exit)) (items-at cap (now (s .entry)) ++ (x ∷ [])) ⌝ }
+    ensures { λ _. ⌜ ChangesSet cap (λ l. l ++ (x ∷ [])) s ⌝ }
 {
     let n = s[cap] as usize;
     s[n] = x;
@@ -310,7 +311,7 @@ pub fn push(s: &mut [u64], cap: usize, x: PeerId)
 pub fn remove_index(s: &mut [u64], cap: usize, i: usize)
     requires { ⌜ ValidSet cap (now s) ⌝ }
     requires { ⌜ i < length (items-at cap (now s)) ⌝ }
-    ensures { λ _. ⌜ HoldsSet cap (now (s .exit)) (swap-remove i (items-at cap (now (s .entry)))) ⌝ }
+    ensures { λ _. ⌜ ChangesSet cap (swap-remove i) s ⌝ }
 {
     let last = s[cap] as usize - 1;
     let y = s[last];
@@ -322,7 +323,7 @@ pub fn remove_index(s: &mut [u64], cap: usize, i: usize)
 // Without x: the last item moves into the gap.
 pub fn remove(s: &mut [u64], cap: usize, x: PeerId)
     requires { ⌜ ValidSet cap (now s) ⌝ }
-    ensures { λ _. ⌜ HoldsSet cap (now (s .exit)) (remove x (items-at cap (now (s .entry)))) ⌝ }
+    ensures { λ _. ⌜ ChangesSet cap (remove x) s ⌝ }
 {
     let n = s[cap] as usize;
     let i = find(s, n, x);
@@ -335,7 +336,7 @@ pub fn remove(s: &mut [u64], cap: usize, x: PeerId)
 pub fn shift_remove_index(s: &mut [u64], cap: usize, i: usize)
     requires { ⌜ ValidSet cap (now s) ⌝ }
     requires { ⌜ i < length (items-at cap (now s)) ⌝ }
-    ensures { λ _. ⌜ HoldsSet cap (now (s .exit)) (shift-remove i (items-at cap (now (s .entry)))) ⌝ }
+    ensures { λ _. ⌜ ChangesSet cap (shift-remove i) s ⌝ }
 {
     let n = s[cap] as usize;
     take_out(&mut s[..cap], n, i);
@@ -346,7 +347,7 @@ pub fn shift_remove_index(s: &mut [u64], cap: usize, i: usize)
 pub fn insert_sorted(s: &mut [u64], cap: usize, x: PeerId)
     requires { ⌜ ValidSet cap (now s) ⌝ }
     requires { ⌜ length (insert x (items-at cap (now s))) ≤ cap ⌝ }
-    ensures { λ _. ⌜ HoldsSet cap (now (s .exit)) (insert x (items-at cap (now (s .entry)))) ⌝ }
+    ensures { λ _. ⌜ ChangesSet cap (insert x) s ⌝ }
 {
     let n = s[cap] as usize;
     let i = find(s, n, x);
@@ -361,7 +362,7 @@ pub fn insert_sorted(s: &mut [u64], cap: usize, x: PeerId)
 // The items that are not x, in order.
 pub fn without(s: &mut [u64], cap: usize, x: PeerId)
     requires { ⌜ ValidSet cap (now s) ⌝ }
-    ensures { λ _. ⌜ HoldsSet cap (now (s .exit)) (without x (items-at cap (now (s .entry)))) ⌝ }
+    ensures { λ _. ⌜ ChangesSet cap (without x) s ⌝ }
 {
     let mut n = s[cap] as usize;
     let mut i = find(s, n, x);
@@ -376,7 +377,7 @@ pub fn without(s: &mut [u64], cap: usize, x: PeerId)
 pub fn renew(s: &mut [u64], cap: usize, most: usize, x: PeerId)
     requires { ⌜ ValidSet cap (now s) ⌝ }
     requires { ⌜ (1 ≤ most) × (most ≤ cap) ⌝ }
-    ensures { λ _. ⌜ HoldsSet cap (now (s .exit)) (renew most x (items-at cap (now (s .entry)))) ⌝ }
+    ensures { λ _. ⌜ ChangesSet cap (renew most x) s ⌝ }
 {
     without(s, cap, x);
     let n = s[cap] as usize;
@@ -390,7 +391,7 @@ pub fn renew(s: &mut [u64], cap: usize, most: usize, x: PeerId)
 pub fn without_all(s: &mut [u64], cap: usize, skip: &[u64], scap: usize)
     requires { ⌜ ValidSet cap (now s) ⌝ }
     requires { ⌜ ValidSet scap (now skip) ⌝ }
-    ensures { λ _. ⌜ HoldsSet cap (now (s .exit)) (without-all (items-at scap (now (skip .entry))) (items-at cap (now (s .entry)))) ⌝ }
+    ensures { λ _. ⌜ ChangesSet cap (without-all (items-at scap (now (skip .entry)))) s ⌝ }
 {
     let n = s[cap] as usize;
     let k = skip[scap] as usize;
@@ -403,7 +404,7 @@ pub fn shuffle(s: &mut [u64], cap: usize, draws: &[u32], at: usize) -> usize
     requires { ⌜ ValidSet cap (now s) ⌝ }
     requires { ⌜ cap ≤ working-places ⌝ }
     requires { ⌜ at ≤ length (now draws) ⌝ }
-    ensures { λ _. ⌜ HoldsSet cap (now (s .exit)) (shuffle (drop at (now (draws .entry))) (items-at cap (now (s .entry)))) ⌝ }
+    ensures { λ _. ⌜ ChangesSet cap (shuffle (drop at (now (draws .entry)))) s ⌝ }
     ensures { λ r. ⌜ r ≡ at + shuffle-draws (drop at (now (draws .entry))) (items-at cap (now (s .entry))) ⌝ }
 {
     let n = s[cap] as usize;
@@ -431,7 +432,7 @@ pub fn copy_into(s: &[u64], cap: usize, t: &mut [u64])
     requires { ⌜ ValidSet cap (now s) ⌝ }
     requires { ⌜ cap ≤ working-places ⌝ }
     requires { ⌜ length (now t) ≡ working-places + 1 ⌝ }
-    ensures { λ _. ⌜ HoldsSet working-places (now (t .exit)) (items-at cap (now (s .entry))) ⌝ }
+    ensures { λ _. ⌜ BecomesSet t (items-at cap (now (s .entry))) ⌝ }
 {
     let n = s[cap] as usize;
     copy_column(&s[..cap], n, t);
@@ -442,7 +443,7 @@ pub fn append(s: &mut [u64], cap: usize, more: &[u64], mcap: usize)
     requires { ⌜ ValidSet cap (now s) ⌝ }
     requires { ⌜ ValidSet mcap (now more) ⌝ }
     requires { ⌜ length (items-at cap (now s)) + length (items-at mcap (now more)) ≤ cap ⌝ }
-    ensures { λ _. ⌜ HoldsSet cap (now (s .exit)) (items-at cap (now (s .entry)) ++ items-at mcap (now (more .entry))) ⌝ }
+    ensures { λ _. ⌜ ChangesSet cap (λ l. l ++ items-at mcap (now (more .entry))) s ⌝ }
 {
     let n = s[cap] as usize;
     let m = more[mcap] as usize;

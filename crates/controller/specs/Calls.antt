@@ -1,16 +1,23 @@
 -- What the calls that change a station leave in the words and the tally that they are lent.
 -- Assumes nothing.
 use Prim.Native.Nat.{ℕ}
+use mathlib.Core.Path.{_≡_}
+use mathlib.Core.Bool.{not}
 use mathlib.Core.List.{List}
+use lib.ListN.{length}
 use lib.Dec.{eqb}
+use denote.Ref.{RefT}
+use denote.Triple.Both.{Both}
 use Rattle.base_lists.specs.Lists.{choose}
+use Rattle.base_lists.specs.Lent.{Lent}
 use Rattle.base_timing.specs.declared.Config.{Config}
 use Rattle.base_peer.specs.Data.{Data}
 use Rattle.tally.specs.declared.Tally.{Tally}
 use Rattle.tally.specs.Counts.{raised}
 use Rattle.tally.specs.History.{no-messages}
-use Rattle.hyparview.specs.Made.{MadeWords, made}
+use Rattle.hyparview.specs.Made.{lent, MadeWords, made}
 use Rattle.hyparview.specs.Handled.{Outcome, handled}
+use Rattle.hyparview.specs.declared.Done.{Done}
 
 -- the header that the library goes with
 abbrev pub version : ℕ
@@ -45,3 +52,21 @@ tallied t o = record { code = o .code; draws = o .draws; words = o .words; tally
 -- `hyparview_handle` at the words xs and the tally t, with as many bytes of output; that a refusal leaves both as they were is `refused-same`
 unfoldable pub called : List ℕ → Tally → List ℕ → List ℕ → ℕ → Called
 called xs t b ds room = tallied t (handled xs b ds room)
+
+-- ---- as a contract says it, of the parameters themselves
+
+-- the code, the words and the tally `after` are as `begun` says, where the tally was `before`
+abbrev pub CallsNew : ℕ → Tally → Lent → Tally → ℕ → ℕ → Lent → Config → Type 0
+CallsNew code after st before me present own c =
+    record { code = code; words = st .exit .now; tally = after }
+    ≡ begun (st .entry .now) before me (lent (not (eqb present 0)) (own .entry .now)) c
+
+-- a tally that is lent
+abbrev pub LentTally : Type 0
+LentTally = Both (RefT Tally) (RefT Tally)
+
+-- all that the call leaves is as `called` says
+abbrev pub CallsHandle : Done → Lent → LentTally → Lent → Lent → Lent → Type 0
+CallsHandle r st t event ds out =
+    record { code = r .code; draws = r .draws; words = st .exit .now; tally = t .exit .now; output = out .exit .now }
+    ≡ called (st .entry .now) (t .entry .now) (event .entry .now) (ds .entry .now) (length (out .entry .now))

@@ -7,13 +7,10 @@ use record::Header;
 use record::Refusal;
 use tally::Tally;
 ghost use mathlib.Core.Path.{_≡_};
-ghost use mathlib.Core.Bool.{not};
 ghost use lib.ListN.{length, getD};
-ghost use lib.Dec.{eqb};
 ghost use Rattle.tally.specs.History.{no-messages};
-ghost use Rattle.hyparview.specs.Made.{lent};
 ghost use Rattle.hyparview.specs.Queries.{wants-connection-in, is-neighbor-in, neighbors-in, spare-addresses-in};
-ghost use Rattle.controller.specs.Calls.{version, begun, called};
+ghost use Rattle.controller.specs.Calls.{version, CallsNew, CallsHandle};
 ghost use Rattle.controller.specs.Reader.{no-header, reading, no-entry, node-reading};
 
 // The code of `new`, and the tally after it.
@@ -56,7 +53,7 @@ pub extern "C" fn hyparview_handle(
     draws: &[u32],
     out: &mut [u8],
 ) -> Done
-    ensures { λ r. ⌜ record { code = r .code; draws = r .draws; words = now (st .exit); tally = now (t .exit); output = now (out .exit) } ≡ called (now (st .entry)) (now (t .entry)) (now (event .entry)) (now (draws .entry)) (length (now (out .entry))) ⌝ }
+    ensures { λ r. ⌜ CallsHandle r st t event draws out ⌝ }
 {
     let r = hyparview::handle(st, event, draws, out);
     tally::raise(t, r.code, out);
@@ -78,7 +75,7 @@ fn no_messages() -> Tally
 
 // A new station in the lent words, its tally by value; own data is absent where `present` is 0.
 fn begun(st: &mut [u64], t: Tally, me: PeerId, present: u8, own: &[u8], config: Config) -> Start
-    ensures { λ r. ⌜ record { code = r .code; words = now (st .exit); tally = r .tally } ≡ begun (now (st .entry)) t me (lent (not (eqb present 0)) (now (own .entry))) config ⌝ }
+    ensures { λ r. ⌜ CallsNew (r .code) (r .tally) st t me present own config ⌝ }
 {
     let code = hyparview::new(st, me, present != 0, own, config);
     if code == Refusal::STATE {
@@ -103,7 +100,7 @@ pub extern "C" fn hyparview_new(
     own: &[u8],
     config: Config,
 ) -> u32
-    ensures { λ r. ⌜ record { code = r; words = now (st .exit); tally = now (t .exit) } ≡ begun (now (st .entry)) (now (t .entry)) me (lent (not (eqb present 0)) (now (own .entry))) config ⌝ }
+    ensures { λ r. ⌜ CallsNew r (now (t .exit)) st (now (t .entry)) me present own config ⌝ }
 {
     let r = begun(st, *t, me, present, own, config);
     *t = r.tally;

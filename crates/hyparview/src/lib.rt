@@ -11,10 +11,9 @@ use work::Work;
 ghost use mathlib.Core.Path.{_≡_};
 ghost use Prim.Native.Nat.{_≤_};
 ghost use lib.ListN.{length, getD};
-ghost use Rattle.spec_hyparview.specs.Handle.{new, new-station};
-ghost use Rattle.hyparview_state.specs.Layout.{words};
-ghost use Rattle.hyparview.specs.Made.{lent, pack-made, made};
-ghost use Rattle.hyparview.specs.Handled.{cleared, refused-words, handled};
+ghost use Rattle.spec_hyparview.specs.Handle.{new-station};
+ghost use Rattle.hyparview.specs.Made.{Starts, StartsState};
+ghost use Rattle.hyparview.specs.Handled.{cleared, Refuses, Handles, HandlesState};
 ghost use Rattle.base_peer.specs.Held.{data-in, ValidData};
 ghost use Rattle.hyparview_rules.specs.Pack.{front};
 ghost use Rattle.hyparview.specs.Queries.{wants-connection-in, is-neighbor-in, neighbors-in, spare-addresses-in};
@@ -66,7 +65,7 @@ fn first_numbers(me: PeerId, own: PeerData, config: Config) -> [u64; Layout::NUM
 // State::new: self, own data lent as bytes or absent, and the settings. Code 1, and zeroes, where a setting is out of range or own data is
 // over 16 bytes; code 2, and nothing touched, where the words are too few or too many.
 pub fn new(st: &mut [u64], me: PeerId, present: bool, own: &[u8], config: Config) -> u32
-    ensures { λ r. ⌜ record { code = r; words = now (st .exit) } ≡ made (now (st .entry)) me (lent present (now (own .entry))) config ⌝ }
+    ensures { λ r. ⌜ Starts r st me present own config ⌝ }
 {
     if st.len() != Layout::LENGTH {
         return Refusal::STATE;
@@ -199,7 +198,7 @@ fn copy_words(a: &[u64], b: &mut [u64])
 
 // Zeroes only, and no draw; the words stay as they are.
 fn refuse(st: &[u64], out: &mut [u8], code: u32) -> Done
-    ensures { λ r. ⌜ record { code = r .code; draws = r .draws; words = now (st .entry); output = now (out .exit) } ≡ refused-words code (now (st .entry)) (length (now (out .entry))) ⌝ }
+    ensures { λ r. ⌜ Refuses code r st out ⌝ }
 {
     clear_output(out, 0);
     Done {
@@ -210,7 +209,7 @@ fn refuse(st: &[u64], out: &mut [u8], code: u32) -> Done
 
 // One event: the whole result, or one numbered refusal that leaves every word as it was.
 pub fn handle(st: &mut [u64], b: &[u8], draws: &[u32], out: &mut [u8]) -> Done
-    ensures { λ r. ⌜ record { code = r .code; draws = r .draws; words = now (st .exit); output = now (out .exit) } ≡ handled (now (st .entry)) (now (b .entry)) (now (draws .entry)) (length (now (out .entry))) ⌝ }
+    ensures { λ r. ⌜ Handles r st b draws out ⌝ }
 {
     if !hyparview_rules::is_ok(st) {
         return refuse(st, out, Refusal::STATE);
@@ -264,7 +263,7 @@ pub struct MadeState {
 impl State {
     // The state of a station that has met no event.
     pub fn new(me: PeerId, present: bool, own: &[u8], config: Config) -> MadeState
-        ensures { λ r. ⌜ record { code = r .code; words = r .state .words } ≡ pack-made (new me (lent present (now (own .entry))) config) ⌝ }
+        ensures { λ r. ⌜ StartsState r me present own config ⌝ }
     {
         let mut words = [0u64; Layout::LENGTH];
         let code = new(&mut words, me, present, own, config);
@@ -277,7 +276,7 @@ impl State {
 
     // The form that 01 names: `handle` takes self by value.
     pub fn handle(self, b: &[u8], draws: &[u32], out: &mut [u8]) -> HandledState
-        ensures { λ r. ⌜ record { code = r .code; draws = r .draws; words = r .state .words; output = now (out .exit) } ≡ handled (self .words) (now (b .entry)) (now (draws .entry)) (length (now (out .entry))) ⌝ }
+        ensures { λ r. ⌜ HandlesState r self b draws out ⌝ }
     {
         let mut words = self.words;
         let d = handle(&mut words, b, draws, out);

@@ -1,6 +1,7 @@
 -- Document 02, S-8: a record of one form as a record of the other. v is the bytes of a peer where it is read, w where it is written.
 -- Assumes nothing.
 use Prim.Native.Nat.{ℕ, _^_}
+use mathlib.Core.Path.{_≡_}
 use mathlib.Core.Bool.{Bool, false, not, _&&_, _||_}
 use mathlib.Core.List.{List, [], _∷_, _++_}
 use lib.ListN.{length, getD, take}
@@ -8,10 +9,11 @@ use lib.Dec.{leb, ltb, eqb}
 use Rattle.base_lists.specs.Lists.{choose}
 use Rattle.base_lists.specs.Array.{pad}
 use Rattle.base_lists.specs.Bytes.{le, overwrite}
+use Rattle.base_lists.specs.Lent.{Lent}
 use Rattle.base_lists.specs.Tests.{every}
 use Rattle.base_peer.specs.Data.{Node}
-use Rattle.record.specs.Format.{Rec, most-nodes, header-length-by, size-by, encode-by, four-bytes-end}
-use Rattle.record.specs.Read.{well-formed-by, rec-of-by}
+use Rattle.record.specs.Format.{Rec, most-nodes, header-length-by, place-by, entries-by, size-by, encode-by, four-bytes-end}
+use Rattle.record.specs.Read.{well-formed-by, nodes-of-by, rec-of-by}
 use Rattle.record.specs.declared.Header.{Header}
 use Rattle.record.specs.declared.Entry.{Entry}
 use Rattle.record_convert.specs.declared.Converted.{Converted}
@@ -63,6 +65,10 @@ placed v w b out = record {
 abbrev pub outcome-of : Converted → List ℕ → Conversion
 outcome-of r out = record { code = r .code; written = r .written; output = out }
 
+-- r and the output are the conversion of b, as a contract says it of the parameters
+abbrev pub Converts : ℕ → ℕ → Converted → Lent → Lent → Type 0
+Converts v w r b out = outcome-of r (out .exit .now) ≡ conversion v w (b .entry .now) (length (out .entry .now))
+
 -- the bytes that an outcome says were written
 unfoldable pub bytes-in : Conversion → List ℕ
 bytes-in o = take (o .written) (o .output)
@@ -85,6 +91,10 @@ header-fields w h = h .kind ∷ h .message ∷ h .flags ∷ h .nodes ∷ (le w (
 
 unfoldable pub entry-fields : ℕ → Entry → List ℕ
 entry-fields w e = le w (e .id) ++ (le 2 (e .offset) ++ (e .len ∷ e .present ∷ []))
+
+-- the entries of the n nodes of b, in the other form
+abbrev pub entries-of-by : ℕ → ℕ → ℕ → Lent → List ℕ
+entries-of-by v w n b = entries-by w (nodes-of-by v (b .entry .now) 0 n) (place-by w n)
 
 -- an entry whose data stand at the place reached, if it has any
 unfoldable pub moved-entry : Entry → ℕ → Entry

@@ -1,11 +1,13 @@
 -- Document 02, S-8, over a whole file: nothing but records, without gaps, up to its end.
 -- Assumes nothing.
 use Prim.Native.Nat.{ℕ, zero, suc, _+_, _-_}
+use mathlib.Core.Path.{_≡_}
 use mathlib.Core.List.{List, [], _++_}
 use lib.ListN.{length, take, drop}
 use lib.Dec.{ltb, eqb}
 use Rattle.base_lists.specs.Lists.{choose, null}
 use Rattle.base_lists.specs.Array.{pad}
+use Rattle.base_lists.specs.Lent.{Lent}
 use Rattle.record.specs.Format.{header-length-by}
 use Rattle.record.specs.Read.{header-of-by}
 use Rattle.record_convert.specs.Convert.{conversion-code, converted}
@@ -54,3 +56,7 @@ outcomes x room = record {
 
 abbrev pub outcomes-of : Progress → List ℕ → Outcomes
 outcomes-of r out = record { progress = r; output = out }
+
+-- r and the output are those of the records walked, as a contract says it of the parameters
+abbrev pub Walks : (List ℕ → ℕ → Walked) → Progress → Lent → Lent → Type 0
+Walks walk r b out = outcomes-of r (out .exit .now) ≡ outcomes (walk (b .entry .now) (length (out .entry .now))) (length (out .entry .now))

@@ -13,11 +13,13 @@ ghost use Prim.Native.Nat.{_+_, _-_, _^_, _≤_, _<_};
 ghost use lib.ListN.{length, drop};
 ghost use lib.Dec.{ltb};
 ghost use Rattle.base_lists.specs.Array.{pad};
-ghost use Rattle.base_lists.specs.Bytes.{overwrite};
-ghost use Rattle.record.specs.Format.{IsForm, old-peer-length, peer-length, header-length-by, node-length-by, place-by, entries-by, size-by, encode-by};
+ghost use Rattle.base_lists.specs.Lent.{Overwrites};
+ghost use Rattle.record.specs.Format.{IsForm, old-peer-length, peer-length, header-length-by, node-length-by};
+ghost use Rattle.record.specs.Format.{place-by, size-by, encode-by};
 ghost use Rattle.record.specs.Read.{header-of-by, well-formed-by, nodes-of-by, rec-of-by};
-ghost use Rattle.record_convert.specs.Convert.{ids-fit, conversion-code, conversion, placed, outcome-of, tail-bytes, header-fields, entry-fields, moved-entry, resized};
-ghost use Rattle.record_convert.specs.Walk.{first-record, walked, outcomes, outcomes-of};
+ghost use Rattle.record_convert.specs.Convert.{ids-fit, conversion-code, placed, outcome-of, Converts};
+ghost use Rattle.record_convert.specs.Convert.{tail-bytes, header-fields, entry-fields, entries-of-by, moved-entry, resized};
+ghost use Rattle.record_convert.specs.Walk.{first-record, walked, Walks};
 
 // The answer, 0 or a refusal's code, and how many bytes of the output were written.
 pub struct Converted {
@@ -45,7 +47,7 @@ fn clear_bytes(out: &mut [u8])
 // The header's fields behind its peers: they are as long in both forms.
 fn put_tail(out: &mut [u8], at: usize, h: Header)
     requires { ⌜ at + 12 ≤ length (now out) ⌝ }
-    ensures { λ _. ⌜ now (out .exit) ≡ overwrite (now (out .entry)) at (tail-bytes h) ⌝ }
+    ensures { λ _. ⌜ Overwrites out at (tail-bytes h) ⌝ }
 {
     record_writer::put_number(out, at, h.ttl as u64, SHORT);
     record_writer::put_number(out, at + SHORT, h.size as u64, SHORT);
@@ -56,7 +58,7 @@ fn put_tail(out: &mut [u8], at: usize, h: Header)
 fn write_header(out: &mut [u8], h: Header, w: usize)
     requires { ⌜ IsForm w ⌝ }
     requires { ⌜ header-length-by w ≤ length (now out) ⌝ }
-    ensures { λ _. ⌜ now (out .exit) ≡ overwrite (now (out .entry)) 0 (header-fields w h) ⌝ }
+    ensures { λ _. ⌜ Overwrites out 0 (header-fields w h) ⌝ }
 {
     let first = [h.kind, h.message, h.flags, h.nodes];
     record_writer::write_bytes(out, 0, &first);
@@ -69,7 +71,7 @@ fn write_header(out: &mut [u8], h: Header, w: usize)
 fn put_entry(out: &mut [u8], at: usize, e: Entry, w: usize)
     requires { ⌜ IsForm w ⌝ }
     requires { ⌜ at + node-length-by w ≤ length (now out) ⌝ }
-    ensures { λ _. ⌜ now (out .exit) ≡ overwrite (now (out .entry)) at (entry-fields w e) ⌝ }
+    ensures { λ _. ⌜ Overwrites out at (entry-fields w e) ⌝ }
 {
     record_writer::put_number(out, at, e.id, w);
     record_writer::put_number(out, at + w, e.offset as u64, SHORT);
@@ -98,7 +100,7 @@ fn write_entries(out: &mut [u8], b: &[u8], n: usize, v: usize, w: usize)
     requires { ⌜ well-formed-by v (now b) ≡ true ⌝ }
     requires { ⌜ n ≡ header-of-by v (now b) .nodes ⌝ }
     requires { ⌜ place-by w n ≤ length (now out) ⌝ }
-    ensures { λ _. ⌜ now (out .exit) ≡ overwrite (now (out .entry)) (header-length-by w) (entries-by w (nodes-of-by v (now (b .entry)) 0 n) (place-by w n)) ⌝ }
+    ensures { λ _. ⌜ Overwrites out (header-length-by w) (entries-of-by v w n b) ⌝ }
 {
     let mut reached = record::place(n, w);
     let mut i: usize = 0;
@@ -117,7 +119,7 @@ fn write_data(out: &mut [u8], b: &[u8], n: usize, v: usize, w: usize)
     requires { ⌜ n ≤ 255 ⌝ }
     requires { ⌜ place-by v n ≤ length (now b) ⌝ }
     requires { ⌜ place-by w n + (length (now b) - place-by v n) ≤ length (now out) ⌝ }
-    ensures { λ _. ⌜ now (out .exit) ≡ overwrite (now (out .entry)) (place-by w n) (drop (place-by v n) (now (b .entry))) ⌝ }
+    ensures { λ _. ⌜ Overwrites out (place-by w n) (drop (place-by v n) (now (b .entry))) ⌝ }
 {
     let data = record::place(n, v);
     record_writer::write_bytes(out, record::place(n, w), &b[data..]);
@@ -172,7 +174,7 @@ fn write_form(out: &mut [u8], b: &[u8], h: Header, v: usize, w: usize)
     requires { ⌜ well-formed-by v (now b) ≡ true ⌝ }
     requires { ⌜ h ≡ resized (header-of-by v (now b)) (size-by w (rec-of-by v (now b))) ⌝ }
     requires { ⌜ h .size ≤ length (now out) ⌝ }
-    ensures { λ _. ⌜ now (out .exit) ≡ overwrite (now (out .entry)) 0 (encode-by w (rec-of-by v (now (b .entry)))) ⌝ }
+    ensures { λ _. ⌜ Overwrites out 0 (encode-by w (rec-of-by v (now (b .entry)))) ⌝ }
 {
     let n = h.nodes as usize;
     write_header(out, h, w);
@@ -272,7 +274,7 @@ fn place_record(b: &[u8], out: &mut [u8], v: usize, w: usize) -> Converted
 fn convert(b: &[u8], out: &mut [u8], v: usize, w: usize) -> Converted
     requires { ⌜ IsForm v ⌝ }
     requires { ⌜ IsForm w ⌝ }
-    ensures { λ r. ⌜ outcome-of r (now (out .exit)) ≡ conversion v w (now (b .entry)) (length (now (out .entry))) ⌝ }
+    ensures { λ r. ⌜ Converts v w r b out ⌝ }
 {
     clear_bytes(out);
     place_record(b, out, v, w)
@@ -280,14 +282,14 @@ fn convert(b: &[u8], out: &mut [u8], v: usize, w: usize) -> Converted
 
 // A record of the old form in this one.
 pub fn old_to_new(b: &[u8], out: &mut [u8]) -> Converted
-    ensures { λ r. ⌜ outcome-of r (now (out .exit)) ≡ conversion old-peer-length peer-length (now (b .entry)) (length (now (out .entry))) ⌝ }
+    ensures { λ r. ⌜ Converts old-peer-length peer-length r b out ⌝ }
 {
     convert(b, out, record::OLD_PEER, record::PEER)
 }
 
 // A record of this form in the old one.
 pub fn new_to_old(b: &[u8], out: &mut [u8]) -> Converted
-    ensures { λ r. ⌜ outcome-of r (now (out .exit)) ≡ conversion peer-length old-peer-length (now (b .entry)) (length (now (out .entry))) ⌝ }
+    ensures { λ r. ⌜ Converts peer-length old-peer-length r b out ⌝ }
 {
     convert(b, out, record::PEER, record::OLD_PEER)
 }
@@ -313,7 +315,7 @@ fn first_length(b: &[u8], v: usize) -> usize
 fn convert_all(b: &[u8], out: &mut [u8], v: usize, w: usize) -> Progress
     requires { ⌜ IsForm v ⌝ }
     requires { ⌜ IsForm w ⌝ }
-    ensures { λ r. ⌜ outcomes-of r (now (out .exit)) ≡ outcomes (walked v w (now (b .entry)) (length (now (out .entry)))) (length (now (out .entry))) ⌝ }
+    ensures { λ r. ⌜ Walks (walked v w) r b out ⌝ }
     ensures { λ r. ⌜ (r .taken ≤ length (now (b .entry))) × (r .written ≤ length (now (out .entry))) ⌝ }
 {
     clear_bytes(out);
@@ -340,14 +342,14 @@ fn convert_all(b: &[u8], out: &mut [u8], v: usize, w: usize) -> Progress
 }
 
 pub fn all_to_new(b: &[u8], out: &mut [u8]) -> Progress
-    ensures { λ r. ⌜ outcomes-of r (now (out .exit)) ≡ outcomes (walked old-peer-length peer-length (now (b .entry)) (length (now (out .entry)))) (length (now (out .entry))) ⌝ }
+    ensures { λ r. ⌜ Walks (walked old-peer-length peer-length) r b out ⌝ }
     ensures { λ r. ⌜ (r .taken ≤ length (now (b .entry))) × (r .written ≤ length (now (out .entry))) ⌝ }
 {
     convert_all(b, out, record::OLD_PEER, record::PEER)
 }
 
 pub fn all_to_old(b: &[u8], out: &mut [u8]) -> Progress
-    ensures { λ r. ⌜ outcomes-of r (now (out .exit)) ≡ outcomes (walked peer-length old-peer-length (now (b .entry)) (length (now (out .entry)))) (length (now (out .entry))) ⌝ }
+    ensures { λ r. ⌜ Walks (walked peer-length old-peer-length) r b out ⌝ }
     ensures { λ r. ⌜ (r .taken ≤ length (now (b .entry))) × (r .written ≤ length (now (out .entry))) ⌝ }
 {
     convert_all(b, out, record::PEER, record::OLD_PEER)

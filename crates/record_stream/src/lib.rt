@@ -5,8 +5,8 @@ ghost use mathlib.Core.List.{_++_};
 ghost use Prim.Native.Nat.{_-_, _≤_};
 ghost use lib.ListN.{length, drop};
 ghost use lib.Seq.{slice};
-ghost use Rattle.record_convert.specs.Walk.{outcomes, outcomes-of};
-ghost use Rattle.record_stream.specs.Chunk.{chunk-bytes, walked-by};
+ghost use Rattle.record_convert.specs.Walk.{Walks};
+ghost use Rattle.record_stream.specs.Chunk.{chunk-bytes, walked-by, walked-in};
 
 // The bytes that are held at once, and the most that they become.
 const CHUNK: usize = 65536;
@@ -18,7 +18,7 @@ const TURNS: u64 = 1099511627776;
 
 // The records of b, by the way that they go.
 fn convert_by(b: &[u8], out: &mut [u8], back: bool) -> Progress
-    ensures { λ r. ⌜ outcomes-of r (now (out .exit)) ≡ outcomes (walked-by back (now (b .entry)) (length (now (out .entry)))) (length (now (out .entry))) ⌝ }
+    ensures { λ r. ⌜ Walks (walked-by back) r b out ⌝ }
     ensures { λ r. ⌜ (r .taken ≤ length (now (b .entry))) × (r .written ≤ length (now (out .entry))) ⌝ }
 {
     if back {
@@ -74,7 +74,7 @@ struct Passed {
 // The records of b to standard output, to the first that is refused or is cut off.
 fn pass(b: &[u8], out: &mut [u8], back: bool) -> Passed
     ensures { λ r. ⌜ r .taken ≤ length (now (b .entry)) ⌝ }
-    ensures { λ r. ⌜ (r .code ≡ walked-by back (now (b .entry)) (length (now (out .entry))) .code) × (r .taken ≡ walked-by back (now (b .entry)) (length (now (out .entry))) .taken) ⌝ }
+    ensures { λ r. ⌜ (r .code ≡ walked-in back b out .code) × (r .taken ≡ walked-in back b out .taken) ⌝ }
 {
     let p = convert_by(b, out, back);
     let size = p.written;

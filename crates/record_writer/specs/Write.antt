@@ -1,15 +1,17 @@
 -- What the writers do: a record's bytes from a place on, or nothing where they do not fit.
 -- Assumes nothing.
-use Prim.Native.Nat.{ℕ, _+_}
+use Prim.Native.Nat.{ℕ, _+_, _*_}
 use mathlib.Core.Path.{_≡_}
 use mathlib.Core.Bool.{Bool}
 use mathlib.Core.List.{List, _∷_, _++_}
-use lib.ListN.{length}
+use lib.ListN.{length, take}
 use lib.Dec.{leb}
 use Rattle.base_lists.specs.Lists.{choose}
 use Rattle.base_lists.specs.Bytes.{le, overwrite}
 use Rattle.base_peer.specs.Data.{Node}
-use Rattle.record.specs.Format.{Rec, peer-length, size, encode}
+use Rattle.base_peer.specs.Held.{node-in}
+use Rattle.base_peer.specs.declared.PeerInfo.{PeerInfo}
+use Rattle.record.specs.Format.{Rec, peer-length, header-length, node-length, entry, size, encode}
 use Rattle.record_writer.specs.declared.Fields.{Fields}
 use Rattle.record_writer.specs.declared.Written.{Written}
 use Rattle.record_writer.specs.declared.Written.the-variants.{At, Full}
@@ -32,6 +34,12 @@ unfoldable pub header-bytes : Fields → ℕ → ℕ → List ℕ
 header-bytes f n z =
     f .kind ∷ f .message ∷ f .flags ∷ n
     ∷ (le peer-length (f .peer) ++ (le peer-length (f .second) ++ (le 2 (f .ttl) ++ (le 2 z ++ le 8 (f .number)))))
+
+-- the bytes `out` with the i-th node of the record at place `at`: its entry, and its data at the place `reached` of the record
+abbrev pub node-put : ℕ → ℕ → PeerInfo → ℕ → List ℕ → List ℕ
+node-put at i p reached out =
+    overwrite (overwrite out (at + (header-length + node-length * i)) (entry (node-in p) reached)) (at + reached)
+    (take (p .data .len) (p .data .bytes))
 
 -- the record fits into n bytes from place `at` on
 unfoldable pub fits : Rec → ℕ → ℕ → Bool

@@ -11,12 +11,13 @@ use record::SHORT;
 ghost use mathlib.Core.Path.{_≡_};
 ghost use mathlib.Core.List.{[], _∷_, _++_};
 ghost use Prim.Native.Nat.{_+_, _*_, _≤_, _<_};
-ghost use lib.ListN.{length, take};
-ghost use Rattle.base_lists.specs.Bytes.{le, overwrite};
+ghost use lib.ListN.{length};
+ghost use Rattle.base_lists.specs.Bytes.{le};
+ghost use Rattle.base_lists.specs.Lent.{Overwrites};
 ghost use Rattle.base_peer.specs.Held.{node-in, ValidData};
-ghost use Rattle.record.specs.Format.{most-nodes, header-length, node-length, entry};
+ghost use Rattle.record.specs.Format.{most-nodes, header-length, node-length};
 ghost use Rattle.record_writer.specs.Nodes.{nodes-in, ValidNodes, HoldsNodes};
-ghost use Rattle.record_writer.specs.Write.{rec-in, Wrote, HeaderPut};
+ghost use Rattle.record_writer.specs.Write.{rec-in, node-put, Wrote, HeaderPut};
 
 // Where a header's numbers stand in it.
 const SECOND_FROM: usize = PEER_FROM + PEER;
@@ -90,7 +91,7 @@ impl Nodes {
 // The bytes bs, from place `at` on.
 pub fn write_bytes(out: &mut [u8], at: usize, bs: &[u8])
     requires { ⌜ at + length (now bs) ≤ length (now out) ⌝ }
-    ensures { λ _. ⌜ now (out .exit) ≡ overwrite (now (out .entry)) at (now (bs .entry)) ⌝ }
+    ensures { λ _. ⌜ Overwrites out at (now (bs .entry)) ⌝ }
 {
     let mut i: usize = 0;
     while i < bs.len() {
@@ -102,7 +103,7 @@ pub fn write_bytes(out: &mut [u8], at: usize, bs: &[u8])
 // x in k bytes, lowest first, from place `at` on.
 pub fn put_number(out: &mut [u8], at: usize, x: u64, k: usize)
     requires { ⌜ at + k ≤ length (now out) ⌝ }
-    ensures { λ _. ⌜ now (out .exit) ≡ overwrite (now (out .entry)) at (le k x) ⌝ }
+    ensures { λ _. ⌜ Overwrites out at (le k x) ⌝ }
 {
     let mut rest = x;
     let mut i: usize = 0;
@@ -119,7 +120,7 @@ fn put_node(out: &mut [u8], at: usize, i: usize, p: PeerInfo, reached: usize)
     requires { ⌜ i < most-nodes ⌝ }
     requires { ⌜ at + (header-length + node-length * i + node-length) ≤ length (now out) ⌝ }
     requires { ⌜ at + reached + p .data .len ≤ length (now out) ⌝ }
-    ensures { λ _. ⌜ now (out .exit) ≡ overwrite (overwrite (now (out .entry)) (at + (header-length + node-length * i)) (entry (node-in p) reached)) (at + reached) (take (p .data .len) (p .data .bytes)) ⌝ }
+    ensures { λ _. ⌜ now (out .exit) ≡ node-put at i p reached (now (out .entry)) ⌝ }
 {
     let place = at + (HEADER + NODE * i);
     let d = p.data;

@@ -12,7 +12,7 @@ ghost use Rattle.io.specs.Counts.{Counts};
 ghost use Rattle.base_lists.specs.Bytes.{overwrite};
 ghost use Rattle.run_input.specs.Input.{numbers};
 ghost use Rattle.run_input.specs.Input.{Laid};
-ghost use Rattle.run_text.specs.Text.{Puts};
+ghost use Rattle.run_text.specs.Text.{Prints};
 ghost use Rattle.run_text.specs.Lines.{end-line};
 ghost use Rattle.run_listing.specs.Run.{laid-text, run-text};
 ghost use Rattle.run_listing.specs.Place.{end-line-space, record-line-space, Fronts, Lines, fitting};
@@ -54,7 +54,7 @@ fn put_walk(
     requires { ⌜ Laid (now b) head ⌝ }
     requires { ⌜ Counts (head .draws) (now drawn) ⌝ }
     requires { ⌜ now drawn ≡ numbers (length (now drawn)) 0 (drop (head .«draws_at») (now b)) ⌝ }
-    ensures { λ r. ⌜ Puts (laid-text (length (now (records .entry))) (s .words) head (now (b .entry))) t (now (out .entry)) r (now (out .exit)) ⌝ }
+    ensures { λ r. ⌜ Prints (laid-text (length (now (records .entry))) (s .words) head (now (b .entry))) t r out ⌝ }
 {
     let at = head.draws_at;
     let n = head.draws;
@@ -144,7 +144,7 @@ pub fn begin(head: Head) -> Runner
 
 // All that is printed for an input.
 fn put_run(b: &[u8], out: &mut [u8], t: Text) -> Text
-    ensures { λ r. ⌜ Puts (run-text (now (b .entry))) t (now (out .entry)) r (now (out .exit)) ⌝ }
+    ensures { λ r. ⌜ Prints (run-text (now (b .entry))) t r out ⌝ }
 {
     let o = open(b);
     match o {

@@ -5,11 +5,11 @@ ghost use mathlib.Core.Path.{_≡_};
 ghost use Prim.Native.Nat.{_≤_, min};
 ghost use lib.ListN.{length};
 ghost use Rattle.base_lists.specs.Bytes.{overwrite};
-ghost use Rattle.run_text.specs.Text.{Puts};
+ghost use Rattle.run_text.specs.Text.{Prints};
 ghost use Rattle.run_stories.specs.Lines.{ends-line, ends-text};
 
 fn put_line(out: &mut [u8], t: Text, active: u64, passive: u64, n: u32) -> Text
-    ensures { λ r. ⌜ Puts (ends-line active passive n) t (now (out .entry)) r (now (out .exit)) ⌝ }
+    ensures { λ r. ⌜ Prints (ends-line active passive n) t r out ⌝ }
 {
     let a = run_text::put_field(out, t, active, b' ');
     let b = run_text::put_field(out, a, passive, b' ');
@@ -17,7 +17,7 @@ fn put_line(out: &mut [u8], t: Text, active: u64, passive: u64, n: u32) -> Text
 }
 
 fn put_ends(out: &mut [u8], t: Text, c: Ends) -> Text
-    ensures { λ r. ⌜ Puts (ends-text c) t (now (out .entry)) r (now (out .exit)) ⌝ }
+    ensures { λ r. ⌜ Prints (ends-text c) t r out ⌝ }
 {
     let t1 = put_line(out, t, 0, 0, c.neither);
     let t2 = put_line(out, t1, 0, 1, c.passive);

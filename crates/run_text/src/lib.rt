@@ -1,7 +1,7 @@
 // Text into lent bytes: as much of it as fits, and whether all of it did; and the lines that the run program prints for one event (document 01, "The run program").
 use record::Header;
 ghost use mathlib.Core.List.{[], _∷_};
-ghost use Rattle.run_text.specs.Text.{Puts, Begins};
+ghost use Rattle.run_text.specs.Text.{Prints, Begins};
 ghost use Rattle.run_text.specs.Numbers.{decimal, field};
 ghost use Rattle.record.specs.Walk.{headers};
 ghost use Rattle.run_text.specs.Lines.{record-line, end-line, record-lines, event-text};
@@ -21,7 +21,7 @@ pub fn start() -> Text
 
 // One more byte.
 pub fn put(out: &mut [u8], t: Text, x: u8) -> Text
-    ensures { λ r. ⌜ Puts (x ∷ []) t (now (out .entry)) r (now (out .exit)) ⌝ }
+    ensures { λ r. ⌜ Prints (x ∷ []) t r out ⌝ }
 {
     let at = t.at;
     if at < out.len() {
@@ -36,7 +36,7 @@ pub fn put(out: &mut [u8], t: Text, x: u8) -> Text
 
 // These bytes, in order.
 fn put_bytes(out: &mut [u8], t: Text, s: &[u8]) -> Text
-    ensures { λ r. ⌜ Puts (now (s .entry)) t (now (out .entry)) r (now (out .exit)) ⌝ }
+    ensures { λ r. ⌜ Prints (now (s .entry)) t r out ⌝ }
 {
     let mut r = t;
     let mut i: usize = 0;
@@ -50,7 +50,7 @@ fn put_bytes(out: &mut [u8], t: Text, s: &[u8]) -> Text
 
 // A number in decimal digits.
 pub fn put_decimal(out: &mut [u8], t: Text, n: u64) -> Text
-    ensures { λ r. ⌜ Puts (decimal n) t (now (out .entry)) r (now (out .exit)) ⌝ }
+    ensures { λ r. ⌜ Prints (decimal n) t r out ⌝ }
 {
     let mut digits = [0u8; 20];
     let k = io::decimal(n, &mut digits);
@@ -59,7 +59,7 @@ pub fn put_decimal(out: &mut [u8], t: Text, n: u64) -> Text
 
 // A number and what follows it.
 pub fn put_field(out: &mut [u8], t: Text, n: u64, after: u8) -> Text
-    ensures { λ r. ⌜ Puts (field n after) t (now (out .entry)) r (now (out .exit)) ⌝ }
+    ensures { λ r. ⌜ Prints (field n after) t r out ⌝ }
 {
     let a = put_decimal(out, t, n);
     put(out, a, after)
@@ -69,7 +69,7 @@ pub fn put_field(out: &mut [u8], t: Text, n: u64, after: u8) -> Text
 
 // The line of one output record: eight numbers, with spaces between them.
 pub fn put_record(out: &mut [u8], t: Text, i: u64, h: Header) -> Text
-    ensures { λ r. ⌜ Puts (record-line i h) t (now (out .entry)) r (now (out .exit)) ⌝ }
+    ensures { λ r. ⌜ Prints (record-line i h) t r out ⌝ }
 {
     let kind = h.kind as u64;
     let message = h.message as u64;
@@ -86,7 +86,7 @@ pub fn put_record(out: &mut [u8], t: Text, i: u64, h: Header) -> Text
 
 // The line that ends an event.
 pub fn put_end(out: &mut [u8], t: Text, code: u32, draws: u64) -> Text
-    ensures { λ r. ⌜ Puts (end-line code draws) t (now (out .entry)) r (now (out .exit)) ⌝ }
+    ensures { λ r. ⌜ Prints (end-line code draws) t r out ⌝ }
 {
     let a = put(out, t, b'=');
     let b = put(out, a, b' ');
@@ -96,7 +96,7 @@ pub fn put_end(out: &mut [u8], t: Text, code: u32, draws: u64) -> Text
 
 // The lines of the records in an output, each taken by its whole length.
 fn put_records(out: &mut [u8], t: Text, i: u64, records: &[u8]) -> Text
-    ensures { λ r. ⌜ Puts (record-lines i (headers (now (records .entry)))) t (now (out .entry)) r (now (out .exit)) ⌝ }
+    ensures { λ r. ⌜ Prints (record-lines i (headers (now (records .entry)))) t r out ⌝ }
 {
     let mut r = t;
     let mut rest = records;
@@ -117,7 +117,7 @@ fn put_records(out: &mut [u8], t: Text, i: u64, records: &[u8]) -> Text
 
 // All lines of the i-th event, from its code, the draws used and its output.
 pub fn put_event(out: &mut [u8], t: Text, i: u64, code: u32, draws: u64, records: &[u8]) -> Text
-    ensures { λ r. ⌜ Puts (event-text i code draws (now (records .entry))) t (now (out .entry)) r (now (out .exit)) ⌝ }
+    ensures { λ r. ⌜ Prints (event-text i code draws (now (records .entry))) t r out ⌝ }
 {
     let a = put_records(out, t, i, records);
     put_end(out, a, code, draws)

@@ -3,7 +3,8 @@
 use Prim.Native.Nat.{ℕ, _+_}
 use mathlib.Core.Path.{_≡_}
 use mathlib.Core.List.{List}
-use lib.ListN.{take, drop}
+use lib.ListN.{length, take, drop}
+use Rattle.base_lists.specs.Lent.{Lent}
 use Rattle.hyparview.specs.Handled.{Outcome, handled}
 use Rattle.run_input.specs.Input.{event-length}
 use Rattle.base_draws.specs.Place.{past}
@@ -28,3 +29,7 @@ pub record Runs (room : ℕ) (p : Runner) (events ds : List ℕ) (r : Ran) (o : 
   pub code : r .code ≡ met room p events ds .code
   pub draws : r .draws ≡ met room p events ds .draws
   pub output : o ≡ met room p events ds .output
+
+-- the same as a contract says it of the parameters
+abbrev pub Steps : Runner → Lent → Lent → Ran → Lent → Type 0
+Steps p events ds r records = Runs (length (records .entry .now)) p (events .entry .now) (ds .entry .now) r (records .exit .now)

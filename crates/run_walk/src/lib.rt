@@ -1,7 +1,6 @@
 // The walk over the events of an input (document 01, "The run program"): one event at a time, each with the draws that are left.
 use hyparview::State;
-ghost use lib.ListN.{length};
-ghost use Rattle.run_walk.specs.Place.{Runs};
+ghost use Rattle.run_walk.specs.Place.{Steps};
 
 // The place reached in a run: the state, and how far its events and its draws are.
 pub struct Runner {
@@ -19,7 +18,7 @@ pub struct Ran {
 
 // The event at the place reached, with the draws left and the output lent.
 pub fn step(p: Runner, events: &[u8], draws: &[u32], records: &mut [u8]) -> Ran
-    ensures { λ r. ⌜ Runs (length (now (records .entry))) p (now (events .entry)) (now (draws .entry)) r (now (records .exit)) ⌝ }
+    ensures { λ r. ⌜ Steps p events draws r records ⌝ }
 {
     let s = p.state;
     let at = p.at;

@@ -48,6 +48,13 @@ due top i t (d ∷ ds) = due top (next-interval top i) (t + delay i d) ds
 unfoldable pub due-by : Config → ℕ → ℕ → ℕ → ℕ
 due-by c t k d = due (c .«shuffle_interval») (first-interval (c .«shuffle_interval»)) t (replicate k d)
 
+-- both ends after k shuffles, where the setting is `top`
+abbrev pub both-ends : ℕ → ℕ → ℕ → ℕ → ShuffleTimes
+both-ends top earliest latest k = record {
+  earliest = due top (first-interval top) earliest (replicate k lowest-draw);
+  latest = due top (first-interval top) latest (replicate k highest-draw);
+}
+
 -- starts in order and not above 2^63, k from 1 to 1,000, settings in range
 unfoldable pub has-times : ℕ → ℕ → Config → ℕ → Bool
 has-times earliest latest c k =

@@ -3,9 +3,9 @@ use base_timing::Config;
 use base_timing::Timing;
 ghost use mathlib.Core.Path.{_≡_};
 ghost use Prim.Native.Nat.{_≤_};
-ghost use lib.ListN.{replicate};
 ghost use Rattle.base_timing.specs.Timing.{longest-time, delay};
-ghost use Rattle.shuffle_times.specs.Times.{lowest-draw, highest-draw, latest-start, most-shuffles, first-interval, next-interval, due, has-times, shuffle-times};
+ghost use Rattle.shuffle_times.specs.Times.{lowest-draw, highest-draw, latest-start, most-shuffles, first-interval, next-interval};
+ghost use Rattle.shuffle_times.specs.Times.{both-ends, has-times, shuffle-times};
 
 // Both ends, in milliseconds; both 0 where there is no such time.
 #[repr(C)]
@@ -61,7 +61,7 @@ fn ends(earliest: u64, latest: u64, top: u32, k: u32) -> ShuffleTimes
     requires { ⌜ 1 ≤ top ⌝ }
     requires { ⌜ top ≤ longest-time ⌝ }
     requires { ⌜ k ≤ most-shuffles ⌝ }
-    ensures { λ r. ⌜ r ≡ record { earliest = due top (first-interval top) earliest (replicate k lowest-draw); latest = due top (first-interval top) latest (replicate k highest-draw) } ⌝ }
+    ensures { λ r. ⌜ r ≡ both-ends top earliest latest k ⌝ }
 {
     let mut low = earliest;
     let mut high = latest;

@@ -13,7 +13,7 @@ ghost use Prim.Native.Nat.{_≤_};
 ghost use lib.ListN.{length};
 ghost use Rattle.base_lists.specs.Lists.{without};
 ghost use Rattle.base_peer.specs.Held.{ValidData, data-in, node-in};
-ghost use Rattle.base_util.specs.Section.{working-places, working-words, HoldsSet};
+ghost use Rattle.base_util.specs.Section.{working-words, BecomesSet};
 ghost use Rattle.spec_hyparview.specs.Budgets.{leaving, arriving};
 ghost use Rattle.spec_hyparview.specs.Run.{emit};
 ghost use Rattle.spec_hyparview.specs.Messages.{forward-join-to, learn-joiner, on-forward-join};
@@ -30,7 +30,7 @@ fn other_active(st: &[u64], p: PeerId, t: &mut [u64])
     requires { ⌜ length (now st) ≡ words ⌝ }
     requires { ⌜ PackedState (now st) ⌝ }
     requires { ⌜ length (now t) ≡ working-words ⌝ }
-    ensures { λ _. ⌜ HoldsSet working-places (now (t .exit)) (without p (unpack (now (st .entry)) .active)) ⌝ }
+    ensures { λ _. ⌜ BecomesSet t (without p (unpack (now (st .entry)) .active)) ⌝ }
 {
     base_util::copy_into(
         &st[Layout::ACTIVE..Layout::ACTIVE_END],

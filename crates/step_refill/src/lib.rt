@@ -6,7 +6,7 @@ use hyparview_state::RefillLimit;
 use work::Work;
 ghost use mathlib.Core.Path.{_≡_};
 ghost use lib.ListN.{length};
-ghost use Rattle.base_util.specs.Section.{working-places, working-words, HoldsSet};
+ghost use Rattle.base_util.specs.Section.{working-words, BecomesSet};
 ghost use Rattle.spec_hyparview.specs.Station.{asked-outside};
 ghost use Rattle.spec_hyparview.specs.Run.{on};
 ghost use Rattle.spec_hyparview.specs.Refill.{end-recovery, candidates, refill-limited, refill-active-from-passive, start-refill};
@@ -20,7 +20,7 @@ fn asked_outside(st: &[u64], t: &mut [u64])
     requires { ⌜ length (now st) ≡ words ⌝ }
     requires { ⌜ PackedState (now st) ⌝ }
     requires { ⌜ length (now t) ≡ working-words ⌝ }
-    ensures { λ _. ⌜ HoldsSet working-places (now (t .exit)) (asked-outside (unpack (now (st .entry)))) ⌝ }
+    ensures { λ _. ⌜ BecomesSet t (asked-outside (unpack (now (st .entry)))) ⌝ }
 {
     base_columns::keys_into(
         &st[Layout::REQUESTS..Layout::REQUESTS_END],
@@ -57,7 +57,7 @@ fn candidates(st: &[u64], skip: &[PeerId], t: &mut [u64])
     requires { ⌜ length (now st) ≡ words ⌝ }
     requires { ⌜ PackedState (now st) ⌝ }
     requires { ⌜ length (now t) ≡ working-words ⌝ }
-    ensures { λ _. ⌜ HoldsSet working-places (now (t .exit)) (candidates (now (skip .entry)) (unpack (now (st .entry)))) ⌝ }
+    ensures { λ _. ⌜ BecomesSet t (candidates (now (skip .entry)) (unpack (now (st .entry)))) ⌝ }
 {
     // Not those in `skip`.
     base_util::copy_into(

@@ -13,7 +13,7 @@ ghost use Prim.Native.Nat.{_≤_};
 ghost use lib.ListN.{length, take, drop};
 ghost use Rattle.base_lists.specs.Lists.{choose};
 ghost use Rattle.base_util.specs.Chances.{shuffle};
-ghost use Rattle.base_util.specs.Section.{working-places, items-at, ValidSet, HoldsSet};
+ghost use Rattle.base_util.specs.Section.{working-places, items-at, ValidSet, ChangesSet};
 ghost use Rattle.record_writer.specs.Nodes.{HoldsNodes};
 ghost use Rattle.spec_hyparview.specs.Run.{peer-infos, draw-shuffle};
 ghost use Rattle.spec_hyparview.specs.Sending.{join, send-shuffle-reply, send-disconnect, send-neighbor, reply-neighbor};
@@ -69,7 +69,7 @@ pub fn shuffle_and_cap(w: Work, draws: &[u32], most: usize, v: &mut [u64]) -> Wo
     requires { ⌜ w .drawn ≤ length (now draws) ⌝ }
     requires { ⌜ ValidSet working-places (now v) ⌝ }
     ensures { λ r. ⌜ DrawsAny (draw-shuffle (items-at working-places (now (v .entry)))) w r (now (draws .entry)) ⌝ }
-    ensures { λ r. ⌜ HoldsSet working-places (now (v .exit)) (take most (shuffle (drop (w .drawn) (now (draws .entry))) (items-at working-places (now (v .entry))))) ⌝ }
+    ensures { λ r. ⌜ ChangesSet working-places (λ l. take most (shuffle (drop (w .drawn) (now (draws .entry))) l)) v ⌝ }
 {
     let r = work::shuffle_by_draws(w, draws, v);
     let n = v[base_util::WORKING_PLACES] as usize;

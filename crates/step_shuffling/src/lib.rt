@@ -8,17 +8,14 @@ use record_writer::Nodes;
 use work::Work;
 ghost use mathlib.Core.Path.{_≡_};
 ghost use mathlib.Core.Bool.{true};
-ghost use mathlib.Core.List.{[], _∷_};
 ghost use lib.ListN.{length};
-ghost use Rattle.base_lists.specs.Lists.{without-all};
 ghost use Rattle.record.specs.Read.{well-formed, header-of, nodes-of};
 ghost use Rattle.record_writer.specs.Nodes.{HoldsNodes};
 ghost use Rattle.spec_hyparview.specs.Peers.{add-nodes, any-new};
-ghost use Rattle.spec_hyparview.specs.Messages.{forward-shuffle, on-shuffle};
-ghost use Rattle.spec_hyparview.specs.Messages.{on-shuffle-reply};
+ghost use Rattle.spec_hyparview.specs.Messages.{on-shuffle, on-shuffle-reply};
 ghost use Rattle.hyparview_state.specs.Layout.{words};
-ghost use Rattle.hyparview_state.specs.Unpack.{unpack};
 ghost use Rattle.hyparview_state.specs.Work.{Given, run-met, Makes};
+ghost use Rattle.step_shuffling.specs.Passing.{pass-shuffle};
 
 // The work after an event's nodes were learned, and whether one of them was new.
 struct Learned {
@@ -82,7 +79,7 @@ fn pass_shuffle(
     requires { ⌜ Given w st draws out ⌝ }
     requires { ⌜ well-formed (now b) ≡ true ⌝ }
     requires { ⌜ n ≡ header-of (now b) .nodes ⌝ }
-    ensures { λ r. ⌜ Makes (forward-shuffle (without-all (origin ∷ from ∷ []) (unpack (now (st .entry)) .active)) origin (nodes-of (now (b .entry)) 0 n) ttl) w r st draws out ⌝ }
+    ensures { λ r. ⌜ Makes (pass-shuffle from origin (nodes-of (now (b .entry)) 0 n) ttl st) w r st draws out ⌝ }
 {
     let mut v = [0u64; base_util::WORKING_WORDS];
     base_util::copy_into(

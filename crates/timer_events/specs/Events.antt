@@ -1,10 +1,12 @@
 -- Document 02, S-1: a due timer taken out as the event record that `handle` reads.
 -- Assumes nothing.
 use Prim.Native.Nat.{ℕ}
+use mathlib.Core.Path.{_≡_}
 use mathlib.Core.Bool.{true, false}
 use mathlib.Core.List.{List, []}
 use lib.ListN.{length, replicate}
 use Rattle.base_lists.specs.Lists.{choose, shift-remove}
+use Rattle.base_lists.specs.Lent.{Lent}
 use Rattle.record.specs.Format.{Rec}
 use Rattle.record_writer.specs.Write.{fits, written}
 use Rattle.timer_map.specs.Entries.{soonest, first-entry, is-due}
@@ -21,6 +23,10 @@ pub record Taken : Type 0 where
   pub answer : PoppedEvent
   pub words : List ℕ
   pub output : List ℕ
+
+-- the answer, the words and the bytes as the call leaves them, as a contract says it of the parameters
+abbrev pub LeavesEvent : PoppedEvent → Lent → Lent → Taken → Type 0
+LeavesEvent r q out a = record { answer = r; words = q .exit .now; output = out .exit .now } ≡ a
 
 -- without an event: none is due (code 0), or a refusal
 abbrev pub without-event : ℕ → PoppedEvent

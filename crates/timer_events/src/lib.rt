@@ -15,9 +15,9 @@ ghost use Rattle.record.specs.Read.{header-of};
 ghost use Rattle.record_writer.specs.Write.{rec-in};
 ghost use Rattle.timer_map.specs.Entries.{timer-ok};
 ghost use Rattle.timer_map.specs.Words.{entries-of, SoundQueue};
-ghost use Rattle.timer_map.specs.Calls.{packed-put};
+ghost use Rattle.timer_map.specs.Calls.{Leaves, PutsIn};
 ghost use Rattle.timer_events.specs.Records.{no-start, started, schedule-of, timer-of, timers-in, insert-all, insert-records, records-inserted};
-ghost use Rattle.timer_events.specs.Events.{event-rec, without-event, event-popped, event-taken};
+ghost use Rattle.timer_events.specs.Events.{event-rec, LeavesEvent, without-event, event-popped, event-taken};
 
 // A timer to be put in, and its delay.
 pub struct ScheduleTimer {
@@ -85,7 +85,7 @@ fn schedule_of(b: &[u8], n: usize) -> ScheduleTimer
 fn insert_record(q: &mut [u64], time: u64, b: &[u8], h: Header) -> u32
     requires { ⌜ SoundQueue (now q) ⌝ }
     requires { ⌜ h ≡ header-of (now b) ⌝ }
-    ensures { λ r. ⌜ record { code = r; words = now (q .exit) } ≡ packed-put (insert-all time (timer-of (now (b .entry))) (entries-of (now (q .entry)))) ⌝ }
+    ensures { λ r. ⌜ PutsIn r q (insert-all time (timer-of (now (b .entry)))) ⌝ }
 {
     if (Kind::DO_SHUFFLE <= h.kind) & (h.kind <= Kind::RETRY_JOIN) {
         let n = h.size as usize;
@@ -99,7 +99,7 @@ fn insert_record(q: &mut [u64], time: u64, b: &[u8], h: Header) -> u32
 // The timers of an output one after the other, up to the first that is refused.
 fn insert_all(q: &mut [u64], time: u64, out: &[u8]) -> u32
     requires { ⌜ SoundQueue (now q) ⌝ }
-    ensures { λ r. ⌜ record { code = r; words = now (q .exit) } ≡ packed-put (insert-all time (timers-in (now (out .entry))) (entries-of (now (q .entry)))) ⌝ }
+    ensures { λ r. ⌜ PutsIn r q (insert-all time (timers-in (now (out .entry)))) ⌝ }
 {
     let mut rest = out;
     while HEADER <= rest.len() {
@@ -123,7 +123,7 @@ fn insert_all(q: &mut [u64], time: u64, out: &[u8]) -> u32
 // The same into a queue that keeps its rules, all or none.
 fn records_ok(q: &mut [u64], time: u64, out: &[u8]) -> u32
     requires { ⌜ SoundQueue (now q) ⌝ }
-    ensures { λ r. ⌜ record { code = r; words = now (q .exit) } ≡ packed-put (insert-records time (now (out .entry)) (entries-of (now (q .entry)))) ⌝ }
+    ensures { λ r. ⌜ PutsIn r q (insert-records time (now (out .entry))) ⌝ }
 {
     let n = q[timer_map::COUNT];
     let code = insert_all(q, time, out);
@@ -137,7 +137,7 @@ fn records_ok(q: &mut [u64], time: u64, out: &[u8]) -> u32
 // All timer records of an output, in order, each by its delay from this time: 0, or 2, or the first refusal (3, 12, 11), and then every word is as it was.
 #[no_mangle]
 pub extern "C" fn timer_map_insert_records(q: &mut [u64], time: u64, out: &[u8]) -> u32
-    ensures { λ r. ⌜ record { code = r; words = now (q .exit) } ≡ records-inserted time (now (out .entry)) (now (q .entry)) ⌝ }
+    ensures { λ r. ⌜ Leaves r q (records-inserted time (now (out .entry)) (now (q .entry))) ⌝ }
 {
     if timer_map::queue_ok(q) {
         return records_ok(q, time, out);
@@ -181,7 +181,7 @@ fn no_event(out: &mut [u8], code: u32) -> PoppedEvent
 // A due timer of a queue that keeps its rules, as an event.
 fn pop_event_ok(q: &mut [u64], limit: u64, out: &mut [u8]) -> PoppedEvent
     requires { ⌜ SoundQueue (now q) ⌝ }
-    ensures { λ r. ⌜ record { answer = r; words = now (q .exit); output = now (out .exit) } ≡ event-popped limit (entries-of (now (q .entry))) (now (out .entry)) ⌝ }
+    ensures { λ r. ⌜ LeavesEvent r q out (event-popped limit (entries-of (now (q .entry))) (now (out .entry))) ⌝ }
 {
     let d = timer_map::find_due(q, limit);
     if d.found {
@@ -209,7 +209,7 @@ fn pop_event_ok(q: &mut [u64], limit: u64, out: &mut [u8]) -> PoppedEvent
 // TimerMap::pop_before, with the entry written as the 32 bytes of its event. Code 2; 9, where the bytes do not fit: then no word changes. Without an event the lent bytes become zero.
 #[no_mangle]
 pub extern "C" fn timer_map_pop_event(q: &mut [u64], limit: u64, out: &mut [u8]) -> PoppedEvent
-    ensures { λ r. ⌜ record { answer = r; words = now (q .exit); output = now (out .exit) } ≡ event-taken limit (now (q .entry)) (now (out .entry)) ⌝ }
+    ensures { λ r. ⌜ LeavesEvent r q out (event-taken limit (now (q .entry)) (now (out .entry))) ⌝ }
 {
     if timer_map::queue_ok(q) {
         return pop_event_ok(q, limit, out);

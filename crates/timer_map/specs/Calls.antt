@@ -1,11 +1,13 @@
 -- What each function answers of any words, and what it leaves of them: "2, the queue breaks its own rules" first, and a refusal changes nothing.
 -- Assumes nothing.
 use Prim.Native.Nat.{ℕ}
+use mathlib.Core.Path.{_≡_}
 use mathlib.Core.Bool.{true, false}
 use mathlib.Core.List.{List, []}
 use lib.ListN.{length}
 use lib.Dec.{eqb}
 use Rattle.base_lists.specs.Lists.{choose, null}
+use Rattle.base_lists.specs.Lent.{Lent}
 use Rattle.timer_map.specs.Entries.{Put, insert-timer, is-due, soonest, first-entry, no-queue-entry, popped-entries}
 use Rattle.timer_map.specs.Words.{queue-words, entries-of, queue-ok, pack-queue}
 use Rattle.timer_map.specs.declared.Timer.{Timer}
@@ -20,9 +22,17 @@ pub record PutWords : Type 0 where
   pub code : ℕ
   pub words : List ℕ
 
+-- the code and the words as the call leaves them, as a contract says it of the parameters
+abbrev pub Leaves : ℕ → Lent → PutWords → Type 0
+Leaves code q a = record { code = code; words = q .exit .now } ≡ a
+
 -- the answer, with its entries packed
 unfoldable pub packed-put : Put → PutWords
 packed-put p = record { code = p .code; words = pack-queue (p .entries) }
+
+-- the same of the entries that the words held, as a contract says it of the parameters
+abbrev pub PutsIn : ℕ → Lent → (List TimerMapEntry → Put) → Type 0
+PutsIn code q put = Leaves code q (packed-put (put (entries-of (q .entry .now))))
 
 -- TimerMap::insert
 unfoldable pub inserted : ℕ → ℕ → Timer → List ℕ → PutWords

@@ -4,8 +4,9 @@ use Prim.Native.Nat.{ℕ, zero, suc, _+_, _*_, _-_, _≤_}
 use mathlib.Core.Path.{_≡_}
 use mathlib.Core.Bool.{Bool, true, _&&_}
 use mathlib.Core.List.{List, [], _∷_, _++_}
-use lib.ListN.{length, drop, getD, replicate}
-use lib.Dec.{leb, eqb}
+use lib.ListN.{length, take, drop, getD, replicate}
+use lib.Dec.{leb, ltb, eqb}
+use Rattle.base_lists.specs.Lists.{choose}
 use Rattle.base_lists.specs.Tests.{every}
 use Rattle.timer_map.specs.Entries.{capacity, queue-entry-ok}
 use Rattle.timer_map.specs.declared.TimerMapEntry.{TimerMapEntry}
@@ -67,6 +68,14 @@ queue-count ws = getD ws 0 0
 -- the entries that the words hold
 unfoldable pub entries-of : List ℕ → List TimerMapEntry
 entries-of ws = queue-entries-at ws first-row (queue-count ws)
+
+-- the words without the row at place `at`: the later rows move down, and the last row stays as it is
+abbrev pub shifted-down : ℕ → List ℕ → List ℕ
+shifted-down at ws = take at ws ++ (drop (at + row-words) ws ++ drop last-row ws)
+
+-- the one of two rows that is due earlier; where both are due at one time, the one that stood first
+abbrev pub earlier-row : ℕ → ℕ → List ℕ → ℕ
+earlier-row best i ws = choose (ltb (getD ws (row-at i) 0) (getD ws (row-at best) 0)) i best
 
 -- an unused word
 abbrev pub unused-word : ℕ → Bool

@@ -2,14 +2,17 @@
 ghost use mathlib.Core.Path.{_≡_};
 ghost use mathlib.Core.List.{[], _∷_, _++_};
 ghost use Prim.Native.Nat.{_+_, _-_, _≤_, _<_};
-ghost use lib.ListN.{length, take, drop, getD, replicate};
-ghost use lib.Dec.{ltb};
-ghost use Rattle.base_lists.specs.Lists.{choose, shift-remove};
-ghost use Rattle.base_lists.specs.Bytes.{overwrite};
+ghost use lib.ListN.{length, take, drop, replicate};
+ghost use Rattle.base_lists.specs.Lists.{shift-remove};
+ghost use Rattle.base_lists.specs.Lent.{Overwrites};
 ghost use Rattle.base_lists.specs.Tests.{every};
-ghost use Rattle.timer_map.specs.Entries.{capacity, timer-ok, queue-entry-ok, insert-refusal, insert-timer, soonest, no-queue-entry};
-ghost use Rattle.timer_map.specs.Words.{row-words, first-row, row-at, last-row, queue-words, queue-count, queue-entry-at, queue-entries-at, entries-of, queue-row, unused-word, queue-ok, pack-queue, SoundQueue};
-ghost use Rattle.timer_map.specs.Calls.{packed-put, no-due, due-in, popped-words, refused-pop, inserted, taken-out, first-of, first-in, count-in, renewed};
+ghost use Rattle.timer_map.specs.Entries.{capacity, timer-ok, queue-entry-ok, insert-refusal, insert-timer};
+ghost use Rattle.timer_map.specs.Entries.{soonest, no-queue-entry};
+ghost use Rattle.timer_map.specs.Words.{row-words, first-row, row-at, last-row, queue-words, queue-count};
+ghost use Rattle.timer_map.specs.Words.{queue-entry-at, queue-entries-at, entries-of, queue-row, shifted-down};
+ghost use Rattle.timer_map.specs.Words.{earlier-row, unused-word, queue-ok, pack-queue, SoundQueue};
+ghost use Rattle.timer_map.specs.Calls.{Leaves, PutsIn, inserted, renewed, no-due, due-in, popped-words};
+ghost use Rattle.timer_map.specs.Calls.{refused-pop, taken-out, first-of, first-in, count-in};
 
 // The lent words: the count, then a row for each place. A sum is a constant of its own.
 pub const WORDS: usize = 513;
@@ -181,7 +184,7 @@ pub fn queue_ok(q: &[u64]) -> bool
 // The words ws, from place `at` on.
 fn put_words(q: &mut [u64], at: usize, ws: &[u64])
     requires { ⌜ at + length (now ws) ≤ length (now q) ⌝ }
-    ensures { λ _. ⌜ now (q .exit) ≡ overwrite (now (q .entry)) at (now (ws .entry)) ⌝ }
+    ensures { λ _. ⌜ Overwrites q at (now (ws .entry)) ⌝ }
 {
     let mut i: usize = 0;
     while i < ws.len() {
@@ -206,7 +209,7 @@ fn clear_rows(q: &mut [u64], from: usize)
 fn shift_down(q: &mut [u64], at: usize)
     requires { ⌜ length (now q) ≡ queue-words ⌝ }
     requires { ⌜ at ≤ last-row ⌝ }
-    ensures { λ _. ⌜ now (q .exit) ≡ take at (now (q .entry)) ++ (drop (at + row-words) (now (q .entry)) ++ drop last-row (now (q .entry))) ⌝ }
+    ensures { λ _. ⌜ now (q .exit) ≡ shifted-down at (now (q .entry)) ⌝ }
 {
     let mut k = at;
     while k < LAST_ROW {
@@ -270,7 +273,7 @@ fn refusal(time: u64, delay: u64, n: u64) -> u32
 // A timer into a queue that keeps its rules.
 pub fn insert_ok(q: &mut [u64], time: u64, delay: u64, item: Timer) -> u32
     requires { ⌜ SoundQueue (now q) ⌝ }
-    ensures { λ r. ⌜ record { code = r; words = now (q .exit) } ≡ packed-put (insert-timer time delay item (entries-of (now (q .entry)))) ⌝ }
+    ensures { λ r. ⌜ PutsIn r q (insert-timer time delay item) ⌝ }
 {
     if timer_ok(item) {
         let code = refusal(time, delay, q[COUNT]);
@@ -290,7 +293,7 @@ pub fn insert_ok(q: &mut [u64], time: u64, delay: u64, item: Timer) -> u32
 // TimerMap::insert, by the time and a delay: 0, or 2, 3 (no timer), 12, 11, and then every word is as it was.
 #[no_mangle]
 pub extern "C" fn timer_map_insert(q: &mut [u64], time: u64, delay: u64, item: Timer) -> u32
-    ensures { λ r. ⌜ record { code = r; words = now (q .exit) } ≡ inserted time delay item (now (q .entry)) ⌝ }
+    ensures { λ r. ⌜ Leaves r q (inserted time delay item (now (q .entry))) ⌝ }
 {
     if queue_ok(q) {
         return insert_ok(q, time, delay, item);
@@ -302,7 +305,7 @@ pub extern "C" fn timer_map_insert(q: &mut [u64], time: u64, delay: u64, item: T
 fn earlier(q: &[u64], best: usize, i: usize) -> usize
     requires { ⌜ row-at best + row-words ≤ length (now q) ⌝ }
     requires { ⌜ row-at i + row-words ≤ length (now q) ⌝ }
-    ensures { λ r. ⌜ r ≡ choose (ltb (getD (now (q .entry)) (row-at i) 0) (getD (now (q .entry)) (row-at best) 0)) i best ⌝ }
+    ensures { λ r. ⌜ r ≡ earlier-row best i (now (q .entry)) ⌝ }
 {
     let old = ROWS + ROW * best;
     let new = ROWS + ROW * i;
@@ -475,7 +478,7 @@ pub extern "C" fn timer_map_len(q: &[u64]) -> Len
 // The lent words become the empty queue; code 2 where they are not as many as a queue has.
 #[no_mangle]
 pub extern "C" fn timer_map_new(q: &mut [u64]) -> u32
-    ensures { λ r. ⌜ record { code = r; words = now (q .exit) } ≡ renewed (now (q .entry)) ⌝ }
+    ensures { λ r. ⌜ Leaves r q (renewed (now (q .entry))) ⌝ }
 {
     if q.len() != WORDS {
         return BROKEN;

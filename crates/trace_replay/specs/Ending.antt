@@ -24,6 +24,16 @@ use Rattle.trace_replay.specs.declared.Ended.{Ended}
 unfoldable pub room-of : TraceStart → ℕ
 room-of start = min (start .room) output-room
 
+-- the run program's start: all the room there is, and a new station's own counters
+abbrev pub usual-start : TraceStart
+usual-start = record {
+  room = output-room;
+  «next_neighbor_request» = 0;
+  «next_join» = 0;
+  «passes_alone» = 0;
+  «passes_short» = 0;
+}
+
 -- the station g with the counters of a start
 unfoldable pub counting : TraceStart → Station → Station
 counting start g =

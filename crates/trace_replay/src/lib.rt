@@ -9,7 +9,7 @@ ghost use mathlib.Core.Path.{_≡_};
 ghost use Prim.Native.Nat.{_≤_};
 ghost use Rattle.hyparview.specs.Room.{output-room};
 ghost use Rattle.run_input.specs.Input.{Laid};
-ghost use Rattle.trace_replay.specs.Ending.{laid-words, ended-of};
+ghost use Rattle.trace_replay.specs.Ending.{usual-start, laid-words, ended-of};
 
 // Space for the text of an event.
 const EVENT_SPACE: usize = 32768;
@@ -32,7 +32,7 @@ pub struct TraceStart {
 impl TraceStart {
     // The run program's: 8,192 bytes of room, and a new station's own counters.
     pub fn usual() -> TraceStart
-        ensures { λ r. ⌜ r ≡ record { room = output-room; «next_neighbor_request» = 0; «next_join» = 0; «passes_alone» = 0; «passes_short» = 0 } ⌝ }
+        ensures { λ r. ⌜ r ≡ usual-start ⌝ }
     {
         TraceStart {
             room: hyparview::OUTPUT,

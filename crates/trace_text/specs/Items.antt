@@ -4,6 +4,7 @@ use Prim.Native.Nat.{ℕ, suc}
 use Prim.Native.Char.{code}
 use Prim.Native.String.{String, [] as []ˢ, _∷_ as _∷ˢ_}
 use mathlib.Core.List.{List, [], _∷_, _++_}
+use lib.ListN.{length, drop}
 use lib.Dec.{eqb}
 use Rattle.base_lists.specs.Lists.{choose}
 use Rattle.run_text.specs.Numbers.{decimal}
@@ -13,6 +14,10 @@ use Rattle.trace_text.specs.Hex.{hex}
 unfoldable pub ascii : String → List ℕ
 ascii []ˢ = []
 ascii (c ∷ˢ s) = code c ∷ ascii s
+
+-- a field's text behind its name
+abbrev pub after-name : String → List ℕ → List ℕ
+after-name name field = drop (length (ascii name)) field
 
 -- a comma before every item but the first
 unfoldable pub comma-before : ℕ → List ℕ

@@ -3,14 +3,14 @@ use hyparview_state::Layout;
 use hyparview_state::RefillLimit;
 use run_text::Text;
 ghost use mathlib.Core.Path.{_≡_};
-ghost use lib.ListN.{length, take, drop};
+ghost use lib.ListN.{length, take};
 ghost use Rattle.record.specs.Walk.{records-in};
 ghost use Rattle.base_peer.specs.Held.{data-in};
 ghost use Rattle.hyparview_state.specs.Layout.{words};
 ghost use Rattle.hyparview_state.specs.Unpack.{own-at, limit-at};
-ghost use Rattle.run_text.specs.Text.{Puts};
+ghost use Rattle.run_text.specs.Text.{Prints};
 ghost use Rattle.trace_text.specs.Hex.{hex, hex-lines};
-ghost use Rattle.trace_text.specs.Items.{ascii};
+ghost use Rattle.trace_text.specs.Items.{after-name};
 ghost use Rattle.trace_text.specs.Fields.{InWords, field-at};
 ghost use Rattle.trace_text.specs.Event.{own-field, refill-field, trace-event};
 
@@ -21,7 +21,7 @@ const LETTERS: u8 = b'a' - b'0' - 10;
 
 // The first n of the bytes.
 fn put_front(out: &mut [u8], t: Text, bytes: &[u8], n: u64) -> Text
-    ensures { λ r. ⌜ Puts (hex (take n (now (bytes .entry)))) t (now (out .entry)) r (now (out .exit)) ⌝ }
+    ensures { λ r. ⌜ Prints (hex (take n (now (bytes .entry)))) t r out ⌝ }
 {
     let mut r = t;
     let mut i: usize = 0;
@@ -40,7 +40,7 @@ fn put_front(out: &mut [u8], t: Text, bytes: &[u8], n: u64) -> Text
 
 // A line for each record, taken by its whole length; one that the end cuts off is the last, and is shown as far as it goes.
 fn put_record_lines(out: &mut [u8], t: Text, records: &[u8]) -> Text
-    ensures { λ r. ⌜ Puts (hex-lines (records-in (now (records .entry)))) t (now (out .entry)) r (now (out .exit)) ⌝ }
+    ensures { λ r. ⌜ Prints (hex-lines (records-in (now (records .entry)))) t r out ⌝ }
 {
     let mut r = t;
     let mut rest = records;
@@ -110,7 +110,7 @@ const FIELD_ROOMS: [usize; 15] = [
 // The items of a field, as many as its count says and there is room for. The count stands behind the columns; a number is one item and has none.
 fn put_items(out: &mut [u8], t: Text, st: &[u64], columns: usize, at: usize, room: usize) -> Text
     requires { ⌜ InWords columns at room (length (now st)) ⌝ }
-    ensures { λ r. ⌜ Puts (field-at columns at room (now (st .entry))) t (now (out .entry)) r (now (out .exit)) ⌝ }
+    ensures { λ r. ⌜ Prints (field-at columns at room (now (st .entry))) t r out ⌝ }
 {
     let mut count = 1;
     if columns != 0 {
@@ -147,7 +147,7 @@ fn put_items(out: &mut [u8], t: Text, st: &[u64], columns: usize, at: usize, roo
 // The station's own data, without the name of the field.
 fn put_own(out: &mut [u8], t: Text, st: &[u64]) -> Text
     requires { ⌜ length (now st) ≡ words ⌝ }
-    ensures { λ r. ⌜ Puts (drop (length (ascii "state me=")) (own-field (data-in (own-at (now (st .entry)))))) t (now (out .entry)) r (now (out .exit)) ⌝ }
+    ensures { λ r. ⌜ Prints (after-name "state me=" (own-field (data-in (own-at (now (st .entry)))))) t r out ⌝ }
 {
     if st[Layout::OWN_PRESENT] == 1 {
         let r = run_text::put(out, t, b'x');
@@ -160,7 +160,7 @@ fn put_own(out: &mut [u8], t: Text, st: &[u64]) -> Text
 // The limit on refills, without the name of the field.
 fn put_limit(out: &mut [u8], t: Text, st: &[u64]) -> Text
     requires { ⌜ length (now st) ≡ words ⌝ }
-    ensures { λ r. ⌜ Puts (drop (length (ascii " refill=")) (refill-field (limit-at (now (st .entry))))) t (now (out .entry)) r (now (out .exit)) ⌝ }
+    ensures { λ r. ⌜ Prints (after-name " refill=" (refill-field (limit-at (now (st .entry))))) t r out ⌝ }
 {
     let kind = st[Layout::REFILL_KIND];
     if kind == RefillLimit::AUTOMATIC {
@@ -182,7 +182,7 @@ pub fn put_trace_event(
     draws: usize,
     st: &[u64; Layout::LENGTH],
 ) -> Text
-    ensures { λ r. ⌜ Puts (trace-event (now (records .entry)) code draws (now (st .entry))) t (now (out .entry)) r (now (out .exit)) ⌝ }
+    ensures { λ r. ⌜ Prints (trace-event (now (records .entry)) code draws (now (st .entry))) t r out ⌝ }
 {
     let mut r = put_record_lines(out, t, records);
     r = run_text::put_end(out, r, code, draws as u64);

@@ -4,8 +4,7 @@ use Prim.Native.Nat.{ℕ, _+_, _≤_}
 use mathlib.Core.Path.{_≡_}
 use mathlib.Core.List.{List, []}
 use lib.ListN.{length, take}
-use denote.Ref.{RefT}
-use denote.Triple.Both.{Both}
+pub use Rattle.base_lists.specs.Lent.{Slice, Lent}
 use Rattle.record_writer.specs.declared.Written.{Written}
 use Rattle.record_writer.specs.declared.Written.the-variants.{At, Full}
 use Rattle.work.specs.declared.Work.{Work}
@@ -82,13 +81,6 @@ pub record Does {S : Type 0} (F : Form S) (w : Held) (ds out : List ℕ) (g : Ru
   pub same : run-of F w ds out ≡ g
 
 -- ---- the same as a contract says it, of the parameters themselves
-
--- a slice as it comes, and as it comes and goes
-abbrev pub Slice : Type 0
-Slice = RefT (List ℕ)
-
-abbrev pub Lent : Type 0
-Lent = Both Slice Slice
 
 -- what a step may count on that is lent words and output; words, draws and output
 abbrev pub GivenRoom : {S : Type 0} → Form S → Work → Slice → Slice → Type 0

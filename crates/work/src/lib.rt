@@ -12,7 +12,7 @@ ghost use Prim.Native.Nat.{_≤_, _<_};
 ghost use lib.ListN.{length, getD, drop};
 ghost use Rattle.base_util.specs.Chances.{pick, shuffle};
 ghost use Rattle.base_peer.specs.Held.{ValidData, node-in};
-ghost use Rattle.base_util.specs.Section.{items-at, working-places, ValidSet, HoldsSet};
+ghost use Rattle.base_util.specs.Section.{items-at, working-places, ValidSet, ChangesSet};
 ghost use Rattle.record_writer.specs.Nodes.{ValidNodes, nodes-in};
 ghost use Rattle.record_writer.specs.Write.{rec-in};
 ghost use Rattle.work.specs.Run.{draw, draw-one-of, draw-shuffle, require, emit, message, timer, notice, node-notice};
@@ -91,7 +91,7 @@ pub fn shuffle_by_draws(w: Work, draws: &[u32], v: &mut [u64]) -> Work
     requires { ⌜ w .drawn ≤ length (now draws) ⌝ }
     requires { ⌜ ValidSet working-places (now v) ⌝ }
     ensures { λ r. ⌜ DrawsAny (draw-shuffle (items-at working-places (now (v .entry)))) w r (now (draws .entry)) ⌝ }
-    ensures { λ _. ⌜ HoldsSet working-places (now (v .exit)) (shuffle (drop (w .drawn) (now (draws .entry))) (items-at working-places (now (v .entry)))) ⌝ }
+    ensures { λ _. ⌜ ChangesSet working-places (shuffle (drop (w .drawn) (now (draws .entry)))) v ⌝ }
 {
     let next = base_util::shuffle(v, base_util::WORKING_PLACES, draws, w.drawn);
     reach(w, draws, next)
