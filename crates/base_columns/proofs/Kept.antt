@@ -16,9 +16,9 @@ use Rattle.base_lists.proofs.Choice.{by-test, and-left, and-right, clash}
 use Rattle.base_lists.proofs.Count.{length-without, count-at}
 use Rattle.base_lists.proofs.Maps.{length-keys, keys-cut, retain-cut, retain-all}
 use Rattle.base_lists.proofs.Tests.{both-true}
-use Rattle.base_util.specs.Section.{items-at, ValidSet, HoldsSet}
+use Rattle.base_util.specs.Section.{working-places, items-at, ValidSet, HoldsSet}
 use Rattle.base_util.proofs.Sets.{lent}
-use Rattle.base_columns.specs.Columns.{numbers-at, ValidNumbers, count-of, data-map-at, ValidDataWords, HoldsDataWords}
+use Rattle.base_columns.specs.Columns.{active-places, known-places, numbers-at, ValidNumbers, count-of, data-map-at, ValidDataWords, HoldsDataWords}
 use Rattle.base_columns.proofs.Numbers.{numbers-lent}
 use Rattle.base_columns.proofs.Data.{peers-lent}
 
@@ -42,9 +42,9 @@ without-among (suc i) p (k ∷ ks) ps n f =
 
 module _ (n : ℕ) (m : List ℕ) (v : ValidDataWords n m) where
   -- the peers of both views and of the requests, where they lie
-  pub known-lent : (a p q : List ℕ) (r : Bool) → ValidSet 8 a → ValidSet 32 p → ValidNumbers 32 q → r ≡ subset (take (count-of n m) m) (take (getD a 8 0) a ++ (take (getD p 32 0) p ++ take (getD q 64 0) q))
-      → r ≡ subset (keys (data-map-at n m)) (items-at 8 a ++ (items-at 32 p ++ keys (numbers-at 32 q)))
-  known-lent a p q r x y z e = e ∙ (λ i. subset (peers-lent n m v i) (lent 8 a x i ++ (lent 32 p y i ++ numbers-lent 32 q z i)))
+  pub known-lent : (a p q : List ℕ) (r : Bool) → ValidSet active-places a → ValidSet working-places p → ValidNumbers working-places q → r ≡ subset (take (count-of n m) m) (take (getD a active-places 0) a ++ (take (getD p working-places 0) p ++ take (getD q 64 0) q))
+      → r ≡ subset (keys (data-map-at n m)) (items-at active-places a ++ (items-at working-places p ++ keys (numbers-at working-places q)))
+  known-lent a p q r x y z e = e ∙ (λ i. subset (peers-lent n m v i) (lent active-places a x i ++ (lent working-places p y i ++ numbers-lent working-places q z i)))
 
   key-read : (i : ℕ) → i < count-of n m → getD (keys (data-map-at n m)) i 0 ≡ getD m i 0
   key-read i h = ap (λ (l : List ℕ). getD l i 0) (sym (peers-lent n m v)) ∙ getD-take (count-of n m) m i 0 h
@@ -105,22 +105,22 @@ retaining-end n k s m₀ m c i r h =
 
 -- ---- the peers whose data may be held
 
-module _ (a p : List ℕ) (va : ValidSet 8 a) (vp : ValidSet 32 p) where
-  pub room-active : (v : List ℕ) → HoldsSet 72 v [] → length (items-at 72 v) + length (items-at 8 a) ≤ 72
+module _ (a p : List ℕ) (va : ValidSet active-places a) (vp : ValidSet working-places p) where
+  pub room-active : (v : List ℕ) → HoldsSet known-places v [] → length (items-at known-places v) + length (items-at active-places a) ≤ known-places
   room-active v h = omega (arith, ap length (h .items), va .counted, va .fits)
 
-  pub room-passive : (v w : List ℕ) → HoldsSet 72 v [] → HoldsSet 72 w (items-at 72 v ++ items-at 8 a) → length (items-at 72 w) + length (items-at 32 p) ≤ 72
-  room-passive v w h k = omega (arith, ap length (h .items), ap length (k .items), length-append (items-at 72 v) (items-at 8 a), va .counted, va .fits, vp .counted, vp .fits)
+  pub room-passive : (v w : List ℕ) → HoldsSet known-places v [] → HoldsSet known-places w (items-at known-places v ++ items-at active-places a) → length (items-at known-places w) + length (items-at working-places p) ≤ known-places
+  room-passive v w h k = omega (arith, ap length (h .items), ap length (k .items), length-append (items-at known-places v) (items-at active-places a), va .counted, va .fits, vp .counted, vp .fits)
 
-  module _ (v w x : List ℕ) (h : HoldsSet 72 v []) (k : HoldsSet 72 w (items-at 72 v ++ items-at 8 a)) (l : HoldsSet 72 x (items-at 72 w ++ items-at 32 p)) where
-    views-are : items-at 72 x ≡ items-at 8 a ++ items-at 32 p
-    views-are = l .items ∙ ap (λ (xs : List ℕ). xs ++ items-at 32 p) (k .items ∙ ap (λ (xs : List ℕ). xs ++ items-at 8 a) (h .items))
+  module _ (v w x : List ℕ) (h : HoldsSet known-places v []) (k : HoldsSet known-places w (items-at known-places v ++ items-at active-places a)) (l : HoldsSet known-places x (items-at known-places w ++ items-at working-places p)) where
+    views-are : items-at known-places x ≡ items-at active-places a ++ items-at working-places p
+    views-are = l .items ∙ ap (λ (xs : List ℕ). xs ++ items-at working-places p) (k .items ∙ ap (λ (xs : List ℕ). xs ++ items-at active-places a) (h .items))
 
-    pub room-asked : (t ks : List ℕ) → HoldsSet 32 t ks → length (items-at 72 x) + length (items-at 32 t) ≤ 72
-    room-asked t ks g = omega (arith, ap length views-are, length-append (items-at 8 a) (items-at 32 p), va .counted, va .fits, vp .counted, vp .fits, g .valid .counted, g .valid .fits)
+    pub room-asked : (t ks : List ℕ) → HoldsSet working-places t ks → length (items-at known-places x) + length (items-at working-places t) ≤ known-places
+    room-asked t ks g = omega (arith, ap length views-are, length-append (items-at active-places a) (items-at working-places p), va .counted, va .fits, vp .counted, vp .fits, g .valid .counted, g .valid .fits)
 
-    pub peers-known : (t ks y : List ℕ) → HoldsSet 32 t ks → HoldsSet 72 y (items-at 72 x ++ items-at 32 t) → HoldsSet 72 y (items-at 8 a ++ (items-at 32 p ++ ks))
+    pub peers-known : (t ks y : List ℕ) → HoldsSet working-places t ks → HoldsSet known-places y (items-at known-places x ++ items-at working-places t) → HoldsSet known-places y (items-at active-places a ++ (items-at working-places p ++ ks))
     peers-known t ks y g z = record {
       valid = z .valid;
-      items = z .items ∙ ((λ i. views-are i ++ g .items i) ∙ append-assoc (items-at 8 a) (items-at 32 p) ks);
+      items = z .items ∙ ((λ i. views-are i ++ g .items i) ∙ append-assoc (items-at active-places a) (items-at working-places p) ks);
     }

@@ -17,7 +17,7 @@ use Rattle.base_lists.proofs.Array.{length-pad, getD-pad}
 use Rattle.base_lists.proofs.Entries.{Entries, entries-of, entries-keys, entries-values}
 use Rattle.base_peer.specs.Maps.{no-data, entry-bytes, ValidEntry}
 use Rattle.base_peer.proofs.Maps.{itself, Any, map-itself, length-entry}
-use Rattle.base_util.specs.Section.{part, HoldsSet}
+use Rattle.base_util.specs.Section.{working-places, part, HoldsSet}
 use Rattle.base_util.proofs.Parts.{part-long}
 use Rattle.base_util.proofs.Sets.{set-as}
 use Rattle.base_columns.specs.Columns.{words-end, Two, row, rows, head-of, tail-of, count-of, numbers-at, ValidNumbers, HoldsNumbers, numbers-section, data-map-at, ValidDataWords, HoldsDataWords, low-word, high-word, data-section}
@@ -109,8 +109,8 @@ data-cleared n m t l e =
 
 -- ---- the peers of a map of numbers as a set
 
-pub keys-copied : (n : ℕ) (m t : List ℕ) → ValidNumbers n m → HoldsSet 32 t (take (getD m (n + n) 0) (part 0 n m)) → HoldsSet 32 t (keys (numbers-at n m))
-keys-copied n m t v h = set-as 32 t _ _ h (sym (number-keys n m v))
+pub keys-copied : (n : ℕ) (m t : List ℕ) → ValidNumbers n m → HoldsSet working-places t (take (getD m (n + n) 0) (part 0 n m)) → HoldsSet working-places t (keys (numbers-at n m))
+keys-copied n m t v h = set-as working-places t _ _ h (sym (number-keys n m v))
 
 pub keys-few : (n : ℕ) (m : List ℕ) (k : ℕ) → ValidNumbers n m → n ≤ k → length (part 0 n m) ≤ k
 keys-few n m k v h = omega (arith, part-long 0 n m (omega (arith, v .long)))

@@ -13,7 +13,7 @@ use lib.Dec.{eqb, ltb}
 use borrow.Author.Tests.{eqb-false, ltb-true, ltb-false, lt-ltb, le-ltb, ne-eqb}
 use Rattle.base_lists.specs.Lists.{choose, swap}
 use Rattle.base_lists.proofs.Choice.{by-choice, choose-yes, choose-no, split}
-use Rattle.base_util.specs.Chances.{all-draws, kept-end, is-kept, passed-over, pick-draws, pick, shuffle-down, draws-down, shuffle, shuffle-draws, sure-end, sure}
+use Rattle.base_util.specs.Chances.{all-draws, kept-end, is-kept, passed-over, pick-draws, pick, shuffle-down, draws-down, shuffle, shuffle-draws, sure-end, sure, most-items}
 
 -- a choice among n is below n
 pub pick-below : (n : ℕ) (ds : List ℕ) → 0 < n → pick n ds < n
@@ -130,7 +130,7 @@ sure-length [] = omega arith
 sure-length (d ∷ ds) = by-choice (λ (c : ℕ). c + sure ds ≤ suc (length ds)) (ltb d sure-end) (λ e. omega (arith, sure-length ds)) (λ e. omega (arith, sure-length ds))
 
 -- a choice of at most 32 items passes over no draw that is below 2^32 - 32
-passed-unsure : (n d : ℕ) → 0 < n → n ≤ 32 → is-kept n d ≡ false → ltb d sure-end ≡ false
+passed-unsure : (n d : ℕ) → 0 < n → n ≤ most-items → is-kept n d ≡ false → ltb d sure-end ≡ false
 unfolding is-kept kept-end
 passed-unsure n d h l e =
     split (ltb d sure-end) (λ t. absurd (omega (arith, ltb-true d sure-end t, ltb-false d (all-draws - all-draws % n) e, mod-lt all-draws {m = n} h))) (λ t. t)
@@ -146,7 +146,7 @@ unfolding sure
 one-costs [] = record { taken = omega arith; short = λ h. omega arith }
 one-costs (d ∷ ds) = record { taken = by-choice (λ (c : ℕ). c + 0 ≤ 1) (ltb d sure-end) (λ e. omega arith) (λ e. omega arith); short = λ h. absurd (omega arith) }
 
-module _ (n : ℕ) (h : 0 < n) (few : n ≤ 32) where
+module _ (n : ℕ) (h : 0 < n) (few : n ≤ most-items) where
   some-costs : (ds : List ℕ) → Costs 1 (suc (passed-over n ds)) ds
   unfolding passed-over sure
   some-costs [] = record { taken = omega arith; short = λ l. omega arith }
@@ -157,14 +157,14 @@ module _ (n : ℕ) (h : 0 < n) (few : n ≤ 32) where
       let c = some-costs ds in
       record { taken = omega (arith, t, c .taken); short = λ l. omega (arith, t, c .short (omega arith)) })
 
-pub pick-costs : (n : ℕ) (ds : List ℕ) → n ≤ 32 → Costs 1 (pick-draws n ds) ds
+pub pick-costs : (n : ℕ) (ds : List ℕ) → n ≤ most-items → Costs 1 (pick-draws n ds) ds
 unfolding pick-draws sure
 pick-costs n ds few =
     by-choice (λ (m : ℕ). Costs 1 m ds) (eqb n 0)
     (λ e. record { taken = omega arith; short = λ l. absurd (omega arith) })
     (λ e. let o = eqb-false n 0 e in rw (add-one (passed-over n ds)) (some-costs n (omega arith) few ds))
 
-down-costs : (i : ℕ) (ds : List ℕ) → i < 32 → Costs i (draws-down i ds) ds
+down-costs : (i : ℕ) (ds : List ℕ) → i < most-items → Costs i (draws-down i ds) ds
 unfolding draws-down sure
 down-costs zero ds h = record { taken = omega arith; short = λ l. absurd (omega arith) }
 down-costs (suc i) ds h =
@@ -178,7 +178,7 @@ down-costs (suc i) ds h =
           (λ e. omega (arith, ltb-false (length ds) m e, sure-at m ds, c .taken, r .short (omega (arith, length-drop m ds, ltb-false (length ds) m e))));
     }
 
-pub shuffle-costs : (k : ℕ) (ds xs : List ℕ) → length xs - 1 ≤ k → k < 32 → Costs k (shuffle-draws ds xs) ds
+pub shuffle-costs : (k : ℕ) (ds xs : List ℕ) → length xs - 1 ≤ k → k < most-items → Costs k (shuffle-draws ds xs) ds
 unfolding shuffle-draws
 shuffle-costs k ds xs h few =
     let c = down-costs (length xs - 1) ds (omega arith) in

@@ -10,7 +10,7 @@ use lib.ListN.{length, take, getD, set, length-set, length-append, List·getD-ap
 use lib.Seq.{getD-append-add}
 use Rattle.base_lists.proofs.Array.{getD-pad}
 use Rattle.base_lists.proofs.Front.{Front, front-start, front-step, front-end}
-use Rattle.base_util.specs.Section.{part, Filled, items-at, ValidSet, HoldsSet, section}
+use Rattle.base_util.specs.Section.{working-places, working-words, part, Filled, items-at, ValidSet, HoldsSet, section}
 use Rattle.base_util.proofs.Columns.{filled-length}
 use Rattle.base_util.proofs.Sets.{framed, framed-long, framed-last, framed-set, framed-at, framed-past, holds-by, set-words, word-at-place, item-read}
 
@@ -18,12 +18,12 @@ use Rattle.base_util.proofs.Sets.{framed, framed-long, framed-last, fra
 
 pub record Copying (s : List ℕ) (n : ℕ) (t₀ t : List ℕ) (i : ℕ) : Type 0 where
   pub filled : Filled s n
-  pub few : length s ≤ 32
-  pub low : i ≤ 32
-  pub long : length t ≡ 33
-  pub front : Front 0 33 (section 32 (take n s)) t₀ t i
+  pub few : length s ≤ working-places
+  pub low : i ≤ working-places
+  pub long : length t ≡ working-words
+  pub front : Front 0 working-words (section working-places (take n s)) t₀ t i
 
-pub copying-start : (s : List ℕ) (n : ℕ) (t : List ℕ) → Filled s n → length s ≤ 32 → length t ≡ 33 → Copying s n t t 0
+pub copying-start : (s : List ℕ) (n : ℕ) (t : List ℕ) → Filled s n → length s ≤ working-places → length t ≡ working-words → Copying s n t t 0
 copying-start s n t v h l = record {
   filled = v;
   few = h;
@@ -33,14 +33,14 @@ copying-start s n t v h l = record {
 }
 
 module _ (s : List ℕ) (n : ℕ) (t₀ t : List ℕ) (i : ℕ) (c : Copying s n t₀ t i) where
-  fits : length (take n s) ≤ 32
+  fits : length (take n s) ≤ working-places
   fits = omega (arith, filled-length s n (c .filled), c .filled .fits, c .few)
 
-  wanted : i < 32 → getD (take n s) i 0 ≡ getD (section 32 (take n s)) i 0
+  wanted : i < working-places → getD (take n s) i 0 ≡ getD (section working-places (take n s)) i 0
   unfolding section
-  wanted h = sym (framed-at 32 (take n s) (length (take n s)) i h fits)
+  wanted h = sym (framed-at working-places (take n s) (length (take n s)) i h fits)
 
-  stored : (x : ℕ) → i < 32 → x ≡ getD (take n s) i 0 → Copying s n t₀ (set t i x) (i + 1)
+  stored : (x : ℕ) → i < working-places → x ≡ getD (take n s) i 0 → Copying s n t₀ (set t i x) (i + 1)
   stored x h e = record {
     filled = c .filled;
     few = c .few;
@@ -56,23 +56,23 @@ module _ (s : List ℕ) (n : ℕ) (t₀ t : List ℕ) (i : ℕ) (c : Copying s n
   pub copying-next : i < length s → Copying s n t₀ (set t i (getD s i 0)) (i + 1)
   copying-next h = stored (getD s i 0) (omega (arith, c .few)) word
 
-  pub copying-past : length s ≤ i → i < 32 → Copying s n t₀ (set t i 0) (i + 1)
+  pub copying-past : length s ≤ i → i < working-places → Copying s n t₀ (set t i 0) (i + 1)
   copying-past q h = stored 0 h (sym (List·getD-eq-default (take n s) 0 (omega (arith, filled-length s n (c .filled), c .filled .fits))))
 
-  pub copying-long : (x k : ℕ) → k ≡ 33 → length (set t 32 x) ≡ k
-  copying-long x k l = length-set t 32 x ∙ c .long ∙ sym l
+  pub copying-long : (x k : ℕ) → k ≡ working-words → length (set t working-places x) ≡ k
+  copying-long x k l = length-set t working-places x ∙ c .long ∙ sym l
 
-  pub copying-end : length t₀ ≡ 33 → 32 ≤ i → HoldsSet 32 (set t 32 n) (take n s)
+  pub copying-end : length t₀ ≡ working-words → working-places ≤ i → HoldsSet working-places (set t working-places n) (take n s)
   unfolding section
   copying-end l p =
-      let z : i ≡ 32 = omega (arith, c .low) in
-      let g = front-step (subst (Front 0 33 (section 32 (take n s)) t₀ t) z (c .front)) n (omega arith) (sym (framed-last 32 (take n s) (length (take n s)) ∙ filled-length s n (c .filled))) in
-      holds-by 32 _ (take n s)
-      (front-end g (framed-long 32 (take n s) (length (take n s)))
-      (λ j k. List·getD-eq-default t₀ 0 (omega arith) ∙ sym (List·getD-eq-default (section 32 (take n s)) 0 (omega (arith, framed-long 32 (take n s) (length (take n s)))))))
+      let z : i ≡ working-places = omega (arith, c .low) in
+      let g = front-step (subst (Front 0 working-words (section working-places (take n s)) t₀ t) z (c .front)) n (omega arith) (sym (framed-last working-places (take n s) (length (take n s)) ∙ filled-length s n (c .filled))) in
+      holds-by working-places _ (take n s)
+      (front-end g (framed-long working-places (take n s) (length (take n s)))
+      (λ j k. List·getD-eq-default t₀ 0 (omega arith) ∙ sym (List·getD-eq-default (section working-places (take n s)) 0 (omega (arith, framed-long working-places (take n s) (length (take n s)))))))
       fits
 
-pub copied : (n : ℕ) (s t : List ℕ) → ValidSet n s → HoldsSet 32 t (take (getD s n 0) (part 0 n s)) → HoldsSet 32 t (items-at n s)
+pub copied : (n : ℕ) (s t : List ℕ) → ValidSet n s → HoldsSet working-places t (take (getD s n 0) (part 0 n s)) → HoldsSet working-places t (items-at n s)
 unfolding items-at
 copied n s t v h = h
 

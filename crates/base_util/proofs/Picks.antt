@@ -6,6 +6,7 @@ use mathlib.Core.List.{List}
 use native.Mathlib.Nat.{mod-lt}
 use native.Mathlib.Omega.{arith}
 use lib.ListN.{length, drop, getD}
+use Rattle.base_util.specs.Section.{working-places}
 use Rattle.base_util.specs.Chances.{all-draws, pick-draws, pick}
 use Rattle.base_util.proofs.Chances.{Passing, passing-start, passing-next, kept-index, kept-next, none-index, none-next}
 
@@ -13,10 +14,10 @@ use Rattle.base_util.proofs.Chances.{Passing, passing-start, passing-ne
 pub record Reading (n at : ℕ) (ds : List ℕ) (end k : ℕ) : Type 0 where
   pub upto : end ≡ all-draws - all-draws % n
   pub some : 0 < n
-  pub near : k ≤ length ds + 32
+  pub near : k ≤ length ds + working-places
   pub passing : Passing n at ds k
 
-pub reading-start : (n at : ℕ) (ds : List ℕ) → 0 < n → at ≤ length ds + 32 → Reading n at ds (all-draws - all-draws % n) at
+pub reading-start : (n at : ℕ) (ds : List ℕ) → 0 < n → at ≤ length ds + working-places → Reading n at ds (all-draws - all-draws % n) at
 reading-start n at ds h l = record { upto = refl; some = h; near = l; passing = passing-start n at ds }
 
 module _ (n at : ℕ) (ds : List ℕ) (end k : ℕ) (v : Reading n at ds end k) where

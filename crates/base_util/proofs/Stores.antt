@@ -16,7 +16,7 @@ use Rattle.base_lists.proofs.Rest.{Rest, rest-next, rest-end}
 use Rattle.base_util.specs.Chances.{pick-draws, pick, shuffle-down, draws-down, shuffle, shuffle-draws}
 use Rattle.base_util.proofs.Chances.{length-swapped, length-shuffled, picks-next, shuffle-step, draws-step}
 use borrow.Rule.Slice.PartMut.{putMid}
-use Rattle.base_util.specs.Section.{part, Filled, items-at, ValidSet, HoldsSet}
+use Rattle.base_util.specs.Section.{working-places, part, Filled, items-at, ValidSet, HoldsSet}
 use Rattle.base_util.proofs.Columns.{filled-length}
 use Rattle.base_util.proofs.Sets.{rearranged}
 
@@ -122,7 +122,7 @@ pub record Mixing (ds : List ℕ) (at n : ℕ) (s₀ s : List ℕ) (i k : ℕ) :
   pub long : length s ≡ length s₀
   pub room : n ≤ length s
   pub low : i < n
-  pub few : n ≤ 32
+  pub few : n ≤ working-places
   pub place : k + i < length ds + n
   pub taken : at + shuffle-draws (drop at ds) (take n s₀) ≡ k + draws-down i (drop k ds)
   pub packed : s ≡ pad 0 (length s₀) (take n s)
@@ -142,7 +142,7 @@ module _ (s : List ℕ) (ds : List ℕ) (at n : ℕ) (f : Filled s n) where
       let e : draws-down (length (take n s) - 1) (drop at ds) ≡ 0 = ap (λ (m : ℕ). draws-down m (drop at ds)) (sym z) in
       omega (arith, e)
 
-  mixing-start : 2 ≤ n → n ≤ 32 → at ≤ length ds → Mixing ds at n s s (n - 1) at
+  mixing-start : 2 ≤ n → n ≤ working-places → at ≤ length ds → Mixing ds at n s s (n - 1) at
   unfolding shuffle shuffle-draws
   mixing-start h l m = record {
     filled = f;
@@ -157,7 +157,7 @@ module _ (s : List ℕ) (ds : List ℕ) (at n : ℕ) (f : Filled s n) where
   }
 
 module _ (ds : List ℕ) (at n : ℕ) (s₀ s : List ℕ) (i k : ℕ) (v : Mixing ds at n s₀ s i k) where
-  left-to-draw : k ≤ length ds + 32
+  left-to-draw : k ≤ length ds + working-places
   left-to-draw = omega (arith, v .place, v .few, v .low)
 
   module _ (j : ℕ) (b : j < n) where
@@ -230,7 +230,7 @@ module _ (n : ℕ) (s ds : List ℕ) (at : ℕ) (v : ValidSet n s) where
   pub turn-none : getD s n 0 < 2 → at ≡ at + shuffle-draws (drop at ds) (items-at n s)
   turn-none h = mixed-taken n s ds at at (mixing-none (part 0 n s) ds at (getD s n 0) (v .filled) h)
 
-  pub turn-start : n ≤ 32 → at ≤ length ds → 2 ≤ getD s n 0 → Turning ds at n s s (getD s n 0 - 1) at
+  pub turn-start : n ≤ working-places → at ≤ length ds → 2 ≤ getD s n 0 → Turning ds at n s s (getD s n 0 - 1) at
   turn-start w l h =
       record {
         valid = v;
@@ -240,7 +240,7 @@ module _ (n : ℕ) (s ds : List ℕ) (at : ℕ) (v : ValidSet n s) where
       }
 
 module _ (ds : List ℕ) (at n : ℕ) (s₀ s : List ℕ) (i k : ℕ) (v : Turning ds at n s₀ s i k) where
-  pub turn-left : k ≤ length ds + 32
+  pub turn-left : k ≤ length ds + working-places
   turn-left = left-to-draw ds at _ _ _ i k (v .column)
 
   pub turn-place : i < length s

@@ -51,9 +51,13 @@ shuffle ds xs = shuffle-down (length xs - 1) ds xs
 unfoldable pub shuffle-draws : List ℕ → List ℕ → ℕ
 shuffle-draws ds xs = draws-down (length xs - 1) ds
 
--- 02, S-6: a draw below this is kept for every number of items up to 32: the remainder of 2^32 is below it
+-- the most items that a station chooses among
+abbrev pub most-items : ℕ
+most-items = 32
+
+-- 02, S-6: a draw below this is kept for every number of items up to these: the remainder of 2^32 is below it
 abbrev pub sure-end : ℕ
-sure-end = all-draws - 32
+sure-end = all-draws - most-items
 
 -- how many draws of a list are below it
 unfoldable pub sure : List ℕ → ℕ

@@ -10,6 +10,7 @@ use lib.ListN.{length, getD, take, replicate, List·getD-append}
 use lib.Seq.{getD-append-add, length-take-le}
 use lib.Dec.{ltb, leb}
 use borrow.Author.Tests.{ltb-true, ltb-false, leb-true}
+use Rattle.record.specs.Kinds.{Message, DoMaintenance, PeerDisconnected, RequestJoin, Quit, kind-byte}
 use Rattle.base_lists.specs.Bytes.{overwrite}
 use Rattle.base_lists.specs.Tests.{every}
 use Rattle.base_lists.proofs.Choice.{split, choose-yes, and-left, and-right}
@@ -38,41 +39,41 @@ use Rattle.endings.specs.Steps.{first-state, played}
 
 pub wrote-one : (m f p : ℕ) (d : PeerData) (out : List ℕ) (r : Written) (o : List ℕ) → HoldsData d none
     → Wrote (rec-in (record { kind = 0; message = m; flags = f; peer = p; second = 0; ttl = 0; number = 0 }) (node-in (record { id = 0; «data» = d }) ∷ [])) 0 out r o
-    → Wrote (event 0 m f p no-data-node) 0 out r o
+    → Wrote (event (kind-byte Message) m f p no-data-node) 0 out r o
 unfolding rec-in node-in
-wrote-one m f p d out r o h w = subst (λ (x : Data). Wrote (event 0 m f p (record { id = 0; data-of = x } ∷ [])) 0 out r o) (h .holds) w
+wrote-one m f p d out r o h w = subst (λ (x : Data). Wrote (event (kind-byte Message) m f p (record { id = 0; data-of = x } ∷ [])) 0 out r o) (h .holds) w
 
 -- below suc n and not n
 down : (i n : ℕ) → i < suc n → (i ≡ n → ⊥) → i < n
 down i n h f = split (ltb i n) (λ t. ltb-true i n t) (λ t. absurd (f (omega (arith, ltb-false i n t))))
 
 module _ (p i : ℕ) (out : List ℕ) (r : Written) (o : List ℕ) where
-  pub at-0 : i ≡ 0 → Wrote (event 6 0 0 p []) 0 out r o → Wrote (getD (of-peer p) i quit) 0 out r o
+  pub at-0 : i ≡ 0 → Wrote (event (kind-byte RequestJoin) 0 0 p []) 0 out r o → Wrote (getD (of-peer p) i quit) 0 out r o
   unfolding of-peer
   at-0 h w = rw h w
 
-  pub at-1 : i ≡ 1 → Wrote (event 0 0 0 p no-data-node) 0 out r o → Wrote (getD (of-peer p) i quit) 0 out r o
+  pub at-1 : i ≡ 1 → Wrote (event (kind-byte Message) 0 0 p no-data-node) 0 out r o → Wrote (getD (of-peer p) i quit) 0 out r o
   unfolding of-peer
   at-1 h w = rw h w
 
-  pub at-2 : i ≡ 2 → Wrote (event 0 4 1 p no-data-node) 0 out r o → Wrote (getD (of-peer p) i quit) 0 out r o
+  pub at-2 : i ≡ 2 → Wrote (event (kind-byte Message) 4 1 p no-data-node) 0 out r o → Wrote (getD (of-peer p) i quit) 0 out r o
   unfolding of-peer
   at-2 h w = rw h w
 
-  pub at-3 : i ≡ 3 → Wrote (event 0 4 0 p no-data-node) 0 out r o → Wrote (getD (of-peer p) i quit) 0 out r o
+  pub at-3 : i ≡ 3 → Wrote (event (kind-byte Message) 4 0 p no-data-node) 0 out r o → Wrote (getD (of-peer p) i quit) 0 out r o
   unfolding of-peer
   at-3 h w = rw h w
 
-  pub at-4 : i ≡ 4 → Wrote (event 0 5 1 p []) 0 out r o → Wrote (getD (of-peer p) i quit) 0 out r o
+  pub at-4 : i ≡ 4 → Wrote (event (kind-byte Message) 5 1 p []) 0 out r o → Wrote (getD (of-peer p) i quit) 0 out r o
   unfolding of-peer
   at-4 h w = rw h w
 
-  pub at-5 : i ≡ 5 → Wrote (event 0 5 0 p []) 0 out r o → Wrote (getD (of-peer p) i quit) 0 out r o
+  pub at-5 : i ≡ 5 → Wrote (event (kind-byte Message) 5 0 p []) 0 out r o → Wrote (getD (of-peer p) i quit) 0 out r o
   unfolding of-peer
   at-5 h w = rw h w
 
   pub at-6 : i < 7 → (i ≡ 0 → ⊥) → (i ≡ 1 → ⊥) → (i ≡ 2 → ⊥) → (i ≡ 3 → ⊥) → (i ≡ 4 → ⊥) → (i ≡ 5 → ⊥)
-      → Wrote (event 5 0 0 p []) 0 out r o → Wrote (getD (of-peer p) i quit) 0 out r o
+      → Wrote (event (kind-byte PeerDisconnected) 0 0 p []) 0 out r o → Wrote (getD (of-peer p) i quit) 0 out r o
   unfolding of-peer
   at-6 h f0 f1 f2 f3 f4 f5 w = rw (six (λ l. down i 0 (down i 1 (down i 2 (down i 3 (down i 4 (down i 5 l f5) f4) f3) f2) f1) f0)) w
     where
@@ -93,11 +94,11 @@ module _ (i : ℕ) (out : List ℕ) (r : Written) (o : List ℕ) where
       ∙ (getD-append-add (of-peer 2) (of-peer 3 ++ (maintenance ∷ quit ∷ [])) (i - 7) quit ∙ List·getD-append (of-peer 3) (maintenance ∷ quit ∷ []) quit (i - 7) (omega arith)) in
       subst (λ (e : Rec). Wrote e 0 out r o) (sym there) w
 
-  pub at-14 : i ≡ 14 → Wrote (event 2 0 0 0 []) 0 out r o → Wrote (event-at i) 0 out r o
+  pub at-14 : i ≡ 14 → Wrote (event (kind-byte DoMaintenance) 0 0 0 []) 0 out r o → Wrote (event-at i) 0 out r o
   unfolding event-at events of-peer
   at-14 h w = rw h w
 
-  pub at-15 : i < 16 → 14 ≤ i → (i ≡ 14 → ⊥) → Wrote (event 8 0 0 0 []) 0 out r o → Wrote (event-at i) 0 out r o
+  pub at-15 : i < 16 → 14 ≤ i → (i ≡ 14 → ⊥) → Wrote (event (kind-byte Quit) 0 0 0 []) 0 out r o → Wrote (event-at i) 0 out r o
   unfolding event-at events of-peer
   at-15 h l f w = rw (split (ltb 14 i) (λ t. let k : i ≡ 15 = omega (arith, h, ltb-true 14 i t) in k) (λ t. absurd (f (omega (arith, l, ltb-false 14 i t))))) w
 

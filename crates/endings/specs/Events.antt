@@ -7,6 +7,7 @@ use lib.ListN.{getD, replicate}
 use Rattle.base_timing.specs.Timing.{default}
 use Rattle.base_timing.specs.declared.Config.{Config}
 use Rattle.base_peer.specs.Data.{Node}
+use Rattle.record.specs.Kinds.{Message, DoMaintenance, PeerDisconnected, RequestJoin, Quit, kind-byte}
 use Rattle.record.specs.Format.{Rec, encode}
 use Rattle.spec_stories.specs.Histories.{Event, History}
 use Rattle.spec_hyparview.specs.Station.{Station}
@@ -24,14 +25,21 @@ event k m f p ns = record { kind = k; message = m; flags = f; peer = p; second =
 -- "all seven for peer ..: RequestJoin, Join, Neighbor High, Neighbor Low, Disconnect alive, Disconnect not alive, disconnection"
 unfoldable pub of-peer : ℕ → List Rec
 of-peer p =
-    event 6 0 0 p [] ∷ event 0 0 0 p no-data-node ∷ event 0 4 1 p no-data-node ∷ event 0 4 0 p no-data-node ∷ event 0 5 1 p [] ∷ event 0 5 0 p [] ∷ event 5 0 0 p [] ∷ []
+    event (kind-byte RequestJoin) 0 0 p []
+    ∷ event (kind-byte Message) 0 0 p no-data-node
+    ∷ event (kind-byte Message) 4 1 p no-data-node
+    ∷ event (kind-byte Message) 4 0 p no-data-node
+    ∷ event (kind-byte Message) 5 1 p []
+    ∷ event (kind-byte Message) 5 0 p []
+    ∷ event (kind-byte PeerDisconnected) 0 0 p []
+    ∷ []
 
 -- "then maintenance and Quit"
 abbrev pub maintenance : Rec
-maintenance = event 2 0 0 0 []
+maintenance = event (kind-byte DoMaintenance) 0 0 0 []
 
 abbrev pub quit : Rec
-quit = event 8 0 0 0 []
+quit = event (kind-byte Quit) 0 0 0 []
 
 -- "The events, in this order, are all seven for peer 2, then all seven for peer 3 ..; then maintenance and Quit."
 unfoldable pub events : List Rec

@@ -13,6 +13,7 @@ ghost use mathlib.Core.Path.{_≡_};
 ghost use mathlib.Core.List.{[]};
 ghost use Prim.Native.Nat.{_+_, _≤_, _<_};
 ghost use lib.ListN.{length, getD, take};
+ghost use Rattle.record.specs.Kinds.{Message, kind-byte};
 ghost use Rattle.base_lists.specs.Lists.{choose};
 ghost use Rattle.spec_stories.specs.Histories.{of-length};
 ghost use Rattle.record.specs.Format.{header-length, node-length, encode};
@@ -69,7 +70,7 @@ fn put_bare(out: &mut [u8], kind: u8, message: u8, flags: u8, p: PeerId) -> Writ
 
 // A message of a peer with one node, without data.
 fn put_one(out: &mut [u8], message: u8, flags: u8, p: PeerId) -> Written
-    ensures { λ r. ⌜ Wrote (event 0 message flags p no-data-node) 0 (now (out .entry)) r (now (out .exit)) ⌝ }
+    ensures { λ r. ⌜ Wrote (event (kind-byte Message) message flags p no-data-node) 0 (now (out .entry)) r (now (out .exit)) ⌝ }
 {
     let f = Fields {
         kind: Kind::MESSAGE,

@@ -26,9 +26,9 @@ use Rattle.base_peer.specs.Data.{Data, bytes-of}
 use Rattle.base_peer.specs.Held.{data-in, ValidData}
 use Rattle.base_peer.specs.Maps.{numbers-under}
 use Rattle.base_peer.proofs.Data.{holds-some}
-use Rattle.base_timing.specs.Timing.{within, in-range}
+use Rattle.base_timing.specs.Timing.{within, in-range, max-bootstrap-peers, max-requests-per-refill}
 use Rattle.base_timing.proofs.Ranges.{ranges}
-use Rattle.spec_hyparview.specs.Station.{Station, Refill, automatic, requests-left, recovery, peers-end, bytes-end}
+use Rattle.spec_hyparview.specs.Station.{Station, Refill, automatic, requests-left, recovery, peers-end, bytes-end, max-requests, max-refused, max-data-length}
 use Rattle.spec_hyparview.specs.Rules.{short-data, all-short, all-under, lists-under, peer-lists, limit-ok, settings-rule, order-rule, capacity-rule, alive-rule, few-rule, joins-rule, numbers-rule, room-rule, data-rule, limit-rule, interval-rule, rules, station-ok}
 use Rattle.spec_hyparview.specs.Rules as R
 use Rattle.spec_hyparview.specs.Handle.{new-station, zero-config, zero-station}
@@ -98,14 +98,14 @@ kept-fits g k =
     let o₃ = and-right (rising (keys (g .peer-data))) _ o₂ in
     let joins-rise = rising-true _ (and-left (rising (keys (g .joins))) _ o₁) in
     let most = ranges (g .config) (k .settings) in
-    let few = leb (length (g .bootstrap)) 8 in
-    let asked = leb (length (g .requests)) 32 in
-    let turned = leb (length (g .refused)) 32 in
+    let few = leb (length (g .bootstrap)) max-bootstrap-peers in
+    let asked = leb (length (g .requests)) max-requests in
+    let turned = leb (length (g .refused)) max-refused in
     let room = and-right asked _ (k .room) in
     let held = wide-of g (k .width) .bytes in
     let active : length (g .active) ≤ g .config .«active_view_capacity» = leb-true _ _ (and-left (leb (length (g .active)) (g .config .«active_view_capacity»)) _ (k .capacity)) in
     let passive : length (g .passive) ≤ g .config .«passive_view_capacity» = leb-true _ _ (and-right (leb (length (g .active)) (g .config .«active_view_capacity»)) _ (k .capacity)) in
-    let bootstrap : length (g .bootstrap) ≤ 8 = leb-true _ _ (and-left few _ (k .few)) in
+    let bootstrap : length (g .bootstrap) ≤ max-bootstrap-peers = leb-true _ _ (and-left few _ (k .few)) in
     let alive : length (g .alive) ≤ length (g .passive) = no-more (g .alive) (g .passive) (rising-true _ (and-left (rising (g .alive)) _ o₃)) (k .alive) in
     let joins : length (keys (g .joins)) ≤ length (g .bootstrap) = no-more (keys (g .joins)) (g .bootstrap) joins-rise (and-left (subset (keys (g .joins)) (g .bootstrap)) _ (k .joins)) in
     record {
@@ -132,10 +132,10 @@ kept-fits g k =
 abbrev own-packed : Data → PeerData
 own-packed d = record { present = eqb (present-word d) 1; len = length (bytes-of d); bytes = word-bytes (low-word (bytes-of d)) (high-word (bytes-of d)) }
 
-short-bytes : (d : Data) → short-data d ≡ true → length (bytes-of d) ≤ 16
+short-bytes : (d : Data) → short-data d ≡ true → length (bytes-of d) ≤ max-data-length
 unfolding short-data bytes-of
 short-bytes none e = omega arith
-short-bytes (some b) e = leb-true (length b) 16 e
+short-bytes (some b) e = leb-true (length b) max-data-length e
 
 module _ (d : Data) (e : short-data d ≡ true) (u : all-under bytes-end (bytes-of d) ≡ true) where
   own-words : own-packed d ≡ record { present = eqb (present-word d) 1; len = length (bytes-of d); bytes = pad 0 16 (bytes-of d) }
@@ -278,13 +278,13 @@ numbers-fine n k l h f e w u =
     (column-fine n (values l) (omega (arith, length-values l)) (below-fine k (values l) w (sym (numbers-are k l) ∙ u))))
     (more (length l) [] (omega arith) no-words)
 
-module _ (f : List ℕ → ℕ) (h : (b : List ℕ) → length b ≤ 16 → all-under bytes-end b ≡ true → f b < words-end) where
+module _ (f : List ℕ → ℕ) (h : (b : List ℕ) → length b ≤ max-data-length → all-under bytes-end b ≡ true → f b < words-end) where
   mapped-fine : (l : List (ℕ × List ℕ)) → all-short l ≡ true → lists-under bytes-end (values l) ≡ true → Fine (map f (values l))
   unfolding values all-short lists-under
   mapped-fine [] s e = no-words
   mapped-fine (x ∷ l) s e =
-      more (f (x .1)) (map f (values l)) (h (x .1) (leb-true _ _ (and-left (leb (length (x .1)) 16) _ s)) (and-left (all-under bytes-end (x .1)) _ e))
-      (mapped-fine l (and-right (leb (length (x .1)) 16) _ s) (and-right (all-under bytes-end (x .1)) _ e))
+      more (f (x .1)) (map f (values l)) (h (x .1) (leb-true _ _ (and-left (leb (length (x .1)) max-data-length) _ s)) (and-left (all-under bytes-end (x .1)) _ e))
+      (mapped-fine l (and-right (leb (length (x .1)) max-data-length) _ s) (and-right (all-under bytes-end (x .1)) _ e))
 
 data-fine : (l : List (ℕ × List ℕ)) → length l ≤ layout.peer-data-places → all-under peers-end (keys l) ≡ true → all-short l ≡ true → lists-under bytes-end (values l) ≡ true → Fine (data-section layout.peer-data-places l)
 unfolding data-section
@@ -302,10 +302,10 @@ kind-fits automatic = omega arith
 kind-fits (requests-left n) = omega arith
 kind-fits recovery = omega arith
 
-requests-fit : (r : Refill) → limit-ok r ≡ true → requests-word r ≤ 3
+requests-fit : (r : Refill) → limit-ok r ≡ true → requests-word r ≤ max-requests-per-refill
 unfolding requests-word limit-ok
 requests-fit automatic e = omega arith
-requests-fit (requests-left n) e = leb-true n 3 e
+requests-fit (requests-left n) e = leb-true n max-requests-per-refill e
 requests-fit recovery e = omega arith
 
 -- the peers, list by list, by tools/make/layout.py

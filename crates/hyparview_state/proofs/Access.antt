@@ -14,7 +14,7 @@ use Rattle.base_util.proofs.Parts.{part-read}
 use Rattle.base_columns.specs.Columns.{ValidNumbers, ValidDataWords}
 use Rattle.base_peer.specs.declared.PeerData.{PeerData}
 use Rattle.base_peer.specs.Held.{ValidData}
-use Rattle.base_timing.specs.Timing.{in-range, within}
+use Rattle.base_timing.specs.Timing.{in-range, within, longest-time, most-active}
 use Rattle.spec_hyparview.specs.Station.{top-passes}
 use Rattle.hyparview_state.specs.Layout as layout
 use Rattle.hyparview_state.specs.Unpack.{own-at, settings-at, PackedState, opened}
@@ -29,7 +29,7 @@ module _ (xs : List ℕ) (p : PackedState xs) where
   pub of-settings : in-range (settings-at xs) ≡ true
   of-settings = opened p .settings
 
-  pub of-interval : layout.next-shuffle-interval xs ≤ 3600000
+  pub of-interval : layout.next-shuffle-interval xs ≤ longest-time
   of-interval = opened p .short-interval
 
   pub of-alone : layout.passes-alone xs ≤ top-passes
@@ -48,9 +48,9 @@ module _ (xs : List ℕ) (p : PackedState xs) where
   unfolding own-at
   of-own-len = omega (arith, opened p .own-data .fits)
 
-  pub of-capacity : layout.active-view-capacity xs ≤ 8
+  pub of-capacity : layout.active-view-capacity xs ≤ most-active
   unfolding in-range settings-at within
-  of-capacity = leb-true _ _ (and-right (leb 1 (layout.active-view-capacity xs)) _ (and-left (leb 1 (layout.active-view-capacity xs) && leb (layout.active-view-capacity xs) 8) _ (opened p .settings)))
+  of-capacity = leb-true _ _ (and-right (leb 1 (layout.active-view-capacity xs)) _ (and-left (leb 1 (layout.active-view-capacity xs) && leb (layout.active-view-capacity xs) most-active) _ (opened p .settings)))
 
 -- the sections, by tools/make/layout.py
 module _ (xs : List ℕ) (p : PackedState xs) where

@@ -5,5 +5,4 @@ pub mod Access
 pub mod Counts
 pub mod Limits
 pub mod Bridge
-pub mod Refused
 pub mod Any

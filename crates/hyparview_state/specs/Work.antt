@@ -15,12 +15,6 @@ run = work.run-of station-form
 abbrev pub Changes : (Run → Run) → Held → Held → Type 0
 Changes = work.Changes station-form
 
-abbrev pub Ready : Held → List ℕ → Type 0
-Ready = work.Ready station-form
-
-abbrev pub DrawsFrom : (Run → Run) → Held → Held → List ℕ → Type 0
-DrawsFrom = work.DrawsFrom station-form
-
 abbrev pub Room : Held → List ℕ → Type 0
 Room = work.Room station-form
 

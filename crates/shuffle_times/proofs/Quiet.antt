@@ -98,14 +98,14 @@ pub adds-one : (e : Rec) (r : Run) → (emit e r) .code ≡ 0 → Adds (shuffles
 unfolding encode-all
 adds-one e r z = record { records = e ∷ []; is = emit-out e r z ∙ ap (λ (w : List ℕ). r .out ++ w) (sym (append-nil (encode e))); timers = refl }
 
-pub emits : (e : Rec) → eqb (e .kind) 1 ≡ false → (r : Run) → Quiet r (emit e r)
+pub emits : (e : Rec) → eqb (e .kind) (kind-byte DoShuffle) ≡ false → (r : Run) → Quiet r (emit e r)
 unfolding timers-of
 emits e k r = record {
   so = λ z. record {
     fine = emit-fine e r z;
     lent = emit-lent e r;
     same-clock = ap clock (emit-station e r);
-    adds = subst (λ (l : List ℕ). Adds l (r .out) ((emit e r) .out)) (choose-no (eqb (e .kind) 1) _ _ k) (adds-one e r z);
+    adds = subst (λ (l : List ℕ). Adds l (r .out) ((emit e r) .out)) (choose-no (eqb (e .kind) (kind-byte DoShuffle)) _ _ k) (adds-one e r z);
   };
 }
 
@@ -140,7 +140,7 @@ requires {c} p test r = record {
       subst (Still r) (sym (e .0)) (same r .so (subst (λ (w : Run). w .code ≡ 0) (e .0) z));
 }
 
-emits-all : (f : ℕ → Rec) → ((p : ℕ) → eqb (f p .kind) 1 ≡ false) → (ps : List ℕ) (r : Run) → Quiet r (emit-all f ps r)
+emits-all : (f : ℕ → Rec) → ((p : ℕ) → eqb (f p .kind) (kind-byte DoShuffle) ≡ false) → (ps : List ℕ) (r : Run) → Quiet r (emit-all f ps r)
 unfolding emit-all
 emits-all f k [] r = same r
 emits-all f k (p ∷ ps) r = then (emits (f p) (k p) r) (emits-all f k ps (emit (f p) r))

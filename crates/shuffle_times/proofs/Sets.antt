@@ -57,7 +57,7 @@ module _ (r : Run) where
   schedule-adds : (T.schedule-shuffle r) .code ≡ 0 → Adds (delay (r .station .next-interval) (drawn r) ∷ []) (r .out) ((T.schedule-shuffle r) .out)
   unfolding T.schedule-shuffle timers-of choose
   schedule-adds z =
-      let e = timer 1 0 (delay (r .station .next-interval) (drawn r)) 0 in
+      let e = timer (kind-byte DoShuffle) 0 (delay (r .station .next-interval) (drawn r)) 0 in
       let b = draw 1 (on T.double-interval r) in
       subst (λ (x : List ℕ). Adds (e .second ∷ []) x ((emit e b) .out)) (draw-out 1 (on T.double-interval r) ∙ on-out T.double-interval r) (adds-one e b z)
 

@@ -8,6 +8,7 @@ use native.Mathlib.Omega.{arith}
 use lib.ListN.{length, replicate, length-append}
 use lib.Dec.{ltb, eqb}
 use borrow.Author.Tests.{ltb-true}
+use Rattle.record.specs.Kinds.{DoShuffle, kind-byte}
 use Rattle.base_lists.specs.Lists.{choose}
 use Rattle.base_lists.specs.Bytes.{le, read-le}
 use Rattle.base_lists.proofs.Choice.{choose-yes, choose-no, and-left, and-right}
@@ -37,7 +38,7 @@ encode-all-append (e ∷ es) b = rw (encode-all-append es b) (sym (append-assoc 
 pub shuffles-append : (a b : List Rec) → shuffles (a ++ b) ≡ shuffles a ++ shuffles b
 unfolding timers-of
 shuffles-append [] b = refl
-shuffles-append (e ∷ es) b = rw (shuffles-append es b) (either (eqb (e .kind) 1))
+shuffles-append (e ∷ es) b = rw (shuffles-append es b) (either (eqb (e .kind) (kind-byte DoShuffle)))
   where
     either : (t : Bool) → choose t (e .second ∷ (shuffles es ++ shuffles b)) (shuffles es ++ shuffles b) ≡ choose t (e .second ∷ shuffles es) (shuffles es) ++ shuffles b
     either true = choose-yes true _ _ refl ∙ ap (λ (l : List ℕ). l ++ shuffles b) (sym (choose-yes true _ _ refl))

@@ -17,7 +17,7 @@ use Rattle.base_lists.proofs.Members.{both}
 use Rattle.base_timing.specs.Timing.{in-range, delay, backoff-due, maintenance-interval}
 use Rattle.base_timing.specs.declared.Config.{Config}
 use Rattle.base_peer.specs.Data.{Data}
-use Rattle.record.specs.Kinds.{is-event-kind}
+use Rattle.record.specs.Kinds.{Quit, is-event-kind, DoShuffle, DoMaintenance, kind-byte}
 use Rattle.record.specs.Format.{Rec, header-length, size-by, datas, header-by, entries-by, encode, encode-by}
 use Rattle.record.specs.Read as Rd
 use Rattle.record.specs.Read.{event, read-event}
@@ -49,15 +49,15 @@ two-records = 2 * header-length
 -- a call with the event e, one draw and room for the records that it asks for
 unfoldable quit-call : ℕ → Call
 unfolding encode-by header-by entries-by datas size-by le all-under
-quit-call x = record { event = encode (notice 8 0); are-bytes = refl; draws = x ∷ []; output = replicate two-records 0 }
+quit-call x = record { event = encode (notice (kind-byte Quit) 0); are-bytes = refl; draws = x ∷ []; output = replicate two-records 0 }
 
 unfoldable shuffle-call : ℕ → Call
 unfolding encode-by header-by entries-by datas size-by le all-under
-shuffle-call x = record { event = encode (timer 1 0 0 0); are-bytes = refl; draws = x ∷ []; output = replicate header-length 0 }
+shuffle-call x = record { event = encode (timer (kind-byte DoShuffle) 0 0 0); are-bytes = refl; draws = x ∷ []; output = replicate header-length 0 }
 
 unfoldable maintenance-call : Call
 unfolding encode-by header-by entries-by datas size-by le all-under
-maintenance-call = record { event = encode (timer 2 0 0 0); are-bytes = refl; draws = []; output = replicate header-length 0 }
+maintenance-call = record { event = encode (timer (kind-byte DoMaintenance) 0 0 0); are-bytes = refl; draws = []; output = replicate header-length 0 }
 
 -- the same at a time
 one-under : (x : ℕ) → x < draws-end → all-under draws-end (x ∷ []) ≡ true
@@ -104,15 +104,15 @@ maintenance-is-2 : (t : ℕ) → kind-in (maintenance-at t .call .event) ≡ 2
 unfolding maintenance-at maintenance-call kind-in encode-by header-by
 maintenance-is-2 t = refl
 
-read-quit : read-event (encode (notice 8 0)) ≡ event (notice 8 0)
+read-quit : read-event (encode (notice (kind-byte Quit) 0)) ≡ event (notice (kind-byte Quit) 0)
 unfolding choose le read-le encode-by header-by entries-by datas size-by read-event Rd.header-of-by Rd.fixed-size Rd.is-message Rd.is-timer Rd.is-data Rd.kind-ok Rd.flags-ok Rd.count-ok Rd.peer-ok Rd.fields-ok Rd.header-ok Rd.entries-ok-by Rd.well-formed-by Rd.nodes-of-by Rd.rec-of-by Rd.is-event
 read-quit = refl
 
-read-shuffle : read-event (encode (timer 1 0 0 0)) ≡ event (timer 1 0 0 0)
+read-shuffle : read-event (encode (timer (kind-byte DoShuffle) 0 0 0)) ≡ event (timer (kind-byte DoShuffle) 0 0 0)
 unfolding choose le read-le encode-by header-by entries-by datas size-by read-event Rd.header-of-by Rd.fixed-size Rd.is-message Rd.is-timer Rd.is-data Rd.kind-ok Rd.flags-ok Rd.count-ok Rd.peer-ok Rd.fields-ok Rd.header-ok Rd.entries-ok-by Rd.well-formed-by Rd.nodes-of-by Rd.rec-of-by Rd.is-event
 read-shuffle = refl
 
-read-maintenance : read-event (encode (timer 2 0 0 0)) ≡ event (timer 2 0 0 0)
+read-maintenance : read-event (encode (timer (kind-byte DoMaintenance) 0 0 0)) ≡ event (timer (kind-byte DoMaintenance) 0 0 0)
 unfolding choose le read-le encode-by header-by entries-by datas size-by read-event Rd.header-of-by Rd.fixed-size Rd.is-message Rd.is-timer Rd.is-data Rd.kind-ok Rd.flags-ok Rd.count-ok Rd.peer-ok Rd.fields-ok Rd.header-ok Rd.entries-ok-by Rd.well-formed-by Rd.nodes-of-by Rd.rec-of-by Rd.is-event
 read-maintenance = refl
 
@@ -178,10 +178,10 @@ module _ (me : ℕ) (d : Data) (c : Config) where
   ticking x n = set-next-interval x (set-scheduled true (set-passes-alone n (new-station me d c)))
 
   abbrev shuffle-timer : ℕ → ℕ → Rec
-  shuffle-timer i x = timer 1 0 (delay i x) 0
+  shuffle-timer i x = timer (kind-byte DoShuffle) 0 (delay i x) 0
 
   abbrev maintenance-timer : Rec
-  maintenance-timer = timer 2 0 maintenance-interval 0
+  maintenance-timer = timer (kind-byte DoMaintenance) 0 maintenance-interval 0
 
   quit-run : ℕ → Run
   quit-run x = record {
@@ -193,7 +193,7 @@ module _ (me : ℕ) (d : Data) (c : Config) where
     code = 0;
   }
 
-  quit-steps : (x : ℕ) → finish (new-station me d c) (steps (notice 8 0) (start (new-station me d c) (x ∷ []) two-records)) ≡ accepted (quit-run x)
+  quit-steps : (x : ℕ) → finish (new-station me d c) (steps (notice (kind-byte Quit) 0) (start (new-station me d c) (x ∷ []) two-records)) ≡ accepted (quit-run x)
   unfolding quit-run next-interval first-interval choose finish steps H.forget-declined H.dispatch H.first-timers H.note-scheduled E.handle-quit E.quit-all E.clear-all T.schedule-maintenance T.schedule-shuffle T.double-interval new-station retain guard on emit draw drawn size-by datas encode-by header-by entries-by le
   quit-steps x = refl
 
@@ -207,7 +207,7 @@ module _ (me : ℕ) (d : Data) (c : Config) where
     code = 0;
   }
 
-  shuffle-steps : (i n x : ℕ) → finish (ticking i n) (steps (timer 1 0 0 0) (start (ticking i n) (x ∷ []) header-length)) ≡ accepted (shuffle-run i n x)
+  shuffle-steps : (i n x : ℕ) → finish (ticking i n) (steps (timer (kind-byte DoShuffle) 0 0 0) (start (ticking i n) (x ∷ []) header-length)) ≡ accepted (shuffle-run i n x)
   unfolding shuffle-run next-interval choose null is-alone finish steps H.forget-declined H.dispatch H.first-timers T.handle-shuffle-timer T.shuffle-any T.schedule-shuffle T.double-interval new-station retain guard on emit draw drawn size-by datas encode-by header-by entries-by le
   shuffle-steps i n x = refl
 
@@ -237,7 +237,7 @@ module _ (me : ℕ) (d : Data) (c : Config) where
   unfolding T.rejoin-if-due
   not-asked i n = by-choice (λ (r : Run). r ≡ idle i n) (backoff-due (idle i n .station .passes-alone)) (λ _. nobody i n) (λ _. refl)
 
-  maintenance-first : (i n : ℕ) → steps (timer 2 0 0 0) (idle i n) ≡ on H.forget-declined (H.first-timers (T.schedule-maintenance (T.rejoin-if-due (T.count-alone (idle i n)))))
+  maintenance-first : (i n : ℕ) → steps (timer (kind-byte DoMaintenance) 0 0 0) (idle i n) ≡ on H.forget-declined (H.first-timers (T.schedule-maintenance (T.rejoin-if-due (T.count-alone (idle i n)))))
   unfolding idle steps H.dispatch T.handle-maintenance-timer T.maintain T.knows-none T.pass-alone T.remember-all T.renew-all on guard choose null new-station
   maintenance-first i n = refl
 
@@ -245,7 +245,7 @@ module _ (me : ℕ) (d : Data) (c : Config) where
   unfolding idle maintenance-run choose finish H.forget-declined H.first-timers T.schedule-maintenance new-station retain guard on emit size-by datas encode-by header-by entries-by le
   maintenance-last i n = refl
 
-  maintenance-steps : (i n : ℕ) → n < top-passes → finish (ticking i n) (steps (timer 2 0 0 0) (start (ticking i n) [] header-length)) ≡ accepted (maintenance-run i n)
+  maintenance-steps : (i n : ℕ) → n < top-passes → finish (ticking i n) (steps (timer (kind-byte DoMaintenance) 0 0 0) (start (ticking i n) [] header-length)) ≡ accepted (maintenance-run i n)
   unfolding idle
   maintenance-steps i n h =
       ap (finish (ticking i n)) (maintenance-first i n)
@@ -285,21 +285,21 @@ module _ (me : ℕ) (d : Data) (c : Config) where
     unfolding quit-at quit-call quit-run All
     quit-leads h t x u =
         leads (quit-at t x u) (new-station me d c) _ (quit-run x) _
-        (answer-of (quit-call x) (notice 8 0) (new-station me d c) (rules-of (new-station me d c) ranges h) read-quit ∙ quit-steps x)
+        (answer-of (quit-call x) (notice (kind-byte Quit) 0) (new-station me d c) (rules-of (new-station me d c) ranges h) read-quit ∙ quit-steps x)
         refl (quit-told x) (quit-short x) (omega (arith, short-delay (first-interval top) x (first-ok top (top-of c ranges)) u), (omega arith, tt))
 
     shuffle-leads : {l : Ledger} {i n : ℕ} → Kept c me l (ticking i n) → (t x : ℕ) (u : x < draws-end) → Leads (shuffle-at t x u) (ticking i n) (ticking (next-interval top i) n) (shuffle-timer i x ∷ [])
     unfolding shuffle-at shuffle-call shuffle-run All
     shuffle-leads {i = i} {n = n} h t x u =
         leads (shuffle-at t x u) (ticking i n) _ (shuffle-run i n x) _
-        (answer-of (shuffle-call x) (timer 1 0 0 0) (ticking i n) (rules-of (ticking i n) ranges h) read-shuffle ∙ shuffle-steps i n x)
+        (answer-of (shuffle-call x) (timer (kind-byte DoShuffle) 0 0 0) (ticking i n) (rules-of (ticking i n) ranges h) read-shuffle ∙ shuffle-steps i n x)
         refl (shuffle-told i n x) (shuffle-short i n x) (omega (arith, short-delay i x (interval-of ranges h) u), tt)
 
     maintenance-leads : {l : Ledger} {i n : ℕ} → Kept c me l (ticking i n) → (t : ℕ) → n < top-passes → Leads (maintenance-at t) (ticking i n) (ticking i (n + 1)) (maintenance-timer ∷ [])
     unfolding maintenance-at maintenance-call maintenance-run All
     maintenance-leads {i = i} {n = n} h t few =
         leads (maintenance-at t) (ticking i n) _ (maintenance-run i n) _
-        (answer-of maintenance-call (timer 2 0 0 0) (ticking i n) (rules-of (ticking i n) ranges h) read-maintenance ∙ maintenance-steps i n few)
+        (answer-of maintenance-call (timer (kind-byte DoMaintenance) 0 0 0) (ticking i n) (rules-of (ticking i n) ranges h) read-maintenance ∙ maintenance-steps i n few)
         refl (maintenance-told i n) (maintenance-short i n) (omega arith, tt)
 
     -- timers from now on: the next shuffle timer is due at p, the next maintenance timer at q

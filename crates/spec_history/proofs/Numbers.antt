@@ -7,6 +7,7 @@ use mathlib.Core.Bool.{true}
 use mathlib.Core.List.{List, [], _∷_, _++_}
 use mathlib.Core.Option.{none}
 use lib.ListN.{length, replicate, take}
+use Rattle.record.specs.Kinds.{Quit, DoShuffle, DoMaintenance, PendingNeighborRequest, RetryJoin, PeerDisconnected, RequestJoin, kind-byte}
 use Rattle.base_timing.specs.Timing.{default}
 use Rattle.base_timing.specs.declared.Config.{Config}
 use Rattle.record.specs.Format.{Rec, encode}
@@ -76,16 +77,16 @@ neighbor-uses-all = refl
 unfoldable pub eight-requests : List Call
 unfolding followed
 eight-requests =
-    lent (notice 6 10) refl ∷ lent (notice 6 11) refl ∷ lent (notice 6 12) refl ∷ lent (notice 6 13) refl
-    ∷ lent (notice 6 14) refl ∷ lent (notice 6 15) refl ∷ lent (notice 6 16) refl ∷ lent (notice 6 17) refl ∷ []
+    lent (notice (kind-byte RequestJoin) 10) refl ∷ lent (notice (kind-byte RequestJoin) 11) refl ∷ lent (notice (kind-byte RequestJoin) 12) refl ∷ lent (notice (kind-byte RequestJoin) 13) refl
+    ∷ lent (notice (kind-byte RequestJoin) 14) refl ∷ lent (notice (kind-byte RequestJoin) 15) refl ∷ lent (notice (kind-byte RequestJoin) 16) refl ∷ lent (notice (kind-byte RequestJoin) 17) refl ∷ []
 
 unfoldable pub quit : Call
 unfolding followed
-quit = lent (notice 8 0) refl
+quit = lent (notice (kind-byte Quit) 0) refl
 
 unfoldable pub maintenance : Call
 unfolding followed
-maintenance = lent (timer 2 0 0 0) refl
+maintenance = lent (timer (kind-byte DoMaintenance) 0 0 0) refl
 
 -- 8 for the requests, 3 for the Neighbor, 0 for the Quit
 pub maintenance-uses-all : spent-and-allowed default (eight-requests ++ (neighbor ∷ quit ∷ maintenance ∷ [])) ≡ (20, 20)
@@ -108,11 +109,11 @@ leaves = lent (message 5 8 0 0 0 []) refl
 
 unfoldable pub closed : Call
 unfolding followed
-closed = lent (notice 5 8) refl
+closed = lent (notice (kind-byte PeerDisconnected) 8) refl
 
 unfoldable pub expired : Call
 unfolding followed
-expired = lent (timer 3 8 0 0) refl
+expired = lent (timer (kind-byte PendingNeighborRequest) 8 0 0) refl
 
 pub disconnect-uses-all : spent-and-allowed default (reply ∷ leaves ∷ []) ≡ (2, 2)
 unfolding followed reply leaves
@@ -146,7 +147,7 @@ shuffle-uses-all = refl
 -- a shuffle timer with a neighbour
 unfoldable pub do-shuffle : Call
 unfolding followed
-do-shuffle = lent (timer 1 0 0 0) refl
+do-shuffle = lent (timer (kind-byte DoShuffle) 0 0 0) refl
 
 pub do-shuffle-uses-all : spent-and-allowed default (neighbor ∷ do-shuffle ∷ []) ≡ (4, 4)
 unfolding followed neighbor do-shuffle
@@ -155,11 +156,11 @@ do-shuffle-uses-all = refl
 -- a request to join, and its retry
 unfoldable pub request-join : Call
 unfolding followed
-request-join = lent (notice 6 7) refl
+request-join = lent (notice (kind-byte RequestJoin) 7) refl
 
 unfoldable pub retry-join : Call
 unfolding followed
-retry-join = lent (timer 4 7 0 0) refl
+retry-join = lent (timer (kind-byte RetryJoin) 7 0 0) refl
 
 pub request-uses-all : spent-and-allowed default (request-join ∷ []) ≡ (1, 1)
 unfolding followed request-join

@@ -15,7 +15,7 @@ use Rattle.base_lists.proofs.Count.{count-shift, count-snoc}
 use Rattle.base_util.proofs.Chances.{pick-below}
 use Rattle.base_timing.specs.Timing.{default}
 use Rattle.base_peer.specs.Data.{Data}
-use Rattle.record.specs.Kinds.{is-output-kind}
+use Rattle.record.specs.Kinds.{is-output-kind, PendingNeighborRequest, Evicted, kind-byte, output-byte}
 use Rattle.record.specs.Format.{encode}
 use Rattle.record.specs.Walk.{records-in, records-from}
 use Rattle.spec_hyparview.specs.Station.{Station, is-me, in-active, in-passive, in-view, passive-is-full}
@@ -36,7 +36,7 @@ abbrev two-peers : List ℕ
 two-peers = encode (message 3 9 0 0 0 (node 2 none ∷ node 3 none ∷ []))
 
 abbrev expired : List ℕ
-expired = encode (timer 3 2 0 0)
+expired = encode (timer (kind-byte PendingNeighborRequest) 2 0 0)
 
 unfoldable pub asking : ℕ → List Call
 unfolding followed
@@ -101,12 +101,12 @@ count-one x p = omega arith
 tell-station : (o : Option ℕ) (r : Run) → P.tell-evicted o r .station ≡ r .station
 unfolding P.tell-evicted
 tell-station none r = refl
-tell-station (some p) r = emit-station (notice 12 p) r
+tell-station (some p) r = emit-station (notice (output-byte Evicted) p) r
 
 tell-fine : (o : Option ℕ) (r : Run) → P.tell-evicted o r .code ≡ 0 → r .code ≡ 0
 unfolding P.tell-evicted
 tell-fine none r z = z
-tell-fine (some p) r z = emit-fine (notice 12 p) r z
+tell-fine (some p) r z = emit-fine (notice (output-byte Evicted) p) r z
 
 -- whom the record names is gone, and nobody else
 module _ (r : Run) (x : ℕ) where

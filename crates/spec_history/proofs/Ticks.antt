@@ -8,6 +8,7 @@ use native.Mathlib.Omega.{arith}
 use lib.ListN.{length}
 use lib.Dec.{leb, eqb}
 use borrow.Author.Tests.{eqb-false}
+use Rattle.record.specs.Kinds.{DoMaintenance, kind-byte}
 use Rattle.base_lists.specs.Lists.{choose}
 use Rattle.base_lists.proofs.Choice.{by-choice, choose-yes}
 use Rattle.base_timing.specs.Timing.{backoff-due}
@@ -143,7 +144,7 @@ unfolding on guard choose
 on-start f s ds room = refl
 
 -- a maintenance timer at a station with both views empty
-module _ (s : Station) (ds : List ℕ) (room : ℕ) (e : Rec) (kind : e .kind ≡ 2) (alone : T.knows-none s ≡ true) where
+module _ (s : Station) (ds : List ℕ) (room : ℕ) (e : Rec) (kind : e .kind ≡ kind-byte DoMaintenance) (alone : T.knows-none s ≡ true) where
   counted : Station
   counted = T.add-alone (T.remember-all s)
 

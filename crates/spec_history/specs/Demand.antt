@@ -8,6 +8,7 @@ use lib.ListN.{length}
 use Rattle.base_lists.specs.Lists.{mem, distinct}
 use Rattle.base_lists.specs.Maps.{keys}
 use Rattle.base_timing.specs.declared.Config.{Config}
+use Rattle.base_timing.specs.Timing.{max-bootstrap-peers}
 use Rattle.spec_hyparview.specs.Station.{Station}
 use Rattle.spec_hyparview.specs.Rules.{station-ok}
 use Rattle.spec_history.specs.Ledger.{Ledger, empty-ledger}
@@ -28,7 +29,7 @@ pub record Views (me : ℕ) (c : Config) (s : Station) : Type 0 where
   -- "joins awaiting retry are not neighbours and are among at most eight bootstrap peers"
   pub joins-not-active : (x : ℕ) → mem x (keys (s .joins)) ≡ true → mem x (s .active) ≡ false
   pub joins-bootstrap : (x : ℕ) → mem x (keys (s .joins)) ≡ true → mem x (s .bootstrap) ≡ true
-  pub bootstrap-few : length (s .bootstrap) ≤ 8
+  pub bootstrap-few : length (s .bootstrap) ≤ max-bootstrap-peers
 
 -- of that state and the ledger
 pub record Booked (s : Station) (l : Ledger) : Type 0 where

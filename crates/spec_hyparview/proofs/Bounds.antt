@@ -10,9 +10,10 @@ use lib.Dec.{eqb}
 use Rattle.base_lists.specs.Maps.{keys}
 use Rattle.base_lists.proofs.Count.{count-append}
 use Rattle.base_lists.proofs.Maps.{length-keys}
+use Rattle.base_timing.specs.Timing.{max-bootstrap-peers, max-recent-neighbors, most-active, most-passive}
 use Rattle.record.specs.Kinds.{Quit, kind-byte}
 use Rattle.record.specs.Format.{Rec}
-use Rattle.spec_hyparview.specs.Station.{Station}
+use Rattle.spec_hyparview.specs.Station.{Station, max-requests, max-refused, max-peer-data}
 use Rattle.spec_hyparview.specs.Run.{Run}
 use Rattle.spec_hyparview.specs.Rules.{station-ok}
 use Rattle.spec_hyparview.specs.Handle.{start, steps}
@@ -26,15 +27,15 @@ use Rattle.spec_hyparview.proofs.Enough.{pays-all}
 
 -- every set and map within its limit, with the places that the terms promise to be free
 pub record Bounds (t : Terms) (s : Station) : Type 0 where
-  pub active-few : length (s .active) + t .slots ≤ 8
-  pub passive-few : length (s .passive) + t .places ≤ 32
+  pub active-few : length (s .active) + t .slots ≤ most-active
+  pub passive-few : length (s .passive) + t .places ≤ most-passive
   pub alive-few : length (s .alive) ≤ length (s .passive) + length (t .loose)
-  pub bootstrap-few : length (s .bootstrap) ≤ 8
-  pub joins-few : length (s .joins) ≤ 8
-  pub recent-few : length (s .recent) ≤ 8
-  pub requests-few : length (s .requests) ≤ 32
-  pub refused-few : length (s .refused) ≤ 32
-  pub data-few : length (s .peer-data) ≤ 80
+  pub bootstrap-few : length (s .bootstrap) ≤ max-bootstrap-peers
+  pub joins-few : length (s .joins) ≤ max-bootstrap-peers
+  pub recent-few : length (s .recent) ≤ max-recent-neighbors
+  pub requests-few : length (s .requests) ≤ max-requests
+  pub refused-few : length (s .refused) ≤ max-refused
+  pub data-few : length (s .peer-data) ≤ max-peer-data
 
 pub bounds : {q : Fixed} {t : Terms} {m b d : ℕ} (r : Run) → Ok q t m b d r → r .code ≡ 0 → Bounds t (r .station)
 bounds {t = t} r k z =

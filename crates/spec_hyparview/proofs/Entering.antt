@@ -9,6 +9,7 @@ use native.Mathlib.Omega.{arith}
 use lib.ListN.{length, length-append}
 use lib.Dec.{eqb}
 use borrow.Author.Tests.{leb-false, not-false}
+use Rattle.record.specs.Kinds.{NeighborUp, output-byte}
 use Rattle.base_lists.specs.Lists.{choose, is, count}
 use Rattle.base_lists.proofs.Choice.{by-choice, or-left, or-right, and-left, and-right, and-false, clash}
 use Rattle.base_lists.proofs.Count.{is-self, is-le, is-not, is-split, mem-true, mem-false, count-snoc, count-without, count-remove, length-remove}
@@ -43,7 +44,7 @@ module _ {q : Fixed} {m b d : ℕ} where
       let act = r .station .active in
       let pas = r .station .passive in
       ok-on A.gain-neighbor (λ o h. h) (λ w. law-short (law-fill w (small-or _ automatic tt)) (record { high = omega arith }))
-      (ok-tell (notice 9 p) bare {t = busy (p ∷ []) (p ∷ []) [] 1 0} (A.move-in p) (no-node (notice 9 p) refl)
+      (ok-tell (notice (output-byte NeighborUp) p) bare {t = busy (p ∷ []) (p ∷ []) [] 1 0} (A.move-in p) (no-node (notice (output-byte NeighborUp) p) refl)
       (λ o h. h .seats .narrow p (omega (arith, is-self p)))
       (λ o h. record {
         still = h .still;

@@ -7,6 +7,7 @@ use Prim.Native.Nat.{ℕ, _<_}
 use native.Mathlib.Omega.{arith}
 use lib.Dec.{eqb}
 use borrow.Author.Tests.{eqb-true, eqb-false}
+use Rattle.record.specs.Kinds.{Evicted, output-byte}
 use Rattle.base_lists.specs.Lists.{choose}
 use Rattle.base_lists.specs.Tests.{All}
 use Rattle.base_lists.proofs.Choice.{by-choice, choose-no}
@@ -81,7 +82,7 @@ named-more : (es : List Rec) (e : Rec) → named (es ++ (e ∷ [])) ≡ named es
 unfolding named
 named-more [] e = refl
 named-more (x ∷ es) e =
-    split-named (eqb (x .kind) 12) (x .peer) (named (es ++ (e ∷ []))) (named es) (named (e ∷ [])) (named-more es e)
+    split-named (eqb (x .kind) (output-byte Evicted)) (x .peer) (named (es ++ (e ∷ []))) (named es) (named (e ∷ [])) (named-more es e)
 
 more-told : {out : List ℕ} (e : Rec) (f : InForm e) (w : Spelled out) (es : List ℕ) → named (w .records) ≡ es → named (more-spelled e f w .records) ≡ es ++ named (e ∷ [])
 unfolding more-spelled
@@ -136,20 +137,20 @@ module _ {ds es : List ℕ} where
       (λ i. record { lent = k .lent; narrow = k .narrow; spelled = k .spelled; told = λ d y. absurd (omega (arith, y)) }))
 
   -- a record that names nobody; a timer's delay is in form where the draws are
-  pub wrote-if : (e : Rec) {r : Run} → eqb (e .kind) 12 ≡ false → (Draws ds → InForm e) → Formed ds es r → Formed ds es (emit e r)
+  pub wrote-if : (e : Rec) {r : Run} → eqb (e .kind) (output-byte Evicted) ≡ false → (Draws ds → InForm e) → Formed ds es r → Formed ds es (emit e r)
   unfolding named
   wrote-if e {r} n f k =
-      subst (λ (l : List ℕ). Formed ds l (emit e r)) (ap (λ (l : List ℕ). es ++ l) (choose-no (eqb (e .kind) 12) (e .peer ∷ []) [] n) ∙ append-nil es) (wrote-any e f k)
+      subst (λ (l : List ℕ). Formed ds l (emit e r)) (ap (λ (l : List ℕ). es ++ l) (choose-no (eqb (e .kind) (output-byte Evicted)) (e .peer ∷ []) [] n) ∙ append-nil es) (wrote-any e f k)
 
-  pub wrote : (e : Rec) {r : Run} → eqb (e .kind) 12 ≡ false → InForm e → Formed ds es r → Formed ds es (emit e r)
+  pub wrote : (e : Rec) {r : Run} → eqb (e .kind) (output-byte Evicted) ≡ false → InForm e → Formed ds es r → Formed ds es (emit e r)
   wrote e n f k = wrote-if e n (λ d. f) k
 
   -- one that names p
-  pub wrote-evicted : (p : ℕ) {r : Run} → InForm (R.notice 12 p) → Formed ds es r → Formed ds (es ++ (p ∷ [])) (emit (R.notice 12 p) r)
+  pub wrote-evicted : (p : ℕ) {r : Run} → InForm (R.notice (output-byte Evicted) p) → Formed ds es r → Formed ds (es ++ (p ∷ [])) (emit (R.notice (output-byte Evicted) p) r)
   unfolding named choose
-  wrote-evicted p f k = wrote-any (R.notice 12 p) (λ d. f) k
+  wrote-evicted p f k = wrote-any (R.notice (output-byte Evicted) p) (λ d. f) k
 
-  pub wrote-all : (f : ℕ → Rec) → ((p : ℕ) → eqb (f p .kind) 12 ≡ false) → ((p : ℕ) → Peer p → InForm (f p)) → (ps : List ℕ) {r : Run} → Peers ps → Formed ds es r → Formed ds es (emit-all f ps r)
+  pub wrote-all : (f : ℕ → Rec) → ((p : ℕ) → eqb (f p .kind) (output-byte Evicted) ≡ false) → ((p : ℕ) → Peer p → InForm (f p)) → (ps : List ℕ) {r : Run} → Peers ps → Formed ds es r → Formed ds es (emit-all f ps r)
   unfolding emit-all All
   wrote-all f n h [] a k = k
   wrote-all f n h (p ∷ ps) a k = wrote-all f n h ps (a .1) (wrote (f p) (n p) (h p (a .0)) k)

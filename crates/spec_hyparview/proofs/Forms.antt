@@ -7,6 +7,7 @@ use Prim.Native.Nat.{ℕ, _≤_, _<_}
 use native.Mathlib.Omega.{arith}
 use lib.ListN.{length}
 use borrow.Author.Tests.{le-leb}
+use Rattle.record.specs.Kinds.{DoMaintenance, DoShuffle, PendingNeighborRequest, RetryJoin, NeighborUp, NeighborDown, Evicted, output-byte, kind-byte}
 use Rattle.base_lists.specs.Lists.{choose}
 use Rattle.base_lists.specs.Tests.{All}
 use Rattle.base_lists.proofs.Choice.{by-choice}
@@ -98,33 +99,33 @@ form-disconnect b l = record {
 }
 
 -- timers: DoShuffle, DoMaintenance, PendingNeighborRequest, RetryJoin
-pub form-shuffle-timer : {t : ℕ} → t < peers-end → InForm (R.timer 1 0 t 0)
+pub form-shuffle-timer : {t : ℕ} → t < peers-end → InForm (R.timer (kind-byte DoShuffle) 0 t 0)
 unfolding header-in-by Rd.header-ok Rd.kind-ok Rd.flags-ok Rd.count-ok Rd.peer-ok Rd.fields-ok Rd.fixed-size Rd.is-message Rd.is-timer Rd.is-data choose NodesInFormBy
 form-shuffle-timer t = record { header = refl; peer = omega arith; second = t; ttl = omega arith; number = omega arith; nodes = tt }
 
-pub form-maintenance-timer : {t : ℕ} → t < peers-end → InForm (R.timer 2 0 t 0)
+pub form-maintenance-timer : {t : ℕ} → t < peers-end → InForm (R.timer (kind-byte DoMaintenance) 0 t 0)
 unfolding header-in-by Rd.header-ok Rd.kind-ok Rd.flags-ok Rd.count-ok Rd.peer-ok Rd.fields-ok Rd.fixed-size Rd.is-message Rd.is-timer Rd.is-data choose NodesInFormBy
 form-maintenance-timer t = record { header = refl; peer = omega arith; second = t; ttl = omega arith; number = omega arith; nodes = tt }
 
-pub form-request-timer : {p t n : ℕ} → Peer p → t < peers-end → n ≤ top-counter → InForm (R.timer 3 p t n)
+pub form-request-timer : {p t n : ℕ} → Peer p → t < peers-end → n ≤ top-counter → InForm (R.timer (kind-byte PendingNeighborRequest) p t n)
 unfolding header-in-by Rd.header-ok Rd.kind-ok Rd.flags-ok Rd.count-ok Rd.peer-ok Rd.fields-ok Rd.fixed-size Rd.is-message Rd.is-timer Rd.is-data choose NodesInFormBy
 form-request-timer p t n = record { header = refl; peer = p; second = t; ttl = omega arith; number = omega arith; nodes = tt }
 
-pub form-retry-timer : {p t n : ℕ} → Peer p → t < peers-end → n ≤ top-counter → InForm (R.timer 4 p t n)
+pub form-retry-timer : {p t n : ℕ} → Peer p → t < peers-end → n ≤ top-counter → InForm (R.timer (kind-byte RetryJoin) p t n)
 unfolding header-in-by Rd.header-ok Rd.kind-ok Rd.flags-ok Rd.count-ok Rd.peer-ok Rd.fields-ok Rd.fixed-size Rd.is-message Rd.is-timer Rd.is-data choose NodesInFormBy
 form-retry-timer p t n = record { header = refl; peer = p; second = t; ttl = omega arith; number = omega arith; nodes = tt }
 
 -- notices
-pub form-up : {p : ℕ} → Peer p → InForm (R.notice 9 p)
+pub form-up : {p : ℕ} → Peer p → InForm (R.notice (output-byte NeighborUp) p)
 unfolding header-in-by Rd.header-ok Rd.kind-ok Rd.flags-ok Rd.count-ok Rd.peer-ok Rd.fields-ok Rd.fixed-size Rd.is-message Rd.is-timer Rd.is-data choose NodesInFormBy
 form-up p = record { header = refl; peer = p; second = omega arith; ttl = omega arith; number = omega arith; nodes = tt }
 
-pub form-down : {p : ℕ} → Peer p → InForm (R.notice 10 p)
+pub form-down : {p : ℕ} → Peer p → InForm (R.notice (output-byte NeighborDown) p)
 unfolding header-in-by Rd.header-ok Rd.kind-ok Rd.flags-ok Rd.count-ok Rd.peer-ok Rd.fields-ok Rd.fixed-size Rd.is-message Rd.is-timer Rd.is-data choose NodesInFormBy
 form-down p = record { header = refl; peer = p; second = omega arith; ttl = omega arith; number = omega arith; nodes = tt }
 
 -- whom the passive view evicted
-pub form-evicted : {p : ℕ} → Peer p → InForm (R.notice 12 p)
+pub form-evicted : {p : ℕ} → Peer p → InForm (R.notice (output-byte Evicted) p)
 unfolding header-in-by Rd.header-ok Rd.kind-ok Rd.flags-ok Rd.count-ok Rd.peer-ok Rd.fields-ok Rd.fixed-size Rd.is-message Rd.is-timer Rd.is-data choose NodesInFormBy
 form-evicted p = record { header = refl; peer = p; second = omega arith; ttl = omega arith; number = omega arith; nodes = tt }
 

@@ -6,6 +6,7 @@ use mathlib.Core.List.{List, [], _∷_}
 use Prim.Native.Nat.{ℕ, _+_, _<_}
 use native.Mathlib.Omega.{arith}
 use lib.ListN.{length, getD}
+use Rattle.record.specs.Kinds.{NeighborDown, output-byte}
 use Rattle.base_lists.specs.Lists.{choose, null, count, mem, index-of}
 use Rattle.base_lists.specs.Maps.{lookup}
 use Rattle.base_util.proofs.Chances.{pick-below}
@@ -65,7 +66,7 @@ module _ {q : Fixed} {g ba : List ℕ} {sl m b d : ℕ} where
   ok-drop-active i {r} l k =
       let act = r .station .active in
       let p = getD act i 0 in
-      ok-tell (notice 10 p) bare (A.swap-active i) (no-node (notice 10 p) refl)
+      ok-tell (notice (output-byte NeighborDown) p) bare (A.swap-active i) (no-node (notice (output-byte NeighborDown) p) refl)
       (λ o h. h .seats .narrow p (omega (arith, count-at act i l)))
       (λ o h. record {
         still = h .still;

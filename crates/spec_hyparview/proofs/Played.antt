@@ -15,7 +15,7 @@ use Rattle.base_lists.proofs.Choice.{choose-yes, choose-no, split}
 use Rattle.base_lists.proofs.Count.{length-without, length-without-all}
 use Rattle.base_timing.specs.Timing.{join-retry-delay, maintenance-interval, next, backoff-due, delay}
 use Rattle.base_peer.specs.Data.{Data, Node}
-use Rattle.record.specs.Kinds.{EventKind, Message, DoShuffle, DoMaintenance, PendingNeighborRequest, RetryJoin, PeerDisconnected, RequestJoin, UpdatePeerData, Quit}
+use Rattle.record.specs.Kinds.{EventKind, Message, DoShuffle, DoMaintenance, PendingNeighborRequest, RetryJoin, PeerDisconnected, RequestJoin, UpdatePeerData, Quit, NeighborUp, NeighborDown, Evicted, output-byte, kind-byte}
 use Rattle.record.proofs.ByKind.{by-kind}
 use Rattle.record.specs.Format.{Rec, size-by}
 use Rattle.base_util.specs.Chances.{pick-draws, pick, shuffle, shuffle-draws}
@@ -106,11 +106,11 @@ plays-evict-at i = by-station (λ s r. P.forget-peer (getD (s .passive) i 0) (on
 
 -- the place is that of a peer, since the view is full and not empty
 evicts : Run → Run
-evicts r = emit (notice 12 (getD (r .station .passive) (place (length (r .station .passive)) r) 0)) (P.evict-at (place (length (r .station .passive)) r) (draw-one-of (length (r .station .passive)) r))
+evicts r = emit (notice (output-byte Evicted) (getD (r .station .passive) (place (length (r .station .passive)) r) 0)) (P.evict-at (place (length (r .station .passive)) r) (draw-one-of (length (r .station .passive)) r))
 
 plays-evicts : Plays evicts
 unfolding evicts
-plays-evicts = picks-place (λ s. s .passive) (λ s o. o .passive-few) (λ s i r. emit (notice 12 (getD (s .passive) i 0)) (P.evict-at i r)) (λ s i. told (plays-evict-at i) (notice 12 (getD (s .passive) i 0)))
+plays-evicts = picks-place (λ s. s .passive) (λ s o. o .passive-few) (λ s i r. emit (notice (output-byte Evicted) (getD (s .passive) i 0)) (P.evict-at i r)) (λ s i. told (plays-evict-at i) (notice (output-byte Evicted) (getD (s .passive) i 0)))
 
 not-empty : (xs : List ℕ) (b : Bool) → (b && not (null xs)) ≡ true → length xs ≡ 0 → ⊥
 unfolding null
@@ -176,8 +176,8 @@ plays-send-disconnect p alive =
 plays-tell-request : (p : ℕ) (high : Bool) (id : ℕ) → Plays (S.tell-request p high id)
 unfolding S.tell-request
 plays-tell-request p high id =
-    by-station (λ s r. emit (timer 3 p (s .config .«neighbor_request_timeout») id) (emit (S.neighbor-to (s .own-data) high p) r))
-    (λ s. told (told idle (S.neighbor-to (s .own-data) high p)) (timer 3 p (s .config .«neighbor_request_timeout») id))
+    by-station (λ s r. emit (timer (kind-byte PendingNeighborRequest) p (s .config .«neighbor_request_timeout») id) (emit (S.neighbor-to (s .own-data) high p) r))
+    (λ s. told (told idle (S.neighbor-to (s .own-data) high p)) (timer (kind-byte PendingNeighborRequest) p (s .config .«neighbor_request_timeout») id))
 
 plays-open-request : (p : ℕ) → Plays (λ r. S.open-request p (S.count-request r))
 unfolding S.open-request S.count-request
@@ -218,7 +218,7 @@ plays-start-refill limit skip = thens (changes (F.begin-refill limit)) (plays-re
 -- Active
 plays-drop-active : (i : ℕ) → Plays (A.drop-active i)
 unfolding A.drop-active
-plays-drop-active i = by-station (λ s r. emit (notice 10 (getD (s .active) i 0)) (on (A.swap-active i) r)) (λ s. told (changes (A.swap-active i)) (notice 10 (getD (s .active) i 0)))
+plays-drop-active i = by-station (λ s r. emit (notice (output-byte NeighborDown) (getD (s .active) i 0)) (on (A.swap-active i) r)) (λ s. told (changes (A.swap-active i)) (notice (output-byte NeighborDown) (getD (s .active) i 0)))
 
 plays-demote : (p : ℕ) → Plays (A.demote p)
 unfolding A.demote
@@ -272,7 +272,7 @@ plays-free = same-plays frees (by-station (λ s r. choose (is-alone s) r (remove
 
 plays-enter-active : (p : ℕ) → Plays (A.enter-active p)
 unfolding A.enter-active
-plays-enter-active p = thens (told (changes (A.move-in p)) (notice 9 p)) (changes A.gain-neighbor)
+plays-enter-active p = thens (told (changes (A.move-in p)) (notice (output-byte NeighborUp) p)) (changes A.gain-neighbor)
 
 plays-unchecked : (p : ℕ) (high reply : Bool) → Plays (A.add-active-unchecked p high reply)
 unfolding A.add-active-unchecked
@@ -392,8 +392,8 @@ plays-handle-join p =
     thens (changes (E.push-bootstrap p))
     (by-station (λ s r. choose (in-active p s) r (choose (is-me p s) (S.join p r) (E.await-join p (S.join p r))))
     (λ s. either (in-active p s) idle (either (is-me p s) (plays-join p) (thens (plays-join p)
-    (by-station (λ s r. emit (timer 4 p join-retry-delay (s .next-join)) (on (E.note-join p) (require 10 (E.join-counts s) r)))
-    (λ s. told (thens (tests 10 (E.join-counts s) (λ e. omega (arith, e))) (changes (E.note-join p))) (timer 4 p join-retry-delay (s .next-join))))))))
+    (by-station (λ s r. emit (timer (kind-byte RetryJoin) p join-retry-delay (s .next-join)) (on (E.note-join p) (require 10 (E.join-counts s) r)))
+    (λ s. told (thens (tests 10 (E.join-counts s) (λ e. omega (arith, e))) (changes (E.note-join p))) (timer (kind-byte RetryJoin) p join-retry-delay (s .next-join))))))))
 
 plays-lose-passive : (p : ℕ) → Plays (E.lose-passive p)
 unfolding E.lose-passive
@@ -430,7 +430,7 @@ plays-retry-join p id = by-station (λ s r. choose (T.join-is p id s) (S.join p 
 -- the delay drawn stands in the record, and does not change its length
 plays-schedule-shuffle : Plays T.schedule-shuffle
 unfolding T.schedule-shuffle size-by
-plays-schedule-shuffle = tells (thens (changes T.double-interval) delays) (λ r. timer 1 0 (delay (r .station .next-interval) (drawn r)) 0) (λ r w e. refl)
+plays-schedule-shuffle = tells (thens (changes T.double-interval) delays) (λ r. timer (kind-byte DoShuffle) 0 (delay (r .station .next-interval) (drawn r)) 0) (λ r w e. refl)
 
 plays-send-shuffle : (to : ℕ) (ps : List ℕ) → Plays (T.send-shuffle to ps)
 unfolding T.send-shuffle
@@ -487,7 +487,7 @@ plays-maintain =
 
 plays-schedule-maintenance : Plays T.schedule-maintenance
 unfolding T.schedule-maintenance
-plays-schedule-maintenance = told idle (timer 2 0 maintenance-interval 0)
+plays-schedule-maintenance = told idle (timer (kind-byte DoMaintenance) 0 maintenance-interval 0)
 
 plays-maintenance-timer : Plays T.handle-maintenance-timer
 unfolding T.handle-maintenance-timer

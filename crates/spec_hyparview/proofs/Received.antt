@@ -6,6 +6,7 @@ use mathlib.Core.List.{List, [], _∷_}
 use Prim.Native.Nat.{ℕ, _+_, _-_, _*_, _≤_, _<_}
 use native.Mathlib.Omega.{arith}
 use lib.ListN.{length}
+use Rattle.record.specs.Kinds.{Message, kind-byte}
 use Rattle.base_lists.specs.Lists.{count, mem, without}
 use Rattle.base_lists.proofs.Choice.{split}
 use Rattle.base_lists.proofs.Count.{is-self, is-le, mem-true, length-without, length-without-all}
@@ -30,7 +31,7 @@ use Rattle.spec_hyparview.proofs.Leaving.{ok-remove-active}
 use Rattle.spec_hyparview.proofs.Entering.{arrived, settled, unbar, ok-add-active, ok-add-active-not}
 
 -- a message of at most n bytes to each of the peers
-pub ok-emit-all : {q : Fixed} {t : Terms} {m b d : ℕ} (f : ℕ → Rec) → ((p : ℕ) → (f p) .kind ≡ 0) → (ps : List ℕ) {r : Run} → (r .code ≡ 0 → (p : ℕ) → size (f p) ≤ single) → Ok q t (m + length ps) (b + single * length ps) d r → Ok q t m b d (emit-all f ps r)
+pub ok-emit-all : {q : Fixed} {t : Terms} {m b d : ℕ} (f : ℕ → Rec) → ((p : ℕ) → (f p) .kind ≡ kind-byte Message) → (ps : List ℕ) {r : Run} → (r .code ≡ 0 → (p : ℕ) → size (f p) ≤ single) → Ok q t (m + length ps) (b + single * length ps) d r → Ok q t m b d (emit-all f ps r)
 unfolding emit-all
 ok-emit-all f z [] s k = ease (omega arith) (omega arith) (omega arith) k
 ok-emit-all f z (p ∷ ps) {r} s k =

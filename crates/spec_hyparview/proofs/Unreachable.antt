@@ -8,6 +8,7 @@ use Prim.Native.Nat.{ℕ}
 use native.Mathlib.Omega.{arith}
 use lib.ListN.{length}
 use borrow.Author.Tests.{leb-false}
+use Rattle.record.specs.Kinds.{Evicted, output-byte}
 use Rattle.base_lists.specs.Lists.{null, count, without}
 use Rattle.base_lists.proofs.Choice.{by-choice, split, or-right}
 use Rattle.base_lists.proofs.Count.{length-without}
@@ -39,7 +40,7 @@ evict-keeps i r = forget-keeps _ _ ∙ on-same neighbours _ (λ s. refl) r
 tell-keeps : (x : Option ℕ) (r : Run) → (P.tell-evicted x r) .station .active ≡ r .station .active
 unfolding P.tell-evicted
 tell-keeps none r = refl
-tell-keeps (some p) r = ap neighbours (emit-station (notice 12 p) r)
+tell-keeps (some p) r = ap neighbours (emit-station (notice (output-byte Evicted) p) r)
 
 room-keeps : (r : Run) → (P.make-room r) .station .active ≡ r .station .active
 unfolding P.make-room P.evict

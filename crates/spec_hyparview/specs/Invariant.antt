@@ -10,12 +10,12 @@ use lib.Dec.{eqb}
 use Rattle.base_lists.specs.Lists.{choose, is, count, without, push-new, Rising}
 use Rattle.base_lists.specs.Maps.{keys, Each}
 use Rattle.base_timing.specs.declared.Config.{Config}
-use Rattle.base_timing.specs.Timing.{most-active, most-passive, longest-walk, most-shuffle-active, most-shuffle-passive, longest-time}
-use Rattle.base_util.specs.Chances.{sure}
+use Rattle.base_timing.specs.Timing.{max-requests-per-refill, max-bootstrap-peers, max-recent-neighbors, most-active, most-passive, longest-walk, most-shuffle-active, most-shuffle-passive, longest-time}
+use Rattle.base_util.specs.Chances.{most-items, sure}
 use Rattle.base_peer.specs.Data.{Data}
 use Rattle.record.specs.Kinds.{Message, NeighborUp, NeighborDown, kind-byte, output-byte}
 use Rattle.record.specs.Format.{Rec, size, encode}
-use Rattle.spec_hyparview.specs.Station.{Station, Refill, automatic, requests-left, recovery, top-counter, top-passes, peers-end}
+use Rattle.spec_hyparview.specs.Station.{Station, Refill, automatic, requests-left, recovery, max-requests, max-refused, max-peer-data, max-data-length, top-counter, top-passes, peers-end}
 use Rattle.spec_hyparview.specs.Run.{Run}
 
 -- The station rules but those on views and joins: what each says of its part of the station
@@ -23,12 +23,12 @@ use Rattle.spec_hyparview.specs.Run.{Run}
 -- at most 16 bytes
 unfoldable pub Short : Data → Type 0
 Short none = Unit {0}
-Short (some b) = length b ≤ 16
+Short (some b) = length b ≤ max-data-length
 
 -- at most 3 requests
 unfoldable pub Small : Refill → Type 0
 Small automatic = Unit {0}
-Small (requests-left n) = n ≤ 3
+Small (requests-left n) = n ≤ max-requests-per-refill
 Small recovery = Unit {0}
 
 pub record InOrder (xs : List ℕ) : Type 0 where
@@ -42,21 +42,21 @@ pub record Numbered (m : List (ℕ × ℕ)) (next : ℕ) : Type 0 where
 
 pub record Requests (m : List (ℕ × ℕ)) (next : ℕ) : Type 0 where
   pub numbered : Numbered m next
-  pub few : length m ≤ 32
+  pub few : length m ≤ max-requests
 
 pub record HeldData (me : ℕ) (m : List (ℕ × List ℕ)) : Type 0 where
   pub rise : Rising (keys m)
-  pub few : length m ≤ 80
-  pub shorts : Each (λ b. length b ≤ 16) m
+  pub few : length m ≤ max-peer-data
+  pub shorts : Each (λ b. length b ≤ max-data-length) m
   pub not-own : count me (keys m) ≡ 0
 
 pub record Refused (xs : List ℕ) : Type 0 where
   pub rise : Rising xs
-  pub few : length xs ≤ 32
+  pub few : length xs ≤ max-refused
 
 pub record Recent (xs : List ℕ) : Type 0 where
   pub once : (x : ℕ) → count x xs ≤ 1
-  pub few : length xs ≤ 8
+  pub few : length xs ≤ max-recent-neighbors
 
 pub record Pace (top int : ℕ) : Type 0 where
   pub low : 1 ≤ int
@@ -190,7 +190,7 @@ pub record Waits (barred rooted : List ℕ) (me : ℕ) (act jks boo : List ℕ) 
   pub apart : (x : ℕ) → count x jks + count x act + is x me ≤ 1
   pub known : (x : ℕ) → count x jks ≤ count x boo
   pub boots : (x : ℕ) → count x boo ≤ 1
-  pub few : length boo ≤ 8
+  pub few : length boo ≤ max-bootstrap-peers
   pub rooting : (x : ℕ) → count x rooted ≤ count x boo
 
 -- who is up by the notices, and m messages that may still be sent
@@ -225,9 +225,9 @@ pub record Told (q : Fixed) (t : Terms) (m b d : ℕ) (s : Station) (out : List 
 
 -- the lists that choices are made from are short
 pub record Roomy (s : Station) : Type 0 where
-  pub active-few : length (s .active) ≤ 32
-  pub passive-few : length (s .passive) ≤ 32
-  pub recent-few : length (s .recent) ≤ 32
+  pub active-few : length (s .active) ≤ most-items
+  pub passive-few : length (s .passive) ≤ most-items
+  pub recent-few : length (s .recent) ≤ most-items
 
 -- no more draws are used than are lent; and what a code says: 5 and 9 are met only where less is lent than always suffices
 pub record Codes (q : Fixed) (r : Run) : Type 0 where

@@ -10,6 +10,7 @@ use lib.ListN.{length, set, length-append}
 use lib.Dec.{eqb}
 use borrow.Author.Tests.{leb-false}
 use borrow.Rule.Slice.PartMut.{putMid}
+use Rattle.record.specs.Kinds.{NeighborUp, output-byte}
 use Rattle.base_lists.specs.Lists.{renew}
 use Rattle.base_lists.proofs.Choice.{by-choice}
 use Rattle.base_peer.specs.declared.PeerData.{PeerData}
@@ -115,12 +116,12 @@ reply-shut reply p high g h =
     (λ t. refl)
 
 module _ (w a b : Work) (xs ys out o : List ℕ) (p : ℕ) (v : Room (work-of w xs) out)
-    (k₂ : TellsAny (emit (notice 9 p)) a b out o) (k₁ : Changes (on (move-in p)) (work-of w xs) (work-of a ys)) where
+    (k₂ : TellsAny (emit (notice (output-byte NeighborUp) p)) a b out o) (k₁ : Changes (on (move-in p)) (work-of w xs) (work-of a ys)) where
   enter-row : (zs : List ℕ) → Changes (on gain-neighbor) (work-of b ys) (work-of b zs) → Tells (enter-active p) (work-of w xs) (work-of b zs) out o
   unfolding enter-active
   enter-row zs k₃ =
       let t = told-at ys (k₁ .packed) _ k₂ in
-      tell-then _ (λ ds. refl) (telling (t .room) k₃) (tell-then (λ g. emit (notice 9 p) (on (move-in p) g)) (λ ds. refl) t (telling v k₁))
+      tell-then _ (λ ds. refl) (telling (t .room) k₃) (tell-then (λ g. emit (notice (output-byte NeighborUp) p) (on (move-in p) g)) (λ ds. refl) t (telling v k₁))
 
   pub not-added : (high reply : Bool) → (b .code ≡ 0 → ⊥) → Tells (add-active-unchecked p high reply) (work-of w xs) (work-of b ys) out o
   unfolding add-active-unchecked run-of

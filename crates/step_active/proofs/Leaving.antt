@@ -8,6 +8,7 @@ use mathlib.Core.Option.{Option}
 use native.Mathlib.Omega.{arith}
 use lib.ListN.{length, drop, getD}
 use borrow.Author.Tests.{eq-eqb}
+use Rattle.record.specs.Kinds.{NeighborDown, output-byte}
 use Rattle.base_lists.specs.Lists.{choose, null, count, index-of, insert, swap-remove}
 use Rattle.base_lists.specs.Maps.{lookup}
 use Rattle.base_lists.proofs.Choice.{choose-yes, clash}
@@ -57,10 +58,10 @@ mark-place xs code p z h = h .free z
 pub not-dropped : (w : Work) (xs out : List ℕ) (i : ℕ) → Room (work-of w xs) out → (w .code ≡ 0 → ⊥) → Tells (drop-active i) (work-of w xs) (work-of w xs) out out
 unfolding drop-active run-of
 not-dropped w xs out i v h =
-    tell-then _ (λ ds. refl) (emit-passed w xs out (notice 10 (getD (unpack xs .active) i 0)) v h) (telling v (on-passed (work-of w xs) (v .packed) (swap-active i) h))
+    tell-then _ (λ ds. refl) (emit-passed w xs out (notice (output-byte NeighborDown) (getD (unpack xs .active) i 0)) v h) (telling v (on-passed (work-of w xs) (v .packed) (swap-active i) h))
 
 pub dropped : (w a r : Work) (xs ys out o : List ℕ) (i p : ℕ) → Room (work-of w xs) out → p ≡ getD (unpack xs .active) i 0
-    → TellsAny (emit (notice 10 p)) a r out o → Changes (on (swap-active i)) (work-of w xs) (work-of a ys)
+    → TellsAny (emit (notice (output-byte NeighborDown) p)) a r out o → Changes (on (swap-active i)) (work-of w xs) (work-of a ys)
     → Tells (drop-active i) (work-of w xs) (work-of r ys) out o
 unfolding drop-active run-of
 dropped w a r xs ys out o i p v e k₂ k₁ = tell-then _ (λ ds. rw e) (told-at ys (k₁ .packed) _ k₂) (telling v k₁)

@@ -1,7 +1,7 @@
 -- Laws of what an event starts from, of its first timers and of the steps in a row.
 -- Assumes nothing.
 use Prim.Native.Nat.{ℕ, _≤_}
-use Rattle.record.specs.Kinds.{Quit, kind-byte}
+use Rattle.record.specs.Kinds.{Quit, kind-byte, DoMaintenance}
 use Rattle.step_dispatch.specs.Begun.{Opens}
 use Rattle.spec_hyparview.proofs.Keeping.{ease}
 use Rattle.spec_hyparview.specs.Budgets.{arriving}
@@ -72,7 +72,7 @@ module _ (w : Work) (xs ds out : List ℕ) (v : Fine (work-of w xs) ds out) wher
   unfolding note-scheduled unpack station-of part
   noted h = on-done (work-of w xs) (v .ready .packed) _ _ h (put-scheduled true)
 
-  timers-start : (b r : Work) (zs o o₂ : List ℕ) → eqb (layout.timers-scheduled xs) 1 ≡ false → w .code ≡ 0 → TellsAny (emit (timer 2 0 maintenance-interval 0)) b r o o₂ → Does (work-of b zs) ds o (schedule-shuffle (run (work-of w (set xs layout.timers-scheduled-at 1)) ds out))
+  timers-start : (b r : Work) (zs o o₂ : List ℕ) → eqb (layout.timers-scheduled xs) 1 ≡ false → w .code ≡ 0 → TellsAny (emit (timer (kind-byte DoMaintenance) 0 maintenance-interval 0)) b r o o₂ → Does (work-of b zs) ds o (schedule-shuffle (run (work-of w (set xs layout.timers-scheduled-at 1)) ds out))
       → Does (work-of r zs) ds o₂ (first-timers (run (work-of w xs) ds out))
   unfolding first-timers run-of unpack station-of schedule-maintenance
   timers-start b r zs o o₂ h z k₃ k₂ = left _ _ h (then-tell-any _ k₃ (seq schedule-shuffle k₂ (then (noted z) (still v))))
@@ -94,7 +94,7 @@ module _ (w : Work) (xs ds out : List ℕ) (v : Fine (work-of w xs) ds out) (l :
       })))
 
   pub timed-start : (b r : Work) (ys o₁ o₂ : List ℕ) → zs ≡ ys → o ≡ o₂ → a ≡ r → (eqb (w .code) 0 && not (eqb (layout.timers-scheduled xs) 1)) ≡ true → length ys ≡ length (set xs layout.timers-scheduled-at 1) → length o₁ ≡ length out → length o₂ ≡ length o₁
-      → TellsAny (emit (timer 2 0 maintenance-interval 0)) b r o₁ o₂ → Does (work-of b ys) ds o₁ (schedule-shuffle (run (work-of w (set xs layout.timers-scheduled-at 1)) ds out)) → Timed w xs ds out a zs o
+      → TellsAny (emit (timer (kind-byte DoMaintenance) 0 maintenance-interval 0)) b r o₁ o₂ → Does (work-of b ys) ds o₁ (schedule-shuffle (run (work-of w (set xs layout.timers-scheduled-at 1)) ds out)) → Timed w xs ds out a zs o
   timed-start b r ys o₁ o₂ p q s t m n n₂ k₂ k₁ =
       subst (λ (x : Work). Timed w xs ds out x zs o) (sym s) (subst (λ (x : List ℕ). Timed w xs ds out r x o) (sym p) (subst (λ (x : List ℕ). Timed w xs ds out r ys x) (sym q)
       (record {

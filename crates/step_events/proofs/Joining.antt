@@ -10,6 +10,7 @@ use lib.Seq.{getD-take}
 use lib.Dec.{eqb, ltb}
 use borrow.Author.Tests.{ltb-true, lt-ltb, le-ltb, eqb-true, eqb-false}
 use borrow.Rule.Slice.PartMut.{putMid}
+use Rattle.record.specs.Kinds.{RetryJoin, kind-byte}
 use Rattle.base_lists.specs.Lists.{choose, is, count, mem, without, renew}
 use Rattle.base_lists.specs.Maps.{keys, cut, has}
 use Rattle.base_lists.proofs.Choice.{split, by-choice, choose-yes, choose-no}
@@ -33,9 +34,8 @@ use Rattle.hyparview_state.specs.Unpack.{unpack, station-of, long, PackedState,
 use Rattle.hyparview_state.specs.Work.{Held, work-of, run, run-of, Changes, ChangesAny, Room, Tells, TellsAny}
 use Rattle.hyparview_state.proofs.Access.{of-bootstrap, of-joins}
 use Rattle.hyparview_state.proofs.Any.{required-at, told-at}
-use Rattle.hyparview_state.proofs.Bridge.{on-passed, on-done, emit-passed, require-said, unchanged, change-then, telling, tell-then, tell-yes, tell-no}
+use Rattle.hyparview_state.proofs.Bridge.{on-passed, on-done, emit-passed, required-code, require-said, unchanged, change-then, telling, tell-then, tell-yes, tell-no}
 use Rattle.hyparview_state.proofs.Fields.{put-bootstrap, put-joins}
-use Rattle.hyparview_state.proofs.Refused.{required-code}
 use Rattle.step_events.specs.Free.{KnownJoins, FreeJoin}
 
 -- ---- the bootstrap peers
@@ -143,7 +143,7 @@ module _ (w a : Work) (xs : List ℕ) (p : ℕ) (v : PackedState xs) (k : Change
   unfolding await-join run-of
   join-refused out r h =
       let o = telling r (join-opened a xs (on-passed (work-of a xs) v (note-join p) h)) in
-      tell-then (await-join p) (λ ds. refl) (emit-passed a xs out (timer 4 p join-retry-delay (unpack xs .next-join)) (o .room) h) o
+      tell-then (await-join p) (λ ds. refl) (emit-passed a xs out (timer (kind-byte RetryJoin) p join-retry-delay (unpack xs .next-join)) (o .room) h) o
 
 -- there is a place for the join to a bootstrap peer
 placed : (p : ℕ) (js : List (ℕ × ℕ)) (boo : List ℕ) → ((x : ℕ) → count x (keys js) ≤ count x boo) → is p p ≤ count p boo → length boo ≤ max-bootstrap-peers → (has p js || ltb (length js) joins-places) ≡ true
@@ -192,7 +192,7 @@ pub room-kept : (f : Run → Run) (w a : Held) (out : List ℕ) → Changes f w 
 room-kept f w a out k v = telling v k .room
 
 pub awaited : (w a r : Work) (xs ys out o : List ℕ) (p : ℕ) → Room (work-of w xs) out
-    → TellsAny (emit (timer 4 p join-retry-delay (next-join xs))) a r out o → Changes (open-join p) (work-of w xs) (work-of a ys)
+    → TellsAny (emit (timer (kind-byte RetryJoin) p join-retry-delay (next-join xs))) a r out o → Changes (open-join p) (work-of w xs) (work-of a ys)
     → Tells (await-join p) (work-of w xs) (work-of r ys) out o
 unfolding await-join run-of unpack station-of
 awaited w a r xs ys out o p v k₂ k₁ = tell-then (await-join p) (λ ds. refl) (told-at ys (k₁ .packed) _ k₂) (telling v k₁)

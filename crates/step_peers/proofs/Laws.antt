@@ -9,6 +9,8 @@ use native.Mathlib.Omega.{arith}
 use lib.ListN.{length, take, drop, getD, length-append}
 use lib.Dec.{eqb, leb, ltb}
 use borrow.Author.Tests.{eqb-false, leb-false, not-true, not-false, eq-eqb, ne-eqb}
+use Rattle.record.specs.Kinds.{Evicted, output-byte}
+use Rattle.record.specs.Kinds as kinds
 use Rattle.base_lists.specs.Lists.{null, remove, shift-remove}
 use Rattle.base_util.specs.Section.{items-at}
 use Rattle.base_util.proofs.Parts.{part-read}
@@ -87,11 +89,11 @@ module _ (w : Held) (out : List ℕ) (p : ℕ) (d : PeerData) where
   not-announced t v e h = tell-by _ (λ ds. choose-yes _ _ _ (sym e ∙ h)) (telling v (unchanged (λ g. g) (v .packed) (λ ds o. refl)))
 
 pub announced : (w r : Work) (xs out o : List ℕ) (p : ℕ) (d : PeerData) (t : Bool) → Room (work-of w xs) out → d .present ≡ true → t ≡ null (bytes-of (data-in d)) → t ≡ false
-    → TellsAny (emit (node-notice 11 p (node-in (record { id = 0; «data» = d })))) w r out o
+    → TellsAny (emit (node-notice (output-byte kinds.PeerData) p (node-in (record { id = 0; «data» = d })))) w r out o
     → Tells (announce-data p (bytes-of (data-in d))) (work-of w xs) (work-of r xs) out o
 unfolding announce-data node-in
 announced w r xs out o p d t v y e h k =
-    tell-by _ (λ ds. choose-no _ _ _ (sym e ∙ h) ∙ ap (λ (x : Data). emit (record { kind = 11; message = 0; flags = 0; peer = p; second = 0; ttl = 0; number = 0; nodes = node 0 x ∷ [] }) (run (work-of w xs) ds out)) (sym (present-data d y))) (told-at xs (v .packed) _ k)
+    tell-by _ (λ ds. choose-no _ _ _ (sym e ∙ h) ∙ ap (λ (x : Data). emit (record { kind = output-byte kinds.PeerData; message = 0; flags = 0; peer = p; second = 0; ttl = 0; number = 0; nodes = node 0 x ∷ [] }) (run (work-of w xs) ds out)) (sym (present-data d y))) (told-at xs (v .packed) _ k)
 
 module _ (w : Held) (out : List ℕ) (p : ℕ) (d : PeerData) where
   some-info : (r : Held) (o : List ℕ) → d .present ≡ true → Tells (insert-data p (bytes-of (data-in d))) w r out o → Tells (insert-peer-info p (data-in d)) w r out o
@@ -115,16 +117,16 @@ some-choice k n h = omega (arith, eqb-false n 0 (not-true (eqb n 0) (and-right (
 
 -- a test that was passed found an entry for the data of p
 pub entry-free : (w a : Work) (xs : List ℕ) (p : ℕ) (t : Bool) → PackedState xs → t ≡ data-fits p (unpack xs) → ChangesAny (require 8 t) w a → a .code ≡ 0
-    → (has p (data-map-at peer-data-places (peer-data-part xs)) || ltb (length (data-map-at peer-data-places (peer-data-part xs))) 80) ≡ true
+    → (has p (data-map-at peer-data-places (peer-data-part xs)) || ltb (length (data-map-at peer-data-places (peer-data-part xs))) peer-data-places) ≡ true
 unfolding unpack station-of data-fits
 entry-free w a xs p t v e k z = sym e ∙ require-said (work-of w xs) (work-of a xs) 8 t (omega arith) (required-at xs v _ _ k) z .1
 
 -- an entry that the peer has, or a free one
-pub fits-known : (xs : List ℕ) (p : ℕ) (t : Bool) → PackedState xs → t ≡ has p (data-map-at peer-data-places (peer-data-part xs)) → (t || ltb (getD xs peer-data-count 0) 80) ≡ data-fits p (unpack xs)
+pub fits-known : (xs : List ℕ) (p : ℕ) (t : Bool) → PackedState xs → t ≡ has p (data-map-at peer-data-places (peer-data-part xs)) → (t || ltb (getD xs peer-data-count 0) peer-data-places) ≡ data-fits p (unpack xs)
 unfolding data-fits unpack station-of
 fits-known xs p t v e =
     let n : getD xs peer-data-count 0 ≡ length (data-map-at peer-data-places (peer-data-part xs)) = sym (of-peer-data xs v .counted ∙ part-read peer-data-at peer-data-size (peer-data-places + peer-data-places + (peer-data-places + peer-data-places)) xs (omega arith)) in
-    λ i. e i || ltb (n i) 80
+    λ i. e i || ltb (n i) peer-data-places
 
 module _ (w a r : Held) (out o : List ℕ) (p : ℕ) (b : List ℕ) (t : Bool) where
   inserted : t ≡ is-known p b (unpack (w .state)) → t ≡ false → Changes (keep-data p b) a r → Tells (announce-data p b) w a out o → Tells (insert-data p b) w r out o
@@ -142,11 +144,11 @@ module _ (w : Work) (xs out : List ℕ) (p : ℕ) (d : PeerData) (y : Bool) wher
     known-here = ap (λ (t : Bool). eqb p (me xs) || t) f
 
     pub info-stored : (a b : Work) (o : List ℕ) (t : Bool) → (not (d .present) || (eqb p (me xs) || y)) ≡ false → Tells (announce-data p (bytes-of (data-in d))) (work-of w xs) (work-of a xs) out o
-        → t ≡ has p (data-map-at peer-data-places (peer-data-part xs)) → ChangesAny (require 8 (t || ltb (getD xs peer-data-count 0) 80)) a b
+        → t ≡ has p (data-map-at peer-data-places (peer-data-part xs)) → ChangesAny (require 8 (t || ltb (getD xs peer-data-count 0) peer-data-places)) a b
         → (ys : List ℕ) → Changes (on (store-data p (bytes-of (data-in d)))) (work-of b xs) (work-of b ys) → Tells (insert-peer-info p (data-in d)) (work-of w xs) (work-of b ys) out o
     info-stored a b o t n k₁ q k₂ ys k₃ =
         some-info (work-of w xs) out p d (work-of b ys) o (is-given d (eqb p (me xs) || y) n)
-        (inserted _ _ _ _ _ _ _ (eqb p (me xs) || y) known-here (or-right (not (d .present)) _ n) (keeps a b b xs ys p _ (t || ltb (getD xs peer-data-count 0) 80) v (fits-known xs p t v q) k₃ k₂) k₁)
+        (inserted _ _ _ _ _ _ _ (eqb p (me xs) || y) known-here (or-right (not (d .present)) _ n) (keeps a b b xs ys p _ (t || ltb (getD xs peer-data-count 0) peer-data-places) v (fits-known xs p t v q) k₃ k₂) k₁)
 
   pub info-passed : y ≡ holds (lookup p (unpack xs .peer-data)) (bytes-of (data-in d)) → Room (work-of w xs) out → (not (d .present) || (eqb p (me xs) || y)) ≡ true → Tells (insert-peer-info p (data-in d)) (work-of w xs) (work-of w xs) out out
   unfolding insert-data
@@ -191,7 +193,7 @@ module _ (g : Run) (i p : ℕ) (e : must-evict (g .station) ≡ true) (f : i ≡
   unfolding evict
   evicting = sym (choose-yes _ _ _ e ∙ ap (λ (n : ℕ). evict-at n (draw-one-of (length (g .station .passive)) g)) (sym f))
 
-  room-evicts : p ≡ getD (g .station .passive) i 0 → make-room g ≡ emit (notice 12 p) (evict-at i (draw-one-of (length (g .station .passive)) g))
+  room-evicts : p ≡ getD (g .station .passive) i 0 → make-room g ≡ emit (notice (output-byte Evicted) p) (evict-at i (draw-one-of (length (g .station .passive)) g))
   unfolding make-room tell-evicted
   room-evicts h = sym (λ j. tell-evicted (one-evicted h j) (evicting j))
 
@@ -220,7 +222,7 @@ passive-counted xs p = sym (count-passive xs (of-passive xs p))
 
 module _ (w : Work) (xs ds out : List ℕ) (v : Fine (work-of w xs) ds out) where
   pub made : (a b c r : Work) (ys zs o : List ℕ) (i p : ℕ) → (leb (passive-view-capacity xs) (getD xs passive-count 0) && not (eqb (getD xs passive-count 0) 0)) ≡ true → i ≡ pick (getD xs passive-count 0) (drop (w .drawn) ds) → p ≡ getD (unpack xs .passive) i 0
-      → TellsAny (emit (notice 12 p)) c r out o → Changes (forget-peer p) (work-of b ys) (work-of c zs) → Changes (on (shift-passive i)) (work-of a xs) (work-of b ys) → DrawsAny (draw-one-of (getD xs passive-count 0)) w a ds
+      → TellsAny (emit (notice (output-byte Evicted) p)) c r out o → Changes (forget-peer p) (work-of b ys) (work-of c zs) → Changes (on (shift-passive i)) (work-of a xs) (work-of b ys) → DrawsAny (draw-one-of (getD xs passive-count 0)) w a ds
       → Adds (record { work = r; evicted = Peer p }) zs ds o (make-room (run (work-of w xs) ds out)) (evicted (run (work-of w xs) ds out))
   unfolding named-in run-of one-of to-draw
   made a b c r ys zs o i p h u l k₄ k₃ k₂ k₁ =
@@ -283,7 +285,7 @@ evict-free g l m =
 tell-free : (x : Option ℕ) (g : Run) → FreePassive (g .code) (g .station) → FreePassive (tell-evicted x g .code) (tell-evicted x g .station)
 unfolding tell-evicted
 tell-free none g h = h
-tell-free (some p) g h = record { free = λ z. rw (emit-station (notice 12 p) g) (h .free (emit-fine (notice 12 p) g z)) }
+tell-free (some p) g h = record { free = λ z. rw (emit-station (notice (output-byte Evicted) p) g) (h .free (emit-fine (notice (output-byte Evicted) p) g z)) }
 
 made-free : (g : Run) → length (g .station .passive) ≤ g .station .config .«passive_view_capacity» → 1 ≤ g .station .config .«passive_view_capacity» → FreePassive (make-room g .code) (make-room g .station)
 unfolding make-room
@@ -302,7 +304,7 @@ module _ (w : Work) (m : Added) (xs ys ds out o : List ℕ) (x : Option ℕ) (v 
       (made-free (run (work-of w xs) ds out) (passive-fits xs (v .ready .packed)) (ranges (settings-at xs) (of-settings xs (v .ready .packed)) .passive .least))
 
   -- the free place is one in the view's section, and is enough for one more
-  pub place-passive : length (items-at passive-places (passive-part ys)) < 32
+  pub place-passive : length (items-at passive-places (passive-part ys)) < passive-places
   unfolding unpack station-of settings-at
   place-passive = omega (arith, room-made .free z, ranges (settings-at ys) (of-settings ys (k .does .fine .ready .packed)) .passive .most)
 

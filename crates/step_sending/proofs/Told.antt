@@ -8,10 +8,11 @@ use native.Mathlib.Omega.{arith}
 use lib.ListN.{length, take, getD}
 use lib.Dec.{ltb}
 use borrow.Author.Tests.{ltb-true}
+use Rattle.record.specs.Kinds.{PendingNeighborRequest, kind-byte}
 use Rattle.base_lists.specs.Lists.{choose}
 use Rattle.base_lists.specs.Maps.{has}
 use Rattle.base_lists.proofs.Choice.{choose-yes, choose-no}
-use Rattle.base_util.specs.Section.{items-at, ValidSet}
+use Rattle.base_util.specs.Section.{items-at, ValidSet, working-places}
 use Rattle.base_util.proofs.Parts.{part-read}
 use Rattle.base_columns.specs.Columns.{numbers-at}
 use Rattle.base_peer.specs.Held.{node-in, data-in}
@@ -29,9 +30,8 @@ use Rattle.hyparview_state.specs.Unpack.{unpack, station-of, settings-at, own-a
 use Rattle.hyparview_state.specs.Work.{Held, work-of, run, run-of, Stateless, Changes, ChangesAny, DrawsAny, Room, Tells, TellsAny, Fine, Does}
 use Rattle.hyparview_state.proofs.Access.{of-settings, of-requests}
 use Rattle.base_timing.proofs.Ranges.{ranges}
-use Rattle.hyparview_state.proofs.Bridge.{on-passed, emit-passed, require-said, unchanged, change-by, change-then, telling, tell-by, tell-then, tell-yes, tell-no, by}
+use Rattle.hyparview_state.proofs.Bridge.{on-passed, emit-passed, required-code, require-said, unchanged, change-by, change-then, telling, tell-by, tell-then, tell-yes, tell-no, by}
 use Rattle.hyparview_state.proofs.Any.{required-at, then-tell-any, told-at}
-use Rattle.hyparview_state.proofs.Refused.{required-code}
 use Rattle.step_sending.proofs.Sets.{lent-items}
 
 -- what a step is lent, after another
@@ -58,8 +58,8 @@ module _ (w r : Work) (xs out o : List ℕ) where
   unfolding send-nodes run-of
   nodes-told to ps ns v h k = tell-by _ (λ ds. ap (λ (x : List Node). emit (message 3 to 0 0 0 x) (run (work-of w xs) ds out)) (sym (h .holds))) (told-at xs (v .packed) _ k)
 
-  pub set-told : (v : List ℕ) (n to : ℕ) (ns : Nodes) → Room (work-of w xs) out → ValidSet 32 v → n ≡ length (items-at 32 v) → HoldsNodes ns (peer-infos (unpack xs) (take n v)) → TellsAny (emit (message 3 to 0 0 0 (nodes-in ns))) w r out o
-      → Tells (send-nodes to (items-at 32 v)) (work-of w xs) (work-of r xs) out o
+  pub set-told : (v : List ℕ) (n to : ℕ) (ns : Nodes) → Room (work-of w xs) out → ValidSet working-places v → n ≡ length (items-at working-places v) → HoldsNodes ns (peer-infos (unpack xs) (take n v)) → TellsAny (emit (message 3 to 0 0 0 (nodes-in ns))) w r out o
+      → Tells (send-nodes to (items-at working-places v)) (work-of w xs) (work-of r xs) out o
   set-told v n to ns q s e h k = subst (λ (l : List ℕ). Tells (send-nodes to l) (work-of w xs) (work-of r xs) out o) (lent-items v n s e) (nodes-told to (take n v) ns q h k)
 
   neighbor-told : (p : ℕ) (high : Bool) (f : ℕ) (d : PeerData) → Room (work-of w xs) out → f ≡ choose high 1 0 → d ≡ own-at xs
@@ -77,7 +77,7 @@ module _ (w r : Work) (xs out o : List ℕ) where
 
 pub request-told : (w a r : Work) (xs out o₁ o : List ℕ) (p : ℕ) (high : Bool) (id f : ℕ) (d : PeerData) → Room (work-of w xs) out → f ≡ choose high 1 0 → d ≡ own-at xs
     → TellsAny (emit (message 4 p f 0 0 (node-in (record { id = 0; «data» = d }) ∷ []))) w a out o₁
-    → TellsAny (emit (timer 3 p (neighbor-request-timeout xs) id)) a r o₁ o
+    → TellsAny (emit (timer (kind-byte PendingNeighborRequest) p (neighbor-request-timeout xs) id)) a r o₁ o
     → Tells (tell-request p high id) (work-of w xs) (work-of r xs) out o
 unfolding tell-request run-of unpack station-of settings-at
 request-told w a r xs out o₁ o p high id f d v e q k₁ k₂ =
@@ -110,13 +110,13 @@ requests-counted xs v = sym (of-requests xs v .counted ∙ part-read requests-at
 
 -- the two tests before a request is noted
 module _ (w a b : Work) (xs : List ℕ) (n : ℕ) (v : PackedState xs) (k₁ : ChangesAny (require 10 (ltb (next-neighbor-request xs) top-counter)) w a)
-    (e : n ≡ length (numbers-at requests-places (requests-part xs))) (k₂ : ChangesAny (require 6 (ltb n 32)) a b) where
+    (e : n ≡ length (numbers-at requests-places (requests-part xs))) (k₂ : ChangesAny (require 6 (ltb n requests-places)) a b) where
   pub number-left : b .code ≡ 0 → next-neighbor-request xs < top-counter
-  number-left z = ltb-true _ _ (require-said (work-of w xs) (work-of a xs) 10 _ (omega arith) (required-at xs v _ _ k₁) (required-code 6 (ltb n 32) (work-of a xs) (work-of b xs) (required-at xs v _ _ k₂) z) .1)
+  number-left z = ltb-true _ _ (require-said (work-of w xs) (work-of a xs) 10 _ (omega arith) (required-at xs v _ _ k₁) (required-code 6 (ltb n requests-places) (work-of a xs) (work-of b xs) (required-at xs v _ _ k₂) z) .1)
 
-  pub place-left : b .code ≡ 0 → (p : ℕ) → (has p (numbers-at requests-places (requests-part xs)) || ltb (length (numbers-at requests-places (requests-part xs))) 32) ≡ true
+  pub place-left : b .code ≡ 0 → (p : ℕ) → (has p (numbers-at requests-places (requests-part xs)) || ltb (length (numbers-at requests-places (requests-part xs))) requests-places) ≡ true
   place-left z p =
-      let fits : ltb (length (numbers-at requests-places (requests-part xs))) 32 ≡ true = ap (λ (m : ℕ). ltb m 32) (sym e) ∙ require-said (work-of a xs) (work-of b xs) 6 (ltb n 32) (omega arith) (required-at xs v _ _ k₂) z .1 in
+      let fits : ltb (length (numbers-at requests-places (requests-part xs))) requests-places ≡ true = ap (λ (m : ℕ). ltb m requests-places) (sym e) ∙ require-said (work-of a xs) (work-of b xs) 6 (ltb n requests-places) (omega arith) (required-at xs v _ _ k₂) z .1 in
       rw fits (or-true (has p (numbers-at requests-places (requests-part xs))))
 
   counted : Changes count-request (work-of w xs) (work-of a xs)
@@ -126,7 +126,7 @@ module _ (w a b : Work) (xs : List ℕ) (n : ℕ) (v : PackedState xs) (k₁ : C
   module _ (p : ℕ) (ys : List ℕ) (k₃ : Changes (on (note-request p)) (work-of b xs) (work-of b ys)) where
     opened : Changes (open-request p) (work-of a xs) (work-of b ys)
     unfolding open-request request-fits run-of unpack station-of
-    opened = change-then _ (λ ds out. ap (λ (m : ℕ). on (note-request p) (require 6 (ltb m 32) (run (work-of a xs) ds out))) (sym e)) k₃ (required-at xs v _ _ k₂)
+    opened = change-then _ (λ ds out. ap (λ (m : ℕ). on (note-request p) (require 6 (ltb m requests-places) (run (work-of a xs) ds out))) (sym e)) k₃ (required-at xs v _ _ k₂)
 
     noted : (out : List ℕ) → Room (work-of w xs) out → Tells (λ g. open-request p (count-request g)) (work-of w xs) (work-of b ys) out out
     noted out q = telling q (change-then _ (λ ds o. refl) opened counted)

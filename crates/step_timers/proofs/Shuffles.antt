@@ -6,9 +6,10 @@ use mathlib.Core.Bool.{true, false}
 use mathlib.Core.List.{List, [], _∷_, _++_}
 use native.Mathlib.Omega.{arith}
 use lib.ListN.{length, take, drop, getD, set, length-append}
+use Rattle.record.specs.Kinds.{DoShuffle, kind-byte}
 use Rattle.base_lists.specs.Lists.{null, without}
 use Rattle.base_util.specs.Chances.{pick}
-use Rattle.base_timing.specs.Timing.{delay}
+use Rattle.base_timing.specs.Timing.{delay, longest-time, longest-walk, most-shuffle-active, most-shuffle-passive}
 use Rattle.base_timing.proofs.Ranges.{ranges}
 use Rattle.base_peer.specs.declared.PeerData.{PeerData}
 use Rattle.base_peer.specs.Data.{Node}
@@ -35,7 +36,7 @@ use Rattle.step_sending.proofs.Sets.{few-taken, lent-items, lent-count, shuffle
 
 -- ---- the interval
 
-pub setting-fits : (xs : List ℕ) → PackedState xs → shuffle-interval xs ≤ 3600000
+pub setting-fits : (xs : List ℕ) → PackedState xs → shuffle-interval xs ≤ longest-time
 unfolding settings-at
 setting-fits xs v = ranges (settings-at xs) (of-settings xs v) .interval .most
 
@@ -50,7 +51,7 @@ doubled w xs n v z e = on-done (work-of w xs) v double-interval _ z (put-doubled
 schedule-rests : (g : Run) → (g .code ≡ 0 → ⊥) → schedule-shuffle g ≡ g
 unfolding schedule-shuffle emit draw on
 schedule-rests g h =
-    let e = timer 1 0 (delay (g .station .next-interval) (drawn g)) 0 in
+    let e = timer (kind-byte DoShuffle) 0 (delay (g .station .next-interval) (drawn g)) 0 in
     ap (λ (x : Run). emit e (draw 1 x)) (guard-shut g _ h) ∙ (ap (emit e) (guard-shut g _ h) ∙ guard-shut g _ h)
 
 pub not-scheduled : (w : Work) (xs ds out : List ℕ) → Fine (work-of w xs) ds out → (w .code ≡ 0 → ⊥) → Does (work-of w xs) ds out (schedule-shuffle (run (work-of w xs) ds out))
@@ -59,12 +60,12 @@ not-scheduled w xs ds out v h = by _ (schedule-rests _ h) (still v)
 
 scheduled-is : (w : Work) (xs ds out : List ℕ) (x d : ℕ) → x ≡ delay (next-shuffle-interval xs) d → d ≡ getD ds (w .drawn) 0
     → schedule-shuffle (run (work-of w xs) ds out)
-    ≡ emit (timer 1 0 x 0) (draw 1 (on double-interval (run (work-of w xs) ds out)))
+    ≡ emit (timer (kind-byte DoShuffle) 0 x 0) (draw 1 (on double-interval (run (work-of w xs) ds out)))
 unfolding schedule-shuffle run-of unpack station-of drawn
-scheduled-is w xs ds out x d e q = ap (λ (n : ℕ). emit (timer 1 0 n 0) (draw 1 (on double-interval (run (work-of w xs) ds out)))) (ap (delay (next-shuffle-interval xs)) (sym q) ∙ sym e)
+scheduled-is w xs ds out x d e q = ap (λ (n : ℕ). emit (timer (kind-byte DoShuffle) 0 n 0) (draw 1 (on double-interval (run (work-of w xs) ds out)))) (ap (delay (next-shuffle-interval xs)) (sym q) ∙ sym e)
 
 pub scheduled : (w a b r : Work) (xs ys ds out o : List ℕ) (x d : ℕ) → Fine (work-of w xs) ds out → x ≡ delay (next-shuffle-interval xs) d → d ≡ getD ds (a .drawn) 0
-    → TellsAny (emit (timer 1 0 x 0)) b r out o
+    → TellsAny (emit (timer (kind-byte DoShuffle) 0 x 0)) b r out o
     → DrawsAny (draw 1) a b ds → Changes (on double-interval) (work-of w xs) (work-of a ys) → Does (work-of r ys) ds o (schedule-shuffle (run (work-of w xs) ds out))
 scheduled w a b r xs ys ds out o x d v e q k₃ k₂ k₁ =
     by _ (scheduled-is w xs ds out x d e (q ∙ ap (λ (n : ℕ). getD ds n 0) (k₁ .drawn))) (then-tell-any _ k₃ (then-drawn _ k₂ (then k₁ (still v))))
@@ -76,10 +77,10 @@ unfolding peer-infos
 length-infos s [] = refl
 length-infos s (p ∷ ps) = omega (arith, length-infos s ps)
 
-pub place-named : (xs v : List ℕ) (n : ℕ) (ns : Nodes) → ValidSet working-places v → n ≡ length (items-at working-places v) → length (items-at working-places v) < 32 → HoldsNodes ns (peer-infos (unpack xs) (take n v)) → ns .len < 32
+pub place-named : (xs v : List ℕ) (n : ℕ) (ns : Nodes) → ValidSet working-places v → n ≡ length (items-at working-places v) → length (items-at working-places v) < working-places → HoldsNodes ns (peer-infos (unpack xs) (take n v)) → ns .len < working-places
 place-named xs v n ns s e f h = omega (arith, length-nodes ns (h .valid), ap length (h .holds), length-infos (unpack xs) (take n v), lent-count v n s e)
 
-pub walk-fits : (xs : List ℕ) → PackedState xs → shuffle-random-walk-length xs ≤ 65535
+pub walk-fits : (xs : List ℕ) → PackedState xs → shuffle-random-walk-length xs ≤ longest-walk
 unfolding settings-at
 walk-fits xs v = ranges (settings-at xs) (of-settings xs v) .shuffle-walk .most
 
@@ -107,18 +108,18 @@ module _ (w r : Work) (ds v₁ v₂ xs : List ℕ) (to : ℕ) (h₁ : HoldsSet w
   peers-are v₃ most k = record { valid = k .valid; items = k .items ∙ ap (λ (l : List ℕ). take most (shuffled-by w ds l)) (others-are .items) }
 
 module _ (xs : List ℕ) (f : PackedState xs) (l m : List ℕ) where
-  pub few-active : HoldsSet working-places m (take (shuffle-active-view-count xs) l) → length (items-at working-places m) ≤ 8
+  pub few-active : HoldsSet working-places m (take (shuffle-active-view-count xs) l) → length (items-at working-places m) ≤ most-shuffle-active
   unfolding settings-at
   few-active k = omega (arith, set-length working-places m _ k, few-taken (shuffle-active-view-count xs) l, ranges (settings-at xs) (of-settings xs f) .shuffle-active .most)
 
-  few-passive : HoldsSet working-places m (take (shuffle-passive-view-count xs) l) → length (items-at working-places m) ≤ 23
+  few-passive : HoldsSet working-places m (take (shuffle-passive-view-count xs) l) → length (items-at working-places m) ≤ most-shuffle-passive
   unfolding settings-at
   few-passive k = omega (arith, set-length working-places m _ k, few-taken (shuffle-passive-view-count xs) l, ranges (settings-at xs) (of-settings xs f) .shuffle-passive .most)
 
-  pub both-fit : (v : List ℕ) → HoldsSet working-places m (take (shuffle-passive-view-count xs) l) → length (items-at working-places v) ≤ 8 → length (items-at working-places v) + length (items-at working-places m) ≤ working-places
+  pub both-fit : (v : List ℕ) → HoldsSet working-places m (take (shuffle-passive-view-count xs) l) → length (items-at working-places v) ≤ most-shuffle-active → length (items-at working-places v) + length (items-at working-places m) ≤ working-places
   both-fit v k h = omega (arith, few-passive k)
 
-  pub all-fit : (v all : List ℕ) → HoldsSet working-places m (take (shuffle-passive-view-count xs) l) → length (items-at working-places v) ≤ 8 → HoldsSet working-places all (items-at working-places v ++ items-at working-places m) → length (items-at working-places all) < 32
+  pub all-fit : (v all : List ℕ) → HoldsSet working-places m (take (shuffle-passive-view-count xs) l) → length (items-at working-places v) ≤ most-shuffle-active → HoldsSet working-places all (items-at working-places v ++ items-at working-places m) → length (items-at working-places all) < working-places
   all-fit v all k h e = omega (arith, few-passive k, set-length working-places all _ e, length-append (items-at working-places v) (items-at working-places m))
 
 module _ (w a r : Work) (xs ds out o : List ℕ) (to : ℕ) (f : Fine (work-of w xs) ds out) where

@@ -147,6 +147,13 @@ module _ {S : Type 0} {F : Form S} where
       let q = required k t (run-of F w [] []) h (ap (λ (g : Run S). g .code) (sym e) ∙ z) in
       (ap (λ (g : Run S). g .station) (e ∙ q .0), q .1)
 
+  -- a test was made only where the run went on
+  pub required-code : (k : ℕ) (b : Bool) (w a : Held) → Changes F (require k b) w a → a .code ≡ 0 → w .code ≡ 0
+  unfolding run-of require
+  required-code k b w a v z =
+      split (eqb (w .code) 0) (λ t. eqb-true _ _ t)
+      (λ t. sym (ap (λ (x : Run S). x .code) (v .same [] [] ∙ guard-shut (run-of F w [] []) _ (eqb-false _ _ t))) ∙ z)
+
   -- ---- steps in a row
 
   -- nothing done

@@ -1,6 +1,7 @@
 -- The places before i hold what is wanted. The measure is what is left.
 use Prim.Native.Nat.{_-_, _≤_}
 use lib.ListN.{length}
+use Rattle.base_util.specs.Section.{working-places}
 use Rattle.base_util.proofs.Copies.{Copying, copying-start, copying-next, copying-past, copying-long, copying-end}
 use borrow.Author.Needs.{needs}
 use Rattle.base_util.proofs.copy_column.Statement.{statement}
@@ -16,7 +17,7 @@ abbrev Inv-loop2 : tie.InvT-loop2
 Inv-loop2 s n t₀ i₀ t i = (length s ≤ i) × Copying s n t₀ t i
 
 abbrev μ-loop2 : tie.MeasureT-loop2
-μ-loop2 s n t₀ i₀ t i = 32 - i
+μ-loop2 s n t₀ i₀ t i = working-places - i
 
 loop-holds : tie.Need-loop-holds Inv-loop μ-loop Inv-loop2 μ-loop2
 loop-holds c = search copying-start
