@@ -10,7 +10,7 @@ use lib.ListN.{length, getD, take, replicate, List·getD-append}
 use lib.Seq.{getD-append-add, length-take-le}
 use lib.Dec.{ltb, leb}
 use borrow.Author.Tests.{ltb-true, ltb-false, leb-true}
-use Rattle.record.specs.Kinds.{Message, DoMaintenance, PeerDisconnected, RequestJoin, Quit, kind-byte}
+use Rattle.record.specs.Kinds.{DoMaintenance, PeerDisconnected, RequestJoin, Quit, kind-byte}
 use Rattle.base_lists.specs.Bytes.{overwrite}
 use Rattle.base_lists.specs.Tests.{every}
 use Rattle.base_lists.proofs.Choice.{split, choose-yes, and-left, and-right}
@@ -32,16 +32,16 @@ use Rattle.hyparview.specs.declared.HandledState.{HandledState}
 use Rattle.hyparview.specs.Made.{MadeWords, lent, pack-made}
 use Rattle.hyparview.specs.Handled.{Outcome, handled}
 use Rattle.spec_demand.specs.Program.{program-outcome, made-state}
-use Rattle.endings.specs.Events.{no-data-node, event, of-peer, maintenance, quit, events, event-at, tiny, draws, output}
+use Rattle.endings.specs.Events.{no-data-node, event, message-event, of-peer, maintenance, quit, events, event-at, tiny, draws, output}
 use Rattle.endings.specs.Steps.{first-state, played}
 
 -- ---- the writers
 
 pub wrote-one : (m f p : ℕ) (d : PeerData) (out : List ℕ) (r : Written) (o : List ℕ) → HoldsData d none
     → Wrote (rec-in (record { kind = 0; message = m; flags = f; peer = p; second = 0; ttl = 0; number = 0 }) (node-in (record { id = 0; «data» = d }) ∷ [])) 0 out r o
-    → Wrote (event (kind-byte Message) m f p no-data-node) 0 out r o
+    → Wrote (message-event m f p no-data-node) 0 out r o
 unfolding rec-in node-in
-wrote-one m f p d out r o h w = subst (λ (x : Data). Wrote (event (kind-byte Message) m f p (record { id = 0; data-of = x } ∷ [])) 0 out r o) (h .holds) w
+wrote-one m f p d out r o h w = subst (λ (x : Data). Wrote (message-event m f p (record { id = 0; data-of = x } ∷ [])) 0 out r o) (h .holds) w
 
 -- below suc n and not n
 down : (i n : ℕ) → i < suc n → (i ≡ n → ⊥) → i < n
@@ -52,23 +52,23 @@ module _ (p i : ℕ) (out : List ℕ) (r : Written) (o : List ℕ) where
   unfolding of-peer
   at-0 h w = rw h w
 
-  pub at-1 : i ≡ 1 → Wrote (event (kind-byte Message) 0 0 p no-data-node) 0 out r o → Wrote (getD (of-peer p) i quit) 0 out r o
+  pub at-1 : i ≡ 1 → Wrote (message-event 0 0 p no-data-node) 0 out r o → Wrote (getD (of-peer p) i quit) 0 out r o
   unfolding of-peer
   at-1 h w = rw h w
 
-  pub at-2 : i ≡ 2 → Wrote (event (kind-byte Message) 4 1 p no-data-node) 0 out r o → Wrote (getD (of-peer p) i quit) 0 out r o
+  pub at-2 : i ≡ 2 → Wrote (message-event 4 1 p no-data-node) 0 out r o → Wrote (getD (of-peer p) i quit) 0 out r o
   unfolding of-peer
   at-2 h w = rw h w
 
-  pub at-3 : i ≡ 3 → Wrote (event (kind-byte Message) 4 0 p no-data-node) 0 out r o → Wrote (getD (of-peer p) i quit) 0 out r o
+  pub at-3 : i ≡ 3 → Wrote (message-event 4 0 p no-data-node) 0 out r o → Wrote (getD (of-peer p) i quit) 0 out r o
   unfolding of-peer
   at-3 h w = rw h w
 
-  pub at-4 : i ≡ 4 → Wrote (event (kind-byte Message) 5 1 p []) 0 out r o → Wrote (getD (of-peer p) i quit) 0 out r o
+  pub at-4 : i ≡ 4 → Wrote (message-event 5 1 p []) 0 out r o → Wrote (getD (of-peer p) i quit) 0 out r o
   unfolding of-peer
   at-4 h w = rw h w
 
-  pub at-5 : i ≡ 5 → Wrote (event (kind-byte Message) 5 0 p []) 0 out r o → Wrote (getD (of-peer p) i quit) 0 out r o
+  pub at-5 : i ≡ 5 → Wrote (message-event 5 0 p []) 0 out r o → Wrote (getD (of-peer p) i quit) 0 out r o
   unfolding of-peer
   at-5 h w = rw h w
 

@@ -22,15 +22,19 @@ no-data-node = record { id = 0; data-of = none } ∷ []
 abbrev pub event : ℕ → ℕ → ℕ → ℕ → List Node → Rec
 event k m f p ns = record { kind = k; message = m; flags = f; peer = p; second = 0; ttl = 0; number = 0; nodes = ns }
 
+-- one of a message
+abbrev pub message-event : ℕ → ℕ → ℕ → List Node → Rec
+message-event m f p ns = event (kind-byte Message) m f p ns
+
 -- "all seven for peer ..: RequestJoin, Join, Neighbor High, Neighbor Low, Disconnect alive, Disconnect not alive, disconnection"
 unfoldable pub of-peer : ℕ → List Rec
 of-peer p =
     event (kind-byte RequestJoin) 0 0 p []
-    ∷ event (kind-byte Message) 0 0 p no-data-node
-    ∷ event (kind-byte Message) 4 1 p no-data-node
-    ∷ event (kind-byte Message) 4 0 p no-data-node
-    ∷ event (kind-byte Message) 5 1 p []
-    ∷ event (kind-byte Message) 5 0 p []
+    ∷ message-event 0 0 p no-data-node
+    ∷ message-event 4 1 p no-data-node
+    ∷ message-event 4 0 p no-data-node
+    ∷ message-event 5 1 p []
+    ∷ message-event 5 0 p []
     ∷ event (kind-byte PeerDisconnected) 0 0 p []
     ∷ []
 
