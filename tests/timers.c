@@ -67,8 +67,9 @@ static void show(const uint64_t *numbers, size_t n)
 
 static void show_event(uint64_t limit)
 {
-    uint8_t bytes[TIMER_MAP_EVENT_BYTES] = {0};
+    uint8_t bytes[TIMER_MAP_EVENT_BYTES];
     uint64_t words[4] = {0};
+    memset(bytes, 255, sizeof bytes); // so that a zero is one that the call wrote
     struct timer_map_popped_event p = timer_map_pop_event(q, TIMER_MAP_WORDS, limit, bytes, sizeof bytes);
     for (size_t i = 0; i < sizeof bytes; i++)
         words[i / 8] |= (uint64_t)bytes[i] << 8 * (i % 8);

@@ -49,7 +49,7 @@ pub record Called : Type 0 where
 unfoldable pub tallied : Tally → Outcome → Called
 tallied t o = record { code = o .code; draws = o .draws; words = o .words; tally = raised (o .code) (o .output) t; output = o .output }
 
--- `hyparview_handle` at the words xs and the tally t, with as many bytes of output; that a refusal leaves both as they were is `refused-same`
+-- `hyparview_handle` at the words xs and the tally t, with as many bytes of output; that a refusal leaves both as they were is claimed in spec_demand_calls/Refusal
 unfoldable pub called : List ℕ → Tally → List ℕ → List ℕ → ℕ → Called
 called xs t b ds room = tallied t (handled xs b ds room)
 

@@ -5,6 +5,7 @@ use mathlib.Core.Path.{_≡_, refl, sym, ap, subst, _∙_}
 use mathlib.Core.Bool.{true, _&&_}
 use mathlib.Core.List.{List, [], _∷_, _++_, map}
 use native.Mathlib.Nat.{pos-of-ne-zero}
+use native.Mathlib.Numerals.{add-one}
 use native.Mathlib.Omega.{arith}
 use lib.ListN.{length, drop, getD, length-append, length-map, drop-of-length-le, List·getD-map}
 use lib.Seq.{drop-cons}
@@ -12,16 +13,15 @@ use lib.Dec.{eqb}
 use Rattle.base_lists.specs.Lists.{choose}
 use Rattle.base_lists.proofs.Choice.{by-choice}
 use Rattle.record.specs.Format.{encode}
-use Rattle.spec_stories.specs.Histories.{Event, History, each, of-length, up-to, place-of}
+use Rattle.spec_stories.specs.Histories.{Event, History, each, of-length, up-to}
 use Rattle.spec_stories.proofs.Once.{how-many as histories-in-all}
-use Rattle.spec_stories.proofs.Order.{place-at}
 use Rattle.hyparview.specs.Queries.{neighbors-in, spare-addresses-in}
 use Rattle.hyparview.specs.declared.State.{State}
 use Rattle.endings.specs.declared.Ends.{Ends}
 use Rattle.endings.specs.Events.{quit, events, event-at, event-records, after-history}
-use Rattle.endings.specs.Ends.{Sizes, how-many, digest-end, next-number, number-from, next-digest, digest-from, count-ends}
+use Rattle.endings.specs.Ends.{Sizes, how-many, digest-end, next-byte, next-number, number-from, next-digest, digest-from, count-ends}
 use Rattle.endings.specs.Steps.{first-state, played, sizes-in, one-more, counted-on, CountRoom}
-use Rattle.endings.proofs.Different.{sixteen, all-differ}
+use Rattle.endings.proofs.Different.{sixteen}
 
 -- ---- one history
 
@@ -30,13 +30,33 @@ ends-are a b n p v t d = λ i. record { neither = n i; passive = p i; active = v
 
 pub counted : (s : State) (k : ℕ) (c : Ends) (a p n₀ n₁ n₂ n₃ : ℕ) → a ≡ length (neighbors-in (s .words)) → p ≡ spare-addresses-in (s .words)
     → n₀ ≡ choose (eqb a 0 && eqb p 0) 1 0 → n₁ ≡ choose (eqb a 0 && eqb p 1) 1 0 → n₂ ≡ choose (eqb a 1 && eqb p 0) 1 0 → n₃ ≡ choose (eqb a 1 && eqb p 1) 1 0
-    → record { neither = c .neither + n₀; passive = c .passive + n₁; active = c .active + n₂; both = c .both + n₃; digest = (c .digest * 83521 + k) % digest-end } ≡ one-more (sizes-in s []) k c
+    → record { neither = c .neither + n₀; passive = c .passive + n₁; active = c .active + n₂; both = c .both + n₃; digest = (c .digest * 65537 + k) % digest-end } ≡ one-more (sizes-in s []) k c
 unfolding one-more sizes-in after-history next-digest
 counted s k c a p n₀ n₁ n₂ n₃ ea ep e₀ e₁ e₂ e₃ =
     let z = sizes-in s [] in
     let count : (x y n : ℕ) → n ≡ choose (eqb a x && eqb p y) 1 0 → n ≡ choose (eqb (z .0) x && eqb (z .1) y) 1 0 = λ x y n e. e ∙ (λ i. choose (eqb (ea i) x && eqb (ep i) y) 1 0) in
     ends-are _ _ (ap (λ (n : ℕ). c .neither + n) (count 0 0 n₀ e₀)) (ap (λ (n : ℕ). c .passive + n) (count 0 1 n₁ e₁)) (ap (λ (n : ℕ). c .active + n) (count 1 0 n₂ e₂))
     (ap (λ (n : ℕ). c .both + n) (count 1 1 n₃ e₃)) refl
+
+-- ---- the bytes of one event
+
+-- k is the number where the bytes from place `at` on are still to come
+pub record Numbering (number : ℕ) (b : List ℕ) (k at : ℕ) : Type 0 where
+  pub low : k < digest-end
+  pub reached : at ≤ length b
+  pub same : next-number number b ≡ next-number k (drop at b)
+
+pub numbering-start : (number : ℕ) (b : List ℕ) → number < digest-end → Numbering number b number 0
+numbering-start number b h = record { low = h; reached = omega arith; same = refl }
+
+module _ (number : ℕ) (b : List ℕ) (k at : ℕ) (v : Numbering number b k at) where
+  pub numbering-next : at < length b → Numbering number b ((k * 257 + getD b at 0 + 1) % digest-end) (at + 1)
+  unfolding next-number next-byte
+  numbering-next h = record { low = omega arith; reached = omega arith; same = v .same ∙ ap (next-number k) (drop-cons b at 0 h ∙ ap (λ (n : ℕ). getD b at 0 ∷ drop n b) (sym (add-one at))) }
+
+  pub numbering-end : length b ≤ at → k ≡ next-number number b
+  unfolding next-number
+  numbering-end h = sym (v .same ∙ ap (next-number k) (drop-of-length-le b {i = at} h))
 
 -- ---- lists of histories
 
@@ -47,10 +67,10 @@ counted-append s k c (h ∷ xs) ys = counted-append s k (one-more (sizes-in s h)
 
 -- a history that begins with e goes on from the state after it
 counted-behind : (s : State) (k : ℕ) (e : Event) (c : Ends) (hs : List History)
-    → counted-on s k c (map (λ h. e ∷ h) hs) ≡ counted-on (played e s) (next-number k (place-of e event-records)) c hs
+    → counted-on s k c (map (λ h. e ∷ h) hs) ≡ counted-on (played e s) (next-number k e) c hs
 unfolding counted-on sizes-in after-history played number-from
 counted-behind s k e c [] = refl
-counted-behind s k e c (h ∷ hs) = counted-behind s k e (one-more (sizes-in (played e s) h) (number-from (next-number k (place-of e event-records)) h) c) hs
+counted-behind s k e c (h ∷ hs) = counted-behind s k e (one-more (sizes-in (played e s) h) (number-from (next-number k e) h) c) hs
 
 -- room is used up by what is counted
 room-one : (z : ℕ × ℕ) (k : ℕ) (c : Ends) (n : ℕ) → CountRoom c (suc n) → CountRoom (one-more z k c) n
@@ -81,7 +101,7 @@ to-come i n = each (drop i event-records) (of-length event-records n)
 
 -- the event at a place as bytes
 record-at : (i : ℕ) → getD event-records i (encode quit) ≡ encode (event-at i)
-unfolding event-records event-at
+unfolding event-records event-at events
 record-at i = List·getD-map encode events i quit
 
 come-next : (i n : ℕ) → i < 16 → to-come i n ≡ map (λ h. encode (event-at i) ∷ h) (of-length event-records n) ++ to-come (i + 1) n
@@ -123,15 +143,14 @@ module _ (s : State) (k left : ℕ) (c sum : Ends) (i : ℕ) (v : Extending s k 
   pub extending-room : CountRoom sum (length (of-length event-records (left - 1)))
   extending-room = room-first sum _ (length (to-come (i + 1) (left - 1))) (subst (CountRoom sum) (come-length i (left - 1) h) (v .room))
 
-  pub extending-next : (next : State) (j : ℕ) (r : Ends) → next ≡ played (encode (event-at i)) s → j ≡ next-number k i → r ≡ counted-on next j sum (of-length event-records (left - 1)) → Extending s k left c r (i + 1)
+  pub extending-next : (next : State) (j : ℕ) (r : Ends) → next ≡ played (encode (event-at i)) s → j ≡ next-number k (encode (event-at i)) → r ≡ counted-on next j sum (of-length event-records (left - 1)) → Extending s k left c r (i + 1)
   extending-next next j r e f q =
       let n = left - 1 in
       let b = encode (event-at i) in
       let hs = of-length event-records n in
       let rest = to-come (i + 1) n in
-      let place : place-of b event-records ≡ i = ap (λ (x : Event). place-of x event-records) (sym (record-at i)) ∙ place-at event-records i (encode quit) all-differ (omega (arith, sixteen, h)) in
       let here : r ≡ counted-on s k sum (map (λ g. b ∷ g) hs) =
-      q ∙ (ap (λ (x : State). counted-on x j sum hs) e ∙ (ap (λ (m : ℕ). counted-on (played b s) m sum hs) (f ∙ ap (next-number k) (sym place)) ∙ sym (counted-behind s k b sum hs))) in
+      q ∙ (ap (λ (x : State). counted-on x j sum hs) e ∙ (ap (λ (m : ℕ). counted-on (played b s) m sum hs) f ∙ sym (counted-behind s k b sum hs))) in
       let many : length (map (λ g. b ∷ g) hs) ≡ length hs = length-map hs (λ (g : History). b ∷ g) in
       record {
         low = omega arith;

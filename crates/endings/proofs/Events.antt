@@ -33,6 +33,7 @@ use Rattle.hyparview.specs.Made.{MadeWords, lent, pack-made}
 use Rattle.hyparview.specs.Handled.{Outcome, handled}
 use Rattle.spec_demand.specs.Program.{program-outcome, made-state}
 use Rattle.endings.specs.Events.{no-data-node, event, message-event, of-peer, maintenance, quit, events, event-at, tiny, draws, output}
+use Rattle.endings.specs.Ends.{next-number}
 use Rattle.endings.specs.Steps.{first-state, played}
 
 -- ---- the writers
@@ -169,6 +170,10 @@ module _ (i : ℕ) (out : List ℕ) (long : length out ≡ longest) (w : Written
 pub plays : (i : ℕ) (s : State) (b : List ℕ) (n : ℕ) (a : HandledState) (o : List ℕ) → take n b ≡ encode (event-at i) → record { code = a .code; draws = a .draws; words = a .state .words; output = o } ≡ handled (s .words) (take n b) (replicate 512 0) (length {A = ℕ} (replicate 8192 0)) → a .state ≡ played (encode (event-at i)) s
 unfolding played program-outcome draws output
 plays i s b n a o e q = ap (λ (x : Outcome). record { words = x .words }) (q ∙ ap (λ (l : List ℕ). handled (s .words) l (replicate 512 0) (length {A = ℕ} (replicate 8192 0))) e)
+
+-- the number goes on with the same bytes
+pub numbers : (i number : ℕ) (b : List ℕ) (n r : ℕ) → take n b ≡ encode (event-at i) → r ≡ next-number number (take n b) → r ≡ next-number number (encode (event-at i))
+numbers i number b n r e q = q ∙ ap (next-number number) e
 
 pub cut-length : (n : ℕ) (b : List ℕ) → n ≤ longest → length b ≡ longest → n ≡ length (take n b)
 cut-length n b l e = sym (length-take-le n b (omega (arith, l, e)))

@@ -6,7 +6,7 @@ use mathlib.Core.List.{List, [], _∷_}
 use lib.ListN.{length}
 use lib.Dec.{eqb}
 use Rattle.base_lists.specs.Lists.{choose}
-use Rattle.spec_stories.specs.Histories.{History, up-to, place-of}
+use Rattle.spec_stories.specs.Histories.{Event, History, up-to}
 use Rattle.spec_hyparview.specs.Station.{Station}
 use Rattle.spec_history.specs.Calls.{definition}
 use Rattle.endings.specs.declared.Ends.{Ends}
@@ -31,22 +31,27 @@ unfoldable pub how-many : Sizes → ℕ → ℕ → List History → ℕ
 how-many z a p [] = 0
 how-many z a p (h ∷ hs) = choose (eqb (z h .0) a && eqb (z h .1) p) 1 0 + how-many z a p hs
 
--- A history has a number: the places of its events, from 1 on, as the digits of a number in base 17. Different histories of at most four events have different ones, below 17^4.
--- A list of histories has a digest, into which their numbers go in turn; it says which histories were counted and in which order. It is taken modulo the prime 2^44 - 17, so that it fits in 64 bits.
+-- A history has a number, into which the bytes of its records go in turn, as `handle` is given them; the empty one has 0.
+-- A list of histories has a digest, into which their numbers go in turn; it says which records were brought and in which order. Both are taken modulo the prime 2^44 - 17, so that they fit in 64 bits.
 abbrev pub digest-end : ℕ
 digest-end = 17592186044399
 
--- the number of a history that goes on with the event at place i, after one with the number k
-unfoldable pub next-number : ℕ → ℕ → ℕ
-next-number k i = (k * 17 + i + 1) % digest-end
+-- the number after one more byte
+unfoldable pub next-byte : ℕ → ℕ → ℕ
+next-byte k b = (k * 257 + b + 1) % digest-end
+
+-- the number of a history that goes on with an event, after one with the number k
+unfoldable pub next-number : ℕ → Event → ℕ
+next-number k [] = k
+next-number k (b ∷ bs) = next-number (next-byte k b) bs
 
 unfoldable pub number-from : ℕ → History → ℕ
 number-from k [] = k
-number-from k (e ∷ h) = number-from (next-number k (place-of e event-records)) h
+number-from k (e ∷ h) = number-from (next-number k e) h
 
 -- the digest after one more history, with the number k
 unfoldable pub next-digest : ℕ → ℕ → ℕ
-next-digest d k = (d * 83521 + k) % digest-end
+next-digest d k = (d * 65537 + k) % digest-end
 
 unfoldable pub digest-from : ℕ → List History → ℕ
 digest-from d [] = d

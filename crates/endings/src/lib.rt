@@ -33,16 +33,16 @@ const LONGEST_HISTORY: usize = 4;
 
 const HISTORY_LENGTHS: usize = LONGEST_HISTORY + 1;
 
-// A history's number: the places of its events, from 1 on, as the digits of a number in base 17, so that histories of at most four events have numbers below 17^4.
-const NUMBER_BASE: u64 = 17;
+// A history's number is made of the bytes of its records, the digest of a list of histories of their numbers: in two bases, so that a byte does not count as a history does.
+const NUMBER_BASE: u64 = 257;
 
-const NUMBERS: u64 = 83521;
+const DIGEST_BASE: u64 = 65537;
 
-// What a digest is taken modulo: the prime 2^44 - 17, so that a product with NUMBERS fits.
+// What both are taken modulo: the prime 2^44 - 17, so that a product with either base fits.
 const DIGEST_END: u64 = 17592186044399;
 
 // How many histories end so: with no peer in a view, with one in the passive view alone, in the active view alone, in both.
-// The digest is made of their numbers in turn: it tells which histories were counted, and in which order.
+// The digest is made of their numbers in turn: it tells which records were played, and in which order.
 pub struct Ends {
     pub neither: u32,
     pub passive: u32,
@@ -152,31 +152,49 @@ fn event_bytes(out: &mut [u8], i: usize) -> usize
     }
 }
 
-// The state after the event at place i, with draws of 0.
-fn play(s: State, i: usize) -> State
-    requires { ⌜ i < events-in-all ⌝ }
-    ensures { λ r. ⌜ r ≡ played (encode (event-at i)) s ⌝ }
+// The number of a history that goes on with this record.
+fn next_number(number: u64, event: &[u8]) -> u64
+    requires { ⌜ number < digest-end ⌝ }
+    ensures { λ r. ⌜ (r ≡ next-number number (now (event .entry))) × (r < digest-end) ⌝ }
+{
+    let mut k = number;
+    let mut at: usize = 0;
+    while at < event.len() {
+        k = (k * NUMBER_BASE + (event[at] as u64) + 1) % DIGEST_END;
+        at += 1;
+    }
+    k
+}
+
+// The state after a history, and the history's number.
+struct Played {
+    pub state: State,
+    pub number: u64,
+}
+
+// The event at place i, with draws of 0: the number goes on with the bytes that `handle` is given.
+fn play(s: State, number: u64, i: usize) -> Played
+    requires { ⌜ (number < digest-end) × (i < events-in-all) ⌝ }
+    ensures { λ r. ⌜ r .state ≡ played (encode (event-at i)) s ⌝ }
+    ensures { λ r. ⌜ (r .number ≡ next-number number (encode (event-at i))) × (r .number < digest-end) ⌝ }
 {
     let mut event = [0u8; record::HEADER + record::NODE];
     let draws = [0u32; hyparview::DRAWS];
     let mut out = [0u8; hyparview::OUTPUT];
     let n = event_bytes(&mut event, i);
+    let longer = next_number(number, &event[..n]);
     let a = s.handle(&event[..n], &draws, &mut out);
-    a.state
+    let next = a.state;
+    Played {
+        state: next,
+        number: longer,
+    }
 }
 
 fn one_if(test: bool) -> u32
     ensures { λ r. ⌜ (r ≡ choose test 1 0) × (r ≤ 1) ⌝ }
 {
     if test { 1 } else { 0 }
-}
-
-// The number of a history that goes on with the event at place i.
-fn next_number(number: u64, i: usize) -> u64
-    requires { ⌜ (number < digest-end) × (i < events-in-all) ⌝ }
-    ensures { λ r. ⌜ (r ≡ next-number number i) × (r < digest-end) ⌝ }
-{
-    (number * NUMBER_BASE + (i as u64) + 1) % DIGEST_END
 }
 
 // One more history, which has this number and ended in s.
@@ -193,7 +211,7 @@ fn count_end(s: State, number: u64, c: Ends) -> Ends
         passive: c.passive + one_if((active == 0) & (passive == 1)),
         active: c.active + one_if((active == 1) & (passive == 0)),
         both: c.both + one_if((active == 1) & (passive == 1)),
-        digest: (c.digest * NUMBERS + number) % DIGEST_END,
+        digest: (c.digest * DIGEST_BASE + number) % DIGEST_END,
     }
 }
 
@@ -209,9 +227,9 @@ fn extend(s: State, number: u64, left: usize, c: Ends) -> Ends
     let mut sum = c;
     let mut i: usize = 0;
     while i < EVENTS_IN_ALL {
-        let next = play(s, i);
-        let longer = next_number(number, i);
-        sum = extend(next, longer, left - 1, sum);
+        let p = play(s, number, i);
+        let next = p.state;
+        sum = extend(next, p.number, left - 1, sum);
         i += 1;
     }
     sum

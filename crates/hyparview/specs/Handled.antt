@@ -42,7 +42,7 @@ unfoldable pub packed-answer : P.Result → Outcome
 packed-answer a = record { code = a .code; draws = a .used; words = pack (a .state); output = a .output }
 
 -- `handle`: code 2 where the words are no state (another number of them, a part that is not well formed, an unused place that is not zero), else the definition's answer;
--- that a refusal leaves the words as they were is `ok-back` of rules
+-- that a refusal leaves the very words is claimed in spec_demand/Refusal
 unfoldable pub handled : List ℕ → List ℕ → List ℕ → ℕ → Outcome
 handled xs b ds room = choose (packed-ok xs) (packed-answer (P.handle (unpack xs) b ds room)) (refused-words 2 xs room)
 

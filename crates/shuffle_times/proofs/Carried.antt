@@ -7,12 +7,13 @@ use lib.ListN.{length, getD}
 use Rattle.base_timing.specs.declared.Config.{Config}
 use Rattle.spec_history.specs.Calls.{Machine}
 use Rattle.shuffle_times.specs.Times.{first-interval, dues, shuffle-times}
-use Rattle.shuffle_times.specs.Histories.{Brought, shuffles-due, start-of, on-time, every-timer-fires}
+use Rattle.shuffle_times.specs.Histories.{Brought, shuffles-due, start-of, on-time, every-timer-fires, none-numbered}
 use Rattle.shuffle_times.specs.Claims.{Timed}
 
 module _ {G H S T : Type 0} {m : Machine G S} {n : Machine H T} {s : S} {t : T}
     (due : (vs : List Brought) → shuffles-due m vs s ≡ shuffles-due n vs t) (start : (vs : List Brought) → start-of m vs s ≡ start-of n vs t)
-    (fire : (vs : List Brought) → on-time m vs s [] ≡ on-time n vs t []) (all-fire : (vs : List Brought) → every-timer-fires m vs s ≡ every-timer-fires n vs t) where
+    (fire : (vs : List Brought) → on-time m vs s [] ≡ on-time n vs t []) (all-fire : (vs : List Brought) → every-timer-fires m vs s ≡ every-timer-fires n vs t)
+    (alone : (vs : List Brought) → none-numbered m vs s ≡ none-numbered n vs t) where
   pub timed-carried : (c : Config) → Timed n c t → Timed m c s
   timed-carried c d =
       let top = c .«shuffle_interval» in
@@ -32,6 +33,7 @@ module _ {G H S T : Type 0} {m : Machine G S} {n : Machine H T} {s : S} {t : T}
         every-one-reached = λ earliest latest k e x from to. let w = d .every-one-reached earliest latest k e x from to in record {
           calls = w .calls;
           fire = all-fire (w .calls) ∙ w .fire;
+          alone = alone (w .calls) ∙ w .alone;
           ordered = w .ordered;
           not-early = subst (λ (y : ℕ). earliest ≤ y) (sym (start (w .calls))) (w .not-early);
           not-late = subst (λ (y : ℕ). y ≤ latest) (sym (start (w .calls))) (w .not-late);

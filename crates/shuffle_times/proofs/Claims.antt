@@ -78,6 +78,7 @@ module _ (me : ℕ) (d : Data) (c : Config) (given : NewGiven me d) (ranges : in
       record {
         calls = w .calls;
         fire = w .fire;
+        alone = w .alone;
         ordered = w .ordered;
         not-early = omega (arith, w .starts);
         not-late = omega (arith, w .starts);

@@ -6,7 +6,7 @@ use mathlib.Core.Bool.{Bool, true, _&&_}
 use mathlib.Core.List.{List, [], _∷_, _++_}
 use lib.ListN.{drop}
 use lib.Dec.{leb, eqb}
-use Rattle.base_lists.specs.Lists.{choose}
+use Rattle.base_lists.specs.Lists.{choose, null}
 use Rattle.base_lists.specs.Tests.{every}
 use Rattle.base_lists.proofs.Choice.{choose-yes, and-left, and-right}
 use Rattle.base_timing.specs.Timing.{in-range}
@@ -22,7 +22,7 @@ use Rattle.spec_history.specs.Ledger.{Ledger}
 use Rattle.spec_history.specs.Calls.{NewGiven, Machine, state-of, result-of, definition}
 use Rattle.spec_history.specs.Packing.{Packs}
 use Rattle.spec_history.proofs.Kept.{Kept, fine-answer, kept-new, accepted-new}
-use Rattle.shuffle_times.specs.Histories.{Brought, timer-delays, after, set-by, shuffles-due, counts, start-of, fires, is-first, on-time, punctual, every-timer-fires, timer-kinds}
+use Rattle.shuffle_times.specs.Histories.{Brought, timer-delays, after, set-by, shuffles-due, counts, start-of, fires, is-first, on-time, punctual, every-timer-fires, timer-kinds, none-asked, none-numbered, numbered-kinds}
 use Rattle.shuffle_times.specs.Claims.{Timed}
 use Rattle.shuffle_times.proofs.Carried.{timed-carried}
 use Rattle.shuffle_times.proofs.Claims.{shuffles-timed}
@@ -77,8 +77,21 @@ module _ {G S : Type 0} {m : Machine G S} {pack : Station → S} {station : S �
     unfolding every-timer-fires
     every-follows vs h = λ i. every (λ n. punctual-follows n vs h [] i) timer-kinds
 
+    asked-follows : (n : ℕ) (vs : List Brought) {l : Ledger} {g : Station} → Kept c me l g → none-asked n m vs (pack g) ≡ none-asked n definition vs g
+    unfolding none-asked
+    asked-follows n [] h = refl
+    asked-follows n (v ∷ vs) {g = g} h =
+        let t = rules-of g ranges h in
+        let rest : none-asked n m vs (state-of m (v .call) (pack g)) ≡ none-asked n definition vs (result-of (v .call) g .state) =
+        ap (λ (s : S). none-asked n m vs s) (k .state (v .call) g t) ∙ asked-follows n vs (fine-answer ranges (v .call) h .kept) in
+        (λ i. null (set-follows n v g t i) && rest i)
+
+    numbered-follow : (vs : List Brought) {l : Ledger} {g : Station} → Kept c me l g → none-numbered m vs (pack g) ≡ none-numbered definition vs g
+    unfolding none-numbered
+    numbered-follow vs h = λ i. every (λ n. asked-follows n vs h i) numbered-kinds
+
     packed : {l : Ledger} {g : Station} → Kept c me l g → Timed definition c g → Timed m c (pack g)
-    packed h = timed-carried (λ vs. shuffles-follow vs h) (λ vs. start-follows vs h) (λ vs. on-time-follows vs h []) (λ vs. every-follows vs h) c
+    packed h = timed-carried (λ vs. shuffles-follow vs h) (λ vs. start-follows vs h) (λ vs. on-time-follows vs h []) (λ vs. every-follows vs h) (λ vs. numbered-follow vs h) c
 
   -- from a new station that was packed
   pub timed-packed : (me : ℕ) (d : Data) (c : Config) → NewGiven me d → new me d c .code ≡ 0 → Timed m c (pack (new me d c .state))

@@ -36,7 +36,7 @@ use Rattle.spec_history.specs.Calls.{Call, result-of, answered, definition}
 use Rattle.spec_history.proofs.Kept.{Kept, fine-answer}
 use Rattle.spec_hyparview.specs.Written.{encode-all}
 use Rattle.shuffle_times.specs.Times.{highest-draw, first-interval, next-interval, dues}
-use Rattle.shuffle_times.specs.Histories.{Brought, timer-delays, after, set-by, shuffles-due, counts, start-of, fires, is-first, punctual, every-timer-fires, in-time-order}
+use Rattle.shuffle_times.specs.Histories.{Brought, timer-delays, after, set-by, shuffles-due, counts, start-of, fires, is-first, punctual, every-timer-fires, none-asked, none-numbered, in-time-order}
 use Rattle.shuffle_times.proofs.Delays.{Interval, delay-few, delay-rises, first-ok}
 use Rattle.shuffle_times.proofs.Asked.{top-of}
 use Rattle.shuffle_times.proofs.Told.{timers-of}
@@ -159,6 +159,11 @@ module _ (k : ℕ) (v : Brought) (vs : List Brought) (s t : Station) (to : resul
   passed : fires k definition v s ≡ false → punctual k definition (v ∷ vs) s ws ≡ true
   unfolding punctual
   passed f = both _ _ l (choose-no (fires k definition v s) _ _ f ∙ after-set)
+
+-- one that asks for no timer of kind k in front of others
+asks-none : (k : ℕ) (v : Brought) (vs : List Brought) (s t : Station) → result-of (v .call) s .state ≡ t → set-by k definition v s ≡ [] → none-asked k definition vs t ≡ true → none-asked k definition (v ∷ vs) s ≡ true
+unfolding none-asked null
+asks-none k v vs s t to e h = both _ _ (ap null e) (subst (λ (z : Station). none-asked k definition vs z ≡ true) (sym to) h)
 
 -- whether a call fires a timer, by the kind of its event
 fires-yes : (k : ℕ) (v : Brought) (s : Station) → kind-in (v .call .event) ≡ k → result-of (v .call) s .code ≡ 0 → fires k definition v s ≡ true
@@ -308,6 +313,7 @@ module _ (me : ℕ) (d : Data) (c : Config) where
       shuffles-fire : punctual 1 definition calls (ticking i n) (p ∷ []) ≡ true
       maintenance-fires : punctual 2 definition calls (ticking i n) (q ∷ []) ≡ true
       no-others : (k : ℕ) → eqb 1 k ≡ false → eqb 2 k ≡ false → punctual k definition calls (ticking i n) [] ≡ true
+      none-of : (k : ℕ) → eqb 1 k ≡ false → eqb 2 k ≡ false → none-asked k definition calls (ticking i n) ≡ true
       ordered : (r : ℕ) → r ≤ p → r ≤ q → in-time-order r calls ≡ true
       same : shuffles-due definition calls (ticking i n) ≡ dues top i p ds
 
@@ -325,6 +331,7 @@ module _ (me : ℕ) (d : Data) (c : Config) where
           shuffles-fire = passed 1 v (w .calls) s t (k .state) [] (k .sets 1) (p ∷ []) (both _ _ (le-leb q p near) refl) (w .shuffles-fire) (fires-no 1 2 v s two refl);
           maintenance-fires = fired 2 v (w .calls) s t (k .state) ((q + maintenance-interval) ∷ []) (k .sets 2) [] refl (w .maintenance-fires) q refl (fires-yes 2 v s two (k .code));
           no-others = λ j a b. passed j v (w .calls) s t (k .state) [] (k .sets j ∙ ap (λ (x : Bool). after q (choose x (maintenance-interval ∷ []) [])) b) [] refl (w .no-others j a b) (fires-no j 2 v s two b);
+          none-of = λ j a b. asks-none j v (w .calls) s t (k .state) (k .sets j ∙ ap (λ (x : Bool). after q (choose x (maintenance-interval ∷ []) [])) b) (w .none-of j a b);
           ordered = λ r f g. both _ _ (le-leb r q g) (w .ordered q near (omega arith));
           same = ap (λ (l : List ℕ). l ++ shuffles-due definition (w .calls) (result-of (v .call) s .state)) (k .sets 1) ∙ (ap (shuffles-due definition (w .calls)) (k .state) ∙ w .same);
         }
@@ -343,6 +350,7 @@ module _ (me : ℕ) (d : Data) (c : Config) where
           shuffles-fire = fired 1 v (w .calls) s t (k .state) ((p + delay i x) ∷ []) (k .sets 1) [] refl (w .shuffles-fire) p refl (fires-yes 1 v s one (k .code));
           maintenance-fires = passed 2 v (w .calls) s t (k .state) [] (k .sets 2) (q ∷ []) (both _ _ (le-leb p q near) refl) (w .maintenance-fires) (fires-no 2 1 v s one refl);
           no-others = λ j a b. passed j v (w .calls) s t (k .state) [] (k .sets j ∙ ap (λ (y : Bool). after p (choose y (delay i x ∷ []) [])) a) [] refl (w .no-others j a b) (fires-no j 1 v s one a);
+          none-of = λ j a b. asks-none j v (w .calls) s t (k .state) (k .sets j ∙ ap (λ (y : Bool). after p (choose y (delay i x ∷ []) [])) a) (w .none-of j a b);
           ordered = λ r f g. both _ _ (le-leb r p f) (w .ordered p (omega arith) near);
           same = ap (λ (l : List ℕ). l ++ shuffles-due definition (w .calls) (result-of (v .call) s .state)) (k .sets 1)
               ∙ ap (λ (l : List ℕ). (p + delay i x) ∷ l) (ap (shuffles-due definition (w .calls)) (k .state) ∙ w .same);
@@ -369,8 +377,8 @@ module _ (me : ℕ) (d : Data) (c : Config) where
       -- one shuffle timer for each draw, the next of which is due at p
       chain : (ds : List ℕ) → all-under draws-end ds ≡ true → {l : Ledger} {i n : ℕ} → Kept c me l (ticking i n) → (p q : ℕ) → q ≡ t₀ + maintenance-interval * (n + 1)
           → p + length ds * 4500000 ≤ limit → Chain i n p q ds
-      unfolding all-under punctual in-time-order shuffles-due dues
-      chain [] u h p q e l = record { calls = []; shuffles-fire = refl; maintenance-fires = refl; no-others = λ k a b. refl; ordered = λ r f g. refl; same = refl }
+      unfolding all-under punctual none-asked in-time-order shuffles-due dues
+      chain [] u h p q e l = record { calls = []; shuffles-fire = refl; maintenance-fires = refl; no-others = λ k a b. refl; none-of = λ k a b. refl; ordered = λ r f g. refl; same = refl }
       chain (x ∷ ds) u {i = i} h p q e l =
           let low = ltb-true x draws-end (and-left (ltb x draws-end) (all-under draws-end ds) u) in
           let rest = and-right (ltb x draws-end) (all-under draws-end ds) u in
@@ -384,12 +392,13 @@ module _ (me : ℕ) (d : Data) (c : Config) where
     pub record History (t : ℕ) (ds : List ℕ) : Type 0 where
       pub calls : List Brought
       pub fire : every-timer-fires definition calls (new-station me d c) ≡ true
+      pub alone : none-numbered definition calls (new-station me d c) ≡ true
       pub ordered : in-time-order 0 calls ≡ true
       pub starts : start-of definition calls (new-station me d c) ≡ t
       pub same : shuffles-due definition calls (new-station me d c) ≡ dues top (first-interval top) t ds
 
     pub history : {l : Ledger} → Kept c me l (new-station me d c) → (t x : ℕ) (ds : List ℕ) → all-under draws-end (x ∷ ds) ≡ true → length (x ∷ ds) ≤ 1000 → History t (x ∷ ds)
-    unfolding quit-at in-time-order shuffles-due start-of counts dues all-under every-timer-fires every timers-of choose after
+    unfolding quit-at in-time-order shuffles-due start-of counts dues all-under every-timer-fires none-numbered every timers-of choose after
     history h t x ds u short =
         let s = new-station me d c in
         let low = ltb-true x draws-end (and-left (ltb x draws-end) (all-under draws-end ds) u) in
@@ -409,6 +418,7 @@ module _ (me : ℕ) (d : Data) (c : Config) where
         record {
           calls = v ∷ w .calls;
           fire = both _ _ one (both _ _ two (both _ _ three (both _ _ four refl)));
+          alone = both _ _ (asks-none 3 v (w .calls) s z (k .state) (k .sets 3) (w .none-of 3 refl refl)) (both _ _ (asks-none 4 v (w .calls) s z (k .state) (k .sets 4) (w .none-of 4 refl refl)) refl);
           ordered = both _ _ (le-leb 0 t (omega arith)) (w .ordered t (omega arith) (omega arith));
           starts = choose-yes (counts definition v s) t _ (both _ _ (quit-counts t x low) (eq-eqb _ 0 (k .code)));
           same = ap (λ (l : List ℕ). l ++ shuffles-due definition (w .calls) (result-of (v .call) s .state)) (k .sets 1)

@@ -10,7 +10,7 @@ use Rattle.spec_hyparview.specs.Station.{draws-end}
 use Rattle.spec_hyparview.specs.Rules.{all-under}
 use Rattle.spec_history.specs.Calls.{Machine, After-new, definition}
 use Rattle.shuffle_times.specs.Times.{first-interval, dues, has-times, shuffle-times}
-use Rattle.shuffle_times.specs.Histories.{Brought, shuffles-due, start-of, on-time, every-timer-fires, in-time-order}
+use Rattle.shuffle_times.specs.Histories.{Brought, shuffles-due, start-of, on-time, every-timer-fires, none-numbered, in-time-order}
 
 -- the shuffle timers of the calls have the intervals of the definition, each with the draw beside it
 pub record Tied {G S : Type 0} (m : Machine G S) (c : Config) (s : S) (vs : List Brought) : Type 0 where
@@ -27,6 +27,8 @@ pub record Within {G S : Type 0} (m : Machine G S) (earliest latest k : ℕ) (c 
 pub record Reached {G S : Type 0} (m : Machine G S) (earliest latest k t : ℕ) (s : S) : Type 0 where
   pub calls : List Brought
   pub fire : every-timer-fires m calls s ≡ true
+  -- and none of them has a peer or a number, so that kind and time tell which one fires
+  pub alone : none-numbered m calls s ≡ true
   pub ordered : in-time-order 0 calls ≡ true
   pub not-early : earliest ≤ start-of m calls s
   pub not-late : start-of m calls s ≤ latest

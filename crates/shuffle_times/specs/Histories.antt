@@ -6,7 +6,7 @@ use mathlib.Core.List.{List, [], _∷_, _++_}
 use mathlib.Core.Path.{_≡_}
 use lib.ListN.{drop}
 use lib.Dec.{leb, eqb}
-use Rattle.base_lists.specs.Lists.{choose}
+use Rattle.base_lists.specs.Lists.{choose, null}
 use Rattle.base_lists.specs.Tests.{every}
 use Rattle.record.specs.Kinds.{DoShuffle, DoMaintenance, PendingNeighborRequest, RetryJoin, kind-byte, is-event-kind}
 use Rattle.record.specs.Walk.{kind-in, headers}
@@ -83,6 +83,18 @@ punctual k m (v ∷ vs) s waiting =
 -- "if each timer fires when due": timers of every kind, none of which waits before the first call
 unfoldable pub every-timer-fires : {G S : Type 0} → Machine G S → List Brought → S → Bool
 every-timer-fires m vs s = every (λ k. punctual k m vs s []) timer-kinds
+
+-- the kinds of timers that have a peer and a number; the other two have neither, and kind and time tell them
+abbrev pub numbered-kinds : List ℕ
+numbered-kinds = kind-byte PendingNeighborRequest ∷ kind-byte RetryJoin ∷ []
+
+-- no call asks for a timer of kind k
+unfoldable pub none-asked : {G S : Type 0} → ℕ → Machine G S → List Brought → S → Bool
+none-asked k m [] s = true
+none-asked k m (v ∷ vs) s = null (set-by k m v s) && none-asked k m vs (state-of m (v .call) s)
+
+unfoldable pub none-numbered : {G S : Type 0} → Machine G S → List Brought → S → Bool
+none-numbered m vs s = every (λ k. none-asked k m vs s) numbered-kinds
 
 -- no call is brought before time t, nor before the one in front of it
 unfoldable pub in-time-order : ℕ → List Brought → Bool

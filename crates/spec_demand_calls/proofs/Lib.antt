@@ -3,3 +3,4 @@ pub mod Tied
 pub mod Timers
 pub mod Refusal
 pub mod Evictions
+pub mod Draws

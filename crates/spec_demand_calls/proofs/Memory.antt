@@ -2,13 +2,13 @@
 -- Assumes nothing.
 use Prim.Native.Nat.{ℕ, _≤_}
 use mathlib.Core.Path.{_≡_, refl, sym, ap, subst, _∙_}
-use mathlib.Core.Bool.{not, _&&_}
+use mathlib.Core.Bool.{Bool, not, _&&_}
 use mathlib.Core.List.{List, [], _∷_, _++_}
 use native.Mathlib.Omega.{arith}
 use lib.ListN.{drop}
 use lib.Dec.{leb, eqb}
 use borrow.Author.Tests.{ne-eqb}
-use Rattle.base_lists.specs.Lists.{choose, mem}
+use Rattle.base_lists.specs.Lists.{choose, null, mem}
 use Rattle.base_lists.specs.Tests.{every}
 use Rattle.base_lists.proofs.Choice.{choose-no}
 use Rattle.base_timing.specs.declared.Config.{Config}
@@ -21,7 +21,7 @@ use Rattle.tally.specs.declared.Tally.{Tally}
 use Rattle.tally.specs.Counts.{top}
 use Rattle.tally.specs.Sum.{total}
 use Rattle.tally.specs.History.{no-messages, tally-after}
-use Rattle.shuffle_times.specs.Histories.{Brought, set-by, shuffles-due, counts, start-of, fires, is-first, on-time, punctual, every-timer-fires, timer-kinds}
+use Rattle.shuffle_times.specs.Histories.{Brought, set-by, shuffles-due, counts, start-of, fires, is-first, on-time, punctual, every-timer-fires, timer-kinds, none-asked, none-numbered, numbered-kinds}
 use Rattle.shuffle_times.proofs.Carried.{timed-carried}
 use Rattle.hyparview_state.specs.Unpack.{unpack}
 use Rattle.hyparview_rules.specs.Ok.{state-ok}
@@ -86,6 +86,15 @@ every-follows : (vs : List Brought) (x : LentMemory) → every-timer-fires c-cal
 unfolding every-timer-fires
 every-follows vs x = λ i. every (λ n. punctual-follows n vs x [] i) timer-kinds
 
+asked-follows : (n : ℕ) (vs : List Brought) (x : LentMemory) → none-asked n c-calls vs x ≡ none-asked n program vs (x .words)
+unfolding none-asked set-by memory-outcome D.program-outcome called tallied
+asked-follows n [] x = refl
+asked-follows n (v ∷ vs) x = ap (λ (b : Bool). null (set-by n c-calls v x) && b) (asked-follows n vs (state-of c-calls (v .call) x))
+
+numbered-follow : (vs : List Brought) (x : LentMemory) → none-numbered c-calls vs x ≡ none-numbered program vs (x .words)
+unfolding none-numbered
+numbered-follow vs x = λ i. every (λ n. asked-follows n vs x i) numbered-kinds
+
 -- what the program is lent by it
 abbrev lent-by : M.MemoryLending → D.Lending
 lent-by g = record { words = g .held .words; present = not (eqb (g .present) 0); own = g .own }
@@ -131,7 +140,7 @@ pub shuffles-timed : M.Shuffles-timed
 unfolding memory-made begun with-tally D.program-made
 shuffles-timed me g c t z =
     let start = c-calls .new-state me g c in
-    timed-carried (λ vs. shuffles-follow vs start) (λ vs. start-follows vs start) (λ vs. on-time-follows vs start []) (λ vs. every-follows vs start) c (P.shuffles-timed me (lent-by g) c t z)
+    timed-carried (λ vs. shuffles-follow vs start) (λ vs. start-follows vs start) (λ vs. on-time-follows vs start []) (λ vs. every-follows vs start) (λ vs. numbered-follow vs start) c (P.shuffles-timed me (lent-by g) c t z)
 
 -- One call: the tally stands beside the answer, and changes neither code nor draws.
 pub enough-lent : M.Enough-lent

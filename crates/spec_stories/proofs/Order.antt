@@ -5,8 +5,7 @@ use mathlib.Core.Path.{_≡_, refl, sym, ap, subst, _∙_}
 use mathlib.Core.Bool.{Bool, true, false, not, _&&_, _||_}
 use mathlib.Core.List.{List, [], _∷_, _++_, map, append-assoc}
 use native.Mathlib.Omega.{arith}
-use lib.ListN.{length, take, drop, getD}
-use lib.Seq.{length-take-le, split-at}
+use lib.ListN.{length}
 use lib.Dec.{ltb, eqb}
 use borrow.Author.Tests.{eq-eqb, lt-ltb}
 use Rattle.base_lists.specs.Lists.{choose, same}
@@ -98,13 +97,6 @@ module _ (e : Event) (pre es : List Event) (d : differ (pre ++ (e ∷ es)) ≡ t
       let own = differ-behind pre (e ∷ es) d in
       let other : same y e ≡ false = split (same y e) (λ s. not-yes (among e es) (and-left (not (among e es)) _ own) (subst (λ (z : Event). among z es ≡ true) (same-true y e s) t)) (λ s. s) in
       omega (arith, place-behind y pre (e ∷ es) d (or-then (same y e) _ t), choose-no {A = ℕ} (same y e) 0 (suc (place-of y es)) other)
-
--- the place of the event at a place
-pub place-at : (es : List Event) (i : ℕ) (x : Event) → differ es ≡ true → i < length es → place-of (getD es i x) es ≡ i
-place-at es i x d h =
-    let s = split-at es i x h in
-    let e = getD es i x in
-    ap (place-of e) s ∙ (here e (take i es) (drop (suc i) es) (subst (λ (l : List Event). differ l ≡ true) s d) ∙ length-take-le i es (omega arith))
 
 -- ---- of one length
 

@@ -35,6 +35,7 @@ use Rattle.timer_events.specs.History.{QueueCall, insert, insert-records
 use Rattle.timer_events.specs.Claims.{EventRight, TakesOut, Queue-holds}
 use Rattle.timer_events.proofs.Inserting.{good-all}
 use Rattle.timer_events.proofs.Taking.{none-event, no-room, an-event}
+use Rattle.timer_events.proofs.RoundTrip.{reads-out}
 
 -- ---- the definitions at packed words
 
@@ -393,7 +394,7 @@ module _ (es : List TimerMapEntry) (g : Good es) (limit : ℕ) (out : List ℕ) 
       split (is-due limit es)
       (λ d. split (fits (event-rec (first-entry es)) 0 (length out))
       (λ k. let q = told _ (an-event limit es out d k) in
-      record { entry = first-entry es; right = right limit es d; time = ap (λ (y : PoppedEvent). y .time) (q .0); ok = due-ok limit es (g .timers) d; bytes-are = q .1 })
+      record { entry = first-entry es; right = right limit es d; time = ap (λ (y : PoppedEvent). y .time) (q .0); ok = due-ok limit es (g .timers) d; bytes-are = q .1; reads = reads-out (first-entry es) out bytes (due-ok limit es (g .timers) d) k (q .1) })
       (λ k. silent _ refl (no-room limit es out d k)))
       (λ d. silent _ refl (none-event limit es out d))
     where

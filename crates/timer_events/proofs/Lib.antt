@@ -1,7 +1,7 @@
 pub mod Inserting
 pub mod Events
 pub mod Taking
-pub mod History
 pub mod RoundTrip
+pub mod History
 pub mod Accepted
 pub mod Tied

@@ -1,17 +1,19 @@
--- The event that comes out is the record that went in, without its delay, and reads back as that event.
+-- The event of an entry reads back as that event, from the lent bytes too, and is the record that went in without its delay.
 -- Assumes nothing.
-use Prim.Native.Nat.{ℕ, zero, suc, _^_, _≤_, _<_}
+use Prim.Native.Nat.{ℕ, zero, suc, _^_, _+_, _≤_, _<_}
 use mathlib.Core.Path.{_≡_, refl, sym, ap, _∙_, subst}
 use mathlib.Core.Bool.{true}
 use mathlib.Core.List.{List, [], _∷_}
 use native.Mathlib.Omega.{arith}
-use lib.ListN.{length, getD}
+use lib.ListN.{length, getD, take}
 use lib.Seq.{take-length}
 use lib.Dec.{ltb, leb, eqb}
 use borrow.Author.Tests.{eqb-true, leb-true, leb-false, ltb-true, le-ltb}
+use Rattle.base_lists.specs.Bytes.{overwrite}
 use Rattle.base_lists.specs.Lists.{choose}
 use Rattle.base_lists.proofs.Choice.{split, and-left, and-right, choose-yes, choose-no}
 use Rattle.base_lists.proofs.Numbers.{Bytes}
+use Rattle.base_lists.proofs.Stored.{take-stored}
 use Rattle.base_lists.proofs.Tests.{both-true}
 use Rattle.record.specs.Format.{peer-length, header-length, size, size-by, datas, encode}
 use Rattle.record.specs.Read.{fixed-size, header-of, header-of-by, is-message, is-timer, is-data, kind-ok, flags-ok, count-ok, peer-ok, fields-ok, header-ok, well-formed, rec-of, rec-of-by, nodes-of, nodes-of-by, is-event, event, read-event}
@@ -22,6 +24,7 @@ use Rattle.record.specs.declared.Answer.the-variants as Answers
 use Rattle.record.proofs.Back.{in-form-back, parts}
 use Rattle.record.proofs.Forth.{header-read, well-formed-encode, rec-of-encode}
 use Rattle.record.proofs.Format.{length-encode}
+use Rattle.record_writer.specs.Write.{fits, written}
 use Rattle.spec_hyparview.specs.Station.{peers-end}
 use Rattle.spec_hyparview.specs.Rules.{all-under}
 use Rattle.timer_map.specs.Entries.{timer-ok}
@@ -197,6 +200,19 @@ reads-back e h p n =
     ∙ choose-yes _ _ _ (both-true (well-formed (encode (event-rec e))) _ (well-formed-encode (event-rec e) f) (ap is-event b ∙ fine e (says e h) .is-one))
     ∙ ap event (rec-of-encode (event-rec e) f)
 
+-- and so do the lent bytes into which it is written
+pub reads-out : (e : TimerMapEntry) (out bytes : List ℕ) → timer-ok (e .item) ≡ true → fits (event-rec e) 0 (length out) ≡ true → bytes ≡ written (event-rec e) 0 out
+    → e .item .peer < peers-end → e .item .number < 2 ^ 64 → read-event (take header-length bytes) ≡ event (event-rec e)
+unfolding written fits
+reads-out e out bytes h k w p n =
+    let b = encode (event-rec e) in
+    let size-is = length-encode (event-rec e) in
+    let whole : 0 + length b ≡ header-length = omega (arith, size-is, event-size e) in
+    let stored : bytes ≡ overwrite out 0 b = w ∙ choose-yes _ _ _ k in
+    let front : take header-length bytes ≡ b =
+    (λ i. take (sym whole i) (stored i)) ∙ take-stored out 0 b (omega (arith, size-is, leb-true (0 + size (event-rec e)) (length out) k)) in
+    ap read-event front ∙ reads-back e h p n
+
 -- ---- a record's timer
 
 read-whole : (b : List ℕ) → well-formed b ≡ true → schedule-of (length b) b ≡ started (header-of b)
@@ -256,4 +272,4 @@ event-comes-back b u w t time =
     let y : timer-ok (e .item) ≡ true = said e (record { low = l; high = k; bare = p .bare }) refl in
     let s : event-rec e ≡ without-delay (rec-of b) = same-record b time p in
     subst (λ (x : ScheduleTimer). ComesBack b (record { time = time; item = x .item })) (sym (read-whole b w))
-    (record { ok = y; is = s; reads = reads-back e y (peer-below b q) (number-below b q) ∙ ap event s })
+    (record { ok = y; is = s; narrow = (peer-below b q, number-below b q) })

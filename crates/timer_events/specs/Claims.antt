@@ -1,15 +1,15 @@
 -- What is claimed of the queue over every list of calls, and of the events that come out of it.
 -- Assumes nothing.
-use Prim.Native.Nat.{ℕ, _<_}
+use Prim.Native.Nat.{ℕ, _^_, _<_}
 use mathlib.Core.Path.{_≡_}
 use mathlib.Core.Bool.{true, false}
 use mathlib.Core.List.{List, []}
-use lib.ListN.{length, getD, replicate}
+use lib.ListN.{length, getD, take, replicate}
 use Rattle.base_lists.specs.Lists.{mem}
-use Rattle.record.specs.Format.{Rec, encode}
+use Rattle.record.specs.Format.{header-length, Rec}
 use Rattle.record.specs.Read as R
 use Rattle.record.specs.Read.{header-of, is-timer, well-formed, rec-of, read-event}
-use Rattle.spec_hyparview.specs.Station.{draws-end}
+use Rattle.spec_hyparview.specs.Station.{peers-end, draws-end}
 use Rattle.spec_hyparview.specs.Rules.{all-under}
 use Rattle.spec_history.specs.Calls.{Call, Machine, code-of, output-of}
 use Rattle.record_writer.specs.Write.{written}
@@ -30,6 +30,8 @@ pub record EventRight (limit : ℕ) (es : List TimerMapEntry) (out : List ℕ) (
   pub time : a .time ≡ entry .time
   pub ok : timer-ok (entry .item) ≡ true
   pub bytes-are : bytes ≡ written (event-rec entry) 0 out
+  -- which `handle` reads as that event; a peer and a number have 64 bits by their type
+  pub reads : entry .item .peer < peers-end → entry .item .number < 2 ^ 64 → read-event (take header-length bytes) ≡ R.event (event-rec entry)
 
 -- the next call of a queue at the words ws, which holds the entries es
 pub record TakesOut (ws : List ℕ) (es : List TimerMapEntry) : Type 0 where
@@ -67,11 +69,11 @@ without-delay r = record {
   nodes = r .nodes;
 }
 
--- what comes out as an event is the record that went in, without its delay, and it reads back as that event: b is the record, and e an entry of the timer that it starts
+-- b is a timer's record, and e an entry of the timer that it starts: the event of e, which comes out (`EventRight`), is that record without its delay
 pub record ComesBack (b : List ℕ) (e : TimerMapEntry) : Type 0 where
   pub ok : timer-ok (e .item) ≡ true
   pub is : event-rec e ≡ without-delay (rec-of b)
-  pub reads : read-event (encode (event-rec e)) ≡ R.event (without-delay (rec-of b))
+  pub narrow : (e .item .peer < peers-end) × (e .item .number < 2 ^ 64)
 
 abbrev pub Event-comes-back : Type 0
 Event-comes-back =

@@ -9,7 +9,6 @@ use Rattle.endings.proofs.extend.Reads as extend
 use Rattle.endings.proofs.extend.Kinds as extend-kinds
 use Rattle.endings.proofs.+extend.Lts-extend as extend-lts
 use Rattle.endings.proofs.count_end.Reads as count-end-reads
-use Rattle.endings.proofs.next_number.Reads as next-number-reads
 use Rattle.endings.proofs.play.Reads as play-reads
 use Rattle.endings.proofs.+extend.{statement}
 use Rattle.endings.proofs.+extend.Tie.{close}
@@ -34,8 +33,6 @@ extend-count-end-requires : (t : ℕ) → extend-lts.Need-count-end-requires (
   count-end-reads.Learnt,
   play-reads.Asked,
   play-reads.Learnt,
-  next-number-reads.Asked,
-  next-number-reads.Learnt,
   extend-below t,
   extend.Post,
 ) (extend-at t) extend.Post extend-Inv-loop extend-μ-loop
@@ -46,8 +43,6 @@ extend-returns : (t : ℕ) → extend-lts.Need-returns (
   count-end-reads.Learnt,
   play-reads.Asked,
   play-reads.Learnt,
-  next-number-reads.Asked,
-  next-number-reads.Learnt,
   extend-below t,
   extend.Post,
 ) (extend-at t) extend.Post extend-Inv-loop extend-μ-loop
@@ -58,8 +53,6 @@ extend-loop-holds : (t : ℕ) → extend-lts.Need-loop-holds (
   count-end-reads.Learnt,
   play-reads.Asked,
   play-reads.Learnt,
-  next-number-reads.Asked,
-  next-number-reads.Learnt,
   extend-below t,
   extend.Post,
 ) (extend-at t) extend.Post extend-Inv-loop extend-μ-loop
@@ -70,32 +63,16 @@ extend-play-requires : (t : ℕ) → extend-lts.Need-play-requires (
   count-end-reads.Learnt,
   play-reads.Asked,
   play-reads.Learnt,
-  next-number-reads.Asked,
-  next-number-reads.Learnt,
   extend-below t,
   extend.Post,
 ) (extend-at t) extend.Post extend-Inv-loop extend-μ-loop
 extend-play-requires t c κs = search needs
-
-extend-next-number-requires : (t : ℕ) → extend-lts.Need-next-number-requires (
-  count-end-reads.Asked,
-  count-end-reads.Learnt,
-  play-reads.Asked,
-  play-reads.Learnt,
-  next-number-reads.Asked,
-  next-number-reads.Learnt,
-  extend-below t,
-  extend.Post,
-) (extend-at t) extend.Post extend-Inv-loop extend-μ-loop
-extend-next-number-requires t c κs = search needs
 
 extend-sub-extend : (t : ℕ) → extend-lts.Need-sub-extend (
   count-end-reads.Asked,
   count-end-reads.Learnt,
   play-reads.Asked,
   play-reads.Learnt,
-  next-number-reads.Asked,
-  next-number-reads.Learnt,
   extend-below t,
   extend.Post,
 ) (extend-at t) extend.Post extend-Inv-loop extend-μ-loop
@@ -106,8 +83,6 @@ extend-extend-requires : (t : ℕ) → extend-lts.Need-extend-requires (
   count-end-reads.Learnt,
   play-reads.Asked,
   play-reads.Learnt,
-  next-number-reads.Asked,
-  next-number-reads.Learnt,
   extend-below t,
   extend.Post,
 ) (extend-at t) extend.Post extend-Inv-loop extend-μ-loop
@@ -118,8 +93,6 @@ extend-add-i : (t : ℕ) → extend-lts.Need-add-i (
   count-end-reads.Learnt,
   play-reads.Asked,
   play-reads.Learnt,
-  next-number-reads.Asked,
-  next-number-reads.Learnt,
   extend-below t,
   extend.Post,
 ) (extend-at t) extend.Post extend-Inv-loop extend-μ-loop
@@ -130,8 +103,6 @@ extend-loop-less : (t : ℕ) → extend-lts.Need-loop-less (
   count-end-reads.Learnt,
   play-reads.Asked,
   play-reads.Learnt,
-  next-number-reads.Asked,
-  next-number-reads.Learnt,
   extend-below t,
   extend.Post,
 ) (extend-at t) extend.Post extend-Inv-loop extend-μ-loop
@@ -142,8 +113,6 @@ extend-loop-again : (t : ℕ) → extend-lts.Need-loop-again (
   count-end-reads.Learnt,
   play-reads.Asked,
   play-reads.Learnt,
-  next-number-reads.Asked,
-  next-number-reads.Learnt,
   extend-below t,
   extend.Post,
 ) (extend-at t) extend.Post extend-Inv-loop extend-μ-loop
@@ -154,8 +123,6 @@ extend-returns-2 : (t : ℕ) → extend-lts.Need-returns-2 (
   count-end-reads.Learnt,
   play-reads.Asked,
   play-reads.Learnt,
-  next-number-reads.Asked,
-  next-number-reads.Learnt,
   extend-below t,
   extend.Post,
 ) (extend-at t) extend.Post extend-Inv-loop extend-μ-loop
@@ -167,8 +134,6 @@ pub +extend-spec : {M : Type 1} → statement M
   count-end-reads.Learnt,
   play-reads.Asked,
   play-reads.Learnt,
-  next-number-reads.Asked,
-  next-number-reads.Learnt,
   extend-below t,
   extend.Post,
 )
@@ -180,7 +145,6 @@ pub +extend-spec : {M : Type 1} → statement M
     (extend-returns t)
     (extend-loop-holds t)
     (extend-play-requires t)
-    (extend-next-number-requires t)
     (extend-sub-extend t)
     (extend-extend-requires t)
     (extend-add-i t)
