@@ -51,7 +51,7 @@ extern "C" {
 /* ---- Sizes */
 
 /* The words of a state, by tools/make/layout.py */
-#define HYPARVIEW_WORDS 551 /* uint64_t state[HYPARVIEW_WORDS], 4,408 bytes */
+#define HYPARVIEW_WORDS 559 /* uint64_t state[HYPARVIEW_WORDS], 4,472 bytes */
 /* end */
 #define HYPARVIEW_OUTPUT 8192 /* bytes of output that suffice for every event, which is proved */
 #define HYPARVIEW_DRAWS 512   /* draws that suffice for every event if they are below 2^32 - 32, which is proved */
@@ -347,7 +347,11 @@ static inline uint32_t hyparview_allowance(const uint8_t *event, uint32_t active
 #define HYPARVIEW_WORD_PEER_DATA_PLACES 80
 #define HYPARVIEW_WORD_PEER_DATA_COUNT 550
 #define HYPARVIEW_WORD_PEER_DATA_END 551
-HYPARVIEW_ASSERT(HYPARVIEW_WORDS == HYPARVIEW_WORD_PEER_DATA_END, "the words");
+#define HYPARVIEW_WORD_PINS 551
+#define HYPARVIEW_WORD_PINS_PLACES 7
+#define HYPARVIEW_WORD_PINS_COUNT 558
+#define HYPARVIEW_WORD_PINS_END 559
+HYPARVIEW_ASSERT(HYPARVIEW_WORDS == HYPARVIEW_WORD_PINS_END, "the words");
 /* end */
 
 /* ---- Functions

@@ -6,7 +6,7 @@ use std::mem::{offset_of, size_of};
 
 pub const VERSION: u32 = 1;
 // The words of a state, by tools/make/layout.py
-pub const WORDS: usize = 551;
+pub const WORDS: usize = 559;
 // end
 pub const OUTPUT: usize = 8192;
 pub const DRAWS: usize = 512;

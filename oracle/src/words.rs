@@ -13,7 +13,7 @@ use crate::{
 };
 
 // The words of a state, by tools/make/layout.py
-pub const WORDS: usize = 551;
+pub const WORDS: usize = 559;
 // end
 
 /// The words of a state, in the order of the layout; `None` where a list has more than its places.
@@ -48,6 +48,7 @@ pub fn words(me: Peer, settings: &Settings, parts: &Parts) -> Option<Vec<u64>> {
     words.extend(section(8, &set(&parts.recent))?);
     words.extend(section(8, &map(&parts.joins))?);
     words.extend(section(80, &data(&parts.data)?)?);
+    words.extend(section(7, &set(&parts.pins))?);
     // end
     assert_eq!(words.len(), WORDS);
     Some(words)

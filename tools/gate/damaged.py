@@ -42,7 +42,7 @@ STORED = tool.ROOT / "oracle" / "sample" / "words.txt"
 
 # The layout: single words, then sections of columns with a count after them.
 # The places, by tools/make/layout.py
-WORDS = 551
+WORDS = 559
 ME = 0
 OWN_PRESENT = 1
 OWN_LEN = 2
@@ -76,6 +76,7 @@ SECTIONS = {
     "recent": (204, 8, 1),
     "joins": (213, 8, 2),
     "data": (230, 80, 4),
+    "pins": (551, 7, 1),
 }
 # end
 ROOM = WORDS + 9

@@ -65,6 +65,7 @@ SECTIONS = [
     ("recent", "set", 8),
     ("joins", "numbers", 8),
     ("peer-data", "data", 80),
+    ("pins", "set", 7),
 ]
 
 NUMBERS = [name for name, _ in WORDS]
@@ -673,7 +674,7 @@ def laws():
     given = " ".join(f"{{{names} : {kind}}}" for names, kind in groups)
     lines = [f"module _ {given}", f"    (h : Law {' '.join(kinds)}) where"]
     for field, fact in fields:
-        changed = [word for word in fact.split()[1:] if word not in ("me", "top")]
+        changed = [word for word in fact.split()[1:] if word not in ("me", "top", "cap")]
         new = dict(zip(changed, "vn"))
         values = " ".join(f"{{{letter} : {kinds[word]}}}" for word, letter in new.items())
         asked = " ".join(new.get(word, word) for word in fact.split())
@@ -728,6 +729,7 @@ TRACE = [
     ("interval", "next-shuffle-interval"),
     ("alone", "passes-alone"),
     ("short", "passes-short"),
+    ("pins", "pins"),
 ]
 TRACE_KINDS = {name: kind for name, kind, _ in SECTIONS}
 TRACED = [name for _, name in TRACE if name]

@@ -42,7 +42,8 @@ none-packed : pad {A = ℕ} 0 (layout.words - layout.numbers-end) [] ≡
     ++ (section layout.bootstrap-places []
     ++ (section layout.recent-places []
     ++ (numbers-section layout.joins-places []
-    ++ data-section layout.peer-data-places [])))))))
+    ++ (data-section layout.peer-data-places []
+    ++ section layout.pins-places []))))))))
 unfolding section numbers-section data-section pad keys values
 none-packed = refl
 

@@ -133,7 +133,8 @@ shape-back xs v =
     ++ (sym (set-words layout.bootstrap-places _ (v .sections .bootstrap)) i
     ++ (sym (set-words layout.recent-places _ (v .sections .recent)) i
     ++ (sym (numbers-words layout.joins-places _ (v .sections .joins)) i
-    ++ sym (data-words layout.peer-data-places _ (v .sections .peer-data) (small-part layout.peer-data-at layout.peer-data-size xs (small xs v))) i)))))))))
+    ++ (sym (data-words layout.peer-data-places _ (v .sections .peer-data) (small-part layout.peer-data-at layout.peer-data-size xs (small xs v))) i
+    ++ sym (set-words layout.pins-places _ (v .sections .pins)) i))))))))))
     ∙ ap (λ (l : List ℕ). take layout.numbers-end xs ++ l) (rejoined-active xs (v .size))
     ∙ take-append-drop layout.numbers-end xs
 

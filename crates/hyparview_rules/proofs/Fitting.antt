@@ -1,6 +1,6 @@
 -- A station that keeps the rules is packed into words that pass the test, and comes out of them again.
 -- Assumes nothing.
-use Prim.Native.Nat.{ℕ, _≤_, _<_, zero-le}
+use Prim.Native.Nat.{ℕ, _≤_, _<_, zero-le, _-_}
 use mathlib.Core.Path.{_≡_, refl, sym, ap, _∙_, subst}
 use mathlib.Core.Bool.{Bool, true, false, _&&_}
 use mathlib.Core.List.{List, [], _∷_, _++_, map}
@@ -28,8 +28,8 @@ use Rattle.base_peer.specs.Maps.{numbers-under}
 use Rattle.base_peer.proofs.Data.{holds-some}
 use Rattle.base_timing.specs.Timing.{within, in-range, max-bootstrap-peers, max-requests-per-refill}
 use Rattle.base_timing.proofs.Ranges.{ranges}
-use Rattle.spec_hyparview.specs.Station.{Station, Refill, automatic, requests-left, recovery, peers-end, bytes-end, max-requests, max-refused, max-data-length}
-use Rattle.spec_hyparview.specs.Rules.{short-data, all-short, all-under, lists-under, peer-lists, limit-ok, settings-rule, order-rule, capacity-rule, alive-rule, few-rule, joins-rule, numbers-rule, room-rule, data-rule, limit-rule, interval-rule, rules, station-ok}
+use Rattle.spec_hyparview.specs.Station.{Station, Refill, automatic, requests-left, recovery, peers-end, bytes-end, most-pins, max-requests, max-refused, max-data-length}
+use Rattle.spec_hyparview.specs.Rules.{short-data, all-short, all-under, lists-under, peer-lists, limit-ok, settings-rule, order-rule, capacity-rule, alive-rule, few-rule, joins-rule, numbers-rule, room-rule, data-rule, limit-rule, interval-rule, rules, station-ok, pins-rule}
 use Rattle.spec_hyparview.specs.Rules as R
 use Rattle.spec_hyparview.specs.Handle.{new-station, zero-config, zero-station}
 use Rattle.hyparview_state.specs.Layout as layout
@@ -88,10 +88,11 @@ pub record Fits (g : Station) : Type 0 where
   pub peer-data-rise : Rising (keys (g .peer-data))
   pub peer-data-short : all-short (g .peer-data) ≡ true
   pub peer-data-bytes : lists-under bytes-end (values (g .peer-data)) ≡ true
+  pub pins : length (g .pins) ≤ layout.pins-places
   -- end
 
 pub kept-fits : (g : Station) → Kept g → Fits g
-unfolding settings-rule capacity-rule order-rule alive-rule few-rule joins-rule room-rule data-rule lists-under
+unfolding settings-rule capacity-rule order-rule alive-rule few-rule joins-rule room-rule data-rule pins-rule most-pins lists-under
 kept-fits g k =
     let o₁ = and-right (rising (keys (g .requests))) _ (k .order) in
     let o₂ = and-right (rising (keys (g .joins))) _ o₁ in
@@ -107,6 +108,7 @@ kept-fits g k =
     let passive : length (g .passive) ≤ g .config .«passive_view_capacity» = leb-true _ _ (and-right (leb (length (g .active)) (g .config .«active_view_capacity»)) _ (k .capacity)) in
     let bootstrap : length (g .bootstrap) ≤ max-bootstrap-peers = leb-true _ _ (and-left few _ (k .few)) in
     let alive : length (g .alive) ≤ length (g .passive) = no-more (g .alive) (g .passive) (rising-true _ (and-left (rising (g .alive)) _ o₃)) (k .alive) in
+    let pins : length (g .pins) ≤ g .config .«active_view_capacity» - 1 = leb-true _ _ (and-right (subset (g .pins) (g .active)) _ (k .pins)) in
     let joins : length (keys (g .joins)) ≤ length (g .bootstrap) = no-more (keys (g .joins)) (g .bootstrap) joins-rise (and-left (subset (keys (g .joins)) (g .bootstrap)) _ (k .joins)) in
     record {
       own-data = and-right (all-short (g .peer-data)) _ (k .lengths);
@@ -125,6 +127,7 @@ kept-fits g k =
       peer-data-bytes = and-right (all-under bytes-end (bytes-of (g .own-data))) _ held;
       alive = omega (arith, alive, passive, most .passive .most);
       refused = leb-true _ _ (and-left turned _ room);
+      pins = omega (arith, pins, most .active .most);
     }
 
 -- ---- own data, the limit and the sections come out again
@@ -197,6 +200,9 @@ module _ (g : Station) (v : Fits g) where
   peer-data-out : data-map-at layout.peer-data-places (layout.peer-data-part (pack g)) ≡ g .peer-data
   peer-data-out = ap (λ (t : Sections). data-map-at layout.peer-data-places (t .peer-data)) (packed-sections g) ∙ data-hold layout.peer-data-places (g .peer-data) (v .peer-data) (v .peer-data-rise) (v .peer-data-short) (v .peer-data-bytes) .items
 
+  pins-out : items-at layout.pins-places (layout.pins-part (pack g)) ≡ g .pins
+  pins-out = ap (λ (t : Sections). items-at layout.pins-places (t .pins)) (packed-sections g) ∙ section-holds layout.pins-places (g .pins) (v .pins) .items
+
   sections-formed : WellFormed (sections (pack g))
   sections-formed = subst WellFormed (sym (packed-sections g)) (record {
     active = section-holds layout.active-places (g .active) (v .active) .valid;
@@ -208,6 +214,7 @@ module _ (g : Station) (v : Fits g) where
     recent = section-holds layout.recent-places (g .recent) (v .recent) .valid;
     joins = numbers-hold layout.joins-places (g .joins) (v .joins) (v .joins-rise) .valid;
     peer-data = data-hold layout.peer-data-places (g .peer-data) (v .peer-data) (v .peer-data-rise) (v .peer-data-short) (v .peer-data-bytes) .valid;
+    pins = section-holds layout.pins-places (g .pins) (v .pins) .valid;
   })
 
 -- end
@@ -235,6 +242,7 @@ unpack-pack g v = λ i. record {
   alive = alive-out g v i;
   refused = refused-out g v i;
   refill = limit-out (g .refill) i;
+  pins = pins-out g v i;
 }
 
 -- end
@@ -320,6 +328,7 @@ record Narrow (g : Station) : Type 0 where
   peer-data : all-under peers-end (keys (g .peer-data)) ≡ true
   alive : all-under peers-end (g .alive) ≡ true
   refused : all-under peers-end (g .refused) ≡ true
+  pins : all-under peers-end (g .pins) ≡ true
 
 narrow : (g : Station) → lists-under peers-end (peer-lists g) ≡ true → Narrow g
 unfolding lists-under all-under
@@ -335,6 +344,7 @@ narrow g e =
     let e6 = and-right (u (keys (g .joins))) _ e5 in
     let e7 = and-right (u (keys (g .peer-data))) _ e6 in
     let e8 = and-right (u (g .alive)) _ e7 in
+    let e9 = and-right (u (g .refused)) _ e8 in
     record {
       me = ltb-true (g .me) peers-end (and-left m true (and-left (m && true) _ e));
       active = and-left (u (g .active)) _ e0;
@@ -346,6 +356,7 @@ narrow g e =
       peer-data = and-left (u (keys (g .peer-data))) _ e6;
       alive = and-left (u (g .alive)) _ e7;
       refused = and-left (u (g .refused)) _ e8;
+      pins = and-left (u (g .pins)) _ e9;
     }
 
 -- end
@@ -390,7 +401,8 @@ module _ (g : Station) (k : Kept g) (v : Fits g) where
       (both-fine _ _ (set-fine layout.bootstrap-places (g .bootstrap) (omega arith) (v .bootstrap) (n .bootstrap))
       (both-fine _ _ (set-fine layout.recent-places (g .recent) (omega arith) (v .recent) (n .recent))
       (both-fine _ _ (numbers-fine layout.joins-places (g .next-join) (g .joins) (omega arith) (v .joins) (n .joins) (omega (arith, w .next-join)) joins-under)
-      (data-fine (g .peer-data) (v .peer-data) (n .peer-data) (v .peer-data-short) (v .peer-data-bytes))))))))))
+      (both-fine _ _ (data-fine (g .peer-data) (v .peer-data) (n .peer-data) (v .peer-data-short) (v .peer-data-bytes))
+      (set-fine layout.pins-places (g .pins) (omega arith) (v .pins) (n .pins)))))))))))
 
   -- end
 
@@ -443,6 +455,7 @@ zero-fits = record {
   peer-data-rise = tt;
   peer-data-short = refl;
   peer-data-bytes = refl;
+  pins = omega arith;
   -- end
 }
 

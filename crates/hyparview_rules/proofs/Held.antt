@@ -1,14 +1,14 @@
 -- How the code's tests are the rules of the definition, and which rules hold of all well formed words.
 -- Assumes nothing.
-use Prim.Native.Nat.{ℕ, _+_, _-_, _≤_, _<_}
+use Prim.Native.Nat.{ℕ, zero, suc, _+_, _-_, _≤_, _<_, zero-le}
 use mathlib.Core.Path.{_≡_, refl, sym, ap, _∙_}
-use mathlib.Core.Bool.{Bool, true, false, not, _&&_, and-true, and-assoc}
+use mathlib.Core.Bool.{Bool, true, false, not, _&&_, _||_, and-true, and-assoc}
 use mathlib.Core.List.{List, [], _∷_, _++_}
 use native.Mathlib.Omega.{arith}
 use lib.ListN.{length, take, drop, getD}
 use lib.Seq.{take-take}
-use lib.Dec.{leb, leb·zero, eqb}
-use borrow.Author.Tests.{le-leb, eqb-true, eqb-false, ne-eqb}
+use lib.Dec.{leb, leb·zero, ltb, eqb}
+use borrow.Author.Tests.{le-leb, lt-leb, ltb-true, ltb-false, eqb-true, eqb-false, ne-eqb}
 use Rattle.base_lists.specs.Lists.{mem, choose, distinct, rising, subset, disjoint}
 use Rattle.base_lists.specs.Maps.{keys, values, has}
 use Rattle.base_lists.specs.Tests.{All}
@@ -26,15 +26,15 @@ use Rattle.base_peer.specs.Held.{data-in, ValidData}
 use Rattle.base_peer.specs.Maps.{no-data, entry-bytes, ValidEntry}
 use Rattle.base_peer.proofs.Data.{length-bytes}
 use Rattle.base_peer.proofs.Maps.{length-entry}
-use Rattle.spec_hyparview.specs.Rules.{all-short, short-data, limit-ok, settings-rule, repeats-rule, order-rule, capacity-rule, views-rule, alive-rule, few-rule, joins-rule, numbers-rule, self-rule, room-rule, data-rule, limit-rule, interval-rule, width-rule, held-rule, rules, station-ok}
+use Rattle.spec_hyparview.specs.Rules.{all-short, short-data, limit-ok, settings-rule, repeats-rule, order-rule, capacity-rule, views-rule, alive-rule, few-rule, joins-rule, numbers-rule, self-rule, room-rule, data-rule, limit-rule, interval-rule, width-rule, held-rule, rules, station-ok, pins-rule}
 use Rattle.spec_hyparview.specs.Rules as R
-use Rattle.spec_hyparview.specs.Station.{Station, max-data-length, top-passes, data-peers}
+use Rattle.spec_hyparview.specs.Station.{Station, max-data-length, top-passes, most-pins, data-peers}
 use Rattle.hyparview_state.specs.Layout as layout
 use Rattle.hyparview_state.specs.Unpack.{settings-at, limit-at, limit-formed, refill-in, station-of, unpack}
 use Rattle.hyparview_state.proofs.Memory.{two-limit}
-use Rattle.hyparview_state.proofs.Access.{count-active, count-passive}
+use Rattle.hyparview_state.proofs.Access.{count-active, count-passive, count-pins}
 use Rattle.hyparview_rules.specs.Ok.{packed-ok, view-rules, state-ok}
-use Rattle.hyparview_rules.proofs.Shape.{ok-shape, ok-active, ok-passive, ok-alive, ok-bootstrap, ok-joins}
+use Rattle.hyparview_rules.proofs.Shape.{ok-shape, ok-active, ok-passive, ok-alive, ok-bootstrap, ok-joins, ok-pins}
 use Rattle.hyparview_rules.proofs.Under.{peers-lent}
 use Rattle.hyparview_rules.proofs.Widths.{width-is}
 
@@ -52,11 +52,11 @@ settings-are xs = simp (and-assoc, leb·zero)
 
 module _ (xs : List ℕ) (e : packed-ok xs ≡ true) where
   -- the maps rise
-  pub order-is : (a b : Bool) → a ≡ rising (items-at layout.alive-places (layout.alive-part xs)) → b ≡ rising (items-at layout.refused-places (layout.refused-part xs)) → (a && b) ≡ order-rule (unpack xs)
+  pub order-is : (a b c : Bool) → a ≡ rising (items-at layout.alive-places (layout.alive-part xs)) → b ≡ rising (items-at layout.refused-places (layout.refused-part xs)) → c ≡ rising (items-at layout.pins-places (layout.pins-part xs)) → (a && b && c) ≡ order-rule (unpack xs)
   unfolding order-rule unpack station-of
-  order-is a b p q =
+  order-is a b c p q k =
       let v = ok-shape xs e in
-      (λ i. p i && q i)
+      and-assoc a b c ∙ (λ i. p i && (q i && k i))
       ∙ sym (rw (true-rising _ (v .sections .requests .rises), true-rising _ (v .sections .joins .rises), true-rising _ (v .sections .peer-data .rises)) refl)
 
   capacity-is : (leb (getD xs layout.active-count 0) (layout.active-view-capacity xs) && leb (getD xs layout.passive-count 0) (layout.passive-view-capacity xs)) ≡ capacity-rule (unpack xs)
@@ -139,6 +139,29 @@ module _ (xs : List ℕ) (e : packed-ok xs ≡ true) where
       let boot = count-lent layout.bootstrap-at layout.bootstrap-size layout.bootstrap-places xs (omega arith) (ok-bootstrap xs e .fits) ∙ lent layout.bootstrap-places _ (ok-bootstrap xs e) in
       and-assoc a b (not c)
       ∙ (λ i. (p ∙ (λ j. subset (joins-lent j) (boot j))) i && ((q ∙ (λ j. disjoint (joins-lent j) (active-lent j))) i && not ((r ∙ ap (mem (layout.me xs)) joins-lent) i)))
+
+-- ---- the pins: fewer than the active view may have, where there are any
+
+few-pins : (n c : ℕ) → (eqb n 0 || ltb n c) ≡ leb n (c - 1)
+few-pins zero c = sym (le-leb 0 (c - 1) zero-le)
+few-pins (suc n) c =
+    let some : eqb (suc n) 0 ≡ false = ne-eqb (suc n) 0 (λ e. omega (arith, e)) in
+    split (ltb (suc n) c) (λ t. rw (some, t) (sym (le-leb (suc n) (c - 1) (omega (arith, ltb-true (suc n) c t)))))
+    (λ t. rw (some, t) (sym (lt-leb (suc n) (c - 1) (omega (arith, ltb-false (suc n) c t)))))
+
+module _ (xs : List ℕ) (e : packed-ok xs ≡ true) where
+  pub few-pinned : getD xs layout.pins-count 0 ≤ layout.pins-places
+  few-pinned = omega (arith, part-read layout.pins-at layout.pins-size layout.pins-places xs (omega arith), ok-pins xs e .fits)
+
+  pins-lent : part layout.pins-at (layout.pins-at + getD xs layout.pins-count 0 - layout.pins-at) xs ≡ items-at layout.pins-places (layout.pins-part xs)
+  pins-lent = count-lent layout.pins-at layout.pins-size layout.pins-places xs (omega arith) (ok-pins xs e .fits) ∙ lent layout.pins-places _ (ok-pins xs e)
+
+  pub pins-are : (a : Bool) → a ≡ subset (part layout.pins-at (layout.pins-at + getD xs layout.pins-count 0 - layout.pins-at) xs) (part layout.active-at (layout.active-at + getD xs layout.active-count 0 - layout.active-at) xs)
+      → (a && (eqb (getD xs layout.pins-count 0) 0 || ltb (getD xs layout.pins-count 0) (layout.active-view-capacity xs))) ≡ pins-rule (unpack xs)
+  unfolding pins-rule most-pins unpack station-of settings-at
+  pins-are a p =
+      (λ i. (p ∙ (λ j. subset (pins-lent j) (active-lent xs e j))) i && few-pins (getD xs layout.pins-count 0) (layout.active-view-capacity xs) i)
+      ∙ ap (λ (n : ℕ). subset (items-at layout.pins-places (layout.pins-part xs)) (items-at layout.active-places (layout.active-part xs)) && leb n (layout.active-view-capacity xs - 1)) (sym (count-pins xs (ok-pins xs e)))
 
 -- ---- the limit
 
@@ -236,32 +259,38 @@ behind false m r h = sym (and-no r)
 
 -- three rules are left out where they hold
 pub rules-left : (g : Station) → few-rule g ≡ true → room-rule g ≡ true → data-rule g ≡ true
-    → station-ok g ≡ (settings-rule g && (repeats-rule g && (order-rule g && (capacity-rule g && (views-rule g && (alive-rule g && (joins-rule g && (numbers-rule g && (self-rule g && (limit-rule g && (interval-rule g && (width-rule g && held-rule g))))))))))))
+    → station-ok g ≡ (settings-rule g && (repeats-rule g && (order-rule g && (capacity-rule g && (views-rule g && (alive-rule g && (joins-rule g && (numbers-rule g && (self-rule g && (limit-rule g && (interval-rule g && (width-rule g && (held-rule g && pins-rule g)))))))))))))
 unfolding station-ok rules R.all-hold
-rules-left g f a b = rw (f, a, b, and-true (held-rule g))
+rules-left g f a b = rw (f, a, b, and-true (pins-rule g))
 
 -- the rules on the views come last
-rules-last : (g : Station) → (settings-rule g && (repeats-rule g && (order-rule g && (capacity-rule g && (views-rule g && (alive-rule g && (joins-rule g && (numbers-rule g && (self-rule g && (limit-rule g && (interval-rule g && (width-rule g && held-rule g))))))))))))
-    ≡ (settings-rule g && (repeats-rule g && (order-rule g && (capacity-rule g && ((joins-rule g && (numbers-rule g && (self-rule g && (limit-rule g && (interval-rule g && width-rule g))))) && (views-rule g && (alive-rule g && held-rule g)))))))
+rules-last : (g : Station) → (settings-rule g && (repeats-rule g && (order-rule g && (capacity-rule g && (views-rule g && (alive-rule g && (joins-rule g && (numbers-rule g && (self-rule g && (limit-rule g && (interval-rule g && (width-rule g && (held-rule g && pins-rule g)))))))))))))
+    ≡ (settings-rule g && (repeats-rule g && (order-rule g && (capacity-rule g && ((joins-rule g && (numbers-rule g && (self-rule g && (limit-rule g && (interval-rule g && width-rule g))))) && (views-rule g && (alive-rule g && (held-rule g && pins-rule g))))))))
 rules-last g =
     ap (λ (b : Bool). settings-rule g && (repeats-rule g && (order-rule g && (capacity-rule g && b))))
-    (ap (λ (b : Bool). views-rule g && (alive-rule g && b)) (sym (simp and-assoc)) ∙ behind (views-rule g) (alive-rule g) (joins-rule g && (numbers-rule g && (self-rule g && (limit-rule g && (interval-rule g && width-rule g))))) (held-rule g))
+    (ap (λ (b : Bool). views-rule g && (alive-rule g && b)) (sym (simp and-assoc)) ∙ behind (views-rule g) (alive-rule g) (joins-rule g && (numbers-rule g && (self-rule g && (limit-rule g && (interval-rule g && width-rule g))))) (held-rule g && pins-rule g))
 
-rules-are : (xs : List ℕ) → packed-ok xs ≡ true → (a b c d g h k l m n v : Bool) → a ≡ settings-rule (unpack xs) → b ≡ repeats-rule (unpack xs) → c ≡ order-rule (unpack xs) → d ≡ capacity-rule (unpack xs)
+-- the rules on views and the one on pins, in one line
+ends : (g : Station) → (settings-rule g && (repeats-rule g && (order-rule g && (capacity-rule g && ((joins-rule g && (numbers-rule g && (self-rule g && (limit-rule g && (interval-rule g && width-rule g))))) && (view-rules g && pins-rule g))))))
+    ≡ (settings-rule g && (repeats-rule g && (order-rule g && (capacity-rule g && ((joins-rule g && (numbers-rule g && (self-rule g && (limit-rule g && (interval-rule g && width-rule g))))) && (views-rule g && (alive-rule g && (held-rule g && pins-rule g))))))))
+ends g = simp and-assoc
+
+rules-are : (xs : List ℕ) → packed-ok xs ≡ true → (a b c d g h k l m n v w : Bool) → a ≡ settings-rule (unpack xs) → b ≡ repeats-rule (unpack xs) → c ≡ order-rule (unpack xs) → d ≡ capacity-rule (unpack xs)
     → g ≡ joins-rule (unpack xs) → h ≡ numbers-rule (unpack xs) → k ≡ self-rule (unpack xs) → l ≡ limit-rule (unpack xs)
-    → m ≡ interval-rule (unpack xs) → n ≡ width-rule (unpack xs) → v ≡ view-rules (unpack xs)
-    → (a && (b && (c && (d && ((g && (h && (k && (l && (m && n))))) && v))))) ≡ station-ok (unpack xs)
-rules-are xs t a b c d g h k l m n v p₁ p₂ p₃ p₄ p₅ p₆ p₇ p₈ p₉ p₁₀ p₁₁ =
-    (λ i. p₁ i && (p₂ i && (p₃ i && (p₄ i && ((p₅ i && (p₆ i && (p₇ i && (p₈ i && (p₉ i && p₁₀ i))))) && p₁₁ i)))))
+    → m ≡ interval-rule (unpack xs) → n ≡ width-rule (unpack xs) → v ≡ view-rules (unpack xs) → w ≡ pins-rule (unpack xs)
+    → (a && (b && (c && (d && ((g && (h && (k && (l && (m && n))))) && (v && w)))))) ≡ station-ok (unpack xs)
+rules-are xs t a b c d g h k l m n v w p₁ p₂ p₃ p₄ p₅ p₆ p₇ p₈ p₉ p₁₀ p₁₁ p₁₂ =
+    (λ i. p₁ i && (p₂ i && (p₃ i && (p₄ i && ((p₅ i && (p₆ i && (p₇ i && (p₈ i && (p₉ i && p₁₀ i))))) && (p₁₁ i && p₁₂ i))))))
+    ∙ ends (unpack xs)
     ∙ sym (rules-left (unpack xs) (few-held xs t) (room-held xs t) (data-held xs t) ∙ rules-last (unpack xs))
 
 -- the tests one after another, as the code has them
-pub tests-are : (xs : List ℕ) → packed-ok xs ≡ true → (s r o j n h v : Bool) → s ≡ settings-rule (unpack xs) → r ≡ repeats-rule (unpack xs) → o ≡ order-rule (unpack xs)
-    → j ≡ joins-rule (unpack xs) → n ≡ numbers-rule (unpack xs) → h ≡ has (layout.me xs) (data-map-at layout.peer-data-places (layout.peer-data-part xs)) → v ≡ view-rules (unpack xs)
+pub tests-are : (xs : List ℕ) → packed-ok xs ≡ true → (s r o j n h v w : Bool) → s ≡ settings-rule (unpack xs) → r ≡ repeats-rule (unpack xs) → o ≡ order-rule (unpack xs)
+    → j ≡ joins-rule (unpack xs) → n ≡ numbers-rule (unpack xs) → h ≡ has (layout.me xs) (data-map-at layout.peer-data-places (layout.peer-data-part xs)) → v ≡ view-rules (unpack xs) → w ≡ pins-rule (unpack xs)
     → (s && r && o && leb (getD xs layout.active-count 0) (layout.active-view-capacity xs) && leb (getD xs layout.passive-count 0) (layout.passive-view-capacity xs) && j && n && not h
     && leb (layout.refill-requests xs) max-requests-per-refill && leb 1 (layout.next-shuffle-interval xs) && leb (layout.next-shuffle-interval xs) (layout.shuffle-interval xs)
-    && leb (layout.passes-alone xs) top-passes && leb (layout.passes-short xs) top-passes && v)
+    && leb (layout.passes-alone xs) top-passes && leb (layout.passes-short xs) top-passes && v && w)
     ≡ state-ok xs
 unfolding state-ok
-tests-are xs t s r o j n h v e₁ e₂ e₃ e₄ e₅ e₆ e₇ =
-    rw t (simp and-assoc (simp and-assoc at (rules-are xs t _ _ _ _ _ _ _ _ _ _ _ e₁ e₂ e₃ (capacity-is xs t) e₄ e₅ (self-is xs h e₆) (limit-is xs t) (interval-is xs) (width-is xs t) e₇)))
+tests-are xs t s r o j n h v w e₁ e₂ e₃ e₄ e₅ e₆ e₇ e₈ =
+    rw t (simp and-assoc (simp and-assoc at (rules-are xs t _ _ _ _ _ _ _ _ _ _ _ _ e₁ e₂ e₃ (capacity-is xs t) e₄ e₅ (self-is xs h e₆) (limit-is xs t) (interval-is xs) (width-is xs t) e₇ e₈)))

@@ -13,7 +13,7 @@ use Rattle.base_util.specs.Section.{items-at}
 use Rattle.base_timing.specs.Timing.{within}
 use Rattle.base_timing.proofs.Ranges.{ranges}
 use Rattle.spec_hyparview.specs.Station.{Station, peers-end, bytes-end, top-counter, top-passes}
-use Rattle.spec_hyparview.specs.Rules.{lists-under, peer-lists, data-lists, settings-rule, repeats-rule, order-rule, capacity-rule, views-rule, alive-rule, few-rule, joins-rule, numbers-rule, self-rule, room-rule, data-rule, limit-rule, interval-rule, width-rule, rules, station-ok}
+use Rattle.spec_hyparview.specs.Rules.{lists-under, peer-lists, data-lists, settings-rule, repeats-rule, order-rule, capacity-rule, views-rule, alive-rule, few-rule, joins-rule, numbers-rule, self-rule, room-rule, data-rule, limit-rule, interval-rule, width-rule, rules, station-ok, held-rule, pins-rule}
 use Rattle.spec_hyparview.specs.Rules as R
 use Rattle.hyparview_state.specs.Layout as layout
 use Rattle.hyparview_state.specs.Unpack.{settings-at, station-of, unpack, PackedState, shut}
@@ -37,6 +37,7 @@ pub record Kept (g : Station) : Type 0 where
   pub limit : limit-rule g ≡ true
   pub interval : interval-rule g ≡ true
   pub width : width-rule g ≡ true
+  pub pins : pins-rule g ≡ true
 
 pub ok-kept : (g : Station) → station-ok g ≡ true → Kept g
 unfolding station-ok rules R.all-hold
@@ -55,6 +56,8 @@ ok-kept g e =
     let e₁₂ = and-right (data-rule g) _ e₁₁ in
     let e₁₃ = and-right (limit-rule g) _ e₁₂ in
     let e₁₄ = and-right (interval-rule g) _ e₁₃ in
+    let e₁₅ = and-right (width-rule g) _ e₁₄ in
+    let e₁₆ = and-right (held-rule g) _ e₁₅ in
     record {
       settings = and-left (settings-rule g) _ e;
       repeats = and-left (repeats-rule g) _ e₁;
@@ -71,6 +74,7 @@ ok-kept g e =
       limit = and-left (limit-rule g) _ e₁₂;
       interval = and-left (interval-rule g) _ e₁₃;
       width = and-left (width-rule g) _ e₁₄;
+      pins = and-left (pins-rule g) _ e₁₆;
     }
 
 -- what the width rule says

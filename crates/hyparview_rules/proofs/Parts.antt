@@ -35,8 +35,11 @@ joined a k xs = ap (λ (l : List ℕ). take k (drop a xs) ++ l) (sym (drop-drop 
 
 module _ (g : Station) where
   -- the sections from each on
+  abbrev from-pins : List ℕ
+  from-pins = section layout.pins-places (g .pins)
+
   abbrev from-peer-data : List ℕ
-  from-peer-data = data-section layout.peer-data-places (g .peer-data)
+  from-peer-data = data-section layout.peer-data-places (g .peer-data) ++ from-pins
 
   abbrev from-joins : List ℕ
   from-joins = numbers-section layout.joins-places (g .joins) ++ from-peer-data
@@ -90,9 +93,12 @@ module _ (g : Station) where
   at-peer-data : drop layout.peer-data-at (pack g) ≡ from-peer-data
   at-peer-data = rest-here layout.joins-at layout.joins-size (pack g) (numbers-section layout.joins-places (g .joins)) from-peer-data at-joins (numbers-stored layout.joins-places (g .joins) .long)
 
-  last-part : layout.peer-data-part (pack g) ≡ from-peer-data
+  at-pins : drop layout.pins-at (pack g) ≡ from-pins
+  at-pins = rest-here layout.peer-data-at layout.peer-data-size (pack g) (data-section layout.peer-data-places (g .peer-data)) from-pins at-peer-data (data-stored layout.peer-data-places (g .peer-data) .long)
+
+  last-part : layout.pins-part (pack g) ≡ from-pins
   unfolding part
-  last-part = ap (take layout.peer-data-size) at-peer-data ∙ take-all layout.peer-data-size from-peer-data (omega (arith, data-stored layout.peer-data-places (g .peer-data) .long))
+  last-part = ap (take layout.pins-size) at-pins ∙ take-all layout.pins-size from-pins (omega (arith, section-long layout.pins-places (g .pins)))
 
   pub packed-sections : sections (pack g) ≡ record {
     active = section layout.active-places (g .active);
@@ -104,6 +110,7 @@ module _ (g : Station) where
     recent = section layout.recent-places (g .recent);
     joins = numbers-section layout.joins-places (g .joins);
     peer-data = data-section layout.peer-data-places (g .peer-data);
+    pins = section layout.pins-places (g .pins);
   }
   packed-sections = λ i. record {
     active = part-here layout.active-at layout.active-size (pack g) (section layout.active-places (g .active)) from-passive at-active (section-long layout.active-places (g .active)) i;
@@ -114,7 +121,8 @@ module _ (g : Station) where
     bootstrap = part-here layout.bootstrap-at layout.bootstrap-size (pack g) (section layout.bootstrap-places (g .bootstrap)) from-recent at-bootstrap (section-long layout.bootstrap-places (g .bootstrap)) i;
     recent = part-here layout.recent-at layout.recent-size (pack g) (section layout.recent-places (g .recent)) from-joins at-recent (section-long layout.recent-places (g .recent)) i;
     joins = part-here layout.joins-at layout.joins-size (pack g) (numbers-section layout.joins-places (g .joins)) from-peer-data at-joins (numbers-stored layout.joins-places (g .joins) .long) i;
-    peer-data = last-part i;
+    peer-data = part-here layout.peer-data-at layout.peer-data-size (pack g) (data-section layout.peer-data-places (g .peer-data)) from-pins at-peer-data (data-stored layout.peer-data-places (g .peer-data) .long) i;
+    pins = last-part i;
   }
 
   pub packed-long : length (pack g) ≡ layout.words
@@ -131,6 +139,7 @@ module _ (g : Station) where
         length-append (section layout.bootstrap-places (g .bootstrap)) from-recent,
         length-append (section layout.recent-places (g .recent)) from-joins,
         length-append (numbers-section layout.joins-places (g .joins)) from-peer-data,
+        length-append (data-section layout.peer-data-places (g .peer-data)) from-pins,
         section-long layout.active-places (g .active),
         section-long layout.passive-places (g .passive),
         section-long layout.alive-places (g .alive),
@@ -140,34 +149,38 @@ module _ (g : Station) where
         section-long layout.recent-places (g .recent),
         numbers-stored layout.joins-places (g .joins) .long,
         data-stored layout.peer-data-places (g .peer-data) .long,
+        section-long layout.pins-places (g .pins),
       )
 
 -- ---- words put together of their sections
 
-rejoined-peer-data : (xs : List ℕ) → length xs ≡ layout.words → layout.peer-data-part xs ≡ drop layout.peer-data-at xs
+rejoined-pins : (xs : List ℕ) → length xs ≡ layout.words → layout.pins-part xs ≡ drop layout.pins-at xs
 unfolding part
-rejoined-peer-data xs l = take-all layout.peer-data-size (drop layout.peer-data-at xs) (omega (arith, length-drop layout.peer-data-at xs, l))
+rejoined-pins xs l = take-all layout.pins-size (drop layout.pins-at xs) (omega (arith, length-drop layout.pins-at xs, l))
 
-rejoined-joins : (xs : List ℕ) → length xs ≡ layout.words → layout.joins-part xs ++ layout.peer-data-part xs ≡ drop layout.joins-at xs
+rejoined-peer-data : (xs : List ℕ) → length xs ≡ layout.words → layout.peer-data-part xs ++ layout.pins-part xs ≡ drop layout.peer-data-at xs
+rejoined-peer-data xs l = ap (λ (m : List ℕ). layout.peer-data-part xs ++ m) (rejoined-pins xs l) ∙ joined layout.peer-data-at layout.peer-data-size xs
+
+rejoined-joins : (xs : List ℕ) → length xs ≡ layout.words → layout.joins-part xs ++ (layout.peer-data-part xs ++ layout.pins-part xs) ≡ drop layout.joins-at xs
 rejoined-joins xs l = ap (λ (m : List ℕ). layout.joins-part xs ++ m) (rejoined-peer-data xs l) ∙ joined layout.joins-at layout.joins-size xs
 
-rejoined-recent : (xs : List ℕ) → length xs ≡ layout.words → layout.recent-part xs ++ (layout.joins-part xs ++ layout.peer-data-part xs) ≡ drop layout.recent-at xs
+rejoined-recent : (xs : List ℕ) → length xs ≡ layout.words → layout.recent-part xs ++ (layout.joins-part xs ++ (layout.peer-data-part xs ++ layout.pins-part xs)) ≡ drop layout.recent-at xs
 rejoined-recent xs l = ap (λ (m : List ℕ). layout.recent-part xs ++ m) (rejoined-joins xs l) ∙ joined layout.recent-at layout.recent-size xs
 
-rejoined-bootstrap : (xs : List ℕ) → length xs ≡ layout.words → layout.bootstrap-part xs ++ (layout.recent-part xs ++ (layout.joins-part xs ++ layout.peer-data-part xs)) ≡ drop layout.bootstrap-at xs
+rejoined-bootstrap : (xs : List ℕ) → length xs ≡ layout.words → layout.bootstrap-part xs ++ (layout.recent-part xs ++ (layout.joins-part xs ++ (layout.peer-data-part xs ++ layout.pins-part xs))) ≡ drop layout.bootstrap-at xs
 rejoined-bootstrap xs l = ap (λ (m : List ℕ). layout.bootstrap-part xs ++ m) (rejoined-recent xs l) ∙ joined layout.bootstrap-at layout.bootstrap-size xs
 
-rejoined-requests : (xs : List ℕ) → length xs ≡ layout.words → layout.requests-part xs ++ (layout.bootstrap-part xs ++ (layout.recent-part xs ++ (layout.joins-part xs ++ layout.peer-data-part xs))) ≡ drop layout.requests-at xs
+rejoined-requests : (xs : List ℕ) → length xs ≡ layout.words → layout.requests-part xs ++ (layout.bootstrap-part xs ++ (layout.recent-part xs ++ (layout.joins-part xs ++ (layout.peer-data-part xs ++ layout.pins-part xs)))) ≡ drop layout.requests-at xs
 rejoined-requests xs l = ap (λ (m : List ℕ). layout.requests-part xs ++ m) (rejoined-bootstrap xs l) ∙ joined layout.requests-at layout.requests-size xs
 
-rejoined-refused : (xs : List ℕ) → length xs ≡ layout.words → layout.refused-part xs ++ (layout.requests-part xs ++ (layout.bootstrap-part xs ++ (layout.recent-part xs ++ (layout.joins-part xs ++ layout.peer-data-part xs)))) ≡ drop layout.refused-at xs
+rejoined-refused : (xs : List ℕ) → length xs ≡ layout.words → layout.refused-part xs ++ (layout.requests-part xs ++ (layout.bootstrap-part xs ++ (layout.recent-part xs ++ (layout.joins-part xs ++ (layout.peer-data-part xs ++ layout.pins-part xs))))) ≡ drop layout.refused-at xs
 rejoined-refused xs l = ap (λ (m : List ℕ). layout.refused-part xs ++ m) (rejoined-requests xs l) ∙ joined layout.refused-at layout.refused-size xs
 
-rejoined-alive : (xs : List ℕ) → length xs ≡ layout.words → layout.alive-part xs ++ (layout.refused-part xs ++ (layout.requests-part xs ++ (layout.bootstrap-part xs ++ (layout.recent-part xs ++ (layout.joins-part xs ++ layout.peer-data-part xs))))) ≡ drop layout.alive-at xs
+rejoined-alive : (xs : List ℕ) → length xs ≡ layout.words → layout.alive-part xs ++ (layout.refused-part xs ++ (layout.requests-part xs ++ (layout.bootstrap-part xs ++ (layout.recent-part xs ++ (layout.joins-part xs ++ (layout.peer-data-part xs ++ layout.pins-part xs)))))) ≡ drop layout.alive-at xs
 rejoined-alive xs l = ap (λ (m : List ℕ). layout.alive-part xs ++ m) (rejoined-refused xs l) ∙ joined layout.alive-at layout.alive-size xs
 
-rejoined-passive : (xs : List ℕ) → length xs ≡ layout.words → layout.passive-part xs ++ (layout.alive-part xs ++ (layout.refused-part xs ++ (layout.requests-part xs ++ (layout.bootstrap-part xs ++ (layout.recent-part xs ++ (layout.joins-part xs ++ layout.peer-data-part xs)))))) ≡ drop layout.passive-at xs
+rejoined-passive : (xs : List ℕ) → length xs ≡ layout.words → layout.passive-part xs ++ (layout.alive-part xs ++ (layout.refused-part xs ++ (layout.requests-part xs ++ (layout.bootstrap-part xs ++ (layout.recent-part xs ++ (layout.joins-part xs ++ (layout.peer-data-part xs ++ layout.pins-part xs))))))) ≡ drop layout.passive-at xs
 rejoined-passive xs l = ap (λ (m : List ℕ). layout.passive-part xs ++ m) (rejoined-alive xs l) ∙ joined layout.passive-at layout.passive-size xs
 
-pub rejoined-active : (xs : List ℕ) → length xs ≡ layout.words → layout.active-part xs ++ (layout.passive-part xs ++ (layout.alive-part xs ++ (layout.refused-part xs ++ (layout.requests-part xs ++ (layout.bootstrap-part xs ++ (layout.recent-part xs ++ (layout.joins-part xs ++ layout.peer-data-part xs))))))) ≡ drop layout.active-at xs
+pub rejoined-active : (xs : List ℕ) → length xs ≡ layout.words → layout.active-part xs ++ (layout.passive-part xs ++ (layout.alive-part xs ++ (layout.refused-part xs ++ (layout.requests-part xs ++ (layout.bootstrap-part xs ++ (layout.recent-part xs ++ (layout.joins-part xs ++ (layout.peer-data-part xs ++ layout.pins-part xs)))))))) ≡ drop layout.active-at xs
 rejoined-active xs l = ap (λ (m : List ℕ). layout.active-part xs ++ m) (rejoined-passive xs l) ∙ joined layout.active-at layout.active-size xs

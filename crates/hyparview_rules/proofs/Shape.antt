@@ -45,6 +45,7 @@ formed-true xs l e0 =
     let e5 = and-right (valid-numbers layout.requests-places (layout.requests-part xs)) _ e4 in
     let e6 = and-right (valid-set layout.bootstrap-places (layout.bootstrap-part xs)) _ e5 in
     let e7 = and-right (valid-set layout.recent-places (layout.recent-part xs)) _ e6 in
+    let e8 = and-right (valid-numbers layout.joins-places (layout.joins-part xs)) _ e7 in
     record {
       active = valid-set-true layout.active-places _ (part-long layout.active-at layout.active-size xs (omega (arith, l))) (and-left (valid-set layout.active-places (layout.active-part xs)) _ e0);
       passive = valid-set-true layout.passive-places _ (part-long layout.passive-at layout.passive-size xs (omega (arith, l))) (and-left (valid-set layout.passive-places (layout.passive-part xs)) _ e1);
@@ -54,7 +55,8 @@ formed-true xs l e0 =
       bootstrap = valid-set-true layout.bootstrap-places _ (part-long layout.bootstrap-at layout.bootstrap-size xs (omega (arith, l))) (and-left (valid-set layout.bootstrap-places (layout.bootstrap-part xs)) _ e5);
       recent = valid-set-true layout.recent-places _ (part-long layout.recent-at layout.recent-size xs (omega (arith, l))) (and-left (valid-set layout.recent-places (layout.recent-part xs)) _ e6);
       joins = valid-numbers-true layout.joins-places _ (part-long layout.joins-at layout.joins-size xs (omega (arith, l))) (and-left (valid-numbers layout.joins-places (layout.joins-part xs)) _ e7);
-      peer-data = valid-words-true layout.peer-data-places _ (part-long layout.peer-data-at layout.peer-data-size xs (omega (arith, l))) (and-right (valid-numbers layout.joins-places (layout.joins-part xs)) _ e7);
+      peer-data = valid-words-true layout.peer-data-places _ (part-long layout.peer-data-at layout.peer-data-size xs (omega (arith, l))) (and-left (valid-data-words layout.peer-data-places (layout.peer-data-part xs)) _ e8);
+      pins = valid-set-true layout.pins-places _ (part-long layout.pins-at layout.pins-size xs (omega (arith, l))) (and-right (valid-data-words layout.peer-data-places (layout.peer-data-part xs)) _ e8);
     }
 
 true-formed : (xs : List ℕ) → WellFormed (sections xs) → sections-ok xs ≡ true
@@ -68,7 +70,8 @@ true-formed xs v =
     (both-true _ _ (true-valid-set layout.bootstrap-places _ (v .bootstrap))
     (both-true _ _ (true-valid-set layout.recent-places _ (v .recent))
     (both-true _ _ (true-valid-numbers layout.joins-places _ (v .joins))
-    (true-valid-words layout.peer-data-places _ (v .peer-data)))))))))
+    (both-true _ _ (true-valid-words layout.peer-data-places _ (v .peer-data))
+    (true-valid-set layout.pins-places _ (v .pins))))))))))
 
 -- end
 
@@ -141,6 +144,9 @@ module _ (xs : List ℕ) (e : packed-ok xs ≡ true) where
   pub ok-peer-data : ValidDataWords layout.peer-data-places (layout.peer-data-part xs)
   ok-peer-data = ok-shape xs e .sections .peer-data
 
-pub ruleset of-ok = (ok-active, ok-passive, ok-alive, ok-refused, ok-requests, ok-bootstrap, ok-recent, ok-joins, ok-peer-data)
+  pub ok-pins : ValidSet layout.pins-places (layout.pins-part xs)
+  ok-pins = ok-shape xs e .sections .pins
+
+pub ruleset of-ok = (ok-active, ok-passive, ok-alive, ok-refused, ok-requests, ok-bootstrap, ok-recent, ok-joins, ok-peer-data, ok-pins)
 
 -- end

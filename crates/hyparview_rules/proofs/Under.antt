@@ -91,7 +91,7 @@ own-is xs b e =
 -- ---- all parts of a state
 
 -- the tests of the sections one after another, as the code has them, by tools/make/layout.py
-pub sections-are : (xs : List ℕ) (b0 b1 b2 b3 b4 b5 b6 b7 b8 : Bool)
+pub sections-are : (xs : List ℕ) (b0 b1 b2 b3 b4 b5 b6 b7 b8 b9 : Bool)
     → b0 ≡ valid-set layout.active-places (layout.active-part xs)
     → b1 ≡ valid-set layout.passive-places (layout.passive-part xs)
     → b2 ≡ valid-set layout.alive-places (layout.alive-part xs)
@@ -101,9 +101,10 @@ pub sections-are : (xs : List ℕ) (b0 b1 b2 b3 b4 b5 b6 b7 b8 : Bool)
     → b6 ≡ valid-set layout.recent-places (layout.recent-part xs)
     → b7 ≡ valid-numbers layout.joins-places (layout.joins-part xs)
     → b8 ≡ valid-data-words layout.peer-data-places (layout.peer-data-part xs)
-    → (b0 && b1 && b2 && b3 && b4 && b5 && b6 && b7 && b8) ≡ sections-ok xs
+    → b9 ≡ valid-set layout.pins-places (layout.pins-part xs)
+    → (b0 && b1 && b2 && b3 && b4 && b5 && b6 && b7 && b8 && b9) ≡ sections-ok xs
 unfolding sections-ok
-sections-are xs b0 b1 b2 b3 b4 b5 b6 b7 b8 e0 e1 e2 e3 e4 e5 e6 e7 e8 = simp and-assoc (λ i. e0 i && (e1 i && (e2 i && (e3 i && (e4 i && (e5 i && (e6 i && (e7 i && (e8 i)))))))))
+sections-are xs b0 b1 b2 b3 b4 b5 b6 b7 b8 b9 e0 e1 e2 e3 e4 e5 e6 e7 e8 e9 = simp and-assoc (λ i. e0 i && (e1 i && (e2 i && (e3 i && (e4 i && (e5 i && (e6 i && (e7 i && (e8 i && (e9 i))))))))))
 
 -- end
 

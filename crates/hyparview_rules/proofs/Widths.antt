@@ -99,7 +99,8 @@ peers-under xs v =
     (both-true _ _ (data-under words-end layout.peer-data-places (layout.peer-data-part xs) (v .sections .peer-data) (within _ _))
     (both-true _ _ (set-under words-end layout.alive-places (layout.alive-part xs) (within _ _))
     (both-true _ _ (set-under words-end layout.refused-places (layout.refused-part xs) (within _ _))
-    refl)))))))))
+    (both-true _ _ (set-under words-end layout.pins-places (layout.pins-part xs) (within _ _))
+    refl))))))))))
     -- end
 
 -- ---- data is bytes

@@ -31,7 +31,8 @@ sections-ok xs =
     && (valid-set layout.bootstrap-places (layout.bootstrap-part xs)
     && (valid-set layout.recent-places (layout.recent-part xs)
     && (valid-numbers layout.joins-places (layout.joins-part xs)
-    && valid-data-words layout.peer-data-places (layout.peer-data-part xs))))))))
+    && (valid-data-words layout.peer-data-places (layout.peer-data-part xs)
+    && valid-set layout.pins-places (layout.pins-part xs)))))))))
 
 -- end
 

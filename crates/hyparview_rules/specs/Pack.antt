@@ -68,6 +68,7 @@ pack g =
     ++ (section layout.bootstrap-places (g .bootstrap)
     ++ (section layout.recent-places (g .recent)
     ++ (numbers-section layout.joins-places (g .joins)
-    ++ data-section layout.peer-data-places (g .peer-data)))))))))
+    ++ (data-section layout.peer-data-places (g .peer-data)
+    ++ section layout.pins-places (g .pins))))))))))
 
 -- end

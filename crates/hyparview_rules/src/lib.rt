@@ -8,7 +8,7 @@ ghost use mathlib.Core.Bool.{true};
 ghost use lib.ListN.{length};
 ghost use Rattle.base_peer.specs.Maps.{numbers-under};
 ghost use Rattle.base_columns.specs.Columns.{numbers-at, ValidNumbers};
-ghost use Rattle.spec_hyparview.specs.Rules.{settings-rule, repeats-rule, order-rule, joins-rule, numbers-rule};
+ghost use Rattle.spec_hyparview.specs.Rules.{settings-rule, repeats-rule, order-rule, joins-rule, numbers-rule, pins-rule};
 ghost use Rattle.hyparview_state.specs.Layout.{words};
 ghost use Rattle.hyparview_state.specs.Unpack.{unpack};
 ghost use Rattle.hyparview_rules.specs.Ok.{sections-ok, packed-ok, view-rules, state-ok};
@@ -68,6 +68,7 @@ fn sections_valid(st: &[u64]) -> bool
             &st[Layout::PEER_DATA..Layout::PEER_DATA_END],
             Layout::PEER_DATA_PLACES,
         )
+        & base_util::is_section(&st[Layout::PINS..Layout::PINS_END], Layout::PINS_PLACES)
 }
 // end
 
@@ -162,6 +163,7 @@ fn order_rule(st: &[u64]) -> bool
             &st[Layout::REFUSED..Layout::REFUSED_END],
             Layout::REFUSED_PLACES,
         )
+        & base_util::is_rising(&st[Layout::PINS..Layout::PINS_END], Layout::PINS_PLACES)
 }
 
 // "views as in demand 3": disjoint and without the station itself; and the rules that hold other lists against the views.
@@ -227,6 +229,19 @@ fn numbers_rule(st: &[u64]) -> bool
         )
 }
 
+// 02, S-14: "pins on active peers only, within that limit", the active capacity less one.
+fn pins_rule(st: &[u64]) -> bool
+    requires { ⌜ length (now st) ≡ words ⌝ }
+    requires { ⌜ packed-ok (now st) ≡ true ⌝ }
+    ensures { λ r. ⌜ r ≡ pins-rule (unpack (now (st .entry))) ⌝ }
+{
+    let n = st[Layout::PINS_COUNT];
+    let pins = Layout::PINS + n as usize;
+    let active = Layout::ACTIVE + st[Layout::ACTIVE_COUNT] as usize;
+    base_scan::subset(&st[Layout::PINS..pins], &st[Layout::ACTIVE..active])
+        & ((n == 0) | (n < st[Layout::ACTIVE_VIEW_CAPACITY]))
+}
+
 // Whether the words keep every station rule, unused places included; of any words, however many. That sets and maps have room, bootstrap
 // and recent peers are few and data are short is so of all well formed words.
 pub fn is_ok(st: &[u64]) -> bool
@@ -262,4 +277,5 @@ pub fn is_ok(st: &[u64]) -> bool
         & (st[Layout::PASSES_ALONE] <= hyparview_state::TOP_PASSES)
         & (st[Layout::PASSES_SHORT] <= hyparview_state::TOP_PASSES)
         & views_rule(st)
+        & pins_rule(st)
 }

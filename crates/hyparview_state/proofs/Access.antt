@@ -81,7 +81,10 @@ module _ (xs : List ℕ) (p : PackedState xs) where
   pub of-peer-data : ValidDataWords layout.peer-data-places (layout.peer-data-part xs)
   of-peer-data = opened p .sections .peer-data
 
-pub ruleset of-sections = (of-active, of-passive, of-alive, of-refused, of-requests, of-bootstrap, of-recent, of-joins, of-peer-data)
+  pub of-pins : ValidSet layout.pins-places (layout.pins-part xs)
+  of-pins = opened p .sections .pins
+
+pub ruleset of-sections = (of-active, of-passive, of-alive, of-refused, of-requests, of-bootstrap, of-recent, of-joins, of-peer-data, of-pins)
 
 -- end
 
@@ -91,6 +94,9 @@ pub ruleset of-packed = (of-own-data, of-own, of-own-len, of-settings, of-interv
 
 pub count-active : (xs : List ℕ) → ValidSet layout.active-places (layout.active-part xs) → length (items-at layout.active-places (layout.active-part xs)) ≡ getD xs layout.active-count 0
 count-active xs v = v .counted ∙ part-read layout.active-at layout.active-size layout.active-places xs (omega arith)
+
+pub count-pins : (xs : List ℕ) → ValidSet layout.pins-places (layout.pins-part xs) → length (items-at layout.pins-places (layout.pins-part xs)) ≡ getD xs layout.pins-count 0
+count-pins xs v = v .counted ∙ part-read layout.pins-at layout.pins-size layout.pins-places xs (omega arith)
 
 pub count-passive : (xs : List ℕ) → ValidSet layout.passive-places (layout.passive-part xs) → length (items-at layout.passive-places (layout.passive-part xs)) ≡ getD xs layout.passive-count 0
 count-passive xs v = v .counted ∙ part-read layout.passive-at layout.passive-size layout.passive-places xs (omega arith)

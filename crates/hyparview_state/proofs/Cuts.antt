@@ -40,13 +40,13 @@ numbers-are xs l = slots-are layout.numbers-end 0 layout.numbers-end xs refl (om
 
 -- the sections as a list, by tools/make/layout.py
 abbrev pub sizes : List ℕ
-sizes = layout.active-size ∷ layout.passive-size ∷ layout.alive-size ∷ layout.refused-size ∷ layout.requests-size ∷ layout.bootstrap-size ∷ layout.recent-size ∷ layout.joins-size ∷ layout.peer-data-size ∷ []
+sizes = layout.active-size ∷ layout.passive-size ∷ layout.alive-size ∷ layout.refused-size ∷ layout.requests-size ∷ layout.bootstrap-size ∷ layout.recent-size ∷ layout.joins-size ∷ layout.peer-data-size ∷ layout.pins-size ∷ []
 
 abbrev listed : Sections → List (List ℕ)
-listed s = s .active ∷ s .passive ∷ s .alive ∷ s .refused ∷ s .requests ∷ s .bootstrap ∷ s .recent ∷ s .joins ∷ s .peer-data ∷ []
+listed s = s .active ∷ s .passive ∷ s .alive ∷ s .refused ∷ s .requests ∷ s .bootstrap ∷ s .recent ∷ s .joins ∷ s .peer-data ∷ s .pins ∷ []
 
 abbrev gathered : List (List ℕ) → Sections
-gathered l = record { active = getD l 0 []; passive = getD l 1 []; alive = getD l 2 []; refused = getD l 3 []; requests = getD l 4 []; bootstrap = getD l 5 []; recent = getD l 6 []; joins = getD l 7 []; peer-data = getD l 8 [] }
+gathered l = record { active = getD l 0 []; passive = getD l 1 []; alive = getD l 2 []; refused = getD l 3 []; requests = getD l 4 []; bootstrap = getD l 5 []; recent = getD l 6 []; joins = getD l 7 []; peer-data = getD l 8 []; pins = getD l 9 [] }
 
 -- end
 

@@ -65,44 +65,49 @@ put-refill {xs} {g} k n v f e b = let old = opened (b .packed) in
 pub put-active : {xs ys : List ℕ} {g : Station} {x : List ℕ} → HoldsSet layout.active-places ys x → length x ≤ layout.active-view-capacity xs → Becomes xs g → Becomes (putMid layout.active-at layout.active-size xs ys) (setters.set-active x g)
 unfolding unpack station-of own-at limit-at settings-at slots begin
 put-active {xs} {ys} {g} {x} h l b = let old = opened (b .packed) in
-    becomes (cut-put 0 ys (omega arith) (h .valid .long) (cut-self xs (long (b .packed)))) (record { present = old .present; timers = old .timers; limit = old .limit; alone = old .alone; short = old .short; own-data = old .own-data; settings = old .settings; short-interval = old .short-interval; sections = record { active = h .valid; passive = old .sections .passive; alive = old .sections .alive; refused = old .sections .refused; requests = old .sections .requests; bootstrap = old .sections .bootstrap; recent = old .sections .recent; joins = old .sections .joins; peer-data = old .sections .peer-data }; active-fits = rw (h .items) l; passive-fits = old .passive-fits }) (λ i. setters.set-active (h .items i) (b .same i))
+    becomes (cut-put 0 ys (omega arith) (h .valid .long) (cut-self xs (long (b .packed)))) (record { present = old .present; timers = old .timers; limit = old .limit; alone = old .alone; short = old .short; own-data = old .own-data; settings = old .settings; short-interval = old .short-interval; sections = record { active = h .valid; passive = old .sections .passive; alive = old .sections .alive; refused = old .sections .refused; requests = old .sections .requests; bootstrap = old .sections .bootstrap; recent = old .sections .recent; joins = old .sections .joins; peer-data = old .sections .peer-data; pins = old .sections .pins }; active-fits = rw (h .items) l; passive-fits = old .passive-fits }) (λ i. setters.set-active (h .items i) (b .same i))
 
 pub put-passive : {xs ys : List ℕ} {g : Station} {x : List ℕ} → HoldsSet layout.passive-places ys x → length x ≤ layout.passive-view-capacity xs → Becomes xs g → Becomes (putMid layout.passive-at layout.passive-size xs ys) (setters.set-passive x g)
 unfolding unpack station-of own-at limit-at settings-at slots begin
 put-passive {xs} {ys} {g} {x} h l b = let old = opened (b .packed) in
-    becomes (cut-put 1 ys (omega arith) (h .valid .long) (cut-self xs (long (b .packed)))) (record { present = old .present; timers = old .timers; limit = old .limit; alone = old .alone; short = old .short; own-data = old .own-data; settings = old .settings; short-interval = old .short-interval; sections = record { active = old .sections .active; passive = h .valid; alive = old .sections .alive; refused = old .sections .refused; requests = old .sections .requests; bootstrap = old .sections .bootstrap; recent = old .sections .recent; joins = old .sections .joins; peer-data = old .sections .peer-data }; active-fits = old .active-fits; passive-fits = rw (h .items) l }) (λ i. setters.set-passive (h .items i) (b .same i))
+    becomes (cut-put 1 ys (omega arith) (h .valid .long) (cut-self xs (long (b .packed)))) (record { present = old .present; timers = old .timers; limit = old .limit; alone = old .alone; short = old .short; own-data = old .own-data; settings = old .settings; short-interval = old .short-interval; sections = record { active = old .sections .active; passive = h .valid; alive = old .sections .alive; refused = old .sections .refused; requests = old .sections .requests; bootstrap = old .sections .bootstrap; recent = old .sections .recent; joins = old .sections .joins; peer-data = old .sections .peer-data; pins = old .sections .pins }; active-fits = old .active-fits; passive-fits = rw (h .items) l }) (λ i. setters.set-passive (h .items i) (b .same i))
 
 pub put-alive : {xs ys : List ℕ} {g : Station} {x : List ℕ} → HoldsSet layout.alive-places ys x → Becomes xs g → Becomes (putMid layout.alive-at layout.alive-size xs ys) (setters.set-alive x g)
 unfolding unpack station-of own-at limit-at settings-at slots begin
 put-alive {xs} {ys} {g} {x} h b = let old = opened (b .packed) in
-    becomes (cut-put 2 ys (omega arith) (h .valid .long) (cut-self xs (long (b .packed)))) (record { present = old .present; timers = old .timers; limit = old .limit; alone = old .alone; short = old .short; own-data = old .own-data; settings = old .settings; short-interval = old .short-interval; sections = record { active = old .sections .active; passive = old .sections .passive; alive = h .valid; refused = old .sections .refused; requests = old .sections .requests; bootstrap = old .sections .bootstrap; recent = old .sections .recent; joins = old .sections .joins; peer-data = old .sections .peer-data }; active-fits = old .active-fits; passive-fits = old .passive-fits }) (λ i. setters.set-alive (h .items i) (b .same i))
+    becomes (cut-put 2 ys (omega arith) (h .valid .long) (cut-self xs (long (b .packed)))) (record { present = old .present; timers = old .timers; limit = old .limit; alone = old .alone; short = old .short; own-data = old .own-data; settings = old .settings; short-interval = old .short-interval; sections = record { active = old .sections .active; passive = old .sections .passive; alive = h .valid; refused = old .sections .refused; requests = old .sections .requests; bootstrap = old .sections .bootstrap; recent = old .sections .recent; joins = old .sections .joins; peer-data = old .sections .peer-data; pins = old .sections .pins }; active-fits = old .active-fits; passive-fits = old .passive-fits }) (λ i. setters.set-alive (h .items i) (b .same i))
 
 pub put-refused : {xs ys : List ℕ} {g : Station} {x : List ℕ} → HoldsSet layout.refused-places ys x → Becomes xs g → Becomes (putMid layout.refused-at layout.refused-size xs ys) (setters.set-refused x g)
 unfolding unpack station-of own-at limit-at settings-at slots begin
 put-refused {xs} {ys} {g} {x} h b = let old = opened (b .packed) in
-    becomes (cut-put 3 ys (omega arith) (h .valid .long) (cut-self xs (long (b .packed)))) (record { present = old .present; timers = old .timers; limit = old .limit; alone = old .alone; short = old .short; own-data = old .own-data; settings = old .settings; short-interval = old .short-interval; sections = record { active = old .sections .active; passive = old .sections .passive; alive = old .sections .alive; refused = h .valid; requests = old .sections .requests; bootstrap = old .sections .bootstrap; recent = old .sections .recent; joins = old .sections .joins; peer-data = old .sections .peer-data }; active-fits = old .active-fits; passive-fits = old .passive-fits }) (λ i. setters.set-refused (h .items i) (b .same i))
+    becomes (cut-put 3 ys (omega arith) (h .valid .long) (cut-self xs (long (b .packed)))) (record { present = old .present; timers = old .timers; limit = old .limit; alone = old .alone; short = old .short; own-data = old .own-data; settings = old .settings; short-interval = old .short-interval; sections = record { active = old .sections .active; passive = old .sections .passive; alive = old .sections .alive; refused = h .valid; requests = old .sections .requests; bootstrap = old .sections .bootstrap; recent = old .sections .recent; joins = old .sections .joins; peer-data = old .sections .peer-data; pins = old .sections .pins }; active-fits = old .active-fits; passive-fits = old .passive-fits }) (λ i. setters.set-refused (h .items i) (b .same i))
 
 pub put-requests : {xs ys : List ℕ} {g : Station} {x : List (ℕ × ℕ)} → HoldsNumbers layout.requests-places ys x → Becomes xs g → Becomes (putMid layout.requests-at layout.requests-size xs ys) (setters.set-requests x g)
 unfolding unpack station-of own-at limit-at settings-at slots begin
 put-requests {xs} {ys} {g} {x} h b = let old = opened (b .packed) in
-    becomes (cut-put 4 ys (omega arith) (h .valid .long) (cut-self xs (long (b .packed)))) (record { present = old .present; timers = old .timers; limit = old .limit; alone = old .alone; short = old .short; own-data = old .own-data; settings = old .settings; short-interval = old .short-interval; sections = record { active = old .sections .active; passive = old .sections .passive; alive = old .sections .alive; refused = old .sections .refused; requests = h .valid; bootstrap = old .sections .bootstrap; recent = old .sections .recent; joins = old .sections .joins; peer-data = old .sections .peer-data }; active-fits = old .active-fits; passive-fits = old .passive-fits }) (λ i. setters.set-requests (h .items i) (b .same i))
+    becomes (cut-put 4 ys (omega arith) (h .valid .long) (cut-self xs (long (b .packed)))) (record { present = old .present; timers = old .timers; limit = old .limit; alone = old .alone; short = old .short; own-data = old .own-data; settings = old .settings; short-interval = old .short-interval; sections = record { active = old .sections .active; passive = old .sections .passive; alive = old .sections .alive; refused = old .sections .refused; requests = h .valid; bootstrap = old .sections .bootstrap; recent = old .sections .recent; joins = old .sections .joins; peer-data = old .sections .peer-data; pins = old .sections .pins }; active-fits = old .active-fits; passive-fits = old .passive-fits }) (λ i. setters.set-requests (h .items i) (b .same i))
 
 pub put-bootstrap : {xs ys : List ℕ} {g : Station} {x : List ℕ} → HoldsSet layout.bootstrap-places ys x → Becomes xs g → Becomes (putMid layout.bootstrap-at layout.bootstrap-size xs ys) (setters.set-bootstrap x g)
 unfolding unpack station-of own-at limit-at settings-at slots begin
 put-bootstrap {xs} {ys} {g} {x} h b = let old = opened (b .packed) in
-    becomes (cut-put 5 ys (omega arith) (h .valid .long) (cut-self xs (long (b .packed)))) (record { present = old .present; timers = old .timers; limit = old .limit; alone = old .alone; short = old .short; own-data = old .own-data; settings = old .settings; short-interval = old .short-interval; sections = record { active = old .sections .active; passive = old .sections .passive; alive = old .sections .alive; refused = old .sections .refused; requests = old .sections .requests; bootstrap = h .valid; recent = old .sections .recent; joins = old .sections .joins; peer-data = old .sections .peer-data }; active-fits = old .active-fits; passive-fits = old .passive-fits }) (λ i. setters.set-bootstrap (h .items i) (b .same i))
+    becomes (cut-put 5 ys (omega arith) (h .valid .long) (cut-self xs (long (b .packed)))) (record { present = old .present; timers = old .timers; limit = old .limit; alone = old .alone; short = old .short; own-data = old .own-data; settings = old .settings; short-interval = old .short-interval; sections = record { active = old .sections .active; passive = old .sections .passive; alive = old .sections .alive; refused = old .sections .refused; requests = old .sections .requests; bootstrap = h .valid; recent = old .sections .recent; joins = old .sections .joins; peer-data = old .sections .peer-data; pins = old .sections .pins }; active-fits = old .active-fits; passive-fits = old .passive-fits }) (λ i. setters.set-bootstrap (h .items i) (b .same i))
 
 pub put-recent : {xs ys : List ℕ} {g : Station} {x : List ℕ} → HoldsSet layout.recent-places ys x → Becomes xs g → Becomes (putMid layout.recent-at layout.recent-size xs ys) (setters.set-recent x g)
 unfolding unpack station-of own-at limit-at settings-at slots begin
 put-recent {xs} {ys} {g} {x} h b = let old = opened (b .packed) in
-    becomes (cut-put 6 ys (omega arith) (h .valid .long) (cut-self xs (long (b .packed)))) (record { present = old .present; timers = old .timers; limit = old .limit; alone = old .alone; short = old .short; own-data = old .own-data; settings = old .settings; short-interval = old .short-interval; sections = record { active = old .sections .active; passive = old .sections .passive; alive = old .sections .alive; refused = old .sections .refused; requests = old .sections .requests; bootstrap = old .sections .bootstrap; recent = h .valid; joins = old .sections .joins; peer-data = old .sections .peer-data }; active-fits = old .active-fits; passive-fits = old .passive-fits }) (λ i. setters.set-recent (h .items i) (b .same i))
+    becomes (cut-put 6 ys (omega arith) (h .valid .long) (cut-self xs (long (b .packed)))) (record { present = old .present; timers = old .timers; limit = old .limit; alone = old .alone; short = old .short; own-data = old .own-data; settings = old .settings; short-interval = old .short-interval; sections = record { active = old .sections .active; passive = old .sections .passive; alive = old .sections .alive; refused = old .sections .refused; requests = old .sections .requests; bootstrap = old .sections .bootstrap; recent = h .valid; joins = old .sections .joins; peer-data = old .sections .peer-data; pins = old .sections .pins }; active-fits = old .active-fits; passive-fits = old .passive-fits }) (λ i. setters.set-recent (h .items i) (b .same i))
 
 pub put-joins : {xs ys : List ℕ} {g : Station} {x : List (ℕ × ℕ)} → HoldsNumbers layout.joins-places ys x → Becomes xs g → Becomes (putMid layout.joins-at layout.joins-size xs ys) (setters.set-joins x g)
 unfolding unpack station-of own-at limit-at settings-at slots begin
 put-joins {xs} {ys} {g} {x} h b = let old = opened (b .packed) in
-    becomes (cut-put 7 ys (omega arith) (h .valid .long) (cut-self xs (long (b .packed)))) (record { present = old .present; timers = old .timers; limit = old .limit; alone = old .alone; short = old .short; own-data = old .own-data; settings = old .settings; short-interval = old .short-interval; sections = record { active = old .sections .active; passive = old .sections .passive; alive = old .sections .alive; refused = old .sections .refused; requests = old .sections .requests; bootstrap = old .sections .bootstrap; recent = old .sections .recent; joins = h .valid; peer-data = old .sections .peer-data }; active-fits = old .active-fits; passive-fits = old .passive-fits }) (λ i. setters.set-joins (h .items i) (b .same i))
+    becomes (cut-put 7 ys (omega arith) (h .valid .long) (cut-self xs (long (b .packed)))) (record { present = old .present; timers = old .timers; limit = old .limit; alone = old .alone; short = old .short; own-data = old .own-data; settings = old .settings; short-interval = old .short-interval; sections = record { active = old .sections .active; passive = old .sections .passive; alive = old .sections .alive; refused = old .sections .refused; requests = old .sections .requests; bootstrap = old .sections .bootstrap; recent = old .sections .recent; joins = h .valid; peer-data = old .sections .peer-data; pins = old .sections .pins }; active-fits = old .active-fits; passive-fits = old .passive-fits }) (λ i. setters.set-joins (h .items i) (b .same i))
 
 pub put-peer-data : {xs ys : List ℕ} {g : Station} {x : List (ℕ × List ℕ)} → HoldsDataWords layout.peer-data-places ys x → Becomes xs g → Becomes (putMid layout.peer-data-at layout.peer-data-size xs ys) (setters.set-peer-data x g)
 unfolding unpack station-of own-at limit-at settings-at slots begin
 put-peer-data {xs} {ys} {g} {x} h b = let old = opened (b .packed) in
-    becomes (cut-put 8 ys (omega arith) (h .valid .long) (cut-self xs (long (b .packed)))) (record { present = old .present; timers = old .timers; limit = old .limit; alone = old .alone; short = old .short; own-data = old .own-data; settings = old .settings; short-interval = old .short-interval; sections = record { active = old .sections .active; passive = old .sections .passive; alive = old .sections .alive; refused = old .sections .refused; requests = old .sections .requests; bootstrap = old .sections .bootstrap; recent = old .sections .recent; joins = old .sections .joins; peer-data = h .valid }; active-fits = old .active-fits; passive-fits = old .passive-fits }) (λ i. setters.set-peer-data (h .items i) (b .same i))
+    becomes (cut-put 8 ys (omega arith) (h .valid .long) (cut-self xs (long (b .packed)))) (record { present = old .present; timers = old .timers; limit = old .limit; alone = old .alone; short = old .short; own-data = old .own-data; settings = old .settings; short-interval = old .short-interval; sections = record { active = old .sections .active; passive = old .sections .passive; alive = old .sections .alive; refused = old .sections .refused; requests = old .sections .requests; bootstrap = old .sections .bootstrap; recent = old .sections .recent; joins = old .sections .joins; peer-data = h .valid; pins = old .sections .pins }; active-fits = old .active-fits; passive-fits = old .passive-fits }) (λ i. setters.set-peer-data (h .items i) (b .same i))
+
+pub put-pins : {xs ys : List ℕ} {g : Station} {x : List ℕ} → HoldsSet layout.pins-places ys x → Becomes xs g → Becomes (putMid layout.pins-at layout.pins-size xs ys) (setters.set-pins x g)
+unfolding unpack station-of own-at limit-at settings-at slots begin
+put-pins {xs} {ys} {g} {x} h b = let old = opened (b .packed) in
+    becomes (cut-put 9 ys (omega arith) (h .valid .long) (cut-self xs (long (b .packed)))) (record { present = old .present; timers = old .timers; limit = old .limit; alone = old .alone; short = old .short; own-data = old .own-data; settings = old .settings; short-interval = old .short-interval; sections = record { active = old .sections .active; passive = old .sections .passive; alive = old .sections .alive; refused = old .sections .refused; requests = old .sections .requests; bootstrap = old .sections .bootstrap; recent = old .sections .recent; joins = old .sections .joins; peer-data = old .sections .peer-data; pins = h .valid }; active-fits = old .active-fits; passive-fits = old .passive-fits }) (λ i. setters.set-pins (h .items i) (b .same i))

@@ -9,7 +9,7 @@ pub use Rattle.base_columns.specs.Columns.{active-places}
 
 -- the words of a state, and where its numbers end and its sections begin
 abbrev pub words : ℕ
-words = 551
+words = 559
 
 abbrev pub numbers-end : ℕ
 numbers-end = 22
@@ -282,6 +282,21 @@ peer-data-size = 321
 abbrev pub peer-data-part : List ℕ → List ℕ
 peer-data-part xs = part peer-data-at peer-data-size xs
 
+abbrev pub pins-at : ℕ
+pins-at = 551
+
+abbrev pub pins-places : ℕ
+pins-places = 7
+
+abbrev pub pins-count : ℕ
+pins-count = 558
+
+abbrev pub pins-size : ℕ
+pins-size = 8
+
+abbrev pub pins-part : List ℕ → List ℕ
+pins-part xs = part pins-at pins-size xs
+
 pub record Sections : Type 0 where
   pub active : List ℕ
   pub passive : List ℕ
@@ -292,9 +307,10 @@ pub record Sections : Type 0 where
   pub recent : List ℕ
   pub joins : List ℕ
   pub peer-data : List ℕ
+  pub pins : List ℕ
 
 abbrev pub sections : List ℕ → Sections
-sections xs = record { active = active-part xs; passive = passive-part xs; alive = alive-part xs; refused = refused-part xs; requests = requests-part xs; bootstrap = bootstrap-part xs; recent = recent-part xs; joins = joins-part xs; peer-data = peer-data-part xs }
+sections xs = record { active = active-part xs; passive = passive-part xs; alive = alive-part xs; refused = refused-part xs; requests = requests-part xs; bootstrap = bootstrap-part xs; recent = recent-part xs; joins = joins-part xs; peer-data = peer-data-part xs; pins = pins-part xs }
 
 -- every section is well formed
 pub record WellFormed (s : Sections) : Type 0 where
@@ -307,3 +323,4 @@ pub record WellFormed (s : Sections) : Type 0 where
   pub recent : ValidSet recent-places (s .recent)
   pub joins : ValidNumbers joins-places (s .joins)
   pub peer-data : ValidDataWords peer-data-places (s .peer-data)
+  pub pins : ValidSet pins-places (s .pins)

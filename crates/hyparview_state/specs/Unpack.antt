@@ -78,6 +78,7 @@ station-of n s = record {
   alive = items-at layout.alive-places (s .alive);
   refused = items-at layout.refused-places (s .refused);
   refill = refill-in (limit-at n);
+  pins = items-at layout.pins-places (s .pins);
 }
 
 -- end

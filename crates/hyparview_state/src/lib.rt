@@ -142,8 +142,16 @@ impl Layout {
 
     pub const PEER_DATA_END: usize = 551;
 
+    pub const PINS: usize = 551;
+
+    pub const PINS_PLACES: usize = 7;
+
+    pub const PINS_COUNT: usize = 558;
+
+    pub const PINS_END: usize = 559;
+
     // The words of a state, and where its numbers end.
-    pub const LENGTH: usize = 551;
+    pub const LENGTH: usize = 559;
 
     pub const NUMBERS_END: usize = 22;
     // end

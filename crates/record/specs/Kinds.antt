@@ -1,4 +1,5 @@
--- Document 01, "Records", byte 0: the kinds of records. Those of events have the names of hyparview.rs, its InEvent and Timer; the others stand in outputs alone.
+-- Document 01, "Records", byte 0: the kinds of records. Those of events have the names of hyparview.rs, its InEvent and Timer, and Pin is of document 02, S-14;
+-- the others stand in outputs alone.
 -- A test names on its `unfolding` line what it computes by, so that a proof names the test alone.
 -- Assumes nothing.
 use Prim.Native.Nat.{ℕ}
@@ -18,11 +19,12 @@ pub data EventKind : Type 0 where
   RequestJoin : EventKind
   UpdatePeerData : EventKind
   Quit : EventKind
+  Pin : EventKind
 
 unfoldable pub event-kinds : List EventKind
 event-kinds =
     Message ∷ DoShuffle ∷ DoMaintenance ∷ PendingNeighborRequest ∷ RetryJoin
-    ∷ PeerDisconnected ∷ RequestJoin ∷ UpdatePeerData ∷ Quit ∷ []
+    ∷ PeerDisconnected ∷ RequestJoin ∷ UpdatePeerData ∷ Quit ∷ Pin ∷ []
 
 abbrev pub kind-byte : EventKind → ℕ
 kind-byte Message = 0
@@ -34,6 +36,7 @@ kind-byte PeerDisconnected = 5
 kind-byte RequestJoin = 6
 kind-byte UpdatePeerData = 7
 kind-byte Quit = 8
+kind-byte Pin = 13
 
 -- the notices, the data of a peer, and by document 02, S-2, who was evicted
 pub data OutputKind : Type 0 where

@@ -103,6 +103,8 @@ impl Kind {
     pub const PEER_DATA: u8 = 11;
 
     pub const EVICTED: u8 = 12;
+    // An event again: a neighbor gets a pin.
+    pub const PIN: u8 = 13;
 }
 
 // The messages, byte 1 of kind 0.
@@ -160,6 +162,10 @@ impl Refusal {
 
     pub const COUNTER: u32 = 10;
 
+    pub const PIN_STRANGER: u32 = 17;
+
+    pub const PIN_LIMIT: u32 = 18;
+
     pub const NO_OTHER_FORM: u32 = 19;
 }
 
@@ -168,7 +174,7 @@ impl Refusal {
 fn is_event_kind(kind: u8) -> bool
     ensures { λ r. ⌜ r ≡ is-event-kind kind ⌝ }
 {
-    kind <= Kind::QUIT
+    (kind <= Kind::QUIT) | (kind == Kind::PIN)
 }
 
 fn is_output_kind(kind: u8) -> bool

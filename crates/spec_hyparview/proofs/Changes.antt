@@ -2,23 +2,23 @@
 -- Assumes nothing.
 use mathlib.Core.Path.{_≡_, refl}
 use mathlib.Core.Bool.{Bool, true, false, _||_}
-use mathlib.Core.List.{List, [], _∷_}
-use Prim.Native.Nat.{ℕ, _+_, _≤_, _<_}
+use mathlib.Core.List.{List, [], _∷_, _++_}
+use Prim.Native.Nat.{ℕ, _+_, _-_, _≤_, _<_}
 use native.Mathlib.Omega.{arith}
 use lib.ListN.{length}
 use lib.Dec.{ltb, eqb}
 use borrow.Author.Tests.{ltb-true}
-use Rattle.base_lists.specs.Lists.{choose, mem, without, insert, renew, Rising}
+use Rattle.base_lists.specs.Lists.{choose, is, count, mem, without, insert, renew, Rising}
 use Rattle.base_lists.specs.Maps.{keys, has, lookup, cut, retain, put, Each}
 use Rattle.base_lists.proofs.Choice.{by-choice}
-use Rattle.base_lists.proofs.Count.{count-without, length-without}
+use Rattle.base_lists.proofs.Count.{count-without, length-without, count-snoc, count-insert}
 use Rattle.base_lists.proofs.Maps.{keys-cut, keys-put, length-cut, length-put, length-retain, count-retain, rising-retain}
 use Rattle.base_lists.proofs.Rising.{rising-without, rising-insert}
 use Rattle.spec_hyparview.specs.Station.{Refill, automatic, requests-left, recovery, is-recovery, top-counter}
 use Rattle.spec_hyparview.specs.Refill.{one-less, unless-recovery}
 use Rattle.spec_hyparview.specs.Timers.{renew-all}
-use Rattle.base_lists.proofs.Members.{each-cut, each-retain, each-put, each-more, count-cut, length-insert, count-absent, renewed}
-use Rattle.spec_hyparview.proofs.Law.{Short, Small, InOrder, Numbered, Requests, HeldData, Refused, Recent}
+use Rattle.base_lists.proofs.Members.{each-cut, each-retain, each-put, each-more, count-cut, length-insert, count-absent, rising-once, renewed}
+use Rattle.spec_hyparview.proofs.Law.{Short, Small, InOrder, Numbered, Requests, HeldData, Refused, Recent, Pinned}
 
 pub put-numbered : {n : ℕ} {m : List (ℕ × ℕ)} (p : ℕ) → ltb n top-counter ≡ true → Numbered m n → Numbered (put p n m) (n + 1)
 put-numbered {n} {m} p t h = record {
@@ -86,6 +86,25 @@ add-refusal {xs} p t h = record { rise = rising-insert p xs (h .rise); few = len
 pub no-refusals : Refused []
 unfolding Rising
 no-refusals = record { rise = tt; few = omega arith }
+
+-- a pin ends where its peer leaves, stays where another peer enters, and is given to a neighbour within the limit
+module _ {cap : ℕ} {act pin : List ℕ} (p : ℕ) (h : Pinned cap act pin) where
+  pub unpin : (rest : List ℕ) → ((x : ℕ) → count x act ≤ count x rest + is x p) → Pinned cap rest (without p pin)
+  unpin rest l = record {
+    rise = rising-without p pin (h .rise);
+    among = λ x. omega (arith, l x, h .among x, count-without x p pin (rising-once pin (h .rise) x));
+    few = omega (arith, h .few, length-without p pin);
+  }
+
+  pub pins-stay : Pinned cap (act ++ (p ∷ [])) pin
+  pins-stay = record { rise = h .rise; among = λ x. omega (arith, h .among x, count-snoc x act p); few = h .few }
+
+  pub add-pin : 1 ≤ count p act → (mem p pin || ltb (length pin) (cap - 1)) ≡ true → Pinned cap act (insert p pin)
+  add-pin i t = record {
+    rise = rising-insert p pin (h .rise);
+    among = λ x. count-insert x p pin (λ y. count y act) i (h .among x);
+    few = length-insert p (cap - 1) pin t (h .few);
+  }
 
 pub without-recent : {xs : List ℕ} (p : ℕ) → Recent xs → Recent (without p xs)
 without-recent {xs} p h =

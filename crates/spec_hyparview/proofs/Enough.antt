@@ -12,7 +12,7 @@ use lib.Dec.{eqb, ltb}
 use borrow.Author.Tests.{eqb-true}
 use Rattle.base_lists.proofs.Choice.{by-choice, choose-yes, and-left, and-right}
 use Rattle.base_util.specs.Chances.{sure-end, sure}
-use Rattle.record.specs.Kinds.{EventKind, Message, DoShuffle, DoMaintenance, PendingNeighborRequest, RetryJoin, PeerDisconnected, RequestJoin, UpdatePeerData, Quit}
+use Rattle.record.specs.Kinds.{EventKind, Message, DoShuffle, DoMaintenance, PendingNeighborRequest, RetryJoin, PeerDisconnected, RequestJoin, UpdatePeerData, Quit, Pin}
 use Rattle.record.specs.Format.{Rec}
 use Rattle.record.proofs.ByKind.{by-kind}
 use Rattle.spec_hyparview.specs.Numbers.{message-number, kind-number}
@@ -33,8 +33,6 @@ pub record Enough (ds : List ℕ) (room : ℕ) (a : Result) : Type 0 where
   -- at most the draws lent are used, those passed over among them, and past 8,192 bytes nothing is written
   pub few-draws : a .used ≤ length ds
   pub few-bytes : drop 8192 (a .output) ≡ replicate (room - 8192) 0
-  -- and the code is one of the table's
-  pub known-code : a .code ≤ 10
 
 pub all-sure : (ds : List ℕ) → all-under sure-end ds ≡ true → sure ds ≡ length ds
 unfolding all-under sure
@@ -74,6 +72,7 @@ few-messages a m PeerDisconnected = omega arith
 few-messages a m RequestJoin = omega arith
 few-messages a m UpdatePeerData = omega arith
 few-messages a m Quit = omega arith
+few-messages a m Pin = omega arith
 
 no-message : (a m : ℕ) → kind-number a m none ≤ a + 9
 unfolding kind-number
@@ -82,14 +81,13 @@ no-message a m = omega arith
 pub pays-all : (a : ℕ) (e : Rec) → Pays a (a + 9) e
 pays-all a e = by-kind (λ (o : Option EventKind). kind-number a (e .message) o ≤ a + 9) (e .kind) (λ _. no-message a (e .message)) (λ k _. few-messages a (e .message) k)
 
-enough-refusal : (ds : List ℕ) (c room : ℕ) (s : Station) → (c ≡ 5 → sure ds < 512) → (c ≡ 9 → room < 8192) → c ≤ 10 → Enough ds room (refusal c s room)
+enough-refusal : (ds : List ℕ) (c room : ℕ) (s : Station) → (c ≡ 5 → sure ds < 512) → (c ≡ 9 → room < 8192) → Enough ds room (refusal c s room)
 unfolding refusal zeros
-enough-refusal ds c room s f g h = record {
+enough-refusal ds c room s f g = record {
   no-five = λ l a e. absurd (omega (arith, f e, all-sure ds a));
   no-nine = λ l e. absurd (omega (arith, g e));
   few-draws = omega arith;
   few-bytes = drop-zeros 8192 room (room - 8192) refl;
-  known-code = h;
 }
 
 module _ (s : Station) (ok : station-ok s ≡ true) (ds : List ℕ) (room : ℕ) where
@@ -105,9 +103,8 @@ module _ (s : Station) (ok : station-ok s ≡ true) (ds : List ℕ) (room : ℕ)
         no-nine = λ l f. omega arith;
         few-draws = k .codes .within;
         few-bytes = rw (k .codes .space) (rest-zero (r .out) room (omega (arith, g .bytes-left)));
-        known-code = omega arith;
       })
-      (λ z. rw (k .codes .space) (enough-refusal ds (r .code) room s (k .codes .five) (k .codes .nine) (k .codes .high)))
+      (λ z. rw (k .codes .space) (enough-refusal ds (r .code) room s (k .codes .five) (k .codes .nine)))
 
   -- With 512 draws below 2^32 - 32 and 8,192 bytes lent, no event is answered 5 or 9; and whatever is lent, no event uses more draws or past 8,192 bytes.
   pub enough : (b : List ℕ) → all-under 256 b ≡ true → Enough ds room (handle s b ds room)
@@ -115,5 +112,5 @@ module _ (s : Station) (ok : station-ok s ≡ true) (ds : List ℕ) (room : ℕ)
   enough b bytes =
       rw (choose-yes (station-ok s) (handle-reading (read-event b) s ds room) (refusal 2 s room) ok)
       (by-reading b bytes (λ (x : Reading). Enough ds room (handle-reading x s ds room))
-      (λ c l h. enough-refusal ds c room s (λ e. absurd (omega arith)) (λ e. absurd (omega arith)) (omega arith))
+      (λ c l h. enough-refusal ds c room s (λ e. absurd (omega arith)) (λ e. absurd (omega arith)))
       (λ w. enough-event _ w))

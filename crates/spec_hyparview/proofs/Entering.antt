@@ -21,8 +21,8 @@ use Rattle.spec_hyparview.specs.Budgets.{bare, single, freeing, entering
 use Rattle.spec_hyparview.specs.Peers as P
 use Rattle.spec_hyparview.specs.Active as A
 use Rattle.base_lists.proofs.Members.{count-push-new}
-use Rattle.spec_hyparview.proofs.Law.{Short, Small, law-alive, law-recent, law-fill, law-short}
-use Rattle.spec_hyparview.proofs.Changes.{unmark, renew-recent, small-or}
+use Rattle.spec_hyparview.proofs.Law.{Short, Small, law-alive, law-recent, law-fill, law-short, law-pins}
+use Rattle.spec_hyparview.proofs.Changes.{unmark, renew-recent, pins-stay, small-or}
 use Rattle.spec_hyparview.proofs.Told.{up-after, note, sent-after}
 use Rattle.spec_hyparview.proofs.Invariant.{Fixed, Terms, busy, calm, Ok, with-inside, with-slots}
 use Rattle.spec_hyparview.proofs.Keeping.{ease, ok-if, ok-on, ok-map, ok-tell}
@@ -70,7 +70,7 @@ module _ {q : Fixed} {m b d : ℕ} where
           bound = omega (arith, h .tally .bound, length-append act (p ∷ []));
         };
       })
-      (λ w. law-recent (law-alive w (unmark p (w .alive-ok))) (renew-recent p (w .recent-ok))) k)
+      (λ w. law-pins (law-recent (law-alive w (unmark p (w .alive-ok))) (renew-recent p (w .recent-ok))) (pins-stay p (w .pins-ok))) k)
 
   -- what the tests of `add-active` promise
   pub invite : {ba : List ℕ} (p : ℕ) {r : Run} → p < peers-end → is-me p (r .station) ≡ false → in-active p (r .station) ≡ false → Ok q (busy [] ba [] 0 0) m b d r → Ok q (busy (p ∷ []) ba [] 0 0) m b d r

@@ -204,7 +204,7 @@ module _ {k : ℕ} where
   fit-settle random p h = fit-demote-alive p (fit-send-disconnect p true h)
 
   fit-remove-at : (i : ℕ) (why : Reason) {r : Run} → Fits (k + 1) r → Fits k (A.remove-active-by-index i why r)
-  unfolding A.remove-active-by-index A.drop-active A.swap-active
+  unfolding A.remove-active-by-index A.drop-active A.swap-active A.leave-active
   fit-remove-at i why h = fit-settle why _ (fit-emit _ (fit-on (A.swap-active i) (λ s. omega arith) h))
 
   fit-remove-active : (p : ℕ) (why : Reason) {r : Run} → Fits (k + 1) r → Fits k (A.remove-active p why r)
@@ -272,8 +272,14 @@ module _ {k : ℕ} where
   unfolding E.update-own-data
   fit-update d h = fit-on (E.update-own-data d) (λ s. omega arith) h
 
+  pub fit-pin : (p : ℕ) {r : Run} → Fits k r → Fits k (E.handle-pin p r)
+  unfolding E.handle-pin E.require-neighbor E.pin-neighbor E.note-pin
+  fit-pin p h =
+      fit-on (E.note-pin p) (λ s. omega arith)
+      (fit-require 18 (λ e. omega arith) (λ e. omega arith) _ (fit-require 17 (λ e. omega arith) (λ e. omega arith) _ h))
+
   fit-quit-all : (ps : List ℕ) {r : Run} → Fits k r → Fits k (E.quit-all ps r)
-  unfolding E.quit-all E.quit-one E.remove-neighbor
+  unfolding E.quit-all E.quit-one E.remove-neighbor A.leave-active
   fit-quit-all [] h = h
   fit-quit-all (p ∷ ps) h = fit-quit-all ps (fit-send-disconnect p false (fit-on (E.remove-neighbor p) (λ s. omega arith) h))
 

@@ -34,7 +34,7 @@ use Rattle.spec_hyparview.proofs.Narrow as N
 use Rattle.spec_hyparview.proofs.Narrow.{Peer, Peers, no-peer, no-peers, HeldData, Named, at, change, change-own, change-held, change-pace, change-next-join, named-infos}
 use Rattle.spec_hyparview.proofs.Forms.{form-join, form-forward, form-shuffle, form-shuffle-timer, form-maintenance-timer, form-retry-timer}
 use Rattle.spec_hyparview.proofs.Keeping.{seven, ten}
-use Rattle.spec_hyparview.proofs.Formed.{Formed, either, either-way, alter, claim, drew, drew-one-of, drew-shuffle, wrote, wrote-if, wrote-all, picked-peer, shuffled-peers}
+use Rattle.spec_hyparview.proofs.Formed.{Formed, either, either-way, alter, asked, claim, drew, drew-one-of, drew-shuffle, wrote, wrote-if, wrote-all, picked-peer, shuffled-peers}
 use Rattle.spec_hyparview.proofs.FormedSteps.{drop-data-narrow, drop-mark-narrow, remove-passive-narrow, mark-alive-narrow, formed-insert-peer-info, formed-forget, formed-add-passive, formed-add-nodes, formed-drop-passive, formed-join, formed-send-shuffle-reply, formed-send-disconnect, formed-send-neighbor, formed-refill, formed-start-refill, formed-clear-refused, formed-remove-active, formed-add-active}
 
 -- a walk's hops left, one less
@@ -146,11 +146,15 @@ module _ {ds es : List ℕ} where
   unfolding E.update-own-data
   formed-update d h k = alter (E.update-own-data d) (λ w. change-own w h) k
 
+  pub formed-pin : (p : ℕ) {r : Run} → Peer p → Formed ds es r → Formed ds es (E.handle-pin p r)
+  unfolding E.handle-pin E.require-neighbor E.pin-neighbor E.note-pin
+  formed-pin p l k = alter (E.note-pin p) (λ w. change w N.pins _ (all-insert Peer p _ l (at w N.pins))) (asked 18 _ (asked 17 _ k))
+
   formed-quit-all : (ps : List ℕ) {r : Run} → Peers ps → Formed ds es r → Formed ds es (E.quit-all ps r)
-  unfolding E.quit-all E.quit-one E.remove-neighbor All
+  unfolding E.quit-all E.quit-one E.remove-neighbor A.leave-active All
   formed-quit-all [] a k = k
   formed-quit-all (p ∷ ps) a k =
-      formed-quit-all ps (a .1) (formed-send-disconnect p _ (a .0) (alter (E.remove-neighbor p) (λ w. change w N.active _ (all-remove Peer no-peer p _ (at w N.active))) k))
+      formed-quit-all ps (a .1) (formed-send-disconnect p _ (a .0) (alter (E.remove-neighbor p) (λ w. change (change w N.pins _ (all-without Peer p _ (at w N.pins))) N.active _ (all-remove Peer no-peer p _ (at w N.active))) k))
 
   pub formed-quit : {r : Run} → Formed ds es r → Formed ds es (E.handle-quit r)
   unfolding E.handle-quit E.clear-all keys Each

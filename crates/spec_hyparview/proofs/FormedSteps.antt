@@ -199,10 +199,10 @@ module _ {ds : List ℕ} where
   formed-settle random p l k = formed-demote-alive p l (formed-send-disconnect p true l k)
 
   formed-remove-at : (i : ℕ) (why : Reason) {r : Run} → Formed ds [] r → Formed ds (by-removing-at i why r) (A.remove-active-by-index i why r)
-  unfolding A.remove-active-by-index A.drop-active A.swap-active by-removing-at
+  unfolding A.remove-active-by-index A.drop-active A.swap-active A.leave-active by-removing-at
   formed-remove-at i why {r} k =
       let l = all-get Peer (r .station .active) i 0 no-peer (at (k .narrow) N.active) in
-      formed-settle why _ l (wrote _ refl (form-down l) (alter (A.swap-active i) (λ w. change w N.active _ (all-swap-remove Peer no-peer i _ (at w N.active))) k))
+      formed-settle why _ l (wrote _ refl (form-down l) (alter (A.swap-active i) (λ w. change (change w N.pins _ (all-without Peer _ _ (at w N.pins))) N.active _ (all-swap-remove Peer no-peer i _ (at w N.active))) k))
 
 module _ {ds es : List ℕ} where
   pub formed-clear-refused : {r : Run} → Formed ds es r → Formed ds es (on A.clear-refused r)

@@ -11,7 +11,7 @@ use Rattle.base_lists.proofs.Choice.{choose-yes, choose-no}
 use Rattle.base_lists.specs.Tests.{All}
 use Rattle.base_lists.proofs.Maps.{all-retain}
 use Rattle.base_peer.specs.Data.{Node, bytes-of}
-use Rattle.record.specs.Kinds.{EventKind, Message, DoShuffle, DoMaintenance, PendingNeighborRequest, RetryJoin, PeerDisconnected, RequestJoin, UpdatePeerData, Quit, kind-byte}
+use Rattle.record.specs.Kinds.{EventKind, Message, DoShuffle, DoMaintenance, PendingNeighborRequest, RetryJoin, PeerDisconnected, RequestJoin, UpdatePeerData, Quit, Pin, kind-byte}
 use Rattle.record.specs.Format.{Rec}
 use Rattle.record.proofs.ByKind.{by-kind}
 use Rattle.record.specs.InForm.{InForm, header-in}
@@ -24,7 +24,7 @@ use Rattle.spec_hyparview.proofs.Narrow.{no-peer, no-data, HeldData, Na
 use Rattle.spec_hyparview.proofs.Formed.{Formed, either, either-way, alter}
 use Rattle.base_lists.proofs.Members.{each-retain}
 use Rattle.spec_hyparview.proofs.Narrow as N
-use Rattle.spec_hyparview.proofs.FormedEvents.{formed-on-join, formed-on-forward-join, formed-on-shuffle, formed-on-shuffle-reply, formed-on-neighbor, formed-on-disconnect, formed-handle-join, formed-closed, formed-update, formed-quit, formed-neighbor-timer, formed-retry-join, formed-schedule-shuffle, formed-schedule-maintenance, formed-shuffle-timer, formed-maintenance-timer}
+use Rattle.spec_hyparview.proofs.FormedEvents.{formed-on-join, formed-on-forward-join, formed-on-shuffle, formed-on-shuffle-reply, formed-on-neighbor, formed-on-disconnect, formed-handle-join, formed-closed, formed-update, formed-pin, formed-quit, formed-neighbor-timer, formed-retry-join, formed-schedule-shuffle, formed-schedule-maintenance, formed-shuffle-timer, formed-maintenance-timer}
 
 first-named : (ns : List Node) → All Named ns → Named (H.first-node ns)
 unfolding H.first-node All bytes-of
@@ -72,6 +72,7 @@ module _ (e : Rec) (f : InForm e) (few : length (e .nodes) ≤ 32) where
     formed-kind RequestJoin z = quiet _ z (λ y. omega arith) (λ y. omega arith) (formed-handle-join _ (f .peer) k)
     formed-kind UpdatePeerData z = quiet _ z (λ y. omega arith) (λ y. omega arith) (formed-update _ data-held k)
     formed-kind Quit z = quiet _ z (λ y. omega arith) (λ y. omega arith) (formed-quit k)
+    formed-kind Pin z = quiet _ z (λ y. omega arith) (λ y. omega arith) (formed-pin _ (f .peer) k)
 
     formed-dispatch : Formed ds (evictions e r) (H.dispatch e r)
     unfolding H.dispatch

@@ -22,29 +22,34 @@ use Rattle.spec_hyparview.proofs.Law.{Lawful}
 use Rattle.spec_hyparview.proofs.Told.{spell, note, up-after, sent-after, one-more}
 use Rattle.spec_hyparview.proofs.Invariant.{Fixed, Terms, Core, Good, Told, Roomy, Codes, Ok, spent}
 
--- codes 6, 7, 8 and 10
+-- codes 6, 7, 8, 10, 17 and 18
 pub record Plain (c : ℕ) : Type 0 where
   pub low : 5 ≤ c
-  pub high : c ≤ 10
   pub not-five : c ≡ 5 → ⊥
   pub not-nine : c ≡ 9 → ⊥
 
 pub six : Plain 6
-six = record { low = omega arith; high = omega arith; not-five = λ e. omega arith; not-nine = λ e. omega arith }
+six = record { low = omega arith; not-five = λ e. omega arith; not-nine = λ e. omega arith }
 
 pub seven : Plain 7
-seven = record { low = omega arith; high = omega arith; not-five = λ e. omega arith; not-nine = λ e. omega arith }
+seven = record { low = omega arith; not-five = λ e. omega arith; not-nine = λ e. omega arith }
 
 pub eight : Plain 8
-eight = record { low = omega arith; high = omega arith; not-five = λ e. omega arith; not-nine = λ e. omega arith }
+eight = record { low = omega arith; not-five = λ e. omega arith; not-nine = λ e. omega arith }
 
 pub ten : Plain 10
-ten = record { low = omega arith; high = omega arith; not-five = λ e. omega arith; not-nine = λ e. omega arith }
+ten = record { low = omega arith; not-five = λ e. omega arith; not-nine = λ e. omega arith }
+
+pub seventeen : Plain 17
+seventeen = record { low = omega arith; not-five = λ e. omega arith; not-nine = λ e. omega arith }
+
+pub eighteen : Plain 18
+eighteen = record { low = omega arith; not-five = λ e. omega arith; not-nine = λ e. omega arith }
 
 module _ {q : Fixed} {t : Terms} {m b d : ℕ} where
-  pub ok-refuse : (c : ℕ) (r : Run) → 5 ≤ c → c ≤ 10 → (c ≡ 5 → sure (q .draws-lent) < 512) → (c ≡ 5 → Roomy (r .station)) → (c ≡ 9 → q .room-lent < 8192) → Codes q r → Ok q t m b d (with-code c r)
-  ok-refuse c r l h f o n k =
-      record { good = λ e. absurd (omega arith); codes = record { lent = k .lent; within = k .within; space = k .space; five = f; roomy = o; nine = n; low = λ w. l; high = h } }
+  pub ok-refuse : (c : ℕ) (r : Run) → 5 ≤ c → (c ≡ 5 → sure (q .draws-lent) < 512) → (c ≡ 5 → Roomy (r .station)) → (c ≡ 9 → q .room-lent < 8192) → Codes q r → Ok q t m b d (with-code c r)
+  ok-refuse c r l f o n k =
+      record { good = λ e. absurd (omega arith); codes = record { lent = k .lent; within = k .within; space = k .space; five = f; roomy = o; nine = n; low = λ w. l } }
 
   pub ok-if : (test : Bool) {x y : Run} → (test ≡ true → Ok q t m b d x) → (test ≡ false → Ok q t m b d y) → Ok q t m b d (choose test x y)
   ok-if test f g = by-choice (Ok q t m b d) test f g
@@ -124,7 +129,7 @@ module _ {q : Fixed} {t : Terms} {m b d : ℕ} where
           bytes-left = w .bytes-left;
           draws-left = w .draws-left;
         };
-        codes = record { lent = k .codes .lent; within = k .codes .within; space = k .codes .space; five = k .codes .five; roomy = λ y. absurd (omega (arith, y, z)); nine = k .codes .nine; low = k .codes .low; high = k .codes .high };
+        codes = record { lent = k .codes .lent; within = k .codes .within; space = k .codes .space; five = k .codes .five; roomy = λ y. absurd (omega (arith, y, z)); nine = k .codes .nine; low = k .codes .low };
       })
       (λ e. record { good = λ z. absurd (eqb-false (r .code) 0 e z); codes = k .codes })
 
@@ -148,9 +153,9 @@ module _ {q : Fixed} {t : Terms} {m b d : ℕ} where
           bytes-left = w .bytes-left;
           draws-left = omega (arith, w .draws-left, l .taken, ap sure (take-add (r .used) n (r .draws)), sure-append (take (r .used) (r .draws)) (take n (drop (r .used) (r .draws))));
         };
-        codes = record { lent = i .codes .lent; within = omega (arith, leb-true (r .used + n) (length (r .draws)) e, ap length (i .codes .lent)); space = i .codes .space; five = i .codes .five; roomy = λ y. absurd (omega (arith, y, z)); nine = i .codes .nine; low = i .codes .low; high = i .codes .high };
+        codes = record { lent = i .codes .lent; within = omega (arith, leb-true (r .used + n) (length (r .draws)) e, ap length (i .codes .lent)); space = i .codes .space; five = i .codes .five; roomy = λ y. absurd (omega (arith, y, z)); nine = i .codes .nine; low = i .codes .low };
       })
-      (λ e. ok-refuse 5 r (omega arith) (omega arith) (λ y. omega (arith, ap sure (i .codes .lent), w .draws-left, sure-at (r .used) (r .draws), l .short (omega (arith, i .codes .within, ap length (i .codes .lent), length-drop (r .used) (r .draws), leb-false (r .used + n) (length (r .draws)) e))))
+      (λ e. ok-refuse 5 r (omega arith) (λ y. omega (arith, ap sure (i .codes .lent), w .draws-left, sure-at (r .used) (r .draws), l .short (omega (arith, i .codes .within, ap length (i .codes .lent), length-drop (r .used) (r .draws), leb-false (r .used + n) (length (r .draws)) e))))
       (λ y. let c = w .core in record { active-few = omega (arith, c .seats .slots-left, c .still .ranges .few-slots); passive-few = omega (arith, c .seats .places-left, c .still .ranges .few-places); recent-few = omega (arith, w .law .recent-ok .few) })
       (λ y. absurd (omega arith)) (i .codes)))
 
@@ -166,7 +171,7 @@ module _ {q : Fixed} {t : Terms} {m b d : ℕ} where
   unfolding require
   ok-require {c} p test {r} k =
       ok-guard (k .codes) (λ z. ok-if test (λ e. k)
-      (λ e. ok-refuse c r (p .low) (p .high) (λ y. absurd (p .not-five y)) (λ y. absurd (p .not-five y)) (λ y. absurd (p .not-nine y)) (k .codes)))
+      (λ e. ok-refuse c r (p .low) (λ y. absurd (p .not-five y)) (λ y. absurd (p .not-five y)) (λ y. absurd (p .not-nine y)) (k .codes)))
 
 -- what a test that was passed says
 pub require-fine : {c : ℕ} → Plain c → (test : Bool) (r : Run) → (require c test r) .code ≡ 0 → (require c test r ≡ r) × (test ≡ true)
@@ -224,7 +229,7 @@ codes-on : {q : Fixed} (f : Station → Station) {r : Run} → Codes q r → Cod
 unfolding on guard
 codes-on {q} f {r} c =
     by-choice (Codes q) (eqb (r .code) 0)
-    (λ e. record { lent = c .lent; within = c .within; space = c .space; five = c .five; roomy = λ y. absurd (omega (arith, y, eqb-true (r .code) 0 e)); nine = c .nine; low = c .low; high = c .high }) (λ e. c)
+    (λ e. record { lent = c .lent; within = c .within; space = c .space; five = c .five; roomy = λ y. absurd (omega (arith, y, eqb-true (r .code) 0 e)); nine = c .nine; low = c .low }) (λ e. c)
 
 -- a record of at most n bytes
 module _ {q : Fixed} {u : Terms} {m b d : ℕ} (e : Rec) (n : ℕ) where
@@ -234,9 +239,9 @@ module _ {q : Fixed} {u : Terms} {m b d : ℕ} (e : Rec) (n : ℕ) where
       ok-guard c (λ z. ok-if _
       (λ f. record {
         good = λ y. h z .1;
-        codes = record { lent = c .lent; within = c .within; space = c .space; five = c .five; roomy = λ y. absurd (omega (arith, y, z)); nine = c .nine; low = c .low; high = c .high };
+        codes = record { lent = c .lent; within = c .within; space = c .space; five = c .five; roomy = λ y. absurd (omega (arith, y, z)); nine = c .nine; low = c .low };
       })
-      (λ f. ok-refuse 9 r (omega arith) (omega arith) (λ y. absurd (omega arith)) (λ y. absurd (omega arith)) (λ y. omega (arith, c .space, h z .0, leb-false (length (r .out) + size e) (r .room) f)) c))
+      (λ f. ok-refuse 9 r (omega arith) (λ y. absurd (omega arith)) (λ y. absurd (omega arith)) (λ y. omega (arith, c .space, h z .0, leb-false (length (r .out) + size e) (r .room) f)) c))
 
   said : {t : Terms} {k : ℕ} {s v : Station} {out : List ℕ} {drawn : ℕ} → size e ≤ n → (9 ≤ e .kind → e .kind ≤ 10 → e .peer < peers-end)
       → ((o : List Rec) → Good q t k s o → Good q u m v (e ∷ o)) → (Lawful s → Lawful v) → Told q t k (b + n) d s out drawn

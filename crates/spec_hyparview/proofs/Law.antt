@@ -5,12 +5,12 @@ use Prim.Native.Nat.{ℕ}
 use Rattle.base_peer.specs.Data.{Data, Node}
 use Rattle.spec_hyparview.specs.Station.{Refill}
 unfoldable pub use Rattle.spec_hyparview.specs.Invariant.{Short, Small}
-pub use Rattle.spec_hyparview.specs.Invariant.{InOrder, Numbered, Requests, HeldData, Refused, Recent, Pace, Passes, Law, Lawful}
+pub use Rattle.spec_hyparview.specs.Invariant.{InOrder, Numbered, Requests, HeldData, Refused, Recent, Pace, Passes, Pinned, Law, Lawful}
 
 -- one part changed, by tools/make/layout.py
-module _ {me top : ℕ} {own : Data} {req : List (ℕ × ℕ)} {nreq : ℕ} {joi : List (ℕ × ℕ)} {njoi : ℕ} {dat : List (ℕ × List ℕ)} {ali ref : List ℕ} {fill : Refill} {rec : List ℕ} {int alone short : ℕ}
-    (h : Law me top own req nreq joi njoi dat ali ref fill rec int alone short) where
-  pub law-requests : {v : List (ℕ × ℕ)} {n : ℕ} → Requests v n → Law me top own v n joi njoi dat ali ref fill rec int alone short
+module _ {me top : ℕ} {own : Data} {req : List (ℕ × ℕ)} {nreq : ℕ} {joi : List (ℕ × ℕ)} {njoi : ℕ} {dat : List (ℕ × List ℕ)} {ali ref : List ℕ} {fill : Refill} {rec : List ℕ} {int alone short cap : ℕ} {act pin : List ℕ}
+    (h : Law me top own req nreq joi njoi dat ali ref fill rec int alone short cap act pin) where
+  pub law-requests : {v : List (ℕ × ℕ)} {n : ℕ} → Requests v n → Law me top own v n joi njoi dat ali ref fill rec int alone short cap act pin
   law-requests x = record {
     requests-ok = x;
     joins-ok = h .joins-ok;
@@ -23,9 +23,10 @@ module _ {me top : ℕ} {own : Data} {req : List (ℕ × ℕ)} {nreq : ℕ} {joi
     pace-ok = h .pace-ok;
     alone-ok = h .alone-ok;
     short-ok = h .short-ok;
+    pins-ok = h .pins-ok;
   }
 
-  pub law-joins : {v : List (ℕ × ℕ)} {n : ℕ} → Numbered v n → Law me top own req nreq v n dat ali ref fill rec int alone short
+  pub law-joins : {v : List (ℕ × ℕ)} {n : ℕ} → Numbered v n → Law me top own req nreq v n dat ali ref fill rec int alone short cap act pin
   law-joins x = record {
     requests-ok = h .requests-ok;
     joins-ok = x;
@@ -38,9 +39,10 @@ module _ {me top : ℕ} {own : Data} {req : List (ℕ × ℕ)} {nreq : ℕ} {joi
     pace-ok = h .pace-ok;
     alone-ok = h .alone-ok;
     short-ok = h .short-ok;
+    pins-ok = h .pins-ok;
   }
 
-  pub law-held : {v : List (ℕ × List ℕ)} → HeldData me v → Law me top own req nreq joi njoi v ali ref fill rec int alone short
+  pub law-held : {v : List (ℕ × List ℕ)} → HeldData me v → Law me top own req nreq joi njoi v ali ref fill rec int alone short cap act pin
   law-held x = record {
     requests-ok = h .requests-ok;
     joins-ok = h .joins-ok;
@@ -53,9 +55,10 @@ module _ {me top : ℕ} {own : Data} {req : List (ℕ × ℕ)} {nreq : ℕ} {joi
     pace-ok = h .pace-ok;
     alone-ok = h .alone-ok;
     short-ok = h .short-ok;
+    pins-ok = h .pins-ok;
   }
 
-  pub law-own : {v : Data} → Short v → Law me top v req nreq joi njoi dat ali ref fill rec int alone short
+  pub law-own : {v : Data} → Short v → Law me top v req nreq joi njoi dat ali ref fill rec int alone short cap act pin
   law-own x = record {
     requests-ok = h .requests-ok;
     joins-ok = h .joins-ok;
@@ -68,9 +71,10 @@ module _ {me top : ℕ} {own : Data} {req : List (ℕ × ℕ)} {nreq : ℕ} {joi
     pace-ok = h .pace-ok;
     alone-ok = h .alone-ok;
     short-ok = h .short-ok;
+    pins-ok = h .pins-ok;
   }
 
-  pub law-alive : {v : List ℕ} → InOrder v → Law me top own req nreq joi njoi dat v ref fill rec int alone short
+  pub law-alive : {v : List ℕ} → InOrder v → Law me top own req nreq joi njoi dat v ref fill rec int alone short cap act pin
   law-alive x = record {
     requests-ok = h .requests-ok;
     joins-ok = h .joins-ok;
@@ -83,9 +87,10 @@ module _ {me top : ℕ} {own : Data} {req : List (ℕ × ℕ)} {nreq : ℕ} {joi
     pace-ok = h .pace-ok;
     alone-ok = h .alone-ok;
     short-ok = h .short-ok;
+    pins-ok = h .pins-ok;
   }
 
-  pub law-refused : {v : List ℕ} → Refused v → Law me top own req nreq joi njoi dat ali v fill rec int alone short
+  pub law-refused : {v : List ℕ} → Refused v → Law me top own req nreq joi njoi dat ali v fill rec int alone short cap act pin
   law-refused x = record {
     requests-ok = h .requests-ok;
     joins-ok = h .joins-ok;
@@ -98,9 +103,10 @@ module _ {me top : ℕ} {own : Data} {req : List (ℕ × ℕ)} {nreq : ℕ} {joi
     pace-ok = h .pace-ok;
     alone-ok = h .alone-ok;
     short-ok = h .short-ok;
+    pins-ok = h .pins-ok;
   }
 
-  pub law-fill : {v : Refill} → Small v → Law me top own req nreq joi njoi dat ali ref v rec int alone short
+  pub law-fill : {v : Refill} → Small v → Law me top own req nreq joi njoi dat ali ref v rec int alone short cap act pin
   law-fill x = record {
     requests-ok = h .requests-ok;
     joins-ok = h .joins-ok;
@@ -113,9 +119,10 @@ module _ {me top : ℕ} {own : Data} {req : List (ℕ × ℕ)} {nreq : ℕ} {joi
     pace-ok = h .pace-ok;
     alone-ok = h .alone-ok;
     short-ok = h .short-ok;
+    pins-ok = h .pins-ok;
   }
 
-  pub law-recent : {v : List ℕ} → Recent v → Law me top own req nreq joi njoi dat ali ref fill v int alone short
+  pub law-recent : {v : List ℕ} → Recent v → Law me top own req nreq joi njoi dat ali ref fill v int alone short cap act pin
   law-recent x = record {
     requests-ok = h .requests-ok;
     joins-ok = h .joins-ok;
@@ -128,9 +135,10 @@ module _ {me top : ℕ} {own : Data} {req : List (ℕ × ℕ)} {nreq : ℕ} {joi
     pace-ok = h .pace-ok;
     alone-ok = h .alone-ok;
     short-ok = h .short-ok;
+    pins-ok = h .pins-ok;
   }
 
-  pub law-pace : {v : ℕ} → Pace top v → Law me top own req nreq joi njoi dat ali ref fill rec v alone short
+  pub law-pace : {v : ℕ} → Pace top v → Law me top own req nreq joi njoi dat ali ref fill rec v alone short cap act pin
   law-pace x = record {
     requests-ok = h .requests-ok;
     joins-ok = h .joins-ok;
@@ -143,9 +151,10 @@ module _ {me top : ℕ} {own : Data} {req : List (ℕ × ℕ)} {nreq : ℕ} {joi
     pace-ok = x;
     alone-ok = h .alone-ok;
     short-ok = h .short-ok;
+    pins-ok = h .pins-ok;
   }
 
-  pub law-alone : {v : ℕ} → Passes v → Law me top own req nreq joi njoi dat ali ref fill rec int v short
+  pub law-alone : {v : ℕ} → Passes v → Law me top own req nreq joi njoi dat ali ref fill rec int v short cap act pin
   law-alone x = record {
     requests-ok = h .requests-ok;
     joins-ok = h .joins-ok;
@@ -158,9 +167,10 @@ module _ {me top : ℕ} {own : Data} {req : List (ℕ × ℕ)} {nreq : ℕ} {joi
     pace-ok = h .pace-ok;
     alone-ok = x;
     short-ok = h .short-ok;
+    pins-ok = h .pins-ok;
   }
 
-  pub law-short : {v : ℕ} → Passes v → Law me top own req nreq joi njoi dat ali ref fill rec int alone v
+  pub law-short : {v : ℕ} → Passes v → Law me top own req nreq joi njoi dat ali ref fill rec int alone v cap act pin
   law-short x = record {
     requests-ok = h .requests-ok;
     joins-ok = h .joins-ok;
@@ -173,6 +183,23 @@ module _ {me top : ℕ} {own : Data} {req : List (ℕ × ℕ)} {nreq : ℕ} {joi
     pace-ok = h .pace-ok;
     alone-ok = h .alone-ok;
     short-ok = x;
+    pins-ok = h .pins-ok;
+  }
+
+  pub law-pins : {v : List ℕ} {n : List ℕ} → Pinned cap v n → Law me top own req nreq joi njoi dat ali ref fill rec int alone short cap v n
+  law-pins x = record {
+    requests-ok = h .requests-ok;
+    joins-ok = h .joins-ok;
+    held-ok = h .held-ok;
+    own-ok = h .own-ok;
+    alive-ok = h .alive-ok;
+    refused-ok = h .refused-ok;
+    fill-ok = h .fill-ok;
+    recent-ok = h .recent-ok;
+    pace-ok = h .pace-ok;
+    alone-ok = h .alone-ok;
+    short-ok = h .short-ok;
+    pins-ok = x;
   }
 
 -- end

@@ -3,23 +3,24 @@
 use mathlib.Core.Path.{_≡_, refl, subst}
 use mathlib.Core.Bool.{true, false}
 use mathlib.Core.List.{List, [], _∷_}
-use Prim.Native.Nat.{ℕ, _+_, _<_}
+use Prim.Native.Nat.{ℕ, _+_, _≤_, _<_}
 use native.Mathlib.Omega.{arith}
 use lib.ListN.{length, getD}
 use Rattle.record.specs.Kinds.{NeighborDown, output-byte}
-use Rattle.base_lists.specs.Lists.{choose, null, count, mem, index-of}
+use Rattle.base_lists.specs.Lists.{choose, null, count, mem, without-all, index-of}
 use Rattle.base_lists.specs.Maps.{lookup}
 use Rattle.base_util.proofs.Chances.{pick-below}
-use Rattle.base_lists.proofs.Count.{is-self, count-at, count-swap, length-swap, count-without, index-lt}
-use Rattle.spec_hyparview.specs.Station.{recovery, in-active, is-alone}
-use Rattle.spec_hyparview.specs.Run.{Run, on, to-draw, one-of, notice}
+use Rattle.base_lists.proofs.Count.{is-self, count-at, count-swap, length-swap, count-without, length-without-all, index-lt}
+use Rattle.spec_hyparview.specs.Station.{Station, recovery, in-active, without-pin}
+use Rattle.spec_hyparview.specs.Run.{Run, on, to-draw, one-of, picked, notice}
 use Rattle.spec_hyparview.specs.Budgets.{bare, adding, asking, disconnecting, removing, freeing}
 use Rattle.spec_hyparview.specs.Peers as P
 use Rattle.spec_hyparview.specs.Active as A
 use Rattle.spec_hyparview.specs.Active.{Reason, connection-closed, disconnect-received, random}
-use Rattle.base_lists.proofs.Members.{null-yes, null-no}
-use Rattle.spec_hyparview.proofs.Law.{Short, Small, law-refused}
-use Rattle.spec_hyparview.proofs.Changes.{no-refusals, short-lookup}
+use Rattle.base_lists.proofs.Members.{null-yes, null-no, mem-yes}
+use Rattle.base_lists.proofs.Skips.{few-taken, count-left}
+use Rattle.spec_hyparview.proofs.Law.{Short, Small, Lawful, law-refused, law-pins}
+use Rattle.spec_hyparview.proofs.Changes.{no-refusals, short-lookup, unpin}
 use Rattle.spec_hyparview.proofs.Told.{up-after, note, sent-after}
 use Rattle.spec_hyparview.proofs.Invariant.{Fixed, Terms, busy, Ok, with-slots}
 use Rattle.spec_hyparview.proofs.Keeping.{ease, ok-if, ok-either, ok-on, ok-map, ok-fact, ok-one-of, ok-tell, one-of-station, on-code}
@@ -62,7 +63,7 @@ module _ {q : Fixed} {g ba : List ℕ} {sl m b d : ℕ} where
   ok-settle random n p k = absurd (n refl)
 
   pub ok-drop-active : (i : ℕ) {r : Run} → i < length (r .station .active) → Ok q (busy g ba [] sl 0) m (b + bare) d r → Ok q (busy g ba (getD (r .station .active) i 0 ∷ []) (sl + 1) 0) (m + 2) b d (A.drop-active i r)
-  unfolding A.drop-active A.swap-active up-after note sent-after count choose
+  unfolding A.drop-active A.swap-active A.leave-active up-after note sent-after count choose
   ok-drop-active i {r} l k =
       let act = r .station .active in
       let p = getD act i 0 in
@@ -92,7 +93,30 @@ module _ {q : Fixed} {g ba : List ℕ} {sl m b d : ℕ} where
           bound = omega (arith, h .tally .bound, length-swap act i);
         };
       })
-      (λ w. w) k
+      (λ w. law-pins w (unpin p (w .pins-ok) _ (λ x. omega (arith, count-swap x act i l)))) k
+
+-- 02, S-14: whoever has no pin is a neighbour, and so is whoever is picked
+pub free-active : (s : Station) (k : ℕ) → k < length (without-pin s) → mem (getD (without-pin s) k 0) (s .active) ≡ true
+unfolding without-pin
+free-active s k l =
+    let free = without-all (s .pins) (s .active) in
+    mem-yes _ (s .active) (omega (arith, count-at free k l, count-left (getD free k 0) (s .pins) (s .active)))
+
+pub picked-below : (r : Run) → null (without-pin (r .station)) ≡ false → index-of (picked (without-pin (r .station)) r) (r .station .active) < length (r .station .active)
+unfolding picked one-of
+picked-below r e =
+    let free = without-pin (r .station) in
+    index-lt _ (r .station .active) (free-active (r .station) _ (pick-below (length free) (to-draw r) (null-no free e)))
+
+few-free : (s : Station) → length (s .active) ≤ 32 → length (without-pin s) ≤ 32
+unfolding without-pin
+few-free s h = omega (arith, length-without-all (s .pins) (s .active), h)
+
+-- 02, S-14: a view without anybody to demote has a free place, so that a High arrival at a full one always finds a place
+pub free-or-unpinned : (s : Station) → Lawful s → 1 ≤ s .config .«active_view_capacity» → ((x : ℕ) → count x (s .active) ≤ 1) → null (without-pin s) ≡ true → length (s .active) + 1 ≤ s .config .«active_view_capacity»
+unfolding without-pin
+free-or-unpinned s w c h e =
+    omega (arith, c, w .pins-ok .few, few-taken (s .pins) (s .active) h, null-yes (without-all (s .pins) (s .active)) e)
 
 module _ {q : Fixed} {g ba : List ℕ} where
   pub ok-settle-random : {sl m b d : ℕ} (p : ℕ) {r : Run} → Ok q (busy g ba (p ∷ []) sl 0) (m + 2) (b + (disconnecting + adding)) (d + 39) r → Ok q (busy g ba [] sl 0) m b d (A.settle random p r)
@@ -115,14 +139,14 @@ module _ {q : Fixed} {g ba : List ℕ} where
 
   -- after it the active view has a free place
   pub ok-free-slot : {m b d : ℕ} {r : Run} → Ok q (busy g ba [] 0 0) m (b + freeing) (d + 40) r → Ok q (busy g ba [] 1 0) m b d (A.free-random-slot-in-active-view r)
-  unfolding A.free-random-slot-in-active-view A.remove-picked A.remove-active-by-index is-alone one-of
+  unfolding A.free-random-slot-in-active-view A.remove-picked A.remove-active-by-index
   ok-free-slot {m} {b} {d} {r} k =
-      let act = r .station .active in
-      ok-if (null act)
+      let n = length (without-pin (r .station)) in
+      ok-if (null (without-pin (r .station)))
       (λ e. ease (omega arith) (omega arith) (omega arith) (ok-map (λ o h w. record {
         still = h .still;
-        seats = with-slots (h .seats) (omega (arith, h .still .ranges .some-slot, null-yes act e));
+        seats = with-slots (h .seats) (free-or-unpinned (r .station) w (h .still .ranges .some-slot) (λ x. omega (arith, h .seats .one x)) e);
         waits = h .waits;
         tally = h .tally;
       }) k))
-      (λ e. ok-settle-random {sl = 1} _ (ok-drop-active {sl = 0} _ (rw (one-of-station (length act) r) (pick-below (length act) (to-draw r) (null-no act e))) (ok-one-of _ (λ o h l. omega (arith, h .seats .slots-left, h .still .ranges .few-slots)) (ease (omega arith) (omega arith) (omega arith) k))))
+      (λ e. ok-settle-random {sl = 1} _ (ok-drop-active {sl = 0} _ (rw (one-of-station n r) (picked-below r e)) (ok-one-of _ (λ o h l. few-free (r .station) (omega (arith, h .seats .slots-left, h .still .ranges .few-slots))) (ease (omega arith) (omega arith) (omega arith) k))))

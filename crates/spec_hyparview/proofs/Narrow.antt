@@ -85,6 +85,9 @@ alive = 8
 abbrev pub refused : ℕ
 refused = 9
 
+abbrev pub pins : ℕ
+pins = 10
+
 module _ {c : Config} {ls : List (List ℕ)} {own : List ℕ} {m : List (ℕ × List ℕ)} {int nr nj : ℕ} (h : Widths c ls own m int nr nj) where
   -- the list at a place
   pub at : (i : ℕ) → Peers (getD ls i [])

@@ -15,11 +15,11 @@ use Rattle.base_lists.proofs.Choice.{choose-yes, choose-no, split}
 use Rattle.base_lists.proofs.Count.{length-without, length-without-all}
 use Rattle.base_timing.specs.Timing.{join-retry-delay, maintenance-interval, next, backoff-due, delay}
 use Rattle.base_peer.specs.Data.{Data, Node}
-use Rattle.record.specs.Kinds.{EventKind, Message, DoShuffle, DoMaintenance, PendingNeighborRequest, RetryJoin, PeerDisconnected, RequestJoin, UpdatePeerData, Quit, NeighborUp, NeighborDown, Evicted, output-byte, kind-byte}
+use Rattle.record.specs.Kinds.{EventKind, Message, DoShuffle, DoMaintenance, PendingNeighborRequest, RetryJoin, PeerDisconnected, RequestJoin, UpdatePeerData, Quit, Pin, NeighborUp, NeighborDown, Evicted, output-byte, kind-byte}
 use Rattle.record.proofs.ByKind.{by-kind}
 use Rattle.record.specs.Format.{Rec, size-by}
 use Rattle.base_util.specs.Chances.{pick-draws, pick, shuffle, shuffle-draws}
-use Rattle.spec_hyparview.specs.Station.{Station, Refill, recovery, is-me, in-active, in-passive, in-view, is-requested, is-alone, active-is-full, passive-is-full, is-short}
+use Rattle.spec_hyparview.specs.Station.{Station, Refill, recovery, is-me, in-active, in-passive, in-view, is-requested, is-alone, active-is-full, passive-is-full, is-short, without-pin, is-pinned}
 use Rattle.spec_hyparview.specs.Invariant.{Roomy}
 use Rattle.spec_hyparview.specs.Run.{Run, on, emit, draw, require, drawn, to-draw, one-of, draw-one-of, picked, shuffled, draw-shuffle, emit-all, node, message, timer, notice, data-notice, flag, peer-infos}
 use Rattle.spec_hyparview.specs.Peers as P
@@ -246,29 +246,17 @@ plays-remove-active p why =
     by-station (λ s r. choose (in-active p s) (F.start-refill recovery (p ∷ []) (on A.clear-refused (A.remove-active-by-index (index-of p (s .active)) why r))) r)
     (λ s. either (in-active p s) (thens (plays-remove-at (index-of p (s .active)) why) (thens (changes A.clear-refused) (plays-start-refill recovery (p ∷ [])))) idle)
 
-removes : Run → Run
-removes r = A.remove-active-by-index (place (length (r .station .active)) r) random (draw-one-of (length (r .station .active)) r)
-
-plays-removes : Plays removes
-unfolding removes
-plays-removes = picks-place (λ s. s .active) (λ s o. o .active-few) (λ s i r. A.remove-active-by-index i random r) (λ s i. plays-remove-at i random)
-
-null-not : (xs : List ℕ) → null xs ≡ false → length xs ≡ 0 → ⊥
-unfolding null
-null-not [] e z = let y : _≡_ {A = ℕ} 0 1 = cc in omega arith
-null-not (x ∷ xs) e z = omega (arith, z)
-
-frees : (r : Run) → A.free-random-slot-in-active-view r ≡ choose (is-alone (r .station)) r (removes r)
-unfolding A.free-random-slot-in-active-view A.remove-picked removes is-alone
-frees r =
-    let n = length (r .station .active) in
-    let t = null (r .station .active) in
-    split t
-    (λ e. choose-yes t r _ e ∙ sym (choose-yes t r (removes r) e))
-    (λ e. choose-no t r _ e ∙ (ap (λ (i : ℕ). A.remove-active-by-index i random (draw-one-of n r)) (place-is n r (null-not (r .station .active) e)) ∙ sym (choose-no t r (removes r) e)))
+few-free : (s : Station) → Roomy s → length (without-pin s) ≤ 32
+unfolding without-pin
+few-free s o = omega (arith, length-without-all (s .pins) (s .active), o .active-few)
 
 plays-free : Plays A.free-random-slot-in-active-view
-plays-free = same-plays frees (by-station (λ s r. choose (is-alone s) r (removes r)) (λ s. either (is-alone s) idle plays-removes))
+unfolding A.free-random-slot-in-active-view A.remove-picked
+plays-free =
+    by-station
+    (λ s r. choose (null (without-pin s)) r (A.remove-active-by-index (index-of (picked (without-pin (r .station)) r) (r .station .active)) random (draw-one-of (length (without-pin (r .station))) r)))
+    (λ s. either (null (without-pin s)) idle
+    (picks-item without-pin few-free (λ s i r. A.remove-active-by-index (index-of i (s .active)) random r) (λ s i. plays-remove-at (index-of i (s .active)) random)))
 
 plays-enter-active : (p : ℕ) → Plays (A.enter-active p)
 unfolding A.enter-active
@@ -407,6 +395,12 @@ plays-closed p =
     (by-station (λ s r. choose (in-active p s) (A.remove-active p connection-closed r) (choose asked (F.refill-active-from-passive (p ∷ []) (E.lose-passive p r)) (E.lose-passive p r)))
     (λ s. either (in-active p s) (plays-remove-active p connection-closed) (either asked (thens (plays-lose-passive p) (plays-refill (p ∷ []))) (plays-lose-passive p)))))
 
+plays-pin : (p : ℕ) → Plays (E.handle-pin p)
+unfolding E.handle-pin E.require-neighbor E.pin-neighbor
+plays-pin p =
+    thens (by-station (λ s r. require 17 (in-active p s) r) (λ s. tests 17 (in-active p s) (λ e. omega (arith, e))))
+    (thens (by-station (λ s r. require 18 (is-pinned p s || E.pins-left s) r) (λ s. tests 18 (is-pinned p s || E.pins-left s) (λ e. omega (arith, e)))) (changes (E.note-pin p)))
+
 plays-quit-all : (ps : List ℕ) → Plays (E.quit-all ps)
 unfolding E.quit-all E.quit-one
 plays-quit-all [] = idle
@@ -515,6 +509,7 @@ plays-kind e PeerDisconnected = plays-closed (e .peer)
 plays-kind e RequestJoin = plays-handle-join (e .peer)
 plays-kind e UpdatePeerData = changes (E.update-own-data (H.first-data e))
 plays-kind e Quit = plays-quit
+plays-kind e Pin = plays-pin (e .peer)
 
 plays-dispatch : (e : Rec) → Plays (H.dispatch e)
 unfolding H.dispatch

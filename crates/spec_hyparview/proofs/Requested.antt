@@ -1,6 +1,6 @@
 -- What comes from the station's own side keeps what holds between events: a request to join, a closed connection, own data, and Quit.
 -- Assumes nothing.
-use mathlib.Core.Path.{_≡_, refl}
+use mathlib.Core.Path.{_≡_, refl, sym, subst}
 use mathlib.Core.Bool.{Bool, true, false}
 use mathlib.Core.List.{List, [], _∷_}
 use Prim.Native.Nat.{ℕ, _+_, _-_, _*_, _≤_, _<_}
@@ -10,21 +10,21 @@ use lib.Dec.{ltb}
 use Rattle.base_lists.specs.Lists.{choose, is, count, mem, without, remove, Rising}
 use Rattle.base_lists.specs.Maps.{keys, cut, Each}
 use Rattle.base_lists.proofs.Choice.{by-choice}
-use Rattle.base_lists.proofs.Count.{is-self, is-le, is-not, is-split, mem-false, count-remove, length-remove}
+use Rattle.base_lists.proofs.Count.{is-self, is-le, is-not, is-split, mem-true, mem-false, count-remove, length-remove}
 use Rattle.base_peer.specs.Data.{Data}
 use Rattle.record.specs.Format.{Rec}
-use Rattle.spec_hyparview.specs.Station.{Station, is-me, in-active, peers-end}
-use Rattle.spec_hyparview.specs.Run.{Run, on}
+use Rattle.spec_hyparview.specs.Station.{Station, is-me, in-active, most-pins, is-pinned, peers-end}
+use Rattle.spec_hyparview.specs.Run.{Run, on, require}
 use Rattle.spec_hyparview.specs.Budgets.{bare, single, disconnecting, removing}
 use Rattle.spec_hyparview.specs.Peers as P
-use Rattle.spec_hyparview.specs.Active.{connection-closed}
+use Rattle.spec_hyparview.specs.Active.{connection-closed, leave-active}
 use Rattle.spec_hyparview.specs.Messages.{drop-request}
 use Rattle.spec_hyparview.specs.Events as E
 use Rattle.base_lists.proofs.Members.{count-cut, count-put, count-length, length-remove-in, renewed}
-use Rattle.spec_hyparview.proofs.Law.{Numbered, Short, law-joins, law-requests, law-held, law-own, law-alive, law-refused}
-use Rattle.spec_hyparview.proofs.Changes.{cut-numbered, put-numbered, cut-held, no-refusals}
+use Rattle.spec_hyparview.proofs.Law.{Numbered, Short, law-joins, law-requests, law-held, law-own, law-alive, law-refused, law-pins}
+use Rattle.spec_hyparview.proofs.Changes.{cut-numbered, put-numbered, cut-held, no-refusals, unpin, add-pin}
 use Rattle.spec_hyparview.proofs.Invariant.{Fixed, Terms, calm, Good, Ok}
-use Rattle.spec_hyparview.proofs.Keeping.{ten, ease, ok-if, ok-either, ok-on, ok-map, ok-claim, ok-quiet}
+use Rattle.spec_hyparview.proofs.Keeping.{ten, seventeen, eighteen, ease, ok-if, ok-either, ok-on, ok-map, ok-claim, ok-require, require-fine, ok-quiet}
 use Rattle.spec_hyparview.proofs.Sends.{no-node, ok-join, ok-send-disconnect, ok-refill}
 use Rattle.spec_hyparview.proofs.Passive.{ok-drop-mark}
 use Rattle.spec_hyparview.proofs.Leaving.{ok-remove-active}
@@ -188,13 +188,22 @@ ok-update x l k = ok-on _ (λ o h. h) (λ w. law-own w l) k
 
 -- handle_quit: 0, since each neighbour that leaves gives back two
 
+module _ {q : Fixed} {t : Terms} {m b d : ℕ} where
+  pub ok-handle-pin : (p : ℕ) {r : Run} → Ok q t m b d r → Ok q t m b d (E.handle-pin p r)
+  unfolding E.handle-pin E.require-neighbor E.pin-neighbor E.note-pin E.pins-left is-pinned most-pins in-active
+  ok-handle-pin p {r} k =
+      let test = mem p (r .station .active) in
+      let here : (require 17 test r) .code ≡ 0 → 1 ≤ count p ((require 17 test r) .station .active) =
+      (λ z. let e = require-fine seventeen test r z in subst (λ (w : Run). 1 ≤ count p (w .station .active)) (sym (e .0)) (mem-true p (r .station .active) (e .1))) in
+      ok-claim eighteen _ (E.note-pin p) (λ z e o g w. (g, law-pins w (add-pin p (w .pins-ok) (here z) e))) (ok-require seventeen test k)
+
 -- while these are still active, though none is up
 abbrev pub quitting : List ℕ → Terms
 quitting ps = record { guest = []; barred = []; loose = []; inside = []; rooted = []; silent = ps; slots = 0; places = 0 }
 
 module _ {q : Fixed} {m b d : ℕ} where
   pub ok-remove-neighbor : (p : ℕ) (ps : List ℕ) {r : Run} → Ok q (quitting (p ∷ ps)) m b d r → Ok q (quitting ps) (m + 2) b d (on (E.remove-neighbor p) r)
-  unfolding E.remove-neighbor count
+  unfolding E.remove-neighbor leave-active count
   ok-remove-neighbor p ps {r} k =
       let act = r .station .active in
       ok-on _ (λ o h. let i : 1 ≤ count p act = omega (arith, h .tally .noted p, is-self p) in record {
@@ -221,7 +230,7 @@ module _ {q : Fixed} {m b d : ℕ} where
           bound = omega (arith, h .tally .bound, length-remove-in p act i, count-length p act);
         };
       })
-      (λ w. w) k
+      (λ w. law-pins w (unpin p (w .pins-ok) _ (λ x. omega (arith, count-remove x p act)))) k
 
 pub ok-quit-all : {q : Fixed} {m b d : ℕ} (ps : List ℕ) {r : Run} → Ok q (quitting ps) m (b + disconnecting * length ps) (d + 38 * length ps) r → Ok q (quitting []) m b d (E.quit-all ps r)
 unfolding E.quit-all E.quit-one

@@ -19,11 +19,11 @@ use Rattle.base_lists.proofs.Rising.{above-less}
 use Rattle.base_timing.specs.Timing.{in-range, within}
 use Rattle.base_timing.specs.declared.Config.{Config}
 use Rattle.base_peer.specs.Data.{Data, bytes-of}
-use Rattle.spec_hyparview.specs.Station.{Station, Refill, automatic, requests-left, recovery, peers-end, bytes-end, top-counter, top-passes}
+use Rattle.spec_hyparview.specs.Station.{Station, Refill, automatic, requests-left, recovery, peers-end, bytes-end, most-pins, top-counter, top-passes}
 use Rattle.spec_hyparview.specs.Rules as R
 use Rattle.spec_hyparview.specs.Rules.{station-ok}
 use Rattle.base_lists.proofs.Members.{both, negate, mem-yes, mem-no, rising-once}
-use Rattle.spec_hyparview.proofs.Law.{Lawful, Short, Small}
+use Rattle.spec_hyparview.proofs.Law.{Lawful, Short, Small, Pinned}
 use Rattle.spec_hyparview.proofs.Told.{up-after, sent-after}
 use Rattle.spec_hyparview.proofs.Narrow.{no-data, HeldData, Narrow}
 use Rattle.spec_hyparview.proofs.Invariant.{Ranges}
@@ -233,14 +233,14 @@ ranges-of c e =
 
 -- the invariant gives the test
 pub rules-of : {c : Config} {me : ℕ} {up : List ℕ} {sent allowed : ℕ} (s : Station) → in-range c ≡ true → Between c me up sent allowed s → station-ok s ≡ true
-unfolding station-ok R.rules R.settings-rule R.repeats-rule R.order-rule R.capacity-rule R.views-rule R.alive-rule R.few-rule R.joins-rule R.numbers-rule R.self-rule R.room-rule R.data-rule R.limit-rule R.interval-rule R.width-rule R.held-rule R.lists-under has within count up-after
+unfolding station-ok R.rules R.settings-rule R.repeats-rule R.order-rule R.capacity-rule R.views-rule R.alive-rule R.few-rule R.joins-rule R.numbers-rule R.self-rule R.room-rule R.data-rule R.limit-rule R.interval-rule R.width-rule R.held-rule R.pins-rule most-pins R.lists-under has within count up-after
 rules-of {c} s r b =
     let h = b .core in
     let w = b .law in
     let none-of-me : (xs : List ℕ) → count (s .me) xs ≡ 0 → not (mem (s .me) xs) ≡ true = (λ xs z. negate (mem (s .me) xs) (mem-no (s .me) xs z)) in
     also _ _ (subst (λ (k : Config). in-range k ≡ true) (sym (h .still .fixed)) r)
     (also _ _ (both _ _ (distinct-yes (s .active) (λ x. omega (arith, h .seats .one x))) (both _ _ (distinct-yes (s .passive) (λ x. omega (arith, h .seats .one x))) (both _ _ (distinct-yes (s .bootstrap) (h .waits .boots)) (distinct-yes (s .recent) (w .recent-ok .once)))))
-    (also _ _ (both _ _ (rising-yes _ (w .requests-ok .numbered .rise)) (both _ _ (rising-yes _ (w .joins-ok .rise)) (both _ _ (rising-yes _ (w .held-ok .rise)) (both _ _ (rising-yes _ (w .alive-ok .rise)) (rising-yes _ (w .refused-ok .rise))))))
+    (also _ _ (both _ _ (rising-yes _ (w .requests-ok .numbered .rise)) (both _ _ (rising-yes _ (w .joins-ok .rise)) (both _ _ (rising-yes _ (w .held-ok .rise)) (both _ _ (rising-yes _ (w .alive-ok .rise)) (both _ _ (rising-yes _ (w .refused-ok .rise)) (rising-yes _ (w .pins-ok .rise)))))))
     (also _ _ (both _ _ (le-leb (length (s .active)) (s .config .«active_view_capacity») (omega (arith, h .seats .slots-left))) (le-leb (length (s .passive)) (s .config .«passive_view_capacity») (omega (arith, h .seats .places-left))))
     (also _ _ (both _ _ (apart-yes (s .active) (s .passive) (λ x i. omega (arith, h .seats .one x))) (both _ _ (none-of-me (s .active) (omega (arith, h .seats .one (s .me), is-self (s .me)))) (none-of-me (s .passive) (omega (arith, h .seats .one (s .me), is-self (s .me))))))
     (also _ _ (all-in-yes (s .alive) (s .passive) (λ x. omega (arith, h .seats .marks x)))
@@ -253,7 +253,8 @@ rules-of {c} s r b =
     (also _ _ (limit-yes _ (w .fill-ok))
     (also _ _ (both _ _ (le-leb _ _ (w .pace-ok .low)) (le-leb _ _ (w .pace-ok .high)))
     (also _ _ (both _ _ (lists-yes peers-end _ (b .narrow .named)) (both _ _ (both _ _ (bytes-yes _ (b .narrow .mine .bytes)) (held-yes _ (b .narrow .held))) (both _ _ (le-leb _ _ (w .requests-ok .numbered .next-top)) (both _ _ (le-leb _ _ (w .joins-ok .next-top)) (both _ _ (le-leb _ _ (w .alone-ok .high)) (le-leb _ _ (w .short-ok .high)))))))
-    (also _ _ (b .covered) no-tests)))))))))))))))
+    (also _ _ (b .covered)
+    (also _ _ (both _ _ (all-in-yes (s .pins) (s .active) (w .pins-ok .among)) (le-leb _ _ (w .pins-ok .few))) no-tests))))))))))))))))
 
 -- the test gives the invariant, with the neighbours up, no message sent, and two allowed for each neighbour
 both-once : (a b : ℕ) → a ≤ 1 → (1 ≤ a → b ≡ 0) → b ≤ 1 → a + b ≤ 1
@@ -272,12 +273,26 @@ module _ (s : Station) (e : station-ok s ≡ true) where
   unfolding station-ok
   rule n = every-at (R.rules s) n e
 
+  pinned-of : Pinned (s .config .«active_view_capacity») (s .active) (s .pins)
+  unfolding R.rules R.repeats-rule R.order-rule R.pins-rule most-pins
+  pinned-of =
+      let o1 = and-right (rising (keys (s .requests))) _ (rule 2) in
+      let o2 = and-right (rising (keys (s .joins))) _ o1 in
+      let o3 = and-right (rising (keys (s .peer-data))) _ o2 in
+      let r : Rising (s .pins) = rising-true _ (and-right (rising (s .refused)) _ (and-right (rising (s .alive)) _ o3)) in
+      record {
+        rise = r;
+        among = λ x. within-once _ _ (rising-once (s .pins) r x) (all-in-true (s .pins) (s .active) (and-left _ _ (rule 16)) x);
+        few = leb-true _ _ (and-right (subset (s .pins) (s .active)) _ (rule 16));
+      }
+
   law-of : Lawful s
   unfolding R.rules R.repeats-rule R.order-rule R.few-rule R.numbers-rule R.self-rule R.room-rule R.data-rule R.limit-rule R.interval-rule R.width-rule has
   law-of =
       let o1 = and-right (rising (keys (s .requests))) _ (rule 2) in
       let o2 = and-right (rising (keys (s .joins))) _ o1 in
       let o3 = and-right (rising (keys (s .peer-data))) _ o2 in
+      let o4 = and-right (rising (s .alive)) _ o3 in
       let w1 = and-right (R.lists-under bytes-end (R.data-lists s)) _ (and-right (R.lists-under peers-end (R.peer-lists s)) _ (rule 14)) in
       let w2 = and-right (leb (s .next-request) top-counter) _ w1 in
       let w3 = and-right (leb (s .next-join) top-counter) _ w2 in
@@ -289,12 +304,13 @@ module _ (s : Station) (e : station-ok s ≡ true) where
         held-ok = record { rise = rising-true _ (and-left _ _ o2); few = leb-true _ _ (and-right (leb (length (s .refused)) 32) _ r1); shorts = short-true _ (and-left _ _ (rule 11)); not-own = mem-false (s .me) (keys (s .peer-data)) (not-true (mem (s .me) (keys (s .peer-data))) (rule 9)) };
         own-ok = data-true _ (and-right (R.all-short (s .peer-data)) _ (rule 11));
         alive-ok = record { rise = rising-true _ (and-left _ _ o3) };
-        refused-ok = record { rise = rising-true _ (and-right (rising (s .alive)) _ o3); few = leb-true _ _ (and-left _ _ r1) };
+        refused-ok = record { rise = rising-true _ (and-left _ _ o4); few = leb-true _ _ (and-left _ _ r1) };
         fill-ok = limit-true _ (rule 12);
         recent-ok = record { once = distinct-true (s .recent) d3; few = leb-true _ _ (and-right (leb (length (s .bootstrap)) 8) _ (rule 6)) };
         pace-ok = record { low = low-of _ _ _ (rule 13); high = high-of _ _ _ (rule 13) };
         alone-ok = record { high = leb-true _ _ (and-left _ _ w3) };
         short-ok = record { high = leb-true _ _ (and-right (leb (s .passes-alone) top-passes) _ w3) };
+        pins-ok = pinned-of;
       }
 
   narrow-of : Narrow s

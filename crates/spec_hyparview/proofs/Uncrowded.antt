@@ -17,7 +17,7 @@ use Rattle.base_lists.proofs.Count.{is-self, is-split, count-append, count-snoc
 use Rattle.base_lists.proofs.Maps.{length-keys}
 use Rattle.base_util.proofs.Chances.{pick-below}
 use Rattle.base_peer.specs.Data.{Data, Node}
-use Rattle.record.specs.Kinds.{EventKind, Message, DoShuffle, DoMaintenance, PendingNeighborRequest, RetryJoin, PeerDisconnected, RequestJoin, UpdatePeerData, Quit}
+use Rattle.record.specs.Kinds.{EventKind, Message, DoShuffle, DoMaintenance, PendingNeighborRequest, RetryJoin, PeerDisconnected, RequestJoin, UpdatePeerData, Quit, Pin}
 use Rattle.record.proofs.ByKind.{by-kind}
 use Rattle.record.specs.Format.{Rec}
 use Rattle.record.specs.Read.{Reading, read-event}
@@ -258,6 +258,7 @@ module _ (e : Rec) (w : Readable e) {r : Run} (h : Fine [] 0 r) where
   fit-kind RequestJoin = Fit.fit-handle-join _ fit-none
   fit-kind UpdatePeerData = Fit.fit-update _ fit-none
   fit-kind Quit = Fit.fit-quit fit-none
+  fit-kind Pin = Fit.fit-pin _ fit-none
 
   fit-dispatch : Fits 0 (H.dispatch e r)
   unfolding H.dispatch

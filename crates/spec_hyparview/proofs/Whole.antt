@@ -15,7 +15,7 @@ use Rattle.base_lists.proofs.Maps.{subset-retain}
 use Rattle.base_timing.specs.declared.Config.{Config}
 use Rattle.base_peer.specs.Data.{Node}
 use Rattle.base_util.specs.Chances.{sure}
-use Rattle.record.specs.Kinds.{EventKind, Message, DoShuffle, DoMaintenance, PendingNeighborRequest, RetryJoin, PeerDisconnected, RequestJoin, UpdatePeerData, Quit, kind-byte, event-kind}
+use Rattle.record.specs.Kinds.{EventKind, Message, DoShuffle, DoMaintenance, PendingNeighborRequest, RetryJoin, PeerDisconnected, RequestJoin, UpdatePeerData, Quit, Pin, kind-byte, event-kind}
 use Rattle.record.specs.Format.{Rec}
 use Rattle.record.proofs.ByKind.{by-kind}
 use Rattle.spec_hyparview.specs.Station.{Station, data-peers}
@@ -33,7 +33,7 @@ use Rattle.spec_hyparview.proofs.Invariant.{Fixed, Terms, calm, Good, O
 use Rattle.spec_hyparview.proofs.Keeping.{ease, ok-if, ok-either, ok-on}
 use Rattle.spec_hyparview.proofs.Received.{ok-on-join, ok-on-forward-join, ok-on-shuffle, ok-on-shuffle-reply, ok-on-neighbor, ok-on-disconnect}
 use Rattle.spec_hyparview.proofs.Timed.{ok-neighbor-timer, ok-retry-join, ok-shuffle-timer, ok-maintenance-timer, ok-schedule-shuffle, ok-schedule-maintenance}
-use Rattle.spec_hyparview.proofs.Requested.{ok-handle-join, ok-closed, ok-update, quitting, ok-handle-quit}
+use Rattle.spec_hyparview.proofs.Requested.{ok-handle-join, ok-closed, ok-update, ok-handle-pin, quitting, ok-handle-quit}
 use Rattle.spec_hyparview.proofs.Reading.{Readable}
 
 -- n messages are enough for the event e at active capacity a: demand 3's numbers
@@ -84,6 +84,7 @@ module _ {q : Fixed} {n b d : ℕ} (e : Rec) (w : Readable e) (some-slot : 1 ≤
     ok-kind RequestJoin z l = ok-handle-join _ (w .narrow) (ease l (omega arith) (omega arith) k)
     ok-kind UpdatePeerData z l = ok-update _ (short e w) (ease (omega arith) (omega arith) (omega arith) k)
     ok-kind Quit z l = clash _ (eq-eqb _ _ z) no-quit
+    ok-kind Pin z l = ok-handle-pin _ (ease (omega arith) (omega arith) (omega arith) k)
 
     pub ok-dispatch : Pays (capacity q) n e → Ok q calm 0 b d (dispatch e r)
     unfolding dispatch
@@ -166,7 +167,7 @@ module _ {c : Config} {me : ℕ} {up : List ℕ} {sent allowed : ℕ} {s : Stati
       bytes-left = omega arith;
       draws-left = omega arith;
     };
-    codes = record { lent = refl; within = omega arith; space = refl; five = λ z. absurd (omega arith); roomy = λ z. absurd (omega arith); nine = λ z. absurd (omega arith); low = λ z. absurd (omega arith); high = omega arith };
+    codes = record { lent = refl; within = omega arith; space = refl; five = λ z. absurd (omega arith); roomy = λ z. absurd (omega arith); nine = λ z. absurd (omega arith); low = λ z. absurd (omega arith) };
   }
 
   pub start-quit : eqb (e .kind) (kind-byte Quit) ≡ true → Ok (at-start c me up sent (allowed + n) (s .passes-alone) ds room e) (quitting (s .active)) 0 8192 512 (start s ds room)
@@ -186,7 +187,7 @@ module _ {c : Config} {me : ℕ} {up : List ℕ} {sent allowed : ℕ} {s : Stati
       bytes-left = omega arith;
       draws-left = omega arith;
     };
-    codes = record { lent = refl; within = omega arith; space = refl; five = λ z. absurd (omega arith); roomy = λ z. absurd (omega arith); nine = λ z. absurd (omega arith); low = λ z. absurd (omega arith); high = omega arith };
+    codes = record { lent = refl; within = omega arith; space = refl; five = λ z. absurd (omega arith); roomy = λ z. absurd (omega arith); nine = λ z. absurd (omega arith); low = λ z. absurd (omega arith) };
   }
 
   some-slot : 1 ≤ c .«active_view_capacity»

@@ -2,16 +2,16 @@
 -- Assumes nothing.
 use Prim.Native.Nat.{ℕ}
 use mathlib.Core.Bool.{Bool, true, false, not, _&&_, _||_}
-use mathlib.Core.List.{[], _∷_, _++_}
+use mathlib.Core.List.{List, [], _∷_, _++_}
 use lib.ListN.{length, getD}
-use Rattle.base_lists.specs.Lists.{choose, index-of, swap-remove, insert, renew}
+use Rattle.base_lists.specs.Lists.{choose, null, index-of, swap-remove, insert, without, renew}
 use Rattle.base_lists.specs.Maps.{lookup}
 use Rattle.base_timing.specs.Timing.{max-recent-neighbors}
 use Rattle.base_peer.specs.Data.{Data}
 use Rattle.record.specs.Kinds.{NeighborUp, NeighborDown, output-byte}
-use Rattle.spec_hyparview.specs.Station.{Station, automatic, recovery, is-me, in-active, is-alone, active-is-full}
-use Rattle.spec_hyparview.specs.Setters.{set-active, set-passes-short, set-recent, set-alive, set-refused, set-refill}
-use Rattle.spec_hyparview.specs.Run.{Run, on, emit, one-of, draw-one-of, notice}
+use Rattle.spec_hyparview.specs.Station.{Station, automatic, recovery, is-me, in-active, active-is-full, without-pin}
+use Rattle.spec_hyparview.specs.Setters.{set-active, set-passes-short, set-recent, set-alive, set-refused, set-refill, set-pins}
+use Rattle.spec_hyparview.specs.Run.{Run, on, emit, picked, draw-one-of, notice}
 use Rattle.spec_hyparview.specs.Peers.{insert-peer-info, drop-data, drop-mark, forget-peer, add-passive, remove-passive, is-marked}
 use Rattle.spec_hyparview.specs.Sending.{send-disconnect, reply-neighbor}
 use Rattle.spec_hyparview.specs.Refill.{unless-recovery, start-refill}
@@ -24,9 +24,18 @@ pub data Reason : Type 0 where
 
 -- remove_active_by_index
 
+unfoldable pub drop-pin : ℕ → Station → Station
+drop-pin p s = set-pins (without p (s .pins)) s
+
+-- 02, S-14: "A pin ends when the peer leaves the active view": p leaves, and those of `rest` stay. Every way out of the view is by this.
+unfoldable pub leave-active : ℕ → List ℕ → Station → Station
+unfolding drop-pin
+leave-active p rest s = set-active rest (drop-pin p s)
+
 -- `remove_index`: the last one moves into the gap
 unfoldable pub swap-active : ℕ → Station → Station
-swap-active i s = set-active (swap-remove i (s .active)) s
+unfolding leave-active
+swap-active i s = leave-active (getD (s .active) i 0) (swap-remove i (s .active)) s
 
 unfoldable pub drop-active : ℕ → Run → Run
 drop-active i r = emit (notice (output-byte NeighborDown) (getD (r .station .active) i 0)) (on (swap-active i) r)
@@ -70,12 +79,15 @@ unfoldable pub remove-active : ℕ → Reason → Run → Run
 remove-active p why r =
     choose (in-active p (r .station)) (refill-after p (remove-active-by-index (index-of p (r .station .active)) why r)) r
 
+-- 02, S-14: "Whom to demote is picked from the neighbours without a pin"; it leaves by its place in the whole view
 unfoldable pub remove-picked : Run → Run
-remove-picked r = remove-active-by-index (one-of (length (r .station .active)) r) random (draw-one-of (length (r .station .active)) r)
+remove-picked r =
+    remove-active-by-index (index-of (picked (without-pin (r .station)) r) (r .station .active)) random
+    (draw-one-of (length (without-pin (r .station))) r)
 
 -- free_random_slot_in_active_view
 unfoldable pub free-random-slot-in-active-view : Run → Run
-free-random-slot-in-active-view r = choose (is-alone (r .station)) r (remove-picked r)
+free-random-slot-in-active-view r = choose (null (without-pin (r .station))) r (remove-picked r)
 
 -- add_active_unchecked
 

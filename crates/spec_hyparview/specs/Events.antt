@@ -1,22 +1,22 @@
--- What comes from the station's own side: a request to join, a closed connection, and Quit.
+-- What comes from the station's own side: a request to join, a closed connection, a pin, and Quit.
 -- Assumes nothing.
 use Prim.Native.Nat.{ℕ, _+_}
-use mathlib.Core.Bool.{Bool, false}
+use mathlib.Core.Bool.{Bool, false, _||_}
 use mathlib.Core.List.{List, [], _∷_}
 use lib.ListN.{length, getD}
 use lib.Dec.{ltb}
-use Rattle.base_lists.specs.Lists.{choose, remove, without, renew}
+use Rattle.base_lists.specs.Lists.{choose, remove, without, insert, renew}
 use Rattle.base_lists.specs.Maps.{cut, put}
 use Rattle.base_timing.specs.Timing.{max-bootstrap-peers, join-retry-delay}
 use Rattle.base_peer.specs.Data.{Data}
 use Rattle.record.specs.Kinds.{RetryJoin, kind-byte}
-use Rattle.spec_hyparview.specs.Station.{Station, is-me, in-active, is-requested, top-counter}
-use Rattle.spec_hyparview.specs.Setters.{set-own-data, set-active, set-passive, set-bootstrap, set-requests, set-joins, set-next-join, set-peer-data, set-alive, set-refused}
+use Rattle.spec_hyparview.specs.Station.{Station, is-me, in-active, is-requested, is-pinned, most-pins, top-counter}
+use Rattle.spec_hyparview.specs.Setters.{set-own-data, set-passive, set-bootstrap, set-requests, set-joins, set-next-join, set-peer-data, set-alive, set-refused, set-pins}
 use Rattle.spec_hyparview.specs.Run.{Run, on, emit, require, timer}
 use Rattle.spec_hyparview.specs.Peers.{drop-data, drop-mark, remove-passive, is-marked}
 use Rattle.spec_hyparview.specs.Sending.{join, send-disconnect}
 use Rattle.spec_hyparview.specs.Refill.{refill-active-from-passive}
-use Rattle.spec_hyparview.specs.Active.{connection-closed, remove-active}
+use Rattle.spec_hyparview.specs.Active.{connection-closed, remove-active, leave-active}
 use Rattle.spec_hyparview.specs.Messages.{drop-request}
 
 -- handle_join
@@ -90,10 +90,32 @@ handle-connection-closed p r = lose p (is-requested p (r .station)) (on (drop-re
 unfoldable pub update-own-data : Data → Station → Station
 update-own-data d s = set-own-data d s
 
+-- 02, S-14: Pin, which the Rust does not have
+
+-- one more may be pinned
+unfoldable pub pins-left : Station → Bool
+pins-left s = ltb (length (s .pins)) (most-pins s)
+
+unfoldable pub note-pin : ℕ → Station → Station
+note-pin p s = set-pins (insert p (s .pins)) s
+
+-- "17, peer is not active"
+unfoldable pub require-neighbor : ℕ → Run → Run
+require-neighbor p r = require 17 (in-active p (r .station)) r
+
+-- "18, the pin limit is reached and the peer has no pin"; "Pinning twice changes nothing"
+unfoldable pub pin-neighbor : ℕ → Run → Run
+pin-neighbor p r = on (note-pin p) (require 18 (is-pinned p (r .station) || pins-left (r .station)) r)
+
+-- "17 first"
+unfoldable pub handle-pin : ℕ → Run → Run
+handle-pin p r = pin-neighbor p (require-neighbor p r)
+
 -- handle_quit
 
 unfoldable pub remove-neighbor : ℕ → Station → Station
-remove-neighbor p s = set-active (remove p (s .active)) s
+unfolding leave-active
+remove-neighbor p s = leave-active p (remove p (s .active)) s
 
 -- not alive: whoever is told forgets the station, which can let nobody in any more
 unfoldable pub quit-one : ℕ → Run → Run

@@ -7,14 +7,14 @@ use mathlib.Core.List.{List, [], _∷_, _++_}
 use mathlib.Core.Option.{Option, none, some}
 use lib.ListN.{length, getD}
 use lib.Dec.{eqb}
-use Rattle.base_lists.specs.Lists.{choose, index-of}
+use Rattle.base_lists.specs.Lists.{choose, null, index-of}
 use Rattle.base_lists.specs.Maps.{lookup}
 use Rattle.base_peer.specs.Data.{Data, Node}
 use Rattle.record.specs.Kinds.{Message, PeerDisconnected, Evicted, kind-byte, output-byte}
 use Rattle.record.specs.Format.{Rec}
 use Rattle.record.specs.Read.{rec-of}
-use Rattle.spec_hyparview.specs.Station.{Station, draws-end, is-me, in-active, is-alone, active-is-full}
-use Rattle.spec_hyparview.specs.Run.{Run, on, one-of, draw-one-of}
+use Rattle.spec_hyparview.specs.Station.{Station, draws-end, is-me, in-active, active-is-full, without-pin}
+use Rattle.spec_hyparview.specs.Run.{Run, on, picked, draw-one-of}
 use Rattle.spec_hyparview.specs.Peers.{insert-peer-info, drop-data, drop-mark, is-marked, add-passive, evicted-by}
 use Rattle.spec_hyparview.specs.Sending.{send-disconnect}
 use Rattle.spec_hyparview.specs.Active.{Reason, connection-closed, disconnect-received, random, drop-active}
@@ -60,7 +60,8 @@ by-removing p why r = choose (in-active p (r .station)) (by-removing-at (index-o
 -- free-random-slot-in-active-view
 unfoldable pub by-freeing : Run → List ℕ
 by-freeing r =
-    choose (is-alone (r .station)) [] (by-removing-at (one-of (length (r .station .active)) r) random (draw-one-of (length (r .station .active)) r))
+    choose (null (without-pin (r .station))) []
+    (by-removing-at (index-of (picked (without-pin (r .station)) r) (r .station .active)) random (draw-one-of (length (without-pin (r .station))) r))
 
 -- admit: only a peer of high priority at a full view makes another leave
 unfoldable pub by-admitting : ℕ → Bool → Run → List ℕ

@@ -11,14 +11,14 @@ use Rattle.base_lists.specs.Maps.{retain}
 use Rattle.base_timing.specs.Timing.{in-range, initial-shuffle-interval}
 use Rattle.base_timing.specs.declared.Config.{Config}
 use Rattle.base_peer.specs.Data.{Data, Node}
-use Rattle.record.specs.Kinds.{EventKind, Message, DoShuffle, DoMaintenance, PendingNeighborRequest, RetryJoin, PeerDisconnected, RequestJoin, UpdatePeerData, Quit, event-kind}
+use Rattle.record.specs.Kinds.{EventKind, Message, DoShuffle, DoMaintenance, PendingNeighborRequest, RetryJoin, PeerDisconnected, RequestJoin, UpdatePeerData, Quit, Pin, event-kind}
 use Rattle.record.specs.Format.{Rec}
 use Rattle.record.specs.Read.{Reading, refused, event, read-event}
 use Rattle.spec_hyparview.specs.Station.{Station, automatic, data-peers}
 use Rattle.spec_hyparview.specs.Setters.{set-scheduled, set-peer-data}
 use Rattle.spec_hyparview.specs.Run.{Run, on, node}
 use Rattle.spec_hyparview.specs.Messages.{on-join, on-forward-join, on-shuffle, on-shuffle-reply, on-neighbor, on-disconnect}
-use Rattle.spec_hyparview.specs.Events.{handle-join, handle-connection-closed, update-own-data, handle-quit}
+use Rattle.spec_hyparview.specs.Events.{handle-join, handle-connection-closed, update-own-data, handle-pin, handle-quit}
 use Rattle.spec_hyparview.specs.Timers.{handle-shuffle-timer, handle-maintenance-timer, handle-pending-neighbor-timer, retry-join, schedule-shuffle, schedule-maintenance}
 use Rattle.spec_hyparview.specs.Rules.{short-data, station-ok}
 
@@ -44,6 +44,7 @@ new-station me d c = record {
   alive = [];
   refused = [];
   refill = automatic;
+  pins = [];
 }
 
 unfoldable pub zero-config : Config
@@ -111,6 +112,7 @@ handle-kind (some PeerDisconnected) e r = handle-connection-closed (e .peer) r
 handle-kind (some RequestJoin) e r = handle-join (e .peer) r
 handle-kind (some UpdatePeerData) e r = on (update-own-data (first-data e)) r
 handle-kind (some Quit) e r = handle-quit r
+handle-kind (some Pin) e r = handle-pin (e .peer) r
 
 unfoldable pub dispatch : Rec → Run → Run
 unfolding event-kind handle-kind
@@ -159,6 +161,6 @@ unfoldable pub handle-reading : Reading → Station → List ℕ → ℕ → Res
 handle-reading (refused c) s ds room = refusal c s room
 handle-reading (event e) s ds room = finish s (steps e (start s ds room))
 
--- `handle` of a station, an event's bytes, the draws lent and the bytes of output lent: codes 2, then 3, 4 and 3 of the reader, then 5 to 10
+-- `handle` of a station, an event's bytes, the draws lent and the bytes of output lent: codes 2, then 3, 4 and 3 of the reader, then 5 to 10, 17 and 18
 unfoldable pub handle : Station → List ℕ → List ℕ → ℕ → Result
 handle s b ds room = choose (station-ok s) (handle-reading (read-event b) s ds room) (refusal 2 s room)

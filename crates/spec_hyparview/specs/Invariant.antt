@@ -4,7 +4,7 @@ use mathlib.Core.Path.{_≡_}
 use mathlib.Core.Bool.{Bool, true}
 use mathlib.Core.List.{List, [], _∷_, _++_}
 use mathlib.Core.Option.{none, some}
-use Prim.Native.Nat.{ℕ, _+_, _*_, _≤_, _<_}
+use Prim.Native.Nat.{ℕ, _+_, _-_, _*_, _≤_, _<_}
 use lib.ListN.{length, take}
 use lib.Dec.{eqb}
 use Rattle.base_lists.specs.Lists.{choose, is, count, without, push-new, Rising}
@@ -58,6 +58,12 @@ pub record Recent (xs : List ℕ) : Type 0 where
   pub once : (x : ℕ) → count x xs ≤ 1
   pub few : length xs ≤ max-recent-neighbors
 
+-- in rising order, on active peers only, and fewer than the active view may have: one can always be demoted
+pub record Pinned (cap : ℕ) (act pin : List ℕ) : Type 0 where
+  pub rise : Rising pin
+  pub among : (x : ℕ) → count x pin ≤ count x act
+  pub few : length pin ≤ cap - 1
+
 pub record Pace (top int : ℕ) : Type 0 where
   pub low : 1 ≤ int
   pub high : int ≤ top
@@ -66,7 +72,7 @@ pub record Passes (n : ℕ) : Type 0 where
   pub high : n ≤ top-passes
 
 -- over the parts that it speaks of, so that a change of another part leaves it as it is
-pub record Law (me top : ℕ) (own : Data) (req : List (ℕ × ℕ)) (nreq : ℕ) (joi : List (ℕ × ℕ)) (njoi : ℕ) (dat : List (ℕ × List ℕ)) (ali ref : List ℕ) (fill : Refill) (rec : List ℕ) (int alone short : ℕ) : Type 0 where
+pub record Law (me top : ℕ) (own : Data) (req : List (ℕ × ℕ)) (nreq : ℕ) (joi : List (ℕ × ℕ)) (njoi : ℕ) (dat : List (ℕ × List ℕ)) (ali ref : List ℕ) (fill : Refill) (rec : List ℕ) (int alone short cap : ℕ) (act pin : List ℕ) : Type 0 where
   pub requests-ok : Requests req nreq
   pub joins-ok : Numbered joi njoi
   pub held-ok : HeldData me dat
@@ -78,11 +84,12 @@ pub record Law (me top : ℕ) (own : Data) (req : List (ℕ × ℕ)) (nreq : ℕ
   pub pace-ok : Pace top int
   pub alone-ok : Passes alone
   pub short-ok : Passes short
+  pub pins-ok : Pinned cap act pin
 
 abbrev pub Lawful : Station → Type 0
 Lawful s =
     Law (s .me) (s .config .«shuffle_interval») (s .own-data) (s .requests) (s .next-request) (s .joins) (s .next-join) (s .peer-data)
-    (s .alive) (s .refused) (s .refill) (s .recent) (s .next-interval) (s .passes-alone) (s .passes-short)
+    (s .alive) (s .refused) (s .refill) (s .recent) (s .next-interval) (s .passes-alone) (s .passes-short) (s .config .«active_view_capacity») (s .active) (s .pins)
 
 -- What the records of a run tell: who is up, and how many messages there are
 
@@ -238,7 +245,6 @@ pub record Codes (q : Fixed) (r : Run) : Type 0 where
   pub roomy : r .code ≡ 5 → Roomy (r .station)
   pub nine : r .code ≡ 9 → q .room-lent < 8192
   pub low : 1 ≤ r .code → 5 ≤ r .code
-  pub high : r .code ≤ 10
 
 -- the invariant: of a refused run only what its code says
 pub record Ok (q : Fixed) (t : Terms) (m b d : ℕ) (r : Run) : Type 0 where

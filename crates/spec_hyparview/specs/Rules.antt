@@ -11,7 +11,7 @@ use Rattle.base_lists.specs.Maps.{keys, values, has}
 use Rattle.base_timing.specs.Timing.{in-range, within, max-bootstrap-peers, max-recent-neighbors, max-requests-per-refill}
 use Rattle.base_peer.specs.Data.{Data, bytes-of}
 use Rattle.base_peer.specs.Maps.{numbers-under}
-use Rattle.spec_hyparview.specs.Station.{Station, Refill, automatic, requests-left, recovery, max-requests, max-refused, max-peer-data, max-data-length, top-counter, top-passes, peers-end, bytes-end, data-peers}
+use Rattle.spec_hyparview.specs.Station.{Station, Refill, automatic, requests-left, recovery, max-requests, max-refused, max-peer-data, max-data-length, top-counter, top-passes, peers-end, bytes-end, most-pins, data-peers}
 
 -- all of the tests hold
 unfoldable pub all-hold : List Bool → Bool
@@ -54,7 +54,7 @@ repeats-rule s = distinct (s .active) && (distinct (s .passive) && (distinct (s 
 unfoldable pub order-rule : Station → Bool
 order-rule s =
     rising (keys (s .requests))
-    && (rising (keys (s .joins)) && (rising (keys (s .peer-data)) && (rising (s .alive) && rising (s .refused))))
+    && (rising (keys (s .joins)) && (rising (keys (s .peer-data)) && (rising (s .alive) && (rising (s .refused) && rising (s .pins)))))
 
 -- "views as in demand 3": within capacity
 unfoldable pub capacity-rule : Station → Bool
@@ -109,7 +109,7 @@ interval-rule s = within 1 (s .config .«shuffle_interval») (s .next-interval)
 abbrev pub peer-lists : Station → List (List ℕ)
 peer-lists s =
     (s .me ∷ []) ∷ s .active ∷ s .passive ∷ s .bootstrap ∷ s .recent ∷ keys (s .requests) ∷ keys (s .joins) ∷ keys (s .peer-data)
-    ∷ s .alive ∷ s .refused ∷ []
+    ∷ s .alive ∷ s .refused ∷ s .pins ∷ []
 
 -- all data: its own, and what it holds of others
 abbrev pub data-lists : Station → List (List ℕ)
@@ -127,12 +127,16 @@ width-rule s =
 unfoldable pub held-rule : Station → Bool
 held-rule s = subset (keys (s .peer-data)) (data-peers s)
 
+-- 02, S-14: "pins on active peers only, within that limit"
+unfoldable pub pins-rule : Station → Bool
+pins-rule s = subset (s .pins) (s .active) && leb (length (s .pins)) (most-pins s)
+
 -- the station rules; "unused places zero" is for the packed form alone
 unfoldable pub rules : Station → List Bool
 rules s =
     settings-rule s ∷ repeats-rule s ∷ order-rule s ∷ capacity-rule s ∷ views-rule s ∷ alive-rule s ∷ few-rule s ∷ joins-rule s
     ∷ numbers-rule s ∷ self-rule s ∷ room-rule s ∷ data-rule s ∷ limit-rule s ∷ interval-rule s ∷ width-rule s
-    ∷ held-rule s ∷ []
+    ∷ held-rule s ∷ pins-rule s ∷ []
 
 unfoldable pub station-ok : Station → Bool
 station-ok s = all-hold (rules s)

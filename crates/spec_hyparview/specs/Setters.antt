@@ -27,6 +27,7 @@ set-own-data v s = record {
   alive = s .alive;
   refused = s .refused;
   refill = s .refill;
+  pins = s .pins;
 }
 
 abbrev pub set-active : List ℕ → Station → Station
@@ -50,6 +51,7 @@ set-active v s = record {
   alive = s .alive;
   refused = s .refused;
   refill = s .refill;
+  pins = s .pins;
 }
 
 abbrev pub set-passive : List ℕ → Station → Station
@@ -73,6 +75,7 @@ set-passive v s = record {
   alive = s .alive;
   refused = s .refused;
   refill = s .refill;
+  pins = s .pins;
 }
 
 abbrev pub set-scheduled : Bool → Station → Station
@@ -96,6 +99,7 @@ set-scheduled v s = record {
   alive = s .alive;
   refused = s .refused;
   refill = s .refill;
+  pins = s .pins;
 }
 
 abbrev pub set-next-interval : ℕ → Station → Station
@@ -119,6 +123,7 @@ set-next-interval v s = record {
   alive = s .alive;
   refused = s .refused;
   refill = s .refill;
+  pins = s .pins;
 }
 
 abbrev pub set-bootstrap : List ℕ → Station → Station
@@ -142,6 +147,7 @@ set-bootstrap v s = record {
   alive = s .alive;
   refused = s .refused;
   refill = s .refill;
+  pins = s .pins;
 }
 
 abbrev pub set-passes-alone : ℕ → Station → Station
@@ -165,6 +171,7 @@ set-passes-alone v s = record {
   alive = s .alive;
   refused = s .refused;
   refill = s .refill;
+  pins = s .pins;
 }
 
 abbrev pub set-passes-short : ℕ → Station → Station
@@ -188,6 +195,7 @@ set-passes-short v s = record {
   alive = s .alive;
   refused = s .refused;
   refill = s .refill;
+  pins = s .pins;
 }
 
 abbrev pub set-recent : List ℕ → Station → Station
@@ -211,6 +219,7 @@ set-recent v s = record {
   alive = s .alive;
   refused = s .refused;
   refill = s .refill;
+  pins = s .pins;
 }
 
 abbrev pub set-requests : List (ℕ × ℕ) → Station → Station
@@ -234,6 +243,7 @@ set-requests v s = record {
   alive = s .alive;
   refused = s .refused;
   refill = s .refill;
+  pins = s .pins;
 }
 
 abbrev pub set-next-request : ℕ → Station → Station
@@ -257,6 +267,7 @@ set-next-request v s = record {
   alive = s .alive;
   refused = s .refused;
   refill = s .refill;
+  pins = s .pins;
 }
 
 abbrev pub set-joins : List (ℕ × ℕ) → Station → Station
@@ -280,6 +291,7 @@ set-joins v s = record {
   alive = s .alive;
   refused = s .refused;
   refill = s .refill;
+  pins = s .pins;
 }
 
 abbrev pub set-next-join : ℕ → Station → Station
@@ -303,6 +315,7 @@ set-next-join v s = record {
   alive = s .alive;
   refused = s .refused;
   refill = s .refill;
+  pins = s .pins;
 }
 
 abbrev pub set-peer-data : List (ℕ × List ℕ) → Station → Station
@@ -326,6 +339,7 @@ set-peer-data v s = record {
   alive = s .alive;
   refused = s .refused;
   refill = s .refill;
+  pins = s .pins;
 }
 
 abbrev pub set-alive : List ℕ → Station → Station
@@ -349,6 +363,7 @@ set-alive v s = record {
   alive = v;
   refused = s .refused;
   refill = s .refill;
+  pins = s .pins;
 }
 
 abbrev pub set-refused : List ℕ → Station → Station
@@ -372,6 +387,7 @@ set-refused v s = record {
   alive = s .alive;
   refused = v;
   refill = s .refill;
+  pins = s .pins;
 }
 
 abbrev pub set-refill : Refill → Station → Station
@@ -395,4 +411,29 @@ set-refill v s = record {
   alive = s .alive;
   refused = s .refused;
   refill = v;
+  pins = s .pins;
+}
+
+abbrev pub set-pins : List ℕ → Station → Station
+set-pins v s = record {
+  me = s .me;
+  own-data = s .own-data;
+  active = s .active;
+  passive = s .passive;
+  config = s .config;
+  scheduled = s .scheduled;
+  next-interval = s .next-interval;
+  bootstrap = s .bootstrap;
+  passes-alone = s .passes-alone;
+  passes-short = s .passes-short;
+  recent = s .recent;
+  requests = s .requests;
+  next-request = s .next-request;
+  joins = s .joins;
+  next-join = s .next-join;
+  peer-data = s .peer-data;
+  alive = s .alive;
+  refused = s .refused;
+  refill = s .refill;
+  pins = v;
 }

@@ -1,6 +1,6 @@
 -- The state of a station, after the Rust's `State`: plain lists; maps and sets in rising order of their peers.
 -- Assumes nothing.
-use Prim.Native.Nat.{ℕ, _+_, _/_}
+use Prim.Native.Nat.{ℕ, _+_, _-_, _/_}
 use mathlib.Core.Bool.{Bool, true, false, _&&_, _||_}
 use mathlib.Core.List.{List, _++_}
 use lib.ListN.{length}
@@ -55,6 +55,8 @@ pub record Station : Type 0 where
   -- passive peers that were full when asked; forgotten when a neighbour leaves, when a pass refills and when the station is not short
   pub refused : List ℕ
   pub refill : Refill
+  -- 02, S-14: the neighbours that no arrival costs their place; of this work, not of the Rust
+  pub pins : List ℕ
 
 -- Limits of document 01: the table's codes 6, 7 and 8, and the counters of code 10
 abbrev pub max-requests : ℕ
@@ -137,6 +139,17 @@ unfoldable pub is-spent : Refill → Bool
 is-spent automatic = false
 is-spent (requests-left n) = eqb n 0
 is-spent recovery = false
+
+-- 02, S-14: "At most active capacity less one are pinned, so a High arrival always finds a place."
+unfoldable pub most-pins : Station → ℕ
+most-pins s = s .config .«active_view_capacity» - 1
+
+-- 02, S-14: the neighbours that a demotion is picked from, in the order of the view
+unfoldable pub without-pin : Station → List ℕ
+without-pin s = without-all (s .pins) (s .active)
+
+unfoldable pub is-pinned : ℕ → Station → Bool
+is-pinned p s = mem p (s .pins)
 
 -- the peers asked that are not neighbours: pending_outside; what is open to a neighbour is an answer, and counts once
 unfoldable pub asked-outside : Station → List ℕ

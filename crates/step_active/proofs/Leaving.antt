@@ -9,34 +9,39 @@ use native.Mathlib.Omega.{arith}
 use lib.ListN.{length, drop, getD}
 use borrow.Author.Tests.{eq-eqb}
 use Rattle.record.specs.Kinds.{NeighborDown, output-byte}
-use Rattle.base_lists.specs.Lists.{choose, null, count, index-of, insert, swap-remove}
+use borrow.Rule.Slice.PartMut.{putMid}
+use Rattle.base_lists.specs.Lists.{choose, null, count, mem, index-of, insert, remove, without, without-all, swap-remove}
 use Rattle.base_lists.specs.Maps.{lookup}
-use Rattle.base_lists.proofs.Choice.{choose-yes, clash}
-use Rattle.base_lists.proofs.Count.{index-lt, length-swap}
+use Rattle.base_lists.proofs.Choice.{choose-yes}
+use Rattle.base_lists.proofs.Count.{index-lt, index-at, length-swap, length-remove}
 use Rattle.base_util.specs.Chances.{pick}
 use Rattle.base_peer.specs.declared.PeerData.{PeerData}
 use Rattle.base_peer.specs.Held.{data-in, HoldsData}
-use Rattle.base_util.specs.Section.{items-at}
-use Rattle.spec_hyparview.specs.Station.{recovery, in-active, is-alone}
+use Rattle.base_util.specs.Section.{working-places, items-at, HoldsSet}
+use Rattle.base_util.proofs.Sets.{item-read}
+use Rattle.spec_hyparview.specs.Station.{Station, recovery, in-active, without-pin}
+use Rattle.spec_hyparview.specs.Setters.{set-active}
 use Rattle.spec_hyparview.specs.Sending.{send-disconnect}
 use Rattle.spec_hyparview.specs.Refill.{start-refill}
-use Rattle.spec_hyparview.specs.Run.{Run, with-station, guard, on, emit, notice, to-draw, one-of, draw-one-of}
+use Rattle.spec_hyparview.specs.Run.{Run, with-station, guard, on, emit, notice, to-draw, one-of, picked, draw-one-of}
 use Rattle.spec_hyparview.specs.Budgets.{bare, adding, disconnecting, leaving, freeing}
 use Rattle.spec_hyparview.specs.Peers.{drop-data, drop-mark, forget-peer, add-passive, is-marked}
-use Rattle.spec_hyparview.specs.Active.{Reason, random, swap-active, drop-active, demote, mark-alive, demote-alive, settle-closed, settle, clear-refused, remove-active-by-index, refill-after, remove-active, remove-picked, free-random-slot-in-active-view}
+use Rattle.spec_hyparview.specs.Active.{Reason, random, drop-pin, leave-active, swap-active, drop-active, demote, mark-alive, demote-alive, settle-closed, settle, clear-refused, remove-active-by-index, refill-after, remove-active, remove-picked, free-random-slot-in-active-view}
+use Rattle.spec_hyparview.specs.Events.{remove-neighbor}
 use Rattle.base_lists.proofs.Members.{shorter}
 use Rattle.spec_hyparview.proofs.Invariant.{Fixed, busy, Ok}
 use Rattle.spec_hyparview.proofs.Keeping.{ease, ok-one-of}
 use Rattle.spec_hyparview.proofs.Sends.{ok-send-disconnect}
-use Rattle.spec_hyparview.proofs.Leaving.{ok-demote-alive, ok-drop-active, ok-free-slot}
+use Rattle.spec_hyparview.proofs.Leaving.{ok-demote-alive, ok-drop-active, ok-free-slot, free-active}
 use Rattle.work.specs.declared.Work.{Work}
 use Rattle.hyparview_state.specs.declared.RefillLimit.{RefillLimit}
 use Rattle.hyparview_state.specs.declared.RefillLimit.the-variants.{Recovery}
-use Rattle.hyparview_state.specs.Layout.{active-view-capacity, active-part, alive-part, active-places, alive-places}
-use Rattle.hyparview_state.specs.Unpack.{station-form, unpack, station-of, refill-in, PackedState}
+use Rattle.hyparview_state.specs.Layout.{active-view-capacity, active-at, active-size, active-part, alive-part, active-places, alive-places, pins-at, pins-size, pins-part, pins-places}
+use Rattle.hyparview_state.specs.Unpack.{station-form, unpack, station-of, refill-in, PackedState, Becomes}
 use Rattle.hyparview_state.specs.Work.{work-of, run, run-of, Changes, DrawsAny, Room, Tells, TellsAny, Fine, Does}
 use Rattle.hyparview_state.proofs.Access.{active-fits}
-use Rattle.hyparview_state.proofs.Bridge.{on-passed, emit-passed, telling, tell-then, still, by, then, then-tell, seq, seq-at, taken, left, holds-at}
+use Rattle.hyparview_state.proofs.Fields.{put-active, put-pins}
+use Rattle.hyparview_state.proofs.Bridge.{on-passed, on-done, emit-passed, telling, tell-then, still, by, then, then-tell, seq, seq-at, taken, left, holds-at}
 use Rattle.hyparview_state.proofs.Any.{one-of-at, then-one-of, told-at}
 use Rattle.step_peers.specs.declared.Added.{Added}
 use Rattle.step_peers.specs.Answer.{Adds}
@@ -150,9 +155,9 @@ sent-loose w a xs ys ds out o p c k = record {
       (ok-send-disconnect p true (ease (omega arith) (omega arith) (omega arith) (c .ok)));
 }
 
-calm-drawn : (w a : Work) (xs ds out : List ℕ) (n : ℕ) → n ≡ length (unpack xs .active) → Fine (work-of w xs) ds out → Calm 0 freeing 40 (run (work-of w xs) ds out) → DrawsAny (draw-one-of n) w a ds → Calm 0 freeing 39 (run (work-of a xs) ds out)
+calm-drawn : (w a : Work) (xs ds out : List ℕ) (n : ℕ) → n ≤ working-places → Fine (work-of w xs) ds out → Calm 0 freeing 40 (run (work-of w xs) ds out) → DrawsAny (draw-one-of n) w a ds → Calm 0 freeing 39 (run (work-of a xs) ds out)
 unfolding run-of
-calm-drawn w a xs ds out n e v c k = record {
+calm-drawn w a xs ds out n q v c k = record {
   fixed = c .fixed;
   guest = c .guest;
   barred = c .barred;
@@ -161,13 +166,13 @@ calm-drawn w a xs ds out n e v c k = record {
   draws = c .draws;
   ok =
       subst (Ok (c .fixed) (busy (c .guest) (c .barred) [] 0 0) (c .messages + 0) (c .bytes + freeing) (c .draws + 39)) (sym (one-of-at {F = station-form} xs (v .ready .packed) _ k .same out))
-      (ok-one-of n (λ o g l. omega (arith, g .seats .slots-left, g .still .ranges .few-slots)) (ease (omega arith) (omega arith) (omega arith) (c .ok)));
+      (ok-one-of n (λ o g l. q) (ease (omega arith) (omega arith) (omega arith) (c .ok)));
 }
 
-pub loose-picked : (w a b : Work) (xs ys ds out o : List ℕ) (n i p : ℕ) → Fine (work-of w xs) ds out → Calm 0 freeing 40 (run (work-of w xs) ds out) → n ≡ length (unpack xs .active) → i < n → p ≡ getD (unpack xs .active) i 0
+pub loose-picked : (w a b : Work) (xs ys ds out o : List ℕ) (n i p : ℕ) → Fine (work-of w xs) ds out → Calm 0 freeing 40 (run (work-of w xs) ds out) → n ≤ working-places → (i < length (unpack xs .active)) × (p ≡ getD (unpack xs .active) i 0)
     → Tells (drop-active i) (work-of a xs) (work-of b ys) out o → DrawsAny (draw-one-of n) w a ds → Loose p 2 (disconnecting + adding) 39 (run (work-of b ys) ds o)
-loose-picked w a b xs ys ds out o n i p v c q j e k₂ k₁ =
-    loose-after a b xs ys ds out o i p 0 freeing 39 2 (disconnecting + adding) (omega arith) (omega arith) (calm-drawn w a xs ds out n q v c k₁) (omega (arith, q, j)) e k₂
+loose-picked w a b xs ys ds out o n i p v c q e k₂ k₁ =
+    loose-after a b xs ys ds out o i p 0 freeing 39 2 (disconnecting + adding) (omega arith) (omega arith) (calm-drawn w a xs ds out n q v c k₁) (e .0) (e .1) k₂
 
 pub slot-free : (w a : Work) (xs ys ds out o : List ℕ) → Calm 0 freeing 40 (run (work-of w xs) ds out) → Does (work-of a ys) ds o (free-random-slot-in-active-view (run (work-of w xs) ds out)) → FreeActive (a .code) (unpack ys)
 unfolding run-of
@@ -206,34 +211,42 @@ module _ (w : Work) (xs ds out : List ℕ) (p : ℕ) (why : Reason) (t : Bool) (
   unfolding remove-active
   not-removed h = left _ _ (holds-at (work-of w xs) ds out (in-active p) e h) (still v)
 
-pub picked-removed : (w a r : Work) (xs ys ds out o : List ℕ) (n i : ℕ) → Fine (work-of w xs) ds out → n ≡ length (unpack xs .active) → i ≡ pick n (drop (w .drawn) ds)
-    → Does (work-of r ys) ds o (remove-active-by-index i random (run (work-of a xs) ds out)) → DrawsAny (draw-one-of n) w a ds → Does (work-of r ys) ds o (remove-picked (run (work-of w xs) ds out))
-unfolding remove-picked run-of one-of to-draw
-picked-removed w a r xs ys ds out o n i v q u k₂ k₁ =
-    by _ (λ j. remove-active-by-index (sym (u ∙ ap (λ (m : ℕ). pick m (drop (w .drawn) ds)) q) j) random (draw-one-of (sym q j) (run (work-of w xs) ds out)))
-    (seq (remove-active-by-index i random) k₂ (then-one-of _ k₁ (still v)))
+module _ (xs from : List ℕ) (k i : ℕ) (c : HoldsSet working-places from (without-pin (unpack xs))) (l : k < getD from working-places 0) (j : i ≡ index-of (getD from k 0) (unpack xs .active)) where
+  free : List ℕ
+  free = without-pin (unpack xs)
 
-some-item : (l : List ℕ) → null l ≡ false → 0 < length l
-unfolding null
-some-item [] e = clash true refl e
-some-item (x ∷ l) e = omega arith
+  as-many : getD from working-places 0 ≡ length free
+  unfolding free
+  as-many = sym (c .valid .counted) ∙ ap length (c .items)
 
--- there is one to pick, and the place picked is one of theirs
-pub some-choice : (xs : List ℕ) (n : ℕ) (t : Bool) → n ≡ length (unpack xs .active) → t ≡ is-alone (unpack xs) → t ≡ false → 0 < n
-unfolding is-alone
-some-choice xs n t e q h = omega (arith, some-item (unpack xs .active) (sym q ∙ h))
+  read : getD from k 0 ≡ getD free k 0
+  unfolding free
+  read = item-read working-places from k (c .valid) (omega (arith, l, c .valid .counted)) ∙ ap (λ (f : List ℕ). getD f k 0) (c .items)
 
-pub still-below : (xs : List ℕ) (n i : ℕ) → n ≡ length (unpack xs .active) → i < n → i < length (unpack xs .active)
-still-below xs n i e h = omega (arith, e, h)
+  -- whoever is picked stands at a place of the active view
+  pub picked-place : (i < length (unpack xs .active)) × (getD from k 0 ≡ getD (unpack xs .active) i 0)
+  unfolding free
+  picked-place =
+      let act = unpack xs .active in
+      let h : mem (getD from k 0) act ≡ true = subst (λ (x : ℕ). mem x act ≡ true) (sym read) (free-active (unpack xs) k (omega (arith, l, as-many))) in
+      (rw j (index-lt (getD from k 0) act h), sym (ap (λ (x : ℕ). getD act x 0) j ∙ index-at (getD from k 0) act h))
 
-module _ (w : Work) (xs ds out : List ℕ) (t : Bool) (e : t ≡ is-alone (unpack xs)) where
+  pub picked-removed : (w a r : Work) (ys ds out o : List ℕ) → Fine (work-of w xs) ds out → k ≡ pick (getD from working-places 0) (drop (w .drawn) ds)
+      → Does (work-of r ys) ds o (remove-active-by-index i random (run (work-of a xs) ds out)) → DrawsAny (draw-one-of (getD from working-places 0)) w a ds → Does (work-of r ys) ds o (remove-picked (run (work-of w xs) ds out))
+  unfolding free remove-picked picked run-of one-of to-draw
+  picked-removed w a r ys ds out o v u k₂ k₁ =
+      let at : getD from k 0 ≡ getD free (pick (length free) (drop (w .drawn) ds)) 0 = read ∙ ap (λ (x : ℕ). getD free x 0) (u ∙ ap (λ (x : ℕ). pick x (drop (w .drawn) ds)) as-many) in
+      by _ (λ z. remove-active-by-index (sym (j ∙ ap (λ (x : ℕ). index-of x (unpack xs .active)) at) z) random (draw-one-of (sym as-many z) (run (work-of w xs) ds out)))
+      (seq (remove-active-by-index i random) k₂ (then-one-of _ k₁ (still v)))
+
+module _ (w : Work) (xs ds out from : List ℕ) (t : Bool) (c : HoldsSet working-places from (without-pin (unpack xs))) (e : t ≡ null (items-at working-places from)) where
   pub no-slot : Fine (work-of w xs) ds out → t ≡ true → Does (work-of w xs) ds out (free-random-slot-in-active-view (run (work-of w xs) ds out))
   unfolding free-random-slot-in-active-view
-  no-slot v h = taken _ _ (holds-at (work-of w xs) ds out is-alone e h) (still v)
+  no-slot v h = taken _ _ (holds-at (work-of w xs) ds out (λ s. null (without-pin s)) (e ∙ ap null (c .items)) h) (still v)
 
   pub one-slot : (r : Work) (ys o : List ℕ) → t ≡ false → Does (work-of r ys) ds o (remove-picked (run (work-of w xs) ds out)) → Does (work-of r ys) ds o (free-random-slot-in-active-view (run (work-of w xs) ds out))
   unfolding free-random-slot-in-active-view
-  one-slot r ys o h k = left _ _ (holds-at (work-of w xs) ds out is-alone e h) k
+  one-slot r ys o h k = left _ _ (holds-at (work-of w xs) ds out (λ s. null (without-pin s)) (e ∙ ap null (c .items)) h) k
 
 module _ (r : Work) (ys ds o : List ℕ) (g : Run) (why : Loss) (p : ℕ) where
   pub settled-closed : why ≡ ConnectionClosed → Does (work-of r ys) ds o (settle-closed p g) → Does (work-of r ys) ds o (settle (reason-in why) p g)
@@ -256,3 +269,36 @@ pub settled-random : (w a r : Work) (xs ys zs ds out o₁ o : List ℕ) (p : ℕ
     → Does (work-of r zs) ds o (settle random p (run (work-of w xs) ds out))
 unfolding settle choose
 settled-random w a r xs ys zs ds out o₁ o p k₂ k₁ = seq (demote-alive p) k₂ k₁
+
+-- ---- pins
+
+-- the active view less the pins is whom a demotion is picked from
+pub free-held : (xs from rest : List ℕ) → HoldsSet working-places from (items-at active-places (active-part xs)) → HoldsSet working-places rest (without-all (items-at pins-places (pins-part xs)) (items-at working-places from)) → HoldsSet working-places rest (without-pin (unpack xs))
+unfolding without-pin unpack station-of
+free-held xs from rest c h = subst (λ (l : List ℕ). HoldsSet working-places rest (without-all (items-at pins-places (pins-part xs)) l)) (c .items) h
+
+pub pin-dropped : {xs ys : List ℕ} (p : ℕ) → PackedState xs → HoldsSet pins-places ys (without p (items-at pins-places (pins-part xs))) → Becomes (putMid pins-at pins-size xs ys) (drop-pin p (unpack xs))
+unfolding drop-pin unpack station-of
+pin-dropped p v h = put-pins h (record { packed = v; same = refl })
+
+module _ (xs ys : List ℕ) (p : ℕ) (b : Becomes ys (drop-pin p (unpack xs))) where
+  same-active : items-at active-places (active-part ys) ≡ unpack xs .active
+  unfolding drop-pin unpack station-of
+  same-active = ap (λ (s : Station). s .active) (b .same)
+
+  pub place-kept : (i : ℕ) → i < length (unpack xs .active) → i < length (items-at active-places (active-part ys))
+  place-kept i l = omega (arith, l, ap length same-active)
+
+  pub left-active : (w : Work) (zs : List ℕ) (i : ℕ) → PackedState xs → w .code ≡ 0 → p ≡ getD (unpack xs .active) i 0 → HoldsSet active-places zs (swap-remove i (items-at active-places (active-part ys)))
+      → Changes (on (swap-active i)) (work-of w xs) (work-of w (putMid active-at active-size ys zs))
+  unfolding swap-active leave-active
+  left-active w zs i v z e h =
+      on-done (work-of w xs) v (swap-active i) _ z
+      (λ _. subst (λ (q : ℕ). Becomes (putMid active-at active-size ys zs) (set-active (swap-remove i (unpack xs .active)) (drop-pin q (unpack xs)))) e
+      (subst (λ (l : List ℕ). Becomes (putMid active-at active-size ys zs) (set-active (swap-remove i l) (drop-pin p (unpack xs)))) same-active (put-active h (fewer-active ys i (b .packed)) b)))
+
+  pub neighbor-left : (zs : List ℕ) → HoldsSet active-places zs (remove p (items-at active-places (active-part ys))) → Becomes (putMid active-at active-size ys zs) (remove-neighbor p (unpack xs))
+  unfolding remove-neighbor leave-active
+  neighbor-left zs h =
+      subst (λ (l : List ℕ). Becomes (putMid active-at active-size ys zs) (set-active (remove p l) (drop-pin p (unpack xs)))) same-active
+      (put-active h (omega (arith, length-remove p (items-at active-places (active-part ys)), active-fits ys (b .packed))) b)

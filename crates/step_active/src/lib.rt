@@ -14,10 +14,13 @@ ghost use Rattle.base_lists.specs.Lists.{choose};
 ghost use Rattle.base_peer.specs.Held.{data-in, ValidData};
 ghost use Rattle.spec_hyparview.specs.Run.{on};
 ghost use Rattle.spec_hyparview.specs.Budgets.{adding, leaving, freeing, arriving};
-ghost use Rattle.spec_hyparview.specs.Active.{drop-active, demote, mark-alive, demote-alive, remove-active-by-index, remove-active, free-random-slot-in-active-view};
+ghost use Rattle.base_util.specs.Section.{working-places, working-words, HoldsSet};
+ghost use Rattle.spec_hyparview.specs.Station.{without-pin};
+ghost use Rattle.spec_hyparview.specs.Active.{drop-pin, drop-active, demote, mark-alive, demote-alive, remove-active-by-index, remove-active, free-random-slot-in-active-view};
 ghost use Rattle.spec_hyparview.specs.Active.{move-in, add-active-unchecked, add-active};
+ghost use Rattle.spec_hyparview.specs.Events.{remove-neighbor};
 ghost use Rattle.hyparview_state.specs.Layout.{words};
-ghost use Rattle.hyparview_state.specs.Unpack.{unpack, PackedState};
+ghost use Rattle.hyparview_state.specs.Unpack.{unpack, PackedState, Becomes};
 ghost use Rattle.hyparview_state.specs.Work.{GivenRoom, Given, Meets, Alters, Says, Makes};
 ghost use Rattle.step_active.specs.Sane.{reason-in, FreeActive, FreeMark, Calm, Loose};
 
@@ -28,6 +31,33 @@ pub enum Loss {
 }
 
 // ---- peers that leave
+
+// 02, S-14: the pin of p, which is about to leave the active view, ends.
+fn drop_pin(st: &mut [u64], p: PeerId)
+    requires { ⌜ length (now st) ≡ words ⌝ }
+    requires { ⌜ PackedState (now st) ⌝ }
+    ensures { λ _. ⌜ Becomes (now (st .exit)) (drop-pin p (unpack (now (st .entry)))) ⌝ }
+{
+    base_util::without(
+        &mut st[Layout::PINS..Layout::PINS_END],
+        Layout::PINS_PLACES,
+        p,
+    );
+}
+
+// p leaves the active view, and its pin ends: for Quit.
+pub fn remove_neighbor(st: &mut [u64], p: PeerId)
+    requires { ⌜ length (now st) ≡ words ⌝ }
+    requires { ⌜ PackedState (now st) ⌝ }
+    ensures { λ _. ⌜ Becomes (now (st .exit)) (remove-neighbor p (unpack (now (st .entry)))) ⌝ }
+{
+    drop_pin(st, p);
+    base_util::remove(
+        &mut st[Layout::ACTIVE..Layout::ACTIVE_END],
+        Layout::ACTIVE_PLACES,
+        p,
+    );
+}
 
 // p, the peer at place i, leaves with its notice, so that a listener's neighbors are always those of the view.
 fn drop_active(w: Work, st: &mut [u64], out: &mut [u8], i: usize, p: PeerId) -> Work
@@ -40,6 +70,7 @@ fn drop_active(w: Work, st: &mut [u64], out: &mut [u8], i: usize, p: PeerId) -> 
     if w.code != 0 {
         return w;
     }
+    drop_pin(st, p);
     base_util::remove_index(
         &mut st[Layout::ACTIVE..Layout::ACTIVE_END],
         Layout::ACTIVE_PLACES,
@@ -155,27 +186,48 @@ pub fn remove_active(
     w
 }
 
-// High priority is never refused (the paper), so a random neighbor makes room; it is told, and stays as a passive peer.
+// 02, S-14: the neighbors that may have to make room, as a working set.
+fn without_pin(st: &[u64], t: &mut [u64])
+    requires { ⌜ length (now st) ≡ words ⌝ }
+    requires { ⌜ PackedState (now st) ⌝ }
+    requires { ⌜ length (now t) ≡ working-words ⌝ }
+    ensures { λ _. ⌜ HoldsSet working-places (now (t .exit)) (without-pin (unpack (now (st .entry)))) ⌝ }
+{
+    base_util::copy_into(
+        &st[Layout::ACTIVE..Layout::ACTIVE_END],
+        Layout::ACTIVE_PLACES,
+        t,
+    );
+    base_util::without_all(
+        t,
+        base_util::WORKING_PLACES,
+        &st[Layout::PINS..Layout::PINS_END],
+        Layout::PINS_PLACES,
+    );
+}
+
+// High priority is never refused (the paper), so a random neighbor without a pin makes room; it is told, and stays as a passive peer.
 fn free_random_slot_in_active_view(w: Work, st: &mut [u64], draws: &[u32], out: &mut [u8]) -> Work
     requires { ⌜ length (now st) ≡ words ⌝ }
     requires { ⌜ Given w st draws out ⌝ }
     requires { ⌜ Meets (Calm 0 freeing 40) w st draws out ⌝ }
     ensures { λ r. ⌜ Makes free-random-slot-in-active-view w r st draws out ⌝ }
 {
-    if hyparview_state::is_alone(st) {
+    let mut from = [0u64; base_util::WORKING_WORDS];
+    without_pin(st, &mut from);
+    let n = from[base_util::WORKING_PLACES] as usize;
+    if n == 0 {
         return w;
     }
-    let n = base_util::count(
-        &st[Layout::ACTIVE..Layout::ACTIVE_END],
-        Layout::ACTIVE_PLACES,
-    );
     let t = work::draw_one_of(w, draws, n);
-    let p = base_util::get_index(
+    let k = t.index;
+    let p = from[k];
+    let i = base_util::position(
         &st[Layout::ACTIVE..Layout::ACTIVE_END],
         Layout::ACTIVE_PLACES,
-        t.index,
+        p,
     );
-    let a = drop_active(t.work, st, out, t.index, p);
+    let a = drop_active(t.work, st, out, i, p);
     // p, which was picked to make room, is told and becomes a passive peer.
     let b = step_sending::send_disconnect(a, st, draws, out, p, true);
     demote(b, st, draws, out, p, true)

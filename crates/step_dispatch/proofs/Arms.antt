@@ -15,7 +15,7 @@ use Rattle.base_lists.proofs.Choice.{choose-yes, choose-no, split, and-left, an
 use Rattle.base_peer.specs.declared.PeerInfo.{PeerInfo}
 use Rattle.base_peer.specs.Data.{Node}
 use Rattle.base_peer.specs.Held.{data-in, node-in}
-use Rattle.record.specs.Kinds.{EventKind, Message, DoShuffle, DoMaintenance, PendingNeighborRequest, RetryJoin, PeerDisconnected, RequestJoin, UpdatePeerData, Quit, kind-byte}
+use Rattle.record.specs.Kinds.{EventKind, Message, DoShuffle, DoMaintenance, PendingNeighborRequest, RetryJoin, PeerDisconnected, RequestJoin, UpdatePeerData, Quit, Pin, kind-byte}
 use Rattle.record.proofs.ByKind.{by-kind}
 use Rattle.record.specs.declared.Header.{Header}
 use Rattle.record.specs.Format.{header-length}
@@ -24,7 +24,7 @@ use Rattle.record.specs.Answers.{HoldsNode}
 use Rattle.spec_hyparview.specs.Run.{Run, on}
 use Rattle.spec_hyparview.specs.Messages.{on-join, on-forward-join, on-shuffle, on-shuffle-reply, on-neighbor, on-disconnect}
 use Rattle.spec_hyparview.specs.Timers.{handle-shuffle-timer, handle-maintenance-timer, handle-pending-neighbor-timer, retry-join}
-use Rattle.spec_hyparview.specs.Events.{handle-connection-closed, handle-join, update-own-data, handle-quit}
+use Rattle.spec_hyparview.specs.Events.{handle-connection-closed, handle-join, update-own-data, handle-pin, handle-quit}
 use Rattle.spec_hyparview.specs.Handle.{first-node, first-data, is-high, says-alive, handle-message, handle-kind, dispatch}
 use Rattle.hyparview_state.specs.Work.{Held, Does}
 use Rattle.hyparview_state.proofs.Bridge.{by}
@@ -234,21 +234,24 @@ module _ (b : List ℕ) (h : Header) (v : Headed b h) (g : Run) (r : Held) (ds o
   unfolding dispatch choose
   kind-quit l n₅ n₆ n₇ m k = by _ (rw (same-kind Quit (only-quit (h .kind) l n₅ n₆ n₇ m))) k
 
-  -- past the timers and none of these
-  no-kind : kind-byte RetryJoin < h .kind → (h .kind ≡ kind-byte PeerDisconnected → ⊥) → (h .kind ≡ kind-byte RequestJoin → ⊥) → (h .kind ≡ kind-byte UpdatePeerData → ⊥) → (h .kind ≡ kind-byte Quit → ⊥)
-      → (k : EventKind) → h .kind ≡ kind-byte k → ⊥
-  no-kind l n₅ n₆ n₇ n₈ Message z = omega (arith, l, z)
-  no-kind l n₅ n₆ n₇ n₈ DoShuffle z = omega (arith, l, z)
-  no-kind l n₅ n₆ n₇ n₈ DoMaintenance z = omega (arith, l, z)
-  no-kind l n₅ n₆ n₇ n₈ PendingNeighborRequest z = omega (arith, l, z)
-  no-kind l n₅ n₆ n₇ n₈ RetryJoin z = omega (arith, l, z)
-  no-kind l n₅ n₆ n₇ n₈ PeerDisconnected z = n₅ z
-  no-kind l n₅ n₆ n₇ n₈ RequestJoin z = n₆ z
-  no-kind l n₅ n₆ n₇ n₈ UpdatePeerData z = n₇ z
-  no-kind l n₅ n₆ n₇ n₈ Quit z = n₈ z
+  pub kind-pin : h .kind ≡ kind-byte Pin → Does r ds o (handle-pin (h .peer) g) → Does r ds o (dispatch (R.rec-of b) g)
+  unfolding dispatch choose
+  kind-pin q k = by _ (rw (same-kind Pin q) (λ i. handle-pin (peer-of b h v i) g)) k
 
-  pub kind-none : kind-byte RetryJoin < h .kind → (h .kind ≡ kind-byte PeerDisconnected → ⊥) → (h .kind ≡ kind-byte RequestJoin → ⊥) → (h .kind ≡ kind-byte UpdatePeerData → ⊥) → (h .kind ≡ kind-byte Quit → ⊥)
-      → Does r ds o g → Does r ds o (dispatch (R.rec-of b) g)
+  -- past Quit and no pin
+  no-kind : kind-byte Quit < h .kind → (h .kind ≡ kind-byte Pin → ⊥) → (k : EventKind) → h .kind ≡ kind-byte k → ⊥
+  no-kind l n Message z = omega (arith, l, z)
+  no-kind l n DoShuffle z = omega (arith, l, z)
+  no-kind l n DoMaintenance z = omega (arith, l, z)
+  no-kind l n PendingNeighborRequest z = omega (arith, l, z)
+  no-kind l n RetryJoin z = omega (arith, l, z)
+  no-kind l n PeerDisconnected z = omega (arith, l, z)
+  no-kind l n RequestJoin z = omega (arith, l, z)
+  no-kind l n UpdatePeerData z = omega (arith, l, z)
+  no-kind l n Quit z = omega (arith, l, z)
+  no-kind l n Pin z = n z
+
+  pub kind-none : kind-byte Quit < h .kind → (h .kind ≡ kind-byte Pin → ⊥) → Does r ds o g → Does r ds o (dispatch (R.rec-of b) g)
   unfolding dispatch
-  kind-none l n₅ n₆ n₇ n₈ k =
-      by-kind (λ (x : Option EventKind). Does r ds o (handle-kind x (R.rec-of b) g)) (R.rec-of b .kind) (λ _. k) (λ j z. absurd (no-kind l n₅ n₆ n₇ n₈ j (sym (kind-of b h v) ∙ z)))
+  kind-none l n k =
+      by-kind (λ (x : Option EventKind). Does r ds o (handle-kind x (R.rec-of b) g)) (R.rec-of b .kind) (λ _. k) (λ j z. absurd (no-kind l n j (sym (kind-of b h v) ∙ z)))

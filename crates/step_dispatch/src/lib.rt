@@ -94,6 +94,9 @@ fn dispatch(w: Work, st: &mut [u64], draws: &[u32], out: &mut [u8], b: &[u8], h:
     if h.kind <= Kind::QUIT {
         return step_events::handle_quit(w, st, draws, out);
     }
+    if h.kind == Kind::PIN {
+        return step_events::handle_pin(w, st, h.peer);
+    }
     // No event has another kind.
     w
 }

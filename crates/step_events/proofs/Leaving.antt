@@ -83,10 +83,8 @@ module _ (w a : Held) (ds out : List ℕ) (p : ℕ) (requested t : Bool) (v : Fi
 -- ---- Quit
 
 -- a neighbor leaves the active view
-pub neighbor-removed : (w : Work) (xs ys : List ℕ) (p : ℕ) → PackedState xs → w .code ≡ 0 → HoldsSet active-places ys (remove p (items-at active-places (take active-size (drop active-at xs)))) → Changes (on (remove-neighbor p)) (work-of w xs) (work-of w (putMid active-at active-size xs ys))
-unfolding remove-neighbor unpack station-of part
-neighbor-removed w xs ys p v z h =
-    on-done (work-of w xs) v _ _ z (put-active h (omega (arith, length-remove p (items-at active-places (active-part xs)), active-fits xs v)))
+pub neighbor-removed : (w : Work) (xs ys : List ℕ) (p : ℕ) → PackedState xs → w .code ≡ 0 → Becomes ys (remove-neighbor p (unpack xs)) → Changes (on (remove-neighbor p)) (work-of w xs) (work-of w ys)
+neighbor-removed w xs ys p v z b = on-done (work-of w xs) v _ _ z (λ _. b)
 
 pub quitted : (w a r : Held) (ds out o : List ℕ) (p : ℕ) → Fine w ds out → Does r ds o (send-disconnect p false (run a ds out)) → Changes (on (remove-neighbor p)) w a → Does r ds o (quit-one p (run w ds out))
 unfolding quit-one

@@ -1,3 +1,4 @@
 pub mod Joining
 pub mod Clearing
 pub mod Leaving
+pub mod Pins

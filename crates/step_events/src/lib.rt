@@ -12,7 +12,7 @@ ghost use lib.ListN.{length};
 ghost use Rattle.base_peer.specs.Held.{data-in, ValidData};
 ghost use Rattle.spec_hyparview.specs.Budgets.{leaving};
 ghost use Rattle.spec_hyparview.specs.Run.{on};
-ghost use Rattle.spec_hyparview.specs.Events.{push-bootstrap, handle-join, lose-passive, handle-connection-closed, update-own-data, clear-all, handle-quit};
+ghost use Rattle.spec_hyparview.specs.Events.{push-bootstrap, handle-join, lose-passive, handle-connection-closed, update-own-data, handle-pin, clear-all, handle-quit};
 ghost use Rattle.hyparview_state.specs.Layout.{words};
 ghost use Rattle.hyparview_state.specs.Unpack.{unpack, PackedState, Becomes};
 ghost use Rattle.hyparview_state.specs.Work.{GivenRoom, Given, Meets, Alters, Says, Makes};
@@ -148,6 +148,32 @@ pub fn update_own_data(w: Work, st: &mut [u64], d: PeerData) -> Work
     w
 }
 
+// 02, S-14: the neighbor p gets a pin, so that no arrival costs it its place. Code 17 where it is none, 18 where no more may have one.
+pub fn handle_pin(w: Work, st: &mut [u64], p: PeerId) -> Work
+    requires { ⌜ length (now st) ≡ words ⌝ }
+    requires { ⌜ PackedState (now st) ⌝ }
+    ensures { λ r. ⌜ Alters (handle-pin p) w r st ⌝ }
+{
+    let active = hyparview_state::in_active(st, p);
+    let a = work::require(w, Refusal::PIN_STRANGER, active);
+    let pinned = base_util::contains(&st[Layout::PINS..Layout::PINS_END], Layout::PINS_PLACES, p);
+    let more = st[Layout::PINS_COUNT] + 1;
+    let b = work::require(
+        a,
+        Refusal::PIN_LIMIT,
+        pinned | (more < st[Layout::ACTIVE_VIEW_CAPACITY]),
+    );
+    if b.code != 0 {
+        return b;
+    }
+    base_util::insert_sorted(
+        &mut st[Layout::PINS..Layout::PINS_END],
+        Layout::PINS_PLACES,
+        p,
+    );
+    b
+}
+
 // Nothing is held of other peers any more; contacts, recent neighbors, open joins and counts stay, as in the Rust.
 fn clear_all(st: &mut [u64])
     requires { ⌜ length (now st) ≡ words ⌝ }
@@ -189,11 +215,7 @@ pub fn handle_quit(w: Work, st: &mut [u64], draws: &[u32], out: &mut [u8]) -> Wo
         let p = v[i];
         i += 1;
         // It leaves the active view.
-        base_util::remove(
-            &mut st[Layout::ACTIVE..Layout::ACTIVE_END],
-            Layout::ACTIVE_PLACES,
-            p,
-        );
+        step_active::remove_neighbor(st, p);
         r = step_sending::send_disconnect(r, st, draws, out, p, false);
     }
     if r.code != 0 {

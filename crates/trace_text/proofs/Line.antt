@@ -32,19 +32,19 @@ use Rattle.trace_text.proofs.Writing.{Writing, writing-start, writing-n
 
 -- the constants of the code, by tools/make/layout.py
 unfoldable pub line : List ℕ
-line = ascii "state me=O active=[1] passive=[1] bootstrap=[1] recent=[1] requests=[2] next_request=0 joins=[2] next_join=0 data=[4] alive=[1] refused=[1] refill=L timers=0 interval=0 alone=0 short=0\n"
+line = ascii "state me=O active=[1] passive=[1] bootstrap=[1] recent=[1] requests=[2] next_request=0 joins=[2] next_join=0 data=[4] alive=[1] refused=[1] refill=L timers=0 interval=0 alone=0 short=0 pins=[1]\n"
 
 abbrev pub line-size : ℕ
-line-size = 185
+line-size = 194
 
 abbrev pub fields : ℕ
-fields = 15
+fields = 16
 
 unfoldable pub places : List ℕ
-places = layout.active-at ∷ layout.passive-at ∷ layout.bootstrap-at ∷ layout.recent-at ∷ layout.requests-at ∷ layout.next-neighbor-request-at ∷ layout.joins-at ∷ layout.next-join-at ∷ layout.peer-data-at ∷ layout.alive-at ∷ layout.refused-at ∷ layout.timers-scheduled-at ∷ layout.next-shuffle-interval-at ∷ layout.passes-alone-at ∷ layout.passes-short-at ∷ []
+places = layout.active-at ∷ layout.passive-at ∷ layout.bootstrap-at ∷ layout.recent-at ∷ layout.requests-at ∷ layout.next-neighbor-request-at ∷ layout.joins-at ∷ layout.next-join-at ∷ layout.peer-data-at ∷ layout.alive-at ∷ layout.refused-at ∷ layout.timers-scheduled-at ∷ layout.next-shuffle-interval-at ∷ layout.passes-alone-at ∷ layout.passes-short-at ∷ layout.pins-at ∷ []
 
 unfoldable pub rooms : List ℕ
-rooms = layout.active-places ∷ layout.passive-places ∷ layout.bootstrap-places ∷ layout.recent-places ∷ layout.requests-places ∷ 1 ∷ layout.joins-places ∷ 1 ∷ layout.peer-data-places ∷ layout.alive-places ∷ layout.refused-places ∷ 1 ∷ 1 ∷ 1 ∷ 1 ∷ []
+rooms = layout.active-places ∷ layout.passive-places ∷ layout.bootstrap-places ∷ layout.recent-places ∷ layout.requests-places ∷ 1 ∷ layout.joins-places ∷ 1 ∷ layout.peer-data-places ∷ layout.alive-places ∷ layout.refused-places ∷ 1 ∷ 1 ∷ 1 ∷ 1 ∷ layout.pins-places ∷ []
 
 -- end
 
@@ -137,8 +137,11 @@ module _ (xs : List ℕ) where
   abbrev end-text : List ℕ
   end-text = ascii "\n"
 
+  abbrev pins-text : List ℕ
+  pins-text = list-field (ascii " pins=[") decimal (items-at layout.pins-places (layout.pins-part xs)) ++ end-text
+
   abbrev short-text : List ℕ
-  short-text = number-field (ascii " short=") (layout.passes-short xs) ++ end-text
+  short-text = number-field (ascii " short=") (layout.passes-short xs) ++ pins-text
 
   abbrev alone-text : List ℕ
   alone-text = number-field (ascii " alone=") (layout.passes-alone xs) ++ short-text
@@ -185,75 +188,79 @@ module _ (xs : List ℕ) where
   abbrev active-text : List ℕ
   active-text = list-field (ascii " active=[") decimal (items-at layout.active-places (layout.active-part xs)) ++ passive-text
 
-  from-end : line-text (ascii "\n") 15 xs ≡ end-text
+  from-end : line-text (ascii "\n") 16 xs ≡ end-text
   unfolding line-text byte-text after digit choose ascii
   from-end = refl
 
-  from-short : line-text (ascii " short=0\n") 14 xs ≡ short-text
+  from-pins : line-text (ascii " pins=[1]\n") 15 xs ≡ pins-text
   unfolding line-text byte-text after digit choose ascii places rooms
-  from-short = number-line xs (ascii " short=") (ascii "\n") 14 layout.passes-short-at 1 (λ q. refl) refl refl ∙ ap (λ (z : List ℕ). number-field (ascii " short=") (layout.passes-short xs) ++ z) from-end
+  from-pins = peers-line xs (ascii " pins=[") (ascii "\n") 15 layout.pins-at layout.pins-places (λ q. refl) refl refl ∙ ap (λ (z : List ℕ). list-field (ascii " pins=[") decimal (items-at layout.pins-places (layout.pins-part xs)) ++ z) from-end
 
-  from-alone : line-text (ascii " alone=0 short=0\n") 13 xs ≡ alone-text
+  from-short : line-text (ascii " short=0 pins=[1]\n") 14 xs ≡ short-text
   unfolding line-text byte-text after digit choose ascii places rooms
-  from-alone = number-line xs (ascii " alone=") (ascii " short=0\n") 13 layout.passes-alone-at 1 (λ q. refl) refl refl ∙ ap (λ (z : List ℕ). number-field (ascii " alone=") (layout.passes-alone xs) ++ z) from-short
+  from-short = number-line xs (ascii " short=") (ascii " pins=[1]\n") 14 layout.passes-short-at 1 (λ q. refl) refl refl ∙ ap (λ (z : List ℕ). number-field (ascii " short=") (layout.passes-short xs) ++ z) from-pins
 
-  from-interval : line-text (ascii " interval=0 alone=0 short=0\n") 12 xs ≡ interval-text
+  from-alone : line-text (ascii " alone=0 short=0 pins=[1]\n") 13 xs ≡ alone-text
   unfolding line-text byte-text after digit choose ascii places rooms
-  from-interval = number-line xs (ascii " interval=") (ascii " alone=0 short=0\n") 12 layout.next-shuffle-interval-at 1 (λ q. refl) refl refl ∙ ap (λ (z : List ℕ). number-field (ascii " interval=") (layout.next-shuffle-interval xs) ++ z) from-alone
+  from-alone = number-line xs (ascii " alone=") (ascii " short=0 pins=[1]\n") 13 layout.passes-alone-at 1 (λ q. refl) refl refl ∙ ap (λ (z : List ℕ). number-field (ascii " alone=") (layout.passes-alone xs) ++ z) from-short
 
-  from-timers : line-text (ascii " timers=0 interval=0 alone=0 short=0\n") 11 xs ≡ timers-text
+  from-interval : line-text (ascii " interval=0 alone=0 short=0 pins=[1]\n") 12 xs ≡ interval-text
   unfolding line-text byte-text after digit choose ascii places rooms
-  from-timers = number-line xs (ascii " timers=") (ascii " interval=0 alone=0 short=0\n") 11 layout.timers-scheduled-at 1 (λ q. refl) refl refl ∙ ap (λ (z : List ℕ). number-field (ascii " timers=") (layout.timers-scheduled xs) ++ z) from-interval
+  from-interval = number-line xs (ascii " interval=") (ascii " alone=0 short=0 pins=[1]\n") 12 layout.next-shuffle-interval-at 1 (λ q. refl) refl refl ∙ ap (λ (z : List ℕ). number-field (ascii " interval=") (layout.next-shuffle-interval xs) ++ z) from-alone
 
-  from-refill : line-text (ascii " refill=L timers=0 interval=0 alone=0 short=0\n") 11 xs ≡ refill-text
+  from-timers : line-text (ascii " timers=0 interval=0 alone=0 short=0 pins=[1]\n") 11 xs ≡ timers-text
   unfolding line-text byte-text after digit choose ascii places rooms
-  from-refill = limit-line xs (ascii " timers=0 interval=0 alone=0 short=0\n") 11 ∙ ap (λ (z : List ℕ). refill-field (limit-at xs) ++ z) from-timers
+  from-timers = number-line xs (ascii " timers=") (ascii " interval=0 alone=0 short=0 pins=[1]\n") 11 layout.timers-scheduled-at 1 (λ q. refl) refl refl ∙ ap (λ (z : List ℕ). number-field (ascii " timers=") (layout.timers-scheduled xs) ++ z) from-interval
 
-  from-refused : line-text (ascii " refused=[1] refill=L timers=0 interval=0 alone=0 short=0\n") 10 xs ≡ refused-text
+  from-refill : line-text (ascii " refill=L timers=0 interval=0 alone=0 short=0 pins=[1]\n") 11 xs ≡ refill-text
   unfolding line-text byte-text after digit choose ascii places rooms
-  from-refused = peers-line xs (ascii " refused=[") (ascii " refill=L timers=0 interval=0 alone=0 short=0\n") 10 layout.refused-at layout.refused-places (λ q. refl) refl refl ∙ ap (λ (z : List ℕ). list-field (ascii " refused=[") decimal (items-at layout.refused-places (layout.refused-part xs)) ++ z) from-refill
+  from-refill = limit-line xs (ascii " timers=0 interval=0 alone=0 short=0 pins=[1]\n") 11 ∙ ap (λ (z : List ℕ). refill-field (limit-at xs) ++ z) from-timers
 
-  from-alive : line-text (ascii " alive=[1] refused=[1] refill=L timers=0 interval=0 alone=0 short=0\n") 9 xs ≡ alive-text
+  from-refused : line-text (ascii " refused=[1] refill=L timers=0 interval=0 alone=0 short=0 pins=[1]\n") 10 xs ≡ refused-text
   unfolding line-text byte-text after digit choose ascii places rooms
-  from-alive = peers-line xs (ascii " alive=[") (ascii " refused=[1] refill=L timers=0 interval=0 alone=0 short=0\n") 9 layout.alive-at layout.alive-places (λ q. refl) refl refl ∙ ap (λ (z : List ℕ). list-field (ascii " alive=[") decimal (items-at layout.alive-places (layout.alive-part xs)) ++ z) from-refused
+  from-refused = peers-line xs (ascii " refused=[") (ascii " refill=L timers=0 interval=0 alone=0 short=0 pins=[1]\n") 10 layout.refused-at layout.refused-places (λ q. refl) refl refl ∙ ap (λ (z : List ℕ). list-field (ascii " refused=[") decimal (items-at layout.refused-places (layout.refused-part xs)) ++ z) from-refill
 
-  from-data : line-text (ascii " data=[4] alive=[1] refused=[1] refill=L timers=0 interval=0 alone=0 short=0\n") 8 xs ≡ data-text
+  from-alive : line-text (ascii " alive=[1] refused=[1] refill=L timers=0 interval=0 alone=0 short=0 pins=[1]\n") 9 xs ≡ alive-text
   unfolding line-text byte-text after digit choose ascii places rooms
-  from-data = data-line xs (ascii " data=[") (ascii " alive=[1] refused=[1] refill=L timers=0 interval=0 alone=0 short=0\n") 8 layout.peer-data-at layout.peer-data-places (λ q. refl) refl refl ∙ ap (λ (z : List ℕ). list-field (ascii " data=[") held-text (data-map-at layout.peer-data-places (layout.peer-data-part xs)) ++ z) from-alive
+  from-alive = peers-line xs (ascii " alive=[") (ascii " refused=[1] refill=L timers=0 interval=0 alone=0 short=0 pins=[1]\n") 9 layout.alive-at layout.alive-places (λ q. refl) refl refl ∙ ap (λ (z : List ℕ). list-field (ascii " alive=[") decimal (items-at layout.alive-places (layout.alive-part xs)) ++ z) from-refused
 
-  from-next-join : line-text (ascii " next_join=0 data=[4] alive=[1] refused=[1] refill=L timers=0 interval=0 alone=0 short=0\n") 7 xs ≡ next-join-text
+  from-data : line-text (ascii " data=[4] alive=[1] refused=[1] refill=L timers=0 interval=0 alone=0 short=0 pins=[1]\n") 8 xs ≡ data-text
   unfolding line-text byte-text after digit choose ascii places rooms
-  from-next-join = number-line xs (ascii " next_join=") (ascii " data=[4] alive=[1] refused=[1] refill=L timers=0 interval=0 alone=0 short=0\n") 7 layout.next-join-at 1 (λ q. refl) refl refl ∙ ap (λ (z : List ℕ). number-field (ascii " next_join=") (layout.next-join xs) ++ z) from-data
+  from-data = data-line xs (ascii " data=[") (ascii " alive=[1] refused=[1] refill=L timers=0 interval=0 alone=0 short=0 pins=[1]\n") 8 layout.peer-data-at layout.peer-data-places (λ q. refl) refl refl ∙ ap (λ (z : List ℕ). list-field (ascii " data=[") held-text (data-map-at layout.peer-data-places (layout.peer-data-part xs)) ++ z) from-alive
 
-  from-joins : line-text (ascii " joins=[2] next_join=0 data=[4] alive=[1] refused=[1] refill=L timers=0 interval=0 alone=0 short=0\n") 6 xs ≡ joins-text
+  from-next-join : line-text (ascii " next_join=0 data=[4] alive=[1] refused=[1] refill=L timers=0 interval=0 alone=0 short=0 pins=[1]\n") 7 xs ≡ next-join-text
   unfolding line-text byte-text after digit choose ascii places rooms
-  from-joins = numbers-line xs (ascii " joins=[") (ascii " next_join=0 data=[4] alive=[1] refused=[1] refill=L timers=0 interval=0 alone=0 short=0\n") 6 layout.joins-at layout.joins-places (λ q. refl) refl refl ∙ ap (λ (z : List ℕ). list-field (ascii " joins=[") numbered-text (numbers-at layout.joins-places (layout.joins-part xs)) ++ z) from-next-join
+  from-next-join = number-line xs (ascii " next_join=") (ascii " data=[4] alive=[1] refused=[1] refill=L timers=0 interval=0 alone=0 short=0 pins=[1]\n") 7 layout.next-join-at 1 (λ q. refl) refl refl ∙ ap (λ (z : List ℕ). number-field (ascii " next_join=") (layout.next-join xs) ++ z) from-data
 
-  from-next-request : line-text (ascii " next_request=0 joins=[2] next_join=0 data=[4] alive=[1] refused=[1] refill=L timers=0 interval=0 alone=0 short=0\n") 5 xs ≡ next-request-text
+  from-joins : line-text (ascii " joins=[2] next_join=0 data=[4] alive=[1] refused=[1] refill=L timers=0 interval=0 alone=0 short=0 pins=[1]\n") 6 xs ≡ joins-text
   unfolding line-text byte-text after digit choose ascii places rooms
-  from-next-request = number-line xs (ascii " next_request=") (ascii " joins=[2] next_join=0 data=[4] alive=[1] refused=[1] refill=L timers=0 interval=0 alone=0 short=0\n") 5 layout.next-neighbor-request-at 1 (λ q. refl) refl refl ∙ ap (λ (z : List ℕ). number-field (ascii " next_request=") (layout.next-neighbor-request xs) ++ z) from-joins
+  from-joins = numbers-line xs (ascii " joins=[") (ascii " next_join=0 data=[4] alive=[1] refused=[1] refill=L timers=0 interval=0 alone=0 short=0 pins=[1]\n") 6 layout.joins-at layout.joins-places (λ q. refl) refl refl ∙ ap (λ (z : List ℕ). list-field (ascii " joins=[") numbered-text (numbers-at layout.joins-places (layout.joins-part xs)) ++ z) from-next-join
 
-  from-requests : line-text (ascii " requests=[2] next_request=0 joins=[2] next_join=0 data=[4] alive=[1] refused=[1] refill=L timers=0 interval=0 alone=0 short=0\n") 4 xs ≡ requests-text
+  from-next-request : line-text (ascii " next_request=0 joins=[2] next_join=0 data=[4] alive=[1] refused=[1] refill=L timers=0 interval=0 alone=0 short=0 pins=[1]\n") 5 xs ≡ next-request-text
   unfolding line-text byte-text after digit choose ascii places rooms
-  from-requests = numbers-line xs (ascii " requests=[") (ascii " next_request=0 joins=[2] next_join=0 data=[4] alive=[1] refused=[1] refill=L timers=0 interval=0 alone=0 short=0\n") 4 layout.requests-at layout.requests-places (λ q. refl) refl refl ∙ ap (λ (z : List ℕ). list-field (ascii " requests=[") numbered-text (numbers-at layout.requests-places (layout.requests-part xs)) ++ z) from-next-request
+  from-next-request = number-line xs (ascii " next_request=") (ascii " joins=[2] next_join=0 data=[4] alive=[1] refused=[1] refill=L timers=0 interval=0 alone=0 short=0 pins=[1]\n") 5 layout.next-neighbor-request-at 1 (λ q. refl) refl refl ∙ ap (λ (z : List ℕ). number-field (ascii " next_request=") (layout.next-neighbor-request xs) ++ z) from-joins
 
-  from-recent : line-text (ascii " recent=[1] requests=[2] next_request=0 joins=[2] next_join=0 data=[4] alive=[1] refused=[1] refill=L timers=0 interval=0 alone=0 short=0\n") 3 xs ≡ recent-text
+  from-requests : line-text (ascii " requests=[2] next_request=0 joins=[2] next_join=0 data=[4] alive=[1] refused=[1] refill=L timers=0 interval=0 alone=0 short=0 pins=[1]\n") 4 xs ≡ requests-text
   unfolding line-text byte-text after digit choose ascii places rooms
-  from-recent = peers-line xs (ascii " recent=[") (ascii " requests=[2] next_request=0 joins=[2] next_join=0 data=[4] alive=[1] refused=[1] refill=L timers=0 interval=0 alone=0 short=0\n") 3 layout.recent-at layout.recent-places (λ q. refl) refl refl ∙ ap (λ (z : List ℕ). list-field (ascii " recent=[") decimal (items-at layout.recent-places (layout.recent-part xs)) ++ z) from-requests
+  from-requests = numbers-line xs (ascii " requests=[") (ascii " next_request=0 joins=[2] next_join=0 data=[4] alive=[1] refused=[1] refill=L timers=0 interval=0 alone=0 short=0 pins=[1]\n") 4 layout.requests-at layout.requests-places (λ q. refl) refl refl ∙ ap (λ (z : List ℕ). list-field (ascii " requests=[") numbered-text (numbers-at layout.requests-places (layout.requests-part xs)) ++ z) from-next-request
 
-  from-bootstrap : line-text (ascii " bootstrap=[1] recent=[1] requests=[2] next_request=0 joins=[2] next_join=0 data=[4] alive=[1] refused=[1] refill=L timers=0 interval=0 alone=0 short=0\n") 2 xs ≡ bootstrap-text
+  from-recent : line-text (ascii " recent=[1] requests=[2] next_request=0 joins=[2] next_join=0 data=[4] alive=[1] refused=[1] refill=L timers=0 interval=0 alone=0 short=0 pins=[1]\n") 3 xs ≡ recent-text
   unfolding line-text byte-text after digit choose ascii places rooms
-  from-bootstrap = peers-line xs (ascii " bootstrap=[") (ascii " recent=[1] requests=[2] next_request=0 joins=[2] next_join=0 data=[4] alive=[1] refused=[1] refill=L timers=0 interval=0 alone=0 short=0\n") 2 layout.bootstrap-at layout.bootstrap-places (λ q. refl) refl refl ∙ ap (λ (z : List ℕ). list-field (ascii " bootstrap=[") decimal (items-at layout.bootstrap-places (layout.bootstrap-part xs)) ++ z) from-recent
+  from-recent = peers-line xs (ascii " recent=[") (ascii " requests=[2] next_request=0 joins=[2] next_join=0 data=[4] alive=[1] refused=[1] refill=L timers=0 interval=0 alone=0 short=0 pins=[1]\n") 3 layout.recent-at layout.recent-places (λ q. refl) refl refl ∙ ap (λ (z : List ℕ). list-field (ascii " recent=[") decimal (items-at layout.recent-places (layout.recent-part xs)) ++ z) from-requests
 
-  from-passive : line-text (ascii " passive=[1] bootstrap=[1] recent=[1] requests=[2] next_request=0 joins=[2] next_join=0 data=[4] alive=[1] refused=[1] refill=L timers=0 interval=0 alone=0 short=0\n") 1 xs ≡ passive-text
+  from-bootstrap : line-text (ascii " bootstrap=[1] recent=[1] requests=[2] next_request=0 joins=[2] next_join=0 data=[4] alive=[1] refused=[1] refill=L timers=0 interval=0 alone=0 short=0 pins=[1]\n") 2 xs ≡ bootstrap-text
   unfolding line-text byte-text after digit choose ascii places rooms
-  from-passive = peers-line xs (ascii " passive=[") (ascii " bootstrap=[1] recent=[1] requests=[2] next_request=0 joins=[2] next_join=0 data=[4] alive=[1] refused=[1] refill=L timers=0 interval=0 alone=0 short=0\n") 1 layout.passive-at layout.passive-places (λ q. refl) refl refl ∙ ap (λ (z : List ℕ). list-field (ascii " passive=[") decimal (items-at layout.passive-places (layout.passive-part xs)) ++ z) from-bootstrap
+  from-bootstrap = peers-line xs (ascii " bootstrap=[") (ascii " recent=[1] requests=[2] next_request=0 joins=[2] next_join=0 data=[4] alive=[1] refused=[1] refill=L timers=0 interval=0 alone=0 short=0 pins=[1]\n") 2 layout.bootstrap-at layout.bootstrap-places (λ q. refl) refl refl ∙ ap (λ (z : List ℕ). list-field (ascii " bootstrap=[") decimal (items-at layout.bootstrap-places (layout.bootstrap-part xs)) ++ z) from-recent
 
-  from-active : line-text (ascii " active=[1] passive=[1] bootstrap=[1] recent=[1] requests=[2] next_request=0 joins=[2] next_join=0 data=[4] alive=[1] refused=[1] refill=L timers=0 interval=0 alone=0 short=0\n") 0 xs ≡ active-text
+  from-passive : line-text (ascii " passive=[1] bootstrap=[1] recent=[1] requests=[2] next_request=0 joins=[2] next_join=0 data=[4] alive=[1] refused=[1] refill=L timers=0 interval=0 alone=0 short=0 pins=[1]\n") 1 xs ≡ passive-text
   unfolding line-text byte-text after digit choose ascii places rooms
-  from-active = peers-line xs (ascii " active=[") (ascii " passive=[1] bootstrap=[1] recent=[1] requests=[2] next_request=0 joins=[2] next_join=0 data=[4] alive=[1] refused=[1] refill=L timers=0 interval=0 alone=0 short=0\n") 0 layout.active-at layout.active-places (λ q. refl) refl refl ∙ ap (λ (z : List ℕ). list-field (ascii " active=[") decimal (items-at layout.active-places (layout.active-part xs)) ++ z) from-passive
+  from-passive = peers-line xs (ascii " passive=[") (ascii " bootstrap=[1] recent=[1] requests=[2] next_request=0 joins=[2] next_join=0 data=[4] alive=[1] refused=[1] refill=L timers=0 interval=0 alone=0 short=0 pins=[1]\n") 1 layout.passive-at layout.passive-places (λ q. refl) refl refl ∙ ap (λ (z : List ℕ). list-field (ascii " passive=[") decimal (items-at layout.passive-places (layout.passive-part xs)) ++ z) from-bootstrap
 
-  fields-line : line-text (ascii " active=[1] passive=[1] bootstrap=[1] recent=[1] requests=[2] next_request=0 joins=[2] next_join=0 data=[4] alive=[1] refused=[1] refill=L timers=0 interval=0 alone=0 short=0\n") 0 xs ≡ fields-text xs
+  from-active : line-text (ascii " active=[1] passive=[1] bootstrap=[1] recent=[1] requests=[2] next_request=0 joins=[2] next_join=0 data=[4] alive=[1] refused=[1] refill=L timers=0 interval=0 alone=0 short=0 pins=[1]\n") 0 xs ≡ active-text
+  unfolding line-text byte-text after digit choose ascii places rooms
+  from-active = peers-line xs (ascii " active=[") (ascii " passive=[1] bootstrap=[1] recent=[1] requests=[2] next_request=0 joins=[2] next_join=0 data=[4] alive=[1] refused=[1] refill=L timers=0 interval=0 alone=0 short=0 pins=[1]\n") 0 layout.active-at layout.active-places (λ q. refl) refl refl ∙ ap (λ (z : List ℕ). list-field (ascii " active=[") decimal (items-at layout.active-places (layout.active-part xs)) ++ z) from-passive
+
+  fields-line : line-text (ascii " active=[1] passive=[1] bootstrap=[1] recent=[1] requests=[2] next_request=0 joins=[2] next_join=0 data=[4] alive=[1] refused=[1] refill=L timers=0 interval=0 alone=0 short=0 pins=[1]\n") 0 xs ≡ fields-text xs
   unfolding fields-text
   fields-line = from-active
 

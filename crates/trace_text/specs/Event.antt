@@ -47,7 +47,8 @@ fields-text xs =
     ++ (number-field (ascii " interval=") (layout.next-shuffle-interval xs)
     ++ (number-field (ascii " alone=") (layout.passes-alone xs)
     ++ (number-field (ascii " short=") (layout.passes-short xs)
-    ++ ascii "\n")))))))))))))))
+    ++ (list-field (ascii " pins=[") decimal (items-at layout.pins-places (layout.pins-part xs))
+    ++ ascii "\n"))))))))))))))))
 
 -- end
 

@@ -65,11 +65,11 @@ fn put_record_lines(out: &mut [u8], t: Text, records: &[u8]) -> Text
 // The line as it is printed, but for what stands in place of some bytes: `O` the station's own data, `L` the limit on refills, a digit the next of the fields below. The digit is how many
 // columns the field has: 0 a number, 1 a list of peers, 2 peers with their numbers, 4 peers with their data.
 // The line and its fields, by tools/make/layout.py
-const STATE_LINE: [u8; 185] =
-    *b"state me=O active=[1] passive=[1] bootstrap=[1] recent=[1] requests=[2] next_request=0 joins=[2] next_join=0 data=[4] alive=[1] refused=[1] refill=L timers=0 interval=0 alone=0 short=0\n";
+const STATE_LINE: [u8; 194] =
+    *b"state me=O active=[1] passive=[1] bootstrap=[1] recent=[1] requests=[2] next_request=0 joins=[2] next_join=0 data=[4] alive=[1] refused=[1] refill=L timers=0 interval=0 alone=0 short=0 pins=[1]\n";
 
 // Where the words of each field begin.
-const FIELD_PLACES: [usize; 15] = [
+const FIELD_PLACES: [usize; 16] = [
     Layout::ACTIVE,
     Layout::PASSIVE,
     Layout::BOOTSTRAP,
@@ -85,10 +85,11 @@ const FIELD_PLACES: [usize; 15] = [
     Layout::NEXT_SHUFFLE_INTERVAL,
     Layout::PASSES_ALONE,
     Layout::PASSES_SHORT,
+    Layout::PINS,
 ];
 
 // How many items each has room for.
-const FIELD_ROOMS: [usize; 15] = [
+const FIELD_ROOMS: [usize; 16] = [
     Layout::ACTIVE_PLACES,
     Layout::PASSIVE_PLACES,
     Layout::BOOTSTRAP_PLACES,
@@ -104,6 +105,7 @@ const FIELD_ROOMS: [usize; 15] = [
     1,
     1,
     1,
+    Layout::PINS_PLACES,
 ];
 // end
 

@@ -102,14 +102,17 @@ shared-slice-read-result-10 c = search needs
 views-rule-requires : tie.Need-views-rule-requires
 views-rule-requires c κs = search (formed (joins-to-formed (data-to-joins (c .before .before .before .before .before .before))), needs)
 
+pins-rule-requires : tie.Need-pins-rule-requires
+pins-rule-requires c κs = search (formed (joins-to-formed (data-to-joins (c .before .before .before .before .before .before .before))), needs)
+
 returns-3 : tie.Need-returns-3
 unfolding part
 returns-3 c =
-    let held = c .before .before .before .before .before .before .before in
+    let held = c .before .before .before .before .before .before .before .before in
     let joins = data-to-joins held in
     let ordered = joins-to-order joins in
-    tests-are _ (formed (order-to-formed ordered)) _ _ _ _ _ _ _ (ordered .before .before .settings-rule .ensures) (ordered .before .repeats-rule .ensures) (ordered .order-rule .ensures)
-    (joins .joins-rule .ensures) (held .before .before .numbers-rule .ensures) (held .contains-data .ensures) (c .views-rule .ensures)
+    tests-are _ (formed (order-to-formed ordered)) _ _ _ _ _ _ _ _ (ordered .before .before .settings-rule .ensures) (ordered .before .repeats-rule .ensures) (ordered .order-rule .ensures)
+    (joins .joins-rule .ensures) (held .before .before .numbers-rule .ensures) (held .contains-data .ensures) (c .before .views-rule .ensures) (c .pins-rule .ensures)
 
 pub is-ok-spec : {M : Type 1} → statement M
 is-ok-spec =
@@ -140,4 +143,5 @@ is-ok-spec =
     shared-slice-read-result-9
     shared-slice-read-result-10
     views-rule-requires
+    pins-rule-requires
     returns-3)

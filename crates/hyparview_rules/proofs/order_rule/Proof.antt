@@ -1,4 +1,4 @@
--- Packed words have well formed sets, and their maps rise, so the two tests are the definition's rule, by `order-is`.
+-- Packed words have well formed sets, and their maps rise, so the three tests are the definition's rule, by `order-is`.
 use Rattle.base_util.specs.Section.{part}
 use Rattle.hyparview_rules.proofs.Shape.{of-ok}
 use Rattle.hyparview_rules.proofs.Held.{order-is}
@@ -32,6 +32,18 @@ is-rising-requires-2 : tie.Need-is-rising-requires-2
 unfolding part
 is-rising-requires-2 c κs = search (of-ok, needs)
 
+sub-is-rising-3 : tie.Need-sub-is-rising-3
+sub-is-rising-3 c = search needs
+
+part-is-rising-start-3 : tie.Need-part-is-rising-start-3
+part-is-rising-start-3 c = search needs
+
+part-is-rising-end-3 : tie.Need-part-is-rising-end-3
+part-is-rising-end-3 c = search needs
+
+is-rising-requires-3 : tie.Need-is-rising-requires-3
+unfolding part
+is-rising-requires-3 c κs = search (of-ok, needs)
 returns : tie.Need-returns
 unfolding part
 returns c = search order-is
@@ -48,4 +60,8 @@ order-rule-spec =
     part-is-rising-start-2
     part-is-rising-end-2
     is-rising-requires-2
+    sub-is-rising-3
+    part-is-rising-start-3
+    part-is-rising-end-3
+    is-rising-requires-3
     returns)

@@ -113,6 +113,21 @@ part-data-valid-end c = search needs
 data-valid-requires : tie.Need-data-valid-requires
 data-valid-requires c κs = search needs
 
+sub-is-section-7 : tie.Need-sub-is-section-7
+sub-is-section-7 c = search needs
+
+part-is-section-start-7 : tie.Need-part-is-section-start-7
+part-is-section-start-7 c = search needs
+
+part-is-section-end-7 : tie.Need-part-is-section-end-7
+part-is-section-end-7 c = search needs
+
+is-section-requires-7 : tie.Need-is-section-requires-7
+is-section-requires-7 c κs = search needs
+
+abbrev way-9 : tie.After-is-section7 → tie.After-data-valid
+way-9 c = c .before .before
+
 abbrev way-8 : tie.After-data-valid → tie.After-numbers-valid2
 way-8 c = c .before .before
 
@@ -140,7 +155,8 @@ way-1 c = c .before .before
 returns : tie.Need-returns
 unfolding part
 returns c =
-    let c7 = way-8 c in
+    let c8 = way-9 c in
+    let c7 = way-8 c8 in
     let c6 = way-7 c7 in
     let c5 = way-6 c6 in
     let c4 = way-5 c5 in
@@ -148,7 +164,7 @@ returns c =
     let c2 = way-3 c3 in
     let c1 = way-2 c2 in
     let c0 = way-1 c1 in
-    sections-are _ _ _ _ _ _ _ _ _ _ (c0 .is-section .ensures) (c1 .is-section2 .ensures) (c2 .is-section3 .ensures) (c3 .is-section4 .ensures) (c4 .numbers-valid .ensures) (c5 .is-section5 .ensures) (c6 .is-section6 .ensures) (c7 .numbers-valid2 .ensures) (c .data-valid .ensures)
+    sections-are _ _ _ _ _ _ _ _ _ _ _ (c0 .is-section .ensures) (c1 .is-section2 .ensures) (c2 .is-section3 .ensures) (c3 .is-section4 .ensures) (c4 .numbers-valid .ensures) (c5 .is-section5 .ensures) (c6 .is-section6 .ensures) (c7 .numbers-valid2 .ensures) (c8 .data-valid .ensures) (c .is-section7 .ensures)
 
 pub sections-valid-spec : {M : Type 1} → statement M
 sections-valid-spec =
@@ -190,4 +206,8 @@ sections-valid-spec =
     part-data-valid-start
     part-data-valid-end
     data-valid-requires
+    sub-is-section-7
+    part-is-section-start-7
+    part-is-section-end-7
+    is-section-requires-7
     returns)

@@ -9,7 +9,7 @@ use native.Mathlib.Omega.{arith}
 use Rattle.hyparview_state.proofs.Bridge.{still, then, then-tell}
 use Rattle.step_messages.proofs.Between.{between-calm}
 use Rattle.step_sending.proofs.Told.{room-of}
-use Rattle.step_dispatch.proofs.Arms.{one-node, kind-message, kind-shuffle, kind-maintenance, kind-request, kind-retry, kind-closed, kind-join, kind-data, kind-quit, kind-none}
+use Rattle.step_dispatch.proofs.Arms.{one-node, kind-message, kind-shuffle, kind-maintenance, kind-request, kind-retry, kind-closed, kind-join, kind-data, kind-quit, kind-pin, kind-none}
 use Rattle.step_dispatch.proofs.Laws.{between-less, opens-between, opens-join}
 use Rattle.step_dispatch.proofs.dispatch.Statement.{statement}
 use Rattle.step_dispatch.proofs.dispatch.Tie as tie
@@ -63,6 +63,9 @@ then9-to-start c = else1-to-start (c .before .before .before .before .before .be
 
 abbrev else9-to-else2 : tie.Else9 → tie.Else2
 else9-to-else2 c = c .before .before .before .before .before .before .before .before
+
+abbrev then10-to-start : tie.Then10 → tie.Start
+then10-to-start c = else1-to-start (else9-to-else2 (c .before .before) .before .before)
 
 handle-message-requires : tie.Need-handle-message-requires
 handle-message-requires c κs =
@@ -241,14 +244,26 @@ returns-9 c =
     let start = then9-to-start at-if9 in
     kind-quit _ _ (headed start) _ _ _ _ (at-if2 .if2 .left) (at-if6 .if6 .left) (at-if7 .if7 .left) (at-if8 .if8 .left) (at-if9 .if9 .taken) (at-handle-quit .handle-quit .ensures)
 
+handle-pin-requires : tie.Need-handle-pin-requires
+handle-pin-requires c κs =
+    let start = then10-to-start (c .before) in
+    (long start, fine start .ready .packed)
+
+same-length-18 : tie.Need-same-length-18
+same-length-18 c = search needs
+
 returns-10 : tie.Need-returns-10
 returns-10 c =
-    let at-if8 = c .before .before in
-    let at-if7 = at-if8 .before .before in
-    let at-if6 = at-if7 .before .before in
-    let at-if2 = else9-to-else2 c in
-    let start = else1-to-start (at-if2 .before .before) in
-    kind-none _ _ (headed start) _ _ _ _ (at-if2 .if2 .left) (at-if6 .if6 .left) (at-if7 .if7 .left) (at-if8 .if8 .left) (λ z. omega (arith, z, c .if9 .left)) (still (fine start))
+    let at-handle-pin = c .before .before in
+    let at-if10 = at-handle-pin .before .before in
+    let start = then10-to-start at-if10 in
+    kind-pin _ _ (headed start) _ _ _ _ (at-if10 .if10 .taken) (then (at-handle-pin .handle-pin .ensures) (still (fine start)))
+
+returns-11 : tie.Need-returns-11
+returns-11 c =
+    let at-if9 = c .before .before in
+    let start = else1-to-start (else9-to-else2 at-if9 .before .before) in
+    kind-none _ _ (headed start) _ _ _ _ (at-if9 .if9 .left) (c .if10 .left) (still (fine start))
 
 pub dispatch-spec : {M : Type 1} → statement M
 dispatch-spec =
@@ -290,4 +305,7 @@ dispatch-spec =
     same-length-16
     same-length-17
     returns-9
-    returns-10)
+    handle-pin-requires
+    same-length-18
+    returns-10
+    returns-11)

@@ -90,7 +90,7 @@ loop-to-copy-into c = c .before .before .before .before
 abbrev copy-into-to-start : tie.After-copy-into Inv-loop μ-loop → tie.Start Inv-loop μ-loop
 copy-into-to-start c = c .before .before .before .before .before .before .before
 
-abbrev remove-to-loop : tie.After-remove Inv-loop μ-loop → tie.At-loop Inv-loop μ-loop
+abbrev remove-to-loop : tie.After-remove-neighbor Inv-loop μ-loop → tie.At-loop Inv-loop μ-loop
 remove-to-loop c = c .before .before .before .before
 
 abbrev clear-all-to-loop : tie.After-clear-all Inv-loop μ-loop → tie.At-loop Inv-loop μ-loop
@@ -131,25 +131,15 @@ array-read-p c = search needs
 add-i : tie.Need-add-i Inv-loop μ-loop
 add-i c = search needs
 
-sub-remove : tie.Need-sub-remove Inv-loop μ-loop
-sub-remove c = search needs
-
-part-remove-start : tie.Need-part-remove-start Inv-loop μ-loop
-part-remove-start c = search needs
-
-part-remove-end : tie.Need-part-remove-end Inv-loop μ-loop
-part-remove-end c = search needs
-
-remove-requires : tie.Need-remove-requires Inv-loop μ-loop
-unfolding part
-remove-requires c κs = of-active _ (c .before .before .before .loop .inv .fine .ready .packed)
+remove-neighbor-requires : tie.Need-remove-neighbor-requires Inv-loop μ-loop
+remove-neighbor-requires c κs = search needs
 
 send-disconnect-requires : tie.Need-send-disconnect-requires Inv-loop μ-loop
 send-disconnect-requires c κs =
     let at-remove = c .before .before .before .before in
     let at-loop = remove-to-loop at-remove in
     let fine = at-loop .loop .inv .fine in
-    let left = neighbor-removed _ _ _ _ (fine .ready .packed) (going (at-loop .loop .i) (at-loop .before .count .result) _ (at-remove .before .before .if1 .taken) .1) (at-remove .remove .ensures) in
+    let left = neighbor-removed _ _ _ _ (fine .ready .packed) (going (at-loop .loop .i) (at-loop .before .count .result) _ (at-remove .before .before .if1 .taken) .1) (at-remove .remove-neighbor .ensures) in
     (long (left .packed), fine-after _ _ _ _ _ _ fine left)
 
 loop-less : tie.Need-loop-less Inv-loop μ-loop
@@ -163,7 +153,7 @@ loop-again c =
     let at-remove = c .before .before .before .before .before .before .before in
     let inv = remove-to-loop at-remove .loop .inv in
     let on = going _ _ _ (at-remove .before .before .if1 .taken) in
-    next _ _ _ _ _ _ _ _ _ _ _ _ _ _ inv (on .0) (c .before .before .send-disconnect .ensures) (neighbor-removed _ _ _ _ (inv .fine .ready .packed) (on .1) (at-remove .remove .ensures)) (search needs) (search needs)
+    next _ _ _ _ _ _ _ _ _ _ _ _ _ _ inv (on .0) (c .before .before .send-disconnect .ensures) (neighbor-removed _ _ _ _ (inv .fine .ready .packed) (on .1) (at-remove .remove-neighbor .ensures)) (search needs) (search needs)
 
 same-length : tie.Need-same-length Inv-loop μ-loop
 same-length c = search needs
@@ -212,10 +202,7 @@ handle-quit-spec =
     mul-p
     array-read-p
     add-i
-    sub-remove
-    part-remove-start
-    part-remove-end
-    remove-requires
+    remove-neighbor-requires
     send-disconnect-requires
     loop-less
     loop-again
