@@ -13,7 +13,7 @@
  * MEMORY. The caller owns all of it. The library has no variables, asks for no memory, and needs memcpy, memmove and
  * memset alone. Of the caller's memory it writes only what a function's own lines below say. Stations with memory of their
  * own may be called at the same time; the same station may not, nor may its words be read during a call, by an interrupt
- * for example: hyparview_handle changes them where they lie, and an event refused with 5 to 10 puts them back.
+ * for example: hyparview_handle changes them where they lie, and an event refused with 5 or more puts them back.
  *
  * STACK. A call needs at most HYPARVIEW_STACK bytes: tools/gate/stack reads off the machine code how many of them each function
  * takes on its deepest path, and there is no recursion. What the C library's three functions take is not counted, nor what
@@ -28,7 +28,16 @@
  * DAMAGE. Words that are no station which keeps the station rules (docs/FORMAT.md) are refused with HYPARVIEW_CODE_STATE,
  * and the queries say no of them; words after a hyparview_new that was accepted, and any events, keep the rules. So words
  * that were kept over a reset may be tried as they are, and made anew by hyparview_new where they are refused. Keep the
- * timers that run beside them: only the first accepted event of a new station starts DoShuffle and DoMaintenance. */
+ * timers that run beside them: only the first accepted event of a new station starts DoShuffle and DoMaintenance.
+ *
+ * WORDS OF VERSION 1. It had no pins and HYPARVIEW_WORD_PINS words, all at the places that they have now; the pins stand
+ * after them. Lent as they are they are refused with HYPARVIEW_CODE_STATE, as any other number of words. So a station that was
+ * sealed into flash by version 1 is carried over by zeroes after its words, which are no pins; its tally stays as it is:
+ *
+ *     memcpy(state, flash, HYPARVIEW_WORD_PINS * sizeof *state);
+ *     memset(state + HYPARVIEW_WORD_PINS, 0, (HYPARVIEW_WORDS - HYPARVIEW_WORD_PINS) * sizeof *state);
+ *
+ * tests/carried.c does so with words of version 1. */
 #ifndef HYPARVIEW_H
 #define HYPARVIEW_H
 
@@ -46,7 +55,7 @@ extern "C" {
 /* ---- The version: raised where records, words, codes or functions become others. A station that is linked apart from this
  * header compares it with what hyparview_version answers. */
 
-#define HYPARVIEW_VERSION 1
+#define HYPARVIEW_VERSION 2 /* 1 had no pins */
 
 /* ---- Sizes */
 
@@ -74,6 +83,8 @@ extern "C" {
 #define HYPARVIEW_CODE_DATA 8      /* data of an 81st peer would be held: never answered, as such words are met with 2 */
 #define HYPARVIEW_CODE_OUTPUT 9    /* a record does not fit into the output: lend HYPARVIEW_OUTPUT */
 #define HYPARVIEW_CODE_COUNTER 10  /* a counter is at its top */
+#define HYPARVIEW_CODE_PIN_STRANGER 17 /* the peer to be pinned is no neighbour */
+#define HYPARVIEW_CODE_PIN_LIMIT 18    /* active_view_capacity - 1 neighbours are pinned, and the peer is none of them */
 
 /* ---- Records
  *
@@ -137,6 +148,12 @@ extern "C" {
 #define HYPARVIEW_KIND_NEIGHBOR_DOWN 10           /* output: `peer` is a neighbour no more */
 #define HYPARVIEW_KIND_PEER_DATA 11               /* output: data of `peer`, not empty, in one node */
 #define HYPARVIEW_KIND_EVICTED 12                 /* output: `peer` left the full list of spare addresses, for another to enter */
+#define HYPARVIEW_KIND_PIN 13                     /* event: `peer`, a neighbour, is not to be dropped for another's arrival */
+
+/* A pin writes nothing and needs no draw. A full station drops for a neighbour of high priority only one without a pin, of
+ * whom there always is one, since at most active_view_capacity - 1 are pinned. A pin ends where its peer is a neighbour no
+ * more: by its own Disconnect, by its closed connection, or by Quit, and by nothing else. There is no event that takes a pin
+ * back; pinning twice changes nothing. */
 
 /* The timers are kinds 1 to 4. The first accepted event starts DoShuffle and DoMaintenance, and each of their events
  * starts them again. */
@@ -268,7 +285,7 @@ static inline uint32_t hyparview_allowance(const uint8_t *event, uint32_t active
         return 3;
     if (event[0] == HYPARVIEW_KIND_DO_MAINTENANCE)
         return 9;
-    if (event[0] == HYPARVIEW_KIND_UPDATE_PEER_DATA || event[0] == HYPARVIEW_KIND_QUIT)
+    if (event[0] == HYPARVIEW_KIND_UPDATE_PEER_DATA || event[0] == HYPARVIEW_KIND_QUIT || event[0] == HYPARVIEW_KIND_PIN)
         return 0;
     return 1;
 }
@@ -286,7 +303,7 @@ static inline uint32_t hyparview_allowance(const uint8_t *event, uint32_t active
  * are automatic, 1 where REFILL_REQUESTS are left (0 to 3), 2 in recovery. ACTIVE are the neighbours, PASSIVE the spare
  * addresses, ALIVE those of them that said they stay alive, REFUSED the peers that refused a request, REQUESTS the open
  * requests, BOOTSTRAP the peers last asked to join through, RECENT the last neighbours, JOINS the joins to be sent once
- * more, PEER_DATA what is known of other peers. docs/FORMAT.md has the rules of each. */
+ * more, PEER_DATA what is known of other peers, PINS the pinned neighbours. docs/FORMAT.md has the rules of each. */
 
 /* The places, by tools/make/layout.py */
 #define HYPARVIEW_WORD_ME 0
@@ -387,7 +404,7 @@ uint32_t hyparview_new(uint64_t *state, size_t words, struct hyparview_tally *ta
  * 2^32, so that all items have equal chances; of HYPARVIEW_DRAWS even draws too many are passed over with a chance below
  * 2^-5000 (docs/FORMAT.md works it out): then the code is HYPARVIEW_CODE_DRAWS, and the same event may be brought again
  * with others. Of several reasons to refuse the first holds: 2; 3 for under 32 bytes; 4; 3; then of 5 to 10 what the steps
- * meet first. */
+ * meet first, and of a pin 17 and then 18. */
 struct hyparview_done hyparview_handle(uint64_t *state, size_t words, struct hyparview_tally *tally, const uint8_t *event,
                                        size_t event_len, const uint32_t *draws, size_t draws_len, uint8_t *out,
                                        size_t out_len);

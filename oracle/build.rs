@@ -20,6 +20,13 @@ const MUTANT_VARIABLE: &str = "ORACLE_MUTANT";
 const FORGET: &str = "self.peer_data.retain(|peer, _| self.active_view.contains(peer) \
     || self.passive_view.contains(peer) || self.pending_neighbor_requests.contains_key(peer));";
 
+/// 02, S-14, at the end of `handle`: a pin ends with its peer's place in the active view.
+const UNPIN: &str = "self.pins.retain(|peer| self.active_view.contains(peer));";
+
+/// 02, S-14: the function that demotes a random neighbour, and what stands in front of its steps.
+const FREE_SLOT: &str = "fn free_random_slot_in_active_view(&mut self, io: &mut impl IO<PI>) {";
+const UNLESS_PINNED: &str = "if !self.pins.is_empty() { return self.free_unpinned_slot(io); }";
+
 /// Changes `from` to `to` in the lines of `file` that hold it: `lines` of them, or only the
 /// `place`th.
 struct Substitution {
@@ -56,7 +63,8 @@ fn one(file: &str, from: &str, to: &str, place: usize, lines: usize) -> Substitu
 /// Rust itself.
 fn substitutions() -> Vec<Substitution> {
     let mutant = env::var(MUTANT_VARIABLE).map(|mutant| read_mutant(&mutant));
-    let own = [membership(), broadcast(), joined()].into_iter().flatten();
+    let own = [membership(), pins(), broadcast(), joined()];
+    let own = own.into_iter().flatten();
     mutant.into_iter().chain(own).collect()
 }
 
@@ -77,8 +85,35 @@ fn membership() -> Vec<Substitution> {
             "self.forget_peer(&evicted); io.emit(Event::Evicted(evicted));",
             1,
         ),
-        one(file, "#[cfg(test)]", &format!("{FORGET} {CHECKED}"), 2, 3),
+        one(
+            file,
+            "#[cfg(test)]",
+            &format!("{FORGET} {UNPIN} {CHECKED}"),
+            2,
+            3,
+        ),
         one(file, "#[cfg(test)]", CHECKED, 2, 2),
+    ]
+}
+
+/// 02, S-14: the state holds pins, and where there are some, whom to demote is picked by our side (src/pins.rs). While
+/// nobody is pinned the steps are the Rust's.
+fn pins() -> Vec<Substitution> {
+    let file = "hyparview.rs";
+    vec![
+        all(
+            file,
+            "refill: RefillLimit,",
+            "refill: RefillLimit, pins: std::collections::BTreeSet<PI>,",
+            1,
+        ),
+        all(
+            file,
+            "refused: Default::default(),",
+            "refused: Default::default(), pins: Default::default(),",
+            1,
+        ),
+        all(file, FREE_SLOT, &format!("{FREE_SLOT} {UNLESS_PINNED}"), 1),
     ]
 }
 

@@ -1,6 +1,6 @@
 /* The exported functions one by one, in C and in C++: hyparview_new with own data and with settings about their ranges,
- * lengths that are none, numbers that agree in a half, NULL with length 0, outputs and draws that are too short, and that nothing else is written. It
- * stops with 1 at the first fault.
+ * lengths that are none, numbers that agree in a half, pins, NULL with length 0, outputs and draws that are too short, and
+ * that nothing else is written. It stops with 1 at the first fault.
  *
  * usage: calls FILE    rows of four words by tools/make/record_vectors.py: whether own data is present, its bytes after an x, the
  *                      code of hyparview_new, and after an x the output of RequestJoin 7 at self 1 with a draw of 0 */
@@ -237,6 +237,25 @@ static void shortness(void)
     CHECK(done.code == HYPARVIEW_ACCEPTED && done.draws == 1 && lent.tally.join == 1);
 }
 
+/* A Neighbor of high priority from the peer, without data. */
+static uint32_t arrive(uint64_t peer)
+{
+    uint8_t neighbor[HYPARVIEW_HEADER + HYPARVIEW_NODE];
+    struct hyparview_header h;
+    struct hyparview_entry absent;
+    memset(&h, 0, sizeof h);
+    memset(&absent, 0, sizeof absent);
+    h.message = HYPARVIEW_MESSAGE_NEIGHBOR;
+    h.flags = HYPARVIEW_FLAG_HIGH;
+    h.nodes = 1;
+    h.peer = peer;
+    h.size = sizeof neighbor;
+    hyparview_write_header(neighbor, h);
+    hyparview_write_node(neighbor + HYPARVIEW_HEADER, absent);
+    return hyparview_handle(lent.state, HYPARVIEW_WORDS, &lent.tally, neighbor, sizeof neighbor, zeroes, HYPARVIEW_DRAWS,
+                            lent.out, sizeof lent.out).code;
+}
+
 /* ---- numbers of 64 bits (02, S-8) */
 
 /* Self and peers that agree in their lower half are others: each is a neighbour of its own. */
@@ -248,21 +267,8 @@ static void numbers(void)
     CHECK(hyparview_new(lent.state, HYPARVIEW_WORDS, &lent.tally, me, 0, none, 0, defaults) == HYPARVIEW_ACCEPTED);
     CHECK(lent.state[HYPARVIEW_WORD_ME] == me);
     for (size_t i = 0; i < sizeof peers / sizeof peers[0]; i++) {
-        uint8_t neighbor[HYPARVIEW_HEADER + HYPARVIEW_NODE];
-        struct hyparview_header h;
-        struct hyparview_entry absent;
-        memset(&h, 0, sizeof h);
-        memset(&absent, 0, sizeof absent);
-        h.message = HYPARVIEW_MESSAGE_NEIGHBOR;
-        h.flags = HYPARVIEW_FLAG_HIGH;
-        h.nodes = 1;
-        h.peer = peers[i];
-        h.size = sizeof neighbor;
-        hyparview_write_header(neighbor, h);
-        hyparview_write_node(neighbor + HYPARVIEW_HEADER, absent);
         CHECK(!hyparview_is_neighbor(lent.state, HYPARVIEW_WORDS, peers[i]));
-        CHECK(hyparview_handle(lent.state, HYPARVIEW_WORDS, &lent.tally, neighbor, sizeof neighbor, zeroes, HYPARVIEW_DRAWS,
-                               lent.out, sizeof lent.out).code == HYPARVIEW_ACCEPTED && guarded());
+        CHECK(arrive(peers[i]) == HYPARVIEW_ACCEPTED && guarded());
         CHECK(hyparview_neighbor_count(lent.state, HYPARVIEW_WORDS) == i + 1);
         CHECK(hyparview_neighbor(lent.state, HYPARVIEW_WORDS, i) == peers[i]);
         struct hyparview_reading up = hyparview_read(lent.out, hyparview_record_size(lent.out));
@@ -271,13 +277,49 @@ static void numbers(void)
     CHECK(!hyparview_is_neighbor(lent.state, HYPARVIEW_WORDS, me) && !hyparview_is_neighbor(lent.state, HYPARVIEW_WORDS, 0));
 }
 
+/* ---- pins (02, S-14) */
+
+static uint32_t pin(uint64_t peer)
+{
+    const struct event e = event(HYPARVIEW_KIND_PIN, peer);
+    memcpy(&kept, &lent, sizeof kept);
+    struct hyparview_done done = handle(&e, 0, 0);
+    CHECK(done.draws == 0 && memcmp(&kept.tally, &lent.tally, sizeof kept.tally) == 0);
+    return done.code;
+}
+
+/* Two neighbours of three are pinned, without draws and output; the third goes for an arrival, and with it no pin. */
+static void pins(void)
+{
+    struct hyparview_config few = defaults;
+    const struct event closed = event(HYPARVIEW_KIND_PEER_DISCONNECTED, 9);
+    few.active_view_capacity = 3;
+    fill();
+    CHECK(make(0, none, 0, few) == HYPARVIEW_ACCEPTED);
+    CHECK(pin(7) == HYPARVIEW_CODE_PIN_STRANGER);
+    CHECK(arrive(9) == HYPARVIEW_ACCEPTED && arrive(7) == HYPARVIEW_ACCEPTED && arrive(8) == HYPARVIEW_ACCEPTED);
+    CHECK(pin(9) == HYPARVIEW_ACCEPTED && pin(7) == HYPARVIEW_ACCEPTED);
+    CHECK(lent.state[HYPARVIEW_WORD_PINS_COUNT] == 2 && lent.state[HYPARVIEW_WORD_PINS] == 7 &&
+          lent.state[HYPARVIEW_WORD_PINS + 1] == 9);
+    CHECK(pin(8) == HYPARVIEW_CODE_PIN_LIMIT && pin(6) == HYPARVIEW_CODE_PIN_STRANGER);
+    CHECK(pin(9) == HYPARVIEW_ACCEPTED && left());
+    for (uint64_t peer = 10; peer < 20; peer++)
+        CHECK(arrive(peer) == HYPARVIEW_ACCEPTED && hyparview_is_neighbor(lent.state, HYPARVIEW_WORDS, 7) &&
+              hyparview_is_neighbor(lent.state, HYPARVIEW_WORDS, 9) && hyparview_is_neighbor(lent.state, HYPARVIEW_WORDS, peer));
+    CHECK(handle(&closed, HYPARVIEW_DRAWS, sizeof lent.out).code == HYPARVIEW_ACCEPTED);
+    CHECK(lent.state[HYPARVIEW_WORD_PINS_COUNT] == 1 && lent.state[HYPARVIEW_WORD_PINS] == 7 &&
+          lent.state[HYPARVIEW_WORD_PINS + 1] == 0);
+    CHECK(pin(19) == HYPARVIEW_ACCEPTED && pin(9) == HYPARVIEW_CODE_PIN_STRANGER);
+}
+
 /* ---- the version and the allowance */
 
 static void allowances(void)
 {
     /* kind, message and what they add at capacity 5, by the mission's demand 3 */
     static const uint8_t due[][3] = {{0, 0, 7}, {0, 1, 1}, {0, 2, 1}, {0, 3, 1}, {0, 4, 3}, {0, 5, 1}, {1, 0, 1},
-                                     {2, 0, 9}, {3, 0, 1}, {4, 0, 1}, {5, 0, 1}, {6, 0, 1}, {7, 0, 0}, {8, 0, 0}};
+                                     {2, 0, 9}, {3, 0, 1}, {4, 0, 1}, {5, 0, 1}, {6, 0, 1}, {7, 0, 0}, {8, 0, 0},
+                                     {13, 0, 0}};
     CHECK(hyparview_version() == HYPARVIEW_VERSION);
     for (size_t i = 0; i < sizeof due / sizeof due[0]; i++)
         CHECK(hyparview_allowance(due[i], 5) == due[i][2]);
@@ -323,8 +365,9 @@ int main(int argc, char **argv)
     lengths();
     shortness();
     numbers();
+    pins();
     allowances();
     nulls();
-    printf("calls: %ld checks: new with own data, settings, lengths, 64-bit numbers, the allowance, NULL, short outputs\n", checks);
+    printf("calls: %ld checks: new with own data, settings, lengths, 64-bit numbers, pins, the allowance, NULL, short outputs\n", checks);
     return 0;
 }

@@ -9,7 +9,7 @@
 #include <stdlib.h>
 #include <string.h>
 
-#define ROOM 560
+#define ROOM (HYPARVIEW_WORDS + 9)
 #define BASE 65535
 
 static uint64_t base[ROOM], words[ROOM], before[ROOM];

@@ -25,7 +25,7 @@ static char text[20000];
 static size_t used;
 static uint64_t first_count;
 static long kinds[HYPARVIEW_KIND_EVICTED + 1], messages[HYPARVIEW_MESSAGE_DISCONNECT + 1];
-static long codes[HYPARVIEW_CODE_COUNTER + 1];
+static long codes[HYPARVIEW_CODE_PIN_LIMIT + 1];
 static long used_up;
 
 static int next_line(void)
@@ -137,6 +137,7 @@ static void put_state(void)
     put_field(" interval=", state[HYPARVIEW_WORD_NEXT_SHUFFLE_INTERVAL]);
     put_field(" alone=", state[HYPARVIEW_WORD_PASSES_ALONE]);
     put_field(" short=", state[HYPARVIEW_WORD_PASSES_SHORT]);
+    put_set(" pins=[", SECTION(PINS));
 }
 
 /* A record read back: its header and each of its nodes, written again, are its bytes, and no node is after them. */
@@ -272,7 +273,7 @@ static void within(uint64_t allowance)
 /* The line that ends an event's records. */
 static void meet_code(uint32_t code, size_t draws_used)
 {
-    if (code <= HYPARVIEW_CODE_COUNTER)
+    if (code <= HYPARVIEW_CODE_PIN_LIMIT)
         codes[code]++;
     put_field("= ", code);
     put_field(" ", draws_used);
@@ -385,6 +386,8 @@ int main(int argc, char **argv)
     for (size_t i = 0; i <= HYPARVIEW_CODE_COUNTER; i++)
         if (i != HYPARVIEW_CODE_STATE && i != HYPARVIEW_CODE_DATA)
             met("code", i, codes[i]);
+    met("code", HYPARVIEW_CODE_PIN_STRANGER, codes[HYPARVIEW_CODE_PIN_STRANGER]);
+    met("code", HYPARVIEW_CODE_PIN_LIMIT, codes[HYPARVIEW_CODE_PIN_LIMIT]);
     met("allowance used up by more events than", 0, used_up);
     printf("histories: %ld events, every kind of record, every code but 2 and 8, same as stored\n", events);
     return 0;

@@ -22,6 +22,7 @@ const BOOTSTRAP: Section = Section(195, 8, 203);
 const RECENT: Section = Section(204, 8, 212);
 const JOINS: Section = Section(213, 8, 229);
 const PEER_DATA: Section = Section(230, 80, 550);
+const PINS: Section = Section(551, 7, 558);
 const OWN_PRESENT: usize = 1;
 const OWN_LEN: usize = 2;
 const TIMERS_SCHEDULED: usize = 12;
@@ -121,12 +122,13 @@ fn state(w: &[u64]) -> String {
         set(w, REFUSED),
     );
     format!(
-        "state me={own}{} {lists} refill={refill} timers={} interval={} alone={} short={}",
+        "state me={own}{} {lists} refill={refill} timers={} interval={} alone={} short={} pins={}",
         data(w[OWN_LEN], w[OWN_LOW], w[OWN_HIGH]),
         w[TIMERS_SCHEDULED],
         w[NEXT_SHUFFLE_INTERVAL],
         w[PASSES_ALONE],
         w[PASSES_SHORT],
+        set(w, PINS),
     )
 }
 

@@ -1,11 +1,11 @@
-"""Records and inputs of the run program by document 01 and 02's S-2 and S-8, in the form of S-8 and in the old one: their bytes, a reader, and
+"""Records and inputs of the run program by document 01 and 02's S-2, S-8 and S-14, in the form of S-8 and in the old one: their bytes, a reader, and
 the conversion of S-8 between the two. Written from the documents alone, beside the code that is proved."""
 import struct
 
 MOST_NODES, MOST_DATA = 32, 16
-# the kinds that are timers, and the largest kind of an event and of any record
-TIMERS, LAST_EVENT, LAST_KIND = (1, 2, 3, 4), 8, 12
-MALFORMED, NODE_COUNT, NO_ROOM, TOO_LARGE = 3, 4, 9, 19
+# the kinds that are timers; the events are those up to Quit, and a pin, which has no old form (02, S-14)
+TIMERS, QUIT, EVICTED, PIN = (1, 2, 3, 4), 8, 12, 13
+MALFORMED, NODE_COUNT, NO_ROOM, NO_OLD_FORM = 3, 4, 9, 19
 MOST_INPUT = 65536
 
 
@@ -13,8 +13,8 @@ class Form:
     """Header: kind, message, flags, node count, peer, second, ttl, whole length, number; node: id, offset, length, present. Little-endian, without gaps.
     An input's head: self in so many numbers of 4 bytes, the nine settings, event count, event offset, draw count, draw offset."""
 
-    def __init__(self, header, node, bits):
-        self.header, self.node, self.bits = struct.Struct(header), struct.Struct(node), bits
+    def __init__(self, header, node, bits, last_kind):
+        self.header, self.node, self.bits, self.last_kind = struct.Struct(header), struct.Struct(node), bits, last_kind
         self.halves = bits // 32
         self.head = struct.Struct(f"<{self.halves + 13}I")
         # where the whole length stands: it and the number are the header's last 2 + 8 bytes
@@ -25,8 +25,8 @@ class Form:
         return int.from_bytes(record[self.length_at : self.length_at + 2], "little")
 
 
-OLD = Form("<4BIIHHQ", "<IHBB", 32)
-NEW = Form("<4BQQHHQ", "<QHBB", 64)
+OLD = Form("<4BIIHHQ", "<IHBB", 32, EVICTED)
+NEW = Form("<4BQQHHQ", "<QHBB", 64, PIN)
 
 
 def make(kind, message=0, flags=0, peer=0, second=0, ttl=0, number=0, nodes=(), form=NEW):
@@ -62,7 +62,7 @@ def read(b, form=NEW):
     if len(b) < form.header.size:
         return None
     kind, message, flags, count, peer, second, ttl, size, number = form.header.unpack_from(b)
-    if kind > LAST_KIND or message > (5 if kind == 0 else 0):
+    if kind > form.last_kind or message > (5 if kind == 0 else 0):
         return None
     if flags > ({4: 1, 5: 3}.get(message, 0) if kind == 0 else 0):
         return None
@@ -106,7 +106,7 @@ def reader_code(b, form=NEW):
 def event_code(b, form=NEW):
     """The code of the event's refusal by its reader, 0 where it is accepted."""
     code = reader_code(b, form)
-    if code == 0 and (b[0] > LAST_EVENT or (b[0] in TIMERS and read(b, form)[0][5])):
+    if code == 0 and (QUIT < b[0] < PIN or (b[0] in TIMERS and read(b, form)[0][5])):
         return MALFORMED
     return code
 
@@ -118,8 +118,8 @@ def converted(b, source, target, room=MOST_INPUT):
         return code, b""
     (kind, message, flags, _, peer, second, ttl, _, number), nodes = read(b, source)
     size = target.header.size + sum(target.node.size + len(data) for _, _, data in nodes)
-    if max([peer, second, *(ident for ident, _, _ in nodes)]) >> target.bits or size >> 16:
-        return TOO_LARGE, b""
+    if kind > target.last_kind or max([peer, second, *(ident for ident, _, _ in nodes)]) >> target.bits or size >> 16:
+        return NO_OLD_FORM, b""
     if size > room:
         return NO_ROOM, b""
     held = [(ident, data if present else None) for ident, present, data in nodes]

@@ -4,7 +4,7 @@
 
 use std::mem::{offset_of, size_of};
 
-pub const VERSION: u32 = 1;
+pub const VERSION: u32 = 2;
 // The words of a state, by tools/make/layout.py
 pub const WORDS: usize = 559;
 // end

@@ -8,6 +8,7 @@ use crate::{
     record::{kind, message, NodeParts, Peer, Record, View, Writer},
 };
 
+pub mod pins;
 #[cfg(feature = "tools")]
 pub mod whole;
 
@@ -42,6 +43,8 @@ pub struct Parts {
     pub timers: bool,
     pub interval: u64,
     pub counters: Counters,
+    /// Ours (02, S-14).
+    pub pins: Vec<Peer>,
 }
 
 #[derive(Clone, Copy, Debug, PartialEq, Eq)]
@@ -103,6 +106,7 @@ impl<RG: Rng + Clone> State<Peer, RG> {
                 passes_alone: self.passes_alone,
                 passes_short: self.passes_short,
             },
+            pins: rising(self.pins.iter().copied()),
         }
     }
 }
@@ -131,6 +135,7 @@ impl<RG: Clone> Clone for State<Peer, RG> {
             alive_disconnect_peers: self.alive_disconnect_peers.clone(),
             refused: self.refused.clone(),
             refill: self.refill,
+            pins: self.pins.clone(),
         }
     }
 
@@ -159,6 +164,7 @@ impl<RG: Clone> Clone for State<Peer, RG> {
             .clone_from(&other.alive_disconnect_peers);
         self.refused.clone_from(&other.refused);
         self.refill = other.refill;
+        self.pins.clone_from(&other.pins);
     }
 }
 

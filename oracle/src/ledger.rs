@@ -41,7 +41,7 @@ fn price(capacity: u32, event: &[u8]) -> u32 {
         (kind::MESSAGE, message::JOIN) => capacity + 2,
         (kind::MESSAGE, message::NEIGHBOR) => 3,
         (kind::DO_MAINTENANCE, _) => 9,
-        (kind::QUIT | kind::UPDATE_PEER_DATA, _) => 0,
+        (kind::QUIT | kind::UPDATE_PEER_DATA | kind::PIN, _) => 0,
         _ => 1,
     }
 }

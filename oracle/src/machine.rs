@@ -12,15 +12,18 @@ pub enum Machine {
     /// The membership half.
     #[default]
     Hyparview,
+    /// The membership half with pins among its events (02, S-14), a side of our own.
+    Pins,
     /// The broadcast half, fed with notices.
     Plumtree,
     /// Both, joined.
     Topic,
 }
 
-/// The machines, each by the name of its file.
-const NAMED: [(&str, Machine); 3] = [
+/// The machines, each by the name of its file; `pins` is hyparview.rs with ours.
+const NAMED: [(&str, Machine); 4] = [
     ("hyparview", Machine::Hyparview),
+    ("pins", Machine::Pins),
     ("plumtree", Machine::Plumtree),
     ("topic", Machine::Topic),
 ];
@@ -39,10 +42,15 @@ impl Machine {
         }
     }
 
+    /// Whether it is the membership half alone.
+    pub fn is_membership(self) -> bool {
+        matches!(self, Machine::Hyparview | Machine::Pins)
+    }
+
     /// Everything that a run of `input` prints.
     pub fn run(self, input: &[u8], start: Start, form: Form) -> String {
         match self {
-            Machine::Hyparview => text::run(input, start, form),
+            Machine::Hyparview | Machine::Pins => text::run(input, start, form),
             _ => gossip::text::run(self, input, start, form),
         }
     }
@@ -51,7 +59,7 @@ impl Machine {
     #[cfg(feature = "tools")]
     pub fn mixes(self) -> Vec<&'static str> {
         match self {
-            Machine::Hyparview => mix::MIXES.iter().map(|mix| mix.name).collect(),
+            Machine::Hyparview | Machine::Pins => mix::MIXES.iter().map(|mix| mix.name).collect(),
             _ => gossip::generate::mix::of(self)
                 .map(|mix| mix.name)
                 .collect(),
@@ -65,6 +73,7 @@ impl Machine {
         let written = gossip::cases::named(mix).filter(|_| self == Machine::Plumtree);
         match (self, written) {
             (Machine::Hyparview, _) => Some(generate::history(mix::named(mix)?, seed, length)),
+            (Machine::Pins, _) => Some(generate::pinned_history(mix::named(mix)?, seed, length)),
             (_, Some(case)) => (seed == 0 && length == 0).then(|| case.history()),
             _ => {
                 let mix = gossip::generate::mix::named(self, mix)?;
@@ -77,6 +86,7 @@ impl Machine {
     pub fn name(self, mix: &str, seed: u64, length: usize) -> String {
         let front = match self {
             Machine::Hyparview => "",
+            Machine::Pins => "pins:",
             Machine::Plumtree => "plumtree:",
             Machine::Topic => "topic:",
         };

@@ -24,7 +24,7 @@ use oracle::{
 const USAGE: &str = "\
 oracle station|trace [--machine NAME] [--room BYTES] [--counters REQUEST,JOIN,ALONE,SHORT] [--grafted skipped]   input on stdin
 oracle generate [--machine NAME] [--seed N] [--histories N] [--events N] [--mix NAME]        stored form
-oracle words [--seed N] [--histories N] [--events N] [--mix NAME]           states as words
+oracle words [--machine NAME] [--seed N] [--histories N] [--events N] [--mix NAME]           states as words
 oracle make                          names (MIX SEED EVENTS) on stdin, stored form
 oracle replay FILE...                stored histories that do not hold now; - is stdin
 oracle passing FILE...               how often picks and shuffles pass over draws, by their size
@@ -37,7 +37,7 @@ oracle stories [lengths]             where all histories of at most four of 02's
 oracle tally-cases                   outputs with the codes of their events, as test_tally reads them
 oracle tally-counts                  the messages sent up to each of them, as it must print them
 oracle substitutions
-A machine is hyparview, which is taken where none is named, plumtree or topic.
+A machine is hyparview, which is taken where none is named, pins (the same with pins among the events), plumtree or topic.
 ";
 
 /// Why the program ends with status 1.
@@ -80,13 +80,7 @@ fn answer(arguments: &[String]) -> Answer {
         "station" => run(rest, Form::Station),
         "trace" => run(rest, Form::Trace),
         "generate" => generate(rest, &HISTORIES, Stored::write),
-        "words" => generate(rest, &HISTORIES[1..], |stored| {
-            format!(
-                "history {}\n{}",
-                stored.name,
-                words::run(&stored.input, stored.start)
-            )
-        }),
+        "words" => all_words(rest),
         "make" => make(),
         "replay" => stored::replay(&texts(mode, rest)?).map_err(Failure::Report),
         "passing" => passing::run(&texts(mode, rest)?).map_err(Failure::Report),
@@ -172,14 +166,15 @@ impl Options {
         let Some(name) = self.0.get("machine") else {
             return Ok(Machine::default());
         };
-        Machine::named(name).ok_or_else(|| misuse("--machine takes hyparview, plumtree or topic"))
+        Machine::named(name)
+            .ok_or_else(|| misuse("--machine takes hyparview, pins, plumtree or topic"))
     }
 
     /// Whether plumtree.rs runs as it is, and leaves out the peers grafted for an order.
     fn skips(&self) -> Result<bool, Failure> {
         match self.0.get("grafted").map(String::as_str) {
             None => Ok(false),
-            Some("skipped") if self.machine()? != Machine::Hyparview => Ok(true),
+            Some("skipped") if !self.machine()?.is_membership() => Ok(true),
             Some(_) => Err(misuse(
                 "--grafted takes skipped, for the machines plumtree and topic",
             )),
@@ -228,7 +223,7 @@ fn run(arguments: &[String], form: Form) -> Answer {
         let four = "--counters takes four numbers, separated by commas";
         start.counters = Some(stored::read_counters(counters).ok_or_else(|| misuse(four))?);
     }
-    if machine != Machine::Hyparview && start.counters.is_some() {
+    if !machine.is_membership() && start.counters.is_some() {
         return Err(misuse("--counters are those of hyparview alone"));
     }
     Ok(machine.run(&read_input(), start, form))
@@ -242,7 +237,7 @@ fn checked(arguments: &[String]) -> Answer {
     let length = options.count("length", 200)?;
     let skips = options.skips()?;
     let text = match options.machine()? {
-        Machine::Hyparview => check::run(seed, events, length),
+        machine if machine.is_membership() => check::run(machine, seed, events, length),
         machine => gossip::check::run(machine, seed, events, length, skips),
     };
     if text.ends_with("\n0 claims fail\n") {
@@ -261,7 +256,21 @@ fn all_stories(arguments: &[String]) -> Answer {
     }
 }
 
-/// The options of what makes histories; words are those of hyparview alone.
+/// The words of a controller's state, which has the membership half alone.
+fn all_words(arguments: &[String]) -> Answer {
+    if !Options::read(arguments, &HISTORIES)?
+        .machine()?
+        .is_membership()
+    {
+        return Err(misuse("words are those of hyparview and pins alone"));
+    }
+    generate(arguments, &HISTORIES, |stored| {
+        let told = words::run(&stored.input, stored.start);
+        format!("history {}\n{told}", stored.name)
+    })
+}
+
+/// The options of what makes histories.
 const HISTORIES: [&str; 5] = ["machine", "seed", "histories", "events", "mix"];
 
 /// The options of `compare`.

@@ -30,6 +30,8 @@ pub mod kind {
     pub const NEIGHBOR_DOWN: u8 = 10;
     pub const PEER_DATA: u8 = 11;
     pub const EVICTED: u8 = 12;
+    /// An event of ours (02, S-14).
+    pub const PIN: u8 = 13;
 }
 
 /// Byte 1.
@@ -233,7 +235,8 @@ impl<'a> View<'a> {
         }
         let view = Self { bytes };
         let fields = view.fields();
-        let allowed = fields.kind <= kind::QUIT && !(fields.is_timer() && fields.second != 0);
+        let known = fields.kind <= kind::QUIT || fields.kind == kind::PIN;
+        let allowed = known && !(fields.is_timer() && fields.second != 0);
         let length = length_of(bytes) == bytes.len();
         let in_form = allowed && length && fields.fit() && view.nodes_fit(&fields);
         in_form.then_some(view).ok_or(MALFORMED)
@@ -324,7 +327,7 @@ impl Record<()> {
         } else {
             0
         };
-        self.kind <= kind::EVICTED
+        self.kind <= kind::PIN
             && self.message <= most_message
             && self.flags <= self.most_flags()
             && (named_peer || self.peer == 0)

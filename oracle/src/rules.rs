@@ -17,6 +17,7 @@ pub fn broken(me: Peer, settings: &Settings, parts: &Parts) -> Vec<&'static str>
         &lists(parts)[..],
         &joins(me, parts)[..],
         &numbers(me, settings, parts)[..],
+        &pins(settings, parts)[..],
     ];
     failing(&claims.concat())
 }
@@ -63,6 +64,18 @@ fn lists(parts: &Parts) -> [Claim; 7] {
         (
             "three requests of a refill",
             !matches!(parts.refill, Refill::Requests(4..)),
+        ),
+    ]
+}
+
+/// 02, S-14.
+fn pins(settings: &Settings, parts: &Parts) -> [Claim; 2] {
+    let is_active = |peer: &Peer| parts.active.contains(peer);
+    [
+        ("pins are neighbors", parts.pins.iter().all(is_active)),
+        (
+            "a neighbor is left without a pin",
+            parts.pins.len() < settings[0] as usize,
         ),
     ]
 }

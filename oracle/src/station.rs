@@ -5,7 +5,7 @@ use rand::Draws;
 
 use crate::{
     hyparview::{
-        access::{self, Counters, Parts},
+        access::{self, pins, Counters, Parts},
         Config, State,
     },
     record::{Peer, View, Writer},
@@ -111,7 +111,10 @@ impl Station {
             let mut state = self.state.clone();
             let mut bytes = vec![0; room];
             let mut output = Writer::new(&mut bytes);
-            state.handle(access::event(&view), &mut output);
+            match pins::pinned(&view) {
+                Some(peer) => state.pin(peer),
+                None => state.handle(access::event(&view), &mut output),
+            }
             let (written, sent) = (output.written(), output.sent);
             bytes.truncate(written);
             (state, bytes, sent)

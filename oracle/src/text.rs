@@ -123,6 +123,7 @@ pub fn state_line(parts: &Parts) -> String {
         ("interval", parts.interval.to_string()),
         ("alone", parts.counters.passes_alone.to_string()),
         ("short", parts.counters.passes_short.to_string()),
+        ("pins", list(&parts.pins)),
     ];
     let fields = fields.map(|(name, value)| format!(" {name}={value}"));
     format!("state{}\n", fields.concat())

@@ -58,10 +58,14 @@ impl Book {
         if !keeps_rules(state) {
             return Err(RULE);
         }
-        let event = event_of(event)?;
+        let view = View::event(event)?;
         self.kept.clone_from(state);
         let mut output = Writer::new(out);
-        if let Err(code) = refusal::first_refusal(|| state.handle(event, &mut output)) {
+        let steps = || match pins::pinned(&view) {
+            Some(peer) => state.pin(peer),
+            None => state.handle(super::event(&view), &mut output),
+        };
+        if let Err(code) = refusal::first_refusal(steps) {
             std::mem::swap(state, &mut self.kept);
             return Err(code);
         }
@@ -72,14 +76,18 @@ impl Book {
     }
 }
 
-fn event_of(bytes: &[u8]) -> Result<InEvent<Peer>, u8> {
-    View::event(bytes).map(|view| event(&view))
-}
-
 /// The station rules of 01 that the types leave open. A set has no repeats, a map has no order and
 /// no unused places, and peers and counters have their widths by type.
 pub fn keeps_rules<RG>(state: &State<Peer, RG>) -> bool {
     settings_fit(&state.config) && views_fit(state) && lists_fit(state) && joins_fit(state)
+        && pins_fit(state)
+}
+
+/// 02, S-14: pins are neighbours, fewer than the active capacity.
+fn pins_fit<RG>(state: &State<Peer, RG>) -> bool {
+    let pins = &state.pins;
+    pins.len() < state.config.active_view_capacity
+        && pins.iter().all(|peer| state.active_view.contains(peer))
 }
 
 fn settings_fit(config: &Config) -> bool {
@@ -173,7 +181,7 @@ fn enter(view: &mut IndexSet<Peer>, peers: impl IntoIterator<Item = Peer>) {
 
 /// Changes that each break a station rule of a state with a neighbor, a passive peer and a pending
 /// join, for a test of the check.
-pub const BREAKS: [fn(&mut State<Peer, Draws>); 23] = [
+pub const BREAKS: [fn(&mut State<Peer, Draws>); 25] = [
     |state| state.config.active_view_capacity = 9,
     |state| state.config.passive_view_capacity = 0,
     |state| state.config.shuffle_passive_view_count = 24,
@@ -200,4 +208,9 @@ pub const BREAKS: [fn(&mut State<Peer, Draws>); 23] = [
     },
     |state| state.refill = RefillLimit::Requests(4),
     |state| state.next_shuffle_interval = Duration::from_millis(0),
+    |state| _ = state.pins.insert(2000),
+    |state| {
+        state.pins.extend(state.active_view.iter().copied());
+        state.config.active_view_capacity = state.pins.len();
+    },
 ];

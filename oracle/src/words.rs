@@ -1,4 +1,4 @@
-//! The state as the 551 words that a controller is lent: its numbers, then a section for each set and map.
+//! The state as the 559 words that a controller is lent: its numbers, then a section for each set and map.
 
 use std::fmt::Write;
 

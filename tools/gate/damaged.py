@@ -1,5 +1,5 @@
 #!/usr/bin/env python3
-"""Damaged states: which of them break a station rule of document 01, or that of 02's S-5?
+"""Damaged states: which of them break a station rule of document 01, or those of 02's S-5 and S-14?
 
 usage: tools/gate/damaged.py make FOLDER                 writes FOLDER/stdin and FOLDER/stdout
        tools/gate/damaged.py check FOLDER                fails where they are not what make would write
@@ -7,15 +7,15 @@ usage: tools/gate/damaged.py make FOLDER                 writes FOLDER/stdin and
        tools/gate/damaged.py states                      chooses oracle/sample/words.txt anew (tools/study/differential builds the oracle)
 
 The station rules stand below as one function each, written from document 01, "Settings and station rules", and from 02,
-S-5, over the 551 words of a state. The states of oracle/sample/words.txt are the Rust's own. From each of them `make` builds states that
+S-5 and S-14, over the 559 words of a state. The states of oracle/sample/words.txt are the oracle's. From each of them `make` builds states that
 break one rule alone or just not, held to that by all the functions together, and damages words one by one and at random;
 the functions say which answer is due.
 
 tests/damaged.c runs them over the exported functions. Its standard input is a row of items, numbers little-endian. An item is two numbers of 2 bytes, `lent` and `count`, and `count`
 patches of 10 bytes, a place (2) and a value (8), places rising. There are two kinds of items.
 
-  lent = 65535   a base: from here on the base is 560 zeroes with these patches. The program ends the line, if one is begun.
-  else           a case: a copy of the base with these patches, of which the first `lent` words (551, or at most 560) are
+  lent = 65535   a base: from here on the base is 568 zeroes with these patches. The program ends the line, if one is begun.
+  else           a case: a copy of the base with these patches, of which the first `lent` words (559, or at most 568) are
                  lent to `handle` three times, with 512 draws of 0 and 8,192 bytes that are not zero before each call:
                  first an event of no bytes, then DoMaintenance (32 bytes: 2 at place 0, 32 at place 22, else 0), then
                  the event of no bytes again. The program writes one character:
@@ -125,7 +125,7 @@ def lists_free_of_repeats(w):
 
 
 def maps_and_sets_in_rising_order(w):
-    return all(peers(w, name) == sorted(peers(w, name)) for name in ("alive", "refused", "requests", "joins", "data"))
+    return all(peers(w, name) == sorted(peers(w, name)) for name in ("alive", "refused", "requests", "joins", "data", "pins"))
 
 
 def active_within_capacity(w):
@@ -197,6 +197,20 @@ def may_be_held(w):
     return [peer for name in ("active", "passive", "requests") for peer in peers(w, name)]
 
 
+def pins_active(w):
+    """02, S-14."""
+    return set(peers(w, "pins")) <= set(peers(w, "active"))
+
+
+def fewer_pins_than_active_capacity(w):
+    """02, S-14. A capacity of 0 is another rule's."""
+    return w[count_place("pins")] <= most_pins(w)
+
+
+def most_pins(w):
+    return min(max(w[ACTIVE_CAPACITY], 1) - 1, 7)
+
+
 def at_most_32_open_requests(w):
     return w[count_place("requests")] <= 32
 
@@ -262,6 +276,8 @@ RULES = [
     open_numbers_below_counters,
     no_data_under_self,
     data_of_known_peers,
+    pins_active,
+    fewer_pins_than_active_capacity,
     at_most_32_open_requests,
     at_most_32_refused_peers,
     at_most_80_data_entries,
@@ -358,6 +374,16 @@ def forgetting(s):
     return s.but(data=[row for row in s.rows("data") if row[0] in known])
 
 
+def keeps_pins(w):
+    return pins_active(w) and fewer_pins_than_active_capacity(w)
+
+
+def unpinning(s):
+    """A copy without the pins of peers that are not active, and with no more than there may be."""
+    kept = [peer for peer in s.peers("pins") if peer in s.peers("active")]
+    return s.but(pins=kept[: most_pins(s.words)])
+
+
 def near_settings(s):
     for i, (low, high) in enumerate(SETTING_RANGES):
         place = SETTINGS + i
@@ -437,7 +463,7 @@ def near_repeats(s):
                 twin = next(known for known in listed if known != peer)
                 yield lists_free_of_repeats, s.but(**{name: replaced(listed, peer, twin)})
             yield None, s.but(**{name: replaced(listed, peer, s.fresh(1)[0])})
-    for name in ("alive", "refused", "requests", "joins", "data"):
+    for name in ("alive", "refused", "requests", "joins", "data", "pins"):
         entries = s.rows(name)
         for i in range(1, len(entries)):
             yield lists_free_of_repeats, s.but(**{name: entries[:i] + [entries[i - 1]] + entries[i + 1 :]})
@@ -638,6 +664,45 @@ def near_known(s):
                 yield data_of_known_peers, s.but(**{name: [other for other in s.rows(name) if other != row]})
 
 
+def near_pins(s):
+    """All neighbours but one may have a pin; a pin of another, one too many, one twice, in another order, past the count."""
+    active, capacity, pins = s.peers("active"), s.at(ACTIVE_CAPACITY), s.peers("pins")
+    yield None, s.but(pins=[])
+    for most in {capacity, 8}:
+        full = s.put(ACTIVE_CAPACITY, most).but(active=active + s.fresh(most - len(active)))
+        listed = sorted(full.peers("active"))
+        filled = full.but(pins=listed[: most - 1])
+        yield None, filled
+        yield None, full.but(pins=listed[1:])
+        yield from ((fewer_pins_than_active_capacity, filled.put(count_place("pins"), 7 + more)) for more in OVER if most == 8)
+        if most < 8:
+            yield fewer_pins_than_active_capacity, full.but(pins=listed)
+        if most > 1:
+            for peer in s.fresh(1) + s.peers("passive")[:1] + s.peers("recent")[:1] + [s.at(ME), TOP64]:
+                if peer not in listed:
+                    yield pins_active, full.but(pins=sorted(listed[: most - 2] + [peer]))
+        if most > 2:
+            yield lists_free_of_repeats, full.but(pins=listed[: most - 2] + listed[most - 3 : most - 2])
+            yield lists_free_of_repeats, full.but(pins=listed[:1] * 2)
+            yield maps_and_sets_in_rising_order, full.but(pins=listed[1:2] + listed[:1])
+            yield maps_and_sets_in_rising_order, full.but(pins=listed[most - 1 : 0 : -1])
+    roomy = s.put(ACTIVE_CAPACITY, 8)
+    for peer in active[:1] + active[-1:]:
+        yield None, roomy.but(pins=[peer])
+        yield unused_places_zero, roomy.but(pins=[peer]).put(count_place("pins"), 0) if peer else roomy.but(pins=[]).put(count_place("pins") - 1, 1)
+        yield pins_active, roomy.but(active=replaced(active, peer, s.fresh(1)[0]), pins=[peer])
+    # A count raised over a place of 0 pins peer 0.
+    yield None if 0 in active else pins_active, roomy.but(pins=[]).put(count_place("pins"), 1)
+    low, next_ = s.fresh(2)
+    far = low + 2**32
+    if far not in s.known():
+        two = roomy.but(active=[far, low, next_])
+        yield None, two.but(pins=[low, far])
+        yield None, two.but(pins=[next_, far])
+        yield maps_and_sets_in_rising_order, two.but(pins=[far, next_])
+        yield pins_active, two.but(pins=[low, low + 2**62])
+
+
 def near_own_data(s):
     for size in (0, 1, 8, 9, MOST_DATA, MOST_DATA + 1, 256, TOP64):
         bits = (1 << 8 * min(size, MOST_DATA)) - 1
@@ -715,6 +780,7 @@ NEAR = [
     near_numbers,
     near_data,
     near_known,
+    near_pins,
     near_own_data,
     near_flags,
     near_counters,
@@ -728,6 +794,8 @@ def boundary(state, nears):
         for rule, changed in near(state):
             if rule is not data_of_known_peers and not data_of_known_peers(changed.words):
                 changed = forgetting(changed)
+            if rule not in (pins_active, fewer_pins_than_active_capacity) and not keeps_pins(changed.words):
+                changed = unpinning(changed)
             found = broken(changed.words)
             if found != ([rule] if rule else []):
                 named = rule.__name__ if rule else "no rule"
@@ -929,8 +997,9 @@ CHOSEN_SEEDS, CHOSEN_EVENTS = 6, 200
 
 
 def oracle_states():
-    """The Rust's states over generated histories, with the name of the history and the place in it."""
-    text = tool.oracle("words", "--histories", CHOSEN_SEEDS, "--events", CHOSEN_EVENTS).decode()
+    """The oracle's states over generated histories, without and with pins, with the name of the history and the place in it."""
+    asked = ("--histories", CHOSEN_SEEDS, "--events", CHOSEN_EVENTS)
+    text = "".join(tool.oracle("words", "--machine", machine, *asked).decode() for machine in ("hyparview", "pins"))
     name, index = "", 0
     for line in text.splitlines():
         if line.startswith("history "):
@@ -947,7 +1016,7 @@ def fullness(w):
 
 def features(w):
     """What a state has that another may not: how full its lists are, which edges of ranges it touches."""
-    capacities = {"active": w[ACTIVE_CAPACITY], "passive": w[PASSIVE_CAPACITY]}
+    capacities = {"active": w[ACTIVE_CAPACITY], "passive": w[PASSIVE_CAPACITY], "pins": w[ACTIVE_CAPACITY] - 1}
     for name, (_, places, _) in SECTIONS.items():
         listed = peers(w, name)
         full = len(listed) == capacities.get(name, places)
@@ -971,7 +1040,7 @@ def choose():
     for name, w in oracle_states():
         found = [rule.__name__ for rule in broken(w)]
         if len(w) != WORDS or found:
-            tool.fail(f"{name}: a state of the Rust breaks {' '.join(found)}")
+            tool.fail(f"{name}: a state of the oracle breaks {' '.join(found)}")
         states[name] = (w, set(features(w)))
     needed = set().union(*(has for _, has in states.values()))
     total, chosen = len(needed), []
@@ -984,7 +1053,7 @@ def choose():
         pairs = patches([0] * WORDS, states[name][0])
         text += f"{name} {','.join(f'{place}:{value}' for place, value in pairs)}\n"
     STORED.write_text(text)
-    print(f"{len(states)} states of the Rust break no rule; {len(chosen)} with {total} features chosen")
+    print(f"{len(states)} states of the oracle break no rule; {len(chosen)} with {total} features chosen")
 
 
 def main():

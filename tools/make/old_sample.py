@@ -4,6 +4,8 @@ import records
 import tool
 
 FILE = tool.ROOT / "oracle" / "sample" / "old.txt"
+# The end of a state's line since 02's S-14: no event of the old form is a pin.
+PINLESS = " pins=[]"
 
 
 def new_form(record):
@@ -33,7 +35,7 @@ def events_and_answers(events, trace):
             assert not answer and code == f"= {refused} 0", (event.hex(), code)
             continue
         kept.append(found)
-        lines += [*map(new_form, answer), code, state]
+        lines += [*map(new_form, answer), code, state + PINLESS]
     return kept, lines
 
 

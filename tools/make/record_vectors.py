@@ -58,7 +58,7 @@ def sound():
     for kind in (3, 4):
         yield make(kind, peer=15, number=TOP)
         yield make(kind, peer=15, number=1, second=10000)
-    for kind in (5, 6, 9, 10, 12):
+    for kind in (5, 6, 9, 10, 12, 13):
         yield make(kind, peer=2**32 + 16)
     yield make(8)
     yield make(7, nodes=[(0, b"")])
@@ -116,7 +116,7 @@ def special():
     yield empty[:offset] + b"\0\0" + empty[offset + 2 :]
     for present in (2, 0):
         yield empty[: offset + 3] + bytes([present]) + empty[offset + 4 :]
-    for kind in range(13, 256):
+    for kind in range(14, 256):
         yield make(kind)
     for count in (32, 33, 255):
         for kind in (0, 5, 13, 255):

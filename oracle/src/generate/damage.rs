@@ -25,6 +25,14 @@ pub fn damaged_event(source: &mut Source, event: &[u8]) -> Vec<u8> {
     bytes
 }
 
+/// A damaged event whose kind became a pin's has the next one instead, which is none: so a history without pins stays so.
+pub fn no_pin(mut event: Vec<u8>) -> Vec<u8> {
+    if event[0] == record::kind::PIN {
+        event[0] += 1;
+    }
+    event
+}
+
 /// How many bytes too many: one for a record without nodes, a node's for others.
 fn excess(event: &[u8]) -> usize {
     if event.len() == record::HEADER {

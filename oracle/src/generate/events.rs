@@ -19,6 +19,7 @@ enum Pool {
     Bootstrap,
     Alive,
     Recent,
+    Pinned,
 }
 
 impl Generator<'_> {
@@ -54,6 +55,10 @@ impl Generator<'_> {
                 Record::of(kind::REQUEST_JOIN, peer)
             }
             Act::UpdatePeerData => self.update_peer_data(),
+            Act::Pin => {
+                let peer = self.peer(&[Active, Active, Active, Active, Pinned, Passive, Any]);
+                Record::of(kind::PIN, peer)
+            }
             Act::Quit | Act::Damaged => Record::of(kind::QUIT, 0),
         }
     }
@@ -76,6 +81,7 @@ impl Generator<'_> {
             Pool::Bootstrap => parts.bootstrap.clone(),
             Pool::Alive => parts.alive.clone(),
             Pool::Recent => parts.recent.clone(),
+            Pool::Pinned => parts.pins.clone(),
         };
         if !pool.is_empty() {
             return self.source.one_of(&pool);

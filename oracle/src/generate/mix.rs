@@ -24,6 +24,8 @@ pub enum Act {
     RequestJoin,
     UpdatePeerData,
     Quit,
+    /// Only in histories with pins (02, S-14).
+    Pin,
     Damaged,
 }
 

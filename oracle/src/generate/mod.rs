@@ -30,9 +30,22 @@ pub struct History {
 const MOST_DRAWN: usize = 512;
 const MOST_EVENT_BYTES: usize = 40_000;
 
-/// The history of `mix` and `seed` with at most `length` events.
+/// In histories with pins so many percent of the events are meant as one (02, S-14).
+const PINS: usize = 10;
+
+/// The history of `mix` and `seed` with at most `length` events, none of them a pin.
 pub fn history(mix: &Mix, seed: u64, length: usize) -> History {
+    made(Generator::new(mix, seed), mix, length)
+}
+
+/// The same with pins among the events.
+pub fn pinned_history(mix: &Mix, seed: u64, length: usize) -> History {
     let mut generator = Generator::new(mix, seed);
+    generator.pins = true;
+    made(generator, mix, length)
+}
+
+fn made(mut generator: Generator, mix: &Mix, length: usize) -> History {
     if mix.twist == Twist::Filled {
         generator.fill();
     }
@@ -58,6 +71,8 @@ pub(crate) struct Generator<'a> {
     timers: Vec<(u8, Peer, u64)>,
     /// The place of the next peer that a filled history brings.
     fresh: usize,
+    /// Whether pins are among the events.
+    pins: bool,
 }
 
 impl<'a> Generator<'a> {
@@ -85,6 +100,7 @@ impl<'a> Generator<'a> {
             event_bytes: 0,
             timers: Vec::new(),
             fresh: 0,
+            pins: false,
         }
     }
 
@@ -112,7 +128,11 @@ impl<'a> Generator<'a> {
 
     /// Makes the next event and handles it with so much room.
     pub(crate) fn step(&mut self, room: usize) -> Vec<u8> {
-        let act = self.source.weighted(self.mix.acts);
+        let act = if self.pins && self.source.chance(PINS) {
+            Act::Pin
+        } else {
+            self.source.weighted(self.mix.acts)
+        };
         let event = self.event(act);
         self.handle_within(event.clone(), room);
         event
@@ -179,10 +199,16 @@ impl<'a> Generator<'a> {
     fn event(&mut self, act: Act) -> Vec<u8> {
         if act == Act::Damaged {
             let whole = self.mix.acts.iter().filter(|(act, _)| *act != Act::Damaged);
-            let whole: Vec<_> = whole.copied().collect();
+            let pin = self.pins.then_some((Act::Pin, 1));
+            let whole: Vec<_> = whole.copied().chain(pin).collect();
             let act = self.source.weighted(&whole);
             let event = self.event(act);
-            return damage::damaged_event(&mut self.source, &event);
+            let damaged = damage::damaged_event(&mut self.source, &event);
+            return if self.pins {
+                damaged
+            } else {
+                damage::no_pin(damaged)
+            };
         }
         self.record(act).write()
     }

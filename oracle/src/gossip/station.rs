@@ -5,7 +5,10 @@ use rand::Draws;
 
 use super::record::Said;
 use crate::{
-    hyparview::{self, access},
+    hyparview::{
+        self,
+        access::{self, pins},
+    },
     input::Input,
     machine::Machine,
     plumtree::{self, access::Parts},
@@ -115,7 +118,10 @@ impl Station {
                 Said::read_event(bytes).map(|(now, said)| Event::Said(now, said))
             }
             Station::Alone(_) => Notice::read(bytes).map(Event::Notice),
-            Station::Joined(_) => View::event(bytes).map(|view| Event::Swarm(access::event(&view))),
+            Station::Joined(_) => View::event(bytes).map(|view| match pins::pinned(&view) {
+                Some(peer) => Event::Pin(peer),
+                None => Event::Swarm(access::event(&view)),
+            }),
         }
     }
 
@@ -134,6 +140,7 @@ impl Station {
                 // The membership half has no clock, and notices take no time.
                 state.handle(of_swarm(event), Instant::from_millis(0), output);
             }
+            (Station::Joined(state), Event::Pin(peer)) => state.swarm.pin(peer),
             _ => unreachable!("each station reads its own events"),
         }
     }
@@ -143,6 +150,7 @@ enum Event {
     Said(u64, Said),
     Notice(Notice),
     Swarm(hyparview::InEvent<Peer>),
+    Pin(Peer),
 }
 
 /// What the membership half tells the broadcast half: its records of kinds 9 and 10, and that it quits.

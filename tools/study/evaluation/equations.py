@@ -73,6 +73,7 @@ def state_fields(history, config, state):
         "alive": numbers(items(state["alive"])),
         "refused": numbers(items(state["refused"])),
         "refill": refill(state["refill"]),
+        "pins": numbers(items(state["pins"])),
     }
 
 

@@ -22,6 +22,10 @@ pub const ROOM: u8 = 9;
 pub const COUNTER: u8 = 10;
 /// 02's code 15 (S-7): a body over 256 bytes, or a full list.
 pub const FULL: u8 = 15;
+/// 02's code 17 (S-14): the peer to be pinned is not active.
+pub const NOT_ACTIVE: u8 = 17;
+/// 02's code 18 (S-14): the pin limit is reached and the peer has no pin.
+pub const PINS: u8 = 18;
 
 struct Refusal(u8);
 

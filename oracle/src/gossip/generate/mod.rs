@@ -121,7 +121,7 @@ impl<'a> Generator<'a> {
             Act::Up | Act::Down | Act::Quit => self.notice(act),
             Act::Damaged => {
                 let event = self.said(Act::Damaged).event(self.now);
-                let event = damage::damaged_event(&mut self.source, &event);
+                let event = damage::no_pin(damage::damaged_event(&mut self.source, &event));
                 let own: Record = Record::of(kind::NEIGHBOR_UP, self.me);
                 (event != own.write()).then_some(event)
             }
