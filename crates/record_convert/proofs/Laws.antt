@@ -15,7 +15,7 @@ use Rattle.base_lists.specs.Lists.{choose}
 use Rattle.base_lists.specs.Array.{pad}
 use Rattle.base_lists.specs.Bytes.{le, overwrite}
 use Rattle.base_lists.proofs.Array.{length-pad}
-use Rattle.base_lists.proofs.Choice.{by-choice, and-right}
+use Rattle.base_lists.proofs.Choice.{by-choice, and-left, and-right}
 use Rattle.base_lists.proofs.Numbers.{Bytes, read-below}
 use Rattle.base_lists.proofs.Bytes.{then, overwrite-is}
 use Rattle.base_peer.specs.Data.{bytes-of}
@@ -28,7 +28,7 @@ use Rattle.record.proofs.Laws.{well-formed-long, entries-reach}
 use Rattle.record.proofs.Back.{parts, all-back}
 use Rattle.record.proofs.Forth.{count-most}
 use Rattle.record.proofs.Nodes.{EntryIn, entry-in}
-use Rattle.record_convert.specs.Convert.{ids-fit, has-form, conversion-code, Conversion, outcome, converted, conversion, placed, outcome-of, tail-bytes, header-fields, entry-fields, moved-entry, resized}
+use Rattle.record_convert.specs.Convert.{kind-in-form, is-record, ids-fit, has-form, conversion-code, Conversion, outcome, converted, conversion, placed, outcome-of, tail-bytes, header-fields, entry-fields, moved-entry, resized}
 
 offset-by : (t : Bool) (x : List ℕ) (at : ℕ) → offset (choose t none (some x)) at ≡ choose t 0 at
 unfolding offset choose
@@ -70,11 +70,6 @@ module _ (v w : ℕ) (b : List ℕ) (t : well-formed-by v b ≡ true) where
       let e : Entry = entry-at-by v b i in
       λ j. le w (e .id) ++ (le 2 (offset-by (eqb (e .present) 0) (slice (e .offset) (e .offset + e .len) b) at j) ++ (length-data v b t i l j ∷ entry-in v b t i l .there j ∷ []))
 
-  -- what is answered where the reader answers nothing
-  pub answer-well : (r : ℕ) → conversion-code v w b r ≡ choose (not (has-form w (rec-of-by v b))) 19 (choose (ltb r (size-by w (rec-of-by v b))) 9 0)
-  unfolding conversion-code choose header-of-by
-  answer-well r = rw (le-ltb (length b) (header-length-by v) (well-formed-long v b t), le-ltb 32 (getD b 3 0) (few v b t), t)
-
   module _ (ok : Bytes b) where
     pub size-other : size-by w (rec-of-by v b) ≡ place-by w n + (length b - place-by v n)
     unfolding size-by rec-of-by
@@ -114,28 +109,49 @@ module _ (v w : ℕ) (b : List ℕ) (t : well-formed-by v b ≡ true) where
         (then o₁ (header-length-by w) ns (datas (e .nodes)) q′ r′ (omega (arith, length-entries w (e .nodes) (place-by w (length (e .nodes))), counted)))
         (omega (arith, length-header w e))
 
-    -- ---- the answer, by the tests of the code
+    -- the code's whole length
+    pub size-is : (h : Header) → h ≡ header-of-by v b → (size : ℕ) → size ≡ place-by w (h .nodes) + (length b - place-by v (h .nodes)) → size ≡ size-by w (rec-of-by v b)
+    size-is h q size s = s ∙ rw q (sym size-other)
 
-    module _ (h : Header) (q : h ≡ header-of-by v b) (size : ℕ) (s : size ≡ place-by w (h .nodes) + (length b - place-by v (h .nodes))) where
-      pub size-is : size ≡ size-by w (rec-of-by v b)
-      size-is = s ∙ rw q (sym size-other)
+-- ---- the answer, by the tests of the code
 
-      module _ (r : ℕ) (f₁ f₂ f₃ : Bool) (p₁ : f₁ ≡ ltb (h .peer) (256 ^ w)) (p₂ : f₂ ≡ ltb (h .second) (256 ^ w)) (p₃ : f₃ ≡ ids-fit w (nodes-of-by v b 0 (h .nodes))) where
-        form-is : has-form w (rec-of-by v b) ≡ (f₁ && (f₂ && (f₃ && ltb size 65536)))
-        unfolding has-form rec-of-by
-        form-is = rw (p₁, p₂, p₃, size-is, q)
+pub well-of : (v : ℕ) (b : List ℕ) → is-record v b ≡ true → well-formed-by v b ≡ true
+unfolding is-record
+well-of v b i = and-left (well-formed-by v b) (kind-in-form v (rec-of-by v b .kind)) i
 
-        pub full : (f₁ && (f₂ && (f₃ && ltb size 65536))) ≡ true → r < size → 9 ≡ conversion-code v w b r
-        unfolding choose
-        full y l = sym (answer-well r ∙ rw (form-is, y, lt-ltb r (size-by w (rec-of-by v b)) (omega (arith, size-is))))
+module _ (v w : ℕ) (b : List ℕ) (i : is-record v b ≡ true) where
+  well : well-formed-by v b ≡ true
+  well = well-of v b i
 
-        pub done : (f₁ && (f₂ && (f₃ && ltb size 65536))) ≡ true → size ≤ r → 0 ≡ conversion-code v w b r
-        unfolding choose
-        done y l = sym (answer-well r ∙ rw (form-is, y, le-ltb r (size-by w (rec-of-by v b)) (omega (arith, size-is))))
+  -- what is answered where the reader answers nothing
+  pub answer-well : (r : ℕ) → conversion-code v w b r ≡ choose (not (has-form w (rec-of-by v b))) 19 (choose (ltb r (size-by w (rec-of-by v b))) 9 0)
+  unfolding conversion-code choose header-of-by
+  answer-well r = rw (le-ltb (length b) (header-length-by v) (well-formed-long v b well), le-ltb 32 (getD b 3 0) (few v b well), i)
 
-        pub none-such : (f₁ && (f₂ && (f₃ && ltb size 65536))) ≡ false → 19 ≡ conversion-code v w b r
-        unfolding choose
-        none-such y = sym (answer-well r ∙ rw (form-is, y))
+  module _ (ok : Bytes b) (h : Header) (q : h ≡ header-of-by v b) (size : ℕ) (s : size ≡ place-by w (h .nodes) + (length b - place-by v (h .nodes))) where
+    sized : size ≡ size-by w (rec-of-by v b)
+    sized = size-is v w b well ok h q size s
+
+    module _ (r : ℕ) (f₀ f₁ f₂ f₃ : Bool) (p₀ : f₀ ≡ kind-in-form w (h .kind)) (p₁ : f₁ ≡ ltb (h .peer) (256 ^ w)) (p₂ : f₂ ≡ ltb (h .second) (256 ^ w))
+        (p₃ : f₃ ≡ ids-fit w (nodes-of-by v b 0 (h .nodes))) where
+      abbrev all : Bool
+      all = f₀ && (f₁ && (f₂ && (f₃ && ltb size 65536)))
+
+      form-is : has-form w (rec-of-by v b) ≡ all
+      unfolding has-form rec-of-by
+      form-is = rw (p₀, p₁, p₂, p₃, sized, q)
+
+      pub full : all ≡ true → r < size → 9 ≡ conversion-code v w b r
+      unfolding choose
+      full y l = sym (answer-well r ∙ rw (form-is, y, lt-ltb r (size-by w (rec-of-by v b)) (omega (arith, sized))))
+
+      pub done : all ≡ true → size ≤ r → 0 ≡ conversion-code v w b r
+      unfolding choose
+      done y l = sym (answer-well r ∙ rw (form-is, y, le-ltb r (size-by w (rec-of-by v b)) (omega (arith, sized))))
+
+      pub none-such : all ≡ false → 19 ≡ conversion-code v w b r
+      unfolding choose
+      none-such y = sym (answer-well r ∙ rw (form-is, y))
 
 module _ (v w : ℕ) (b : List ℕ) (r at : ℕ) (e : at ≡ place-by v 0) where
   pub short-answer : length b < at → 3 ≡ conversion-code v w b r
@@ -147,9 +163,14 @@ module _ (v w : ℕ) (b : List ℕ) (r at : ℕ) (e : at ≡ place-by v 0) where
     unfolding conversion-code choose
     crowded-answer k = rw (le-ltb (length b) (header-length-by v) (omega (arith, e)), lt-ltb 32 (getD b 3 0) k)
 
-    pub bad-answer : (t : Bool) → getD b 3 0 ≤ 32 → t ≡ well-formed-by v b → t ≡ false → 3 ≡ conversion-code v w b r
+    pub bad-answer : getD b 3 0 ≤ 32 → is-record v b ≡ false → 3 ≡ conversion-code v w b r
     unfolding conversion-code choose
-    bad-answer t k p n = rw (le-ltb (length b) (header-length-by v) (omega (arith, e)), le-ltb 32 (getD b 3 0) k, ← p, n)
+    bad-answer k n = rw (le-ltb (length b) (header-length-by v) (omega (arith, e)), le-ltb 32 (getD b 3 0) k, n)
+
+-- the code's two tests
+pub tested : (v : ℕ) (b : List ℕ) (t k : Bool) → t ≡ well-formed-by v b → k ≡ kind-in-form v (getD b 0 0) → (t && k) ≡ is-record v b
+unfolding is-record rec-of-by header-of-by
+tested v b t k p q = rw (p, q)
 
 -- ---- what an answer of 0 says
 
@@ -163,6 +184,7 @@ accepted-by false false true true true e = absurd (omega (arith, e))
 accepted-by false false true true false e = (refl, (refl, refl))
 
 pub record Accepted (v w : ℕ) (b : List ℕ) (r : ℕ) : Type 0 where
+  pub sound : is-record v b ≡ true
   pub well : well-formed-by v b ≡ true
   pub form : has-form w (rec-of-by v b) ≡ true
   pub fits : size-by w (rec-of-by v b) ≤ r
@@ -170,8 +192,8 @@ pub record Accepted (v w : ℕ) (b : List ℕ) (r : ℕ) : Type 0 where
 pub accepted : (v w : ℕ) (b : List ℕ) (r : ℕ) → conversion-code v w b r ≡ 0 → Accepted v w b r
 unfolding conversion-code
 accepted v w b r e =
-    let a = accepted-by (ltb (length b) (header-length-by v)) (ltb 32 (getD b 3 0)) (well-formed-by v b) (has-form w (rec-of-by v b)) (ltb r (size-by w (rec-of-by v b))) e in
-    record { well = a .0; form = a .1 .0; fits = ltb-false _ _ (a .1 .1) }
+    let a = accepted-by (ltb (length b) (header-length-by v)) (ltb 32 (getD b 3 0)) (is-record v b) (has-form w (rec-of-by v b)) (ltb r (size-by w (rec-of-by v b))) e in
+    record { sound = a .0; well = well-of v b (a .0); form = a .1 .0; fits = ltb-false _ _ (a .1 .1) }
 
 -- a record that has a form has a whole length of two bytes
 pub size-small : (w : ℕ) (e : Rec) → has-form w e ≡ true → size-by w e < 65536
@@ -180,7 +202,8 @@ size-small w e y =
     let z : Bool = ltb (size-by w e) 65536 in
     let i : Bool = ids-fit w (e .nodes) in
     let s : Bool = ltb (e .second) (256 ^ w) in
-    ltb-true _ _ (and-right i z (and-right s (i && z) (and-right (ltb (e .peer) (256 ^ w)) (s && (i && z)) y)))
+    let p : Bool = ltb (e .peer) (256 ^ w) in
+    ltb-true _ _ (and-right i z (and-right s (i && z) (and-right p (s && (i && z)) (and-right (kind-in-form w (e .kind)) (p && (s && (i && z))) y))))
 
 -- ---- bytes stored at the front of zeroes
 

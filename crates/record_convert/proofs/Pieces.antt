@@ -69,7 +69,7 @@ module _ (v w : ℕ) (b : List ℕ) (k r : ℕ) (l : k ≤ length b) (z : conver
   unfolding converted
   is-whole q h =
       let e : converted v w f r ≡ encode-by w (rec-of-by v f) = choose-yes _ _ _ (eq-eqb (conversion-code v w f r) 0 z) in
-      let a : conversion-code v w f q ≡ 0 = accepts v w f (ok .well) (ok .form) q (omega (arith, h, ap length e, length-encode-by w (rec-of-by v f))) in
+      let a : conversion-code v w f q ≡ 0 = accepts v w f (ok .sound) (ok .form) q (omega (arith, h, ap length e, length-encode-by w (rec-of-by v f))) in
       (a, choose-yes _ _ _ (eq-eqb (conversion-code v w f q) 0 a) ∙ sym e)
 
 -- ---- the number of bytes is never used up

@@ -12,26 +12,37 @@ use Rattle.base_lists.specs.Bytes.{le, overwrite}
 use Rattle.base_lists.specs.Lent.{Lent}
 use Rattle.base_lists.specs.Tests.{every}
 use Rattle.base_peer.specs.Data.{Node}
-use Rattle.record.specs.Format.{Rec, most-nodes, header-length-by, place-by, entries-by, size-by, encode-by, four-bytes-end}
+use Rattle.record.specs.Format.{Rec, most-nodes, old-peer-length, header-length-by, place-by, entries-by, size-by, encode-by, four-bytes-end}
+use Rattle.record.specs.Kinds.{Pin, kind-byte}
 use Rattle.record.specs.Read.{well-formed-by, nodes-of-by, rec-of-by}
 use Rattle.record.specs.declared.Header.{Header}
 use Rattle.record.specs.declared.Entry.{Entry}
 use Rattle.record_convert.specs.declared.Converted.{Converted}
 
+-- S-14: kind 13 is "without an old form"
+unfoldable pub kind-in-form : ℕ → ℕ → Bool
+kind-in-form w k = not (eqb w old-peer-length) || not (eqb k (kind-byte Pin))
+
+-- the bytes are a record of the form
+unfoldable pub is-record : ℕ → List ℕ → Bool
+is-record v b = well-formed-by v b && kind-in-form v (rec-of-by v b .kind)
+
 -- the nodes' ids have w bytes
 unfoldable pub ids-fit : ℕ → List Node → Bool
 ids-fit w ns = every (λ (n : Node). ltb (n .id) (256 ^ w)) ns
 
--- "a number or whole length too large for the other form": none is
+-- a kind that the other form has, and "a number or whole length too large for the other form": none is
 unfoldable pub has-form : ℕ → Rec → Bool
-has-form w e = ltb (e .peer) (256 ^ w) && (ltb (e .second) (256 ^ w) && (ids-fit w (e .nodes) && ltb (size-by w e) 65536))
+has-form w e =
+    kind-in-form w (e .kind)
+    && (ltb (e .peer) (256 ^ w) && (ltb (e .second) (256 ^ w) && (ids-fit w (e .nodes) && ltb (size-by w e) 65536)))
 
 -- "Answers, in this order: the reader's; 19 ..; 9"; 0 where there is none
 unfoldable pub conversion-code : ℕ → ℕ → List ℕ → ℕ → ℕ
 conversion-code v w b room =
     choose (ltb (length b) (header-length-by v)) 3
     (choose (ltb most-nodes (getD b 3 0)) 4
-    (choose (not (well-formed-by v b)) 3
+    (choose (not (is-record v b)) 3
     (choose (not (has-form w (rec-of-by v b))) 19
     (choose (ltb room (size-by w (rec-of-by v b))) 9 0))))
 

@@ -2,6 +2,7 @@
 use record::BOTH_SHORT;
 use record::Entry;
 use record::Header;
+use record::Kind;
 use record::NUMBER_BYTES;
 use record::PEER_FROM;
 use record::Refusal;
@@ -17,7 +18,7 @@ ghost use Rattle.base_lists.specs.Lent.{Overwrites};
 ghost use Rattle.record.specs.Format.{IsForm, old-peer-length, peer-length, header-length-by, node-length-by};
 ghost use Rattle.record.specs.Format.{place-by, size-by, encode-by};
 ghost use Rattle.record.specs.Read.{header-of-by, well-formed-by, nodes-of-by, rec-of-by};
-ghost use Rattle.record_convert.specs.Convert.{ids-fit, conversion-code, placed, outcome-of, Converts};
+ghost use Rattle.record_convert.specs.Convert.{kind-in-form, is-record, ids-fit, conversion-code, placed, outcome-of, Converts};
 ghost use Rattle.record_convert.specs.Convert.{tail-bytes, header-fields, entry-fields, entries-of-by, moved-entry, resized};
 ghost use Rattle.record_convert.specs.Walk.{first-record, walked, Walks};
 
@@ -213,17 +214,26 @@ fn ids_fit(b: &[u8], n: usize, v: usize, w: usize) -> bool
     true
 }
 
-// What a record is answered that is well formed.
+// The form has the kind: a pin has no old one.
+fn kind_in_form(kind: u8, w: usize) -> bool
+    ensures { λ r. ⌜ r ≡ kind-in-form w kind ⌝ }
+{
+    (w != record::OLD_PEER) | (kind != Kind::PIN)
+}
+
+// What a record of form v is answered.
 fn other_form(b: &[u8], room: usize, v: usize, w: usize) -> u32
     requires { ⌜ IsForm v ⌝ }
     requires { ⌜ IsForm w ⌝ }
-    requires { ⌜ well-formed-by v (now b) ≡ true ⌝ }
+    requires { ⌜ is-record v (now b) ≡ true ⌝ }
     ensures { λ r. ⌜ r ≡ conversion-code v w (now (b .entry)) room ⌝ }
 {
     let h = record::read_header_by(b, v);
     let n = h.nodes as usize;
     let size = other_size(b.len(), n, v, w);
-    if fits(h.peer, w) & (fits(h.second, w) & (ids_fit(b, n, v, w) & (size < 65536))) {
+    if kind_in_form(h.kind, w)
+        & (fits(h.peer, w) & (fits(h.second, w) & (ids_fit(b, n, v, w) & (size < 65536))))
+    {
         if room < size {
             return Refusal::OUTPUT;
         }
@@ -244,7 +254,7 @@ fn answer(b: &[u8], room: usize, v: usize, w: usize) -> u32
     if record::MOST_NODES < b[3] {
         return Refusal::NODES;
     }
-    if record::well_formed(b, v) {
+    if record::well_formed(b, v) & kind_in_form(b[0], v) {
         return other_form(b, room, v, w);
     }
     Refusal::MALFORMED
