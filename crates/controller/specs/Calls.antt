@@ -21,7 +21,7 @@ use Rattle.hyparview.specs.declared.Done.{Done}
 
 -- the header that the library goes with
 abbrev pub version : ℕ
-version = 1
+version = 2
 
 -- what `hyparview_new` hands back, and the words and the tally as it leaves them
 pub record Begun : Type 0 where

@@ -34,7 +34,7 @@ pub struct NodeReading {
 }
 
 // Raised where records, words, codes or functions become other than a caller's header says.
-pub const VERSION: u32 = 1;
+pub const VERSION: u32 = 2;
 
 // Which header the library goes with.
 #[no_mangle]
