@@ -11,7 +11,7 @@ use Rattle.base_lists.specs.Lists.{choose}
 use Rattle.base_lists.proofs.Choice.{by-choice, choose-no}
 use Rattle.base_timing.specs.declared.Config.{Config}
 use Rattle.base_peer.specs.Data.{Data, Node}
-use Rattle.record.specs.Kinds.{EventKind, Message, DoShuffle, DoMaintenance, PendingNeighborRequest, RetryJoin, PeerDisconnected, RequestJoin, UpdatePeerData, Quit, kind-byte}
+use Rattle.record.specs.Kinds.{EventKind, Message, DoShuffle, DoMaintenance, PendingNeighborRequest, RetryJoin, PeerDisconnected, RequestJoin, UpdatePeerData, Quit, Pin, kind-byte}
 use Rattle.record.proofs.ByKind.{by-kind}
 use Rattle.record.specs.Format.{Rec, encode}
 use Rattle.spec_hyparview.specs.Station.{Station, Refill}
@@ -25,7 +25,7 @@ use Rattle.spec_hyparview.specs.Messages as M
 use Rattle.spec_hyparview.specs.Events as E
 use Rattle.spec_hyparview.specs.Timers as T
 use Rattle.spec_hyparview.specs.Handle as H
-use Rattle.spec_hyparview.proofs.Keeping.{Plain, six, seven, eight, ten, draw-station, draw-fine, emit-station, emit-fine, on-code, require-fine}
+use Rattle.spec_hyparview.proofs.Keeping.{Plain, six, seven, eight, ten, seventeen, eighteen, draw-station, draw-fine, emit-station, emit-fine, on-code, require-fine}
 use Rattle.spec_hyparview.proofs.Entering.{on-same}
 use Rattle.spec_history.proofs.Ticks.{emit-out, draw-out, on-out}
 use Rattle.spec_hyparview.specs.Written.{encode-all}
@@ -233,7 +233,7 @@ settle (A.disconnect-received false) p r = forget-peer p r
 settle A.random p r = then (send-disconnect p true r) (demote-alive p _)
 
 remove-at : (i : ℕ) (why : A.Reason) (r : Run) → Quiet r (A.remove-active-by-index i why r)
-unfolding A.remove-active-by-index A.drop-active A.swap-active
+unfolding A.remove-active-by-index A.drop-active A.swap-active A.leave-active
 remove-at i why r = then (changes _ (λ s. refl) r) (then (emits _ refl _) (settle why _ _))
 
 remove-active : (p : ℕ) (why : A.Reason) (r : Run) → Quiet r (A.remove-active p why r)
@@ -315,8 +315,12 @@ connection-closed p r =
     then (changes _ (λ s. refl) r)
     (either _ (remove-active p _ _) (either _ (then (lose-passive p _) (refill _ _)) (lose-passive p _)))
 
+handle-pin : (p : ℕ) (r : Run) → Quiet r (E.handle-pin p r)
+unfolding E.handle-pin E.require-neighbor E.pin-neighbor E.note-pin
+handle-pin p r = then (requires seventeen _ r) (then (requires eighteen _ _) (changes _ (λ s. refl) _))
+
 quit-all : (ps : List ℕ) (r : Run) → Quiet r (E.quit-all ps r)
-unfolding E.quit-all E.quit-one E.remove-neighbor
+unfolding E.quit-all E.quit-one E.remove-neighbor A.leave-active
 quit-all [] r = same r
 quit-all (p ∷ ps) r = then (changes _ (λ s. refl) r) (then (send-disconnect p false _) (quit-all ps _))
 
@@ -374,6 +378,7 @@ by-each e PeerDisconnected n r = connection-closed _ r
 by-each e RequestJoin n r = handle-join _ r
 by-each e UpdatePeerData n r = changes _ (λ s. refl) r
 by-each e Quit n r = handle-quit r
+by-each e Pin n r = handle-pin _ r
 
 pub dispatch : (e : Rec) → eqb (e .kind) (kind-byte DoShuffle) ≡ false → (r : Run) → Quiet r (H.dispatch e r)
 unfolding H.dispatch

@@ -159,10 +159,11 @@ kept-new me d c given r sd =
         pace-ok = record { low = omega (arith, g .some-time); high = omega arith };
         alone-ok = record { high = omega arith };
         short-ok = record { high = omega arith };
+        pins-ok = record { rise = tt; among = λ x. omega arith; few = omega arith };
       };
       narrow = record {
         settings = g;
-        named = ((given .narrow, tt), (tt, (tt, (tt, (tt, (tt, (tt, (tt, (tt, (tt, tt))))))))));
+        named = ((given .narrow, tt), (tt, (tt, (tt, (tt, (tt, (tt, (tt, (tt, (tt, (tt, tt)))))))))));
         mine = own-held d (data-true d sd) (given .are-bytes);
         held = tt;
         pace = omega arith;

@@ -44,6 +44,7 @@ part-is-rising-end-3 c = search needs
 is-rising-requires-3 : tie.Need-is-rising-requires-3
 unfolding part
 is-rising-requires-3 c κs = search (of-ok, needs)
+
 returns : tie.Need-returns
 unfolding part
 returns c = search order-is
