@@ -1,13 +1,13 @@
 -- Laws of members, counts and lengths, under the changes of lists, sets and maps.
 -- Assumes nothing.
-use mathlib.Core.Path.{_≡_, refl, sym}
+use mathlib.Core.Path.{_≡_, refl, sym, _∙_}
 use mathlib.Core.Bool.{Bool, true, false, not, _&&_, _||_}
 use mathlib.Core.List.{List, [], _∷_, _++_}
 use Prim.Native.Nat.{ℕ, suc, _+_, _-_, _≤_, _<_}
 use native.Mathlib.Omega.{arith}
 use lib.ListN.{length, getD, drop, take, length-append, length-take}
 use lib.Dec.{ltb, eqb}
-use borrow.Author.Tests.{ltb-true, ltb-false, eqb-false, ne-eqb}
+use borrow.Author.Tests.{ltb-true, ltb-false, eqb-true, eqb-false, ne-eqb}
 use Rattle.base_lists.specs.Lists.{choose, null, is, count, mem, index-of, shift-remove, remove, without, place, insert, push-new, renew, Above, Rising}
 use Rattle.base_lists.specs.Maps.{keys, has, cut, retain, replace, place-entry, put, Each}
 use Rattle.base_lists.proofs.Choice.{by-choice, by-test, split, or-true, clash}
@@ -205,3 +205,21 @@ rising-once (p ∷ xs) h x = absent x p xs (above-none p xs (h .0) p (omega arit
 -- what is cut to a length
 pub length-cut-to : {A : Type 0} (n : ℕ) (xs : List A) → length (take n xs) ≤ n
 length-cut-to n xs = omega (arith, length-take n xs)
+
+-- another item is left, and one that is there stays
+pub mem-without-other : (y x : ℕ) (ys : List ℕ) → (y ≡ x → ⊥) → mem y (without x ys) ≡ mem y ys
+unfolding mem without
+mem-without-other y x [] n = refl
+mem-without-other y x (q ∷ ys) n =
+    split (eqb x q) (λ e. rw (e, ne-eqb y q (λ p. n (p ∙ sym (eqb-true x q e)))) (mem-without-other y x ys n)) (λ e. rw (e, mem-without-other y x ys n))
+
+mem-place : (y p : ℕ) (xs : List ℕ) → mem y xs ≡ true → mem y (place p xs) ≡ true
+unfolding mem place
+mem-place y p [] m = clash false m refl
+mem-place y p (q ∷ xs) m =
+    by-test (λ (l : List ℕ). mem y l ≡ true) (ltb p q) (λ e. split (eqb y p) (λ f. rw f refl) (λ f. rw f m))
+    (λ e. split (eqb y q) (λ f. rw f refl) (λ f. rw f (mem-place y p xs (sym (rw f refl) ∙ m))))
+
+pub mem-insert : (y p : ℕ) (xs : List ℕ) → mem y xs ≡ true → mem y (insert p xs) ≡ true
+unfolding insert
+mem-insert y p xs m = by-test (λ (l : List ℕ). mem y l ≡ true) (mem p xs) (λ e. m) (λ e. mem-place y p xs m)

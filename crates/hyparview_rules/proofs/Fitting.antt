@@ -18,6 +18,7 @@ use Rattle.base_lists.proofs.Count.{mem-true, length-without}
 use Rattle.base_lists.proofs.Maps.{length-keys}
 use Rattle.base_lists.proofs.Tests.{both-true, and-no, rising-true}
 use Rattle.base_lists.proofs.Zip.{length-values}
+use Rattle.base_lists.proofs.Members.{mem-without-other}
 use Rattle.base_util.specs.Section.{items-at, section}
 use Rattle.base_util.proofs.Sets.{section-holds}
 use Rattle.base_columns.specs.Columns.{words-end, word-bytes, numbers-at, numbers-section, low-word, high-word, data-map-at, data-section}
@@ -46,12 +47,6 @@ use Rattle.hyparview_rules.proofs.Maps.{words-back, low-under, high-und
 use Rattle.hyparview_rules.proofs.Parts.{packed-sections, packed-long}
 
 -- ---- a list that rises and is part of another is no longer
-
-mem-without-other : (y x : ℕ) (ys : List ℕ) → (y ≡ x → ⊥) → mem y (without x ys) ≡ mem y ys
-unfolding mem without
-mem-without-other y x [] n = refl
-mem-without-other y x (q ∷ ys) n =
-    split (eqb x q) (λ e. rw (e, ne-eqb y q (λ p. n (p ∙ sym (eqb-true x q e)))) (mem-without-other y x ys n)) (λ e. rw (e, mem-without-other y x ys n))
 
 subset-without : (x : ℕ) (xs ys : List ℕ) → Above x xs → subset xs ys ≡ true → subset xs (without x ys) ≡ true
 unfolding Above subset

@@ -3,7 +3,7 @@
 use Prim.Native.Nat.{ℕ}
 use mathlib.Core.Path.{_≡_, refl, sym, ap, subst, _∙_}
 use mathlib.Core.Bool.{Bool, true, false, _&&_}
-use mathlib.Core.List.{List, []}
+use mathlib.Core.List.{List, [], _++_}
 use native.Mathlib.Omega.{arith}
 use lib.ListN.{length, take, replicate}
 use lib.Dec.{eqb}
@@ -29,6 +29,8 @@ use Rattle.spec_history.specs.Demand.{Demand3, Demand3-of}
 use Rattle.spec_history.specs.Outputs.{OutputsRead, Outputs-of}
 use Rattle.spec_history.specs.Rejoin.{ticks, Promised}
 use Rattle.spec_history.specs.Packing.{Packs}
+use Rattle.spec_history.specs.Pinned.{none-parts}
+use Rattle.spec_history.proofs.Pinned.{pins-packed}
 use Rattle.spec_history.proofs.Packing.{demand-packed, eight-packed, rejoin-packed, outputs-packed, states-packed}
 use Rattle.tally.proofs.History.{counts-all}
 use Rattle.shuffle_times.specs.Claims.{Timed}
@@ -187,6 +189,12 @@ pub never-eight-after : D.Never-eight-after
 never-eight-after me g c t z vs =
     from-new (λ (s : List ℕ). mem 8 (codes program vs s) ≡ false) me g c z (λ e. eight-packed packs me (program .own g) c t e vs)
 
+-- A pinned neighbour stays one.
+pub pins-stay : D.Pins-stay
+pins-stay me g c t z vs ws p =
+    from-new (λ (s : List ℕ). mem p (unpack (state-after program vs s) .pins) ≡ true → none-parts p ws ≡ true → (mem p (unpack (state-after program (vs ++ ws) s) .pins) ≡ true) × (mem p (unpack (state-after program (vs ++ ws) s) .active) ≡ true)) me g c z
+    (λ e. pins-packed packs me (program .own g) c t e vs ws p)
+
 -- `unreachable!` is never reached.
 pub never-unreachable : D.Never-unreachable
 never-unreachable xs ok = unreachable.never-unreachable (unpack xs) (rules-kept xs ok)
@@ -224,5 +232,6 @@ by-value-holds =
       counted = λ me g c t z vs n. counts-all value-program _ vs _ (outputs me g c t z vs n);
       timed = λ me g c t z. timed-packed value-packs me (value-program .own g) c t z;
       never-eight = λ me g c t z vs. eight-packed value-packs me (value-program .own g) c t z vs;
+      pins-stay = λ me g c t z vs ws p. pins-packed value-packs me (value-program .own g) c t z vs ws p;
       goes-on = λ me g c t z vs. never-unreachable (state-after value-program vs (value-program .new-state me g c) .words) (demand me g c t z vs .rules-hold);
     }

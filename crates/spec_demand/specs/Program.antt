@@ -20,6 +20,7 @@ use Rattle.spec_history.specs.Demand.{Demand3-of}
 use Rattle.spec_history.specs.Outputs.{Outputs-of}
 use Rattle.spec_history.specs.Refusals.{Never-eight-of}
 use Rattle.spec_history.specs.Rejoin.{Rejoin-of}
+use Rattle.spec_history.specs.Pinned.{Pins-stay-of}
 use Rattle.tally.specs.History.{Counts-of}
 use Rattle.shuffle_times.specs.Claims.{Timed-of}
 use Rattle.hyparview_state.specs.Layout.{words}
@@ -105,6 +106,10 @@ Never-eight = (xs : List ℕ) → state-ok xs ≡ true → (v : Call) → code-o
 abbrev pub Never-eight-after : Type 0
 Never-eight-after = Never-eight-of program
 
+-- 02, S-14: once pinned, a neighbour stays one but for its own Disconnect, its closed connection or a Quit
+abbrev pub Pins-stay : Type 0
+Pins-stay = Pins-stay-of program unpack
+
 -- at the station s a ForwardJoin that is neither answered nor dropped finds a neighbour other than its sender: the Rust's `unreachable!` is not reached
 abbrev pub Goes-on : Station → Type 0
 Goes-on s =
@@ -160,4 +165,5 @@ pub record By-value-holds : Type 0 where
   pub counted : Counts-of value-program
   pub timed : Timed-of value-program
   pub never-eight : Never-eight-of value-program
+  pub pins-stay : Pins-stay-of value-program unpack-state
   pub goes-on : Goes-on-of value-program unpack-state

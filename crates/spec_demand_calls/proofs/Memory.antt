@@ -2,7 +2,7 @@
 -- Assumes nothing.
 use Prim.Native.Nat.{ℕ, _≤_}
 use mathlib.Core.Path.{_≡_, refl, sym, ap, subst, _∙_}
-use mathlib.Core.Bool.{Bool, not, _&&_}
+use mathlib.Core.Bool.{Bool, true, not, _&&_}
 use mathlib.Core.List.{List, [], _∷_, _++_}
 use native.Mathlib.Omega.{arith}
 use lib.ListN.{drop}
@@ -160,6 +160,14 @@ never-eight x ok v e = P.never-eight (x .words) ok v e
 pub never-eight-after : M.Never-eight-after
 unfolding memory-made begun with-tally D.program-made
 never-eight-after me g c t z vs = ap (mem 8) (codes-follow vs (c-calls .new-state me g c)) ∙ P.never-eight-after me (lent-by g) c t z vs
+
+pub pins-stay : M.Pins-stay
+unfolding memory-made begun with-tally D.program-made
+pins-stay me g c t z vs ws p m n =
+    let start = c-calls .new-state me g c in
+    let same : (us : List Call) → state-after c-calls us start .words ≡ state-after program us (start .words) = (λ us. ap (λ (y : LentMemory). y .words) (states-follow us start)) in
+    subst (λ (xs : List ℕ). (mem p (unpack xs .pins) ≡ true) × (mem p (unpack xs .active) ≡ true)) (sym (same (vs ++ ws)))
+    (P.pins-stay me (lent-by g) c t z vs ws p (subst (λ (xs : List ℕ). mem p (unpack xs .pins) ≡ true) (same vs) m) n)
 
 pub never-unreachable : M.Never-unreachable
 never-unreachable x ok = P.never-unreachable (x .words) ok

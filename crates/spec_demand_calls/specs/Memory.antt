@@ -15,6 +15,7 @@ use Rattle.spec_history.specs.Demand.{Demand3-of}
 use Rattle.spec_history.specs.Outputs.{Outputs-of}
 use Rattle.spec_history.specs.Refusals.{Never-eight-of}
 use Rattle.spec_history.specs.Rejoin.{Rejoin-of}
+use Rattle.spec_history.specs.Pinned.{Pins-stay-of}
 use Rattle.tally.specs.declared.Tally.{Tally}
 use Rattle.tally.specs.Counts.{top}
 use Rattle.tally.specs.Sum.{total}
@@ -107,6 +108,10 @@ Never-eight = (x : LentMemory) → memory-passes x ≡ true → (v : Call) → c
 
 abbrev pub Never-eight-after : Type 0
 Never-eight-after = Never-eight-of c-calls
+
+-- 02, S-14: once pinned, a neighbour stays one
+abbrev pub Pins-stay : Type 0
+Pins-stay = Pins-stay-of c-calls station-in
 
 -- the Rust's `unreachable!` is not reached at words that keep the rules
 abbrev pub Never-unreachable : Type 0

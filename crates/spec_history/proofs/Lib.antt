@@ -7,3 +7,4 @@ pub mod Rejoined
 pub mod Outputs
 pub mod Packing
 pub mod Observer
+pub mod Pinned

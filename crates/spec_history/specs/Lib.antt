@@ -7,3 +7,4 @@ pub mod Packing
 pub mod Outputs
 pub mod Refusals
 pub mod Observer
+pub mod Pinned

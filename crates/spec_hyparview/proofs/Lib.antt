@@ -31,3 +31,4 @@ pub mod Cases
 pub mod Bounds
 pub mod Fits
 pub mod Uncrowded
+pub mod Stays

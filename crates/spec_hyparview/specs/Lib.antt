@@ -18,3 +18,4 @@ pub mod Traced
 pub mod Kept
 pub mod Invariant
 pub mod Table
+pub mod Pins
