@@ -11,7 +11,8 @@ use Rattle.base_timing.specs.declared.Config.{Config}
 use Rattle.base_peer.specs.Data.{Data}
 use Rattle.record.specs.Format.{encode}
 use Rattle.spec_hyparview.specs.Station.{Station}
-use Rattle.spec_hyparview.specs.Setters.{set-active, set-passive, set-scheduled, set-next-interval, set-bootstrap, set-recent, set-requests, set-next-request, set-joins, set-next-join, set-peer-data, set-refused}
+use Rattle.spec_hyparview.specs.Setters.{set-active, set-passive, set-scheduled, set-next-interval, set-bootstrap, set-recent, set-requests, set-next-request, set-joins, set-next-join, set-peer-data, set-refused, set-pins}
+use Rattle.record.specs.Kinds.{Pin, kind-byte}
 use Rattle.spec_hyparview.specs.Run.{node, message, notice, data-notice}
 use Rattle.spec_hyparview.specs.Peers.{insert-peer-info}
 use Rattle.spec_hyparview.specs.Handle.{new, new-station, zero-station, start, handle}
@@ -164,6 +165,25 @@ code-9 = refl
 pub code-10 : refused-with 10 (set-next-join 18446744073709551615 fresh) request-join-7 (0 ∷ []) 200
 unfolding traced default
 code-10 = refl
+
+-- 17: peer 104 is no neighbour
+pub code-17 : refused-with 17 (set-active (peers-from 100 4) fresh) (encode (notice (kind-byte Pin) 104)) (0 ∷ []) 200
+unfolding traced default peers-from
+code-17 = refl
+
+-- 18: four of five neighbours have a pin, and the fifth asks for one
+pub code-18 : refused-with 18 (set-pins (peers-from 100 4) (set-active (peers-from 100 5) fresh)) (encode (notice (kind-byte Pin) 104)) (0 ∷ []) 200
+unfolding traced default peers-from
+code-18 = refl
+
+-- the last pin is still given, and one that is there already is given again
+pub last-pin : (handle (set-pins (peers-from 100 3) (set-active (peers-from 100 5) fresh)) (encode (notice (kind-byte Pin) 104)) (0 ∷ []) 200) .code ≡ 0
+unfolding traced default peers-from
+last-pin = refl
+
+pub pinned-again : (handle (set-pins (peers-from 100 4) (set-active (peers-from 100 5) fresh)) (encode (notice (kind-byte Pin) 103)) (0 ∷ []) 200) .code ≡ 0
+unfolding traced default peers-from
+pinned-again = refl
 
 -- one fewer held: the last place is given out
 pub last-request : handle (set-requests (from 100 0 31) (set-next-request 32 fresh)) (expired-join 200 none) (0 ∷ []) 200 .code ≡ 0

@@ -32,3 +32,4 @@ pub mod Bounds
 pub mod Fits
 pub mod Uncrowded
 pub mod Stays
+pub mod Demotions

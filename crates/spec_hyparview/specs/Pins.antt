@@ -1,10 +1,47 @@
--- Document 02, S-14: which events may cost a pinned neighbour its place.
+-- Document 02, S-14: whom a demotion picks, and which events may cost a pinned neighbour its place.
 -- Assumes nothing.
-use Prim.Native.Nat.{ℕ}
-use mathlib.Core.Bool.{Bool, _&&_, _||_}
+use Prim.Native.Nat.{ℕ, _/_}
+use mathlib.Core.Path.{_≡_}
+use mathlib.Core.Bool.{Bool, true, false, _&&_, _||_}
+use mathlib.Core.List.{List, [], _∷_, _++_}
+use lib.ListN.{length, getD}
 use lib.Dec.{eqb}
+use Rattle.base_lists.specs.Lists.{choose, null, mem}
+use Rattle.base_util.specs.Chances.{all-draws, is-kept, pick}
+use Rattle.base_util.specs.Equal.{count-below, none-kept}
 use Rattle.record.specs.Kinds.{Message, PeerDisconnected, Quit, kind-byte}
 use Rattle.record.specs.Format.{Rec}
+use Rattle.spec_hyparview.specs.Station.{Station, is-alone, active-is-full, without-pin}
+use Rattle.spec_hyparview.specs.Run.{Run, one-of, draw-one-of}
+use Rattle.spec_hyparview.specs.Active.{random, remove-active-by-index, free-random-slot-in-active-view}
+use Rattle.spec_hyparview.specs.Rules.{station-ok}
+
+-- "so a High arrival always finds a place": at a full view somebody can be demoted
+abbrev pub FindsOne : Type 0
+FindsOne = (s : Station) → station-ok s ≡ true → active-is-full s ≡ true → null (without-pin s) ≡ false
+
+-- without pins the step is that of hyparview.rs
+abbrev pub OldWithoutPins : Type 0
+OldWithoutPins =
+    (r : Run) → station-ok (r .station) ≡ true → r .station .pins ≡ []
+    → free-random-slot-in-active-view r
+    ≡ choose (is-alone (r .station)) r (remove-active-by-index (one-of (length (r .station .active)) r) random (draw-one-of (length (r .station .active)) r))
+
+-- the draw d is kept for the neighbours without a pin, and where it stands after the draws `over` and before the draws `more` p is picked
+unfoldable pub demotes : Station → ℕ → List ℕ → List ℕ → ℕ → Bool
+demotes s p over more d = is-kept (length (without-pin s)) d && eqb (getD (without-pin s) (pick (length (without-pin s)) (over ++ (d ∷ more))) 0) p
+
+-- of the draws kept each neighbour without a pin is picked by equally many, a pinned one by none
+abbrev pub EqualDemotions : Type 0
+EqualDemotions =
+    (s : Station) → station-ok s ≡ true → (p : ℕ) (over more : List ℕ) → none-kept (length (without-pin s)) over ≡ true → mem p (without-pin s) ≡ true
+    → count-below (demotes s p over more) all-draws ≡ all-draws / length (without-pin s)
+
+abbrev pub PinnedNeverPicked : Type 0
+PinnedNeverPicked =
+    (s : Station) (p : ℕ) (over more : List ℕ) → null (without-pin s) ≡ false → mem p (s .pins) ≡ true → count-below (demotes s p over more) all-draws ≡ 0
+
+-- ---- partings
 
 -- a Disconnect from p, which is message 5
 unfoldable pub disconnects : ℕ → Rec → Bool
