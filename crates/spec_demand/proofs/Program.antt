@@ -29,7 +29,7 @@ use Rattle.spec_history.specs.Demand.{Demand3, Demand3-of}
 use Rattle.spec_history.specs.Outputs.{OutputsRead, Outputs-of}
 use Rattle.spec_history.specs.Rejoin.{ticks, Promised}
 use Rattle.spec_history.specs.Packing.{Packs}
-use Rattle.spec_history.specs.Pinned.{none-parts}
+use Rattle.spec_history.specs.Pinned.{no-partings}
 use Rattle.spec_history.proofs.Pinned.{pins-packed}
 use Rattle.spec_history.proofs.Packing.{demand-packed, eight-packed, rejoin-packed, outputs-packed, states-packed}
 use Rattle.tally.proofs.History.{counts-all}
@@ -192,7 +192,7 @@ never-eight-after me g c t z vs =
 -- A pinned neighbour stays one.
 pub pins-stay : D.Pins-stay
 pins-stay me g c t z vs ws p =
-    from-new (λ (s : List ℕ). mem p (unpack (state-after program vs s) .pins) ≡ true → none-parts p ws ≡ true → (mem p (unpack (state-after program (vs ++ ws) s) .pins) ≡ true) × (mem p (unpack (state-after program (vs ++ ws) s) .active) ≡ true)) me g c z
+    from-new (λ (s : List ℕ). mem p (unpack (state-after program vs s) .pins) ≡ true → no-partings p ws ≡ true → (mem p (unpack (state-after program (vs ++ ws) s) .pins) ≡ true) × (mem p (unpack (state-after program (vs ++ ws) s) .active) ≡ true)) me g c z
     (λ e. pins-packed packs me (program .own g) c t e vs ws p)
 
 -- `unreachable!` is never reached.

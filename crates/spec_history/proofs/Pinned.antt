@@ -16,13 +16,13 @@ use Rattle.base_timing.specs.declared.Config.{Config}
 use Rattle.record.specs.Read.{rec-of}
 use Rattle.spec_hyparview.specs.Station.{Station}
 use Rattle.spec_hyparview.specs.Rules.{station-ok}
-use Rattle.spec_hyparview.specs.Pins.{parts}
+use Rattle.spec_hyparview.specs.Pins.{is-parting}
 use Rattle.spec_hyparview.specs.Handle.{new}
 use Rattle.spec_hyparview.proofs.Stays.{pin-kept}
 use Rattle.spec_hyparview.proofs.Tested.{between-of}
 use Rattle.spec_history.specs.Calls.{Call, Machine, NewGiven, state-of, state-after, definition, answered}
 use Rattle.spec_history.specs.Packing.{Packs}
-use Rattle.spec_history.specs.Pinned.{none-parts, Pins-stay}
+use Rattle.spec_history.specs.Pinned.{no-partings, Pins-stay}
 use Rattle.spec_history.proofs.Kept.{demand-3}
 use Rattle.spec_history.proofs.Packing.{states-packed}
 
@@ -31,11 +31,11 @@ unfolding state-after
 after-both m [] ws s = refl
 after-both m (v ∷ vs) ws s = after-both m vs ws (state-of m v s)
 
-pin-after : (p : ℕ) (ws : List Call) (s : Station) → none-parts p ws ≡ true → mem p (s .pins) ≡ true → mem p (state-after definition ws s .pins) ≡ true
-unfolding state-after none-parts answered
+pin-after : (p : ℕ) (ws : List Call) (s : Station) → no-partings p ws ≡ true → mem p (s .pins) ≡ true → mem p (state-after definition ws s .pins) ≡ true
+unfolding state-after no-partings answered
 pin-after p [] s n m = m
 pin-after p (v ∷ ws) s n m =
-    let here = parts p (rec-of (v .event)) in
+    let here = is-parting p (rec-of (v .event)) in
     pin-after p ws _ (and-right (not here) _ n) (pin-kept p s (v .event) (v .draws) (length (v .output)) (not-true here (and-left (not here) _ n)) m)
 
 pinned-active : (p : ℕ) (s : Station) → station-ok s ≡ true → mem p (s .pins) ≡ true → mem p (s .active) ≡ true
@@ -56,7 +56,7 @@ module _ {G S : Type 0} {m : Machine G S} {pack : Station → S} {station : S �
   same : (us : List Call) → station (state-after m us first) ≡ state-after definition us (new me d c .state)
   same us = ap station (states-packed k me d c given z us) ∙ k .stands _ (demand-3 me d c given z us .rules-hold)
 
-  pub pins-packed : (vs ws : List Call) (p : ℕ) → mem p (station (state-after m vs first) .pins) ≡ true → none-parts p ws ≡ true
+  pub pins-packed : (vs ws : List Call) (p : ℕ) → mem p (station (state-after m vs first) .pins) ≡ true → no-partings p ws ≡ true
       → (mem p (station (state-after m (vs ++ ws) first) .pins) ≡ true) × (mem p (station (state-after m (vs ++ ws) first) .active) ≡ true)
   pins-packed vs ws p e n =
       subst (λ (x : Station). (mem p (x .pins) ≡ true) × (mem p (x .active) ≡ true)) (sym (same (vs ++ ws)))

@@ -33,7 +33,7 @@ use Rattle.spec_hyparview.specs.Events as E
 use Rattle.spec_hyparview.specs.Timers as T
 use Rattle.spec_hyparview.specs.Handle as H
 use Rattle.spec_hyparview.specs.Rules.{station-ok}
-use Rattle.spec_hyparview.specs.Pins.{parts}
+use Rattle.spec_hyparview.specs.Pins.{is-parting}
 use Rattle.spec_hyparview.proofs.Keeping.{draw-station, one-of-station, emit-station}
 use Rattle.spec_hyparview.proofs.Leaving.{free-active}
 
@@ -104,19 +104,19 @@ module _ (k : ℕ) where
   only-five (suc (suc (suc (suc (suc m))))) l n₀ n₁ n₂ n₃ n₄ = omega (arith, l)
 
   -- which events are partings
-  disconnect-parts : (e : Rec) → parts k e ≡ false → e .message ≤ 5 → e .kind ≡ kind-byte Message → eqb (e .message) 0 ≡ false → eqb (e .message) 1 ≡ false → eqb (e .message) 2 ≡ false → eqb (e .message) 3 ≡ false → eqb (e .message) 4 ≡ false → e .peer ≡ k → ⊥
-  unfolding parts
-  disconnect-parts e n l z e₀ e₁ e₂ e₃ e₄ q =
+  disconnect-parting : (e : Rec) → is-parting k e ≡ false → e .message ≤ 5 → e .kind ≡ kind-byte Message → eqb (e .message) 0 ≡ false → eqb (e .message) 1 ≡ false → eqb (e .message) 2 ≡ false → eqb (e .message) 3 ≡ false → eqb (e .message) 4 ≡ false → e .peer ≡ k → ⊥
+  unfolding is-parting
+  disconnect-parting e n l z e₀ e₁ e₂ e₃ e₄ q =
       let five : e .message ≡ 5 = only-five (e .message) l (eqb-false _ _ e₀) (eqb-false _ _ e₁) (eqb-false _ _ e₂) (eqb-false _ _ e₃) (eqb-false _ _ e₄) in
       clash _ (rw (z, five, q, eq-eqb k k refl) refl) n
 
-  closed-parts : (e : Rec) → parts k e ≡ false → e .kind ≡ kind-byte PeerDisconnected → e .peer ≡ k → ⊥
-  unfolding parts
-  closed-parts e n z q = clash _ (rw (z, q, eq-eqb k k refl) refl) n
+  closed-parting : (e : Rec) → is-parting k e ≡ false → e .kind ≡ kind-byte PeerDisconnected → e .peer ≡ k → ⊥
+  unfolding is-parting
+  closed-parting e n z q = clash _ (rw (z, q, eq-eqb k k refl) refl) n
 
-  quit-parts : (e : Rec) → parts k e ≡ false → e .kind ≡ kind-byte Quit → ⊥
-  unfolding parts
-  quit-parts e n z = clash _ (rw z refl) n
+  quit-parting : (e : Rec) → is-parting k e ≡ false → e .kind ≡ kind-byte Quit → ⊥
+  unfolding is-parting
+  quit-parting e n z = clash _ (rw z refl) n
 
   -- what is held of other peers
   insert-peer-info : (p : ℕ) (d : Data) (r : Run) → Keeps r (P.insert-peer-info p d r)
@@ -340,18 +340,18 @@ module _ (k : ℕ) where
   shuffle-timer r = then (shuffle-any r) (then (changes _ (λ s. refl) _) (then (draws _ _) (emits _ _)))
 
   -- an event that is no parting of its own
-  module _ (e : Rec) (l : e .kind ≡ kind-byte Message → e .message ≤ 5) (n : parts k e ≡ false) where
+  module _ (e : Rec) (l : e .kind ≡ kind-byte Message → e .message ≤ 5) (n : is-parting k e ≡ false) where
     by-each : (j : EventKind) → e .kind ≡ kind-byte j → (r : Run) → Keeps r (H.handle-kind (some j) e r)
     unfolding H.handle-kind E.update-own-data
-    by-each Message z r = handle-message e (λ e₀ e₁ e₂ e₃ e₄ q. disconnect-parts e n (l z) z e₀ e₁ e₂ e₃ e₄ q) r
+    by-each Message z r = handle-message e (λ e₀ e₁ e₂ e₃ e₄ q. disconnect-parting e n (l z) z e₀ e₁ e₂ e₃ e₄ q) r
     by-each DoShuffle z r = shuffle-timer r
     by-each DoMaintenance z r = maintenance-timer r
     by-each PendingNeighborRequest z r = neighbor-timer _ _ r
     by-each RetryJoin z r = retry-join _ _ r
-    by-each PeerDisconnected z r = connection-closed _ (λ q. closed-parts e n z q) r
+    by-each PeerDisconnected z r = connection-closed _ (λ q. closed-parting e n z q) r
     by-each RequestJoin z r = handle-join _ r
     by-each UpdatePeerData z r = changes _ (λ s. refl) r
-    by-each Quit z r = absurd (quit-parts e n z)
+    by-each Quit z r = absurd (quit-parting e n z)
     by-each Pin z r = handle-pin _ r
 
     pub steps-keep : (r : Run) → Keeps r (H.steps e r)
@@ -369,7 +369,7 @@ few-messages b e z =
     leb-true _ 5 (sym (choose-yes (eqb (header-of b .kind) (kind-byte Message)) _ _ (eq-eqb _ _ z)) ∙ known)
 
 -- 02, S-14: the pin stays through every call but those partings, accepted or refused
-pub pin-kept : (k : ℕ) (s : Station) (b ds : List ℕ) (room : ℕ) → parts k (rec-of b) ≡ false → mem k (s .pins) ≡ true → mem k (H.handle s b ds room .state .pins) ≡ true
+pub pin-kept : (k : ℕ) (s : Station) (b ds : List ℕ) (room : ℕ) → is-parting k (rec-of b) ≡ false → mem k (s .pins) ≡ true → mem k (H.handle s b ds room .state .pins) ≡ true
 unfolding H.handle H.handle-reading read-event H.finish H.accepted H.refusal
 pin-kept k s b ds room n m =
     let P : H.Result → Type 0 = (λ x. mem k (x .state .pins) ≡ true) in

@@ -48,6 +48,6 @@ unfoldable pub disconnects : ℕ → Rec → Bool
 disconnects p e = eqb (e .kind) (kind-byte Message) && (eqb (e .message) 5 && eqb (e .peer) p)
 
 -- "must not lose each other to a chance demotion": p goes by its own Disconnect, its closed connection or a Quit, and by nothing else
-unfoldable pub parts : ℕ → Rec → Bool
+unfoldable pub is-parting : ℕ → Rec → Bool
 unfolding disconnects
-parts p e = eqb (e .kind) (kind-byte Quit) || ((eqb (e .kind) (kind-byte PeerDisconnected) && eqb (e .peer) p) || disconnects p e)
+is-parting p e = eqb (e .kind) (kind-byte Quit) || ((eqb (e .kind) (kind-byte PeerDisconnected) && eqb (e .peer) p) || disconnects p e)
