@@ -1,0 +1,12 @@
+pub mod Lists
+pub mod Book
+pub mod Moves
+pub mod Steps
+pub mod Event
+pub mod Read
+pub mod History
+pub mod Words
+pub mod Waits
+pub mod Whole
+pub mod Packed
+pub mod Cases

@@ -1,0 +1,3 @@
+pub mod Traffic
+pub mod Open
+pub mod Claims
