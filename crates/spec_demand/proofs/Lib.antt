@@ -4,3 +4,4 @@ pub mod Tied
 pub mod Timers
 pub mod Refusal
 pub mod Evictions
+pub mod Chatter

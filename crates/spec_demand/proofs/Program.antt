@@ -64,7 +64,7 @@ answers xs ok v = choose-yes _ _ _ (and-left (packed-ok xs) _ (ok-both xs ok))
 pub answers-packed : (v : Call) (g : Station) → station-ok g ≡ true → program-outcome (v .event) (v .draws) (v .output) (pack g) ≡ packed-answer (result-of v g)
 answers-packed v g t = answers (pack g) (pack-ok g t) v ∙ ap (λ (x : Station). packed-answer (result-of v x)) (ok-unpacked g t)
 
-packs : Packs program pack unpack state-ok
+pub packs : Packs program pack unpack state-ok
 unfolding packed-answer
 packs = record {
   stands = ok-unpacked;
@@ -83,7 +83,7 @@ whole xs me present own c h =
     split (eqb (length xs) words) (λ y. choose-yes _ _ _ y) (λ n. absurd (h (ap (λ (m : MadeWords). m .code) (choose-no _ _ _ n))))
 
 -- a claim on what `new` answered with code 0 is one on the definition's answer, packed
-from-new : (X : List ℕ → Type 0) (me : ℕ) (g : D.Lending) (c : Config) → program .new-code me g c ≡ 0
+pub from-new : (X : List ℕ → Type 0) (me : ℕ) (g : D.Lending) (c : Config) → program .new-code me g c ≡ 0
     → (Handle.new me (program .own g) c .code ≡ 0 → X (pack (Handle.new me (program .own g) c .state))) → X (program .new-state me g c)
 unfolding pack-made
 from-new X me g c z h =
@@ -205,7 +205,7 @@ never-unreachable-after me g c t z vs =
 
 -- ---- by value
 
-value-packs : Packs value-program (λ g. record { words = pack g }) unpack-state state-passes
+pub value-packs : Packs value-program (λ g. record { words = pack g }) unpack-state state-passes
 value-packs = record {
   stands = packs .stands;
   passes = packs .passes;

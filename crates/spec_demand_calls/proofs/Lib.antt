@@ -4,3 +4,4 @@ pub mod Timers
 pub mod Refusal
 pub mod Evictions
 pub mod Draws
+pub mod Chatter

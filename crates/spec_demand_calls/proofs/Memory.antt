@@ -32,7 +32,7 @@ use Rattle.spec_demand.proofs.Program as P
 use Rattle.spec_demand_calls.specs.Memory as M
 use Rattle.spec_demand_calls.specs.Memory.{LentMemory, memory-made, memory-outcome, c-calls, station-in, ledger}
 
-states-follow : (vs : List Call) (x : LentMemory) → state-after c-calls vs x ≡ record { words = state-after program vs (x .words); tally = tally-after program vs (x .words) (x .tally) }
+pub states-follow : (vs : List Call) (x : LentMemory) → state-after c-calls vs x ≡ record { words = state-after program vs (x .words); tally = tally-after program vs (x .words) (x .tally) }
 unfolding state-after tally-after memory-outcome D.program-outcome called tallied
 states-follow [] x = refl
 states-follow (v ∷ vs) x = states-follow vs (state-of c-calls v x)
@@ -96,7 +96,7 @@ unfolding none-numbered
 numbered-follow vs x = λ i. every (λ n. asked-follows n vs x i) numbered-kinds
 
 -- what the program is lent by it
-abbrev lent-by : M.MemoryLending → D.Lending
+abbrev pub lent-by : M.MemoryLending → D.Lending
 lent-by g = record { words = g .held .words; present = not (eqb (g .present) 0); own = g .own }
 
 -- with any other code than 2 `new` leaves a tally of zeroes
