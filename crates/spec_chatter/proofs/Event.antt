@@ -29,7 +29,7 @@ use Rattle.spec_chatter.proofs.Book.{Book, note-event}
 use Rattle.spec_chatter.proofs.Moves.{sent-all, may-all, kinds, sent-append, may-append, kinds-append, lows-more, adds-more, Adds, Low, Quiet, changes, book-of, Turn, quietly, after, on-station, Awaited, await-then}
 use Rattle.spec_chatter.proofs.Lists.{look-cut}
 use Rattle.spec_chatter.proofs.Waits.{number-yes}
-use Rattle.spec_chatter.proofs.Steps.{schedule-shuffle, schedule-maintenance, dispatch}
+use Rattle.spec_chatter.proofs.Steps.{schedule-shuffle, schedule-maintenance, open-alike, dispatch}
 
 pub record Done (e : Rec) (s : Station) (w : Run) : Type 0 where
   pub records : List Rec
@@ -107,7 +107,7 @@ unfolding T.retry-join T.join-is
 retry-gone p id r z =
     by-choice (λ (v : Run). lookup p (v .station .joins) ≡ some id → ⊥) (is-number id (lookup p (r .station .joins)))
     (λ _ q. look-cut p p (r .station .joins) id (subst (λ (m : List (ℕ × ℕ)). lookup p m ≡ some id) (dropped p r z) q) .0 refl)
-    (λ f q. clash (is-number id (lookup p (r .station .joins))) (number-yes id (lookup p (r .station .joins)) q) f)
+    (λ f q. clash (is-number id (lookup p (r .station .joins))) (open-alike id _ ∙ number-yes id (lookup p (r .station .joins)) q) f)
 
 module _ (e : Rec) (known : is-event-kind (e .kind) ≡ true) (narrow : e .peer < peers-end) (few : e .kind ≡ 0 → e .message ≤ 5) (s : Station) (ds : List ℕ) (room : ℕ) where
   abbrev f : Book → Book

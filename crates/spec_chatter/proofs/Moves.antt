@@ -514,10 +514,15 @@ asked-for p high r e = record {
       (told-request p high r e .so (subst (λ (v : Run). S.tell-request p high (r .station .next-request) v .code ≡ 0) o z));
 }
 
+-- where the station asks, nothing is open to p
+none-open : (p : ℕ) (s : Station) → is-requested p s ≡ false → mem p (keys (s .requests)) ≡ false
+unfolding is-requested
+none-open p s e = e
+
 pub send-neighbor : (p : ℕ) (high : Bool) (r : Run) → Moves nothing 0 0 r (S.send-neighbor p high r)
-unfolding S.send-neighbor is-requested
+unfolding S.send-neighbor
 send-neighbor p high r =
-    by-choice (Moves nothing 0 0 r) (mem p (keys (r .station .requests))) (λ e. quietly (same r)) (λ e. asked-for p high r e)
+    by-choice (Moves nothing 0 0 r) (is-requested p (r .station)) (λ e. quietly (same r)) (λ e. asked-for p high r (none-open p (r .station) e))
 
 -- a shuffle timer or a maintenance timer, which the book passes over
 pub ticks : (e : Rec) → ((d : Book) → sent-all (e ∷ []) d ≡ d) → ((d : Book) → may-all (e ∷ []) d ≡ true) → (e .kind ≡ 3 → ⊥) → (e .kind ≡ 4 → ⊥) → (r : Run) → Moves nothing (kinds 1 (e ∷ [])) (kinds 2 (e ∷ [])) r (emit e r)

@@ -28,7 +28,7 @@ use Rattle.spec_hyparview.specs.Events as E
 use Rattle.spec_hyparview.specs.Timers as T
 use Rattle.spec_hyparview.specs.Handle as H
 use Rattle.spec_hyparview.proofs.Keeping.{seven, eight, ten}
-use Rattle.spec_chatter.specs.Open.{is-answer, closes}
+use Rattle.spec_chatter.specs.Open.{is-answer, is-open, closes}
 use Rattle.spec_chatter.proofs.Book.{Book, empty-book, shut, note-event}
 use Rattle.spec_chatter.proofs.Lists.{look-cut}
 use Rattle.spec_chatter.proofs.Moves.{Quiet, same, then, either, emits, draws, chooses, Fewer, drops, changes, requires, emits-all, sent-all, may-all, book-of, nothing, Moves, quietly, after, before, or-else, opening, taken, send-neighbor, await-join, shuffle-tick, maintenance-tick}
@@ -237,9 +237,15 @@ handle-quit : (r : Run) → Moves (λ d. empty-book) 0 0 r (E.handle-quit r)
 unfolding E.handle-quit E.clear-all empty-book keys
 handle-quit r = before (quit-all _ r) (opening _ _ (λ s. refl) (λ s. refl) _)
 
+-- the station takes a timer's number for the open one where the book does
+pub open-alike : (n : ℕ) (o : Option ℕ) → T.is-number n o ≡ is-open n o
+unfolding T.is-number is-open
+open-alike n none = refl
+open-alike n (some m) = refl
+
 -- the request timer, with the open number or another
 abbrev timed : ℕ → ℕ → Book → Book
-timed p n d = choose (T.is-number n (lookup p (d .asked))) (shut p d) d
+timed p n d = choose (is-open n (lookup p (d .asked))) (shut p d) d
 
 request-failed : (p : ℕ) (r : Run) → Moves (shut p) 0 0 r (T.request-failed p r)
 unfolding T.request-failed
@@ -296,9 +302,10 @@ here {f} g {r = r} e m = record {
 neighbor-timer : (p id : ℕ) (r : Run) → Moves (timed p id) 0 0 r (T.handle-pending-neighbor-timer p id r)
 unfolding T.handle-pending-neighbor-timer T.request-is
 neighbor-timer p id r =
-    by-choice (Moves (timed p id) 0 0 r) (T.is-number id (lookup p (r .station .requests)))
-    (λ e. here (λ d. shut p d) (sym (choose-yes (T.is-number id (lookup p (r .station .requests))) _ _ e)) (request-failed p r))
-    (λ e. here nothing (sym (choose-no (T.is-number id (lookup p (r .station .requests))) _ _ e)) (quietly (same r)))
+    let number = lookup p (r .station .requests) in
+    by-choice (Moves (timed p id) 0 0 r) (T.is-number id number)
+    (λ e. here (λ d. shut p d) (sym (choose-yes (is-open id number) _ _ (sym (open-alike id number) ∙ e))) (request-failed p r))
+    (λ e. here nothing (sym (choose-no (is-open id number) _ _ (sym (open-alike id number) ∙ e))) (quietly (same r)))
 
 -- ---- one event
 

@@ -11,9 +11,8 @@ use Rattle.base_lists.specs.Lists.{choose}
 use Rattle.base_lists.specs.Maps.{lookup, put}
 use Rattle.base_lists.proofs.Choice.{by-choice, and-left, and-right, clash}
 use Rattle.record.specs.declared.Header.{Header}
-use Rattle.spec_hyparview.specs.Timers.{is-number}
 use Rattle.spec_chatter.specs.Traffic.{Item, came, went}
-use Rattle.spec_chatter.specs.Open.{is-answer, closes}
+use Rattle.spec_chatter.specs.Open.{is-answer, is-open, closes}
 use Rattle.spec_chatter.proofs.Book.{Book, empty-book, note-sent, shut, note-event, note-item, book-after}
 use Rattle.spec_chatter.specs.Claims.{without-pair, waiting, Among, here, later}
 use Rattle.spec_chatter.proofs.Lists.{Either, left, right, none-found, look-nothing, look-cut, look-put}
@@ -30,9 +29,9 @@ still-waits p n q o (w ∷ ws) d (later a) = by-choice (Among p n) (eqb q (w .0)
 abbrev pub Timed : List (ℕ × ℕ) → List (ℕ × ℕ) → Type 0
 Timed m ws = (p n : ℕ) → lookup p m ≡ some n → Among p n ws
 
-pub number-yes : (n : ℕ) (o : Option ℕ) → o ≡ some n → is-number n o ≡ true
-unfolding is-number
-number-yes n o e = subst (λ (x : Option ℕ). is-number n x ≡ true) (sym e) (eq-eqb n n refl)
+pub number-yes : (n : ℕ) (o : Option ℕ) → o ≡ some n → is-open n o ≡ true
+unfolding is-open
+number-yes n o e = subst (λ (x : Option ℕ). is-open n x ≡ true) (sym e) (eq-eqb n n refl)
 
 or-no-right : (a b : Bool) → (a || b) ≡ false → b ≡ false
 or-no-right true b e = clash true refl e
@@ -42,9 +41,9 @@ or-no-right false b e = e
 unmatched : (h : Header) (d : Book) → closes (h .kind) (h .message) (h .peer) (h .number) (d .asked) ≡ false → h .kind ≡ 3 → lookup (h .peer) (d .asked) ≡ some (h .number) → ⊥
 unfolding closes
 unmatched h d c k q =
-    let n = eqb (h .kind) 3 && is-number (h .number) (lookup (h .peer) (d .asked)) in
+    let n = eqb (h .kind) 3 && is-open (h .number) (lookup (h .peer) (d .asked)) in
     let a = or-no-right (eqb (h .kind) 5) n (or-no-right (eqb (h .kind) 0 && is-answer (h .message)) (eqb (h .kind) 5 || n) c) in
-    clash (is-number (h .number) (lookup (h .peer) (d .asked))) (number-yes (h .number) _ q) (sym (ap (λ (b : Bool). b && is-number (h .number) (lookup (h .peer) (d .asked))) (eq-eqb (h .kind) 3 k)) ∙ a)
+    clash (is-open (h .number) (lookup (h .peer) (d .asked))) (number-yes (h .number) _ q) (sym (ap (λ (b : Bool). b && is-open (h .number) (lookup (h .peer) (d .asked))) (eq-eqb (h .kind) 3 k)) ∙ a)
 
 event-timed : (h : Header) (d : Book) (ws : List (ℕ × ℕ)) → Timed (d .asked) ws → Timed (note-item (came h) d .asked) (choose (eqb (h .kind) 3) (without-pair (h .peer) (h .number) ws) ws)
 unfolding note-item note-event shut empty-book

@@ -11,9 +11,8 @@ use Rattle.base_lists.specs.Lists.{choose, mem, insert}
 use Rattle.base_lists.specs.Maps.{lookup}
 use Rattle.base_lists.proofs.Choice.{by-choice, choose-yes, choose-no, split, or-true, and-left, and-right, clash}
 use Rattle.record.specs.declared.Header.{Header}
-use Rattle.spec_hyparview.specs.Timers.{is-number}
 use Rattle.spec_chatter.specs.Traffic.{Item, came, went}
-use Rattle.spec_chatter.specs.Open.{neighbor-message, is-answer, closes, open-after}
+use Rattle.spec_chatter.specs.Open.{neighbor-message, is-answer, is-open, closes, open-after}
 use Rattle.spec_chatter.specs.Claims.{IsMessage, Reason, join-from, neighbor-from, disconnect-from, disconnection, request-timer, quit, Any-two-neighbors, No-chatter, One-in-each-event}
 use Rattle.spec_chatter.proofs.Lists.{Either, left, right, insert-self, insert-keeps, without-keeps}
 use Rattle.spec_chatter.proofs.Book.{Book, empty-book, is-neighbor, note-sent, shut, note-event, note-item, book-after, may-send, may, keeps-book, asked-after}
@@ -42,8 +41,8 @@ forbidden p h d n m k =
     let b : mem (h .peer) (d .told) ≡ true = subst (λ (q : ℕ). mem q (d .told) ≡ true) (sym (n .whose)) m in
     clash (not (mem (h .peer) (d .told))) a (ap not b)
 
-number-is : (n : ℕ) (o : Option ℕ) → is-number n o ≡ true → o ≡ some n
-unfolding is-number
+number-is : (n : ℕ) (o : Option ℕ) → is-open n o ≡ true → o ≡ some n
+unfolding is-open
 number-is n none h = clash false h refl
 number-is n (some m) h = ap some (sym (eqb-true n m h))
 
@@ -54,11 +53,11 @@ closing p xs h numbers e q c =
     let k = h .kind in
     let m = h .message in
     let message : (i : ℕ) → eqb k 0 ≡ true → eqb m i ≡ true → IsMessage i p h = (λ i a b. record { is-message = eqb-true k 0 a; which = eqb-true m i b; whose = q }) in
-    or-true (eqb k 0 && is-answer m) (eqb k 5 || (eqb k 3 && is-number (h .number) (lookup (h .peer) numbers))) c
+    or-true (eqb k 0 && is-answer m) (eqb k 5 || (eqb k 3 && is-open (h .number) (lookup (h .peer) numbers))) c
     (λ a. let z = and-left (eqb k 0) (is-answer m) a in
     or-true (eqb m 0) (eqb m 4 || eqb m 5) (and-right (eqb k 0) (is-answer m) a) (λ b. join-from (message 0 z b))
     (λ b. or-true (eqb m 4) (eqb m 5) b (λ i. neighbor-from (message 4 z i)) (λ i. disconnect-from (message 5 z i))))
-    (λ a. or-true (eqb k 5) (eqb k 3 && is-number (h .number) (lookup (h .peer) numbers)) a (λ b. disconnection (eqb-true k 5 b) q)
+    (λ a. or-true (eqb k 5) (eqb k 3 && is-open (h .number) (lookup (h .peer) numbers)) a (λ b. disconnection (eqb-true k 5 b) q)
     (λ b. request-timer (eqb-true k 3 (and-left (eqb k 3) _ b)) q
     (subst (λ (x : List (ℕ × ℕ)). lookup p x ≡ some (h .number)) e (subst (λ (y : ℕ). lookup y numbers ≡ some (h .number)) q (number-is (h .number) (lookup (h .peer) numbers) (and-right (eqb k 3) _ b))))))
 

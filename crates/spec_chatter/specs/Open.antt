@@ -1,13 +1,13 @@
 -- The numbers of the open requests, by peer, as the traffic tells them: a plain book that is fed with one item after another.
 -- Assumes nothing.
 use Prim.Native.Nat.{ℕ}
-use mathlib.Core.Bool.{Bool, _&&_, _||_}
+use mathlib.Core.Bool.{Bool, false, _&&_, _||_}
 use mathlib.Core.List.{List, [], _∷_}
+use mathlib.Core.Option.{Option, none, some}
 use lib.Dec.{eqb}
 use Rattle.base_lists.specs.Lists.{choose}
 use Rattle.base_lists.specs.Maps.{lookup, cut, put}
 use Rattle.record.specs.Kinds.{Message, PendingNeighborRequest, PeerDisconnected, Quit, kind-byte}
-use Rattle.spec_hyparview.specs.Timers.{is-number}
 use Rattle.spec_chatter.specs.Traffic.{Item, came, went}
 
 -- messages by their number, as in 01, "Records"
@@ -24,11 +24,16 @@ disconnect-message = 5
 unfoldable pub is-answer : ℕ → Bool
 is-answer m = eqb m join-message || (eqb m neighbor-message || eqb m disconnect-message)
 
+-- n is the number that was found
+unfoldable pub is-open : ℕ → Option ℕ → Bool
+is-open n none = false
+is-open n (some m) = eqb n m
+
 -- an event of kind k, message m, peer p and number n closes what is open to p: "a Join, Neighbor or Disconnect from it, .. its disconnection, its request timer with the open number"
 unfoldable pub closes : ℕ → ℕ → ℕ → ℕ → List (ℕ × ℕ) → Bool
 closes k m p n numbers =
     (eqb k (kind-byte Message) && is-answer m)
-    || (eqb k (kind-byte PeerDisconnected) || (eqb k (kind-byte PendingNeighborRequest) && is-number n (lookup p numbers)))
+    || (eqb k (kind-byte PeerDisconnected) || (eqb k (kind-byte PendingNeighborRequest) && is-open n (lookup p numbers)))
 
 -- "or a Quit", which closes all
 unfoldable pub open-on : ℕ → ℕ → ℕ → ℕ → List (ℕ × ℕ) → List (ℕ × ℕ)
