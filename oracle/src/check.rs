@@ -1,4 +1,4 @@
-//! Demand 3's claims, checked on the Rust after every event of many histories.
+//! Demand 3's claims and those of 02, S-10, checked on the Rust after every event of many histories.
 
 use std::{
     collections::{BTreeMap, BTreeSet},
@@ -8,6 +8,7 @@ use std::{
 use rand::{Draws, PICKS, SHUFFLES};
 
 use crate::{
+    chatter::Chatter,
     hyparview::access::Parts,
     input::Input,
     ledger::Ledger,
@@ -37,12 +38,13 @@ struct Told {
     broken: Vec<&'static str>,
 }
 
-/// One history under way, with its book.
+/// One history under way, with its books.
 struct Watch {
     input: Input,
     start: Start,
     station: Station,
     ledger: Ledger,
+    chatter: Chatter,
 }
 
 impl Watch {
@@ -55,6 +57,7 @@ impl Watch {
             start,
             station,
             ledger: Ledger::default(),
+            chatter: Chatter::default(),
         })
     }
 
@@ -69,6 +72,7 @@ impl Watch {
         let kept = (lent as u64).saturating_sub(passed_over() - passed);
         let capacity = self.input.settings[0];
         self.ledger.enter(capacity, event, &answer);
+        self.chatter.enter(event, &answer);
         let parts = self.station.parts();
         let mut broken = rules::broken(self.input.me, &self.input.settings, &parts);
         let ledger = &self.ledger;
@@ -89,6 +93,9 @@ impl Watch {
             ),
         ];
         broken.extend(rules::failing(&claims));
+        broken.extend(rules::failing(
+            &self.chatter.claims(&parts.requests, &parts.joins),
+        ));
         broken.extend(rules::failing(&pin_claims(
             capacity, event, &answer, &before, &parts,
         )));

@@ -29,6 +29,8 @@ mod proto {
 }
 
 #[cfg(feature = "tools")]
+pub mod chatter;
+#[cfg(feature = "tools")]
 pub mod check;
 mod collections;
 #[cfg(feature = "tools")]

@@ -4,9 +4,10 @@ use std::sync::atomic::{AtomicBool, Ordering};
 
 pub const HEADER: usize = 32;
 pub const NODE: usize = 12;
-/// Where a record's peer and its whole length stand.
+/// Where a record's peer, its whole length and its number stand.
 pub const PEER: usize = 4;
 pub const LENGTH: usize = 22;
+pub const NUMBER: usize = 24;
 pub const MOST_NODES: u8 = 32;
 pub const MOST_DATA: usize = 16;
 
@@ -354,7 +355,7 @@ pub fn header_of(bytes: &[u8]) -> Record<()> {
         peer: peer_of(bytes),
         second: u64_at(bytes, 12),
         ttl: u16_at(bytes, 20),
-        number: u64_at(bytes, 24),
+        number: u64_at(bytes, NUMBER),
         nodes: (),
     }
 }
@@ -370,6 +371,11 @@ fn u64_at(bytes: &[u8], place: usize) -> u64 {
 /// The peer of a record's header.
 pub fn peer_of(record: &[u8]) -> Peer {
     u64_at(record, PEER)
+}
+
+/// The number of a record's header.
+pub fn number_of(record: &[u8]) -> u64 {
+    u64_at(record, NUMBER)
 }
 
 /// The whole length that a record's header tells.

@@ -1,14 +1,15 @@
-//! The tools that hold demand 3 against the Rust do tell a claim that fails.
+//! The tools that hold demand 3 and S-10 against the Rust do tell a claim that fails.
 
 use std::collections::BTreeSet;
 
 use oracle::{
+    chatter::Chatter,
     hyparview::access::{Parts, Refill},
     input::Input,
     ledger::Ledger,
     record::{kind, message, Node, Peer, Record},
     rules, shrink,
-    station::{Station, DEFAULTS, ROOM},
+    station::{Answer, Station, DEFAULTS, ROOM},
 };
 use rand::Draws;
 
@@ -98,4 +99,87 @@ fn shrinking_keeps_what_shows() {
     let shows = |less: &Input| less.events.contains(&quit) && less.draws.len() >= 3;
     let small = shrink::smallest(&input, shows);
     assert_eq!((small.events, small.draws.len()), (vec![quit.clone()], 3));
+}
+
+fn neighbor(peer: Peer) -> Vec<u8> {
+    Record::message(message::NEIGHBOR, peer, vec![Node::default()]).write()
+}
+
+fn timer(kind: u8, peer: Peer, number: u64) -> Vec<u8> {
+    let record: Record = Record {
+        number,
+        ..Record::of(kind, peer)
+    };
+    record.write()
+}
+
+/// The claims of S-10 that fail after these events, each with the records that it wrote.
+fn chatter(steps: &[(Vec<u8>, Vec<Vec<u8>>)], requests: &[(Peer, u64)]) -> Vec<&'static str> {
+    let mut chatter = Chatter::default();
+    for (event, records) in steps {
+        let answer = Answer {
+            out: records.concat(),
+            ..Answer::default()
+        };
+        chatter.enter(event, &answer);
+    }
+    rules::failing(&chatter.claims(requests, &[]))
+}
+
+/// What the first event of a station that is asked to send 7 a Neighbor writes.
+fn first() -> (Vec<u8>, Vec<Vec<u8>>) {
+    let records = vec![
+        neighbor(7),
+        timer(kind::PENDING_NEIGHBOR_REQUEST, 7, 0),
+        timer(kind::DO_SHUFFLE, 0, 0),
+        timer(kind::DO_MAINTENANCE, 0, 0),
+    ];
+    (join(7), records)
+}
+
+/// A second Neighbor to a peer has a reason where the event that sends it, or one before, is one.
+#[test]
+fn a_second_neighbor_wants_a_reason() {
+    let again = || vec![neighbor(7), timer(kind::PENDING_NEIGHBOR_REQUEST, 7, 1)];
+    let chattered = "a reason between two Neighbors";
+    let events = [
+        (join(7), true),
+        (join(8), false),
+        (neighbor(7), true),
+        (timer(kind::PENDING_NEIGHBOR_REQUEST, 7, 0), true),
+        (timer(kind::PENDING_NEIGHBOR_REQUEST, 7, 1), false),
+        (timer(kind::PENDING_NEIGHBOR_REQUEST, 8, 0), false),
+        (timer(kind::RETRY_JOIN, 7, 0), false),
+        (Record::of(kind::PEER_DISCONNECTED, 7).write(), true),
+        (Record::of(kind::QUIT, 0).write(), true),
+    ];
+    for (event, holds) in events {
+        let failing = chatter(&[first(), (event.clone(), again())], &[]);
+        assert_eq!(!failing.contains(&chattered), holds, "{event:?}");
+    }
+    let mut twice = first();
+    twice.1.push(neighbor(7));
+    assert_eq!(
+        chatter(&[twice], &[]),
+        [chattered, "one Neighbor to a peer in an event"]
+    );
+}
+
+/// A clock that is started twice, or not started again, and a request with another number than its timer.
+#[test]
+fn clocks_and_requests_want_their_timers() {
+    let expired = |records| (timer(kind::DO_MAINTENANCE, 0, 0), records);
+    let next = || timer(kind::DO_MAINTENANCE, 0, 0);
+    let ahead = ["one maintenance timer ahead"];
+    assert_eq!(chatter(&[first()], &[(7, 0)]), [""; 0]);
+    assert_eq!(chatter(&[first(), expired(vec![next()])], &[]), [""; 0]);
+    assert_eq!(
+        chatter(&[first(), expired(vec![next(), next()])], &[]),
+        ahead
+    );
+    assert_eq!(chatter(&[first(), expired(vec![])], &[]), ahead);
+    let timed = ["each request has its timer"];
+    assert_eq!(chatter(&[first()], &[(7, 1)]), timed);
+    let late = (timer(kind::PENDING_NEIGHBOR_REQUEST, 7, 0), vec![]);
+    assert_eq!(chatter(&[first(), late], &[(7, 0)]), timed);
 }

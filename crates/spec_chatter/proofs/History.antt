@@ -35,7 +35,7 @@ use Rattle.spec_history.specs.Calls.{Call, result-of, answered}
 use Rattle.spec_history.proofs.Kept.{Kept, pays}
 use Rattle.spec_chatter.specs.Traffic.{Item, came, items-of}
 use Rattle.spec_chatter.proofs.Book.{Book, note-event, note-item, book-after, may, keeps-book}
-use Rattle.spec_chatter.specs.Claims.{scheduled, expired, events, waiting, without-pair, Among}
+use Rattle.spec_chatter.specs.Claims.{times-scheduled, times-expired, accepted-events, waiting, without-pair, Among}
 use Rattle.spec_chatter.proofs.Lists.{Either, left, right}
 use Rattle.spec_chatter.proofs.Waits.{Timed, still-waits}
 use Rattle.spec_chatter.proofs.Moves.{book-of, retries}
@@ -50,13 +50,13 @@ running s = choose (s .scheduled) 1 0
 pub record Follows (xs : List Item) (s t : Station) : Type 0 where
   pub books : book-after xs (book-of s) ≡ book-of t
   pub clean : keeps-book xs (book-of s) ≡ true
-  pub ones : scheduled 1 xs + running s ≡ expired 1 xs + running t
-  pub twos : scheduled 2 xs + running s ≡ expired 2 xs + running t
-  pub starts : 1 ≤ events xs + running s → running t ≡ 1
+  pub ones : times-scheduled 1 xs + running s ≡ times-expired 1 xs + running t
+  pub twos : times-scheduled 2 xs + running s ≡ times-expired 2 xs + running t
+  pub starts : 1 ≤ accepted-events xs + running s → running t ≡ 1
   pub awaits : (ws : List (ℕ × ℕ)) → Timed (s .joins) ws → Timed (t .joins) (waiting 4 xs ws)
 
 pub no-more : (s : Station) → Follows [] s s
-unfolding book-after keeps-book scheduled expired events waiting
+unfolding book-after keeps-book times-scheduled times-expired accepted-events waiting
 no-more s = record { books = refl; clean = refl; ones = refl; twos = refl; starts = λ h. up (s .scheduled) h; awaits = λ ws t. t }
   where
     up : (b : Bool) → 1 ≤ 0 + choose b 1 0 → choose {A = ℕ} b 1 0 ≡ 1
@@ -105,7 +105,7 @@ module _ {c : Config} {me : ℕ} {l : Ledger} {s : Station} (h : Kept c me l s) 
   held k ws t p m (right a) q = right a
 
   taken : r .code ≡ 0 → length (r .out) ≤ 8192 → (zeros : ℕ) → Follows (came (header-of b) ∷ items (r .out ++ replicate zeros 0)) s (r .station)
-  unfolding book-after keeps-book note-item may scheduled expired events waiting rec-of-by
+  unfolding book-after keeps-book note-item may times-scheduled times-expired accepted-events waiting rec-of-by
   taken z small zeros =
       let k = done e (w .known) (w .narrow) (few-of e f) s ds room z in
       let d = note-event (e .kind) (e .message) (e .peer) (e .number) (book-of s) in

@@ -24,7 +24,7 @@ use Rattle.spec_hyparview.specs.Station.{peers-end}
 use Rattle.spec_hyparview.specs.Written.{encode-all}
 use Rattle.spec_chatter.specs.Traffic.{Item, went}
 use Rattle.spec_chatter.proofs.Book.{Book, is-neighbor, note-sent, may-send, note-item, book-after, may, keeps-book}
-use Rattle.spec_chatter.specs.Claims.{scheduled, expired, events, waiting, Among, here, later}
+use Rattle.spec_chatter.specs.Claims.{times-scheduled, times-expired, accepted-events, waiting, Among, here, later}
 use Rattle.spec_chatter.proofs.Lists.{Either, left, right}
 use Rattle.spec_chatter.proofs.Moves.{sent-all, may-all, kinds, Low, retries}
 
@@ -184,12 +184,12 @@ read-all (e ∷ es) zeros d l h =
 
 -- the timers among them, and no events
 pub record Counted (es : List Rec) (xs : List Item) : Type 0 where
-  pub set : (k : ℕ) → scheduled k xs ≡ kinds k es
-  pub gone : (k : ℕ) → expired k xs ≡ 0
-  pub none : events xs ≡ 0
+  pub set : (k : ℕ) → times-scheduled k xs ≡ kinds k es
+  pub gone : (k : ℕ) → times-expired k xs ≡ 0
+  pub none : accepted-events xs ≡ 0
 
 pub count-all : (es : List Rec) (zeros : ℕ) → length (encode-all es) < 65536 → Counted es (items (encode-all es ++ replicate zeros 0))
-unfolding encode-all kinds scheduled expired events
+unfolding encode-all kinds times-scheduled times-expired accepted-events
 count-all [] zeros l = subst (Counted []) (sym (no-items zeros)) (record { set = λ k. refl; gone = λ k. refl; none = refl })
 count-all (e ∷ es) zeros l =
     let rest : List ℕ = encode-all es ++ replicate zeros 0 in
@@ -197,7 +197,7 @@ count-all (e ∷ es) zeros l =
     let c = count-all es zeros (omega (arith, length-append (encode e) (encode-all es))) in
     let q : items (encode-all (e ∷ es) ++ replicate zeros 0) ≡ went (header-of (encode e ++ rest)) ∷ items rest = ap items (append-assoc (encode e) (encode-all es) (replicate zeros 0)) ∙ one-item e rest s in
     subst (Counted (e ∷ es)) (sym q) (record {
-      set = λ k. ap (λ (n : ℕ). n + scheduled k (items rest)) (ap (λ (x : ℕ). is x k) (kind-is e rest)) ∙ ap (λ (n : ℕ). is (e .kind) k + n) (c .set k);
+      set = λ k. ap (λ (n : ℕ). n + times-scheduled k (items rest)) (ap (λ (x : ℕ). is x k) (kind-is e rest)) ∙ ap (λ (n : ℕ). is (e .kind) k + n) (c .set k);
       gone = c .gone;
       none = c .none;
     })

@@ -235,7 +235,7 @@ connection-closed p r =
 
 handle-quit : (r : Run) → Moves (λ d. empty-book) 0 0 r (E.handle-quit r)
 unfolding E.handle-quit E.clear-all empty-book keys
-handle-quit r = before (quit-all _ r) (opening _ _ (λ s. refl) (λ s. refl) _)
+handle-quit r = before (quit-all _ r) (opening (λ d. empty-book) E.clear-all (λ s. refl) (λ s. refl) _)
 
 -- the station takes a timer's number for the open one where the book does
 pub open-alike : (n : ℕ) (o : Option ℕ) → T.is-number n o ≡ is-open n o

@@ -22,27 +22,27 @@ use Rattle.spec_history.specs.Calls.{Call, NewGiven, state-after, definition}
 use Rattle.spec_history.proofs.Kept.{Kept, fine-answer, kept-new, accepted-new}
 use Rattle.spec_chatter.specs.Traffic.{Item, came, went, traffic}
 use Rattle.spec_chatter.proofs.Book.{Book, empty-book, book-after, keeps-book}
-use Rattle.spec_chatter.specs.Claims.{scheduled, expired, events, waiting, Among, Chatter, Chatter-holds}
+use Rattle.spec_chatter.specs.Claims.{times-scheduled, times-expired, accepted-events, waiting, Among, Chatter, Chatter-holds}
 use Rattle.spec_chatter.proofs.Moves.{book-of}
 use Rattle.spec_chatter.proofs.History.{running, Follows, no-more, called}
 use Rattle.spec_chatter.proofs.Words.{after-append, keeps-append, in-words, event-between}
 use Rattle.spec_chatter.proofs.Lists.{none-found}
 use Rattle.spec_chatter.proofs.Waits.{Timed, timed-after}
 
-scheduled-append : (k : ℕ) (xs ys : List Item) → scheduled k (xs ++ ys) ≡ scheduled k xs + scheduled k ys
-unfolding scheduled
+scheduled-append : (k : ℕ) (xs ys : List Item) → times-scheduled k (xs ++ ys) ≡ times-scheduled k xs + times-scheduled k ys
+unfolding times-scheduled
 scheduled-append k [] ys = omega arith
 scheduled-append k (came h ∷ xs) ys = scheduled-append k xs ys
 scheduled-append k (went h ∷ xs) ys = omega (arith, scheduled-append k xs ys)
 
-expired-append : (k : ℕ) (xs ys : List Item) → expired k (xs ++ ys) ≡ expired k xs + expired k ys
-unfolding expired
+expired-append : (k : ℕ) (xs ys : List Item) → times-expired k (xs ++ ys) ≡ times-expired k xs + times-expired k ys
+unfolding times-expired
 expired-append k [] ys = omega arith
 expired-append k (came h ∷ xs) ys = omega (arith, expired-append k xs ys)
 expired-append k (went h ∷ xs) ys = expired-append k xs ys
 
-events-append : (xs ys : List Item) → events (xs ++ ys) ≡ events xs + events ys
-unfolding events
+events-append : (xs ys : List Item) → accepted-events (xs ++ ys) ≡ accepted-events xs + accepted-events ys
+unfolding accepted-events
 events-append [] ys = omega arith
 events-append (came h ∷ xs) ys = omega (arith, events-append xs ys)
 events-append (went h ∷ xs) ys = events-append xs ys
@@ -59,9 +59,9 @@ joined {xs} {ys} {s} {t} {u} f g = record {
   clean = keeps-append xs ys (book-of s) ∙ (ap (λ (b : Bool). b && keeps-book ys (book-after xs (book-of s))) (f .clean) ∙ (ap (keeps-book ys) (f .books) ∙ g .clean));
   ones = omega (arith, scheduled-append 1 xs ys, expired-append 1 xs ys, f .ones, g .ones);
   twos = omega (arith, scheduled-append 2 xs ys, expired-append 2 xs ys, f .twos, g .twos);
-  starts = λ h. split (leb 1 (events xs + running s))
-      (λ e. let a = f .starts (leb-true 1 (events xs + running s) e) in g .starts (omega (arith, a)))
-      (λ e. let a = leb-false 1 (events xs + running s) e in g .starts (omega (arith, a, h, events-append xs ys)));
+  starts = λ h. split (leb 1 (accepted-events xs + running s))
+      (λ e. let a = f .starts (leb-true 1 (accepted-events xs + running s) e) in g .starts (omega (arith, a)))
+      (λ e. let a = leb-false 1 (accepted-events xs + running s) e in g .starts (omega (arith, a, h, events-append xs ys)));
   awaits = λ ws w. subst (Timed (u .joins)) (sym (waiting-append 4 xs ys ws)) (g .awaits (waiting 4 xs ws) (f .awaits ws w));
 }
 

@@ -13,7 +13,7 @@ use Rattle.base_lists.proofs.Choice.{by-choice, choose-yes, choose-no, split, o
 use Rattle.record.specs.declared.Header.{Header}
 use Rattle.spec_chatter.specs.Traffic.{Item, came, went}
 use Rattle.spec_chatter.specs.Open.{neighbor-message, is-answer, is-open, closes, open-after}
-use Rattle.spec_chatter.specs.Claims.{IsMessage, Reason, join-from, neighbor-from, disconnect-from, disconnection, request-timer, quit, Any-two-neighbors, No-chatter, One-in-each-event}
+use Rattle.spec_chatter.specs.Claims.{MessageOf, ReasonFor, join-from, neighbor-from, disconnect-from, disconnection, request-timer, quit, Any-two-neighbors, No-chatter, One-in-each-event}
 use Rattle.spec_chatter.proofs.Lists.{Either, left, right, insert-self, insert-keeps, without-keeps}
 use Rattle.spec_chatter.proofs.Book.{Book, empty-book, is-neighbor, note-sent, shut, note-event, note-item, book-after, may-send, may, keeps-book, asked-after}
 
@@ -23,18 +23,18 @@ sent-keeps : (x : ℕ) (h : Header) (d : Book) → mem x (d .told) ≡ true → 
 unfolding note-item note-sent
 sent-keeps x h d k = by-choice (λ (l : List ℕ). mem x l ≡ true) (is-neighbor (h .kind) (h .message)) (λ _. insert-keeps x (h .peer) (d .told) k) (λ _. k)
 
-neighbor-is : (p : ℕ) (h : Header) → IsMessage neighbor-message p h → is-neighbor (h .kind) (h .message) ≡ true
+neighbor-is : (p : ℕ) (h : Header) → MessageOf neighbor-message p h → is-neighbor (h .kind) (h .message) ≡ true
 unfolding is-neighbor
 neighbor-is p h n = rw (n .is-message, n .which)
 
-sent-tells : (p : ℕ) (h : Header) (d : Book) → IsMessage neighbor-message p h → mem p (note-item (went h) d .told) ≡ true
+sent-tells : (p : ℕ) (h : Header) (d : Book) → MessageOf neighbor-message p h → mem p (note-item (went h) d .told) ≡ true
 unfolding note-item note-sent
 sent-tells p h d n =
     by-choice (λ (l : List ℕ). mem p l ≡ true) (is-neighbor (h .kind) (h .message))
     (λ _. subst (λ (q : ℕ). mem p (insert q (d .told)) ≡ true) (sym (n .whose)) (insert-self p (d .told))) (λ f. clash _ (neighbor-is p h n) f)
 
 -- a Neighbor to one who is told is forbidden
-forbidden : {C : Type 0} (p : ℕ) (h : Header) (d : Book) → IsMessage neighbor-message p h → mem p (d .told) ≡ true → may (went h) d ≡ true → C
+forbidden : {C : Type 0} (p : ℕ) (h : Header) (d : Book) → MessageOf neighbor-message p h → mem p (d .told) ≡ true → may (went h) d ≡ true → C
 unfolding may may-send
 forbidden p h d n m k =
     let a : not (mem (h .peer) (d .told)) ≡ true = sym (choose-yes (is-neighbor (h .kind) (h .message)) (not (mem (h .peer) (d .told))) true (neighbor-is p h n)) ∙ k in
@@ -47,12 +47,12 @@ number-is n none h = clash false h refl
 number-is n (some m) h = ap some (sym (eqb-true n m h))
 
 -- an event that closes what is open to its peer is a reason
-closing : (p : ℕ) (xs : List Item) (h : Header) (numbers : List (ℕ × ℕ)) → numbers ≡ open-after xs [] → h .peer ≡ p → closes (h .kind) (h .message) (h .peer) (h .number) numbers ≡ true → Reason p xs (came h)
+closing : (p : ℕ) (xs : List Item) (h : Header) (numbers : List (ℕ × ℕ)) → numbers ≡ open-after xs [] → h .peer ≡ p → closes (h .kind) (h .message) (h .peer) (h .number) numbers ≡ true → ReasonFor p xs (came h)
 unfolding closes is-answer
 closing p xs h numbers e q c =
     let k = h .kind in
     let m = h .message in
-    let message : (i : ℕ) → eqb k 0 ≡ true → eqb m i ≡ true → IsMessage i p h = (λ i a b. record { is-message = eqb-true k 0 a; which = eqb-true m i b; whose = q }) in
+    let message : (i : ℕ) → eqb k 0 ≡ true → eqb m i ≡ true → MessageOf i p h = (λ i a b. record { is-message = eqb-true k 0 a; which = eqb-true m i b; whose = q }) in
     or-true (eqb k 0 && is-answer m) (eqb k 5 || (eqb k 3 && is-open (h .number) (lookup (h .peer) numbers))) c
     (λ a. let z = and-left (eqb k 0) (is-answer m) a in
     or-true (eqb m 0) (eqb m 4 || eqb m 5) (and-right (eqb k 0) (is-answer m) a) (λ b. join-from (message 0 z b))
@@ -70,7 +70,7 @@ unfolding empty-book
 numbers-open xs d e = ap (λ (x : Book). x .asked) e ∙ asked-after xs empty-book
 
 -- an event is a reason, or leaves p told
-event-either : (p : ℕ) (xs : List Item) (h : Header) (d : Book) → After xs d → mem p (d .told) ≡ true → Either (Reason p xs (came h)) (mem p (note-item (came h) d .told) ≡ true)
+event-either : (p : ℕ) (xs : List Item) (h : Header) (d : Book) → After xs d → mem p (d .told) ≡ true → Either (ReasonFor p xs (came h)) (mem p (note-item (came h) d .told) ≡ true)
 unfolding note-item note-event shut
 event-either p xs h d e m =
     let c = closes (h .kind) (h .message) (h .peer) (h .number) (d .asked) in
@@ -102,10 +102,10 @@ record Found (p : ℕ) (xs between : List Item) : Type 0 where
   event : Header
   back : List Item
   is : between ≡ front ++ (came event ∷ back)
-  why : Reason p (xs ++ front) (came event)
+  why : ReasonFor p (xs ++ front) (came event)
 
-at-once : (p : ℕ) (xs : List Item) (h : Header) (is : List Item) → Reason p xs (came h) → Found p xs (came h ∷ is)
-at-once p xs h is w = record { front = []; event = h; back = is; is = refl; why = subst (λ (l : List Item). Reason p l (came h)) (sym (append-nil xs)) w }
+at-once : (p : ℕ) (xs : List Item) (h : Header) (is : List Item) → ReasonFor p xs (came h) → Found p xs (came h ∷ is)
+at-once p xs h is w = record { front = []; event = h; back = is; is = refl; why = subst (λ (l : List Item). ReasonFor p l (came h)) (sym (append-nil xs)) w }
 
 after-one : (p : ℕ) (xs : List Item) (i : Item) (is : List Item) → Found p (xs ++ (i ∷ [])) is → Found p xs (i ∷ is)
 after-one p xs i is s = record {
@@ -113,14 +113,14 @@ after-one p xs i is s = record {
   event = s .event;
   back = s .back;
   is = ap (λ (l : List Item). i ∷ l) (s .is);
-  why = subst (λ (l : List Item). Reason p l (came (s .event))) (append-assoc xs (i ∷ []) (s .front)) (s .why);
+  why = subst (λ (l : List Item). ReasonFor p l (came (s .event))) (append-assoc xs (i ∷ []) (s .front)) (s .why);
 }
 
 one-more : (xs : List Item) (i : Item) (d : Book) → After xs d → After (xs ++ (i ∷ [])) (note-item i d)
 unfolding book-after
 one-more xs i d e = ap (note-item i) e ∙ sym (after-append xs (i ∷ []) empty-book)
 
-search-for : (p : ℕ) (xs between after : List Item) (y : Header) (d : Book) → After xs d → mem p (d .told) ≡ true → IsMessage neighbor-message p y → keeps-book (between ++ (went y ∷ after)) d ≡ true → Found p xs between
+search-for : (p : ℕ) (xs between after : List Item) (y : Header) (d : Book) → After xs d → mem p (d .told) ≡ true → MessageOf neighbor-message p y → keeps-book (between ++ (went y ∷ after)) d ≡ true → Found p xs between
 unfolding keeps-book
 search-for p xs [] after y d e m n k = forbidden p y d n m (and-left (may (went y) d) _ k)
 search-for p xs (went h ∷ is) after y d e m n k =
@@ -129,7 +129,7 @@ search-for p xs (came h ∷ is) after y d e m n k =
     found p xs h is (event-either p xs h d e m)
     (λ t. search-for p (xs ++ (came h ∷ [])) is after y (note-item (came h) d) (one-more xs (came h) d e) t n (and-right (may (came h) d) _ k))
   where
-    found : (p : ℕ) (xs : List Item) (h : Header) (is : List Item) → {T : Type 0} → Either (Reason p xs (came h)) T → (T → Found p (xs ++ (came h ∷ [])) is) → Found p xs (came h ∷ is)
+    found : (p : ℕ) (xs : List Item) (h : Header) (is : List Item) → {T : Type 0} → Either (ReasonFor p xs (came h)) T → (T → Found p (xs ++ (came h ∷ [])) is) → Found p xs (came h ∷ is)
     found p xs h is (left w) f = at-once p xs h is w
     found p xs h is (right t) f = after-one p xs (came h) is (f t)
 

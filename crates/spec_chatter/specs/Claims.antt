@@ -18,25 +18,25 @@ use Rattle.spec_chatter.specs.Open.{join-message, neighbor-message, disc
 -- ---- "Between two Neighbor messages to one peer, the event that sends the second included, stands .."
 
 -- a message m from p, if it came, or to p, if it went
-pub record IsMessage (m p : ℕ) (h : Header) : Type 0 where
+pub record MessageOf (m p : ℕ) (h : Header) : Type 0 where
   pub is-message : h .kind ≡ kind-byte Message
   pub which : h .message ≡ m
   pub whose : h .peer ≡ p
 
 -- the item that stands after the items xs, and why a Neighbor to p may follow it
-pub data Reason (p : ℕ) (xs : List Item) : Item → Type 0 where
+pub data ReasonFor (p : ℕ) (xs : List Item) : Item → Type 0 where
   -- "a Join, Neighbor or Disconnect from it"
-  join-from : {h : Header} → IsMessage join-message p h → Reason p xs (came h)
-  neighbor-from : {h : Header} → IsMessage neighbor-message p h → Reason p xs (came h)
-  disconnect-from : {h : Header} → IsMessage disconnect-message p h → Reason p xs (came h)
+  join-from : {h : Header} → MessageOf join-message p h → ReasonFor p xs (came h)
+  neighbor-from : {h : Header} → MessageOf neighbor-message p h → ReasonFor p xs (came h)
+  disconnect-from : {h : Header} → MessageOf disconnect-message p h → ReasonFor p xs (came h)
   -- "a Disconnect to it"
-  disconnect-to : {h : Header} → IsMessage disconnect-message p h → Reason p xs (went h)
+  disconnect-to : {h : Header} → MessageOf disconnect-message p h → ReasonFor p xs (went h)
   -- "its disconnection"
-  disconnection : {h : Header} → h .kind ≡ kind-byte PeerDisconnected → h .peer ≡ p → Reason p xs (came h)
+  disconnection : {h : Header} → h .kind ≡ kind-byte PeerDisconnected → h .peer ≡ p → ReasonFor p xs (came h)
   -- "its request timer with the open number"
-  request-timer : {h : Header} → h .kind ≡ kind-byte PendingNeighborRequest → h .peer ≡ p → lookup p (open-after xs []) ≡ some (h .number) → Reason p xs (came h)
+  request-timer : {h : Header} → h .kind ≡ kind-byte PendingNeighborRequest → h .peer ≡ p → lookup p (open-after xs []) ≡ some (h .number) → ReasonFor p xs (came h)
   -- "or a Quit"
-  quit : {h : Header} → h .kind ≡ kind-byte Quit → Reason p xs (came h)
+  quit : {h : Header} → h .kind ≡ kind-byte Quit → ReasonFor p xs (came h)
 
 -- one stands among the items `between`, which follow xs
 pub record Stands (p : ℕ) (xs between : List Item) : Type 0 where
@@ -44,7 +44,7 @@ pub record Stands (p : ℕ) (xs between : List Item) : Type 0 where
   pub item : Item
   pub back : List Item
   pub is : between ≡ front ++ (item ∷ back)
-  pub why : Reason p (xs ++ front) item
+  pub why : ReasonFor p (xs ++ front) item
 
 -- an event stands among them
 pub record EventStands (between : List Item) : Type 0 where
@@ -57,7 +57,7 @@ pub record EventStands (between : List Item) : Type 0 where
 abbrev pub Any-two-neighbors : List Item → (ℕ → List Item → Header → List Item → Type 0) → Type 0
 Any-two-neighbors xs X =
     (p : ℕ) (before between after : List Item) (x y : Header) → xs ≡ before ++ (went x ∷ (between ++ (went y ∷ after)))
-    → IsMessage neighbor-message p x → IsMessage neighbor-message p y → X p before x between
+    → MessageOf neighbor-message p x → MessageOf neighbor-message p y → X p before x between
 
 -- a reason stands after the first and before the second. Each event stands before its own output, so that the event that sends the second may be the reason, and that of the first may not.
 abbrev pub No-chatter : List Item → Type 0
@@ -69,27 +69,27 @@ One-in-each-event xs = Any-two-neighbors xs (λ p before x between. EventStands 
 
 -- ---- "After at least one accepted event of kinds 0 to 8, maintenance timers scheduled are one more than those expired, and shuffle timers likewise."
 
--- output records of kind k
-unfoldable pub scheduled : ℕ → List Item → ℕ
-scheduled k [] = 0
-scheduled k (came h ∷ xs) = scheduled k xs
-scheduled k (went h ∷ xs) = is (h .kind) k + scheduled k xs
+-- how many output records are of kind k
+unfoldable pub times-scheduled : ℕ → List Item → ℕ
+times-scheduled k [] = 0
+times-scheduled k (came h ∷ xs) = times-scheduled k xs
+times-scheduled k (went h ∷ xs) = is (h .kind) k + times-scheduled k xs
 
--- accepted events of kind k
-unfoldable pub expired : ℕ → List Item → ℕ
-expired k [] = 0
-expired k (came h ∷ xs) = is (h .kind) k + expired k xs
-expired k (went h ∷ xs) = expired k xs
+-- how many accepted events are of kind k
+unfoldable pub times-expired : ℕ → List Item → ℕ
+times-expired k [] = 0
+times-expired k (came h ∷ xs) = is (h .kind) k + times-expired k xs
+times-expired k (went h ∷ xs) = times-expired k xs
 
--- accepted events of kinds 0 to 8
-unfoldable pub events : List Item → ℕ
-events [] = 0
-events (came h ∷ xs) = choose (leb (h .kind) (kind-byte Quit)) 1 0 + events xs
-events (went h ∷ xs) = events xs
+-- how many are of kinds 0 to 8
+unfoldable pub accepted-events : List Item → ℕ
+accepted-events [] = 0
+accepted-events (came h ∷ xs) = choose (leb (h .kind) (kind-byte Quit)) 1 0 + accepted-events xs
+accepted-events (went h ∷ xs) = accepted-events xs
 
 pub record No-lost-clock (xs : List Item) : Type 0 where
-  pub maintenance : 1 ≤ events xs → scheduled (kind-byte DoMaintenance) xs ≡ expired (kind-byte DoMaintenance) xs + 1
-  pub shuffles : 1 ≤ events xs → scheduled (kind-byte DoShuffle) xs ≡ expired (kind-byte DoShuffle) xs + 1
+  pub maintenance : 1 ≤ accepted-events xs → times-scheduled (kind-byte DoMaintenance) xs ≡ times-expired (kind-byte DoMaintenance) xs + 1
+  pub shuffles : 1 ≤ accepted-events xs → times-scheduled (kind-byte DoShuffle) xs ≡ times-expired (kind-byte DoShuffle) xs + 1
 
 -- ---- beside it: what is open has its timer, so that nothing waits for ever if timers fire
 
