@@ -3,29 +3,31 @@
 use mathlib.Core.Path.{_≡_, refl, sym, ap, subst, _∙_}
 use mathlib.Core.Bool.{Bool, true, false}
 use mathlib.Core.List.{List, [], _∷_}
-use Prim.Native.Nat.{ℕ, zero, suc, _<_}
+use Prim.Native.Nat.{ℕ, zero, suc, _<_, _≤_}
 use native.Mathlib.Omega.{arith}
 use lib.ListN.{getD}
 use lib.Dec.{ltb, eqb}
-use borrow.Author.Tests.{eqb-true, eq-eqb, ltb-true}
+use borrow.Author.Tests.{eqb-true, ltb-true}
 use Rattle.base_lists.specs.Lists.{choose}
 use Rattle.base_lists.proofs.Choice.{by-choice, choose-yes, choose-no, and-left, and-right}
 use Rattle.base_timing.specs.Timing.{delay}
 use Rattle.base_timing.specs.declared.Config.{Config}
-use Rattle.record.specs.Kinds.{DoShuffle, kind-byte}
+use Rattle.record.specs.Kinds.{Message, DoShuffle, kind-byte}
 use Rattle.record.specs.Format.{Rec}
 use Rattle.spec_hyparview.specs.Station.{Station, draws-end}
-use Rattle.spec_hyparview.specs.Run.{Run, guard, on, emit, draw, drawn, timer}
+use Rattle.spec_hyparview.specs.Run.{Run, on, emit, draw, drawn, timer}
 use Rattle.spec_hyparview.specs.Rules.{all-under}
 use Rattle.spec_hyparview.specs.Timers as T
 use Rattle.spec_hyparview.specs.Handle as H
 use Rattle.spec_hyparview.specs.Handle.{start, steps}
 use Rattle.spec_hyparview.proofs.Keeping.{draw-station, draw-fine, emit-station, emit-fine, on-code}
 use Rattle.spec_hyparview.proofs.Entering.{on-same}
+use Rattle.spec_hyparview.proofs.Reading.{Readable}
 use Rattle.spec_history.proofs.Ticks.{draw-out, on-out}
+use Rattle.spec_chatter.proofs.Moves.{on-lent, on-station}
 use Rattle.shuffle_times.specs.Times.{next-interval}
-use Rattle.shuffle_times.proofs.Told.{timers-of, shuffles}
-use Rattle.shuffle_times.proofs.Quiet.{Adds, adds-more, Still, Quiet, then, changes, adds-one, on-lent, schedule-maintenance, shuffle-any, dispatch}
+use Rattle.shuffle_times.proofs.Told.{timers-of}
+use Rattle.shuffle_times.proofs.Quiet.{Adds, adds-more, Still, Quiet, then, changes, adds-one, schedule-maintenance, shuffle-any, dispatch}
 
 -- the run w wrote one shuffle timer after the output x, with the interval i and one of the draws ds, and doubled the interval up to top
 pub record Sets (x ds : List ℕ) (i top : ℕ) (w : Run) : Type 0 where
@@ -39,10 +41,6 @@ unfolding all-under
 under-at [] i e = omega arith
 under-at (x ∷ xs) zero e = ltb-true x draws-end (and-left (ltb x draws-end) (all-under draws-end xs) e)
 under-at (x ∷ xs) (suc i) e = under-at xs i (and-right (ltb x draws-end) (all-under draws-end xs) e)
-
-on-station : (f : Station → Station) (r : Run) → r .code ≡ 0 → (on f r) .station ≡ f (r .station)
-unfolding on guard
-on-station f r z = ap (λ (w : Run). w .station) (choose-yes (eqb (r .code) 0) _ _ (eq-eqb (r .code) 0 z))
 
 -- schedule_shuffle
 module _ (r : Run) where
@@ -148,13 +146,13 @@ declined w = changes _ (λ s. refl) w
 starts-before : {x ds : List ℕ} {i top : ℕ} {w v : Run} → Starts x ds i top w → Still w v → Starts x ds i top v
 starts-before h k = record { sets = sets-before (h .sets) k; mark = ap (λ (p : Bool × (ℕ × Config)). p .0) (k .same-clock) ∙ h .mark }
 
-module _ (e : Rec) (s : Station) (ds : List ℕ) (room : ℕ) where
+module _ (e : Rec) (readable : Readable e) (few : e .kind ≡ kind-byte Message → e .message ≤ 5) (s : Station) (ds : List ℕ) (room : ℕ) where
   -- no timer
   pub plain : eqb (e .kind) (kind-byte DoShuffle) ≡ false → s .scheduled ≡ true → steps e (start s ds room) .code ≡ 0 → Still (start s ds room) (steps e (start s ds room))
   unfolding steps
   plain k m z =
       let w = H.dispatch e (start s ds room) in
-      let h = dispatch e k (start s ds room) .so (timers-fine w (declined (H.first-timers w) .so z .fine)) in
+      let h = dispatch e readable few k (start s ds room) .so (timers-fine w (declined (H.first-timers w) .so z .fine)) in
       let g = subst (Still (start s ds room)) (sym (timers-kept w (ap (λ (p : Bool × (ℕ × Config)). p .0) (h .same-clock) ∙ m))) h in
       then (record { so = λ y. g }) (declined (H.first-timers w)) .so z
 
@@ -164,7 +162,7 @@ module _ (e : Rec) (s : Station) (ds : List ℕ) (room : ℕ) where
   first k m z =
       let w = H.dispatch e (start s ds room) in
       let q = declined (H.first-timers w) .so z in
-      let h = dispatch e k (start s ds room) .so (timers-fine w (q .fine)) in
+      let h = dispatch e readable few k (start s ds room) .so (timers-fine w (q .fine)) in
       let t = new-timers w (ap (λ (p : Bool × (ℕ × Config)). p .0) (h .same-clock) ∙ m) (q .fine) in
       starts-before (record { sets = sets-after h (t .sets); mark = t .mark }) q
 

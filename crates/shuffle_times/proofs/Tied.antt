@@ -15,6 +15,7 @@ use Rattle.base_timing.specs.declared.Config.{Config}
 use Rattle.base_peer.specs.Data.{Data}
 use Rattle.record.specs.Kinds.{is-event-kind}
 use Rattle.record.specs.Format.{Rec}
+use Rattle.record.specs.InForm.{InForm}
 use Rattle.record.specs.Read.{Reading, read-event, rec-of, rec-of-by, header-of-by}
 use Rattle.record.specs.Walk.{kind-in, headers}
 use Rattle.spec_hyparview.specs.Station.{Station, draws-end}
@@ -22,19 +23,20 @@ use Rattle.spec_hyparview.specs.Run.{Run}
 use Rattle.spec_hyparview.specs.Rules.{all-under, station-ok, short-data}
 use Rattle.spec_hyparview.specs.Handle.{Result, new-station, start, steps, refusal, accepted, finish, handle-reading, handle}
 use Rattle.base_lists.proofs.Members.{both}
-use Rattle.spec_hyparview.proofs.Reading.{Readable, by-reading}
+use Rattle.spec_hyparview.proofs.Reading.{Readable, by-form}
 use Rattle.spec_hyparview.proofs.Whole.{ok-steps}
 use Rattle.spec_hyparview.proofs.Tested.{rules-of}
 use Rattle.spec_history.specs.Ledger.{Ledger, number-of}
 use Rattle.spec_history.specs.Calls.{NewGiven, result-of, answered, definition}
 use Rattle.spec_history.proofs.Kept.{Kept, pays, fine-answer, kept-new}
 use Rattle.spec_hyparview.specs.Written.{encode-all}
+use Rattle.spec_chatter.proofs.History.{few-of}
 use Rattle.shuffle_times.specs.Times.{highest-draw, first-interval, next-interval, dues}
 use Rattle.shuffle_times.specs.Histories.{Brought, timer-delays, after, set-by, shuffles-due, counts, start-of, fires, is-first, on-time}
 use Rattle.shuffle_times.specs.Claims.{Tied}
 use Rattle.shuffle_times.proofs.Delays.{Interval, delay-few, delay-rises}
 use Rattle.shuffle_times.proofs.Asked.{top-of}
-use Rattle.shuffle_times.proofs.Told.{timers-of, shuffles, told, none-told}
+use Rattle.shuffle_times.proofs.Told.{timers-of, told, none-told}
 use Rattle.shuffle_times.proofs.Quiet.{clock, Still}
 use Rattle.shuffle_times.proofs.Sets.{Starts, plain, first, fired}
 
@@ -100,9 +102,9 @@ module _ {c : Config} {me : ℕ} {l : Ledger} {s : Station} (ranges : in-range c
   unfolding accepted after all-under
   quietly r small k = (ap (after t) (out-told 1 (k .adds .records) (r .out) (r .room - length (r .out)) [] (k .adds .is) (k .adds .timers) small refl), k .same-clock)
 
-  called-event : Readable (rec-of b) → Called t b s (finish s (steps (rec-of b) (start s ds room)))
+  called-event : Readable (rec-of b) → InForm (rec-of b) → Called t b s (finish s (steps (rec-of b) (start s ds room)))
   unfolding finish accepted kind-in rec-of-by header-of-by
-  called-event w =
+  called-event w in-form =
       let a = c .«active_view_capacity» in
       let e = rec-of b in
       let r = steps e (start s ds room) in
@@ -113,15 +115,15 @@ module _ {c : Config} {me : ℕ} {l : Ledger} {s : Station} (ranges : in-range c
       let on-or-off : (m : Bool) → s .scheduled ≡ m → eqb (getD b 0 0) 1 ≡ m → New t s (accepted r) = λ m f i. by-mark m f i fine small in
       record {
         refused = λ f. clash true refl f;
-        quiet = λ _ i m. quietly r small (plain e s ds room i m fine);
+        quiet = λ _ i m. quietly r small (plain e w (few-of e in-form) s ds room i m fine);
         sets = λ _ i. on-or-off (s .scheduled) refl i;
         known = λ _. w .known;
       })
       (λ z. called-refusal t b s (r .code) (r .room) (λ f. clash _ (ap (λ (n : ℕ). eqb n 0) f) z))
     where
       by-mark : (m : Bool) → s .scheduled ≡ m → eqb (getD b 0 0) 1 ≡ m → steps (rec-of b) (start s ds room) .code ≡ 0 → length (steps (rec-of b) (start s ds room) .out) ≤ 8192 → New t s (accepted (steps (rec-of b) (start s ds room)))
-      by-mark true f i fine small = newly _ small (fired (rec-of b) s ds room i f fine)
-      by-mark false f i fine small = newly _ small (first (rec-of b) s ds room i f fine)
+      by-mark true f i fine small = newly _ small (fired (rec-of b) w (few-of (rec-of b) in-form) s ds room i f fine)
+      by-mark false f i fine small = newly _ small (first (rec-of b) w (few-of (rec-of b) in-form) s ds room i f fine)
 
 called : {c : Config} {me : ℕ} {l : Ledger} {s : Station} → in-range c ≡ true → Kept c me l s → (v : Brought) → Called (v .at) (v .call .event) s (result-of (v .call) s)
 unfolding answered handle handle-reading
@@ -130,8 +132,8 @@ called {s = s} ranges h v =
     let ds = v .call .draws in
     let room = length (v .call .output) in
     rw (choose-yes (station-ok s) (handle-reading (read-event b) s ds room) (refusal 2 s room) (rules-of s ranges h))
-    (by-reading b (v .call .are-bytes) (λ (x : Reading). Called (v .at) b s (handle-reading x s ds room))
-    (λ n i j. called-refusal (v .at) b s n room (λ e. omega arith)) (λ w. called-event ranges h (v .at) b ds room (v .are-draws) w))
+    (by-form b (v .call .are-bytes) (λ (x : Reading). Called (v .at) b s (handle-reading x s ds room))
+    (λ n i j. called-refusal (v .at) b s n room (λ e. omega arith)) (λ w f. called-event ranges h (v .at) b ds room (v .are-draws) w f))
 
 -- due times as the definition has them, from the interval i at time t
 record Row (top i t : ℕ) (xs : List ℕ) : Type 0 where

@@ -30,11 +30,6 @@ timers-of k (e ∷ es) = choose (eqb (e .kind) k) (e .second ∷ timers-of k es)
 abbrev pub shuffles : List Rec → List ℕ
 shuffles es = timers-of 1 es
 
-pub encode-all-append : (a b : List Rec) → encode-all (a ++ b) ≡ encode-all a ++ encode-all b
-unfolding encode-all
-encode-all-append [] b = refl
-encode-all-append (e ∷ es) b = rw (encode-all-append es b) (sym (append-assoc (encode e) (encode-all es) (encode-all b)))
-
 pub shuffles-append : (a b : List Rec) → shuffles (a ++ b) ≡ shuffles a ++ shuffles b
 unfolding timers-of
 shuffles-append [] b = refl

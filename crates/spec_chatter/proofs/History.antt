@@ -71,7 +71,8 @@ refused : (b : List ℕ) (s : Station) (n room : ℕ) → (n ≡ 0 → ⊥) → 
 unfolding refusal items-of Answer
 refused b s n room ne = subst (λ (xs : List Item). Follows xs s s) (sym (choose-no (eqb n 0) _ _ (ne-eqb n 0 ne))) (no-more s)
 
-few-of : (e : Rec) → InForm e → e .kind ≡ 0 → e .message ≤ 5
+-- the reader takes no other messages
+pub few-of : (e : Rec) → InForm e → e .kind ≡ 0 → e .message ≤ 5
 unfolding Rd.header-ok Rd.kind-ok header-in-by
 few-of e f z =
     let h = header-in e in

@@ -16,6 +16,7 @@ use Rattle.base_lists.proofs.Maps.{keys-put}
 use Rattle.record.specs.Format.{Rec, encode}
 use Rattle.base_peer.specs.Data.{Data}
 use Rattle.base_timing.specs.Timing.{join-retry-delay}
+use Rattle.base_timing.specs.declared.Config.{Config}
 use Rattle.spec_hyparview.specs.Station.{Station, is-requested, peers-end}
 use Rattle.spec_hyparview.specs.Run as R
 use Rattle.spec_hyparview.specs.Run.{Run, guard, on, emit, draw, require, emit-all}
@@ -160,17 +161,47 @@ adds-one e r z = record { is = emit-out e r z ∙ ap (λ (w : List ℕ). r .out 
 abbrev pub desk : Station → List (ℕ × ℕ) × (ℕ × (Bool × ℕ))
 desk s = (s .requests, (s .next-request, (s .scheduled, s .next-join)))
 
--- the same with the joins awaiting retry
-abbrev pub full : Station → (List (ℕ × ℕ) × (ℕ × (Bool × ℕ))) × List (ℕ × ℕ)
-full s = (desk s, s .joins)
+-- the shuffle's next interval, and the settings that bound it
+abbrev pub pace : Station → ℕ × Config
+pace s = (s .next-interval, s .config)
+
+-- both, and the same with the joins awaiting retry
+abbrev pub held : Station → (List (ℕ × ℕ) × (ℕ × (Bool × ℕ))) × (ℕ × Config)
+held s = (desk s, pace s)
+
+abbrev pub full : Station → ((List (ℕ × ℕ) × (ℕ × (Bool × ℕ))) × (ℕ × Config)) × List (ℕ × ℕ)
+full s = (held s, s .joins)
+
+-- all but the pace
+abbrev full-but-interval : Station → (List (ℕ × ℕ) × (ℕ × (Bool × ℕ))) × List (ℕ × ℕ)
+full-but-interval s = (desk s, s .joins)
+
+-- no step changes the draws lent
+emit-lent : (e : Rec) (r : Run) → (emit e r) .draws ≡ r .draws
+unfolding emit guard
+emit-lent e r =
+    by-choice (λ (w : Run). w .draws ≡ r .draws) (eqb (r .code) 0)
+    (λ f. by-choice (λ (w : Run). w .draws ≡ r .draws) _ (λ i. refl) (λ i. refl)) (λ f. refl)
+
+draw-lent : (n : ℕ) (r : Run) → (draw n r) .draws ≡ r .draws
+unfolding draw guard
+draw-lent n r =
+    by-choice (λ (w : Run). w .draws ≡ r .draws) (eqb (r .code) 0)
+    (λ f. by-choice (λ (w : Run). w .draws ≡ r .draws) _ (λ i. refl) (λ i. refl)) (λ f. refl)
+
+pub on-lent : (f : Station → Station) (r : Run) → (on f r) .draws ≡ r .draws
+unfolding on guard
+on-lent f r = by-choice (λ (w : Run). w .draws ≡ r .draws) (eqb (r .code) 0) (λ e. refl) (λ e. refl)
 
 -- each join awaiting retry was there before
 abbrev pub Fewer : List (ℕ × ℕ) → List (ℕ × ℕ) → Type 0
 Fewer m l = (p n : ℕ) → lookup p m ≡ some n → lookup p l ≡ some n
 
--- from run r to run w, where w is not refused: plain records only, and the desk as it was
+-- from run r to run w, where w is not refused: plain records only, desk and pace as they were
 pub record Still (r w : Run) : Type 0 where
   pub fine : r .code ≡ 0
+  pub lent : w .draws ≡ r .draws
+  pub same-pace : pace (w .station) ≡ pace (r .station)
   pub records : List Rec
   pub adds : Adds records (r .out) (w .out)
   pub plains : Plains records
@@ -182,12 +213,14 @@ pub record Quiet (r w : Run) : Type 0 where
 
 pub same : (r : Run) → Quiet r r
 unfolding All
-same r = record { so = λ z. record { fine = z; records = []; adds = adds-none (r .out); plains = tt; same-desk = refl; fewer = λ p n e. e } }
+same r = record { so = λ z. record { fine = z; lent = refl; same-pace = refl; records = []; adds = adds-none (r .out); plains = tt; same-desk = refl; fewer = λ p n e. e } }
 
 pub then : {r w v : Run} → Quiet r w → Quiet w v → Quiet r v
 then g h = record {
   so = λ z. let b = h .so z in let a = g .so (b .fine) in record {
     fine = a .fine;
+    lent = b .lent ∙ a .lent;
+    same-pace = b .same-pace ∙ a .same-pace;
     records = a .records ++ b .records;
     adds = adds-more (a .adds) (b .adds);
     plains = all-append (λ e. plain e ≡ true) (a .records) (b .records) (a .plains) (b .plains);
@@ -206,13 +239,13 @@ as-before e p n h = subst (λ (x : Station). lookup p (x .joins) ≡ some n) e h
 pub emits : (e : Rec) → plain e ≡ true → (r : Run) → Quiet r (emit e r)
 unfolding All
 emits e k r = record {
-  so = λ z. record { fine = emit-fine e r z; records = e ∷ []; adds = adds-one e r z; plains = (k, tt); same-desk = ap desk (emit-station e r); fewer = as-before (emit-station e r) };
+  so = λ z. record { fine = emit-fine e r z; lent = emit-lent e r; same-pace = ap pace (emit-station e r); records = e ∷ []; adds = adds-one e r z; plains = (k, tt); same-desk = ap desk (emit-station e r); fewer = as-before (emit-station e r) };
 }
 
 pub draws : (n : ℕ) (r : Run) → Quiet r (draw n r)
 unfolding All
 draws n r = record {
-  so = λ z. record { fine = draw-fine n r z; records = []; adds = subst (Adds [] (r .out)) (sym (draw-out n r)) (adds-none (r .out)); plains = tt; same-desk = ap desk (draw-station n r); fewer = as-before (draw-station n r) };
+  so = λ z. record { fine = draw-fine n r z; lent = draw-lent n r; same-pace = ap pace (draw-station n r); records = []; adds = subst (Adds [] (r .out)) (sym (draw-out n r)) (adds-none (r .out)); plains = tt; same-desk = ap desk (draw-station n r); fewer = as-before (draw-station n r) };
 }
 
 pub chooses : (n : ℕ) (r : Run) → Quiet r (R.draw-one-of n r)
@@ -224,21 +257,25 @@ unfolding on guard
 on-station f r z = ap (λ (w : Run). w .station) (choose-yes (eqb (r .code) 0) _ _ (eq-eqb (r .code) 0 z))
 
 -- a change that may drop joins
-pub drops : (f : Station → Station) → ((s : Station) → desk (f s) ≡ desk s) → ((s : Station) → Fewer (f s .joins) (s .joins)) → (r : Run) → Quiet r (on f r)
+pub drops : (f : Station → Station) → ((s : Station) → held (f s) ≡ held s) → ((s : Station) → Fewer (f s .joins) (s .joins)) → (r : Run) → Quiet r (on f r)
 unfolding All
 drops f h j r = record {
   so = λ z. let y : r .code ≡ 0 = subst (λ (c : ℕ). c ≡ 0) (on-code f r) z in record {
     fine = y;
+    lent = on-lent f r;
+    same-pace = ap (λ (x : (List (ℕ × ℕ) × (ℕ × (Bool × ℕ))) × (ℕ × Config)). x .1) (on-same held f h r);
     records = [];
     adds = subst (Adds [] (r .out)) (sym (on-out f r)) (adds-none (r .out));
     plains = tt;
-    same-desk = on-same desk f h r;
+    same-desk = ap (λ (x : (List (ℕ × ℕ) × (ℕ × (Bool × ℕ))) × (ℕ × Config)). x .0) (on-same held f h r);
     fewer = λ p n e. j (r .station) p n (as-before (on-station f r y) p n e);
   };
 }
 
 pub changes : (f : Station → Station) → ((s : Station) → full (f s) ≡ full s) → (r : Run) → Quiet r (on f r)
-changes f h r = drops f (λ s. ap (λ (x : (List (ℕ × ℕ) × (ℕ × (Bool × ℕ))) × List (ℕ × ℕ)). x .0) (h s)) (λ s p n e. subst (λ (x : List (ℕ × ℕ)). lookup p x ≡ some n) (ap (λ (x : (List (ℕ × ℕ) × (ℕ × (Bool × ℕ))) × List (ℕ × ℕ)). x .1) (h s)) e) r
+changes f h r =
+    drops f (λ s. ap (λ (x : ((List (ℕ × ℕ) × (ℕ × (Bool × ℕ))) × (ℕ × Config)) × List (ℕ × ℕ)). x .0) (h s))
+    (λ s p n e. subst (λ (x : List (ℕ × ℕ)). lookup p x ≡ some n) (ap (λ (x : ((List (ℕ × ℕ) × (ℕ × (Bool × ℕ))) × (ℕ × Config)) × List (ℕ × ℕ)). x .1) (h s)) e) r
 
 pub requires : {c : ℕ} → Plain c → (test : Bool) (r : Run) → Quiet r (require c test r)
 requires {c} p test r = record {
@@ -302,6 +339,8 @@ none-new es m l f p n e = left (f p n e)
 -- from run r, whose book an event changed by f, to w: a shuffle timers and b maintenance timers are scheduled
 pub record Turn (f : Book → Book) (a b : ℕ) (r w : Run) : Type 0 where
   pub fine : r .code ≡ 0
+  pub lent : w .draws ≡ r .draws
+  pub same-pace : a ≡ 0 → pace (w .station) ≡ pace (r .station)
   pub records : List Rec
   pub adds : Adds records (r .out) (w .out)
   pub books : sent-all records (f (book-of (r .station))) ≡ book-of (w .station)
@@ -340,6 +379,8 @@ pub quietly : {r w : Run} → Quiet r w → Moves nothing 0 0 r w
 quietly {r} {w} q = record {
   so = λ z. let k = q .so z in record {
     fine = k .fine;
+    lent = k .lent;
+    same-pace = λ _. k .same-pace;
     records = k .records;
     adds = k .adds;
     books = pass-all (k .records) (book-of (r .station)) (k .plains) ∙ sym (ap book-in (k .same-desk));
@@ -360,6 +401,8 @@ after {f} {r = r} {w} {v} g h = record {
       let d = f (book-of (r .station)) in
       record {
         fine = x .fine;
+        lent = y .lent ∙ x .lent;
+        same-pace = λ e. y .same-pace (omega (arith, e)) ∙ x .same-pace (omega (arith, e));
         records = x .records ++ y .records;
         adds = adds-more (x .adds) (y .adds);
         books = sent-append (x .records) (y .records) d ∙ (ap (sent-all (y .records)) (x .books) ∙ y .books);
@@ -387,6 +430,8 @@ before {f} {a} {b} {r} {w} {v} q h = record {
       let p : sent-all (k .records) d ≡ f (book-of (w .station)) = pass-all (k .records) d (k .plains) ∙ sym e in
       record {
         fine = k .fine;
+        lent = y .lent ∙ k .lent;
+        same-pace = λ e. y .same-pace e ∙ k .same-pace;
         records = k .records ++ y .records;
         adds = adds-more (k .adds) (y .adds);
         books = sent-append (k .records) (y .records) d ∙ (ap (sent-all (y .records)) p ∙ y .books);
@@ -402,14 +447,16 @@ before {f} {a} {b} {r} {w} {v} q h = record {
 }
 
 -- the change by which the station follows the event
-pub opening : (f : Book → Book) (g : Station → Station) → ((s : Station) → book-of (g s) ≡ f (book-of s)) → ((s : Station) → _≡_ {A = ℕ × (Bool × (ℕ × List (ℕ × ℕ)))} (g s .next-request, (g s .scheduled, (g s .next-join, g s .joins))) (s .next-request, (s .scheduled, (s .next-join, s .joins)))) → (r : Run) → Moves f 0 0 r (on g r)
+pub opening : (f : Book → Book) (g : Station → Station) → ((s : Station) → book-of (g s) ≡ f (book-of s)) → ((s : Station) → _≡_ {A = ℕ × (Bool × (ℕ × List (ℕ × ℕ)))} (g s .next-request, (g s .scheduled, (g s .next-join, g s .joins))) (s .next-request, (s .scheduled, (s .next-join, s .joins)))) → ((s : Station) → pace (g s) ≡ pace s) → (r : Run) → Moves f 0 0 r (on g r)
 unfolding All sent-all may-all kinds
-opening f g h j r = record {
+opening f g h j t r = record {
   so = λ z. let y : r .code ≡ 0 = subst (λ (c : ℕ). c ≡ 0) (on-code g r) z in
       let k = on-station g r y in
       let i = on-same (λ s. (s .next-request, (s .scheduled, (s .next-join, s .joins)))) g j r in
       record {
         fine = y;
+        lent = on-lent g r;
+        same-pace = λ _. on-same pace g t r;
         records = [];
         adds = subst (Adds [] (r .out)) (sym (on-out g r)) (adds-none (r .out));
         books = sym (ap book-of k ∙ h (r .station));
@@ -429,6 +476,8 @@ pub taken : {f g : Book → Book} {a b c d : ℕ} {r w : Run} → ((x : Book) �
 taken {f} {g} {r = r} {w} e p q m = record {
   so = λ z. let k = m .so z in record {
     fine = k .fine;
+    lent = k .lent;
+    same-pace = λ y. k .same-pace (p ∙ y);
     records = k .records;
     adds = k .adds;
     books = ap (sent-all (k .records)) (sym (e (book-of (r .station)))) ∙ k .books;
@@ -457,6 +506,10 @@ noted-next : (p : ℕ) (s : Station) → S.note-request p s .next-request ≡ s 
 unfolding S.note-request
 noted-next p s = refl
 
+noted-pace : (p : ℕ) (s : Station) → pace (S.note-request p s) ≡ pace s
+unfolding S.note-request
+noted-pace p s = refl
+
 noted-mark : (p : ℕ) (s : Station) → S.note-request p s .scheduled ≡ s .scheduled
 unfolding S.note-request
 noted-mark p s = refl
@@ -479,6 +532,8 @@ told-request p high r e = record {
       let next : (emit t (emit n v)) .station .next-request ≡ r .station .next-request + 1 = ap (λ (s : Station). s .next-request) k ∙ noted-next p (r .station) in
       record {
         fine = x;
+        lent = emit-lent t (emit n v) ∙ (emit-lent n v ∙ on-lent (S.note-request p) r);
+        same-pace = λ _. ap pace k ∙ noted-pace p (r .station);
         records = n ∷ t ∷ [];
         adds = adds-more (subst (λ (l : List ℕ). Adds (n ∷ []) l ((emit n v) .out)) (on-out (S.note-request p) r) (adds-one n v y)) (adds-one t (emit n v) z);
         books = noted-book p _ (v .station .own-data) high (r .station) ∙ sym (ap book-of k);
@@ -530,6 +585,8 @@ unfolding All
 ticks e h j n n4 r = record {
   so = λ z. record {
     fine = emit-fine e r z;
+    lent = emit-lent e r;
+    same-pace = λ _. ap pace (emit-station e r);
     records = e ∷ [];
     adds = adds-one e r z;
     books = h (book-of (r .station)) ∙ sym (ap book-of (emit-station e r));
@@ -548,6 +605,29 @@ pub shuffle-tick : (t : ℕ) (r : Run) → Moves nothing 1 0 r (emit (R.timer 1 
 unfolding sent-all may-all may-send note-sent is-neighbor choose kinds is
 shuffle-tick t r = ticks (R.timer 1 0 t 0) (λ d. refl) (λ d. refl) (λ q. omega (arith, q)) (λ q. omega (arith, q)) r
 
+-- the interval may change in front of a shuffle timer
+pub paced : (f : Station → Station) → ((s : Station) → full-but-interval (f s) ≡ full-but-interval s) → {b : ℕ} {r w : Run} → Moves nothing 1 b (on f r) w → Moves nothing 1 b r w
+paced f h {b} {r} {w} m = record {
+  so = λ z. let k = m .so z in
+      let e = on-same full-but-interval f h r in
+      record {
+        fine = subst (λ (c : ℕ). c ≡ 0) (on-code f r) (k .fine);
+        lent = k .lent ∙ on-lent f r;
+        same-pace = λ y. absurd (omega (arith, y));
+        records = k .records;
+        adds = subst (λ (x : List ℕ). Adds (k .records) x (w .out)) (on-out f r) (k .adds);
+        books = ap (λ (x : (List (ℕ × ℕ) × (ℕ × (Bool × ℕ))) × List (ℕ × ℕ)). sent-all (k .records) (book-in (x .0))) (sym e) ∙ k .books;
+        clean = ap (λ (x : (List (ℕ × ℕ) × (ℕ × (Bool × ℕ))) × List (ℕ × ℕ)). may-all (k .records) (book-in (x .0))) (sym e) ∙ k .clean;
+        shuffles = k .shuffles;
+        passes = k .passes;
+        rises = let n : (on f r) .station .next-request ≡ r .station .next-request = ap (λ (x : (List (ℕ × ℕ) × (ℕ × (Bool × ℕ))) × List (ℕ × ℕ)). x .0 .1 .0) e in omega (arith, n, k .rises);
+        low = k .low;
+        joins-rise = let n : (on f r) .station .next-join ≡ r .station .next-join = ap (λ (x : (List (ℕ × ℕ) × (ℕ × (Bool × ℕ))) × List (ℕ × ℕ)). x .0 .1 .1 .1) e in omega (arith, n, k .joins-rise);
+        awaited = subst (Awaited (k .records) (w .station .joins)) (ap (λ (x : (List (ℕ × ℕ) × (ℕ × (Bool × ℕ))) × List (ℕ × ℕ)). x .1) e) (k .awaited);
+        mark = k .mark ∙ ap (λ (x : (List (ℕ × ℕ) × (ℕ × (Bool × ℕ))) × List (ℕ × ℕ)). x .0 .1 .1 .0) e;
+      };
+}
+
 pub maintenance-tick : (t : ℕ) (r : Run) → Moves nothing 0 1 r (emit (R.timer 2 0 t 0) r)
 unfolding sent-all may-all may-send note-sent is-neighbor choose kinds is
 maintenance-tick t r = ticks (R.timer 2 0 t 0) (λ d. refl) (λ d. refl) (λ q. omega (arith, q)) (λ q. omega (arith, q)) r
@@ -561,6 +641,10 @@ joined-next p s = refl
 joined-desk : (p : ℕ) (s : Station) → _≡_ {A = List (ℕ × ℕ) × (ℕ × Bool)} (E.note-join p s .requests, (E.note-join p s .next-request, E.note-join p s .scheduled)) (s .requests, (s .next-request, s .scheduled))
 unfolding E.note-join
 joined-desk p s = refl
+
+joined-pace : (p : ℕ) (s : Station) → pace (E.note-join p s) ≡ pace s
+unfolding E.note-join
+joined-pace p s = refl
 
 joined-joins : (p : ℕ) (s : Station) → E.note-join p s .joins ≡ put p (s .next-join) (s .joins)
 unfolding E.note-join
@@ -587,6 +671,8 @@ awaited-by p t narrow r = record {
       let same-next : (emit e v) .station .next-request ≡ r .station .next-request = ap (λ (y : List (ℕ × ℕ) × (ℕ × Bool)). y .1 .0) i in
       record {
         fine = x;
+        lent = emit-lent e v ∙ on-lent (E.note-join p) r;
+        same-pace = λ _. ap pace k ∙ joined-pace p (r .station);
         records = e ∷ [];
         adds = subst (λ (l : List ℕ). Adds (e ∷ []) l ((emit e v) .out)) (on-out (E.note-join p) r) (adds-one e v z);
         books = sym (ap (λ (y : List (ℕ × ℕ) × (ℕ × Bool)). record { told = keys (y .0); asked = y .0 }) i);

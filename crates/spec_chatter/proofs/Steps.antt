@@ -31,7 +31,7 @@ use Rattle.spec_hyparview.proofs.Keeping.{seven, eight, ten}
 use Rattle.spec_chatter.specs.Open.{is-answer, is-open, closes}
 use Rattle.spec_chatter.proofs.Book.{Book, empty-book, shut, note-event}
 use Rattle.spec_chatter.proofs.Lists.{look-cut}
-use Rattle.spec_chatter.proofs.Moves.{Quiet, same, then, either, emits, draws, chooses, Fewer, drops, changes, requires, emits-all, sent-all, may-all, book-of, nothing, Moves, quietly, after, before, or-else, opening, taken, send-neighbor, await-join, shuffle-tick, maintenance-tick}
+use Rattle.spec_chatter.proofs.Moves.{Quiet, same, then, either, emits, draws, chooses, Fewer, drops, changes, requires, emits-all, sent-all, may-all, book-of, nothing, Moves, quietly, after, before, or-else, opening, taken, send-neighbor, await-join, shuffle-tick, paced, maintenance-tick}
 
 -- ---- plain steps
 
@@ -156,7 +156,7 @@ pass-alone r =
     then (requires ten _ r) (then (changes _ (λ s. refl) _)
     (either _ (then (emits-all _ (λ p. refl) _ _) (either _ (same _) (then (chooses _ _) (join _ _)))) (same _)))
 
-shuffle-any : (r : Run) → Quiet r (T.shuffle-any r)
+pub shuffle-any : (r : Run) → Quiet r (T.shuffle-any r)
 unfolding T.shuffle-any T.shuffle-with T.shuffle-passive T.send-shuffle R.draw-shuffle
 shuffle-any r = either _ (same r) (then (chooses _ r) (then (draws _ _) (then (draws _ _) (emits _ refl _))))
 
@@ -194,7 +194,7 @@ add-active p d high reply r =
 
 drops-request : (p : ℕ) (r : Run) → Moves (shut p) 0 0 r (on (M.drop-request p) r)
 unfolding M.drop-request shut
-drops-request p r = opening _ _ (λ s i. record { told = keys-cut p (s .requests) i; asked = cut p (s .requests) }) (λ s. refl) r
+drops-request p r = opening _ _ (λ s i. record { told = keys-cut p (s .requests) i; asked = cut p (s .requests) }) (λ s. refl) (λ s. refl) r
 
 drop-pending : (p : ℕ) (r : Run) → Moves (shut p) 0 0 r (M.drop-pending p r)
 unfolding M.drop-pending
@@ -235,7 +235,7 @@ connection-closed p r =
 
 handle-quit : (r : Run) → Moves (λ d. empty-book) 0 0 r (E.handle-quit r)
 unfolding E.handle-quit E.clear-all empty-book keys
-handle-quit r = before (quit-all _ r) (opening (λ d. empty-book) E.clear-all (λ s. refl) (λ s. refl) _)
+handle-quit r = before (quit-all _ r) (opening (λ d. empty-book) E.clear-all (λ s. refl) (λ s. refl) (λ s. refl) _)
 
 -- the station takes a timer's number for the open one where the book does
 pub open-alike : (n : ℕ) (o : Option ℕ) → T.is-number n o ≡ is-open n o
@@ -266,7 +266,7 @@ maintain r =
 
 pub schedule-shuffle : (r : Run) → Moves nothing 1 0 r (T.schedule-shuffle r)
 unfolding T.schedule-shuffle T.double-interval
-schedule-shuffle r = before (then (changes _ (λ s. refl) r) (draws 1 _)) (shuffle-tick _ _)
+schedule-shuffle r = paced T.double-interval (λ s. refl) (before (draws 1 _) (shuffle-tick _ _))
 
 pub schedule-maintenance : (r : Run) → Moves nothing 0 1 r (T.schedule-maintenance r)
 unfolding T.schedule-maintenance
@@ -285,6 +285,8 @@ here : {f : Book → Book} (g : Book → Book) {a b : ℕ} {r w : Run} → g (bo
 here {f} g {r = r} e m = record {
   so = λ z. let k = m .so z in record {
     fine = k .fine;
+    lent = k .lent;
+    same-pace = k .same-pace;
     records = k .records;
     adds = k .adds;
     books = ap (sent-all (k .records)) (sym e) ∙ k .books;
