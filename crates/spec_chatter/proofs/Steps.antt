@@ -13,7 +13,7 @@ use Rattle.base_lists.specs.Maps.{keys, lookup, cut}
 use Rattle.base_lists.proofs.Choice.{by-choice, choose-yes, choose-no, clash}
 use Rattle.base_lists.proofs.Maps.{keys-cut}
 use Rattle.base_peer.specs.Data.{Data, Node}
-use Rattle.record.specs.Kinds.{EventKind, Message, DoShuffle, DoMaintenance, PendingNeighborRequest, RetryJoin, PeerDisconnected, RequestJoin, UpdatePeerData, Quit, kind-byte, is-found, is-event-kind}
+use Rattle.record.specs.Kinds.{EventKind, Message, DoShuffle, DoMaintenance, PendingNeighborRequest, RetryJoin, PeerDisconnected, RequestJoin, UpdatePeerData, Quit, Pin, kind-byte, is-found, is-event-kind}
 use Rattle.record.specs.Format.{Rec}
 use Rattle.record.proofs.ByKind.{by-kind}
 use Rattle.spec_hyparview.specs.Station.{Station, Refill, peers-end}
@@ -27,7 +27,7 @@ use Rattle.spec_hyparview.specs.Messages as M
 use Rattle.spec_hyparview.specs.Events as E
 use Rattle.spec_hyparview.specs.Timers as T
 use Rattle.spec_hyparview.specs.Handle as H
-use Rattle.spec_hyparview.proofs.Keeping.{seven, eight, ten}
+use Rattle.spec_hyparview.proofs.Keeping.{seven, eight, ten, seventeen, eighteen}
 use Rattle.spec_chatter.specs.Open.{is-answer, is-open, closes}
 use Rattle.spec_chatter.proofs.Book.{Book, empty-book, shut, note-event}
 use Rattle.spec_chatter.proofs.Lists.{look-cut}
@@ -159,6 +159,11 @@ pass-alone r =
 pub shuffle-any : (r : Run) → Quiet r (T.shuffle-any r)
 unfolding T.shuffle-any T.shuffle-with T.shuffle-passive T.send-shuffle R.draw-shuffle
 shuffle-any r = either _ (same r) (then (chooses _ r) (then (draws _ _) (then (draws _ _) (emits _ refl _))))
+
+-- a pin
+pin : (p : ℕ) (r : Run) → Quiet r (E.handle-pin p r)
+unfolding E.handle-pin E.require-neighbor E.pin-neighbor E.note-pin
+pin p r = then (requires seventeen _ r) (then (requires eighteen _ _) (changes _ (λ s. refl) _))
 
 -- ---- steps that may open requests
 
@@ -380,6 +385,7 @@ module _ (e : Rec) (narrow : e .peer < peers-end) (few : e .kind ≡ kind-byte M
   by-each RequestJoin z = handle-join _ narrow r
   by-each UpdatePeerData z = quietly (changes _ (λ s. refl) r)
   by-each Quit z = handle-quit r
+  by-each Pin z = quietly (pin _ r)
 
   -- of each kind of event; no event is of another
   pub dispatch : is-event-kind (e .kind) ≡ true → Event (e .kind) (H.dispatch e r)
