@@ -7,7 +7,7 @@ use mathlib.Core.Option.{none}
 use lib.ListN.{replicate}
 use Rattle.base_lists.specs.Lists.{choose, is}
 use Rattle.base_timing.specs.Timing.{default}
-use Rattle.record.specs.Kinds.{DoShuffle, DoMaintenance, kind-byte}
+use Rattle.record.specs.Kinds.{PendingNeighborRequest, DoShuffle, DoMaintenance, kind-byte}
 use Rattle.record.specs.Format.{encode}
 use Rattle.record.specs.Walk.{headers, records-in, records-from}
 use Rattle.spec_hyparview.specs.Station.{Station}
@@ -48,7 +48,7 @@ pub clocks : _≡_ {A = List ℕ} (accepted-events ticked ∷ times-scheduled (k
 unfolding followed join-2 tick traffic items-of headers records-in records-from accepted-events times-scheduled times-expired is choose
 clocks = refl
 
-pub both-wait : waiting 3 (traffic definition (join-2 ∷ join-2 ∷ []) start) [] ≡ (2, 1) ∷ (2, 0) ∷ []
+pub both-wait : waiting (kind-byte PendingNeighborRequest) (traffic definition (join-2 ∷ join-2 ∷ []) start) [] ≡ (2, 1) ∷ (2, 0) ∷ []
 unfolding followed join-2 traffic items-of headers records-in records-from waiting without-pair
 both-wait = refl
 

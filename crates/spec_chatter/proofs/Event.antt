@@ -10,7 +10,7 @@ use mathlib.Core.Option.{some}
 use Rattle.base_lists.specs.Maps.{lookup, cut}
 use Rattle.base_lists.specs.Tests.{All}
 use Rattle.base_lists.proofs.Choice.{by-choice, choose-yes, choose-no, split, clash}
-use Rattle.record.specs.Kinds.{is-event-kind}
+use Rattle.record.specs.Kinds.{Message, DoShuffle, DoMaintenance, RetryJoin, is-event-kind, kind-byte}
 use Rattle.record.specs.Format.{Rec}
 use Rattle.spec_hyparview.specs.Station.{Station, peers-end}
 use Rattle.spec_hyparview.specs.Run.{Run, on}
@@ -36,12 +36,12 @@ pub record Done (e : Rec) (s : Station) (w : Run) : Type 0 where
   pub out : w .out ≡ encode-all records
   pub books : sent-all records (note-event (e .kind) (e .message) (e .peer) (e .number) (book-of s)) ≡ book-of (w .station)
   pub clean : may-all records (note-event (e .kind) (e .message) (e .peer) (e .number) (book-of s)) ≡ true
-  pub shuffles : kinds 1 records ≡ is (e .kind) 1 + choose (s .scheduled) 0 1
-  pub passes : kinds 2 records ≡ is (e .kind) 2 + choose (s .scheduled) 0 1
+  pub shuffles : kinds (kind-byte DoShuffle) records ≡ is (e .kind) (kind-byte DoShuffle) + choose (s .scheduled) 0 1
+  pub passes : kinds (kind-byte DoMaintenance) records ≡ is (e .kind) (kind-byte DoMaintenance) + choose (s .scheduled) 0 1
   pub low : All (Low (w .station .next-request) (w .station .next-join)) records
   pub awaited : Awaited records (w .station .joins) (s .joins)
   -- a join whose timer expired does not await it
-  pub gone : e .kind ≡ 4 → lookup (e .peer) (w .station .joins) ≡ some (e .number) → ⊥
+  pub gone : e .kind ≡ kind-byte RetryJoin → lookup (e .peer) (w .station .joins) ≡ some (e .number) → ⊥
   pub mark : w .station .scheduled ≡ true
 
 declined : (w : Run) → Quiet w (on H.forget-declined w)
@@ -94,7 +94,7 @@ unfolding H.forget-declined
 rest-joins w = on-same (λ s. s .joins) H.forget-declined (λ s. refl) (H.first-timers w) ∙ timers-joins w
 
 -- a retry timer
-retry-dispatch : (e : Rec) → e .kind ≡ 4 → (r : Run) → H.dispatch e r ≡ T.retry-join (e .peer) (e .number) r
+retry-dispatch : (e : Rec) → e .kind ≡ kind-byte RetryJoin → (r : Run) → H.dispatch e r ≡ T.retry-join (e .peer) (e .number) r
 unfolding H.dispatch choose
 retry-dispatch e k r = rw k
 
@@ -109,15 +109,15 @@ retry-gone p id r z =
     (λ _ q. look-cut p p (r .station .joins) id (subst (λ (m : List (ℕ × ℕ)). lookup p m ≡ some id) (dropped p r z) q) .0 refl)
     (λ f q. clash (is-number id (lookup p (r .station .joins))) (open-alike id _ ∙ number-yes id (lookup p (r .station .joins)) q) f)
 
-module _ (e : Rec) (known : is-event-kind (e .kind) ≡ true) (narrow : e .peer < peers-end) (few : e .kind ≡ 0 → e .message ≤ 5) (s : Station) (ds : List ℕ) (room : ℕ) where
+module _ (e : Rec) (known : is-event-kind (e .kind) ≡ true) (narrow : e .peer < peers-end) (few : e .kind ≡ kind-byte Message → e .message ≤ 5) (s : Station) (ds : List ℕ) (room : ℕ) where
   abbrev f : Book → Book
   f = note-event (e .kind) (e .message) (e .peer) (e .number)
 
-  expired-gone : e .kind ≡ 4 → H.dispatch e (start s ds room) .code ≡ 0 → lookup (e .peer) (H.dispatch e (start s ds room) .station .joins) ≡ some (e .number) → ⊥
+  expired-gone : e .kind ≡ kind-byte RetryJoin → H.dispatch e (start s ds room) .code ≡ 0 → lookup (e .peer) (H.dispatch e (start s ds room) .station .joins) ≡ some (e .number) → ⊥
   expired-gone k z q = retry-gone (e .peer) (e .number) (start s ds room) refl (subst (λ (w : Run). lookup (e .peer) (w .station .joins) ≡ some (e .number)) (retry-dispatch e k (start s ds room)) q)
 
   -- timers were scheduled before
-  later : (w : Run) → s .scheduled ≡ true → Turn f (is (e .kind) 1) (is (e .kind) 2) (start s ds room) w → (e .kind ≡ 4 → lookup (e .peer) ((on H.forget-declined w) .station .joins) ≡ some (e .number) → ⊥) → (on H.forget-declined w) .code ≡ 0 → Done e s (on H.forget-declined w)
+  later : (w : Run) → s .scheduled ≡ true → Turn f (is (e .kind) (kind-byte DoShuffle)) (is (e .kind) (kind-byte DoMaintenance)) (start s ds room) w → (e .kind ≡ kind-byte RetryJoin → lookup (e .peer) ((on H.forget-declined w) .station .joins) ≡ some (e .number) → ⊥) → (on H.forget-declined w) .code ≡ 0 → Done e s (on H.forget-declined w)
   later w m t g z =
       let k = after (record { so = λ y. t }) (quietly (declined w)) .so z in
       record {
@@ -134,7 +134,7 @@ module _ (e : Rec) (known : is-event-kind (e .kind) ≡ true) (narrow : e .peer 
       }
 
   -- the first event
-  first : (w : Run) → s .scheduled ≡ false → Turn f (is (e .kind) 1) (is (e .kind) 2) (start s ds room) w → w .code ≡ 0 → (e .kind ≡ 4 → lookup (e .peer) ((on H.forget-declined (T.schedule-maintenance (T.schedule-shuffle (on H.note-scheduled w)))) .station .joins) ≡ some (e .number) → ⊥) → (on H.forget-declined (T.schedule-maintenance (T.schedule-shuffle (on H.note-scheduled w)))) .code ≡ 0 → Done e s (on H.forget-declined (T.schedule-maintenance (T.schedule-shuffle (on H.note-scheduled w))))
+  first : (w : Run) → s .scheduled ≡ false → Turn f (is (e .kind) (kind-byte DoShuffle)) (is (e .kind) (kind-byte DoMaintenance)) (start s ds room) w → w .code ≡ 0 → (e .kind ≡ kind-byte RetryJoin → lookup (e .peer) ((on H.forget-declined (T.schedule-maintenance (T.schedule-shuffle (on H.note-scheduled w)))) .station .joins) ≡ some (e .number) → ⊥) → (on H.forget-declined (T.schedule-maintenance (T.schedule-shuffle (on H.note-scheduled w)))) .code ≡ 0 → Done e s (on H.forget-declined (T.schedule-maintenance (T.schedule-shuffle (on H.note-scheduled w))))
   first w m t y g z =
       let n = on H.note-scheduled w in
       let u = after (after (schedule-shuffle n) (schedule-maintenance _)) (quietly (declined _)) .so z in
@@ -159,8 +159,8 @@ module _ (e : Rec) (known : is-event-kind (e .kind) ≡ true) (narrow : e .peer 
       let w = H.dispatch e (start s ds room) in
       let y = timers-fine w (declined (H.first-timers w) .so z .fine) in
       let t = dispatch e narrow few (start s ds room) known .so y in
-      let g : e .kind ≡ 4 → lookup (e .peer) ((on H.forget-declined (H.first-timers w)) .station .joins) ≡ some (e .number) → ⊥ =
+      let g : e .kind ≡ kind-byte RetryJoin → lookup (e .peer) ((on H.forget-declined (H.first-timers w)) .station .joins) ≡ some (e .number) → ⊥ =
       (λ k q. expired-gone k y (subst (λ (x : List (ℕ × ℕ)). lookup (e .peer) x ≡ some (e .number)) (rest-joins w) q)) in
       split (s .scheduled)
-      (λ m. subst (λ (v : Run). (e .kind ≡ 4 → lookup (e .peer) ((on H.forget-declined v) .station .joins) ≡ some (e .number) → ⊥) → (on H.forget-declined v) .code ≡ 0 → Done e s (on H.forget-declined v)) (sym (timers-kept w (t .mark ∙ m))) (later w m t) g z)
-      (λ m. subst (λ (v : Run). (e .kind ≡ 4 → lookup (e .peer) ((on H.forget-declined v) .station .joins) ≡ some (e .number) → ⊥) → (on H.forget-declined v) .code ≡ 0 → Done e s (on H.forget-declined v)) (sym (timers-new w (t .mark ∙ m))) (first w m t y) g z)
+      (λ m. subst (λ (v : Run). (e .kind ≡ kind-byte RetryJoin → lookup (e .peer) ((on H.forget-declined v) .station .joins) ≡ some (e .number) → ⊥) → (on H.forget-declined v) .code ≡ 0 → Done e s (on H.forget-declined v)) (sym (timers-kept w (t .mark ∙ m))) (later w m t) g z)
+      (λ m. subst (λ (v : Run). (e .kind ≡ kind-byte RetryJoin → lookup (e .peer) ((on H.forget-declined v) .station .joins) ≡ some (e .number) → ⊥) → (on H.forget-declined v) .code ≡ 0 → Done e s (on H.forget-declined v)) (sym (timers-new w (t .mark ∙ m))) (first w m t y) g z)

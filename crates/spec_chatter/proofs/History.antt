@@ -19,6 +19,7 @@ use Rattle.record.specs.Format.{Rec}
 use Rattle.record.specs.InForm.{InForm, header-in, header-in-by}
 use Rattle.record.specs.Read as Rd
 use Rattle.record.specs.Read.{Reading, read-event, rec-of, rec-of-by, header-of}
+use Rattle.record.specs.Kinds.{Message, DoShuffle, DoMaintenance, RetryJoin, kind-byte}
 use Rattle.spec_hyparview.specs.Station.{Station, peers-end}
 use Rattle.spec_hyparview.specs.Run.{Run}
 use Rattle.spec_hyparview.specs.Rules.{station-ok}
@@ -50,10 +51,10 @@ running s = choose (s .scheduled) 1 0
 pub record Follows (xs : List Item) (s t : Station) : Type 0 where
   pub books : book-after xs (book-of s) ≡ book-of t
   pub clean : keeps-book xs (book-of s) ≡ true
-  pub ones : times-scheduled 1 xs + running s ≡ times-expired 1 xs + running t
-  pub twos : times-scheduled 2 xs + running s ≡ times-expired 2 xs + running t
+  pub ones : times-scheduled (kind-byte DoShuffle) xs + running s ≡ times-expired (kind-byte DoShuffle) xs + running t
+  pub twos : times-scheduled (kind-byte DoMaintenance) xs + running s ≡ times-expired (kind-byte DoMaintenance) xs + running t
   pub starts : 1 ≤ accepted-events xs + running s → running t ≡ 1
-  pub awaits : (ws : List (ℕ × ℕ)) → Timed (s .joins) ws → Timed (t .joins) (waiting 4 xs ws)
+  pub awaits : (ws : List (ℕ × ℕ)) → Timed (s .joins) ws → Timed (t .joins) (waiting (kind-byte RetryJoin) xs ws)
 
 pub no-more : (s : Station) → Follows [] s s
 unfolding book-after keeps-book times-scheduled times-expired accepted-events waiting
@@ -72,12 +73,12 @@ unfolding refusal items-of Answer
 refused b s n room ne = subst (λ (xs : List Item). Follows xs s s) (sym (choose-no (eqb n 0) _ _ (ne-eqb n 0 ne))) (no-more s)
 
 -- the reader takes no other messages
-pub few-of : (e : Rec) → InForm e → e .kind ≡ 0 → e .message ≤ 5
+pub few-of : (e : Rec) → InForm e → e .kind ≡ kind-byte Message → e .message ≤ 5
 unfolding Rd.header-ok Rd.kind-ok header-in-by
 few-of e f z =
     let h = header-in e in
     let k = and-right (not (eqb (Rd.fixed-size (e .kind)) 0)) _ (and-left (Rd.kind-ok h) _ (f .header)) in
-    leb-true (e .message) 5 (sym (choose-yes (eqb (e .kind) 0) (leb (e .message) 5) (eqb (e .message) 0) (eq-eqb (e .kind) 0 z)) ∙ k)
+    leb-true (e .message) 5 (sym (choose-yes (eqb (e .kind) (kind-byte Message)) (leb (e .message) 5) (eqb (e .message) 0) (eq-eqb (e .kind) (kind-byte Message) z)) ∙ k)
 
 module _ {c : Config} {me : ℕ} {l : Ledger} {s : Station} (h : Kept c me l s) (b ds : List ℕ) (room : ℕ) (w : Readable (rec-of b)) (f : InForm (rec-of b)) where
   abbrev e : Rec
@@ -97,11 +98,11 @@ module _ {c : Config} {me : ℕ} {l : Ledger} {s : Station} (h : Kept c me l s) 
 
   -- a join that awaited retry before has its timer still
   held : (k : Done e s r) (ws : List (ℕ × ℕ)) → Timed (s .joins) ws → (p m : ℕ) → Either (lookup p (s .joins) ≡ some m) (Among p m (retries (k .records))) → lookup p (r .station .joins) ≡ some m
-      → Either (Among p m (choose (eqb (e .kind) 4) (without-pair (e .peer) (e .number) ws) ws)) (Among p m (retries (k .records)))
+      → Either (Among p m (choose (eqb (e .kind) (kind-byte RetryJoin)) (without-pair (e .peer) (e .number) ws) ws)) (Among p m (retries (k .records)))
   held k ws t p m (left a) q =
-      left (by-choice (Among p m) (eqb (e .kind) 4)
+      left (by-choice (Among p m) (eqb (e .kind) (kind-byte RetryJoin))
       (λ z. still-waits p m (e .peer) (e .number) ws
-      (λ x y. k .gone (eqb-true (e .kind) 4 z) (subst (λ (i : ℕ). lookup i (r .station .joins) ≡ some (e .number)) x (subst (λ (i : ℕ). lookup p (r .station .joins) ≡ some i) y q))) (t p m a))
+      (λ x y. k .gone (eqb-true (e .kind) (kind-byte RetryJoin) z) (subst (λ (i : ℕ). lookup i (r .station .joins) ≡ some (e .number)) x (subst (λ (i : ℕ). lookup p (r .station .joins) ≡ some i) y q))) (t p m a))
       (λ z. t p m a))
   held k ws t p m (right a) q = right a
 
@@ -124,7 +125,7 @@ module _ {c : Config} {me : ℕ} {l : Ledger} {s : Station} (h : Kept c me l s) 
         twos = omega (arith, n .set 2, n .gone 2, k .passes, on, was);
         starts = λ _. on;
         awaits = λ ws t p m q.
-            subst (λ (xs : List Item). Among p m (waiting 4 xs (choose (eqb (e .kind) 4) (without-pair (e .peer) (e .number) ws) ws))) q₀
+            subst (λ (xs : List Item). Among p m (waiting (kind-byte RetryJoin) xs (choose (eqb (e .kind) (kind-byte RetryJoin)) (without-pair (e .peer) (e .number) ws) ws))) q₀
             (retries-read (r .station .next-request) (r .station .next-join) (omega (arith, top)) (k .records) zeros short (k .low) p m _ (held k ws t p m (k .awaited p m q) q));
       }
     where

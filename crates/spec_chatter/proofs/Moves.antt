@@ -17,6 +17,7 @@ use Rattle.record.specs.Format.{Rec, encode}
 use Rattle.base_peer.specs.Data.{Data}
 use Rattle.base_timing.specs.Timing.{join-retry-delay}
 use Rattle.base_timing.specs.declared.Config.{Config}
+use Rattle.record.specs.Kinds.{Message, DoShuffle, DoMaintenance, PendingNeighborRequest, RetryJoin, kind-byte}
 use Rattle.spec_hyparview.specs.Station.{Station, is-requested, peers-end}
 use Rattle.spec_hyparview.specs.Run as R
 use Rattle.spec_hyparview.specs.Run.{Run, guard, on, emit, draw, require, emit-all}
@@ -71,7 +72,7 @@ kinds-append k (e ∷ es) b = omega (arith, kinds-append k es b)
 
 -- a message but a Neighbor, or a notice or peer data
 abbrev pub plain : Rec → Bool
-plain e = cond (eqb (e .kind) 0) (not (eqb (e .message) 4)) (leb 5 (e .kind))
+plain e = cond (eqb (e .kind) (kind-byte Message)) (not (eqb (e .message) 4)) (leb 5 (e .kind))
 
 abbrev pub Plains : List Rec → Type 0
 Plains es = All (λ e. plain e ≡ true) es
@@ -79,10 +80,10 @@ Plains es = All (λ e. plain e ≡ true) es
 -- what a plain record is
 record Passed (e : Rec) : Type 0 where
   not-neighbor : is-neighbor (e .kind) (e .message) ≡ false
-  not-one : e .kind ≡ 1 → ⊥
-  not-two : e .kind ≡ 2 → ⊥
-  not-three : e .kind ≡ 3 → ⊥
-  not-four : e .kind ≡ 4 → ⊥
+  not-one : e .kind ≡ kind-byte DoShuffle → ⊥
+  not-two : e .kind ≡ kind-byte DoMaintenance → ⊥
+  not-three : e .kind ≡ kind-byte PendingNeighborRequest → ⊥
+  not-four : e .kind ≡ kind-byte RetryJoin → ⊥
 
 not-no : (b : Bool) → not b ≡ true → b ≡ false
 not-no true e = sym e
@@ -99,9 +100,9 @@ kind-else false b c e f = e
 passed : (e : Rec) → plain e ≡ true → Passed e
 unfolding is-neighbor
 passed e h =
-    let four : (e .kind ≡ 0 → ⊥) → 5 ≤ e .kind = (λ n. leb-true 5 (e .kind) (kind-else (eqb (e .kind) 0) (eqb (e .message) 4) (leb 5 (e .kind)) h (ne-eqb (e .kind) 0 n))) in
+    let four : (e .kind ≡ kind-byte Message → ⊥) → 5 ≤ e .kind = (λ n. leb-true 5 (e .kind) (kind-else (eqb (e .kind) (kind-byte Message)) (eqb (e .message) 4) (leb 5 (e .kind)) h (ne-eqb (e .kind) (kind-byte Message) n))) in
     record {
-      not-neighbor = by-kind (eqb (e .kind) 0) (eqb (e .message) 4) (leb 5 (e .kind)) h;
+      not-neighbor = by-kind (eqb (e .kind) (kind-byte Message)) (eqb (e .message) 4) (leb 5 (e .kind)) h;
       not-one = λ z. let w = four (λ y. omega (arith, y, z)) in omega (arith, w, z);
       not-two = λ z. let w = four (λ y. omega (arith, y, z)) in omega (arith, w, z);
       not-three = λ z. let w = four (λ y. omega (arith, y, z)) in omega (arith, w, z);
@@ -110,7 +111,7 @@ passed e h =
 
 pass-one : (e : Rec) (d : Book) → Passed e → note-sent (e .kind) (e .message) (e .peer) (e .number) d ≡ d
 unfolding note-sent
-pass-one e d h = rw (h .not-neighbor, ne-eqb (e .kind) 3 (h .not-three)) (same-book d)
+pass-one e d h = rw (h .not-neighbor, ne-eqb (e .kind) (kind-byte PendingNeighborRequest) (h .not-three)) (same-book d)
   where
     same-book : (d : Book) → _≡_ {A = Book} (record { told = choose false (insert (e .peer) (d .told)) (d .told); asked = choose false (put (e .peer) (e .number) (d .asked)) (d .asked) }) d
     same-book d = λ i. record { told = choose-no false (insert (e .peer) (d .told)) (d .told) refl i; asked = choose-no false (put (e .peer) (e .number) (d .asked)) (d .asked) refl i }
@@ -130,12 +131,12 @@ is-other : (x k : ℕ) → (x ≡ k → ⊥) → is x k ≡ 0
 unfolding is
 is-other x k n = rw (ne-eqb x k n)
 
-pass-ones : (es : List Rec) → Plains es → kinds 1 es ≡ 0
+pass-ones : (es : List Rec) → Plains es → kinds (kind-byte DoShuffle) es ≡ 0
 unfolding kinds All
 pass-ones [] h = refl
 pass-ones (e ∷ es) h = omega (arith, is-other (e .kind) 1 (passed e (h .0) .not-one), pass-ones es (h .1))
 
-pass-twos : (es : List Rec) → Plains es → kinds 2 es ≡ 0
+pass-twos : (es : List Rec) → Plains es → kinds (kind-byte DoMaintenance) es ≡ 0
 unfolding kinds All
 pass-twos [] h = refl
 pass-twos (e ∷ es) h = omega (arith, is-other (e .kind) 2 (passed e (h .0) .not-two), pass-twos es (h .1))
@@ -294,17 +295,17 @@ abbrev pub book-of : Station → Book
 book-of s = record { told = keys (s .requests); asked = s .requests }
 
 abbrev pub Low : ℕ → ℕ → Rec → Type 0
-Low n k e = (e .kind ≡ 3 → e .number < n) × (e .kind ≡ 4 → (e .peer < peers-end) × (e .number < k))
+Low n k e = (e .kind ≡ kind-byte PendingNeighborRequest → e .number < n) × (e .kind ≡ kind-byte RetryJoin → (e .peer < peers-end) × (e .number < k))
 
 -- the joins' timers among records
 unfoldable pub retries : List Rec → List (ℕ × ℕ)
 retries [] = []
-retries (e ∷ es) = choose (eqb (e .kind) 4) ((e .peer, e .number) ∷ retries es) (retries es)
+retries (e ∷ es) = choose (eqb (e .kind) (kind-byte RetryJoin)) ((e .peer, e .number) ∷ retries es) (retries es)
 
 retries-append : (a b : List Rec) → retries (a ++ b) ≡ retries a ++ retries b
 unfolding retries
 retries-append [] b = refl
-retries-append (e ∷ es) b = rw (retries-append es b) (by-kind-four (eqb (e .kind) 4))
+retries-append (e ∷ es) b = rw (retries-append es b) (by-kind-four (eqb (e .kind) (kind-byte RetryJoin)))
   where
     by-kind-four : (t : Bool) → choose t ((e .peer, e .number) ∷ (retries es ++ retries b)) (retries es ++ retries b) ≡ choose t ((e .peer, e .number) ∷ retries es) (retries es) ++ retries b
     by-kind-four true = choose-yes true _ _ refl ∙ ap (λ (l : List (ℕ × ℕ)). l ++ retries b) (sym (choose-yes true _ _ refl))
@@ -345,8 +346,8 @@ pub record Turn (f : Book → Book) (a b : ℕ) (r w : Run) : Type 0 where
   pub adds : Adds records (r .out) (w .out)
   pub books : sent-all records (f (book-of (r .station))) ≡ book-of (w .station)
   pub clean : may-all records (f (book-of (r .station))) ≡ true
-  pub shuffles : kinds 1 records ≡ a
-  pub passes : kinds 2 records ≡ b
+  pub shuffles : kinds (kind-byte DoShuffle) records ≡ a
+  pub passes : kinds (kind-byte DoMaintenance) records ≡ b
   pub rises : r .station .next-request ≤ w .station .next-request
   pub low : All (Low (w .station .next-request) (w .station .next-join)) records
   pub joins-rise : r .station .next-join ≤ w .station .next-join
@@ -494,11 +495,11 @@ taken {f} {g} {r = r} {w} e p q m = record {
 
 -- ---- a request: send_neighbor where none is open
 
-noted-book : (p t : ℕ) (x : Data) (high : Bool) (s : Station) → sent-all (S.neighbor-to x high p ∷ R.timer 3 p t (s .next-request) ∷ []) (book-of s) ≡ book-of (S.note-request p s)
+noted-book : (p t : ℕ) (x : Data) (high : Bool) (s : Station) → sent-all (S.neighbor-to x high p ∷ R.timer (kind-byte PendingNeighborRequest) p t (s .next-request) ∷ []) (book-of s) ≡ book-of (S.note-request p s)
 unfolding sent-all note-sent is-neighbor choose S.neighbor-to S.note-request
 noted-book p t x high s = ap (λ (l : List ℕ). record { told = l; asked = put p (s .next-request) (s .requests) }) (sym (keys-put p (s .next-request) (s .requests)))
 
-noted-may : (p t : ℕ) (x : Data) (high : Bool) (s : Station) → mem p (keys (s .requests)) ≡ false → may-all (S.neighbor-to x high p ∷ R.timer 3 p t (s .next-request) ∷ []) (book-of s) ≡ true
+noted-may : (p t : ℕ) (x : Data) (high : Bool) (s : Station) → mem p (keys (s .requests)) ≡ false → may-all (S.neighbor-to x high p ∷ R.timer (kind-byte PendingNeighborRequest) p t (s .next-request) ∷ []) (book-of s) ≡ true
 unfolding may-all may-send note-sent is-neighbor choose S.neighbor-to
 noted-may p t x high s e = rw e
 
@@ -525,7 +526,7 @@ told-request p high r e = record {
   so = λ z.
       let v = on (S.note-request p) r in
       let n = S.neighbor-to (v .station .own-data) high p in
-      let t = R.timer 3 p (v .station .config .«neighbor_request_timeout») (r .station .next-request) in
+      let t = R.timer (kind-byte PendingNeighborRequest) p (v .station .config .«neighbor_request_timeout») (r .station .next-request) in
       let y = emit-fine t (emit n v) z in
       let x : r .code ≡ 0 = subst (λ (c : ℕ). c ≡ 0) (on-code (S.note-request p) r) (emit-fine n v y) in
       let k : (emit t (emit n v)) .station ≡ S.note-request p (r .station) = emit-station t (emit n v) ∙ (emit-station n v ∙ on-station (S.note-request p) r x) in
@@ -580,7 +581,7 @@ send-neighbor p high r =
     by-choice (Moves nothing 0 0 r) (is-requested p (r .station)) (λ e. quietly (same r)) (λ e. asked-for p high r (none-open p (r .station) e))
 
 -- a shuffle timer or a maintenance timer, which the book passes over
-pub ticks : (e : Rec) → ((d : Book) → sent-all (e ∷ []) d ≡ d) → ((d : Book) → may-all (e ∷ []) d ≡ true) → (e .kind ≡ 3 → ⊥) → (e .kind ≡ 4 → ⊥) → (r : Run) → Moves nothing (kinds 1 (e ∷ [])) (kinds 2 (e ∷ [])) r (emit e r)
+pub ticks : (e : Rec) → ((d : Book) → sent-all (e ∷ []) d ≡ d) → ((d : Book) → may-all (e ∷ []) d ≡ true) → (e .kind ≡ kind-byte PendingNeighborRequest → ⊥) → (e .kind ≡ kind-byte RetryJoin → ⊥) → (r : Run) → Moves nothing (kinds (kind-byte DoShuffle) (e ∷ [])) (kinds (kind-byte DoMaintenance) (e ∷ [])) r (emit e r)
 unfolding All
 ticks e h j n n4 r = record {
   so = λ z. record {
@@ -601,9 +602,9 @@ ticks e h j n n4 r = record {
   };
 }
 
-pub shuffle-tick : (t : ℕ) (r : Run) → Moves nothing 1 0 r (emit (R.timer 1 0 t 0) r)
+pub shuffle-tick : (t : ℕ) (r : Run) → Moves nothing 1 0 r (emit (R.timer (kind-byte DoShuffle) 0 t 0) r)
 unfolding sent-all may-all may-send note-sent is-neighbor choose kinds is
-shuffle-tick t r = ticks (R.timer 1 0 t 0) (λ d. refl) (λ d. refl) (λ q. omega (arith, q)) (λ q. omega (arith, q)) r
+shuffle-tick t r = ticks (R.timer (kind-byte DoShuffle) 0 t 0) (λ d. refl) (λ d. refl) (λ q. omega (arith, q)) (λ q. omega (arith, q)) r
 
 -- the interval may change in front of a shuffle timer
 pub paced : (f : Station → Station) → ((s : Station) → full-but-interval (f s) ≡ full-but-interval s) → {b : ℕ} {r w : Run} → Moves nothing 1 b (on f r) w → Moves nothing 1 b r w
@@ -628,9 +629,9 @@ paced f h {b} {r} {w} m = record {
       };
 }
 
-pub maintenance-tick : (t : ℕ) (r : Run) → Moves nothing 0 1 r (emit (R.timer 2 0 t 0) r)
+pub maintenance-tick : (t : ℕ) (r : Run) → Moves nothing 0 1 r (emit (R.timer (kind-byte DoMaintenance) 0 t 0) r)
 unfolding sent-all may-all may-send note-sent is-neighbor choose kinds is
-maintenance-tick t r = ticks (R.timer 2 0 t 0) (λ d. refl) (λ d. refl) (λ q. omega (arith, q)) (λ q. omega (arith, q)) r
+maintenance-tick t r = ticks (R.timer (kind-byte DoMaintenance) 0 t 0) (λ d. refl) (λ d. refl) (λ q. omega (arith, q)) (λ q. omega (arith, q)) r
 
 -- ---- a join that awaits retry: its timer
 
@@ -650,7 +651,7 @@ joined-joins : (p : ℕ) (s : Station) → E.note-join p s .joins ≡ put p (s .
 unfolding E.note-join
 joined-joins p s = refl
 
-put-awaited : (p t : ℕ) (s : Station) → Awaited (R.timer 4 p t (s .next-join) ∷ []) (E.note-join p s .joins) (s .joins)
+put-awaited : (p t : ℕ) (s : Station) → Awaited (R.timer (kind-byte RetryJoin) p t (s .next-join) ∷ []) (E.note-join p s .joins) (s .joins)
 unfolding retries choose
 put-awaited p t s x n e = go (look-put x p (s .next-join) (s .joins) n (subst (λ (m : List (ℕ × ℕ)). lookup x m ≡ some n) (joined-joins p s) e))
   where
@@ -658,12 +659,12 @@ put-awaited p t s x n e = go (look-put x p (s .next-join) (s .joins) n (subst (�
     go (left q) = right (subst (λ (y : ℕ). Among y n ((p, s .next-join) ∷ [])) (sym (q .0)) (subst (λ (y : ℕ). Among p y ((p, s .next-join) ∷ [])) (sym (q .1)) here))
     go (right q) = left q
 
-awaited-by : (p t : ℕ) → p < peers-end → (r : Run) → Moves nothing 0 0 r (emit (R.timer 4 p t (r .station .next-join)) (on (E.note-join p) r))
+awaited-by : (p t : ℕ) → p < peers-end → (r : Run) → Moves nothing 0 0 r (emit (R.timer (kind-byte RetryJoin) p t (r .station .next-join)) (on (E.note-join p) r))
 unfolding All kinds is sent-all may-all may-send note-sent is-neighbor choose
 awaited-by p t narrow r = record {
   so = λ z.
       let v = on (E.note-join p) r in
-      let e = R.timer 4 p t (r .station .next-join) in
+      let e = R.timer (kind-byte RetryJoin) p t (r .station .next-join) in
       let x : r .code ≡ 0 = subst (λ (c : ℕ). c ≡ 0) (on-code (E.note-join p) r) (emit-fine e v z) in
       let k : (emit e v) .station ≡ E.note-join p (r .station) = emit-station e v ∙ on-station (E.note-join p) r x in
       let i : _≡_ {A = List (ℕ × ℕ) × (ℕ × Bool)} ((emit e v) .station .requests, ((emit e v) .station .next-request, (emit e v) .station .scheduled)) (r .station .requests, (r .station .next-request, r .station .scheduled)) = ap {B = List (ℕ × ℕ) × (ℕ × Bool)} (λ (s : Station). (s .requests, (s .next-request, s .scheduled))) k ∙ joined-desk p (r .station) in
@@ -698,6 +699,6 @@ unfolding E.await-join
 await-join p narrow r = record {
   so = λ z.
       let o = join-opened p r (emit-fine _ _ z) in
-      let t = R.timer 4 p join-retry-delay (r .station .next-join) in
+      let t = R.timer (kind-byte RetryJoin) p join-retry-delay (r .station .next-join) in
       subst (λ (v : Run). Turn nothing 0 0 r (emit t v)) (sym o) (awaited-by p join-retry-delay narrow r .so (subst (λ (v : Run). emit t v .code ≡ 0) o z));
 }

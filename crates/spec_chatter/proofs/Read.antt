@@ -20,6 +20,7 @@ use Rattle.record.specs.Read.{header-of, header-of-by}
 use Rattle.record.specs.Walk.{headers}
 use Rattle.record.proofs.Format.{length-encode}
 use Rattle.record.proofs.Walk.{records-written, records-zeros}
+use Rattle.record.specs.Kinds.{PendingNeighborRequest, RetryJoin, kind-byte}
 use Rattle.spec_hyparview.specs.Station.{peers-end}
 use Rattle.spec_hyparview.specs.Written.{encode-all}
 use Rattle.spec_chatter.specs.Traffic.{Item, went}
@@ -60,8 +61,8 @@ module _ (P : ℕ → Type 0) where
 -- a record whose bytes the book reads as they were meant
 pub record Read (e : Rec) : Type 0 where
   pub neighbor : is-neighbor (e .kind) (e .message) ≡ true → e .peer < peers-end
-  pub timer : e .kind ≡ 3 → e .peer < peers-end
-  pub number : e .kind ≡ 3 → e .number < numbers-end
+  pub timer : e .kind ≡ kind-byte PendingNeighborRequest → e .peer < peers-end
+  pub number : e .kind ≡ kind-byte PendingNeighborRequest → e .number < numbers-end
 
 abbrev Peer : ℕ → Type 0
 Peer p = p < peers-end
@@ -88,9 +89,9 @@ narrows n i h [] d l a b = record { reads = tt; told = a; asked = b }
 narrows n i h (e ∷ es) d l a b =
     let k = narrows n i h es _ (l .1) a b in
     let t = told-back (is-neighbor (e .kind) (e .message)) (e .peer) (d .told) (k .told) in
-    let s = asked-back (eqb (e .kind) 3) (e .peer) (e .number) (d .asked) (k .asked) in
+    let s = asked-back (eqb (e .kind) (kind-byte PendingNeighborRequest)) (e .peer) (e .number) (d .asked) (k .asked) in
     record {
-      reads = (record { neighbor = t .0; timer = λ z. s .0 (eq-eqb (e .kind) 3 z); number = λ z. let q = l .0 .0 z in omega (arith, q, h) }, k .reads);
+      reads = (record { neighbor = t .0; timer = λ z. s .0 (eq-eqb (e .kind) (kind-byte PendingNeighborRequest) z); number = λ z. let q = l .0 .0 z in omega (arith, q, h) }, k .reads);
       told = t .1;
       asked = s .1;
     }
@@ -139,8 +140,8 @@ module _ (e : Rec) (rest : List ℕ) (h : Read e) (d : Book) where
       rw (kind-is e rest, message-is e rest)
       (λ i. record {
         told = told-same (is-neighbor (e .kind) (e .message)) (head .peer) (e .peer) (d .told) (λ t. peer-is e rest (h .neighbor t)) i;
-        asked = asked-same (eqb (e .kind) 3) (head .peer) (e .peer) (head .number) (e .number) (d .asked)
-            (λ t. peer-is e rest (h .timer (eqb-true (e .kind) 3 t))) (λ t. number-is e rest (h .number (eqb-true (e .kind) 3 t))) i;
+        asked = asked-same (eqb (e .kind) (kind-byte PendingNeighborRequest)) (head .peer) (e .peer) (head .number) (e .number) (d .asked)
+            (λ t. peer-is e rest (h .timer (eqb-true (e .kind) (kind-byte PendingNeighborRequest) t))) (λ t. number-is e rest (h .number (eqb-true (e .kind) (kind-byte PendingNeighborRequest) t))) i;
       })
 
   allowed : may (went head) d ≡ may-send (e .kind) (e .message) (e .peer) d
@@ -221,9 +222,9 @@ some-long : (x m : ℕ) (ws : List (ℕ × ℕ)) → Among x m ws → 1 ≤ leng
 some-long x m (w ∷ ws) a = omega arith
 
 pub retries-read : (n i : ℕ) → i ≤ numbers-end → (es : List Rec) (zeros : ℕ) → length (encode-all es) < 65536 → All (Low n i) es
-    → (x m : ℕ) (ws : List (ℕ × ℕ)) → Either (Among x m ws) (Among x m (retries es)) → Among x m (waiting 4 (items (encode-all es ++ replicate zeros 0)) ws)
+    → (x m : ℕ) (ws : List (ℕ × ℕ)) → Either (Among x m ws) (Among x m (retries es)) → Among x m (waiting (kind-byte RetryJoin) (items (encode-all es ++ replicate zeros 0)) ws)
 unfolding encode-all retries waiting All
-retries-read n i top [] zeros l h x m ws a = subst (λ (xs : List Item). Among x m (waiting 4 xs ws)) (sym (no-items zeros)) (only a)
+retries-read n i top [] zeros l h x m ws a = subst (λ (xs : List Item). Among x m (waiting (kind-byte RetryJoin) xs ws)) (sym (no-items zeros)) (only a)
   where
     only : Either (Among x m ws) (Among x m []) → Among x m ws
     only (left a) = a
@@ -233,10 +234,10 @@ retries-read n i top (e ∷ es) zeros l h x m ws a =
     let s : size e < 65536 = omega (arith, length-append (encode e) (encode-all es), length-encode e) in
     let head = header-of (encode e ++ rest) in
     let q : items (encode-all (e ∷ es) ++ replicate zeros 0) ≡ went head ∷ items rest = ap items (append-assoc (encode e) (encode-all es) (replicate zeros 0)) ∙ one-item e rest s in
-    let k : choose (eqb (head .kind) 4) ((head .peer, head .number) ∷ ws) ws ≡ choose (eqb (e .kind) 4) ((e .peer, e .number) ∷ ws) ws =
+    let k : choose (eqb (head .kind) 4) ((head .peer, head .number) ∷ ws) ws ≡ choose (eqb (e .kind) (kind-byte RetryJoin)) ((e .peer, e .number) ∷ ws) ws =
     ap (λ (y : ℕ). choose (eqb y 4) ((head .peer, head .number) ∷ ws) ws) (kind-is e rest)
-    ∙ pair-same (eqb (e .kind) 4) (head .peer) (e .peer) (head .number) (e .number) ws
-    (λ t. peer-is e rest (h .0 .1 (eqb-true (e .kind) 4 t) .0)) (λ t. let b = h .0 .1 (eqb-true (e .kind) 4 t) .1 in number-is e rest (omega (arith, b, top))) in
-    subst (λ (xs : List Item). Among x m (waiting 4 xs ws)) (sym q)
-    (subst (λ (ys : List (ℕ × ℕ)). Among x m (waiting 4 (items rest) ys)) (sym k)
-    (retries-read n i top es zeros (omega (arith, length-append (encode e) (encode-all es))) (h .1) x m _ (meets x m (eqb (e .kind) 4) (e .peer, e .number) ws (retries es) a)))
+    ∙ pair-same (eqb (e .kind) (kind-byte RetryJoin)) (head .peer) (e .peer) (head .number) (e .number) ws
+    (λ t. peer-is e rest (h .0 .1 (eqb-true (e .kind) (kind-byte RetryJoin) t) .0)) (λ t. let b = h .0 .1 (eqb-true (e .kind) (kind-byte RetryJoin) t) .1 in number-is e rest (omega (arith, b, top))) in
+    subst (λ (xs : List Item). Among x m (waiting (kind-byte RetryJoin) xs ws)) (sym q)
+    (subst (λ (ys : List (ℕ × ℕ)). Among x m (waiting (kind-byte RetryJoin) (items rest) ys)) (sym k)
+    (retries-read n i top es zeros (omega (arith, length-append (encode e) (encode-all es))) (h .1) x m _ (meets x m (eqb (e .kind) (kind-byte RetryJoin)) (e .peer, e .number) ws (retries es) a)))

@@ -11,6 +11,7 @@ use Rattle.base_lists.specs.Lists.{choose}
 use Rattle.base_lists.specs.Maps.{lookup, put}
 use Rattle.base_lists.proofs.Choice.{by-choice, and-left, and-right, clash}
 use Rattle.record.specs.declared.Header.{Header}
+use Rattle.record.specs.Kinds.{Message, PendingNeighborRequest, PeerDisconnected, Quit, kind-byte}
 use Rattle.spec_chatter.specs.Traffic.{Item, came, went}
 use Rattle.spec_chatter.specs.Open.{is-answer, is-open, closes}
 use Rattle.spec_chatter.proofs.Book.{Book, empty-book, note-sent, shut, note-event, note-item, book-after}
@@ -38,24 +39,24 @@ or-no-right true b e = clash true refl e
 or-no-right false b e = e
 
 -- an event of kind 3 that is not open takes out no open timer
-unmatched : (h : Header) (d : Book) → closes (h .kind) (h .message) (h .peer) (h .number) (d .asked) ≡ false → h .kind ≡ 3 → lookup (h .peer) (d .asked) ≡ some (h .number) → ⊥
+unmatched : (h : Header) (d : Book) → closes (h .kind) (h .message) (h .peer) (h .number) (d .asked) ≡ false → h .kind ≡ kind-byte PendingNeighborRequest → lookup (h .peer) (d .asked) ≡ some (h .number) → ⊥
 unfolding closes
 unmatched h d c k q =
-    let n = eqb (h .kind) 3 && is-open (h .number) (lookup (h .peer) (d .asked)) in
-    let a = or-no-right (eqb (h .kind) 5) n (or-no-right (eqb (h .kind) 0 && is-answer (h .message)) (eqb (h .kind) 5 || n) c) in
-    clash (is-open (h .number) (lookup (h .peer) (d .asked))) (number-yes (h .number) _ q) (sym (ap (λ (b : Bool). b && is-open (h .number) (lookup (h .peer) (d .asked))) (eq-eqb (h .kind) 3 k)) ∙ a)
+    let n = eqb (h .kind) (kind-byte PendingNeighborRequest) && is-open (h .number) (lookup (h .peer) (d .asked)) in
+    let a = or-no-right (eqb (h .kind) (kind-byte PeerDisconnected)) n (or-no-right (eqb (h .kind) (kind-byte Message) && is-answer (h .message)) (eqb (h .kind) (kind-byte PeerDisconnected) || n) c) in
+    clash (is-open (h .number) (lookup (h .peer) (d .asked))) (number-yes (h .number) _ q) (sym (ap (λ (b : Bool). b && is-open (h .number) (lookup (h .peer) (d .asked))) (eq-eqb (h .kind) (kind-byte PendingNeighborRequest) k)) ∙ a)
 
-event-timed : (h : Header) (d : Book) (ws : List (ℕ × ℕ)) → Timed (d .asked) ws → Timed (note-item (came h) d .asked) (choose (eqb (h .kind) 3) (without-pair (h .peer) (h .number) ws) ws)
+event-timed : (h : Header) (d : Book) (ws : List (ℕ × ℕ)) → Timed (d .asked) ws → Timed (note-item (came h) d .asked) (choose (eqb (h .kind) (kind-byte PendingNeighborRequest)) (without-pair (h .peer) (h .number) ws) ws)
 unfolding note-item note-event shut empty-book
 event-timed h d ws t =
     let c = closes (h .kind) (h .message) (h .peer) (h .number) (d .asked) in
-    let k = eqb (h .kind) 3 in
-    by-choice (λ (x : Book). Timed (x .asked) (choose k (without-pair (h .peer) (h .number) ws) ws)) (eqb (h .kind) 8) (λ _ p n q. none-found (look-nothing p n q))
+    let k = eqb (h .kind) (kind-byte PendingNeighborRequest) in
+    by-choice (λ (x : Book). Timed (x .asked) (choose k (without-pair (h .peer) (h .number) ws) ws)) (eqb (h .kind) (kind-byte Quit)) (λ _ p n q. none-found (look-nothing p n q))
     (λ _. by-choice (λ (x : Book). Timed (x .asked) (choose k (without-pair (h .peer) (h .number) ws) ws)) c
     (λ _ p n q. let s = look-cut p (h .peer) (d .asked) n q in
     by-choice (Among p n) k (λ _. still-waits p n (h .peer) (h .number) ws (λ a b. s .0 a) (t p n (s .1))) (λ _. t p n (s .1)))
     (λ u p n q. by-choice (Among p n) k
-    (λ v. still-waits p n (h .peer) (h .number) ws (λ a b. unmatched h d u (eqb-true (h .kind) 3 v) (subst (λ (y : ℕ). lookup y (d .asked) ≡ some (h .number)) a (subst (λ (y : ℕ). lookup p (d .asked) ≡ some y) b q))) (t p n q))
+    (λ v. still-waits p n (h .peer) (h .number) ws (λ a b. unmatched h d u (eqb-true (h .kind) (kind-byte PendingNeighborRequest) v) (subst (λ (y : ℕ). lookup y (d .asked) ≡ some (h .number)) a (subst (λ (y : ℕ). lookup p (d .asked) ≡ some y) b q))) (t p n q))
     (λ _. t p n q)))
 
 fresh : (p n q o : ℕ) (m ws : List (ℕ × ℕ)) → Timed m ws → Either ((p ≡ q) × (n ≡ o)) (lookup p m ≡ some n) → Among p n ((q, o) ∷ ws)
@@ -67,11 +68,11 @@ unfolding choose
 put-timed true q o m ws t p n e = fresh p n q o m ws t (look-put p q o m n e)
 put-timed false q o m ws t p n e = t p n e
 
-sent-timed : (h : Header) (d : Book) (ws : List (ℕ × ℕ)) → Timed (d .asked) ws → Timed (note-item (went h) d .asked) (choose (eqb (h .kind) 3) ((h .peer, h .number) ∷ ws) ws)
+sent-timed : (h : Header) (d : Book) (ws : List (ℕ × ℕ)) → Timed (d .asked) ws → Timed (note-item (went h) d .asked) (choose (eqb (h .kind) (kind-byte PendingNeighborRequest)) ((h .peer, h .number) ∷ ws) ws)
 unfolding note-item note-sent
-sent-timed h d ws t = put-timed (eqb (h .kind) 3) (h .peer) (h .number) (d .asked) ws t
+sent-timed h d ws t = put-timed (eqb (h .kind) (kind-byte PendingNeighborRequest)) (h .peer) (h .number) (d .asked) ws t
 
-pub timed-after : (xs : List Item) (d : Book) (ws : List (ℕ × ℕ)) → Timed (d .asked) ws → Timed (book-after xs d .asked) (waiting 3 xs ws)
+pub timed-after : (xs : List Item) (d : Book) (ws : List (ℕ × ℕ)) → Timed (d .asked) ws → Timed (book-after xs d .asked) (waiting (kind-byte PendingNeighborRequest) xs ws)
 unfolding book-after waiting
 timed-after [] d ws t = t
 timed-after (came h ∷ xs) d ws t = timed-after xs (note-item (came h) d) _ (event-timed h d ws t)

@@ -14,6 +14,7 @@ use Rattle.base_lists.proofs.Choice.{choose-yes, split, and-left, and-right}
 use Rattle.base_timing.specs.Timing.{in-range}
 use Rattle.base_timing.specs.declared.Config.{Config}
 use Rattle.base_peer.specs.Data.{Data}
+use Rattle.record.specs.Kinds.{RetryJoin, kind-byte}
 use Rattle.spec_hyparview.specs.Station.{Station}
 use Rattle.spec_hyparview.specs.Rules.{short-data}
 use Rattle.spec_hyparview.specs.Handle.{Made, new, new-station}
@@ -62,7 +63,7 @@ joined {xs} {ys} {s} {t} {u} f g = record {
   starts = λ h. split (leb 1 (accepted-events xs + running s))
       (λ e. let a = f .starts (leb-true 1 (accepted-events xs + running s) e) in g .starts (omega (arith, a)))
       (λ e. let a = leb-false 1 (accepted-events xs + running s) e in g .starts (omega (arith, a, h, events-append xs ys)));
-  awaits = λ ws w. subst (Timed (u .joins)) (sym (waiting-append 4 xs ys ws)) (g .awaits (waiting 4 xs ws) (f .awaits ws w));
+  awaits = λ ws w. subst (Timed (u .joins)) (sym (waiting-append 4 xs ys ws)) (g .awaits (waiting (kind-byte RetryJoin) xs ws) (f .awaits ws w));
 }
 
 follows : {c : Config} {me : ℕ} → in-range c ≡ true → (vs : List Call) {l : Ledger} {s : Station} → Kept c me l s → Follows (traffic definition vs s) s (state-after definition vs s)

@@ -11,6 +11,7 @@ use Rattle.base_lists.specs.Lists.{choose, mem, insert}
 use Rattle.base_lists.specs.Maps.{lookup}
 use Rattle.base_lists.proofs.Choice.{by-choice, choose-yes, choose-no, split, or-true, and-left, and-right, clash}
 use Rattle.record.specs.declared.Header.{Header}
+use Rattle.record.specs.Kinds.{Quit, kind-byte}
 use Rattle.spec_chatter.specs.Traffic.{Item, came, went}
 use Rattle.spec_chatter.specs.Open.{neighbor-message, is-answer, is-open, closes, open-after}
 use Rattle.spec_chatter.specs.Claims.{MessageOf, ReasonFor, join-from, neighbor-from, disconnect-from, disconnection, request-timer, quit, Any-two-neighbors, No-chatter, One-in-each-event}
@@ -74,11 +75,11 @@ event-either : (p : ℕ) (xs : List Item) (h : Header) (d : Book) → After xs d
 unfolding note-item note-event shut
 event-either p xs h d e m =
     let c = closes (h .kind) (h .message) (h .peer) (h .number) (d .asked) in
-    split (eqb (h .kind) 8) (λ t. left (quit (eqb-true (h .kind) 8 t)))
+    split (eqb (h .kind) (kind-byte Quit)) (λ t. left (quit (eqb-true (h .kind) (kind-byte Quit) t)))
     (λ t. split c
     (λ u. split (eqb (h .peer) p) (λ q. left (closing p xs h (d .asked) (numbers-open xs d e) (eqb-true (h .peer) p q) u))
-    (λ q. right (rw (choose-no (eqb (h .kind) 8) empty-book (choose c (shut (h .peer) d) d) t, choose-yes c (shut (h .peer) d) d u) (without-keeps p (h .peer) (d .told) (λ z. eqb-false (h .peer) p q (sym z)) m))))
-    (λ u. right (rw (choose-no (eqb (h .kind) 8) empty-book (choose c (shut (h .peer) d) d) t, choose-no c (shut (h .peer) d) d u) m)))
+    (λ q. right (rw (choose-no (eqb (h .kind) (kind-byte Quit)) empty-book (choose c (shut (h .peer) d) d) t, choose-yes c (shut (h .peer) d) d u) (without-keeps p (h .peer) (d .told) (λ z. eqb-false (h .peer) p q (sym z)) m))))
+    (λ u. right (rw (choose-no (eqb (h .kind) (kind-byte Quit)) empty-book (choose c (shut (h .peer) d) d) t, choose-no c (shut (h .peer) d) d u) m)))
 
 -- ---- many
 
