@@ -8,3 +8,4 @@ pub mod Stores
 pub mod Copies
 pub mod Picks
 pub mod Marked
+pub mod Ahead

@@ -4,3 +4,4 @@ pub mod Opening
 pub mod Kept
 pub mod Asked
 pub mod Making
+pub mod Sides

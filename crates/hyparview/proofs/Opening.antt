@@ -76,7 +76,7 @@ unfolding packed-answer P.accepted cleared run-of
 accepted-is a ds o v small = rw (packed-back (a .state) (v .ready .packed) small, length-take-le (a .written) o (v .written))
 
 module _ (xs : List ℕ) (ok : packed-ok xs ≡ true) where
-  refusal-is : (c room : ℕ) → refused-words c xs room ≡ packed-answer (P.refusal c (unpack xs) room)
+  pub refusal-is : (c room : ℕ) → refused-words c xs room ≡ packed-answer (P.refusal c (unpack xs) room)
   unfolding refused-words packed-answer P.refusal
   refusal-is c room = rw (ok-back xs ok)
 
@@ -87,11 +87,11 @@ module _ (xs : List ℕ) (ok : packed-ok xs ≡ true) where
       (λ z. choose-yes _ _ _ z ∙ (accepted-is (work-of a ys) ds o v small ∙ ap packed-answer (sym (choose-yes _ _ _ z))))
       (λ z. choose-no _ _ _ z ∙ (refusal-is (a .code) (length o) ∙ ap packed-answer (sym (choose-no _ _ _ z))))
 
-packed-of : (xs : List ℕ) → state-ok xs ≡ true → packed-ok xs ≡ true
+pub packed-of : (xs : List ℕ) → state-ok xs ≡ true → packed-ok xs ≡ true
 unfolding state-ok
 packed-of xs e = and-left _ _ e
 
-rules-of : (xs : List ℕ) → state-ok xs ≡ true → station-ok (unpack xs) ≡ true
+pub rules-of : (xs : List ℕ) → state-ok xs ≡ true → station-ok (unpack xs) ≡ true
 unfolding state-ok
 rules-of xs e = and-right (packed-ok xs) _ e
 

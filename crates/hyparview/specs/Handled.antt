@@ -8,6 +8,7 @@ use lib.Dec.{eqb}
 use Rattle.base_lists.specs.Lists.{choose}
 use Rattle.base_lists.specs.Lent.{Lent}
 use Rattle.spec_hyparview.specs.Handle as P
+use Rattle.spec_hyparview.specs.Sides.{Side, handle-from}
 use Rattle.work.specs.declared.Work.{Work}
 use Rattle.hyparview_state.specs.Unpack.{unpack}
 use Rattle.hyparview_rules.specs.Pack.{pack}
@@ -46,6 +47,10 @@ packed-answer a = record { code = a .code; draws = a .used; words = pack (a .sta
 unfoldable pub handled : List ℕ → List ℕ → List ℕ → ℕ → Outcome
 handled xs b ds room = choose (packed-ok xs) (packed-answer (P.handle (unpack xs) b ds room)) (refused-words 2 xs room)
 
+-- the same of a call that names its side (02, S-12)
+unfoldable pub handled-from : Side → List ℕ → List ℕ → List ℕ → ℕ → Outcome
+handled-from side xs b ds room = choose (packed-ok xs) (packed-answer (handle-from side (unpack xs) b ds room)) (refused-words 2 xs room)
+
 -- ---- as a contract says it, of the parameters themselves
 
 -- r, and the words and the output as the call leaves them
@@ -65,3 +70,9 @@ abbrev pub HandlesState : HandledState → State → Lent → Lent → Lent → 
 HandlesState r s b ds out =
     outcome-left (record { code = r .code; draws = r .draws }) (r .state .words) out
     ≡ handled (s .words) (b .entry .now) (ds .entry .now) (length (out .entry .now))
+
+-- and of a call that names its side
+abbrev pub HandlesFrom : Side → Done → Lent → Lent → Lent → Lent → Type 0
+HandlesFrom side r st b ds out =
+    outcome-left r (st .exit .now) out
+    ≡ handled-from side (st .entry .now) (b .entry .now) (ds .entry .now) (length (out .entry .now))

@@ -9,11 +9,14 @@ use record::Event;
 use record::Refusal;
 use work::Work;
 ghost use mathlib.Core.Path.{_≡_};
+ghost use mathlib.Core.Bool.{_&&_};
 ghost use Prim.Native.Nat.{_≤_};
 ghost use lib.ListN.{length, getD};
 ghost use Rattle.spec_hyparview.specs.Handle.{new-station};
+ghost use Rattle.spec_hyparview.specs.Sides.{radio as radio-side, side-of, too-many};
+ghost use Rattle.hyparview_rules.specs.Ok.{state-ok};
 ghost use Rattle.hyparview.specs.Made.{Starts, StartsState};
-ghost use Rattle.hyparview.specs.Handled.{cleared, Refuses, Handles, HandlesState};
+ghost use Rattle.hyparview.specs.Handled.{cleared, Refuses, Handles, HandlesState, HandlesFrom};
 ghost use Rattle.base_peer.specs.Held.{data-in, ValidData};
 ghost use Rattle.hyparview_rules.specs.Pack.{front};
 ghost use Rattle.hyparview.specs.Queries.{wants-connection-in, is-neighbor-in, neighbors-in, spare-addresses-in};
@@ -23,6 +26,11 @@ pub const OUTPUT: usize = 8192;
 
 // The draws that suffice for every event (document 01) if they are below 2^32 - 32, where none is passed over (02, S-6).
 pub const DRAWS: usize = 512;
+
+// The most nodes that an event from the radio side may have, and the draws that are read for it (02, S-12).
+pub const RADIO_NODES: u8 = 8;
+
+pub const RADIO_DRAWS: usize = 64;
 
 // The numbers of a station that has met no event, in the order of `Layout`, where the active view follows them.
 fn first_numbers(me: PeerId, own: PeerData, config: Config) -> [u64; Layout::NUMBERS_END]
@@ -240,6 +248,50 @@ pub fn handle(st: &mut [u64], b: &[u8], draws: &[u32], out: &mut [u8]) -> Done
             }
         }
     }
+}
+
+// Whether the event has more nodes than the radio side may bring, though not so many that the reader refuses it from either side.
+fn has_too_many(b: &[u8]) -> bool
+    ensures { λ r. ⌜ r ≡ too-many (now (b .entry)) ⌝ }
+{
+    if b.len() < record::HEADER {
+        return false;
+    }
+    let n = b[3];
+    (RADIO_NODES < n) & (n <= record::MOST_NODES)
+}
+
+// Words that break a station rule are answered with their own code, also for such an event.
+fn is_barred(st: &[u64], b: &[u8]) -> bool
+    ensures { λ r. ⌜ r ≡ (too-many (now (b .entry)) && state-ok (now (st .entry))) ⌝ }
+{
+    if has_too_many(b) {
+        return hyparview_rules::is_ok(st);
+    }
+    false
+}
+
+// One event from the radio side, which brings few nodes and reads few draws.
+fn handle_radio(st: &mut [u64], b: &[u8], draws: &[u32], out: &mut [u8]) -> Done
+    ensures { λ r. ⌜ HandlesFrom radio-side r st b draws out ⌝ }
+{
+    if is_barred(st, b) {
+        return refuse(st, out, Refusal::RADIO_NODES);
+    }
+    if draws.len() < RADIO_DRAWS {
+        return handle(st, b, draws, out);
+    }
+    handle(st, b, &draws[..RADIO_DRAWS], out)
+}
+
+// One event from the side that is named: the whole result, or one numbered refusal that leaves every word as it was.
+pub fn handle_from(st: &mut [u64], radio: bool, b: &[u8], draws: &[u32], out: &mut [u8]) -> Done
+    ensures { λ r. ⌜ HandlesFrom (side-of radio) r st b draws out ⌝ }
+{
+    if radio {
+        return handle_radio(st, b, draws, out);
+    }
+    handle(st, b, draws, out)
 }
 
 // The state by value.

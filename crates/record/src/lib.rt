@@ -162,6 +162,9 @@ impl Refusal {
 
     pub const COUNTER: u32 = 10;
 
+    // Of an event from the radio side (02, S-12).
+    pub const RADIO_NODES: u32 = 16;
+
     pub const PIN_STRANGER: u32 = 17;
 
     pub const PIN_LIMIT: u32 = 18;

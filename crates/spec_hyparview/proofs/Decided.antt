@@ -25,6 +25,7 @@ use Rattle.spec_hyparview.proofs.Tested.{between-of}
 use Rattle.spec_hyparview.proofs.Readers.{Which, whole, kept, small, part, Sure}
 use Rattle.spec_hyparview.proofs.Plays.{Like, At, Alike, Follows, goes, ends, crowded}
 use Rattle.spec_hyparview.proofs.Played.{plays-steps}
+use Rattle.spec_hyparview.proofs.Front.{finish-code}
 use Rattle.spec_hyparview.proofs.Enough.{pays-all, all-sure}
 
 -- the same of a machine that answers as another does
@@ -48,10 +49,6 @@ all-below : (js : List ℕ) → All Sure js → all-under sure-end js ≡ true
 unfolding all-under All
 all-below [] a = refl
 all-below (j ∷ js) a = rw (lt-ltb j sure-end (a .0)) (all-below js (a .1))
-
-finish-code : (s : Station) (r : Run) → finish s r .code ≡ r .code
-unfolding finish accepted refusal
-finish-code s r = by-choice (λ (a : Result). a .code ≡ r .code) (eqb (r .code) 0) (λ e. sym (eqb-true (r .code) 0 e)) (λ e. refl)
 
 finish-open : (s : Station) (r : Run) → r .code ≡ 0 → (finish s r .state ≡ r .station) × (finish s r .used ≡ r .used)
 unfolding finish accepted refusal

@@ -47,7 +47,7 @@ pub eighteen : Plain 18
 eighteen = record { low = omega arith; not-five = λ e. omega arith; not-nine = λ e. omega arith }
 
 module _ {q : Fixed} {t : Terms} {m b d : ℕ} where
-  pub ok-refuse : (c : ℕ) (r : Run) → 5 ≤ c → (c ≡ 5 → sure (q .draws-lent) < 512) → (c ≡ 5 → Roomy (r .station)) → (c ≡ 9 → q .room-lent < 8192) → Codes q r → Ok q t m b d (with-code c r)
+  pub ok-refuse : (c : ℕ) (r : Run) → 5 ≤ c → (c ≡ 5 → sure (q .draws-lent) < q .most-draws) → (c ≡ 5 → Roomy (r .station)) → (c ≡ 9 → q .room-lent < 8192) → Codes q r → Ok q t m b d (with-code c r)
   ok-refuse c r l f o n k =
       record { good = λ e. absurd (omega arith); codes = record { lent = k .lent; within = k .within; space = k .space; five = f; roomy = o; nine = n; low = λ w. l } }
 

@@ -23,7 +23,10 @@ pub mod Tested
 pub mod Unreachable
 pub mod Readers
 pub mod Plays
+pub mod Built
 pub mod Played
+pub mod Front
+pub mod Sides
 pub mod Enough
 pub mod Decided
 pub mod Written

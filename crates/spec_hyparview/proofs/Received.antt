@@ -119,7 +119,7 @@ module _ {q : Fixed} where
       (ok-either _ (ease (omega arith) (omega arith) (omega arith) j) (ok-message _ single refl (λ z o g w. one-node _ _ refl l) (ok-one-of _ (λ o g w. omega (arith, length-without from ((M.learn-joiner n ttl r) .station .active), g .seats .slots-left, g .still .ranges .few-slots)) (ease (omega arith) (omega arith) (omega arith) j))))
 
   -- on_shuffle: 1
-  pub ok-on-shuffle : {b d : ℕ} (from origin : ℕ) (ns : List Node) (ttl : ℕ) {r : Run} → ShortNodes ns → length ns ≤ 32 → Ok q calm 1 (b + (crowd + 32 * adding)) (d + 70) r → Ok q calm 0 b d (M.on-shuffle from origin ns ttl r)
+  pub ok-on-shuffle : {b d : ℕ} (from origin : ℕ) (ns : List Node) (ttl : ℕ) {r : Run} → ShortNodes ns → length ns ≤ 32 → Ok q calm 1 (b + (crowd + 32 * adding)) (d + (38 + length ns)) r → Ok q calm 0 b d (M.on-shuffle from origin ns ttl r)
   unfolding M.on-shuffle M.answer-shuffle M.forward-shuffle
   ok-on-shuffle from origin ns ttl {r} sn l k =
       ok-either _ (ok-send-shuffle-reply _ _ (λ z. l) (ok-add-nodes ns sn (ease (omega arith) (omega arith) (omega arith) k)))
@@ -127,7 +127,7 @@ module _ {q : Fixed} where
       (ok-message _ crowd refl (λ z o g w. many-nodes _ _ refl sn l) (ok-one-of _ (λ o g w. omega (arith, length-without-all (origin ∷ from ∷ []) (r .station .active), g .seats .slots-left, g .still .ranges .few-slots)) (ease (omega arith) (omega arith) (omega arith) k))))
 
   -- on_shuffle_reply: 1
-  pub ok-on-shuffle-reply : {b d : ℕ} (from : ℕ) (ns : List Node) {r : Run} → ShortNodes ns → length ns ≤ 32 → Ok q calm 1 (b + (32 * adding + asking)) (d + 33) r → Ok q calm 0 b d (M.on-shuffle-reply from ns r)
+  pub ok-on-shuffle-reply : {b d : ℕ} (from : ℕ) (ns : List Node) {r : Run} → ShortNodes ns → length ns ≤ 32 → Ok q calm 1 (b + (32 * adding + asking)) (d + (1 + length ns)) r → Ok q calm 0 b d (M.on-shuffle-reply from ns r)
   unfolding M.on-shuffle-reply M.after-reply M.refill-with Small
   ok-on-shuffle-reply {b} {d} from ns {r} sn l k =
       let j : Ok q calm 1 (b + asking) (d + 1) (P.add-nodes ns r) = ok-add-nodes ns sn (ease (omega arith) (omega arith) (omega arith) k) in

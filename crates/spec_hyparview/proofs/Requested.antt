@@ -1,12 +1,13 @@
 -- What comes from the station's own side keeps what holds between events: a request to join, a closed connection, own data, and Quit.
 -- Assumes nothing.
-use mathlib.Core.Path.{_≡_, refl, sym, subst}
+use mathlib.Core.Path.{_≡_, refl, sym, ap, subst}
 use mathlib.Core.Bool.{Bool, true, false}
 use mathlib.Core.List.{List, [], _∷_}
 use Prim.Native.Nat.{ℕ, _+_, _-_, _*_, _≤_, _<_}
 use native.Mathlib.Omega.{arith}
 use lib.ListN.{length, getD}
-use lib.Dec.{ltb}
+use lib.Dec.{ltb, eqb}
+use borrow.Author.Tests.{eqb-false}
 use Rattle.base_lists.specs.Lists.{choose, is, count, mem, without, remove, Rising}
 use Rattle.base_lists.specs.Maps.{keys, cut, Each}
 use Rattle.base_lists.proofs.Choice.{by-choice}
@@ -14,7 +15,7 @@ use Rattle.base_lists.proofs.Count.{is-self, is-le, is-not, is-split, mem-true,
 use Rattle.base_peer.specs.Data.{Data}
 use Rattle.record.specs.Format.{Rec}
 use Rattle.spec_hyparview.specs.Station.{Station, is-me, in-active, most-pins, is-pinned, peers-end}
-use Rattle.spec_hyparview.specs.Run.{Run, on, require}
+use Rattle.spec_hyparview.specs.Run.{Run, guard, on, require}
 use Rattle.spec_hyparview.specs.Budgets.{bare, single, disconnecting, removing}
 use Rattle.spec_hyparview.specs.Peers as P
 use Rattle.spec_hyparview.specs.Active.{connection-closed, leave-active}
@@ -25,7 +26,7 @@ use Rattle.spec_hyparview.proofs.Law.{Numbered, Short, law-joins, law-r
 use Rattle.spec_hyparview.proofs.Changes.{cut-numbered, put-numbered, cut-held, no-refusals, unpin, add-pin}
 use Rattle.spec_hyparview.proofs.Invariant.{Fixed, Terms, calm, Good, Ok}
 use Rattle.spec_hyparview.proofs.Keeping.{ten, seventeen, eighteen, ease, ok-if, ok-either, ok-on, ok-map, ok-claim, ok-require, require-fine, ok-quiet}
-use Rattle.spec_hyparview.proofs.Sends.{no-node, ok-join, ok-send-disconnect, ok-refill}
+use Rattle.spec_hyparview.proofs.Sends.{no-node, disconnect-station, ok-join, ok-send-disconnect-with, ok-send-disconnect, ok-refill}
 use Rattle.spec_hyparview.proofs.Passive.{ok-drop-mark}
 use Rattle.spec_hyparview.proofs.Leaving.{ok-remove-active}
 use Rattle.spec_hyparview.proofs.Received.{ok-drop-request}
@@ -186,8 +187,7 @@ pub ok-update : {q : Fixed} {m b d : ℕ} (x : Data) {r : Run} → Short x → O
 unfolding E.update-own-data
 ok-update x l k = ok-on _ (λ o h. h) (λ w. law-own w l) k
 
--- handle_quit: 0, since each neighbour that leaves gives back two
-
+-- Pin: 0
 module _ {q : Fixed} {t : Terms} {m b d : ℕ} where
   pub ok-handle-pin : (p : ℕ) {r : Run} → Ok q t m b d r → Ok q t m b d (E.handle-pin p r)
   unfolding E.handle-pin E.require-neighbor E.pin-neighbor E.note-pin E.pins-left is-pinned most-pins in-active
@@ -196,6 +196,8 @@ module _ {q : Fixed} {t : Terms} {m b d : ℕ} where
       let here : (require 17 test r) .code ≡ 0 → 1 ≤ count p ((require 17 test r) .station .active) =
       (λ z. let e = require-fine seventeen test r z in subst (λ (w : Run). 1 ≤ count p (w .station .active)) (sym (e .0)) (mem-true p (r .station .active) (e .1))) in
       ok-claim eighteen _ (E.note-pin p) (λ z e o g w. (g, law-pins w (add-pin p (w .pins-ok) (here z) e))) (ok-require seventeen test k)
+
+-- handle_quit: 0, since each neighbour that leaves gives back two
 
 -- while these are still active, though none is up
 abbrev pub quitting : List ℕ → Terms
@@ -238,9 +240,9 @@ ok-quit-all [] k = ease (omega arith) (omega arith) (omega arith) k
 ok-quit-all (p ∷ ps) k =
     ok-quit-all ps (ok-send-disconnect p false (ok-remove-neighbor p ps (ease (omega arith) (omega arith) (omega arith) k)))
 
-pub ok-handle-quit : {q : Fixed} {m b d : ℕ} {r : Run} → length (r .station .active) ≤ 8 → Ok q (quitting (r .station .active)) m (b + 8 * disconnecting) (d + 304) r → Ok q calm m b d (E.handle-quit r)
-unfolding E.handle-quit E.clear-all count Rising keys Each
-ok-handle-quit {r = r} l k =
+ok-clear-all : {q : Fixed} {m b d : ℕ} {r : Run} → Ok q (quitting []) m b d r → Ok q calm m b d (on E.clear-all r)
+unfolding E.clear-all count Rising keys Each
+ok-clear-all k =
     ok-on _ (λ o h. record {
       still = h .still;
       seats = record {
@@ -259,4 +261,44 @@ ok-handle-quit {r = r} l k =
       numbered = record { rise = tt; below = tt; next-top = w .requests-ok .numbered .next-top };
       few = omega arith;
     }))
-    (ok-quit-all (r .station .active) (ease (omega arith) (omega arith) (omega arith) k))
+    k
+
+pub ok-handle-quit : {q : Fixed} {m b d : ℕ} {r : Run} → length (r .station .active) ≤ 8 → Ok q (quitting (r .station .active)) m (b + 8 * disconnecting) (d + 304) r → Ok q calm m b d (E.handle-quit r)
+unfolding E.handle-quit
+ok-handle-quit {r = r} l k = ok-clear-all (ok-quit-all (r .station .active) (ease (omega arith) (omega arith) (omega arith) k))
+
+-- of two neighbours: once one is gone the other is not shuffled
+remove-fewer : (p : ℕ) (r : Run) → length ((on (E.remove-neighbor p) r) .station .active) ≤ length (r .station .active)
+unfolding on guard E.remove-neighbor leave-active
+remove-fewer p r = by-choice (λ (w : Run). length (w .station .active) ≤ length (r .station .active)) _ (λ _. length-remove p (r .station .active)) (λ _. omega arith)
+
+removed-first : (p : ℕ) (ps : List ℕ) (r : Run) → r .code ≡ 0 → r .station .active ≡ p ∷ ps → length ((on (E.remove-neighbor p) r) .station .active) ≤ length ps
+unfolding on guard E.remove-neighbor leave-active count
+removed-first p ps r z e =
+    by-choice (λ (w : Run). length (w .station .active) ≤ length ps) (eqb (r .code) 0)
+    (λ _. rw e (omega (arith, length-remove-in p (p ∷ ps) (omega (arith, is-self p)))))
+    (λ n. absurd (eqb-false (r .code) 0 n z))
+
+module _ {q : Fixed} {m b d : ℕ} (p : ℕ) (ps : List ℕ) {r : Run} where
+  ok-quit-last : length ((on (E.remove-neighbor p) r) .station .active) ≤ 1 → Ok q (quitting (p ∷ ps)) m (b + disconnecting) (d + 31) r → Ok q (quitting ps) m b d (E.quit-one p r)
+  unfolding E.quit-one
+  ok-quit-last l k = ok-send-disconnect-with 0 (omega arith) p false (λ n o g. omega arith) (ok-remove-neighbor p ps (ease (omega arith) (omega arith) (omega arith) k))
+
+quit-station : (p : ℕ) (r : Run) → (E.quit-one p r) .station ≡ (on (E.remove-neighbor p) r) .station
+unfolding E.quit-one
+quit-station p r = disconnect-station p false (on (E.remove-neighbor p) r)
+
+ok-quit-few : {q : Fixed} {m b d : ℕ} (ps : List ℕ) {r : Run} → length ps ≤ 2 → r .code ≡ 0 → r .station .active ≡ ps → Ok q (quitting ps) m (b + 2 * disconnecting) (d + 62) r → Ok q (quitting []) m b d (E.quit-all ps r)
+unfolding E.quit-all
+ok-quit-few [] l z e k = ease (omega arith) (omega arith) (omega arith) k
+ok-quit-few (p ∷ []) {r} l z e k = ok-quit-last p [] (omega (arith, removed-first p [] r z e)) (ease (omega arith) (omega arith) (omega arith) k)
+ok-quit-few (p ∷ o ∷ []) {r} l z e k =
+    let one = removed-first p (o ∷ []) r z e in
+    let w = E.quit-one p r in
+    let few : length ((on (E.remove-neighbor o) w) .station .active) ≤ 1 = omega (arith, one, remove-fewer o w, ap (λ (s : Station). length (s .active)) (quit-station p r)) in
+    ok-quit-last o [] few (ok-quit-last p (o ∷ []) one (ease (omega arith) (omega arith) (omega arith) k))
+ok-quit-few (p ∷ o ∷ n ∷ ps) l z e k = absurd (omega (arith, l))
+
+pub ok-handle-quit-two : {q : Fixed} {m b d : ℕ} {r : Run} → r .code ≡ 0 → length (r .station .active) ≤ 2 → Ok q (quitting (r .station .active)) m (b + 2 * disconnecting) (d + 62) r → Ok q calm m b d (E.handle-quit r)
+unfolding E.handle-quit
+ok-handle-quit-two {r = r} z l k = ok-clear-all (ok-quit-few (r .station .active) l z refl k)

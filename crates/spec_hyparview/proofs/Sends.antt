@@ -1,10 +1,10 @@
 -- Steps that leave the views as they are, whatever else is half done: data, messages sent, refills. Each names what it may spend.
 -- Assumes nothing.
-use mathlib.Core.Path.{_≡_, refl, sym, ap, subst}
+use mathlib.Core.Path.{_≡_, refl, sym, ap, subst, _∙_}
 use mathlib.Core.Bool.{Bool, true, false}
 use mathlib.Core.List.{List, [], _∷_, _++_}
 use mathlib.Core.Option.{none, some}
-use Prim.Native.Nat.{ℕ, _+_, _-_, _≤_}
+use Prim.Native.Nat.{ℕ, _+_, _-_, _≤_, _<_}
 use native.Mathlib.Omega.{arith}
 use lib.ListN.{length, take, length-append}
 use lib.Dec.{ltb, eqb}
@@ -27,7 +27,7 @@ use Rattle.spec_hyparview.proofs.Law.{Lawful, Short, Small, ShortNodes,
 use Rattle.spec_hyparview.proofs.Changes.{put-held, put-request, small-less, small-or}
 use Rattle.spec_hyparview.proofs.Told.{size-short, short-infos, length-infos}
 use Rattle.spec_hyparview.proofs.Invariant.{Fixed, Terms, Good, Ok}
-use Rattle.spec_hyparview.proofs.Keeping.{six, eight, ten, ease, ok-if, ok-either, ok-on, ok-claim, ok-require, require-fine, ok-draw, ok-one-of, ok-message, ok-quiet, ok-fact, emit-station, emit-fine, draw-fine}
+use Rattle.spec_hyparview.proofs.Keeping.{six, eight, ten, ease, ok-if, ok-either, ok-on, ok-claim, ok-require, require-fine, ok-draw, ok-one-of, ok-message, ok-quiet, ok-fact, emit-station, emit-fine, draw-station, draw-fine}
 
 -- sizes
 pub one-node : (e : Rec) (n : Node) → e .nodes ≡ n ∷ [] → Short (n .data-of) → size e ≤ single
@@ -76,36 +76,56 @@ module _ {q : Fixed} {t : Terms} {m b d : ℕ} where
   ok-send-nodes to ps {r} l k =
       ok-message _ crowd refl (λ z o g w. many-nodes _ _ refl (short-infos (r .station) ps (w .held-ok .shorts)) (omega (arith, l z, length-infos (r .station) ps))) k
 
-  pub ok-draw-active : {r : Run} → Ok q t m b (d + 7) r → Ok q t m b d (R.draw-shuffle (r .station .active) r)
-  unfolding R.draw-shuffle
-  ok-draw-active {r} k = ok-draw _ (λ o g w. shuffle-costs 7 (R.to-draw r) (r .station .active) (omega (arith, g .seats .slots-left, g .still .ranges .few-slots)) (omega arith)) k
-
   pub ok-draw-passive : {r : Run} → Ok q t m b (d + 31) r → Ok q t m b d (R.draw-shuffle (r .station .passive) r)
   unfolding R.draw-shuffle
   ok-draw-passive {r} k = ok-draw _ (λ o g w. shuffle-costs 31 (R.to-draw r) (r .station .passive) (omega (arith, g .seats .places-left, g .still .ranges .few-places)) (omega arith)) k
 
-module _ {q : Fixed} {t : Terms} {m b d : ℕ} where
-  pub ok-send-shuffle-reply : (to len : ℕ) {r : Run} → (r .code ≡ 0 → len ≤ 32) → Ok q t (m + 1) (b + crowd) (d + 38) r → Ok q t m b d (S.send-shuffle-reply to len r)
-  unfolding S.send-shuffle-reply S.reply-with S.send-filled S.fill-active R.draw-shuffle
-  ok-send-shuffle-reply to len {r} l k =
-      let xs = R.shuffled (r .station .passive) r in
-      let w = R.draw-shuffle (r .station .passive) r in
-      let o : w .code ≡ 0 → r .code ≡ 0 = draw-fine _ r in
-      let c : w .code ≡ 0 → length (take len xs) ≤ 32 = (λ z. omega (arith, l (o z), length-cut-to len xs)) in
-      let j : Ok q t (m + 1) (b + crowd) (d + 7) w = ok-draw-passive (ease (omega arith) (omega arith) (omega arith) k) in
-      ok-either _
-      (ok-send-nodes to _ (λ z. omega (arith, l (o (draw-fine _ w z)), filled (take len xs) (R.shuffled (w .station .active) w) (length-cut-to len xs))) (ok-draw-active j))
-      (ok-send-nodes to _ c (ease (omega arith) (omega arith) (omega arith) j))
-    where
-      filled : (ps ys : List ℕ) → length ps ≤ len → length (ps ++ take (len - length ps) ys) ≤ len
-      filled ps ys h = omega (arith, length-append ps (take (len - length ps) ys), length-cut-to (len - length ps) ys)
+-- what is sent does not change the station
+reply-station : (to len : ℕ) (ps : List ℕ) (r : Run) → (S.reply-with to len ps r) .station ≡ r .station
+unfolding S.reply-with S.send-filled S.send-nodes R.draw-shuffle
+reply-station to len ps r = by-choice (λ (w : Run). w .station ≡ r .station) _ (λ _. emit-station _ _ ∙ draw-station _ r) (λ _. emit-station _ r)
+
+pub disconnect-station : (p : ℕ) (alive : Bool) (r : Run) → (S.send-disconnect p alive r) .station ≡ r .station
+unfolding S.send-disconnect S.send-shuffle-reply R.draw-shuffle
+disconnect-station p alive r = emit-station _ _ ∙ (reply-station p _ _ _ ∙ draw-station _ r)
 
 module _ {q : Fixed} {t : Terms} {m b d : ℕ} where
-  pub ok-send-disconnect : (p : ℕ) (alive : Bool) {r : Run} → Ok q t (m + 2) (b + disconnecting) (d + 38) r → Ok q t m b d (S.send-disconnect p alive r)
+  -- where as many draws suffice for a shuffle of the active view
+  module _ (few : ℕ) (short : few < 32) where
+    pub ok-send-shuffle-reply-with : (to len : ℕ) {r : Run} → (r .code ≡ 0 → len ≤ 32) → ((o : List Rec) → Good q t (m + 1) (r .station) o → length (r .station .active) - 1 ≤ few)
+        → Ok q t (m + 1) (b + crowd) (d + (31 + few)) r → Ok q t m b d (S.send-shuffle-reply to len r)
+    unfolding S.send-shuffle-reply S.reply-with S.send-filled S.fill-active R.draw-shuffle
+    ok-send-shuffle-reply-with to len {r} l f k =
+        let xs = R.shuffled (r .station .passive) r in
+        let w = R.draw-shuffle (r .station .passive) r in
+        let o : w .code ≡ 0 → r .code ≡ 0 = draw-fine _ r in
+        let c : w .code ≡ 0 → length (take len xs) ≤ 32 = (λ z. omega (arith, l (o z), length-cut-to len xs)) in
+        let j : Ok q t (m + 1) (b + crowd) (d + few) w = ok-draw-passive (ease (omega arith) (omega arith) (omega arith) k) in
+        let g : (o : List Rec) → Good q t (m + 1) (w .station) o → length (w .station .active) - 1 ≤ few =
+        subst (λ (s : Station). (o : List Rec) → Good q t (m + 1) s o → length (s .active) - 1 ≤ few) (sym (draw-station _ r)) f in
+        ok-either _
+        (ok-send-nodes to _ (λ z. omega (arith, l (o (draw-fine _ w z)), filled (take len xs) (R.shuffled (w .station .active) w) (length-cut-to len xs)))
+        (ok-draw _ (λ o h _. shuffle-costs few (R.to-draw w) (w .station .active) (g o h) short) j))
+        (ok-send-nodes to _ c (ease (omega arith) (omega arith) (omega arith) j))
+      where
+        filled : (ps ys : List ℕ) → length ps ≤ len → length (ps ++ take (len - length ps) ys) ≤ len
+        filled ps ys h = omega (arith, length-append ps (take (len - length ps) ys), length-cut-to (len - length ps) ys)
+
+  pub ok-send-shuffle-reply : (to len : ℕ) {r : Run} → (r .code ≡ 0 → len ≤ 32) → Ok q t (m + 1) (b + crowd) (d + 38) r → Ok q t m b d (S.send-shuffle-reply to len r)
+  ok-send-shuffle-reply to len l k =
+      ok-send-shuffle-reply-with 7 (omega arith) to len l (λ o g. omega (arith, g .seats .slots-left, g .still .ranges .few-slots)) (ease (omega arith) (omega arith) (omega arith) k)
+
+module _ {q : Fixed} {t : Terms} {m b d : ℕ} where
+  pub ok-send-disconnect-with : (few : ℕ) → few < 32 → (p : ℕ) (alive : Bool) {r : Run} → ((n : ℕ) (o : List Rec) → Good q t n (r .station) o → length (r .station .active) - 1 ≤ few)
+      → Ok q t (m + 2) (b + disconnecting) (d + (31 + few)) r → Ok q t m b d (S.send-disconnect p alive r)
   unfolding S.send-disconnect S.reply-length
-  ok-send-disconnect p alive {r} k =
+  ok-send-disconnect-with few short p alive {r} f k =
       ok-message _ bare refl (λ z o g w. no-node _ refl)
-      (ok-send-shuffle-reply p _ (ok-fact (λ o g w. omega (arith, g .still .ranges .few-active, g .still .ranges .few-passive)) k) (ease (omega arith) (omega arith) (omega arith) k))
+      (ok-send-shuffle-reply-with few short p _ (ok-fact (λ o g w. omega (arith, g .still .ranges .few-active, g .still .ranges .few-passive)) k) (λ o g. f _ o g) (ease (omega arith) (omega arith) (omega arith) k))
+
+  pub ok-send-disconnect : (p : ℕ) (alive : Bool) {r : Run} → Ok q t (m + 2) (b + disconnecting) (d + 38) r → Ok q t m b d (S.send-disconnect p alive r)
+  ok-send-disconnect p alive k =
+      ok-send-disconnect-with 7 (omega arith) p alive (λ n o g. omega (arith, g .seats .slots-left, g .still .ranges .few-slots)) (ease (omega arith) (omega arith) (omega arith) k)
 
   pub ok-tell-request : (p : ℕ) (high : Bool) (id : ℕ) {r : Run} → Ok q t (m + 1) (b + asking) d r → Ok q t m b d (S.tell-request p high id r)
   unfolding S.tell-request S.neighbor-to

@@ -4,8 +4,9 @@ use mathlib.Core.Path.{_≡_, refl, ap}
 use mathlib.Core.Bool.{true, false, not}
 use mathlib.Core.List.{List, [], _∷_}
 use mathlib.Core.Option.{Option, some}
-use Prim.Native.Nat.{ℕ, _+_, _*_, _≤_}
+use Prim.Native.Nat.{ℕ, _+_, _-_, _*_, _≤_}
 use native.Mathlib.Omega.{arith}
+use lib.ListN.{length}
 use lib.Dec.{eqb}
 use borrow.Author.Tests.{eq-eqb, eqb-true, eqb-false}
 use Rattle.base_lists.specs.Lists.{choose, count, subset}
@@ -33,7 +34,7 @@ use Rattle.spec_hyparview.proofs.Invariant.{Fixed, Terms, calm, Good, O
 use Rattle.spec_hyparview.proofs.Keeping.{ease, ok-if, ok-either, ok-on}
 use Rattle.spec_hyparview.proofs.Received.{ok-on-join, ok-on-forward-join, ok-on-shuffle, ok-on-shuffle-reply, ok-on-neighbor, ok-on-disconnect}
 use Rattle.spec_hyparview.proofs.Timed.{ok-neighbor-timer, ok-retry-join, ok-shuffle-timer, ok-maintenance-timer, ok-schedule-shuffle, ok-schedule-maintenance}
-use Rattle.spec_hyparview.proofs.Requested.{ok-handle-join, ok-closed, ok-update, ok-handle-pin, quitting, ok-handle-quit}
+use Rattle.spec_hyparview.proofs.Requested.{ok-handle-join, ok-closed, ok-update, ok-handle-pin, quitting, ok-handle-quit, ok-handle-quit-two}
 use Rattle.spec_hyparview.proofs.Reading.{Readable}
 
 -- n messages are enough for the event e at active capacity a: demand 3's numbers
@@ -56,8 +57,9 @@ some-message a m = by-choice (λ (w : ℕ). 1 ≤ w) (eqb m 0) (λ _. omega arit
 abbrev capacity : Fixed → ℕ
 capacity q = q .config-of .«active_view_capacity»
 
-module _ {q : Fixed} {n b d : ℕ} (e : Rec) (w : Readable e) (some-slot : 1 ≤ capacity q) (free : eqb (e .kind) (kind-byte DoMaintenance) ≡ true → q .alone-kept ≡ false) where
-  pub ok-handle-message : {r : Run} → message-number (capacity q) (e .message) ≤ n → Ok q calm n (b + (crowd + 32 * adding)) (d + 70) r → Ok q calm 0 b d (H.handle-message e r)
+-- `draws` are enough for each message that the event may be
+module _ {q : Fixed} {n b d draws : ℕ} (e : Rec) (w : Readable e) (arrivals : 40 ≤ draws) (shuffles : 38 + length (e .nodes) ≤ draws) (some-slot : 1 ≤ capacity q) (free : eqb (e .kind) (kind-byte DoMaintenance) ≡ true → q .alone-kept ≡ false) where
+  pub ok-handle-message : {r : Run} → message-number (capacity q) (e .message) ≤ n → Ok q calm n (b + (crowd + 32 * adding)) (d + draws) r → Ok q calm 0 b d (H.handle-message e r)
   unfolding H.handle-message message-number
   ok-handle-message p k =
       let one : 1 ≤ n = omega (arith, p, some-message (capacity q) (e .message)) in
@@ -72,7 +74,7 @@ module _ {q : Fixed} {n b d : ℕ} (e : Rec) (w : Readable e) (some-slot : 1 ≤
       ok-on-neighbor _ (w .narrow) _ (short e w) _ (ease (omega arith) (omega arith) (omega arith) k))
       (λ _. ok-on-disconnect _ _ (ease (omega arith) (omega arith) (omega arith) k))))))
 
-  module _ {r : Run} (no-quit : eqb (e .kind) (kind-byte Quit) ≡ false) (k : Ok q calm n (b + (crowd + 32 * adding)) (d + 70) r) where
+  module _ {r : Run} (no-quit : eqb (e .kind) (kind-byte Quit) ≡ false) (k : Ok q calm n (b + (crowd + 32 * adding)) (d + draws) r) where
     ok-kind : (j : EventKind) → e .kind ≡ kind-byte j → kind-number (capacity q) (e .message) (some j) ≤ n → Ok q calm 0 b d (H.handle-kind (some j) e r)
     unfolding H.handle-kind kind-number
     ok-kind Message z l = ok-handle-message l k
@@ -130,14 +132,15 @@ pub record Between (c : Config) (me : ℕ) (up : List ℕ) (sent allowed : ℕ) 
     alone-kept = false;
     draws-lent = [];
     room-lent = 0;
+    most-draws = 0;
   }) calm 0 s []
   pub law : Lawful s
   pub narrow : Narrow s
   pub covered : Covered s
 
--- an event e starts: n more messages are allowed, and a Quit starts with none up
-abbrev pub at-start : Config → ℕ → List ℕ → ℕ → ℕ → ℕ → List ℕ → ℕ → Rec → Fixed
-at-start c me up sent allowed alone draws room e = record {
+-- an event e starts: n more messages are allowed, and a Quit starts with none up; `most` draws may be used of those that every choice keeps
+abbrev pub at-start-with : ℕ → Config → ℕ → List ℕ → ℕ → ℕ → ℕ → List ℕ → ℕ → Rec → Fixed
+at-start-with most c me up sent allowed alone draws room e = record {
   up-of = choose (eqb (e .kind) (kind-byte Quit)) [] up;
   sent-of = sent;
   allowed = allowed;
@@ -147,12 +150,17 @@ at-start c me up sent allowed alone draws room e = record {
   alone-kept = not (eqb (e .kind) (kind-byte DoMaintenance));
   draws-lent = draws;
   room-lent = room;
+  most-draws = most;
 }
 
+-- 512 are enough for every event
+abbrev pub at-start : Config → ℕ → List ℕ → ℕ → ℕ → ℕ → List ℕ → ℕ → Rec → Fixed
+at-start c me up sent allowed alone draws room e = at-start-with 512 c me up sent allowed alone draws room e
+
 module _ {c : Config} {me : ℕ} {up : List ℕ} {sent allowed : ℕ} {s : Station} (n : ℕ) (ds : List ℕ) (room : ℕ) (e : Rec) (w : Readable e) (p : Pays (c .«active_view_capacity») n e) (h : Between c me up sent allowed s) where
-  pub start-plain : eqb (e .kind) (kind-byte Quit) ≡ false → Ok (at-start c me up sent (allowed + n) (s .passes-alone) ds room e) calm n 8192 512 (start s ds room)
+  start-plain-with : (most : ℕ) → eqb (e .kind) (kind-byte Quit) ≡ false → Ok (at-start-with most c me up sent (allowed + n) (s .passes-alone) ds room e) calm n 8192 most (start s ds room)
   unfolding up-after sent-after spell choose sure
-  start-plain f = record {
+  start-plain-with most f = record {
     good = λ z. record {
       told = [];
       spelled = refl;
@@ -170,9 +178,9 @@ module _ {c : Config} {me : ℕ} {up : List ℕ} {sent allowed : ℕ} {s : Stati
     codes = record { lent = refl; within = omega arith; space = refl; five = λ z. absurd (omega arith); roomy = λ z. absurd (omega arith); nine = λ z. absurd (omega arith); low = λ z. absurd (omega arith) };
   }
 
-  pub start-quit : eqb (e .kind) (kind-byte Quit) ≡ true → Ok (at-start c me up sent (allowed + n) (s .passes-alone) ds room e) (quitting (s .active)) 0 8192 512 (start s ds room)
+  start-quit-with : (most : ℕ) → eqb (e .kind) (kind-byte Quit) ≡ true → Ok (at-start-with most c me up sent (allowed + n) (s .passes-alone) ds room e) (quitting (s .active)) 0 8192 most (start s ds room)
   unfolding up-after sent-after spell choose count sure
-  start-quit f = record {
+  start-quit-with most f = record {
     good = λ z. record {
       told = [];
       spelled = refl;
@@ -193,10 +201,36 @@ module _ {c : Config} {me : ℕ} {up : List ℕ} {sent allowed : ℕ} {s : Stati
   some-slot : 1 ≤ c .«active_view_capacity»
   some-slot = omega (arith, h .core .still .ranges .some-slot, ap (λ (k : Config). k .«active_view_capacity») (h .core .still .fixed))
 
-  pub ok-steps : Ok (at-start c me up sent (allowed + n) (s .passes-alone) ds room e) calm 0 0 0 (steps e (start s ds room))
+  pub start-plain : eqb (e .kind) (kind-byte Quit) ≡ false → Ok (at-start c me up sent (allowed + n) (s .passes-alone) ds room e) calm n 8192 512 (start s ds room)
+  start-plain f = start-plain-with 512 f
+
+  pub start-quit : eqb (e .kind) (kind-byte Quit) ≡ true → Ok (at-start c me up sent (allowed + n) (s .passes-alone) ds room e) (quitting (s .active)) 0 8192 512 (start s ds room)
+  start-quit f = start-quit-with 512 f
+
+  abbrev Ended : ℕ → Type 0
+  Ended most = Ok (at-start-with most c me up sent (allowed + n) (s .passes-alone) ds room e) calm 0 0 0 (steps e (start s ds room))
+
+  -- 41 draws for an arrival or a shuffle's timer, 39 more than its nodes for a Shuffle; one of them is the first timer's
+  pub ok-plain : (most : ℕ) → 41 ≤ most → 39 + length (e .nodes) ≤ most → eqb (e .kind) (kind-byte Quit) ≡ false → Ended most
   unfolding steps
+  ok-plain most l k f =
+      ok-forget-declined (ok-first-timers (ok-dispatch {draws = most - 1} e w (omega arith) (omega arith) some-slot (λ z. rw z) f (ease (omega arith) (omega arith) (omega arith) (start-plain-with most f)) p))
+
+  -- 38 for each neighbour that is left
+  pub ok-quit : (most : ℕ) → 305 ≤ most → eqb (e .kind) (kind-byte Quit) ≡ true → Ended most
+  unfolding steps
+  ok-quit most l f =
+      ok-forget-declined (ok-first-timers (rw (quit-dispatch e f (start s ds room))
+      (ok-handle-quit (omega (arith, h .core .seats .slots-left, h .core .still .ranges .few-slots)) (ease (omega arith) (omega arith) (omega arith) (start-quit-with most f)))))
+
+  -- 31 for each of two, as one neighbour and none are not shuffled
+  pub ok-quit-two : (most : ℕ) → 63 ≤ most → length (s .active) ≤ 2 → eqb (e .kind) (kind-byte Quit) ≡ true → Ended most
+  unfolding steps
+  ok-quit-two most l two f =
+      ok-forget-declined (ok-first-timers (rw (quit-dispatch e f (start s ds room))
+      (ok-handle-quit-two refl two (ease (omega arith) (omega arith) (omega arith) (start-quit-with most f)))))
+
+  pub ok-steps : Ended 512
   ok-steps =
-      ok-forget-declined (ok-first-timers (split (eqb (e .kind) (kind-byte Quit))
-      (λ f. rw (quit-dispatch e f (start s ds room))
-      (ok-handle-quit (omega (arith, h .core .seats .slots-left, h .core .still .ranges .few-slots)) (ease (omega arith) (omega arith) (omega arith) (start-quit f))))
-      (λ f. ok-dispatch e w some-slot (λ z. rw z) f (ease (omega arith) (omega arith) (omega arith) (start-plain f)) p)))
+      split (eqb (e .kind) (kind-byte Quit)) (λ f. ok-quit 512 (omega arith) f)
+      (λ f. ok-plain 512 (omega arith) (let k = w .few in omega arith) f)

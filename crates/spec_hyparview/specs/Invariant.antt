@@ -123,7 +123,8 @@ pub data AllSound : List Rec → Type 0 where
 -- The invariant
 
 -- what stays as it is during an event: the peers up and the messages sent at its start, those allowed at its end, settings, self,
--- the passes alone and whether they stay (only a maintenance timer changes them), and what is lent
+-- the passes alone and whether they stay (only a maintenance timer changes them), what is lent, and how many draws may be used of those
+-- that every choice keeps
 pub record Fixed : Type 0 where
   pub up-of : List ℕ
   pub sent-of : ℕ
@@ -134,6 +135,7 @@ pub record Fixed : Type 0 where
   pub alone-kept : Bool
   pub draws-lent : List ℕ
   pub room-lent : ℕ
+  pub most-draws : ℕ
 
 -- what a step in the middle of an event may count on
 --   guest    peers that are neither active nor the station, about to become active
@@ -220,7 +222,7 @@ Good q t m s o =
 abbrev pub spent : Run → ℕ
 spent r = sure (take (r .used) (r .draws))
 
--- the bytes written are those of some records, which the rest speaks of; b bytes are left of 8,192, and of such draws d of 512
+-- the bytes written are those of some records, which the rest speaks of; b bytes are left of 8,192, and d of such draws
 pub record Told (q : Fixed) (t : Terms) (m b d : ℕ) (s : Station) (out : List ℕ) (drawn : ℕ) : Type 0 where
   pub told : List Rec
   pub spelled : out ≡ spell told
@@ -228,7 +230,7 @@ pub record Told (q : Fixed) (t : Terms) (m b d : ℕ) (s : Station) (out : List 
   pub core : Good q t m s told
   pub law : Lawful s
   pub bytes-left : length out + b ≤ 8192
-  pub draws-left : drawn + d ≤ 512
+  pub draws-left : drawn + d ≤ q .most-draws
 
 -- the lists that choices are made from are short
 pub record Roomy (s : Station) : Type 0 where
@@ -241,7 +243,7 @@ pub record Codes (q : Fixed) (r : Run) : Type 0 where
   pub lent : r .draws ≡ q .draws-lent
   pub within : r .used ≤ length (q .draws-lent)
   pub space : r .room ≡ q .room-lent
-  pub five : r .code ≡ 5 → sure (q .draws-lent) < 512
+  pub five : r .code ≡ 5 → sure (q .draws-lent) < q .most-draws
   pub roomy : r .code ≡ 5 → Roomy (r .station)
   pub nine : r .code ≡ 9 → q .room-lent < 8192
   pub low : 1 ≤ r .code → 5 ≤ r .code

@@ -12,6 +12,7 @@ pub mod Events
 pub mod Timers
 pub mod Rules
 pub mod Handle
+pub mod Sides
 pub mod Written
 pub mod Evictions
 pub mod Traced
