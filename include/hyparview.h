@@ -55,7 +55,7 @@ extern "C" {
 /* ---- The version: raised where records, words, codes or functions become others. A station that is linked apart from this
  * header compares it with what hyparview_version answers. */
 
-#define HYPARVIEW_VERSION 2 /* 1 had no pins */
+#define HYPARVIEW_VERSION 3 /* 1 had no pins, 1 and 2 named no side */
 
 /* ---- Sizes */
 
@@ -63,7 +63,9 @@ extern "C" {
 #define HYPARVIEW_WORDS 559 /* uint64_t state[HYPARVIEW_WORDS], 4,472 bytes */
 /* end */
 #define HYPARVIEW_OUTPUT 8192 /* bytes of output that suffice for every event, which is proved */
-#define HYPARVIEW_DRAWS 512   /* draws that suffice for every event if they are below 2^32 - 32, which is proved */
+#define HYPARVIEW_DRAWS 512   /* draws that suffice from the wired side if they are below 2^32 - 32, which is proved */
+#define HYPARVIEW_RADIO_NODES 8  /* nodes that an event from the radio side may have */
+#define HYPARVIEW_RADIO_DRAWS 64 /* draws that are read for it, of those lent the first */
 #define HYPARVIEW_STACK 16384 /* bytes of stack that suffice for a call, the red zone included, interrupts not */
 
 /* ---- Refusals
@@ -77,12 +79,13 @@ extern "C" {
 #define HYPARVIEW_CODE_STATE 2     /* the words are not HYPARVIEW_WORDS, or break a station rule */
 #define HYPARVIEW_CODE_EVENT 3     /* the event record is malformed */
 #define HYPARVIEW_CODE_NODES 4     /* the event has more than 32 nodes */
-#define HYPARVIEW_CODE_DRAWS 5     /* a draw is needed and none is left: lend HYPARVIEW_DRAWS, or others */
+#define HYPARVIEW_CODE_DRAWS 5     /* a draw is needed and none that may be read is left: lend HYPARVIEW_DRAWS, or others */
 #define HYPARVIEW_CODE_REQUESTS 6  /* a 33rd request to a peer would be open */
 #define HYPARVIEW_CODE_REFUSERS 7  /* a 33rd peer that refused would be noted */
 #define HYPARVIEW_CODE_DATA 8      /* data of an 81st peer would be held: never answered, as such words are met with 2 */
 #define HYPARVIEW_CODE_OUTPUT 9    /* a record does not fit into the output: lend HYPARVIEW_OUTPUT */
 #define HYPARVIEW_CODE_COUNTER 10  /* a counter is at its top */
+#define HYPARVIEW_CODE_RADIO_NODES 16  /* the event is from the radio side and has 9 to 32 nodes */
 #define HYPARVIEW_CODE_PIN_STRANGER 17 /* the peer to be pinned is no neighbour */
 #define HYPARVIEW_CODE_PIN_LIMIT 18    /* active_view_capacity - 1 neighbours are pinned, and the peer is none of them */
 
@@ -98,7 +101,7 @@ extern "C" {
  *     join.peer = 7;
  *     join.size = HYPARVIEW_HEADER;
  *     hyparview_write_header(event, join);
- *     hyparview_handle(state, HYPARVIEW_WORDS, &tally, event, sizeof event, ...)
+ *     hyparview_handle(state, HYPARVIEW_WORDS, &tally, false, event, sizeof event, ...)
  *
  *     bytes   field    what it is
  *     0       kind     below
@@ -403,11 +406,17 @@ uint32_t hyparview_new(uint64_t *state, size_t words, struct hyparview_tally *ta
  * can foresee the draws can foresee the choices. The first `done.draws` of them are used up. A choice passes over draws near
  * 2^32, so that all items have equal chances; of HYPARVIEW_DRAWS even draws too many are passed over with a chance below
  * 2^-5000 (docs/FORMAT.md works it out): then the code is HYPARVIEW_CODE_DRAWS, and the same event may be brought again
- * with others. Of several reasons to refuse the first holds: 2; 3 for under 32 bytes; 4; 3; then of 5 to 10 what the steps
- * meet first, and of a pin 17 and then 18. */
-struct hyparview_done hyparview_handle(uint64_t *state, size_t words, struct hyparview_tally *tally, const uint8_t *event,
-                                       size_t event_len, const uint32_t *draws, size_t draws_len, uint8_t *out,
-                                       size_t out_len);
+ * with others. Of several reasons to refuse the first holds: 2; 3 for under 32 bytes; 4; 16; 3; then of 5 to 10 what the
+ * steps meet first, and of a pin 17 and then 18.
+ *
+ * `radio` names the side that the event comes from: false for the wired one. From the radio side an event of 9 to 32 nodes is
+ * answered HYPARVIEW_CODE_RADIO_NODES, and only the first HYPARVIEW_RADIO_DRAWS draws are read, however many are lent. An
+ * event of at most 8 nodes that takes at most 64 draws is answered alike from either side, every byte of it, and 64 draws
+ * below 2^32 - 32 suffice for every such event but a Quit with three neighbours or more; both are proved. What is answered
+ * HYPARVIEW_CODE_DRAWS with 64 draws lent is to be brought again with others, or from the wired side. */
+struct hyparview_done hyparview_handle(uint64_t *state, size_t words, struct hyparview_tally *tally, bool radio,
+                                       const uint8_t *event, size_t event_len, const uint32_t *draws, size_t draws_len,
+                                       uint8_t *out, size_t out_len);
 
 /* Whether a connection to the peer is wanted: it is a neighbour, or its reply to a Neighbor or a Join is awaited. Ask it
  * before an idle connection is closed. This and the four below write nothing, and say no, 0, of words that are no station. */

@@ -1,6 +1,6 @@
 /* The exported functions one by one, in C and in C++: hyparview_new with own data and with settings about their ranges,
- * lengths that are none, numbers that agree in a half, pins, NULL with length 0, outputs and draws that are too short, and
- * that nothing else is written. It stops with 1 at the first fault.
+ * lengths that are none, numbers that agree in a half, pins, both sides, NULL with length 0, outputs and draws that are too
+ * short, and that nothing else is written. It stops with 1 at the first fault.
  *
  * usage: calls FILE    rows of four words by tools/make/record_vectors.py: whether own data is present, its bytes after an x, the
  *                      code of hyparview_new, and after an x the output of RequestJoin 7 at self 1 with a draw of 0 */
@@ -89,8 +89,8 @@ static struct hyparview_done handle(const struct event *e, size_t draws, size_t 
 {
     struct event copy = *e;
     memset(lent.out, FILLER, sizeof lent.out);
-    struct hyparview_done done = hyparview_handle(lent.state, HYPARVIEW_WORDS, &lent.tally, copy.bytes, sizeof copy.bytes,
-                                                  zeroes, draws, lent.out, room);
+    struct hyparview_done done = hyparview_handle(lent.state, HYPARVIEW_WORDS, &lent.tally, false, copy.bytes,
+                                                  sizeof copy.bytes, zeroes, draws, lent.out, room);
     CHECK(guarded() && memcmp(&copy, e, sizeof copy) == 0 && all(lent.out + room, sizeof lent.out - room, FILLER));
     if (done.code != HYPARVIEW_ACCEPTED)
         CHECK(left() && done.draws == 0 && all(lent.out, room, 0));
@@ -214,8 +214,8 @@ static void lengths(void)
         begin();
         CHECK(hyparview_new(lent.state, wrong[i], &lent.tally, 2, 0, none, 0, defaults) == HYPARVIEW_CODE_STATE && left());
         lent.tally.join = kept.tally.join = 5;
-        struct hyparview_done done = hyparview_handle(lent.state, wrong[i], &lent.tally, join.bytes, sizeof join.bytes,
-                                                      zeroes, HYPARVIEW_DRAWS, lent.out, sizeof lent.out);
+        struct hyparview_done done = hyparview_handle(lent.state, wrong[i], &lent.tally, false, join.bytes,
+                                                      sizeof join.bytes, zeroes, HYPARVIEW_DRAWS, lent.out, sizeof lent.out);
         CHECK(done.code == HYPARVIEW_CODE_STATE && done.draws == 0 && left() && guarded());
         CHECK(all(lent.out, sizeof lent.out, 0));
         CHECK(!hyparview_is_neighbor(lent.state, wrong[i], 0) && !hyparview_wants_connection(lent.state, wrong[i], 0));
@@ -252,8 +252,8 @@ static uint32_t arrive(uint64_t peer)
     h.size = sizeof neighbor;
     hyparview_write_header(neighbor, h);
     hyparview_write_node(neighbor + HYPARVIEW_HEADER, absent);
-    return hyparview_handle(lent.state, HYPARVIEW_WORDS, &lent.tally, neighbor, sizeof neighbor, zeroes, HYPARVIEW_DRAWS,
-                            lent.out, sizeof lent.out).code;
+    return hyparview_handle(lent.state, HYPARVIEW_WORDS, &lent.tally, false, neighbor, sizeof neighbor, zeroes,
+                            HYPARVIEW_DRAWS, lent.out, sizeof lent.out).code;
 }
 
 /* ---- numbers of 64 bits (02, S-8) */
@@ -312,6 +312,126 @@ static void pins(void)
     CHECK(pin(19) == HYPARVIEW_ACCEPTED && pin(9) == HYPARVIEW_CODE_PIN_STRANGER);
 }
 
+/* ---- the two sides (02, S-12) */
+
+static uint8_t bytes[HYPARVIEW_RECORD];
+
+/* A message from the peer 50 with as many nodes without data, from 10 on; its length. */
+static size_t message(uint8_t name, uint8_t ttl, uint8_t nodes)
+{
+    struct hyparview_header h;
+    struct hyparview_entry absent;
+    memset(&h, 0, sizeof h);
+    memset(&absent, 0, sizeof absent);
+    h.message = name;
+    h.nodes = nodes;
+    h.peer = 50;
+    h.second = name == HYPARVIEW_MESSAGE_SHUFFLE ? 51 : 0;
+    h.ttl = ttl;
+    h.size = (uint32_t)(HYPARVIEW_HEADER + HYPARVIEW_NODE * nodes);
+    hyparview_write_header(bytes, h);
+    for (uint8_t i = 0; i < nodes; i++) {
+        absent.id = 10u + i;
+        hyparview_write_node(bytes + HYPARVIEW_HEADER + HYPARVIEW_NODE * i, absent);
+    }
+    return h.size;
+}
+
+/* A call from a side at the state that is kept. */
+static struct hyparview_done from(bool radio, const uint8_t *e, size_t len, const uint32_t *draws, size_t count)
+{
+    memcpy(&lent, &kept, sizeof lent);
+    struct hyparview_done done = hyparview_handle(lent.state, HYPARVIEW_WORDS, &lent.tally, radio, e, len, draws, count,
+                                                  lent.out, sizeof lent.out);
+    CHECK(guarded());
+    if (done.code != HYPARVIEW_ACCEPTED)
+        CHECK(left() && done.draws == 0 && all(lent.out, sizeof lent.out, 0));
+    return done;
+}
+
+/* From either side the same code, draws, words, counts and bytes. */
+static uint32_t alike(const uint8_t *e, size_t len, const uint32_t *draws, size_t count)
+{
+    static uint8_t wired[sizeof lent];
+    struct hyparview_done one = from(false, e, len, draws, count);
+    memcpy(wired, &lent, sizeof lent);
+    struct hyparview_done two = from(true, e, len, draws, count);
+    CHECK(one.code == two.code && one.draws == two.draws && memcmp(wired, &lent, sizeof lent) == 0);
+    return one.code;
+}
+
+/* Byte 3 decides, whatever the kind is and whatever else is wrong, but for words that are no station and for 31 bytes. */
+static void nodes_from_radio(void)
+{
+    uint8_t e[HYPARVIEW_HEADER] = {0};
+    for (unsigned kind = 0; kind < 256; kind++)
+        for (unsigned n = 0; n < 256; n++) {
+            e[0] = (uint8_t)kind;
+            e[3] = (uint8_t)n;
+            if (n <= HYPARVIEW_RADIO_NODES) {
+                alike(e, sizeof e, zeroes, HYPARVIEW_DRAWS);
+                continue;
+            }
+            CHECK(from(true, e, sizeof e, zeroes, HYPARVIEW_DRAWS).code ==
+                  (n <= 32 ? HYPARVIEW_CODE_RADIO_NODES : HYPARVIEW_CODE_NODES));
+            CHECK(from(false, e, sizeof e, zeroes, HYPARVIEW_DRAWS).code ==
+                  (n <= 32 ? HYPARVIEW_CODE_EVENT : HYPARVIEW_CODE_NODES));
+        }
+    e[3] = 9;
+    CHECK(from(true, e, sizeof e - 1, zeroes, HYPARVIEW_DRAWS).code == HYPARVIEW_CODE_EVENT);
+    kept.state[HYPARVIEW_WORD_ACTIVE_VIEW_CAPACITY] = 0;
+    CHECK(from(true, e, sizeof e, zeroes, HYPARVIEW_DRAWS).code == HYPARVIEW_CODE_STATE);
+    kept.state[HYPARVIEW_WORD_ACTIVE_VIEW_CAPACITY] = defaults.active_view_capacity;
+}
+
+/* A Shuffle that goes on to one of three neighbours passes over 2^32 - 1: with 63 of them before a 0 the choice takes 64 draws,
+ * with 64 of them the 65th, which is not read from the radio side. */
+static void draws_from_radio(void)
+{
+    uint32_t draws[HYPARVIEW_DRAWS];
+    size_t len = message(HYPARVIEW_MESSAGE_SHUFFLE, 3, HYPARVIEW_RADIO_NODES);
+    memset(draws, 0, sizeof draws);
+    memset(draws, 0xff, 63 * sizeof draws[0]);
+    CHECK(from(false, bytes, len, draws, HYPARVIEW_DRAWS).draws == HYPARVIEW_RADIO_DRAWS);
+    CHECK(alike(bytes, len, draws, HYPARVIEW_RADIO_DRAWS) == HYPARVIEW_ACCEPTED);
+    CHECK(alike(bytes, len, draws, HYPARVIEW_DRAWS) == HYPARVIEW_ACCEPTED);
+    CHECK(alike(bytes, len, draws, 63) == HYPARVIEW_CODE_DRAWS);
+    memset(draws, 0xff, 64 * sizeof draws[0]);
+    CHECK(from(false, bytes, len, draws, HYPARVIEW_DRAWS).draws == 65);
+    for (size_t count = 64; count <= HYPARVIEW_DRAWS; count++)
+        CHECK(from(true, bytes, len, draws, count).code == HYPARVIEW_CODE_DRAWS);
+}
+
+/* With three neighbours and 30 spare addresses a Quit takes 87 draws, which the radio side does not read; with two it is
+ * answered from either side, as is every other event. */
+static void sides(void)
+{
+    const struct event quit = event(HYPARVIEW_KIND_QUIT, 0);
+    const struct event closed = event(HYPARVIEW_KIND_PEER_DISCONNECTED, 3);
+    begin();
+    CHECK(arrive(3) == HYPARVIEW_ACCEPTED && arrive(4) == HYPARVIEW_ACCEPTED && arrive(5) == HYPARVIEW_ACCEPTED);
+    memcpy(&kept, &lent, sizeof kept);
+    nodes_from_radio();
+    draws_from_radio();
+    size_t len = message(HYPARVIEW_MESSAGE_SHUFFLE_REPLY, 0, 30);
+    CHECK(from(true, bytes, len, zeroes, HYPARVIEW_DRAWS).code == HYPARVIEW_CODE_RADIO_NODES);
+    CHECK(from(false, bytes, len, zeroes, HYPARVIEW_DRAWS).code == HYPARVIEW_ACCEPTED);
+    CHECK(hyparview_spare_addresses(lent.state, HYPARVIEW_WORDS) == 30);
+    memcpy(&kept, &lent, sizeof kept);
+    for (uint8_t name = 0; name <= HYPARVIEW_MESSAGE_DISCONNECT; name++)
+        for (uint8_t nodes = 0; nodes <= HYPARVIEW_RADIO_NODES; nodes++)
+            for (uint8_t ttl = 0; ttl < 8; ttl++)
+                alike(bytes, message(name, ttl, nodes), zeroes, HYPARVIEW_DRAWS);
+    for (uint8_t kind = HYPARVIEW_KIND_DO_SHUFFLE; kind < HYPARVIEW_KIND_QUIT; kind++)
+        alike(event(kind, kind < 3 ? 0 : 4).bytes, HYPARVIEW_HEADER, zeroes, HYPARVIEW_DRAWS);
+    CHECK(from(true, quit.bytes, sizeof quit.bytes, zeroes, HYPARVIEW_DRAWS).code == HYPARVIEW_CODE_DRAWS);
+    CHECK(from(false, quit.bytes, sizeof quit.bytes, zeroes, 86).code == HYPARVIEW_CODE_DRAWS);
+    CHECK(from(false, quit.bytes, sizeof quit.bytes, zeroes, HYPARVIEW_DRAWS).draws == 87);
+    CHECK(from(false, closed.bytes, sizeof closed.bytes, zeroes, HYPARVIEW_DRAWS).code == HYPARVIEW_ACCEPTED);
+    memcpy(&kept, &lent, sizeof kept);
+    CHECK(alike(quit.bytes, sizeof quit.bytes, zeroes, HYPARVIEW_DRAWS) == HYPARVIEW_ACCEPTED);
+}
+
 /* ---- the version and the allowance */
 
 static void allowances(void)
@@ -336,14 +456,15 @@ static void nulls(void)
     const uint8_t *e = closed.bytes;
     begin();
     CHECK(hyparview_new(NULL, 0, &lent.tally, 1, 0, NULL, 0, defaults) == HYPARVIEW_CODE_STATE && left());
-    CHECK(hyparview_handle(NULL, 0, &lent.tally, NULL, 0, NULL, 0, NULL, 0).code == HYPARVIEW_CODE_STATE && left());
-    CHECK(hyparview_handle(lent.state, HYPARVIEW_WORDS, &lent.tally, NULL, 0, NULL, 0, NULL, 0).code == HYPARVIEW_CODE_EVENT);
-    CHECK(hyparview_handle(lent.state, HYPARVIEW_WORDS, &lent.tally, e, sizeof closed.bytes, NULL, 0, lent.out, 8).code ==
-              HYPARVIEW_CODE_DRAWS && left());
-    CHECK(hyparview_handle(lent.state, HYPARVIEW_WORDS, &lent.tally, e, sizeof closed.bytes, zeroes, 1, NULL, 0).code ==
-              HYPARVIEW_CODE_OUTPUT && left());
+    CHECK(hyparview_handle(NULL, 0, &lent.tally, false, NULL, 0, NULL, 0, NULL, 0).code == HYPARVIEW_CODE_STATE && left());
+    CHECK(hyparview_handle(lent.state, HYPARVIEW_WORDS, &lent.tally, false, NULL, 0, NULL, 0, NULL, 0).code ==
+          HYPARVIEW_CODE_EVENT);
+    CHECK(hyparview_handle(lent.state, HYPARVIEW_WORDS, &lent.tally, false, e, sizeof closed.bytes, NULL, 0, lent.out, 8)
+                  .code == HYPARVIEW_CODE_DRAWS && left());
+    CHECK(hyparview_handle(lent.state, HYPARVIEW_WORDS, &lent.tally, false, e, sizeof closed.bytes, zeroes, 1, NULL, 0)
+                  .code == HYPARVIEW_CODE_OUTPUT && left());
     CHECK(handle(&join, 1, sizeof lent.out).code == HYPARVIEW_ACCEPTED);
-    CHECK(hyparview_handle(lent.state, HYPARVIEW_WORDS, &lent.tally, e, sizeof closed.bytes, NULL, 0, NULL, 0).code ==
+    CHECK(hyparview_handle(lent.state, HYPARVIEW_WORDS, &lent.tally, false, e, sizeof closed.bytes, NULL, 0, NULL, 0).code ==
           HYPARVIEW_ACCEPTED);
     CHECK(make(1, NULL, 0, defaults) == HYPARVIEW_ACCEPTED && is_new(true, NULL, 0) && guarded());
     CHECK(!hyparview_wants_connection(NULL, 0, 0) && !hyparview_is_neighbor(NULL, 0, 0));
@@ -366,8 +487,10 @@ int main(int argc, char **argv)
     shortness();
     numbers();
     pins();
+    sides();
     allowances();
     nulls();
-    printf("calls: %ld checks: new with own data, settings, lengths, 64-bit numbers, pins, the allowance, NULL, short outputs\n", checks);
+    printf("calls: %ld checks: new with own data, settings, lengths, 64-bit numbers, pins, two sides, the allowance, NULL, "
+           "short outputs\n", checks);
     return 0;
 }

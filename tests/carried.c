@@ -55,7 +55,7 @@ static uint32_t call(size_t words, uint8_t kind, uint64_t peer, size_t size)
     memcpy(kept, state, sizeof state);
     counted = tally;
     struct hyparview_done done =
-        hyparview_handle(state, words, &tally, event, size, draws, HYPARVIEW_DRAWS, out, HYPARVIEW_OUTPUT);
+        hyparview_handle(state, words, &tally, false, event, size, draws, HYPARVIEW_DRAWS, out, HYPARVIEW_OUTPUT);
     if (done.code != HYPARVIEW_ACCEPTED)
         CHECK(memcmp(kept, state, sizeof state) == 0 && memcmp(&counted, &tally, sizeof tally) == 0 && done.draws == 0);
     return done.code;

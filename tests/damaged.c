@@ -45,7 +45,7 @@ static uint32_t call(size_t lent, const uint8_t *event, size_t len)
     memcpy(&tally_before, &tally, sizeof tally);
     memset(out, 0xa5, sizeof out);
     struct hyparview_done done =
-        hyparview_handle(words, lent, &tally, event, len, draws, HYPARVIEW_DRAWS, out, sizeof out);
+        hyparview_handle(words, lent, &tally, false, event, len, draws, HYPARVIEW_DRAWS, out, sizeof out);
     if (done.code == HYPARVIEW_ACCEPTED)
         return memcmp(before + lent, words + lent, (ROOM - lent) * sizeof words[0]) == 0 ? 0 : 99;
     bool left = memcmp(before, words, sizeof words) == 0 && memcmp(&tally_before, &tally, sizeof tally) == 0;

@@ -302,7 +302,7 @@ static long run_history(size_t n, size_t room, const char *counters)
         size_t size = hyparview_record_size(input + at);
         memset(out, 0xff, sizeof out);
         struct hyparview_done done =
-            hyparview_handle(state, HYPARVIEW_WORDS, &tally, input + at, size, draw, left, out, room);
+            hyparview_handle(state, HYPARVIEW_WORDS, &tally, false, input + at, size, draw, left, out, room);
         meet_records(room, sent);
         meet_code(done.code, done.draws);
         put_state();

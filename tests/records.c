@@ -45,8 +45,8 @@ int main(void)
             printf(" a node too many");
         if (hyparview_new(state, HYPARVIEW_WORDS, &tally, 1000, 0, NULL, 0, config) != HYPARVIEW_ACCEPTED)
             return 1;
-        printf(" code %u\n", hyparview_handle(state, HYPARVIEW_WORDS, &tally, record, len, draws, HYPARVIEW_DRAWS, out,
-                                              sizeof out).code);
+        printf(" code %u\n", hyparview_handle(state, HYPARVIEW_WORDS, &tally, false, record, len, draws, HYPARVIEW_DRAWS,
+                                              out, sizeof out).code);
         records++;
     }
     return records == 0;

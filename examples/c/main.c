@@ -53,7 +53,8 @@ static uint32_t answer(size_t len)
 {
     struct hyparview_done done = {HYPARVIEW_CODE_DRAWS, 0};
     for (int i = 0; i < TRIES && done.code == HYPARVIEW_CODE_DRAWS; i++) {
-        done = hyparview_handle(state, HYPARVIEW_WORDS, &tally, event, len, draws, HYPARVIEW_DRAWS, out, sizeof out);
+        done = hyparview_handle(state, HYPARVIEW_WORDS, &tally, false, event, len, draws, HYPARVIEW_DRAWS, out,
+                                sizeof out);
         draw(done.code == HYPARVIEW_CODE_DRAWS ? HYPARVIEW_DRAWS : done.draws);
     }
     return done.code;

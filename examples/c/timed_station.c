@@ -38,7 +38,7 @@ static const uint32_t *draws(void)
 static void handle(const uint8_t *event, size_t len)
 {
     struct hyparview_done done =
-        hyparview_handle(state, HYPARVIEW_WORDS, &tally, event, len, draws(), HYPARVIEW_DRAWS, out, sizeof out);
+        hyparview_handle(state, HYPARVIEW_WORDS, &tally, false, event, len, draws(), HYPARVIEW_DRAWS, out, sizeof out);
     if (done.code != HYPARVIEW_ACCEPTED)
         stop("an event is refused", done.code);
     uint32_t code = timer_map_insert_records(queue, TIMER_MAP_WORDS, clock_ms, out, sizeof out);

@@ -4,7 +4,7 @@
 
 use std::mem::{offset_of, size_of};
 
-pub const VERSION: u32 = 2;
+pub const VERSION: u32 = 3;
 // The words of a state, by tools/make/layout.py
 pub const WORDS: usize = 559;
 // end
@@ -123,6 +123,7 @@ extern "C" {
         state: *mut u64,
         words: usize,
         tally: *mut Tally,
+        radio: bool,
         event: *const u8,
         event_len: usize,
         draws: *const u32,
@@ -179,7 +180,7 @@ impl Station {
         }
     }
 
-    /// One event.
+    /// One event from the wired side.
     pub fn handle(&mut self, event: &[u8], draws: &[u32], out: &mut [u8]) -> Done {
         // SAFETY: each pointer is a reference's or a slice's, and what is written is borrowed alone.
         unsafe {
@@ -187,6 +188,7 @@ impl Station {
                 self.words.as_mut_ptr(),
                 WORDS,
                 &mut self.tally,
+                false,
                 event.as_ptr(),
                 event.len(),
                 draws.as_ptr(),

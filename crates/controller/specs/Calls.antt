@@ -12,16 +12,17 @@ use Rattle.base_lists.specs.Lists.{choose}
 use Rattle.base_lists.specs.Lent.{Lent}
 use Rattle.base_timing.specs.declared.Config.{Config}
 use Rattle.base_peer.specs.Data.{Data}
+use Rattle.spec_hyparview.specs.Sides.{Side}
 use Rattle.tally.specs.declared.Tally.{Tally}
 use Rattle.tally.specs.Counts.{raised}
 use Rattle.tally.specs.History.{no-messages}
 use Rattle.hyparview.specs.Made.{lent, MadeWords, made}
-use Rattle.hyparview.specs.Handled.{Outcome, handled}
+use Rattle.hyparview.specs.Handled.{Outcome, handled-from}
 use Rattle.hyparview.specs.declared.Done.{Done}
 
 -- the header that the library goes with
 abbrev pub version : ℕ
-version = 2
+version = 3
 
 -- what `hyparview_new` hands back, and the words and the tally as it leaves them
 pub record Begun : Type 0 where
@@ -49,9 +50,9 @@ pub record Called : Type 0 where
 unfoldable pub tallied : Tally → Outcome → Called
 tallied t o = record { code = o .code; draws = o .draws; words = o .words; tally = raised (o .code) (o .output) t; output = o .output }
 
--- `hyparview_handle` at the words xs and the tally t, with as many bytes of output; that a refusal leaves both as they were is claimed in spec_demand_calls/Refusal
-unfoldable pub called : List ℕ → Tally → List ℕ → List ℕ → ℕ → Called
-called xs t b ds room = tallied t (handled xs b ds room)
+-- `hyparview_handle` from a side, at the words xs and the tally t, with as many bytes of output; that a refusal leaves both as they were is claimed in spec_demand_calls/Refusal
+unfoldable pub called : Side → List ℕ → Tally → List ℕ → List ℕ → ℕ → Called
+called side xs t b ds room = tallied t (handled-from side xs b ds room)
 
 -- ---- as a contract says it, of the parameters themselves
 
@@ -66,7 +67,7 @@ abbrev pub LentTally : Type 0
 LentTally = Both (RefT Tally) (RefT Tally)
 
 -- all that the call leaves is as `called` says
-abbrev pub CallsHandle : Done → Lent → LentTally → Lent → Lent → Lent → Type 0
-CallsHandle r st t event ds out =
+abbrev pub CallsHandle : Side → Done → Lent → LentTally → Lent → Lent → Lent → Type 0
+CallsHandle side r st t event ds out =
     record { code = r .code; draws = r .draws; words = st .exit .now; tally = t .exit .now; output = out .exit .now }
-    ≡ called (st .entry .now) (t .entry .now) (event .entry .now) (ds .entry .now) (length (out .entry .now))
+    ≡ called side (st .entry .now) (t .entry .now) (event .entry .now) (ds .entry .now) (length (out .entry .now))

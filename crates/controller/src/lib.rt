@@ -9,6 +9,7 @@ use tally::Tally;
 ghost use mathlib.Core.Path.{_≡_};
 ghost use lib.ListN.{length, getD};
 ghost use Rattle.tally.specs.History.{no-messages};
+ghost use Rattle.spec_hyparview.specs.Sides.{side-of};
 ghost use Rattle.hyparview.specs.Queries.{wants-connection-in, is-neighbor-in, neighbors-in, spare-addresses-in};
 ghost use Rattle.controller.specs.Calls.{version, CallsNew, CallsHandle};
 ghost use Rattle.controller.specs.Reader.{no-header, reading, no-entry, node-reading};
@@ -34,7 +35,7 @@ pub struct NodeReading {
 }
 
 // Raised where records, words, codes or functions become other than a caller's header says.
-pub const VERSION: u32 = 2;
+pub const VERSION: u32 = 3;
 
 // Which header the library goes with.
 #[no_mangle]
@@ -44,18 +45,19 @@ pub extern "C" fn hyparview_version() -> u32
     VERSION
 }
 
-// One event: the whole result, or one numbered refusal that leaves every word and count as it was.
+// One event from the side that is named: the whole result, or one numbered refusal that leaves every word and count as it was.
 #[no_mangle]
 pub extern "C" fn hyparview_handle(
     st: &mut [u64],
     t: &mut Tally,
+    radio: bool,
     event: &[u8],
     draws: &[u32],
     out: &mut [u8],
 ) -> Done
-    ensures { λ r. ⌜ CallsHandle r st t event draws out ⌝ }
+    ensures { λ r. ⌜ CallsHandle (side-of radio) r st t event draws out ⌝ }
 {
-    let r = hyparview::handle(st, event, draws, out);
+    let r = hyparview::handle_from(st, radio, event, draws, out);
     tally::raise(t, r.code, out);
     r
 }

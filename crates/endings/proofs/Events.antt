@@ -30,7 +30,8 @@ use Rattle.hyparview.specs.declared.State.{State}
 use Rattle.hyparview.specs.declared.MadeState.{MadeState}
 use Rattle.hyparview.specs.declared.HandledState.{HandledState}
 use Rattle.hyparview.specs.Made.{MadeWords, lent, pack-made}
-use Rattle.hyparview.specs.Handled.{Outcome, handled}
+use Rattle.spec_hyparview.specs.Sides.{handle-from}
+use Rattle.hyparview.specs.Handled.{Outcome, handled, handled-from}
 use Rattle.spec_demand.specs.Program.{program-outcome, made-state}
 use Rattle.endings.specs.Events.{no-data-node, event, message-event, of-peer, maintenance, quit, events, event-at, tiny, draws, output}
 use Rattle.endings.specs.Ends.{next-number}
@@ -168,7 +169,7 @@ module _ (i : ℕ) (out : List ℕ) (long : length out ≡ longest) (w : Written
       rw (← k, stored) (take-stored out 0 (encode (event-at i)) (omega (arith, whole, leb-true (0 + size (event-at i)) (length out) fitting)))
 
 pub plays : (i : ℕ) (s : State) (b : List ℕ) (n : ℕ) (a : HandledState) (o : List ℕ) → take n b ≡ encode (event-at i) → record { code = a .code; draws = a .draws; words = a .state .words; output = o } ≡ handled (s .words) (take n b) (replicate 512 0) (length {A = ℕ} (replicate 8192 0)) → a .state ≡ played (encode (event-at i)) s
-unfolding played program-outcome draws output
+unfolding played program-outcome handled handled-from handle-from draws output
 plays i s b n a o e q = ap (λ (x : Outcome). record { words = x .words }) (q ∙ ap (λ (l : List ℕ). handled (s .words) l (replicate 512 0) (length {A = ℕ} (replicate 8192 0))) e)
 
 -- the number goes on with the same bytes

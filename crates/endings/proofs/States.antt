@@ -18,6 +18,7 @@ use Rattle.spec_stories.proofs.Order.{made-of}
 use Rattle.base_timing.specs.Timing.{default, within, in-range}
 use Rattle.base_peer.specs.Data.{bytes-of}
 use Rattle.record.specs.Format.{present, offset, entry-by, entries-by, datas, size-by, header-by, encode-by}
+use Rattle.spec_hyparview.specs.Sides.{wired}
 use Rattle.spec_hyparview.specs.Station.{Station}
 use Rattle.spec_hyparview.specs.Rules.{all-under, short-data, station-ok}
 use Rattle.spec_hyparview.specs.Handle.{new}
@@ -62,12 +63,12 @@ Bytes e = all-under 256 e ≡ true
 calls : (h : History) → All Bytes h → List Call
 unfolding All
 calls [] b = []
-calls (e ∷ h) b = record { event = e; are-bytes = b .0; draws = draws; output = output } ∷ calls h (b .1)
+calls (e ∷ h) b = record { side = wired; event = e; are-bytes = b .0; draws = draws; output = output } ∷ calls h (b .1)
 
 by-calls : {G S : Type 0} (m : Machine G S) (h : History) (b : All Bytes h) (s : S) → after-history m h s ≡ state-after m (calls h b) s
 unfolding after-history state-after calls All
 by-calls m [] b s = refl
-by-calls m (e ∷ h) b s = by-calls m h (b .1) (m .state e draws output s)
+by-calls m (e ∷ h) b s = by-calls m h (b .1) (m .state wired e draws output s)
 
 -- the sixteen events are bytes
 all-bytes : All Bytes event-records

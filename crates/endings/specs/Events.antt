@@ -12,6 +12,7 @@ use Rattle.record.specs.Format.{Rec, encode}
 use Rattle.spec_stories.specs.Histories.{Event, History}
 use Rattle.spec_hyparview.specs.Station.{Station}
 use Rattle.spec_hyparview.specs.Handle.{new}
+use Rattle.spec_hyparview.specs.Sides.{wired}
 use Rattle.spec_history.specs.Calls.{Machine}
 
 -- "no data": the one node of Join and Neighbor
@@ -85,4 +86,4 @@ output = replicate 8192 0
 -- the state after a history, of the definition or of the program: each event is one `handle`
 unfoldable pub after-history : {G S : Type 0} → Machine G S → History → S → S
 after-history m [] s = s
-after-history m (e ∷ h) s = after-history m h (m .state e draws output s)
+after-history m (e ∷ h) s = after-history m h (m .state wired e draws output s)

@@ -7,6 +7,7 @@ use lib.ListN.{length}
 use lib.Dec.{eqb}
 use Rattle.base_lists.specs.Lists.{choose}
 use Rattle.spec_stories.specs.Histories.{Event, History}
+use Rattle.spec_hyparview.specs.Sides.{wired}
 use Rattle.hyparview.specs.Queries.{neighbors-in, spare-addresses-in}
 use Rattle.hyparview.specs.declared.State.{State}
 use Rattle.spec_demand.specs.Program.{value-program}
@@ -20,7 +21,7 @@ first-state = value-program .new-state 1 (false, []) tiny
 
 -- one event
 unfoldable pub played : Event → State → State
-played e s = value-program .state e draws output s
+played e s = value-program .state wired e draws output s
 
 -- the sizes of both views after a history of the program, from the state s on
 unfoldable pub sizes-in : State → Sizes

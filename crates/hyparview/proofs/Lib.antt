@@ -1,7 +1,6 @@
 pub mod Copies
 pub mod Laws
 pub mod Opening
-pub mod Kept
 pub mod Asked
 pub mod Making
 pub mod Sides

@@ -76,3 +76,8 @@ abbrev pub HandlesFrom : Side → Done → Lent → Lent → Lent → Lent → T
 HandlesFrom side r st b ds out =
     outcome-left r (st .exit .now) out
     ≡ handled-from side (st .entry .now) (b .entry .now) (ds .entry .now) (length (out .entry .now))
+
+abbrev pub HandlesStateFrom : Side → HandledState → State → Lent → Lent → Lent → Type 0
+HandlesStateFrom side r s b ds out =
+    outcome-left (record { code = r .code; draws = r .draws }) (r .state .words) out
+    ≡ handled-from side (s .words) (b .entry .now) (ds .entry .now) (length (out .entry .now))

@@ -16,7 +16,7 @@ ghost use Rattle.spec_hyparview.specs.Handle.{new-station};
 ghost use Rattle.spec_hyparview.specs.Sides.{radio as radio-side, side-of, too-many};
 ghost use Rattle.hyparview_rules.specs.Ok.{state-ok};
 ghost use Rattle.hyparview.specs.Made.{Starts, StartsState};
-ghost use Rattle.hyparview.specs.Handled.{cleared, Refuses, Handles, HandlesState, HandlesFrom};
+ghost use Rattle.hyparview.specs.Handled.{cleared, Refuses, Handles, HandlesState, HandlesFrom, HandlesStateFrom};
 ghost use Rattle.base_peer.specs.Held.{data-in, ValidData};
 ghost use Rattle.hyparview_rules.specs.Pack.{front};
 ghost use Rattle.hyparview.specs.Queries.{wants-connection-in, is-neighbor-in, neighbors-in, spare-addresses-in};
@@ -332,6 +332,20 @@ impl State {
     {
         let mut words = self.words;
         let d = handle(&mut words, b, draws, out);
+        let s = State { words: words };
+        HandledState {
+            code: d.code,
+            state: s,
+            draws: d.draws,
+        }
+    }
+
+    // The same of a call that names its side.
+    pub fn handle_from(self, radio: bool, b: &[u8], draws: &[u32], out: &mut [u8]) -> HandledState
+        ensures { λ r. ⌜ HandlesStateFrom (side-of radio) r self b draws out ⌝ }
+    {
+        let mut words = self.words;
+        let d = handle_from(&mut words, radio, b, draws, out);
         let s = State { words: words };
         HandledState {
             code: d.code,

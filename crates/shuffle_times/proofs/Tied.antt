@@ -24,6 +24,8 @@ use Rattle.spec_hyparview.specs.Rules.{all-under, station-ok, short-data}
 use Rattle.spec_hyparview.specs.Handle.{Result, new-station, start, steps, refusal, accepted, finish, handle-reading, handle}
 use Rattle.base_lists.proofs.Members.{both}
 use Rattle.spec_hyparview.proofs.Reading.{Readable, by-form}
+use Rattle.spec_hyparview.specs.Sides.{draws-from}
+use Rattle.spec_hyparview.proofs.Sides.{by-side, under-from}
 use Rattle.spec_hyparview.proofs.Whole.{ok-steps}
 use Rattle.spec_hyparview.proofs.Tested.{rules-of}
 use Rattle.spec_history.specs.Ledger.{Ledger, number-of}
@@ -129,11 +131,12 @@ called : {c : Config} {me : ℕ} {l : Ledger} {s : Station} → in-range c ≡ t
 unfolding answered handle handle-reading
 called {s = s} ranges h v =
     let b = v .call .event in
-    let ds = v .call .draws in
+    let ds = draws-from (v .call .side) (v .call .draws) in
     let room = length (v .call .output) in
-    rw (choose-yes (station-ok s) (handle-reading (read-event b) s ds room) (refusal 2 s room) (rules-of s ranges h))
+    by-side (Called (v .at) b s) (v .call .side) s b (v .call .draws) room (called-refusal (v .at) b s 16 room (λ e. omega arith))
+    (rw (choose-yes (station-ok s) (handle-reading (read-event b) s ds room) (refusal 2 s room) (rules-of s ranges h))
     (by-form b (v .call .are-bytes) (λ (x : Reading). Called (v .at) b s (handle-reading x s ds room))
-    (λ n i j. called-refusal (v .at) b s n room (λ e. omega arith)) (λ w f. called-event ranges h (v .at) b ds room (v .are-draws) w f))
+    (λ n i j. called-refusal (v .at) b s n room (λ e. omega arith)) (λ w f. called-event ranges h (v .at) b ds room (under-from draws-end (v .call .side) (v .call .draws) (v .are-draws)) w f)))
 
 -- due times as the definition has them, from the interval i at time t
 record Row (top i t : ℕ) (xs : List ℕ) : Type 0 where

@@ -22,6 +22,7 @@ use Rattle.record.specs.Format.{Rec, header-length, size-by, datas, header-by, 
 use Rattle.record.specs.Read as Rd
 use Rattle.record.specs.Read.{event, read-event}
 use Rattle.record.specs.Walk.{kind-in, headers}
+use Rattle.spec_hyparview.specs.Sides.{Side, wired, handle-from}
 use Rattle.spec_hyparview.specs.Station.{Station, is-alone, draws-end, top-passes}
 use Rattle.spec_hyparview.specs.Setters.{set-scheduled, set-next-interval, set-passes-alone}
 use Rattle.spec_hyparview.specs.Run.{Run, guard, on, emit, emit-all, draw, require, drawn, timer, notice}
@@ -49,15 +50,15 @@ two-records = 2 * header-length
 -- a call with the event e, one draw and room for the records that it asks for
 unfoldable quit-call : ℕ → Call
 unfolding encode-by header-by entries-by datas size-by le all-under
-quit-call x = record { event = encode (notice (kind-byte Quit) 0); are-bytes = refl; draws = x ∷ []; output = replicate two-records 0 }
+quit-call x = record { side = wired; event = encode (notice (kind-byte Quit) 0); are-bytes = refl; draws = x ∷ []; output = replicate two-records 0 }
 
 unfoldable shuffle-call : ℕ → Call
 unfolding encode-by header-by entries-by datas size-by le all-under
-shuffle-call x = record { event = encode (timer (kind-byte DoShuffle) 0 0 0); are-bytes = refl; draws = x ∷ []; output = replicate header-length 0 }
+shuffle-call x = record { side = wired; event = encode (timer (kind-byte DoShuffle) 0 0 0); are-bytes = refl; draws = x ∷ []; output = replicate header-length 0 }
 
 unfoldable maintenance-call : Call
 unfolding encode-by header-by entries-by datas size-by le all-under
-maintenance-call = record { event = encode (timer (kind-byte DoMaintenance) 0 0 0); are-bytes = refl; draws = []; output = replicate header-length 0 }
+maintenance-call = record { side = wired; event = encode (timer (kind-byte DoMaintenance) 0 0 0); are-bytes = refl; draws = []; output = replicate header-length 0 }
 
 -- the same at a time
 one-under : (x : ℕ) → x < draws-end → all-under draws-end (x ∷ []) ≡ true
@@ -117,9 +118,9 @@ unfolding choose le read-le encode-by header-by entries-by datas size-by read-ev
 read-maintenance = refl
 
 -- a call that reads as the event e, to a station that keeps the rules
-answer-of : (v : Call) (e : Rec) (s : Station) → station-ok s ≡ true → read-event (v .event) ≡ event e → result-of v s ≡ finish s (steps e (start s (v .draws) (length (v .output))))
-unfolding answered handle handle-reading
-answer-of v e s ok r = choose-yes (station-ok s) _ _ ok ∙ rw r
+answer-of : (v : Call) (e : Rec) (s : Station) → v .side ≡ wired → station-ok s ≡ true → read-event (v .event) ≡ event e → result-of v s ≡ finish s (steps e (start s (v .draws) (length (v .output))))
+unfolding answered handle-from handle handle-reading
+answer-of v e s w ok r = ap (λ (side : Side). handle-from side s (v .event) (v .draws) (length (v .output))) w ∙ (choose-yes (station-ok s) _ _ ok ∙ rw r)
 
 -- what a call leads to, by the records that it writes
 record Leads (v : Brought) (s t : Station) (es : List Rec) : Type 0 where
@@ -290,21 +291,21 @@ module _ (me : ℕ) (d : Data) (c : Config) where
     unfolding quit-at quit-call quit-run All
     quit-leads h t x u =
         leads (quit-at t x u) (new-station me d c) _ (quit-run x) _
-        (answer-of (quit-call x) (notice (kind-byte Quit) 0) (new-station me d c) (rules-of (new-station me d c) ranges h) read-quit ∙ quit-steps x)
+        (answer-of (quit-call x) (notice (kind-byte Quit) 0) (new-station me d c) refl (rules-of (new-station me d c) ranges h) read-quit ∙ quit-steps x)
         refl (quit-told x) (quit-short x) (omega (arith, short-delay (first-interval top) x (first-ok top (top-of c ranges)) u), (omega arith, tt))
 
     shuffle-leads : {l : Ledger} {i n : ℕ} → Kept c me l (ticking i n) → (t x : ℕ) (u : x < draws-end) → Leads (shuffle-at t x u) (ticking i n) (ticking (next-interval top i) n) (shuffle-timer i x ∷ [])
     unfolding shuffle-at shuffle-call shuffle-run All
     shuffle-leads {i = i} {n = n} h t x u =
         leads (shuffle-at t x u) (ticking i n) _ (shuffle-run i n x) _
-        (answer-of (shuffle-call x) (timer (kind-byte DoShuffle) 0 0 0) (ticking i n) (rules-of (ticking i n) ranges h) read-shuffle ∙ shuffle-steps i n x)
+        (answer-of (shuffle-call x) (timer (kind-byte DoShuffle) 0 0 0) (ticking i n) refl (rules-of (ticking i n) ranges h) read-shuffle ∙ shuffle-steps i n x)
         refl (shuffle-told i n x) (shuffle-short i n x) (omega (arith, short-delay i x (interval-of ranges h) u), tt)
 
     maintenance-leads : {l : Ledger} {i n : ℕ} → Kept c me l (ticking i n) → (t : ℕ) → n < top-passes → Leads (maintenance-at t) (ticking i n) (ticking i (n + 1)) (maintenance-timer ∷ [])
     unfolding maintenance-at maintenance-call maintenance-run All
     maintenance-leads {i = i} {n = n} h t few =
         leads (maintenance-at t) (ticking i n) _ (maintenance-run i n) _
-        (answer-of maintenance-call (timer (kind-byte DoMaintenance) 0 0 0) (ticking i n) (rules-of (ticking i n) ranges h) read-maintenance ∙ maintenance-steps i n few)
+        (answer-of maintenance-call (timer (kind-byte DoMaintenance) 0 0 0) (ticking i n) refl (rules-of (ticking i n) ranges h) read-maintenance ∙ maintenance-steps i n few)
         refl (maintenance-told i n) (maintenance-short i n) (omega arith, tt)
 
     -- timers from now on: the next shuffle timer is due at p, the next maintenance timer at q

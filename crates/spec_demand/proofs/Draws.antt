@@ -10,6 +10,7 @@ use Rattle.base_timing.specs.declared.Config.{Config}
 use Rattle.base_timing.specs.Timing.{default, most-active, most-passive, most-shuffle-active, most-shuffle-passive}
 use Rattle.record.specs.Kinds.{Quit, kind-byte}
 use Rattle.record.specs.Format.{encode}
+use Rattle.spec_hyparview.specs.Sides.{wired, handle-from}
 use Rattle.spec_hyparview.specs.Station.{Station}
 use Rattle.spec_hyparview.specs.Setters.{set-active, set-passive}
 use Rattle.spec_hyparview.specs.Rules.{station-ok}
@@ -47,18 +48,18 @@ full =
 -- a Quit with n draws, each of them d
 unfoldable pub quits : ℕ → ℕ → Call
 unfolding traced
-quits n d = record { event = encode (notice (kind-byte Quit) 0); are-bytes = refl; draws = replicate n d; output = replicate output-room 0 }
+quits n d = record { side = wired; event = encode (notice (kind-byte Quit) 0); are-bytes = refl; draws = replicate n d; output = replicate output-room 0 }
 
 pub full-is-fine : station-ok full ≡ true
 unfolding traced full largest default
 full-is-fine = refl
 
 pub takes-254 : result-of (quits 254 0) full .used ≡ 254
-unfolding traced full largest default quits answered
+unfolding traced handle-from full largest default quits answered
 takes-254 = refl
 
 five : result-of (quits 253 0) full .code ≡ 5
-unfolding traced full largest default quits answered
+unfolding traced handle-from full largest default quits answered
 five = refl
 
 -- of the program: with 253 draws and 8,192 bytes, at words that keep the rules, the answer is 5
@@ -68,7 +69,7 @@ too-few = ap (λ (o : Outcome). o .code) (answers-packed (quits 253 0) full full
 
 -- 02, S-6: "A list of 512 can now be short": the choice of one of 30 peers passes over a draw of 2^32 - 1
 five-of-512 : result-of (quits 512 4294967295) full .code ≡ 5
-unfolding traced full largest default quits answered
+unfolding traced handle-from full largest default quits answered
 five-of-512 = refl
 
 pub short-of-512 : code-of program (quits 512 4294967295) (pack full) ≡ 5

@@ -14,16 +14,19 @@ use Rattle.base_lists.specs.Tests.{All}
 use Rattle.base_lists.proofs.Choice.{split, choose-yes, choose-no, and-left, and-right}
 use Rattle.record.specs.Format.{Rec}
 use Rattle.spec_hyparview.specs.Station.{Station, draws-end}
-use Rattle.spec_hyparview.specs.Rules.{all-under}
+use Rattle.spec_hyparview.specs.Rules.{all-under, station-ok}
+use Rattle.spec_hyparview.specs.Handle.{Result, refusal}
+use Rattle.spec_hyparview.specs.Sides.{draws-from}
+use Rattle.spec_hyparview.proofs.Sides.{by-side, under-from}
 use Rattle.spec_hyparview.specs.Evictions.{named, Names}
 use Rattle.spec_hyparview.specs.Written.{encode-all, WrittenOut}
 use Rattle.spec_hyparview.proofs.Written.{names-evictions}
-use Rattle.spec_history.specs.Calls.{Call, narrow-draws, Machine, code-of, state-of, output-of, answered}
+use Rattle.spec_history.specs.Calls.{Call, narrow-draws, Machine, code-of, state-of, output-of, answered, result-of}
 use Rattle.spec_history.proofs.Outputs.{read-back}
 use Rattle.hyparview_state.specs.Unpack.{unpack}
 use Rattle.hyparview_rules.specs.Ok.{state-ok}
 use Rattle.hyparview.specs.Handled.{Outcome, packed-answer, refused-words}
-use Rattle.hyparview.proofs.Opening.{handled-two}
+use Rattle.hyparview.proofs.Sides.{from-two}
 use Rattle.spec_demand.specs.Program.{program-outcome, unpack-state}
 use Rattle.spec_demand.specs.Refusal.{Refusals-of}
 use Rattle.spec_demand.specs.Evictions as E
@@ -58,14 +61,21 @@ module _ {G S : Type 0} {m : Machine G S} (station : S → Station) (names : E.N
   told-all [] s n = refl
   told-all (v ∷ vs) s n = λ i. told-once v s (and-left (all-under draws-end (v .draws)) _ n) i ++ told-all vs (state-of m v s) (and-right (all-under draws-end (v .draws)) _ n) i
 
+evicted-named : (v : Call) (s : Station) → station-ok s ≡ true → all-under draws-end (v .draws) ≡ true → result-of v s .code ≡ 0 → Names (evicted-in (λ g. g) v s) (result-of v s .output)
+unfolding answered refusal
+evicted-named v s ok n =
+    let room = length (v .output) in
+    by-side (λ (a : Result). a .code ≡ 0 → Names (evicted-in (λ g. g) v s) (a .output)) (v .side) s (v .event) (v .draws) room (λ z. absurd (omega (arith, z)))
+    (λ z. names-evictions s ok (v .event) (v .are-bytes) (draws-from (v .side) (v .draws)) (under-from draws-end (v .side) (v .draws) n) room z)
+
 pub names-evicted : E.Names-evicted
 unfolding program-outcome answered packed-answer refused-words
 names-evicted xs v n z =
     split (state-ok xs)
     (λ ok. let e = answers xs ok v in
     subst (Names _) (sym (ap (λ (x : Outcome). x .output) e))
-    (names-evictions (unpack xs) (rules-kept xs ok) (v .event) (v .are-bytes) (v .draws) n (length (v .output)) (sym (ap (λ (x : Outcome). x .code) e) ∙ z)))
-    (λ broken. let two : 2 ≡ 0 = ap (λ (x : Outcome). x .code) (handled-two xs (v .event) (v .draws) (length (v .output)) broken) ∙ z in absurd (omega (arith, two)))
+    (evicted-named v (unpack xs) (rules-kept xs ok) n (sym (ap (λ (x : Outcome). x .code) e) ∙ z)))
+    (λ broken. let two : 2 ≡ 0 = ap (λ (x : Outcome). x .code) (from-two (v .side) xs (v .event) (v .draws) (length (v .output)) broken) ∙ z in absurd (omega (arith, two)))
 
 pub names-evicted-by-value : E.Names-evicted-by-value
 names-evicted-by-value s v n z = names-evicted (s .words) v n z

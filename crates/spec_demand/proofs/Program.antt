@@ -13,12 +13,14 @@ use Rattle.base_lists.proofs.Choice.{by-choice, choose-yes, choose-no, split, a
 use Rattle.base_timing.specs.declared.Config.{Config}
 use Rattle.base_timing.specs.Timing.{in-range}
 use Rattle.spec_hyparview.specs.Station.{Station}
-use Rattle.spec_hyparview.specs.Rules.{short-data, station-ok}
+use Rattle.spec_hyparview.specs.Rules.{all-under, short-data, station-ok}
 use Rattle.spec_hyparview.specs.Handle as Handle
 use Rattle.record.specs.Read.{Reading, read-event, rec-of}
 use Rattle.spec_hyparview.proofs.Reading.{by-reading}
 use Rattle.spec_hyparview.proofs.Bounds.{finished}
 use Rattle.spec_hyparview.specs.Kept.{FewerKept}
+use Rattle.spec_hyparview.specs.Sides.{Side, wired, draws-from, handle-from}
+use Rattle.spec_hyparview.proofs.Sides.{by-side}
 use Rattle.spec_hyparview.proofs.Enough.{enough}
 use Rattle.spec_hyparview.proofs.Decided.{fewer-as, fewer-kept, most-kept}
 use Rattle.spec_hyparview.proofs.Uncrowded as crowded
@@ -43,9 +45,9 @@ use Rattle.hyparview_rules.proofs.Fitting.{ok-unpacked, pack-ok}
 use Rattle.hyparview.specs.Made.{MadeWords, lent, pack-made}
 use Rattle.hyparview.specs.Made as lending
 use Rattle.hyparview.proofs.Making.{zero-words}
-use Rattle.hyparview.specs.Handled.{Outcome, packed-answer, handled}
+use Rattle.hyparview.specs.Handled.{Outcome, packed-answer, handled-from}
 use Rattle.hyparview.specs.Handled as Handled
-use Rattle.hyparview.proofs.Opening.{handled-two}
+use Rattle.hyparview.proofs.Sides.{from-two}
 use Rattle.spec_demand.specs.Program as D
 use Rattle.spec_demand.specs.Program.{program-made, program-outcome, program, made-state, value-program, unpack-state, state-passes}
 
@@ -57,11 +59,11 @@ pub rules-kept : (xs : List ℕ) → state-ok xs ≡ true → station-ok (unpack
 rules-kept xs ok = and-right (packed-ok xs) (station-ok (unpack xs)) (ok-both xs ok)
 
 -- at words that keep the rules the program answers what the definition does, packed
-pub answers : (xs : List ℕ) → state-ok xs ≡ true → (v : Call) → program-outcome (v .event) (v .draws) (v .output) xs ≡ packed-answer (result-of v (unpack xs))
-unfolding program-outcome handled answered
+pub answers : (xs : List ℕ) → state-ok xs ≡ true → (v : Call) → program-outcome (v .side) (v .event) (v .draws) (v .output) xs ≡ packed-answer (result-of v (unpack xs))
+unfolding program-outcome handled-from answered
 answers xs ok v = choose-yes _ _ _ (and-left (packed-ok xs) _ (ok-both xs ok))
 
-pub answers-packed : (v : Call) (g : Station) → station-ok g ≡ true → program-outcome (v .event) (v .draws) (v .output) (pack g) ≡ packed-answer (result-of v g)
+pub answers-packed : (v : Call) (g : Station) → station-ok g ≡ true → program-outcome (v .side) (v .event) (v .draws) (v .output) (pack g) ≡ packed-answer (result-of v g)
 answers-packed v g t = answers (pack g) (pack-ok g t) v ∙ ap (λ (x : Station). packed-answer (result-of v x)) (ok-unpacked g t)
 
 pub packs : Packs program pack unpack state-ok
@@ -128,24 +130,28 @@ refused-zeroes me g c one =
 
 -- ---- one call
 
+-- a call from the wired side
+abbrev wired-call : (b : List ℕ) → all-under 256 b ≡ true → List ℕ → List ℕ → Call
+wired-call b bytes ds out = record { side = wired; event = b; are-bytes = bytes; draws = ds; output = out }
+
 module _ (xs : List ℕ) (ok : state-ok xs ≡ true) (v : Call) where
   -- whatever draws are lent
-  lent-with : (l : List ℕ) → program-outcome (v .event) l (v .output) xs ≡ packed-answer (Handle.handle (unpack xs) (v .event) l (length (v .output)))
-  unfolding answered
-  lent-with l = answers xs ok (record { event = v .event; are-bytes = v .are-bytes; draws = l; output = v .output })
+  lent-with : (l : List ℕ) → program-outcome wired (v .event) l (v .output) xs ≡ packed-answer (Handle.handle (unpack xs) (v .event) l (length (v .output)))
+  unfolding answered handle-from
+  lent-with l = answers xs ok (wired-call (v .event) (v .are-bytes) l (v .output))
 
   -- which draws are kept is the program's as it is the definition's
   kept-as : (n : ℕ) (ds : List ℕ)
       → FewerKept n (λ l. Handle.handle (unpack xs) (v .event) l (length (v .output)) .code) (λ l. Handle.handle (unpack xs) (v .event) l (length (v .output)) .used) (λ l. Handle.handle (unpack xs) (v .event) l (length (v .output)) .state) ds
-      → FewerKept n (λ l. program-outcome (v .event) l (v .output) xs .code) (λ l. program-outcome (v .event) l (v .output) xs .draws) (λ l. unpack (program-outcome (v .event) l (v .output) xs .words)) ds
+      → FewerKept n (λ l. program-outcome wired (v .event) l (v .output) xs .code) (λ l. program-outcome wired (v .event) l (v .output) xs .draws) (λ l. unpack (program-outcome wired (v .event) l (v .output) xs .words)) ds
   unfolding packed-answer
   kept-as n ds k =
       fewer-as (λ (g : Station). unpack (pack g)) (λ l. ap (λ (x : Outcome). x .code) (lent-with l)) (λ l. ap (λ (x : Outcome). x .draws) (lent-with l)) (λ l. ap (λ (x : Outcome). unpack (x .words)) (lent-with l)) k
 
 -- A draw is missed only where fewer than 512 were kept, an accepted call keeps at most 512 of those it uses, and 512 draws below 2^32 - 32 and 8,192 bytes suffice, whatever the event and the words that keep the rules.
-pub enough-lent : D.Enough-lent
-unfolding answered packed-answer
-enough-lent xs ok v =
+enough-wired : (xs : List ℕ) → state-ok xs ≡ true → (v : Call) → D.Suffices program unpack xs (wired-call (v .event) (v .are-bytes) (v .draws) (v .output))
+unfolding answered packed-answer handle-from
+enough-wired xs ok v =
     let room = length (v .output) in
     let e = lent-with xs ok v (v .draws) in
     let code = ap (λ (x : Outcome). x .code) e in
@@ -153,7 +159,7 @@ enough-lent xs ok v =
     let k = enough (unpack xs) (rules-kept xs ok) (v .draws) room (v .event) (v .are-bytes) in
     record {
       five = λ f. kept-as xs ok v 512 (v .draws) (fewer-kept (unpack xs) (rules-kept xs ok) (v .event) (v .are-bytes) (v .draws) room (sym code ∙ f));
-      kept-used = λ z. subst (λ (n : ℕ). FewerKept 513 (λ l. program-outcome (v .event) l (v .output) xs .code) (λ l. program-outcome (v .event) l (v .output) xs .draws) (λ l. unpack (program-outcome (v .event) l (v .output) xs .words)) (take n (v .draws)))
+      kept-used = λ z. subst (λ (n : ℕ). FewerKept 513 (λ l. program-outcome wired (v .event) l (v .output) xs .code) (λ l. program-outcome wired (v .event) l (v .output) xs .draws) (λ l. unpack (program-outcome wired (v .event) l (v .output) xs .words)) (take n (v .draws)))
           (sym draws) (kept-as xs ok v 513 (take (Handle.handle (unpack xs) (v .event) (v .draws) room .used) (v .draws)) (most-kept (unpack xs) (rules-kept xs ok) (v .event) (v .are-bytes) (v .draws) room (sym code ∙ z)));
       no-five = λ h a f. k .no-five h a (sym code ∙ f);
       no-nine = λ h f. k .no-nine h (sym code ∙ f);
@@ -161,29 +167,37 @@ enough-lent xs ok v =
       few-draws = rw draws (k .few-draws);
     }
 
--- a code of `handle` at a station that keeps the rules is 0, 3, 4, or from 5 to 10
+pub enough-lent : D.Enough-lent
+enough-lent xs ok v w =
+    subst (λ (side : Side). D.Suffices program unpack xs (record { side = side; event = v .event; are-bytes = v .are-bytes; draws = v .draws; output = v .output })) (sym w) (enough-wired xs ok v)
+
+-- a code of `handle` at a station that keeps the rules is 0, 3, 4, from 5 to 10, or 16
 not-one : (g : Station) → station-ok g ≡ true → (v : Call) → result-of v g .code ≡ 1 → ⊥
 unfolding answered Handle.handle Handle.handle-reading Handle.finish Handle.accepted Handle.refusal
 not-one g ok v =
     let room = length (v .output) in
-    rw (choose-yes (station-ok g) (Handle.handle-reading (read-event (v .event)) g (v .draws) room) (Handle.refusal 2 g room) ok)
-    (by-reading (v .event) (v .are-bytes) (λ (x : Reading). Handle.handle-reading x g (v .draws) room .code ≡ 1 → ⊥) (λ c l h e. omega (arith, l, e))
-    (λ w. let r = Handle.steps (rec-of (v .event)) (Handle.start g (v .draws) room) in
-    let k = finished g ok (v .draws) room (rec-of (v .event)) w in
-    by-choice (λ (a : Handle.Result). a .code ≡ 1 → ⊥) (eqb (r .code) 0) (λ z e. omega (arith, e)) (λ z e. let five = k .codes .low (omega (arith, e)) in omega (arith, five, e))))
+    let ds = draws-from (v .side) (v .draws) in
+    by-side (λ (a : Handle.Result). a .code ≡ 1 → ⊥) (v .side) g (v .event) (v .draws) room (λ e. omega (arith, e))
+    (rw (choose-yes (station-ok g) (Handle.handle-reading (read-event (v .event)) g ds room) (Handle.refusal 2 g room) ok)
+    (by-reading (v .event) (v .are-bytes) (λ (x : Reading). Handle.handle-reading x g ds room .code ≡ 1 → ⊥) (λ c l h e. omega (arith, l, e))
+    (λ w. let r = Handle.steps (rec-of (v .event)) (Handle.start g ds room) in
+    let k = finished g ok ds room (rec-of (v .event)) w in
+    by-choice (λ (a : Handle.Result). a .code ≡ 1 → ⊥) (eqb (r .code) 0) (λ z e. omega (arith, e)) (λ z e. let five = k .codes .low (omega (arith, e)) in omega (arith, five, e)))))
 
 pub never-one : D.Never-one
 unfolding program-outcome packed-answer Handled.refused-words
 never-one xs v e =
     split (state-ok xs)
     (λ ok. not-one (unpack xs) (rules-kept xs ok) v (sym (ap (λ (x : Outcome). x .code) (answers xs ok v)) ∙ e))
-    (λ broken. let two : 2 ≡ 1 = ap (λ (x : Outcome). x .code) (handled-two xs (v .event) (v .draws) (length (v .output)) broken) ∙ e in omega (arith, two))
+    (λ broken. let two : 2 ≡ 1 = ap (λ (x : Outcome). x .code) (from-two (v .side) xs (v .event) (v .draws) (length (v .output)) broken) ∙ e in omega (arith, two))
 
 -- No call is answered 8.
 pub never-eight : D.Never-eight
-unfolding answered packed-answer
+unfolding answered packed-answer Handle.refusal
 never-eight xs ok v e =
-    crowded.never-eight (unpack xs) (rules-kept xs ok) (v .draws) (length (v .output)) (v .event) (v .are-bytes) (sym (ap (λ (x : Outcome). x .code) (answers xs ok v)) ∙ e)
+    let room = length (v .output) in
+    by-side (λ (a : Handle.Result). a .code ≡ 8 → ⊥) (v .side) (unpack xs) (v .event) (v .draws) room (λ f. omega (arith, f))
+    (crowded.never-eight (unpack xs) (rules-kept xs ok) (draws-from (v .side) (v .draws)) room (v .event) (v .are-bytes)) (sym (ap (λ (x : Outcome). x .code) (answers xs ok v)) ∙ e)
 
 pub never-eight-after : D.Never-eight-after
 never-eight-after me g c t z vs =

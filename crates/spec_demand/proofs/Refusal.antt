@@ -14,13 +14,15 @@ use Rattle.spec_hyparview.specs.Rules.{station-ok}
 use Rattle.spec_hyparview.specs.Handle as H
 use Rattle.spec_hyparview.proofs.Reading.{by-reading}
 use Rattle.spec_hyparview.proofs.Bounds.{finished}
+use Rattle.spec_hyparview.specs.Sides.{draws-from}
+use Rattle.spec_hyparview.proofs.Sides.{by-side}
 use Rattle.spec_history.specs.Calls.{Call, result-of, answered}
 use Rattle.hyparview_state.specs.Unpack.{unpack}
 use Rattle.hyparview_rules.specs.Pack.{pack}
 use Rattle.hyparview_rules.specs.Ok.{packed-ok, state-ok}
 use Rattle.hyparview_rules.proofs.Back.{ok-back}
 use Rattle.hyparview.specs.Handled.{Outcome, packed-answer, refused-words}
-use Rattle.hyparview.proofs.Opening.{handled-two}
+use Rattle.hyparview.proofs.Sides.{from-two}
 use Rattle.spec_demand.specs.Program.{program-outcome}
 use Rattle.spec_demand.specs.Refusal as R
 use Rattle.spec_demand.proofs.Program.{rules-kept, answers}
@@ -30,19 +32,21 @@ definition-refuses : (g : Station) → station-ok g ≡ true → (v : Call) → 
 unfolding answered H.handle H.handle-reading H.finish H.accepted H.refusal
 definition-refuses g ok v =
     let room = length (v .output) in
-    rw (choose-yes (station-ok g) (H.handle-reading (read-event (v .event)) g (v .draws) room) (H.refusal 2 g room) ok)
-    (by-reading (v .event) (v .are-bytes) (λ (x : Reading). let a = H.handle-reading x g (v .draws) room in (a .code ≡ 0 → ⊥) → a ≡ H.refusal (a .code) g room) (λ c l h n. refl)
-    (λ w n. let r = H.steps (rec-of (v .event)) (H.start g (v .draws) room) in
+    let ds = draws-from (v .side) (v .draws) in
+    by-side (λ (a : H.Result). (a .code ≡ 0 → ⊥) → a ≡ H.refusal (a .code) g room) (v .side) g (v .event) (v .draws) room (λ n. refl)
+    (rw (choose-yes (station-ok g) (H.handle-reading (read-event (v .event)) g ds room) (H.refusal 2 g room) ok)
+    (by-reading (v .event) (v .are-bytes) (λ (x : Reading). let a = H.handle-reading x g ds room in (a .code ≡ 0 → ⊥) → a ≡ H.refusal (a .code) g room) (λ c l h n. refl)
+    (λ w n. let r = H.steps (rec-of (v .event)) (H.start g ds room) in
     split (eqb (r .code) 0) (λ y. absurd (n (ap (λ (a : H.Result). a .code) (choose-yes _ _ _ y))))
-    (λ z. let q : H.finish g r ≡ H.refusal (r .code) g room = choose-no _ _ _ z ∙ ap (H.refusal (r .code) g) (finished g ok (v .draws) room (rec-of (v .event)) w .codes .space) in
-    q ∙ ap (λ (c : ℕ). H.refusal c g room) (sym (ap (λ (a : H.Result). a .code) q)))))
+    (λ z. let q : H.finish g r ≡ H.refusal (r .code) g room = choose-no _ _ _ z ∙ ap (H.refusal (r .code) g) (finished g ok ds room (rec-of (v .event)) w .codes .space) in
+    q ∙ ap (λ (c : ℕ). H.refusal c g room) (sym (ap (λ (a : H.Result). a .code) q))))))
 
 packed-of : (xs : List ℕ) → state-ok xs ≡ true → packed-ok xs ≡ true
 unfolding state-ok
 packed-of xs e = and-left _ _ e
 
 -- the whole outcome of a call that is not accepted
-pub outcome-refused : (xs : List ℕ) (v : Call) → let o = program-outcome (v .event) (v .draws) (v .output) xs in (o .code ≡ 0 → ⊥) → o ≡ refused-words (o .code) xs (length (v .output))
+pub outcome-refused : (xs : List ℕ) (v : Call) → let o = program-outcome (v .side) (v .event) (v .draws) (v .output) xs in (o .code ≡ 0 → ⊥) → o ≡ refused-words (o .code) xs (length (v .output))
 unfolding program-outcome packed-answer refused-words H.refusal
 outcome-refused xs v n =
     let room = length (v .output) in
@@ -53,7 +57,7 @@ outcome-refused xs v n =
     let d = definition-refuses (unpack xs) (rules-kept xs ok) v (λ z. n (code ∙ z)) in
     e ∙ (ap packed-answer d ∙ (λ i. refused-words (sym code i) (ok-back xs (packed-of xs ok) i) room)))
     (λ broken.
-    let e = handled-two xs (v .event) (v .draws) room broken in
+    let e = from-two (v .side) xs (v .event) (v .draws) room broken in
     sym e ∙ ap (λ (c : ℕ). refused-words c xs room) (ap (λ (o : Outcome). o .code) e))
 
 pub refusals-kept : R.Refusals-kept

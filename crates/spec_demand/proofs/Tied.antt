@@ -15,15 +15,16 @@ use contract.Monad.{Fun, fact, fact-mono}
 use contract.Notation.{connectives}
 use denote.Ref.{RefT, now}
 use Rattle.base_timing.specs.declared.Config.{Config}
+use Rattle.spec_hyparview.specs.Sides.{side-of}
 use Rattle.hyparview.specs.Made.{MadeWords}
 use Rattle.hyparview.specs.declared.Done.{Done}
 use Rattle.hyparview.specs.declared.State.{State}
 use Rattle.hyparview.specs.declared.MadeState.{MadeState}
 use Rattle.hyparview.specs.declared.HandledState.{HandledState}
 use Rattle.hyparview.proofs.new as new
-use Rattle.hyparview.proofs.handle as handle
+use Rattle.hyparview.proofs.handle_from as handle
 use Rattle.hyparview.proofs.State.new as value-new
-use Rattle.hyparview.proofs.State.handle as value-handle
+use Rattle.hyparview.proofs.State.handle_from as value-handle
 use Rattle.spec_demand.specs.Program.{program-made, program-outcome, made-state}
 
 module _ {M : Type 1} (𝓤 : URA M) (H : Heap 𝓤) (A : Atoms 𝓤) (at-mem : Memory → SProp 𝓤) (run : Routine → Fun 𝓤) where
@@ -37,13 +38,13 @@ module _ {M : Type 1} (𝓤 : URA M) (H : Heap 𝓤) (A : Atoms 𝓤) (at-mem : 
     unfolding program-made
     new-says s′ own′ code = refl
 
-  module _ (κs : Lfts 4) (s e d o : RefT (List ℕ)) where
-    pub handle-asks : handle.clauses 𝓤 H A at-mem run κs (s, (e, (d, (o, tt)))) .requires tt ≡ connectives 𝓤 .⊤ₛ
+  module _ (κs : Lfts 4) (s : RefT (List ℕ)) (radio : Bool) (e d o : RefT (List ℕ)) where
+    pub handle-asks : handle.clauses 𝓤 H A at-mem run κs (s, (radio, (e, (d, (o, tt))))) .requires tt ≡ connectives 𝓤 .⊤ₛ
     handle-asks = refl
 
     pub handle-says : (s′ e′ d′ o′ : RefT (List ℕ)) (r : Done)
-        → handle.clauses 𝓤 H A at-mem run κs (s, (e, (d, (o, tt)))) .ensures tt r (s′, (e′, (d′, (o′, tt))))
-        ≡ fact 𝓤 (record { code = r .code; draws = r .draws; words = now s′; output = now o′ } ≡ program-outcome (now e) (now d) (now o) (now s))
+        → handle.clauses 𝓤 H A at-mem run κs (s, (radio, (e, (d, (o, tt))))) .ensures tt r (s′, (radio, (e′, (d′, (o′, tt)))))
+        ≡ fact 𝓤 (record { code = r .code; draws = r .draws; words = now s′; output = now o′ } ≡ program-outcome (side-of radio) (now e) (now d) (now o) (now s))
     unfolding program-outcome
     handle-says s′ e′ d′ o′ r = refl
 
@@ -59,12 +60,12 @@ module _ {M : Type 1} (𝓤 : URA M) (H : Heap 𝓤) (A : Atoms 𝓤) (at-mem : 
     unfolding made-state
     value-new-says own′ r = fact-mono 𝓤 _ _ (ap (λ (m : MadeWords). record { code = m .code; state = record { words = m .words } }))
 
-  module _ (κs : Lfts 3) (s : State) (e d o : RefT (List ℕ)) where
-    pub value-handle-asks : value-handle.clauses 𝓤 H A at-mem run κs (s, (e, (d, (o, tt)))) .requires tt ≡ connectives 𝓤 .⊤ₛ
+  module _ (κs : Lfts 3) (s : State) (radio : Bool) (e d o : RefT (List ℕ)) where
+    pub value-handle-asks : value-handle.clauses 𝓤 H A at-mem run κs (s, (radio, (e, (d, (o, tt))))) .requires tt ≡ connectives 𝓤 .⊤ₛ
     value-handle-asks = refl
 
     pub value-handle-says : (e′ d′ o′ : RefT (List ℕ)) (r : HandledState)
-        → value-handle.clauses 𝓤 H A at-mem run κs (s, (e, (d, (o, tt)))) .ensures tt r (s, (e′, (d′, (o′, tt))))
-        ≡ fact 𝓤 (record { code = r .code; draws = r .draws; words = r .state .words; output = now o′ } ≡ program-outcome (now e) (now d) (now o) (s .words))
+        → value-handle.clauses 𝓤 H A at-mem run κs (s, (radio, (e, (d, (o, tt))))) .ensures tt r (s, (radio, (e′, (d′, (o′, tt)))))
+        ≡ fact 𝓤 (record { code = r .code; draws = r .draws; words = r .state .words; output = now o′ } ≡ program-outcome (side-of radio) (now e) (now d) (now o) (s .words))
     unfolding program-outcome
     value-handle-says e′ d′ o′ r = refl

@@ -14,6 +14,7 @@ use Rattle.spec_hyparview.specs.Station.{Station, draws-end}
 use Rattle.spec_hyparview.specs.Rules.{all-under}
 use Rattle.spec_hyparview.specs.Evictions.{evictions, named, Names}
 use Rattle.spec_hyparview.specs.Handle.{start}
+use Rattle.spec_hyparview.specs.Sides.{draws-from}
 use Rattle.spec_history.specs.Calls.{Call, narrow-draws, Machine, code-of, state-of, output-of}
 use Rattle.spec_history.specs.Outputs.{cut-records}
 use Rattle.hyparview_state.specs.Unpack.{unpack}
@@ -21,7 +22,7 @@ use Rattle.spec_demand.specs.Program.{program, value-program, unpack-sta
 
 -- whom the event of a call evicts, at the state s that stands for a station
 abbrev pub evicted-in : {S : Type 0} → (S → Station) → Call → S → List ℕ
-evicted-in station v s = evictions (rec-of (v .event)) (start (station s) (v .draws) (length (v .output)))
+evicted-in station v s = evictions (rec-of (v .event)) (start (station s) (draws-from (v .side) (v .draws)) (length (v .output)))
 
 -- of one accepted call at any state: its output names exactly these
 abbrev pub Names-evicted-of : {G S : Type 0} → Machine G S → (S → Station) → Type 0

@@ -23,6 +23,7 @@ use Rattle.spec_history.specs.Rejoin.{Rejoin-of}
 use Rattle.spec_history.specs.Pinned.{Pins-stay-of}
 use Rattle.tally.specs.History.{Counts-of}
 use Rattle.shuffle_times.specs.Claims.{Timed-of}
+use Rattle.spec_hyparview.specs.Sides.{Side, wired, handle-from}
 use Rattle.hyparview_state.specs.Layout.{words}
 use Rattle.hyparview_state.specs.Unpack.{unpack}
 use Rattle.hyparview_rules.specs.Ok.{state-ok}
@@ -30,15 +31,15 @@ use Rattle.hyparview.specs.Made.{MadeWords, lent, pack-made}
 use Rattle.hyparview.specs.Made as lending
 use Rattle.hyparview.specs.declared.State.{State}
 use Rattle.hyparview.specs.declared.MadeState as by-value
-use Rattle.hyparview.specs.Handled.{Outcome, handled}
+use Rattle.hyparview.specs.Handled.{Outcome, handled-from}
 
 -- what `new` answers, and the words xs that it was lent as it leaves them
 unfoldable pub program-made : List ℕ → ℕ → Bool → List ℕ → Config → MadeWords
 program-made xs me present own c = lending.made xs me (lent present own) c
 
 -- what `handle` answers, and the words and the output as it leaves them
-unfoldable pub program-outcome : List ℕ → List ℕ → List ℕ → List ℕ → Outcome
-program-outcome b ds out xs = handled xs b ds (length out)
+unfoldable pub program-outcome : Side → List ℕ → List ℕ → List ℕ → List ℕ → Outcome
+program-outcome side b ds out xs = handled-from side xs b ds (length out)
 
 -- what `new` is lent: the words, whatever they hold, and own data as a flag and bytes
 pub record Lending : Type 0 where
@@ -51,10 +52,10 @@ program = record {
   own = λ g. lent (g .present) (g .own);
   new-code = λ me g c. program-made (g .words) me (g .present) (g .own) c .code;
   new-state = λ me g c. program-made (g .words) me (g .present) (g .own) c .words;
-  code = λ b ds out xs. program-outcome b ds out xs .code;
-  state = λ b ds out xs. program-outcome b ds out xs .words;
-  used = λ b ds out xs. program-outcome b ds out xs .draws;
-  output = λ b ds out xs. program-outcome b ds out xs .output;
+  code = λ side b ds out xs. program-outcome side b ds out xs .code;
+  state = λ side b ds out xs. program-outcome side b ds out xs .words;
+  used = λ side b ds out xs. program-outcome side b ds out xs .draws;
+  output = λ side b ds out xs. program-outcome side b ds out xs .output;
 }
 
 -- Demand 3: of every list of calls, whatever the words held before `new`
@@ -80,20 +81,20 @@ Shuffles-timed = Timed-of program
 -- of one call to a machine, at a state that stands for a station
 pub record Suffices {G S : Type 0} (m : Machine G S) (station : S → Station) (s : S) (v : Call) : Type 0 where
   -- "8,192 output bytes and 512 draws always suffice"; by 02, S-6, 512 draws that are kept: code 5 is answered only where fewer than 512 of those lent were kept
-  pub five : code-of m v s ≡ 5 → FewerKept 512 (λ ds. m .code (v .event) ds (v .output) s) (λ ds. m .used (v .event) ds (v .output) s) (λ ds. station (m .state (v .event) ds (v .output) s)) (v .draws)
+  pub five : code-of m v s ≡ 5 → FewerKept 512 (λ ds. m .code (v .side) (v .event) ds (v .output) s) (λ ds. m .used (v .side) (v .event) ds (v .output) s) (λ ds. station (m .state (v .side) (v .event) ds (v .output) s)) (v .draws)
   -- and an accepted call keeps at most 512, fewer than 513, of the draws that it uses
   pub kept-used : code-of m v s ≡ 0
-      → FewerKept 513 (λ ds. m .code (v .event) ds (v .output) s) (λ ds. m .used (v .event) ds (v .output) s) (λ ds. station (m .state (v .event) ds (v .output) s)) (take (m .used (v .event) (v .draws) (v .output) s) (v .draws))
+      → FewerKept 513 (λ ds. m .code (v .side) (v .event) ds (v .output) s) (λ ds. m .used (v .side) (v .event) ds (v .output) s) (λ ds. station (m .state (v .side) (v .event) ds (v .output) s)) (take (m .used (v .side) (v .event) (v .draws) (v .output) s) (v .draws))
   -- and so 512 draws below 2^32 - 32 suffice, which every choice keeps
   pub no-five : 512 ≤ length (v .draws) → all-under sure-end (v .draws) ≡ true → code-of m v s ≡ 5 → ⊥
   pub no-nine : 8192 ≤ length (v .output) → code-of m v s ≡ 9 → ⊥
   -- "The count in the result equals the draws the definition consumes"; by S-6 those lent bound it, and no longer 512
-  pub draws-used : m .used (v .event) (v .draws) (v .output) s ≡ Handle.handle (station s) (v .event) (v .draws) (length (v .output)) .used
-  pub few-draws : m .used (v .event) (v .draws) (v .output) s ≤ length (v .draws)
+  pub draws-used : m .used (v .side) (v .event) (v .draws) (v .output) s ≡ handle-from (v .side) (station s) (v .event) (v .draws) (length (v .output)) .used
+  pub few-draws : m .used (v .side) (v .event) (v .draws) (v .output) s ≤ length (v .draws)
 
--- of words that keep the rules
+-- of words that keep the rules, from the wired side; how few draws the radio side reads, and when they suffice, is said apart (Sides)
 abbrev pub Enough-lent : Type 0
-Enough-lent = (xs : List ℕ) → state-ok xs ≡ true → (v : Call) → Suffices program unpack xs v
+Enough-lent = (xs : List ℕ) → state-ok xs ≡ true → (v : Call) → v .side ≡ wired → Suffices program unpack xs v
 
 -- "Code 1 belongs to `new` alone", whatever the words and the event are
 abbrev pub Never-one : Type 0
@@ -145,10 +146,10 @@ value-program = record {
   own = λ g. lent (g .0) (g .1);
   new-code = λ me g c. made-state me (g .0) (g .1) c .code;
   new-state = λ me g c. made-state me (g .0) (g .1) c .state;
-  code = λ b ds out s. program-outcome b ds out (s .words) .code;
-  state = λ b ds out s. record { words = program-outcome b ds out (s .words) .words };
-  used = λ b ds out s. program-outcome b ds out (s .words) .draws;
-  output = λ b ds out s. program-outcome b ds out (s .words) .output;
+  code = λ side b ds out s. program-outcome side b ds out (s .words) .code;
+  state = λ side b ds out s. record { words = program-outcome side b ds out (s .words) .words };
+  used = λ side b ds out s. program-outcome side b ds out (s .words) .draws;
+  output = λ side b ds out s. program-outcome side b ds out (s .words) .output;
 }
 
 abbrev pub unpack-state : State → Station

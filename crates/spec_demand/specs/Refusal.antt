@@ -9,7 +9,7 @@ use Rattle.spec_demand.specs.Program.{program, value-program}
 pub record LeftAsLent {G S : Type 0} (m : Machine G S) (s : S) (v : Call) : Type 0 where
   pub same-state : state-of m v s ≡ s
   pub zeroes : output-of m v s ≡ replicate (length (v .output)) 0
-  pub no-draws : m .used (v .event) (v .draws) (v .output) s ≡ 0
+  pub no-draws : m .used (v .side) (v .event) (v .draws) (v .output) s ≡ 0
 
 -- of every call at every state, whether it keeps the rules or not
 abbrev pub Refusals-of : {G S : Type 0} → Machine G S → Type 0

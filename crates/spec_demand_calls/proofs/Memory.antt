@@ -145,8 +145,8 @@ shuffles-timed me g c t z =
 -- One call: the tally stands beside the answer, and changes neither code nor draws.
 pub enough-lent : M.Enough-lent
 unfolding memory-outcome D.program-outcome called tallied
-enough-lent x ok v =
-    let k = P.enough-lent (x .words) ok v in
+enough-lent x ok v w =
+    let k = P.enough-lent (x .words) ok v w in
     record { five = k .five; kept-used = k .kept-used; no-five = k .no-five; no-nine = k .no-nine; draws-used = k .draws-used; few-draws = k .few-draws }
 
 pub never-one : M.Never-one

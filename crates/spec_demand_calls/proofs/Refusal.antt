@@ -12,5 +12,5 @@ pub refusals-kept : Refusals-kept
 unfolding memory-outcome program-outcome called tallied
 refusals-kept x v n =
     let k = program.refusals-kept (x .words) v n in
-    let t = refused-same (x .words) (x .tally) (v .event) (v .draws) (length (v .output)) n .1 in
+    let t = refused-same (v .side) (x .words) (x .tally) (v .event) (v .draws) (length (v .output)) n in
     record { same-state = λ i. record { words = k .same-state i; tally = t i }; zeroes = k .zeroes; no-draws = k .no-draws }

@@ -21,6 +21,7 @@ use Rattle.tally.specs.Counts.{top}
 use Rattle.tally.specs.Sum.{total}
 use Rattle.tally.specs.History.{no-messages}
 use Rattle.shuffle_times.specs.Claims.{Timed-of}
+use Rattle.spec_hyparview.specs.Sides.{Side, wired}
 use Rattle.hyparview_state.specs.Layout.{words}
 use Rattle.hyparview_state.specs.Unpack.{unpack}
 use Rattle.hyparview_rules.specs.Ok.{state-ok}
@@ -42,8 +43,8 @@ abbrev pub filled : Begun → LentMemory
 filled m = record { words = m .words; tally = m .tally }
 
 -- `hyparview_handle` on this memory
-unfoldable pub memory-outcome : List ℕ → List ℕ → List ℕ → LentMemory → Called
-memory-outcome b ds out x = called (x .words) (x .tally) b ds (length out)
+unfoldable pub memory-outcome : Side → List ℕ → List ℕ → List ℕ → LentMemory → Called
+memory-outcome side b ds out x = called side (x .words) (x .tally) b ds (length out)
 
 -- what `hyparview_new` is lent: the memory, and own data as a flag and bytes
 pub record MemoryLending : Type 0 where
@@ -56,10 +57,10 @@ c-calls = record {
   own = λ g. lent (not (eqb (g .present) 0)) (g .own);
   new-code = λ me g c. memory-made (g .held) me (g .present) (g .own) c .code;
   new-state = λ me g c. filled (memory-made (g .held) me (g .present) (g .own) c);
-  code = λ b ds out x. memory-outcome b ds out x .code;
-  state = λ b ds out x. record { words = memory-outcome b ds out x .words; tally = memory-outcome b ds out x .tally };
-  used = λ b ds out x. memory-outcome b ds out x .draws;
-  output = λ b ds out x. memory-outcome b ds out x .output;
+  code = λ side b ds out x. memory-outcome side b ds out x .code;
+  state = λ side b ds out x. record { words = memory-outcome side b ds out x .words; tally = memory-outcome side b ds out x .tally };
+  used = λ side b ds out x. memory-outcome side b ds out x .draws;
+  output = λ side b ds out x. memory-outcome side b ds out x .output;
 }
 
 -- the station that it holds, and whether the words keep the rules
@@ -94,9 +95,9 @@ Every-message-counted =
 abbrev pub Shuffles-timed : Type 0
 Shuffles-timed = Timed-of c-calls
 
--- "8,192 output bytes and 512 draws always suffice", by 02, S-6, draws that are kept: of one call at words that keep the rules, whatever the tally is
+-- "8,192 output bytes and 512 draws always suffice", by 02, S-6, draws that are kept: of one call from the wired side at words that keep the rules, whatever the tally is
 abbrev pub Enough-lent : Type 0
-Enough-lent = (x : LentMemory) → memory-passes x ≡ true → (v : Call) → Suffices c-calls station-in x v
+Enough-lent = (x : LentMemory) → memory-passes x ≡ true → (v : Call) → v .side ≡ wired → Suffices c-calls station-in x v
 
 -- "Code 1 belongs to `new` alone", whatever the words, the tally and the event are
 abbrev pub Never-one : Type 0

@@ -7,6 +7,7 @@ use mathlib.Core.Bool.{true}
 use mathlib.Core.Option.{none}
 use lib.ListN.{length, replicate}
 use Rattle.base_timing.specs.Timing.{default}
+use Rattle.spec_hyparview.specs.Sides.{wired}
 use Rattle.spec_history.specs.Calls.{Call, definition}
 use Rattle.spec_history.specs.Followed.{followed}
 use Rattle.spec_history.specs.Rejoin.{Tick, is-tick, ticks, all-alone}
@@ -18,7 +19,7 @@ request-join-7 = 6 ∷ 0 ∷ 0 ∷ 0 ∷ 7 ∷ 0 ∷ 0 ∷ 0 ∷ 0 ∷ 0 ∷ 0 �
 
 unfoldable pub the-listing : Call
 unfolding followed
-the-listing = record { event = request-join-7; are-bytes = refl; draws = 0 ∷ []; output = replicate 200 0 }
+the-listing = record { side = wired; event = request-join-7; are-bytes = refl; draws = 0 ∷ []; output = replicate 200 0 }
 
 -- "After the listing below the set is empty, with messages 1 and allowance 1."
 pub listing : followed 1 none default (the-listing ∷ []) .0 ≡ record { up = []; sent = 1; allowance = 1 }
@@ -29,6 +30,7 @@ listing = refl
 unfoldable pub maintenance : Call
 unfolding followed
 maintenance = record {
+  side = wired;
   event = 2 ∷ 0 ∷ 0 ∷ 0 ∷ 0 ∷ 0 ∷ 0 ∷ 0 ∷ 0 ∷ 0 ∷ 0 ∷ 0 ∷ 0 ∷ 0 ∷ 0 ∷ 0 ∷ 0 ∷ 0 ∷ 0 ∷ 0 ∷ 0 ∷ 0 ∷ 32 ∷ 0 ∷ 0 ∷ 0 ∷ 0 ∷ 0 ∷ 0 ∷ 0 ∷ 0 ∷ 0 ∷ [];
   are-bytes = refl;
   draws = [];

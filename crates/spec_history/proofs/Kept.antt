@@ -21,7 +21,7 @@ use Rattle.record.specs.InForm.{InForm}
 use Rattle.record.specs.Read.{Reading, read-event, rec-of, rec-of-by, header-of-by}
 use Rattle.record.specs.Walk.{kind-in, message-in}
 use Rattle.spec_hyparview.specs.Station.{Station}
-use Rattle.spec_hyparview.specs.Rules.{station-ok, short-data}
+use Rattle.spec_hyparview.specs.Rules.{all-under, station-ok, short-data}
 use Rattle.spec_hyparview.specs.Handle.{Result, Made, new, new-station, start, steps, refusal, accepted, finish, handle-reading, handle}
 use Rattle.base_lists.proofs.Members.{mem-yes, mem-no, same-length}
 use Rattle.spec_hyparview.proofs.Law.{Lawful, Small}
@@ -33,6 +33,8 @@ use Rattle.spec_hyparview.proofs.Whole.{Pays, Covered, covered-steps, Between, 
 use Rattle.spec_hyparview.proofs.Tested.{ranges-of, data-true, own-held, distinct-yes, rules-of}
 use Rattle.spec_hyparview.proofs.Written.{formed-event}
 use Rattle.spec_hyparview.proofs.Uncrowded.{never-eight}
+use Rattle.spec_hyparview.specs.Sides.{draws-from}
+use Rattle.spec_hyparview.proofs.Sides.{by-side}
 use Rattle.spec_history.specs.Ledger.{Ledger, empty-ledger, number-of, open-event, feed}
 use Rattle.spec_history.specs.Calls.{Call, NewGiven, result-of, answered, state-after, codes, ledger-after, definition}
 use Rattle.spec_history.specs.Demand.{Views, Booked, Demand3, Demand3-holds}
@@ -94,14 +96,23 @@ module _ {c : Config} {me : ℕ} {l : Ledger} {s : Station} (h : Kept c me l s) 
       }))
       (λ z. rw z (fine-refusal (r .code) (r .room) (let ne : r .code ≡ 0 → ⊥ = eqb-false (r .code) 0 z in omega (arith, k .codes .low (omega (arith, ne))))))
 
+-- the code of a radio event with too many nodes is another
+other : (s : Station) (room : ℕ) → refusal 16 s room .code ≡ 8 → ⊥
+unfolding refusal
+other s room e = omega (arith, e)
+
 module _ {c : Config} {me : ℕ} (ranges : in-range c ≡ true) where
+  fine-handle : {l : Ledger} {s : Station} (b : List ℕ) → all-under 256 b ≡ true → (ds : List ℕ) (room : ℕ) → Kept c me l s → Fine c me b l (handle s b ds room)
+  unfolding handle handle-reading
+  fine-handle {l} {s} b bytes ds room h =
+      rw (choose-yes (station-ok s) (handle-reading (read-event b) s ds room) (refusal 2 s room) (rules-of s ranges h))
+      (by-form b bytes (λ (x : Reading). Fine c me b l (handle-reading x s ds room)) (λ n i j. fine-refusal h b n room i) (λ w f. fine-event h b ds room w f))
+
   pub fine-answer : {l : Ledger} {s : Station} (v : Call) → Kept c me l s → Fine c me (v .event) l (result-of v s)
-  unfolding answered handle handle-reading
+  unfolding answered
   fine-answer {l} {s} v h =
       let room = length (v .output) in
-      rw (choose-yes (station-ok s) (handle-reading (read-event (v .event)) s (v .draws) room) (refusal 2 s room) (rules-of s ranges h))
-      (by-form (v .event) (v .are-bytes) (λ (x : Reading). Fine c me (v .event) l (handle-reading x s (v .draws) room))
-      (λ n i j. fine-refusal h (v .event) n room i) (λ w f. fine-event h (v .event) (v .draws) room w f))
+      by-side (Fine c me (v .event) l) (v .side) s (v .event) (v .draws) room (fine-refusal h (v .event) 16 room (omega arith)) (fine-handle (v .event) (v .are-bytes) (draws-from (v .side) (v .draws)) room h)
 
   pub kept-after : (vs : List Call) {l : Ledger} {s : Station} → Kept c me l s → Kept c me (ledger-after definition (c .«active_view_capacity») vs s l) (state-after definition vs s)
   unfolding state-after ledger-after
@@ -118,7 +129,8 @@ module _ {c : Config} {me : ℕ} (ranges : in-range c ≡ true) where
   unfolding codes answered count
   none-eight [] h = refl
   none-eight (v ∷ vs) {s = s} h =
-      let n = never-eight s (rules-of s ranges h) (v .draws) (length (v .output)) (v .event) (v .are-bytes) in
+      let room = length (v .output) in
+      let n = by-side (λ (a : Result). a .code ≡ 8 → ⊥) (v .side) s (v .event) (v .draws) room (other s room) (never-eight s (rules-of s ranges h) (draws-from (v .side) (v .draws)) room (v .event) (v .are-bytes)) in
       omega (arith, is-not 8 (result-of v s .code) (ne-eqb 8 (result-of v s .code) (λ e. n (sym e))), none-eight vs (fine-answer v h .kept))
 
 -- a new station

@@ -11,6 +11,7 @@ use Rattle.record.specs.Kinds.{Quit, DoShuffle, DoMaintenance, PendingNeighborR
 use Rattle.base_timing.specs.Timing.{default}
 use Rattle.base_timing.specs.declared.Config.{Config}
 use Rattle.record.specs.Format.{Rec, encode}
+use Rattle.spec_hyparview.specs.Sides.{wired}
 use Rattle.spec_hyparview.specs.Rules.{all-under}
 use Rattle.spec_hyparview.specs.Run.{node, message, timer, notice}
 use Rattle.spec_history.specs.Calls.{Call}
@@ -18,7 +19,7 @@ use Rattle.spec_history.specs.Followed.{followed}
 
 -- a call with the event e, 60 draws and 2,000 bytes
 abbrev lent : (e : Rec) → all-under 256 (encode e) ≡ true → Call
-lent e b = record { event = encode e; are-bytes = b; draws = replicate 60 0; output = replicate 2000 0 }
+lent e b = record { side = wired; event = encode e; are-bytes = b; draws = replicate 60 0; output = replicate 2000 0 }
 
 -- a message m with its flags from peer p, with a node of no data
 abbrev one-node : ℕ → ℕ → ℕ → ℕ → Rec

@@ -18,6 +18,7 @@ use Rattle.base_peer.specs.Data.{Data}
 use Rattle.record.specs.Kinds.{is-output-kind, PendingNeighborRequest, Evicted, kind-byte, output-byte}
 use Rattle.record.specs.Format.{encode}
 use Rattle.record.specs.Walk.{records-in, records-from}
+use Rattle.spec_hyparview.specs.Sides.{wired}
 use Rattle.spec_hyparview.specs.Station.{Station, is-me, in-active, in-passive, in-view, passive-is-full}
 use Rattle.spec_hyparview.specs.Run.{Run, guard, on, to-draw, one-of, draw-one-of, picked, message, timer, notice, node}
 use Rattle.spec_hyparview.specs.Peers as P
@@ -41,8 +42,8 @@ expired = encode (timer (kind-byte PendingNeighborRequest) 2 0 0)
 unfoldable pub asking : ℕ → List Call
 unfolding followed
 asking n =
-    record { event = two-peers; are-bytes = refl; draws = n ∷ 0 ∷ []; output = replicate 140 0 }
-    ∷ record { event = expired; are-bytes = refl; draws = 0 ∷ []; output = replicate 76 0 }
+    record { side = wired; event = two-peers; are-bytes = refl; draws = n ∷ 0 ∷ []; output = replicate 140 0 }
+    ∷ record { side = wired; event = expired; are-bytes = refl; draws = 0 ∷ []; output = replicate 76 0 }
     ∷ []
 
 abbrev first : Station

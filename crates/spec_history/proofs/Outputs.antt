@@ -21,13 +21,15 @@ use Rattle.record.proofs.Forth.{size-most}
 use Rattle.record.proofs.Walk.{whole-is, records-written, records-zeros}
 use Rattle.record.proofs.RoundTrip.{written-reads-back}
 use Rattle.spec_hyparview.specs.Station.{Station, draws-end}
-use Rattle.spec_hyparview.specs.Rules.{all-under, short-data}
-use Rattle.spec_hyparview.specs.Handle.{Made, new, new-station}
+use Rattle.spec_hyparview.specs.Rules.{all-under, short-data, station-ok}
+use Rattle.spec_hyparview.specs.Handle.{Result, Made, new, new-station, refusal}
+use Rattle.spec_hyparview.specs.Sides.{draws-from}
+use Rattle.spec_hyparview.proofs.Sides.{by-side, under-from}
 use Rattle.spec_hyparview.specs.Written.{encode-all, WrittenOut}
 use Rattle.spec_hyparview.proofs.Tested.{rules-of}
 use Rattle.spec_hyparview.proofs.Written.{writes-records}
 use Rattle.spec_history.specs.Ledger.{Ledger}
-use Rattle.spec_history.specs.Calls.{Call, narrow-draws, answered, definition}
+use Rattle.spec_history.specs.Calls.{Call, narrow-draws, answered, result-of, definition}
 use Rattle.spec_history.specs.Outputs.{cut-records, ReadsBack, OutputsRead, Outputs-read-back}
 use Rattle.spec_history.proofs.Kept.{Kept, fine-answer, kept-new, accepted-new}
 
@@ -62,12 +64,19 @@ read-back out w = ap (map decode) (parts-of out w) ∙ decode-all (w .records) (
 pub reads : (out : List ℕ) → WrittenOut out → ReadsBack out
 reads out w = record { written = w; parts = parts-of out w; read = read-back out w }
 
+pub written : (v : Call) (s : Station) → station-ok s ≡ true → all-under draws-end (v .draws) ≡ true → result-of v s .code ≡ 0 → WrittenOut (result-of v s .output)
+unfolding answered refusal
+written v s ok narrow =
+    let room = length (v .output) in
+    by-side (λ (a : Result). a .code ≡ 0 → WrittenOut (a .output)) (v .side) s (v .event) (v .draws) room (λ z. absurd (omega (arith, z)))
+    (λ z. writes-records s ok (v .event) (v .are-bytes) (draws-from (v .side) (v .draws)) (under-from draws-end (v .side) (v .draws) narrow) room z)
+
 module _ {c : Config} {me : ℕ} (ranges : in-range c ≡ true) where
   pub outputs-read : (vs : List Call) {l : Ledger} {s : Station} → narrow-draws vs ≡ true → Kept c me l s → OutputsRead definition vs s
   unfolding OutputsRead narrow-draws answered
   outputs-read [] n h = tt
   outputs-read (v ∷ vs) {s = s} n h = (
-    (λ z. reads _ (writes-records s (rules-of s ranges h) (v .event) (v .are-bytes) (v .draws) (and-left (all-under draws-end (v .draws)) _ n) (length (v .output)) z)),
+    (λ z. reads _ (written v s (rules-of s ranges h) (and-left (all-under draws-end (v .draws)) _ n) z)),
     outputs-read vs (and-right (all-under draws-end (v .draws)) _ n) (fine-answer ranges v h .kept),
   )
 

@@ -20,6 +20,8 @@ use Rattle.spec_hyparview.specs.Handle.{Result, Made, new, new-station, start, 
 use Rattle.spec_hyparview.proofs.Reading.{Readable, by-reading}
 use Rattle.spec_hyparview.proofs.Whole.{ok-steps}
 use Rattle.spec_hyparview.proofs.Tested.{rules-of}
+use Rattle.spec_hyparview.specs.Sides.{draws-from}
+use Rattle.spec_hyparview.proofs.Sides.{by-side}
 use Rattle.spec_history.specs.Ledger.{Ledger, number-of}
 use Rattle.spec_history.specs.Calls.{Call, result-of, answered, definition}
 use Rattle.spec_history.specs.Rejoin.{Tick, is-tick, ticks, all-alone, joins-to, Rejoins, Some, here, later, Rejoin-promise}
@@ -73,9 +75,11 @@ passed : {c : Config} {me : ℕ} {l : Ledger} {s : Station} → in-range c ≡ t
 unfolding answered handle handle-reading
 passed {s = s} ranges h v =
     let room = length (v .output) in
-    rw (choose-yes (station-ok s) (handle-reading (read-event (v .event)) s (v .draws) room) (refusal 2 s room) (rules-of s ranges h))
-    (by-reading (v .event) (v .are-bytes) (λ (x : Reading). Passed (v .event) s (handle-reading x s (v .draws) room))
-    (λ n i j. passed-refusal (v .event) s n room (λ e. omega arith)) (λ w. passed-event h (v .event) (v .draws) room w))
+    let ds = draws-from (v .side) (v .draws) in
+    by-side (Passed (v .event) s) (v .side) s (v .event) (v .draws) room (passed-refusal (v .event) s 16 room (λ e. omega arith))
+    (rw (choose-yes (station-ok s) (handle-reading (read-event (v .event)) s ds room) (refusal 2 s room) (rules-of s ranges h))
+    (by-reading (v .event) (v .are-bytes) (λ (x : Reading). Passed (v .event) s (handle-reading x s ds room))
+    (λ n i j. passed-refusal (v .event) s n room (λ e. omega arith)) (λ w. passed-event h (v .event) ds room w)))
 
 -- the next tick meets a station that has counted n passes
 unfoldable Next : ℕ → List Tick → Type 0

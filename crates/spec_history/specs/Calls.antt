@@ -9,12 +9,14 @@ use lib.ListN.{length}
 use Rattle.base_peer.specs.Data.{Data, bytes-of}
 use Rattle.spec_hyparview.specs.Station.{Station, peers-end, draws-end, bytes-end}
 use Rattle.spec_hyparview.specs.Rules.{all-under}
-use Rattle.spec_hyparview.specs.Handle.{Result, handle, new}
+use Rattle.spec_hyparview.specs.Handle.{Result, new}
+use Rattle.spec_hyparview.specs.Sides.{Side, handle-from}
 use Rattle.base_timing.specs.declared.Config.{Config}
 use Rattle.spec_history.specs.Ledger.{Ledger, feed}
 
--- "Each event is one `handle` .. with any event bytes, draws and output, whatever the output held"
+-- "Each event is one `handle` .. with any event bytes, draws and output, whatever the output held", from either side (02, S-12)
 pub record Call : Type 0 where
+  pub side : Side
   pub event : List ℕ
   pub are-bytes : all-under 256 event ≡ true
   pub draws : List ℕ
@@ -31,24 +33,24 @@ pub record NewGiven (me : ℕ) (d : Data) : Type 0 where
   pub are-bytes : all-under bytes-end (bytes-of d) ≡ true
 
 -- what is called, with states of the type S. `new` is given self, what is lent for the new state and the own data in it (of the type G), and settings; its answer is a code and a state.
--- `handle` is given an event, draws and an output, at a state; its answer is the code, the state handed back, the draws used, and the output as the call left it
+-- `handle` is given a side, an event, draws and an output, at a state; its answer is the code, the state handed back, the draws used, and the output as the call left it
 pub record Machine (G S : Type 0) : Type 0 where
   pub own : G → Data
   pub new-code : ℕ → G → Config → ℕ
   pub new-state : ℕ → G → Config → S
-  pub code : List ℕ → List ℕ → List ℕ → S → ℕ
-  pub state : List ℕ → List ℕ → List ℕ → S → S
-  pub used : List ℕ → List ℕ → List ℕ → S → ℕ
-  pub output : List ℕ → List ℕ → List ℕ → S → List ℕ
+  pub code : Side → List ℕ → List ℕ → List ℕ → S → ℕ
+  pub state : Side → List ℕ → List ℕ → List ℕ → S → S
+  pub used : Side → List ℕ → List ℕ → List ℕ → S → ℕ
+  pub output : Side → List ℕ → List ℕ → List ℕ → S → List ℕ
 
 abbrev pub code-of : {G S : Type 0} → Machine G S → Call → S → ℕ
-code-of m v s = m .code (v .event) (v .draws) (v .output) s
+code-of m v s = m .code (v .side) (v .event) (v .draws) (v .output) s
 
 abbrev pub state-of : {G S : Type 0} → Machine G S → Call → S → S
-state-of m v s = m .state (v .event) (v .draws) (v .output) s
+state-of m v s = m .state (v .side) (v .event) (v .draws) (v .output) s
 
 abbrev pub output-of : {G S : Type 0} → Machine G S → Call → S → List ℕ
-output-of m v s = m .output (v .event) (v .draws) (v .output) s
+output-of m v s = m .output (v .side) (v .event) (v .draws) (v .output) s
 
 -- the state that the last call handed back
 unfoldable pub state-after : {G S : Type 0} → Machine G S → List Call → S → S
@@ -66,11 +68,11 @@ ledger-after m a [] s l = l
 ledger-after m a (v ∷ vs) s l = ledger-after m a vs (state-of m v s) (feed a (v .event) (code-of m v s) (output-of m v s) l)
 
 -- the definition's answer
-unfoldable pub answered : List ℕ → List ℕ → List ℕ → Station → Result
-answered b ds out s = handle s b ds (length out)
+unfoldable pub answered : Side → List ℕ → List ℕ → List ℕ → Station → Result
+answered side b ds out s = handle-from side s b ds (length out)
 
 abbrev pub result-of : Call → Station → Result
-result-of v s = answered (v .event) (v .draws) (v .output) s
+result-of v s = answered (v .side) (v .event) (v .draws) (v .output) s
 
 -- what X says of self, settings and state holds of every new station: of one that `new`, given a 64-bit number and data of bytes, answered with code 0
 abbrev pub After-new : {G S : Type 0} → Machine G S → (ℕ → Config → S → Type 0) → Type 0
@@ -82,8 +84,8 @@ definition = record {
   own = λ d. d;
   new-code = λ me d c. new me d c .code;
   new-state = λ me d c. new me d c .state;
-  code = λ b ds out s. answered b ds out s .code;
-  state = λ b ds out s. answered b ds out s .state;
-  used = λ b ds out s. answered b ds out s .used;
-  output = λ b ds out s. answered b ds out s .output;
+  code = λ side b ds out s. answered side b ds out s .code;
+  state = λ side b ds out s. answered side b ds out s .state;
+  used = λ side b ds out s. answered side b ds out s .used;
+  output = λ side b ds out s. answered side b ds out s .output;
 }

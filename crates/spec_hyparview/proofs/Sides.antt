@@ -173,3 +173,15 @@ radio-misses = refl
 pub wired-answers : handle-from wired three quit (replicate 512 0) 8192 .used ≡ 88
 unfolding traced default handle-from counted
 wired-answers = refl
+
+-- "16, .. tested right after 4": an event of no kind, with as many nodes as its byte 3 says and no byte of them
+abbrev damaged : ℕ → List ℕ
+damaged n = 255 ∷ 0 ∷ 0 ∷ n ∷ replicate 28 0
+
+pub sixteen-after-four : handle-from radio three (damaged 33) (replicate 64 0) 8192 .code ≡ 4
+unfolding traced default handle-from handle-radio too-many counted
+sixteen-after-four = refl
+
+pub sixteen-before-three : handle-from radio three (damaged 9) (replicate 64 0) 8192 .code ≡ 16
+unfolding traced default handle-from handle-radio too-many counted
+sixteen-before-three = refl
