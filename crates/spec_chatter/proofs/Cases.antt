@@ -13,6 +13,7 @@ use Rattle.record.specs.Walk.{headers, records-in, records-from}
 use Rattle.spec_hyparview.specs.Station.{Station}
 use Rattle.spec_hyparview.specs.Run.{message, timer, node}
 use Rattle.spec_hyparview.specs.Handle.{new}
+use Rattle.spec_hyparview.specs.Sides.{wired}
 use Rattle.spec_history.specs.Calls.{Call, state-after, definition}
 use Rattle.spec_history.specs.Followed.{followed}
 use Rattle.spec_chatter.specs.Traffic.{Item, came, went, items-of, traffic}
@@ -21,7 +22,7 @@ use Rattle.spec_chatter.specs.Claims.{times-scheduled, times-expired, ac
 -- a Join from 2, twice: each is answered by a Neighbor, and the second Join stands between the two
 unfoldable pub join-2 : Call
 unfolding followed
-join-2 = record { event = encode (message 0 2 0 0 0 (node 0 none ∷ [])); are-bytes = refl; draws = replicate 40 0; output = replicate 800 0 }
+join-2 = record { side = wired; event = encode (message 0 2 0 0 0 (node 0 none ∷ [])); are-bytes = refl; draws = replicate 40 0; output = replicate 800 0 }
 
 abbrev start : Station
 start = new 1 none default .state
@@ -39,7 +40,7 @@ two-neighbors = refl
 -- a maintenance timer after them: one more of each clock was scheduled than expired
 unfoldable pub tick : Call
 unfolding followed
-tick = record { event = encode (timer (kind-byte DoMaintenance) 0 0 0); are-bytes = refl; draws = replicate 40 0; output = replicate 800 0 }
+tick = record { side = wired; event = encode (timer (kind-byte DoMaintenance) 0 0 0); are-bytes = refl; draws = replicate 40 0; output = replicate 800 0 }
 
 abbrev ticked : List Item
 ticked = traffic definition (join-2 ∷ join-2 ∷ tick ∷ []) start

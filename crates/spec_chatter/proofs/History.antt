@@ -32,6 +32,8 @@ use Rattle.spec_hyparview.proofs.Whole.{ok-steps}
 use Rattle.spec_hyparview.proofs.Tested.{rules-of}
 use Rattle.spec_hyparview.proofs.Written.{formed-event}
 use Rattle.spec_history.specs.Ledger.{Ledger, number-of}
+use Rattle.spec_hyparview.specs.Sides.{draws-from}
+use Rattle.spec_hyparview.proofs.Sides.{by-side}
 use Rattle.spec_history.specs.Calls.{Call, result-of, answered}
 use Rattle.spec_history.proofs.Kept.{Kept, pays}
 use Rattle.spec_chatter.specs.Traffic.{Item, came, items-of}
@@ -145,8 +147,9 @@ pub called : {c : Config} {me : ℕ} {l : Ledger} {s : Station} → in-range c �
 unfolding answered handle handle-reading Answer
 called {s = s} ranges h v =
     let b = v .event in
-    let ds = v .draws in
+    let ds = draws-from (v .side) (v .draws) in
     let room = length (v .output) in
-    rw (choose-yes (station-ok s) (handle-reading (read-event b) s ds room) (refusal 2 s room) (rules-of s ranges h))
+    by-side (Answer b s) (v .side) s b (v .draws) room (refused b s 16 room (λ q. omega (arith, q)))
+    (rw (choose-yes (station-ok s) (handle-reading (read-event b) s ds room) (refusal 2 s room) (rules-of s ranges h))
     (by-form b (v .are-bytes) (λ (x : Reading). Answer b s (handle-reading x s ds room))
-    (λ n i j. refused b s n room (λ q. omega (arith, q, i))) (λ w f. called-event h b ds room w f))
+    (λ n i j. refused b s n room (λ q. omega (arith, q, i))) (λ w f. called-event h b ds room w f)))

@@ -17,7 +17,8 @@ use Rattle.record.specs.Read.{rec-of}
 use Rattle.spec_hyparview.specs.Station.{Station}
 use Rattle.spec_hyparview.specs.Rules.{station-ok}
 use Rattle.spec_hyparview.specs.Pins.{is-parting}
-use Rattle.spec_hyparview.specs.Handle.{new}
+use Rattle.spec_hyparview.specs.Handle.{refusal, new}
+use Rattle.spec_hyparview.proofs.Sides.{by-side}
 use Rattle.spec_hyparview.proofs.Stays.{pin-kept}
 use Rattle.spec_hyparview.proofs.Tested.{between-of}
 use Rattle.spec_history.specs.Calls.{Call, Machine, NewGiven, state-of, state-after, definition, answered}
@@ -32,11 +33,11 @@ after-both m [] ws s = refl
 after-both m (v ∷ vs) ws s = after-both m vs ws (state-of m v s)
 
 pin-after : (p : ℕ) (ws : List Call) (s : Station) → no-partings p ws ≡ true → mem p (s .pins) ≡ true → mem p (state-after definition ws s .pins) ≡ true
-unfolding state-after no-partings answered
+unfolding state-after no-partings answered refusal
 pin-after p [] s n m = m
 pin-after p (v ∷ ws) s n m =
     let here = is-parting p (rec-of (v .event)) in
-    pin-after p ws _ (and-right (not here) _ n) (pin-kept p s (v .event) (v .draws) (length (v .output)) (not-true here (and-left (not here) _ n)) m)
+    pin-after p ws _ (and-right (not here) _ n) (by-side (λ x. mem p (x .state .pins) ≡ true) (v .side) s (v .event) (v .draws) (length (v .output)) m (pin-kept p s (v .event) _ (length (v .output)) (not-true here (and-left (not here) _ n)) m))
 
 pinned-active : (p : ℕ) (s : Station) → station-ok s ≡ true → mem p (s .pins) ≡ true → mem p (s .active) ≡ true
 pinned-active p s ok m = mem-yes p (s .active) (omega (arith, between-of s ok .law .pins-ok .among p, mem-true p (s .pins) m))
