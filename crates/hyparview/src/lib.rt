@@ -193,7 +193,7 @@ fn clear_output(out: &mut [u8], from: usize)
 }
 
 // The words of a into b.
-fn copy_words(a: &[u64], b: &mut [u64])
+pub fn copy_words(a: &[u64], b: &mut [u64])
     requires { ⌜ length (now a) ≡ length (now b) ⌝ }
     ensures { λ _. ⌜ now (b .exit) ≡ now (a .entry) ⌝ }
 {
