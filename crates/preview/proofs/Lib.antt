@@ -1,3 +1,4 @@
 pub mod Laws
 pub mod Done
 pub mod Nine
+pub mod Written

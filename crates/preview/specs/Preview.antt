@@ -3,13 +3,17 @@
 use Prim.Native.Nat.{ℕ, _+_}
 use mathlib.Core.Bool.{true}
 use mathlib.Core.Path.{_≡_}
-use mathlib.Core.List.{List}
+use mathlib.Core.List.{List, [], _∷_}
+use lib.ListN.{length}
 use lib.Dec.{eqb}
 use Rattle.base_lists.specs.Lists.{choose}
 use Rattle.record.specs.Kinds.{Message, kind-byte}
+use Rattle.record.specs.Format.{Rec}
 use Rattle.record.specs.Walk.{kind-in, whole-length, records-in, walk}
 use Rattle.spec_hyparview.specs.Rules.{all-under}
 use Rattle.spec_hyparview.specs.Sides.{Side}
+use Rattle.spec_hyparview.specs.Station.{draws-end}
+use Rattle.spec_hyparview.specs.Written.{encode-all, WrittenOut}
 use Rattle.hyparview.specs.Room.{output-room}
 use Rattle.hyparview.specs.Handled.{Outcome, handled-from}
 use Rattle.preview.specs.declared.Count.{Count}
@@ -47,3 +51,20 @@ preview xs side b ds = price (handled-from side xs b ds output-room)
 -- "9 never occurs", whatever the words, the side, the event's bytes and the draws
 abbrev pub Never-nine : Type 0
 Never-nine = (xs : List ℕ) (side : Side) (b ds : List ℕ) → all-under 256 b ≡ true → preview xs side b ds .code ≡ 9 → ⊥
+
+-- how many of the records are messages
+unfoldable pub messages-of : List Rec → ℕ
+messages-of [] = 0
+messages-of (e ∷ es) = add-message (e .kind) (messages-of es)
+
+-- a price p tells of an output the records written to it: the messages among them, and all their bytes, without the zeroes behind
+pub record Tells (out : List ℕ) (p : Price) : Type 0 where
+  pub written : WrittenOut out
+  pub messages : p .messages ≡ messages-of (written .records)
+  pub bytes : p .bytes ≡ length (encode-all (written .records))
+
+-- of every accepted call; an event is bytes, and draws have 32 bits
+abbrev pub Tells-written : Type 0
+Tells-written =
+    (xs : List ℕ) (side : Side) (b ds : List ℕ) → all-under 256 b ≡ true → all-under draws-end ds ≡ true
+    → preview xs side b ds .code ≡ 0 → Tells (handled-from side xs b ds output-room .output) (preview xs side b ds)

@@ -104,3 +104,11 @@ pub fn preview(st: &[u64], radio: bool, b: &[u8], draws: &[u32]) -> Price
         draws: d.draws,
     }
 }
+
+// The same for C, over memory that is read and never written.
+#[no_mangle]
+pub extern "C" fn hyparview_preview(st: &[u64], radio: bool, event: &[u8], draws: &[u32]) -> Price
+    ensures { λ r. ⌜ r ≡ preview (now (st .entry)) (side-of radio) (now (event .entry)) (now (draws .entry)) ⌝ }
+{
+    preview(st, radio, event, draws)
+}
