@@ -1,6 +1,6 @@
 -- 02, S-14: the neighbours without a pin have no repeats, so that places and peers are one; the claims of S-6 on places carry over.
 -- Assumes nothing.
-use Prim.Native.Nat.{ℕ, zero, suc, _≤_, _<_}
+use Prim.Native.Nat.{ℕ, zero, suc, _-_, _≤_, _<_}
 use mathlib.Core.Path.{_≡_, refl, sym, ap, subst, _∙_}
 use mathlib.Core.Bool.{Bool, true, false, _&&_}
 use mathlib.Core.List.{List, [], _∷_, _++_}
@@ -8,33 +8,31 @@ use native.Mathlib.Omega.{arith}
 use lib.ListN.{length, getD}
 use lib.Dec.{eqb}
 use borrow.Author.Tests.{leb-true, eqb-true, eqb-false, eq-eqb, ne-eqb}
-use Rattle.base_lists.specs.Lists.{choose, null, count, mem, without-all, index-of}
-use Rattle.base_lists.proofs.Choice.{split, choose-yes, choose-no}
+use Rattle.base_lists.specs.Lists.{choose, null, count, mem, distinct, subset, without-all, index-of}
+use Rattle.base_lists.proofs.Choice.{split, and-right, choose-yes, choose-no}
 use Rattle.base_lists.proofs.Count.{is-self, mem-true, count-at, index-lt, index-at}
-use Rattle.base_lists.proofs.Members.{null-no}
+use Rattle.base_lists.proofs.Members.{null-yes, null-no}
 use Rattle.base_lists.proofs.Tests.{and-no}
-use Rattle.base_lists.proofs.Skips.{without-none, count-left, count-skipped}
+use Rattle.base_lists.proofs.Skips.{without-none, few-taken, count-left, count-skipped}
 use Rattle.base_util.specs.Chances.{all-draws, is-kept, pick}
 use Rattle.base_util.specs.Equal.{count-below, decides}
 use Rattle.base_util.proofs.Chances.{pick-below}
 use Rattle.base_util.proofs.Equal.{sum-same, sum-nothing, equal-chances}
-use Rattle.spec_hyparview.specs.Station.{Station, is-alone, active-is-full, without-pin}
+use Rattle.spec_hyparview.specs.Station.{Station, is-alone, active-is-full, most-pins, without-pin}
 use Rattle.spec_hyparview.specs.Run.{Run, to-draw, one-of, picked, draw-one-of}
 use Rattle.spec_hyparview.specs.Active as A
-use Rattle.spec_hyparview.specs.Rules.{station-ok}
+use Rattle.spec_hyparview.specs.Rules.{settings-rule, pins-rule}
 use Rattle.spec_hyparview.specs.Pins.{FindsOne, OldWithoutPins, demotes, EqualDemotions, PinnedNeverPicked}
-use Rattle.spec_hyparview.proofs.Leaving.{free-or-unpinned}
-use Rattle.spec_hyparview.proofs.Tested.{between-of}
-
-once-active : (s : Station) → station-ok s ≡ true → (x : ℕ) → count x (s .active) ≤ 1
-once-active s ok x = omega (arith, between-of s ok .core .seats .one x)
+use Rattle.spec_hyparview.proofs.Tested.{distinct-true, ranges-of}
 
 pub finds-one : FindsOne
-unfolding active-is-full
-finds-one s ok full =
-    let b = between-of s ok in
+unfolding active-is-full settings-rule pins-rule most-pins without-pin
+finds-one s set once pin full =
+    let cap = s .config .«active_view_capacity» in
+    let few = leb-true (length (s .pins)) (cap - 1) (and-right (subset (s .pins) (s .active)) _ pin) in
     split (null (without-pin s))
-    (λ e. absurd (omega (arith, leb-true (s .config .«active_view_capacity») (length (s .active)) full, free-or-unpinned s (b .law) (b .core .still .ranges .some-slot) (once-active s ok) e))) (λ e. e)
+    (λ e. absurd (omega (arith, leb-true cap (length (s .active)) full, ranges-of (s .config) set .some-slot, few, few-taken (s .pins) (s .active) (distinct-true (s .active) once), null-yes (without-pin s) e)))
+    (λ e. e)
 
 -- in a list without repeats an item has one place
 one-place : (xs : List ℕ) (j : ℕ) → ((x : ℕ) → count x xs ≤ 1) → j < length xs → index-of (getD xs j 0) xs ≡ j
@@ -54,7 +52,7 @@ old-without-pins r ok e =
     let free : without-pin (r .station) ≡ act = ap (λ (l : List ℕ). without-all l act) e ∙ without-none act in
     (λ i. choose (null (free i)) r (A.remove-active-by-index (index-of (getD (free i) (pick (length (free i)) (to-draw r)) 0) act) A.random (draw-one-of (length (free i)) r)))
     ∙ split (null act) (λ t. choose-yes (null act) r _ t ∙ sym (choose-yes (null act) r _ t))
-    (λ t. ap (λ (i : ℕ). choose (null act) r (A.remove-active-by-index i A.random (draw-one-of n r))) (one-place act (pick n (to-draw r)) (once-active (r .station) ok) (pick-below n (to-draw r) (null-no act t))))
+    (λ t. ap (λ (i : ℕ). choose (null act) r (A.remove-active-by-index i A.random (draw-one-of n r))) (one-place act (pick n (to-draw r)) (distinct-true act ok) (pick-below n (to-draw r) (null-no act t))))
 
 module _ (s : Station) (p : ℕ) (over more : List ℕ) where
   abbrev free : List ℕ
@@ -64,10 +62,10 @@ module _ (s : Station) (p : ℕ) (over more : List ℕ) where
   place-by d = pick (length free) (over ++ (d ∷ more))
 
   -- p is picked where its place is
-  same-test : station-ok s ≡ true → mem p free ≡ true → (d : ℕ) → _≡_ {A = ℕ} (choose (demotes s p over more d) 1 0) (choose (decides (length free) (index-of p free) over more d) 1 0)
+  same-test : distinct (s .active) ≡ true → mem p free ≡ true → (d : ℕ) → _≡_ {A = ℕ} (choose (demotes s p over more d) 1 0) (choose (decides (length free) (index-of p free) over more d) 1 0)
   unfolding demotes decides without-pin
   same-test ok m d =
-      let once : (x : ℕ) → count x free ≤ 1 = (λ x. omega (arith, once-active s ok x, count-left x (s .pins) (s .active))) in
+      let once : (x : ℕ) → count x free ≤ 1 = (λ x. omega (arith, distinct-true (s .active) ok x, count-left x (s .pins) (s .active))) in
       let l : place-by d < length free = pick-below (length free) (over ++ (d ∷ more)) (omega (arith, index-lt p free m)) in
       let same : eqb (getD free (place-by d) 0) p ≡ eqb (place-by d) (index-of p free) =
       split (eqb (place-by d) (index-of p free))

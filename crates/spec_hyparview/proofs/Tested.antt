@@ -52,7 +52,7 @@ distinct-yes [] h = refl
 distinct-yes (x ∷ xs) h =
     both (not (mem x xs)) (distinct xs) (negate (mem x xs) (mem-no x xs (omega (arith, h x, is-self x)))) (distinct-yes xs (λ y. omega (arith, h y)))
 
-distinct-true : (xs : List ℕ) → distinct xs ≡ true → (x : ℕ) → count x xs ≤ 1
+pub distinct-true : (xs : List ℕ) → distinct xs ≡ true → (x : ℕ) → count x xs ≤ 1
 unfolding distinct count
 distinct-true [] e x = omega arith
 distinct-true (p ∷ xs) e x =

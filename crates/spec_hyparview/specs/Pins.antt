@@ -6,7 +6,7 @@ use mathlib.Core.Bool.{Bool, true, false, _&&_, _||_}
 use mathlib.Core.List.{List, [], _∷_, _++_}
 use lib.ListN.{length, getD}
 use lib.Dec.{eqb}
-use Rattle.base_lists.specs.Lists.{choose, null, mem}
+use Rattle.base_lists.specs.Lists.{choose, null, mem, distinct}
 use Rattle.base_util.specs.Chances.{all-draws, is-kept, pick}
 use Rattle.base_util.specs.Equal.{count-below, none-kept}
 use Rattle.record.specs.Kinds.{Message, PeerDisconnected, Quit, kind-byte}
@@ -14,16 +14,19 @@ use Rattle.record.specs.Format.{Rec}
 use Rattle.spec_hyparview.specs.Station.{Station, is-alone, active-is-full, without-pin}
 use Rattle.spec_hyparview.specs.Run.{Run, one-of, draw-one-of}
 use Rattle.spec_hyparview.specs.Active.{random, remove-active-by-index, free-random-slot-in-active-view}
-use Rattle.spec_hyparview.specs.Rules.{station-ok}
+use Rattle.spec_hyparview.specs.Rules.{settings-rule, pins-rule}
 
--- "so a High arrival always finds a place": at a full view somebody can be demoted
+-- "so a High arrival always finds a place": at a full view somebody can be demoted. In the midst of an event the data of the peer that
+-- arrives may be held before its place is free, so of the station rules only those are asked that speak of views and pins.
 abbrev pub FindsOne : Type 0
-FindsOne = (s : Station) → station-ok s ≡ true → active-is-full s ≡ true → null (without-pin s) ≡ false
+FindsOne =
+    (s : Station) → settings-rule s ≡ true → distinct (s .active) ≡ true → pins-rule s ≡ true → active-is-full s ≡ true
+    → null (without-pin s) ≡ false
 
 -- without pins the step is that of hyparview.rs
 abbrev pub OldWithoutPins : Type 0
 OldWithoutPins =
-    (r : Run) → station-ok (r .station) ≡ true → r .station .pins ≡ []
+    (r : Run) → distinct (r .station .active) ≡ true → r .station .pins ≡ []
     → free-random-slot-in-active-view r
     ≡ choose (is-alone (r .station)) r (remove-active-by-index (one-of (length (r .station .active)) r) random (draw-one-of (length (r .station .active)) r))
 
@@ -34,7 +37,7 @@ demotes s p over more d = is-kept (length (without-pin s)) d && eqb (getD (witho
 -- of the draws kept each neighbour without a pin is picked by equally many, a pinned one by none
 abbrev pub EqualDemotions : Type 0
 EqualDemotions =
-    (s : Station) → station-ok s ≡ true → (p : ℕ) (over more : List ℕ) → none-kept (length (without-pin s)) over ≡ true → mem p (without-pin s) ≡ true
+    (s : Station) → distinct (s .active) ≡ true → (p : ℕ) (over more : List ℕ) → none-kept (length (without-pin s)) over ≡ true → mem p (without-pin s) ≡ true
     → count-below (demotes s p over more) all-draws ≡ all-draws / length (without-pin s)
 
 abbrev pub PinnedNeverPicked : Type 0
