@@ -1,4 +1,4 @@
--- 02, S-14: every step leaves the pin of a peer k, but for a Disconnect from it, its closed connection and a Quit.
+-- 02, S-14: every step leaves the pin of a peer k, but for a Disconnect from it, its closed connection and a Quit; and an accepted Pin gives it one.
 -- Assumes nothing.
 use mathlib.Core.Path.{_≡_, refl, sym, ap, subst, _∙_}
 use mathlib.Core.Bool.{Bool, true, false, not, _&&_}
@@ -7,18 +7,18 @@ use mathlib.Core.Option.{Option, none, some}
 use Prim.Native.Nat.{ℕ, zero, suc, _≤_}
 use lib.ListN.{length, getD}
 use lib.Dec.{leb, ltb, eqb}
-use borrow.Author.Tests.{leb-true, eqb-false, eq-eqb}
+use borrow.Author.Tests.{leb-true, eqb-true, eqb-false, eq-eqb}
 use native.Mathlib.Omega.{arith}
-use Rattle.base_lists.specs.Lists.{choose, null, count, mem, index-of, without-all}
-use Rattle.base_lists.proofs.Choice.{by-choice, choose-yes, and-left, and-right, clash}
-use Rattle.base_lists.proofs.Count.{mem-true, count-at, index-at}
-use Rattle.base_lists.proofs.Members.{null-no, mem-without-other, mem-insert}
+use Rattle.base_lists.specs.Lists.{choose, null, count, mem, index-of, without-all, place, insert}
+use Rattle.base_lists.proofs.Choice.{by-choice, by-test, choose-yes, and-left, and-right, clash}
+use Rattle.base_lists.proofs.Count.{is-self, mem-true, count-at, count-place, index-at}
+use Rattle.base_lists.proofs.Members.{null-no, mem-yes, mem-without-other, mem-insert}
 use Rattle.base_lists.proofs.Skips.{count-skipped}
 use Rattle.base_util.specs.Chances.{pick}
 use Rattle.base_util.proofs.Chances.{pick-below}
 use Rattle.base_peer.specs.Data.{Data, Node}
-use Rattle.record.specs.Kinds.{EventKind, Message, DoShuffle, DoMaintenance, PendingNeighborRequest, RetryJoin, PeerDisconnected, RequestJoin, UpdatePeerData, Quit, Pin, kind-byte}
-use Rattle.record.proofs.ByKind.{by-kind}
+use Rattle.record.specs.Kinds.{EventKind, Message, DoShuffle, DoMaintenance, PendingNeighborRequest, RetryJoin, PeerDisconnected, RequestJoin, UpdatePeerData, Quit, Pin, kind-byte, event-kind}
+use Rattle.record.proofs.ByKind.{kind-found, by-kind}
 use Rattle.record.specs.Format.{Rec, most-nodes, header-length}
 use Rattle.record.specs.Read.{Reading, fixed-size, kind-ok, header-ok, header-of, well-formed-by, well-formed, rec-of-by, rec-of, is-event, read-event}
 use Rattle.spec_hyparview.specs.Station.{Station, Refill, in-active, without-pin}
@@ -33,7 +33,7 @@ use Rattle.spec_hyparview.specs.Events as E
 use Rattle.spec_hyparview.specs.Timers as T
 use Rattle.spec_hyparview.specs.Handle as H
 use Rattle.spec_hyparview.specs.Rules.{station-ok}
-use Rattle.spec_hyparview.specs.Pins.{is-parting}
+use Rattle.spec_hyparview.specs.Pins.{PinGiven, is-parting}
 use Rattle.spec_hyparview.proofs.Keeping.{draw-station, one-of-station, emit-station}
 use Rattle.spec_hyparview.proofs.Leaving.{free-active}
 
@@ -339,6 +339,13 @@ module _ (k : ℕ) where
   unfolding T.handle-shuffle-timer T.schedule-shuffle T.double-interval
   shuffle-timer r = then (shuffle-any r) (then (changes _ (λ s. refl) _) (then (draws _ _) (emits _ _)))
 
+  -- what follows every event
+  end : (r : Run) → Keeps r (on H.forget-declined (H.first-timers r))
+  unfolding H.first-timers H.forget-declined H.note-scheduled T.schedule-shuffle T.double-interval
+  end r =
+      then (either _ (same _) (then (changes _ (λ s. refl) _) (then (then (changes _ (λ s. refl) _) (then (draws _ _) (emits _ _))) (schedule-maintenance _))))
+      (changes _ (λ s. refl) _)
+
   -- an event that is no parting of its own
   module _ (e : Rec) (l : e .kind ≡ kind-byte Message → e .message ≤ 5) (n : is-parting k e ≡ false) where
     by-each : (j : EventKind) → e .kind ≡ kind-byte j → (r : Run) → Keeps r (H.handle-kind (some j) e r)
@@ -355,10 +362,9 @@ module _ (k : ℕ) where
     by-each Pin z r = handle-pin _ r
 
     pub steps-keep : (r : Run) → Keeps r (H.steps e r)
-    unfolding H.steps H.first-timers H.forget-declined H.note-scheduled H.dispatch T.schedule-shuffle T.double-interval
+    unfolding H.steps H.dispatch
     steps-keep r =
-        let d = by-kind (λ (o : Option EventKind). Keeps r (H.handle-kind o e r)) (e .kind) (λ _. same r) (λ j z. by-each j z r) in
-        then (then d (either _ (same _) (then (changes _ (λ s. refl) _) (then (then (changes _ (λ s. refl) _) (then (draws _ _) (emits _ _))) (schedule-maintenance _))))) (changes _ (λ s. refl) _)
+        then (by-kind (λ (o : Option EventKind). Keeps r (H.handle-kind o e r)) (e .kind) (λ _. same r) (λ j z. by-each j z r)) (end _)
 
 -- a message that was read is one of the six
 few-messages : (b : List ℕ) → well-formed b ≡ true → rec-of b .kind ≡ kind-byte Message → rec-of b .message ≤ 5
@@ -381,3 +387,52 @@ pin-kept k s b ds room n m =
     (λ e. by-choice P (eqb (H.steps (rec-of b) (H.start s ds room) .code) 0)
     (λ _. steps-keep k (rec-of b) (few-messages b (and-left (well-formed b) _ e)) n (H.start s ds room) .so m) (λ _. m)) (λ _. m))))
     (λ _. m)
+
+-- ---- a pin that was accepted is there
+
+-- a step that ends with 0 began with 0
+guarded : (r after : Run) → guard r after .code ≡ 0 → r .code ≡ 0
+unfolding guard
+guarded r after = by-choice (λ (w : Run). w .code ≡ 0 → r .code ≡ 0) (eqb (r .code) 0) (λ e z. eqb-true _ _ e) (λ e z. z)
+
+end-code : (r : Run) → on H.forget-declined (H.first-timers r) .code ≡ 0 → r .code ≡ 0
+unfolding H.first-timers T.schedule-maintenance T.schedule-shuffle on emit draw
+end-code r z =
+    by-choice (λ (w : Run). w .code ≡ 0 → r .code ≡ 0) (r .station .scheduled) (λ e y. y)
+    (λ e y. guarded r _ (guarded _ _ (guarded _ _ (guarded _ _ (guarded _ _ y))))) (guarded (H.first-timers r) _ z)
+
+in-itself : (p : ℕ) (xs : List ℕ) → mem p (insert p xs) ≡ true
+unfolding insert
+in-itself p xs = by-test (λ (l : List ℕ). mem p l ≡ true) (mem p xs) (λ e. e) (λ e. mem-yes p (place p xs) (omega (arith, count-place p p xs, is-self p)))
+
+noted-pin : (p : ℕ) (q : Run) → on (E.note-pin p) q .code ≡ 0 → mem p (on (E.note-pin p) q .station .pins) ≡ true
+unfolding E.note-pin on guard
+noted-pin p q =
+    by-choice (λ (w : Run). w .code ≡ 0 → mem p (w .station .pins) ≡ true) (eqb (q .code) 0) (λ e z. in-itself p (q .station .pins)) (λ e z. absurd (eqb-false _ _ e z))
+
+handled-pin : (p : ℕ) (r : Run) → E.handle-pin p r .code ≡ 0 → mem p (E.handle-pin p r .station .pins) ≡ true
+unfolding E.handle-pin E.pin-neighbor
+handled-pin p r = noted-pin p _
+
+pin-step : (e : Rec) (r : Run) → e .kind ≡ kind-byte Pin → H.dispatch e r ≡ E.handle-pin (e .peer) r
+unfolding H.dispatch H.handle-kind
+pin-step e r k = ap (λ (j : ℕ). H.handle-kind (event-kind j) e r) k ∙ ap (λ (o : Option EventKind). H.handle-kind o e r) (kind-found Pin)
+
+given : (e : Rec) (r : Run) → e .kind ≡ kind-byte Pin → H.steps e r .code ≡ 0 → mem (e .peer) (H.steps e r .station .pins) ≡ true
+unfolding H.steps
+given e r k z =
+    let P : Run → Type 0 = (λ w. w .code ≡ 0 → mem (e .peer) (w .station .pins) ≡ true) in
+    end (e .peer) _ .so (subst P (sym (pin-step e r k)) (handled-pin (e .peer) r) (end-code _ z))
+
+pub pin-given : PinGiven
+unfolding H.handle H.handle-reading read-event H.finish H.accepted H.refusal
+pin-given s b ds room k =
+    let P : H.Result → Type 0 = (λ x. x .code ≡ 0 → mem (rec-of b .peer) (x .state .pins) ≡ true) in
+    let Q : Reading → Type 0 = (λ x. P (H.handle-reading x s ds room)) in
+    by-choice P (station-ok s)
+    (λ _. by-choice Q (ltb (length b) header-length) (λ _ z. absurd (omega (arith, z)))
+    (λ _. by-choice Q (ltb most-nodes (getD b 3 0)) (λ _ z. absurd (omega (arith, z)))
+    (λ _. by-choice Q (well-formed b && is-event (header-of b))
+    (λ _. by-choice P (eqb (H.steps (rec-of b) (H.start s ds room) .code) 0)
+    (λ t _. given (rec-of b) (H.start s ds room) k (eqb-true _ _ t)) (λ t z. absurd (eqb-false _ _ t z))) (λ _ z. absurd (omega (arith, z))))))
+    (λ _ z. absurd (omega (arith, z)))

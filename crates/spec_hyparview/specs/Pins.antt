@@ -9,12 +9,14 @@ use lib.Dec.{eqb}
 use Rattle.base_lists.specs.Lists.{choose, null, mem, distinct}
 use Rattle.base_util.specs.Chances.{all-draws, is-kept, pick}
 use Rattle.base_util.specs.Equal.{count-below, none-kept}
-use Rattle.record.specs.Kinds.{Message, PeerDisconnected, Quit, kind-byte}
+use Rattle.record.specs.Kinds.{Message, PeerDisconnected, Quit, Pin, kind-byte}
 use Rattle.record.specs.Format.{Rec}
+use Rattle.record.specs.Read.{rec-of}
 use Rattle.spec_hyparview.specs.Station.{Station, is-alone, active-is-full, without-pin}
 use Rattle.spec_hyparview.specs.Run.{Run, one-of, draw-one-of}
 use Rattle.spec_hyparview.specs.Active.{random, remove-active-by-index, free-random-slot-in-active-view}
 use Rattle.spec_hyparview.specs.Rules.{settings-rule, pins-rule}
+use Rattle.spec_hyparview.specs.Handle.{handle}
 
 -- "so a High arrival always finds a place": at a full view somebody can be demoted. In the midst of an event the data of the peer that
 -- arrives may be held before its place is free, so of the station rules only those are asked that speak of views and pins.
@@ -44,7 +46,13 @@ abbrev pub PinnedNeverPicked : Type 0
 PinnedNeverPicked =
     (s : Station) (p : ℕ) (over more : List ℕ) → null (without-pin s) ≡ false → mem p (s .pins) ≡ true → count-below (demotes s p over more) all-draws ≡ 0
 
--- ---- partings
+-- ---- pins given and partings
+
+-- an accepted event of kind 13 pins its peer
+abbrev pub PinGiven : Type 0
+PinGiven =
+    (s : Station) (b ds : List ℕ) (room : ℕ) → rec-of b .kind ≡ kind-byte Pin → handle s b ds room .code ≡ 0
+    → mem (rec-of b .peer) (handle s b ds room .state .pins) ≡ true
 
 -- a Disconnect from p, which is message 5
 unfoldable pub disconnects : ℕ → Rec → Bool
