@@ -47,7 +47,7 @@ unfoldable pub shuffles-due : {G S : Type 0} → Machine G S → List Brought �
 shuffles-due m [] s = []
 shuffles-due m (v ∷ vs) s = set-by shuffle-kind m v s ++ shuffles-due m vs (state-of m (v .call) s)
 
--- an accepted event; that of a new station is of kinds 0 to 8, since no peer is active that could be pinned
+-- an accepted event; the first of a new station is none of kind 13, since no peer is active that could be pinned
 unfoldable pub counts : {G S : Type 0} → Machine G S → Brought → S → Bool
 counts m v s = is-event-kind (kind-in (v .call .event)) && eqb (code-of m (v .call) s) 0
 
