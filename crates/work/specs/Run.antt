@@ -51,7 +51,7 @@ emit e r = guard r (choose (leb (length (r .out) + size e) (r .room)) (with-out 
 unfoldable pub draw : {S : Type 0} → ℕ → Run S → Run S
 draw n r = guard r (choose (leb (r .used + n) (length (r .draws))) (with-used (r .used + n) r) (with-code 5 r))
 
--- code c unless the test holds: 6, 7, 8 and 10
+-- code c unless the test holds: 6, 7, 8 and 10, and of a pin 17 and 18
 unfoldable pub require : {S : Type 0} → ℕ → Bool → Run S → Run S
 require c b r = guard r (choose b r (with-code c r))
 
