@@ -16,7 +16,7 @@ use Rattle.hyparview.specs.Room.{output-room}
 use Rattle.hyparview.specs.Handled.{Outcome, refused-words, handled-from}
 use Rattle.preview.specs.declared.Count.{Count}
 use Rattle.preview.specs.declared.Price.{Price}
-use Rattle.preview.specs.Preview.{counted, no-price, price, preview}
+use Rattle.preview.specs.Preview.{priced-records, no-price, price, preview}
 
 no-state : (xs : List ℕ) → (length xs ≡ words → ⊥) → packed-ok xs ≡ false
 unfolding packed-ok
@@ -31,7 +31,7 @@ pub refused : (o : Outcome) (r : Price) → r ≡ no-price (o .code) → (o .cod
 unfolding price
 refused o r e n = e ∙ sym (choose-no _ _ _ (ne-eqb (o .code) 0 n))
 
-pub accepted : (o : Outcome) (n : Count) → n ≡ counted (o .output) → o .code ≡ 0
+pub accepted : (o : Outcome) (n : Count) → n ≡ priced-records (o .output) → o .code ≡ 0
     → record { code = o .code; messages = n .messages; bytes = n .bytes; draws = o .draws } ≡ price o
 unfolding price
 accepted o n e z =

@@ -31,7 +31,7 @@ use Rattle.hyparview.proofs.Opening.{rules-of}
 use Rattle.hyparview.proofs.Sides.{from-two}
 use Rattle.preview.specs.declared.Count.{Count}
 use Rattle.preview.specs.declared.Price.{Price}
-use Rattle.preview.specs.Preview.{add-message, add, counted, no-price, price, preview, messages-of, Tells, Tells-written}
+use Rattle.preview.specs.Preview.{add-message, add, priced-records, no-price, price, preview, messages-of, PriceTells, PriceTells-written}
 use Rattle.preview.proofs.Nine.{price-code, keeps}
 
 abbrev both : ℕ → ℕ → Count
@@ -52,13 +52,13 @@ module _ (e : Rec) (rest : List ℕ) (f : InForm e) where
   unfolding add kind-in encode-by header-by
   one-added m n = ap (λ (l : ℕ). both (add-message (e .kind) m) (n + l)) (whole-is e rest small)
 
-counted-all : (es : List Rec) (zeros m n : ℕ) → All InForm es
+priced-records-all : (es : List Rec) (zeros m n : ℕ) → All InForm es
     → walk add (records-in (encode-all es ++ replicate zeros 0)) (both m n) ≡ both (m + messages-of es) (n + length (encode-all es))
 unfolding walk encode-all messages-of All
-counted-all [] zeros m n a =
+priced-records-all [] zeros m n a =
     ap (λ (bs : List (List ℕ)). walk add bs (both m n)) (records-zeros zeros)
     ∙ (let p : m ≡ m + 0 = omega arith in let q : n ≡ n + 0 = omega arith in λ i. both (p i) (q i))
-counted-all (e ∷ es) zeros m n a =
+priced-records-all (e ∷ es) zeros m n a =
     let rest : List ℕ = encode-all es ++ replicate zeros 0 in
     let k : ℕ = add-message (e .kind) m in
     let p : k + messages-of es ≡ m + add-message (e .kind) (messages-of es) = add-before (e .kind) m (messages-of es) in
@@ -67,22 +67,22 @@ counted-all (e ∷ es) zeros m n a =
     rw (append-assoc (encode e) (encode-all es) (replicate zeros 0))
     (ap (λ (bs : List (List ℕ)). walk add bs (both m n)) (records-written e rest (small e rest (a .0)))
     ∙ (ap (walk add (records-in rest)) (one-added e rest (a .0) m n)
-    ∙ (counted-all es zeros k (n + size e) (a .1) ∙ (λ i. both (p i) (q i)))))
+    ∙ (priced-records-all es zeros k (n + size e) (a .1) ∙ (λ i. both (p i) (q i)))))
 
-counted-written : (out : List ℕ) (w : WrittenOut out) → counted out ≡ both (messages-of (w .records)) (length (encode-all (w .records)))
-unfolding counted
-counted-written out w =
+priced-records-written : (out : List ℕ) (w : WrittenOut out) → priced-records out ≡ both (messages-of (w .records)) (length (encode-all (w .records)))
+unfolding priced-records
+priced-records-written out w =
     let p : 0 + messages-of (w .records) ≡ messages-of (w .records) = omega arith in
     let q : 0 + length (encode-all (w .records)) ≡ length (encode-all (w .records)) = omega arith in
     subst (λ (x : List ℕ). walk add (records-in x) (both 0 0) ≡ both (messages-of (w .records)) (length (encode-all (w .records)))) (sym (w .bytes))
-    (counted-all (w .records) (w .zeros) 0 0 (w .in-form) ∙ (λ i. both (p i) (q i)))
+    (priced-records-all (w .records) (w .zeros) 0 0 (w .in-form) ∙ (λ i. both (p i) (q i)))
 
-priced : (o : Outcome) → o .code ≡ 0 → WrittenOut (o .output) → Tells (o .output) (price o)
+priced : (o : Outcome) → o .code ≡ 0 → WrittenOut (o .output) → PriceTells (o .output) (price o)
 unfolding price
 priced o z w =
-    let full : Price = record { code = o .code; messages = counted (o .output) .messages; bytes = counted (o .output) .bytes; draws = o .draws } in
+    let full : Price = record { code = o .code; messages = priced-records (o .output) .messages; bytes = priced-records (o .output) .bytes; draws = o .draws } in
     let p : price o ≡ full = choose-yes (eqb (o .code) 0) full (no-price (o .code)) (eq-eqb (o .code) 0 z) in
-    let q = counted-written (o .output) w in
+    let q = priced-records-written (o .output) w in
     record {
       written = w;
       messages = ap (λ (x : Price). x .messages) p ∙ ap (λ (x : Count). x .messages) q;
@@ -105,7 +105,7 @@ module _ (xs : List ℕ) (side : Side) (b ds : List ℕ) (bytes : all-under 256 
       (λ broken. let two : 2 ≡ 0 = ap (λ (o : Outcome). o .code) (from-two side xs b ds output-room broken) ∙ z in absurd (omega (arith, two)))
 
 -- The price of every accepted call is that of the records which it writes.
-pub tells-written : Tells-written
+pub tells-written : PriceTells-written
 unfolding preview
 tells-written xs side b ds bytes narrow z =
     let o : Outcome = handled-from side xs b ds output-room in

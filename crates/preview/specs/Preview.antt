@@ -28,8 +28,8 @@ unfoldable pub add : List ℕ → Count → Count
 add b n = record { messages = add-message (kind-in b) (n .messages); bytes = n .bytes + whole-length b }
 
 -- the messages among an output's records, and the bytes of all its records
-unfoldable pub counted : List ℕ → Count
-counted out = walk add (records-in out) (record { messages = 0; bytes = 0 })
+unfoldable pub priced-records : List ℕ → Count
+priced-records out = walk add (records-in out) (record { messages = 0; bytes = 0 })
 
 -- of a refused call: its code and three zeroes
 unfoldable pub no-price : ℕ → Price
@@ -39,7 +39,7 @@ no-price code = record { code = code; messages = 0; bytes = 0; draws = 0 }
 unfoldable pub price : Outcome → Price
 price o =
     choose (eqb (o .code) 0)
-    (record { code = o .code; messages = counted (o .output) .messages; bytes = counted (o .output) .bytes; draws = o .draws })
+    (record { code = o .code; messages = priced-records (o .output) .messages; bytes = priced-records (o .output) .bytes; draws = o .draws })
     (no-price (o .code))
 
 -- of the event b from a side at the words xs: what the call does on a copy of them, with 8,192 bytes of output
@@ -58,13 +58,13 @@ messages-of [] = 0
 messages-of (e ∷ es) = add-message (e .kind) (messages-of es)
 
 -- a price p tells of an output the records written to it: the messages among them, and all their bytes, without the zeroes behind
-pub record Tells (out : List ℕ) (p : Price) : Type 0 where
+pub record PriceTells (out : List ℕ) (p : Price) : Type 0 where
   pub written : WrittenOut out
   pub messages : p .messages ≡ messages-of (written .records)
   pub bytes : p .bytes ≡ length (encode-all (written .records))
 
 -- of every accepted call; an event is bytes, and draws have 32 bits
-abbrev pub Tells-written : Type 0
-Tells-written =
+abbrev pub PriceTells-written : Type 0
+PriceTells-written =
     (xs : List ℕ) (side : Side) (b ds : List ℕ) → all-under 256 b ≡ true → all-under draws-end ds ≡ true
-    → preview xs side b ds .code ≡ 0 → Tells (handled-from side xs b ds output-room .output) (preview xs side b ds)
+    → preview xs side b ds .code ≡ 0 → PriceTells (handled-from side xs b ds output-room .output) (preview xs side b ds)

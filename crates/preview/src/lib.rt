@@ -9,7 +9,7 @@ ghost use mathlib.Core.Path.{_≡_};
 ghost use Prim.Native.Nat.{_+_, _<_};
 ghost use Rattle.base_columns.specs.Columns.{words-end};
 ghost use Rattle.spec_hyparview.specs.Sides.{side-of};
-ghost use Rattle.preview.specs.Preview.{add-message, counted, no-price, preview};
+ghost use Rattle.preview.specs.Preview.{add-message, priced-records, no-price, preview};
 
 // What an output's records come to.
 pub struct Count {
@@ -38,8 +38,8 @@ fn add_message(h: Header, n: usize) -> usize
 }
 
 // The messages among an output's records, and the bytes of all of them.
-fn counted(out: &[u8]) -> Count
-    ensures { λ r. ⌜ r ≡ counted (now (out .entry)) ⌝ }
+fn priced_records(out: &[u8]) -> Count
+    ensures { λ r. ⌜ r ≡ priced-records (now (out .entry)) ⌝ }
 {
     let mut messages: usize = 0;
     let mut bytes: usize = 0;
@@ -96,7 +96,7 @@ pub fn preview(st: &[u64], radio: bool, b: &[u8], draws: &[u32]) -> Price
     if code != 0 {
         return no_price(code);
     }
-    let n = counted(&out);
+    let n = priced_records(&out);
     Price {
         code: code,
         messages: n.messages,

@@ -1,4 +1,4 @@
--- By cases: another number of words, a refused call on the copy, an accepted one whose output is counted.
+-- By cases: another number of words, a refused call on the copy, an accepted one whose output is priced-records.
 use Rattle.preview.proofs.Done.{other-length, refused, accepted, on-copy}
 use borrow.Author.Needs.{needs}
 use Rattle.preview.proofs.preview.Statement.{statement}
@@ -33,16 +33,16 @@ returns-2 c =
     let at-handle = c .before .before .before .before in
     on-copy _ _ _ _ _ _ _ _ (search needs) (search needs) (at-handle .handle-from .ensures) (refused _ _ (c .no-price2 .ensures) (search needs))
 
-slice-aggregate-counted : tie.Need-slice-aggregate-counted
-slice-aggregate-counted c = search needs
+slice-aggregate-priced-records : tie.Need-slice-aggregate-priced-records
+slice-aggregate-priced-records c = search needs
 
-counted-requires : tie.Need-counted-requires
-counted-requires c κs = search needs
+priced-records-requires : tie.Need-priced-records-requires
+priced-records-requires c κs = search needs
 
 returns-3 : tie.Need-returns-3
 returns-3 c =
     let at-handle = c .before .before .before .before .before in
-    on-copy _ _ _ _ _ _ _ _ (search needs) (search needs) (at-handle .handle-from .ensures) (accepted _ _ (c .counted .ensures) (search needs))
+    on-copy _ _ _ _ _ _ _ _ (search needs) (search needs) (at-handle .handle-from .ensures) (accepted _ _ (c .priced-records .ensures) (search needs))
 
 pub preview-spec : {M : Type 1} → statement M
 preview-spec =
@@ -57,6 +57,6 @@ preview-spec =
     handle-from-requires
     no-price-requires-2
     returns-2
-    slice-aggregate-counted
-    counted-requires
+    slice-aggregate-priced-records
+    priced-records-requires
     returns-3)

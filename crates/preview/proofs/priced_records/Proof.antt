@@ -3,8 +3,8 @@ use native.Mathlib.Omega.{arith}
 use borrow.Author.Needs.{needs}
 use lib.ListN.{length}
 use Rattle.preview.proofs.Laws.{Counting, counting-start, counting-few, counting-none, counting-last, counting-next}
-use Rattle.preview.proofs.counted.Statement.{statement}
-use Rattle.preview.proofs.counted.Tie as tie
+use Rattle.preview.proofs.priced_records.Statement.{statement}
+use Rattle.preview.proofs.priced_records.Tie as tie
 
 abbrev Inv-loop : tie.InvT-loop
 Inv-loop out messages₀ bytes₀ rest₀ messages bytes rest = Counting out messages bytes rest
@@ -51,8 +51,8 @@ loop-again c = search counting-next
 returns-3 : tie.Need-returns-3 Inv-loop μ-loop
 returns-3 c = search counting-few
 
-pub counted-spec : {M : Type 1} → statement M
-counted-spec =
+pub priced-records-spec : {M : Type 1} → statement M
+priced-records-spec =
     tie.close
     (tie.spec
     Inv-loop
