@@ -411,9 +411,9 @@ uint32_t hyparview_new(uint64_t *state, size_t words, struct hyparview_tally *ta
  *
  * `radio` names the side that the event comes from: false for the wired one. From the radio side an event of 9 to 32 nodes is
  * answered HYPARVIEW_CODE_RADIO_NODES, and only the first HYPARVIEW_RADIO_DRAWS draws are read, however many are lent. An
- * event of at most 8 nodes that takes at most 64 draws is answered alike from either side, every byte of it, and 64 draws
- * below 2^32 - 32 suffice for every such event but a Quit with three neighbours or more; both are proved. What is answered
- * HYPARVIEW_CODE_DRAWS with 64 draws lent is to be brought again with others, or from the wired side. */
+ * event of at most 8 nodes that takes at most 64 draws is answered alike from either side, every byte of it; 64 draws below
+ * 2^32 - 32 suffice for each event of at most 8 nodes but a Quit with three neighbours or more: both are proved. What is
+ * answered HYPARVIEW_CODE_DRAWS with 64 draws lent is to be brought again with others, or from the wired side. */
 struct hyparview_done hyparview_handle(uint64_t *state, size_t words, struct hyparview_tally *tally, bool radio,
                                        const uint8_t *event, size_t event_len, const uint32_t *draws, size_t draws_len,
                                        uint8_t *out, size_t out_len);
