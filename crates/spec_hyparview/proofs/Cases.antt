@@ -12,7 +12,7 @@ use Rattle.base_peer.specs.Data.{Data}
 use Rattle.record.specs.Format.{encode}
 use Rattle.spec_hyparview.specs.Station.{Station}
 use Rattle.spec_hyparview.specs.Setters.{set-active, set-passive, set-scheduled, set-next-interval, set-bootstrap, set-recent, set-requests, set-next-request, set-joins, set-next-join, set-peer-data, set-refused, set-pins}
-use Rattle.record.specs.Kinds.{Pin, kind-byte}
+use Rattle.record.specs.Kinds.{PeerDisconnected, Quit, Pin, kind-byte}
 use Rattle.spec_hyparview.specs.Run.{node, message, notice, data-notice}
 use Rattle.spec_hyparview.specs.Peers.{insert-peer-info}
 use Rattle.spec_hyparview.specs.Handle.{new, new-station, zero-station, start, handle}
@@ -229,3 +229,30 @@ pub evicting : handle occupied (encode (message 3 2 0 0 0 (node 8 (some (5 ∷ [
     ≡ record { code = 0; state = set-passive (8 ∷ []) (set-peer-data ((8, 5 ∷ []) ∷ []) occupied); used = 1; output = encode (data-notice 8 (5 ∷ [])) ++ encode (notice 12 7) }
 unfolding traced one-place
 evicting = refl
+
+-- ---- pins: four of five neighbours have one
+
+unfoldable pub hill : Station
+hill = set-pins (peers-from 100 4) (set-active (peers-from 100 5) fresh)
+
+-- a Neighbor of high priority from 200 costs the fifth its place, whatever is drawn, and no pin
+pub demoted-beside-pins : handle hill (encode (message 4 200 1 0 0 (node 0 none ∷ []))) (replicate 40 0) 2000 .state .active ≡ peers-from 100 4 ++ (200 ∷ [])
+unfolding traced default peers-from hill
+demoted-beside-pins = refl
+
+pub demoted-last-drawn : handle hill (encode (message 4 200 1 0 0 (node 0 none ∷ []))) (replicate 40 4294967290) 2000 .state .active ≡ peers-from 100 4 ++ (200 ∷ [])
+unfolding traced default peers-from hill
+demoted-last-drawn = refl
+
+-- a pin ends by a Disconnect from its peer, by its closed connection and by a Quit
+pub ends-by-disconnect : handle hill (encode (message 5 100 0 0 0 [])) (replicate 40 0) 2000 .state .pins ≡ peers-from 101 3
+unfolding traced default peers-from hill
+ends-by-disconnect = refl
+
+pub ends-by-closing : handle hill (encode (notice (kind-byte PeerDisconnected) 100)) (replicate 40 0) 2000 .state .pins ≡ peers-from 101 3
+unfolding traced default peers-from hill
+ends-by-closing = refl
+
+pub ends-by-quit : handle hill (encode (notice (kind-byte Quit) 0)) (replicate 40 0) 2000 .state .pins ≡ []
+unfolding traced default peers-from hill
+ends-by-quit = refl
