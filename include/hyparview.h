@@ -137,7 +137,7 @@ extern "C" {
 #define HYPARVIEW_DATA 16    /* the most bytes of data */
 #define HYPARVIEW_RECORD 928 /* the longest record: 32 nodes with 16 bytes of data each */
 
-/* Kinds, byte 0. Kinds 0 to 8 are events; kinds 0 to 4 and 9 to 12 come in output. */
+/* Kinds, byte 0. Kinds 0 to 8 and 13 are events; kinds 0 to 4 and 9 to 12 come in output. */
 #define HYPARVIEW_KIND_MESSAGE 0                  /* event: received. Output: to be sent to `peer` */
 #define HYPARVIEW_KIND_DO_SHUFFLE 1               /* a timer. Output: to be started. Event: expired */
 #define HYPARVIEW_KIND_DO_MAINTENANCE 2           /* a timer */
