@@ -171,7 +171,7 @@ pub enough-lent : D.Enough-lent
 enough-lent xs ok v w =
     subst (λ (side : Side). D.Suffices program unpack xs (record { side = side; event = v .event; are-bytes = v .are-bytes; draws = v .draws; output = v .output })) (sym w) (enough-wired xs ok v)
 
--- a code of `handle` at a station that keeps the rules is 0, 3, 4, from 5 to 10, or 16
+-- a code of `handle` at a station that keeps the rules is 0, from 3 to 10, or from 16 to 18
 not-one : (g : Station) → station-ok g ≡ true → (v : Call) → result-of v g .code ≡ 1 → ⊥
 unfolding answered Handle.handle Handle.handle-reading Handle.finish Handle.accepted Handle.refusal
 not-one g ok v =

@@ -1,5 +1,5 @@
 -- What is claimed of the program: of every list of calls of `handle`, from the words that `new` filled.
--- `program-made` and `program-outcome` are what the contracts of `hyparview::new` and `hyparview::handle` say; the check ties them to the claims by `new-says` and `handle-says`, and the form by value in the same way (proofs/Tied).
+-- `program-made` and `program-outcome` are what the contracts of `hyparview::new` and `hyparview::handle_from` say; the check ties them to the claims by `new-says` and `handle-says`, and the form by value in the same way (proofs/Tied).
 -- Assumes nothing.
 use Prim.Native.Nat.{ℕ, _≤_}
 use mathlib.Core.Path.{_≡_}
