@@ -8,7 +8,7 @@ use native.Mathlib.Omega.{arith}
 use lib.ListN.{length, take, replicate}
 use lib.Dec.{eqb}
 use Rattle.base_lists.specs.Array.{pad}
-use Rattle.base_lists.specs.Lists.{mem}
+use Rattle.base_lists.specs.Lists.{choose, mem}
 use Rattle.base_lists.proofs.Choice.{by-choice, choose-yes, choose-no, split, and-left, and-right}
 use Rattle.base_timing.specs.declared.Config.{Config}
 use Rattle.base_timing.specs.Timing.{in-range}
@@ -21,6 +21,7 @@ use Rattle.spec_hyparview.proofs.Bounds.{finished}
 use Rattle.spec_hyparview.specs.Kept.{FewerKept}
 use Rattle.spec_hyparview.specs.Sides.{Side, wired, draws-from, handle-from}
 use Rattle.spec_hyparview.proofs.Sides.{by-side}
+use Rattle.spec_hyparview.proofs.Sides as sides
 use Rattle.spec_hyparview.proofs.Enough.{enough}
 use Rattle.spec_hyparview.proofs.Decided.{fewer-as, fewer-kept, most-kept}
 use Rattle.spec_hyparview.proofs.Uncrowded as crowded
@@ -170,6 +171,11 @@ enough-wired xs ok v =
 pub enough-lent : D.Enough-lent
 enough-lent xs ok v w =
     subst (λ (side : Side). D.Suffices program unpack xs (record { side = side; event = v .event; are-bytes = v .are-bytes; draws = v .draws; output = v .output })) (sym w) (enough-wired xs ok v)
+
+pub same-from-either : D.Same-from-either
+unfolding program-outcome handled-from
+same-from-either xs b ds out few l =
+    ap (λ (a : Handle.Result). choose (packed-ok xs) (packed-answer a) (Handled.refused-words 2 xs (length out))) (sides.same-from-either (unpack xs) b ds (length out) few l)
 
 -- a code of `handle` at a station that keeps the rules is 0, from 3 to 10, or from 16 to 18
 not-one : (g : Station) → station-ok g ≡ true → (v : Call) → result-of v g .code ≡ 1 → ⊥

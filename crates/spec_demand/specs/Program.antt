@@ -5,7 +5,7 @@ use Prim.Native.Nat.{ℕ, _≤_}
 use mathlib.Core.Path.{_≡_}
 use mathlib.Core.Bool.{Bool, true, false}
 use mathlib.Core.List.{List}
-use lib.ListN.{length, take, replicate}
+use lib.ListN.{length, take, replicate, getD}
 use Rattle.base_lists.specs.Lists.{null, without}
 use Rattle.base_timing.specs.declared.Config.{Config}
 use Rattle.base_util.specs.Chances.{sure-end}
@@ -23,7 +23,7 @@ use Rattle.spec_history.specs.Rejoin.{Rejoin-of}
 use Rattle.spec_history.specs.Pinned.{Pins-stay-of}
 use Rattle.tally.specs.History.{Counts-of}
 use Rattle.shuffle_times.specs.Claims.{Timed-of}
-use Rattle.spec_hyparview.specs.Sides.{Side, wired, handle-from}
+use Rattle.spec_hyparview.specs.Sides.{Side, wired, radio, radio-nodes, radio-draws, draws-taken, handle-from}
 use Rattle.hyparview_state.specs.Layout.{words}
 use Rattle.hyparview_state.specs.Unpack.{unpack}
 use Rattle.hyparview_rules.specs.Ok.{state-ok}
@@ -95,6 +95,12 @@ pub record Suffices {G S : Type 0} (m : Machine G S) (station : S → Station) (
 -- of words that keep the rules, from the wired side; how few draws the radio side reads, and when they suffice, is said apart (Sides)
 abbrev pub Enough-lent : Type 0
 Enough-lent = (xs : List ℕ) → state-ok xs ≡ true → (v : Call) → v .side ≡ wired → Suffices program unpack xs v
+
+-- 02, S-12: "An event of at most 8 nodes that needs at most 64 draws .. the same answer from either side", at any words: code, words, draws used and every byte
+abbrev pub Same-from-either : Type 0
+Same-from-either =
+    (xs b ds out : List ℕ) → getD b 3 0 ≤ radio-nodes → draws-taken (unpack xs) b ds (length out) ≤ radio-draws
+    → program-outcome radio b ds out xs ≡ program-outcome wired b ds out xs
 
 -- "Code 1 belongs to `new` alone", whatever the words and the event are
 abbrev pub Never-one : Type 0

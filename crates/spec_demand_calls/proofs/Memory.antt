@@ -149,6 +149,10 @@ enough-lent x ok v w =
     let k = P.enough-lent (x .words) ok v w in
     record { five = k .five; kept-used = k .kept-used; no-five = k .no-five; no-nine = k .no-nine; draws-used = k .draws-used; few-draws = k .few-draws }
 
+pub same-from-either : M.Same-from-either
+unfolding memory-outcome D.program-outcome called
+same-from-either x b ds out few l = ap (tallied (x .tally)) (P.same-from-either (x .words) b ds out few l)
+
 pub never-one : M.Never-one
 unfolding memory-outcome D.program-outcome called tallied
 never-one x v e = P.never-one (x .words) v e

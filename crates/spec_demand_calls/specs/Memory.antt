@@ -5,7 +5,7 @@ use Prim.Native.Nat.{ℕ, _≤_}
 use mathlib.Core.Path.{_≡_}
 use mathlib.Core.Bool.{Bool, true, not}
 use mathlib.Core.List.{List}
-use lib.ListN.{length, replicate}
+use lib.ListN.{length, replicate, getD}
 use lib.Dec.{eqb}
 use Rattle.base_timing.specs.declared.Config.{Config}
 use Rattle.spec_hyparview.specs.Station.{Station}
@@ -21,7 +21,7 @@ use Rattle.tally.specs.Counts.{top}
 use Rattle.tally.specs.Sum.{total}
 use Rattle.tally.specs.History.{no-messages}
 use Rattle.shuffle_times.specs.Claims.{Timed-of}
-use Rattle.spec_hyparview.specs.Sides.{Side, wired}
+use Rattle.spec_hyparview.specs.Sides.{Side, wired, radio, radio-nodes, radio-draws, draws-taken}
 use Rattle.hyparview_state.specs.Layout.{words}
 use Rattle.hyparview_state.specs.Unpack.{unpack}
 use Rattle.hyparview_rules.specs.Ok.{state-ok}
@@ -98,6 +98,12 @@ Shuffles-timed = Timed-of c-calls
 -- "8,192 output bytes and 512 draws always suffice", by 02, S-6, draws that are kept: of one call from the wired side at words that keep the rules, whatever the tally is
 abbrev pub Enough-lent : Type 0
 Enough-lent = (x : LentMemory) → memory-passes x ≡ true → (v : Call) → v .side ≡ wired → Suffices c-calls station-in x v
+
+-- 02, S-12: the same answer from either side, at any words and tally
+abbrev pub Same-from-either : Type 0
+Same-from-either =
+    (x : LentMemory) (b ds out : List ℕ) → getD b 3 0 ≤ radio-nodes → draws-taken (station-in x) b ds (length out) ≤ radio-draws
+    → memory-outcome radio b ds out x ≡ memory-outcome wired b ds out x
 
 -- "Code 1 belongs to `new` alone", whatever the words, the tally and the event are
 abbrev pub Never-one : Type 0
