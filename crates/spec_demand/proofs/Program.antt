@@ -1,6 +1,6 @@
 -- Demand 3, the rejoin promise, S-11, "always suffice" and the rest hold of the program.
 -- Assumes nothing.
-use Prim.Native.Nat.{ℕ}
+use Prim.Native.Nat.{ℕ, _≤_}
 use mathlib.Core.Path.{_≡_, refl, sym, ap, subst, _∙_}
 use mathlib.Core.Bool.{Bool, true, false, _&&_}
 use mathlib.Core.List.{List, [], _++_}
@@ -19,7 +19,7 @@ use Rattle.record.specs.Read.{Reading, read-event, rec-of}
 use Rattle.spec_hyparview.proofs.Reading.{by-reading}
 use Rattle.spec_hyparview.proofs.Bounds.{finished}
 use Rattle.spec_hyparview.specs.Kept.{FewerKept}
-use Rattle.spec_hyparview.specs.Sides.{Side, wired, draws-from, handle-from}
+use Rattle.spec_hyparview.specs.Sides.{Side, wired, radio-draws, draws-from, handle-from}
 use Rattle.spec_hyparview.proofs.Sides.{by-side}
 use Rattle.spec_hyparview.proofs.Sides as sides
 use Rattle.spec_hyparview.proofs.Enough.{enough}
@@ -176,6 +176,19 @@ pub same-from-either : D.Same-from-either
 unfolding program-outcome handled-from
 same-from-either xs b ds out few l =
     ap (λ (a : Handle.Result). choose (packed-ok xs) (packed-answer a) (Handled.refused-words 2 xs (length out))) (sides.same-from-either (unpack xs) b ds (length out) few l)
+
+pub few-draws-used : D.Few-draws-used
+unfolding program-outcome handled-from packed-answer Handled.refused-words
+few-draws-used xs b ds out =
+    by-choice (λ (o : Outcome). o .draws ≤ radio-draws) (packed-ok xs) (λ _. sides.few-draws-used (unpack xs) b ds (length out)) (λ _. omega arith)
+
+pub enough-for-radio : D.Enough-for-radio
+unfolding program-outcome handled-from packed-answer Handled.refused-words
+enough-for-radio xs b ds out bytes few long kept two =
+    let k = sides.enough-for-radio (unpack xs) b ds (length out) bytes few long kept two in (
+      by-choice (λ (o : Outcome). o .code ≡ 5 → ⊥) (packed-ok xs) (λ _. k .not-five) (λ _ e. omega (arith, e)),
+      ap (λ (a : Handle.Result). choose (packed-ok xs) (packed-answer a) (Handled.refused-words 2 xs (length out))) (k .as-wired),
+    )
 
 -- a code of `handle` at a station that keeps the rules is 0, from 3 to 10, or from 16 to 18
 not-one : (g : Station) → station-ok g ≡ true → (v : Call) → result-of v g .code ≡ 1 → ⊥

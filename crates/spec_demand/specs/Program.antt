@@ -12,6 +12,7 @@ use Rattle.base_util.specs.Chances.{sure-end}
 use Rattle.base_peer.specs.Data.{Node}
 use Rattle.spec_hyparview.specs.Station.{Station}
 use Rattle.spec_hyparview.specs.Messages.{ends-here, learn-joiner}
+use Rattle.record.specs.Kinds.{Quit, kind-byte}
 use Rattle.spec_hyparview.specs.Rules.{all-under}
 use Rattle.spec_hyparview.specs.Kept.{FewerKept}
 use Rattle.spec_hyparview.specs.Handle as Handle
@@ -101,6 +102,17 @@ abbrev pub Same-from-either : Type 0
 Same-from-either =
     (xs b ds out : List ℕ) → getD b 3 0 ≤ radio-nodes → draws-taken (unpack xs) b ds (length out) ≤ radio-draws
     → program-outcome radio b ds out xs ≡ program-outcome wired b ds out xs
+
+-- 02, S-12: from the radio side at most 64 draws are used, at any words
+abbrev pub Few-draws-used : Type 0
+Few-draws-used = (xs b ds out : List ℕ) → program-outcome radio b ds out xs .draws ≤ radio-draws
+
+-- 02, S-12: where the first 64 draws are kept ones, an event of at most 8 nodes misses none and is answered as from the wired side, but a Quit of three neighbours or more
+abbrev pub Enough-for-radio : Type 0
+Enough-for-radio =
+    (xs b ds out : List ℕ) → all-under 256 b ≡ true → getD b 3 0 ≤ radio-nodes → radio-draws ≤ length ds → all-under sure-end (take radio-draws ds) ≡ true
+    → (getD b 0 0 ≡ kind-byte Quit → length (unpack xs .active) ≤ 2)
+    → (program-outcome radio b ds out xs .code ≡ 5 → ⊥) × (program-outcome radio b ds out xs ≡ program-outcome wired b ds out xs)
 
 -- "Code 1 belongs to `new` alone", whatever the words and the event are
 abbrev pub Never-one : Type 0

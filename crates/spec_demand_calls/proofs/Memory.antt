@@ -153,6 +153,15 @@ pub same-from-either : M.Same-from-either
 unfolding memory-outcome D.program-outcome called
 same-from-either x b ds out few l = ap (tallied (x .tally)) (P.same-from-either (x .words) b ds out few l)
 
+pub few-draws-used : M.Few-draws-used
+unfolding memory-outcome D.program-outcome called tallied
+few-draws-used x b ds out = P.few-draws-used (x .words) b ds out
+
+pub enough-for-radio : M.Enough-for-radio
+unfolding memory-outcome D.program-outcome called tallied
+enough-for-radio x b ds out bytes few long kept two =
+    let k = P.enough-for-radio (x .words) b ds out bytes few long kept two in (k .0, ap (tallied (x .tally)) (k .1))
+
 pub never-one : M.Never-one
 unfolding memory-outcome D.program-outcome called tallied
 never-one x v e = P.never-one (x .words) v e

@@ -5,9 +5,12 @@ use Prim.Native.Nat.{ℕ, _≤_}
 use mathlib.Core.Path.{_≡_}
 use mathlib.Core.Bool.{Bool, true, not}
 use mathlib.Core.List.{List}
-use lib.ListN.{length, replicate, getD}
+use lib.ListN.{length, take, replicate, getD}
 use lib.Dec.{eqb}
 use Rattle.base_timing.specs.declared.Config.{Config}
+use Rattle.base_util.specs.Chances.{sure-end}
+use Rattle.record.specs.Kinds.{Quit, kind-byte}
+use Rattle.spec_hyparview.specs.Rules.{all-under}
 use Rattle.spec_hyparview.specs.Station.{Station}
 use Rattle.spec_history.specs.Ledger.{Ledger, empty-ledger}
 use Rattle.spec_history.specs.Calls.{Call, narrow-draws, Machine, After-new, code-of, state-after, ledger-after}
@@ -104,6 +107,16 @@ abbrev pub Same-from-either : Type 0
 Same-from-either =
     (x : LentMemory) (b ds out : List ℕ) → getD b 3 0 ≤ radio-nodes → draws-taken (station-in x) b ds (length out) ≤ radio-draws
     → memory-outcome radio b ds out x ≡ memory-outcome wired b ds out x
+
+-- 02, S-12: at most 64 draws are used from the radio side, and where they are kept ones they suffice
+abbrev pub Few-draws-used : Type 0
+Few-draws-used = (x : LentMemory) (b ds out : List ℕ) → memory-outcome radio b ds out x .draws ≤ radio-draws
+
+abbrev pub Enough-for-radio : Type 0
+Enough-for-radio =
+    (x : LentMemory) (b ds out : List ℕ) → all-under 256 b ≡ true → getD b 3 0 ≤ radio-nodes → radio-draws ≤ length ds → all-under sure-end (take radio-draws ds) ≡ true
+    → (getD b 0 0 ≡ kind-byte Quit → length (station-in x .active) ≤ 2)
+    → (memory-outcome radio b ds out x .code ≡ 5 → ⊥) × (memory-outcome radio b ds out x ≡ memory-outcome wired b ds out x)
 
 -- "Code 1 belongs to `new` alone", whatever the words, the tally and the event are
 abbrev pub Never-one : Type 0
