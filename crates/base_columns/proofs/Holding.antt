@@ -23,21 +23,21 @@ use Rattle.base_peer.specs.Maps.{DataEntry, no_data, entry_bytes, ValidEntry}
 use Rattle.base_peer.proofs.Data.{bytes_in, length_bytes}
 use Rattle.base_peer.proofs.Maps.{length_entry}
 use Rattle.base_columns.specs.Columns.{words_end, word_bytes, row, count_of, data_map_at, ValidDataWords}
-use Rattle.base_columns.proofs.Words.{word_low, word-high}
-use Rattle.base_columns.proofs.Data.{bytes_back, data-entries, data-at-key, row_fine, data-looked}
+use Rattle.base_columns.proofs.Words.{word_low, word_high}
+use Rattle.base_columns.proofs.Data.{bytes_back, data_entries, data_at_key, row_fine, data_looked}
 
 module _ (n : ℕ) (m : List ℕ) (v : ValidDataWords n m) (p i : ℕ) (e : i ≡ index_of p (take (count_of n m) m)) where
-  pub holds-none : (b : List ℕ) → count_of n m ≤ i → false ≡ holds (lookup p (data_map_at n m)) b
+  pub holds_none : (b : List ℕ) → count_of n m ≤ i → false ≡ holds (lookup p (data_map_at n m)) b
   unfolding holds
-  holds-none b h = sym (ap (λ (o : _). holds o b) (entries_none no_data n entry_bytes ValidEntry _ _ _ _ (data-entries n m v) p i (data-at-key n m v p i e) h))
+  holds_none b h = sym (ap (λ (o : _). holds o b) (entries_none no_data n entry_bytes ValidEntry _ _ _ _ (data_entries n m v) p i (data_at_key n m v p i e) h))
 
   module _ (d : PeerData) (w : ValidData d) (h : i < count_of n m) where
     asked : holds (lookup p (data_map_at n m)) (bytes_of (data_in d)) ≡ same (take (get_or m (n + i) 0) (word_bytes (get_or m (n + n + i) 0) (get_or m (n + n + n + i) 0))) (take d.len d.bytes)
     unfolding holds
-    asked = (λ j. holds (data-looked n m v p i e h j) (bytes_in d w j))
+    asked = (λ j. holds (data_looked n m v p i e h j) (bytes_in d w j))
 
-    holds-len : (get_or m (n + i) 0 ≡ d.len → ⊥) → false ≡ holds (lookup p (data_map_at n m)) (bytes_of (data_in d))
-    holds-len o =
+    holds_len : (get_or m (n + i) 0 ≡ d.len → ⊥) → false ≡ holds (lookup p (data_map_at n m)) (bytes_of (data_in d))
+    holds_len o =
         let f = row_fine n m v p i e h in
         let r : DataEntry = row (get_or m (n + i) 0) (get_or m (n + n + i) 0) (get_or m (n + n + n + i) 0) in
         sym (asked ∙ same_length _ _ (λ q. o (sym (length_entry r f) ∙ q ∙ length_bytes d w)))
@@ -50,18 +50,18 @@ module _ (n : ℕ) (m : List ℕ) (v : ValidDataWords n m) (p i : ℕ) (e : i �
           let k = same_true _ _ (sym asked ∙ q) in
           (row_fine n m v p i e h).packed ∙ ap (pad 0 16) k ∙ sym w.packed ∙ sym (bytes_back d low high w f g)
 
-      agreed-low : holds (lookup p (data_map_at n m)) (bytes_of (data_in d)) ≡ true → get_or m (n + n + i) 0 ≡ low
-      agreed-low q = sym (word_low (get_or m (n + n + i) 0) (get_or m (n + n + n + i) 0) a b) ∙ ap (λ (z : List ℕ). read_le 8 z 0) (agreed q) ∙ word_low low high s t
+      agreed_low : holds (lookup p (data_map_at n m)) (bytes_of (data_in d)) ≡ true → get_or m (n + n + i) 0 ≡ low
+      agreed_low q = sym (word_low (get_or m (n + n + i) 0) (get_or m (n + n + n + i) 0) a b) ∙ ap (λ (z : List ℕ). read_le 8 z 0) (agreed q) ∙ word_low low high s t
 
-      agreed-high : holds (lookup p (data_map_at n m)) (bytes_of (data_in d)) ≡ true → get_or m (n + n + n + i) 0 ≡ high
-      agreed-high q = sym (word-high (get_or m (n + n + i) 0) (get_or m (n + n + n + i) 0) a b) ∙ ap (λ (z : List ℕ). read_le 8 z 8) (agreed q) ∙ word-high low high s t
+      agreed_high : holds (lookup p (data_map_at n m)) (bytes_of (data_in d)) ≡ true → get_or m (n + n + n + i) 0 ≡ high
+      agreed_high q = sym (word_high (get_or m (n + n + i) 0) (get_or m (n + n + n + i) 0) a b) ∙ ap (λ (z : List ℕ). read_le 8 z 8) (agreed q) ∙ word_high low high s t
 
-      holds-low : (get_or m (n + n + i) 0 ≡ low → ⊥) → false ≡ holds (lookup p (data_map_at n m)) (bytes_of (data_in d))
-      holds-low o = split (holds (lookup p (data_map_at n m)) (bytes_of (data_in d))) (λ q. absurd (o (agreed-low q))) (λ q. sym q)
+      holds_low : (get_or m (n + n + i) 0 ≡ low → ⊥) → false ≡ holds (lookup p (data_map_at n m)) (bytes_of (data_in d))
+      holds_low o = split (holds (lookup p (data_map_at n m)) (bytes_of (data_in d))) (λ q. absurd (o (agreed_low q))) (λ q. sym q)
 
-      holds-high : get_or m (n + n + i) 0 ≡ low → eqb (get_or m (n + n + n + i) 0) high ≡ holds (lookup p (data_map_at n m)) (bytes_of (data_in d))
-      holds-high o =
-          split (holds (lookup p (data_map_at n m)) (bytes_of (data_in d))) (λ q. eq-eqb _ _ (agreed-high q) ∙ sym q)
+      holds_high : get_or m (n + n + i) 0 ≡ low → eqb (get_or m (n + n + n + i) 0) high ≡ holds (lookup p (data_map_at n m)) (bytes_of (data_in d))
+      holds_high o =
+          split (holds (lookup p (data_map_at n m)) (bytes_of (data_in d))) (λ q. eq-eqb _ _ (agreed_high q) ∙ sym q)
           (λ q. ne_eqb (get_or m (n + n + n + i) 0) high (λ z. clash z q) ∙ sym q)
         where
           clash : get_or m (n + n + n + i) 0 ≡ high → holds (lookup p (data_map_at n m)) (bytes_of (data_in d)) ≡ false → ⊥
@@ -70,11 +70,11 @@ module _ (n : ℕ) (m : List ℕ) (v : ValidDataWords n m) (p i : ℕ) (e : i �
               let y : holds (lookup p (data_map_at n m)) (bytes_of (data_in d)) ≡ true = asked ∙ (λ j. same (take (l j) (k j)) (take d.len d.bytes)) ∙ same_refl _ in
               let x : ◌≡◌ {A = ℕ} 0 1 = cc in omega arith
 
-    pub holds-all : (low high : ℕ) → le 8 low ≡ take 8 (drop 0 d.bytes) → le 8 high ≡ take 8 (drop 8 d.bytes) → low < words_end → high < words_end → get_or m (n + n + i) 0 < words_end → get_or m (n + n + n + i) 0 < words_end
+    pub holds_all : (low high : ℕ) → le 8 low ≡ take 8 (drop 0 d.bytes) → le 8 high ≡ take 8 (drop 8 d.bytes) → low < words_end → high < words_end → get_or m (n + n + i) 0 < words_end → get_or m (n + n + n + i) 0 < words_end
         → ((eqb (get_or m (n + i) 0) d.len && eqb (get_or m (n + n + i) 0) low) && eqb (get_or m (n + n + n + i) 0) high) ≡ holds (lookup p (data_map_at n m)) (bytes_of (data_in d))
-    holds-all low high f g s t a b =
+    holds_all low high f g s t a b =
         split (eqb (get_or m (n + i) 0) d.len)
         (λ y. split (eqb (get_or m (n + n + i) 0) low)
-        (λ z. rw (y, z) (holds-high low high (eqb-true _ _ y) f g s t a b (eqb-true _ _ z)))
-        (λ z. rw (y, z) (holds-low low high (eqb-true _ _ y) f g s t a b (eqb-false _ _ z))))
-        (λ y. rw y (holds-len (eqb-false _ _ y)))
+        (λ z. rw (y, z) (holds_high low high (eqb-true _ _ y) f g s t a b (eqb-true _ _ z)))
+        (λ z. rw (y, z) (holds_low low high (eqb-true _ _ y) f g s t a b (eqb-false _ _ z))))
+        (λ y. rw y (holds_len (eqb-false _ _ y)))

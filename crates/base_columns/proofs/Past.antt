@@ -91,24 +91,24 @@ module _ (l w x : ℕ) where
   unfolding valid_entry packed
   tested h = rw (le-leb l 16 h, eq-eqb _ _ (word_long w x)) refl
 
-  pub row-no : 16 < l → false ≡ valid_entry (row l w x)
+  pub row_no : 16 < l → false ≡ valid_entry (row l w x)
   unfolding valid_entry
-  row-no h = rw (lt-leb _ _ h)
+  row_no h = rw (lt-leb _ _ h)
 
-  pub row-short : l < 8 → w < words_end → x < words_end → (ltb w (shifted l) && eqb x 0) ≡ valid_entry (row l w x)
+  pub row_short : l < 8 → w < words_end → x < words_end → (ltb w (shifted l) && eqb x 0) ≡ valid_entry (row l w x)
   unfolding word_bytes
-  row-short h a b =
+  row_short h a b =
       sym (tested (omega arith) ∙ ap (every zero_byte) (drop-append-le l (le 8 w) (le 8 x) (omega (arith, length_le 8 w)))
       ∙ every_append (drop l (le 8 w)) (le 8 x) ∙ (λ i. past_word 8 l w (omega arith) a i && zero_word 8 x b i)
       ∙ ap (λ (q : ℕ). ltb w q && eqb x 0) (sym (power l h)))
 
-  pub row-long : 8 ≤ l → l < 16 → x < words_end → ltb x (shifted (l - 8)) ≡ valid_entry (row l w x)
+  pub row_long : 8 ≤ l → l < 16 → x < words_end → ltb x (shifted (l - 8)) ≡ valid_entry (row l w x)
   unfolding word_bytes
-  row-long g h b =
+  row_long g h b =
       let k : l ≡ length (le 8 w) + (l - 8) = omega (arith, length_le 8 w) in
       sym (tested (omega arith) ∙ ap (λ (j : ℕ). every zero_byte (drop j (le 8 w ++ le 8 x))) k ∙ ap (every zero_byte) (drop-append-add (le 8 w) (le 8 x) (l - 8))
       ∙ past_word 8 (l - 8) x (omega arith) b ∙ ap (ltb x) (sym (power (l - 8) (omega arith))))
 
-  pub row-full : 16 ≤ l → l ≤ 16 → true ≡ valid_entry (row l w x)
+  pub row_full : 16 ≤ l → l ≤ 16 → true ≡ valid_entry (row l w x)
   unfolding every
-  row-full g h = sym (tested h ∙ ap (every zero_byte) (drop_of_length-le (word_bytes w x) {i = l} (omega (arith, word_long w x))))
+  row_full g h = sym (tested h ∙ ap (every zero_byte) (drop_of_length-le (word_bytes w x) {i = l} (omega (arith, word_long w x))))

@@ -13,11 +13,11 @@ use Rattle.base_lists.specs.Array.{pad}
 use Rattle.base_lists.specs.Lists.{rising}
 use Rattle.base_lists.specs.Maps.{keys}
 use Rattle.base_lists.proofs.Choice.{and_left, and_right}
-use Rattle.base_lists.proofs.Maps.{length-keys}
+use Rattle.base_lists.proofs.Maps.{length_keys}
 use Rattle.base_lists.proofs.Zip.{keys_zip}
 use Rattle.base_lists.specs.Tests.{every, packed}
 use Rattle.base_lists.proofs.Rest.{Rest, rest_next, rest_end}
-use Rattle.base_lists.proofs.Tests.{every_true, true-every, both_true, rising_true, true_rising, packed-true, true-packed}
+use Rattle.base_lists.proofs.Tests.{every_true, true_every, both_true, rising_true, true_rising, packed_true, true_packed}
 use Rattle.base_peer.specs.Maps.{DataEntry, valid_entry, entry_bytes, ValidEntry}
 use Rattle.base_scan.specs.Words.{unused}
 use Rattle.base_peer.proofs.Maps.{unread, valid_entry_true, true_valid_entry}
@@ -25,21 +25,21 @@ use Rattle.base_util.specs.Section.{part, Filled}
 use Rattle.base_columns.specs.Columns.{row, head_of, tail_of, count_of, entries_at, data_map_at, ValidDataWords, valid_data_words}
 use Rattle.base_util.proofs.Parts.{part_long, part_past, part_part}
 use Rattle.base_columns.proofs.Rows.{length_rows, get_d_rows}
-use Rattle.base_columns.proofs.Data.{head-long, tail-long, keys-long, lens-long, lows-long, highs-long, head_read, low_read, high_read}
+use Rattle.base_columns.proofs.Data.{head_long, tail_long, keys_long, lens_long, lows_long, highs_long, head_read, low_read, high_read}
 
 module _ (n : ℕ) (m : List ℕ) (l : length m ≡ n + n + (n + n) + 1) where
   lens : length (part n n (head_of n m)) ≡ n
-  lens = part_long n n (head_of n m) (omega (arith, head-long n m l))
+  lens = part_long n n (head_of n m) (omega (arith, head_long n m l))
 
   lows : length (part 0 n (tail_of n m)) ≡ length (part n n (head_of n m))
-  lows = part_long 0 n (tail_of n m) (omega (arith, tail-long n m l)) ∙ sym lens
+  lows = part_long 0 n (tail_of n m) (omega (arith, tail_long n m l)) ∙ sym lens
 
   highs : length (part n n (tail_of n m)) ≡ length (part n n (head_of n m))
-  highs = part_long n n (tail_of n m) (omega (arith, tail-long n m l)) ∙ sym lens
+  highs = part_long n n (tail_of n m) (omega (arith, tail_long n m l)) ∙ sym lens
 
-  entries-long : length (entries_at n m) ≡ n
+  entries_long : length (entries_at n m) ≡ n
   unfolding entries_at
-  entries-long = length_rows _ _ _ lows highs ∙ lens
+  entries_long = length_rows _ _ _ lows highs ∙ lens
 
   read : (i : ℕ) → i < n → row (get_or m (n + i) 0) (get_or m (n + n + i) 0) (get_or m (n + n + n + i) 0) ≡ get_or (entries_at n m) i unread
   unfolding entries_at
@@ -86,8 +86,8 @@ module _ (n : ℕ) (m : List ℕ) (l : length m ≡ n + n + (n + n) + 1) where
   words_keys : count_of n m ≤ n → keys (data_map_at n m) ≡ take (count_of n m) (part 0 n (head_of n m))
   unfolding data_map_at
   words_keys h =
-      keys_zip _ _ (length-take-le (count_of n m) (part 0 n (head_of n m)) (omega (arith, part_long 0 n (head_of n m) (omega (arith, head-long n m l))))
-      ∙ sym (length-map (take (count_of n m) (entries_at n m)) entry_bytes ∙ length-take-le (count_of n m) (entries_at n m) (omega (arith, entries-long n m l))))
+      keys_zip _ _ (length-take-le (count_of n m) (part 0 n (head_of n m)) (omega (arith, part_long 0 n (head_of n m) (omega (arith, head_long n m l))))
+      ∙ sym (length-map (take (count_of n m) (entries_at n m)) entry_bytes ∙ length-take-le (count_of n m) (entries_at n m) (omega (arith, entries_long n m l))))
 
   words_read : count_of n m ≤ n → keys (data_map_at n m) ≡ take (count_of n m) m
   unfolding part head_of
@@ -117,7 +117,7 @@ module _ (n : ℕ) (m : List ℕ) (l : length m ≡ n + n + (n + n) + 1) where
         rest = record {
           low = omega arith;
           top = h;
-          long = entries-long n m l;
+          long = entries_long n m l;
           same = words_is h ∙ (λ i. (sym p' i && sym q' i) && ((sym r' i && sym s' i) && (every valid_entry (take (count_of n m) (entries_at n m)) && sym y i))) ∙ regroup a b c d _ t;
         };
       }
@@ -145,7 +145,7 @@ module _ (n : ℕ) (m : List ℕ) (half high k : ℕ) (ok : Bool) (i : ℕ) (v :
 packed_filled : (n k : ℕ) (s : List ℕ) → length s ≡ n → k ≤ n → packed unused n k s ≡ true → Filled s k
 packed_filled n k s l h e = record {
   fits = omega arith;
-  packed = subst (λ (j : ℕ). s ≡ pad 0 j (take k s)) (sym l) (packed-true 0 unused (λ x. eqb-true x 0) n k s e);
+  packed = subst (λ (j : ℕ). s ≡ pad 0 j (take k s)) (sym l) (packed_true 0 unused (λ x. eqb-true x 0) n k s e);
 }
 
 pub valid_words_true : (n : ℕ) (m : List ℕ) → length m ≡ n + n + (n + n) + 1 → valid_data_words n m ≡ true → ValidDataWords n m
@@ -159,26 +159,26 @@ valid_words_true n m l t =
     let b = and_left (packed unused n (count_of n m) (part 0 n (tail_of n m)) && packed unused n (count_of n m) (part n n (tail_of n m))) _ s in
     let u = and_right (packed unused n (count_of n m) (part 0 n (tail_of n m)) && packed unused n (count_of n m) (part n n (tail_of n m))) _ s in
     let k : length (keys (data_map_at n m)) ≡ count_of n m =
-    ap length (words_keys n m l h) ∙ length-take-le (count_of n m) (part 0 n (head_of n m)) (omega (arith, part_long 0 n (head_of n m) (omega (arith, head-long n m l)))) in
+    ap length (words_keys n m l h) ∙ length-take-le (count_of n m) (part 0 n (head_of n m)) (omega (arith, part_long 0 n (head_of n m) (omega (arith, head_long n m l)))) in
     record {
       long = l;
       fits = h;
-      counted = sym (length-keys (data_map_at n m)) ∙ k;
-      keyed = packed_filled n _ _ (part_long 0 n (head_of n m) (omega (arith, head-long n m l))) h (and_left (packed unused n (count_of n m) (part 0 n (head_of n m))) _ a);
-      lens = packed_filled n _ _ (part_long n n (head_of n m) (omega (arith, head-long n m l))) h (and_right (packed unused n (count_of n m) (part 0 n (head_of n m))) _ a);
-      lows = packed_filled n _ _ (part_long 0 n (tail_of n m) (omega (arith, tail-long n m l))) h (and_left (packed unused n (count_of n m) (part 0 n (tail_of n m))) _ b);
-      highs = packed_filled n _ _ (part_long n n (tail_of n m) (omega (arith, tail-long n m l))) h (and_right (packed unused n (count_of n m) (part 0 n (tail_of n m))) _ b);
+      counted = sym (length_keys (data_map_at n m)) ∙ k;
+      keyed = packed_filled n _ _ (part_long 0 n (head_of n m) (omega (arith, head_long n m l))) h (and_left (packed unused n (count_of n m) (part 0 n (head_of n m))) _ a);
+      lens = packed_filled n _ _ (part_long n n (head_of n m) (omega (arith, head_long n m l))) h (and_right (packed unused n (count_of n m) (part 0 n (head_of n m))) _ a);
+      lows = packed_filled n _ _ (part_long 0 n (tail_of n m) (omega (arith, tail_long n m l))) h (and_left (packed unused n (count_of n m) (part 0 n (tail_of n m))) _ b);
+      highs = packed_filled n _ _ (part_long n n (tail_of n m) (omega (arith, tail_long n m l))) h (and_right (packed unused n (count_of n m) (part 0 n (tail_of n m))) _ b);
       each = every_true valid_entry ValidEntry valid_entry_true (take (count_of n m) (entries_at n m)) (and_left (every valid_entry (take (count_of n m) (entries_at n m))) _ u);
       rises = rising_true (keys (data_map_at n m)) (and_right (every valid_entry (take (count_of n m) (entries_at n m))) _ u);
     }
 
 filled_packed : (n k : ℕ) (s : List ℕ) → length s ≡ n → Filled s k → packed unused n k s ≡ true
-filled_packed n k s l f = true-packed 0 unused refl n k s (subst (λ (j : ℕ). s ≡ pad 0 j (take k s)) l f.packed)
+filled_packed n k s l f = true_packed 0 unused refl n k s (subst (λ (j : ℕ). s ≡ pad 0 j (take k s)) l f.packed)
 
 pub true_valid_words : (n : ℕ) (m : List ℕ) → ValidDataWords n m → valid_data_words n m ≡ true
 unfolding valid_data_words
 true_valid_words n m v =
     both_true (leb (count_of n m) n) _ (le-leb (count_of n m) n v.fits)
-    (both_true _ _ (both_true _ _ (filled_packed n _ _ (keys-long n m v) v.keyed) (filled_packed n _ _ (lens-long n m v) v.lens))
-    (both_true _ _ (both_true _ _ (filled_packed n _ _ (lows-long n m v) v.lows) (filled_packed n _ _ (highs-long n m v) v.highs))
-    (both_true _ _ (true-every valid_entry ValidEntry true_valid_entry (take (count_of n m) (entries_at n m)) v.each) (true_rising (keys (data_map_at n m)) v.rises))))
+    (both_true _ _ (both_true _ _ (filled_packed n _ _ (keys_long n m v) v.keyed) (filled_packed n _ _ (lens_long n m v) v.lens))
+    (both_true _ _ (both_true _ _ (filled_packed n _ _ (lows_long n m v) v.lows) (filled_packed n _ _ (highs_long n m v) v.highs))
+    (both_true _ _ (true_every valid_entry ValidEntry true_valid_entry (take (count_of n m) (entries_at n m)) v.each) (true_rising (keys (data_map_at n m)) v.rises))))

@@ -57,6 +57,6 @@ module _ (w x : ℕ) (h : w < words_end) (k : x < words_end) where
   unfolding word_bytes
   word_low = read_word 8 w [] (le 8 x) 0 refl h
 
-  pub word-high : read_le 8 (word_bytes w x) 8 ≡ x
+  pub word_high : read_le 8 (word_bytes w x) 8 ≡ x
   unfolding word_bytes
-  word-high = ap (λ (l : List ℕ). read_le 8 (le 8 w ++ l) 8) (sym (append-nil (le 8 x))) ∙ read_word 8 x (le 8 w) [] 8 (sym (length_le 8 w)) k
+  word_high = ap (λ (l : List ℕ). read_le 8 (le 8 w ++ l) 8) (sym (append-nil (le 8 x))) ∙ read_word 8 x (le 8 w) [] 8 (sym (length_le 8 w)) k

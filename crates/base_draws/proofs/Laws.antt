@@ -12,8 +12,8 @@ use Rattle.base_draws.specs.Place.{past}
 
 module _ (l : List ℕ) (at n : ℕ) where
   -- "Draws go on where the last accepted event stopped": after n draws, what is left is what was left without its first n
-  pub past-rest : drop (past l at n) l ≡ drop n (drop at l)
+  pub past_rest : drop (past l at n) l ≡ drop n (drop at l)
   unfolding past
-  past-rest =
+  past_rest =
       by_choice (λ (k : ℕ). drop k l ≡ drop n (drop at l)) (ltb (at + n) (length l)) (λ h. sym (drop-drop n at l))
       (λ h. drop-length l ∙ sym (drop-drop n at l ∙ drop_of_length-le l (ltb-false (at + n) (length l) h)))

@@ -63,23 +63,23 @@ module _ {M : Type 1} {𝓤 : Ura M} (𝓛 : Logic 𝓤) (κ : Lft) (d : Draws) 
   twice = (LL.copy (D κ) (T'.the_copy (named_lft 1 0 tt (κ, tt))) 𝓛).twice d (T'.lowered d ∷ [])
 
   -- what the list owns, and the struct as it was
-  pub list-out : ent 𝓤 (sem 𝓛 (Own κ d)) (sep 𝓤 (sem 𝓛 (OwnList κ d)) (sem 𝓛 (Own κ d)))
-  list-out =
+  pub list_out : ent 𝓤 (sem 𝓛 (Own κ d)) (sep 𝓤 (sem 𝓛 (OwnList κ d)) (sem 𝓛 (Own κ d)))
+  list_out =
       qed 𝓛 (‵ (Own κ d) ∷ []) ∵ use1 𝓛 (‵ (Own κ d) ⊛ ‵ (Own κ d)) twice $ split ! $
       use1 𝓛 (given (T'.lowered d ∷ [] ≡ T'.lowered d ∷ []) (‵ (all_own (D κ).parts (L κ) (fields κ d)))) (own_open 𝓛 (D κ) (L κ) (fields κ d) (T'.lowered d)) $ learn ! (λ _.
       use1 𝓛 (‵ (field_own (D κ).parts (L κ) 0 d.list) ⊛ ‵ (rest (D κ).parts (L κ) 0 (fields κ d))) (own_out 𝓛 (D κ).parts (L κ) 0 (fields κ d)) $ split ! $ move ! (1 ∷ []) $ drop ! $ done !)
 
   -- what a function that takes the list and the place is handed, and the struct as it was
-  pub taken-apart : (q : Share) → d.at < 2 ^ 64 → ent 𝓤 (⋆ 𝓛 ((‵ (flft κ q) ⊛ ‵ ftrue) ∷ ‵ (Own κ d) ∷ []))
+  pub taken_apart : (q : Share) → d.at < 2 ^ 64 → ent 𝓤 (⋆ 𝓛 ((‵ (flft κ q) ⊛ ‵ ftrue) ∷ ‵ (Own κ d) ∷ []))
       (⋆ 𝓛 (((‵ (flft κ q) ⊛ ‵ ftrue) ⊛ ‵ (owns (ShrSlice (named 0) κ u32 ∷ usize ∷ []) (d.list, (d.at, tt)) (list_val d ∷ [], (vint w64 d.at ∷ [], tt)))) ∷ ‵ (Own κ d) ∷ []))
-  taken-apart q fits =
-      qed 𝓛 ((‵ (flft κ q) ⊛ ‵ ftrue) ∷ ‵ (Own κ d) ∷ []) ∵ move ! (1 ∷ []) $ use1 𝓛 (‵ (OwnList κ d) ⊛ ‵ (Own κ d)) list-out $ split ! $
+  taken_apart q fits =
+      qed 𝓛 ((‵ (flft κ q) ⊛ ‵ ftrue) ∷ ‵ (Own κ d) ∷ []) ∵ move ! (1 ∷ []) $ use1 𝓛 (‵ (OwnList κ d) ⊛ ‵ (Own κ d)) list_out $ split ! $
       -- [what the list owns; what the struct owns; the token]
       nothing ! $ owned ! usize (Is usize) (uint_Makes 𝓛 w64) d.at _ (refl, fits) $ fjoin ! $ move ! (1 ∷ 0 ∷ []) $ fjoin ! $ move ! (2 ∷ 0 ∷ []) $ join ! $ done !
 
   -- what the struct owns, of a copy of what its list owns, and the list's as it was; a `&[u32]` is Copy
-  pub put-together : d.at < 2 ^ 64 → ent 𝓤 (sem 𝓛 (OwnList κ d)) (sep 𝓤 (sem 𝓛 (Own κ d)) (sem 𝓛 (OwnList κ d)))
-  put-together fits =
+  pub put_together : d.at < 2 ^ 64 → ent 𝓤 (sem 𝓛 (OwnList κ d)) (sep 𝓤 (sem 𝓛 (Own κ d)) (sem 𝓛 (OwnList κ d)))
+  put_together fits =
       qed 𝓛 (‵ (OwnList κ d) ∷ []) ∵ use1 𝓛 (‵ (OwnList κ d) ⊛ ‵ (OwnList κ d)) ((shr_slice_copy 𝓛 (named 0) κ u32).twice d.list (list_val d ∷ [])) $ split ! $
       nothing ! $ owned ! usize (Is usize) (uint_Makes 𝓛 w64) d.at _ (refl, fits) $ fjoin ! $ move ! (1 ∷ 0 ∷ []) $ fjoin ! $
       use1 𝓛 (‵ (Own κ d)) (own_shut 𝓛 (D κ) (L κ) (fields κ d)) $ frame ! $ done !

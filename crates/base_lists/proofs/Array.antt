@@ -10,69 +10,69 @@ use Rattle.base_lists.specs.Array.{pad}
 use Rattle.base_lists.specs.Lists.{shift_remove, insert_at}
 
 module _ {A : Type 0} (z : A) where
-  pub length-pad : (n : ℕ) (xs : List A) → length (pad z n xs) ≡ n
+  pub length_pad : (n : ℕ) (xs : List A) → length (pad z n xs) ≡ n
   unfolding pad
-  length-pad zero xs = refl
-  length-pad (suc n) [] = ap suc (length-pad n [])
-  length-pad (suc n) (x ∷ xs) = ap suc (length-pad n xs)
+  length_pad zero xs = refl
+  length_pad (suc n) [] = ap suc (length_pad n [])
+  length_pad (suc n) (x ∷ xs) = ap suc (length_pad n xs)
 
-  pub take-pad : (n : ℕ) (xs : List A) → length xs ≤ n → take (length xs) (pad z n xs) ≡ xs
+  pub take_pad : (n : ℕ) (xs : List A) → length xs ≤ n → take (length xs) (pad z n xs) ≡ xs
   unfolding pad
-  take-pad n [] h = refl
-  take-pad zero (x ∷ xs) h = absurd (not-suc-le-zero h)
-  take-pad (suc n) (x ∷ xs) h = ap (λ (l : List A). x ∷ l) (take-pad n xs (le_of_suc-le-suc h))
+  take_pad n [] h = refl
+  take_pad zero (x ∷ xs) h = absurd (not-suc-le-zero h)
+  take_pad (suc n) (x ∷ xs) h = ap (λ (l : List A). x ∷ l) (take_pad n xs (le_of_suc-le-suc h))
 
-  pub getD-pad : (n : ℕ) (xs : List A) (i : ℕ) → length xs ≤ n → get_or (pad z n xs) i z ≡ get_or xs i z
+  pub getD_pad : (n : ℕ) (xs : List A) (i : ℕ) → length xs ≤ n → get_or (pad z n xs) i z ≡ get_or xs i z
   unfolding pad
-  getD-pad zero [] i h = refl
-  getD-pad zero (x ∷ xs) i h = absurd (not-suc-le-zero h)
-  getD-pad (suc n) [] zero h = refl
-  getD-pad (suc n) [] (suc i) h = getD-pad n [] i zero-le
-  getD-pad (suc n) (x ∷ xs) zero h = refl
-  getD-pad (suc n) (x ∷ xs) (suc i) h = getD-pad n xs i (le_of_suc-le-suc h)
+  getD_pad zero [] i h = refl
+  getD_pad zero (x ∷ xs) i h = absurd (not-suc-le-zero h)
+  getD_pad (suc n) [] zero h = refl
+  getD_pad (suc n) [] (suc i) h = getD_pad n [] i zero-le
+  getD_pad (suc n) (x ∷ xs) zero h = refl
+  getD_pad (suc n) (x ∷ xs) (suc i) h = getD_pad n xs i (le_of_suc-le-suc h)
 
   -- a list that is cut or filled up to n places has its own items before them
-  pub getD-filled : (n : ℕ) (xs : List A) (i : ℕ) → i < n → get_or (pad z n xs) i z ≡ get_or xs i z
+  pub getD_filled : (n : ℕ) (xs : List A) (i : ℕ) → i < n → get_or (pad z n xs) i z ≡ get_or xs i z
   unfolding pad
-  getD-filled zero xs i h = absurd (not-suc-le-zero h)
-  getD-filled (suc n) [] zero h = refl
-  getD-filled (suc n) [] (suc i) h = getD-filled n [] i (le_of_suc-le-suc h)
-  getD-filled (suc n) (x ∷ xs) zero h = refl
-  getD-filled (suc n) (x ∷ xs) (suc i) h = getD-filled n xs i (le_of_suc-le-suc h)
+  getD_filled zero xs i h = absurd (not-suc-le-zero h)
+  getD_filled (suc n) [] zero h = refl
+  getD_filled (suc n) [] (suc i) h = getD_filled n [] i (le_of_suc-le-suc h)
+  getD_filled (suc n) (x ∷ xs) zero h = refl
+  getD_filled (suc n) (x ∷ xs) (suc i) h = getD_filled n xs i (le_of_suc-le-suc h)
 
   -- a store within the items
-  pub set-pad : (n : ℕ) (xs : List A) (i : ℕ) (v : A) → i < length xs → set (pad z n xs) i v ≡ pad z n (set xs i v)
+  pub set_pad : (n : ℕ) (xs : List A) (i : ℕ) (v : A) → i < length xs → set (pad z n xs) i v ≡ pad z n (set xs i v)
   unfolding pad
-  set-pad zero xs i v h = refl
-  set-pad (suc n) [] i v h = absurd (not-suc-le-zero h)
-  set-pad (suc n) (x ∷ xs) zero v h = refl
-  set-pad (suc n) (x ∷ xs) (suc i) v h = ap (λ (l : List A). x ∷ l) (set-pad n xs i v (le_of_suc-le-suc h))
+  set_pad zero xs i v h = refl
+  set_pad (suc n) [] i v h = absurd (not-suc-le-zero h)
+  set_pad (suc n) (x ∷ xs) zero v h = refl
+  set_pad (suc n) (x ∷ xs) (suc i) v h = ap (λ (l : List A). x ∷ l) (set_pad n xs i v (le_of_suc-le-suc h))
 
   -- a store at the first unused place
-  pub push-pad : (n : ℕ) (xs : List A) (v : A) → length xs < n → set (pad z n xs) (length xs) v ≡ pad z n (xs ++ (v ∷ []))
+  pub push_pad : (n : ℕ) (xs : List A) (v : A) → length xs < n → set (pad z n xs) (length xs) v ≡ pad z n (xs ++ (v ∷ []))
   unfolding pad
-  push-pad zero xs v h = absurd (not-suc-le-zero h)
-  push-pad (suc n) [] v h = refl
-  push-pad (suc n) (x ∷ xs) v h = ap (λ (l : List A). x ∷ l) (push-pad n xs v (le_of_suc-le-suc h))
+  push_pad zero xs v h = absurd (not-suc-le-zero h)
+  push_pad (suc n) [] v h = refl
+  push_pad (suc n) (x ∷ xs) v h = ap (λ (l : List A). x ∷ l) (push_pad n xs v (le_of_suc-le-suc h))
 
   -- the last item's place cleared
-  pub pop-pad : (n k : ℕ) (xs : List A) → length xs ≡ suc k → set (pad z n xs) k z ≡ pad z n (take k xs)
+  pub pop_pad : (n k : ℕ) (xs : List A) → length xs ≡ suc k → set (pad z n xs) k z ≡ pad z n (take k xs)
   unfolding pad
-  pop-pad zero k xs h = refl
-  pop-pad (suc n) k [] h = absurd (let q : ◌≡◌ {A = ℕ} 0 1 = omega (arith, h) in omega arith)
-  pop-pad (suc n) zero (x ∷ []) h = refl
-  pop-pad (suc n) zero (x ∷ y ∷ ys) h = absurd (omega (arith, h))
-  pop-pad (suc n) (suc k) (x ∷ xs) h = ap (λ (l : List A). x ∷ l) (pop-pad n k xs (omega (arith, h)))
+  pop_pad zero k xs h = refl
+  pop_pad (suc n) k [] h = absurd (let q : ◌≡◌ {A = ℕ} 0 1 = omega (arith, h) in omega arith)
+  pop_pad (suc n) zero (x ∷ []) h = refl
+  pop_pad (suc n) zero (x ∷ y ∷ ys) h = absurd (omega (arith, h))
+  pop_pad (suc n) (suc k) (x ∷ xs) h = ap (λ (l : List A). x ∷ l) (pop_pad n k xs (omega (arith, h)))
 
   -- n items from place i on, each by its place
   unfoldable pub spell : ℕ → ℕ → List A → List A
   spell zero i xs = []
   spell (suc n) i xs = get_or xs i z ∷ spell n (suc i) xs
 
-  spell-after : (n i : ℕ) (x : A) (xs : List A) → spell n (suc i) (x ∷ xs) ≡ spell n i xs
+  spell_after : (n i : ℕ) (x : A) (xs : List A) → spell n (suc i) (x ∷ xs) ≡ spell n i xs
   unfolding spell
-  spell-after zero i x xs = refl
-  spell-after (suc n) i x xs = ap (λ (l : List A). get_or xs i z ∷ l) (spell-after n (suc i) x xs)
+  spell_after zero i x xs = refl
+  spell_after (suc n) i x xs = ap (λ (l : List A). get_or xs i z ∷ l) (spell_after n (suc i) x xs)
 
   -- a list of known length, item by item: so that an array computes
   pub spelled : (n : ℕ) (xs : List A) → length xs ≡ n → spell n 0 xs ≡ xs
@@ -81,21 +81,21 @@ module _ {A : Type 0} (z : A) where
     where
       whole : (l : List A) → spell (length l) 0 l ≡ l
       whole [] = refl
-      whole (x ∷ l) = ap (λ (t : List A). x ∷ t) (spell-after (length l) 0 x l ∙ whole l)
+      whole (x ∷ l) = ap (λ (t : List A). x ∷ t) (spell_after (length l) 0 x l ∙ whole l)
 
-  pub getD-shift-remove-below : (i k : ℕ) (xs : List A) → k < i → get_or (shift_remove i xs) k z ≡ get_or xs k z
+  pub getD_shift_remove_below : (i k : ℕ) (xs : List A) → k < i → get_or (shift_remove i xs) k z ≡ get_or xs k z
   unfolding shift_remove
-  getD-shift-remove-below i k [] h = refl
-  getD-shift-remove-below zero k (x ∷ xs) h = absurd (not-suc-le-zero h)
-  getD-shift-remove-below (suc i) zero (x ∷ xs) h = refl
-  getD-shift-remove-below (suc i) (suc k) (x ∷ xs) h = getD-shift-remove-below i k xs (le_of_suc-le-suc h)
+  getD_shift_remove_below i k [] h = refl
+  getD_shift_remove_below zero k (x ∷ xs) h = absurd (not-suc-le-zero h)
+  getD_shift_remove_below (suc i) zero (x ∷ xs) h = refl
+  getD_shift_remove_below (suc i) (suc k) (x ∷ xs) h = getD_shift_remove_below i k xs (le_of_suc-le-suc h)
 
-  pub getD-shift-remove-from : (i k : ℕ) (xs : List A) → i ≤ k → get_or (shift_remove i xs) k z ≡ get_or xs (suc k) z
+  pub getD_shift_remove_from : (i k : ℕ) (xs : List A) → i ≤ k → get_or (shift_remove i xs) k z ≡ get_or xs (suc k) z
   unfolding shift_remove
-  getD-shift-remove-from i k [] h = refl
-  getD-shift-remove-from zero k (x ∷ xs) h = refl
-  getD-shift-remove-from (suc i) zero (x ∷ xs) h = absurd (not-suc-le-zero h)
-  getD-shift-remove-from (suc i) (suc k) (x ∷ xs) h = getD-shift-remove-from i k xs (le_of_suc-le-suc h)
+  getD_shift_remove_from i k [] h = refl
+  getD_shift_remove_from zero k (x ∷ xs) h = refl
+  getD_shift_remove_from (suc i) zero (x ∷ xs) h = absurd (not-suc-le-zero h)
+  getD_shift_remove_from (suc i) (suc k) (x ∷ xs) h = getD_shift_remove_from i k xs (le_of_suc-le-suc h)
 
 pub length_shift_remove : {A : Type 0} (i : ℕ) (xs : List A) → i < length xs → suc (length (shift_remove i xs)) ≡ length xs
 unfolding shift_remove
@@ -111,18 +111,18 @@ module _ {A : Type 0} (z : A) where
   get_d_insert_below (suc i) x zero (y ∷ ys) h p = refl
   get_d_insert_below (suc i) x (suc k) (y ∷ ys) h p = get_d_insert_below i x k ys (le_of_suc-le-suc h) (le_of_suc-le-suc p)
 
-  pub getD-insert-same : (i : ℕ) (x : A) (xs : List A) → i ≤ length xs → get_or (insert_at i x xs) i z ≡ x
+  pub getD_insert_same : (i : ℕ) (x : A) (xs : List A) → i ≤ length xs → get_or (insert_at i x xs) i z ≡ x
   unfolding insert_at
-  getD-insert-same zero x xs p = refl
-  getD-insert-same (suc i) x [] p = absurd (not-suc-le-zero p)
-  getD-insert-same (suc i) x (y ∷ ys) p = getD-insert-same i x ys (le_of_suc-le-suc p)
+  getD_insert_same zero x xs p = refl
+  getD_insert_same (suc i) x [] p = absurd (not-suc-le-zero p)
+  getD_insert_same (suc i) x (y ∷ ys) p = getD_insert_same i x ys (le_of_suc-le-suc p)
 
-  pub getD-insert-from : (i : ℕ) (x : A) (k : ℕ) (xs : List A) → i ≤ k → i ≤ length xs → get_or (insert_at i x xs) (suc k) z ≡ get_or xs k z
+  pub getD_insert_from : (i : ℕ) (x : A) (k : ℕ) (xs : List A) → i ≤ k → i ≤ length xs → get_or (insert_at i x xs) (suc k) z ≡ get_or xs k z
   unfolding insert_at
-  getD-insert-from zero x k xs h p = refl
-  getD-insert-from (suc i) x k [] h p = absurd (not-suc-le-zero p)
-  getD-insert-from (suc i) x zero (y ∷ ys) h p = absurd (not-suc-le-zero h)
-  getD-insert-from (suc i) x (suc k) (y ∷ ys) h p = getD-insert-from i x k ys (le_of_suc-le-suc h) (le_of_suc-le-suc p)
+  getD_insert_from zero x k xs h p = refl
+  getD_insert_from (suc i) x k [] h p = absurd (not-suc-le-zero p)
+  getD_insert_from (suc i) x zero (y ∷ ys) h p = absurd (not-suc-le-zero h)
+  getD_insert_from (suc i) x (suc k) (y ∷ ys) h p = getD_insert_from i x k ys (le_of_suc-le-suc h) (le_of_suc-le-suc p)
 
 pub length_insert_at : {A : Type 0} (i : ℕ) (x : A) (xs : List A) → length (insert_at i x xs) ≡ suc (length xs)
 unfolding insert_at

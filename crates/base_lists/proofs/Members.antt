@@ -9,10 +9,10 @@ use lib.ListN.{length, get_or, drop, take, length-append, length-take}
 use lib.Dec.{ltb, eqb}
 use borrow.Author.Tests.{ltb-true, ltb-false, eqb-true, eqb-false, ne_eqb}
 use Rattle.base_lists.specs.Lists.{choose, null, is, count, mem, index_of, shift_remove, remove, without, place, insert, push_new, renew, Above, Rising}
-use Rattle.base_lists.specs.Maps.{keys, has, cut, retain, replace, place-entry, put, Each}
+use Rattle.base_lists.specs.Maps.{keys, has, cut, retain, replace, place_entry, put, Each}
 use Rattle.base_lists.proofs.Choice.{by_choice, by_test, split, or_true, clash}
 use Rattle.base_lists.proofs.Count.{is_self, is_le, is_not, mem_true, mem_false, count_snoc, count_without, length_without, count_place, count_insert, length_swap, count_shift, length_shift, index_lt, index_at, absent}
-use Rattle.base_lists.proofs.Maps.{keys-cut, keys-put}
+use Rattle.base_lists.proofs.Maps.{keys_cut, keys_put}
 
 pub both : (a b : Bool) → a ≡ true → b ≡ true → (a && b) ≡ true
 both a b e f = rw e f
@@ -136,37 +136,37 @@ module _ (n p : ℕ) (xs : List ℕ) (o : 1 ≤ n) (f : length xs ≤ n) (h : (x
 
 -- maps
 pub count_cut : {A : Type 0} (x p : ℕ) (m : List (ℕ × A)) → count x (keys m) ≤ 1 → count x (keys (cut p m)) ≡ count x (keys m) - is x p
-count_cut x p m h = rw (keys-cut p m) (count_without x p (keys m) h)
+count_cut x p m h = rw (keys_cut p m) (count_without x p (keys m) h)
 
 pub count_put : {A : Type 0} (x p : ℕ) (v : A) (m : List (ℕ × A)) (n : ℕ → ℕ) → 1 ≤ n p → count x (keys m) ≤ n x → count x (keys (put p v m)) ≤ n x
-count_put x p v m n h k = rw (keys-put p v m) (count_insert x p (keys m) n h k)
+count_put x p v m n h k = rw (keys_put p v m) (count_insert x p (keys m) n h k)
 
 -- of every value of a map
 module _ {A : Type 0} (P : A → Type 0) where
-  pub each-cut : (k : ℕ) (m : List (ℕ × A)) → Each P m → Each P (cut k m)
+  pub each_cut : (k : ℕ) (m : List (ℕ × A)) → Each P m → Each P (cut k m)
   unfolding Each cut
-  each-cut k [] h = tt
-  each-cut k (e ∷ m) h = by_choice (Each P) (eqb k e.0) (λ t. each-cut k m h.1) (λ t. (h.0, each-cut k m h.1))
+  each_cut k [] h = tt
+  each_cut k (e ∷ m) h = by_choice (Each P) (eqb k e.0) (λ t. each_cut k m h.1) (λ t. (h.0, each_cut k m h.1))
 
-  pub each-retain : (ps : List ℕ) (m : List (ℕ × A)) → Each P m → Each P (retain ps m)
+  pub each_retain : (ps : List ℕ) (m : List (ℕ × A)) → Each P m → Each P (retain ps m)
   unfolding Each retain
-  each-retain ps [] h = tt
-  each-retain ps (e ∷ m) h = by_choice (Each P) (mem e.0 ps) (λ t. (h.0, each-retain ps m h.1)) (λ t. each-retain ps m h.1)
+  each_retain ps [] h = tt
+  each_retain ps (e ∷ m) h = by_choice (Each P) (mem e.0 ps) (λ t. (h.0, each_retain ps m h.1)) (λ t. each_retain ps m h.1)
 
-  each-replace : (k : ℕ) (v : A) (m : List (ℕ × A)) → P v → Each P m → Each P (replace k v m)
+  each_replace : (k : ℕ) (v : A) (m : List (ℕ × A)) → P v → Each P m → Each P (replace k v m)
   unfolding Each replace
-  each-replace k v [] p h = tt
-  each-replace k v (e ∷ m) p h =
-      by_choice (Each P) (eqb k e.0) (λ t. (p, each-replace k v m p h.1)) (λ t. (h.0, each-replace k v m p h.1))
+  each_replace k v [] p h = tt
+  each_replace k v (e ∷ m) p h =
+      by_choice (Each P) (eqb k e.0) (λ t. (p, each_replace k v m p h.1)) (λ t. (h.0, each_replace k v m p h.1))
 
-  each-place : (k : ℕ) (v : A) (m : List (ℕ × A)) → P v → Each P m → Each P (place-entry k v m)
-  unfolding Each place-entry
-  each-place k v [] p h = (p, tt)
-  each-place k v (e ∷ m) p h = by_choice (Each P) (ltb k e.0) (λ t. (p, h)) (λ t. (h.0, each-place k v m p h.1))
+  each_place : (k : ℕ) (v : A) (m : List (ℕ × A)) → P v → Each P m → Each P (place_entry k v m)
+  unfolding Each place_entry
+  each_place k v [] p h = (p, tt)
+  each_place k v (e ∷ m) p h = by_choice (Each P) (ltb k e.0) (λ t. (p, h)) (λ t. (h.0, each_place k v m p h.1))
 
-  pub each-put : (k : ℕ) (v : A) (m : List (ℕ × A)) → P v → Each P m → Each P (put k v m)
+  pub each_put : (k : ℕ) (v : A) (m : List (ℕ × A)) → P v → Each P m → Each P (put k v m)
   unfolding put
-  each-put k v m p h = by_choice (Each P) (has k m) (λ t. each-replace k v m p h) (λ t. each-place k v m p h)
+  each_put k v m p h = by_choice (Each P) (has k m) (λ t. each_replace k v m p h) (λ t. each_place k v m p h)
 
 pub each_more : (n k : ℕ) (m : List (ℕ × ℕ)) → n ≤ k → Each (λ v. v < n) m → Each (λ v. v < k) m
 unfolding Each

@@ -8,7 +8,7 @@ use native.Mathlib.Omega.{arith}
 use lib.ListN.{length, get_or, length-append}
 use lib.Seq.{slice, slice_empty, slice-cons, get_or-append-add}
 use Rattle.base_lists.specs.Bytes.{le, read_le}
-use Rattle.base_lists.proofs.Slices.{slice-append}
+use Rattle.base_lists.proofs.Slices.{slice_append}
 
 -- every element is a byte
 abbrev pub Bytes : List ℕ → Type 0
@@ -62,7 +62,7 @@ le_read (suc k) l i h w =
 
 -- the same with what stands after it
 pub le_read_then : (k : ℕ) (l : List ℕ) (i t : ℕ) → Bytes l → i + k ≤ t → t ≤ length l → le k (read_le k l i) ++ slice (i + k) t l ≡ slice i t l
-le_read_then k l i t h w q = rw (le_read k l i h (omega arith)) (slice-append i (i + k) t l (omega arith) w q)
+le_read_then k l i t h w q = rw (le_read k l i h (omega arith)) (slice_append i (i + k) t l (omega arith) w q)
 
 -- ---- what stands in b from place j on
 
@@ -88,8 +88,8 @@ module _ {b : List ℕ} {j : ℕ} where
   }
 
   -- a byte, and a number that was written, where they stand
-  pub byte-from : (x : ℕ) (rest : List ℕ) → From b j (x ∷ rest) → get_or b j 0 ≡ x
-  byte-from x rest f =
+  pub byte_from : (x : ℕ) (rest : List ℕ) → From b j (x ∷ rest) → get_or b j 0 ≡ x
+  byte_from x rest f =
       let e : j ≡ length f.pre + 0 = omega (arith, f.long) in
       rw (f.is, e) (get_or-append-add f.pre (x ∷ rest) 0 0)
 

@@ -7,8 +7,8 @@ use native.Mathlib.Omega.{arith}
 use lib.ListN.{length, get_or, set, get_or-eq_default}
 use Rattle.base_lists.specs.Array.{pad}
 use Rattle.base_lists.specs.Lists.{shift_remove}
-use Rattle.base_lists.proofs.Array.{length-pad, getD-pad, getD-shift-remove-below, getD-shift-remove-from, length_shift_remove}
-use Rattle.base_lists.proofs.Front.{Front, front_start, front-step, front-end}
+use Rattle.base_lists.proofs.Array.{length_pad, getD_pad, getD_shift_remove_below, getD_shift_remove_from, length_shift_remove}
+use Rattle.base_lists.proofs.Front.{Front, front_start, front_step, front_end}
 
 pub record Removing {A : Type 0} (z : A) (N : ℕ) (xs : List A) (i : ℕ) (cur : List A) (k : ℕ) : Type 0 where
   pub within : i < length xs
@@ -19,7 +19,7 @@ pub record Removing {A : Type 0} (z : A) (N : ℕ) (xs : List A) (i : ℕ) (cur 
 
 module _ {A : Type 0} (z : A) (N : ℕ) (xs : List A) (i : ℕ) (h : i < length xs) (fits : length xs ≤ N) where
   getD_wanted : (j : ℕ) → get_or (pad z N (shift_remove i xs)) j z ≡ get_or (shift_remove i xs) j z
-  getD_wanted j = getD-pad z N (shift_remove i xs) j (omega (arith, length_shift_remove i xs h))
+  getD_wanted j = getD_pad z N (shift_remove i xs) j (omega (arith, length_shift_remove i xs h))
 
   past : (j : ℕ) → length xs ≤ j + 1 → z ≡ get_or (pad z N (shift_remove i xs)) j z
   past j p = sym (getD_wanted j ∙ get_or-eq_default (shift_remove i xs) z (omega (arith, length_shift_remove i xs h)))
@@ -30,7 +30,7 @@ module _ {A : Type 0} (z : A) (N : ℕ) (xs : List A) (i : ℕ) (h : i < length 
     fits = fits;
     low = omega arith;
     high = h;
-    front = front_start z _ _ i (length-pad z N xs) (λ j p. getD-pad z N xs j fits ∙ sym (getD_wanted j ∙ getD-shift-remove-below z i j xs p));
+    front = front_start z _ _ i (length_pad z N xs) (λ j p. getD_pad z N xs j fits ∙ sym (getD_wanted j ∙ getD_shift_remove_below z i j xs p));
   }
 
 module _ {A : Type 0} (z : A) {N : ℕ} {xs : List A} {i : ℕ} {cur : List A} {k : ℕ} (v : Removing z N xs i cur k) where
@@ -41,13 +41,13 @@ module _ {A : Type 0} (z : A) {N : ℕ} {xs : List A} {i : ℕ} {cur : List A} {
     fits = v.fits;
     low = omega arith;
     high = h;
-    front = front-step v.front _ (omega (arith, v.fits))
-        (v.front.left (k + 1) (omega arith) ∙ ap (λ (m : ℕ). get_or (pad z N xs) m z) (add-one k) ∙ getD-pad z N xs (suc k) v.fits
-        ∙ sym (getD_wanted z N xs i v.within v.fits k ∙ getD-shift-remove-from z i k xs v.low));
+    front = front_step v.front _ (omega (arith, v.fits))
+        (v.front.left (k + 1) (omega arith) ∙ ap (λ (m : ℕ). get_or (pad z N xs) m z) (add-one k) ∙ getD_pad z N xs (suc k) v.fits
+        ∙ sym (getD_wanted z N xs i v.within v.fits k ∙ getD_shift_remove_from z i k xs v.low));
   }
 
   -- the place of the last is cleared
   pub removing_end : k + 1 ≡ length xs → set cur k z ≡ pad z N (shift_remove i xs)
   removing_end e =
-      front-end (front-step v.front z (omega (arith, v.fits)) (past z N xs i v.within v.fits k (omega arith))) (length-pad z N (shift_remove i xs))
-      (λ j p. getD-pad z N xs j v.fits ∙ get_or-eq_default xs z (omega arith) ∙ past z N xs i v.within v.fits j (omega arith))
+      front_end (front_step v.front z (omega (arith, v.fits)) (past z N xs i v.within v.fits k (omega arith))) (length_pad z N (shift_remove i xs))
+      (λ j p. getD_pad z N xs j v.fits ∙ get_or-eq_default xs z (omega arith) ∙ past z N xs i v.within v.fits j (omega arith))

@@ -32,8 +32,8 @@ abbrev pub Place : {A : Type 0} → (List A → ℕ) → ℕ → List A → ℕ
 Place f i l = i + f l
 
 module _ {A : Type 0} (d : A) {t : A → Bool} {f : List A → ℕ} (g : First t f) {cap : ℕ} {items : List A} {n whole i : ℕ} (v : Rest (Place f) cap items n whole i i) where
-  pub first-here : i < n → t (get_or items i d) ≡ true → i ≡ whole
-  first-here h e =
+  pub first_here : i < n → t (get_or items i d) ≡ true → i ≡ whole
+  first_here h e =
       let q : f (get_or items i d ∷ slice (suc i) n items) ≡ 0 = g.more _ _ ∙ rw e in
       omega (arith, rest_at d (Place f) v h)
 
@@ -41,8 +41,8 @@ module _ {A : Type 0} (d : A) {t : A → Bool} {f : List A → ℕ} (g : First t
   first_next h e =
       rest_next d (Place f) v (i + 1) h (λ l. let q : f (get_or items i d ∷ l) ≡ suc (f l) = g.more _ _ ∙ rw e in omega arith)
 
-  pub first-end : n ≤ i → n ≡ whole
-  first-end h = omega (arith, rest_end d (Place f) v h, g.none, v.low)
+  pub first_end : n ≤ i → n ≡ whole
+  first_end h = omega (arith, rest_end d (Place f) v h, g.none, v.low)
 
 pub index_absent : (x : ℕ) (xs : List ℕ) → mem x xs ≡ false → index_of x xs ≡ length xs
 unfolding index_of mem

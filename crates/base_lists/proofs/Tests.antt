@@ -14,7 +14,7 @@ use Rattle.base_lists.specs.Array.{pad}
 use Rattle.base_lists.specs.Tests.{every, packed, All}
 use Rattle.base_lists.proofs.Choice.{and_left, and_right}
 use Rattle.base_lists.proofs.Rising.{above_less}
-use Rattle.base_lists.proofs.Array.{length-pad}
+use Rattle.base_lists.proofs.Array.{length_pad}
 use Rattle.base_lists.proofs.Rest.{Rest, rest_next, rest_end}
 
 pub both_true : (a b : Bool) → a ≡ true → b ≡ true → (a && b) ≡ true
@@ -61,10 +61,10 @@ module _ {A : Type 0} (t : A → Bool) (P : A → Type 0) where
   every_true f [] e = tt
   every_true f (x ∷ xs) e = (f x (and_left (t x) _ e), every_true f xs (and_right (t x) _ e))
 
-  pub true-every : ((x : A) → P x → t x ≡ true) → (xs : List A) → All P xs → every t xs ≡ true
+  pub true_every : ((x : A) → P x → t x ≡ true) → (xs : List A) → All P xs → every t xs ≡ true
   unfolding every All
-  true-every f [] a = refl
-  true-every f (x ∷ xs) a = both_true (t x) _ (f x a.0) (true-every f xs a.1)
+  true_every f [] a = refl
+  true_every f (x ∷ xs) a = both_true (t x) _ (f x a.0) (true_every f xs a.1)
 
 pub all_map : {A B : Type 0} (P : A → Type 0) (Q : B → Type 0) (f : A → B) → ((x : A) → P x → Q (f x)) → (xs : List A) → All P xs → All Q (map f xs)
 unfolding All
@@ -72,32 +72,32 @@ all_map P Q f g [] a = tt
 all_map P Q f g (x ∷ xs) a = (g x a.0, all_map P Q f g xs a.1)
 
 module _ {A : Type 0} (z : A) (t : A → Bool) where
-  blank-past : ((x : A) → t x ≡ true → x ≡ z) → (l : List A) (k : ℕ) → every t (drop k l) ≡ true → l ≡ pad z (length l) (take k l)
+  blank_past : ((x : A) → t x ≡ true → x ≡ z) → (l : List A) (k : ℕ) → every t (drop k l) ≡ true → l ≡ pad z (length l) (take k l)
   unfolding every pad
-  blank-past f [] k e = refl
-  blank-past f (x ∷ xs) zero e = λ i. f x (and_left (t x) _ e) i ∷ blank-past f xs zero (and_right (t x) _ e) i
-  blank-past f (x ∷ xs) (suc k) e = ap (λ (l : List A). x ∷ l) (blank-past f xs k e)
+  blank_past f [] k e = refl
+  blank_past f (x ∷ xs) zero e = λ i. f x (and_left (t x) _ e) i ∷ blank_past f xs zero (and_right (t x) _ e) i
+  blank_past f (x ∷ xs) (suc k) e = ap (λ (l : List A). x ∷ l) (blank_past f xs k e)
 
-  past-blank : t z ≡ true → (n k : ℕ) (l : List A) → every t (drop k (pad z n (take k l))) ≡ true
+  past_blank : t z ≡ true → (n k : ℕ) (l : List A) → every t (drop k (pad z n (take k l))) ≡ true
   unfolding every pad
-  past-blank e zero zero l = refl
-  past-blank e zero (suc k) l = refl
-  past-blank e (suc n) zero l = both_true (t z) _ e (past-blank e n zero l)
-  past-blank e (suc n) (suc k) [] = ap (λ (m : List A). every t (drop k (pad z n m))) (sym (take-nil k)) ∙ past-blank e n k []
-  past-blank e (suc n) (suc k) (x ∷ l) = past-blank e n k l
+  past_blank e zero zero l = refl
+  past_blank e zero (suc k) l = refl
+  past_blank e (suc n) zero l = both_true (t z) _ e (past_blank e n zero l)
+  past_blank e (suc n) (suc k) [] = ap (λ (m : List A). every t (drop k (pad z n m))) (sym (take-nil k)) ∙ past_blank e n k []
+  past_blank e (suc n) (suc k) (x ∷ l) = past_blank e n k l
 
   -- the test holds of an array whose unused places are z, and of no other
-  pub packed-true : ((x : A) → t x ≡ true → x ≡ z) → (n k : ℕ) (l : List A) → packed t n k l ≡ true → l ≡ pad z n (take k l)
+  pub packed_true : ((x : A) → t x ≡ true → x ≡ z) → (n k : ℕ) (l : List A) → packed t n k l ≡ true → l ≡ pad z n (take k l)
   unfolding packed
-  packed-true f n k l e =
-      blank-past f l k (and_right (eqb (length l) n) _ e)
+  packed_true f n k l e =
+      blank_past f l k (and_right (eqb (length l) n) _ e)
       ∙ ap (λ (m : ℕ). pad z m (take k l)) (eqb-true (length l) n (and_left (eqb (length l) n) _ e))
 
-  pub true-packed : t z ≡ true → (n k : ℕ) (l : List A) → l ≡ pad z n (take k l) → packed t n k l ≡ true
+  pub true_packed : t z ≡ true → (n k : ℕ) (l : List A) → l ≡ pad z n (take k l) → packed t n k l ≡ true
   unfolding packed
-  true-packed e n k l p =
-      both_true (eqb (length l) n) _ (eq-eqb (length l) n (ap length p ∙ length-pad z n (take k l)))
-      (ap (λ (m : List A). every t (drop k m)) p ∙ past-blank e n k l)
+  true_packed e n k l p =
+      both_true (eqb (length l) n) _ (eq-eqb (length l) n (ap length p ∙ length_pad z n (take k l)))
+      (ap (λ (m : List A). every t (drop k m)) p ∙ past_blank e n k l)
 
 -- ---- the loops
 
@@ -106,14 +106,14 @@ abbrev pub SoFar : {A : Type 0} → (A → Bool) → Bool → List A → Bool
 SoFar t ok l = ok && every t l
 
 module _ {A : Type 0} (t : A → Bool) (d : A) (N : ℕ) where
-  pub so-far-from : (l : List A) (k : ℕ) → k ≤ N → length l ≡ N → Rest (SoFar t) N l N (every t (drop k l)) true k
-  so-far-from l k h e = record { low = h; top = omega arith; long = e; same = ap (λ (m : List A). every t (drop k m)) (sym (take_all N l (omega arith))) }
+  pub so_far_from : (l : List A) (k : ℕ) → k ≤ N → length l ≡ N → Rest (SoFar t) N l N (every t (drop k l)) true k
+  so_far_from l k h e = record { low = h; top = omega arith; long = e; same = ap (λ (m : List A). every t (drop k m)) (sym (take_all N l (omega arith))) }
 
   module _ (l : List A) (n : ℕ) (whole ok : Bool) (i : ℕ) (v : Rest (SoFar t) N l n whole ok i) where
-    pub so-far-next : i < n → Rest (SoFar t) N l n whole (ok && t (get_or l i d)) (i + 1)
+    pub so_far_next : i < n → Rest (SoFar t) N l n whole (ok && t (get_or l i d)) (i + 1)
     unfolding every
-    so-far-next h = rest_next d (SoFar t) v (ok && t (get_or l i d)) h (λ r. sym (and_assoc ok (t (get_or l i d)) (every t r)))
+    so_far_next h = rest_next d (SoFar t) v (ok && t (get_or l i d)) h (λ r. sym (and_assoc ok (t (get_or l i d)) (every t r)))
 
-    pub so-far-end : n ≤ i → ok ≡ whole
+    pub so_far_end : n ≤ i → ok ≡ whole
     unfolding every
-    so-far-end h = sym (rest_end d (SoFar t) v h ∙ and-true ok)
+    so_far_end h = sym (rest_end d (SoFar t) v h ∙ and-true ok)

@@ -42,13 +42,13 @@ module _ {A : Type 0} where
   replace k v [] = []
   replace k v (e ∷ m) = choose (eqb k e.0) ((k, v) ∷ replace k v m) (e ∷ replace k v m)
 
-  unfoldable pub place-entry : ℕ → A → List (ℕ × A) → List (ℕ × A)
-  place-entry k v [] = (k, v) ∷ []
-  place-entry k v (e ∷ m) = choose (ltb k e.0) ((k, v) ∷ e ∷ m) (e ∷ place-entry k v m)
+  unfoldable pub place_entry : ℕ → A → List (ℕ × A) → List (ℕ × A)
+  place_entry k v [] = (k, v) ∷ []
+  place_entry k v (e ∷ m) = choose (ltb k e.0) ((k, v) ∷ e ∷ m) (e ∷ place_entry k v m)
 
   -- HashMap::insert
   unfoldable pub put : ℕ → A → List (ℕ × A) → List (ℕ × A)
-  put k v m = choose (has k m) (replace k v m) (place-entry k v m)
+  put k v m = choose (has k m) (replace k v m) (place_entry k v m)
 
 -- of every value of a map
 module _ {A : Type 0} (P : A → Type 0) where

@@ -14,8 +14,8 @@ use Rattle.base_lists.specs.Lists.{choose}
 use Rattle.base_lists.specs.Array.{pad}
 use Rattle.base_lists.specs.Tests.{packed}
 use Rattle.base_lists.proofs.Choice.{and_left, and_right, or_true, split, clash}
-use Rattle.base_lists.proofs.Array.{length-pad, take-pad}
-use Rattle.base_lists.proofs.Tests.{both_true, packed-true, true-packed}
+use Rattle.base_lists.proofs.Array.{length_pad, take_pad}
+use Rattle.base_lists.proofs.Tests.{both_true, packed_true, true_packed}
 use Rattle.base_peer.specs.Data.{Data, bytes_of}
 use Rattle.base_peer.specs.Held.{data_in, ValidData, HoldsData, valid_data, zero_byte}
 use Rattle.base_peer.specs.declared.PeerData.{PeerData}
@@ -32,7 +32,7 @@ data_absent d e = rw e
 
 pub length_bytes : (d : PeerData) → ValidData d → length (take d.len d.bytes) ≡ d.len
 length_bytes d v =
-    length-take-le d.len d.bytes (omega (arith, v.fits, ap length v.packed ∙ length-pad 0 16 (take d.len d.bytes)))
+    length-take-le d.len d.bytes (omega (arith, v.fits, ap length v.packed ∙ length_pad 0 16 (take d.len d.bytes)))
 
 -- the bytes are the first of the array, absent or not
 pub bytes_in : (d : PeerData) → ValidData d → bytes_of (data_in d) ≡ take d.len d.bytes
@@ -48,7 +48,7 @@ short_bytes d v = omega (arith, ap length (bytes_in d v), length_bytes d v, v.fi
 pub holds_some : (b bytes : List ℕ) (n : ℕ) → bytes ≡ pad 0 16 b → n ≡ length b → length b ≤ 16 → HoldsData (record { present = true; len = n; bytes = bytes }) (some b)
 unfolding data_in choose
 holds_some b bytes n p q h =
-    let t : take n bytes ≡ b = ap (λ (k : ℕ). take k bytes) q ∙ ap (take (length b)) p ∙ take-pad 0 16 b h in
+    let t : take n bytes ≡ b = ap (λ (k : ℕ). take k bytes) q ∙ ap (take (length b)) p ∙ take_pad 0 16 b h in
     record {
       valid = record { fits = omega arith; packed = p ∙ ap (pad 0 16) (sym t); absent = λ e. absurd (let z : ◌≡◌ {A = ℕ} 0 1 = cc in omega arith) };
       holds = ap some t;
@@ -81,7 +81,7 @@ valid_data_true d e =
     let r = and_right (leb d.len 16) _ e in
     record {
       fits = leb-true d.len 16 (and_left (leb d.len 16) _ e);
-      packed = packed-true 0 zero_byte (λ x. eqb-true x 0) 16 d.len d.bytes (and_left (packed zero_byte 16 d.len d.bytes) _ r);
+      packed = packed_true 0 zero_byte (λ x. eqb-true x 0) 16 d.len d.bytes (and_left (packed zero_byte 16 d.len d.bytes) _ r);
       absent = λ t. or_true d.present (eqb d.len 0) (and_right (packed zero_byte 16 d.len d.bytes) _ r) (λ f. clash d.present f t) (eqb-true d.len 0);
     }
 
@@ -89,5 +89,5 @@ pub true_valid_data : (d : PeerData) → ValidData d → valid_data d ≡ true
 unfolding valid_data
 true_valid_data d v =
     both_true (leb d.len 16) _ (le-leb d.len 16 v.fits)
-    (both_true (packed zero_byte 16 d.len d.bytes) _ (true-packed 0 zero_byte refl 16 d.len d.bytes v.packed)
+    (both_true (packed zero_byte 16 d.len d.bytes) _ (true_packed 0 zero_byte refl 16 d.len d.bytes v.packed)
     (split d.present (λ t. rw t) (λ t. rw t (eq-eqb d.len 0 (v.absent t)))))

@@ -11,8 +11,8 @@ use lib.Seq.{length-take-le}
 use lib.Dec.{leb}
 use Rattle.base_lists.specs.Tests.{All}
 use Rattle.base_lists.proofs.Choice.{and_left, and_right}
-use Rattle.base_lists.proofs.Array.{length-pad}
-use Rattle.base_lists.proofs.Tests.{both_true, packed-true, true-packed}
+use Rattle.base_lists.proofs.Array.{length_pad}
+use Rattle.base_lists.proofs.Tests.{both_true, packed_true, true_packed}
 use Rattle.base_peer.specs.Held.{zero_byte}
 use Rattle.base_peer.specs.Maps.{DataEntry, ValidEntry, valid_entry}
 
@@ -40,13 +40,13 @@ pub valid_entry_true : (e : DataEntry) → valid_entry e ≡ true → ValidEntry
 unfolding valid_entry
 valid_entry_true e t = record {
   fits = leb-true e.len 16 (and_left (leb e.len 16) _ t);
-  packed = packed-true 0 zero_byte (λ x. eqb-true x 0) 16 e.len e.bytes (and_right (leb e.len 16) _ t);
+  packed = packed_true 0 zero_byte (λ x. eqb-true x 0) 16 e.len e.bytes (and_right (leb e.len 16) _ t);
 }
 
 pub true_valid_entry : (e : DataEntry) → ValidEntry e → valid_entry e ≡ true
 unfolding valid_entry
 true_valid_entry e v =
-    both_true (leb e.len 16) _ (le-leb e.len 16 v.fits) (true-packed 0 zero_byte refl 16 e.len e.bytes v.packed)
+    both_true (leb e.len 16) _ (le-leb e.len 16 v.fits) (true_packed 0 zero_byte refl 16 e.len e.bytes v.packed)
 
 -- what a read past the end of the array would give
 abbrev pub unread : DataEntry
@@ -54,4 +54,4 @@ unread = record { len = 0; bytes = [] }
 
 pub length_entry : (e : DataEntry) → ValidEntry e → length (take e.len e.bytes) ≡ e.len
 length_entry e v =
-    length-take-le e.len e.bytes (omega (arith, v.fits, ap length v.packed ∙ length-pad 0 16 (take e.len e.bytes)))
+    length-take-le e.len e.bytes (omega (arith, v.fits, ap length v.packed ∙ length_pad 0 16 (take e.len e.bytes)))

@@ -15,8 +15,8 @@ use Rattle.base_lists.specs.Tests.{every}
 use Rattle.base_lists.proofs.Choice.{split}
 use Rattle.base_lists.proofs.Tests.{both_true}
 use Rattle.base_scan.proofs.Tests.{not_in}
-use Rattle.base_scan.proofs.Marks.{mark, unmarked, marks-kept}
-use Rattle.base_scan.proofs.Loops.{Left, Every, disjoint_start, every-asked, every-end}
+use Rattle.base_scan.proofs.Marks.{mark, unmarked, marks_kept}
+use Rattle.base_scan.proofs.Loops.{Left, Every, disjoint_start, every_asked, every_end}
 
 -- a word is among those of which it is one
 mem_at : (s : List ℕ) (h : ℕ) → h < length s → mem (get_or s h 0) s ≡ true
@@ -40,9 +40,9 @@ unfolding every
 noting_start s seen e = record { low = omega arith; size = e; marked = rw (drop_of_length-le s {i = length s} (omega arith)) }
 
 module _ (s : List ℕ) (seen : List Bool) (i : ℕ) (v : Noting s seen i) where
-  pub noting-next : 0 < i → Noting s (set seen (get_or s (i - 1) 0 % 256) true) (i - 1)
+  pub noting_next : 0 < i → Noting s (set seen (get_or s (i - 1) 0 % 256) true) (i - 1)
   unfolding every
-  noting-next h =
+  noting_next h =
       let x = get_or s (i - 1) 0 in
       let k : suc (i - 1) ≡ i = omega arith in
       let d : drop (i - 1) s ≡ x ∷ drop i s = drop-cons s (i - 1) 0 (omega (arith, v.low)) ∙ ap (λ (n : ℕ). x ∷ drop n s) k in
@@ -50,11 +50,11 @@ module _ (s : List ℕ) (seen : List Bool) (i : ℕ) (v : Noting s seen i) where
       record {
         low = omega (arith, v.low);
         size = length-set seen _ true ∙ v.size;
-        marked = rw d (both_true _ _ (get_or-set_same seen (x % 256) true false q) (marks-kept seen (x % 256) q (drop i s) v.marked));
+        marked = rw d (both_true _ _ (get_or-set_same seen (x % 256) true false q) (marks_kept seen (x % 256) q (drop i s) v.marked));
       }
 
-  pub noting-end : i ≤ 0 → every (mark seen) s ≡ true
-  noting-end h = let z : i ≡ 0 = omega arith in rw z at v.marked
+  pub noting_end : i ≤ 0 → every (mark seen) s ≡ true
+  noting_end h = let z : i ≡ 0 = omega arith in rw z at v.marked
 
 -- ---- none of the words passed is in b
 
@@ -68,14 +68,14 @@ passing_start a b seen e m = record { size = e; marked = m; left = disjoint_star
 
 module _ (a b : List ℕ) (seen : List Bool) (i : ℕ) (v : Passing a b seen i) where
   pass : i < length a → mem (get_or a i 0) b ≡ false → Passing a b seen (i + 1)
-  pass h e = record { size = v.size; marked = v.marked; left = every-asked (not_in b) a (disjoint a b) true i v.left true (sym (ap not e)) h }
+  pass h e = record { size = v.size; marked = v.marked; left = every_asked (not_in b) a (disjoint a b) true i v.left true (sym (ap not e)) h }
 
-  pub pass-unmarked : i < length a → mark seen (get_or a i 0) ≡ false → Passing a b seen (i + 1)
-  pass-unmarked h e = pass h (unmarked seen (get_or a i 0) b v.marked e)
+  pub pass_unmarked : i < length a → mark seen (get_or a i 0) ≡ false → Passing a b seen (i + 1)
+  pass_unmarked h e = pass h (unmarked seen (get_or a i 0) b v.marked e)
 
   module _ (r : Bool) (e : r ≡ mem (get_or a i 0) b) (h : i < length a) where
-    pub pass-looked : r ≡ false → Passing a b seen (i + 1)
-    pass-looked t = pass h (sym e ∙ t)
+    pub pass_looked : r ≡ false → Passing a b seen (i + 1)
+    pass_looked t = pass h (sym e ∙ t)
 
     pub stop : r ≡ true → false ≡ disjoint a b
     unfolding every
@@ -83,5 +83,5 @@ module _ (a b : List ℕ) (seen : List Bool) (i : ℕ) (v : Passing a b seen i) 
         let f : false ≡ not (mem (get_or a i 0) b) = sym (ap not (sym e ∙ t)) in
         sym (v.left.same ∙ ap (every (not_in b)) (drop-cons a i 0 h) ∙ rw (← f))
 
-  pub pass-end : length a ≤ i → true ≡ disjoint a b
-  pass-end h = every-end (not_in b) a (disjoint a b) true i v.left h
+  pub pass_end : length a ≤ i → true ≡ disjoint a b
+  pass_end h = every_end (not_in b) a (disjoint a b) true i v.left h

@@ -2,7 +2,7 @@
 -- Assumes nothing.
 use Prim.Native.Nat.{ℕ, suc, ◌+◌, ◌-◌, ◌≤◌, ◌<◌}
 use mathlib.Core.Path.{◌≡◌, refl, sym, ap, ◌∙◌, subst}
-use mathlib.Core.Bool.{Bool, true, false, cond, ◌&&◌, ◌||◌, and-true, and_assoc, or_false}
+use mathlib.Core.Bool.{Bool, true, false, cond, ◌&&◌, ◌||◌, and-true, and_assoc, or-false}
 use mathlib.Core.List.{List, [], ◌∷◌}
 use native.Mathlib.Numerals.{add-one}
 use native.Mathlib.Omega.{arith}
@@ -26,8 +26,8 @@ pub left_start : {X Y : Type 0} (F : X → List ℕ → Y) (s : List ℕ) (x : X
 left_start F s x = record { low = omega arith; same = refl }
 
 module _ {X Y : Type 0} (F : X → List ℕ → Y) {s : List ℕ} {whole : Y} {x : X} {i : ℕ} (v : Left F s whole x i) where
-  pub left-next : (x' : X) → i < length s → F x (get_or s i 0 ∷ drop (i + 1) s) ≡ F x' (drop (i + 1) s) → Left F s whole x' (i + 1)
-  left-next x' h e = record { low = omega arith; same = v.same ∙ ap (F x) (drop-cons s i 0 h ∙ rw (add-one i) refl) ∙ e }
+  pub left_next : (x' : X) → i < length s → F x (get_or s i 0 ∷ drop (i + 1) s) ≡ F x' (drop (i + 1) s) → Left F s whole x' (i + 1)
+  left_next x' h e = record { low = omega arith; same = v.same ∙ ap (F x) (drop-cons s i 0 h ∙ rw (add-one i) refl) ∙ e }
 
   pub left_end : length s ≤ i → whole ≡ F x []
   left_end h = v.same ∙ ap (F x) (drop_of_length-le s {i = i} h)
@@ -38,25 +38,25 @@ abbrev pub Every : (ℕ → Bool) → Bool → List ℕ → Bool
 Every t ok l = ok && every t l
 
 module _ (t : ℕ → Bool) where
-  pub every-start : (s : List ℕ) → Left (Every t) s (every t s) true 0
-  every-start s = left_start (Every t) s true
+  pub every_start : (s : List ℕ) → Left (Every t) s (every t s) true 0
+  every_start s = left_start (Every t) s true
 
   module _ (s : List ℕ) (whole ok : Bool) (i : ℕ) (v : Left (Every t) s whole ok i) where
-    pub every-next : i < length s → Left (Every t) s whole (ok && t (get_or s i 0)) (i + 1)
+    pub every_next : i < length s → Left (Every t) s whole (ok && t (get_or s i 0)) (i + 1)
     unfolding every
-    every-next h = left-next (Every t) v (ok && t (get_or s i 0)) h (sym (and_assoc ok (t (get_or s i 0)) (every t (drop (i + 1) s))))
+    every_next h = left_next (Every t) v (ok && t (get_or s i 0)) h (sym (and_assoc ok (t (get_or s i 0)) (every t (drop (i + 1) s))))
 
     -- the same, where the test is a call's answer
-    pub every-asked : (b : Bool) → b ≡ t (get_or s i 0) → i < length s → Left (Every t) s whole (ok && b) (i + 1)
-    every-asked b e h = rw e (every-next h)
+    pub every_asked : (b : Bool) → b ≡ t (get_or s i 0) → i < length s → Left (Every t) s whole (ok && b) (i + 1)
+    every_asked b e h = rw e (every_next h)
 
     -- and where it was seen to pass
-    pub every-seen : true ≡ t (get_or s i 0) → i < length s → Left (Every t) s whole ok (i + 1)
-    every-seen e h = subst (λ (b : Bool). Left (Every t) s whole b (i + 1)) (and-true ok) (every-asked true e h)
+    pub every_seen : true ≡ t (get_or s i 0) → i < length s → Left (Every t) s whole ok (i + 1)
+    every_seen e h = subst (λ (b : Bool). Left (Every t) s whole b (i + 1)) (and-true ok) (every_asked true e h)
 
-    pub every-end : length s ≤ i → ok ≡ whole
+    pub every_end : length s ≤ i → ok ≡ whole
     unfolding every
-    every-end h = sym (left_end (Every t) v h ∙ and-true ok)
+    every_end h = sym (left_end (Every t) v h ∙ and-true ok)
 
 -- ---- the same by the bits of all words
 
@@ -74,13 +74,13 @@ pub bits_start : (s : List ℕ) (n : ℕ) → n ≤ length s → Left Bits s (ev
 bits_start s n h = record { low = h; same = refl }
 
 module _ (s : List ℕ) (whole : Bool) (bits i : ℕ) (v : Left Bits s whole bits i) where
-  pub bits-next : i < length s → Left Bits s whole (bit_or bits (get_or s i 0)) (i + 1)
+  pub bits_next : i < length s → Left Bits s whole (bit_or bits (get_or s i 0)) (i + 1)
   unfolding every
-  bits-next h = left-next Bits v (bit_or bits (get_or s i 0)) h (rw (zero_or bits (get_or s i 0)) (sym (and_assoc (eqb bits 0) (eqb (get_or s i 0) 0) (every unused (drop (i + 1) s)))))
+  bits_next h = left_next Bits v (bit_or bits (get_or s i 0)) h (rw (zero_or bits (get_or s i 0)) (sym (and_assoc (eqb bits 0) (eqb (get_or s i 0) 0) (every unused (drop (i + 1) s)))))
 
-  pub bits-end : length s ≤ i → eqb bits 0 ≡ whole
+  pub bits_end : length s ≤ i → eqb bits 0 ≡ whole
   unfolding every
-  bits-end h = sym (left_end Bits v h ∙ and-true (eqb bits 0))
+  bits_end h = sym (left_end Bits v h ∙ and-true (eqb bits 0))
 
 -- ---- a word is among them
 
@@ -96,13 +96,13 @@ pub hit_start : (s : List ℕ) (x : ℕ) → Left (Hit x) s (mem x s) false 0
 hit_start s x = left_start (Hit x) s false
 
 module _ (s : List ℕ) (x : ℕ) (whole hit : Bool) (i : ℕ) (v : Left (Hit x) s whole hit i) where
-  pub hit-next : i < length s → Left (Hit x) s whole (hit || eqb x (get_or s i 0)) (i + 1)
+  pub hit_next : i < length s → Left (Hit x) s whole (hit || eqb x (get_or s i 0)) (i + 1)
   unfolding mem
-  hit-next h = left-next (Hit x) v (hit || eqb x (get_or s i 0)) h (grouped hit (eqb x (get_or s i 0)) (mem x (drop (i + 1) s)))
+  hit_next h = left_next (Hit x) v (hit || eqb x (get_or s i 0)) h (grouped hit (eqb x (get_or s i 0)) (mem x (drop (i + 1) s)))
 
-  pub hit-end : length s ≤ i → hit ≡ whole
+  pub hit_end : length s ≤ i → hit ≡ whole
   unfolding mem
-  hit-end h = sym (left_end (Hit x) v h ∙ or_false hit)
+  hit_end h = sym (left_end (Hit x) v h ∙ or-false hit)
 
 -- ---- each word is below the next: i is 1 more than what is passed, so that a list of no words is as one of one
 
@@ -120,9 +120,9 @@ rising_short (x ∷ []) h = refl
 rising_short (x ∷ y ∷ l) h = absurd (omega arith)
 
 module _ (s : List ℕ) (ok : Bool) (i : ℕ) (v : Climb s ok i) where
-  pub climb-next : i < length s → Climb s (ok && ltb (get_or s (i - 1) 0) (get_or s i 0)) (i + 1)
+  pub climb_next : i < length s → Climb s (ok && ltb (get_or s (i - 1) 0) (get_or s i 0)) (i + 1)
   unfolding rising
-  climb-next h =
+  climb_next h =
       let k : suc (i - 1) ≡ i = omega (arith, v.low) in
       let j : i + 1 - 1 ≡ i = omega arith in
       let d : drop (i - 1) s ≡ get_or s (i - 1) 0 ∷ (get_or s i 0 ∷ drop (suc i) s) =
@@ -133,13 +133,13 @@ module _ (s : List ℕ) (ok : Bool) (i : ℕ) (v : Climb s ok i) where
         same = v.same ∙ rw (d, e) (sym (and_assoc ok (ltb (get_or s (i - 1) 0) (get_or s i 0)) (rising (get_or s i 0 ∷ drop (suc i) s))));
       }
 
-  pub climb-end : length s ≤ i → ok ≡ rising s
-  climb-end h = sym (v.same ∙ rw (rising_short (drop (i - 1) s) (omega (arith, length-drop (i - 1) s))) (and-true ok))
+  pub climb_end : length s ≤ i → ok ≡ rising s
+  climb_end h = sym (v.same ∙ rw (rising_short (drop (i - 1) s) (omega (arith, length-drop (i - 1) s))) (and-true ok))
 
 -- ---- subset and disjoint as tests of each word
 
 pub subset_start : (xs ys : List ℕ) → Left (Every (is_in ys)) xs (subset xs ys) true 0
-subset_start xs ys = rw (subset_every xs ys) (every-start (is_in ys) xs)
+subset_start xs ys = rw (subset_every xs ys) (every_start (is_in ys) xs)
 
 pub disjoint_start : (xs ys : List ℕ) → Left (Every (not_in ys)) xs (disjoint xs ys) true 0
-disjoint_start xs ys = rw (disjoint_every xs ys) (every-start (not_in ys) xs)
+disjoint_start xs ys = rw (disjoint_every xs ys) (every_start (not_in ys) xs)

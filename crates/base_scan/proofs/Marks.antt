@@ -25,17 +25,17 @@ unmarked seen x (p ∷ l) e f =
 
 -- a mark more takes none away
 module _ (seen : List Bool) (k : ℕ) (h : k < length seen) where
-  mark-kept : (y : ℕ) → mark seen y ≡ true → mark (set seen k true) y ≡ true
-  mark-kept y e =
+  mark_kept : (y : ℕ) → mark seen y ≡ true → mark (set seen k true) y ≡ true
+  mark_kept y e =
       split (eqb (y % 256) k)
       (λ t. ap (λ (j : ℕ). get_or (set seen k true) j false) (eqb-true (y % 256) k t) ∙ get_or-set_same seen k true false h)
       (λ t. get_or-set_other seen k (y % 256) true false (eqb-false (y % 256) k t) ∙ e)
 
-  pub marks-kept : (l : List ℕ) → every (mark seen) l ≡ true → every (mark (set seen k true)) l ≡ true
+  pub marks_kept : (l : List ℕ) → every (mark seen) l ≡ true → every (mark (set seen k true)) l ≡ true
   unfolding every
-  marks-kept [] e = refl
-  marks-kept (y ∷ l) e =
-      both_true (mark (set seen k true) y) _ (mark-kept y (and_left (mark seen y) _ e)) (marks-kept l (and_right (mark seen y) _ e))
+  marks_kept [] e = refl
+  marks_kept (y ∷ l) e =
+      both_true (mark (set seen k true) y) _ (mark_kept y (and_left (mark seen y) _ e)) (marks_kept l (and_right (mark seen y) _ e))
 
 -- the later items of a list in which none stands twice
 pub distinct_drop : (k : ℕ) (l : List ℕ) → distinct l ≡ true → distinct (drop k l) ≡ true

@@ -13,8 +13,8 @@ use Rattle.base_scan.proofs.Hints.{at_hint}
 
 -- the word at a place of two lists in a row
 module _ (s t : List ℕ) (h : ℕ) where
-  in-first : h < length s → get_or s h 0 ≡ get_or (s ++ t) h 0
-  in-first p = sym (get_or-append s t 0 h p)
+  in_first : h < length s → get_or s h 0 ≡ get_or (s ++ t) h 0
+  in_first p = sym (get_or-append s t 0 h p)
 
   past_first : length s ≤ h → get_or t (h - length s) 0 ≡ get_or (s ++ t) h 0
   past_first p =
@@ -27,19 +27,19 @@ module _ (b c d : List ℕ) (h : ℕ) where
   regroup = ap (λ (l : List ℕ). get_or l h 0) (append_assoc b c d)
 
   module _ (y : ℕ) where
-    pub of-first : h < length b → y ≡ get_or b h 0 → y ≡ get_or (b ++ (c ++ d)) h 0
-    of-first p e = e ∙ in-first b (c ++ d) h p
+    pub of_first : h < length b → y ≡ get_or b h 0 → y ≡ get_or (b ++ (c ++ d)) h 0
+    of_first p e = e ∙ in_first b (c ++ d) h p
 
-    pub of-second : length b ≤ h → h < length b + length c → y ≡ get_or c (h - length b) 0 → y ≡ get_or (b ++ (c ++ d)) h 0
-    of-second q p e = e ∙ past_first b c h q ∙ in-first (b ++ c) d h (omega (arith, length-append b c)) ∙ regroup
+    pub of_second : length b ≤ h → h < length b + length c → y ≡ get_or c (h - length b) 0 → y ≡ get_or (b ++ (c ++ d)) h 0
+    of_second q p e = e ∙ past_first b c h q ∙ in_first (b ++ c) d h (omega (arith, length-append b c)) ∙ regroup
 
-    pub of-third : length b + length c ≤ h → y ≡ get_or d (h - (length b + length c)) 0 → y ≡ get_or (b ++ (c ++ d)) h 0
-    of-third p e =
+    pub of_third : length b + length c ≤ h → y ≡ get_or d (h - (length b + length c)) 0 → y ≡ get_or (b ++ (c ++ d)) h 0
+    of_third p e =
         e ∙ ap (λ (n : ℕ). get_or d (h - n) 0) (sym (length-append b c)) ∙ past_first (b ++ c) d h (omega (arith, length-append b c)) ∙ regroup
 
 module _ (b c d : List ℕ) (x : ℕ) where
-  pub at-hint-of-three : (h y : ℕ) → h < length b + length c + length d → y ≡ get_or (b ++ (c ++ d)) h 0 → x ≡ y → true ≡ mem x (b ++ (c ++ d))
-  at-hint-of-three h y p e q = at_hint (b ++ (c ++ d)) h x (omega (arith, length-append b (c ++ d), length-append c d)) (q ∙ e)
+  pub at_hint_of_three : (h y : ℕ) → h < length b + length c + length d → y ≡ get_or (b ++ (c ++ d)) h 0 → x ≡ y → true ≡ mem x (b ++ (c ++ d))
+  at_hint_of_three h y p e q = at_hint (b ++ (c ++ d)) h x (omega (arith, length-append b (c ++ d), length-append c d)) (q ∙ e)
 
   pub in_three : (p q r : Bool) → p ≡ mem x b → q ≡ mem x c → r ≡ mem x d → (p || (q || r)) ≡ mem x (b ++ (c ++ d))
   in_three p q r e f g = (λ i. e i || (f i || g i)) ∙ ap (λ (t : Bool). mem x b || t) (sym (mem_append x c d)) ∙ sym (mem_append x b (c ++ d))

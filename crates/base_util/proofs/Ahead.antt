@@ -62,14 +62,14 @@ passed_ahead n (d ∷ ds) (e ∷ es) l b =
 
 -- the choice of one of n items, where there are any
 module _ (n : ℕ) (h : 0 < n) where
-  pick-as : (ds es : List ℕ) → pick_draws n ds ≤ length ds → Begins (pick_draws n ds) ds es → (pick_draws n es ≡ pick_draws n ds) × (pick n es ≡ pick n ds)
+  pick_as : (ds es : List ℕ) → pick_draws n ds ≤ length ds → Begins (pick_draws n ds) ds es → (pick_draws n es ≡ pick_draws n ds) × (pick n es ≡ pick n ds)
   unfolding pick
-  pick-as ds es l b =
+  pick_as ds es l b =
       let p = passed_ahead n ds es (omega (arith, l, pick_some n ds h)) (subst (λ (k : ℕ). Begins k ds es) (pick_some n ds h) b) in
       (pick_some n es h ∙ (ap (λ (k : ℕ). k + 1) p.0 ∙ sym (pick_some n ds h)), ap (λ (x : ℕ). x % n) p.1)
 
-  pub pick-ahead : Ahead (pick_draws n) (pick n)
-  pick-ahead = record { as_many = λ ds es l b. (pick-as ds es l b).0; as_read = λ ds es l b. (pick-as ds es l b).1 }
+  pub pick_ahead : Ahead (pick_draws n) (pick n)
+  pick_ahead = record { as_many = λ ds es l b. (pick_as ds es l b).0; as_read = λ ds es l b. (pick_as ds es l b).1 }
 
 -- what is made of the place, where nothing is made of it if there are no items
 pub any_ahead : {A : Type 0} (n : ℕ) (v : List ℕ → A) → ((l k : List ℕ) → n ≡ 0 → v l ≡ v k) → (0 < n → Ahead (pick_draws n) v) → Ahead (pick_draws n) v
@@ -89,7 +89,7 @@ unfolding draws_down shuffle_down
 down_ahead zero xs ds es l b = (refl, refl)
 down_ahead (suc i) xs ds es l b =
     let k = pick_draws (i + 2) ds in
-    let a = pick-as (i + 2) (omega arith) ds es (omega (arith, l)) (begins_less k (k + draws_down i (drop k ds)) ds es (omega arith) b) in
+    let a = pick_as (i + 2) (omega arith) ds es (omega (arith, l)) (begins_less k (k + draws_down i (drop k ds)) ds es (omega arith) b) in
     let r = down_ahead i (swap (suc i) (pick (i + 2) ds) xs) (drop k ds) (drop k es) (omega (arith, l, length-drop k ds)) (begins_after k (draws_down i (drop k ds)) ds es l b) in (
       ap (λ (j : ℕ). j + draws_down i (drop j es)) a.0 ∙ ap (λ (j : ℕ). k + j) r.0,
       ap (λ (j : ℕ). shuffle_down i (drop j es) (swap (suc i) (pick (i + 2) es) xs)) a.0 ∙ (ap (λ (j : ℕ). shuffle_down i (drop k es) (swap (suc i) j xs)) a.1 ∙ r.1),

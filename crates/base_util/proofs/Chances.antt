@@ -81,9 +81,9 @@ module _ (n at : ℕ) (ds : List ℕ) (k : ℕ) (v : Passing n at ds k) where
   unfolding passed_over
   first h = ap (passed_over n) (drop-cons ds k 0 h)
 
-  pub passing-next : k < length ds → all_draws - all_draws % n ≤ get_or ds k 0 → Passing n at ds (k + 1)
+  pub passing_next : k < length ds → all_draws - all_draws % n ≤ get_or ds k 0 → Passing n at ds (k + 1)
   unfolding is_kept kept_end
-  passing-next h l =
+  passing_next h l =
       let e = choose_no {A = ℕ} (is_kept n (get_or ds k 0)) 0 (suc (passed_over n (drop (suc k) ds))) (le-ltb (get_or ds k 0) (all_draws - all_draws % n) l) in
       record { from = omega (arith, v.from); passed = rw (add-one k) (omega (arith, v.passed, first h, e)) }
 
@@ -94,9 +94,9 @@ module _ (n at : ℕ) (ds : List ℕ) (k : ℕ) (v : Passing n at ds k) where
         let e = choose_yes {A = ℕ} (is_kept n (get_or ds k 0)) 0 (suc (passed_over n (drop (suc k) ds))) (lt-ltb (get_or ds k 0) (all_draws - all_draws % n) l) in
         omega (arith, v.passed, first h, e)
 
-    pub kept-index : get_or ds k 0 % n ≡ pick n (drop at ds)
+    pub kept_index : get_or ds k 0 % n ≡ pick n (drop at ds)
     unfolding pick
-    kept-index = ap (λ (j : ℕ). get_or ds j 0 % n) (sym stops) ∙ ap (λ (d : ℕ). d % n) (sym (get_or-drop at ds (passed_over n (drop at ds)) 0))
+    kept_index = ap (λ (j : ℕ). get_or ds j 0 % n) (sym stops) ∙ ap (λ (d : ℕ). d % n) (sym (get_or-drop at ds (passed_over n (drop at ds)) 0))
 
     pub kept_next : 0 < n → k + 1 ≡ at + pick_draws n (drop at ds)
     kept_next z = omega (arith, stops, pick_some n (drop at ds) z)
@@ -106,13 +106,13 @@ module _ (n at : ℕ) (ds : List ℕ) (k : ℕ) (v : Passing n at ds k) where
     unfolding passed_over
     ends = omega (arith, v.passed, ap (passed_over n) (drop_of_length-le ds h))
 
-    pub none-index : 0 ≡ pick n (drop at ds)
+    pub none_index : 0 ≡ pick n (drop at ds)
     unfolding pick
-    none-index =
+    none_index =
         sym (ap (λ (d : ℕ). d % n) (get_or-drop at ds (passed_over n (drop at ds)) 0 ∙ ap (λ (j : ℕ). get_or ds j 0) ends ∙ get_or-eq_default ds 0 h) ∙ zero-mod n)
 
-    pub none-next : 0 < n → k + 1 ≡ at + pick_draws n (drop at ds)
-    none-next z = omega (arith, ends, pick_some n (drop at ds) z)
+    pub none_next : 0 < n → k + 1 ≡ at + pick_draws n (drop at ds)
+    none_next z = omega (arith, ends, pick_some n (drop at ds) z)
 
 -- ---- the draws that every choice keeps
 
@@ -147,14 +147,14 @@ one_costs [] = record { taken = omega arith; short = λ h. omega arith }
 one_costs (d ∷ ds) = record { taken = by_choice (λ (c : ℕ). c + 0 ≤ 1) (ltb d sure_end) (λ e. omega arith) (λ e. omega arith); short = λ h. absurd (omega arith) }
 
 module _ (n : ℕ) (h : 0 < n) (few : n ≤ most_items) where
-  some-costs : (ds : List ℕ) → Costs 1 (suc (passed_over n ds)) ds
+  some_costs : (ds : List ℕ) → Costs 1 (suc (passed_over n ds)) ds
   unfolding passed_over sure
-  some-costs [] = record { taken = omega arith; short = λ l. omega arith }
-  some-costs (d ∷ ds) =
+  some_costs [] = record { taken = omega arith; short = λ l. omega arith }
+  some_costs (d ∷ ds) =
       by_choice (λ (c : ℕ). Costs 1 (suc c) (d ∷ ds)) (is_kept n d)
       (λ e. record { taken = by_choice (λ (c : ℕ). c + 0 ≤ 1) (ltb d sure_end) (λ e. omega arith) (λ e. omega arith); short = λ l. absurd (omega arith) })
       (λ e. let t = choose_no {A = ℕ} (ltb d sure_end) 1 0 (passed_unsure n d h few e) in
-      let c = some-costs ds in
+      let c = some_costs ds in
       record { taken = omega (arith, t, c.taken); short = λ l. omega (arith, t, c.short (omega arith)) })
 
 pub pick_costs : (n : ℕ) (ds : List ℕ) → n ≤ most_items → Costs 1 (pick_draws n ds) ds
@@ -162,7 +162,7 @@ unfolding pick_draws sure
 pick_costs n ds few =
     by_choice (λ (m : ℕ). Costs 1 m ds) (eqb n 0)
     (λ e. record { taken = omega arith; short = λ l. absurd (omega arith) })
-    (λ e. let o = eqb-false n 0 e in rw (add-one (passed_over n ds)) (some-costs n (omega arith) few ds))
+    (λ e. let o = eqb-false n 0 e in rw (add-one (passed_over n ds)) (some_costs n (omega arith) few ds))
 
 down_costs : (i : ℕ) (ds : List ℕ) → i < most_items → Costs i (draws_down i ds) ds
 unfolding draws_down sure

@@ -9,7 +9,7 @@ use lib.ListN.{length, take, get_or, set}
 use lib.Seq.{length-take-le}
 use Rattle.base_lists.specs.Array.{pad}
 use Rattle.base_lists.specs.Lists.{shift_remove, insert_at}
-use Rattle.base_lists.proofs.Array.{length-pad}
+use Rattle.base_lists.proofs.Array.{length_pad}
 use Rattle.base_lists.proofs.Rest.{Rest}
 use Rattle.base_lists.proofs.Search.{First, Place}
 use Rattle.base_lists.proofs.Entries.{taken_is, Cutting, cutting_start, cutting_next, cutting_end, Putting, putting_start, putting_next, putting_end}
@@ -22,15 +22,15 @@ filled_length s n f = length-take-le n s f.fits
 
 pub filled_of : (N : ℕ) (ys xs : List ℕ) (n : ℕ) → ys ≡ pad 0 N xs → n ≡ length xs → n ≤ N → Filled ys n
 filled_of N ys xs n p q h =
-    let l : length ys ≡ N = ap length p ∙ length-pad 0 N xs in
+    let l : length ys ≡ N = ap length p ∙ length_pad 0 N xs in
     let t : take n ys ≡ xs = taken_is 0 N xs ys n p q h in
     record { fits = omega arith; packed = rw (l, t) p }
 
 -- ---- a search
 
 module _ {t : ℕ → mathlib.Core.Bool.Bool} {f : List ℕ → ℕ} (g : First t f) where
-  pub search-start : (s : List ℕ) (n : ℕ) → n ≤ length s → Rest (Place f) (length s) s n (f (take n s)) 0 0
-  search-start s n h = record { low = omega arith; top = h; long = refl; same = sym (zero-add (f (take n s))) }
+  pub search_start : (s : List ℕ) (n : ℕ) → n ≤ length s → Rest (Place f) (length s) s n (f (take n s)) 0 0
+  search_start s n h = record { low = omega arith; top = h; long = refl; same = sym (zero-add (f (take n s))) }
 
 -- ---- an item is taken out
 

@@ -8,11 +8,11 @@ use native.Mathlib.Decide.{dec_lt}
 use native.Mathlib.Omega.{arith}
 use lib.ListN.{length, take, get_or, set, length-set, length-append, get_or-append, get_or-eq_default}
 use lib.Seq.{get_or-append-add}
-use Rattle.base_lists.proofs.Array.{getD-pad}
-use Rattle.base_lists.proofs.Front.{Front, front_start, front-step, front-end}
+use Rattle.base_lists.proofs.Array.{getD_pad}
+use Rattle.base_lists.proofs.Front.{Front, front_start, front_step, front_end}
 use Rattle.base_util.specs.Section.{working_places, working_words, part, Filled, items_at, ValidSet, HoldsSet, section}
 use Rattle.base_util.proofs.Columns.{filled_length}
-use Rattle.base_util.proofs.Sets.{framed, framed-long, framed-last, framed-set, framed_at, framed-past, holds_by, set_words, word_at_place, item_read}
+use Rattle.base_util.proofs.Sets.{framed, framed_long, framed_last, framed_set, framed_at, framed_past, holds_by, set_words, word_at_place, item_read}
 
 -- ---- a copy into 32 places
 
@@ -46,30 +46,30 @@ module _ (s : List ℕ) (n : ℕ) (t₀ t : List ℕ) (i : ℕ) (c : Copying s n
     few = c.few;
     low = omega arith;
     long = length-set t i x ∙ c.long;
-    front = front-step c.front x (omega arith) (e ∙ wanted h);
+    front = front_step c.front x (omega arith) (e ∙ wanted h);
   }
 
   -- a word of the column, used or not
   word : get_or s i 0 ≡ get_or (take n s) i 0
-  word = ap (λ (l : List ℕ). get_or l i 0) c.filled.packed ∙ getD-pad 0 (length s) (take n s) i (omega (arith, filled_length s n c.filled, c.filled.fits))
+  word = ap (λ (l : List ℕ). get_or l i 0) c.filled.packed ∙ getD_pad 0 (length s) (take n s) i (omega (arith, filled_length s n c.filled, c.filled.fits))
 
-  pub copying-next : i < length s → Copying s n t₀ (set t i (get_or s i 0)) (i + 1)
-  copying-next h = stored (get_or s i 0) (omega (arith, c.few)) word
+  pub copying_next : i < length s → Copying s n t₀ (set t i (get_or s i 0)) (i + 1)
+  copying_next h = stored (get_or s i 0) (omega (arith, c.few)) word
 
-  pub copying-past : length s ≤ i → i < working_places → Copying s n t₀ (set t i 0) (i + 1)
-  copying-past q h = stored 0 h (sym (get_or-eq_default (take n s) 0 (omega (arith, filled_length s n c.filled, c.filled.fits))))
+  pub copying_past : length s ≤ i → i < working_places → Copying s n t₀ (set t i 0) (i + 1)
+  copying_past q h = stored 0 h (sym (get_or-eq_default (take n s) 0 (omega (arith, filled_length s n c.filled, c.filled.fits))))
 
-  pub copying-long : (x k : ℕ) → k ≡ working_words → length (set t working_places x) ≡ k
-  copying-long x k l = length-set t working_places x ∙ c.long ∙ sym l
+  pub copying_long : (x k : ℕ) → k ≡ working_words → length (set t working_places x) ≡ k
+  copying_long x k l = length-set t working_places x ∙ c.long ∙ sym l
 
-  pub copying-end : length t₀ ≡ working_words → working_places ≤ i → HoldsSet working_places (set t working_places n) (take n s)
+  pub copying_end : length t₀ ≡ working_words → working_places ≤ i → HoldsSet working_places (set t working_places n) (take n s)
   unfolding section
-  copying-end l p =
+  copying_end l p =
       let z : i ≡ working_places = omega (arith, c.low) in
-      let g = front-step (subst (Front 0 working_words (section working_places (take n s)) t₀ t) z c.front) n (omega arith) (sym (framed-last working_places (take n s) (length (take n s)) ∙ filled_length s n c.filled)) in
+      let g = front_step (subst (Front 0 working_words (section working_places (take n s)) t₀ t) z c.front) n (omega arith) (sym (framed_last working_places (take n s) (length (take n s)) ∙ filled_length s n c.filled)) in
       holds_by working_places _ (take n s)
-      (front-end g (framed-long working_places (take n s) (length (take n s)))
-      (λ j k. get_or-eq_default t₀ 0 (omega arith) ∙ sym (get_or-eq_default (section working_places (take n s)) 0 (omega (arith, framed-long working_places (take n s) (length (take n s)))))))
+      (front_end g (framed_long working_places (take n s) (length (take n s)))
+      (λ j k. get_or-eq_default t₀ 0 (omega arith) ∙ sym (get_or-eq_default (section working_places (take n s)) 0 (omega (arith, framed_long working_places (take n s) (length (take n s)))))))
       fits
 
 pub copied : (n : ℕ) (s t : List ℕ) → ValidSet n s → HoldsSet working_places t (take (get_or s n 0) (part 0 n s)) → HoldsSet working_places t (items_at n s)
@@ -115,7 +115,7 @@ module _ (n : ℕ) (s₀ : List ℕ) (m : ℕ) (more s : List ℕ) (i : ℕ) (a 
       item_read m more i a.others (omega arith) ∙ sym (get_or-append-add (items_at n s₀) (items_at m more) i 0)
       ∙ ap (λ (j : ℕ). get_or (items_at n s₀ ++ items_at m more) j 0) k
       ∙ sym (framed_at n (items_at n s₀ ++ items_at m more) (length (items_at n s₀)) (get_or s₀ n 0 + i) (omega (arith, a.room)) (omega (arith, l, a.room))) in
-      let f = front-step a.front (get_or more i 0) (omega (arith, a.room)) e in
+      let f = front_step a.front (get_or more i 0) (omega (arith, a.room)) e in
       let q : get_or s₀ n 0 + i + 1 ≡ get_or s₀ n 0 + (i + 1) = omega arith in
       record {
         valid = a.valid;
@@ -132,8 +132,8 @@ module _ (n : ℕ) (s₀ : List ℕ) (m : ℕ) (more s : List ℕ) (i : ℕ) (a 
   at_count : (j : ℕ) → n ≤ j → get_or s₀ j 0 ≡ get_or (framed n (items_at n s₀ ++ items_at m more) (length (items_at n s₀))) j 0
   unfolding section
   at_count j h =
-      ap (λ (l : List ℕ). get_or l j 0) (set_words n s₀ a.valid) ∙ framed-past n (items_at n s₀) (length (items_at n s₀)) j h
-      ∙ sym (framed-past n (items_at n s₀ ++ items_at m more) (length (items_at n s₀)) j h)
+      ap (λ (l : List ℕ). get_or l j 0) (set_words n s₀ a.valid) ∙ framed_past n (items_at n s₀) (length (items_at n s₀)) j h
+      ∙ sym (framed_past n (items_at n s₀ ++ items_at m more) (length (items_at n s₀)) j h)
 
   past_end : (j : ℕ) → get_or more m 0 ≤ i → get_or s₀ n 0 + i ≤ j → Dec (j < n) → get_or s₀ j 0 ≡ get_or (framed n (items_at n s₀ ++ items_at m more) (length (items_at n s₀))) j 0
   past_end j h p (yes q) =
@@ -151,8 +151,8 @@ module _ (n : ℕ) (s₀ : List ℕ) (m : ℕ) (more s : List ℕ) (i : ℕ) (a 
       let c = a.valid.counted in
       let d = a.others.counted in
       let e : s ≡ framed n (items_at n s₀ ++ items_at m more) (length (items_at n s₀)) =
-      front-end a.front (framed-long n (items_at n s₀ ++ items_at m more) (length (items_at n s₀))) (λ j p. past_end j h p (dec_lt j n)) in
+      front_end a.front (framed_long n (items_at n s₀ ++ items_at m more) (length (items_at n s₀))) (λ j p. past_end j h p (dec_lt j n)) in
       let k : get_or s₀ n 0 + get_or more m 0 ≡ length (items_at n s₀ ++ items_at m more) = omega (arith, l) in
       holds_by n _ (items_at n s₀ ++ items_at m more)
-      ((λ j. set (e j) n (k j)) ∙ framed-set n (items_at n s₀ ++ items_at m more) (length (items_at n s₀)) (length (items_at n s₀ ++ items_at m more)))
+      ((λ j. set (e j) n (k j)) ∙ framed_set n (items_at n s₀ ++ items_at m more) (length (items_at n s₀)) (length (items_at n s₀ ++ items_at m more)))
       (omega (arith, l, a.room))

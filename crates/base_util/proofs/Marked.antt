@@ -11,7 +11,7 @@ use Rattle.base_lists.specs.Lists.{mem, distinct}
 use Rattle.base_lists.specs.Tests.{every}
 use Rattle.base_lists.proofs.Choice.{split, clash}
 use Rattle.base_lists.proofs.Tests.{both_true}
-use Rattle.base_scan.proofs.Marks.{mark, unmarked, marks-kept, distinct_drop}
+use Rattle.base_scan.proofs.Marks.{mark, unmarked, marks_kept, distinct_drop}
 use Rattle.base_util.proofs.Parts.{slice_lent}
 
 pub record Marking (n : ℕ) (s : List ℕ) (seen : List Bool) (i : ℕ) : Type 0 where
@@ -48,26 +48,26 @@ module _ (n : ℕ) (s : List ℕ) (seen : List Bool) (i : ℕ) (v : Marking n s 
         fits = v.fits;
         size = length-set seen _ true ∙ v.size;
         apart = rw (one_more, e) v.apart;
-        marked = rw one_more (both_true _ _ (get_or-set_same seen (x % 256) true false k) (marks-kept seen (x % 256) k later v.marked));
+        marked = rw one_more (both_true _ _ (get_or-set_same seen (x % 256) true false k) (marks_kept seen (x % 256) k later v.marked));
       }
 
-  pub mark-new : mark seen x ≡ false → Marking n s (set seen (x % 256) true) (i - 1)
-  mark-new e = next (unmarked seen x later v.marked e)
+  pub mark_new : mark seen x ≡ false → Marking n s (set seen (x % 256) true) (i - 1)
+  mark_new e = next (unmarked seen x later v.marked e)
 
   -- b says whether it is among the later ones, as the code lends them
   module _ (b : Bool) (e : b ≡ mem x (take (n - i) (drop i s))) where
     found : b ≡ mem x later
     found = e ∙ ap (mem x) (slice_lent i n s v.low v.fits)
 
-    pub mark-twice : b ≡ true → false ≡ distinct (take n s)
+    pub mark_twice : b ≡ true → false ≡ distinct (take n s)
     unfolding distinct
-    mark-twice t =
+    mark_twice t =
         let m : mem x later ≡ true = sym found ∙ t in
         let z : distinct (drop (i - 1) (take n s)) ≡ false = rw (one_more, m) in
         split (distinct (take n s)) (λ t. clash _ (distinct_drop (i - 1) (take n s) t) z) sym
 
-    pub mark-once : b ≡ false → Marking n s (set seen (x % 256) true) (i - 1)
-    mark-once t = next (sym found ∙ t)
+    pub mark_once : b ≡ false → Marking n s (set seen (x % 256) true) (i - 1)
+    mark_once t = next (sym found ∙ t)
 
 pub mark_end : (n : ℕ) (s : List ℕ) (seen : List Bool) (i : ℕ) → Marking n s seen i → i ≤ 0 → true ≡ distinct (take n s)
 mark_end n s seen i v h =

@@ -33,9 +33,9 @@ module _ (i j : ℕ) (xs : List ℕ) (hi : i < length xs) (hj : j < length xs) w
       (λ e. get_or-set_other (set xs i (get_or xs j 0)) j i (get_or xs i 0) 0 (eqb-false i j e) ∙ get_or-set_same xs i (get_or xs j 0) 0 hi)
 
   -- every item stays
-  count-swapped : (x : ℕ) → count x (swap i j xs) ≡ count x xs
+  count_swapped : (x : ℕ) → count x (swap i j xs) ≡ count x xs
   unfolding swap
-  count-swapped x =
+  count_swapped x =
       let a = count_set x xs i (get_or xs j 0) hi in
       let b = count_set x (set xs i (get_or xs j 0)) j (get_or xs i 0) (omega (arith, length-set xs i (get_or xs j 0))) in
       split (eqb i j)
@@ -84,7 +84,7 @@ different (suc i) xs (j ∷ js) (k ∷ ks) h u p q e =
     let at-k = exchanged_past i ks (swap (suc i) k xs) (suc i) q.1 (omega arith) ∙ swapped_at (suc i) k xs (omega arith) (omega (arith, q.0)) in
     let z : j ≡ k = one_place xs u j k (omega (arith, p.0)) (omega (arith, q.0)) (sym at_j ∙ ap (λ (l : List ℕ). get_or l (suc i) 0) e ∙ at-k) in
     let f : exchanged i js (swap (suc i) j xs) ≡ exchanged i ks (swap (suc i) j xs) = e ∙ ap (λ (n : ℕ). exchanged i ks (swap (suc i) n xs)) (sym z) in
-    let w : js ≡ ks = different i (swap (suc i) j xs) js ks (omega (arith, length_swapped (suc i) j xs)) (λ x. omega (arith, u x, count-swapped (suc i) j xs (omega arith) (omega (arith, p.0)) x)) p.1 q.1 f in
+    let w : js ≡ ks = different i (swap (suc i) j xs) js ks (omega (arith, length_swapped (suc i) j xs)) (λ x. omega (arith, u x, count_swapped (suc i) j xs (omega arith) (omega (arith, p.0)) x)) p.1 q.1 f in
     λ a. z a ∷ w a
 
 pub different_orders : DifferentOrders
@@ -192,8 +192,8 @@ orders (suc i) xs ys h u l c a =
     absurd (omega (arith, one_place ys (λ x. omega (arith, u x, c x)) j (suc i) (omega arith) (omega arith) (sym (a j (omega arith) within) ∙ item)))) in
     all_first i xs ys (omega arith) u j (ways i) low item
     (orders i (swap (suc i) j xs) ys (omega (arith, length_swapped (suc i) j xs))
-    (λ x. omega (arith, u x, count-swapped (suc i) j xs (omega arith) within x)) (omega (arith, length_swapped (suc i) j xs))
-    (λ x. omega (arith, c x, count-swapped (suc i) j xs (omega arith) within x))
+    (λ x. omega (arith, u x, count_swapped (suc i) j xs (omega arith) within x)) (omega (arith, length_swapped (suc i) j xs))
+    (λ x. omega (arith, c x, count_swapped (suc i) j xs (omega arith) within x))
     (λ k p q. split (eqb k (suc i))
     (λ e. let z : k ≡ suc i = eqb-true k (suc i) e in rw z (swapped_at (suc i) j xs (omega arith) within ∙ item))
     (λ e. let n = eqb-false k (suc i) e in swapped_past (suc i) j k xs (omega arith) (omega arith) ∙ a k (omega arith) (omega (arith, length_swapped (suc i) j xs)))))

@@ -15,12 +15,12 @@ use borrow.Rule.Slice.PartMut.{put_mid}
 use Rattle.base_lists.specs.Array.{pad}
 use Rattle.base_lists.specs.Lists.{null, index_of, rank, remove, shift_remove, swap_remove, insert_at, insert, without, without_all, renew, mem, distinct, rising}
 use Rattle.base_lists.specs.Tests.{every, packed}
-use Rattle.base_lists.proofs.Array.{length-pad, getD-pad, set-pad, push-pad, pop-pad, length_shift_remove, length_insert_at}
+use Rattle.base_lists.proofs.Array.{length_pad, getD_pad, set_pad, push_pad, pop_pad, length_shift_remove, length_insert_at}
 use Rattle.base_lists.proofs.Choice.{split, and_left, and_right}
 use Rattle.base_lists.proofs.Entries.{taken_is}
 use Rattle.base_lists.proofs.Search.{index_mem, index_not_mem}
 use Rattle.base_lists.proofs.Sets.{insert_there, insert_new, shift_first, renew_room, renew_full}
-use Rattle.base_lists.proofs.Tests.{both_true, packed-true, true-packed}
+use Rattle.base_lists.proofs.Tests.{both_true, packed_true, true_packed}
 use Rattle.base_scan.specs.Words.{unused}
 use Rattle.base_util.specs.Section.{part, Filled, items_at, ValidSet, HoldsSet, valid_set, section}
 use Rattle.base_util.proofs.Columns.{filled_of}
@@ -43,7 +43,7 @@ pub set_stored : (n : ℕ) (s ys xs : List ℕ) (k : ℕ) → ValidSet n s → y
 set_stored n s ys xs k v e q h =
     let l : length (part 0 n s) ≡ n = part_long 0 n s (omega (arith, v.long)) in
     let p : ys ≡ pad 0 n xs = rw l at e in
-    let m : length ys ≡ n = ap length p ∙ length-pad 0 n xs in
+    let m : length ys ≡ n = ap length p ∙ length_pad 0 n xs in
     let w : length (put_mid 0 n s ys) ≡ n + 1 = first_put_long n s ys (omega (arith, v.long)) m ∙ v.long in
     set_of n (set (put_mid 0 n s ys) n k) xs (length-set (put_mid 0 n s ys) n k ∙ w)
     (part_set_after 0 n n k (put_mid 0 n s ys) (omega arith) ∙ part_put 0 n s ys (omega arith) m ∙ p)
@@ -64,14 +64,14 @@ module _ (n : ℕ) (s : List ℕ) (x i : ℕ) (v : ValidSet n s) (e : i ≡ inde
   pub there : i ≡ index_of x (items_at n s)
   there = e ∙ ap (index_of x) (lent n s v)
 
-  pub insert-kept : i < get_or s n 0 → HoldsSet n s (insert x (items_at n s))
-  insert-kept h = record { valid = v; items = sym (insert_there x (items_at n s) (index_mem x (items_at n s) (omega (arith, v.counted, there)))) }
+  pub insert_kept : i < get_or s n 0 → HoldsSet n s (insert x (items_at n s))
+  insert_kept h = record { valid = v; items = sym (insert_there x (items_at n s) (index_mem x (items_at n s) (omega (arith, v.counted, there)))) }
 
   new : get_or s n 0 ≤ i → insert x (items_at n s) ≡ insert_at (rank x (items_at n s)) x (items_at n s)
   new h = insert_new x (items_at n s) (index_not_mem x (items_at n s) (omega (arith, v.counted, there)))
 
-  pub insert-fits : get_or s n 0 ≤ i → length (insert x (items_at n s)) ≤ n → get_or s n 0 < length (part 0 n s)
-  insert-fits h f =
+  pub insert_fits : get_or s n 0 ≤ i → length (insert x (items_at n s)) ≤ n → get_or s n 0 < length (part 0 n s)
+  insert_fits h f =
       omega (arith, v.counted, ap length (new h), length_insert_at (rank x (items_at n s)) x (items_at n s), part_long 0 n s (omega (arith, v.long)))
 
   pub inserted : (a : ℕ) (ys : List ℕ) → get_or s n 0 ≤ i → a ≡ rank x (take (get_or s n 0) s) → length (insert x (items_at n s)) ≤ n → ys ≡ pad 0 (length (part 0 n s)) (insert_at a x (take (get_or s n 0) (part 0 n s)))
@@ -102,25 +102,25 @@ abbrev pub framed : ℕ → List ℕ → ℕ → List ℕ
 framed n xs c = pad 0 n xs ++ (c ∷ [])
 
 module _ (n : ℕ) (xs : List ℕ) (c : ℕ) where
-  pub framed-long : length (framed n xs c) ≡ n + 1
-  framed-long = length-append (pad 0 n xs) (c ∷ []) ∙ ap (λ (k : ℕ). k + 1) (length-pad 0 n xs)
+  pub framed_long : length (framed n xs c) ≡ n + 1
+  framed_long = length-append (pad 0 n xs) (c ∷ []) ∙ ap (λ (k : ℕ). k + 1) (length_pad 0 n xs)
 
-  pub framed-last : get_or (framed n xs c) n 0 ≡ c
-  framed-last = get_or_at (pad 0 n xs) c [] 0 n (length-pad 0 n xs)
+  pub framed_last : get_or (framed n xs c) n 0 ≡ c
+  framed_last = get_or_at (pad 0 n xs) c [] 0 n (length_pad 0 n xs)
 
-  pub framed-set : (d : ℕ) → set (framed n xs c) n d ≡ framed n xs d
-  framed-set d = set_at (pad 0 n xs) c [] d n (length-pad 0 n xs)
+  pub framed_set : (d : ℕ) → set (framed n xs c) n d ≡ framed n xs d
+  framed_set d = set_at (pad 0 n xs) c [] d n (length_pad 0 n xs)
 
-  framed-part : part 0 n (framed n xs c) ≡ pad 0 n xs
+  framed_part : part 0 n (framed n xs c) ≡ pad 0 n xs
   unfolding part
-  framed-part = lib.Seq.take_at (pad 0 n xs) (c ∷ []) n (length-pad 0 n xs)
+  framed_part = lib.Seq.take_at (pad 0 n xs) (c ∷ []) n (length_pad 0 n xs)
 
   pub framed_at : (i : ℕ) → i < n → length xs ≤ n → get_or (framed n xs c) i 0 ≡ get_or xs i 0
-  framed_at i h f = get_or-append (pad 0 n xs) (c ∷ []) 0 i (omega (arith, length-pad 0 n xs)) ∙ getD-pad 0 n xs i f
+  framed_at i h f = get_or-append (pad 0 n xs) (c ∷ []) 0 i (omega (arith, length_pad 0 n xs)) ∙ getD_pad 0 n xs i f
 
-  pub framed-past : (i : ℕ) → n ≤ i → get_or (framed n xs c) i 0 ≡ get_or (c ∷ []) (i - n) 0
-  framed-past i h =
-      let k : i ≡ length (pad 0 n xs) + (i - n) = omega (arith, length-pad 0 n xs) in
+  pub framed_past : (i : ℕ) → n ≤ i → get_or (framed n xs c) i 0 ≡ get_or (c ∷ []) (i - n) 0
+  framed_past i h =
+      let k : i ≡ length (pad 0 n xs) + (i - n) = omega (arith, length_pad 0 n xs) in
       ap (λ (j : ℕ). get_or (framed n xs c) j 0) k ∙ get_or-append-add (pad 0 n xs) (c ∷ []) (i - n) 0
 
 -- the words of a set are those of its items
@@ -134,7 +134,7 @@ set_words n s v =
 
 pub section_holds : (n : ℕ) (xs : List ℕ) → length xs ≤ n → HoldsSet n (section n xs) xs
 unfolding section
-section_holds n xs h = set_of n (framed n xs (length xs)) xs (framed-long n xs (length xs)) (framed-part n xs (length xs)) (framed-last n xs (length xs)) h
+section_holds n xs h = set_of n (framed n xs (length xs)) xs (framed_long n xs (length xs)) (framed_part n xs (length xs)) (framed_last n xs (length xs)) h
 
 pub holds_by : (n : ℕ) (s xs : List ℕ) → s ≡ section n xs → length xs ≤ n → HoldsSet n s xs
 holds_by n s xs e h = subst (λ (t : List ℕ). HoldsSet n t xs) (sym e) (section_holds n xs h)
@@ -199,26 +199,26 @@ unfolding valid_set
 too_many n s h = rw (lt-leb _ _ h)
 
 module _ (n : ℕ) (s : List ℕ) (l : length s ≡ n + 1) where
-  places-inside : n ≡ length (part 0 n s)
-  places-inside = sym (part_long 0 n s (omega arith))
+  places_inside : n ≡ length (part 0 n s)
+  places_inside = sym (part_long 0 n s (omega arith))
 
   pub few : (b : Bool) → get_or s n 0 ≤ n → b ≡ every unused (drop (get_or s n 0) (part 0 n s)) → b ≡ valid_set n s
   unfolding valid_set packed
   few b h e = e ∙ sym (rw (le-leb _ _ h, eq-eqb _ _ (part_long 0 n s (omega arith))) refl)
 
-  pub valid-set-true : valid_set n s ≡ true → ValidSet n s
+  pub valid_set_true : valid_set n s ≡ true → ValidSet n s
   unfolding valid_set items_at
-  valid-set-true t =
+  valid_set_true t =
       let f : get_or s n 0 ≤ n = leb-true (get_or s n 0) n (and_left (leb (get_or s n 0) n) _ t) in
-      let p = packed-true 0 unused (λ x. eqb-true x 0) n (get_or s n 0) (part 0 n s) (and_right (leb (get_or s n 0) n) _ t) in
-      let c : length (take (get_or s n 0) (part 0 n s)) ≡ get_or s n 0 = length-take-le (get_or s n 0) (part 0 n s) (omega (arith, places-inside)) in
+      let p = packed_true 0 unused (λ x. eqb-true x 0) n (get_or s n 0) (part 0 n s) (and_right (leb (get_or s n 0) n) _ t) in
+      let c : length (take (get_or s n 0) (part 0 n s)) ≡ get_or s n 0 = length-take-le (get_or s n 0) (part 0 n s) (omega (arith, places_inside)) in
       (set_of n s (take (get_or s n 0) (part 0 n s)) l p (sym c) (omega arith)).valid
 
 pub true_valid_set : (n : ℕ) (s : List ℕ) → ValidSet n s → valid_set n s ≡ true
 unfolding valid_set
 true_valid_set n s v =
     both_true (leb (get_or s n 0) n) _ (le-leb (get_or s n 0) n v.fits)
-    (true-packed 0 unused refl n (get_or s n 0) (part 0 n s) (subst (λ (j : ℕ). part 0 n s ≡ pad 0 j (take (get_or s n 0) (part 0 n s))) (sym (set_inside n s v)) v.filled.packed))
+    (true_packed 0 unused refl n (get_or s n 0) (part 0 n s) (subst (λ (j : ℕ). part 0 n s ≡ pad 0 j (take (get_or s n 0) (part 0 n s))) (sym (set_inside n s v)) v.filled.packed))
 
 -- ---- the readers
 
@@ -232,14 +232,14 @@ empty_is_null n s v = ap (λ (k : ℕ). eqb k 0) (sym v.counted) ∙ null_length
 
 -- what a test of the items says, which the code lends
 module _ (n : ℕ) (s : List ℕ) (v : ValidSet n s) where
-  pub lent-mem : (x : ℕ) (r : Bool) → r ≡ mem x (take (get_or s n 0) s) → r ≡ mem x (items_at n s)
-  lent-mem x r e = e ∙ ap (mem x) (lent n s v)
+  pub lent_mem : (x : ℕ) (r : Bool) → r ≡ mem x (take (get_or s n 0) s) → r ≡ mem x (items_at n s)
+  lent_mem x r e = e ∙ ap (mem x) (lent n s v)
 
-  pub lent-distinct : (r : Bool) → r ≡ distinct (take (get_or s n 0) s) → r ≡ distinct (items_at n s)
-  lent-distinct r e = e ∙ ap distinct (lent n s v)
+  pub lent_distinct : (r : Bool) → r ≡ distinct (take (get_or s n 0) s) → r ≡ distinct (items_at n s)
+  lent_distinct r e = e ∙ ap distinct (lent n s v)
 
-  pub lent-rising : (r : Bool) → r ≡ rising (take (get_or s n 0) s) → r ≡ rising (items_at n s)
-  lent-rising r e = e ∙ ap rising (lent n s v)
+  pub lent_rising : (r : Bool) → r ≡ rising (take (get_or s n 0) s) → r ≡ rising (items_at n s)
+  lent_rising r e = e ∙ ap rising (lent n s v)
 
 -- ---- the changes
 
@@ -253,8 +253,8 @@ unfolding section
 cleared n s t l e = holds_by n t [] (e ∙ ap (λ (k : ℕ). pad {A = ℕ} 0 k []) (l ∙ add-one n) ∙ zeroes_more n) (omega arith)
 
 module _ (n : ℕ) (s : List ℕ) (v : ValidSet n s) where
-  few-items : length (items_at n s) ≤ n
-  few-items = omega (arith, v.counted, v.fits)
+  few_items : length (items_at n s) ≤ n
+  few_items = omega (arith, v.counted, v.fits)
 
   pub pushed : (x : ℕ) → length (items_at n s) < n → HoldsSet n (set (set s (get_or s n 0) x) n (get_or s n 0 + 1)) (items_at n s ++ (x ∷ []))
   unfolding section
@@ -262,15 +262,15 @@ module _ (n : ℕ) (s : List ℕ) (v : ValidSet n s) where
       let xs : List ℕ = items_at n s in
       let l : length (xs ++ (x ∷ [])) ≡ get_or s n 0 + 1 = length-append xs (x ∷ []) ∙ ap (λ (k : ℕ). k + 1) v.counted in
       let a : set (framed n xs (length xs)) (length xs) x ≡ framed n (xs ++ (x ∷ [])) (length xs) =
-      set-append_left (pad 0 n xs) (length xs ∷ []) (length xs) x (omega (arith, length-pad 0 n xs)) ∙ ap (λ (t : List ℕ). t ++ (length xs ∷ [])) (push-pad 0 n xs x h) in
+      set-append_left (pad 0 n xs) (length xs ∷ []) (length xs) x (omega (arith, length_pad 0 n xs)) ∙ ap (λ (t : List ℕ). t ++ (length xs ∷ [])) (push_pad 0 n xs x h) in
       holds_by n _ (xs ++ (x ∷ []))
       ((λ i. set (set (set_words n s v i) (sym v.counted i) x) n (get_or s n 0 + 1)) ∙ ap (λ (t : List ℕ). set t n (get_or s n 0 + 1)) a
-      ∙ framed-set n (xs ++ (x ∷ [])) (length xs) (get_or s n 0 + 1) ∙ ap (framed n (xs ++ (x ∷ []))) (sym l)) (omega arith)
+      ∙ framed_set n (xs ++ (x ∷ [])) (length xs) (get_or s n 0 + 1) ∙ ap (framed n (xs ++ (x ∷ []))) (sym l)) (omega arith)
 
-  pub last-in-gap : (i : ℕ) → i < length (items_at n s)
+  pub last_in_gap : (i : ℕ) → i < length (items_at n s)
       → HoldsSet n (set (set (set s i (get_or s (get_or s n 0 - 1) 0)) (get_or s n 0 - 1) 0) n (get_or s n 0 - 1)) (swap_remove i (items_at n s))
   unfolding section swap_remove
-  last-in-gap i h =
+  last_in_gap i h =
       let xs : List ℕ = items_at n s in
       let c : ℕ = get_or s n 0 in
       let m : ℕ = c - 1 in
@@ -279,30 +279,30 @@ module _ (n : ℕ) (s : List ℕ) (v : ValidSet n s) where
       let ws : List ℕ = set xs i (get_or xs (length xs - 1) 0) in
       let w : length ws ≡ length xs = length-set xs i (get_or xs (length xs - 1) 0) in
       let a : set (framed n xs (length xs)) i (get_or xs (length xs - 1) 0) ≡ framed n ws (length xs) =
-      set-append_left (pad 0 n xs) (length xs ∷ []) i (get_or xs (length xs - 1) 0) (omega (arith, length-pad 0 n xs, few-items)) ∙ ap (λ (t : List ℕ). t ++ (length xs ∷ [])) (set-pad 0 n xs i (get_or xs (length xs - 1) 0) h) in
+      set-append_left (pad 0 n xs) (length xs ∷ []) i (get_or xs (length xs - 1) 0) (omega (arith, length_pad 0 n xs, few_items)) ∙ ap (λ (t : List ℕ). t ++ (length xs ∷ [])) (set_pad 0 n xs i (get_or xs (length xs - 1) 0) h) in
       let b : set (framed n ws (length xs)) (c - 1) 0 ≡ framed n (take (c - 1) ws) (length xs) =
-      set-append_left (pad 0 n ws) (length xs ∷ []) (c - 1) 0 (omega (arith, length-pad 0 n ws, few-items)) ∙ ap (λ (t : List ℕ). t ++ (length xs ∷ [])) (pop-pad 0 n (c - 1) ws (omega arith)) in
+      set-append_left (pad 0 n ws) (length xs ∷ []) (c - 1) 0 (omega (arith, length_pad 0 n ws, few_items)) ∙ ap (λ (t : List ℕ). t ++ (length xs ∷ [])) (pop_pad 0 n (c - 1) ws (omega arith)) in
       let l : length (take (c - 1) ws) ≡ c - 1 = length-take-le (c - 1) ws (omega arith) in
       let q : take (c - 1) ws ≡ take (length xs - 1) ws = ap (λ (j : ℕ). take (j - 1) ws) (sym k) in
       set_as n _ (take (c - 1) ws) (take (length xs - 1) ws)
       (holds_by n _ (take (c - 1) ws)
       ((λ j. set (set (set (set_words n s v j) i (y j)) (c - 1) 0) n (c - 1)) ∙ ap (λ (t : List ℕ). set (set t (c - 1) 0) n (c - 1)) a
-      ∙ ap (λ (t : List ℕ). set t n (c - 1)) b ∙ framed-set n (take (c - 1) ws) (length xs) (c - 1) ∙ ap (framed n (take (c - 1) ws)) (sym l))
-      (omega (arith, l, few-items))) q
+      ∙ ap (λ (t : List ℕ). set t n (c - 1)) b ∙ framed_set n (take (c - 1) ws) (length xs) (c - 1) ∙ ap (framed n (take (c - 1) ws)) (sym l))
+      (omega (arith, l, few_items))) q
 
   module _ (x i : ℕ) (e : i ≡ index_of x (take (get_or s n 0) s)) where
-    pub remove-within : i < get_or s n 0 → i < length (items_at n s)
-    remove-within h = omega (arith, v.counted)
+    pub remove_within : i < get_or s n 0 → i < length (items_at n s)
+    remove_within h = omega (arith, v.counted)
 
-    pub remove-found : (t : List ℕ) → HoldsSet n t (swap_remove i (items_at n s)) → i < get_or s n 0 → HoldsSet n t (remove x (items_at n s))
+    pub remove_found : (t : List ℕ) → HoldsSet n t (swap_remove i (items_at n s)) → i < get_or s n 0 → HoldsSet n t (remove x (items_at n s))
     unfolding remove
-    remove-found t k h =
+    remove_found t k h =
         let m = index_mem x (items_at n s) (omega (arith, v.counted, there n s x i v e)) in
         set_as n t _ _ k (rw m (ap (λ (j : ℕ). swap_remove j (items_at n s)) (there n s x i v e)))
 
-    pub remove-none : get_or s n 0 ≤ i → HoldsSet n s (remove x (items_at n s))
+    pub remove_none : get_or s n 0 ≤ i → HoldsSet n s (remove x (items_at n s))
     unfolding remove
-    remove-none h =
+    remove_none h =
         let m = index_not_mem x (items_at n s) (omega (arith, v.counted, there n s x i v e)) in
         set_as n s _ _ (set_self n s v) (rw m)
 
@@ -317,9 +317,9 @@ module _ (n : ℕ) (s : List ℕ) (v : ValidSet n s) where
   unfolding items_at
   skipped m skip w = ap (λ (l : List ℕ). without_all l (items_at n s)) (lent m skip w)
 
-  pub left-without-all : (m : ℕ) (skip ys : List ℕ) (k : ℕ) → ValidSet m skip → ys ≡ pad 0 (length (part 0 n s)) (without_all (take (get_or skip m 0) skip) (take (get_or s n 0) (part 0 n s)))
+  pub left_without_all : (m : ℕ) (skip ys : List ℕ) (k : ℕ) → ValidSet m skip → ys ≡ pad 0 (length (part 0 n s)) (without_all (take (get_or skip m 0) skip) (take (get_or s n 0) (part 0 n s)))
       → k ≡ length (without_all (take (get_or skip m 0) skip) (take (get_or s n 0) (part 0 n s))) → k ≤ get_or s n 0 → HoldsSet n (set (put_mid 0 n s ys) n k) (without_all (items_at m skip) (items_at n s))
-  left-without-all m skip ys k w o q h = set_as n _ _ _ (set_stored n s ys _ k v o q (omega (arith, v.fits))) (skipped m skip w)
+  left_without_all m skip ys k w o q h = set_as n _ _ _ (set_stored n s ys _ k v o q (omega (arith, v.fits))) (skipped m skip w)
 
   pub cut_short : (k : ℕ) (ys : List ℕ) → k < get_or s n 0 → ys ≡ pad 0 (length (part 0 n s)) (take k (part 0 n s)) → HoldsSet n (set (put_mid 0 n s ys) n k) (take k (items_at n s))
   unfolding items_at
@@ -328,20 +328,20 @@ module _ (n : ℕ) (s : List ℕ) (v : ValidSet n s) where
       let l : length (take k (items_at n s)) ≡ k = length-take-le k (items_at n s) (omega (arith, v.counted)) in
       set_stored n s ys (take k (items_at n s)) k v (o ∙ ap (pad 0 (length (part 0 n s))) e) (sym l) (omega (arith, v.fits))
 
-  pub short-enough : (k : ℕ) → get_or s n 0 ≤ k → HoldsSet n s (take k (items_at n s))
-  short-enough k h = set_as n s _ _ (set_self n s v) (sym (lib.Seq.take_all k (items_at n s) (omega (arith, v.counted))))
+  pub short_enough : (k : ℕ) → get_or s n 0 ≤ k → HoldsSet n s (take k (items_at n s))
+  short_enough k h = set_as n s _ _ (set_self n s v) (sym (lib.Seq.take_all k (items_at n s) (omega (arith, v.counted))))
 
   -- a column that is put back with as many items
   pub rearranged : (ys xs : List ℕ) → ys ≡ pad 0 (length (part 0 n s)) xs → length xs ≡ length (items_at n s) → HoldsSet n (put_mid 0 n s ys) xs
   rearranged ys xs o q =
       let l : length (part 0 n s) ≡ n = sym (set_inside n s v) in
       let p : ys ≡ pad 0 n xs = rw l at o in
-      let m : length ys ≡ n = ap length p ∙ length-pad 0 n xs in
+      let m : length ys ≡ n = ap length p ∙ length_pad 0 n xs in
       let w : length (put_mid 0 n s ys) ≡ n + 1 = first_put_long n s ys (omega (arith, v.long)) m ∙ v.long in
       let c : get_or (put_mid 0 n s ys) n 0 ≡ length xs =
       ap (λ (j : ℕ). get_or (ys ++ drop n s) j 0) (let k : n ≡ length ys + 0 = omega arith in k) ∙ get_or-append-add ys (drop n s) 0 0 ∙ lib.Seq.get_or-drop n s 0 0
       ∙ ap (λ (j : ℕ). get_or s j 0) (let k : n + 0 ≡ n = omega arith in k) ∙ sym v.counted ∙ sym q in
-      set_of n (put_mid 0 n s ys) xs w (part_put 0 n s ys (omega arith) m ∙ p) c (omega (arith, few-items))
+      set_of n (put_mid 0 n s ys) xs w (part_put 0 n s ys (omega arith) m ∙ p) c (omega (arith, few_items))
 
 -- ---- every x leaves
 
@@ -375,19 +375,19 @@ module _ (n : ℕ) (s₀ : List ℕ) (x : ℕ) (s : List ℕ) (k i : ℕ) (v : D
     less : get_or t n 0 ≡ k - 1
     less = sym g.valid.counted ∙ ap length g.items ∙ (omega (arith, v.count, length_shift_remove i (items_at n s) (omega (arith, v.count))))
 
-    pub dropping-fits : k - 1 ≤ length t
-    dropping-fits = omega (arith, less, lent_fits n t g.valid)
+    pub dropping_fits : k - 1 ≤ length t
+    dropping_fits = omega (arith, less, lent_fits n t g.valid)
 
-    pub dropping-next : (j : ℕ) → j ≡ index_of x (take (k - 1) t) → Dropping n s₀ x t (k - 1) j
-    dropping-next j e =
+    pub dropping_next : (j : ℕ) → j ≡ index_of x (take (k - 1) t) → Dropping n s₀ x t (k - 1) j
+    dropping_next j e =
         record {
           valid = g.valid;
           count = g.valid.counted ∙ less;
-          fits = dropping-fits;
+          fits = dropping_fits;
           left = ap (without x) g.items ∙ ap (λ (a : ℕ). without x (shift_remove a (items_at n s))) v.place
               ∙ without_first x (items_at n s) (omega (arith, v.count, v.place)) ∙ v.left;
           place = there n t x j g.valid (e ∙ ap (λ (a : ℕ). index_of x (take a t)) (sym less));
         }
 
-  pub dropping-end : k ≤ i → HoldsSet n s (without x (items_at n s₀))
-  dropping-end h = record { valid = v.valid; items = sym (without_absent x (items_at n s) (omega (arith, v.count, v.place))) ∙ v.left }
+  pub dropping_end : k ≤ i → HoldsSet n s (without x (items_at n s₀))
+  dropping_end h = record { valid = v.valid; items = sym (without_absent x (items_at n s) (omega (arith, v.count, v.place))) ∙ v.left }

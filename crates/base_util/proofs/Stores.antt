@@ -10,8 +10,8 @@ use lib.ListN.{length, take, drop, get_or, set, length-set, length-take, take-ap
 use lib.Seq.{append_snoc, length-take-le, take-suc-set, take-set-lt, drop-set-lt, get_or-take, get_or-set_other}
 use Rattle.base_lists.specs.Array.{pad}
 use Rattle.base_lists.specs.Lists.{mem, swap, without_all}
-use Rattle.base_lists.proofs.Array.{length-pad, getD-pad, set-pad}
-use Rattle.base_lists.proofs.Front.{Front, front_start, front-step, front-end}
+use Rattle.base_lists.proofs.Array.{length_pad, getD_pad, set_pad}
+use Rattle.base_lists.proofs.Front.{Front, front_start, front_step, front_end}
 use Rattle.base_lists.proofs.Rest.{Rest, rest_next, rest_end}
 use Rattle.base_util.specs.Chances.{pick_draws, pick, shuffle_down, draws_down, shuffle, shuffle_draws}
 use Rattle.base_util.proofs.Chances.{length_swapped, length_shuffled, picks_next, shuffle_step, draws_step}
@@ -27,21 +27,21 @@ Clearing s₀ k s i = (k ≤ i) × Front 0 (length s₀) (pad 0 (length s₀) (t
 
 module _ (s₀ : List ℕ) (k : ℕ) where
   wanted : (j : ℕ) → get_or (pad 0 (length s₀) (take k s₀)) j 0 ≡ get_or (take k s₀) j 0
-  wanted j = getD-pad 0 (length s₀) (take k s₀) j (omega (arith, length-take k s₀))
+  wanted j = getD_pad 0 (length s₀) (take k s₀) j (omega (arith, length-take k s₀))
 
   past : (j : ℕ) → k ≤ j → get_or (pad 0 (length s₀) (take k s₀)) j 0 ≡ 0
   past j h = wanted j ∙ get_or-eq_default (take k s₀) 0 (omega (arith, length-take k s₀))
 
-  pub clearing-start : Front 0 (length s₀) (pad 0 (length s₀) (take k s₀)) s₀ s₀ k
-  clearing-start = front_start 0 _ _ k refl (λ j p. sym (wanted j ∙ get_or-take k s₀ j 0 p))
+  pub clearing_start : Front 0 (length s₀) (pad 0 (length s₀) (take k s₀)) s₀ s₀ k
+  clearing_start = front_start 0 _ _ k refl (λ j p. sym (wanted j ∙ get_or-take k s₀ j 0 p))
 
   module _ (s : List ℕ) (i : ℕ) (h : k ≤ i) (v : Front 0 (length s₀) (pad 0 (length s₀) (take k s₀)) s₀ s i) where
-    pub clearing-next : i < length s → Front 0 (length s₀) (pad 0 (length s₀) (take k s₀)) s₀ (set s i 0) (i + 1)
-    clearing-next p = front-step v 0 (omega (arith, v.long)) (sym (past i h))
+    pub clearing_next : i < length s → Front 0 (length s₀) (pad 0 (length s₀) (take k s₀)) s₀ (set s i 0) (i + 1)
+    clearing_next p = front_step v 0 (omega (arith, v.long)) (sym (past i h))
 
-    pub clearing-end : length s ≤ i → s ≡ pad 0 (length s₀) (take k s₀)
-    clearing-end p =
-        front-end v (length-pad 0 (length s₀) (take k s₀))
+    pub clearing_end : length s ≤ i → s ≡ pad 0 (length s₀) (take k s₀)
+    clearing_end p =
+        front_end v (length_pad 0 (length s₀) (take k s₀))
         (λ j q. get_or-eq_default s₀ 0 (omega (arith, v.long)) ∙ sym (past j (omega arith)))
 
 -- ---- the items that are not in a list
@@ -72,9 +72,9 @@ module _ (skip s₀ : List ℕ) (n : ℕ) (s : List ℕ) (m i : ℕ) (v : Packin
     is : b ≡ mem (get_or s₀ i 0) skip
     is = e ∙ ap (λ (x : ℕ). mem x skip) (v.left i (omega arith))
 
-    pub packing-passed : b ≡ true → Packing skip s₀ n s m (i + 1)
+    pub packing_passed : b ≡ true → Packing skip s₀ n s m (i + 1)
     unfolding without_all
-    packing-passed t = record {
+    packing_passed t = record {
       filled = v.filled;
       long = v.long;
       room = v.room;
@@ -83,9 +83,9 @@ module _ (skip s₀ : List ℕ) (n : ℕ) (s : List ℕ) (m i : ℕ) (v : Packin
       rest = rest_next 0 (Then skip) v.rest (take m s) h (λ l. rw (← is, t));
     }
 
-    pub packing-kept : b ≡ false → Packing skip s₀ n (set s m (get_or s i 0)) (m + 1) (i + 1)
+    pub packing_kept : b ≡ false → Packing skip s₀ n (set s m (get_or s i 0)) (m + 1) (i + 1)
     unfolding without_all
-    packing-kept t =
+    packing_kept t =
         let x : get_or s i 0 ≡ get_or s₀ i 0 = v.left i (omega arith) in
         let k : take (m + 1) (set s m (get_or s i 0)) ≡ take m s ++ (get_or s₀ i 0 ∷ []) =
         ap (λ (j : ℕ). take j (set s m (get_or s i 0))) (add-one m) ∙ take-suc-set s m (get_or s i 0) (omega (arith, v.few, v.room, v.long)) ∙ ap (λ (y : ℕ). take m s ++ (y ∷ [])) x in
@@ -103,11 +103,11 @@ module _ (skip s₀ : List ℕ) (n : ℕ) (s : List ℕ) (m i : ℕ) (v : Packin
   unfolding without_all
   packed h = sym (rest_end 0 (Then skip) v.rest h ∙ append-nil (take m s))
 
-  pub packing-end : (t : List ℕ) → t ≡ pad 0 (length s) (take m s) → n ≤ i → t ≡ pad 0 (length s₀) (without_all skip (take n s₀))
-  packing-end t e h = e ∙ (λ j. pad 0 (v.long j) (packed h j))
+  pub packing_end : (t : List ℕ) → t ≡ pad 0 (length s) (take m s) → n ≤ i → t ≡ pad 0 (length s₀) (without_all skip (take n s₀))
+  packing_end t e h = e ∙ (λ j. pad 0 (v.long j) (packed h j))
 
-  pub packing-count : n ≤ i → m ≡ length (without_all skip (take n s₀))
-  packing-count h = sym (length-take-le m s (omega (arith, v.few, v.rest.low, v.room, v.long))) ∙ ap length (packed h)
+  pub packing_count : n ≤ i → m ≡ length (without_all skip (take n s₀))
+  packing_count h = sym (length-take-le m s (omega (arith, v.few, v.rest.low, v.room, v.long))) ∙ ap length (packed h)
 
 -- ---- a shuffle
 
@@ -166,8 +166,8 @@ module _ (ds : List ℕ) (at n : ℕ) (s₀ s : List ℕ) (i k : ℕ) (v : Mixin
     kept =
         let l : length (take n s) ≡ n = length-take-le n s v.room in
         ap (λ (t : List ℕ). set (set t i (get_or s j 0)) j (get_or s i 0)) v.packed
-        ∙ ap (λ (t : List ℕ). set t j (get_or s i 0)) (set-pad 0 (length s₀) (take n s) i (get_or s j 0) (omega (arith, v.low)))
-        ∙ set-pad 0 (length s₀) (set (take n s) i (get_or s j 0)) j (get_or s i 0) (omega (arith, length-set (take n s) i (get_or s j 0)))
+        ∙ ap (λ (t : List ℕ). set t j (get_or s i 0)) (set_pad 0 (length s₀) (take n s) i (get_or s j 0) (omega (arith, v.low)))
+        ∙ set_pad 0 (length s₀) (set (take n s) i (get_or s j 0)) j (get_or s i 0) (omega (arith, length-set (take n s) i (get_or s j 0)))
         ∙ ap (pad 0 (length s₀)) (sym (take-set-lt n (set s i (get_or s j 0)) j (get_or s i 0) b ∙ ap (λ (t : List ℕ). set t j (get_or s i 0)) (take-set-lt n s i (get_or s j 0) v.low)))
 
   mixing_next : (t : List ℕ) (j m : ℕ) → t ≡ swap i j s → j ≡ pick (i + 1) (drop k ds) → j < i + 1 → m ≡ k + pick_draws (i + 1) (drop k ds) → 0 < i → Mixing ds at n s₀ t (i - 1) m
@@ -223,15 +223,15 @@ unfolding part
 put_back n s₀ s e = ap (λ (l : List ℕ). take n s ++ l) (sym e) ∙ take-append-drop n s
 
 module _ (n : ℕ) (s ds : List ℕ) (at : ℕ) (v : ValidSet n s) where
-  pub turn-few : get_or s n 0 < 2 → HoldsSet n s (shuffle (drop at ds) (items_at n s))
-  turn-few h =
+  pub turn_few : get_or s n 0 < 2 → HoldsSet n s (shuffle (drop at ds) (items_at n s))
+  turn_few h =
       subst (λ (t : List ℕ). HoldsSet n t (shuffle (drop at ds) (items_at n s))) (put_back n s s refl) (mixed n s (part 0 n s) ds at v (mixing_few (part 0 n s) ds at (get_or s n 0) v.filled h))
 
-  pub turn-none : get_or s n 0 < 2 → at ≡ at + shuffle_draws (drop at ds) (items_at n s)
-  turn-none h = mixed_taken n s ds at at (mixing_none (part 0 n s) ds at (get_or s n 0) v.filled h)
+  pub turn_none : get_or s n 0 < 2 → at ≡ at + shuffle_draws (drop at ds) (items_at n s)
+  turn_none h = mixed_taken n s ds at at (mixing_none (part 0 n s) ds at (get_or s n 0) v.filled h)
 
-  pub turn-start : n ≤ working_places → at ≤ length ds → 2 ≤ get_or s n 0 → Turning ds at n s s (get_or s n 0 - 1) at
-  turn-start w l h =
+  pub turn_start : n ≤ working_places → at ≤ length ds → 2 ≤ get_or s n 0 → Turning ds at n s s (get_or s n 0 - 1) at
+  turn_start w l h =
       record {
         valid = v;
         long = v.long;
@@ -240,18 +240,18 @@ module _ (n : ℕ) (s ds : List ℕ) (at : ℕ) (v : ValidSet n s) where
       }
 
 module _ (ds : List ℕ) (at n : ℕ) (s₀ s : List ℕ) (i k : ℕ) (v : Turning ds at n s₀ s i k) where
-  pub turn-left : k ≤ length ds + working_places
-  turn-left = left_to_draw ds at _ _ _ i k v.column
+  pub turn_left : k ≤ length ds + working_places
+  turn_left = left_to_draw ds at _ _ _ i k v.column
 
-  pub turn-place : i < length s
-  turn-place = omega (arith, v.long, v.column.low, v.valid.fits)
+  pub turn_place : i < length s
+  turn_place = omega (arith, v.long, v.column.low, v.valid.fits)
 
-  pub turn-drawn : (j : ℕ) → j < i + 1 → j < length s
-  turn-drawn j h = omega (arith, turn-place)
+  pub turn_drawn : (j : ℕ) → j < i + 1 → j < length s
+  turn_drawn j h = omega (arith, turn_place)
 
-  pub turn-next : (j m : ℕ) → j ≡ pick (i + 1) (drop k ds) → j < i + 1 → m ≡ k + pick_draws (i + 1) (drop k ds) → 0 < i → Turning ds at n s₀ (set (set s i (get_or s j 0)) j (get_or s i 0)) (i - 1) m
+  pub turn_next : (j m : ℕ) → j ≡ pick (i + 1) (drop k ds) → j < i + 1 → m ≡ k + pick_draws (i + 1) (drop k ds) → 0 < i → Turning ds at n s₀ (set (set s i (get_or s j 0)) j (get_or s i 0)) (i - 1) m
   unfolding part swap
-  turn-next j m p q z h =
+  turn_next j m p q z h =
       let a : i < n = omega (arith, v.column.low, v.valid.fits) in
       let b : j < n = omega arith in
       record {
@@ -261,8 +261,8 @@ module _ (ds : List ℕ) (at n : ℕ) (s₀ s : List ℕ) (i k : ℕ) (v : Turni
         rest = drop-set-lt n (set s i (get_or s j 0)) j (get_or s i 0) b ∙ drop-set-lt n s i (get_or s j 0) a ∙ v.rest;
       }
 
-  pub turn-taken : i ≤ 0 → k ≡ at + shuffle_draws (drop at ds) (items_at n s₀)
-  turn-taken h = mixed_taken n s₀ ds at k (mixing_taken ds at _ _ _ i k v.column h)
+  pub turn_taken : i ≤ 0 → k ≡ at + shuffle_draws (drop at ds) (items_at n s₀)
+  turn_taken h = mixed_taken n s₀ ds at k (mixing_taken ds at _ _ _ i k v.column h)
 
   pub turn_end : i ≤ 0 → HoldsSet n s (shuffle (drop at ds) (items_at n s₀))
   turn_end h =

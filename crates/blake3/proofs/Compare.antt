@@ -12,7 +12,7 @@ use Rattle.base_lists.specs.Lists.{same}
 use Rattle.base_lists.proofs.Bytes.{length_le}
 use Rattle.base_lists.proofs.Numbers.{Bytes, bytes_append, bytes_le, le_read, le_read_then}
 use Rattle.base_lists.proofs.Sets.{same_alike, same_no}
-use Rattle.base_lists.proofs.Slices.{slice-whole}
+use Rattle.base_lists.proofs.Slices.{slice_whole}
 use Rattle.blake3.specs.Blake3.{iv, chunk_start, block_length, out_length, compress, blocks, chunk, bytes_of_words, hash, quarters}
 
 -- ---- the hash is 32 bytes
@@ -52,16 +52,16 @@ rejoined l h w =
     let c : le 8 (read_le 8 l 16) ++ slice 24 32 l ≡ slice 16 32 l = le_read_then 8 l 16 32 h (omega arith) (omega (arith, w)) in
     let b : le 8 (read_le 8 l 8) ++ slice 16 32 l ≡ slice 8 32 l = le_read_then 8 l 8 32 h (omega arith) (omega (arith, w)) in
     let a : le 8 (read_le 8 l 0) ++ slice 8 32 l ≡ slice 0 32 l = le_read_then 8 l 0 32 h (omega arith) (omega (arith, w)) in
-    rw (d, c, b) (a ∙ ap (λ (k : ℕ). slice 0 k l) (sym w) ∙ slice-whole l)
+    rw (d, c, b) (a ∙ ap (λ (k : ℕ). slice 0 k l) (sym w) ∙ slice_whole l)
 
 module _ (l b : List ℕ) where
   -- equal numbers, equal bytes
-  pub same-hash : Bytes l → length l ≡ out_length → quarters l ≡ quarters (hash b) → l ≡ hash b
-  same-hash h w e = sym (rejoined l h w) ∙ ap joined e ∙ rejoined (hash b) (hash_bytes b) (hash_length b)
+  pub same_hash : Bytes l → length l ≡ out_length → quarters l ≡ quarters (hash b) → l ≡ hash b
+  same_hash h w e = sym (rejoined l h w) ∙ ap joined e ∙ rejoined (hash b) (hash_bytes b) (hash_length b)
 
   -- one test for both
   pub same_tests : Bytes l → length l ≡ out_length → same (quarters l) (quarters (hash b)) ≡ same l (hash b)
-  same_tests h w = same_alike _ _ _ _ (same-hash h w) (λ e. ap quarters e)
+  same_tests h w = same_alike _ _ _ _ (same_hash h w) (λ e. ap quarters e)
 
   -- bytes of another length are no hash
   pub other_length : (length l ≡ out_length → ⊥) → same l (hash b) ≡ false

@@ -12,7 +12,7 @@ use lib.ListN.{length, get_or, drop, length-drop}
 use lib.Seq.{get_or-drop}
 use Rattle.base_lists.specs.Array.{pad}
 use Rattle.base_lists.specs.Bytes.{le, read_le}
-use Rattle.base_lists.proofs.Array.{getD-filled, spell, spelled}
+use Rattle.base_lists.proofs.Array.{getD_filled, spell, spelled}
 use Rattle.base_lists.proofs.Numbers.{read_same}
 use Rattle.blake3.specs.declared.Quad.{Quad}
 use Rattle.blake3.specs.Blake3.{chunk_end, root, block_length, low_bits, rotate, half, message_words, quad_at, block_words, compress, blocks, chunk, bytes_of_words, quarters}
@@ -65,7 +65,7 @@ pub block_at : (l : List ℕ) (at : ℕ) → block_words (drop at l) ≡ message
 unfolding block_words message_words
 block_at l at =
     let r : (i : ℕ) → T (leb (i + 4) block_length) → read_le 4 (pad 0 block_length (drop at l)) (0 + i) ≡ read_le 4 l (at + i) =
-    λ i t. read_same 4 (pad 0 block_length (drop at l)) l (0 + i) (at + i) (λ n h. getD-filled 0 block_length (drop at l) (0 + i + n) (omega (arith, lit≤ {m = i + 4} {n = block_length} t)) ∙ get_or-drop at l (0 + i + n) 0 ∙ simp (zero-add, add_assoc)) in
+    λ i t. read_same 4 (pad 0 block_length (drop at l)) l (0 + i) (at + i) (λ n h. getD_filled 0 block_length (drop at l) (0 + i + n) (omega (arith, lit≤ {m = i + 4} {n = block_length} t)) ∙ get_or-drop at l (0 + i + n) 0 ∙ simp (zero-add, add_assoc)) in
     λ j. r 0 tt j ∷ r 4 tt j ∷ r 8 tt j ∷ r 12 tt j ∷ r 16 tt j ∷ r 20 tt j ∷ r 24 tt j ∷ r 28 tt j
     ∷ r 32 tt j ∷ r 36 tt j ∷ r 40 tt j ∷ r 44 tt j ∷ r 48 tt j ∷ r 52 tt j ∷ r 56 tt j ∷ r 60 tt j ∷ []
 
@@ -88,12 +88,12 @@ quartered h p q r s e es er eq ep =
 -- ---- the blocks of a chunk
 
 module _ (cv : List ℕ) (start : ℕ) (b : List ℕ) where
-  pub chunk-last : length b ≤ block_length → chunk cv start b ≡ compress cv (block_words b) (length b) (start + chunk_end + root)
+  pub chunk_last : length b ≤ block_length → chunk cv start b ≡ compress cv (block_words b) (length b) (start + chunk_end + root)
   unfolding chunk blocks
-  chunk-last h = let e : (length b - 1) / block_length ≡ 0 = omega arith in ap (λ (k : ℕ). blocks k cv start b) e
+  chunk_last h = let e : (length b - 1) / block_length ≡ 0 = omega arith in ap (λ (k : ℕ). blocks k cv start b) e
 
-  pub chunk-more : block_length < length b → chunk cv start b ≡ chunk (compress cv (block_words b) block_length start) 0 (drop block_length b)
+  pub chunk_more : block_length < length b → chunk cv start b ≡ chunk (compress cv (block_words b) block_length start) 0 (drop block_length b)
   unfolding chunk blocks
-  chunk-more h =
+  chunk_more h =
       let e : (length b - 1) / block_length ≡ suc ((length (drop block_length b) - 1) / block_length) = omega (arith, length-drop block_length b) in
       ap (λ (k : ℕ). blocks k cv start b) e

@@ -21,9 +21,9 @@ module _ (xs : List ℕ) (t : Tally) (me : ℕ) (d : Data) (c : Config) (code : 
   unfolding begun with_tally choose
   begun_kept e = let z : record { code = code; words = ys; tally = t } ≡ with_tally t (record { code = code; words = ys }) = rw (eq-eqb code 2 e) in z ∙ ap (with_tally t) is
 
-  pub begun-zeroes : (r : Tally) → (code ≡ 2 → ⊥) → r ≡ no_messages → record { code = code; words = ys; tally = r } ≡ begun xs t me d c
+  pub begun_zeroes : (r : Tally) → (code ≡ 2 → ⊥) → r ≡ no_messages → record { code = code; words = ys; tally = r } ≡ begun xs t me d c
   unfolding begun with_tally choose
-  begun-zeroes r e q = let z : record { code = code; words = ys; tally = r } ≡ with_tally t (record { code = code; words = ys }) = rw (ne_eqb code 2 e, q) in z ∙ ap (with_tally t) is
+  begun_zeroes r e q = let z : record { code = code; words = ys; tally = r } ≡ with_tally t (record { code = code; words = ys }) = rw (ne_eqb code 2 e, q) in z ∙ ap (with_tally t) is
 
 -- "a refusal changes none"
 pub refused_same : (side : Side) (xs : List ℕ) (t : Tally) (b ds : List ℕ) (room : ℕ) → ((called side xs t b ds room).code ≡ 0 → ⊥) → (called side xs t b ds room).tally ≡ t

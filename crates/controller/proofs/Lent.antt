@@ -2,7 +2,7 @@
 --     LentAgain      what the caller keeps during the first call
 --     lends_again    the slice is lent under a new name, for the lifetime κ' of the call
 --     comes_back     κ' is over, and the slice is the caller's, at the list that the callee left
---     shares-on      the slice is shared at its own lifetime, so its last list is the one that it holds
+--     shares_on      the slice is shared at its own lifetime, so its last list is the one that it holds
 -- Assumes `Logic`.
 use mathlib.Core.Path.{◌≡◌, sym, ap, subst}
 use Prim.Native.Nat.{ℕ}
@@ -28,8 +28,8 @@ use borrow.Table.Owned as O
 use borrow.Rule.Slice.Handed.{sl_Share}
 
 module _ (R : RattleType) (κ : Lft) (q : Share) (γ : GName) (b o : ℕ) where
-  abbrev at-list : GName → List R.Denot → MutBor (List R.Denot)
-  at-list δ ys = record { ref_ptr = (b, o); ghost_name = δ; now = ys }
+  abbrev at_list : GName → List R.Denot → MutBor (List R.Denot)
+  at_list δ ys = record { ref_ptr = (b, o); ghost_name = δ; now = ys }
 
   abbrev pub LentAgain : Lft → GName → List R.Denot → Fml
   LentAgain κ' δ ys = fsep (flent κ' (Held R (length ys) b o δ)) (fsep (fobor κ q (Held R (length ys) b o γ)) (fsep (fobs γ ((coded_holeys R).code (heres R ys))) (fauth γ ((coded_holeys R).code (heres R ys)))))
@@ -40,28 +40,28 @@ module _ (R : RattleType) (κ : Lft) (q : Share) (γ : GName) (b o : ℕ) where
     abbrev vals : List Val
     vals = slice_val (b, o) (length ys) ∷ []
 
-    pub lends_again : (κ' : Lft) → ent 𝓤 (sep 𝓤 (sem 𝓛 ((MutSlice ℓ κ R).own_val (at-list γ ys) vals)) (A.lft κ q))
-        (H.⇛ (ex 𝓤 (λ (δ : GName). sep 𝓤 (sem 𝓛 ((MutSlice ℓ' κ' R).own_val (at-list δ ys) vals)) (sem 𝓛 (LentAgain κ' δ ys)))))
+    pub lends_again : (κ' : Lft) → ent 𝓤 (sep 𝓤 (sem 𝓛 ((MutSlice ℓ κ R).own_val (at_list γ ys) vals)) (A.lft κ q))
+        (H.⇛ (ex 𝓤 (λ (δ : GName). sep 𝓤 (sem 𝓛 ((MutSlice ℓ' κ' R).own_val (at_list δ ys) vals)) (sem 𝓛 (LentAgain κ' δ ys)))))
     lends_again κ' =
-        qed 𝓛 (‵ ((MutSlice ℓ κ R).own_val (at-list γ ys) vals) ∷ ‵ (flft κ q) ∷ []) ∵ updating ! $ fsplit ! $ pure_l ! (mut_slice_at R (at-list γ ys) vals) (λ p. fsplit ! $ opens_slice ! tt R ys b o $
+        qed 𝓛 (‵ ((MutSlice ℓ κ R).own_val (at_list γ ys) vals) ∷ ‵ (flft κ q) ∷ []) ∵ updating ! $ fsplit ! $ pure_l ! (mut_slice_at R (at_list γ ys) vals) (λ p. fsplit ! $ opens_slice ! tt R ys b o $
         use1 𝓛 (‵ (cells (mem R) ys b o)) (whole_in 𝓛 R ys b o) $
-        use1 𝓛 (later (some (λ (δ : GName). ‵ ((MutSlice ℓ' κ' R).own_val (at-list δ ys) vals) ⊛ ‵ (flent κ' (Held R (length ys) b o δ))))) (lends_slice 𝓛 R ℓ' κ' ys b o p.1) $ await ! tt $ pick ! (λ δ. split ! $
+        use1 𝓛 (later (some (λ (δ : GName). ‵ ((MutSlice ℓ' κ' R).own_val (at_list δ ys) vals) ⊛ ‵ (flent κ' (Held R (length ys) b o δ))))) (lends_slice 𝓛 R ℓ' κ' ys b o p.1) $ await ! tt $ pick ! (λ δ. split ! $
         -- [the new slice; the lender's part; the open borrow; obs; auth]
-        at_once ! $ show ! (λ (δ' : GName). sep 𝓤 (sem 𝓛 ((MutSlice ℓ' κ' R).own_val (at-list δ' ys) vals)) (sem 𝓛 (LentAgain κ' δ' ys))) δ $ frame ! $
+        at_once ! $ show ! (λ (δ' : GName). sep 𝓤 (sem 𝓛 ((MutSlice ℓ' κ' R).own_val (at_list δ' ys) vals)) (sem 𝓛 (LentAgain κ' δ' ys))) δ $ frame ! $
         move ! (2 ∷ 3 ∷ []) $ fjoin ! $ move ! (2 ∷ 0 ∷ []) $ fjoin ! $ move ! (1 ∷ 0 ∷ []) $ fjoin ! $ done !))
 
     pub comes_back : (κ' : Lft) (δ : GName) (zs : List R.Denot) → Room R (length ys) → length zs ≡ length ys
-        → ent 𝓤 (sep 𝓤 (A.dead κ') (sep 𝓤 (sem 𝓛 (LentAgain κ' δ ys)) (sem 𝓛 (finally R δ zs)))) (H.⇛ (sep 𝓤 (sem 𝓛 ((MutSlice ℓ κ R).own_val (at-list γ zs) vals)) (A.lft κ q)))
+        → ent 𝓤 (sep 𝓤 (A.dead κ') (sep 𝓤 (sem 𝓛 (LentAgain κ' δ ys)) (sem 𝓛 (finally R δ zs)))) (H.⇛ (sep 𝓤 (sem 𝓛 ((MutSlice ℓ κ R).own_val (at_list γ zs) vals)) (A.lft κ q)))
     comes_back κ' δ zs room e =
         qed 𝓛 (‵ (fdead κ') ∷ ‵ (LentAgain κ' δ ys) ∷ ‵ (finally R δ zs) ∷ []) ∵ updating ! $ move ! (1 ∷ []) $ fsplit ! $ move ! (2 ∷ 0 ∷ 3 ∷ []) $
         use3 𝓛 (later (‵ ((Arr (mem R) (length ys)).own_at zs b o))) (slice_back 𝓛 R κ' δ zs (length ys) b o) $ await ! tt $ fsplit ! $ drop ! $ use1 𝓛 (‵ (row R full_share zs b o)) (whole_out 𝓛 R zs b o) $
         move ! (1 ∷ []) $ fsplit ! $ move ! (1 ∷ []) $ fsplit ! $ move ! (3 ∷ 2 ∷ 0 ∷ 1 ∷ []) $ closes_slice ! tt R ys zs e b o $ at_once ! $
-        fjoin ! $ pure_i ! (mut_slice_at R (at-list γ zs) vals) (tt, (tt, tt)) (ap (λ (m : ℕ). slice_val (b, o) m ∷ []) (sym e), subst (Room R) (sym e) room) $ fjoin ! $ done !
+        fjoin ! $ pure_i ! (mut_slice_at R (at_list γ zs) vals) (tt, (tt, tt)) (ap (λ (m : ℕ). slice_val (b, o) m ∷ []) (sym e), subst (Room R) (sym e) room) $ fjoin ! $ done !
 
-    pub shares-on : (zs : List R.Denot) → ent 𝓤 (sep 𝓤 (sem 𝓛 ((MutSlice ℓ κ R).own_val (at-list γ zs) vals)) (A.lft κ q))
-        (H.⇛ (ex 𝓤 (λ (δ : GName). sep 𝓤 (sem 𝓛 ((ShrSlice ℓ' κ R).own_val (at-list δ zs) vals)) (sep 𝓤 (sem 𝓛 (finally R γ zs)) (A.lft κ q)))))
-    shares-on zs =
-        qed 𝓛 (‵ ((MutSlice ℓ κ R).own_val (at-list γ zs) vals) ∷ ‵ (flft κ q) ∷ []) ∵ updating ! $ fsplit ! $ fsplit ! $ feq_l ! (λ e. fjoin ! $
-        use2 𝓛 (later (some (λ (δ : GName). ‵ ((O.ShrSlice erased κ R).own (at-list δ zs)) ⊛ (‵ (finally R γ zs) ⊛ ‵ (flft κ q))))) (sl_Share 𝓛 R b o γ zs κ q) $ await ! tt $ pick ! (λ δ. split ! $
-        fsplit ! $ feq_i ! (List Val) vals (shr_slice_vals (at-list δ zs)) e $ fjoin ! $ fjoin ! $
-        at_once ! $ show ! (λ (δ' : GName). sep 𝓤 (sem 𝓛 ((ShrSlice ℓ' κ R).own_val (at-list δ' zs) vals)) (sep 𝓤 (sem 𝓛 (finally R γ zs)) (A.lft κ q))) δ $ done !))
+    pub shares_on : (zs : List R.Denot) → ent 𝓤 (sep 𝓤 (sem 𝓛 ((MutSlice ℓ κ R).own_val (at_list γ zs) vals)) (A.lft κ q))
+        (H.⇛ (ex 𝓤 (λ (δ : GName). sep 𝓤 (sem 𝓛 ((ShrSlice ℓ' κ R).own_val (at_list δ zs) vals)) (sep 𝓤 (sem 𝓛 (finally R γ zs)) (A.lft κ q)))))
+    shares_on zs =
+        qed 𝓛 (‵ ((MutSlice ℓ κ R).own_val (at_list γ zs) vals) ∷ ‵ (flft κ q) ∷ []) ∵ updating ! $ fsplit ! $ fsplit ! $ feq_l ! (λ e. fjoin ! $
+        use2 𝓛 (later (some (λ (δ : GName). ‵ ((O.ShrSlice erased κ R).own (at_list δ zs)) ⊛ (‵ (finally R γ zs) ⊛ ‵ (flft κ q))))) (sl_Share 𝓛 R b o γ zs κ q) $ await ! tt $ pick ! (λ δ. split ! $
+        fsplit ! $ feq_i ! (List Val) vals (shr_slice_vals (at_list δ zs)) e $ fjoin ! $ fjoin ! $
+        at_once ! $ show ! (λ (δ' : GName). sep 𝓤 (sem 𝓛 ((ShrSlice ℓ' κ R).own_val (at_list δ' zs) vals)) (sep 𝓤 (sem 𝓛 (finally R γ zs)) (A.lft κ q))) δ $ done !))

@@ -17,7 +17,7 @@ use Rattle.record.specs.Format.{header_length, node_length}
 use Rattle.record.specs.Read.{well_formed, header_of, entry_at}
 use Rattle.record.specs.Answers.{answer}
 use Rattle.record.proofs.Laws.{Found, answer_found}
-use Rattle.record.proofs.Nodes.{entry-room}
+use Rattle.record.proofs.Nodes.{entry_room}
 use Rattle.controller.specs.declared.NodeReading.{NodeReading}
 use Rattle.controller.specs.Reader.{no_header, reading, no_entry, node_reading}
 
@@ -34,26 +34,26 @@ module _ (b : List ℕ) (a : Answer) (p : a ≡ answer b) where
     found : Found b h
     found = answer_found b h (sym p ∙ q)
 
-    pub read-record : record { ok = true; header = h } ≡ reading b
+    pub read_record : record { ok = true; header = h } ≡ reading b
     unfolding reading choose
-    read-record = rw (found.header, found.well)
+    read_record = rw (found.header, found.well)
 
-    pub node-room : (i : ℕ) → i < h.nodes → header_length + node_length * i + node_length ≤ length b
-    node-room i l = entry-room b i found.well (rw (← found.header) l)
+    pub node_room : (i : ℕ) → i < h.nodes → header_length + node_length * i + node_length ≤ length b
+    node_room i l = entry_room b i found.well (rw (← found.header) l)
 
-    pub node-there : (i : ℕ) (e : Entry) → i < h.nodes → e ≡ entry_at b i → record { ok = true; node = e } ≡ node_reading b i
+    pub node_there : (i : ℕ) (e : Entry) → i < h.nodes → e ≡ entry_at b i → record { ok = true; node = e } ≡ node_reading b i
     unfolding node_reading choose
-    node-there i e l r = rw (r, found.well, lt-ltb i (header_of b).nodes (rw (← found.header) l))
+    node_there i e l r = rw (r, found.well, lt-ltb i (header_of b).nodes (rw (← found.header) l))
 
-    pub node-past : (i : ℕ) (r : NodeReading) → h.nodes ≤ i → r ≡ no_entry → r ≡ node_reading b i
+    pub node_past : (i : ℕ) (r : NodeReading) → h.nodes ≤ i → r ≡ no_entry → r ≡ node_reading b i
     unfolding node_reading choose
-    node-past i r l e = rw (e, found.well, le-ltb i (header_of b).nodes (rw (← found.header) l))
+    node_past i r l e = rw (e, found.well, le-ltb i (header_of b).nodes (rw (← found.header) l))
 
   module _ (q : a ≡ Malformed) where
-    pub read-nothing : (h : Header) → h ≡ no_header → record { ok = false; header = h } ≡ reading b
+    pub read_nothing : (h : Header) → h ≡ no_header → record { ok = false; header = h } ≡ reading b
     unfolding reading choose
-    read-nothing h e = rw (e, malformed b (sym p ∙ q))
+    read_nothing h e = rw (e, malformed b (sym p ∙ q))
 
-    pub node-nothing : (i : ℕ) (r : NodeReading) → r ≡ no_entry → r ≡ node_reading b i
+    pub node_nothing : (i : ℕ) (r : NodeReading) → r ≡ no_entry → r ≡ node_reading b i
     unfolding node_reading choose
-    node-nothing i r e = rw (e, malformed b (sym p ∙ q))
+    node_nothing i r e = rw (e, malformed b (sym p ∙ q))

@@ -50,13 +50,13 @@ pub numbering_start : (number : ℕ) (b : List ℕ) → number < digest_end → 
 numbering_start number b h = record { low = h; reached = omega arith; same = refl }
 
 module _ (number : ℕ) (b : List ℕ) (k at : ℕ) (v : Numbering number b k at) where
-  pub numbering-next : at < length b → Numbering number b ((k * 257 + get_or b at 0 + 1) % digest_end) (at + 1)
+  pub numbering_next : at < length b → Numbering number b ((k * 257 + get_or b at 0 + 1) % digest_end) (at + 1)
   unfolding next_number next_byte
-  numbering-next h = record { low = omega arith; reached = omega arith; same = v.same ∙ ap (next_number k) (drop-cons b at 0 h ∙ ap (λ (n : ℕ). get_or b at 0 ∷ drop n b) (sym (add-one at))) }
+  numbering_next h = record { low = omega arith; reached = omega arith; same = v.same ∙ ap (next_number k) (drop-cons b at 0 h ∙ ap (λ (n : ℕ). get_or b at 0 ∷ drop n b) (sym (add-one at))) }
 
-  pub numbering-end : length b ≤ at → k ≡ next_number number b
+  pub numbering_end : length b ≤ at → k ≡ next_number number b
   unfolding next_number
-  numbering-end h = sym (v.same ∙ ap (next_number k) (drop_of_length-le b {i = at} h))
+  numbering_end h = sym (v.same ∙ ap (next_number k) (drop_of_length-le b {i = at} h))
 
 -- ---- lists of histories
 
@@ -140,11 +140,11 @@ extending_start s k left c f r l = record {
 }
 
 module _ (s : State) (k left : ℕ) (c sum : Ends) (i : ℕ) (v : Extending s k left c sum i) (h : i < 16) where
-  pub extending-room : CountRoom sum (length (of_length event_records (left - 1)))
-  extending-room = room_first sum _ (length (to_come (i + 1) (left - 1))) (subst (CountRoom sum) (come_length i (left - 1) h) v.room)
+  pub extending_room : CountRoom sum (length (of_length event_records (left - 1)))
+  extending_room = room_first sum _ (length (to_come (i + 1) (left - 1))) (subst (CountRoom sum) (come_length i (left - 1) h) v.room)
 
-  pub extending-next : (next : State) (j : ℕ) (r : Ends) → next ≡ played (encode (event_at i)) s → j ≡ next_number k (encode (event_at i)) → r ≡ counted_on next j sum (of_length event_records (left - 1)) → Extending s k left c r (i + 1)
-  extending-next next j r e f q =
+  pub extending_next : (next : State) (j : ℕ) (r : Ends) → next ≡ played (encode (event_at i)) s → j ≡ next_number k (encode (event_at i)) → r ≡ counted_on next j sum (of_length event_records (left - 1)) → Extending s k left c r (i + 1)
+  extending_next next j r e f q =
       let n = left - 1 in
       let b = encode (event_at i) in
       let hs = of_length event_records n in
@@ -215,8 +215,8 @@ unfolding counted_on
 counting_start s e = record { begun = e; low = omega arith; same = refl }
 
 module _ (s : State) (sum : Ends) (n : ℕ) (v : Counting s sum n) (h : n < 5) where
-  pub counting-room : CountRoom sum (length (of_length event_records n))
-  counting-room =
+  pub counting_room : CountRoom sum (length (of_length event_records n))
+  counting_room =
       let all = ap length (shorter_next n) ∙ length-append (shorter n) (of_length event_records n) in
       let most = few n (omega arith) in
       subst (λ (c : Ends). CountRoom c (length (of_length event_records n))) (sym v.same) (room_less s 0 (shorter n) (length (of_length event_records n)) none_counted (record {
@@ -227,8 +227,8 @@ module _ (s : State) (sum : Ends) (n : ℕ) (v : Counting s sum n) (h : n < 5) w
         digest = omega arith;
       }))
 
-  pub counting-next : (r : Ends) → r ≡ counted_on s 0 sum (of_length event_records n) → Counting s r (n + 1)
-  counting-next r q =
+  pub counting_next : (r : Ends) → r ≡ counted_on s 0 sum (of_length event_records n) → Counting s r (n + 1)
+  counting_next r q =
       let one-more-length : suc n ≡ n + 1 = omega arith in
       record {
         begun = v.begun;

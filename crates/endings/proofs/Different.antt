@@ -10,7 +10,7 @@ use Rattle.base_lists.specs.Lists.{choose, same}
 use Rattle.base_peer.specs.Data.{bytes_of}
 use Rattle.record.specs.Format.{present, offset, entry_by, entries_by, datas, size_by, header_by, encode_by}
 use Rattle.spec_stories.specs.Histories.{History, among, differ, is_history, times, before, ordered}
-use Rattle.spec_stories.proofs.Once.{exactly-once, how_many as histories-in-all}
+use Rattle.spec_stories.proofs.Once.{exactly_once, how_many as histories-in-all}
 use Rattle.spec_stories.proofs.Order.{in_order}
 use Rattle.endings.specs.Events.{of_peer, events, event_records}
 use Rattle.endings.specs.Ends.{events_in_all, longest_history, all_histories}
@@ -26,7 +26,7 @@ all_differ = refl
 -- "Each is proved to appear exactly one time", and nothing else does: of lists of records
 pub appears_once : (h : History) → times h all_histories ≡ choose (is_history event_records longest_history h) 1 0
 unfolding all_histories
-appears_once h = exactly-once event_records all_differ longest_history h
+appears_once h = exactly_once event_records all_differ longest_history h
 
 -- "shorter first, then by the order of events"
 pub listed_in_order : ordered (before event_records) all_histories ≡ true

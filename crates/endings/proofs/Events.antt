@@ -14,7 +14,7 @@ use Rattle.record.specs.Kinds.{DoMaintenance, PeerDisconnected, RequestJoin, Qui
 use Rattle.base_lists.specs.Bytes.{overwrite}
 use Rattle.base_lists.specs.Tests.{every}
 use Rattle.base_lists.proofs.Choice.{split, choose_yes, and_left, and_right}
-use Rattle.base_lists.proofs.Stored.{take-stored}
+use Rattle.base_lists.proofs.Stored.{take_stored}
 use Rattle.base_timing.specs.Timing.{default}
 use Rattle.base_timing.specs.declared.Config.{Config}
 use Rattle.base_peer.specs.Data.{Data, bytes_of}
@@ -50,34 +50,34 @@ down : (i n : ℕ) → i < suc n → (i ≡ n → ⊥) → i < n
 down i n h f = split (ltb i n) (λ t. ltb-true i n t) (λ t. absurd (f (omega (arith, ltb-false i n t))))
 
 module _ (p i : ℕ) (out : List ℕ) (r : Written) (o : List ℕ) where
-  pub at-0 : i ≡ 0 → Wrote (event (kind_byte RequestJoin) 0 0 p []) 0 out r o → Wrote (get_or (of_peer p) i quit) 0 out r o
+  pub at_0 : i ≡ 0 → Wrote (event (kind_byte RequestJoin) 0 0 p []) 0 out r o → Wrote (get_or (of_peer p) i quit) 0 out r o
   unfolding of_peer
-  at-0 h w = rw h w
+  at_0 h w = rw h w
 
   pub at_1 : i ≡ 1 → Wrote (message_event 0 0 p no_data_node) 0 out r o → Wrote (get_or (of_peer p) i quit) 0 out r o
   unfolding of_peer
   at_1 h w = rw h w
 
-  pub at-2 : i ≡ 2 → Wrote (message_event 4 1 p no_data_node) 0 out r o → Wrote (get_or (of_peer p) i quit) 0 out r o
+  pub at_2 : i ≡ 2 → Wrote (message_event 4 1 p no_data_node) 0 out r o → Wrote (get_or (of_peer p) i quit) 0 out r o
   unfolding of_peer
-  at-2 h w = rw h w
+  at_2 h w = rw h w
 
-  pub at-3 : i ≡ 3 → Wrote (message_event 4 0 p no_data_node) 0 out r o → Wrote (get_or (of_peer p) i quit) 0 out r o
+  pub at_3 : i ≡ 3 → Wrote (message_event 4 0 p no_data_node) 0 out r o → Wrote (get_or (of_peer p) i quit) 0 out r o
   unfolding of_peer
-  at-3 h w = rw h w
+  at_3 h w = rw h w
 
-  pub at-4 : i ≡ 4 → Wrote (message_event 5 1 p []) 0 out r o → Wrote (get_or (of_peer p) i quit) 0 out r o
+  pub at_4 : i ≡ 4 → Wrote (message_event 5 1 p []) 0 out r o → Wrote (get_or (of_peer p) i quit) 0 out r o
   unfolding of_peer
-  at-4 h w = rw h w
+  at_4 h w = rw h w
 
   pub at_5 : i ≡ 5 → Wrote (message_event 5 0 p []) 0 out r o → Wrote (get_or (of_peer p) i quit) 0 out r o
   unfolding of_peer
   at_5 h w = rw h w
 
-  pub at-6 : i < 7 → (i ≡ 0 → ⊥) → (i ≡ 1 → ⊥) → (i ≡ 2 → ⊥) → (i ≡ 3 → ⊥) → (i ≡ 4 → ⊥) → (i ≡ 5 → ⊥)
+  pub at_6 : i < 7 → (i ≡ 0 → ⊥) → (i ≡ 1 → ⊥) → (i ≡ 2 → ⊥) → (i ≡ 3 → ⊥) → (i ≡ 4 → ⊥) → (i ≡ 5 → ⊥)
       → Wrote (event (kind_byte PeerDisconnected) 0 0 p []) 0 out r o → Wrote (get_or (of_peer p) i quit) 0 out r o
   unfolding of_peer
-  at-6 h f0 f1 f2 f3 f4 f5 w = rw (six (λ l. down i 0 (down i 1 (down i 2 (down i 3 (down i 4 (down i 5 l f5) f4) f3) f2) f1) f0)) w
+  at_6 h f0 f1 f2 f3 f4 f5 w = rw (six (λ l. down i 0 (down i 1 (down i 2 (down i 3 (down i 4 (down i 5 l f5) f4) f3) f2) f1) f0)) w
     where
       six : (i < 6 → i < 0) → i ≡ 6
       six never = split (ltb i 6) (λ t. absurd (omega (arith, never (ltb-true i 6 t)))) (λ t. omega (arith, h, ltb-false i 6 t))
@@ -96,13 +96,13 @@ module _ (i : ℕ) (out : List ℕ) (r : Written) (o : List ℕ) where
       ∙ (get_or-append-add (of_peer 2) (of_peer 3 ++ (maintenance ∷ quit ∷ [])) (i - 7) quit ∙ get_or-append (of_peer 3) (maintenance ∷ quit ∷ []) quit (i - 7) (omega arith)) in
       subst (λ (e : Rec). Wrote e 0 out r o) (sym there) w
 
-  pub at-14 : i ≡ 14 → Wrote (event (kind_byte DoMaintenance) 0 0 0 []) 0 out r o → Wrote (event_at i) 0 out r o
+  pub at_14 : i ≡ 14 → Wrote (event (kind_byte DoMaintenance) 0 0 0 []) 0 out r o → Wrote (event_at i) 0 out r o
   unfolding event_at events of_peer
-  at-14 h w = rw h w
+  at_14 h w = rw h w
 
-  pub at-15 : i < 16 → 14 ≤ i → (i ≡ 14 → ⊥) → Wrote (event (kind_byte Quit) 0 0 0 []) 0 out r o → Wrote (event_at i) 0 out r o
+  pub at_15 : i < 16 → 14 ≤ i → (i ≡ 14 → ⊥) → Wrote (event (kind_byte Quit) 0 0 0 []) 0 out r o → Wrote (event_at i) 0 out r o
   unfolding event_at events of_peer
-  at-15 h l f w = rw (split (ltb 14 i) (λ t. let k : i ≡ 15 = omega (arith, h, ltb-true 14 i t) in k) (λ t. absurd (f (omega (arith, l, ltb-false 14 i t))))) w
+  at_15 h l f w = rw (split (ltb 14 i) (λ t. let k : i ≡ 15 = omega (arith, h, ltb-true 14 i t) in k) (λ t. absurd (f (omega (arith, l, ltb-false 14 i t))))) w
 
 -- ---- the new station
 
@@ -153,8 +153,8 @@ module _ (i : ℕ) (out : List ℕ) (long : length out ≡ longest) (w : Written
   unfolding written fits
   stored = h.bytes ∙ choose_yes _ _ _ fitting
 
-  pub full-never : w ≡ Full → ⊥
-  full-never e = let f : At (0 + size (event_at i)) ≡ Full = sym fit ∙ e in let z : ◌≡◌ {A = ℕ} 0 1 = cc in omega arith
+  pub full_never : w ≡ Full → ⊥
+  full_never e = let f : At (0 + size (event_at i)) ≡ Full = sym fit ∙ e in let z : ◌≡◌ {A = ℕ} 0 1 = cc in omega arith
 
   reaches : (n : ℕ) → w ≡ At n → 0 + size (event_at i) ≡ n
   reaches n e = let g : At (0 + size (event_at i)) ≡ At n = sym fit ∙ e in cc
@@ -162,11 +162,11 @@ module _ (i : ℕ) (out : List ℕ) (long : length out ≡ longest) (w : Written
   pub few_bytes : (n : ℕ) → w ≡ At n → n ≤ longest
   few_bytes n e = subst (λ (k : ℕ). k ≤ longest) (reaches n e) (leb-true _ _ (small i))
 
-  pub the-bytes : (n : ℕ) → w ≡ At n → take n b ≡ encode (event_at i)
-  the-bytes n e =
+  pub the_bytes : (n : ℕ) → w ≡ At n → take n b ≡ encode (event_at i)
+  the_bytes n e =
       let whole = length_encode (event_at i) in
       let k : 0 + length (encode (event_at i)) ≡ n = omega (arith, whole, reaches n e) in
-      rw (← k, stored) (take-stored out 0 (encode (event_at i)) (omega (arith, whole, leb-true (0 + size (event_at i)) (length out) fitting)))
+      rw (← k, stored) (take_stored out 0 (encode (event_at i)) (omega (arith, whole, leb-true (0 + size (event_at i)) (length out) fitting)))
 
 pub plays : (i : ℕ) (s : State) (b : List ℕ) (n : ℕ) (a : HandledState) (o : List ℕ) → take n b ≡ encode (event_at i) → record { code = a.code; draws = a.draws; words = a.state.words; output = o } ≡ handled s.words (take n b) (replicate 512 0) (length {A = ℕ} (replicate 8192 0)) → a.state ≡ played (encode (event_at i)) s
 unfolding played program_outcome handled handled_from handle_from draws output

@@ -88,9 +88,9 @@ module _ (h : History) (b : All Bytes h) where
   rules : station_ok (ended h) ≡ true
   rules = subst (λ (s : Station). station_ok s ≡ true) (sym (by_calls definition h b first)) holds.rules_hold
 
-  packed-after : after_history value_program h first_state ≡ record { words = pack (ended h) }
+  packed_after : after_history value_program h first_state ≡ record { words = pack (ended h) }
   unfolding first first_state lent choose
-  packed-after =
+  packed_after =
       by_calls value_program h b first_state
       ∙ (states_same 1 (false, []) tiny narrow value_taken (calls h b) ∙ ap (λ (s : Station). record { words = pack s }) (sym (by_calls definition h b first)))
 
@@ -108,8 +108,8 @@ same_sizes : (h : History) → All Bytes h → sizes_in first_state h ≡ sizes_
 unfolding sizes_in sizes_after
 same_sizes h b =
     let t = rules h b in
-    let a = ap (λ (s : State). length (neighbors_in s.words)) (packed-after h b) ∙ ap length (neighbors_packed (ended h) t) in
-    let p = ap (λ (s : State). spare_addresses_in s.words) (packed-after h b) ∙ spare_packed (ended h) t in
+    let a = ap (λ (s : State). length (neighbors_in s.words)) (packed_after h b) ∙ ap length (neighbors_packed (ended h) t) in
+    let p = ap (λ (s : State). spare_addresses_in s.words) (packed_after h b) ∙ spare_packed (ended h) t in
     λ i. (a i, p i)
 
 many_same : (y z : Sizes) → ((h : History) → All Bytes h → y h ≡ z h) → (a p : ℕ) (hs : List History) → All (All Bytes) hs → how_many y a p hs ≡ how_many z a p hs

@@ -34,30 +34,30 @@ wanted_is xs p a q j x y z = λ i. x i || (y i || z i)
 
 module _ (xs : List ℕ) (b : Bool) (e : b ≡ state_ok xs) where
   -- words that pass the test may be read
-  pub ok-packed : b ≡ true → PackedState xs
-  ok-packed h = (ok_state xs (sym e ∙ h)).packed
+  pub ok_packed : b ≡ true → PackedState xs
+  ok_packed h = (ok_state xs (sym e ∙ h)).packed
 
-  pub ok-long : b ≡ true → length xs ≡ layout.words
-  ok-long h = long (ok-packed h)
+  pub ok_long : b ≡ true → length xs ≡ layout.words
+  ok_long h = long (ok_packed h)
 
-  pub ok-room : (k : ℕ) → b ≡ true → k ≤ layout.words → k ≤ length xs
-  ok-room k h l = omega (arith, ok-long h)
+  pub ok_room : (k : ℕ) → b ≡ true → k ≤ layout.words → k ≤ length xs
+  ok_room k h l = omega (arith, ok_long h)
 
   pub wanted : (p : ℕ) (a : Bool) → b ≡ true → a ≡ wants_connection p (unpack xs) → a ≡ wants_connection_in p xs
   unfolding wants_connection_in
   wanted p a h x = asked_yes (state_ok xs) _ _ (sym e ∙ h) x
 
-  pub wanted-not : (p : ℕ) → b ≡ false → false ≡ wants_connection_in p xs
+  pub wanted_not : (p : ℕ) → b ≡ false → false ≡ wants_connection_in p xs
   unfolding wants_connection_in
-  wanted-not p h = asked_no (state_ok xs) _ (sym e ∙ h)
+  wanted_not p h = asked_no (state_ok xs) _ (sym e ∙ h)
 
   pub met : (p : ℕ) (a : Bool) → b ≡ true → a ≡ in_active p (unpack xs) → a ≡ is_neighbor_in p xs
   unfolding is_neighbor_in is_neighbor
   met p a h x = asked_yes (state_ok xs) _ _ (sym e ∙ h) x
 
-  pub met-not : (p : ℕ) → b ≡ false → false ≡ is_neighbor_in p xs
+  pub met_not : (p : ℕ) → b ≡ false → false ≡ is_neighbor_in p xs
   unfolding is_neighbor_in
-  met-not p h = asked_no (state_ok xs) _ (sym e ∙ h)
+  met_not p h = asked_no (state_ok xs) _ (sym e ∙ h)
 
   there : b ≡ true → (unpack xs).active ≡ neighbors_in xs
   unfolding neighbors_in
@@ -84,6 +84,6 @@ module _ (xs : List ℕ) (b : Bool) (e : b ≡ state_ok xs) where
   unfolding spare_addresses_in spare_addresses unpack station_of
   spares n h q = q ∙ sym (choose_yes (state_ok xs) _ _ (sym e ∙ h))
 
-  pub spares-none : b ≡ false → 0 ≡ spare_addresses_in xs
+  pub spares_none : b ≡ false → 0 ≡ spare_addresses_in xs
   unfolding spare_addresses_in
-  spares-none h = sym (choose_no (state_ok xs) _ _ (sym e ∙ h))
+  spares_none h = sym (choose_no (state_ok xs) _ _ (sym e ∙ h))

@@ -18,15 +18,15 @@ pub copy_start : (a b : List ℕ) → length a ≡ length b → Copying a b 0
 copy_start a b e = record { low = omega arith; long = e; same = refl }
 
 module _ (a b : List ℕ) (i : ℕ) (v : Copying a b i) where
-  pub copy-next : i < length b → Copying a (set b i (get_or a i 0)) (i + 1)
-  copy-next h = record {
+  pub copy_next : i < length b → Copying a (set b i (get_or a i 0)) (i + 1)
+  copy_next h = record {
     low = omega (arith, length-set b i (get_or a i 0));
     long = v.long ∙ sym (length-set b i (get_or a i 0));
     same = rw (add-one i) (take-suc-set b i (get_or a i 0) h ∙ ap (λ (l : List ℕ). l ++ (get_or a i 0 ∷ [])) v.same ∙ sym (take-suc a i 0 (omega (arith, v.long))));
   }
 
-  pub copy-end : length b ≤ i → b ≡ a
-  copy-end h = sym (take_all i b h) ∙ v.same ∙ take_all i a (omega (arith, v.long))
+  pub copy_end : length b ≤ i → b ≡ a
+  copy_end h = sym (take_all i b h) ∙ v.same ∙ take_all i a (omega (arith, v.long))
 
 pub record Clearing (out₀ : List ℕ) (from : ℕ) (out : List ℕ) (i : ℕ) : Type 0 where
   pub low : from ≤ i
@@ -50,8 +50,8 @@ module _ (out₀ : List ℕ) (from : ℕ) (out : List ℕ) (i : ℕ) (v : Cleari
         same = rw (add-one i) (take-suc-set out i 0 h) ∙ ap (λ (l : List ℕ). l ++ (0 ∷ [])) v.same ∙ append_assoc (take from out₀) (replicate (i - from) 0) (0 ∷ []) ∙ ap (λ (l : List ℕ). take from out₀ ++ l) (replicate-append-replicate (i - from) 1 0 ∙ ap (λ (n : ℕ). replicate n 0) k);
       }
 
-  pub clear-end : length out ≤ i → out ≡ cleared from out₀
+  pub clear_end : length out ≤ i → out ≡ cleared from out₀
   unfolding cleared
-  clear-end h =
+  clear_end h =
       let e : i ≡ length out₀ = omega (arith, v.long, v.high) in
       sym (take_all i out h) ∙ v.same ∙ ap (λ (n : ℕ). take from out₀ ++ replicate (n - from) 0) e

@@ -23,14 +23,14 @@ all_zero xs k out o e =
     ap (λ (l : List ℕ). record { code = k; draws = 0; words = xs; output = l }) (e ∙ ap (λ (n : ℕ). replicate n 0) z)
 
 module _ (old : List ℕ) (w : Work) (ys out o : List ℕ) where
-  pub ended-refused : (zs : List ℕ) (r : Done) → (w.code ≡ 0 → ⊥) → zs ≡ old → record { code = r.code; draws = r.draws; words = zs; output = o } ≡ refused_words w.code zs (length out)
+  pub ended_refused : (zs : List ℕ) (r : Done) → (w.code ≡ 0 → ⊥) → zs ≡ old → record { code = r.code; draws = r.draws; words = zs; output = o } ≡ refused_words w.code zs (length out)
       → record { code = r.code; draws = r.draws; words = zs; output = o } ≡ ended old w ys out
   unfolding ended
-  ended-refused zs r h q e = e ∙ (ap (λ (l : List ℕ). refused_words w.code l (length out)) q ∙ sym (choose_no _ _ _ (ne_eqb _ _ h)))
+  ended_refused zs r h q e = e ∙ (ap (λ (l : List ℕ). refused_words w.code l (length out)) q ∙ sym (choose_no _ _ _ (ne_eqb _ _ h)))
 
-  pub ended-accepted : w.code ≡ 0 → o ≡ cleared w.written out → record { code = 0; draws = w.drawn; words = ys; output = o } ≡ ended old w ys out
+  pub ended_accepted : w.code ≡ 0 → o ≡ cleared w.written out → record { code = 0; draws = w.drawn; words = ys; output = o } ≡ ended old w ys out
   unfolding ended
-  ended-accepted h e = ap (λ (l : List ℕ). record { code = 0; draws = w.drawn; words = ys; output = l }) e ∙ sym (choose_yes _ _ _ (eq-eqb _ _ h))
+  ended_accepted h e = ap (λ (l : List ℕ). record { code = 0; draws = w.drawn; words = ys; output = l }) e ∙ sym (choose_yes _ _ _ (eq-eqb _ _ h))
 
 -- `new` on as many words as a state has
 pub made_whole : (xs : List ℕ) (me : ℕ) (d : Data) (c : Config) (r : MadeWords) → length xs ≡ layout.words → r ≡ made xs me d c → r ≡ pack_made (new me d c)

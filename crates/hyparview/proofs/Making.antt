@@ -29,7 +29,7 @@ use Rattle.spec_hyparview.specs.Handle.{new_station, zero_config, zero_station}
 use Rattle.hyparview_state.specs.Layout as layout
 use Rattle.hyparview_state.proofs.Memory.{byte_fits, byte_back}
 use Rattle.hyparview_rules.specs.Pack.{present_word, kind_word, requests_word, front, pack}
-use Rattle.hyparview_rules.proofs.Back.{present-back, len-back, low-back, high-back}
+use Rattle.hyparview_rules.proofs.Back.{present_back, len_back, low_back, high_back}
 use Rattle.hyparview.specs.Made.{lent, pack_made, made}
 
 -- the sections of a new station are zeroes, by tools/make/layout.py
@@ -63,20 +63,20 @@ module _ (d : PeerData) (low high : ℕ) (v : ValidData d) (e : le 8 low ≡ tak
   same : kept ≡ d
   same = λ i. record { present = byte_back d.present i; len = d.len; bytes = bytes_back d low high v e f i }
 
-  kept-valid : ValidData kept
-  kept-valid = subst ValidData (sym same) v
+  kept_valid : ValidData kept
+  kept_valid = subst ValidData (sym same) v
 
   own_present : present_word (data_in d) ≡ bool_byte d.present
-  own_present = ap (λ (x : PeerData). present_word (data_in x)) (sym same) ∙ present-back (bool_byte d.present) d.len low high (byte_fits d.present) kept-valid s t
+  own_present = ap (λ (x : PeerData). present_word (data_in x)) (sym same) ∙ present_back (bool_byte d.present) d.len low high (byte_fits d.present) kept_valid s t
 
   own_len : length (bytes_of (data_in d)) ≡ d.len
-  own_len = ap (λ (x : PeerData). length (bytes_of (data_in x))) (sym same) ∙ len-back (bool_byte d.present) d.len low high (byte_fits d.present) kept-valid s t
+  own_len = ap (λ (x : PeerData). length (bytes_of (data_in x))) (sym same) ∙ len_back (bool_byte d.present) d.len low high (byte_fits d.present) kept_valid s t
 
   own_low : low_word (bytes_of (data_in d)) ≡ low
-  own_low = ap (λ (x : PeerData). low_word (bytes_of (data_in x))) (sym same) ∙ low-back (bool_byte d.present) d.len low high (byte_fits d.present) kept-valid s t
+  own_low = ap (λ (x : PeerData). low_word (bytes_of (data_in x))) (sym same) ∙ low_back (bool_byte d.present) d.len low high (byte_fits d.present) kept_valid s t
 
   own_high : high_word (bytes_of (data_in d)) ≡ high
-  own_high = ap (λ (x : PeerData). high_word (bytes_of (data_in x))) (sym same) ∙ high-back (bool_byte d.present) d.len low high (byte_fits d.present) kept-valid s t
+  own_high = ap (λ (x : PeerData). high_word (bytes_of (data_in x))) (sym same) ∙ high_back (bool_byte d.present) d.len low high (byte_fits d.present) kept_valid s t
 
   -- the numbers of a new station, in the order of the layout
   pub numbers_are : (me : ℕ) (c : Config) (n : ℕ) → n ≡ min initial_shuffle_interval c.shuffle_interval

@@ -130,12 +130,12 @@ long_ok : (xs : List ℕ) → state_ok xs ≡ true → length xs ≡ layout.word
 long_ok xs ok = long (ok_state xs ok).packed
 
 module _ (xs b ds : List ℕ) (room : ℕ) (r : Outcome) (t : Bool) (e : t ≡ state_ok xs) where
-  pub handled-broken : not t ≡ true → r ≡ refused_words 2 xs room → r ≡ handled xs b ds room
-  handled-broken h k = k ∙ handled_two xs b ds room (sym e ∙ is_no t h)
+  pub handled_broken : not t ≡ true → r ≡ refused_words 2 xs room → r ≡ handled xs b ds room
+  handled_broken h k = k ∙ handled_two xs b ds room (sym e ∙ is_no t h)
 
-  pub handled-unread : (x : Event) (c : ℕ) → not t ≡ false → EventIs b x → x ≡ Refused c → r ≡ refused_words c xs room → r ≡ handled xs b ds room
+  pub handled_unread : (x : Event) (c : ℕ) → not t ≡ false → EventIs b x → x ≡ Refused c → r ≡ refused_words c xs room → r ≡ handled xs b ds room
   unfolding event_in handle_reading
-  handled-unread x c h k q d =
+  handled_unread x c h k q d =
       let ok = sym e ∙ is_yes t h in
       let reads : R.refused c ≡ R.read_event b = ap (event_in b) (sym q) ∙ k.reads in
       d ∙ (refusal_is xs (packed_of xs ok) c room ∙ (ap (λ (y : R.Reading). packed_answer (handle_reading y (unpack xs) ds room)) reads ∙ sym (handled_ok xs b ds room ok)))
@@ -153,8 +153,8 @@ is_record (Record h) = 1
 read_of : (b : List ℕ) (h : Header) → R.event (R.rec_of b) ≡ R.read_event b → event_answer b ≡ Record h → ReadAs b h
 unfolding event_answer answer_to R.read_event R.is_event R.header_of_by header_in is_record
 read_of b h reads =
-    by_choice X _ (λ z q. absurd (no-refusal 3 q))
-    (λ z. by_choice X (ltb 32 (R.header_of b).nodes) (λ y q. absurd (no-refusal 4 q))
+    by_choice X _ (λ z q. absurd (no_refusal 3 q))
+    (λ z. by_choice X (ltb 32 (R.header_of b).nodes) (λ y q. absurd (no_refusal 4 q))
     (λ y. by_choice X (R.well_formed b && R.is_event (R.header_of b))
     (λ f q. let e : R.header_of b ≡ h = ap (header_in h) q in record {
       headed = record { formed = and_left _ _ f; head = sym e };
@@ -162,13 +162,13 @@ read_of b h reads =
       few = subst (λ (w : Header). w.nodes ≤ 32) e (let n = ltb-false 32 (R.header_of b).nodes y in omega (arith, n));
       reads = reads;
     })
-    (λ f q. absurd (no-refusal 3 q))))
+    (λ f q. absurd (no_refusal 3 q))))
   where
     X : R.Reading → Type 0
     X x = answer_to b x ≡ Record h → ReadAs b h
 
-    no-refusal : (c : ℕ) → Refused c ≡ Record h → ⊥
-    no-refusal c q = let z : ◌≡◌ {A = ℕ} 0 1 = ap is_record q in omega (arith, z)
+    no_refusal : (c : ℕ) → Refused c ≡ Record h → ⊥
+    no_refusal c q = let z : ◌≡◌ {A = ℕ} 0 1 = ap is_record q in omega (arith, z)
 
 pub recorded : (xs b : List ℕ) (x : Event) (h : Header) (t : Bool) → t ≡ state_ok xs → not t ≡ false → EventIs b x → x ≡ Record h → (length xs ≡ layout.words) × ((state_ok xs ≡ true) × ReadAs b h)
 unfolding event_in

@@ -47,16 +47,16 @@ open_to xs b h p = not_both (too_many b) (packed_ok xs) (station_ok (unpack xs))
 
 module _ (xs b ds : List ℕ) (room : ℕ) where
   -- words that are no state
-  both-two : packed_ok xs ≡ false → (l : List ℕ) → handled xs b l room ≡ handled_from radio xs b ds room
+  both_two : packed_ok xs ≡ false → (l : List ℕ) → handled xs b l room ≡ handled_from radio xs b ds room
   unfolding handled handled_from
-  both-two p l = choose_no _ _ _ p ∙ sym (choose_no _ _ _ p)
+  both_two p l = choose_no _ _ _ p ∙ sym (choose_no _ _ _ p)
 
   as_wired : (packed_ok xs ≡ true → (station_ok (unpack xs) && too_many b) ≡ false) → handled xs b (take radio_draws ds) room ≡ handled_from radio xs b ds room
   unfolding handled handled_from handle_from handle_radio
   as_wired f =
       split (packed_ok xs)
       (λ p. choose_yes _ _ _ p ∙ (ap packed_answer (sym (choose_no (station_ok (unpack xs) && too_many b) (P.refusal 16 (unpack xs) room) _ (f p))) ∙ sym (choose_yes _ _ _ p)))
-      (λ p. both-two p (take radio_draws ds))
+      (λ p. both_two p (take radio_draws ds))
 
   barred : (too_many b && state_ok xs) ≡ true → refused_words 16 xs room ≡ handled_from radio xs b ds room
   unfolding handled_from handle_from handle_radio
@@ -74,8 +74,8 @@ module _ (xs b ds : List ℕ) (room : ℕ) (r : Outcome) (t : Bool) (e : t ≡ (
   pub few_draws : t ≡ false → length ds < radio_draws → r ≡ handled xs b ds room → r ≡ handled_from radio xs b ds room
   few_draws h l k = k ∙ (ap (λ (d : List ℕ). handled xs b d room) (sym (take_all radio_draws ds (omega (arith, l)))) ∙ as_wired xs b ds room (open_to xs b (sym e ∙ h)))
 
-  pub cut-draws : t ≡ false → r ≡ handled xs b (take radio_draws ds) room → r ≡ handled_from radio xs b ds room
-  cut-draws h k = k ∙ as_wired xs b ds room (open_to xs b (sym e ∙ h))
+  pub cut_draws : t ≡ false → r ≡ handled xs b (take radio_draws ds) room → r ≡ handled_from radio xs b ds room
+  cut_draws h k = k ∙ as_wired xs b ds room (open_to xs b (sym e ∙ h))
 
 -- as many as are read
 pub cut_length : (ds : List ℕ) → radio_draws ≤ length ds → radio_draws ≡ length (take radio_draws ds)
@@ -83,13 +83,13 @@ cut_length ds l = sym (length-take-le radio_draws ds l)
 
 -- the side that the code names
 module _ (xs b ds : List ℕ) (room : ℕ) (r : Outcome) (t : Bool) where
-  pub from-radio : t ≡ true → r ≡ handled_from radio xs b ds room → r ≡ handled_from (side_of t) xs b ds room
+  pub from_radio : t ≡ true → r ≡ handled_from radio xs b ds room → r ≡ handled_from (side_of t) xs b ds room
   unfolding side_of
-  from-radio h k = rw h k
+  from_radio h k = rw h k
 
-  pub from-wired : t ≡ false → r ≡ handled xs b ds room → r ≡ handled_from (side_of t) xs b ds room
+  pub from_wired : t ≡ false → r ≡ handled xs b ds room → r ≡ handled_from (side_of t) xs b ds room
   unfolding side_of handled handled_from handle_from
-  from-wired h k = rw h k
+  from_wired h k = rw h k
 
 -- words that break a rule are answered 2 from either side
 pub from_two : (side : Side) (xs b ds : List ℕ) (room : ℕ) → state_ok xs ≡ false → refused_words 2 xs room ≡ handled_from side xs b ds room
@@ -97,9 +97,9 @@ unfolding state_ok handled handled_from handle_from
 from_two wired xs b ds room broken = handled_two xs b ds room broken
 from_two radio xs b ds room broken =
     handled_two xs b (take radio_draws ds) room broken
-    ∙ as_wired xs b ds room (λ p. not_both (too_many b) true (station_ok (unpack xs)) (broken-too (too_many b) (packed_ok xs) (station_ok (unpack xs)) p broken) refl)
+    ∙ as_wired xs b ds room (λ p. not_both (too_many b) true (station_ok (unpack xs)) (broken_too (too_many b) (packed_ok xs) (station_ok (unpack xs)) p broken) refl)
   where
-    broken-too : (t p s : Bool) → p ≡ true → (p && s) ≡ false → (t && (true && s)) ≡ false
-    broken-too true true s e h = h
-    broken-too true false s e h = clash false e refl
-    broken-too false p s e h = refl
+    broken_too : (t p s : Bool) → p ≡ true → (p && s) ≡ false → (t && (true && s)) ≡ false
+    broken_too true true s e h = h
+    broken_too true false s e h = clash false e refl
+    broken_too false p s e h = refl

@@ -12,12 +12,12 @@ use borrow.Author.Tests.{leb-true, eqb-true, ne_eqb, lt-ltb, ltb-true}
 use Rattle.base_lists.specs.Array.{pad}
 use Rattle.base_lists.specs.Lists.{mem, choose, without, Above, Rising, rising, subset}
 use Rattle.base_lists.specs.Maps.{keys, values}
-use Rattle.base_lists.proofs.Array.{take-pad}
+use Rattle.base_lists.proofs.Array.{take_pad}
 use Rattle.base_lists.proofs.Choice.{split, and_left, and_right}
 use Rattle.base_lists.proofs.Count.{mem_true, length_without}
-use Rattle.base_lists.proofs.Maps.{length-keys}
+use Rattle.base_lists.proofs.Maps.{length_keys}
 use Rattle.base_lists.proofs.Tests.{both_true, and_no, rising_true}
-use Rattle.base_lists.proofs.Zip.{length-values}
+use Rattle.base_lists.proofs.Zip.{length_values}
 use Rattle.base_lists.proofs.Members.{mem_without_other}
 use Rattle.base_util.specs.Section.{items_at, section}
 use Rattle.base_util.proofs.Sets.{section_holds}
@@ -41,10 +41,10 @@ use Rattle.hyparview_rules.specs.Pack.{present_word, kind_word, requests_word, f
 use Rattle.hyparview_rules.specs.Ok.{packed_ok, state_ok}
 use Rattle.hyparview_rules.proofs.Under.{numbers_are}
 use Rattle.hyparview_rules.proofs.Shape.{Shape, shape_ok}
-use Rattle.hyparview_rules.proofs.Widths.{under-append, under-pad, under-section}
+use Rattle.hyparview_rules.proofs.Widths.{under_append, under_pad, under_section}
 use Rattle.hyparview_rules.proofs.Packed.{Kept, ok_kept, wide_of}
-use Rattle.hyparview_rules.proofs.Maps.{words_back, low-under, high-under, lengths, low_words, high_words, numbers_hold, data-hold}
-use Rattle.hyparview_rules.proofs.Parts.{packed-sections, packed-long}
+use Rattle.hyparview_rules.proofs.Maps.{words_back, low_under, high_under, lengths, low_words, high_words, numbers_hold, data_hold}
+use Rattle.hyparview_rules.proofs.Parts.{packed_sections, packed_long}
 
 -- ---- a list that rises and is part of another is no longer
 
@@ -114,7 +114,7 @@ kept_fits g k =
       recent = leb-true _ _ (and_right few _ k.few);
       requests = leb-true _ _ (and_left asked _ k.room);
       requests_rise = rising_true _ (and_left (rising (keys g.requests)) _ k.order);
-      joins = omega (arith, joins, bootstrap, length-keys g.joins);
+      joins = omega (arith, joins, bootstrap, length_keys g.joins);
       joins_rise = joins_rise;
       peer_data = leb-true _ _ (and_right turned _ room);
       peer_data_rise = rising_true _ (and_left (rising (keys g.peer_data)) _ o₂);
@@ -136,13 +136,13 @@ short_bytes none e = omega arith
 short_bytes (some b) e = leb-true (length b) max_data_length e
 
 module _ (d : Data) (e : short_data d ≡ true) (u : all_under bytes_end (bytes_of d) ≡ true) where
-  own-words : own_packed d ≡ record { present = eqb (present_word d) 1; len = length (bytes_of d); bytes = pad 0 16 (bytes_of d) }
-  own-words = λ i. record { present = eqb (present_word d) 1; len = length (bytes_of d); bytes = words_back (bytes_of d) (short_bytes d e) u i }
+  own_words : own_packed d ≡ record { present = eqb (present_word d) 1; len = length (bytes_of d); bytes = pad 0 16 (bytes_of d) }
+  own_words = λ i. record { present = eqb (present_word d) 1; len = length (bytes_of d); bytes = words_back (bytes_of d) (short_bytes d e) u i }
 
 own_padded : (d : Data) → short_data d ≡ true → data_in (record { present = eqb (present_word d) 1; len = length (bytes_of d); bytes = pad 0 16 (bytes_of d) }) ≡ d
 unfolding data_in present_word bytes_of short_data choose
 own_padded none e = refl
-own_padded (some b) e = ap some (take-pad 0 16 b (leb-true (length b) 16 e))
+own_padded (some b) e = ap some (take_pad 0 16 b (leb-true (length b) 16 e))
 
 own_fine : (d : Data) → short_data d ≡ true → ValidData (record { present = eqb (present_word d) 1; len = length (bytes_of d); bytes = pad 0 16 (bytes_of d) })
 unfolding present_word bytes_of short_data pad
@@ -168,38 +168,38 @@ present_fits (some b) = omega arith
 
 -- the sections come out again, and are well formed, by tools/make/layout.py
 module _ (g : Station) (v : Fits g) where
-  active-out : items_at layout.active_places (layout.active_part (pack g)) ≡ g.active
-  active-out = ap (λ (t : Sections). items_at layout.active_places t.active) (packed-sections g) ∙ (section_holds layout.active_places g.active v.active).items
+  active_out : items_at layout.active_places (layout.active_part (pack g)) ≡ g.active
+  active_out = ap (λ (t : Sections). items_at layout.active_places t.active) (packed_sections g) ∙ (section_holds layout.active_places g.active v.active).items
 
-  passive-out : items_at layout.passive_places (layout.passive_part (pack g)) ≡ g.passive
-  passive-out = ap (λ (t : Sections). items_at layout.passive_places t.passive) (packed-sections g) ∙ (section_holds layout.passive_places g.passive v.passive).items
+  passive_out : items_at layout.passive_places (layout.passive_part (pack g)) ≡ g.passive
+  passive_out = ap (λ (t : Sections). items_at layout.passive_places t.passive) (packed_sections g) ∙ (section_holds layout.passive_places g.passive v.passive).items
 
-  alive-out : items_at layout.alive_places (layout.alive_part (pack g)) ≡ g.alive
-  alive-out = ap (λ (t : Sections). items_at layout.alive_places t.alive) (packed-sections g) ∙ (section_holds layout.alive_places g.alive v.alive).items
+  alive_out : items_at layout.alive_places (layout.alive_part (pack g)) ≡ g.alive
+  alive_out = ap (λ (t : Sections). items_at layout.alive_places t.alive) (packed_sections g) ∙ (section_holds layout.alive_places g.alive v.alive).items
 
-  refused-out : items_at layout.refused_places (layout.refused_part (pack g)) ≡ g.refused
-  refused-out = ap (λ (t : Sections). items_at layout.refused_places t.refused) (packed-sections g) ∙ (section_holds layout.refused_places g.refused v.refused).items
+  refused_out : items_at layout.refused_places (layout.refused_part (pack g)) ≡ g.refused
+  refused_out = ap (λ (t : Sections). items_at layout.refused_places t.refused) (packed_sections g) ∙ (section_holds layout.refused_places g.refused v.refused).items
 
-  requests-out : numbers_at layout.requests_places (layout.requests_part (pack g)) ≡ g.requests
-  requests-out = ap (λ (t : Sections). numbers_at layout.requests_places t.requests) (packed-sections g) ∙ (numbers_hold layout.requests_places g.requests v.requests v.requests_rise).items
+  requests_out : numbers_at layout.requests_places (layout.requests_part (pack g)) ≡ g.requests
+  requests_out = ap (λ (t : Sections). numbers_at layout.requests_places t.requests) (packed_sections g) ∙ (numbers_hold layout.requests_places g.requests v.requests v.requests_rise).items
 
-  bootstrap-out : items_at layout.bootstrap_places (layout.bootstrap_part (pack g)) ≡ g.bootstrap
-  bootstrap-out = ap (λ (t : Sections). items_at layout.bootstrap_places t.bootstrap) (packed-sections g) ∙ (section_holds layout.bootstrap_places g.bootstrap v.bootstrap).items
+  bootstrap_out : items_at layout.bootstrap_places (layout.bootstrap_part (pack g)) ≡ g.bootstrap
+  bootstrap_out = ap (λ (t : Sections). items_at layout.bootstrap_places t.bootstrap) (packed_sections g) ∙ (section_holds layout.bootstrap_places g.bootstrap v.bootstrap).items
 
-  recent-out : items_at layout.recent_places (layout.recent_part (pack g)) ≡ g.recent
-  recent-out = ap (λ (t : Sections). items_at layout.recent_places t.recent) (packed-sections g) ∙ (section_holds layout.recent_places g.recent v.recent).items
+  recent_out : items_at layout.recent_places (layout.recent_part (pack g)) ≡ g.recent
+  recent_out = ap (λ (t : Sections). items_at layout.recent_places t.recent) (packed_sections g) ∙ (section_holds layout.recent_places g.recent v.recent).items
 
   joins_out : numbers_at layout.joins_places (layout.joins_part (pack g)) ≡ g.joins
-  joins_out = ap (λ (t : Sections). numbers_at layout.joins_places t.joins) (packed-sections g) ∙ (numbers_hold layout.joins_places g.joins v.joins v.joins_rise).items
+  joins_out = ap (λ (t : Sections). numbers_at layout.joins_places t.joins) (packed_sections g) ∙ (numbers_hold layout.joins_places g.joins v.joins v.joins_rise).items
 
-  peer-data-out : data_map_at layout.peer_data_places (layout.peer_data_part (pack g)) ≡ g.peer_data
-  peer-data-out = ap (λ (t : Sections). data_map_at layout.peer_data_places t.peer_data) (packed-sections g) ∙ (data-hold layout.peer_data_places g.peer_data v.peer_data v.peer_data_rise v.peer_data_short v.peer_data_bytes).items
+  peer_data_out : data_map_at layout.peer_data_places (layout.peer_data_part (pack g)) ≡ g.peer_data
+  peer_data_out = ap (λ (t : Sections). data_map_at layout.peer_data_places t.peer_data) (packed_sections g) ∙ (data_hold layout.peer_data_places g.peer_data v.peer_data v.peer_data_rise v.peer_data_short v.peer_data_bytes).items
 
-  pins-out : items_at layout.pins_places (layout.pins_part (pack g)) ≡ g.pins
-  pins-out = ap (λ (t : Sections). items_at layout.pins_places t.pins) (packed-sections g) ∙ (section_holds layout.pins_places g.pins v.pins).items
+  pins_out : items_at layout.pins_places (layout.pins_part (pack g)) ≡ g.pins
+  pins_out = ap (λ (t : Sections). items_at layout.pins_places t.pins) (packed_sections g) ∙ (section_holds layout.pins_places g.pins v.pins).items
 
-  sections-formed : WellFormed (sections (pack g))
-  sections-formed = subst WellFormed (sym (packed-sections g)) (record {
+  sections_formed : WellFormed (sections (pack g))
+  sections_formed = subst WellFormed (sym (packed_sections g)) (record {
     active = (section_holds layout.active_places g.active v.active).valid;
     passive = (section_holds layout.passive_places g.passive v.passive).valid;
     alive = (section_holds layout.alive_places g.alive v.alive).valid;
@@ -208,7 +208,7 @@ module _ (g : Station) (v : Fits g) where
     bootstrap = (section_holds layout.bootstrap_places g.bootstrap v.bootstrap).valid;
     recent = (section_holds layout.recent_places g.recent v.recent).valid;
     joins = (numbers_hold layout.joins_places g.joins v.joins v.joins_rise).valid;
-    peer_data = (data-hold layout.peer_data_places g.peer_data v.peer_data v.peer_data_rise v.peer_data_short v.peer_data_bytes).valid;
+    peer_data = (data_hold layout.peer_data_places g.peer_data v.peer_data v.peer_data_rise v.peer_data_short v.peer_data_bytes).valid;
     pins = (section_holds layout.pins_places g.pins v.pins).valid;
   })
 
@@ -219,25 +219,25 @@ pub unpack_pack : (g : Station) → Fits g → unpack (pack g) ≡ g
 unfolding unpack station_of pack front own_at settings_at limit_at
 unpack_pack g v = λ i. record {
   me = g.me;
-  own_data = (ap data_in (own-words g.own_data v.own_data v.own_bytes) ∙ own_padded g.own_data v.own_data) i;
-  active = active-out g v i;
-  passive = passive-out g v i;
+  own_data = (ap data_in (own_words g.own_data v.own_data v.own_bytes) ∙ own_padded g.own_data v.own_data) i;
+  active = active_out g v i;
+  passive = passive_out g v i;
   config = g.config;
   scheduled = bool_back g.scheduled i;
   next_interval = g.next_interval;
-  bootstrap = bootstrap-out g v i;
+  bootstrap = bootstrap_out g v i;
   passes_alone = g.passes_alone;
   passes_short = g.passes_short;
-  recent = recent-out g v i;
-  requests = requests-out g v i;
+  recent = recent_out g v i;
+  requests = requests_out g v i;
   next_request = g.next_request;
   joins = joins_out g v i;
   next_join = g.next_join;
-  peer_data = peer-data-out g v i;
-  alive = alive-out g v i;
-  refused = refused-out g v i;
+  peer_data = peer_data_out g v i;
+  alive = alive_out g v i;
+  refused = refused_out g v i;
   refill = limit_out g.refill i;
-  pins = pins-out g v i;
+  pins = pins_out g v i;
 }
 
 -- end
@@ -256,7 +256,7 @@ unfolding all_under
 no_words = refl
 
 both_fine : (a b : List ℕ) → Fine a → Fine b → Fine (a ++ b)
-both_fine a b p q = under-append words_end a b ∙ both_true _ _ p q
+both_fine a b p q = under_append words_end a b ∙ both_true _ _ p q
 
 peers_fine : (l : List ℕ) → all_under peers_end l ≡ true → Fine l
 unfolding all_under
@@ -269,34 +269,34 @@ below_fine n [] h e = refl
 below_fine n (x ∷ l) h e = more x l (omega (arith, ltb-true x n (and_left (ltb x n) _ e))) (below_fine n l h (and_right (ltb x n) _ e))
 
 set_fine : (n : ℕ) (l : List ℕ) → n < words_end → length l ≤ n → all_under peers_end l ≡ true → Fine (section n l)
-set_fine n l h f e = under-section words_end n l h f ∙ peers_fine l e
+set_fine n l h f e = under_section words_end n l h f ∙ peers_fine l e
 
 column_fine : (n : ℕ) (l : List ℕ) → length l ≤ n → Fine l → Fine (pad 0 n l)
-column_fine n l f e = under-pad words_end n l (omega arith) f ∙ e
+column_fine n l f e = under_pad words_end n l (omega arith) f ∙ e
 
 numbers_fine : (n k : ℕ) (l : List (ℕ × ℕ)) → n < words_end → length l ≤ n → all_under peers_end (keys l) ≡ true → k < words_end → numbers_under k l ≡ true → Fine (numbers_section n l)
 unfolding numbers_section
 numbers_fine n k l h f e w u =
-    both_fine _ _ (both_fine _ _ (column_fine n (keys l) (omega (arith, length-keys l)) (peers_fine (keys l) e))
-    (column_fine n (values l) (omega (arith, length-values l)) (below_fine k (values l) w (sym (numbers_are k l) ∙ u))))
+    both_fine _ _ (both_fine _ _ (column_fine n (keys l) (omega (arith, length_keys l)) (peers_fine (keys l) e))
+    (column_fine n (values l) (omega (arith, length_values l)) (below_fine k (values l) w (sym (numbers_are k l) ∙ u))))
     (more (length l) [] (omega arith) no_words)
 
 module _ (f : List ℕ → ℕ) (h : (b : List ℕ) → length b ≤ max_data_length → all_under bytes_end b ≡ true → f b < words_end) where
-  mapped-fine : (l : List (ℕ × List ℕ)) → all_short l ≡ true → lists_under bytes_end (values l) ≡ true → Fine (map f (values l))
+  mapped_fine : (l : List (ℕ × List ℕ)) → all_short l ≡ true → lists_under bytes_end (values l) ≡ true → Fine (map f (values l))
   unfolding values all_short lists_under
-  mapped-fine [] s e = no_words
-  mapped-fine (x ∷ l) s e =
+  mapped_fine [] s e = no_words
+  mapped_fine (x ∷ l) s e =
       more (f x.1) (map f (values l)) (h x.1 (leb-true _ _ (and_left (leb (length x.1) max_data_length) _ s)) (and_left (all_under bytes_end x.1) _ e))
-      (mapped-fine l (and_right (leb (length x.1) max_data_length) _ s) (and_right (all_under bytes_end x.1) _ e))
+      (mapped_fine l (and_right (leb (length x.1) max_data_length) _ s) (and_right (all_under bytes_end x.1) _ e))
 
 data_fine : (l : List (ℕ × List ℕ)) → length l ≤ layout.peer_data_places → all_under peers_end (keys l) ≡ true → all_short l ≡ true → lists_under bytes_end (values l) ≡ true → Fine (data_section layout.peer_data_places l)
 unfolding data_section
 data_fine l f e s u =
-    let p : (k : List ℕ → ℕ) → length (map k (values l)) ≤ layout.peer_data_places = λ k. omega (arith, lib.ListN.length-map (values l) k, length-values l) in
-    both_fine _ _ (both_fine _ _ (both_fine _ _ (both_fine _ _ (column_fine layout.peer_data_places (keys l) (omega (arith, length-keys l)) (peers_fine (keys l) e))
-    (column_fine layout.peer_data_places (lengths l) (p length) (mapped-fine length (λ b h t. omega (arith, h)) l s u)))
-    (column_fine layout.peer_data_places (low_words l) (p low_word) (mapped-fine low_word low-under l s u)))
-    (column_fine layout.peer_data_places (high_words l) (p high_word) (mapped-fine high_word high-under l s u)))
+    let p : (k : List ℕ → ℕ) → length (map k (values l)) ≤ layout.peer_data_places = λ k. omega (arith, lib.ListN.length-map (values l) k, length_values l) in
+    both_fine _ _ (both_fine _ _ (both_fine _ _ (both_fine _ _ (column_fine layout.peer_data_places (keys l) (omega (arith, length_keys l)) (peers_fine (keys l) e))
+    (column_fine layout.peer_data_places (lengths l) (p length) (mapped_fine length (λ b h t. omega (arith, h)) l s u)))
+    (column_fine layout.peer_data_places (low_words l) (p low_word) (mapped_fine low_word low_under l s u)))
+    (column_fine layout.peer_data_places (high_words l) (p high_word) (mapped_fine high_word high_under l s u)))
     (more (length l) [] (omega arith) no_words)
 
 kind_fits : (r : Refill) → kind_word r ≤ 2
@@ -357,9 +357,9 @@ narrow g e =
 -- end
 
 module _ (g : Station) (k : Kept g) (v : Fits g) where
-  front-fine : Fine (front g)
+  front_fine : Fine (front g)
   unfolding front settings_rule interval_rule within limit_rule
-  front-fine =
+  front_fine =
       let c = ranges g.config k.settings in
       let w = wide_of g k.width in
       let n = narrow g w.peers in
@@ -371,47 +371,47 @@ module _ (g : Station) (k : Kept g) (v : Fits g) where
       (more _ _ (omega (arith, c.shuffle_walk.most)) (more _ _ (omega (arith, c.shuffle_active.most)) (more _ _ (omega (arith, c.shuffle_passive.most)) (more _ _ (omega (arith, c.interval.most))
       (more _ _ (omega (arith, c.timeout.most)) (more _ _ (omega (arith, bit_fits g.scheduled)) (more _ _ (omega (arith, c.interval.most, last)) (more _ _ (omega (arith, w.alone))
       (more _ _ (omega (arith, w.short)) (more _ _ (omega (arith, kind_fits g.refill)) (more _ _ (omega (arith, requests_fit g.refill k.limit)) (more _ _ (omega (arith, w.next_request))
-      (more _ _ (omega (arith, w.next_join)) (more _ _ (low-under b s v.own_bytes) (more _ _ (high-under b s v.own_bytes) no_words)))))))))))))))))))))
+      (more _ _ (omega (arith, w.next_join)) (more _ _ (low_under b s v.own_bytes) (more _ _ (high_under b s v.own_bytes) no_words)))))))))))))))))))))
 
-  requests-under : numbers_under g.next_request g.requests ≡ true
+  requests_under : numbers_under g.next_request g.requests ≡ true
   unfolding numbers_rule
-  requests-under = and_left (numbers_under g.next_request g.requests) _ k.numbers
+  requests_under = and_left (numbers_under g.next_request g.requests) _ k.numbers
 
-  joins-under : numbers_under g.next_join g.joins ≡ true
+  joins_under : numbers_under g.next_join g.joins ≡ true
   unfolding numbers_rule
-  joins-under = and_right (numbers_under g.next_request g.requests) _ k.numbers
+  joins_under = and_right (numbers_under g.next_request g.requests) _ k.numbers
 
   -- every word of it has 64 bits, by tools/make/layout.py
-  pack-fine : Fine (pack g)
+  pack_fine : Fine (pack g)
   unfolding pack
-  pack-fine =
+  pack_fine =
       let w = wide_of g k.width in
       let n = narrow g w.peers in
-      both_fine _ _ front-fine
+      both_fine _ _ front_fine
       (both_fine _ _ (set_fine layout.active_places g.active (omega arith) v.active n.active)
       (both_fine _ _ (set_fine layout.passive_places g.passive (omega arith) v.passive n.passive)
       (both_fine _ _ (set_fine layout.alive_places g.alive (omega arith) v.alive n.alive)
       (both_fine _ _ (set_fine layout.refused_places g.refused (omega arith) v.refused n.refused)
-      (both_fine _ _ (numbers_fine layout.requests_places g.next_request g.requests (omega arith) v.requests n.requests (omega (arith, w.next_request)) requests-under)
+      (both_fine _ _ (numbers_fine layout.requests_places g.next_request g.requests (omega arith) v.requests n.requests (omega (arith, w.next_request)) requests_under)
       (both_fine _ _ (set_fine layout.bootstrap_places g.bootstrap (omega arith) v.bootstrap n.bootstrap)
       (both_fine _ _ (set_fine layout.recent_places g.recent (omega arith) v.recent n.recent)
-      (both_fine _ _ (numbers_fine layout.joins_places g.next_join g.joins (omega arith) v.joins n.joins (omega (arith, w.next_join)) joins-under)
+      (both_fine _ _ (numbers_fine layout.joins_places g.next_join g.joins (omega arith) v.joins n.joins (omega (arith, w.next_join)) joins_under)
       (both_fine _ _ (data_fine g.peer_data v.peer_data n.peer_data v.peer_data_short v.peer_data_bytes)
       (set_fine layout.pins_places g.pins (omega arith) v.pins n.pins))))))))))
 
   -- end
 
-  pub kept-shape : Shape (pack g)
+  pub kept_shape : Shape (pack g)
   unfolding pack front own_at
-  kept-shape =
+  kept_shape =
       record {
-        size = packed-long g;
-        wide = pack-fine;
+        size = packed_long g;
+        wide = pack_fine;
         present = present_fits g.own_data;
         timers = bit_fits g.scheduled;
         limit = limit_fine g.refill;
-        own_data = subst ValidData (sym (own-words g.own_data v.own_data v.own_bytes)) (own_fine g.own_data v.own_data);
-        sections = sections-formed g v;
+        own_data = subst ValidData (sym (own_words g.own_data v.own_data v.own_bytes)) (own_fine g.own_data v.own_data);
+        sections = sections_formed g v;
       }
 
 -- unpacking undoes packing, and the packed station passes the test
@@ -422,7 +422,7 @@ pub pack_ok : (g : Station) → station_ok g ≡ true → state_ok (pack g) ≡ 
 unfolding state_ok
 pack_ok g e =
     let k = ok_kept g e in
-    both_true (packed_ok (pack g)) _ (shape_ok (pack g) (kept-shape g k (kept_fits g k))) (ap station_ok (ok_unpacked g e) ∙ e)
+    both_true (packed_ok (pack g)) _ (shape_ok (pack g) (kept_shape g k (kept_fits g k))) (ap station_ok (ok_unpacked g e) ∙ e)
 
 -- ---- "a state of zeroes, which later calls meet with code 2"
 

@@ -19,7 +19,7 @@ use Rattle.base_util.specs.Section.{part, items_at}
 use Rattle.base_util.proofs.Parts.{part_read}
 use Rattle.base_util.proofs.Sets.{lent}
 use Rattle.base_columns.specs.Columns.{numbers_at, data_map_at, entries_at, count_of, ValidDataWords}
-use Rattle.base_columns.proofs.Data.{data-entries}
+use Rattle.base_columns.proofs.Data.{data_entries}
 use Rattle.base_timing.specs.Timing.{within, in_range, most_active, most_passive, longest_walk, most_shuffle_active, most_shuffle_passive, longest_time, max_requests_per_refill}
 use Rattle.base_peer.specs.declared.PeerData.{PeerData}
 use Rattle.base_peer.specs.Held.{data_in, ValidData}
@@ -34,8 +34,8 @@ use Rattle.hyparview_state.specs.Unpack.{settings_at, limit_at, limit_formed, re
 use Rattle.hyparview_state.proofs.Memory.{two_limit}
 use Rattle.hyparview_state.proofs.Access.{count_active, count_passive, count_pins}
 use Rattle.hyparview_rules.specs.Ok.{packed_ok, view_rules, state_ok}
-use Rattle.hyparview_rules.proofs.Shape.{ok_shape, ok-active, ok-passive, ok-alive, ok-bootstrap, ok-joins, ok-pins}
-use Rattle.hyparview_rules.proofs.Under.{peers-lent}
+use Rattle.hyparview_rules.proofs.Shape.{ok_shape, ok_active, ok_passive, ok_alive, ok_bootstrap, ok_joins, ok_pins}
+use Rattle.hyparview_rules.proofs.Under.{peers_lent}
 use Rattle.hyparview_rules.proofs.Widths.{width_is}
 
 -- ---- a rule's tests
@@ -59,9 +59,9 @@ module _ (xs : List ℕ) (e : packed_ok xs ≡ true) where
       and_assoc a b c ∙ (λ i. p i && (q i && k i))
       ∙ sym (rw (true_rising _ v.sections.requests.rises, true_rising _ v.sections.joins.rises, true_rising _ v.sections.peer_data.rises) refl)
 
-  capacity-is : (leb (get_or xs layout.active_count 0) (layout.active_view_capacity xs) && leb (get_or xs layout.passive_count 0) (layout.passive_view_capacity xs)) ≡ capacity_rule (unpack xs)
+  capacity_is : (leb (get_or xs layout.active_count 0) (layout.active_view_capacity xs) && leb (get_or xs layout.passive_count 0) (layout.passive_view_capacity xs)) ≡ capacity_rule (unpack xs)
   unfolding capacity_rule unpack station_of settings_at
-  capacity-is = sym (rw (count_active xs (ok-active xs e), count_passive xs (ok-passive xs e)) refl)
+  capacity_is = sym (rw (count_active xs (ok_active xs e), count_passive xs (ok_passive xs e)) refl)
 
 pub repeats_is : (xs : List ℕ) (a b c d : Bool) → a ≡ distinct (items_at layout.active_places (layout.active_part xs)) → b ≡ distinct (items_at layout.passive_places (layout.passive_part xs)) → c ≡ distinct (items_at layout.bootstrap_places (layout.bootstrap_part xs))
     → d ≡ distinct (items_at layout.recent_places (layout.recent_part xs)) → (a && b && c && d) ≡ repeats_rule (unpack xs)
@@ -78,67 +78,67 @@ count_lent a k n xs h f =
     ap (λ (j : ℕ). take j (drop a xs)) z ∙ sym (take-take (get_or (part a k xs) n 0) k (drop a xs) (omega arith))
 
 module _ (xs : List ℕ) (e : packed_ok xs ≡ true) where
-  pub few-joins : get_or xs layout.joins_count 0 ≤ layout.joins_places
-  few-joins = omega (arith, part_read layout.joins_at layout.joins_size (layout.joins_places + layout.joins_places) xs (omega arith), (ok-joins xs e).fits)
+  pub few_joins : get_or xs layout.joins_count 0 ≤ layout.joins_places
+  few_joins = omega (arith, part_read layout.joins_at layout.joins_size (layout.joins_places + layout.joins_places) xs (omega arith), (ok_joins xs e).fits)
 
-  pub few-bootstrap : get_or xs layout.bootstrap_count 0 ≤ layout.bootstrap_places
-  few-bootstrap = omega (arith, part_read layout.bootstrap_at layout.bootstrap_size layout.bootstrap_places xs (omega arith), (ok-bootstrap xs e).fits)
+  pub few_bootstrap : get_or xs layout.bootstrap_count 0 ≤ layout.bootstrap_places
+  few_bootstrap = omega (arith, part_read layout.bootstrap_at layout.bootstrap_size layout.bootstrap_places xs (omega arith), (ok_bootstrap xs e).fits)
 
   pub few_active : get_or xs layout.active_count 0 ≤ layout.active_places
-  few_active = omega (arith, part_read layout.active_at layout.active_size layout.active_places xs (omega arith), (ok-active xs e).fits)
+  few_active = omega (arith, part_read layout.active_at layout.active_size layout.active_places xs (omega arith), (ok_active xs e).fits)
 
   pub few_passive : get_or xs layout.passive_count 0 ≤ layout.passive_places
-  few_passive = omega (arith, part_read layout.passive_at layout.passive_size layout.passive_places xs (omega arith), (ok-passive xs e).fits)
+  few_passive = omega (arith, part_read layout.passive_at layout.passive_size layout.passive_places xs (omega arith), (ok_passive xs e).fits)
 
-  pub few-alive : get_or xs layout.alive_count 0 ≤ layout.alive_places
-  few-alive = omega (arith, part_read layout.alive_at layout.alive_size layout.alive_places xs (omega arith), (ok-alive xs e).fits)
+  pub few_alive : get_or xs layout.alive_count 0 ≤ layout.alive_places
+  few_alive = omega (arith, part_read layout.alive_at layout.alive_size layout.alive_places xs (omega arith), (ok_alive xs e).fits)
 
-  active-lent : part layout.active_at (layout.active_at + get_or xs layout.active_count 0 - layout.active_at) xs ≡ items_at layout.active_places (layout.active_part xs)
-  active-lent = count_lent layout.active_at layout.active_size layout.active_places xs (omega arith) (ok-active xs e).fits ∙ lent layout.active_places _ (ok-active xs e)
+  active_lent : part layout.active_at (layout.active_at + get_or xs layout.active_count 0 - layout.active_at) xs ≡ items_at layout.active_places (layout.active_part xs)
+  active_lent = count_lent layout.active_at layout.active_size layout.active_places xs (omega arith) (ok_active xs e).fits ∙ lent layout.active_places _ (ok_active xs e)
 
-  passive-lent : part layout.passive_at (layout.passive_at + get_or xs layout.passive_count 0 - layout.passive_at) xs ≡ items_at layout.passive_places (layout.passive_part xs)
-  passive-lent = count_lent layout.passive_at layout.passive_size layout.passive_places xs (omega arith) (ok-passive xs e).fits ∙ lent layout.passive_places _ (ok-passive xs e)
+  passive_lent : part layout.passive_at (layout.passive_at + get_or xs layout.passive_count 0 - layout.passive_at) xs ≡ items_at layout.passive_places (layout.passive_part xs)
+  passive_lent = count_lent layout.passive_at layout.passive_size layout.passive_places xs (omega arith) (ok_passive xs e).fits ∙ lent layout.passive_places _ (ok_passive xs e)
 
-  alive-lent : part layout.alive_at (layout.alive_at + get_or xs layout.alive_count 0 - layout.alive_at) xs ≡ items_at layout.alive_places (layout.alive_part xs)
-  alive-lent = count_lent layout.alive_at layout.alive_size layout.alive_places xs (omega arith) (ok-alive xs e).fits ∙ lent layout.alive_places _ (ok-alive xs e)
+  alive_lent : part layout.alive_at (layout.alive_at + get_or xs layout.alive_count 0 - layout.alive_at) xs ≡ items_at layout.alive_places (layout.alive_part xs)
+  alive_lent = count_lent layout.alive_at layout.alive_size layout.alive_places xs (omega arith) (ok_alive xs e).fits ∙ lent layout.alive_places _ (ok_alive xs e)
 
-  views-is : (a b c : Bool) → a ≡ disjoint (part layout.active_at (layout.active_at + get_or xs layout.active_count 0 - layout.active_at) xs) (part layout.passive_at (layout.passive_at + get_or xs layout.passive_count 0 - layout.passive_at) xs) → b ≡ mem (layout.me xs) (part layout.active_at (layout.active_at + get_or xs layout.active_count 0 - layout.active_at) xs) → c ≡ mem (layout.me xs) (part layout.passive_at (layout.passive_at + get_or xs layout.passive_count 0 - layout.passive_at) xs)
+  views_is : (a b c : Bool) → a ≡ disjoint (part layout.active_at (layout.active_at + get_or xs layout.active_count 0 - layout.active_at) xs) (part layout.passive_at (layout.passive_at + get_or xs layout.passive_count 0 - layout.passive_at) xs) → b ≡ mem (layout.me xs) (part layout.active_at (layout.active_at + get_or xs layout.active_count 0 - layout.active_at) xs) → c ≡ mem (layout.me xs) (part layout.passive_at (layout.passive_at + get_or xs layout.passive_count 0 - layout.passive_at) xs)
       → ((a && not b) && not c) ≡ views_rule (unpack xs)
   unfolding views_rule unpack station_of
-  views-is a b c p q r =
+  views_is a b c p q r =
       and_assoc a (not b) (not c)
-      ∙ (λ i. (p ∙ (λ j. disjoint (active-lent j) (passive-lent j))) i && (not ((q ∙ ap (mem (layout.me xs)) active-lent) i) && not ((r ∙ ap (mem (layout.me xs)) passive-lent) i)))
+      ∙ (λ i. (p ∙ (λ j. disjoint (active_lent j) (passive_lent j))) i && (not ((q ∙ ap (mem (layout.me xs)) active_lent) i) && not ((r ∙ ap (mem (layout.me xs)) passive_lent) i)))
 
-  alive-is : (d : Bool) → d ≡ subset (part layout.alive_at (layout.alive_at + get_or xs layout.alive_count 0 - layout.alive_at) xs) (part layout.passive_at (layout.passive_at + get_or xs layout.passive_count 0 - layout.passive_at) xs) → d ≡ alive_rule (unpack xs)
+  alive_is : (d : Bool) → d ≡ subset (part layout.alive_at (layout.alive_at + get_or xs layout.alive_count 0 - layout.alive_at) xs) (part layout.passive_at (layout.passive_at + get_or xs layout.passive_count 0 - layout.passive_at) xs) → d ≡ alive_rule (unpack xs)
   unfolding alive_rule unpack station_of
-  alive-is d p = p ∙ (λ j. subset (alive-lent j) (passive-lent j))
+  alive_is d p = p ∙ (λ j. subset (alive_lent j) (passive_lent j))
 
-  held-is : (k : Bool) → k ≡ subset (keys (data_map_at layout.peer_data_places (layout.peer_data_part xs))) (items_at layout.active_places (layout.active_part xs) ++ (items_at layout.passive_places (layout.passive_part xs) ++ keys (numbers_at layout.requests_places (layout.requests_part xs)))) → k ≡ held_rule (unpack xs)
+  held_is : (k : Bool) → k ≡ subset (keys (data_map_at layout.peer_data_places (layout.peer_data_part xs))) (items_at layout.active_places (layout.active_part xs) ++ (items_at layout.passive_places (layout.passive_part xs) ++ keys (numbers_at layout.requests_places (layout.requests_part xs)))) → k ≡ held_rule (unpack xs)
   unfolding held_rule unpack station_of data_peers
-  held-is k p = p
+  held_is k p = p
 
-  pub views-are : (a b c d k : Bool) → a ≡ disjoint (part layout.active_at (layout.active_at + get_or xs layout.active_count 0 - layout.active_at) xs) (part layout.passive_at (layout.passive_at + get_or xs layout.passive_count 0 - layout.passive_at) xs) → b ≡ mem (layout.me xs) (part layout.active_at (layout.active_at + get_or xs layout.active_count 0 - layout.active_at) xs) → c ≡ mem (layout.me xs) (part layout.passive_at (layout.passive_at + get_or xs layout.passive_count 0 - layout.passive_at) xs)
+  pub views_are : (a b c d k : Bool) → a ≡ disjoint (part layout.active_at (layout.active_at + get_or xs layout.active_count 0 - layout.active_at) xs) (part layout.passive_at (layout.passive_at + get_or xs layout.passive_count 0 - layout.passive_at) xs) → b ≡ mem (layout.me xs) (part layout.active_at (layout.active_at + get_or xs layout.active_count 0 - layout.active_at) xs) → c ≡ mem (layout.me xs) (part layout.passive_at (layout.passive_at + get_or xs layout.passive_count 0 - layout.passive_at) xs)
       → d ≡ subset (part layout.alive_at (layout.alive_at + get_or xs layout.alive_count 0 - layout.alive_at) xs) (part layout.passive_at (layout.passive_at + get_or xs layout.passive_count 0 - layout.passive_at) xs) → k ≡ subset (keys (data_map_at layout.peer_data_places (layout.peer_data_part xs))) (items_at layout.active_places (layout.active_part xs) ++ (items_at layout.passive_places (layout.passive_part xs) ++ keys (numbers_at layout.requests_places (layout.requests_part xs))))
       → ((((a && not b) && not c) && d) && k) ≡ view_rules (unpack xs)
-  views-are a b c d k p q r s t =
-      and_assoc ((a && not b) && not c) d k ∙ (λ i. views-is a b c p q r i && (alive-is d s i && held-is k t i))
+  views_are a b c d k p q r s t =
+      and_assoc ((a && not b) && not c) d k ∙ (λ i. views_is a b c p q r i && (alive_is d s i && held_is k t i))
 
   joins_lent : part layout.joins_at (layout.joins_at + get_or xs layout.joins_count 0 - layout.joins_at) xs ≡ keys (numbers_at layout.joins_places (layout.joins_part xs))
-  joins_lent = count_lent layout.joins_at layout.joins_size (layout.joins_places + layout.joins_places) xs (omega arith) (omega (arith, (ok-joins xs e).fits)) ∙ peers-lent layout.joins_places _ (ok-joins xs e)
+  joins_lent = count_lent layout.joins_at layout.joins_size (layout.joins_places + layout.joins_places) xs (omega arith) (omega (arith, (ok_joins xs e).fits)) ∙ peers_lent layout.joins_places _ (ok_joins xs e)
 
-  pub none-joined : get_or xs layout.joins_count 0 ≡ 0 → true ≡ joins_rule (unpack xs)
+  pub none_joined : get_or xs layout.joins_count 0 ≡ 0 → true ≡ joins_rule (unpack xs)
   unfolding joins_rule unpack station_of part subset disjoint has mem
-  none-joined z =
+  none_joined z =
       let n : 0 ≡ layout.joins_at + get_or xs layout.joins_count 0 - layout.joins_at = omega arith in
       ap (λ (l : List ℕ). subset l (items_at layout.bootstrap_places (layout.bootstrap_part xs)) && (disjoint l (items_at layout.active_places (layout.active_part xs)) && not (mem (layout.me xs) l))) (ap (λ (j : ℕ). take j (drop layout.joins_at xs)) n ∙ joins_lent)
 
-  pub joins-are : (a b c : Bool) → a ≡ subset (part layout.joins_at (layout.joins_at + get_or xs layout.joins_count 0 - layout.joins_at) xs) (part layout.bootstrap_at (layout.bootstrap_at + get_or xs layout.bootstrap_count 0 - layout.bootstrap_at) xs) → b ≡ disjoint (part layout.joins_at (layout.joins_at + get_or xs layout.joins_count 0 - layout.joins_at) xs) (part layout.active_at (layout.active_at + get_or xs layout.active_count 0 - layout.active_at) xs)
+  pub joins_are : (a b c : Bool) → a ≡ subset (part layout.joins_at (layout.joins_at + get_or xs layout.joins_count 0 - layout.joins_at) xs) (part layout.bootstrap_at (layout.bootstrap_at + get_or xs layout.bootstrap_count 0 - layout.bootstrap_at) xs) → b ≡ disjoint (part layout.joins_at (layout.joins_at + get_or xs layout.joins_count 0 - layout.joins_at) xs) (part layout.active_at (layout.active_at + get_or xs layout.active_count 0 - layout.active_at) xs)
       → c ≡ mem (layout.me xs) (part layout.joins_at (layout.joins_at + get_or xs layout.joins_count 0 - layout.joins_at) xs) → (a && b && not c) ≡ joins_rule (unpack xs)
   unfolding joins_rule unpack station_of has
-  joins-are a b c p q r =
-      let boot = count_lent layout.bootstrap_at layout.bootstrap_size layout.bootstrap_places xs (omega arith) (ok-bootstrap xs e).fits ∙ lent layout.bootstrap_places _ (ok-bootstrap xs e) in
+  joins_are a b c p q r =
+      let boot = count_lent layout.bootstrap_at layout.bootstrap_size layout.bootstrap_places xs (omega arith) (ok_bootstrap xs e).fits ∙ lent layout.bootstrap_places _ (ok_bootstrap xs e) in
       and_assoc a b (not c)
-      ∙ (λ i. (p ∙ (λ j. subset (joins_lent j) (boot j))) i && ((q ∙ (λ j. disjoint (joins_lent j) (active-lent j))) i && not ((r ∙ ap (mem (layout.me xs)) joins_lent) i)))
+      ∙ (λ i. (p ∙ (λ j. subset (joins_lent j) (boot j))) i && ((q ∙ (λ j. disjoint (joins_lent j) (active_lent j))) i && not ((r ∙ ap (mem (layout.me xs)) joins_lent) i)))
 
 -- ---- the pins: fewer than the active view may have, where there are any
 
@@ -150,18 +150,18 @@ few_pins (suc n) c =
     (λ t. rw (some, t) (sym (lt-leb (suc n) (c - 1) (omega (arith, ltb-false (suc n) c t)))))
 
 module _ (xs : List ℕ) (e : packed_ok xs ≡ true) where
-  pub few-pinned : get_or xs layout.pins_count 0 ≤ layout.pins_places
-  few-pinned = omega (arith, part_read layout.pins_at layout.pins_size layout.pins_places xs (omega arith), (ok-pins xs e).fits)
+  pub few_pinned : get_or xs layout.pins_count 0 ≤ layout.pins_places
+  few_pinned = omega (arith, part_read layout.pins_at layout.pins_size layout.pins_places xs (omega arith), (ok_pins xs e).fits)
 
-  pins-lent : part layout.pins_at (layout.pins_at + get_or xs layout.pins_count 0 - layout.pins_at) xs ≡ items_at layout.pins_places (layout.pins_part xs)
-  pins-lent = count_lent layout.pins_at layout.pins_size layout.pins_places xs (omega arith) (ok-pins xs e).fits ∙ lent layout.pins_places _ (ok-pins xs e)
+  pins_lent : part layout.pins_at (layout.pins_at + get_or xs layout.pins_count 0 - layout.pins_at) xs ≡ items_at layout.pins_places (layout.pins_part xs)
+  pins_lent = count_lent layout.pins_at layout.pins_size layout.pins_places xs (omega arith) (ok_pins xs e).fits ∙ lent layout.pins_places _ (ok_pins xs e)
 
-  pub pins-are : (a : Bool) → a ≡ subset (part layout.pins_at (layout.pins_at + get_or xs layout.pins_count 0 - layout.pins_at) xs) (part layout.active_at (layout.active_at + get_or xs layout.active_count 0 - layout.active_at) xs)
+  pub pins_are : (a : Bool) → a ≡ subset (part layout.pins_at (layout.pins_at + get_or xs layout.pins_count 0 - layout.pins_at) xs) (part layout.active_at (layout.active_at + get_or xs layout.active_count 0 - layout.active_at) xs)
       → (a && (eqb (get_or xs layout.pins_count 0) 0 || ltb (get_or xs layout.pins_count 0) (layout.active_view_capacity xs))) ≡ pins_rule (unpack xs)
   unfolding pins_rule most_pins unpack station_of settings_at
-  pins-are a p =
-      (λ i. (p ∙ (λ j. subset (pins-lent j) (active-lent xs e j))) i && few_pins (get_or xs layout.pins_count 0) (layout.active_view_capacity xs) i)
-      ∙ ap (λ (n : ℕ). subset (items_at layout.pins_places (layout.pins_part xs)) (items_at layout.active_places (layout.active_part xs)) && leb n (layout.active_view_capacity xs - 1)) (sym (count_pins xs (ok-pins xs e)))
+  pins_are a p =
+      (λ i. (p ∙ (λ j. subset (pins_lent j) (active_lent xs e j))) i && few_pins (get_or xs layout.pins_count 0) (layout.active_view_capacity xs) i)
+      ∙ ap (λ (n : ℕ). subset (items_at layout.pins_places (layout.pins_part xs)) (items_at layout.active_places (layout.active_part xs)) && leb n (layout.active_view_capacity xs - 1)) (sym (count_pins xs (ok_pins xs e)))
 
 -- ---- the limit
 
@@ -192,17 +192,17 @@ self_is xs b p = λ i. not (p i)
 
 module _ (xs : List ℕ) (e : packed_ok xs ≡ true) where
   -- no more entries than places
-  pub room-held : room_rule (unpack xs) ≡ true
+  pub room_held : room_rule (unpack xs) ≡ true
   unfolding room_rule unpack station_of
-  room-held =
+  room_held =
       let v = ok_shape xs e in
       both_true _ _ (le-leb (length (numbers_at layout.requests_places (layout.requests_part xs))) layout.requests_places (omega (arith, v.sections.requests.counted, v.sections.requests.fits)))
       (both_true _ _ (le-leb (length (items_at layout.refused_places (layout.refused_part xs))) layout.refused_places (omega (arith, v.sections.refused.counted, v.sections.refused.fits)))
       (le-leb (length (data_map_at layout.peer_data_places (layout.peer_data_part xs))) layout.peer_data_places (omega (arith, v.sections.peer_data.counted, v.sections.peer_data.fits))))
 
-  pub few-held : few_rule (unpack xs) ≡ true
+  pub few_held : few_rule (unpack xs) ≡ true
   unfolding few_rule unpack station_of
-  few-held =
+  few_held =
       let v = ok_shape xs e in
       both_true _ _ (le-leb (length (items_at layout.bootstrap_places (layout.bootstrap_part xs))) layout.bootstrap_places (omega (arith, v.sections.bootstrap.counted, v.sections.bootstrap.fits)))
       (le-leb (length (items_at layout.recent_places (layout.recent_part xs))) layout.recent_places (omega (arith, v.sections.recent.counted, v.sections.recent.fits)))
@@ -214,7 +214,7 @@ values_short (x ∷ m) a = both_true (leb (length x.1) max_data_length) _ (le-le
 
 data_short : (m : List ℕ) → ValidDataWords layout.peer_data_places m → All (λ (b : List ℕ). length b ≤ max_data_length) (values (data_map_at layout.peer_data_places m))
 data_short m v =
-    rw (entries_values no_data layout.peer_data_places entry_bytes ValidEntry _ _ _ _ (data-entries layout.peer_data_places m v))
+    rw (entries_values no_data layout.peer_data_places entry_bytes ValidEntry _ _ _ _ (data_entries layout.peer_data_places m v))
     (all_map ValidEntry (λ (b : List ℕ). length b ≤ max_data_length) entry_bytes (λ x h. omega (arith, length_entry x h, h.fits)) (take (count_of layout.peer_data_places m) (entries_at layout.peer_data_places m)) v.each)
 
 own_short : (d : PeerData) → ValidData d → short_data (data_in d) ≡ true
@@ -282,7 +282,7 @@ rules_are : (xs : List ℕ) → packed_ok xs ≡ true → (a b c d g h k l m n v
 rules_are xs t a b c d g h k l m n v w p₁ p₂ p₃ p₄ p₅ p₆ p₇ p₈ p₉ p₁₀ p₁₁ p₁₂ =
     (λ i. p₁ i && (p₂ i && (p₃ i && (p₄ i && ((p₅ i && (p₆ i && (p₇ i && (p₈ i && (p₉ i && p₁₀ i))))) && (p₁₁ i && p₁₂ i))))))
     ∙ ends (unpack xs)
-    ∙ sym (rules_left (unpack xs) (few-held xs t) (room-held xs t) (data_held xs t) ∙ rules_last (unpack xs))
+    ∙ sym (rules_left (unpack xs) (few_held xs t) (room_held xs t) (data_held xs t) ∙ rules_last (unpack xs))
 
 -- the tests one after another, as the code has them
 pub tests_are : (xs : List ℕ) → packed_ok xs ≡ true → (s r o j n h v w : Bool) → s ≡ settings_rule (unpack xs) → r ≡ repeats_rule (unpack xs) → o ≡ order_rule (unpack xs)
@@ -293,4 +293,4 @@ pub tests_are : (xs : List ℕ) → packed_ok xs ≡ true → (s r o j n h v w :
     ≡ state_ok xs
 unfolding state_ok
 tests_are xs t s r o j n h v w e₁ e₂ e₃ e₄ e₅ e₆ e₇ e₈ =
-    rw t (simp and_assoc (simp and_assoc at (rules_are xs t _ _ _ _ _ _ _ _ _ _ _ _ e₁ e₂ e₃ (capacity-is xs t) e₄ e₅ (self_is xs h e₆) (limit_is xs t) (interval_is xs) (width_is xs t) e₇ e₈)))
+    rw t (simp and_assoc (simp and_assoc at (rules_are xs t _ _ _ _ _ _ _ _ _ _ _ _ e₁ e₂ e₃ (capacity_is xs t) e₄ e₅ (self_is xs h e₆) (limit_is xs t) (interval_is xs) (width_is xs t) e₇ e₈)))

@@ -103,9 +103,9 @@ wide_of g e =
     }
 
 module _ (xs : List ℕ) (v : Shape xs) where
-  pub shape-packed : Kept (unpack xs) → PackedState xs
+  pub shape_packed : Kept (unpack xs) → PackedState xs
   unfolding unpack station_of settings_at settings_rule capacity_rule interval_rule within
-  shape-packed r =
+  shape_packed r =
       let top = (ranges (settings_at xs) r.settings).interval.most in
       let last = leb-true (layout.next_shuffle_interval xs) (layout.shuffle_interval xs) (and_right (leb 1 (layout.next_shuffle_interval xs)) _ r.interval) in
       let fits = leb (length (items_at layout.active_places (layout.active_part xs))) (layout.active_view_capacity xs) in
@@ -134,4 +134,4 @@ pub ok_state : (xs : List ℕ) → state_ok xs ≡ true → Ok xs
 unfolding state_ok
 ok_state xs e =
     let f = and_right (packed_ok xs) _ e in
-    record { packed = shape-packed xs (ok_shape xs (and_left (packed_ok xs) _ e)) (ok_kept (unpack xs) f); rules = f }
+    record { packed = shape_packed xs (ok_shape xs (and_left (packed_ok xs) _ e)) (ok_kept (unpack xs) f); rules = f }

@@ -7,25 +7,25 @@ use native.Mathlib.Omega.{arith}
 use lib.ListN.{length, take, drop, length-append, length-drop, take-append-drop}
 use lib.Seq.{take_all, take_at, drop_at, drop-drop}
 use Rattle.base_util.specs.Section.{part, section}
-use Rattle.base_util.proofs.Sets.{framed-long}
+use Rattle.base_util.proofs.Sets.{framed_long}
 use Rattle.base_columns.specs.Columns.{numbers_section, data_section}
 use Rattle.spec_hyparview.specs.Station.{Station}
 use Rattle.hyparview_state.specs.Layout as layout
 use Rattle.hyparview_state.specs.Layout.{sections}
 use Rattle.hyparview_rules.specs.Pack.{front, pack}
-use Rattle.hyparview_rules.proofs.Maps.{numbers_stored, data-stored}
+use Rattle.hyparview_rules.proofs.Maps.{numbers_stored, data_stored}
 
 section_long : (n : ℕ) (xs : List ℕ) → length (section n xs) ≡ n + 1
 unfolding section
-section_long n xs = framed-long n xs (length xs)
+section_long n xs = framed_long n xs (length xs)
 
 module _ (a k : ℕ) (xs ys zs : List ℕ) (e : drop a xs ≡ ys ++ zs) (l : length ys ≡ k) where
-  part-here : part a k xs ≡ ys
+  part_here : part a k xs ≡ ys
   unfolding part
-  part-here = ap (take k) e ∙ take_at ys zs k l
+  part_here = ap (take k) e ∙ take_at ys zs k l
 
-  rest-here : drop (a + k) xs ≡ zs
-  rest-here = sym (drop-drop k a xs) ∙ ap (drop k) e ∙ drop_at ys zs k l
+  rest_here : drop (a + k) xs ≡ zs
+  rest_here = sym (drop-drop k a xs) ∙ ap (drop k) e ∙ drop_at ys zs k l
 
 joined : (a k : ℕ) (xs : List ℕ) → part a k xs ++ drop (a + k) xs ≡ drop a xs
 unfolding part
@@ -35,72 +35,72 @@ joined a k xs = ap (λ (l : List ℕ). take k (drop a xs) ++ l) (sym (drop-drop 
 
 module _ (g : Station) where
   -- the sections from each on
-  abbrev from-pins : List ℕ
-  from-pins = section layout.pins_places g.pins
+  abbrev from_pins : List ℕ
+  from_pins = section layout.pins_places g.pins
 
-  abbrev from-peer-data : List ℕ
-  from-peer-data = data_section layout.peer_data_places g.peer_data ++ from-pins
+  abbrev from_peer_data : List ℕ
+  from_peer_data = data_section layout.peer_data_places g.peer_data ++ from_pins
 
-  abbrev from-joins : List ℕ
-  from-joins = numbers_section layout.joins_places g.joins ++ from-peer-data
+  abbrev from_joins : List ℕ
+  from_joins = numbers_section layout.joins_places g.joins ++ from_peer_data
 
-  abbrev from-recent : List ℕ
-  from-recent = section layout.recent_places g.recent ++ from-joins
+  abbrev from_recent : List ℕ
+  from_recent = section layout.recent_places g.recent ++ from_joins
 
-  abbrev from-bootstrap : List ℕ
-  from-bootstrap = section layout.bootstrap_places g.bootstrap ++ from-recent
+  abbrev from_bootstrap : List ℕ
+  from_bootstrap = section layout.bootstrap_places g.bootstrap ++ from_recent
 
-  abbrev from-requests : List ℕ
-  from-requests = numbers_section layout.requests_places g.requests ++ from-bootstrap
+  abbrev from_requests : List ℕ
+  from_requests = numbers_section layout.requests_places g.requests ++ from_bootstrap
 
-  abbrev from-refused : List ℕ
-  from-refused = section layout.refused_places g.refused ++ from-requests
+  abbrev from_refused : List ℕ
+  from_refused = section layout.refused_places g.refused ++ from_requests
 
-  abbrev from-alive : List ℕ
-  from-alive = section layout.alive_places g.alive ++ from-refused
+  abbrev from_alive : List ℕ
+  from_alive = section layout.alive_places g.alive ++ from_refused
 
-  abbrev from-passive : List ℕ
-  from-passive = section layout.passive_places g.passive ++ from-alive
+  abbrev from_passive : List ℕ
+  from_passive = section layout.passive_places g.passive ++ from_alive
 
-  abbrev from-active : List ℕ
-  from-active = section layout.active_places g.active ++ from-passive
+  abbrev from_active : List ℕ
+  from_active = section layout.active_places g.active ++ from_passive
 
-  at-active : drop layout.active_at (pack g) ≡ from-active
+  at_active : drop layout.active_at (pack g) ≡ from_active
   unfolding pack front
-  at-active = drop_at (front g) from-active layout.active_at refl
+  at_active = drop_at (front g) from_active layout.active_at refl
 
-  at-passive : drop layout.passive_at (pack g) ≡ from-passive
-  at-passive = rest-here layout.active_at layout.active_size (pack g) (section layout.active_places g.active) from-passive at-active (section_long layout.active_places g.active)
+  at_passive : drop layout.passive_at (pack g) ≡ from_passive
+  at_passive = rest_here layout.active_at layout.active_size (pack g) (section layout.active_places g.active) from_passive at_active (section_long layout.active_places g.active)
 
-  at-alive : drop layout.alive_at (pack g) ≡ from-alive
-  at-alive = rest-here layout.passive_at layout.passive_size (pack g) (section layout.passive_places g.passive) from-alive at-passive (section_long layout.passive_places g.passive)
+  at_alive : drop layout.alive_at (pack g) ≡ from_alive
+  at_alive = rest_here layout.passive_at layout.passive_size (pack g) (section layout.passive_places g.passive) from_alive at_passive (section_long layout.passive_places g.passive)
 
-  at-refused : drop layout.refused_at (pack g) ≡ from-refused
-  at-refused = rest-here layout.alive_at layout.alive_size (pack g) (section layout.alive_places g.alive) from-refused at-alive (section_long layout.alive_places g.alive)
+  at_refused : drop layout.refused_at (pack g) ≡ from_refused
+  at_refused = rest_here layout.alive_at layout.alive_size (pack g) (section layout.alive_places g.alive) from_refused at_alive (section_long layout.alive_places g.alive)
 
-  at-requests : drop layout.requests_at (pack g) ≡ from-requests
-  at-requests = rest-here layout.refused_at layout.refused_size (pack g) (section layout.refused_places g.refused) from-requests at-refused (section_long layout.refused_places g.refused)
+  at_requests : drop layout.requests_at (pack g) ≡ from_requests
+  at_requests = rest_here layout.refused_at layout.refused_size (pack g) (section layout.refused_places g.refused) from_requests at_refused (section_long layout.refused_places g.refused)
 
-  at-bootstrap : drop layout.bootstrap_at (pack g) ≡ from-bootstrap
-  at-bootstrap = rest-here layout.requests_at layout.requests_size (pack g) (numbers_section layout.requests_places g.requests) from-bootstrap at-requests (numbers_stored layout.requests_places g.requests).long
+  at_bootstrap : drop layout.bootstrap_at (pack g) ≡ from_bootstrap
+  at_bootstrap = rest_here layout.requests_at layout.requests_size (pack g) (numbers_section layout.requests_places g.requests) from_bootstrap at_requests (numbers_stored layout.requests_places g.requests).long
 
-  at-recent : drop layout.recent_at (pack g) ≡ from-recent
-  at-recent = rest-here layout.bootstrap_at layout.bootstrap_size (pack g) (section layout.bootstrap_places g.bootstrap) from-recent at-bootstrap (section_long layout.bootstrap_places g.bootstrap)
+  at_recent : drop layout.recent_at (pack g) ≡ from_recent
+  at_recent = rest_here layout.bootstrap_at layout.bootstrap_size (pack g) (section layout.bootstrap_places g.bootstrap) from_recent at_bootstrap (section_long layout.bootstrap_places g.bootstrap)
 
-  at-joins : drop layout.joins_at (pack g) ≡ from-joins
-  at-joins = rest-here layout.recent_at layout.recent_size (pack g) (section layout.recent_places g.recent) from-joins at-recent (section_long layout.recent_places g.recent)
+  at_joins : drop layout.joins_at (pack g) ≡ from_joins
+  at_joins = rest_here layout.recent_at layout.recent_size (pack g) (section layout.recent_places g.recent) from_joins at_recent (section_long layout.recent_places g.recent)
 
-  at-peer-data : drop layout.peer_data_at (pack g) ≡ from-peer-data
-  at-peer-data = rest-here layout.joins_at layout.joins_size (pack g) (numbers_section layout.joins_places g.joins) from-peer-data at-joins (numbers_stored layout.joins_places g.joins).long
+  at_peer_data : drop layout.peer_data_at (pack g) ≡ from_peer_data
+  at_peer_data = rest_here layout.joins_at layout.joins_size (pack g) (numbers_section layout.joins_places g.joins) from_peer_data at_joins (numbers_stored layout.joins_places g.joins).long
 
-  at-pins : drop layout.pins_at (pack g) ≡ from-pins
-  at-pins = rest-here layout.peer_data_at layout.peer_data_size (pack g) (data_section layout.peer_data_places g.peer_data) from-pins at-peer-data (data-stored layout.peer_data_places g.peer_data).long
+  at_pins : drop layout.pins_at (pack g) ≡ from_pins
+  at_pins = rest_here layout.peer_data_at layout.peer_data_size (pack g) (data_section layout.peer_data_places g.peer_data) from_pins at_peer_data (data_stored layout.peer_data_places g.peer_data).long
 
-  last-part : layout.pins_part (pack g) ≡ from-pins
+  last_part : layout.pins_part (pack g) ≡ from_pins
   unfolding part
-  last-part = ap (take layout.pins_size) at-pins ∙ take_all layout.pins_size from-pins (omega (arith, section_long layout.pins_places g.pins))
+  last_part = ap (take layout.pins_size) at_pins ∙ take_all layout.pins_size from_pins (omega (arith, section_long layout.pins_places g.pins))
 
-  pub packed-sections : sections (pack g) ≡ record {
+  pub packed_sections : sections (pack g) ≡ record {
     active = section layout.active_places g.active;
     passive = section layout.passive_places g.passive;
     alive = section layout.alive_places g.alive;
@@ -112,34 +112,34 @@ module _ (g : Station) where
     peer_data = data_section layout.peer_data_places g.peer_data;
     pins = section layout.pins_places g.pins;
   }
-  packed-sections = λ i. record {
-    active = part-here layout.active_at layout.active_size (pack g) (section layout.active_places g.active) from-passive at-active (section_long layout.active_places g.active) i;
-    passive = part-here layout.passive_at layout.passive_size (pack g) (section layout.passive_places g.passive) from-alive at-passive (section_long layout.passive_places g.passive) i;
-    alive = part-here layout.alive_at layout.alive_size (pack g) (section layout.alive_places g.alive) from-refused at-alive (section_long layout.alive_places g.alive) i;
-    refused = part-here layout.refused_at layout.refused_size (pack g) (section layout.refused_places g.refused) from-requests at-refused (section_long layout.refused_places g.refused) i;
-    requests = part-here layout.requests_at layout.requests_size (pack g) (numbers_section layout.requests_places g.requests) from-bootstrap at-requests (numbers_stored layout.requests_places g.requests).long i;
-    bootstrap = part-here layout.bootstrap_at layout.bootstrap_size (pack g) (section layout.bootstrap_places g.bootstrap) from-recent at-bootstrap (section_long layout.bootstrap_places g.bootstrap) i;
-    recent = part-here layout.recent_at layout.recent_size (pack g) (section layout.recent_places g.recent) from-joins at-recent (section_long layout.recent_places g.recent) i;
-    joins = part-here layout.joins_at layout.joins_size (pack g) (numbers_section layout.joins_places g.joins) from-peer-data at-joins (numbers_stored layout.joins_places g.joins).long i;
-    peer_data = part-here layout.peer_data_at layout.peer_data_size (pack g) (data_section layout.peer_data_places g.peer_data) from-pins at-peer-data (data-stored layout.peer_data_places g.peer_data).long i;
-    pins = last-part i;
+  packed_sections = λ i. record {
+    active = part_here layout.active_at layout.active_size (pack g) (section layout.active_places g.active) from_passive at_active (section_long layout.active_places g.active) i;
+    passive = part_here layout.passive_at layout.passive_size (pack g) (section layout.passive_places g.passive) from_alive at_passive (section_long layout.passive_places g.passive) i;
+    alive = part_here layout.alive_at layout.alive_size (pack g) (section layout.alive_places g.alive) from_refused at_alive (section_long layout.alive_places g.alive) i;
+    refused = part_here layout.refused_at layout.refused_size (pack g) (section layout.refused_places g.refused) from_requests at_refused (section_long layout.refused_places g.refused) i;
+    requests = part_here layout.requests_at layout.requests_size (pack g) (numbers_section layout.requests_places g.requests) from_bootstrap at_requests (numbers_stored layout.requests_places g.requests).long i;
+    bootstrap = part_here layout.bootstrap_at layout.bootstrap_size (pack g) (section layout.bootstrap_places g.bootstrap) from_recent at_bootstrap (section_long layout.bootstrap_places g.bootstrap) i;
+    recent = part_here layout.recent_at layout.recent_size (pack g) (section layout.recent_places g.recent) from_joins at_recent (section_long layout.recent_places g.recent) i;
+    joins = part_here layout.joins_at layout.joins_size (pack g) (numbers_section layout.joins_places g.joins) from_peer_data at_joins (numbers_stored layout.joins_places g.joins).long i;
+    peer_data = part_here layout.peer_data_at layout.peer_data_size (pack g) (data_section layout.peer_data_places g.peer_data) from_pins at_peer_data (data_stored layout.peer_data_places g.peer_data).long i;
+    pins = last_part i;
   }
 
-  pub packed-long : length (pack g) ≡ layout.words
+  pub packed_long : length (pack g) ≡ layout.words
   unfolding pack front
-  packed-long =
+  packed_long =
       omega (
         arith,
-        length-append (front g) from-active,
-        length-append (section layout.active_places g.active) from-passive,
-        length-append (section layout.passive_places g.passive) from-alive,
-        length-append (section layout.alive_places g.alive) from-refused,
-        length-append (section layout.refused_places g.refused) from-requests,
-        length-append (numbers_section layout.requests_places g.requests) from-bootstrap,
-        length-append (section layout.bootstrap_places g.bootstrap) from-recent,
-        length-append (section layout.recent_places g.recent) from-joins,
-        length-append (numbers_section layout.joins_places g.joins) from-peer-data,
-        length-append (data_section layout.peer_data_places g.peer_data) from-pins,
+        length-append (front g) from_active,
+        length-append (section layout.active_places g.active) from_passive,
+        length-append (section layout.passive_places g.passive) from_alive,
+        length-append (section layout.alive_places g.alive) from_refused,
+        length-append (section layout.refused_places g.refused) from_requests,
+        length-append (numbers_section layout.requests_places g.requests) from_bootstrap,
+        length-append (section layout.bootstrap_places g.bootstrap) from_recent,
+        length-append (section layout.recent_places g.recent) from_joins,
+        length-append (numbers_section layout.joins_places g.joins) from_peer_data,
+        length-append (data_section layout.peer_data_places g.peer_data) from_pins,
         section_long layout.active_places g.active,
         section_long layout.passive_places g.passive,
         section_long layout.alive_places g.alive,
@@ -148,7 +148,7 @@ module _ (g : Station) where
         section_long layout.bootstrap_places g.bootstrap,
         section_long layout.recent_places g.recent,
         (numbers_stored layout.joins_places g.joins).long,
-        (data-stored layout.peer_data_places g.peer_data).long,
+        (data_stored layout.peer_data_places g.peer_data).long,
         section_long layout.pins_places g.pins,
       )
 

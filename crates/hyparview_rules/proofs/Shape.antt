@@ -12,9 +12,9 @@ use Rattle.base_lists.proofs.Choice.{and_left, and_right}
 use Rattle.base_lists.proofs.Tests.{both_true}
 use Rattle.base_util.specs.Section.{ValidSet, valid_set}
 use Rattle.base_util.proofs.Parts.{part_long}
-use Rattle.base_util.proofs.Sets.{valid-set-true, true_valid_set}
+use Rattle.base_util.proofs.Sets.{valid_set_true, true_valid_set}
 use Rattle.base_columns.specs.Columns.{words_end, ValidNumbers, valid_numbers, ValidDataWords, valid_data_words}
-use Rattle.base_columns.proofs.Numbers.{valid-numbers-true, true_valid_numbers}
+use Rattle.base_columns.proofs.Numbers.{valid_numbers_true, true_valid_numbers}
 use Rattle.base_columns.proofs.Testing.{valid_words_true, true_valid_words}
 use Rattle.base_peer.specs.Held.{ValidData, valid_data}
 use Rattle.base_peer.proofs.Data.{valid_data_true, true_valid_data}
@@ -47,16 +47,16 @@ formed_true xs l e0 =
     let e7 = and_right (valid_set layout.recent_places (layout.recent_part xs)) _ e6 in
     let e8 = and_right (valid_numbers layout.joins_places (layout.joins_part xs)) _ e7 in
     record {
-      active = valid-set-true layout.active_places _ (part_long layout.active_at layout.active_size xs (omega (arith, l))) (and_left (valid_set layout.active_places (layout.active_part xs)) _ e0);
-      passive = valid-set-true layout.passive_places _ (part_long layout.passive_at layout.passive_size xs (omega (arith, l))) (and_left (valid_set layout.passive_places (layout.passive_part xs)) _ e1);
-      alive = valid-set-true layout.alive_places _ (part_long layout.alive_at layout.alive_size xs (omega (arith, l))) (and_left (valid_set layout.alive_places (layout.alive_part xs)) _ e2);
-      refused = valid-set-true layout.refused_places _ (part_long layout.refused_at layout.refused_size xs (omega (arith, l))) (and_left (valid_set layout.refused_places (layout.refused_part xs)) _ e3);
-      requests = valid-numbers-true layout.requests_places _ (part_long layout.requests_at layout.requests_size xs (omega (arith, l))) (and_left (valid_numbers layout.requests_places (layout.requests_part xs)) _ e4);
-      bootstrap = valid-set-true layout.bootstrap_places _ (part_long layout.bootstrap_at layout.bootstrap_size xs (omega (arith, l))) (and_left (valid_set layout.bootstrap_places (layout.bootstrap_part xs)) _ e5);
-      recent = valid-set-true layout.recent_places _ (part_long layout.recent_at layout.recent_size xs (omega (arith, l))) (and_left (valid_set layout.recent_places (layout.recent_part xs)) _ e6);
-      joins = valid-numbers-true layout.joins_places _ (part_long layout.joins_at layout.joins_size xs (omega (arith, l))) (and_left (valid_numbers layout.joins_places (layout.joins_part xs)) _ e7);
+      active = valid_set_true layout.active_places _ (part_long layout.active_at layout.active_size xs (omega (arith, l))) (and_left (valid_set layout.active_places (layout.active_part xs)) _ e0);
+      passive = valid_set_true layout.passive_places _ (part_long layout.passive_at layout.passive_size xs (omega (arith, l))) (and_left (valid_set layout.passive_places (layout.passive_part xs)) _ e1);
+      alive = valid_set_true layout.alive_places _ (part_long layout.alive_at layout.alive_size xs (omega (arith, l))) (and_left (valid_set layout.alive_places (layout.alive_part xs)) _ e2);
+      refused = valid_set_true layout.refused_places _ (part_long layout.refused_at layout.refused_size xs (omega (arith, l))) (and_left (valid_set layout.refused_places (layout.refused_part xs)) _ e3);
+      requests = valid_numbers_true layout.requests_places _ (part_long layout.requests_at layout.requests_size xs (omega (arith, l))) (and_left (valid_numbers layout.requests_places (layout.requests_part xs)) _ e4);
+      bootstrap = valid_set_true layout.bootstrap_places _ (part_long layout.bootstrap_at layout.bootstrap_size xs (omega (arith, l))) (and_left (valid_set layout.bootstrap_places (layout.bootstrap_part xs)) _ e5);
+      recent = valid_set_true layout.recent_places _ (part_long layout.recent_at layout.recent_size xs (omega (arith, l))) (and_left (valid_set layout.recent_places (layout.recent_part xs)) _ e6);
+      joins = valid_numbers_true layout.joins_places _ (part_long layout.joins_at layout.joins_size xs (omega (arith, l))) (and_left (valid_numbers layout.joins_places (layout.joins_part xs)) _ e7);
       peer_data = valid_words_true layout.peer_data_places _ (part_long layout.peer_data_at layout.peer_data_size xs (omega (arith, l))) (and_left (valid_data_words layout.peer_data_places (layout.peer_data_part xs)) _ e8);
-      pins = valid-set-true layout.pins_places _ (part_long layout.pins_at layout.pins_size xs (omega (arith, l))) (and_right (valid_data_words layout.peer_data_places (layout.peer_data_part xs)) _ e8);
+      pins = valid_set_true layout.pins_places _ (part_long layout.pins_at layout.pins_size xs (omega (arith, l))) (and_right (valid_data_words layout.peer_data_places (layout.peer_data_part xs)) _ e8);
     }
 
 true_formed : (xs : List ℕ) → WellFormed (sections xs) → sections_ok xs ≡ true
@@ -117,36 +117,36 @@ packed_shape xs p w =
 
 -- for `search (of_ok, needs)`, by tools/make/layout.py
 module _ (xs : List ℕ) (e : packed_ok xs ≡ true) where
-  pub ok-active : ValidSet layout.active_places (layout.active_part xs)
-  ok-active = (ok_shape xs e).sections.active
+  pub ok_active : ValidSet layout.active_places (layout.active_part xs)
+  ok_active = (ok_shape xs e).sections.active
 
-  pub ok-passive : ValidSet layout.passive_places (layout.passive_part xs)
-  ok-passive = (ok_shape xs e).sections.passive
+  pub ok_passive : ValidSet layout.passive_places (layout.passive_part xs)
+  ok_passive = (ok_shape xs e).sections.passive
 
-  pub ok-alive : ValidSet layout.alive_places (layout.alive_part xs)
-  ok-alive = (ok_shape xs e).sections.alive
+  pub ok_alive : ValidSet layout.alive_places (layout.alive_part xs)
+  ok_alive = (ok_shape xs e).sections.alive
 
-  pub ok-refused : ValidSet layout.refused_places (layout.refused_part xs)
-  ok-refused = (ok_shape xs e).sections.refused
+  pub ok_refused : ValidSet layout.refused_places (layout.refused_part xs)
+  ok_refused = (ok_shape xs e).sections.refused
 
-  pub ok-requests : ValidNumbers layout.requests_places (layout.requests_part xs)
-  ok-requests = (ok_shape xs e).sections.requests
+  pub ok_requests : ValidNumbers layout.requests_places (layout.requests_part xs)
+  ok_requests = (ok_shape xs e).sections.requests
 
-  pub ok-bootstrap : ValidSet layout.bootstrap_places (layout.bootstrap_part xs)
-  ok-bootstrap = (ok_shape xs e).sections.bootstrap
+  pub ok_bootstrap : ValidSet layout.bootstrap_places (layout.bootstrap_part xs)
+  ok_bootstrap = (ok_shape xs e).sections.bootstrap
 
-  pub ok-recent : ValidSet layout.recent_places (layout.recent_part xs)
-  ok-recent = (ok_shape xs e).sections.recent
+  pub ok_recent : ValidSet layout.recent_places (layout.recent_part xs)
+  ok_recent = (ok_shape xs e).sections.recent
 
-  pub ok-joins : ValidNumbers layout.joins_places (layout.joins_part xs)
-  ok-joins = (ok_shape xs e).sections.joins
+  pub ok_joins : ValidNumbers layout.joins_places (layout.joins_part xs)
+  ok_joins = (ok_shape xs e).sections.joins
 
-  pub ok-peer-data : ValidDataWords layout.peer_data_places (layout.peer_data_part xs)
-  ok-peer-data = (ok_shape xs e).sections.peer_data
+  pub ok_peer_data : ValidDataWords layout.peer_data_places (layout.peer_data_part xs)
+  ok_peer_data = (ok_shape xs e).sections.peer_data
 
-  pub ok-pins : ValidSet layout.pins_places (layout.pins_part xs)
-  ok-pins = (ok_shape xs e).sections.pins
+  pub ok_pins : ValidSet layout.pins_places (layout.pins_part xs)
+  ok_pins = (ok_shape xs e).sections.pins
 
-pub ruleset of_ok = (ok-active, ok-passive, ok-alive, ok-refused, ok-requests, ok-bootstrap, ok-recent, ok-joins, ok-peer-data, ok-pins)
+pub ruleset of_ok = (ok_active, ok_passive, ok_alive, ok_refused, ok_requests, ok_bootstrap, ok_recent, ok_joins, ok_peer_data, ok_pins)
 
 -- end

@@ -14,10 +14,10 @@ use Rattle.base_lists.specs.Tests.{packed}
 use Rattle.base_lists.proofs.Tests.{both_true}
 use Rattle.base_lists.proofs.Entries.{entries_values}
 use Rattle.base_lists.proofs.Rest.{Rest, rest_next, rest_end}
-use Rattle.base_lists.proofs.Slices.{slice-part}
+use Rattle.base_lists.proofs.Slices.{slice_part}
 use Rattle.base_util.specs.Section.{part, valid_set}
 use Rattle.base_columns.specs.Columns.{words_end, word_bytes, row, numbers_at, ValidNumbers, valid_numbers, valid_data_words}
-use Rattle.base_columns.proofs.Numbers.{number_entries, number-keys}
+use Rattle.base_columns.proofs.Numbers.{number_entries, number_keys}
 use Rattle.base_peer.specs.Held.{zero_byte, valid_data}
 use Rattle.base_peer.specs.Maps.{numbers_under, valid_entry}
 use Rattle.base_peer.proofs.Maps.{itself, Any, map_itself}
@@ -39,24 +39,24 @@ Below e ok l = ok && all_under e l
 
 module _ (n : ℕ) (m : List ℕ) (v : ValidNumbers n m) where
   -- the peers as the code lends them, and the numbers
-  pub peers-lent : take (get_or m (n + n) 0) m ≡ keys (numbers_at n m)
+  pub peers_lent : take (get_or m (n + n) 0) m ≡ keys (numbers_at n m)
   unfolding part
-  peers-lent = sym (number-keys n m v ∙ take-take (get_or m (n + n) 0) n m v.fits)
+  peers_lent = sym (number_keys n m v ∙ take-take (get_or m (n + n) 0) n m v.fits)
 
-  values-lent : values (numbers_at n m) ≡ slice n (n + get_or m (n + n) 0) m
+  values_lent : values (numbers_at n m) ≡ slice n (n + get_or m (n + n) 0) m
   unfolding part
-  values-lent =
+  values_lent =
       entries_values 0 n itself Any _ _ _ _ (number_entries n m v) ∙ map_itself (take (get_or m (n + n) 0) (part n n m)) ∙ take-take (get_or m (n + n) 0) n (drop n m) v.fits
-      ∙ slice-part n (get_or m (n + n) 0) m
+      ∙ slice_part n (get_or m (n + n) 0) m
 
   -- the loop begins at the first number
-  pub below-start : (e : ℕ) → Rest (Below e) (length m) m (n + get_or m (n + n) 0) (numbers_under e (numbers_at n m)) true n
-  below-start e =
+  pub below_start : (e : ℕ) → Rest (Below e) (length m) m (n + get_or m (n + n) 0) (numbers_under e (numbers_at n m)) true n
+  below_start e =
       record {
         low = omega arith;
         top = omega (arith, v.fits, v.long);
         long = refl;
-        same = numbers_are e (numbers_at n m) ∙ ap (all_under e) values-lent;
+        same = numbers_are e (numbers_at n m) ∙ ap (all_under e) values_lent;
       }
 
 module _ (e : ℕ) (m : List ℕ) (last : ℕ) (whole ok : Bool) (i : ℕ) (v : Rest (Below e) (length m) m last whole ok i) where

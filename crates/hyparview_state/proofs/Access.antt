@@ -20,23 +20,23 @@ use Rattle.hyparview_state.specs.Layout as layout
 use Rattle.hyparview_state.specs.Unpack.{own_at, settings_at, PackedState, opened}
 
 module _ (xs : List ℕ) (p : PackedState xs) where
-  pub of-own-data : ValidData (own_at xs)
-  of-own-data = (opened p).own_data
+  pub of_own_data : ValidData (own_at xs)
+  of_own_data = (opened p).own_data
 
-  pub of-own : (d : PeerData) → d ≡ own_at xs → ValidData d
-  of-own d e = rw e of-own-data
+  pub of_own : (d : PeerData) → d ≡ own_at xs → ValidData d
+  of_own d e = rw e of_own_data
 
-  pub of-settings : in_range (settings_at xs) ≡ true
-  of-settings = (opened p).settings
+  pub of_settings : in_range (settings_at xs) ≡ true
+  of_settings = (opened p).settings
 
-  pub of-interval : layout.next_shuffle_interval xs ≤ longest_time
-  of-interval = (opened p).short_interval
+  pub of_interval : layout.next_shuffle_interval xs ≤ longest_time
+  of_interval = (opened p).short_interval
 
-  pub of-alone : layout.passes_alone xs ≤ top_passes
-  of-alone = (opened p).alone
+  pub of_alone : layout.passes_alone xs ≤ top_passes
+  of_alone = (opened p).alone
 
-  pub of-short : layout.passes_short xs ≤ top_passes
-  of-short = (opened p).short
+  pub of_short : layout.passes_short xs ≤ top_passes
+  of_short = (opened p).short
 
   pub active_fits : length (items_at layout.active_places (layout.active_part xs)) ≤ layout.active_view_capacity xs
   active_fits = (opened p).active_fits
@@ -44,51 +44,51 @@ module _ (xs : List ℕ) (p : PackedState xs) where
   pub passive_fits : length (items_at layout.passive_places (layout.passive_part xs)) ≤ layout.passive_view_capacity xs
   passive_fits = (opened p).passive_fits
 
-  pub of-own-len : layout.own_len xs < 256
+  pub of_own_len : layout.own_len xs < 256
   unfolding own_at
-  of-own-len = omega (arith, (opened p).own_data.fits)
+  of_own_len = omega (arith, (opened p).own_data.fits)
 
-  pub of-capacity : layout.active_view_capacity xs ≤ most_active
+  pub of_capacity : layout.active_view_capacity xs ≤ most_active
   unfolding in_range settings_at within
-  of-capacity = leb-true _ _ (and_right (leb 1 (layout.active_view_capacity xs)) _ (and_left (leb 1 (layout.active_view_capacity xs) && leb (layout.active_view_capacity xs) most_active) _ (opened p).settings))
+  of_capacity = leb-true _ _ (and_right (leb 1 (layout.active_view_capacity xs)) _ (and_left (leb 1 (layout.active_view_capacity xs) && leb (layout.active_view_capacity xs) most_active) _ (opened p).settings))
 
 -- the sections, by tools/make/layout.py
 module _ (xs : List ℕ) (p : PackedState xs) where
-  pub of-active : ValidSet layout.active_places (layout.active_part xs)
-  of-active = (opened p).sections.active
+  pub of_active : ValidSet layout.active_places (layout.active_part xs)
+  of_active = (opened p).sections.active
 
-  pub of-passive : ValidSet layout.passive_places (layout.passive_part xs)
-  of-passive = (opened p).sections.passive
+  pub of_passive : ValidSet layout.passive_places (layout.passive_part xs)
+  of_passive = (opened p).sections.passive
 
-  pub of-alive : ValidSet layout.alive_places (layout.alive_part xs)
-  of-alive = (opened p).sections.alive
+  pub of_alive : ValidSet layout.alive_places (layout.alive_part xs)
+  of_alive = (opened p).sections.alive
 
-  pub of-refused : ValidSet layout.refused_places (layout.refused_part xs)
-  of-refused = (opened p).sections.refused
+  pub of_refused : ValidSet layout.refused_places (layout.refused_part xs)
+  of_refused = (opened p).sections.refused
 
-  pub of-requests : ValidNumbers layout.requests_places (layout.requests_part xs)
-  of-requests = (opened p).sections.requests
+  pub of_requests : ValidNumbers layout.requests_places (layout.requests_part xs)
+  of_requests = (opened p).sections.requests
 
-  pub of-bootstrap : ValidSet layout.bootstrap_places (layout.bootstrap_part xs)
-  of-bootstrap = (opened p).sections.bootstrap
+  pub of_bootstrap : ValidSet layout.bootstrap_places (layout.bootstrap_part xs)
+  of_bootstrap = (opened p).sections.bootstrap
 
-  pub of-recent : ValidSet layout.recent_places (layout.recent_part xs)
-  of-recent = (opened p).sections.recent
+  pub of_recent : ValidSet layout.recent_places (layout.recent_part xs)
+  of_recent = (opened p).sections.recent
 
-  pub of-joins : ValidNumbers layout.joins_places (layout.joins_part xs)
-  of-joins = (opened p).sections.joins
+  pub of_joins : ValidNumbers layout.joins_places (layout.joins_part xs)
+  of_joins = (opened p).sections.joins
 
-  pub of-peer-data : ValidDataWords layout.peer_data_places (layout.peer_data_part xs)
-  of-peer-data = (opened p).sections.peer_data
+  pub of_peer_data : ValidDataWords layout.peer_data_places (layout.peer_data_part xs)
+  of_peer_data = (opened p).sections.peer_data
 
-  pub of-pins : ValidSet layout.pins_places (layout.pins_part xs)
-  of-pins = (opened p).sections.pins
+  pub of_pins : ValidSet layout.pins_places (layout.pins_part xs)
+  of_pins = (opened p).sections.pins
 
-pub ruleset of_sections = (of-active, of-passive, of-alive, of-refused, of-requests, of-bootstrap, of-recent, of-joins, of-peer-data, of-pins)
+pub ruleset of_sections = (of_active, of_passive, of_alive, of_refused, of_requests, of_bootstrap, of_recent, of_joins, of_peer_data, of_pins)
 
 -- end
 
-pub ruleset of_packed = (of-own-data, of-own, of-own-len, of-settings, of-interval, of-alone, of-short, of_sections, active_fits, passive_fits)
+pub ruleset of_packed = (of_own_data, of_own, of_own_len, of_settings, of_interval, of_alone, of_short, of_sections, active_fits, passive_fits)
 
 -- ---- the counts of the views, as they are read
 

@@ -7,7 +7,7 @@ use mathlib.Core.List.{List}
 use Rattle.spec_hyparview.specs.Station.{Station}
 use Rattle.spec_hyparview.specs.Run.{require}
 use Rattle.work.proofs.Bridge as work
-pub use Rattle.work.proofs.Bridge.{guard_shut, guard-open, on-twice, on-passed, on-done, emit-passed, unchanged, change-by, change-then, change-yes, change-no, telling, tell-by, tell-then, tell_yes, tell_no, still, by, then, then-draw, then-tell, seq, seq-at, taken, left}
+pub use Rattle.work.proofs.Bridge.{guard_shut, guard_open, on_twice, on_passed, on_done, emit_passed, unchanged, change_by, change_then, change_yes, change_no, telling, tell_by, tell_then, tell_yes, tell_no, still, by, then, then_draw, then_tell, seq, seq_at, taken, left}
 use Rattle.hyparview_state.specs.Unpack.{unpack, station_form}
 use Rattle.hyparview_state.specs.Work.{Held, run, Changes}
 

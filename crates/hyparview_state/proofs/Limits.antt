@@ -31,65 +31,65 @@ as_they_are : (xs : List ℕ) → PackedState xs → Becomes xs (unpack xs)
 as_they_are xs p = record { packed = p; same = refl }
 
 module _ (xs : List ℕ) (l : RefillLimit) (p : PackedState xs) where
-  pub kept-automatic : l ≡ Automatic → Becomes (set (set xs refill_kind_at 0) refill_requests_at 0) (set_refill (refill_in l) (unpack xs))
+  pub kept_automatic : l ≡ Automatic → Becomes (set (set xs refill_kind_at 0) refill_requests_at 0) (set_refill (refill_in l) (unpack xs))
   unfolding choose limit_formed
-  kept-automatic e = rw e (put_refill 0 0 Automatic refl refl (as_they_are xs p))
+  kept_automatic e = rw e (put_refill 0 0 Automatic refl refl (as_they_are xs p))
 
-  pub kept-requests : (n : ℕ) → l ≡ Requests n → Becomes (set (set xs refill_kind_at 1) refill_requests_at n) (set_refill (refill_in l) (unpack xs))
+  pub kept_requests : (n : ℕ) → l ≡ Requests n → Becomes (set (set xs refill_kind_at 1) refill_requests_at n) (set_refill (refill_in l) (unpack xs))
   unfolding choose limit_formed
-  kept-requests n e = rw e (put_refill 1 n (Requests n) refl refl (as_they_are xs p))
+  kept_requests n e = rw e (put_refill 1 n (Requests n) refl refl (as_they_are xs p))
 
-  pub kept-recovery : l ≡ Recovery → Becomes (set (set xs refill_kind_at 2) refill_requests_at 0) (set_refill (refill_in l) (unpack xs))
+  pub kept_recovery : l ≡ Recovery → Becomes (set (set xs refill_kind_at 2) refill_requests_at 0) (set_refill (refill_in l) (unpack xs))
   unfolding choose limit_formed
-  kept-recovery e = rw e (put_refill 2 0 Recovery refl refl (as_they_are xs p))
+  kept_recovery e = rw e (put_refill 2 0 Recovery refl refl (as_they_are xs p))
 
 -- ---- what the two words of a limit say of it
 
 module _ (k n : ℕ) where
-  words-automatic : eqb k 0 ≡ is_automatic (refill_in (two_limit k n))
+  words_automatic : eqb k 0 ≡ is_automatic (refill_in (two_limit k n))
   unfolding choose refill_in is_automatic
-  words-automatic = split (eqb k 0) (λ e. rw e) (λ e. split (eqb k 1) (λ f. rw (e, f)) (λ f. rw (e, f)))
+  words_automatic = split (eqb k 0) (λ e. rw e) (λ e. split (eqb k 1) (λ f. rw (e, f)) (λ f. rw (e, f)))
 
-  words-spent : (eqb k 1 && eqb n 0) ≡ is_spent (refill_in (two_limit k n))
+  words_spent : (eqb k 1 && eqb n 0) ≡ is_spent (refill_in (two_limit k n))
   unfolding choose refill_in is_spent
-  words-spent = split (eqb k 0) (λ e. rw (eqb-true k 0 e)) (λ e. split (eqb k 1) (λ f. rw (e, f)) (λ f. rw (e, f)))
+  words_spent = split (eqb k 0) (λ e. rw (eqb-true k 0 e)) (λ e. split (eqb k 1) (λ f. rw (e, f)) (λ f. rw (e, f)))
 
-  words-recovery : limit_formed k n ≡ true → eqb k 2 ≡ is_recovery (refill_in (two_limit k n))
+  words_recovery : limit_formed k n ≡ true → eqb k 2 ≡ is_recovery (refill_in (two_limit k n))
   unfolding choose refill_in is_recovery limit_formed
-  words-recovery h =
+  words_recovery h =
       split (eqb k 0) (λ e. rw (eqb-true k 0 e))
       (λ e. split (eqb k 1) (λ f. rw (eqb-true k 1 f))
       (λ f. let z : k ≡ 2 = omega (arith, leb-true k 2 (and_left (leb k 2) (eqb k 1 || eqb n 0) h), eqb-false k 0 e, eqb-false k 1 f) in rw z))
 
-  words-less : k ≡ 1 → one_less (refill_in (two_limit k n)) ≡ requests_left (n - 1)
+  words_less : k ≡ 1 → one_less (refill_in (two_limit k n)) ≡ requests_left (n - 1)
   unfolding choose refill_in one_less
-  words-less e = rw e
+  words_less e = rw e
 
-  words-none : n ≡ 0 → one_less (refill_in (two_limit k n)) ≡ refill_in (two_limit k n)
+  words_none : n ≡ 0 → one_less (refill_in (two_limit k n)) ≡ refill_in (two_limit k n)
   unfolding choose refill_in one_less
-  words-none h = split (eqb k 0) (λ e. rw e) (λ e. split (eqb k 1) (λ f. rw (e, f, h)) (λ f. rw (e, f)))
+  words_none h = split (eqb k 0) (λ e. rw e) (λ e. split (eqb k 1) (λ f. rw (e, f, h)) (λ f. rw (e, f)))
 
-  words-kept : k ≡ 2 → recovery ≡ refill_in (two_limit k n)
+  words_kept : k ≡ 2 → recovery ≡ refill_in (two_limit k n)
   unfolding choose refill_in
-  words-kept e = rw e
+  words_kept e = rw e
 
 module _ (xs : List ℕ) where
-  pub says-automatic : eqb (refill_kind xs) 0 ≡ is_automatic (unpack xs).refill
+  pub says_automatic : eqb (refill_kind xs) 0 ≡ is_automatic (unpack xs).refill
   unfolding unpack station_of limit_at
-  says-automatic = words-automatic (refill_kind xs) (refill_requests xs)
+  says_automatic = words_automatic (refill_kind xs) (refill_requests xs)
 
-  pub says-spent : (eqb (refill_kind xs) 1 && eqb (refill_requests xs) 0) ≡ is_spent (unpack xs).refill
+  pub says_spent : (eqb (refill_kind xs) 1 && eqb (refill_requests xs) 0) ≡ is_spent (unpack xs).refill
   unfolding unpack station_of limit_at
-  says-spent = words-spent (refill_kind xs) (refill_requests xs)
+  says_spent = words_spent (refill_kind xs) (refill_requests xs)
 
-  pub says-recovery : PackedState xs → eqb (refill_kind xs) 2 ≡ is_recovery (unpack xs).refill
+  pub says_recovery : PackedState xs → eqb (refill_kind xs) 2 ≡ is_recovery (unpack xs).refill
   unfolding unpack station_of limit_at
-  says-recovery p = words-recovery (refill_kind xs) (refill_requests xs) (opened p).limit
+  says_recovery p = words_recovery (refill_kind xs) (refill_requests xs) (opened p).limit
 
   -- the requests are 0 but in kind 1
-  pub no-requests : PackedState xs → (refill_kind xs ≡ 1 → ⊥) → refill_requests xs ≡ 0
+  pub no_requests : PackedState xs → (refill_kind xs ≡ 1 → ⊥) → refill_requests xs ≡ 0
   unfolding limit_formed
-  no-requests p h =
+  no_requests p h =
       or_true (eqb (refill_kind xs) 1) (eqb (refill_requests xs) 0) (and_right (leb (refill_kind xs) 2) _ (opened p).limit)
       (λ e. absurd (h (eqb-true _ _ e))) (λ e. eqb-true _ _ e)
 
@@ -97,7 +97,7 @@ module _ (xs : List ℕ) where
   pub lifted : PackedState xs → (refill_kind xs ≡ 1 → ⊥) → Becomes (set xs refill_kind_at 0) (set_refill automatic (unpack xs))
   unfolding choose limit_formed refill_in
   lifted p h =
-      let e : get_or (set xs refill_kind_at 0) refill_requests_at 0 ≡ 0 = get_or-set_other xs refill_kind_at refill_requests_at 0 0 (λ q. omega (arith, q)) ∙ no-requests p h in
+      let e : get_or (set xs refill_kind_at 0) refill_requests_at 0 ≡ 0 = get_or-set_other xs refill_kind_at refill_requests_at 0 0 (λ q. omega (arith, q)) ∙ no_requests p h in
       let s : set (set xs refill_kind_at 0) refill_requests_at 0 ≡ set xs refill_kind_at 0 = ap (set (set xs refill_kind_at 0) refill_requests_at) (sym e) ∙ set-get_or (set xs refill_kind_at 0) refill_requests_at 0 in
       subst (λ (ys : List ℕ). Becomes ys (set_refill automatic (unpack xs))) s (put_refill 0 0 Automatic refl refl (as_they_are xs p))
 
@@ -109,19 +109,19 @@ module _ (xs : List ℕ) where
       subst (λ (ys : List ℕ). Becomes (set ys refill_requests_at n) (set_refill (requests_left n) (unpack xs))) s (put_refill 1 n (Requests n) refl refl (as_they_are xs p))
 
   -- one request is used, of those that are left
-  pub one-used : PackedState xs → (refill_requests xs ≡ 0 → ⊥) → Becomes (set xs refill_requests_at (refill_requests xs - 1)) (set_refill (one_less (unpack xs).refill) (unpack xs))
+  pub one_used : PackedState xs → (refill_requests xs ≡ 0 → ⊥) → Becomes (set xs refill_requests_at (refill_requests xs - 1)) (set_refill (one_less (unpack xs).refill) (unpack xs))
   unfolding unpack station_of limit_at
-  one-used p h =
-      let k : refill_kind xs ≡ 1 = split (eqb (refill_kind xs) 1) (λ e. eqb-true _ _ e) (λ e. absurd (h (no-requests p (eqb-false _ _ e)))) in
-      subst (λ (x : Refill). Becomes (set xs refill_requests_at (refill_requests xs - 1)) (set_refill x (unpack xs))) (sym (words-less (refill_kind xs) (refill_requests xs) k)) (left_over (refill_requests xs - 1) p k)
+  one_used p h =
+      let k : refill_kind xs ≡ 1 = split (eqb (refill_kind xs) 1) (λ e. eqb-true _ _ e) (λ e. absurd (h (no_requests p (eqb-false _ _ e)))) in
+      subst (λ (x : Refill). Becomes (set xs refill_requests_at (refill_requests xs - 1)) (set_refill x (unpack xs))) (sym (words_less (refill_kind xs) (refill_requests xs) k)) (left_over (refill_requests xs - 1) p k)
 
-  pub none-used : refill_requests xs ≡ 0 → one_less (unpack xs).refill ≡ (unpack xs).refill
+  pub none_used : refill_requests xs ≡ 0 → one_less (unpack xs).refill ≡ (unpack xs).refill
   unfolding unpack station_of limit_at
-  none-used h = words-none (refill_kind xs) (refill_requests xs) h
+  none_used h = words_none (refill_kind xs) (refill_requests xs) h
 
-  pub recovery-kept : refill_kind xs ≡ 2 → recovery ≡ (unpack xs).refill
+  pub recovery_kept : refill_kind xs ≡ 2 → recovery ≡ (unpack xs).refill
   unfolding unpack station_of limit_at
-  recovery-kept h = words-kept (refill_kind xs) (refill_requests xs) h
+  recovery_kept h = words_kept (refill_kind xs) (refill_requests xs) h
 
 recovery_in : refill_in Recovery ≡ recovery
 unfolding refill_in
@@ -132,9 +132,9 @@ module _ (old new : RefillLimit) (t : Bool) (e : t ≡ is_recovery (refill_in ol
   unfolding unless_recovery
   in_recovery h = recovery_in ∙ sym (choose_yes (is_recovery (refill_in old)) recovery (refill_in new) (sym e ∙ h))
 
-  pub no-recovery : t ≡ false → refill_in new ≡ unless_recovery (refill_in old) (refill_in new)
+  pub no_recovery : t ≡ false → refill_in new ≡ unless_recovery (refill_in old) (refill_in new)
   unfolding unless_recovery
-  no-recovery h = sym (choose_no (is_recovery (refill_in old)) recovery (refill_in new) (sym e ∙ h))
+  no_recovery h = sym (choose_no (is_recovery (refill_in old)) recovery (refill_in new) (sym e ∙ h))
 
 pub kept_own : (xs : List ℕ) (d : PeerData) (low high : ℕ) → PackedState xs → ValidData d → le 8 low ≡ take 8 (drop 0 d.bytes) → le 8 high ≡ take 8 (drop 8 d.bytes)
     → Becomes (set (set (set (set xs own_present_at (bool_byte d.present)) own_len_at d.len) own_low_at low) own_high_at high) (set_own_data (data_in d) (unpack xs))

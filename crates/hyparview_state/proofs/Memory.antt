@@ -38,14 +38,14 @@ abbrev pub two_limit : ℕ → ℕ → RefillLimit
 two_limit k n = choose (eqb k 0) Automatic (choose (eqb k 1) (Requests n) Recovery)
 
 module _ (xs : List ℕ) where
-  pub limit-automatic : refill_kind xs ≡ 0 → Automatic ≡ limit_at xs
+  pub limit_automatic : refill_kind xs ≡ 0 → Automatic ≡ limit_at xs
   unfolding limit_at choose
-  limit-automatic z = rw (eq-eqb (refill_kind xs) 0 z)
+  limit_automatic z = rw (eq-eqb (refill_kind xs) 0 z)
 
-  pub limit-requests : (refill_kind xs ≡ 0 → ⊥) → refill_kind xs ≡ 1 → Requests (refill_requests xs) ≡ limit_at xs
+  pub limit_requests : (refill_kind xs ≡ 0 → ⊥) → refill_kind xs ≡ 1 → Requests (refill_requests xs) ≡ limit_at xs
   unfolding limit_at choose
-  limit-requests z o = rw (ne_eqb (refill_kind xs) 0 z, eq-eqb (refill_kind xs) 1 o)
+  limit_requests z o = rw (ne_eqb (refill_kind xs) 0 z, eq-eqb (refill_kind xs) 1 o)
 
-  pub limit-recovery : (refill_kind xs ≡ 0 → ⊥) → (refill_kind xs ≡ 1 → ⊥) → Recovery ≡ limit_at xs
+  pub limit_recovery : (refill_kind xs ≡ 0 → ⊥) → (refill_kind xs ≡ 1 → ⊥) → Recovery ≡ limit_at xs
   unfolding limit_at choose
-  limit-recovery z o = rw (ne_eqb (refill_kind xs) 0 z, ne_eqb (refill_kind xs) 1 o)
+  limit_recovery z o = rw (ne_eqb (refill_kind xs) 0 z, ne_eqb (refill_kind xs) 1 o)

@@ -11,7 +11,7 @@ use Rattle.record.specs.declared.Header.{Header}
 use Rattle.record.specs.Format.{header_length}
 use Rattle.record.specs.Read.{header_of, header_of_by}
 use Rattle.record.specs.Walk.{kind_in, whole_length, records_in, walk}
-use Rattle.record.proofs.Walk.{size_is, records_few, taken_none, taken_next, taken-last}
+use Rattle.record.proofs.Walk.{size_is, records_few, taken_none, taken_next, taken_last}
 use Rattle.preview.specs.declared.Count.{Count}
 use Rattle.preview.specs.Preview.{add_message, add, priced_records}
 
@@ -41,12 +41,12 @@ module _ (out b : List ℕ) (m n : ℕ) (v : Counting out m n b) where
   unfolding walk
   ends e = sym (by_records [] e)
 
-  pub counting-few : length b < header_length → both m n ≡ priced_records out
-  counting-few h = ends (records_few b h)
+  pub counting_few : length b < header_length → both m n ≡ priced_records out
+  counting_few h = ends (records_few b h)
 
   module _ (h : Header) (is : h ≡ header_of b) where
-    pub counting-none : h.size ≡ 0 → both m n ≡ priced_records out
-    counting-none e = ends (taken_none b h is e)
+    pub counting_none : h.size ≡ 0 → both m n ≡ priced_records out
+    counting_none e = ends (taken_none b h is e)
 
     -- the record as the code adds it
     added : (r : ℕ) → r ≡ add_message h.kind m → add b (both m n) ≡ both r (n + h.size)
@@ -61,13 +61,13 @@ module _ (out b : List ℕ) (m n : ℕ) (v : Counting out m n b) where
     unfolding walk
     goes_on r bs e q = by_records (b ∷ bs) q ∙ ap (walk add bs) (added r e)
 
-    pub counting-last : (r : ℕ) → length b < h.size → (h.size ≡ 0 → ⊥) → r ≡ add_message h.kind m → header_length ≤ length b → both r (n + h.size) ≡ priced_records out
+    pub counting_last : (r : ℕ) → length b < h.size → (h.size ≡ 0 → ⊥) → r ≡ add_message h.kind m → header_length ≤ length b → both r (n + h.size) ≡ priced_records out
     unfolding walk
-    counting-last r l z e k = sym (goes_on r [] e (taken-last b h is k z l))
+    counting_last r l z e k = sym (goes_on r [] e (taken_last b h is k z l))
 
-    pub counting-next : (r : ℕ) → h.size ≤ length b → (h.size ≡ 0 → ⊥) → r ≡ add_message h.kind m → header_length ≤ length b
+    pub counting_next : (r : ℕ) → h.size ≤ length b → (h.size ≡ 0 → ⊥) → r ≡ add_message h.kind m → header_length ≤ length b
         → Counting out r (n + h.size) (take (length b - h.size) (drop h.size b))
-    counting-next r l z e k =
+    counting_next r l z e k =
         let rest : List ℕ = take (length b - h.size) (drop h.size b) in
         let long : length rest ≤ length b - h.size = simp (length-take, length-drop) (omega arith) in
         record {

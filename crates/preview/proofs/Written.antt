@@ -14,8 +14,8 @@ use Rattle.record.specs.Format.{Rec, size, encode, encode_by, header_by}
 use Rattle.record.specs.InForm.{InForm}
 use Rattle.record.specs.Walk.{kind_in, whole_length, records_in, walk}
 use Rattle.record.proofs.Format.{length_encode}
-use Rattle.record.proofs.Forth.{size-most}
-use Rattle.record.proofs.Walk.{whole_is, records-written, records_zeros}
+use Rattle.record.proofs.Forth.{size_most}
+use Rattle.record.proofs.Walk.{whole_is, records_written, records_zeros}
 use Rattle.spec_hyparview.specs.Rules.{all_under}
 use Rattle.spec_hyparview.specs.Station.{draws_end}
 use Rattle.spec_hyparview.specs.Handle as P
@@ -46,11 +46,11 @@ add_before k m n =
 
 module _ (e : Rec) (rest : List ℕ) (f : InForm e) where
   small : size e < 65536
-  small = let m : size e ≤ 928 = size-most e f in omega arith
+  small = let m : size e ≤ 928 = size_most e f in omega arith
 
-  one-added : (m n : ℕ) → add (encode e ++ rest) (both m n) ≡ both (add_message e.kind m) (n + size e)
+  one_added : (m n : ℕ) → add (encode e ++ rest) (both m n) ≡ both (add_message e.kind m) (n + size e)
   unfolding add kind_in encode_by header_by
-  one-added m n = ap (λ (l : ℕ). both (add_message e.kind m) (n + l)) (whole_is e rest small)
+  one_added m n = ap (λ (l : ℕ). both (add_message e.kind m) (n + l)) (whole_is e rest small)
 
 priced_records_all : (es : List Rec) (zeros m n : ℕ) → All InForm es
     → walk add (records_in (encode_all es ++ replicate zeros 0)) (both m n) ≡ both (m + messages_of es) (n + length (encode_all es))
@@ -65,8 +65,8 @@ priced_records_all (e ∷ es) zeros m n a =
     let q : n + size e + length (encode_all es) ≡ n + length (encode e ++ encode_all es) =
     omega (arith, length-append (encode e) (encode_all es), length_encode e) in
     rw (append_assoc (encode e) (encode_all es) (replicate zeros 0))
-    (ap (λ (bs : List (List ℕ)). walk add bs (both m n)) (records-written e rest (small e rest a.0))
-    ∙ (ap (walk add (records_in rest)) (one-added e rest a.0 m n)
+    (ap (λ (bs : List (List ℕ)). walk add bs (both m n)) (records_written e rest (small e rest a.0))
+    ∙ (ap (walk add (records_in rest)) (one_added e rest a.0 m n)
     ∙ (priced_records_all es zeros k (n + size e) a.1 ∙ (λ i. both (p i) (q i)))))
 
 priced_records_written : (out : List ℕ) (w : WrittenOut out) → priced_records out ≡ both (messages_of w.records) (length (encode_all w.records))
@@ -90,9 +90,9 @@ priced o z w =
     }
 
 module _ (xs : List ℕ) (side : Side) (b ds : List ℕ) (bytes : all_under 256 b ≡ true) (narrow : all_under draws_end ds ≡ true) where
-  by-definition : state_ok xs ≡ true → (handle_from side (unpack xs) b ds output_room).code ≡ 0 → WrittenOut (handle_from side (unpack xs) b ds output_room).output
+  by_definition : state_ok xs ≡ true → (handle_from side (unpack xs) b ds output_room).code ≡ 0 → WrittenOut (handle_from side (unpack xs) b ds output_room).output
   unfolding P.refusal
-  by-definition ok =
+  by_definition ok =
       by_side (λ (a : P.Result). a.code ≡ 0 → WrittenOut a.output) side (unpack xs) b ds output_room (λ z. absurd (omega (arith, z)))
       (λ z. writes_records (unpack xs) (rules_of xs ok) b bytes (draws_from side ds) (under_from draws_end side ds narrow) output_room z)
 
@@ -101,7 +101,7 @@ module _ (xs : List ℕ) (side : Side) (b ds : List ℕ) (bytes : all_under 256 
   written_of z =
       split (state_ok xs)
       (λ ok. let e = keeps xs side b ds output_room ok in
-      subst (λ (o : Outcome). WrittenOut o.output) (sym e) (by-definition ok (sym (ap (λ (o : Outcome). o.code) e) ∙ z)))
+      subst (λ (o : Outcome). WrittenOut o.output) (sym e) (by_definition ok (sym (ap (λ (o : Outcome). o.code) e) ∙ z)))
       (λ broken. let two : 2 ≡ 0 = ap (λ (o : Outcome). o.code) (from_two side xs b ds output_room broken) ∙ z in absurd (omega (arith, two)))
 
 -- The price of every accepted call is that of the records which it writes.

@@ -13,7 +13,7 @@ use lib.Dec.{leb, eqb}
 use Rattle.base_lists.specs.Lists.{choose}
 use Rattle.base_lists.specs.Bytes.{le, read_le}
 use Rattle.base_lists.proofs.Choice.{choose_yes, choose_no, split, and_left, and_right}
-use Rattle.base_lists.proofs.Slices.{slice-append, slice-whole, slice-each}
+use Rattle.base_lists.proofs.Slices.{slice_append, slice_whole, slice_each}
 use Rattle.base_lists.proofs.Numbers.{Bytes, read_below, le_read, le_read_then}
 use Rattle.base_peer.specs.Data.{Data, Node, bytes_of}
 use Rattle.record.specs.Format.{Rec, header_length_by, node_length_by, place_by, present, offset, entry_by, entries_by, datas, size_by, header_by, encode_by}
@@ -21,7 +21,7 @@ use Rattle.record.specs.Read.{header_of_by, entry_from, entry_at_by, header_ok, 
 use Rattle.record.specs.InForm.{header_in_by, NodeInForm, NodesInFormBy, InFormBy}
 use Rattle.record.specs.declared.Header.{Header}
 use Rattle.record.specs.declared.Entry.{Entry}
-use Rattle.record.proofs.Laws.{well-formed-long, entries-reach}
+use Rattle.record.proofs.Laws.{well_formed_long, entries_reach}
 
 -- ---- one entry
 
@@ -87,9 +87,9 @@ module _ (w : ℕ) (b : List ℕ) (ok : Bytes b) (i at : ℕ) where
     length_data : length (bytes_of (data_at b e)) ≡ e.len
     length_data = ap length s.bytes ∙ length-slice at (at + e.len) b fits ∙ (let q : at + e.len - at ≡ e.len = omega arith in q)
 
-    entry-back : entry_by w (node_at_by w b i) at ≡ slice place end b
+    entry_back : entry_by w (node_at_by w b i) at ≡ slice place end b
     unfolding entry_by node_at_by entry_at_by entry_from
-    entry-back =
+    entry_back =
         let k₂ : place + w + 2 ≡ place + (w + 2) = omega arith in
         let k₃ : place + (w + 3) ≡ suc (place + (w + 2)) = omega arith in
         let k₄ : place + (w + 2) + 2 ≡ end = omega arith in
@@ -99,12 +99,12 @@ module _ (w : ℕ) (b : List ℕ) (ok : Bytes b) (i at : ℕ) where
         (λ j. le w (read_le w b place) ++ (le 2 (s.place j) ++ (length_data j ∷ s.there j ∷ [])))
         ∙ ap (λ (r : List ℕ). le w (read_le w b place) ++ (le 2 (read_le 2 b (place + w)) ++ r)) q₂ ∙ ap (λ (r : List ℕ). le w (read_le w b place) ++ r) q₁ ∙ q₀
 
-    node-form : (h : Header) → id_ok h e.id ≡ true → present_ok h e.present ≡ true → NodeInForm w h (node_at_by w b i)
+    node_form : (h : Header) → id_ok h e.id ≡ true → present_ok h e.present ≡ true → NodeInForm w h (node_at_by w b i)
     unfolding node_at_by entry_at_by entry_from
-    node-form h p q = record {
+    node_form h p q = record {
       id = read_below w b place ok;
       few = omega (arith, length_data, s.few);
-      bytes = λ k. rw s.bytes (slice-each (λ (x : ℕ). x < 256) 0 at (at + e.len) b (omega arith) ok k);
+      bytes = λ k. rw s.bytes (slice_each (λ (x : ℕ). x < 256) 0 at (at + e.len) b (omega arith) ok k);
       unnamed = p;
       there = rw s.there q;
     }
@@ -148,11 +148,11 @@ module _ (w : ℕ) (h : Header) (b : List ℕ) (ok : Bytes b) where
         count = ap suc r.count;
         reach = omega (arith, length-append (bytes_of (data_at b e)) (datas (nodes_of_by w b (suc i) n)), l, r.reach);
         entries_are =
-            (λ j. entry-back w b ok i at s fits here j ++ entries_by w (nodes_of_by w b (suc i) n) (at + l j))
+            (λ j. entry_back w b ok i at s fits here j ++ entries_by w (nodes_of_by w b (suc i) n) (at + l j))
             ∙ ap (λ (x : List ℕ). slice p (p + node_length_by w) b ++ x) (r.entries_are ∙ rw (last, step))
-            ∙ slice-append p (p + node_length_by w) (place_by w (i + suc n)) b (omega arith) more room;
-        datas_are = (λ j. s.bytes j ++ r.datas_are j) ∙ slice-append at (at + e.len) (length b) b (omega arith) fits (omega arith);
-        form = (node-form w b ok i at s fits here h (and_left (id_ok h e.id) (present_ok h e.present) ids) (and_right (id_ok h e.id) (present_ok h e.present) ids), r.form);
+            ∙ slice_append p (p + node_length_by w) (place_by w (i + suc n)) b (omega arith) more room;
+        datas_are = (λ j. s.bytes j ++ r.datas_are j) ∙ slice_append at (at + e.len) (length b) b (omega arith) fits (omega arith);
+        form = (node_form w b ok i at s fits here h (and_left (id_ok h e.id) (present_ok h e.present) ids) (and_right (id_ok h e.id) (present_ok h e.present) ids), r.form);
       }
 
   back : (i n at : ℕ) → place_by w (i + n) ≤ length b → entries_ok_by w h b i n at ≡ true → Back w h b i n at
@@ -179,7 +179,7 @@ parts w b t =
     let t₁ : (header_ok h && (eqb h.size (length b) && n)) ≡ true = and_right (leb (header_length_by w) (length b)) (header_ok h && (eqb h.size (length b) && n)) t in
     let t₂ : (eqb h.size (length b) && n) ≡ true = and_right (header_ok h) (eqb h.size (length b) && n) t₁ in
     record {
-      long = well-formed-long w b t;
+      long = well_formed_long w b t;
       heads = and_left (header_ok h) (eqb h.size (length b) && n) t₁;
       sized = eqb-true h.size (length b) (and_left (eqb h.size (length b)) n t₂);
       listed = and_right (eqb h.size (length b)) n t₂;
@@ -217,7 +217,7 @@ module _ (w : ℕ) (b : List ℕ) (ok : Bytes b) (t : well_formed_by w b ≡ tru
   the_parts = parts w b t
 
   pub room : start ≤ length b
-  room = entries-reach w (header_of_by w b) b 0 count start the_parts.listed
+  room = entries_reach w (header_of_by w b) b 0 count start the_parts.listed
 
   pub all_back : Back w (header_of_by w b) b 0 count start
   all_back = let z : 0 + count ≡ count = omega arith in back w (header_of_by w b) b ok 0 count start (rw z room) the_parts.listed
@@ -226,9 +226,9 @@ module _ (w : ℕ) (b : List ℕ) (ok : Bytes b) (t : well_formed_by w b ≡ tru
   unfolding size_by rec_of_by
   size_back = rw all_back.count (omega (arith, all_back.reach, the_parts.sized))
 
-  pub header-back : header_in_by w (rec_of_by w b) ≡ header_of_by w b
+  pub header_back : header_in_by w (rec_of_by w b) ≡ header_of_by w b
   unfolding header_in_by rec_of_by
-  header-back = λ j. record {
+  header_back = λ j. record {
     kind = (header_of_by w b).kind;
     message = (header_of_by w b).message;
     flags = (header_of_by w b).flags;
@@ -240,36 +240,36 @@ module _ (w : ℕ) (b : List ℕ) (ok : Bytes b) (t : well_formed_by w b ≡ tru
     number = (header_of_by w b).number;
   }
 
-  header-again : header_by w (rec_of_by w b) ≡ slice 0 (header_length_by w) b
+  header_again : header_by w (rec_of_by w b) ≡ slice 0 (header_length_by w) b
   unfolding header_by rec_of_by header_of_by
-  header-again = header_slice w b ok the_parts.long (length (rec_of_by w b).nodes) (size_by w (rec_of_by w b)) all_back.count size_back
+  header_again = header_slice w b ok the_parts.long (length (rec_of_by w b).nodes) (size_by w (rec_of_by w b)) all_back.count size_back
 
   abbrev ns : List Node
   ns = nodes_of_by w b 0 count
 
-  entries-again : entries_by w ns (place_by w (length ns)) ≡ slice (header_length_by w) start b
-  entries-again =
+  entries_again : entries_by w ns (place_by w (length ns)) ≡ slice (header_length_by w) start b
+  entries_again =
       let z : 0 + count ≡ count = omega arith in
       let o : place_by w 0 ≡ header_length_by w = omega arith in
       (λ j. entries_by w ns (place_by w (all_back.count j))) ∙ all_back.entries_are ∙ rw (z, o)
 
-  pub encode-back : encode_by w (rec_of_by w b) ≡ b
+  pub encode_back : encode_by w (rec_of_by w b) ≡ b
   unfolding encode_by rec_of_by
-  encode-back =
-      (λ j. header-again j ++ (entries-again j ++ all_back.datas_are j))
-      ∙ ap (λ (l : List ℕ). slice 0 (header_length_by w) b ++ l) (slice-append (header_length_by w) start (length b) b (omega arith) room (omega arith))
-      ∙ slice-append 0 (header_length_by w) (length b) b (omega arith) the_parts.long (omega arith)
-      ∙ slice-whole b
+  encode_back =
+      (λ j. header_again j ++ (entries_again j ++ all_back.datas_are j))
+      ∙ ap (λ (l : List ℕ). slice 0 (header_length_by w) b ++ l) (slice_append (header_length_by w) start (length b) b (omega arith) room (omega arith))
+      ∙ slice_append 0 (header_length_by w) (length b) b (omega arith) the_parts.long (omega arith)
+      ∙ slice_whole b
 
-  pub in-form-back : InFormBy w (rec_of_by w b)
+  pub in_form_back : InFormBy w (rec_of_by w b)
   unfolding rec_of_by header_of_by
-  in-form-back = record {
-    header = subst (λ (h : Header). header_ok h ≡ true) (sym header-back) the_parts.heads;
+  in_form_back = record {
+    header = subst (λ (h : Header). header_ok h ≡ true) (sym header_back) the_parts.heads;
     peer = read_below w b 4 ok;
     second = read_below w b (4 + w) ok;
     ttl = read_below 2 b (4 + 2 * w) ok;
     number = read_below 8 b (8 + 2 * w) ok;
-    nodes = subst (λ (h : Header). NodesInFormBy w h ns) (sym header-back) all_back.form;
+    nodes = subst (λ (h : Header). NodesInFormBy w h ns) (sym header_back) all_back.form;
   }
 
 pub decoded : (w : ℕ) (b : List ℕ) (e : Rec) → decode_by w b ≡ some e → (well_formed_by w b ≡ true) × (rec_of_by w b ≡ e)

@@ -24,19 +24,19 @@ module _ (w : ℕ) where
       omega
       (arith, length-append (entry_by w n at) (entries_by w ns (at + length (bytes_of n.data_of))), length_entry n at, length_entries ns (at + length (bytes_of n.data_of)))
 
-  pub length-header : (e : Rec) → length (header_by w e) ≡ header_length_by w
+  pub length_header : (e : Rec) → length (header_by w e) ≡ header_length_by w
   unfolding header_by le
-  length-header e =
+  length_header e =
       omega
       (arith, length-append (le w e.peer) (le w e.second ++ (le 2 e.ttl ++ (le 2 (size_by w e) ++ le 8 e.number))), length-append (le w e.second) (le 2 e.ttl ++ (le 2 (size_by w e) ++ le 8 e.number)), length_le w e.peer, length_le w e.second)
 
   -- a record takes as many bytes as its whole length says
-  pub length-encode-by : (e : Rec) → length (encode_by w e) ≡ size_by w e
+  pub length_encode_by : (e : Rec) → length (encode_by w e) ≡ size_by w e
   unfolding encode_by size_by
-  length-encode-by e =
+  length_encode_by e =
       let at : ℕ = header_length_by w + node_length_by w * length e.nodes in
       omega
-      (arith, length-append (header_by w e) (entries_by w e.nodes at ++ datas e.nodes), length-append (entries_by w e.nodes at) (datas e.nodes), length-header e, length_entries e.nodes at)
+      (arith, length-append (header_by w e) (entries_by w e.nodes at ++ datas e.nodes), length-append (entries_by w e.nodes at) (datas e.nodes), length_header e, length_entries e.nodes at)
 
 pub length_encode : (e : Rec) → length (encode e) ≡ size e
-length_encode = length-encode-by peer_length
+length_encode = length_encode_by peer_length

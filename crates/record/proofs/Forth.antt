@@ -13,9 +13,9 @@ use lib.Dec.{leb, eqb}
 use Rattle.base_lists.specs.Lists.{choose}
 use Rattle.base_lists.specs.Bytes.{le}
 use Rattle.base_lists.proofs.Choice.{choose_yes, and_left, and_right}
-use Rattle.base_lists.proofs.Slices.{slice-mid}
+use Rattle.base_lists.proofs.Slices.{slice_mid}
 use Rattle.base_lists.proofs.Bytes.{length_le}
-use Rattle.base_lists.proofs.Numbers.{From, past, byte-from, number_from}
+use Rattle.base_lists.proofs.Numbers.{From, past, byte_from, number_from}
 use Rattle.base_peer.specs.Data.{Data, Node, bytes_of}
 use Rattle.record.specs.Format.{Rec, peer_length, header_length_by, node_length_by, place_by, present, offset, entry_by, entries_by, datas, size, size_by, header_by, encode, encode_by}
 use Rattle.record.specs.Read.{header_of, header_of_by, entry_from, entry_at_by, is_message, is_data, kind_ok, flags_ok, count_ok, peer_ok, fields_ok, header_ok, data_ok, entry_ok, entries_ok_by, well_formed, well_formed_by, data_at, node_at_by, nodes_of_by, rec_of, rec_of_by, decode_by}
@@ -24,7 +24,7 @@ use Rattle.record.specs.declared.Header.{Header}
 use Rattle.record.specs.Answers.{answer}
 use Rattle.record.specs.declared.Entry.{Entry}
 use Rattle.record.specs.declared.Answer.TheVariants.{Record}
-use Rattle.record.proofs.Format.{length_entry, length_entries, length-header, length-encode-by}
+use Rattle.record.proofs.Format.{length_entry, length_entries, length_header, length_encode_by}
 
 both_true : (a b : Bool) → a ≡ true → b ≡ true → (a && b) ≡ true
 both_true a b p q = rw (p, q)
@@ -63,8 +63,8 @@ module _ (w : ℕ) {b : List ℕ} (n : Node) (at j : ℕ) (rest : List ℕ) wher
       λ i. record {
         id = number_from w n.id (mid ++ (tail ++ rest)) h f₀ i;
         offset = number_from 2 (offset d at) (tail ++ rest) (offset_below d at k) f₁ i;
-        len = byte-from (length (bytes_of d)) (present d ∷ rest) f₂ i;
-        present = byte-from (present d) rest f₃ i;
+        len = byte_from (length (bytes_of d)) (present d ∷ rest) f₂ i;
+        present = byte_from (present d) rest f₃ i;
       }
 
 module _ {w : ℕ} {b : List ℕ} {n : Node} {ns : List Node} {i at : ℕ} (p : Placed w b (n ∷ ns) i at) where
@@ -75,9 +75,9 @@ module _ {w : ℕ} {b : List ℕ} {n : Node} {ns : List Node} {i at : ℕ} (p : 
   unfolding entries_by
   here = subst (λ (l : List ℕ). From b (place_by w i) l) (append_assoc (entry_by w n at) (entries_by w ns (at + length (bytes_of n.data_of))) p.post) p.entries_are
 
-  placed-next : Placed w b ns (suc i) (at + length (bytes_of n.data_of))
+  placed_next : Placed w b ns (suc i) (at + length (bytes_of n.data_of))
   unfolding datas
-  placed-next = record {
+  placed_next = record {
     post = p.post;
     entries_are = past (entry_by w n at) rest (place_by w (suc i)) (omega (arith, length_entry w n at)) here;
     data_are = past (bytes_of n.data_of) (datas ns) (at + length (bytes_of n.data_of)) refl p.data_are;
@@ -91,7 +91,7 @@ module _ {w : ℕ} {b : List ℕ} {n : Node} {ns : List Node} {i at : ℕ} (p : 
 data_read : (b rest : List ℕ) (id : ℕ) (d : Data) (at : ℕ) → From b at (bytes_of d ++ rest) → data_at b (entry_of id d at) ≡ d
 unfolding data_at choose present offset bytes_of
 data_read b rest id none at f = refl
-data_read b rest id (some d) at f = ap some (rw f.is (slice-mid f.pre d rest at f.long))
+data_read b rest id (some d) at f = ap some (rw f.is (slice_mid f.pre d rest at f.long))
 
 data_sound : (d : Data) (id at : ℕ) → length (bytes_of d) ≤ 16 → data_ok (entry_of id d at) at ≡ true
 unfolding data_ok choose present offset bytes_of
@@ -106,22 +106,22 @@ datas_most w h [] f = omega arith
 datas_most w h (n ∷ ns) f = omega (arith, length-append (bytes_of n.data_of) (datas ns), f.0.few, datas_most w h ns f.1)
 
 module _ (w : ℕ) (h : Header) (b : List ℕ) where
-  entries-sound : (ns : List Node) (i at : ℕ) → Placed w b ns i at → NodesInFormBy w h ns → at + length (datas ns) ≡ length b → length b < 65536 → entries_ok_by w h b i (length ns) at ≡ true
+  entries_sound : (ns : List Node) (i at : ℕ) → Placed w b ns i at → NodesInFormBy w h ns → at + length (datas ns) ≡ length b → length b < 65536 → entries_ok_by w h b i (length ns) at ≡ true
   unfolding entries_ok_by entry_ok datas NodesInFormBy
-  entries-sound [] i at p f l k = eq-eqb at (length b) (omega (arith, l))
-  entries-sound (n ∷ ns) i at p f l k =
+  entries_sound [] i at p f l k = eq-eqb at (length b) (omega (arith, l))
+  entries_sound (n ∷ ns) i at p f l k =
       let s : at + length (bytes_of n.data_of) + length (datas ns) ≡ length b = omega (arith, l, length-append (bytes_of n.data_of) (datas ns)) in
       let e : entry_at_by w b i ≡ entry_of n.id n.data_of at = entry_read p f.0.id (omega arith) in
-      rw (e, data_sound n.data_of n.id at f.0.few, f.0.unnamed, f.0.there) (entries-sound ns (suc i) (at + length (bytes_of n.data_of)) (placed-next p) f.1 s k)
+      rw (e, data_sound n.data_of n.id at f.0.few, f.0.unnamed, f.0.there) (entries_sound ns (suc i) (at + length (bytes_of n.data_of)) (placed_next p) f.1 s k)
 
-  nodes-back : (ns : List Node) (i at : ℕ) → Placed w b ns i at → NodesInFormBy w h ns → at + length (datas ns) ≡ length b → length b < 65536 → nodes_of_by w b i (length ns) ≡ ns
+  nodes_back : (ns : List Node) (i at : ℕ) → Placed w b ns i at → NodesInFormBy w h ns → at + length (datas ns) ≡ length b → length b < 65536 → nodes_of_by w b i (length ns) ≡ ns
   unfolding nodes_of_by node_at_by datas NodesInFormBy
-  nodes-back [] i at p f l k = refl
-  nodes-back (n ∷ ns) i at p f l k =
+  nodes_back [] i at p f l k = refl
+  nodes_back (n ∷ ns) i at p f l k =
       let s : at + length (bytes_of n.data_of) + length (datas ns) ≡ length b = omega (arith, l, length-append (bytes_of n.data_of) (datas ns)) in
       let e : entry_at_by w b i ≡ entry_of n.id n.data_of at = entry_read p f.0.id (omega arith) in
       let d : data_at b (entry_of n.id n.data_of at) ≡ n.data_of = data_read b (datas ns) n.id n.data_of at p.data_are in
-      let r : nodes_of_by w b (suc i) (length ns) ≡ ns = nodes-back ns (suc i) (at + length (bytes_of n.data_of)) (placed-next p) f.1 s k in
+      let r : nodes_of_by w b (suc i) (length ns) ≡ ns = nodes_back ns (suc i) (at + length (bytes_of n.data_of)) (placed_next p) f.1 s k in
       rw (e, d, r)
 
 -- ---- the whole record
@@ -163,14 +163,14 @@ module _ (w : ℕ) (wide : w ≤ peer_length) (e : Rec) (f : InFormBy w e) where
   few_nodes = count_most (header_in_by w e) f.header
 
   -- 32 nodes of 16 bytes: the whole length fits two bytes
-  pub size-most-by : size_by w e ≤ 928
+  pub size_most_by : size_by w e ≤ 928
   unfolding size_by
-  size-most-by =
+  size_most_by =
       omega (arith, wide, few_nodes, datas_most w (header_in_by w e) e.nodes f.nodes, mul-le-mul_right {m = node_length_by w} {n = 12} (length e.nodes) (omega (arith, wide)))
 
-  pub header-read-by : header_of_by w (encode_by w e) ≡ header_in_by w e
+  pub header_read_by : header_of_by w (encode_by w e) ≡ header_in_by w e
   unfolding header_of_by encode_by header_by header_in_by
-  header-read-by =
+  header_read_by =
       let b : List ℕ = encode_by w e in
       let four : List ℕ = e.kind ∷ e.message ∷ e.flags ∷ length e.nodes ∷ [] in
       let last : List ℕ = entries_by w e.nodes start ++ datas e.nodes in
@@ -195,7 +195,7 @@ module _ (w : ℕ) (wide : w ≤ peer_length) (e : Rec) (f : InFormBy w e) where
         peer = number_from w e.peer (s ++ (t ++ (z ++ (n ++ last)))) f.peer f₀ j;
         second = number_from w e.second (t ++ (z ++ (n ++ last))) f.second f₁ j;
         ttl = number_from 2 e.ttl (z ++ (n ++ last)) f.ttl f₂ j;
-        size = number_from 2 (size_by w e) (n ++ last) (omega (arith, size-most-by)) f₃ j;
+        size = number_from 2 (size_by w e) (n ++ last) (omega (arith, size_most_by)) f₃ j;
         number = number_from 8 e.number last f.number f₄ j;
       }
 
@@ -203,34 +203,34 @@ module _ (w : ℕ) (wide : w ≤ peer_length) (e : Rec) (f : InFormBy w e) where
   unfolding encode_by
   placed = record {
     post = datas e.nodes;
-    entries_are = record { pre = header_by w e; is = refl; long = omega (arith, length-header w e) };
+    entries_are = record { pre = header_by w e; is = refl; long = omega (arith, length_header w e) };
     data_are =
         past (entries_by w e.nodes start) (datas e.nodes) start (omega (arith, length_entries w e.nodes start))
-        (record { pre = header_by w e; is = refl; long = length-header w e });
+        (record { pre = header_by w e; is = refl; long = length_header w e });
   }
 
   whole : start + length (datas e.nodes) ≡ length (encode_by w e)
   unfolding size_by
-  whole = omega (arith, length-encode-by w e)
+  whole = omega (arith, length_encode_by w e)
 
   small : length (encode_by w e) < 65536
-  small = omega (arith, length-encode-by w e, size-most-by)
+  small = omega (arith, length_encode_by w e, size_most_by)
 
-  pub well-formed-encode-by : well_formed_by w (encode_by w e) ≡ true
+  pub well_formed_encode_by : well_formed_by w (encode_by w e) ≡ true
   unfolding well_formed_by header_in_by
-  well-formed-encode-by =
-      rw header-read-by
+  well_formed_encode_by =
+      rw header_read_by
       (both_true _ _ (le-leb (header_length_by w) (length (encode_by w e)) (omega (arith, whole)))
       (both_true _ _ f.header
-      (both_true _ _ (eq-eqb (size_by w e) (length (encode_by w e)) (sym (length-encode-by w e))) (entries-sound w (header_in_by w e) (encode_by w e) e.nodes 0 start placed f.nodes whole small))))
+      (both_true _ _ (eq-eqb (size_by w e) (length (encode_by w e)) (sym (length_encode_by w e))) (entries_sound w (header_in_by w e) (encode_by w e) e.nodes 0 start placed f.nodes whole small))))
 
-  pub rec-of-encode-by : rec_of_by w (encode_by w e) ≡ e
+  pub rec_of_encode_by : rec_of_by w (encode_by w e) ≡ e
   unfolding rec_of_by header_in_by
-  rec-of-encode-by = rw header-read-by (ap (λ (ns : List Node). with_nodes e ns) (nodes-back w (header_in_by w e) (encode_by w e) e.nodes 0 start placed f.nodes whole small))
+  rec_of_encode_by = rw header_read_by (ap (λ (ns : List Node). with_nodes e ns) (nodes_back w (header_in_by w e) (encode_by w e) e.nodes 0 start placed f.nodes whole small))
 
-  pub decode-encode : decode_by w (encode_by w e) ≡ some e
+  pub decode_encode : decode_by w (encode_by w e) ≡ some e
   unfolding decode_by
-  decode-encode = choose_yes _ _ _ well-formed-encode-by ∙ ap some rec-of-encode-by
+  decode_encode = choose_yes _ _ _ well_formed_encode_by ∙ ap some rec_of_encode_by
 
 -- ---- in this form
 
@@ -238,19 +238,19 @@ abbrev as_wide : peer_length ≤ peer_length
 as_wide = omega arith
 
 module _ (e : Rec) (f : InForm e) where
-  pub size-most : size e ≤ 928
-  size-most = size-most-by peer_length as_wide e f
+  pub size_most : size e ≤ 928
+  size_most = size_most_by peer_length as_wide e f
 
   pub header_read : header_of (encode e) ≡ header_in e
-  header_read = header-read-by peer_length as_wide e f
+  header_read = header_read_by peer_length as_wide e f
 
-  pub well-formed-encode : well_formed (encode e) ≡ true
-  well-formed-encode = well-formed-encode-by peer_length as_wide e f
+  pub well_formed_encode : well_formed (encode e) ≡ true
+  well_formed_encode = well_formed_encode_by peer_length as_wide e f
 
-  pub rec-of-encode : rec_of (encode e) ≡ e
-  rec-of-encode = rec-of-encode-by peer_length as_wide e f
+  pub rec_of_encode : rec_of (encode e) ≡ e
+  rec_of_encode = rec_of_encode_by peer_length as_wide e f
 
   -- the one reader's answer to what was written
-  pub answer-encode : answer (encode e) ≡ Record (header_in e)
+  pub answer_encode : answer (encode e) ≡ Record (header_in e)
   unfolding answer
-  answer-encode = choose_yes _ _ _ well-formed-encode ∙ ap Record header_read
+  answer_encode = choose_yes _ _ _ well_formed_encode ∙ ap Record header_read

@@ -10,7 +10,7 @@ use lib.ListN.{length, get_or, take, drop}
 use lib.Seq.{slice}
 use lib.Dec.{eqb, leb, ltb}
 use Rattle.base_lists.specs.Lists.{choose}
-use Rattle.base_lists.proofs.Slices.{slice-part}
+use Rattle.base_lists.proofs.Slices.{slice_part}
 use Rattle.base_lists.proofs.Choice.{choose_yes, choose_no, split, clash, and_left}
 use Rattle.record.specs.Kinds.{is_event_kind}
 use Rattle.record.specs.Format.{IsForm, most_nodes, peer_length, old_peer_length, header_length, header_length_by, node_length_by}
@@ -38,33 +38,33 @@ form_most w f =
     (λ n. omega (arith, f.other (eqb-false w old_peer_length n)))
 
 module _ (w : ℕ) (f : IsForm w) where
-  pub twice-fits : 2 * w < 2 ^ 64
-  twice-fits = omega (arith, form_most w f)
+  pub twice_fits : 2 * w < 2 ^ 64
+  twice_fits = omega (arith, form_most w f)
 
-  pub header-fits : header_length_by w < 2 ^ 64
-  header-fits = omega (arith, form_most w f)
+  pub header_fits : header_length_by w < 2 ^ 64
+  header_fits = omega (arith, form_most w f)
 
-  pub node-fits : node_length_by w < 2 ^ 64
-  node-fits = omega (arith, form_most w f)
+  pub node_fits : node_length_by w < 2 ^ 64
+  node_fits = omega (arith, form_most w f)
 
 module _ (w : ℕ) where
   -- data that would start past the end are no data of the record
-  pub entries-short : (h : Header) (b : List ℕ) (i n at : ℕ) → length b < at → entries_ok_by w h b i n at ≡ false
+  pub entries_short : (h : Header) (b : List ℕ) (i n at : ℕ) → length b < at → entries_ok_by w h b i n at ≡ false
   unfolding entries_ok_by
-  entries-short h b i zero at l = ne_eqb at (length b) (λ e. omega (arith, e))
-  entries-short h b i (suc n) at l = rw (entries-short h b (suc i) n (at + (entry_at_by w b i).len) (omega arith)) (and_none (entry_ok h (entry_at_by w b i) at))
+  entries_short h b i zero at l = ne_eqb at (length b) (λ e. omega (arith, e))
+  entries_short h b i (suc n) at l = rw (entries_short h b (suc i) n (at + (entry_at_by w b i).len) (omega arith)) (and_none (entry_ok h (entry_at_by w b i) at))
 
   -- where entries are sound, their data start within the record
-  pub entries-reach : (h : Header) (b : List ℕ) (i n at : ℕ) → entries_ok_by w h b i n at ≡ true → at ≤ length b
-  entries-reach h b i n at t = split (leb at (length b)) (λ y. leb-true at (length b) y) (λ n'. clash _ t (entries-short h b i n at (leb-false at (length b) n')))
+  pub entries_reach : (h : Header) (b : List ℕ) (i n at : ℕ) → entries_ok_by w h b i n at ≡ true → at ≤ length b
+  entries_reach h b i n at t = split (leb at (length b)) (λ y. leb-true at (length b) y) (λ n'. clash _ t (entries_short h b i n at (leb-false at (length b) n')))
 
-  pub well-formed-long : (b : List ℕ) → well_formed_by w b ≡ true → header_length_by w ≤ length b
+  pub well_formed_long : (b : List ℕ) → well_formed_by w b ≡ true → header_length_by w ≤ length b
   unfolding well_formed_by
-  well-formed-long b t = leb-true _ _ (and_left _ _ t)
+  well_formed_long b t = leb-true _ _ (and_left _ _ t)
 
 -- the part of a list that starts at a place and has n elements
 pub part_is : (l : List ℕ) (at n : ℕ) → take (at + n - at) (drop at l) ≡ slice at (at + n) l
-part_is l at n = let e : at + n - at ≡ n = omega arith in rw e (slice-part at n l)
+part_is l at n = let e : at + n - at ≡ n = omega arith in rw e (slice_part at n l)
 
 -- ---- the tests of a header and of an entry
 
@@ -79,32 +79,32 @@ not_or true x = refl
 not_or false x = refl
 
 module _ (h : Header) where
-  pub kind-known : (f : ℕ) (m : Bool) → f ≡ fixed_size h.kind → m ≡ choose (eqb h.kind 0) (leb h.message 5) (eqb h.message 0) → (not (eqb f 0) && m) ≡ kind_ok h
+  pub kind_known : (f : ℕ) (m : Bool) → f ≡ fixed_size h.kind → m ≡ choose (eqb h.kind 0) (leb h.message 5) (eqb h.message 0) → (not (eqb f 0) && m) ≡ kind_ok h
   unfolding kind_ok
-  kind-known f m p q = rw (p, q)
+  kind_known f m p q = rw (p, q)
 
-  pub flags-known : (n d o f : Bool) → n ≡ is_message 4 h → d ≡ is_message 5 h → o ≡ choose d (leb h.flags 3) (eqb h.flags 0) → f ≡ choose n (leb h.flags 1) o → f ≡ flags_ok h
+  pub flags_known : (n d o f : Bool) → n ≡ is_message 4 h → d ≡ is_message 5 h → o ≡ choose d (leb h.flags 3) (eqb h.flags 0) → f ≡ choose n (leb h.flags 1) o → f ≡ flags_ok h
   unfolding flags_ok
-  flags-known n d o f p q r s = rw (s, r, q, p)
+  flags_known n d o f p q r s = rw (s, r, q, p)
 
-  pub count-known : (j f n d s y m c : Bool) → j ≡ is_message 0 h → f ≡ is_message 1 h → n ≡ is_message 4 h → d ≡ is_data h → s ≡ is_message 2 h → y ≡ is_message 3 h
+  pub count_known : (j f n d s y m c : Bool) → j ≡ is_message 0 h → f ≡ is_message 1 h → n ≡ is_message 4 h → d ≡ is_data h → s ≡ is_message 2 h → y ≡ is_message 3 h
       → m ≡ choose (s || y) (leb h.nodes most_nodes) (eqb h.nodes 0) → c ≡ choose (j || (f || (n || d))) (eqb h.nodes 1) m → c ≡ count_ok h
   unfolding count_ok
-  count-known j f n d s y m c pj pf pn pd ps py pm pc = rw (pc, pm, pj, pf, pn, pd, ps, py)
+  count_known j f n d s y m c pj pf pn pd ps py pm pc = rw (pc, pm, pj, pf, pn, pd, ps, py)
 
-  pub peer-known : (not (eqb h.kind 1 || (eqb h.kind 2 || (eqb h.kind 7 || eqb h.kind 8))) || eqb h.peer 0) ≡ peer_ok h
+  pub peer_known : (not (eqb h.kind 1 || (eqb h.kind 2 || (eqb h.kind 7 || eqb h.kind 8))) || eqb h.peer 0) ≡ peer_ok h
   unfolding peer_ok
-  peer-known = not_or _ _
+  peer_known = not_or _ _
 
-  pub fields-known : (s t f : Bool) → s ≡ is_message 2 h → t ≡ is_timer h → f ≡ is_message 1 h
+  pub fields_known : (s t f : Bool) → s ≡ is_message 2 h → t ≡ is_timer h → f ≡ is_message 1 h
       → (((s || t) || eqb h.second 0) && (((f || s) || eqb h.ttl 0) && ((eqb h.kind 3 || eqb h.kind 4) || eqb h.number 0))) ≡ fields_ok h
   unfolding fields_ok
-  fields-known s t f p q r =
+  fields_known s t f p q r =
       rw (p, q, r, or_yes (is_message 2 h || is_timer h) (eqb h.second 0), or_yes (is_message 1 h || is_message 2 h) (eqb h.ttl 0), or_yes (eqb h.kind 3 || eqb h.kind 4) (eqb h.number 0))
 
-  pub header-known : (k f c p o : Bool) → k ≡ kind_ok h → f ≡ flags_ok h → c ≡ count_ok h → p ≡ peer_ok h → o ≡ fields_ok h → (k && (f && (c && (p && o)))) ≡ header_ok h
+  pub header_known : (k f c p o : Bool) → k ≡ kind_ok h → f ≡ flags_ok h → c ≡ count_ok h → p ≡ peer_ok h → o ≡ fields_ok h → (k && (f && (c && (p && o)))) ≡ header_ok h
   unfolding header_ok
-  header-known k f c p o a b d e g = rw (a, b, d, e, g)
+  header_known k f c p o a b d e g = rw (a, b, d, e, g)
 
   pub entry_known : (e : Entry) (at : ℕ) (x d u : Bool) → x ≡ choose (eqb e.present 0) (eqb e.offset 0 && eqb e.len 0) (eqb e.present 1 && (eqb e.offset at && leb e.len 16))
       → d ≡ is_data h → u ≡ (is_message 0 h || (is_message 4 h || is_data h)) → (x && ((not u || eqb e.id 0) && (not d || eqb e.present 1))) ≡ entry_ok h e at
@@ -160,21 +160,21 @@ module _ (b : List ℕ) where
   events false false false = refl
 
   -- the code's answer to an event stands for what the bytes read as
-  pub event-reads : event_in b (event_answer b) ≡ read_event b
+  pub event_reads : event_in b (event_answer b) ≡ read_event b
   unfolding event_answer read_event
-  event-reads = events (ltb (length b) header_length) (ltb 32 (get_or b 3 0)) (well_formed b && is_event (header_of b))
+  event_reads = events (ltb (length b) header_length) (ltb 32 (get_or b 3 0)) (well_formed b && is_event (header_of b))
 
   event_is : (r : Event) → r ≡ event_answer b → EventIs b r
-  event_is r e = record { is = e; reads = ap (event_in b) e ∙ event-reads }
+  event_is r e = record { is = e; reads = ap (event_in b) e ∙ event_reads }
 
-  pub event-short : length b < header_length → EventIs b (Events.Refused 3)
+  pub event_short : length b < header_length → EventIs b (Events.Refused 3)
   unfolding event_answer answer_to read_event choose
-  event-short h = event_is (Events.Refused 3) (rw (lt-ltb _ _ h))
+  event_short h = event_is (Events.Refused 3) (rw (lt-ltb _ _ h))
 
   module _ (l : header_length ≤ length b) where
-    pub event-crowded : 32 < get_or b 3 0 → EventIs b (Events.Refused 4)
+    pub event_crowded : 32 < get_or b 3 0 → EventIs b (Events.Refused 4)
     unfolding event_answer answer_to read_event choose
-    event-crowded h = event_is (Events.Refused 4) (rw (le-ltb _ _ l, lt-ltb _ _ h))
+    event_crowded h = event_is (Events.Refused 4) (rw (le-ltb _ _ l, lt-ltb _ _ h))
 
     module _ (few : get_or b 3 0 ≤ 32) (h : Header) (w t k : Bool) (p : w ≡ well_formed b) (q : h ≡ header_of b) (r : t ≡ is_timer h) (z : k ≡ is_event_kind h.kind) where
       abbrev tested : Bool
@@ -184,10 +184,10 @@ module _ (b : List ℕ) where
       unfolding is_event
       test = rw (p, r, z, not_or (is_timer h) (eqb h.second 0), q)
 
-      pub event-record : tested ≡ true → EventIs b (Events.Record h)
+      pub event_record : tested ≡ true → EventIs b (Events.Record h)
       unfolding event_answer answer_to read_event choose
-      event-record y = event_is (Events.Record h) (rw (q, le-ltb _ _ l, le-ltb _ _ few, ← test, y))
+      event_record y = event_is (Events.Record h) (rw (q, le-ltb _ _ l, le-ltb _ _ few, ← test, y))
 
-      pub event-refused : tested ≡ false → EventIs b (Events.Refused 3)
+      pub event_refused : tested ≡ false → EventIs b (Events.Refused 3)
       unfolding event_answer answer_to read_event choose
-      event-refused y = event_is (Events.Refused 3) (rw (le-ltb _ _ l, le-ltb _ _ few, ← test, y))
+      event_refused y = event_is (Events.Refused 3) (rw (le-ltb _ _ l, le-ltb _ _ few, ← test, y))

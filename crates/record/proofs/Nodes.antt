@@ -21,7 +21,7 @@ use Rattle.record.specs.Read.{header_of, header_of_by, entry_from, entry_at, ent
 use Rattle.record.specs.Answers.{HoldsNode}
 use Rattle.record.specs.declared.Header.{Header}
 use Rattle.record.specs.declared.Entry.{Entry}
-use Rattle.record.proofs.Laws.{entries-reach}
+use Rattle.record.proofs.Laws.{entries_reach}
 use Rattle.record.proofs.Back.{Sound, sound, parts}
 
 -- the i-th entry of b: its bytes and its data stand within b, the data are those that it points at, at most 16 bytes
@@ -47,7 +47,7 @@ module _ (w : ℕ) (h : Header) (b : List ℕ) where
       record {
         at = at;
         sound_there = sound b e at (and_left (data_ok e at) (id_ok h e.id && present_ok h e.present) (and_left (entry_ok h e at) rest t));
-        reach = entries-reach w h b (suc i) n (at + e.len) (and_right (entry_ok h e at) rest t);
+        reach = entries_reach w h b (suc i) n (at + e.len) (and_right (entry_ok h e at) rest t);
       }
 
   stands : (n i at k : ℕ) → entries_ok_by w h b i n at ≡ true → k < n → Stands (i + k)
@@ -68,7 +68,7 @@ module _ (w : ℕ) (b : List ℕ) (t : well_formed_by w b ≡ true) (i : ℕ) (l
       let z : 0 + i ≡ i = omega arith in
       let s : Stands w (header_of_by w b) b i = rw z at (stands w (header_of_by w b) b n 0 (place_by w n) i listed l) in
       record {
-        room = omega (arith, mul-le-mul_left (node_length_by w) l, entries-reach w (header_of_by w b) b 0 n (place_by w n) listed);
+        room = omega (arith, mul-le-mul_left (node_length_by w) l, entries_reach w (header_of_by w b) b 0 n (place_by w n) listed);
         within = omega (arith, s.reach, s.sound_there.low);
         few = s.sound_there.few;
         bytes = s.sound_there.own;
@@ -83,13 +83,13 @@ length_nodes_of b i (suc n) = ap suc (length_nodes_of b (suc i) n)
 -- ---- a node's data by value
 
 module _ (b : List ℕ) (e : Entry) (r : PeerData) where
-  pub absent-held : e.present ≡ 0 → HoldsData r none → HoldsData r (data_at b e)
+  pub absent_held : e.present ≡ 0 → HoldsData r none → HoldsData r (data_at b e)
   unfolding data_at
-  absent-held z h = subst (λ (d : Data). HoldsData r d) (sym (choose_yes (eqb e.present 0) none (some (slice e.offset (e.offset + e.len) b)) (eq-eqb _ _ z))) h
+  absent_held z h = subst (λ (d : Data). HoldsData r d) (sym (choose_yes (eqb e.present 0) none (some (slice e.offset (e.offset + e.len) b)) (eq-eqb _ _ z))) h
 
-  pub present-held : (x : List ℕ) → (e.present ≡ 0 → ⊥) → e.offset + e.len ≤ length b → e.len ≤ 16 → x ≡ slice e.offset (e.offset + e.len) b → HoldsData r (taken x) → HoldsData r (data_at b e)
+  pub present_held : (x : List ℕ) → (e.present ≡ 0 → ⊥) → e.offset + e.len ≤ length b → e.len ≤ 16 → x ≡ slice e.offset (e.offset + e.len) b → HoldsData r (taken x) → HoldsData r (data_at b e)
   unfolding data_at taken
-  present-held x z w f q h =
+  present_held x z w f q h =
       let s : List ℕ = slice e.offset (e.offset + e.len) b in
       let l : length s ≡ e.len = length-slice e.offset (e.offset + e.len) b w ∙ (let k : e.offset + e.len - e.offset ≡ e.len = omega arith in k) in
       let t : choose (leb (length s) 16) (some s) none ≡ some s = choose_yes (leb (length s) 16) (some s) none (le-leb (length s) 16 (omega arith)) in
@@ -110,11 +110,11 @@ unfolding entry_at_by
 entry_read b i e q = q
 
 module _ (b : List ℕ) (i : ℕ) (t : well_formed b ≡ true) (l : i < (header_of b).nodes) where
-  pub entry-room : header_length + node_length * i + node_length ≤ length b
-  entry-room = (entry_in peer_length b t i l).room
+  pub entry_room : header_length + node_length * i + node_length ≤ length b
+  entry_room = (entry_in peer_length b t i l).room
 
-  pub entry-within : (e : Entry) → e ≡ entry_at b i → e.offset + e.len ≤ length b
-  entry-within e q = omega (arith, (entry_in peer_length b t i l).within, ap (λ (x : Entry). x.offset) q, ap (λ (x : Entry). x.len) q)
+  pub entry_within : (e : Entry) → e ≡ entry_at b i → e.offset + e.len ≤ length b
+  entry_within e q = omega (arith, (entry_in peer_length b t i l).within, ap (λ (x : Entry). x.offset) q, ap (λ (x : Entry). x.len) q)
 
-  pub entry-few : (e : Entry) → e ≡ entry_at b i → e.len ≤ 16
-  entry-few e q = omega (arith, (entry_in peer_length b t i l).few, ap (λ (x : Entry). x.len) q)
+  pub entry_few : (e : Entry) → e ≡ entry_at b i → e.len ≤ 16
+  entry_few e q = omega (arith, (entry_in peer_length b t i l).few, ap (λ (x : Entry). x.len) q)

@@ -75,14 +75,14 @@ module _ (b : List ℕ) (h : Header) (is : h ≡ header_of b) where
   taken_none e = records_none b (sym size_is ∙ e)
 
   module _ (l : header_length ≤ length b) (e : h.size ≡ 0 → ⊥) where
-    pub taken-one : records_in b ≡ b ∷ records_in (drop h.size b)
-    taken-one = records_one b l (λ z. e (size_is ∙ z)) ∙ ap (λ (n : ℕ). b ∷ records_in (drop n b)) (sym size_is)
+    pub taken_one : records_in b ≡ b ∷ records_in (drop h.size b)
+    taken_one = records_one b l (λ z. e (size_is ∙ z)) ∙ ap (λ (n : ℕ). b ∷ records_in (drop n b)) (sym size_is)
 
     pub taken_next : records_in b ≡ b ∷ records_in (take (length b - h.size) (drop h.size b))
-    taken_next = rw (take_all (length b - h.size) (drop h.size b) (simp length-drop (omega arith))) taken-one
+    taken_next = rw (take_all (length b - h.size) (drop h.size b) (simp length-drop (omega arith))) taken_one
 
-    pub taken-last : length b < h.size → records_in b ≡ b ∷ []
-    taken-last s = taken-one ∙ ap (λ (bs : List (List ℕ)). b ∷ bs) (records_few (drop h.size b) (simp length-drop (omega arith)))
+    pub taken_last : length b < h.size → records_in b ≡ b ∷ []
+    taken_last s = taken_one ∙ ap (λ (bs : List (List ℕ)). b ∷ bs) (records_few (drop h.size b) (simp length-drop (omega arith)))
 
 -- ---- of bytes that were written
 
@@ -95,8 +95,8 @@ module _ (e : Rec) (rest : List ℕ) (s : size e < 65536) where
   unfolding whole_length header_of_by encode_by header_by le read_le
   whole_is = omega (arith, s)
 
-  pub records-written : records_in (encode e ++ rest) ≡ (encode e ++ rest) ∷ records_in rest
-  records-written =
+  pub records_written : records_in (encode e ++ rest) ≡ (encode e ++ rest) ∷ records_in rest
+  records_written =
       let b : List ℕ = encode e ++ rest in
       records_one b (omega (arith, length-append (encode e) rest, length_encode e, size_some e)) (λ w. omega (arith, whole_is, size_some e))
       ∙ ap (λ (c : List ℕ). b ∷ records_in c) (rw whole_is (drop_at (encode e) rest (size e) (length_encode e)))

@@ -14,7 +14,7 @@ use lib.Dec.{ltb, eqb}
 use Rattle.base_lists.specs.Lists.{choose}
 use Rattle.base_lists.specs.Array.{pad}
 use Rattle.base_lists.specs.Bytes.{le, overwrite}
-use Rattle.base_lists.proofs.Array.{length-pad}
+use Rattle.base_lists.proofs.Array.{length_pad}
 use Rattle.base_lists.proofs.Choice.{by_choice, and_left, and_right}
 use Rattle.base_lists.proofs.Numbers.{Bytes, read_below}
 use Rattle.base_lists.proofs.Bytes.{then, overwrite_is}
@@ -23,8 +23,8 @@ use Rattle.record.specs.Format.{Rec, header_length_by, place_by, offset, entry_b
 use Rattle.record.specs.Read.{header_of_by, entry_at_by, well_formed_by, data_at, node_at_by, nodes_of_by, rec_of_by}
 use Rattle.record.specs.declared.Header.{Header}
 use Rattle.record.specs.declared.Entry.{Entry}
-use Rattle.record.proofs.Format.{length-header, length_entries, length-encode-by}
-use Rattle.record.proofs.Laws.{well-formed-long, entries-reach}
+use Rattle.record.proofs.Format.{length_header, length_entries, length_encode_by}
+use Rattle.record.proofs.Laws.{well_formed_long, entries_reach}
 use Rattle.record.proofs.Back.{parts, all_back}
 use Rattle.record.proofs.Forth.{count_most}
 use Rattle.record.proofs.Nodes.{EntryIn, entry_in}
@@ -53,7 +53,7 @@ module _ (v : ℕ) (b : List ℕ) (t : well_formed_by v b ≡ true) where
   -- what the code counts on that has read the header h
   module _ (h : Header) (q : h ≡ header_of_by v b) where
     pub reach : place_by v h.nodes ≤ length b
-    reach = rw q (entries-reach v (header_of_by v b) b 0 count (place_by v count) (parts v b t).listed)
+    reach = rw q (entries_reach v (header_of_by v b) b 0 count (place_by v count) (parts v b t).listed)
 
     pub short : Bytes b → length b ≤ 65535
     unfolding header_of_by
@@ -64,20 +64,20 @@ module _ (v w : ℕ) (b : List ℕ) (t : well_formed_by v b ≡ true) where
   n = (header_of_by v b).nodes
 
   -- the i-th entry with its data at another place
-  pub entry-moved : (i at : ℕ) → i < n → entry_by w (node_at_by v b i) at ≡ entry_fields w (moved_entry (entry_at_by v b i) at)
+  pub entry_moved : (i at : ℕ) → i < n → entry_by w (node_at_by v b i) at ≡ entry_fields w (moved_entry (entry_at_by v b i) at)
   unfolding entry_by entry_fields moved_entry node_at_by data_at
-  entry-moved i at l =
+  entry_moved i at l =
       let e : Entry = entry_at_by v b i in
       λ j. le w e.id ++ (le 2 (offset_by (eqb e.present 0) (slice e.offset (e.offset + e.len) b) at j) ++ (length_data v b t i l j ∷ (entry_in v b t i l).there j ∷ []))
 
   module _ (ok : Bytes b) where
-    pub size-other : size_by w (rec_of_by v b) ≡ place_by w n + (length b - place_by v n)
+    pub size_other : size_by w (rec_of_by v b) ≡ place_by w n + (length b - place_by v n)
     unfolding size_by rec_of_by
-    size-other = rw (all_back v b ok t).count (omega (arith, (all_back v b ok t).reach))
+    size_other = rw (all_back v b ok t).count (omega (arith, (all_back v b ok t).reach))
 
-    header-other : header_by w (rec_of_by v b) ≡ header_fields w (resized (header_of_by v b) (size_by w (rec_of_by v b)))
+    header_other : header_by w (rec_of_by v b) ≡ header_fields w (resized (header_of_by v b) (size_by w (rec_of_by v b)))
     unfolding header_by header_fields tail_bytes rec_of_by
-    header-other =
+    header_other =
         let h : Header = header_of_by v b in
         λ j. h.kind ∷ h.message ∷ h.flags ∷ (all_back v b ok t).count j
         ∷ (le w h.peer ++ (le w h.second ++ (le 2 h.ttl ++ (le 2 (size_by w (rec_of_by v b)) ++ le 8 h.number))))
@@ -86,13 +86,13 @@ module _ (v w : ℕ) (b : List ℕ) (t : well_formed_by v b ≡ true) where
     unfolding rec_of_by
     counted = λ j. place_by w ((all_back v b ok t).count j)
 
-    entries-other : entries_by w (rec_of_by v b).nodes (place_by w (length (rec_of_by v b).nodes)) ≡ entries_by w (nodes_of_by v b 0 n) (place_by w n)
+    entries_other : entries_by w (rec_of_by v b).nodes (place_by w (length (rec_of_by v b).nodes)) ≡ entries_by w (nodes_of_by v b 0 n) (place_by w n)
     unfolding rec_of_by
-    entries-other = λ j. entries_by w (nodes_of_by v b 0 n) (counted j)
+    entries_other = λ j. entries_by w (nodes_of_by v b 0 n) (counted j)
 
-    datas-other : datas (rec_of_by v b).nodes ≡ drop (place_by v n) b
+    datas_other : datas (rec_of_by v b).nodes ≡ drop (place_by v n) b
     unfolding rec_of_by
-    datas-other = (all_back v b ok t).datas_are ∙ ap (drop (place_by v n)) (take-length b)
+    datas_other = (all_back v b ok t).datas_are ∙ ap (drop (place_by v n)) (take-length b)
 
     -- the three parts of the record, one after the other
     pub written : (out o₁ o₂ o₃ : List ℕ) → o₁ ≡ overwrite out 0 (header_fields w (resized (header_of_by v b) (size_by w (rec_of_by v b))))
@@ -102,16 +102,16 @@ module _ (v w : ℕ) (b : List ℕ) (t : well_formed_by v b ≡ true) where
     written out o₁ o₂ o₃ p q r =
         let e : Rec = rec_of_by v b in
         let ns : List ℕ = entries_by w e.nodes (place_by w (length e.nodes)) in
-        let p' : o₁ ≡ overwrite out 0 (header_by w e) = p ∙ ap (overwrite out 0) (sym header-other) in
-        let q' : o₂ ≡ overwrite o₁ (header_length_by w) ns = q ∙ ap (overwrite o₁ (header_length_by w)) (sym entries-other) in
-        let r' : o₃ ≡ overwrite o₂ (place_by w n) (datas e.nodes) = r ∙ ap (overwrite o₂ (place_by w n)) (sym datas-other) in
+        let p' : o₁ ≡ overwrite out 0 (header_by w e) = p ∙ ap (overwrite out 0) (sym header_other) in
+        let q' : o₂ ≡ overwrite o₁ (header_length_by w) ns = q ∙ ap (overwrite o₁ (header_length_by w)) (sym entries_other) in
+        let r' : o₃ ≡ overwrite o₂ (place_by w n) (datas e.nodes) = r ∙ ap (overwrite o₂ (place_by w n)) (sym datas_other) in
         then out 0 (header_by w e) (ns ++ datas e.nodes) p'
         (then o₁ (header_length_by w) ns (datas e.nodes) q' r' (omega (arith, length_entries w e.nodes (place_by w (length e.nodes)), counted)))
-        (omega (arith, length-header w e))
+        (omega (arith, length_header w e))
 
     -- the code's whole length
     pub size_is : (h : Header) → h ≡ header_of_by v b → (size : ℕ) → size ≡ place_by w h.nodes + (length b - place_by v h.nodes) → size ≡ size_by w (rec_of_by v b)
-    size_is h q size s = s ∙ rw q (sym size-other)
+    size_is h q size s = s ∙ rw q (sym size_other)
 
 -- ---- the answer, by the tests of the code
 
@@ -124,9 +124,9 @@ module _ (v w : ℕ) (b : List ℕ) (i : is_record v b ≡ true) where
   well = well_of v b i
 
   -- what is answered where the reader answers nothing
-  pub answer-well : (r : ℕ) → conversion_code v w b r ≡ choose (not (has_form w (rec_of_by v b))) 19 (choose (ltb r (size_by w (rec_of_by v b))) 9 0)
+  pub answer_well : (r : ℕ) → conversion_code v w b r ≡ choose (not (has_form w (rec_of_by v b))) 19 (choose (ltb r (size_by w (rec_of_by v b))) 9 0)
   unfolding conversion_code choose header_of_by
-  answer-well r = rw (le-ltb (length b) (header_length_by v) (well-formed-long v b well), le-ltb 32 (get_or b 3 0) (few v b well), i)
+  answer_well r = rw (le-ltb (length b) (header_length_by v) (well_formed_long v b well), le-ltb 32 (get_or b 3 0) (few v b well), i)
 
   module _ (ok : Bytes b) (h : Header) (q : h ≡ header_of_by v b) (size : ℕ) (s : size ≡ place_by w h.nodes + (length b - place_by v h.nodes)) where
     sized : size ≡ size_by w (rec_of_by v b)
@@ -137,35 +137,35 @@ module _ (v w : ℕ) (b : List ℕ) (i : is_record v b ≡ true) where
       abbrev all : Bool
       all = f₀ && (f₁ && (f₂ && (f₃ && ltb size 65536)))
 
-      form-is : has_form w (rec_of_by v b) ≡ all
+      form_is : has_form w (rec_of_by v b) ≡ all
       unfolding has_form rec_of_by
-      form-is = rw (p₀, p₁, p₂, p₃, sized, q)
+      form_is = rw (p₀, p₁, p₂, p₃, sized, q)
 
       pub full : all ≡ true → r < size → 9 ≡ conversion_code v w b r
       unfolding choose
-      full y l = sym (answer-well r ∙ rw (form-is, y, lt-ltb r (size_by w (rec_of_by v b)) (omega (arith, sized))))
+      full y l = sym (answer_well r ∙ rw (form_is, y, lt-ltb r (size_by w (rec_of_by v b)) (omega (arith, sized))))
 
       pub done : all ≡ true → size ≤ r → 0 ≡ conversion_code v w b r
       unfolding choose
-      done y l = sym (answer-well r ∙ rw (form-is, y, le-ltb r (size_by w (rec_of_by v b)) (omega (arith, sized))))
+      done y l = sym (answer_well r ∙ rw (form_is, y, le-ltb r (size_by w (rec_of_by v b)) (omega (arith, sized))))
 
-      pub none-such : all ≡ false → 19 ≡ conversion_code v w b r
+      pub none_such : all ≡ false → 19 ≡ conversion_code v w b r
       unfolding choose
-      none-such y = sym (answer-well r ∙ rw (form-is, y))
+      none_such y = sym (answer_well r ∙ rw (form_is, y))
 
 module _ (v w : ℕ) (b : List ℕ) (r at : ℕ) (e : at ≡ place_by v 0) where
-  pub short-answer : length b < at → 3 ≡ conversion_code v w b r
+  pub short_answer : length b < at → 3 ≡ conversion_code v w b r
   unfolding conversion_code choose
-  short-answer l = rw (lt-ltb (length b) (header_length_by v) (omega (arith, e)))
+  short_answer l = rw (lt-ltb (length b) (header_length_by v) (omega (arith, e)))
 
   module _ (l : at ≤ length b) where
-    pub crowded-answer : 32 < get_or b 3 0 → 4 ≡ conversion_code v w b r
+    pub crowded_answer : 32 < get_or b 3 0 → 4 ≡ conversion_code v w b r
     unfolding conversion_code choose
-    crowded-answer k = rw (le-ltb (length b) (header_length_by v) (omega (arith, e)), lt-ltb 32 (get_or b 3 0) k)
+    crowded_answer k = rw (le-ltb (length b) (header_length_by v) (omega (arith, e)), lt-ltb 32 (get_or b 3 0) k)
 
-    pub bad-answer : get_or b 3 0 ≤ 32 → is_record v b ≡ false → 3 ≡ conversion_code v w b r
+    pub bad_answer : get_or b 3 0 ≤ 32 → is_record v b ≡ false → 3 ≡ conversion_code v w b r
     unfolding conversion_code choose
-    bad-answer k n = rw (le-ltb (length b) (header_length_by v) (omega (arith, e)), le-ltb 32 (get_or b 3 0) k, n)
+    bad_answer k n = rw (le-ltb (length b) (header_length_by v) (omega (arith, e)), le-ltb 32 (get_or b 3 0) k, n)
 
 -- the code's two tests
 pub tested : (v : ℕ) (b : List ℕ) (t k : Bool) → t ≡ well_formed_by v b → k ≡ kind_in_form v (get_or b 0 0) → (t && k) ≡ is_record v b
@@ -215,7 +215,7 @@ pad_front (suc n) [] h = refl
 pad_front (suc n) (x ∷ bs) h = ap (λ (l : List ℕ). x ∷ l) (pad_front n bs (le_of_suc-le-suc h))
 
 stored : (n : ℕ) (bs : List ℕ) → length bs ≤ n → overwrite (pad 0 n []) 0 bs ≡ pad 0 n bs
-stored n bs h = overwrite_is (pad 0 n []) 0 bs (omega (arith, h, length-pad {A = ℕ} 0 n [])) ∙ (let z : 0 + length bs ≡ length bs = omega arith in rw z (pad_front n bs h))
+stored n bs h = overwrite_is (pad 0 n []) 0 bs (omega (arith, h, length_pad {A = ℕ} 0 n [])) ∙ (let z : 0 + length bs ≡ length bs = omega arith in rw z (pad_front n bs h))
 
 -- ---- the whole outcome
 
@@ -223,13 +223,13 @@ pub converted_fits : (v w : ℕ) (b : List ℕ) (r : ℕ) → length (converted 
 unfolding converted
 converted_fits v w b r =
     by_choice (λ (bs : List ℕ). length bs ≤ r) (eqb (conversion_code v w b r) 0)
-    (λ y. omega (arith, length-encode-by w (rec_of_by v b), (accepted v w b r (eqb-true _ _ y)).fits)) (λ n. omega arith)
+    (λ y. omega (arith, length_encode_by w (rec_of_by v b), (accepted v w b r (eqb-true _ _ y)).fits)) (λ n. omega arith)
 
 -- onto zeroes
 pub placed_zeroes : (v w : ℕ) (b out : List ℕ) (r : ℕ) (x : Conversion) → out ≡ pad 0 r [] → x ≡ placed v w b out → x ≡ conversion v w b r
 unfolding placed conversion outcome
 placed_zeroes v w b out r x q e =
-    let n : length out ≡ r = ap length q ∙ length-pad {A = ℕ} 0 r [] in
+    let n : length out ≡ r = ap length q ∙ length_pad {A = ℕ} 0 r [] in
     e ∙ (λ j. record {
       code = conversion_code v w b (n j);
       written = length (converted v w b (n j));
@@ -238,14 +238,14 @@ placed_zeroes v w b out r x q e =
     ∙ ap (λ (o : List ℕ). record { code = conversion_code v w b r; written = length (converted v w b r); output = o }) (stored r (converted v w b r) (converted_fits v w b r))
 
 module _ (v w : ℕ) (b out : List ℕ) (code : ℕ) (p : code ≡ conversion_code v w b (length out)) where
-  pub refused-placed : (code ≡ 0 → ⊥) → outcome_of (record { code = code; written = 0 }) out ≡ placed v w b out
+  pub refused_placed : (code ≡ 0 → ⊥) → outcome_of (record { code = code; written = 0 }) out ≡ placed v w b out
   unfolding placed converted choose overwrite
-  refused-placed n = rw (← p, ne_eqb code 0 n)
+  refused_placed n = rw (← p, ne_eqb code 0 n)
 
-  pub done-placed : (h : Header) (o : List ℕ) → code ≡ 0 → h ≡ resized (header_of_by v b) (size_by w (rec_of_by v b)) → o ≡ overwrite out 0 (encode_by w (rec_of_by v b))
+  pub done_placed : (h : Header) (o : List ℕ) → code ≡ 0 → h ≡ resized (header_of_by v b) (size_by w (rec_of_by v b)) → o ≡ overwrite out 0 (encode_by w (rec_of_by v b))
       → outcome_of (record { code = 0; written = h.size }) o ≡ placed v w b out
   unfolding placed converted choose
-  done-placed h o z d s =
+  done_placed h o z d s =
       let a : conversion_code v w b (length out) ≡ 0 = sym p ∙ z in
-      let n : h.size ≡ length (encode_by w (rec_of_by v b)) = ap (λ (y : Header). y.size) d ∙ sym (length-encode-by w (rec_of_by v b)) in
+      let n : h.size ≡ length (encode_by w (rec_of_by v b)) = ap (λ (y : Header). y.size) d ∙ sym (length_encode_by w (rec_of_by v b)) in
       rw (a, n, s)

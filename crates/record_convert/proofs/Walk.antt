@@ -14,13 +14,13 @@ use lib.Dec.{leb, ltb}
 use Rattle.base_lists.specs.Lists.{choose, null}
 use Rattle.base_lists.specs.Array.{pad}
 use Rattle.base_lists.specs.Bytes.{read_le}
-use Rattle.base_lists.proofs.Array.{length-pad}
+use Rattle.base_lists.proofs.Array.{length_pad}
 use Rattle.base_lists.proofs.Choice.{by_choice, choose_yes, choose_no, split}
 use Rattle.record.specs.Format.{header_length_by}
 use Rattle.record.specs.Read.{header_of_by}
 use Rattle.record_convert.specs.Convert.{conversion_code, Conversion, outcome, converted, conversion, placed, outcome_of}
 use Rattle.record_convert.specs.Walk.{first_record, Walked, behind, stopped, converting, walked, outcomes, outcomes_of}
-use Rattle.record.proofs.Laws.{well-formed-long}
+use Rattle.record.proofs.Laws.{well_formed_long}
 use Rattle.record_convert.proofs.Laws.{Accepted, accepted, converted_fits, placed_zeroes}
 
 -- ---- the first record
@@ -31,15 +31,15 @@ module _ (v : ℕ) (b : List ℕ) where
   first_short l = choose_yes _ _ _ (lt-ltb (length b) (header_length_by v) l)
 
   module _ (l : header_length_by v ≤ length b) where
-    pub first-long : first_record v b ≡ take (read_le 2 b (6 + 2 * v)) b
+    pub first_long : first_record v b ≡ take (read_le 2 b (6 + 2 * v)) b
     unfolding first_record header_of_by
-    first-long = choose_no _ _ _ (le-ltb (length b) (header_length_by v) l)
+    first_long = choose_no _ _ _ (le-ltb (length b) (header_length_by v) l)
 
-    pub first-cut : length b < read_le 2 b (6 + 2 * v) → first_record v b ≡ b
-    first-cut k = first-long ∙ take_all (read_le 2 b (6 + 2 * v)) b (omega arith)
+    pub first_cut : length b < read_le 2 b (6 + 2 * v) → first_record v b ≡ b
+    first_cut k = first_long ∙ take_all (read_le 2 b (6 + 2 * v)) b (omega arith)
 
-    pub first-whole : read_le 2 b (6 + 2 * v) ≤ length b → length (first_record v b) ≡ read_le 2 b (6 + 2 * v)
-    first-whole k = ap length first-long ∙ length-take-le (read_le 2 b (6 + 2 * v)) b k
+    pub first_whole : read_le 2 b (6 + 2 * v) ≤ length b → length (first_record v b) ≡ read_le 2 b (6 + 2 * v)
+    first_whole k = ap length first_long ∙ length-take-le (read_le 2 b (6 + 2 * v)) b k
 
 -- the part of b that the code cuts
 part_again : (s : ℕ) (b : List ℕ) → take (length (take s b)) b ≡ take s b
@@ -65,9 +65,9 @@ module _ (v w n : ℕ) (c : List ℕ) (r : ℕ) (some : 0 < length c) where
   unfolding converting
   walk_on e = choose_no _ _ _ (null_some c some) ∙ choose_yes _ _ _ (eq-eqb (conversion_code v w (first_record v c) r) 0 e)
 
-  pub walk-stop : (conversion_code v w (first_record v c) r ≡ 0 → ⊥) → converting v w (suc n) c r ≡ stopped (conversion_code v w (first_record v c) r)
+  pub walk_stop : (conversion_code v w (first_record v c) r ≡ 0 → ⊥) → converting v w (suc n) c r ≡ stopped (conversion_code v w (first_record v c) r)
   unfolding converting
-  walk-stop e = choose_no _ _ _ (null_some c some) ∙ choose_no _ _ _ (ne_eqb (conversion_code v w (first_record v c) r) 0 e)
+  walk_stop e = choose_no _ _ _ (null_some c some) ∙ choose_no _ _ _ (ne_eqb (conversion_code v w (first_record v c) r) 0 e)
 
 pub walk_end : (v w n : ℕ) (r : ℕ) → converting v w n [] r ≡ stopped 0
 unfolding converting null choose
@@ -90,7 +90,7 @@ pad_append (suc r) (x ∷ xs) ys h =
 
 module _ (room to : ℕ) (done out : List ℕ) (long : length done ≡ to) (top : to ≤ room) (is : out ≡ pad 0 room done) where
   len : length out ≡ room
-  len = ap length is ∙ length-pad {A = ℕ} 0 room done
+  len = ap length is ∙ length_pad {A = ℕ} 0 room done
 
   abbrev zeroes : List ℕ
   zeroes = pad 0 (room - to) []
@@ -102,7 +102,7 @@ module _ (room to : ℕ) (done out : List ℕ) (long : length done ≡ to) (top 
   rest = ap (drop to) apart ∙ drop_at done zeroes to long
 
   as_long : length zeroes ≡ length out - to
-  as_long = length-pad {A = ℕ} 0 (room - to) [] ∙ rw len
+  as_long = length_pad {A = ℕ} 0 (room - to) [] ∙ rw len
 
   -- the part that is lent
   pub lent : take (length out - to) (drop to out) ≡ zeroes
@@ -147,11 +147,11 @@ walking_start v w b room out e =
     }
 
 module _ (v w : ℕ) (b : List ℕ) (room : ℕ) (out : List ℕ) (from to : ℕ) (u : Walking v w b room out from to) where
-  pub walking-len : length out ≡ room
-  walking-len = len room to u.done out u.long u.top u.is
+  pub walking_len : length out ≡ room
+  walking_len = len room to u.done out u.long u.top u.is
 
-  at-end : (n : ℕ) → length b ≤ from → converting v w n (drop from b) (room - to) ≡ stopped 0
-  at-end n l =
+  at_end : (n : ℕ) → length b ≤ from → converting v w n (drop from b) (room - to) ≡ stopped 0
+  at_end n l =
       let e : from ≡ length b = omega (arith, u.low) in
       ap (λ (c : List ℕ). converting v w n c (room - to)) (ap (λ (k : ℕ). drop k b) e ∙ drop-length b) ∙ walk_end v w n (room - to)
 
@@ -162,8 +162,8 @@ module _ (v w : ℕ) (b : List ℕ) (room : ℕ) (out : List ℕ) (from to : ℕ
       let n : from + 0 ≡ from = omega arith in
       sym (ap (λ (x : Walked). outcomes x room) q ∙ rw (append-nil u.done, n, u.long))
 
-  pub walking-end : length b ≤ from → outcomes_of (record { code = 0; taken = from; written = to }) out ≡ outcomes (walked v w b room) room
-  walking-end l = ap (λ (o : List ℕ). outcomes_of (record { code = 0; taken = from; written = to }) o) u.is ∙ stops 0 (at-end u.left l)
+  pub walking_end : length b ≤ from → outcomes_of (record { code = 0; taken = from; written = to }) out ≡ outcomes (walked v w b room) room
+  walking_end l = ap (λ (o : List ℕ). outcomes_of (record { code = 0; taken = from; written = to }) o) u.is ∙ stops 0 (at_end u.left l)
 
   module _ (more : from < length b) (k : ℕ) (ke : k ≡ length (first_record v (take (length b - from) (drop from b)))) (code written : ℕ) (part : List ℕ)
       (x : outcome_of (record { code = code; written = written }) part ≡ placed v w (take (from + k - from) (drop from b)) (take (length out - to) (drop to out))) where
@@ -199,36 +199,36 @@ module _ (v w : ℕ) (b : List ℕ) (room : ℕ) (out : List ℕ) (from to : ℕ
     unfolding conversion outcome
     part_is = ap (λ (o : Conversion). o.output) result
 
-    length-c : length c ≡ length b - from
-    length-c = length-drop from b
+    length_c : length c ≡ length b - from
+    length_c = length-drop from b
 
     some : 0 < length c
-    some = omega (arith, length-c)
+    some = omega (arith, length_c)
 
     -- a record was done or not, the place in the output is within it
-    pub walking-top : to + written ≤ room
-    walking-top = omega (arith, written_is, converted_fits v w (first_record v c) r, u.top)
+    pub walking_top : to + written ≤ room
+    walking_top = omega (arith, written_is, converted_fits v w (first_record v c) r, u.top)
 
     one_left : u.left ≡ suc (u.left - 1)
     one_left = omega (arith, u.enough)
 
-    pub walking-stop : (code ≡ 0 → ⊥) → outcomes_of (record { code = code; taken = from; written = to }) (put_mid to (length out - to) out part) ≡ outcomes (walked v w b room) room
+    pub walking_stop : (code ≡ 0 → ⊥) → outcomes_of (record { code = code; taken = from; written = to }) (put_mid to (length out - to) out part) ≡ outcomes (walked v w b room) room
     unfolding converted
-    walking-stop n =
+    walking_stop n =
         let none : bs ≡ [] = choose_no _ _ _ (ne_eqb (conversion_code v w (first_record v c) r) 0 (λ z. n (code_is ∙ z))) in
         let o : put_mid to (length out - to) out part ≡ pad 0 room u.done = lent_back room to u.done out u.long u.top u.is part [] (part_is ∙ ap (pad 0 r) none) ∙ ap (pad 0 room) (append-nil u.done) in
         ap (λ (l : List ℕ). outcomes_of (record { code = code; taken = from; written = to }) l) o
-        ∙ stops code (ap (λ (m : ℕ). converting v w m c r) one_left ∙ walk-stop v w (u.left - 1) c r some (λ z. n (code_is ∙ z)) ∙ ap stopped (sym code_is))
+        ∙ stops code (ap (λ (m : ℕ). converting v w m c r) one_left ∙ walk_stop v w (u.left - 1) c r some (λ z. n (code_is ∙ z)) ∙ ap stopped (sym code_is))
 
     module _ (z : code ≡ 0) where
       accept : Accepted v w (first_record v c) r
       accept = accepted v w (first_record v c) r (sym code_is ∙ z)
 
-      pub walking-less : length b - (from + k) < length b - from
-      walking-less = omega (arith, ke, ap (λ (l : List ℕ). length (first_record v l)) all, well-formed-long v (first_record v c) accept.well)
+      pub walking_less : length b - (from + k) < length b - from
+      walking_less = omega (arith, ke, ap (λ (l : List ℕ). length (first_record v l)) all, well_formed_long v (first_record v c) accept.well)
 
-      pub walking-next : k ≤ length (take (length b - from) (drop from b)) → Walking v w b room (put_mid to (length out - to) out part) (from + k) (to + written)
-      walking-next h =
+      pub walking_next : k ≤ length (take (length b - from) (drop from b)) → Walking v w b room (put_mid to (length out - to) out part) (from + k) (to + written)
+      walking_next h =
           let kc : k ≡ length (first_record v c) = ke ∙ ap (λ (l : List ℕ). length (first_record v l)) all in
           let d : drop (length (first_record v c)) c ≡ drop (from + k) b = drop-drop (length (first_record v c)) from b ∙ ap (λ (m : ℕ). drop (from + m) b) (sym kc) in
           let left-room : r - length bs ≡ room - (to + written) = omega (arith, written_is) in
@@ -236,12 +236,12 @@ module _ (v w : ℕ) (b : List ℕ) (room : ℕ) (out : List ℕ) (from to : ℕ
           ap (λ (m : ℕ). converting v w m c r) one_left ∙ walk_on v w (u.left - 1) c r some (sym code_is ∙ z)
           ∙ (λ j. behind (sym kc j) bs (converting v w (u.left - 1) (d j) (left-room j))) in
           record {
-            low = omega (arith, ap length all, length-c);
-            top = walking-top;
+            low = omega (arith, ap length all, length_c);
+            top = walking_top;
             done = u.done ++ bs;
             long = omega (arith, length-append u.done bs, u.long, written_is);
             is = lent_back room to u.done out u.long u.top u.is part bs part_is;
             left = u.left - 1;
-            enough = omega (arith, u.enough, walking-less);
+            enough = omega (arith, u.enough, walking_less);
             same = u.same ∙ ap (behind from u.done) on ∙ behind_behind from k u.done bs (converting v w (u.left - 1) (drop (from + k) b) (room - (to + written)));
           }

@@ -12,7 +12,7 @@ use lib.ListN.{length, take, get_or, set, length-append, length-map}
 use lib.Seq.{slice, length-slice, length-take-le, take-suc-set, get_or-set_same, get_or-set_other, set_comm}
 use Rattle.base_lists.specs.Array.{pad}
 use Rattle.base_lists.specs.Bytes.{le}
-use Rattle.base_lists.proofs.Array.{length-pad, push-pad}
+use Rattle.base_lists.proofs.Array.{length_pad, push_pad}
 use Rattle.base_lists.specs.Bytes.{overwrite}
 use Rattle.base_lists.proofs.Bytes.{overwrite_append, then, length_le}
 use Rattle.base_lists.proofs.Front.{get_d_any}
@@ -28,14 +28,14 @@ use Rattle.record_writer.specs.Nodes.{blank, nodes_in, ValidNodes, HoldsNodes}
 use Rattle.record_writer.specs.declared.Nodes.{Nodes}
 
 module _ (d : PeerData) (v : ValidData d) where
-  pub length-places : length d.bytes ≡ 16
-  length-places = ap length v.packed ∙ length-pad 0 16 (take d.len d.bytes)
+  pub length_places : length d.bytes ≡ 16
+  length_places = ap length v.packed ∙ length_pad 0 16 (take d.len d.bytes)
 
   pub exact : d.len ≡ length (take d.len d.bytes)
   exact = sym (length_bytes d v)
 
-  pub length-in : length (bytes_of (data_in d)) ≡ d.len
-  length-in = ap length (bytes_in d v) ∙ length_bytes d v
+  pub length_in : length (bytes_of (data_in d)) ≡ d.len
+  length_in = ap length (bytes_in d v) ∙ length_bytes d v
 
 -- ---- a node entry
 
@@ -57,26 +57,26 @@ module _ (p : PeerInfo) (at k : ℕ) (out o₁ : List ℕ) (e₁ : o₁ ≡ over
   abbrev after : at + peer_length ≡ at + length (le peer_length p.id)
   after = sym (ap (λ (n : ℕ). at + n) (length_le peer_length p.id))
 
-  entry-put : (o₂ o : List ℕ) → ValidData p.data → p.data.present ≡ true → o ≡ overwrite o₂ (at + 10) (p.data.len ∷ 1 ∷ []) → o₂ ≡ overwrite o₁ (at + peer_length) (le 2 k)
+  entry_put : (o₂ o : List ℕ) → ValidData p.data → p.data.present ≡ true → o ≡ overwrite o₂ (at + 10) (p.data.len ∷ 1 ∷ []) → o₂ ≡ overwrite o₁ (at + peer_length) (le 2 k)
       → o ≡ overwrite out at (entry (node_in p) k)
-  entry-put o₂ o v y e₃ e₂ =
+  entry_put o₂ o v y e₃ e₂ =
       then out at (le peer_length p.id) (le 2 k ++ (p.data.len ∷ 1 ∷ [])) e₁ (then o₁ (at + peer_length) (le 2 k) (p.data.len ∷ 1 ∷ []) e₂ e₃ (omega (arith, length_le 2 k))) after
       ∙ ap (overwrite out at) (entry_there p k v y)
 
-  absent-put : (o : List ℕ) → p.data.present ≡ false → o ≡ overwrite o₁ (at + peer_length) (le 4 0) → o ≡ overwrite out at (entry (node_in p) k)
-  absent-put o n e₂ = then out at (le peer_length p.id) (le 4 0) e₁ e₂ after ∙ ap (overwrite out at) (entry_absent p k n)
+  absent_put : (o : List ℕ) → p.data.present ≡ false → o ≡ overwrite o₁ (at + peer_length) (le 4 0) → o ≡ overwrite out at (entry (node_in p) k)
+  absent_put o n e₂ = then out at (le peer_length p.id) (le 4 0) e₁ e₂ after ∙ ap (overwrite out at) (entry_absent p k n)
 
   -- the entry, and then the data at place j
   pub node_put : (o₂ o₃ o : List ℕ) (j : ℕ) → ValidData p.data → p.data.present ≡ true → o ≡ overwrite o₃ j (take p.data.len p.data.bytes)
       → o₃ ≡ overwrite o₂ (at + 10) (p.data.len ∷ 1 ∷ []) → o₂ ≡ overwrite o₁ (at + peer_length) (le 2 k)
       → o ≡ overwrite (overwrite out at (entry (node_in p) k)) j (take p.data.len p.data.bytes)
-  node_put o₂ o₃ o j v y e₄ e₃ e₂ = e₄ ∙ ap (λ (m : List ℕ). overwrite m j (take p.data.len p.data.bytes)) (entry-put o₂ o₃ v y e₃ e₂)
+  node_put o₂ o₃ o j v y e₄ e₃ e₂ = e₄ ∙ ap (λ (m : List ℕ). overwrite m j (take p.data.len p.data.bytes)) (entry_put o₂ o₃ v y e₃ e₂)
 
-  pub node-absent : (o : List ℕ) (j : ℕ) → ValidData p.data → p.data.present ≡ false → o ≡ overwrite o₁ (at + peer_length) (le 4 0)
+  pub node_absent : (o : List ℕ) (j : ℕ) → ValidData p.data → p.data.present ≡ false → o ≡ overwrite o₁ (at + peer_length) (le 4 0)
       → o ≡ overwrite (overwrite out at (entry (node_in p) k)) j (take p.data.len p.data.bytes)
   unfolding overwrite
-  node-absent o j v n e₂ =
-      absent-put o n e₂ ∙ sym (ap (λ (m : ℕ). overwrite (overwrite out at (entry (node_in p) k)) j (take m p.data.bytes)) (v.absent n))
+  node_absent o j v n e₂ =
+      absent_put o n e₂ ∙ sym (ap (λ (m : ℕ). overwrite (overwrite out at (entry (node_in p) k)) j (take m p.data.bytes)) (v.absent n))
 
 -- ---- the lengths of the data, added up
 
@@ -85,7 +85,7 @@ sum k l = k + length (datas (map node_in l))
 
 pub sum_next : (k : ℕ) (p : PeerInfo) (l : List PeerInfo) → ValidData p.data → sum k (p ∷ l) ≡ sum (k + p.data.len) l
 unfolding datas node_in
-sum_next k p l v = omega (arith, length-append (bytes_of (data_in p.data)) (datas (map node_in l)), length-in p.data v)
+sum_next k p l v = omega (arith, length-append (bytes_of (data_in p.data)) (datas (map node_in l)), length_in p.data v)
 
 -- ---- nodes as they are gathered
 
@@ -95,7 +95,7 @@ missing = record { id = 0; «data» = record { present = false; len = 0; bytes =
 
 module _ (l : List PeerInfo) (n : ℕ) (p : PeerInfo) (h : n < 32) (e : l ≡ pad blank 32 (take n l)) where
   long : length l ≡ 32
-  long = ap length e ∙ length-pad blank 32 (take n l)
+  long = ap length e ∙ length_pad blank 32 (take n l)
 
   first : length (take n l) ≡ n
   first = length-take-le n l (omega (arith, long))
@@ -107,7 +107,7 @@ module _ (l : List PeerInfo) (n : ℕ) (p : PeerInfo) (h : n < 32) (e : l ≡ pa
   stored =
       ap (λ (k : List PeerInfo). set k n p) e
       ∙ ap (λ (m : ℕ). set (pad blank 32 (take n l)) m p) (sym first)
-      ∙ push-pad blank 32 (take n l) p (omega (arith, first))
+      ∙ push_pad blank 32 (take n l) p (omega (arith, first))
       ∙ ap (pad blank 32) (sym taken)
 
 pub pushed : (s : Nodes) (p : PeerInfo) → ValidNodes s → s.len < 32 → ValidData p.data
@@ -128,7 +128,7 @@ pushed s p v h w = record {
 -- ---- a walk over the nodes
 
 pub long_items : (s : Nodes) → ValidNodes s → length s.items ≡ 32
-long_items s v = ap length v.packed ∙ length-pad blank 32 (take s.len s.items)
+long_items s v = ap length v.packed ∙ length_pad blank 32 (take s.len s.items)
 
 -- the nodes from place i on are to come, and all of them are valid
 pub record Walk {X Y : Type 0} (F : X → List PeerInfo → Y) (items : List PeerInfo) (n : ℕ) (whole : Y) (x : X) (i : ℕ) : Type 0 where
@@ -139,21 +139,21 @@ pub walk_start : {X Y : Type 0} (F : X → List PeerInfo → Y) (s : Nodes) (x :
 walk_start F s x v = record { valid = v; rest = record { low = omega arith; top = v.fits; long = long_items s v; same = refl } }
 
 module _ {X Y : Type 0} (F : X → List PeerInfo → Y) {items : List PeerInfo} {n : ℕ} {whole : Y} {x : X} {i : ℕ} (v : Walk F items n whole x i) where
-  pub walk-valid : i < n → ValidData (get_or items i missing).data
-  walk-valid h = rw (get_d_any items i missing blank (omega (arith, v.rest.top, v.rest.long))) (v.valid.valid i h)
+  pub walk_valid : i < n → ValidData (get_or items i missing).data
+  walk_valid h = rw (get_d_any items i missing blank (omega (arith, v.rest.top, v.rest.long))) (v.valid.valid i h)
 
-  pub walk-next : (x' : X) → i < n → ((l : List PeerInfo) → F x (get_or items i missing ∷ l) ≡ F x' l) → Walk F items n whole x' (i + 1)
-  walk-next x' h e = record { valid = v.valid; rest = rest_next missing F v.rest x' h e }
+  pub walk_next : (x' : X) → i < n → ((l : List PeerInfo) → F x (get_or items i missing ∷ l) ≡ F x' l) → Walk F items n whole x' (i + 1)
+  walk_next x' h e = record { valid = v.valid; rest = rest_next missing F v.rest x' h e }
 
   -- the same, where it holds only of the nodes that are to come
-  pub walk-next-at : (x' : X) → i < n → F x (get_or items i missing ∷ slice (suc i) n items) ≡ F x' (slice (suc i) n items) → Walk F items n whole x' (i + 1)
-  walk-next-at x' h e = record {
+  pub walk_next_at : (x' : X) → i < n → F x (get_or items i missing ∷ slice (suc i) n items) ≡ F x' (slice (suc i) n items) → Walk F items n whole x' (i + 1)
+  walk_next_at x' h e = record {
     valid = v.valid;
     rest = record { low = omega arith; top = v.rest.top; long = v.rest.long; same = rest_at missing F v.rest h ∙ e ∙ rw (add-one i) refl };
   }
 
-  pub walk-left : length (slice (suc i) n items) ≡ n - suc i
-  walk-left = length-slice (suc i) n items (omega (arith, v.rest.top, v.rest.long))
+  pub walk_left : length (slice (suc i) n items) ≡ n - suc i
+  walk_left = length-slice (suc i) n items (omega (arith, v.rest.top, v.rest.long))
 
   pub walk_end : n ≤ i → whole ≡ F x []
   walk_end h = rest_end missing F v.rest h
@@ -172,7 +172,7 @@ entry_then : (out : List ℕ) (at reached : ℕ) (p : PeerInfo) (l : List PeerIn
 unfolding entries_by node_in entry_by le
 entry_then out at reached p l v =
     sym (overwrite_append out at (entry (node_in p) reached) (entries (map node_in l) (reached + length (bytes_of (data_in p.data)))))
-    ∙ ap (λ (m : ℕ). overwrite (overwrite out at (entry (node_in p) reached)) (at + node_length) (entries (map node_in l) (reached + m))) (length-in p.data v)
+    ∙ ap (λ (m : ℕ). overwrite (overwrite out at (entry (node_in p) reached)) (at + node_length) (entries (map node_in l) (reached + m))) (length_in p.data v)
 
 data_then : (out : List ℕ) (at : ℕ) (p : PeerInfo) (l : List PeerInfo) → ValidData p.data
     → overwrite out at (datas (map node_in (p ∷ l))) ≡ overwrite (overwrite out at (take p.data.len p.data.bytes)) (at + p.data.len) (datas (map node_in l))

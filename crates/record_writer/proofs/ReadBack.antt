@@ -12,24 +12,24 @@ use lib.Seq.{slice}
 use Rattle.base_lists.specs.Lists.{choose}
 use Rattle.base_lists.specs.Bytes.{overwrite}
 use Rattle.base_lists.proofs.Choice.{choose_yes}
-use Rattle.base_lists.proofs.Stored.{slice-stored}
+use Rattle.base_lists.proofs.Stored.{slice_stored}
 use Rattle.record.specs.Format.{Rec, size, encode}
 use Rattle.record.specs.Read.{decode}
 use Rattle.record.specs.InForm.{header_in, InForm}
 use Rattle.record.specs.Answers.{answer}
 use Rattle.record.specs.declared.Answer.TheVariants.{Record}
 use Rattle.record.proofs.Format.{length_encode}
-use Rattle.record.proofs.Forth.{answer-encode}
+use Rattle.record.proofs.Forth.{answer_encode}
 use Rattle.record.proofs.RoundTrip.{written_reads_back}
 use Rattle.record_writer.specs.Write.{fits, written, reached, Wrote}
 use Rattle.record_writer.specs.declared.Written.{Written}
 use Rattle.record_writer.specs.declared.Written.TheVariants.{At, Full}
 
 module _ (e : Rec) (at : ℕ) (out : List ℕ) (r : Written) (o : List ℕ) (k : ℕ) (w : Wrote e at out r o) (a : r ≡ At k) where
-  at-by : (t : Bool) → choose t (At (at + size e)) Full ≡ At k → (t ≡ true) × (at + size e ≡ k)
+  at_by : (t : Bool) → choose t (At (at + size e)) Full ≡ At k → (t ≡ true) × (at + size e ≡ k)
   unfolding choose
-  at-by true q = (refl, cc)
-  at-by false q = absurd (let z : ◌≡◌ {A = ℕ} 0 1 = cc in omega arith)
+  at_by true q = (refl, cc)
+  at_by false q = absurd (let z : ◌≡◌ {A = ℕ} 0 1 = cc in omega arith)
 
   -- the record was stored, where it fits
   record Stored : Type 0 where
@@ -40,7 +40,7 @@ module _ (e : Rec) (at : ℕ) (out : List ℕ) (r : Written) (o : List ℕ) (k :
   stored : Stored
   unfolding reached written fits
   stored =
-      let f = at-by (fits e at (length out)) (sym w.answer ∙ a) in
+      let f = at_by (fits e at (length out)) (sym w.answer ∙ a) in
       record {
         room = omega (arith, length_encode e, leb-true (at + size e) (length out) f.0);
         place = omega (arith, length_encode e, f.1);
@@ -48,12 +48,12 @@ module _ (e : Rec) (at : ℕ) (out : List ℕ) (r : Written) (o : List ℕ) (k :
       }
 
   -- where the writer answers a place, the bytes up to there are the record's
-  pub part-written : slice at k o ≡ encode e
-  part-written = rw (← stored.place, stored.bytes) (slice-stored out at (encode e) stored.room)
+  pub part_written : slice at k o ≡ encode e
+  part_written = rw (← stored.place, stored.bytes) (slice_stored out at (encode e) stored.room)
 
   pub record ReadsBack : Type 0 where
     pub record_is : decode (slice at k o) ≡ some e
     pub header_is : answer (slice at k o) ≡ Record (header_in e)
 
-  pub wrote-reads-back : InForm e → ReadsBack
-  wrote-reads-back f = record { record_is = rw part-written (written_reads_back e f); header_is = rw part-written (answer-encode e f) }
+  pub wrote_reads_back : InForm e → ReadsBack
+  wrote_reads_back f = record { record_is = rw part_written (written_reads_back e f); header_is = rw part_written (answer_encode e f) }

@@ -17,27 +17,27 @@ use Rattle.base_peer.specs.Held.{data_in, ValidData, node_in}
 use Rattle.base_peer.specs.declared.PeerInfo.{PeerInfo}
 use Rattle.base_peer.proofs.Data.{bytes_in}
 use Rattle.record.specs.Format.{Rec, peer_length, header_length, node_length, entry, entries, entries_by, datas, size, size_by, header, header_by, encode, encode_by}
-use Rattle.record.proofs.Format.{length_entries, length-header}
+use Rattle.record.proofs.Format.{length_entries, length_header}
 use Rattle.record_writer.specs.Nodes.{nodes_in, ValidNodes}
 use Rattle.record_writer.specs.Write.{rec_in, header_bytes, fits, written, reached, Wrote, HeaderPut}
 use Rattle.record_writer.specs.declared.Nodes.{Nodes}
 use Rattle.record_writer.specs.declared.Fields.{Fields}
 use Rattle.record_writer.specs.declared.Written.{Written}
 use Rattle.record_writer.specs.declared.Written.TheVariants.{At, Full}
-use Rattle.record_writer.proofs.Laws.{long_items, length-in}
+use Rattle.record_writer.proofs.Laws.{long_items, length_in}
 
 module _ (e : Rec) (at : ℕ) (out : List ℕ) where
   -- header, entries and data, stored one after the other
-  in-turn : (o₁ o₂ o₃ : List ℕ) (n : ℕ) → n ≡ length e.nodes → o₃ ≡ overwrite o₂ (at + (header_length + node_length * n)) (datas e.nodes) → o₂ ≡ overwrite o₁ (at + header_length) (entries e.nodes (header_length + node_length * n))
+  in_turn : (o₁ o₂ o₃ : List ℕ) (n : ℕ) → n ≡ length e.nodes → o₃ ≡ overwrite o₂ (at + (header_length + node_length * n)) (datas e.nodes) → o₂ ≡ overwrite o₁ (at + header_length) (entries e.nodes (header_length + node_length * n))
       → o₁ ≡ overwrite out at (header e) → o₃ ≡ overwrite out at (encode e)
   unfolding encode_by
-  in-turn o₁ o₂ o₃ n k r q p =
+  in_turn o₁ o₂ o₃ n k r q p =
       let s : List ℕ = entries e.nodes (header_length + node_length * length e.nodes) in
       let z : length s ≡ node_length * length e.nodes = length_entries peer_length e.nodes (header_length + node_length * length e.nodes) in
       let q' : o₂ ≡ overwrite o₁ (at + header_length) s = q ∙ rw k in
       then out at (header e) (s ++ datas e.nodes) p
       (then o₁ (at + header_length) s (datas e.nodes) q' r (omega (arith, z, k)))
-      (omega (arith, length-header peer_length e))
+      (omega (arith, length_header peer_length e))
 
 -- a header's first four bytes and its numbers, stored one after the other
 pub header_put : (f : Fields) (n z at : ℕ) (out o₁ o₂ o₃ o₄ o₅ o₆ : List ℕ) → o₆ ≡ overwrite o₅ (at + 24) (le 8 f.number) → o₅ ≡ overwrite o₄ (at + 22) (le 2 z) → o₄ ≡ overwrite o₃ (at + 20) (le 2 f.ttl)
@@ -59,13 +59,13 @@ header_put f n z at out o₁ o₂ o₃ o₄ o₅ o₆ e₆ e₅ e₄ e₃ e₂ e
 -- ---- the header of a record that fits, or not
 
 module _ (f : Fields) (n z at : ℕ) (out : List ℕ) where
-  pub headed-past : header_length ≤ z → length out < at → HeaderPut f n z at out Full out
+  pub headed_past : header_length ≤ z → length out < at → HeaderPut f n z at out Full out
   unfolding choose
-  headed-past k h = let q : leb (at + z) (length out) ≡ false = lt-leb (at + z) (length out) (omega arith) in record { answer = rw q; bytes = rw q }
+  headed_past k h = let q : leb (at + z) (length out) ≡ false = lt-leb (at + z) (length out) (omega arith) in record { answer = rw q; bytes = rw q }
 
-  pub headed-full : at ≤ length out → length out - at < z → HeaderPut f n z at out Full out
+  pub headed_full : at ≤ length out → length out - at < z → HeaderPut f n z at out Full out
   unfolding choose
-  headed-full k h = let q : leb (at + z) (length out) ≡ false = lt-leb (at + z) (length out) (omega arith) in record { answer = rw q; bytes = rw q }
+  headed_full k h = let q : leb (at + z) (length out) ≡ false = lt-leb (at + z) (length out) (omega arith) in record { answer = rw q; bytes = rw q }
 
   pub headed : at ≤ length out → z ≤ length out - at → (o : List ℕ) → o ≡ overwrite out at (header_bytes f n z) → HeaderPut f n z at out (At (at + z)) o
   unfolding choose
@@ -90,21 +90,21 @@ module _ (f : Fields) (ns : List Node) (n z at : ℕ) (out : List ℕ) (r : Writ
   unfolding size_by rec_in
   size_is = omega (arith, k, p)
 
-  answer-is : r ≡ reached (rec_in f ns) at out
+  answer_is : r ≡ reached (rec_in f ns) at out
   unfolding reached fits
-  answer-is = rw size_is a.answer
+  answer_is = rw size_is a.answer
 
-  test-is : (b : Bool) → answered r ≡ b → leb (at + z) (length out) ≡ b
-  test-is b e = sym (fitted r (leb (at + z) (length out)) (at + z) a.answer) ∙ e
+  test_is : (b : Bool) → answered r ≡ b → leb (at + z) (length out) ≡ b
+  test_is b e = sym (fitted r (leb (at + z) (length out)) (at + z) a.answer) ∙ e
 
   pub no_room : r ≡ Full → Wrote (rec_in f ns) at out r o
   unfolding written fits choose
   no_room e =
-      let q : leb (at + z) (length out) ≡ false = test-is false (ap answered e) in
-      record { answer = answer-is; bytes = a.bytes ∙ rw (size_is, q) }
+      let q : leb (at + z) (length out) ≡ false = test_is false (ap answered e) in
+      record { answer = answer_is; bytes = a.bytes ∙ rw (size_is, q) }
 
   pub room : (x : ℕ) → r ≡ At x → at + z ≤ length out
-  room x e = leb-true _ _ (test-is true (ap answered e))
+  room x e = leb-true _ _ (test_is true (ap answered e))
 
   header_is : header_bytes f n z ≡ header (rec_in f ns)
   unfolding header_bytes header_by rec_in size_by
@@ -112,17 +112,17 @@ module _ (f : Fields) (ns : List Node) (n z at : ℕ) (out : List ℕ) (r : Writ
       let q : z ≡ header_length + (node_length * length ns + length (datas ns)) = omega (arith, k, p) in
       λ i. f.kind ∷ f.message ∷ f.flags ∷ p i ∷ (le peer_length f.peer ++ (le peer_length f.second ++ (le 2 f.ttl ++ (le 2 (q i) ++ le 8 f.number))))
 
-  header-stored : leb (at + z) (length out) ≡ true → o ≡ overwrite out at (header (rec_in f ns))
+  header_stored : leb (at + z) (length out) ≡ true → o ≡ overwrite out at (header (rec_in f ns))
   unfolding choose
-  header-stored q = a.bytes ∙ rw q (ap (overwrite out at) header_is)
+  header_stored q = a.bytes ∙ rw q (ap (overwrite out at) header_is)
 
   pub done : (x : ℕ) → r ≡ At x → (o₃ : List ℕ) → o₃ ≡ overwrite (overwrite o (at + header_length) (entries ns (header_length + node_length * n))) (at + (header_length + node_length * n)) (datas ns)
       → Wrote (rec_in f ns) at out r o₃
   unfolding written fits choose rec_in
   done x e o₃ w =
-      let q : leb (at + z) (length out) ≡ true = test-is true (ap answered e) in
-      let s : o₃ ≡ overwrite out at (encode (rec_in f ns)) = in-turn (rec_in f ns) at out o _ o₃ n p w refl (header-stored q) in
-      record { answer = answer-is; bytes = s ∙ rw (size_is, q) }
+      let q : leb (at + z) (length out) ≡ true = test_is true (ap answered e) in
+      let s : o₃ ≡ overwrite out at (encode (rec_in f ns)) = in_turn (rec_in f ns) at out o _ o₃ n p w refl (header_stored q) in
+      record { answer = answer_is; bytes = s ∙ rw (size_is, q) }
 
 -- ---- the records of no node and of one
 
@@ -141,19 +141,19 @@ module _ (f : Fields) (p : PeerInfo) (v : ValidData p.data) (at : ℕ) (out : Li
   abbrev one : List Node
   one = node_in p ∷ []
 
-  size-one : fixed + p.data.len ≡ header_length + (node_length * 1 + length (datas one))
+  size_one : fixed + p.data.len ≡ header_length + (node_length * 1 + length (datas one))
   unfolding datas node_in
-  size-one = omega (arith, length-append (bytes_of (data_in p.data)) [], length-in p.data v)
+  size_one = omega (arith, length-append (bytes_of (data_in p.data)) [], length_in p.data v)
 
-  pub no-room-one : r ≡ Full → Wrote (rec_in f one) at out r o
-  no-room-one e = no_room f one 1 (fixed + p.data.len) at out r o refl size-one a e
+  pub no_room_one : r ≡ Full → Wrote (rec_in f one) at out r o
+  no_room_one e = no_room f one 1 (fixed + p.data.len) at out r o refl size_one a e
 
   pub room_one : (x : ℕ) → r ≡ At x → at + (fixed + p.data.len) ≤ length out
-  room_one x e = room f one 1 (fixed + p.data.len) at out r o refl size-one a x e
+  room_one x e = room f one 1 (fixed + p.data.len) at out r o refl size_one a x e
 
-  pub done-one : (x : ℕ) → r ≡ At x → (o₃ : List ℕ) → o₃ ≡ overwrite (overwrite o (at + (header_length + node_length * 0)) (entry (node_in p) fixed)) (at + fixed) (take p.data.len p.data.bytes)
+  pub done_one : (x : ℕ) → r ≡ At x → (o₃ : List ℕ) → o₃ ≡ overwrite (overwrite o (at + (header_length + node_length * 0)) (entry (node_in p) fixed)) (at + fixed) (take p.data.len p.data.bytes)
       → Wrote (rec_in f one) at out r o₃
   unfolding datas entries_by node_in
-  done-one x e o₃ s =
-      done f one 1 (fixed + p.data.len) at out r o refl size-one a x e o₃
+  done_one x e o₃ s =
+      done f one 1 (fixed + p.data.len) at out r o refl size_one a x e o₃
       (s ∙ rw (bytes_in p.data v, append-nil (take p.data.len p.data.bytes), append-nil (entry (node_in p) fixed)))

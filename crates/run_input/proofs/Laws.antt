@@ -24,9 +24,9 @@ module _ (b : List ℕ) (i : ℕ) where
   unfolding number
   number_read h = choose_yes (leb (4 * i + 4) (length b)) _ _ (le-leb (4 * i + 4) (length b) (omega arith))
 
-  pub number-none : length b / 4 ≤ i → number b i ≡ 0
+  pub number_none : length b / 4 ≤ i → number b i ≡ 0
   unfolding number
-  number-none h = choose_no (leb (4 * i + 4) (length b)) _ _ (lt-leb (4 * i + 4) (length b) (omega arith))
+  number_none h = choose_no (leb (4 * i + 4) (length b)) _ _ (lt-leb (4 * i + 4) (length b) (omega arith))
 
 -- the j-th of n numbers
 pub numbers_at : (n i j : ℕ) (b : List ℕ) → j < n → get_or (numbers n i b) j 0 ≡ number b (i + j)
@@ -42,9 +42,9 @@ length_numbers (suc n) i b = ap suc (length_numbers n (suc i) b)
 
 module _ (l : List ℕ) where
   -- an event that is shorter than a header or runs over the end is none
-  pub event-none : (header_length ≤ whole_length l → whole_length l ≤ length l → ⊥) → event_length l ≡ 0
+  pub event_none : (header_length ≤ whole_length l → whole_length l ≤ length l → ⊥) → event_length l ≡ 0
   unfolding event_length
-  event-none h =
+  event_none h =
       let low : Bool = leb header_length (whole_length l) in
       let most : Bool = leb (whole_length l) (length l) in
       by_choice (λ (x : ℕ). x ≡ 0) (low && most) (λ e. absurd (h (leb-true _ _ (and_left low most e)) (leb-true _ _ (and_right low most e)))) (λ e. refl)

@@ -90,10 +90,10 @@ rest_end room p i n events draws h =
 
 module _ (room : ℕ) (whole events draws : List ℕ) (n : ℕ) (t : Text) (out recs : List ℕ) (p : Runner) (r : Text) (o : List ℕ) (i : ℕ) (v : Running room whole events draws n t out recs p r o i) where
   -- the walk's step, and the lines of its event
-  pub running-next : (a : Ran) (s : Text) (o₂ recs₂ : List ℕ) → i < n → Runs (length recs) p events draws a recs₂ → Puts (event_text i a.code a.draws recs₂) r o s o₂
+  pub running_next : (a : Ran) (s : Text) (o₂ recs₂ : List ℕ) → i < n → Runs (length recs) p events draws a recs₂ → Puts (event_text i a.code a.draws recs₂) r o s o₂
       → length o₂ ≡ length o → length recs₂ ≡ length recs → Running room whole events draws n t out recs₂ a.runner s o₂ (i + 1)
   unfolding outcome_text
-  running-next a s o₂ recs₂ h ran put e₁ e₂ =
+  running_next a s o₂ recs₂ h ran put e₁ e₂ =
       let k : Runs room p events draws a recs₂ = subst (λ (x : ℕ). Runs x p events draws a recs₂) v.records ran in
       record {
         low = omega (arith, h);
@@ -106,8 +106,8 @@ module _ (room : ℕ) (whole events draws : List ℕ) (n : ℕ) (t : Text) (out 
             ∙ sym (append_assoc v.done (outcome_text i (met room p events draws)) _));
       }
 
-  pub running-end : n ≤ i → Puts whole t out r o
-  running-end h = named (sym (v.same ∙ (ap (λ (x : List ℕ). v.done ++ x) (rest_end room p i n events draws h) ∙ append-nil v.done))) v.so_far
+  pub running_end : n ≤ i → Puts whole t out r o
+  running_end h = named (sym (v.same ∙ (ap (λ (x : List ℕ). v.done ++ x) (rest_end room p i n events draws h) ∙ append-nil v.done))) v.so_far
 
 -- ---- the whole
 
@@ -116,15 +116,15 @@ bytes_is m n e = cc
 
 -- a text that fits is no longer than the bytes lent
 module _ (w : ℕ) (out o : List ℕ) (r : Shown) (n : ℕ) (e : r ≡ fitting w (length out)) (h : r ≡ Bytes n) (q : length o ≡ length out) where
-  pub shown-within : n ≤ length o
+  pub shown_within : n ≤ length o
   unfolding fitting
-  shown-within =
+  shown_within =
       let t : Bool = leb w (length out) in
       split t (λ y. let s : w ≡ n = bytes_is w n (sym (choose_yes t (Bytes w) TooShort y) ∙ (sym e ∙ h)) in omega (arith, s, q, leb-true w (length out) y))
       (λ f. let s : TooShort ≡ Bytes n = sym (choose_no t (Bytes w) TooShort f) ∙ (sym e ∙ h) in let z : ◌≡◌ {A = ℕ} 0 1 = cc in absurd (omega arith))
 
-  pub shown-counted : n ≡ length (take n o)
-  shown-counted = counted n o shown-within
+  pub shown_counted : n ≡ length (take n o)
+  shown_counted = counted n o shown_within
 
 pub walked : (room : ℕ) (xs : List ℕ) (head : Head) (b ns : List ℕ) (t r : Text) (out o : List ℕ) → IsPrefixLen head.draws ns → ns ≡ numbers (length ns) 0 (drop head.draws_at b)
     → Puts (events_text room 0 xs (cut_events head.events (take (head.draws_at - head_length) (drop head_length b))) (take head.draws ns)) t out r o → Puts (laid_text room xs head b) t out r o
@@ -135,29 +135,29 @@ walked room xs head b ns t r out o h e k =
 -- ---- what is decided before the first event
 
 module _ (head : Head) (m : MadeState) (own : List ℕ) (e : record { code = m.code; words = m.state.words } ≡ pack_made (new head.me (lent false own) head.config)) where
-  made-is : record { code = m.code; words = m.state.words } ≡ pack_made (new head.me none head.config)
-  made-is = made_bare head.me head.config _ own e
+  made_is : record { code = m.code; words = m.state.words } ≡ pack_made (new head.me none head.config)
+  made_is = made_bare head.me head.config _ own e
 
-  pub open-unset : (m.code ≡ 0 → ⊥) → Line 1 ≡ opened_head head
+  pub open_unset : (m.code ≡ 0 → ⊥) → Line 1 ≡ opened_head head
   unfolding opened_head
-  open-unset h = sym (choose_no _ (Events head) (Line 1) (ap (λ (x : packed.MadeWords). eqb x.code 0) (sym made-is) ∙ ne_eqb _ _ h))
+  open_unset h = sym (choose_no _ (Events head) (Line 1) (ap (λ (x : packed.MadeWords). eqb x.code 0) (sym made_is) ∙ ne_eqb _ _ h))
 
-  pub open-events : m.code ≡ 0 → Events head ≡ opened_head head
+  pub open_events : m.code ≡ 0 → Events head ≡ opened_head head
   unfolding opened_head
-  open-events h = sym (choose_yes _ (Events head) (Line 1) (ap (λ (x : packed.MadeWords). eqb x.code 0) (sym made-is) ∙ eq-eqb _ _ h))
+  open_events h = sym (choose_yes _ (Events head) (Line 1) (ap (λ (x : packed.MadeWords). eqb x.code 0) (sym made_is) ∙ eq-eqb _ _ h))
 
-  pub begins-at : ◌≡◌ {A = Runner} (record { state = m.state; at = 0; used = 0 }) (first_place head)
+  pub begins_at : ◌≡◌ {A = Runner} (record { state = m.state; at = 0; used = 0 }) (first_place head)
   unfolding first_place
-  begins-at = λ j. record { state = record { words = (made-is j).words }; at = 0; used = 0 }
+  begins_at = λ j. record { state = record { words = (made_is j).words }; at = 0; used = 0 }
 
 module _ (b : List ℕ) (x : Input) (e : x ≡ input_of b) where
-  pub open-refused : x ≡ Refused → Line 3 ≡ opened_run b
+  pub open_refused : x ≡ Refused → Line 3 ≡ opened_run b
   unfolding opened_run opened_input
-  open-refused h = ap opened_input (sym h ∙ e)
+  open_refused h = ap opened_input (sym h ∙ e)
 
-  pub open-whole : (head : Head) (r : Opened) → x ≡ Whole head → r ≡ opened_head head → r ≡ opened_run b
+  pub open_whole : (head : Head) (r : Opened) → x ≡ Whole head → r ≡ opened_head head → r ≡ opened_run b
   unfolding opened_run opened_input
-  open-whole head r h k = k ∙ ap opened_input (sym h ∙ e)
+  open_whole head r h k = k ∙ ap opened_input (sym h ∙ e)
 
 head_text : (head : Head) (b : List ℕ) → made_text (pack_made (new head.me none head.config)) head b ≡ opened_text (opened_head head) b
 unfolding made_text opened_head opened_text first_place
@@ -177,22 +177,22 @@ unfolding run_text opened_run
 text_opened b = input_opened (input_of b) b
 
 module _ (b : List ℕ) (o : Opened) (e : o ≡ opened_run b) where
-  text-is : run_text b ≡ opened_text o b
-  text-is = text_opened b ∙ ap (λ (x : Opened). opened_text x b) (sym e)
+  text_is : run_text b ≡ opened_text o b
+  text_is = text_opened b ∙ ap (λ (x : Opened). opened_text x b) (sym e)
 
   pub line_text : (c : ℕ) → o ≡ Line c → run_text b ≡ end_line c 0
   unfolding opened_text
-  line_text c h = text-is ∙ ap (λ (x : Opened). opened_text x b) h
+  line_text c h = text_is ∙ ap (λ (x : Opened). opened_text x b) h
 
-  pub whole-text : (head : Head) → o ≡ Events head → run_text b ≡ laid_text output_room (first_place head).state.words head b
+  pub whole_text : (head : Head) → o ≡ Events head → run_text b ≡ laid_text output_room (first_place head).state.words head b
   unfolding opened_text
-  whole-text head h = text-is ∙ ap (λ (x : Opened). opened_text x b) h
+  whole_text head h = text_is ∙ ap (λ (x : Opened). opened_text x b) h
 
-  pub run-line : (c : ℕ) (t r : Text) (out p : List ℕ) → o ≡ Line c → Puts (end_line c 0) t out r p → Puts (run_text b) t out r p
-  run-line c t r out p h k = named (sym (line_text c h)) k
+  pub run_line : (c : ℕ) (t r : Text) (out p : List ℕ) → o ≡ Line c → Puts (end_line c 0) t out r p → Puts (run_text b) t out r p
+  run_line c t r out p h k = named (sym (line_text c h)) k
 
-  pub run-events : (head : Head) (q : Runner) (t r : Text) (out p : List ℕ) → o ≡ Events head → q ≡ first_place head → Puts (laid_text output_room q.state.words head b) t out r p → Puts (run_text b) t out r p
-  run-events head q t r out p h f k = named (ap (λ (x : Runner). laid_text output_room x.state.words head b) f ∙ sym (whole-text head h)) k
+  pub run_events : (head : Head) (q : Runner) (t r : Text) (out p : List ℕ) → o ≡ Events head → q ≡ first_place head → Puts (laid_text output_room q.state.words head b) t out r p → Puts (run_text b) t out r p
+  run_events head q t r out p h f k = named (ap (λ (x : Runner). laid_text output_room x.state.words head b) f ∙ sym (whole_text head h)) k
 
 events_is : (x y : Head) → ◌≡◌ {A = Opened} (Events x) (Events y) → x ≡ y
 events_is x y e = cc
@@ -227,9 +227,9 @@ module _ (b out o : List ℕ) (t₀ t : Text) (h : Begins t₀) (k : Puts (run_t
       let m : t.at ≡ length (run_text b) = omega (arith, s.reached, l) in
       (ap Bytes m ∙ sym (choose_yes _ _ _ (le-leb (length (run_text b)) (length out) l)), s.bytes)
 
-  pub run-cut : t.full ≡ true → (TooShort ≡ fitting (length (run_text b)) (length out)) × (o ≡ overwrite out 0 (run_text b))
+  pub run_cut : t.full ≡ true → (TooShort ≡ fitting (length (run_text b)) (length out)) × (o ≡ overwrite out 0 (run_text b))
   unfolding fitting
-  run-cut f =
+  run_cut f =
       let s = k.puts [] out (begun t₀ out h) in
       let l : length out < length (run_text b) = ltb-true (length out) (length (run_text b)) (sym s.over ∙ f) in
       (sym (choose_no _ _ _ (lt-leb (length (run_text b)) (length out) l)), s.bytes)

@@ -19,7 +19,7 @@ use Rattle.run_text.specs.Text.{Puts, Begins}
 use Rattle.run_text.specs.Numbers.{digits_within, decimal, field}
 use Rattle.run_text.proofs.Written.{begun}
 use Rattle.run_text.specs.Lines.{four, record_line, end_line, event_text}
-use Rattle.run_text.proofs.Laws.{text-few, text-none, text-step}
+use Rattle.run_text.proofs.Laws.{text_few, text_none, text_step}
 use Rattle.hyparview.specs.Room.{output_room}
 use Rattle.run_input.specs.declared.Head.{Head}
 use Rattle.run_input.specs.Input.{head_length, numbers, cut_events}
@@ -28,7 +28,7 @@ use Rattle.run_listing.specs.declared.Opened.TheVariants.{Events}
 use Rattle.run_listing.specs.Run.{events_text, laid_text, run_text}
 use Rattle.run_listing.specs.Place.{Fronts, Lines, first_line, first_size}
 use Rattle.run_listing.specs.Opened.{first_place, opened_run, rest_text}
-use Rattle.run_listing.proofs.Laws.{whole-text}
+use Rattle.run_listing.proofs.Laws.{whole_text}
 
 -- ---- how long a line is
 
@@ -84,9 +84,9 @@ empty_fronts w out e = record { size = ap length (sym e); counts = (omega arith,
 
 module _ (i : ℕ) (b out : List ℕ) where
   -- too few bytes for a header
-  pub lines-few-bytes : length b < header_length → Lines i b out (record { size = 0; taken = 0 }) out
+  pub lines_few_bytes : length b < header_length → Lines i b out (record { size = 0; taken = 0 }) out
   unfolding first_line first_size
-  lines-few-bytes l = let y = lt-ltb (length b) header_length l in record { line = empty_fronts _ out (choose_yes _ _ _ y); taken = sym (choose_yes _ _ _ y) }
+  lines_few_bytes l = let y = lt-ltb (length b) header_length l in record { line = empty_fronts _ out (choose_yes _ _ _ y); taken = sym (choose_yes _ _ _ y) }
 
   module _ (h : Header) (is : h ≡ header_of b) (m : header_length ≤ length b) where
     size_is : h.size ≡ first_size b
@@ -100,10 +100,10 @@ module _ (i : ℕ) (b out : List ℕ) where
         let e : (header_of b).size ≡ 0 = ap (λ (x : Header). x.size) (sym is) ∙ z in
         record { line = empty_fronts _ out (choose_no _ _ _ (le-ltb (length b) header_length m) ∙ choose_yes _ _ _ (eq-eqb _ 0 e)); taken = sym z ∙ size_is }
 
-    pub lines-one : (t r : Text) (o : List ℕ) → (h.size ≡ 0 → ⊥) → 168 ≤ length out → Begins t → Puts (record_line i h) t out r o
+    pub lines_one : (t r : Text) (o : List ℕ) → (h.size ≡ 0 → ⊥) → 168 ≤ length out → Begins t → Puts (record_line i h) t out r o
         → Lines i b out (record { size = r.at; taken = h.size }) o
     unfolding first_line
-    lines-one t r o z l g k =
+    lines_one t r o z l g k =
         let few = line_few i h in
         let w : record_line i h ≡ first_line i b =
         ap (record_line i) is ∙ sym (choose_no _ _ _ (le-ltb (length b) header_length m) ∙ choose_no _ _ _ (ne_eqb _ 0 (λ e. z (ap (λ (x : Header). x.size) is ∙ e)))) in
@@ -117,7 +117,7 @@ pub rest_first : (b : List ℕ) (head : Head) → opened_run b ≡ Events head
 unfolding rest_text laid_text first_place
 rest_first b head e =
     let n : head.events ≡ head.events - 0 = omega arith in
-    whole-text b (opened_run b) refl head e ∙ ap (λ (x : ℕ). events_text output_room 0 (first_place head).state.words (cut_events x (slice head_length head.draws_at b)) (numbers head.draws 0 (drop head.draws_at b))) n
+    whole_text b (opened_run b) refl head e ∙ ap (λ (x : ℕ). events_text output_room 0 (first_place head).state.words (cut_events x (slice head_length head.draws_at b)) (numbers head.draws 0 (drop head.draws_at b))) n
 
 -- the lines of an event are its first record's and those of the output behind that record, to the first place where none is
 pub lines_step : (i code draws : ℕ) (b : List ℕ) → (first_size b ≡ 0 → ⊥) → event_text i code draws b ≡ first_line i b ++ event_text i code draws (drop (first_size b) b)
@@ -127,9 +127,9 @@ lines_step i code draws b z =
     (λ n. let same : first_size b ≡ (header_of b).size = choose_no _ _ _ n in
     let e : (header_of b).size ≡ 0 → ⊥ = λ q. z (same ∙ q) in
     let line : first_line i b ≡ record_line i (header_of b) = choose_no _ _ _ n ∙ choose_no _ _ _ (ne_eqb _ 0 e) in
-    text-step i code draws b (ltb-false _ _ n) e ∙ (λ j. sym line j ++ event_text i code draws (drop (sym same j) b)))
+    text_step i code draws b (ltb-false _ _ n) e ∙ (λ j. sym line j ++ event_text i code draws (drop (sym same j) b)))
 
 pub lines_end : (i code draws : ℕ) (b : List ℕ) → first_size b ≡ 0 → event_text i code draws b ≡ end_line code draws
 unfolding first_size
 lines_end i code draws b z =
-    split (ltb (length b) header_length) (λ y. text-few i code draws b (ltb-true _ _ y)) (λ n. text-none i code draws b (sym (choose_no _ _ _ n) ∙ z))
+    split (ltb (length b) header_length) (λ y. text_few i code draws b (ltb-true _ _ y)) (λ n. text_none i code draws b (sym (choose_no _ _ _ n) ∙ z))

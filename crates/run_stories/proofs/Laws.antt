@@ -31,11 +31,11 @@ module _ (w : List ℕ) (t r : Text) (out o : List ℕ) (b : Begins t) (k : Puts
   pub told : r.at ≡ min (length w) (length out)
   told = shown.reached
 
-  pub told-inside : r.at ≤ length out
-  told-inside = rw shown.reached (min-le_right (length w) (length out))
+  pub told_inside : r.at ≤ length out
+  told_inside = rw shown.reached (min-le_right (length w) (length out))
 
-  pub bytes-told : o ≡ overwrite out 0 w
-  bytes-told = shown.bytes
+  pub bytes_told : o ≡ overwrite out 0 w
+  bytes_told = shown.bytes
 
 pub cut_length : (n : ℕ) (b : List ℕ) → n ≤ 64 → length b ≡ 64 → n ≡ length (take n b)
 cut_length n b l e = sym (length-take-le n b (omega (arith, l, e)))

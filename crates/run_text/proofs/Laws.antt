@@ -9,7 +9,7 @@ use Rattle.record.specs.declared.Header.{Header}
 use Rattle.record.specs.Format.{header_length}
 use Rattle.record.specs.Read.{header_of}
 use Rattle.record.specs.Walk.{records_in, headers}
-use Rattle.record.proofs.Walk.{records_few, taken_none, taken-one, taken_next, taken-last}
+use Rattle.record.proofs.Walk.{records_few, taken_none, taken_one, taken_next, taken_last}
 use Rattle.run_text.specs.declared.Text.{Text}
 use Rattle.run_text.specs.Text.{Puts}
 use Rattle.run_text.specs.Numbers.{field}
@@ -55,8 +55,8 @@ module _ (i : ℕ) (h : Header) where
   unfolding spaced record_line four
   line_is = simp append_assoc
 
-  pub record-put : (t a r : Text) (o o₁ o₂ : List ℕ) (k : ℕ) → 7 ≤ k → Puts (field h.nodes newline) a o₁ r o₂ → Spacing numbers t o a o₁ k → Puts (record_line i h) t o r o₂
-  record-put t a r o o₁ o₂ k l p v = named (ap (λ (x : List ℕ). spaced x ++ field h.nodes newline) (take_whole numbers k (omega arith)) ∙ line_is) (then p v.so_far)
+  pub record_put : (t a r : Text) (o o₁ o₂ : List ℕ) (k : ℕ) → 7 ≤ k → Puts (field h.nodes newline) a o₁ r o₂ → Spacing numbers t o a o₁ k → Puts (record_line i h) t o r o₂
+  record_put t a r o o₁ o₂ k l p v = named (ap (λ (x : List ℕ). spaced x ++ field h.nodes newline) (take_whole numbers k (omega arith)) ∙ line_is) (then p v.so_far)
 
 pub end_put : (code n : ℕ) (t a b c r : Text) (o o₁ o₂ o₃ o₄ : List ℕ) → Puts (field n 10) c o₃ r o₄ → Puts (field code 32) b o₂ c o₃ → Puts (32 ∷ []) a o₁ b o₂ → Puts (61 ∷ []) t o a o₁ → Puts (end_line code n) t o r o₄
 unfolding end_line
@@ -70,23 +70,23 @@ event_put i code n b t a r o o₁ o₂ k₂ k₁ = then k₂ k₁
 
 -- the lines of an event are its first record's, and those of the output behind that record
 module _ (i code draws : ℕ) (b : List ℕ) where
-  text-by : (bs : List (List ℕ)) → records_in b ≡ bs → event_text i code draws b ≡ record_lines i (map header_of bs) ++ end_line code draws
+  text_by : (bs : List (List ℕ)) → records_in b ≡ bs → event_text i code draws b ≡ record_lines i (map header_of bs) ++ end_line code draws
   unfolding event_text headers
-  text-by bs e = ap (λ (x : List (List ℕ)). record_lines i (map header_of x) ++ end_line code draws) e
+  text_by bs e = ap (λ (x : List (List ℕ)). record_lines i (map header_of x) ++ end_line code draws) e
 
-  pub text-few : length b < header_length → event_text i code draws b ≡ end_line code draws
+  pub text_few : length b < header_length → event_text i code draws b ≡ end_line code draws
   unfolding record_lines
-  text-few h = text-by [] (records_few b h)
+  text_few h = text_by [] (records_few b h)
 
-  pub text-none : (header_of b).size ≡ 0 → event_text i code draws b ≡ end_line code draws
+  pub text_none : (header_of b).size ≡ 0 → event_text i code draws b ≡ end_line code draws
   unfolding record_lines
-  text-none e = text-by [] (taken_none b (header_of b) refl e)
+  text_none e = text_by [] (taken_none b (header_of b) refl e)
 
-  pub text-step : header_length ≤ length b → ((header_of b).size ≡ 0 → ⊥) → event_text i code draws b ≡ record_line i (header_of b) ++ event_text i code draws (drop (header_of b).size b)
+  pub text_step : header_length ≤ length b → ((header_of b).size ≡ 0 → ⊥) → event_text i code draws b ≡ record_line i (header_of b) ++ event_text i code draws (drop (header_of b).size b)
   unfolding record_lines event_text headers
-  text-step h e =
+  text_step h e =
       let rest : List (List ℕ) = records_in (drop (header_of b).size b) in
-      text-by (b ∷ rest) (taken-one b (header_of b) refl h e) ∙ append_assoc (record_line i (header_of b)) (record_lines i (map header_of rest)) (end_line code draws)
+      text_by (b ∷ rest) (taken_one b (header_of b) refl h e) ∙ append_assoc (record_line i (header_of b)) (record_lines i (map header_of rest)) (end_line code draws)
 
 -- the lines of `rest` are to come, after what was written
 pub record Listing (i : ℕ) (whole : List ℕ) (t : Text) (out : List ℕ) (r : Text) (o : List ℕ) (rest : List ℕ) : Type 0 where
@@ -107,8 +107,8 @@ module _ (i : ℕ) (whole : List ℕ) (t : Text) (out : List ℕ) (r : Text) (o 
   unfolding record_lines
   ends e = named (sym (by_records [] e ∙ append-nil v.done)) v.so_far
 
-  pub listing-few : length b < header_length → Puts whole t out r o
-  listing-few h = ends (records_few b h)
+  pub listing_few : length b < header_length → Puts whole t out r o
+  listing_few h = ends (records_few b h)
 
   module _ (h : Header) (is : h ≡ header_of b) where
     pub listing_none : h.size ≡ 0 → Puts whole t out r o
@@ -121,10 +121,10 @@ module _ (i : ℕ) (whole : List ℕ) (t : Text) (out : List ℕ) (r : Text) (o 
           by_records (b ∷ bs) e ∙ (ap (λ (x : Header). v.done ++ (record_line i x ++ record_lines i (map header_of bs))) (sym is)
           ∙ sym (append_assoc v.done (record_line i h) (record_lines i (map header_of bs))))
 
-      pub listing-next : Listing i whole t out s p (take (length b - h.size) (drop h.size b))
+      pub listing_next : Listing i whole t out s p (take (length b - h.size) (drop h.size b))
       unfolding headers
-      listing-next = record { len = q ∙ v.len; done = v.done ++ record_line i h; so_far = then k v.so_far; same = goes_on _ (taken_next b h is m z) }
+      listing_next = record { len = q ∙ v.len; done = v.done ++ record_line i h; so_far = then k v.so_far; same = goes_on _ (taken_next b h is m z) }
 
-      pub listing-last : length b < h.size → Puts whole t out s p
+      pub listing_last : length b < h.size → Puts whole t out s p
       unfolding record_lines
-      listing-last l = named (sym (goes_on [] (taken-last b h is m z l) ∙ append-nil (v.done ++ record_line i h))) (then k v.so_far)
+      listing_last l = named (sym (goes_on [] (taken_last b h is m z l) ∙ append-nil (v.done ++ record_line i h))) (then k v.so_far)

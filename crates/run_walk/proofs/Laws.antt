@@ -10,7 +10,7 @@ use Rattle.hyparview.specs.declared.HandledState.{HandledState}
 use Rattle.hyparview.specs.Handled.{Outcome, handled}
 use Rattle.run_input.specs.Input.{event_length}
 use Rattle.base_draws.specs.Place.{past}
-use Rattle.base_draws.proofs.Laws.{past-rest}
+use Rattle.base_draws.proofs.Laws.{past_rest}
 use Rattle.run_walk.specs.declared.Runner.{Runner}
 use Rattle.run_walk.specs.Place.{Runs, met, passed}
 
@@ -62,7 +62,7 @@ module _ (room : ℕ) (p : Runner) (events draws : List ℕ) where
 
     pub next_left : drop q.used draws ≡ drop (met room p events draws).draws (drop p.used draws)
     unfolding passed
-    next_left = ap (λ (x : Runner). drop x.used draws) e ∙ past-rest draws p.used (met room p events draws).draws
+    next_left = ap (λ (x : Runner). drop x.used draws) e ∙ past_rest draws p.used (met room p events draws).draws
 
     -- the events after it
     pub next_events : drop (event_length (drop p.at events)) (drop p.at events) ≡ drop q.at events

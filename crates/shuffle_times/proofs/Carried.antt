@@ -14,8 +14,8 @@ module _ {G H S T : Type 0} {m : Machine G S} {n : Machine H T} {s : S} {t : T}
     (due : (vs : List Brought) → shuffles_due m vs s ≡ shuffles_due n vs t) (start : (vs : List Brought) → start_of m vs s ≡ start_of n vs t)
     (fire : (vs : List Brought) → on_time m vs s [] ≡ on_time n vs t []) (all-fire : (vs : List Brought) → every_timer_fires m vs s ≡ every_timer_fires n vs t)
     (alone : (vs : List Brought) → none_numbered m vs s ≡ none_numbered n vs t) where
-  pub timed-carried : (c : Config) → Timed n c t → Timed m c s
-  timed-carried c d =
+  pub timed_carried : (c : Config) → Timed n c t → Timed m c s
+  timed_carried c d =
       let top = c.shuffle_interval in
       record {
         due_times_tied = λ vs o. let w = d.due_times_tied vs (sym (fire vs) ∙ o) in record {

@@ -30,13 +30,13 @@ module _ (earliest latest k : ℕ) (c : Config) (e : has_times earliest latest c
   abbrev top : ℕ
   top = c.shuffle_interval
 
-  earliest-is : (shuffle_times earliest latest c k).earliest ≡ due top (first_interval top) earliest (replicate k lowest_draw)
+  earliest_is : (shuffle_times earliest latest c k).earliest ≡ due top (first_interval top) earliest (replicate k lowest_draw)
   unfolding due_by
-  earliest-is = ap (λ (r : ShuffleTimes). r.earliest) (times_are earliest latest c k e)
+  earliest_is = ap (λ (r : ShuffleTimes). r.earliest) (times_are earliest latest c k e)
 
-  latest-is : (shuffle_times earliest latest c k).latest ≡ due top (first_interval top) latest (replicate k highest_draw)
+  latest_is : (shuffle_times earliest latest c k).latest ≡ due top (first_interval top) latest (replicate k highest_draw)
   unfolding due_by
-  latest-is = ap (λ (r : ShuffleTimes). r.latest) (times_are earliest latest c k e)
+  latest_is = ap (λ (r : ShuffleTimes). r.latest) (times_are earliest latest c k e)
 
 -- the k-th due time of k draws or more
 kth : (top i t k : ℕ) (ds xs : List ℕ) → xs ≡ dues top i t ds → 1 ≤ k → k ≤ length xs → get_or xs (k - 1) 0 ≡ due top i t (take k ds)
@@ -66,12 +66,12 @@ module _ (me : ℕ) (d : Data) (c : Config) (given : NewGiven me d) (ranges : in
       let q = kth setting (first_interval setting) start k w.draws (shuffles_due definition vs station) w.same a.some many in
       let p = subst (λ (n : ℕ). due setting (first_interval setting) earliest (replicate n lowest_draw) ≤ due setting (first_interval setting) start ds) l b.not_before in
       let r = subst (λ (n : ℕ). due setting (first_interval setting) start ds ≤ due setting (first_interval setting) latest (replicate n highest_draw)) l b.not_after in
-      record { not_before = omega (arith, p, q, earliest-is earliest latest k c e); not_after = omega (arith, r, q, latest-is earliest latest k c e) }
+      record { not_before = omega (arith, p, q, earliest_is earliest latest k c e); not_after = omega (arith, r, q, latest_is earliest latest k c e) }
 
   -- from a start and draws to a history
-  reached-by : (earliest latest k t : ℕ) → 1 ≤ k → k ≤ most_shuffles → (start : ℕ) (ds : List ℕ) → earliest ≤ start → start ≤ latest → all_under draws_end ds ≡ true → length ds ≡ k → due setting (first_interval setting) start ds ≡ t → Reached definition earliest latest k t station
-  reached-by earliest latest k t some most start [] from to u l e = absurd (omega arith)
-  reached-by earliest latest k t some most start (x ∷ ds) from to u l e =
+  reached_by : (earliest latest k t : ℕ) → 1 ≤ k → k ≤ most_shuffles → (start : ℕ) (ds : List ℕ) → earliest ≤ start → start ≤ latest → all_under draws_end ds ≡ true → length ds ≡ k → due setting (first_interval setting) start ds ≡ t → Reached definition earliest latest k t station
+  reached_by earliest latest k t some most start [] from to u l e = absurd (omega arith)
+  reached_by earliest latest k t some most start (x ∷ ds) from to u l e =
       let w = history me d c ranges (kept_new me d c given ranges short) start x ds u (omega arith) in
       let many : length (shuffles_due definition w.calls station) ≡ k = ap length w.same ∙ (length_dues setting (first_interval setting) start (x ∷ ds) ∙ l) in
       let all : take k (x ∷ ds) ≡ x ∷ ds = take_all k (x ∷ ds) (omega arith) in
@@ -92,8 +92,8 @@ module _ (me : ℕ) (d : Data) (c : Config) (given : NewGiven me d) (ranges : in
       → (t : ℕ) → (shuffle_times earliest latest c k).earliest ≤ t → t ≤ (shuffle_times earliest latest c k).latest → Reached definition earliest latest k t station
   every_one_reached earliest latest k e t l m =
       let a = asked earliest latest c k e in
-      let f = found k setting (first_interval setting) earliest latest t a.top (first_ok setting a.top) a.ordered (omega (arith, earliest-is earliest latest k c e)) (omega (arith, latest-is earliest latest k c e)) in
-      reached-by earliest latest k t a.some a.few f.start f.draws f.from f.to f.are_draws f.many f.is
+      let f = found k setting (first_interval setting) earliest latest t a.top (first_ok setting a.top) a.ordered (omega (arith, earliest_is earliest latest k c e)) (omega (arith, latest_is earliest latest k c e)) in
+      reached_by earliest latest k t a.some a.few f.start f.draws f.from f.to f.are_draws f.many f.is
 
   timed : Timed definition c station
   timed = record { due_times_tied = due_times_tied me d c given ranges short; nothing_outside = nothing_outside; every_one_reached = every_one_reached }
@@ -111,4 +111,4 @@ pub zero_is_empty : ZeroIsEmpty
 zero_is_empty earliest latest c k e =
     let a = asked earliest latest c k e in
     let top = c.shuffle_interval in
-    omega (arith, latest-is earliest latest k c e, due_grows k top (first_interval top) latest a.top (first_ok top a.top))
+    omega (arith, latest_is earliest latest k c e, due_grows k top (first_interval top) latest a.top (first_ok top a.top))

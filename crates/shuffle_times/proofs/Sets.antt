@@ -44,28 +44,28 @@ under_at (x ∷ xs) (suc i) e = under_at xs i (and_right (ltb x draws_end) (all_
 
 -- schedule_shuffle
 module _ (r : Run) where
-  schedule-fine : (T.schedule_shuffle r).code ≡ 0 → r.code ≡ 0
+  schedule_fine : (T.schedule_shuffle r).code ≡ 0 → r.code ≡ 0
   unfolding T.schedule_shuffle
-  schedule-fine z = subst (λ (c : ℕ). c ≡ 0) (on_code T.double_interval r) (draw_fine 1 _ (emit_fine _ _ z))
+  schedule_fine z = subst (λ (c : ℕ). c ≡ 0) (on_code T.double_interval r) (draw_fine 1 _ (emit_fine _ _ z))
 
-  schedule-station : (T.schedule_shuffle r).code ≡ 0 → (T.schedule_shuffle r).station ≡ T.double_interval r.station
+  schedule_station : (T.schedule_shuffle r).code ≡ 0 → (T.schedule_shuffle r).station ≡ T.double_interval r.station
   unfolding T.schedule_shuffle
-  schedule-station z = emit_station _ _ ∙ (draw_station 1 _ ∙ on_station T.double_interval r (schedule-fine z))
+  schedule_station z = emit_station _ _ ∙ (draw_station 1 _ ∙ on_station T.double_interval r (schedule_fine z))
 
-  schedule-adds : (T.schedule_shuffle r).code ≡ 0 → Adds (delay r.station.next_interval (drawn r) ∷ []) r.out (T.schedule_shuffle r).out
+  schedule_adds : (T.schedule_shuffle r).code ≡ 0 → Adds (delay r.station.next_interval (drawn r) ∷ []) r.out (T.schedule_shuffle r).out
   unfolding T.schedule_shuffle timers_of choose
-  schedule-adds z =
+  schedule_adds z =
       let e = timer (kind_byte DoShuffle) 0 (delay r.station.next_interval (drawn r)) 0 in
       let b = draw 1 (on T.double_interval r) in
       subst (λ (x : List ℕ). Adds (e.second ∷ []) x (emit e b).out) (draw_out 1 (on T.double_interval r) ∙ on_out T.double_interval r) (adds_one e b z)
 
-  schedule-sets : (T.schedule_shuffle r).code ≡ 0 → Sets r.out r.draws r.station.next_interval r.station.config.shuffle_interval (T.schedule_shuffle r)
+  schedule_sets : (T.schedule_shuffle r).code ≡ 0 → Sets r.out r.draws r.station.next_interval r.station.config.shuffle_interval (T.schedule_shuffle r)
   unfolding drawn T.double_interval next_interval
-  schedule-sets z = record {
+  schedule_sets z = record {
     draw_of = drawn r;
     low = under_at r.draws r.used;
-    adds = schedule-adds z;
-    pace = ap (λ (s : Station). s.next_interval) (schedule-station z);
+    adds = schedule_adds z;
+    pace = ap (λ (s : Station). s.next_interval) (schedule_station z);
   }
 
 -- quiet steps before and after
@@ -93,7 +93,7 @@ timers_fine : (w : Run) → (H.first_timers w).code ≡ 0 → w.code ≡ 0
 unfolding H.first_timers T.schedule_maintenance
 timers_fine w =
     by_choice (λ (v : Run). v.code ≡ 0 → w.code ≡ 0) w.station.scheduled (λ e z. z)
-    (λ e z. subst (λ (c : ℕ). c ≡ 0) (on_code H.note_scheduled w) (schedule-fine _ (emit_fine _ _ z)))
+    (λ e z. subst (λ (c : ℕ). c ≡ 0) (on_code H.note_scheduled w) (schedule_fine _ (emit_fine _ _ z)))
 
 timers_kept : (w : Run) → w.station.scheduled ≡ true → H.first_timers w ≡ w
 unfolding H.first_timers
@@ -123,7 +123,7 @@ new_timers w e =
     let n = on H.note_scheduled w in
     let v = T.schedule_shuffle n in
     let k = (schedule_maintenance v).so z in
-    let h = schedule-sets n k.fine in
+    let h = schedule_sets n k.fine in
     record {
       sets = sets_before (record {
         draw_of = h.draw_of;
@@ -131,7 +131,7 @@ new_timers w e =
         adds = subst (λ (j : ℕ). Adds (delay j h.draw_of ∷ []) w.out v.out) (note_pace w) (subst (λ (x : List ℕ). Adds (delay n.station.next_interval h.draw_of ∷ []) x v.out) (on_out H.note_scheduled w) h.adds);
         pace = h.pace ∙ cc (note_pace w, note_config w);
       }) k;
-      mark = ap (λ (p : Bool × (ℕ × Config)). p.0) k.same_clock ∙ (ap (λ (s : Station). s.scheduled) (schedule-station n k.fine) ∙ ap (λ (s : Station). s.scheduled) (on_station H.note_scheduled w (timers_fine w (subst (λ (u : Run). u.code ≡ 0) (sym (timers_new w e)) z))));
+      mark = ap (λ (p : Bool × (ℕ × Config)). p.0) k.same_clock ∙ (ap (λ (s : Station). s.scheduled) (schedule_station n k.fine) ∙ ap (λ (s : Station). s.scheduled) (on_station H.note_scheduled w (timers_fine w (subst (λ (u : Run). u.code ≡ 0) (sym (timers_new w e)) z))));
     })
 
 shuffle_dispatch : (e : Rec) → eqb e.kind (kind_byte DoShuffle) ≡ true → (r : Run) → H.dispatch e r ≡ T.handle_shuffle_timer r
@@ -175,6 +175,6 @@ module _ (e : Rec) (readable : Readable e) (few : e.kind ≡ kind_byte Message �
       let v = T.schedule_shuffle w in
       let q = (declined (H.first_timers v)).so z in
       let y = timers_fine v q.fine in
-      let h = (shuffle_any (start s ds room)).so (schedule-fine w y) in
-      let on_still : v.station.scheduled ≡ true = ap (λ (u : Station). u.scheduled) (schedule-station w y) ∙ (ap (λ (p : Bool × (ℕ × Config)). p.0) h.same_clock ∙ m) in
-      starts_before (subst (Starts [] ds s.next_interval s.config.shuffle_interval) (sym (timers_kept v on_still)) (record { sets = sets_after h (schedule-sets w y); mark = on_still })) q)
+      let h = (shuffle_any (start s ds room)).so (schedule_fine w y) in
+      let on_still : v.station.scheduled ≡ true = ap (λ (u : Station). u.scheduled) (schedule_station w y) ∙ (ap (λ (p : Bool × (ℕ × Config)). p.0) h.same_clock ∙ m) in
+      starts_before (subst (Starts [] ds s.next_interval s.config.shuffle_interval) (sym (timers_kept v on_still)) (record { sets = sets_after h (schedule_sets w y); mark = on_still })) q)

@@ -26,11 +26,11 @@ use Rattle.base_lists.proofs.Members.{both}
 use Rattle.spec_hyparview.proofs.Reading.{Readable, by_form}
 use Rattle.spec_hyparview.specs.Sides.{draws_from}
 use Rattle.spec_hyparview.proofs.Sides.{by_side, under_from}
-use Rattle.spec_hyparview.proofs.Whole.{ok-steps}
+use Rattle.spec_hyparview.proofs.Whole.{ok_steps}
 use Rattle.spec_hyparview.proofs.Tested.{rules_of}
 use Rattle.spec_history.specs.Ledger.{Ledger, number_of}
 use Rattle.spec_history.specs.Calls.{NewGiven, result_of, answered, definition}
-use Rattle.spec_history.proofs.Kept.{Kept, pays, fine-answer, kept_new}
+use Rattle.spec_history.proofs.Kept.{Kept, pays, fine_answer, kept_new}
 use Rattle.spec_hyparview.specs.Written.{encode_all}
 use Rattle.spec_chatter.proofs.History.{few_of}
 use Rattle.shuffle_times.specs.Times.{highest_draw, first_interval, next_interval, dues}
@@ -104,17 +104,17 @@ module _ {c : Config} {me : ℕ} {l : Ledger} {s : Station} (ranges : in_range c
   unfolding accepted after all_under
   quietly r small k = (ap (after t) (out_told 1 k.adds.records r.out (r.room - length r.out) [] k.adds.is k.adds.timers small refl), k.same_clock)
 
-  called-event : Readable (rec_of b) → InForm (rec_of b) → Called t b s (finish s (steps (rec_of b) (start s ds room)))
+  called_event : Readable (rec_of b) → InForm (rec_of b) → Called t b s (finish s (steps (rec_of b) (start s ds room)))
   unfolding finish accepted kind_in rec_of_by header_of_by
-  called-event w in_form =
+  called_event w in_form =
       let a = c.active_view_capacity in
       let e = rec_of b in
       let r = steps e (start s ds room) in
-      let k = ok-steps (number_of a b) ds room e w (pays a b) h in
+      let k = ok_steps (number_of a b) ds room e w (pays a b) h in
       by_choice (Called t b s) (eqb r.code 0)
       (λ z. let fine = eqb-true r.code 0 z in
       let small : length r.out ≤ 8192 = omega (arith, (k.good fine).bytes_left) in
-      let on-or-off : (m : Bool) → s.scheduled ≡ m → eqb (get_or b 0 0) 1 ≡ m → New t s (accepted r) = λ m f i. by-mark m f i fine small in
+      let on-or-off : (m : Bool) → s.scheduled ≡ m → eqb (get_or b 0 0) 1 ≡ m → New t s (accepted r) = λ m f i. by_mark m f i fine small in
       record {
         refused = λ f. clash true refl f;
         quiet = λ _ i m. quietly r small (plain e w (few_of e in_form) s ds room i m fine);
@@ -123,9 +123,9 @@ module _ {c : Config} {me : ℕ} {l : Ledger} {s : Station} (ranges : in_range c
       })
       (λ z. called_refusal t b s r.code r.room (λ f. clash _ (ap (λ (n : ℕ). eqb n 0) f) z))
     where
-      by-mark : (m : Bool) → s.scheduled ≡ m → eqb (get_or b 0 0) 1 ≡ m → (steps (rec_of b) (start s ds room)).code ≡ 0 → length (steps (rec_of b) (start s ds room)).out ≤ 8192 → New t s (accepted (steps (rec_of b) (start s ds room)))
-      by-mark true f i fine small = newly _ small (fired (rec_of b) w (few_of (rec_of b) in_form) s ds room i f fine)
-      by-mark false f i fine small = newly _ small (first (rec_of b) w (few_of (rec_of b) in_form) s ds room i f fine)
+      by_mark : (m : Bool) → s.scheduled ≡ m → eqb (get_or b 0 0) 1 ≡ m → (steps (rec_of b) (start s ds room)).code ≡ 0 → length (steps (rec_of b) (start s ds room)).out ≤ 8192 → New t s (accepted (steps (rec_of b) (start s ds room)))
+      by_mark true f i fine small = newly _ small (fired (rec_of b) w (few_of (rec_of b) in_form) s ds room i f fine)
+      by_mark false f i fine small = newly _ small (first (rec_of b) w (few_of (rec_of b) in_form) s ds room i f fine)
 
 called : {c : Config} {me : ℕ} {l : Ledger} {s : Station} → in_range c ≡ true → Kept c me l s → (v : Brought) → Called v.at v.call.event s (result_of v.call s)
 unfolding answered handle handle_reading
@@ -136,7 +136,7 @@ called {s = s} ranges h v =
     by_side (Called v.at b s) v.call.side s b v.call.draws room (called_refusal v.at b s 16 room (λ e. omega arith))
     (rw (choose_yes (station_ok s) (handle_reading (read_event b) s ds room) (refusal 2 s room) (rules_of s ranges h))
     (by_form b v.call.are_bytes (λ (x : Reading). Called v.at b s (handle_reading x s ds room))
-    (λ n i j. called_refusal v.at b s n room (λ e. omega arith)) (λ w f. called-event ranges h v.at b ds room (under_from draws_end v.call.side v.call.draws v.are_draws) w f)))
+    (λ n i j. called_refusal v.at b s n room (λ e. omega arith)) (λ w f. called_event ranges h v.at b ds room (under_from draws_end v.call.side v.call.draws v.are_draws) w f)))
 
 -- due times as the definition has them, from the interval i at time t
 record Row (top i t : ℕ) (xs : List ℕ) : Type 0 where
@@ -174,8 +174,8 @@ abbrev mark_in : Bool × (ℕ × Config) → Bool
 mark_in p = p.0
 
 module _ {c : Config} {me : ℕ} (ranges : in_range c ≡ true) where
-  top-is : {l : Ledger} {s : Station} → Kept c me l s → s.config.shuffle_interval ≡ c.shuffle_interval
-  top-is h = ap (λ (w : Config). w.shuffle_interval) h.core.still.fixed
+  top_is : {l : Ledger} {s : Station} → Kept c me l s → s.config.shuffle_interval ≡ c.shuffle_interval
+  top_is h = ap (λ (w : Config). w.shuffle_interval) h.core.still.fixed
 
   -- with one timer that waits, due at time p
   tied_on : (vs : List Brought) {l : Ledger} {s : Station} → Kept c me l s → s.scheduled ≡ true → (p : ℕ) → on_time definition vs s (p ∷ []) ≡ true → Row c.shuffle_interval s.next_interval p (shuffles_due definition vs s)
@@ -184,7 +184,7 @@ module _ {c : Config} {me : ℕ} (ranges : in_range c ≡ true) where
   tied_on (v ∷ vs) {s = s} h m p o =
       let a = result_of v.call s in
       let k = called ranges h v in
-      let more = (fine-answer ranges v.call h).kept in
+      let more = (fine_answer ranges v.call h).kept in
       let kind = eqb (kind_in v.call.event) 1 in
       let set = set_of v.at a in
       let top = c.shuffle_interval in
@@ -198,7 +198,7 @@ module _ {c : Config} {me : ℕ} (ranges : in_range c ≡ true) where
       let due_then : v.at + delay s.next_interval n.draw_of ≡ p + delay s.next_interval n.draw_of = ap (λ (x : ℕ). x + delay s.next_interval n.draw_of) at_p in
       let set_is : set ≡ (p + delay s.next_interval n.draw_of) ∷ [] = n.set ∙ ap (λ (x : ℕ). x ∷ []) due_then in
       row_more top s.next_interval p n.draw_of set _ a.state.next_interval n.low set_is
-      (n.pace ∙ ap (λ (x : ℕ). next_interval x s.next_interval) (top-is h))
+      (n.pace ∙ ap (λ (x : ℕ). next_interval x s.next_interval) (top_is h))
       (tied_on vs more n.mark _ (subst (λ (x : List ℕ). on_time definition vs a.state x ≡ true) set_is (and_right (eqb v.at p) _ y))))
       (λ f. let y = sym (choose_no (kind && eqb a.code 0) _ _ f) ∙ o in
       split (eqb a.code 0)
@@ -206,13 +206,13 @@ module _ {c : Config} {me : ℕ} (ranges : in_range c ≡ true) where
       (λ z. stays (k.refused z) y))
 
   -- before the first accepted call
-  tied-off : (vs : List Brought) {l : Ledger} {s : Station} → Kept c me l s → s.scheduled ≡ false → on_time definition vs s [] ≡ true → Row c.shuffle_interval s.next_interval (start_of definition vs s) (shuffles_due definition vs s)
+  tied_off : (vs : List Brought) {l : Ledger} {s : Station} → Kept c me l s → s.scheduled ≡ false → on_time definition vs s [] ≡ true → Row c.shuffle_interval s.next_interval (start_of definition vs s) (shuffles_due definition vs s)
   unfolding shuffles_due start_of counts on_time set_by fires is_first dues all_under
-  tied-off [] h m o = record { draws = []; are_draws = refl; same = refl }
-  tied-off (v ∷ vs) {s = s} h m o =
+  tied_off [] h m o = record { draws = []; are_draws = refl; same = refl }
+  tied_off (v ∷ vs) {s = s} h m o =
       let a = result_of v.call s in
       let k = called ranges h v in
-      let more = (fine-answer ranges v.call h).kept in
+      let more = (fine_answer ranges v.call h).kept in
       let kind = eqb (kind_in v.call.event) 1 in
       let set = set_of v.at a in
       let top = c.shuffle_interval in
@@ -226,17 +226,17 @@ module _ {c : Config} {me : ℕ} (ranges : in_range c ≡ true) where
       let n = k.sets z (not_kind kind (eqb a.code 0) f z ∙ sym m) in
       subst (λ (x : ℕ). Row top s.next_interval x (set ++ shuffles_due definition vs a.state)) (sym at_start)
       (row_more top s.next_interval v.at n.draw_of set _ a.state.next_interval n.low n.set
-      (n.pace ∙ ap (λ (x : ℕ). next_interval x s.next_interval) (top-is h))
+      (n.pace ∙ ap (λ (x : ℕ). next_interval x s.next_interval) (top_is h))
       (tied_on vs more n.mark _ (subst (λ (x : List ℕ). on_time definition vs a.state x ≡ true) n.set y))))
       (λ z. let q = k.refused z in
       let later : start ≡ start_of definition vs a.state = choose_no (low && eqb a.code 0) _ _ (and_no low _ z) in
       subst (λ (x : ℕ). Row top s.next_interval x (set ++ shuffles_due definition vs a.state)) (sym later)
       (row_same top s.next_interval a.state.next_interval (start_of definition vs a.state) set _ q.0 (ap interval_in q.1)
-      (tied-off vs more (ap mark_in q.1 ∙ m) (subst (λ (x : List ℕ). on_time definition vs a.state x ≡ true) q.0 y)))))
+      (tied_off vs more (ap mark_in q.1 ∙ m) (subst (λ (x : List ℕ). on_time definition vs a.state x ≡ true) q.0 y)))))
 
 -- The station's shuffle timers are due when the definition says, with draws of its own.
 pub due_times_tied : (me : ℕ) (d : Data) (c : Config) → NewGiven me d → in_range c ≡ true → short_data d ≡ true → (vs : List Brought) → on_time definition vs (new_station me d c) [] ≡ true → Tied definition c (new_station me d c) vs
 unfolding new_station first_interval
 due_times_tied me d c given r sd vs o =
-    let w = tied-off r vs (kept_new me d c given r sd) refl o in
+    let w = tied_off r vs (kept_new me d c given r sd) refl o in
     record { draws = w.draws; are_draws = w.are_draws; same = w.same }

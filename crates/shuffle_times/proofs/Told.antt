@@ -16,7 +16,7 @@ use Rattle.record.specs.Format.{Rec, size, header_by, encode, encode_by}
 use Rattle.record.specs.Read.{header_of, header_of_by}
 use Rattle.record.specs.Walk.{headers}
 use Rattle.record.proofs.Format.{length_encode}
-use Rattle.record.proofs.Walk.{records-written, records_zeros}
+use Rattle.record.proofs.Walk.{records_written, records_zeros}
 use Rattle.spec_hyparview.specs.Station.{draws_end}
 use Rattle.spec_hyparview.specs.Rules.{all_under}
 use Rattle.spec_hyparview.specs.Written.{encode_all}
@@ -45,9 +45,9 @@ module _ (e : Rec) (rest : List ℕ) where
   unfolding header_of_by encode_by header_by le read_le
   second_is h = omega arith
 
-  kind-is : (header_of (encode e ++ rest)).kind ≡ e.kind
+  kind_is : (header_of (encode e ++ rest)).kind ≡ e.kind
   unfolding header_of_by encode_by header_by
-  kind-is = refl
+  kind_is = refl
 
 -- the delays of a refused call: none
 pub none_told : (k zeros : ℕ) → timer_delays k (headers (replicate zeros 0)) ≡ []
@@ -73,5 +73,5 @@ told n (e ∷ es) zeros l u =
     let k = first_second (eqb e.kind n) e.second (timers_of n es) u in
     let s : size e < 65536 = omega (arith, length-append (encode e) (encode_all es), length_encode e) in
     let i : timer_delays n (headers rest) ≡ timers_of n es = told n es zeros (omega (arith, length-append (encode e) (encode_all es))) k.1 in
-    rw (append_assoc (encode e) (encode_all es) (replicate zeros 0), records-written e rest s, i, kind-is e rest)
+    rw (append_assoc (encode e) (encode_all es) (replicate zeros 0), records_written e rest s, i, kind_is e rest)
     (same_first (eqb e.kind n) _ _ (timers_of n es) (λ t. second_is e rest (k.0 t)))

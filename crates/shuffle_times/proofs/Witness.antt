@@ -34,7 +34,7 @@ use Rattle.spec_hyparview.specs.Handle.{Result, new_station, start, steps, accep
 use Rattle.spec_hyparview.proofs.Tested.{rules_of}
 use Rattle.spec_history.specs.Ledger.{Ledger}
 use Rattle.spec_history.specs.Calls.{Call, result_of, answered, definition}
-use Rattle.spec_history.proofs.Kept.{Kept, fine-answer}
+use Rattle.spec_history.proofs.Kept.{Kept, fine_answer}
 use Rattle.spec_hyparview.specs.Written.{encode_all}
 use Rattle.shuffle_times.specs.Times.{highest_draw, first_interval, next_interval, dues}
 use Rattle.shuffle_times.specs.Histories.{Brought, timer_delays, after, set_by, shuffles_due, counts, start_of, fires, is_first, punctual, every_timer_fires, none_asked, none_numbered, in_time_order}
@@ -148,18 +148,18 @@ leads v s t w es e f g small u = record {
 -- one call more in front of punctual ones
 module _ (k : ℕ) (v : Brought) (vs : List Brought) (s t : Station) (to : (result_of v.call s).state ≡ t) (set : List ℕ) (e : set_by k definition v s ≡ set) (ws : List ℕ) (l : every (leb v.at) ws ≡ true)
     (h : punctual k definition vs t (ws ++ set) ≡ true) where
-  after-set : punctual k definition vs (result_of v.call s).state (ws ++ set_by k definition v s) ≡ true
-  after-set =
+  after_set : punctual k definition vs (result_of v.call s).state (ws ++ set_by k definition v s) ≡ true
+  after_set =
       subst (λ (x : List ℕ). punctual k definition vs (result_of v.call s).state (ws ++ x) ≡ true) (sym e)
       (subst (λ (z : Station). punctual k definition vs z (ws ++ set) ≡ true) (sym to) h)
 
   fired : (x : ℕ) → v.at ≡ x → fires k definition v s ≡ true → punctual k definition (v ∷ vs) s (x ∷ ws) ≡ true
   unfolding punctual every is_first
-  fired x q f = both _ _ (both _ _ (le-leb v.at x (omega arith)) l) (choose_yes (fires k definition v s) _ _ f ∙ both _ _ (eq-eqb v.at x q) after-set)
+  fired x q f = both _ _ (both _ _ (le-leb v.at x (omega arith)) l) (choose_yes (fires k definition v s) _ _ f ∙ both _ _ (eq-eqb v.at x q) after_set)
 
   passed : fires k definition v s ≡ false → punctual k definition (v ∷ vs) s ws ≡ true
   unfolding punctual
-  passed f = both _ _ l (choose_no (fires k definition v s) _ _ f ∙ after-set)
+  passed f = both _ _ l (choose_no (fires k definition v s) _ _ f ∙ after_set)
 
 -- one that asks for no timer of kind k in front of others
 asks_none : (k : ℕ) (v : Brought) (vs : List Brought) (s t : Station) → (result_of v.call s).state ≡ t → set_by k definition v s ≡ [] → none_asked k definition vs t ≡ true → none_asked k definition (v ∷ vs) s ≡ true
@@ -189,8 +189,8 @@ module _ (me : ℕ) (d : Data) (c : Config) where
   abbrev maintenance_timer : Rec
   maintenance_timer = timer (kind_byte DoMaintenance) 0 maintenance_interval 0
 
-  quit-run : ℕ → Run
-  quit-run x = record {
+  quit_run : ℕ → Run
+  quit_run x = record {
     station = ticking (next_interval top (first_interval top)) 0;
     draws = x ∷ [];
     used = 1;
@@ -199,12 +199,12 @@ module _ (me : ℕ) (d : Data) (c : Config) where
     code = 0;
   }
 
-  quit-steps : (x : ℕ) → finish (new_station me d c) (steps (notice (kind_byte Quit) 0) (start (new_station me d c) (x ∷ []) two_records)) ≡ accepted (quit-run x)
-  unfolding quit-run next_interval first_interval choose finish steps H.forget_declined H.dispatch H.first_timers H.note_scheduled E.handle_quit E.quit_all E.clear_all T.schedule_maintenance T.schedule_shuffle T.double_interval new_station retain guard on emit draw drawn size_by datas encode_by header_by entries_by le
-  quit-steps x = refl
+  quit_steps : (x : ℕ) → finish (new_station me d c) (steps (notice (kind_byte Quit) 0) (start (new_station me d c) (x ∷ []) two_records)) ≡ accepted (quit_run x)
+  unfolding quit_run next_interval first_interval choose finish steps H.forget_declined H.dispatch H.first_timers H.note_scheduled E.handle_quit E.quit_all E.clear_all T.schedule_maintenance T.schedule_shuffle T.double_interval new_station retain guard on emit draw drawn size_by datas encode_by header_by entries_by le
+  quit_steps x = refl
 
-  shuffle-run : ℕ → ℕ → ℕ → Run
-  shuffle-run i n x = record {
+  shuffle_run : ℕ → ℕ → ℕ → Run
+  shuffle_run i n x = record {
     station = ticking (next_interval top i) n;
     draws = x ∷ [];
     used = 1;
@@ -213,12 +213,12 @@ module _ (me : ℕ) (d : Data) (c : Config) where
     code = 0;
   }
 
-  shuffle-steps : (i n x : ℕ) → finish (ticking i n) (steps (timer (kind_byte DoShuffle) 0 0 0) (start (ticking i n) (x ∷ []) header_length)) ≡ accepted (shuffle-run i n x)
-  unfolding shuffle-run next_interval choose null is_alone finish steps H.forget_declined H.dispatch H.first_timers T.handle_shuffle_timer T.shuffle_any T.schedule_shuffle T.double_interval new_station retain guard on emit draw drawn size_by datas encode_by header_by entries_by le
-  shuffle-steps i n x = refl
+  shuffle_steps : (i n x : ℕ) → finish (ticking i n) (steps (timer (kind_byte DoShuffle) 0 0 0) (start (ticking i n) (x ∷ []) header_length)) ≡ accepted (shuffle_run i n x)
+  unfolding shuffle_run next_interval choose null is_alone finish steps H.forget_declined H.dispatch H.first_timers T.handle_shuffle_timer T.shuffle_any T.schedule_shuffle T.double_interval new_station retain guard on emit draw drawn size_by datas encode_by header_by entries_by le
+  shuffle_steps i n x = refl
 
-  maintenance-run : ℕ → ℕ → Run
-  maintenance-run i n = record {
+  maintenance_run : ℕ → ℕ → Run
+  maintenance_run i n = record {
     station = ticking i (n + 1);
     draws = [];
     used = 0;
@@ -239,118 +239,118 @@ module _ (me : ℕ) (d : Data) (c : Config) where
   unfolding idle T.rejoin T.rejoin_recent T.rejoin_bootstrap T.other_recent without_all null choose emit_all new_station
   nobody i n = refl
 
-  not-asked : (i n : ℕ) → T.rejoin_if_due (idle i n) ≡ idle i n
+  not_asked : (i n : ℕ) → T.rejoin_if_due (idle i n) ≡ idle i n
   unfolding T.rejoin_if_due
-  not-asked i n = by_choice (λ (r : Run). r ≡ idle i n) (backoff_due (idle i n).station.passes_alone) (λ _. nobody i n) (λ _. refl)
+  not_asked i n = by_choice (λ (r : Run). r ≡ idle i n) (backoff_due (idle i n).station.passes_alone) (λ _. nobody i n) (λ _. refl)
 
-  maintenance-first : (i n : ℕ) → steps (timer (kind_byte DoMaintenance) 0 0 0) (idle i n) ≡ on H.forget_declined (H.first_timers (T.schedule_maintenance (T.rejoin_if_due (T.count_alone (idle i n)))))
+  maintenance_first : (i n : ℕ) → steps (timer (kind_byte DoMaintenance) 0 0 0) (idle i n) ≡ on H.forget_declined (H.first_timers (T.schedule_maintenance (T.rejoin_if_due (T.count_alone (idle i n)))))
   unfolding idle steps H.dispatch T.handle_maintenance_timer T.maintain T.knows_none T.pass_alone T.remember_all T.renew_all on guard choose null new_station
-  maintenance-first i n = refl
+  maintenance_first i n = refl
 
-  maintenance-last : (i n : ℕ) → finish (ticking i n) (on H.forget_declined (H.first_timers (T.schedule_maintenance (idle i (n + 1))))) ≡ accepted (maintenance-run i n)
-  unfolding idle maintenance-run choose finish H.forget_declined H.first_timers T.schedule_maintenance new_station retain guard on emit size_by datas encode_by header_by entries_by le
-  maintenance-last i n = refl
+  maintenance_last : (i n : ℕ) → finish (ticking i n) (on H.forget_declined (H.first_timers (T.schedule_maintenance (idle i (n + 1))))) ≡ accepted (maintenance_run i n)
+  unfolding idle maintenance_run choose finish H.forget_declined H.first_timers T.schedule_maintenance new_station retain guard on emit size_by datas encode_by header_by entries_by le
+  maintenance_last i n = refl
 
-  maintenance-steps : (i n : ℕ) → n < top_passes → finish (ticking i n) (steps (timer (kind_byte DoMaintenance) 0 0 0) (start (ticking i n) [] header_length)) ≡ accepted (maintenance-run i n)
+  maintenance_steps : (i n : ℕ) → n < top_passes → finish (ticking i n) (steps (timer (kind_byte DoMaintenance) 0 0 0) (start (ticking i n) [] header_length)) ≡ accepted (maintenance_run i n)
   unfolding idle
-  maintenance-steps i n h =
-      ap (finish (ticking i n)) (maintenance-first i n)
-      ∙ (ap (λ (r : Run). finish (ticking i n) (on H.forget_declined (H.first_timers (T.schedule_maintenance r)))) (ap T.rejoin_if_due (counted i n h) ∙ not-asked i (n + 1)) ∙ maintenance-last i n)
+  maintenance_steps i n h =
+      ap (finish (ticking i n)) (maintenance_first i n)
+      ∙ (ap (λ (r : Run). finish (ticking i n) (on H.forget_declined (H.first_timers (T.schedule_maintenance r)))) (ap T.rejoin_if_due (counted i n h) ∙ not_asked i (n + 1)) ∙ maintenance_last i n)
 
-  quit-told : (x : ℕ) → (quit-run x).out ≡ encode_all (shuffle_timer (first_interval top) x ∷ maintenance_timer ∷ [])
-  unfolding quit-run encode_all encode_by header_by entries_by datas size_by le
-  quit-told x = refl
+  quit_told : (x : ℕ) → (quit_run x).out ≡ encode_all (shuffle_timer (first_interval top) x ∷ maintenance_timer ∷ [])
+  unfolding quit_run encode_all encode_by header_by entries_by datas size_by le
+  quit_told x = refl
 
-  quit-short : (x : ℕ) → length (quit-run x).out ≤ 8192
-  unfolding quit-run encode_by header_by entries_by datas size_by le
-  quit-short x = omega arith
+  quit_short : (x : ℕ) → length (quit_run x).out ≤ 8192
+  unfolding quit_run encode_by header_by entries_by datas size_by le
+  quit_short x = omega arith
 
-  shuffle_told : (i n x : ℕ) → (shuffle-run i n x).out ≡ encode_all (shuffle_timer i x ∷ [])
-  unfolding shuffle-run encode_all encode_by header_by entries_by datas size_by le
+  shuffle_told : (i n x : ℕ) → (shuffle_run i n x).out ≡ encode_all (shuffle_timer i x ∷ [])
+  unfolding shuffle_run encode_all encode_by header_by entries_by datas size_by le
   shuffle_told i n x = refl
 
-  shuffle-short : (i n x : ℕ) → length (shuffle-run i n x).out ≤ 8192
-  unfolding shuffle-run encode_by header_by entries_by datas size_by le
-  shuffle-short i n x = omega arith
+  shuffle_short : (i n x : ℕ) → length (shuffle_run i n x).out ≤ 8192
+  unfolding shuffle_run encode_by header_by entries_by datas size_by le
+  shuffle_short i n x = omega arith
 
-  maintenance-told : (i n : ℕ) → (maintenance-run i n).out ≡ encode_all (maintenance_timer ∷ [])
-  unfolding maintenance-run encode_all encode_by header_by entries_by datas size_by le
-  maintenance-told i n = refl
+  maintenance_told : (i n : ℕ) → (maintenance_run i n).out ≡ encode_all (maintenance_timer ∷ [])
+  unfolding maintenance_run encode_all encode_by header_by entries_by datas size_by le
+  maintenance_told i n = refl
 
-  maintenance-short : (i n : ℕ) → length (maintenance-run i n).out ≤ 8192
-  unfolding maintenance-run encode_by header_by entries_by datas size_by le
-  maintenance-short i n = omega arith
+  maintenance_short : (i n : ℕ) → length (maintenance_run i n).out ≤ 8192
+  unfolding maintenance_run encode_by header_by entries_by datas size_by le
+  maintenance_short i n = omega arith
 
   module _ (ranges : in_range c ≡ true) where
     -- a delay is at most 4,500,000 ms
-    short-delay : (i x : ℕ) → Interval i → x < draws_end → delay i x ≤ 4500000
-    short-delay i x h u = omega (arith, delay_few i h, delay_rises i x highest_draw (omega arith))
+    short_delay : (i x : ℕ) → Interval i → x < draws_end → delay i x ≤ 4500000
+    short_delay i x h u = omega (arith, delay_few i h, delay_rises i x highest_draw (omega arith))
 
-    quit-leads : {l : Ledger} → Kept c me l (new_station me d c) → (t x : ℕ) (u : x < draws_end)
+    quit_leads : {l : Ledger} → Kept c me l (new_station me d c) → (t x : ℕ) (u : x < draws_end)
         → Leads (quit_at t x u) (new_station me d c) (ticking (next_interval top (first_interval top)) 0) (shuffle_timer (first_interval top) x ∷ maintenance_timer ∷ [])
-    unfolding quit_at quit_call quit-run All
-    quit-leads h t x u =
-        leads (quit_at t x u) (new_station me d c) _ (quit-run x) _
-        (answer_of (quit_call x) (notice (kind_byte Quit) 0) (new_station me d c) refl (rules_of (new_station me d c) ranges h) read_quit ∙ quit-steps x)
-        refl (quit-told x) (quit-short x) (omega (arith, short-delay (first_interval top) x (first_ok top (top_of c ranges)) u), (omega arith, tt))
+    unfolding quit_at quit_call quit_run All
+    quit_leads h t x u =
+        leads (quit_at t x u) (new_station me d c) _ (quit_run x) _
+        (answer_of (quit_call x) (notice (kind_byte Quit) 0) (new_station me d c) refl (rules_of (new_station me d c) ranges h) read_quit ∙ quit_steps x)
+        refl (quit_told x) (quit_short x) (omega (arith, short_delay (first_interval top) x (first_ok top (top_of c ranges)) u), (omega arith, tt))
 
-    shuffle-leads : {l : Ledger} {i n : ℕ} → Kept c me l (ticking i n) → (t x : ℕ) (u : x < draws_end) → Leads (shuffle_at t x u) (ticking i n) (ticking (next_interval top i) n) (shuffle_timer i x ∷ [])
-    unfolding shuffle_at shuffle_call shuffle-run All
-    shuffle-leads {i = i} {n = n} h t x u =
-        leads (shuffle_at t x u) (ticking i n) _ (shuffle-run i n x) _
-        (answer_of (shuffle_call x) (timer (kind_byte DoShuffle) 0 0 0) (ticking i n) refl (rules_of (ticking i n) ranges h) read_shuffle ∙ shuffle-steps i n x)
-        refl (shuffle_told i n x) (shuffle-short i n x) (omega (arith, short-delay i x (interval_of ranges h) u), tt)
+    shuffle_leads : {l : Ledger} {i n : ℕ} → Kept c me l (ticking i n) → (t x : ℕ) (u : x < draws_end) → Leads (shuffle_at t x u) (ticking i n) (ticking (next_interval top i) n) (shuffle_timer i x ∷ [])
+    unfolding shuffle_at shuffle_call shuffle_run All
+    shuffle_leads {i = i} {n = n} h t x u =
+        leads (shuffle_at t x u) (ticking i n) _ (shuffle_run i n x) _
+        (answer_of (shuffle_call x) (timer (kind_byte DoShuffle) 0 0 0) (ticking i n) refl (rules_of (ticking i n) ranges h) read_shuffle ∙ shuffle_steps i n x)
+        refl (shuffle_told i n x) (shuffle_short i n x) (omega (arith, short_delay i x (interval_of ranges h) u), tt)
 
-    maintenance-leads : {l : Ledger} {i n : ℕ} → Kept c me l (ticking i n) → (t : ℕ) → n < top_passes → Leads (maintenance_at t) (ticking i n) (ticking i (n + 1)) (maintenance_timer ∷ [])
-    unfolding maintenance_at maintenance_call maintenance-run All
-    maintenance-leads {i = i} {n = n} h t few =
-        leads (maintenance_at t) (ticking i n) _ (maintenance-run i n) _
-        (answer_of maintenance_call (timer (kind_byte DoMaintenance) 0 0 0) (ticking i n) refl (rules_of (ticking i n) ranges h) read_maintenance ∙ maintenance-steps i n few)
-        refl (maintenance-told i n) (maintenance-short i n) (omega arith, tt)
+    maintenance_leads : {l : Ledger} {i n : ℕ} → Kept c me l (ticking i n) → (t : ℕ) → n < top_passes → Leads (maintenance_at t) (ticking i n) (ticking i (n + 1)) (maintenance_timer ∷ [])
+    unfolding maintenance_at maintenance_call maintenance_run All
+    maintenance_leads {i = i} {n = n} h t few =
+        leads (maintenance_at t) (ticking i n) _ (maintenance_run i n) _
+        (answer_of maintenance_call (timer (kind_byte DoMaintenance) 0 0 0) (ticking i n) refl (rules_of (ticking i n) ranges h) read_maintenance ∙ maintenance_steps i n few)
+        refl (maintenance_told i n) (maintenance_short i n) (omega arith, tt)
 
     -- timers from now on: the next shuffle timer is due at p, the next maintenance timer at q
     record Chain (i n p q : ℕ) (ds : List ℕ) : Type 0 where
       calls : List Brought
-      shuffles-fire : punctual 1 definition calls (ticking i n) (p ∷ []) ≡ true
-      maintenance-fires : punctual 2 definition calls (ticking i n) (q ∷ []) ≡ true
-      no-others : (k : ℕ) → eqb 1 k ≡ false → eqb 2 k ≡ false → punctual k definition calls (ticking i n) [] ≡ true
+      shuffles_fire : punctual 1 definition calls (ticking i n) (p ∷ []) ≡ true
+      maintenance_fires : punctual 2 definition calls (ticking i n) (q ∷ []) ≡ true
+      no_others : (k : ℕ) → eqb 1 k ≡ false → eqb 2 k ≡ false → punctual k definition calls (ticking i n) [] ≡ true
       none_of : (k : ℕ) → eqb 1 k ≡ false → eqb 2 k ≡ false → none_asked k definition calls (ticking i n) ≡ true
       ordered : (r : ℕ) → r ≤ p → r ≤ q → in_time_order r calls ≡ true
       same : shuffles_due definition calls (ticking i n) ≡ dues top i p ds
 
     -- a maintenance timer in front, which is due no later than the shuffle timer
-    passes-first : {l : Ledger} {i n : ℕ} → Kept c me l (ticking i n) → (p q : ℕ) (ds : List ℕ) → q ≤ p → n < top_passes → Chain i (n + 1) p (q + maintenance_interval) ds → Chain i n p q ds
+    passes_first : {l : Ledger} {i n : ℕ} → Kept c me l (ticking i n) → (p q : ℕ) (ds : List ℕ) → q ≤ p → n < top_passes → Chain i (n + 1) p (q + maintenance_interval) ds → Chain i n p q ds
     unfolding maintenance_at in_time_order shuffles_due timers_of choose after every
-    passes-first {i = i} {n = n} h p q ds near few w =
+    passes_first {i = i} {n = n} h p q ds near few w =
         let v = maintenance_at q in
         let s = ticking i n in
         let t = ticking i (n + 1) in
-        let k = maintenance-leads h q few in
+        let k = maintenance_leads h q few in
         let two = maintenance_is_2 q in
         record {
           calls = v ∷ w.calls;
-          shuffles-fire = passed 1 v w.calls s t k.state [] (k.sets 1) (p ∷ []) (both _ _ (le-leb q p near) refl) w.shuffles-fire (fires_no 1 2 v s two refl);
-          maintenance-fires = fired 2 v w.calls s t k.state ((q + maintenance_interval) ∷ []) (k.sets 2) [] refl w.maintenance-fires q refl (fires_yes 2 v s two k.code);
-          no-others = λ j a b. passed j v w.calls s t k.state [] (k.sets j ∙ ap (λ (x : Bool). after q (choose x (maintenance_interval ∷ []) [])) b) [] refl (w.no-others j a b) (fires_no j 2 v s two b);
+          shuffles_fire = passed 1 v w.calls s t k.state [] (k.sets 1) (p ∷ []) (both _ _ (le-leb q p near) refl) w.shuffles_fire (fires_no 1 2 v s two refl);
+          maintenance_fires = fired 2 v w.calls s t k.state ((q + maintenance_interval) ∷ []) (k.sets 2) [] refl w.maintenance_fires q refl (fires_yes 2 v s two k.code);
+          no_others = λ j a b. passed j v w.calls s t k.state [] (k.sets j ∙ ap (λ (x : Bool). after q (choose x (maintenance_interval ∷ []) [])) b) [] refl (w.no_others j a b) (fires_no j 2 v s two b);
           none_of = λ j a b. asks_none j v w.calls s t k.state (k.sets j ∙ ap (λ (x : Bool). after q (choose x (maintenance_interval ∷ []) [])) b) (w.none_of j a b);
           ordered = λ r f g. both _ _ (le-leb r q g) (w.ordered q near (omega arith));
           same = ap (λ (l : List ℕ). l ++ shuffles_due definition w.calls (result_of v.call s).state) (k.sets 1) ∙ (ap (shuffles_due definition w.calls) k.state ∙ w.same);
         }
 
     -- a shuffle timer in front, which is due no later than the maintenance timer
-    shuffles-first : {l : Ledger} {i n : ℕ} → Kept c me l (ticking i n) → (p q x : ℕ) (u : x < draws_end) (ds : List ℕ) → p ≤ q → Chain (next_interval top i) n (p + delay i x) q ds → Chain i n p q (x ∷ ds)
+    shuffles_first : {l : Ledger} {i n : ℕ} → Kept c me l (ticking i n) → (p q x : ℕ) (u : x < draws_end) (ds : List ℕ) → p ≤ q → Chain (next_interval top i) n (p + delay i x) q ds → Chain i n p q (x ∷ ds)
     unfolding shuffle_at in_time_order shuffles_due dues timers_of choose after every
-    shuffles-first {i = i} {n = n} h p q x u ds near w =
+    shuffles_first {i = i} {n = n} h p q x u ds near w =
         let v = shuffle_at p x u in
         let s = ticking i n in
         let t = ticking (next_interval top i) n in
-        let k = shuffle-leads h p x u in
+        let k = shuffle_leads h p x u in
         let one = shuffle_is_1 p x u in
         record {
           calls = v ∷ w.calls;
-          shuffles-fire = fired 1 v w.calls s t k.state ((p + delay i x) ∷ []) (k.sets 1) [] refl w.shuffles-fire p refl (fires_yes 1 v s one k.code);
-          maintenance-fires = passed 2 v w.calls s t k.state [] (k.sets 2) (q ∷ []) (both _ _ (le-leb p q near) refl) w.maintenance-fires (fires_no 2 1 v s one refl);
-          no-others = λ j a b. passed j v w.calls s t k.state [] (k.sets j ∙ ap (λ (y : Bool). after p (choose y (delay i x ∷ []) [])) a) [] refl (w.no-others j a b) (fires_no j 1 v s one a);
+          shuffles_fire = fired 1 v w.calls s t k.state ((p + delay i x) ∷ []) (k.sets 1) [] refl w.shuffles_fire p refl (fires_yes 1 v s one k.code);
+          maintenance_fires = passed 2 v w.calls s t k.state [] (k.sets 2) (q ∷ []) (both _ _ (le-leb p q near) refl) w.maintenance_fires (fires_no 2 1 v s one refl);
+          no_others = λ j a b. passed j v w.calls s t k.state [] (k.sets j ∙ ap (λ (y : Bool). after p (choose y (delay i x ∷ []) [])) a) [] refl (w.no_others j a b) (fires_no j 1 v s one a);
           none_of = λ j a b. asks_none j v w.calls s t k.state (k.sets j ∙ ap (λ (y : Bool). after p (choose y (delay i x ∷ []) [])) a) (w.none_of j a b);
           ordered = λ r f g. both _ _ (le-leb r p f) (w.ordered p (omega arith) near);
           same = ap (λ (l : List ℕ). l ++ shuffles_due definition w.calls (result_of v.call s).state) (k.sets 1)
@@ -371,22 +371,22 @@ module _ (me : ℕ) (d : Data) (c : Config) where
           split (leb q p)
           (λ y. let near = leb-true q p y in
           let few : n < top_passes = omega (arith, e, near, far) in
-          let more = subst (Kept c me _) (maintenance-leads h q few).state (fine-answer ranges (maintenance_at q).call h).kept in
-          passes-first h p q ds near few (passes i p ds far then j more (q + maintenance_interval) (omega arith) (omega arith)))
+          let more = subst (Kept c me _) (maintenance_leads h q few).state (fine_answer ranges (maintenance_at q).call h).kept in
+          passes_first h p q ds near few (passes i p ds far then j more (q + maintenance_interval) (omega arith) (omega arith)))
           (λ y. then o n h q e (omega (arith, leb-false q p y)))
 
       -- one shuffle timer for each draw, the next of which is due at p
       chain : (ds : List ℕ) → all_under draws_end ds ≡ true → {l : Ledger} {i n : ℕ} → Kept c me l (ticking i n) → (p q : ℕ) → q ≡ t₀ + maintenance_interval * (n + 1)
           → p + length ds * 4500000 ≤ limit → Chain i n p q ds
       unfolding all_under punctual none_asked in_time_order shuffles_due dues
-      chain [] u h p q e l = record { calls = []; shuffles-fire = refl; maintenance-fires = refl; no-others = λ k a b. refl; none_of = λ k a b. refl; ordered = λ r f g. refl; same = refl }
+      chain [] u h p q e l = record { calls = []; shuffles_fire = refl; maintenance_fires = refl; no_others = λ k a b. refl; none_of = λ k a b. refl; ordered = λ r f g. refl; same = refl }
       chain (x ∷ ds) u {i = i} h p q e l =
           let low = ltb-true x draws_end (and_left (ltb x draws_end) (all_under draws_end ds) u) in
           let rest = and_right (ltb x draws_end) (all_under draws_end ds) u in
           passes i p (x ∷ ds) (omega arith)
           (λ o n g r f near.
-          let more = subst (Kept c me _) (shuffle-leads g p x low).state (fine-answer ranges (shuffle_at p x low).call g).kept in
-          shuffles-first g p r x low ds near (chain ds rest more (p + delay i x) r f (omega (arith, short-delay i x (interval_of ranges g) low))))
+          let more = subst (Kept c me _) (shuffle_leads g p x low).state (fine_answer ranges (shuffle_at p x low).call g).kept in
+          shuffles_first g p r x low ds near (chain ds rest more (p + delay i x) r f (omega (arith, short_delay i x (interval_of ranges g) low))))
           p h q e (omega arith)
 
     -- the whole history, from the start t on
@@ -405,17 +405,17 @@ module _ (me : ℕ) (d : Data) (c : Config) where
         let low = ltb-true x draws_end (and_left (ltb x draws_end) (all_under draws_end ds) u) in
         let v = quit_at t x low in
         let i = first_interval top in
-        let k = quit-leads h t x low in
+        let k = quit_leads h t x low in
         let p = t + delay i x in
         let q = t + maintenance_interval in
         let z = ticking (next_interval top i) 0 in
-        let more = subst (Kept c me _) k.state (fine-answer ranges v.call h).kept in
-        let w = chain t ds (and_right (ltb x draws_end) (all_under draws_end ds) u) more p q (omega arith) (omega (arith, short-delay i x (first_ok top (top_of c ranges)) low)) in
+        let more = subst (Kept c me _) k.state (fine_answer ranges v.call h).kept in
+        let w = chain t ds (and_right (ltb x draws_end) (all_under draws_end ds) u) more p q (omega arith) (omega (arith, short_delay i x (first_ok top (top_of c ranges)) low)) in
         let eight = quit_kind t x low in
-        let one = passed 1 v w.calls s z k.state (p ∷ []) (k.sets 1) [] refl w.shuffles-fire (fires_no 1 8 v s eight refl) in
-        let two = passed 2 v w.calls s z k.state (q ∷ []) (k.sets 2) [] refl w.maintenance-fires (fires_no 2 8 v s eight refl) in
-        let three = passed 3 v w.calls s z k.state [] (k.sets 3) [] refl (w.no-others 3 refl refl) (fires_no 3 8 v s eight refl) in
-        let four = passed 4 v w.calls s z k.state [] (k.sets 4) [] refl (w.no-others 4 refl refl) (fires_no 4 8 v s eight refl) in
+        let one = passed 1 v w.calls s z k.state (p ∷ []) (k.sets 1) [] refl w.shuffles_fire (fires_no 1 8 v s eight refl) in
+        let two = passed 2 v w.calls s z k.state (q ∷ []) (k.sets 2) [] refl w.maintenance_fires (fires_no 2 8 v s eight refl) in
+        let three = passed 3 v w.calls s z k.state [] (k.sets 3) [] refl (w.no_others 3 refl refl) (fires_no 3 8 v s eight refl) in
+        let four = passed 4 v w.calls s z k.state [] (k.sets 4) [] refl (w.no_others 4 refl refl) (fires_no 4 8 v s eight refl) in
         record {
           calls = v ∷ w.calls;
           fire = both _ _ one (both _ _ two (both _ _ three (both _ _ four refl)));

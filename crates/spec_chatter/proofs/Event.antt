@@ -113,8 +113,8 @@ module _ (e : Rec) (known : is_event_kind e.kind ≡ true) (narrow : e.peer < pe
   abbrev f : Book → Book
   f = note_event e.kind e.message e.peer e.number
 
-  expired-gone : e.kind ≡ kind_byte RetryJoin → (H.dispatch e (start s ds room)).code ≡ 0 → lookup e.peer (H.dispatch e (start s ds room)).station.joins ≡ some e.number → ⊥
-  expired-gone k z q = retry_gone e.peer e.number (start s ds room) refl (subst (λ (w : Run). lookup e.peer w.station.joins ≡ some e.number) (retry_dispatch e k (start s ds room)) q)
+  expired_gone : e.kind ≡ kind_byte RetryJoin → (H.dispatch e (start s ds room)).code ≡ 0 → lookup e.peer (H.dispatch e (start s ds room)).station.joins ≡ some e.number → ⊥
+  expired_gone k z q = retry_gone e.peer e.number (start s ds room) refl (subst (λ (w : Run). lookup e.peer w.station.joins ≡ some e.number) (retry_dispatch e k (start s ds room)) q)
 
   -- timers were scheduled before
   later : (w : Run) → s.scheduled ≡ true → Turn f (is e.kind (kind_byte DoShuffle)) (is e.kind (kind_byte DoMaintenance)) (start s ds room) w → (e.kind ≡ kind_byte RetryJoin → lookup e.peer (on H.forget_declined w).station.joins ≡ some e.number → ⊥) → (on H.forget_declined w).code ≡ 0 → Done e s (on H.forget_declined w)
@@ -160,7 +160,7 @@ module _ (e : Rec) (known : is_event_kind e.kind ≡ true) (narrow : e.peer < pe
       let y = timers_fine w ((declined (H.first_timers w)).so z).fine in
       let t = (dispatch e narrow few (start s ds room) known).so y in
       let g : e.kind ≡ kind_byte RetryJoin → lookup e.peer (on H.forget_declined (H.first_timers w)).station.joins ≡ some e.number → ⊥ =
-      (λ k q. expired-gone k y (subst (λ (x : List (ℕ × ℕ)). lookup e.peer x ≡ some e.number) (rest_joins w) q)) in
+      (λ k q. expired_gone k y (subst (λ (x : List (ℕ × ℕ)). lookup e.peer x ≡ some e.number) (rest_joins w) q)) in
       split s.scheduled
       (λ m. subst (λ (v : Run). (e.kind ≡ kind_byte RetryJoin → lookup e.peer (on H.forget_declined v).station.joins ≡ some e.number → ⊥) → (on H.forget_declined v).code ≡ 0 → Done e s (on H.forget_declined v)) (sym (timers_kept w (t.mark ∙ m))) (later w m t) g z)
       (λ m. subst (λ (v : Run). (e.kind ≡ kind_byte RetryJoin → lookup e.peer (on H.forget_declined v).station.joins ≡ some e.number → ⊥) → (on H.forget_declined v).code ≡ 0 → Done e s (on H.forget_declined v)) (sym (timers_new w (t.mark ∙ m))) (first w m t y) g z)

@@ -28,7 +28,7 @@ use Rattle.spec_hyparview.specs.Written.{encode_all}
 use Rattle.spec_hyparview.proofs.Narrow as N
 use Rattle.spec_hyparview.proofs.Narrow.{at}
 use Rattle.spec_hyparview.proofs.Reading.{Readable, by_form}
-use Rattle.spec_hyparview.proofs.Whole.{ok-steps}
+use Rattle.spec_hyparview.proofs.Whole.{ok_steps}
 use Rattle.spec_hyparview.proofs.Tested.{rules_of}
 use Rattle.spec_hyparview.proofs.Written.{formed_event}
 use Rattle.spec_history.specs.Ledger.{Ledger, number_of}
@@ -134,11 +134,11 @@ module _ {c : Config} {me : ℕ} {l : Ledger} {s : Station} (h : Kept c me l s) 
       both_ways : (b : Bool) → choose {A = ℕ} b 0 1 + choose {A = ℕ} b 1 0 ≡ 1
       both_ways b = split b (λ t. omega (arith, choose_yes {A = ℕ} b 0 1 t, choose_yes {A = ℕ} b 1 0 t)) (λ t. omega (arith, choose_no {A = ℕ} b 0 1 t, choose_no {A = ℕ} b 1 0 t))
 
-  called-event : Answer b s (finish s r)
+  called_event : Answer b s (finish s r)
   unfolding finish accepted items_of choose Answer
-  called-event =
+  called_event =
       let a = c.active_view_capacity in
-      let k = ok-steps (number_of a b) ds room e w (pays a b) h in
+      let k = ok_steps (number_of a b) ds room e w (pays a b) h in
       by_choice (Answer b s) (eqb r.code 0)
       (λ z. let fine = eqb-true r.code 0 z in taken fine (omega (arith, (k.good fine).bytes_left)) (r.room - length r.out))
       (λ z. refused b s r.code r.room (eqb-false r.code 0 z))
@@ -152,4 +152,4 @@ called {s = s} ranges h v =
     by_side (Answer b s) v.side s b v.draws room (refused b s 16 room (λ q. omega (arith, q)))
     (rw (choose_yes (station_ok s) (handle_reading (read_event b) s ds room) (refusal 2 s room) (rules_of s ranges h))
     (by_form b v.are_bytes (λ (x : Reading). Answer b s (handle_reading x s ds room))
-    (λ n i j. refused b s n room (λ q. omega (arith, q, i))) (λ w f. called-event h b ds room w f)))
+    (λ n i j. refused b s n room (λ q. omega (arith, q, i))) (λ w f. called_event h b ds room w f)))

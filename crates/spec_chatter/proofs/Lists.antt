@@ -8,7 +8,7 @@ use Prim.Native.Nat.{ℕ}
 use lib.Dec.{eqb, ltb}
 use borrow.Author.Tests.{eqb-true, eqb-false, eq-eqb, ne_eqb}
 use Rattle.base_lists.specs.Lists.{mem, place, insert, without}
-use Rattle.base_lists.specs.Maps.{has, lookup, cut, put, replace, place-entry}
+use Rattle.base_lists.specs.Maps.{has, lookup, cut, put, replace, place_entry}
 use Rattle.base_lists.proofs.Choice.{by_choice, by_test, choose_yes, choose_no, split, clash}
 
 pub data Either (A B : Type 0) : Type 0 where
@@ -126,14 +126,14 @@ look_replace x p v (e ∷ m) n h =
     (λ t. look_cases x e (replace p v m) n (subst (λ (l : List (ℕ × ℕ)). lookup x l ≡ some n) (choose_no (eqb p e.0) ((p, v) ∷ replace p v m) (e ∷ replace p v m) t) h)
     (λ a b. right (look_here x e m n a b)) (λ a b. found_more x n p v e m a (look_replace x p v m n b)))
 
-look_place : (x p v : ℕ) (m : List (ℕ × ℕ)) (n : ℕ) → lookup x (place-entry p v m) ≡ some n → Found x n p v m
-unfolding place-entry
+look_place : (x p v : ℕ) (m : List (ℕ × ℕ)) (n : ℕ) → lookup x (place_entry p v m) ≡ some n → Found x n p v m
+unfolding place_entry
 look_place x p v [] n h = look_cases x (p, v) [] n h (λ a b. left (a, sym b)) (λ a b. right b)
 look_place x p v (e ∷ m) n h =
     split (ltb p e.0)
-    (λ t. look_cases x (p, v) (e ∷ m) n (subst (λ (l : List (ℕ × ℕ)). lookup x l ≡ some n) (choose_yes (ltb p e.0) ((p, v) ∷ e ∷ m) (e ∷ place-entry p v m) t) h)
+    (λ t. look_cases x (p, v) (e ∷ m) n (subst (λ (l : List (ℕ × ℕ)). lookup x l ≡ some n) (choose_yes (ltb p e.0) ((p, v) ∷ e ∷ m) (e ∷ place_entry p v m) t) h)
     (λ a b. left (a, sym b)) (λ a b. right b))
-    (λ t. look_cases x e (place-entry p v m) n (subst (λ (l : List (ℕ × ℕ)). lookup x l ≡ some n) (choose_no (ltb p e.0) ((p, v) ∷ e ∷ m) (e ∷ place-entry p v m) t) h)
+    (λ t. look_cases x e (place_entry p v m) n (subst (λ (l : List (ℕ × ℕ)). lookup x l ≡ some n) (choose_no (ltb p e.0) ((p, v) ∷ e ∷ m) (e ∷ place_entry p v m) t) h)
     (λ a b. right (look_here x e m n a b)) (λ a b. found_more x n p v e m a (look_place x p v m n b)))
 
 pub look_put : (x p v : ℕ) (m : List (ℕ × ℕ)) (n : ℕ) → lookup x (put p v m) ≡ some n → Either ((x ≡ p) × (n ≡ v)) (lookup x m ≡ some n)

@@ -12,7 +12,7 @@ use Rattle.base_lists.specs.Lists.{choose, is, mem, insert}
 use Rattle.base_lists.specs.Maps.{keys, lookup, put}
 use Rattle.base_lists.specs.Tests.{All}
 use Rattle.base_lists.proofs.Choice.{by_choice, choose_yes, choose_no, clash}
-use Rattle.base_lists.proofs.Maps.{keys-put}
+use Rattle.base_lists.proofs.Maps.{keys_put}
 use Rattle.record.specs.Format.{Rec, encode}
 use Rattle.base_peer.specs.Data.{Data}
 use Rattle.base_timing.specs.Timing.{join_retry_delay}
@@ -111,10 +111,10 @@ passed e h =
 
 pass_one : (e : Rec) (d : Book) → Passed e → note_sent e.kind e.message e.peer e.number d ≡ d
 unfolding note_sent
-pass_one e d h = rw (h.not_neighbor, ne_eqb e.kind (kind_byte PendingNeighborRequest) h.not_three) (same-book d)
+pass_one e d h = rw (h.not_neighbor, ne_eqb e.kind (kind_byte PendingNeighborRequest) h.not_three) (same_book d)
   where
-    same-book : (d : Book) → ◌≡◌ {A = Book} (record { told = choose false (insert e.peer d.told) d.told; asked = choose false (put e.peer e.number d.asked) d.asked }) d
-    same-book d = λ i. record { told = choose_no false (insert e.peer d.told) d.told refl i; asked = choose_no false (put e.peer e.number d.asked) d.asked refl i }
+    same_book : (d : Book) → ◌≡◌ {A = Book} (record { told = choose false (insert e.peer d.told) d.told; asked = choose false (put e.peer e.number d.asked) d.asked }) d
+    same_book d = λ i. record { told = choose_no false (insert e.peer d.told) d.told refl i; asked = choose_no false (put e.peer e.number d.asked) d.asked refl i }
 
 pass_all : (es : List Rec) (d : Book) → Plains es → sent_all es d ≡ d
 unfolding sent_all All
@@ -305,11 +305,11 @@ retries (e ∷ es) = choose (eqb e.kind (kind_byte RetryJoin)) ((e.peer, e.numbe
 retries_append : (a b : List Rec) → retries (a ++ b) ≡ retries a ++ retries b
 unfolding retries
 retries_append [] b = refl
-retries_append (e ∷ es) b = rw (retries_append es b) (by-kind-four (eqb e.kind (kind_byte RetryJoin)))
+retries_append (e ∷ es) b = rw (retries_append es b) (by_kind_four (eqb e.kind (kind_byte RetryJoin)))
   where
-    by-kind-four : (t : Bool) → choose t ((e.peer, e.number) ∷ (retries es ++ retries b)) (retries es ++ retries b) ≡ choose t ((e.peer, e.number) ∷ retries es) (retries es) ++ retries b
-    by-kind-four true = choose_yes true _ _ refl ∙ ap (λ (l : List (ℕ × ℕ)). l ++ retries b) (sym (choose_yes true _ _ refl))
-    by-kind-four false = choose_no false _ _ refl ∙ ap (λ (l : List (ℕ × ℕ)). l ++ retries b) (sym (choose_no false _ _ refl))
+    by_kind_four : (t : Bool) → choose t ((e.peer, e.number) ∷ (retries es ++ retries b)) (retries es ++ retries b) ≡ choose t ((e.peer, e.number) ∷ retries es) (retries es) ++ retries b
+    by_kind_four true = choose_yes true _ _ refl ∙ ap (λ (l : List (ℕ × ℕ)). l ++ retries b) (sym (choose_yes true _ _ refl))
+    by_kind_four false = choose_no false _ _ refl ∙ ap (λ (l : List (ℕ × ℕ)). l ++ retries b) (sym (choose_no false _ _ refl))
 
 among_left : (p n : ℕ) (xs ys : List (ℕ × ℕ)) → Among p n xs → Among p n (xs ++ ys)
 among_left p n (x ∷ xs) ys here = here
@@ -497,7 +497,7 @@ taken {f} {g} {r = r} {w} e p q m = record {
 
 noted_book : (p t : ℕ) (x : Data) (high : Bool) (s : Station) → sent_all (S.neighbor_to x high p ∷ R.timer (kind_byte PendingNeighborRequest) p t s.next_request ∷ []) (book_of s) ≡ book_of (S.note_request p s)
 unfolding sent_all note_sent is_neighbor choose S.neighbor_to S.note_request
-noted_book p t x high s = ap (λ (l : List ℕ). record { told = l; asked = put p s.next_request s.requests }) (sym (keys-put p s.next_request s.requests))
+noted_book p t x high s = ap (λ (l : List ℕ). record { told = l; asked = put p s.next_request s.requests }) (sym (keys_put p s.next_request s.requests))
 
 noted_may : (p t : ℕ) (x : Data) (high : Bool) (s : Station) → mem p (keys s.requests) ≡ false → may_all (S.neighbor_to x high p ∷ R.timer (kind_byte PendingNeighborRequest) p t s.next_request ∷ []) (book_of s) ≡ true
 unfolding may_all may_send note_sent is_neighbor choose S.neighbor_to

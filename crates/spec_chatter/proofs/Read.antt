@@ -13,13 +13,13 @@ use Rattle.base_lists.specs.Maps.{keys, put}
 use Rattle.base_lists.specs.Tests.{All}
 use Rattle.base_lists.specs.Bytes.{le, read_le}
 use Rattle.base_lists.proofs.Choice.{split, clash}
-use Rattle.base_lists.proofs.Maps.{keys-put}
+use Rattle.base_lists.proofs.Maps.{keys_put}
 use Rattle.record.specs.declared.Header.{Header}
 use Rattle.record.specs.Format.{Rec, size, header_by, encode, encode_by}
 use Rattle.record.specs.Read.{header_of, header_of_by}
 use Rattle.record.specs.Walk.{headers}
 use Rattle.record.proofs.Format.{length_encode}
-use Rattle.record.proofs.Walk.{records-written, records_zeros}
+use Rattle.record.proofs.Walk.{records_written, records_zeros}
 use Rattle.record.specs.Kinds.{PendingNeighborRequest, RetryJoin, kind_byte}
 use Rattle.spec_hyparview.specs.Station.{peers_end}
 use Rattle.spec_hyparview.specs.Written.{encode_all}
@@ -35,28 +35,28 @@ numbers_end = 18446744073709551616
 -- ---- items that list lower from P of all: a peer put in is one of those
 
 module _ (P : ℕ → Type 0) where
-  all-member : (p : ℕ) (xs : List ℕ) → mem p xs ≡ true → All P xs → P p
+  all_member : (p : ℕ) (xs : List ℕ) → mem p xs ≡ true → All P xs → P p
   unfolding mem All
-  all-member p [] m a = clash false m refl
-  all-member p (x ∷ xs) m a =
-      split (eqb p x) (λ t. subst P (sym (eqb-true p x t)) a.0) (λ t. all-member p xs (sym (ap (λ (b : Bool). cond b true (mem p xs)) t) ∙ m) a.1)
+  all_member p [] m a = clash false m refl
+  all_member p (x ∷ xs) m a =
+      split (eqb p x) (λ t. subst P (sym (eqb-true p x t)) a.0) (λ t. all_member p xs (sym (ap (λ (b : Bool). cond b true (mem p xs)) t) ∙ m) a.1)
 
-  place-back : (p : ℕ) (xs : List ℕ) → All P (place p xs) → P p × All P xs
+  place_back : (p : ℕ) (xs : List ℕ) → All P (place p xs) → P p × All P xs
   unfolding place All
-  place-back p [] a = (a.0, tt)
-  place-back p (x ∷ xs) a = go (ltb p x) (λ c. place-back p xs c) a
+  place_back p [] a = (a.0, tt)
+  place_back p (x ∷ xs) a = go (ltb p x) (λ c. place_back p xs c) a
     where
       go : (b : Bool) → (All P (place p xs) → P p × All P xs) → All P (cond b (p ∷ x ∷ xs) (x ∷ place p xs)) → P p × (P x × All P xs)
       go true g a = (a.0, a.1)
       go false g a = let k = g a.1 in (k.0, (a.0, k.1))
 
-  insert-back : (p : ℕ) (xs : List ℕ) → All P (insert p xs) → P p × All P xs
+  insert_back : (p : ℕ) (xs : List ℕ) → All P (insert p xs) → P p × All P xs
   unfolding insert
-  insert-back p xs a = go (mem p xs) refl a
+  insert_back p xs a = go (mem p xs) refl a
     where
       go : (b : Bool) → mem p xs ≡ b → All P (cond b xs (place p xs)) → P p × All P xs
-      go true e a = (all-member p xs e a, a)
-      go false e a = place-back p xs a
+      go true e a = (all_member p xs e a, a)
+      go false e a = place_back p xs a
 
 -- a record whose bytes the book reads as they were meant
 pub record Read (e : Rec) : Type 0 where
@@ -74,12 +74,12 @@ pub record Narrows (n : ℕ) (es : List Rec) (d : Book) : Type 0 where
 
 told_back : (b : Bool) (p : ℕ) (xs : List ℕ) → All Peer (choose b (insert p xs) xs) → (b ≡ true → Peer p) × All Peer xs
 unfolding choose
-told_back true p xs a = let k = insert-back Peer p xs a in ((λ _. k.0), k.1)
+told_back true p xs a = let k = insert_back Peer p xs a in ((λ _. k.0), k.1)
 told_back false p xs a = ((λ e. clash false e refl), a)
 
 asked_back : (b : Bool) (p n : ℕ) (m : List (ℕ × ℕ)) → All Peer (keys (choose b (put p n m) m)) → (b ≡ true → Peer p) × All Peer (keys m)
 unfolding choose
-asked_back true p n m a = let k = insert-back Peer p (keys m) (subst (All Peer) (keys-put p n m) a) in ((λ _. k.0), k.1)
+asked_back true p n m a = let k = insert_back Peer p (keys m) (subst (All Peer) (keys_put p n m) a) in ((λ _. k.0), k.1)
 asked_back false p n m a = ((λ e. clash false e refl), a)
 
 -- where the book after them keeps to the widths, so do the records, since nothing leaves the book
@@ -99,17 +99,17 @@ narrows n i h (e ∷ es) d l a b =
 -- ---- one record in front of other bytes
 
 module _ (e : Rec) (rest : List ℕ) where
-  kind-is : (header_of (encode e ++ rest)).kind ≡ e.kind
+  kind_is : (header_of (encode e ++ rest)).kind ≡ e.kind
   unfolding header_of_by encode_by header_by
-  kind-is = refl
+  kind_is = refl
 
-  message-is : (header_of (encode e ++ rest)).message ≡ e.message
+  message_is : (header_of (encode e ++ rest)).message ≡ e.message
   unfolding header_of_by encode_by header_by
-  message-is = refl
+  message_is = refl
 
-  peer-is : e.peer < peers_end → (header_of (encode e ++ rest)).peer ≡ e.peer
+  peer_is : e.peer < peers_end → (header_of (encode e ++ rest)).peer ≡ e.peer
   unfolding header_of_by encode_by header_by le read_le
-  peer-is h = omega (arith, h)
+  peer_is h = omega (arith, h)
 
   number_is : e.number < numbers_end → (header_of (encode e ++ rest)).number ≡ e.number
   unfolding header_of_by encode_by header_by le read_le
@@ -137,18 +137,18 @@ module _ (e : Rec) (rest : List ℕ) (h : Read e) (d : Book) where
   noted : note_item (went head) d ≡ note_sent e.kind e.message e.peer e.number d
   unfolding note_item note_sent
   noted =
-      rw (kind-is e rest, message-is e rest)
+      rw (kind_is e rest, message_is e rest)
       (λ i. record {
-        told = told_same (is_neighbor e.kind e.message) head.peer e.peer d.told (λ t. peer-is e rest (h.neighbor t)) i;
+        told = told_same (is_neighbor e.kind e.message) head.peer e.peer d.told (λ t. peer_is e rest (h.neighbor t)) i;
         asked = asked_same (eqb e.kind (kind_byte PendingNeighborRequest)) head.peer e.peer head.number e.number d.asked
-            (λ t. peer-is e rest (h.timer (eqb-true e.kind (kind_byte PendingNeighborRequest) t))) (λ t. number_is e rest (h.number (eqb-true e.kind (kind_byte PendingNeighborRequest) t))) i;
+            (λ t. peer_is e rest (h.timer (eqb-true e.kind (kind_byte PendingNeighborRequest) t))) (λ t. number_is e rest (h.number (eqb-true e.kind (kind_byte PendingNeighborRequest) t))) i;
       })
 
   allowed : may (went head) d ≡ may_send e.kind e.message e.peer d
   unfolding may may_send
   allowed =
-      rw (kind-is e rest, message-is e rest)
-      (may_same (is_neighbor e.kind e.message) head.peer e.peer d.told (λ t. peer-is e rest (h.neighbor t)))
+      rw (kind_is e rest, message_is e rest)
+      (may_same (is_neighbor e.kind e.message) head.peer e.peer d.told (λ t. peer_is e rest (h.neighbor t)))
 
 -- ---- a whole output
 
@@ -161,7 +161,7 @@ no_items zeros = rw (records_zeros zeros)
 
 one_item : (e : Rec) (rest : List ℕ) → size e < 65536 → items (encode e ++ rest) ≡ went (header_of (encode e ++ rest)) ∷ items rest
 unfolding headers
-one_item e rest s = ap (λ (bs : List (List ℕ)). map went (map header_of bs)) (records-written e rest s)
+one_item e rest s = ap (λ (bs : List (List ℕ)). map went (map header_of bs)) (records_written e rest s)
 
 -- what is read of the output of records that were written
 pub record ReadAs (es : List Rec) (xs : List Item) (d : Book) : Type 0 where
@@ -198,7 +198,7 @@ count_all (e ∷ es) zeros l =
     let c = count_all es zeros (omega (arith, length-append (encode e) (encode_all es))) in
     let q : items (encode_all (e ∷ es) ++ replicate zeros 0) ≡ went (header_of (encode e ++ rest)) ∷ items rest = ap items (append_assoc (encode e) (encode_all es) (replicate zeros 0)) ∙ one_item e rest s in
     subst (Counted (e ∷ es)) (sym q) (record {
-      set = λ k. ap (λ (n : ℕ). n + times_scheduled k (items rest)) (ap (λ (x : ℕ). is x k) (kind-is e rest)) ∙ ap (λ (n : ℕ). is e.kind k + n) (c.set k);
+      set = λ k. ap (λ (n : ℕ). n + times_scheduled k (items rest)) (ap (λ (x : ℕ). is x k) (kind_is e rest)) ∙ ap (λ (n : ℕ). is e.kind k + n) (c.set k);
       gone = c.gone;
       none = c.none;
     })
@@ -235,9 +235,9 @@ retries_read n i top (e ∷ es) zeros l h x m ws a =
     let head = header_of (encode e ++ rest) in
     let q : items (encode_all (e ∷ es) ++ replicate zeros 0) ≡ went head ∷ items rest = ap items (append_assoc (encode e) (encode_all es) (replicate zeros 0)) ∙ one_item e rest s in
     let k : choose (eqb head.kind 4) ((head.peer, head.number) ∷ ws) ws ≡ choose (eqb e.kind (kind_byte RetryJoin)) ((e.peer, e.number) ∷ ws) ws =
-    ap (λ (y : ℕ). choose (eqb y 4) ((head.peer, head.number) ∷ ws) ws) (kind-is e rest)
+    ap (λ (y : ℕ). choose (eqb y 4) ((head.peer, head.number) ∷ ws) ws) (kind_is e rest)
     ∙ pair_same (eqb e.kind (kind_byte RetryJoin)) head.peer e.peer head.number e.number ws
-    (λ t. peer-is e rest (h.0.1 (eqb-true e.kind (kind_byte RetryJoin) t)).0) (λ t. let b = (h.0.1 (eqb-true e.kind (kind_byte RetryJoin) t)).1 in number_is e rest (omega (arith, b, top))) in
+    (λ t. peer_is e rest (h.0.1 (eqb-true e.kind (kind_byte RetryJoin) t)).0) (λ t. let b = (h.0.1 (eqb-true e.kind (kind_byte RetryJoin) t)).1 in number_is e rest (omega (arith, b, top))) in
     subst (λ (xs : List Item). Among x m (waiting (kind_byte RetryJoin) xs ws)) (sym q)
     (subst (λ (ys : List (ℕ × ℕ)). Among x m (waiting (kind_byte RetryJoin) (items rest) ys)) (sym k)
     (retries_read n i top es zeros (omega (arith, length-append (encode e) (encode_all es))) h.1 x m _ (meets x m (eqb e.kind (kind_byte RetryJoin)) (e.peer, e.number) ws (retries es) a)))

@@ -11,7 +11,7 @@ use borrow.Author.Tests.{eqb-true, eqb-false}
 use Rattle.base_lists.specs.Lists.{choose, is}
 use Rattle.base_lists.specs.Maps.{keys, lookup, cut}
 use Rattle.base_lists.proofs.Choice.{by_choice, choose_yes, choose_no, clash}
-use Rattle.base_lists.proofs.Maps.{keys-cut}
+use Rattle.base_lists.proofs.Maps.{keys_cut}
 use Rattle.base_peer.specs.Data.{Data, Node}
 use Rattle.record.specs.Kinds.{EventKind, Message, DoShuffle, DoMaintenance, PendingNeighborRequest, RetryJoin, PeerDisconnected, RequestJoin, UpdatePeerData, Quit, Pin, kind_byte, is_found, is_event_kind}
 use Rattle.record.specs.Format.{Rec}
@@ -199,7 +199,7 @@ add_active p d high reply r =
 
 drops_request : (p : ℕ) (r : Run) → Moves (shut p) 0 0 r (on (M.drop_request p) r)
 unfolding M.drop_request shut
-drops_request p r = opening _ _ (λ s i. record { told = keys-cut p s.requests i; asked = cut p s.requests }) (λ s. refl) (λ s. refl) r
+drops_request p r = opening _ _ (λ s i. record { told = keys_cut p s.requests i; asked = cut p s.requests }) (λ s. refl) (λ s. refl) r
 
 drop_pending : (p : ℕ) (r : Run) → Moves (shut p) 0 0 r (M.drop_pending p r)
 unfolding M.drop_pending
@@ -374,22 +374,22 @@ module _ (e : Rec) (narrow : e.peer < peers_end) (few : e.kind ≡ kind_byte Mes
   abbrev Event : ℕ → Run → Type 0
   Event k w = Moves (note_event k e.message e.peer e.number) (is k (kind_byte DoShuffle)) (is k (kind_byte DoMaintenance)) r w
 
-  by-each : (k : EventKind) → e.kind ≡ kind_byte k → Event (kind_byte k) (H.handle_kind (some k) e r)
+  by_each : (k : EventKind) → e.kind ≡ kind_byte k → Event (kind_byte k) (H.handle_kind (some k) e r)
   unfolding H.handle_kind E.update_own_data note_event closes choose is
-  by-each Message z = handle_message e (few z) r
-  by-each DoShuffle z = shuffle_timer r
-  by-each DoMaintenance z = maintenance_timer r
-  by-each PendingNeighborRequest z = neighbor_timer _ _ r
-  by-each RetryJoin z = quietly (retry_join _ _ r)
-  by-each PeerDisconnected z = connection_closed _ r
-  by-each RequestJoin z = handle_join _ narrow r
-  by-each UpdatePeerData z = quietly (changes _ (λ s. refl) r)
-  by-each Quit z = handle_quit r
-  by-each Pin z = quietly (pin _ r)
+  by_each Message z = handle_message e (few z) r
+  by_each DoShuffle z = shuffle_timer r
+  by_each DoMaintenance z = maintenance_timer r
+  by_each PendingNeighborRequest z = neighbor_timer _ _ r
+  by_each RetryJoin z = quietly (retry_join _ _ r)
+  by_each PeerDisconnected z = connection_closed _ r
+  by_each RequestJoin z = handle_join _ narrow r
+  by_each UpdatePeerData z = quietly (changes _ (λ s. refl) r)
+  by_each Quit z = handle_quit r
+  by_each Pin z = quietly (pin _ r)
 
   -- of each kind of event; no event is of another
   pub dispatch : is_event_kind e.kind ≡ true → Event e.kind (H.dispatch e r)
   unfolding H.dispatch is_event_kind is_found
   dispatch =
       by_kind (λ (o : Option EventKind). is_found o ≡ true → Event e.kind (H.handle_kind o e r)) e.kind (λ _ f. clash false f refl)
-      (λ k z f. subst (λ (x : ℕ). Event x (H.handle_kind (some k) e r)) (sym z) (by-each k z))
+      (λ k z f. subst (λ (x : ℕ). Event x (H.handle_kind (some k) e r)) (sym z) (by_each k z))

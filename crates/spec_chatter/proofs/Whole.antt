@@ -20,7 +20,7 @@ use Rattle.spec_hyparview.specs.Rules.{short_data}
 use Rattle.spec_hyparview.specs.Handle.{Made, new, new_station}
 use Rattle.spec_history.specs.Ledger.{Ledger}
 use Rattle.spec_history.specs.Calls.{Call, NewGiven, state_after, definition}
-use Rattle.spec_history.proofs.Kept.{Kept, fine-answer, kept_new, accepted_new}
+use Rattle.spec_history.proofs.Kept.{Kept, fine_answer, kept_new, accepted_new}
 use Rattle.spec_chatter.specs.Traffic.{Item, came, went, traffic}
 use Rattle.spec_chatter.proofs.Book.{Book, empty_book, book_after, keeps_book}
 use Rattle.spec_chatter.specs.Claims.{times_scheduled, times_expired, accepted_events, waiting, Among, Chatter, ChatterHolds}
@@ -69,43 +69,43 @@ joined {xs} {ys} {s} {t} {u} f g = record {
 follows : {c : Config} {me : ℕ} → in_range c ≡ true → (vs : List Call) {l : Ledger} {s : Station} → Kept c me l s → Follows (traffic definition vs s) s (state_after definition vs s)
 unfolding traffic state_after
 follows ranges [] {s = s} h = no_more s
-follows ranges (v ∷ vs) h = joined (called ranges h v) (follows ranges vs (fine-answer ranges v h).kept)
+follows ranges (v ∷ vs) h = joined (called ranges h v) (follows ranges vs (fine_answer ranges v h).kept)
 
 module _ (me : ℕ) (d : Data) (c : Config) where
   abbrev fresh : Station
   fresh = new_station me d c
 
-  no-book : book_of fresh ≡ empty_book
+  no_book : book_of fresh ≡ empty_book
   unfolding new_station empty_book keys
-  no-book = refl
+  no_book = refl
 
-  not-running : running fresh ≡ 0
+  not_running : running fresh ≡ 0
   unfolding new_station choose
-  not-running = refl
+  not_running = refl
 
   none_asked : (p n : ℕ) → lookup p empty_book.asked ≡ some n → Among p n []
   unfolding empty_book lookup
   none_asked p n e = none_found e
 
-  none-awaited : Timed fresh.joins []
+  none_awaited : Timed fresh.joins []
   unfolding new_station lookup
-  none-awaited p n e = none_found e
+  none_awaited p n e = none_found e
 
   from_new : NewGiven me d → in_range c ≡ true → short_data d ≡ true → (vs : List Call) → Chatter (traffic definition vs fresh) (state_after definition vs fresh)
   from_new given r sd vs =
       let xs = traffic definition vs fresh in
       let f = follows r vs (kept_new me d c given r sd) in
-      let k : keeps_book xs empty_book ≡ true = ap (keeps_book xs) (sym no-book) ∙ f.clean in
-      let b : book_after xs empty_book ≡ book_of (state_after definition vs fresh) = ap (book_after xs) (sym no-book) ∙ f.books in
+      let k : keeps_book xs empty_book ≡ true = ap (keeps_book xs) (sym no_book) ∙ f.clean in
+      let b : book_after xs empty_book ≡ book_of (state_after definition vs fresh) = ap (book_after xs) (sym no_book) ∙ f.books in
       record {
         no_chatter = in_words xs k;
         one_in_each_event = event_between xs k;
         no_lost_clock = record {
-          shuffles = λ e. let o = f.starts (omega (arith, e)) in omega (arith, f.ones, o, not-running);
-          maintenance = λ e. let o = f.starts (omega (arith, e)) in omega (arith, f.twos, o, not-running);
+          shuffles = λ e. let o = f.starts (omega (arith, e)) in omega (arith, f.ones, o, not_running);
+          maintenance = λ e. let o = f.starts (omega (arith, e)) in omega (arith, f.twos, o, not_running);
         };
         requests_timed = λ p n q. timed_after xs empty_book [] none_asked p n (subst (λ (x : Book). lookup p x.asked ≡ some n) (sym b) q);
-        joins_timed = f.awaits [] none-awaited;
+        joins_timed = f.awaits [] none_awaited;
       }
 
 -- Whatever is brought to a new station: no Neighbor is sent twice without a reason, both clocks go on, and each open request and each join awaiting retry has its timer.

@@ -50,16 +50,16 @@ told_zeroes n = told_written (replicate n 0) (record { records = []; in_form = t
 
 -- of any machine that names the evictions of one call and refuses with zeroes
 module _ {G S : Type 0} {m : Machine G S} (station : S → Station) (names : E.NamesEvictedOf m station) (refuses : RefusalsOf m) where
-  told-once : (v : Call) (s : S) → all_under draws_end v.draws ≡ true → told (output_of m v s) ≡ choose (eqb (code_of m v s) 0) (evicted_in station v s) []
-  told-once v s n =
+  told_once : (v : Call) (s : S) → all_under draws_end v.draws ≡ true → told (output_of m v s) ≡ choose (eqb (code_of m v s) 0) (evicted_in station v s) []
+  told_once v s n =
       split (eqb (code_of m v s) 0)
       (λ y. let k = names s v n (eqb-true _ _ y) in told_written _ k.written ∙ (k.exactly ∙ sym (choose_yes _ _ _ y)))
       (λ z. ap told (refuses s v (eqb-false _ _ z)).zeroes ∙ (told_zeroes (length v.output) ∙ sym (choose_no _ _ _ z)))
 
-  pub told-all : E.EvictionsToldOf m station
+  pub told_all : E.EvictionsToldOf m station
   unfolding told_after evicted_after narrow_draws
-  told-all [] s n = refl
-  told-all (v ∷ vs) s n = λ i. told-once v s (and_left (all_under draws_end v.draws) _ n) i ++ told-all vs (state_of m v s) (and_right (all_under draws_end v.draws) _ n) i
+  told_all [] s n = refl
+  told_all (v ∷ vs) s n = λ i. told_once v s (and_left (all_under draws_end v.draws) _ n) i ++ told_all vs (state_of m v s) (and_right (all_under draws_end v.draws) _ n) i
 
 evicted_named : (v : Call) (s : Station) → station_ok s ≡ true → all_under draws_end v.draws ≡ true → (result_of v s).code ≡ 0 → Names (evicted_in (λ g. g) v s) (result_of v s).output
 unfolding answered refusal
@@ -81,7 +81,7 @@ pub names_evicted_by_value : E.NamesEvictedByValue
 names_evicted_by_value s v n z = names_evicted s.words v n z
 
 pub evictions_told : E.EvictionsTold
-evictions_told = told-all unpack names_evicted refusals_kept
+evictions_told = told_all unpack names_evicted refusals_kept
 
 pub evictions_told_by_value : E.EvictionsToldByValue
-evictions_told_by_value = told-all unpack_state names_evicted_by_value refusals_kept_by_value
+evictions_told_by_value = told_all unpack_state names_evicted_by_value refusals_kept_by_value

@@ -23,7 +23,7 @@ use Rattle.spec_hyparview.specs.Sides.{Side, wired, radio_draws, draws_from, han
 use Rattle.spec_hyparview.proofs.Sides.{by_side}
 use Rattle.spec_hyparview.proofs.Sides as sides
 use Rattle.spec_hyparview.proofs.Enough.{enough}
-use Rattle.spec_hyparview.proofs.Decided.{fewer_as, fewer-kept, most-kept}
+use Rattle.spec_hyparview.proofs.Decided.{fewer_as, fewer_kept, most_kept}
 use Rattle.spec_hyparview.proofs.Uncrowded as crowded
 use Rattle.spec_hyparview.proofs.Unreachable as unreachable
 use Rattle.spec_history.specs.Calls.{Call, NewGiven, result_of, answered, state_after, codes}
@@ -33,11 +33,11 @@ use Rattle.spec_history.specs.Outputs.{OutputsRead, OutputsOf}
 use Rattle.spec_history.specs.Rejoin.{ticks, Promised}
 use Rattle.spec_history.specs.Packing.{Packs}
 use Rattle.spec_history.specs.Pinned.{no_partings}
-use Rattle.spec_history.proofs.Pinned.{pins-packed}
-use Rattle.spec_history.proofs.Packing.{demand-packed, eight-packed, rejoin-packed, outputs-packed, states-packed}
+use Rattle.spec_history.proofs.Pinned.{pins_packed}
+use Rattle.spec_history.proofs.Packing.{demand_packed, eight_packed, rejoin_packed, outputs_packed, states_packed}
 use Rattle.tally.proofs.History.{counts_all}
 use Rattle.shuffle_times.specs.Claims.{Timed}
-use Rattle.shuffle_times.proofs.Packed.{timed-packed}
+use Rattle.shuffle_times.proofs.Packed.{timed_packed}
 use Rattle.hyparview_state.specs.Layout.{words}
 use Rattle.hyparview_state.specs.Unpack.{unpack}
 use Rattle.hyparview_rules.specs.Pack.{pack}
@@ -96,16 +96,16 @@ from_new X me g c z h =
 -- Demand 3 for the program.
 pub demand_3_holds : D.Demand3Holds
 demand_3_holds me g c t z vs =
-    from_new (λ (s : List ℕ). Demand3 program unpack state_ok me c s vs) me g c z (λ e. demand-packed packs me (program.own g) c t e vs)
+    from_new (λ (s : List ℕ). Demand3 program unpack state_ok me c s vs) me g c z (λ e. demand_packed packs me (program.own g) c t e vs)
 
 pub rejoin_promise : D.RejoinPromise
 rejoin_promise me g c t z vs =
-    from_new (λ (s : List ℕ). Promised (ticks program unpack vs s)) me g c z (λ e. rejoin-packed packs me (program.own g) c t e vs)
+    from_new (λ (s : List ℕ). Promised (ticks program unpack vs s)) me g c z (λ e. rejoin_packed packs me (program.own g) c t e vs)
 
 -- What the program writes is read back, and every message is counted.
 pub outputs_read_back : D.OutputsReadBack
 outputs_read_back me g c t z vs n =
-    from_new (λ (s : List ℕ). OutputsRead program vs s) me g c z (λ e. outputs-packed packs me (program.own g) c t e vs n)
+    from_new (λ (s : List ℕ). OutputsRead program vs s) me g c z (λ e. outputs_packed packs me (program.own g) c t e vs n)
 
 pub every_message_counted : D.EveryMessageCounted
 every_message_counted me g c t z vs n = counts_all program _ vs _ (outputs_read_back me g c t z vs n)
@@ -113,7 +113,7 @@ every_message_counted me g c t z vs n = counts_all program _ vs _ (outputs_read_
 -- When the program's shuffles are due.
 pub shuffles_timed : D.ShufflesTimed
 shuffles_timed me g c t z =
-    from_new (λ (s : List ℕ). Timed program c s) me g c z (λ e. timed-packed packs me (program.own g) c t e)
+    from_new (λ (s : List ℕ). Timed program c s) me g c z (λ e. timed_packed packs me (program.own g) c t e)
 
 -- A refused `new` hands back zeroes.
 zeroes : replicate words 0 ≡ pad {A = ℕ} 0 words []
@@ -137,31 +137,31 @@ wired_call b bytes ds out = record { side = wired; event = b; are_bytes = bytes;
 
 module _ (xs : List ℕ) (ok : state_ok xs ≡ true) (v : Call) where
   -- whatever draws are lent
-  lent-with : (l : List ℕ) → program_outcome wired v.event l v.output xs ≡ packed_answer (Handle.handle (unpack xs) v.event l (length v.output))
+  lent_with : (l : List ℕ) → program_outcome wired v.event l v.output xs ≡ packed_answer (Handle.handle (unpack xs) v.event l (length v.output))
   unfolding answered handle_from
-  lent-with l = answers xs ok (wired_call v.event v.are_bytes l v.output)
+  lent_with l = answers xs ok (wired_call v.event v.are_bytes l v.output)
 
   -- which draws are kept is the program's as it is the definition's
-  kept-as : (n : ℕ) (ds : List ℕ)
+  kept_as : (n : ℕ) (ds : List ℕ)
       → FewerKept n (λ l. (Handle.handle (unpack xs) v.event l (length v.output)).code) (λ l. (Handle.handle (unpack xs) v.event l (length v.output)).used) (λ l. (Handle.handle (unpack xs) v.event l (length v.output)).state) ds
       → FewerKept n (λ l. (program_outcome wired v.event l v.output xs).code) (λ l. (program_outcome wired v.event l v.output xs).draws) (λ l. unpack (program_outcome wired v.event l v.output xs).words) ds
   unfolding packed_answer
-  kept-as n ds k =
-      fewer_as (λ (g : Station). unpack (pack g)) (λ l. ap (λ (x : Outcome). x.code) (lent-with l)) (λ l. ap (λ (x : Outcome). x.draws) (lent-with l)) (λ l. ap (λ (x : Outcome). unpack x.words) (lent-with l)) k
+  kept_as n ds k =
+      fewer_as (λ (g : Station). unpack (pack g)) (λ l. ap (λ (x : Outcome). x.code) (lent_with l)) (λ l. ap (λ (x : Outcome). x.draws) (lent_with l)) (λ l. ap (λ (x : Outcome). unpack x.words) (lent_with l)) k
 
 -- A draw is missed only where fewer than 512 were kept, an accepted call keeps at most 512 of those it uses, and 512 draws below 2^32 - 32 and 8,192 bytes suffice, whatever the event and the words that keep the rules.
 enough_wired : (xs : List ℕ) → state_ok xs ≡ true → (v : Call) → D.Suffices program unpack xs (wired_call v.event v.are_bytes v.draws v.output)
 unfolding answered packed_answer handle_from
 enough_wired xs ok v =
     let room = length v.output in
-    let e = lent-with xs ok v v.draws in
+    let e = lent_with xs ok v v.draws in
     let code = ap (λ (x : Outcome). x.code) e in
     let draws = ap (λ (x : Outcome). x.draws) e in
     let k = enough (unpack xs) (rules_kept xs ok) v.draws room v.event v.are_bytes in
     record {
-      five = λ f. kept-as xs ok v 512 v.draws (fewer-kept (unpack xs) (rules_kept xs ok) v.event v.are_bytes v.draws room (sym code ∙ f));
+      five = λ f. kept_as xs ok v 512 v.draws (fewer_kept (unpack xs) (rules_kept xs ok) v.event v.are_bytes v.draws room (sym code ∙ f));
       kept_used = λ z. subst (λ (n : ℕ). FewerKept 513 (λ l. (program_outcome wired v.event l v.output xs).code) (λ l. (program_outcome wired v.event l v.output xs).draws) (λ l. unpack (program_outcome wired v.event l v.output xs).words) (take n v.draws))
-          (sym draws) (kept-as xs ok v 513 (take (Handle.handle (unpack xs) v.event v.draws room).used v.draws) (most-kept (unpack xs) (rules_kept xs ok) v.event v.are_bytes v.draws room (sym code ∙ z)));
+          (sym draws) (kept_as xs ok v 513 (take (Handle.handle (unpack xs) v.event v.draws room).used v.draws) (most_kept (unpack xs) (rules_kept xs ok) v.event v.are_bytes v.draws room (sym code ∙ z)));
       no_five = λ h a f. k.no_five h a (sym code ∙ f);
       no_nine = λ h f. k.no_nine h (sym code ∙ f);
       draws_used = draws;
@@ -220,13 +220,13 @@ never_eight xs ok v e =
 
 pub never_eight_after : D.NeverEightAfter
 never_eight_after me g c t z vs =
-    from_new (λ (s : List ℕ). mem 8 (codes program vs s) ≡ false) me g c z (λ e. eight-packed packs me (program.own g) c t e vs)
+    from_new (λ (s : List ℕ). mem 8 (codes program vs s) ≡ false) me g c z (λ e. eight_packed packs me (program.own g) c t e vs)
 
 -- A pinned neighbour stays one.
 pub pins_stay : D.PinsStay
 pins_stay me g c t z vs ws p =
     from_new (λ (s : List ℕ). mem p (unpack (state_after program vs s)).pins ≡ true → no_partings p ws ≡ true → (mem p (unpack (state_after program (vs ++ ws) s)).pins ≡ true) × (mem p (unpack (state_after program (vs ++ ws) s)).active ≡ true)) me g c z
-    (λ e. pins-packed packs me (program.own g) c t e vs ws p)
+    (λ e. pins_packed packs me (program.own g) c t e vs ws p)
 
 -- `unreachable!` is never reached.
 pub never_unreachable : D.NeverUnreachable
@@ -251,20 +251,20 @@ value_packs = record {
 pub states_same : (me : ℕ) (g : Bool × List ℕ) (c : Config) → NewGiven me (value_program.own g) → value_program.new_code me g c ≡ 0
     → (vs : List Call) → state_after value_program vs (value_program.new_state me g c) ≡ record { words = pack (state_after calls.definition vs (Handle.new me (value_program.own g) c).state) }
 unfolding made_state pack_made
-states_same me g c t z vs = states-packed value_packs me (value_program.own g) c t z vs
+states_same me g c t z vs = states_packed value_packs me (value_program.own g) c t z vs
 
 pub by_value_holds : D.ByValueHolds
 unfolding made_state pack_made
 by_value_holds =
-    let demand : Demand3Of value_program unpack_state state_passes = (λ me g c t z vs. demand-packed value_packs me (value_program.own g) c t z vs) in
-    let outputs : OutputsOf value_program = (λ me g c t z vs n. outputs-packed value_packs me (value_program.own g) c t z vs n) in
+    let demand : Demand3Of value_program unpack_state state_passes = (λ me g c t z vs. demand_packed value_packs me (value_program.own g) c t z vs) in
+    let outputs : OutputsOf value_program = (λ me g c t z vs n. outputs_packed value_packs me (value_program.own g) c t z vs n) in
     record {
       demand_3 = demand;
-      rejoins = λ me g c t z vs. rejoin-packed value_packs me (value_program.own g) c t z vs;
+      rejoins = λ me g c t z vs. rejoin_packed value_packs me (value_program.own g) c t z vs;
       read_back = outputs;
       counted = λ me g c t z vs n. counts_all value_program _ vs _ (outputs me g c t z vs n);
-      timed = λ me g c t z. timed-packed value_packs me (value_program.own g) c t z;
-      never_eight = λ me g c t z vs. eight-packed value_packs me (value_program.own g) c t z vs;
-      pins_stay = λ me g c t z vs ws p. pins-packed value_packs me (value_program.own g) c t z vs ws p;
+      timed = λ me g c t z. timed_packed value_packs me (value_program.own g) c t z;
+      never_eight = λ me g c t z vs. eight_packed value_packs me (value_program.own g) c t z vs;
+      pins_stay = λ me g c t z vs ws p. pins_packed value_packs me (value_program.own g) c t z vs ws p;
       goes_on = λ me g c t z vs. never_unreachable (state_after value_program vs (value_program.new_state me g c)).words (demand me g c t z vs).rules_hold;
     }

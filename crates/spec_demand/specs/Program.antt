@@ -1,5 +1,5 @@
 -- What is claimed of the program: of every list of calls of `handle`, from the words that `new` filled.
--- `program_made` and `program_outcome` are what the contracts of `hyparview::new` and `hyparview::handle_from` say; the check ties them to the claims by `new-says` and `handle-says`, and the form by value in the same way (proofs/Tied).
+-- `program_made` and `program_outcome` are what the contracts of `hyparview::new` and `hyparview::handle_from` say; the check ties them to the claims by `new_says` and `handle_says`, and the form by value in the same way (proofs/Tied).
 -- Assumes nothing.
 use Rattle.std.specs.Prelude.{ℕ, ◌≤◌, ◌≡◌, Bool, true, false, List, length, take, replicate, get_or}
 use Rattle.base_lists.specs.Lists.{null, without}

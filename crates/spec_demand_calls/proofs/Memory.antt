@@ -22,7 +22,7 @@ use Rattle.tally.specs.Counts.{top}
 use Rattle.tally.specs.Sum.{total}
 use Rattle.tally.specs.History.{no_messages, tally_after}
 use Rattle.shuffle_times.specs.Histories.{Brought, set_by, shuffles_due, counts, start_of, fires, is_first, on_time, punctual, every_timer_fires, timer_kinds, none_asked, none_numbered, numbered_kinds}
-use Rattle.shuffle_times.proofs.Carried.{timed-carried}
+use Rattle.shuffle_times.proofs.Carried.{timed_carried}
 use Rattle.hyparview_state.specs.Unpack.{unpack}
 use Rattle.hyparview_rules.specs.Ok.{state_ok}
 use Rattle.controller.specs.Calls.{with_tally, begun, tallied, called}
@@ -140,7 +140,7 @@ pub shuffles_timed : M.ShufflesTimed
 unfolding memory_made begun with_tally D.program_made
 shuffles_timed me g c t z =
     let start = c_calls.new_state me g c in
-    timed-carried (λ vs. shuffles_follow vs start) (λ vs. start_follows vs start) (λ vs. on_time_follows vs start []) (λ vs. every_follows vs start) (λ vs. numbered_follow vs start) c (P.shuffles_timed me (lent_by g) c t z)
+    timed_carried (λ vs. shuffles_follow vs start) (λ vs. start_follows vs start) (λ vs. on_time_follows vs start []) (λ vs. every_follows vs start) (λ vs. numbered_follow vs start) c (P.shuffles_timed me (lent_by g) c t z)
 
 -- One call: the tally stands beside the answer, and changes neither code nor draws.
 pub enough_lent : M.EnoughLent

@@ -27,21 +27,21 @@ held s t = record { words = s.now; tally = t.now }
 
 module _ {M : Type 1} {𝓤 : Ura M} (𝓛 : Logic 𝓤) (at_mem : Memory → SProp 𝓤) (run : Routine → Fun 𝓤) where
   module _ (κs : Lfts 3) (s : Bor (List ℕ)) (t : Bor Tally) (me present : ℕ) (own : Bor (List ℕ)) (c : Config) where
-    pub new-asks : (new.clauses 𝓛 at_mem run κs (s, (t, (me, (present, (own, (c, tt))))))).requires tt ≡ (connectives 𝓤).⊤ₛ
-    new-asks = refl
+    pub new_asks : (new.clauses 𝓛 at_mem run κs (s, (t, (me, (present, (own, (c, tt))))))).requires tt ≡ (connectives 𝓤).⊤ₛ
+    new_asks = refl
 
-    pub new-says : (s' : Bor (List ℕ)) (t' : Bor Tally) (own' : Bor (List ℕ)) (code : ℕ)
+    pub new_says : (s' : Bor (List ℕ)) (t' : Bor Tally) (own' : Bor (List ℕ)) (code : ℕ)
         → (new.clauses 𝓛 at_mem run κs (s, (t, (me, (present, (own, (c, tt))))))).ensures tt code (s', (t', (me, (present, (own', (c, tt))))))
         ≡ fact 𝓤 (record { code = code; words = s'.now; tally = t'.now } ≡ memory_made (held s t) me present own.now c)
     unfolding memory_made
-    new-says s' t' own' code = refl
+    new_says s' t' own' code = refl
 
   module _ (κs : Lfts 5) (s : Bor (List ℕ)) (t : Bor Tally) (radio : Bool) (e d o : Bor (List ℕ)) where
-    pub handle-asks : (handle.clauses 𝓛 at_mem run κs (s, (t, (radio, (e, (d, (o, tt))))))).requires tt ≡ (connectives 𝓤).⊤ₛ
-    handle-asks = refl
+    pub handle_asks : (handle.clauses 𝓛 at_mem run κs (s, (t, (radio, (e, (d, (o, tt))))))).requires tt ≡ (connectives 𝓤).⊤ₛ
+    handle_asks = refl
 
-    pub handle-says : (s' : Bor (List ℕ)) (t' : Bor Tally) (e' d' o' : Bor (List ℕ)) (r : Done)
+    pub handle_says : (s' : Bor (List ℕ)) (t' : Bor Tally) (e' d' o' : Bor (List ℕ)) (r : Done)
         → (handle.clauses 𝓛 at_mem run κs (s, (t, (radio, (e, (d, (o, tt))))))).ensures tt r (s', (t', (radio, (e', (d', (o', tt))))))
         ≡ fact 𝓤 (record { code = r.code; draws = r.draws; words = s'.now; tally = t'.now; output = o'.now } ≡ memory_outcome (side_of radio) e.now d.now o.now (held s t))
     unfolding memory_outcome
-    handle-says s' t' e' d' o' r = refl
+    handle_says s' t' e' d' o' r = refl

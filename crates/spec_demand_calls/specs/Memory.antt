@@ -1,5 +1,5 @@
 -- What is claimed of the calls from C: of every list of calls of `hyparview_handle`, from the words and the tally that `hyparview_new` filled.
--- `memory_made` and `memory_outcome` are what the contracts of the two exported functions say; the check ties them to the claims by `new-says` and `handle-says`.
+-- `memory_made` and `memory_outcome` are what the contracts of the two exported functions say; the check ties them to the claims by `new_says` and `handle_says`.
 -- Assumes nothing.
 use Rattle.std.specs.Prelude.{ℕ, ◌≤◌, ◌≡◌, Bool, true, not, List, length, take, replicate, get_or, eqb}
 use Rattle.base_timing.specs.declared.Config.{Config}

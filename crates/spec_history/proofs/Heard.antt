@@ -13,7 +13,7 @@ use Rattle.base_lists.specs.Bytes.{le, read_le}
 use Rattle.base_lists.proofs.Choice.{split, choose_no}
 use Rattle.record.specs.Format.{Rec, header_by, encode, encode_by}
 use Rattle.record.specs.Walk.{kind_in, peer_in, records_in, walk}
-use Rattle.record.proofs.Walk.{records-written, records_zeros}
+use Rattle.record.proofs.Walk.{records_written, records_zeros}
 use Rattle.spec_hyparview.specs.Station.{peers_end}
 use Rattle.spec_hyparview.specs.Written.{encode_all}
 use Rattle.spec_hyparview.proofs.Told.{spell, note, up_after, sent_after, Sound, AllSound, no_more, one_more}
@@ -56,16 +56,16 @@ enter_same k p q l h =
 
 -- one record in front of other bytes
 module _ (e : Rec) (rest : List ℕ) (s : Sound e) where
-  peer-is : e.peer < peers_end → peer_in (encode e ++ rest) ≡ e.peer
+  peer_is : e.peer < peers_end → peer_in (encode e ++ rest) ≡ e.peer
   unfolding peer_in encode_by header_by le read_le
-  peer-is n = omega (arith, n)
+  peer_is n = omega (arith, n)
 
-  kind-is : kind_in (encode e ++ rest) ≡ e.kind
+  kind_is : kind_in (encode e ++ rest) ≡ e.kind
   unfolding kind_in encode_by header_by
-  kind-is = refl
+  kind_is = refl
 
   entered : (l : Ledger) → note_record (kind_in (encode e ++ rest)) (peer_in (encode e ++ rest)) l ≡ note_record e.kind e.peer l
-  entered l = rw kind-is (enter_same e.kind (peer_in (encode e ++ rest)) e.peer l (λ a b. peer-is (s.narrow a b)))
+  entered l = rw kind_is (enter_same e.kind (peer_in (encode e ++ rest)) e.peer l (λ a b. peer_is (s.narrow a b)))
 
 -- by an output's records
 by_records : (out : List ℕ) (bs : List (List ℕ)) (l : Ledger) → records_in out ≡ bs → read_records out l ≡ walk (λ b. note_record (kind_in b) (peer_in b)) bs l
@@ -74,7 +74,7 @@ by_records out bs l e = ap (λ (x : List (List ℕ)). walk (λ b. note_record (k
 
 one_read : (e : Rec) (rest : List ℕ) (l : Ledger) → Sound e → read_records (encode e ++ rest) l ≡ read_records rest (note_record e.kind e.peer l)
 unfolding read_records walk
-one_read e rest l s = by_records (encode e ++ rest) _ l (records-written e rest s.small) ∙ ap (read_records rest) (entered e rest s l)
+one_read e rest l s = by_records (encode e ++ rest) _ l (records_written e rest s.small) ∙ ap (read_records rest) (entered e rest s l)
 
 -- the ledger after records, the oldest first
 unfoldable enter_all : List Rec → Ledger → Ledger

@@ -29,7 +29,7 @@ use Rattle.spec_hyparview.proofs.Told.{up_after, sent_after}
 use Rattle.spec_hyparview.proofs.Narrow.{Narrow}
 use Rattle.spec_hyparview.proofs.Invariant.{calm, Good}
 use Rattle.spec_hyparview.proofs.Reading.{Readable, by_form}
-use Rattle.spec_hyparview.proofs.Whole.{Pays, Covered, covered_steps, Between, at_start, ok-steps}
+use Rattle.spec_hyparview.proofs.Whole.{Pays, Covered, covered_steps, Between, at_start, ok_steps}
 use Rattle.spec_hyparview.proofs.Tested.{ranges_of, data_true, own_held, distinct_yes, rules_of}
 use Rattle.spec_hyparview.proofs.Written.{formed_event}
 use Rattle.spec_hyparview.proofs.Uncrowded.{never_eight}
@@ -79,22 +79,22 @@ told_kept c me b l alone ds room o v g w n y =
     }
 
 module _ {c : Config} {me : ℕ} {l : Ledger} {s : Station} (h : Kept c me l s) (b : List ℕ) where
-  fine-refusal : (n room : ℕ) → 3 ≤ n → Fine c me b l (refusal n s room)
+  fine_refusal : (n room : ℕ) → 3 ≤ n → Fine c me b l (refusal n s room)
   unfolding refusal feed choose
-  fine-refusal n room i = record { not_two = λ e. omega arith; kept = rw (ne_eqb n 0 (λ e. omega arith)) h }
+  fine_refusal n room i = record { not_two = λ e. omega arith; kept = rw (ne_eqb n 0 (λ e. omega arith)) h }
 
-  fine-event : (ds : List ℕ) (room : ℕ) → Readable (rec_of b) → InForm (rec_of b) → Fine c me b l (finish s (steps (rec_of b) (start s ds room)))
+  fine_event : (ds : List ℕ) (room : ℕ) → Readable (rec_of b) → InForm (rec_of b) → Fine c me b l (finish s (steps (rec_of b) (start s ds room)))
   unfolding finish accepted feed choose
-  fine-event ds room w f =
+  fine_event ds room w f =
       let a = c.active_view_capacity in
       let r = steps (rec_of b) (start s ds room) in
-      let k = ok-steps (number_of a b) ds room (rec_of b) w (pays a b) h in
+      let k = ok_steps (number_of a b) ds room (rec_of b) w (pays a b) h in
       split (eqb r.code 0)
       (λ z. let g = k.good (eqb-true r.code 0 z) in rw z (record {
         not_two = λ e. omega arith;
         kept = rw (heard g.told r.out (r.room - length r.out) (open_event a b l) g.sound g.spelled) (told_kept c me b l s.passes_alone ds room g.told r.station g.core g.law (formed_event s h.narrow ds room (rec_of b) w f).narrow (covered_steps (rec_of b) (start s ds room) (eqb-true r.code 0 z)));
       }))
-      (λ z. rw z (fine-refusal r.code r.room (let ne : r.code ≡ 0 → ⊥ = eqb-false r.code 0 z in omega (arith, k.codes.low (omega (arith, ne))))))
+      (λ z. rw z (fine_refusal r.code r.room (let ne : r.code ≡ 0 → ⊥ = eqb-false r.code 0 z in omega (arith, k.codes.low (omega (arith, ne))))))
 
 -- the code of a radio event with too many nodes is another
 other : (s : Station) (room : ℕ) → (refusal 16 s room).code ≡ 8 → ⊥
@@ -102,36 +102,36 @@ unfolding refusal
 other s room e = omega (arith, e)
 
 module _ {c : Config} {me : ℕ} (ranges : in_range c ≡ true) where
-  fine-handle : {l : Ledger} {s : Station} (b : List ℕ) → all_under 256 b ≡ true → (ds : List ℕ) (room : ℕ) → Kept c me l s → Fine c me b l (handle s b ds room)
+  fine_handle : {l : Ledger} {s : Station} (b : List ℕ) → all_under 256 b ≡ true → (ds : List ℕ) (room : ℕ) → Kept c me l s → Fine c me b l (handle s b ds room)
   unfolding handle handle_reading
-  fine-handle {l} {s} b bytes ds room h =
+  fine_handle {l} {s} b bytes ds room h =
       rw (choose_yes (station_ok s) (handle_reading (read_event b) s ds room) (refusal 2 s room) (rules_of s ranges h))
-      (by_form b bytes (λ (x : Reading). Fine c me b l (handle_reading x s ds room)) (λ n i j. fine-refusal h b n room i) (λ w f. fine-event h b ds room w f))
+      (by_form b bytes (λ (x : Reading). Fine c me b l (handle_reading x s ds room)) (λ n i j. fine_refusal h b n room i) (λ w f. fine_event h b ds room w f))
 
-  pub fine-answer : {l : Ledger} {s : Station} (v : Call) → Kept c me l s → Fine c me v.event l (result_of v s)
+  pub fine_answer : {l : Ledger} {s : Station} (v : Call) → Kept c me l s → Fine c me v.event l (result_of v s)
   unfolding answered
-  fine-answer {l} {s} v h =
+  fine_answer {l} {s} v h =
       let room = length v.output in
-      by_side (Fine c me v.event l) v.side s v.event v.draws room (fine-refusal h v.event 16 room (omega arith)) (fine-handle v.event v.are_bytes (draws_from v.side v.draws) room h)
+      by_side (Fine c me v.event l) v.side s v.event v.draws room (fine_refusal h v.event 16 room (omega arith)) (fine_handle v.event v.are_bytes (draws_from v.side v.draws) room h)
 
-  pub kept-after : (vs : List Call) {l : Ledger} {s : Station} → Kept c me l s → Kept c me (ledger_after definition c.active_view_capacity vs s l) (state_after definition vs s)
+  pub kept_after : (vs : List Call) {l : Ledger} {s : Station} → Kept c me l s → Kept c me (ledger_after definition c.active_view_capacity vs s l) (state_after definition vs s)
   unfolding state_after ledger_after
-  kept-after [] h = h
-  kept-after (v ∷ vs) h = kept-after vs (fine-answer v h).kept
+  kept_after [] h = h
+  kept_after (v ∷ vs) h = kept_after vs (fine_answer v h).kept
 
-  none-two : (vs : List Call) {l : Ledger} {s : Station} → Kept c me l s → count 2 (codes definition vs s) ≡ 0
+  none_two : (vs : List Call) {l : Ledger} {s : Station} → Kept c me l s → count 2 (codes definition vs s) ≡ 0
   unfolding codes count
-  none-two [] h = refl
-  none-two (v ∷ vs) {s = s} h =
-      omega (arith, is_not 2 (result_of v s).code (ne_eqb 2 (result_of v s).code (λ e. (fine-answer v h).not_two (sym e))), none-two vs (fine-answer v h).kept)
+  none_two [] h = refl
+  none_two (v ∷ vs) {s = s} h =
+      omega (arith, is_not 2 (result_of v s).code (ne_eqb 2 (result_of v s).code (λ e. (fine_answer v h).not_two (sym e))), none_two vs (fine_answer v h).kept)
 
-  pub none-eight : (vs : List Call) {l : Ledger} {s : Station} → Kept c me l s → count 8 (codes definition vs s) ≡ 0
+  pub none_eight : (vs : List Call) {l : Ledger} {s : Station} → Kept c me l s → count 8 (codes definition vs s) ≡ 0
   unfolding codes answered count
-  none-eight [] h = refl
-  none-eight (v ∷ vs) {s = s} h =
+  none_eight [] h = refl
+  none_eight (v ∷ vs) {s = s} h =
       let room = length v.output in
       let n = by_side (λ (a : Result). a.code ≡ 8 → ⊥) v.side s v.event v.draws room (other s room) (never_eight s (rules_of s ranges h) (draws_from v.side v.draws) room v.event v.are_bytes) in
-      omega (arith, is_not 8 (result_of v s).code (ne_eqb 8 (result_of v s).code (λ e. n (sym e))), none-eight vs (fine-answer v h).kept)
+      omega (arith, is_not 8 (result_of v s).code (ne_eqb 8 (result_of v s).code (λ e. n (sym e))), none_eight vs (fine_answer v h).kept)
 
 -- a new station
 pub kept_new : (me : ℕ) (d : Data) (c : Config) → NewGiven me d → in_range c ≡ true → short_data d ≡ true → Kept c me empty_ledger (new_station me d c)
@@ -187,9 +187,9 @@ kept_new me d c given r sd =
 
 -- as demand 3 says it
 module _ {c : Config} {me : ℕ} {l : Ledger} {s : Station} (b : Kept c me l s) where
-  views-of : Views me c s
+  views_of : Views me c s
   unfolding up_after sent_after count
-  views-of =
+  views_of =
       let h = b.core in
       let act = s.active in
       let pas = s.passive in
@@ -210,9 +210,9 @@ module _ {c : Config} {me : ℕ} {l : Ledger} {s : Station} (b : Kept c me l s) 
         bootstrap_few = h.waits.few;
       }
 
-  booked-of : Booked s l
+  booked_of : Booked s l
   unfolding up_after sent_after count
-  booked-of =
+  booked_of =
       let h = b.core in
       let act = s.active in
       record {
@@ -236,12 +236,12 @@ demand_3 me d c given z vs =
     let r = and_left (in_range c) (short_data d) t in
     let e : (new me d c).state ≡ new_station me d c = ap (λ (m : Made). m.state) (choose_yes (in_range c && short_data d) _ _ t) in
     let k = kept_new me d c given r (and_right (in_range c) (short_data d) t) in
-    let h = kept-after r vs k in
+    let h = kept_after r vs k in
     subst (λ (s : Station). Demand3 definition (λ x. x) station_ok me c s vs) (sym e) (record {
-      none_is_two = mem_no 2 _ (none-two r vs k);
+      none_is_two = mem_no 2 _ (none_two r vs k);
       rules_hold = rules_of _ r h;
-      views = views-of h;
-      booked = booked-of h;
+      views = views_of h;
+      booked = booked_of h;
     })
 
 -- 02, S-5: no call after a new station is answered 8
@@ -251,4 +251,4 @@ eight_never me d c given z vs =
     let t = accepted_new me d c z in
     let r = and_left (in_range c) (short_data d) t in
     let e : (new me d c).state ≡ new_station me d c = ap (λ (m : Made). m.state) (choose_yes (in_range c && short_data d) _ _ t) in
-    subst (λ (s : Station). mem 8 (codes definition vs s) ≡ false) (sym e) (mem_no 8 _ (none-eight r vs (kept_new me d c given r (and_right (in_range c) (short_data d) t))))
+    subst (λ (s : Station). mem 8 (codes definition vs s) ≡ false) (sym e) (mem_no 8 _ (none_eight r vs (kept_new me d c given r (and_right (in_range c) (short_data d) t))))

@@ -117,45 +117,45 @@ module _ (r : Run) (x : ℕ) where
   abbrev after : Run
   after = draw_one_of (length r.station.passive) r
 
-  place-low : P.must_evict r.station ≡ true → place < length r.station.passive
+  place_low : P.must_evict r.station ≡ true → place < length r.station.passive
   unfolding P.must_evict one_of
-  place-low e = pick_below (length r.station.passive) (to_draw r) (null_no r.station.passive (not-true _ (and_right (passive_is_full r.station) _ e)))
+  place_low e = pick_below (length r.station.passive) (to_draw r) (null_no r.station.passive (not-true _ (and_right (passive_is_full r.station) _ e)))
 
-  drawn-counts : P.must_evict r.station ≡ true → (P.evict_at place after).code ≡ 0 → count x (P.evict_at place after).station.passive + is x (get_or r.station.passive place 0) ≡ count x r.station.passive
+  drawn_counts : P.must_evict r.station ≡ true → (P.evict_at place after).code ≡ 0 → count x (P.evict_at place after).station.passive + is x (get_or r.station.passive place 0) ≡ count x r.station.passive
   unfolding P.evict_at
-  drawn-counts e z =
+  drawn_counts e z =
       subst (λ (s : Station). count x (P.evict_at place after).station.passive + is x (get_or s.passive place 0) ≡ count x s.passive) (one_of_station (length r.station.passive) r)
-      (evicted_counts place after x (rw (one_of_station (length r.station.passive) r) (place-low e)) (sym (forget_code _ _ ∙ on_code _ after) ∙ z))
+      (evicted_counts place after x (rw (one_of_station (length r.station.passive) r) (place_low e)) (sym (forget_code _ _ ∙ on_code _ after) ∙ z))
 
-  evict-yes : P.must_evict r.station ≡ true → (P.evict r).code ≡ 0 → count x (P.evict r).station.passive + count x (listed (P.evicted r)) ≡ count x r.station.passive
+  evict_yes : P.must_evict r.station ≡ true → (P.evict r).code ≡ 0 → count x (P.evict r).station.passive + count x (listed (P.evicted r)) ≡ count x r.station.passive
   unfolding P.evict P.evicted listed picked
-  evict-yes e =
+  evict_yes e =
       rw (choose_yes (P.must_evict r.station) (P.evict_at place after) r e, choose_yes (P.must_evict r.station) (some (get_or r.station.passive place 0)) none e, count_one x (get_or r.station.passive place 0))
-      (drawn-counts e)
+      (drawn_counts e)
 
-  evict-no : P.must_evict r.station ≡ false → count x (P.evict r).station.passive + count x (listed (P.evicted r)) ≡ count x r.station.passive
+  evict_no : P.must_evict r.station ≡ false → count x (P.evict r).station.passive + count x (listed (P.evicted r)) ≡ count x r.station.passive
   unfolding P.evict P.evicted listed picked count
-  evict-no e =
+  evict_no e =
       rw (choose_no (P.must_evict r.station) (P.evict_at place after) r e, choose_no (P.must_evict r.station) (some (get_or r.station.passive place 0)) none e)
       (omega arith)
 
-  room-counts : (P.make_room r).code ≡ 0 → count x (P.make_room r).station.passive + count x (listed (P.evicted r)) ≡ count x r.station.passive
+  room_counts : (P.make_room r).code ≡ 0 → count x (P.make_room r).station.passive + count x (listed (P.evicted r)) ≡ count x r.station.passive
   unfolding P.make_room
-  room-counts z =
-      rw (tell_station (P.evicted r) (P.evict r)) (split (P.must_evict r.station) (λ e. evict-yes e (tell_fine (P.evicted r) (P.evict r) z)) evict-no)
+  room_counts z =
+      rw (tell_station (P.evicted r) (P.evict r)) (split (P.must_evict r.station) (λ e. evict_yes e (tell_fine (P.evicted r) (P.evict r) z)) evict_no)
 
 module _ (p : ℕ) (r : Run) (x : ℕ) where
-  pushed-counts : (on (P.push_passive p) (P.make_room r)).code ≡ 0 → count x (on (P.push_passive p) (P.make_room r)).station.passive + count x (listed (P.evicted r)) ≡ count x r.station.passive + is x p
+  pushed_counts : (on (P.push_passive p) (P.make_room r)).code ≡ 0 → count x (on (P.push_passive p) (P.make_room r)).station.passive + count x (listed (P.evicted r)) ≡ count x r.station.passive + is x p
   unfolding P.push_passive
-  pushed-counts z =
+  pushed_counts z =
       let y : (P.make_room r).code ≡ 0 = sym (on_code (P.push_passive p) (P.make_room r)) ∙ z in
-      rw (changed (P.push_passive p) (P.make_room r) y) (omega (arith, room-counts r x y, count_snoc x (P.make_room r).station.passive p))
+      rw (changed (P.push_passive p) (P.make_room r) y) (omega (arith, room_counts r x y, count_snoc x (P.make_room r).station.passive p))
 
-  enter-counts : (P.enter_passive p r).code ≡ 0 → count x (P.enter_passive p r).station.passive + count x (listed (P.evicted_for p r)) ≡ count x r.station.passive + choose (P.is_newcomer p r.station) (is x p) 0
+  enter_counts : (P.enter_passive p r).code ≡ 0 → count x (P.enter_passive p r).station.passive + count x (listed (P.evicted_for p r)) ≡ count x r.station.passive + choose (P.is_newcomer p r.station) (is x p) 0
   unfolding P.enter_passive P.evicted_for listed count
-  enter-counts =
+  enter_counts =
       split (P.is_newcomer p r.station)
-      (λ e. rw (choose_yes (P.is_newcomer p r.station) (on (P.push_passive p) (P.make_room r)) r e, choose_yes (P.is_newcomer p r.station) (P.evicted r) none e, choose_yes (P.is_newcomer p r.station) (is x p) 0 e) pushed-counts)
+      (λ e. rw (choose_yes (P.is_newcomer p r.station) (on (P.push_passive p) (P.make_room r)) r e, choose_yes (P.is_newcomer p r.station) (P.evicted r) none e, choose_yes (P.is_newcomer p r.station) (is x p) 0 e) pushed_counts)
       (λ e. rw (choose_no (P.is_newcomer p r.station) (on (P.push_passive p) (P.make_room r)) r e, choose_no (P.is_newcomer p r.station) (P.evicted r) none e, choose_no (P.is_newcomer p r.station) (is x p) 0 e) (λ z. omega arith))
 
 -- the data of the newcomer leave the views alone
@@ -166,5 +166,5 @@ same_newcomer p d r = same_after_info (P.is_newcomer p) (λ y s. refl) p d r
 pub additions_told : AdditionsTold
 unfolding P.add_passive by_adding P.evicted_by
 additions_told p d r z x =
-    enter-counts p (P.insert_peer_info p d r) x z
+    enter_counts p (P.insert_peer_info p d r) x z
     ∙ (λ j. count x (same_after_info (λ s. s.passive) (λ y s. refl) p d r j) + choose (same_newcomer p d r j) (is x p) 0)

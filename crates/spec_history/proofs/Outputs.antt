@@ -17,8 +17,8 @@ use Rattle.record.specs.Read.{decode}
 use Rattle.record.specs.InForm.{InForm}
 use Rattle.record.specs.Walk.{whole_length}
 use Rattle.record.proofs.Format.{length_encode}
-use Rattle.record.proofs.Forth.{size-most}
-use Rattle.record.proofs.Walk.{whole_is, records-written, records_zeros}
+use Rattle.record.proofs.Forth.{size_most}
+use Rattle.record.proofs.Walk.{whole_is, records_written, records_zeros}
 use Rattle.record.proofs.RoundTrip.{written_reads_back}
 use Rattle.spec_hyparview.specs.Station.{Station, draws_end}
 use Rattle.spec_hyparview.specs.Rules.{all_under, short_data, station_ok}
@@ -31,14 +31,14 @@ use Rattle.spec_hyparview.proofs.Written.{writes_records}
 use Rattle.spec_history.specs.Ledger.{Ledger}
 use Rattle.spec_history.specs.Calls.{Call, narrow_draws, answered, result_of, definition}
 use Rattle.spec_history.specs.Outputs.{cut_records, ReadsBack, OutputsRead, OutputsReadBack}
-use Rattle.spec_history.proofs.Kept.{Kept, fine-answer, kept_new, accepted_new}
+use Rattle.spec_history.proofs.Kept.{Kept, fine_answer, kept_new, accepted_new}
 
 abbrev cut : List (List ℕ) → List (List ℕ)
 cut bs = map (λ b. take (whole_length b) b) bs
 
 -- a record in form is shorter than a whole length can say
 pub form_small : (e : Rec) → InForm e → size e < 65536
-form_small e f = let m : size e ≤ 928 = size-most e f in omega arith
+form_small e f = let m : size e ≤ 928 = size_most e f in omega arith
 
 cut_all : (es : List Rec) (zeros : ℕ) → All InForm es → cut_records (encode_all es ++ replicate zeros 0) ≡ map encode es
 unfolding cut_records encode_all All
@@ -47,7 +47,7 @@ cut_all (e ∷ es) zeros a =
     let s = form_small e a.0 in
     let rest : List ℕ = encode_all es ++ replicate zeros 0 in
     rw (append_assoc (encode e) (encode_all es) (replicate zeros 0))
-    (ap cut (records-written e rest s) ∙ rw (whole_is e rest s, take_at (encode e) rest (size e) (length_encode e)) (ap (λ (bs : List (List ℕ)). encode e ∷ bs) (cut_all es zeros a.1)))
+    (ap cut (records_written e rest s) ∙ rw (whole_is e rest s, take_at (encode e) rest (size e) (length_encode e)) (ap (λ (bs : List (List ℕ)). encode e ∷ bs) (cut_all es zeros a.1)))
 
 decode_all : (es : List Rec) → All InForm es → map decode (map encode es) ≡ map some es
 unfolding All
@@ -72,12 +72,12 @@ written v s ok narrow =
     (λ z. writes_records s ok v.event v.are_bytes (draws_from v.side v.draws) (under_from draws_end v.side v.draws narrow) room z)
 
 module _ {c : Config} {me : ℕ} (ranges : in_range c ≡ true) where
-  pub outputs-read : (vs : List Call) {l : Ledger} {s : Station} → narrow_draws vs ≡ true → Kept c me l s → OutputsRead definition vs s
+  pub outputs_read : (vs : List Call) {l : Ledger} {s : Station} → narrow_draws vs ≡ true → Kept c me l s → OutputsRead definition vs s
   unfolding OutputsRead narrow_draws answered
-  outputs-read [] n h = tt
-  outputs-read (v ∷ vs) {s = s} n h = (
+  outputs_read [] n h = tt
+  outputs_read (v ∷ vs) {s = s} n h = (
     (λ z. reads _ (written v s (rules_of s ranges h) (and_left (all_under draws_end v.draws) _ n) z)),
-    outputs-read vs (and_right (all_under draws_end v.draws) _ n) (fine-answer ranges v h).kept,
+    outputs_read vs (and_right (all_under draws_end v.draws) _ n) (fine_answer ranges v h).kept,
   )
 
 -- Whatever is brought to a new station, all that it writes in an accepted call is read back.
@@ -87,4 +87,4 @@ outputs_read_back me d c given z vs n =
     let t = accepted_new me d c z in
     let r = and_left (in_range c) (short_data d) t in
     let e : (new me d c).state ≡ new_station me d c = ap (λ (m : Made). m.state) (choose_yes (in_range c && short_data d) _ _ t) in
-    subst (λ (s : Station). OutputsRead definition vs s) (sym e) (outputs-read r vs n (kept_new me d c given r (and_right (in_range c) (short_data d) t)))
+    subst (λ (s : Station). OutputsRead definition vs s) (sym e) (outputs_read r vs n (kept_new me d c given r (and_right (in_range c) (short_data d) t)))

@@ -20,12 +20,12 @@ use Rattle.spec_hyparview.specs.Pins.{is_parting}
 use Rattle.spec_hyparview.specs.Handle.{refusal, new}
 use Rattle.spec_hyparview.proofs.Sides.{by_side}
 use Rattle.spec_hyparview.proofs.Stays.{pin_kept}
-use Rattle.spec_hyparview.proofs.Tested.{between-of}
+use Rattle.spec_hyparview.proofs.Tested.{between_of}
 use Rattle.spec_history.specs.Calls.{Call, Machine, NewGiven, state_of, state_after, definition, answered}
 use Rattle.spec_history.specs.Packing.{Packs}
 use Rattle.spec_history.specs.Pinned.{no_partings, PinsStay}
 use Rattle.spec_history.proofs.Kept.{demand_3}
-use Rattle.spec_history.proofs.Packing.{states-packed}
+use Rattle.spec_history.proofs.Packing.{states_packed}
 
 after_both : {G S : Type 0} (m : Machine G S) (vs ws : List Call) (s : S) → state_after m (vs ++ ws) s ≡ state_after m ws (state_after m vs s)
 unfolding state_after
@@ -40,7 +40,7 @@ pin_after p (v ∷ ws) s n m =
     pin_after p ws _ (and_right (not here) _ n) (by_side (λ x. mem p x.state.pins ≡ true) v.side s v.event v.draws (length v.output) m (pin_kept p s v.event _ (length v.output) (not-true here (and_left (not here) _ n)) m))
 
 pinned_active : (p : ℕ) (s : Station) → station_ok s ≡ true → mem p s.pins ≡ true → mem p s.active ≡ true
-pinned_active p s ok m = mem_yes p s.active (omega (arith, (between-of s ok).law.pins_ok.among p, mem_true p s.pins m))
+pinned_active p s ok m = mem_yes p s.active (omega (arith, (between_of s ok).law.pins_ok.among p, mem_true p s.pins m))
 
 pub pins_stay : PinsStay
 pins_stay me d c given z vs ws p m n =
@@ -55,10 +55,10 @@ module _ {G S : Type 0} {m : Machine G S} {pack : Station → S} {station : S �
   first = pack (new me d c).state
 
   same : (us : List Call) → station (state_after m us first) ≡ state_after definition us (new me d c).state
-  same us = ap station (states-packed k me d c given z us) ∙ k.stands _ (demand_3 me d c given z us).rules_hold
+  same us = ap station (states_packed k me d c given z us) ∙ k.stands _ (demand_3 me d c given z us).rules_hold
 
-  pub pins-packed : (vs ws : List Call) (p : ℕ) → mem p (station (state_after m vs first)).pins ≡ true → no_partings p ws ≡ true
+  pub pins_packed : (vs ws : List Call) (p : ℕ) → mem p (station (state_after m vs first)).pins ≡ true → no_partings p ws ≡ true
       → (mem p (station (state_after m (vs ++ ws) first)).pins ≡ true) × (mem p (station (state_after m (vs ++ ws) first)).active ≡ true)
-  pins-packed vs ws p e n =
+  pins_packed vs ws p e n =
       subst (λ (x : Station). (mem p x.pins ≡ true) × (mem p x.active ≡ true)) (sym (same (vs ++ ws)))
       (pins_stay me d c given z vs ws p (subst (λ (x : Station). mem p x.pins ≡ true) (same vs) e) n)

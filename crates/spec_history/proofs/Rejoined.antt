@@ -18,15 +18,15 @@ use Rattle.spec_hyparview.specs.Timers.{knows_none}
 use Rattle.spec_hyparview.specs.Rules.{station_ok, short_data}
 use Rattle.spec_hyparview.specs.Handle.{Result, Made, new, new_station, start, steps, refusal, accepted, finish, handle_reading, handle}
 use Rattle.spec_hyparview.proofs.Reading.{Readable, by_reading}
-use Rattle.spec_hyparview.proofs.Whole.{ok-steps}
+use Rattle.spec_hyparview.proofs.Whole.{ok_steps}
 use Rattle.spec_hyparview.proofs.Tested.{rules_of}
 use Rattle.spec_hyparview.specs.Sides.{draws_from}
 use Rattle.spec_hyparview.proofs.Sides.{by_side}
 use Rattle.spec_history.specs.Ledger.{Ledger, number_of}
 use Rattle.spec_history.specs.Calls.{Call, result_of, answered, definition}
 use Rattle.spec_history.specs.Rejoin.{Tick, is_tick, ticks, all_alone, joins_to, Rejoins, Some, here, later, RejoinPromise}
-use Rattle.spec_history.proofs.Kept.{Kept, pays, fine-answer, kept_new, accepted_new}
-use Rattle.spec_history.proofs.Ticks.{Begins, tick-counts, tick-rejoins}
+use Rattle.spec_history.proofs.Kept.{Kept, pays, fine_answer, kept_new, accepted_new}
+use Rattle.spec_history.proofs.Ticks.{Begins, tick_counts, tick_rejoins}
 
 -- of twelve passes in a row one is due: the one whose number 12 divides
 due_at : (n : ℕ) → backoff_due (n + 1 + (11 - n % 12)) ≡ true
@@ -56,17 +56,17 @@ begun t out zeros e b = record {
 }
 
 module _ {c : Config} {me : ℕ} {l : Ledger} {s : Station} (h : Kept c me l s) (b ds : List ℕ) (room : ℕ) where
-  passed-event : Readable (rec_of b) → Passed b s (finish s (steps (rec_of b) (start s ds room)))
+  passed_event : Readable (rec_of b) → Passed b s (finish s (steps (rec_of b) (start s ds room)))
   unfolding finish accepted kind_in rec_of_by header_of_by
-  passed-event w =
+  passed_event w =
       let a = c.active_view_capacity in
       let e = rec_of b in
       let r = steps e (start s ds room) in
-      let k = ok-steps (number_of a b) ds room e w (pays a b) h in
+      let k = ok_steps (number_of a b) ds room e w (pays a b) h in
       by_choice (Passed b s) (eqb r.code 0)
       (λ z. let fine = eqb-true r.code 0 z in record {
-        counts = λ t alone. tick-counts s ds room e (eqb-true (get_or b 0 0) 2 (and_left (eqb (get_or b 0 0) 2) _ t)) alone fine;
-        rejoins = λ t alone due. begun _ r.out (replicate (r.room - length r.out) 0) refl (tick-rejoins s ds room e (eqb-true (get_or b 0 0) 2 (and_left (eqb (get_or b 0 0) 2) _ t)) alone due fine);
+        counts = λ t alone. tick_counts s ds room e (eqb-true (get_or b 0 0) 2 (and_left (eqb (get_or b 0 0) 2) _ t)) alone fine;
+        rejoins = λ t alone due. begun _ r.out (replicate (r.room - length r.out) 0) refl (tick_rejoins s ds room e (eqb-true (get_or b 0 0) 2 (and_left (eqb (get_or b 0 0) 2) _ t)) alone due fine);
         quiet = λ t. and_false (eqb (get_or b 0 0) 2) _ t (λ f. (k.good fine).core.still.alone_stays (rw f)) (λ f. clash _ refl f);
       })
       (λ z. passed_refusal b s r.code r.room (eqb-false r.code 0 z))
@@ -79,7 +79,7 @@ passed {s = s} ranges h v =
     by_side (Passed v.event s) v.side s v.event v.draws room (passed_refusal v.event s 16 room (λ e. omega arith))
     (rw (choose_yes (station_ok s) (handle_reading (read_event v.event) s ds room) (refusal 2 s room) (rules_of s ranges h))
     (by_reading v.event v.are_bytes (λ (x : Reading). Passed v.event s (handle_reading x s ds room))
-    (λ n i j. passed_refusal v.event s n room (λ e. omega arith)) (λ w. passed-event h v.event ds room w)))
+    (λ n i j. passed_refusal v.event s n room (λ e. omega arith)) (λ w. passed_event h v.event ds room w)))
 
 -- the next tick meets a station that has counted n passes
 unfoldable Next : ℕ → List Tick → Type 0
@@ -99,7 +99,7 @@ module _ {c : Config} {me : ℕ} (ranges : in_range c ≡ true) where
   chained [] h = (tt, tt)
   chained (v ∷ vs) {s = s} h =
       let p = passed ranges h v in
-      let i = chained vs (fine-answer ranges v h).kept in
+      let i = chained vs (fine_answer ranges v h).kept in
       by_choice (λ ts. Next s.passes_alone ts × Chained ts) (eqb (kind_in v.event) 2 && eqb (result_of v s).code 0)
       (λ t. (refl, ((λ alone. subst (λ (n : ℕ). Next n (ticks definition (λ x. x) vs (result_of v s).state)) (p.counts t alone) i.0), ((λ alone due. p.rejoins t alone due), i.1))))
       (λ t. (subst (λ (n : ℕ). Next n (ticks definition (λ x. x) vs (result_of v s).state)) (p.quiet t) i.0, i.1))

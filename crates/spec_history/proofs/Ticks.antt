@@ -109,11 +109,11 @@ unfolding emit_all joins_to
 joins_out d [] r z = sym (append-nil r.out)
 joins_out d (p ∷ ps) r z =
     joins_out d ps (emit (join_to d p) r) z
-    ∙ (ap (λ (l : List ℕ). l ++ joins_to d ps) (emit_out (join_to d p) r (all-fine ps (emit (join_to d p) r) z)) ∙ append_assoc r.out (encode (join_to d p)) (joins_to d ps))
+    ∙ (ap (λ (l : List ℕ). l ++ joins_to d ps) (emit_out (join_to d p) r (all_fine ps (emit (join_to d p) r) z)) ∙ append_assoc r.out (encode (join_to d p)) (joins_to d ps))
   where
-    all-fine : (qs : List ℕ) (w : Run) → (emit_all (join_to d) qs w).code ≡ 0 → w.code ≡ 0
-    all-fine [] w z = z
-    all-fine (q ∷ qs) w z = emit_fine (join_to d q) w (all-fine qs (emit (join_to d q) w) z)
+    all_fine : (qs : List ℕ) (w : Run) → (emit_all (join_to d) qs w).code ≡ 0 → w.code ≡ 0
+    all_fine [] w z = z
+    all_fine (q ∷ qs) w z = emit_fine (join_to d q) w (all_fine qs (emit (join_to d q) w) z)
 
 joins_grow : (d : Data) (ps : List ℕ) (r : Run) → Grows r (emit_all (join_to d) ps r)
 unfolding emit_all
@@ -148,31 +148,31 @@ module _ (s : Station) (ds : List ℕ) (room : ℕ) (e : Rec) (kind : e.kind ≡
   counted : Station
   counted = T.add_alone (T.remember_all s)
 
-  alone-dispatch : dispatch e (start s ds room) ≡ T.schedule_maintenance (T.rejoin_if_due (T.count_alone (start (T.remember_all s) ds room)))
+  alone_dispatch : dispatch e (start s ds room) ≡ T.schedule_maintenance (T.rejoin_if_due (T.count_alone (start (T.remember_all s) ds room)))
   unfolding dispatch T.handle_maintenance_timer T.maintain T.pass_alone T.remember_all T.knows_none on guard choose
-  alone-dispatch = rw (kind, alone)
+  alone_dispatch = rw (kind, alone)
 
-  count-fine : (T.count_alone (start (T.remember_all s) ds room)).code ≡ 0 → T.count_alone (start (T.remember_all s) ds room) ≡ start counted ds room
+  count_fine : (T.count_alone (start (T.remember_all s) ds room)).code ≡ 0 → T.count_alone (start (T.remember_all s) ds room) ≡ start counted ds room
   unfolding T.count_alone counted
-  count-fine z =
+  count_fine z =
       let r = start (T.remember_all s) ds room in
       let q = require_fine ten (T.alone_counts (T.remember_all s)) r (subst (λ (c : ℕ). c ≡ 0) (on_code T.add_alone _) z) in
       ap (on T.add_alone) q.0 ∙ on_start T.add_alone (T.remember_all s) ds room
 
-  tick-run : (steps e (start s ds room)).code ≡ 0 → steps e (start s ds room) ≡ after_count (start counted ds room)
+  tick_run : (steps e (start s ds room)).code ≡ 0 → steps e (start s ds room) ≡ after_count (start counted ds room)
   unfolding steps after_count
-  tick-run = rw alone-dispatch (λ z. ap after_count (count-fine ((after_count_grows _).fine z)))
+  tick_run = rw alone_dispatch (λ z. ap after_count (count_fine ((after_count_grows _).fine z)))
 
   -- it counts a pass
-  pub tick-counts : (steps e (start s ds room)).code ≡ 0 → (steps e (start s ds room)).station.passes_alone ≡ s.passes_alone + 1
+  pub tick_counts : (steps e (start s ds room)).code ≡ 0 → (steps e (start s ds room)).station.passes_alone ≡ s.passes_alone + 1
   unfolding counted T.add_alone T.remember_all
-  tick-counts z =
-      ap (λ (r : Run). r.station.passes_alone) (tick-run z)
-      ∙ (after_count_grows (start counted ds room)).same (subst (λ (r : Run). r.code ≡ 0) (tick-run z) z)
+  tick_counts z =
+      ap (λ (r : Run). r.station.passes_alone) (tick_run z)
+      ∙ (after_count_grows (start counted ds room)).same (subst (λ (r : Run). r.code ≡ 0) (tick_run z) z)
 
   -- and where the pass is due, it begins with a Join to every bootstrap peer
-  pub tick-rejoins : backoff_due (s.passes_alone + 1) ≡ true → (steps e (start s ds room)).code ≡ 0 → Begins (joins_to s.own_data s.bootstrap) (steps e (start s ds room)).out
+  pub tick_rejoins : backoff_due (s.passes_alone + 1) ≡ true → (steps e (start s ds room)).code ≡ 0 → Begins (joins_to s.own_data s.bootstrap) (steps e (start s ds room)).out
   unfolding counted T.add_alone T.remember_all
-  tick-rejoins due z =
-      subst (λ (r : Run). Begins (joins_to s.own_data s.bootstrap) r.out) (sym (tick-run z))
-      (after_due (start counted ds room) due (subst (λ (r : Run). r.code ≡ 0) (tick-run z) z))
+  tick_rejoins due z =
+      subst (λ (r : Run). Begins (joins_to s.own_data s.bootstrap) r.out) (sym (tick_run z))
+      (after_due (start counted ds room) due (subst (λ (r : Run). r.code ≡ 0) (tick_run z) z))

@@ -9,7 +9,7 @@ use lib.ListN.{length, length-append}
 use lib.Dec.{eqb}
 use Rattle.base_lists.specs.Maps.{keys}
 use Rattle.base_lists.proofs.Count.{count_append}
-use Rattle.base_lists.proofs.Maps.{length-keys}
+use Rattle.base_lists.proofs.Maps.{length_keys}
 use Rattle.base_timing.specs.Timing.{max_bootstrap_peers, max_recent_neighbors, most_active, most_passive}
 use Rattle.record.specs.Kinds.{Quit, kind_byte}
 use Rattle.record.specs.Format.{Rec}
@@ -21,8 +21,8 @@ use Rattle.base_lists.proofs.Members.{shorter}
 use Rattle.spec_hyparview.proofs.Invariant.{Fixed, Terms, calm, Ok}
 use Rattle.spec_hyparview.proofs.Reading.{Readable}
 use Rattle.spec_hyparview.proofs.Requested.{quitting}
-use Rattle.spec_hyparview.proofs.Whole.{at_start, start_plain, start-quit, ok-steps}
-use Rattle.spec_hyparview.proofs.Tested.{between-of}
+use Rattle.spec_hyparview.proofs.Whole.{at_start, start_plain, start_quit, ok_steps}
+use Rattle.spec_hyparview.proofs.Tested.{between_of}
 use Rattle.spec_hyparview.proofs.Enough.{pays_all}
 
 -- every set and map within its limit, with the places that the terms promise to be free
@@ -47,7 +47,7 @@ bounds {t = t} r k z =
       passive_few = omega (arith, h.seats.places_left, h.still.ranges.few_places);
       alive_few = omega (arith, shorter s.alive (s.passive ++ t.loose) (λ x. omega (arith, h.seats.marks x, count_append x s.passive t.loose)), length-append s.passive t.loose);
       bootstrap_few = h.waits.few;
-      joins_few = omega (arith, h.waits.few, length-keys s.joins, shorter (keys s.joins) s.bootstrap h.waits.known);
+      joins_few = omega (arith, h.waits.few, length_keys s.joins, shorter (keys s.joins) s.bootstrap h.waits.known);
       recent_few = w.law.recent_ok.few;
       requests_few = w.law.requests_ok.few;
       refused_few = w.law.refused_ok.few;
@@ -60,10 +60,10 @@ module _ (s : Station) (ok : station_ok s ≡ true) (ds : List ℕ) (room : ℕ)
   begun = at_start s.config s.me s.active 0 (2 * length s.active + (s.config.active_view_capacity + 9)) s.passes_alone ds room e
 
   pub ready : eqb e.kind (kind_byte Quit) ≡ false → Ok begun calm (s.config.active_view_capacity + 9) 8192 512 (start s ds room)
-  ready f = start_plain _ ds room e w (pays_all _ e) (between-of s ok) f
+  ready f = start_plain _ ds room e w (pays_all _ e) (between_of s ok) f
 
-  pub ready-quit : eqb e.kind (kind_byte Quit) ≡ true → Ok begun (quitting s.active) 0 8192 512 (start s ds room)
-  ready-quit f = start-quit _ ds room e w (pays_all _ e) (between-of s ok) f
+  pub ready_quit : eqb e.kind (kind_byte Quit) ≡ true → Ok begun (quitting s.active) 0 8192 512 (start s ds room)
+  ready_quit f = start_quit _ ds room e w (pays_all _ e) (between_of s ok) f
 
   pub finished : Ok begun calm 0 0 0 (steps e (start s ds room))
-  finished = ok-steps _ ds room e w (pays_all _ e) (between-of s ok)
+  finished = ok_steps _ ds room e w (pays_all _ e) (between_of s ok)

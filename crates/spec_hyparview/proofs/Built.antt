@@ -110,402 +110,402 @@ module _ (Q : (Run → Run) → Type 0) (built : Built Q) where
   open built use {same_step, by_station, idle, either, thens, changes, tests, told, picks_item, picks_place, shuffles, delayed}
 
   -- what several steps share
-  of-emit-all : (f : ℕ → Rec) (ps : List ℕ) → Q (emit_all f ps)
+  of_emit_all : (f : ℕ → Rec) (ps : List ℕ) → Q (emit_all f ps)
   unfolding emit_all
-  of-emit-all f [] = idle
-  of-emit-all f (p ∷ ps) = thens (told idle (f p)) (of-emit-all f ps)
+  of_emit_all f [] = idle
+  of_emit_all f (p ∷ ps) = thens (told idle (f p)) (of_emit_all f ps)
 
   -- Peers
-  of-insert : (p : ℕ) (d : Data) → Q (P.insert_peer_info p d)
+  of_insert : (p : ℕ) (d : Data) → Q (P.insert_peer_info p d)
   unfolding P.insert_peer_info P.insert_data P.announce_data P.keep_data
-  of-insert p none = idle
-  of-insert p (some b) =
+  of_insert p none = idle
+  of_insert p (some b) =
       by_station (λ s r. choose (P.is_known p b s) r (on (P.store_data p b) (require 8 (P.data_fits p (choose (null b) r (emit (data_notice p b) r)).station) (choose (null b) r (emit (data_notice p b) r)))))
       (λ s. either (P.is_known p b s) idle
       (thens (either (null b) idle (told idle (data_notice p b))) (thens (by_station (λ s r. require 8 (P.data_fits p s) r) (λ s. tests 8 (P.data_fits p s) (λ e. omega (arith, e)))) (changes (P.store_data p b)))))
 
-  of-forget : (p : ℕ) → Q (P.forget_peer p)
+  of_forget : (p : ℕ) → Q (P.forget_peer p)
   unfolding P.forget_peer
-  of-forget p = by_station (λ s r. choose (in_view p s) r (on (P.drop_traces p) r)) (λ s. either (in_view p s) idle (changes (P.drop_traces p)))
+  of_forget p = by_station (λ s r. choose (in_view p s) r (on (P.drop_traces p) r)) (λ s. either (in_view p s) idle (changes (P.drop_traces p)))
 
-  of-evict-at : (i : ℕ) → Q (P.evict_at i)
+  of_evict_at : (i : ℕ) → Q (P.evict_at i)
   unfolding P.evict_at
-  of-evict-at i = by_station (λ s r. P.forget_peer (get_or s.passive i 0) (on (P.shift_passive i) r)) (λ s. thens (changes (P.shift_passive i)) (of-forget (get_or s.passive i 0)))
+  of_evict_at i = by_station (λ s r. P.forget_peer (get_or s.passive i 0) (on (P.shift_passive i) r)) (λ s. thens (changes (P.shift_passive i)) (of_forget (get_or s.passive i 0)))
 
-  of-evicts : Q evicts
+  of_evicts : Q evicts
   unfolding evicts
-  of-evicts = picks_place (λ s. s.passive) (λ s o. o.passive_few) (λ s i r. emit (notice (output_byte Evicted) (get_or s.passive i 0)) (P.evict_at i r)) (λ s i. told (of-evict-at i) (notice (output_byte Evicted) (get_or s.passive i 0)))
+  of_evicts = picks_place (λ s. s.passive) (λ s o. o.passive_few) (λ s i r. emit (notice (output_byte Evicted) (get_or s.passive i 0)) (P.evict_at i r)) (λ s i. told (of_evict_at i) (notice (output_byte Evicted) (get_or s.passive i 0)))
 
-  of-make-room : Q P.make_room
-  of-make-room = same_step makes_room (by_station (λ s r. choose (P.must_evict s) (evicts r) r) (λ s. either (P.must_evict s) of-evicts idle))
+  of_make_room : Q P.make_room
+  of_make_room = same_step makes_room (by_station (λ s r. choose (P.must_evict s) (evicts r) r) (λ s. either (P.must_evict s) of_evicts idle))
 
-  of-enter-passive : (p : ℕ) → Q (P.enter_passive p)
+  of_enter_passive : (p : ℕ) → Q (P.enter_passive p)
   unfolding P.enter_passive
-  of-enter-passive p = by_station (λ s r. choose (P.is_newcomer p s) (on (P.push_passive p) (P.make_room r)) r) (λ s. either (P.is_newcomer p s) (thens of-make-room (changes (P.push_passive p))) idle)
+  of_enter_passive p = by_station (λ s r. choose (P.is_newcomer p s) (on (P.push_passive p) (P.make_room r)) r) (λ s. either (P.is_newcomer p s) (thens of_make_room (changes (P.push_passive p))) idle)
 
-  of-add-passive : (p : ℕ) (d : Data) → Q (P.add_passive p d)
+  of_add_passive : (p : ℕ) (d : Data) → Q (P.add_passive p d)
   unfolding P.add_passive
-  of-add-passive p d = thens (of-insert p d) (of-enter-passive p)
+  of_add_passive p d = thens (of_insert p d) (of_enter_passive p)
 
-  of-add-nodes : (ns : List Node) → Q (P.add_nodes ns)
+  of_add_nodes : (ns : List Node) → Q (P.add_nodes ns)
   unfolding P.add_nodes
-  of-add-nodes [] = idle
-  of-add-nodes (n ∷ ns) = thens (of-add-passive n.id n.data_of) (of-add-nodes ns)
+  of_add_nodes [] = idle
+  of_add_nodes (n ∷ ns) = thens (of_add_passive n.id n.data_of) (of_add_nodes ns)
 
-  of-drop-passive : (p : ℕ) → Q (P.drop_passive p)
+  of_drop_passive : (p : ℕ) → Q (P.drop_passive p)
   unfolding P.drop_passive
-  of-drop-passive p = thens (changes (P.remove_passive p)) (of-forget p)
+  of_drop_passive p = thens (changes (P.remove_passive p)) (of_forget p)
 
   -- Sending
-  of-join : (p : ℕ) → Q (S.join p)
+  of_join : (p : ℕ) → Q (S.join p)
   unfolding S.join
-  of-join p = by_station (λ s r. emit (S.join_to s.own_data p) r) (λ s. told idle (S.join_to s.own_data p))
+  of_join p = by_station (λ s r. emit (S.join_to s.own_data p) r) (λ s. told idle (S.join_to s.own_data p))
 
-  of-send-nodes : (to : ℕ) (ps : List ℕ) → Q (S.send_nodes to ps)
+  of_send_nodes : (to : ℕ) (ps : List ℕ) → Q (S.send_nodes to ps)
   unfolding S.send_nodes
-  of-send-nodes to ps = by_station (λ s r. emit (message 3 to 0 0 0 (peer_infos s ps)) r) (λ s. told idle (message 3 to 0 0 0 (peer_infos s ps)))
+  of_send_nodes to ps = by_station (λ s r. emit (message 3 to 0 0 0 (peer_infos s ps)) r) (λ s. told idle (message 3 to 0 0 0 (peer_infos s ps)))
 
-  of-send-filled : (to len : ℕ) (ps : List ℕ) → Q (S.send_filled to len ps)
+  of_send_filled : (to len : ℕ) (ps : List ℕ) → Q (S.send_filled to len ps)
   unfolding S.send_filled S.fill_active
-  of-send-filled to len ps =
-      shuffles (λ s. s.active) (λ s o. o.active_few) (λ s ys r. S.send_nodes to (ps ++ take (len - length ps) ys) r) (λ s ys. of-send-nodes to (ps ++ take (len - length ps) ys))
+  of_send_filled to len ps =
+      shuffles (λ s. s.active) (λ s o. o.active_few) (λ s ys r. S.send_nodes to (ps ++ take (len - length ps) ys) r) (λ s ys. of_send_nodes to (ps ++ take (len - length ps) ys))
 
-  of-send-shuffle-reply : (to len : ℕ) → Q (S.send_shuffle_reply to len)
+  of_send_shuffle_reply : (to len : ℕ) → Q (S.send_shuffle_reply to len)
   unfolding S.send_shuffle_reply S.reply_with
-  of-send-shuffle-reply to len =
+  of_send_shuffle_reply to len =
       shuffles (λ s. s.passive) (λ s o. o.passive_few) (λ s ys r. choose (ltb (length (take len ys)) len) (S.send_filled to len (take len ys) r) (S.send_nodes to (take len ys) r))
-      (λ s ys. either (ltb (length (take len ys)) len) (of-send-filled to len (take len ys)) (of-send-nodes to (take len ys)))
+      (λ s ys. either (ltb (length (take len ys)) len) (of_send_filled to len (take len ys)) (of_send_nodes to (take len ys)))
 
-  of-send-disconnect : (p : ℕ) (alive : Bool) → Q (S.send_disconnect p alive)
+  of_send_disconnect : (p : ℕ) (alive : Bool) → Q (S.send_disconnect p alive)
   unfolding S.send_disconnect
-  of-send-disconnect p alive =
-      by_station (λ s r. emit (message 5 p (flag alive) 0 0 []) (S.send_shuffle_reply p (S.reply_length s) r)) (λ s. told (of-send-shuffle-reply p (S.reply_length s)) (message 5 p (flag alive) 0 0 []))
+  of_send_disconnect p alive =
+      by_station (λ s r. emit (message 5 p (flag alive) 0 0 []) (S.send_shuffle_reply p (S.reply_length s) r)) (λ s. told (of_send_shuffle_reply p (S.reply_length s)) (message 5 p (flag alive) 0 0 []))
 
-  of-tell-request : (p : ℕ) (high : Bool) (id : ℕ) → Q (S.tell_request p high id)
+  of_tell_request : (p : ℕ) (high : Bool) (id : ℕ) → Q (S.tell_request p high id)
   unfolding S.tell_request
-  of-tell-request p high id =
+  of_tell_request p high id =
       by_station (λ s r. emit (timer (kind_byte PendingNeighborRequest) p s.config.neighbor_request_timeout id) (emit (S.neighbor_to s.own_data high p) r))
       (λ s. told (told idle (S.neighbor_to s.own_data high p)) (timer (kind_byte PendingNeighborRequest) p s.config.neighbor_request_timeout id))
 
-  of-open-request : (p : ℕ) → Q (λ r. S.open_request p (S.count_request r))
+  of_open_request : (p : ℕ) → Q (λ r. S.open_request p (S.count_request r))
   unfolding S.open_request S.count_request
-  of-open-request p =
+  of_open_request p =
       thens (by_station (λ s r. require 10 (S.request_counts s) r) (λ s. tests 10 (S.request_counts s) (λ e. omega (arith, e))))
       (thens (by_station (λ s r. require 6 (S.request_fits s) r) (λ s. tests 6 (S.request_fits s) (λ e. omega (arith, e)))) (changes (S.note_request p)))
 
-  of-send-neighbor : (p : ℕ) (high : Bool) → Q (S.send_neighbor p high)
+  of_send_neighbor : (p : ℕ) (high : Bool) → Q (S.send_neighbor p high)
   unfolding S.send_neighbor
-  of-send-neighbor p high =
+  of_send_neighbor p high =
       by_station (λ s r. choose (is_requested p s) r (S.tell_request p high s.next_request (S.open_request p (S.count_request r))))
-      (λ s. either (is_requested p s) idle (thens (of-open-request p) (of-tell-request p high s.next_request)))
+      (λ s. either (is_requested p s) idle (thens (of_open_request p) (of_tell_request p high s.next_request)))
 
-  of-reply-neighbor : (reply : Bool) (p : ℕ) (high : Bool) → Q (S.reply_neighbor reply p high)
+  of_reply_neighbor : (reply : Bool) (p : ℕ) (high : Bool) → Q (S.reply_neighbor reply p high)
   unfolding S.reply_neighbor
-  of-reply-neighbor reply p high = either reply (of-send-neighbor p high) idle
+  of_reply_neighbor reply p high = either reply (of_send_neighbor p high) idle
 
   -- Refill
-  of-refill-limited : (skip : List ℕ) → Q (F.refill_limited skip)
+  of_refill_limited : (skip : List ℕ) → Q (F.refill_limited skip)
   unfolding F.refill_limited F.ask_one F.ask_picked
-  of-refill-limited skip =
+  of_refill_limited skip =
       by_station (λ s r. choose (null (F.candidates skip s)) (on F.end_recovery r) (on F.use_request (S.send_neighbor (picked (F.candidates skip r.station) r) (is_alone r.station) (draw_one_of (length (F.candidates skip r.station)) r))))
       (λ s. either (null (F.candidates skip s)) (changes F.end_recovery)
-      (picks_item (F.candidates skip) (few_candidates skip) (λ s i r. on F.use_request (S.send_neighbor i (is_alone s) r)) (λ s i. thens (of-send-neighbor i (is_alone s)) (changes F.use_request))))
+      (picks_item (F.candidates skip) (few_candidates skip) (λ s i r. on F.use_request (S.send_neighbor i (is_alone s) r)) (λ s i. thens (of_send_neighbor i (is_alone s)) (changes F.use_request))))
 
-  of-refill : (skip : List ℕ) → Q (F.refill_active_from_passive skip)
+  of_refill : (skip : List ℕ) → Q (F.refill_active_from_passive skip)
   unfolding F.refill_active_from_passive
-  of-refill skip = by_station (λ s r. choose (F.needs_none s) r (F.refill_limited skip (on F.limit_short r))) (λ s. either (F.needs_none s) idle (thens (changes F.limit_short) (of-refill-limited skip)))
+  of_refill skip = by_station (λ s r. choose (F.needs_none s) r (F.refill_limited skip (on F.limit_short r))) (λ s. either (F.needs_none s) idle (thens (changes F.limit_short) (of_refill_limited skip)))
 
-  of-start-refill : (limit : Refill) (skip : List ℕ) → Q (F.start_refill limit skip)
+  of_start_refill : (limit : Refill) (skip : List ℕ) → Q (F.start_refill limit skip)
   unfolding F.start_refill
-  of-start-refill limit skip = thens (changes (F.begin_refill limit)) (of-refill skip)
+  of_start_refill limit skip = thens (changes (F.begin_refill limit)) (of_refill skip)
 
   -- Active
-  of-drop-active : (i : ℕ) → Q (A.drop_active i)
+  of_drop_active : (i : ℕ) → Q (A.drop_active i)
   unfolding A.drop_active
-  of-drop-active i = by_station (λ s r. emit (notice (output_byte NeighborDown) (get_or s.active i 0)) (on (A.swap_active i) r)) (λ s. told (changes (A.swap_active i)) (notice (output_byte NeighborDown) (get_or s.active i 0)))
+  of_drop_active i = by_station (λ s r. emit (notice (output_byte NeighborDown) (get_or s.active i 0)) (on (A.swap_active i) r)) (λ s. told (changes (A.swap_active i)) (notice (output_byte NeighborDown) (get_or s.active i 0)))
 
-  of-demote : (p : ℕ) → Q (A.demote p)
+  of_demote : (p : ℕ) → Q (A.demote p)
   unfolding A.demote
-  of-demote p = by_station (λ s r. P.add_passive p (lookup p s.peer_data) (on (P.drop_data p) r)) (λ s. thens (changes (P.drop_data p)) (of-add-passive p (lookup p s.peer_data)))
+  of_demote p = by_station (λ s r. P.add_passive p (lookup p s.peer_data) (on (P.drop_data p) r)) (λ s. thens (changes (P.drop_data p)) (of_add_passive p (lookup p s.peer_data)))
 
-  of-demote-alive : (p : ℕ) → Q (A.demote_alive p)
+  of_demote_alive : (p : ℕ) → Q (A.demote_alive p)
   unfolding A.demote_alive
-  of-demote-alive p = thens (of-demote p) (changes (A.mark_alive p))
+  of_demote_alive p = thens (of_demote p) (changes (A.mark_alive p))
 
-  of-settle : (why : Reason) (p : ℕ) → Q (A.settle why p)
+  of_settle : (why : Reason) (p : ℕ) → Q (A.settle why p)
   unfolding A.settle A.settle_closed
-  of-settle connection_closed p =
-      by_station (λ s r. choose (P.is_marked p s) (A.demote p (on (P.drop_mark p) r)) (P.forget_peer p r)) (λ s. either (P.is_marked p s) (thens (changes (P.drop_mark p)) (of-demote p)) (of-forget p))
-  of-settle (disconnect_received true) p = of-demote-alive p
-  of-settle (disconnect_received false) p = of-forget p
-  of-settle random p = thens (of-send-disconnect p true) (of-demote-alive p)
+  of_settle connection_closed p =
+      by_station (λ s r. choose (P.is_marked p s) (A.demote p (on (P.drop_mark p) r)) (P.forget_peer p r)) (λ s. either (P.is_marked p s) (thens (changes (P.drop_mark p)) (of_demote p)) (of_forget p))
+  of_settle (disconnect_received true) p = of_demote_alive p
+  of_settle (disconnect_received false) p = of_forget p
+  of_settle random p = thens (of_send_disconnect p true) (of_demote_alive p)
 
-  of-remove-at : (i : ℕ) (why : Reason) → Q (A.remove_active_by_index i why)
+  of_remove_at : (i : ℕ) (why : Reason) → Q (A.remove_active_by_index i why)
   unfolding A.remove_active_by_index
-  of-remove-at i why = by_station (λ s r. A.settle why (get_or s.active i 0) (A.drop_active i r)) (λ s. thens (of-drop-active i) (of-settle why (get_or s.active i 0)))
+  of_remove_at i why = by_station (λ s r. A.settle why (get_or s.active i 0) (A.drop_active i r)) (λ s. thens (of_drop_active i) (of_settle why (get_or s.active i 0)))
 
-  of-remove-active : (p : ℕ) (why : Reason) → Q (A.remove_active p why)
+  of_remove_active : (p : ℕ) (why : Reason) → Q (A.remove_active p why)
   unfolding A.remove_active A.refill_after
-  of-remove-active p why =
+  of_remove_active p why =
       by_station (λ s r. choose (in_active p s) (F.start_refill recovery (p ∷ []) (on A.clear_refused (A.remove_active_by_index (index_of p s.active) why r))) r)
-      (λ s. either (in_active p s) (thens (of-remove-at (index_of p s.active) why) (thens (changes A.clear_refused) (of-start-refill recovery (p ∷ [])))) idle)
+      (λ s. either (in_active p s) (thens (of_remove_at (index_of p s.active) why) (thens (changes A.clear_refused) (of_start_refill recovery (p ∷ [])))) idle)
 
-  of-free : Q A.free_random_slot_in_active_view
+  of_free : Q A.free_random_slot_in_active_view
   unfolding A.free_random_slot_in_active_view A.remove_picked
-  of-free =
+  of_free =
       by_station
       (λ s r. choose (null (without_pin s)) r (A.remove_active_by_index (index_of (picked (without_pin r.station) r) r.station.active) random (draw_one_of (length (without_pin r.station)) r)))
       (λ s. either (null (without_pin s)) idle
-      (picks_item without_pin few_free (λ s i r. A.remove_active_by_index (index_of i s.active) random r) (λ s i. of-remove-at (index_of i s.active) random)))
+      (picks_item without_pin few_free (λ s i r. A.remove_active_by_index (index_of i s.active) random r) (λ s i. of_remove_at (index_of i s.active) random)))
 
-  of-enter-active : (p : ℕ) → Q (A.enter_active p)
+  of_enter_active : (p : ℕ) → Q (A.enter_active p)
   unfolding A.enter_active
-  of-enter-active p = thens (told (changes (A.move_in p)) (notice (output_byte NeighborUp) p)) (changes A.gain_neighbor)
+  of_enter_active p = thens (told (changes (A.move_in p)) (notice (output_byte NeighborUp) p)) (changes A.gain_neighbor)
 
-  of-unchecked : (p : ℕ) (high reply : Bool) → Q (A.add_active_unchecked p high reply)
+  of_unchecked : (p : ℕ) (high reply : Bool) → Q (A.add_active_unchecked p high reply)
   unfolding A.add_active_unchecked
-  of-unchecked p high reply = thens (of-enter-active p) (of-reply-neighbor reply p high)
+  of_unchecked p high reply = thens (of_enter_active p) (of_reply_neighbor reply p high)
 
-  of-add-active : (p : ℕ) (d : Data) (high reply : Bool) → Q (A.add_active p d high reply)
+  of_add_active : (p : ℕ) (d : Data) (high reply : Bool) → Q (A.add_active p d high reply)
   unfolding A.add_active A.admit A.admit_new A.admit_full
-  of-add-active p d high reply =
+  of_add_active p d high reply =
       by_station (λ s r. choose (is_me p s) r (A.admit p high reply (P.insert_peer_info p d r)))
-      (λ s. either (is_me p s) idle (thens (of-insert p d)
+      (λ s. either (is_me p s) idle (thens (of_insert p d)
       (by_station (λ s r. choose (in_active p s) (S.reply_neighbor reply p high r) (choose (active_is_full s) (choose high (A.add_active_unchecked p high reply (A.free_random_slot_in_active_view r)) r) (A.add_active_unchecked p high reply r)))
-      (λ s. either (in_active p s) (of-reply-neighbor reply p high) (either (active_is_full s) (either high (thens of-free (of-unchecked p high reply)) idle) (of-unchecked p high reply))))))
+      (λ s. either (in_active p s) (of_reply_neighbor reply p high) (either (active_is_full s) (either high (thens of_free (of_unchecked p high reply)) idle) (of_unchecked p high reply))))))
 
   -- Messages
-  of-drop-pending : (p : ℕ) → Q (M.drop_pending p)
+  of_drop_pending : (p : ℕ) → Q (M.drop_pending p)
   unfolding M.drop_pending
-  of-drop-pending p = thens (changes (M.drop_join p)) (changes (M.drop_request p))
+  of_drop_pending p = thens (changes (M.drop_join p)) (changes (M.drop_request p))
 
-  of-on-join : (p : ℕ) (d : Data) → Q (M.on_join p d)
+  of_on_join : (p : ℕ) (d : Data) → Q (M.on_join p d)
   unfolding M.on_join M.forward_joins
-  of-on-join p d =
-      thens (thens (of-drop-pending p) (of-add-active p d true true))
+  of_on_join p d =
+      thens (thens (of_drop_pending p) (of_add_active p d true true))
       (by_station (λ s r. emit_all (M.forward_join_to (node p d) s.config.active_random_walk_length) (without p s.active) r)
-      (λ s. of-emit-all (M.forward_join_to (node p d) s.config.active_random_walk_length) (without p s.active)))
+      (λ s. of_emit_all (M.forward_join_to (node p d) s.config.active_random_walk_length) (without p s.active)))
 
-  of-walk-on : (from : ℕ) (n : Node) (ttl : ℕ) → Q (M.walk_on from n ttl)
+  of_walk_on : (from : ℕ) (n : Node) (ttl : ℕ) → Q (M.walk_on from n ttl)
   unfolding M.walk_on M.forward_join_on
-  of-walk-on from n ttl =
+  of_walk_on from n ttl =
       by_station (λ s r. choose (is_requested n.id s) r (emit (M.forward_join_to n (next ttl) (picked (without from r.station.active) r)) (draw_one_of (length (without from r.station.active)) r)))
       (λ s. either (is_requested n.id s) idle
       (picks_item (λ s. without from s.active) (few_others from) (λ s i r. emit (M.forward_join_to n (next ttl) i) r) (λ s i. told idle (M.forward_join_to n (next ttl) i))))
 
-  of-on-forward-join : (from : ℕ) (n : Node) (ttl : ℕ) → Q (M.on_forward_join from n ttl)
+  of_on_forward_join : (from : ℕ) (n : Node) (ttl : ℕ) → Q (M.on_forward_join from n ttl)
   unfolding M.on_forward_join M.ask_joiner M.learn_joiner
-  of-on-forward-join from n ttl =
+  of_on_forward_join from n ttl =
       by_station (λ s r. choose (M.ends_here n.id ttl s) (S.send_neighbor n.id true (P.insert_peer_info n.id n.data_of r)) (M.walk_on from n ttl (choose (eqb ttl s.config.passive_random_walk_length) (P.add_passive n.id n.data_of r) r)))
-      (λ s. either (M.ends_here n.id ttl s) (thens (of-insert n.id n.data_of) (of-send-neighbor n.id true))
-      (thens (either (eqb ttl s.config.passive_random_walk_length) (of-add-passive n.id n.data_of) idle) (of-walk-on from n ttl)))
+      (λ s. either (M.ends_here n.id ttl s) (thens (of_insert n.id n.data_of) (of_send_neighbor n.id true))
+      (thens (either (eqb ttl s.config.passive_random_walk_length) (of_add_passive n.id n.data_of) idle) (of_walk_on from n ttl)))
 
-  of-on-shuffle : (from origin : ℕ) (ns : List Node) (ttl : ℕ) → Q (M.on_shuffle from origin ns ttl)
+  of_on_shuffle : (from origin : ℕ) (ns : List Node) (ttl : ℕ) → Q (M.on_shuffle from origin ns ttl)
   unfolding M.on_shuffle M.answer_shuffle M.forward_shuffle
-  of-on-shuffle from origin ns ttl =
+  of_on_shuffle from origin ns ttl =
       let others : Station → List ℕ = (λ s. without_all (origin ∷ from ∷ []) s.active) in
       by_station (λ s r. choose (M.answers_shuffle ttl s) (S.send_shuffle_reply origin (length ns) (P.add_nodes ns r))
       (choose (null (others s)) r (emit (message 2 (picked (others r.station) r) 0 origin (next ttl) ns) (draw_one_of (length (others r.station)) r))))
-      (λ s. either (M.answers_shuffle ttl s) (thens (of-add-nodes ns) (of-send-shuffle-reply origin (length ns)))
+      (λ s. either (M.answers_shuffle ttl s) (thens (of_add_nodes ns) (of_send_shuffle_reply origin (length ns)))
       (either (null (others s)) idle
       (picks_item others (λ s o. omega (arith, length_without_all (origin ∷ from ∷ []) s.active, o.active_few)) (λ s i r. emit (message 2 i 0 origin (next ttl) ns) r) (λ s i. told idle (message 2 i 0 origin (next ttl) ns)))))
 
-  of-after-reply : (from : ℕ) (new : Bool) → Q (M.after_reply from new)
+  of_after_reply : (from : ℕ) (new : Bool) → Q (M.after_reply from new)
   unfolding M.after_reply M.refill_with
-  of-after-reply from new =
+  of_after_reply from new =
       by_station (λ s r. choose (M.stops_at_refusal from s) r (choose (M.renews_limit from new s) (F.start_refill F.few_requests [] r) (F.refill_active_from_passive [] r)))
-      (λ s. either (M.stops_at_refusal from s) idle (either (M.renews_limit from new s) (of-start-refill F.few_requests []) (of-refill [])))
+      (λ s. either (M.stops_at_refusal from s) idle (either (M.renews_limit from new s) (of_start_refill F.few_requests []) (of_refill [])))
 
-  of-replied : (from : ℕ) (new : Bool) (ns : List Node) → Q (replied from new ns)
+  of_replied : (from : ℕ) (new : Bool) (ns : List Node) → Q (replied from new ns)
   unfolding replied P.any_new P.add_nodes
-  of-replied from new [] = same_step (λ r. ap (λ (b : Bool). M.after_reply from b r) (or_false new)) (of-after-reply from new)
-  of-replied from new (n ∷ ns) =
+  of_replied from new [] = same_step (λ r. ap (λ (b : Bool). M.after_reply from b r) (or_false new)) (of_after_reply from new)
+  of_replied from new (n ∷ ns) =
       by_station (λ s r. M.after_reply from (new || (P.is_newcomer n.id s || P.any_new ns (P.add_passive n.id n.data_of r))) (P.add_nodes ns (P.add_passive n.id n.data_of r)))
       (λ s. same_step (λ r. ap (λ (b : Bool). M.after_reply from b (P.add_nodes ns (P.add_passive n.id n.data_of r))) (sym (or_assoc new (P.is_newcomer n.id s) (P.any_new ns (P.add_passive n.id n.data_of r)))))
-      (thens (of-add-passive n.id n.data_of) (of-replied from (new || P.is_newcomer n.id s) ns)))
+      (thens (of_add_passive n.id n.data_of) (of_replied from (new || P.is_newcomer n.id s) ns)))
 
-  of-on-shuffle-reply : (from : ℕ) (ns : List Node) → Q (M.on_shuffle_reply from ns)
+  of_on_shuffle_reply : (from : ℕ) (ns : List Node) → Q (M.on_shuffle_reply from ns)
   unfolding M.on_shuffle_reply replied
-  of-on-shuffle-reply from ns = of-replied from false ns
+  of_on_shuffle_reply from ns = of_replied from false ns
 
-  of-on-neighbor : (p : ℕ) (d : Data) (high : Bool) → Q (M.on_neighbor p d high)
+  of_on_neighbor : (p : ℕ) (d : Data) (high : Bool) → Q (M.on_neighbor p d high)
   unfolding M.on_neighbor M.answer_neighbor M.refuse_neighbor
-  of-on-neighbor p d high =
+  of_on_neighbor p d high =
       by_station (λ s r. M.answer_neighbor p d high (not (is_requested p s)) (M.drop_pending p r))
-      (λ s. let reply = not (is_requested p s) in thens (of-drop-pending p)
+      (λ s. let reply = not (is_requested p s) in thens (of_drop_pending p)
       (by_station (λ s r. choose (A.accepts p high s) (A.add_active p d high reply r) (P.forget_peer p (S.send_disconnect p true (A.add_active p d high reply r))))
-      (λ s. either (A.accepts p high s) (of-add-active p d high reply) (thens (of-add-active p d high reply) (thens (of-send-disconnect p true) (of-forget p))))))
+      (λ s. either (A.accepts p high s) (of_add_active p d high reply) (thens (of_add_active p d high reply) (thens (of_send_disconnect p true) (of_forget p))))))
 
-  of-left-topic : (p : ℕ) (requested : Bool) → Q (M.left_topic p requested)
+  of_left_topic : (p : ℕ) (requested : Bool) → Q (M.left_topic p requested)
   unfolding M.left_topic
-  of-left-topic p requested = either requested (thens (of-drop-passive p) (of-refill (p ∷ []))) (of-drop-passive p)
+  of_left_topic p requested = either requested (thens (of_drop_passive p) (of_refill (p ∷ []))) (of_drop_passive p)
 
-  of-note-refusal : (p : ℕ) (requested : Bool) → Q (M.note_refusal p requested)
+  of_note_refusal : (p : ℕ) (requested : Bool) → Q (M.note_refusal p requested)
   unfolding M.note_refusal M.note_refused
-  of-note-refusal p requested =
+  of_note_refusal p requested =
       either requested (thens (by_station (λ s r. require 7 (M.refused_fits p s) r) (λ s. tests 7 (M.refused_fits p s) (λ e. omega (arith, e)))) (changes (M.add_refused p))) idle
 
-  of-disconnected : (p : ℕ) (alive requested : Bool) → Q (M.disconnected p alive requested)
+  of_disconnected : (p : ℕ) (alive requested : Bool) → Q (M.disconnected p alive requested)
   unfolding M.disconnected M.disconnect_other M.mark_passive
-  of-disconnected p alive requested =
+  of_disconnected p alive requested =
       by_station (λ s r. choose (in_active p s) (A.remove_active p (disconnect_received alive) r) (choose alive (M.mark_passive p (M.note_refusal p requested r)) (M.left_topic p requested r)))
-      (λ s. either (in_active p s) (of-remove-active p (disconnect_received alive))
-      (either alive (thens (of-note-refusal p requested) (by_station (λ s r. choose (in_passive p s) (on (A.mark_alive p) r) r) (λ s. either (in_passive p s) (changes (A.mark_alive p)) idle))) (of-left-topic p requested)))
+      (λ s. either (in_active p s) (of_remove_active p (disconnect_received alive))
+      (either alive (thens (of_note_refusal p requested) (by_station (λ s r. choose (in_passive p s) (on (A.mark_alive p) r) r) (λ s. either (in_passive p s) (changes (A.mark_alive p)) idle))) (of_left_topic p requested)))
 
-  of-on-disconnect : (p : ℕ) (alive : Bool) → Q (M.on_disconnect p alive)
+  of_on_disconnect : (p : ℕ) (alive : Bool) → Q (M.on_disconnect p alive)
   unfolding M.on_disconnect M.forget_recent
-  of-on-disconnect p alive =
+  of_on_disconnect p alive =
       by_station (λ s r. M.disconnected p alive (is_requested p s) (on (M.drop_request p) (choose alive (on (M.drop_join p) r) (on (M.drop_recent p) (on (M.drop_join p) r)))))
-      (λ s. thens (thens (thens (changes (M.drop_join p)) (either alive idle (changes (M.drop_recent p)))) (changes (M.drop_request p))) (of-disconnected p alive (is_requested p s)))
+      (λ s. thens (thens (thens (changes (M.drop_join p)) (either alive idle (changes (M.drop_recent p)))) (changes (M.drop_request p))) (of_disconnected p alive (is_requested p s)))
 
   -- Events
-  of-handle-join : (p : ℕ) → Q (E.handle_join p)
+  of_handle_join : (p : ℕ) → Q (E.handle_join p)
   unfolding E.handle_join E.join_new E.join_other E.await_join E.open_join
-  of-handle-join p =
+  of_handle_join p =
       thens (changes (E.push_bootstrap p))
       (by_station (λ s r. choose (in_active p s) r (choose (is_me p s) (S.join p r) (E.await_join p (S.join p r))))
-      (λ s. either (in_active p s) idle (either (is_me p s) (of-join p) (thens (of-join p)
+      (λ s. either (in_active p s) idle (either (is_me p s) (of_join p) (thens (of_join p)
       (by_station (λ s r. emit (timer (kind_byte RetryJoin) p join_retry_delay s.next_join) (on (E.note_join p) (require 10 (E.join_counts s) r)))
       (λ s. told (thens (tests 10 (E.join_counts s) (λ e. omega (arith, e))) (changes (E.note_join p))) (timer (kind_byte RetryJoin) p join_retry_delay s.next_join)))))))
 
-  of-lose-passive : (p : ℕ) → Q (E.lose_passive p)
+  of_lose_passive : (p : ℕ) → Q (E.lose_passive p)
   unfolding E.lose_passive
-  of-lose-passive p = by_station (λ s r. choose (P.is_marked p s) (on (P.drop_mark p) r) (on (E.drop_dead p) r)) (λ s. either (P.is_marked p s) (changes (P.drop_mark p)) (changes (E.drop_dead p)))
+  of_lose_passive p = by_station (λ s r. choose (P.is_marked p s) (on (P.drop_mark p) r) (on (E.drop_dead p) r)) (λ s. either (P.is_marked p s) (changes (P.drop_mark p)) (changes (E.drop_dead p)))
 
-  of-closed : (p : ℕ) → Q (E.handle_connection_closed p)
+  of_closed : (p : ℕ) → Q (E.handle_connection_closed p)
   unfolding E.handle_connection_closed E.lose E.lose_other
-  of-closed p =
+  of_closed p =
       by_station (λ s r. E.lose p (is_requested p s) (on (M.drop_request p) r))
       (λ s. let asked = is_requested p s in thens (changes (M.drop_request p))
       (by_station (λ s r. choose (in_active p s) (A.remove_active p connection_closed r) (choose asked (F.refill_active_from_passive (p ∷ []) (E.lose_passive p r)) (E.lose_passive p r)))
-      (λ s. either (in_active p s) (of-remove-active p connection_closed) (either asked (thens (of-lose-passive p) (of-refill (p ∷ []))) (of-lose-passive p)))))
+      (λ s. either (in_active p s) (of_remove_active p connection_closed) (either asked (thens (of_lose_passive p) (of_refill (p ∷ []))) (of_lose_passive p)))))
 
-  of-pin : (p : ℕ) → Q (E.handle_pin p)
+  of_pin : (p : ℕ) → Q (E.handle_pin p)
   unfolding E.handle_pin E.require_neighbor E.pin_neighbor
-  of-pin p =
+  of_pin p =
       thens (by_station (λ s r. require 17 (in_active p s) r) (λ s. tests 17 (in_active p s) (λ e. omega (arith, e))))
       (thens (by_station (λ s r. require 18 (is_pinned p s || E.pins_left s) r) (λ s. tests 18 (is_pinned p s || E.pins_left s) (λ e. omega (arith, e)))) (changes (E.note_pin p)))
 
-  of-quit-all : (ps : List ℕ) → Q (E.quit_all ps)
+  of_quit_all : (ps : List ℕ) → Q (E.quit_all ps)
   unfolding E.quit_all E.quit_one
-  of-quit-all [] = idle
-  of-quit-all (p ∷ ps) = thens (thens (changes (E.remove_neighbor p)) (of-send-disconnect p false)) (of-quit-all ps)
+  of_quit_all [] = idle
+  of_quit_all (p ∷ ps) = thens (thens (changes (E.remove_neighbor p)) (of_send_disconnect p false)) (of_quit_all ps)
 
-  of-quit : Q E.handle_quit
+  of_quit : Q E.handle_quit
   unfolding E.handle_quit
-  of-quit = by_station (λ s r. on E.clear_all (E.quit_all s.active r)) (λ s. thens (of-quit-all s.active) (changes E.clear_all))
+  of_quit = by_station (λ s r. on E.clear_all (E.quit_all s.active r)) (λ s. thens (of_quit_all s.active) (changes E.clear_all))
 
   -- Timers
-  of-neighbor-timer : (p id : ℕ) → Q (T.handle_pending_neighbor_timer p id)
+  of_neighbor_timer : (p id : ℕ) → Q (T.handle_pending_neighbor_timer p id)
   unfolding T.handle_pending_neighbor_timer T.request_failed
-  of-neighbor-timer p id =
+  of_neighbor_timer p id =
       by_station (λ s r. choose (T.request_is p id s) (F.refill_active_from_passive [] (P.drop_passive p (on (M.drop_request p) r))) r)
-      (λ s. either (T.request_is p id s) (thens (changes (M.drop_request p)) (thens (of-drop-passive p) (of-refill []))) idle)
+      (λ s. either (T.request_is p id s) (thens (changes (M.drop_request p)) (thens (of_drop_passive p) (of_refill []))) idle)
 
-  of-retry-join : (p id : ℕ) → Q (T.retry_join p id)
+  of_retry_join : (p id : ℕ) → Q (T.retry_join p id)
   unfolding T.retry_join
-  of-retry-join p id = by_station (λ s r. choose (T.join_is p id s) (S.join p (on (M.drop_join p) r)) r) (λ s. either (T.join_is p id s) (thens (changes (M.drop_join p)) (of-join p)) idle)
+  of_retry_join p id = by_station (λ s r. choose (T.join_is p id s) (S.join p (on (M.drop_join p) r)) r) (λ s. either (T.join_is p id s) (thens (changes (M.drop_join p)) (of_join p)) idle)
 
   -- the delay drawn stands in the record, and does not change its length
-  of-schedule-shuffle : Q T.schedule_shuffle
+  of_schedule_shuffle : Q T.schedule_shuffle
   unfolding T.schedule_shuffle size_by
-  of-schedule-shuffle = delayed (λ s d. timer (kind_byte DoShuffle) 0 (delay s.next_interval d) 0) (λ s c d. refl) T.double_interval
+  of_schedule_shuffle = delayed (λ s d. timer (kind_byte DoShuffle) 0 (delay s.next_interval d) 0) (λ s c d. refl) T.double_interval
 
-  of-send-shuffle : (to : ℕ) (ps : List ℕ) → Q (T.send_shuffle to ps)
+  of_send_shuffle : (to : ℕ) (ps : List ℕ) → Q (T.send_shuffle to ps)
   unfolding T.send_shuffle
-  of-send-shuffle to ps =
+  of_send_shuffle to ps =
       by_station (λ s r. emit (message 2 to 0 s.me s.config.shuffle_random_walk_length (T.shuffle_nodes ps s)) r) (λ s. told idle (message 2 to 0 s.me s.config.shuffle_random_walk_length (T.shuffle_nodes ps s)))
 
-  of-shuffle-passive : (to : ℕ) (acts : List ℕ) → Q (T.shuffle_passive to acts)
+  of_shuffle_passive : (to : ℕ) (acts : List ℕ) → Q (T.shuffle_passive to acts)
   unfolding T.shuffle_passive T.passive_sample
-  of-shuffle-passive to acts =
+  of_shuffle_passive to acts =
       shuffles (λ s. without to s.passive) (λ s o. omega (arith, length_without to s.passive, o.passive_few)) (λ s ys r. T.send_shuffle to (acts ++ take s.config.shuffle_passive_view_count ys) r)
-      (λ s ys. of-send-shuffle to (acts ++ take s.config.shuffle_passive_view_count ys))
+      (λ s ys. of_send_shuffle to (acts ++ take s.config.shuffle_passive_view_count ys))
 
-  of-shuffle-with : (to : ℕ) → Q (T.shuffle_with to)
+  of_shuffle_with : (to : ℕ) → Q (T.shuffle_with to)
   unfolding T.shuffle_with T.active_sample
-  of-shuffle-with to =
+  of_shuffle_with to =
       shuffles (λ s. without to s.active) (few_others to) (λ s ys r. T.shuffle_passive to (take s.config.shuffle_active_view_count ys) r)
-      (λ s ys. of-shuffle-passive to (take s.config.shuffle_active_view_count ys))
+      (λ s ys. of_shuffle_passive to (take s.config.shuffle_active_view_count ys))
 
-  of-shuffle-timer : Q T.handle_shuffle_timer
+  of_shuffle_timer : Q T.handle_shuffle_timer
   unfolding T.handle_shuffle_timer T.shuffle_any
-  of-shuffle-timer =
+  of_shuffle_timer =
       thens (by_station (λ s r. choose (is_alone s) r (T.shuffle_with (picked r.station.active r) (draw_one_of (length r.station.active) r)))
-      (λ s. either (is_alone s) idle (picks_item (λ s. s.active) (λ s o. o.active_few) (λ s i r. T.shuffle_with i r) (λ s i. of-shuffle-with i)))) of-schedule-shuffle
+      (λ s. either (is_alone s) idle (picks_item (λ s. s.active) (λ s o. o.active_few) (λ s i r. T.shuffle_with i r) (λ s i. of_shuffle_with i)))) of_schedule_shuffle
 
-  of-rejoin : Q T.rejoin
+  of_rejoin : Q T.rejoin
   unfolding T.rejoin T.rejoin_recent T.rejoin_bootstrap T.other_recent
-  of-rejoin =
+  of_rejoin =
       let after : Run → Run = (λ r. emit_all (S.join_to r.station.own_data) r.station.bootstrap r) in
       let others : Station → List ℕ = (λ s. without_all s.bootstrap s.recent) in
       let join_one : Run → Run = (λ r. choose (null (others r.station)) r (S.join (picked (others r.station) r) (draw_one_of (length (others r.station)) r))) in
       same_step (λ r. ap (λ (s : Station). choose (null (others s)) (after r) (S.join (picked (others s) (after r)) (draw_one_of (length (others s)) (after r)))) (sym (told_station (S.join_to r.station.own_data) r.station.bootstrap r)))
-      (thens (by_station (λ s r. emit_all (S.join_to s.own_data) s.bootstrap r) (λ s. of-emit-all (S.join_to s.own_data) s.bootstrap))
+      (thens (by_station (λ s r. emit_all (S.join_to s.own_data) s.bootstrap r) (λ s. of_emit_all (S.join_to s.own_data) s.bootstrap))
       (by_station (λ s r. choose (null (others s)) r (S.join (picked (others r.station) r) (draw_one_of (length (others r.station)) r)))
-      (λ s. either (null (others s)) idle (picks_item others (λ s o. omega (arith, length_without_all s.bootstrap s.recent, o.recent_few)) (λ s i r. S.join i r) (λ s i. of-join i)))))
+      (λ s. either (null (others s)) idle (picks_item others (λ s o. omega (arith, length_without_all s.bootstrap s.recent, o.recent_few)) (λ s i r. S.join i r) (λ s i. of_join i)))))
 
-  of-maintain : Q T.maintain
+  of_maintain : Q T.maintain
   unfolding T.maintain T.pass_alone T.rejoin_if_due T.count_alone T.pass_known T.pass_neighbors T.pass_short T.refill_if_due T.refill_anew T.count_short
-  of-maintain =
+  of_maintain =
       by_station (λ s r. choose (T.knows_none s) (T.pass_alone r) (T.pass_known (on T.not_alone r)))
       (λ s. either (T.knows_none s)
       (thens (thens (by_station (λ s r. require 10 (T.alone_counts s) r) (λ s. tests 10 (T.alone_counts s) (λ e. omega (arith, e)))) (changes T.add_alone))
-      (by_station (λ s r. choose (backoff_due s.passes_alone) (T.rejoin r) r) (λ s. either (backoff_due s.passes_alone) of-rejoin idle)))
+      (by_station (λ s r. choose (backoff_due s.passes_alone) (T.rejoin r) r) (λ s. either (backoff_due s.passes_alone) of_rejoin idle)))
       (thens (changes T.not_alone)
       (by_station (λ s r. choose (is_alone s) (F.start_refill recovery [] r) (T.pass_neighbors r))
-      (λ s. either (is_alone s) (of-start-refill recovery [])
+      (λ s. either (is_alone s) (of_start_refill recovery [])
       (by_station (λ s r. choose (is_short s) (T.pass_short r) (on A.clear_refused r))
       (λ s. either (is_short s)
       (by_station (λ s r. choose (T.in_recovery s) r (T.refill_if_due (T.count_short r)))
       (λ s. either (T.in_recovery s) idle
       (thens (thens (by_station (λ s r. require 10 (T.short_counts s) r) (λ s. tests 10 (T.short_counts s) (λ e. omega (arith, e)))) (changes T.add_short))
       (by_station (λ s r. choose (backoff_due s.passes_short) (F.start_refill F.few_requests [] (on A.clear_refused r)) r)
-      (λ s. either (backoff_due s.passes_short) (thens (changes A.clear_refused) (of-start-refill F.few_requests [])) idle)))))
+      (λ s. either (backoff_due s.passes_short) (thens (changes A.clear_refused) (of_start_refill F.few_requests [])) idle)))))
       (changes A.clear_refused)))))))
 
-  of-schedule-maintenance : Q T.schedule_maintenance
+  of_schedule_maintenance : Q T.schedule_maintenance
   unfolding T.schedule_maintenance
-  of-schedule-maintenance = told idle (timer (kind_byte DoMaintenance) 0 maintenance_interval 0)
+  of_schedule_maintenance = told idle (timer (kind_byte DoMaintenance) 0 maintenance_interval 0)
 
-  of-maintenance-timer : Q T.handle_maintenance_timer
+  of_maintenance_timer : Q T.handle_maintenance_timer
   unfolding T.handle_maintenance_timer
-  of-maintenance-timer = thens (thens (changes T.remember_all) of-maintain) of-schedule-maintenance
+  of_maintenance_timer = thens (thens (changes T.remember_all) of_maintain) of_schedule_maintenance
 
   -- Handle
-  of-message : (e : Rec) → Q (H.handle_message e)
+  of_message : (e : Rec) → Q (H.handle_message e)
   unfolding H.handle_message
-  of-message e =
-      either (eqb e.message 0) (of-on-join e.peer (H.first_data e))
-      (either (eqb e.message 1) (of-on-forward-join e.peer (H.first_node e.nodes) e.ttl)
-      (either (eqb e.message 2) (of-on-shuffle e.peer e.second e.nodes e.ttl)
-      (either (eqb e.message 3) (of-on-shuffle-reply e.peer e.nodes)
-      (either (eqb e.message 4) (of-on-neighbor e.peer (H.first_data e) (H.is_high e))
-      (of-on-disconnect e.peer (H.says_alive e))))))
+  of_message e =
+      either (eqb e.message 0) (of_on_join e.peer (H.first_data e))
+      (either (eqb e.message 1) (of_on_forward_join e.peer (H.first_node e.nodes) e.ttl)
+      (either (eqb e.message 2) (of_on_shuffle e.peer e.second e.nodes e.ttl)
+      (either (eqb e.message 3) (of_on_shuffle_reply e.peer e.nodes)
+      (either (eqb e.message 4) (of_on_neighbor e.peer (H.first_data e) (H.is_high e))
+      (of_on_disconnect e.peer (H.says_alive e))))))
 
-  of-kind : (e : Rec) (k : EventKind) → Q (H.handle_kind (some k) e)
+  of_kind : (e : Rec) (k : EventKind) → Q (H.handle_kind (some k) e)
   unfolding H.handle_kind
-  of-kind e Message = of-message e
-  of-kind e DoShuffle = of-shuffle-timer
-  of-kind e DoMaintenance = of-maintenance-timer
-  of-kind e PendingNeighborRequest = of-neighbor-timer e.peer e.number
-  of-kind e RetryJoin = of-retry-join e.peer e.number
-  of-kind e PeerDisconnected = of-closed e.peer
-  of-kind e RequestJoin = of-handle-join e.peer
-  of-kind e UpdatePeerData = changes (E.update_own_data (H.first_data e))
-  of-kind e Quit = of-quit
-  of-kind e Pin = of-pin e.peer
+  of_kind e Message = of_message e
+  of_kind e DoShuffle = of_shuffle_timer
+  of_kind e DoMaintenance = of_maintenance_timer
+  of_kind e PendingNeighborRequest = of_neighbor_timer e.peer e.number
+  of_kind e RetryJoin = of_retry_join e.peer e.number
+  of_kind e PeerDisconnected = of_closed e.peer
+  of_kind e RequestJoin = of_handle_join e.peer
+  of_kind e UpdatePeerData = changes (E.update_own_data (H.first_data e))
+  of_kind e Quit = of_quit
+  of_kind e Pin = of_pin e.peer
 
-  of-dispatch : (e : Rec) → Q (H.dispatch e)
+  of_dispatch : (e : Rec) → Q (H.dispatch e)
   unfolding H.dispatch
-  of-dispatch e = by_kind (λ (o : Option EventKind). Q (H.handle_kind o e)) e.kind (λ _. idle) (λ k _. of-kind e k)
+  of_dispatch e = by_kind (λ (o : Option EventKind). Q (H.handle_kind o e)) e.kind (λ _. idle) (λ k _. of_kind e k)
 
-  of-first-timers : Q H.first_timers
+  of_first_timers : Q H.first_timers
   unfolding H.first_timers
-  of-first-timers =
+  of_first_timers =
       by_station (λ s r. choose s.scheduled r (T.schedule_maintenance (T.schedule_shuffle (on H.note_scheduled r))))
-      (λ s. either s.scheduled idle (thens (thens (changes H.note_scheduled) of-schedule-shuffle) of-schedule-maintenance))
+      (λ s. either s.scheduled idle (thens (thens (changes H.note_scheduled) of_schedule_shuffle) of_schedule_maintenance))
 
   pub of_steps : (e : Rec) → Q (H.steps e)
   unfolding H.steps
-  of_steps e = thens (thens (of-dispatch e) of-first-timers) (changes H.forget_declined)
+  of_steps e = thens (thens (of_dispatch e) of_first_timers) (changes H.forget_declined)

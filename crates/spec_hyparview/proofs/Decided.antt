@@ -20,8 +20,8 @@ use Rattle.spec_hyparview.specs.Rules.{all_under, station_ok}
 use Rattle.spec_hyparview.specs.Kept.{Struck, FewerKept}
 use Rattle.spec_hyparview.specs.Handle.{Result, start, steps, refusal, accepted, finish, handle_reading, handle}
 use Rattle.spec_hyparview.proofs.Reading.{Readable, by_reading}
-use Rattle.spec_hyparview.proofs.Whole.{ok-steps}
-use Rattle.spec_hyparview.proofs.Tested.{between-of}
+use Rattle.spec_hyparview.proofs.Whole.{ok_steps}
+use Rattle.spec_hyparview.proofs.Tested.{between_of}
 use Rattle.spec_hyparview.proofs.Readers.{Which, whole, kept, small, part, Sure}
 use Rattle.spec_hyparview.proofs.Plays.{Like, At, Alike, Follows, goes, ends, crowded}
 use Rattle.spec_hyparview.proofs.Played.{plays_steps}
@@ -71,9 +71,9 @@ module _ (s : Station) (ok : station_ok s ≡ true) (room : ℕ) (e : Rec) (w : 
   abbrev answered : List ℕ → Result
   answered ds = finish s (run ds)
 
-  all-drawn : (ds : List ℕ) (rest : List ℕ) → At (run ds) rest → (run ds).used + length rest ≡ length ds
-  all-drawn ds rest a =
-      let k = ok-steps (s.config.active_view_capacity + 9) ds room e w (pays_all s.config.active_view_capacity e) (between-of s ok) in
+  all_drawn : (ds : List ℕ) (rest : List ℕ) → At (run ds) rest → (run ds).used + length rest ≡ length ds
+  all_drawn ds rest a =
+      let k = ok_steps (s.config.active_view_capacity + 9) ds room e w (pays_all s.config.active_view_capacity e) (between_of s ok) in
       omega (arith, a.within, ap length a.left, length-drop (run ds).used (run ds).draws, ap length k.codes.lent)
 
   from_start : (ds js : List ℕ) → Like (start s ds room) (start s js room)
@@ -82,17 +82,17 @@ module _ (s : Station) (ok : station_ok s ≡ true) (room : ℕ) (e : Rec) (w : 
   at_start : (ds : List ℕ) → At (start s ds room) ds
   at_start ds = record { within = omega arith; left = refl }
 
-  few-kept : (ds : List ℕ) → (run ds).code ≡ 5 → Follows (steps e) (start s ds room) ds → FewerKept 512 (λ l. (answered l).code) (λ l. (answered l).used) (λ l. (answered l).state) ds
+  few_kept : (ds : List ℕ) → (run ds).code ≡ 5 → Follows (steps e) (start s ds room) ds → FewerKept 512 (λ l. (answered l).code) (λ l. (answered l).used) (λ l. (answered l).state) ds
   unfolding part
-  few-kept ds five (goes p t q n k) = absurd (n five)
-  few-kept ds five (crowded js sure k) =
-      let o = ok-steps (s.config.active_view_capacity + 9) js room e w (pays_all s.config.active_view_capacity e) (between-of s ok) in
+  few_kept ds five (goes p t q n k) = absurd (n five)
+  few_kept ds five (crowded js sure k) =
+      let o = ok_steps (s.config.active_view_capacity + 9) js room e w (pays_all s.config.active_view_capacity e) (between_of s ok) in
       let x = k (start s js room) (from_start ds js) (at_start js) in
       absurd (x.1 (o.codes.roomy x.0))
-  few-kept ds five (ends p q k h) =
+  few_kept ds five (ends p q k h) =
       let js = p.small_of in
       let ks = p.kept_of in
-      let o = ok-steps (s.config.active_view_capacity + 9) js room e w (pays_all s.config.active_view_capacity e) (between-of s ok) in
+      let o = ok_steps (s.config.active_view_capacity + 9) js room e w (pays_all s.config.active_view_capacity e) (between_of s ok) in
       let g = o.codes.five (k small (start s js room) (from_start ds js) (at_start js)) in
       let alike : (more : List ℕ) → Alike (run (ds ++ more)) (run (ks ++ more)) = (λ more.
       h more (start s (ds ++ more) room) (start s (ks ++ more) room) (from_start ds (ds ++ more)) (from_start ds (ks ++ more))
@@ -106,35 +106,35 @@ module _ (s : Station) (ok : station_ok s ≡ true) (room : ℕ) (e : Rec) (w : 
           same_used = λ more z.
               let y : (run (ds ++ more)).code ≡ 0 = sym (finish_code s (run (ds ++ more))) ∙ z in
               let b = (alike more).both y in
-              omega (arith, (finish_open s (run (ds ++ more)) y).1, (finish_open s (run (ks ++ more)) ((alike more).like.code ∙ y)).1, all-drawn (ds ++ more) b.rest b.here, all-drawn (ks ++ more) b.rest b.there, length-append ds more, length-append ks more);
+              omega (arith, (finish_open s (run (ds ++ more)) y).1, (finish_open s (run (ks ++ more)) ((alike more).like.code ∙ y)).1, all_drawn (ds ++ more) b.rest b.here, all_drawn (ks ++ more) b.rest b.there, length-append ds more, length-append ks more);
         };
         few = omega (arith, g, all_sure js (all_below js p.sure), p.paired);
       }
 
-  kept-event : (ds : List ℕ) → (answered ds).code ≡ 5 → FewerKept 512 (λ l. (answered l).code) (λ l. (answered l).used) (λ l. (answered l).state) ds
-  kept-event ds five = few-kept ds (sym (finish_code s (run ds)) ∙ five) ((plays_steps e).follows (start s ds room) ds refl (at_start ds))
+  kept_event : (ds : List ℕ) → (answered ds).code ≡ 5 → FewerKept 512 (λ l. (answered l).code) (λ l. (answered l).used) (λ l. (answered l).state) ds
+  kept_event ds five = few_kept ds (sym (finish_code s (run ds)) ∙ five) ((plays_steps e).follows (start s ds room) ds refl (at_start ds))
 
   -- an accepted run has read what it used, and does the same with what is kept of it
-  used-kept : (ds : List ℕ) → (run ds).code ≡ 0 → Follows (steps e) (start s ds room) ds → FewerKept 513 (λ l. (answered l).code) (λ l. (answered l).used) (λ l. (answered l).state) (take (run ds).used ds)
+  used_kept : (ds : List ℕ) → (run ds).code ≡ 0 → Follows (steps e) (start s ds room) ds → FewerKept 513 (λ l. (answered l).code) (λ l. (answered l).used) (λ l. (answered l).state) (take (run ds).used ds)
   unfolding part
-  used-kept ds z (ends p q k h) = absurd (omega (arith, z, k whole (start s ds room) (from_start ds ds) (subst (At (start s ds room)) q (at_start ds))))
-  used-kept ds z (crowded js sure k) =
-      let o = ok-steps (s.config.active_view_capacity + 9) js room e w (pays_all s.config.active_view_capacity e) (between-of s ok) in
+  used_kept ds z (ends p q k h) = absurd (omega (arith, z, k whole (start s ds room) (from_start ds ds) (subst (At (start s ds room)) q (at_start ds))))
+  used_kept ds z (crowded js sure k) =
+      let o = ok_steps (s.config.active_view_capacity + 9) js room e w (pays_all s.config.active_view_capacity e) (between_of s ok) in
       let x = k (start s js room) (from_start ds js) (at_start js) in
       absurd (x.1 (o.codes.roomy x.0))
-  used-kept ds z (goes p t q n k) =
+  used_kept ds z (goes p t q n k) =
       let js = p.small_of in
       let ks = p.kept_of in
       let ws = p.whole_of in
-      let o = ok-steps (s.config.active_view_capacity + 9) js room e w (pays_all s.config.active_view_capacity e) (between-of s ok) in
+      let o = ok_steps (s.config.active_view_capacity + 9) js room e w (pays_all s.config.active_view_capacity e) (between_of s ok) in
       let reads : (i : Which) (more : List ℕ) → Like (run ds) (run (part i p ++ more)) × At (run (part i p ++ more)) more = (λ i more.
       k i (start s (part i p ++ more) room) more (from_start ds (part i p ++ more)) (at_start (part i p ++ more))) in
       let small-read = k small (start s js room) [] (from_start ds js) (subst (At (start s js room)) (sym (append-nil js)) (at_start js)) in
       let used-of : (i : Which) (more : List ℕ) → (run (part i p ++ more)).used ≡ length (part i p) = (λ i more.
-      omega (arith, all-drawn (part i p ++ more) more (reads i more).1, length-append (part i p) more)) in
+      omega (arith, all_drawn (part i p ++ more) more (reads i more).1, length-append (part i p) more)) in
       let all : (run ds).used ≡ length ws = ap (λ (l : List ℕ). (run l).used) q ∙ used-of whole t in
       let front : take (run ds).used ds ≡ ws = ap (λ (l : List ℕ). take (run ds).used l) q ∙ (ap (λ (j : ℕ). take j (ws ++ t)) all ∙ take-append_seam ws t) in
-      let spent_all : (run js).used ≡ length js = omega (arith, all-drawn js [] small-read.1) in
+      let spent_all : (run js).used ≡ length js = omega (arith, all_drawn js [] small-read.1) in
       let g = o.good (small-read.0.code ∙ z) in
       let drawn : sure (take (run js).used (run js).draws) ≡ sure js =
       ap (λ (l : List ℕ). sure (take (run js).used l)) o.codes.lent ∙ (ap (λ (j : ℕ). sure (take j js)) spent_all ∙ ap sure (take-length js)) in
@@ -155,11 +155,11 @@ module _ (s : Station) (ok : station_ok s ≡ true) (room : ℕ) (e : Rec) (w : 
         few = omega (arith, g.draws_left, drawn, all_sure js (all_below js p.sure), p.paired);
       })
 
-  used-event : (ds : List ℕ) → (answered ds).code ≡ 0 → FewerKept 513 (λ l. (answered l).code) (λ l. (answered l).used) (λ l. (answered l).state) (take (answered ds).used ds)
-  used-event ds zero =
+  used_event : (ds : List ℕ) → (answered ds).code ≡ 0 → FewerKept 513 (λ l. (answered l).code) (λ l. (answered l).used) (λ l. (answered l).state) (take (answered ds).used ds)
+  used_event ds zero =
       let z = sym (finish_code s (run ds)) ∙ zero in
       subst (λ (n : ℕ). FewerKept 513 (λ l. (answered l).code) (λ l. (answered l).used) (λ l. (answered l).state) (take n ds)) (sym (finish_open s (run ds) z).1)
-      (used-kept ds z ((plays_steps e).follows (start s ds room) ds refl (at_start ds)))
+      (used_kept ds z ((plays_steps e).follows (start s ds room) ds refl (at_start ds)))
 
 -- by what the event is read as
 module _ (s : Station) (ok : station_ok s ≡ true) (room : ℕ) (ds : List ℕ) where
@@ -172,34 +172,34 @@ module _ (s : Station) (ok : station_ok s ≡ true) (room : ℕ) (ds : List ℕ)
   abbrev Used : Reading → Type 0
   Used x = (handle_reading x s ds room).code ≡ 0 → KeptOf 513 x (take (handle_reading x s ds room).used ds)
 
-  no-event : (c : ℕ) → 3 ≤ c → c ≤ 4 → Fewer (refused c) × Used (refused c)
+  no_event : (c : ℕ) → 3 ≤ c → c ≤ 4 → Fewer (refused c) × Used (refused c)
   unfolding handle_reading refusal
-  no-event c l h = (λ five. absurd (omega (arith, h, five)), λ zero. absurd (omega (arith, l, zero)))
+  no_event c l h = (λ five. absurd (omega (arith, h, five)), λ zero. absurd (omega (arith, l, zero)))
 
-  an-event : (e : Rec) → Readable e → Fewer (event e) × Used (event e)
+  an_event : (e : Rec) → Readable e → Fewer (event e) × Used (event e)
   unfolding handle_reading
-  an-event e w = (λ five. kept-event s ok room e w ds five, λ zero. used-event s ok room e w ds zero)
+  an_event e w = (λ five. kept_event s ok room e w ds five, λ zero. used_event s ok room e w ds zero)
 
 module _ (s : Station) (ok : station_ok s ≡ true) (b : List ℕ) (bytes : all_under 256 b ≡ true) (ds : List ℕ) (room : ℕ) where
   abbrev KeptBy : ℕ → List ℕ → Type 0
   KeptBy n l = FewerKept n (λ k. (handle s b k room).code) (λ k. (handle s b k room).used) (λ k. (handle s b k room).state) l
 
-  is-reading : (l : List ℕ) → handle s b l room ≡ handle_reading (read_event b) s l room
+  is_reading : (l : List ℕ) → handle s b l room ≡ handle_reading (read_event b) s l room
   unfolding handle
-  is-reading l = choose_yes (station_ok s) (handle_reading (read_event b) s l room) (refusal 2 s room) ok
+  is_reading l = choose_yes (station_ok s) (handle_reading (read_event b) s l room) (refusal 2 s room) ok
 
   decided : Fewer s ok room ds (read_event b) × Used s ok room ds (read_event b)
-  decided = by_reading b bytes (λ (x : Reading). Fewer s ok room ds x × Used s ok room ds x) (λ c l h. no-event s ok room ds c l h) (λ w. an-event s ok room ds _ w)
+  decided = by_reading b bytes (λ (x : Reading). Fewer s ok room ds x × Used s ok room ds x) (λ c l h. no_event s ok room ds c l h) (λ w. an_event s ok room ds _ w)
 
   carried : (n : ℕ) (l : List ℕ) → KeptOf s ok room ds n (read_event b) l → KeptBy n l
   carried n l k =
-      fewer_as (λ (x : Station). x) (λ l. ap (λ (a : Result). a.code) (is-reading l)) (λ l. ap (λ (a : Result). a.used) (is-reading l)) (λ l. ap (λ (a : Result). a.state) (is-reading l)) k
+      fewer_as (λ (x : Station). x) (λ l. ap (λ (a : Result). a.code) (is_reading l)) (λ l. ap (λ (a : Result). a.used) (is_reading l)) (λ l. ap (λ (a : Result). a.state) (is_reading l)) k
 
   -- of one call at a station that passes the rules
-  pub fewer-kept : (handle s b ds room).code ≡ 5 → KeptBy 512 ds
-  fewer-kept five = carried 512 ds (decided.0 (sym (ap (λ (a : Result). a.code) (is-reading ds)) ∙ five))
+  pub fewer_kept : (handle s b ds room).code ≡ 5 → KeptBy 512 ds
+  fewer_kept five = carried 512 ds (decided.0 (sym (ap (λ (a : Result). a.code) (is_reading ds)) ∙ five))
 
-  pub most-kept : (handle s b ds room).code ≡ 0 → KeptBy 513 (take (handle s b ds room).used ds)
-  most-kept zero =
-      subst (λ (n : ℕ). KeptBy 513 (take n ds)) (sym (ap (λ (a : Result). a.used) (is-reading ds)))
-      (carried 513 (take (handle_reading (read_event b) s ds room).used ds) (decided.1 (sym (ap (λ (a : Result). a.code) (is-reading ds)) ∙ zero)))
+  pub most_kept : (handle s b ds room).code ≡ 0 → KeptBy 513 (take (handle s b ds room).used ds)
+  most_kept zero =
+      subst (λ (n : ℕ). KeptBy 513 (take n ds)) (sym (ap (λ (a : Result). a.used) (is_reading ds)))
+      (carried 513 (take (handle_reading (read_event b) s ds room).used ds) (decided.1 (sym (ap (λ (a : Result). a.code) (is_reading ds)) ∙ zero)))

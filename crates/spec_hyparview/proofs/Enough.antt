@@ -21,8 +21,8 @@ use Rattle.spec_hyparview.specs.Station.{Station}
 use Rattle.spec_hyparview.specs.Rules.{all_under, station_ok}
 use Rattle.spec_hyparview.specs.Handle.{Result, start, steps, refusal, accepted, finish, handle_reading, handle}
 use Rattle.spec_hyparview.proofs.Reading.{Readable, by_reading}
-use Rattle.spec_hyparview.proofs.Whole.{Pays, ok-steps}
-use Rattle.spec_hyparview.proofs.Tested.{between-of}
+use Rattle.spec_hyparview.proofs.Whole.{Pays, ok_steps}
+use Rattle.spec_hyparview.proofs.Tested.{between_of}
 
 -- of an answer, to a call that lends the draws ds and room bytes
 pub record Enough (ds : List ℕ) (room : ℕ) (a : Result) : Type 0 where
@@ -54,11 +54,11 @@ drop_zeros (suc k) (suc n) m e = drop_zeros k n m (omega arith)
 rest_zero : (out : List ℕ) (room : ℕ) → length out ≤ 8192 → drop 8192 (out ++ replicate (room - length out) 0) ≡ replicate (room - 8192) 0
 unfolding zeros
 rest_zero out room l =
-    subst (λ (k : ℕ). drop k (out ++ replicate (room - length out) 0) ≡ replicate (room - 8192) 0) (omega-sum (length out) l)
+    subst (λ (k : ℕ). drop k (out ++ replicate (room - length out) 0) ≡ replicate (room - 8192) 0) (omega_sum (length out) l)
     (drop-append-add out (zeros (room - length out)) (8192 - length out) ∙ drop_zeros (8192 - length out) (room - length out) (room - 8192) (omega arith))
   where
-    omega-sum : (n : ℕ) → n ≤ 8192 → n + (8192 - n) ≡ 8192
-    omega-sum n l = omega arith
+    omega_sum : (n : ℕ) → n ≤ 8192 → n + (8192 - n) ≡ 8192
+    omega_sum n l = omega arith
 
 few_messages : (a m : ℕ) (k : EventKind) → kind_number a m (some k) ≤ a + 9
 unfolding kind_number message_number
@@ -91,12 +91,12 @@ enough_refusal ds c room s f g = record {
 }
 
 module _ (s : Station) (ok : station_ok s ≡ true) (ds : List ℕ) (room : ℕ) where
-  enough-event : (e : Rec) → Readable e → Enough ds room (finish s (steps e (start s ds room)))
+  enough_event : (e : Rec) → Readable e → Enough ds room (finish s (steps e (start s ds room)))
   unfolding finish accepted
-  enough-event e w =
+  enough_event e w =
       let a = s.config.active_view_capacity in
       let r = steps e (start s ds room) in
-      let k = ok-steps (a + 9) ds room e w (pays_all a e) (between-of s ok) in
+      let k = ok_steps (a + 9) ds room e w (pays_all a e) (between_of s ok) in
       by_choice (Enough ds room) (eqb r.code 0)
       (λ z. let g = k.good (eqb-true r.code 0 z) in record {
         no_five = λ l a f. omega arith;
@@ -113,4 +113,4 @@ module _ (s : Station) (ok : station_ok s ≡ true) (ds : List ℕ) (room : ℕ)
       rw (choose_yes (station_ok s) (handle_reading (read_event b) s ds room) (refusal 2 s room) ok)
       (by_reading b bytes (λ (x : Reading). Enough ds room (handle_reading x s ds room))
       (λ c l h. enough_refusal ds c room s (λ e. absurd (omega arith)) (λ e. absurd (omega arith)))
-      (λ w. enough-event _ w))
+      (λ w. enough_event _ w))

@@ -21,13 +21,13 @@ use Rattle.spec_hyparview.specs.Budgets.{bare, single, freeing, entering, admitt
 use Rattle.spec_hyparview.specs.Peers as P
 use Rattle.spec_hyparview.specs.Active as A
 use Rattle.base_lists.proofs.Members.{count_push_new}
-use Rattle.spec_hyparview.proofs.Law.{Short, Small, law-alive, law-recent, law-fill, law-short, law-pins}
+use Rattle.spec_hyparview.proofs.Law.{Short, Small, law_alive, law_recent, law_fill, law_short, law_pins}
 use Rattle.spec_hyparview.proofs.Changes.{unmark, renew_recent, pins_stay, small_or}
 use Rattle.spec_hyparview.proofs.Told.{up_after, note, sent_after}
-use Rattle.spec_hyparview.proofs.Invariant.{Fixed, Terms, busy, calm, Ok, with-inside, with-slots}
-use Rattle.spec_hyparview.proofs.Keeping.{ease, ok-if, ok-on, ok-map, ok-tell}
-use Rattle.spec_hyparview.proofs.Sends.{no_node, announce_station, ok-insert-peer-info, ok-reply-neighbor}
-use Rattle.spec_hyparview.proofs.Leaving.{ok-free-slot}
+use Rattle.spec_hyparview.proofs.Invariant.{Fixed, Terms, busy, calm, Ok, with_inside, with_slots}
+use Rattle.spec_hyparview.proofs.Keeping.{ease, ok_if, ok_on, ok_map, ok_tell}
+use Rattle.spec_hyparview.proofs.Sends.{no_node, announce_station, ok_insert_peer_info, ok_reply_neighbor}
+use Rattle.spec_hyparview.proofs.Leaving.{ok_free_slot}
 
 -- after p has entered the active view
 abbrev pub arrived : ℕ → Terms
@@ -35,16 +35,16 @@ arrived p = record { guest = []; barred = []; loose = []; inside = p ∷ []; roo
 
 pub settled : {q : Fixed} {p m b d : ℕ} {r : Run} → Ok q (arrived p) m b d r → Ok q calm m b d r
 unfolding count
-settled k = ok-map (λ o h w. record { still = h.still; seats = with-inside h.seats (λ x. omega arith); waits = h.waits; tally = h.tally }) k
+settled k = ok_map (λ o h w. record { still = h.still; seats = with_inside h.seats (λ x. omega arith); waits = h.waits; tally = h.tally }) k
 
 module _ {q : Fixed} {m b d : ℕ} where
-  pub ok-enter-active : (p : ℕ) {r : Run} → Ok q (busy (p ∷ []) (p ∷ []) [] 1 0) (m + 2) (b + bare) d r → Ok q (arrived p) m b d (A.enter_active p r)
+  pub ok_enter_active : (p : ℕ) {r : Run} → Ok q (busy (p ∷ []) (p ∷ []) [] 1 0) (m + 2) (b + bare) d r → Ok q (arrived p) m b d (A.enter_active p r)
   unfolding A.enter_active A.move_in A.remember_neighbor A.push_active A.gain_neighbor P.drop_mark P.remove_passive up_after note sent_after count choose Small
-  ok-enter-active p {r} k =
+  ok_enter_active p {r} k =
       let act = r.station.active in
       let pas = r.station.passive in
-      ok-on A.gain_neighbor (λ o h. h) (λ w. law-short (law-fill w (small_or _ automatic tt)) (record { high = omega arith }))
-      (ok-tell (notice (output_byte NeighborUp) p) bare {t = busy (p ∷ []) (p ∷ []) [] 1 0} (A.move_in p) (no_node (notice (output_byte NeighborUp) p) refl)
+      ok_on A.gain_neighbor (λ o h. h) (λ w. law_short (law_fill w (small_or _ automatic tt)) (record { high = omega arith }))
+      (ok_tell (notice (output_byte NeighborUp) p) bare {t = busy (p ∷ []) (p ∷ []) [] 1 0} (A.move_in p) (no_node (notice (output_byte NeighborUp) p) refl)
       (λ o h. h.seats.narrow p (omega (arith, is_self p)))
       (λ o h. record {
         still = h.still;
@@ -70,12 +70,12 @@ module _ {q : Fixed} {m b d : ℕ} where
           bound = omega (arith, h.tally.bound, length-append act (p ∷ []));
         };
       })
-      (λ w. law-pins (law-recent (law-alive w (unmark p w.alive_ok)) (renew_recent p w.recent_ok)) (pins_stay p w.pins_ok)) k)
+      (λ w. law_pins (law_recent (law_alive w (unmark p w.alive_ok)) (renew_recent p w.recent_ok)) (pins_stay p w.pins_ok)) k)
 
   -- what the tests of `add_active` promise
   pub invite : {ba : List ℕ} (p : ℕ) {r : Run} → p < peers_end → is_me p r.station ≡ false → in_active p r.station ≡ false → Ok q (busy [] ba [] 0 0) m b d r → Ok q (busy (p ∷ []) ba [] 0 0) m b d r
   unfolding count is_me in_active
-  invite p {r} pn e a k = ok-map (λ o h w. record {
+  invite p {r} pn e a k = ok_map (λ o h w. record {
     still = h.still;
     seats = record {
       one = h.seats.one;
@@ -92,18 +92,18 @@ module _ {q : Fixed} {m b d : ℕ} where
 
   pub open_slot : {g ba : List ℕ} {r : Run} → active_is_full r.station ≡ false → Ok q (busy g ba [] 0 0) m b d r → Ok q (busy g ba [] 1 0) m b d r
   unfolding active_is_full
-  open_slot {r = r} e k = ok-map (λ o h w. record {
+  open_slot {r = r} e k = ok_map (λ o h w. record {
     still = h.still;
-    seats = with-slots h.seats (omega (arith, leb-false r.station.config.active_view_capacity (length r.station.active) e));
+    seats = with_slots h.seats (omega (arith, leb-false r.station.config.active_view_capacity (length r.station.active) e));
     waits = h.waits;
     tally = h.tally;
   }) k
 
   pub stays : {ba : List ℕ} (p : ℕ) {r : Run} → in_active p r.station ≡ true → Ok q (busy [] ba [] 0 0) m b d r → Ok q (arrived p) m b d r
   unfolding count in_active
-  stays p {r} a k = ok-map (λ o h w. record {
+  stays p {r} a k = ok_map (λ o h w. record {
     still = h.still;
-    seats = with-inside h.seats (λ x. is_split (λ y. count y (p ∷ []) ≤ count y r.station.active) x p (omega (arith, mem_true p r.station.active a, is_le p p)) (λ n. omega arith));
+    seats = with_inside h.seats (λ x. is_split (λ y. count y (p ∷ []) ≤ count y r.station.active) x p (omega (arith, mem_true p r.station.active a, is_le p p)) (λ n. omega arith));
     waits = record {
       barring = λ x. omega (arith, h.waits.barring x);
       apart = h.waits.apart;
@@ -117,7 +117,7 @@ module _ {q : Fixed} {m b d : ℕ} where
 
   pub unbar : {ba : List ℕ} {r : Run} → Ok q (busy [] ba [] 0 0) m b d r → Ok q calm m b d r
   unfolding count
-  unbar k = ok-map (λ o h w. record {
+  unbar k = ok_map (λ o h w. record {
     still = h.still;
     seats = h.seats;
     waits = record {
@@ -132,9 +132,9 @@ module _ {q : Fixed} {m b d : ℕ} where
   }) k
 
 module _ {q : Fixed} {m b d : ℕ} where
-  pub ok-add-active-unchecked : (p : ℕ) (high reply : Bool) {r : Run} → Ok q (busy (p ∷ []) (p ∷ []) [] 1 0) (m + 3) (b + entering) d r → Ok q (arrived p) m b d (A.add_active_unchecked p high reply r)
+  pub ok_add_active_unchecked : (p : ℕ) (high reply : Bool) {r : Run} → Ok q (busy (p ∷ []) (p ∷ []) [] 1 0) (m + 3) (b + entering) d r → Ok q (arrived p) m b d (A.add_active_unchecked p high reply r)
   unfolding A.add_active_unchecked
-  ok-add-active-unchecked p high reply k = ok-reply-neighbor reply p high (ok-enter-active p (ease (omega arith) (omega arith) (omega arith) k))
+  ok_add_active_unchecked p high reply k = ok_reply_neighbor reply p high (ok_enter_active p (ease (omega arith) (omega arith) (omega arith) k))
 
 -- data that is stored changes neither the views nor self nor settings, which is all that `accepts` looks at
 pub on_same : {B : Type 0} (v : Station → B) (f : Station → Station) → ((s : Station) → v (f s) ≡ v s) → (r : Run) → v (on f r).station ≡ v r.station
@@ -155,41 +155,41 @@ same_after_info v h p (some x) r =
     (λ e. on_same v _ (λ s. h _ s) _ ∙ ap v (require_station 8 _ _ ∙ announce_station p x r))
 
 module _ {q : Fixed} {m b d : ℕ} where
-  pub ok-admit : (p : ℕ) → p < peers_end → (high reply : Bool) {r : Run} → is_me p r.station ≡ false → A.accepts p high r.station ≡ true → Ok q (busy [] (p ∷ []) [] 0 0) (m + 3) (b + (freeing + entering)) (d + 40) r → Ok q (arrived p) m b d (A.admit p high reply r)
+  pub ok_admit : (p : ℕ) → p < peers_end → (high reply : Bool) {r : Run} → is_me p r.station ≡ false → A.accepts p high r.station ≡ true → Ok q (busy [] (p ∷ []) [] 0 0) (m + 3) (b + (freeing + entering)) (d + 40) r → Ok q (arrived p) m b d (A.admit p high reply r)
   unfolding A.admit A.admit_new A.admit_full A.accepts
-  ok-admit p pn high reply {r} e acc k =
-      ok-if (in_active p r.station)
-      (λ a. ok-reply-neighbor reply p high (ease (omega arith) (omega arith) (omega arith) (stays p a k)))
+  ok_admit p pn high reply {r} e acc k =
+      ok_if (in_active p r.station)
+      (λ a. ok_reply_neighbor reply p high (ease (omega arith) (omega arith) (omega arith) (stays p a k)))
       (λ a. let i = invite p pn e a k in
-      ok-if (active_is_full r.station)
-      (λ f. ok-if high
-      (λ t. ok-add-active-unchecked p high reply (ok-free-slot (ease (omega arith) (omega arith) (omega arith) i)))
+      ok_if (active_is_full r.station)
+      (λ f. ok_if high
+      (λ t. ok_add_active_unchecked p high reply (ok_free_slot (ease (omega arith) (omega arith) (omega arith) i)))
       (λ t. clash (in_active p r.station || (high || not (active_is_full r.station))) (and_right (not (is_me p r.station)) _ acc) (rw (a, t, f))))
-      (λ f. ok-add-active-unchecked p high reply (ease (omega arith) (omega arith) (omega arith) (open_slot f i))))
+      (λ f. ok_add_active_unchecked p high reply (ease (omega arith) (omega arith) (omega arith) (open_slot f i))))
 
-  pub ok-admit-not : {ba : List ℕ} (p : ℕ) (high reply : Bool) {r : Run} → is_me p r.station ≡ false → A.accepts p high r.station ≡ false → Ok q (busy [] ba [] 0 0) m b d r → Ok q calm m b d (A.admit p high reply r)
+  pub ok_admit_not : {ba : List ℕ} (p : ℕ) (high reply : Bool) {r : Run} → is_me p r.station ≡ false → A.accepts p high r.station ≡ false → Ok q (busy [] ba [] 0 0) m b d r → Ok q calm m b d (A.admit p high reply r)
   unfolding A.admit A.admit_new A.admit_full A.accepts
-  ok-admit-not p high reply {r} e acc k =
+  ok_admit_not p high reply {r} e acc k =
       let o : (in_active p r.station || (high || not (active_is_full r.station))) ≡ false = and_false (not (is_me p r.station)) _ acc (λ n. clash (is_me p r.station) (not-false _ n) e) (λ n. n) in
       let w : (high || not (active_is_full r.station)) ≡ false = or_right (in_active p r.station) _ o in
-      ok-if (in_active p r.station)
+      ok_if (in_active p r.station)
       (λ a. clash (in_active p r.station) a (or_left (in_active p r.station) _ o))
-      (λ a. ok-if (active_is_full r.station)
-      (λ f. ok-if high (λ t. clash high t (or_left high _ w)) (λ t. unbar k))
+      (λ a. ok_if (active_is_full r.station)
+      (λ f. ok_if high (λ t. clash high t (or_left high _ w)) (λ t. unbar k))
       (λ f. clash (active_is_full r.station) (not-false _ (or_right high _ w)) f))
 
 module _ {q : Fixed} {m b d : ℕ} where
-  pub ok-add-active : (p : ℕ) → p < peers_end → (x : Data) → Short x → (high reply : Bool) {r : Run} → A.accepts p high r.station ≡ true → Ok q (busy [] (p ∷ []) [] 0 0) (m + 3) (b + admitting) (d + 40) r → Ok q (arrived p) m b d (A.add_active p x high reply r)
+  pub ok_add_active : (p : ℕ) → p < peers_end → (x : Data) → Short x → (high reply : Bool) {r : Run} → A.accepts p high r.station ≡ true → Ok q (busy [] (p ∷ []) [] 0 0) (m + 3) (b + admitting) (d + 40) r → Ok q (arrived p) m b d (A.add_active p x high reply r)
   unfolding A.add_active A.accepts is_me in_active active_is_full
-  ok-add-active p pn x l high reply {r} acc k =
-      ok-if (is_me p r.station)
+  ok_add_active p pn x l high reply {r} acc k =
+      ok_if (is_me p r.station)
       (λ e. clash (not (is_me p r.station)) (and_left (not (is_me p r.station)) _ acc) (rw e))
-      (λ e. ok-admit p pn high reply (same_after_info (is_me p) (λ y s. refl) p x r ∙ e) (same_after_info (A.accepts p high) (λ y s. refl) p x r ∙ acc)
-      (ok-insert-peer-info p x (λ z. l) (ease (omega arith) (omega arith) (omega arith) k)))
+      (λ e. ok_admit p pn high reply (same_after_info (is_me p) (λ y s. refl) p x r ∙ e) (same_after_info (A.accepts p high) (λ y s. refl) p x r ∙ acc)
+      (ok_insert_peer_info p x (λ z. l) (ease (omega arith) (omega arith) (omega arith) k)))
 
-  pub ok-add-active-not : {ba : List ℕ} (p : ℕ) (x : Data) → Short x → (high reply : Bool) {r : Run} → A.accepts p high r.station ≡ false → Ok q (busy [] ba [] 0 0) m (b + single) d r → Ok q calm m b d (A.add_active p x high reply r)
+  pub ok_add_active_not : {ba : List ℕ} (p : ℕ) (x : Data) → Short x → (high reply : Bool) {r : Run} → A.accepts p high r.station ≡ false → Ok q (busy [] ba [] 0 0) m (b + single) d r → Ok q calm m b d (A.add_active p x high reply r)
   unfolding A.add_active A.accepts is_me in_active active_is_full
-  ok-add-active-not p x l high reply {r} acc k =
-      ok-if (is_me p r.station) (λ e. unbar (ease (omega arith) (omega arith) (omega arith) k))
-      (λ e. ok-admit-not p high reply (same_after_info (is_me p) (λ y s. refl) p x r ∙ e) (same_after_info (A.accepts p high) (λ y s. refl) p x r ∙ acc)
-      (ok-insert-peer-info p x (λ z. l) k))
+  ok_add_active_not p x l high reply {r} acc k =
+      ok_if (is_me p r.station) (λ e. unbar (ease (omega arith) (omega arith) (omega arith) k))
+      (λ e. ok_admit_not p high reply (same_after_info (is_me p) (λ y s. refl) p x r ∙ e) (same_after_info (A.accepts p high) (λ y s. refl) p x r ∙ acc)
+      (ok_insert_peer_info p x (λ z. l) k))

@@ -12,7 +12,7 @@ use borrow.Author.Tests.{eqb-true, lt-ltb}
 use Rattle.base_lists.specs.Lists.{choose}
 use Rattle.base_lists.specs.Maps.{has, put}
 use Rattle.base_lists.proofs.Choice.{by_choice, choose_yes}
-use Rattle.base_lists.proofs.Maps.{length_cut, length-put, length-retain}
+use Rattle.base_lists.proofs.Maps.{length_cut, length_put, length_retain}
 use Rattle.base_peer.specs.Data.{Data, Node}
 use Rattle.record.specs.Format.{Rec}
 use Rattle.spec_hyparview.specs.Station.{Station, Refill}
@@ -42,48 +42,48 @@ or_so true b e = refl
 or_so false b e = e
 
 module _ {k : ℕ} where
-  pub fit-either : (test : Bool) {x y : Run} → Fits k x → Fits k y → Fits k (choose test x y)
-  fit-either test f g = by_choice (Fits k) test (λ e. f) (λ e. g)
+  pub fit_either : (test : Bool) {x y : Run} → Fits k x → Fits k y → Fits k (choose test x y)
+  fit_either test f g = by_choice (Fits k) test (λ e. f) (λ e. g)
 
-  pub fit-guard : {r after : Run} → Fits k r → (r.code ≡ 0 → Fits k after) → Fits k (guard r after)
+  pub fit_guard : {r after : Run} → Fits k r → (r.code ≡ 0 → Fits k after) → Fits k (guard r after)
   unfolding guard
-  fit-guard {r} h f = by_choice (Fits k) (eqb r.code 0) (λ e. f (eqb-true r.code 0 e)) (λ e. h)
+  fit_guard {r} h f = by_choice (Fits k) (eqb r.code 0) (λ e. f (eqb-true r.code 0 e)) (λ e. h)
 
   pub fit_on : (f : Station → Station) {r : Run} → Keeps f → Fits k r → Fits k (on f r)
   unfolding on
-  fit_on f {r} l h = fit-guard h (λ z. record { clear = h.clear; left = λ y. omega (arith, l r.station, h.left z) })
+  fit_on f {r} l h = fit_guard h (λ z. record { clear = h.clear; left = λ y. omega (arith, l r.station, h.left z) })
 
-  fit-require : (c : ℕ) → (c ≡ 8 → ⊥) → (c ≡ 0 → ⊥) → (test : Bool) {r : Run} → Fits k r → Fits k (require c test r)
+  fit_require : (c : ℕ) → (c ≡ 8 → ⊥) → (c ≡ 0 → ⊥) → (test : Bool) {r : Run} → Fits k r → Fits k (require c test r)
   unfolding require
-  fit-require c n m test h = fit-guard h (λ z. fit-either test h (record { clear = n; left = λ y. absurd (m y) }))
+  fit_require c n m test h = fit_guard h (λ z. fit_either test h (record { clear = n; left = λ y. absurd (m y) }))
 
-  pub fit-draw : (n : ℕ) {r : Run} → Fits k r → Fits k (draw n r)
+  pub fit_draw : (n : ℕ) {r : Run} → Fits k r → Fits k (draw n r)
   unfolding draw
-  fit-draw n h = fit-guard h (λ z. fit-either _ (record { clear = h.clear; left = h.left }) (record { clear = λ y. omega arith; left = λ y. absurd (omega arith) }))
+  fit_draw n h = fit_guard h (λ z. fit_either _ (record { clear = h.clear; left = h.left }) (record { clear = λ y. omega arith; left = λ y. absurd (omega arith) }))
 
-  pub fit-draw-one-of : (n : ℕ) {r : Run} → Fits k r → Fits k (R.draw_one_of n r)
+  pub fit_draw_one_of : (n : ℕ) {r : Run} → Fits k r → Fits k (R.draw_one_of n r)
   unfolding R.draw_one_of
-  fit-draw-one-of n h = fit-draw _ h
+  fit_draw_one_of n h = fit_draw _ h
 
-  fit-draw-shuffle : (xs : List ℕ) {r : Run} → Fits k r → Fits k (R.draw_shuffle xs r)
+  fit_draw_shuffle : (xs : List ℕ) {r : Run} → Fits k r → Fits k (R.draw_shuffle xs r)
   unfolding R.draw_shuffle
-  fit-draw-shuffle xs h = fit-draw _ h
+  fit_draw_shuffle xs h = fit_draw _ h
 
-  pub fit-emit : (e : Rec) {r : Run} → Fits k r → Fits k (emit e r)
+  pub fit_emit : (e : Rec) {r : Run} → Fits k r → Fits k (emit e r)
   unfolding emit
-  fit-emit e h = fit-guard h (λ z. fit-either _ (record { clear = h.clear; left = h.left }) (record { clear = λ y. omega arith; left = λ y. absurd (omega arith) }))
+  fit_emit e h = fit_guard h (λ z. fit_either _ (record { clear = h.clear; left = h.left }) (record { clear = λ y. omega arith; left = λ y. absurd (omega arith) }))
 
-  fit-emit-all : (f : ℕ → Rec) (ps : List ℕ) {r : Run} → Fits k r → Fits k (emit_all f ps r)
+  fit_emit_all : (f : ℕ → Rec) (ps : List ℕ) {r : Run} → Fits k r → Fits k (emit_all f ps r)
   unfolding emit_all
-  fit-emit-all f [] h = h
-  fit-emit-all f (p ∷ ps) h = fit-emit-all f ps (fit-emit (f p) h)
+  fit_emit_all f [] h = h
+  fit_emit_all f (p ∷ ps) h = fit_emit_all f ps (fit_emit (f p) h)
 
-  pub fit-less : {j : ℕ} {r : Run} → k ≤ j → Fits j r → Fits k r
-  fit-less l h = record { clear = h.clear; left = λ z. omega (arith, h.left z) }
+  pub fit_less : {j : ℕ} {r : Run} → k ≤ j → Fits j r → Fits k r
+  fit_less l h = record { clear = h.clear; left = λ z. omega (arith, h.left z) }
 
 -- one more entry at most, and no refusal where one fits
 pub put_one : (p : ℕ) (b : List ℕ) (m : List (ℕ × List ℕ)) → length (put p b m) ≤ length m + 1
-put_one p b m = length-put p (length m + 1) b m (or_so (has p m) _ (lt-ltb (length m) (length m + 1) (omega arith))) (omega arith)
+put_one p b m = length_put p (length m + 1) b m (or_so (has p m) _ (lt-ltb (length m) (length m + 1) (omega arith))) (omega arith)
 
 fit_keep : {k : ℕ} (p : ℕ) (b : List ℕ) {r : Run} → Fits (k + 1) r → Fits k (P.keep_data p b r)
 unfolding P.keep_data P.store_data P.data_fits require guard on
@@ -92,244 +92,244 @@ fit_keep {k} p b {r} h =
     by_choice (λ (w : Run). Fits k (on (P.store_data p b) w)) (eqb r.code 0)
     (λ e. let z = eqb-true r.code 0 e in
     rw (choose_yes (has p s.peer_data || ltb (length s.peer_data) 80) r (R.with_code 8 r) (or_so (has p s.peer_data) _ (lt-ltb (length s.peer_data) 80 (omega (arith, h.left z)))))
-    (fit-guard (fit-less (omega arith) h) (λ y. record { clear = h.clear; left = λ i. omega (arith, h.left z, put_one p b s.peer_data) })))
-    (λ e. fit-guard (fit-less (omega arith) h) (λ y. record { clear = h.clear; left = λ i. omega (arith, h.left y, put_one p b s.peer_data) }))
+    (fit_guard (fit_less (omega arith) h) (λ y. record { clear = h.clear; left = λ i. omega (arith, h.left z, put_one p b s.peer_data) })))
+    (λ e. fit_guard (fit_less (omega arith) h) (λ y. record { clear = h.clear; left = λ i. omega (arith, h.left y, put_one p b s.peer_data) }))
 
 module _ {k : ℕ} where
-  pub fit-insert-peer-info : (p : ℕ) (d : Data) {r : Run} → Fits (k + 1) r → Fits k (P.insert_peer_info p d r)
+  pub fit_insert_peer_info : (p : ℕ) (d : Data) {r : Run} → Fits (k + 1) r → Fits k (P.insert_peer_info p d r)
   unfolding P.insert_peer_info P.insert_data P.announce_data
-  fit-insert-peer-info p none h = fit-less (omega arith) h
-  fit-insert-peer-info p (some b) h = fit-either _ (fit-less (omega arith) h) (fit_keep p b (fit-either _ h (fit-emit _ h)))
+  fit_insert_peer_info p none h = fit_less (omega arith) h
+  fit_insert_peer_info p (some b) h = fit_either _ (fit_less (omega arith) h) (fit_keep p b (fit_either _ h (fit_emit _ h)))
 
   -- what is held of a peer, and the passive view
-  fit-drop-data : (p : ℕ) {r : Run} → Fits k r → Fits k (on (P.drop_data p) r)
+  fit_drop_data : (p : ℕ) {r : Run} → Fits k r → Fits k (on (P.drop_data p) r)
   unfolding P.drop_data
-  fit-drop-data p h = fit_on (P.drop_data p) (λ s. length_cut p s.peer_data) h
+  fit_drop_data p h = fit_on (P.drop_data p) (λ s. length_cut p s.peer_data) h
 
-  pub fit-forget : (p : ℕ) {r : Run} → Fits k r → Fits k (P.forget_peer p r)
+  pub fit_forget : (p : ℕ) {r : Run} → Fits k r → Fits k (P.forget_peer p r)
   unfolding P.forget_peer P.drop_traces P.drop_mark P.drop_data
-  fit-forget p h = fit-either _ h (fit_on (P.drop_traces p) (λ s. length_cut p s.peer_data) h)
+  fit_forget p h = fit_either _ h (fit_on (P.drop_traces p) (λ s. length_cut p s.peer_data) h)
 
-  fit-tell-evicted : (x : Option ℕ) {r : Run} → Fits k r → Fits k (P.tell_evicted x r)
+  fit_tell_evicted : (x : Option ℕ) {r : Run} → Fits k r → Fits k (P.tell_evicted x r)
   unfolding P.tell_evicted
-  fit-tell-evicted none h = h
-  fit-tell-evicted (some p) h = fit-emit _ h
+  fit_tell_evicted none h = h
+  fit_tell_evicted (some p) h = fit_emit _ h
 
-  fit-make-room : {r : Run} → Fits k r → Fits k (P.make_room r)
+  fit_make_room : {r : Run} → Fits k r → Fits k (P.make_room r)
   unfolding P.make_room P.evict P.evict_at P.shift_passive
-  fit-make-room {r} h =
-      fit-tell-evicted (P.evicted r) (fit-either _ (fit-forget _ (fit_on (P.shift_passive _) (λ s. omega arith) (fit-draw-one-of _ h))) h)
+  fit_make_room {r} h =
+      fit_tell_evicted (P.evicted r) (fit_either _ (fit_forget _ (fit_on (P.shift_passive _) (λ s. omega arith) (fit_draw_one_of _ h))) h)
 
-  fit-enter-passive : (p : ℕ) {r : Run} → Fits k r → Fits k (P.enter_passive p r)
+  fit_enter_passive : (p : ℕ) {r : Run} → Fits k r → Fits k (P.enter_passive p r)
   unfolding P.enter_passive P.push_passive
-  fit-enter-passive p h = fit-either _ (fit_on (P.push_passive p) (λ s. omega arith) (fit-make-room h)) h
+  fit_enter_passive p h = fit_either _ (fit_on (P.push_passive p) (λ s. omega arith) (fit_make_room h)) h
 
-  fit-drop-passive : (p : ℕ) {r : Run} → Fits k r → Fits k (P.drop_passive p r)
+  fit_drop_passive : (p : ℕ) {r : Run} → Fits k r → Fits k (P.drop_passive p r)
   unfolding P.drop_passive P.remove_passive
-  fit-drop-passive p h = fit-forget p (fit_on (P.remove_passive p) (λ s. omega arith) h)
+  fit_drop_passive p h = fit_forget p (fit_on (P.remove_passive p) (λ s. omega arith) h)
 
   -- messages sent
-  pub fit-send-shuffle-reply : (to len : ℕ) {r : Run} → Fits k r → Fits k (S.send_shuffle_reply to len r)
+  pub fit_send_shuffle_reply : (to len : ℕ) {r : Run} → Fits k r → Fits k (S.send_shuffle_reply to len r)
   unfolding S.send_shuffle_reply S.reply_with S.send_filled S.send_nodes
-  fit-send-shuffle-reply to len h =
-      let j = fit-draw-shuffle _ h in fit-either _ (fit-emit _ (fit-draw-shuffle _ j)) (fit-emit _ j)
+  fit_send_shuffle_reply to len h =
+      let j = fit_draw_shuffle _ h in fit_either _ (fit_emit _ (fit_draw_shuffle _ j)) (fit_emit _ j)
 
-  fit-send-disconnect : (p : ℕ) (alive : Bool) {r : Run} → Fits k r → Fits k (S.send_disconnect p alive r)
+  fit_send_disconnect : (p : ℕ) (alive : Bool) {r : Run} → Fits k r → Fits k (S.send_disconnect p alive r)
   unfolding S.send_disconnect
-  fit-send-disconnect p alive h = fit-emit _ (fit-send-shuffle-reply p _ h)
+  fit_send_disconnect p alive h = fit_emit _ (fit_send_shuffle_reply p _ h)
 
-  fit-send-neighbor : (p : ℕ) (high : Bool) {r : Run} → Fits k r → Fits k (S.send_neighbor p high r)
+  fit_send_neighbor : (p : ℕ) (high : Bool) {r : Run} → Fits k r → Fits k (S.send_neighbor p high r)
   unfolding S.send_neighbor S.tell_request S.open_request S.count_request S.note_request
-  fit-send-neighbor p high h =
-      fit-either _ h (fit-emit _ (fit-emit _ (fit_on (S.note_request p) (λ s. omega arith)
-      (fit-require 6 (λ e. omega arith) (λ e. omega arith) _ (fit-require 10 (λ e. omega arith) (λ e. omega arith) _ h)))))
+  fit_send_neighbor p high h =
+      fit_either _ h (fit_emit _ (fit_emit _ (fit_on (S.note_request p) (λ s. omega arith)
+      (fit_require 6 (λ e. omega arith) (λ e. omega arith) _ (fit_require 10 (λ e. omega arith) (λ e. omega arith) _ h)))))
 
-  fit-reply-neighbor : (reply : Bool) (p : ℕ) (high : Bool) {r : Run} → Fits k r → Fits k (S.reply_neighbor reply p high r)
+  fit_reply_neighbor : (reply : Bool) (p : ℕ) (high : Bool) {r : Run} → Fits k r → Fits k (S.reply_neighbor reply p high r)
   unfolding S.reply_neighbor
-  fit-reply-neighbor reply p high h = fit-either _ (fit-send-neighbor p high h) h
+  fit_reply_neighbor reply p high h = fit_either _ (fit_send_neighbor p high h) h
 
-  fit-join : (p : ℕ) {r : Run} → Fits k r → Fits k (S.join p r)
+  fit_join : (p : ℕ) {r : Run} → Fits k r → Fits k (S.join p r)
   unfolding S.join
-  fit-join p h = fit-emit _ h
+  fit_join p h = fit_emit _ h
 
   -- refills
-  pub fit-refill : (skip : List ℕ) {r : Run} → Fits k r → Fits k (F.refill_active_from_passive skip r)
+  pub fit_refill : (skip : List ℕ) {r : Run} → Fits k r → Fits k (F.refill_active_from_passive skip r)
   unfolding F.refill_active_from_passive F.refill_limited F.ask_one F.ask_picked F.limit_short F.end_recovery F.use_request
-  fit-refill skip h =
+  fit_refill skip h =
       let j = fit_on F.limit_short (λ s. omega arith) h in
-      fit-either _ h (fit-either _ (fit_on F.end_recovery (λ s. omega arith) j) (fit_on F.use_request (λ s. omega arith) (fit-send-neighbor _ _ (fit-draw-one-of _ j))))
+      fit_either _ h (fit_either _ (fit_on F.end_recovery (λ s. omega arith) j) (fit_on F.use_request (λ s. omega arith) (fit_send_neighbor _ _ (fit_draw_one_of _ j))))
 
-  pub fit-start-refill : (limit : Refill) (skip : List ℕ) {r : Run} → Fits k r → Fits k (F.start_refill limit skip r)
+  pub fit_start_refill : (limit : Refill) (skip : List ℕ) {r : Run} → Fits k r → Fits k (F.start_refill limit skip r)
   unfolding F.start_refill F.begin_refill
-  fit-start-refill limit skip h = fit-refill skip (fit_on (F.begin_refill limit) (λ s. omega arith) h)
+  fit_start_refill limit skip h = fit_refill skip (fit_on (F.begin_refill limit) (λ s. omega arith) h)
 
-  fit-clear-refused : {r : Run} → Fits k r → Fits k (on A.clear_refused r)
+  fit_clear_refused : {r : Run} → Fits k r → Fits k (on A.clear_refused r)
   unfolding A.clear_refused
-  fit-clear-refused h = fit_on A.clear_refused (λ s. omega arith) h
+  fit_clear_refused h = fit_on A.clear_refused (λ s. omega arith) h
 
   -- what was open with a peer
-  fit-drop-join : (p : ℕ) {r : Run} → Fits k r → Fits k (on (M.drop_join p) r)
+  fit_drop_join : (p : ℕ) {r : Run} → Fits k r → Fits k (on (M.drop_join p) r)
   unfolding M.drop_join
-  fit-drop-join p h = fit_on (M.drop_join p) (λ s. omega arith) h
+  fit_drop_join p h = fit_on (M.drop_join p) (λ s. omega arith) h
 
-  fit-drop-request : (p : ℕ) {r : Run} → Fits k r → Fits k (on (M.drop_request p) r)
+  fit_drop_request : (p : ℕ) {r : Run} → Fits k r → Fits k (on (M.drop_request p) r)
   unfolding M.drop_request
-  fit-drop-request p h = fit_on (M.drop_request p) (λ s. omega arith) h
+  fit_drop_request p h = fit_on (M.drop_request p) (λ s. omega arith) h
 
-  fit-drop-pending : (p : ℕ) {r : Run} → Fits k r → Fits k (M.drop_pending p r)
+  fit_drop_pending : (p : ℕ) {r : Run} → Fits k r → Fits k (M.drop_pending p r)
   unfolding M.drop_pending
-  fit-drop-pending p h = fit-drop-request p (fit-drop-join p h)
+  fit_drop_pending p h = fit_drop_request p (fit_drop_join p h)
 
   -- into the active view
-  fit-enter : (p : ℕ) (high reply : Bool) {r : Run} → Fits k r → Fits k (A.add_active_unchecked p high reply r)
+  fit_enter : (p : ℕ) (high reply : Bool) {r : Run} → Fits k r → Fits k (A.add_active_unchecked p high reply r)
   unfolding A.add_active_unchecked A.enter_active A.gain_neighbor A.move_in A.remember_neighbor A.push_active P.drop_mark P.remove_passive
-  fit-enter p high reply h =
-      fit-reply-neighbor reply p high (fit_on A.gain_neighbor (λ s. omega arith) (fit-emit _ (fit_on (A.move_in p) (λ s. omega arith) h)))
+  fit_enter p high reply h =
+      fit_reply_neighbor reply p high (fit_on A.gain_neighbor (λ s. omega arith) (fit_emit _ (fit_on (A.move_in p) (λ s. omega arith) h)))
 
 module _ {k : ℕ} where
   -- out of the active view: the data of the one that leaves is taken out and put in again
-  fit-demote : (p : ℕ) {r : Run} → Fits (k + 1) r → Fits k (A.demote p r)
+  fit_demote : (p : ℕ) {r : Run} → Fits (k + 1) r → Fits k (A.demote p r)
   unfolding A.demote P.add_passive
-  fit-demote p h = fit-enter-passive p (fit-insert-peer-info p _ (fit-drop-data p h))
+  fit_demote p h = fit_enter_passive p (fit_insert_peer_info p _ (fit_drop_data p h))
 
-  fit-demote-alive : (p : ℕ) {r : Run} → Fits (k + 1) r → Fits k (A.demote_alive p r)
+  fit_demote_alive : (p : ℕ) {r : Run} → Fits (k + 1) r → Fits k (A.demote_alive p r)
   unfolding A.demote_alive A.mark_alive
-  fit-demote-alive p h = fit_on (A.mark_alive p) (λ s. omega arith) (fit-demote p h)
+  fit_demote_alive p h = fit_on (A.mark_alive p) (λ s. omega arith) (fit_demote p h)
 
-  fit-settle : (why : Reason) (p : ℕ) {r : Run} → Fits (k + 1) r → Fits k (A.settle why p r)
+  fit_settle : (why : Reason) (p : ℕ) {r : Run} → Fits (k + 1) r → Fits k (A.settle why p r)
   unfolding A.settle A.settle_closed P.drop_mark
-  fit-settle connection_closed p h = fit-either _ (fit-demote p (fit_on (P.drop_mark p) (λ s. omega arith) h)) (fit-forget p (fit-less (omega arith) h))
-  fit-settle (disconnect_received true) p h = fit-demote-alive p h
-  fit-settle (disconnect_received false) p h = fit-forget p (fit-less (omega arith) h)
-  fit-settle random p h = fit-demote-alive p (fit-send-disconnect p true h)
+  fit_settle connection_closed p h = fit_either _ (fit_demote p (fit_on (P.drop_mark p) (λ s. omega arith) h)) (fit_forget p (fit_less (omega arith) h))
+  fit_settle (disconnect_received true) p h = fit_demote_alive p h
+  fit_settle (disconnect_received false) p h = fit_forget p (fit_less (omega arith) h)
+  fit_settle random p h = fit_demote_alive p (fit_send_disconnect p true h)
 
-  fit-remove-at : (i : ℕ) (why : Reason) {r : Run} → Fits (k + 1) r → Fits k (A.remove_active_by_index i why r)
+  fit_remove_at : (i : ℕ) (why : Reason) {r : Run} → Fits (k + 1) r → Fits k (A.remove_active_by_index i why r)
   unfolding A.remove_active_by_index A.drop_active A.swap_active A.leave_active
-  fit-remove-at i why h = fit-settle why _ (fit-emit _ (fit_on (A.swap_active i) (λ s. omega arith) h))
+  fit_remove_at i why h = fit_settle why _ (fit_emit _ (fit_on (A.swap_active i) (λ s. omega arith) h))
 
-  fit-remove-active : (p : ℕ) (why : Reason) {r : Run} → Fits (k + 1) r → Fits k (A.remove_active p why r)
+  fit_remove_active : (p : ℕ) (why : Reason) {r : Run} → Fits (k + 1) r → Fits k (A.remove_active p why r)
   unfolding A.remove_active A.refill_after
-  fit-remove-active p why h = fit-either _ (fit-start-refill _ _ (fit-clear-refused (fit-remove-at _ why h))) (fit-less (omega arith) h)
+  fit_remove_active p why h = fit_either _ (fit_start_refill _ _ (fit_clear_refused (fit_remove_at _ why h))) (fit_less (omega arith) h)
 
-  fit-free-slot : {r : Run} → Fits (k + 1) r → Fits k (A.free_random_slot_in_active_view r)
+  fit_free_slot : {r : Run} → Fits (k + 1) r → Fits k (A.free_random_slot_in_active_view r)
   unfolding A.free_random_slot_in_active_view A.remove_picked
-  fit-free-slot h = fit-either _ (fit-less (omega arith) h) (fit-remove-at _ random (fit-draw-one-of _ h))
+  fit_free_slot h = fit_either _ (fit_less (omega arith) h) (fit_remove_at _ random (fit_draw_one_of _ h))
 
 module _ {k : ℕ} where
-  fit-add-active : (p : ℕ) (d : Data) (high reply : Bool) {r : Run} → Fits (k + 2) r → Fits k (A.add_active p d high reply r)
+  fit_add_active : (p : ℕ) (d : Data) (high reply : Bool) {r : Run} → Fits (k + 2) r → Fits k (A.add_active p d high reply r)
   unfolding A.add_active A.admit A.admit_new A.admit_full
-  fit-add-active p d high reply {r} h =
-      let i : Fits (k + 1) (P.insert_peer_info p d r) = fit-insert-peer-info p d (fit-less (omega arith) h) in
-      let j : Fits k (P.insert_peer_info p d r) = fit-less (omega arith) i in
-      fit-either _ (fit-less (omega arith) h) (fit-either _ (fit-reply-neighbor reply p high j)
-      (fit-either _ (fit-either _ (fit-enter p high reply (fit-free-slot i)) j) (fit-enter p high reply j)))
+  fit_add_active p d high reply {r} h =
+      let i : Fits (k + 1) (P.insert_peer_info p d r) = fit_insert_peer_info p d (fit_less (omega arith) h) in
+      let j : Fits k (P.insert_peer_info p d r) = fit_less (omega arith) i in
+      fit_either _ (fit_less (omega arith) h) (fit_either _ (fit_reply_neighbor reply p high j)
+      (fit_either _ (fit_either _ (fit_enter p high reply (fit_free_slot i)) j) (fit_enter p high reply j)))
 
   -- messages received, but those with many nodes
-  pub fit-on-join : (p : ℕ) (d : Data) {r : Run} → Fits (k + 2) r → Fits k (M.on_join p d r)
+  pub fit_on_join : (p : ℕ) (d : Data) {r : Run} → Fits (k + 2) r → Fits k (M.on_join p d r)
   unfolding M.on_join M.forward_joins
-  fit-on-join p d h = fit-emit-all _ _ (fit-add-active p d _ _ (fit-drop-pending p h))
+  fit_on_join p d h = fit_emit_all _ _ (fit_add_active p d _ _ (fit_drop_pending p h))
 
-  pub fit-on-forward-join : (from : ℕ) (n : Node) (ttl : ℕ) {r : Run} → Fits (k + 1) r → Fits k (M.on_forward_join from n ttl r)
+  pub fit_on_forward_join : (from : ℕ) (n : Node) (ttl : ℕ) {r : Run} → Fits (k + 1) r → Fits k (M.on_forward_join from n ttl r)
   unfolding M.on_forward_join M.ask_joiner M.learn_joiner M.walk_on M.forward_join_on P.add_passive
-  fit-on-forward-join from n ttl {r} h =
-      let i : Fits k (P.insert_peer_info n.id n.data_of r) = fit-insert-peer-info _ _ h in
-      let j : Fits k (M.learn_joiner n ttl r) = fit-either _ (fit-enter-passive _ i) (fit-less (omega arith) h) in
-      fit-either _ (fit-send-neighbor _ _ i) (fit-either _ j (fit-emit _ (fit-draw-one-of _ j)))
+  fit_on_forward_join from n ttl {r} h =
+      let i : Fits k (P.insert_peer_info n.id n.data_of r) = fit_insert_peer_info _ _ h in
+      let j : Fits k (M.learn_joiner n ttl r) = fit_either _ (fit_enter_passive _ i) (fit_less (omega arith) h) in
+      fit_either _ (fit_send_neighbor _ _ i) (fit_either _ j (fit_emit _ (fit_draw_one_of _ j)))
 
-  pub fit-on-neighbor : (p : ℕ) (d : Data) (high : Bool) {r : Run} → Fits (k + 2) r → Fits k (M.on_neighbor p d high r)
+  pub fit_on_neighbor : (p : ℕ) (d : Data) (high : Bool) {r : Run} → Fits (k + 2) r → Fits k (M.on_neighbor p d high r)
   unfolding M.on_neighbor M.answer_neighbor M.refuse_neighbor
-  fit-on-neighbor p d high h =
-      let j = fit-add-active p d high _ (fit-drop-pending p h) in fit-either _ j (fit-forget p (fit-send-disconnect p true j))
+  fit_on_neighbor p d high h =
+      let j = fit_add_active p d high _ (fit_drop_pending p h) in fit_either _ j (fit_forget p (fit_send_disconnect p true j))
 
-  pub fit-on-disconnect : (p : ℕ) (alive : Bool) {r : Run} → Fits (k + 1) r → Fits k (M.on_disconnect p alive r)
+  pub fit_on_disconnect : (p : ℕ) (alive : Bool) {r : Run} → Fits (k + 1) r → Fits k (M.on_disconnect p alive r)
   unfolding M.on_disconnect M.disconnected M.disconnect_other M.forget_recent M.drop_recent M.mark_passive M.note_refusal M.note_refused M.add_refused M.left_topic A.mark_alive
-  fit-on-disconnect p alive h =
-      let a = fit-drop-join p h in
-      let i = fit-drop-request p (fit-either alive a (fit_on (M.drop_recent p) (λ s. omega arith) a)) in
-      let j = fit-less {k = k} (omega arith) i in
-      let g = fit-drop-passive p j in
-      let f = fit-either _ (fit_on (M.add_refused p) (λ s. omega arith) (fit-require 7 (λ e. omega arith) (λ e. omega arith) _ j)) j in
-      fit-either _ (fit-remove-active p (disconnect_received alive) i)
-      (fit-either alive (fit-either _ (fit_on (A.mark_alive p) (λ s. omega arith) f) f) (fit-either _ (fit-refill _ g) g))
+  fit_on_disconnect p alive h =
+      let a = fit_drop_join p h in
+      let i = fit_drop_request p (fit_either alive a (fit_on (M.drop_recent p) (λ s. omega arith) a)) in
+      let j = fit_less {k = k} (omega arith) i in
+      let g = fit_drop_passive p j in
+      let f = fit_either _ (fit_on (M.add_refused p) (λ s. omega arith) (fit_require 7 (λ e. omega arith) (λ e. omega arith) _ j)) j in
+      fit_either _ (fit_remove_active p (disconnect_received alive) i)
+      (fit_either alive (fit_either _ (fit_on (A.mark_alive p) (λ s. omega arith) f) f) (fit_either _ (fit_refill _ g) g))
 
   -- from the station's own side
-  pub fit-handle-join : (p : ℕ) {r : Run} → Fits k r → Fits k (E.handle_join p r)
+  pub fit_handle_join : (p : ℕ) {r : Run} → Fits k r → Fits k (E.handle_join p r)
   unfolding E.handle_join E.join_new E.join_other E.await_join E.open_join E.note_join E.push_bootstrap E.drop_oldest_join
-  fit-handle-join p h =
+  fit_handle_join p h =
       let j = fit_on (E.push_bootstrap p) (λ s. omega arith) h in
-      let i = fit-join p j in
-      fit-either _ j (fit-either _ i (fit-emit _ (fit_on (E.note_join p) (λ s. omega arith) (fit-require 10 (λ e. omega arith) (λ e. omega arith) _ i))))
+      let i = fit_join p j in
+      fit_either _ j (fit_either _ i (fit_emit _ (fit_on (E.note_join p) (λ s. omega arith) (fit_require 10 (λ e. omega arith) (λ e. omega arith) _ i))))
 
-  pub fit-closed : (p : ℕ) {r : Run} → Fits (k + 1) r → Fits k (E.handle_connection_closed p r)
+  pub fit_closed : (p : ℕ) {r : Run} → Fits (k + 1) r → Fits k (E.handle_connection_closed p r)
   unfolding E.handle_connection_closed E.lose E.lose_other E.lose_passive E.drop_dead P.drop_mark P.drop_data P.remove_passive
-  fit-closed p h =
-      let i = fit-drop-request p h in
-      let j = fit-less {k = k} (omega arith) i in
-      let g = fit-either _ (fit_on (P.drop_mark p) (λ s. omega arith) j) (fit_on (E.drop_dead p) (λ s. length_cut p s.peer_data) j) in
-      fit-either _ (fit-remove-active p connection_closed i) (fit-either _ (fit-refill _ g) g)
+  fit_closed p h =
+      let i = fit_drop_request p h in
+      let j = fit_less {k = k} (omega arith) i in
+      let g = fit_either _ (fit_on (P.drop_mark p) (λ s. omega arith) j) (fit_on (E.drop_dead p) (λ s. length_cut p s.peer_data) j) in
+      fit_either _ (fit_remove_active p connection_closed i) (fit_either _ (fit_refill _ g) g)
 
-  pub fit-update : (d : Data) {r : Run} → Fits k r → Fits k (on (E.update_own_data d) r)
+  pub fit_update : (d : Data) {r : Run} → Fits k r → Fits k (on (E.update_own_data d) r)
   unfolding E.update_own_data
-  fit-update d h = fit_on (E.update_own_data d) (λ s. omega arith) h
+  fit_update d h = fit_on (E.update_own_data d) (λ s. omega arith) h
 
-  pub fit-pin : (p : ℕ) {r : Run} → Fits k r → Fits k (E.handle_pin p r)
+  pub fit_pin : (p : ℕ) {r : Run} → Fits k r → Fits k (E.handle_pin p r)
   unfolding E.handle_pin E.require_neighbor E.pin_neighbor E.note_pin
-  fit-pin p h =
+  fit_pin p h =
       fit_on (E.note_pin p) (λ s. omega arith)
-      (fit-require 18 (λ e. omega arith) (λ e. omega arith) _ (fit-require 17 (λ e. omega arith) (λ e. omega arith) _ h))
+      (fit_require 18 (λ e. omega arith) (λ e. omega arith) _ (fit_require 17 (λ e. omega arith) (λ e. omega arith) _ h))
 
-  fit-quit-all : (ps : List ℕ) {r : Run} → Fits k r → Fits k (E.quit_all ps r)
+  fit_quit_all : (ps : List ℕ) {r : Run} → Fits k r → Fits k (E.quit_all ps r)
   unfolding E.quit_all E.quit_one E.remove_neighbor A.leave_active
-  fit-quit-all [] h = h
-  fit-quit-all (p ∷ ps) h = fit-quit-all ps (fit-send-disconnect p false (fit_on (E.remove_neighbor p) (λ s. omega arith) h))
+  fit_quit_all [] h = h
+  fit_quit_all (p ∷ ps) h = fit_quit_all ps (fit_send_disconnect p false (fit_on (E.remove_neighbor p) (λ s. omega arith) h))
 
-  pub fit-quit : {r : Run} → Fits k r → Fits k (E.handle_quit r)
+  pub fit_quit : {r : Run} → Fits k r → Fits k (E.handle_quit r)
   unfolding E.handle_quit E.clear_all
-  fit-quit h = fit_on E.clear_all (λ s. omega arith) (fit-quit-all _ h)
+  fit_quit h = fit_on E.clear_all (λ s. omega arith) (fit_quit_all _ h)
 
   -- timers
-  pub fit-neighbor-timer : (p id : ℕ) {r : Run} → Fits k r → Fits k (T.handle_pending_neighbor_timer p id r)
+  pub fit_neighbor_timer : (p id : ℕ) {r : Run} → Fits k r → Fits k (T.handle_pending_neighbor_timer p id r)
   unfolding T.handle_pending_neighbor_timer T.request_failed
-  fit-neighbor-timer p id h = fit-either _ (fit-refill _ (fit-drop-passive p (fit-drop-request p h))) h
+  fit_neighbor_timer p id h = fit_either _ (fit_refill _ (fit_drop_passive p (fit_drop_request p h))) h
 
-  pub fit-retry-join : (p id : ℕ) {r : Run} → Fits k r → Fits k (T.retry_join p id r)
+  pub fit_retry_join : (p id : ℕ) {r : Run} → Fits k r → Fits k (T.retry_join p id r)
   unfolding T.retry_join
-  fit-retry-join p id h = fit-either _ (fit-join p (fit-drop-join p h)) h
+  fit_retry_join p id h = fit_either _ (fit_join p (fit_drop_join p h)) h
 
-  fit-schedule-shuffle : {r : Run} → Fits k r → Fits k (T.schedule_shuffle r)
+  fit_schedule_shuffle : {r : Run} → Fits k r → Fits k (T.schedule_shuffle r)
   unfolding T.schedule_shuffle T.double_interval
-  fit-schedule-shuffle h = fit-emit _ (fit-draw 1 (fit_on T.double_interval (λ s. omega arith) h))
+  fit_schedule_shuffle h = fit_emit _ (fit_draw 1 (fit_on T.double_interval (λ s. omega arith) h))
 
-  pub fit-shuffle-timer : {r : Run} → Fits k r → Fits k (T.handle_shuffle_timer r)
+  pub fit_shuffle_timer : {r : Run} → Fits k r → Fits k (T.handle_shuffle_timer r)
   unfolding T.handle_shuffle_timer T.shuffle_any T.shuffle_with T.shuffle_passive T.send_shuffle
-  fit-shuffle-timer h = fit-schedule-shuffle (fit-either _ h (fit-emit _ (fit-draw-shuffle _ (fit-draw-shuffle _ (fit-draw-one-of _ h)))))
+  fit_shuffle_timer h = fit_schedule_shuffle (fit_either _ h (fit_emit _ (fit_draw_shuffle _ (fit_draw_shuffle _ (fit_draw_one_of _ h)))))
 
-  fit-rejoin : {r : Run} → Fits k r → Fits k (T.rejoin r)
+  fit_rejoin : {r : Run} → Fits k r → Fits k (T.rejoin r)
   unfolding T.rejoin T.rejoin_recent T.rejoin_bootstrap
-  fit-rejoin h = let j = fit-emit-all _ _ h in fit-either _ j (fit-join _ (fit-draw-one-of _ j))
+  fit_rejoin h = let j = fit_emit_all _ _ h in fit_either _ j (fit_join _ (fit_draw_one_of _ j))
 
-  fit-pass-alone : {r : Run} → Fits k r → Fits k (T.pass_alone r)
+  fit_pass_alone : {r : Run} → Fits k r → Fits k (T.pass_alone r)
   unfolding T.pass_alone T.rejoin_if_due T.count_alone T.add_alone
-  fit-pass-alone h =
-      let j = fit_on T.add_alone (λ s. omega arith) (fit-require 10 (λ e. omega arith) (λ e. omega arith) _ h) in fit-either _ (fit-rejoin j) j
+  fit_pass_alone h =
+      let j = fit_on T.add_alone (λ s. omega arith) (fit_require 10 (λ e. omega arith) (λ e. omega arith) _ h) in fit_either _ (fit_rejoin j) j
 
-  fit-pass-short : {r : Run} → Fits k r → Fits k (T.pass_short r)
+  fit_pass_short : {r : Run} → Fits k r → Fits k (T.pass_short r)
   unfolding T.pass_short T.refill_if_due T.refill_anew T.count_short T.add_short
-  fit-pass-short h =
-      let j = fit_on T.add_short (λ s. omega arith) (fit-require 10 (λ e. omega arith) (λ e. omega arith) _ h) in
-      fit-either _ h (fit-either _ (fit-start-refill _ _ (fit-clear-refused j)) j)
+  fit_pass_short h =
+      let j = fit_on T.add_short (λ s. omega arith) (fit_require 10 (λ e. omega arith) (λ e. omega arith) _ h) in
+      fit_either _ h (fit_either _ (fit_start_refill _ _ (fit_clear_refused j)) j)
 
-  pub fit-maintenance-timer : {r : Run} → Fits k r → Fits k (T.handle_maintenance_timer r)
+  pub fit_maintenance_timer : {r : Run} → Fits k r → Fits k (T.handle_maintenance_timer r)
   unfolding T.handle_maintenance_timer T.maintain T.remember_all T.pass_known T.pass_neighbors T.not_alone T.schedule_maintenance F.end_recovery
-  fit-maintenance-timer h =
+  fit_maintenance_timer h =
       let j = fit_on T.remember_all (λ s. omega arith) h in
       let g = fit_on T.not_alone (λ s. omega arith) j in
-      fit-emit _ (fit-either _ (fit-pass-alone j) (fit-either _ (fit-start-refill _ _ g) (fit-either _ (fit-pass-short g) (fit-clear-refused g))))
+      fit_emit _ (fit_either _ (fit_pass_alone j) (fit_either _ (fit_start_refill _ _ g) (fit_either _ (fit_pass_short g) (fit_clear_refused g))))
 
-  pub fit-first-timers : {r : Run} → Fits k r → Fits k (H.first_timers r)
+  pub fit_first_timers : {r : Run} → Fits k r → Fits k (H.first_timers r)
   unfolding H.first_timers H.note_scheduled T.schedule_maintenance
-  fit-first-timers h = fit-either _ h (fit-emit _ (fit-schedule-shuffle (fit_on H.note_scheduled (λ s. omega arith) h)))
+  fit_first_timers h = fit_either _ h (fit_emit _ (fit_schedule_shuffle (fit_on H.note_scheduled (λ s. omega arith) h)))
 
-  pub fit-declined : {r : Run} → Fits k r → Fits k (on H.forget_declined r)
+  pub fit_declined : {r : Run} → Fits k r → Fits k (on H.forget_declined r)
   unfolding H.forget_declined
-  fit-declined h = fit_on H.forget_declined (λ s. length-retain _ s.peer_data) h
+  fit_declined h = fit_on H.forget_declined (λ s. length_retain _ s.peer_data) h

@@ -18,7 +18,7 @@ use Rattle.spec_hyparview.specs.Run as R
 use Rattle.spec_hyparview.specs.Run.{Run, guard, on, emit, draw, require, emit_all}
 use Rattle.spec_hyparview.specs.Written.{encode_all}
 use Rattle.spec_hyparview.specs.Evictions.{named}
-use Rattle.spec_hyparview.proofs.Among.{all_append, all-get, all-shuffle}
+use Rattle.spec_hyparview.proofs.Among.{all_append, all_get, all_shuffle}
 use Rattle.spec_hyparview.proofs.Keeping.{Plain, require_fine}
 use Rattle.spec_hyparview.proofs.Narrow.{Peer, Peers, no_peer, Narrow}
 
@@ -116,18 +116,18 @@ module _ {ds es : List ℕ} where
   drew n k =
       kept k (λ z. either _ (record { lent = k.lent; narrow = k.narrow; spelled = k.spelled; told = k.told }) (record { lent = k.lent; narrow = k.narrow; spelled = k.spelled; told = λ d y. k.told d z }))
 
-  pub drew-one-of : (n : ℕ) {r : Run} → Formed ds es r → Formed ds es (R.draw_one_of n r)
+  pub drew_one_of : (n : ℕ) {r : Run} → Formed ds es r → Formed ds es (R.draw_one_of n r)
   unfolding R.draw_one_of
-  drew-one-of n k = drew _ k
+  drew_one_of n k = drew _ k
 
-  pub drew-shuffle : (xs : List ℕ) {r : Run} → Formed ds es r → Formed ds es (R.draw_shuffle xs r)
+  pub drew_shuffle : (xs : List ℕ) {r : Run} → Formed ds es r → Formed ds es (R.draw_shuffle xs r)
   unfolding R.draw_shuffle
-  drew-shuffle xs k = drew _ k
+  drew_shuffle xs k = drew _ k
 
   -- a record in form, and whom it names as evicted
-  wrote-any : (e : Rec) {r : Run} → (Draws ds → InForm e) → Formed ds es r → Formed ds (es ++ named (e ∷ [])) (emit e r)
+  wrote_any : (e : Rec) {r : Run} → (Draws ds → InForm e) → Formed ds es r → Formed ds (es ++ named (e ∷ [])) (emit e r)
   unfolding emit
-  wrote-any e {r} f k =
+  wrote_any e {r} f k =
       kept k (λ z. by_choice (Formed ds (es ++ named (e ∷ []))) _ (λ i. record {
         lent = k.lent;
         narrow = k.narrow;
@@ -137,29 +137,29 @@ module _ {ds es : List ℕ} where
       (λ i. record { lent = k.lent; narrow = k.narrow; spelled = k.spelled; told = λ d y. absurd (omega (arith, y)) }))
 
   -- a record that names nobody; a timer's delay is in form where the draws are
-  pub wrote-if : (e : Rec) {r : Run} → eqb e.kind (output_byte Evicted) ≡ false → (Draws ds → InForm e) → Formed ds es r → Formed ds es (emit e r)
+  pub wrote_if : (e : Rec) {r : Run} → eqb e.kind (output_byte Evicted) ≡ false → (Draws ds → InForm e) → Formed ds es r → Formed ds es (emit e r)
   unfolding named
-  wrote-if e {r} n f k =
-      subst (λ (l : List ℕ). Formed ds l (emit e r)) (ap (λ (l : List ℕ). es ++ l) (choose_no (eqb e.kind (output_byte Evicted)) (e.peer ∷ []) [] n) ∙ append-nil es) (wrote-any e f k)
+  wrote_if e {r} n f k =
+      subst (λ (l : List ℕ). Formed ds l (emit e r)) (ap (λ (l : List ℕ). es ++ l) (choose_no (eqb e.kind (output_byte Evicted)) (e.peer ∷ []) [] n) ∙ append-nil es) (wrote_any e f k)
 
   pub wrote : (e : Rec) {r : Run} → eqb e.kind (output_byte Evicted) ≡ false → InForm e → Formed ds es r → Formed ds es (emit e r)
-  wrote e n f k = wrote-if e n (λ d. f) k
+  wrote e n f k = wrote_if e n (λ d. f) k
 
   -- one that names p
-  pub wrote-evicted : (p : ℕ) {r : Run} → InForm (R.notice (output_byte Evicted) p) → Formed ds es r → Formed ds (es ++ (p ∷ [])) (emit (R.notice (output_byte Evicted) p) r)
+  pub wrote_evicted : (p : ℕ) {r : Run} → InForm (R.notice (output_byte Evicted) p) → Formed ds es r → Formed ds (es ++ (p ∷ [])) (emit (R.notice (output_byte Evicted) p) r)
   unfolding named choose
-  wrote-evicted p f k = wrote-any (R.notice (output_byte Evicted) p) (λ d. f) k
+  wrote_evicted p f k = wrote_any (R.notice (output_byte Evicted) p) (λ d. f) k
 
-  pub wrote-all : (f : ℕ → Rec) → ((p : ℕ) → eqb (f p).kind (output_byte Evicted) ≡ false) → ((p : ℕ) → Peer p → InForm (f p)) → (ps : List ℕ) {r : Run} → Peers ps → Formed ds es r → Formed ds es (emit_all f ps r)
+  pub wrote_all : (f : ℕ → Rec) → ((p : ℕ) → eqb (f p).kind (output_byte Evicted) ≡ false) → ((p : ℕ) → Peer p → InForm (f p)) → (ps : List ℕ) {r : Run} → Peers ps → Formed ds es r → Formed ds es (emit_all f ps r)
   unfolding emit_all All
-  wrote-all f n h [] a k = k
-  wrote-all f n h (p ∷ ps) a k = wrote-all f n h ps a.1 (wrote (f p) (n p) (h p a.0) k)
+  wrote_all f n h [] a k = k
+  wrote_all f n h (p ∷ ps) a k = wrote_all f n h ps a.1 (wrote (f p) (n p) (h p a.0) k)
 
 -- what is picked from peers, and peers in another order
 pub picked_peer : (ps : List ℕ) (r : Run) → Peers ps → Peer (R.picked ps r)
 unfolding R.picked
-picked_peer ps r a = all-get Peer ps _ 0 no_peer a
+picked_peer ps r a = all_get Peer ps _ 0 no_peer a
 
 pub shuffled_peers : (ps : List ℕ) (r : Run) → Peers ps → Peers (R.shuffled ps r)
 unfolding R.shuffled
-shuffled_peers ps r a = all-shuffle Peer no_peer (R.to_draw r) ps a
+shuffled_peers ps r a = all_shuffle Peer no_peer (R.to_draw r) ps a

@@ -9,7 +9,7 @@ use lib.ListN.{length}
 use borrow.Author.Tests.{eq-eqb, ne_eqb}
 use Rattle.base_lists.proofs.Choice.{choose_yes, choose_no}
 use Rattle.base_lists.specs.Tests.{All}
-use Rattle.base_lists.proofs.Maps.{all-retain}
+use Rattle.base_lists.proofs.Maps.{all_retain}
 use Rattle.base_peer.specs.Data.{Node, bytes_of}
 use Rattle.record.specs.Kinds.{EventKind, Message, DoShuffle, DoMaintenance, PendingNeighborRequest, RetryJoin, PeerDisconnected, RequestJoin, UpdatePeerData, Quit, Pin, kind_byte}
 use Rattle.record.specs.Format.{Rec}
@@ -20,11 +20,11 @@ use Rattle.spec_hyparview.specs.Run.{Run}
 use Rattle.spec_hyparview.specs.Events.{handle_connection_closed}
 use Rattle.spec_hyparview.specs.Handle as H
 use Rattle.spec_hyparview.specs.Evictions.{by_message, evictions}
-use Rattle.spec_hyparview.proofs.Narrow.{no_peer, no_data, HeldData, Named, form_nodes, Peer, Narrow, at, change, change-held}
+use Rattle.spec_hyparview.proofs.Narrow.{no_peer, no_data, HeldData, Named, form_nodes, Peer, Narrow, at, change, change_held}
 use Rattle.spec_hyparview.proofs.Formed.{Formed, either, either_way, alter}
-use Rattle.base_lists.proofs.Members.{each-retain}
+use Rattle.base_lists.proofs.Members.{each_retain}
 use Rattle.spec_hyparview.proofs.Narrow as N
-use Rattle.spec_hyparview.proofs.FormedEvents.{formed-on-join, formed-on-forward-join, formed-on-shuffle, formed-on-shuffle-reply, formed-on-neighbor, formed-on-disconnect, formed-handle-join, formed-closed, formed-update, formed-pin, formed-quit, formed-neighbor-timer, formed-retry-join, formed-schedule-shuffle, formed-schedule-maintenance, formed-shuffle-timer, formed-maintenance-timer}
+use Rattle.spec_hyparview.proofs.FormedEvents.{formed_on_join, formed_on_forward_join, formed_on_shuffle, formed_on_shuffle_reply, formed_on_neighbor, formed_on_disconnect, formed_handle_join, formed_closed, formed_update, formed_pin, formed_quit, formed_neighbor_timer, formed_retry_join, formed_schedule_shuffle, formed_schedule_maintenance, formed_shuffle_timer, formed_maintenance_timer}
 
 first_named : (ns : List Node) → All Named ns → Named (H.first_node ns)
 unfolding H.first_node All bytes_of
@@ -34,24 +34,24 @@ first_named (n ∷ ns) a = a.0
 declined_narrow : (s : Station) → Narrow s → Narrow (H.forget_declined s)
 unfolding H.forget_declined
 declined_narrow s w =
-    change-held (change w N.peer_data _ (all-retain Peer (data_peers s) s.peer_data (at w N.peer_data))) (each-retain HeldData (data_peers s) s.peer_data w.held)
+    change_held (change w N.peer_data _ (all_retain Peer (data_peers s) s.peer_data (at w N.peer_data))) (each_retain HeldData (data_peers s) s.peer_data w.held)
 
 module _ (e : Rec) (f : InForm e) (few : length e.nodes ≤ 32) where
-  nodes-named : All Named e.nodes
-  nodes-named = form_nodes (header_in e) e.nodes f.nodes
+  nodes_named : All Named e.nodes
+  nodes_named = form_nodes (header_in e) e.nodes f.nodes
 
   data_held : HeldData (bytes_of (H.first_data e))
   unfolding H.first_data
-  data_held = (first_named e.nodes nodes-named).held
+  data_held = (first_named e.nodes nodes_named).held
 
-  formed-message : {ds : List ℕ} {r : Run} → Formed ds [] r → Formed ds (by_message e r) (H.handle_message e r)
+  formed_message : {ds : List ℕ} {r : Run} → Formed ds [] r → Formed ds (by_message e r) (H.handle_message e r)
   unfolding H.handle_message by_message
-  formed-message k =
-      either_way _ (formed-on-join _ _ f.peer data_held k)
-      (either_way _ (formed-on-forward-join _ _ _ (first_named e.nodes nodes-named) f.ttl k)
-      (either_way _ (formed-on-shuffle _ _ _ _ f.second few nodes-named f.ttl k)
-      (either_way _ (formed-on-shuffle-reply _ _ nodes-named k)
-      (either_way _ (formed-on-neighbor _ _ _ f.peer data_held k) (formed-on-disconnect _ _ f.peer k)))))
+  formed_message k =
+      either_way _ (formed_on_join _ _ f.peer data_held k)
+      (either_way _ (formed_on_forward_join _ _ _ (first_named e.nodes nodes_named) f.ttl k)
+      (either_way _ (formed_on_shuffle _ _ _ _ f.second few nodes_named f.ttl k)
+      (either_way _ (formed_on_shuffle_reply _ _ nodes_named k)
+      (either_way _ (formed_on_neighbor _ _ _ f.peer data_held k) (formed_on_disconnect _ _ f.peer k)))))
 
   module _ {ds : List ℕ} {r : Run} (k : Formed ds [] r) where
     -- a kind that evicts nobody
@@ -60,28 +60,28 @@ module _ (e : Rec) (f : InForm e) (few : length e.nodes ≤ 32) where
     quiet j z n₀ n₅ {x} =
         subst (λ (l : List ℕ). Formed ds l x) (sym (choose_no _ _ _ (ne_eqb e.kind _ (λ y. n₀ (sym z ∙ y))) ∙ choose_no _ _ _ (ne_eqb e.kind _ (λ y. n₅ (sym z ∙ y)))))
 
-    formed-kind : (j : EventKind) → e.kind ≡ kind_byte j → Formed ds (evictions e r) (H.handle_kind (some j) e r)
+    formed_kind : (j : EventKind) → e.kind ≡ kind_byte j → Formed ds (evictions e r) (H.handle_kind (some j) e r)
     unfolding H.handle_kind evictions
-    formed-kind Message z = subst (λ (l : List ℕ). Formed ds l (H.handle_message e r)) (sym (choose_yes _ _ _ (eq-eqb _ _ z))) (formed-message k)
-    formed-kind DoShuffle z = quiet _ z (λ y. omega arith) (λ y. omega arith) (formed-shuffle-timer k)
-    formed-kind DoMaintenance z = quiet _ z (λ y. omega arith) (λ y. omega arith) (formed-maintenance-timer k)
-    formed-kind PendingNeighborRequest z = quiet _ z (λ y. omega arith) (λ y. omega arith) (formed-neighbor-timer _ _ k)
-    formed-kind RetryJoin z = quiet _ z (λ y. omega arith) (λ y. omega arith) (formed-retry-join _ _ f.peer k)
-    formed-kind PeerDisconnected z =
-        subst (λ (l : List ℕ). Formed ds l (handle_connection_closed e.peer r)) (sym (choose_no _ _ _ (ne_eqb e.kind 0 (λ y. omega (arith, z, y))) ∙ choose_yes _ _ _ (eq-eqb _ _ z))) (formed-closed _ k)
-    formed-kind RequestJoin z = quiet _ z (λ y. omega arith) (λ y. omega arith) (formed-handle-join _ f.peer k)
-    formed-kind UpdatePeerData z = quiet _ z (λ y. omega arith) (λ y. omega arith) (formed-update _ data_held k)
-    formed-kind Quit z = quiet _ z (λ y. omega arith) (λ y. omega arith) (formed-quit k)
-    formed-kind Pin z = quiet _ z (λ y. omega arith) (λ y. omega arith) (formed-pin _ f.peer k)
+    formed_kind Message z = subst (λ (l : List ℕ). Formed ds l (H.handle_message e r)) (sym (choose_yes _ _ _ (eq-eqb _ _ z))) (formed_message k)
+    formed_kind DoShuffle z = quiet _ z (λ y. omega arith) (λ y. omega arith) (formed_shuffle_timer k)
+    formed_kind DoMaintenance z = quiet _ z (λ y. omega arith) (λ y. omega arith) (formed_maintenance_timer k)
+    formed_kind PendingNeighborRequest z = quiet _ z (λ y. omega arith) (λ y. omega arith) (formed_neighbor_timer _ _ k)
+    formed_kind RetryJoin z = quiet _ z (λ y. omega arith) (λ y. omega arith) (formed_retry_join _ _ f.peer k)
+    formed_kind PeerDisconnected z =
+        subst (λ (l : List ℕ). Formed ds l (handle_connection_closed e.peer r)) (sym (choose_no _ _ _ (ne_eqb e.kind 0 (λ y. omega (arith, z, y))) ∙ choose_yes _ _ _ (eq-eqb _ _ z))) (formed_closed _ k)
+    formed_kind RequestJoin z = quiet _ z (λ y. omega arith) (λ y. omega arith) (formed_handle_join _ f.peer k)
+    formed_kind UpdatePeerData z = quiet _ z (λ y. omega arith) (λ y. omega arith) (formed_update _ data_held k)
+    formed_kind Quit z = quiet _ z (λ y. omega arith) (λ y. omega arith) (formed_quit k)
+    formed_kind Pin z = quiet _ z (λ y. omega arith) (λ y. omega arith) (formed_pin _ f.peer k)
 
-    formed-dispatch : Formed ds (evictions e r) (H.dispatch e r)
+    formed_dispatch : Formed ds (evictions e r) (H.dispatch e r)
     unfolding H.dispatch
-    formed-dispatch =
+    formed_dispatch =
         by_kind (λ (o : Option EventKind). Formed ds (evictions e r) (H.handle_kind o e r)) e.kind
-        (λ n. quiet e.kind refl (n Message) (n PeerDisconnected) k) formed-kind
+        (λ n. quiet e.kind refl (n Message) (n PeerDisconnected) k) formed_kind
 
-  pub formed-steps : {ds : List ℕ} {r : Run} → Formed ds [] r → Formed ds (evictions e r) (H.steps e r)
+  pub formed_steps : {ds : List ℕ} {r : Run} → Formed ds [] r → Formed ds (evictions e r) (H.steps e r)
   unfolding H.steps H.first_timers H.note_scheduled
-  formed-steps k =
-      let j = formed-dispatch k in
-      alter H.forget_declined (declined_narrow _) (either _ j (formed-schedule-maintenance (formed-schedule-shuffle (alter H.note_scheduled (λ w. w) j))))
+  formed_steps k =
+      let j = formed_dispatch k in
+      alter H.forget_declined (declined_narrow _) (either _ j (formed_schedule_maintenance (formed_schedule_shuffle (alter H.note_scheduled (λ w. w) j))))

@@ -47,31 +47,31 @@ pub eighteen : Plain 18
 eighteen = record { low = omega arith; not_five = λ e. omega arith; not_nine = λ e. omega arith }
 
 module _ {q : Fixed} {t : Terms} {m b d : ℕ} where
-  pub ok-refuse : (c : ℕ) (r : Run) → 5 ≤ c → (c ≡ 5 → sure q.draws_lent < q.most_draws) → (c ≡ 5 → Roomy r.station) → (c ≡ 9 → q.room_lent < 8192) → Codes q r → Ok q t m b d (with_code c r)
-  ok-refuse c r l f o n k =
+  pub ok_refuse : (c : ℕ) (r : Run) → 5 ≤ c → (c ≡ 5 → sure q.draws_lent < q.most_draws) → (c ≡ 5 → Roomy r.station) → (c ≡ 9 → q.room_lent < 8192) → Codes q r → Ok q t m b d (with_code c r)
+  ok_refuse c r l f o n k =
       record { good = λ e. absurd (omega arith); codes = record { lent = k.lent; within = k.within; space = k.space; five = f; roomy = o; nine = n; low = λ w. l } }
 
-  pub ok-if : (test : Bool) {x y : Run} → (test ≡ true → Ok q t m b d x) → (test ≡ false → Ok q t m b d y) → Ok q t m b d (choose test x y)
-  ok-if test f g = by_choice (Ok q t m b d) test f g
+  pub ok_if : (test : Bool) {x y : Run} → (test ≡ true → Ok q t m b d x) → (test ≡ false → Ok q t m b d y) → Ok q t m b d (choose test x y)
+  ok_if test f g = by_choice (Ok q t m b d) test f g
 
   -- where nothing hangs on the test
-  pub ok-either : (test : Bool) {x y : Run} → Ok q t m b d x → Ok q t m b d y → Ok q t m b d (choose test x y)
-  ok-either test f g = by_choice (Ok q t m b d) test (λ e. f) (λ e. g)
+  pub ok_either : (test : Bool) {x y : Run} → Ok q t m b d x → Ok q t m b d y → Ok q t m b d (choose test x y)
+  ok_either test f g = by_choice (Ok q t m b d) test (λ e. f) (λ e. g)
 
-  pub ok-guard : {r : Run} {after : Run} → Codes q r → (r.code ≡ 0 → Ok q t m b d after) → Ok q t m b d (guard r after)
+  pub ok_guard : {r : Run} {after : Run} → Codes q r → (r.code ≡ 0 → Ok q t m b d after) → Ok q t m b d (guard r after)
   unfolding guard
-  ok-guard {r} c f =
-      ok-if (eqb r.code 0) (λ e. f (eqb-true r.code 0 e)) (λ e. record { good = λ z. absurd (eqb-false r.code 0 e z); codes = c })
+  ok_guard {r} c f =
+      ok_if (eqb r.code 0) (λ e. f (eqb-true r.code 0 e)) (λ e. record { good = λ z. absurd (eqb-false r.code 0 e z); codes = c })
 
-  pub ok-fact : {P : Type 0} {r : Run} → ((o : List Rec) → Good q t m r.station o → Lawful r.station → P) → Ok q t m b d r → r.code ≡ 0 → P
-  ok-fact h k z = let w = k.good z in h w.told w.core w.law
+  pub ok_fact : {P : Type 0} {r : Run} → ((o : List Rec) → Good q t m r.station o → Lawful r.station → P) → Ok q t m b d r → r.code ≡ 0 → P
+  ok_fact h k z = let w = k.good z in h w.told w.core w.law
 
-  pub ok-absurd : {u : Terms} {n c e : ℕ} {r : Run} → ((o : List Rec) → Good q t m r.station o → Lawful r.station → ⊥) → Ok q t m b d r → Ok q u n c e r
-  ok-absurd h k = record { good = λ z. absurd (ok-fact h k z); codes = k.codes }
+  pub ok_absurd : {u : Terms} {n c e : ℕ} {r : Run} → ((o : List Rec) → Good q t m r.station o → Lawful r.station → ⊥) → Ok q t m b d r → Ok q u n c e r
+  ok_absurd h k = record { good = λ z. absurd (ok_fact h k z); codes = k.codes }
 
   -- other terms for the same run
-  pub ok-map : {u : Terms} {n : ℕ} {r : Run} → ((o : List Rec) → Good q t m r.station o → Lawful r.station → Good q u n r.station o) → Ok q t m b d r → Ok q u n b d r
-  ok-map h k = record {
+  pub ok_map : {u : Terms} {n : ℕ} {r : Run} → ((o : List Rec) → Good q t m r.station o → Lawful r.station → Good q u n r.station o) → Ok q t m b d r → Ok q u n b d r
+  ok_map h k = record {
     good = λ z. let w = k.good z in record {
       told = w.told;
       spelled = w.spelled;
@@ -100,8 +100,8 @@ module _ {q : Fixed} {t : Terms} {m b d : ℕ} where
   }
 
   -- other terms, and fewer bytes, as the run's views allow
-  pub ok-shift : {u : Terms} {n c : ℕ} {r : Run} → ((o : List Rec) → Good q t m r.station o → Good q u n r.station o × (c ≤ b)) → Ok q t m b d r → Ok q u n c d r
-  ok-shift h k = record {
+  pub ok_shift : {u : Terms} {n c : ℕ} {r : Run} → ((o : List Rec) → Good q t m r.station o → Good q u n r.station o × (c ≤ b)) → Ok q t m b d r → Ok q u n c d r
+  ok_shift h k = record {
     good = λ z. let w = k.good z in let g = h w.told w.core in record {
       told = w.told;
       spelled = w.spelled;
@@ -115,9 +115,9 @@ module _ {q : Fixed} {t : Terms} {m b d : ℕ} where
   }
 
   -- a change of the station
-  pub ok-change : {u : Terms} {n : ℕ} (f : Station → Station) {r : Run} → (r.code ≡ 0 → (o : List Rec) → Good q t m r.station o → Lawful r.station → Good q u n (f r.station) o × Lawful (f r.station)) → Ok q t m b d r → Ok q u n b d (on f r)
+  pub ok_change : {u : Terms} {n : ℕ} (f : Station → Station) {r : Run} → (r.code ≡ 0 → (o : List Rec) → Good q t m r.station o → Lawful r.station → Good q u n (f r.station) o × Lawful (f r.station)) → Ok q t m b d r → Ok q u n b d (on f r)
   unfolding on guard
-  ok-change {u} {n} f {r} h k =
+  ok_change {u} {n} f {r} h k =
       by_choice (Ok q u n b d) (eqb r.code 0)
       (λ e. let z = eqb-true r.code 0 e in let w = k.good z in let g = h z w.told w.core w.law in record {
         good = λ y. record {
@@ -134,15 +134,15 @@ module _ {q : Fixed} {t : Terms} {m b d : ℕ} where
       (λ e. record { good = λ z. absurd (eqb-false r.code 0 e z); codes = k.codes })
 
   -- a change of the station, as it changes the views and joins, and as it keeps the other rules
-  pub ok-on : {u : Terms} {n : ℕ} (f : Station → Station) {r : Run} → ((o : List Rec) → Good q t m r.station o → Good q u n (f r.station) o) → (Lawful r.station → Lawful (f r.station)) → Ok q t m b d r → Ok q u n b d (on f r)
-  ok-on f h l k = ok-change f (λ z o g w. (h o g, l w)) k
+  pub ok_on : {u : Terms} {n : ℕ} (f : Station → Station) {r : Run} → ((o : List Rec) → Good q t m r.station o → Good q u n (f r.station) o) → (Lawful r.station → Lawful (f r.station)) → Ok q t m b d r → Ok q u n b d (on f r)
+  ok_on f h l k = ok_change f (λ z o g w. (h o g, l w)) k
 
   -- n draws, of which every choice would keep at most k
-  pub ok-draw : {k : ℕ} (n : ℕ) {r : Run} → ((o : List Rec) → Good q t m r.station o → Lawful r.station → Costs k n (to_draw r)) → Ok q t m b (d + k) r → Ok q t m b d (draw n r)
+  pub ok_draw : {k : ℕ} (n : ℕ) {r : Run} → ((o : List Rec) → Good q t m r.station o → Lawful r.station → Costs k n (to_draw r)) → Ok q t m b (d + k) r → Ok q t m b d (draw n r)
   unfolding draw to_draw
-  ok-draw {k} n {r} h i =
-      ok-guard i.codes (λ z. let w = i.good z in let l = h w.told w.core w.law in
-      ok-if (leb (r.used + n) (length r.draws))
+  ok_draw {k} n {r} h i =
+      ok_guard i.codes (λ z. let w = i.good z in let l = h w.told w.core w.law in
+      ok_if (leb (r.used + n) (length r.draws))
       (λ e. record {
         good = λ y. record {
           told = w.told;
@@ -155,23 +155,23 @@ module _ {q : Fixed} {t : Terms} {m b d : ℕ} where
         };
         codes = record { lent = i.codes.lent; within = omega (arith, leb-true (r.used + n) (length r.draws) e, ap length i.codes.lent); space = i.codes.space; five = i.codes.five; roomy = λ y. absurd (omega (arith, y, z)); nine = i.codes.nine; low = i.codes.low };
       })
-      (λ e. ok-refuse 5 r (omega arith) (λ y. omega (arith, ap sure i.codes.lent, w.draws_left, sure_at r.used r.draws, l.short (omega (arith, i.codes.within, ap length i.codes.lent, length-drop r.used r.draws, leb-false (r.used + n) (length r.draws) e))))
+      (λ e. ok_refuse 5 r (omega arith) (λ y. omega (arith, ap sure i.codes.lent, w.draws_left, sure_at r.used r.draws, l.short (omega (arith, i.codes.within, ap length i.codes.lent, length-drop r.used r.draws, leb-false (r.used + n) (length r.draws) e))))
       (λ y. let c = w.core in record { active_few = omega (arith, c.seats.slots_left, c.still.ranges.few_slots); passive_few = omega (arith, c.seats.places_left, c.still.ranges.few_places); recent_few = omega (arith, w.law.recent_ok.few) })
       (λ y. absurd (omega arith)) i.codes))
 
-  pub ok-draw-one : {r : Run} → Ok q t m b (d + 1) r → Ok q t m b d (draw 1 r)
-  ok-draw-one {r} k = ok-draw 1 (λ o g l. one_costs (to_draw r)) k
+  pub ok_draw_one : {r : Run} → Ok q t m b (d + 1) r → Ok q t m b d (draw 1 r)
+  ok_draw_one {r} k = ok_draw 1 (λ o g l. one_costs (to_draw r)) k
 
   -- the draws of a choice of at most 32 items
-  pub ok-one-of : (n : ℕ) {r : Run} → ((o : List Rec) → Good q t m r.station o → Lawful r.station → n ≤ 32) → Ok q t m b (d + 1) r → Ok q t m b d (draw_one_of n r)
+  pub ok_one_of : (n : ℕ) {r : Run} → ((o : List Rec) → Good q t m r.station o → Lawful r.station → n ≤ 32) → Ok q t m b (d + 1) r → Ok q t m b d (draw_one_of n r)
   unfolding draw_one_of
-  ok-one-of n {r} h k = ok-draw _ (λ o g l. pick_costs n (to_draw r) (h o g l)) k
+  ok_one_of n {r} h k = ok_draw _ (λ o g l. pick_costs n (to_draw r) (h o g l)) k
 
-  pub ok-require : {c : ℕ} → Plain c → (test : Bool) {r : Run} → Ok q t m b d r → Ok q t m b d (require c test r)
+  pub ok_require : {c : ℕ} → Plain c → (test : Bool) {r : Run} → Ok q t m b d r → Ok q t m b d (require c test r)
   unfolding require
-  ok-require {c} p test {r} k =
-      ok-guard k.codes (λ z. ok-if test (λ e. k)
-      (λ e. ok-refuse c r p.low (λ y. absurd (p.not_five y)) (λ y. absurd (p.not_five y)) (λ y. absurd (p.not_nine y)) k.codes))
+  ok_require {c} p test {r} k =
+      ok_guard k.codes (λ z. ok_if test (λ e. k)
+      (λ e. ok_refuse c r p.low (λ y. absurd (p.not_five y)) (λ y. absurd (p.not_five y)) (λ y. absurd (p.not_nine y)) k.codes))
 
 -- what a test that was passed says
 pub require_fine : {c : ℕ} → Plain c → (test : Bool) (r : Run) → (require c test r).code ≡ 0 → (require c test r ≡ r) × (test ≡ true)
@@ -184,9 +184,9 @@ require_fine {c} p test r =
 -- a change that a test stands before
 pub ok_claim : {q : Fixed} {t u : Terms} {m n b d c : ℕ} → Plain c → (test : Bool) (f : Station → Station) {r : Run} → (r.code ≡ 0 → test ≡ true → (o : List Rec) → Good q t m r.station o → Lawful r.station → Good q u n (f r.station) o × Lawful (f r.station)) → Ok q t m b d r → Ok q u n b d (on f (require c test r))
 ok_claim {q} {t} {u} {m} {n} {c = c} p test f {r} h k =
-    ok-change f (λ z. let e = require_fine p test r z in
+    ok_change f (λ z. let e = require_fine p test r z in
     subst (λ (w : Run). (o : List Rec) → Good q t m w.station o → Lawful w.station → Good q u n (f w.station) o × Lawful (f w.station)) (sym e.0)
-    (h (subst (λ (w : Run). w.code ≡ 0) e.0 z) e.1)) (ok-require p test k)
+    (h (subst (λ (w : Run). w.code ≡ 0) e.0 z) e.1)) (ok_require p test k)
 
 pub draw_station : (n : ℕ) (r : Run) → (draw n r).station ≡ r.station
 unfolding draw guard
@@ -233,15 +233,15 @@ codes_on {q} f {r} c =
 
 -- a record of at most n bytes
 module _ {q : Fixed} {u : Terms} {m b d : ℕ} (e : Rec) (n : ℕ) where
-  pub ok-emit-fine : {r : Run} → Codes q r → (r.code ≡ 0 → (length r.out + size e ≤ 8192) × Told q u m b d r.station (r.out ++ encode e) (spent r)) → Ok q u m b d (emit e r)
+  pub ok_emit_fine : {r : Run} → Codes q r → (r.code ≡ 0 → (length r.out + size e ≤ 8192) × Told q u m b d r.station (r.out ++ encode e) (spent r)) → Ok q u m b d (emit e r)
   unfolding emit
-  ok-emit-fine {r} c h =
-      ok-guard c (λ z. ok-if _
+  ok_emit_fine {r} c h =
+      ok_guard c (λ z. ok_if _
       (λ f. record {
         good = λ y. (h z).1;
         codes = record { lent = c.lent; within = c.within; space = c.space; five = c.five; roomy = λ y. absurd (omega (arith, y, z)); nine = c.nine; low = c.low };
       })
-      (λ f. ok-refuse 9 r (omega arith) (λ y. absurd (omega arith)) (λ y. absurd (omega arith)) (λ y. omega (arith, c.space, (h z).0, leb-false (length r.out + size e) r.room f)) c))
+      (λ f. ok_refuse 9 r (omega arith) (λ y. absurd (omega arith)) (λ y. absurd (omega arith)) (λ y. omega (arith, c.space, (h z).0, leb-false (length r.out + size e) r.room f)) c))
 
   said : {t : Terms} {k : ℕ} {s v : Station} {out : List ℕ} {drawn : ℕ} → size e ≤ n → (9 ≤ e.kind → e.kind ≤ 10 → e.peer < peers_end)
       → ((o : List Rec) → Good q t k s o → Good q u m v (e ∷ o)) → (Lawful s → Lawful v) → Told q t k (b + n) d s out drawn
@@ -260,29 +260,29 @@ module _ {q : Fixed} {u : Terms} {m b d : ℕ} (e : Rec) (n : ℕ) where
     },
   )
 
-  pub ok-emit : {t : Terms} {k : ℕ} {r : Run} → (r.code ≡ 0 → (o : List Rec) → Good q t k r.station o → Lawful r.station → size e ≤ n) → (9 ≤ e.kind → e.kind ≤ 10 → e.peer < peers_end)
+  pub ok_emit : {t : Terms} {k : ℕ} {r : Run} → (r.code ≡ 0 → (o : List Rec) → Good q t k r.station o → Lawful r.station → size e ≤ n) → (9 ≤ e.kind → e.kind ≤ 10 → e.peer < peers_end)
       → ((o : List Rec) → Good q t k r.station o → Good q u m r.station (e ∷ o)) → Ok q t k (b + n) d r → Ok q u m b d (emit e r)
-  ok-emit s a h k = ok-emit-fine k.codes (λ z. said (ok-fact (s z) k z) a h (λ l. l) (k.good z))
+  ok_emit s a h k = ok_emit_fine k.codes (λ z. said (ok_fact (s z) k z) a h (λ l. l) (k.good z))
 
   -- a notice of what was changed
-  pub ok-tell : {t : Terms} {k : ℕ} (f : Station → Station) {r : Run} → size e ≤ n → ((o : List Rec) → Good q t k r.station o → e.peer < peers_end)
+  pub ok_tell : {t : Terms} {k : ℕ} (f : Station → Station) {r : Run} → size e ≤ n → ((o : List Rec) → Good q t k r.station o → e.peer < peers_end)
       → ((o : List Rec) → Good q t k r.station o → Good q u m (f r.station) (e ∷ o)) → (Lawful r.station → Lawful (f r.station)) → Ok q t k (b + n) d r → Ok q u m b d (emit e (on f r))
-  ok-tell f {r} s a h l k =
-      ok-emit-fine (codes_on f k.codes) (λ z. let y : r.code ≡ 0 = subst (λ (c : ℕ). c ≡ 0) (on_code f r) z in
-      rw (on_fine f r y) (said s (λ _ _. ok-fact (λ o g w. a o g) k y) h l (k.good y)))
+  ok_tell f {r} s a h l k =
+      ok_emit_fine (codes_on f k.codes) (λ z. let y : r.code ≡ 0 = subst (λ (c : ℕ). c ≡ 0) (on_code f r) z in
+      rw (on_fine f r y) (said s (λ _ _. ok_fact (λ o g w. a o g) k y) h l (k.good y)))
 
 -- a message spends one of those allowed; other records but notices are free
 pub charge : {cfg0 : Config} {me0 : ℕ} {kept : Bool} {old : ℕ} {t : Terms} {m : ℕ} {me : ℕ} {cfg : Config} {alone : ℕ} {act pas ali jks boo up : List ℕ} {sent allowed : ℕ} → Core cfg0 me0 kept old t (m + 1) me cfg alone act pas ali jks boo up sent allowed → Core cfg0 me0 kept old t m me cfg alone act pas ali jks boo up (sent + 1) allowed
 charge c = record { still = c.still; seats = c.seats; waits = c.waits; tally = record { noted = c.tally.noted; bound = omega (arith, c.tally.bound) } }
 
 module _ {q : Fixed} {t : Terms} {m b d : ℕ} (e : Rec) (n : ℕ) {r : Run} where
-  pub ok-message : e.kind ≡ 0 → (r.code ≡ 0 → (o : List Rec) → Good q t (m + 1) r.station o → Lawful r.station → size e ≤ n) → Ok q t (m + 1) (b + n) d r → Ok q t m b d (emit e r)
+  pub ok_message : e.kind ≡ 0 → (r.code ≡ 0 → (o : List Rec) → Good q t (m + 1) r.station o → Lawful r.station → size e ≤ n) → Ok q t (m + 1) (b + n) d r → Ok q t m b d (emit e r)
   unfolding up_after note sent_after choose
-  ok-message z s k = ok-emit e n s (λ x y. absurd (omega arith)) (λ o c. rw z (charge c)) k
+  ok_message z s k = ok_emit e n s (λ x y. absurd (omega arith)) (λ o c. rw z (charge c)) k
 
   -- timers (kinds 1 to 4) and peer data (11)
-  pub ok-quiet : (1 ≤ e.kind) → (e.kind ≡ 9 → ⊥) → (e.kind ≡ 10 → ⊥) → (r.code ≡ 0 → Lawful r.station → size e ≤ n) → Ok q t m (b + n) d r → Ok q t m b d (emit e r)
+  pub ok_quiet : (1 ≤ e.kind) → (e.kind ≡ 9 → ⊥) → (e.kind ≡ 10 → ⊥) → (r.code ≡ 0 → Lawful r.station → size e ≤ n) → Ok q t m (b + n) d r → Ok q t m b d (emit e r)
   unfolding up_after note sent_after choose
-  ok-quiet x y z s k =
-      ok-emit e n (λ i o g l. s i l) (λ v w. absurd (omega (arith, y, z)))
+  ok_quiet x y z s k =
+      ok_emit e n (λ i o g l. s i l) (λ v w. absurd (omega (arith, y, z)))
       (λ o c. rw (ne_eqb e.kind 9 y, ne_eqb e.kind 10 z, ne_eqb e.kind 0 (λ w. omega arith)) c) k

@@ -10,8 +10,8 @@ pub use Rattle.spec_hyparview.specs.Invariant.{InOrder, Numbered, Requests, Held
 -- one part changed, by tools/make/layout.py
 module _ {me top : ℕ} {own : Data} {req : List (ℕ × ℕ)} {nreq : ℕ} {joi : List (ℕ × ℕ)} {njoi : ℕ} {dat : List (ℕ × List ℕ)} {ali ref : List ℕ} {fill : Refill} {rec : List ℕ} {int alone short cap : ℕ} {act pin : List ℕ}
     (h : Law me top own req nreq joi njoi dat ali ref fill rec int alone short cap act pin) where
-  pub law-requests : {v : List (ℕ × ℕ)} {n : ℕ} → Requests v n → Law me top own v n joi njoi dat ali ref fill rec int alone short cap act pin
-  law-requests x = record {
+  pub law_requests : {v : List (ℕ × ℕ)} {n : ℕ} → Requests v n → Law me top own v n joi njoi dat ali ref fill rec int alone short cap act pin
+  law_requests x = record {
     requests_ok = x;
     joins_ok = h.joins_ok;
     held_ok = h.held_ok;
@@ -26,8 +26,8 @@ module _ {me top : ℕ} {own : Data} {req : List (ℕ × ℕ)} {nreq : ℕ} {joi
     pins_ok = h.pins_ok;
   }
 
-  pub law-joins : {v : List (ℕ × ℕ)} {n : ℕ} → Numbered v n → Law me top own req nreq v n dat ali ref fill rec int alone short cap act pin
-  law-joins x = record {
+  pub law_joins : {v : List (ℕ × ℕ)} {n : ℕ} → Numbered v n → Law me top own req nreq v n dat ali ref fill rec int alone short cap act pin
+  law_joins x = record {
     requests_ok = h.requests_ok;
     joins_ok = x;
     held_ok = h.held_ok;
@@ -42,8 +42,8 @@ module _ {me top : ℕ} {own : Data} {req : List (ℕ × ℕ)} {nreq : ℕ} {joi
     pins_ok = h.pins_ok;
   }
 
-  pub law-held : {v : List (ℕ × List ℕ)} → HeldData me v → Law me top own req nreq joi njoi v ali ref fill rec int alone short cap act pin
-  law-held x = record {
+  pub law_held : {v : List (ℕ × List ℕ)} → HeldData me v → Law me top own req nreq joi njoi v ali ref fill rec int alone short cap act pin
+  law_held x = record {
     requests_ok = h.requests_ok;
     joins_ok = h.joins_ok;
     held_ok = x;
@@ -58,8 +58,8 @@ module _ {me top : ℕ} {own : Data} {req : List (ℕ × ℕ)} {nreq : ℕ} {joi
     pins_ok = h.pins_ok;
   }
 
-  pub law-own : {v : Data} → Short v → Law me top v req nreq joi njoi dat ali ref fill rec int alone short cap act pin
-  law-own x = record {
+  pub law_own : {v : Data} → Short v → Law me top v req nreq joi njoi dat ali ref fill rec int alone short cap act pin
+  law_own x = record {
     requests_ok = h.requests_ok;
     joins_ok = h.joins_ok;
     held_ok = h.held_ok;
@@ -74,8 +74,8 @@ module _ {me top : ℕ} {own : Data} {req : List (ℕ × ℕ)} {nreq : ℕ} {joi
     pins_ok = h.pins_ok;
   }
 
-  pub law-alive : {v : List ℕ} → InOrder v → Law me top own req nreq joi njoi dat v ref fill rec int alone short cap act pin
-  law-alive x = record {
+  pub law_alive : {v : List ℕ} → InOrder v → Law me top own req nreq joi njoi dat v ref fill rec int alone short cap act pin
+  law_alive x = record {
     requests_ok = h.requests_ok;
     joins_ok = h.joins_ok;
     held_ok = h.held_ok;
@@ -90,8 +90,8 @@ module _ {me top : ℕ} {own : Data} {req : List (ℕ × ℕ)} {nreq : ℕ} {joi
     pins_ok = h.pins_ok;
   }
 
-  pub law-refused : {v : List ℕ} → Refused v → Law me top own req nreq joi njoi dat ali v fill rec int alone short cap act pin
-  law-refused x = record {
+  pub law_refused : {v : List ℕ} → Refused v → Law me top own req nreq joi njoi dat ali v fill rec int alone short cap act pin
+  law_refused x = record {
     requests_ok = h.requests_ok;
     joins_ok = h.joins_ok;
     held_ok = h.held_ok;
@@ -106,8 +106,8 @@ module _ {me top : ℕ} {own : Data} {req : List (ℕ × ℕ)} {nreq : ℕ} {joi
     pins_ok = h.pins_ok;
   }
 
-  pub law-fill : {v : Refill} → Small v → Law me top own req nreq joi njoi dat ali ref v rec int alone short cap act pin
-  law-fill x = record {
+  pub law_fill : {v : Refill} → Small v → Law me top own req nreq joi njoi dat ali ref v rec int alone short cap act pin
+  law_fill x = record {
     requests_ok = h.requests_ok;
     joins_ok = h.joins_ok;
     held_ok = h.held_ok;
@@ -122,8 +122,8 @@ module _ {me top : ℕ} {own : Data} {req : List (ℕ × ℕ)} {nreq : ℕ} {joi
     pins_ok = h.pins_ok;
   }
 
-  pub law-recent : {v : List ℕ} → Recent v → Law me top own req nreq joi njoi dat ali ref fill v int alone short cap act pin
-  law-recent x = record {
+  pub law_recent : {v : List ℕ} → Recent v → Law me top own req nreq joi njoi dat ali ref fill v int alone short cap act pin
+  law_recent x = record {
     requests_ok = h.requests_ok;
     joins_ok = h.joins_ok;
     held_ok = h.held_ok;
@@ -138,8 +138,8 @@ module _ {me top : ℕ} {own : Data} {req : List (ℕ × ℕ)} {nreq : ℕ} {joi
     pins_ok = h.pins_ok;
   }
 
-  pub law-pace : {v : ℕ} → Pace top v → Law me top own req nreq joi njoi dat ali ref fill rec v alone short cap act pin
-  law-pace x = record {
+  pub law_pace : {v : ℕ} → Pace top v → Law me top own req nreq joi njoi dat ali ref fill rec v alone short cap act pin
+  law_pace x = record {
     requests_ok = h.requests_ok;
     joins_ok = h.joins_ok;
     held_ok = h.held_ok;
@@ -154,8 +154,8 @@ module _ {me top : ℕ} {own : Data} {req : List (ℕ × ℕ)} {nreq : ℕ} {joi
     pins_ok = h.pins_ok;
   }
 
-  pub law-alone : {v : ℕ} → Passes v → Law me top own req nreq joi njoi dat ali ref fill rec int v short cap act pin
-  law-alone x = record {
+  pub law_alone : {v : ℕ} → Passes v → Law me top own req nreq joi njoi dat ali ref fill rec int v short cap act pin
+  law_alone x = record {
     requests_ok = h.requests_ok;
     joins_ok = h.joins_ok;
     held_ok = h.held_ok;
@@ -170,8 +170,8 @@ module _ {me top : ℕ} {own : Data} {req : List (ℕ × ℕ)} {nreq : ℕ} {joi
     pins_ok = h.pins_ok;
   }
 
-  pub law-short : {v : ℕ} → Passes v → Law me top own req nreq joi njoi dat ali ref fill rec int alone v cap act pin
-  law-short x = record {
+  pub law_short : {v : ℕ} → Passes v → Law me top own req nreq joi njoi dat ali ref fill rec int alone v cap act pin
+  law_short x = record {
     requests_ok = h.requests_ok;
     joins_ok = h.joins_ok;
     held_ok = h.held_ok;
@@ -186,8 +186,8 @@ module _ {me top : ℕ} {own : Data} {req : List (ℕ × ℕ)} {nreq : ℕ} {joi
     pins_ok = h.pins_ok;
   }
 
-  pub law-pins : {v : List ℕ} {n : List ℕ} → Pinned cap v n → Law me top own req nreq joi njoi dat ali ref fill rec int alone short cap v n
-  law-pins x = record {
+  pub law_pins : {v : List ℕ} {n : List ℕ} → Pinned cap v n → Law me top own req nreq joi njoi dat ali ref fill rec int alone short cap v n
+  law_pins x = record {
     requests_ok = h.requests_ok;
     joins_ok = h.joins_ok;
     held_ok = h.held_ok;

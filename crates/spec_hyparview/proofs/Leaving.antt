@@ -19,55 +19,55 @@ use Rattle.spec_hyparview.specs.Active as A
 use Rattle.spec_hyparview.specs.Active.{Reason, connection_closed, disconnect_received, random}
 use Rattle.base_lists.proofs.Members.{null_yes, null_no, mem_yes}
 use Rattle.base_lists.proofs.Skips.{few_taken, count_left}
-use Rattle.spec_hyparview.proofs.Law.{Short, Small, Lawful, law-refused, law-pins}
+use Rattle.spec_hyparview.proofs.Law.{Short, Small, Lawful, law_refused, law_pins}
 use Rattle.spec_hyparview.proofs.Changes.{no_refusals, short_lookup, unpin}
 use Rattle.spec_hyparview.proofs.Told.{up_after, note, sent_after}
-use Rattle.spec_hyparview.proofs.Invariant.{Fixed, Terms, busy, Ok, with-slots}
-use Rattle.spec_hyparview.proofs.Keeping.{ease, ok-if, ok-either, ok-on, ok-map, ok-fact, ok-one-of, ok-tell, one_of_station, on_code}
-use Rattle.spec_hyparview.proofs.Sends.{no_node, ok-insert-peer-info, ok-send-disconnect, ok-start-refill}
-use Rattle.spec_hyparview.proofs.Passive.{ok-drop-data, ok-drop-mark, ok-forget-loose, ok-enter-loose, ok-mark-alive, entered}
+use Rattle.spec_hyparview.proofs.Invariant.{Fixed, Terms, busy, Ok, with_slots}
+use Rattle.spec_hyparview.proofs.Keeping.{ease, ok_if, ok_either, ok_on, ok_map, ok_fact, ok_one_of, ok_tell, one_of_station, on_code}
+use Rattle.spec_hyparview.proofs.Sends.{no_node, ok_insert_peer_info, ok_send_disconnect, ok_start_refill}
+use Rattle.spec_hyparview.proofs.Passive.{ok_drop_data, ok_drop_mark, ok_forget_loose, ok_enter_loose, ok_mark_alive, entered}
 
 module _ {q : Fixed} {t : Terms} {m b d : ℕ} where
-  pub ok-clear-refused : {r : Run} → Ok q t m b d r → Ok q t m b d (on A.clear_refused r)
+  pub ok_clear_refused : {r : Run} → Ok q t m b d r → Ok q t m b d (on A.clear_refused r)
   unfolding A.clear_refused
-  ok-clear-refused k = ok-on _ (λ o h. h) (λ w. law-refused w no_refusals) k
+  ok_clear_refused k = ok_on _ (λ o h. h) (λ w. law_refused w no_refusals) k
 
 -- the data that was held is short
 pub held_short : {q : Fixed} {t : Terms} {m b d : ℕ} (p : ℕ) {r : Run} → Ok q t m b d r → (on (P.drop_data p) r).code ≡ 0 → Short (lookup p r.station.peer_data)
 held_short p {r} k z =
-    ok-fact (λ o h w. short_lookup p r.station.peer_data w.held_ok.shorts) k (subst (λ (c : ℕ). c ≡ 0) (on_code (P.drop_data p) r) z)
+    ok_fact (λ o h w. short_lookup p r.station.peer_data w.held_ok.shorts) k (subst (λ (c : ℕ). c ≡ 0) (on_code (P.drop_data p) r) z)
 
 module _ {q : Fixed} {g ba : List ℕ} {sl m b d : ℕ} where
-  pub ok-demote : (p : ℕ) {r : Run} → Ok q (busy g ba (p ∷ []) sl 0) m (b + adding) (d + 1) r → Ok q (busy g ba [] sl 0) m b d (A.demote p r)
+  pub ok_demote : (p : ℕ) {r : Run} → Ok q (busy g ba (p ∷ []) sl 0) m (b + adding) (d + 1) r → Ok q (busy g ba [] sl 0) m b d (A.demote p r)
   unfolding A.demote P.add_passive
-  ok-demote p k = ok-enter-loose {lo = []} p (ok-insert-peer-info p _ (held_short p k) (ok-drop-data p (ease (omega arith) (omega arith) (omega arith) k)))
+  ok_demote p k = ok_enter_loose {lo = []} p (ok_insert_peer_info p _ (held_short p k) (ok_drop_data p (ease (omega arith) (omega arith) (omega arith) k)))
 
-  pub ok-demote-alive : (p : ℕ) {r : Run} → Ok q (busy g ba (p ∷ []) sl 0) m (b + adding) (d + 1) r → Ok q (busy g ba [] sl 0) m b d (A.demote_alive p r)
+  pub ok_demote_alive : (p : ℕ) {r : Run} → Ok q (busy g ba (p ∷ []) sl 0) m (b + adding) (d + 1) r → Ok q (busy g ba [] sl 0) m b d (A.demote_alive p r)
   unfolding A.demote_alive A.demote P.add_passive count
-  ok-demote-alive p {r} k =
+  ok_demote_alive p {r} k =
       let i : Ok q (busy g ba (p ∷ []) sl 0) m (b + bare) (d + 1) (P.insert_peer_info p (lookup p r.station.peer_data) (on (P.drop_data p) r)) =
-      ok-insert-peer-info p _ (held_short p k) (ok-drop-data p (ease (omega arith) (omega arith) (omega arith) k)) in
-      ok-mark-alive p (entered p _ (omega (arith, is_self p)) i) (ok-enter-loose {lo = []} p i)
+      ok_insert_peer_info p _ (held_short p k) (ok_drop_data p (ease (omega arith) (omega arith) (omega arith) k)) in
+      ok_mark_alive p (entered p _ (omega (arith, is_self p)) i) (ok_enter_loose {lo = []} p i)
 
-  pub ok-settle-closed : (p : ℕ) {r : Run} → Ok q (busy g ba (p ∷ []) sl 0) m (b + adding) (d + 1) r → Ok q (busy g ba [] sl 0) m b d (A.settle_closed p r)
+  pub ok_settle_closed : (p : ℕ) {r : Run} → Ok q (busy g ba (p ∷ []) sl 0) m (b + adding) (d + 1) r → Ok q (busy g ba [] sl 0) m b d (A.settle_closed p r)
   unfolding A.settle_closed
-  ok-settle-closed p k =
-      ok-either _ (ok-demote p (ok-drop-mark p k)) (ok-forget-loose {pl = 0} {lo = []} p (ease (omega arith) (omega arith) (omega arith) k))
+  ok_settle_closed p k =
+      ok_either _ (ok_demote p (ok_drop_mark p k)) (ok_forget_loose {pl = 0} {lo = []} p (ease (omega arith) (omega arith) (omega arith) k))
 
   -- the peer knows already that it is dropped
-  pub ok-settle : (why : Reason) → (why ≡ random → ⊥) → (p : ℕ) {r : Run} → Ok q (busy g ba (p ∷ []) sl 0) m (b + adding) (d + 1) r → Ok q (busy g ba [] sl 0) m b d (A.settle why p r)
+  pub ok_settle : (why : Reason) → (why ≡ random → ⊥) → (p : ℕ) {r : Run} → Ok q (busy g ba (p ∷ []) sl 0) m (b + adding) (d + 1) r → Ok q (busy g ba [] sl 0) m b d (A.settle why p r)
   unfolding A.settle
-  ok-settle connection_closed n p k = ok-settle-closed p k
-  ok-settle (disconnect_received true) n p k = ok-demote-alive p k
-  ok-settle (disconnect_received false) n p k = ok-forget-loose {pl = 0} {lo = []} p (ease (omega arith) (omega arith) (omega arith) k)
-  ok-settle random n p k = absurd (n refl)
+  ok_settle connection_closed n p k = ok_settle_closed p k
+  ok_settle (disconnect_received true) n p k = ok_demote_alive p k
+  ok_settle (disconnect_received false) n p k = ok_forget_loose {pl = 0} {lo = []} p (ease (omega arith) (omega arith) (omega arith) k)
+  ok_settle random n p k = absurd (n refl)
 
-  pub ok-drop-active : (i : ℕ) {r : Run} → i < length r.station.active → Ok q (busy g ba [] sl 0) m (b + bare) d r → Ok q (busy g ba (get_or r.station.active i 0 ∷ []) (sl + 1) 0) (m + 2) b d (A.drop_active i r)
+  pub ok_drop_active : (i : ℕ) {r : Run} → i < length r.station.active → Ok q (busy g ba [] sl 0) m (b + bare) d r → Ok q (busy g ba (get_or r.station.active i 0 ∷ []) (sl + 1) 0) (m + 2) b d (A.drop_active i r)
   unfolding A.drop_active A.swap_active A.leave_active up_after note sent_after count choose
-  ok-drop-active i {r} l k =
+  ok_drop_active i {r} l k =
       let act = r.station.active in
       let p = get_or act i 0 in
-      ok-tell (notice (output_byte NeighborDown) p) bare (A.swap_active i) (no_node (notice (output_byte NeighborDown) p) refl)
+      ok_tell (notice (output_byte NeighborDown) p) bare (A.swap_active i) (no_node (notice (output_byte NeighborDown) p) refl)
       (λ o h. h.seats.narrow p (omega (arith, count_at act i l)))
       (λ o h. record {
         still = h.still;
@@ -93,7 +93,7 @@ module _ {q : Fixed} {g ba : List ℕ} {sl m b d : ℕ} where
           bound = omega (arith, h.tally.bound, length_swap act i);
         };
       })
-      (λ w. law-pins w (unpin p w.pins_ok _ (λ x. omega (arith, count_swap x act i l)))) k
+      (λ w. law_pins w (unpin p w.pins_ok _ (λ x. omega (arith, count_swap x act i l)))) k
 
 -- 02, S-14: whoever has no pin is a neighbour, and so is whoever is picked
 pub free_active : (s : Station) (k : ℕ) → k < length (without_pin s) → mem (get_or (without_pin s) k 0) s.active ≡ true
@@ -119,34 +119,34 @@ free_or_unpinned s w c h e =
     omega (arith, c, w.pins_ok.few, few_taken s.pins s.active h, null_yes (without_all s.pins s.active) e)
 
 module _ {q : Fixed} {g ba : List ℕ} where
-  pub ok-settle-random : {sl m b d : ℕ} (p : ℕ) {r : Run} → Ok q (busy g ba (p ∷ []) sl 0) (m + 2) (b + (disconnecting + adding)) (d + 39) r → Ok q (busy g ba [] sl 0) m b d (A.settle random p r)
+  pub ok_settle_random : {sl m b d : ℕ} (p : ℕ) {r : Run} → Ok q (busy g ba (p ∷ []) sl 0) (m + 2) (b + (disconnecting + adding)) (d + 39) r → Ok q (busy g ba [] sl 0) m b d (A.settle random p r)
   unfolding A.settle
-  ok-settle-random p k = ok-demote-alive p (ok-send-disconnect p true (ease (omega arith) (omega arith) (omega arith) k))
+  ok_settle_random p k = ok_demote_alive p (ok_send_disconnect p true (ease (omega arith) (omega arith) (omega arith) k))
 
   -- one free place less
-  pub close-slot : {sl m b d : ℕ} {r : Run} → Ok q (busy g ba [] (sl + 1) 0) m b d r → Ok q (busy g ba [] sl 0) m b d r
-  close-slot k = ok-map (λ o h w. record { still = h.still; seats = with-slots h.seats (omega (arith, h.seats.slots_left)); waits = h.waits; tally = h.tally }) k
+  pub close_slot : {sl m b d : ℕ} {r : Run} → Ok q (busy g ba [] (sl + 1) 0) m b d r → Ok q (busy g ba [] sl 0) m b d r
+  close_slot k = ok_map (λ o h w. record { still = h.still; seats = with_slots h.seats (omega (arith, h.seats.slots_left)); waits = h.waits; tally = h.tally }) k
 
-  pub ok-remove-active : {m b d : ℕ} (p : ℕ) (why : Reason) {r : Run} → (why ≡ random → ⊥) → Ok q (busy g ba [] 0 0) m (b + removing) (d + 2) r → Ok q (busy g ba [] 0 0) m b d (A.remove_active p why r)
+  pub ok_remove_active : {m b d : ℕ} (p : ℕ) (why : Reason) {r : Run} → (why ≡ random → ⊥) → Ok q (busy g ba [] 0 0) m (b + removing) (d + 2) r → Ok q (busy g ba [] 0 0) m b d (A.remove_active p why r)
   unfolding A.remove_active A.remove_active_by_index A.refill_after in_active Small
-  ok-remove-active {m} {b} {d} p why {r} n k =
+  ok_remove_active {m} {b} {d} p why {r} n k =
       let i = index_of p r.station.active in
-      ok-if (mem p r.station.active)
+      ok_if (mem p r.station.active)
       (λ e. let j : Ok q (busy g ba (get_or r.station.active i 0 ∷ []) 1 0) (m + 2) (b + (adding + asking)) (d + 2) (A.drop_active i r) =
-      ok-drop-active {sl = 0} i (index_lt p r.station.active e) (ease (omega arith) (omega arith) (omega arith) k) in
-      ok-start-refill recovery (p ∷ []) tt (ok-clear-refused (close-slot {sl = 0} (ok-settle why n _ (ease (omega arith) (omega arith) (omega arith) j)))))
+      ok_drop_active {sl = 0} i (index_lt p r.station.active e) (ease (omega arith) (omega arith) (omega arith) k) in
+      ok_start_refill recovery (p ∷ []) tt (ok_clear_refused (close_slot {sl = 0} (ok_settle why n _ (ease (omega arith) (omega arith) (omega arith) j)))))
       (λ e. ease (omega arith) (omega arith) (omega arith) k)
 
   -- after it the active view has a free place
-  pub ok-free-slot : {m b d : ℕ} {r : Run} → Ok q (busy g ba [] 0 0) m (b + freeing) (d + 40) r → Ok q (busy g ba [] 1 0) m b d (A.free_random_slot_in_active_view r)
+  pub ok_free_slot : {m b d : ℕ} {r : Run} → Ok q (busy g ba [] 0 0) m (b + freeing) (d + 40) r → Ok q (busy g ba [] 1 0) m b d (A.free_random_slot_in_active_view r)
   unfolding A.free_random_slot_in_active_view A.remove_picked A.remove_active_by_index
-  ok-free-slot {m} {b} {d} {r} k =
+  ok_free_slot {m} {b} {d} {r} k =
       let n = length (without_pin r.station) in
-      ok-if (null (without_pin r.station))
-      (λ e. ease (omega arith) (omega arith) (omega arith) (ok-map (λ o h w. record {
+      ok_if (null (without_pin r.station))
+      (λ e. ease (omega arith) (omega arith) (omega arith) (ok_map (λ o h w. record {
         still = h.still;
-        seats = with-slots h.seats (free_or_unpinned r.station w h.still.ranges.some_slot (λ x. omega (arith, h.seats.one x)) e);
+        seats = with_slots h.seats (free_or_unpinned r.station w h.still.ranges.some_slot (λ x. omega (arith, h.seats.one x)) e);
         waits = h.waits;
         tally = h.tally;
       }) k))
-      (λ e. ok-settle-random {sl = 1} _ (ok-drop-active {sl = 0} _ (rw (one_of_station n r) (picked_below r e)) (ok-one-of _ (λ o h l. few_free r.station (omega (arith, h.seats.slots_left, h.still.ranges.few_slots))) (ease (omega arith) (omega arith) (omega arith) k))))
+      (λ e. ok_settle_random {sl = 1} _ (ok_drop_active {sl = 0} _ (rw (one_of_station n r) (picked_below r e)) (ok_one_of _ (λ o h l. few_free r.station (omega (arith, h.seats.slots_left, h.still.ranges.few_slots))) (ease (omega arith) (omega arith) (omega arith) k))))

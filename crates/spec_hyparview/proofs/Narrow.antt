@@ -16,7 +16,7 @@ use Rattle.record.specs.InForm.{NodesInForm, NodesInFormBy}
 use Rattle.spec_hyparview.specs.Station.{Station, top_counter, peers_end, bytes_end}
 use Rattle.spec_hyparview.specs.Run as R
 use Rattle.spec_hyparview.specs.Rules.{peer_lists}
-use Rattle.spec_hyparview.proofs.Among.{all-get}
+use Rattle.spec_hyparview.proofs.Among.{all_get}
 use Rattle.spec_hyparview.proofs.Invariant.{Ranges}
 
 abbrev pub Peer : ℕ → Type 0
@@ -91,26 +91,26 @@ pins = 10
 module _ {c : Config} {ls : List (List ℕ)} {own : List ℕ} {m : List (ℕ × List ℕ)} {int nr nj : ℕ} (h : Widths c ls own m int nr nj) where
   -- the list at a place
   pub at : (i : ℕ) → Peers (get_or ls i [])
-  at i = all-get Peers ls i [] no_peers h.named
+  at i = all_get Peers ls i [] no_peers h.named
 
   -- one part changed
   pub change : (i : ℕ) (v : List ℕ) → Peers v → Widths c (set ls i v) own m int nr nj
   change i v p = record { settings = h.settings; named = all_set Peers ls i v p h.named; mine = h.mine; held = h.held; pace = h.pace; requests_top = h.requests_top; joins_top = h.joins_top }
 
-  pub change-own : {v : List ℕ} → HeldData v → Widths c ls v m int nr nj
-  change-own p = record { settings = h.settings; named = h.named; mine = p; held = h.held; pace = h.pace; requests_top = h.requests_top; joins_top = h.joins_top }
+  pub change_own : {v : List ℕ} → HeldData v → Widths c ls v m int nr nj
+  change_own p = record { settings = h.settings; named = h.named; mine = p; held = h.held; pace = h.pace; requests_top = h.requests_top; joins_top = h.joins_top }
 
-  pub change-held : {v : List (ℕ × List ℕ)} → Each HeldData v → Widths c ls own v int nr nj
-  change-held p = record { settings = h.settings; named = h.named; mine = h.mine; held = p; pace = h.pace; requests_top = h.requests_top; joins_top = h.joins_top }
+  pub change_held : {v : List (ℕ × List ℕ)} → Each HeldData v → Widths c ls own v int nr nj
+  change_held p = record { settings = h.settings; named = h.named; mine = h.mine; held = p; pace = h.pace; requests_top = h.requests_top; joins_top = h.joins_top }
 
-  pub change-pace : {v : ℕ} → v ≤ c.shuffle_interval → Widths c ls own m v nr nj
-  change-pace p = record { settings = h.settings; named = h.named; mine = h.mine; held = h.held; pace = p; requests_top = h.requests_top; joins_top = h.joins_top }
+  pub change_pace : {v : ℕ} → v ≤ c.shuffle_interval → Widths c ls own m v nr nj
+  change_pace p = record { settings = h.settings; named = h.named; mine = h.mine; held = h.held; pace = p; requests_top = h.requests_top; joins_top = h.joins_top }
 
-  pub change-next-request : {v : ℕ} → v ≤ top_counter → Widths c ls own m int v nj
-  change-next-request p = record { settings = h.settings; named = h.named; mine = h.mine; held = h.held; pace = h.pace; requests_top = p; joins_top = h.joins_top }
+  pub change_next_request : {v : ℕ} → v ≤ top_counter → Widths c ls own m int v nj
+  change_next_request p = record { settings = h.settings; named = h.named; mine = h.mine; held = h.held; pace = h.pace; requests_top = p; joins_top = h.joins_top }
 
-  pub change-next-join : {v : ℕ} → v ≤ top_counter → Widths c ls own m int nr v
-  change-next-join p = record { settings = h.settings; named = h.named; mine = h.mine; held = h.held; pace = h.pace; requests_top = h.requests_top; joins_top = p }
+  pub change_next_join : {v : ℕ} → v ≤ top_counter → Widths c ls own m int nr v
+  change_next_join p = record { settings = h.settings; named = h.named; mine = h.mine; held = h.held; pace = h.pace; requests_top = h.requests_top; joins_top = p }
 
 -- data
 pub no_data : HeldData []

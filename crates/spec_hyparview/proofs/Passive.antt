@@ -20,11 +20,11 @@ use Rattle.spec_hyparview.specs.Budgets.{bare, adding}
 use Rattle.spec_hyparview.specs.Peers as P
 use Rattle.spec_hyparview.specs.Active as A
 use Rattle.base_lists.proofs.Members.{null_yes, null_no, count_less}
-use Rattle.spec_hyparview.proofs.Law.{Short, ShortNodes, law-held, law-alive}
+use Rattle.spec_hyparview.proofs.Law.{Short, ShortNodes, law_held, law_alive}
 use Rattle.spec_hyparview.proofs.Changes.{cut_held, unmark, mark}
-use Rattle.spec_hyparview.proofs.Invariant.{Fixed, Terms, busy, calm, Ok, with-marks, with-places}
-use Rattle.spec_hyparview.proofs.Keeping.{ease, ok-if, ok-either, ok-on, ok-change, ok-map, ok-fact, ok-absurd, ok-one-of, ok-quiet, one_of_station}
-use Rattle.spec_hyparview.proofs.Sends.{no_node, ok-insert-peer-info}
+use Rattle.spec_hyparview.proofs.Invariant.{Fixed, Terms, busy, calm, Ok, with_marks, with_places}
+use Rattle.spec_hyparview.proofs.Keeping.{ease, ok_if, ok_either, ok_on, ok_change, ok_map, ok_fact, ok_absurd, ok_one_of, ok_quiet, one_of_station}
+use Rattle.spec_hyparview.proofs.Sends.{no_node, ok_insert_peer_info}
 
 -- the tests, as counts
 pub seen : (p : ℕ) (s : Station) → in_view p s ≡ true → 1 ≤ count p s.active + count p s.passive
@@ -58,58 +58,58 @@ apart_from x p act pas lo me e =
 
 -- what is dropped with a peer keeps the other rules
 module _ {q : Fixed} {t : Terms} {m b d : ℕ} where
-  pub ok-forget-any : (p : ℕ) {r : Run} → Ok q t m b d r → Ok q t m b d (P.forget_peer p r)
+  pub ok_forget_any : (p : ℕ) {r : Run} → Ok q t m b d r → Ok q t m b d (P.forget_peer p r)
   unfolding P.forget_peer P.drop_traces P.drop_mark P.drop_data
-  ok-forget-any p {r} k =
-      ok-either _ k (ok-on _ (λ o h. record {
+  ok_forget_any p {r} k =
+      ok_either _ k (ok_on _ (λ o h. record {
         still = h.still;
-        seats = with-marks h.seats (λ x. omega (arith, h.seats.marks x, h.seats.one x, count_less x p r.station.alive (omega (arith, h.seats.marks x, h.seats.one x))));
+        seats = with_marks h.seats (λ x. omega (arith, h.seats.marks x, h.seats.one x, count_less x p r.station.alive (omega (arith, h.seats.marks x, h.seats.one x))));
         waits = h.waits;
         tally = h.tally;
       })
-      (λ w. law-alive (law-held w (cut_held p w.held_ok)) (unmark p w.alive_ok)) k)
+      (λ w. law_alive (law_held w (cut_held p w.held_ok)) (unmark p w.alive_ok)) k)
 
-  pub ok-drop-data : (p : ℕ) {r : Run} → Ok q t m b d r → Ok q t m b d (on (P.drop_data p) r)
+  pub ok_drop_data : (p : ℕ) {r : Run} → Ok q t m b d r → Ok q t m b d (on (P.drop_data p) r)
   unfolding P.drop_data
-  ok-drop-data p k = ok-on _ (λ o h. h) (λ w. law-held w (cut_held p w.held_ok)) k
+  ok_drop_data p k = ok_on _ (λ o h. h) (λ w. law_held w (cut_held p w.held_ok)) k
 
-  pub ok-drop-mark : (p : ℕ) {r : Run} → Ok q t m b d r → Ok q t m b d (on (P.drop_mark p) r)
+  pub ok_drop_mark : (p : ℕ) {r : Run} → Ok q t m b d r → Ok q t m b d (on (P.drop_mark p) r)
   unfolding P.drop_mark
-  ok-drop-mark p {r} k =
-      ok-on _ (λ o h. record {
+  ok_drop_mark p {r} k =
+      ok_on _ (λ o h. record {
         still = h.still;
-        seats = with-marks h.seats (λ x. omega (arith, h.seats.marks x, h.seats.one x, count_less x p r.station.alive (omega (arith, h.seats.marks x, h.seats.one x))));
+        seats = with_marks h.seats (λ x. omega (arith, h.seats.marks x, h.seats.one x, count_less x p r.station.alive (omega (arith, h.seats.marks x, h.seats.one x))));
         waits = h.waits;
         tally = h.tally;
       })
-      (λ w. law-alive w (unmark p w.alive_ok)) k
+      (λ w. law_alive w (unmark p w.alive_ok)) k
 
   -- the mark of a passive peer
-  pub ok-mark-alive : (p : ℕ) {r : Run} → (r.code ≡ 0 → 1 ≤ count p r.station.passive) → Ok q t m b d r → Ok q t m b d (on (A.mark_alive p) r)
+  pub ok_mark_alive : (p : ℕ) {r : Run} → (r.code ≡ 0 → 1 ≤ count p r.station.passive) → Ok q t m b d r → Ok q t m b d (on (A.mark_alive p) r)
   unfolding A.mark_alive
-  ok-mark-alive p {r} h k =
-      ok-change _ (λ z o c w. (
+  ok_mark_alive p {r} h k =
+      ok_change _ (λ z o c w. (
         record {
           still = c.still;
-          seats = with-marks c.seats (λ x. count_insert x p r.station.alive (λ y. count y r.station.passive + count y t.loose) (omega (arith, h z)) (c.seats.marks x));
+          seats = with_marks c.seats (λ x. count_insert x p r.station.alive (λ y. count y r.station.passive + count y t.loose) (omega (arith, h z)) (c.seats.marks x));
           waits = c.waits;
           tally = c.tally;
         },
-        law-alive w (mark p w.alive_ok),
+        law_alive w (mark p w.alive_ok),
       )) k
 
-  ok-tell-evicted : (x : Option ℕ) {r : Run} → Ok q t m (b + bare) d r → Ok q t m b d (P.tell_evicted x r)
+  ok_tell_evicted : (x : Option ℕ) {r : Run} → Ok q t m (b + bare) d r → Ok q t m b d (P.tell_evicted x r)
   unfolding P.tell_evicted
-  ok-tell-evicted none k = ease (omega arith) (omega arith) (omega arith) k
-  ok-tell-evicted (some p) k = ok-quiet _ bare (omega arith) (λ e. omega arith) (λ e. omega arith) (λ z w. no_node _ refl) k
+  ok_tell_evicted none k = ease (omega arith) (omega arith) (omega arith) k
+  ok_tell_evicted (some p) k = ok_quiet _ bare (omega arith) (λ e. omega arith) (λ e. omega arith) (λ z w. no_node _ refl) k
 
 module _ {q : Fixed} {g ba : List ℕ} {sl m b d : ℕ} where
-  pub ok-forget-loose : {pl : ℕ} {lo : List ℕ} (p : ℕ) {r : Run} → Ok q (busy g ba (p ∷ lo) sl pl) m b d r → Ok q (busy g ba lo sl pl) m b d (P.forget_peer p r)
+  pub ok_forget_loose : {pl : ℕ} {lo : List ℕ} (p : ℕ) {r : Run} → Ok q (busy g ba (p ∷ lo) sl pl) m b d r → Ok q (busy g ba lo sl pl) m b d (P.forget_peer p r)
   unfolding P.forget_peer P.drop_traces P.drop_mark P.drop_data count
-  ok-forget-loose p {r} k =
-      ok-if (in_view p r.station)
-      (λ e. ok-absurd (λ o h w. omega (arith, h.seats.one p, is_self p, seen p r.station e)) k)
-      (λ e. ok-on _ (λ o h. record {
+  ok_forget_loose p {r} k =
+      ok_if (in_view p r.station)
+      (λ e. ok_absurd (λ o h w. omega (arith, h.seats.one p, is_self p, seen p r.station e)) k)
+      (λ e. ok_on _ (λ o h. record {
         still = h.still;
         seats = record {
           one = λ x. omega (arith, h.seats.one x);
@@ -123,13 +123,13 @@ module _ {q : Fixed} {g ba : List ℕ} {sl m b d : ℕ} where
         waits = h.waits;
         tally = h.tally;
       })
-      (λ w. law-alive (law-held w (cut_held p w.held_ok)) (unmark p w.alive_ok)) k)
+      (λ w. law_alive (law_held w (cut_held p w.held_ok)) (unmark p w.alive_ok)) k)
 
-  pub ok-evict-at : {lo : List ℕ} (i : ℕ) {r : Run} → i < length r.station.passive → Ok q (busy g ba lo sl 0) m b d r → Ok q (busy g ba lo sl 1) m b d (P.evict_at i r)
+  pub ok_evict_at : {lo : List ℕ} (i : ℕ) {r : Run} → i < length r.station.passive → Ok q (busy g ba lo sl 0) m b d r → Ok q (busy g ba lo sl 1) m b d (P.evict_at i r)
   unfolding P.evict_at P.shift_passive count
-  ok-evict-at {lo} i {r} l k =
-      ok-forget-loose {pl = 1} {lo = lo} (get_or r.station.passive i 0)
-      (ok-on _ (λ o h. record {
+  ok_evict_at {lo} i {r} l k =
+      ok_forget_loose {pl = 1} {lo = lo} (get_or r.station.passive i 0)
+      (ok_on _ (λ o h. record {
         still = h.still;
         seats = record {
           one = λ x. omega (arith, h.seats.one x, count_shift x r.station.passive i l);
@@ -145,22 +145,22 @@ module _ {q : Fixed} {g ba : List ℕ} {sl m b d : ℕ} where
       }) (λ w. w) k)
 
   -- after `evict` the passive view has a free place
-  ok-evict : {lo : List ℕ} {r : Run} → Ok q (busy g ba lo sl 0) m b (d + 1) r → Ok q (busy g ba lo sl 1) m b d (P.evict r)
+  ok_evict : {lo : List ℕ} {r : Run} → Ok q (busy g ba lo sl 0) m b (d + 1) r → Ok q (busy g ba lo sl 1) m b d (P.evict r)
   unfolding P.evict P.must_evict passive_is_full one_of
-  ok-evict {lo} {r} k =
-      ok-if _
-      (λ e. ok-evict-at {lo = lo} _ (rw (one_of_station (length r.station.passive) r) (pick_below (length r.station.passive) (to_draw r) (null_no r.station.passive (not-true _ (and_right (leb r.station.config.passive_view_capacity (length r.station.passive)) _ e))))) (ok-one-of _ (λ o h l. omega (arith, h.seats.places_left, h.still.ranges.few_places)) k))
-      (λ e. ease (omega arith) (omega arith) (omega arith) (ok-map (λ o h w. record {
+  ok_evict {lo} {r} k =
+      ok_if _
+      (λ e. ok_evict_at {lo = lo} _ (rw (one_of_station (length r.station.passive) r) (pick_below (length r.station.passive) (to_draw r) (null_no r.station.passive (not-true _ (and_right (leb r.station.config.passive_view_capacity (length r.station.passive)) _ e))))) (ok_one_of _ (λ o h l. omega (arith, h.seats.places_left, h.still.ranges.few_places)) k))
+      (λ e. ease (omega arith) (omega arith) (omega arith) (ok_map (λ o h w. record {
         still = h.still;
-        seats = with-places h.seats (and_false (leb r.station.config.passive_view_capacity (length r.station.passive)) _ e (λ f. omega (arith, leb-false r.station.config.passive_view_capacity (length r.station.passive) f)) (λ f. omega (arith, h.still.ranges.some_place, null_yes r.station.passive (not-false _ f))));
+        seats = with_places h.seats (and_false (leb r.station.config.passive_view_capacity (length r.station.passive)) _ e (λ f. omega (arith, leb-false r.station.config.passive_view_capacity (length r.station.passive) f)) (λ f. omega (arith, h.still.ranges.some_place, null_yes r.station.passive (not-false _ f))));
         waits = h.waits;
         tally = h.tally;
       }) k))
 
-  pub ok-push-passive : {lo : List ℕ} (p : ℕ) {r : Run} → Ok q (busy g ba (p ∷ lo) sl 1) m b d r → Ok q (busy g ba lo sl 0) m b d (on (P.push_passive p) r)
+  pub ok_push_passive : {lo : List ℕ} (p : ℕ) {r : Run} → Ok q (busy g ba (p ∷ lo) sl 1) m b d r → Ok q (busy g ba lo sl 0) m b d (on (P.push_passive p) r)
   unfolding P.push_passive count
-  ok-push-passive p {r} k =
-      ok-on _ (λ o h. record {
+  ok_push_passive p {r} k =
+      ok_on _ (λ o h. record {
         still = h.still;
         seats = record {
           one = λ x. omega (arith, h.seats.one x, count_snoc x r.station.passive p);
@@ -176,22 +176,22 @@ module _ {q : Fixed} {g ba : List ℕ} {sl m b d : ℕ} where
       }) (λ w. w) k
 
 module _ {q : Fixed} {g ba : List ℕ} {sl m b d : ℕ} where
-  pub ok-make-room : {lo : List ℕ} {r : Run} → Ok q (busy g ba lo sl 0) m (b + bare) (d + 1) r → Ok q (busy g ba lo sl 1) m b d (P.make_room r)
+  pub ok_make_room : {lo : List ℕ} {r : Run} → Ok q (busy g ba lo sl 0) m (b + bare) (d + 1) r → Ok q (busy g ba lo sl 1) m b d (P.make_room r)
   unfolding P.make_room
-  ok-make-room {lo} {r} k = ok-tell-evicted (P.evicted r) (ok-evict {lo = lo} k)
+  ok_make_room {lo} {r} k = ok_tell_evicted (P.evicted r) (ok_evict {lo = lo} k)
 
-  pub ok-enter-loose : {lo : List ℕ} (p : ℕ) {r : Run} → Ok q (busy g ba (p ∷ lo) sl 0) m (b + bare) (d + 1) r → Ok q (busy g ba lo sl 0) m b d (P.enter_passive p r)
+  pub ok_enter_loose : {lo : List ℕ} (p : ℕ) {r : Run} → Ok q (busy g ba (p ∷ lo) sl 0) m (b + bare) (d + 1) r → Ok q (busy g ba lo sl 0) m b d (P.enter_passive p r)
   unfolding P.enter_passive count
-  ok-enter-loose {lo} p {r} k =
-      ok-if (P.is_newcomer p r.station)
-      (λ e. ok-push-passive {lo = lo} p (ok-make-room {lo = p ∷ lo} k))
-      (λ e. ok-absurd (λ o h w. omega (arith, h.seats.one p, is_self p, new_no p r.station e)) k)
+  ok_enter_loose {lo} p {r} k =
+      ok_if (P.is_newcomer p r.station)
+      (λ e. ok_push_passive {lo = lo} p (ok_make_room {lo = p ∷ lo} k))
+      (λ e. ok_absurd (λ o h w. omega (arith, h.seats.one p, is_self p, new_no p r.station e)) k)
 
-  pub ok-enter-passive : (p : ℕ) {r : Run} → Ok q (busy g ba [] sl 0) m (b + bare) (d + 1) r → Ok q (busy g ba [] sl 0) m b d (P.enter_passive p r)
+  pub ok_enter_passive : (p : ℕ) {r : Run} → Ok q (busy g ba [] sl 0) m (b + bare) (d + 1) r → Ok q (busy g ba [] sl 0) m b d (P.enter_passive p r)
   unfolding P.enter_passive count
-  ok-enter-passive p {r} k =
-      ok-if (P.is_newcomer p r.station)
-      (λ e. ok-push-passive {lo = []} p (ok-make-room {lo = p ∷ []} (ok-map (λ o h w. record {
+  ok_enter_passive p {r} k =
+      ok_if (P.is_newcomer p r.station)
+      (λ e. ok_push_passive {lo = []} p (ok_make_room {lo = p ∷ []} (ok_map (λ o h w. record {
         still = h.still;
         seats = record {
           one = λ x. apart_from x p r.station.active r.station.passive [] r.station.me (omega (arith, new_yes p r.station e)) (h.seats.one x);
@@ -207,15 +207,15 @@ module _ {q : Fixed} {g ba : List ℕ} {sl m b d : ℕ} where
       }) k)))
       (λ e. ease (omega arith) (omega arith) (omega arith) k)
 
-  pub ok-add-passive : (p : ℕ) (x : Data) {r : Run} → (r.code ≡ 0 → Short x) → Ok q (busy g ba [] sl 0) m (b + adding) (d + 1) r → Ok q (busy g ba [] sl 0) m b d (P.add_passive p x r)
+  pub ok_add_passive : (p : ℕ) (x : Data) {r : Run} → (r.code ≡ 0 → Short x) → Ok q (busy g ba [] sl 0) m (b + adding) (d + 1) r → Ok q (busy g ba [] sl 0) m b d (P.add_passive p x r)
   unfolding P.add_passive
-  ok-add-passive p x l k = ok-enter-passive p (ok-insert-peer-info p x l (ease (omega arith) (omega arith) (omega arith) k))
+  ok_add_passive p x l k = ok_enter_passive p (ok_insert_peer_info p x l (ease (omega arith) (omega arith) (omega arith) k))
 
 -- a message's nodes, each with the bytes of an addition and a draw
 pub ok_add_nodes : {q : Fixed} {m b d : ℕ} (ns : List Node) {r : Run} → ShortNodes ns → Ok q calm m (b + adding * length ns) (d + length ns) r → Ok q calm m b d (P.add_nodes ns r)
 unfolding P.add_nodes ShortNodes
 ok_add_nodes [] h k = ease (omega arith) (omega arith) (omega arith) k
-ok_add_nodes (n ∷ ns) h k = ok_add_nodes ns h.1 (ok-add-passive n.id n.data_of (λ z. h.0) (ease (omega arith) (omega arith) (omega arith) k))
+ok_add_nodes (n ∷ ns) h k = ok_add_nodes ns h.1 (ok_add_passive n.id n.data_of (λ z. h.0) (ease (omega arith) (omega arith) (omega arith) k))
 
 -- after `enter_passive` a peer that was in no view is passive
 on_passive : (f : Station → Station) (r : Run) (X : List ℕ → Type 0) → (r.code ≡ 0 → X (f r.station).passive) → (on f r).code ≡ 0 → X (on f r).station.passive
@@ -228,16 +228,16 @@ unfolding P.enter_passive P.push_passive
 entered {q} {t} p r l k =
     by_choice (λ (w : Run). w.code ≡ 0 → 1 ≤ count p w.station.passive) (P.is_newcomer p r.station)
     (λ e. on_passive _ (P.make_room r) (λ xs. 1 ≤ count p xs) (λ z. omega (arith, count_snoc p (P.make_room r).station.passive p, is_self p)))
-    (λ e z. absurd (ok-fact (λ o h w. omega (arith, h.seats.one p, new_no p r.station e)) k z))
+    (λ e z. absurd (ok_fact (λ o h w. omega (arith, h.seats.one p, new_no p r.station e)) k z))
 
 -- a peer taken out of the passive view, if it is there
 module _ {q : Fixed} {m b d : ℕ} where
-  pub ok-drop-passive : (p : ℕ) {r : Run} → Ok q calm m b d r → Ok q calm m b d (P.drop_passive p r)
+  pub ok_drop_passive : (p : ℕ) {r : Run} → Ok q calm m b d r → Ok q calm m b d (P.drop_passive p r)
   unfolding P.drop_passive P.remove_passive count
-  ok-drop-passive p {r} k =
+  ok_drop_passive p {r} k =
       let pas = r.station.passive in
       split (mem p pas)
-      (λ e. ok-forget-loose {pl = 0} {lo = []} p (ok-on _ (λ o h. record {
+      (λ e. ok_forget_loose {pl = 0} {lo = []} p (ok_on _ (λ o h. record {
         still = h.still;
         seats = record {
           one = λ x. is_split (λ y. count y r.station.active + count y pas + 0 + is y r.station.me ≤ 1 → count y r.station.active + count y (P.remove_passive p r.station).passive + (is y p + 0) + is y r.station.me ≤ 1) x p (λ o. omega (arith, count_remove p p pas, is_self p, mem_true p pas e)) (λ n o. omega (arith, count_remove x p pas)) (h.seats.one x);
@@ -251,7 +251,7 @@ module _ {q : Fixed} {m b d : ℕ} where
         waits = h.waits;
         tally = h.tally;
       }) (λ w. w) k))
-      (λ e. ok-forget-any p (ok-on _ (λ o h. record {
+      (λ e. ok_forget_any p (ok_on _ (λ o h. record {
         still = h.still;
         seats = record {
           one = λ x. omega (arith, h.seats.one x, count_remove x p pas);

@@ -15,7 +15,7 @@ use Rattle.spec_hyparview.specs.Station.{Station}
 use Rattle.spec_hyparview.specs.Invariant.{Roomy}
 use Rattle.spec_hyparview.specs.Run.{Run, on, emit, draw, drawn, to_draw, one_of, draw_one_of, picked, shuffled, draw_shuffle}
 use Rattle.spec_hyparview.specs.Handle as H
-use Rattle.spec_hyparview.proofs.Readers.{read_pick, read_shuffle, read_one, map_reading, read-any, read-few}
+use Rattle.spec_hyparview.proofs.Readers.{read_pick, read_shuffle, read_one, map_reading, read_any, read_few}
 use Rattle.spec_hyparview.proofs.Readers as R
 use Rattle.spec_hyparview.proofs.Plays.{Plays, same_plays, by_station, idle, either, thens, changes, tests, tells, told, reads}
 use Rattle.spec_hyparview.proofs.Built.{Built, place, of_steps}
@@ -32,8 +32,8 @@ module _ (xs : Station → List ℕ) (few : (s : Station) → Roomy s → length
   picks_item =
       reads (λ s. pick_draws (length (xs s))) (λ s l. get_or (xs s) (pick (length (xs s)) l) 0)
       (λ s ds. let c : (length (xs s) ≤ 32 → ⊥) → Roomy s → ⊥ = (λ n o. n (few s o)) in
-      read-any (length (xs s)) c (λ l. get_or (xs s) (pick (length (xs s)) l) 0) ds (no_item (xs s))
-      (λ h. read-few (length (xs s)) c (λ l. get_or (xs s) (pick (length (xs s)) l) 0) ds h (λ l. map_reading (λ i. get_or (xs s) i 0) (read_pick (length (xs s)) h l ds))))
+      read_any (length (xs s)) c (λ l. get_or (xs s) (pick (length (xs s)) l) 0) ds (no_item (xs s))
+      (λ h. read_few (length (xs s)) c (λ l. get_or (xs s) (pick (length (xs s)) l) 0) ds h (λ l. map_reading (λ i. get_or (xs s) i 0) (read_pick (length (xs s)) h l ds))))
       g k
 
   picks_place : Plays (λ r. g r.station (place (length (xs r.station)) r) (draw_one_of (length (xs r.station)) r))
@@ -42,7 +42,7 @@ module _ (xs : Station → List ℕ) (few : (s : Station) → Roomy s → length
       reads (λ s. pick_draws (length (xs s))) (λ s l. choose (eqb (length (xs s)) 0) 0 (pick (length (xs s)) l))
       (λ s ds. let n = length (xs s) in let c : (n ≤ 32 → ⊥) → Roomy s → ⊥ = (λ o w. o (few s w)) in
       let v : List ℕ → ℕ = (λ l. choose (eqb n 0) 0 (pick n l)) in
-      read-any n c v ds (λ l m e. rw e) (λ h. read-few n c v ds h (λ l. map_reading (λ i. choose (eqb n 0) 0 i) (read_pick n h l ds))))
+      read_any n c v ds (λ l m e. rw e) (λ h. read_few n c v ds h (λ l. map_reading (λ i. choose (eqb n 0) 0 i) (read_pick n h l ds))))
       g k
 
 shuffles : (xs : Station → List ℕ) → ((s : Station) → Roomy s → length (xs s) ≤ 32) → (g : Station → List ℕ → Run → Run) → ((s : Station) (ys : List ℕ) → Plays (g s ys)) → Plays (λ r. g r.station (shuffled (xs r.station) r) (draw_shuffle (xs r.station) r))

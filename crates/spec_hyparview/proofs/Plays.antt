@@ -228,54 +228,54 @@ module _ (e d : Rec) (q : size d ≡ size e) where
   fits true r w l = record { station = l.station; room = l.room; written = omega (arith, l.written, q, length-append w.out (encode d), length-append r.out (encode e), length_encode e, length_encode d); code = l.code }
   fits false r w l = record { station = l.station; room = l.room; written = l.written; code = refl }
 
-  like-emit : (r w : Run) → Like r w → Like (emit e r) (emit d w)
+  like_emit : (r w : Run) → Like r w → Like (emit e r) (emit d w)
   unfolding emit
-  like-emit r w l = by_code Like r w l l (λ z.
+  like_emit r w l = by_code Like r w l l (λ z.
       let n = length r.out + size e in
       let same : leb (length w.out + size d) w.room ≡ leb n r.room = ap (λ (k : ℕ). leb k w.room) (omega (arith, l.written, q)) ∙ ap (leb n) l.room in
       subst (λ (t : Bool). Like (choose (leb n r.room) (with_out (r.out ++ encode e) r) (with_code 9 r)) (choose t (with_out (w.out ++ encode d) w) (with_code 9 w))) (sym same) (fits (leb n r.room) r w l))
 
 module _ (e : Rec) where
-  at-emit : (r : Run) (ds : List ℕ) → At r ds → At (emit e r) ds
+  at_emit : (r : Run) (ds : List ℕ) → At r ds → At (emit e r) ds
   unfolding emit guard
-  at-emit r ds a = by_choice (λ (m : Run). At m ds) (eqb r.code 0) (λ _. by_choice (λ (m : Run). At m ds) _ (λ _. record { within = a.within; left = a.left }) (λ _. record { within = a.within; left = a.left })) (λ _. a)
+  at_emit r ds a = by_choice (λ (m : Run). At m ds) (eqb r.code 0) (λ _. by_choice (λ (m : Run). At m ds) _ (λ _. record { within = a.within; left = a.left }) (λ _. record { within = a.within; left = a.left })) (λ _. a)
 
-  emit-rests : (r : Run) → (r.code ≡ 0 → ⊥) → emit e r ≡ r
+  emit_rests : (r : Run) → (r.code ≡ 0 → ⊥) → emit e r ≡ r
   unfolding emit
-  emit-rests r n = guard_no r _ n
+  emit_rests r n = guard_no r _ n
 
-  emit-open : (r : Run) → (emit e r).code ≡ 0 → r.code ≡ 0
+  emit_open : (r : Run) → (emit e r).code ≡ 0 → r.code ≡ 0
   unfolding emit guard
-  emit-open r = by_choice (λ (m : Run). m.code ≡ 0 → r.code ≡ 0) (eqb r.code 0) (λ z _. eqb-true r.code 0 z) (λ z y. y)
+  emit_open r = by_choice (λ (m : Run). m.code ≡ 0 → r.code ≡ 0) (eqb r.code 0) (λ z _. eqb-true r.code 0 z) (λ z y. y)
 
-  emit-five : (r : Run) → (emit e r).code ≡ 5 → r.code ≡ 5
+  emit_five : (r : Run) → (emit e r).code ≡ 5 → r.code ≡ 5
   unfolding emit guard
-  emit-five r = by_choice (λ (m : Run). m.code ≡ 5 → r.code ≡ 5) (eqb r.code 0) (λ z. by_choice (λ (m : Run). m.code ≡ 5 → r.code ≡ 5) _ (λ _ y. y) (λ _ y. absurd (omega (arith, y)))) (λ z y. y)
+  emit_five r = by_choice (λ (m : Run). m.code ≡ 5 → r.code ≡ 5) (eqb r.code 0) (λ z. by_choice (λ (m : Run). m.code ≡ 5 → r.code ≡ 5) _ (λ _ y. y) (λ _ y. absurd (omega (arith, y)))) (λ z y. y)
 
 module _ {f : Run → Run} (k : Plays f) (e : Run → Rec) (q : (r w : Run) → w.station ≡ r.station → size (e w) ≡ size (e r)) where
-  tell-follows : (r : Run) (ds : List ℕ) → Follows f r ds → Follows (λ w. emit (e w) (f w)) r ds
-  tell-follows r ds (goes p t c n m) =
-      goes p t c (λ y. n (emit-five (e r) (f r) y)) (λ i w u l a. let x = m i w u l a in (like-emit (e r) (e w) (q r w l.station) (f r) (f w) x.0, at-emit (e w) (f w) u x.1))
-  tell-follows r ds (ends p c m n) =
-      ends p c (λ i w l a. let y = m i w l a in code_of (emit-rests (e w) (f w) (five_not (f w) y)) y)
-      (λ u w z l y a b. alike-emit w z (y.station ∙ sym l.station) (n u w z l y a b))
+  tell_follows : (r : Run) (ds : List ℕ) → Follows f r ds → Follows (λ w. emit (e w) (f w)) r ds
+  tell_follows r ds (goes p t c n m) =
+      goes p t c (λ y. n (emit_five (e r) (f r) y)) (λ i w u l a. let x = m i w u l a in (like_emit (e r) (e w) (q r w l.station) (f r) (f w) x.0, at_emit (e w) (f w) u x.1))
+  tell_follows r ds (ends p c m n) =
+      ends p c (λ i w l a. let y = m i w l a in code_of (emit_rests (e w) (f w) (five_not (f w) y)) y)
+      (λ u w z l y a b. alike_emit w z (y.station ∙ sym l.station) (n u w z l y a b))
     where
-      alike-emit : (w z : Run) → z.station ≡ w.station → Alike (f w) (f z) → Alike (emit (e w) (f w)) (emit (e z) (f z))
-      alike-emit w z s a = record {
-        like = like-emit (e w) (e z) (q w z s) (f w) (f z) a.like;
-        both = λ o. let b = a.both (emit-open (e w) (f w) o) in record { rest = b.rest; here = at-emit (e w) (f w) b.rest b.here; there = at-emit (e z) (f z) b.rest b.there };
+      alike_emit : (w z : Run) → z.station ≡ w.station → Alike (f w) (f z) → Alike (emit (e w) (f w)) (emit (e z) (f z))
+      alike_emit w z s a = record {
+        like = like_emit (e w) (e z) (q w z s) (f w) (f z) a.like;
+        both = λ o. let b = a.both (emit_open (e w) (f w) o) in record { rest = b.rest; here = at_emit (e w) (f w) b.rest b.here; there = at_emit (e z) (f z) b.rest b.there };
       }
-  tell-follows r ds (crowded js s m) =
-      crowded js s (λ w l a. let x = m w l a in let y = emit-rests (e w) (f w) (five_not (f w) x.0) in (code_of y x.0, subst (λ (v : Run). Roomy v.station → ⊥) (sym y) x.1))
+  tell_follows r ds (crowded js s m) =
+      crowded js s (λ w l a. let x = m w l a in let y = emit_rests (e w) (f w) (five_not (f w) x.0) in (code_of y x.0, subst (λ (v : Run). Roomy v.station → ⊥) (sym y) x.1))
 
   pub tells : Plays (λ r. emit (e r) (f r))
   tells = record {
-    strict = λ r n. ap (emit (e r)) (k.strict r n) ∙ emit-rests (e r) r n;
+    strict = λ r n. ap (emit (e r)) (k.strict r n) ∙ emit_rests (e r) r n;
     even = λ r w z a. let x = k.even r w z a in record {
-      like = like-emit (e r) (e w) (q r w a.like.station) (f r) (f w) x.like;
-      both = λ o. let b = x.both (emit-open (e r) (f r) o) in record { rest = b.rest; here = at-emit (e r) (f r) b.rest b.here; there = at-emit (e w) (f w) b.rest b.there };
+      like = like_emit (e r) (e w) (q r w a.like.station) (f r) (f w) x.like;
+      both = λ o. let b = x.both (emit_open (e r) (f r) o) in record { rest = b.rest; here = at_emit (e r) (f r) b.rest b.here; there = at_emit (e w) (f w) b.rest b.there };
     };
-    follows = λ r ds z a. tell-follows r ds (k.follows r ds z a);
+    follows = λ r ds z a. tell_follows r ds (k.follows r ds z a);
   }
 
 -- a record that does not hang on the run
@@ -291,16 +291,16 @@ module _ (n : ℕ) (r : Run) (ds : List ℕ) (z : r.code ≡ 0) (a : At r ds) wh
   counts : length r.draws ≡ r.used + length ds
   counts = omega (arith, a.within, length-drop r.used r.draws, ap length a.left)
 
-  draw-fits : n ≤ length ds → draw n r ≡ with_used (r.used + n) r
+  draw_fits : n ≤ length ds → draw n r ≡ with_used (r.used + n) r
   unfolding draw
-  draw-fits l = guard_yes r _ z ∙ choose_yes (leb (r.used + n) (length r.draws)) _ _ (le-leb (r.used + n) (length r.draws) (omega (arith, l, counts)))
+  draw_fits l = guard_yes r _ z ∙ choose_yes (leb (r.used + n) (length r.draws)) _ _ (le-leb (r.used + n) (length r.draws) (omega (arith, l, counts)))
 
-  draw-short : length ds < n → draw n r ≡ with_code 5 r
+  draw_short : length ds < n → draw n r ≡ with_code 5 r
   unfolding draw
-  draw-short l = guard_yes r _ z ∙ choose_no (leb (r.used + n) (length r.draws)) _ _ (lt-leb (r.used + n) (length r.draws) (omega (arith, l, counts)))
+  draw_short l = guard_yes r _ z ∙ choose_no (leb (r.used + n) (length r.draws)) _ _ (lt-leb (r.used + n) (length r.draws) (omega (arith, l, counts)))
 
-  at-drawn : n ≤ length ds → At (with_used (r.used + n) r) (drop n ds)
-  at-drawn l = record { within = omega (arith, l, counts); left = sym (drop-drop n r.used r.draws) ∙ ap (drop n) a.left }
+  at_drawn : n ≤ length ds → At (with_used (r.used + n) r) (drop n ds)
+  at_drawn l = record { within = omega (arith, l, counts); left = sym (drop-drop n r.used r.draws) ∙ ap (drop n) a.left }
 
 like_used : (m n : ℕ) {r w : Run} → Like r w → Like (with_used m r) (with_used n w)
 like_used m n l = record { station = l.station; room = l.room; written = l.written; code = l.code }
@@ -311,10 +311,10 @@ alike_draw m n r w cs bs ds z l a b k e f h =
     let y : w.code ≡ 0 = l.code ∙ z in
     split (leb k (length ds))
     (λ t. let c = leb-true k (length ds) t in let x = h c in
-    alike_of (draw-fits m r cs z a (omega (arith, c, e))) (draw-fits n w bs y b (omega (arith, c, f)))
-    (record { like = like_used (r.used + m) (w.used + n) l; both = λ _. record { rest = drop k ds; here = subst (At (with_used (r.used + m) r)) x.0 (at-drawn m r cs z a (omega (arith, c, e))); there = subst (At (with_used (w.used + n) w)) x.1 (at-drawn n w bs y b (omega (arith, c, f))) } }))
+    alike_of (draw_fits m r cs z a (omega (arith, c, e))) (draw_fits n w bs y b (omega (arith, c, f)))
+    (record { like = like_used (r.used + m) (w.used + n) l; both = λ _. record { rest = drop k ds; here = subst (At (with_used (r.used + m) r)) x.0 (at_drawn m r cs z a (omega (arith, c, e))); there = subst (At (with_used (w.used + n) w)) x.1 (at_drawn n w bs y b (omega (arith, c, f))) } }))
     (λ t. let c = leb-false k (length ds) t in
-    alike_of (draw-short m r cs z a (omega (arith, c, e))) (draw-short n w bs y b (omega (arith, c, f)))
+    alike_of (draw_short m r cs z a (omega (arith, c, e))) (draw_short n w bs y b (omega (arith, c, f)))
     (record { like = record { station = l.station; room = l.room; written = l.written; code = refl }; both = λ o. absurd (omega (arith, o)) }))
 
 module _ {A : Type 0} (m : Station → List ℕ → ℕ) (v : Station → List ℕ → A) (rd : (s : Station) (ds : List ℕ) → Reading (m s) (v s) (Roomy s → ⊥) ds) (g : Station → A → Run → Run) (k : (s : Station) (a : A) → Plays (g s a)) where
@@ -327,11 +327,11 @@ module _ {A : Type 0} (m : Station → List ℕ → ℕ) (v : Station → List �
       ∙ ap (λ (l : List ℕ). g s (v s l) (draw (m s l) w)) a.left
 
   -- and by what is read
-  met-as : (s : Station) (w : Run) (ds : List ℕ) (n : ℕ) (a : A) → w.station ≡ s → At w ds → m s ds ≡ n → v s ds ≡ a → F w ≡ g s a (draw n w)
-  met-as s w ds n a e b p q = met s w ds e b ∙ (ap (λ (x : A). g s x (draw (m s ds) w)) q ∙ ap (λ (j : ℕ). g s a (draw j w)) p)
+  met_as : (s : Station) (w : Run) (ds : List ℕ) (n : ℕ) (a : A) → w.station ≡ s → At w ds → m s ds ≡ n → v s ds ≡ a → F w ≡ g s a (draw n w)
+  met_as s w ds n a e b p q = met s w ds e b ∙ (ap (λ (x : A). g s x (draw (m s ds) w)) q ∙ ap (λ (j : ℕ). g s a (draw j w)) p)
 
   refused : (s : Station) (a : A) (w : Run) (n : ℕ) (ds : List ℕ) → w.code ≡ 0 → At w ds → length ds < n → g s a (draw n w) ≡ with_code 5 w
-  refused s a w n ds z b l = ap (g s a) (draw-short n w ds z b l) ∙ (k s a).strict (with_code 5 w) (λ o. omega (arith, o))
+  refused s a w n ds z b l = ap (g s a) (draw_short n w ds z b l) ∙ (k s a).strict (with_code 5 w) (λ o. omega (arith, o))
 
   record Taken (s : Station) (w : Run) (c u : List ℕ) : Type 0 where
     is : draw (m s (drop w.used w.draws)) w ≡ with_used (w.used + length c) w
@@ -341,13 +341,13 @@ module _ {A : Type 0} (m : Station → List ℕ → ℕ) (v : Station → List �
   taken s w c u z b e =
       let l : length c ≤ length (c ++ u) = omega (arith, length-append c u) in
       record {
-        is = ap (λ (j : ℕ). draw j w) (ap (m s) b.left ∙ e) ∙ draw-fits (length c) w (c ++ u) z b l;
-        at = subst (At (with_used (w.used + length c) w)) (drop-append_seam c u) (at-drawn (length c) w (c ++ u) z b l);
+        is = ap (λ (j : ℕ). draw j w) (ap (m s) b.left ∙ e) ∙ draw_fits (length c) w (c ++ u) z b l;
+        at = subst (At (with_used (w.used + length c) w)) (drop-append_seam c u) (at_drawn (length c) w (c ++ u) z b l);
       }
 
-  read-follows : (r : Run) (ds : List ℕ) → r.code ≡ 0 → At r ds → Reading (m r.station) (v r.station) (Roomy r.station → ⊥) ds → Follows F r ds
+  read_follows : (r : Run) (ds : List ℕ) → r.code ≡ 0 → At r ds → Reading (m r.station) (v r.station) (Roomy r.station → ⊥) ds → Follows F r ds
   unfolding part All
-  read-follows r ds z b (took p t a e f h) =
+  read_follows r ds z b (took p t a e f h) =
       let s = r.station in
       let f0 : Run → Run = (λ w. draw (m s (drop w.used w.draws)) w) in
       let base = taken s r p.whole_of t z (subst (At r) e b) (f whole t) in
@@ -358,18 +358,18 @@ module _ {A : Type 0} (m : Station → List ℕ → ℕ) (v : Station → List �
         at = at_of x.is x.at;
       }) in
       chain f0 r ds p t e step (step whole r t (like_self r) (subst (At r) e b)) (k s a) (λ c. omega (arith, z, code_of (sym base.is) c))
-  read-follows r ds z b (wants p n a e f h o) =
+  read_follows r ds z b (wants p n a e f h o) =
       let s = r.station in
       ends p e
       (λ i w l c. let y : w.code ≡ 0 = l.code ∙ z in
       let c' = subst (At w) (sym (append-nil (part i p))) c in
-      code_of (met-as s w (part i p ++ []) (length (part i p) + n []) (a []) l.station c' (f i []) (h i []) ∙ refused s (a []) w (length (part i p) + n []) (part i p) y c (omega (arith, o []))) refl)
+      code_of (met_as s w (part i p ++ []) (length (part i p) + n []) (a []) l.station c' (f i []) (h i []) ∙ refused s (a []) w (length (part i p) + n []) (part i p) y c (omega (arith, o []))) refl)
       (λ u w x l j c d.
-      alike_of (met-as s w (p.whole_of ++ u) (length p.whole_of + n u) (a u) l.station c (f whole u) (h whole u)) (met-as s x (p.kept_of ++ u) (length p.kept_of + n u) (a u) j.station d (f kept u) (h kept u))
+      alike_of (met_as s w (p.whole_of ++ u) (length p.whole_of + n u) (a u) l.station c (f whole u) (h whole u)) (met_as s x (p.kept_of ++ u) (length p.kept_of + n u) (a u) j.station d (f kept u) (h kept u))
       (even_any (k s (a u)) _ _
       (alike_draw (length p.whole_of + n u) (length p.kept_of + n u) w x (p.whole_of ++ u) (p.kept_of ++ u) u (l.code ∙ z) (like_two l j) c d (n u)
       (omega (arith, length-append p.whole_of u)) (omega (arith, length-append p.kept_of u)) (λ _. (drop-append-add p.whole_of u (n u), drop-append-add p.kept_of u (n u))))))
-  read-follows r ds z b (R.crowded c o) =
+  read_follows r ds z b (R.crowded c o) =
       let s = r.station in
       crowded [] tt (λ w l d. let y = met s w [] l.station d ∙ refused s (v s []) w (m s []) [] (l.code ∙ z) d o in
       (code_of y refl, subst (λ (q : Run). Roomy q.station → ⊥) (sym y) (subst (λ (q : Station). Roomy q → ⊥) (sym l.station) c)))
@@ -380,5 +380,5 @@ module _ {A : Type 0} (m : Station → List ℕ → ℕ) (v : Station → List �
     even = λ r w z a. let b = a.both z in let s = r.station in
         alike_of (met s r b.rest refl b.here) (met s w b.rest a.like.station b.there)
         (even_any (k s (v s b.rest)) _ _ (alike_draw (m s b.rest) (m s b.rest) r w b.rest b.rest b.rest z a.like b.here b.there (m s b.rest) (omega arith) (omega arith) (λ _. (refl, refl))));
-    follows = λ r ds z a. read-follows r ds z a (rd r.station ds);
+    follows = λ r ds z a. read_follows r ds z a (rd r.station ds);
   }

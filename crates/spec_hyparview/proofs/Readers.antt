@@ -174,39 +174,39 @@ unfolding draws_down
 first_down i ds = omega (arith, some_draws (i + 2) (omega arith) ds)
 
 module _ (i : ℕ) (D : List ℕ) (k : ℕ) (e : pick_draws (i + 2) D ≡ k) where
-  down-draws : draws_down (suc i) D ≡ k + draws_down i (drop k D)
+  down_draws : draws_down (suc i) D ≡ k + draws_down i (drop k D)
   unfolding draws_down
-  down-draws = ap (λ (j : ℕ). j + draws_down i (drop j D)) e
+  down_draws = ap (λ (j : ℕ). j + draws_down i (drop j D)) e
 
-  down-order : (a : ℕ) (xs : List ℕ) → pick (i + 2) D ≡ a → shuffle_down (suc i) D xs ≡ shuffle_down i (drop k D) (swap (suc i) a xs)
+  down_order : (a : ℕ) (xs : List ℕ) → pick (i + 2) D ≡ a → shuffle_down (suc i) D xs ≡ shuffle_down i (drop k D) (swap (suc i) a xs)
   unfolding shuffle_down
-  down-order a xs q = ap (λ (j : ℕ). shuffle_down i (drop j D) (swap (suc i) (pick (i + 2) D) xs)) e ∙ ap (λ (b : ℕ). shuffle_down i (drop k D) (swap (suc i) b xs)) q
+  down_order a xs q = ap (λ (j : ℕ). shuffle_down i (drop j D) (swap (suc i) (pick (i + 2) D) xs)) e ∙ ap (λ (b : ℕ). shuffle_down i (drop k D) (swap (suc i) b xs)) q
 
 module _ {C : Type 0} (i : ℕ) (xs : List ℕ) where
-  after-took : (ds : List ℕ) (p : Parts) (t : List ℕ) (a : ℕ) → ds ≡ p.whole_of ++ t → ((j : Which) (u : List ℕ) → pick_draws (i + 2) (part j p ++ u) ≡ length (part j p)) → ((j : Which) (u : List ℕ) → pick (i + 2) (part j p ++ u) ≡ a)
+  after_took : (ds : List ℕ) (p : Parts) (t : List ℕ) (a : ℕ) → ds ≡ p.whole_of ++ t → ((j : Which) (u : List ℕ) → pick_draws (i + 2) (part j p ++ u) ≡ length (part j p)) → ((j : Which) (u : List ℕ) → pick (i + 2) (part j p ++ u) ≡ a)
       → Reading (draws_down i) (λ (l : List ℕ). shuffle_down i l (swap (suc i) a xs)) C t → Reading (draws_down (suc i)) (λ (l : List ℕ). shuffle_down (suc i) l xs) C ds
   unfolding joined
-  after-took ds p t a e f g (took q t2 b e2 f2 g2) =
+  after_took ds p t a e f g (took q t2 b e2 f2 g2) =
       took (joined p q) t2 b (e ∙ (ap (λ (l : List ℕ). p.whole_of ++ l) e2 ∙ sym (append_assoc p.whole_of q.whole_of t2)))
       (λ j u. let D = part j p ++ (part j q ++ u) in
-      ap (draws_down (suc i)) (part_joined j p q u) ∙ (down-draws i D (length (part j p)) (f j (part j q ++ u)) ∙ (ap (λ (l : List ℕ). length (part j p) + draws_down i l) (drop-append_seam (part j p) (part j q ++ u)) ∙ (ap (λ (n : ℕ). length (part j p) + n) (f2 j u) ∙ sym (length_joined j p q)))))
+      ap (draws_down (suc i)) (part_joined j p q u) ∙ (down_draws i D (length (part j p)) (f j (part j q ++ u)) ∙ (ap (λ (l : List ℕ). length (part j p) + draws_down i l) (drop-append_seam (part j p) (part j q ++ u)) ∙ (ap (λ (n : ℕ). length (part j p) + n) (f2 j u) ∙ sym (length_joined j p q)))))
       (λ j u. let D = part j p ++ (part j q ++ u) in
-      ap (λ (l : List ℕ). shuffle_down (suc i) l xs) (part_joined j p q u) ∙ (down-order i D (length (part j p)) (f j (part j q ++ u)) a xs (g j (part j q ++ u)) ∙ (ap (λ (l : List ℕ). shuffle_down i l (swap (suc i) a xs)) (drop-append_seam (part j p) (part j q ++ u)) ∙ g2 j u)))
-  after-took ds p t a e f g (wants q n b e2 f2 g2 o) =
+      ap (λ (l : List ℕ). shuffle_down (suc i) l xs) (part_joined j p q u) ∙ (down_order i D (length (part j p)) (f j (part j q ++ u)) a xs (g j (part j q ++ u)) ∙ (ap (λ (l : List ℕ). shuffle_down i l (swap (suc i) a xs)) (drop-append_seam (part j p) (part j q ++ u)) ∙ g2 j u)))
+  after_took ds p t a e f g (wants q n b e2 f2 g2 o) =
       wants (joined p q) n b (e ∙ ap (λ (l : List ℕ). p.whole_of ++ l) e2)
       (λ j u. let D = part j p ++ (part j q ++ u) in
-      ap (draws_down (suc i)) (part_joined j p q u) ∙ (down-draws i D (length (part j p)) (f j (part j q ++ u)) ∙ (ap (λ (l : List ℕ). length (part j p) + draws_down i l) (drop-append_seam (part j p) (part j q ++ u)) ∙ omega (arith, f2 j u, length_joined j p q))))
+      ap (draws_down (suc i)) (part_joined j p q u) ∙ (down_draws i D (length (part j p)) (f j (part j q ++ u)) ∙ (ap (λ (l : List ℕ). length (part j p) + draws_down i l) (drop-append_seam (part j p) (part j q ++ u)) ∙ omega (arith, f2 j u, length_joined j p q))))
       (λ j u. let D = part j p ++ (part j q ++ u) in
-      ap (λ (l : List ℕ). shuffle_down (suc i) l xs) (part_joined j p q u) ∙ (down-order i D (length (part j p)) (f j (part j q ++ u)) a xs (g j (part j q ++ u)) ∙ (ap (λ (l : List ℕ). shuffle_down i l (swap (suc i) a xs)) (drop-append_seam (part j p) (part j q ++ u)) ∙ g2 j u)))
+      ap (λ (l : List ℕ). shuffle_down (suc i) l xs) (part_joined j p q u) ∙ (down_order i D (length (part j p)) (f j (part j q ++ u)) a xs (g j (part j q ++ u)) ∙ (ap (λ (l : List ℕ). shuffle_down i l (swap (suc i) a xs)) (drop-append_seam (part j p) (part j q ++ u)) ∙ g2 j u)))
       o
-  after-took ds p t a e f g (crowded c o) = crowded c (first_down i [])
+  after_took ds p t a e f g (crowded c o) = crowded c (first_down i [])
 
   after_first : (ds : List ℕ) → Reading (pick_draws (i + 2)) (pick (i + 2)) C ds → ((a : ℕ) (t : List ℕ) → Reading (draws_down i) (λ (l : List ℕ). shuffle_down i l (swap (suc i) a xs)) C t) → Reading (draws_down (suc i)) (λ (l : List ℕ). shuffle_down (suc i) l xs) C ds
-  after_first ds (took p t a e f g) k = after-took ds p t a e f g (k a t)
+  after_first ds (took p t a e f g) k = after_took ds p t a e f g (k a t)
   after_first ds (wants p n a e f g o) k =
       wants p (λ u. n u + draws_down i (drop (n u) u)) (λ u. shuffle_down i (drop (n u) u) (swap (suc i) (a u) xs)) e
-      (λ j u. down-draws i (part j p ++ u) (length (part j p) + n u) (f j u) ∙ (ap (λ (l : List ℕ). length (part j p) + n u + draws_down i l) (drop-append-add (part j p) u (n u)) ∙ omega arith))
-      (λ j u. down-order i (part j p ++ u) (length (part j p) + n u) (f j u) (a u) xs (g j u) ∙ ap (λ (l : List ℕ). shuffle_down i l (swap (suc i) (a u) xs)) (drop-append-add (part j p) u (n u)))
+      (λ j u. down_draws i (part j p ++ u) (length (part j p) + n u) (f j u) ∙ (ap (λ (l : List ℕ). length (part j p) + n u + draws_down i l) (drop-append-add (part j p) u (n u)) ∙ omega arith))
+      (λ j u. down_order i (part j p ++ u) (length (part j p) + n u) (f j u) (a u) xs (g j u) ∙ ap (λ (l : List ℕ). shuffle_down i l (swap (suc i) (a u) xs)) (drop-append-add (part j p) u (n u)))
       (λ u. omega (arith, o u))
   after_first ds (crowded c o) k = crowded c (first_down i [])
 
@@ -221,11 +221,11 @@ read_shuffle xs ds h = read_down (length xs - 1) xs ds (omega arith)
 
 pub shuffle_wants : (xs : List ℕ) → 32 < length xs → 0 < shuffle_draws [] xs
 unfolding shuffle_draws
-shuffle_wants xs l = wants-down (length xs - 1) (omega (arith, l))
+shuffle_wants xs l = wants_down (length xs - 1) (omega (arith, l))
   where
-    wants-down : (i : ℕ) → 0 < i → 0 < draws_down i []
-    wants-down zero h = absurd (omega arith)
-    wants-down (suc i) h = first_down i []
+    wants_down : (i : ℕ) → 0 < i → 0 < draws_down i []
+    wants_down zero h = absurd (omega arith)
+    wants_down (suc i) h = first_down i []
 
 -- a delay, of which no step reads the draw but to write it
 delay_draw : ℕ → Parts
@@ -251,12 +251,12 @@ map_reading h (crowded c o) = crowded c o
 
 -- a choice of one of n, where n may be 0, which takes no draw
 module _ {A C : Type 0} (n : ℕ) (c : (n ≤ 32 → ⊥) → C) (v : List ℕ → A) (ds : List ℕ) where
-  pub read-any : ((l k : List ℕ) → n ≡ 0 → v l ≡ v k) → (0 < n → Reading (pick_draws n) v C ds) → Reading (pick_draws n) v C ds
+  pub read_any : ((l k : List ℕ) → n ≡ 0 → v l ≡ v k) → (0 < n → Reading (pick_draws n) v C ds) → Reading (pick_draws n) v C ds
   unfolding no_parts
-  read-any h k =
+  read_any h k =
       split (eqb n 0)
       (λ e. let z = eqb-true n 0 e in took no_parts ds (v []) refl (λ i u. ap (λ (j : ℕ). pick_draws j (part i no_parts ++ u)) z ∙ (pick_none (part i no_parts ++ u) ∙ sym (length_none i))) (λ i u. h (part i no_parts ++ u) [] z))
       (λ e. let o = eqb-false n 0 e in k (omega arith))
 
-  pub read-few : 0 < n → (n ≤ 32 → Reading (pick_draws n) v C ds) → Reading (pick_draws n) v C ds
-  read-few o k = split (leb n 32) (λ e. k (leb-true n 32 e)) (λ e. crowded (c (λ l. omega (arith, l, leb-false n 32 e))) (some_draws n o []))
+  pub read_few : 0 < n → (n ≤ 32 → Reading (pick_draws n) v C ds) → Reading (pick_draws n) v C ds
+  read_few o k = split (leb n 32) (λ e. k (leb-true n 32 e)) (λ e. crowded (c (λ l. omega (arith, l, leb-false n 32 e))) (some_draws n o []))

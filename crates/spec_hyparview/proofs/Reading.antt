@@ -15,7 +15,7 @@ use Rattle.base_lists.proofs.Choice.{by_choice, choose_no, and_left, and_right}
 use Rattle.record.specs.Kinds.{is_event_kind}
 use Rattle.record.specs.Format.{Rec, peer_length, header_length, node_length}
 use Rattle.record.specs.InForm.{InForm}
-use Rattle.record.proofs.Back.{in-form-back}
+use Rattle.record.proofs.Back.{in_form_back}
 use Rattle.record.proofs.Nodes.{length_nodes_of}
 use Rattle.record.specs.Read as Rd
 use Rattle.record.specs.Read.{Reading, refused, event, read_event, rec_of, rec_of_by, header_of, header_of_by, entry_at}
@@ -81,7 +81,7 @@ by_form b bytes X f g =
     (λ i. by_choice X (Rd.well_formed b && Rd.is_event (header_of b))
     (λ w. let y = and_left (Rd.well_formed b) _ w in
     g (readable b y (and_left (is_event_kind (get_or b 0 0)) _ (and_right (Rd.well_formed b) _ w)) (let n = ltb-false 32 (get_or b 3 0) i in omega (arith, n)) (narrow_peer b bytes))
-    (in-form-back peer_length b (λ k. byte_at b k bytes) y))
+    (in_form_back peer_length b (λ k. byte_at b k bytes) y))
     (λ w. f 3 (omega arith) (omega arith))))
 
 pub by_reading : (b : List ℕ) → all_under 256 b ≡ true → (X : Reading → Type 0) → ((c : ℕ) → 3 ≤ c → c ≤ 4 → X (refused c)) → (Readable (rec_of b) → X (event (rec_of b))) → X (read_event b)

@@ -23,11 +23,11 @@ use Rattle.spec_hyparview.specs.Peers as P
 use Rattle.spec_hyparview.specs.Sending as S
 use Rattle.spec_hyparview.specs.Refill as F
 use Rattle.base_lists.proofs.Members.{length_cut_to}
-use Rattle.spec_hyparview.proofs.Law.{Lawful, Short, Small, ShortNodes, law-held, law-requests, law-fill}
+use Rattle.spec_hyparview.proofs.Law.{Lawful, Short, Small, ShortNodes, law_held, law_requests, law_fill}
 use Rattle.spec_hyparview.proofs.Changes.{put_held, put_request, small_less, small_or}
 use Rattle.spec_hyparview.proofs.Told.{size_short, short_infos, length_infos}
 use Rattle.spec_hyparview.proofs.Invariant.{Fixed, Terms, Good, Ok}
-use Rattle.spec_hyparview.proofs.Keeping.{six, eight, ten, ease, ok-if, ok-either, ok-on, ok_claim, ok-require, require_fine, ok-draw, ok-one-of, ok-message, ok-quiet, ok-fact, emit_station, emit_fine, draw_station, draw_fine}
+use Rattle.spec_hyparview.proofs.Keeping.{six, eight, ten, ease, ok_if, ok_either, ok_on, ok_claim, ok_require, require_fine, ok_draw, ok_one_of, ok_message, ok_quiet, ok_fact, emit_station, emit_fine, draw_station, draw_fine}
 
 -- sizes
 pub one_node : (e : Rec) (n : Node) → e.nodes ≡ n ∷ [] → Short n.data_of → size e ≤ single
@@ -50,35 +50,35 @@ unfolding P.announce_data
 announce_fine p b r = by_choice (λ (v : Run). v.code ≡ 0 → r.code ≡ 0) (null b) (λ x z. z) (λ x. emit_fine (R.data_notice p b) r)
 
 module _ {q : Fixed} {t : Terms} {m b d : ℕ} where
-  pub ok-announce : (p : ℕ) (x : List ℕ) {r : Run} → (r.code ≡ 0 → length x ≤ 16) → Ok q t m (b + single) d r → Ok q t m b d (P.announce_data p x r)
+  pub ok_announce : (p : ℕ) (x : List ℕ) {r : Run} → (r.code ≡ 0 → length x ≤ 16) → Ok q t m (b + single) d r → Ok q t m b d (P.announce_data p x r)
   unfolding P.announce_data Short
-  ok-announce p x l k =
-      ok-either (null x) (ease (omega arith) (omega arith) (omega arith) k)
-      (ok-quiet (R.data_notice p x) single (omega arith) (λ e. omega arith) (λ e. omega arith) (λ z w. one_node _ _ refl (l z)) k)
+  ok_announce p x l k =
+      ok_either (null x) (ease (omega arith) (omega arith) (omega arith) k)
+      (ok_quiet (R.data_notice p x) single (omega arith) (λ e. omega arith) (λ e. omega arith) (λ z w. one_node _ _ refl (l z)) k)
 
-  pub ok-keep-data : (p : ℕ) (x : List ℕ) {r : Run} → eqb p r.station.me ≡ false → (r.code ≡ 0 → length x ≤ 16) → Ok q t m b d r → Ok q t m b d (P.keep_data p x r)
+  pub ok_keep_data : (p : ℕ) (x : List ℕ) {r : Run} → eqb p r.station.me ≡ false → (r.code ≡ 0 → length x ≤ 16) → Ok q t m b d r → Ok q t m b d (P.keep_data p x r)
   unfolding P.keep_data P.store_data P.data_fits
-  ok-keep-data p x n l k = ok_claim eight _ (P.store_data p x) (λ z e o g w. (g, law-held w (put_held p x n (l z) e w.held_ok))) k
+  ok_keep_data p x n l k = ok_claim eight _ (P.store_data p x) (λ z e o g w. (g, law_held w (put_held p x n (l z) e w.held_ok))) k
 
-  pub ok-insert-peer-info : (p : ℕ) (x : Data) {r : Run} → (r.code ≡ 0 → Short x) → Ok q t m (b + single) d r → Ok q t m b d (P.insert_peer_info p x r)
+  pub ok_insert_peer_info : (p : ℕ) (x : Data) {r : Run} → (r.code ≡ 0 → Short x) → Ok q t m (b + single) d r → Ok q t m b d (P.insert_peer_info p x r)
   unfolding P.insert_peer_info P.insert_data P.is_known is_me Short
-  ok-insert-peer-info p none l k = ease (omega arith) (omega arith) (omega arith) k
-  ok-insert-peer-info p (some x) {r} l k =
-      ok-if _ (λ e. ease (omega arith) (omega arith) (omega arith) k)
-      (λ e. ok-keep-data p x (subst (λ (s : Station). eqb p s.me ≡ false) (sym (announce_station p x r)) (or_left (eqb p r.station.me) _ e)) (λ z. l (announce_fine p x r z)) (ok-announce p x l k))
+  ok_insert_peer_info p none l k = ease (omega arith) (omega arith) (omega arith) k
+  ok_insert_peer_info p (some x) {r} l k =
+      ok_if _ (λ e. ease (omega arith) (omega arith) (omega arith) k)
+      (λ e. ok_keep_data p x (subst (λ (s : Station). eqb p s.me ≡ false) (sym (announce_station p x r)) (or_left (eqb p r.station.me) _ e)) (λ z. l (announce_fine p x r z)) (ok_announce p x l k))
 
-  pub ok-join : (p : ℕ) {r : Run} → Ok q t (m + 1) (b + single) d r → Ok q t m b d (S.join p r)
+  pub ok_join : (p : ℕ) {r : Run} → Ok q t (m + 1) (b + single) d r → Ok q t m b d (S.join p r)
   unfolding S.join S.join_to
-  ok-join p k = ok-message _ single refl (λ z o g w. one_node _ _ refl w.own_ok) k
+  ok_join p k = ok_message _ single refl (λ z o g w. one_node _ _ refl w.own_ok) k
 
-  pub ok-send-nodes : (to : ℕ) (ps : List ℕ) {r : Run} → (r.code ≡ 0 → length ps ≤ 32) → Ok q t (m + 1) (b + crowd) d r → Ok q t m b d (S.send_nodes to ps r)
+  pub ok_send_nodes : (to : ℕ) (ps : List ℕ) {r : Run} → (r.code ≡ 0 → length ps ≤ 32) → Ok q t (m + 1) (b + crowd) d r → Ok q t m b d (S.send_nodes to ps r)
   unfolding S.send_nodes
-  ok-send-nodes to ps {r} l k =
-      ok-message _ crowd refl (λ z o g w. many_nodes _ _ refl (short_infos r.station ps w.held_ok.shorts) (omega (arith, l z, length_infos r.station ps))) k
+  ok_send_nodes to ps {r} l k =
+      ok_message _ crowd refl (λ z o g w. many_nodes _ _ refl (short_infos r.station ps w.held_ok.shorts) (omega (arith, l z, length_infos r.station ps))) k
 
-  pub ok-draw-passive : {r : Run} → Ok q t m b (d + 31) r → Ok q t m b d (R.draw_shuffle r.station.passive r)
+  pub ok_draw_passive : {r : Run} → Ok q t m b (d + 31) r → Ok q t m b d (R.draw_shuffle r.station.passive r)
   unfolding R.draw_shuffle
-  ok-draw-passive {r} k = ok-draw _ (λ o g w. shuffle_costs 31 (R.to_draw r) r.station.passive (omega (arith, g.seats.places_left, g.still.ranges.few_places)) (omega arith)) k
+  ok_draw_passive {r} k = ok_draw _ (λ o g w. shuffle_costs 31 (R.to_draw r) r.station.passive (omega (arith, g.seats.places_left, g.still.ranges.few_places)) (omega arith)) k
 
 -- what is sent does not change the station
 reply_station : (to len : ℕ) (ps : List ℕ) (r : Run) → (S.reply_with to len ps r).station ≡ r.station
@@ -92,88 +92,88 @@ disconnect_station p alive r = emit_station _ _ ∙ (reply_station p _ _ _ ∙ d
 module _ {q : Fixed} {t : Terms} {m b d : ℕ} where
   -- where as many draws suffice for a shuffle of the active view
   module _ (few : ℕ) (short : few < 32) where
-    pub ok-send-shuffle-reply-with : (to len : ℕ) {r : Run} → (r.code ≡ 0 → len ≤ 32) → ((o : List Rec) → Good q t (m + 1) r.station o → length r.station.active - 1 ≤ few)
+    pub ok_send_shuffle_reply_with : (to len : ℕ) {r : Run} → (r.code ≡ 0 → len ≤ 32) → ((o : List Rec) → Good q t (m + 1) r.station o → length r.station.active - 1 ≤ few)
         → Ok q t (m + 1) (b + crowd) (d + (31 + few)) r → Ok q t m b d (S.send_shuffle_reply to len r)
     unfolding S.send_shuffle_reply S.reply_with S.send_filled S.fill_active R.draw_shuffle
-    ok-send-shuffle-reply-with to len {r} l f k =
+    ok_send_shuffle_reply_with to len {r} l f k =
         let xs = R.shuffled r.station.passive r in
         let w = R.draw_shuffle r.station.passive r in
         let o : w.code ≡ 0 → r.code ≡ 0 = draw_fine _ r in
         let c : w.code ≡ 0 → length (take len xs) ≤ 32 = (λ z. omega (arith, l (o z), length_cut_to len xs)) in
-        let j : Ok q t (m + 1) (b + crowd) (d + few) w = ok-draw-passive (ease (omega arith) (omega arith) (omega arith) k) in
+        let j : Ok q t (m + 1) (b + crowd) (d + few) w = ok_draw_passive (ease (omega arith) (omega arith) (omega arith) k) in
         let g : (o : List Rec) → Good q t (m + 1) w.station o → length w.station.active - 1 ≤ few =
         subst (λ (s : Station). (o : List Rec) → Good q t (m + 1) s o → length s.active - 1 ≤ few) (sym (draw_station _ r)) f in
-        ok-either _
-        (ok-send-nodes to _ (λ z. omega (arith, l (o (draw_fine _ w z)), filled (take len xs) (R.shuffled w.station.active w) (length_cut_to len xs)))
-        (ok-draw _ (λ o h _. shuffle_costs few (R.to_draw w) w.station.active (g o h) short) j))
-        (ok-send-nodes to _ c (ease (omega arith) (omega arith) (omega arith) j))
+        ok_either _
+        (ok_send_nodes to _ (λ z. omega (arith, l (o (draw_fine _ w z)), filled (take len xs) (R.shuffled w.station.active w) (length_cut_to len xs)))
+        (ok_draw _ (λ o h _. shuffle_costs few (R.to_draw w) w.station.active (g o h) short) j))
+        (ok_send_nodes to _ c (ease (omega arith) (omega arith) (omega arith) j))
       where
         filled : (ps ys : List ℕ) → length ps ≤ len → length (ps ++ take (len - length ps) ys) ≤ len
         filled ps ys h = omega (arith, length-append ps (take (len - length ps) ys), length_cut_to (len - length ps) ys)
 
-  pub ok-send-shuffle-reply : (to len : ℕ) {r : Run} → (r.code ≡ 0 → len ≤ 32) → Ok q t (m + 1) (b + crowd) (d + 38) r → Ok q t m b d (S.send_shuffle_reply to len r)
-  ok-send-shuffle-reply to len l k =
-      ok-send-shuffle-reply-with 7 (omega arith) to len l (λ o g. omega (arith, g.seats.slots_left, g.still.ranges.few_slots)) (ease (omega arith) (omega arith) (omega arith) k)
+  pub ok_send_shuffle_reply : (to len : ℕ) {r : Run} → (r.code ≡ 0 → len ≤ 32) → Ok q t (m + 1) (b + crowd) (d + 38) r → Ok q t m b d (S.send_shuffle_reply to len r)
+  ok_send_shuffle_reply to len l k =
+      ok_send_shuffle_reply_with 7 (omega arith) to len l (λ o g. omega (arith, g.seats.slots_left, g.still.ranges.few_slots)) (ease (omega arith) (omega arith) (omega arith) k)
 
 module _ {q : Fixed} {t : Terms} {m b d : ℕ} where
-  pub ok-send-disconnect-with : (few : ℕ) → few < 32 → (p : ℕ) (alive : Bool) {r : Run} → ((n : ℕ) (o : List Rec) → Good q t n r.station o → length r.station.active - 1 ≤ few)
+  pub ok_send_disconnect_with : (few : ℕ) → few < 32 → (p : ℕ) (alive : Bool) {r : Run} → ((n : ℕ) (o : List Rec) → Good q t n r.station o → length r.station.active - 1 ≤ few)
       → Ok q t (m + 2) (b + disconnecting) (d + (31 + few)) r → Ok q t m b d (S.send_disconnect p alive r)
   unfolding S.send_disconnect S.reply_length
-  ok-send-disconnect-with few short p alive {r} f k =
-      ok-message _ bare refl (λ z o g w. no_node _ refl)
-      (ok-send-shuffle-reply-with few short p _ (ok-fact (λ o g w. omega (arith, g.still.ranges.few_active, g.still.ranges.few_passive)) k) (λ o g. f _ o g) (ease (omega arith) (omega arith) (omega arith) k))
+  ok_send_disconnect_with few short p alive {r} f k =
+      ok_message _ bare refl (λ z o g w. no_node _ refl)
+      (ok_send_shuffle_reply_with few short p _ (ok_fact (λ o g w. omega (arith, g.still.ranges.few_active, g.still.ranges.few_passive)) k) (λ o g. f _ o g) (ease (omega arith) (omega arith) (omega arith) k))
 
-  pub ok-send-disconnect : (p : ℕ) (alive : Bool) {r : Run} → Ok q t (m + 2) (b + disconnecting) (d + 38) r → Ok q t m b d (S.send_disconnect p alive r)
-  ok-send-disconnect p alive k =
-      ok-send-disconnect-with 7 (omega arith) p alive (λ n o g. omega (arith, g.seats.slots_left, g.still.ranges.few_slots)) (ease (omega arith) (omega arith) (omega arith) k)
+  pub ok_send_disconnect : (p : ℕ) (alive : Bool) {r : Run} → Ok q t (m + 2) (b + disconnecting) (d + 38) r → Ok q t m b d (S.send_disconnect p alive r)
+  ok_send_disconnect p alive k =
+      ok_send_disconnect_with 7 (omega arith) p alive (λ n o g. omega (arith, g.seats.slots_left, g.still.ranges.few_slots)) (ease (omega arith) (omega arith) (omega arith) k)
 
-  pub ok-tell-request : (p : ℕ) (high : Bool) (id : ℕ) {r : Run} → Ok q t (m + 1) (b + asking) d r → Ok q t m b d (S.tell_request p high id r)
+  pub ok_tell_request : (p : ℕ) (high : Bool) (id : ℕ) {r : Run} → Ok q t (m + 1) (b + asking) d r → Ok q t m b d (S.tell_request p high id r)
   unfolding S.tell_request S.neighbor_to
-  ok-tell-request p high id k =
-      ok-quiet _ bare (omega arith) (λ e. omega arith) (λ e. omega arith) (λ z w. no_node _ refl)
-      (ok-message _ single refl (λ z o g w. one_node _ _ refl w.own_ok) (ease (omega arith) (omega arith) (omega arith) k))
+  ok_tell_request p high id k =
+      ok_quiet _ bare (omega arith) (λ e. omega arith) (λ e. omega arith) (λ z w. no_node _ refl)
+      (ok_message _ single refl (λ z o g w. one_node _ _ refl w.own_ok) (ease (omega arith) (omega arith) (omega arith) k))
 
-  pub ok-open-request : (p : ℕ) {r : Run} → Ok q t m b d r → Ok q t m b d (S.open_request p (S.count_request r))
+  pub ok_open_request : (p : ℕ) {r : Run} → Ok q t m b d r → Ok q t m b d (S.open_request p (S.count_request r))
   unfolding S.open_request S.count_request S.request_fits S.note_request S.request_counts
-  ok-open-request p {r} k =
+  ok_open_request p {r} k =
       let test = ltb r.station.next_request top_counter in
       let counts : (require 10 test r).code ≡ 0 → ltb (require 10 test r).station.next_request top_counter ≡ true =
       (λ z. let e = require_fine ten test r z in subst (λ (w : Run). ltb w.station.next_request top_counter ≡ true) (sym e.0) e.1) in
-      ok_claim six _ (S.note_request p) (λ z e o g w. (g, law-requests w (put_request p e (counts z) w.requests_ok))) (ok-require ten _ k)
+      ok_claim six _ (S.note_request p) (λ z e o g w. (g, law_requests w (put_request p e (counts z) w.requests_ok))) (ok_require ten _ k)
 
 module _ {q : Fixed} {t : Terms} {m b d : ℕ} where
-  pub ok-send-neighbor : (p : ℕ) (high : Bool) {r : Run} → Ok q t (m + 1) (b + asking) d r → Ok q t m b d (S.send_neighbor p high r)
+  pub ok_send_neighbor : (p : ℕ) (high : Bool) {r : Run} → Ok q t (m + 1) (b + asking) d r → Ok q t m b d (S.send_neighbor p high r)
   unfolding S.send_neighbor
-  ok-send-neighbor p high k =
-      ok-either _ (ease (omega arith) (omega arith) (omega arith) k) (ok-tell-request p high _ (ok-open-request p k))
+  ok_send_neighbor p high k =
+      ok_either _ (ease (omega arith) (omega arith) (omega arith) k) (ok_tell_request p high _ (ok_open_request p k))
 
-  pub ok-reply-neighbor : (reply : Bool) (p : ℕ) (high : Bool) {r : Run} → Ok q t (m + 1) (b + asking) d r → Ok q t m b d (S.reply_neighbor reply p high r)
+  pub ok_reply_neighbor : (reply : Bool) (p : ℕ) (high : Bool) {r : Run} → Ok q t (m + 1) (b + asking) d r → Ok q t m b d (S.reply_neighbor reply p high r)
   unfolding S.reply_neighbor
-  ok-reply-neighbor reply p high k = ok-either _ (ok-send-neighbor p high k) (ease (omega arith) (omega arith) (omega arith) k)
+  ok_reply_neighbor reply p high k = ok_either _ (ok_send_neighbor p high k) (ease (omega arith) (omega arith) (omega arith) k)
 
   -- a change of the refill limit
-  pub ok-limit : (g : Station → Refill) {r : Run} → (Lawful r.station → Small (g r.station)) → Ok q t m b d r → Ok q t m b d (on (λ s. set_refill (g s) s) r)
-  ok-limit g h k = ok-on _ (λ o c. c) (λ w. law-fill w (h w)) k
+  pub ok_limit : (g : Station → Refill) {r : Run} → (Lawful r.station → Small (g r.station)) → Ok q t m b d r → Ok q t m b d (on (λ s. set_refill (g s) s) r)
+  ok_limit g h k = ok_on _ (λ o c. c) (λ w. law_fill w (h w)) k
 
 module _ {q : Fixed} {t : Terms} {m b d : ℕ} where
-  pub ok-end-recovery : {r : Run} → Ok q t m b d r → Ok q t m b d (on F.end_recovery r)
+  pub ok_end_recovery : {r : Run} → Ok q t m b d r → Ok q t m b d (on F.end_recovery r)
   unfolding F.end_recovery Small
-  ok-end-recovery {r} k = ok-limit _ (λ w. by_choice Small _ (λ e. tt) (λ e. w.fill_ok)) k
+  ok_end_recovery {r} k = ok_limit _ (λ w. by_choice Small _ (λ e. tt) (λ e. w.fill_ok)) k
 
-  pub ok-ask-one : (from : List ℕ) {r : Run} → ((o : List Rec) → Good q t (m + 1) r.station o → Lawful r.station → length from ≤ 32) → Ok q t (m + 1) (b + asking) (d + 1) r → Ok q t m b d (F.ask_one from r)
+  pub ok_ask_one : (from : List ℕ) {r : Run} → ((o : List Rec) → Good q t (m + 1) r.station o → Lawful r.station → length from ≤ 32) → Ok q t (m + 1) (b + asking) (d + 1) r → Ok q t m b d (F.ask_one from r)
   unfolding F.ask_one F.ask_picked F.use_request
-  ok-ask-one from few k =
-      ok-either _ (ok-end-recovery (ease (omega arith) (omega arith) (omega arith) k))
-      (ok-limit _ (λ w. small_less _ w.fill_ok) (ok-send-neighbor _ _ (ok-one-of _ few k)))
+  ok_ask_one from few k =
+      ok_either _ (ok_end_recovery (ease (omega arith) (omega arith) (omega arith) k))
+      (ok_limit _ (λ w. small_less _ w.fill_ok) (ok_send_neighbor _ _ (ok_one_of _ few k)))
 
 module _ {q : Fixed} {t : Terms} {m b d : ℕ} where
-  pub ok-refill : (skip : List ℕ) {r : Run} → Ok q t (m + 1) (b + asking) (d + 1) r → Ok q t m b d (F.refill_active_from_passive skip r)
+  pub ok_refill : (skip : List ℕ) {r : Run} → Ok q t (m + 1) (b + asking) (d + 1) r → Ok q t m b d (F.refill_active_from_passive skip r)
   unfolding F.refill_active_from_passive F.refill_limited F.limit_short F.candidates Small
-  ok-refill skip {r} k =
-      ok-either _ (ease (omega arith) (omega arith) (omega arith) k)
+  ok_refill skip {r} k =
+      ok_either _ (ease (omega arith) (omega arith) (omega arith) k)
       (let s = (on F.limit_short r).station in
-      ok-ask-one _ (λ o g w. omega (arith, length_without_all (F.skipped skip s) s.passive, g.seats.places_left, g.still.ranges.few_places)) (ok-limit _ (λ w. by_choice Small _ (λ e. omega arith) (λ e. w.fill_ok)) k))
+      ok_ask_one _ (λ o g w. omega (arith, length_without_all (F.skipped skip s) s.passive, g.seats.places_left, g.still.ranges.few_places)) (ok_limit _ (λ w. by_choice Small _ (λ e. omega arith) (λ e. w.fill_ok)) k))
 
-  pub ok-start-refill : (limit : Refill) (skip : List ℕ) {r : Run} → Small limit → Ok q t (m + 1) (b + asking) (d + 1) r → Ok q t m b d (F.start_refill limit skip r)
+  pub ok_start_refill : (limit : Refill) (skip : List ℕ) {r : Run} → Small limit → Ok q t (m + 1) (b + asking) (d + 1) r → Ok q t m b d (F.start_refill limit skip r)
   unfolding F.start_refill F.begin_refill
-  ok-start-refill limit skip l k = ok-refill skip (ok-limit _ (λ w. small_or _ limit l) k)
+  ok_start_refill limit skip l k = ok_refill skip (ok_limit _ (λ w. small_or _ limit l) k)

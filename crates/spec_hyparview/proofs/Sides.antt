@@ -24,10 +24,10 @@ use Rattle.spec_hyparview.specs.Rules.{all_under, station_ok}
 use Rattle.spec_hyparview.specs.Handle.{Result, new_station, refusal, start, steps, handle_reading, handle}
 use Rattle.spec_hyparview.specs.Sides.{Side, wired, radio, radio_nodes, radio_draws, too_many, handle_radio, handle_from, draws_from, draws_taken, SameFromEither, SameUnlessRefused, FewDrawsUsed, AnsweredAsWired, EnoughForRadio}
 use Rattle.spec_hyparview.proofs.Reading.{Readable, by_reading}
-use Rattle.spec_hyparview.proofs.Whole.{ok-plain, ok-quit-two}
-use Rattle.spec_hyparview.proofs.Tested.{between-of}
+use Rattle.spec_hyparview.proofs.Whole.{ok_plain, ok_quit_two}
+use Rattle.spec_hyparview.proofs.Tested.{between_of}
 use Rattle.spec_hyparview.proofs.Enough.{pays_all, all_sure}
-use Rattle.spec_hyparview.proofs.Front.{finish_code, same-front, used-within, five-takes-all, taken-within}
+use Rattle.spec_hyparview.proofs.Front.{finish_code, same_front, used_within, five_takes_all, taken_within}
 
 module _ (s : Station) (b ds : List ℕ) (room : ℕ) where
   few_nodes : get_or b 3 0 ≤ radio_nodes → (station_ok s && too_many b) ≡ true → ⊥
@@ -37,34 +37,34 @@ module _ (s : Station) (b ds : List ℕ) (room : ℕ) where
       omega (arith, l, ltb-true radio_nodes (get_or b 3 0) h)
 
   -- the wired call on the first 64 draws
-  pub radio-is : (station_ok s && too_many b) ≡ false → handle_from radio s b ds room ≡ handle s b (take radio_draws ds) room
+  pub radio_is : (station_ok s && too_many b) ≡ false → handle_from radio s b ds room ≡ handle s b (take radio_draws ds) room
   unfolding handle_from handle_radio
-  radio-is e = choose_no (station_ok s && too_many b) (refusal 16 s room) (handle s b (take radio_draws ds) room) e
+  radio_is e = choose_no (station_ok s && too_many b) (refusal 16 s room) (handle s b (take radio_draws ds) room) e
 
-  pub radio-few : get_or b 3 0 ≤ radio_nodes → handle_from radio s b ds room ≡ handle s b (take radio_draws ds) room
-  radio-few l = radio-is (split (station_ok s && too_many b) (λ e. absurd (few_nodes l e)) (λ e. e))
+  pub radio_few : get_or b 3 0 ≤ radio_nodes → handle_from radio s b ds room ≡ handle s b (take radio_draws ds) room
+  radio_few l = radio_is (split (station_ok s && too_many b) (λ e. absurd (few_nodes l e)) (λ e. e))
 
-  radio-refused : (station_ok s && too_many b) ≡ true → handle_from radio s b ds room ≡ refusal 16 s room
+  radio_refused : (station_ok s && too_many b) ≡ true → handle_from radio s b ds room ≡ refusal 16 s room
   unfolding handle_from handle_radio
-  radio-refused e = choose_yes (station_ok s && too_many b) (refusal 16 s room) (handle s b (take radio_draws ds) room) e
+  radio_refused e = choose_yes (station_ok s && too_many b) (refusal 16 s room) (handle s b (take radio_draws ds) room) e
 
   -- a call that takes at most 64 draws does not miss the others
-  pub cut-draws : draws_taken s b ds room ≤ radio_draws → handle s b (take radio_draws ds) room ≡ handle s b ds room
-  cut-draws l =
+  pub cut_draws : draws_taken s b ds room ≤ radio_draws → handle s b (take radio_draws ds) room ≡ handle s b ds room
+  cut_draws l =
       split (eqb (handle s b ds room).code 5)
-      (λ e. ap (λ (d : List ℕ). handle s b d room) (take_all radio_draws ds (omega (arith, l, five-takes-all s b ds room (eqb-true (handle s b ds room).code 5 e)))))
-      (λ e. same-front s b ds room (take radio_draws ds) (eqb-false (handle s b ds room).code 5 e) (take-take (draws_taken s b ds room) radio_draws ds l))
+      (λ e. ap (λ (d : List ℕ). handle s b d room) (take_all radio_draws ds (omega (arith, l, five_takes_all s b ds room (eqb-true (handle s b ds room).code 5 e)))))
+      (λ e. same_front s b ds room (take radio_draws ds) (eqb-false (handle s b ds room).code 5 e) (take-take (draws_taken s b ds room) radio_draws ds l))
 
   -- and one that does not miss them takes at most 64
-  uncut-draws : ((handle s b (take radio_draws ds) room).code ≡ 5 → ⊥) → handle s b ds room ≡ handle s b (take radio_draws ds) room
-  uncut-draws n =
+  uncut_draws : ((handle s b (take radio_draws ds) room).code ≡ 5 → ⊥) → handle s b ds room ≡ handle s b (take radio_draws ds) room
+  uncut_draws n =
       let front = take radio_draws ds in
-      let l : draws_taken s b front room ≤ radio_draws = omega (arith, taken-within s b front room, length-take radio_draws ds) in
-      same-front s b front room ds n (sym (take-take (draws_taken s b front room) radio_draws ds l))
+      let l : draws_taken s b front room ≤ radio_draws = omega (arith, taken_within s b front room, length-take radio_draws ds) in
+      same_front s b front room ds n (sym (take-take (draws_taken s b front room) radio_draws ds l))
 
-  wired-is : handle_from wired s b ds room ≡ handle s b ds room
+  wired_is : handle_from wired s b ds room ≡ handle s b ds room
   unfolding handle_from
-  wired-is = refl
+  wired_is = refl
 
 -- what holds of a refusal with 16, and of the wired call on the draws that the side reads
 pub by_side : (X : Result → Type 0) (side : Side) (s : Station) (b ds : List ℕ) (room : ℕ) → X (refusal 16 s room) → X (handle s b (draws_from side ds) room) → X (handle_from side s b ds room)
@@ -85,22 +85,22 @@ under_from n wired ds h = h
 under_from n radio ds h = under_take n radio_draws ds h
 
 pub same_from_either : SameFromEither
-same_from_either s b ds room few l = radio-few s b ds room few ∙ (cut-draws s b ds room l ∙ sym (wired-is s b ds room))
+same_from_either s b ds room few l = radio_few s b ds room few ∙ (cut_draws s b ds room l ∙ sym (wired_is s b ds room))
 
 pub same_unless_refused : SameUnlessRefused
 unfolding refusal
 same_unless_refused s b ds room n16 n5 =
     split (station_ok s && too_many b)
-    (λ e. absurd (n16 (ap (λ (a : Result). a.code) (radio-refused s b ds room e))))
-    (λ e. let q = radio-is s b ds room e in
-    q ∙ (sym (uncut-draws s b ds room (λ c. n5 (ap (λ (a : Result). a.code) q ∙ c))) ∙ sym (wired-is s b ds room)))
+    (λ e. absurd (n16 (ap (λ (a : Result). a.code) (radio_refused s b ds room e))))
+    (λ e. let q = radio_is s b ds room e in
+    q ∙ (sym (uncut_draws s b ds room (λ c. n5 (ap (λ (a : Result). a.code) q ∙ c))) ∙ sym (wired_is s b ds room)))
 
 pub few_draws_used : FewDrawsUsed
 unfolding refusal
 few_draws_used s b ds room =
     split (station_ok s && too_many b)
-    (λ e. omega (arith, ap (λ (a : Result). a.used) (radio-refused s b ds room e)))
-    (λ e. omega (arith, ap (λ (a : Result). a.used) (radio-is s b ds room e), used-within s b (take radio_draws ds) room, length-take radio_draws ds))
+    (λ e. omega (arith, ap (λ (a : Result). a.used) (radio_refused s b ds room e)))
+    (λ e. omega (arith, ap (λ (a : Result). a.used) (radio_is s b ds room e), used_within s b (take radio_draws ds) room, length-take radio_draws ds))
 
 -- what of the bytes the bound on draws goes by
 nodes_read : (b : List ℕ) → length (rec_of b).nodes ≡ get_or b 3 0
@@ -112,47 +112,47 @@ unfolding rec_of_by header_of_by
 kind_read b = refl
 
 module _ (s : Station) (ok : station_ok s ≡ true) (ds : List ℕ) (room : ℕ) (long : radio_draws ≤ length ds) (kept : all_under sure_end (take radio_draws ds) ≡ true) where
-  front-sure : sure (take radio_draws ds) ≡ radio_draws
-  front-sure = all_sure (take radio_draws ds) kept ∙ length-take-le radio_draws ds long
+  front_sure : sure (take radio_draws ds) ≡ radio_draws
+  front_sure = all_sure (take radio_draws ds) kept ∙ length-take-le radio_draws ds long
 
   abbrev NotFive : Reading → Type 0
   NotFive x = (handle_reading x s (take radio_draws ds) room).code ≡ 5 → ⊥
 
   -- at most 47 draws, or 63 of a Quit
-  run-not-five : (e : Rec) → Readable e → length e.nodes ≤ radio_nodes → (e.kind ≡ kind_byte Quit → length s.active ≤ 2) → NotFive (event e)
+  run_not_five : (e : Rec) → Readable e → length e.nodes ≤ radio_nodes → (e.kind ≡ kind_byte Quit → length s.active ≤ 2) → NotFive (event e)
   unfolding handle_reading
-  run-not-five e w few two five =
+  run_not_five e w few two five =
       let a = s.config.active_view_capacity in
       let r = steps e (start s (take radio_draws ds) room) in
       let c : r.code ≡ 5 = sym (finish_code s r) ∙ five in
       split (eqb e.kind (kind_byte Quit))
-      (λ f. let k = ok-quit-two (a + 9) (take radio_draws ds) room e w (pays_all a e) (between-of s ok) radio_draws (omega arith) (two (eqb-true e.kind (kind_byte Quit) f)) f in
-      absurd (omega (arith, k.codes.five c, front-sure)))
-      (λ f. let k = ok-plain (a + 9) (take radio_draws ds) room e w (pays_all a e) (between-of s ok) radio_draws (omega arith) (omega (arith, few)) f in
-      absurd (omega (arith, k.codes.five c, front-sure)))
+      (λ f. let k = ok_quit_two (a + 9) (take radio_draws ds) room e w (pays_all a e) (between_of s ok) radio_draws (omega arith) (two (eqb-true e.kind (kind_byte Quit) f)) f in
+      absurd (omega (arith, k.codes.five c, front_sure)))
+      (λ f. let k = ok_plain (a + 9) (take radio_draws ds) room e w (pays_all a e) (between_of s ok) radio_draws (omega arith) (omega (arith, few)) f in
+      absurd (omega (arith, k.codes.five c, front_sure)))
 
-  reading-not-five : (c : ℕ) → c ≤ 4 → NotFive (refused c)
+  reading_not_five : (c : ℕ) → c ≤ 4 → NotFive (refused c)
   unfolding handle_reading refusal
-  reading-not-five c l five = omega (arith, l, five)
+  reading_not_five c l five = omega (arith, l, five)
 
 module _ (s : Station) (b ds : List ℕ) (room : ℕ) (bytes : all_under 256 b ≡ true) (few : get_or b 3 0 ≤ radio_nodes) (long : radio_draws ≤ length ds)
     (kept : all_under sure_end (take radio_draws ds) ≡ true) (two : get_or b 0 0 ≡ kind_byte Quit → length s.active ≤ 2) where
-  front-not-five : (handle s b (take radio_draws ds) room).code ≡ 5 → ⊥
+  front_not_five : (handle s b (take radio_draws ds) room).code ≡ 5 → ⊥
   unfolding handle refusal
-  front-not-five =
+  front_not_five =
       by_choice (λ (a : Result). a.code ≡ 5 → ⊥) (station_ok s)
-      (λ ok. by_reading b bytes (NotFive s ok ds room long kept) (λ c _ l. reading-not-five s ok ds room long kept c l)
-      (λ w. run-not-five s ok ds room long kept (rec_of b) w (omega (arith, few, nodes_read b)) (λ q. two (sym (kind_read b) ∙ q))))
+      (λ ok. by_reading b bytes (NotFive s ok ds room long kept) (λ c _ l. reading_not_five s ok ds room long kept c l)
+      (λ w. run_not_five s ok ds room long kept (rec_of b) w (omega (arith, few, nodes_read b)) (λ q. two (sym (kind_read b) ∙ q))))
       (λ _ five. omega (arith, five))
 
-  not-five-from : (handle_from radio s b ds room).code ≡ 5 → ⊥
-  not-five-from c = front-not-five (sym (ap (λ (a : Result). a.code) (radio-few s b ds room few)) ∙ c)
+  not_five_from : (handle_from radio s b ds room).code ≡ 5 → ⊥
+  not_five_from c = front_not_five (sym (ap (λ (a : Result). a.code) (radio_few s b ds room few)) ∙ c)
 
-  pub answered-as-wired : AnsweredAsWired s b ds room
-  answered-as-wired = record { not_five = not-five-from; as_wired = radio-few s b ds room few ∙ (sym (uncut-draws s b ds room front-not-five) ∙ sym (wired-is s b ds room)) }
+  pub answered_as_wired : AnsweredAsWired s b ds room
+  answered_as_wired = record { not_five = not_five_from; as_wired = radio_few s b ds room few ∙ (sym (uncut_draws s b ds room front_not_five) ∙ sym (wired_is s b ds room)) }
 
 pub enough_for_radio : EnoughForRadio
-enough_for_radio s b ds room bytes few long kept two = answered-as-wired s b ds room bytes few long kept two
+enough_for_radio s b ds room bytes few long kept two = answered_as_wired s b ds room bytes few long kept two
 
 -- n numbers from k on
 unfoldable pub counted : ℕ → ℕ → List ℕ

@@ -51,11 +51,11 @@ module _ (k : ℕ) where
   either : {r w v : Run} (b : Bool) → Keeps r w → Keeps r v → Keeps r (choose b w v)
   either {r} b g h = by_choice (Keeps r) b (λ e. g) (λ e. h)
 
-  if-so : {r w v : Run} (b : Bool) → (b ≡ true → Keeps r w) → Keeps r v → Keeps r (choose b w v)
-  if-so {r} b g h = by_choice (Keeps r) b g (λ e. h)
+  if_so : {r w v : Run} (b : Bool) → (b ≡ true → Keeps r w) → Keeps r v → Keeps r (choose b w v)
+  if_so {r} b g h = by_choice (Keeps r) b g (λ e. h)
 
-  if-else : {r w v : Run} (b : Bool) → Keeps r w → (b ≡ false → Keeps r v) → Keeps r (choose b w v)
-  if-else {r} b g h = by_choice (Keeps r) b (λ e. g) h
+  if_else : {r w v : Run} (b : Bool) → Keeps r w → (b ≡ false → Keeps r v) → Keeps r (choose b w v)
+  if_else {r} b g h = by_choice (Keeps r) b (λ e. g) h
 
   emits : (e : Rec) (r : Run) → Keeps r (emit e r)
   emits e r = record { so = λ m. subst (λ (s : Station). mem k s.pins ≡ true) (sym (emit_station e r)) m }
@@ -95,28 +95,28 @@ module _ (k : ℕ) where
       let none = subst (λ (x : ℕ). count x free ≡ 0) (sym q ∙ index_at (get_or free i 0) r.station.active (free_active r.station i l)) (count_skipped k r.station.pins r.station.active (mem_true k r.station.pins m)) in
       omega (arith, there, none)
 
-  only-five : (m : ℕ) → m ≤ 5 → (m ≡ 0 → ⊥) → (m ≡ 1 → ⊥) → (m ≡ 2 → ⊥) → (m ≡ 3 → ⊥) → (m ≡ 4 → ⊥) → m ≡ 5
-  only-five zero l n₀ n₁ n₂ n₃ n₄ = absurd (n₀ refl)
-  only-five (suc zero) l n₀ n₁ n₂ n₃ n₄ = absurd (n₁ refl)
-  only-five (suc (suc zero)) l n₀ n₁ n₂ n₃ n₄ = absurd (n₂ refl)
-  only-five (suc (suc (suc zero))) l n₀ n₁ n₂ n₃ n₄ = absurd (n₃ refl)
-  only-five (suc (suc (suc (suc zero)))) l n₀ n₁ n₂ n₃ n₄ = absurd (n₄ refl)
-  only-five (suc (suc (suc (suc (suc m))))) l n₀ n₁ n₂ n₃ n₄ = omega (arith, l)
+  only_five : (m : ℕ) → m ≤ 5 → (m ≡ 0 → ⊥) → (m ≡ 1 → ⊥) → (m ≡ 2 → ⊥) → (m ≡ 3 → ⊥) → (m ≡ 4 → ⊥) → m ≡ 5
+  only_five zero l n₀ n₁ n₂ n₃ n₄ = absurd (n₀ refl)
+  only_five (suc zero) l n₀ n₁ n₂ n₃ n₄ = absurd (n₁ refl)
+  only_five (suc (suc zero)) l n₀ n₁ n₂ n₃ n₄ = absurd (n₂ refl)
+  only_five (suc (suc (suc zero))) l n₀ n₁ n₂ n₃ n₄ = absurd (n₃ refl)
+  only_five (suc (suc (suc (suc zero)))) l n₀ n₁ n₂ n₃ n₄ = absurd (n₄ refl)
+  only_five (suc (suc (suc (suc (suc m))))) l n₀ n₁ n₂ n₃ n₄ = omega (arith, l)
 
   -- which events are partings
-  disconnect-parting : (e : Rec) → is_parting k e ≡ false → e.message ≤ 5 → e.kind ≡ kind_byte Message → eqb e.message 0 ≡ false → eqb e.message 1 ≡ false → eqb e.message 2 ≡ false → eqb e.message 3 ≡ false → eqb e.message 4 ≡ false → e.peer ≡ k → ⊥
+  disconnect_parting : (e : Rec) → is_parting k e ≡ false → e.message ≤ 5 → e.kind ≡ kind_byte Message → eqb e.message 0 ≡ false → eqb e.message 1 ≡ false → eqb e.message 2 ≡ false → eqb e.message 3 ≡ false → eqb e.message 4 ≡ false → e.peer ≡ k → ⊥
   unfolding is_parting
-  disconnect-parting e n l z e₀ e₁ e₂ e₃ e₄ q =
-      let five : e.message ≡ 5 = only-five e.message l (eqb-false _ _ e₀) (eqb-false _ _ e₁) (eqb-false _ _ e₂) (eqb-false _ _ e₃) (eqb-false _ _ e₄) in
+  disconnect_parting e n l z e₀ e₁ e₂ e₃ e₄ q =
+      let five : e.message ≡ 5 = only_five e.message l (eqb-false _ _ e₀) (eqb-false _ _ e₁) (eqb-false _ _ e₂) (eqb-false _ _ e₃) (eqb-false _ _ e₄) in
       clash _ (rw (z, five, q, eq-eqb k k refl) refl) n
 
-  closed-parting : (e : Rec) → is_parting k e ≡ false → e.kind ≡ kind_byte PeerDisconnected → e.peer ≡ k → ⊥
+  closed_parting : (e : Rec) → is_parting k e ≡ false → e.kind ≡ kind_byte PeerDisconnected → e.peer ≡ k → ⊥
   unfolding is_parting
-  closed-parting e n z q = clash _ (rw (z, q, eq-eqb k k refl) refl) n
+  closed_parting e n z q = clash _ (rw (z, q, eq-eqb k k refl) refl) n
 
-  quit-parting : (e : Rec) → is_parting k e ≡ false → e.kind ≡ kind_byte Quit → ⊥
+  quit_parting : (e : Rec) → is_parting k e ≡ false → e.kind ≡ kind_byte Quit → ⊥
   unfolding is_parting
-  quit-parting e n z = clash _ (rw z refl) n
+  quit_parting e n z = clash _ (rw z refl) n
 
   -- what is held of other peers
   insert_peer_info : (p : ℕ) (d : Data) (r : Run) → Keeps r (P.insert_peer_info p d r)
@@ -213,13 +213,13 @@ module _ (k : ℕ) where
   remove_active : (p : ℕ) → (p ≡ k → ⊥) → (why : A.Reason) (r : Run) → Keeps r (A.remove_active p why r)
   unfolding A.remove_active A.refill_after A.clear_refused in_active
   remove_active p n why r =
-      if-so _ (λ e. then (remove_at _ why r (λ m q. n (sym (index_at p r.station.active e) ∙ q))) (then (changes _ (λ s. refl) _) (start_refill _ _ _))) (same r)
+      if_so _ (λ e. then (remove_at _ why r (λ m q. n (sym (index_at p r.station.active e) ∙ q))) (then (changes _ (λ s. refl) _) (start_refill _ _ _))) (same r)
 
   -- whoever is picked has no pin
   free_slot : (r : Run) → Keeps r (A.free_random_slot_in_active_view r)
   unfolding A.free_random_slot_in_active_view A.remove_picked
   free_slot r =
-      if-else _ (same r) (λ e. then (chooses _ r) (remove_at _ _ _ (λ m q. unpicked r e (subst (λ (s : Station). mem k s.pins ≡ true) (one_of_station _ r) m)
+      if_else _ (same r) (λ e. then (chooses _ r) (remove_at _ _ _ (λ m q. unpicked r e (subst (λ (s : Station). mem k s.pins ≡ true) (one_of_station _ r) m)
       (subst (λ (s : Station). get_or s.active (index_of (picked (without_pin r.station) r) r.station.active) 0 ≡ k) (one_of_station _ r) q))))
 
   add_unchecked : (p : ℕ) (high reply : Bool) (r : Run) → Keeps r (A.add_active_unchecked p high reply r)
@@ -273,8 +273,8 @@ module _ (k : ℕ) where
   handle_message : (e : Rec) → (eqb e.message 0 ≡ false → eqb e.message 1 ≡ false → eqb e.message 2 ≡ false → eqb e.message 3 ≡ false → eqb e.message 4 ≡ false → e.peer ≡ k → ⊥) → (r : Run) → Keeps r (H.handle_message e r)
   unfolding H.handle_message
   handle_message e n r =
-      if-else _ (on_join _ _ r) (λ e₀. if-else _ (on_forward_join _ _ _ r) (λ e₁. if-else _ (on_shuffle _ _ _ _ r)
-      (λ e₂. if-else _ (on_shuffle_reply _ _ r) (λ e₃. if-else _ (on_neighbor _ _ _ r) (λ e₄. on_disconnect _ (n e₀ e₁ e₂ e₃ e₄) _ r)))))
+      if_else _ (on_join _ _ r) (λ e₀. if_else _ (on_forward_join _ _ _ r) (λ e₁. if_else _ (on_shuffle _ _ _ _ r)
+      (λ e₂. if_else _ (on_shuffle_reply _ _ r) (λ e₃. if_else _ (on_neighbor _ _ _ r) (λ e₄. on_disconnect _ (n e₀ e₁ e₂ e₃ e₄) _ r)))))
 
   -- the station's own side
   handle_join : (p : ℕ) (r : Run) → Keeps r (E.handle_join p r)
@@ -348,23 +348,23 @@ module _ (k : ℕ) where
 
   -- an event that is no parting of its own
   module _ (e : Rec) (l : e.kind ≡ kind_byte Message → e.message ≤ 5) (n : is_parting k e ≡ false) where
-    by-each : (j : EventKind) → e.kind ≡ kind_byte j → (r : Run) → Keeps r (H.handle_kind (some j) e r)
+    by_each : (j : EventKind) → e.kind ≡ kind_byte j → (r : Run) → Keeps r (H.handle_kind (some j) e r)
     unfolding H.handle_kind E.update_own_data
-    by-each Message z r = handle_message e (λ e₀ e₁ e₂ e₃ e₄ q. disconnect-parting e n (l z) z e₀ e₁ e₂ e₃ e₄ q) r
-    by-each DoShuffle z r = shuffle_timer r
-    by-each DoMaintenance z r = maintenance_timer r
-    by-each PendingNeighborRequest z r = neighbor_timer _ _ r
-    by-each RetryJoin z r = retry_join _ _ r
-    by-each PeerDisconnected z r = connection_closed _ (λ q. closed-parting e n z q) r
-    by-each RequestJoin z r = handle_join _ r
-    by-each UpdatePeerData z r = changes _ (λ s. refl) r
-    by-each Quit z r = absurd (quit-parting e n z)
-    by-each Pin z r = handle_pin _ r
+    by_each Message z r = handle_message e (λ e₀ e₁ e₂ e₃ e₄ q. disconnect_parting e n (l z) z e₀ e₁ e₂ e₃ e₄ q) r
+    by_each DoShuffle z r = shuffle_timer r
+    by_each DoMaintenance z r = maintenance_timer r
+    by_each PendingNeighborRequest z r = neighbor_timer _ _ r
+    by_each RetryJoin z r = retry_join _ _ r
+    by_each PeerDisconnected z r = connection_closed _ (λ q. closed_parting e n z q) r
+    by_each RequestJoin z r = handle_join _ r
+    by_each UpdatePeerData z r = changes _ (λ s. refl) r
+    by_each Quit z r = absurd (quit_parting e n z)
+    by_each Pin z r = handle_pin _ r
 
-    pub steps-keep : (r : Run) → Keeps r (H.steps e r)
+    pub steps_keep : (r : Run) → Keeps r (H.steps e r)
     unfolding H.steps H.dispatch
-    steps-keep r =
-        then (by_kind (λ (o : Option EventKind). Keeps r (H.handle_kind o e r)) e.kind (λ _. same r) (λ j z. by-each j z r)) (end _)
+    steps_keep r =
+        then (by_kind (λ (o : Option EventKind). Keeps r (H.handle_kind o e r)) e.kind (λ _. same r) (λ j z. by_each j z r)) (end _)
 
 -- a message that was read is one of the six
 few_messages : (b : List ℕ) → well_formed b ≡ true → (rec_of b).kind ≡ kind_byte Message → (rec_of b).message ≤ 5
@@ -385,7 +385,7 @@ pin_kept k s b ds room n m =
     (λ _. by_choice Q (ltb most_nodes (get_or b 3 0)) (λ _. m)
     (λ _. by_choice Q (well_formed b && is_event (header_of b))
     (λ e. by_choice P (eqb (H.steps (rec_of b) (H.start s ds room)).code 0)
-    (λ _. (steps-keep k (rec_of b) (few_messages b (and_left (well_formed b) _ e)) n (H.start s ds room)).so m) (λ _. m)) (λ _. m))))
+    (λ _. (steps_keep k (rec_of b) (few_messages b (and_left (well_formed b) _ e)) n (H.start s ds room)).so m) (λ _. m)) (λ _. m))))
     (λ _. m)
 
 -- ---- a pin that was accepted is there

@@ -114,20 +114,20 @@ module _ (n : ℕ) where
   all_true [] e = tt
   all_true (x ∷ xs) e = (ltb-true x n (and_left (ltb x n) (R.all_under n xs) e), all_true xs (and_right (ltb x n) (R.all_under n xs) e))
 
-  lists-true : (ls : List (List ℕ)) → R.lists_under n ls ≡ true → All (λ xs. All (λ x. x < n) xs) ls
+  lists_true : (ls : List (List ℕ)) → R.lists_under n ls ≡ true → All (λ xs. All (λ x. x < n) xs) ls
   unfolding R.lists_under All
-  lists-true [] e = tt
-  lists-true (xs ∷ ls) e = (all_true xs (and_left (R.all_under n xs) (R.lists_under n ls) e), lists-true ls (and_right (R.all_under n xs) (R.lists_under n ls) e))
+  lists_true [] e = tt
+  lists_true (xs ∷ ls) e = (all_true xs (and_left (R.all_under n xs) (R.lists_under n ls) e), lists_true ls (and_right (R.all_under n xs) (R.lists_under n ls) e))
 
   all_yes : (xs : List ℕ) → All (λ x. x < n) xs → R.all_under n xs ≡ true
   unfolding R.all_under All
   all_yes [] a = refl
   all_yes (x ∷ xs) a = both (ltb x n) (R.all_under n xs) (lt-ltb x n a.0) (all_yes xs a.1)
 
-  lists-yes : (ls : List (List ℕ)) → All (λ xs. All (λ x. x < n) xs) ls → R.lists_under n ls ≡ true
+  lists_yes : (ls : List (List ℕ)) → All (λ xs. All (λ x. x < n) xs) ls → R.lists_under n ls ≡ true
   unfolding R.lists_under All
-  lists-yes [] a = refl
-  lists-yes (xs ∷ ls) a = both (R.all_under n xs) (R.lists_under n ls) (all_yes xs a.0) (lists-yes ls a.1)
+  lists_yes [] a = refl
+  lists_yes (xs ∷ ls) a = both (R.all_under n xs) (R.lists_under n ls) (all_yes xs a.0) (lists_yes ls a.1)
 
 -- data is bytes
 bytes_yes : (b : List ℕ) → ((k : ℕ) → get_or b k 0 < bytes_end) → R.all_under bytes_end b ≡ true
@@ -252,7 +252,7 @@ rules_of {c} s r b =
     (also _ _ (both _ _ (short_yes _ w.held_ok.shorts) (data_yes _ w.own_ok))
     (also _ _ (limit_yes _ w.fill_ok)
     (also _ _ (both _ _ (le-leb _ _ w.pace_ok.low) (le-leb _ _ w.pace_ok.high))
-    (also _ _ (both _ _ (lists-yes peers_end _ b.narrow.named) (both _ _ (both _ _ (bytes_yes _ b.narrow.mine.bytes) (held_yes _ b.narrow.held)) (both _ _ (le-leb _ _ w.requests_ok.numbered.next_top) (both _ _ (le-leb _ _ w.joins_ok.next_top) (both _ _ (le-leb _ _ w.alone_ok.high) (le-leb _ _ w.short_ok.high))))))
+    (also _ _ (both _ _ (lists_yes peers_end _ b.narrow.named) (both _ _ (both _ _ (bytes_yes _ b.narrow.mine.bytes) (held_yes _ b.narrow.held)) (both _ _ (le-leb _ _ w.requests_ok.numbered.next_top) (both _ _ (le-leb _ _ w.joins_ok.next_top) (both _ _ (le-leb _ _ w.alone_ok.high) (le-leb _ _ w.short_ok.high))))))
     (also _ _ b.covered
     (also _ _ (both _ _ (all_in_yes s.pins s.active w.pins_ok.among) (le-leb _ _ w.pins_ok.few)) no_tests))))))))))))))))
 
@@ -273,9 +273,9 @@ module _ (s : Station) (e : station_ok s ≡ true) where
   unfolding station_ok
   rule n = every_at (R.rules s) n e
 
-  pinned-of : Pinned s.config.active_view_capacity s.active s.pins
+  pinned_of : Pinned s.config.active_view_capacity s.active s.pins
   unfolding R.rules R.repeats_rule R.order_rule R.pins_rule most_pins
-  pinned-of =
+  pinned_of =
       let o1 = and_right (rising (keys s.requests)) _ (rule 2) in
       let o2 = and_right (rising (keys s.joins)) _ o1 in
       let o3 = and_right (rising (keys s.peer_data)) _ o2 in
@@ -286,9 +286,9 @@ module _ (s : Station) (e : station_ok s ≡ true) where
         few = leb-true _ _ (and_right (subset s.pins s.active) _ (rule 16));
       }
 
-  law-of : Lawful s
+  law_of : Lawful s
   unfolding R.rules R.repeats_rule R.order_rule R.few_rule R.numbers_rule R.self_rule R.room_rule R.data_rule R.limit_rule R.interval_rule R.width_rule has
-  law-of =
+  law_of =
       let o1 = and_right (rising (keys s.requests)) _ (rule 2) in
       let o2 = and_right (rising (keys s.joins)) _ o1 in
       let o3 = and_right (rising (keys s.peer_data)) _ o2 in
@@ -310,28 +310,28 @@ module _ (s : Station) (e : station_ok s ≡ true) where
         pace_ok = record { low = low_of _ _ _ (rule 13); high = high_of _ _ _ (rule 13) };
         alone_ok = record { high = leb-true _ _ (and_left _ _ w3) };
         short_ok = record { high = leb-true _ _ (and_right (leb s.passes_alone top_passes) _ w3) };
-        pins_ok = pinned-of;
+        pins_ok = pinned_of;
       }
 
-  narrow-of : Narrow s
+  narrow_of : Narrow s
   unfolding R.rules R.settings_rule R.data_rule R.interval_rule R.width_rule R.lists_under
-  narrow-of =
+  narrow_of =
       let w1 = and_right (R.lists_under peers_end (R.peer_lists s)) _ (rule 14) in
       let w2 = and_right (R.lists_under bytes_end (R.data_lists s)) _ w1 in
       let w = and_left (R.lists_under bytes_end (R.data_lists s)) _ w1 in
       record {
         settings = ranges_of s.config (rule 0);
-        named = lists-true peers_end _ (and_left _ _ (rule 14));
-        mine = own_held s.own_data law-of.own_ok (and_left _ _ w);
-        held = held_true s.peer_data law-of.held_ok.shorts (and_right (R.all_under bytes_end (bytes_of s.own_data)) _ w);
+        named = lists_true peers_end _ (and_left _ _ (rule 14));
+        mine = own_held s.own_data law_of.own_ok (and_left _ _ w);
+        held = held_true s.peer_data law_of.held_ok.shorts (and_right (R.all_under bytes_end (bytes_of s.own_data)) _ w);
         pace = high_of _ _ _ (rule 13);
         requests_top = leb-true _ _ (and_left _ _ w2);
         joins_top = leb-true _ _ (and_left _ _ (and_right (leb s.next_request top_counter) _ w2));
       }
 
-  pub between-of : Between s.config s.me s.active 0 (2 * length s.active) s
+  pub between_of : Between s.config s.me s.active 0 (2 * length s.active) s
   unfolding R.rules R.settings_rule R.repeats_rule R.order_rule R.capacity_rule R.views_rule R.alive_rule R.few_rule R.joins_rule R.width_rule R.held_rule R.lists_under has up_after sent_after count
-  between-of =
+  between_of =
       let act = s.active in
       let pas = s.passive in
       let jks = keys s.joins in
@@ -340,7 +340,7 @@ module _ (s : Station) (e : station_ok s ≡ true) where
       let once-act : (x : ℕ) → count x act ≤ 1 = distinct_true act (and_left _ _ (rule 1)) in
       let once-pas : (x : ℕ) → count x pas ≤ 1 = distinct_true pas (and_left _ _ d1) in
       let once-jks : (x : ℕ) → count x jks ≤ 1 = rising_once jks (rising_true jks (and_left _ _ (and_right (rising (keys s.requests)) _ (rule 2)))) in
-      let once-ali : (x : ℕ) → count x s.alive ≤ 1 = rising_once s.alive law-of.alive_ok.rise in
+      let once-ali : (x : ℕ) → count x s.alive ≤ 1 = rising_once s.alive law_of.alive_ok.rise in
       let v1 = and_right (disjoint act pas) _ (rule 4) in
       let j1 = and_right (subset jks s.bootstrap) _ (rule 7) in
       let two : (x : ℕ) → count x act + count x pas ≤ 1 = (λ x. both_once _ _ (once-act x) (apart_true act pas (and_left _ _ (rule 4)) x) (once-pas x)) in
@@ -370,7 +370,7 @@ module _ (s : Station) (e : station_ok s ≡ true) where
           };
           tally = record { noted = λ x. omega arith; bound = omega arith };
         };
-        law = law-of;
-        narrow = narrow-of;
+        law = law_of;
+        narrow = narrow_of;
         covered = rule 15;
       }

@@ -22,38 +22,38 @@ use Rattle.spec_hyparview.specs.Sending as S
 use Rattle.spec_hyparview.specs.Refill as F
 use Rattle.spec_hyparview.specs.Timers as T
 use Rattle.base_lists.proofs.Members.{length_cut_to}
-use Rattle.spec_hyparview.proofs.Law.{Short, Small, ShortNodes, law-fill, law-recent, law-pace, law-alone, law-short}
+use Rattle.spec_hyparview.proofs.Law.{Short, Small, ShortNodes, law_fill, law_recent, law_pace, law_alone, law_short}
 use Rattle.spec_hyparview.proofs.Changes.{renew_all_recent}
 use Rattle.spec_hyparview.proofs.Told.{short_infos, length_infos}
 use Rattle.spec_hyparview.proofs.Invariant.{Fixed, Terms, calm, Ok}
-use Rattle.spec_hyparview.proofs.Keeping.{ten, ease, ok-either, ok-on, ok-shift, ok-fact, ok_claim, ok-draw, ok-draw-one, ok-one-of, ok-message, ok-quiet, draw_fine, emit_station}
-use Rattle.spec_hyparview.proofs.Sends.{one_node, no_node, many_nodes, ok-join, ok-refill, ok-start-refill}
-use Rattle.spec_hyparview.proofs.Passive.{ok-drop-passive}
-use Rattle.spec_hyparview.proofs.Leaving.{ok-clear-refused}
+use Rattle.spec_hyparview.proofs.Keeping.{ten, ease, ok_either, ok_on, ok_shift, ok_fact, ok_claim, ok_draw, ok_draw_one, ok_one_of, ok_message, ok_quiet, draw_fine, emit_station}
+use Rattle.spec_hyparview.proofs.Sends.{one_node, no_node, many_nodes, ok_join, ok_refill, ok_start_refill}
+use Rattle.spec_hyparview.proofs.Passive.{ok_drop_passive}
+use Rattle.spec_hyparview.proofs.Leaving.{ok_clear_refused}
 use Rattle.spec_hyparview.proofs.Entering.{unbar}
-use Rattle.spec_hyparview.proofs.Received.{ok_emit_all, ok-drop-join, ok-drop-request}
+use Rattle.spec_hyparview.proofs.Received.{ok_emit_all, ok_drop_join, ok_drop_request}
 
 module _ {q : Fixed} where
-  pub ok-neighbor-timer : {b d : ℕ} (p id : ℕ) {r : Run} → Ok q calm 1 (b + asking) (d + 1) r → Ok q calm 0 b d (T.handle_pending_neighbor_timer p id r)
+  pub ok_neighbor_timer : {b d : ℕ} (p id : ℕ) {r : Run} → Ok q calm 1 (b + asking) (d + 1) r → Ok q calm 0 b d (T.handle_pending_neighbor_timer p id r)
   unfolding T.handle_pending_neighbor_timer T.request_failed
-  ok-neighbor-timer p id k =
-      ok-either _ (ok-refill _ (ok-drop-passive p (ok-drop-request p (ease (omega arith) (omega arith) (omega arith) k)))) (ease (omega arith) (omega arith) (omega arith) k)
+  ok_neighbor_timer p id k =
+      ok_either _ (ok_refill _ (ok_drop_passive p (ok_drop_request p (ease (omega arith) (omega arith) (omega arith) k)))) (ease (omega arith) (omega arith) (omega arith) k)
 
-  pub ok-retry-join : {b d : ℕ} (p id : ℕ) {r : Run} → Ok q calm 1 (b + single) d r → Ok q calm 0 b d (T.retry_join p id r)
+  pub ok_retry_join : {b d : ℕ} (p id : ℕ) {r : Run} → Ok q calm 1 (b + single) d r → Ok q calm 0 b d (T.retry_join p id r)
   unfolding T.retry_join
-  ok-retry-join p id k =
-      ok-either _ (ok-join p (unbar (ok-drop-join p (ease (omega arith) (omega arith) (omega arith) k)))) (ease (omega arith) (omega arith) (omega arith) k)
+  ok_retry_join p id k =
+      ok_either _ (ok_join p (unbar (ok_drop_join p (ease (omega arith) (omega arith) (omega arith) k)))) (ease (omega arith) (omega arith) (omega arith) k)
 
 module _ {q : Fixed} {t : Terms} {m b d : ℕ} where
-  pub ok-schedule-shuffle : {r : Run} → Ok q t m (b + bare) (d + 1) r → Ok q t m b d (T.schedule_shuffle r)
+  pub ok_schedule_shuffle : {r : Run} → Ok q t m (b + bare) (d + 1) r → Ok q t m b d (T.schedule_shuffle r)
   unfolding T.schedule_shuffle T.double_interval
-  ok-schedule-shuffle {r} k =
-      ok-quiet _ bare (omega arith) (λ e. omega arith) (λ e. omega arith) (λ z w. no_node _ refl)
-      (ok-draw-one (ok-on _ (λ o h. h) (λ w. law-pace w (record { low = omega (arith, w.pace_ok.low, w.pace_ok.high); high = omega arith })) k))
+  ok_schedule_shuffle {r} k =
+      ok_quiet _ bare (omega arith) (λ e. omega arith) (λ e. omega arith) (λ z w. no_node _ refl)
+      (ok_draw_one (ok_on _ (λ o h. h) (λ w. law_pace w (record { low = omega (arith, w.pace_ok.low, w.pace_ok.high); high = omega arith })) k))
 
-  pub ok-schedule-maintenance : {r : Run} → Ok q t m (b + bare) d r → Ok q t m b d (T.schedule_maintenance r)
+  pub ok_schedule_maintenance : {r : Run} → Ok q t m (b + bare) d r → Ok q t m b d (T.schedule_maintenance r)
   unfolding T.schedule_maintenance
-  ok-schedule-maintenance k = ok-quiet _ bare (omega arith) (λ e. omega arith) (λ e. omega arith) (λ z w. no_node _ refl) k
+  ok_schedule_maintenance k = ok_quiet _ bare (omega arith) (λ e. omega arith) (λ e. omega arith) (λ z w. no_node _ refl) k
 
 short_more : (ns : List Node) (n : Node) → ShortNodes ns → Short n.data_of → ShortNodes (ns ++ (n ∷ []))
 unfolding ShortNodes
@@ -67,20 +67,20 @@ told_station f (p ∷ ps) r = told_station f ps (R.emit (f p) r) ∙ emit_statio
 
 module _ {q : Fixed} where
   -- a Shuffle of at most 31 peers and the station itself
-  pub ok-send-shuffle : {m b d : ℕ} (to : ℕ) (ps : List ℕ) {r : Run} → (r.code ≡ 0 → length ps ≤ 31) → Ok q calm (m + 1) (b + crowd) d r → Ok q calm m b d (T.send_shuffle to ps r)
+  pub ok_send_shuffle : {m b d : ℕ} (to : ℕ) (ps : List ℕ) {r : Run} → (r.code ≡ 0 → length ps ≤ 31) → Ok q calm (m + 1) (b + crowd) d r → Ok q calm m b d (T.send_shuffle to ps r)
   unfolding T.send_shuffle T.shuffle_nodes
-  ok-send-shuffle to ps {r} l k =
-      ok-message _ crowd refl (λ z o g w. many_nodes _ _ refl (short_more _ _ (short_infos r.station ps w.held_ok.shorts) w.own_ok)
+  ok_send_shuffle to ps {r} l k =
+      ok_message _ crowd refl (λ z o g w. many_nodes _ _ refl (short_more _ _ (short_infos r.station ps w.held_ok.shorts) w.own_ok)
       (omega (arith, l z, length_infos r.station ps, length-append (R.peer_infos r.station ps) (R.node r.station.me r.station.own_data ∷ [])))) k
 
-  pub ok-shuffle-with : {m b d : ℕ} (to : ℕ) {r : Run} → Ok q calm (m + 1) (b + crowd) (d + 38) r → Ok q calm m b d (T.shuffle_with to r)
+  pub ok_shuffle_with : {m b d : ℕ} (to : ℕ) {r : Run} → Ok q calm (m + 1) (b + crowd) (d + 38) r → Ok q calm m b d (T.shuffle_with to r)
   unfolding T.shuffle_with T.shuffle_passive R.draw_shuffle T.active_sample T.passive_sample
-  ok-shuffle-with {m} {b} {d} to {r} k =
+  ok_shuffle_with {m} {b} {d} to {r} k =
       let w = draw (shuffle_draws (R.to_draw r) (without to r.station.active)) r in
       let j : Ok q calm (m + 1) (b + crowd) (d + 31) w =
-      ok-draw {k = 7} _ (λ o g w. shuffle_costs 7 (R.to_draw r) (without to r.station.active) (omega (arith, length_without to r.station.active, g.seats.slots_left, g.still.ranges.few_slots)) (omega arith)) (ease (omega arith) (omega arith) (omega arith) k) in
-      ok-send-shuffle to _ (λ z. let y = draw_fine _ w z in
-      ok-fact (λ o g i. ok-fact (λ p h l. omega (
+      ok_draw {k = 7} _ (λ o g w. shuffle_costs 7 (R.to_draw r) (without to r.station.active) (omega (arith, length_without to r.station.active, g.seats.slots_left, g.still.ranges.few_slots)) (omega arith)) (ease (omega arith) (omega arith) (omega arith) k) in
+      ok_send_shuffle to _ (λ z. let y = draw_fine _ w z in
+      ok_fact (λ o g i. ok_fact (λ p h l. omega (
         arith,
         g.still.ranges.few_passive,
         h.still.ranges.few_active,
@@ -88,21 +88,21 @@ module _ {q : Fixed} where
         length_cut_to r.station.config.shuffle_active_view_count (R.shuffled (without to r.station.active) r),
         length_cut_to w.station.config.shuffle_passive_view_count (R.shuffled (without to w.station.passive) w),
       )) k (draw_fine _ r y)) j y)
-      (ok-draw {k = 31} _ (λ o g l. shuffle_costs 31 (R.to_draw w) (without to w.station.passive) (omega (arith, length_without to w.station.passive, g.seats.places_left, g.still.ranges.few_places)) (omega arith)) j)
+      (ok_draw {k = 31} _ (λ o g l. shuffle_costs 31 (R.to_draw w) (without to w.station.passive) (omega (arith, length_without to w.station.passive, g.seats.places_left, g.still.ranges.few_places)) (omega arith)) j)
 
   -- DoShuffle: 1
-  pub ok-shuffle-timer : {b d : ℕ} {r : Run} → Ok q calm 1 (b + (crowd + bare)) (d + 40) r → Ok q calm 0 b d (T.handle_shuffle_timer r)
+  pub ok_shuffle_timer : {b d : ℕ} {r : Run} → Ok q calm 1 (b + (crowd + bare)) (d + 40) r → Ok q calm 0 b d (T.handle_shuffle_timer r)
   unfolding T.handle_shuffle_timer T.shuffle_any
-  ok-shuffle-timer k =
-      ok-schedule-shuffle (ok-either _ (ease (omega arith) (omega arith) (omega arith) k) (ok-shuffle-with _ (ok-one-of _ (λ o g w. omega (arith, g.seats.slots_left, g.still.ranges.few_slots)) (ease (omega arith) (omega arith) (omega arith) k))))
+  ok_shuffle_timer k =
+      ok_schedule_shuffle (ok_either _ (ease (omega arith) (omega arith) (omega arith) k) (ok_shuffle_with _ (ok_one_of _ (λ o g w. omega (arith, g.seats.slots_left, g.still.ranges.few_slots)) (ease (omega arith) (omega arith) (omega arith) k))))
 
   -- a maintenance timer: 9
-  pub ok-rejoin : {b d : ℕ} {r : Run} → Ok q calm 9 (b + 9 * single) (d + 1) r → Ok q calm 0 b d (T.rejoin r)
+  pub ok_rejoin : {b d : ℕ} {r : Run} → Ok q calm 9 (b + 9 * single) (d + 1) r → Ok q calm 0 b d (T.rejoin r)
   unfolding T.rejoin T.rejoin_recent T.rejoin_bootstrap T.other_recent S.join_to
-  ok-rejoin {b} {d} {r} k =
+  ok_rejoin {b} {d} {r} k =
       let j : Ok q calm 1 (b + single) (d + 1) (T.rejoin_bootstrap r) =
-      ok_emit_all _ (λ x. refl) r.station.bootstrap (λ z p. ok-fact (λ o g w. one_node (S.join_to r.station.own_data p) _ refl w.own_ok) k z)
-      (ok-shift (λ o h. (
+      ok_emit_all _ (λ x. refl) r.station.bootstrap (λ z p. ok_fact (λ o g w. one_node (S.join_to r.station.own_data p) _ refl w.own_ok) k z)
+      (ok_shift (λ o h. (
         record {
           still = h.still;
           seats = h.seats;
@@ -111,11 +111,11 @@ module _ {q : Fixed} where
         },
         omega (arith, h.waits.few),
       )) k) in
-      ok-either _ (ease (omega arith) (omega arith) (omega arith) j) (ok-join _ (ok-one-of _ (λ o g w. omega (arith, length_without_all r.station.bootstrap r.station.recent, w.recent_ok.few, ap (λ (s : Station). length s.recent) (told_station (S.join_to r.station.own_data) r.station.bootstrap r))) j))
+      ok_either _ (ease (omega arith) (omega arith) (omega arith) j) (ok_join _ (ok_one_of _ (λ o g w. omega (arith, length_without_all r.station.bootstrap r.station.recent, w.recent_ok.few, ap (λ (s : Station). length s.recent) (told_station (S.join_to r.station.own_data) r.station.bootstrap r))) j))
 
-  pub ok-pass-alone : {b d : ℕ} {r : Run} → q.alone_kept ≡ false → Ok q calm 9 (b + 9 * single) (d + 1) r → Ok q calm 0 b d (T.pass_alone r)
+  pub ok_pass_alone : {b d : ℕ} {r : Run} → q.alone_kept ≡ false → Ok q calm 9 (b + 9 * single) (d + 1) r → Ok q calm 0 b d (T.pass_alone r)
   unfolding T.pass_alone T.rejoin_if_due T.count_alone T.alone_counts T.add_alone
-  ok-pass-alone {b} {d} {r} free k =
+  ok_pass_alone {b} {d} {r} free k =
       let j : Ok q calm 9 (b + 9 * single) (d + 1) (T.count_alone r) =
       ok_claim ten _ T.add_alone (λ z e o g w. (
         record {
@@ -129,28 +129,28 @@ module _ {q : Fixed} where
           waits = g.waits;
           tally = g.tally;
         },
-        law-alone w (record { high = omega (arith, ltb-true r.station.passes_alone top_passes e) }),
+        law_alone w (record { high = omega (arith, ltb-true r.station.passes_alone top_passes e) }),
       )) k in
-      ok-either _ (ok-rejoin j) (ease (omega arith) (omega arith) (omega arith) j)
+      ok_either _ (ok_rejoin j) (ease (omega arith) (omega arith) (omega arith) j)
 
-  pub ok-pass-short : {b d : ℕ} {r : Run} → Ok q calm 1 (b + asking) (d + 1) r → Ok q calm 0 b d (T.pass_short r)
+  pub ok_pass_short : {b d : ℕ} {r : Run} → Ok q calm 1 (b + asking) (d + 1) r → Ok q calm 0 b d (T.pass_short r)
   unfolding T.pass_short T.refill_if_due T.refill_anew T.count_short T.short_counts T.add_short Small
-  ok-pass-short {b} {d} {r} k =
+  ok_pass_short {b} {d} {r} k =
       let j : Ok q calm 1 (b + asking) (d + 1) (T.count_short r) =
-      ok_claim ten _ T.add_short (λ z e o g w. (g, law-short w (record { high = omega (arith, ltb-true r.station.passes_short top_passes e) }))) k in
-      ok-either _ (ease (omega arith) (omega arith) (omega arith) k)
-      (ok-either _ (ok-start-refill (requests_left 3) _ (omega arith) (ok-clear-refused j)) (ease (omega arith) (omega arith) (omega arith) j))
+      ok_claim ten _ T.add_short (λ z e o g w. (g, law_short w (record { high = omega (arith, ltb-true r.station.passes_short top_passes e) }))) k in
+      ok_either _ (ease (omega arith) (omega arith) (omega arith) k)
+      (ok_either _ (ok_start_refill (requests_left 3) _ (omega arith) (ok_clear_refused j)) (ease (omega arith) (omega arith) (omega arith) j))
 
-  pub ok-pass-known : {b d : ℕ} {r : Run} → Ok q calm 1 (b + asking) (d + 1) r → Ok q calm 0 b d (T.pass_known r)
+  pub ok_pass_known : {b d : ℕ} {r : Run} → Ok q calm 1 (b + asking) (d + 1) r → Ok q calm 0 b d (T.pass_known r)
   unfolding T.pass_known T.pass_neighbors Small
-  ok-pass-known k =
-      ok-either _ (ok-start-refill recovery _ tt k)
-      (ok-either _ (ok-pass-short k) (ok-clear-refused (ease (omega arith) (omega arith) (omega arith) k)))
+  ok_pass_known k =
+      ok_either _ (ok_start_refill recovery _ tt k)
+      (ok_either _ (ok_pass_short k) (ok_clear_refused (ease (omega arith) (omega arith) (omega arith) k)))
 
-  pub ok-not-alone : {m b d : ℕ} {r : Run} → q.alone_kept ≡ false → Ok q calm m b d r → Ok q calm m b d (on T.not_alone r)
+  pub ok_not_alone : {m b d : ℕ} {r : Run} → q.alone_kept ≡ false → Ok q calm m b d r → Ok q calm m b d (on T.not_alone r)
   unfolding T.not_alone F.end_recovery Small
-  ok-not-alone free k =
-      ok-on _ (λ o h. record {
+  ok_not_alone free k =
+      ok_on _ (λ o h. record {
         still = record {
           fixed = h.still.fixed;
           mine = h.still.mine;
@@ -160,10 +160,10 @@ module _ {q : Fixed} where
         seats = h.seats;
         waits = h.waits;
         tally = h.tally;
-      }) (λ w. law-fill (law-alone w (record { high = omega arith })) (by_choice Small _ (λ e. tt) (λ e. w.fill_ok))) k
+      }) (λ w. law_fill (law_alone w (record { high = omega arith })) (by_choice Small _ (λ e. tt) (λ e. w.fill_ok))) k
 
-  pub ok-maintenance-timer : {b d : ℕ} {r : Run} → q.alone_kept ≡ false → Ok q calm 9 (b + (bare + 9 * single)) (d + 1) r → Ok q calm 0 b d (T.handle_maintenance_timer r)
+  pub ok_maintenance_timer : {b d : ℕ} {r : Run} → q.alone_kept ≡ false → Ok q calm 9 (b + (bare + 9 * single)) (d + 1) r → Ok q calm 0 b d (T.handle_maintenance_timer r)
   unfolding T.handle_maintenance_timer T.maintain T.remember_all
-  ok-maintenance-timer {b} {d} {r} free k =
-      let j : Ok q calm 9 (b + (bare + 9 * single)) (d + 1) (on T.remember_all r) = ok-on _ (λ o h. h) (λ w. law-recent w (renew_all_recent _ _ w.recent_ok)) k in
-      ok-schedule-maintenance (ok-either _ (ok-pass-alone free (ease (omega arith) (omega arith) (omega arith) j)) (ok-pass-known (ok-not-alone free (ease (omega arith) (omega arith) (omega arith) j))))
+  ok_maintenance_timer {b} {d} {r} free k =
+      let j : Ok q calm 9 (b + (bare + 9 * single)) (d + 1) (on T.remember_all r) = ok_on _ (λ o h. h) (λ w. law_recent w (renew_all_recent _ _ w.recent_ok)) k in
+      ok_schedule_maintenance (ok_either _ (ok_pass_alone free (ease (omega arith) (omega arith) (omega arith) j)) (ok_pass_known (ok_not_alone free (ease (omega arith) (omega arith) (omega arith) j))))

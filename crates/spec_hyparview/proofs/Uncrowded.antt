@@ -14,7 +14,7 @@ use Rattle.base_lists.specs.Lists.{choose, is, count}
 use Rattle.base_lists.specs.Maps.{keys, has}
 use Rattle.base_lists.proofs.Choice.{by_choice, choose_yes, or_true, or_left, and_right, and_false}
 use Rattle.base_lists.proofs.Count.{is_self, is_split, count_append, count_snoc, count_shift, length_shift}
-use Rattle.base_lists.proofs.Maps.{length-keys}
+use Rattle.base_lists.proofs.Maps.{length_keys}
 use Rattle.base_util.proofs.Chances.{pick_below}
 use Rattle.base_peer.specs.Data.{Data, Node}
 use Rattle.record.specs.Kinds.{EventKind, Message, DoShuffle, DoMaintenance, PendingNeighborRequest, RetryJoin, PeerDisconnected, RequestJoin, UpdatePeerData, Quit, Pin}
@@ -36,7 +36,7 @@ use Rattle.spec_hyparview.proofs.Keeping.{one_of_station}
 use Rattle.spec_hyparview.proofs.Sends.{announce_station}
 use Rattle.spec_hyparview.proofs.Passive.{seen}
 use Rattle.spec_hyparview.proofs.Reading.{Readable, by_reading}
-use Rattle.spec_hyparview.proofs.Tested.{all_in_true, within_once, between-of}
+use Rattle.spec_hyparview.proofs.Tested.{all_in_true, within_once, between_of}
 use Rattle.spec_hyparview.proofs.Fits as Fit
 use Rattle.spec_hyparview.proofs.Fits.{Fits, or_so}
 
@@ -54,7 +54,7 @@ pub snug_few : {places : ℕ} (s : Station) → Snug [] places s → length s.pe
 unfolding data_peers count
 snug_few s h =
     let rest = s.passive ++ keys s.requests in
-    omega (arith, h.slots, h.fits, h.ranges.few_places, h.asked, length-keys s.peer_data, length-keys s.requests, length-append s.active rest, length-append s.passive (keys s.requests), shorter (keys s.peer_data) (data_peers s) (λ x. omega (arith, h.known x, count_append x s.active rest, count_append x s.passive (keys s.requests))))
+    omega (arith, h.slots, h.fits, h.ranges.few_places, h.asked, length_keys s.peer_data, length_keys s.requests, length-append s.active rest, length-append s.passive (keys s.requests), shorter (keys s.peer_data) (data_peers s) (λ x. omega (arith, h.known x, count_append x s.active rest, count_append x s.passive (keys s.requests))))
 
 -- of a run: it is not refused with 8, and its station is snug
 pub record Fine (loose : List ℕ) (places : ℕ) (r : Run) : Type 0 where
@@ -66,43 +66,43 @@ unfolding count
 loosen p s h = record { held = h.held; ranges = h.ranges; slots = h.slots; fits = h.fits; asked = h.asked; known = λ x. omega (arith, h.known x) }
 
 module _ {loose : List ℕ} {places : ℕ} where
-  fine-either : (test : Bool) {x y : Run} → (test ≡ true → Fine loose places x) → (test ≡ false → Fine loose places y) → Fine loose places (choose test x y)
-  fine-either test f g = by_choice (Fine loose places) test f g
+  fine_either : (test : Bool) {x y : Run} → (test ≡ true → Fine loose places x) → (test ≡ false → Fine loose places y) → Fine loose places (choose test x y)
+  fine_either test f g = by_choice (Fine loose places) test f g
 
-  fine-guard : {lo : List ℕ} {pl : ℕ} {r after : Run} → Fine lo pl r → (r.code ≡ 0 → Fine loose places after) → Fine loose places (guard r after)
+  fine_guard : {lo : List ℕ} {pl : ℕ} {r after : Run} → Fine lo pl r → (r.code ≡ 0 → Fine loose places after) → Fine loose places (guard r after)
   unfolding guard
-  fine-guard {r = r} h f =
-      fine-either (eqb r.code 0) (λ e. f (eqb-true r.code 0 e)) (λ e. record { clear = h.clear; snug = λ z. absurd (eqb-false r.code 0 e z) })
+  fine_guard {r = r} h f =
+      fine_either (eqb r.code 0) (λ e. f (eqb-true r.code 0 e)) (λ e. record { clear = h.clear; snug = λ z. absurd (eqb-false r.code 0 e z) })
 
-  fine-on : {lo : List ℕ} {pl : ℕ} (f : Station → Station) {r : Run} → (Snug lo pl r.station → Snug loose places (f r.station)) → Fine lo pl r → Fine loose places (on f r)
+  fine_on : {lo : List ℕ} {pl : ℕ} (f : Station → Station) {r : Run} → (Snug lo pl r.station → Snug loose places (f r.station)) → Fine lo pl r → Fine loose places (on f r)
   unfolding on
-  fine-on f g h = fine-guard h (λ z. record { clear = h.clear; snug = λ y. g (h.snug z) })
+  fine_on f g h = fine_guard h (λ z. record { clear = h.clear; snug = λ y. g (h.snug z) })
 
-  fine-map : {lo : List ℕ} {pl : ℕ} {r : Run} → (Snug lo pl r.station → Snug loose places r.station) → Fine lo pl r → Fine loose places r
-  fine-map g h = record { clear = h.clear; snug = λ z. g (h.snug z) }
+  fine_map : {lo : List ℕ} {pl : ℕ} {r : Run} → (Snug lo pl r.station → Snug loose places r.station) → Fine lo pl r → Fine loose places r
+  fine_map g h = record { clear = h.clear; snug = λ z. g (h.snug z) }
 
-  fine-draw : (n : ℕ) {r : Run} → Fine loose places r → Fine loose places (draw n r)
+  fine_draw : (n : ℕ) {r : Run} → Fine loose places r → Fine loose places (draw n r)
   unfolding draw
-  fine-draw n h =
-      fine-guard h (λ z. fine-either _ (λ e. record { clear = h.clear; snug = h.snug }) (λ e. record { clear = λ y. omega arith; snug = λ y. absurd (omega arith) }))
+  fine_draw n h =
+      fine_guard h (λ z. fine_either _ (λ e. record { clear = h.clear; snug = h.snug }) (λ e. record { clear = λ y. omega arith; snug = λ y. absurd (omega arith) }))
 
-  fine-draw-one-of : (n : ℕ) {r : Run} → Fine loose places r → Fine loose places (draw_one_of n r)
+  fine_draw_one_of : (n : ℕ) {r : Run} → Fine loose places r → Fine loose places (draw_one_of n r)
   unfolding draw_one_of
-  fine-draw-one-of n h = fine-draw _ h
+  fine_draw_one_of n h = fine_draw _ h
 
-  fine-emit : (e : Rec) {r : Run} → Fine loose places r → Fine loose places (emit e r)
+  fine_emit : (e : Rec) {r : Run} → Fine loose places r → Fine loose places (emit e r)
   unfolding emit
-  fine-emit e h =
-      fine-guard h (λ z. fine-either _ (λ f. record { clear = h.clear; snug = h.snug }) (λ f. record { clear = λ y. omega arith; snug = λ y. absurd (omega arith) }))
+  fine_emit e h =
+      fine_guard h (λ z. fine_either _ (λ f. record { clear = h.clear; snug = h.snug }) (λ f. record { clear = λ y. omega arith; snug = λ y. absurd (omega arith) }))
 
-  fine-announce : (p : ℕ) (b : List ℕ) {r : Run} → Fine loose places r → Fine loose places (P.announce_data p b r)
+  fine_announce : (p : ℕ) (b : List ℕ) {r : Run} → Fine loose places r → Fine loose places (P.announce_data p b r)
   unfolding P.announce_data
-  fine-announce p b h = fine-either _ (λ e. h) (λ e. fine-emit _ h)
+  fine_announce p b h = fine_either _ (λ e. h) (λ e. fine_emit _ h)
 
-  fine-tell : (x : Option ℕ) {r : Run} → Fine loose places r → Fine loose places (P.tell_evicted x r)
+  fine_tell : (x : Option ℕ) {r : Run} → Fine loose places r → Fine loose places (P.tell_evicted x r)
   unfolding P.tell_evicted
-  fine-tell none h = h
-  fine-tell (some p) h = fine-emit _ h
+  fine_tell none h = h
+  fine_tell (some p) h = fine_emit _ h
 
 -- the data of a peer that may be in no view yet
 stored : (p : ℕ) (b : List ℕ) (s : Station) → eqb p s.me ≡ false → length b ≤ 16 → Snug [] 0 s → Snug (p ∷ []) 0 (P.store_data p b s)
@@ -122,15 +122,15 @@ fine_keep p b {r} n l h =
     let s = r.station in
     by_choice (λ (w : Run). Fine (p ∷ []) 0 (on (P.store_data p b) w)) (eqb r.code 0)
     (λ e. rw (choose_yes (has p s.peer_data || ltb (length s.peer_data) 80) r (with_code 8 r) (or_so (has p s.peer_data) _ (lt-ltb (length s.peer_data) 80 (omega (arith, snug_few s (h.snug (eqb-true r.code 0 e)))))))
-    (fine-on (P.store_data p b) (stored p b s n l) h))
-    (λ e. fine-on (P.store_data p b) (stored p b s n l) h)
+    (fine_on (P.store_data p b) (stored p b s n l) h))
+    (λ e. fine_on (P.store_data p b) (stored p b s n l) h)
 
 fine_insert : (p : ℕ) (d : Data) {r : Run} → Short d → Fine [] 0 r → Fine (p ∷ []) 0 (P.insert_peer_info p d r)
 unfolding P.insert_peer_info P.insert_data P.is_known is_me Short
-fine_insert p none {r} l h = fine-map (loosen p r.station) h
+fine_insert p none {r} l h = fine_map (loosen p r.station) h
 fine_insert p (some b) {r} l h =
-    fine-either _ (λ e. fine-map (loosen p r.station) h)
-    (λ e. fine_keep p b (subst (λ (s : Station). eqb p s.me ≡ false) (sym (announce_station p b r)) (or_left (eqb p r.station.me) _ e)) l (fine-announce p b h))
+    fine_either _ (λ e. fine_map (loosen p r.station) h)
+    (λ e. fine_keep p b (subst (λ (s : Station). eqb p s.me ≡ false) (sym (announce_station p b r)) (or_left (eqb p r.station.me) _ e)) l (fine_announce p b h))
 
 -- an entry of a peer that is in a view is known by it
 in_view_known : {places : ℕ} (p : ℕ) (loose : List ℕ) (s : Station) → 1 ≤ count p s.active + count p s.passive → Snug (p ∷ loose) places s → Snug loose places s
@@ -149,8 +149,8 @@ in_view_known p loose s v h = record {
 fine_forget : {places : ℕ} (p : ℕ) (loose : List ℕ) {r : Run} → Fine (p ∷ loose) places r → Fine loose places (P.forget_peer p r)
 unfolding P.forget_peer P.drop_traces P.drop_mark P.drop_data count
 fine_forget p loose {r} h =
-    fine-either (in_view p r.station) (λ e. fine-map (in_view_known p loose r.station (seen p r.station e)) h)
-    (λ e. fine-on (P.drop_traces p) (λ g. record {
+    fine_either (in_view p r.station) (λ e. fine_map (in_view_known p loose r.station (seen p r.station e)) h)
+    (λ e. fine_on (P.drop_traces p) (λ g. record {
       held = cut_held p g.held;
       ranges = g.ranges;
       slots = g.slots;
@@ -163,7 +163,7 @@ fine_evict : (i : ℕ) (loose : List ℕ) {r : Run} → i < length r.station.pas
 unfolding P.evict_at P.shift_passive count
 fine_evict i loose {r} l h =
     fine_forget (get_or r.station.passive i 0) loose
-    (fine-on (P.shift_passive i) (λ g. record {
+    (fine_on (P.shift_passive i) (λ g. record {
       held = g.held;
       ranges = g.ranges;
       slots = g.slots;
@@ -177,9 +177,9 @@ unfolding P.evict P.must_evict passive_is_full one_of
 fine_evicted loose {r} h =
     let pas = r.station.passive in
     let cap = r.station.config.passive_view_capacity in
-    fine-either _
-    (λ e. fine_evict _ loose (rw (one_of_station (length pas) r) (pick_below (length pas) (to_draw r) (null_no pas (not-true _ (and_right (leb cap (length pas)) _ e))))) (fine-draw-one-of _ h))
-    (λ e. fine-map (λ g. record {
+    fine_either _
+    (λ e. fine_evict _ loose (rw (one_of_station (length pas) r) (pick_below (length pas) (to_draw r) (null_no pas (not-true _ (and_right (leb cap (length pas)) _ e))))) (fine_draw_one_of _ h))
+    (λ e. fine_map (λ g. record {
       held = g.held;
       ranges = g.ranges;
       slots = g.slots;
@@ -190,7 +190,7 @@ fine_evicted loose {r} h =
 
 fine_make_room : (loose : List ℕ) {r : Run} → Fine loose 0 r → Fine loose 1 (P.make_room r)
 unfolding P.make_room
-fine_make_room loose {r} h = fine-tell (P.evicted r) (fine_evicted loose h)
+fine_make_room loose {r} h = fine_tell (P.evicted r) (fine_evicted loose h)
 
 -- a peer in a view, or the station itself, of which no data is held
 known_now : (p : ℕ) (s : Station) → P.is_newcomer p s ≡ false → Snug (p ∷ []) 0 s → Snug [] 0 s
@@ -212,8 +212,8 @@ known_now p s e g =
 fine_enter : (p : ℕ) {r : Run} → Fine (p ∷ []) 0 r → Fine [] 0 (P.enter_passive p r)
 unfolding P.enter_passive P.push_passive count
 fine_enter p {r} h =
-    fine-either (P.is_newcomer p r.station)
-    (λ e. let w = P.make_room r in fine-on (P.push_passive p) (λ g. record {
+    fine_either (P.is_newcomer p r.station)
+    (λ e. let w = P.make_room r in fine_on (P.push_passive p) (λ g. record {
       held = g.held;
       ranges = g.ranges;
       slots = g.slots;
@@ -221,7 +221,7 @@ fine_enter p {r} h =
       asked = g.asked;
       known = λ x. omega (arith, g.known x, count_snoc x w.station.passive p);
     }) (fine_make_room (p ∷ []) h))
-    (λ e. fine-map (known_now p r.station e) h)
+    (λ e. fine_map (known_now p r.station e) h)
 
 pub fine_add_nodes : (ns : List Node) {r : Run} → ShortNodes ns → Fine [] 0 r → Fine [] 0 (P.add_nodes ns r)
 unfolding P.add_nodes P.add_passive ShortNodes
@@ -233,47 +233,47 @@ fine_fits {r} h = record { clear = h.clear; left = λ z. omega (arith, snug_few 
 
 -- the whole event
 module _ (e : Rec) (w : Readable e) {r : Run} (h : Fine [] 0 r) where
-  fit-message : Fits 0 (H.handle_message e r)
+  fit_message : Fits 0 (H.handle_message e r)
   unfolding H.handle_message M.on_shuffle M.answer_shuffle M.forward_shuffle M.on_shuffle_reply M.after_reply M.refill_with
-  fit-message =
+  fit_message =
       let i = fine_fits h in
-      let j : Fits 0 (P.add_nodes e.nodes r) = Fit.fit-less (omega arith) (fine_fits (fine_add_nodes e.nodes w.shorts h)) in
-      Fit.fit-either _ (Fit.fit-on-join _ _ (Fit.fit-less (omega arith) i))
-      (Fit.fit-either _ (Fit.fit-on-forward-join _ _ _ (Fit.fit-less (omega arith) i))
-      (Fit.fit-either _ (Fit.fit-either _ (Fit.fit-send-shuffle-reply _ _ j) (Fit.fit-either _ (Fit.fit-less (omega arith) i) (Fit.fit-emit _ (Fit.fit-draw-one-of _ (Fit.fit-less (omega arith) i)))))
-      (Fit.fit-either _ (Fit.fit-either _ j (Fit.fit-either _ (Fit.fit-start-refill _ _ j) (Fit.fit-refill _ j)))
-      (Fit.fit-either _ (Fit.fit-on-neighbor _ _ _ (Fit.fit-less (omega arith) i)) (Fit.fit-on-disconnect _ _ (Fit.fit-less (omega arith) i))))))
+      let j : Fits 0 (P.add_nodes e.nodes r) = Fit.fit_less (omega arith) (fine_fits (fine_add_nodes e.nodes w.shorts h)) in
+      Fit.fit_either _ (Fit.fit_on_join _ _ (Fit.fit_less (omega arith) i))
+      (Fit.fit_either _ (Fit.fit_on_forward_join _ _ _ (Fit.fit_less (omega arith) i))
+      (Fit.fit_either _ (Fit.fit_either _ (Fit.fit_send_shuffle_reply _ _ j) (Fit.fit_either _ (Fit.fit_less (omega arith) i) (Fit.fit_emit _ (Fit.fit_draw_one_of _ (Fit.fit_less (omega arith) i)))))
+      (Fit.fit_either _ (Fit.fit_either _ j (Fit.fit_either _ (Fit.fit_start_refill _ _ j) (Fit.fit_refill _ j)))
+      (Fit.fit_either _ (Fit.fit_on_neighbor _ _ _ (Fit.fit_less (omega arith) i)) (Fit.fit_on_disconnect _ _ (Fit.fit_less (omega arith) i))))))
 
   fit_none : Fits 0 r
-  fit_none = Fit.fit-less (omega arith) (fine_fits h)
+  fit_none = Fit.fit_less (omega arith) (fine_fits h)
 
-  fit-kind : (k : EventKind) → Fits 0 (H.handle_kind (some k) e r)
+  fit_kind : (k : EventKind) → Fits 0 (H.handle_kind (some k) e r)
   unfolding H.handle_kind
-  fit-kind Message = fit-message
-  fit-kind DoShuffle = Fit.fit-shuffle-timer fit_none
-  fit-kind DoMaintenance = Fit.fit-maintenance-timer fit_none
-  fit-kind PendingNeighborRequest = Fit.fit-neighbor-timer _ _ fit_none
-  fit-kind RetryJoin = Fit.fit-retry-join _ _ fit_none
-  fit-kind PeerDisconnected = Fit.fit-closed _ (Fit.fit-less (omega arith) (fine_fits h))
-  fit-kind RequestJoin = Fit.fit-handle-join _ fit_none
-  fit-kind UpdatePeerData = Fit.fit-update _ fit_none
-  fit-kind Quit = Fit.fit-quit fit_none
-  fit-kind Pin = Fit.fit-pin _ fit_none
+  fit_kind Message = fit_message
+  fit_kind DoShuffle = Fit.fit_shuffle_timer fit_none
+  fit_kind DoMaintenance = Fit.fit_maintenance_timer fit_none
+  fit_kind PendingNeighborRequest = Fit.fit_neighbor_timer _ _ fit_none
+  fit_kind RetryJoin = Fit.fit_retry_join _ _ fit_none
+  fit_kind PeerDisconnected = Fit.fit_closed _ (Fit.fit_less (omega arith) (fine_fits h))
+  fit_kind RequestJoin = Fit.fit_handle_join _ fit_none
+  fit_kind UpdatePeerData = Fit.fit_update _ fit_none
+  fit_kind Quit = Fit.fit_quit fit_none
+  fit_kind Pin = Fit.fit_pin _ fit_none
 
-  fit-dispatch : Fits 0 (H.dispatch e r)
+  fit_dispatch : Fits 0 (H.dispatch e r)
   unfolding H.dispatch
-  fit-dispatch = by_kind (λ (o : Option EventKind). Fits 0 (H.handle_kind o e r)) e.kind (λ _. fit_none) (λ k _. fit-kind k)
+  fit_dispatch = by_kind (λ (o : Option EventKind). Fits 0 (H.handle_kind o e r)) e.kind (λ _. fit_none) (λ k _. fit_kind k)
 
-  fit-steps : Fits 0 (steps e r)
+  fit_steps : Fits 0 (steps e r)
   unfolding steps
-  fit-steps = Fit.fit-declined (Fit.fit-first-timers fit-dispatch)
+  fit_steps = Fit.fit_declined (Fit.fit_first_timers fit_dispatch)
 
 -- a station that keeps the rules is snug
 module _ (s : Station) (ok : station_ok s ≡ true) (ds : List ℕ) (room : ℕ) where
-  fine-start : Fine [] 0 (start s ds room)
+  fine_start : Fine [] 0 (start s ds room)
   unfolding data_peers count
-  fine-start =
-      let b = between-of s ok in
+  fine_start =
+      let b = between_of s ok in
       record {
         clear = λ z. omega arith;
         snug = λ z. record {
@@ -293,4 +293,4 @@ module _ (s : Station) (ok : station_ok s ≡ true) (ds : List ℕ) (room : ℕ)
       rw (choose_yes (station_ok s) (handle_reading (read_event b) s ds room) (refusal 2 s room) ok)
       (by_reading b bytes (λ (x : Reading). (handle_reading x s ds room).code ≡ 8 → ⊥)
       (λ c l m z. omega arith)
-      (λ w. let r = steps _ (start s ds room) in by_choice (λ (a : Result). a.code ≡ 8 → ⊥) (eqb r.code 0) (λ e z. omega arith) (λ e z. (fit-steps _ w fine-start).clear z)))
+      (λ w. let r = steps _ (start s ds room) in by_choice (λ (a : Result). a.code ≡ 8 → ⊥) (eqb r.code 0) (λ e z. omega arith) (λ e z. (fit_steps _ w fine_start).clear z)))

@@ -23,7 +23,7 @@ use Rattle.spec_hyparview.specs.Handle.{start}
 use Rattle.base_lists.proofs.Members.{null_yes}
 use Rattle.spec_hyparview.proofs.Keeping.{one_of_station, emit_station}
 use Rattle.spec_hyparview.proofs.Entering.{on_same, same_after_info}
-use Rattle.spec_hyparview.proofs.Tested.{between-of}
+use Rattle.spec_hyparview.proofs.Tested.{between_of}
 
 -- what goes into the passive view leaves the active view alone
 abbrev neighbours : Station → List ℕ
@@ -65,7 +65,7 @@ learn_keeps n ttl r =
 others : (s : Station) → station_ok s ≡ true → (from : ℕ) → is_last_hop s ≡ false → null (without from s.active) ≡ false
 unfolding is_last_hop count
 others s e from l =
-    let h = (between-of s e).core in
+    let h = (between_of s e).core in
     split (null (without from s.active))
     (λ n. absurd (omega (arith, null_yes (without from s.active) n, length_without from s.active, h.seats.one from, leb-false (length s.active) 1 l)))
     (λ n. n)

@@ -19,14 +19,14 @@ use Rattle.spec_hyparview.specs.Written.{WritesRecords}
 use Rattle.spec_hyparview.specs.Evictions.{evictions, Names, NamesEvictions}
 use Rattle.spec_hyparview.proofs.Narrow.{Narrow}
 use Rattle.spec_hyparview.proofs.Formed.{Formed, Draws, nothing_spelled, nothing_told}
-use Rattle.spec_hyparview.proofs.FormedWhole.{formed-steps}
+use Rattle.spec_hyparview.proofs.FormedWhole.{formed_steps}
 use Rattle.spec_hyparview.proofs.Reading.{Readable, by_form}
-use Rattle.spec_hyparview.proofs.Tested.{all_true, between-of}
+use Rattle.spec_hyparview.proofs.Tested.{all_true, between_of}
 
 -- the run of an event in form, from a station that keeps to its widths
 pub formed_event : (s : Station) → Narrow s → (ds : List ℕ) (room : ℕ) (e : Rec) → Readable e → InForm e → Formed ds (evictions e (start s ds room)) (steps e (start s ds room))
 formed_event s n ds room e w f =
-    formed-steps e f w.few (record { lent = λ i. ds; narrow = n; spelled = λ d. nothing_spelled; told = λ d z. nothing_told })
+    formed_steps e f w.few (record { lent = λ i. ds; narrow = n; spelled = λ d. nothing_spelled; told = λ d z. nothing_told })
 
 named_run : (s : Station) (r : Run) {ds es : List ℕ} → Formed ds es r → Draws ds → (finish s r).code ≡ 0 → Names es (finish s r).output
 unfolding finish accepted refusal
@@ -50,7 +50,7 @@ names_evictions s ok b bytes ds narrow room =
     rw (choose_yes (station_ok s) (handle_reading (read_event b) s ds room) (refusal 2 s room) ok)
     (by_form b bytes (λ (x : Reading). (handle_reading x s ds room).code ≡ 0 → Names (evictions (rec_of b) (start s ds room)) (handle_reading x s ds room).output)
     (λ c l h e. absurd (omega (arith, e)))
-    (λ w f. named_run s _ (formed_event s (between-of s ok).narrow ds room _ w f) (all_true draws_end ds narrow)))
+    (λ w f. named_run s _ (formed_event s (between_of s ok).narrow ds room _ w f) (all_true draws_end ds narrow)))
 
 -- The output of every accepted call is records in form, which read back, and zeroes.
 pub writes_records : WritesRecords

@@ -30,15 +30,15 @@ times_append h (x ∷ xs) ys = omega (arith, times_append h xs ys)
 
 -- one event in front of each
 module _ (x e : Event) (xs : History) where
-  times-here : (hs : List History) → same x e ≡ true → times (x ∷ xs) (map (λ h. e ∷ h) hs) ≡ times xs hs
+  times_here : (hs : List History) → same x e ≡ true → times (x ∷ xs) (map (λ h. e ∷ h) hs) ≡ times xs hs
   unfolding times same_events
-  times-here [] t = refl
-  times-here (g ∷ hs) t = rw t (ap (λ (n : ℕ). choose (same_events xs g) 1 0 + n) (times-here hs t))
+  times_here [] t = refl
+  times_here (g ∷ hs) t = rw t (ap (λ (n : ℕ). choose (same_events xs g) 1 0 + n) (times_here hs t))
 
-  times-other : (hs : List History) → same x e ≡ false → times (x ∷ xs) (map (λ h. e ∷ h) hs) ≡ 0
+  times_other : (hs : List History) → same x e ≡ false → times (x ∷ xs) (map (λ h. e ∷ h) hs) ≡ 0
   unfolding times same_events choose
-  times-other [] f = refl
-  times-other (g ∷ hs) f = rw f (omega (arith, times-other hs f))
+  times_other [] f = refl
+  times_other (g ∷ hs) f = rw f (omega (arith, times_other hs f))
 
 times_none : (e : Event) (hs : List History) → times [] (map (λ h. e ∷ h) hs) ≡ 0
 unfolding times same_events choose
@@ -56,7 +56,7 @@ module _ (x : Event) (xs : History) (hs : List History) where
   unfolding each times among
   outside [] f = refl
   outside (e ∷ es) f =
-      omega (arith, times_append (x ∷ xs) (map (λ h. e ∷ h) hs) (each es hs), times-other x e xs hs (or_left (same x e) _ f), outside es (or_right (same x e) _ f))
+      omega (arith, times_append (x ∷ xs) (map (λ h. e ∷ h) hs) (each es hs), times_other x e xs hs (or_left (same x e) _ f), outside es (or_right (same x e) _ f))
 
   -- x is one of them
   inside : (es : List Event) → differ es ≡ true → among x es ≡ true → times (x ∷ xs) (each es hs) ≡ times xs hs
@@ -66,9 +66,9 @@ module _ (x : Event) (xs : History) (hs : List History) where
       let sum = times_append (x ∷ xs) (map (λ h. e ∷ h) hs) (each es hs) in
       split (same x e)
       (λ s. let gone : among x es ≡ false = split (among x es) (λ a. not_yes (among e es) (and_left (not (among e es)) _ d) (subst (λ (y : Event). among y es ≡ true) (same_true x e s) a)) (λ a. a) in
-      omega (arith, sum, times-here x e xs hs s, outside es gone))
+      omega (arith, sum, times_here x e xs hs s, outside es gone))
       (λ s. let there : among x es ≡ true = or_true (same x e) (among x es) t (λ y. clash (same x e) y s) (λ y. y) in
-      omega (arith, sum, times-other x e xs hs s, inside es (and_right (not (among e es)) _ d) there))
+      omega (arith, sum, times_other x e xs hs s, inside es (and_right (not (among e es)) _ d) there))
 
 module _ (es : List Event) (d : differ es ≡ true) where
   -- a history of n events
@@ -89,13 +89,13 @@ module _ (es : List Event) (d : differ es ≡ true) where
       split (among x es) (λ t. inside x xs (of_length es n) es d t ∙ other_length n xs (λ e. f (ap suc e))) (λ t. outside x xs (of_length es n) es t)
 
   -- one with what is no event
-  no-event : (n : ℕ) (h : History) → every (λ e. among e es) h ≡ false → times h (of_length es n) ≡ 0
+  no_event : (n : ℕ) (h : History) → every (λ e. among e es) h ≡ false → times h (of_length es n) ≡ 0
   unfolding of_length times same_events every choose
-  no-event n [] f = clash true refl f
-  no-event zero (x ∷ xs) f = refl
-  no-event (suc n) (x ∷ xs) f =
+  no_event n [] f = clash true refl f
+  no_event zero (x ∷ xs) f = refl
+  no_event (suc n) (x ∷ xs) f =
       split (among x es)
-      (λ t. inside x xs (of_length es n) es d t ∙ no-event n xs (rw (sym (and_yes (among x es) (every (λ e. among e es) xs) t)) f))
+      (λ t. inside x xs (of_length es n) es d t ∙ no_event n xs (rw (sym (and_yes (among x es) (every (λ e. among e es) xs) t)) f))
       (λ t. outside x xs (of_length es n) es t)
 
   too_long : (n : ℕ) (h : History) → n < length h → times h (up_to es n) ≡ 0
@@ -103,10 +103,10 @@ module _ (es : List Event) (d : differ es ≡ true) where
   too_long zero h l = other_length zero h (λ e. omega (arith, e))
   too_long (suc n) h l = omega (arith, times_append h (up_to es n) (of_length es (suc n)), too_long n h (omega arith), other_length (suc n) h (λ e. omega (arith, e)))
 
-  no-events : (n : ℕ) (h : History) → every (λ e. among e es) h ≡ false → times h (up_to es n) ≡ 0
+  no_events : (n : ℕ) (h : History) → every (λ e. among e es) h ≡ false → times h (up_to es n) ≡ 0
   unfolding up_to
-  no-events zero h f = no-event zero h f
-  no-events (suc n) h f = omega (arith, times_append h (up_to es n) (of_length es (suc n)), no-events n h f, no-event (suc n) h f)
+  no_events zero h f = no_event zero h f
+  no_events (suc n) h f = omega (arith, times_append h (up_to es n) (of_length es (suc n)), no_events n h f, no_event (suc n) h f)
 
   one_time : (n : ℕ) (h : History) → length h ≤ n → every (λ e. among e es) h ≡ true → times h (up_to es n) ≡ 1
   unfolding up_to
@@ -117,12 +117,12 @@ module _ (es : List Event) (d : differ es ≡ true) where
       (λ y. let gt = leb-false (length h) n y in omega (arith, sum, too_long n h gt, hit (suc n) h (omega (arith, gt)) t))
 
   -- "Each is proved to appear exactly one time", and nothing else does
-  pub exactly-once : (n : ℕ) (h : History) → times h (up_to es n) ≡ choose (is_history es n h) 1 0
+  pub exactly_once : (n : ℕ) (h : History) → times h (up_to es n) ≡ choose (is_history es n h) 1 0
   unfolding is_history
-  exactly-once n h =
+  exactly_once n h =
       split (leb (length h) n && every (λ e. among e es) h)
       (λ t. one_time n h (leb-true (length h) n (and_left (leb (length h) n) _ t)) (and_right (leb (length h) n) _ t) ∙ sym (choose_yes _ 1 0 t))
-      (λ t. and_false (leb (length h) n) _ t (λ f. too_long n h (leb-false (length h) n f)) (λ f. no-events n h f) ∙ sym (choose_no _ 1 0 t))
+      (λ t. and_false (leb (length h) n) _ t (λ f. too_long n h (leb-false (length h) n f)) (λ f. no_events n h f) ∙ sym (choose_no _ 1 0 t))
 
 -- how many there are
 length_each : (es : List Event) (hs : List History) → length (each es hs) ≡ length es * length hs
@@ -138,8 +138,8 @@ length_of_length es n = length_each es (of_length es n)
 
 -- "69,905 in all", of sixteen events
 module _ (es : List Event) (sixteen : length es ≡ 16) where
-  times-16 : (n : ℕ) → length (of_length es (suc n)) ≡ 16 * length (of_length es n)
-  times-16 n = length_of_length es n ∙ ap (λ (k : ℕ). k * length (of_length es n)) sixteen
+  times_16 : (n : ℕ) → length (of_length es (suc n)) ≡ 16 * length (of_length es n)
+  times_16 n = length_of_length es n ∙ ap (λ (k : ℕ). k * length (of_length es n)) sixteen
 
   pub how_many : length (up_to es 4) ≡ 69905
   unfolding up_to of_length
@@ -148,4 +148,4 @@ module _ (es : List Event) (sixteen : length es ≡ 16) where
       let three = length-append (up_to es 2) (of_length es 3) in
       let two = length-append (up_to es 1) (of_length es 2) in
       let one = length-append (up_to es 0) (of_length es 1) in
-      omega (arith, all, three, two, one, times-16 0, times-16 1, times-16 2, times-16 3)
+      omega (arith, all, three, two, one, times_16 0, times_16 1, times_16 2, times_16 3)

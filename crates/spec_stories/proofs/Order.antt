@@ -101,54 +101,54 @@ module _ (e : Event) (pre es : List Event) (d : differ (pre ++ (e ∷ es)) ≡ t
 -- ---- of one length
 
 module _ (all : List Event) (e : Event) where
-  earlier-behind : (g h : History) → earlier all g h ≡ true → earlier all (e ∷ g) (e ∷ h) ≡ true
+  earlier_behind : (g h : History) → earlier all g h ≡ true → earlier all (e ∷ g) (e ∷ h) ≡ true
   unfolding earlier
-  earlier-behind g h t = or_then (ltb (place_of e all) (place_of e all)) _ (both_true (same e e) _ (same_refl e) t)
+  earlier_behind g h t = or_then (ltb (place_of e all) (place_of e all)) _ (both_true (same e e) _ (same_refl e) t)
 
-  every-behind : (g : History) (hs : List History) → every (earlier all g) hs ≡ true → every (earlier all (e ∷ g)) (map (λ h. e ∷ h) hs) ≡ true
+  every_behind : (g : History) (hs : List History) → every (earlier all g) hs ≡ true → every (earlier all (e ∷ g)) (map (λ h. e ∷ h) hs) ≡ true
   unfolding every
-  every-behind g [] t = refl
-  every-behind g (h ∷ hs) t =
-      both_true (earlier all (e ∷ g) (e ∷ h)) _ (earlier-behind g h (and_left (earlier all g h) _ t)) (every-behind g hs (and_right (earlier all g h) _ t))
+  every_behind g [] t = refl
+  every_behind g (h ∷ hs) t =
+      both_true (earlier all (e ∷ g) (e ∷ h)) _ (earlier_behind g h (and_left (earlier all g h) _ t)) (every_behind g hs (and_right (earlier all g h) _ t))
 
-  ordered-behind : (hs : List History) → ordered (earlier all) hs ≡ true → ordered (earlier all) (map (λ h. e ∷ h) hs) ≡ true
+  ordered_behind : (hs : List History) → ordered (earlier all) hs ≡ true → ordered (earlier all) (map (λ h. e ∷ h) hs) ≡ true
   unfolding ordered
-  ordered-behind [] t = refl
-  ordered-behind (h ∷ hs) t =
-      both_true (every (earlier all (e ∷ h)) (map (λ h. e ∷ h) hs)) _ (every-behind h hs (and_left (every (earlier all h) hs) _ t)) (ordered-behind hs (and_right (every (earlier all h) hs) _ t))
+  ordered_behind [] t = refl
+  ordered_behind (h ∷ hs) t =
+      both_true (every (earlier all (e ∷ h)) (map (λ h. e ∷ h) hs)) _ (every_behind h hs (and_left (every (earlier all h) hs) _ t)) (ordered_behind hs (and_right (every (earlier all h) hs) _ t))
 
   -- what starts with a later event comes later
-  before-later : (g : History) (y : Event) (hs : List History) → place_of e all < place_of y all → every (earlier all (e ∷ g)) (map (λ h. y ∷ h) hs) ≡ true
+  before_later : (g : History) (y : Event) (hs : List History) → place_of e all < place_of y all → every (earlier all (e ∷ g)) (map (λ h. y ∷ h) hs) ≡ true
   unfolding every earlier
-  before-later g y [] l = refl
-  before-later g y (h ∷ hs) l = both_true (ltb (place_of e all) (place_of y all) || (same e y && earlier all g h)) _ (or_yes (ltb (place_of e all) (place_of y all)) _ (lt-ltb _ _ l)) (before-later g y hs l)
+  before_later g y [] l = refl
+  before_later g y (h ∷ hs) l = both_true (ltb (place_of e all) (place_of y all) || (same e y && earlier all g h)) _ (or_yes (ltb (place_of e all) (place_of y all)) _ (lt-ltb _ _ l)) (before_later g y hs l)
 
-  before-each : (g : History) (hs : List History) (es : List Event) → All (λ y. place_of e all < place_of y all) es → every (earlier all (e ∷ g)) (each es hs) ≡ true
+  before_each : (g : History) (hs : List History) (es : List Event) → All (λ y. place_of e all < place_of y all) es → every (earlier all (e ∷ g)) (each es hs) ≡ true
   unfolding each every All
-  before-each g hs [] l = refl
-  before-each g hs (y ∷ es) l = every_append (earlier all (e ∷ g)) (map (λ h. y ∷ h) hs) (each es hs) (before-later g y hs l.0) (before-each g hs es l.1)
+  before_each g hs [] l = refl
+  before_each g hs (y ∷ es) l = every_append (earlier all (e ∷ g)) (map (λ h. y ∷ h) hs) (each es hs) (before_later g y hs l.0) (before_each g hs es l.1)
 
-  all-before-each : (gs hs : List History) (es : List Event) → All (λ y. place_of e all < place_of y all) es → All (λ x. every (earlier all x) (each es hs) ≡ true) (map (λ h. e ∷ h) gs)
+  all_before_each : (gs hs : List History) (es : List Event) → All (λ y. place_of e all < place_of y all) es → All (λ x. every (earlier all x) (each es hs) ≡ true) (map (λ h. e ∷ h) gs)
   unfolding All
-  all-before-each [] hs es l = tt
-  all-before-each (g ∷ gs) hs es l = (before-each g hs es l, all-before-each gs hs es l)
+  all_before_each [] hs es l = tt
+  all_before_each (g ∷ gs) hs es l = (before_each g hs es l, all_before_each gs hs es l)
 
 module _ (all : List Event) (d : differ all ≡ true) where
-  ordered-each : (hs : List History) → ordered (earlier all) hs ≡ true → (pre es : List Event) → all ≡ pre ++ es → ordered (earlier all) (each es hs) ≡ true
+  ordered_each : (hs : List History) → ordered (earlier all) hs ≡ true → (pre es : List Event) → all ≡ pre ++ es → ordered (earlier all) (each es hs) ≡ true
   unfolding each ordered
-  ordered-each hs t pre [] q = refl
-  ordered-each hs t pre (e ∷ es) q =
+  ordered_each hs t pre [] q = refl
+  ordered_each hs t pre (e ∷ es) q =
       let dd : differ (pre ++ (e ∷ es)) ≡ true = subst (λ (l : List Event). differ l ≡ true) q d in
       let later : All (λ y. place_of e all < place_of y all) es =
       weaker (λ y. among y es ≡ true) (λ y. place_of e all < place_of y all)
       (λ y m. subst (λ (l : List Event). place_of e l < place_of y l) (sym q) (omega (arith, here e pre es dd, after e pre es dd y m))) es (all_among [] es) in
-      ordered_append (earlier all) (map (λ h. e ∷ h) hs) (each es hs) (ordered-behind all e hs t)
-      (ordered-each hs t (pre ++ (e ∷ [])) es (q ∙ sym (append_assoc pre (e ∷ []) es))) (all-before-each all e hs hs es later)
+      ordered_append (earlier all) (map (λ h. e ∷ h) hs) (each es hs) (ordered_behind all e hs t)
+      (ordered_each hs t (pre ++ (e ∷ [])) es (q ∙ sym (append_assoc pre (e ∷ []) es))) (all_before_each all e hs hs es later)
 
-  ordered-of-length : (n : ℕ) → ordered (earlier all) (of_length all n) ≡ true
+  ordered_of_length : (n : ℕ) → ordered (earlier all) (of_length all n) ≡ true
   unfolding of_length ordered every
-  ordered-of-length zero = refl
-  ordered-of-length (suc n) = ordered-each (of_length all n) (ordered-of-length n) [] all refl
+  ordered_of_length zero = refl
+  ordered_of_length (suc n) = ordered_each (of_length all n) (ordered_of_length n) [] all refl
 
 -- ---- lengths
 
@@ -177,25 +177,25 @@ short k (suc n) =
 -- ---- what the events are, the histories are made of
 
 module _ (P : Event → Type 0) where
-  made-front : (e : Event) → P e → (hs : List History) → All (All P) hs → All (All P) (map (λ h. e ∷ h) hs)
+  made_front : (e : Event) → P e → (hs : List History) → All (All P) hs → All (All P) (map (λ h. e ∷ h) hs)
   unfolding All
-  made-front e p [] a = tt
-  made-front e p (h ∷ hs) a = ((p, a.0), made-front e p hs a.1)
+  made_front e p [] a = tt
+  made_front e p (h ∷ hs) a = ((p, a.0), made_front e p hs a.1)
 
   made_each : (es : List Event) → All P es → (hs : List History) → All (All P) hs → All (All P) (each es hs)
   unfolding each All
   made_each [] p hs a = tt
-  made_each (e ∷ es) p hs a = all_append (All P) (map (λ h. e ∷ h) hs) (each es hs) (made-front e p.0 hs a) (made_each es p.1 hs a)
+  made_each (e ∷ es) p hs a = all_append (All P) (map (λ h. e ∷ h) hs) (each es hs) (made_front e p.0 hs a) (made_each es p.1 hs a)
 
-  made-length : (es : List Event) → All P es → (n : ℕ) → All (All P) (of_length es n)
+  made_length : (es : List Event) → All P es → (n : ℕ) → All (All P) (of_length es n)
   unfolding of_length All
-  made-length es p zero = (tt, tt)
-  made-length es p (suc n) = made_each es p (of_length es n) (made-length es p n)
+  made_length es p zero = (tt, tt)
+  made_length es p (suc n) = made_each es p (of_length es n) (made_length es p n)
 
   pub made_of : (es : List Event) → All P es → (n : ℕ) → All (All P) (up_to es n)
   unfolding up_to
-  made_of es p zero = made-length es p zero
-  made_of es p (suc n) = all_append (All P) (up_to es n) (of_length es (suc n)) (made_of es p n) (made-length es p (suc n))
+  made_of es p zero = made_length es p zero
+  made_of es p (suc n) = all_append (All P) (up_to es n) (of_length es (suc n)) (made_of es p n) (made_length es p (suc n))
 
 -- ---- together
 
@@ -204,27 +204,27 @@ module _ (es : List Event) where
   unfolding before
   before_same n g h p q t = or_then (ltb (length g) (length h)) _ (both_true (eqb (length g) (length h)) _ (eq-eqb _ _ (p ∙ sym q)) t)
 
-  before-shorter : (g h : History) → length g < length h → before es g h ≡ true
+  before_shorter : (g h : History) → length g < length h → before es g h ≡ true
   unfolding before
-  before-shorter g h l = or_yes (ltb (length g) (length h)) _ (lt-ltb _ _ l)
+  before_shorter g h l = or_yes (ltb (length g) (length h)) _ (lt-ltb _ _ l)
 
-  every-before : (n : ℕ) (g : History) (hs : List History) → length g ≡ n → All (λ h. length h ≡ n) hs → every (earlier es g) hs ≡ true → every (before es g) hs ≡ true
+  every_before : (n : ℕ) (g : History) (hs : List History) → length g ≡ n → All (λ h. length h ≡ n) hs → every (earlier es g) hs ≡ true → every (before es g) hs ≡ true
   unfolding every All
-  every-before n g [] l a t = refl
-  every-before n g (h ∷ hs) l a t =
-      both_true (before es g h) _ (before_same n g h l a.0 (and_left (earlier es g h) _ t)) (every-before n g hs l a.1 (and_right (earlier es g h) _ t))
+  every_before n g [] l a t = refl
+  every_before n g (h ∷ hs) l a t =
+      both_true (before es g h) _ (before_same n g h l a.0 (and_left (earlier es g h) _ t)) (every_before n g hs l a.1 (and_right (earlier es g h) _ t))
 
-  ordered-before : (n : ℕ) (hs : List History) → All (λ h. length h ≡ n) hs → ordered (earlier es) hs ≡ true → ordered (before es) hs ≡ true
+  ordered_before : (n : ℕ) (hs : List History) → All (λ h. length h ≡ n) hs → ordered (earlier es) hs ≡ true → ordered (before es) hs ≡ true
   unfolding ordered All
-  ordered-before n [] a t = refl
-  ordered-before n (h ∷ hs) a t =
-      both_true (every (before es h) hs) _ (every-before n h hs a.0 a.1 (and_left (every (earlier es h) hs) _ t)) (ordered-before n hs a.1 (and_right (every (earlier es h) hs) _ t))
+  ordered_before n [] a t = refl
+  ordered_before n (h ∷ hs) a t =
+      both_true (every (before es h) hs) _ (every_before n h hs a.0 a.1 (and_left (every (earlier es h) hs) _ t)) (ordered_before n hs a.1 (and_right (every (earlier es h) hs) _ t))
 
   -- "shorter first, then by the order of events"
   pub in_order : differ es ≡ true → (n : ℕ) → ordered (before es) (up_to es n) ≡ true
   unfolding up_to
-  in_order d zero = ordered-before zero (of_length es zero) (long es zero) (ordered-of-length es d zero)
+  in_order d zero = ordered_before zero (of_length es zero) (long es zero) (ordered_of_length es d zero)
   in_order d (suc n) =
-      ordered_append (before es) (up_to es n) (of_length es (suc n)) (in_order d n) (ordered-before (suc n) (of_length es (suc n)) (long es (suc n)) (ordered-of-length es d (suc n)))
+      ordered_append (before es) (up_to es n) (of_length es (suc n)) (in_order d n) (ordered_before (suc n) (of_length es (suc n)) (long es (suc n)) (ordered_of_length es d (suc n)))
       (weaker (λ h. length h ≤ n) (λ g. every (before es g) (of_length es (suc n)) ≡ true)
-      (λ g l. passed (before es g) (λ h. length h ≡ suc n) (λ h e. before-shorter g h (omega (arith, l, e))) (of_length es (suc n)) (long es (suc n))) (up_to es n) (short es n))
+      (λ g l. passed (before es g) (λ h. length h ≡ suc n) (λ h e. before_shorter g h (omega (arith, l, e))) (of_length es (suc n)) (long es (suc n))) (up_to es n) (short es n))

@@ -29,25 +29,25 @@ use Rattle.spec_hyparview.specs.Active.{push_active, remember_neighbor, move_in,
 use Rattle.spec_hyparview.proofs.Law.{Short}
 use Rattle.spec_hyparview.proofs.Invariant.{busy, Ok}
 use Rattle.spec_hyparview.proofs.Keeping.{ease}
-use Rattle.spec_hyparview.proofs.Sends.{ok-insert-peer-info}
+use Rattle.spec_hyparview.proofs.Sends.{ok_insert_peer_info}
 use Rattle.work.specs.declared.Work.{Work}
 use Rattle.hyparview_state.specs.declared.RefillLimit.{RefillLimit}
 use Rattle.hyparview_state.specs.declared.RefillLimit.TheVariants.{Automatic}
 use Rattle.hyparview_state.specs.Layout.{active_view_capacity, active_part, recent_part, active_at, active_places, active_size, recent_at, recent_places, recent_size, passes_short_at}
 use Rattle.hyparview_state.specs.Unpack.{unpack, station_of, settings_at, limit_at, refill_in, PackedState, Becomes}
 use Rattle.hyparview_state.specs.Work.{work_of, run, run_of, Changes, Room, Tells, TellsAny, Fine, Does}
-use Rattle.hyparview_state.proofs.Access.{of-capacity}
+use Rattle.hyparview_state.proofs.Access.{of_capacity}
 use Rattle.hyparview_state.proofs.Fields.{put_passes_short, put_active, put_recent}
 use Rattle.hyparview_state.proofs.Any.{told_at}
-use Rattle.hyparview_state.proofs.Bridge.{guard_shut, on-twice, on-passed, on-done, unchanged, change-then, telling, tell-then, still, then-tell, seq, taken, left, holds_at}
+use Rattle.hyparview_state.proofs.Bridge.{guard_shut, on_twice, on_passed, on_done, unchanged, change_then, telling, tell_then, still, then_tell, seq, taken, left, holds_at}
 use Rattle.step_active.specs.Sane.{FreeActive, Calm}
 
 -- ---- places
 
 module _ (xs : List ℕ) (code : ℕ) (v : PackedState xs) (z : code ≡ 0) (h : FreeActive code (unpack xs)) where
-  pub place-active : length (items_at active_places (active_part xs)) < 8
+  pub place_active : length (items_at active_places (active_part xs)) < 8
   unfolding unpack station_of settings_at
-  place-active = omega (arith, h.free z, of-capacity xs v)
+  place_active = omega (arith, h.free z, of_capacity xs v)
 
   pub one_more : (p : ℕ) → length (items_at active_places (active_part xs) ++ (p ∷ [])) ≤ active_view_capacity xs
   unfolding unpack station_of settings_at
@@ -73,31 +73,31 @@ still_free f m n w a xs ys k h = subst (λ (x : Run). FreeActive x.code x.statio
 -- ---- rows
 
 module _ (w a b : Work) (xs ys zs : List ℕ) (p : ℕ) (k₂ : Changes (on (drop_mark p)) (work_of a ys) (work_of b zs)) (k₁ : Changes (on (remove_passive p)) (work_of w xs) (work_of a ys)) where
-  pub left-free : FreeActive w.code (unpack xs) → FreeActive b.code (unpack zs)
+  pub left_free : FreeActive w.code (unpack xs) → FreeActive b.code (unpack zs)
   unfolding drop_mark remove_passive
-  left-free h = still_free (drop_mark p) (λ s. refl) (λ s. refl) a b ys zs k₂ (still_free (remove_passive p) (λ s. refl) (λ s. refl) w a xs ys k₁ h)
+  left_free h = still_free (drop_mark p) (λ s. refl) (λ s. refl) a b ys zs k₂ (still_free (remove_passive p) (λ s. refl) (λ s. refl) w a xs ys k₁ h)
 
   pub moved_in : (d r : Work) (us vs : List ℕ) → Changes (on (remember_neighbor p)) (work_of d us) (work_of r vs) → Changes (on (push_active p)) (work_of b zs) (work_of d us) → Changes (on (move_in p)) (work_of w xs) (work_of r vs)
   unfolding move_in
   moved_in d r us vs k₄ k₃ =
-      change-then _
-      (λ ds out. on-twice (λ s. push_active p (drop_mark p (remove_passive p s))) (remember_neighbor p) (run (work_of w xs) ds out)
-      ∙ ap (on (remember_neighbor p)) (on-twice (λ s. drop_mark p (remove_passive p s)) (push_active p) (run (work_of w xs) ds out)
-      ∙ ap (on (push_active p)) (on-twice (remove_passive p) (drop_mark p) (run (work_of w xs) ds out))))
-      k₄ (change-then (λ g. on (push_active p) (on (drop_mark p) (on (remove_passive p) g))) (λ ds out. refl) k₃
-      (change-then (λ g. on (drop_mark p) (on (remove_passive p) g)) (λ ds out. refl) k₂ k₁))
+      change_then _
+      (λ ds out. on_twice (λ s. push_active p (drop_mark p (remove_passive p s))) (remember_neighbor p) (run (work_of w xs) ds out)
+      ∙ ap (on (remember_neighbor p)) (on_twice (λ s. drop_mark p (remove_passive p s)) (push_active p) (run (work_of w xs) ds out)
+      ∙ ap (on (push_active p)) (on_twice (remove_passive p) (drop_mark p) (run (work_of w xs) ds out))))
+      k₄ (change_then (λ g. on (push_active p) (on (drop_mark p) (on (remove_passive p) g))) (λ ds out. refl) k₃
+      (change_then (λ g. on (drop_mark p) (on (remove_passive p) g)) (λ ds out. refl) k₂ k₁))
 
-  pub not-moved : (b.code ≡ 0 → ⊥) → Changes (on (move_in p)) (work_of w xs) (work_of b zs)
-  not-moved h = moved_in b b zs zs (on-passed (work_of b zs) k₂.packed (remember_neighbor p) h) (on-passed (work_of b zs) k₂.packed (push_active p) h)
+  pub not_moved : (b.code ≡ 0 → ⊥) → Changes (on (move_in p)) (work_of w xs) (work_of b zs)
+  not_moved h = moved_in b b zs zs (on_passed (work_of b zs) k₂.packed (remember_neighbor p) h) (on_passed (work_of b zs) k₂.packed (push_active p) h)
 
 module _ (w : Work) (xs : List ℕ) (p : ℕ) (v : PackedState xs) (z : w.code ≡ 0) (ys : List ℕ) where
   pub pushed : FreeActive w.code (unpack xs) → HoldsSet 8 ys (items_at active_places (active_part xs) ++ (p ∷ [])) → Changes (on (push_active p)) (work_of w xs) (work_of w (put_mid active_at active_size xs ys))
   unfolding push_active unpack station_of
-  pushed f h = on-done (work_of w xs) v _ _ z (put_active h (one_more xs w.code v z f p))
+  pushed f h = on_done (work_of w xs) v _ _ z (put_active h (one_more xs w.code v z f p))
 
   pub remembered : HoldsSet 8 ys (renew 8 p (items_at recent_places (recent_part xs))) → Changes (on (remember_neighbor p)) (work_of w xs) (work_of w (put_mid recent_at recent_size xs ys))
   unfolding remember_neighbor unpack station_of
-  remembered h = on-done (work_of w xs) v _ _ z (put_recent h)
+  remembered h = on_done (work_of w xs) v _ _ z (put_recent h)
 
 pub gained : (xs ys : List ℕ) (old v l : RefillLimit) → Becomes ys (set_refill (refill_in v) (unpack xs)) → refill_in v ≡ unless_recovery (refill_in old) (refill_in l) → l ≡ Automatic → old ≡ limit_at xs
     → Becomes (set ys passes_short_at 0) (gain_neighbor (unpack xs))
@@ -117,62 +117,62 @@ reply_shut reply p high g h =
 
 module _ (w a b : Work) (xs ys out o : List ℕ) (p : ℕ) (v : Room (work_of w xs) out)
     (k₂ : TellsAny (emit (notice (output_byte NeighborUp) p)) a b out o) (k₁ : Changes (on (move_in p)) (work_of w xs) (work_of a ys)) where
-  enter-row : (zs : List ℕ) → Changes (on gain_neighbor) (work_of b ys) (work_of b zs) → Tells (enter_active p) (work_of w xs) (work_of b zs) out o
+  enter_row : (zs : List ℕ) → Changes (on gain_neighbor) (work_of b ys) (work_of b zs) → Tells (enter_active p) (work_of w xs) (work_of b zs) out o
   unfolding enter_active
-  enter-row zs k₃ =
+  enter_row zs k₃ =
       let t = told_at ys k₁.packed _ k₂ in
-      tell-then _ (λ ds. refl) (telling t.room k₃) (tell-then (λ g. emit (notice (output_byte NeighborUp) p) (on (move_in p) g)) (λ ds. refl) t (telling v k₁))
+      tell_then _ (λ ds. refl) (telling t.room k₃) (tell_then (λ g. emit (notice (output_byte NeighborUp) p) (on (move_in p) g)) (λ ds. refl) t (telling v k₁))
 
-  pub not-added : (high reply : Bool) → (b.code ≡ 0 → ⊥) → Tells (add_active_unchecked p high reply) (work_of w xs) (work_of b ys) out o
+  pub not_added : (high reply : Bool) → (b.code ≡ 0 → ⊥) → Tells (add_active_unchecked p high reply) (work_of w xs) (work_of b ys) out o
   unfolding add_active_unchecked run_of
-  not-added high reply h =
-      let t = enter-row ys (on-passed (work_of b ys) k₁.packed gain_neighbor h) in
-      tell-then _ (λ ds. refl) (telling t.room (unchanged (reply_neighbor reply p high) k₁.packed (λ ds q. reply_shut reply p high (run (work_of b ys) ds q) h))) t
+  not_added high reply h =
+      let t = enter_row ys (on_passed (work_of b ys) k₁.packed gain_neighbor h) in
+      tell_then _ (λ ds. refl) (telling t.room (unchanged (reply_neighbor reply p high) k₁.packed (λ ds q. reply_shut reply p high (run (work_of b ys) ds q) h))) t
 
   pub entered : (zs : List ℕ) → b.code ≡ 0 → Becomes zs (gain_neighbor (unpack ys)) → Tells (enter_active p) (work_of w xs) (work_of b zs) out o
-  entered zs z h = enter-row zs (on-done (work_of b ys) k₁.packed gain_neighbor zs z (λ _. h))
+  entered zs z h = enter_row zs (on_done (work_of b ys) k₁.packed gain_neighbor zs z (λ _. h))
 
 pub added_unchecked : (w a r : Work) (xs ys zs out o₁ o : List ℕ) (p : ℕ) (high reply : Bool) → Tells (reply_neighbor reply p high) (work_of a ys) (work_of r zs) o₁ o → Tells (enter_active p) (work_of w xs) (work_of a ys) out o₁
     → Tells (add_active_unchecked p high reply) (work_of w xs) (work_of r zs) out o
 unfolding add_active_unchecked
-added_unchecked w a r xs ys zs out o₁ o p high reply k₂ k₁ = tell-then _ (λ ds. refl) k₂ k₁
+added_unchecked w a r xs ys zs out o₁ o p high reply k₂ k₁ = tell_then _ (λ ds. refl) k₂ k₁
 
 module _ (w : Work) (xs ds out : List ℕ) (p : ℕ) (high reply : Bool) where
-  pub full-high : (a r : Work) (ys zs o₁ o : List ℕ) → high ≡ true → Tells (add_active_unchecked p high reply) (work_of a ys) (work_of r zs) o₁ o
+  pub full_high : (a r : Work) (ys zs o₁ o : List ℕ) → high ≡ true → Tells (add_active_unchecked p high reply) (work_of a ys) (work_of r zs) o₁ o
       → Does (work_of a ys) ds o₁ (free_random_slot_in_active_view (run (work_of w xs) ds out)) → Does (work_of r zs) ds o (admit_full p high reply (run (work_of w xs) ds out))
   unfolding admit_full
-  full-high a r ys zs o₁ o h k₂ k₁ = taken _ _ h (then-tell k₂ k₁)
+  full_high a r ys zs o₁ o h k₂ k₁ = taken _ _ h (then_tell k₂ k₁)
 
-  pub full-low : Fine (work_of w xs) ds out → high ≡ false → Does (work_of w xs) ds out (admit_full p high reply (run (work_of w xs) ds out))
+  pub full_low : Fine (work_of w xs) ds out → high ≡ false → Does (work_of w xs) ds out (admit_full p high reply (run (work_of w xs) ds out))
   unfolding admit_full
-  full-low v h = left _ _ h (still v)
+  full_low v h = left _ _ h (still v)
 
   module _ (r : Work) (ys o : List ℕ) (t : Bool) where
-    pub new-full : t ≡ active_is_full (unpack xs) → t ≡ true → Does (work_of r ys) ds o (admit_full p high reply (run (work_of w xs) ds out)) → Does (work_of r ys) ds o (admit_new p high reply (run (work_of w xs) ds out))
+    pub new_full : t ≡ active_is_full (unpack xs) → t ≡ true → Does (work_of r ys) ds o (admit_full p high reply (run (work_of w xs) ds out)) → Does (work_of r ys) ds o (admit_new p high reply (run (work_of w xs) ds out))
     unfolding admit_new
-    new-full e h k = taken _ _ (holds_at (work_of w xs) ds out active_is_full e h) k
+    new_full e h k = taken _ _ (holds_at (work_of w xs) ds out active_is_full e h) k
 
-    pub new-open : Fine (work_of w xs) ds out → t ≡ active_is_full (unpack xs) → t ≡ false → Tells (add_active_unchecked p high reply) (work_of w xs) (work_of r ys) out o → Does (work_of r ys) ds o (admit_new p high reply (run (work_of w xs) ds out))
+    pub new_open : Fine (work_of w xs) ds out → t ≡ active_is_full (unpack xs) → t ≡ false → Tells (add_active_unchecked p high reply) (work_of w xs) (work_of r ys) out o → Does (work_of r ys) ds o (admit_new p high reply (run (work_of w xs) ds out))
     unfolding admit_new
-    new-open v e h k = left _ _ (holds_at (work_of w xs) ds out active_is_full e h) (then-tell k (still v))
+    new_open v e h k = left _ _ (holds_at (work_of w xs) ds out active_is_full e h) (then_tell k (still v))
 
-    pub admit-known : Fine (work_of w xs) ds out → t ≡ in_active p (unpack xs) → t ≡ true → Tells (reply_neighbor reply p high) (work_of w xs) (work_of r ys) out o → Does (work_of r ys) ds o (admit p high reply (run (work_of w xs) ds out))
+    pub admit_known : Fine (work_of w xs) ds out → t ≡ in_active p (unpack xs) → t ≡ true → Tells (reply_neighbor reply p high) (work_of w xs) (work_of r ys) out o → Does (work_of r ys) ds o (admit p high reply (run (work_of w xs) ds out))
     unfolding admit
-    admit-known v e h k = taken _ _ (holds_at (work_of w xs) ds out (in_active p) e h) (then-tell k (still v))
+    admit_known v e h k = taken _ _ (holds_at (work_of w xs) ds out (in_active p) e h) (then_tell k (still v))
 
-    pub admit-other : t ≡ in_active p (unpack xs) → t ≡ false → Does (work_of r ys) ds o (admit_new p high reply (run (work_of w xs) ds out)) → Does (work_of r ys) ds o (admit p high reply (run (work_of w xs) ds out))
+    pub admit_other : t ≡ in_active p (unpack xs) → t ≡ false → Does (work_of r ys) ds o (admit_new p high reply (run (work_of w xs) ds out)) → Does (work_of r ys) ds o (admit p high reply (run (work_of w xs) ds out))
     unfolding admit
-    admit-other e h k = left _ _ (holds_at (work_of w xs) ds out (in_active p) e h) k
+    admit_other e h k = left _ _ (holds_at (work_of w xs) ds out (in_active p) e h) k
 
   module _ (d : Data) (t : Bool) (v : Fine (work_of w xs) ds out) (e : t ≡ is_me p (unpack xs)) where
-    pub add-me : t ≡ true → Does (work_of w xs) ds out (add_active p d high reply (run (work_of w xs) ds out))
+    pub add_me : t ≡ true → Does (work_of w xs) ds out (add_active p d high reply (run (work_of w xs) ds out))
     unfolding add_active
-    add-me h = taken _ _ (holds_at (work_of w xs) ds out (is_me p) e h) (still v)
+    add_me h = taken _ _ (holds_at (work_of w xs) ds out (is_me p) e h) (still v)
 
-    pub add-other : (a r : Work) (ys zs o₁ o : List ℕ) → t ≡ false → Does (work_of r zs) ds o (admit p high reply (run (work_of a ys) ds o₁)) → Tells (insert_peer_info p d) (work_of w xs) (work_of a ys) out o₁
+    pub add_other : (a r : Work) (ys zs o₁ o : List ℕ) → t ≡ false → Does (work_of r zs) ds o (admit p high reply (run (work_of a ys) ds o₁)) → Tells (insert_peer_info p d) (work_of w xs) (work_of a ys) out o₁
         → Does (work_of r zs) ds o (add_active p d high reply (run (work_of w xs) ds out))
     unfolding add_active
-    add-other a r ys zs o₁ o h k₂ k₁ = left _ _ (holds_at (work_of w xs) ds out (is_me p) e h) (seq (admit p high reply) k₂ (then-tell k₁ (still v)))
+    add_other a r ys zs o₁ o h k₂ k₁ = left _ _ (holds_at (work_of w xs) ds out (is_me p) e h) (seq (admit p high reply) k₂ (then_tell k₁ (still v)))
 
 -- ---- the invariant after the data was stored
 
@@ -194,5 +194,5 @@ informed w a xs ys ds out o p d v c k =
       draws = c.draws;
       ok =
           subst (Ok q (busy c.guest c.barred [] 0 0) (c.messages + 0) (c.bytes + freeing) (c.draws + 40)) (sym (k.same ds))
-          (ok-insert-peer-info p (data_in d) (λ z. short_by_length (data_in d) (short_bytes d v)) k₁);
+          (ok_insert_peer_info p (data_in d) (λ z. short_by_length (data_in d) (short_bytes d v)) k₁);
     }

@@ -141,21 +141,21 @@ first_of b zero h = absurd (not-suc-le-zero h)
 first_of b (suc n) h = refl
 
 module _ (b : List ℕ) (h : Header) (v : Headed b h) (g : Run) (r : Held) (ds o : List ℕ) where
-  pub arm-shuffle : (n : ℕ) → n ≡ h.nodes → h.message ≡ 2 → Does r ds o (on_shuffle h.peer h.second (R.nodes_of b 0 n) h.ttl g) → Does r ds o (handle_message (R.rec_of b) g)
+  pub arm_shuffle : (n : ℕ) → n ≡ h.nodes → h.message ≡ 2 → Does r ds o (on_shuffle h.peer h.second (R.nodes_of b 0 n) h.ttl g) → Does r ds o (handle_message (R.rec_of b) g)
   unfolding handle_message
-  arm-shuffle n e q k =
+  arm_shuffle n e q k =
       by _ (choose_no _ _ _ (no_message b h v 0 (λ z. omega (arith, z, q))) ∙ (choose_no _ _ _ (no_message b h v 1 (λ z. omega (arith, z, q))) ∙ (choose_yes _ _ _ (is_message b h v 2 q)
       ∙ (λ i. on_shuffle (peer_of b h v i) (second_of b h v i) (nodes_are b h v n e i) (ttl_of b h v i) g)))) k
 
-  pub arm-reply : (n : ℕ) → n ≡ h.nodes → h.message ≡ 3 → Does r ds o (on_shuffle_reply h.peer (R.nodes_of b 0 n) g) → Does r ds o (handle_message (R.rec_of b) g)
+  pub arm_reply : (n : ℕ) → n ≡ h.nodes → h.message ≡ 3 → Does r ds o (on_shuffle_reply h.peer (R.nodes_of b 0 n) g) → Does r ds o (handle_message (R.rec_of b) g)
   unfolding handle_message
-  arm-reply n e q k =
+  arm_reply n e q k =
       by _ (choose_no _ _ _ (no_message b h v 0 (λ z. omega (arith, z, q))) ∙ (choose_no _ _ _ (no_message b h v 1 (λ z. omega (arith, z, q))) ∙ (choose_no _ _ _ (no_message b h v 2 (λ z. omega (arith, z, q))) ∙ (choose_yes _ _ _ (is_message b h v 3 q)
       ∙ (λ i. on_shuffle_reply (peer_of b h v i) (nodes_are b h v n e i) g))))) k
 
-  pub arm-disconnect : (t : Bool) → t ≡ eqb (h.flags % 2) 1 → h.message ≡ 5 → Does r ds o (on_disconnect h.peer t g) → Does r ds o (handle_message (R.rec_of b) g)
+  pub arm_disconnect : (t : Bool) → t ≡ eqb (h.flags % 2) 1 → h.message ≡ 5 → Does r ds o (on_disconnect h.peer t g) → Does r ds o (handle_message (R.rec_of b) g)
   unfolding handle_message says_alive
-  arm-disconnect t e q k =
+  arm_disconnect t e q k =
       by _ (choose_no _ _ _ (no_message b h v 0 (λ z. omega (arith, z, q))) ∙ (choose_no _ _ _ (no_message b h v 1 (λ z. omega (arith, z, q))) ∙ (choose_no _ _ _ (no_message b h v 2 (λ z. omega (arith, z, q)))
       ∙ (choose_no _ _ _ (no_message b h v 3 (λ z. omega (arith, z, q))) ∙ (choose_no _ _ _ (no_message b h v 4 (λ z. omega (arith, z, q)))
       ∙ (λ i. on_disconnect (peer_of b h v i) ((ap (λ (y : ℕ). eqb (y % 2) 1) (flags_of b h v) ∙ sym e) i) g)))))) k
@@ -176,14 +176,14 @@ module _ (b : List ℕ) (h : Header) (u : Single b h) (g : Run) (r : Held) (ds o
   unfolding handle_message
   arm_join q k = by _ (choose_yes _ _ _ (is_message b h v 0 q) ∙ (λ i. on_join (peer_of b h v i) (data_is i) g)) k
 
-  pub arm-forward : h.message ≡ 1 → Does r ds o (on_forward_join h.peer (node_in n) h.ttl g) → Does r ds o (handle_message (R.rec_of b) g)
+  pub arm_forward : h.message ≡ 1 → Does r ds o (on_forward_join h.peer (node_in n) h.ttl g) → Does r ds o (handle_message (R.rec_of b) g)
   unfolding handle_message
-  arm-forward q k =
+  arm_forward q k =
       by _ (choose_no _ _ _ (no_message b h v 0 (λ z. omega (arith, z, q))) ∙ (choose_yes _ _ _ (is_message b h v 1 q) ∙ (λ i. on_forward_join (peer_of b h v i) (first_is i) (ttl_of b h v i) g))) k
 
-  pub arm-neighbor : (h.message ≡ 0 → ⊥) → (h.message ≡ 1 → ⊥) → (t : Bool) → t ≡ eqb h.flags 1 → Does r ds o (on_neighbor h.peer (data_in n.data) t g) → Does r ds o (handle_message (R.rec_of b) g)
+  pub arm_neighbor : (h.message ≡ 0 → ⊥) → (h.message ≡ 1 → ⊥) → (t : Bool) → t ≡ eqb h.flags 1 → Does r ds o (on_neighbor h.peer (data_in n.data) t g) → Does r ds o (handle_message (R.rec_of b) g)
   unfolding handle_message is_high
-  arm-neighbor n₀ n₁ t e k =
+  arm_neighbor n₀ n₁ t e k =
       let q = u.which n₀ n₁ in
       by _ (choose_no _ _ _ (no_message b h v 0 (λ z. omega (arith, z, q))) ∙ (choose_no _ _ _ (no_message b h v 1 (λ z. omega (arith, z, q))) ∙ (choose_no _ _ _ (no_message b h v 2 (λ z. omega (arith, z, q)))
       ∙ (choose_no _ _ _ (no_message b h v 3 (λ z. omega (arith, z, q))) ∙ (choose_yes _ _ _ (is_message b h v 4 q)
@@ -195,48 +195,48 @@ module _ (b : List ℕ) (h : Header) (v : Headed b h) (g : Run) (r : Held) (ds o
   same_kind : (k : EventKind) → h.kind ≡ kind_byte k → (R.rec_of b).kind ≡ kind_byte k
   same_kind k q = kind_of b h v ∙ q
 
-  pub kind-message : h.kind ≡ kind_byte Message → Does r ds o (handle_message (R.rec_of b) g) → Does r ds o (dispatch (R.rec_of b) g)
+  pub kind_message : h.kind ≡ kind_byte Message → Does r ds o (handle_message (R.rec_of b) g) → Does r ds o (dispatch (R.rec_of b) g)
   unfolding dispatch choose
-  kind-message q k = by _ (rw (same_kind Message q)) k
+  kind_message q k = by _ (rw (same_kind Message q)) k
 
-  pub kind-shuffle : h.kind ≡ kind_byte DoShuffle → Does r ds o (handle_shuffle_timer g) → Does r ds o (dispatch (R.rec_of b) g)
+  pub kind_shuffle : h.kind ≡ kind_byte DoShuffle → Does r ds o (handle_shuffle_timer g) → Does r ds o (dispatch (R.rec_of b) g)
   unfolding dispatch choose
-  kind-shuffle q k = by _ (rw (same_kind DoShuffle q)) k
+  kind_shuffle q k = by _ (rw (same_kind DoShuffle q)) k
 
-  pub kind-maintenance : h.kind ≡ kind_byte DoMaintenance → Does r ds o (handle_maintenance_timer g) → Does r ds o (dispatch (R.rec_of b) g)
+  pub kind_maintenance : h.kind ≡ kind_byte DoMaintenance → Does r ds o (handle_maintenance_timer g) → Does r ds o (dispatch (R.rec_of b) g)
   unfolding dispatch choose
-  kind-maintenance q k = by _ (rw (same_kind DoMaintenance q)) k
+  kind_maintenance q k = by _ (rw (same_kind DoMaintenance q)) k
 
-  pub kind-request : h.kind ≡ kind_byte PendingNeighborRequest → Does r ds o (handle_pending_neighbor_timer h.peer h.number g) → Does r ds o (dispatch (R.rec_of b) g)
+  pub kind_request : h.kind ≡ kind_byte PendingNeighborRequest → Does r ds o (handle_pending_neighbor_timer h.peer h.number g) → Does r ds o (dispatch (R.rec_of b) g)
   unfolding dispatch choose
-  kind-request q k = by _ (rw (same_kind PendingNeighborRequest q) (λ i. handle_pending_neighbor_timer (peer_of b h v i) (number_of b h v i) g)) k
+  kind_request q k = by _ (rw (same_kind PendingNeighborRequest q) (λ i. handle_pending_neighbor_timer (peer_of b h v i) (number_of b h v i) g)) k
 
-  pub kind-retry : (h.kind ≡ kind_byte Message → ⊥) → h.kind ≤ kind_byte RetryJoin → (h.kind ≡ kind_byte DoShuffle → ⊥) → (h.kind ≡ kind_byte DoMaintenance → ⊥) → (h.kind ≡ kind_byte PendingNeighborRequest → ⊥) → Does r ds o (retry_join h.peer h.number g) → Does r ds o (dispatch (R.rec_of b) g)
+  pub kind_retry : (h.kind ≡ kind_byte Message → ⊥) → h.kind ≤ kind_byte RetryJoin → (h.kind ≡ kind_byte DoShuffle → ⊥) → (h.kind ≡ kind_byte DoMaintenance → ⊥) → (h.kind ≡ kind_byte PendingNeighborRequest → ⊥) → Does r ds o (retry_join h.peer h.number g) → Does r ds o (dispatch (R.rec_of b) g)
   unfolding dispatch choose
-  kind-retry n₀ l n₁ n₂ n₃ k = by _ (rw (same_kind RetryJoin (only_four h.kind (omega (arith, l)) n₀ n₁ n₂ n₃ (λ e. omega (arith, l, e)))) (λ i. retry_join (peer_of b h v i) (number_of b h v i) g)) k
+  kind_retry n₀ l n₁ n₂ n₃ k = by _ (rw (same_kind RetryJoin (only_four h.kind (omega (arith, l)) n₀ n₁ n₂ n₃ (λ e. omega (arith, l, e)))) (λ i. retry_join (peer_of b h v i) (number_of b h v i) g)) k
 
-  pub kind-closed : h.kind ≡ kind_byte PeerDisconnected → Does r ds o (handle_connection_closed h.peer g) → Does r ds o (dispatch (R.rec_of b) g)
+  pub kind_closed : h.kind ≡ kind_byte PeerDisconnected → Does r ds o (handle_connection_closed h.peer g) → Does r ds o (dispatch (R.rec_of b) g)
   unfolding dispatch choose
-  kind-closed q k = by _ (rw (same_kind PeerDisconnected q) (λ i. handle_connection_closed (peer_of b h v i) g)) k
+  kind_closed q k = by _ (rw (same_kind PeerDisconnected q) (λ i. handle_connection_closed (peer_of b h v i) g)) k
 
-  pub kind-join : h.kind ≡ kind_byte RequestJoin → Does r ds o (handle_join h.peer g) → Does r ds o (dispatch (R.rec_of b) g)
+  pub kind_join : h.kind ≡ kind_byte RequestJoin → Does r ds o (handle_join h.peer g) → Does r ds o (dispatch (R.rec_of b) g)
   unfolding dispatch choose
-  kind-join q k = by _ (rw (same_kind RequestJoin q) (λ i. handle_join (peer_of b h v i) g)) k
+  kind_join q k = by _ (rw (same_kind RequestJoin q) (λ i. handle_join (peer_of b h v i) g)) k
 
-  pub kind-data : (n : PeerInfo) → HoldsNode n (R.node_at b 0) → h.kind ≡ kind_byte UpdatePeerData → Does r ds o (on (update_own_data (data_in n.data)) g) → Does r ds o (dispatch (R.rec_of b) g)
+  pub kind_data : (n : PeerInfo) → HoldsNode n (R.node_at b 0) → h.kind ≡ kind_byte UpdatePeerData → Does r ds o (on (update_own_data (data_in n.data)) g) → Does r ds o (dispatch (R.rec_of b) g)
   unfolding dispatch choose R.rec_of_by first_data node_in
-  kind-data n x q k =
+  kind_data n x q k =
       let e : first_node (R.nodes_of b 0 (R.header_of b).nodes) ≡ node_in n = first_of b (R.header_of b).nodes (omega (arith, one_node b h v q)) ∙ sym x.holds in
       by _ (rw (same_kind UpdatePeerData q) (λ i. on (update_own_data (e i).data_of) g)) k
 
-  pub kind-quit : kind_byte RetryJoin < h.kind → (h.kind ≡ kind_byte PeerDisconnected → ⊥) → (h.kind ≡ kind_byte RequestJoin → ⊥) → (h.kind ≡ kind_byte UpdatePeerData → ⊥) → h.kind ≤ kind_byte Quit
+  pub kind_quit : kind_byte RetryJoin < h.kind → (h.kind ≡ kind_byte PeerDisconnected → ⊥) → (h.kind ≡ kind_byte RequestJoin → ⊥) → (h.kind ≡ kind_byte UpdatePeerData → ⊥) → h.kind ≤ kind_byte Quit
       → Does r ds o (handle_quit g) → Does r ds o (dispatch (R.rec_of b) g)
   unfolding dispatch choose
-  kind-quit l n₅ n₆ n₇ m k = by _ (rw (same_kind Quit (only_quit h.kind l n₅ n₆ n₇ m))) k
+  kind_quit l n₅ n₆ n₇ m k = by _ (rw (same_kind Quit (only_quit h.kind l n₅ n₆ n₇ m))) k
 
-  pub kind-pin : h.kind ≡ kind_byte Pin → Does r ds o (handle_pin h.peer g) → Does r ds o (dispatch (R.rec_of b) g)
+  pub kind_pin : h.kind ≡ kind_byte Pin → Does r ds o (handle_pin h.peer g) → Does r ds o (dispatch (R.rec_of b) g)
   unfolding dispatch choose
-  kind-pin q k = by _ (rw (same_kind Pin q) (λ i. handle_pin (peer_of b h v i) g)) k
+  kind_pin q k = by _ (rw (same_kind Pin q) (λ i. handle_pin (peer_of b h v i) g)) k
 
   -- past Quit and no pin
   no_kind : kind_byte Quit < h.kind → (h.kind ≡ kind_byte Pin → ⊥) → (k : EventKind) → h.kind ≡ kind_byte k → ⊥
@@ -251,7 +251,7 @@ module _ (b : List ℕ) (h : Header) (v : Headed b h) (g : Run) (r : Held) (ds o
   no_kind l n Quit z = omega (arith, l, z)
   no_kind l n Pin z = n z
 
-  pub kind-none : kind_byte Quit < h.kind → (h.kind ≡ kind_byte Pin → ⊥) → Does r ds o g → Does r ds o (dispatch (R.rec_of b) g)
+  pub kind_none : kind_byte Quit < h.kind → (h.kind ≡ kind_byte Pin → ⊥) → Does r ds o g → Does r ds o (dispatch (R.rec_of b) g)
   unfolding dispatch
-  kind-none l n k =
+  kind_none l n k =
       by_kind (λ (x : Option EventKind). Does r ds o (handle_kind x (R.rec_of b) g)) (R.rec_of b).kind (λ _. k) (λ j z. absurd (no_kind l n j (sym (kind_of b h v) ∙ z)))

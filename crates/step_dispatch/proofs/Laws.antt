@@ -10,8 +10,8 @@ use Rattle.base_timing.specs.Timing.{maintenance_interval}
 use Rattle.spec_hyparview.specs.Run.{Run, on, emit, timer}
 use Rattle.spec_hyparview.specs.Timers.{schedule_shuffle, schedule_maintenance}
 use Rattle.record.specs.Format.{Rec}
-use Rattle.hyparview_state.proofs.Any.{then-tell-any}
-use Rattle.hyparview_state.proofs.Bridge.{on-passed, on-done, emit-passed, still, taken, left, then, then-tell, seq}
+use Rattle.hyparview_state.proofs.Any.{then_tell_any}
+use Rattle.hyparview_state.proofs.Bridge.{on_passed, on_done, emit_passed, still, taken, left, then, then_tell, seq}
 use Rattle.hyparview_state.proofs.Fields.{put_scheduled}
 use Rattle.hyparview_state.specs.Layout as layout
 use Rattle.hyparview_state.specs.Layout.{timers_scheduled_at}
@@ -53,29 +53,29 @@ opens_join x w xs ds out k e n o =
     record { known = λ z. (b.ok.good z).core.waits.known; once = λ z. (b.ok.good z).core.waits.boots; few = λ z. (b.ok.good z).core.waits.few }
 
 module _ (w : Work) (xs ds out : List ℕ) (v : Fine (work_of w xs) ds out) where
-  timers-run : eqb (layout.timers_scheduled xs) 1 ≡ true → Does (work_of w xs) ds out (first_timers (run (work_of w xs) ds out))
+  timers_run : eqb (layout.timers_scheduled xs) 1 ≡ true → Does (work_of w xs) ds out (first_timers (run (work_of w xs) ds out))
   unfolding first_timers run_of unpack station_of
-  timers-run h = taken _ _ h (still v)
+  timers_run h = taken _ _ h (still v)
 
-  maintenance-rests : (w.code ≡ 0 → ⊥) → Does (work_of w xs) ds out (schedule_maintenance (run (work_of w xs) ds out))
+  maintenance_rests : (w.code ≡ 0 → ⊥) → Does (work_of w xs) ds out (schedule_maintenance (run (work_of w xs) ds out))
   unfolding schedule_maintenance
-  maintenance-rests h = then-tell (emit-passed w xs out _ (room_of _ _ _ v) h) (still v)
+  maintenance_rests h = then_tell (emit_passed w xs out _ (room_of _ _ _ v) h) (still v)
 
   -- where a code is set, no timer is started
-  timers-rest : (w.code ≡ 0 → ⊥) → Does (work_of w xs) ds out (first_timers (run (work_of w xs) ds out))
+  timers_rest : (w.code ≡ 0 → ⊥) → Does (work_of w xs) ds out (first_timers (run (work_of w xs) ds out))
   unfolding first_timers
-  timers-rest h =
+  timers_rest h =
       split (run (work_of w xs) ds out).station.scheduled (λ t. taken _ _ t (still v))
-      (λ t. left _ _ t (seq schedule_maintenance (maintenance-rests h) (seq schedule_shuffle (not_scheduled w xs ds out v h) (then (on-passed (work_of w xs) v.ready.packed note_scheduled h) (still v)))))
+      (λ t. left _ _ t (seq schedule_maintenance (maintenance_rests h) (seq schedule_shuffle (not_scheduled w xs ds out v h) (then (on_passed (work_of w xs) v.ready.packed note_scheduled h) (still v)))))
 
   pub noted : w.code ≡ 0 → Changes (on note_scheduled) (work_of w xs) (work_of w (set xs layout.timers_scheduled_at 1))
   unfolding note_scheduled unpack station_of part
-  noted h = on-done (work_of w xs) v.ready.packed _ _ h (put_scheduled true)
+  noted h = on_done (work_of w xs) v.ready.packed _ _ h (put_scheduled true)
 
   timers_start : (b r : Work) (zs o o₂ : List ℕ) → eqb (layout.timers_scheduled xs) 1 ≡ false → w.code ≡ 0 → TellsAny (emit (timer (kind_byte DoMaintenance) 0 maintenance_interval 0)) b r o o₂ → Does (work_of b zs) ds o (schedule_shuffle (run (work_of w (set xs layout.timers_scheduled_at 1)) ds out))
       → Does (work_of r zs) ds o₂ (first_timers (run (work_of w xs) ds out))
   unfolding first_timers run_of unpack station_of schedule_maintenance
-  timers_start b r zs o o₂ h z k₃ k₂ = left _ _ h (then-tell-any _ k₃ (seq schedule_shuffle k₂ (then (noted z) (still v))))
+  timers_start b r zs o o₂ h z k₃ k₂ = left _ _ h (then_tell_any _ k₃ (seq schedule_shuffle k₂ (then (noted z) (still v))))
 
 -- the work a with the words zs and the output o is what the first timers make of the work w with xs and out
 pub record Timed (w : Work) (xs ds out : List ℕ) (a : Work) (zs o : List ℕ) : Type 0 where
@@ -90,7 +90,7 @@ module _ (w : Work) (xs ds out : List ℕ) (v : Fine (work_of w xs) ds out) (l :
       (record {
         long = l;
         room = refl;
-        does = and_false (eqb w.code 0) _ t (λ z. timers-rest w xs ds out v (eqb-false _ _ z)) (λ z. timers-run w xs ds out v (is_yes _ z));
+        does = and_false (eqb w.code 0) _ t (λ z. timers_rest w xs ds out v (eqb-false _ _ z)) (λ z. timers_run w xs ds out v (is_yes _ z));
       })))
 
   pub timed_start : (b r : Work) (ys o₁ o₂ : List ℕ) → zs ≡ ys → o ≡ o₂ → a ≡ r → (eqb w.code 0 && not (eqb (layout.timers_scheduled xs) 1)) ≡ true → length ys ≡ length (set xs layout.timers_scheduled_at 1) → length o₁ ≡ length out → length o₂ ≡ length o₁

@@ -21,8 +21,8 @@ module _ (xs t : List ℕ) (l : length xs ≡ words) where
   no_data : t ≡ pad 0 (length (layout.peer_data_part xs)) [] → HoldsDataWords layout.peer_data_places t []
   no_data e = data_cleared layout.peer_data_places (layout.peer_data_part xs) t (part_long layout.peer_data_at layout.peer_data_size xs (omega (arith, l))) e
 
-  no-requests : t ≡ pad 0 (length (layout.requests_part xs)) [] → HoldsNumbers layout.requests_places t []
-  no-requests e = numbers_cleared layout.requests_places (layout.requests_part xs) t (part_long layout.requests_at layout.requests_size xs (omega (arith, l))) e
+  no_requests : t ≡ pad 0 (length (layout.requests_part xs)) [] → HoldsNumbers layout.requests_places t []
+  no_requests e = numbers_cleared layout.requests_places (layout.requests_part xs) t (part_long layout.requests_at layout.requests_size xs (omega (arith, l))) e
 
 module _ (xs a b c d e : List ℕ) (v : PackedState xs) (p : HoldsSet layout.refused_places a []) (q : HoldsSet layout.alive_places b []) where
   abbrev others : List ℕ
@@ -37,4 +37,4 @@ module _ (xs a b c d e : List ℕ) (v : PackedState xs) (p : HoldsSet layout.ref
   wiped r s t =
       let marks = put_alive q (put_refused p (record { packed = v; same = refl })) in
       let views = put_passive s (omega arith) (put_peer_data (no_data others c (long marks.packed) r) marks) in
-      put_requests (no-requests kept e (long views.packed) t) views
+      put_requests (no_requests kept e (long views.packed) t) views

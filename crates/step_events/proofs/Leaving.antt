@@ -21,15 +21,15 @@ use Rattle.spec_hyparview.specs.Active.{remove_active}
 use Rattle.spec_hyparview.specs.Messages.{drop_request}
 use Rattle.spec_hyparview.specs.Events.{drop_dead, lose_passive, lose_other, lose, handle_connection_closed, remove_neighbor, quit_one, quit_all, clear_all, handle_quit}
 use Rattle.spec_hyparview.proofs.Invariant.{busy, Ok}
-use Rattle.spec_hyparview.proofs.Received.{ok-drop-request}
+use Rattle.spec_hyparview.proofs.Received.{ok_drop_request}
 use Rattle.work.specs.declared.Work.{Work}
 use Rattle.hyparview_state.specs.Layout.{active_part, active_at, active_places, active_size}
 use Rattle.hyparview_state.specs.Unpack.{unpack, station_of, PackedState, Becomes}
 use Rattle.hyparview_state.specs.Work.{Held, work_of, run, run_of, Changes, Fine, Does}
 use Rattle.hyparview_state.proofs.Access.{active_fits}
-use Rattle.hyparview_state.proofs.Bridge.{guard_shut, on-twice, on-passed, on-done, change-then, change-yes, change-no, by, still, then, seq, seq-at, taken, left, holds_at, at_run}
+use Rattle.hyparview_state.proofs.Bridge.{guard_shut, on_twice, on_passed, on_done, change_then, change_yes, change_no, by, still, then, seq, seq_at, taken, left, holds_at, at_run}
 use Rattle.hyparview_state.proofs.Fields.{put_active}
-use Rattle.step_sending.proofs.Sets.{lent-items}
+use Rattle.step_sending.proofs.Sets.{lent_items}
 use Rattle.step_active.specs.declared.Loss.TheVariants.{ConnectionClosed}
 use Rattle.step_active.specs.Sane.{Calm, reason_in}
 
@@ -38,53 +38,53 @@ use Rattle.step_active.specs.Sane.{Calm, reason_in}
 module _ (w r : Held) (p : ℕ) (t : Bool) (e : t ≡ is_marked p (unpack w.state)) where
   pub saved : t ≡ true → Changes (on (drop_mark p)) w r → Changes (lose_passive p) w r
   unfolding lose_passive
-  saved h k = change-yes (is_marked p) e _ h k
+  saved h k = change_yes (is_marked p) e _ h k
 
   pub lost : (a : Held) → t ≡ false → Changes (on (drop_data p)) a r → Changes (on (remove_passive p)) w a → Changes (lose_passive p) w r
   unfolding lose_passive drop_dead
-  lost a h k₂ k₁ = change-no (is_marked p) e _ h (change-then (on (drop_dead p)) (λ ds out. on-twice (remove_passive p) (drop_data p) (run w ds out)) k₂ k₁)
+  lost a h k₂ k₁ = change_no (is_marked p) e _ h (change_then (on (drop_dead p)) (λ ds out. on_twice (remove_passive p) (drop_data p) (run w ds out)) k₂ k₁)
 
 module _ (w a : Held) (ds out : List ℕ) (p : ℕ) (k : Changes (on (drop_request p)) w a) where
-  pub closed-calm : (m b d : ℕ) → Calm m b d (run w ds out) → Calm m b d (run a ds out)
-  closed-calm m b d h = record {
+  pub closed_calm : (m b d : ℕ) → Calm m b d (run w ds out) → Calm m b d (run a ds out)
+  closed_calm m b d h = record {
     fixed = h.fixed;
     guest = h.guest;
     barred = h.barred;
     messages = h.messages;
     bytes = h.bytes;
     draws = h.draws;
-    ok = subst (Ok h.fixed (busy h.guest h.barred [] 0 0) (h.messages + m) (h.bytes + b) (h.draws + d)) (sym (k.same ds out)) (ok-drop-request p h.ok);
+    ok = subst (Ok h.fixed (busy h.guest h.barred [] 0 0) (h.messages + m) (h.bytes + b) (h.draws + d)) (sym (k.same ds out)) (ok_drop_request p h.ok);
   }
 
 module _ (w a : Held) (ds out : List ℕ) (p : ℕ) (requested t : Bool) (v : Fine w ds out) (q : requested ≡ is_requested p (unpack w.state)) (k : Changes (on (drop_request p)) w a) (e : t ≡ in_active p (unpack a.state)) where
   closed : (r : Held) (o : List ℕ) → Does r ds o (lose p requested (run a ds out)) → Does r ds o (handle_connection_closed p (run w ds out))
   unfolding handle_connection_closed
-  closed r o d = seq-at (lose p) (q ∙ at_run w ds out (is_requested p)) d (then k (still v))
+  closed r o d = seq_at (lose p) (q ∙ at_run w ds out (is_requested p)) d (then k (still v))
 
-  pub neighbor-lost : (r : Held) (o : List ℕ) → t ≡ true → Does r ds o (remove_active p (reason_in ConnectionClosed) (run a ds out)) → Does r ds o (handle_connection_closed p (run w ds out))
+  pub neighbor_lost : (r : Held) (o : List ℕ) → t ≡ true → Does r ds o (remove_active p (reason_in ConnectionClosed) (run a ds out)) → Does r ds o (handle_connection_closed p (run w ds out))
   unfolding lose reason_in
-  neighbor-lost r o h d = closed r o (taken _ _ (holds_at a ds out (in_active p) e h) d)
+  neighbor_lost r o h d = closed r o (taken _ _ (holds_at a ds out (in_active p) e h) d)
 
-  other-lost : (r : Held) (o : List ℕ) → t ≡ false → Does r ds o (lose_other p requested (run a ds out)) → Does r ds o (handle_connection_closed p (run w ds out))
+  other_lost : (r : Held) (o : List ℕ) → t ≡ false → Does r ds o (lose_other p requested (run a ds out)) → Does r ds o (handle_connection_closed p (run w ds out))
   unfolding lose
-  other-lost r o h d = closed r o (left _ _ (holds_at a ds out (in_active p) e h) d)
+  other_lost r o h d = closed r o (left _ _ (holds_at a ds out (in_active p) e h) d)
 
   passed : (b : Held) → Changes (lose_passive p) a b → Does b ds out (lose_passive p (run a ds out))
   passed b k₂ = then k₂ (still (then k (still v)).fine)
 
-  pub asked-again : (b r : Held) (o : List ℕ) → t ≡ false → requested ≡ true → Changes (lose_passive p) a b → Does r ds o (refill_active_from_passive (p ∷ []) (run b ds out)) → Does r ds o (handle_connection_closed p (run w ds out))
+  pub asked_again : (b r : Held) (o : List ℕ) → t ≡ false → requested ≡ true → Changes (lose_passive p) a b → Does r ds o (refill_active_from_passive (p ∷ []) (run b ds out)) → Does r ds o (handle_connection_closed p (run w ds out))
   unfolding lose_other
-  asked-again b r o h i k₂ d = other-lost r o h (taken _ _ i (seq (refill_active_from_passive (p ∷ [])) d (passed b k₂)))
+  asked_again b r o h i k₂ d = other_lost r o h (taken _ _ i (seq (refill_active_from_passive (p ∷ [])) d (passed b k₂)))
 
-  pub not-asked : (b : Held) → t ≡ false → requested ≡ false → Changes (lose_passive p) a b → Does b ds out (handle_connection_closed p (run w ds out))
+  pub not_asked : (b : Held) → t ≡ false → requested ≡ false → Changes (lose_passive p) a b → Does b ds out (handle_connection_closed p (run w ds out))
   unfolding lose_other
-  not-asked b h i k₂ = other-lost b out h (left _ _ i (passed b k₂))
+  not_asked b h i k₂ = other_lost b out h (left _ _ i (passed b k₂))
 
 -- ---- Quit
 
 -- a neighbor leaves the active view
 pub neighbor_removed : (w : Work) (xs ys : List ℕ) (p : ℕ) → PackedState xs → w.code ≡ 0 → Becomes ys (remove_neighbor p (unpack xs)) → Changes (on (remove_neighbor p)) (work_of w xs) (work_of w ys)
-neighbor_removed w xs ys p v z b = on-done (work_of w xs) v _ _ z (λ _. b)
+neighbor_removed w xs ys p v z b = on_done (work_of w xs) v _ _ z (λ _. b)
 
 pub quitted : (w a r : Held) (ds out o : List ℕ) (p : ℕ) → Fine w ds out → Does r ds o (send_disconnect p false (run a ds out)) → Changes (on (remove_neighbor p)) w a → Does r ds o (quit_one p (run w ds out))
 unfolding quit_one
@@ -113,15 +113,15 @@ quits_shut (p ∷ l) g h = ap (quit_all l) (quit_shut p g h) ∙ quits_shut l g 
 -- the neighbors are those of the working set
 quits_are : (v xs : List ℕ) (n : ℕ) → HoldsSet working_places v (items_at active_places (take active_size (drop active_at xs))) → n ≡ length (items_at working_places v) → take n v ≡ (unpack xs).active
 unfolding unpack station_of part
-quits_are v xs n h e = lent-items v n h.valid e ∙ h.items
+quits_are v xs n h e = lent_items v n h.valid e ∙ h.items
 
 module _ (w a : Work) (xs ys v ds out o : List ℕ) (n : ℕ) (d : Does (work_of a ys) ds o (quit_all (take n v) (run (work_of w xs) ds out))) (s : HoldsSet working_places v (items_at active_places (take active_size (drop active_at xs)))) (e : n ≡ length (items_at working_places v)) where
   cleared_by : (r : Held) → Changes (on clear_all) (work_of a ys) r → Does r ds o (handle_quit (run (work_of w xs) ds out))
   unfolding handle_quit run_of
   cleared_by r k = then k (by _ (ap (λ (l : List ℕ). quit_all l (run (work_of w xs) ds out)) (sym (quits_are v xs n s e))) d)
 
-  pub quit-passed : (a.code ≡ 0 → ⊥) → Does (work_of a ys) ds o (handle_quit (run (work_of w xs) ds out))
-  quit-passed h = cleared_by (work_of a ys) (on-passed (work_of a ys) d.fine.ready.packed clear_all h)
+  pub quit_passed : (a.code ≡ 0 → ⊥) → Does (work_of a ys) ds o (handle_quit (run (work_of w xs) ds out))
+  quit_passed h = cleared_by (work_of a ys) (on_passed (work_of a ys) d.fine.ready.packed clear_all h)
 
-  pub quit-handled : (z : List ℕ) → a.code ≡ 0 → Becomes z (clear_all (unpack ys)) → Does (work_of a z) ds o (handle_quit (run (work_of w xs) ds out))
-  quit-handled z c b = cleared_by (work_of a z) (on-done (work_of a ys) d.fine.ready.packed clear_all z c (λ _. b))
+  pub quit_handled : (z : List ℕ) → a.code ≡ 0 → Becomes z (clear_all (unpack ys)) → Does (work_of a z) ds o (handle_quit (run (work_of w xs) ds out))
+  quit_handled z c b = cleared_by (work_of a z) (on_done (work_of a ys) d.fine.ready.packed clear_all z c (λ _. b))

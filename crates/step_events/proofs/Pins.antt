@@ -20,9 +20,9 @@ use Rattle.work.specs.declared.Work.{Work}
 use Rattle.hyparview_state.specs.Layout.{active_view_capacity, pins_count, pins_part, pins_places}
 use Rattle.hyparview_state.specs.Unpack.{unpack, station_of, settings_at, PackedState}
 use Rattle.hyparview_state.specs.Work.{work_of, run_of, Changes, ChangesAny}
-use Rattle.hyparview_state.proofs.Access.{of-settings, of-pins, count_pins}
-use Rattle.hyparview_state.proofs.Bridge.{change-then, require_said}
-use Rattle.hyparview_state.proofs.Any.{required-at}
+use Rattle.hyparview_state.proofs.Access.{of_settings, of_pins, count_pins}
+use Rattle.hyparview_state.proofs.Bridge.{change_then, require_said}
+use Rattle.hyparview_state.proofs.Any.{required_at}
 
 one_less : (n c : ℕ) → ltb (n + 1) c ≡ ltb n (c - 1)
 one_less n c =
@@ -34,27 +34,27 @@ or_more true b d h e = e
 or_more false b d h e = h e
 
 pub few_pins : (xs : List ℕ) → PackedState xs → get_or xs pins_count 0 ≤ pins_places
-few_pins xs v = omega (arith, (of-pins xs v).fits, (of-pins xs v).counted, count_pins xs (of-pins xs v))
+few_pins xs v = omega (arith, (of_pins xs v).fits, (of_pins xs v).counted, count_pins xs (of_pins xs v))
 
 module _ (xs : List ℕ) (p : ℕ) (v : PackedState xs) where
-  pub left-known : (a : Bool) → a ≡ mem p (items_at pins_places (pins_part xs)) → (a || ltb (get_or xs pins_count 0 + 1) (active_view_capacity xs)) ≡ (is_pinned p (unpack xs) || pins_left (unpack xs))
+  pub left_known : (a : Bool) → a ≡ mem p (items_at pins_places (pins_part xs)) → (a || ltb (get_or xs pins_count 0 + 1) (active_view_capacity xs)) ≡ (is_pinned p (unpack xs) || pins_left (unpack xs))
   unfolding is_pinned pins_left most_pins unpack station_of settings_at
-  left-known a y =
-      let few = one_less (get_or xs pins_count 0) (active_view_capacity xs) ∙ ap (λ (n : ℕ). ltb n (active_view_capacity xs - 1)) (sym (count_pins xs (of-pins xs v))) in
+  left_known a y =
+      let few = one_less (get_or xs pins_count 0) (active_view_capacity xs) ∙ ap (λ (n : ℕ). ltb n (active_view_capacity xs - 1)) (sym (count_pins xs (of_pins xs v))) in
       λ i. y i || few i
 
-  pub pin-place : (w a : Work) (t : Bool) → t ≡ (is_pinned p (unpack xs) || pins_left (unpack xs)) → ChangesAny (require 18 t) w a → a.code ≡ 0 → length (insert p (items_at pins_places (pins_part xs))) ≤ pins_places
+  pub pin_place : (w a : Work) (t : Bool) → t ≡ (is_pinned p (unpack xs) || pins_left (unpack xs)) → ChangesAny (require 18 t) w a → a.code ≡ 0 → length (insert p (items_at pins_places (pins_part xs))) ≤ pins_places
   unfolding is_pinned pins_left most_pins unpack station_of settings_at
-  pin-place w a t e k z =
-      let f = of-pins xs v in
+  pin_place w a t e k z =
+      let f = of_pins xs v in
       let items = items_at pins_places (pins_part xs) in
       let c = active_view_capacity xs in
-      let few = (ranges_of (settings_at xs) (of-settings xs v)).few_slots in
-      let h = sym e ∙ (require_said (work_of w xs) (work_of a xs) 18 t (omega arith) (required-at xs v _ _ k) z).1 in
+      let few = (ranges_of (settings_at xs) (of_settings xs v)).few_slots in
+      let h = sym e ∙ (require_said (work_of w xs) (work_of a xs) 18 t (omega arith) (required_at xs v _ _ k) z).1 in
       length_insert p pins_places items (or_more (mem p items) (ltb (length items) (c - 1)) (ltb (length items) pins_places) (λ l. lt-ltb (length items) pins_places (omega (arith, few, ltb-true (length items) (c - 1) l))) h) (omega (arith, f.fits, f.counted))
 
-  pub pin-noted : (w a b r : Work) (ys : List ℕ) (s t : Bool) → s ≡ in_active p (unpack xs) → t ≡ (is_pinned p (unpack xs) || pins_left (unpack xs)) → Changes (on (note_pin p)) (work_of b xs) (work_of r ys) → ChangesAny (require 18 t) a b → ChangesAny (require 17 s) w a
+  pub pin_noted : (w a b r : Work) (ys : List ℕ) (s t : Bool) → s ≡ in_active p (unpack xs) → t ≡ (is_pinned p (unpack xs) || pins_left (unpack xs)) → Changes (on (note_pin p)) (work_of b xs) (work_of r ys) → ChangesAny (require 18 t) a b → ChangesAny (require 17 s) w a
       → Changes (handle_pin p) (work_of w xs) (work_of r ys)
   unfolding handle_pin pin_neighbor require_neighbor run_of
-  pin-noted w a b r ys s t d e k₃ k₂ k₁ =
-      change-then _ (λ ds out. rw d) (change-then (pin_neighbor p) (λ ds out. rw e) k₃ (required-at xs v _ _ k₂)) (required-at xs v _ _ k₁)
+  pin_noted w a b r ys s t d e k₃ k₂ k₁ =
+      change_then _ (λ ds out. rw d) (change_then (pin_neighbor p) (λ ds out. rw e) k₃ (required_at xs v _ _ k₂)) (required_at xs v _ _ k₁)

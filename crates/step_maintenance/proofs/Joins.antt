@@ -23,8 +23,8 @@ use Rattle.work.specs.declared.Work.{Work}
 use Rattle.hyparview_state.specs.Layout.{words, bootstrap_part, passes_alone, bootstrap_places, passes_alone_at}
 use Rattle.hyparview_state.specs.Unpack.{unpack, station_of}
 use Rattle.hyparview_state.specs.Work.{work_of, run, run_of, Changes, DrawsAny, Room, Tells, Fine, Does}
-use Rattle.hyparview_state.proofs.Bridge.{guard_shut, by, still, then, then-tell, seq, seq-at, taken, left}
-use Rattle.hyparview_state.proofs.Any.{then-one-of}
+use Rattle.hyparview_state.proofs.Bridge.{guard_shut, by, still, then, then_tell, seq, seq_at, taken, left}
+use Rattle.hyparview_state.proofs.Any.{then_one_of}
 
 -- ---- the bootstrap peers: the Joins to those to come, after what was done so far, are the answer
 
@@ -60,12 +60,12 @@ unfolding join run_of
 join_is_told r xs ds out p q e = ap (λ (x : ℕ). emit (join_to (unpack xs).own_data x) (run (work_of r xs) ds out)) e
 
 module _ (xs : List ℕ) (w : Work) (out₀ : List ℕ) (n : ℕ) (out : List ℕ) (r : Work) (i : ℕ) (v : Joining xs w out₀ n out r i) where
-  pub joins-below : i < n → i < length (items_at bootstrap_places (bootstrap_part xs))
-  joins-below h = omega (arith, v.count)
+  pub joins_below : i < n → i < length (items_at bootstrap_places (bootstrap_part xs))
+  joins_below h = omega (arith, v.count)
 
-  pub joins-next : (p : ℕ) (a : Work) (o : List ℕ) → i < n → p ≡ get_or (items_at bootstrap_places (bootstrap_part xs)) i 0 → Tells (join p) (work_of r xs) (work_of a xs) out o → length o ≡ length out → Joining xs w out₀ n o a (i + 1)
+  pub joins_next : (p : ℕ) (a : Work) (o : List ℕ) → i < n → p ≡ get_or (items_at bootstrap_places (bootstrap_part xs)) i 0 → Tells (join p) (work_of r xs) (work_of a xs) out o → length o ≡ length out → Joining xs w out₀ n o a (i + 1)
   unfolding emit_all
-  joins-next p a o h e k q = record {
+  joins_next p a o h e k q = record {
     room = k.room;
     drawn = k.drawn ∙ v.drawn;
     len = q ∙ v.len;
@@ -73,9 +73,9 @@ module _ (xs : List ℕ) (w : Work) (out₀ : List ℕ) (n : ℕ) (out : List �
     rest = λ ds. rest_next 0 (Then (unpack xs).own_data) (v.rest ds) (run (work_of a xs) ds o) h (λ l. ap (emit_all (join_to (unpack xs).own_data) l) (sym (k.same ds ∙ join_is_told r xs ds out p _ e)));
   }
 
-  pub joins-end : n ≤ i → Tells rejoin_bootstrap (work_of w xs) (work_of r xs) out₀ out
+  pub joins_end : n ≤ i → Tells rejoin_bootstrap (work_of w xs) (work_of r xs) out₀ out
   unfolding rejoin_bootstrap emit_all run_of unpack station_of
-  joins-end h = record { room = v.room; drawn = v.drawn; same = λ ds. sym (rest_end 0 (Then (unpack xs).own_data) (v.rest ds) h) }
+  joins_end h = record { room = v.room; drawn = v.drawn; same = λ ds. sym (rest_end 0 (Then (unpack xs).own_data) (v.rest ds) h) }
 
 -- ---- one recent neighbor
 
@@ -86,42 +86,42 @@ null_some : (l : List ℕ) → (length l ≡ 0 → ⊥) → null l ≡ false
 null_some l h = split (null l) (λ t. absurd (h (null_yes l t))) (λ t. t)
 
 module _ (w : Work) (xs ds out v : List ℕ) (n : ℕ) (f : Fine (work_of w xs) ds out) (c : n ≡ length (items_at working_places v)) where
-  pub no-recent : n ≡ 0 → Does (work_of w xs) ds out (rejoin_recent (items_at working_places v) (run (work_of w xs) ds out))
+  pub no_recent : n ≡ 0 → Does (work_of w xs) ds out (rejoin_recent (items_at working_places v) (run (work_of w xs) ds out))
   unfolding rejoin_recent
-  no-recent z = taken _ _ (null_none (items_at working_places v) (sym c ∙ z)) (still f)
+  no_recent z = taken _ _ (null_none (items_at working_places v) (sym c ∙ z)) (still f)
 
   module _ (i p : ℕ) (j : i ≡ pick n (drop w.drawn ds)) (q : p ≡ get_or (items_at working_places v) i 0) where
-    picked-is : p ≡ picked (items_at working_places v) (run (work_of w xs) ds out)
+    picked_is : p ≡ picked (items_at working_places v) (run (work_of w xs) ds out)
     unfolding picked one_of to_draw run_of
-    picked-is = q ∙ ap (λ (k : ℕ). get_or (items_at working_places v) k 0) (j ∙ ap (λ (k : ℕ). pick k (drop w.drawn ds)) c)
+    picked_is = q ∙ ap (λ (k : ℕ). get_or (items_at working_places v) k 0) (j ∙ ap (λ (k : ℕ). pick k (drop w.drawn ds)) c)
 
-    pub one-recent : (a r : Work) (o : List ℕ) → (n ≡ 0 → ⊥) → Tells (join p) (work_of a xs) (work_of r xs) out o → DrawsAny (draw_one_of n) w a ds → Does (work_of r xs) ds o (rejoin_recent (items_at working_places v) (run (work_of w xs) ds out))
+    pub one_recent : (a r : Work) (o : List ℕ) → (n ≡ 0 → ⊥) → Tells (join p) (work_of a xs) (work_of r xs) out o → DrawsAny (draw_one_of n) w a ds → Does (work_of r xs) ds o (rejoin_recent (items_at working_places v) (run (work_of w xs) ds out))
     unfolding rejoin_recent
-    one-recent a r o h k₂ k₁ =
-        left _ _ (null_some (items_at working_places v) (λ z. h (c ∙ z))) (by _ (λ k. join (sym picked-is k) (draw_one_of (sym c k) (run (work_of w xs) ds out))) (then-tell k₂ (then-one-of _ k₁ (still f))))
+    one_recent a r o h k₂ k₁ =
+        left _ _ (null_some (items_at working_places v) (λ z. h (c ∙ z))) (by _ (λ k. join (sym picked_is k) (draw_one_of (sym c k) (run (work_of w xs) ds out))) (then_tell k₂ (then_one_of _ k₁ (still f))))
 
 -- ---- both
 
 pub fine_told : {step : Run → Run} (w a : Work) (xs ys ds out o : List ℕ) → Fine (work_of w xs) ds out → Tells step (work_of w xs) (work_of a ys) out o → Fine (work_of a ys) ds o
-fine_told w a xs ys ds out o v k = (then-tell k (still v)).fine
+fine_told w a xs ys ds out o v k = (then_tell k (still v)).fine
 
 pub rejoined : (w a r : Work) (xs ds out o₁ o₂ v : List ℕ) → Fine (work_of w xs) ds out → HoldsSet working_places v (other_recent (unpack xs))
     → Does (work_of r xs) ds o₂ (rejoin_recent (items_at working_places v) (run (work_of a xs) ds o₁)) → Tells rejoin_bootstrap (work_of w xs) (work_of a xs) out o₁ → Does (work_of r xs) ds o₂ (rejoin (run (work_of w xs) ds out))
 unfolding rejoin run_of
-rejoined w a r xs ds out o₁ o₂ v f h k₂ k₁ = seq-at rejoin_recent h.items k₂ (then-tell k₁ (still f))
+rejoined w a r xs ds out o₁ o₂ v f h k₂ k₁ = seq_at rejoin_recent h.items k₂ (then_tell k₁ (still f))
 
 module _ (w : Work) (xs ds out : List ℕ) (t : Bool) (e : t ≡ backoff_due (passes_alone xs)) where
   due : {b : Bool} → t ≡ b → backoff_due (run (work_of w xs) ds out).station.passes_alone ≡ b
   unfolding run_of unpack station_of
   due h = sym e ∙ h
 
-  pub rejoin-due : (r : Work) (o : List ℕ) → t ≡ true → Does (work_of r xs) ds o (rejoin (run (work_of w xs) ds out)) → Does (work_of r xs) ds o (rejoin_if_due (run (work_of w xs) ds out))
+  pub rejoin_due : (r : Work) (o : List ℕ) → t ≡ true → Does (work_of r xs) ds o (rejoin (run (work_of w xs) ds out)) → Does (work_of r xs) ds o (rejoin_if_due (run (work_of w xs) ds out))
   unfolding rejoin_if_due
-  rejoin-due r o h k = taken _ _ (due h) k
+  rejoin_due r o h k = taken _ _ (due h) k
 
-  pub rejoin-not-due : Fine (work_of w xs) ds out → t ≡ false → Does (work_of w xs) ds out (rejoin_if_due (run (work_of w xs) ds out))
+  pub rejoin_not_due : Fine (work_of w xs) ds out → t ≡ false → Does (work_of w xs) ds out (rejoin_if_due (run (work_of w xs) ds out))
   unfolding rejoin_if_due
-  rejoin-not-due v h = left _ _ (due h) (still v)
+  rejoin_not_due v h = left _ _ (due h) (still v)
 
 -- ---- a pass that cannot be counted: no Join goes out
 

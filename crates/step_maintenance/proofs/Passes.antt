@@ -24,29 +24,29 @@ use Rattle.hyparview_state.specs.declared.RefillLimit.TheVariants.{Recovery}
 use Rattle.work.specs.declared.Work.{Work}
 use Rattle.hyparview_state.specs.Layout.{passive_part, passes_short, passive_at, passive_count, passive_places, passive_size}
 use Rattle.hyparview_state.specs.Unpack.{unpack, station_of, refill_in, limit_at, PackedState}
-use Rattle.hyparview_state.proofs.Access.{of-passive}
+use Rattle.hyparview_state.proofs.Access.{of_passive}
 use Rattle.hyparview_state.specs.Work.{Held, work_of, run, run_of, Changes, Fine, Does}
-use Rattle.hyparview_state.proofs.Bridge.{on-twice, change-then, still, then, seq, seq-at, taken, left, holds_at}
+use Rattle.hyparview_state.proofs.Bridge.{on_twice, change_then, still, then, seq, seq_at, taken, left, holds_at}
 
 -- ---- refills
 
 pub refilled_anew : (w a r : Work) (xs ys zs ds out o : List ℕ) (limit : RefillLimit) → Fine (work_of w xs) ds out → refill_in limit ≡ few_requests
     → Does (work_of r zs) ds o (start_refill (refill_in limit) [] (run (work_of a ys) ds out)) → Changes (on clear_refused) (work_of w xs) (work_of a ys) → Does (work_of r zs) ds o (refill_anew (run (work_of w xs) ds out))
 unfolding refill_anew
-refilled_anew w a r xs ys zs ds out o limit v e k₂ k₁ = seq-at (λ (l : Refill). start_refill l []) e k₂ (then k₁ (still v))
+refilled_anew w a r xs ys zs ds out o limit v e k₂ k₁ = seq_at (λ (l : Refill). start_refill l []) e k₂ (then k₁ (still v))
 
 module _ (w : Work) (xs ds out : List ℕ) (t : Bool) (e : t ≡ backoff_due (passes_short xs)) where
   due : {b : Bool} → t ≡ b → backoff_due (run (work_of w xs) ds out).station.passes_short ≡ b
   unfolding run_of unpack station_of
   due h = sym e ∙ h
 
-  pub refill-due : (r : Work) (ys o : List ℕ) → t ≡ true → Does (work_of r ys) ds o (refill_anew (run (work_of w xs) ds out)) → Does (work_of r ys) ds o (refill_if_due (run (work_of w xs) ds out))
+  pub refill_due : (r : Work) (ys o : List ℕ) → t ≡ true → Does (work_of r ys) ds o (refill_anew (run (work_of w xs) ds out)) → Does (work_of r ys) ds o (refill_if_due (run (work_of w xs) ds out))
   unfolding refill_if_due
-  refill-due r ys o h k = taken _ _ (due h) k
+  refill_due r ys o h k = taken _ _ (due h) k
 
-  pub refill-not-due : Fine (work_of w xs) ds out → t ≡ false → Does (work_of w xs) ds out (refill_if_due (run (work_of w xs) ds out))
+  pub refill_not_due : Fine (work_of w xs) ds out → t ≡ false → Does (work_of w xs) ds out (refill_if_due (run (work_of w xs) ds out))
   unfolding refill_if_due
-  refill-not-due v h = left _ _ (due h) (still v)
+  refill_not_due v h = left _ _ (due h) (still v)
 
 -- ---- tests
 
@@ -56,7 +56,7 @@ recovery_known xs l t e h = h ∙ ap (λ (x : RefillLimit). is_recovery (refill_
 
 -- the count of the passive view, as it stands in the words
 none_passive : (xs : List ℕ) → PackedState xs → eqb (get_or xs passive_count 0) 0 ≡ null (items_at passive_places (passive_part xs))
-none_passive xs v = ap (λ (n : ℕ). eqb n 0) (sym (part_read passive_at passive_size passive_places xs (omega arith))) ∙ empty_is_null passive_places (passive_part xs) (of-passive xs v)
+none_passive xs v = ap (λ (n : ℕ). eqb n 0) (sym (part_read passive_at passive_size passive_places xs (omega arith))) ∙ empty_is_null passive_places (passive_part xs) (of_passive xs v)
 
 pub none_known : (xs : List ℕ) (a : Bool) → PackedState xs → a ≡ is_alone (unpack xs) → (a && eqb (get_or xs passive_count 0) 0) ≡ knows_none (unpack xs)
 unfolding knows_none is_alone unpack station_of
@@ -69,30 +69,30 @@ module _ (w : Work) (xs ds out : List ℕ) (t : Bool) (v : Fine (work_of w xs) d
   unfolding pass_short
   paused e h = taken _ _ (holds_at (work_of w xs) ds out in_recovery e h) (still v)
 
-  pub passed-short : (a r : Work) (ys zs o : List ℕ) → t ≡ in_recovery (unpack xs) → t ≡ false → Does (work_of r zs) ds o (refill_if_due (run (work_of a ys) ds out)) → Changes count_short (work_of w xs) (work_of a ys)
+  pub passed_short : (a r : Work) (ys zs o : List ℕ) → t ≡ in_recovery (unpack xs) → t ≡ false → Does (work_of r zs) ds o (refill_if_due (run (work_of a ys) ds out)) → Changes count_short (work_of w xs) (work_of a ys)
       → Does (work_of r zs) ds o (pass_short (run (work_of w xs) ds out))
   unfolding pass_short
-  passed-short a r ys zs o e h k₂ k₁ = left _ _ (holds_at (work_of w xs) ds out in_recovery e h) (seq refill_if_due k₂ (then k₁ (still v)))
+  passed_short a r ys zs o e h k₂ k₁ = left _ _ (holds_at (work_of w xs) ds out in_recovery e h) (seq refill_if_due k₂ (then k₁ (still v)))
 
-  pub short-passed : (r : Work) (ys o : List ℕ) → t ≡ is_short (unpack xs) → t ≡ true → Does (work_of r ys) ds o (pass_short (run (work_of w xs) ds out)) → Does (work_of r ys) ds o (pass_neighbors (run (work_of w xs) ds out))
+  pub short_passed : (r : Work) (ys o : List ℕ) → t ≡ is_short (unpack xs) → t ≡ true → Does (work_of r ys) ds o (pass_short (run (work_of w xs) ds out)) → Does (work_of r ys) ds o (pass_neighbors (run (work_of w xs) ds out))
   unfolding pass_neighbors
-  short-passed r ys o e h k = taken _ _ (holds_at (work_of w xs) ds out is_short e h) k
+  short_passed r ys o e h k = taken _ _ (holds_at (work_of w xs) ds out is_short e h) k
 
-  pub enough-passed : (r : Work) (ys : List ℕ) → t ≡ is_short (unpack xs) → t ≡ false → Changes (on clear_refused) (work_of w xs) (work_of r ys) → Does (work_of r ys) ds out (pass_neighbors (run (work_of w xs) ds out))
+  pub enough_passed : (r : Work) (ys : List ℕ) → t ≡ is_short (unpack xs) → t ≡ false → Changes (on clear_refused) (work_of w xs) (work_of r ys) → Does (work_of r ys) ds out (pass_neighbors (run (work_of w xs) ds out))
   unfolding pass_neighbors
-  enough-passed r ys e h k = left _ _ (holds_at (work_of w xs) ds out is_short e h) (then k (still v))
+  enough_passed r ys e h k = left _ _ (holds_at (work_of w xs) ds out is_short e h) (then k (still v))
 
   pub recovers : (r : Work) (ys o : List ℕ) → t ≡ is_alone (unpack xs) → t ≡ true → Does (work_of r ys) ds o (start_refill (refill_in Recovery) [] (run (work_of w xs) ds out)) → Does (work_of r ys) ds o (pass_known (run (work_of w xs) ds out))
   unfolding pass_known refill_in
   recovers r ys o e h k = taken _ _ (holds_at (work_of w xs) ds out is_alone e h) k
 
-  pub neighbors-passed : (r : Work) (ys o : List ℕ) → t ≡ is_alone (unpack xs) → t ≡ false → Does (work_of r ys) ds o (pass_neighbors (run (work_of w xs) ds out)) → Does (work_of r ys) ds o (pass_known (run (work_of w xs) ds out))
+  pub neighbors_passed : (r : Work) (ys o : List ℕ) → t ≡ is_alone (unpack xs) → t ≡ false → Does (work_of r ys) ds o (pass_neighbors (run (work_of w xs) ds out)) → Does (work_of r ys) ds o (pass_known (run (work_of w xs) ds out))
   unfolding pass_known
-  neighbors-passed r ys o e h k = left _ _ (holds_at (work_of w xs) ds out is_alone e h) k
+  neighbors_passed r ys o e h k = left _ _ (holds_at (work_of w xs) ds out is_alone e h) k
 
-  pub maintained-alone : (r : Work) (ys o : List ℕ) → t ≡ knows_none (unpack xs) → t ≡ true → Does (work_of r ys) ds o (pass_alone (run (work_of w xs) ds out)) → Does (work_of r ys) ds o (maintain (run (work_of w xs) ds out))
+  pub maintained_alone : (r : Work) (ys o : List ℕ) → t ≡ knows_none (unpack xs) → t ≡ true → Does (work_of r ys) ds o (pass_alone (run (work_of w xs) ds out)) → Does (work_of r ys) ds o (maintain (run (work_of w xs) ds out))
   unfolding maintain
-  maintained-alone r ys o e h k = taken _ _ (holds_at (work_of w xs) ds out knows_none e h) k
+  maintained_alone r ys o e h k = taken _ _ (holds_at (work_of w xs) ds out knows_none e h) k
 
   pub maintained : (a r : Work) (ys zs o : List ℕ) → t ≡ knows_none (unpack xs) → t ≡ false → Does (work_of r zs) ds o (pass_known (run (work_of a ys) ds out)) → Changes (on not_alone) (work_of w xs) (work_of a ys)
       → Does (work_of r zs) ds o (maintain (run (work_of w xs) ds out))
@@ -103,7 +103,7 @@ module _ (w : Work) (xs ds out : List ℕ) (t : Bool) (v : Fine (work_of w xs) d
 
 pub knows_some : (w a r : Held) → Changes (on end_recovery) a r → Changes (on (set_passes_alone 0)) w a → Changes (on not_alone) w r
 unfolding not_alone
-knows_some w a r k₂ k₁ = change-then {f = on (set_passes_alone 0)} {g = on end_recovery} (on not_alone) (λ ds out. on-twice (set_passes_alone 0) end_recovery (run w ds out)) k₂ k₁
+knows_some w a r k₂ k₁ = change_then {f = on (set_passes_alone 0)} {g = on end_recovery} (on not_alone) (λ ds out. on_twice (set_passes_alone 0) end_recovery (run w ds out)) k₂ k₁
 
 -- the same words
 pub words_as : (f : Run → Run) (w : Held) (a : Work) (xs ys : List ℕ) → ys ≡ xs → Changes f w (work_of a xs) → Changes f w (work_of a ys)

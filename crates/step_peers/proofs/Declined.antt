@@ -4,7 +4,7 @@ use Prim.Native.Nat.{ℕ}
 use Rattle.base_columns.specs.Columns.{HoldsDataWords}
 use Rattle.base_lists.specs.Lists.{subset}
 use Rattle.base_lists.specs.Maps.{keys, retain}
-use Rattle.base_lists.proofs.Maps.{retain-all}
+use Rattle.base_lists.proofs.Maps.{retain_all}
 use Rattle.spec_hyparview.specs.Handle.{forget_declined}
 use Rattle.spec_hyparview.specs.Setters.{set_peer_data}
 use Rattle.spec_hyparview.specs.Station.{data_peers}
@@ -19,7 +19,7 @@ pub none_declined : (xs : List ℕ) (b : Bool) → b ≡ subset (keys (unpack xs
 unfolding forget_declined
 none_declined xs b q e k =
     let s = unpack xs in
-    record { packed = k.packed; same = k.same ∙ ap (λ (l : List (ℕ × List ℕ)). set_peer_data l s) (sym (retain-all (data_peers s) s.peer_data (sym q ∙ e))) }
+    record { packed = k.packed; same = k.same ∙ ap (λ (l : List (ℕ × List ℕ)). set_peer_data l s) (sym (retain_all (data_peers s) s.peer_data (sym q ∙ e))) }
 
 -- the data that a working set of peers retains
 pub retained : (m v ps : List ℕ) (l : List (ℕ × List ℕ)) → HoldsDataWords 80 m (retain (items_at 72 v) l) → HoldsSet 72 v ps → HoldsDataWords 80 m (retain ps l)

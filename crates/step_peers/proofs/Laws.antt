@@ -28,8 +28,8 @@ use Rattle.base_peer.proofs.Data.{bytes_in, length_bytes}
 use Rattle.work.specs.declared.Work.{Work}
 use Rattle.spec_hyparview.specs.Run.{Run, guard, on, emit, to_draw, one_of, draw_one_of, require, picked, notice, node, node_notice}
 use Rattle.hyparview_state.specs.Work.{Held, work_of, ChangesAny, DrawsAny, TellsAny, run, run_of, Changes, Room, Tells, Fine}
-use Rattle.hyparview_state.proofs.Any.{one-of-at, required-at, told_at}
-use Rattle.hyparview_state.proofs.Bridge.{on-passed, on-twice, unchanged, change-then, change-yes, change-no, telling, tell-by, tell-then, tell_yes, tell_no, still, by, then, then-draw, then-tell, seq, taken, left, require_said}
+use Rattle.hyparview_state.proofs.Any.{one_of_at, required_at, told_at}
+use Rattle.hyparview_state.proofs.Bridge.{on_passed, on_twice, unchanged, change_then, change_yes, change_no, telling, tell_by, tell_then, tell_yes, tell_no, still, by, then, then_draw, then_tell, seq, taken, left, require_said}
 use Rattle.base_peer.specs.Data.{Data, bytes_of, holds}
 use Rattle.base_timing.proofs.Ranges.{ranges}
 use Rattle.spec_hyparview.proofs.Keeping.{one_of_station, emit_station, emit_fine}
@@ -39,8 +39,8 @@ use Rattle.step_peers.specs.Answer.{named_in, Adds}
 use Rattle.step_peers.specs.declared.Evicted.TheVariants.{Nobody, Peer}
 use Rattle.step_peers.specs.declared.Added.{Added}
 use Rattle.hyparview_state.specs.Unpack.{unpack, station_of, settings_at, PackedState}
-use Rattle.hyparview_state.proofs.Access.{of-settings, of-passive, of-peer-data, passive_fits, count_passive}
-use Rattle.hyparview_state.proofs.Counts.{passive-full}
+use Rattle.hyparview_state.proofs.Access.{of_settings, of_passive, of_peer_data, passive_fits, count_passive}
+use Rattle.hyparview_state.proofs.Counts.{passive_full}
 
 -- fewer passive peers are within capacity
 pub shrunk : (xs : List ℕ) (p : ℕ) → PackedState xs → length (remove p (items_at passive_places (passive_part xs))) ≤ passive_view_capacity xs
@@ -53,11 +53,11 @@ shifted_fits xs i v h = omega (arith, length_shift (items_at passive_places (pas
 
 keeps : (w a r : Work) (xs ys : List ℕ) (p : ℕ) (b : List ℕ) (t : Bool) → PackedState xs → t ≡ data_fits p (unpack xs) → Changes (on (store_data p b)) (work_of a xs) (work_of r ys) → ChangesAny (require 8 t) w a → Changes (keep_data p b) (work_of w xs) (work_of r ys)
 unfolding keep_data run_of
-keeps w a r xs ys p b t v e k₂ k₁ = change-then _ (λ ds out. rw e) k₂ (required-at xs v _ _ k₁)
+keeps w a r xs ys p b t v e k₂ k₁ = change_then _ (λ ds out. rw e) k₂ (required_at xs v _ _ k₁)
 
 evicts : (w a r : Held) (i p : ℕ) → p ≡ get_or (unpack w.state).passive i 0 → Changes (forget_peer p) a r → Changes (on (shift_passive i)) w a → Changes (evict_at i) w r
 unfolding evict_at run_of unpack station_of
-evicts w a r i p e k₂ k₁ = change-then _ (λ ds out. rw e) k₂ k₁
+evicts w a r i p e k₂ k₁ = change_then _ (λ ds out. rw e) k₂ k₁
 
 -- ---- peer data
 
@@ -84,25 +84,25 @@ pub no_bytes : (d : PeerData) → ValidData d → eqb d.len 0 ≡ null (bytes_of
 no_bytes d v = null_is (take d.len d.bytes) d.len (length_bytes d v) ∙ ap null (sym (bytes_in d v))
 
 module _ (w : Held) (out : List ℕ) (p : ℕ) (d : PeerData) where
-  pub not-announced : (t : Bool) → Room w out → t ≡ null (bytes_of (data_in d)) → t ≡ true → Tells (announce_data p (bytes_of (data_in d))) w w out out
+  pub not_announced : (t : Bool) → Room w out → t ≡ null (bytes_of (data_in d)) → t ≡ true → Tells (announce_data p (bytes_of (data_in d))) w w out out
   unfolding announce_data
-  not-announced t v e h = tell-by _ (λ ds. choose_yes _ _ _ (sym e ∙ h)) (telling v (unchanged (λ g. g) v.packed (λ ds o. refl)))
+  not_announced t v e h = tell_by _ (λ ds. choose_yes _ _ _ (sym e ∙ h)) (telling v (unchanged (λ g. g) v.packed (λ ds o. refl)))
 
 pub announced : (w r : Work) (xs out o : List ℕ) (p : ℕ) (d : PeerData) (t : Bool) → Room (work_of w xs) out → d.present ≡ true → t ≡ null (bytes_of (data_in d)) → t ≡ false
     → TellsAny (emit (node_notice (output_byte kinds.PeerData) p (node_in (record { id = 0; «data» = d })))) w r out o
     → Tells (announce_data p (bytes_of (data_in d))) (work_of w xs) (work_of r xs) out o
 unfolding announce_data node_in
 announced w r xs out o p d t v y e h k =
-    tell-by _ (λ ds. choose_no _ _ _ (sym e ∙ h) ∙ ap (λ (x : Data). emit (record { kind = output_byte kinds.PeerData; message = 0; flags = 0; peer = p; second = 0; ttl = 0; number = 0; nodes = node 0 x ∷ [] }) (run (work_of w xs) ds out)) (sym (present_data d y))) (told_at xs v.packed _ k)
+    tell_by _ (λ ds. choose_no _ _ _ (sym e ∙ h) ∙ ap (λ (x : Data). emit (record { kind = output_byte kinds.PeerData; message = 0; flags = 0; peer = p; second = 0; ttl = 0; number = 0; nodes = node 0 x ∷ [] }) (run (work_of w xs) ds out)) (sym (present_data d y))) (told_at xs v.packed _ k)
 
 module _ (w : Held) (out : List ℕ) (p : ℕ) (d : PeerData) where
-  some-info : (r : Held) (o : List ℕ) → d.present ≡ true → Tells (insert_data p (bytes_of (data_in d))) w r out o → Tells (insert_peer_info p (data_in d)) w r out o
+  some_info : (r : Held) (o : List ℕ) → d.present ≡ true → Tells (insert_data p (bytes_of (data_in d))) w r out o → Tells (insert_peer_info p (data_in d)) w r out o
   unfolding insert_peer_info
-  some-info r o y k = tell-by _ (λ ds. ap (λ (x : Data). insert_peer_info p x (run w ds out)) (present_data d y)) k
+  some_info r o y k = tell_by _ (λ ds. ap (λ (x : Data). insert_peer_info p x (run w ds out)) (present_data d y)) k
 
-  pub no-info : Room w out → d.present ≡ false → Tells (insert_peer_info p (data_in d)) w w out out
+  pub no_info : Room w out → d.present ≡ false → Tells (insert_peer_info p (data_in d)) w w out out
   unfolding insert_peer_info
-  no-info v y = tell-by _ (λ ds. ap (λ (x : Data). insert_peer_info p x (run w ds out)) (absent_data d y)) (telling v (unchanged (λ g. g) v.packed (λ ds o. refl)))
+  no_info v y = tell_by _ (λ ds. ap (λ (x : Data). insert_peer_info p x (run w ds out)) (absent_data d y)) (telling v (unchanged (λ g. g) v.packed (λ ds o. refl)))
 
 -- ---- one of the items
 
@@ -119,19 +119,19 @@ some_choice k n h = omega (arith, eqb-false n 0 (not-true (eqb n 0) (and_right (
 pub entry_free : (w a : Work) (xs : List ℕ) (p : ℕ) (t : Bool) → PackedState xs → t ≡ data_fits p (unpack xs) → ChangesAny (require 8 t) w a → a.code ≡ 0
     → (has p (data_map_at peer_data_places (peer_data_part xs)) || ltb (length (data_map_at peer_data_places (peer_data_part xs))) peer_data_places) ≡ true
 unfolding unpack station_of data_fits
-entry_free w a xs p t v e k z = sym e ∙ (require_said (work_of w xs) (work_of a xs) 8 t (omega arith) (required-at xs v _ _ k) z).1
+entry_free w a xs p t v e k z = sym e ∙ (require_said (work_of w xs) (work_of a xs) 8 t (omega arith) (required_at xs v _ _ k) z).1
 
 -- an entry that the peer has, or a free one
 pub fits_known : (xs : List ℕ) (p : ℕ) (t : Bool) → PackedState xs → t ≡ has p (data_map_at peer_data_places (peer_data_part xs)) → (t || ltb (get_or xs peer_data_count 0) peer_data_places) ≡ data_fits p (unpack xs)
 unfolding data_fits unpack station_of
 fits_known xs p t v e =
-    let n : get_or xs peer_data_count 0 ≡ length (data_map_at peer_data_places (peer_data_part xs)) = sym ((of-peer-data xs v).counted ∙ part_read peer_data_at peer_data_size (peer_data_places + peer_data_places + (peer_data_places + peer_data_places)) xs (omega arith)) in
+    let n : get_or xs peer_data_count 0 ≡ length (data_map_at peer_data_places (peer_data_part xs)) = sym ((of_peer_data xs v).counted ∙ part_read peer_data_at peer_data_size (peer_data_places + peer_data_places + (peer_data_places + peer_data_places)) xs (omega arith)) in
     λ i. e i || ltb (n i) peer_data_places
 
 module _ (w a r : Held) (out o : List ℕ) (p : ℕ) (b : List ℕ) (t : Bool) where
   inserted : t ≡ is_known p b (unpack w.state) → t ≡ false → Changes (keep_data p b) a r → Tells (announce_data p b) w a out o → Tells (insert_data p b) w r out o
   unfolding insert_data
-  inserted e h k₂ k₁ = tell_no (is_known p b) e _ h (tell-then _ (λ ds. refl) (telling k₁.room k₂) k₁)
+  inserted e h k₂ k₁ = tell_no (is_known p b) e _ h (tell_then _ (λ ds. refl) (telling k₁.room k₂) k₁)
 
 -- what the test that nothing is stored said: whether there is data, and whether it is known
 pub is_given : (d : PeerData) (k : Bool) → (not d.present || k) ≡ false → d.present ≡ true
@@ -139,24 +139,24 @@ is_given d k e = not-false d.present (or_left (not d.present) k e)
 
 module _ (w : Work) (xs out : List ℕ) (p : ℕ) (d : PeerData) (y : Bool) where
   module _ (v : PackedState xs) (f : y ≡ holds (lookup p (unpack xs).peer_data) (bytes_of (data_in d))) where
-    known-here : (eqb p (me xs) || y) ≡ is_known p (bytes_of (data_in d)) (unpack xs)
+    known_here : (eqb p (me xs) || y) ≡ is_known p (bytes_of (data_in d)) (unpack xs)
     unfolding is_known is_me unpack station_of
-    known-here = ap (λ (t : Bool). eqb p (me xs) || t) f
+    known_here = ap (λ (t : Bool). eqb p (me xs) || t) f
 
-    pub info-stored : (a b : Work) (o : List ℕ) (t : Bool) → (not d.present || (eqb p (me xs) || y)) ≡ false → Tells (announce_data p (bytes_of (data_in d))) (work_of w xs) (work_of a xs) out o
+    pub info_stored : (a b : Work) (o : List ℕ) (t : Bool) → (not d.present || (eqb p (me xs) || y)) ≡ false → Tells (announce_data p (bytes_of (data_in d))) (work_of w xs) (work_of a xs) out o
         → t ≡ has p (data_map_at peer_data_places (peer_data_part xs)) → ChangesAny (require 8 (t || ltb (get_or xs peer_data_count 0) peer_data_places)) a b
         → (ys : List ℕ) → Changes (on (store_data p (bytes_of (data_in d)))) (work_of b xs) (work_of b ys) → Tells (insert_peer_info p (data_in d)) (work_of w xs) (work_of b ys) out o
-    info-stored a b o t n k₁ q k₂ ys k₃ =
-        some-info (work_of w xs) out p d (work_of b ys) o (is_given d (eqb p (me xs) || y) n)
-        (inserted _ _ _ _ _ _ _ (eqb p (me xs) || y) known-here (or_right (not d.present) _ n) (keeps a b b xs ys p _ (t || ltb (get_or xs peer_data_count 0) peer_data_places) v (fits_known xs p t v q) k₃ k₂) k₁)
+    info_stored a b o t n k₁ q k₂ ys k₃ =
+        some_info (work_of w xs) out p d (work_of b ys) o (is_given d (eqb p (me xs) || y) n)
+        (inserted _ _ _ _ _ _ _ (eqb p (me xs) || y) known_here (or_right (not d.present) _ n) (keeps a b b xs ys p _ (t || ltb (get_or xs peer_data_count 0) peer_data_places) v (fits_known xs p t v q) k₃ k₂) k₁)
 
-  pub info-passed : y ≡ holds (lookup p (unpack xs).peer_data) (bytes_of (data_in d)) → Room (work_of w xs) out → (not d.present || (eqb p (me xs) || y)) ≡ true → Tells (insert_peer_info p (data_in d)) (work_of w xs) (work_of w xs) out out
+  pub info_passed : y ≡ holds (lookup p (unpack xs).peer_data) (bytes_of (data_in d)) → Room (work_of w xs) out → (not d.present || (eqb p (me xs) || y)) ≡ true → Tells (insert_peer_info p (data_in d)) (work_of w xs) (work_of w xs) out out
   unfolding insert_data
-  info-passed f v t =
+  info_passed f v t =
       split d.present
-      (λ h. some-info (work_of w xs) out p d (work_of w xs) out h
-      (tell_yes (is_known p (bytes_of (data_in d))) (known-here v.packed f) _ (subst (λ (b : Bool). (not b || (eqb p (me xs) || y)) ≡ true) h t) (telling v (unchanged (λ g. g) v.packed (λ ds o. refl)))))
-      (λ h. no-info (work_of w xs) out p d v h)
+      (λ h. some_info (work_of w xs) out p d (work_of w xs) out h
+      (tell_yes (is_known p (bytes_of (data_in d))) (known_here v.packed f) _ (subst (λ (b : Bool). (not b || (eqb p (me xs) || y)) ≡ true) h t) (telling v (unchanged (λ g. g) v.packed (λ ds o. refl)))))
+      (λ h. no_info (work_of w xs) out p d v h)
 
 -- ---- what is forgotten
 
@@ -167,11 +167,11 @@ module _ (w : Held) (p : ℕ) (x y : Bool) (e : x ≡ in_active p (unpack w.stat
 
   pub remembered : PackedState w.state → (x || y) ≡ true → Changes (forget_peer p) w w
   unfolding forget_peer
-  remembered v h = change-yes (in_view p) viewed _ h (unchanged _ v (λ ds out. refl))
+  remembered v h = change_yes (in_view p) viewed _ h (unchanged _ v (λ ds out. refl))
 
   pub forgotten : (a r : Held) → (x || y) ≡ false → Changes (on (drop_mark p)) a r → Changes (on (drop_data p)) w a → Changes (forget_peer p) w r
   unfolding forget_peer drop_traces
-  forgotten a r h k₂ k₁ = change-no (in_view p) viewed _ h (change-then _ (λ ds out. on-twice _ _ _) k₂ k₁)
+  forgotten a r h k₂ k₁ = change_no (in_view p) viewed _ h (change_then _ (λ ds out. on_twice _ _ _) k₂ k₁)
 
 pub newcomer : (xs : List ℕ) (p : ℕ) (x y : Bool) → x ≡ in_active p (unpack xs) → y ≡ in_passive p (unpack xs) → not (eqb p (me xs) || (x || y)) ≡ is_newcomer p (unpack xs)
 unfolding is_newcomer in_view is_me unpack station_of
@@ -181,44 +181,44 @@ newcomer xs p x y e f = λ i. not (eqb p (me xs) || (e i || f i))
 
 -- the place chosen is one of the passive peers'
 pub still_below : (xs : List ℕ) (i : ℕ) → PackedState xs → i < get_or xs passive_count 0 → i < length (items_at passive_places (passive_part xs))
-still_below xs i v h = omega (arith, count_passive xs (of-passive xs v), h)
+still_below xs i v h = omega (arith, count_passive xs (of_passive xs v), h)
 
 -- who leaves, and what the run comes to
 module _ (g : Run) (i p : ℕ) (e : must_evict g.station ≡ true) (f : i ≡ one_of (length g.station.passive) g) where
-  one-evicted : p ≡ get_or g.station.passive i 0 → some p ≡ evicted g
+  one_evicted : p ≡ get_or g.station.passive i 0 → some p ≡ evicted g
   unfolding evicted picked
-  one-evicted h = sym (choose_yes _ _ _ e ∙ ap (λ (n : ℕ). some (get_or g.station.passive n 0)) (sym f) ∙ ap some (sym h))
+  one_evicted h = sym (choose_yes _ _ _ e ∙ ap (λ (n : ℕ). some (get_or g.station.passive n 0)) (sym f) ∙ ap some (sym h))
 
   evicting : evict_at i (draw_one_of (length g.station.passive) g) ≡ evict g
   unfolding evict
   evicting = sym (choose_yes _ _ _ e ∙ ap (λ (n : ℕ). evict_at n (draw_one_of (length g.station.passive) g)) (sym f))
 
-  room-evicts : p ≡ get_or g.station.passive i 0 → make_room g ≡ emit (notice (output_byte Evicted) p) (evict_at i (draw_one_of (length g.station.passive) g))
+  room_evicts : p ≡ get_or g.station.passive i 0 → make_room g ≡ emit (notice (output_byte Evicted) p) (evict_at i (draw_one_of (length g.station.passive) g))
   unfolding make_room tell_evicted
-  room-evicts h = sym (λ j. tell_evicted (one-evicted h j) (evicting j))
+  room_evicts h = sym (λ j. tell_evicted (one_evicted h j) (evicting j))
 
 module _ (g : Run) (e : must_evict g.station ≡ false) where
-  none-evicted : none ≡ evicted g
+  none_evicted : none ≡ evicted g
   unfolding evicted
-  none-evicted = sym (choose_no _ _ _ e)
+  none_evicted = sym (choose_no _ _ _ e)
 
-  none-leaves : g ≡ evict g
+  none_leaves : g ≡ evict g
   unfolding evict
-  none-leaves = sym (choose_no _ _ _ e)
+  none_leaves = sym (choose_no _ _ _ e)
 
-  room-stays : make_room g ≡ g
+  room_stays : make_room g ≡ g
   unfolding make_room tell_evicted
-  room-stays = sym (λ j. tell_evicted (none-evicted j) (none-leaves j))
+  room_stays = sym (λ j. tell_evicted (none_evicted j) (none_leaves j))
 
 must_known : (xs : List ℕ) → PackedState xs → (leb (passive_view_capacity xs) (get_or xs passive_count 0) && not (eqb (get_or xs passive_count 0) 0)) ≡ must_evict (unpack xs)
 unfolding must_evict unpack station_of
 must_known xs p =
-    let e = ap (λ (n : ℕ). eqb n 0) (sym (part_read passive_at passive_size passive_places xs (omega arith))) ∙ empty_is_null passive_places (passive_part xs) (of-passive xs p) in
-    λ i. passive-full xs p i && not (e i)
+    let e = ap (λ (n : ℕ). eqb n 0) (sym (part_read passive_at passive_size passive_places xs (omega arith))) ∙ empty_is_null passive_places (passive_part xs) (of_passive xs p) in
+    λ i. passive_full xs p i && not (e i)
 
 passive_counted : (xs : List ℕ) → PackedState xs → get_or xs passive_count 0 ≡ length (unpack xs).passive
 unfolding unpack station_of
-passive_counted xs p = sym (count_passive xs (of-passive xs p))
+passive_counted xs p = sym (count_passive xs (of_passive xs p))
 
 module _ (w : Work) (xs ds out : List ℕ) (v : Fine (work_of w xs) ds out) where
   pub made : (a b c r : Work) (ys zs o : List ℕ) (i p : ℕ) → (leb (passive_view_capacity xs) (get_or xs passive_count 0) && not (eqb (get_or xs passive_count 0) 0)) ≡ true → i ≡ pick (get_or xs passive_count 0) (drop w.drawn ds) → p ≡ get_or (unpack xs).passive i 0
@@ -233,15 +233,15 @@ module _ (w : Work) (xs ds out : List ℕ) (v : Fine (work_of w xs) ds out) wher
       let d : DrawsAny (draw_one_of (length g.station.passive)) w a ds = subst (λ (m : ℕ). DrawsAny (draw_one_of m) w a ds) q k₁ in
       let k : Changes (evict_at i) (work_of a xs) (work_of c zs) = evicts (work_of a xs) (work_of b ys) (work_of c zs) i p l k₃ k₂ in
       record {
-        does = by _ (room-evicts g i p t j l) (then-tell (told_at zs k.packed _ k₄) (then k (then-draw (one-of-at xs v.ready.packed _ d) (still v))));
-        named = one-evicted g i p t j l;
+        does = by _ (room_evicts g i p t j l) (then_tell (told_at zs k.packed _ k₄) (then k (then_draw (one_of_at xs v.ready.packed _ d) (still v))));
+        named = one_evicted g i p t j l;
       }
 
   pub not_made : (leb (passive_view_capacity xs) (get_or xs passive_count 0) && not (eqb (get_or xs passive_count 0) 0)) ≡ false → Adds (record { work = w; evicted = Nobody }) xs ds out (make_room (run (work_of w xs) ds out)) (evicted (run (work_of w xs) ds out))
   unfolding named_in run_of
   not_made h =
       let t : must_evict (run (work_of w xs) ds out).station ≡ false = sym (must_known xs v.ready.packed) ∙ h in
-      record { does = by _ (room-stays (run (work_of w xs) ds out) t) (still v); named = none-evicted (run (work_of w xs) ds out) t }
+      record { does = by _ (room_stays (run (work_of w xs) ds out) t) (still v); named = none_evicted (run (work_of w xs) ds out) t }
 
 -- unless a code is set, the passive view has a free place
 record FreePassive (code : ℕ) (s : Station) : Type 0 where
@@ -294,29 +294,29 @@ made_free g l m = tell_free (evicted g) (evict g) (evict_free g l m)
 -- ---- a newcomer in the passive view
 
 pub after_info : {step : Run → Run} (w a : Work) (xs ys ds out o : List ℕ) → Fine (work_of w xs) ds out → Tells step (work_of w xs) (work_of a ys) out o → Fine (work_of a ys) ds o
-after_info w a xs ys ds out o v k = (then-tell k (still v)).fine
+after_info w a xs ys ds out o v k = (then_tell k (still v)).fine
 
 module _ (w : Work) (m : Added) (xs ys ds out o : List ℕ) (x : Option ℕ) (v : Fine (work_of w xs) ds out) (k : Adds m ys ds o (make_room (run (work_of w xs) ds out)) x) (z : m.work.code ≡ 0) where
-  room-made : FreePassive m.work.code (unpack ys)
+  room_made : FreePassive m.work.code (unpack ys)
   unfolding run_of unpack station_of settings_at
-  room-made =
+  room_made =
       subst (λ (g : Run). FreePassive g.code g.station) (sym k.does.same)
-      (made_free (run (work_of w xs) ds out) (passive_fits xs v.ready.packed) (ranges (settings_at xs) (of-settings xs v.ready.packed)).passive.least)
+      (made_free (run (work_of w xs) ds out) (passive_fits xs v.ready.packed) (ranges (settings_at xs) (of_settings xs v.ready.packed)).passive.least)
 
   -- the free place is one in the view's section, and is enough for one more
-  pub place-passive : length (items_at passive_places (passive_part ys)) < passive_places
+  pub place_passive : length (items_at passive_places (passive_part ys)) < passive_places
   unfolding unpack station_of settings_at
-  place-passive = omega (arith, room-made.free z, (ranges (settings_at ys) (of-settings ys k.does.fine.ready.packed)).passive.most)
+  place_passive = omega (arith, room_made.free z, (ranges (settings_at ys) (of_settings ys k.does.fine.ready.packed)).passive.most)
 
   pub one_more : (p : ℕ) → length (items_at passive_places (passive_part ys) ++ (p ∷ [])) ≤ passive_view_capacity ys
   unfolding unpack station_of settings_at
-  one_more p = omega (arith, room-made.free z, length-append (items_at passive_places (passive_part ys)) (p ∷ []))
+  one_more p = omega (arith, room_made.free z, length-append (items_at passive_places (passive_part ys)) (p ∷ []))
 
 module _ (w a : Work) (xs ys ds out o : List ℕ) (p : ℕ) (d : Data) (t : Bool) (v : Fine (work_of w xs) ds out) (k₁ : Tells (insert_peer_info p d) (work_of w xs) (work_of a ys) out o) (e : t ≡ is_newcomer p (unpack ys)) where
   added : (m : Added) (zs o₂ : List ℕ) → Adds m zs ds o₂ (enter_passive p (run (work_of a ys) ds o)) (evicted_for p (run (work_of a ys) ds o))
       → Adds m zs ds o₂ (add_passive p d (run (work_of w xs) ds out)) (evicted_by p d (run (work_of w xs) ds out))
   unfolding add_passive evicted_by
-  added m zs o₂ k₂ = record { does = seq (enter_passive p) k₂.does (then-tell k₁ (still v)); named = k₂.named ∙ ap (evicted_for p) (k₁.same ds) }
+  added m zs o₂ k₂ = record { does = seq (enter_passive p) k₂.does (then_tell k₁ (still v)); named = k₂.named ∙ ap (evicted_for p) (k₁.same ds) }
 
   pub not_entered : t ≡ false → Adds (record { work = a; evicted = Nobody }) ys ds o (add_passive p d (run (work_of w xs) ds out)) (evicted_by p d (run (work_of w xs) ds out))
   unfolding enter_passive evicted_for named_in run_of
@@ -329,4 +329,4 @@ module _ (w a : Work) (xs ys ds out o : List ℕ) (p : ℕ) (d : Data) (t : Bool
     entered us k₃ = added m us o₂ (record { does = taken _ _ (sym e ∙ h) (then k₃ k₂.does); named = k₂.named ∙ sym (choose_yes _ _ _ (sym e ∙ h)) })
 
     pub refused : (m.work.code ≡ 0 → ⊥) → Adds m zs ds o₂ (add_passive p d (run (work_of w xs) ds out)) (evicted_by p d (run (work_of w xs) ds out))
-    refused z = entered zs (on-passed (work_of m.work zs) k₂.does.fine.ready.packed _ z)
+    refused z = entered zs (on_passed (work_of m.work zs) k₂.does.fine.ready.packed _ z)

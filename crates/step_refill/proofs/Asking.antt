@@ -25,10 +25,10 @@ use Rattle.work.specs.declared.Work.{Work}
 use Rattle.hyparview_state.specs.Layout.{active_view_capacity, refill_kind, refill_requests, active_part, requests_part, active_count, active_places, requests_places}
 use Rattle.hyparview_state.specs.Unpack.{unpack, station_of, settings_at, PackedState}
 use Rattle.hyparview_state.specs.Work.{Held, work_of, run, run_of, Changes, DrawsAny, Tells, Fine, Does}
-use Rattle.hyparview_state.proofs.Access.{of-active, count_active}
-use Rattle.hyparview_state.proofs.Limits.{says-spent}
-use Rattle.hyparview_state.proofs.Bridge.{by, still, then, then-tell, seq, taken, left, holds_at}
-use Rattle.hyparview_state.proofs.Any.{then-one-of}
+use Rattle.hyparview_state.proofs.Access.{of_active, count_active}
+use Rattle.hyparview_state.proofs.Limits.{says_spent}
+use Rattle.hyparview_state.proofs.Bridge.{by, still, then, then_tell, seq, taken, left, holds_at}
+use Rattle.hyparview_state.proofs.Any.{then_one_of}
 
 -- ---- working sets
 
@@ -62,25 +62,25 @@ module _ (xs skip others free : List ℕ) (t : Bool) (h : HoldsSet working_place
   abbrev unasked : List ℕ
   unasked = without_all (keys (unpack xs).requests) (without_all skip (unpack xs).passive)
 
-  free-is : items_at working_places free ≡ unasked
-  free-is = f.items ∙ ap (without_all (keys (unpack xs).requests)) h.items
+  free_is : items_at working_places free ≡ unasked
+  free_is = f.items ∙ ap (without_all (keys (unpack xs).requests)) h.items
 
-  pub candidates-alone : t ≡ true → HoldsSet working_places free (candidates skip (unpack xs))
-  candidates-alone q = record {
+  pub candidates_alone : t ≡ true → HoldsSet working_places free (candidates skip (unpack xs))
+  candidates_alone q = record {
     valid = f.valid;
     items =
-        free-is
+        free_is
         ∙ sym
         (candidates_are skip (unpack xs)
         ∙ ap (λ (l : List ℕ). without_all l unasked) (choose_yes (is_alone (unpack xs)) [] (unpack xs).refused (sym e ∙ q))
         ∙ without_none unasked);
   }
 
-  pub candidates-else : (r : List ℕ) → t ≡ false → HoldsSet working_places r (without_all (unpack xs).refused (items_at working_places free)) → HoldsSet working_places r (candidates skip (unpack xs))
-  candidates-else r q g = record {
+  pub candidates_else : (r : List ℕ) → t ≡ false → HoldsSet working_places r (without_all (unpack xs).refused (items_at working_places free)) → HoldsSet working_places r (candidates skip (unpack xs))
+  candidates_else r q g = record {
     valid = g.valid;
     items =
-        g.items ∙ ap (without_all (unpack xs).refused) free-is
+        g.items ∙ ap (without_all (unpack xs).refused) free_is
         ∙ sym
         (candidates_are skip (unpack xs)
         ∙ ap (λ (l : List ℕ). without_all l unasked) (choose_no (is_alone (unpack xs)) [] (unpack xs).refused (sym e ∙ q)));
@@ -106,34 +106,34 @@ unfolding ask_picked picked one_of to_draw run_of
 one_picked w a b r xs ys zs ds out o from n i p high v q c u e k₃ k₂ k₁ =
     let at = e ∙ ap (λ (k : ℕ). get_or (items_at working_places from) k 0) (u ∙ ap (λ (k : ℕ). pick k (drop w.drawn ds)) c) in
     by _ (λ j. on use_request (send_neighbor (sym at j) (sym q j) (draw_one_of (sym c j) (run (work_of w xs) ds out))))
-    (then k₃ (then-tell k₂ (then-one-of _ k₁ (still v))))
+    (then k₃ (then_tell k₂ (then_one_of _ k₁ (still v))))
 
 module _ (skip from : List ℕ) (w : Work) (xs ds out : List ℕ) (t : Bool) (c : HoldsSet working_places from (candidates skip (unpack xs))) (e : t ≡ null (items_at working_places from)) where
-  limited-done : (r : Held) (o : List ℕ) → Does r ds o (ask_one (items_at working_places from) (run (work_of w xs) ds out)) → Does r ds o (refill_limited skip (run (work_of w xs) ds out))
+  limited_done : (r : Held) (o : List ℕ) → Does r ds o (ask_one (items_at working_places from) (run (work_of w xs) ds out)) → Does r ds o (refill_limited skip (run (work_of w xs) ds out))
   unfolding refill_limited run_of
-  limited-done r o d = by (refill_limited skip (run (work_of w xs) ds out)) (ap (λ (l : List ℕ). ask_one l (run (work_of w xs) ds out)) (sym c.items)) d
+  limited_done r o d = by (refill_limited skip (run (work_of w xs) ds out)) (ap (λ (l : List ℕ). ask_one l (run (work_of w xs) ds out)) (sym c.items)) d
 
   pub none_left : (r : Work) (ys : List ℕ) → Fine (work_of w xs) ds out → t ≡ true → Changes (on end_recovery) (work_of w xs) (work_of r ys) → Does (work_of r ys) ds out (refill_limited skip (run (work_of w xs) ds out))
   unfolding ask_one
-  none_left r ys v h k = limited-done (work_of r ys) out (taken (null (items_at working_places from)) (ask_picked (items_at working_places from) (run (work_of w xs) ds out)) (sym e ∙ h) (then k (still v)))
+  none_left r ys v h k = limited_done (work_of r ys) out (taken (null (items_at working_places from)) (ask_picked (items_at working_places from) (run (work_of w xs) ds out)) (sym e ∙ h) (then k (still v)))
 
-  pub one-asked : (r : Work) (ys o : List ℕ) → t ≡ false → Does (work_of r ys) ds o (ask_picked (items_at working_places from) (run (work_of w xs) ds out)) → Does (work_of r ys) ds o (refill_limited skip (run (work_of w xs) ds out))
+  pub one_asked : (r : Work) (ys o : List ℕ) → t ≡ false → Does (work_of r ys) ds o (ask_picked (items_at working_places from) (run (work_of w xs) ds out)) → Does (work_of r ys) ds o (refill_limited skip (run (work_of w xs) ds out))
   unfolding ask_one
-  one-asked r ys o h d = limited-done (work_of r ys) o (left (null (items_at working_places from)) (on end_recovery (run (work_of w xs) ds out)) (sym e ∙ h) d)
+  one_asked r ys o h d = limited_done (work_of r ys) o (left (null (items_at working_places from)) (on end_recovery (run (work_of w xs) ds out)) (sym e ∙ h) d)
 
 -- ---- whether one is asked at all
 
 pub none_needed : (xs t : List ℕ) → PackedState xs → HoldsSet working_places t (asked_outside (unpack xs)) → (leb (active_view_capacity xs) (get_or xs active_count 0 + get_or t working_places 0) || (eqb (refill_kind xs) 1 && eqb (refill_requests xs) 0)) ≡ needs_none (unpack xs)
 unfolding needs_none unpack station_of settings_at
 none_needed xs t p h =
-    let n : get_or xs active_count 0 ≡ length (items_at active_places (active_part xs)) = sym (count_active xs (of-active xs p)) in
+    let n : get_or xs active_count 0 ≡ length (items_at active_places (active_part xs)) = sym (count_active xs (of_active xs p)) in
     let asked : get_or t working_places 0 ≡ length (asked_outside (unpack xs)) = sym h.valid.counted ∙ ap length h.items in
-    λ i. leb (active_view_capacity xs) (n i + asked i) || says-spent xs i
+    λ i. leb (active_view_capacity xs) (n i + asked i) || says_spent xs i
 
 module _ (skip : List ℕ) (w : Work) (xs ds out : List ℕ) (t : Bool) (v : Fine (work_of w xs) ds out) (e : t ≡ needs_none (unpack xs)) where
-  pub not-needed : t ≡ true → Does (work_of w xs) ds out (refill_active_from_passive skip (run (work_of w xs) ds out))
+  pub not_needed : t ≡ true → Does (work_of w xs) ds out (refill_active_from_passive skip (run (work_of w xs) ds out))
   unfolding refill_active_from_passive
-  not-needed h = by _ (choose_yes _ _ _ (holds_at (work_of w xs) ds out needs_none e h)) (still v)
+  not_needed h = by _ (choose_yes _ _ _ (holds_at (work_of w xs) ds out needs_none e h)) (still v)
 
   pub needed : (a r : Work) (ys zs o : List ℕ) → t ≡ false → Changes (on limit_short) (work_of w xs) (work_of a ys) → Does (work_of r zs) ds o (refill_limited skip (run (work_of a ys) ds out))
       → Does (work_of r zs) ds o (refill_active_from_passive skip (run (work_of w xs) ds out))

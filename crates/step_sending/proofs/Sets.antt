@@ -19,14 +19,14 @@ few_taken (suc k) (x ∷ xs) = omega (arith, few_taken k xs)
 
 -- the part of a working set that its count lends is its items
 module _ (v : List ℕ) (n : ℕ) (s : ValidSet working_places v) (e : n ≡ length (items_at working_places v)) where
-  pub lent-items : take n v ≡ items_at working_places v
-  lent-items = ap (λ (k : ℕ). take k v) (e ∙ s.counted) ∙ lent working_places v s
+  pub lent_items : take n v ≡ items_at working_places v
+  lent_items = ap (λ (k : ℕ). take k v) (e ∙ s.counted) ∙ lent working_places v s
 
-  pub lent-count : n ≡ length (take n v)
-  lent-count = e ∙ ap length (sym lent-items)
+  pub lent_count : n ≡ length (take n v)
+  lent_count = e ∙ ap length (sym lent_items)
 
-  pub lent-few : length (take n v) ≤ working_places
-  lent-few = omega (arith, lent-count, s.counted, s.fits)
+  pub lent_few : length (take n v) ≤ working_places
+  lent_few = omega (arith, lent_count, s.counted, s.fits)
 
 pub capped : (v r l : List ℕ) (most : ℕ) → HoldsSet working_places r (take most (items_at working_places v)) → HoldsSet working_places v l → HoldsSet working_places r (take most l)
 capped v r l most h k = set_then working_places (take most) h k

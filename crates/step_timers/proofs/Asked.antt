@@ -20,7 +20,7 @@ use Rattle.work.specs.declared.Work.{Work}
 use Rattle.hyparview_state.specs.Layout.{requests_part, joins_part, joins_places, requests_places}
 use Rattle.hyparview_state.specs.Unpack.{unpack, station_of}
 use Rattle.hyparview_state.specs.Work.{work_of, run, Changes, Room, Tells, Fine, Does}
-use Rattle.hyparview_state.proofs.Bridge.{unchanged, telling, tell-then, tell_yes, tell_no, still, then, seq, taken, left, holds_at}
+use Rattle.hyparview_state.proofs.Bridge.{unchanged, telling, tell_then, tell_yes, tell_no, still, then, seq, taken, left, holds_at}
 
 pub no_number : (n : ℕ) (m : Number) → m ≡ Absent → false ≡ is_number n (number_in m)
 unfolding is_number number_in
@@ -31,18 +31,18 @@ unfolding is_number number_in
 same_number n k m e = rw e
 
 module _ (xs : List ℕ) (p id : ℕ) (m : Number) (t : Bool) (e : t ≡ is_number id (number_in m)) where
-  pub request-said : number_in m ≡ lookup p (numbers_at requests_places (requests_part xs)) → t ≡ request_is p id (unpack xs)
+  pub request_said : number_in m ≡ lookup p (numbers_at requests_places (requests_part xs)) → t ≡ request_is p id (unpack xs)
   unfolding request_is unpack station_of
-  request-said h = e ∙ ap (is_number id) h
+  request_said h = e ∙ ap (is_number id) h
 
-  pub join-said : number_in m ≡ lookup p (numbers_at joins_places (joins_part xs)) → t ≡ join_is p id (unpack xs)
+  pub join_said : number_in m ≡ lookup p (numbers_at joins_places (joins_part xs)) → t ≡ join_is p id (unpack xs)
   unfolding join_is unpack station_of
-  join-said h = e ∙ ap (is_number id) h
+  join_said h = e ∙ ap (is_number id) h
 
 -- a refill that skips nobody, after p was dropped
 module _ (w a b : Work) (xs ys zs ds out : List ℕ) (p : ℕ) (v : Fine (work_of w xs) ds out) (k₂ : Changes (drop_passive p) (work_of a ys) (work_of b zs)) (k₁ : Changes (on (drop_request p)) (work_of w xs) (work_of a ys)) where
-  pub dropped-fine : Fine (work_of b zs) ds out
-  dropped-fine = (then k₂ (then k₁ (still v))).fine
+  pub dropped_fine : Fine (work_of b zs) ds out
+  dropped_fine = (then k₂ (then k₁ (still v))).fine
 
   pub failed : (r : Work) (us o : List ℕ) → Does (work_of r us) ds o (refill_active_from_passive [] (run (work_of b zs) ds out)) → Does (work_of r us) ds o (request_failed p (run (work_of w xs) ds out))
   unfolding request_failed
@@ -63,8 +63,8 @@ room_changed w a xs ys out v k = (telling v k).room
 module _ (w : Work) (xs out : List ℕ) (p id : ℕ) (t : Bool) (v : Room (work_of w xs) out) (e : t ≡ join_is p id (unpack xs)) where
   pub retried : (a r : Work) (ys o : List ℕ) → t ≡ true → Tells (join p) (work_of a ys) (work_of r ys) out o → Changes (on (drop_join p)) (work_of w xs) (work_of a ys) → Tells (retry_join p id) (work_of w xs) (work_of r ys) out o
   unfolding retry_join
-  retried a r ys o h k₂ k₁ = tell_yes (join_is p id) e _ h (tell-then _ (λ ds. refl) k₂ (telling v k₁))
+  retried a r ys o h k₂ k₁ = tell_yes (join_is p id) e _ h (tell_then _ (λ ds. refl) k₂ (telling v k₁))
 
-  pub not-retried : t ≡ false → Tells (retry_join p id) (work_of w xs) (work_of w xs) out out
+  pub not_retried : t ≡ false → Tells (retry_join p id) (work_of w xs) (work_of w xs) out out
   unfolding retry_join
-  not-retried h = tell_no (join_is p id) e _ h (telling v (unchanged (λ g. g) v.packed (λ ds o. refl)))
+  not_retried h = tell_no (join_is p id) e _ h (telling v (unchanged (λ g. g) v.packed (λ ds o. refl)))

@@ -28,24 +28,24 @@ use Rattle.hyparview_state.specs.Layout as layout
 use Rattle.hyparview_state.specs.Layout.{next_shuffle_interval, shuffle_interval, me, shuffle_random_walk_length, shuffle_active_view_count, shuffle_passive_view_count}
 use Rattle.hyparview_state.specs.Unpack.{unpack, station_of, settings_at, own_at, PackedState, Becomes}
 use Rattle.hyparview_state.specs.Work.{work_of, run, run_of, Changes, DrawsAny, Room, Tells, TellsAny, Fine, Does}
-use Rattle.hyparview_state.proofs.Access.{of-settings}
+use Rattle.hyparview_state.proofs.Access.{of_settings}
 use Rattle.hyparview_state.proofs.Fields.{put_next_interval}
-use Rattle.hyparview_state.proofs.Bridge.{guard_shut, on-done, by, tell-by, still, then, then-tell, seq, seq-at, taken, left}
-use Rattle.hyparview_state.proofs.Any.{then-drawn, then-one-of, then-shuffle, then-tell-any, told_at}
-use Rattle.step_sending.proofs.Sets.{few_taken, lent-items, lent-count, shuffled_by, shuffle_of}
+use Rattle.hyparview_state.proofs.Bridge.{guard_shut, on_done, by, tell_by, still, then, then_tell, seq, seq_at, taken, left}
+use Rattle.hyparview_state.proofs.Any.{then_drawn, then_one_of, then_shuffle, then_tell_any, told_at}
+use Rattle.step_sending.proofs.Sets.{few_taken, lent_items, lent_count, shuffled_by, shuffle_of}
 
 -- ---- the interval
 
 pub setting_fits : (xs : List ℕ) → PackedState xs → shuffle_interval xs ≤ longest_time
 unfolding settings_at
-setting_fits xs v = (ranges (settings_at xs) (of-settings xs v)).interval.most
+setting_fits xs v = (ranges (settings_at xs) (of_settings xs v)).interval.most
 
 put_doubled : (xs : List ℕ) (n : ℕ) → n ≡ min (2 * next_shuffle_interval xs) (shuffle_interval xs) → Becomes xs (unpack xs) → Becomes (set xs layout.next_shuffle_interval_at n) (double_interval (unpack xs))
 unfolding double_interval unpack station_of settings_at
 put_doubled xs n e b = subst (λ (m : ℕ). Becomes (set xs layout.next_shuffle_interval_at n) (set_next_interval m (unpack xs))) e (put_next_interval n (omega (arith, e, setting_fits xs b.packed)) b)
 
 pub doubled : (w : Work) (xs : List ℕ) (n : ℕ) → PackedState xs → w.code ≡ 0 → n ≡ min (2 * next_shuffle_interval xs) (shuffle_interval xs) → Changes (on double_interval) (work_of w xs) (work_of w (set xs layout.next_shuffle_interval_at n))
-doubled w xs n v z e = on-done (work_of w xs) v double_interval _ z (put_doubled xs n e)
+doubled w xs n v z e = on_done (work_of w xs) v double_interval _ z (put_doubled xs n e)
 
 -- where a code is set, no timer is set
 schedule_rests : (g : Run) → (g.code ≡ 0 → ⊥) → schedule_shuffle g ≡ g
@@ -68,7 +68,7 @@ pub scheduled : (w a b r : Work) (xs ys ds out o : List ℕ) (x d : ℕ) → Fin
     → TellsAny (emit (timer (kind_byte DoShuffle) 0 x 0)) b r out o
     → DrawsAny (draw 1) a b ds → Changes (on double_interval) (work_of w xs) (work_of a ys) → Does (work_of r ys) ds o (schedule_shuffle (run (work_of w xs) ds out))
 scheduled w a b r xs ys ds out o x d v e q k₃ k₂ k₁ =
-    by _ (scheduled_is w xs ds out x d e (q ∙ ap (λ (n : ℕ). get_or ds n 0) k₁.drawn)) (then-tell-any _ k₃ (then-drawn _ k₂ (then k₁ (still v))))
+    by _ (scheduled_is w xs ds out x d e (q ∙ ap (λ (n : ℕ). get_or ds n 0) k₁.drawn)) (then_tell_any _ k₃ (then_drawn _ k₂ (then k₁ (still v))))
 
 -- ---- the message
 
@@ -78,11 +78,11 @@ length_infos s [] = refl
 length_infos s (p ∷ ps) = omega (arith, length_infos s ps)
 
 pub place_named : (xs v : List ℕ) (n : ℕ) (ns : Nodes) → ValidSet working_places v → n ≡ length (items_at working_places v) → length (items_at working_places v) < working_places → HoldsNodes ns (peer_infos (unpack xs) (take n v)) → ns.len < working_places
-place_named xs v n ns s e f h = omega (arith, length_nodes ns h.valid, ap length h.holds, length_infos (unpack xs) (take n v), lent-count v n s e)
+place_named xs v n ns s e f h = omega (arith, length_nodes ns h.valid, ap length h.holds, length_infos (unpack xs) (take n v), lent_count v n s e)
 
 pub walk_fits : (xs : List ℕ) → PackedState xs → shuffle_random_walk_length xs ≤ longest_walk
 unfolding settings_at
-walk_fits xs v = (ranges (settings_at xs) (of-settings xs v)).shuffle_walk.most
+walk_fits xs v = (ranges (settings_at xs) (of_settings xs v)).shuffle_walk.most
 
 pub shuffle_told : (w r : Work) (xs out o v : List ℕ) (n to : ℕ) (named ns : Nodes) (d : PeerData) → Room (work_of w xs) out → ValidSet working_places v → n ≡ length (items_at working_places v) → d ≡ own_at xs
     → HoldsNodes named (peer_infos (unpack xs) (take n v)) → HoldsNodes ns (nodes_in named ++ (node_in (record { id = me xs; «data» = d }) ∷ []))
@@ -90,8 +90,8 @@ pub shuffle_told : (w r : Work) (xs out o v : List ℕ) (n to : ℕ) (named ns :
     → Tells (send_shuffle to (items_at working_places v)) (work_of w xs) (work_of r xs) out o
 unfolding send_shuffle shuffle_nodes node_in run_of unpack station_of settings_at
 shuffle_told w r xs out o v n to named ns d f s c q h e k =
-    let names : nodes_in named ≡ peer_infos (unpack xs) (items_at working_places v) = h.holds ∙ ap (peer_infos (unpack xs)) (lent-items v n s c) in
-    tell-by {g = emit (message 2 to 0 (me xs) (shuffle_random_walk_length xs) (nodes_in ns))} (send_shuffle to (items_at working_places v))
+    let names : nodes_in named ≡ peer_infos (unpack xs) (items_at working_places v) = h.holds ∙ ap (peer_infos (unpack xs)) (lent_items v n s c) in
+    tell_by {g = emit (message 2 to 0 (me xs) (shuffle_random_walk_length xs) (nodes_in ns))} (send_shuffle to (items_at working_places v))
     (λ ds. ap (λ (x : List Node). emit (message 2 to 0 (me xs) (shuffle_random_walk_length xs) x) (run (work_of w xs) ds out)) (sym (e.holds ∙ (λ i. names i ++ (node_in (record { id = me xs; «data» = q i }) ∷ [])))))
     (told_at xs f.packed _ k)
 
@@ -101,46 +101,46 @@ module _ (w r : Work) (ds v₁ v₂ xs : List ℕ) (to : ℕ) (h₁ : HoldsSet w
   others_are : HoldsSet working_places v₂ (without to xs)
   others_are = set_then working_places (without to) h₂ h₁
 
-  pub peers-drawn : DrawsAny (draw_shuffle (items_at working_places v₂)) w r ds → DrawsAny (draw_shuffle (without to xs)) w r ds
-  peers-drawn d = shuffle_of w r ds v₂ (without to xs) d others_are
+  pub peers_drawn : DrawsAny (draw_shuffle (items_at working_places v₂)) w r ds → DrawsAny (draw_shuffle (without to xs)) w r ds
+  peers_drawn d = shuffle_of w r ds v₂ (without to xs) d others_are
 
-  pub peers-are : (v₃ : List ℕ) (most : ℕ) → HoldsSet working_places v₃ (take most (shuffled_by w ds (items_at working_places v₂))) → HoldsSet working_places v₃ (take most (shuffled_by w ds (without to xs)))
-  peers-are v₃ most k = record { valid = k.valid; items = k.items ∙ ap (λ (l : List ℕ). take most (shuffled_by w ds l)) others_are.items }
+  pub peers_are : (v₃ : List ℕ) (most : ℕ) → HoldsSet working_places v₃ (take most (shuffled_by w ds (items_at working_places v₂))) → HoldsSet working_places v₃ (take most (shuffled_by w ds (without to xs)))
+  peers_are v₃ most k = record { valid = k.valid; items = k.items ∙ ap (λ (l : List ℕ). take most (shuffled_by w ds l)) others_are.items }
 
 module _ (xs : List ℕ) (f : PackedState xs) (l m : List ℕ) where
   pub few_active : HoldsSet working_places m (take (shuffle_active_view_count xs) l) → length (items_at working_places m) ≤ most_shuffle_active
   unfolding settings_at
-  few_active k = omega (arith, set_length working_places m _ k, few_taken (shuffle_active_view_count xs) l, (ranges (settings_at xs) (of-settings xs f)).shuffle_active.most)
+  few_active k = omega (arith, set_length working_places m _ k, few_taken (shuffle_active_view_count xs) l, (ranges (settings_at xs) (of_settings xs f)).shuffle_active.most)
 
   few_passive : HoldsSet working_places m (take (shuffle_passive_view_count xs) l) → length (items_at working_places m) ≤ most_shuffle_passive
   unfolding settings_at
-  few_passive k = omega (arith, set_length working_places m _ k, few_taken (shuffle_passive_view_count xs) l, (ranges (settings_at xs) (of-settings xs f)).shuffle_passive.most)
+  few_passive k = omega (arith, set_length working_places m _ k, few_taken (shuffle_passive_view_count xs) l, (ranges (settings_at xs) (of_settings xs f)).shuffle_passive.most)
 
-  pub both-fit : (v : List ℕ) → HoldsSet working_places m (take (shuffle_passive_view_count xs) l) → length (items_at working_places v) ≤ most_shuffle_active → length (items_at working_places v) + length (items_at working_places m) ≤ working_places
-  both-fit v k h = omega (arith, few_passive k)
+  pub both_fit : (v : List ℕ) → HoldsSet working_places m (take (shuffle_passive_view_count xs) l) → length (items_at working_places v) ≤ most_shuffle_active → length (items_at working_places v) + length (items_at working_places m) ≤ working_places
+  both_fit v k h = omega (arith, few_passive k)
 
   pub all_fit : (v all : List ℕ) → HoldsSet working_places m (take (shuffle_passive_view_count xs) l) → length (items_at working_places v) ≤ most_shuffle_active → HoldsSet working_places all (items_at working_places v ++ items_at working_places m) → length (items_at working_places all) < working_places
   all_fit v all k h e = omega (arith, few_passive k, set_length working_places all _ e, length-append (items_at working_places v) (items_at working_places m))
 
 module _ (w a r : Work) (xs ds out o : List ℕ) (to : ℕ) (f : Fine (work_of w xs) ds out) where
-  pub passive-done : (v m all : List ℕ) → DrawsAny (draw_shuffle (without to (items_at layout.passive_places (layout.passive_part xs)))) w a ds
+  pub passive_done : (v m all : List ℕ) → DrawsAny (draw_shuffle (without to (items_at layout.passive_places (layout.passive_part xs)))) w a ds
       → HoldsSet working_places m (take (shuffle_passive_view_count xs) (shuffled_by w ds (without to (items_at layout.passive_places (layout.passive_part xs)))))
       → HoldsSet working_places all (items_at working_places v ++ items_at working_places m) → Tells (send_shuffle to (items_at working_places all)) (work_of a xs) (work_of r xs) out o
       → Does (work_of r xs) ds o (shuffle_passive to (items_at working_places v) (run (work_of w xs) ds out))
   unfolding shuffle_passive passive_sample shuffled to_draw run_of unpack station_of settings_at
-  passive-done v m all k h e t =
+  passive_done v m all k h e t =
       by _
       (ap (λ (l : List ℕ). send_shuffle to l (draw_shuffle (without to (items_at layout.passive_places (layout.passive_part xs))) (run (work_of w xs) ds out)))
       (sym (e.items ∙ ap (λ (l : List ℕ). items_at working_places v ++ l) h.items)))
-      (then-tell t (then-shuffle _ k (still f)))
+      (then_tell t (then_shuffle _ k (still f)))
 
-  pub with-done : (v : List ℕ) → DrawsAny (draw_shuffle (without to (items_at layout.active_places (layout.active_part xs)))) w a ds
+  pub with_done : (v : List ℕ) → DrawsAny (draw_shuffle (without to (items_at layout.active_places (layout.active_part xs)))) w a ds
       → HoldsSet working_places v (take (shuffle_active_view_count xs) (shuffled_by w ds (without to (items_at layout.active_places (layout.active_part xs)))))
       → Does (work_of r xs) ds o (shuffle_passive to (items_at working_places v) (run (work_of a xs) ds out)) → Does (work_of r xs) ds o (shuffle_with to (run (work_of w xs) ds out))
   unfolding shuffle_with active_sample shuffled to_draw run_of unpack station_of settings_at
-  with-done v k h d =
+  with_done v k h d =
       by _ (ap (λ (l : List ℕ). shuffle_passive to l (draw_shuffle (without to (items_at layout.active_places (layout.active_part xs))) (run (work_of w xs) ds out))) (sym h.items))
-      (seq (shuffle_passive to (items_at working_places v)) d (then-shuffle _ k (still f)))
+      (seq (shuffle_passive to (items_at working_places v)) d (then_shuffle _ k (still f)))
 
 -- ---- to whom
 
@@ -160,11 +160,11 @@ module _ (w : Work) (xs ds out : List ℕ) (n : ℕ) (f : Fine (work_of w xs) ds
   none_asked z = taken _ _ (null_none (items_at layout.active_places (layout.active_part xs)) (sym z ∙ c)) (still f)
 
   module _ (i p : ℕ) (j : i ≡ pick n (drop w.drawn ds)) (q : p ≡ get_or (items_at layout.active_places (layout.active_part xs)) i 0) where
-    picked-is : p ≡ picked (run (work_of w xs) ds out).station.active (run (work_of w xs) ds out)
+    picked_is : p ≡ picked (run (work_of w xs) ds out).station.active (run (work_of w xs) ds out)
     unfolding picked one_of to_draw run_of unpack station_of
-    picked-is = q ∙ ap (λ (k : ℕ). get_or (items_at layout.active_places (layout.active_part xs)) k 0) (j ∙ ap (λ (k : ℕ). pick k (drop w.drawn ds)) c)
+    picked_is = q ∙ ap (λ (k : ℕ). get_or (items_at layout.active_places (layout.active_part xs)) k 0) (j ∙ ap (λ (k : ℕ). pick k (drop w.drawn ds)) c)
 
-    pub one-asked : (a r : Work) (o : List ℕ) → (n ≡ 0 → ⊥) → Does (work_of r xs) ds o (shuffle_with p (run (work_of a xs) ds out)) → DrawsAny (draw_one_of n) w a ds → Does (work_of r xs) ds o (shuffle_any (run (work_of w xs) ds out))
+    pub one_asked : (a r : Work) (o : List ℕ) → (n ≡ 0 → ⊥) → Does (work_of r xs) ds o (shuffle_with p (run (work_of a xs) ds out)) → DrawsAny (draw_one_of n) w a ds → Does (work_of r xs) ds o (shuffle_any (run (work_of w xs) ds out))
     unfolding shuffle_any is_alone run_of unpack station_of
-    one-asked a r o h k₂ k₁ =
-        left _ _ (null_some (items_at layout.active_places (layout.active_part xs)) (λ z. h (c ∙ sym z))) (seq-at shuffle_with picked-is k₂ (then-one-of _ (subst (λ (m : ℕ). DrawsAny (draw_one_of m) w a ds) c k₁) (still f)))
+    one_asked a r o h k₂ k₁ =
+        left _ _ (null_some (items_at layout.active_places (layout.active_part xs)) (λ z. h (c ∙ sym z))) (seq_at shuffle_with picked_is k₂ (then_one_of _ (subst (λ (m : ℕ). DrawsAny (draw_one_of m) w a ds) c k₁) (still f)))

@@ -10,7 +10,7 @@ use Rattle.record.specs.declared.Header.{Header}
 use Rattle.record.specs.Format.{header_length}
 use Rattle.record.specs.Read.{header_of, header_of_by}
 use Rattle.record.specs.Walk.{kind_in, message_in, records_in, walk}
-use Rattle.record.proofs.Walk.{records_few, taken_none, taken_next, taken-last}
+use Rattle.record.proofs.Walk.{records_few, taken_none, taken_next, taken_last}
 use Rattle.tally.specs.declared.Tally.{Tally}
 use Rattle.tally.specs.Counts.{enter, raise_records, raised}
 
@@ -38,21 +38,21 @@ module _ (whole r : Tally) (b : List ℕ) (v : Counting whole r b) where
   unfolding walk
   ends e = sym (by_records [] e)
 
-  pub counting-few : length b < header_length → r ≡ whole
-  counting-few h = ends (records_few b h)
+  pub counting_few : length b < header_length → r ≡ whole
+  counting_few h = ends (records_few b h)
 
   module _ (h : Header) (is : h ≡ header_of b) where
-    pub counting-none : h.size ≡ 0 → r ≡ whole
-    counting-none e = ends (taken_none b h is e)
+    pub counting_none : h.size ≡ 0 → r ≡ whole
+    counting_none e = ends (taken_none b h is e)
 
     goes_on : (s : Tally) (bs : List (List ℕ)) → s ≡ enter h.kind h.message r → records_in b ≡ b ∷ bs → whole ≡ walk counting bs s
     unfolding walk header_of_by kind_in message_in
     goes_on s bs e q = by_records (b ∷ bs) q ∙ ap (walk counting bs) (sym (e ∙ ap (λ (x : Header). enter x.kind x.message r) is))
 
-    pub counting-last : (s : Tally) → length b < h.size → (h.size ≡ 0 → ⊥) → s ≡ enter h.kind h.message r → header_length ≤ length b → s ≡ whole
+    pub counting_last : (s : Tally) → length b < h.size → (h.size ≡ 0 → ⊥) → s ≡ enter h.kind h.message r → header_length ≤ length b → s ≡ whole
     unfolding walk
-    counting-last s l z e m = sym (goes_on s [] e (taken-last b h is m z l))
+    counting_last s l z e m = sym (goes_on s [] e (taken_last b h is m z l))
 
-    pub counting-next : (s : Tally) → (h.size ≡ 0 → ⊥) → s ≡ enter h.kind h.message r → header_length ≤ length b → Counting whole s (take (length b - h.size) (drop h.size b))
+    pub counting_next : (s : Tally) → (h.size ≡ 0 → ⊥) → s ≡ enter h.kind h.message r → header_length ≤ length b → Counting whole s (take (length b - h.size) (drop h.size b))
     unfolding raise_records
-    counting-next s z e m = record { same = goes_on s _ e (taken_next b h is m z) }
+    counting_next s z e m = record { same = goes_on s _ e (taken_next b h is m z) }

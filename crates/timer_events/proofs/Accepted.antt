@@ -19,8 +19,8 @@ use Rattle.record.specs.Answers.{answer}
 use Rattle.record.specs.declared.Answer.TheVariants as Answers
 use Rattle.record.specs.declared.Header.{Header}
 use Rattle.record.proofs.Format.{length_encode}
-use Rattle.record.proofs.Forth.{header_read, well-formed-encode}
-use Rattle.record.proofs.Walk.{whole_is, records-written, records_zeros}
+use Rattle.record.proofs.Forth.{header_read, well_formed_encode}
+use Rattle.record.proofs.Walk.{whole_is, records_written, records_zeros}
 use Rattle.spec_hyparview.specs.Written.{encode_all, WrittenOut}
 use Rattle.spec_history.proofs.Outputs.{form_small}
 use Rattle.timer_map.specs.Entries.{Put, timer_ok, insert_timer}
@@ -71,7 +71,7 @@ module _ (e : Rec) (rest : List ℕ) (f : InForm e) where
   starts =
       choose_no _ _ _ (le-ltb (length b) (whole_length b) fits)
       ∙ ap (λ (l : List ℕ). started_by (answer l)) cut
-      ∙ ap started_by (choose_yes (well_formed (encode e)) (Answers.Record (header_of (encode e))) Answers.Malformed (well-formed-encode e f))
+      ∙ ap started_by (choose_yes (well_formed (encode e)) (Answers.Record (header_of (encode e))) Answers.Malformed (well_formed_encode e f))
       ∙ ap started (header_read e f)
 
   one_ok : All Ok (timer_of b)
@@ -93,7 +93,7 @@ all_timers [] zeros a = subst (λ (bs : List (List ℕ)). All Ok (flat_map timer
 all_timers (e ∷ es) zeros a =
     let rest : List ℕ = encode_all es ++ replicate zeros 0 in
     subst (λ (l : List ℕ). All Ok (flat_map timer_of (records_in l))) (sym (append_assoc (encode e) (encode_all es) (replicate zeros 0)))
-    (subst (λ (bs : List (List ℕ)). All Ok (flat_map timer_of bs)) (sym (records-written e rest (form_small e a.0)))
+    (subst (λ (bs : List (List ℕ)). All Ok (flat_map timer_of bs)) (sym (records_written e rest (form_small e a.0)))
     (all_append (timer_of (encode e ++ rest)) (flat_map timer_of (records_in rest)) (one_ok e rest a.0) (all_timers es zeros a.1)))
 
 -- ---- putting timers in

@@ -23,7 +23,7 @@ use Rattle.timer_map.specs.declared.Popped.{Popped}
 use Rattle.timer_map.specs.declared.First.{First}
 use Rattle.timer_map.specs.declared.Len.{Len}
 use Rattle.timer_map.proofs.Pack.{entries_pack}
-use Rattle.timer_map.proofs.Order.{first_place, first-earliest, first-oldest, soonest_below}
+use Rattle.timer_map.proofs.Order.{first_place, first_earliest, first_oldest, soonest_below}
 use Rattle.timer_map.proofs.Ways.{due_some, popped_none, popped_one, null_not}
 use Rattle.timer_map.proofs.Kept.{Good, good_none, good_ok, good_insert, good_remove, due_ok, Inserts, refused, done, inserts}
 use Rattle.timer_events.specs.declared.ScheduleTimer.{ScheduleTimer}
@@ -34,35 +34,35 @@ use Rattle.timer_events.specs.Events.{event_rec, Taken, untaken, event_popped, e
 use Rattle.timer_events.specs.History.{QueueCall, insert, insert_records, pop_before, pop_event, first, count, Reply, code, popped, event, next, held, QueueOutcome, queue_answered, reply_code, entries_from, asked, time_out, cut_at, booked, queue_after, reply_codes, book_after, Right}
 use Rattle.timer_events.specs.Claims.{EventRight, TakesOut, QueueHolds}
 use Rattle.timer_events.proofs.Inserting.{good_all}
-use Rattle.timer_events.proofs.Taking.{none-event, no_room, an-event}
+use Rattle.timer_events.proofs.Taking.{none_event, no_room, an_event}
 use Rattle.timer_events.proofs.RoundTrip.{reads_out}
 
 -- ---- the definitions at packed words
 
 module _ (es : List TimerMapEntry) (g : Good es) where
-  insert-packed : (time delay : ℕ) (x : Timer) → inserted time delay x (pack_queue es) ≡ packed_put (E.insert_timer time delay x es)
+  insert_packed : (time delay : ℕ) (x : Timer) → inserted time delay x (pack_queue es) ≡ packed_put (E.insert_timer time delay x es)
   unfolding inserted
-  insert-packed time delay x = choose_yes _ _ _ (good_ok es g) ∙ ap (λ (l : List TimerMapEntry). packed_put (E.insert_timer time delay x l)) (entries_pack es)
+  insert_packed time delay x = choose_yes _ _ _ (good_ok es g) ∙ ap (λ (l : List TimerMapEntry). packed_put (E.insert_timer time delay x l)) (entries_pack es)
 
-  records-packed : (time : ℕ) (out : List ℕ) → records_inserted time out (pack_queue es) ≡ packed_put (R.insert_records time out es)
+  records_packed : (time : ℕ) (out : List ℕ) → records_inserted time out (pack_queue es) ≡ packed_put (R.insert_records time out es)
   unfolding records_inserted
-  records-packed time out = choose_yes _ _ _ (good_ok es g) ∙ ap (λ (l : List TimerMapEntry). packed_put (R.insert_records time out l)) (entries_pack es)
+  records_packed time out = choose_yes _ _ _ (good_ok es g) ∙ ap (λ (l : List TimerMapEntry). packed_put (R.insert_records time out l)) (entries_pack es)
 
-  pop-packed : (limit : ℕ) → taken_out limit (pack_queue es) ≡ C.popped_words limit es
+  pop_packed : (limit : ℕ) → taken_out limit (pack_queue es) ≡ C.popped_words limit es
   unfolding taken_out
-  pop-packed limit = choose_yes _ _ _ (good_ok es g) ∙ ap (C.popped_words limit) (entries_pack es)
+  pop_packed limit = choose_yes _ _ _ (good_ok es g) ∙ ap (C.popped_words limit) (entries_pack es)
 
-  event-packed : (limit : ℕ) (out : List ℕ) → event_taken limit (pack_queue es) out ≡ event_popped limit es out
+  event_packed : (limit : ℕ) (out : List ℕ) → event_taken limit (pack_queue es) out ≡ event_popped limit es out
   unfolding event_taken
-  event-packed limit out = choose_yes _ _ _ (good_ok es g) ∙ ap (λ (l : List TimerMapEntry). event_popped limit l out) (entries_pack es)
+  event_packed limit out = choose_yes _ _ _ (good_ok es g) ∙ ap (λ (l : List TimerMapEntry). event_popped limit l out) (entries_pack es)
 
-  first-packed : first_in (pack_queue es) ≡ first_of es
+  first_packed : first_in (pack_queue es) ≡ first_of es
   unfolding first_in
-  first-packed = choose_yes _ _ _ (good_ok es g) ∙ ap first_of (entries_pack es)
+  first_packed = choose_yes _ _ _ (good_ok es g) ∙ ap first_of (entries_pack es)
 
-  count-packed : count_in (pack_queue es) ≡ record { code = 0; count = length es }
+  count_packed : count_in (pack_queue es) ≡ record { code = 0; count = length es }
   unfolding count_in
-  count-packed = choose_yes _ _ _ (good_ok es g) ∙ ap (λ (l : List TimerMapEntry). record { code = 0; count = length l }) (entries_pack es)
+  count_packed = choose_yes _ _ _ (good_ok es g) ∙ ap (λ (l : List TimerMapEntry). record { code = 0; count = length l }) (entries_pack es)
 
 -- ---- one call
 
@@ -102,11 +102,11 @@ code_reply c = refl
 
 inserted_way : (time delay : ℕ) (x : Timer) (es : List TimerMapEntry) → Good es → (p : Put) → E.insert_timer time delay x es ≡ p → queue_answered (insert time delay x) (pack_queue es) ≡ record { reply = code p.code; words = pack_queue p.entries }
 unfolding queue_answered packed_put
-inserted_way time delay x es g p e = ap of_put (insert-packed es g time delay x ∙ ap packed_put e)
+inserted_way time delay x es g p e = ap of_put (insert_packed es g time delay x ∙ ap packed_put e)
 
 records_way : (time : ℕ) (out : List ℕ) (es : List TimerMapEntry) → Good es → (p : Put) → R.insert_records time out es ≡ p → queue_answered (insert_records time out) (pack_queue es) ≡ record { reply = code p.code; words = pack_queue p.entries }
 unfolding queue_answered packed_put
-records_way time out es g p e = ap of_put (records-packed es g time out ∙ ap packed_put e)
+records_way time out es g p e = ap of_put (records_packed es g time out ∙ ap packed_put e)
 
 insert_book : (time delay : ℕ) (x : Timer) (es : List TimerMapEntry) → es ++ (record { time = time + delay; item = x } ∷ []) ≡ booked (insert time delay x) (code 0) es
 unfolding asked time_out reply_code
@@ -200,11 +200,11 @@ of_event w = record { reply = event w.answer w.output; words = w.words }
 
 pop_way : (limit : ℕ) (es : List TimerMapEntry) → Good es → (w : PoppedWords) → C.popped_words limit es ≡ w → queue_answered (pop_before limit) (pack_queue es) ≡ of_pop w
 unfolding queue_answered
-pop_way limit es g w e = ap of_pop (pop-packed es g limit ∙ e)
+pop_way limit es g w e = ap of_pop (pop_packed es g limit ∙ e)
 
 event_way : (limit : ℕ) (out : List ℕ) (es : List TimerMapEntry) → Good es → (w : Taken) → event_popped limit es out ≡ w → queue_answered (pop_event limit out) (pack_queue es) ≡ of_event w
 unfolding queue_answered
-event_way limit out es g w e = ap of_event (event-packed es g limit out ∙ e)
+event_way limit out es g w e = ap of_event (event_packed es g limit out ∙ e)
 
 -- the place of the entry that goes
 place : (limit : ℕ) (es : List TimerMapEntry) → is_due limit es ≡ true → shift_remove (soonest es) es ≡ shift_remove (index_of (first_entry es).time (due_times es)) es
@@ -283,7 +283,7 @@ step_event limit out es g =
     (λ f. record {
       reply = event (pop_one (first_entry es)) (written (event_rec (first_entry es)) 0 out);
       after = shift_remove (soonest es) es;
-      is = event_way limit out es g _ (an-event limit es out d f);
+      is = event_way limit out es g _ (an_event limit es out d f);
       book = place limit es d ∙ event_found limit out (written (event_rec (first_entry es)) 0 out) es;
       good = smaller limit es g d;
       not_two = λ z. omega (arith, sym (event_code (pop_one (first_entry es)) (written (event_rec (first_entry es)) 0 out)) ∙ z);
@@ -292,7 +292,7 @@ step_event limit out es g =
     (λ d. record {
       reply = event (no_pop 0) (blank out);
       after = es;
-      is = event_way limit out es g (untaken 0 (pack_queue es) out) (none-event limit es out d);
+      is = event_way limit out es g (untaken 0 (pack_queue es) out) (none_event limit es out d);
       book = event_nothing limit out es;
       good = g;
       not_two = λ z. omega (arith, sym (event_code (no_pop 0) (blank out)) ∙ z);
@@ -307,7 +307,7 @@ unfolding queue_answered reply_code time_out asked
 step_first es g = record {
   reply = next (first_of es);
   after = es;
-  is = ap (λ (a : First). record { reply = next a; words = pack_queue es }) (first-packed es g);
+  is = ap (λ (a : First). record { reply = next a; words = pack_queue es }) (first_packed es g);
   book = same first (next (first_of es)) es (first_code es) refl refl;
   good = g;
   not_two = λ z. omega (arith, first_code es, z);
@@ -318,7 +318,7 @@ unfolding queue_answered reply_code time_out asked
 step_count es g = record {
   reply = held (record { code = 0; count = length es });
   after = es;
-  is = ap (λ (a : Len). record { reply = held a; words = pack_queue es }) (count-packed es g);
+  is = ap (λ (a : Len). record { reply = held a; words = pack_queue es }) (count_packed es g);
   book = same count (held (record { code = 0; count = length es })) es refl refl refl;
   good = g;
   not_two = λ z. omega (arith, z);
@@ -344,7 +344,7 @@ unfolding is_due
 later limit es d k h =
     let s : 0 < length es = omega arith in
     let n : leb (first_entry es).time limit ≡ false = sym (ap (λ (b : Bool). not b && leb (first_entry es).time limit) (null_not es s)) ∙ d in
-    omega (arith, leb-false (first_entry es).time limit n, first-earliest es s k h)
+    omega (arith, leb-false (first_entry es).time limit n, first_earliest es s k h)
 
 first_got : (es : List TimerMapEntry) → get_or es (soonest es) no_queue_entry ≡ first_entry es
 unfolding first_entry
@@ -358,8 +358,8 @@ right limit es d =
       due = due_limit limit es d;
       there = subst (λ (n : ℕ). n < length es) (sym p) (soonest_below es s);
       is = ap (λ (n : ℕ). get_or es n no_queue_entry) p ∙ first_got es;
-      earliest = first-earliest es s;
-      oldest = λ k h. first-oldest es s k (subst (λ (n : ℕ). k < n) p h);
+      earliest = first_earliest es s;
+      oldest = λ k h. first_oldest es s k (subst (λ (n : ℕ). k < n) p h);
     }
 
 popped_is : (a b : Popped) → popped a ≡ popped b → a ≡ b
@@ -389,25 +389,25 @@ module _ (es : List TimerMapEntry) (g : Good es) (limit : ℕ) (out : List ℕ) 
   told : (w : Taken) → event_popped limit es out ≡ w → (a ≡ w.answer) × (bytes ≡ w.output)
   told w k = event_is a w.answer bytes w.output (sym e ∙ ap (λ (o : QueueOutcome). o.reply) (event_way limit out es g w k))
 
-  event-good : a.found ≡ true → EventRight limit es out a bytes
-  event-good f =
+  event_good : a.found ≡ true → EventRight limit es out a bytes
+  event_good f =
       split (is_due limit es)
       (λ d. split (fits (event_rec (first_entry es)) 0 (length out))
-      (λ k. let q = told _ (an-event limit es out d k) in
+      (λ k. let q = told _ (an_event limit es out d k) in
       record { entry = first_entry es; right = right limit es d; time = ap (λ (y : PoppedEvent). y.time) q.0; ok = due_ok limit es g.timers d; bytes_are = q.1; reads = reads_out (first_entry es) out bytes (due_ok limit es g.timers d) k q.1 })
       (λ k. silent _ refl (no_room limit es out d k)))
-      (λ d. silent _ refl (none-event limit es out d))
+      (λ d. silent _ refl (none_event limit es out d))
     where
       silent : (w : Taken) → w.answer.found ≡ false → event_popped limit es out ≡ w → EventRight limit es out a bytes
       silent w n k = clash a.found f (ap (λ (y : PoppedEvent). y.found) (told w k).0 ∙ n)
 
-  blank-good : a.found ≡ false → bytes ≡ blank out
-  blank-good f =
+  blank_good : a.found ≡ false → bytes ≡ blank out
+  blank_good f =
       split (is_due limit es)
       (λ d. split (fits (event_rec (first_entry es)) 0 (length out))
-      (λ k. clash a.found (ap (λ (y : PoppedEvent). y.found) (told _ (an-event limit es out d k)).0) f)
+      (λ k. clash a.found (ap (λ (y : PoppedEvent). y.found) (told _ (an_event limit es out d k)).0) f)
       (λ k. (told _ (no_room limit es out d k)).1))
-      (λ d. (told _ (none-event limit es out d)).1)
+      (λ d. (told _ (none_event limit es out d)).1)
 
 not_mem : (c : ℕ) (cs : List ℕ) → (c ≡ 2 → ⊥) → mem 2 cs ≡ false → mem 2 (c ∷ cs) ≡ false
 unfolding mem
@@ -423,7 +423,7 @@ new_empty ws c l e =
 -- ---- lists of calls
 
 takes : (es : List TimerMapEntry) → Good es → TakesOut (pack_queue es) es
-takes es g = record { popped_right = popped_good es g; none_due = none_good es g; event_right = event-good es g; none_left = blank-good es g }
+takes es g = record { popped_right = popped_good es g; none_due = none_good es g; event_right = event_good es g; none_left = blank_good es g }
 
 record After (ws : List ℕ) (vs : List QueueCall) (es : List TimerMapEntry) : Type 0 where
   held_words : queue_after vs ws ≡ pack_queue (book_after vs ws es)

@@ -18,7 +18,7 @@ use Rattle.record.specs.Format.{header_length}
 use Rattle.record.specs.Read.{header_of, is_timer}
 use Rattle.record.specs.Answers.{answer}
 use Rattle.record.specs.Walk.{whole_length, records_in}
-use Rattle.record.proofs.Walk.{size_is, records_few, taken_none, taken-one, taken_next, taken-last}
+use Rattle.record.proofs.Walk.{size_is, records_few, taken_none, taken_one, taken_next, taken_last}
 use Rattle.timer_map.specs.Entries.{Put, insert_timer}
 use Rattle.timer_map.specs.Words.{queue_count, entries_of, queue_ok, pack_queue, SoundQueue}
 use Rattle.timer_map.specs.Calls.{PutWords, packed_put}
@@ -31,13 +31,13 @@ use Rattle.timer_events.specs.Records.{no_start, started, started_by, schedule_o
 -- ---- the timer of one record
 
 module _ (n : ℕ) (b : List ℕ) where
-  pub short-start : (r : ScheduleTimer) → length b < n → r ≡ no_start → r ≡ schedule_of n b
+  pub short_start : (r : ScheduleTimer) → length b < n → r ≡ no_start → r ≡ schedule_of n b
   unfolding schedule_of
-  short-start r h e = e ∙ sym (choose_yes _ _ _ (lt-ltb (length b) n h))
+  short_start r h e = e ∙ sym (choose_yes _ _ _ (lt-ltb (length b) n h))
 
-  pub read-start : (r : ScheduleTimer) (a : Answer) (h : Header) → n ≤ length b → a ≡ answer (take n b) → a ≡ Answers.Record h → r ≡ started h → r ≡ schedule_of n b
+  pub read_start : (r : ScheduleTimer) (a : Answer) (h : Header) → n ≤ length b → a ≡ answer (take n b) → a ≡ Answers.Record h → r ≡ started h → r ≡ schedule_of n b
   unfolding schedule_of started_by
-  read-start r a h l p q e = e ∙ sym (choose_no _ _ _ (le-ltb (length b) n l) ∙ ap started_by (sym p ∙ q))
+  read_start r a h l p q e = e ∙ sym (choose_no _ _ _ (le-ltb (length b) n l) ∙ ap started_by (sym p ∙ q))
 
   pub no_record : (r : ScheduleTimer) (a : Answer) → n ≤ length b → a ≡ answer (take n b) → a ≡ Answers.Malformed → r ≡ no_start → r ≡ schedule_of n b
   unfolding schedule_of started_by
@@ -105,10 +105,10 @@ abbrev words_of : ℕ → List ℕ → PutWords
 words_of c l = record { code = c; words = l }
 
 module _ (ws b : List ℕ) (h : Header) (time : ℕ) (v : SoundQueue ws) (e : h ≡ header_of b) where
-  pub put-timer : (x : ScheduleTimer) (r : PutWords) → r ≡ packed_put (insert_timer time x.delay x.item (entries_of ws)) → x ≡ schedule_of h.size b → (leb 1 h.kind && leb h.kind 4) ≡ true
+  pub put_timer : (x : ScheduleTimer) (r : PutWords) → r ≡ packed_put (insert_timer time x.delay x.item (entries_of ws)) → x ≡ schedule_of h.size b → (leb 1 h.kind && leb h.kind 4) ≡ true
       → r ≡ packed_put (insert_all time (timer_of b) (entries_of ws))
   unfolding timer_of is_timer
-  put-timer x r p q t =
+  put_timer x r p q t =
       let k : x ≡ schedule_of (whole_length b) b = q ∙ ap (λ (n : ℕ). schedule_of n b) (size_is b h e) in
       let u : is_timer (header_of b) ≡ true = sym (ap is_timer e) ∙ t in
       p ∙ ap packed_put (sym (one_insert time x (entries_of ws)) ∙ ap (λ (y : ScheduleTimer). insert_all time (y ∷ []) (entries_of ws)) k ∙ ap (λ (l : List ScheduleTimer). insert_all time l (entries_of ws)) (sym (choose_yes _ _ _ u)))
@@ -131,8 +131,8 @@ pub inserting_start : (time : ℕ) (q out : List ℕ) → SoundQueue q → Inser
 inserting_start time q out v = record { sound = v; first = v.long; same = refl }
 
 module _ (time : ℕ) (whole : PutWords) (q₀ q rest : List ℕ) (v : Inserting time whole q₀ q rest) where
-  pub inserting-long : length q ≡ length q₀
-  inserting-long = v.sound.long ∙ sym v.first
+  pub inserting_long : length q ≡ length q₀
+  inserting_long = v.sound.long ∙ sym v.first
 
   by_records : (bs : List (List ℕ)) → records_in rest ≡ bs → whole ≡ packed_put (insert_all time (flat_map timer_of bs) (entries_of q))
   unfolding timers_in
@@ -142,12 +142,12 @@ module _ (time : ℕ) (whole : PutWords) (q₀ q rest : List ℕ) (v : Inserting
   unfolding packed_put insert_all flat_map
   ends e = ap (words_of 0) v.sound.is ∙ sym (by_records [] e)
 
-  pub inserting-few : length rest < header_length → record { code = 0; words = q } ≡ whole
-  inserting-few h = ends (records_few rest h)
+  pub inserting_few : length rest < header_length → record { code = 0; words = q } ≡ whole
+  inserting_few h = ends (records_few rest h)
 
   module _ (h : Header) (is : h ≡ header_of rest) where
-    pub inserting-none : h.size ≡ 0 → record { code = 0; words = q } ≡ whole
-    inserting-none e = ends (taken_none rest h is e)
+    pub inserting_none : h.size ≡ 0 → record { code = 0; words = q } ≡ whole
+    inserting_none e = ends (taken_none rest h is e)
 
     module _ (code : ℕ) (q' : List ℕ) (e : record { code = code; words = q' } ≡ packed_put (insert_all time (timer_of rest) (entries_of q))) (z : h.size ≡ 0 → ⊥) (m : header_length ≤ length rest) where
       step : (bs : List (List ℕ)) → records_in rest ≡ rest ∷ bs → whole ≡ packed_put (next time (flat_map timer_of bs) (insert_all time (timer_of rest) (entries_of q)))
@@ -162,9 +162,9 @@ module _ (time : ℕ) (whole : PutWords) (q₀ q rest : List ℕ) (v : Inserting
       unfolding packed_put
       words_is = ap (λ (y : PutWords). y.words) e
 
-      pub inserting-refused : (code ≡ 0 → ⊥) → record { code = code; words = q' } ≡ whole
+      pub inserting_refused : (code ≡ 0 → ⊥) → record { code = code; words = q' } ≡ whole
       unfolding next
-      inserting-refused n = e ∙ sym (step _ (taken-one rest h is m z) ∙ ap packed_put (choose_no _ _ _ (ne_eqb _ 0 (λ o. n (code_is ∙ o)))))
+      inserting_refused n = e ∙ sym (step _ (taken_one rest h is m z) ∙ ap packed_put (choose_no _ _ _ (ne_eqb _ 0 (λ o. n (code_is ∙ o)))))
 
       held : entries_of q' ≡ (insert_all time (timer_of rest) (entries_of q)).entries
       held = ap entries_of words_is ∙ entries_pack _
@@ -177,9 +177,9 @@ module _ (time : ℕ) (whole : PutWords) (q₀ q rest : List ℕ) (v : Inserting
       goes_on c bs r =
           step bs r ∙ ap packed_put (choose_yes _ _ _ (eq-eqb _ 0 (sym code_is ∙ c))) ∙ ap (λ (l : List TimerMapEntry). packed_put (insert_all time (flat_map timer_of bs) l)) (sym held)
 
-      pub inserting-last : code ≡ 0 → length rest < h.size → record { code = 0; words = q' } ≡ whole
+      pub inserting_last : code ≡ 0 → length rest < h.size → record { code = 0; words = q' } ≡ whole
       unfolding packed_put insert_all flat_map
-      inserting-last c l = ap (words_of 0) kept.is ∙ sym (goes_on c [] (taken-last rest h is m z l))
+      inserting_last c l = ap (words_of 0) kept.is ∙ sym (goes_on c [] (taken_last rest h is m z l))
 
       pub inserting_next : code ≡ 0 → Inserting time whole q₀ q' (take (length rest - h.size) (drop h.size rest))
       unfolding timers_in
@@ -193,9 +193,9 @@ module _ (ws out : List ℕ) (time : ℕ) (v : SoundQueue ws) (code : ℕ) (q : 
   unfolding packed_put
   all_words = ap (λ (y : PutWords). y.words) e
 
-  all-code : code ≡ (insert_all time (timers_in out) (entries_of ws)).code
+  all_code : code ≡ (insert_all time (timers_in out) (entries_of ws)).code
   unfolding packed_put
-  all-code = ap (λ (y : PutWords). y.code) e
+  all_code = ap (λ (y : PutWords). y.code) e
 
   all_held : entries_of q ≡ (insert_all time (timers_in out) (entries_of ws)).entries
   all_held = ap entries_of all_words ∙ entries_pack _
@@ -209,24 +209,24 @@ module _ (ws out : List ℕ) (time : ℕ) (v : SoundQueue ws) (code : ℕ) (q : 
   pub all_more : queue_count ws ≤ queue_count q
   all_more = omega (arith, v.count, all_sound.count, ap length front.is, length-append (entries_of ws) front.more)
 
-  old-front : take (queue_count ws) (entries_of q) ≡ entries_of ws
-  old-front = ap (λ (n : ℕ). take n (entries_of q)) (sym v.count) ∙ ap (take (length (entries_of ws))) front.is ∙ take-append_seam (entries_of ws) front.more
+  old_front : take (queue_count ws) (entries_of q) ≡ entries_of ws
+  old_front = ap (λ (n : ℕ). take n (entries_of q)) (sym v.count) ∙ ap (take (length (entries_of ws))) front.is ∙ take-append_seam (entries_of ws) front.more
 
-  pub none-put : (r : List ℕ) → r ≡ pack_queue (take (queue_count ws) (entries_of q)) → (code ≡ 0 → ⊥) → record { code = code; words = r } ≡ packed_put (insert_records time out (entries_of ws))
+  pub none_put : (r : List ℕ) → r ≡ pack_queue (take (queue_count ws) (entries_of q)) → (code ≡ 0 → ⊥) → record { code = code; words = r } ≡ packed_put (insert_records time out (entries_of ws))
   unfolding insert_records all_or_none packed_put
-  none-put r p n =
-      (λ i. words_of (all-code i) ((p ∙ ap pack_queue old-front) i))
-      ∙ ap packed_put (sym (choose_no (eqb (insert_all time (timers_in out) (entries_of ws)).code 0) (insert_all time (timers_in out) (entries_of ws)) (record { code = (insert_all time (timers_in out) (entries_of ws)).code; entries = entries_of ws }) (ne_eqb _ 0 (λ o. n (all-code ∙ o)))))
+  none_put r p n =
+      (λ i. words_of (all_code i) ((p ∙ ap pack_queue old_front) i))
+      ∙ ap packed_put (sym (choose_no (eqb (insert_all time (timers_in out) (entries_of ws)).code 0) (insert_all time (timers_in out) (entries_of ws)) (record { code = (insert_all time (timers_in out) (entries_of ws)).code; entries = entries_of ws }) (ne_eqb _ 0 (λ o. n (all_code ∙ o)))))
 
-  pub all-put : code ≡ 0 → record { code = 0; words = q } ≡ packed_put (insert_records time out (entries_of ws))
+  pub all_put : code ≡ 0 → record { code = 0; words = q } ≡ packed_put (insert_records time out (entries_of ws))
   unfolding insert_records all_or_none
-  all-put c = ap (λ (n : ℕ). words_of n q) (sym c) ∙ e ∙ ap packed_put (sym (choose_yes (eqb (insert_all time (timers_in out) (entries_of ws)).code 0) (insert_all time (timers_in out) (entries_of ws)) (record { code = (insert_all time (timers_in out) (entries_of ws)).code; entries = entries_of ws }) (eq-eqb _ 0 (sym all-code ∙ c))))
+  all_put c = ap (λ (n : ℕ). words_of n q) (sym c) ∙ e ∙ ap packed_put (sym (choose_yes (eqb (insert_all time (timers_in out) (entries_of ws)).code 0) (insert_all time (timers_in out) (entries_of ws)) (record { code = (insert_all time (timers_in out) (entries_of ws)).code; entries = entries_of ws }) (eq-eqb _ 0 (sym all_code ∙ c))))
 
 module _ (ws out : List ℕ) (time : ℕ) (b : Bool) (e : b ≡ queue_ok ws) where
-  pub records-asked : (r : PutWords) → b ≡ true → r ≡ packed_put (insert_records time out (entries_of ws)) → r ≡ records_inserted time out ws
+  pub records_asked : (r : PutWords) → b ≡ true → r ≡ packed_put (insert_records time out (entries_of ws)) → r ≡ records_inserted time out ws
   unfolding records_inserted
-  records-asked r t p = p ∙ sym (choose_yes _ _ _ (sym e ∙ t))
+  records_asked r t p = p ∙ sym (choose_yes _ _ _ (sym e ∙ t))
 
-  pub records-broken : b ≡ false → record { code = 2; words = ws } ≡ records_inserted time out ws
+  pub records_broken : b ≡ false → record { code = 2; words = ws } ≡ records_inserted time out ws
   unfolding records_inserted
-  records-broken t = sym (choose_no _ _ _ (sym e ∙ t))
+  records_broken t = sym (choose_no _ _ _ (sym e ∙ t))

@@ -13,7 +13,7 @@ use Rattle.base_lists.specs.Bytes.{overwrite}
 use Rattle.base_lists.specs.Lists.{choose}
 use Rattle.base_lists.proofs.Choice.{split, and_left, and_right, choose_yes, choose_no}
 use Rattle.base_lists.proofs.Numbers.{Bytes}
-use Rattle.base_lists.proofs.Stored.{take-stored}
+use Rattle.base_lists.proofs.Stored.{take_stored}
 use Rattle.base_lists.proofs.Tests.{both_true}
 use Rattle.record.specs.Format.{peer_length, header_length, size, size_by, datas, encode}
 use Rattle.record.specs.Read.{fixed_size, header_of, header_of_by, is_message, is_timer, is_data, kind_ok, flags_ok, count_ok, peer_ok, fields_ok, header_ok, well_formed, rec_of, rec_of_by, nodes_of, nodes_of_by, is_event, event, read_event}
@@ -21,8 +21,8 @@ use Rattle.record.specs.InForm.{InForm, NodesInFormBy, header_in, header_in_by}
 use Rattle.record.specs.Answers.{answer}
 use Rattle.record.specs.declared.Header.{Header}
 use Rattle.record.specs.declared.Answer.TheVariants as Answers
-use Rattle.record.proofs.Back.{in-form-back, parts}
-use Rattle.record.proofs.Forth.{header_read, well-formed-encode, rec-of-encode}
+use Rattle.record.proofs.Back.{in_form_back, parts}
+use Rattle.record.proofs.Forth.{header_read, well_formed_encode, rec_of_encode}
 use Rattle.record.proofs.Format.{length_encode}
 use Rattle.record_writer.specs.Write.{fits, written}
 use Rattle.spec_hyparview.specs.Station.{peers_end}
@@ -197,8 +197,8 @@ reads_back e h p n =
     let l : length (encode (event_rec e)) ≡ header_length = length_encode (event_rec e) ∙ event_size e in
     choose_no _ _ _ (le-ltb (length (encode (event_rec e))) header_length (omega (arith, l)))
     ∙ choose_no _ _ _ (le-ltb 32 (get_or (encode (event_rec e)) 3 0) (omega (arith, z)))
-    ∙ choose_yes _ _ _ (both_true (well_formed (encode (event_rec e))) _ (well-formed-encode (event_rec e) f) (ap is_event b ∙ (fine e (says e h)).is_one))
-    ∙ ap event (rec-of-encode (event_rec e) f)
+    ∙ choose_yes _ _ _ (both_true (well_formed (encode (event_rec e))) _ (well_formed_encode (event_rec e) f) (ap is_event b ∙ (fine e (says e h)).is_one))
+    ∙ ap event (rec_of_encode (event_rec e) f)
 
 -- and so do the lent bytes into which it is written
 pub reads_out : (e : TimerMapEntry) (out bytes : List ℕ) → timer_ok e.item ≡ true → fits (event_rec e) 0 (length out) ≡ true → bytes ≡ written (event_rec e) 0 out
@@ -210,7 +210,7 @@ reads_out e out bytes h k w p n =
     let whole : 0 + length b ≡ header_length = omega (arith, size_is, event_size e) in
     let stored : bytes ≡ overwrite out 0 b = w ∙ choose_yes _ _ _ k in
     let front : take header_length bytes ≡ b =
-    (λ i. take (sym whole i) (stored i)) ∙ take-stored out 0 b (omega (arith, size_is, leb-true (0 + size (event_rec e)) (length out) k)) in
+    (λ i. take (sym whole i) (stored i)) ∙ take_stored out 0 b (omega (arith, size_is, leb-true (0 + size (event_rec e)) (length out) k)) in
     ap read_event front ∙ reads_back e h p n
 
 -- ---- a record's timer
@@ -264,7 +264,7 @@ same_record b time p = λ i. record {
 pub event_comes_back : EventComesBack
 event_comes_back b u w t time =
     let h : Header = header_of b in
-    let q : InForm (rec_of b) = in-form-back peer_length b (all_bytes b u) w in
+    let q : InForm (rec_of b) = in_form_back peer_length b (all_bytes b u) w in
     let l : 1 ≤ h.kind = timer_low b t in
     let k : h.kind ≤ 4 = timer_high b t in
     let p : Plain h = plain h l k (parts peer_length b w).heads in

@@ -18,8 +18,8 @@ use Rattle.timer_map.specs.Words.{entries_of, queue_ok, pack_queue, SoundQueue}
 use Rattle.timer_map.specs.Calls.{due_in}
 use Rattle.timer_map.specs.declared.TimerMapEntry.{TimerMapEntry}
 use Rattle.timer_map.specs.declared.Due.{Due}
-use Rattle.timer_map.proofs.Stores.{Clearing, clear-end}
-use Rattle.timer_map.proofs.Ways.{due-yes, due-no, due-is}
+use Rattle.timer_map.proofs.Stores.{Clearing, clear_end}
+use Rattle.timer_map.proofs.Ways.{due_yes, due_no, due_is}
 use Rattle.timer_map.proofs.Kept.{due_ok}
 use Rattle.timer_events.specs.declared.PoppedEvent.{PoppedEvent}
 use Rattle.timer_events.specs.Events.{event_rec, Taken, without_event, untaken, event_popped, event_taken}
@@ -49,68 +49,68 @@ Nothing code out a o = (a ≡ without_event code) × (o ≡ replicate (length ou
 pub blanked : (out₀ out : List ℕ) (i : ℕ) → Clearing out₀ 0 out i → length out ≤ i → out ≡ replicate (length out₀) 0
 blanked out₀ out i v h =
     let n : length out₀ - 0 ≡ length out₀ = omega arith in
-    clear-end out₀ 0 out i v h ∙ ap (λ (k : ℕ). replicate k 0) n
+    clear_end out₀ 0 out i v h ∙ ap (λ (k : ℕ). replicate k 0) n
 
 nothing_is : (code : ℕ) (ws out : List ℕ) (v : SoundQueue ws) (a : PoppedEvent) (o : List ℕ) → Nothing code out a o → record { answer = a; words = ws; output = o } ≡ untaken code (pack_queue (entries_of ws)) out
 nothing_is code ws out v a o p = λ i. record { answer = p.0 i; words = v.is i; output = p.1 i }
 
 -- the ways of the definition
 module _ (limit : ℕ) (es : List TimerMapEntry) (out : List ℕ) where
-  pub none-event : is_due limit es ≡ false → event_popped limit es out ≡ untaken 0 (pack_queue es) out
+  pub none_event : is_due limit es ≡ false → event_popped limit es out ≡ untaken 0 (pack_queue es) out
   unfolding event_popped
-  none-event d = choose_no _ _ _ d
+  none_event d = choose_no _ _ _ d
 
   pub no_room : is_due limit es ≡ true → fits (event_rec (first_entry es)) 0 (length out) ≡ false → event_popped limit es out ≡ untaken 9 (pack_queue es) out
   unfolding event_popped
   no_room d f = choose_yes _ _ _ d ∙ choose_no _ _ _ f
 
-  pub an-event : is_due limit es ≡ true → fits (event_rec (first_entry es)) 0 (length out) ≡ true
+  pub an_event : is_due limit es ≡ true → fits (event_rec (first_entry es)) 0 (length out) ≡ true
       → event_popped limit es out ≡ record { answer = record { code = 0; found = true; time = (first_entry es).time }; words = pack_queue (shift_remove (soonest es) es); output = written (event_rec (first_entry es)) 0 out }
   unfolding event_popped
-  an-event d f = choose_yes _ _ _ d ∙ choose_yes _ _ _ f
+  an_event d f = choose_yes _ _ _ d ∙ choose_yes _ _ _ f
 
 module _ (ws : List ℕ) (limit : ℕ) (out : List ℕ) (v : SoundQueue ws) (d : Due) (e : d ≡ due_in limit (entries_of ws)) where
-  pub took-none : (a : PoppedEvent) (o : List ℕ) → (a ≡ without_event 0) × (o ≡ replicate (length out) 0) → d.found ≡ false → record { answer = a; words = ws; output = o } ≡ event_popped limit (entries_of ws) out
-  took-none a o p t = nothing_is 0 ws out v a o p ∙ sym (none-event limit (entries_of ws) out (due-no limit (entries_of ws) d e t))
+  pub took_none : (a : PoppedEvent) (o : List ℕ) → (a ≡ without_event 0) × (o ≡ replicate (length out) 0) → d.found ≡ false → record { answer = a; words = ws; output = o } ≡ event_popped limit (entries_of ws) out
+  took_none a o p t = nothing_is 0 ws out v a o p ∙ sym (none_event limit (entries_of ws) out (due_no limit (entries_of ws) d e t))
 
   module _ (t : d.found ≡ true) where
     due : is_due limit (entries_of ws) ≡ true
-    due = due-yes limit (entries_of ws) d e t
+    due = due_yes limit (entries_of ws) d e t
 
-    entry-is : d.entry ≡ first_entry (entries_of ws)
-    entry-is = ap (λ (y : Due). y.entry) (due-is limit (entries_of ws) d e t)
+    entry_is : d.entry ≡ first_entry (entries_of ws)
+    entry_is = ap (λ (y : Due). y.entry) (due_is limit (entries_of ws) d e t)
 
     place_is : d.place ≡ soonest (entries_of ws)
-    place_is = ap (λ (y : Due). y.place) (due-is limit (entries_of ws) d e t)
+    place_is = ap (λ (y : Due). y.place) (due_is limit (entries_of ws) d e t)
 
     pub entry_ok : timer_ok d.entry.item ≡ true
-    entry_ok = ap (λ (y : TimerMapEntry). timer_ok y.item) entry-is ∙ due_ok limit (entries_of ws) v.timers due
+    entry_ok = ap (λ (y : TimerMapEntry). timer_ok y.item) entry_is ∙ due_ok limit (entries_of ws) v.timers due
 
     module _ (f : Fields) (w : Written) (o : List ℕ) (r : rec_in f [] ≡ event_rec d.entry) (k : Wrote (rec_in f []) 0 out w o) where
-      rec-is : rec_in f [] ≡ event_rec (first_entry (entries_of ws))
-      rec-is = r ∙ ap event_rec entry-is
+      rec_is : rec_in f [] ≡ event_rec (first_entry (entries_of ws))
+      rec_is = r ∙ ap event_rec entry_is
 
-      pub took-full : (a : PoppedEvent) (z : List ℕ) → (a ≡ without_event 9) × (z ≡ replicate (length o) 0) → w ≡ Full → record { answer = a; words = ws; output = z } ≡ event_popped limit (entries_of ws) out
-      took-full a z s p =
+      pub took_full : (a : PoppedEvent) (z : List ℕ) → (a ≡ without_event 9) × (z ≡ replicate (length o) 0) → w ≡ Full → record { answer = a; words = ws; output = z } ≡ event_popped limit (entries_of ws) out
+      took_full a z s p =
           let n : fits (rec_in f []) 0 (length out) ≡ false = wrote_full (rec_in f []) out w k.answer p in
           nothing_is 9 ws out v a z (s.0, s.1 ∙ ap (λ (l : List ℕ). replicate (length l) 0) (k.bytes ∙ unwritten (rec_in f []) out n))
-          ∙ sym (no_room limit (entries_of ws) out due (ap (λ (y : Rec). fits y 0 (length out)) (sym rec-is) ∙ n))
+          ∙ sym (no_room limit (entries_of ws) out due (ap (λ (y : Rec). fits y 0 (length out)) (sym rec_is) ∙ n))
 
-      pub took-event : (n : ℕ) (q : List ℕ) → w ≡ At n → q ≡ pack_queue (shift_remove d.place (entries_of ws)) → record { answer = record { code = 0; found = true; time = d.entry.time }; words = q; output = o } ≡ event_popped limit (entries_of ws) out
-      took-event n q p s =
+      pub took_event : (n : ℕ) (q : List ℕ) → w ≡ At n → q ≡ pack_queue (shift_remove d.place (entries_of ws)) → record { answer = record { code = 0; found = true; time = d.entry.time }; words = q; output = o } ≡ event_popped limit (entries_of ws) out
+      took_event n q p s =
           let y : fits (rec_in f []) 0 (length out) ≡ true = wrote_fits (rec_in f []) out w n k.answer p in
           (λ i. record {
-            answer = record { code = 0; found = true; time = (entry-is i).time };
+            answer = record { code = 0; found = true; time = (entry_is i).time };
             words = (s ∙ ap (λ (j : ℕ). pack_queue (shift_remove j (entries_of ws))) place_is) i;
-            output = (k.bytes ∙ ap (λ (x : Rec). written x 0 out) rec-is) i;
+            output = (k.bytes ∙ ap (λ (x : Rec). written x 0 out) rec_is) i;
           })
-          ∙ sym (an-event limit (entries_of ws) out due (ap (λ (x : Rec). fits x 0 (length out)) (sym rec-is) ∙ y))
+          ∙ sym (an_event limit (entries_of ws) out due (ap (λ (x : Rec). fits x 0 (length out)) (sym rec_is) ∙ y))
 
 module _ (ws : List ℕ) (limit : ℕ) (out : List ℕ) (b : Bool) (e : b ≡ queue_ok ws) where
-  pub event-asked : (r : Taken) → b ≡ true → r ≡ event_popped limit (entries_of ws) out → r ≡ event_taken limit ws out
+  pub event_asked : (r : Taken) → b ≡ true → r ≡ event_popped limit (entries_of ws) out → r ≡ event_taken limit ws out
   unfolding event_taken
-  event-asked r t p = p ∙ sym (choose_yes _ _ _ (sym e ∙ t))
+  event_asked r t p = p ∙ sym (choose_yes _ _ _ (sym e ∙ t))
 
-  pub event-broken : (a : PoppedEvent) (o : List ℕ) → (a ≡ without_event 2) × (o ≡ replicate (length out) 0) → b ≡ false → record { answer = a; words = ws; output = o } ≡ event_taken limit ws out
+  pub event_broken : (a : PoppedEvent) (o : List ℕ) → (a ≡ without_event 2) × (o ≡ replicate (length out) 0) → b ≡ false → record { answer = a; words = ws; output = o } ≡ event_taken limit ws out
   unfolding event_taken
-  event-broken a o p t = (λ i. record { answer = p.0 i; words = ws; output = p.1 i }) ∙ sym (choose_no _ _ _ (sym e ∙ t))
+  event_broken a o p t = (λ i. record { answer = p.0 i; words = ws; output = p.1 i }) ∙ sym (choose_no _ _ _ (sym e ∙ t))

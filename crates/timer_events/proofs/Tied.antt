@@ -34,59 +34,59 @@ module _ {M : Type 1} {𝓤 : Ura M} (𝓛 : Logic 𝓤) (at_mem : Memory → SP
   Answers said v q r q' = ent 𝓤 said (fact 𝓤 (record { reply = r; words = q'.now } ≡ queue_answered v q.now))
 
   module _ (κs : Lfts 1) (q : Bor (List ℕ)) where
-    pub new-asks : (new.clauses 𝓛 at_mem run κs (q, tt)).requires tt ≡ (connectives 𝓤).⊤ₛ
-    new-asks = refl
+    pub new_asks : (new.clauses 𝓛 at_mem run κs (q, tt)).requires tt ≡ (connectives 𝓤).⊤ₛ
+    new_asks = refl
 
-    pub new-says : (q' : Bor (List ℕ)) (r : ℕ) → (new.clauses 𝓛 at_mem run κs (q, tt)).ensures tt r (q', tt) ≡ fact 𝓤 (record { code = r; words = q'.now } ≡ renewed q.now)
-    new-says q' r = refl
+    pub new_says : (q' : Bor (List ℕ)) (r : ℕ) → (new.clauses 𝓛 at_mem run κs (q, tt)).ensures tt r (q', tt) ≡ fact 𝓤 (record { code = r; words = q'.now } ≡ renewed q.now)
+    new_says q' r = refl
 
     module _ (time delay : ℕ) (x : Timer) where
-      pub insert-asks : (insert_timer.clauses 𝓛 at_mem run κs (q, (time, (delay, (x, tt))))).requires tt ≡ (connectives 𝓤).⊤ₛ
-      insert-asks = refl
+      pub insert_asks : (insert_timer.clauses 𝓛 at_mem run κs (q, (time, (delay, (x, tt))))).requires tt ≡ (connectives 𝓤).⊤ₛ
+      insert_asks = refl
 
-      pub insert-says : (q' : Bor (List ℕ)) (r : ℕ)
+      pub insert_says : (q' : Bor (List ℕ)) (r : ℕ)
           → Answers ((insert_timer.clauses 𝓛 at_mem run κs (q, (time, (delay, (x, tt))))).ensures tt r (q', (time, (delay, (x, tt))))) (insert time delay x) q (code r) q'
       unfolding queue_answered
-      insert-says q' r = fact_mono 𝓤 _ _ (ap (λ (p : PutWords). record { reply = code p.code; words = p.words }))
+      insert_says q' r = fact_mono 𝓤 _ _ (ap (λ (p : PutWords). record { reply = code p.code; words = p.words }))
 
     module _ (limit : ℕ) where
-      pub pop-asks : (pop-timer.clauses 𝓛 at_mem run κs (q, (limit, tt))).requires tt ≡ (connectives 𝓤).⊤ₛ
-      pop-asks = refl
+      pub pop_asks : (pop-timer.clauses 𝓛 at_mem run κs (q, (limit, tt))).requires tt ≡ (connectives 𝓤).⊤ₛ
+      pop_asks = refl
 
-      pub pop-says : (q' : Bor (List ℕ)) (r : Popped)
+      pub pop_says : (q' : Bor (List ℕ)) (r : Popped)
           → Answers ((pop-timer.clauses 𝓛 at_mem run κs (q, (limit, tt))).ensures tt r (q', (limit, tt))) (pop_before limit) q (popped r) q'
       unfolding queue_answered
-      pop-says q' r = fact_mono 𝓤 _ _ (ap (λ (p : PoppedWords). record { reply = popped p.answer; words = p.words }))
+      pop_says q' r = fact_mono 𝓤 _ _ (ap (λ (p : PoppedWords). record { reply = popped p.answer; words = p.words }))
 
-    pub first-asks : (first-timer.clauses 𝓛 at_mem run κs (q, tt)).requires tt ≡ (connectives 𝓤).⊤ₛ
-    first-asks = refl
+    pub first_asks : (first-timer.clauses 𝓛 at_mem run κs (q, tt)).requires tt ≡ (connectives 𝓤).⊤ₛ
+    first_asks = refl
 
     pub first_says : (q' : Bor (List ℕ)) (r : First) → Answers ((first-timer.clauses 𝓛 at_mem run κs (q, tt)).ensures tt r (q', tt)) first q (next r) q
     unfolding queue_answered
     first_says q' r = fact_mono 𝓤 _ _ (ap (λ (x : First). record { reply = next x; words = q.now }))
 
-    pub len-asks : (len.clauses 𝓛 at_mem run κs (q, tt)).requires tt ≡ (connectives 𝓤).⊤ₛ
-    len-asks = refl
+    pub len_asks : (len.clauses 𝓛 at_mem run κs (q, tt)).requires tt ≡ (connectives 𝓤).⊤ₛ
+    len_asks = refl
 
-    pub len-says : (q' : Bor (List ℕ)) (r : Len) → Answers ((len.clauses 𝓛 at_mem run κs (q, tt)).ensures tt r (q', tt)) count q (held r) q
+    pub len_says : (q' : Bor (List ℕ)) (r : Len) → Answers ((len.clauses 𝓛 at_mem run κs (q, tt)).ensures tt r (q', tt)) count q (held r) q
     unfolding queue_answered
-    len-says q' r = fact_mono 𝓤 _ _ (ap (λ (x : Len). record { reply = held x; words = q.now }))
+    len_says q' r = fact_mono 𝓤 _ _ (ap (λ (x : Len). record { reply = held x; words = q.now }))
 
   module _ (κs : Lfts 2) (q out : Bor (List ℕ)) where
     module _ (time : ℕ) where
-      pub records-asks : (put-records.clauses 𝓛 at_mem run κs (q, (time, (out, tt)))).requires tt ≡ (connectives 𝓤).⊤ₛ
-      records-asks = refl
+      pub records_asks : (put-records.clauses 𝓛 at_mem run κs (q, (time, (out, tt)))).requires tt ≡ (connectives 𝓤).⊤ₛ
+      records_asks = refl
 
-      pub records-says : (q' out' : Bor (List ℕ)) (r : ℕ)
+      pub records_says : (q' out' : Bor (List ℕ)) (r : ℕ)
           → Answers ((put-records.clauses 𝓛 at_mem run κs (q, (time, (out, tt)))).ensures tt r (q', (time, (out', tt)))) (insert_records time out.now) q (code r) q'
       unfolding queue_answered
-      records-says q' out' r = fact_mono 𝓤 _ _ (ap (λ (p : PutWords). record { reply = code p.code; words = p.words }))
+      records_says q' out' r = fact_mono 𝓤 _ _ (ap (λ (p : PutWords). record { reply = code p.code; words = p.words }))
 
     module _ (limit : ℕ) where
-      pub event-asks : (take-event.clauses 𝓛 at_mem run κs (q, (limit, (out, tt)))).requires tt ≡ (connectives 𝓤).⊤ₛ
-      event-asks = refl
+      pub event_asks : (take-event.clauses 𝓛 at_mem run κs (q, (limit, (out, tt)))).requires tt ≡ (connectives 𝓤).⊤ₛ
+      event_asks = refl
 
-      pub event-says : (q' out' : Bor (List ℕ)) (r : PoppedEvent)
+      pub event_says : (q' out' : Bor (List ℕ)) (r : PoppedEvent)
           → Answers ((take-event.clauses 𝓛 at_mem run κs (q, (limit, (out, tt)))).ensures tt r (q', (limit, (out', tt)))) (pop_event limit out.now) q (event r out'.now) q'
       unfolding queue_answered
-      event-says q' out' r = fact_mono 𝓤 _ _ (ap (λ (p : Taken). record { reply = event p.answer p.output; words = p.words }))
+      event_says q' out' r = fact_mono 𝓤 _ _ (ap (λ (p : Taken). record { reply = event p.answer p.output; words = p.words }))

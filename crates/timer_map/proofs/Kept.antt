@@ -20,7 +20,7 @@ use Rattle.timer_map.specs.declared.Timer.{Timer}
 use Rattle.timer_map.specs.declared.TimerMapEntry.{TimerMapEntry}
 use Rattle.timer_map.proofs.Pack.{sound, ok_pack}
 use Rattle.timer_map.proofs.Order.{soonest_below}
-use Rattle.timer_map.proofs.Ways.{accepted, insert-malformed, insert-refused, insert-done, due_some}
+use Rattle.timer_map.proofs.Ways.{accepted, insert_malformed, insert_refused, insert_done, due_some}
 
 -- the entries of a queue that keeps its rules
 pub record Good (es : List TimerMapEntry) : Type 0 where
@@ -69,8 +69,8 @@ module _ (P : ℕ → Type 0) (late : P 12) (full : P 11) (done-so : P 0) where
   pub timer_codes : (time delay : ℕ) (x : Timer) (es : List TimerMapEntry) → timer_ok x ≡ true → P (insert_timer time delay x es).code
   timer_codes time delay x es t =
       split (eqb (insert_refusal time delay (length es)) 0)
-      (λ u. subst (λ (p : Put). P p.code) (sym (insert-done time delay x es t (eqb-true (insert_refusal time delay (length es)) 0 u))) done-so)
-      (λ u. subst (λ (p : Put). P p.code) (sym (insert-refused time delay x es t (eqb-false (insert_refusal time delay (length es)) 0 u))) (refusals time delay (length es)))
+      (λ u. subst (λ (p : Put). P p.code) (sym (insert_done time delay x es t (eqb-true (insert_refusal time delay (length es)) 0 u))) done-so)
+      (λ u. subst (λ (p : Put). P p.code) (sym (insert_refused time delay x es t (eqb-false (insert_refusal time delay (length es)) 0 u))) (refusals time delay (length es)))
 
 not_two : (time delay n : ℕ) → insert_refusal time delay n ≡ 2 → ⊥
 not_two time delay n = refusals (λ (c : ℕ). c ≡ 2 → ⊥) (λ e. omega (arith, e)) (λ e. omega (arith, e)) (λ e. omega (arith, e)) time delay n
@@ -79,10 +79,10 @@ pub inserts : (time delay : ℕ) (x : Timer) (es : List TimerMapEntry) → Inser
 inserts time delay x es =
     split (timer_ok x)
     (λ t. split (eqb (insert_refusal time delay (length es)) 0)
-    (λ u. let r : insert_refusal time delay (length es) ≡ 0 = eqb-true (insert_refusal time delay (length es)) 0 u in done t (accepted time delay (length es) r).room (insert-done time delay x es t r))
+    (λ u. let r : insert_refusal time delay (length es) ≡ 0 = eqb-true (insert_refusal time delay (length es)) 0 u in done t (accepted time delay (length es) r).room (insert_done time delay x es t r))
     (λ u. let n : insert_refusal time delay (length es) ≡ 0 → ⊥ = eqb-false (insert_refusal time delay (length es)) 0 u in
-    refused (insert_refusal time delay (length es)) n (not_two time delay (length es)) (insert-refused time delay x es t n)))
-    (λ t. refused 3 (λ e. omega (arith, e)) (λ e. omega (arith, e)) (insert-malformed time delay x es t))
+    refused (insert_refusal time delay (length es)) n (not_two time delay (length es)) (insert_refused time delay x es t n)))
+    (λ t. refused 3 (λ e. omega (arith, e)) (λ e. omega (arith, e)) (insert_malformed time delay x es t))
 
 pub good_insert : (time delay : ℕ) (x : Timer) (es : List TimerMapEntry) → Good es → Good (insert_timer time delay x es).entries
 good_insert time delay x es g = go (inserts time delay x es)

@@ -106,8 +106,8 @@ unfolding seek due_times queue_entries_at queue_entry_at
 taken ws b m i j at = refl
 
 module _ (ws : List ℕ) (n whole best i : ℕ) (v : Seeking ws n whole best i) where
-  pub seek-next : (r : ℕ) → r ≡ choose (ltb (get_or ws (1 + 8 * i) 0) (get_or ws (1 + 8 * best) 0)) i best → i < n → Seeking ws n whole r (i + 1)
-  seek-next r e h =
+  pub seek_next : (r : ℕ) → r ≡ choose (ltb (get_or ws (1 + 8 * i) 0) (get_or ws (1 + 8 * best) 0)) i best → i < n → Seeking ws n whole r (i + 1)
+  seek_next r e h =
       let k : n - i ≡ suc (n - (i + 1)) = omega arith in
       let p : 1 + 8 * i + 8 ≡ 1 + 8 * (i + 1) = omega arith in
       let m : ℕ = get_or ws (1 + 8 * best) 0 in
@@ -120,9 +120,9 @@ module _ (ws : List ℕ) (n whole best i : ℕ) (v : Seeking ws n whole best i) 
       (λ t. let z : r ≡ best = e ∙ choose_no _ i best t in
       record { low = omega arith; room = v.room; under = omega (arith, z, v.under); same = s ∙ choose_no _ _ _ t ∙ rw z refl })
 
-  pub seek-end : n ≤ i → (best ≡ whole) × (best < n)
+  pub seek_end : n ≤ i → (best ≡ whole) × (best < n)
   unfolding seek due_times queue_entries_at
-  seek-end h = let k : n - i ≡ 0 = omega arith in (sym (v.same ∙ ap (λ (j : ℕ). seek best (get_or ws (1 + 8 * best) 0) i (due_times (queue_entries_at ws (1 + 8 * i) j))) k), v.under)
+  seek_end h = let k : n - i ≡ 0 = omega arith in (sym (v.same ∙ ap (λ (j : ℕ). seek best (get_or ws (1 + 8 * best) 0) i (due_times (queue_entries_at ws (1 + 8 * i) j))) k), v.under)
 
 -- ---- what the first with the smallest due time is
 
@@ -188,25 +188,25 @@ getD_times (e ∷ es) zero h = refl
 getD_times (e ∷ es) (suc k) h = getD_times es k (omega arith)
 
 module _ (es : List TimerMapEntry) (some : 0 < length es) where
-  pub first-time : (first_entry es).time ≡ smallest (due_times es)
+  pub first_time : (first_entry es).time ≡ smallest (due_times es)
   unfolding first_entry soonest
-  first-time =
+  first_time =
       let b : soonest es < length es = soonest_below es some in
       sym (getD_times es (soonest es) b) ∙ getD_index (smallest (due_times es)) (due_times es) (omega (arith, length_times es, b))
 
   -- "The earliest due comes out first"
-  pub first-earliest : (k : ℕ) → k < length es → (first_entry es).time ≤ (get_or es k no_queue_entry).time
-  first-earliest k h = omega (arith, first-time, smallest_all (due_times es) k (omega (arith, length_times es)), getD_times es k h)
+  pub first_earliest : (k : ℕ) → k < length es → (first_entry es).time ≤ (get_or es k no_queue_entry).time
+  first_earliest k h = omega (arith, first_time, smallest_all (due_times es) k (omega (arith, length_times es)), getD_times es k h)
 
   -- "equal times come out in the order put in": what was put in before it is due later
-  pub first-oldest : (k : ℕ) → k < soonest es → (first_entry es).time < (get_or es k no_queue_entry).time
+  pub first_oldest : (k : ℕ) → k < soonest es → (first_entry es).time < (get_or es k no_queue_entry).time
   unfolding soonest
-  first-oldest k h =
+  first_oldest k h =
       let b : soonest es < length es = soonest_below es some in
       let n : get_or (due_times es) k 0 ≡ smallest (due_times es) → ⊥ = index_first (smallest (due_times es)) (due_times es) k h in
       let l : smallest (due_times es) ≤ get_or (due_times es) k 0 = smallest_all (due_times es) k (omega (arith, length_times es)) in
-      omega (arith, first-time, getD_times es k (omega (arith, b)), n, l)
+      omega (arith, first_time, getD_times es k (omega (arith, b)), n, l)
 
   pub first_place : index_of (first_entry es).time (due_times es) ≡ soonest es
   unfolding soonest
-  first_place = ap (λ (t : ℕ). index_of t (due_times es)) first-time
+  first_place = ap (λ (t : ℕ). index_of t (due_times es)) first_time

@@ -39,8 +39,8 @@ module _ (q₀ : List ℕ) (at : ℕ) (ws q : List ℕ) (i : ℕ) (v : Putting q
             ∙ put_one q₀ at (take i ws) (get_or ws i 0) ∙ ap (overwrite q₀ at) (sym (take-suc ws i 0 h) ∙ rw (add-one i) refl);
       }
 
-  pub put-end : length ws ≤ i → q ≡ overwrite q₀ at ws
-  put-end h = let e : i ≡ length ws = omega (arith, v.low) in v.same ∙ ap (overwrite q₀ at) (rw e (take-length ws))
+  pub put_end : length ws ≤ i → q ≡ overwrite q₀ at ws
+  put_end h = let e : i ≡ length ws = omega (arith, v.low) in v.same ∙ ap (overwrite q₀ at) (rw e (take-length ws))
 
 -- ---- the words from `from` up to i are zero
 
@@ -68,8 +68,8 @@ module _ (q₀ : List ℕ) (from : ℕ) (q : List ℕ) (i : ℕ) (v : Clearing q
             ∙ ap (λ (l : List ℕ). take from q₀ ++ l) (replicate-append-replicate (i - from) 1 0 ∙ ap (λ (n : ℕ). replicate n 0) k);
       }
 
-  pub clear-end : length q ≤ i → q ≡ take from q₀ ++ replicate (length q₀ - from) 0
-  clear-end h =
+  pub clear_end : length q ≤ i → q ≡ take from q₀ ++ replicate (length q₀ - from) 0
+  clear_end h =
       let e : i ≡ length q₀ = omega (arith, v.long, v.high) in
       sym (take_all i q h) ∙ v.same ∙ ap (λ (n : ℕ). take from q₀ ++ replicate (n - from) 0) e
 
@@ -103,8 +103,8 @@ module _ (q₀ : List ℕ) (at : ℕ) (q : List ℕ) (k : ℕ) (v : Shifting q�
       sym (get_or-drop k q 8 0) ∙ ap (λ (l : List ℕ). get_or l 8 0) v.left ∙ get_or-drop k q₀ 8 0
       ∙ sym (get_or-drop (at + 8) q₀ (k - at) 0 ∙ ap (λ (n : ℕ). get_or q₀ n 0) e)
 
-  pub shift-next : k < 505 → Shifting q₀ at (set q k (get_or q (k + 8) 0)) (k + 1)
-  shift-next h =
+  pub shift_next : k < 505 → Shifting q₀ at (set q k (get_or q (k + 8) 0)) (k + 1)
+  shift_next h =
       let s : suc (k - at) ≡ k + 1 - at = omega (arith, v.low) in
       let r : k - at < length (drop (at + 8) q₀) = omega (arith, length-drop (at + 8) q₀, v.first, v.low) in
       let j : suc k ≡ k + 1 = omega arith in
@@ -132,8 +132,8 @@ module _ (q₀ : List ℕ) (at : ℕ) (q : List ℕ) (k : ℕ) (v : Shifting q�
           dropped [] (suc n) = refl
           dropped (x ∷ l) (suc n) = dropped l n
 
-  pub shift-end : 505 ≤ k → q ≡ take at q₀ ++ (drop (at + 8) q₀ ++ drop 505 q₀)
-  shift-end h =
+  pub shift_end : 505 ≤ k → q ≡ take at q₀ ++ (drop (at + 8) q₀ ++ drop 505 q₀)
+  shift_end h =
       let e : k ≡ 505 = omega (arith, v.high) in
       sym (take-append-drop k q)
       ∙ ap (λ (l : List ℕ). l ++ drop k q) v.done

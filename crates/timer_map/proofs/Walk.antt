@@ -23,9 +23,9 @@ walk_start F ws n x h =
     record { low = omega arith; place = omega arith; room = h; same = ap (λ (k : ℕ). F x (queue_entries_at ws 1 k)) e }
 
 module _ {X Y : Type 0} (F : X → List TimerMapEntry → Y) {ws : List ℕ} {n : ℕ} {whole : Y} {x : X} {at i : ℕ} (v : Walk F ws n whole x at i) where
-  pub walk-next : (x' : X) → i < n → ((l : List TimerMapEntry) → F x (queue_entry_at ws at ∷ l) ≡ F x' l) → Walk F ws n whole x' (at + 8) (i + 1)
+  pub walk_next : (x' : X) → i < n → ((l : List TimerMapEntry) → F x (queue_entry_at ws at ∷ l) ≡ F x' l) → Walk F ws n whole x' (at + 8) (i + 1)
   unfolding queue_entries_at
-  walk-next x' h e =
+  walk_next x' h e =
       let k : n - i ≡ suc (n - (i + 1)) = omega arith in
       record {
         low = omega arith;
@@ -47,12 +47,12 @@ pub timers_start : (ws : List ℕ) (n : ℕ) → 1 + 8 * n ≤ length ws → Wal
 timers_start ws n h = walk_start Timers ws n true h
 
 module _ (ws : List ℕ) (n : ℕ) (whole ok : Bool) (at i : ℕ) (v : Walk Timers ws n whole ok at i) where
-  pub timers-next : (b : Bool) (e : TimerMapEntry) → b ≡ timer_ok e.item → e ≡ queue_entry_at ws at → i < n → Walk Timers ws n whole (ok && b) (at + 8) (i + 1)
+  pub timers_next : (b : Bool) (e : TimerMapEntry) → b ≡ timer_ok e.item → e ≡ queue_entry_at ws at → i < n → Walk Timers ws n whole (ok && b) (at + 8) (i + 1)
   unfolding every queue_entry_ok
-  timers-next b e p q h =
+  timers_next b e p q h =
       let r : b ≡ timer_ok (queue_entry_at ws at).item = p ∙ ap (λ (y : TimerMapEntry). timer_ok y.item) q in
-      walk-next Timers v (ok && b) h (λ l. sym (ap (λ (t : Bool). (ok && t) && every queue_entry_ok l) r ∙ and_assoc ok (timer_ok (queue_entry_at ws at).item) (every queue_entry_ok l)))
+      walk_next Timers v (ok && b) h (λ l. sym (ap (λ (t : Bool). (ok && t) && every queue_entry_ok l) r ∙ and_assoc ok (timer_ok (queue_entry_at ws at).item) (every queue_entry_ok l)))
 
-  pub timers-end : n ≤ i → ok ≡ whole
+  pub timers_end : n ≤ i → ok ≡ whole
   unfolding every
-  timers-end h = sym (walk_end Timers v h ∙ and-true ok)
+  timers_end h = sym (walk_end Timers v h ∙ and-true ok)

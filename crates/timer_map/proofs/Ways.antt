@@ -72,17 +72,17 @@ judged ws a b l h p q = rw (eq-eqb (length ws) 513 l, le-leb (queue_count ws) 64
 -- ---- putting in, on lists
 
 module _ (time delay : ℕ) (x : Timer) (es : List TimerMapEntry) where
-  pub insert-malformed : timer_ok x ≡ false → insert_timer time delay x es ≡ record { code = 3; entries = es }
+  pub insert_malformed : timer_ok x ≡ false → insert_timer time delay x es ≡ record { code = 3; entries = es }
   unfolding insert_timer
-  insert-malformed t = choose_no _ _ _ t
+  insert_malformed t = choose_no _ _ _ t
 
-  pub insert-refused : timer_ok x ≡ true → (insert_refusal time delay (length es) ≡ 0 → ⊥) → insert_timer time delay x es ≡ record { code = insert_refusal time delay (length es); entries = es }
+  pub insert_refused : timer_ok x ≡ true → (insert_refusal time delay (length es) ≡ 0 → ⊥) → insert_timer time delay x es ≡ record { code = insert_refusal time delay (length es); entries = es }
   unfolding insert_timer
-  insert-refused t r = choose_yes _ _ _ t ∙ choose_no _ _ _ (ne_eqb (insert_refusal time delay (length es)) 0 r)
+  insert_refused t r = choose_yes _ _ _ t ∙ choose_no _ _ _ (ne_eqb (insert_refusal time delay (length es)) 0 r)
 
-  pub insert-done : timer_ok x ≡ true → insert_refusal time delay (length es) ≡ 0 → insert_timer time delay x es ≡ record { code = 0; entries = es ++ (record { time = time + delay; item = x } ∷ []) }
+  pub insert_done : timer_ok x ≡ true → insert_refusal time delay (length es) ≡ 0 → insert_timer time delay x es ≡ record { code = 0; entries = es ++ (record { time = time + delay; item = x } ∷ []) }
   unfolding insert_timer
-  insert-done t r = choose_yes _ _ _ t ∙ choose_yes _ _ _ (eq-eqb (insert_refusal time delay (length es)) 0 r)
+  insert_done t r = choose_yes _ _ _ t ∙ choose_yes _ _ _ (eq-eqb (insert_refusal time delay (length es)) 0 r)
 
 -- ---- insert_ok
 
@@ -90,22 +90,22 @@ abbrev words_of : ℕ → List ℕ → PutWords
 words_of c l = record { code = c; words = l }
 
 module _ (ws : List ℕ) (time delay : ℕ) (x : Timer) (b : Bool) (v : SoundQueue ws) (p : b ≡ timer_ok x) where
-  pub put-malformed : b ≡ false → record { code = 3; words = ws } ≡ packed_put (insert_timer time delay x (entries_of ws))
+  pub put_malformed : b ≡ false → record { code = 3; words = ws } ≡ packed_put (insert_timer time delay x (entries_of ws))
   unfolding packed_put
-  put-malformed t = ap (words_of 3) v.is ∙ sym (ap packed_put (insert-malformed time delay x (entries_of ws) (sym p ∙ t)))
+  put_malformed t = ap (words_of 3) v.is ∙ sym (ap packed_put (insert_malformed time delay x (entries_of ws) (sym p ∙ t)))
 
   module _ (code : ℕ) (q : code ≡ insert_refusal time delay (queue_count ws)) (t : b ≡ true) where
-    same-refusal : code ≡ insert_refusal time delay (length (entries_of ws))
-    same-refusal = q ∙ ap (insert_refusal time delay) (sym v.count)
+    same_refusal : code ≡ insert_refusal time delay (length (entries_of ws))
+    same_refusal = q ∙ ap (insert_refusal time delay) (sym v.count)
 
     pub put_refused : (code ≡ 0 → ⊥) → record { code = code; words = ws } ≡ packed_put (insert_timer time delay x (entries_of ws))
     unfolding packed_put
     put_refused n =
-        (λ i. words_of (same-refusal i) (v.is i)) ∙ sym (ap packed_put (insert-refused time delay x (entries_of ws) (sym p ∙ t) (λ z. n (same-refusal ∙ z))))
+        (λ i. words_of (same_refusal i) (v.is i)) ∙ sym (ap packed_put (insert_refused time delay x (entries_of ws) (sym p ∙ t) (λ z. n (same_refusal ∙ z))))
 
-    pub put-done : (after : List ℕ) → code ≡ 0 → after ≡ pack_queue (entries_of ws ++ (record { time = time + delay; item = x } ∷ [])) → record { code = 0; words = after } ≡ packed_put (insert_timer time delay x (entries_of ws))
+    pub put_done : (after : List ℕ) → code ≡ 0 → after ≡ pack_queue (entries_of ws ++ (record { time = time + delay; item = x } ∷ [])) → record { code = 0; words = after } ≡ packed_put (insert_timer time delay x (entries_of ws))
     unfolding packed_put
-    put-done after z e = ap (words_of 0) e ∙ sym (ap packed_put (insert-done time delay x (entries_of ws) (sym p ∙ t) (sym same-refusal ∙ z)))
+    put_done after z e = ap (words_of 0) e ∙ sym (ap packed_put (insert_done time delay x (entries_of ws) (sym p ∙ t) (sym same_refusal ∙ z)))
 
 pub due_fits : (time delay n code : ℕ) → code ≡ insert_refusal time delay n → code ≡ 0 → Fits w64 (time + delay)
 due_fits time delay n code e z = record { fits = omega (arith, (accepted time delay n (sym e ∙ z)).due) }
@@ -116,43 +116,43 @@ room_left time delay n code e z = (accepted time delay n (sym e ∙ z)).room
 -- ---- the exported functions: the rules are asked first
 
 module _ (ws : List ℕ) (b : Bool) (e : b ≡ queue_ok ws) where
-  pub sound-asked : b ≡ true → SoundQueue ws
-  sound-asked t = sound ws (sym e ∙ t)
+  pub sound_asked : b ≡ true → SoundQueue ws
+  sound_asked t = sound ws (sym e ∙ t)
 
   pub lent : b ≡ true → 0 < length ws
-  lent t = omega (arith, (sound-asked t).long)
+  lent t = omega (arith, (sound_asked t).long)
 
-  pub insert-asked : (time delay : ℕ) (x : Timer) (r : PutWords) → b ≡ true → r ≡ packed_put (insert_timer time delay x (entries_of ws)) → r ≡ inserted time delay x ws
+  pub insert_asked : (time delay : ℕ) (x : Timer) (r : PutWords) → b ≡ true → r ≡ packed_put (insert_timer time delay x (entries_of ws)) → r ≡ inserted time delay x ws
   unfolding inserted
-  insert-asked time delay x r t p = p ∙ sym (choose_yes _ _ _ (sym e ∙ t))
+  insert_asked time delay x r t p = p ∙ sym (choose_yes _ _ _ (sym e ∙ t))
 
-  pub insert-broken : (time delay : ℕ) (x : Timer) → b ≡ false → record { code = 2; words = ws } ≡ inserted time delay x ws
+  pub insert_broken : (time delay : ℕ) (x : Timer) → b ≡ false → record { code = 2; words = ws } ≡ inserted time delay x ws
   unfolding inserted
-  insert-broken time delay x t = sym (choose_no _ _ _ (sym e ∙ t))
+  insert_broken time delay x t = sym (choose_no _ _ _ (sym e ∙ t))
 
-  pub pop-asked : (limit : ℕ) (r : PoppedWords) → b ≡ true → r ≡ popped_words limit (entries_of ws) → r ≡ taken_out limit ws
+  pub pop_asked : (limit : ℕ) (r : PoppedWords) → b ≡ true → r ≡ popped_words limit (entries_of ws) → r ≡ taken_out limit ws
   unfolding taken_out
-  pop-asked limit r t p = p ∙ sym (choose_yes _ _ _ (sym e ∙ t))
+  pop_asked limit r t p = p ∙ sym (choose_yes _ _ _ (sym e ∙ t))
 
-  pub pop-broken : (limit : ℕ) (a : Popped) → b ≡ false → a ≡ refused_pop 2 → record { answer = a; words = ws } ≡ taken_out limit ws
+  pub pop_broken : (limit : ℕ) (a : Popped) → b ≡ false → a ≡ refused_pop 2 → record { answer = a; words = ws } ≡ taken_out limit ws
   unfolding taken_out
-  pop-broken limit a t p = ap (λ (y : Popped). record { answer = y; words = ws }) p ∙ sym (choose_no _ _ _ (sym e ∙ t))
+  pop_broken limit a t p = ap (λ (y : Popped). record { answer = y; words = ws }) p ∙ sym (choose_no _ _ _ (sym e ∙ t))
 
-  pub first-asked : (r : First) → b ≡ true → r ≡ first_of (entries_of ws) → r ≡ first_in ws
+  pub first_asked : (r : First) → b ≡ true → r ≡ first_of (entries_of ws) → r ≡ first_in ws
   unfolding first_in
-  first-asked r t p = p ∙ sym (choose_yes _ _ _ (sym e ∙ t))
+  first_asked r t p = p ∙ sym (choose_yes _ _ _ (sym e ∙ t))
 
-  pub first-broken : b ≡ false → record { code = 2; found = false; time = 0 } ≡ first_in ws
+  pub first_broken : b ≡ false → record { code = 2; found = false; time = 0 } ≡ first_in ws
   unfolding first_in
-  first-broken t = sym (choose_no _ _ _ (sym e ∙ t))
+  first_broken t = sym (choose_no _ _ _ (sym e ∙ t))
 
-  pub len-asked : b ≡ true → record { code = 0; count = queue_count ws } ≡ count_in ws
+  pub len_asked : b ≡ true → record { code = 0; count = queue_count ws } ≡ count_in ws
   unfolding count_in
-  len-asked t = ap (λ (n : ℕ). record { code = 0; count = n }) (sym (sound-asked t).count) ∙ sym (choose_yes _ _ _ (sym e ∙ t))
+  len_asked t = ap (λ (n : ℕ). record { code = 0; count = n }) (sym (sound_asked t).count) ∙ sym (choose_yes _ _ _ (sym e ∙ t))
 
-  pub len-broken : b ≡ false → record { code = 2; count = 0 } ≡ count_in ws
+  pub len_broken : b ≡ false → record { code = 2; count = 0 } ≡ count_in ws
   unfolding count_in
-  len-broken t = sym (choose_no _ _ _ (sym e ∙ t))
+  len_broken t = sym (choose_no _ _ _ (sym e ∙ t))
 
 pub new_broken : (ws : List ℕ) → (length ws ≡ 513 → ⊥) → record { code = 2; words = ws } ≡ renewed ws
 unfolding renewed
@@ -217,57 +217,57 @@ unfolding due_in
 due_none limit es e = choose_no _ _ _ e
 
 module _ (ws : List ℕ) (limit : ℕ) (v : SoundQueue ws) where
-  pub due-empty : (d : Due) → d ≡ no_due → queue_count ws ≡ 0 → d ≡ due_in limit (entries_of ws)
-  due-empty d p z = p ∙ sym (due_none limit (entries_of ws) (none_due limit (entries_of ws) (v.count ∙ z)))
+  pub due_empty : (d : Due) → d ≡ no_due → queue_count ws ≡ 0 → d ≡ due_in limit (entries_of ws)
+  due_empty d p z = p ∙ sym (due_none limit (entries_of ws) (none_due limit (entries_of ws) (v.count ∙ z)))
 
   module _ (i : ℕ) (e : TimerMapEntry) (p : (i ≡ soonest (queue_entries_at ws 1 (queue_count ws))) × (i < queue_count ws)) (q : e ≡ queue_entry_at ws (1 + 8 * i)) where
-    pub due-later : (d : Due) → d ≡ no_due → limit < e.time → d ≡ due_in limit (entries_of ws)
-    due-later d r h =
+    pub due_later : (d : Due) → d ≡ no_due → limit < e.time → d ≡ due_in limit (entries_of ws)
+    due_later d r h =
         let k : e ≡ first_entry (entries_of ws) = first_is ws i e v p.0 p.1 q in
         r ∙ sym (due_none limit (entries_of ws) (not_yet limit (entries_of ws) (omega (arith, v.count, p.1)) (subst (λ (y : TimerMapEntry). limit < y.time) k h)))
 
-    pub due-found : e.time ≤ limit → record { found = true; place = i; entry = e } ≡ due_in limit (entries_of ws)
+    pub due_found : e.time ≤ limit → record { found = true; place = i; entry = e } ≡ due_in limit (entries_of ws)
     unfolding due_in entries_of
-    due-found h =
+    due_found h =
         let k : e ≡ first_entry (entries_of ws) = first_is ws i e v p.0 p.1 q in
         (λ j. record { found = true; place = p.0 j; entry = k j })
         ∙ sym (choose_yes _ _ _ (now_due limit (entries_of ws) (omega (arith, v.count, p.1)) (subst (λ (y : TimerMapEntry). y.time ≤ limit) k h)))
 
 -- what an answer of `due` says
 module _ (limit : ℕ) (es : List TimerMapEntry) (d : Due) (e : d ≡ due_in limit es) where
-  pub due-yes : d.found ≡ true → is_due limit es ≡ true
+  pub due_yes : d.found ≡ true → is_due limit es ≡ true
   unfolding due_in
-  due-yes t = split (is_due limit es) (λ u. u) (λ u. clash d.found t (ap (λ (y : Due). y.found) (e ∙ choose_no _ _ _ u)))
+  due_yes t = split (is_due limit es) (λ u. u) (λ u. clash d.found t (ap (λ (y : Due). y.found) (e ∙ choose_no _ _ _ u)))
 
-  pub due-no : d.found ≡ false → is_due limit es ≡ false
+  pub due_no : d.found ≡ false → is_due limit es ≡ false
   unfolding due_in
-  due-no t = split (is_due limit es) (λ u. clash d.found (ap (λ (y : Due). y.found) (e ∙ choose_yes _ _ _ u)) t) (λ u. u)
+  due_no t = split (is_due limit es) (λ u. clash d.found (ap (λ (y : Due). y.found) (e ∙ choose_yes _ _ _ u)) t) (λ u. u)
 
-  pub due-is : d.found ≡ true → d ≡ record { found = true; place = soonest es; entry = first_entry es }
+  pub due_is : d.found ≡ true → d ≡ record { found = true; place = soonest es; entry = first_entry es }
   unfolding due_in
-  due-is t = e ∙ choose_yes _ _ _ (due-yes t)
+  due_is t = e ∙ choose_yes _ _ _ (due_yes t)
 
   pub due_below : d.found ≡ true → d.place < length es
-  due_below t = subst (λ (n : ℕ). n < length es) (sym (ap (λ (y : Due). y.place) (due-is t))) (soonest_below es (due_some limit es (due-yes t)))
+  due_below t = subst (λ (n : ℕ). n < length es) (sym (ap (λ (y : Due). y.place) (due_is t))) (soonest_below es (due_some limit es (due_yes t)))
 
 module _ (ws : List ℕ) (limit : ℕ) (v : SoundQueue ws) (d : Due) (e : d ≡ due_in limit (entries_of ws)) where
-  pub place-below : d.found ≡ true → d.place < queue_count ws
-  place-below t = omega (arith, due_below limit (entries_of ws) d e t, v.count)
+  pub place_below : d.found ≡ true → d.place < queue_count ws
+  place_below t = omega (arith, due_below limit (entries_of ws) d e t, v.count)
 
-  pub pop-taken : (after : List ℕ) → after ≡ pack_queue (shift_remove d.place (entries_of ws)) → d.found ≡ true → record { answer = record { code = 0; found = true; entry = d.entry }; words = after } ≡ popped_words limit (entries_of ws)
-  pop-taken after r t =
-      let k : d ≡ record { found = true; place = soonest (entries_of ws); entry = first_entry (entries_of ws) } = due-is limit (entries_of ws) d e t in
+  pub pop_taken : (after : List ℕ) → after ≡ pack_queue (shift_remove d.place (entries_of ws)) → d.found ≡ true → record { answer = record { code = 0; found = true; entry = d.entry }; words = after } ≡ popped_words limit (entries_of ws)
+  pop_taken after r t =
+      let k : d ≡ record { found = true; place = soonest (entries_of ws); entry = first_entry (entries_of ws) } = due_is limit (entries_of ws) d e t in
       ap (with_answer (record { code = 0; found = true; entry = d.entry })) r
       ∙ (λ j. with_answer (record { code = 0; found = true; entry = (k j).entry }) (pack_queue (shift_remove (k j).place (entries_of ws))))
-      ∙ sym (popped_one limit (entries_of ws) (due-yes limit (entries_of ws) d e t))
+      ∙ sym (popped_one limit (entries_of ws) (due_yes limit (entries_of ws) d e t))
 
-  pub pop-none : (a : Popped) → a ≡ refused_pop 0 → d.found ≡ false → record { answer = a; words = ws } ≡ popped_words limit (entries_of ws)
-  pop-none a p t = (λ i. with_answer (p i) (v.is i)) ∙ sym (popped_none limit (entries_of ws) (due-no limit (entries_of ws) d e t))
+  pub pop_none : (a : Popped) → a ≡ refused_pop 0 → d.found ≡ false → record { answer = a; words = ws } ≡ popped_words limit (entries_of ws)
+  pop_none a p t = (λ i. with_answer (p i) (v.is i)) ∙ sym (popped_none limit (entries_of ws) (due_no limit (entries_of ws) d e t))
 
 module _ (ws : List ℕ) (v : SoundQueue ws) where
-  pub first-none : queue_count ws ≡ 0 → record { code = 0; found = false; time = 0 } ≡ first_of (entries_of ws)
+  pub first_none : queue_count ws ≡ 0 → record { code = 0; found = false; time = 0 } ≡ first_of (entries_of ws)
   unfolding first_of
-  first-none z = sym (choose_yes _ _ _ (null_is (entries_of ws) (v.count ∙ z)))
+  first_none z = sym (choose_yes _ _ _ (null_is (entries_of ws) (v.count ∙ z)))
 
   pub first_some : (i : ℕ) → (i ≡ soonest (queue_entries_at ws 1 (queue_count ws))) × (i < queue_count ws) → record { code = 0; found = true; time = get_or ws (1 + 8 * i) 0 } ≡ first_of (entries_of ws)
   unfolding first_of queue_entry_at

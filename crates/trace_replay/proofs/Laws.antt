@@ -40,9 +40,9 @@ use Rattle.trace_replay.specs.Ending.{room_of, counting, words_after, laid_words
 -- ---- the room
 
 module _ (start : TraceStart) (room : ℕ) where
-  pub room-given : start.room < output_room → room ≡ start.room → room ≡ room_of start
+  pub room_given : start.room < output_room → room ≡ start.room → room ≡ room_of start
   unfolding room_of
-  room-given h e = omega (arith, h, e)
+  room_given h e = omega (arith, h, e)
 
   pub room_most : output_room ≤ start.room → room ≡ output_room → room ≡ room_of start
   unfolding room_of
@@ -64,8 +64,8 @@ unfolding cut_events words_after
 one_event room k xs l ds = refl
 
 module _ (room : ℕ) (last events draws : List ℕ) (p : Runner) (left : ℕ) (v : Walking room last events draws p left) where
-  pub walking-next : (q : Runner) (k : ℕ) → 0 < left → k ≡ room → q ≡ passed k p events draws → Walking room last events draws q (left - 1)
-  walking-next q k h z lent =
+  pub walking_next : (q : Runner) (k : ℕ) → 0 < left → k ≡ room → q ≡ passed k p events draws → Walking room last events draws q (left - 1)
+  walking_next q k h z lent =
       let c : left ≡ suc (left - 1) = omega (arith, h) in
       let e : q ≡ passed room p events draws = lent ∙ ap (λ (x : ℕ). passed x p events draws) z in
       let words = next_words room p events draws q e in
@@ -78,9 +78,9 @@ module _ (room : ℕ) (last events draws : List ℕ) (p : Runner) (left : ℕ) (
             ∙ (λ j. words_after room (sym words j) (cut_events (left - 1) (places j)) (sym rest j))));
       }
 
-  pub walking-end : left ≤ 0 → p.state.words ≡ last
+  pub walking_end : left ≤ 0 → p.state.words ≡ last
   unfolding cut_events words_after
-  walking-end h =
+  walking_end h =
       let z : left ≡ 0 = omega (arith, h) in
       sym (v.same ∙ ap (λ (x : ℕ). words_after room p.state.words (cut_events x (drop p.at events)) (drop p.used draws)) z)
 
@@ -105,19 +105,19 @@ module _ (start : TraceStart) (head : Head) (b : List ℕ) (m : MadeState) (own 
   unfolding pack_made
   made_code = ap (λ (x : packed.MadeWords). x.code) (made_bare head.me head.config _ own e)
 
-  made-words : m.state.words ≡ pack (P.new head.me none head.config).state
+  made_words : m.state.words ≡ pack (P.new head.me none head.config).state
   unfolding pack_made
-  made-words = ap (λ (x : packed.MadeWords). x.words) (made_bare head.me head.config _ own e)
+  made_words = ap (λ (x : packed.MadeWords). x.words) (made_bare head.me head.config _ own e)
 
-  pub whole-refused : (m.code ≡ 0 → ⊥) → ◌≡◌ {A = Ended} (record { code = m.code; state = m.state }) (made_end start (P.new head.me none head.config) head b)
+  pub whole_refused : (m.code ≡ 0 → ⊥) → ◌≡◌ {A = Ended} (record { code = m.code; state = m.state }) (made_end start (P.new head.me none head.config) head b)
   unfolding made_end
-  whole-refused h = (λ j. ended_at (made_code j) (made-words j)) ∙ sym (choose_no _ _ _ (ap (λ (x : ℕ). eqb x 0) (sym made_code) ∙ ne_eqb _ _ h))
+  whole_refused h = (λ j. ended_at (made_code j) (made_words j)) ∙ sym (choose_no _ _ _ (ap (λ (x : ℕ). eqb x 0) (sym made_code) ∙ ne_eqb _ _ h))
 
   pub whole_run : (s last : State) (room : ℕ) → m.code ≡ 0 → ((g : Station) → m.state.words ≡ pack g → s.words ≡ pack (counting start g)) → room ≡ room_of start → last.words ≡ laid_words room s.words head b
       → ◌≡◌ {A = Ended} (record { code = 0; state = last }) (made_end start (P.new head.me none head.config) head b)
   unfolding made_end
   whole_run s last room h c q k =
-      let first : s.words ≡ pack (counting start (P.new head.me none head.config).state) = c _ made-words in
+      let first : s.words ≡ pack (counting start (P.new head.me none head.config).state) = c _ made_words in
       ap (ended_at 0) (k ∙ (λ i. laid_words (q i) (first i) head b))
       ∙ sym (choose_yes _ _ _ (ap (λ (x : ℕ). eqb x 0) (sym made_code) ∙ eq-eqb _ _ h))
 
@@ -128,13 +128,13 @@ unfolding pack front counting
 counters_stored start g xs e = rw e
 
 module _ (start : TraceStart) (b : List ℕ) (x : Input) (e : x ≡ input_of b) where
-  pub ends-refused : x ≡ Refused → ended_at 3 (replicate words 0) ≡ ended_of start b
+  pub ends_refused : x ≡ Refused → ended_at 3 (replicate words 0) ≡ ended_of start b
   unfolding ended_of input_end
-  ends-refused h = ap (ended_at 3) no_state ∙ ap (λ (y : Input). input_end start y b) (sym h ∙ e)
+  ends_refused h = ap (ended_at 3) no_state ∙ ap (λ (y : Input). input_end start y b) (sym h ∙ e)
 
-  pub ends-whole : (head : Head) (r : Ended) → x ≡ Whole head → r ≡ made_end start (P.new head.me none head.config) head b → r ≡ ended_of start b
+  pub ends_whole : (head : Head) (r : Ended) → x ≡ Whole head → r ≡ made_end start (P.new head.me none head.config) head b → r ≡ ended_of start b
   unfolding ended_of input_end
-  ends-whole head r h k = k ∙ ap (λ (y : Input). input_end start y b) (sym h ∙ e)
+  ends_whole head r h k = k ∙ ap (λ (y : Input). input_end start y b) (sym h ∙ e)
 
   pub there : (head : Head) → x ≡ Whole head → Laid b head
   there head h = laid b head (sym e ∙ h)

@@ -24,29 +24,29 @@ use Rattle.trace_text.specs.Event.{own_field, refill_field, state_line, trace_ev
 -- ---- own data and the limit on refills
 
 module _ (xs : List ℕ) (t : Text) (o : List ℕ) where
-  pub own-none : (r : Text) (p : List ℕ) → (layout.own_present xs ≡ 1 → ⊥) → Puts (45 ∷ []) t o r p → Puts (drop (length (ascii "state me=")) (own_field (data_in (own_at xs)))) t o r p
+  pub own_none : (r : Text) (p : List ℕ) → (layout.own_present xs ≡ 1 → ⊥) → Puts (45 ∷ []) t o r p → Puts (drop (length (ascii "state me=")) (own_field (data_in (own_at xs)))) t o r p
   unfolding own_field data_in own_at ascii
-  own-none r p h k = named (ap (λ (d : _). drop (length (ascii "state me=")) (own_field d)) (sym (choose_no _ _ _ (ne_eqb (layout.own_present xs) 1 h)))) k
+  own_none r p h k = named (ap (λ (d : _). drop (length (ascii "state me=")) (own_field d)) (sym (choose_no _ _ _ (ne_eqb (layout.own_present xs) 1 h)))) k
 
-  pub own-some : (a r : Text) (b o₁ p : List ℕ) → layout.own_present xs ≡ 1 → b ≡ word_bytes (layout.own_low xs) (layout.own_high xs) → Puts (hex (take (layout.own_len xs) b)) a o₁ r p
+  pub own_some : (a r : Text) (b o₁ p : List ℕ) → layout.own_present xs ≡ 1 → b ≡ word_bytes (layout.own_low xs) (layout.own_high xs) → Puts (hex (take (layout.own_len xs) b)) a o₁ r p
       → Puts (120 ∷ []) t o a o₁ → Puts (drop (length (ascii "state me=")) (own_field (data_in (own_at xs)))) t o r p
   unfolding own_field data_in own_at ascii
-  own-some a r b o₁ p h e k₂ k₁ =
+  own_some a r b o₁ p h e k₂ k₁ =
       named (ap (λ (c : List ℕ). 120 ∷ hex (take (layout.own_len xs) c)) e ∙ ap (λ (d : _). drop (length (ascii "state me=")) (own_field d)) (sym (choose_yes _ _ _ (eq-eqb (layout.own_present xs) 1 h)))) (then k₂ k₁)
 
-  pub limit-automatic : (r : Text) (p : List ℕ) → layout.refill_kind xs ≡ 0 → Puts (65 ∷ []) t o r p → Puts (drop (length (ascii " refill=")) (refill_field (limit_at xs))) t o r p
+  pub limit_automatic : (r : Text) (p : List ℕ) → layout.refill_kind xs ≡ 0 → Puts (65 ∷ []) t o r p → Puts (drop (length (ascii " refill=")) (refill_field (limit_at xs))) t o r p
   unfolding refill_field limit_at ascii
-  limit-automatic r p h k = named (ap (λ (l : RefillLimit). drop (length (ascii " refill=")) (refill_field l)) (sym (choose_yes _ _ _ (eq-eqb (layout.refill_kind xs) 0 h)))) k
+  limit_automatic r p h k = named (ap (λ (l : RefillLimit). drop (length (ascii " refill=")) (refill_field l)) (sym (choose_yes _ _ _ (eq-eqb (layout.refill_kind xs) 0 h)))) k
 
-  pub limit-requests : (a r : Text) (o₁ p : List ℕ) → (layout.refill_kind xs ≡ 0 → ⊥) → layout.refill_kind xs ≡ 1 → Puts (decimal (layout.refill_requests xs)) a o₁ r p → Puts (82 ∷ []) t o a o₁
+  pub limit_requests : (a r : Text) (o₁ p : List ℕ) → (layout.refill_kind xs ≡ 0 → ⊥) → layout.refill_kind xs ≡ 1 → Puts (decimal (layout.refill_requests xs)) a o₁ r p → Puts (82 ∷ []) t o a o₁
       → Puts (drop (length (ascii " refill=")) (refill_field (limit_at xs))) t o r p
   unfolding refill_field limit_at ascii
-  limit-requests a r o₁ p z h k₂ k₁ =
+  limit_requests a r o₁ p z h k₂ k₁ =
       named (ap (λ (l : RefillLimit). drop (length (ascii " refill=")) (refill_field l)) (sym (choose_no _ _ _ (ne_eqb (layout.refill_kind xs) 0 z) ∙ choose_yes _ _ _ (eq-eqb (layout.refill_kind xs) 1 h)))) (then k₂ k₁)
 
-  pub limit-recovery : (r : Text) (p : List ℕ) → (layout.refill_kind xs ≡ 0 → ⊥) → (layout.refill_kind xs ≡ 1 → ⊥) → Puts (86 ∷ []) t o r p → Puts (drop (length (ascii " refill=")) (refill_field (limit_at xs))) t o r p
+  pub limit_recovery : (r : Text) (p : List ℕ) → (layout.refill_kind xs ≡ 0 → ⊥) → (layout.refill_kind xs ≡ 1 → ⊥) → Puts (86 ∷ []) t o r p → Puts (drop (length (ascii " refill=")) (refill_field (limit_at xs))) t o r p
   unfolding refill_field limit_at ascii
-  limit-recovery r p z h k = named (ap (λ (l : RefillLimit). drop (length (ascii " refill=")) (refill_field l)) (sym (choose_no _ _ _ (ne_eqb (layout.refill_kind xs) 0 z) ∙ choose_no _ _ _ (ne_eqb (layout.refill_kind xs) 1 h)))) k
+  limit_recovery r p z h k = named (ap (λ (l : RefillLimit). drop (length (ascii " refill=")) (refill_field l)) (sym (choose_no _ _ _ (ne_eqb (layout.refill_kind xs) 0 z) ∙ choose_no _ _ _ (ne_eqb (layout.refill_kind xs) 1 h)))) k
 
 -- ---- the event
 

@@ -28,7 +28,7 @@ use Rattle.run_text.specs.Numbers.{decimal}
 use Rattle.trace_text.specs.Items.{ascii, comma_before, item_text, items_text, list_field, number_field, numbered_text, held_text}
 use Rattle.trace_text.specs.Fields.{texts_at, field_at, InWords}
 use Rattle.trace_text.specs.Event.{own_field, refill_field, fields_text, state_line}
-use Rattle.trace_text.proofs.Writing.{Writing, writing_start, writing-next, writing-end}
+use Rattle.trace_text.proofs.Writing.{Writing, writing_start, writing_next, writing_end}
 
 -- the constants of the code, by tools/make/layout.py
 unfoldable pub line : List ℕ
@@ -104,21 +104,21 @@ module _ (xs : List ℕ) (name p : List ℕ) (k a n : ℕ) (plain : (q : List �
       (u ∙ ((λ j. field_at (c - 48) (e j) (f j) xs ++ (93 ∷ line_text p (suc k) xs)) ∙ ap (λ (z : List ℕ). z ++ (93 ∷ line_text p (suc k) xs)) w))
       ∙ sym (append_assoc name _ _ ∙ ap (λ (z : List ℕ). name ++ z) (append_assoc (items_text g 0 ys) (93 ∷ []) _)))
 
-  peers-line : line_text (name ++ (49 ∷ 93 ∷ p)) k xs ≡ list_field name decimal (items_at n (part a (n + 1) xs)) ++ line_text p (suc k) xs
+  peers_line : line_text (name ++ (49 ∷ 93 ∷ p)) k xs ≡ list_field name decimal (items_at n (part a (n + 1) xs)) ++ line_text p (suc k) xs
   unfolding line_text byte_text after digit choose field_at texts_at
-  peers-line = listed 49 decimal _ refl (mapped decimal 0 _)
+  peers_line = listed 49 decimal _ refl (mapped decimal 0 _)
 
-  numbers-line : line_text (name ++ (50 ∷ 93 ∷ p)) k xs ≡ list_field name numbered_text (numbers_at n (part a (n + n + 1) xs)) ++ line_text p (suc k) xs
+  numbers_line : line_text (name ++ (50 ∷ 93 ∷ p)) k xs ≡ list_field name numbered_text (numbers_at n (part a (n + n + 1) xs)) ++ line_text p (suc k) xs
   unfolding line_text byte_text after digit choose field_at texts_at
-  numbers-line = listed 50 numbered_text _ refl (mapped numbered_text 0 _)
+  numbers_line = listed 50 numbered_text _ refl (mapped numbered_text 0 _)
 
-  data-line : line_text (name ++ (52 ∷ 93 ∷ p)) k xs ≡ list_field name held_text (data_map_at n (part a (n + n + (n + n) + 1) xs)) ++ line_text p (suc k) xs
+  data_line : line_text (name ++ (52 ∷ 93 ∷ p)) k xs ≡ list_field name held_text (data_map_at n (part a (n + n + (n + n) + 1) xs)) ++ line_text p (suc k) xs
   unfolding line_text byte_text after digit choose field_at texts_at
-  data-line = listed 52 held_text _ refl (mapped held_text 0 _)
+  data_line = listed 52 held_text _ refl (mapped held_text 0 _)
 
-  number-line : line_text (name ++ (48 ∷ p)) k xs ≡ number_field name (get_or xs a 0) ++ line_text p (suc k) xs
+  number_line : line_text (name ++ (48 ∷ p)) k xs ≡ number_field name (get_or xs a 0) ++ line_text p (suc k) xs
   unfolding line_text byte_text after digit choose field_at texts_at number_field items_text item_text comma_before
-  number-line =
+  number_line =
       plain (48 ∷ p)
       ∙ (ap (λ (z : List ℕ). name ++ z) (ap (λ (z : List ℕ). z ++ line_text p (suc k) xs) (append-nil (decimal (get_or xs (get_or places k 0) 0)) ∙ ap (λ (z : ℕ). decimal (get_or xs z 0)) e))
       ∙ sym (append_assoc name (decimal (get_or xs a 0)) _))
@@ -128,147 +128,147 @@ module _ (xs : List ℕ) (p : List ℕ) where
   unfolding line_text byte_text after digit choose ascii
   own_line = sym (append_assoc (ascii "state me=") (drop (length (ascii "state me=")) (own_field (data_in (own_at xs)))) _) ∙ ap (λ (z : List ℕ). z ++ line_text p 0 xs) (own_whole (data_in (own_at xs)))
 
-  limit-line : (k : ℕ) → line_text (ascii " refill=L" ++ p) k xs ≡ refill_field (limit_at xs) ++ line_text p k xs
+  limit_line : (k : ℕ) → line_text (ascii " refill=L" ++ p) k xs ≡ refill_field (limit_at xs) ++ line_text p k xs
   unfolding line_text byte_text after digit choose ascii
-  limit-line k = sym (append_assoc (ascii " refill=") (drop (length (ascii " refill=")) (refill_field (limit_at xs))) (line_text p k xs)) ∙ ap (λ (z : List ℕ). z ++ line_text p k xs) (limit_whole (limit_at xs))
+  limit_line k = sym (append_assoc (ascii " refill=") (drop (length (ascii " refill=")) (refill_field (limit_at xs))) (line_text p k xs)) ∙ ap (λ (z : List ℕ). z ++ line_text p k xs) (limit_whole (limit_at xs))
 
 -- from each field on, by tools/make/layout.py
 module _ (xs : List ℕ) where
-  abbrev end-text : List ℕ
-  end-text = ascii "\n"
+  abbrev end_text : List ℕ
+  end_text = ascii "\n"
 
-  abbrev pins-text : List ℕ
-  pins-text = list_field (ascii " pins=[") decimal (items_at layout.pins_places (layout.pins_part xs)) ++ end-text
+  abbrev pins_text : List ℕ
+  pins_text = list_field (ascii " pins=[") decimal (items_at layout.pins_places (layout.pins_part xs)) ++ end_text
 
-  abbrev short-text : List ℕ
-  short-text = number_field (ascii " short=") (layout.passes_short xs) ++ pins-text
+  abbrev short_text : List ℕ
+  short_text = number_field (ascii " short=") (layout.passes_short xs) ++ pins_text
 
-  abbrev alone-text : List ℕ
-  alone-text = number_field (ascii " alone=") (layout.passes_alone xs) ++ short-text
+  abbrev alone_text : List ℕ
+  alone_text = number_field (ascii " alone=") (layout.passes_alone xs) ++ short_text
 
-  abbrev interval-text : List ℕ
-  interval-text = number_field (ascii " interval=") (layout.next_shuffle_interval xs) ++ alone-text
+  abbrev interval_text : List ℕ
+  interval_text = number_field (ascii " interval=") (layout.next_shuffle_interval xs) ++ alone_text
 
-  abbrev timers-text : List ℕ
-  timers-text = number_field (ascii " timers=") (layout.timers_scheduled xs) ++ interval-text
+  abbrev timers_text : List ℕ
+  timers_text = number_field (ascii " timers=") (layout.timers_scheduled xs) ++ interval_text
 
-  abbrev refill-text : List ℕ
-  refill-text = refill_field (limit_at xs) ++ timers-text
+  abbrev refill_text : List ℕ
+  refill_text = refill_field (limit_at xs) ++ timers_text
 
-  abbrev refused-text : List ℕ
-  refused-text = list_field (ascii " refused=[") decimal (items_at layout.refused_places (layout.refused_part xs)) ++ refill-text
+  abbrev refused_text : List ℕ
+  refused_text = list_field (ascii " refused=[") decimal (items_at layout.refused_places (layout.refused_part xs)) ++ refill_text
 
-  abbrev alive-text : List ℕ
-  alive-text = list_field (ascii " alive=[") decimal (items_at layout.alive_places (layout.alive_part xs)) ++ refused-text
+  abbrev alive_text : List ℕ
+  alive_text = list_field (ascii " alive=[") decimal (items_at layout.alive_places (layout.alive_part xs)) ++ refused_text
 
-  abbrev data-text : List ℕ
-  data-text = list_field (ascii " data=[") held_text (data_map_at layout.peer_data_places (layout.peer_data_part xs)) ++ alive-text
+  abbrev data_text : List ℕ
+  data_text = list_field (ascii " data=[") held_text (data_map_at layout.peer_data_places (layout.peer_data_part xs)) ++ alive_text
 
-  abbrev next-join-text : List ℕ
-  next-join-text = number_field (ascii " next_join=") (layout.next_join xs) ++ data-text
+  abbrev next_join_text : List ℕ
+  next_join_text = number_field (ascii " next_join=") (layout.next_join xs) ++ data_text
 
-  abbrev joins-text : List ℕ
-  joins-text = list_field (ascii " joins=[") numbered_text (numbers_at layout.joins_places (layout.joins_part xs)) ++ next-join-text
+  abbrev joins_text : List ℕ
+  joins_text = list_field (ascii " joins=[") numbered_text (numbers_at layout.joins_places (layout.joins_part xs)) ++ next_join_text
 
-  abbrev next-request-text : List ℕ
-  next-request-text = number_field (ascii " next_request=") (layout.next_neighbor_request xs) ++ joins-text
+  abbrev next_request_text : List ℕ
+  next_request_text = number_field (ascii " next_request=") (layout.next_neighbor_request xs) ++ joins_text
 
-  abbrev requests-text : List ℕ
-  requests-text = list_field (ascii " requests=[") numbered_text (numbers_at layout.requests_places (layout.requests_part xs)) ++ next-request-text
+  abbrev requests_text : List ℕ
+  requests_text = list_field (ascii " requests=[") numbered_text (numbers_at layout.requests_places (layout.requests_part xs)) ++ next_request_text
 
-  abbrev recent-text : List ℕ
-  recent-text = list_field (ascii " recent=[") decimal (items_at layout.recent_places (layout.recent_part xs)) ++ requests-text
+  abbrev recent_text : List ℕ
+  recent_text = list_field (ascii " recent=[") decimal (items_at layout.recent_places (layout.recent_part xs)) ++ requests_text
 
-  abbrev bootstrap-text : List ℕ
-  bootstrap-text = list_field (ascii " bootstrap=[") decimal (items_at layout.bootstrap_places (layout.bootstrap_part xs)) ++ recent-text
+  abbrev bootstrap_text : List ℕ
+  bootstrap_text = list_field (ascii " bootstrap=[") decimal (items_at layout.bootstrap_places (layout.bootstrap_part xs)) ++ recent_text
 
-  abbrev passive-text : List ℕ
-  passive-text = list_field (ascii " passive=[") decimal (items_at layout.passive_places (layout.passive_part xs)) ++ bootstrap-text
+  abbrev passive_text : List ℕ
+  passive_text = list_field (ascii " passive=[") decimal (items_at layout.passive_places (layout.passive_part xs)) ++ bootstrap_text
 
-  abbrev active-text : List ℕ
-  active-text = list_field (ascii " active=[") decimal (items_at layout.active_places (layout.active_part xs)) ++ passive-text
+  abbrev active_text : List ℕ
+  active_text = list_field (ascii " active=[") decimal (items_at layout.active_places (layout.active_part xs)) ++ passive_text
 
-  from_end : line_text (ascii "\n") 16 xs ≡ end-text
+  from_end : line_text (ascii "\n") 16 xs ≡ end_text
   unfolding line_text byte_text after digit choose ascii
   from_end = refl
 
-  from-pins : line_text (ascii " pins=[1]\n") 15 xs ≡ pins-text
+  from_pins : line_text (ascii " pins=[1]\n") 15 xs ≡ pins_text
   unfolding line_text byte_text after digit choose ascii places rooms
-  from-pins = peers-line xs (ascii " pins=[") (ascii "\n") 15 layout.pins_at layout.pins_places (λ q. refl) refl refl ∙ ap (λ (z : List ℕ). list_field (ascii " pins=[") decimal (items_at layout.pins_places (layout.pins_part xs)) ++ z) from_end
+  from_pins = peers_line xs (ascii " pins=[") (ascii "\n") 15 layout.pins_at layout.pins_places (λ q. refl) refl refl ∙ ap (λ (z : List ℕ). list_field (ascii " pins=[") decimal (items_at layout.pins_places (layout.pins_part xs)) ++ z) from_end
 
-  from-short : line_text (ascii " short=0 pins=[1]\n") 14 xs ≡ short-text
+  from_short : line_text (ascii " short=0 pins=[1]\n") 14 xs ≡ short_text
   unfolding line_text byte_text after digit choose ascii places rooms
-  from-short = number-line xs (ascii " short=") (ascii " pins=[1]\n") 14 layout.passes_short_at 1 (λ q. refl) refl refl ∙ ap (λ (z : List ℕ). number_field (ascii " short=") (layout.passes_short xs) ++ z) from-pins
+  from_short = number_line xs (ascii " short=") (ascii " pins=[1]\n") 14 layout.passes_short_at 1 (λ q. refl) refl refl ∙ ap (λ (z : List ℕ). number_field (ascii " short=") (layout.passes_short xs) ++ z) from_pins
 
-  from-alone : line_text (ascii " alone=0 short=0 pins=[1]\n") 13 xs ≡ alone-text
+  from_alone : line_text (ascii " alone=0 short=0 pins=[1]\n") 13 xs ≡ alone_text
   unfolding line_text byte_text after digit choose ascii places rooms
-  from-alone = number-line xs (ascii " alone=") (ascii " short=0 pins=[1]\n") 13 layout.passes_alone_at 1 (λ q. refl) refl refl ∙ ap (λ (z : List ℕ). number_field (ascii " alone=") (layout.passes_alone xs) ++ z) from-short
+  from_alone = number_line xs (ascii " alone=") (ascii " short=0 pins=[1]\n") 13 layout.passes_alone_at 1 (λ q. refl) refl refl ∙ ap (λ (z : List ℕ). number_field (ascii " alone=") (layout.passes_alone xs) ++ z) from_short
 
-  from-interval : line_text (ascii " interval=0 alone=0 short=0 pins=[1]\n") 12 xs ≡ interval-text
+  from_interval : line_text (ascii " interval=0 alone=0 short=0 pins=[1]\n") 12 xs ≡ interval_text
   unfolding line_text byte_text after digit choose ascii places rooms
-  from-interval = number-line xs (ascii " interval=") (ascii " alone=0 short=0 pins=[1]\n") 12 layout.next_shuffle_interval_at 1 (λ q. refl) refl refl ∙ ap (λ (z : List ℕ). number_field (ascii " interval=") (layout.next_shuffle_interval xs) ++ z) from-alone
+  from_interval = number_line xs (ascii " interval=") (ascii " alone=0 short=0 pins=[1]\n") 12 layout.next_shuffle_interval_at 1 (λ q. refl) refl refl ∙ ap (λ (z : List ℕ). number_field (ascii " interval=") (layout.next_shuffle_interval xs) ++ z) from_alone
 
-  from-timers : line_text (ascii " timers=0 interval=0 alone=0 short=0 pins=[1]\n") 11 xs ≡ timers-text
+  from_timers : line_text (ascii " timers=0 interval=0 alone=0 short=0 pins=[1]\n") 11 xs ≡ timers_text
   unfolding line_text byte_text after digit choose ascii places rooms
-  from-timers = number-line xs (ascii " timers=") (ascii " interval=0 alone=0 short=0 pins=[1]\n") 11 layout.timers_scheduled_at 1 (λ q. refl) refl refl ∙ ap (λ (z : List ℕ). number_field (ascii " timers=") (layout.timers_scheduled xs) ++ z) from-interval
+  from_timers = number_line xs (ascii " timers=") (ascii " interval=0 alone=0 short=0 pins=[1]\n") 11 layout.timers_scheduled_at 1 (λ q. refl) refl refl ∙ ap (λ (z : List ℕ). number_field (ascii " timers=") (layout.timers_scheduled xs) ++ z) from_interval
 
-  from-refill : line_text (ascii " refill=L timers=0 interval=0 alone=0 short=0 pins=[1]\n") 11 xs ≡ refill-text
+  from_refill : line_text (ascii " refill=L timers=0 interval=0 alone=0 short=0 pins=[1]\n") 11 xs ≡ refill_text
   unfolding line_text byte_text after digit choose ascii places rooms
-  from-refill = limit-line xs (ascii " timers=0 interval=0 alone=0 short=0 pins=[1]\n") 11 ∙ ap (λ (z : List ℕ). refill_field (limit_at xs) ++ z) from-timers
+  from_refill = limit_line xs (ascii " timers=0 interval=0 alone=0 short=0 pins=[1]\n") 11 ∙ ap (λ (z : List ℕ). refill_field (limit_at xs) ++ z) from_timers
 
-  from-refused : line_text (ascii " refused=[1] refill=L timers=0 interval=0 alone=0 short=0 pins=[1]\n") 10 xs ≡ refused-text
+  from_refused : line_text (ascii " refused=[1] refill=L timers=0 interval=0 alone=0 short=0 pins=[1]\n") 10 xs ≡ refused_text
   unfolding line_text byte_text after digit choose ascii places rooms
-  from-refused = peers-line xs (ascii " refused=[") (ascii " refill=L timers=0 interval=0 alone=0 short=0 pins=[1]\n") 10 layout.refused_at layout.refused_places (λ q. refl) refl refl ∙ ap (λ (z : List ℕ). list_field (ascii " refused=[") decimal (items_at layout.refused_places (layout.refused_part xs)) ++ z) from-refill
+  from_refused = peers_line xs (ascii " refused=[") (ascii " refill=L timers=0 interval=0 alone=0 short=0 pins=[1]\n") 10 layout.refused_at layout.refused_places (λ q. refl) refl refl ∙ ap (λ (z : List ℕ). list_field (ascii " refused=[") decimal (items_at layout.refused_places (layout.refused_part xs)) ++ z) from_refill
 
-  from-alive : line_text (ascii " alive=[1] refused=[1] refill=L timers=0 interval=0 alone=0 short=0 pins=[1]\n") 9 xs ≡ alive-text
+  from_alive : line_text (ascii " alive=[1] refused=[1] refill=L timers=0 interval=0 alone=0 short=0 pins=[1]\n") 9 xs ≡ alive_text
   unfolding line_text byte_text after digit choose ascii places rooms
-  from-alive = peers-line xs (ascii " alive=[") (ascii " refused=[1] refill=L timers=0 interval=0 alone=0 short=0 pins=[1]\n") 9 layout.alive_at layout.alive_places (λ q. refl) refl refl ∙ ap (λ (z : List ℕ). list_field (ascii " alive=[") decimal (items_at layout.alive_places (layout.alive_part xs)) ++ z) from-refused
+  from_alive = peers_line xs (ascii " alive=[") (ascii " refused=[1] refill=L timers=0 interval=0 alone=0 short=0 pins=[1]\n") 9 layout.alive_at layout.alive_places (λ q. refl) refl refl ∙ ap (λ (z : List ℕ). list_field (ascii " alive=[") decimal (items_at layout.alive_places (layout.alive_part xs)) ++ z) from_refused
 
-  from-data : line_text (ascii " data=[4] alive=[1] refused=[1] refill=L timers=0 interval=0 alone=0 short=0 pins=[1]\n") 8 xs ≡ data-text
+  from_data : line_text (ascii " data=[4] alive=[1] refused=[1] refill=L timers=0 interval=0 alone=0 short=0 pins=[1]\n") 8 xs ≡ data_text
   unfolding line_text byte_text after digit choose ascii places rooms
-  from-data = data-line xs (ascii " data=[") (ascii " alive=[1] refused=[1] refill=L timers=0 interval=0 alone=0 short=0 pins=[1]\n") 8 layout.peer_data_at layout.peer_data_places (λ q. refl) refl refl ∙ ap (λ (z : List ℕ). list_field (ascii " data=[") held_text (data_map_at layout.peer_data_places (layout.peer_data_part xs)) ++ z) from-alive
+  from_data = data_line xs (ascii " data=[") (ascii " alive=[1] refused=[1] refill=L timers=0 interval=0 alone=0 short=0 pins=[1]\n") 8 layout.peer_data_at layout.peer_data_places (λ q. refl) refl refl ∙ ap (λ (z : List ℕ). list_field (ascii " data=[") held_text (data_map_at layout.peer_data_places (layout.peer_data_part xs)) ++ z) from_alive
 
-  from-next-join : line_text (ascii " next_join=0 data=[4] alive=[1] refused=[1] refill=L timers=0 interval=0 alone=0 short=0 pins=[1]\n") 7 xs ≡ next-join-text
+  from_next_join : line_text (ascii " next_join=0 data=[4] alive=[1] refused=[1] refill=L timers=0 interval=0 alone=0 short=0 pins=[1]\n") 7 xs ≡ next_join_text
   unfolding line_text byte_text after digit choose ascii places rooms
-  from-next-join = number-line xs (ascii " next_join=") (ascii " data=[4] alive=[1] refused=[1] refill=L timers=0 interval=0 alone=0 short=0 pins=[1]\n") 7 layout.next_join_at 1 (λ q. refl) refl refl ∙ ap (λ (z : List ℕ). number_field (ascii " next_join=") (layout.next_join xs) ++ z) from-data
+  from_next_join = number_line xs (ascii " next_join=") (ascii " data=[4] alive=[1] refused=[1] refill=L timers=0 interval=0 alone=0 short=0 pins=[1]\n") 7 layout.next_join_at 1 (λ q. refl) refl refl ∙ ap (λ (z : List ℕ). number_field (ascii " next_join=") (layout.next_join xs) ++ z) from_data
 
-  from-joins : line_text (ascii " joins=[2] next_join=0 data=[4] alive=[1] refused=[1] refill=L timers=0 interval=0 alone=0 short=0 pins=[1]\n") 6 xs ≡ joins-text
+  from_joins : line_text (ascii " joins=[2] next_join=0 data=[4] alive=[1] refused=[1] refill=L timers=0 interval=0 alone=0 short=0 pins=[1]\n") 6 xs ≡ joins_text
   unfolding line_text byte_text after digit choose ascii places rooms
-  from-joins = numbers-line xs (ascii " joins=[") (ascii " next_join=0 data=[4] alive=[1] refused=[1] refill=L timers=0 interval=0 alone=0 short=0 pins=[1]\n") 6 layout.joins_at layout.joins_places (λ q. refl) refl refl ∙ ap (λ (z : List ℕ). list_field (ascii " joins=[") numbered_text (numbers_at layout.joins_places (layout.joins_part xs)) ++ z) from-next-join
+  from_joins = numbers_line xs (ascii " joins=[") (ascii " next_join=0 data=[4] alive=[1] refused=[1] refill=L timers=0 interval=0 alone=0 short=0 pins=[1]\n") 6 layout.joins_at layout.joins_places (λ q. refl) refl refl ∙ ap (λ (z : List ℕ). list_field (ascii " joins=[") numbered_text (numbers_at layout.joins_places (layout.joins_part xs)) ++ z) from_next_join
 
-  from-next-request : line_text (ascii " next_request=0 joins=[2] next_join=0 data=[4] alive=[1] refused=[1] refill=L timers=0 interval=0 alone=0 short=0 pins=[1]\n") 5 xs ≡ next-request-text
+  from_next_request : line_text (ascii " next_request=0 joins=[2] next_join=0 data=[4] alive=[1] refused=[1] refill=L timers=0 interval=0 alone=0 short=0 pins=[1]\n") 5 xs ≡ next_request_text
   unfolding line_text byte_text after digit choose ascii places rooms
-  from-next-request = number-line xs (ascii " next_request=") (ascii " joins=[2] next_join=0 data=[4] alive=[1] refused=[1] refill=L timers=0 interval=0 alone=0 short=0 pins=[1]\n") 5 layout.next_neighbor_request_at 1 (λ q. refl) refl refl ∙ ap (λ (z : List ℕ). number_field (ascii " next_request=") (layout.next_neighbor_request xs) ++ z) from-joins
+  from_next_request = number_line xs (ascii " next_request=") (ascii " joins=[2] next_join=0 data=[4] alive=[1] refused=[1] refill=L timers=0 interval=0 alone=0 short=0 pins=[1]\n") 5 layout.next_neighbor_request_at 1 (λ q. refl) refl refl ∙ ap (λ (z : List ℕ). number_field (ascii " next_request=") (layout.next_neighbor_request xs) ++ z) from_joins
 
-  from-requests : line_text (ascii " requests=[2] next_request=0 joins=[2] next_join=0 data=[4] alive=[1] refused=[1] refill=L timers=0 interval=0 alone=0 short=0 pins=[1]\n") 4 xs ≡ requests-text
+  from_requests : line_text (ascii " requests=[2] next_request=0 joins=[2] next_join=0 data=[4] alive=[1] refused=[1] refill=L timers=0 interval=0 alone=0 short=0 pins=[1]\n") 4 xs ≡ requests_text
   unfolding line_text byte_text after digit choose ascii places rooms
-  from-requests = numbers-line xs (ascii " requests=[") (ascii " next_request=0 joins=[2] next_join=0 data=[4] alive=[1] refused=[1] refill=L timers=0 interval=0 alone=0 short=0 pins=[1]\n") 4 layout.requests_at layout.requests_places (λ q. refl) refl refl ∙ ap (λ (z : List ℕ). list_field (ascii " requests=[") numbered_text (numbers_at layout.requests_places (layout.requests_part xs)) ++ z) from-next-request
+  from_requests = numbers_line xs (ascii " requests=[") (ascii " next_request=0 joins=[2] next_join=0 data=[4] alive=[1] refused=[1] refill=L timers=0 interval=0 alone=0 short=0 pins=[1]\n") 4 layout.requests_at layout.requests_places (λ q. refl) refl refl ∙ ap (λ (z : List ℕ). list_field (ascii " requests=[") numbered_text (numbers_at layout.requests_places (layout.requests_part xs)) ++ z) from_next_request
 
-  from-recent : line_text (ascii " recent=[1] requests=[2] next_request=0 joins=[2] next_join=0 data=[4] alive=[1] refused=[1] refill=L timers=0 interval=0 alone=0 short=0 pins=[1]\n") 3 xs ≡ recent-text
+  from_recent : line_text (ascii " recent=[1] requests=[2] next_request=0 joins=[2] next_join=0 data=[4] alive=[1] refused=[1] refill=L timers=0 interval=0 alone=0 short=0 pins=[1]\n") 3 xs ≡ recent_text
   unfolding line_text byte_text after digit choose ascii places rooms
-  from-recent = peers-line xs (ascii " recent=[") (ascii " requests=[2] next_request=0 joins=[2] next_join=0 data=[4] alive=[1] refused=[1] refill=L timers=0 interval=0 alone=0 short=0 pins=[1]\n") 3 layout.recent_at layout.recent_places (λ q. refl) refl refl ∙ ap (λ (z : List ℕ). list_field (ascii " recent=[") decimal (items_at layout.recent_places (layout.recent_part xs)) ++ z) from-requests
+  from_recent = peers_line xs (ascii " recent=[") (ascii " requests=[2] next_request=0 joins=[2] next_join=0 data=[4] alive=[1] refused=[1] refill=L timers=0 interval=0 alone=0 short=0 pins=[1]\n") 3 layout.recent_at layout.recent_places (λ q. refl) refl refl ∙ ap (λ (z : List ℕ). list_field (ascii " recent=[") decimal (items_at layout.recent_places (layout.recent_part xs)) ++ z) from_requests
 
-  from-bootstrap : line_text (ascii " bootstrap=[1] recent=[1] requests=[2] next_request=0 joins=[2] next_join=0 data=[4] alive=[1] refused=[1] refill=L timers=0 interval=0 alone=0 short=0 pins=[1]\n") 2 xs ≡ bootstrap-text
+  from_bootstrap : line_text (ascii " bootstrap=[1] recent=[1] requests=[2] next_request=0 joins=[2] next_join=0 data=[4] alive=[1] refused=[1] refill=L timers=0 interval=0 alone=0 short=0 pins=[1]\n") 2 xs ≡ bootstrap_text
   unfolding line_text byte_text after digit choose ascii places rooms
-  from-bootstrap = peers-line xs (ascii " bootstrap=[") (ascii " recent=[1] requests=[2] next_request=0 joins=[2] next_join=0 data=[4] alive=[1] refused=[1] refill=L timers=0 interval=0 alone=0 short=0 pins=[1]\n") 2 layout.bootstrap_at layout.bootstrap_places (λ q. refl) refl refl ∙ ap (λ (z : List ℕ). list_field (ascii " bootstrap=[") decimal (items_at layout.bootstrap_places (layout.bootstrap_part xs)) ++ z) from-recent
+  from_bootstrap = peers_line xs (ascii " bootstrap=[") (ascii " recent=[1] requests=[2] next_request=0 joins=[2] next_join=0 data=[4] alive=[1] refused=[1] refill=L timers=0 interval=0 alone=0 short=0 pins=[1]\n") 2 layout.bootstrap_at layout.bootstrap_places (λ q. refl) refl refl ∙ ap (λ (z : List ℕ). list_field (ascii " bootstrap=[") decimal (items_at layout.bootstrap_places (layout.bootstrap_part xs)) ++ z) from_recent
 
-  from-passive : line_text (ascii " passive=[1] bootstrap=[1] recent=[1] requests=[2] next_request=0 joins=[2] next_join=0 data=[4] alive=[1] refused=[1] refill=L timers=0 interval=0 alone=0 short=0 pins=[1]\n") 1 xs ≡ passive-text
+  from_passive : line_text (ascii " passive=[1] bootstrap=[1] recent=[1] requests=[2] next_request=0 joins=[2] next_join=0 data=[4] alive=[1] refused=[1] refill=L timers=0 interval=0 alone=0 short=0 pins=[1]\n") 1 xs ≡ passive_text
   unfolding line_text byte_text after digit choose ascii places rooms
-  from-passive = peers-line xs (ascii " passive=[") (ascii " bootstrap=[1] recent=[1] requests=[2] next_request=0 joins=[2] next_join=0 data=[4] alive=[1] refused=[1] refill=L timers=0 interval=0 alone=0 short=0 pins=[1]\n") 1 layout.passive_at layout.passive_places (λ q. refl) refl refl ∙ ap (λ (z : List ℕ). list_field (ascii " passive=[") decimal (items_at layout.passive_places (layout.passive_part xs)) ++ z) from-bootstrap
+  from_passive = peers_line xs (ascii " passive=[") (ascii " bootstrap=[1] recent=[1] requests=[2] next_request=0 joins=[2] next_join=0 data=[4] alive=[1] refused=[1] refill=L timers=0 interval=0 alone=0 short=0 pins=[1]\n") 1 layout.passive_at layout.passive_places (λ q. refl) refl refl ∙ ap (λ (z : List ℕ). list_field (ascii " passive=[") decimal (items_at layout.passive_places (layout.passive_part xs)) ++ z) from_bootstrap
 
-  from-active : line_text (ascii " active=[1] passive=[1] bootstrap=[1] recent=[1] requests=[2] next_request=0 joins=[2] next_join=0 data=[4] alive=[1] refused=[1] refill=L timers=0 interval=0 alone=0 short=0 pins=[1]\n") 0 xs ≡ active-text
+  from_active : line_text (ascii " active=[1] passive=[1] bootstrap=[1] recent=[1] requests=[2] next_request=0 joins=[2] next_join=0 data=[4] alive=[1] refused=[1] refill=L timers=0 interval=0 alone=0 short=0 pins=[1]\n") 0 xs ≡ active_text
   unfolding line_text byte_text after digit choose ascii places rooms
-  from-active = peers-line xs (ascii " active=[") (ascii " passive=[1] bootstrap=[1] recent=[1] requests=[2] next_request=0 joins=[2] next_join=0 data=[4] alive=[1] refused=[1] refill=L timers=0 interval=0 alone=0 short=0 pins=[1]\n") 0 layout.active_at layout.active_places (λ q. refl) refl refl ∙ ap (λ (z : List ℕ). list_field (ascii " active=[") decimal (items_at layout.active_places (layout.active_part xs)) ++ z) from-passive
+  from_active = peers_line xs (ascii " active=[") (ascii " passive=[1] bootstrap=[1] recent=[1] requests=[2] next_request=0 joins=[2] next_join=0 data=[4] alive=[1] refused=[1] refill=L timers=0 interval=0 alone=0 short=0 pins=[1]\n") 0 layout.active_at layout.active_places (λ q. refl) refl refl ∙ ap (λ (z : List ℕ). list_field (ascii " active=[") decimal (items_at layout.active_places (layout.active_part xs)) ++ z) from_passive
 
-  fields-line : line_text (ascii " active=[1] passive=[1] bootstrap=[1] recent=[1] requests=[2] next_request=0 joins=[2] next_join=0 data=[4] alive=[1] refused=[1] refill=L timers=0 interval=0 alone=0 short=0 pins=[1]\n") 0 xs ≡ fields_text xs
+  fields_line : line_text (ascii " active=[1] passive=[1] bootstrap=[1] recent=[1] requests=[2] next_request=0 joins=[2] next_join=0 data=[4] alive=[1] refused=[1] refill=L timers=0 interval=0 alone=0 short=0 pins=[1]\n") 0 xs ≡ fields_text xs
   unfolding fields_text
-  fields-line = from-active
+  fields_line = from_active
 
 -- end
 
 pub line_is : (xs : List ℕ) → line_text line 0 xs ≡ state_line xs
 unfolding line ascii state_line
-line_is xs = own_line xs _ ∙ ap (λ (z : List ℕ). own_field (data_in (own_at xs)) ++ z) (fields-line xs)
+line_is xs = own_line xs _ ∙ ap (λ (z : List ℕ). own_field (data_in (own_at xs)) ++ z) (fields_line xs)
 
 -- ---- the loop
 
@@ -313,17 +313,17 @@ module _ (xs : List ℕ) (t : Text) (out : List ℕ) (r : Text) (o : List ℕ) (
   here : i < line_size → drop i line ≡ get_or line i 0 ∷ drop (i + 1) line
   here h = let e : suc i ≡ i + 1 = omega arith in drop-cons line i 0 (omega (arith, h, line_long)) ∙ ap (λ (j : ℕ). get_or line i 0 ∷ drop j line) e
 
-  pub line-end : line_size ≤ i → Puts (state_line xs) t out r o
+  pub line_end : line_size ≤ i → Puts (state_line xs) t out r o
   unfolding line_text
-  line-end h = subst (λ (z : List ℕ). Puts z t out r o) (line_is xs) (writing-end v.text (let q : length line ≤ i = omega (arith, h, line_long) in ap (λ (z : List ℕ). line_text z k xs) (drop_of_length-le line q)))
+  line_end h = subst (λ (z : List ℕ). Puts z t out r o) (line_is xs) (writing_end v.text (let q : length line ≤ i = omega (arith, h, line_long) in ap (λ (z : List ℕ). line_text z k xs) (drop_of_length-le line q)))
 
   module _ (h : i < line_size) where
-    fits-here : line_fits (get_or line i 0 ∷ drop (i + 1) line) k ≡ true
-    fits-here = ap (λ (z : List ℕ). line_fits z k) (sym (here h)) ∙ v.fits
+    fits_here : line_fits (get_or line i 0 ∷ drop (i + 1) line) k ≡ true
+    fits_here = ap (λ (z : List ℕ). line_fits z k) (sym (here h)) ∙ v.fits
 
     fits_after : line_fits (drop (i + 1) line) (after (get_or line i 0) k) ≡ true
     unfolding line_fits
-    fits_after = and_right (choose (digit (get_or line i 0)) (row_fits (get_or line i 0 - 48) k) true) _ fits-here
+    fits_after = and_right (choose (digit (get_or line i 0)) (row_fits (get_or line i 0 - 48) k) true) _ fits_here
 
     next : (s : Text) (p x : List ℕ) (l : ℕ) → after (get_or line i 0) k ≡ l → byte_text (get_or line i 0) k xs ≡ x → Puts x r o s p → length p ≡ length o → Lining xs t out s p (i + 1) l
     unfolding line_text
@@ -331,23 +331,23 @@ module _ (xs : List ℕ) (t : Text) (out : List ℕ) (r : Text) (o : List ℕ) (
       within = omega (arith, h);
       long = v.long;
       fits = ap (λ (z : ℕ). line_fits (drop (i + 1) line) z) (sym f) ∙ fits_after;
-      text = writing-next v.text x (line_text (drop (i + 1) line) l xs) (ap (λ (z : List ℕ). line_text z k xs) (here h) ∙ (λ j. e j ++ line_text (drop (i + 1) line) (f j) xs)) u q;
+      text = writing_next v.text x (line_text (drop (i + 1) line) l xs) (ap (λ (z : List ℕ). line_text z k xs) (here h) ∙ (λ j. e j ++ line_text (drop (i + 1) line) (f j) xs)) u q;
       len = q ∙ v.len;
     }
 
-    same-field : digit (get_or line i 0) ≡ false → after (get_or line i 0) k ≡ k
+    same_field : digit (get_or line i 0) ≡ false → after (get_or line i 0) k ≡ k
     unfolding after
-    same-field n = choose_no _ _ _ n
+    same_field n = choose_no _ _ _ n
 
     module _ (s : Text) (p : List ℕ) where
-      pub own-next : get_or line i 0 ≡ 79 → Puts (drop (length (ascii "state me=")) (own_field (data_in (own_at xs)))) r o s p → length p ≡ length o → Lining xs t out s p (i + 1) k
+      pub own_next : get_or line i 0 ≡ 79 → Puts (drop (length (ascii "state me=")) (own_field (data_in (own_at xs)))) r o s p → length p ≡ length o → Lining xs t out s p (i + 1) k
       unfolding byte_text
-      own-next e u q = next s p _ k (same-field (digit_over (get_or line i 0) (omega (arith, e)))) (choose_yes _ _ _ (eq-eqb (get_or line i 0) 79 e)) u q
+      own_next e u q = next s p _ k (same_field (digit_over (get_or line i 0) (omega (arith, e)))) (choose_yes _ _ _ (eq-eqb (get_or line i 0) 79 e)) u q
 
-      pub limit-next : get_or line i 0 ≡ 76 → Puts (drop (length (ascii " refill=")) (refill_field (limit_at xs))) r o s p → length p ≡ length o → Lining xs t out s p (i + 1) k
+      pub limit_next : get_or line i 0 ≡ 76 → Puts (drop (length (ascii " refill=")) (refill_field (limit_at xs))) r o s p → length p ≡ length o → Lining xs t out s p (i + 1) k
       unfolding byte_text
-      limit-next e u q =
-          next s p _ k (same-field (digit_over (get_or line i 0) (omega (arith, e))))
+      limit_next e u q =
+          next s p _ k (same_field (digit_over (get_or line i 0) (omega (arith, e))))
           (choose_no _ _ _ (ne_eqb (get_or line i 0) 79 (λ f. omega (arith, e, f))) ∙ choose_yes _ _ _ (eq-eqb (get_or line i 0) 76 e))
           u
           q
@@ -355,38 +355,38 @@ module _ (xs : List ℕ) (t : Text) (out : List ℕ) (r : Text) (o : List ℕ) (
       byte_next : digit (get_or line i 0) ≡ false → (get_or line i 0 ≡ 79 → ⊥) → (get_or line i 0 ≡ 76 → ⊥) → Puts (get_or line i 0 ∷ []) r o s p → length p ≡ length o → Lining xs t out s p (i + 1) k
       unfolding byte_text
       byte_next d f g u q =
-          next s p _ k (same-field d) (choose_no _ _ _ (ne_eqb (get_or line i 0) 79 f) ∙ (choose_no _ _ _ (ne_eqb (get_or line i 0) 76 g) ∙ choose_no _ _ _ d)) u q
+          next s p _ k (same_field d) (choose_no _ _ _ (ne_eqb (get_or line i 0) 79 f) ∙ (choose_no _ _ _ (ne_eqb (get_or line i 0) 76 g) ∙ choose_no _ _ _ d)) u q
 
       pub under_next : get_or line i 0 < 48 → (get_or line i 0 ≡ 79 → ⊥) → (get_or line i 0 ≡ 76 → ⊥) → Puts (get_or line i 0 ∷ []) r o s p → length p ≡ length o → Lining xs t out s p (i + 1) k
       under_next l f g u q = byte_next (digit_under (get_or line i 0) l) f g u q
 
-      pub over-next : 53 ≤ get_or line i 0 → (get_or line i 0 ≡ 79 → ⊥) → (get_or line i 0 ≡ 76 → ⊥) → Puts (get_or line i 0 ∷ []) r o s p → length p ≡ length o → Lining xs t out s p (i + 1) k
-      over-next l f g u q = byte_next (digit_over (get_or line i 0) l) f g u q
+      pub over_next : 53 ≤ get_or line i 0 → (get_or line i 0 ≡ 79 → ⊥) → (get_or line i 0 ≡ 76 → ⊥) → Puts (get_or line i 0 ∷ []) r o s p → length p ≡ length o → Lining xs t out s p (i + 1) k
+      over_next l f g u q = byte_next (digit_over (get_or line i 0) l) f g u q
 
     module _ (l : 48 ≤ get_or line i 0) (m : get_or line i 0 < 53) where
-      fits-row : row_fits (get_or line i 0 - 48) k ≡ true
+      fits_row : row_fits (get_or line i 0 - 48) k ≡ true
       unfolding line_fits
-      fits-row = sym (choose_yes _ _ _ (digit_yes (get_or line i 0) l m)) ∙ and_left (choose (digit (get_or line i 0)) (row_fits (get_or line i 0 - 48) k) true) _ fits-here
+      fits_row = sym (choose_yes _ _ _ (digit_yes (get_or line i 0) l m)) ∙ and_left (choose (digit (get_or line i 0)) (row_fits (get_or line i 0 - 48) k) true) _ fits_here
 
-      row-there : (ltb k fields && (ltb (get_or places k 0 + (get_or line i 0 - 48) * get_or rooms k 0) words && (leb (get_or places k 0 + get_or rooms k 0) words && leb 1 (get_or rooms k 0)))) ≡ true
+      row_there : (ltb k fields && (ltb (get_or places k 0 + (get_or line i 0 - 48) * get_or rooms k 0) words && (leb (get_or places k 0 + get_or rooms k 0) words && leb 1 (get_or rooms k 0)))) ≡ true
       unfolding row_fits
-      row-there = and_right (eqb (get_or line i 0 - 48) 4 || ltb (get_or line i 0 - 48) 3) _ fits-row
+      row_there = and_right (eqb (get_or line i 0 - 48) 4 || ltb (get_or line i 0 - 48) 3) _ fits_row
 
-      pub field-there : k < fields
-      field-there = ltb-true k fields (and_left (ltb k fields) _ row-there)
+      pub field_there : k < fields
+      field_there = ltb-true k fields (and_left (ltb k fields) _ row_there)
 
       pub field_in : InWords (get_or line i 0 - 48) (get_or places k 0) (get_or rooms k 0) (length xs)
       unfolding row_fits
       field_in =
           let a = ltb (get_or places k 0 + (get_or line i 0 - 48) * get_or rooms k 0) words in
           let b = leb (get_or places k 0 + get_or rooms k 0) words in
-          let q = and_right (ltb k fields) (a && (b && leb 1 (get_or rooms k 0))) row-there in
+          let q = and_right (ltb k fields) (a && (b && leb 1 (get_or rooms k 0))) row_there in
           let w = and_right a (b && leb 1 (get_or rooms k 0)) q in
           subst (λ (n : ℕ). InWords (get_or line i 0 - 48) (get_or places k 0) (get_or rooms k 0) n) (sym v.long) (record {
             inside = ltb-true _ _ (and_left a (b && leb 1 (get_or rooms k 0)) q);
             first = leb-true _ _ (and_left b (leb 1 (get_or rooms k 0)) w);
             some = leb-true _ _ (and_right b (leb 1 (get_or rooms k 0)) w);
-            form = columns_form (get_or line i 0 - 48) (and_left (eqb (get_or line i 0 - 48) 4 || ltb (get_or line i 0 - 48) 3) _ fits-row);
+            form = columns_form (get_or line i 0 - 48) (and_left (eqb (get_or line i 0 - 48) 4 || ltb (get_or line i 0 - 48) 3) _ fits_row);
           })
 
       pub field_next : (s : Text) (p : List ℕ) → Puts (field_at (get_or line i 0 - 48) (get_or places k 0) (get_or rooms k 0) xs) r o s p → length p ≡ length o → Lining xs t out s p (i + 1) (k + 1)

@@ -10,12 +10,12 @@ use lib.Seq.{drop-cons, get_or-take}
 use borrow.Author.Tests.{eq-eqb, ne_eqb}
 use Rattle.base_lists.specs.Maps.{zip}
 use Rattle.base_lists.proofs.Choice.{choose_yes, choose_no}
-use Rattle.base_lists.proofs.Entries.{getD-mapped}
+use Rattle.base_lists.proofs.Entries.{getD_mapped}
 use Rattle.base_peer.specs.Maps.{no_data, entry_bytes}
 use Rattle.base_util.specs.Section.{part, items_at}
 use Rattle.base_util.proofs.Parts.{part_long, part_read}
 use Rattle.base_columns.specs.Columns.{numbers_at, word_bytes, row, head_of, tail_of, count_of, entries_at, data_map_at}
-use Rattle.base_columns.proofs.Data.{head-long, tail-long, head_read, low_read, high_read}
+use Rattle.base_columns.proofs.Data.{head_long, tail_long, head_read, low_read, high_read}
 use Rattle.base_columns.proofs.Rows.{length_rows, get_d_rows}
 use Rattle.run_text.specs.declared.Text.{Text}
 use Rattle.run_text.specs.Text.{Puts}
@@ -24,7 +24,7 @@ use Rattle.run_text.proofs.Written.{nothing, then, named}
 use Rattle.trace_text.specs.Hex.{hex}
 use Rattle.trace_text.specs.Items.{ascii, comma_before, item_text, items_text, numbered_text, held_text}
 use Rattle.trace_text.specs.Fields.{texts_at, field_at, InWords}
-use Rattle.trace_text.proofs.Writing.{Writing, writing_start, writing-next, writing-end}
+use Rattle.trace_text.proofs.Writing.{Writing, writing_start, writing_next, writing_end}
 
 first_read : (c cap : ℕ) (s : List ℕ) (i : ℕ) → i < c → i < cap → get_or (take c (part 0 cap s)) i 0 ≡ get_or s i 0
 unfolding part
@@ -33,138 +33,138 @@ first_read c cap s i h l = get_or-take c (part 0 cap s) i 0 h ∙ get_or-take ca
 -- ---- pairs
 
 module _ {A : Type 0} where
-  length-zip : (ks : List ℕ) (vs : List A) → length vs ≡ length ks → length (zip ks vs) ≡ length ks
+  length_zip : (ks : List ℕ) (vs : List A) → length vs ≡ length ks → length (zip ks vs) ≡ length ks
   unfolding zip
-  length-zip [] vs e = refl
-  length-zip (k ∷ ks) [] e = absurd (omega (arith, e))
-  length-zip (k ∷ ks) (v ∷ vs) e = ap suc (length-zip ks vs (omega (arith, e)))
+  length_zip [] vs e = refl
+  length_zip (k ∷ ks) [] e = absurd (omega (arith, e))
+  length_zip (k ∷ ks) (v ∷ vs) e = ap suc (length_zip ks vs (omega (arith, e)))
 
-  pair-at : (ks : List ℕ) (vs : List A) (i : ℕ) (d : ℕ × A) (c : A) → length vs ≡ length ks → i < length ks → get_or (zip ks vs) i d ≡ (get_or ks i 0, get_or vs i c)
+  pair_at : (ks : List ℕ) (vs : List A) (i : ℕ) (d : ℕ × A) (c : A) → length vs ≡ length ks → i < length ks → get_or (zip ks vs) i d ≡ (get_or ks i 0, get_or vs i c)
   unfolding zip
-  pair-at [] vs i d c e h = absurd (omega (arith, h))
-  pair-at (k ∷ ks) [] i d c e h = absurd (omega (arith, e))
-  pair-at (k ∷ ks) (v ∷ vs) zero d c e h = refl
-  pair-at (k ∷ ks) (v ∷ vs) (suc i) d c e h = pair-at ks vs i d c (omega (arith, e)) (omega (arith, h))
+  pair_at [] vs i d c e h = absurd (omega (arith, h))
+  pair_at (k ∷ ks) [] i d c e h = absurd (omega (arith, e))
+  pair_at (k ∷ ks) (v ∷ vs) zero d c e h = refl
+  pair_at (k ∷ ks) (v ∷ vs) (suc i) d c e h = pair_at ks vs i d c (omega (arith, e)) (omega (arith, h))
 
 -- ---- peers, alone and with their numbers
 
 module _ (cap : ℕ) (s : List ℕ) (l : length s ≡ cap + 1) where
-  peers-count : length (items_at cap s) ≡ min (get_or s cap 0) cap
+  peers_count : length (items_at cap s) ≡ min (get_or s cap 0) cap
   unfolding items_at
-  peers-count = omega (arith, length-take (get_or s cap 0) (part 0 cap s), part_long 0 cap s (omega (arith, l)))
+  peers_count = omega (arith, length-take (get_or s cap 0) (part 0 cap s), part_long 0 cap s (omega (arith, l)))
 
-  peer-at : (i : ℕ) → i < get_or s cap 0 → i < cap → get_or (items_at cap s) i 0 ≡ get_or s i 0
+  peer_at : (i : ℕ) → i < get_or s cap 0 → i < cap → get_or (items_at cap s) i 0 ≡ get_or s i 0
   unfolding items_at
-  peer-at i few inside = first_read (get_or s cap 0) cap s i few inside
+  peer_at i few inside = first_read (get_or s cap 0) cap s i few inside
 
 module _ (cap : ℕ) (m : List ℕ) (l : length m ≡ cap + cap + 1) where
-  keys-count : length (take (get_or m (cap + cap) 0) (part 0 cap m)) ≡ min (get_or m (cap + cap) 0) cap
-  keys-count = omega (arith, length-take (get_or m (cap + cap) 0) (part 0 cap m), part_long 0 cap m (omega (arith, l)))
+  keys_count : length (take (get_or m (cap + cap) 0) (part 0 cap m)) ≡ min (get_or m (cap + cap) 0) cap
+  keys_count = omega (arith, length-take (get_or m (cap + cap) 0) (part 0 cap m), part_long 0 cap m (omega (arith, l)))
 
-  values-count : length (take (get_or m (cap + cap) 0) (part cap cap m)) ≡ length (take (get_or m (cap + cap) 0) (part 0 cap m))
-  values-count = omega (arith, keys-count, length-take (get_or m (cap + cap) 0) (part cap cap m), part_long cap cap m (omega (arith, l)))
+  values_count : length (take (get_or m (cap + cap) 0) (part cap cap m)) ≡ length (take (get_or m (cap + cap) 0) (part 0 cap m))
+  values_count = omega (arith, keys_count, length-take (get_or m (cap + cap) 0) (part cap cap m), part_long cap cap m (omega (arith, l)))
 
-  numbers-count : length (numbers_at cap m) ≡ min (get_or m (cap + cap) 0) cap
+  numbers_count : length (numbers_at cap m) ≡ min (get_or m (cap + cap) 0) cap
   unfolding numbers_at
-  numbers-count = length-zip _ _ values-count ∙ keys-count
+  numbers_count = length_zip _ _ values_count ∙ keys_count
 
   number_at : (i : ℕ) → i < get_or m (cap + cap) 0 → i < cap → get_or (numbers_at cap m) i (0, 0) ≡ (get_or m i 0, get_or m (cap + i) 0)
   unfolding numbers_at
   number_at i few inside =
       let c : ℕ = get_or m (cap + cap) 0 in
-      pair-at (take c (part 0 cap m)) (take c (part cap cap m)) i (0, 0) 0 values-count (omega (arith, keys-count, few, inside))
+      pair_at (take c (part 0 cap m)) (take c (part cap cap m)) i (0, 0) 0 values_count (omega (arith, keys_count, few, inside))
       ∙ (λ j. (first_read c cap m i few inside j, (get_or-take c (part cap cap m) i 0 few ∙ part_read cap cap i m inside) j))
 
 -- ---- peers with their data
 
 module _ (n : ℕ) (m : List ℕ) (l : length m ≡ n + n + (n + n) + 1) where
-  lens-long : length (part n n (head_of n m)) ≡ n
-  lens-long = part_long n n (head_of n m) (omega (arith, head-long n m l))
+  lens_long : length (part n n (head_of n m)) ≡ n
+  lens_long = part_long n n (head_of n m) (omega (arith, head_long n m l))
 
-  lows-long : length (part 0 n (tail_of n m)) ≡ length (part n n (head_of n m))
-  lows-long = part_long 0 n (tail_of n m) (omega (arith, tail-long n m l)) ∙ sym lens-long
+  lows_long : length (part 0 n (tail_of n m)) ≡ length (part n n (head_of n m))
+  lows_long = part_long 0 n (tail_of n m) (omega (arith, tail_long n m l)) ∙ sym lens_long
 
-  highs-long : length (part n n (tail_of n m)) ≡ length (part n n (head_of n m))
-  highs-long = part_long n n (tail_of n m) (omega (arith, tail-long n m l)) ∙ sym lens-long
+  highs_long : length (part n n (tail_of n m)) ≡ length (part n n (head_of n m))
+  highs_long = part_long n n (tail_of n m) (omega (arith, tail_long n m l)) ∙ sym lens_long
 
-  entries-long : length (entries_at n m) ≡ n
+  entries_long : length (entries_at n m) ≡ n
   unfolding entries_at
-  entries-long = length_rows _ _ _ lows-long highs-long ∙ lens-long
+  entries_long = length_rows _ _ _ lows_long highs_long ∙ lens_long
 
-  held-keys : length (take (count_of n m) (part 0 n (head_of n m))) ≡ min (count_of n m) n
-  held-keys = omega (arith, length-take (count_of n m) (part 0 n (head_of n m)), part_long 0 n (head_of n m) (omega (arith, head-long n m l)))
+  held_keys : length (take (count_of n m) (part 0 n (head_of n m))) ≡ min (count_of n m) n
+  held_keys = omega (arith, length-take (count_of n m) (part 0 n (head_of n m)), part_long 0 n (head_of n m) (omega (arith, head_long n m l)))
 
-  held-values : length (map entry_bytes (take (count_of n m) (entries_at n m))) ≡ length (take (count_of n m) (part 0 n (head_of n m)))
-  held-values = length-map (take (count_of n m) (entries_at n m)) entry_bytes ∙ omega (arith, held-keys, length-take (count_of n m) (entries_at n m), entries-long)
+  held_values : length (map entry_bytes (take (count_of n m) (entries_at n m))) ≡ length (take (count_of n m) (part 0 n (head_of n m)))
+  held_values = length-map (take (count_of n m) (entries_at n m)) entry_bytes ∙ omega (arith, held_keys, length-take (count_of n m) (entries_at n m), entries_long)
 
-  held-count : length (data_map_at n m) ≡ min (count_of n m) n
+  held_count : length (data_map_at n m) ≡ min (count_of n m) n
   unfolding data_map_at
-  held-count = length-zip _ _ held-values ∙ held-keys
+  held_count = length_zip _ _ held_values ∙ held_keys
 
   module _ (i : ℕ) (few : i < count_of n m) (inside : i < n) where
-    held-key : get_or (take (count_of n m) (part 0 n (head_of n m))) i 0 ≡ get_or m i 0
+    held_key : get_or (take (count_of n m) (part 0 n (head_of n m))) i 0 ≡ get_or m i 0
     unfolding head_of part
-    held-key = first_read (count_of n m) n (head_of n m) i few inside ∙ get_or-take (n + n) m i 0 (omega (arith, inside))
+    held_key = first_read (count_of n m) n (head_of n m) i few inside ∙ get_or-take (n + n) m i 0 (omega (arith, inside))
 
     entry_at : get_or (entries_at n m) i no_data ≡ row (get_or m (n + i) 0) (get_or m (n + n + i) 0) (get_or m (n + n + n + i) 0)
     unfolding entries_at
     entry_at =
-        get_d_rows i no_data _ _ _ lows-long highs-long (omega (arith, lens-long, inside))
+        get_d_rows i no_data _ _ _ lows_long highs_long (omega (arith, lens_long, inside))
         ∙ (λ j. row (head_read n m i inside j) (low_read n m i inside j) (high_read n m i inside j))
 
-    held-value : get_or (map entry_bytes (take (count_of n m) (entries_at n m))) i []
+    held_value : get_or (map entry_bytes (take (count_of n m) (entries_at n m))) i []
         ≡ take (get_or m (n + i) 0) (word_bytes (get_or m (n + n + i) 0) (get_or m (n + n + n + i) 0))
-    held-value =
-        getD-mapped entry_bytes (take (count_of n m) (entries_at n m)) i no_data [] (omega (arith, length-take (count_of n m) (entries_at n m), entries-long, few, inside))
+    held_value =
+        getD_mapped entry_bytes (take (count_of n m) (entries_at n m)) i no_data [] (omega (arith, length-take (count_of n m) (entries_at n m), entries_long, few, inside))
         ∙ ap entry_bytes (get_or-take (count_of n m) (entries_at n m) i no_data few ∙ entry_at)
 
     held_at : get_or (data_map_at n m) i (0, []) ≡ (get_or m i 0, take (get_or m (n + i) 0) (word_bytes (get_or m (n + n + i) 0) (get_or m (n + n + n + i) 0)))
     unfolding data_map_at
-    held_at = pair-at _ _ i (0, []) [] held-values (omega (arith, held-keys, few, inside)) ∙ (λ j. (held-key j, held-value j))
+    held_at = pair_at _ _ i (0, []) [] held_values (omega (arith, held_keys, few, inside)) ∙ (λ j. (held_key j, held_value j))
 
 -- ---- the texts of a field, in the state's words
 
 module _ (a k : ℕ) (xs : List ℕ) where
   module _ (w : a + k < length xs) where
-    one-long : length (part a (k + 1) xs) ≡ k + 1
-    one-long = part_long a (k + 1) xs (omega (arith, w))
+    one_long : length (part a (k + 1) xs) ≡ k + 1
+    one_long = part_long a (k + 1) xs (omega (arith, w))
 
-    one-count : length (items_at k (part a (k + 1) xs)) ≡ min (get_or xs (a + k) 0) k
-    one-count = peers-count k (part a (k + 1) xs) one-long ∙ ap (λ (n : ℕ). min n k) (part_read a (k + 1) k xs (omega arith))
+    one_count : length (items_at k (part a (k + 1) xs)) ≡ min (get_or xs (a + k) 0) k
+    one_count = peers_count k (part a (k + 1) xs) one_long ∙ ap (λ (n : ℕ). min n k) (part_read a (k + 1) k xs (omega arith))
 
-    one-text : (i : ℕ) → i < get_or xs (a + k) 0 → i < k → get_or (map decimal (items_at k (part a (k + 1) xs))) i [] ≡ decimal (get_or xs (a + i) 0)
-    one-text i few inside =
-        getD-mapped decimal (items_at k (part a (k + 1) xs)) i 0 [] (omega (arith, one-count, few, inside))
-        ∙ ap decimal (peer-at k _ one-long i (subst (λ (n : ℕ). i < n) (sym (part_read a (k + 1) k xs (omega arith))) few) inside ∙ part_read a (k + 1) i xs (omega (arith, inside)))
+    one_text : (i : ℕ) → i < get_or xs (a + k) 0 → i < k → get_or (map decimal (items_at k (part a (k + 1) xs))) i [] ≡ decimal (get_or xs (a + i) 0)
+    one_text i few inside =
+        getD_mapped decimal (items_at k (part a (k + 1) xs)) i 0 [] (omega (arith, one_count, few, inside))
+        ∙ ap decimal (peer_at k _ one_long i (subst (λ (n : ℕ). i < n) (sym (part_read a (k + 1) k xs (omega arith))) few) inside ∙ part_read a (k + 1) i xs (omega (arith, inside)))
 
   module _ (w : a + (k + k) < length xs) where
-    two-long : length (part a (k + k + 1) xs) ≡ k + k + 1
-    two-long = part_long a (k + k + 1) xs (omega (arith, w))
+    two_long : length (part a (k + k + 1) xs) ≡ k + k + 1
+    two_long = part_long a (k + k + 1) xs (omega (arith, w))
 
-    two-count : length (numbers_at k (part a (k + k + 1) xs)) ≡ min (get_or xs (a + (k + k)) 0) k
-    two-count = numbers-count k (part a (k + k + 1) xs) two-long ∙ ap (λ (n : ℕ). min n k) (part_read a (k + k + 1) (k + k) xs (omega arith))
+    two_count : length (numbers_at k (part a (k + k + 1) xs)) ≡ min (get_or xs (a + (k + k)) 0) k
+    two_count = numbers_count k (part a (k + k + 1) xs) two_long ∙ ap (λ (n : ℕ). min n k) (part_read a (k + k + 1) (k + k) xs (omega arith))
 
-    two-text : (i : ℕ) → i < get_or xs (a + (k + k)) 0 → i < k → get_or (map numbered_text (numbers_at k (part a (k + k + 1) xs))) i [] ≡ numbered_text (get_or xs (a + i) 0, get_or xs (a + (k + i)) 0)
-    two-text i few inside =
-        getD-mapped numbered_text (numbers_at k (part a (k + k + 1) xs)) i (0, 0) [] (omega (arith, two-count, few, inside))
+    two_text : (i : ℕ) → i < get_or xs (a + (k + k)) 0 → i < k → get_or (map numbered_text (numbers_at k (part a (k + k + 1) xs))) i [] ≡ numbered_text (get_or xs (a + i) 0, get_or xs (a + (k + i)) 0)
+    two_text i few inside =
+        getD_mapped numbered_text (numbers_at k (part a (k + k + 1) xs)) i (0, 0) [] (omega (arith, two_count, few, inside))
         ∙ ap numbered_text
-        (number_at k _ two-long i (subst (λ (n : ℕ). i < n) (sym (part_read a (k + k + 1) (k + k) xs (omega arith))) few) inside
+        (number_at k _ two_long i (subst (λ (n : ℕ). i < n) (sym (part_read a (k + k + 1) (k + k) xs (omega arith))) few) inside
         ∙ (λ j. (part_read a (k + k + 1) i xs (omega (arith, inside)) j, part_read a (k + k + 1) (k + i) xs (omega (arith, inside)) j)))
 
   module _ (w : a + (k + k + (k + k)) < length xs) where
-    four-long : length (part a (k + k + (k + k) + 1) xs) ≡ k + k + (k + k) + 1
-    four-long = part_long a (k + k + (k + k) + 1) xs (omega (arith, w))
+    four_long : length (part a (k + k + (k + k) + 1) xs) ≡ k + k + (k + k) + 1
+    four_long = part_long a (k + k + (k + k) + 1) xs (omega (arith, w))
 
-    four-count : length (data_map_at k (part a (k + k + (k + k) + 1) xs)) ≡ min (get_or xs (a + (k + k + (k + k))) 0) k
-    four-count = held-count k _ four-long ∙ ap (λ (n : ℕ). min n k) (part_read a (k + k + (k + k) + 1) (k + k + (k + k)) xs (omega arith))
+    four_count : length (data_map_at k (part a (k + k + (k + k) + 1) xs)) ≡ min (get_or xs (a + (k + k + (k + k))) 0) k
+    four_count = held_count k _ four_long ∙ ap (λ (n : ℕ). min n k) (part_read a (k + k + (k + k) + 1) (k + k + (k + k)) xs (omega arith))
 
-    four-text : (i : ℕ) → i < get_or xs (a + (k + k + (k + k))) 0 → i < k → get_or (map held_text (data_map_at k (part a (k + k + (k + k) + 1) xs))) i []
+    four_text : (i : ℕ) → i < get_or xs (a + (k + k + (k + k))) 0 → i < k → get_or (map held_text (data_map_at k (part a (k + k + (k + k) + 1) xs))) i []
         ≡ held_text (get_or xs (a + i) 0, take (get_or xs (a + (k + i)) 0) (word_bytes (get_or xs (a + (k + k + i)) 0) (get_or xs (a + (k + k + k + i)) 0)))
-    four-text i few inside =
+    four_text i few inside =
         let at : (j : ℕ) → j < k + k + (k + k) + 1 → get_or (part a (k + k + (k + k) + 1) xs) j 0 ≡ get_or xs (a + j) 0 = λ j h. part_read a (k + k + (k + k) + 1) j xs h in
-        getD-mapped held_text (data_map_at k (part a (k + k + (k + k) + 1) xs)) i (0, []) [] (omega (arith, four-count, few, inside))
+        getD_mapped held_text (data_map_at k (part a (k + k + (k + k) + 1) xs)) i (0, []) [] (omega (arith, four_count, few, inside))
         ∙ ap held_text
-        (held_at k _ four-long i (subst (λ (n : ℕ). i < n) (sym (at (k + k + (k + k)) (omega arith))) few) inside
+        (held_at k _ four_long i (subst (λ (n : ℕ). i < n) (sym (at (k + k + (k + k)) (omega arith))) few) inside
         ∙ (λ j. (at i (omega (arith, inside)) j, take (at (k + i) (omega (arith, inside)) j) (word_bytes (at (k + k + i) (omega (arith, inside)) j) (at (k + k + k + i) (omega (arith, inside)) j)))))
 
 -- ---- the loop
@@ -215,13 +215,13 @@ module _ (c a k : ℕ) (xs : List ℕ) (w : InWords c a k (length xs)) where
   in_four e = let h = inside_of 4 e in omega (arith, h)
 
   long_one : c ≡ 1 → length (texts_at c a k xs) ≡ min (get_or xs (a + k) 0) k
-  long_one e = ap length (texts_one e) ∙ (length-map (items_at k (part a (k + 1) xs)) decimal ∙ one-count a k xs (in_one e))
+  long_one e = ap length (texts_one e) ∙ (length-map (items_at k (part a (k + 1) xs)) decimal ∙ one_count a k xs (in_one e))
 
   long_two : c ≡ 2 → length (texts_at c a k xs) ≡ min (get_or xs (a + (k + k)) 0) k
-  long_two e = ap length (texts_two e) ∙ (length-map (numbers_at k (part a (k + k + 1) xs)) numbered_text ∙ two-count a k xs (in_two e))
+  long_two e = ap length (texts_two e) ∙ (length-map (numbers_at k (part a (k + k + 1) xs)) numbered_text ∙ two_count a k xs (in_two e))
 
   long_four : c ≡ 4 → length (texts_at c a k xs) ≡ min (get_or xs (a + (k + k + (k + k))) 0) k
-  long_four e = ap length (texts_four e) ∙ (length-map (data_map_at k (part a (k + k + (k + k) + 1) xs)) held_text ∙ four-count a k xs (in_four e))
+  long_four e = ap length (texts_four e) ∙ (length-map (data_map_at k (part a (k + k + (k + k) + 1) xs)) held_text ∙ four_count a k xs (in_four e))
 
   count_read : (d p : ℕ) → c ≡ d → a + d * k ≡ p → min (get_or xs p 0) k ≡ min (get_or xs (a + c * k) 0) k
   count_read d p e q = ap (λ (z : ℕ). min (get_or xs z 0) k) (sym (place_of d e ∙ q))
@@ -256,33 +256,33 @@ unfolding comma_before ascii
 comma_some i t r s o p q e k f g = subst (λ (z : Text). Puts (comma_before i) t o z p) (sym f) (subst (λ (z : List ℕ). Puts (comma_before i) t o s z) (sym g) (named (sym (choose_no _ _ _ (ne_eqb i 0 e))) k))
 
 module _ (c a k : ℕ) (xs : List ℕ) (count : ℕ) (t : Text) (out : List ℕ) (r : Text) (o : List ℕ) (i : ℕ) (v : Listed c a k xs count t out r o i) where
-  pub second-inside : i < k → 1 < c → a + i + k < length xs
-  second-inside h l =
+  pub second_inside : i < k → 1 < c → a + i + k < length xs
+  second_inside h l =
       ⊎_elim (λ e. absurd (omega (arith, e, l)))
       (λ s. ⊎_elim (λ e. absurd (omega (arith, e, l))) (λ u. ⊎_elim (λ e. let q = in_two c a k xs v.form e in omega (arith, q, h)) (λ e. let q = in_four c a k xs v.form e in omega (arith, q, h)) u) s)
       v.form.form
 
-  pub is-four : 1 < c → (c ≡ 2 → ⊥) → c ≡ 4
-  is-four l n =
+  pub is_four : 1 < c → (c ≡ 2 → ⊥) → c ≡ 4
+  is_four l n =
       ⊎_elim (λ e. absurd (omega (arith, e, l)))
       (λ s. ⊎_elim (λ e. absurd (omega (arith, e, l))) (λ u. ⊎_elim (λ e. absurd (n e)) (λ e. e) u) s)
       v.form.form
 
-  pub third-inside : i < k → 1 < c → (c ≡ 2 → ⊥) → a + i + 2 * k < length xs
-  third-inside h l n = let q = in_four c a k xs v.form (is-four l n) in omega (arith, q, h)
+  pub third_inside : i < k → 1 < c → (c ≡ 2 → ⊥) → a + i + 2 * k < length xs
+  third_inside h l n = let q = in_four c a k xs v.form (is_four l n) in omega (arith, q, h)
 
-  pub fourth-inside : i < k → 1 < c → (c ≡ 2 → ⊥) → a + i + 3 * k < length xs
-  fourth-inside h l n = let q = in_four c a k xs v.form (is-four l n) in omega (arith, q, h)
+  pub fourth_inside : i < k → 1 < c → (c ≡ 2 → ⊥) → a + i + 3 * k < length xs
+  fourth_inside h l n = let q = in_four c a k xs v.form (is_four l n) in omega (arith, q, h)
 
   over : length (texts_at c a k xs) ≤ i → Puts (field_at c a k xs) t out r o
   unfolding items_text
-  over h = writing-end v.text (ap (items_text (λ (x : List ℕ). x) i) (drop_of_length-le (texts_at c a k xs) h))
+  over h = writing_end v.text (ap (items_text (λ (x : List ℕ). x) i) (drop_of_length-le (texts_at c a k xs) h))
 
-  pub listed-counted : count ≤ i → Puts (field_at c a k xs) t out r o
-  listed-counted h = over (omega (arith, v.many, h))
+  pub listed_counted : count ≤ i → Puts (field_at c a k xs) t out r o
+  listed_counted h = over (omega (arith, v.many, h))
 
-  pub listed-full : k ≤ i → Puts (field_at c a k xs) t out r o
-  listed-full h = over (omega (arith, v.many, h))
+  pub listed_full : k ≤ i → Puts (field_at c a k xs) t out r o
+  listed_full h = over (omega (arith, v.many, h))
 
   module _ (h : i < k) (l : i < count) where
     one_item : items_text (λ (x : List ℕ). x) i (drop i (texts_at c a k xs))
@@ -301,7 +301,7 @@ module _ (c a k : ℕ) (xs : List ℕ) (count : ℕ) (t : Text) (out : List ℕ)
       within = omega (arith, h);
       inside = v.inside;
       short = v.short;
-      text = writing-next v.text (comma_before i ++ x) _ (one_item ∙ ap (λ (y : List ℕ). item_text (λ (z : List ℕ). z) i y ++ items_text (λ (z : List ℕ). z) (i + 1) (drop (i + 1) (texts_at c a k xs))) e) u q;
+      text = writing_next v.text (comma_before i ++ x) _ (one_item ∙ ap (λ (y : List ℕ). item_text (λ (z : List ℕ). z) i y ++ items_text (λ (z : List ℕ). z) (i + 1) (drop (i + 1) (texts_at c a k xs))) e) u q;
       len = q ∙ v.len;
     }
 
@@ -309,13 +309,13 @@ module _ (c a k : ℕ) (xs : List ℕ) (count : ℕ) (t : Text) (out : List ℕ)
     single f =
         ⊎_elim (λ e. let z : i ≡ 0 = omega (arith, h, l, v.many, alone c a k xs v.form e) in let g : a ≡ a + i = omega (arith, z) in
         (λ j. get_or (texts_none c a k xs v.form e j) (z j) []) ∙ ap (λ (j : ℕ). decimal (get_or xs j 0)) g)
-        (λ s. ⊎_elim (λ e. ap (λ (y : List (List ℕ)). get_or y i []) (texts_one c a k xs v.form e) ∙ one-text a k xs (in_one c a k xs v.form e) i (omega (arith, h, l, v.many, long_one c a k xs v.form e)) h)
+        (λ s. ⊎_elim (λ e. ap (λ (y : List (List ℕ)). get_or y i []) (texts_one c a k xs v.form e) ∙ one_text a k xs (in_one c a k xs v.form e) i (omega (arith, h, l, v.many, long_one c a k xs v.form e)) h)
         (λ u. ⊎_elim (λ e. absurd (omega (arith, e, f))) (λ e. absurd (omega (arith, e, f))) u) s)
         v.form.form
 
     module _ (r₁ r₂ : Text) (o₁ o₂ : List ℕ) (p₂ : Puts (decimal (get_or xs (a + i) 0)) r₁ o₁ r₂ o₂) (p₁ : Puts (comma_before i) r o r₁ o₁) where
-      pub single-next : c ≤ 1 → length o₂ ≡ length o → Listed c a k xs count t out r₂ o₂ (i + 1)
-      single-next f q = next _ r₂ o₂ (single f) (then p₂ p₁) q
+      pub single_next : c ≤ 1 → length o₂ ≡ length o → Listed c a k xs count t out r₂ o₂ (i + 1)
+      single_next f q = next _ r₂ o₂ (single f) (then p₂ p₁) q
 
       module _ (r₃ r₄ : Text) (o₃ o₄ : List ℕ) (p₃ : Puts (58 ∷ []) r₂ o₂ r₃ o₃) (q : length o₄ ≡ length o) where
         pub numbered_next : c ≡ 2 → Puts (decimal (get_or xs (a + i + k) 0)) r₃ o₃ r₄ o₄ → Listed c a k xs count t out r₄ o₄ (i + 1)
@@ -324,7 +324,7 @@ module _ (c a k : ℕ) (xs : List ℕ) (count : ℕ) (t : Text) (out : List ℕ)
             let g : a + (k + i) ≡ a + i + k = omega arith in
             next (numbered_text (get_or xs (a + i) 0, get_or xs (a + i + k) 0)) r₄ o₄
             (ap (λ (y : List (List ℕ)). get_or y i []) (texts_two c a k xs v.form e)
-            ∙ (two-text a k xs (in_two c a k xs v.form e) i (omega (arith, h, l, v.many, long_two c a k xs v.form e)) h ∙ ap (λ (j : ℕ). numbered_text (get_or xs (a + i) 0, get_or xs j 0)) g))
+            ∙ (two_text a k xs (in_two c a k xs v.form e) i (omega (arith, h, l, v.many, long_two c a k xs v.form e)) h ∙ ap (λ (j : ℕ). numbered_text (get_or xs (a + i) 0, get_or xs j 0)) g))
             (then (then (then p₄ p₃) p₂) p₁)
             q
 
@@ -332,13 +332,13 @@ module _ (c a k : ℕ) (xs : List ℕ) (count : ℕ) (t : Text) (out : List ℕ)
             → Listed c a k xs count t out r₄ o₄ (i + 1)
         unfolding held_text ascii
         held_next b f n y p₄ =
-            let e = is-four f n in
+            let e = is_four f n in
             let g : a + (k + i) ≡ a + i + k = omega arith in
             let g₂ : a + (k + k + i) ≡ a + i + 2 * k = omega arith in
             let g₃ : a + (k + k + k + i) ≡ a + i + 3 * k = omega arith in
             next (held_text (get_or xs (a + i) 0, take (get_or xs (a + i + k) 0) b)) r₄ o₄
             (ap (λ (z : List (List ℕ)). get_or z i []) (texts_four c a k xs v.form e)
-            ∙ (four-text a k xs (in_four c a k xs v.form e) i (omega (arith, h, l, v.many, long_four c a k xs v.form e)) h
+            ∙ (four_text a k xs (in_four c a k xs v.form e) i (omega (arith, h, l, v.many, long_four c a k xs v.form e)) h
             ∙ ((λ j. held_text (get_or xs (a + i) 0, take (get_or xs (g j) 0) (word_bytes (get_or xs (g₂ j) 0) (get_or xs (g₃ j) 0))))
             ∙ ap (λ (z : List ℕ). held_text (get_or xs (a + i) 0, take (get_or xs (a + i + k) 0) z)) (sym y))))
             (then (then (then p₄ p₃) p₂) p₁)

@@ -15,7 +15,7 @@ use Rattle.record.specs.declared.Header.{Header}
 use Rattle.record.specs.Format.{header_length}
 use Rattle.record.specs.Read.{header_of}
 use Rattle.record.specs.Walk.{records_in}
-use Rattle.record.proofs.Walk.{records_few, size_is, taken_none, taken_next, taken-last}
+use Rattle.record.proofs.Walk.{records_few, size_is, taken_none, taken_next, taken_last}
 use Rattle.run_text.specs.declared.Text.{Text}
 use Rattle.run_text.specs.Text.{Puts}
 use Rattle.run_text.proofs.Written.{nothing, then, named}
@@ -32,16 +32,16 @@ pub writing_start : (whole : List ℕ) (t : Text) (out : List ℕ) → Writing w
 writing_start whole t out = record { len = refl; done = []; so_far = nothing; same = refl }
 
 module _ {whole : List ℕ} {t : Text} {out : List ℕ} {r : Text} {o rest : List ℕ} (v : Writing whole t out r o rest) where
-  pub writing-next : {s : Text} {p : List ℕ} (x left : List ℕ) → rest ≡ x ++ left → Puts x r o s p → length p ≡ length o → Writing whole t out s p left
-  writing-next x left e k q = record {
+  pub writing_next : {s : Text} {p : List ℕ} (x left : List ℕ) → rest ≡ x ++ left → Puts x r o s p → length p ≡ length o → Writing whole t out s p left
+  writing_next x left e k q = record {
     len = q ∙ v.len;
     done = v.done ++ x;
     so_far = then k v.so_far;
     same = v.same ∙ (ap (λ (z : List ℕ). v.done ++ z) e ∙ sym (append_assoc v.done x left));
   }
 
-  pub writing-end : rest ≡ [] → Puts whole t out r o
-  writing-end e = named (sym (v.same ∙ (ap (λ (z : List ℕ). v.done ++ z) e ∙ append-nil v.done))) v.so_far
+  pub writing_end : rest ≡ [] → Puts whole t out r o
+  writing_end e = named (sym (v.same ∙ (ap (λ (z : List ℕ). v.done ++ z) e ∙ append-nil v.done))) v.so_far
 
 -- ---- bytes in hex
 
@@ -66,45 +66,45 @@ module _ (s : List ℕ) (n : ℕ) (t : Text) (out : List ℕ) (r : Text) (o : Li
       let e : suc i ≡ i + 1 = omega arith in
       ap hex (drop-cons (take n s) i 0 (omega (arith, h, l, length-take n s)) ∙ (λ j. get_or-take n s i 0 l j ∷ drop (e j) (take n s)))
 
-  pub hex-next : (y z : ℕ) (a : Text) (o₁ : List ℕ) (b : Text) (o₂ : List ℕ) → i < length s → i < n → get_or s i 0 < 256
+  pub hex_next : (y z : ℕ) (a : Text) (o₁ : List ℕ) (b : Text) (o₂ : List ℕ) → i < length s → i < n → get_or s i 0 < 256
       → y ≡ 48 + get_or s i 0 / 16 + 39 * (get_or s i 0 / 16 / 10) → z ≡ 48 + get_or s i 0 % 16 + 39 * (get_or s i 0 % 16 / 10)
       → Puts (z ∷ []) a o₁ b o₂ → Puts (y ∷ []) r o a o₁ → length o₂ ≡ length o → Hexing s n t out b o₂ (i + 1)
-  hex-next y z a o₁ b o₂ h l m e f p₂ p₁ q =
+  hex_next y z a o₁ b o₂ h l m e f p₂ p₁ q =
       let w : get_or s i 0 / 16 ≡ get_or s i 0 / 16 % 16 = omega (arith, m) in
       let high : hex_digit_ascii (get_or s i 0 / 16 % 16) ≡ y = sym (e ∙ (digit (get_or s i 0 / 16) (omega (arith, m)) ∙ ap hex_digit_ascii w)) in
       let low : hex_digit_ascii (get_or s i 0 % 16) ≡ z = sym (f ∙ digit (get_or s i 0 % 16) (omega arith)) in
       record {
         within = omega (arith, h);
-        text = writing-next v.text (y ∷ z ∷ []) (hex (drop (i + 1) (take n s))) (two_digits h l ∙ (λ j. (high j ∷ low j ∷ []) ++ hex (drop (i + 1) (take n s)))) (then p₂ p₁) q;
+        text = writing_next v.text (y ∷ z ∷ []) (hex (drop (i + 1) (take n s))) (two_digits h l ∙ (λ j. (high j ∷ low j ∷ []) ++ hex (drop (i + 1) (take n s)))) (then p₂ p₁) q;
       }
 
-  hex-over : length (take n s) ≤ i → Puts (hex (take n s)) t out r o
+  hex_over : length (take n s) ≤ i → Puts (hex (take n s)) t out r o
   unfolding hex
-  hex-over h = writing-end v.text (ap hex (drop_of_length-le (take n s) h))
+  hex_over h = writing_end v.text (ap hex (drop_of_length-le (take n s) h))
 
-  pub hex-enough : n ≤ i → Puts (hex (take n s)) t out r o
-  hex-enough h = hex-over (omega (arith, h, length-take n s))
+  pub hex_enough : n ≤ i → Puts (hex (take n s)) t out r o
+  hex_enough h = hex_over (omega (arith, h, length-take n s))
 
-  pub hex-end : length s ≤ i → Puts (hex (take n s)) t out r o
-  hex-end h = hex-over (omega (arith, h, length-take n s))
+  pub hex_end : length s ≤ i → Puts (hex (take n s)) t out r o
+  hex_end h = hex_over (omega (arith, h, length-take n s))
 
 -- ---- the records of an output
 
 module _ (whole : List ℕ) (t : Text) (out : List ℕ) (r : Text) (o b : List ℕ) (v : Writing whole t out r o (hex_lines (records_in b))) where
-  pub lines-few : length b < header_length → Puts whole t out r o
+  pub lines_few : length b < header_length → Puts whole t out r o
   unfolding hex_lines
-  lines-few h = writing-end v (ap hex_lines (records_few b h))
+  lines_few h = writing_end v (ap hex_lines (records_few b h))
 
   module _ (h : Header) (is : h ≡ header_of b) where
     pub lines_none : h.size ≡ 0 → Puts whole t out r o
     unfolding hex_lines
-    lines_none e = writing-end v (ap hex_lines (taken_none b h is e))
+    lines_none e = writing_end v (ap hex_lines (taken_none b h is e))
 
     module _ (a : Text) (o₁ : List ℕ) (s : Text) (p : List ℕ) (k₂ : Puts (10 ∷ []) a o₁ s p) (k₁ : Puts (hex (take h.size b)) r o a o₁) (q : length p ≡ length o) (z : h.size ≡ 0 → ⊥) (m : header_length ≤ length b) where
       goes_on : (bs : List (List ℕ)) → records_in b ≡ b ∷ bs → Writing whole t out s p (hex_lines bs)
       unfolding hex_lines
       goes_on bs e =
-          writing-next v (hex (take h.size b) ++ (10 ∷ [])) (hex_lines bs)
+          writing_next v (hex (take h.size b) ++ (10 ∷ [])) (hex_lines bs)
           (ap hex_lines e ∙ ap (λ (n : ℕ). (hex (take n b) ++ (10 ∷ [])) ++ hex_lines bs) (sym (size_is b h is)))
           (then k₂ k₁)
           q
@@ -112,6 +112,6 @@ module _ (whole : List ℕ) (t : Text) (out : List ℕ) (r : Text) (o b : List �
       pub lines_next : Writing whole t out s p (hex_lines (records_in (take (length b - h.size) (drop h.size b))))
       lines_next = goes_on _ (taken_next b h is m z)
 
-      pub lines-last : length b < h.size → Puts whole t out s p
+      pub lines_last : length b < h.size → Puts whole t out s p
       unfolding hex_lines
-      lines-last l = writing-end (goes_on [] (taken-last b h is m z l)) refl
+      lines_last l = writing_end (goes_on [] (taken_last b h is m z l)) refl

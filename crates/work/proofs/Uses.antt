@@ -16,8 +16,8 @@ use Rattle.work.specs.Run.{Run, with_station, with_used, with_out, with_code, gu
 
 module _ {S : Type 0} where
   -- the run, lent other draws
-  abbrev pub with-draws : List ℕ → Run S → Run S
-  with-draws es r = record { station = r.station; draws = es; used = r.used; room = r.room; out = r.out; code = r.code }
+  abbrev pub with_draws : List ℕ → Run S → Run S
+  with_draws es r = record { station = r.station; draws = es; used = r.used; room = r.room; out = r.out; code = r.code }
 
   pub record Uses (f : Run S → Run S) : Type 0 where
     pub strict : (r : Run S) → (r.code ≡ 0 → ⊥) → f r ≡ r
@@ -26,18 +26,18 @@ module _ {S : Type 0} where
     -- no more than are lent
     pub within : (r : Run S) → r.used ≤ length r.draws → (f r).used ≤ length r.draws
     -- where a draw is not missed
-    pub same : (r : Run S) (es : List ℕ) → ((f r).code ≡ 5 → ⊥) → Begins (f r).used r.draws es → f (with-draws es r) ≡ with-draws es (f r)
+    pub same : (r : Run S) (es : List ℕ) → ((f r).code ≡ 5 → ⊥) → Begins (f r).used r.draws es → f (with_draws es r) ≡ with_draws es (f r)
 
-  code-as : {a b : Run S} (c : ℕ) → a ≡ b → a.code ≡ c → b.code ≡ c
-  code-as c e z = subst (λ (r : Run S). r.code ≡ c) e z
+  code_as : {a b : Run S} (c : ℕ) → a ≡ b → a.code ≡ c → b.code ≡ c
+  code_as c e z = subst (λ (r : Run S). r.code ≡ c) e z
 
-  pub same-uses : {f g : Run S → Run S} → ((r : Run S) → g r ≡ f r) → Uses f → Uses g
-  same-uses {f} {g} q k = record {
+  pub same_uses : {f g : Run S → Run S} → ((r : Run S) → g r ≡ f r) → Uses f → Uses g
+  same_uses {f} {g} q k = record {
     strict = λ r n. q r ∙ k.strict r n;
     lent = λ r. ap (λ (x : Run S). x.draws) (q r) ∙ k.lent r;
     onward = λ r. omega (arith, k.onward r, ap (λ (x : Run S). x.used) (q r));
     within = λ r l. omega (arith, k.within r l, ap (λ (x : Run S). x.used) (q r));
-    same = λ r es n b. q (with-draws es r) ∙ (k.same r es (λ c. n (code-as 5 (sym (q r)) c)) (subst (λ (x : Run S). Begins x.used r.draws es) (q r) b) ∙ ap (with-draws es) (sym (q r)));
+    same = λ r es n b. q (with_draws es r) ∙ (k.same r es (λ c. n (code_as 5 (sym (q r)) c)) (subst (λ (x : Run S). Begins x.used r.draws es) (q r) b) ∙ ap (with_draws es) (sym (q r)));
   }
 
   pub by_state : (f : S → Run S → Run S) → ((s : S) → Uses (f s)) → Uses (λ r. f r.station r)
@@ -49,21 +49,21 @@ module _ {S : Type 0} where
     same = λ r es n b. (k r.station).same r es n b;
   }
 
-  pub uses-none : Uses (λ (r : Run S). r)
-  uses-none = record { strict = λ r n. refl; lent = λ r. refl; onward = λ r. omega arith; within = λ r l. l; same = λ r es n b. refl }
+  pub uses_none : Uses (λ (r : Run S). r)
+  uses_none = record { strict = λ r n. refl; lent = λ r. refl; onward = λ r. omega arith; within = λ r l. l; same = λ r es n b. refl }
 
-  pub uses-either : {f g : Run S → Run S} (t : Bool) → Uses f → Uses g → Uses (λ r. choose t (f r) (g r))
+  pub uses_either : {f g : Run S → Run S} (t : Bool) → Uses f → Uses g → Uses (λ r. choose t (f r) (g r))
   unfolding choose
-  uses-either true k h = k
-  uses-either false k h = h
+  uses_either true k h = k
+  uses_either false k h = h
 
   -- one after the other
   module _ {f g : Run S → Run S} (k : Uses f) (h : Uses g) where
     not_before : (r : Run S) → ((g (f r)).code ≡ 5 → ⊥) → (f r).code ≡ 5 → ⊥
-    not_before r n c = n (code-as 5 (sym (h.strict (f r) (λ z. omega (arith, z, c)))) c)
+    not_before r n c = n (code_as 5 (sym (h.strict (f r) (λ z. omega (arith, z, c)))) c)
 
-    pub uses-then : Uses (λ r. g (f r))
-    uses-then = record {
+    pub uses_then : Uses (λ r. g (f r))
+    uses_then = record {
       strict = λ r n. ap g (k.strict r n) ∙ h.strict r n;
       lent = λ r. h.lent (f r) ∙ k.lent r;
       onward = λ r. omega (arith, k.onward r, h.onward (f r));
@@ -86,7 +86,7 @@ module _ {S : Type 0} where
   unfolding guard
   by_code P r x a b = by_choice P (eqb r.code 0) (λ _. b) (λ _. a)
 
-  guards : (f : Run S → Run S) → ((r : Run S) → (f r).draws ≡ r.draws) → ((r : Run S) → (f r).used ≡ r.used) → ((r : Run S) (es : List ℕ) → f (with-draws es r) ≡ with-draws es (f r)) → Uses (λ r. guard r (f r))
+  guards : (f : Run S → Run S) → ((r : Run S) → (f r).draws ≡ r.draws) → ((r : Run S) → (f r).used ≡ r.used) → ((r : Run S) (es : List ℕ) → f (with_draws es r) ≡ with_draws es (f r)) → Uses (λ r. guard r (f r))
   unfolding guard
   guards f l u s = record {
     strict = λ r n. guard_no r (f r) n;
@@ -94,88 +94,88 @@ module _ {S : Type 0} where
     onward = λ r. by_code (λ (x : Run S). r.used ≤ x.used) r (f r) (omega arith) (omega (arith, u r));
     within = λ r l. by_code (λ (x : Run S). x.used ≤ length r.draws) r (f r) l (omega (arith, u r, l));
     same = λ r es n b. split (eqb r.code 0)
-        (λ e. let z = eqb-true r.code 0 e in guard_yes (with-draws es r) (f (with-draws es r)) z ∙ (s r es ∙ ap (with-draws es) (sym (guard_yes r (f r) z))))
-        (λ e. let z = eqb-false r.code 0 e in guard_no (with-draws es r) (f (with-draws es r)) z ∙ ap (with-draws es) (sym (guard_no r (f r) z)));
+        (λ e. let z = eqb-true r.code 0 e in guard_yes (with_draws es r) (f (with_draws es r)) z ∙ (s r es ∙ ap (with_draws es) (sym (guard_yes r (f r) z))))
+        (λ e. let z = eqb-false r.code 0 e in guard_no (with_draws es r) (f (with_draws es r)) z ∙ ap (with_draws es) (sym (guard_no r (f r) z)));
   }
 
-  pub uses-on : (f : S → S) → Uses (on f)
+  pub uses_on : (f : S → S) → Uses (on f)
   unfolding on
-  uses-on f = guards (λ r. with_station (f r.station) r) (λ r. refl) (λ r. refl) (λ r es. refl)
+  uses_on f = guards (λ r. with_station (f r.station) r) (λ r. refl) (λ r. refl) (λ r es. refl)
 
-  chosen : (t : Bool) (f g : Run S → Run S) (es : List ℕ) (r : Run S) → f (with-draws es r) ≡ with-draws es (f r) → g (with-draws es r) ≡ with-draws es (g r) → choose t (f (with-draws es r)) (g (with-draws es r)) ≡ with-draws es (choose t (f r) (g r))
+  chosen : (t : Bool) (f g : Run S → Run S) (es : List ℕ) (r : Run S) → f (with_draws es r) ≡ with_draws es (f r) → g (with_draws es r) ≡ with_draws es (g r) → choose t (f (with_draws es r)) (g (with_draws es r)) ≡ with_draws es (choose t (f r) (g r))
   unfolding choose
   chosen true f g es r a b = a
   chosen false f g es r a b = b
 
-  pub uses-require : (c : ℕ) (t : Bool) → Uses (require c t)
+  pub uses_require : (c : ℕ) (t : Bool) → Uses (require c t)
   unfolding require
-  uses-require c t = guards (λ r. choose t r (with_code c r)) (λ r. by_choice (λ (x : Run S). x.draws ≡ r.draws) t (λ _. refl) (λ _. refl)) (λ r. by_choice (λ (x : Run S). x.used ≡ r.used) t (λ _. refl) (λ _. refl))
+  uses_require c t = guards (λ r. choose t r (with_code c r)) (λ r. by_choice (λ (x : Run S). x.draws ≡ r.draws) t (λ _. refl) (λ _. refl)) (λ r. by_choice (λ (x : Run S). x.used ≡ r.used) t (λ _. refl) (λ _. refl))
       (λ r es. chosen t (λ x. x) (with_code c) es r refl refl)
 
-  pub uses-emit : (e : Rec) → Uses (emit e)
+  pub uses_emit : (e : Rec) → Uses (emit e)
   unfolding emit
-  uses-emit e = guards _ (λ r. by_choice (λ (x : Run S). x.draws ≡ r.draws) _ (λ _. refl) (λ _. refl)) (λ r. by_choice (λ (x : Run S). x.used ≡ r.used) _ (λ _. refl) (λ _. refl))
+  uses_emit e = guards _ (λ r. by_choice (λ (x : Run S). x.draws ≡ r.draws) _ (λ _. refl) (λ _. refl)) (λ r. by_choice (λ (x : Run S). x.used ≡ r.used) _ (λ _. refl) (λ _. refl))
       (λ r es. chosen (leb (length r.out + size e) r.room) (λ x. with_out (x.out ++ encode e) x) (with_code 9) es r refl refl)
 
   -- draws, whose number and use hang on what is read
-  draw-yes : (n : ℕ) (r : Run S) → r.code ≡ 0 → r.used + n ≤ length r.draws → draw n r ≡ with_used (r.used + n) r
+  draw_yes : (n : ℕ) (r : Run S) → r.code ≡ 0 → r.used + n ≤ length r.draws → draw n r ≡ with_used (r.used + n) r
   unfolding draw
-  draw-yes n r z l = guard_yes r _ z ∙ choose_yes (leb (r.used + n) (length r.draws)) _ _ (le-leb (r.used + n) (length r.draws) l)
+  draw_yes n r z l = guard_yes r _ z ∙ choose_yes (leb (r.used + n) (length r.draws)) _ _ (le-leb (r.used + n) (length r.draws) l)
 
-  draw-open : (n : ℕ) (r : Run S) → r.code ≡ 0 → ((draw n r).code ≡ 5 → ⊥) → r.used + n ≤ length r.draws
+  draw_open : (n : ℕ) (r : Run S) → r.code ≡ 0 → ((draw n r).code ≡ 5 → ⊥) → r.used + n ≤ length r.draws
   unfolding draw
-  draw-open n r z h =
+  draw_open n r z h =
       split (leb (r.used + n) (length r.draws)) (λ e. leb-true (r.used + n) (length r.draws) e)
-      (λ e. absurd (h (code-as 5 (sym (guard_yes r _ z ∙ choose_no (leb (r.used + n) (length r.draws)) (with_used (r.used + n) r) (with_code 5 r) e)) refl)))
+      (λ e. absurd (h (code_as 5 (sym (guard_yes r _ z ∙ choose_no (leb (r.used + n) (length r.draws)) (with_used (r.used + n) r) (with_code 5 r) e)) refl)))
 
-  draw-no : (n : ℕ) (r : Run S) → (r.code ≡ 0 → ⊥) → draw n r ≡ r
+  draw_no : (n : ℕ) (r : Run S) → (r.code ≡ 0 → ⊥) → draw n r ≡ r
   unfolding draw
-  draw-no n r h = guard_no r _ h
+  draw_no n r h = guard_no r _ h
 
   draw_lent : (n : ℕ) (r : Run S) → (draw n r).draws ≡ r.draws
   unfolding draw
   draw_lent n r = by_code (λ (x : Run S). x.draws ≡ r.draws) r _ refl (by_choice (λ (x : Run S). x.draws ≡ r.draws) _ (λ _. refl) (λ _. refl))
 
-  draw-onward : (n : ℕ) (r : Run S) → r.used ≤ (draw n r).used
+  draw_onward : (n : ℕ) (r : Run S) → r.used ≤ (draw n r).used
   unfolding draw
-  draw-onward n r = by_code (λ (x : Run S). r.used ≤ x.used) r _ (omega arith) (by_choice (λ (x : Run S). r.used ≤ x.used) _ (λ _. omega arith) (λ _. omega arith))
+  draw_onward n r = by_code (λ (x : Run S). r.used ≤ x.used) r _ (omega arith) (by_choice (λ (x : Run S). r.used ≤ x.used) _ (λ _. omega arith) (λ _. omega arith))
 
-  draw-within : (n : ℕ) (r : Run S) → r.used ≤ length r.draws → (draw n r).used ≤ length r.draws
+  draw_within : (n : ℕ) (r : Run S) → r.used ≤ length r.draws → (draw n r).used ≤ length r.draws
   unfolding draw
-  draw-within n r l = by_code (λ (x : Run S). x.used ≤ length r.draws) r _ l (by_choice (λ (x : Run S). x.used ≤ length r.draws) (leb (r.used + n) (length r.draws)) (λ e. leb-true (r.used + n) (length r.draws) e) (λ _. l))
+  draw_within n r l = by_code (λ (x : Run S). x.used ≤ length r.draws) r _ l (by_choice (λ (x : Run S). x.used ≤ length r.draws) (leb (r.used + n) (length r.draws)) (λ e. leb-true (r.used + n) (length r.draws) e) (λ _. l))
 
   module _ {A : Type 0} {m : List ℕ → ℕ} {v : List ℕ → A} (a : Ahead m v) (g : A → Run S → Run S) (k : (x : A) → Uses (g x)) where
     abbrev F : Run S → Run S
     F r = g (v (to_draw r)) (draw (m (to_draw r)) r)
 
-    reads_same : (r : Run S) (es : List ℕ) → ((F r).code ≡ 5 → ⊥) → Begins (F r).used r.draws es → r.code ≡ 0 → F (with-draws es r) ≡ with-draws es (F r)
+    reads_same : (r : Run S) (es : List ℕ) → ((F r).code ≡ 5 → ⊥) → Begins (F r).used r.draws es → r.code ≡ 0 → F (with_draws es r) ≡ with_draws es (F r)
     unfolding to_draw
     reads_same r es n b z =
         let ds = drop r.used r.draws in
         let h = k (v ds) in
         let d = draw (m ds) r in
-        let fine : d.code ≡ 5 → ⊥ = (λ c. n (code-as 5 (sym (h.strict d (λ y. omega (arith, y, c)))) c)) in
-        let l = draw-open (m ds) r z fine in
-        let is = draw-yes (m ds) r z l in
+        let fine : d.code ≡ 5 → ⊥ = (λ c. n (code_as 5 (sym (h.strict d (λ y. omega (arith, y, c)))) c)) in
+        let l = draw_open (m ds) r z fine in
+        let is = draw_yes (m ds) r z l in
         let there : r.used + m ds ≤ (F r).used = omega (arith, ap (λ (x : Run S). x.used) is, h.onward d) in
         let c = begins_less (r.used + m ds) (F r).used r.draws es there b in
         let e = begins_after r.used (m ds) r.draws es l c in
         let o : m ds ≤ length ds = omega (arith, l, length-drop r.used r.draws) in
-        let is_there : draw (m ds) (with-draws es r) ≡ with-draws es d = draw-yes (m ds) (with-draws es r) z (begins_length (r.used + m ds) r.draws es l c) ∙ ap (with-draws es) (sym is) in
-        ap (λ (j : ℕ). g (v (drop r.used es)) (draw j (with-draws es r))) (a.as_many ds (drop r.used es) o e)
-        ∙ (ap (λ (x : A). g x (draw (m ds) (with-draws es r))) (a.as_read ds (drop r.used es) o e)
+        let is_there : draw (m ds) (with_draws es r) ≡ with_draws es d = draw_yes (m ds) (with_draws es r) z (begins_length (r.used + m ds) r.draws es l c) ∙ ap (with_draws es) (sym is) in
+        ap (λ (j : ℕ). g (v (drop r.used es)) (draw j (with_draws es r))) (a.as_many ds (drop r.used es) o e)
+        ∙ (ap (λ (x : A). g x (draw (m ds) (with_draws es r))) (a.as_read ds (drop r.used es) o e)
         ∙ (ap (g (v ds)) is_there ∙ h.same d es n (subst (λ (y : List ℕ). Begins (F r).used y es) (sym (draw_lent (m ds) r)) b)))
 
-    pub uses-reads : Uses F
-    uses-reads = record {
-      strict = λ r n. ap (g (v (to_draw r))) (draw-no (m (to_draw r)) r n) ∙ (k (v (to_draw r))).strict r n;
+    pub uses_reads : Uses F
+    uses_reads = record {
+      strict = λ r n. ap (g (v (to_draw r))) (draw_no (m (to_draw r)) r n) ∙ (k (v (to_draw r))).strict r n;
       lent = λ r. (k (v (to_draw r))).lent (draw (m (to_draw r)) r) ∙ draw_lent (m (to_draw r)) r;
-      onward = λ r. omega (arith, (k (v (to_draw r))).onward (draw (m (to_draw r)) r), draw-onward (m (to_draw r)) r);
-      within = λ r l. let d = draw (m (to_draw r)) r in omega (arith, ap length (draw_lent (m (to_draw r)) r), (k (v (to_draw r))).within d (omega (arith, ap length (draw_lent (m (to_draw r)) r), draw-within (m (to_draw r)) r l)));
+      onward = λ r. omega (arith, (k (v (to_draw r))).onward (draw (m (to_draw r)) r), draw_onward (m (to_draw r)) r);
+      within = λ r l. let d = draw (m (to_draw r)) r in omega (arith, ap length (draw_lent (m (to_draw r)) r), (k (v (to_draw r))).within d (omega (arith, ap length (draw_lent (m (to_draw r)) r), draw_within (m (to_draw r)) r l)));
       same = λ r es n b. split (eqb r.code 0)
           (λ e. reads_same r es n b (eqb-true r.code 0 e))
-          (λ e. let z = eqb-false r.code 0 e in rests (with-draws es r) z ∙ ap (with-draws es) (sym (rests r z)));
+          (λ e. let z = eqb-false r.code 0 e in rests (with_draws es r) z ∙ ap (with_draws es) (sym (rests r z)));
     }
       where
         rests : (r : Run S) → (r.code ≡ 0 → ⊥) → F r ≡ r
-        rests r z = ap (g (v (to_draw r))) (draw-no (m (to_draw r)) r z) ∙ (k (v (to_draw r))).strict r z
+        rests r z = ap (g (v (to_draw r))) (draw_no (m (to_draw r)) r z) ∙ (k (v (to_draw r))).strict r z

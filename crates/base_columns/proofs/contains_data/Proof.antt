@@ -1,5 +1,5 @@
--- The count says how many keys are lent, and membership among those words is `has` of the map, by `data-has`.
-use Rattle.base_columns.proofs.Data.{data-counted, data-has}
+-- The count says how many keys are lent, and membership among those words is `has` of the map, by `data_has`.
+use Rattle.base_columns.proofs.Data.{data_counted, data_has}
 use borrow.Author.Rules.{rules}
 use Rattle.base_columns.proofs.contains_data.Statement.{statement}
 use Rattle.base_columns.proofs.contains_data.Tie as tie
@@ -17,13 +17,13 @@ shared-slice-read-n : tie.Need-shared-slice-read-n
 shared-slice-read-n c = search rules
 
 slice-aggregate-is-in : tie.Need-slice-aggregate-is-in
-slice-aggregate-is-in c = search data-counted
+slice-aggregate-is-in c = search data_counted
 
 is-in-requires : tie.Need-is-in-requires
 is-in-requires c κs = search rules
 
 returns : tie.Need-returns
-returns c = search data-has
+returns c = search data_has
 
 pub contains-data-spec : {M : Type 1} → statement M
 contains-data-spec =

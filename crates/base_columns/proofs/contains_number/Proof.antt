@@ -1,5 +1,5 @@
--- The count says how many keys are lent, and membership among those words is `has` of the map, by `number-has`.
-use Rattle.base_columns.proofs.Numbers.{numbers-counted, number-has}
+-- The count says how many keys are lent, and membership among those words is `has` of the map, by `number_has`.
+use Rattle.base_columns.proofs.Numbers.{numbers_counted, number_has}
 use borrow.Author.Rules.{rules}
 use Rattle.base_columns.proofs.contains_number.Statement.{statement}
 use Rattle.base_columns.proofs.contains_number.Tie as tie
@@ -14,13 +14,13 @@ shared-slice-read-n : tie.Need-shared-slice-read-n
 shared-slice-read-n c = search rules
 
 slice-aggregate-is-in : tie.Need-slice-aggregate-is-in
-slice-aggregate-is-in c = search numbers-counted
+slice-aggregate-is-in c = search numbers_counted
 
 is-in-requires : tie.Need-is-in-requires
 is-in-requires c κs = search rules
 
 returns : tie.Need-returns
-returns c = search number-has
+returns c = search number_has
 
 pub contains-number-spec : {M : Type 1} → statement M
 contains-number-spec =

@@ -1,8 +1,8 @@
--- Each list is lent up to its count, and by `known-lent` those words are the map's keys and the peers of the three sections.
+-- Each list is lent up to its count, and by `known_lent` those words are the map's keys and the peers of the three sections.
 use Rattle.base_util.proofs.Sets.{lent_long}
-use Rattle.base_columns.proofs.Numbers.{numbers-counted}
-use Rattle.base_columns.proofs.Data.{data-counted}
-use Rattle.base_columns.proofs.Kept.{known-lent}
+use Rattle.base_columns.proofs.Numbers.{numbers_counted}
+use Rattle.base_columns.proofs.Data.{data_counted}
+use Rattle.base_columns.proofs.Kept.{known_lent}
 use borrow.Author.Rules.{rules}
 use Rattle.base_columns.proofs.data_known.Statement.{statement}
 use Rattle.base_columns.proofs.data_known.Tie as tie
@@ -35,7 +35,7 @@ shared-slice-read-k : tie.Need-shared-slice-read-k
 shared-slice-read-k c = search rules
 
 slice-aggregate-subset-of-three : tie.Need-slice-aggregate-subset-of-three
-slice-aggregate-subset-of-three c = search data-counted
+slice-aggregate-subset-of-three c = search data_counted
 
 slice-aggregate-subset-of-three-2 : tie.Need-slice-aggregate-subset-of-three-2
 slice-aggregate-subset-of-three-2 c = search lent_long
@@ -44,13 +44,13 @@ slice-aggregate-subset-of-three-3 : tie.Need-slice-aggregate-subset-of-three-3
 slice-aggregate-subset-of-three-3 c = search lent_long
 
 slice-aggregate-subset-of-three-4 : tie.Need-slice-aggregate-subset-of-three-4
-slice-aggregate-subset-of-three-4 c = search numbers-counted
+slice-aggregate-subset-of-three-4 c = search numbers_counted
 
 subset-of-three-requires : tie.Need-subset-of-three-requires
 subset-of-three-requires c κs = search rules
 
 returns : tie.Need-returns
-returns c = search known-lent
+returns c = search known_lent
 
 pub data-known-spec : {M : Type 1} → statement M
 data-known-spec =

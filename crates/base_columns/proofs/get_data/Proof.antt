@@ -1,5 +1,5 @@
 -- By cases on whether `find` met the key: the row at its place gives the bytes, and its length fits a byte; otherwise absent.
-use Rattle.base_columns.proofs.Data.{len-byte, data-found, data-missing}
+use Rattle.base_columns.proofs.Data.{len_byte, data_found, data_missing}
 use borrow.Author.Rules.{rules}
 use Rattle.base_columns.proofs.get_data.Statement.{statement}
 use Rattle.base_columns.proofs.get_data.Tie as tie
@@ -53,16 +53,16 @@ shared-slice-read-len : tie.Need-shared-slice-read-len
 shared-slice-read-len c = search rules
 
 cast-len : tie.Need-overflow-cast-len
-cast-len c = search len-byte
+cast-len c = search len_byte
 
 returns : tie.Need-returns
-returns c = search data-found
+returns c = search data_found
 
 absent-requires : tie.Need-absent-requires
 absent-requires c κs = search rules
 
 returns-2 : tie.Need-returns-2
-returns-2 c = search data-missing
+returns-2 c = search data_missing
 
 pub get-data-spec : {M : Type 1} → statement M
 get-data-spec =

@@ -1,6 +1,6 @@
 -- By cases on whether `find` met the key: the number stands at its place in the second column; otherwise the map has none.
 use Rattle.base_util.specs.Section.{part}
-use Rattle.base_columns.proofs.Numbers.{number-found, number-none}
+use Rattle.base_columns.proofs.Numbers.{number_found, number_none}
 use borrow.Author.Rules.{rules}
 use Rattle.base_columns.proofs.get_number.Statement.{statement}
 use Rattle.base_columns.proofs.get_number.Tie as tie
@@ -28,11 +28,11 @@ shared-slice-read-t14 c = search rules
 
 returns : tie.Need-returns
 unfolding part
-returns c = search number-found
+returns c = search number_found
 
 returns-2 : tie.Need-returns-2
 unfolding part
-returns-2 c = search number-none
+returns-2 c = search number_none
 
 pub get-number-spec : {M : Type 1} → statement M
 get-number-spec =

@@ -3,7 +3,7 @@ use Rattle.base_peer.specs.Held.{ValidData}
 use Prim.Native.Nat.{◌+◌}
 use native.Mathlib.Omega.{arith}
 use Rattle.base_columns.specs.Columns.{ValidDataWords}
-use Rattle.base_columns.proofs.Holding.{holds-none, holds-all}
+use Rattle.base_columns.proofs.Holding.{holds_none, holds_all}
 use borrow.Author.Rules.{rules}
 use Rattle.base_columns.proofs.holds_data.Statement.{statement}
 use Rattle.base_columns.proofs.holds_data.Tie as tie
@@ -38,7 +38,7 @@ find-requires : tie.Need-find-requires
 find-requires c κs = search rules
 
 returns : tie.Need-returns
-returns c = search holds-none
+returns c = search holds_none
 
 word-at-requires : tie.Need-word-at-requires
 word-at-requires c κs = search rules
@@ -86,7 +86,7 @@ returns-2 c =
     let at-if1 = word-at-to-else1 at-word-at in
     let at-find = at-if1.before in
     let start = find-to-start at-find in
-    holds-all _ _ (valid-words start) _ _ at-find.find.ensures.0 _ (valid_data start) at-if1.if1.left _ _ at-word-at.word_at.ensures.0 at-word-at2.word-at2.ensures.0 at-word-at.word_at.ensures.1 at-word-at2.word-at2.ensures.1 (omega (arith, c.shared-slice-known5.given (start.args.cap + start.args.cap + at-find.find.result))) (omega (arith, c.shared-slice-known5.given (start.args.cap + start.args.cap + start.args.cap + at-find.find.result)))
+    holds_all _ _ (valid-words start) _ _ at-find.find.ensures.0 _ (valid_data start) at-if1.if1.left _ _ at-word-at.word_at.ensures.0 at-word-at2.word-at2.ensures.0 at-word-at.word_at.ensures.1 at-word-at2.word-at2.ensures.1 (omega (arith, c.shared-slice-known5.given (start.args.cap + start.args.cap + at-find.find.result))) (omega (arith, c.shared-slice-known5.given (start.args.cap + start.args.cap + start.args.cap + at-find.find.result)))
 
 pub holds-data-spec : {M : Type 1} → statement M
 holds-data-spec =

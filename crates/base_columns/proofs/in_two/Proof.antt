@@ -1,6 +1,6 @@
 -- The first column is changed alone, so the second is still filled; together the two results are `Two`, by `two_in`.
 use Rattle.base_util.specs.Section.{part}
-use Rattle.base_columns.proofs.Two.{two_inside, two_room, two-filled, two_fits, two_in}
+use Rattle.base_columns.proofs.Two.{two_inside, two_room, two_filled, two_fits, two_in}
 use borrow.Author.Rules.{rules}
 use Rattle.base_columns.proofs.in_two.Statement.{statement}
 use Rattle.base_columns.proofs.in_two.Tie as tie
@@ -33,7 +33,7 @@ part-put-in-end c = search rules
 
 put-in-requires-2 : tie.Need-put-in-requires-2
 unfolding part
-put-in-requires-2 c κs = (search two-filled, (search two_fits, search rules))
+put-in-requires-2 c κs = (search two_filled, (search two_fits, search rules))
 
 same_length : tie.Need-same-length
 same_length c = search rules

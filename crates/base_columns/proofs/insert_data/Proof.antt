@@ -7,7 +7,7 @@ use lib.ListN.{length}
 use Rattle.base_lists.specs.Maps.{has}
 use Rattle.base_util.specs.Section.{part}
 use Rattle.base_columns.specs.Columns.{head_of, ValidDataWords, data_map_at}
-use Rattle.base_columns.proofs.Data.{data-inside, data-size, data-keyed, data-lens, store-2, store-3, data-room, tail-size, tail-lows, tail-highs, data-long, data-replaced, data-inserted}
+use Rattle.base_columns.proofs.Data.{data_inside, data_size, data_keyed, data_lens, store_2, store_3, data_room, tail_size, tail_lows, tail_highs, data_long, data_replaced, data_inserted}
 use borrow.Author.Rules.{rules}
 use Rattle.base_columns.proofs.insert_data.Statement.{statement}
 use Rattle.base_columns.proofs.insert_data.Tie as tie
@@ -82,7 +82,7 @@ mul-m-2 c = search rules
 
 slice-write-m-2 : tie.Need-slice-write-m-2
 unfolding part head_of
-slice-write-m-2 c = search store-2
+slice-write-m-2 c = search store_2
 
 add-m-3 : tie.Need-overflow-add-m-3
 add-m-3 c = search rules
@@ -95,14 +95,14 @@ mul-m-3 c = search rules
 
 slice-write-m-3 : tie.Need-slice-write-m-3
 unfolding part head_of
-slice-write-m-3 c = search store-3
+slice-write-m-3 c = search store_3
 
 same_length : tie.Need-same-length
 same_length c = search rules
 
 returns : tie.Need-returns
 unfolding part head_of
-returns c = search data-replaced
+returns c = search data_replaced
 
 rank-of-requires : tie.Need-rank-of-requires
 rank-of-requires c κs = search rules
@@ -112,14 +112,14 @@ slice-relend-prefix-in-two c = search rules
 
 slice-aggregate-in-two : tie.Need-slice-aggregate-in-two
 unfolding part
-slice-aggregate-in-two c = search data-inside
+slice-aggregate-in-two c = search data_inside
 
 cast-in-two : tie.Need-overflow-cast-in-two
 cast-in-two c = search rules
 
 in-two-requires : tie.Need-in-two-requires
 unfolding part head_of
-in-two-requires c κs = (search data-size, (search data-keyed, (search data-lens, (search data-room, search rules))))
+in-two-requires c κs = (search data_size, (search data_keyed, (search data_lens, (search data_room, search rules))))
 
 mul-in-two : tie.Need-overflow-mul-in-two
 mul-in-two c = search rules
@@ -141,7 +141,7 @@ in-two-requires-2 c κs =
     let at-if1 = rank-of-to-else1 at-rank-of in
     let at-find = at-if1.before in
     let start = find-to-start at-find in
-    (search tail-size, (tail-lows _ _ (valid-words start) _ _ _ at-in-two.in_two.ensures, (tail-highs _ _ (valid-words start) _ _ _ at-in-two.in_two.ensures, (data-room _ _ (valid-words start) _ _ at-find.find.ensures.0 at-if1.if1.left (room start), at-rank-of.rank-of.ensures.1))))
+    (search tail_size, (tail_lows _ _ (valid-words start) _ _ _ at-in-two.in_two.ensures, (tail_highs _ _ (valid-words start) _ _ _ at-in-two.in_two.ensures, (data_room _ _ (valid-words start) _ _ at-find.find.ensures.0 at-if1.if1.left (room start), at-rank-of.rank-of.ensures.1))))
 
 add-m-5 : tie.Need-overflow-add-m-5
 add-m-5 c = search rules
@@ -158,7 +158,7 @@ same-length-2 c =
     let at-in-two2 = c.before.before in
     let at-in-two = in-two2-to-in-two at-in-two2 in
     let start = in-two-to-start at-in-two in
-    data-long _ _ (valid-words start) _ _ _ at-in-two.in_two.ensures _ _ _ _ at-in-two2.in-two2.ensures
+    data_long _ _ (valid-words start) _ _ _ at-in-two.in_two.ensures _ _ _ _ at-in-two2.in-two2.ensures
 
 returns-2 : tie.Need-returns-2
 unfolding part head_of
@@ -171,7 +171,7 @@ returns-2 c =
     let at-word-at2 = at-find.before.before in
     let at-word-at = at-word-at2.before in
     let start = word-at-to-start at-word-at in
-    data-inserted _ _ (valid-words start) _ _ at-find.find.ensures.0 _ _ _ (valid_data start) at-word-at.word_at.ensures.0 at-word-at2.word-at2.ensures.0 _ _ _ at-if1.if1.left (room start) at-rank-of.rank-of.ensures.0 at-in-two.in_two.ensures at-in-two2.in-two2.ensures
+    data_inserted _ _ (valid-words start) _ _ at-find.find.ensures.0 _ _ _ (valid_data start) at-word-at.word_at.ensures.0 at-word-at2.word-at2.ensures.0 _ _ _ at-if1.if1.left (room start) at-rank-of.rank-of.ensures.0 at-in-two.in_two.ensures at-in-two2.in-two2.ensures
 
 pub insert-data-spec : {M : Type 1} → statement M
 insert-data-spec =

@@ -1,7 +1,7 @@
 -- By cases: a key that is there has its number replaced; a new one enters both columns at its rank, and the count grows.
 use Rattle.base_columns.specs.Columns.{ValidNumbers}
 use Rattle.base_util.specs.Section.{part}
-use Rattle.base_columns.proofs.Numbers.{number_inside, number_column, number_fits, number-room, numbers_long, second-filled, second_fits, number-replaced, number-inserted}
+use Rattle.base_columns.proofs.Numbers.{number_inside, number_column, number_fits, number_room, numbers_long, second_filled, second_fits, number_replaced, number_inserted}
 use borrow.Author.Rules.{rules}
 use Rattle.base_columns.proofs.insert_number.Statement.{statement}
 use Rattle.base_columns.proofs.insert_number.Tie as tie
@@ -39,7 +39,7 @@ same_length : tie.Need-same-length
 same_length c = search rules
 
 returns : tie.Need-returns
-returns c = search number-replaced
+returns c = search number_replaced
 
 rank-of-requires : tie.Need-rank-of-requires
 rank-of-requires c κs = search rules
@@ -69,7 +69,7 @@ part-put-in-end c = search rules
 
 put-in-requires-2 : tie.Need-put-in-requires-2
 unfolding part
-put-in-requires-2 c κs = (search second-filled, (search (second_fits, number-room), search rules))
+put-in-requires-2 c κs = (search second_filled, (search (second_fits, number_room), search rules))
 
 add-m-2 : tie.Need-overflow-add-m-2
 add-m-2 c = search rules
@@ -90,7 +90,7 @@ same-length-2 c =
 
 returns-2 : tie.Need-returns-2
 unfolding part
-returns-2 c = search number-inserted
+returns-2 c = search number_inserted
 
 pub insert-number-spec : {M : Type 1} → statement M
 insert-number-spec =

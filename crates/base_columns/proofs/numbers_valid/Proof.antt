@@ -1,5 +1,5 @@
 -- Too large a count fails the test; otherwise the two runs of zeroes and the rising keys are the definition's own tests.
-use Rattle.base_columns.proofs.Numbers.{test-no, test-all}
+use Rattle.base_columns.proofs.Numbers.{test_no, test_all}
 use borrow.Author.Rules.{rules}
 use Rattle.base_columns.proofs.numbers_valid.Statement.{statement}
 use Rattle.base_columns.proofs.numbers_valid.Tie as tie
@@ -14,7 +14,7 @@ shared-slice-read-n : tie.Need-shared-slice-read-n
 shared-slice-read-n c = search rules
 
 returns : tie.Need-returns
-returns c = search test-no
+returns c = search test_no
 
 zero-from-requires : tie.Need-zero-from-requires
 zero-from-requires c κs = search rules
@@ -29,7 +29,7 @@ rises-requires : tie.Need-rises-requires
 rises-requires c κs = search rules
 
 returns-2 : tie.Need-returns-2
-returns-2 c = search test-all
+returns-2 c = search test_all
 
 pub numbers-valid-spec : {M : Type 1} → statement M
 numbers-valid-spec =

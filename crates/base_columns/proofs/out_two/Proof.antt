@@ -1,6 +1,6 @@
 -- The first column is changed alone, so the second is still filled; together the two results are `Two`, by `two_out`.
 use Rattle.base_util.specs.Section.{part}
-use Rattle.base_columns.proofs.Two.{two_inside, two-filled, two_out}
+use Rattle.base_columns.proofs.Two.{two_inside, two_filled, two_out}
 use borrow.Author.Rules.{rules}
 use Rattle.base_columns.proofs.out_two.Statement.{statement}
 use Rattle.base_columns.proofs.out_two.Tie as tie
@@ -33,7 +33,7 @@ part-take-out-end c = search rules
 
 take-out-requires-2 : tie.Need-take-out-requires-2
 unfolding part
-take-out-requires-2 c κs = (search two-filled, search rules)
+take-out-requires-2 c κs = (search two_filled, search rules)
 
 same_length : tie.Need-same-length
 same_length c = search rules

@@ -1,7 +1,7 @@
 -- By cases: without the key nothing changes; otherwise its place leaves all four columns, two by two, and the count falls.
 use Rattle.base_util.specs.Section.{part}
 use Rattle.base_columns.specs.Columns.{head_of, ValidDataWords}
-use Rattle.base_columns.proofs.Data.{data-inside, data-size, data-keyed, data-lens, data-kept, tail-size, tail-lows, tail-highs, data-long, data-removed}
+use Rattle.base_columns.proofs.Data.{data_inside, data_size, data_keyed, data_lens, data_kept, tail_size, tail_lows, tail_highs, data_long, data_removed}
 use borrow.Author.Rules.{rules}
 use Rattle.base_columns.proofs.remove_data.Statement.{statement}
 use Rattle.base_columns.proofs.remove_data.Tie as tie
@@ -33,18 +33,18 @@ same_length : tie.Need-same-length
 same_length c = search rules
 
 returns : tie.Need-returns
-returns c = search data-kept
+returns c = search data_kept
 
 slice-relend-prefix-out-two : tie.Need-slice-relend-prefix-out-two
 slice-relend-prefix-out-two c = search rules
 
 slice-aggregate-out-two : tie.Need-slice-aggregate-out-two
 unfolding part
-slice-aggregate-out-two c = search data-inside
+slice-aggregate-out-two c = search data_inside
 
 out-two-requires : tie.Need-out-two-requires
 unfolding part head_of
-out-two-requires c κs = (search data-size, (search data-keyed, (search data-lens, search rules)))
+out-two-requires c κs = (search data_size, (search data_keyed, (search data_lens, search rules)))
 
 mul-out-two : tie.Need-overflow-mul-out-two
 mul-out-two c = search rules
@@ -63,7 +63,7 @@ unfolding part head_of
 out-two-requires-2 c κs =
     let at-out-two = c.before.before.before in
     let start = out-two-to-start at-out-two in
-    (search tail-size, (tail-lows _ _ (valid-words start) _ _ _ at-out-two.out-two.ensures, (tail-highs _ _ (valid-words start) _ _ _ at-out-two.out-two.ensures, search rules)))
+    (search tail_size, (tail_lows _ _ (valid-words start) _ _ _ at-out-two.out-two.ensures, (tail_highs _ _ (valid-words start) _ _ _ at-out-two.out-two.ensures, search rules)))
 
 sub-m : tie.Need-overflow-sub-m
 sub-m c = search rules
@@ -80,11 +80,11 @@ same-length-2 c =
     let at-out-two2 = c.before.before in
     let at-out-two = at-out-two2.before.before.before.before in
     let start = out-two-to-start at-out-two in
-    data-long _ _ (valid-words start) _ _ _ at-out-two.out-two.ensures _ _ _ _ at-out-two2.out-two2.ensures
+    data_long _ _ (valid-words start) _ _ _ at-out-two.out-two.ensures _ _ _ _ at-out-two2.out-two2.ensures
 
 returns-2 : tie.Need-returns-2
 unfolding part head_of
-returns-2 c = search data-removed
+returns-2 c = search data_removed
 
 pub remove-data-spec : {M : Type 1} → statement M
 remove-data-spec =

@@ -1,7 +1,7 @@
 -- By cases: without the key nothing changes; otherwise its place leaves both columns, and the count falls.
 use Rattle.base_columns.specs.Columns.{ValidNumbers}
 use Rattle.base_util.specs.Section.{part}
-use Rattle.base_columns.proofs.Numbers.{number_inside, number_column, numbers_long, second-filled, cut-kept, removed}
+use Rattle.base_columns.proofs.Numbers.{number_inside, number_column, numbers_long, second_filled, cut_kept, removed}
 use borrow.Author.Rules.{rules}
 use Rattle.base_columns.proofs.remove_number.Statement.{statement}
 use Rattle.base_columns.proofs.remove_number.Tie as tie
@@ -30,7 +30,7 @@ same_length : tie.Need-same-length
 same_length c = search rules
 
 returns : tie.Need-returns
-returns c = search cut-kept
+returns c = search cut_kept
 
 slice-relend-prefix-take-out : tie.Need-slice-relend-prefix-take-out
 slice-relend-prefix-take-out c = search rules
@@ -57,7 +57,7 @@ part-take-out-end c = search rules
 
 take-out-requires-2 : tie.Need-take-out-requires-2
 unfolding part
-take-out-requires-2 c κs = (search second-filled, search rules)
+take-out-requires-2 c κs = (search second_filled, search rules)
 
 sub-m : tie.Need-overflow-sub-m
 sub-m c = search rules

@@ -1,6 +1,6 @@
 -- What is to be retained stays the same, and those before i stay. The measure is how many are to come.
 use Prim.Native.Nat.{◌-◌}
-use Rattle.base_columns.proofs.Kept.{Retaining, retaining_start, retaining-next, retaining-cut, retaining-less, retaining_end}
+use Rattle.base_columns.proofs.Kept.{Retaining, retaining_start, retaining_next, retaining_cut, retaining_less, retaining_end}
 use borrow.Author.Rules.{rules}
 use Rattle.base_columns.proofs.retain_data.Statement.{statement}
 use Rattle.base_columns.proofs.retain_data.Tie as tie
@@ -49,7 +49,7 @@ loop-less : tie.Need-loop-smaller invariant-loop decreases-loop
 loop-less c = search rules
 
 loop-again : tie.Need-loop-preserved invariant-loop decreases-loop
-loop-again c = search retaining-next
+loop-again c = search retaining_next
 
 remove-data-requires : tie.Need-remove-data-requires invariant-loop decreases-loop
 remove-data-requires c κs = search rules
@@ -61,13 +61,13 @@ loop-less-2 : tie.Need-loop-smaller-2 invariant-loop decreases-loop
 loop-less-2 c =
     let t = count-data2-to-remove-data c in
     let k = remove-data-to-contains t in
-    retaining-less _ _ _ _ _ _ _ (contains-to-at-loop k).loop.inv (contains-to-in-loop k).loop-test.taken _ _ _ k.contains.ensures (remove-data-to-else1 t).if1.left t.remove-data.ensures c.count-data2.ensures.0
+    retaining_less _ _ _ _ _ _ _ (contains-to-at-loop k).loop.inv (contains-to-in-loop k).loop-test.taken _ _ _ k.contains.ensures (remove-data-to-else1 t).if1.left t.remove-data.ensures c.count-data2.ensures.0
 
 loop-again-2 : tie.Need-loop-preserved-2 invariant-loop decreases-loop
 loop-again-2 c =
     let t = count-data2-to-remove-data c in
     let k = remove-data-to-contains t in
-    retaining-cut _ _ _ _ _ _ _ (contains-to-at-loop k).loop.inv (contains-to-in-loop k).loop-test.taken _ _ _ k.contains.ensures (remove-data-to-else1 t).if1.left t.remove-data.ensures c.count-data2.ensures.0
+    retaining_cut _ _ _ _ _ _ _ (contains-to-at-loop k).loop.inv (contains-to-in-loop k).loop-test.taken _ _ _ k.contains.ensures (remove-data-to-else1 t).if1.left t.remove-data.ensures c.count-data2.ensures.0
 
 same_length : tie.Need-same-length invariant-loop decreases-loop
 same_length c = search rules

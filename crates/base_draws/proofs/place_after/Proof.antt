@@ -41,7 +41,7 @@ use Rattle.base_draws.specs.Place.{moved}
 use Rattle.base_draws.specs.declared.Draws.{Draws}
 use Rattle.base_draws.specs.contracts.Draws as T
 use Rattle.base_draws.proofs.Draws.TheLaws as T'
-use Rattle.base_draws.proofs.Parts.{B, D, L, Own, OwnList, αᵉ, list_val, put-together, typed}
+use Rattle.base_draws.proofs.Parts.{B, D, L, Own, OwnList, αᵉ, list_val, put_together, typed}
 use Rattle.base_draws.specs.contracts.Draws.skip as core
 use Rattle.base_draws.proofs.Draws.skip.Symbol as core-def
 use Rattle.base_draws.proofs.Draws.skip.Symbol.{name as #draws·skip}
@@ -88,7 +88,7 @@ module _ {M : Type 1} {𝓤 : Ura M} (𝓛 : Logic 𝓤) (mem : Memory → SProp
   together : ent 𝓤 (on_entry 𝓛 f.signature (κ, tt) (q, tt) (s, (n, (k, tt))) at) (sep 𝓤 ((Core 𝓛 mem run).pre to) (sem 𝓛 (OwnList κ d)))
   together =
       qed 𝓛 ((‵ (flft κ q) ⊛ ‵ ftrue) ∷ ‵ (owns (ShrSlice (named 0) κ u32 ∷ usize ∷ usize ∷ []) (s, (n, (k, tt))) at) ∷ []) ∵ move ! (1 ∷ []) $ fsplit ! $ move ! (1 ∷ []) $ drop ! $
-      use1 𝓛 (‵ (Own κ d) ⊛ ‵ (OwnList κ d)) (put-together 𝓛 κ d ok) $ split ! $
+      use1 𝓛 (‵ (Own κ d) ⊛ ‵ (OwnList κ d)) (put_together 𝓛 κ d ok) $ split ! $
       -- [what the struct owns; what the list owns; the token]
       nothing ! $ owned ! usize (Is usize) (uint_Makes 𝓛 w64) k _ (refl, few) $ fjoin ! $ move ! (1 ∷ 0 ∷ []) $ fjoin ! $
       move ! (2 ∷ 0 ∷ []) $ use2 𝓛 (raw ((Core 𝓛 mem run).pre to)) asked $ frame ! $ done !

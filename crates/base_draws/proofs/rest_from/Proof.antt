@@ -37,7 +37,7 @@ use denote.Triple.Walked.{says, Stays, stay_none, stay_none_slice, walk_of, Goes
 use denote.Exit.{yes}
 use Rattle.base_draws.specs.declared.Draws.{Draws}
 use Rattle.base_draws.proofs.Draws.TheLaws as T'
-use Rattle.base_draws.proofs.Parts.{B, Own, OwnList, list_val, put-together}
+use Rattle.base_draws.proofs.Parts.{B, Own, OwnList, list_val, put_together}
 use Rattle.base_draws.specs.contracts.Draws.rest as core
 use Rattle.base_draws.proofs.Draws.rest.Symbol as core-def
 use Rattle.base_draws.proofs.Draws.rest.Symbol.{name as #draws·rest}
@@ -84,7 +84,7 @@ module _ {M : Type 1} {𝓤 : Ura M} (𝓛 : Logic 𝓤) (mem : Memory → SProp
   together : ent 𝓤 (on_entry 𝓛 f.signature (κ, tt) (q, tt) (s, (n, tt)) at) (sep 𝓤 ((Core 𝓛 mem run).pre to) (sem 𝓛 (OwnList κ d)))
   together =
       qed 𝓛 ((‵ (flft κ q) ⊛ ‵ ftrue) ∷ ‵ (owns (ShrSlice (named 0) κ u32 ∷ usize ∷ []) (s, (n, tt)) at) ∷ []) ∵ move ! (1 ∷ []) $ fsplit ! $ move ! (1 ∷ []) $ drop ! $
-      use1 𝓛 (‵ (Own κ d) ⊛ ‵ (OwnList κ d)) (put-together 𝓛 κ d ok) $ split ! $
+      use1 𝓛 (‵ (Own κ d) ⊛ ‵ (OwnList κ d)) (put_together 𝓛 κ d ok) $ split ! $
       -- [what the struct owns; what the list owns; the token]
       nothing ! $ move ! (1 ∷ 0 ∷ []) $ fjoin ! $ move ! (2 ∷ 0 ∷ []) $ use2 𝓛 (raw ((Core 𝓛 mem run).pre to)) asked $ frame ! $ done !
 

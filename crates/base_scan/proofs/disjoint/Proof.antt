@@ -2,7 +2,7 @@
 use Prim.Native.Nat.{◌-◌}
 use lib.ListN.{length}
 use mathlib.Core.Logic.{⊎_elim}
-use Rattle.base_scan.proofs.Hints.{Noting, noting_start, noting-next, noting-end, Passing, passing_start, pass-unmarked, pass-looked, stop, pass-end}
+use Rattle.base_scan.proofs.Hints.{Noting, noting_start, noting_next, noting_end, Passing, passing_start, pass_unmarked, pass_looked, stop, pass_end}
 use borrow.Author.Rules.{rules}
 use Rattle.base_scan.proofs.disjoint.Statement.{statement}
 use Rattle.base_scan.proofs.disjoint.Tie as tie
@@ -41,10 +41,10 @@ loop-less : tie.Need-loop-smaller invariant-loop decreases-loop invariant-loop2 
 loop-less c = search rules
 
 loop-again : tie.Need-loop-preserved invariant-loop decreases-loop invariant-loop2 decreases-loop2
-loop-again c = search noting-next
+loop-again c = search noting_next
 
 loop2-holds : tie.Need-loop2-init invariant-loop decreases-loop invariant-loop2 decreases-loop2
-loop2-holds c = search (passing_start, noting-end, rules)
+loop2-holds c = search (passing_start, noting_end, rules)
 
 mul-x : tie.Need-overflow-mul-x invariant-loop decreases-loop invariant-loop2 decreases-loop2
 mul-x c = search rules
@@ -68,10 +68,10 @@ loop2-less : tie.Need-loop2-smaller invariant-loop decreases-loop invariant-loop
 loop2-less c = search rules
 
 loop2-again : tie.Need-loop2-preserved invariant-loop decreases-loop invariant-loop2 decreases-loop2
-loop2-again c = ⊎_elim (λ w. search pass-looked) (λ w. search pass-unmarked) c.if1.branch
+loop2-again c = ⊎_elim (λ w. search pass_looked) (λ w. search pass_unmarked) c.if1.branch
 
 returns-2 : tie.Need-returns-2 invariant-loop decreases-loop invariant-loop2 decreases-loop2
-returns-2 c = search pass-end
+returns-2 c = search pass_end
 
 pub disjoint-spec : {M : Type 1} → statement M
 disjoint-spec =

@@ -2,7 +2,7 @@
 use Prim.Native.Nat.{◌-◌}
 use lib.ListN.{length}
 use Rattle.base_lists.specs.Lists.{mem}
-use Rattle.base_scan.proofs.Loops.{Left, Hit, hit_start, hit-next, hit-end}
+use Rattle.base_scan.proofs.Loops.{Left, Hit, hit_start, hit_next, hit_end}
 use borrow.Author.Rules.{rules}
 use Rattle.base_scan.proofs.is_in.Statement.{statement}
 use Rattle.base_scan.proofs.is_in.Tie as tie
@@ -29,10 +29,10 @@ loop-less : tie.Need-loop-smaller invariant-loop decreases-loop
 loop-less c = search rules
 
 loop-again : tie.Need-loop-preserved invariant-loop decreases-loop
-loop-again c = search hit-next
+loop-again c = search hit_next
 
 returns : tie.Need-returns invariant-loop decreases-loop
-returns c = search hit-end
+returns c = search hit_end
 
 pub is-in-spec : {M : Type 1} → statement M
 is-in-spec =

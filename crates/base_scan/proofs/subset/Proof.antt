@@ -5,7 +5,7 @@ use mathlib.Core.Path.{◌≡◌}
 use Rattle.base_lists.specs.Lists.{subset}
 use Rattle.base_scan.proofs.Tests.{is_in}
 use Rattle.base_scan.proofs.Hints.{at_hint}
-use Rattle.base_scan.proofs.Loops.{Left, Every, subset_start, every-seen, every-asked, every-end}
+use Rattle.base_scan.proofs.Loops.{Left, Every, subset_start, every_seen, every_asked, every_end}
 use borrow.Author.Rules.{rules}
 use Rattle.base_scan.proofs.subset.Statement.{statement}
 use Rattle.base_scan.proofs.subset.Tie as tie
@@ -50,7 +50,7 @@ loop-less : tie.Need-loop-smaller invariant-loop decreases-loop
 loop-less c = search rules
 
 loop-again : tie.Need-loop-preserved invariant-loop decreases-loop
-loop-again c = (search rules, search (every-seen, at_hint))
+loop-again c = (search rules, search (every_seen, at_hint))
 
 is-in-requires : tie.Need-is-in-requires invariant-loop decreases-loop
 is-in-requires c κs = search rules
@@ -59,10 +59,10 @@ loop-less-2 : tie.Need-loop-smaller-2 invariant-loop decreases-loop
 loop-less-2 c = search rules
 
 loop-again-2 : tie.Need-loop-preserved-2 invariant-loop decreases-loop
-loop-again-2 c = (search rules, search every-asked)
+loop-again-2 c = (search rules, search every_asked)
 
 returns : tie.Need-returns invariant-loop decreases-loop
-returns c = search every-end
+returns c = search every_end
 
 pub subset-spec : {M : Type 1} → statement M
 subset-spec =

@@ -6,8 +6,8 @@ use mathlib.Core.List.{◌++◌}
 use mathlib.Core.Logic.{⊎_elim}
 use Rattle.base_lists.specs.Lists.{subset}
 use Rattle.base_scan.proofs.Tests.{is_in}
-use Rattle.base_scan.proofs.Three.{of-first, of-second, of-third, at-hint-of-three, in_three}
-use Rattle.base_scan.proofs.Loops.{Left, Every, subset_start, every-seen, every-asked, every-end}
+use Rattle.base_scan.proofs.Three.{of_first, of_second, of_third, at_hint_of_three, in_three}
+use Rattle.base_scan.proofs.Loops.{Left, Every, subset_start, every_seen, every_asked, every_end}
 use borrow.Author.Rules.{rules}
 use Rattle.base_scan.proofs.subset_of_three.Statement.{statement}
 use Rattle.base_scan.proofs.subset_of_three.Tie as tie
@@ -101,10 +101,10 @@ loop-again c =
     let second = args.c.now in
     let third = args.d.now in (
       search rules,
-      every-seen _ _ _ _ _ test.before.loop.invariant.1
-          (at-hint-of-three first second third _ _ _ within.if1.true
-          (⊎_elim (λ w. of-first first second third _ _ w.0.taken w.2)
-          (⊎_elim (λ w. of-second first second third _ _ w.0.left w.1.taken w.3) (λ w. of-third first second third _ _ w.1.left w.3)) joined.if2.branch) c.if4.true)
+      every_seen _ _ _ _ _ test.before.loop.invariant.1
+          (at_hint_of_three first second third _ _ _ within.if1.true
+          (⊎_elim (λ w. of_first first second third _ _ w.0.taken w.2)
+          (⊎_elim (λ w. of_second first second third _ _ w.0.left w.1.taken w.3) (λ w. of_third first second third _ _ w.1.left w.3)) joined.if2.branch) c.if4.true)
           test.loop-test.true,
     )
 
@@ -121,10 +121,10 @@ loop-less-2 : tie.Need-loop-smaller-2 invariant-loop decreases-loop
 loop-less-2 c = search rules
 
 loop-again-2 : tie.Need-loop-preserved-2 invariant-loop decreases-loop
-loop-again-2 c = (search rules, search (every-asked, in_three))
+loop-again-2 c = (search rules, search (every_asked, in_three))
 
 returns : tie.Need-returns invariant-loop decreases-loop
-returns c = search every-end
+returns c = search every_end
 
 pub subset-of-three-spec : {M : Type 1} → statement M
 subset-of-three-spec =

@@ -1,5 +1,5 @@
--- The count says how many words are lent, and they are the set's items, by `lent-mem`.
-use Rattle.base_util.proofs.Sets.{lent_long, lent-mem}
+-- The count says how many words are lent, and they are the set's items, by `lent_mem`.
+use Rattle.base_util.proofs.Sets.{lent_long, lent_mem}
 use borrow.Author.Rules.{rules}
 use Rattle.base_util.proofs.contains.Statement.{statement}
 use Rattle.base_util.proofs.contains.Tie as tie
@@ -17,7 +17,7 @@ is-in-requires : tie.Need-is-in-requires
 is-in-requires c κs = search rules
 
 returns : tie.Need-returns
-returns c = search lent-mem
+returns c = search lent_mem
 
 pub contains-spec : {M : Type 1} → statement M
 contains-spec =

@@ -2,7 +2,7 @@
 use Prim.Native.Nat.{◌-◌, ◌≤◌}
 use lib.ListN.{length}
 use Rattle.base_util.specs.Section.{working_places}
-use Rattle.base_util.proofs.Copies.{Copying, copying_start, copying-next, copying-past, copying-long, copying-end}
+use Rattle.base_util.proofs.Copies.{Copying, copying_start, copying_next, copying_past, copying_long, copying_end}
 use borrow.Author.Rules.{rules}
 use Rattle.base_util.proofs.copy_column.Statement.{statement}
 use Rattle.base_util.proofs.copy_column.Tie as tie
@@ -41,7 +41,7 @@ loop-less : tie.Need-loop-smaller invariant-loop decreases-loop invariant-loop2 
 loop-less c = search rules
 
 loop-again : tie.Need-loop-preserved invariant-loop decreases-loop invariant-loop2 decreases-loop2
-loop-again c = search copying-next
+loop-again c = search copying_next
 
 loop2-holds : tie.Need-loop2-init invariant-loop decreases-loop invariant-loop2 decreases-loop2
 loop2-holds c = (search rules, search rules)
@@ -59,16 +59,16 @@ loop2-less : tie.Need-loop2-smaller invariant-loop decreases-loop invariant-loop
 loop2-less c = search rules
 
 loop2-again : tie.Need-loop2-preserved invariant-loop decreases-loop invariant-loop2 decreases-loop2
-loop2-again c = (search rules, search copying-past)
+loop2-again c = (search rules, search copying_past)
 
 slice-write-t-3 : tie.Need-slice-write-t-3 invariant-loop decreases-loop invariant-loop2 decreases-loop2
 slice-write-t-3 c = search rules
 
 same_length : tie.Need-same-length invariant-loop decreases-loop invariant-loop2 decreases-loop2
-same_length c = copying-long _ _ _ _ _ c.before.loop2.invariant.1 _ _ c.before.before.before.before.requires.1.1
+same_length c = copying_long _ _ _ _ _ c.before.loop2.invariant.1 _ _ c.before.before.before.before.requires.1.1
 
 returns : tie.Need-returns invariant-loop decreases-loop invariant-loop2 decreases-loop2
-returns c = search copying-end
+returns c = search copying_end
 
 pub copy-column-spec : {M : Type 1} → statement M
 copy-column-spec =

@@ -1,6 +1,6 @@
--- By cases: an item that is there changes nothing; a new one is put in at its rank, for which `insert-fits` finds room.
+-- By cases: an item that is there changes nothing; a new one is put in at its rank, for which `insert_fits` finds room.
 use Rattle.base_util.specs.Section.{part}
-use Rattle.base_util.proofs.Sets.{set_inside, set_column, lent_fits, insert-kept, insert-fits, inserted}
+use Rattle.base_util.proofs.Sets.{set_inside, set_column, lent_fits, insert_kept, insert_fits, inserted}
 use borrow.Author.Rules.{rules}
 use Rattle.base_util.proofs.insert_sorted.Statement.{statement}
 use Rattle.base_util.proofs.insert_sorted.Tie as tie
@@ -18,7 +18,7 @@ same_length : tie.Need-same-length
 same_length c = search rules
 
 returns : tie.Need-returns
-returns c = search insert-kept
+returns c = search insert_kept
 
 rank-of-requires : tie.Need-rank-of-requires
 rank-of-requires c κs = search lent_fits
@@ -32,7 +32,7 @@ slice-aggregate-put-in c = search set_inside
 
 put-in-requires : tie.Need-put-in-requires
 unfolding part
-put-in-requires c κs = (search set_column, (search insert-fits, search rules))
+put-in-requires c κs = (search set_column, (search insert_fits, search rules))
 
 add-s : tie.Need-overflow-add-s
 add-s c = search rules

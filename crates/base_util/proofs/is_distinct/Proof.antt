@@ -1,7 +1,7 @@
 -- The items from place i on are distinct and marked: an item without a mark is new, one with it is looked for. The measure is i.
 use mathlib.Core.Logic.{⊎_elim}
-use Rattle.base_util.proofs.Sets.{lent_fits, lent-distinct}
-use Rattle.base_util.proofs.Marked.{Marking, mark_start, mark-new, mark-twice, mark-once, mark_end}
+use Rattle.base_util.proofs.Sets.{lent_fits, lent_distinct}
+use Rattle.base_util.proofs.Marked.{Marking, mark_start, mark_new, mark_twice, mark_once, mark_end}
 use borrow.Author.Rules.{rules}
 use Rattle.base_util.proofs.is_distinct.Statement.{statement}
 use Rattle.base_util.proofs.is_distinct.Tie as tie
@@ -49,7 +49,7 @@ is-in-requires : tie.Need-is-in-requires invariant-loop decreases-loop
 is-in-requires c κs = search rules
 
 returns : tie.Need-returns invariant-loop decreases-loop
-returns c = search (lent-distinct, mark-twice)
+returns c = search (lent_distinct, mark_twice)
 
 array-write-seen : tie.Need-array-write-seen invariant-loop decreases-loop
 array-write-seen c = search rules
@@ -61,10 +61,10 @@ loop-less : tie.Need-loop-smaller invariant-loop decreases-loop
 loop-less c = search rules
 
 loop-again : tie.Need-loop-preserved invariant-loop decreases-loop
-loop-again c = ⊎_elim (λ w. search mark-once) (λ w. search mark-new) c.if1.branch
+loop-again c = ⊎_elim (λ w. search mark_once) (λ w. search mark_new) c.if1.branch
 
 returns-2 : tie.Need-returns-2 invariant-loop decreases-loop
-returns-2 c = search (lent-distinct, mark_end)
+returns-2 c = search (lent_distinct, mark_end)
 
 pub is-distinct-spec : {M : Type 1} → statement M
 is-distinct-spec =

@@ -1,5 +1,5 @@
 -- The first words, as many as the count says, are the set's items, and `rises` decides whether they rise.
-use Rattle.base_util.proofs.Sets.{lent_fits, lent-rising}
+use Rattle.base_util.proofs.Sets.{lent_fits, lent_rising}
 use borrow.Author.Rules.{rules}
 use Rattle.base_util.proofs.is_rising.Statement.{statement}
 use Rattle.base_util.proofs.is_rising.Tie as tie
@@ -14,7 +14,7 @@ rises-requires : tie.Need-rises-requires
 rises-requires c κs = search lent_fits
 
 returns : tie.Need-returns
-returns c = search lent-rising
+returns c = search lent_rising
 
 pub is-rising-spec : {M : Type 1} → statement M
 is-rising-spec =

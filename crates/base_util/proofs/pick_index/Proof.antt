@@ -4,7 +4,7 @@ use native.Mathlib.Nat.{mod-le}
 use native.Mathlib.Omega.{arith}
 use lib.ListN.{length}
 use borrow.Author.Rules.{rules}
-use Rattle.base_util.proofs.Picks.{Reading, reading_start, reading-next, read-index, read_below, read_next, missed-index, missed-next}
+use Rattle.base_util.proofs.Picks.{Reading, reading_start, reading_next, read_index, read_below, read_next, missed_index, missed_next}
 use Rattle.base_util.proofs.pick_index.Statement.{statement}
 use Rattle.base_util.proofs.pick_index.Tie as tie
 
@@ -39,19 +39,19 @@ rem-i : tie.Need-nonzero-rem-i invariant-loop decreases-loop
 rem-i c = search rules
 
 returns : tie.Need-returns invariant-loop decreases-loop
-returns c = ((search read-index, search read_below), search read_next)
+returns c = ((search read_index, search read_below), search read_next)
 
 loop-less : tie.Need-loop-smaller invariant-loop decreases-loop
 loop-less c = search rules
 
 loop-again : tie.Need-loop-preserved invariant-loop decreases-loop
-loop-again c = search reading-next
+loop-again c = search reading_next
 
 add-past : tie.Need-overflow-add-past invariant-loop decreases-loop
 add-past c = search rules
 
 returns-2 : tie.Need-returns-2 invariant-loop decreases-loop
-returns-2 c = ((search missed-index, search rules), search missed-next)
+returns-2 c = ((search missed_index, search rules), search missed_next)
 
 pub pick-index-spec : {M : Type 1} → statement M
 pick-index-spec =

@@ -1,6 +1,6 @@
--- The last item goes into the gap, zero into its place, and the count falls: by `last-in-gap` that is `swap_remove`.
+-- The last item goes into the gap, zero into its place, and the count falls: by `last_in_gap` that is `swap_remove`.
 use lib.ListN.{length-set}
-use Rattle.base_util.proofs.Sets.{last-in-gap}
+use Rattle.base_util.proofs.Sets.{last_in_gap}
 use borrow.Author.Rules.{rules}
 use Rattle.base_util.proofs.remove_index.Statement.{statement}
 use Rattle.base_util.proofs.remove_index.Tie as tie
@@ -42,7 +42,7 @@ same_length : tie.Need-same-length
 same_length c = search rules
 
 returns : tie.Need-returns
-returns c = search last-in-gap
+returns c = search last_in_gap
 
 pub remove-index-spec : {M : Type 1} → statement M
 remove-index-spec =

@@ -8,7 +8,7 @@ use lib.ListN.{length, take, get_or}
 use lib.Seq.{get_or-take, length-take-le}
 use lib.Dec.{ltb}
 use Rattle.base_lists.specs.Lists.{rising}
-use Rattle.base_scan.proofs.Loops.{Climb, climb_start, climb-next, climb-end}
+use Rattle.base_scan.proofs.Loops.{Climb, climb_start, climb_next, climb_end}
 use borrow.Author.Rules.{rules}
 use Rattle.base_util.proofs.rises.Statement.{statement}
 use Rattle.base_util.proofs.rises.Tie as tie
@@ -18,10 +18,10 @@ module _ (n : ℕ) (s : List ℕ) (ok : Bool) (i : ℕ) (v : Climb (take n s) ok
   next h =
       let a : get_or (take n s) (i - 1) 0 ≡ get_or s (i - 1) 0 = get_or-take n s (i - 1) 0 (omega arith) in
       let b : get_or (take n s) i 0 ≡ get_or s i 0 = get_or-take n s i 0 h in
-      subst (λ (t : Bool). Climb (take n s) (ok && t) (i + 1)) (λ j. ltb (a j) (b j)) (climb-next (take n s) ok i v (omega (arith, length-take-le n s l)))
+      subst (λ (t : Bool). Climb (take n s) (ok && t) (i + 1)) (λ j. ltb (a j) (b j)) (climb_next (take n s) ok i v (omega (arith, length-take-le n s l)))
 
   end : n ≤ i → ok ≡ rising (take n s)
-  end h = climb-end (take n s) ok i v (omega (arith, length-take-le n s l))
+  end h = climb_end (take n s) ok i v (omega (arith, length-take-le n s l))
 
 abbrev invariant-loop : tie.invariant-loop
 invariant-loop s n ok₀ i₀ ok i = (n ≤ length s) × Climb (take n s) ok i

@@ -1,6 +1,6 @@
 -- What is wanted is the shuffle of what is left. The measure is how many places are left.
 use lib.ListN.{length-set}
-use Rattle.base_util.proofs.Stores.{Turning, turn-few, turn-none, turn-start, turn-left, turn-place, turn-drawn, turn-next, turn-taken, turn_end}
+use Rattle.base_util.proofs.Stores.{Turning, turn_few, turn_none, turn_start, turn_left, turn_place, turn_drawn, turn_next, turn_taken, turn_end}
 use borrow.Author.Rules.{rules}
 use Rattle.base_util.proofs.shuffle.Statement.{statement}
 use Rattle.base_util.proofs.shuffle.Tie as tie
@@ -18,43 +18,43 @@ slice-read-n : tie.Need-slice-read-n invariant-loop decreases-loop
 slice-read-n c = search rules
 
 returns : tie.Need-returns invariant-loop decreases-loop
-returns c = (search turn-few, search turn-none)
+returns c = (search turn_few, search turn_none)
 
 sub-i : tie.Need-overflow-sub-i invariant-loop decreases-loop
 sub-i c = search rules
 
 loop-holds : tie.Need-loop-init invariant-loop decreases-loop
-loop-holds c = search turn-start
+loop-holds c = search turn_start
 
 add-pick-index : tie.Need-overflow-add-pick-index invariant-loop decreases-loop
 add-pick-index c = search rules
 
 pick-index-requires : tie.Need-pick-index-requires invariant-loop decreases-loop
-pick-index-requires c κs = (search rules, search turn-left)
+pick-index-requires c κs = (search rules, search turn_left)
 
 mul-x : tie.Need-overflow-mul-x invariant-loop decreases-loop
 mul-x c = search rules
 
 slice-read-x : tie.Need-slice-read-x invariant-loop decreases-loop
-slice-read-x c = search turn-place
+slice-read-x c = search turn_place
 
 mul-y : tie.Need-overflow-mul-y invariant-loop decreases-loop
 mul-y c = search rules
 
 slice-read-y : tie.Need-slice-read-y invariant-loop decreases-loop
-slice-read-y c = search (turn-drawn, rules)
+slice-read-y c = search (turn_drawn, rules)
 
 mul-s : tie.Need-overflow-mul-s invariant-loop decreases-loop
 mul-s c = search rules
 
 slice-write-s : tie.Need-slice-write-s invariant-loop decreases-loop
-slice-write-s c = search turn-place
+slice-write-s c = search turn_place
 
 mul-s-2 : tie.Need-overflow-mul-s-2 invariant-loop decreases-loop
 mul-s-2 c = search rules
 
 slice-write-s-2 : tie.Need-slice-write-s-2 invariant-loop decreases-loop
-slice-write-s-2 c = simp length-set (search (turn-drawn, rules))
+slice-write-s-2 c = simp length-set (search (turn_drawn, rules))
 
 sub-i-2 : tie.Need-overflow-sub-i-2 invariant-loop decreases-loop
 sub-i-2 c = search rules
@@ -63,13 +63,13 @@ loop-less : tie.Need-loop-smaller invariant-loop decreases-loop
 loop-less c = search rules
 
 loop-again : tie.Need-loop-preserved invariant-loop decreases-loop
-loop-again c = search turn-next
+loop-again c = search turn_next
 
 same_length : tie.Need-same-length invariant-loop decreases-loop
 same_length c = search rules
 
 returns-2 : tie.Need-returns-2 invariant-loop decreases-loop
-returns-2 c = (search turn_end, search turn-taken)
+returns-2 c = (search turn_end, search turn_taken)
 
 pub shuffle-spec : {M : Type 1} → statement M
 shuffle-spec =

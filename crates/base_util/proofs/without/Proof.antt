@@ -1,5 +1,5 @@
 -- What is left and what was there are one without x. The measure is how many are left.
-use Rattle.base_util.proofs.Sets.{lent_fits, Dropping, dropping_start, dropping-fits, dropping-next, dropping-end}
+use Rattle.base_util.proofs.Sets.{lent_fits, Dropping, dropping_start, dropping_fits, dropping_next, dropping_end}
 use borrow.Author.Rules.{rules}
 use Rattle.base_util.proofs.without.Statement.{statement}
 use Rattle.base_util.proofs.without.Tie as tie
@@ -29,19 +29,19 @@ sub-n : tie.Need-overflow-sub-n invariant-loop decreases-loop
 sub-n c = search rules
 
 find-requires-2 : tie.Need-find-requires-2 invariant-loop decreases-loop
-find-requires-2 c κs = search dropping-fits
+find-requires-2 c κs = search dropping_fits
 
 loop-less : tie.Need-loop-smaller invariant-loop decreases-loop
 loop-less c = search rules
 
 loop-again : tie.Need-loop-preserved invariant-loop decreases-loop
-loop-again c = search dropping-next
+loop-again c = search dropping_next
 
 same_length : tie.Need-same-length invariant-loop decreases-loop
 same_length c = search rules
 
 returns : tie.Need-returns invariant-loop decreases-loop
-returns c = search dropping-end
+returns c = search dropping_end
 
 pub without-spec : {M : Type 1} → statement M
 without-spec =

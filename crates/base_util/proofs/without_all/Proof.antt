@@ -1,6 +1,6 @@
 -- The places and what is skipped are lent as columns, and the new count is how many items `without_all_in` left.
 use Rattle.base_util.specs.Section.{part}
-use Rattle.base_util.proofs.Sets.{set_inside, set_column, lent_long, left-without-all}
+use Rattle.base_util.proofs.Sets.{set_inside, set_column, lent_long, left_without_all}
 use borrow.Author.Rules.{rules}
 use Rattle.base_util.proofs.without_all.Statement.{statement}
 use Rattle.base_util.proofs.without_all.Tie as tie
@@ -42,7 +42,7 @@ same_length c = search rules
 
 returns : tie.Need-returns
 unfolding part
-returns c = search left-without-all
+returns c = search left_without_all
 
 pub without-all-spec : {M : Type 1} → statement M
 without-all-spec =

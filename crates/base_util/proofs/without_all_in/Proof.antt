@@ -1,6 +1,6 @@
 -- The first m places hold what is kept of those passed. The measure is how many are to come.
 use Prim.Native.Nat.{◌-◌}
-use Rattle.base_util.proofs.Stores.{Packing, packing_start, packing-passed, packing-kept, packing-end, packing-count}
+use Rattle.base_util.proofs.Stores.{Packing, packing_start, packing_passed, packing_kept, packing_end, packing_count}
 use borrow.Author.Rules.{rules}
 use Rattle.base_util.proofs.without_all_in.Statement.{statement}
 use Rattle.base_util.proofs.without_all_in.Tie as tie
@@ -30,7 +30,7 @@ loop-less : tie.Need-loop-smaller invariant-loop decreases-loop
 loop-less c = search rules
 
 loop-again : tie.Need-loop-preserved invariant-loop decreases-loop
-loop-again c = search packing-passed
+loop-again c = search packing_passed
 
 mul-s : tie.Need-overflow-mul-s invariant-loop decreases-loop
 mul-s c = search rules
@@ -45,7 +45,7 @@ loop-less-2 : tie.Need-loop-smaller-2 invariant-loop decreases-loop
 loop-less-2 c = search rules
 
 loop-again-2 : tie.Need-loop-preserved-2 invariant-loop decreases-loop
-loop-again-2 c = search packing-kept
+loop-again-2 c = search packing_kept
 
 clear-from-requires : tie.Need-clear-from-requires invariant-loop decreases-loop
 clear-from-requires c κs = search rules
@@ -54,7 +54,7 @@ same_length : tie.Need-same-length invariant-loop decreases-loop
 same_length c = search rules
 
 returns : tie.Need-returns invariant-loop decreases-loop
-returns c = (search packing-end, (search packing-count, search rules))
+returns c = (search packing_end, (search packing_count, search rules))
 
 pub without-all-in-spec : {M : Type 1} → statement M
 without-all-in-spec =

@@ -10,7 +10,7 @@ use lib.Bits.{bit_or}
 use lib.Dec.{eqb}
 use Rattle.base_lists.specs.Tests.{every}
 use Rattle.base_scan.specs.Words.{unused}
-use Rattle.base_scan.proofs.Loops.{Left, Bits, bits_start, bits-next, bits-end}
+use Rattle.base_scan.proofs.Loops.{Left, Bits, bits_start, bits_next, bits_end}
 use borrow.Author.Rules.{rules}
 use Rattle.base_util.proofs.zero_from.Statement.{statement}
 use Rattle.base_util.proofs.zero_from.Tie as tie
@@ -23,10 +23,10 @@ module _ (s : List ℕ) (end : ℕ) (l : end ≤ length s) where
     next : i < end → Left Bits (take end s) whole (bit_or bits (get_or s i 0)) (i + 1)
     next h =
         subst (λ (x : ℕ). Left Bits (take end s) whole (bit_or bits x) (i + 1)) (get_or-take end s i 0 h)
-        (bits-next (take end s) whole bits i v (omega (arith, length-take-le end s l)))
+        (bits_next (take end s) whole bits i v (omega (arith, length-take-le end s l)))
 
     done : end ≤ i → eqb bits 0 ≡ whole
-    done h = bits-end (take end s) whole bits i v (omega (arith, length-take-le end s l))
+    done h = bits_end (take end s) whole bits i v (omega (arith, length-take-le end s l))
 
 abbrev invariant-loop : tie.invariant-loop
 invariant-loop s from end bits₀ i₀ bits i = (end ≤ length s) × Left Bits (take end s) (every unused (drop from (take end s))) bits i

@@ -7,7 +7,7 @@ use native.Mathlib.Omega.{arith}
 use lib.ListN.{length, drop, length-drop}
 use lib.Seq.{drop-drop}
 use Rattle.blake3.specs.Blake3.{iv, chunk_start, block_length, compress, block_words, chunk}
-use Rattle.blake3.proofs.Laws.{chunk-more}
+use Rattle.blake3.proofs.Laws.{chunk_more}
 use Rattle.blake3.proofs.chunk.Statement.{statement}
 use Rattle.blake3.proofs.chunk.Tie as tie
 
@@ -27,7 +27,7 @@ next body n cv start at r inv h e = record {
   low = omega arith;
   flag = omega arith;
   same =
-      inv.same ∙ chunk-more cv start (drop at body) (omega (arith, length-drop at body, inv.whole))
+      inv.same ∙ chunk_more cv start (drop at body) (omega (arith, length-drop at body, inv.whole))
       ∙ (λ j. chunk (sym e j) 0 (drop-drop block_length at body j));
 }
 

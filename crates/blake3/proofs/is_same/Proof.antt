@@ -11,16 +11,16 @@ use Rattle.base_lists.proofs.Array.{spell, spelled}
 use Rattle.blake3.proofs.is_same.Statement.{statement}
 use Rattle.blake3.proofs.is_same.Tie as tie
 
-and-true : (t : Bool) → t ≡ t && true
-and-true true = refl
-and-true false = refl
+and_true : (t : Bool) → t ≡ t && true
+and_true true = refl
+and_true false = refl
 
 one_by_one : (a b : List ℕ) → length a ≡ 4 → length b ≡ 4
     → eqb (get_or a 0 0) (get_or b 0 0) && (eqb (get_or a 1 0) (get_or b 1 0) && (eqb (get_or a 2 0) (get_or b 2 0) && eqb (get_or a 3 0) (get_or b 3 0))) ≡ same a b
 unfolding same spell
 one_by_one a b p q =
     ◌∙◌ {b = same (spell 0 4 0 a) (spell 0 4 0 b)}
-    (λ k. eqb (get_or a 0 0) (get_or b 0 0) && (eqb (get_or a 1 0) (get_or b 1 0) && (eqb (get_or a 2 0) (get_or b 2 0) && and-true (eqb (get_or a 3 0) (get_or b 3 0)) k)))
+    (λ k. eqb (get_or a 0 0) (get_or b 0 0) && (eqb (get_or a 1 0) (get_or b 1 0) && (eqb (get_or a 2 0) (get_or b 2 0) && and_true (eqb (get_or a 3 0) (get_or b 3 0)) k)))
     (λ k. same (spelled 0 4 a p k) (spelled 0 4 b q k))
 
 pub is-same-spec : {M : Type 1} → statement M

@@ -7,7 +7,7 @@ use native.Mathlib.Omega.{arith}
 use lib.ListN.{length, drop, length-drop}
 use Rattle.base_lists.specs.Array.{pad}
 use Rattle.blake3.specs.Blake3.{chunk_end, root, block_length, message_words, block_words, compress, chunk}
-use Rattle.blake3.proofs.Laws.{chunk-last}
+use Rattle.blake3.proofs.Laws.{chunk_last}
 use Rattle.blake3.proofs.last_block.Statement.{statement}
 use Rattle.blake3.proofs.last_block.Tie as tie
 
@@ -17,7 +17,7 @@ unfolding block_words
 compressed cv l b m r at start h p q e =
     p
     ∙ (λ i. compress cv ((q ∙ ap (λ (t : List ℕ). message_words t 0) e) i) (sym (length-drop at l) i) (start + chunk_end + root))
-    ∙ sym (chunk-last cv start (drop at l) (omega (arith, length-drop at l)))
+    ∙ sym (chunk_last cv start (drop at l) (omega (arith, length-drop at l)))
 
 pub last-block-spec : {M : Type 1} → statement M
 last-block-spec =

@@ -9,7 +9,7 @@ use native.Mathlib.Omega.{arith}
 use lib.ListN.{length, get_or, take, drop, set, length-drop}
 use lib.Seq.{length-take-le, take-suc, take_all, get_or-drop}
 use Rattle.base_lists.specs.Array.{pad}
-use Rattle.base_lists.proofs.Array.{push-pad}
+use Rattle.base_lists.proofs.Array.{push_pad}
 use Rattle.blake3.specs.Blake3.{block_length}
 use Rattle.blake3.proofs.padded.Statement.{statement}
 use Rattle.blake3.proofs.padded.Tie as tie
@@ -21,7 +21,7 @@ module _ (s : List ℕ) (at i : ℕ) (b : List ℕ) (e : b ≡ pad 0 block_lengt
       let more : i < length l = omega (arith, length-drop at s) in
       let size : length (take i l) ≡ i = length-take-le i l (le_of_lt more) in
       (λ j. set (e j) (sym size j) (sym (get_or-drop at s i 0) j))
-      ∙ push-pad 0 block_length (take i l) (get_or l i 0) (omega arith)
+      ∙ push_pad 0 block_length (take i l) (get_or l i 0) (omega arith)
       ∙ ap (pad 0 block_length) (sym (take-suc l i 0 more) ∙ ap (λ (k : ℕ). take k l) (sym (add-one i)))
 
   end : length s - at ≤ i → b ≡ pad 0 block_length (drop at s)

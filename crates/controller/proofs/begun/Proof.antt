@@ -1,5 +1,5 @@
 -- By cases of `new`'s code: where it refuses the number of words the tally stays, and with any other code it is zeroes.
-use Rattle.controller.proofs.Laws.{begun_kept, begun-zeroes}
+use Rattle.controller.proofs.Laws.{begun_kept, begun_zeroes}
 use borrow.Author.Rules.{rules}
 use Rattle.controller.proofs.begun.Statement.{statement}
 use Rattle.controller.proofs.begun.Tie as tie
@@ -20,7 +20,7 @@ same-length-2 : tie.Need-same-length-2
 same-length-2 c = search rules
 
 returns-2 : tie.Need-returns-2
-returns-2 c = search begun-zeroes
+returns-2 c = search begun_zeroes
 
 pub begun-spec : {M : Type 1} → statement M
 begun-spec =

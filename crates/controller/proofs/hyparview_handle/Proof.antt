@@ -60,7 +60,7 @@ use Rattle.hyparview.proofs.handle_from.Symbol.{name as #hyparview·handle-from}
 use Rattle.hyparview.proofs.handle_from.Met as core-thm
 use Rattle.controller.specs.Calls.{Called, called}
 use Rattle.controller.proofs.Laws.{called_by}
-use Rattle.controller.proofs.Lent.{LentAgain, lends_again, comes_back, shares-on}
+use Rattle.controller.proofs.Lent.{LentAgain, lends_again, comes_back, shares_on}
 use Rattle.controller.specs.contracts.hyparview_handle.Key.{name as #controller·hyparview-handle}
 use Rattle.controller.specs.contracts.hyparview_handle as f
 use Rattle.controller.proofs.hyparview_handle.Statement as stated
@@ -218,7 +218,7 @@ module _ {M : Type 1} {𝓤 : Ura M} (𝓛 : Logic 𝓤) (at_mem : Memory → SP
   shared ν δ zo room lo =
       qed 𝓛 ((‵ (flft (ν ∷ []) full_share) ⊛ ‵ (finally u8 δ zo)) ∷ ‵ (LentAgain u8 κo qo γo ob oo (ν ∷ []) δ ys) ∷ []) ∵ updating ! $ split ! $ lft_end ! tt $ move ! (0 ∷ 2 ∷ 1 ∷ []) $
       use3 𝓛 (later (‵ ((MutSlice (named 4) κo u8).own_val (w γo zo) (vo ∷ [])) ⊛ ‵ (flft κo qo))) (comes_back u8 κo qo γo ob oo 𝓛 (named 4) (named 3) ys (ν ∷ []) δ zo room lo) $ await ! tt $
-      use1 𝓛 (later (some (Shared zo))) (shares-on u8 κo qo γo ob oo 𝓛 (named 4) (named 1) ys zo) $ await ! tt $ at_once ! $ done !
+      use1 𝓛 (later (some (Shared zo))) (shares_on u8 κo qo γo ob oo 𝓛 (named 4) (named 1) ys zo) $ await ! tt $ at_once ! $ done !
 
   -- what `raise` is passed: the tally, the code c, and the output shared under the name δ at the list l
   abbrev counts : ℕ → GName → List ℕ → MutBor Tally × (ℕ × (MutBor (List ℕ) × Unit {0}))

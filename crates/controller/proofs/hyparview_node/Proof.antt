@@ -1,5 +1,5 @@
 -- By cases of what `read` answers: a place below the record's count is its node, one past it and malformed bytes have none.
-use Rattle.controller.proofs.Reader.{node-room, node-there, node-past, node-nothing}
+use Rattle.controller.proofs.Reader.{node_room, node_there, node_past, node_nothing}
 use borrow.Author.Rules.{rules}
 use Rattle.controller.proofs.hyparview_node.Statement.{statement}
 use Rattle.controller.proofs.hyparview_node.Tie as tie
@@ -14,10 +14,10 @@ cast-if1 : tie.Need-overflow-cast-if1
 cast-if1 c = search rules
 
 node-requires : tie.Need-node-requires
-node-requires c κs = search node-room
+node-requires c κs = search node_room
 
 returns : tie.Need-returns
-returns c = search node-there
+returns c = search node_there
 
 no-node-requires : tie.Need-no-node-requires
 no-node-requires c κs = search rules
@@ -29,10 +29,10 @@ no-node-requires-2 : tie.Need-no-node-requires-2
 no-node-requires-2 c κs = search rules
 
 returns-2 : tie.Need-returns-2
-returns-2 c = search node-past
+returns-2 c = search node_past
 
 returns-3 : tie.Need-returns-3
-returns-3 c = search node-nothing
+returns-3 c = search node_nothing
 
 pub hyparview-node-spec : {M : Type 1} → statement M
 hyparview-node-spec =

@@ -1,5 +1,5 @@
 -- By cases of what `read` answers: a record's header as it was read, or zeroes where the bytes are malformed.
-use Rattle.controller.proofs.Reader.{read-record, read-nothing}
+use Rattle.controller.proofs.Reader.{read_record, read_nothing}
 use borrow.Author.Rules.{rules}
 use Rattle.controller.proofs.hyparview_read.Statement.{statement}
 use Rattle.controller.proofs.hyparview_read.Tie as tie
@@ -17,10 +17,10 @@ no-header-requires : tie.Need-no-header-requires
 no-header-requires c κs = search rules
 
 returns : tie.Need-returns
-returns c = search read-record
+returns c = search read_record
 
 returns-2 : tie.Need-returns-2
-returns-2 c = search read-nothing
+returns-2 c = search read_nothing
 
 pub hyparview-read-spec : {M : Type 1} → statement M
 hyparview-read-spec =

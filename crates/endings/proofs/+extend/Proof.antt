@@ -2,7 +2,7 @@
 -- Assumes nothing.
 use Prim.Native.Nat.{ℕ, ◌-◌, ◌<◌}
 use borrow.Author.Rules.{rules}
-use Rattle.endings.proofs.Counts.{Extending, extending_start, extending-room, extending-next, extending_end, spent_room, spent, deeper}
+use Rattle.endings.proofs.Counts.{Extending, extending_start, extending_room, extending_next, extending_end, spent_room, spent, deeper}
 use borrow.Fn.Kinds.{In}
 use borrow.Fn.PlainCycle.{Measures, is, falls, and}
 use Rattle.endings.proofs.extend.Reads as extend
@@ -86,7 +86,7 @@ extend-extend-requires : (t : ℕ) → extend-lts.Need-extend-requires (
   extend-below t,
   extend.Post,
 ) (extend-at t) extend.Post extend-Inv-loop extend-μ-loop
-extend-extend-requires t c κs = (search deeper, (search (extending-room, rules), search rules))
+extend-extend-requires t c κs = (search deeper, (search (extending_room, rules), search rules))
 
 extend-add-i : (t : ℕ) → extend-lts.Need-overflow-add-i (
   count-end-reads.Asked,
@@ -116,7 +116,7 @@ extend-loop-again : (t : ℕ) → extend-lts.Need-loop-preserved (
   extend-below t,
   extend.Post,
 ) (extend-at t) extend.Post extend-Inv-loop extend-μ-loop
-extend-loop-again t c = search (extending-next, rules)
+extend-loop-again t c = search (extending_next, rules)
 
 extend-returns-2 : (t : ℕ) → extend-lts.Need-returns-2 (
   count-end-reads.Asked,

@@ -1,6 +1,6 @@
 -- Every event has a node at most, so the writer finds room: the bytes written are the record's, and the case of no room is impossible.
 use borrow.Author.Rules.{rules}
-use Rattle.endings.proofs.Events.{few_bytes, the-bytes, full-never}
+use Rattle.endings.proofs.Events.{few_bytes, the_bytes, full_never}
 use Rattle.endings.proofs.event_bytes.Statement.{statement}
 use Rattle.endings.proofs.event_bytes.Tie as tie
 
@@ -17,13 +17,13 @@ same_length : tie.Need-same-length
 same_length c = search rules
 
 returns : tie.Need-returns
-returns c = (search few_bytes, search the-bytes)
+returns c = (search few_bytes, search the_bytes)
 
 same-length-2 : tie.Need-same-length-2
 same-length-2 c = search rules
 
 returns-2 : tie.Need-returns-2
-returns-2 c = absurd (search full-never)
+returns-2 c = absurd (search full_never)
 
 pub event-bytes-spec : {M : Type 1} → statement M
 event-bytes-spec =

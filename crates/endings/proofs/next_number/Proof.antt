@@ -3,7 +3,7 @@ use Prim.Native.Nat.{◌-◌}
 use native.Mathlib.Omega.{arith}
 use lib.ListN.{length}
 use borrow.Author.Rules.{rules}
-use Rattle.endings.proofs.Counts.{Numbering, numbering_start, numbering-next, numbering-end}
+use Rattle.endings.proofs.Counts.{Numbering, numbering_start, numbering_next, numbering_end}
 use Rattle.endings.proofs.next_number.Statement.{statement}
 use Rattle.endings.proofs.next_number.Tie as tie
 
@@ -38,10 +38,10 @@ loop-less : tie.Need-loop-smaller invariant-loop decreases-loop
 loop-less c = search rules
 
 loop-again : tie.Need-loop-preserved invariant-loop decreases-loop
-loop-again c = search (numbering-next, rules)
+loop-again c = search (numbering_next, rules)
 
 returns : tie.Need-returns invariant-loop decreases-loop
-returns c = (search numbering-end, search rules)
+returns c = (search numbering_end, search rules)
 
 pub next-number-spec : {M : Type 1} → statement M
 next-number-spec =

@@ -1,6 +1,6 @@
 -- By cases of the place: the first seven are of peer 2, the next seven of peer 3, then maintenance and Quit.
 use borrow.Author.Rules.{rules}
-use Rattle.endings.proofs.Events.{of_two, of_three, at-14, at-15}
+use Rattle.endings.proofs.Events.{of_two, of_three, at_14, at_15}
 use Rattle.endings.proofs.put_event_at.Statement.{statement}
 use Rattle.endings.proofs.put_event_at.Tie as tie
 
@@ -29,7 +29,7 @@ same-length-3 : tie.Need-same-length-3
 same-length-3 c = search rules
 
 returns-3 : tie.Need-returns-3
-returns-3 c = search at-14
+returns-3 c = search at_14
 
 put-bare-requires-2 : tie.Need-put-bare-requires-2
 put-bare-requires-2 c κs = search rules
@@ -38,7 +38,7 @@ same-length-4 : tie.Need-same-length-4
 same-length-4 c = search rules
 
 returns-4 : tie.Need-returns-4
-returns-4 c = search at-15
+returns-4 c = search at_15
 
 pub put-event-at-spec : {M : Type 1} → statement M
 put-event-at-spec =

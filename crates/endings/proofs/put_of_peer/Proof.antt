@@ -1,6 +1,6 @@
 -- By cases of the place, one law for each of the seven events of a peer.
 use borrow.Author.Rules.{rules}
-use Rattle.endings.proofs.Events.{at-0, at_1, at-2, at-3, at-4, at_5, at-6}
+use Rattle.endings.proofs.Events.{at_0, at_1, at_2, at_3, at_4, at_5, at_6}
 use Rattle.endings.proofs.put_of_peer.Statement.{statement}
 use Rattle.endings.proofs.put_of_peer.Tie as tie
 
@@ -11,7 +11,7 @@ same_length : tie.Need-same-length
 same_length c = search rules
 
 returns : tie.Need-returns
-returns c = search at-0
+returns c = search at_0
 
 put-one-requires : tie.Need-put-one-requires
 put-one-requires c κs = search rules
@@ -29,7 +29,7 @@ same-length-3 : tie.Need-same-length-3
 same-length-3 c = search rules
 
 returns-3 : tie.Need-returns-3
-returns-3 c = search at-2
+returns-3 c = search at_2
 
 put-one-requires-3 : tie.Need-put-one-requires-3
 put-one-requires-3 c κs = search rules
@@ -38,7 +38,7 @@ same-length-4 : tie.Need-same-length-4
 same-length-4 c = search rules
 
 returns-4 : tie.Need-returns-4
-returns-4 c = search at-3
+returns-4 c = search at_3
 
 put-bare-requires-2 : tie.Need-put-bare-requires-2
 put-bare-requires-2 c κs = search rules
@@ -47,7 +47,7 @@ same-length-5 : tie.Need-same-length-5
 same-length-5 c = search rules
 
 returns-5 : tie.Need-returns-5
-returns-5 c = search at-4
+returns-5 c = search at_4
 
 put-bare-requires-3 : tie.Need-put-bare-requires-3
 put-bare-requires-3 c κs = search rules
@@ -65,7 +65,7 @@ same-length-7 : tie.Need-same-length-7
 same-length-7 c = search rules
 
 returns-7 : tie.Need-returns-7
-returns-7 c = search at-6
+returns-7 c = search at_6
 
 pub put-of-peer-spec : {M : Type 1} → statement M
 put-of-peer-spec =

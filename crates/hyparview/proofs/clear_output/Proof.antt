@@ -1,7 +1,7 @@
 -- The first i bytes are the old ones up to `from` and zeroes after them. The measure is what is left.
 use Prim.Native.Nat.{◌-◌}
 use lib.ListN.{length}
-use Rattle.hyparview.proofs.Copies.{Clearing, clear_start, clear_next, clear-end}
+use Rattle.hyparview.proofs.Copies.{Clearing, clear_start, clear_next, clear_end}
 use borrow.Author.Rules.{rules}
 use Rattle.hyparview.proofs.clear_output.Statement.{statement}
 use Rattle.hyparview.proofs.clear_output.Tie as tie
@@ -31,7 +31,7 @@ same_length : tie.Need-same-length invariant-loop decreases-loop
 same_length c = search rules
 
 returns : tie.Need-returns invariant-loop decreases-loop
-returns c = search clear-end
+returns c = search clear_end
 
 pub clear-output-spec : {M : Type 1} → statement M
 clear-output-spec =

@@ -1,7 +1,7 @@
 -- The first i words of both lists are the same. The measure is what is left.
 use Prim.Native.Nat.{◌-◌}
 use lib.ListN.{length}
-use Rattle.hyparview.proofs.Copies.{Copying, copy_start, copy-next, copy-end}
+use Rattle.hyparview.proofs.Copies.{Copying, copy_start, copy_next, copy_end}
 use borrow.Author.Rules.{rules}
 use Rattle.hyparview.proofs.copy_words.Statement.{statement}
 use Rattle.hyparview.proofs.copy_words.Tie as tie
@@ -34,13 +34,13 @@ loop-less : tie.Need-loop-smaller invariant-loop decreases-loop
 loop-less c = search rules
 
 loop-again : tie.Need-loop-preserved invariant-loop decreases-loop
-loop-again c = search copy-next
+loop-again c = search copy_next
 
 same_length : tie.Need-same-length invariant-loop decreases-loop
 same_length c = search rules
 
 returns : tie.Need-returns invariant-loop decreases-loop
-returns c = search copy-end
+returns c = search copy_end
 
 pub copy-words-spec : {M : Type 1} → statement M
 copy-words-spec =

@@ -9,8 +9,8 @@ use Rattle.spec_hyparview.specs.Station.{peers_end}
 use Rattle.hyparview_state.specs.Layout.{words}
 use Rattle.hyparview_rules.specs.Ok.{state_ok}
 use Rattle.hyparview.specs.Taken.{ReadAs}
-use Rattle.hyparview.proofs.Laws.{ended-refused, ended-accepted}
-use Rattle.hyparview.proofs.Opening.{starts, opens, event_handled, recorded, handled-broken, handled-unread}
+use Rattle.hyparview.proofs.Laws.{ended_refused, ended_accepted}
+use Rattle.hyparview.proofs.Opening.{starts, opens, event_handled, recorded, handled_broken, handled_unread}
 use borrow.Author.Rules.{rules}
 use Rattle.hyparview.proofs.handle.Statement.{statement}
 use Rattle.hyparview.proofs.handle.Tie as tie
@@ -83,7 +83,7 @@ same-length-2 : tie.Need-same-length-2
 same-length-2 c = search rules
 
 returns : tie.Need-returns
-returns c = handled-broken _ _ _ _ _ _ c.before.before.before.before.before.before.is_ok.ensures c.before.before.before.before.before.if1.true c.before.before.refuse.ensures
+returns c = handled_broken _ _ _ _ _ _ c.before.before.before.before.before.before.is_ok.ensures c.before.before.before.before.before.if1.true c.before.before.refuse.ensures
 
 read-event-requires : tie.Need-read-event-requires
 read-event-requires c κs = search rules
@@ -136,7 +136,7 @@ returns-2 c =
     let at-copy-words = slice-known5-to-copy-words at-slice-known5 in
     let told = copy-words-to-known-told2 at-copy-words in
     event_handled _ _ _ _ _ _ _ _ _ _ (ok told) (read_as told) (λ i. omega (arith, at-slice-known5.slice-known5.given i)) at-copy-words.copy-words.ensures
-    (ended-refused _ _ _ _ _ _ _ at-if2.if2.taken at-copy-words2.copy-words2.ensures at-refuse3.refuse3.ensures) at-slice-known5.before.before.steps.ensures
+    (ended_refused _ _ _ _ _ _ _ at-if2.if2.taken at-copy-words2.copy-words2.ensures at-refuse3.refuse3.ensures) at-slice-known5.before.before.steps.ensures
 
 clear-output-requires : tie.Need-clear-output-requires
 clear-output-requires c κs = search rules
@@ -153,7 +153,7 @@ returns-3 c =
     let at-read-event = refuse2-to-read-event at-refuse2 in
     let at-if1 = at-read-event.before in
     let at-is-ok = at-if1.before in
-    handled-unread _ _ _ _ _ _ at-is-ok.is_ok.ensures _ _ at-if1.if1.left at-read-event.read_event.ensures (search rules) at-refuse2.refuse2.ensures
+    handled_unread _ _ _ _ _ _ at-is-ok.is_ok.ensures _ _ at-if1.if1.left at-read-event.read_event.ensures (search rules) at-refuse2.refuse2.ensures
 
 same-length-7 : tie.Need-same-length-7
 same-length-7 c = search rules
@@ -169,7 +169,7 @@ returns-4 c =
     let at-copy-words = slice-known5-to-copy-words at-slice-known5 in
     let told = copy-words-to-known-told2 at-copy-words in
     event_handled _ _ _ _ _ _ _ _ _ _ (ok told) (read_as told) (λ i. omega (arith, at-slice-known5.slice-known5.given i)) at-copy-words.copy-words.ensures
-    (ended-accepted _ _ _ _ _ at-if2.if2.false at-clear-output.clear-output.ensures) at-slice-known5.before.before.steps.ensures
+    (ended_accepted _ _ _ _ _ at-if2.if2.false at-clear-output.clear-output.ensures) at-slice-known5.before.before.steps.ensures
 
 pub handle-spec : {M : Type 1} → statement M
 handle-spec =

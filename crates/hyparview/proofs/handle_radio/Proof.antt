@@ -1,5 +1,5 @@
 -- By cases: barred, all draws read, or the first 64 of them.
-use Rattle.hyparview.proofs.Sides.{sixteen, few_draws, cut-draws, cut_length}
+use Rattle.hyparview.proofs.Sides.{sixteen, few_draws, cut_draws, cut_length}
 use borrow.Author.Rules.{rules}
 use Rattle.hyparview.proofs.handle_radio.Statement.{statement}
 use Rattle.hyparview.proofs.handle_radio.Tie as tie
@@ -44,7 +44,7 @@ same-length-6 : tie.Need-same-length-6
 same-length-6 c = search rules
 
 returns-3 : tie.Need-returns-3
-returns-3 c = search cut-draws
+returns-3 c = search cut_draws
 
 pub handle-radio-spec : {M : Type 1} → statement M
 handle-radio-spec =

@@ -1,5 +1,5 @@
 -- By cases: words that keep the rules are packed, so a place below the count is read; one past it, and any other words, give 0.
-use Rattle.hyparview.proofs.Asked.{ok-packed, ok-room, past_last, named, named_none}
+use Rattle.hyparview.proofs.Asked.{ok_packed, ok_room, past_last, named, named_none}
 use Rattle.base_util.specs.Section.{part}
 use Rattle.hyparview_state.proofs.Access.{of_packed}
 use Rattle.hyparview_state.specs.Unpack.{unpack, station_of}
@@ -17,11 +17,11 @@ part-count-start : tie.Need-slice-bounds-count-start
 part-count-start c = search rules
 
 part-count-end : tie.Need-slice-bounds-count-end
-part-count-end c = search (ok-room, rules)
+part-count-end c = search (ok_room, rules)
 
 count-requires : tie.Need-count-requires
 unfolding part
-count-requires c κs = search (of_packed, ok-packed, rules)
+count-requires c κs = search (of_packed, ok_packed, rules)
 
 sub-get-index : tie.Need-overflow-sub-get-index
 sub-get-index c = search rules
@@ -30,11 +30,11 @@ part-get-index-start : tie.Need-slice-bounds-get-index-start
 part-get-index-start c = search rules
 
 part-get-index-end : tie.Need-slice-bounds-get-index-end
-part-get-index-end c = search (ok-room, rules)
+part-get-index-end c = search (ok_room, rules)
 
 get-index-requires : tie.Need-get-index-requires
 unfolding part
-get-index-requires c κs = (search (of_packed, ok-packed, rules), search rules)
+get-index-requires c κs = (search (of_packed, ok_packed, rules), search rules)
 
 returns : tie.Need-returns
 unfolding unpack station_of part

@@ -1,5 +1,5 @@
 -- By cases: words that keep the rules are packed, so the section's count is the passive view's length; any others have none.
-use Rattle.hyparview.proofs.Asked.{ok-room, ok-packed, spares, spares-none}
+use Rattle.hyparview.proofs.Asked.{ok_room, ok_packed, spares, spares_none}
 use Rattle.base_util.specs.Section.{part}
 use Rattle.hyparview_state.proofs.Access.{of_packed}
 use borrow.Author.Rules.{rules}
@@ -16,18 +16,18 @@ part-count-start : tie.Need-slice-bounds-count-start
 part-count-start c = search rules
 
 part-count-end : tie.Need-slice-bounds-count-end
-part-count-end c = search (ok-room, rules)
+part-count-end c = search (ok_room, rules)
 
 count-requires : tie.Need-count-requires
 unfolding part
-count-requires c κs = search (of_packed, ok-packed, rules)
+count-requires c κs = search (of_packed, ok_packed, rules)
 
 returns : tie.Need-returns
 unfolding part
 returns c = search spares
 
 returns-2 : tie.Need-returns-2
-returns-2 c = search spares-none
+returns-2 c = search spares_none
 
 pub spare-addresses-spec : {M : Type 1} → statement M
 spare-addresses-spec =

@@ -50,7 +50,7 @@ own-to-start c = c.before.before.before.before.before.before.before.before.befor
 returns : tie.Need-returns
 returns c =
     let own = to-own c in
-    packed_is _ (λ i. omega (arith, own.shared-slice-known9.given i)) (own-to-start own).pre _ _ c.before.before.before.row-valid.ensures c.sections-valid.ensures
+    packed_is _ (λ i. omega (arith, own.shared-slice-known9.given i)) (own-to-start own).pre _ _ c.before.before.before.row_valid.ensures c.sections-valid.ensures
 
 pub is-packed-spec : {M : Type 1} → statement M
 is-packed-spec =

@@ -4,7 +4,7 @@ use lib.ListN.{length}
 use Rattle.base_lists.proofs.Rest.{Rest}
 use Rattle.base_columns.specs.Columns.{numbers_at}
 use Rattle.base_peer.specs.Maps.{numbers_under}
-use Rattle.hyparview_rules.proofs.Under.{Below, below-start, below_next, below_end}
+use Rattle.hyparview_rules.proofs.Under.{Below, below_start, below_next, below_end}
 use borrow.Author.Rules.{rules}
 use Rattle.hyparview_rules.proofs.numbers_under.Statement.{statement}
 use Rattle.hyparview_rules.proofs.numbers_under.Tie as tie
@@ -28,7 +28,7 @@ add-last : tie.Need-overflow-add-last invariant-loop decreases-loop
 add-last c = search rules
 
 loop-holds : tie.Need-loop-init invariant-loop decreases-loop
-loop-holds c = search below-start
+loop-holds c = search below_start
 
 mul_ok : tie.Need-overflow-mul-ok invariant-loop decreases-loop
 mul_ok c = search rules

@@ -1,6 +1,6 @@
--- Counts of packed words are within their places, so the parts lent are the lists, and the comparison is the definition's, by `pins-are`.
+-- Counts of packed words are within their places, so the parts lent are the lists, and the comparison is the definition's, by `pins_are`.
 use Rattle.base_util.specs.Section.{part}
-use Rattle.hyparview_rules.proofs.Held.{few-pinned, few_active, pins-are}
+use Rattle.hyparview_rules.proofs.Held.{few_pinned, few_active, pins_are}
 use borrow.Author.Rules.{rules}
 use Rattle.hyparview_rules.proofs.pins_rule.Statement.{statement}
 use Rattle.hyparview_rules.proofs.pins_rule.Tie as tie
@@ -9,7 +9,7 @@ shared-slice-read-n : tie.Need-shared-slice-read-n
 shared-slice-read-n c = search rules
 
 add-pins : tie.Need-overflow-add-pins
-add-pins c = let few = few-pinned _ c.before.before.requires.1 in search rules
+add-pins c = let few = few_pinned _ c.before.before.requires.1 in search rules
 
 shared-slice-read-active : tie.Need-shared-slice-read-active
 shared-slice-read-active c = search rules
@@ -24,7 +24,7 @@ part-subset-start : tie.Need-slice-bounds-subset-start
 part-subset-start c = search rules
 
 part-subset-end : tie.Need-slice-bounds-subset-end
-part-subset-end c = let few = few-pinned _ c.before.before.before.requires.1 in search rules
+part-subset-end c = let few = few_pinned _ c.before.before.before.requires.1 in search rules
 
 sub-subset-2 : tie.Need-overflow-sub-subset-2
 sub-subset-2 c = search rules
@@ -43,7 +43,7 @@ shared-slice-read-result c = search rules
 
 returns : tie.Need-returns
 unfolding part
-returns c = search pins-are
+returns c = search pins_are
 
 pub pins-rule-spec : {M : Type 1} → statement M
 pins-rule-spec =

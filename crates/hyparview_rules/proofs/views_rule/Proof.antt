@@ -1,7 +1,7 @@
 -- Counts of packed words are within their places, so the parts lent are the lists, and the five tests are the three rules.
 use Rattle.base_util.specs.Section.{part}
-use Rattle.hyparview_rules.proofs.Shape.{ok-active, ok-passive, ok-requests, ok-peer-data}
-use Rattle.hyparview_rules.proofs.Held.{few_active, few_passive, few-alive, views-are}
+use Rattle.hyparview_rules.proofs.Shape.{ok_active, ok_passive, ok_requests, ok_peer_data}
+use Rattle.hyparview_rules.proofs.Held.{few_active, few_passive, few_alive, views_are}
 use borrow.Author.Rules.{rules}
 use Rattle.hyparview_rules.proofs.views_rule.Statement.{statement}
 use Rattle.hyparview_rules.proofs.views_rule.Tie as tie
@@ -32,7 +32,7 @@ shared-slice-read-alive : tie.Need-shared-slice-read-alive
 shared-slice-read-alive c = search rules
 
 add-alive : tie.Need-overflow-add-alive
-add-alive c = let few = few-alive _ c.before.before.before.before.before.requires.1 in search rules
+add-alive c = let few = few_alive _ c.before.before.before.before.before.requires.1 in search rules
 
 sub-disjoint : tie.Need-overflow-sub-disjoint
 sub-disjoint c = search rules
@@ -88,7 +88,7 @@ part-subset-start c = search rules
 part-subset-end : tie.Need-slice-bounds-subset-end
 part-subset-end c =
     let packed = (disjoint-to-start c.before.before.before.before).requires.1 in
-    let few = few-alive _ packed in
+    let few = few_alive _ packed in
     let others = few_passive _ packed in
     search rules
 
@@ -144,14 +144,14 @@ data-known-requires : tie.Need-data-known-requires
 unfolding part
 data-known-requires c κs =
     let packed = (disjoint-to-start (subset-to-disjoint c.before.before.before.before)).requires.1 in
-    (ok-peer-data _ packed, (ok-active _ packed, (ok-passive _ packed, ok-requests _ packed)))
+    (ok_peer_data _ packed, (ok_active _ packed, (ok_passive _ packed, ok_requests _ packed)))
 
 returns : tie.Need-returns
 unfolding part
 returns c =
     let inside = c.before.before.before.before.before in
     let apart = subset-to-disjoint inside in
-    views-are _ (disjoint-to-start apart).pre.1 _ _ _ _ _ apart.disjoint.ensures inside.before.before.before.before.before.is_in.ensures inside.before.before.before.is-in2.ensures inside.subset.ensures c.data-known.ensures
+    views_are _ (disjoint-to-start apart).pre.1 _ _ _ _ _ apart.disjoint.ensures inside.before.before.before.before.before.is_in.ensures inside.before.before.before.is-in2.ensures inside.subset.ensures c.data-known.ensures
 
 pub views-rule-spec : {M : Type 1} → statement M
 views-rule-spec =

@@ -3,14 +3,14 @@ use Rattle.base_util.specs.Section.{part}
 use Rattle.spec_hyparview.specs.Messages.{drop_join}
 use Rattle.hyparview_state.specs.Unpack.{unpack, station_of}
 use Rattle.hyparview_state.proofs.Access.{of_packed}
-use Rattle.hyparview_state.proofs.Bridge.{on-passed, on-done}
+use Rattle.hyparview_state.proofs.Bridge.{on_passed, on_done}
 use Rattle.hyparview_state.proofs.Fields.{put_joins}
 use borrow.Author.Rules.{rules}
 use Rattle.hyparview_state.proofs.drop_join.Statement.{statement}
 use Rattle.hyparview_state.proofs.drop_join.Tie as tie
 
 returns : tie.Need-returns
-returns c = search on-passed
+returns c = search on_passed
 
 sub-remove-number : tie.Need-overflow-sub-remove-number
 sub-remove-number c = search rules
@@ -30,7 +30,7 @@ same_length c = search rules
 
 returns-2 : tie.Need-returns-2
 unfolding drop_join unpack station_of part
-returns-2 c = on-done _ (search rules) _ _ (search rules) (put_joins c.before.before.remove-number.ensures)
+returns-2 c = on_done _ (search rules) _ _ (search rules) (put_joins c.before.before.remove-number.ensures)
 
 pub drop-join-spec : {M : Type 1} → statement M
 drop-join-spec =

@@ -1,7 +1,7 @@
 -- The section's count is the active view's length, and a capacity of packed words is at most 8, so the sum fits.
 use native.Mathlib.Omega.{arith}
 use Rattle.hyparview_state.proofs.Counts.{short}
-use Rattle.hyparview_state.proofs.Access.{of-capacity}
+use Rattle.hyparview_state.proofs.Access.{of_capacity}
 use borrow.Author.Rules.{rules}
 use Rattle.hyparview_state.proofs.is_short.Statement.{statement}
 use Rattle.hyparview_state.proofs.is_short.Tie as tie
@@ -13,7 +13,7 @@ shared-slice-read-result-2 : tie.Need-shared-slice-read-result-2
 shared-slice-read-result-2 c = search rules
 
 add-result : tie.Need-overflow-add-result
-add-result c = record { fits = omega (arith, of-capacity _ c.before.before.requires.1) }
+add-result c = record { fits = omega (arith, of_capacity _ c.before.before.requires.1) }
 
 returns : tie.Need-returns
 returns c = search short

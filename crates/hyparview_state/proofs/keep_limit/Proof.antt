@@ -1,5 +1,5 @@
 -- By cases of the three limits: the two words written are read back as that limit, and all else stays.
-use Rattle.hyparview_state.proofs.Limits.{kept-automatic, kept-requests, kept-recovery}
+use Rattle.hyparview_state.proofs.Limits.{kept_automatic, kept_requests, kept_recovery}
 use borrow.Author.Rules.{rules}
 use Rattle.hyparview_state.proofs.keep_limit.Statement.{statement}
 use Rattle.hyparview_state.proofs.keep_limit.Tie as tie
@@ -35,19 +35,19 @@ same_length : tie.Need-same-length
 same_length c = search rules
 
 returns : tie.Need-returns
-returns c = search kept-automatic
+returns c = search kept_automatic
 
 same-length-2 : tie.Need-same-length-2
 same-length-2 c = search rules
 
 returns-2 : tie.Need-returns-2
-returns-2 c = search kept-requests
+returns-2 c = search kept_requests
 
 same-length-3 : tie.Need-same-length-3
 same-length-3 c = search rules
 
 returns-3 : tie.Need-returns-3
-returns-3 c = search kept-recovery
+returns-3 c = search kept_recovery
 
 pub keep-limit-spec : {M : Type 1} → statement M
 keep-limit-spec =

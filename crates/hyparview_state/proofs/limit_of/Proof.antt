@@ -1,5 +1,5 @@
 -- By cases of the word of the kind: the two words are read as one of the three limits.
-use Rattle.hyparview_state.proofs.Memory.{limit-automatic, limit-requests, limit-recovery}
+use Rattle.hyparview_state.proofs.Memory.{limit_automatic, limit_requests, limit_recovery}
 use borrow.Author.Rules.{rules}
 use Rattle.hyparview_state.proofs.limit_of.Statement.{statement}
 use Rattle.hyparview_state.proofs.limit_of.Tie as tie
@@ -8,7 +8,7 @@ shared-slice-read-if1 : tie.Need-shared-slice-read-if1
 shared-slice-read-if1 c = search rules
 
 returns : tie.Need-returns
-returns c = search limit-automatic
+returns c = search limit_automatic
 
 shared-slice-read-if2 : tie.Need-shared-slice-read-if2
 shared-slice-read-if2 c = search rules
@@ -17,10 +17,10 @@ shared-slice-read-t7 : tie.Need-shared-slice-read-t7
 shared-slice-read-t7 c = search rules
 
 returns-2 : tie.Need-returns-2
-returns-2 c = search limit-requests
+returns-2 c = search limit_requests
 
 returns-3 : tie.Need-returns-3
-returns-3 c = search limit-recovery
+returns-3 c = search limit_recovery
 
 pub limit-of-spec : {M : Type 1} → statement M
 limit-of-spec =

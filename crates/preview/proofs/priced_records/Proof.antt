@@ -2,7 +2,7 @@
 use native.Mathlib.Omega.{arith}
 use borrow.Author.Rules.{rules}
 use lib.ListN.{length}
-use Rattle.preview.proofs.Laws.{Counting, counting_start, counting-few, counting-none, counting-last, counting-next}
+use Rattle.preview.proofs.Laws.{Counting, counting_start, counting_few, counting_none, counting_last, counting_next}
 use Rattle.preview.proofs.priced_records.Statement.{statement}
 use Rattle.preview.proofs.priced_records.Tie as tie
 
@@ -22,7 +22,7 @@ cast-n : tie.Need-overflow-cast-n invariant-loop decreases-loop
 cast-n c = search rules
 
 returns : tie.Need-returns invariant-loop decreases-loop
-returns c = search counting-none
+returns c = search counting_none
 
 add-message-requires : tie.Need-add-message-requires invariant-loop decreases-loop
 add-message-requires c κs = search rules
@@ -31,7 +31,7 @@ add-bytes : tie.Need-overflow-add-bytes invariant-loop decreases-loop
 add-bytes c = search rules
 
 returns-2 : tie.Need-returns-2 invariant-loop decreases-loop
-returns-2 c = search counting-last
+returns-2 c = search counting_last
 
 sub-rest : tie.Need-overflow-sub-rest invariant-loop decreases-loop
 sub-rest c = search rules
@@ -46,10 +46,10 @@ loop-less : tie.Need-loop-smaller invariant-loop decreases-loop
 loop-less c = search rules
 
 loop-again : tie.Need-loop-preserved invariant-loop decreases-loop
-loop-again c = search counting-next
+loop-again c = search counting_next
 
 returns-3 : tie.Need-returns-3 invariant-loop decreases-loop
-returns-3 c = search counting-few
+returns-3 c = search counting_few
 
 pub priced-records-spec : {M : Type 1} → statement M
 priced-records-spec =

@@ -1,5 +1,5 @@
 -- The definition's tests of kind, flags, nodes, peer and other fields, each known from the calls' answers, and then joined.
-use Rattle.record.proofs.Laws.{kind-known, flags-known, count-known, peer-known, fields-known, header-known}
+use Rattle.record.proofs.Laws.{kind_known, flags_known, count_known, peer_known, fields_known, header_known}
 use borrow.Author.Rules.{rules}
 use Rattle.record.proofs.header_ok.Statement.{statement}
 use Rattle.record.proofs.header_ok.Tie as tie
@@ -69,12 +69,12 @@ returns c =
     let neighbor = flags.before.before.before.before.before.before.is_message.ensures in
     let forward = some.before.before.before.before.is-message3.ensures in
     let shuffle = some.before.before.before.is-message4.ensures in
-    header-known _ _ _ _ _ _
-    (kind-known _ _ _ kind.before.before.before.before.fixed_size.ensures kind.select.ensures)
-    (flags-known _ _ _ _ _ neighbor flags.before.before.before.before.before.is-message2.ensures flags.before.before.select2.ensures flags.select3.ensures)
-    (count-known _ _ _ _ _ _ _ _ _ some.before.before.is-message5.ensures forward neighbor some.before.is_data.ensures shuffle some.is-message6.ensures count.before.before.select4.ensures count.select5.ensures)
-    (peer-known _)
-    (fields-known _ _ _ _ shuffle timer.is_timer.ensures forward)
+    header_known _ _ _ _ _ _
+    (kind_known _ _ _ kind.before.before.before.before.fixed_size.ensures kind.select.ensures)
+    (flags_known _ _ _ _ _ neighbor flags.before.before.before.before.before.is-message2.ensures flags.before.before.select2.ensures flags.select3.ensures)
+    (count_known _ _ _ _ _ _ _ _ _ some.before.before.is-message5.ensures forward neighbor some.before.is_data.ensures shuffle some.is-message6.ensures count.before.before.select4.ensures count.select5.ensures)
+    (peer_known _)
+    (fields_known _ _ _ _ shuffle timer.is_timer.ensures forward)
 
 pub header-ok-spec : {M : Type 1} → statement M
 header-ok-spec =

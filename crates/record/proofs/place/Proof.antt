@@ -4,7 +4,7 @@ use mathlib.Core.Path.{refl}
 use native.Mathlib.Nat.{mul-le-mul}
 use native.Mathlib.Omega.{arith}
 use Rattle.record.specs.Format.{IsForm, node_length_by, place_by}
-use Rattle.record.proofs.Laws.{form_most, twice-fits, header-fits, node-fits}
+use Rattle.record.proofs.Laws.{form_most, twice_fits, header_fits, node_fits}
 use borrow.Author.Rules.{rules}
 use Rattle.record.proofs.place.Statement.{statement}
 use Rattle.record.proofs.place.Tie as tie
@@ -24,13 +24,13 @@ module _ (w i : ℕ) (f : IsForm w) (l : i ≤ 255) where
   sum = omega (arith, most)
 
 mul-result : tie.Need-overflow-mul-result
-mul-result c = record { fits = twice-fits _ (search rules) }
+mul-result c = record { fits = twice_fits _ (search rules) }
 
 add-result : tie.Need-overflow-add-result
-add-result c = record { fits = header-fits _ (search rules) }
+add-result c = record { fits = header_fits _ (search rules) }
 
 add-result-2 : tie.Need-overflow-add-result-2
-add-result-2 c = record { fits = node-fits _ (search rules) }
+add-result-2 c = record { fits = node_fits _ (search rules) }
 
 mul-result-2 : tie.Need-overflow-mul-result-2
 mul-result-2 c = record { fits = product _ _ (search rules) (search rules) }

@@ -6,13 +6,13 @@ use mathlib.Core.List.{List}
 use lib.ListN.{length}
 use Rattle.record.specs.Format.{peer_length, header_length}
 use Rattle.record.specs.Read.{well_formed}
-use Rattle.record.proofs.Laws.{well-formed-long, answer_record, answer_malformed}
+use Rattle.record.proofs.Laws.{well_formed_long, answer_record, answer_malformed}
 use borrow.Author.Rules.{rules}
 use Rattle.record.proofs.read.Statement.{statement}
 use Rattle.record.proofs.read.Tie as tie
 
 long : (b : List ℕ) (t : Bool) → t ≡ well_formed b → t ≡ true → header_length ≤ length b
-long b t p q = well-formed-long peer_length b (sym p ∙ q)
+long b t p q = well_formed_long peer_length b (sym p ∙ q)
 
 well-formed-requires : tie.Need-well-formed-requires
 well-formed-requires c κs = search rules

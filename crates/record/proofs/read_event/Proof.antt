@@ -1,17 +1,17 @@
 -- By cases in the order of the refusals: too short, too many nodes, an event's record, or malformed.
-use Rattle.record.proofs.Laws.{event-short, event-crowded, event-record, event-refused}
+use Rattle.record.proofs.Laws.{event_short, event_crowded, event_record, event_refused}
 use borrow.Author.Rules.{rules}
 use Rattle.record.proofs.read_event.Statement.{statement}
 use Rattle.record.proofs.read_event.Tie as tie
 
 returns : tie.Need-returns
-returns c = search event-short
+returns c = search event_short
 
 shared-slice-read-if2 : tie.Need-shared-slice-read-if2
 shared-slice-read-if2 c = search rules
 
 returns-2 : tie.Need-returns-2
-returns-2 c = event-crowded _ (search rules) (search rules)
+returns-2 c = event_crowded _ (search rules) (search rules)
 
 read-header-requires : tie.Need-read-header-requires
 read-header-requires c κs = search rules
@@ -26,10 +26,10 @@ well-formed-requires : tie.Need-well-formed-requires
 well-formed-requires c κs = search rules
 
 returns-3 : tie.Need-returns-3
-returns-3 c = search event-record
+returns-3 c = search event_record
 
 returns-4 : tie.Need-returns-4
-returns-4 c = search event-refused
+returns-4 c = search event_refused
 
 pub read-event-spec : {M : Type 1} → statement M
 read-event-spec =

@@ -16,7 +16,7 @@ use Rattle.record.specs.Format.{header_length_by, node_length_by, place_by}
 use Rattle.record.specs.Read.{header_of_by, header_ok, is_message, is_data, entry_from, entry_at_by, entry_ok, entries_ok_by, well_formed_by}
 use Rattle.record.specs.declared.Header.{Header}
 use Rattle.record.specs.declared.Entry.{Entry}
-use Rattle.record.proofs.Laws.{entries-short, entry_known}
+use Rattle.record.proofs.Laws.{entries_short, entry_known}
 use Rattle.record.proofs.well_formed.Statement.{statement}
 use Rattle.record.proofs.well_formed.Tie as tie
 
@@ -52,7 +52,7 @@ module _ (w : ℕ) (b : List ℕ) (h : Header) (r : Bool) (at : ℕ) (l : header
   whole = rw (q, e, p, le-leb _ _ l)
 
   unsound : (r && (eqb h.size (length b) && leb at (length b))) ≡ false → false ≡ well_formed_by w b
-  unsound z = instead r (eqb h.size (length b)) (leb at (length b)) (entries_ok_by w h b 0 h.nodes at) (λ n. entries-short w h b 0 h.nodes at (leb-false _ _ n)) z ∙ sym whole
+  unsound z = instead r (eqb h.size (length b)) (leb at (length b)) (entries_ok_by w h b 0 h.nodes at) (λ n. entries_short w h b 0 h.nodes at (leb-false _ _ n)) z ∙ sym whole
 
   start : (d j m : Bool) → at ≤ 3092 → h.nodes ≤ 255 → d ≡ is_data h → j ≡ is_message 0 h → m ≡ is_message 4 h
       → (r && (eqb h.size (length b) && leb at (length b))) ≡ true → Inv w b d (j || (m || d)) h.nodes at 0

@@ -1,6 +1,6 @@
 -- By cases in the order of the refusals: too short, too many nodes, a record of the form, and otherwise malformed.
 use mathlib.Core.Path.{sym, ◌∙◌}
-use Rattle.record_convert.proofs.Laws.{short-answer, crowded-answer, bad-answer, tested}
+use Rattle.record_convert.proofs.Laws.{short_answer, crowded_answer, bad_answer, tested}
 use borrow.Author.Rules.{rules}
 use Rattle.record_convert.proofs.answer.Statement.{statement}
 use Rattle.record_convert.proofs.answer.Tie as tie
@@ -9,13 +9,13 @@ place-requires : tie.Need-place-requires
 place-requires c κs = search rules
 
 returns : tie.Need-returns
-returns c = short-answer _ _ _ _ _ c.before.place.ensures.0 c.if1.true
+returns c = short_answer _ _ _ _ _ c.before.place.ensures.0 c.if1.true
 
 shared-slice-read-if2 : tie.Need-shared-slice-read-if2
 shared-slice-read-if2 c = search rules
 
 returns-2 : tie.Need-returns-2
-returns-2 c = crowded-answer _ _ _ _ _ c.before.before.before.place.ensures.0 c.before.before.if1.false c.if2.true
+returns-2 c = crowded_answer _ _ _ _ _ c.before.before.before.place.ensures.0 c.before.before.if1.false c.if2.true
 
 well-formed-requires : tie.Need-well-formed-requires
 well-formed-requires c κs = search rules
@@ -37,7 +37,7 @@ returns-3 c = search rules
 returns-4 : tie.Need-returns-4
 returns-4 c =
     let at-well = c.before.before.before in
-    bad-answer _ _ _ _ _ at-well.before.before.before.before.place.ensures.0 at-well.before.before.before.if1.false at-well.before.if2.false
+    bad_answer _ _ _ _ _ at-well.before.before.before.before.place.ensures.0 at-well.before.before.before.if1.false at-well.before.if2.false
     (sym (tested _ _ _ _ at-well.well-formed-2.ensures c.before.kind_in_form.ensures) ∙ c.if3.false)
 
 pub answer-spec : {M : Type 1} → statement M

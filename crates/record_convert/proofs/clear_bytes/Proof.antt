@@ -7,8 +7,8 @@ use native.Mathlib.Omega.{arith}
 use lib.ListN.{length, set}
 use lib.Seq.{ext_get_or}
 use Rattle.base_lists.specs.Array.{pad}
-use Rattle.base_lists.proofs.Array.{length-pad, getD-pad}
-use Rattle.base_lists.proofs.Front.{Front, front_start, front-step}
+use Rattle.base_lists.proofs.Array.{length_pad, getD_pad}
+use Rattle.base_lists.proofs.Front.{Front, front_start, front_step}
 use borrow.Author.Rules.{rules}
 use Rattle.record_convert.proofs.clear_bytes.Statement.{statement}
 use Rattle.record_convert.proofs.clear_bytes.Tie as tie
@@ -24,10 +24,10 @@ module _ (out₀ out : List ℕ) (i : ℕ) (v : Front 0 (length out₀) (zeroes 
   less h = omega (arith, v.long)
 
   next : i < length out → Front 0 (length out₀) (zeroes out₀) out₀ (set out i 0) (i + 1)
-  next h = front-step v 0 (omega (arith, v.long)) (sym (getD-pad 0 (length out₀) [] i (omega arith)))
+  next h = front_step v 0 (omega (arith, v.long)) (sym (getD_pad 0 (length out₀) [] i (omega arith)))
 
   end : length out ≤ i → out ≡ zeroes out₀
-  end h = ext_get_or 0 out (zeroes out₀) (v.long ∙ sym (length-pad 0 (length out₀) [])) (λ j p. v.done j (omega arith))
+  end h = ext_get_or 0 out (zeroes out₀) (v.long ∙ sym (length_pad 0 (length out₀) [])) (λ j p. v.done j (omega arith))
 
 abbrev invariant-loop : tie.invariant-loop
 invariant-loop out₀ i₀ out i = Front 0 (length out₀) (zeroes out₀) out₀ out i

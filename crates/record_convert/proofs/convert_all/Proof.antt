@@ -5,9 +5,9 @@ use mathlib.Core.List.{List, []}
 use native.Mathlib.Omega.{arith}
 use lib.ListN.{length}
 use Rattle.base_lists.specs.Array.{pad}
-use Rattle.base_lists.proofs.Array.{length-pad}
+use Rattle.base_lists.proofs.Array.{length_pad}
 use Rattle.record_convert.specs.Walk.{walked, Outcomes, outcomes}
-use Rattle.record_convert.proofs.Walk.{Walking, walking_start, walking-len, walking-end, walking-top, walking-stop, walking-less, walking-next}
+use Rattle.record_convert.proofs.Walk.{Walking, walking_start, walking_len, walking_end, walking_top, walking_stop, walking_less, walking_next}
 use borrow.Author.Rules.{rules}
 use Rattle.record_convert.proofs.convert_all.Statement.{statement}
 use Rattle.record_convert.proofs.convert_all.Tie as tie
@@ -19,11 +19,11 @@ record Inv (v w : ℕ) (b : List ℕ) (room : ℕ) (out : List ℕ) (from to : �
   at : Walking v w b room out from to
 
 inv : (v w : ℕ) (b : List ℕ) (room : ℕ) (out : List ℕ) (from to : ℕ) → Walking v w b room out from to → Inv v w b room out from to
-inv v w b room out from to u = record { low = u.low; top = u.top; len = walking-len v w b room out from to u; at = u }
+inv v w b room out from to u = record { low = u.low; top = u.top; len = walking_len v w b room out from to u; at = u }
 
 start : (v w : ℕ) (b : List ℕ) (n : ℕ) (out : List ℕ) → out ≡ pad 0 n [] → Inv v w b (length out) out 0 0
 start v w b n out e =
-    let l : length out ≡ n = ap length e ∙ length-pad {A = ℕ} 0 n [] in
+    let l : length out ≡ n = ap length e ∙ length_pad {A = ℕ} 0 n [] in
     inv v w b (length out) out 0 0 (walking_start v w b (length out) out (e ∙ rw l))
 
 same-room : (v w : ℕ) (b : List ℕ) (n m : ℕ) (x : Outcomes) → n ≡ m → x ≡ outcomes (walked v w b n) n → x ≡ outcomes (walked v w b m) m
@@ -96,7 +96,7 @@ returns c =
     let at-first-length = place-record-to-first-length at-place-record in
     let at-loop-test = first-length-to-in-loop at-first-length in
     let at-loop = at-loop-test.before in
-    (same-room _ _ _ _ _ _ (search rules) (walking-stop _ _ _ _ _ _ _ at-loop.loop.inv.at at-loop-test.loop-test.taken _ at-first-length.first-length.ensures.0 _ _ _ at-place-record.place-record.ensures c.if1.true), (search rules, search rules))
+    (same-room _ _ _ _ _ _ (search rules) (walking_stop _ _ _ _ _ _ _ at-loop.loop.inv.at at-loop-test.loop-test.taken _ at-first-length.first-length.ensures.0 _ _ _ at-place-record.place-record.ensures c.if1.true), (search rules, search rules))
 
 add-to : tie.Need-overflow-add-to invariant-loop decreases-loop
 add-to c =
@@ -106,7 +106,7 @@ add-to c =
     let at-place-record = struct-known2-to-place-record c in
     let at-loop-test = first-length-to-in-loop at-first-length in
     let at-loop = at-loop-test.before in
-    walking-top _ _ _ _ _ _ _ at-loop.loop.inv.at at-loop-test.loop-test.taken _ at-first-length.first-length.ensures.0 _ _ _ at-place-record.place-record.ensures in
+    walking_top _ _ _ _ _ _ _ at-loop.loop.inv.at at-loop-test.loop-test.taken _ at-first-length.first-length.ensures.0 _ _ _ at-place-record.place-record.ensures in
     record { fits = omega (arith, top, long) }
 
 loop-less : tie.Need-loop-smaller invariant-loop decreases-loop
@@ -115,7 +115,7 @@ loop-less c =
     let at-first-length = place-record-to-first-length at-place-record in
     let at-loop-test = first-length-to-in-loop at-first-length in
     let at-loop = at-loop-test.before in
-    walking-less _ _ _ _ _ _ _ at-loop.loop.inv.at at-loop-test.loop-test.taken _ at-first-length.first-length.ensures.0 _ _ _ at-place-record.place-record.ensures (search rules)
+    walking_less _ _ _ _ _ _ _ at-loop.loop.inv.at at-loop-test.loop-test.taken _ at-first-length.first-length.ensures.0 _ _ _ at-place-record.place-record.ensures (search rules)
 
 loop-again : tie.Need-loop-preserved invariant-loop decreases-loop
 loop-again c =
@@ -123,13 +123,13 @@ loop-again c =
     let at-first-length = place-record-to-first-length at-place-record in
     let at-loop-test = first-length-to-in-loop at-first-length in
     let at-loop = at-loop-test.before in
-    inv _ _ _ _ _ _ _ (walking-next _ _ _ _ _ _ _ at-loop.loop.inv.at at-loop-test.loop-test.taken _ at-first-length.first-length.ensures.0 _ _ _ at-place-record.place-record.ensures (search rules) at-first-length.first-length.ensures.1)
+    inv _ _ _ _ _ _ _ (walking_next _ _ _ _ _ _ _ at-loop.loop.inv.at at-loop-test.loop-test.taken _ at-first-length.first-length.ensures.0 _ _ _ at-place-record.place-record.ensures (search rules) at-first-length.first-length.ensures.1)
 
 same-length-2 : tie.Need-same-length-2 invariant-loop decreases-loop
 same-length-2 c = search rules
 
 returns-2 : tie.Need-returns-2 invariant-loop decreases-loop
-returns-2 c = (same-room _ _ _ _ _ _ (search rules) (walking-end _ _ _ _ _ _ _ c.before.loop.invariant.at c.loop-test.false), (search rules, search rules))
+returns-2 c = (same-room _ _ _ _ _ _ (search rules) (walking_end _ _ _ _ _ _ _ c.before.loop.invariant.at c.loop-test.false), (search rules, search rules))
 
 pub convert-all-spec : {M : Type 1} → statement M
 convert-all-spec =

@@ -8,7 +8,7 @@ use Rattle.record.specs.Format.{place_by}
 use Rattle.record.specs.Read.{header_of_by}
 use Rattle.record.specs.declared.Header.{Header}
 use Rattle.record_convert.specs.Walk.{first_record}
-use Rattle.record_convert.proofs.Walk.{first_short, first-cut, first-whole}
+use Rattle.record_convert.proofs.Walk.{first_short, first_cut, first_whole}
 use borrow.Author.Rules.{rules}
 use Rattle.record_convert.proofs.first_length.Statement.{statement}
 use Rattle.record_convert.proofs.first_length.Tie as tie
@@ -20,11 +20,11 @@ module _ (v : ℕ) (b : List ℕ) (at : ℕ) (e : at ≡ place_by v 0) where
   module _ (l : at ≤ length b) (h : Header) (q : h ≡ header_of_by v b) where
     cut : length b < h.size → length b ≡ length (first_record v b)
     unfolding header_of_by
-    cut k = ap length (sym (first-cut v b (omega (arith, e)) (omega (arith, ap (λ (x : Header). x.size) q))))
+    cut k = ap length (sym (first_cut v b (omega (arith, e)) (omega (arith, ap (λ (x : Header). x.size) q))))
 
     whole : h.size ≤ length b → h.size ≡ length (first_record v b)
     unfolding header_of_by
-    whole k = ap (λ (x : Header). x.size) q ∙ sym (first-whole v b (omega (arith, e)) (omega (arith, ap (λ (x : Header). x.size) q)))
+    whole k = ap (λ (x : Header). x.size) q ∙ sym (first_whole v b (omega (arith, e)) (omega (arith, ap (λ (x : Header). x.size) q)))
 
 place-requires : tie.Need-place-requires
 place-requires c κs = search rules

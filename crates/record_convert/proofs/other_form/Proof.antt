@@ -6,15 +6,15 @@ use mathlib.Core.List.{List}
 use native.Mathlib.Omega.{arith}
 use lib.ListN.{length}
 use Rattle.record.specs.Format.{header_length_by}
-use Rattle.record.proofs.Laws.{well-formed-long}
+use Rattle.record.proofs.Laws.{well_formed_long}
 use Rattle.record_convert.specs.Convert.{is_record}
-use Rattle.record_convert.proofs.Laws.{well_of, reach, short, full, done, none-such}
+use Rattle.record_convert.proofs.Laws.{well_of, reach, short, full, done, none_such}
 use borrow.Author.Rules.{rules}
 use Rattle.record_convert.proofs.other_form.Statement.{statement}
 use Rattle.record_convert.proofs.other_form.Tie as tie
 
 long : (v : ℕ) (b : List ℕ) → is_record v b ≡ true → header_length_by v ≤ length b
-long v b i = well-formed-long v b (well_of v b i)
+long v b i = well_formed_long v b (well_of v b i)
 
 -- The ways back, from a place to an earlier one.
 abbrev other-size-to-read-header-by : tie.After-other-size → tie.After-read-header-by
@@ -73,7 +73,7 @@ returns-3 c =
     let at-other-size = at-kind.before in
     let at-read-header-by = other-size-to-read-header-by at-other-size in
     let at-shared-slice-known = at-read-header-by.before in
-    none-such _ _ _ (search rules) (λ k. omega (arith, at-shared-slice-known.shared-slice-known.given k)) _ at-read-header-by.read-header-by.ensures _ at-other-size.other-size.ensures _ _ _ _ _ at-kind.kind_in_form.ensures at-fits2.fits2.ensures at-fits3.fits3.ensures c.before.ids_fit.ensures c.if1.false
+    none_such _ _ _ (search rules) (λ k. omega (arith, at-shared-slice-known.shared-slice-known.given k)) _ at-read-header-by.read-header-by.ensures _ at-other-size.other-size.ensures _ _ _ _ _ at-kind.kind_in_form.ensures at-fits2.fits2.ensures at-fits3.fits3.ensures c.before.ids_fit.ensures c.if1.false
 
 pub other-form-spec : {M : Type 1} → statement M
 other-form-spec =

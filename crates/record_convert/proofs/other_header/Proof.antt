@@ -9,7 +9,7 @@ use Rattle.base_lists.proofs.Numbers.{Bytes}
 use Rattle.record.specs.Format.{place_by, size_by}
 use Rattle.record.specs.Read.{header_of_by, well_formed_by, rec_of_by}
 use Rattle.record.specs.declared.Header.{Header}
-use Rattle.record.proofs.Laws.{well-formed-long}
+use Rattle.record.proofs.Laws.{well_formed_long}
 use Rattle.record_convert.specs.Convert.{resized}
 use Rattle.record_convert.proofs.Laws.{reach, short, size_is}
 use borrow.Author.Rules.{rules}
@@ -25,7 +25,7 @@ module _ (v w : ℕ) (b : List ℕ) (t : well_formed_by v b ≡ true) (ok : Byte
   small h size q s l = omega (arith, size_is v w b t ok h q size s)
 
 read-header-by-requires : tie.Need-read-header-by-requires
-read-header-by-requires c κs = (search rules, search well-formed-long)
+read-header-by-requires c κs = (search rules, search well_formed_long)
 
 cast-other-size : tie.Need-overflow-cast-other-size
 cast-other-size c = search rules

@@ -8,7 +8,7 @@ use Rattle.record.specs.Format.{size_by}
 use Rattle.record.specs.Read.{header_of_by, well_formed_by, rec_of_by}
 use Rattle.record.specs.declared.Header.{Header}
 use Rattle.record_convert.specs.Convert.{conversion_code, resized}
-use Rattle.record_convert.proofs.Laws.{Accepted, accepted, size_small, refused-placed, done-placed}
+use Rattle.record_convert.proofs.Laws.{Accepted, accepted, size_small, refused_placed, done_placed}
 use borrow.Author.Rules.{rules}
 use Rattle.record_convert.proofs.place_record.Statement.{statement}
 use Rattle.record_convert.proofs.place_record.Tie as tie
@@ -42,10 +42,10 @@ same_length : tie.Need-same-length
 same_length c = search rules
 
 returns : tie.Need-returns
-returns c = done-placed _ _ _ _ _ c.before.before.before.before.before.before.before.answer.ensures _ _ c.before.before.before.before.before.before.if1.true c.before.before.before.before.before.other-header.ensures c.before.before.before.write-form.ensures
+returns c = done_placed _ _ _ _ _ c.before.before.before.before.before.before.before.answer.ensures _ _ c.before.before.before.before.before.before.if1.true c.before.before.before.before.before.other-header.ensures c.before.before.before.write-form.ensures
 
 returns-2 : tie.Need-returns-2
-returns-2 c = refused-placed _ _ _ _ _ c.before.answer.ensures c.if1.false
+returns-2 c = refused_placed _ _ _ _ _ c.before.answer.ensures c.if1.false
 
 pub place-record-spec : {M : Type 1} → statement M
 place-record-spec = tie.close (tie.spec answer-requires other-header-requires write-form-requires cast-t12 same_length returns returns-2)

@@ -16,7 +16,7 @@ use Rattle.record.specs.declared.Entry.{Entry}
 use Rattle.record.proofs.Format.{length_entry}
 use Rattle.record.proofs.Nodes.{entry_in}
 use Rattle.record_convert.specs.Convert.{entry_fields, moved_entry}
-use Rattle.record_convert.proofs.Laws.{few, length_data, entry-moved}
+use Rattle.record_convert.proofs.Laws.{few, length_data, entry_moved}
 use borrow.Author.Rules.{rules}
 use Rattle.record_convert.proofs.write_entries.Statement.{statement}
 use Rattle.record_convert.proofs.write_entries.Tie as tie
@@ -52,8 +52,8 @@ module _ (v w : ℕ) (b : List ℕ) (n : ℕ) (out₀ out : List ℕ) (reached i
     there : i < (header_of_by v b).nodes
     there = omega (arith, u.count)
 
-    entry-room : place_by v i + node_length_by v ≤ length b
-    entry-room = (entry_in v b u.well i there).room
+    entry_room : place_by v i + node_length_by v ≤ length b
+    entry_room = (entry_in v b u.well i there).room
 
     fits : (p : ℕ) → p ≡ place_by w i → p + node_length_by w ≤ length out
     fits p e = omega (arith, e, u.room, mul-le-mul_left (node_length_by w) l)
@@ -75,7 +75,7 @@ module _ (v w : ℕ) (b : List ℕ) (n : ℕ) (out₀ out : List ℕ) (reached i
       same = λ left f.
           let rest : List ℕ = entries_by w (nodes_of_by v b (suc i) left) (reached + length (bytes_of (node_at_by v b i).data_of)) in
           let one : List ℕ = entry_by w (node_at_by v b i) reached in
-          let wrote : o ≡ overwrite out (place_by w i) one = s ∙ rw (d, k, q) (ap (overwrite out (place_by w i)) (sym (entry-moved v w b u.well i reached there))) in
+          let wrote : o ≡ overwrite out (place_by w i) one = s ∙ rw (d, k, q) (ap (overwrite out (place_by w i)) (sym (entry_moved v w b u.well i reached there))) in
           let place : place_by w (i + 1) ≡ place_by w i + length one = omega (arith, length_entry w (node_at_by v b i) reached) in
           let size : reached + e.len ≡ reached + length (bytes_of (node_at_by v b i).data_of) = omega (arith, length_data v b u.well i there, ap (λ (x : Entry). x.len) q) in
           let step : overwrite o (place_by w (i + 1)) rest ≡ overwrite out (place_by w i) (one ++ rest) = rw (place, wrote) (overwrite_append out (place_by w i) one rest) in
@@ -99,7 +99,7 @@ loop-holds : tie.Need-loop-init invariant-loop decreases-loop
 loop-holds c = start _ _ _ _ _ _ c.place.ensures.0 c.place.ensures.1 (search rules) (search rules) (search rules)
 
 node-by-requires : tie.Need-node-by-requires invariant-loop decreases-loop
-node-by-requires c κs = (search rules, (search rules, search entry-room))
+node-by-requires c κs = (search rules, (search rules, search entry_room))
 
 place-requires-2 : tie.Need-place-requires-2 invariant-loop decreases-loop
 place-requires-2 c κs = search rules

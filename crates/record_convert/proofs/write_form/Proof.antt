@@ -11,7 +11,7 @@ use Rattle.record.specs.Format.{header_length_by, place_by, entries_by, size_by,
 use Rattle.record.specs.Read.{header_of_by, well_formed_by, nodes_of_by, rec_of_by}
 use Rattle.record.specs.declared.Header.{Header}
 use Rattle.record_convert.specs.Convert.{header_fields, resized}
-use Rattle.record_convert.proofs.Laws.{reach, size-other, written}
+use Rattle.record_convert.proofs.Laws.{reach, size_other, written}
 use borrow.Author.Rules.{rules}
 use Rattle.record_convert.proofs.write_form.Statement.{statement}
 use Rattle.record_convert.proofs.write_form.Tie as tie
@@ -21,7 +21,7 @@ nodes_are v w b h d = ap (λ (x : Header). x.nodes) d
 
 module _ (v w : ℕ) (b : List ℕ) (t : well_formed_by v b ≡ true) (ok : Bytes b) (h : Header) (d : h ≡ resized (header_of_by v b) (size_by w (rec_of_by v b))) where
   total : h.size ≡ place_by w h.nodes + (length b - place_by v h.nodes)
-  total = ap (λ (x : Header). x.size) d ∙ size-other v w b t ok ∙ rw (nodes_are v w b h d)
+  total = ap (λ (x : Header). x.size) d ∙ size_other v w b t ok ∙ rw (nodes_are v w b h d)
 
   within : place_by v h.nodes ≤ length b
   within = rw (nodes_are v w b h d) (reach v b t (header_of_by v b) refl)

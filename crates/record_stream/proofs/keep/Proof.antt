@@ -6,7 +6,7 @@ use native.Mathlib.Nat.{not-suc-le-zero}
 use native.Mathlib.Omega.{arith}
 use lib.ListN.{length, get_or, set, take, drop, length-append, length-drop, get_or-append}
 use lib.Seq.{slice, length-slice, get_or-append-add, get_or-take, get_or-drop}
-use Rattle.base_lists.proofs.Front.{Front, front_start, front-step, front-end}
+use Rattle.base_lists.proofs.Front.{Front, front_start, front_step, front_end}
 use borrow.Author.Rules.{rules}
 use Rattle.record_stream.proofs.keep.Statement.{statement}
 use Rattle.record_stream.proofs.keep.Tie as tie
@@ -54,11 +54,11 @@ module _ (l : List ℕ) (from n k : ℕ) (b : List ℕ) (i : ℕ) (u : Inv l fro
   next : i < k → Inv l from n k (set b i (get_or b (from + i) 0)) (i + 1)
   next h =
       let f : Front 0 (length l) (wanted l from n u.first u.last) l (set b i (get_or b (from + i) 0)) (i + 1) =
-      front-step u.front (get_or b (from + i) 0) (omega (arith, u.count, u.first, u.last)) (u.front.left (from + i) (omega arith) ∙ moved l from n u.first u.last i (omega (arith, u.count))) in
+      front_step u.front (get_or b (from + i) 0) (omega (arith, u.count, u.first, u.last)) (u.front.left (from + i) (omega arith) ∙ moved l from n u.first u.last i (omega (arith, u.count))) in
       record { low = omega arith; count = u.count; first = u.first; last = u.last; len = f.long; front = f }
 
   end : k ≤ i → b ≡ slice from n l ++ drop (n - from) l
-  end h = front-end u.front (long l from n u.first u.last) (λ j g. left l from n u.first u.last j (omega (arith, u.count)))
+  end h = front_end u.front (long l from n u.first u.last) (λ j g. left l from n u.first u.last j (omega (arith, u.count)))
 
 abbrev invariant-loop : tie.invariant-loop
 invariant-loop b₀ from n k i₀ b i = Inv b₀ from n k b i

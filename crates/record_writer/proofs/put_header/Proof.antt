@@ -2,7 +2,7 @@
 use Prim.Native.Nat.{◌+◌, ◌≤◌}
 use native.Mathlib.Omega.{arith}
 use lib.ListN.{length}
-use Rattle.record_writer.proofs.Ways.{header_put, headed-past, headed-full, headed}
+use Rattle.record_writer.proofs.Ways.{header_put, headed_past, headed_full, headed}
 use borrow.Author.Rules.{rules}
 use Rattle.record_writer.proofs.put_header.Statement.{statement}
 use Rattle.record_writer.proofs.put_header.Tie as tie
@@ -38,13 +38,13 @@ room : (c : tie.Else2) → (else2-to-start c).args.at + (else2-to-start c).args.
 room c = omega (arith, c.if2.false, c.before.if1.false)
 
 returns : tie.Need-returns
-returns c = search headed-past
+returns c = search headed_past
 
 sub-if2 : tie.Need-overflow-sub-if2
 sub-if2 c = search rules
 
 returns-2 : tie.Need-returns-2
-returns-2 c = search headed-full
+returns-2 c = search headed_full
 
 slice-aggregate-write-bytes : tie.Need-slice-aggregate-write-bytes
 slice-aggregate-write-bytes c = search rules

@@ -1,6 +1,6 @@
 -- By cases on the mark: with data, offset, length and bytes are written and fit by the contract; without, zeroes.
 use native.Mathlib.Omega.{arith}
-use Rattle.record_writer.proofs.Laws.{length-places, exact, node_put, node-absent}
+use Rattle.record_writer.proofs.Laws.{length_places, exact, node_put, node_absent}
 use borrow.Author.Rules.{rules}
 use Rattle.record_writer.proofs.put_node.Statement.{statement}
 use Rattle.record_writer.proofs.put_node.Tie as tie
@@ -56,7 +56,7 @@ add-write-bytes-2 : tie.Need-overflow-add-write-bytes-2
 add-write-bytes-2 c = search rules
 
 array-share-prefix-bytes : tie.Need-array-share-prefix-bytes
-array-share-prefix-bytes c = search (length-places, rules)
+array-share-prefix-bytes c = search (length_places, rules)
 
 slice-aggregate-write-bytes-2 : tie.Need-slice-aggregate-write-bytes-2
 slice-aggregate-write-bytes-2 c = search exact
@@ -91,7 +91,7 @@ same-length-2 : tie.Need-same-length-2
 same-length-2 c = search rules
 
 returns-2 : tie.Need-returns-2
-returns-2 c = search node-absent
+returns-2 c = search node_absent
 
 pub put-node-spec : {M : Type 1} → statement M
 put-node-spec =

@@ -13,7 +13,7 @@ use Rattle.base_peer.specs.Held.{ValidData, node_in}
 use Rattle.record.specs.Format.{most_nodes, header_length, node_length, entry, entries, entries_by, datas}
 use Rattle.record_writer.specs.declared.Nodes.{Nodes}
 use Rattle.record_writer.specs.Nodes.{nodes_in, ValidNodes}
-use Rattle.record_writer.proofs.Laws.{Spot, with_nodes, node_next, sum, sum_next, missing, Walk, walk_start, walk-valid, walk-next, walk-next-at, walk-left, walk_end}
+use Rattle.record_writer.proofs.Laws.{Spot, with_nodes, node_next, sum, sum_next, missing, Walk, walk_start, walk_valid, walk_next, walk_next_at, walk_left, walk_end}
 use Rattle.record_writer.proofs.Ways.{no_room, room, done, length_nodes}
 use Rattle.record_writer.proofs.write.Statement.{statement}
 use Rattle.record_writer.proofs.write.Tie as tie
@@ -32,11 +32,11 @@ sizes-start s v = record { walk = walk_start sum s (header_length + node_length 
 
 module _ (items : List PeerInfo) (n size i : ℕ) (v : Sizes items n size i) where
   sizes-few : i < n → (get_or items i missing).data.len ≤ 16
-  sizes-few h = (walk-valid sum v.walk h).fits
+  sizes-few h = (walk_valid sum v.walk h).fits
 
   sizes-next : i < n → Sizes items n (size + (get_or items i missing).data.len) (i + 1)
   sizes-next h = record {
-    walk = walk-next sum v.walk (size + (get_or items i missing).data.len) h (λ l. sum_next size (get_or items i missing) l (walk-valid sum v.walk h));
+    walk = walk_next sum v.walk (size + (get_or items i missing).data.len) h (λ l. sum_next size (get_or items i missing) l (walk_valid sum v.walk h));
     small = omega (arith, v.small, sizes-few h);
   }
 
@@ -77,28 +77,28 @@ stored-start out at s v h = record {
 
 module _ (out₀ : List ℕ) (at n : ℕ) (items : List PeerInfo) (out : List ℕ) (reached k : ℕ) (v : Stored out₀ at n items out reached k) where
   stored-few : k < n → (get_or items k missing).data.len ≤ 16
-  stored-few h = (walk-valid sum v.sums h).fits
+  stored-few h = (walk_valid sum v.sums h).fits
 
   here : k < n → ValidData (get_or items k missing).data
-  here h = walk-valid sum v.sums h
+  here h = walk_valid sum v.sums h
 
   few : k < n → k < most_nodes
   few h = omega (arith, v.sums.rest.top)
 
-  entry-room : k < n → at + (header_length + node_length * k + node_length) ≤ length out
-  entry-room h = omega (arith, v.room)
+  entry_room : k < n → at + (header_length + node_length * k + node_length) ≤ length out
+  entry_room h = omega (arith, v.room)
 
-  data-room : k < n → at + reached + (get_or items k missing).data.len ≤ length out
-  data-room h = omega (arith, v.room, rest_at missing sum v.sums.rest h ∙ sum_next reached (get_or items k missing) (slice (suc k) n items) (here h))
+  data_room : k < n → at + reached + (get_or items k missing).data.len ≤ length out
+  data_room h = omega (arith, v.room, rest_at missing sum v.sums.rest h ∙ sum_next reached (get_or items k missing) (slice (suc k) n items) (here h))
 
   stored_next : (o : List ℕ)
       → o ≡ overwrite (overwrite out (at + (header_length + node_length * k)) (entry (node_in (get_or items k missing)) reached)) (at + reached) (take (get_or items k missing).data.len (get_or items k missing).data.bytes)
       → length o ≡ length out → k < n → Stored out₀ at n items o (reached + (get_or items k missing).data.len) (k + 1)
   stored_next o e q h = record {
-    walk = walk-next-at (with_nodes at) v.walk (spot o at (k + 1) (reached + (get_or items k missing).data.len)) h
+    walk = walk_next_at (with_nodes at) v.walk (spot o at (k + 1) (reached + (get_or items k missing).data.len)) h
         (node_next at out o (at + (header_length + node_length * k)) (at + (header_length + node_length * (k + 1))) reached (get_or items k missing) (slice (suc k) n items) (here h) e (omega arith)
-        (omega (arith, v.low, walk-left sum v.sums)));
-    sums = walk-next sum v.sums (reached + (get_or items k missing).data.len) h (λ l. sum_next reached (get_or items k missing) l (here h));
+        (omega (arith, v.low, walk_left sum v.sums)));
+    sums = walk_next sum v.sums (reached + (get_or items k missing).data.len) h (λ l. sum_next reached (get_or items k missing) l (here h));
     room = omega (arith, v.room);
     low = omega (arith, v.low);
     len = q ∙ v.len;
@@ -192,7 +192,7 @@ array-copy-out-p-2 : tie.Need-array-copy-out-p-2 invariant-loop decreases-loop i
 array-copy-out-p-2 c = search rules
 
 put-node-requires : tie.Need-put-node-requires invariant-loop decreases-loop invariant-loop2 decreases-loop2
-put-node-requires c κs = (search here, (search few, (search entry-room, search data-room)))
+put-node-requires c κs = (search here, (search few, (search entry_room, search data_room)))
 
 cast-reached : tie.Need-overflow-cast-reached invariant-loop decreases-loop invariant-loop2 decreases-loop2
 cast-reached c = search rules

@@ -1,6 +1,6 @@
 -- By cases on the header: without room all is as it was, with room the one node and its data fit behind it.
 use native.Mathlib.Omega.{arith}
-use Rattle.record_writer.proofs.Ways.{no-room-one, room_one, done-one}
+use Rattle.record_writer.proofs.Ways.{no_room_one, room_one, done_one}
 use borrow.Author.Rules.{rules}
 use Rattle.record_writer.proofs.write_one.Statement.{statement}
 use Rattle.record_writer.proofs.write_one.Tie as tie
@@ -41,7 +41,7 @@ same_length : tie.Need-same-length
 same_length c = search rules
 
 returns : tie.Need-returns
-returns c = search no-room-one
+returns c = search no_room_one
 
 put-node-requires : tie.Need-put-node-requires
 put-node-requires c κs =
@@ -59,7 +59,7 @@ returns-2 c =
     let at-node = c.before.before in
     let told = at-node.before.before in
     let at-header = told-to-put-header told in
-    done-one _ _ (put-header-to-start at-header).pre _ _ _ _ at-header.put-header.ensures _ told.enum_told.given.1 _ at-node.put-node.ensures
+    done_one _ _ (put-header-to-start at-header).pre _ _ _ _ at-header.put-header.ensures _ told.enum_told.given.1 _ at-node.put-node.ensures
 
 pub write-one-spec : {M : Type 1} → statement M
 write-one-spec =

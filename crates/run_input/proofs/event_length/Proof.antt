@@ -13,13 +13,13 @@ use Rattle.record.specs.Format.{header_length}
 use Rattle.record.specs.Read.{header_of, header_of_by}
 use Rattle.record.specs.Walk.{whole_length}
 use Rattle.run_input.specs.Input.{event_length}
-use Rattle.run_input.proofs.Laws.{event-none}
+use Rattle.run_input.proofs.Laws.{event_none}
 use borrow.Author.Rules.{rules}
 use Rattle.run_input.proofs.event_length.Statement.{statement}
 use Rattle.run_input.proofs.event_length.Tie as tie
 
 short : (b : List ℕ) → length b < header_length → 0 ≡ event_length b
-short b h = sym (event-none b (λ p q. omega (arith, h, p, q)))
+short b h = sym (event_none b (λ p q. omega (arith, h, p, q)))
 
 module _ (b : List ℕ) (h : Header) (e : h ≡ header_of b) where
   -- whether a size is that of an event at the front

@@ -5,7 +5,7 @@ use mathlib.Core.List.{List}
 use lib.ListN.{length}
 use Rattle.base_lists.specs.Bytes.{read_le}
 use Rattle.run_input.specs.Input.{number}
-use Rattle.run_input.proofs.Laws.{number_read, number-none}
+use Rattle.run_input.proofs.Laws.{number_read, number_none}
 use borrow.Author.Rules.{rules}
 use Rattle.run_input.proofs.number.Statement.{statement}
 use Rattle.run_input.proofs.number.Tie as tie
@@ -14,7 +14,7 @@ there : (b : List ℕ) (i r : ℕ) → i < length b / 4 → r ≡ read_le 4 b (4
 there b i r h e = e ∙ sym (number_read b i h)
 
 none : (b : List ℕ) (i : ℕ) → length b / 4 ≤ i → 0 ≡ number b i
-none b i h = sym (number-none b i h)
+none b i h = sym (number_none b i h)
 
 mul-read-number : tie.Need-overflow-mul-read-number
 mul-read-number c = search rules

@@ -10,7 +10,7 @@ use lib.Dec.{leb, eqb}
 use borrow.Author.Rules.{rules}
 use Rattle.base_lists.proofs.Choice.{choose_yes, choose_no}
 use Rattle.base_lists.proofs.Tests.{both_true, and_no}
-use Rattle.base_lists.proofs.Slices.{slice-part}
+use Rattle.base_lists.proofs.Slices.{slice_part}
 use Rattle.base_timing.specs.declared.Config.{Config}
 use Rattle.run_input.specs.Input.{head_length, most_bytes, self_low, self_high, first_setting, event_count, event_offset, draw_count, draw_offset, number, from_halves, config_of, are_events, places_ok, events_part, events_ok, input_head, input_of}
 use Rattle.run_input.specs.declared.Head.{Head}
@@ -48,15 +48,15 @@ module _ (b : List ℕ) (start end d : ℕ) (se : start ≡ number b event_offse
       filled =
           let k : head_length + (end - head_length) ≡ number b draw_offset = omega (arith, from, ee) in
           qe ∙ (ap (λ (m : ℕ). are_events m (take (end - head_length) (drop head_length b))) ne
-          ∙ ap (are_events (number b event_count)) (slice-part head_length (end - head_length) b ∙ ap (λ (m : ℕ). slice head_length m b) k))
+          ∙ ap (are_events (number b event_count)) (slice_part head_length (end - head_length) b ∙ ap (λ (m : ℕ). slice head_length m b) k))
 
       whole : (h : Head) → q ≡ true → h ≡ input_head b → Whole h ≡ input_of b
       unfolding input_of
       whole h u e = sym (choose_yes (places_ok b && events_ok b) (Whole (input_head b)) Refused (both_true _ _ (sym placed-is ∙ t) (sym filled ∙ u)) ∙ ap Whole (sym e))
 
-      no-events : q ≡ false → Refused ≡ input_of b
+      no_events : q ≡ false → Refused ≡ input_of b
       unfolding input_of
-      no-events f = sym (choose_no (places_ok b && events_ok b) (Whole (input_head b)) Refused (ap (λ (p : Bool). places_ok b && p) (sym filled ∙ f) ∙ and_no (places_ok b)))
+      no_events f = sym (choose_no (places_ok b && events_ok b) (Whole (input_head b)) Refused (ap (λ (p : Bool). places_ok b && p) (sym filled ∙ f) ∙ and_no (places_ok b)))
 
 settings : (b : List ℕ) (x₀ x₁ x₂ x₃ x₄ x₅ x₆ x₇ x₈ : ℕ)
     → x₀ ≡ number b first_setting
@@ -165,7 +165,7 @@ returns : tie.Need-returns
 returns c = search (whole, headed, settings)
 
 returns-2 : tie.Need-returns-2
-returns-2 c = search no-events
+returns-2 c = search no_events
 
 returns-3 : tie.Need-returns-3
 returns-3 c = search no-places

@@ -6,7 +6,7 @@ use native.Mathlib.Nat.{zero-add}
 use native.Mathlib.Omega.{arith}
 use lib.ListN.{length, get_or, set}
 use lib.Seq.{ext_get_or}
-use Rattle.base_lists.proofs.Front.{Front, front_start, front-step}
+use Rattle.base_lists.proofs.Front.{Front, front_start, front_step}
 use Rattle.run_input.specs.Input.{number, numbers}
 use Rattle.run_input.proofs.Laws.{numbers_at, length_numbers}
 use borrow.Author.Rules.{rules}
@@ -22,7 +22,7 @@ start b to₀ = front_start 0 _ to₀ 0 refl (λ j h. absurd (omega arith))
 next : (b to₀ to : List ℕ) (i r : ℕ) → i < length to → r ≡ number b i → Wanted b to₀ to i → Wanted b to₀ (set to i r) (i + 1)
 next b to₀ to i r h e f =
     let q : get_or (numbers (length to₀) 0 b) i 0 ≡ number b i = numbers_at (length to₀) 0 i b (omega (arith, f.long)) ∙ rw (zero-add i) in
-    front-step f r (omega (arith, f.long)) (e ∙ sym q)
+    front_step f r (omega (arith, f.long)) (e ∙ sym q)
 
 end : (b to₀ to : List ℕ) (i : ℕ) → length to ≤ i → Wanted b to₀ to i → to ≡ numbers (length to₀) 0 b
 end b to₀ to i h f = ext_get_or 0 to _ (f.long ∙ sym (length_numbers (length to₀) 0 b)) (λ j p. f.done j (omega arith))

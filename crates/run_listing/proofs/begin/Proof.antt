@@ -1,6 +1,6 @@
--- By the contract of `State::new` and with both places at 0, by `begins-at`.
+-- By the contract of `State::new` and with both places at 0, by `begins_at`.
 use borrow.Author.Rules.{rules}
-use Rattle.run_listing.proofs.Laws.{begins-at}
+use Rattle.run_listing.proofs.Laws.{begins_at}
 use Rattle.run_listing.proofs.begin.Statement.{statement}
 use Rattle.run_listing.proofs.begin.Tie as tie
 
@@ -11,7 +11,7 @@ new-requires : tie.Need-new-requires
 new-requires c κs = search rules
 
 returns : tie.Need-returns
-returns c = search (begins-at, rules)
+returns c = search (begins_at, rules)
 
 pub begin-spec : {M : Type 1} → statement M
 begin-spec = tie.close (tie.spec slice-aggregate-new new-requires returns)

@@ -1,6 +1,6 @@
 -- By cases: the input is refused, its settings are refused, or it has events, each as the definition chooses.
 use borrow.Author.Rules.{rules}
-use Rattle.run_listing.proofs.Laws.{open-unset, open-events, open-refused, open-whole}
+use Rattle.run_listing.proofs.Laws.{open_unset, open_events, open_refused, open_whole}
 use Rattle.run_listing.proofs.open.Statement.{statement}
 use Rattle.run_listing.proofs.open.Tie as tie
 
@@ -20,13 +20,13 @@ new-requires : tie.Need-new-requires
 new-requires c κs = search rules
 
 returns : tie.Need-returns
-returns c = search (open-whole, open-unset, rules)
+returns c = search (open_whole, open_unset, rules)
 
 returns-2 : tie.Need-returns-2
-returns-2 c = search (open-refused, rules)
+returns-2 c = search (open_refused, rules)
 
 returns-3 : tie.Need-returns-3
-returns-3 c = search (open-whole, open-events, rules)
+returns-3 c = search (open_whole, open_events, rules)
 
 pub open_spec : {M : Type 1} → statement M
 open_spec =

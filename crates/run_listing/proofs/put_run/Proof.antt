@@ -2,7 +2,7 @@
 use borrow.Author.Rules.{rules}
 use mathlib.Core.Path.{refl}
 use Rattle.run_walk.proofs.Draws.{numbers_read}
-use Rattle.run_listing.proofs.Laws.{opened_laid, run-line, run-events}
+use Rattle.run_listing.proofs.Laws.{opened_laid, run_line, run_events}
 use Rattle.run_listing.proofs.put_run.Statement.{statement}
 use Rattle.run_listing.proofs.put_run.Tie as tie
 
@@ -73,7 +73,7 @@ same_length : tie.Need-same-length
 same_length c = search rules
 
 returns : tie.Need-returns
-returns c = search (run-line, rules)
+returns c = search (run_line, rules)
 
 same-length-2 : tie.Need-same-length-2
 same-length-2 c = search rules
@@ -85,7 +85,7 @@ returns-2 c =
     let at-o2 = read-numbers-to-o2 at_read in
     let at-begin = read-numbers-to-begin at_read in
     let at_open = o2-to-open at-o2 in
-    run-events _ _ at_open.«open».ensures _ _ _ _ _ _ at-o2.o2.given.1 at-begin.begin.ensures at-walk.put-walk.ensures
+    run_events _ _ at_open.«open».ensures _ _ _ _ _ _ at-o2.o2.given.1 at-begin.begin.ensures at-walk.put-walk.ensures
 
 pub put-run-spec : {M : Type 1} → statement M
 put-run-spec =

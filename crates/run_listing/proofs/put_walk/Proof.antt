@@ -4,7 +4,7 @@ use Prim.Native.Nat.{◌-◌}
 use lib.ListN.{length}
 use Rattle.run_input.specs.Input.{cut_events}
 use Rattle.run_listing.specs.Run.{events_text}
-use Rattle.run_listing.proofs.Laws.{Running, running_start, running-next, running-end, walked}
+use Rattle.run_listing.proofs.Laws.{Running, running_start, running_next, running_end, walked}
 use Rattle.run_listing.proofs.put_walk.Statement.{statement}
 use Rattle.run_listing.proofs.put_walk.Tie as tie
 
@@ -54,7 +54,7 @@ loop-less : tie.Need-loop-smaller invariant-loop decreases-loop
 loop-less c = search rules
 
 loop-again : tie.Need-loop-preserved invariant-loop decreases-loop
-loop-again c = search (running-next, rules)
+loop-again c = search (running_next, rules)
 
 same_length : tie.Need-same-length invariant-loop decreases-loop
 same_length c = search rules
@@ -63,7 +63,7 @@ same-length-2 : tie.Need-same-length-2 invariant-loop decreases-loop
 same-length-2 c = search rules
 
 returns : tie.Need-returns invariant-loop decreases-loop
-returns c = search (walked, running-end)
+returns c = search (walked, running_end)
 
 pub put-walk-spec : {M : Type 1} → statement M
 put-walk-spec =

@@ -1,11 +1,11 @@
 -- By cases: fewer bytes than a header, a length of 0, or a line, which has the space that it needs.
 use borrow.Author.Rules.{rules}
-use Rattle.run_listing.proofs.Stream.{lines-few-bytes, lines_none, lines-one}
+use Rattle.run_listing.proofs.Stream.{lines_few_bytes, lines_none, lines_one}
 use Rattle.run_listing.proofs.record_line.Statement.{statement}
 use Rattle.run_listing.proofs.record_line.Tie as tie
 
 returns : tie.Need-returns
-returns c = search lines-few-bytes
+returns c = search lines_few_bytes
 
 read-header-requires : tie.Need-read-header-requires
 read-header-requires c κs = search rules
@@ -26,7 +26,7 @@ same_length : tie.Need-same-length
 same_length c = search rules
 
 returns-3 : tie.Need-returns-3
-returns-3 c = search (lines-one, rules)
+returns-3 c = search (lines_one, rules)
 
 pub record-line-spec : {M : Type 1} → statement M
 record-line-spec =

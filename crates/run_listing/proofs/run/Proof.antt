@@ -1,6 +1,6 @@
 -- By cases on whether the text was cut: from place 0 on, `full` says exactly whether it is longer than the lent bytes.
 use borrow.Author.Rules.{rules}
-use Rattle.run_listing.proofs.Laws.{run-cut, run_fits}
+use Rattle.run_listing.proofs.Laws.{run_cut, run_fits}
 use Rattle.run_listing.proofs.run.Statement.{statement}
 use Rattle.run_listing.proofs.run.Tie as tie
 
@@ -14,7 +14,7 @@ same_length : tie.Need-same-length
 same_length c = search rules
 
 returns : tie.Need-returns
-returns c = run-cut _ _ _ _ _ c.before.before.before.before.before.start.ensures c.before.before.before.put-run.ensures c.if1.true
+returns c = run_cut _ _ _ _ _ c.before.before.before.before.before.start.ensures c.before.before.before.put-run.ensures c.if1.true
 
 same-length-2 : tie.Need-same-length-2
 same-length-2 c = search rules

@@ -14,7 +14,7 @@ same_length : tie.Need-same-length
 same_length c = search rules
 
 returns : tie.Need-returns
-returns c = event_put _ _ _ _ _ _ _ _ _ _ c.before.before.put-end.ensures c.before.before.before.before.before.before.put-records.ensures
+returns c = event_put _ _ _ _ _ _ _ _ _ _ c.before.before.put_end.ensures c.before.before.before.before.before.before.put-records.ensures
 
 pub put-event-spec : {M : Type 1} → statement M
 put-event-spec = tie.close (tie.spec put-records-requires put-end-requires same_length returns)

@@ -1,7 +1,7 @@
 -- The numbers before the last are written one by one. The measure is how many are left.
 use Prim.Native.Nat.{◌-◌}
 use borrow.Author.Rules.{rules}
-use Rattle.run_text.proofs.Laws.{Spacing, spacing_start, spacing_next, record-put}
+use Rattle.run_text.proofs.Laws.{Spacing, spacing_start, spacing_next, record_put}
 use Rattle.run_text.proofs.put_record.Statement.{statement}
 use Rattle.run_text.proofs.put_record.Tie as tie
 
@@ -51,7 +51,7 @@ same_length : tie.Need-same-length invariant-loop decreases-loop
 same_length c = search rules
 
 returns : tie.Need-returns invariant-loop decreases-loop
-returns c = search (record-put, rules)
+returns c = search (record_put, rules)
 
 pub put-record-spec : {M : Type 1} → statement M
 put-record-spec =

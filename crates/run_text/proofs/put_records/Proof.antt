@@ -1,7 +1,7 @@
 -- What is left of the output is to be listed. The measure is its length.
 use lib.ListN.{length}
 use borrow.Author.Rules.{rules}
-use Rattle.run_text.proofs.Laws.{Listing, listing_start, listing-few, listing_none, listing-next, listing-last}
+use Rattle.run_text.proofs.Laws.{Listing, listing_start, listing_few, listing_none, listing_next, listing_last}
 use Rattle.record.specs.Walk.{headers}
 use Rattle.run_text.specs.Lines.{record_lines}
 use Rattle.run_text.proofs.put_records.Statement.{statement}
@@ -35,7 +35,7 @@ same-length-2 : tie.Need-same-length-2 invariant-loop decreases-loop
 same-length-2 c = search rules
 
 returns-2 : tie.Need-returns-2 invariant-loop decreases-loop
-returns-2 c = search (listing-last, rules)
+returns-2 c = search (listing_last, rules)
 
 sub-rest : tie.Need-overflow-sub-rest invariant-loop decreases-loop
 sub-rest c = search rules
@@ -50,13 +50,13 @@ loop-less : tie.Need-loop-smaller invariant-loop decreases-loop
 loop-less c = search rules
 
 loop-again : tie.Need-loop-preserved invariant-loop decreases-loop
-loop-again c = search (listing-next, rules)
+loop-again c = search (listing_next, rules)
 
 same-length-3 : tie.Need-same-length-3 invariant-loop decreases-loop
 same-length-3 c = search rules
 
 returns-3 : tie.Need-returns-3 invariant-loop decreases-loop
-returns-3 c = search listing-few
+returns-3 c = search listing_few
 
 pub put-records-spec : {M : Type 1} → statement M
 put-records-spec = tie.close (tie.spec invariant-loop decreases-loop loop-holds read-header-requires cast-n same_length returns put-record-requires same-length-2 returns-2 sub-rest part-rest-start part-rest-end loop-less loop-again same-length-3 returns-3)

@@ -1,7 +1,7 @@
 -- By cases: the station itself, a neighbor, a full view with high or low priority, a free place; the data told before keeps the work calm.
 use Rattle.step_sending.proofs.Told.{room_of}
 use Rattle.step_active.proofs.Leaving.{slot_free, fine_told}
-use Rattle.step_active.proofs.Entering.{open_slot, full-high, full-low, new-full, new-open, admit-known, admit-other, add-me, add-other, informed}
+use Rattle.step_active.proofs.Entering.{open_slot, full_high, full_low, new_full, new_open, admit_known, admit_other, add_me, add_other, informed}
 use borrow.Author.Rules.{rules}
 use Rattle.step_active.proofs.add_active.Statement.{statement}
 use Rattle.step_active.proofs.add_active.Tie as tie
@@ -29,7 +29,7 @@ same_length : tie.Need-same-length
 same_length c = search rules
 
 returns : tie.Need-returns
-returns c = search add-me
+returns c = search add_me
 
 insert-peer-info-requires : tie.Need-insert-peer-info-requires
 insert-peer-info-requires c κs = search rules
@@ -53,8 +53,8 @@ returns-2 c =
     let at_start = insert-peer-info-to-start at-insert in
     let told = at-insert.insert_peer_info.ensures in
     let fine = fine_told _ _ _ _ _ _ _ at_start.pre.1.0 told in
-    add-other _ _ _ _ _ _ _ _ _ at_start.pre.1.0 at-insert.before.before.before.before.is_me.ensures _ _ _ _ _ _ at-insert.before.before.before.if1.left
-    (admit-known _ _ _ _ _ _ _ _ _ _ _ fine at-in-active.in_active.ensures c.before.before.before.before.before.before.before.if2.true c.before.before.before.before.reply_neighbor.ensures) told
+    add_other _ _ _ _ _ _ _ _ _ at_start.pre.1.0 at-insert.before.before.before.before.is_me.ensures _ _ _ _ _ _ at-insert.before.before.before.if1.left
+    (admit_known _ _ _ _ _ _ _ _ _ _ _ fine at-in-active.in_active.ensures c.before.before.before.before.before.before.before.if2.true c.before.before.before.before.reply_neighbor.ensures) told
 
 active-is-full-requires : tie.Need-active-is-full-requires
 active-is-full-requires c κs = search rules
@@ -95,10 +95,10 @@ returns-3 c =
     let at-insert = in-active-to-insert-peer-info at-in-active in
     let at_start = insert-peer-info-to-start at-insert in
     let told = at-insert.insert_peer_info.ensures in
-    let high = full-high _ _ _ _ _ _ _ _ _ _ _ _ _ at_slot.before.before.before.if4.taken at-unchecked.add_active_unchecked.ensures at_slot.free_random_slot_in_active_view.ensures in
-    let full = new-full _ _ _ _ _ _ _ _ _ _ _ at-full.active_is_full.ensures at_slot.before.before.before.before.if3.taken high in
-    add-other _ _ _ _ _ _ _ _ _ at_start.pre.1.0 at-insert.before.before.before.before.is_me.ensures _ _ _ _ _ _ at-insert.before.before.before.if1.left
-    (admit-other _ _ _ _ _ _ _ _ _ _ _ at-in-active.in_active.ensures at-full.before.before.if2.left full) told
+    let high = full_high _ _ _ _ _ _ _ _ _ _ _ _ _ at_slot.before.before.before.if4.taken at-unchecked.add_active_unchecked.ensures at_slot.free_random_slot_in_active_view.ensures in
+    let full = new_full _ _ _ _ _ _ _ _ _ _ _ at-full.active_is_full.ensures at_slot.before.before.before.before.if3.taken high in
+    add_other _ _ _ _ _ _ _ _ _ at_start.pre.1.0 at-insert.before.before.before.before.is_me.ensures _ _ _ _ _ _ at-insert.before.before.before.if1.left
+    (admit_other _ _ _ _ _ _ _ _ _ _ _ at-in-active.in_active.ensures at-full.before.before.if2.left full) told
 
 same-length-6 : tie.Need-same-length-6
 same-length-6 c = search rules
@@ -114,9 +114,9 @@ returns-4 c =
     let at_start = insert-peer-info-to-start at-insert in
     let told = at-insert.insert_peer_info.ensures in
     let fine = fine_told _ _ _ _ _ _ _ at_start.pre.1.0 told in
-    let full = new-full _ _ _ _ _ _ _ _ _ _ _ at-full.active_is_full.ensures c.before.if3.true (full-low _ _ _ _ _ _ _ fine c.if4.false) in
-    add-other _ _ _ _ _ _ _ _ _ at_start.pre.1.0 at-insert.before.before.before.before.is_me.ensures _ _ _ _ _ _ at-insert.before.before.before.if1.left
-    (admit-other _ _ _ _ _ _ _ _ _ _ _ at-in-active.in_active.ensures at-full.before.before.if2.false full) told
+    let full = new_full _ _ _ _ _ _ _ _ _ _ _ at-full.active_is_full.ensures c.before.if3.true (full_low _ _ _ _ _ _ _ fine c.if4.false) in
+    add_other _ _ _ _ _ _ _ _ _ at_start.pre.1.0 at-insert.before.before.before.before.is_me.ensures _ _ _ _ _ _ at-insert.before.before.before.if1.left
+    (admit_other _ _ _ _ _ _ _ _ _ _ _ at-in-active.in_active.ensures at-full.before.before.if2.false full) told
 
 add-active-unchecked-requires-2 : tie.Need-add-active-unchecked-requires-2
 add-active-unchecked-requires-2 c κs = (search rules, (search rules, open_slot _ _ _ c.before.before.before.active_is_full.ensures c.before.before.if3.false))
@@ -135,9 +135,9 @@ returns-5 c =
     let at_start = insert-peer-info-to-start at-insert in
     let told = at-insert.insert_peer_info.ensures in
     let fine = fine_told _ _ _ _ _ _ _ at_start.pre.1.0 told in
-    let free = new-open _ _ _ _ _ _ _ _ _ _ _ fine at-full.active_is_full.ensures c.before.before.before.before.before.before.before.if3.false c.before.before.before.before.add-active-unchecked2.ensures in
-    add-other _ _ _ _ _ _ _ _ _ at_start.pre.1.0 at-insert.before.before.before.before.is_me.ensures _ _ _ _ _ _ at-insert.before.before.before.if1.left
-    (admit-other _ _ _ _ _ _ _ _ _ _ _ at-in-active.in_active.ensures at-full.before.before.if2.false free) told
+    let free = new_open _ _ _ _ _ _ _ _ _ _ _ fine at-full.active_is_full.ensures c.before.before.before.before.before.before.before.if3.false c.before.before.before.before.add-active-unchecked2.ensures in
+    add_other _ _ _ _ _ _ _ _ _ at_start.pre.1.0 at-insert.before.before.before.before.is_me.ensures _ _ _ _ _ _ at-insert.before.before.before.if1.left
+    (admit_other _ _ _ _ _ _ _ _ _ _ _ at-in-active.in_active.ensures at-full.before.before.if2.false free) told
 
 pub add-active-spec : {M : Type 1} → statement M
 add-active-spec =

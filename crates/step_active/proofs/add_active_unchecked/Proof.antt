@@ -1,7 +1,7 @@
 -- Work that stopped at the notice adds nothing more; else entry, limit and count become one change, after which the reply is told.
 use mathlib.Core.Path.{sym, ◌∙◌}
 use Rattle.hyparview_state.specs.Unpack.{long}
-use Rattle.step_active.proofs.Entering.{gained, not-added, entered, added_unchecked}
+use Rattle.step_active.proofs.Entering.{gained, not_added, entered, added_unchecked}
 use borrow.Author.Rules.{rules}
 use Rattle.step_active.proofs.add_active_unchecked.Statement.{statement}
 use Rattle.step_active.proofs.add_active_unchecked.Tie as tie
@@ -26,7 +26,7 @@ same-length-2 : tie.Need-same-length-2
 same-length-2 c = search rules
 
 returns : tie.Need-returns
-returns c = search not-added
+returns c = search not_added
 
 limit-of-requires : tie.Need-limit-of-requires
 limit-of-requires c κs = search rules

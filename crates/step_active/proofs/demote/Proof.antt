@@ -5,7 +5,7 @@ use Rattle.base_peer.specs.Held.{HoldsData}
 use Rattle.hyparview_state.specs.Unpack.{unpack, station_of, long}
 use Rattle.hyparview_state.proofs.Access.{of_packed}
 use Rattle.step_refill.proofs.Asking.{fine_after}
-use Rattle.step_active.proofs.Leaving.{demoted, demoted-plain, demoted-alive, mark_free}
+use Rattle.step_active.proofs.Leaving.{demoted, demoted_plain, demoted_alive, mark_free}
 use borrow.Author.Rules.{rules}
 use Rattle.step_active.proofs.demote.Statement.{statement}
 use Rattle.step_active.proofs.demote.Tie as tie
@@ -69,7 +69,7 @@ returns c =
     let at-get-data = drop-data-to-get-data at-drop-data in
     let given = (get-data-to-start at-get-data).pre.1 in
     let plain = demoted _ _ _ _ _ _ _ _ _ _ _ _ given.0 (held at-get-data) at-add-passive.add_passive.ensures at-drop-data.drop_data.ensures in
-    demoted-alive _ _ _ _ _ _ _ _ _ plain _ _ at-if1.if1.true at-mark-alive.mark_alive.ensures
+    demoted_alive _ _ _ _ _ _ _ _ _ plain _ _ at-if1.if1.true at-mark-alive.mark_alive.ensures
 
 same-length-3 : tie.Need-same-length-3
 same-length-3 c = search rules
@@ -84,7 +84,7 @@ returns-2 c =
     let at-get-data = drop-data-to-get-data at-drop-data in
     let given = (get-data-to-start at-get-data).pre.1 in
     let plain = demoted _ _ _ _ _ _ _ _ _ _ _ _ given.0 (held at-get-data) at-add-passive.add_passive.ensures at-drop-data.drop_data.ensures in
-    demoted-plain _ _ _ _ _ _ _ _ _ plain c.before.if1.false
+    demoted_plain _ _ _ _ _ _ _ _ _ plain c.before.if1.false
 
 pub demote-spec : {M : Type 1} → statement M
 demote-spec =

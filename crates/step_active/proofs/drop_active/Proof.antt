@@ -2,7 +2,7 @@
 use Rattle.base_util.specs.Section.{part}
 use Rattle.hyparview_state.specs.Unpack.{unpack, station_of}
 use Rattle.hyparview_state.proofs.Access.{of_packed}
-use Rattle.step_active.proofs.Leaving.{place_kept, left-active, not_dropped, dropped}
+use Rattle.step_active.proofs.Leaving.{place_kept, left_active, not_dropped, dropped}
 use borrow.Author.Rules.{rules}
 use Rattle.step_active.proofs.drop_active.Statement.{statement}
 use Rattle.step_active.proofs.drop_active.Tie as tie
@@ -53,7 +53,7 @@ returns-2 c =
     let given = (drop-pin-to-start at-drop-pin).pre.1 in
     let room = given.0 in
     dropped _ _ _ _ _ _ _ _ _ room given.1.1 c.before.before.notify.ensures
-    (left-active _ _ _ at-drop-pin.drop_pin.ensures _ _ _ room.packed (search rules) given.1.1 at-remove-index.remove-index.ensures)
+    (left_active _ _ _ at-drop-pin.drop_pin.ensures _ _ _ room.packed (search rules) given.1.1 at-remove-index.remove-index.ensures)
 
 pub drop-active-spec : {M : Type 1} → statement M
 drop-active-spec =

@@ -6,7 +6,7 @@ use Rattle.base_util.proofs.Sets.{empty_is_null}
 use Rattle.hyparview_state.specs.Unpack.{unpack, station_of}
 use Rattle.hyparview_state.proofs.Access.{of_packed}
 use Rattle.step_sending.proofs.Told.{fine_drawn, room_drawn}
-use Rattle.step_active.proofs.Leaving.{fine_told, sent_loose, loose_picked, settled_random, by_index, picked-removed, picked-place, no_slot, one-slot}
+use Rattle.step_active.proofs.Leaving.{fine_told, sent_loose, loose_picked, settled_random, by_index, picked_removed, picked_place, no_slot, one_slot}
 use borrow.Author.Rules.{rules}
 use Rattle.step_active.proofs.free_random_slot_in_active_view.Statement.{statement}
 use Rattle.step_active.proofs.free_random_slot_in_active_view.Tie as tie
@@ -74,7 +74,7 @@ unfolding part unpack station_of
 drop-active-requires c κs =
     let at_position = c.before.before in
     let drawn = (position-to-draw-one-of at_position).draw_one_of.ensures in
-    let there = picked-place (start at_position).args.st.now _ _ _ (draw-one-of-to-without-pin (position-to-draw-one-of at_position)).without_pin.ensures drawn.1.1 at_position.position.ensures.0 in
+    let there = picked_place (start at_position).args.st.now _ _ _ (draw-one-of-to-without-pin (position-to-draw-one-of at_position)).without_pin.ensures drawn.1.1 at_position.position.ensures.0 in
     let given = (start at_position).requires in
     (search (rules, given.0), (room_drawn _ _ _ _ _ given.1.0 drawn.0, (there.0, there.1)))
 
@@ -94,7 +94,7 @@ demote-requires c κs =
     let drawn = (position-to-draw-one-of at_position).draw_one_of.ensures in
     let from = (draw-one-of-to-without-pin (position-to-draw-one-of at_position)).without_pin.ensures in
     let given = (start at_position).pre in
-    let there = picked-place (start at_position).args.st.now _ _ _ from drawn.1.1 at_position.position.ensures.0 in
+    let there = picked_place (start at_position).args.st.now _ _ _ from drawn.1.1 at_position.position.ensures.0 in
     let loose = loose_picked _ _ _ _ _ _ _ _ _ _ _ given.1.0 given.1.1 (omega (arith, from.valid.fits)) there at-drop-active.drop_active.ensures drawn.0 in
     (search (rules, at-drop-active.drop_active.kept, given.0), (search rules, λ _. sent_loose _ _ _ _ _ _ _ _ loose at-send-disconnect.send_disconnect.ensures))
 
@@ -115,11 +115,11 @@ returns-2 c =
     let from = (draw-one-of-to-without-pin at-draw-one-of).without_pin.ensures in
     let drawn = at-draw-one-of.draw_one_of.ensures in
     let fine = (start at_position).pre.1.0 in
-    let there = picked-place (start at_position).args.st.now _ _ _ from drawn.1.1 at_position.position.ensures.0 in
+    let there = picked_place (start at_position).args.st.now _ _ _ from drawn.1.1 at_position.position.ensures.0 in
     let gone = settled_random _ _ _ _ _ _ _ _ _ _ _ at-demote.demote.ensures at-send-disconnect.send_disconnect.ensures in
     let removed = by_index _ _ _ _ _ _ _ _ _ _ _ _ _ (fine_drawn _ _ _ _ _ fine drawn.0) there.1 gone at-drop-active.drop_active.ensures in
-    let picked = picked-removed (start at_position).args.st.now _ _ _ from drawn.1.1 at_position.position.ensures.0 _ _ _ _ _ _ _ fine drawn.1.0 removed drawn.0 in
-    one-slot _ _ _ _ _ _ from (empty_is_null working_places _ from.valid) _ _ _ (ne_eqb _ _ at-draw-one-of.before.if1.left) picked
+    let picked = picked_removed (start at_position).args.st.now _ _ _ from drawn.1.1 at_position.position.ensures.0 _ _ _ _ _ _ _ fine drawn.1.0 removed drawn.0 in
+    one_slot _ _ _ _ _ _ from (empty_is_null working_places _ from.valid) _ _ _ (ne_eqb _ _ at-draw-one-of.before.if1.left) picked
 
 pub free-random-slot-in-active-view-spec : {M : Type 1} → statement M
 free-random-slot-in-active-view-spec =

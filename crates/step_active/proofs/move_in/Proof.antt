@@ -5,8 +5,8 @@ use borrow.Rule.Slice.PartMut.{put_mid}
 use Rattle.base_lists.specs.Lists.{renew}
 use Rattle.base_util.specs.Section.{part, items_at, HoldsSet}
 use Rattle.hyparview_state.specs.Layout.{active_part, recent_part, active_at, active_places, active_size, recent_places}
-use Rattle.hyparview_state.proofs.Access.{of_packed, of-recent}
-use Rattle.step_active.proofs.Entering.{place-active, left-free, not-moved, pushed, remembered, moved_in}
+use Rattle.hyparview_state.proofs.Access.{of_packed, of_recent}
+use Rattle.step_active.proofs.Entering.{place_active, left_free, not_moved, pushed, remembered, moved_in}
 use borrow.Author.Rules.{rules}
 use Rattle.step_active.proofs.move_in.Statement.{statement}
 use Rattle.step_active.proofs.move_in.Tie as tie
@@ -48,7 +48,7 @@ same_length c = search rules
 returns : tie.Need-returns
 returns c =
     let at-drop-mark = c.before.before.before.before in
-    not-moved _ _ _ _ _ _ _ at-drop-mark.drop_mark.ensures (drop-mark-to-remove-passive at-drop-mark).remove_passive.ensures c.if1.true
+    not_moved _ _ _ _ _ _ _ at-drop-mark.drop_mark.ensures (drop-mark-to-remove-passive at-drop-mark).remove_passive.ensures c.if1.true
 
 sub-push : tie.Need-overflow-sub-push
 sub-push c = search rules
@@ -65,7 +65,7 @@ push-requires c κs =
     let at-drop-mark = c.before.before.before.before.before in
     let at-remove-passive = drop-mark-to-remove-passive at-drop-mark in
     let left = at-drop-mark.drop_mark.ensures in
-    (search (of_packed, rules), place-active _ _ left.packed c.before.if1.false (left-free _ _ _ _ _ _ _ left at-remove-passive.remove_passive.ensures (remove-passive-to-start at-remove-passive).pre.1.1))
+    (search (of_packed, rules), place_active _ _ left.packed c.before.if1.false (left_free _ _ _ _ _ _ _ left at-remove-passive.remove_passive.ensures (remove-passive-to-start at-remove-passive).pre.1.1))
 
 sub-renew : tie.Need-overflow-sub-renew
 sub-renew c = search rules
@@ -83,8 +83,8 @@ renew-requires c κs =
     let at-drop-mark = push-to-drop-mark at_push in
     let at-remove-passive = drop-mark-to-remove-passive at-drop-mark in
     let left = at-drop-mark.drop_mark.ensures in
-    let free = left-free _ _ _ _ _ _ _ left at-remove-passive.remove_passive.ensures (remove-passive-to-start at-remove-passive).pre.1.1 in
-    (of-recent _ (pushed at-drop-mark.drop_mark.result _ _ left.packed at_push.before.before.if1.false _ free (active-after at_push)).packed, (omega arith, omega arith))
+    let free = left_free _ _ _ _ _ _ _ left at-remove-passive.remove_passive.ensures (remove-passive-to-start at-remove-passive).pre.1.1 in
+    (of_recent _ (pushed at-drop-mark.drop_mark.result _ _ left.packed at_push.before.before.if1.false _ free (active-after at_push)).packed, (omega arith, omega arith))
 
 same-length-2 : tie.Need-same-length-2
 same-length-2 c = search rules
@@ -97,7 +97,7 @@ returns-2 c =
     let at-remove-passive = drop-mark-to-remove-passive at-drop-mark in
     let left = at-drop-mark.drop_mark.ensures in
     let code = at_push.before.before.if1.left in
-    let free = left-free _ _ _ _ _ _ _ left at-remove-passive.remove_passive.ensures (remove-passive-to-start at-remove-passive).pre.1.1 in
+    let free = left_free _ _ _ _ _ _ _ left at-remove-passive.remove_passive.ensures (remove-passive-to-start at-remove-passive).pre.1.1 in
     let push = pushed _ _ _ left.packed code _ free (active-after at_push) in
     moved_in _ _ _ _ _ _ _ left at-remove-passive.remove_passive.ensures _ _ _ _ (remembered _ _ _ push.packed code _ (recent-after at-renew)) push
 

@@ -3,7 +3,7 @@ use Rattle.base_util.specs.Section.{part}
 use Rattle.hyparview_state.specs.Unpack.{unpack, station_of}
 use Rattle.hyparview_state.proofs.Access.{of_packed}
 use Rattle.step_refill.proofs.Asking.{fine_after}
-use Rattle.step_active.proofs.Leaving.{refilled, place_of, removed, not-removed}
+use Rattle.step_active.proofs.Leaving.{refilled, place_of, removed, not_removed}
 use borrow.Author.Rules.{rules}
 use Rattle.step_active.proofs.remove_active.Statement.{statement}
 use Rattle.step_active.proofs.remove_active.Tie as tie
@@ -76,7 +76,7 @@ same-length-3 : tie.Need-same-length-3
 same-length-3 c = search rules
 
 returns-2 : tie.Need-returns-2
-returns-2 c = search not-removed
+returns-2 c = search not_removed
 
 pub remove-active-spec : {M : Type 1} → statement M
 remove-active-spec =

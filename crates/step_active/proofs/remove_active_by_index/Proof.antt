@@ -6,7 +6,7 @@ use Rattle.base_lists.proofs.Choice.{clash}
 use Rattle.base_util.specs.Section.{part}
 use Rattle.hyparview_state.specs.Unpack.{unpack, station_of}
 use Rattle.hyparview_state.proofs.Access.{of_packed}
-use Rattle.step_active.proofs.Leaving.{fine_told, loose_known, by_index, closed-marked, closed-other, settled-closed, settled-alive, settled_gone}
+use Rattle.step_active.proofs.Leaving.{fine_told, loose_known, by_index, closed_marked, closed_other, settled_closed, settled_alive, settled_gone}
 use Rattle.step_refill.proofs.Asking.{fine_after}
 use borrow.Author.Rules.{rules}
 use Rattle.step_active.proofs.remove_active_by_index.Statement.{statement}
@@ -91,7 +91,7 @@ returns c =
     let given = (drop-active-to-start at-drop-active).pre.1.0 in
     let fine = fine_told _ _ _ _ _ _ _ given told in
     by_index _ _ _ _ _ _ _ _ _ _ _ _ _ given (leaver (drop-active-to-get-index at-drop-active))
-    (settled-closed _ _ _ _ _ _ _ at_told.enum_told.given.1 (closed-marked _ _ _ _ _ _ fine at-if1.before.is_marked.ensures _ _ _ _ _ at-if1.if1.taken at-demote.demote.ensures at-drop-mark.drop_mark.ensures)) told
+    (settled_closed _ _ _ _ _ _ _ at_told.enum_told.given.1 (closed_marked _ _ _ _ _ _ fine at-if1.before.is_marked.ensures _ _ _ _ _ at-if1.if1.taken at-demote.demote.ensures at-drop-mark.drop_mark.ensures)) told
 
 forget-peer-requires : tie.Need-forget-peer-requires
 forget-peer-requires c κs = search rules
@@ -122,7 +122,7 @@ returns-2 c =
     let given = (drop-active-to-start at-drop-active).pre.1.0 in
     let fine = fine_told _ _ _ _ _ _ _ given told in
     by_index _ _ _ _ _ _ _ _ _ _ _ _ _ given (leaver (drop-active-to-get-index at-drop-active))
-    (settled-alive _ _ _ _ _ _ _ _ at-if2.before.before.why.given.1 at-if2.if2.true at-demote2.demote2.ensures) told
+    (settled_alive _ _ _ _ _ _ _ _ at-if2.before.before.why.given.1 at-if2.if2.true at-demote2.demote2.ensures) told
 
 forget-peer-requires-2 : tie.Need-forget-peer-requires-2
 forget-peer-requires-2 c κs = search rules
@@ -143,7 +143,7 @@ returns-3 c =
     let given = (drop-active-to-start at-drop-active).pre.1.0 in
     let fine = fine_told _ _ _ _ _ _ _ given told in
     by_index _ _ _ _ _ _ _ _ _ _ _ _ _ given (leaver (drop-active-to-get-index at-drop-active))
-    (settled-closed _ _ _ _ _ _ _ at_told.enum_told.given.1 (closed-other _ _ _ _ _ _ fine at-if1.before.is_marked.ensures _ _ at-if1.if1.false c.before.before.forget_peer.ensures)) told
+    (settled_closed _ _ _ _ _ _ _ at_told.enum_told.given.1 (closed_other _ _ _ _ _ _ fine at-if1.before.is_marked.ensures _ _ at-if1.if1.false c.before.before.forget_peer.ensures)) told
 
 same-length-7 : tie.Need-same-length-7
 same-length-7 c = search rules

@@ -1,7 +1,7 @@
 -- The pin ends, and then the peer leaves the view, which stays as it was but for that.
 use Rattle.base_util.specs.Section.{part}
 use Rattle.hyparview_state.proofs.Access.{of_packed}
-use Rattle.step_active.proofs.Leaving.{neighbor-left}
+use Rattle.step_active.proofs.Leaving.{neighbor_left}
 use borrow.Author.Rules.{rules}
 use Rattle.step_active.proofs.remove_neighbor.Statement.{statement}
 use Rattle.step_active.proofs.remove_neighbor.Tie as tie
@@ -27,7 +27,7 @@ same_length c = search rules
 
 returns : tie.Need-returns
 unfolding part
-returns c = search neighbor-left
+returns c = search neighbor_left
 
 pub remove-neighbor-spec : {M : Type 1} → statement M
 remove-neighbor-spec = tie.close (tie.spec drop-pin-requires sub-remove part-remove-start part-remove-end remove-requires same_length returns)

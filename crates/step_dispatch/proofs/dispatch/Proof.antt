@@ -6,10 +6,10 @@ use lib.ListN.{length}
 use mathlib.Core.Path.{◌≡◌}
 use borrow.Author.Rules.{rules}
 use native.Mathlib.Omega.{arith}
-use Rattle.hyparview_state.proofs.Bridge.{still, then, then-tell}
+use Rattle.hyparview_state.proofs.Bridge.{still, then, then_tell}
 use Rattle.step_messages.proofs.Between.{between_calm}
 use Rattle.step_sending.proofs.Told.{room_of}
-use Rattle.step_dispatch.proofs.Arms.{one_node, kind-message, kind-shuffle, kind-maintenance, kind-request, kind-retry, kind-closed, kind-join, kind-data, kind-quit, kind-pin, kind-none}
+use Rattle.step_dispatch.proofs.Arms.{one_node, kind_message, kind_shuffle, kind_maintenance, kind_request, kind_retry, kind_closed, kind_join, kind_data, kind_quit, kind_pin, kind_none}
 use Rattle.step_dispatch.proofs.Laws.{between_less, opens_between, opens_join}
 use Rattle.step_dispatch.proofs.dispatch.Statement.{statement}
 use Rattle.step_dispatch.proofs.dispatch.Tie as tie
@@ -84,7 +84,7 @@ returns c =
     let at-handle-message = c.before.before.before.before in
     let at-if1 = at-handle-message.before.before.before in
     let start = then1-to-start at-if1 in
-    kind-message _ _ (headed start) _ _ _ _ at-if1.if1.true at-handle-message.handle_message.ensures
+    kind_message _ _ (headed start) _ _ _ _ at-if1.if1.true at-handle-message.handle_message.ensures
 
 handle-shuffle-timer-requires : tie.Need-handle-shuffle-timer-requires
 handle-shuffle-timer-requires c κs =
@@ -102,7 +102,7 @@ returns-2 c =
     let at-handle-shuffle-timer = c.before.before.before.before in
     let at-if3 = at-handle-shuffle-timer.before.before.before in
     let start = then3-to-start at-if3 in
-    kind-shuffle _ _ (headed start) _ _ _ _ at-if3.if3.true at-handle-shuffle-timer.handle_shuffle_timer.ensures
+    kind_shuffle _ _ (headed start) _ _ _ _ at-if3.if3.true at-handle-shuffle-timer.handle_shuffle_timer.ensures
 
 handle-maintenance-timer-requires : tie.Need-handle-maintenance-timer-requires
 handle-maintenance-timer-requires c κs =
@@ -120,7 +120,7 @@ returns-3 c =
     let at-handle-maintenance-timer = c.before.before.before.before in
     let at-if4 = at-handle-maintenance-timer.before.before.before in
     let start = then4-to-start at-if4 in
-    kind-maintenance _ _ (headed start) _ _ _ _ at-if4.if4.true at-handle-maintenance-timer.handle_maintenance_timer.ensures
+    kind_maintenance _ _ (headed start) _ _ _ _ at-if4.if4.true at-handle-maintenance-timer.handle_maintenance_timer.ensures
 
 handle-pending-neighbor-timer-requires : tie.Need-handle-pending-neighbor-timer-requires
 handle-pending-neighbor-timer-requires c κs =
@@ -138,7 +138,7 @@ returns-4 c =
     let at-handle-pending-neighbor-timer = c.before.before.before.before in
     let at-if5 = at-handle-pending-neighbor-timer.before.before.before in
     let start = then5-to-start at-if5 in
-    kind-request _ _ (headed start) _ _ _ _ at-if5.if5.true at-handle-pending-neighbor-timer.handle_pending_neighbor_timer.ensures
+    kind_request _ _ (headed start) _ _ _ _ at-if5.if5.true at-handle-pending-neighbor-timer.handle_pending_neighbor_timer.ensures
 
 retry-join-requires : tie.Need-retry-join-requires
 retry-join-requires c κs =
@@ -159,8 +159,8 @@ returns-5 c =
     let at-if3 = at-if4.before.before in
     let at-if2 = at-if3.before.before in
     let start = then2-to-start at-if2 in
-    kind-retry _ _ (headed start) _ _ _ _ at-if2.before.before.if1.false at-if2.if2.true at-if3.if3.false at-if4.if4.false at-if5.if5.false
-    (then-tell at-retry-join.retry_join.ensures (still (fine start)))
+    kind_retry _ _ (headed start) _ _ _ _ at-if2.before.before.if1.false at-if2.if2.true at-if3.if3.false at-if4.if4.false at-if5.if5.false
+    (then_tell at-retry-join.retry_join.ensures (still (fine start)))
 
 handle-connection-closed-requires : tie.Need-handle-connection-closed-requires
 handle-connection-closed-requires c κs =
@@ -179,7 +179,7 @@ returns-6 c =
     let at-handle-connection-closed = c.before.before.before.before in
     let at-if6 = at-handle-connection-closed.before.before.before in
     let start = then6-to-start at-if6 in
-    kind-closed _ _ (headed start) _ _ _ _ at-if6.if6.true at-handle-connection-closed.handle_connection_closed.ensures
+    kind_closed _ _ (headed start) _ _ _ _ at-if6.if6.true at-handle-connection-closed.handle_connection_closed.ensures
 
 handle-join-requires : tie.Need-handle-join-requires
 handle-join-requires c κs =
@@ -198,7 +198,7 @@ returns-7 c =
     let at-handle-join = c.before.before.before.before in
     let at-if7 = at-handle-join.before.before.before in
     let start = then7-to-start at-if7 in
-    kind-join _ _ (headed start) _ _ _ _ at-if7.if7.true (then-tell at-handle-join.handle_join.ensures (still (fine start)))
+    kind_join _ _ (headed start) _ _ _ _ at-if7.if7.true (then_tell at-handle-join.handle_join.ensures (still (fine start)))
 
 peer-info-at-requires : tie.Need-peer-info-at-requires
 peer-info-at-requires c κs =
@@ -220,7 +220,7 @@ returns-8 c =
     let at-peer-info-at = at-update-own-data.before.before.before in
     let at-if8 = at-peer-info-at.before in
     let start = then8-to-start at-if8 in
-    kind-data _ _ (headed start) _ _ _ _ _ at-peer-info-at.peer-info-at.ensures at-if8.if8.true (then at-update-own-data.update_own_data.ensures (still (fine start)))
+    kind_data _ _ (headed start) _ _ _ _ _ at-peer-info-at.peer-info-at.ensures at-if8.if8.true (then at-update-own-data.update_own_data.ensures (still (fine start)))
 
 handle-quit-requires : tie.Need-handle-quit-requires
 handle-quit-requires c κs =
@@ -242,7 +242,7 @@ returns-9 c =
     let at-if6 = at-if7.before.before in
     let at-if2 = at-if6.before.before in
     let start = then9-to-start at-if9 in
-    kind-quit _ _ (headed start) _ _ _ _ at-if2.if2.false at-if6.if6.false at-if7.if7.false at-if8.if8.false at-if9.if9.true at-handle-quit.handle_quit.ensures
+    kind_quit _ _ (headed start) _ _ _ _ at-if2.if2.false at-if6.if6.false at-if7.if7.false at-if8.if8.false at-if9.if9.true at-handle-quit.handle_quit.ensures
 
 handle-pin-requires : tie.Need-handle-pin-requires
 handle-pin-requires c κs =
@@ -257,13 +257,13 @@ returns-10 c =
     let at-handle-pin = c.before.before in
     let at-if10 = at-handle-pin.before.before in
     let start = then10-to-start at-if10 in
-    kind-pin _ _ (headed start) _ _ _ _ at-if10.if10.true (then at-handle-pin.handle_pin.ensures (still (fine start)))
+    kind_pin _ _ (headed start) _ _ _ _ at-if10.if10.true (then at-handle-pin.handle_pin.ensures (still (fine start)))
 
 returns-11 : tie.Need-returns-11
 returns-11 c =
     let at-if9 = c.before.before in
     let start = else1-to-start (else9-to-else2 at-if9).before.before in
-    kind-none _ _ (headed start) _ _ _ _ at-if9.if9.false c.if10.false (still (fine start))
+    kind_none _ _ (headed start) _ _ _ _ at-if9.if9.false c.if10.false (still (fine start))
 
 pub dispatch-spec : {M : Type 1} → statement M
 dispatch-spec =

@@ -9,7 +9,7 @@ use borrow.Author.Rules.{rules}
 use mathlib.Core.Path.{refl, ◌≡◌}
 use native.Mathlib.Omega.{arith}
 use Rattle.step_dispatch.proofs.Laws.{between_less}
-use Rattle.step_dispatch.proofs.Arms.{Single, single, single_some, count_is, arm-shuffle, arm-reply, arm-disconnect, arm_join, arm-forward, arm-neighbor}
+use Rattle.step_dispatch.proofs.Arms.{Single, single, single_some, count_is, arm_shuffle, arm_reply, arm_disconnect, arm_join, arm_forward, arm_neighbor}
 use Rattle.step_dispatch.proofs.handle_message.Statement.{statement}
 use Rattle.step_dispatch.proofs.handle_message.Tie as tie
 
@@ -77,7 +77,7 @@ returns c =
     let at-on-shuffle = c.before.before.before.before in
     let at-if1 = at-on-shuffle.before.before.before in
     let start = then1-to-start at-if1 in
-    arm-shuffle _ _ (headed start) _ _ _ _ _ refl at-if1.if1.true at-on-shuffle.on_shuffle.ensures
+    arm_shuffle _ _ (headed start) _ _ _ _ _ refl at-if1.if1.true at-on-shuffle.on_shuffle.ensures
 
 on-shuffle-reply-requires : tie.Need-on-shuffle-reply-requires
 on-shuffle-reply-requires c κs =
@@ -95,7 +95,7 @@ returns-2 c =
     let at-on-shuffle-reply = c.before.before.before.before in
     let at-if2 = at-on-shuffle-reply.before.before.before in
     let start = then2-to-start at-if2 in
-    arm-reply _ _ (headed start) _ _ _ _ _ refl at-if2.if2.true at-on-shuffle-reply.on_shuffle_reply.ensures
+    arm_reply _ _ (headed start) _ _ _ _ _ refl at-if2.if2.true at-on-shuffle-reply.on_shuffle_reply.ensures
 
 on-disconnect-requires : tie.Need-on-disconnect-requires
 on-disconnect-requires c κs =
@@ -113,7 +113,7 @@ returns-3 c =
     let at-on-disconnect = c.before.before.before.before in
     let at-if3 = at-on-disconnect.before.before.before.before in
     let start = then3-to-start at-if3 in
-    arm-disconnect _ _ (headed start) _ _ _ _ _ refl at-if3.if3.true at-on-disconnect.on_disconnect.ensures
+    arm_disconnect _ _ (headed start) _ _ _ _ _ refl at-if3.if3.true at-on-disconnect.on_disconnect.ensures
 
 peer-info-at-requires : tie.Need-peer-info-at-requires
 peer-info-at-requires c κs = ((headed (else3-to-start c)).formed, single_some _ _ (single-at c))
@@ -154,7 +154,7 @@ returns-5 c =
     let at-on-forward-join = c.before.before.before.before in
     let at-if5 = at-on-forward-join.before.before.before in
     let at-peer-info-at = then5-to-peer-info-at at-if5 in
-    arm-forward _ _ (single-at at-peer-info-at.before) _ _ _ _ _ at-peer-info-at.peer-info-at.ensures at-if5.if5.true at-on-forward-join.on_forward_join.ensures
+    arm_forward _ _ (single-at at-peer-info-at.before) _ _ _ _ _ at-peer-info-at.peer-info-at.ensures at-if5.if5.true at-on-forward-join.on_forward_join.ensures
 
 on-neighbor-requires : tie.Need-on-neighbor-requires
 on-neighbor-requires c κs =
@@ -174,7 +174,7 @@ returns-6 c =
     let at-if5 = at-on-neighbor.before.before.before.before in
     let at-if4 = at-if5.before.before in
     let at-peer-info-at = else4-to-peer-info-at at-if4 in
-    arm-neighbor _ _ (single-at at-peer-info-at.before) _ _ _ _ _ at-peer-info-at.peer-info-at.ensures at-if4.if4.false at-if5.if5.false _ refl at-on-neighbor.on_neighbor.ensures
+    arm_neighbor _ _ (single-at at-peer-info-at.before) _ _ _ _ _ at-peer-info-at.peer-info-at.ensures at-if4.if4.false at-if5.if5.false _ refl at-on-neighbor.on_neighbor.ensures
 
 pub handle-message-spec : {M : Type 1} → statement M
 handle-message-spec =

@@ -1,6 +1,6 @@
 -- By cases: a neighbor is lost; any other peer loses its mark or its passive place, and where it was asked a refill follows.
 use Rattle.step_refill.proofs.Asking.{fine_after}
-use Rattle.step_events.proofs.Leaving.{closed-calm, neighbor-lost, asked-again, not-asked}
+use Rattle.step_events.proofs.Leaving.{closed_calm, neighbor_lost, asked_again, not_asked}
 use borrow.Author.Rules.{rules}
 use Rattle.step_events.proofs.handle_connection_closed.Statement.{statement}
 use Rattle.step_events.proofs.handle_connection_closed.Tie as tie
@@ -31,7 +31,7 @@ remove-active-requires : tie.Need-remove-active-requires
 remove-active-requires c κs =
     let at_drop = in-active-to-drop c.before.before.before in
     let start = drop-to-start at_drop in
-    (search rules, (fine_after _ _ _ _ _ _ start.pre.1.0 at_drop.drop_request.ensures, closed-calm _ _ _ _ _ at_drop.drop_request.ensures _ _ _ start.pre.1.1))
+    (search rules, (fine_after _ _ _ _ _ _ start.pre.1.0 at_drop.drop_request.ensures, closed_calm _ _ _ _ _ at_drop.drop_request.ensures _ _ _ start.pre.1.1))
 
 same_length : tie.Need-same-length
 same_length c = search rules
@@ -45,7 +45,7 @@ returns c =
     let at-if1 = at-remove.before.before.before in
     let at-in-active = at-if1.before in
     let at_drop = in-active-to-drop at-in-active in
-    neighbor-lost _ _ _ _ _ _ _ (drop-to-start at_drop).pre.1.0 at_drop.before.before.is_requested.ensures at_drop.drop_request.ensures at-in-active.in_active.ensures _ _ at-if1.if1.true at-remove.remove_active.ensures
+    neighbor_lost _ _ _ _ _ _ _ (drop-to-start at_drop).pre.1.0 at_drop.before.before.is_requested.ensures at_drop.drop_request.ensures at-in-active.in_active.ensures _ _ at-if1.if1.true at-remove.remove_active.ensures
 
 lose-passive-requires : tie.Need-lose-passive-requires
 lose-passive-requires c κs = search rules
@@ -73,7 +73,7 @@ returns-2 c =
     let at-if1 = at-lose.before.before in
     let at-in-active = lose-to-in-active at-lose in
     let at_drop = in-active-to-drop at-in-active in
-    asked-again _ _ _ _ _ _ _ (drop-to-start at_drop).pre.1.0 at_drop.before.before.is_requested.ensures at_drop.drop_request.ensures at-in-active.in_active.ensures _ _ _ at-if1.if1.left at-if2.if2.true at-lose.lose_passive.ensures at-refill.refill_active_from_passive.ensures
+    asked_again _ _ _ _ _ _ _ (drop-to-start at_drop).pre.1.0 at_drop.before.before.is_requested.ensures at_drop.drop_request.ensures at-in-active.in_active.ensures _ _ _ at-if1.if1.left at-if2.if2.true at-lose.lose_passive.ensures at-refill.refill_active_from_passive.ensures
 
 same-length-5 : tie.Need-same-length-5
 same-length-5 c = search rules
@@ -84,7 +84,7 @@ returns-3 c =
     let at-if1 = at-lose.before.before in
     let at-in-active = lose-to-in-active at-lose in
     let at_drop = in-active-to-drop at-in-active in
-    not-asked _ _ _ _ _ _ _ (drop-to-start at_drop).pre.1.0 at_drop.before.before.is_requested.ensures at_drop.drop_request.ensures at-in-active.in_active.ensures _ at-if1.if1.false c.if2.false at-lose.lose_passive.ensures
+    not_asked _ _ _ _ _ _ _ (drop-to-start at_drop).pre.1.0 at_drop.before.before.is_requested.ensures at_drop.drop_request.ensures at-in-active.in_active.ensures _ at-if1.if1.false c.if2.false at-lose.lose_passive.ensures
 
 pub handle-connection-closed-spec : {M : Type 1} → statement M
 handle-connection-closed-spec =

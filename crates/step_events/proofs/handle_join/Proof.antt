@@ -5,9 +5,9 @@ use Rattle.spec_hyparview.specs.Events.{note_join}
 use Rattle.hyparview_state.specs.Unpack.{unpack, station_of, long}
 use mathlib.Core.Path.{sym, ◌∙◌}
 use Rattle.hyparview_state.proofs.Access.{of_packed}
-use Rattle.hyparview_state.proofs.Bridge.{on-done}
+use Rattle.hyparview_state.proofs.Bridge.{on_done}
 use Rattle.hyparview_state.proofs.Fields.{put_joins, put_next_join}
-use Rattle.step_events.proofs.Joining.{room_kept, free_after_push, free_after_join, number-left, place-left, not_new, joined-self, join_opened, join-refused, awaited, joined-other}
+use Rattle.step_events.proofs.Joining.{room_kept, free_after_push, free_after_join, number_left, place_left, not_new, joined_self, join_opened, join_refused, awaited, joined_other}
 use borrow.Author.Rules.{rules}
 use Rattle.step_events.proofs.handle_join.Statement.{statement}
 use Rattle.step_events.proofs.handle_join.Tie as tie
@@ -64,7 +64,7 @@ returns-2 c =
     let at_push = join-to-push at_join in
     let given = (push-to-start at_push).pre.1 in
     let told = at_join.join.ensures in
-    joined-self _ _ _ _ _ given.0 at_push.push_bootstrap.ensures at-if1.before.in_active.ensures _ at-if1.if1.false at-is-me.is_me.ensures _ _ c.if2.true told
+    joined_self _ _ _ _ _ given.0 at_push.push_bootstrap.ensures at-if1.before.in_active.ensures _ at-if1.if1.false at-is-me.is_me.ensures _ _ c.if2.true told
 
 slice-read-id : tie.Need-slice-read-id
 slice-read-id c = search rules
@@ -87,7 +87,7 @@ returns-3 c =
     let at_push = join-to-push at_join in
     let given = (push-to-start at_push).pre.1 in
     let told = at_join.join.ensures in
-    joined-other _ _ _ _ _ given.0 at_push.push_bootstrap.ensures at-if1.before.in_active.ensures _ at-if1.if1.left at-if2.before.is_me.ensures _ _ _ _ at-if2.if2.false (join-refused _ _ _ _ told.room.packed at-require.require.ensures _ told.room c.if3.true) told
+    joined_other _ _ _ _ _ given.0 at_push.push_bootstrap.ensures at-if1.before.in_active.ensures _ at-if1.if1.left at-if2.before.is_me.ensures _ _ _ _ at-if2.if2.false (join_refused _ _ _ _ told.room.packed at-require.require.ensures _ told.room c.if3.true) told
 
 sub-insert-number : tie.Need-overflow-sub-insert-number
 sub-insert-number c = search rules
@@ -106,12 +106,12 @@ insert-number-requires c κs =
     let told = (require-to-join at-require).join.ensures in
     let packed = told.room.packed in
     let free = free_after_push _ _ _ _ _ at_push.push_bootstrap.ensures (push-to-start at_push).pre.1.1 in
-    (search (of_packed, rules, packed), place-left _ _ _ _ packed at-require.require.ensures (free_after_join _ _ _ _ _ _ _ told free) c.before.if3.false)
+    (search (of_packed, rules, packed), place_left _ _ _ _ packed at-require.require.ensures (free_after_join _ _ _ _ _ _ _ told free) c.before.if3.false)
 
 add-st : tie.Need-overflow-add-st
 add-st c =
     let at-require = c.before.before.before.before.before.before in
-    record { fits = omega (arith, number-left _ _ _ 0 (require-to-join at-require).join.ensures.room.packed at-require.require.ensures c.before.before.before.before.if3.false) }
+    record { fits = omega (arith, number_left _ _ _ 0 (require-to-join at-require).join.ensures.room.packed at-require.require.ensures c.before.before.before.before.if3.false) }
 
 slice-write-st : tie.Need-slice-write-st
 slice-write-st c =
@@ -130,8 +130,8 @@ same-length-7 c = search rules
 returns-4 : tie.Need-returns-4
 unfolding note_join unpack station_of part
 returns-4 c =
-    let at-emit = c.before.before in
-    let at-require = schedule-to-require at-emit in
+    let at_emit = c.before.before in
+    let at-require = schedule-to-require at_emit in
     let at-if2 = at-require.before.before in
     let at_join = require-to-join at-require in
     let at-if1 = at_join.before.before.before in
@@ -139,7 +139,7 @@ returns-4 c =
     let given = (push-to-start at_push).pre.1 in
     let told = at_join.join.ensures in
     let packed = told.room.packed in
-    joined-other _ _ _ _ _ given.0 at_push.push_bootstrap.ensures at-if1.before.in_active.ensures _ at-if1.if1.left at-if2.before.is_me.ensures _ _ _ _ at-if2.if2.left (awaited _ _ _ _ _ _ _ _ told.room at-emit.schedule.ensures (join_opened _ _ _ _ packed at-require.require.ensures _ _ (on-done _ packed _ _ at-emit.before.before.before.before.before.before.if3.false (λ b. put_next_join _ (put_joins at-emit.before.before.before.before.insert-number.ensures b))))) told
+    joined_other _ _ _ _ _ given.0 at_push.push_bootstrap.ensures at-if1.before.in_active.ensures _ at-if1.if1.left at-if2.before.is_me.ensures _ _ _ _ at-if2.if2.left (awaited _ _ _ _ _ _ _ _ told.room at_emit.schedule.ensures (join_opened _ _ _ _ packed at-require.require.ensures _ _ (on_done _ packed _ _ at_emit.before.before.before.before.before.before.if3.false (λ b. put_next_join _ (put_joins at_emit.before.before.before.before.insert-number.ensures b))))) told
 
 same-length-6 : tie.Need-same-length-6
 same-length-6 c = long (returns-4 c).room.packed ∙ sym (push-to-start (require-to-push (schedule-to-require c.before.before))).requires.0

@@ -3,9 +3,9 @@ use Rattle.base_util.specs.Section.{part}
 use Rattle.spec_hyparview.specs.Events.{note_pin}
 use Rattle.hyparview_state.specs.Unpack.{unpack, station_of}
 use Rattle.hyparview_state.proofs.Access.{of_packed}
-use Rattle.hyparview_state.proofs.Bridge.{on-passed, on-done}
+use Rattle.hyparview_state.proofs.Bridge.{on_passed, on_done}
 use Rattle.hyparview_state.proofs.Fields.{put_pins}
-use Rattle.step_events.proofs.Pins.{left-known, few_pins, pin-place, pin-noted}
+use Rattle.step_events.proofs.Pins.{left_known, few_pins, pin_place, pin_noted}
 use borrow.Author.Rules.{rules}
 use Rattle.step_events.proofs.handle_pin.Statement.{statement}
 use Rattle.step_events.proofs.handle_pin.Tie as tie
@@ -61,7 +61,7 @@ returns c =
     let at-contains = limit-to-contains at-limit in
     let at-require = contains-to-require at-contains in
     let packed = (require-to-start at-require).pre.1 in
-    pin-noted _ _ packed _ _ _ _ _ _ _ at-require.before.in_active.ensures (left-known _ _ packed _ at-contains.contains.ensures) (on-passed _ packed _ (search rules)) at-limit.require2.ensures at-require.require.ensures
+    pin_noted _ _ packed _ _ _ _ _ _ _ at-require.before.in_active.ensures (left_known _ _ packed _ at-contains.contains.ensures) (on_passed _ packed _ (search rules)) at-limit.require2.ensures at-require.require.ensures
 
 sub-insert-sorted : tie.Need-overflow-sub-insert-sorted
 sub-insert-sorted c = search rules
@@ -78,7 +78,7 @@ insert-sorted-requires c κs =
     let at-limit = c.before.before.before in
     let at-contains = limit-to-contains at-limit in
     let packed = (require-to-start (contains-to-require at-contains)).requires.1 in
-    (search (of_packed, rules), pin-place _ _ packed _ _ _ (left-known _ _ packed _ at-contains.contains.ensures) at-limit.require2.ensures (search rules))
+    (search (of_packed, rules), pin_place _ _ packed _ _ _ (left_known _ _ packed _ at-contains.contains.ensures) at-limit.require2.ensures (search rules))
 
 same-length-2 : tie.Need-same-length-2
 same-length-2 c = search rules
@@ -91,8 +91,8 @@ returns-2 c =
     let at-require = contains-to-require at-contains in
     let start = require-to-start at-require in
     let packed = start.pre.1 in
-    pin-noted start.args.st.now _ packed _ _ _ _ _ _ _ at-require.before.in_active.ensures (left-known start.args.st.now _ packed _ at-contains.contains.ensures)
-    (on-done _ packed _ _ (search rules) (put_pins c.before.before.insert-sorted.ensures)) at-limit.require2.ensures at-require.require.ensures
+    pin_noted start.args.st.now _ packed _ _ _ _ _ _ _ at-require.before.in_active.ensures (left_known start.args.st.now _ packed _ at-contains.contains.ensures)
+    (on_done _ packed _ _ (search rules) (put_pins c.before.before.insert-sorted.ensures)) at-limit.require2.ensures at-require.require.ensures
 
 pub handle-pin-spec : {M : Type 1} → statement M
 handle-pin-spec =

@@ -18,9 +18,9 @@ use Rattle.work.specs.declared.Work.{Work}
 use Rattle.hyparview_state.specs.Layout.{words}
 use Rattle.hyparview_state.specs.Unpack.{long}
 use Rattle.hyparview_state.specs.Work.{work_of, run, run_of, Changes, Fine, Does}
-use Rattle.hyparview_state.proofs.Access.{of_packed, of-active}
+use Rattle.hyparview_state.proofs.Access.{of_packed, of_active}
 use Rattle.step_refill.proofs.Asking.{fine_after}
-use Rattle.step_events.proofs.Leaving.{neighbor_removed, quitted, quits_shut, quit-passed, quit-handled}
+use Rattle.step_events.proofs.Leaving.{neighbor_removed, quitted, quits_shut, quit_passed, quit_handled}
 use borrow.Author.Rules.{rules}
 use Rattle.step_events.proofs.handle_quit.Statement.{statement}
 use Rattle.step_events.proofs.handle_quit.Tie as tie
@@ -165,7 +165,7 @@ returns : tie.Need-returns invariant-loop decreases-loop
 returns c =
     let at-loop = c.before.before.before.before in
     let at_count = at-loop.before in
-    quit-passed _ _ _ _ _ _ _ _ at_count.count.result (stopped _ _ _ _ _ _ _ _ _ _ at-loop.loop.invariant c.if2.true) (loop-to-copy-into at-loop).copy-into.ensures (search at_count.count.ensures) c.if2.true
+    quit_passed _ _ _ _ _ _ _ _ at_count.count.result (stopped _ _ _ _ _ _ _ _ _ _ at-loop.loop.invariant c.if2.true) (loop-to-copy-into at-loop).copy-into.ensures (search at_count.count.ensures) c.if2.true
 
 clear-all-requires : tie.Need-clear-all-requires invariant-loop decreases-loop
 clear-all-requires c κs = let inv = c.before.before.before.before.before.loop.invariant in (inv.wide, inv.fine.ready.packed)
@@ -177,7 +177,7 @@ returns-2 c =
     let at_count = at-loop.before in
     let code = at-clear-all.before.before.if2.false in
     let done = end _ _ _ _ _ _ _ _ _ _ at-loop.loop.inv (gone _ _ _ code at-clear-all.before.before.before.before.if1.false) in
-    quit-handled _ _ _ _ _ _ _ _ at_count.count.result done (loop-to-copy-into at-loop).copy-into.ensures (search at_count.count.ensures) _ code at-clear-all.clear_all.ensures
+    quit_handled _ _ _ _ _ _ _ _ at_count.count.result done (loop-to-copy-into at-loop).copy-into.ensures (search at_count.count.ensures) _ code at-clear-all.clear_all.ensures
 
 same-length-3 : tie.Need-same-length-3 invariant-loop decreases-loop
 same-length-3 c = same _ _ (long (returns-2 c).fine.ready.packed) (copy-into-to-start (loop-to-copy-into (clear-all-to-loop c.before.before))).pre.0

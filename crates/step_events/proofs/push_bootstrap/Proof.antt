@@ -2,14 +2,14 @@
 use native.Mathlib.Omega.{arith}
 use Rattle.base_util.specs.Section.{part}
 use Rattle.hyparview_state.proofs.Access.{of_packed}
-use Rattle.hyparview_state.proofs.Bridge.{on-passed}
-use Rattle.step_events.proofs.Joining.{lent-without, lent-renew, lent_cut, others-lent, joins_lent, none_dropped, one-dropped}
+use Rattle.hyparview_state.proofs.Bridge.{on_passed}
+use Rattle.step_events.proofs.Joining.{lent_without, lent_renew, lent_cut, others_lent, joins_lent, none_dropped, one_dropped}
 use borrow.Author.Rules.{rules}
 use Rattle.step_events.proofs.push_bootstrap.Statement.{statement}
 use Rattle.step_events.proofs.push_bootstrap.Tie as tie
 
 returns : tie.Need-returns
-returns c = search on-passed
+returns c = search on_passed
 
 sub-without : tie.Need-overflow-sub-without
 sub-without c = search rules
@@ -43,7 +43,7 @@ renew-requires : tie.Need-renew-requires
 renew-requires c κs =
     let at-without = c.before.before.before.before.before in
     let packed = at-without.before.before.before.before.before.requires.1 in
-    (others-lent _ _ _ packed (lent-without _ _ _ at-without.without.ensures), (omega arith, omega arith))
+    (others_lent _ _ _ packed (lent_without _ _ _ at-without.without.ensures), (omega arith, omega arith))
 
 same_length : tie.Need-same-length
 same_length c = search rules
@@ -53,8 +53,8 @@ returns-2 c =
     let at-renew = c.before.before.before in
     let at-without = at-renew.before.before.before.before.before.before in
     let packed = at-without.before.before.before.before.before.requires.1 in
-    let others = lent-without _ _ _ at-without.without.ensures in
-    let newest = lent-renew _ _ _ at-renew.renew.ensures in
+    let others = lent_without _ _ _ at-without.without.ensures in
+    let newest = lent_renew _ _ _ at-renew.renew.ensures in
     none_dropped _ _ _ packed others _ newest _ at-without.before.before.if1.false c.if2.true
 
 sub-remove-number : tie.Need-overflow-sub-remove-number
@@ -71,8 +71,8 @@ remove-number-requires c κs =
     let at-renew = c.before.before.before.before in
     let at-without = at-renew.before.before.before.before.before.before in
     let packed = at-without.before.before.before.before.before.requires.1 in
-    let others = lent-without _ _ _ at-without.without.ensures in
-    let newest = lent-renew _ _ _ at-renew.renew.ensures in
+    let others = lent_without _ _ _ at-without.without.ensures in
+    let newest = lent_renew _ _ _ at-renew.renew.ensures in
     joins_lent _ _ _ packed others _ newest
 
 same-length-2 : tie.Need-same-length-2
@@ -83,9 +83,9 @@ returns-3 c =
     let at-renew = c.before.before.before.before.before.before.before in
     let at-without = at-renew.before.before.before.before.before.before in
     let packed = at-without.before.before.before.before.before.requires.1 in
-    let others = lent-without _ _ _ at-without.without.ensures in
-    let newest = lent-renew _ _ _ at-renew.renew.ensures in
-    one-dropped _ _ _ packed others _ newest _ _ at-without.before.before.if1.false c.before.before.before.before.if2.false (lent_cut _ _ _ c.before.before.remove-number.ensures)
+    let others = lent_without _ _ _ at-without.without.ensures in
+    let newest = lent_renew _ _ _ at-renew.renew.ensures in
+    one_dropped _ _ _ packed others _ newest _ _ at-without.before.before.if1.false c.before.before.before.before.if2.false (lent_cut _ _ _ c.before.before.remove-number.ensures)
 
 pub push-bootstrap-spec : {M : Type 1} → statement M
 push-bootstrap-spec =

@@ -1,13 +1,13 @@
 -- Work with a code changes nothing; else the four words written are read back as the data given, since it is valid.
 use Rattle.spec_hyparview.specs.Events.{update_own_data}
-use Rattle.hyparview_state.proofs.Bridge.{on-passed, on-done}
+use Rattle.hyparview_state.proofs.Bridge.{on_passed, on_done}
 use Rattle.hyparview_state.proofs.Limits.{kept_own}
 use borrow.Author.Rules.{rules}
 use Rattle.step_events.proofs.update_own_data.Statement.{statement}
 use Rattle.step_events.proofs.update_own_data.Tie as tie
 
 returns : tie.Need-returns
-returns c = search on-passed
+returns c = search on_passed
 
 word-at-requires : tie.Need-word-at-requires
 word-at-requires c κs = search rules
@@ -38,7 +38,7 @@ same_length c = search rules
 
 returns-2 : tie.Need-returns-2
 unfolding update_own_data
-returns-2 c = on-done _ (search rules) _ _ (search rules) (λ _. search kept_own)
+returns-2 c = on_done _ (search rules) _ _ (search rules) (λ _. search kept_own)
 
 pub update-own-data-spec : {M : Type 1} → statement M
 update-own-data-spec =

@@ -9,10 +9,10 @@ use Rattle.spec_hyparview.specs.Timers.{remember_all, maintain, handle_maintenan
 use Rattle.hyparview_state.specs.Unpack.{long}
 use Rattle.hyparview_state.specs.Work.{work_of, Changes, Fine}
 use Rattle.hyparview_state.proofs.Access.{of_packed}
-use Rattle.hyparview_state.proofs.Bridge.{on-passed, still, then, seq}
-use Rattle.hyparview_state.proofs.Any.{then-tell-any}
+use Rattle.hyparview_state.proofs.Bridge.{on_passed, still, then, seq}
+use Rattle.hyparview_state.proofs.Any.{then_tell_any}
 use Rattle.step_refill.proofs.Asking.{fine_after}
-use Rattle.step_maintenance.proofs.Counted.{Renewing, renew_start, renew-packed, renew-below, renew-next, renew-end}
+use Rattle.step_maintenance.proofs.Counted.{Renewing, renew_start, renew_packed, renew_below, renew_next, renew_end}
 use Rattle.step_maintenance.proofs.Passes.{words_as}
 use borrow.Author.Rules.{rules}
 use Rattle.step_maintenance.proofs.handle_maintenance_timer.Statement.{statement}
@@ -39,7 +39,7 @@ maintain-to-joined1 c = c.before.before.before
 remembered : (c : tie.Joined1 invariant-loop decreases-loop) → Changes (on remember_all) (work_of (joined1-to-start c).args.w (joined1-to-start c).args.st.now) (work_of (joined1-to-start c).args.w c.if1.st)
 remembered c =
     let start = joined1-to-start c in
-    ⊎_elim (λ s. words_as _ _ _ _ _ s.6 (renew-end _ _ _ _ _ s.4.inv start.args.w refl s.5.left)) (λ s. words_as _ _ _ _ _ s.1 (on-passed _ (fine start).ready.packed _ s.0.left)) c.if1.branch
+    ⊎_elim (λ s. words_as _ _ _ _ _ s.6 (renew_end _ _ _ _ _ s.4.inv start.args.w refl s.5.left)) (λ s. words_as _ _ _ _ _ s.1 (on_passed _ (fine start).ready.packed _ s.0.left)) c.if1.branch
 
 sub-count : tie.Need-overflow-sub-count invariant-loop decreases-loop
 sub-count c = search rules
@@ -69,7 +69,7 @@ part-get-index-end c = search rules
 
 get-index-requires : tie.Need-get-index-requires invariant-loop decreases-loop
 unfolding part
-get-index-requires c κs = (search (of_packed, renew-packed, rules), search renew-below)
+get-index-requires c κs = (search (of_packed, renew_packed, rules), search renew_below)
 
 add-i : tie.Need-overflow-add-i invariant-loop decreases-loop
 add-i c = search rules
@@ -85,14 +85,14 @@ part-renew-end c = search rules
 
 renew-requires : tie.Need-renew-requires invariant-loop decreases-loop
 unfolding part
-renew-requires c κs = (search (of_packed, renew-packed, rules), (omega arith, omega arith))
+renew-requires c κs = (search (of_packed, renew_packed, rules), (omega arith, omega arith))
 
 loop-less : tie.Need-loop-smaller invariant-loop decreases-loop
 loop-less c = search rules
 
 loop-again : tie.Need-loop-preserved invariant-loop decreases-loop
 unfolding part
-loop-again c = search renew-next
+loop-again c = search renew_next
 
 maintain-requires : tie.Need-maintain-requires invariant-loop decreases-loop
 maintain-requires c κs =
@@ -118,7 +118,7 @@ returns c =
     let at-schedule-maintenance = c.before.before in
     let at-maintain = at-schedule-maintenance.before.before.before.before.before.before in
     let at-joined1 = maintain-to-joined1 at-maintain in
-    then-tell-any _ at-schedule-maintenance.schedule_maintenance.ensures (seq maintain at-maintain.maintain.ensures (then (remembered at-joined1) (still (fine (joined1-to-start at-joined1)))))
+    then_tell_any _ at-schedule-maintenance.schedule_maintenance.ensures (seq maintain at-maintain.maintain.ensures (then (remembered at-joined1) (still (fine (joined1-to-start at-joined1)))))
 
 pub handle-maintenance-timer-spec : {M : Type 1} → statement M
 handle-maintenance-timer-spec =

@@ -12,11 +12,11 @@ use Rattle.work.specs.declared.Work.{Work}
 use Rattle.hyparview_state.specs.Layout.{words}
 use Rattle.hyparview_state.specs.Unpack.{long}
 use Rattle.hyparview_state.specs.Work.{work_of, run, Changes, Fine, Does}
-use Rattle.hyparview_state.proofs.Access.{of-short}
-use Rattle.hyparview_state.proofs.Bridge.{on-passed}
+use Rattle.hyparview_state.proofs.Access.{of_short}
+use Rattle.hyparview_state.proofs.Bridge.{on_passed}
 use Rattle.step_refill.proofs.Asking.{fine_after}
-use Rattle.step_maintenance.proofs.Counted.{alone_reset, short-refused, short-left, short-counted}
-use Rattle.step_maintenance.proofs.Passes.{refilled_anew, refill-due, refill-not-due, recovery_known, paused, passed-short, short-passed, enough-passed, recovers, neighbors-passed, none_known, maintained-alone, maintained, knows_some, words_as, alone_still}
+use Rattle.step_maintenance.proofs.Counted.{alone_reset, short_refused, short_left, short_counted}
+use Rattle.step_maintenance.proofs.Passes.{refilled_anew, refill_due, refill_not_due, recovery_known, paused, passed_short, short_passed, enough_passed, recovers, neighbors_passed, none_known, maintained_alone, maintained, knows_some, words_as, alone_still}
 use borrow.Author.Rules.{rules}
 use Rattle.step_maintenance.proofs.maintain.Statement.{statement}
 use Rattle.step_maintenance.proofs.maintain.Tie as tie
@@ -69,7 +69,7 @@ joined6-to-end-recovery c = else5-to-end-recovery (require-to-else5 (joined6-to-
 reset : (c : tie.Joined2) → Changes (on (set_passes_alone 0)) (work_of (else1-to-start (joined2-to-else1 c)).args.w (else1-to-start (joined2-to-else1 c)).args.st.now) (work_of (else1-to-start (joined2-to-else1 c)).args.w c.if2.st)
 reset c =
     let packed = (else1-to-start (joined2-to-else1 c)).requires.1.ready.packed in
-    ⊎_elim (λ s. words_as _ _ _ _ _ s.1 (alone_reset _ _ packed s.0.taken)) (λ s. words_as _ _ _ _ _ s.1 (on-passed _ packed _ s.0.left)) c.if2.branch
+    ⊎_elim (λ s. words_as _ _ _ _ _ s.1 (alone_reset _ _ packed s.0.taken)) (λ s. words_as _ _ _ _ _ s.1 (on_passed _ packed _ s.0.left)) c.if2.branch
 
 knows : (c : tie.After-end-recovery) → Changes (on not_alone) (work_of (start c).args.w (start c).args.st.now) (work_of c.end_recovery.result c.end_recovery.new.1.0)
 knows c = knows_some _ _ _ c.end_recovery.ensures (reset (end-recovery-to-joined2 c))
@@ -89,16 +89,16 @@ pass c r ys o k =
 neighbors : (c : tie.Else3) (r : Work) (ys o : List ℕ) → Does (work_of r ys) (start (else3-to-end-recovery c)).args.draws.now o (pass_neighbors (run (work_of (else3-to-end-recovery c).end_recovery.result (else3-to-end-recovery c).end_recovery.new.1.0) (start (else3-to-end-recovery c)).args.draws.now (start (else3-to-end-recovery c)).args.out.now))
     → Does (work_of r ys) (start (else3-to-end-recovery c)).args.draws.now o (maintain (run (work_of (start (else3-to-end-recovery c)).args.w (start (else3-to-end-recovery c)).args.st.now) (start (else3-to-end-recovery c)).args.draws.now (start (else3-to-end-recovery c)).args.out.now))
 neighbors c r ys o k =
-    let at-end = else3-to-end-recovery c in
-    let at-else1 = joined2-to-else1 (end-recovery-to-joined2 at-end) in
-    pass at-end _ _ _ (neighbors-passed _ _ _ _ _ (known at-end) _ _ _ (alone_still _ _ _ _ _ (knows at-end) at-else1.before.before.is_alone.ensures) c.if3.false k)
+    let at_end = else3-to-end-recovery c in
+    let at-else1 = joined2-to-else1 (end-recovery-to-joined2 at_end) in
+    pass at_end _ _ _ (neighbors_passed _ _ _ _ _ (known at_end) _ _ _ (alone_still _ _ _ _ _ (knows at_end) at-else1.before.before.is_alone.ensures) c.if3.false k)
 
 -- The pass of a short node, counted where it can be.
 counted : (c : tie.Joined6) → Changes count_short (work_of (joined6-to-end-recovery c).end_recovery.result (joined6-to-end-recovery c).end_recovery.new.1.0) (work_of (joined6-to-require c).require.result c.if6.st)
 counted c =
     let packed = (known (joined6-to-end-recovery c)).ready.packed in
     let tested = (joined6-to-require c).require.ensures in
-    ⊎_elim (λ s. words_as _ _ _ _ _ s.1 (short-counted _ _ _ packed tested s.0.taken)) (λ s. words_as _ _ _ _ _ s.1 (short-refused _ _ _ packed tested s.0.left)) c.if6.branch
+    ⊎_elim (λ s. words_as _ _ _ _ _ s.1 (short_counted _ _ _ packed tested s.0.taken)) (λ s. words_as _ _ _ _ _ s.1 (short_refused _ _ _ packed tested s.0.left)) c.if6.branch
 
 is-alone-requires : tie.Need-is-alone-requires
 is-alone-requires c κs = search rules
@@ -119,7 +119,7 @@ returns : tie.Need-returns
 returns c =
     let at-then1 = c.before.before.before.before.before.before.before in
     let start = at-then1.before.before.before.before.before.before.before in
-    maintained-alone _ _ _ _ _ (fine start) _ _ _ (none_known _ _ (fine start).ready.packed at-then1.before.before.is_alone.ensures) at-then1.if1.true c.before.before.before.before.pass_alone.ensures
+    maintained_alone _ _ _ _ _ (fine start) _ _ _ (none_known _ _ (fine start).ready.packed at-then1.before.before.is_alone.ensures) at-then1.if1.true c.before.before.before.before.pass_alone.ensures
 
 slice-write-st : tie.Need-slice-write-st
 slice-write-st c = search rules
@@ -132,14 +132,14 @@ slice-aggregate-start-refill c = search rules
 
 start-refill-requires : tie.Need-start-refill-requires
 start-refill-requires c κs =
-    let at-end = c.before.before.before.before.before.before in
-    (known-long at-end, known at-end)
+    let at_end = c.before.before.before.before.before.before in
+    (known-long at_end, known at_end)
 
 same-length-3 : tie.Need-same-length-3
 same-length-3 c =
     let at-start-refill = c.before.before.before.before in
-    let at-end = at-start-refill.before.before.before.before.before.before.before in
-    omega (arith, at-start-refill.start_refill.auto.1.0, known-long at-end, (start at-end).requires.0)
+    let at_end = at-start-refill.before.before.before.before.before.before.before in
+    omega (arith, at-start-refill.start_refill.auto.1.0, known-long at_end, (start at_end).requires.0)
 
 same-length-4 : tie.Need-same-length-4
 same-length-4 c = search rules
@@ -148,14 +148,14 @@ returns-2 : tie.Need-returns-2
 returns-2 c =
     let at-start-refill = c.before.before.before.before in
     let at-then3 = at-start-refill.before.before.before.before in
-    let at-end = at-then3.before.before.before in
-    let at-else1 = joined2-to-else1 (end-recovery-to-joined2 at-end) in
-    pass at-end _ _ _ (recovers _ _ _ _ _ (known at-end) _ _ _ (alone_still _ _ _ _ _ (knows at-end) at-else1.before.before.is_alone.ensures) at-then3.if3.true at-start-refill.start_refill.ensures)
+    let at_end = at-then3.before.before.before in
+    let at-else1 = joined2-to-else1 (end-recovery-to-joined2 at_end) in
+    pass at_end _ _ _ (recovers _ _ _ _ _ (known at_end) _ _ _ (alone_still _ _ _ _ _ (knows at_end) at-else1.before.before.is_alone.ensures) at-then3.if3.true at-start-refill.start_refill.ensures)
 
 is-short-requires : tie.Need-is-short-requires
 is-short-requires c κs =
-    let at-end = else3-to-end-recovery c.before in
-    (known-long at-end, (known at-end).ready.packed)
+    let at_end = else3-to-end-recovery c.before in
+    (known-long at_end, (known at_end).ready.packed)
 
 limit-of-requires : tie.Need-limit-of-requires
 limit-of-requires c κs = known-long (else3-to-end-recovery (is-short-to-else3 c.before.before))
@@ -165,8 +165,8 @@ is-recovery-requires c κs = search rules
 
 same-length-5 : tie.Need-same-length-5
 same-length-5 c =
-    let at-end = else3-to-end-recovery (is-short-to-else3 c.before.before.before.before.before) in
-    omega (arith, known-long at-end, (start at-end).pre.0)
+    let at_end = else3-to-end-recovery (is-short-to-else3 c.before.before.before.before.before) in
+    omega (arith, known-long at_end, (start at_end).pre.0)
 
 returns-3 : tie.Need-returns-3
 returns-3 c =
@@ -174,7 +174,7 @@ returns-3 c =
     let at-is-short = at-is-recovery.before.before.before.before in
     let given = known (else3-to-end-recovery (is-short-to-else3 at-is-short)) in
     neighbors (is-short-to-else3 at-is-short) _ _ _
-    (short-passed _ _ _ _ _ given _ _ _ at-is-short.is_short.ensures at-is-recovery.before.before.before.if4.true
+    (short_passed _ _ _ _ _ given _ _ _ at-is-short.is_short.ensures at-is-recovery.before.before.before.if4.true
     (paused _ _ _ _ _ given (recovery_known _ _ _ at-is-recovery.before.limit-of.ensures at-is-recovery.is_recovery.ensures) c.if5.true))
 
 slice-read-n : tie.Need-slice-read-n
@@ -186,7 +186,7 @@ require-requires c κs = search rules
 add-st : tie.Need-overflow-add-st
 add-st c =
     let at-require = c.before.before in
-    record { fits = omega (arith, short-left _ _ _ (known (else5-to-end-recovery (require-to-else5 at-require))).ready.packed at-require.require.ensures c.if6.true) }
+    record { fits = omega (arith, short_left _ _ _ (known (else5-to-end-recovery (require-to-else5 at-require))).ready.packed at-require.require.ensures c.if6.true) }
 
 slice-write-st-2 : tie.Need-slice-write-st-2
 slice-write-st-2 c = omega (arith, known-long (else5-to-end-recovery (require-to-else5 c.before.before)))
@@ -195,7 +195,7 @@ slice-read-backoff-due : tie.Need-slice-read-backoff-due
 slice-read-backoff-due c = omega (arith, long (counted c.before).packed)
 
 cast-backoff-due : tie.Need-overflow-cast-backoff-due
-cast-backoff-due c = record { fits = omega (arith, of-short _ (counted c.before).packed) }
+cast-backoff-due c = record { fits = omega (arith, of_short _ (counted c.before).packed) }
 
 backoff-due-requires : tie.Need-backoff-due-requires
 backoff-due-requires c κs = search rules
@@ -222,8 +222,8 @@ same-length-6 : tie.Need-same-length-6
 same-length-6 c =
     let at-start-refill = c.before.before.before.before in
     let at-clear-refused = at-start-refill.before.before.before.before.before.before.before in
-    let at-end = joined6-to-end-recovery (backoff-due-to-joined6 (clear-refused-to-backoff-due at-clear-refused)) in
-    omega (arith, at-start-refill.start-refill2.auto.1.0, long at-clear-refused.clear_refused.ensures.packed, (start at-end).pre.0)
+    let at_end = joined6-to-end-recovery (backoff-due-to-joined6 (clear-refused-to-backoff-due at-clear-refused)) in
+    omega (arith, at-start-refill.start-refill2.auto.1.0, long at-clear-refused.clear_refused.ensures.packed, (start at_end).pre.0)
 
 same-length-7 : tie.Need-same-length-7
 same-length-7 c = search rules
@@ -240,9 +240,9 @@ returns-4 c =
     let given = known (else5-to-end-recovery at-else5) in
     let tried = fine_after _ _ _ _ _ _ given (counted at-joined6) in
     neighbors (is-short-to-else3 at-is-short) _ _ _
-    (short-passed _ _ _ _ _ given _ _ _ at-is-short.is_short.ensures at-is-recovery.before.before.before.if4.taken
-    (passed-short _ _ _ _ _ given _ _ _ _ _ (recovery_known _ _ _ at-is-recovery.before.limit-of.ensures at-is-recovery.is_recovery.ensures) at-else5.if5.left
-    (refill-due _ _ _ _ _ at-backoff-due.backoff_due.ensures _ _ _ at-clear-refused.before.before.if7.true
+    (short_passed _ _ _ _ _ given _ _ _ at-is-short.is_short.ensures at-is-recovery.before.before.before.if4.taken
+    (passed_short _ _ _ _ _ given _ _ _ _ _ (recovery_known _ _ _ at-is-recovery.before.limit-of.ensures at-is-recovery.is_recovery.ensures) at-else5.if5.left
+    (refill_due _ _ _ _ _ at-backoff-due.backoff_due.ensures _ _ _ at-clear-refused.before.before.if7.true
     (refilled_anew _ _ _ _ _ _ _ _ _ _ tried at-start-refill.before.before.few_requests.ensures at-start-refill.start-refill2.ensures at-clear-refused.clear_refused.ensures))
     (counted at-joined6)))
 
@@ -261,26 +261,26 @@ returns-5 c =
     let given = known (else5-to-end-recovery at-else5) in
     let tried = fine_after _ _ _ _ _ _ given (counted at-joined6) in
     neighbors (is-short-to-else3 at-is-short) _ _ _
-    (short-passed _ _ _ _ _ given _ _ _ at-is-short.is_short.ensures at-is-recovery.before.before.before.if4.taken
-    (passed-short _ _ _ _ _ given _ _ _ _ _ (recovery_known _ _ _ at-is-recovery.before.limit-of.ensures at-is-recovery.is_recovery.ensures) at-else5.if5.left
-    (refill-not-due _ _ _ _ _ at-backoff-due.backoff_due.ensures tried c.if7.false)
+    (short_passed _ _ _ _ _ given _ _ _ at-is-short.is_short.ensures at-is-recovery.before.before.before.if4.taken
+    (passed_short _ _ _ _ _ given _ _ _ _ _ (recovery_known _ _ _ at-is-recovery.before.limit-of.ensures at-is-recovery.is_recovery.ensures) at-else5.if5.left
+    (refill_not_due _ _ _ _ _ at-backoff-due.backoff_due.ensures tried c.if7.false)
     (counted at-joined6)))
 
 clear-refused-requires-2 : tie.Need-clear-refused-requires-2
 clear-refused-requires-2 c κs =
-    let at-end = else3-to-end-recovery (is-short-to-else3 c.before.before) in
-    (known-long at-end, (known at-end).ready.packed)
+    let at_end = else3-to-end-recovery (is-short-to-else3 c.before.before) in
+    (known-long at_end, (known at_end).ready.packed)
 
 same-length-9 : tie.Need-same-length-9
 same-length-9 c =
-    let at-end = else3-to-end-recovery (is-short-to-else3 c.before.before.before.before.before) in
-    omega (arith, long c.before.before.clear-refused2.ensures.packed, (start at-end).pre.0)
+    let at_end = else3-to-end-recovery (is-short-to-else3 c.before.before.before.before.before) in
+    omega (arith, long c.before.before.clear-refused2.ensures.packed, (start at_end).pre.0)
 
 returns-6 : tie.Need-returns-6
 returns-6 c =
     let at-is-short = c.before.before.before.before.before in
     neighbors (is-short-to-else3 at-is-short) _ _ _
-    (enough-passed _ _ _ _ _ (known (else3-to-end-recovery (is-short-to-else3 at-is-short))) _ _ at-is-short.is_short.ensures c.before.before.before.before.if4.false c.before.before.clear-refused2.ensures)
+    (enough_passed _ _ _ _ _ (known (else3-to-end-recovery (is-short-to-else3 at-is-short))) _ _ at-is-short.is_short.ensures c.before.before.before.before.if4.false c.before.before.clear-refused2.ensures)
 
 pub maintain-spec : {M : Type 1} → statement M
 maintain-spec =

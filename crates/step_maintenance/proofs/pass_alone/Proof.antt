@@ -8,11 +8,11 @@ use Rattle.base_util.specs.Section.{part}
 use Rattle.spec_hyparview.specs.Timers.{rejoin_bootstrap, count_alone}
 use Rattle.hyparview_state.specs.Layout.{words, passes_alone_at}
 use Rattle.hyparview_state.specs.Work.{work_of, Changes, Tells, Fine}
-use Rattle.hyparview_state.proofs.Access.{of-bootstrap, of-recent}
+use Rattle.hyparview_state.proofs.Access.{of_bootstrap, of_recent}
 use Rattle.step_sending.proofs.Told.{room_of, room_drawn}
 use Rattle.step_refill.proofs.Asking.{fine_after}
-use Rattle.step_maintenance.proofs.Counted.{alone-refused, alone-left, alone-counted, others_are}
-use Rattle.step_maintenance.proofs.Joins.{Joining, joins_start, joins-below, joins-next, joins-end, no-recent, one-recent, fine_told, rejoined, rejoin-due, rejoin-not-due, alone_stopped, due_counted, passed_alone}
+use Rattle.step_maintenance.proofs.Counted.{alone_refused, alone_left, alone_counted, others_are}
+use Rattle.step_maintenance.proofs.Joins.{Joining, joins_start, joins_below, joins_next, joins_end, no_recent, one_recent, fine_told, rejoined, rejoin_due, rejoin_not_due, alone_stopped, due_counted, passed_alone}
 use borrow.Author.Rules.{rules}
 use Rattle.step_maintenance.proofs.pass_alone.Statement.{statement}
 use Rattle.step_maintenance.proofs.pass_alone.Tie as tie
@@ -60,14 +60,14 @@ long : (c : tie.Else1 invariant-loop decreases-loop) → length (after c) ≡ wo
 long c = simp length-set (else1-to-start c).requires.0
 
 counted : (c : tie.Else1 invariant-loop decreases-loop) → Changes count_alone (work_of (else1-to-start c).args.w (else1-to-start c).args.st.now) (work_of c.before.before.require.result (after c))
-counted c = alone-counted _ _ _ (else1-to-start c).requires.1.ready.packed c.before.before.require.ensures c.if1.false
+counted c = alone_counted _ _ _ (else1-to-start c).requires.1.ready.packed c.before.before.require.ensures c.if1.false
 
 fine-counted : (c : tie.Else1 invariant-loop decreases-loop) → Fine (work_of c.before.before.require.result (after c)) (else1-to-start c).args.draws.now (else1-to-start c).args.out.now
 fine-counted c = fine_after _ _ _ _ _ _ (fine (else1-to-start c)) (counted c)
 
 -- The Joins to the bootstrap peers.
 joined : (c : tie.After-loop invariant-loop decreases-loop) → Tells rejoin_bootstrap (work_of (count-to-else1 (loop-to-count c)).before.before.require.result (after (count-to-else1 (loop-to-count c)))) (work_of c.before.loop.a (after (count-to-else1 (loop-to-count c)))) (else1-to-start (count-to-else1 (loop-to-count c))).args.out.now c.before.loop.out
-joined c = joins-end _ _ _ _ _ _ _ c.before.loop.invariant c.loop-test.false
+joined c = joins_end _ _ _ _ _ _ _ c.before.loop.invariant c.loop-test.false
 
 fine-joined : (c : tie.After-loop invariant-loop decreases-loop) → Fine (work_of c.before.loop.a (after (count-to-else1 (loop-to-count c)))) (else1-to-start (count-to-else1 (loop-to-count c))).args.draws.now c.before.loop.out
 fine-joined c = fine_told _ _ _ _ _ _ _ (fine-counted (count-to-else1 (loop-to-count c))) (joined c)
@@ -81,16 +81,16 @@ require-requires c κs = search rules
 returns : tie.Need-returns invariant-loop decreases-loop
 returns c =
     let start = c.before.before.before.before.before.before.before in
-    alone_stopped _ _ _ _ _ (fine start) c.if1.true (alone-refused _ _ _ start.requires.1.ready.packed c.before.before.require.ensures c.if1.true)
+    alone_stopped _ _ _ _ _ (fine start) c.if1.true (alone_refused _ _ _ start.requires.1.ready.packed c.before.before.require.ensures c.if1.true)
 
 add-passes : tie.Need-overflow-add-passes invariant-loop decreases-loop
-add-passes c = record { fits = omega (arith, alone-left _ _ _ (else1-to-start c).requires.1.ready.packed c.before.before.require.ensures c.if1.false) }
+add-passes c = record { fits = omega (arith, alone_left _ _ _ (else1-to-start c).requires.1.ready.packed c.before.before.require.ensures c.if1.false) }
 
 slice-write-st : tie.Need-slice-write-st invariant-loop decreases-loop
 slice-write-st c = search rules
 
 cast-backoff-due : tie.Need-overflow-cast-backoff-due invariant-loop decreases-loop
-cast-backoff-due c = record { fits = omega (arith, alone-left _ _ _ (else1-to-start c).requires.1.ready.packed c.before.before.require.ensures c.if1.false) }
+cast-backoff-due c = record { fits = omega (arith, alone_left _ _ _ (else1-to-start c).requires.1.ready.packed c.before.before.require.ensures c.if1.false) }
 
 backoff-due-requires : tie.Need-backoff-due-requires invariant-loop decreases-loop
 backoff-due-requires c κs = search rules
@@ -109,7 +109,7 @@ slice-aggregate-copy-into c = search rules
 
 copy-into-requires : tie.Need-copy-into-requires invariant-loop decreases-loop
 unfolding part
-copy-into-requires c κs = (of-recent _ (fine-counted (backoff-due-to-else1 c.before.before.before.before)).ready.packed, search rules)
+copy-into-requires c κs = (of_recent _ (fine-counted (backoff-due-to-else1 c.before.before.before.before)).ready.packed, search rules)
 
 sub-bootstrap : tie.Need-overflow-sub-bootstrap invariant-loop decreases-loop
 sub-bootstrap c = search rules
@@ -127,11 +127,11 @@ without-all-requires : tie.Need-without-all-requires invariant-loop decreases-lo
 unfolding part
 without-all-requires c κs =
     let at-copy-into = c.before.before.before in
-    (at-copy-into.copy-into.ensures.valid, of-bootstrap _ (fine-counted (backoff-due-to-else1 (copy-into-to-backoff-due at-copy-into))).ready.packed)
+    (at-copy-into.copy-into.ensures.valid, of_bootstrap _ (fine-counted (backoff-due-to-else1 (copy-into-to-backoff-due at-copy-into))).ready.packed)
 
 count-requires : tie.Need-count-requires invariant-loop decreases-loop
 unfolding part
-count-requires c κs = of-bootstrap _ (fine-counted (backoff-due-to-else1 (copy-into-to-backoff-due (without-all-to-copy-into c.before)))).ready.packed
+count-requires c κs = of_bootstrap _ (fine-counted (backoff-due-to-else1 (copy-into-to-backoff-due (without-all-to-copy-into c.before)))).ready.packed
 
 loop-holds : tie.Need-loop-init invariant-loop decreases-loop
 unfolding part
@@ -141,7 +141,7 @@ get-index-requires : tie.Need-get-index-requires invariant-loop decreases-loop
 unfolding part
 get-index-requires c κs =
     let at-loop = c.before in
-    (of-bootstrap _ at-loop.loop.invariant.room.packed, joins-below _ _ _ _ _ _ _ at-loop.loop.invariant c.loop-test.true)
+    (of_bootstrap _ at-loop.loop.invariant.room.packed, joins_below _ _ _ _ _ _ _ at-loop.loop.invariant c.loop-test.true)
 
 add-i : tie.Need-overflow-add-i invariant-loop decreases-loop
 add-i c = search rules
@@ -156,7 +156,7 @@ loop-less c = search rules
 
 loop-again : tie.Need-loop-preserved invariant-loop decreases-loop
 unfolding part
-loop-again c = search joins-next
+loop-again c = search joins_next
 
 slice-aggregate-count : tie.Need-slice-aggregate-count invariant-loop decreases-loop
 slice-aggregate-count c = search rules
@@ -181,9 +181,9 @@ returns-2 c =
     let at-else1 = backoff-due-to-else1 at-backoff-due in
     let start = else1-to-start at-else1 in
     passed_alone _ _ _ _ _ _ _ _ (fine start)
-    (rejoin-due _ _ _ _ _ (due_counted start.args.st.now _ _ start.pre.0 at-backoff-due.backoff_due.ensures) _ _ at-copy-into.before.before.before.before.if2.taken
+    (rejoin_due _ _ _ _ _ (due_counted start.args.st.now _ _ start.pre.0 at-backoff-due.backoff_due.ensures) _ _ at-copy-into.before.before.before.before.if2.taken
     (rejoined _ _ _ _ _ _ _ _ _ (fine-counted at-else1) (others_are _ _ _ at-copy-into.copy-into.ensures at-without-all.without_all.ensures)
-    (no-recent _ _ _ _ _ _ (fine-joined at-loop) at-count2.count2.ensures.0 c.if3.true) (joined at-loop)))
+    (no_recent _ _ _ _ _ _ (fine-joined at-loop) at-count2.count2.ensures.0 c.if3.true) (joined at-loop)))
     (counted at-else1)
 
 draw-one-of-requires : tie.Need-draw-one-of-requires invariant-loop decreases-loop
@@ -224,9 +224,9 @@ returns-3 c =
     let at-else1 = backoff-due-to-else1 at-backoff-due in
     let start = else1-to-start at-else1 in
     passed_alone _ _ _ _ _ _ _ _ (fine start)
-    (rejoin-due _ _ _ _ _ (due_counted start.args.st.now _ _ start.pre.0 at-backoff-due.backoff_due.ensures) _ _ at-copy-into.before.before.before.before.if2.taken
+    (rejoin_due _ _ _ _ _ (due_counted start.args.st.now _ _ start.pre.0 at-backoff-due.backoff_due.ensures) _ _ at-copy-into.before.before.before.before.if2.taken
     (rejoined _ _ _ _ _ _ _ _ _ (fine-counted at-else1) (others_are _ _ _ at-copy-into.copy-into.ensures at-without-all.without_all.ensures)
-    (one-recent _ _ _ _ _ _ (fine-joined at-loop) at-count2.count2.ensures.0 _ _ at-draw-one-of.draw_one_of.ensures.1.0 at-get-index2.get-index2.ensures _ _ _ at-draw-one-of.before.if3.false at-join2.join2.ensures at-draw-one-of.draw_one_of.ensures.0)
+    (one_recent _ _ _ _ _ _ (fine-joined at-loop) at-count2.count2.ensures.0 _ _ at-draw-one-of.draw_one_of.ensures.1.0 at-get-index2.get-index2.ensures _ _ _ at-draw-one-of.before.if3.false at-join2.join2.ensures at-draw-one-of.draw_one_of.ensures.0)
     (joined at-loop)))
     (counted at-else1)
 
@@ -238,7 +238,7 @@ returns-4 c =
     let at-backoff-due = c.before in
     let at-else1 = backoff-due-to-else1 at-backoff-due in
     let start = else1-to-start at-else1 in
-    passed_alone _ _ _ _ _ _ _ _ (fine start) (rejoin-not-due _ _ _ _ _ (due_counted start.args.st.now _ _ start.pre.0 at-backoff-due.backoff_due.ensures) (fine-counted at-else1) c.if2.false) (counted at-else1)
+    passed_alone _ _ _ _ _ _ _ _ (fine start) (rejoin_not_due _ _ _ _ _ (due_counted start.args.st.now _ _ start.pre.0 at-backoff-due.backoff_due.ensures) (fine-counted at-else1) c.if2.false) (counted at-else1)
 
 pub pass-alone-spec : {M : Type 1} → statement M
 pass-alone-spec =

@@ -1,5 +1,5 @@
 -- By cases of the walk's length: the joiner is added to the passive view, or the work stays as it is.
-use Rattle.step_messages.proofs.Laws.{joiner-learned, joiner-unlearned}
+use Rattle.step_messages.proofs.Laws.{joiner_learned, joiner_unlearned}
 use borrow.Author.Rules.{rules}
 use Rattle.step_messages.proofs.learn_joiner.Statement.{statement}
 use Rattle.step_messages.proofs.learn_joiner.Tie as tie
@@ -17,10 +17,10 @@ same-length-2 : tie.Need-same-length-2
 same-length-2 c = search rules
 
 returns : tie.Need-returns
-returns c = search joiner-learned
+returns c = search joiner_learned
 
 returns-2 : tie.Need-returns-2
-returns-2 c = search joiner-unlearned
+returns-2 c = search joiner_unlearned
 
 pub learn-joiner-spec : {M : Type 1} → statement M
 learn-joiner-spec =

@@ -2,10 +2,10 @@
 use Rattle.base_util.specs.Section.{part}
 use Rattle.hyparview_state.specs.Unpack.{unpack, station_of}
 use Rattle.hyparview_state.proofs.Access.{of_packed}
-use Rattle.hyparview_state.proofs.Bridge.{on-passed, on-done}
+use Rattle.hyparview_state.proofs.Bridge.{on_passed, on_done}
 use Rattle.spec_hyparview.specs.Messages.{add_refused}
 use Rattle.hyparview_state.proofs.Fields.{put_refused}
-use Rattle.step_messages.proofs.Laws.{fits_known, refused_place, refusal_noted, refusal-there, refusal-none}
+use Rattle.step_messages.proofs.Laws.{fits_known, refused_place, refusal_noted, refusal_there, refusal_none}
 use borrow.Author.Rules.{rules}
 use Rattle.step_messages.proofs.note_refusal.Statement.{statement}
 use Rattle.step_messages.proofs.note_refusal.Tie as tie
@@ -54,8 +54,8 @@ unfolding part
 returns c = let at-require = c.before.before in
     let at_count = require-to-count at-require in
     let start = count-to-start at_count in
-    refusal-there _ _ _ _ at_count.before.before.before.if1.taken
-    (refusal_noted _ _ _ _ _ _ _ start.pre.1 (fits_known _ _ _ _ at_count.count.ensures.0 at-require.before.contains.ensures) (on-passed _ start.pre.1 _ (search rules)) at-require.require.ensures)
+    refusal_there _ _ _ _ at_count.before.before.before.if1.taken
+    (refusal_noted _ _ _ _ _ _ _ start.pre.1 (fits_known _ _ _ _ at_count.count.ensures.0 at-require.before.contains.ensures) (on_passed _ start.pre.1 _ (search rules)) at-require.require.ensures)
 
 sub-insert-sorted : tie.Need-overflow-sub-insert-sorted
 sub-insert-sorted c = search rules
@@ -81,11 +81,11 @@ unfolding add_refused unpack station_of part
 returns-2 c = let at-require = c.before.before.before.before.before.before in
     let at_count = require-to-count at-require in
     let start = count-to-start at_count in
-    refusal-there _ _ _ _ at_count.before.before.before.if1.taken
-    (refusal_noted _ _ _ _ _ _ _ start.pre.1 (fits_known start.args.st.now _ _ _ at_count.count.ensures.0 at-require.before.contains.ensures) (on-done _ start.pre.1 _ _ (search rules) (put_refused c.before.before.insert-sorted.ensures)) at-require.require.ensures)
+    refusal_there _ _ _ _ at_count.before.before.before.if1.taken
+    (refusal_noted _ _ _ _ _ _ _ start.pre.1 (fits_known start.args.st.now _ _ _ at_count.count.ensures.0 at-require.before.contains.ensures) (on_done _ start.pre.1 _ _ (search rules) (put_refused c.before.before.insert-sorted.ensures)) at-require.require.ensures)
 
 returns-3 : tie.Need-returns-3
-returns-3 c = search refusal-none
+returns-3 c = search refusal_none
 
 pub note-refusal-spec : {M : Type 1} → statement M
 note-refusal-spec =

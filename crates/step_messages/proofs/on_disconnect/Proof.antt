@@ -9,11 +9,11 @@ use Rattle.step_messages.specs.Between.{Between}
 use Rattle.hyparview_state.specs.Unpack.{unpack, station_of, long}
 use Rattle.hyparview_state.specs.Work.{work_of, run, Changes, Fine}
 use Rattle.hyparview_state.proofs.Access.{of_packed}
-use Rattle.hyparview_state.proofs.Bridge.{on-done}
+use Rattle.hyparview_state.proofs.Bridge.{on_done}
 use Rattle.hyparview_state.proofs.Fields.{put_recent}
 use Rattle.step_refill.proofs.Asking.{fine_after}
-use Rattle.step_messages.proofs.Laws.{words_as, recent-code, recent-gone, recent-kept, mark_place, passive-marked, passive-unmarked, topic-refilled, topic-left, still_markable, other_alive, other_left}
-use Rattle.step_messages.proofs.Between.{between_calm, between_mark, neighbor-lost, other-lost, open_forgotten, ended-between, disconnect-done}
+use Rattle.step_messages.proofs.Laws.{words_as, recent_code, recent_gone, recent_kept, mark_place, passive_marked, passive_unmarked, topic_refilled, topic_left, still_markable, other_alive, other_left}
+use Rattle.step_messages.proofs.Between.{between_calm, between_mark, neighbor_lost, other_lost, open_forgotten, ended_between, disconnect_done}
 use borrow.Author.Rules.{rules}
 use Rattle.step_messages.proofs.on_disconnect.Statement.{statement}
 use Rattle.step_messages.proofs.on_disconnect.Tie as tie
@@ -57,7 +57,7 @@ recent c =
     let at-drop-join = joined1-to-drop-join c in
     let start = drop-join-to-start at-drop-join in
     let packed = at-drop-join.drop_join.ensures.packed in
-    ⊎_elim (λ s. words_as _ _ _ _ _ s.5 (recent-gone _ _ _ _ s.0.taken (on-done _ packed _ _ (recent-code (work_of at-drop-join.drop_join.result at-drop-join.drop_join.last.1.0) start.args.p start.args.alive s.0.taken) (put_recent s.2.ensures)))) (λ s. words_as _ _ _ _ _ s.1 (recent-kept _ _ _ packed s.0.left)) c.if1.branch
+    ⊎_elim (λ s. words_as _ _ _ _ _ s.5 (recent_gone _ _ _ _ s.0.taken (on_done _ packed _ _ (recent_code (work_of at-drop-join.drop_join.result at-drop-join.drop_join.last.1.0) start.args.p start.args.alive s.0.taken) (put_recent s.2.ensures)))) (λ s. words_as _ _ _ _ _ s.1 (recent_kept _ _ _ packed s.0.left)) c.if1.branch
 
 ended : (c : tie.After-drop-request) → Changes (λ g. on (drop_request (drop-join-to-start (drop-request-to-drop-join c)).args.p) (forget_recent (drop-join-to-start (drop-request-to-drop-join c)).args.p (drop-join-to-start (drop-request-to-drop-join c)).args.alive (on (drop_join (drop-join-to-start (drop-request-to-drop-join c)).args.p) g))) (work_of (drop-join-to-start (drop-request-to-drop-join c)).args.w (drop-join-to-start (drop-request-to-drop-join c)).args.st.now) (work_of c.drop_request.result c.drop_request.new.1.0)
 ended c = open_forgotten _ _ _ _ _ _ c.drop_request.ensures (recent (drop-request-to-joined1 c)) (drop-request-to-drop-join c).drop_join.ensures
@@ -93,7 +93,7 @@ remove-active-requires c κs =
     let at-drop-join = drop-request-to-drop-join at-drop-request in
     let start = drop-join-to-start at-drop-join in
     let forgotten = ended at-drop-request in
-    (long forgotten.packed, (fine_after _ _ _ _ _ _ (fine start) forgotten, between_calm _ _ _ _ _ _ (ended-between _ _ _ _ _ _ forgotten _ _ _ (between start))))
+    (long forgotten.packed, (fine_after _ _ _ _ _ _ (fine start) forgotten, between_calm _ _ _ _ _ _ (ended_between _ _ _ _ _ _ forgotten _ _ _ (between start))))
 
 same_length : tie.Need-same-length
 same_length c =
@@ -111,8 +111,8 @@ returns c =
     let at-drop-join = drop-request-to-drop-join at-drop-request in
     let start = drop-join-to-start at-drop-join in
     let forgotten = ended at-drop-request in
-    disconnect-done _ _ _ _ _ _ forgotten _ _ _ (fine start) at-drop-join.before.before.is_requested.ensures
-    (neighbor-lost _ _ _ _ _ _ _ _ _ at-then2.before.in_active.ensures at-then2.if2.true c.before.before.before.before.remove_active.ensures)
+    disconnect_done _ _ _ _ _ _ forgotten _ _ _ (fine start) at-drop-join.before.before.is_requested.ensures
+    (neighbor_lost _ _ _ _ _ _ _ _ _ at-then2.before.in_active.ensures at-then2.if2.true c.before.before.before.before.remove_active.ensures)
 
 note-refusal-requires : tie.Need-note-refusal-requires
 note-refusal-requires c κs =
@@ -133,7 +133,7 @@ mark-alive-requires c κs =
     let at-drop-join = drop-request-to-drop-join at-drop-request in
     let start = drop-join-to-start at-drop-join in
     let forgotten = ended at-drop-request in
-    let markable = still_markable _ _ _ _ _ _ (between_mark _ _ _ _ _ _ _ _ (ended-between _ _ _ _ _ _ forgotten _ _ _ (between start))) at-note-refusal.note_refusal.ensures in
+    let markable = still_markable _ _ _ _ _ _ (between_mark _ _ _ _ _ _ _ _ (ended_between _ _ _ _ _ _ forgotten _ _ _ (between start))) at-note-refusal.note_refusal.ensures in
     (search (rules, long (ended at-drop-request).packed), (at-note-refusal.note_refusal.ensures.packed, mark_place _ _ _ _ c.before.before.in_passive.ensures c.before.if4.true markable))
 
 same-length-3 : tie.Need-same-length-3
@@ -152,9 +152,9 @@ returns-2 c =
     let at-drop-join = drop-request-to-drop-join at-drop-request in
     let start = drop-join-to-start at-drop-join in
     let forgotten = ended at-drop-request in
-    let marked = passive-marked _ _ _ at-in-passive.in_passive.ensures _ c.before.before.before.before.if4.true c.before.before.mark_alive.ensures in
-    disconnect-done _ _ _ _ _ _ forgotten _ _ _ (fine start) at-drop-join.before.before.is_requested.ensures
-    (other-lost _ _ _ _ _ _ _ _ _ at-in-active.in_active.ensures at-note-refusal.before.before.before.if2.false (other_alive _ _ _ _ _ _ _ _ (fine_after _ _ _ _ _ _ (fine start) forgotten) at-note-refusal.before.before.if3.true marked at-note-refusal.note_refusal.ensures))
+    let marked = passive_marked _ _ _ at-in-passive.in_passive.ensures _ c.before.before.before.before.if4.true c.before.before.mark_alive.ensures in
+    disconnect_done _ _ _ _ _ _ forgotten _ _ _ (fine start) at-drop-join.before.before.is_requested.ensures
+    (other_lost _ _ _ _ _ _ _ _ _ at-in-active.in_active.ensures at-note-refusal.before.before.before.if2.false (other_alive _ _ _ _ _ _ _ _ (fine_after _ _ _ _ _ _ (fine start) forgotten) at-note-refusal.before.before.if3.true marked at-note-refusal.note_refusal.ensures))
 
 same-length-4 : tie.Need-same-length-4
 same-length-4 c =
@@ -171,9 +171,9 @@ returns-3 c =
     let at-drop-join = drop-request-to-drop-join at-drop-request in
     let start = drop-join-to-start at-drop-join in
     let forgotten = ended at-drop-request in
-    let unmarked = passive-unmarked _ _ _ at-in-passive.in_passive.ensures at-note-refusal.note_refusal.ensures.packed c.if4.false in
-    disconnect-done _ _ _ _ _ _ forgotten _ _ _ (fine start) at-drop-join.before.before.is_requested.ensures
-    (other-lost _ _ _ _ _ _ _ _ _ at-in-active.in_active.ensures at-note-refusal.before.before.before.if2.false (other_alive _ _ _ _ _ _ _ _ (fine_after _ _ _ _ _ _ (fine start) forgotten) at-note-refusal.before.before.if3.true unmarked at-note-refusal.note_refusal.ensures))
+    let unmarked = passive_unmarked _ _ _ at-in-passive.in_passive.ensures at-note-refusal.note_refusal.ensures.packed c.if4.false in
+    disconnect_done _ _ _ _ _ _ forgotten _ _ _ (fine start) at-drop-join.before.before.is_requested.ensures
+    (other_lost _ _ _ _ _ _ _ _ _ at-in-active.in_active.ensures at-note-refusal.before.before.before.if2.false (other_alive _ _ _ _ _ _ _ _ (fine_after _ _ _ _ _ _ (fine start) forgotten) at-note-refusal.before.before.if3.true unmarked at-note-refusal.note_refusal.ensures))
 
 drop-passive-requires : tie.Need-drop-passive-requires
 drop-passive-requires c κs =
@@ -211,9 +211,9 @@ returns-4 c =
     let at-drop-join = drop-request-to-drop-join at-drop-request in
     let start = drop-join-to-start at-drop-join in
     let forgotten = ended at-drop-request in
-    let refilled = topic-refilled _ _ _ _ _ _ (fine_after _ _ _ _ _ _ (fine start) forgotten) at-drop-passive.drop_passive.ensures _ _ at-refill.before.before.before.before.if5.true at-refill.refill_active_from_passive.ensures in
-    disconnect-done _ _ _ _ _ _ forgotten _ _ _ (fine start) at-drop-join.before.before.is_requested.ensures
-    (other-lost _ _ _ _ _ _ _ _ _ at-in-active.in_active.ensures at-drop-passive.before.before.before.if2.left (other_left _ _ _ _ _ _ _ _ at-drop-passive.before.before.if3.left refilled))
+    let refilled = topic_refilled _ _ _ _ _ _ (fine_after _ _ _ _ _ _ (fine start) forgotten) at-drop-passive.drop_passive.ensures _ _ at-refill.before.before.before.before.if5.true at-refill.refill_active_from_passive.ensures in
+    disconnect_done _ _ _ _ _ _ forgotten _ _ _ (fine start) at-drop-join.before.before.is_requested.ensures
+    (other_lost _ _ _ _ _ _ _ _ _ at-in-active.in_active.ensures at-drop-passive.before.before.before.if2.left (other_left _ _ _ _ _ _ _ _ at-drop-passive.before.before.if3.left refilled))
 
 same-length-7 : tie.Need-same-length-7
 same-length-7 c =
@@ -229,9 +229,9 @@ returns-5 c =
     let at-drop-join = drop-request-to-drop-join at-drop-request in
     let start = drop-join-to-start at-drop-join in
     let forgotten = ended at-drop-request in
-    let gone = topic-left _ _ _ _ _ _ (fine_after _ _ _ _ _ _ (fine start) forgotten) at-drop-passive.drop_passive.ensures c.if5.false in
-    disconnect-done _ _ _ _ _ _ forgotten _ _ _ (fine start) at-drop-join.before.before.is_requested.ensures
-    (other-lost _ _ _ _ _ _ _ _ _ at-in-active.in_active.ensures at-drop-passive.before.before.before.if2.false (other_left _ _ _ _ _ _ _ _ at-drop-passive.before.before.if3.false gone))
+    let gone = topic_left _ _ _ _ _ _ (fine_after _ _ _ _ _ _ (fine start) forgotten) at-drop-passive.drop_passive.ensures c.if5.false in
+    disconnect_done _ _ _ _ _ _ forgotten _ _ _ (fine start) at-drop-join.before.before.is_requested.ensures
+    (other_lost _ _ _ _ _ _ _ _ _ at-in-active.in_active.ensures at-drop-passive.before.before.before.if2.false (other_left _ _ _ _ _ _ _ _ at-drop-passive.before.before.if3.false gone))
 
 pub on-disconnect-spec : {M : Type 1} → statement M
 on-disconnect-spec =

@@ -1,6 +1,6 @@
 -- By cases: the walk ends here, its joiner was asked already, or it goes on to one of the others, or to 0 where there is none.
 use Rattle.step_sending.proofs.Told.{room_drawn}
-use Rattle.step_messages.proofs.Laws.{end_known, joiner_asked, walk-ended, walk-stopped, walk-goes-on, walked_on, join-on-none, join-on-one}
+use Rattle.step_messages.proofs.Laws.{end_known, joiner_asked, walk_ended, walk_stopped, walk_goes_on, walked_on, join_on_none, join_on_one}
 use borrow.Author.Rules.{rules}
 use Rattle.step_messages.proofs.on_forward_join.Statement.{statement}
 use Rattle.step_messages.proofs.on_forward_join.Tie as tie
@@ -43,7 +43,7 @@ same-length-2 : tie.Need-same-length-2
 same-length-2 c = search rules
 
 returns : tie.Need-returns
-returns c = search (walk-ended, joiner_asked, end_known)
+returns c = search (walk_ended, joiner_asked, end_known)
 
 learn-joiner-requires : tie.Need-learn-joiner-requires
 learn-joiner-requires c κs = search rules
@@ -58,7 +58,7 @@ same-length-4 : tie.Need-same-length-4
 same-length-4 c = search rules
 
 returns-2 : tie.Need-returns-2
-returns-2 c = search (walk-goes-on, walk-stopped, end_known)
+returns-2 c = search (walk_goes_on, walk_stopped, end_known)
 
 slice-aggregate-other-active : tie.Need-slice-aggregate-other-active
 slice-aggregate-other-active c = search rules
@@ -96,9 +96,9 @@ returns-3 c =
     let ended = end_known _ _ _ _ _ _ (learn-joiner-to-in-active at-learn-joiner).in_active.ensures at-if1.before.before.before.expired.ensures at-if1.before.is_last_hop.ensures in
     let walked =
     walked_on _ _ _ _ _ _ _ _ at-if2.before.is_requested.ensures _ at_next.before.before.before.before.other-active.ensures _ _ at-if2.if2.left
-    (join-on-none _ _ _ _ _ _ _ _ _ at-learn-joiner.learn_joiner.ensures.fine at_next.before.count.ensures.0 at_next.next.ensures _ _ c.before.before.before.before.if3.true c.before.before.forward_join_to.ensures)
+    (join_on_none _ _ _ _ _ _ _ _ _ at-learn-joiner.learn_joiner.ensures.fine at_next.before.count.ensures.0 at_next.next.ensures _ _ c.before.before.before.before.if3.true c.before.before.forward_join_to.ensures)
     in
-    walk-goes-on _ _ _ _ _ _ _ _ _ ended _ _ at-if1.if1.left walked at-learn-joiner.learn_joiner.ensures
+    walk_goes_on _ _ _ _ _ _ _ _ _ ended _ _ at-if1.if1.left walked at-learn-joiner.learn_joiner.ensures
 
 draw-one-of-requires : tie.Need-draw-one-of-requires
 draw-one-of-requires c κs = search rules
@@ -136,9 +136,9 @@ returns-4 c =
     let ended = end_known _ _ _ _ _ _ (learn-joiner-to-in-active at-learn-joiner).in_active.ensures at-if1.before.before.before.expired.ensures at-if1.before.is_last_hop.ensures in
     let walked =
     walked_on _ _ _ _ _ _ _ _ at-if2.before.is_requested.ensures _ at_next.before.before.before.before.other-active.ensures _ _ at-if2.if2.left
-    (join-on-one _ _ _ _ _ _ _ _ _ at-learn-joiner.learn_joiner.ensures.fine at_next.before.count.ensures.0 at_next.next.ensures _ _ _ _ _ at-draw-one-of.draw_one_of.ensures.1.0 c.before.before.before.before.get-index.ensures c.before.before.forward-join-to2.ensures at-draw-one-of.draw_one_of.ensures.0)
+    (join_on_one _ _ _ _ _ _ _ _ _ at-learn-joiner.learn_joiner.ensures.fine at_next.before.count.ensures.0 at_next.next.ensures _ _ _ _ _ at-draw-one-of.draw_one_of.ensures.1.0 c.before.before.before.before.get-index.ensures c.before.before.forward-join-to2.ensures at-draw-one-of.draw_one_of.ensures.0)
     in
-    walk-goes-on _ _ _ _ _ _ _ _ _ ended _ _ at-if1.if1.left walked at-learn-joiner.learn_joiner.ensures
+    walk_goes_on _ _ _ _ _ _ _ _ _ ended _ _ at-if1.if1.left walked at-learn-joiner.learn_joiner.ensures
 
 pub on-forward-join-spec : {M : Type 1} → statement M
 on-forward-join-spec =

@@ -13,10 +13,10 @@ use Rattle.spec_hyparview.specs.Messages.{forward_join_to}
 use Rattle.work.specs.declared.Work.{Work}
 use Rattle.hyparview_state.specs.Work.{work_of, run, TellsAny, Fine, Does}
 use Rattle.hyparview_state.proofs.Bridge.{still}
-use Rattle.hyparview_state.proofs.Any.{then-tell-any}
+use Rattle.hyparview_state.proofs.Any.{then_tell_any}
 use Rattle.step_refill.proofs.Asking.{fine_after}
-use Rattle.step_messages.proofs.Laws.{walk_fits, joins-forwarded}
-use Rattle.step_messages.proofs.Between.{pending-calm, joined}
+use Rattle.step_messages.proofs.Laws.{walk_fits, joins_forwarded}
+use Rattle.step_messages.proofs.Between.{pending_calm, joined}
 use borrow.Author.Rules.{rules}
 use Rattle.step_messages.proofs.on_join.Statement.{statement}
 use Rattle.step_messages.proofs.on_join.Tie as tie
@@ -36,7 +36,7 @@ module _ (f : ℕ → Rec) (xs ds out₀ ps : List ℕ) (k : ℕ) (w : Work) (ou
   more : (r : Work) (o : List ℕ) → i < k → TellsAny (emit (f (get_or ps i 0))) a r out o → length o ≡ length out → Telling f xs ds out₀ ps k w o r (i + 1)
   unfolding emit_all
   more r o h t q =
-      let d = then-tell-any _ t (still v.fine) in
+      let d = then_tell_any _ t (still v.fine) in
       record { fine = d.fine; len = q ∙ v.len; rest = rest_next 0 (Then f) v.rest (run (work_of r xs) ds o) h (λ l. ap (emit_all f l) (sym d.same)) }
 
   end : k ≤ i → Does (work_of a xs) ds out (emit_all f (take k ps) (run (work_of w xs) ds out₀))
@@ -67,7 +67,7 @@ drop-pending-requires : tie.Need-drop-pending-requires invariant-loop decreases-
 drop-pending-requires c κs = search rules
 
 add-active-requires : tie.Need-add-active-requires invariant-loop decreases-loop
-add-active-requires c κs = (search rules, (search (fine_after, rules), (search rules, search pending-calm)))
+add-active-requires c κs = (search rules, (search (fine_after, rules), (search rules, search pending_calm)))
 
 slice-aggregate-other-active : tie.Need-slice-aggregate-other-active invariant-loop decreases-loop
 slice-aggregate-other-active c = search rules
@@ -128,7 +128,7 @@ returns c =
     let at-drop-pending = add-active-to-drop-pending at-add-active in
     let start = drop-pending-to-start at-drop-pending in
     let told = end _ _ _ _ _ _ _ _ _ _ at-loop.loop.invariant (search rules) in
-    joined _ _ _ _ _ at-drop-pending.drop_pending.ensures (given start) _ _ _ _ _ (joins-forwarded _ _ _ _ _ _ _ _ _ _ at-other-active.other-active.ensures at_count.count.ensures.0 told) at-add-active.add_active.ensures
+    joined _ _ _ _ _ at-drop-pending.drop_pending.ensures (given start) _ _ _ _ _ (joins_forwarded _ _ _ _ _ _ _ _ _ _ at-other-active.other-active.ensures at_count.count.ensures.0 told) at-add-active.add_active.ensures
 
 pub on-join-spec : {M : Type 1} → statement M
 on-join-spec =

@@ -2,7 +2,7 @@
 use Rattle.hyparview_state.specs.Work.{Fine, work_of}
 use Rattle.step_refill.proofs.Asking.{fine_after}
 use Rattle.step_messages.proofs.Laws.{accept_known, neighbor_refused}
-use Rattle.step_messages.proofs.Between.{pending-calm, neighbor-taken, neighbor-turned, neighbor-answered}
+use Rattle.step_messages.proofs.Between.{pending_calm, neighbor_taken, neighbor_turned, neighbor_answered}
 use borrow.Author.Rules.{rules}
 use Rattle.step_messages.proofs.on_neighbor.Statement.{statement}
 use Rattle.step_messages.proofs.on_neighbor.Tie as tie
@@ -42,7 +42,7 @@ active-is-full-requires c κs = search rules
 add-active-requires : tie.Need-add-active-requires
 add-active-requires c κs = let at-drop-pending = is-me-to-drop-pending c.before.before.before.before.before.before in
     let start = drop-pending-to-start at-drop-pending in
-    (search rules, (fine_after _ _ _ _ _ _ (fine start) at-drop-pending.drop_pending.ensures, (start.pre.1.1.0, pending-calm _ _ _ _ _ at-drop-pending.drop_pending.ensures _ _ _ start.pre.1.1.1)))
+    (search rules, (fine_after _ _ _ _ _ _ (fine start) at-drop-pending.drop_pending.ensures, (start.pre.1.1.0, pending_calm _ _ _ _ _ at-drop-pending.drop_pending.ensures _ _ _ start.pre.1.1.1)))
 
 same_length : tie.Need-same-length
 same_length c = search rules
@@ -56,8 +56,8 @@ returns c = let at-add-active = c.before.before.before.before.before in
     let at-drop-pending = is-me-to-drop-pending at-is-me in
     let start = drop-pending-to-start at-drop-pending in
     let accepted = accept_known _ _ _ _ _ _ at-is-me.is_me.ensures at-add-active.before.before.before.before.before.in_active.ensures at-add-active.before.before.before.active_is_full.ensures in
-    neighbor-answered _ _ _ _ _ at-drop-pending.drop_pending.ensures (fine start) _ _ _ _ _ at-drop-pending.before.before.is_requested.ensures
-    (neighbor-taken _ _ _ _ _ _ _ _ _ _ accepted at-add-active.add_active.ensures c.if1.true)
+    neighbor_answered _ _ _ _ _ at-drop-pending.drop_pending.ensures (fine start) _ _ _ _ _ at-drop-pending.before.before.is_requested.ensures
+    (neighbor_taken _ _ _ _ _ _ _ _ _ _ accepted at-add-active.add_active.ensures c.if1.true)
 
 send-disconnect-requires : tie.Need-send-disconnect-requires
 send-disconnect-requires c κs =
@@ -89,8 +89,8 @@ returns-2 c = let at-send-disconnect = c.before.before.before.before.before.befo
     let at-drop-pending = is-me-to-drop-pending at-is-me in
     let start = drop-pending-to-start at-drop-pending in
     let accepted = accept_known _ _ _ _ _ _ at-is-me.is_me.ensures at-add-active.before.before.before.before.before.in_active.ensures at-add-active.before.before.before.active_is_full.ensures in
-    neighbor-answered _ _ _ _ _ at-drop-pending.drop_pending.ensures (fine start) _ _ _ _ _ at-drop-pending.before.before.is_requested.ensures
-    (neighbor-turned _ _ _ _ _ _ _ _ _ _ accepted at-add-active.add_active.ensures _ _ at-if1.if1.false (neighbor_refused _ _ _ _ _ _ _ c.before.before.forget_peer.ensures at-send-disconnect.send_disconnect.ensures))
+    neighbor_answered _ _ _ _ _ at-drop-pending.drop_pending.ensures (fine start) _ _ _ _ _ at-drop-pending.before.before.is_requested.ensures
+    (neighbor_turned _ _ _ _ _ _ _ _ _ _ accepted at-add-active.add_active.ensures _ _ at-if1.if1.false (neighbor_refused _ _ _ _ _ _ _ c.before.before.forget_peer.ensures at-send-disconnect.send_disconnect.ensures))
 
 pub on-neighbor-spec : {M : Type 1} → statement M
 on-neighbor-spec =

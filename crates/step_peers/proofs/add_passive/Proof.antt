@@ -2,10 +2,10 @@
 use Rattle.base_util.specs.Section.{part}
 use Rattle.hyparview_state.specs.Unpack.{unpack, station_of}
 use Rattle.hyparview_state.proofs.Access.{of_packed}
-use Rattle.hyparview_state.proofs.Bridge.{on-done}
+use Rattle.hyparview_state.proofs.Bridge.{on_done}
 use Rattle.hyparview_state.proofs.Fields.{put_passive}
 use Rattle.spec_hyparview.specs.Peers.{push_passive}
-use Rattle.step_peers.proofs.Laws.{after_info, place-passive, one_more, not_entered, entered, refused}
+use Rattle.step_peers.proofs.Laws.{after_info, place_passive, one_more, not_entered, entered, refused}
 use borrow.Author.Rules.{rules}
 use Rattle.step_peers.proofs.add_passive.Statement.{statement}
 use Rattle.step_peers.proofs.add_passive.Tie as tie
@@ -65,7 +65,7 @@ push-requires c κs =
     let at_room = else2-to-make-room at-else2 in
     let at-info = is-newcomer-to-insert-peer-info (make-room-to-then1 at_room).before in
     let start = insert-peer-info-to-start at-info in
-    (search (of_packed, rules), place-passive _ _ _ _ _ _ _ _ (after_info _ _ _ _ _ _ _ start.pre.1.0 at-info.insert_peer_info.ensures) at_room.make_room.ensures at-else2.if2.false)
+    (search (of_packed, rules), place_passive _ _ _ _ _ _ _ _ (after_info _ _ _ _ _ _ _ start.pre.1.0 at-info.insert_peer_info.ensures) at_room.make_room.ensures at-else2.if2.false)
 
 same-length-3 : tie.Need-same-length-3
 same-length-3 c = search rules
@@ -84,7 +84,7 @@ returns-2 c =
     let start = insert-peer-info-to-start at-info in
     let fine = after_info _ _ _ _ _ _ _ start.pre.1.0 at-info.insert_peer_info.ensures in
     entered _ _ _ _ _ _ _ _ _ _ start.pre.1.0 at-info.insert_peer_info.ensures at-then1.before.is_newcomer.ensures _ _ _ at-then1.if1.taken at_room.make_room.ensures _
-    (on-done _ at_room.make_room.ensures.does.fine.ready.packed _ _ at-else2.if2.false (put_passive at_push.push.ensures (one_more _ _ _ _ _ _ _ _ fine at_room.make_room.ensures at-else2.if2.false _)))
+    (on_done _ at_room.make_room.ensures.does.fine.ready.packed _ _ at-else2.if2.false (put_passive at_push.push.ensures (one_more _ _ _ _ _ _ _ _ fine at_room.make_room.ensures at-else2.if2.false _)))
 
 same-length-5 : tie.Need-same-length-5
 same-length-5 c = search rules

@@ -2,7 +2,7 @@
 use Rattle.base_util.specs.Section.{part}
 use Rattle.hyparview_state.specs.Unpack.{unpack, station_of}
 use Rattle.hyparview_state.proofs.Access.{of_packed}
-use Rattle.hyparview_state.proofs.Bridge.{on-passed, on-done}
+use Rattle.hyparview_state.proofs.Bridge.{on_passed, on_done}
 use Rattle.spec_hyparview.specs.Peers.{drop_data}
 use Rattle.hyparview_state.proofs.Fields.{put_peer_data}
 use borrow.Author.Rules.{rules}
@@ -10,7 +10,7 @@ use Rattle.step_peers.proofs.drop_data.Statement.{statement}
 use Rattle.step_peers.proofs.drop_data.Tie as tie
 
 returns : tie.Need-returns
-returns c = search on-passed
+returns c = search on_passed
 
 sub-remove-data : tie.Need-overflow-sub-remove-data
 sub-remove-data c = search rules
@@ -30,7 +30,7 @@ same_length c = search rules
 
 returns-2 : tie.Need-returns-2
 unfolding drop_data unpack station_of part
-returns-2 c = on-done _ (search rules) _ _ (search rules) (put_peer_data c.before.before.remove-data.ensures)
+returns-2 c = on_done _ (search rules) _ _ (search rules) (put_peer_data c.before.before.remove-data.ensures)
 
 pub drop-data-spec : {M : Type 1} → statement M
 drop-data-spec =

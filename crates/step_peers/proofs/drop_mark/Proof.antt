@@ -2,7 +2,7 @@
 use Rattle.base_util.specs.Section.{part}
 use Rattle.hyparview_state.specs.Unpack.{unpack, station_of}
 use Rattle.hyparview_state.proofs.Access.{of_packed}
-use Rattle.hyparview_state.proofs.Bridge.{on-passed, on-done}
+use Rattle.hyparview_state.proofs.Bridge.{on_passed, on_done}
 use Rattle.spec_hyparview.specs.Peers.{drop_mark}
 use Rattle.hyparview_state.proofs.Fields.{put_alive}
 use borrow.Author.Rules.{rules}
@@ -10,7 +10,7 @@ use Rattle.step_peers.proofs.drop_mark.Statement.{statement}
 use Rattle.step_peers.proofs.drop_mark.Tie as tie
 
 returns : tie.Need-returns
-returns c = search on-passed
+returns c = search on_passed
 
 sub-without : tie.Need-overflow-sub-without
 sub-without c = search rules
@@ -30,7 +30,7 @@ same_length c = search rules
 
 returns-2 : tie.Need-returns-2
 unfolding drop_mark unpack station_of part
-returns-2 c = on-done _ (search rules) _ _ (search rules) (put_alive c.before.before.without.ensures)
+returns-2 c = on_done _ (search rules) _ _ (search rules) (put_alive c.before.before.without.ensures)
 
 pub drop-mark-spec : {M : Type 1} → statement M
 drop-mark-spec =

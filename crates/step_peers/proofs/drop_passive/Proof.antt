@@ -1,6 +1,6 @@
 -- The two steps, one after the other, are the definition's sequence.
 use mathlib.Core.Path.{refl}
-use Rattle.hyparview_state.proofs.Bridge.{change-then}
+use Rattle.hyparview_state.proofs.Bridge.{change_then}
 use Rattle.spec_hyparview.specs.Peers.{drop_passive}
 use borrow.Author.Rules.{rules}
 use Rattle.step_peers.proofs.drop_passive.Statement.{statement}
@@ -17,7 +17,7 @@ same_length c = search rules
 
 returns : tie.Need-returns
 unfolding drop_passive
-returns c = change-then _ (λ ds out. refl) c.before.before.forget_peer.ensures c.before.before.before.before.before.before.remove_passive.ensures
+returns c = change_then _ (λ ds out. refl) c.before.before.forget_peer.ensures c.before.before.before.before.before.before.remove_passive.ensures
 
 pub drop-passive-spec : {M : Type 1} → statement M
 drop-passive-spec =

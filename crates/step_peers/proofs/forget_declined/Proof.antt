@@ -3,8 +3,8 @@ use Rattle.base_util.specs.Section.{part}
 use Rattle.spec_hyparview.specs.Station.{data_peers}
 use Rattle.spec_hyparview.specs.Handle.{forget_declined}
 use Rattle.hyparview_state.specs.Unpack.{unpack, station_of, PackedState}
-use Rattle.hyparview_state.proofs.Access.{of_packed, of-active, of-passive, of-requests, of-peer-data}
-use Rattle.hyparview_state.proofs.Bridge.{on-passed, on-done}
+use Rattle.hyparview_state.proofs.Access.{of_packed, of_active, of_passive, of_requests, of_peer_data}
+use Rattle.hyparview_state.proofs.Bridge.{on_passed, on_done}
 use Rattle.hyparview_state.proofs.Fields.{put_peer_data}
 use borrow.Author.Rules.{rules}
 use Rattle.step_peers.proofs.Declined.{none_declined, retained}
@@ -23,7 +23,7 @@ abbrev v-to-start : tie.After-v → tie.Start
 v-to-start c = data-known-arg4-to-start c.before.before.before.before.before.before.before
 
 returns : tie.Need-returns
-returns c = search on-passed
+returns c = search on_passed
 
 sub-data-known : tie.Need-overflow-sub-data-known
 sub-data-known c = search rules
@@ -65,14 +65,14 @@ data-known-requires : tie.Need-data-known-requires
 unfolding part
 data-known-requires c κs =
     let p = packed (data-known-arg4-to-start c) in
-    (of-peer-data _ p, (of-active _ p, (of-passive _ p, of-requests _ p)))
+    (of_peer_data _ p, (of_active _ p, (of_passive _ p, of_requests _ p)))
 
 same_length : tie.Need-same-length
 same_length c = search rules
 
 returns-2 : tie.Need-returns-2
 unfolding data_peers unpack station_of part
-returns-2 c = on-done _ (search rules) _ _ (search rules) (search none_declined)
+returns-2 c = on_done _ (search rules) _ _ (search rules) (search none_declined)
 
 sub-data-peers : tie.Need-overflow-sub-data-peers
 sub-data-peers c = search rules
@@ -108,7 +108,7 @@ data-peers-requires : tie.Need-data-peers-requires
 unfolding part
 data-peers-requires c κs =
     let p = packed (v-to-start c) in
-    (of-active _ p, (of-passive _ p, (of-requests _ p, search rules)))
+    (of_active _ p, (of_passive _ p, (of_requests _ p, search rules)))
 
 sub-retain-data : tie.Need-overflow-sub-retain-data
 sub-retain-data c = search rules
@@ -131,7 +131,7 @@ same-length-2 c = search rules
 
 returns-3 : tie.Need-returns-3
 unfolding forget_declined data_peers unpack station_of part
-returns-3 c = on-done _ (search rules) _ _ (search rules) (put_peer_data (retained _ _ _ _ c.before.before.retain-data.ensures (search rules)))
+returns-3 c = on_done _ (search rules) _ _ (search rules) (put_peer_data (retained _ _ _ _ c.before.before.retain-data.ensures (search rules)))
 
 pub forget-declined-spec : {M : Type 1} → statement M
 forget-declined-spec =

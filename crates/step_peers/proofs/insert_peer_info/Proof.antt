@@ -10,9 +10,9 @@ use Rattle.spec_hyparview.specs.Peers.{announce_data, store_data}
 use Rattle.hyparview_state.specs.Unpack.{unpack, station_of}
 use Rattle.hyparview_state.specs.Work.{work_of, Tells}
 use Rattle.hyparview_state.proofs.Access.{of_packed}
-use Rattle.hyparview_state.proofs.Bridge.{on-done, on-passed}
+use Rattle.hyparview_state.proofs.Bridge.{on_done, on_passed}
 use Rattle.hyparview_state.proofs.Fields.{put_peer_data}
-use Rattle.step_peers.proofs.Laws.{no_bytes, told_as, not-announced, announced, fits_known, entry_free, is_given, info-passed, info-stored}
+use Rattle.step_peers.proofs.Laws.{no_bytes, told_as, not_announced, announced, fits_known, entry_free, is_given, info_passed, info_stored}
 use borrow.Author.Rules.{rules}
 use Rattle.step_peers.proofs.insert_peer_info.Statement.{statement}
 use Rattle.step_peers.proofs.insert_peer_info.Tie as tie
@@ -37,7 +37,7 @@ told c =
     let empty = no_bytes (start c).args.d given.1 in
     ⊎_elim
     (λ t. told_as _ _ _ _ _ _ _ t.6 t.5 (announced _ _ _ _ _ _ _ _ given.0 (is_given (start c).args.d _ (joined2-to-else1 c).if1.false) empty (ne_eqb _ _ t.0.taken) t.2.ensures))
-    (λ t. told_as _ _ _ _ _ _ _ t.2 t.1 (not-announced _ _ _ _ _ given.0 empty (eq-eqb _ _ t.0.left)))
+    (λ t. told_as _ _ _ _ _ _ _ t.2 t.1 (not_announced _ _ _ _ _ given.0 empty (eq-eqb _ _ t.0.left)))
     c.if2.branch
 
 -- The output is as long as it was.
@@ -65,7 +65,7 @@ same_length c = search rules
 
 returns : tie.Need-returns
 unfolding part unpack station_of
-returns c = search info-passed
+returns c = search info_passed
 
 notify-node-requires : tie.Need-notify-node-requires
 notify-node-requires c κs = search rules
@@ -121,8 +121,8 @@ returns-2 c =
     let joined = require-to-joined2 at-require in
     let packed = (start joined).pre.1.0.packed in
     let else1 = joined2-to-else1 joined in
-    info-stored _ _ _ _ _ _ packed else1.before.holds-data.ensures _ _ _ _ else1.if1.left (told joined) at-require.before.before.contains-data.ensures at-require.require.ensures _
-    (on-done _ packed _ _ at-then3.if3.true (put_peer_data at-insert.insert_data.ensures))
+    info_stored _ _ _ _ _ _ packed else1.before.holds-data.ensures _ _ _ _ else1.if1.left (told joined) at-require.before.before.contains-data.ensures at-require.require.ensures _
+    (on_done _ packed _ _ at-then3.if3.true (put_peer_data at-insert.insert_data.ensures))
 
 same-length-4 : tie.Need-same-length-4
 same-length-4 c = search rules
@@ -137,8 +137,8 @@ returns-3 c =
     let joined = require-to-joined2 at-require in
     let packed = (start joined).pre.1.0.packed in
     let else1 = joined2-to-else1 joined in
-    info-stored _ _ _ _ _ _ packed else1.before.holds-data.ensures _ _ _ _ else1.if1.left (told joined) at-require.before.before.contains-data.ensures at-require.require.ensures _
-    (on-passed _ packed _ c.if3.false)
+    info_stored _ _ _ _ _ _ packed else1.before.holds-data.ensures _ _ _ _ else1.if1.left (told joined) at-require.before.before.contains-data.ensures at-require.require.ensures _
+    (on_passed _ packed _ c.if3.false)
 
 pub insert-peer-info-spec : {M : Type 1} → statement M
 insert-peer-info-spec =

@@ -9,7 +9,7 @@ use Rattle.spec_hyparview.specs.Peers.{shift_passive}
 use Rattle.hyparview_state.specs.Unpack.{unpack, station_of, long}
 use Rattle.hyparview_state.specs.Work.{Fine, work_of, Changes}
 use Rattle.hyparview_state.proofs.Access.{of_packed}
-use Rattle.hyparview_state.proofs.Bridge.{on-passed, on-done}
+use Rattle.hyparview_state.proofs.Bridge.{on_passed, on_done}
 use Rattle.hyparview_state.proofs.Fields.{put_passive}
 use Rattle.step_peers.proofs.Laws.{shifted_fits, some_choice, still_below, made, not_made}
 use borrow.Author.Rules.{rules}
@@ -46,8 +46,8 @@ shifted c =
     let packed = (fine (start c)).ready.packed in
     ⊎_elim
     (λ t. subst (λ (ys : List ℕ). Changes (on (shift_passive (drew c).draw_one_of.result.index)) (work_of (drew c).draw_one_of.result.work (start c).args.st.now) (work_of (drew c).draw_one_of.result.work ys)) (sym t.5)
-    (on-done _ packed _ _ t.0.taken (put_passive t.2.ensures (shifted_fits _ _ packed (still_below _ _ packed (drew c).draw_one_of.ensures.1.1)))))
-    (λ t. subst (λ (ys : List ℕ). Changes (on (shift_passive (drew c).draw_one_of.result.index)) (work_of (drew c).draw_one_of.result.work (start c).args.st.now) (work_of (drew c).draw_one_of.result.work ys)) (sym t.1) (on-passed _ packed _ t.0.left))
+    (on_done _ packed _ _ t.0.taken (put_passive t.2.ensures (shifted_fits _ _ packed (still_below _ _ packed (drew c).draw_one_of.ensures.1.1)))))
+    (λ t. subst (λ (ys : List ℕ). Changes (on (shift_passive (drew c).draw_one_of.result.index)) (work_of (drew c).draw_one_of.result.work (start c).args.st.now) (work_of (drew c).draw_one_of.result.work ys)) (sym t.1) (on_passed _ packed _ t.0.left))
     c.if2.branch
 
 slice-read-n : tie.Need-slice-read-n

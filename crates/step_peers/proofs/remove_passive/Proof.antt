@@ -2,7 +2,7 @@
 use Rattle.base_util.specs.Section.{part}
 use Rattle.hyparview_state.specs.Unpack.{unpack, station_of}
 use Rattle.hyparview_state.proofs.Access.{of_packed}
-use Rattle.hyparview_state.proofs.Bridge.{on-passed, on-done}
+use Rattle.hyparview_state.proofs.Bridge.{on_passed, on_done}
 use Rattle.spec_hyparview.specs.Peers.{remove_passive}
 use Rattle.hyparview_state.proofs.Fields.{put_passive}
 use Rattle.step_peers.proofs.Laws.{shrunk}
@@ -11,7 +11,7 @@ use Rattle.step_peers.proofs.remove_passive.Statement.{statement}
 use Rattle.step_peers.proofs.remove_passive.Tie as tie
 
 returns : tie.Need-returns
-returns c = search on-passed
+returns c = search on_passed
 
 sub-remove : tie.Need-overflow-sub-remove
 sub-remove c = search rules
@@ -31,7 +31,7 @@ same_length c = search rules
 
 returns-2 : tie.Need-returns-2
 unfolding remove_passive unpack station_of part
-returns-2 c = on-done _ (search rules) _ _ (search rules) (put_passive c.before.before.remove.ensures (search shrunk))
+returns-2 c = on_done _ (search rules) _ _ (search rules) (put_passive c.before.before.remove.ensures (search shrunk))
 
 pub remove-passive-spec : {M : Type 1} → statement M
 remove-passive-spec =

@@ -5,7 +5,7 @@ use Rattle.base_util.proofs.Sets.{set_inside, set_column}
 use Rattle.hyparview_state.specs.Unpack.{unpack, station_of}
 use Rattle.hyparview_state.proofs.Access.{of_packed}
 use Rattle.hyparview_state.proofs.Counts.{alone}
-use Rattle.step_refill.proofs.Asking.{left_list, left_of, left_by, candidates-alone, candidates-else}
+use Rattle.step_refill.proofs.Asking.{left_list, left_of, left_by, candidates_alone, candidates_else}
 use borrow.Author.Rules.{rules}
 use Rattle.step_refill.proofs.candidates.Statement.{statement}
 use Rattle.step_refill.proofs.candidates.Tie as tie
@@ -99,7 +99,7 @@ returns c =
     let xs = start.args.st.now in
     let others = left_list _ _ _ _ copied.valid at-without-all-in.without-all-in.ensures.0 at-without-all-in.without-all-in.ensures.1.0 at-without-all-in.without-all-in.ensures.1.1 in
     let free = left_by _ _ _ _ at-without-all.without_all.ensures at-keys-into.keys-into.ensures in
-    candidates-alone xs _ _ _ _ (left_of _ _ _ _ others copied) free (alone xs start.pre.1.0) (eq-eqb _ _ c.if1.true)
+    candidates_alone xs _ _ _ _ (left_of _ _ _ _ others copied) free (alone xs start.pre.1.0) (eq-eqb _ _ c.if1.true)
 
 sub-without-all : tie.Need-overflow-sub-without-all
 sub-without-all c = search rules
@@ -130,7 +130,7 @@ returns-2 c =
     let xs = start.args.st.now in
     let others = left_list _ _ _ _ copied.valid at-without-all-in.without-all-in.ensures.0 at-without-all-in.without-all-in.ensures.1.0 at-without-all-in.without-all-in.ensures.1.1 in
     let free = left_by _ _ _ _ at-without-all.without_all.ensures at-keys-into.keys-into.ensures in
-    candidates-else xs _ _ _ _ (left_of _ _ _ _ others copied) free (alone xs start.pre.1.0) _ (ne_eqb _ _ at-else1.if1.false) c.before.before.without-all2.ensures
+    candidates_else xs _ _ _ _ (left_of _ _ _ _ others copied) free (alone xs start.pre.1.0) _ (ne_eqb _ _ at-else1.if1.false) c.before.before.without-all2.ensures
 
 pub candidates-spec : {M : Type 1} → statement M
 candidates-spec = tie.close (tie.spec sub-copy-into part-copy-into-start part-copy-into-end copy-into-requires slice-read-n slice-relend-prefix-without-all-in slice-aggregate-without-all-in without-all-in-requires slice-write-t sub-keys-into part-keys-into-start part-keys-into-end slice-aggregate-keys-into keys-into-requires slice-aggregate-without-all without-all-requires shared-slice-read-if1 same_length returns sub-without-all part-without-all-start part-without-all-end without-all-requires-2 same-length-2 returns-2)

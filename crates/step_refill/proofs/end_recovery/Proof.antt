@@ -1,5 +1,5 @@
 -- By cases of the test: the recovery is over, or a code, another limit or a request in flight leaves all as it was.
-use Rattle.step_refill.proofs.Limits.{ended, not-ended}
+use Rattle.step_refill.proofs.Limits.{ended, not_ended}
 use borrow.Author.Rules.{rules}
 use Rattle.step_refill.proofs.end_recovery.Statement.{statement}
 use Rattle.step_refill.proofs.end_recovery.Tie as tie
@@ -29,7 +29,7 @@ same-length-2 : tie.Need-same-length-2
 same-length-2 c = search rules
 
 returns-2 : tie.Need-returns-2
-returns-2 c = search not-ended
+returns-2 c = search not_ended
 
 pub end-recovery-spec : {M : Type 1} → statement M
 end-recovery-spec =

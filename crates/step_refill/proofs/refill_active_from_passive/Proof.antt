@@ -10,9 +10,9 @@ use Rattle.spec_hyparview.specs.Run.{on}
 use Rattle.spec_hyparview.specs.Refill.{limit_short}
 use Rattle.hyparview_state.specs.Unpack.{long}
 use Rattle.hyparview_state.specs.Work.{work_of, Changes}
-use Rattle.hyparview_state.proofs.Access.{of-active, count_active}
-use Rattle.step_refill.proofs.Limits.{limited, not-limited}
-use Rattle.step_refill.proofs.Asking.{fine_after, none_needed, not-needed, needed}
+use Rattle.hyparview_state.proofs.Access.{of_active, count_active}
+use Rattle.step_refill.proofs.Limits.{limited, not_limited}
+use Rattle.step_refill.proofs.Asking.{fine_after, none_needed, not_needed, needed}
 use borrow.Author.Rules.{rules}
 use Rattle.step_refill.proofs.refill_active_from_passive.Statement.{statement}
 use Rattle.step_refill.proofs.refill_active_from_passive.Tie as tie
@@ -37,7 +37,7 @@ short-limited c =
     let told = c.before.is_short.ensures in
     ⊎_elim
     (λ t. subst (λ (ys : List ℕ). Changes (on limit_short) (work_of (start c).args.w (start c).args.st.now) (work_of (start c).args.w ys)) (sym t.1) (limited _ _ packed _ told t.0.taken))
-    (λ t. subst (λ (ys : List ℕ). Changes (on limit_short) (work_of (start c).args.w (start c).args.st.now) (work_of (start c).args.w ys)) (sym t.1) (not-limited _ _ packed _ told t.0.left))
+    (λ t. subst (λ (ys : List ℕ). Changes (on limit_short) (work_of (start c).args.w (start c).args.st.now) (work_of (start c).args.w ys)) (sym t.1) (not_limited _ _ packed _ told t.0.left))
     c.if2.branch
 
 slice-aggregate-asked-outside : tie.Need-slice-aggregate-asked-outside
@@ -58,7 +58,7 @@ array-read-if1 c = search rules
 add-if1 : tie.Need-overflow-add-if1
 add-if1 c =
     let at-outside = c.before.before.before in
-    let active = of-active _ (asked-outside-to-start at-outside).requires.1.ready.packed in
+    let active = of_active _ (asked-outside-to-start at-outside).requires.1.ready.packed in
     record { fits = omega (arith, count_active _ active, active.fits, active.counted, at-outside.asked_outside.ensures.valid.fits) }
 
 slice-read-if1-3 : tie.Need-slice-read-if1-3
@@ -75,7 +75,7 @@ unfolding part
 returns c =
     let at-outside = c.before.before.before.before.before.before in
     let fine = (asked-outside-to-start at-outside).requires.1 in
-    not-needed _ _ _ _ _ _ fine (none_needed _ _ fine.ready.packed at-outside.asked_outside.ensures) c.if1.true
+    not_needed _ _ _ _ _ _ fine (none_needed _ _ fine.ready.packed at-outside.asked_outside.ensures) c.if1.true
 
 slice-read-if2 : tie.Need-slice-read-if2
 slice-read-if2 c = search rules

@@ -10,8 +10,8 @@ use Rattle.hyparview_state.specs.Work.{work_of, run, Changes, Does}
 use Rattle.hyparview_state.proofs.Counts.{alone}
 use Rattle.base_util.proofs.Sets.{empty_is_null, item_read}
 use Rattle.step_sending.proofs.Told.{room_drawn}
-use Rattle.step_refill.proofs.Limits.{some_left, used, not-used}
-use Rattle.step_refill.proofs.Asking.{one_picked, none_left, one-asked}
+use Rattle.step_refill.proofs.Limits.{some_left, used, not_used}
+use Rattle.step_refill.proofs.Asking.{one_picked, none_left, one_asked}
 use borrow.Author.Rules.{rules}
 use Rattle.step_refill.proofs.refill_limited.Statement.{statement}
 use Rattle.step_refill.proofs.refill_limited.Tie as tie
@@ -39,7 +39,7 @@ asked c zs k =
     let from = at-candidates.candidates.ensures in
     let picked = one_picked _ _ _ _ _ _ _ _ _ _ _ _ _ _ _ given (alone _ given.ready.packed) (sym from.valid.counted) at-draw-one-of.draw_one_of.ensures.1.0
     (item_read _ _ _ from.valid (omega (arith, at-draw-one-of.draw_one_of.ensures.1.1, from.valid.counted))) k c.send_neighbor.ensures at-draw-one-of.draw_one_of.ensures.0 in
-    one-asked _ _ _ _ _ _ _ from (empty_is_null 32 _ from.valid) _ _ _ (ne_eqb _ _ at-draw-one-of.before.before.if1.left) picked
+    one_asked _ _ _ _ _ _ _ from (empty_is_null 32 _ from.valid) _ _ _ (ne_eqb _ _ at-draw-one-of.before.before.if1.left) picked
 
 slice-aggregate-candidates : tie.Need-slice-aggregate-candidates
 slice-aggregate-candidates c = search rules
@@ -109,7 +109,7 @@ same-length-5 c = search rules
 returns-3 : tie.Need-returns-3
 returns-3 c =
     let sent = c.before.before.before.before.before.before.before in
-    asked sent _ (not-used _ _ sent.send_neighbor.ensures.room.packed c.if2.false)
+    asked sent _ (not_used _ _ sent.send_neighbor.ensures.room.packed c.if2.false)
 
 pub refill-limited-spec : {M : Type 1} → statement M
 refill-limited-spec =

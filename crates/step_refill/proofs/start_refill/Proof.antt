@@ -7,7 +7,7 @@ use Rattle.spec_hyparview.specs.Run.{on}
 use Rattle.spec_hyparview.specs.Refill.{begin_refill}
 use Rattle.hyparview_state.specs.Unpack.{refill_in, long}
 use Rattle.hyparview_state.specs.Work.{work_of, Changes}
-use Rattle.step_refill.proofs.Limits.{begun, not-begun}
+use Rattle.step_refill.proofs.Limits.{begun, not_begun}
 use Rattle.step_refill.proofs.Asking.{fine_after, refill_started}
 use borrow.Author.Rules.{rules}
 use Rattle.step_refill.proofs.start_refill.Statement.{statement}
@@ -23,7 +23,7 @@ limit-begun c =
     let packed = (start c).requires.1.ready.packed in
     ⊎_elim
     (λ t. subst (λ (ys : List ℕ). Changes (on (begin_refill (refill_in (start c).args.limit))) (work_of (start c).args.w (start c).args.st.now) (work_of (start c).args.w ys)) (sym t.5) (begun _ _ packed _ _ t.0.taken t.2.ensures))
-    (λ t. subst (λ (ys : List ℕ). Changes (on (begin_refill (refill_in (start c).args.limit))) (work_of (start c).args.w (start c).args.st.now) (work_of (start c).args.w ys)) (sym t.1) (not-begun _ _ packed _ t.0.left))
+    (λ t. subst (λ (ys : List ℕ). Changes (on (begin_refill (refill_in (start c).args.limit))) (work_of (start c).args.w (start c).args.st.now) (work_of (start c).args.w ys)) (sym t.1) (not_begun _ _ packed _ t.0.left))
     c.if1.branch
 
 slice-read-if1 : tie.Need-slice-read-if1

@@ -1,6 +1,6 @@
 -- Own data of packed words is valid, so the record that `send_node` emits is the definition's Join.
 use Rattle.hyparview_state.proofs.Access.{of_packed}
-use Rattle.step_sending.proofs.Told.{join-told}
+use Rattle.step_sending.proofs.Told.{join_told}
 use borrow.Author.Rules.{rules}
 use Rattle.step_sending.proofs.join.Statement.{statement}
 use Rattle.step_sending.proofs.join.Tie as tie
@@ -15,7 +15,7 @@ same_length : tie.Need-same-length
 same_length c = search rules
 
 returns : tie.Need-returns
-returns c = search join-told
+returns c = search join_told
 
 pub join-spec : {M : Type 1} → statement M
 join-spec = tie.close (tie.spec own-data-requires send-node-requires same_length returns)

@@ -10,9 +10,9 @@ use Rattle.spec_hyparview.specs.Sending.{note_request}
 use Rattle.hyparview_state.specs.Unpack.{unpack, station_of, long}
 use Rattle.hyparview_state.specs.Work.{work_of, Changes, Room}
 use Rattle.hyparview_state.proofs.Access.{of_packed}
-use Rattle.hyparview_state.proofs.Bridge.{on-done}
+use Rattle.hyparview_state.proofs.Bridge.{on_done}
 use Rattle.hyparview_state.proofs.Fields.{put_requests, put_next_request}
-use Rattle.step_sending.proofs.Told.{asked, requests_counted, number-left, place-left, noted-room, request_told, neighbor-sent, neighbor_refused}
+use Rattle.step_sending.proofs.Told.{asked, requests_counted, number_left, place_left, noted_room, request_told, neighbor_sent, neighbor_refused}
 use borrow.Author.Rules.{rules}
 use Rattle.step_sending.proofs.send_neighbor.Statement.{statement}
 use Rattle.step_sending.proofs.send_neighbor.Tie as tie
@@ -51,14 +51,14 @@ after c =
 
 request-noted : (c : tie.After-insert-number) → Changes (on (note_request (insert-number-to-start c).args.p)) (work_of (else2-to-require2 (insert-number-to-else2 c)).require2.result (insert-number-to-start c).args.st.now) (work_of (else2-to-require2 (insert-number-to-else2 c)).require2.result (after c))
 unfolding note_request unpack station_of part
-request-noted c = on-done _ (insert-number-to-start c).requires.1.packed _ _ (insert-number-to-else2 c).if2.false (λ b. put_next_request _ (put_requests c.insert-number.ensures b))
+request-noted c = on_done _ (insert-number-to-start c).requires.1.packed _ _ (insert-number-to-else2 c).if2.false (λ b. put_next_request _ (put_requests c.insert-number.ensures b))
 
 -- What the Neighbor is told with.
 room : (c : tie.After-insert-number) → Room (work_of (else2-to-require2 (insert-number-to-else2 c)).require2.result (after c)) (insert-number-to-start c).args.out.now
 room c =
     let start = insert-number-to-start c in
     let at-require2 = else2-to-require2 (insert-number-to-else2 c) in
-    noted-room _ _ _ _ _ start.pre.1.packed (require2-to-require at-require2).require.ensures (requests_counted _ start.pre.1.packed) at-require2.require2.ensures _ _ (request-noted c) _ start.pre.1
+    noted_room _ _ _ _ _ start.pre.1.packed (require2-to-require at-require2).require.ensures (requests_counted _ start.pre.1.packed) at-require2.require2.ensures _ _ (request-noted c) _ start.pre.1
 
 is-requested-requires : tie.Need-is-requested-requires
 is-requested-requires c κs = search rules
@@ -107,7 +107,7 @@ unfolding part
 insert-number-requires c κs =
     let at-require2 = else2-to-require2 c.before in
     let start = require2-to-start at-require2 in
-    (search (of_packed, rules), place-left _ _ _ _ _ start.pre.1.packed (require2-to-require at-require2).require.ensures (requests_counted _ start.pre.1.packed) at-require2.require2.ensures c.before.if2.false _)
+    (search (of_packed, rules), place_left _ _ _ _ _ start.pre.1.packed (require2-to-require at-require2).require.ensures (requests_counted _ start.pre.1.packed) at-require2.require2.ensures c.before.if2.false _)
 
 add-st : tie.Need-overflow-add-st
 unfolding part
@@ -115,7 +115,7 @@ add-st c =
     let at-else2 = insert-number-to-else2 c.before.before in
     let at-require2 = else2-to-require2 at-else2 in
     let start = require2-to-start at-require2 in
-    record { fits = omega (arith, number-left _ _ _ _ _ start.pre.1.packed (require2-to-require at-require2).require.ensures (requests_counted _ start.pre.1.packed) at-require2.require2.ensures at-else2.if2.left) }
+    record { fits = omega (arith, number_left _ _ _ _ _ start.pre.1.packed (require2-to-require at-require2).require.ensures (requests_counted _ start.pre.1.packed) at-require2.require2.ensures at-else2.if2.left) }
 
 slice-write-st : tie.Need-slice-write-st
 slice-write-st c = search rules
@@ -156,7 +156,7 @@ returns-3 c =
     let at-require = require2-to-require at-require2 in
     let at-else1 = require-to-else1 at-require in
     let start = else1-to-start at-else1 in
-    neighbor-sent _ _ _ _ _ start.pre.1.packed at-require.require.ensures (requests_counted _ start.pre.1.packed) at-require2.require2.ensures _ _ (request-noted at-insert-number)
+    neighbor_sent _ _ _ _ _ start.pre.1.packed at-require.require.ensures (requests_counted _ start.pre.1.packed) at-require2.require2.ensures _ _ (request-noted at-insert-number)
     _ _ _ _ _ start.pre.1 at-else1.before.is_requested.ensures at-else1.if1.left
     (request_told _ _ _ _ _ _ _ _ _ _ _ _ (room at-insert-number) at-own-data.before.before.flag-if.ensures at-own-data.own_data.ensures at-send-node.send-node.ensures at-schedule.schedule.ensures)
 

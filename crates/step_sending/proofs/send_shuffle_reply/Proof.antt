@@ -4,8 +4,8 @@ use native.Mathlib.Omega.{arith}
 use Rattle.base_util.specs.Section.{part}
 use Rattle.hyparview_state.specs.Unpack.{unpack, station_of}
 use Rattle.hyparview_state.proofs.Access.{of_packed}
-use Rattle.step_sending.proofs.Sets.{fill_fits, lent-count, lent-few}
-use Rattle.step_sending.proofs.Replies.{ReadyReply, ready_as, ready-filled, ready-enough}
+use Rattle.step_sending.proofs.Sets.{fill_fits, lent_count, lent_few}
+use Rattle.step_sending.proofs.Replies.{ReadyReply, ready_as, ready_filled, ready_enough}
 use Rattle.step_sending.proofs.Told.{set_told}
 use borrow.Author.Rules.{rules}
 use Rattle.step_sending.proofs.send_shuffle_reply.Statement.{statement}
@@ -40,10 +40,10 @@ ready c =
     let start = copy-into-to-start at_copy in
     ⊎_elim
     (λ s. ready_as _ _ _ _ _ _ _ _ _ _ s.12 s.13
-    (ready-filled _ _ _ _ _ _ _ _ _ _ start.pre.1.0 at_copy.copy-into.ensures at_cap.shuffle-and-cap.ensures.0 at_cap.shuffle-and-cap.ensures.1 at_count.count.ensures.0
+    (ready_filled _ _ _ _ _ _ _ _ _ _ start.pre.1.0 at_copy.copy-into.ensures at_cap.shuffle-and-cap.ensures.0 at_cap.shuffle-and-cap.ensures.1 at_count.count.ensures.0
     _ _ _ _ s.0.taken s.3.ensures s.6.ensures.0 s.6.ensures.1 s.10.ensures))
     (λ s. ready_as _ _ _ _ _ _ _ _ _ _ s.1 s.2
-    (ready-enough _ _ _ _ _ _ _ _ _ _ start.pre.1.0 at_copy.copy-into.ensures at_cap.shuffle-and-cap.ensures.0 at_cap.shuffle-and-cap.ensures.1 at_count.count.ensures.0 s.0.left))
+    (ready_enough _ _ _ _ _ _ _ _ _ _ start.pre.1.0 at_copy.copy-into.ensures at_cap.shuffle-and-cap.ensures.0 at_cap.shuffle-and-cap.ensures.1 at_count.count.ensures.0 s.0.left))
     c.if1.branch
 
 sub-passive : tie.Need-overflow-sub-passive
@@ -125,14 +125,14 @@ array-share-prefix-v : tie.Need-array-share-prefix-v
 array-share-prefix-v c = omega (arith, (ready (count2-to-joined1 c.before)).valid.long, c.before.count2.ensures.1)
 
 slice-aggregate-peer-infos : tie.Need-slice-aggregate-peer-infos
-slice-aggregate-peer-infos c = lent-count _ _ (ready (count2-to-joined1 c.before.before)).valid c.before.before.count2.ensures.0
+slice-aggregate-peer-infos c = lent_count _ _ (ready (count2-to-joined1 c.before.before)).valid c.before.before.count2.ensures.0
 
 peer-infos-requires : tie.Need-peer-infos-requires
 peer-infos-requires c κs =
     let at-count2 = c.before.before in
     let at-joined1 = count2-to-joined1 at-count2 in
     let start = count-to-start at-joined1.before in
-    (start.pre.0, (start.pre.1.0.ready.packed, lent-few _ _ (ready at-joined1).valid at-count2.count2.ensures.0))
+    (start.pre.0, (start.pre.1.0.ready.packed, lent_few _ _ (ready at-joined1).valid at-count2.count2.ensures.0))
 
 send-nodes-requires : tie.Need-send-nodes-requires
 send-nodes-requires c κs = ((ready (count2-to-joined1 c.before.before.before)).room.written, search rules)

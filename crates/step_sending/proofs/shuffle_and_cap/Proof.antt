@@ -1,6 +1,6 @@
 -- By cases: the shuffled set is short enough, or clearing it from `most` on leaves its first `most` peers.
 use Rattle.base_util.specs.Section.{part}
-use Rattle.base_util.proofs.Sets.{set_inside, cut_short, short-enough}
+use Rattle.base_util.proofs.Sets.{set_inside, cut_short, short_enough}
 use Rattle.step_sending.proofs.Sets.{capped}
 use borrow.Author.Rules.{rules}
 use Rattle.step_sending.proofs.shuffle_and_cap.Statement.{statement}
@@ -16,7 +16,7 @@ same_length : tie.Need-same-length
 same_length c = search rules
 
 returns : tie.Need-returns
-returns c = (search rules, search (capped, short-enough))
+returns c = (search rules, search (capped, short_enough))
 
 slice-relend-prefix-clear-from : tie.Need-slice-relend-prefix-clear-from
 slice-relend-prefix-clear-from c = search rules

@@ -1,6 +1,6 @@
 -- By cases of the walk: it ends here, so that the nodes are learned and as many sent back, or the Shuffle is passed on.
 use Rattle.step_shuffling.proofs.Nodes.{few_nodes}
-use Rattle.step_shuffling.proofs.Laws.{answers_known, answered, shuffle-answered, shuffle-forwarded}
+use Rattle.step_shuffling.proofs.Laws.{answers_known, answered, shuffle_answered, shuffle_forwarded}
 use borrow.Author.Rules.{rules}
 use Rattle.step_shuffling.proofs.on_shuffle.Statement.{statement}
 use Rattle.step_shuffling.proofs.on_shuffle.Tie as tie
@@ -41,7 +41,7 @@ returns c =
     let at-send-shuffle-reply = c.before.before in
     let at-add-nodes = send-shuffle-reply-to-add-nodes at-send-shuffle-reply in
     let at-is-last-hop = add-nodes-to-is-last-hop at-add-nodes in
-    shuffle-answered _ _ _ _ _ _ _ _ _ _ _ _ (answers_known _ _ _ _ at-is-last-hop.before.before.expired.ensures at-is-last-hop.is_last_hop.ensures) at-add-nodes.before.before.before.if1.taken
+    shuffle_answered _ _ _ _ _ _ _ _ _ _ _ _ (answers_known _ _ _ _ at-is-last-hop.before.before.expired.ensures at-is-last-hop.is_last_hop.ensures) at-add-nodes.before.before.before.if1.taken
     (answered _ _ _ _ _ _ _ _ _ _ _ _ _ at-send-shuffle-reply.send_shuffle_reply.ensures at-add-nodes.add_nodes.ensures.0)
 
 pass-shuffle-requires : tie.Need-pass-shuffle-requires
@@ -56,7 +56,7 @@ same-length-4 c = search rules
 returns-2 : tie.Need-returns-2
 returns-2 c =
     let at-if1 = c.before.before.before.before.before in
-    shuffle-forwarded _ _ _ _ _ _ _ _ _ _ _ _ (answers_known _ _ _ _ at-if1.before.before.before.expired.ensures at-if1.before.is_last_hop.ensures) at-if1.if1.false c.before.before.pass_shuffle.ensures
+    shuffle_forwarded _ _ _ _ _ _ _ _ _ _ _ _ (answers_known _ _ _ _ at-if1.before.before.before.expired.ensures at-if1.before.is_last_hop.ensures) at-if1.if1.false c.before.before.pass_shuffle.ensures
 
 pub on-shuffle-spec : {M : Type 1} → statement M
 on-shuffle-spec =

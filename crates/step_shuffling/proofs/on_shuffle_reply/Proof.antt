@@ -1,5 +1,5 @@
 -- The nodes are learned; then by cases nobody is asked, the spent limit begins anew, or the refill goes on with the limit it has.
-use Rattle.step_shuffling.proofs.Laws.{stops_known, renews_known, refilled-few, refilled_same, reply-stopped, reply-refilled, reply_taken}
+use Rattle.step_shuffling.proofs.Laws.{stops_known, renews_known, refilled_few, refilled_same, reply_stopped, reply_refilled, reply_taken}
 use borrow.Author.Rules.{rules}
 use Rattle.step_shuffling.proofs.on_shuffle_reply.Statement.{statement}
 use Rattle.step_shuffling.proofs.on_shuffle_reply.Tie as tie
@@ -40,7 +40,7 @@ returns c =
     let at-is-requested = c.before.before.before.before in
     let at-add-nodes = is-requested-to-add-nodes at-is-requested in
     let stops = stops_known _ _ _ _ at-is-requested.is_requested.ensures c.before.before.is_short.ensures in
-    reply_taken _ _ _ _ _ _ _ _ _ _ _ _ _ at-add-nodes.add_nodes.ensures.1 (reply-stopped _ _ _ _ _ _ _ stops at-add-nodes.add_nodes.ensures.0.fine c.before.if1.true) at-add-nodes.add_nodes.ensures.0
+    reply_taken _ _ _ _ _ _ _ _ _ _ _ _ _ at-add-nodes.add_nodes.ensures.1 (reply_stopped _ _ _ _ _ _ _ stops at-add-nodes.add_nodes.ensures.0.fine c.before.if1.true) at-add-nodes.add_nodes.ensures.0
 
 slice-read-if2 : tie.Need-slice-read-if2
 slice-read-if2 c = search rules
@@ -74,8 +74,8 @@ returns-2 c =
     let at-add-nodes = is-requested-to-add-nodes at-is-requested in
     let requested = at-is-requested.is_requested.ensures in
     let stops = stops_known _ _ _ _ requested else1.before.is_short.ensures in
-    let refilled = refilled-few _ _ _ _ _ _ _ _ _ then2.if2.true at-start-refill.before.before.before.before.few_requests.ensures at-start-refill.start_refill.ensures in
-    reply_taken _ _ _ _ _ _ _ _ _ _ _ _ _ at-add-nodes.add_nodes.ensures.1 (reply-refilled _ _ _ _ _ _ _ stops _ _ _ _ else1.if1.left (renews_known _ _ _ _ requested) refilled) at-add-nodes.add_nodes.ensures.0
+    let refilled = refilled_few _ _ _ _ _ _ _ _ _ then2.if2.true at-start-refill.before.before.before.before.few_requests.ensures at-start-refill.start_refill.ensures in
+    reply_taken _ _ _ _ _ _ _ _ _ _ _ _ _ at-add-nodes.add_nodes.ensures.1 (reply_refilled _ _ _ _ _ _ _ stops _ _ _ _ else1.if1.left (renews_known _ _ _ _ requested) refilled) at-add-nodes.add_nodes.ensures.0
 
 slice-aggregate-refill-active-from-passive : tie.Need-slice-aggregate-refill-active-from-passive
 slice-aggregate-refill-active-from-passive c = search rules
@@ -101,7 +101,7 @@ returns-3 c =
     let requested = at-is-requested.is_requested.ensures in
     let stops = stops_known _ _ _ _ requested else1.before.is_short.ensures in
     let refilled = refilled_same _ _ _ _ _ _ _ _ else2.if2.false at-refill.refill_active_from_passive.ensures in
-    reply_taken _ _ _ _ _ _ _ _ _ _ _ _ _ at-add-nodes.add_nodes.ensures.1 (reply-refilled _ _ _ _ _ _ _ stops _ _ _ _ else1.if1.left (renews_known _ _ _ _ requested) refilled) at-add-nodes.add_nodes.ensures.0
+    reply_taken _ _ _ _ _ _ _ _ _ _ _ _ _ at-add-nodes.add_nodes.ensures.1 (reply_refilled _ _ _ _ _ _ _ stops _ _ _ _ else1.if1.left (renews_known _ _ _ _ requested) refilled) at-add-nodes.add_nodes.ensures.0
 
 pub on-shuffle-reply-spec : {M : Type 1} → statement M
 on-shuffle-reply-spec =

@@ -4,7 +4,7 @@ use Rattle.base_util.specs.Section.{part}
 use Rattle.hyparview_state.proofs.Access.{of_packed}
 use Rattle.step_sending.proofs.Told.{room_drawn}
 use Rattle.step_refill.proofs.Asking.{some_there}
-use Rattle.step_shuffling.proofs.Laws.{pair_valid, others_are, shuffle-kept, shuffle-on, passed_on}
+use Rattle.step_shuffling.proofs.Laws.{pair_valid, others_are, shuffle_kept, shuffle_on, passed_on}
 use borrow.Author.Rules.{rules}
 use Rattle.step_shuffling.proofs.pass_shuffle.Statement.{statement}
 use Rattle.step_shuffling.proofs.pass_shuffle.Tie as tie
@@ -70,7 +70,7 @@ returns c =
     let at-without-all = is-empty-to-without-all at-is-empty in
     let at-copy-into = without-all-to-copy-into at-without-all in
     let others = others_are _ _ _ _ _ at-copy-into.copy-into.ensures at-without-all.without_all.ensures in
-    passed_on _ _ _ _ _ _ _ _ _ _ _ others (shuffle-kept _ _ _ _ _ _ _ _ _ (fine (copy-into-to-start at-copy-into)) at-is-empty.is-empty.ensures c.if1.true)
+    passed_on _ _ _ _ _ _ _ _ _ _ _ others (shuffle_kept _ _ _ _ _ _ _ _ _ (fine (copy-into-to-start at-copy-into)) at-is-empty.is-empty.ensures c.if1.true)
 
 slice-aggregate-count : tie.Need-slice-aggregate-count
 slice-aggregate-count c = search rules
@@ -112,7 +112,7 @@ returns-2 c =
     let at-copy-into = without-all-to-copy-into at-without-all in
     let others = others_are _ _ _ _ _ at-copy-into.copy-into.ensures at-without-all.without_all.ensures in
     passed_on _ _ _ _ _ _ _ _ _ _ _ others
-    (shuffle-on _ _ _ _ _ _ _ _ _ (fine (copy-into-to-start at-copy-into)) at-is-empty.is-empty.ensures _ _ _ _ _ at-draw-one-of.before.count.ensures.0 at-draw-one-of.draw_one_of.ensures.1.0 at-send-nodes.before.before.before.before.get-index.ensures at-send-nodes.before.before.before.next.ensures at-send-nodes.before.event-nodes.ensures _ _ _ at-draw-one-of.before.before.before.if1.left at-send-nodes.send_nodes.ensures at-draw-one-of.draw_one_of.ensures.0)
+    (shuffle_on _ _ _ _ _ _ _ _ _ (fine (copy-into-to-start at-copy-into)) at-is-empty.is-empty.ensures _ _ _ _ _ at-draw-one-of.before.count.ensures.0 at-draw-one-of.draw_one_of.ensures.1.0 at-send-nodes.before.before.before.before.get-index.ensures at-send-nodes.before.before.before.next.ensures at-send-nodes.before.event-nodes.ensures _ _ _ at-draw-one-of.before.before.before.if1.left at-send-nodes.send_nodes.ensures at-draw-one-of.draw_one_of.ensures.0)
 
 pub pass-shuffle-spec : {M : Type 1} → statement M
 pass-shuffle-spec =

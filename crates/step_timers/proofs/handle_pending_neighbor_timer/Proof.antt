@@ -6,7 +6,7 @@ use Rattle.hyparview_state.specs.Work.{Fine, work_of}
 use Rattle.base_util.specs.Section.{part}
 use native.Mathlib.Omega.{arith}
 use Rattle.hyparview_state.proofs.Access.{of_packed}
-use Rattle.step_timers.proofs.Asked.{request-said, dropped-fine, failed, late, not_late}
+use Rattle.step_timers.proofs.Asked.{request_said, dropped_fine, failed, late, not_late}
 use borrow.Author.Rules.{rules}
 use Rattle.step_timers.proofs.handle_pending_neighbor_timer.Statement.{statement}
 use Rattle.step_timers.proofs.handle_pending_neighbor_timer.Tie as tie
@@ -31,7 +31,7 @@ refill-active-from-passive-to-drop-passive c = c.before.before.before.before.bef
 -- Whether the request is still the open one, as the test says it.
 tested : (c : tie.After-is-number) → c.is_number.result ≡ request_is (get-number-to-start c.before).args.p (get-number-to-start c.before).args.id (unpack (get-number-to-start c.before).args.st.now)
 unfolding part
-tested c = request-said _ _ _ _ _ c.is_number.ensures c.before.get-number.ensures
+tested c = request_said _ _ _ _ _ c.is_number.ensures c.before.get-number.ensures
 
 sub-get-number : tie.Need-overflow-sub-get-number
 sub-get-number c = search rules
@@ -64,7 +64,7 @@ refill-active-from-passive-requires c κs =
     let at-drop-request = drop-passive-to-drop-request at-drop-passive in
     let start = get-number-to-start (drop-request-to-is-number at-drop-request).before in (
       omega (arith, at-drop-passive.drop_passive.auto.1.0, at-drop-request.drop_request.kept.1.0, start.pre.0),
-      dropped-fine _ _ _ _ _ _ _ _ _ (fine start) at-drop-passive.drop_passive.ensures at-drop-request.drop_request.ensures,
+      dropped_fine _ _ _ _ _ _ _ _ _ (fine start) at-drop-passive.drop_passive.ensures at-drop-request.drop_request.ensures,
     )
 
 same_length : tie.Need-same-length

@@ -3,7 +3,7 @@ use Rattle.hyparview_state.specs.Work.{Room, work_of}
 use Rattle.base_util.specs.Section.{part}
 use native.Mathlib.Omega.{arith}
 use Rattle.hyparview_state.proofs.Access.{of_packed}
-use Rattle.step_timers.proofs.Asked.{join-said, room_changed, retried, not-retried}
+use Rattle.step_timers.proofs.Asked.{join_said, room_changed, retried, not_retried}
 use borrow.Author.Rules.{rules}
 use Rattle.step_timers.proofs.retry_join.Statement.{statement}
 use Rattle.step_timers.proofs.retry_join.Tie as tie
@@ -57,7 +57,7 @@ returns c =
     let at-drop-join = at_join.before.before.before.before.before in
     let at-is-number = drop-join-to-is-number at-drop-join in
     let at-get-number = at-is-number.before in
-    retried _ _ _ _ _ _ (room (get-number-to-start at-get-number)) (join-said _ _ _ _ _ at-is-number.is_number.ensures at-get-number.get-number.ensures) _ _ _ _ at-drop-join.before.before.if1.true at_join.join.ensures at-drop-join.drop_join.ensures
+    retried _ _ _ _ _ _ (room (get-number-to-start at-get-number)) (join_said _ _ _ _ _ at-is-number.is_number.ensures at-get-number.get-number.ensures) _ _ _ _ at-drop-join.before.before.if1.true at_join.join.ensures at-drop-join.drop_join.ensures
 
 same-length-3 : tie.Need-same-length-3
 same-length-3 c = search rules
@@ -67,7 +67,7 @@ unfolding part
 returns-2 c =
     let at-is-number = c.before in
     let at-get-number = at-is-number.before in
-    not-retried _ _ _ _ _ _ (room (get-number-to-start at-get-number)) (join-said _ _ _ _ _ at-is-number.is_number.ensures at-get-number.get-number.ensures) c.if1.false
+    not_retried _ _ _ _ _ _ (room (get-number-to-start at-get-number)) (join_said _ _ _ _ _ at-is-number.is_number.ensures at-get-number.get-number.ensures) c.if1.false
 
 pub retry-join-spec : {M : Type 1} → statement M
 retry-join-spec =

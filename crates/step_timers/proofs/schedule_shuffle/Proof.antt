@@ -1,7 +1,7 @@
 -- Work with a code schedules nothing; else an interval in range doubles without overflow, and one draw gives the delay.
 use Rattle.hyparview_state.specs.Work.{Fine, work_of}
 use native.Mathlib.Omega.{arith}
-use Rattle.hyparview_state.proofs.Access.{of-interval}
+use Rattle.hyparview_state.proofs.Access.{of_interval}
 use Rattle.step_timers.proofs.Shuffles.{setting_fits, doubled, not_scheduled, scheduled}
 use borrow.Author.Rules.{rules}
 use Rattle.step_timers.proofs.schedule_shuffle.Statement.{statement}
@@ -25,10 +25,10 @@ slice-read-x : tie.Need-slice-read-x
 slice-read-x c = search rules
 
 cast-x : tie.Need-overflow-cast-x
-cast-x c = record { fits = omega (arith, of-interval _ (fine (else1-to-start c.before)).ready.packed) }
+cast-x c = record { fits = omega (arith, of_interval _ (fine (else1-to-start c.before)).ready.packed) }
 
 mul-shorter : tie.Need-overflow-mul-shorter
-mul-shorter c = record { fits = omega (arith, of-interval _ (fine (else1-to-start c.before)).ready.packed) }
+mul-shorter c = record { fits = omega (arith, of_interval _ (fine (else1-to-start c.before)).ready.packed) }
 
 slice-read-shorter : tie.Need-slice-read-shorter
 slice-read-shorter c = search rules
@@ -49,7 +49,7 @@ draw-requires : tie.Need-draw-requires
 draw-requires c κs = search rules
 
 delay-requires : tie.Need-delay-requires
-delay-requires c κs = of-interval _ (fine (else1-to-start (shorter-to-else1 c.before))).ready.packed
+delay-requires c κs = of_interval _ (fine (else1-to-start (shorter-to-else1 c.before))).ready.packed
 
 cast-delay : tie.Need-overflow-cast-delay
 cast-delay c = search rules

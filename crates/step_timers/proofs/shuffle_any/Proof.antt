@@ -6,10 +6,10 @@ use Rattle.base_util.specs.Section.{part, items_at, HoldsSet}
 use Rattle.spec_hyparview.specs.Run.{draw_shuffle}
 use Rattle.hyparview_state.specs.Layout.{active_part, passive_part, shuffle_active_view_count, shuffle_passive_view_count, active_places, passive_places}
 use Rattle.hyparview_state.specs.Work.{work_of, DrawsAny, Fine}
-use Rattle.hyparview_state.proofs.Access.{of_packed, of-own, of-active, of-passive}
-use Rattle.step_sending.proofs.Sets.{shuffled_by, lent-count, lent-few}
+use Rattle.hyparview_state.proofs.Access.{of_packed, of_own, of_active, of_passive}
+use Rattle.step_sending.proofs.Sets.{shuffled_by, lent_count, lent_few}
 use Rattle.step_sending.proofs.Told.{fine_drawn, room_of}
-use Rattle.step_timers.proofs.Shuffles.{place_named, walk_fits, shuffle_told, peers-drawn, peers-are, few_active, both-fit, all_fit, passive-done, with-done, none_asked, one-asked}
+use Rattle.step_timers.proofs.Shuffles.{place_named, walk_fits, shuffle_told, peers_drawn, peers_are, few_active, both_fit, all_fit, passive_done, with_done, none_asked, one_asked}
 use borrow.Author.Rules.{rules}
 use Rattle.step_timers.proofs.shuffle_any.Statement.{statement}
 use Rattle.step_timers.proofs.shuffle_any.Tie as tie
@@ -69,13 +69,13 @@ active-drawn : (c : tie.After-shuffle-and-cap) → DrawsAny (draw_shuffle (witho
 unfolding part
 active-drawn c =
     let at-without = cap-to-without c in
-    peers-drawn _ _ _ _ _ _ _ (without-to-copy-into at-without).copy-into.ensures at-without.without.ensures c.shuffle-and-cap.ensures.0
+    peers_drawn _ _ _ _ _ _ _ (without-to-copy-into at-without).copy-into.ensures at-without.without.ensures c.shuffle-and-cap.ensures.0
 
 active-named : (c : tie.After-shuffle-and-cap) → HoldsSet 32 c.shuffle-and-cap.new.1.1.1.0 (take (shuffle_active_view_count (cap-to-start c).args.st.now) (shuffled_by (cap-to-get-index c).before.draw_one_of.result.work (cap-to-start c).args.draws.now (without (cap-to-get-index c).get-index.result (items_at active_places (active_part (cap-to-start c).args.st.now)))))
 unfolding part
 active-named c =
     let at-without = cap-to-without c in
-    peers-are (cap-to-get-index c).before.draw_one_of.result.work c.shuffle-and-cap.result (cap-to-start c).args.draws.now _ _ _ _ (without-to-copy-into at-without).copy-into.ensures at-without.without.ensures _ (shuffle_active_view_count (cap-to-start c).args.st.now) c.shuffle-and-cap.ensures.1
+    peers_are (cap-to-get-index c).before.draw_one_of.result.work c.shuffle-and-cap.result (cap-to-start c).args.draws.now _ _ _ _ (without-to-copy-into at-without).copy-into.ensures at-without.without.ensures _ (shuffle_active_view_count (cap-to-start c).args.st.now) c.shuffle-and-cap.ensures.1
 
 asked : (c : tie.After-shuffle-and-cap) → Fine (work_of c.shuffle-and-cap.result (cap-to-start c).args.st.now) (cap-to-start c).args.draws.now (cap-to-start c).args.out.now
 asked c = fine_drawn _ _ _ _ _ (chosen (cap-to-get-index c)) (active-drawn c)
@@ -84,13 +84,13 @@ passive-drawn : (c : tie.After-shuffle-and-cap2) → DrawsAny (draw_shuffle (wit
 unfolding part
 passive-drawn c =
     let at-without2 = cap2-to-without2 c in
-    peers-drawn _ _ _ _ _ _ _ (without2-to-copy-into2 at-without2).copy-into2.ensures at-without2.without2.ensures c.shuffle-and-cap2.ensures.0
+    peers_drawn _ _ _ _ _ _ _ (without2-to-copy-into2 at-without2).copy-into2.ensures at-without2.without2.ensures c.shuffle-and-cap2.ensures.0
 
 passive-named : (c : tie.After-shuffle-and-cap2) → HoldsSet 32 c.shuffle-and-cap2.new.1.1.1.0 (take (shuffle_passive_view_count (cap-to-start (cap2-to-cap c)).args.st.now) (shuffled_by (cap2-to-cap c).shuffle-and-cap.result (cap-to-start (cap2-to-cap c)).args.draws.now (without (cap-to-get-index (cap2-to-cap c)).get-index.result (items_at passive_places (passive_part (cap-to-start (cap2-to-cap c)).args.st.now)))))
 unfolding part
 passive-named c =
     let at-without2 = cap2-to-without2 c in
-    peers-are (cap2-to-cap c).shuffle-and-cap.result c.shuffle-and-cap2.result (cap-to-start (cap2-to-cap c)).args.draws.now _ _ _ _ (without2-to-copy-into2 at-without2).copy-into2.ensures at-without2.without2.ensures _ (shuffle_passive_view_count (cap-to-start (cap2-to-cap c)).args.st.now) c.shuffle-and-cap2.ensures.1
+    peers_are (cap2-to-cap c).shuffle-and-cap.result c.shuffle-and-cap2.result (cap-to-start (cap2-to-cap c)).args.draws.now _ _ _ _ (without2-to-copy-into2 at-without2).copy-into2.ensures at-without2.without2.ensures _ (shuffle_passive_view_count (cap-to-start (cap2-to-cap c)).args.st.now) c.shuffle-and-cap2.ensures.1
 
 told : (c : tie.After-shuffle-and-cap2) → Fine (work_of c.shuffle-and-cap2.result (cap-to-start (cap2-to-cap c)).args.st.now) (cap-to-start (cap2-to-cap c)).args.draws.now (cap-to-start (cap2-to-cap c)).args.out.now
 told c = fine_drawn _ _ _ _ _ (asked (cap2-to-cap c)) (passive-drawn c)
@@ -124,7 +124,7 @@ slice-aggregate-copy-into c = search rules
 
 copy-into-requires : tie.Need-copy-into-requires
 unfolding part
-copy-into-requires c κs = (of-active _ (fine (get-index-to-start c.before)).ready.packed, search rules)
+copy-into-requires c κs = (of_active _ (fine (get-index-to-start c.before)).ready.packed, search rules)
 
 slice-aggregate-without : tie.Need-slice-aggregate-without
 slice-aggregate-without c = search rules
@@ -155,7 +155,7 @@ slice-aggregate-copy-into-2 c = search rules
 
 copy-into-requires-2 : tie.Need-copy-into-requires-2
 unfolding part
-copy-into-requires-2 c κs = (of-passive _ (fine (cap-to-start c.before.before.before)).ready.packed, search rules)
+copy-into-requires-2 c κs = (of_passive _ (fine (cap-to-start c.before.before.before)).ready.packed, search rules)
 
 slice-aggregate-without-2 : tie.Need-slice-aggregate-without-2
 slice-aggregate-without-2 c = search rules
@@ -183,7 +183,7 @@ append-requires c κs =
     let at-cap2 = c.before.before.before in
     let at_cap = cap2-to-cap at-cap2 in
     let packed = (fine (cap-to-start at_cap)).ready.packed in
-    ((active-named at_cap).valid, ((passive-named at-cap2).valid, both-fit _ packed _ _ _ (passive-named at-cap2) (few_active _ packed _ _ (active-named at_cap))))
+    ((active-named at_cap).valid, ((passive-named at-cap2).valid, both_fit _ packed _ _ _ (passive-named at-cap2) (few_active _ packed _ _ (active-named at_cap))))
 
 slice-aggregate-count : tie.Need-slice-aggregate-count
 slice-aggregate-count c = search rules
@@ -197,14 +197,14 @@ array-share-prefix-named-peers c = search rules
 slice-aggregate-peer-infos : tie.Need-slice-aggregate-peer-infos
 slice-aggregate-peer-infos c =
     let at-count2 = c.before in
-    lent-count _ _ (count2-to-append at-count2).append.ensures.valid at-count2.count2.ensures.0
+    lent_count _ _ (count2-to-append at-count2).append.ensures.valid at-count2.count2.ensures.0
 
 peer-infos-requires : tie.Need-peer-infos-requires
 peer-infos-requires c κs =
     let at-count2 = c.before in
     let at-append = count2-to-append at-count2 in
     let start = cap-to-start (cap2-to-cap (append-to-cap2 at-append)) in
-    (start.pre.0, ((fine start).ready.packed, lent-few _ _ at-append.append.ensures.valid at-count2.count2.ensures.0))
+    (start.pre.0, ((fine start).ready.packed, lent_few _ _ at-append.append.ensures.valid at-count2.count2.ensures.0))
 
 shared-slice-read-me : tie.Need-shared-slice-read-me
 shared-slice-read-me c = omega (arith, (cap-to-start (cap2-to-cap (append-to-cap2 (count2-to-append c.before.before.before)))).requires.0)
@@ -230,7 +230,7 @@ push-requires c κs =
     let packed = (fine (cap-to-start at_cap)).ready.packed in
     let named = at-own-data.before.before.peer_infos.ensures in
     let few = all_fit _ packed _ _ _ _ (passive-named at-cap2) (few_active _ packed _ _ (active-named at_cap)) at-append.append.ensures in
-    (named.valid, (place_named _ _ _ _ at-append.append.ensures.valid at-count2.count2.ensures.0 few named, of-own _ packed _ at-own-data.own_data.ensures))
+    (named.valid, (place_named _ _ _ _ at-append.append.ensures.valid at-count2.count2.ensures.0 few named, of_own _ packed _ at-own-data.own_data.ensures))
 
 send-nodes-requires : tie.Need-send-nodes-requires
 send-nodes-requires c κs = ((told (append-to-cap2 (count2-to-append (own-data-to-count2 c.before.before.before)))).written, search rules)
@@ -251,9 +251,9 @@ returns-2 c =
     let at-get-index = cap-to-get-index at_cap in
     let at-draw-one-of = at-get-index.before in
     let at_count = at-draw-one-of.before.before in
-    one-asked _ _ _ _ _ (fine (count-to-start at_count)) at_count.count.ensures.0 _ _ at-draw-one-of.draw_one_of.ensures.1.0 at-get-index.get-index.ensures _ _ _ at-draw-one-of.before.if1.left
-    (with-done _ _ _ _ _ _ _ _ (chosen at-get-index) _ (active-drawn at_cap) (active-named at_cap)
-    (passive-done _ _ _ _ _ _ _ _ (asked at_cap) _ _ _ (passive-drawn at-cap2) (passive-named at-cap2) at-append.append.ensures
+    one_asked _ _ _ _ _ (fine (count-to-start at_count)) at_count.count.ensures.0 _ _ at-draw-one-of.draw_one_of.ensures.1.0 at-get-index.get-index.ensures _ _ _ at-draw-one-of.before.if1.left
+    (with_done _ _ _ _ _ _ _ _ (chosen at-get-index) _ (active-drawn at_cap) (active-named at_cap)
+    (passive_done _ _ _ _ _ _ _ _ (asked at_cap) _ _ _ (passive-drawn at-cap2) (passive-named at-cap2) at-append.append.ensures
     (shuffle_told _ _ _ _ _ _ _ _ _ _ _ (room_of _ _ _ (told at-cap2)) at-append.append.ensures.valid at-count2.count2.ensures.0 at-own-data.own_data.ensures at-own-data.before.before.peer_infos.ensures at_push.push.ensures at-send-nodes.send_nodes.ensures)))
     at-draw-one-of.draw_one_of.ensures.0
 

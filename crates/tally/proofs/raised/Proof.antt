@@ -2,7 +2,7 @@
 use borrow.Author.Rules.{rules}
 use lib.ListN.{length}
 use Rattle.tally.specs.Counts.{raised}
-use Rattle.tally.proofs.Laws.{Counting, refused, counting_start, counting-few, counting-none, counting-last, counting-next}
+use Rattle.tally.proofs.Laws.{Counting, refused, counting_start, counting_few, counting_none, counting_last, counting_next}
 use Rattle.tally.proofs.raised.Statement.{statement}
 use Rattle.tally.proofs.raised.Tie as tie
 
@@ -25,13 +25,13 @@ cast-n : tie.Need-overflow-cast-n invariant-loop decreases-loop
 cast-n c = search rules
 
 returns-2 : tie.Need-returns-2 invariant-loop decreases-loop
-returns-2 c = search counting-none
+returns-2 c = search counting_none
 
 enter-requires : tie.Need-enter-requires invariant-loop decreases-loop
 enter-requires c κs = search rules
 
 returns-3 : tie.Need-returns-3 invariant-loop decreases-loop
-returns-3 c = search counting-last
+returns-3 c = search counting_last
 
 sub-rest : tie.Need-overflow-sub-rest invariant-loop decreases-loop
 sub-rest c = search rules
@@ -46,10 +46,10 @@ loop-less : tie.Need-loop-smaller invariant-loop decreases-loop
 loop-less c = search rules
 
 loop-again : tie.Need-loop-preserved invariant-loop decreases-loop
-loop-again c = search counting-next
+loop-again c = search counting_next
 
 returns-4 : tie.Need-returns-4 invariant-loop decreases-loop
-returns-4 c = search counting-few
+returns-4 c = search counting_few
 
 pub raised-spec : {M : Type 1} → statement M
 raised-spec =

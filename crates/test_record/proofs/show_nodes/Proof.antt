@@ -11,7 +11,7 @@ use Rattle.record.specs.Read.{header_of, entry_at, well_formed}
 use Rattle.record.specs.declared.Header.{Header}
 use Rattle.record.specs.declared.Entry.{Entry}
 use Rattle.record.proofs.Laws.{Found}
-use Rattle.record.proofs.Nodes.{entry-room, entry-within}
+use Rattle.record.proofs.Nodes.{entry_room, entry_within}
 use Rattle.test_record.proofs.show_nodes.Statement.{statement}
 use Rattle.test_record.proofs.show_nodes.Tie as tie
 
@@ -25,10 +25,10 @@ start b h f = record { low = omega arith; well = f.well; count = omega (arith, a
 
 module _ (b : List ℕ) (n i : ℕ) (v : Inv b n i) (l : i < n) where
   room : header_length + node_length * i + node_length ≤ length b
-  room = entry-room b i v.well (omega (arith, v.count))
+  room = entry_room b i v.well (omega (arith, v.count))
 
   within : (e : Entry) → e ≡ entry_at b i → e.offset + e.len ≤ length b
-  within e q = entry-within b i v.well (omega (arith, v.count)) e q
+  within e q = entry_within b i v.well (omega (arith, v.count)) e q
 
 abbrev invariant-loop : tie.invariant-loop
 invariant-loop b n i₀ t6 i = Inv b n i

@@ -1,6 +1,6 @@
 -- A text that fits has no more bytes than were lent, so the part lent has exactly its length.
 use borrow.Author.Rules.{rules}
-use Rattle.run_listing.proofs.Laws.{shown-within, shown-counted}
+use Rattle.run_listing.proofs.Laws.{shown_within, shown_counted}
 use Rattle.test_station.proofs.show_listing.Statement.{statement}
 use Rattle.test_station.proofs.show_listing.Tie as tie
 
@@ -11,10 +11,10 @@ enum-known-shown : tie.Need-enum-known-shown
 enum-known-shown c = search rules
 
 slice-reshare-prefix-write-all : tie.Need-slice-reshare-prefix-write-all
-slice-reshare-prefix-write-all c = search (shown-within, rules)
+slice-reshare-prefix-write-all c = search (shown_within, rules)
 
 slice-aggregate-write-all : tie.Need-slice-aggregate-write-all
-slice-aggregate-write-all c = search (shown-counted, rules)
+slice-aggregate-write-all c = search (shown_counted, rules)
 
 write-all-requires : tie.Need-write-all-requires
 write-all-requires c κs = search rules

@@ -4,7 +4,7 @@ use lib.ListN.{length}
 use Rattle.timer_map.specs.Words.{entries_of}
 use Rattle.timer_map.specs.Calls.{packed_put}
 use Rattle.timer_events.specs.Records.{insert_all, timers_in}
-use Rattle.timer_events.proofs.Inserting.{Inserting, inserting_start, inserting-long, inserting-few, inserting-none, inserting-refused, inserting-last, inserting_next}
+use Rattle.timer_events.proofs.Inserting.{Inserting, inserting_start, inserting_long, inserting_few, inserting_none, inserting_refused, inserting_last, inserting_next}
 use Rattle.timer_events.proofs.insert_all.Statement.{statement}
 use Rattle.timer_events.proofs.insert_all.Tie as tie
 
@@ -24,10 +24,10 @@ cast-n : tie.Need-overflow-cast-n invariant-loop decreases-loop
 cast-n c = search rules
 
 same_length : tie.Need-same-length invariant-loop decreases-loop
-same_length c = search (inserting-long, rules)
+same_length c = search (inserting_long, rules)
 
 returns : tie.Need-returns invariant-loop decreases-loop
-returns c = search inserting-none
+returns c = search inserting_none
 
 insert-record-requires : tie.Need-insert-record-requires invariant-loop decreases-loop
 insert-record-requires c κs = search rules
@@ -36,13 +36,13 @@ same-length-2 : tie.Need-same-length-2 invariant-loop decreases-loop
 same-length-2 c = search rules
 
 returns-2 : tie.Need-returns-2 invariant-loop decreases-loop
-returns-2 c = search inserting-refused
+returns-2 c = search inserting_refused
 
 same-length-3 : tie.Need-same-length-3 invariant-loop decreases-loop
 same-length-3 c = search rules
 
 returns-3 : tie.Need-returns-3 invariant-loop decreases-loop
-returns-3 c = search inserting-last
+returns-3 c = search inserting_last
 
 sub-rest : tie.Need-overflow-sub-rest invariant-loop decreases-loop
 sub-rest c = search rules
@@ -60,10 +60,10 @@ loop-again : tie.Need-loop-preserved invariant-loop decreases-loop
 loop-again c = search inserting_next
 
 same-length-4 : tie.Need-same-length-4 invariant-loop decreases-loop
-same-length-4 c = search (inserting-long, rules)
+same-length-4 c = search (inserting_long, rules)
 
 returns-4 : tie.Need-returns-4 invariant-loop decreases-loop
-returns-4 c = search inserting-few
+returns-4 c = search inserting_few
 
 pub insert-all-spec : {M : Type 1} → statement M
 insert-all-spec =

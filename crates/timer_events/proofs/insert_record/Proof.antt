@@ -1,6 +1,6 @@
 -- By cases on the kind: a timer's record is put in by the contracts called, any other leaves the queue as it was.
 use borrow.Author.Rules.{rules}
-use Rattle.timer_events.proofs.Inserting.{put-timer, put_other}
+use Rattle.timer_events.proofs.Inserting.{put_timer, put_other}
 use Rattle.timer_events.proofs.insert_record.Statement.{statement}
 use Rattle.timer_events.proofs.insert_record.Tie as tie
 
@@ -17,7 +17,7 @@ same_length : tie.Need-same-length
 same_length c = search rules
 
 returns : tie.Need-returns
-returns c = search put-timer
+returns c = search put_timer
 
 returns-2 : tie.Need-returns-2
 returns-2 c = search put_other

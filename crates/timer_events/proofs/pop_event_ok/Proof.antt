@@ -1,7 +1,7 @@
 -- By cases: none due, no room for the event, or written and removed; a sound queue's entries pass the test that `fields` needs.
 use borrow.Author.Rules.{rules}
-use Rattle.timer_map.proofs.Ways.{place-below}
-use Rattle.timer_events.proofs.Taking.{entry_ok, took-none, took-full, took-event}
+use Rattle.timer_map.proofs.Ways.{place_below}
+use Rattle.timer_events.proofs.Taking.{entry_ok, took_none, took_full, took_event}
 use Rattle.timer_events.proofs.pop_event_ok.Statement.{statement}
 use Rattle.timer_events.proofs.pop_event_ok.Tie as tie
 
@@ -18,7 +18,7 @@ enum_told : tie.Need-enum-told
 enum_told c = search rules
 
 remove-entry-requires : tie.Need-remove-entry-requires
-remove-entry-requires c κs = (search rules, search place-below)
+remove-entry-requires c κs = (search rules, search place_below)
 
 same_length : tie.Need-same-length
 same_length c = search rules
@@ -27,7 +27,7 @@ same-length-2 : tie.Need-same-length-2
 same-length-2 c = search rules
 
 returns : tie.Need-returns
-returns c = search took-event
+returns c = search took_event
 
 enum-told-2 : tie.Need-enum-told-2
 enum-told-2 c = search rules
@@ -42,7 +42,7 @@ same-length-4 : tie.Need-same-length-4
 same-length-4 c = search rules
 
 returns-2 : tie.Need-returns-2
-returns-2 c = search took-full
+returns-2 c = search took_full
 
 no-event-requires-2 : tie.Need-no-event-requires-2
 no-event-requires-2 c κs = search rules
@@ -54,7 +54,7 @@ same-length-6 : tie.Need-same-length-6
 same-length-6 c = search rules
 
 returns-3 : tie.Need-returns-3
-returns-3 c = search took-none
+returns-3 c = search took_none
 
 pub pop-event-ok-spec : {M : Type 1} → statement M
 pop-event-ok-spec =

@@ -1,6 +1,6 @@
 -- The queue only grew at its end, so a refusal that truncates it to the first count leaves the entries it had.
 use borrow.Author.Rules.{rules}
-use Rattle.timer_events.proofs.Inserting.{all_sound, all_more, none-put, all-put}
+use Rattle.timer_events.proofs.Inserting.{all_sound, all_more, none_put, all_put}
 use Rattle.timer_events.proofs.records_ok.Statement.{statement}
 use Rattle.timer_events.proofs.records_ok.Tie as tie
 
@@ -17,13 +17,13 @@ same_length : tie.Need-same-length
 same_length c = search rules
 
 returns : tie.Need-returns
-returns c = search none-put
+returns c = search none_put
 
 same-length-2 : tie.Need-same-length-2
 same-length-2 c = search rules
 
 returns-2 : tie.Need-returns-2
-returns-2 c = search all-put
+returns-2 c = search all_put
 
 pub records-ok-spec : {M : Type 1} → statement M
 records-ok-spec =

@@ -1,6 +1,6 @@
 -- By cases: fewer bytes than that, a record, or none, each as the definition chooses.
 use borrow.Author.Rules.{rules}
-use Rattle.timer_events.proofs.Inserting.{short-start, read-start, no_record, part_long}
+use Rattle.timer_events.proofs.Inserting.{short_start, read_start, no_record, part_long}
 use Rattle.timer_events.proofs.schedule_of.Statement.{statement}
 use Rattle.timer_events.proofs.schedule_of.Tie as tie
 
@@ -8,7 +8,7 @@ no-start-requires : tie.Need-no-start-requires
 no-start-requires c κs = search rules
 
 returns : tie.Need-returns
-returns c = search short-start
+returns c = search short_start
 
 slice-aggregate-read : tie.Need-slice-aggregate-read
 slice-aggregate-read c = search part_long
@@ -29,7 +29,7 @@ no-start-requires-2 : tie.Need-no-start-requires-2
 no-start-requires-2 c κs = search rules
 
 returns-2 : tie.Need-returns-2
-returns-2 c = search read-start
+returns-2 c = search read_start
 
 returns-3 : tie.Need-returns-3
 returns-3 c = search no_record

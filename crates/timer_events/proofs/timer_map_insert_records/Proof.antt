@@ -1,7 +1,7 @@
 -- By cases on the test: a queue that passes is sound, so `records_ok` answers; any other is broken and stays as it was.
 use borrow.Author.Rules.{rules}
-use Rattle.timer_map.proofs.Ways.{sound-asked}
-use Rattle.timer_events.proofs.Inserting.{records-asked, records-broken}
+use Rattle.timer_map.proofs.Ways.{sound_asked}
+use Rattle.timer_events.proofs.Inserting.{records_asked, records_broken}
 use Rattle.timer_events.proofs.timer_map_insert_records.Statement.{statement}
 use Rattle.timer_events.proofs.timer_map_insert_records.Tie as tie
 
@@ -9,19 +9,19 @@ queue-ok-requires : tie.Need-queue-ok-requires
 queue-ok-requires c κs = search rules
 
 records-ok-requires : tie.Need-records-ok-requires
-records-ok-requires c κs = search (sound-asked, rules)
+records-ok-requires c κs = search (sound_asked, rules)
 
 same_length : tie.Need-same-length
 same_length c = search rules
 
 returns : tie.Need-returns
-returns c = search records-asked
+returns c = search records_asked
 
 same-length-2 : tie.Need-same-length-2
 same-length-2 c = search rules
 
 returns-2 : tie.Need-returns-2
-returns-2 c = search records-broken
+returns-2 c = search records_broken
 
 pub timer-map-insert-records-spec : {M : Type 1} → statement M
 timer-map-insert-records-spec =

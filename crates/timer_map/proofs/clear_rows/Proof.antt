@@ -2,7 +2,7 @@
 use Prim.Native.Nat.{◌-◌}
 use borrow.Author.Rules.{rules}
 use lib.ListN.{length}
-use Rattle.timer_map.proofs.Stores.{Clearing, clear_start, clear_next, clear-end}
+use Rattle.timer_map.proofs.Stores.{Clearing, clear_start, clear_next, clear_end}
 use Rattle.timer_map.proofs.clear_rows.Statement.{statement}
 use Rattle.timer_map.proofs.clear_rows.Tie as tie
 
@@ -34,7 +34,7 @@ same_length : tie.Need-same-length invariant-loop decreases-loop
 same_length c = search rules
 
 returns : tie.Need-returns invariant-loop decreases-loop
-returns c = search clear-end
+returns c = search clear_end
 
 pub clear-rows-spec : {M : Type 1} → statement M
 clear-rows-spec =

@@ -1,6 +1,6 @@
 -- By cases: no entries, the soonest is later than the limit, or it is due, as `due_in` chooses.
 use borrow.Author.Rules.{rules}
-use Rattle.timer_map.proofs.Ways.{due-empty, due-later, due-found}
+use Rattle.timer_map.proofs.Ways.{due_empty, due_later, due_found}
 use Rattle.timer_map.proofs.find_due.Statement.{statement}
 use Rattle.timer_map.proofs.find_due.Tie as tie
 
@@ -11,7 +11,7 @@ no-due-requires : tie.Need-no-due-requires
 no-due-requires c κs = search rules
 
 returns : tie.Need-returns
-returns c = search due-empty
+returns c = search due_empty
 
 soonest-requires : tie.Need-soonest-requires
 soonest-requires c κs = search rules
@@ -29,10 +29,10 @@ no-due-requires-2 : tie.Need-no-due-requires-2
 no-due-requires-2 c κs = search rules
 
 returns-2 : tie.Need-returns-2
-returns-2 c = search due-later
+returns-2 c = search due_later
 
 returns-3 : tie.Need-returns-3
-returns-3 c = search due-found
+returns-3 c = search due_found
 
 pub find-due-spec : {M : Type 1} → statement M
 find-due-spec =

@@ -1,6 +1,6 @@
 -- By cases: no entries, or the time in the row of the soonest.
 use borrow.Author.Rules.{rules}
-use Rattle.timer_map.proofs.Ways.{first-none, first_some}
+use Rattle.timer_map.proofs.Ways.{first_none, first_some}
 use Rattle.timer_map.proofs.first_ok.Statement.{statement}
 use Rattle.timer_map.proofs.first_ok.Tie as tie
 
@@ -8,7 +8,7 @@ shared-slice-read-n : tie.Need-shared-slice-read-n
 shared-slice-read-n c = search rules
 
 returns : tie.Need-returns
-returns c = search first-none
+returns c = search first_none
 
 soonest-requires : tie.Need-soonest-requires
 soonest-requires c κs = search rules

@@ -1,6 +1,6 @@
 -- By cases: no timer, refused, or put in; where nothing is refused, the due time fits a word and there is a free row.
 use borrow.Author.Rules.{rules}
-use Rattle.timer_map.proofs.Ways.{put_refused, put-done, put-malformed, due_fits, room_left}
+use Rattle.timer_map.proofs.Ways.{put_refused, put_done, put_malformed, due_fits, room_left}
 use Rattle.timer_map.proofs.insert_ok.Statement.{statement}
 use Rattle.timer_map.proofs.insert_ok.Tie as tie
 
@@ -26,10 +26,10 @@ same_length : tie.Need-same-length
 same_length c = search rules
 
 returns-2 : tie.Need-returns-2
-returns-2 c = search put-done
+returns-2 c = search put_done
 
 returns-3 : tie.Need-returns-3
-returns-3 c = search put-malformed
+returns-3 c = search put_malformed
 
 pub insert-ok-spec : {M : Type 1} → statement M
 insert-ok-spec =

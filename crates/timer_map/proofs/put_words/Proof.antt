@@ -2,7 +2,7 @@
 use Prim.Native.Nat.{◌-◌}
 use borrow.Author.Rules.{rules}
 use lib.ListN.{length}
-use Rattle.timer_map.proofs.Stores.{Putting, put_start, put_next, put-end}
+use Rattle.timer_map.proofs.Stores.{Putting, put_start, put_next, put_end}
 use Rattle.timer_map.proofs.put_words.Statement.{statement}
 use Rattle.timer_map.proofs.put_words.Tie as tie
 
@@ -43,7 +43,7 @@ same_length : tie.Need-same-length invariant-loop decreases-loop
 same_length c = search rules
 
 returns : tie.Need-returns invariant-loop decreases-loop
-returns c = search put-end
+returns c = search put_end
 
 pub put-words-spec : {M : Type 1} → statement M
 put-words-spec =

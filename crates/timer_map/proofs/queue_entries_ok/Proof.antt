@@ -4,7 +4,7 @@ use borrow.Author.Rules.{rules}
 use Rattle.base_lists.specs.Tests.{every}
 use Rattle.timer_map.specs.Entries.{queue_entry_ok}
 use Rattle.timer_map.specs.Words.{queue_entries_at}
-use Rattle.timer_map.proofs.Walk.{Walk, Timers, timers_start, timers-next, timers-end}
+use Rattle.timer_map.proofs.Walk.{Walk, Timers, timers_start, timers_next, timers_end}
 use Rattle.timer_map.proofs.queue_entries_ok.Statement.{statement}
 use Rattle.timer_map.proofs.queue_entries_ok.Tie as tie
 
@@ -33,10 +33,10 @@ loop-less : tie.Need-loop-smaller invariant-loop decreases-loop
 loop-less c = search rules
 
 loop-again : tie.Need-loop-preserved invariant-loop decreases-loop
-loop-again c = search timers-next
+loop-again c = search timers_next
 
 returns : tie.Need-returns invariant-loop decreases-loop
-returns c = search timers-end
+returns c = search timers_end
 
 pub queue-entries-ok-spec : {M : Type 1} → statement M
 queue-entries-ok-spec =

@@ -1,7 +1,7 @@
 -- The words from `at` to place k are those one row on, the others as they were; the measure is how many are left to move.
 use Prim.Native.Nat.{◌-◌}
 use borrow.Author.Rules.{rules}
-use Rattle.timer_map.proofs.Stores.{Shifting, shift_start, shift-next, shift-end}
+use Rattle.timer_map.proofs.Stores.{Shifting, shift_start, shift_next, shift_end}
 use Rattle.timer_map.proofs.shift_down.Statement.{statement}
 use Rattle.timer_map.proofs.shift_down.Tie as tie
 
@@ -36,13 +36,13 @@ loop-less : tie.Need-loop-smaller invariant-loop decreases-loop
 loop-less c = search rules
 
 loop-again : tie.Need-loop-preserved invariant-loop decreases-loop
-loop-again c = search shift-next
+loop-again c = search shift_next
 
 same_length : tie.Need-same-length invariant-loop decreases-loop
 same_length c = search rules
 
 returns : tie.Need-returns invariant-loop decreases-loop
-returns c = search shift-end
+returns c = search shift_end
 
 pub shift-down-spec : {M : Type 1} → statement M
 shift-down-spec =

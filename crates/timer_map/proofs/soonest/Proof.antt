@@ -3,7 +3,7 @@ use Prim.Native.Nat.{◌-◌}
 use borrow.Author.Rules.{rules}
 use Rattle.timer_map.specs.Entries.{soonest}
 use Rattle.timer_map.specs.Words.{queue_entries_at}
-use Rattle.timer_map.proofs.Order.{Seeking, seek_start, seek-next, seek-end}
+use Rattle.timer_map.proofs.Order.{Seeking, seek_start, seek_next, seek_end}
 use Rattle.timer_map.proofs.soonest.Statement.{statement}
 use Rattle.timer_map.proofs.soonest.Tie as tie
 
@@ -26,10 +26,10 @@ loop-less : tie.Need-loop-smaller invariant-loop decreases-loop
 loop-less c = search rules
 
 loop-again : tie.Need-loop-preserved invariant-loop decreases-loop
-loop-again c = search seek-next
+loop-again c = search seek_next
 
 returns : tie.Need-returns invariant-loop decreases-loop
-returns c = seek-end _ _ _ _ _ c.before.loop.invariant (search rules)
+returns c = seek_end _ _ _ _ _ c.before.loop.invariant (search rules)
 
 pub soonest-spec : {M : Type 1} → statement M
 soonest-spec =

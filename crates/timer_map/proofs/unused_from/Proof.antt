@@ -4,7 +4,7 @@ use borrow.Author.Rules.{rules}
 use lib.ListN.{length, drop}
 use Rattle.base_lists.specs.Tests.{every}
 use Rattle.base_lists.proofs.Rest.{Rest}
-use Rattle.base_lists.proofs.Tests.{SoFar, so-far-from, so-far-next, so-far-end}
+use Rattle.base_lists.proofs.Tests.{SoFar, so_far_from, so_far_next, so_far_end}
 use Rattle.timer_map.specs.Words.{unused_word}
 use Rattle.timer_map.proofs.unused_from.Statement.{statement}
 use Rattle.timer_map.proofs.unused_from.Tie as tie
@@ -16,7 +16,7 @@ abbrev decreases-loop : tie.decreases-loop
 decreases-loop q from ok₀ i₀ ok i = length q - i
 
 loop-holds : tie.Need-loop-init invariant-loop decreases-loop
-loop-holds c = search (so-far-from unused_word 0, rules)
+loop-holds c = search (so_far_from unused_word 0, rules)
 
 mul_ok : tie.Need-overflow-mul-ok invariant-loop decreases-loop
 mul_ok c = search rules
@@ -31,10 +31,10 @@ loop-less : tie.Need-loop-smaller invariant-loop decreases-loop
 loop-less c = search rules
 
 loop-again : tie.Need-loop-preserved invariant-loop decreases-loop
-loop-again c = search (so-far-next unused_word 0)
+loop-again c = search (so_far_next unused_word 0)
 
 returns : tie.Need-returns invariant-loop decreases-loop
-returns c = search (so-far-end unused_word 0)
+returns c = search (so_far_end unused_word 0)
 
 pub unused-from-spec : {M : Type 1} → statement M
 unused-from-spec =

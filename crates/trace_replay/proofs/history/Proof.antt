@@ -1,7 +1,7 @@
 -- By cases: the input is refused, its settings are, or the events run from the counters stored, in the smaller of both rooms.
 use mathlib.Core.Logic.{⊎_elim}
 use borrow.Author.Rules.{rules}
-use Rattle.trace_replay.proofs.Laws.{room-given, room_most, counters_stored, there, whole-refused, whole_run, ends-refused, ends-whole}
+use Rattle.trace_replay.proofs.Laws.{room_given, room_most, counters_stored, there, whole_refused, whole_run, ends_refused, ends_whole}
 use Rattle.trace_replay.proofs.history.Statement.{statement}
 use Rattle.trace_replay.proofs.history.Tie as tie
 
@@ -44,7 +44,7 @@ returns c =
     let at_new = c.before.before.before.before.before in
     let at_i = new-to-i at_new in
     let at_read = i-to-read-input at_i in
-    ends-whole _ _ _ at_read.read-input.ensures _ _ at_i.i.given.1 (whole-refused _ _ _ _ _ at_new.new.ensures (search rules))
+    ends_whole _ _ _ at_read.read-input.ensures _ _ at_i.i.given.1 (whole_refused _ _ _ _ _ at_new.new.ensures (search rules))
 
 array-write-words : tie.Need-array-write-words
 array-write-words c = search rules
@@ -68,7 +68,7 @@ walk-requires : tie.Need-walk-requires
 walk-requires c κs = (search (there, rules), ⊎_elim (λ w. search rules) (λ w. search rules) c.if2.branch)
 
 returns-2 : tie.Need-returns-2
-returns-2 c = search (ends-refused, rules)
+returns-2 c = search (ends_refused, rules)
 
 returns-3 : tie.Need-returns-3
 returns-3 c =
@@ -77,8 +77,8 @@ returns-3 c =
     let at_new = at-if.before.before.before in
     let at_i = new-to-i at_new in
     let at_read = i-to-read-input at_i in
-    ends-whole _ _ _ at_read.read-input.ensures _ _ at_i.i.given.1
-    (whole_run _ _ _ _ _ at_new.new.ensures _ _ _ (search (rules, at-if.if1)) (λ g e. counters_stored _ g _ e) (⊎_elim (λ w. room-given _ _ w.0.taken w.1) (λ w. room_most _ _ w.0.left w.1) at_room.if2.branch) c.walk.ensures)
+    ends_whole _ _ _ at_read.read-input.ensures _ _ at_i.i.given.1
+    (whole_run _ _ _ _ _ at_new.new.ensures _ _ _ (search (rules, at-if.if1)) (λ g e. counters_stored _ g _ e) (⊎_elim (λ w. room_given _ _ w.0.taken w.1) (λ w. room_most _ _ w.0.left w.1) at_room.if2.branch) c.walk.ensures)
 
 pub history-spec : {M : Type 1} → statement M
 history-spec =

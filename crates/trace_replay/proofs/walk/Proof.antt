@@ -6,7 +6,7 @@ use lib.ListN.{length}
 use Rattle.run_input.specs.Input.{cut_events}
 use Rattle.run_walk.proofs.Draws.{counted, numbers_read}
 use Rattle.trace_replay.specs.Ending.{words_after}
-use Rattle.trace_replay.proofs.Laws.{Walking, walking_start, walking-next, walking-end, walked, fitting}
+use Rattle.trace_replay.proofs.Laws.{Walking, walking_start, walking_next, walking_end, walked, fitting}
 use Rattle.trace_replay.proofs.walk.Statement.{statement}
 use Rattle.trace_replay.proofs.walk.Tie as tie
 
@@ -107,7 +107,7 @@ loop-again : tie.Need-loop-preserved invariant-loop decreases-loop
 loop-again c =
     let at-step = put-to-step c.before.before.before.before.before.before in
     let at-loop = step-to-at-loop at-step in
-    (room_kept at-step, walking-next _ _ _ _ _ _ at-loop.loop.inv.1 _ _ (some_left at-step) (sym at-loop.loop.inv.0) at-step.step.ensures.runner)
+    (room_kept at-step, walking_next _ _ _ _ _ _ at-loop.loop.inv.1 _ _ (some_left at-step) (sym at-loop.loop.inv.0) at-step.step.ensures.runner)
 
 slice-aggregate-write-all-2 : tie.Need-slice-aggregate-write-all-2 invariant-loop decreases-loop
 slice-aggregate-write-all-2 c = search rules
@@ -122,14 +122,14 @@ loop-again-2 : tie.Need-loop-preserved-2 invariant-loop decreases-loop
 loop-again-2 c =
     let at-step = put-to-step c.before.before.before.before.before.before in
     let at-loop = step-to-at-loop at-step in
-    (room_kept at-step, walking-next _ _ _ _ _ _ at-loop.loop.inv.1 _ _ (some_left at-step) (sym at-loop.loop.inv.0) at-step.step.ensures.runner)
+    (room_kept at-step, walking_next _ _ _ _ _ _ at-loop.loop.inv.1 _ _ (some_left at-step) (sym at-loop.loop.inv.0) at-step.step.ensures.runner)
 
 returns : tie.Need-returns invariant-loop decreases-loop
 returns c =
     let at-loop = c.before.before.before.before in
     let read = drawn3-to-read (at-loop-to-drawn3 at-loop) in
     let ns = numbers_read _ _ _ _ (read-to-start read).pre.0 refl read.read-numbers.ensures in
-    walked _ _ _ _ _ _ ns.0 ns.1 (walking-end _ _ _ _ _ _ at-loop.loop.invariant.1 (search rules))
+    walked _ _ _ _ _ _ ns.0 ns.1 (walking_end _ _ _ _ _ _ at-loop.loop.invariant.1 (search rules))
 
 pub walk-spec : {M : Type 1} → statement M
 walk-spec =

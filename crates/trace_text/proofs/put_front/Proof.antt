@@ -4,7 +4,7 @@ use Prim.Native.Nat.{◌-◌}
 use mathlib.Core.Path.{refl}
 use native.Mathlib.Omega.{arith}
 use lib.ListN.{length}
-use Rattle.trace_text.proofs.Writing.{Hexing, hex_start, hex-next, hex-enough, hex-end}
+use Rattle.trace_text.proofs.Writing.{Hexing, hex_start, hex_next, hex_enough, hex_end}
 use Rattle.trace_text.proofs.put_front.Statement.{statement}
 use Rattle.trace_text.proofs.put_front.Tie as tie
 
@@ -25,7 +25,7 @@ same_length : tie.Need-same-length invariant-loop decreases-loop
 same_length c = search rules
 
 returns : tie.Need-returns invariant-loop decreases-loop
-returns c = search hex-enough
+returns c = search hex_enough
 
 shared-slice-read-high : tie.Need-shared-slice-read-high invariant-loop decreases-loop
 shared-slice-read-high c = search rules
@@ -68,13 +68,13 @@ loop-again c =
     let at-put2 = c.before.before in
     let at-put = at-put2.before.before.before.before in
     let at-loop = put-arg-to-loop at-put.before in
-    hex-next _ _ _ _ _ _ _ at-loop.loop.inv _ _ _ _ _ _ (search rules) (search rules) (at-put.before.before.shared-slice-known3.given at-loop.loop.i).fits refl refl at-put2.put2.ensures at-put.put.ensures (search rules)
+    hex_next _ _ _ _ _ _ _ at-loop.loop.inv _ _ _ _ _ _ (search rules) (search rules) (at-put.before.before.shared-slice-known3.given at-loop.loop.i).fits refl refl at-put2.put2.ensures at-put.put.ensures (search rules)
 
 same-length-2 : tie.Need-same-length-2 invariant-loop decreases-loop
 same-length-2 c = search rules
 
 returns-2 : tie.Need-returns-2 invariant-loop decreases-loop
-returns-2 c = search hex-end
+returns-2 c = search hex_end
 
 pub put-front-spec : {M : Type 1} → statement M
 put-front-spec =

@@ -6,7 +6,7 @@ use mathlib.Core.Logic.{⊎_elim}
 use lib.ListN.{length}
 use Rattle.run_text.specs.Text.{Puts}
 use Rattle.trace_text.specs.Items.{comma_before}
-use Rattle.trace_text.proofs.Listing.{Listed, listed_some, listed_alone, listed-counted, listed-full, second-inside, third-inside, fourth-inside, comma_none, comma_some, single-next, numbered_next, held_next}
+use Rattle.trace_text.proofs.Listing.{Listed, listed_some, listed_alone, listed_counted, listed_full, second_inside, third_inside, fourth_inside, comma_none, comma_some, single_next, numbered_next, held_next}
 use Rattle.trace_text.proofs.put_items.Statement.{statement}
 use Rattle.trace_text.proofs.put_items.Tie as tie
 
@@ -61,7 +61,7 @@ same_length : tie.Need-same-length invariant-loop decreases-loop
 same_length c = search rules
 
 returns : tie.Need-returns invariant-loop decreases-loop
-returns c = search listed-counted
+returns c = search listed_counted
 
 put-requires : tie.Need-put-requires invariant-loop decreases-loop
 put-requires c κs = search rules
@@ -88,19 +88,19 @@ add-value : tie.Need-overflow-add-value invariant-loop decreases-loop
 add-value c =
     let at-then = put2-to-then4 c.before.before in
     let at-comma = put-decimal-to-joined3 (then4-to-put-decimal at-then) in
-    search (rules, second-inside _ _ _ _ _ _ _ _ _ _ (joined3-to-loop at-comma).loop.inv at-comma.before.before.loop-test.taken at-then.if4.taken)
+    search (rules, second_inside _ _ _ _ _ _ _ _ _ _ (joined3-to-loop at-comma).loop.inv at-comma.before.before.loop-test.taken at-then.if4.taken)
 
 mul-value : tie.Need-overflow-mul-value invariant-loop decreases-loop
 mul-value c =
     let at-then = put2-to-then4 c.before.before in
     let at-comma = put-decimal-to-joined3 (then4-to-put-decimal at-then) in
-    search (rules, second-inside _ _ _ _ _ _ _ _ _ _ (joined3-to-loop at-comma).loop.inv at-comma.before.before.loop-test.taken at-then.if4.taken)
+    search (rules, second_inside _ _ _ _ _ _ _ _ _ _ (joined3-to-loop at-comma).loop.inv at-comma.before.before.loop-test.taken at-then.if4.taken)
 
 shared-slice-read-value : tie.Need-shared-slice-read-value invariant-loop decreases-loop
 shared-slice-read-value c =
     let at-then = put2-to-then4 c.before.before.before in
     let at-comma = put-decimal-to-joined3 (then4-to-put-decimal at-then) in
-    search (rules, second-inside _ _ _ _ _ _ _ _ _ _ (joined3-to-loop at-comma).loop.inv at-comma.before.before.loop-test.taken at-then.if4.taken)
+    search (rules, second_inside _ _ _ _ _ _ _ _ _ _ (joined3-to-loop at-comma).loop.inv at-comma.before.before.loop-test.taken at-then.if4.taken)
 
 put-decimal-requires-2 : tie.Need-put-decimal-requires-2 invariant-loop decreases-loop
 put-decimal-requires-2 c κs = search rules
@@ -123,7 +123,7 @@ mul-bytes-of c =
     let at-then = put2-to-then4 (else5-to-put2 at-else) in
     let at-comma = put-decimal-to-joined3 (then4-to-put-decimal at-then) in
     let v = (joined3-to-loop at-comma).loop.inv in
-    search (rules, v.short, third-inside _ _ _ _ _ _ _ _ _ _ v at-comma.before.before.loop-test.taken at-then.if4.taken at-else.if5.false)
+    search (rules, v.short, third_inside _ _ _ _ _ _ _ _ _ _ v at-comma.before.before.loop-test.taken at-then.if4.taken at-else.if5.false)
 
 add-bytes-of : tie.Need-overflow-add-bytes-of invariant-loop decreases-loop
 add-bytes-of c =
@@ -131,7 +131,7 @@ add-bytes-of c =
     let at-then = put2-to-then4 (else5-to-put2 at-else) in
     let at-comma = put-decimal-to-joined3 (then4-to-put-decimal at-then) in
     let v = (joined3-to-loop at-comma).loop.inv in
-    search (rules, v.short, third-inside _ _ _ _ _ _ _ _ _ _ v at-comma.before.before.loop-test.taken at-then.if4.taken at-else.if5.false)
+    search (rules, v.short, third_inside _ _ _ _ _ _ _ _ _ _ v at-comma.before.before.loop-test.taken at-then.if4.taken at-else.if5.false)
 
 mul-bytes-of-2 : tie.Need-overflow-mul-bytes-of-2 invariant-loop decreases-loop
 mul-bytes-of-2 c =
@@ -139,7 +139,7 @@ mul-bytes-of-2 c =
     let at-then = put2-to-then4 (else5-to-put2 at-else) in
     let at-comma = put-decimal-to-joined3 (then4-to-put-decimal at-then) in
     let v = (joined3-to-loop at-comma).loop.inv in
-    search (rules, v.short, third-inside _ _ _ _ _ _ _ _ _ _ v at-comma.before.before.loop-test.taken at-then.if4.taken at-else.if5.false)
+    search (rules, v.short, third_inside _ _ _ _ _ _ _ _ _ _ v at-comma.before.before.loop-test.taken at-then.if4.taken at-else.if5.false)
 
 shared-slice-read-bytes-of : tie.Need-shared-slice-read-bytes-of invariant-loop decreases-loop
 shared-slice-read-bytes-of c =
@@ -147,7 +147,7 @@ shared-slice-read-bytes-of c =
     let at-then = put2-to-then4 (else5-to-put2 at-else) in
     let at-comma = put-decimal-to-joined3 (then4-to-put-decimal at-then) in
     let v = (joined3-to-loop at-comma).loop.inv in
-    search (rules, v.short, third-inside _ _ _ _ _ _ _ _ _ _ v at-comma.before.before.loop-test.taken at-then.if4.taken at-else.if5.false)
+    search (rules, v.short, third_inside _ _ _ _ _ _ _ _ _ _ v at-comma.before.before.loop-test.taken at-then.if4.taken at-else.if5.false)
 
 mul-bytes-of-3 : tie.Need-overflow-mul-bytes-of-3 invariant-loop decreases-loop
 mul-bytes-of-3 c =
@@ -155,7 +155,7 @@ mul-bytes-of-3 c =
     let at-then = put2-to-then4 (else5-to-put2 at-else) in
     let at-comma = put-decimal-to-joined3 (then4-to-put-decimal at-then) in
     let v = (joined3-to-loop at-comma).loop.inv in
-    search (rules, v.short, fourth-inside _ _ _ _ _ _ _ _ _ _ v at-comma.before.before.loop-test.taken at-then.if4.taken at-else.if5.false)
+    search (rules, v.short, fourth_inside _ _ _ _ _ _ _ _ _ _ v at-comma.before.before.loop-test.taken at-then.if4.taken at-else.if5.false)
 
 add-bytes-of-2 : tie.Need-overflow-add-bytes-of-2 invariant-loop decreases-loop
 add-bytes-of-2 c =
@@ -163,7 +163,7 @@ add-bytes-of-2 c =
     let at-then = put2-to-then4 (else5-to-put2 at-else) in
     let at-comma = put-decimal-to-joined3 (then4-to-put-decimal at-then) in
     let v = (joined3-to-loop at-comma).loop.inv in
-    search (rules, v.short, fourth-inside _ _ _ _ _ _ _ _ _ _ v at-comma.before.before.loop-test.taken at-then.if4.taken at-else.if5.false)
+    search (rules, v.short, fourth_inside _ _ _ _ _ _ _ _ _ _ v at-comma.before.before.loop-test.taken at-then.if4.taken at-else.if5.false)
 
 mul-bytes-of-4 : tie.Need-overflow-mul-bytes-of-4 invariant-loop decreases-loop
 mul-bytes-of-4 c =
@@ -171,7 +171,7 @@ mul-bytes-of-4 c =
     let at-then = put2-to-then4 (else5-to-put2 at-else) in
     let at-comma = put-decimal-to-joined3 (then4-to-put-decimal at-then) in
     let v = (joined3-to-loop at-comma).loop.inv in
-    search (rules, v.short, fourth-inside _ _ _ _ _ _ _ _ _ _ v at-comma.before.before.loop-test.taken at-then.if4.taken at-else.if5.false)
+    search (rules, v.short, fourth_inside _ _ _ _ _ _ _ _ _ _ v at-comma.before.before.loop-test.taken at-then.if4.taken at-else.if5.false)
 
 shared-slice-read-bytes-of-2 : tie.Need-shared-slice-read-bytes-of-2 invariant-loop decreases-loop
 shared-slice-read-bytes-of-2 c =
@@ -179,7 +179,7 @@ shared-slice-read-bytes-of-2 c =
     let at-then = put2-to-then4 (else5-to-put2 at-else) in
     let at-comma = put-decimal-to-joined3 (then4-to-put-decimal at-then) in
     let v = (joined3-to-loop at-comma).loop.inv in
-    search (rules, v.short, fourth-inside _ _ _ _ _ _ _ _ _ _ v at-comma.before.before.loop-test.taken at-then.if4.taken at-else.if5.false)
+    search (rules, v.short, fourth_inside _ _ _ _ _ _ _ _ _ _ v at-comma.before.before.loop-test.taken at-then.if4.taken at-else.if5.false)
 
 bytes-of-requires : tie.Need-bytes-of-requires invariant-loop decreases-loop
 bytes-of-requires c κs = search rules
@@ -213,13 +213,13 @@ loop-again-3 c =
     let at-peer = c.before.before.before in
     let at-comma = put-decimal-to-joined3 at-peer in
     let at-loop = joined3-to-loop at-comma in
-    single-next _ _ _ _ _ _ _ _ _ _ at-loop.loop.inv at-comma.before.before.loop-test.taken at-comma.before.if2.left _ _ _ _ at-peer.put-decimal.ensures (comma at-comma) c.if4.false (search (rules, at-peer.put-decimal.auto, comma-kept at-comma))
+    single_next _ _ _ _ _ _ _ _ _ _ at-loop.loop.inv at-comma.before.before.loop-test.taken at-comma.before.if2.left _ _ _ _ at-peer.put-decimal.ensures (comma at-comma) c.if4.false (search (rules, at-peer.put-decimal.auto, comma-kept at-comma))
 
 same-length-2 : tie.Need-same-length-2 invariant-loop decreases-loop
 same-length-2 c = search rules
 
 returns-2 : tie.Need-returns-2 invariant-loop decreases-loop
-returns-2 c = search listed-full
+returns-2 c = search listed_full
 
 pub put-items-spec : {M : Type 1} → statement M
 put-items-spec =

@@ -1,7 +1,7 @@
 -- By cases on the kind of the limit, each of which has its own letter.
 use borrow.Author.Rules.{rules}
 use Rattle.trace_text.specs.Items.{ascii}
-use Rattle.trace_text.proofs.Laws.{limit-automatic, limit-requests, limit-recovery}
+use Rattle.trace_text.proofs.Laws.{limit_automatic, limit_requests, limit_recovery}
 use Rattle.trace_text.proofs.put_limit.Statement.{statement}
 use Rattle.trace_text.proofs.put_limit.Tie as tie
 
@@ -16,7 +16,7 @@ same_length c = search rules
 
 returns : tie.Need-returns
 unfolding ascii
-returns c = search limit-automatic
+returns c = search limit_automatic
 
 put-requires-2 : tie.Need-put-requires-2
 put-requires-2 c κs = search rules
@@ -32,7 +32,7 @@ same-length-2 c = search rules
 
 returns-2 : tie.Need-returns-2
 unfolding ascii
-returns-2 c = search limit-requests
+returns-2 c = search limit_requests
 
 put-requires-3 : tie.Need-put-requires-3
 put-requires-3 c κs = search rules
@@ -42,7 +42,7 @@ same-length-3 c = search rules
 
 returns-3 : tie.Need-returns-3
 unfolding ascii
-returns-3 c = search limit-recovery
+returns-3 c = search limit_recovery
 
 pub put-limit-spec : {M : Type 1} → statement M
 put-limit-spec =

@@ -1,7 +1,7 @@
 -- By cases on the mark: data that is there is shown in hex, absent data as a dash.
 use borrow.Author.Rules.{rules}
 use Rattle.trace_text.specs.Items.{ascii}
-use Rattle.trace_text.proofs.Laws.{own-none, own-some}
+use Rattle.trace_text.proofs.Laws.{own_none, own_some}
 use Rattle.trace_text.proofs.put_own.Statement.{statement}
 use Rattle.trace_text.proofs.put_own.Tie as tie
 
@@ -34,7 +34,7 @@ same_length c = search rules
 
 returns : tie.Need-returns
 unfolding ascii
-returns c = search own-some
+returns c = search own_some
 
 put-requires-2 : tie.Need-put-requires-2
 put-requires-2 c κs = search rules
@@ -44,7 +44,7 @@ same-length-2 c = search rules
 
 returns-2 : tie.Need-returns-2
 unfolding ascii
-returns-2 c = search own-none
+returns-2 c = search own_none
 
 pub put-own-spec : {M : Type 1} → statement M
 put-own-spec =

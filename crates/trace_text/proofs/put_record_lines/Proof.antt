@@ -3,7 +3,7 @@ use borrow.Author.Rules.{rules}
 use lib.ListN.{length}
 use Rattle.record.specs.Walk.{records_in}
 use Rattle.trace_text.specs.Hex.{hex_lines}
-use Rattle.trace_text.proofs.Writing.{Writing, writing_start, lines-few, lines_none, lines_next, lines-last}
+use Rattle.trace_text.proofs.Writing.{Writing, writing_start, lines_few, lines_none, lines_next, lines_last}
 use Rattle.trace_text.proofs.put_record_lines.Statement.{statement}
 use Rattle.trace_text.proofs.put_record_lines.Tie as tie
 
@@ -56,7 +56,7 @@ returns-2 c =
     let at_front = put-to-put-front at-put in
     let at-header = put-front-to-read-header at_front in
     let at-loop = read-header-to-at-loop at-header in
-    lines-last _ _ _ _ _ _ at-loop.loop.inv _ at-header.read-header.ensures _ _ _ _ at-put.put.ensures at_front.put_front.ensures (search rules) (search rules) (search rules) (search rules)
+    lines_last _ _ _ _ _ _ at-loop.loop.inv _ at-header.read-header.ensures _ _ _ _ at-put.put.ensures at_front.put_front.ensures (search rules) (search rules) (search rules) (search rules)
 
 sub-rest : tie.Need-overflow-sub-rest invariant-loop decreases-loop
 sub-rest c = search rules
@@ -82,7 +82,7 @@ same-length-3 : tie.Need-same-length-3 invariant-loop decreases-loop
 same-length-3 c = search rules
 
 returns-3 : tie.Need-returns-3 invariant-loop decreases-loop
-returns-3 c = search lines-few
+returns-3 c = search lines_few
 
 pub put-record-lines-spec : {M : Type 1} → statement M
 put-record-lines-spec =

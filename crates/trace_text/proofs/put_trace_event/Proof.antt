@@ -3,7 +3,7 @@ use borrow.Author.Rules.{rules}
 use Prim.Native.Nat.{◌-◌, ◌<◌}
 use mathlib.Core.Logic.{⊎_elim}
 use Rattle.trace_text.specs.Items.{ascii}
-use Rattle.trace_text.proofs.Line.{line, places, rooms, Lining, line_start, own-next, limit-next, under_next, over-next, field-there, field_in, field_next, line-end, fields, line_size}
+use Rattle.trace_text.proofs.Line.{line, places, rooms, Lining, line_start, own_next, limit_next, under_next, over_next, field_there, field_in, field_next, line_end, fields, line_size}
 use Rattle.trace_text.proofs.Laws.{event_put}
 use Rattle.trace_text.proofs.put_trace_event.Statement.{statement}
 use Rattle.trace_text.proofs.put_trace_event.Tie as tie
@@ -21,7 +21,7 @@ then2-to-loop c = c.before.before.before.before
 -- There is a field where its byte is met.
 there : (c : tie.Then2 invariant-loop decreases-loop) → (then2-to-loop c).loop.field < fields
 unfolding line ascii
-there at_field = field-there _ _ _ _ _ _ _ (then2-to-loop at_field).loop.invariant at_field.before.before.before.loop-test.true at_field.before.if1.false at_field.if2.true
+there at_field = field_there _ _ _ _ _ _ _ (then2-to-loop at_field).loop.invariant at_field.before.before.before.loop-test.true at_field.before.if1.false at_field.if2.true
 
 put-record-lines-requires : tie.Need-put-record-lines-requires invariant-loop decreases-loop
 put-record-lines-requires c κs = search rules
@@ -46,7 +46,7 @@ loop-less c = search rules
 
 loop-again : tie.Need-loop-preserved invariant-loop decreases-loop
 unfolding line ascii
-loop-again c = search own-next
+loop-again c = search own_next
 
 put-limit-requires : tie.Need-put-limit-requires invariant-loop decreases-loop
 put-limit-requires c κs = search rules
@@ -56,7 +56,7 @@ loop-less-2 c = search rules
 
 loop-again-2 : tie.Need-loop-preserved-2 invariant-loop decreases-loop
 unfolding line ascii
-loop-again-2 c = search limit-next
+loop-again-2 c = search limit_next
 
 cast-put-items : tie.Need-overflow-cast-put-items invariant-loop decreases-loop
 cast-put-items c = search rules
@@ -100,16 +100,16 @@ loop-less-4 c = search rules
 
 loop-again-4 : tie.Need-loop-preserved-4 invariant-loop decreases-loop
 unfolding line ascii
-loop-again-4 c = ⊎_elim (λ w. search under_next) (λ w. search over-next) c.before.before.before.before.if1.branch
+loop-again-4 c = ⊎_elim (λ w. search under_next) (λ w. search over_next) c.before.before.before.before.if1.branch
 
 same_length : tie.Need-same-length invariant-loop decreases-loop
 same_length c = search rules
 
 returns : tie.Need-returns invariant-loop decreases-loop
 returns c =
-    let at-end = c.before.before.before.before.before in
-    let at-lines = at-end.before.before.before.before in
-    event_put _ _ _ _ _ _ _ _ _ _ _ _ (line-end _ _ _ _ _ _ _ c.before.loop.invariant c.loop-test.false) at-end.put-end.ensures at-lines.put-record-lines.ensures
+    let at_end = c.before.before.before.before.before in
+    let at-lines = at_end.before.before.before.before in
+    event_put _ _ _ _ _ _ _ _ _ _ _ _ (line_end _ _ _ _ _ _ _ c.before.loop.invariant c.loop-test.false) at_end.put_end.ensures at-lines.put-record-lines.ensures
 
 pub put-trace-event-spec : {M : Type 1} → statement M
 put-trace-event-spec =

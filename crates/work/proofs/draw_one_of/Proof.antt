@@ -1,5 +1,5 @@
--- By the contracts of `pick_index` and `reach`: the draws up to the one that decided are taken, by `drew-one-of`.
-use Rattle.work.proofs.Any.{drew-one-of}
+-- By the contracts of `pick_index` and `reach`: the draws up to the one that decided are taken, by `drew_one_of`.
+use Rattle.work.proofs.Any.{drew_one_of}
 use borrow.Author.Rules.{rules}
 use Rattle.work.proofs.draw_one_of.Statement.{statement}
 use Rattle.work.proofs.draw_one_of.Tie as tie
@@ -11,7 +11,7 @@ reach-requires : tie.Need-reach-requires
 reach-requires c κs = search rules
 
 returns : tie.Need-returns
-returns c = (search drew-one-of, (search rules, search rules))
+returns c = (search drew_one_of, (search rules, search rules))
 
 pub draw-one-of-spec : {M : Type 1} → statement M
 draw-one-of-spec = tie.close (tie.spec pick-index-requires reach-requires returns)

@@ -1,11 +1,11 @@
 -- By cases: work that was refused passes on unchanged; otherwise what the writer says is what `emit` does, by `emitted`.
-use Rattle.work.proofs.Any.{emitted-passed, emitted}
+use Rattle.work.proofs.Any.{emitted_passed, emitted}
 use borrow.Author.Rules.{rules}
 use Rattle.work.proofs.emit_nodes.Statement.{statement}
 use Rattle.work.proofs.emit_nodes.Tie as tie
 
 returns : tie.Need-returns
-returns c = search emitted-passed
+returns c = search emitted_passed
 
 write-requires : tie.Need-write-requires
 write-requires c κs = search rules

@@ -36,7 +36,7 @@ use denote.Triple.Walked.{says, Stays, stay_none, walk_of, Goes-none, Walks, end
 use denote.Exit.{yes}
 use Rattle.base_draws.specs.declared.Draws.{Draws}
 use Rattle.base_draws.proofs.Draws.TheLaws as T'
-use Rattle.base_draws.proofs.Parts.{B, D, L, Own, list_val, taken-apart, typed}
+use Rattle.base_draws.proofs.Parts.{B, D, L, Own, list_val, taken_apart, typed}
 use Rattle.base_draws.specs.contracts.rest_at as core
 use Rattle.base_draws.proofs.rest_at.Symbol as core-def
 use Rattle.base_draws.proofs.rest_at.Symbol.{name as #draws·rest-at}
@@ -80,7 +80,7 @@ module _ {M : Type 1} {𝓤 : Ura M} (𝓛 : Logic 𝓤) (mem : Memory → SProp
   apart : d.at < 2 ^ 64 → ent 𝓤 (on_entry 𝓛 f.signature (κ, tt) (q, tt) (d, tt) (mach ∷ [], tt)) (sep 𝓤 ((Core 𝓛 mem run).pre to) (sem 𝓛 (Own κ d)))
   apart fits =
       qed 𝓛 ((‵ (flft κ q) ⊛ ‵ ftrue) ∷ ‵ (owns (B (κ, tt) ∷ []) (d, tt) (mach ∷ [], tt)) ∷ []) ∵ move ! (1 ∷ []) $ fsplit ! $ move ! (1 ∷ []) $ drop ! $ move ! (1 ∷ 0 ∷ []) $
-      use2 𝓛 (raw (on_entry 𝓛 core.signature (κ, tt) (q, tt) (d.list, (d.at, tt)) passed) ⊛ ‵ (Own κ d)) (taken-apart 𝓛 κ d q fits) $ split ! $
+      use2 𝓛 (raw (on_entry 𝓛 core.signature (κ, tt) (q, tt) (d.list, (d.at, tt)) passed) ⊛ ‵ (Own κ d)) (taken_apart 𝓛 κ d q fits) $ split ! $
       use1 𝓛 (raw ((Core 𝓛 mem run).pre to)) asked $ frame ! $ done !
 
   -- of the callee's `ensured`, the clause alone: it has no `&mut`, so what is said of last values is dropped

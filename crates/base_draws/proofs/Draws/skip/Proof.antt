@@ -39,7 +39,7 @@ use denote.Exit.{yes}
 use Rattle.base_draws.specs.Place.{past}
 use Rattle.base_draws.specs.declared.Draws.{Draws}
 use Rattle.base_draws.proofs.Draws.TheLaws as T'
-use Rattle.base_draws.proofs.Parts.{B, D, L, Own, OwnList, fields, list_val, list-out, twice, typed}
+use Rattle.base_draws.proofs.Parts.{B, D, L, Own, OwnList, fields, list_val, list_out, twice, typed}
 use Rattle.base_draws.specs.contracts.past as core
 use Rattle.base_draws.proofs.past.Symbol as core-def
 use Rattle.base_draws.proofs.past.Symbol.{name as #draws·past}
@@ -90,7 +90,7 @@ module _ {M : Type 1} {𝓤 : Ura M} (𝓛 : Logic 𝓤) (mem : Memory → SProp
   apart : d.at < 2 ^ 64 → ent 𝓤 (on_entry 𝓛 f.signature (κ, tt) (q, tt) (d, (n, tt)) at) (sep 𝓤 ((Core 𝓛 mem run).pre to) (sem 𝓛 (Own κ d)))
   apart fits =
       qed 𝓛 ((‵ (flft κ q) ⊛ ‵ ftrue) ∷ ‵ (owns (B (κ, tt) ∷ usize ∷ []) (d, (n, tt)) at) ∷ []) ∵ move ! (1 ∷ []) $ fsplit ! $ move ! (1 ∷ []) $ drop ! $
-      use1 𝓛 (‵ (OwnList κ d) ⊛ ‵ (Own κ d)) (list-out 𝓛 κ d) $ split ! $
+      use1 𝓛 (‵ (OwnList κ d) ⊛ ‵ (Own κ d)) (list_out 𝓛 κ d) $ split ! $
       -- [what the list owns; what the struct owns; the token]
       nothing ! $ owned ! usize (Is usize) (uint_Makes 𝓛 w64) n _ (refl, ok) $ fjoin ! $ owned ! usize (Is usize) (uint_Makes 𝓛 w64) d.at _ (refl, fits) $ fjoin ! $ move ! (1 ∷ 0 ∷ []) $ fjoin ! $
       move ! (2 ∷ 0 ∷ []) $ use2 𝓛 (raw ((Core 𝓛 mem run).pre to)) asked $ frame ! $ done !

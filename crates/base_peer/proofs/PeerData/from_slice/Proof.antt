@@ -10,8 +10,8 @@ use borrow.Author.Tests.{le-leb, lt-leb}
 use lib.ListN.{length, get_or, set, replicate, get_or-eq_default}
 use Rattle.base_lists.specs.Lists.{choose}
 use Rattle.base_lists.specs.Array.{pad}
-use Rattle.base_lists.proofs.Array.{length-pad, getD-pad}
-use Rattle.base_lists.proofs.Front.{Front, front_start, front-step, front-end}
+use Rattle.base_lists.proofs.Array.{length_pad, getD_pad}
+use Rattle.base_lists.proofs.Front.{Front, front_start, front_step, front_end}
 use Rattle.base_peer.specs.Held.{HoldsData, taken, Takes}
 use Rattle.base_peer.specs.declared.PeerData.{PeerData}
 use Rattle.base_peer.proofs.Data.{holds_some}
@@ -38,7 +38,7 @@ module _ (bs : List ℕ) (n : ℕ) (b : List ℕ) (i : ℕ) (v : Inv bs n b i) w
     long = v.long;
     few = v.few;
     high = omega arith;
-    front = front-step v.front _ (omega (arith, v.few)) (sym (getD-pad 0 16 bs i (omega (arith, v.long, v.few))));
+    front = front_step v.front _ (omega (arith, v.few)) (sym (getD_pad 0 16 bs i (omega (arith, v.long, v.few))));
   }
 
   end : n ≤ i → Takes (record { ok = true; «data» = record { present = true; len = n; bytes = b } }) bs
@@ -46,9 +46,9 @@ module _ (bs : List ℕ) (n : ℕ) (b : List ℕ) (i : ℕ) (v : Inv bs n b i) w
   end h =
       let l : length bs ≤ 16 = omega (arith, v.long, v.few) in
       let e : b ≡ pad 0 16 bs =
-      front-end v.front (length-pad 0 16 bs)
-      (λ j p. getD-pad 0 16 [] j (omega arith)
-      ∙ sym (getD-pad 0 16 bs j l ∙ get_or-eq_default bs 0 (omega (arith, v.long, v.high)))) in
+      front_end v.front (length_pad 0 16 bs)
+      (λ j p. getD_pad 0 16 [] j (omega arith)
+      ∙ sym (getD_pad 0 16 bs j l ∙ get_or-eq_default bs 0 (omega (arith, v.long, v.high)))) in
       record { ok = sym (le-leb _ _ l); held = rw (le-leb (length bs) 16 l) (holds_some bs b n e v.long l) }
 
 abbrev invariant-loop : tie.invariant-loop
