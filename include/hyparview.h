@@ -2,7 +2,7 @@
  *
  * This header is all that a caller needs; the code behind it is proved, and its contracts are in crates/controller.
  *
- *     rt staticlib controller          proves the library and writes target/staticlib/libcontroller.a, for x86-64
+ *     tools/staticlib controller       proves the library and writes target/staticlib/libcontroller.a, for x86-64
  *     cc -std=c11 -Iinclude -o station station.c target/staticlib/libcontroller.a
  *
  * HOW IT IS USED. Once: hyparview_new. Then, whatever happens, one event at a time: put it into a record (below) and call

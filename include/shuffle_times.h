@@ -1,4 +1,4 @@
-/* When the shuffles of a station are due: the function of target/staticlib/libshuffle_times.a (`rt staticlib shuffle_times`),
+/* When the shuffles of a station are due: the function of target/staticlib/libshuffle_times.a (`tools/staticlib shuffle_times`),
  * for x86-64. It has no state, needs no memory and takes no pointer. */
 #ifndef SHUFFLE_TIMES_H
 #define SHUFFLE_TIMES_H

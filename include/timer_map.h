@@ -1,6 +1,6 @@
 /* The timer queue for a controller without timers of its own (document 02, S-1), for x86-64: the first five functions are
- * in target/staticlib/libtimer_map.a (`rt staticlib timer_map`), the last two in target/staticlib/libtimer_events.a
- * (`rt staticlib timer_events`). They link beside libcontroller.a.
+ * in target/staticlib/libtimer_map.a (`tools/staticlib timer_map`), the last two in target/staticlib/libtimer_events.a
+ * (`tools/staticlib timer_events`). They link beside libcontroller.a.
  *
  * The caller owns all memory: a queue is TIMER_MAP_WORDS words. Whatever the words are, each call answers: words that break
  * the queue's own rules, and any other number of words, are refused with code 2. A refusal changes no word.

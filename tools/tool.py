@@ -82,6 +82,26 @@ def read(path=None):
         fail(f"{path if path is not None else 'standard input'}: {reason(wrong)}")
 
 
+def crates():
+    """Each crate of crates.txt, and the last heading above it."""
+    heading = ""
+    for line in read(ROOT / "crates.txt").splitlines():
+        if line.startswith("# "):
+            heading = line[2:]
+        elif ":" in line:
+            yield line.split(":")[0].split()[0], heading
+
+
+def program(name):
+    """Where `rt run` in a program's crate, and `rt ci`, leave it."""
+    return ROOT / "crates" / name / "out" / name
+
+
+def first(name):
+    """What is to be done where it is not there."""
+    return f"; run `rt run` in crates/{name} first"
+
+
 def is_number(word):
     """Whether a word is a whole number of at most 20 digits, as every number of 64 bits is."""
     return word.isascii() and word.isdigit() and len(word) <= 20
@@ -97,9 +117,8 @@ def run(command, **given):
     try:
         done = subprocess.run(command, stdout=subprocess.PIPE, **{"stderr": subprocess.PIPE, **given})
     except OSError as wrong:
-        built = Path(command[0])
-        hint = f"; run `rt check {built.name}` first" if built.parts[-3:-1] == ("target", "bin") else ""
-        fail(f"{command[0]}: {reason(wrong)}{hint}")
+        name = Path(command[0]).name
+        fail(f"{command[0]}: {reason(wrong)}{first(name) if Path(command[0]) == program(name) else ''}")
     said = (done.stderr or b"").decode(errors="replace").strip()
     if done.returncode != 0:
         fail(f"{command[0]} ended with status {done.returncode}" + (f": {' / '.join(said.splitlines())}" if said else ""))

@@ -4,7 +4,7 @@
 usage: tools/make/shuffle_times.py make      writes crates/run_shuffles/stdin and stdout: questions, and both ends of each; and the
                                         README's picture of the first five, docs/shuffles.svg
        tools/make/shuffle_times.py check     fails where they are not what make would write
-       tools/make/shuffle_times.py oracle    holds target/bin/run_shuffles against the Rust, run as a station (oracle/README.md)
+       tools/make/shuffle_times.py oracle    holds run_shuffles (`rt run` in its crate) against the Rust, run as a station (oracle/README.md)
 """
 import itertools
 import random
@@ -18,7 +18,7 @@ import records
 import timeline
 import tool
 
-PROGRAM = tool.ROOT / "target" / "bin" / "run_shuffles"
+PROGRAM = tool.program("run_shuffles")
 
 # The settings in their order, with their defaults and ranges (document 01, "Settings and station rules").
 DEFAULTS = (5, 30, 6, 3, 6, 3, 4, 60000, 3000)

@@ -6,7 +6,7 @@ use Rattle.base_lists.specs.Lists.{Rising, rising}
 use Rattle.base_lists.specs.Maps.{keys, values, zip}
 use Rattle.base_lists.specs.Tests.{All, every, packed}
 use Rattle.base_lists.specs.Bytes.{le, read_le}
-use Rattle.base_lists.specs.Lent.{Lent}
+use Rattle.base_lists.specs.Lent.{Lent, Seen}
 use Rattle.base_peer.specs.Maps.{DataEntry, entry_bytes, ValidEntry, valid_entry}
 use Rattle.base_scan.specs.Words.{unused}
 use Rattle.base_util.specs.Section.{part, working_places, Filled, items_at}
@@ -146,7 +146,7 @@ abbrev pub ChangesData : ℕ → (List (ℕ × List ℕ) → List (ℕ × List �
 ChangesData n f m = HoldsDataWords n m.exit.now (f (data_map_at n m.entry.now))
 
 -- the peers of both views and of the requests, whose data may be held
-abbrev pub known_peers : Lent → Lent → Lent → List ℕ
+abbrev pub known_peers : Seen → Seen → Seen → List ℕ
 known_peers active passive requests =
     items_at active_places active.entry.now
     ++ (items_at working_places passive.entry.now ++ keys (numbers_at working_places requests.entry.now))

@@ -1,4 +1,6 @@
 // Maps by peer as sections of one lent list of 64-bit words: columns of `cap` places in rising order of the peers, and then the count of those in use.
+#![tactic(auto)]
+
 ghost use Rattle.std.specs.Prelude.{◌≡◌, true, ◌||◌, ◌+◌, ◌≤◌, ◌<◌, length, take, drop, ltb};
 ghost use Rattle.base_lists.specs.Lists.{shift_remove, insert_at, subset};
 ghost use Rattle.base_lists.specs.Maps.{keys, has, lookup, cut, retain, put};

@@ -1,9 +1,11 @@
 // 01, "Random choices": the draw list together with the place reached in it. Each function over the struct takes it apart
 // and leaves the work to one that takes a plain slice and a number.
+#![tactic(auto)]
+
 ghost use Rattle.std.specs.Prelude.{◌≡◌, drop};
 ghost use Rattle.base_draws.specs.Place.{past, moved};
 
-#[derive(Drop)]
+#[derive(Clone, Copy)]
 pub struct Draws<'a> {
     pub list: &'a [u32],
     pub at: usize,

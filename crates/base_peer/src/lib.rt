@@ -1,4 +1,6 @@
 // Part 3 of document 01: a peer's data, and a peer with its data.
+#![tactic(auto)]
+
 ghost use Rattle.std.proofs.Math.Option.{none};
 ghost use Rattle.base_peer.specs.Held.{HoldsData, Takes};
 
@@ -6,7 +8,7 @@ ghost use Rattle.base_peer.specs.Held.{HoldsData, Takes};
 pub type PeerId = u64;
 
 // Data of a peer: absent, or 0 to 16 bytes. Unused bytes are zero, and absent data has length 0.
-#[derive(Drop)]
+#[derive(Clone, Copy)]
 pub struct PeerData {
     pub present: bool,
     pub len: u8,
@@ -14,14 +16,14 @@ pub struct PeerData {
 }
 
 // A peer with its data.
-#[derive(Drop)]
+#[derive(Clone, Copy)]
 pub struct PeerInfo {
     pub id: PeerId,
     pub data: PeerData,
 }
 
 // Data, or that there were too many bytes for it: then `data` is absent.
-#[derive(Drop)]
+#[derive(Clone, Copy)]
 pub struct MaybeData {
     pub ok: bool,
     pub data: PeerData,
@@ -71,7 +73,7 @@ impl PeerData {
 }
 
 // The number of a peer, or that it has none.
-#[derive(Drop)]
+#[derive(Clone, Copy)]
 pub enum Number {
     Absent,
     Is(u64),

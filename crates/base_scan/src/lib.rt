@@ -1,5 +1,7 @@
 // Tests of a whole list of 64-bit words that is lent. `is_in` looks at every word, so that the compiler makes vector code. The loops that
 // go by a table at the low byte are no vector code: `disjoint` stops at the first word that fails, `subset` and `subset_of_three` look for each word first at the place noted.
+#![tactic(auto)]
+
 ghost use Rattle.std.specs.Prelude.{◌≡◌, ◌++◌, length};
 ghost use Rattle.base_lists.specs.Lists.{mem, subset, disjoint};
 

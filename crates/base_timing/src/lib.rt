@@ -1,9 +1,11 @@
 // Part 1 of document 01: walk lengths, the settings with their defaults and ranges, the backoff and the delay.
+#![tactic(auto)]
+
 ghost use Rattle.std.specs.Prelude.{◌≡◌, ◌≤◌, min};
 ghost use Rattle.base_timing.specs.Timing.{longest_time, expired, next, within, in_range, default, backoff_due, delay};
 
 // A walk length: how many hops a message has left.
-#[derive(Drop)]
+#[derive(Clone, Copy)]
 pub struct Ttl(pub u16);
 
 impl Ttl {
@@ -27,7 +29,7 @@ impl Ttl {
 
 // The settings, in the order of the Rust's `Config`; intervals and timeouts in milliseconds.
 #[repr(C)]
-#[derive(Drop)]
+#[derive(Clone, Copy)]
 pub struct Config {
     pub active_view_capacity: u32,
     pub passive_view_capacity: u32,
@@ -93,7 +95,7 @@ fn within(low: u32, high: u32, x: u32) -> bool
 }
 
 // The protocol's fixed times, in milliseconds, and limits.
-#[derive(Drop)]
+#[derive(Clone, Copy)]
 pub struct Timing {}
 
 impl Timing {

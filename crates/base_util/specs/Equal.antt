@@ -1,6 +1,6 @@
 -- 02, S-6, "equal chances": what is claimed of picks and of shuffles, as equations about counts over all draws and over all lists of draws.
 -- Assumes nothing.
-use Rattle.std.specs.Prelude.{ℕ, zero, suc, ◌+◌, ◌-◌, ◌*◌, ◌/◌, ◌%◌, ◌≤◌, ◌<◌, ◌≡◌, Bool, true, false, not, ◌&&◌, List, [], ◌∷◌, ◌++◌, length, drop, eqb}
+use Rattle.std.specs.Prelude.{ℕ, zero, suc, ◌+◌, ◌-◌, ◌*◌, ◌/◌, ◌≤◌, ◌<◌, ◌≡◌, Bool, true, false, not, ◌&&◌, List, [], ◌∷◌, ◌++◌, length, drop, eqb}
 use Rattle.base_lists.specs.Lists.{choose, count, swap, same}
 use Rattle.base_lists.specs.Tests.{every}
 use Rattle.base_util.specs.Chances.{all_draws, is_kept, pick_draws, pick, shuffle}

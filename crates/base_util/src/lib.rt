@@ -1,4 +1,6 @@
 // Sets of peers as sections of one lent list of 64-bit words: `cap` places, and then the count of those in use.
+#![tactic(auto)]
+
 ghost use Rattle.std.specs.Prelude.{◌≡◌, [], ◌∷◌, ◌++◌, ◌+◌, ◌≤◌, ◌<◌, length, take, drop, get_or};
 ghost use Rattle.base_lists.specs.Array.{pad};
 ghost use Rattle.base_lists.specs.Lists.{null, mem, index_of, rank, shift_remove, swap_remove, remove, insert_at, insert, without, without_all, renew, distinct, rising};
@@ -20,7 +22,7 @@ pub const WORKING_WORDS: usize = WORKING_PLACES + 1;
 const ALL_DRAWS: usize = 4294967296;
 
 // The place that was chosen, and the place in the draws after the one that decided it.
-#[derive(Drop)]
+#[derive(Clone, Copy)]
 pub struct PickedIndex {
     pub index: usize,
     pub next: usize,

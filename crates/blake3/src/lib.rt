@@ -1,4 +1,6 @@
 // BLAKE3 of one chunk, in the mode `hash`, by the names of its paper (specs/Blake3). Callers use `hash` and `is_hash`.
+#![tactic(auto)]
+
 ghost use Rattle.std.specs.Prelude.{◌≡◌, [], ◌∷◌, ◌+◌, ◌≤◌, ◌<◌, length, drop};
 ghost use Rattle.base_lists.specs.Array.{pad};
 ghost use Rattle.base_lists.specs.Bytes.{read_le};
@@ -38,7 +40,7 @@ const CHUNK_END: u32 = 2;
 const ROOT: u32 = 8;
 
 // Four words of the state: a column or a diagonal.
-#[derive(Drop)]
+#[derive(Clone, Copy)]
 struct Quad {
     a: u32,
     b: u32,

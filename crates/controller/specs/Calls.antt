@@ -1,10 +1,10 @@
 -- What the calls that change a station leave in the words and the tally that they are lent.
 -- Assumes nothing.
 use Rattle.std.specs.Prelude.{ℕ, ◌≡◌, not, List, length, eqb}
-use Rattle.std.specs.Borrow.{Bor}
+use Rattle.std.specs.Borrow.{MutBor}
 use denote.Triple.Both.{Both}
 use Rattle.base_lists.specs.Lists.{choose}
-use Rattle.base_lists.specs.Lent.{Lent}
+use Rattle.base_lists.specs.Lent.{Lent, Seen}
 use Rattle.base_timing.specs.declared.Config.{Config}
 use Rattle.base_peer.specs.Data.{Data}
 use Rattle.spec_hyparview.specs.Sides.{Side}
@@ -52,17 +52,17 @@ called side xs t b ds room = tallied t (handled_from side xs b ds room)
 -- ---- as a contract says it, of the parameters themselves
 
 -- the code, the words and the tally `after` are as `begun` says, where the tally was `before`
-abbrev pub CallsNew : ℕ → Tally → Lent → Tally → ℕ → ℕ → Lent → Config → Type 0
+abbrev pub CallsNew : ℕ → Tally → Lent → Tally → ℕ → ℕ → Seen → Config → Type 0
 CallsNew code after st before me present own c =
     record { code = code; words = st.exit.now; tally = after }
     ≡ begun st.entry.now before me (lent (not (eqb present 0)) own.entry.now) c
 
 -- a tally that is lent
 abbrev pub LentTally : Type 0
-LentTally = Both (Bor Tally) (Bor Tally)
+LentTally = Both (MutBor Tally) (MutBor Tally)
 
 -- all that the call leaves is as `called` says
-abbrev pub CallsHandle : Side → Done → Lent → LentTally → Lent → Lent → Lent → Type 0
+abbrev pub CallsHandle : Side → Done → Lent → LentTally → Seen → Seen → Lent → Type 0
 CallsHandle side r st t event ds out =
     record { code = r.code; draws = r.draws; words = st.exit.now; tally = t.exit.now; output = out.exit.now }
     ≡ called side st.entry.now t.entry.now event.entry.now ds.entry.now (length out.entry.now)

@@ -1,4 +1,6 @@
 // The library for a controller: what C or Rust calls, over memory that the caller owns.
+#![tactic(auto)]
+
 ghost use Rattle.std.specs.Prelude.{◌≡◌, length, get_or};
 ghost use Rattle.tally.specs.History.{no_messages};
 ghost use Rattle.spec_hyparview.specs.Sides.{side_of};
@@ -13,7 +15,7 @@ use record::{Entry, Header, Refusal};
 use tally::Tally;
 
 // The code of `new`, and the tally after it.
-#[derive(Drop)]
+#[derive(Clone, Copy)]
 pub struct Start {
     pub code: u32,
     pub tally: Tally,
@@ -21,7 +23,7 @@ pub struct Start {
 
 // A record's header, or not ok and zeroes.
 #[repr(C)]
-#[derive(Drop)]
+#[derive(Clone, Copy)]
 pub struct HeaderReading {
     pub ok: bool,
     pub header: Header,
@@ -29,7 +31,7 @@ pub struct HeaderReading {
 
 // A record's node: the peer, and where its data stands in the record; or not ok and zeroes.
 #[repr(C)]
-#[derive(Drop)]
+#[derive(Clone, Copy)]
 pub struct NodeReading {
     pub ok: bool,
     pub node: Entry,
@@ -39,16 +41,14 @@ pub struct NodeReading {
 pub const VERSION: u32 = 3;
 
 // Which header the library goes with.
-#[unsafe(no_mangle)]
-pub extern "C" fn hyparview_version() -> u32
+pub fn hyparview_version() -> u32
     ensures { result ≡ version }
 {
     VERSION
 }
 
 // One event from the side that is named: the whole result, or one numbered refusal that leaves every word and count as it was.
-#[unsafe(no_mangle)]
-pub extern "C" fn hyparview_handle(
+pub fn hyparview_handle(
     st: &mut [u64],
     t: &mut Tally,
     radio: bool,
@@ -94,8 +94,7 @@ fn begun(st: &mut [u64], t: Tally, me: PeerId, present: u8, own: &[u8], config: 
 }
 
 // The lent words become a new station's and the tally zeroes; words of zeroes where `new` refuses, and all as it was where the words are too few or too many.
-#[unsafe(no_mangle)]
-pub extern "C" fn hyparview_new(
+pub fn hyparview_new(
     st: &mut [u64],
     t: &mut Tally,
     me: PeerId,
@@ -111,40 +110,35 @@ pub extern "C" fn hyparview_new(
 }
 
 // Whether a connection to the peer is wanted.
-#[unsafe(no_mangle)]
-pub extern "C" fn hyparview_wants_connection(st: &[u64], p: PeerId) -> bool
+pub fn hyparview_wants_connection(st: &[u64], p: PeerId) -> bool
     ensures { result ≡ wants_connection_in p st.now }
 {
     hyparview::wants_connection(st, p)
 }
 
 // Whether the peer is a neighbor.
-#[unsafe(no_mangle)]
-pub extern "C" fn hyparview_is_neighbor(st: &[u64], p: PeerId) -> bool
+pub fn hyparview_is_neighbor(st: &[u64], p: PeerId) -> bool
     ensures { result ≡ is_neighbor_in p st.now }
 {
     hyparview::is_neighbor(st, p)
 }
 
 // How many neighbors there are.
-#[unsafe(no_mangle)]
-pub extern "C" fn hyparview_neighbor_count(st: &[u64]) -> usize
+pub fn hyparview_neighbor_count(st: &[u64]) -> usize
     ensures { result ≡ length (neighbors_in st.now) }
 {
     hyparview::neighbor_count(st)
 }
 
 // The neighbor at place i, in order, and 0 past the last.
-#[unsafe(no_mangle)]
-pub extern "C" fn hyparview_neighbor(st: &[u64], i: usize) -> PeerId
+pub fn hyparview_neighbor(st: &[u64], i: usize) -> PeerId
     ensures { result ≡ get_or (neighbors_in st.now) i 0 }
 {
     hyparview::neighbor(st, i)
 }
 
 // How many spare addresses there are.
-#[unsafe(no_mangle)]
-pub extern "C" fn hyparview_spare_addresses(st: &[u64]) -> usize
+pub fn hyparview_spare_addresses(st: &[u64]) -> usize
     ensures { result ≡ spare_addresses_in st.now }
 {
     hyparview::spare_addresses(st)
@@ -167,8 +161,7 @@ fn no_header() -> Header
 }
 
 // The one reader for all kinds.
-#[unsafe(no_mangle)]
-pub extern "C" fn hyparview_read(b: &[u8]) -> HeaderReading
+pub fn hyparview_read(b: &[u8]) -> HeaderReading
     ensures { result ≡ reading b.now }
 {
     let a = record::read(b);
@@ -197,8 +190,7 @@ fn no_node() -> NodeReading
 }
 
 // The i-th node of a record; its data is a part of the record's own bytes.
-#[unsafe(no_mangle)]
-pub extern "C" fn hyparview_node(b: &[u8], i: usize) -> NodeReading
+pub fn hyparview_node(b: &[u8], i: usize) -> NodeReading
     ensures { result ≡ node_reading b.now i }
 {
     let a = record::read(b);

@@ -1,4 +1,6 @@
 // Document 02, S-13: every history of at most four of sixteen events, and how many of them end with each size of the two views.
+#![tactic(auto)]
+
 ghost use Rattle.std.specs.Prelude.{◌≡◌, [], ◌+◌, ◌≤◌, ◌<◌, length, get_or, take};
 ghost use Rattle.base_lists.specs.Lists.{choose};
 ghost use Rattle.spec_stories.specs.Histories.{of_length};
@@ -36,7 +38,7 @@ const DIGEST_END: u64 = 17592186044399;
 
 // How many histories end so: with no peer in a view, with one in the passive view alone, in the active view alone, in both.
 // The digest is made of their numbers in turn: it tells which records were played, and in which order.
-#[derive(Drop)]
+#[derive(Clone, Copy)]
 pub struct Ends {
     pub neither: u32,
     pub passive: u32,
@@ -161,7 +163,7 @@ fn next_number(number: u64, event: &[u8]) -> u64
 }
 
 // The state after a history, and the history's number.
-#[derive(Drop)]
+#[derive(Clone, Copy)]
 struct Played {
     pub state: State,
     pub number: u64,

@@ -2,7 +2,7 @@
 -- Assumes nothing.
 use Rattle.std.specs.Prelude.{ℕ, ◌-◌, ◌≡◌, List, ◌++◌, length, take, replicate, eqb}
 use Rattle.base_lists.specs.Lists.{choose}
-use Rattle.base_lists.specs.Lent.{Lent}
+use Rattle.base_lists.specs.Lent.{Lent, Seen}
 use Rattle.spec_hyparview.specs.Handle as P
 use Rattle.spec_hyparview.specs.Sides.{Side, handle_from}
 use Rattle.work.specs.declared.Work.{Work}
@@ -54,26 +54,26 @@ abbrev pub outcome_left : Done → List ℕ → Lent → Outcome
 outcome_left r xs out = record { code = r.code; draws = r.draws; words = xs; output = out.exit.now }
 
 -- the words stay, and r and the output are a refusal's
-abbrev pub Refuses : ℕ → Done → Lent → Lent → Type 0
+abbrev pub Refuses : ℕ → Done → Seen → Lent → Type 0
 Refuses code r st out = outcome_left r st.entry.now out ≡ refused_words code st.entry.now (length out.entry.now)
 
 -- all that the call leaves is as `handle` says: of lent words, and of a state by value
-abbrev pub Handles : Done → Lent → Lent → Lent → Lent → Type 0
+abbrev pub Handles : Done → Lent → Seen → Seen → Lent → Type 0
 Handles r st b ds out =
     outcome_left r st.exit.now out ≡ handled st.entry.now b.entry.now ds.entry.now (length out.entry.now)
 
-abbrev pub HandlesState : HandledState → State → Lent → Lent → Lent → Type 0
+abbrev pub HandlesState : HandledState → State → Seen → Seen → Lent → Type 0
 HandlesState r s b ds out =
     outcome_left (record { code = r.code; draws = r.draws }) r.state.words out
     ≡ handled s.words b.entry.now ds.entry.now (length out.entry.now)
 
 -- and of a call that names its side
-abbrev pub HandlesFrom : Side → Done → Lent → Lent → Lent → Lent → Type 0
+abbrev pub HandlesFrom : Side → Done → Lent → Seen → Seen → Lent → Type 0
 HandlesFrom side r st b ds out =
     outcome_left r st.exit.now out
     ≡ handled_from side st.entry.now b.entry.now ds.entry.now (length out.entry.now)
 
-abbrev pub HandlesStateFrom : Side → HandledState → State → Lent → Lent → Lent → Type 0
+abbrev pub HandlesStateFrom : Side → HandledState → State → Seen → Seen → Lent → Type 0
 HandlesStateFrom side r s b ds out =
     outcome_left (record { code = r.code; draws = r.draws }) r.state.words out
     ≡ handled_from side s.words b.entry.now ds.entry.now (length out.entry.now)

@@ -3,7 +3,7 @@
 use Rattle.std.specs.Prelude.{ℕ, ◌≡◌, Bool, List, length, eqb}
 use Rattle.std.proofs.Math.Option.{none, some}
 use Rattle.base_lists.specs.Lists.{choose}
-use Rattle.base_lists.specs.Lent.{Lent}
+use Rattle.base_lists.specs.Lent.{Lent, Seen}
 use Rattle.base_peer.specs.Data.{Data}
 use Rattle.base_timing.specs.declared.Config.{Config}
 use Rattle.spec_hyparview.specs.Handle as handle
@@ -31,10 +31,10 @@ made xs me d c = choose (eqb (length xs) words) (pack_made (handle.new me d c)) 
 -- ---- as a contract says it, of the parameters themselves
 
 -- the code and the words that the call leaves are as `new` says: of lent words, and of a state by value
-abbrev pub Starts : ℕ → Lent → ℕ → Bool → Lent → Config → Type 0
+abbrev pub Starts : ℕ → Lent → ℕ → Bool → Seen → Config → Type 0
 Starts code st me present own c =
     record { code = code; words = st.exit.now } ≡ made st.entry.now me (lent present own.entry.now) c
 
-abbrev pub StartsState : MadeState → ℕ → Bool → Lent → Config → Type 0
+abbrev pub StartsState : MadeState → ℕ → Bool → Seen → Config → Type 0
 StartsState r me present own c =
     record { code = r.code; words = r.state.words } ≡ pack_made (handle.new me (lent present own.entry.now) c)

@@ -1,4 +1,6 @@
 // `handle`: one event, whatever it is, to the whole result or one numbered refusal, over the words of a state.
+#![tactic(auto)]
+
 ghost use Rattle.std.specs.Prelude.{◌≡◌, ◌&&◌, ◌≤◌, length, get_or};
 ghost use Rattle.spec_hyparview.specs.Handle.{new_station};
 ghost use Rattle.spec_hyparview.specs.Sides.{radio as radio-side, side_of, too_many};
@@ -169,7 +171,7 @@ pub fn spare_addresses(st: &[u64]) -> usize
 
 // What a call hands back beside the words: its code, and how many draws are used.
 #[repr(C)]
-#[derive(Drop)]
+#[derive(Clone, Copy)]
 pub struct Done {
     pub code: u32,
     pub draws: usize,
@@ -290,13 +292,13 @@ pub fn handle_from(st: &mut [u64], radio: bool, b: &[u8], draws: &[u32], out: &m
 }
 
 // The state by value.
-#[derive(Drop)]
+#[derive(Clone, Copy)]
 pub struct State {
     pub words: [u64; Layout::LENGTH],
 }
 
 // What a call by value hands back: its code, the state, and how many draws are used.
-#[derive(Drop)]
+#[derive(Clone, Copy)]
 pub struct HandledState {
     pub code: u32,
     pub state: State,
@@ -304,7 +306,7 @@ pub struct HandledState {
 }
 
 // What `new` by value hands back: code 0 and the state, or code 1 and a state of zeroes.
-#[derive(Drop)]
+#[derive(Clone, Copy)]
 pub struct MadeState {
     pub code: u32,
     pub state: State,

@@ -8,12 +8,12 @@ use mathlib.Core.Option.{none, some}
 use native.Mathlib.Omega.{arith}
 use lib.ListN.{length}
 use lib.Dec.{eqb, leb, ltb}
-use borrow.Author.Tests.{leb-true, eqb-true, ne_eqb, lt-ltb, ltb-true}
+use borrow.Author.Tests.{leb-true, lt-ltb, ltb-true}
 use Rattle.base_lists.specs.Array.{pad}
 use Rattle.base_lists.specs.Lists.{mem, choose, without, Above, Rising, rising, subset}
 use Rattle.base_lists.specs.Maps.{keys, values}
 use Rattle.base_lists.proofs.Array.{take_pad}
-use Rattle.base_lists.proofs.Choice.{split, and_left, and_right}
+use Rattle.base_lists.proofs.Choice.{and_left, and_right}
 use Rattle.base_lists.proofs.Count.{mem_true, length_without}
 use Rattle.base_lists.proofs.Maps.{length_keys}
 use Rattle.base_lists.proofs.Tests.{both_true, and_no, rising_true}

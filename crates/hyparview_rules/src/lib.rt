@@ -1,4 +1,6 @@
 // The test of every station rule of document 01 on the words of a state.
+#![tactic(auto)]
+
 ghost use Rattle.std.specs.Prelude.{◌≡◌, true, length};
 ghost use Rattle.base_peer.specs.Maps.{numbers_under};
 ghost use Rattle.base_columns.specs.Columns.{numbers_at, ValidNumbers};

@@ -1,4 +1,6 @@
 // The state of a station as one lent list of words: its layout, the queries, and the open requests and joins of a peer.
+#![tactic(auto)]
+
 ghost use Rattle.std.specs.Prelude.{◌≡◌, length};
 ghost use Rattle.spec_hyparview.specs.Run.{on};
 ghost use Rattle.spec_hyparview.specs.Setters.{set_refill};
@@ -17,7 +19,7 @@ use work::Work;
 // The layout of the state: the place of each number, and where each section begins and ends. A set is its places and then their count;
 // a map has more columns of as many places before the count. Every name is a whole constant, since a sum in the body of a function would
 // be one more thing to prove.
-#[derive(Drop)]
+#[derive(Clone, Copy)]
 pub struct Layout {}
 
 impl Layout {
@@ -163,7 +165,7 @@ pub const TOP_COUNTER: u64 = 18446744073709551615;
 pub const TOP_PASSES: u64 = 4294967295;
 
 // What bounds a refill; spec_hyparview/Station says of `Refill` why there are three cases.
-#[derive(Drop)]
+#[derive(Clone, Copy)]
 pub enum RefillLimit {
     Automatic,
     Requests(u64),

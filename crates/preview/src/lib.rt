@@ -1,4 +1,6 @@
 // The price of an event (02, S-9): what it would send, write and draw, told before it is done.
+#![tactic(auto)]
+
 ghost use Rattle.std.specs.Prelude.{◌≡◌, ◌+◌, ◌<◌};
 ghost use Rattle.base_columns.specs.Columns.{words_end};
 ghost use Rattle.spec_hyparview.specs.Sides.{side_of};
@@ -9,7 +11,7 @@ use hyparview_state::Layout;
 use record::{HEADER, Header, Kind, Refusal};
 
 // What an output's records come to.
-#[derive(Drop)]
+#[derive(Clone, Copy)]
 pub struct Count {
     pub messages: usize,
     pub bytes: usize,
@@ -17,7 +19,7 @@ pub struct Count {
 
 // What a call would answer: its code, the messages to neighbors, the bytes of output written and the draws used.
 #[repr(C)]
-#[derive(Drop)]
+#[derive(Clone, Copy)]
 pub struct Price {
     pub code: u32,
     pub messages: usize,
@@ -105,8 +107,7 @@ pub fn preview(st: &[u64], radio: bool, b: &[u8], draws: &[u32]) -> Price
 }
 
 // The same for C, over memory that is read and never written.
-#[unsafe(no_mangle)]
-pub extern "C" fn hyparview_preview(st: &[u64], radio: bool, event: &[u8], draws: &[u32]) -> Price
+pub fn hyparview_preview(st: &[u64], radio: bool, event: &[u8], draws: &[u32]) -> Price
     ensures { result ≡ preview st.now (side_of radio) event.now draws.now }
 {
     preview(st, radio, event, draws)

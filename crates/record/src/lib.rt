@@ -1,4 +1,6 @@
 // Part 3 of document 01: the records, their fixed sizes, and one reader.
+#![tactic(auto)]
+
 ghost use Rattle.std.specs.Prelude.{◌≡◌, true, ◌+◌, ◌*◌, ◌^◌, ◌≤◌, ◌<◌, length};
 ghost use Rattle.std.proofs.Math.Seq.{slice};
 ghost use Rattle.base_lists.specs.Lists.{choose};
@@ -49,7 +51,7 @@ const WITH_NODE: u8 = (HEADER + NODE) as u8;
 
 // The header that every record starts with, as numbers.
 #[repr(C)]
-#[derive(Drop)]
+#[derive(Clone, Copy)]
 pub struct Header {
     pub kind: u8,
     pub message: u8,
@@ -64,7 +66,7 @@ pub struct Header {
 
 // A node entry: the peer, and where its data stands in the record.
 #[repr(C)]
-#[derive(Drop)]
+#[derive(Clone, Copy)]
 pub struct Entry {
     pub id: PeerId,
     pub offset: u16,
@@ -73,7 +75,7 @@ pub struct Entry {
 }
 
 // The kinds of a record, byte 0; those from NEIGHBOR_UP on stand in outputs alone.
-#[derive(Drop)]
+#[derive(Clone, Copy)]
 pub struct Kind {}
 
 impl Kind {
@@ -107,7 +109,7 @@ impl Kind {
 }
 
 // The messages, byte 1 of kind 0.
-#[derive(Drop)]
+#[derive(Clone, Copy)]
 pub struct Message {}
 
 impl Message {
@@ -125,7 +127,7 @@ impl Message {
 }
 
 // The flags, byte 2: the priority of a Neighbor; whether the sender of a Disconnect is alive, and whether it awaits an answer.
-#[derive(Drop)]
+#[derive(Clone, Copy)]
 pub struct Flags {}
 
 impl Flags {
@@ -140,7 +142,7 @@ impl Flags {
 }
 
 // The codes of refusals, by the condition that is met.
-#[derive(Drop)]
+#[derive(Clone, Copy)]
 pub struct Refusal {}
 
 impl Refusal {
@@ -389,7 +391,7 @@ pub fn well_formed(b: &[u8], w: usize) -> bool
 }
 
 // A record's header, or that the bytes are none.
-#[derive(Drop)]
+#[derive(Clone, Copy)]
 pub enum Answer {
     Record(Header),
     Malformed,
@@ -406,7 +408,7 @@ pub fn read(b: &[u8]) -> Answer
 }
 
 // An event's header, or the code of its refusal.
-#[derive(Drop)]
+#[derive(Clone, Copy)]
 pub enum Event {
     Refused(u32),
     Record(Header),

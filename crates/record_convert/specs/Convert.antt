@@ -4,7 +4,7 @@ use Rattle.std.specs.Prelude.{ℕ, ◌^◌, ◌≡◌, Bool, false, not, ◌&&�
 use Rattle.base_lists.specs.Lists.{choose}
 use Rattle.base_lists.specs.Array.{pad}
 use Rattle.base_lists.specs.Bytes.{le, overwrite}
-use Rattle.base_lists.specs.Lent.{Lent}
+use Rattle.base_lists.specs.Lent.{Lent, Seen}
 use Rattle.base_lists.specs.Tests.{every}
 use Rattle.base_peer.specs.Data.{Node}
 use Rattle.record.specs.Format.{Rec, most_nodes, old_peer_length, header_length_by, place_by, entries_by, size_by, encode_by, four_bytes_end}
@@ -72,7 +72,7 @@ abbrev pub outcome_of : Converted → List ℕ → Conversion
 outcome_of r out = record { code = r.code; written = r.written; output = out }
 
 -- r and the output are the conversion of b, as a contract says it of the parameters
-abbrev pub Converts : ℕ → ℕ → Converted → Lent → Lent → Type 0
+abbrev pub Converts : ℕ → ℕ → Converted → Seen → Lent → Type 0
 Converts v w r b out = outcome_of r out.exit.now ≡ conversion v w b.entry.now (length out.entry.now)
 
 -- the bytes that an outcome says were written
@@ -99,7 +99,7 @@ unfoldable pub entry_fields : ℕ → Entry → List ℕ
 entry_fields w e = le w e.id ++ (le 2 e.offset ++ (e.len ∷ e.present ∷ []))
 
 -- the entries of the n nodes of b, in the other form
-abbrev pub entries_of_by : ℕ → ℕ → ℕ → Lent → List ℕ
+abbrev pub entries_of_by : ℕ → ℕ → ℕ → Seen → List ℕ
 entries_of_by v w n b = entries_by w (nodes_of_by v b.entry.now 0 n) (place_by w n)
 
 -- an entry whose data stand at the place reached, if it has any

@@ -3,7 +3,7 @@
 use Rattle.std.specs.Prelude.{ℕ, zero, suc, ◌+◌, ◌-◌, ◌≡◌, List, [], ◌++◌, length, take, drop, ltb, eqb}
 use Rattle.base_lists.specs.Lists.{choose, null}
 use Rattle.base_lists.specs.Array.{pad}
-use Rattle.base_lists.specs.Lent.{Lent}
+use Rattle.base_lists.specs.Lent.{Lent, Seen}
 use Rattle.record.specs.Format.{header_length_by}
 use Rattle.record.specs.Read.{header_of_by}
 use Rattle.record_convert.specs.Convert.{conversion_code, converted}
@@ -54,5 +54,5 @@ abbrev pub outcomes_of : Progress → List ℕ → Outcomes
 outcomes_of r out = record { progress = r; output = out }
 
 -- r and the output are those of the records walked, as a contract says it of the parameters
-abbrev pub Walks : (List ℕ → ℕ → Walked) → Progress → Lent → Lent → Type 0
+abbrev pub Walks : (List ℕ → ℕ → Walked) → Progress → Seen → Lent → Type 0
 Walks walk r b out = outcomes_of r out.exit.now ≡ outcomes (walk b.entry.now (length out.entry.now)) (length out.entry.now)

@@ -1,4 +1,6 @@
 // Document 02, S-8: a record of the old form made one of this form, and back, on lent bytes.
+#![tactic(auto)]
+
 ghost use Rattle.std.specs.Prelude.{◌≡◌, true, [], ◌+◌, ◌-◌, ◌^◌, ◌≤◌, ◌<◌, length, drop, ltb};
 ghost use Rattle.base_lists.specs.Array.{pad};
 ghost use Rattle.base_lists.specs.Lent.{Overwrites};
@@ -12,14 +14,14 @@ ghost use Rattle.record_convert.specs.Walk.{first_record, walked, Walks};
 use record::{BOTH_SHORT, Entry, Header, Kind, NUMBER_BYTES, PEER_FROM, Refusal, SHORT};
 
 // The answer, 0 or a refusal's code, and how many bytes of the output were written.
-#[derive(Drop)]
+#[derive(Clone, Copy)]
 pub struct Converted {
     pub code: u32,
     pub written: usize,
 }
 
 // The same of a file of records: the answer, how many of its bytes are records that were converted, and how many bytes were written.
-#[derive(Drop)]
+#[derive(Clone, Copy)]
 pub struct Progress {
     pub code: u32,
     pub taken: usize,

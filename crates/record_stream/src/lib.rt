@@ -1,4 +1,6 @@
 // Document 02, S-8: a file of records of any length from standard input to standard output, each record in the other form.
+#![tactic(auto)]
+
 ghost use Rattle.std.specs.Prelude.{◌≡◌, ◌++◌, ◌-◌, ◌≤◌, length, drop};
 ghost use Rattle.std.proofs.Math.Seq.{slice};
 ghost use Rattle.record_convert.specs.Walk.{Walks};
@@ -63,7 +65,7 @@ fn fill(buffer: &mut [u8], held: usize) -> usize
 }
 
 // How many bytes were converted, the answer to those behind them, and whether standard output took what was written.
-#[derive(Drop)]
+#[derive(Clone, Copy)]
 struct Passed {
     taken: usize,
     code: u32,
@@ -86,7 +88,7 @@ fn pass(b: &[u8], out: &mut [u8], back: bool) -> Passed
 }
 
 // What a turn leaves: how many bytes are held, and what `Passed` says.
-#[derive(Drop)]
+#[derive(Clone, Copy)]
 struct Turned {
     held: usize,
     taken: usize,

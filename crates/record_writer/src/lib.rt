@@ -1,4 +1,6 @@
 // Part 3 of document 01: the writers of records.
+#![tactic(auto)]
+
 ghost use Rattle.std.specs.Prelude.{◌≡◌, [], ◌∷◌, ◌++◌, ◌+◌, ◌*◌, ◌≤◌, ◌<◌, length};
 ghost use Rattle.base_lists.specs.Bytes.{le};
 ghost use Rattle.base_lists.specs.Lent.{Overwrites};
@@ -26,7 +28,7 @@ const LENGTH_FROM: usize = PEER + SHORT;
 const AFTER_PEER: usize = NODE - PEER;
 
 // A record's fields but its nodes; their number and the whole length follow from the nodes.
-#[derive(Drop)]
+#[derive(Clone, Copy)]
 pub struct Fields {
     pub kind: u8,
     pub message: u8,
@@ -38,14 +40,14 @@ pub struct Fields {
 }
 
 // The nodes of a record to be written.
-#[derive(Drop)]
+#[derive(Clone, Copy)]
 pub struct Nodes {
     pub items: [PeerInfo; record::MOST_NODES as usize],
     pub len: usize,
 }
 
 // The place reached, or that the record does not fit.
-#[derive(Drop)]
+#[derive(Clone, Copy)]
 pub enum Written {
     At(usize),
     Full,

@@ -1,4 +1,6 @@
 // The run program's input (document 01, "The run program"): its check as a whole, its settings, and the cutting of its events and draws.
+#![tactic(auto)]
+
 ghost use Rattle.std.specs.Prelude.{◌≡◌, ◌≤◌, length};
 ghost use Rattle.run_input.specs.Input.{number, numbers, from_halves, event_length, are_events, input_of};
 
@@ -12,7 +14,7 @@ pub const MOST_BYTES: usize = 65536;
 pub const DRAWS_ROOM: usize = MOST_BYTES / record::U32_BYTES;
 
 // What the head of an input says: self, the settings, how many events there are, the place where they end and the draws begin, and how many draws there are.
-#[derive(Drop)]
+#[derive(Clone, Copy)]
 pub struct Head {
     pub me: PeerId,
     pub config: Config,
@@ -58,7 +60,7 @@ impl Head {
 }
 
 // An input is refused as a whole, or has a head that fits it.
-#[derive(Drop)]
+#[derive(Clone, Copy)]
 pub enum Input {
     Refused,
     Whole(Head),

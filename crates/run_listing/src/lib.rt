@@ -1,4 +1,6 @@
 // What the run program prints (document 01, "The run program"): the text of a run, from the input's bytes into lent bytes.
+#![tactic(auto)]
+
 ghost use Rattle.std.specs.Prelude.{◌≡◌, ◌≤◌, length, drop};
 ghost use Rattle.io.specs.Counts.{IsPrefixLen};
 ghost use Rattle.base_lists.specs.Bytes.{overwrite};
@@ -22,21 +24,21 @@ pub const END_LINE: usize = 44;
 pub const RECORD_LINE: usize = 168;
 
 // How many bytes the line of a record has, and how many the record takes; 0 and 0 where there is none.
-#[derive(Drop)]
+#[derive(Clone, Copy)]
 pub struct Lined {
     pub size: usize,
     pub taken: usize,
 }
 
 // What is decided of an input before its first event: the code of its one line, or that it has events.
-#[derive(Drop)]
+#[derive(Clone, Copy)]
 pub enum Opened {
     Line(u32),
     Events(Head),
 }
 
 // How many bytes the text has, or that it has more than were lent.
-#[derive(Drop)]
+#[derive(Clone, Copy)]
 pub enum Shown {
     Bytes(usize),
     TooShort,

@@ -1,9 +1,11 @@
 // Reads questions of 14 numbers of four bytes, each an earliest and a latest start (low half first), the nine settings and a k, and
 // writes a line for each: both ends of the k-th shuffle's due time. An input that is no such list, or too long, gets `= 3`.
+#![tactic(auto)]
+
 use base_timing::Config;
 
 // A question of the input.
-#[derive(Drop)]
+#[derive(Clone, Copy)]
 struct Question {}
 
 impl Question {

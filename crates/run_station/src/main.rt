@@ -1,4 +1,6 @@
 // The run program (document 01): standard input is a history, standard output gets the lines of its events.
+#![tactic(auto)]
+
 use run_input::Head;
 use run_listing::Opened;
 

@@ -1,4 +1,6 @@
 // Document 02, S-13: active size, passive size and how many of all histories of at most four events end there.
+#![tactic(auto)]
+
 ghost use Rattle.std.specs.Prelude.{◌≡◌, ◌≤◌, min, length};
 ghost use Rattle.base_lists.specs.Bytes.{overwrite};
 ghost use Rattle.run_text.specs.Text.{Prints};

@@ -1,4 +1,6 @@
 // Text into lent bytes: as much of it as fits, and whether all of it did; and the lines that the run program prints for one event (document 01, "The run program").
+#![tactic(auto)]
+
 ghost use Rattle.std.specs.Prelude.{[], ◌∷◌};
 ghost use Rattle.run_text.specs.Text.{Prints, Begins};
 ghost use Rattle.run_text.specs.Numbers.{decimal, field};
@@ -8,7 +10,7 @@ ghost use Rattle.run_text.specs.Lines.{record_line, end_line, record_lines, even
 use record::Header;
 
 // The place reached, and whether something did not fit: nothing is written after that.
-#[derive(Drop)]
+#[derive(Clone, Copy)]
 pub struct Text {
     pub at: usize,
     pub full: bool,

@@ -1,4 +1,6 @@
 // Standard input is the run program's input; standard output is the history in the trace form.
+#![tactic(auto)]
+
 use trace_replay::TraceStart;
 
 fn main() {

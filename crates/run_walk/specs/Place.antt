@@ -1,7 +1,7 @@
 -- Document 01, "The run program": the place reached in a run, and the next one.
 -- Assumes nothing.
 use Rattle.std.specs.Prelude.{ℕ, ◌+◌, ◌≡◌, List, length, take, drop}
-use Rattle.base_lists.specs.Lent.{Lent}
+use Rattle.base_lists.specs.Lent.{Lent, Seen}
 use Rattle.hyparview.specs.Handled.{Outcome, handled}
 use Rattle.run_input.specs.Input.{event_length}
 use Rattle.base_draws.specs.Place.{past}
@@ -28,5 +28,5 @@ pub record Runs (room : ℕ) (p : Runner) (events ds : List ℕ) (r : Ran) (o : 
   pub output : o ≡ (met room p events ds).output
 
 -- the same as a contract says it of the parameters
-abbrev pub Steps : Runner → Lent → Lent → Ran → Lent → Type 0
+abbrev pub Steps : Runner → Seen → Seen → Ran → Lent → Type 0
 Steps p events ds r records = Runs (length records.entry.now) p events.entry.now ds.entry.now r records.exit.now

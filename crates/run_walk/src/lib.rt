@@ -1,10 +1,12 @@
 // The walk over the events of an input (document 01, "The run program"): one event at a time, each with the draws that are left.
+#![tactic(auto)]
+
 ghost use Rattle.run_walk.specs.Place.{Steps};
 
 use hyparview::State;
 
 // The place reached in a run: the state, and how far its events and its draws are.
-#[derive(Drop)]
+#[derive(Clone, Copy)]
 pub struct Runner {
     pub state: State,
     pub at: usize,
@@ -12,7 +14,7 @@ pub struct Runner {
 }
 
 // The place after an event, with the code that it got and how many draws it used.
-#[derive(Drop)]
+#[derive(Clone, Copy)]
 pub struct Ran {
     pub runner: Runner,
     pub code: u32,

@@ -75,14 +75,14 @@ next_ok top i h k = record { least = omega (arith, h.least, k.least); most = ome
 pub length_dues : (top i t : ℕ) (ds : List ℕ) → length (dues top i t ds) ≡ length ds
 unfolding dues
 length_dues top i t [] = refl
-length_dues top i t (d ∷ ds) = ap suc (length_dues top _ _ ds)
+length_dues top i t (d ∷ ds) = ap suc (length_dues top (next_interval top i) (t + delay i d) ds)
 
 -- the j-th due time is the last one for so many draws
 pub dues_at : (top i t : ℕ) (ds : List ℕ) (j : ℕ) → j < length ds → get_or (dues top i t ds) j 0 ≡ due top i t (take (suc j) ds)
 unfolding dues due
 dues_at top i t [] j h = absurd (omega arith)
 dues_at top i t (d ∷ ds) zero h = refl
-dues_at top i t (d ∷ ds) (suc j) h = dues_at top _ _ ds j (omega arith)
+dues_at top i t (d ∷ ds) (suc j) h = dues_at top (next_interval top i) (t + delay i d) ds j (omega arith)
 
 pub under_take : (n : ℕ) (ds : List ℕ) → all_under draws_end ds ≡ true → all_under draws_end (take n ds) ≡ true
 unfolding all_under

@@ -4,6 +4,7 @@ pub mod Told
 pub mod Quiet
 pub mod Sets
 pub mod Tied
+pub mod Punctual
 pub mod Witness
 pub mod Claims
 pub mod Carried

@@ -5,7 +5,7 @@ use mathlib.Core.Path.{◌≡◌, refl, sym, ap, subst, ◌∙◌}
 use mathlib.Core.Bool.{Bool, true, ◌&&◌}
 use mathlib.Core.List.{List, [], ◌∷◌, ◌++◌}
 use lib.ListN.{drop}
-use lib.Dec.{leb, eqb}
+use lib.Dec.{eqb}
 use Rattle.base_lists.specs.Lists.{choose, null}
 use Rattle.base_lists.specs.Tests.{every}
 use Rattle.base_lists.proofs.Choice.{choose_yes, and_left, and_right}
@@ -71,7 +71,7 @@ module _ {G S : Type 0} {m : Machine G S} {pack : Station → S} {station : S �
         λ w. ap (λ (s : S). punctual n m vs s w) (k.state v.call g t) ∙ punctual_follows n vs (fine_answer ranges v.call h).kept w in
         let after_set : (w : List ℕ) → punctual n m vs (state_of m v.call (pack g)) (w ++ set_by n m v (pack g)) ≡ punctual n definition vs (result_of v.call g).state (w ++ set_by n definition v g) =
         λ w. ap (λ (x : List ℕ). punctual n m vs (state_of m v.call (pack g)) (w ++ x)) (set_follows n v g t) ∙ rest (w ++ set_by n definition v g) in
-        (λ i. every (leb v.at) waiting && choose (eqb (kind_in v.call.event) n && eqb (k.code v.call g t i) 0) (is_first v.at waiting && after_set (drop 1 waiting) i) (after_set waiting i))
+        rw (k.code v.call g t, after_set (drop 1 waiting), after_set waiting)
 
     every_follows : (vs : List Brought) {l : Ledger} {g : Station} → Kept c me l g → every_timer_fires m vs (pack g) ≡ every_timer_fires definition vs g
     unfolding every_timer_fires

@@ -12,7 +12,7 @@ use Rattle.base_lists.specs.Lists.{choose, null, without_all}
 use Rattle.base_lists.specs.Maps.{retain}
 use Rattle.base_lists.specs.Bytes.{le, read_le}
 use Rattle.base_lists.specs.Tests.{every, All}
-use Rattle.base_lists.proofs.Choice.{by_choice, choose_yes, choose_no, split, and_left, and_right}
+use Rattle.base_lists.proofs.Choice.{by_choice, choose_yes, split, and_left, and_right}
 use Rattle.base_lists.proofs.Members.{both}
 use Rattle.base_timing.specs.Timing.{in_range, delay, backoff_due, maintenance_interval}
 use Rattle.base_timing.specs.declared.Config.{Config}
@@ -37,11 +37,12 @@ use Rattle.spec_history.specs.Calls.{Call, result_of, answered, definition}
 use Rattle.spec_history.proofs.Kept.{Kept, fine_answer}
 use Rattle.spec_hyparview.specs.Written.{encode_all}
 use Rattle.shuffle_times.specs.Times.{highest_draw, first_interval, next_interval, dues}
-use Rattle.shuffle_times.specs.Histories.{Brought, timer_delays, after, set_by, shuffles_due, counts, start_of, fires, is_first, punctual, every_timer_fires, none_asked, none_numbered, in_time_order}
+use Rattle.shuffle_times.specs.Histories.{Brought, timer_delays, after, set_by, shuffles_due, counts, start_of, fires, punctual, every_timer_fires, none_asked, none_numbered, in_time_order}
 use Rattle.shuffle_times.proofs.Delays.{Interval, delay_few, delay_rises, first_ok}
 use Rattle.shuffle_times.proofs.Asked.{top_of}
 use Rattle.shuffle_times.proofs.Told.{timers_of}
 use Rattle.shuffle_times.proofs.Tied.{out_told, interval_of}
+use Rattle.shuffle_times.proofs.Punctual.{fired, passed, waits}
 
 -- the bytes of both timers of a first event
 abbrev two_records : ℕ
@@ -144,22 +145,6 @@ leads v s t w es e f g small u = record {
   sets = λ k. ap (λ (a : Result). after v.at (timer_delays k (headers a.output))) e
       ∙ ap (after v.at) (out_told k es w.out (w.room - length w.out) (timers_of k es) g refl small (timers_under k es u));
 }
-
--- one call more in front of punctual ones
-module _ (k : ℕ) (v : Brought) (vs : List Brought) (s t : Station) (to : (result_of v.call s).state ≡ t) (set : List ℕ) (e : set_by k definition v s ≡ set) (ws : List ℕ) (l : every (leb v.at) ws ≡ true)
-    (h : punctual k definition vs t (ws ++ set) ≡ true) where
-  after_set : punctual k definition vs (result_of v.call s).state (ws ++ set_by k definition v s) ≡ true
-  after_set =
-      subst (λ (x : List ℕ). punctual k definition vs (result_of v.call s).state (ws ++ x) ≡ true) (sym e)
-      (subst (λ (z : Station). punctual k definition vs z (ws ++ set) ≡ true) (sym to) h)
-
-  fired : (x : ℕ) → v.at ≡ x → fires k definition v s ≡ true → punctual k definition (v ∷ vs) s (x ∷ ws) ≡ true
-  unfolding punctual every is_first
-  fired x q f = both _ _ (both _ _ (le-leb v.at x (omega arith)) l) (choose_yes (fires k definition v s) _ _ f ∙ both _ _ (eq-eqb v.at x q) after_set)
-
-  passed : fires k definition v s ≡ false → punctual k definition (v ∷ vs) s ws ≡ true
-  unfolding punctual
-  passed f = both _ _ l (choose_no (fires k definition v s) _ _ f ∙ after_set)
 
 -- one that asks for no timer of kind k in front of others
 asks_none : (k : ℕ) (v : Brought) (vs : List Brought) (s t : Station) → (result_of v.call s).state ≡ t → set_by k definition v s ≡ [] → none_asked k definition vs t ≡ true → none_asked k definition (v ∷ vs) s ≡ true
@@ -329,7 +314,7 @@ module _ (me : ℕ) (d : Data) (c : Config) where
         let two = maintenance_is_2 q in
         record {
           calls = v ∷ w.calls;
-          shuffles_fire = passed 1 v w.calls s t k.state [] (k.sets 1) (p ∷ []) (both _ _ (le-leb q p near) refl) w.shuffles_fire (fires_no 1 2 v s two refl);
+          shuffles_fire = passed 1 v w.calls s t k.state [] (k.sets 1) (p ∷ []) (waits q p near) w.shuffles_fire (fires_no 1 2 v s two refl);
           maintenance_fires = fired 2 v w.calls s t k.state ((q + maintenance_interval) ∷ []) (k.sets 2) [] refl w.maintenance_fires q refl (fires_yes 2 v s two k.code);
           no_others = λ j a b. passed j v w.calls s t k.state [] (k.sets j ∙ ap (λ (x : Bool). after q (choose x (maintenance_interval ∷ []) [])) b) [] refl (w.no_others j a b) (fires_no j 2 v s two b);
           none_of = λ j a b. asks_none j v w.calls s t k.state (k.sets j ∙ ap (λ (x : Bool). after q (choose x (maintenance_interval ∷ []) [])) b) (w.none_of j a b);
@@ -349,7 +334,7 @@ module _ (me : ℕ) (d : Data) (c : Config) where
         record {
           calls = v ∷ w.calls;
           shuffles_fire = fired 1 v w.calls s t k.state ((p + delay i x) ∷ []) (k.sets 1) [] refl w.shuffles_fire p refl (fires_yes 1 v s one k.code);
-          maintenance_fires = passed 2 v w.calls s t k.state [] (k.sets 2) (q ∷ []) (both _ _ (le-leb p q near) refl) w.maintenance_fires (fires_no 2 1 v s one refl);
+          maintenance_fires = passed 2 v w.calls s t k.state [] (k.sets 2) (q ∷ []) (waits p q near) w.maintenance_fires (fires_no 2 1 v s one refl);
           no_others = λ j a b. passed j v w.calls s t k.state [] (k.sets j ∙ ap (λ (y : Bool). after p (choose y (delay i x ∷ []) [])) a) [] refl (w.no_others j a b) (fires_no j 1 v s one a);
           none_of = λ j a b. asks_none j v w.calls s t k.state (k.sets j ∙ ap (λ (y : Bool). after p (choose y (delay i x ∷ []) [])) a) (w.none_of j a b);
           ordered = λ r f g. both _ _ (le-leb r p f) (w.ordered p (omega arith) near);

@@ -1,4 +1,6 @@
 // Document 02, S-11: when the k-th shuffle is due, at the earliest and at the latest, where the start is known to a range.
+#![tactic(auto)]
+
 ghost use Rattle.std.specs.Prelude.{◌≡◌, ◌≤◌};
 ghost use Rattle.base_timing.specs.Timing.{longest_time, delay};
 ghost use Rattle.shuffle_times.specs.Times.{lowest_draw, highest_draw, latest_start, most_shuffles, first_interval, next_interval};
@@ -8,7 +10,7 @@ use base_timing::{Config, Timing};
 
 // Both ends, in milliseconds; both 0 where there is no such time.
 #[repr(C)]
-#[derive(Drop)]
+#[derive(Clone, Copy)]
 pub struct ShuffleTimes {
     pub earliest: u64,
     pub latest: u64,
@@ -91,13 +93,7 @@ fn has_times(earliest: u64, latest: u64, config: Config, k: u32) -> bool
 
 // The earliest and the latest due time of the k-th shuffle of a station whose first event comes from `earliest` to `latest`, if each
 // shuffle timer fires when due; both 0 where the arguments are out of range.
-#[unsafe(no_mangle)]
-pub extern "C" fn hyparview_shuffle_times(
-    earliest: u64,
-    latest: u64,
-    config: Config,
-    k: u32,
-) -> ShuffleTimes
+pub fn hyparview_shuffle_times(earliest: u64, latest: u64, config: Config, k: u32) -> ShuffleTimes
     ensures { result ≡ shuffle_times earliest latest config k }
 {
     if has_times(earliest, latest, config, k) {

@@ -312,6 +312,7 @@ retries_append (e ∷ es) b = rw (retries_append es b) (by_kind_four (eqb e.kind
     by_kind_four false = choose_no false _ _ refl ∙ ap (λ (l : List (ℕ × ℕ)). l ++ retries b) (sym (choose_no false _ _ refl))
 
 among_left : (p n : ℕ) (xs ys : List (ℕ × ℕ)) → Among p n xs → Among p n (xs ++ ys)
+among_left p n [] ys a = elim a [ ]
 among_left p n (x ∷ xs) ys here = here
 among_left p n (x ∷ xs) ys (later a) = later (among_left p n xs ys a)
 

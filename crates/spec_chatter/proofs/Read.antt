@@ -219,6 +219,7 @@ pair_same true p q n o ws h j = ap (λ (y : ℕ). (y, n) ∷ ws) (h refl) ∙ ap
 pair_same false p q n o ws h j = refl
 
 some_long : (x m : ℕ) (ws : List (ℕ × ℕ)) → Among x m ws → 1 ≤ length ws
+some_long x m [] a = elim a [ ]
 some_long x m (w ∷ ws) a = omega arith
 
 pub retries_read : (n i : ℕ) → i ≤ numbers_end → (es : List Rec) (zeros : ℕ) → length (encode_all es) < 65536 → All (Low n i) es

@@ -22,6 +22,7 @@ use Rattle.spec_chatter.proofs.Lists.{Either, left, right, none_found, look_noth
 
 pub still_waits : (p n q o : ℕ) (ws : List (ℕ × ℕ)) → (p ≡ q → n ≡ o → ⊥) → Among p n ws → Among p n (without_pair q o ws)
 unfolding without_pair
+still_waits p n q o [] d a = elim a [ ]
 still_waits p n q o (w ∷ ws) d here =
     by_choice (Among p n) (eqb q p && eqb o n) (λ t. absurd (d (sym (eqb-true q p (and_left (eqb q p) _ t))) (sym (eqb-true o n (and_right (eqb q p) _ t))))) (λ t. here)
 still_waits p n q o (w ∷ ws) d (later a) = by_choice (Among p n) (eqb q w.0 && eqb o w.1) (λ t. still_waits p n q o ws d a) (λ t. later (still_waits p n q o ws d a))

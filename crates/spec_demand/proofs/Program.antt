@@ -172,17 +172,17 @@ pub enough_lent : D.EnoughLent
 enough_lent xs ok v w =
     subst (λ (side : Side). D.Suffices program unpack xs (record { side = side; event = v.event; are_bytes = v.are_bytes; draws = v.draws; output = v.output })) (sym w) (enough_wired xs ok v)
 
-pub same_from_either : D.SameFromEither
+pub same_from_either : D.SameFromEitherOfCalls
 unfolding program_outcome handled_from
 same_from_either xs b ds out few l =
     ap (λ (a : Handle.Result). choose (packed_ok xs) (packed_answer a) (Handled.refused_words 2 xs (length out))) (sides.same_from_either (unpack xs) b ds (length out) few l)
 
-pub few_draws_used : D.FewDrawsUsed
+pub few_draws_used : D.FewDrawsUsedOfCalls
 unfolding program_outcome handled_from packed_answer Handled.refused_words
 few_draws_used xs b ds out =
     by_choice (λ (o : Outcome). o.draws ≤ radio_draws) (packed_ok xs) (λ _. sides.few_draws_used (unpack xs) b ds (length out)) (λ _. omega arith)
 
-pub enough_for_radio : D.EnoughForRadio
+pub enough_for_radio : D.EnoughForRadioOfCalls
 unfolding program_outcome handled_from packed_answer Handled.refused_words
 enough_for_radio xs b ds out bytes few long kept two =
     let k = sides.enough_for_radio (unpack xs) b ds (length out) bytes few long kept two in (

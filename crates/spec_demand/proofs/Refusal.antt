@@ -4,7 +4,6 @@ use Prim.Native.Nat.{ℕ}
 use mathlib.Core.Path.{◌≡◌, refl, sym, ap, ◌∙◌}
 use mathlib.Core.Bool.{true}
 use mathlib.Core.List.{List}
-use native.Mathlib.Omega.{arith}
 use lib.ListN.{length}
 use lib.Dec.{eqb}
 use Rattle.base_lists.proofs.Choice.{split, choose_yes, choose_no, and_left}
@@ -18,7 +17,6 @@ use Rattle.spec_hyparview.specs.Sides.{draws_from}
 use Rattle.spec_hyparview.proofs.Sides.{by_side}
 use Rattle.spec_history.specs.Calls.{Call, result_of, answered}
 use Rattle.hyparview_state.specs.Unpack.{unpack}
-use Rattle.hyparview_rules.specs.Pack.{pack}
 use Rattle.hyparview_rules.specs.Ok.{packed_ok, state_ok}
 use Rattle.hyparview_rules.proofs.Back.{ok_back}
 use Rattle.hyparview.specs.Handled.{Outcome, packed_answer, refused_words}

@@ -94,18 +94,18 @@ abbrev pub EnoughLent : Type 0
 EnoughLent = (xs : List ℕ) → state_ok xs ≡ true → (v : Call) → v.side ≡ wired → Suffices program unpack xs v
 
 -- 02, S-12: "An event of at most 8 nodes that needs at most 64 draws .. the same answer from either side", at any words: code, words, draws used and every byte
-abbrev pub SameFromEither : Type 0
-SameFromEither =
+abbrev pub SameFromEitherOfCalls : Type 0
+SameFromEitherOfCalls =
     (xs b ds out : List ℕ) → get_or b 3 0 ≤ radio_nodes → draws_taken (unpack xs) b ds (length out) ≤ radio_draws
     → program_outcome radio b ds out xs ≡ program_outcome wired b ds out xs
 
 -- 02, S-12: from the radio side at most 64 draws are used, at any words
-abbrev pub FewDrawsUsed : Type 0
-FewDrawsUsed = (xs b ds out : List ℕ) → (program_outcome radio b ds out xs).draws ≤ radio_draws
+abbrev pub FewDrawsUsedOfCalls : Type 0
+FewDrawsUsedOfCalls = (xs b ds out : List ℕ) → (program_outcome radio b ds out xs).draws ≤ radio_draws
 
 -- 02, S-12: where the first 64 draws are kept ones, an event of at most 8 nodes misses none and is answered as from the wired side, but a Quit of three neighbours or more
-abbrev pub EnoughForRadio : Type 0
-EnoughForRadio =
+abbrev pub EnoughForRadioOfCalls : Type 0
+EnoughForRadioOfCalls =
     (xs b ds out : List ℕ) → all_under 256 b ≡ true → get_or b 3 0 ≤ radio_nodes → radio_draws ≤ length ds → all_under sure_end (take radio_draws ds) ≡ true
     → (get_or b 0 0 ≡ kind_byte Quit → length (unpack xs).active ≤ 2)
     → ((program_outcome radio b ds out xs).code ≡ 5 → ⊥) × (program_outcome radio b ds out xs ≡ program_outcome wired b ds out xs)

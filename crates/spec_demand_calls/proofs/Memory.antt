@@ -149,15 +149,15 @@ enough_lent x ok v w =
     let k = P.enough_lent x.words ok v w in
     record { five = k.five; kept_used = k.kept_used; no_five = k.no_five; no_nine = k.no_nine; draws_used = k.draws_used; few_draws = k.few_draws }
 
-pub same_from_either : M.SameFromEither
+pub same_from_either : M.SameFromEitherOfCalls
 unfolding memory_outcome D.program_outcome called
 same_from_either x b ds out few l = ap (tallied x.tally) (P.same_from_either x.words b ds out few l)
 
-pub few_draws_used : M.FewDrawsUsed
+pub few_draws_used : M.FewDrawsUsedOfCalls
 unfolding memory_outcome D.program_outcome called tallied
 few_draws_used x b ds out = P.few_draws_used x.words b ds out
 
-pub enough_for_radio : M.EnoughForRadio
+pub enough_for_radio : M.EnoughForRadioOfCalls
 unfolding memory_outcome D.program_outcome called tallied
 enough_for_radio x b ds out bytes few long kept two =
     let k = P.enough_for_radio x.words b ds out bytes few long kept two in (k.0, ap (tallied x.tally) k.1)

@@ -98,17 +98,17 @@ abbrev pub EnoughLent : Type 0
 EnoughLent = (x : LentMemory) → memory_passes x ≡ true → (v : Call) → v.side ≡ wired → Suffices c_calls station_in x v
 
 -- 02, S-12: the same answer from either side, at any words and tally
-abbrev pub SameFromEither : Type 0
-SameFromEither =
+abbrev pub SameFromEitherOfCalls : Type 0
+SameFromEitherOfCalls =
     (x : LentMemory) (b ds out : List ℕ) → get_or b 3 0 ≤ radio_nodes → draws_taken (station_in x) b ds (length out) ≤ radio_draws
     → memory_outcome radio b ds out x ≡ memory_outcome wired b ds out x
 
 -- 02, S-12: at most 64 draws are used from the radio side, and where they are kept ones they suffice
-abbrev pub FewDrawsUsed : Type 0
-FewDrawsUsed = (x : LentMemory) (b ds out : List ℕ) → (memory_outcome radio b ds out x).draws ≤ radio_draws
+abbrev pub FewDrawsUsedOfCalls : Type 0
+FewDrawsUsedOfCalls = (x : LentMemory) (b ds out : List ℕ) → (memory_outcome radio b ds out x).draws ≤ radio_draws
 
-abbrev pub EnoughForRadio : Type 0
-EnoughForRadio =
+abbrev pub EnoughForRadioOfCalls : Type 0
+EnoughForRadioOfCalls =
     (x : LentMemory) (b ds out : List ℕ) → all_under 256 b ≡ true → get_or b 3 0 ≤ radio_nodes → radio_draws ≤ length ds → all_under sure_end (take radio_draws ds) ≡ true
     → (get_or b 0 0 ≡ kind_byte Quit → length (station_in x).active ≤ 2)
     → ((memory_outcome radio b ds out x).code ≡ 5 → ⊥) × (memory_outcome radio b ds out x ≡ memory_outcome wired b ds out x)

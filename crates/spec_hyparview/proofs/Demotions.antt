@@ -19,7 +19,7 @@ use Rattle.base_util.specs.Equal.{count_below, decides}
 use Rattle.base_util.proofs.Chances.{pick_below}
 use Rattle.base_util.proofs.Equal.{sum_same, sum_nothing, equal_chances}
 use Rattle.spec_hyparview.specs.Station.{Station, is_alone, active_is_full, most_pins, without_pin}
-use Rattle.spec_hyparview.specs.Run.{Run, to_draw, one_of, picked, draw_one_of}
+use Rattle.spec_hyparview.specs.Run.{to_draw, one_of, picked, draw_one_of}
 use Rattle.spec_hyparview.specs.Active as A
 use Rattle.spec_hyparview.specs.Rules.{settings_rule, pins_rule}
 use Rattle.spec_hyparview.specs.Pins.{FindsOne, OldWithoutPins, demotes, EqualDemotions, PinnedNeverPicked}

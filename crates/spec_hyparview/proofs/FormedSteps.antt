@@ -178,7 +178,7 @@ unfolding P.add_nodes by_nodes All
 formed_add_nodes [] a k = nobody k
 formed_add_nodes {ds} {es} (n ∷ ns) {r} a k =
     subst (λ (l : List ℕ). Formed ds l (P.add_nodes ns (P.add_passive n.id n.data_of r))) (append_assoc es (by_adding n.id n.data_of r) (by_nodes ns (P.add_passive n.id n.data_of r)))
-    (formed_add_nodes ns a.1 (formed_add_passive n.id n.data_of a.0.id a.0.held k))
+    (formed_add_nodes {es = es ++ by_adding n.id n.data_of r} ns a.1 (formed_add_passive n.id n.data_of a.0.id a.0.held k))
 
 module _ {ds : List ℕ} where
   -- out of the active view

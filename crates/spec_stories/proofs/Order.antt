@@ -8,7 +8,7 @@ use native.Mathlib.Omega.{arith}
 use lib.ListN.{length}
 use lib.Dec.{ltb, eqb}
 use borrow.Author.Tests.{eq-eqb, lt-ltb}
-use Rattle.base_lists.specs.Lists.{choose, same}
+use Rattle.base_lists.specs.Lists.{same}
 use Rattle.base_lists.specs.Tests.{every, All}
 use Rattle.base_lists.proofs.Choice.{by_choice, choose_yes, choose_no, split, and_left, and_right}
 use Rattle.base_lists.proofs.Sets.{same_true, same_refl}

@@ -1,4 +1,6 @@
 // The active view: peers that leave it and peers that enter it (the definition's `Active`).
+#![tactic(auto)]
+
 ghost use Rattle.std.specs.Prelude.{◌≡◌, true, ◌<◌, length, get_or};
 ghost use Rattle.base_lists.specs.Lists.{choose};
 ghost use Rattle.base_peer.specs.Held.{data_in, ValidData};
@@ -21,7 +23,7 @@ use record::Kind;
 use work::Work;
 
 // Why a neighbor is gone that knows it already: the Rust's `RemovalReason` but for the random one.
-#[derive(Drop)]
+#[derive(Clone, Copy)]
 pub enum Loss {
     ConnectionClosed,
     DisconnectReceived(bool),

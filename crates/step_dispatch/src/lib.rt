@@ -1,4 +1,6 @@
 // The steps of one event: which step it is, by its kind and message, and what every event ends with.
+#![tactic(auto)]
+
 ghost use Rattle.std.specs.Prelude.{◌≡◌, length};
 ghost use Rattle.record.specs.Read.{rec_of};
 ghost use Rattle.spec_hyparview.specs.Budgets.{arriving};

@@ -1,4 +1,6 @@
 // What comes from the station's own side: a request to join, new data of its own, a closed connection, and Quit (the definition's `Events`).
+#![tactic(auto)]
+
 ghost use Rattle.std.specs.Prelude.{◌≡◌, length};
 ghost use Rattle.base_peer.specs.Held.{data_in, ValidData};
 ghost use Rattle.spec_hyparview.specs.Budgets.{leaving};

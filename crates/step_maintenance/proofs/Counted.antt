@@ -2,7 +2,7 @@
 -- Assumes nothing.
 use Prim.Native.Nat.{ℕ, ◌+◌, ◌≤◌, ◌<◌}
 use mathlib.Core.Path.{◌≡◌, refl, sym, ap, ◌∙◌}
-use mathlib.Core.List.{List, []}
+use mathlib.Core.List.{List}
 use native.Mathlib.Omega.{arith}
 use lib.ListN.{length, get_or, set}
 use lib.Seq.{take_all}
@@ -14,13 +14,13 @@ use Rattle.base_lists.proofs.Rest.{Rest, rest_next, rest_end}
 use Rattle.base_util.specs.Section.{items_at, HoldsSet, working_places}
 use Rattle.spec_hyparview.specs.Station.{Station, top_passes}
 use Rattle.spec_hyparview.specs.Setters.{set_passes_alone, set_recent}
-use Rattle.base_timing.specs.Timing.{maintenance_interval, max_recent_neighbors}
-use Rattle.spec_hyparview.specs.Run.{on, emit, require, timer}
+use Rattle.base_timing.specs.Timing.{max_recent_neighbors}
+use Rattle.spec_hyparview.specs.Run.{on, require}
 use Rattle.spec_hyparview.specs.Timers.{renew_all, remember_all, other_recent, alone_counts, add_alone, count_alone, short_counts, add_short, count_short}
 use Rattle.work.specs.declared.Work.{Work}
 use Rattle.hyparview_state.specs.Layout.{active_part, recent_part, bootstrap_part, passes_alone, passes_short, active_places, bootstrap_places, recent_at, recent_places, recent_size, passes_alone_at, passes_short_at}
 use Rattle.hyparview_state.specs.Unpack.{unpack, station_of, long, PackedState, Becomes}
-use Rattle.hyparview_state.specs.Work.{work_of, run, run_of, Changes, ChangesAny, TellsAny}
+use Rattle.hyparview_state.specs.Work.{work_of, run_of, Changes, ChangesAny}
 use Rattle.hyparview_state.proofs.Any.{required_at}
 use Rattle.hyparview_state.proofs.Bridge.{on_passed, on_done, require_said, change_then}
 use Rattle.hyparview_state.proofs.Fields.{put_passes_alone, put_passes_short, put_recent}

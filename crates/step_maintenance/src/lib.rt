@@ -1,4 +1,6 @@
 // The maintenance and its timer (the definition's `Timers`).
+#![tactic(auto)]
+
 ghost use Rattle.std.specs.Prelude.{◌≡◌, ◌≤◌, length};
 ghost use Rattle.base_timing.specs.Timing.{maintenance_interval};
 ghost use Rattle.spec_hyparview.specs.Run.{emit, timer};

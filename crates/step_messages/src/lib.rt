@@ -1,4 +1,6 @@
 // The messages received but for the two of a shuffle (the definition's `Messages`).
+#![tactic(auto)]
+
 ghost use Rattle.std.specs.Prelude.{◌≡◌, ◌≤◌, length};
 ghost use Rattle.base_lists.specs.Lists.{without};
 ghost use Rattle.base_peer.specs.Held.{ValidData, data_in, node_in};

@@ -4,7 +4,7 @@ use Rattle.std.specs.Prelude.{ℕ, ◌≡◌, List}
 use Rattle.std.proofs.Math.Option.{Option, none, some}
 use Rattle.spec_hyparview.specs.Run.{Run}
 use Rattle.work.specs.declared.Work.{Work}
-use Rattle.hyparview_state.specs.Work.{Lent, work_of, Does, run_met}
+use Rattle.hyparview_state.specs.Work.{Lent, Seen, work_of, Does, run_met}
 use Rattle.step_peers.specs.declared.Evicted.{Evicted}
 use Rattle.step_peers.specs.declared.Evicted.TheVariants.{Nobody, Peer}
 use Rattle.step_peers.specs.declared.Added.{Added}
@@ -20,5 +20,5 @@ pub record Adds (r : Added) (xs ds out : List ℕ) (g : Run) (x : Option ℕ) : 
   pub named : named_in r.evicted ≡ x
 
 -- the same as a contract says it: the step makes the run of what it met, and names the peer that it evicts
-abbrev pub Evicts : (Run → Run) → (Run → Option ℕ) → Work → Added → Lent → Lent → Lent → Type 0
+abbrev pub Evicts : (Run → Run) → (Run → Option ℕ) → Work → Added → Lent → Seen → Lent → Type 0
 Evicts step evicted w r st ds out = Adds r st.exit.now ds.entry.now out.exit.now (step (run_met w st ds out)) (evicted (run_met w st ds out))

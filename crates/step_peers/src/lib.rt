@@ -1,4 +1,6 @@
 // What the station holds of other peers: their data, and the passive view (the definition's `Peers`, and `forget_declined` of its `Handle`).
+#![tactic(auto)]
+
 ghost use Rattle.std.specs.Prelude.{◌≡◌, length};
 ghost use Rattle.spec_hyparview.specs.Run.{on};
 ghost use Rattle.base_peer.specs.Held.{data_in, ValidData};
@@ -17,14 +19,14 @@ use record::{Kind, Refusal};
 use work::Work;
 
 // Who left the passive view before another entered it, if anyone (document 02, S-2).
-#[derive(Drop)]
+#[derive(Clone, Copy)]
 pub enum Evicted {
     Nobody,
     Peer(PeerId),
 }
 
 // What adding to the passive view answers: the work, and whom it evicted.
-#[derive(Drop)]
+#[derive(Clone, Copy)]
 pub struct Added {
     pub work: Work,
     pub evicted: Evicted,

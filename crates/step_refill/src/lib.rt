@@ -1,4 +1,6 @@
 // How the active view is refilled from the passive view (the definition's `Refill`).
+#![tactic(auto)]
+
 ghost use Rattle.std.specs.Prelude.{◌≡◌, length};
 ghost use Rattle.base_util.specs.Section.{working_words, BecomesSet};
 ghost use Rattle.spec_hyparview.specs.Station.{asked_outside};

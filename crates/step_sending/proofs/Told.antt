@@ -18,11 +18,10 @@ use Rattle.base_columns.specs.Columns.{numbers_at}
 use Rattle.base_peer.specs.Held.{node_in, data_in}
 use Rattle.base_peer.specs.declared.PeerData.{PeerData}
 use Rattle.base_peer.specs.Data.{Node}
-use Rattle.record_writer.specs.declared.Fields.{Fields}
 use Rattle.record_writer.specs.declared.Nodes.{Nodes}
 use Rattle.record_writer.specs.Nodes.{nodes_in, HoldsNodes}
 use Rattle.spec_hyparview.specs.Station.{is_requested, top_counter}
-use Rattle.spec_hyparview.specs.Run.{Run, on, emit, require, node, message, flag, peer_infos, timer}
+use Rattle.spec_hyparview.specs.Run.{on, emit, require, node, message, flag, peer_infos, timer}
 use Rattle.spec_hyparview.specs.Sending.{join_to, join, send_nodes, send_shuffle_reply, reply_length, send_disconnect, request_counts, request_fits, note_request, count_request, open_request, neighbor_to, tell_request, send_neighbor, reply_neighbor}
 use Rattle.work.specs.declared.Work.{Work}
 use Rattle.hyparview_state.specs.Layout.{requests_part, shuffle_active_view_count, shuffle_passive_view_count, neighbor_request_timeout, next_neighbor_request, requests_at, requests_count, requests_places, requests_size}

@@ -1,4 +1,6 @@
 // What the station sends: Join, Neighbor, ShuffleReply and Disconnect (the definition's `Sending`).
+#![tactic(auto)]
+
 ghost use Rattle.std.specs.Prelude.{◌≡◌, ◌≤◌, length, take, drop};
 ghost use Rattle.base_lists.specs.Lists.{choose};
 ghost use Rattle.base_util.specs.Chances.{shuffle};
@@ -9,7 +11,7 @@ ghost use Rattle.spec_hyparview.specs.Sending.{join, send_shuffle_reply, send_di
 ghost use Rattle.record.specs.Format.{most_nodes};
 ghost use Rattle.hyparview_state.specs.Layout.{words};
 ghost use Rattle.hyparview_state.specs.Unpack.{unpack, PackedState};
-ghost use Rattle.hyparview_state.specs.Work.{GivenRoom, Given, Says, Makes, DrawsAny};
+ghost use Rattle.hyparview_state.specs.Work.{GivenRoom, Given, Says, Makes, DrawsAny, GivenRoomSeen, GivenSeen, MakesSeen, SaysSeen};
 
 use base_peer::{PeerId, PeerInfo};
 use hyparview_state::Layout;
@@ -52,8 +54,8 @@ pub fn peer_infos(st: &[u64], ids: &[PeerId]) -> Nodes
 // Join has the station's own data, which the ForwardJoins that it sets off take further.
 pub fn join(w: Work, st: &[u64], out: &mut [u8], p: PeerId) -> Work
     requires st_len { length st.now ≡ words }
-    requires given_room { GivenRoom w st out }
-    ensures { Says (join p) w result st out }
+    requires given_room { GivenRoomSeen w st out }
+    ensures { SaysSeen (join p) w result st out }
 {
     let d = hyparview_state::own_data(st);
     work::send_node(w, out, Message::JOIN, p, 0, 0, PeerInfo { id: 0, data: d })
@@ -87,9 +89,9 @@ pub fn send_shuffle_reply(
     len: usize,
 ) -> Work
     requires st_len { length st.now ≡ words }
-    requires given { Given w st draws out }
+    requires given { GivenSeen w st draws out }
     requires len_le_most_nodes { len ≤ most_nodes }
-    ensures { Makes (send_shuffle_reply to len) w result st draws out }
+    ensures { MakesSeen (send_shuffle_reply to len) w result st draws out }
 {
     let mut v = [0u64; base_util::WORKING_WORDS];
     let passive = &st[Layout::PASSIVE..Layout::PASSIVE_END];
@@ -131,8 +133,8 @@ pub fn send_disconnect(
     alive: bool,
 ) -> Work
     requires st_len { length st.now ≡ words }
-    requires given { Given w st draws out }
-    ensures { Makes (send_disconnect p alive) w result st draws out }
+    requires given { GivenSeen w st draws out }
+    ensures { MakesSeen (send_disconnect p alive) w result st draws out }
 {
     // How many peers the ShuffleReply names.
     let n = st[Layout::SHUFFLE_ACTIVE_VIEW_COUNT] as usize;

@@ -1,11 +1,13 @@
 // The two messages of a shuffle (the definition's `Messages`).
+#![tactic(auto)]
+
 ghost use Rattle.std.specs.Prelude.{◌≡◌, true, length};
 ghost use Rattle.record.specs.Read.{well_formed, header_of, nodes_of};
 ghost use Rattle.record_writer.specs.Nodes.{HoldsNodes};
 ghost use Rattle.spec_hyparview.specs.Peers.{add_nodes, any_new};
 ghost use Rattle.spec_hyparview.specs.Messages.{on_shuffle, on_shuffle_reply};
 ghost use Rattle.hyparview_state.specs.Layout.{words};
-ghost use Rattle.hyparview_state.specs.Work.{Given, run_met, Makes};
+ghost use Rattle.hyparview_state.specs.Work.{Given, run_met, Makes, GivenSeen, MakesSeen};
 ghost use Rattle.step_shuffling.specs.Passing.{pass_shuffle};
 
 use base_peer::PeerId;
@@ -16,7 +18,7 @@ use record_writer::Nodes;
 use work::Work;
 
 // The work after an event's nodes were learned, and whether one of them was new.
-#[derive(Drop)]
+#[derive(Clone, Copy)]
 struct Learned {
     work: Work,
     fresh: bool,
@@ -75,10 +77,10 @@ fn pass_shuffle(
     ttl: u16,
 ) -> Work
     requires st_len { length st.now ≡ words }
-    requires given { Given w st draws out }
+    requires given { GivenSeen w st draws out }
     requires b_value { well_formed b.now ≡ true }
     requires n_value { n ≡ (header_of b.now).nodes }
-    ensures { Makes (pass_shuffle from origin (nodes_of b.now 0 n) ttl st) w result st draws out }
+    ensures { MakesSeen (pass_shuffle from origin (nodes_of b.now 0 n) ttl st) w result st draws out }
 {
     let mut v = [0u64; base_util::WORKING_WORDS];
     base_util::copy_into(

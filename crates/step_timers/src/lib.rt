@@ -1,9 +1,11 @@
 // The timers of a request, of a join and of the shuffle (the definition's `Timers`).
+#![tactic(auto)]
+
 ghost use Rattle.std.specs.Prelude.{◌≡◌, length};
 ghost use Rattle.base_peer.specs.Maps.{number_in};
 ghost use Rattle.spec_hyparview.specs.Timers.{is_number, handle_pending_neighbor_timer, retry_join, schedule_shuffle, shuffle_any, handle_shuffle_timer};
 ghost use Rattle.hyparview_state.specs.Layout.{words};
-ghost use Rattle.hyparview_state.specs.Work.{GivenRoom, Given, Says, Makes};
+ghost use Rattle.hyparview_state.specs.Work.{GivenRoom, Given, Says, Makes, GivenSeen, MakesSeen};
 
 use base_peer::{Number, PeerId, PeerInfo};
 use hyparview_state::Layout;
@@ -89,8 +91,8 @@ pub fn schedule_shuffle(w: Work, st: &mut [u64], draws: &[u32], out: &mut [u8]) 
 // Shuffle names some peers of each view, but not its receiver, which knows itself, and the station last, so that others learn of it.
 fn shuffle_any(w: Work, st: &[u64], draws: &[u32], out: &mut [u8]) -> Work
     requires st_len { length st.now ≡ words }
-    requires given { Given w st draws out }
-    ensures { Makes shuffle_any w result st draws out }
+    requires given { GivenSeen w st draws out }
+    ensures { MakesSeen shuffle_any w result st draws out }
 {
     let active = &st[Layout::ACTIVE..Layout::ACTIVE_END];
     let neighbors = base_util::count(active, Layout::ACTIVE_PLACES);

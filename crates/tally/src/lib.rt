@@ -1,4 +1,6 @@
 // The tally of 01, "What the Rust does that needs another form": the messages sent, by kind.
+#![tactic(auto)]
+
 ghost use Rattle.std.specs.Prelude.{◌≡◌};
 ghost use Rattle.tally.specs.Counts.{counted, raise_one, enter, raised};
 
@@ -6,7 +8,7 @@ use record::{HEADER, Header, Kind, Message};
 
 // One count for each value of byte 1.
 #[repr(C)]
-#[derive(Drop)]
+#[derive(Clone, Copy)]
 pub struct Tally {
     pub join: u64,
     pub forward_join: u64,

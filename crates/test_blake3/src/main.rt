@@ -1,5 +1,7 @@
 // Writes the hash of the bytes 0, 1, .., 250, 0, 1, .. for each of the lengths: a line with the length and the 32 bytes, and a mark where `is_hash` takes the hash of no bytes for it.
 // What it must write is not ours: BLAKE3's own program b3sum 1.2.0 prints the same 32 bytes for each; 256 is the longest body, and 1,024 bytes are one chunk.
+#![tactic(auto)]
+
 const CASES: usize = 18;
 
 const LENGTHS: [usize; CASES] = [

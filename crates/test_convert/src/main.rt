@@ -1,4 +1,6 @@
 // Reads cases of the conversion (tools/make/convert) and writes for each the converted record in hex, where the code is 0, and a line with the code.
+#![tactic(auto)]
+
 ghost use Rattle.std.specs.Prelude.{◌≤◌, length};
 
 use record_convert::Converted;

@@ -1,4 +1,6 @@
 // Reads records, each with two bytes for its length in front, and writes a line for each: what the reader answers, and the code of the event.
+#![tactic(auto)]
+
 ghost use Rattle.record.specs.Answers.{Found};
 
 use record::{Answer, Event, Header};

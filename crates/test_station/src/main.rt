@@ -1,4 +1,6 @@
 // Standard input holds inputs of the run program one after another, each with its length in 4 bytes in front; standard output gets the text of each, ended by an empty line.
+#![tactic(auto)]
+
 use run_listing::Shown;
 
 // Space for the text of one input.

@@ -1,5 +1,7 @@
 // Keeps one tally over the cases of standard input, by `tally::raise`, and writes its six counts after each, in the order of byte 1.
 // A case is the length of an output and the code of its event, four bytes each, lowest first, and then the output.
+#![tactic(auto)]
+
 ghost use Rattle.std.specs.Prelude.{◌≡◌};
 ghost use Rattle.tally.specs.Counts.{raised};
 

@@ -1,4 +1,6 @@
 // Reads calls of a timer queue, each of six 64-bit words (what, time or limit, delay, kind, peer, number), and writes a line for each: the answer in numbers.
+#![tactic(auto)]
+
 ghost use Rattle.std.specs.Prelude.{◌≡◌, length};
 ghost use Rattle.test_timer.specs.Call.{timer_call_bytes};
 

@@ -1,5 +1,7 @@
 // Standard input holds histories one after another; standard output gets their traces, each ended by an empty line.
 // A history is a head of 32 bytes and then its input. The head has the input's length and the room (4 bytes each), the next request and the next join (8 each), and the two pass counts (4 each).
+#![tactic(auto)]
+
 use trace_replay::TraceStart;
 
 // The bytes of a history's head.

@@ -1,4 +1,6 @@
 // Document 02, S-1: what a controller without timers of its own runs by. The timers of an output are put into the queue at once, and a due timer comes out as the event that `handle` reads.
+#![tactic(auto)]
+
 ghost use Rattle.std.specs.Prelude.{◌≡◌, true, [], length, replicate};
 ghost use Rattle.record.specs.Read.{header_of};
 ghost use Rattle.record_writer.specs.Write.{rec_in};
@@ -13,7 +15,7 @@ use record_writer::Fields;
 use timer_map::{Id, Timer, TimerMapEntry};
 
 // A timer to be put in, and its delay.
-#[derive(Drop)]
+#[derive(Clone, Copy)]
 pub struct ScheduleTimer {
     pub delay: u64,
     pub item: Timer,
@@ -21,7 +23,7 @@ pub struct ScheduleTimer {
 
 // What `timer_map_pop_event` hands back beside the event: the time at which it was due, 0 where there is none.
 #[repr(C)]
-#[derive(Drop)]
+#[derive(Clone, Copy)]
 pub struct PoppedEvent {
     pub code: u32,
     pub found: bool,
@@ -130,8 +132,7 @@ fn records_ok(q: &mut [u64], time: u64, out: &[u8]) -> u32
 }
 
 // All timer records of an output, in order, each by its delay from this time: 0, or 2, or the first refusal (3, 12, 11), and then every word is as it was.
-#[unsafe(no_mangle)]
-pub extern "C" fn timer_map_insert_records(q: &mut [u64], time: u64, out: &[u8]) -> u32
+pub fn timer_map_insert_records(q: &mut [u64], time: u64, out: &[u8]) -> u32
     ensures { Leaves result q (records_inserted time out.now q.old) }
 {
     if timer_map::queue_ok(q) {
@@ -202,8 +203,7 @@ fn pop_event_ok(q: &mut [u64], limit: u64, out: &mut [u8]) -> PoppedEvent
 }
 
 // TimerMap::pop_before, with the entry written as the 32 bytes of its event. Code 2; 9, where the bytes do not fit: then no word changes. Without an event the lent bytes become zero.
-#[unsafe(no_mangle)]
-pub extern "C" fn timer_map_pop_event(q: &mut [u64], limit: u64, out: &mut [u8]) -> PoppedEvent
+pub fn timer_map_pop_event(q: &mut [u64], limit: u64, out: &mut [u8]) -> PoppedEvent
     ensures { LeavesEvent result q out (event_taken limit q.old out.old) }
 {
     if timer_map::queue_ok(q) {

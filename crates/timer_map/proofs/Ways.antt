@@ -9,7 +9,7 @@ use lib.ListN.{length, take, drop, get_or, replicate}
 use lib.Dec.{ltb, leb}
 use mir.Val.{Fits}
 use mir.Syntax.{w64}
-use borrow.Author.Tests.{eq-eqb, ne_eqb, ltb-true, ltb-false, lt-ltb, le-ltb, leb-false, le-leb, lt-leb}
+use borrow.Author.Tests.{eq-eqb, ne_eqb, ltb-false, lt-ltb, le-ltb, leb-false, le-leb, lt-leb}
 use Rattle.base_lists.specs.Lists.{null, shift_remove}
 use Rattle.base_lists.specs.Tests.{every}
 use Rattle.base_lists.proofs.Choice.{split, clash, choose_yes, choose_no}
@@ -26,20 +26,20 @@ use Rattle.timer_map.proofs.Pack.{sound, getD_entries}
 
 -- ---- refusal
 
-pub too_late : (time delay n : ℕ) → ltb (latest - time) delay ≡ true → 12 ≡ insert_refusal time delay n
+pub too_late : (time delay n : ℕ) → latest - time < delay → 12 ≡ insert_refusal time delay n
 unfolding insert_refusal
-too_late time delay n e = sym (choose_yes _ _ _ (lt-ltb latest (time + delay) (omega (arith, ltb-true (latest - time) delay e))))
+too_late time delay n h = sym (choose_yes _ _ _ (lt-ltb latest (time + delay) (omega arith)))
 
-in_time : (time delay : ℕ) → time ≤ latest → ltb (latest - time) delay ≡ false → ltb latest (time + delay) ≡ false
-in_time time delay t e = le-ltb latest (time + delay) (omega (arith, ltb-false (latest - time) delay e))
+in_time : (time delay : ℕ) → time ≤ latest → delay ≤ latest - time → ltb latest (time + delay) ≡ false
+in_time time delay t h = le-ltb latest (time + delay) (omega arith)
 
-pub too_many : (time delay n : ℕ) → time ≤ latest → ltb (latest - time) delay ≡ false → leb 64 n ≡ true → 11 ≡ insert_refusal time delay n
+pub too_many : (time delay n : ℕ) → time ≤ latest → delay ≤ latest - time → 64 ≤ n → 11 ≡ insert_refusal time delay n
 unfolding insert_refusal
-too_many time delay n t e f = sym (choose_no _ _ _ (in_time time delay t e) ∙ choose_yes _ _ _ f)
+too_many time delay n t h m = sym (choose_no _ _ _ (in_time time delay t h) ∙ choose_yes _ _ _ (le-leb 64 n m))
 
-pub may : (time delay n : ℕ) → time ≤ latest → ltb (latest - time) delay ≡ false → leb 64 n ≡ false → 0 ≡ insert_refusal time delay n
+pub may : (time delay n : ℕ) → time ≤ latest → delay ≤ latest - time → n < 64 → 0 ≡ insert_refusal time delay n
 unfolding insert_refusal
-may time delay n t e f = sym (choose_no _ _ _ (in_time time delay t e) ∙ choose_no _ _ _ f)
+may time delay n t h m = sym (choose_no _ _ _ (in_time time delay t h) ∙ choose_no _ _ _ (lt-leb 64 n m))
 
 -- what no refusal says
 pub record FitsIn (time delay n : ℕ) : Type 0 where

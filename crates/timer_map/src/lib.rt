@@ -1,4 +1,6 @@
 // Document 02, S-1: the timer queue of util.rs, `TimerMap`, in 513 words that the caller lends.
+#![tactic(auto)]
+
 ghost use Rattle.std.specs.Prelude.{◌≡◌, [], ◌∷◌, ◌++◌, ◌+◌, ◌-◌, ◌≤◌, ◌<◌, length, take, drop, replicate};
 ghost use Rattle.base_lists.specs.Lists.{shift_remove};
 ghost use Rattle.base_lists.specs.Lent.{Overwrites};
@@ -45,12 +47,12 @@ const TOO_LATE: u32 = 12;
 
 // 32 bytes, in words.
 #[repr(C)]
-#[derive(Drop)]
+#[derive(Clone, Copy)]
 pub struct Id(pub u64, pub u64, pub u64, pub u64);
 
 // What a timer is: kind, peer and number as in its record, and the id of S-7's timers.
 #[repr(C)]
-#[derive(Drop)]
+#[derive(Clone, Copy)]
 pub struct Timer {
     pub kind: u64,
     pub peer: u64,
@@ -60,14 +62,14 @@ pub struct Timer {
 
 // TimerMapEntry without its sequence number: entries stand in the order put in.
 #[repr(C)]
-#[derive(Drop)]
+#[derive(Clone, Copy)]
 pub struct TimerMapEntry {
     pub time: u64,
     pub item: Timer,
 }
 
 // The entry that is to come out, and its place; without one all of it is zero.
-#[derive(Drop)]
+#[derive(Clone, Copy)]
 pub struct Due {
     pub found: bool,
     pub place: usize,
@@ -76,7 +78,7 @@ pub struct Due {
 
 // What taking out hands back; without an entry all of it is zero.
 #[repr(C)]
-#[derive(Drop)]
+#[derive(Clone, Copy)]
 pub struct Popped {
     pub code: u32,
     pub found: bool,
@@ -85,7 +87,7 @@ pub struct Popped {
 
 // The next due time, if any.
 #[repr(C)]
-#[derive(Drop)]
+#[derive(Clone, Copy)]
 pub struct First {
     pub code: u32,
     pub found: bool,
@@ -94,7 +96,7 @@ pub struct First {
 
 // How many timers are held.
 #[repr(C)]
-#[derive(Drop)]
+#[derive(Clone, Copy)]
 pub struct Len {
     pub code: u32,
     pub count: u64,
@@ -295,8 +297,7 @@ pub fn insert_ok(q: &mut [u64], time: u64, delay: u64, item: Timer) -> u32
 }
 
 // TimerMap::insert, by the time and a delay: 0, or 2, 3 (no timer), 12, 11, and then every word is as it was.
-#[unsafe(no_mangle)]
-pub extern "C" fn timer_map_insert(q: &mut [u64], time: u64, delay: u64, item: Timer) -> u32
+pub fn timer_map_insert(q: &mut [u64], time: u64, delay: u64, item: Timer) -> u32
     ensures { Leaves result q (inserted time delay item q.old) }
 {
     if queue_ok(q) {
@@ -415,8 +416,7 @@ fn pop_ok(q: &mut [u64], limit: u64) -> Popped
 }
 
 // TimerMap::pop_before: the first of the entries with the smallest due time, where that is at most the limit.
-#[unsafe(no_mangle)]
-pub extern "C" fn timer_map_pop_before(q: &mut [u64], limit: u64) -> Popped
+pub fn timer_map_pop_before(q: &mut [u64], limit: u64) -> Popped
     ensures { record { answer = result; words = q.new } ≡ taken_out limit q.old }
 {
     if queue_ok(q) {
@@ -448,8 +448,7 @@ fn first_ok(q: &[u64]) -> First
 }
 
 // TimerMap::first: the next due time.
-#[unsafe(no_mangle)]
-pub extern "C" fn timer_map_first(q: &[u64]) -> First
+pub fn timer_map_first(q: &[u64]) -> First
     ensures { result ≡ first_in q.now }
 {
     if queue_ok(q) {
@@ -463,8 +462,7 @@ pub extern "C" fn timer_map_first(q: &[u64]) -> First
 }
 
 // How many timers are held.
-#[unsafe(no_mangle)]
-pub extern "C" fn timer_map_len(q: &[u64]) -> Len
+pub fn timer_map_len(q: &[u64]) -> Len
     ensures { result ≡ count_in q.now }
 {
     if queue_ok(q) {
@@ -480,8 +478,7 @@ pub extern "C" fn timer_map_len(q: &[u64]) -> Len
 }
 
 // The lent words become the empty queue; code 2 where they are not as many as a queue has.
-#[unsafe(no_mangle)]
-pub extern "C" fn timer_map_new(q: &mut [u64]) -> u32
+pub fn timer_map_new(q: &mut [u64]) -> u32
     ensures { Leaves result q (renewed q.old) }
 {
     if q.len() != WORDS {

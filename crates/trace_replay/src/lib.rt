@@ -1,4 +1,6 @@
 // One history of the run program's input on standard output, in the trace form: every byte of output, and every state.
+#![tactic(auto)]
+
 ghost use Rattle.std.specs.Prelude.{◌≡◌, ◌≤◌};
 ghost use Rattle.hyparview.specs.Room.{output_room};
 ghost use Rattle.run_input.specs.Input.{Laid};
@@ -14,14 +16,14 @@ use run_walk::Runner;
 const EVENT_SPACE: usize = 32768;
 
 // How a history ended: code 0 and the state after its last event, or the code that it was refused with as a whole and a state of zeroes.
-#[derive(Drop)]
+#[derive(Clone, Copy)]
 pub struct Ended {
     pub code: u32,
     pub state: State,
 }
 
 // What a history starts with beside its input: the room for output, and the counters of the new station.
-#[derive(Drop)]
+#[derive(Clone, Copy)]
 pub struct TraceStart {
     pub room: usize,
     pub next_neighbor_request: u64,

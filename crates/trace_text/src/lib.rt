@@ -1,4 +1,6 @@
 // The text of one event, into lent bytes: each output record in hex, the code with the draws used, and the state that the call handed back.
+#![tactic(auto)]
+
 ghost use Rattle.std.specs.Prelude.{◌≡◌, length, take};
 ghost use Rattle.record.specs.Walk.{records_in};
 ghost use Rattle.base_peer.specs.Held.{data_in};
@@ -124,7 +126,8 @@ fn put_items(out: &mut [u8], t: Text, st: &[u64], columns: usize, at: usize, roo
             return r;
         }
         // A comma before every item but the first.
-        if i != 0 {
+        let later = i != 0;
+        if later {
             r = run_text::put(out, r, b',');
         }
         let place = at + i;

@@ -1,7 +1,7 @@
 -- Steps that are not lent the words: how they are proved, and what a step that has words gets of them.
 -- Assumes nothing.
 use Prim.Native.Nat.{ℕ, ◌+◌, ◌≤◌, ◌<◌}
-use mathlib.Core.Path.{◌≡◌, refl, sym, ap, ◌∙◌, subst}
+use mathlib.Core.Path.{◌≡◌, refl, ap, ◌∙◌, subst}
 use mathlib.Core.Bool.{Bool, true, false}
 use mathlib.Core.List.{List, []}
 use native.Mathlib.Omega.{arith}
@@ -10,7 +10,7 @@ use lib.Dec.{eqb, leb}
 use lib.ListN.{length, drop}
 use Rattle.base_lists.specs.Lists.{choose}
 use Rattle.base_lists.proofs.Bytes.{length_overwrite}
-use Rattle.base_lists.proofs.Choice.{split, by_choice, choose_yes, choose_no}
+use Rattle.base_lists.proofs.Choice.{split, choose_yes, choose_no}
 use Rattle.base_util.specs.Chances.{pick_draws, shuffle_draws}
 use Rattle.record.specs.Format.{Rec, size, encode}
 use Rattle.record_writer.specs.declared.Written.{Written}
@@ -18,7 +18,7 @@ use Rattle.record_writer.specs.declared.Written.TheVariants.{At, Full}
 use Rattle.record_writer.specs.Write.{fits, reached, written, Wrote}
 use Rattle.work.specs.Run.{Run, guard, emit, draw, to_draw, draw_one_of, draw_shuffle, require}
 use Rattle.work.specs.declared.Work.{Work}
-use Rattle.work.specs.Work.{Form, work_of, run_of, no_state, Changes, DrawsFrom, Tells, Does, ChangesAny, DrawsAny, Reaches, TellsAny, after_record}
+use Rattle.work.specs.Work.{Form, work_of, run_of, Changes, DrawsFrom, Tells, Does, ChangesAny, DrawsAny, Reaches, TellsAny, after_record}
 use Rattle.work.proofs.Bridge.{require_passed, require_held, require_refused, draw_passed, draw_short, draw_done, emit_passed, emit_done, then_draw, then_tell}
 
 module _ (w : Work) (k : ℕ) (t : Bool) where

@@ -1,7 +1,7 @@
 -- The run that a `Work` and the words stand for, and what a step in code has to do: four contract shapes, by what the step is lent beside the words.
 -- Assumes nothing.
 use Rattle.std.specs.Prelude.{ℕ, ◌+◌, ◌≤◌, ◌≡◌, List, [], length, take}
-pub use Rattle.base_lists.specs.Lent.{Slice, Lent}
+pub use Rattle.base_lists.specs.Lent.{Slice, MutSlice, Lent, Seen}
 use Rattle.record_writer.specs.declared.Written.{Written}
 use Rattle.record_writer.specs.declared.Written.TheVariants.{At, Full}
 use Rattle.work.specs.declared.Work.{Work}
@@ -80,18 +80,18 @@ pub record Does {S : Type 0} (F : Form S) (w : Held) (ds out : List ℕ) (g : Ru
 -- ---- the same as a contract says it, of the parameters themselves
 
 -- what a step may count on that is lent words and output; words, draws and output
-abbrev pub GivenRoom : {S : Type 0} → Form S → Work → Slice → Slice → Type 0
+abbrev pub GivenRoom : {S : Type 0} → Form S → Work → MutSlice → MutSlice → Type 0
 GivenRoom F w st out = Room F (work_of w st.now) out.now
 
-abbrev pub Given : {S : Type 0} → Form S → Work → Slice → Slice → Slice → Type 0
+abbrev pub Given : {S : Type 0} → Form S → Work → MutSlice → Slice → MutSlice → Type 0
 Given F w st ds out = Fine F (work_of w st.now) ds.now out.now
 
 -- what else holds of the run that it meets
-abbrev pub Meets : {S : Type 0} → Form S → (Run S → Type 0) → Work → Slice → Slice → Slice → Type 0
+abbrev pub Meets : {S : Type 0} → Form S → (Run S → Type 0) → Work → MutSlice → Slice → MutSlice → Type 0
 Meets F P w st ds out = P (run_of F (work_of w st.now) ds.now out.now)
 
 -- the run that a step met
-abbrev pub run_met : {S : Type 0} → Form S → Work → Lent → Lent → Lent → Run S
+abbrev pub run_met : {S : Type 0} → Form S → Work → Lent → Seen → Lent → Run S
 run_met F w st ds out = run_of F (work_of w st.entry.now) ds.entry.now out.entry.now
 
 -- it makes r of w, and of what it was lent what the definition's step makes: lent the words; and output; and draws
@@ -101,8 +101,21 @@ Alters F step w r st = Changes F step (work_of w st.entry.now) (work_of r st.exi
 abbrev pub Says : {S : Type 0} → Form S → (Run S → Run S) → Work → Work → Lent → Lent → Type 0
 Says F step w r st out = Tells F step (work_of w st.entry.now) (work_of r st.exit.now) out.entry.now out.exit.now
 
-abbrev pub Makes : {S : Type 0} → Form S → (Run S → Run S) → Work → Work → Lent → Lent → Lent → Type 0
+abbrev pub Makes : {S : Type 0} → Form S → (Run S → Run S) → Work → Work → Lent → Seen → Lent → Type 0
 Makes F step w r st ds out = Does F (work_of r st.exit.now) ds.entry.now out.exit.now (step (run_met F w st ds out))
+
+-- the same of a step that only reads the words
+abbrev pub GivenRoomSeen : {S : Type 0} → Form S → Work → Slice → MutSlice → Type 0
+GivenRoomSeen F w st out = Room F (work_of w st.now) out.now
+
+abbrev pub GivenSeen : {S : Type 0} → Form S → Work → Slice → Slice → MutSlice → Type 0
+GivenSeen F w st ds out = Fine F (work_of w st.now) ds.now out.now
+
+abbrev pub SaysSeen : {S : Type 0} → Form S → (Run S → Run S) → Work → Work → Seen → Lent → Type 0
+SaysSeen F step w r st out = Tells F step (work_of w st.entry.now) (work_of r st.exit.now) out.entry.now out.exit.now
+
+abbrev pub MakesSeen : {S : Type 0} → Form S → (Run S → Run S) → Work → Work → Seen → Seen → Lent → Type 0
+MakesSeen F step w r st ds out = Does F (work_of r st.exit.now) ds.entry.now out.exit.now (step (run_of F (work_of w st.entry.now) ds.entry.now out.entry.now))
 
 -- ---- a step that is not lent the words: what it does to the run that has no state; the laws of proofs/Any take it to any state
 

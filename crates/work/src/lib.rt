@@ -1,4 +1,6 @@
 // The work that the steps of one event hand on, whatever the state is: draws, refusals and records.
+#![tactic(auto)]
+
 ghost use Rattle.std.specs.Prelude.{◌≡◌, [], ◌∷◌, ◌≤◌, ◌<◌, length, get_or, drop};
 ghost use Rattle.base_util.specs.Chances.{pick, shuffle};
 ghost use Rattle.base_peer.specs.Held.{ValidData, node_in};
@@ -13,7 +15,7 @@ use record::{Kind, Refusal};
 use record_writer::{Fields, Nodes, Written};
 
 // The draws used and the bytes written so far, and a code that is 0 while all is well.
-#[derive(Drop)]
+#[derive(Clone, Copy)]
 pub struct Work {
     pub drawn: usize,
     pub written: usize,
@@ -21,14 +23,14 @@ pub struct Work {
 }
 
 // The next draw, and the work that has taken it.
-#[derive(Drop)]
+#[derive(Clone, Copy)]
 pub struct Drawn {
     pub work: Work,
     pub value: u32,
 }
 
 // The place that a draw decided, and the work that has taken it.
-#[derive(Drop)]
+#[derive(Clone, Copy)]
 pub struct Chosen {
     pub work: Work,
     pub index: usize,

@@ -1,5 +1,4 @@
 """A copy of the definition outside the repository, beside which the checker evaluates equations."""
-import os
 import pathlib
 import re
 import shutil
@@ -26,7 +25,8 @@ def needed(crate, lines):
     found = {}
     for line in lines:
         name, _, deps = line.split("#")[0].partition(":")
-        found[name.strip()] = deps.split()
+        if name.strip():
+            found[name.split()[0]] = deps.split()
     order = []
 
     def visit(name):
@@ -53,8 +53,6 @@ class Checker:
             for part in ("specs",) if name in DEFINITION else ("src", "specs", "proofs"):
                 if (source / part).is_dir():
                     shutil.copytree(source / part, target / part)
-            if name not in DEFINITION:
-                self.keep(name)
         lines = [" ".join([f"{name}:", *deps]) + "\n" for name, deps in crates.items()]
         (self.folder / "crates.txt").write_text("".join(lines))
         for name, left in DEFINITION.items():
@@ -63,19 +61,10 @@ class Checker:
         with (self.definition / "Lib.antt").open("a") as modules:
             modules.write("pub mod Equations\n")
 
-    def keep(self, name):
-        """Copies a crate as the repository's last check left it; `rt` takes it only where its files are the same."""
-        left, kept = ROOT / "target", self.folder / "target"
-        library, stamp = f"rlib/{name}.rlib", f"stamp/{name}"
-        if (left / library).is_dir() and (left / stamp).is_file() and not (kept / library).exists():
-            shutil.copytree(left / library, kept / library)
-            (kept / "stamp").mkdir(exist_ok=True)
-            shutil.copyfile(left / stamp, kept / stamp)
-
     def leave(self, crate, modules):
         """The copy of a crate without code and without these modules."""
         (crate / "src").mkdir()
-        (crate / "src/lib.rt").write_text("// No code.\n")
+        (crate / "src/lib.rt").write_text("// No code.\n#![tactic(auto)]\n")
         lib = crate / "specs/Lib.antt"
         for module in modules:
             (crate / "specs" / f"{module}.antt").unlink()
@@ -89,8 +78,7 @@ class Checker:
     def evaluate(self, text):
         """The refused equations of a module, as pairs of the history's number and the rest of the name."""
         (self.definition / "Equations.antt").write_text(equations.USES + text, encoding="utf-8")
-        alone = {**os.environ, "RT_JOBS": "1"}
-        run = subprocess.run(["rt", "check", CRATE], cwd=self.folder, capture_output=True, text=True, env=alone)
+        run = subprocess.run(["rt", "check", "--jobs", "1"], cwd=self.folder / "crates" / CRATE, capture_output=True, text=True)
         said = run.stdout + run.stderr
         refused = [(int(number), rest) for number, rest in REFUSED.findall(said)]
         if len(ERROR.findall(said)) != len(refused) or (run.returncode != 0) != bool(refused):

@@ -13,18 +13,14 @@ SETTINGS = (
 )
 
 USES = """\
-use Prim.Native.Nat.{ℕ}
-use mathlib.Core.Path.{_≡_, refl}
-use mathlib.Core.Bool.{Bool, true, false}
-use mathlib.Core.List.{List, [], _∷_}
-use mathlib.Core.Option.{none, some}
-use lib.ListN.{replicate, drop}
-use lib.Count.{ones, onesIn}
-use Rattle·base_timing.specs.declared.Config.{Config}
-use Rattle·spec_hyparview·specs.specs.Station.{Station, automatic, requests-left, recovery}
-use Rattle·spec_hyparview·specs.specs.Setters.{set-next-request, set-next-join, set-passes-alone, set-passes-short}
-use Rattle·spec_hyparview·specs.specs.Handle.{Result, Made, zero-station, new}
-use Rattle·spec_hyparview·specs.specs.Traced.{traced}
+use mathlib.Core.Path.{refl}
+use Rattle.std.specs.Prelude.{ℕ, ◌≡◌, Bool, true, false, List, [], ◌∷◌, replicate, drop}
+use Rattle.std.proofs.Math.Option.{none, some}
+use Rattle.base_timing.specs.declared.Config.{Config}
+use Rattle.spec_hyparview.specs.Station.{Station, automatic, requests_left, recovery}
+use Rattle.spec_hyparview.specs.Setters.{set_next_request, set_next_join, set_passes_alone, set_passes_short}
+use Rattle.spec_hyparview.specs.Handle.{Result, Made, zero_station, new}
+use Rattle.spec_hyparview.specs.Traced.{traced}
 """
 
 
@@ -47,7 +43,7 @@ def pairs(text, value=str):
 
 
 def refill(text):
-    return {"A": "automatic", "R": f"requests-left {text[1:]}", "V": "recovery"}[text[0]]
+    return {"A": "automatic", "R": f"requests_left {text[1:]}", "V": "recovery"}[text[0]]
 
 
 def state_fields(history, config, state):
@@ -55,21 +51,21 @@ def state_fields(history, config, state):
     own = state["me"]
     return {
         "me": history.me,
-        "own-data": "none" if own == "-" else f"some ({hex_bytes(own[1:])})",
+        "own_data": "none" if own == "-" else f"some ({hex_bytes(own[1:])})",
         "active": numbers(items(state["active"])),
         "passive": numbers(items(state["passive"])),
         "config": config,
         "scheduled": ("false", "true")[int(state["timers"])],
-        "next-interval": state["interval"],
+        "next_interval": state["interval"],
         "bootstrap": numbers(items(state["bootstrap"])),
-        "passes-alone": state["alone"],
-        "passes-short": state["short"],
+        "passes_alone": state["alone"],
+        "passes_short": state["short"],
         "recent": numbers(items(state["recent"])),
         "requests": pairs(state["requests"]),
-        "next-request": state["next_request"],
+        "next_request": state["next_request"],
         "joins": pairs(state["joins"]),
-        "next-join": state["next_join"],
-        "peer-data": pairs(state["data"], hex_bytes),
+        "next_join": state["next_join"],
+        "peer_data": pairs(state["data"], hex_bytes),
         "alive": numbers(items(state["alive"])),
         "refused": numbers(items(state["refused"])),
         "refill": refill(state["refill"]),
@@ -86,13 +82,13 @@ def abbreviation(name, kind, value):
 
 
 def equation(name, left, right):
-    return f"\n{name} : {left} ≡ {right}\nunfolding traced ones onesIn\n{name} = refl\n"
+    return f"\n{name} : {left} ≡ {right}\nunfolding traced\n{name} = refl\n"
 
 
 def first_state(history, made):
     """What `new` hands back, with the counters that the history starts with."""
-    setters = ("set-next-request", "set-next-join", "set-passes-alone", "set-passes-short")
-    state = f"{made} .state"
+    setters = ("set_next_request", "set_next_join", "set_passes_alone", "set_passes_short")
+    state = f"{made}.state"
     for setter, value in zip(setters, history.counters):
         if value:
             state = f"{setter} {value} ({state})"
@@ -101,13 +97,13 @@ def first_state(history, made):
 
 def beginning(name, history, code):
     """The settings, the draws, the equation for `new` and the first state."""
-    config = record({f"«{setting}»": value for setting, value in zip(SETTINGS, history.settings)})
-    made = f"new {history.me} none {name}c"
+    config = record({setting: value for setting, value in zip(SETTINGS, history.settings)})
+    made = f"(new {history.me} none {name}c)"
     return (
         abbreviation(f"{name}c", "Config", config)
         + abbreviation(f"{name}d", "List ℕ", numbers(history.draws))
-        + equation(f"{name}new", f"{made} .code", str(code))
-        + abbreviation(f"{name}s0", "Station", first_state(history, f"({made})"))
+        + equation(f"{name}new", f"{made}.code", str(code))
+        + abbreviation(f"{name}s0", "Station", first_state(history, made))
     )
 
 
@@ -123,7 +119,7 @@ def answer_fields(name, history, index, answer):
 def history_text(name, history, answers):
     """An equation NAMEnew for `new`, and NAMEeK for each event K."""
     if answers is None:
-        zeroes = equation(f"{name}zeroes", f"new {history.me} none {name}c .state", "zero-station")
+        zeroes = equation(f"{name}zeroes", f"(new {history.me} none {name}c).state", "zero_station")
         return beginning(name, history, 1) + zeroes
     text, drawn = [beginning(name, history, 0)], 0
     for index, answer in enumerate(answers):
@@ -142,8 +138,8 @@ def fields_text(name, history, answers, index):
     parts = answer_fields(name, history, index, answers[index])
     state = state_fields(history, f"{name}c", answers[index].state)
     del parts["state"]
-    parts.update((f"state .{field}", value) for field, value in state.items())
+    parts.update((f"state.{field}", value) for field, value in state.items())
     text = history_text(name, history, answers[:index])
     for number, (field, value) in enumerate(parts.items()):
-        text += equation(f"{name}f{number}", f"{left} .{field}", value)
+        text += equation(f"{name}f{number}", f"{left}.{field}", value)
     return text, list(parts)

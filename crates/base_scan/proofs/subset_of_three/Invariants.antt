@@ -1,0 +1,15 @@
+-- As for `subset`, over the three lists in a row: a hinted word is in the list that its place falls into, by cases.
+use Prim.Native.Nat.{◌-◌}
+use lib.ListN.{length}
+use mathlib.Core.Path.{◌≡◌}
+use mathlib.Core.List.{◌++◌}
+use Rattle.base_lists.specs.Lists.{subset}
+use Rattle.base_scan.proofs.Tests.{is_in}
+use Rattle.base_scan.proofs.Loops.{Left, Every}
+use Rattle.base_scan.proofs.subset_of_three.Given as goal
+
+abbrev pub invariant-loop-i : goal.invariant-loop-i
+invariant-loop-i l = (length l.hints ≡ 256) × Left (Every (is_in (l.b ++ (l.c ++ l.d)))) l.a (subset l.a (l.b ++ (l.c ++ l.d))) l.ok l.i
+
+abbrev pub decreases-loop-i : goal.decreases-loop-i
+decreases-loop-i l = length l.a - l.i

@@ -1,0 +1,6 @@
+-- The contract of `put_header` with no nodes and a length of the header alone is that of the whole record.
+use Rattle.record_writer.proofs.Ways.{done_bare}
+use Rattle.record_writer.proofs.write_bare.Goals as goal
+
+pub returns : goal.returns
+returns c = search done_bare

@@ -1,0 +1,7 @@
+-- A line written from place 0 into enough space stands whole at the front, and the place reached is its length.
+use borrow.Author.Rules.{rules}
+use Rattle.run_listing.proofs.Stream.{end_fronts}
+use Rattle.run_listing.proofs.end_line.Goals as goal
+
+pub returns : goal.returns
+returns c = search (end_fronts, rules)

@@ -1,0 +1,12 @@
+-- By cases on what `find_due` found: its place is below the count, so that entry is removed; otherwise nothing changes.
+use Rattle.timer_map.proofs.Ways.{place_below, pop_taken, pop_none}
+use Rattle.timer_map.proofs.pop_ok.Goals as goal
+
+pub remove_entry-requires-clause-i_bound : goal.remove_entry-requires-clause-i_bound
+remove_entry-requires-clause-i_bound c = search place_below
+
+pub returns-then-d : goal.returns-then-d
+returns-then-d c = search pop_taken
+
+pub returns : goal.returns
+returns c = search pop_none

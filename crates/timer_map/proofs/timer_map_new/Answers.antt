@@ -1,0 +1,9 @@
+-- By cases on the length: the wrong one is refused, and with the right one zeroes are the empty queue.
+use Rattle.timer_map.proofs.Ways.{new_broken, new_done}
+use Rattle.timer_map.proofs.timer_map_new.Goals as goal
+
+pub returns-then-q-ne-WORDS : goal.returns-then-q-ne-WORDS
+returns-then-q-ne-WORDS c = search new_broken
+
+pub returns : goal.returns
+returns c = search new_done

@@ -1,0 +1,6 @@
+-- Zeroes behind the first n rows and the count n pack the first n entries, by `truncate_law`.
+use Rattle.timer_map.proofs.Pack.{truncate_law}
+use Rattle.timer_map.proofs.truncate_entries.Goals as goal
+
+pub returns : goal.returns
+returns c = search truncate_law

@@ -1,0 +1,7 @@
+-- The fields are those of a notice with a node.
+use Rattle.record_writer.specs.Write.{rec_in}
+use Rattle.work.proofs.notify_node.Goals as goal
+
+pub returns : goal.returns
+unfolding rec_in
+returns c = c.emit_one.ensures

@@ -1,0 +1,7 @@
+-- The fields are those of a message with one node.
+use Rattle.record_writer.specs.Write.{rec_in}
+use Rattle.work.proofs.send_node.Goals as goal
+
+pub returns : goal.returns
+unfolding rec_in
+returns c = c.emit_one.ensures
