@@ -2,7 +2,7 @@
 -- Assumes nothing.
 use Prim.Native.Nat.{ℕ, zero, suc, ◌+◌, ◌-◌, ◌*◌, ◌%◌, ◌≤◌, ◌<◌}
 use mathlib.Core.Path.{◌≡◌, refl, sym, ap, subst, ◌∙◌}
-use mathlib.Core.Bool.{true, ◌&&◌}
+use mathlib.Core.Bool.{◌&&◌}
 use mathlib.Core.List.{List, [], ◌∷◌, ◌++◌, map}
 use native.Mathlib.Nat.{pos_of_ne-zero}
 use native.Mathlib.Numerals.{add-one}
@@ -19,7 +19,7 @@ use Rattle.hyparview.specs.Queries.{neighbors_in, spare_addresses_in}
 use Rattle.hyparview.specs.declared.State.{State}
 use Rattle.endings.specs.declared.Ends.{Ends}
 use Rattle.endings.specs.Events.{quit, events, event_at, event_records, after_history}
-use Rattle.endings.specs.Ends.{Sizes, how_many, digest_end, next_byte, next_number, number_from, next_digest, digest_from, count_ends}
+use Rattle.endings.specs.Ends.{how_many, digest_end, next_byte, next_number, number_from, next_digest, digest_from, count_ends}
 use Rattle.endings.specs.Steps.{first_state, played, sizes_in, one_more, counted_on, CountRoom}
 use Rattle.endings.proofs.Different.{sixteen}
 

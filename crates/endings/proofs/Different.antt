@@ -1,9 +1,7 @@
 -- The sixteen events differ, so each history of them stands in the list exactly one time and in its order: by evaluating their records.
 -- Assumes nothing.
-use Prim.Native.Nat.{ℕ}
 use mathlib.Core.Path.{◌≡◌, refl}
 use mathlib.Core.Bool.{true}
-use mathlib.Core.List.{List}
 use lib.ListN.{length}
 use Rattle.base_lists.specs.Bytes.{le}
 use Rattle.base_lists.specs.Lists.{choose, same}

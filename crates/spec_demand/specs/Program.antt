@@ -126,18 +126,18 @@ abbrev pub PinsStay : Type 0
 PinsStay = PinsStayOf program unpack
 
 -- at the station s a ForwardJoin that is neither answered nor dropped finds a neighbour other than its sender: the Rust's `unreachable!` is not reached
-abbrev pub Goes_on : Station → Type 0
-Goes_on s =
+abbrev pub GoesOn : Station → Type 0
+GoesOn s =
     (ds : List ℕ) (room from : ℕ) (n : Node) (ttl : ℕ) → ends_here n.id ttl s ≡ false
     → null (without from (learn_joiner n ttl (Handle.start s ds room)).station.active) ≡ false
 
 -- of words that keep the rules
 abbrev pub NeverUnreachable : Type 0
-NeverUnreachable = (xs : List ℕ) → state_ok xs ≡ true → Goes_on (unpack xs)
+NeverUnreachable = (xs : List ℕ) → state_ok xs ≡ true → GoesOn (unpack xs)
 
 -- of a machine: after every list of calls to a new station
 abbrev pub GoesOnOf : {G S : Type 0} → Machine G S → (S → Station) → Type 0
-GoesOnOf m station = AfterNew m (λ me c s. (vs : List Call) → Goes_on (station (state_after m vs s)))
+GoesOnOf m station = AfterNew m (λ me c s. (vs : List Call) → GoesOn (station (state_after m vs s)))
 
 -- and so of the program
 abbrev pub NeverUnreachableAfter : Type 0

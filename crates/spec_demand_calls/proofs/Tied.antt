@@ -1,4 +1,4 @@
--- The contracts of the two exported functions are the definitions that the claims over C calls speak of, and ask nothing of the caller: one that said less, or asked more, would not be admitted here.
+-- The contracts of `hyparview_new` and `hyparview_handle`, which the exported functions have too (controller_c/proofs/Tied), are the definitions that the claims over C calls speak of, and ask nothing of the caller: one that said less, or asked more, would not be admitted here.
 -- Assumes nothing.
 use mathlib.Core.Path.{◌≡◌, refl}
 use Prim.Native.Nat.{ℕ}

@@ -1,5 +1,5 @@
 -- What is claimed of the calls from C: of every list of calls of `hyparview_handle`, from the words and the tally that `hyparview_new` filled.
--- `memory_made` and `memory_outcome` are what the contracts of the two exported functions say; the check ties them to the claims by `new_says` and `handle_says`.
+-- `memory_made` and `memory_outcome` are what the contracts of the two functions say; the check ties them to the claims by `new_says` and `handle_says`, and the exported functions' to them by `new_same` and `handle_same` (controller_c).
 -- Assumes nothing.
 use Rattle.std.specs.Prelude.{ℕ, ◌≤◌, ◌≡◌, Bool, true, not, List, length, take, replicate, get_or, eqb}
 use Rattle.base_timing.specs.declared.Config.{Config}
@@ -25,7 +25,7 @@ use Rattle.hyparview_state.specs.Unpack.{unpack}
 use Rattle.hyparview_rules.specs.Ok.{state_ok}
 use Rattle.hyparview.specs.Made.{lent}
 use Rattle.controller.specs.Calls.{Begun, begun, Called, called}
-use Rattle.spec_demand.specs.Program.{Suffices, Goes_on, GoesOnOf}
+use Rattle.spec_demand.specs.Program.{Suffices, GoesOn, GoesOnOf}
 
 -- what a caller in C lends, and keeps between calls
 pub record LentMemory : Type 0 where
@@ -130,7 +130,7 @@ PinsStay = PinsStayOf c_calls station_in
 
 -- the Rust's `unreachable!` is not reached at words that keep the rules
 abbrev pub NeverUnreachable : Type 0
-NeverUnreachable = (x : LentMemory) → memory_passes x ≡ true → Goes_on (station_in x)
+NeverUnreachable = (x : LentMemory) → memory_passes x ≡ true → GoesOn (station_in x)
 
 -- and so after every list of calls
 abbrev pub NeverUnreachableAfter : Type 0

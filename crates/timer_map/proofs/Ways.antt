@@ -113,7 +113,7 @@ due_fits time delay n code e z = record { fits = omega (arith, (accepted time de
 pub room_left : (time delay n code : ℕ) → code ≡ insert_refusal time delay n → code ≡ 0 → n < 64
 room_left time delay n code e z = (accepted time delay n (sym e ∙ z)).room
 
--- ---- the exported functions: the rules are asked first
+-- ---- the functions that C calls: the rules are asked first
 
 module _ (ws : List ℕ) (b : Bool) (e : b ≡ queue_ok ws) where
   pub sound_asked : b ≡ true → SoundQueue ws

@@ -9,8 +9,6 @@ use Rattle.run_walk.proofs.Laws.{From, from_within, from_past, rest_is, size_lef
 use Rattle.run_walk.proofs.step.Goals as goal
 use Rattle.run_walk.proofs.step.Goals.{then-at-end, else-at-end}
 
--- TODO path c.rest_from-left.ensures
-
 -- The place that the events are cut from.
 cut_from : (c : goal.After-row_known-1) → From c.args.events.now c.args.p.at c.if-at-end.from
 cut_from c = elim c.if-at-end.branch [ then-at-end w ↦ from_within _ _ _ w.if-at-end.true w.from-is | else-at-end w ↦ from_past _ _ _ w.if-at-end.false w.from-is ]
