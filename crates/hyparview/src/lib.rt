@@ -3,7 +3,7 @@
 
 ghost use Rattle.std.specs.Prelude.{◌≡◌, ◌&&◌, ◌≤◌, length, get_or};
 ghost use Rattle.spec_hyparview.specs.Handle.{new_station};
-ghost use Rattle.spec_hyparview.specs.Sides.{radio as radio-side, side_of, too_many};
+ghost use Rattle.spec_hyparview.specs.Sides.{radio as radio_side, side_of, too_many};
 ghost use Rattle.hyparview_rules.specs.Ok.{state_ok};
 ghost use Rattle.hyparview.specs.Made.{Starts, StartsState};
 ghost use Rattle.hyparview.specs.Handled.{cleared, Refuses, Handles, HandlesState, HandlesFrom, HandlesStateFrom};
@@ -270,7 +270,7 @@ fn is_barred(st: &[u64], b: &[u8]) -> bool
 
 // One event from the radio side, which brings few nodes and reads few draws.
 fn handle_radio(st: &mut [u64], b: &[u8], draws: &[u32], out: &mut [u8]) -> Done
-    ensures { HandlesFrom radio-side result st b draws out }
+    ensures { HandlesFrom radio_side result st b draws out }
 {
     if is_barred(st, b) {
         return refuse(st, out, Refusal::RADIO_NODES);

@@ -1,7 +1,5 @@
 -- The first i bytes are the old ones up to `from` and zeroes after them. The measure is what is left.
-use Prim.Native.Nat.{◌-◌}
-use lib.ListN.{length}
-use Rattle.hyparview.proofs.Copies.{Clearing, clear_start, clear_next, clear_end}
+use Rattle.hyparview.proofs.Copies.{clear_start, clear_next, clear_end}
 use borrow.Author.Rules.{rules}
 use Rattle.hyparview.proofs.clear_output.Goals as goal
 

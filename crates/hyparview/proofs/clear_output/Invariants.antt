@@ -1,8 +1,7 @@
 -- The first i bytes are the old ones up to `from` and zeroes after them. The measure is what is left.
 use Prim.Native.Nat.{◌-◌}
 use lib.ListN.{length}
-use Rattle.hyparview.proofs.Copies.{Clearing, clear_start, clear_next, clear_end}
-use borrow.Author.Rules.{rules}
+use Rattle.hyparview.proofs.Copies.{Clearing}
 use Rattle.hyparview.proofs.clear_output.Given as goal
 
 abbrev pub invariant-loop-i : goal.invariant-loop-i

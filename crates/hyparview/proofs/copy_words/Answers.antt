@@ -1,8 +1,5 @@
 -- The first i words of both lists are the same. The measure is what is left.
-use Prim.Native.Nat.{◌-◌}
-use lib.ListN.{length}
-use Rattle.hyparview.proofs.Copies.{Copying, copy_start, copy_next, copy_end}
-use borrow.Author.Rules.{rules}
+use Rattle.hyparview.proofs.Copies.{copy_start, copy_next, copy_end}
 use Rattle.hyparview.proofs.copy_words.Goals as goal
 
 pub loop-i-init : goal.loop-i-init

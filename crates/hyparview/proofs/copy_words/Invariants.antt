@@ -1,8 +1,7 @@
 -- The first i words of both lists are the same. The measure is what is left.
 use Prim.Native.Nat.{◌-◌}
 use lib.ListN.{length}
-use Rattle.hyparview.proofs.Copies.{Copying, copy_start, copy_next, copy_end}
-use borrow.Author.Rules.{rules}
+use Rattle.hyparview.proofs.Copies.{Copying}
 use Rattle.hyparview.proofs.copy_words.Given as goal
 
 abbrev pub invariant-loop-i : goal.invariant-loop-i

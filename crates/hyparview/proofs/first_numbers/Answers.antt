@@ -1,6 +1,5 @@
 -- Valid own data is its two words, and the interval the shorter of two, so the list is the front of a new station, in the layout's order.
 use Rattle.hyparview.proofs.Making.{numbers_are}
-use borrow.Author.Rules.{rules}
 use Rattle.hyparview.proofs.first_numbers.Goals as goal
 
 pub returns : goal.returns

@@ -4,7 +4,6 @@ use mathlib.Core.Path.{◌≡◌, ap}
 use mathlib.Core.Bool.{true, not}
 use native.Mathlib.Omega.{arith}
 use lib.ListN.{length}
-use Rattle.record.specs.declared.Header.{Header}
 use Rattle.spec_hyparview.specs.Station.{peers_end}
 use Rattle.hyparview_state.specs.Layout.{words}
 use Rattle.hyparview_rules.specs.Ok.{state_ok}

@@ -1,6 +1,5 @@
 -- The side that is named decides which of the two calls it is.
 use Rattle.hyparview.proofs.Sides.{from_radio, from_wired}
-use borrow.Author.Rules.{rules}
 use Rattle.hyparview.proofs.handle_from.Goals as goal
 
 pub returns-then-radio : goal.returns-then-radio

@@ -1,6 +1,5 @@
 -- By cases: an event shorter than its header, or both comparisons of its byte.
 use Rattle.hyparview.proofs.Sides.{too_short, by_count}
-use borrow.Author.Rules.{rules}
 use Rattle.hyparview.proofs.has_too_many.Goals as goal
 
 pub returns-then-b-lt-HEADER : goal.returns-then-b-lt-HEADER

@@ -1,6 +1,5 @@
 -- By cases of the first test.
 use Rattle.hyparview.proofs.Sides.{barred_by, barred_not}
-use borrow.Author.Rules.{rules}
 use Rattle.hyparview.proofs.is_barred.Goals as goal
 
 pub returns-then-has_too_many : goal.returns-then-has_too_many

@@ -1,6 +1,5 @@
 -- By cases: words that keep the rules are packed, so `in_active` answers; by any others nobody is a neighbor.
 use Rattle.hyparview.proofs.Asked.{ok_packed, ok_long, met, met_not}
-use borrow.Author.Rules.{rules}
 use Rattle.hyparview.proofs.is_neighbor.Goals as goal
 
 pub in_active-requires-clause-st_len : goal.in_active-requires-clause-st_len

@@ -1,7 +1,7 @@
 -- By cases: words that keep the rules are packed, so the section's count is the view's length; any others have no neighbor.
 use Rattle.hyparview.proofs.Asked.{ok_room, ok_packed, counted, counted_none}
 use Rattle.base_util.specs.Section.{part}
-use Rattle.hyparview_state.proofs.Access.{of_packed, of_active}
+use Rattle.hyparview_state.proofs.Access.{of_active}
 use borrow.Author.Rules.{rules}
 use Rattle.hyparview.proofs.neighbor_count.Goals as goal
 

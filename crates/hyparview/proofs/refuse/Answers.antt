@@ -1,5 +1,4 @@
 -- Clearing the output from 0 on leaves zeroes only, which is the refusal's output.
-use borrow.Author.Rules.{rules}
 use Rattle.hyparview.proofs.Laws.{all_zero}
 use Rattle.hyparview.proofs.refuse.Goals as goal
 

@@ -1,7 +1,7 @@
 -- By cases: words that keep the rules are packed, so the section's count is the passive view's length; any others have none.
 use Rattle.hyparview.proofs.Asked.{ok_room, ok_packed, spares, spares_none}
 use Rattle.base_util.specs.Section.{part}
-use Rattle.hyparview_state.proofs.Access.{of_packed, of_passive}
+use Rattle.hyparview_state.proofs.Access.{of_passive}
 use borrow.Author.Rules.{rules}
 use Rattle.hyparview.proofs.spare_addresses.Goals as goal
 

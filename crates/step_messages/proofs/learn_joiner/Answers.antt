@@ -1,6 +1,5 @@
 -- By cases of the walk's length: the joiner is added to the passive view, or the work stays as it is.
 use Rattle.step_messages.proofs.Laws.{joiner_learned, joiner_unlearned}
-use borrow.Author.Rules.{rules}
 use Rattle.step_messages.proofs.learn_joiner.Goals as goal
 
 pub returns-then-ttl-st : goal.returns-then-ttl-st

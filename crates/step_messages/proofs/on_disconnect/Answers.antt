@@ -1,13 +1,10 @@
 -- Join, recent place and request of p go as one change; then by cases a neighbor, a live peer in the passive view or not, and one gone for good.
-use mathlib.Core.Logic.{⊎_elim}
 use native.Mathlib.Omega.{arith}
 use Rattle.base_util.specs.Section.{part}
 use Rattle.spec_hyparview.specs.Run.{on}
-use Rattle.spec_hyparview.specs.Budgets.{leaving}
 use Rattle.spec_hyparview.specs.Messages.{drop_join, drop_request, drop_recent, forget_recent}
-use Rattle.step_messages.specs.Between.{Between}
 use Rattle.hyparview_state.specs.Unpack.{unpack, station_of, long}
-use Rattle.hyparview_state.specs.Work.{work_of, run, Changes, Fine}
+use Rattle.hyparview_state.specs.Work.{work_of, Changes}
 use Rattle.hyparview_state.proofs.Access.{of_packed}
 use Rattle.hyparview_state.proofs.Bridge.{on_done}
 use Rattle.hyparview_state.proofs.Fields.{put_recent}
@@ -16,235 +13,90 @@ use Rattle.step_messages.proofs.Laws.{words_as, recent_code, recent_gone, recent
 use Rattle.step_messages.proofs.Between.{between_calm, between_mark, neighbor_lost, other_lost, open_forgotten, ended_between, disconnect_done}
 use borrow.Author.Rules.{rules}
 use Rattle.step_messages.proofs.on_disconnect.Goals as goal
-use Rattle.step_messages.proofs.on_disconnect.Goals.{then-alive-closed, else-alive-closed}
+use Rattle.step_messages.proofs.on_disconnect.Goals.{Joined-alive-closed, After-drop_request-ended, then-alive-closed, else-alive-closed}
 
 -- The recent neighbors, which p leaves where it went away for good.
-recent : (c : goal.After-drop_request-arg-1) → Changes (forget_recent c.args.p c.args.alive) (work_of c.drop_join-closed.result c.drop_join-closed.new.st) (work_of c.drop_join-closed.result c.if-alive-closed.st)
+recent : (c : Joined-alive-closed) → Changes (forget_recent c.args.p c.args.alive) (work_of c.drop_join-closed.result c.drop_join-closed.new.st) (work_of c.drop_join-closed.result c.if-alive-closed.st)
 unfolding drop_recent unpack station_of part
 recent c =
     let packed = c.drop_join-closed.ensures.packed in
     elim c.if-alive-closed.branch [ then-alive-closed s ↦ words_as _ _ _ _ _ s.st-is (recent_gone _ _ _ _ s.if-alive-closed.true (on_done _ packed _ _ (recent_code (work_of c.drop_join-closed.result c.drop_join-closed.new.st) c.args.p c.args.alive s.if-alive-closed.true) (put_recent s.without.ensures))) | else-alive-closed s ↦ words_as _ _ _ _ _ s.st-is (recent_kept _ _ _ packed s.if-alive-closed.false) ]
 
--- The recent_2 neighbors, which p leaves where it went away for good.
-recent_2 : (c : goal.After-slice_known-4-1) → Changes (forget_recent c.args.p c.args.alive) (work_of c.drop_join-closed.result c.drop_join-closed.new.st) (work_of c.drop_join-closed.result c.if-alive-closed.st)
+recent_then : (c : After-drop_request-ended) → Changes (forget_recent c.args.p c.args.alive) (work_of c.drop_join-closed.result c.drop_join-closed.new.st) (work_of c.drop_join-closed.result c.if-alive-closed.st)
 unfolding drop_recent unpack station_of part
-recent_2 c =
+recent_then c =
     let packed = c.drop_join-closed.ensures.packed in
     elim c.if-alive-closed.branch [ then-alive-closed s ↦ words_as _ _ _ _ _ s.st-is (recent_gone _ _ _ _ s.if-alive-closed.true (on_done _ packed _ _ (recent_code (work_of c.drop_join-closed.result c.drop_join-closed.new.st) c.args.p c.args.alive s.if-alive-closed.true) (put_recent s.without.ensures))) | else-alive-closed s ↦ words_as _ _ _ _ _ s.st-is (recent_kept _ _ _ packed s.if-alive-closed.false) ]
 
-ended : (c : goal.After-slice_known-4-1) → Changes (λ g. on (drop_request c.args.p) (forget_recent c.args.p c.args.alive (on (drop_join c.args.p) g))) (work_of c.args.w c.args.st.now) (work_of c.drop_request-ended.result c.drop_request-ended.new.st)
-ended c = open_forgotten _ _ _ _ _ _ c.drop_request-ended.ensures (recent_2 c) c.drop_join-closed.ensures
-
--- The recent_3 neighbors, which p leaves where it went away for good.
-recent_3 : (c : goal.After-remove_active-arg-then-in_active-1) → Changes (forget_recent c.args.p c.args.alive) (work_of c.drop_join-closed.result c.drop_join-closed.new.st) (work_of c.drop_join-closed.result c.if-alive-closed.st)
-unfolding drop_recent unpack station_of part
-recent_3 c =
-    let packed = c.drop_join-closed.ensures.packed in
-    elim c.if-alive-closed.branch [ then-alive-closed s ↦ words_as _ _ _ _ _ s.st-is (recent_gone _ _ _ _ s.if-alive-closed.true (on_done _ packed _ _ (recent_code (work_of c.drop_join-closed.result c.drop_join-closed.new.st) c.args.p c.args.alive s.if-alive-closed.true) (put_recent s.without.ensures))) | else-alive-closed s ↦ words_as _ _ _ _ _ s.st-is (recent_kept _ _ _ packed s.if-alive-closed.false) ]
-
-ended_2 : (c : goal.After-remove_active-arg-then-in_active-1) → Changes (λ g. on (drop_request c.args.p) (forget_recent c.args.p c.args.alive (on (drop_join c.args.p) g))) (work_of c.args.w c.args.st.now) (work_of c.drop_request-ended.result c.drop_request-ended.new.st)
-ended_2 c = open_forgotten _ _ _ _ _ _ c.drop_request-ended.ensures (recent_3 c) c.drop_join-closed.ensures
-
--- What on_disconnect was given.
-fine : (c : goal.After-remove_active-arg-then-in_active-1) → Fine (work_of c.args.w c.args.st.now) c.args.draws.now c.args.out.now
-fine c = c.requires.given
-
-between : (c : goal.After-remove_active-arg-then-in_active-1) → Between 0 leaving 1 (run (work_of c.args.w c.args.st.now) c.args.draws.now c.args.out.now)
-between c = c.requires.meets
-
--- The recent_4 neighbors, which p leaves where it went away for good.
-recent_4 : (c : goal.After-slice_known-then-in_active-2-1) → Changes (forget_recent c.args.p c.args.alive) (work_of c.drop_join-closed.result c.drop_join-closed.new.st) (work_of c.drop_join-closed.result c.if-alive-closed.st)
-unfolding drop_recent unpack station_of part
-recent_4 c =
-    let packed = c.drop_join-closed.ensures.packed in
-    elim c.if-alive-closed.branch [ then-alive-closed s ↦ words_as _ _ _ _ _ s.st-is (recent_gone _ _ _ _ s.if-alive-closed.true (on_done _ packed _ _ (recent_code (work_of c.drop_join-closed.result c.drop_join-closed.new.st) c.args.p c.args.alive s.if-alive-closed.true) (put_recent s.without.ensures))) | else-alive-closed s ↦ words_as _ _ _ _ _ s.st-is (recent_kept _ _ _ packed s.if-alive-closed.false) ]
-
-ended_3 : (c : goal.After-slice_known-then-in_active-2-1) → Changes (λ g. on (drop_request c.args.p) (forget_recent c.args.p c.args.alive (on (drop_join c.args.p) g))) (work_of c.args.w c.args.st.now) (work_of c.drop_request-ended.result c.drop_request-ended.new.st)
-ended_3 c = open_forgotten _ _ _ _ _ _ c.drop_request-ended.ensures (recent_4 c) c.drop_join-closed.ensures
-
--- What on_disconnect was given.
-fine_2 : (c : goal.After-slice_known-then-in_active-2-1) → Fine (work_of c.args.w c.args.st.now) c.args.draws.now c.args.out.now
-fine_2 c = c.requires.given
-
--- The recent_5 neighbors, which p leaves where it went away for good.
-recent_5 : (c : goal.After-note_refusal-arg-1) → Changes (forget_recent c.args.p c.args.alive) (work_of c.drop_join-closed.result c.drop_join-closed.new.st) (work_of c.drop_join-closed.result c.if-alive-closed.st)
-unfolding drop_recent unpack station_of part
-recent_5 c =
-    let packed = c.drop_join-closed.ensures.packed in
-    elim c.if-alive-closed.branch [ then-alive-closed s ↦ words_as _ _ _ _ _ s.st-is (recent_gone _ _ _ _ s.if-alive-closed.true (on_done _ packed _ _ (recent_code (work_of c.drop_join-closed.result c.drop_join-closed.new.st) c.args.p c.args.alive s.if-alive-closed.true) (put_recent s.without.ensures))) | else-alive-closed s ↦ words_as _ _ _ _ _ s.st-is (recent_kept _ _ _ packed s.if-alive-closed.false) ]
-
-ended_4 : (c : goal.After-note_refusal-arg-1) → Changes (λ g. on (drop_request c.args.p) (forget_recent c.args.p c.args.alive (on (drop_join c.args.p) g))) (work_of c.args.w c.args.st.now) (work_of c.drop_request-ended.result c.drop_request-ended.new.st)
-ended_4 c = open_forgotten _ _ _ _ _ _ c.drop_request-ended.ensures (recent_5 c) c.drop_join-closed.ensures
-
--- The recent_6 neighbors, which p leaves where it went away for good.
-recent_6 : (c : goal.After-slice_known-then-alive-1) → Changes (forget_recent c.args.p c.args.alive) (work_of c.drop_join-closed.result c.drop_join-closed.new.st) (work_of c.drop_join-closed.result c.if-alive-closed.st)
-unfolding drop_recent unpack station_of part
-recent_6 c =
-    let packed = c.drop_join-closed.ensures.packed in
-    elim c.if-alive-closed.branch [ then-alive-closed s ↦ words_as _ _ _ _ _ s.st-is (recent_gone _ _ _ _ s.if-alive-closed.true (on_done _ packed _ _ (recent_code (work_of c.drop_join-closed.result c.drop_join-closed.new.st) c.args.p c.args.alive s.if-alive-closed.true) (put_recent s.without.ensures))) | else-alive-closed s ↦ words_as _ _ _ _ _ s.st-is (recent_kept _ _ _ packed s.if-alive-closed.false) ]
-
-ended_5 : (c : goal.After-slice_known-then-alive-1) → Changes (λ g. on (drop_request c.args.p) (forget_recent c.args.p c.args.alive (on (drop_join c.args.p) g))) (work_of c.args.w c.args.st.now) (work_of c.drop_request-ended.result c.drop_request-ended.new.st)
-ended_5 c = open_forgotten _ _ _ _ _ _ c.drop_request-ended.ensures (recent_6 c) c.drop_join-closed.ensures
-
--- The recent_7 neighbors, which p leaves where it went away for good.
-recent_7 : (c : goal.After-mark_alive-arg-1) → Changes (forget_recent c.args.p c.args.alive) (work_of c.drop_join-closed.result c.drop_join-closed.new.st) (work_of c.drop_join-closed.result c.if-alive-closed.st)
-unfolding drop_recent unpack station_of part
-recent_7 c =
-    let packed = c.drop_join-closed.ensures.packed in
-    elim c.if-alive-closed.branch [ then-alive-closed s ↦ words_as _ _ _ _ _ s.st-is (recent_gone _ _ _ _ s.if-alive-closed.true (on_done _ packed _ _ (recent_code (work_of c.drop_join-closed.result c.drop_join-closed.new.st) c.args.p c.args.alive s.if-alive-closed.true) (put_recent s.without.ensures))) | else-alive-closed s ↦ words_as _ _ _ _ _ s.st-is (recent_kept _ _ _ packed s.if-alive-closed.false) ]
-
-ended_6 : (c : goal.After-mark_alive-arg-1) → Changes (λ g. on (drop_request c.args.p) (forget_recent c.args.p c.args.alive (on (drop_join c.args.p) g))) (work_of c.args.w c.args.st.now) (work_of c.drop_request-ended.result c.drop_request-ended.new.st)
-ended_6 c = open_forgotten _ _ _ _ _ _ c.drop_request-ended.ensures (recent_7 c) c.drop_join-closed.ensures
-
-between_2 : (c : goal.After-mark_alive-arg-1) → Between 0 leaving 1 (run (work_of c.args.w c.args.st.now) c.args.draws.now c.args.out.now)
-between_2 c = c.requires.meets
-
--- The recent_8 neighbors, which p leaves where it went away for good.
-recent_8 : (c : goal.After-slice_known-then-in_passive-1) → Changes (forget_recent c.args.p c.args.alive) (work_of c.drop_join-closed.result c.drop_join-closed.new.st) (work_of c.drop_join-closed.result c.if-alive-closed.st)
-unfolding drop_recent unpack station_of part
-recent_8 c =
-    let packed = c.drop_join-closed.ensures.packed in
-    elim c.if-alive-closed.branch [ then-alive-closed s ↦ words_as _ _ _ _ _ s.st-is (recent_gone _ _ _ _ s.if-alive-closed.true (on_done _ packed _ _ (recent_code (work_of c.drop_join-closed.result c.drop_join-closed.new.st) c.args.p c.args.alive s.if-alive-closed.true) (put_recent s.without.ensures))) | else-alive-closed s ↦ words_as _ _ _ _ _ s.st-is (recent_kept _ _ _ packed s.if-alive-closed.false) ]
-
-ended_7 : (c : goal.After-slice_known-then-in_passive-1) → Changes (λ g. on (drop_request c.args.p) (forget_recent c.args.p c.args.alive (on (drop_join c.args.p) g))) (work_of c.args.w c.args.st.now) (work_of c.drop_request-ended.result c.drop_request-ended.new.st)
-ended_7 c = open_forgotten _ _ _ _ _ _ c.drop_request-ended.ensures (recent_8 c) c.drop_join-closed.ensures
-
--- What on_disconnect was given.
-fine_3 : (c : goal.After-slice_known-then-in_passive-1) → Fine (work_of c.args.w c.args.st.now) c.args.draws.now c.args.out.now
-fine_3 c = c.requires.given
-
--- The recent_9 neighbors, which p leaves where it went away for good.
-recent_9 : (c : goal.Else-in_passive) → Changes (forget_recent c.args.p c.args.alive) (work_of c.drop_join-closed.result c.drop_join-closed.new.st) (work_of c.drop_join-closed.result c.if-alive-closed.st)
-unfolding drop_recent unpack station_of part
-recent_9 c =
-    let packed = c.drop_join-closed.ensures.packed in
-    elim c.if-alive-closed.branch [ then-alive-closed s ↦ words_as _ _ _ _ _ s.st-is (recent_gone _ _ _ _ s.if-alive-closed.true (on_done _ packed _ _ (recent_code (work_of c.drop_join-closed.result c.drop_join-closed.new.st) c.args.p c.args.alive s.if-alive-closed.true) (put_recent s.without.ensures))) | else-alive-closed s ↦ words_as _ _ _ _ _ s.st-is (recent_kept _ _ _ packed s.if-alive-closed.false) ]
-
-ended_8 : (c : goal.Else-in_passive) → Changes (λ g. on (drop_request c.args.p) (forget_recent c.args.p c.args.alive (on (drop_join c.args.p) g))) (work_of c.args.w c.args.st.now) (work_of c.drop_request-ended.result c.drop_request-ended.new.st)
-ended_8 c = open_forgotten _ _ _ _ _ _ c.drop_request-ended.ensures (recent_9 c) c.drop_join-closed.ensures
-
--- What on_disconnect was given.
-fine_4 : (c : goal.Else-in_passive) → Fine (work_of c.args.w c.args.st.now) c.args.draws.now c.args.out.now
-fine_4 c = c.requires.given
-
--- The recent_10 neighbors, which p leaves where it went away for good.
-recent_10 : (c : goal.After-drop_passive-arg-1) → Changes (forget_recent c.args.p c.args.alive) (work_of c.drop_join-closed.result c.drop_join-closed.new.st) (work_of c.drop_join-closed.result c.if-alive-closed.st)
-unfolding drop_recent unpack station_of part
-recent_10 c =
-    let packed = c.drop_join-closed.ensures.packed in
-    elim c.if-alive-closed.branch [ then-alive-closed s ↦ words_as _ _ _ _ _ s.st-is (recent_gone _ _ _ _ s.if-alive-closed.true (on_done _ packed _ _ (recent_code (work_of c.drop_join-closed.result c.drop_join-closed.new.st) c.args.p c.args.alive s.if-alive-closed.true) (put_recent s.without.ensures))) | else-alive-closed s ↦ words_as _ _ _ _ _ s.st-is (recent_kept _ _ _ packed s.if-alive-closed.false) ]
-
-ended_9 : (c : goal.After-drop_passive-arg-1) → Changes (λ g. on (drop_request c.args.p) (forget_recent c.args.p c.args.alive (on (drop_join c.args.p) g))) (work_of c.args.w c.args.st.now) (work_of c.drop_request-ended.result c.drop_request-ended.new.st)
-ended_9 c = open_forgotten _ _ _ _ _ _ c.drop_request-ended.ensures (recent_10 c) c.drop_join-closed.ensures
-
--- The recent_11 neighbors, which p leaves where it went away for good.
-recent_11 : (c : goal.After-refill_active_from_passive-arg-then-requested-2-1) → Changes (forget_recent c.args.p c.args.alive) (work_of c.drop_join-closed.result c.drop_join-closed.new.st) (work_of c.drop_join-closed.result c.if-alive-closed.st)
-unfolding drop_recent unpack station_of part
-recent_11 c =
-    let packed = c.drop_join-closed.ensures.packed in
-    elim c.if-alive-closed.branch [ then-alive-closed s ↦ words_as _ _ _ _ _ s.st-is (recent_gone _ _ _ _ s.if-alive-closed.true (on_done _ packed _ _ (recent_code (work_of c.drop_join-closed.result c.drop_join-closed.new.st) c.args.p c.args.alive s.if-alive-closed.true) (put_recent s.without.ensures))) | else-alive-closed s ↦ words_as _ _ _ _ _ s.st-is (recent_kept _ _ _ packed s.if-alive-closed.false) ]
-
-ended_10 : (c : goal.After-refill_active_from_passive-arg-then-requested-2-1) → Changes (λ g. on (drop_request c.args.p) (forget_recent c.args.p c.args.alive (on (drop_join c.args.p) g))) (work_of c.args.w c.args.st.now) (work_of c.drop_request-ended.result c.drop_request-ended.new.st)
-ended_10 c = open_forgotten _ _ _ _ _ _ c.drop_request-ended.ensures (recent_11 c) c.drop_join-closed.ensures
-
--- What on_disconnect was given.
-fine_5 : (c : goal.After-refill_active_from_passive-arg-then-requested-2-1) → Fine (work_of c.args.w c.args.st.now) c.args.draws.now c.args.out.now
-fine_5 c = c.requires.given
-
--- The recent_12 neighbors, which p leaves where it went away for good.
-recent_12 : (c : goal.After-slice_known-then-requested-2-1) → Changes (forget_recent c.args.p c.args.alive) (work_of c.drop_join-closed.result c.drop_join-closed.new.st) (work_of c.drop_join-closed.result c.if-alive-closed.st)
-unfolding drop_recent unpack station_of part
-recent_12 c =
-    let packed = c.drop_join-closed.ensures.packed in
-    elim c.if-alive-closed.branch [ then-alive-closed s ↦ words_as _ _ _ _ _ s.st-is (recent_gone _ _ _ _ s.if-alive-closed.true (on_done _ packed _ _ (recent_code (work_of c.drop_join-closed.result c.drop_join-closed.new.st) c.args.p c.args.alive s.if-alive-closed.true) (put_recent s.without.ensures))) | else-alive-closed s ↦ words_as _ _ _ _ _ s.st-is (recent_kept _ _ _ packed s.if-alive-closed.false) ]
-
-ended_11 : (c : goal.After-slice_known-then-requested-2-1) → Changes (λ g. on (drop_request c.args.p) (forget_recent c.args.p c.args.alive (on (drop_join c.args.p) g))) (work_of c.args.w c.args.st.now) (work_of c.drop_request-ended.result c.drop_request-ended.new.st)
-ended_11 c = open_forgotten _ _ _ _ _ _ c.drop_request-ended.ensures (recent_12 c) c.drop_join-closed.ensures
-
--- What on_disconnect was given.
-fine_6 : (c : goal.After-slice_known-then-requested-2-1) → Fine (work_of c.args.w c.args.st.now) c.args.draws.now c.args.out.now
-fine_6 c = c.requires.given
-
--- The recent_13 neighbors, which p leaves where it went away for good.
-recent_13 : (c : goal.Else-requested) → Changes (forget_recent c.args.p c.args.alive) (work_of c.drop_join-closed.result c.drop_join-closed.new.st) (work_of c.drop_join-closed.result c.if-alive-closed.st)
-unfolding drop_recent unpack station_of part
-recent_13 c =
-    let packed = c.drop_join-closed.ensures.packed in
-    elim c.if-alive-closed.branch [ then-alive-closed s ↦ words_as _ _ _ _ _ s.st-is (recent_gone _ _ _ _ s.if-alive-closed.true (on_done _ packed _ _ (recent_code (work_of c.drop_join-closed.result c.drop_join-closed.new.st) c.args.p c.args.alive s.if-alive-closed.true) (put_recent s.without.ensures))) | else-alive-closed s ↦ words_as _ _ _ _ _ s.st-is (recent_kept _ _ _ packed s.if-alive-closed.false) ]
-
-ended_12 : (c : goal.Else-requested) → Changes (λ g. on (drop_request c.args.p) (forget_recent c.args.p c.args.alive (on (drop_join c.args.p) g))) (work_of c.args.w c.args.st.now) (work_of c.drop_request-ended.result c.drop_request-ended.new.st)
-ended_12 c = open_forgotten _ _ _ _ _ _ c.drop_request-ended.ensures (recent_13 c) c.drop_join-closed.ensures
-
--- What on_disconnect was given.
-fine_7 : (c : goal.Else-requested) → Fine (work_of c.args.w c.args.st.now) c.args.draws.now c.args.out.now
-fine_7 c = c.requires.given
+ended : (c : After-drop_request-ended) → Changes (λ g. on (drop_request c.args.p) (forget_recent c.args.p c.args.alive (on (drop_join c.args.p) g))) (work_of c.args.w c.args.st.now) (work_of c.drop_request-ended.result c.drop_request-ended.new.st)
+ended c = open_forgotten _ _ _ _ _ _ c.drop_request-ended.ensures (recent_then c) c.drop_join-closed.ensures
 
 pub without-requires : goal.without-requires
 unfolding part
 without-requires c = search (of_packed, rules)
 
 pub drop_request-ended-requires-clause-st_len : goal.drop_request-ended-requires-clause-st_len
-drop_request-ended-requires-clause-st_len c = long (recent c).packed
+drop_request-ended-requires-clause-st_len c = long (recent (goal.at.drop_request-ended-requires-clause-st_len c).Joined-alive-closed).packed
 
 pub drop_request-ended-requires-clause-packed_state : goal.drop_request-ended-requires-clause-packed_state
-drop_request-ended-requires-clause-packed_state c = (recent c).packed
+drop_request-ended-requires-clause-packed_state c = (recent (goal.at.drop_request-ended-requires-clause-packed_state c).Joined-alive-closed).packed
 
 pub in_active-requires-clause-st_len : goal.in_active-requires-clause-st_len
-in_active-requires-clause-st_len c = long (ended c).packed
+in_active-requires-clause-st_len c = long (ended (goal.at.in_active-requires-clause-st_len c).After-drop_request-ended).packed
 
 pub in_active-requires-clause-packed_state : goal.in_active-requires-clause-packed_state
-in_active-requires-clause-packed_state c = (ended c).packed
+in_active-requires-clause-packed_state c = (ended (goal.at.in_active-requires-clause-packed_state c).After-drop_request-ended).packed
 
 pub remove_active-requires : goal.remove_active-requires
 remove_active-requires c =
-    let forgotten = ended_2 c in record {
+    let forgotten = ended (goal.at.remove_active-requires c).After-drop_request-ended in record {
       st_len = long forgotten.packed;
-      given = fine_after _ _ _ _ _ _ (fine c) forgotten;
-      meets = between_calm _ _ _ _ _ _ (ended_between _ _ _ _ _ _ forgotten _ _ _ (between c));
+      given = fine_after _ _ _ _ _ _ c.requires.given forgotten;
+      meets = between_calm _ _ _ _ _ _ (ended_between _ _ _ _ _ _ forgotten _ _ _ c.requires.meets);
     }
 
 pub shape_of-st-then-in_active : goal.shape_of-st-then-in_active
 shape_of-st-then-in_active c =
-    omega (arith, c.remove_active.auto.st, long (ended_3 c).packed, c.requires.st_len)
+    omega (arith, c.remove_active.auto.st, long (ended (goal.at.shape_of-st-then-in_active c).After-drop_request-ended).packed, c.requires.st_len)
 
 pub returns-then-in_active : goal.returns-then-in_active
 returns-then-in_active c =
-    let forgotten = ended_3 c in
-    disconnect_done _ _ _ _ _ _ forgotten _ _ _ (fine_2 c) c.is_requested-requested.ensures
+    let forgotten = ended (goal.at.returns-then-in_active c).After-drop_request-ended in
+    disconnect_done _ _ _ _ _ _ forgotten _ _ _ c.requires.given c.is_requested-requested.ensures
     (neighbor_lost _ _ _ _ _ _ _ _ _ c.in_active.ensures c.if-in_active.true c.remove_active.ensures)
 
 pub note_refusal-noted-requires : goal.note_refusal-noted-requires
 note_refusal-noted-requires c =
-    let packed = (ended_4 c).packed in record {
+    let packed = (ended (goal.at.note_refusal-noted-requires c).After-drop_request-ended).packed in record {
       st_len = long packed;
       packed_state = packed;
     }
 
 pub in_passive-requires-clause-st_len : goal.in_passive-requires-clause-st_len
-in_passive-requires-clause-st_len c = search (rules, long (ended_5 c).packed)
+in_passive-requires-clause-st_len c = search (rules, long (ended (goal.at.in_passive-requires-clause-st_len c).After-drop_request-ended).packed)
 
 pub in_passive-requires-clause-packed_state : goal.in_passive-requires-clause-packed_state
 in_passive-requires-clause-packed_state c = c.note_refusal-noted.ensures.packed
 
 pub mark_alive-requires : goal.mark_alive-requires
 mark_alive-requires c =
-    let forgotten = ended_6 c in
-    let markable = still_markable _ _ _ _ _ _ (between_mark _ _ _ _ _ _ _ _ (ended_between _ _ _ _ _ _ forgotten _ _ _ (between_2 c))) c.note_refusal-noted.ensures in record {
-      st_len = search (rules, long (ended_6 c).packed);
+    let forgotten = ended (goal.at.mark_alive-requires c).After-drop_request-ended in
+    let markable = still_markable _ _ _ _ _ _ (between_mark _ _ _ _ _ _ _ _ (ended_between _ _ _ _ _ _ forgotten _ _ _ c.requires.meets)) c.note_refusal-noted.ensures in record {
+      st_len = search (rules, long (ended (goal.at.mark_alive-requires c).After-drop_request-ended).packed);
       packed_state = c.note_refusal-noted.ensures.packed;
       free_mark = mark_place _ _ _ _ c.in_passive.ensures c.if-in_passive.true markable;
     }
 
 pub shape_of-st-then-in_passive : goal.shape_of-st-then-in_passive
 shape_of-st-then-in_passive c =
-    search (rules, c.note_refusal-noted.auto, long (ended_7 c).packed, c.requires.st_len)
+    search (rules, c.note_refusal-noted.auto, long (ended (goal.at.shape_of-st-then-in_passive c).After-drop_request-ended).packed, c.requires.st_len)
 
 pub returns-then-in_passive : goal.returns-then-in_passive
 returns-then-in_passive c =
-    let forgotten = ended_7 c in
+    let forgotten = ended (goal.at.returns-then-in_passive c).After-drop_request-ended in
     let marked = passive_marked _ _ _ c.in_passive.ensures _ c.if-in_passive.true c.mark_alive.ensures in
-    disconnect_done _ _ _ _ _ _ forgotten _ _ _ (fine_3 c) c.is_requested-requested.ensures
-    (other_lost _ _ _ _ _ _ _ _ _ c.in_active.ensures c.if-in_active.false (other_alive _ _ _ _ _ _ _ _ (fine_after _ _ _ _ _ _ (fine_3 c) forgotten) c.if-alive.true marked c.note_refusal-noted.ensures))
+    disconnect_done _ _ _ _ _ _ forgotten _ _ _ c.requires.given c.is_requested-requested.ensures
+    (other_lost _ _ _ _ _ _ _ _ _ c.in_active.ensures c.if-in_active.false (other_alive _ _ _ _ _ _ _ _ (fine_after _ _ _ _ _ _ c.requires.given forgotten) c.if-alive.true marked c.note_refusal-noted.ensures))
 
 pub shape_of-st-then-alive : goal.shape_of-st-then-alive
 shape_of-st-then-alive c =
@@ -252,34 +104,34 @@ shape_of-st-then-alive c =
 
 pub returns-then-alive : goal.returns-then-alive
 returns-then-alive c =
-    let forgotten = ended_8 c in
+    let forgotten = ended (goal.at.returns-then-alive c).After-drop_request-ended in
     let unmarked = passive_unmarked _ _ _ c.in_passive.ensures c.note_refusal-noted.ensures.packed c.if-in_passive.false in
-    disconnect_done _ _ _ _ _ _ forgotten _ _ _ (fine_4 c) c.is_requested-requested.ensures
-    (other_lost _ _ _ _ _ _ _ _ _ c.in_active.ensures c.if-in_active.false (other_alive _ _ _ _ _ _ _ _ (fine_after _ _ _ _ _ _ (fine_4 c) forgotten) c.if-alive.true unmarked c.note_refusal-noted.ensures))
+    disconnect_done _ _ _ _ _ _ forgotten _ _ _ c.requires.given c.is_requested-requested.ensures
+    (other_lost _ _ _ _ _ _ _ _ _ c.in_active.ensures c.if-in_active.false (other_alive _ _ _ _ _ _ _ _ (fine_after _ _ _ _ _ _ c.requires.given forgotten) c.if-alive.true unmarked c.note_refusal-noted.ensures))
 
 pub drop_passive-dropped-requires : goal.drop_passive-dropped-requires
 drop_passive-dropped-requires c =
-    let packed = (ended_9 c).packed in record {
+    let packed = (ended (goal.at.drop_passive-dropped-requires c).After-drop_request-ended).packed in record {
       st_len = long packed;
       packed_state = packed;
     }
 
 pub refill_active_from_passive-requires : goal.refill_active_from_passive-requires
 refill_active_from_passive-requires c =
-    let forgotten = ended_10 c in record {
-      st_len = search (rules, c.drop_passive-dropped.auto, long (ended_10 c).packed);
-      given = fine_after _ _ _ _ _ _ (fine_after _ _ _ _ _ _ (fine_5 c) forgotten) c.drop_passive-dropped.ensures;
+    let forgotten = ended (goal.at.refill_active_from_passive-requires c).After-drop_request-ended in record {
+      st_len = search (rules, c.drop_passive-dropped.auto, long (ended (goal.at.refill_active_from_passive-requires c).After-drop_request-ended).packed);
+      given = fine_after _ _ _ _ _ _ (fine_after _ _ _ _ _ _ c.requires.given forgotten) c.drop_passive-dropped.ensures;
     }
 
 pub shape_of-st-then-requested : goal.shape_of-st-then-requested
 shape_of-st-then-requested c =
-    search (rules, c.drop_passive-dropped.auto, long (ended_11 c).packed, c.requires.st_len)
+    search (rules, c.drop_passive-dropped.auto, long (ended (goal.at.shape_of-st-then-requested c).After-drop_request-ended).packed, c.requires.st_len)
 
 pub returns-then-requested : goal.returns-then-requested
 returns-then-requested c =
-    let forgotten = ended_11 c in
-    let refilled = topic_refilled _ _ _ _ _ _ (fine_after _ _ _ _ _ _ (fine_6 c) forgotten) c.drop_passive-dropped.ensures _ _ c.if-requested.true c.refill_active_from_passive.ensures in
-    disconnect_done _ _ _ _ _ _ forgotten _ _ _ (fine_6 c) c.is_requested-requested.ensures
+    let forgotten = ended (goal.at.returns-then-requested c).After-drop_request-ended in
+    let refilled = topic_refilled _ _ _ _ _ _ (fine_after _ _ _ _ _ _ c.requires.given forgotten) c.drop_passive-dropped.ensures _ _ c.if-requested.true c.refill_active_from_passive.ensures in
+    disconnect_done _ _ _ _ _ _ forgotten _ _ _ c.requires.given c.is_requested-requested.ensures
     (other_lost _ _ _ _ _ _ _ _ _ c.in_active.ensures c.if-in_active.false (other_left _ _ _ _ _ _ _ _ c.if-alive.false refilled))
 
 pub shape_of-st : goal.shape_of-st
@@ -288,7 +140,7 @@ shape_of-st c =
 
 pub returns : goal.returns
 returns c =
-    let forgotten = ended_12 c in
-    let gone = topic_left _ _ _ _ _ _ (fine_after _ _ _ _ _ _ (fine_7 c) forgotten) c.drop_passive-dropped.ensures c.if-requested.false in
-    disconnect_done _ _ _ _ _ _ forgotten _ _ _ (fine_7 c) c.is_requested-requested.ensures
+    let forgotten = ended (goal.at.returns c).After-drop_request-ended in
+    let gone = topic_left _ _ _ _ _ _ (fine_after _ _ _ _ _ _ c.requires.given forgotten) c.drop_passive-dropped.ensures c.if-requested.false in
+    disconnect_done _ _ _ _ _ _ forgotten _ _ _ c.requires.given c.is_requested-requested.ensures
     (other_lost _ _ _ _ _ _ _ _ _ c.in_active.ensures c.if-in_active.false (other_left _ _ _ _ _ _ _ _ c.if-alive.false gone))

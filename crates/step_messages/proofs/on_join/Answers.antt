@@ -1,15 +1,13 @@
 -- What the records to come make of the work so far is the whole. The measure is what is left.
-use Prim.Native.Nat.{ℕ, ◌+◌, ◌-◌, ◌≤◌, ◌<◌}
+use Prim.Native.Nat.{ℕ, ◌+◌, ◌≤◌, ◌<◌}
 use mathlib.Core.Path.{◌≡◌, refl, sym, ap, ◌∙◌}
 use mathlib.Core.List.{List}
 use native.Mathlib.Omega.{arith}
 use lib.ListN.{length, take, get_or}
-use Rattle.base_lists.proofs.Rest.{Rest, rest_next, rest_end}
-use Rattle.base_peer.specs.Held.{node_in}
+use Rattle.base_lists.proofs.Rest.{rest_next, rest_end}
 use Rattle.base_util.specs.Section.{working_places, working_words}
 use Rattle.record.specs.Format.{Rec}
-use Rattle.spec_hyparview.specs.Run.{Run, emit, emit_all}
-use Rattle.spec_hyparview.specs.Messages.{forward_join_to}
+use Rattle.spec_hyparview.specs.Run.{emit, emit_all}
 use Rattle.work.specs.declared.Work.{Work}
 use Rattle.hyparview_state.specs.Work.{work_of, run, TellsAny, Fine, Does}
 use Rattle.hyparview_state.proofs.Bridge.{still}

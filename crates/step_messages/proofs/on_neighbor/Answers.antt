@@ -1,25 +1,12 @@
 -- The test of acceptance asks the station before the entry, as the definition does; by its cases p stays, or is told and forgotten.
-use Rattle.hyparview_state.specs.Work.{Fine, work_of}
 use Rattle.step_refill.proofs.Asking.{fine_after}
 use Rattle.step_messages.proofs.Laws.{accept_known, neighbor_refused}
 use Rattle.step_messages.proofs.Between.{pending_calm, neighbor_taken, neighbor_turned, neighbor_answered}
 use borrow.Author.Rules.{rules}
 use Rattle.step_messages.proofs.on_neighbor.Goals as goal
 
--- What on_neighbor was given.
-fine : (c : goal.After-add_active-arg-2-1) → Fine (work_of c.args.w c.args.st.now) c.args.draws.now c.args.out.now
-fine c = c.requires.given
-
--- What on_neighbor was given.
-fine_2 : (c : goal.Then-accepted) → Fine (work_of c.args.w c.args.st.now) c.args.draws.now c.args.out.now
-fine_2 c = c.requires.given
-
--- What on_neighbor was given.
-fine_3 : (c : goal.After-slice_known-7-1) → Fine (work_of c.args.w c.args.st.now) c.args.draws.now c.args.out.now
-fine_3 c = c.requires.given
-
 pub add_active-b-requires-clause-given : goal.add_active-b-requires-clause-given
-add_active-b-requires-clause-given c = fine_after _ _ _ _ _ _ (fine c) c.drop_pending-a.ensures
+add_active-b-requires-clause-given c = fine_after _ _ _ _ _ _ c.requires.given c.drop_pending-a.ensures
 
 pub add_active-b-requires-clause-valid_data : goal.add_active-b-requires-clause-valid_data
 add_active-b-requires-clause-valid_data c = c.requires.valid_data
@@ -30,7 +17,7 @@ add_active-b-requires-clause-meets c = pending_calm _ _ _ _ _ c.drop_pending-a.e
 pub returns-then-accepted : goal.returns-then-accepted
 returns-then-accepted c =
     let accepted = accept_known _ _ _ _ _ _ c.is_me.ensures c.in_active.ensures c.active_is_full.ensures in
-    neighbor_answered _ _ _ _ _ c.drop_pending-a.ensures (fine_2 c) _ _ _ _ _ c.is_requested-requested.ensures
+    neighbor_answered _ _ _ _ _ c.drop_pending-a.ensures c.requires.given _ _ _ _ _ c.is_requested-requested.ensures
     (neighbor_taken _ _ _ _ _ _ _ _ _ _ accepted c.add_active-b.ensures c.if-accepted.true)
 
 pub send_disconnect-e-requires-clause-st_len : goal.send_disconnect-e-requires-clause-st_len
@@ -52,5 +39,5 @@ shape_of-st c =
 pub returns : goal.returns
 returns c =
     let accepted = accept_known _ _ _ _ _ _ c.is_me.ensures c.in_active.ensures c.active_is_full.ensures in
-    neighbor_answered _ _ _ _ _ c.drop_pending-a.ensures (fine_3 c) _ _ _ _ _ c.is_requested-requested.ensures
+    neighbor_answered _ _ _ _ _ c.drop_pending-a.ensures c.requires.given _ _ _ _ _ c.is_requested-requested.ensures
     (neighbor_turned _ _ _ _ _ _ _ _ _ _ accepted c.add_active-b.ensures _ _ c.if-accepted.false (neighbor_refused _ _ _ _ _ _ _ c.forget_peer.ensures c.send_disconnect-e.ensures))

@@ -1,5 +1,4 @@
 -- By value it is `handle_from` over a copy of the words: its contract is the one wanted.
-use borrow.Author.Rules.{rules}
 use Rattle.hyparview.proofs.State.handle_from.Goals as goal
 
 pub returns : goal.returns
